@@ -1,0 +1,3 @@
+pub mod DataType
+pub mod Value
+pub mod Datum
