@@ -1,3 +1,16 @@
 pub mod DataType
 pub mod Value
 pub mod Datum
+pub mod Names
+pub mod IsType
+pub mod Has
+pub mod Simple
+pub mod Simplifies
+pub mod SameType
+pub mod Settle
+pub mod Promotion
+pub mod Limit
+pub mod Gives
+pub mod View
+pub mod Faults
+pub mod Examples

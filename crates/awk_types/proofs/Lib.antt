@@ -1,0 +1,10 @@
+pub mod Trees
+pub mod Views
+pub mod NameLaws
+pub mod SameTypes
+pub mod SameTypeLaws
+pub mod SimpleLaws
+pub mod TypeLaws
+pub mod NodeLaws
+pub mod Simplified
+pub mod PromotionLaws

@@ -1,0 +1,77 @@
+-- A test of equality of types is true exactly of equal types.
+use Rattle.std.proofs.Common.{◌≡◌, ◌↔◌, ℕ, Bool as Truth, true, false, ◌==◌, ◌&&◌, refl, sym, ap, ◌∙◌, arith}
+use Rattle.std.specs.Prelude.{if◌then◌else◌, IsTrue}
+use Rattle.awk_types.specs.declared.primitive.Primitive.{Primitive}
+use Rattle.awk_types.specs.declared.primitive.Primitive.TheVariants.{Bool, I8, I16, I32, I64, U8, U16, U32, U64}
+use Rattle.awk_types.specs.DataType.{DataType, unknown, leaf, var, reg, rec, tup, opt, uni, DataTypes, no_types, type}
+use Rattle.awk_types.specs.SameType.{primitive_number, same_primitive, same_type, same_types}
+use Rattle.awk_types.proofs.NameLaws.{same_names_is, same_names-refl}
+
+eq_is : (n m : ℕ) → (n == m) ≡ true → n ≡ m
+eq_is n m e = grind arith
+
+eq-refl : (n : ℕ) → (n == n) ≡ true
+eq-refl n = grind arith
+
+and_left : (a b : Truth) → (a && b) ≡ true → a ≡ true
+and_left true b e = refl
+and_left false b e = e
+
+and_right : (a b : Truth) → (a && b) ≡ true → b ≡ true
+and_right true b e = e
+and_right false b e = cc
+
+primitive_from : ℕ → Primitive
+primitive_from n = if n == 0 then Bool else if n == 1 then I8 else if n == 2 then I16 else if n == 3 then I32 else if n == 4 then I64 else if n == 5 then U8 else if n == 6 then U16 else if n == 7 then U32 else U64
+
+primitive_back : (p : Primitive) → primitive_from (primitive_number p) ≡ p
+unfolding primitive_from
+primitive_back Bool = refl
+primitive_back p = refl
+
+pub same_primitive_is : (p q : Primitive) → same_primitive p q ≡ true → p ≡ q
+same_primitive_is p q e = sym (primitive_back p) ∙ ap primitive_from (eq_is _ _ e) ∙ primitive_back q
+
+mutual
+  pub same_type_is : (t u : DataType) → same_type t u ≡ true → t ≡ u
+  same_type_is unknown unknown e = refl
+  same_type_is (leaf p) (leaf q) e = ap leaf (same_primitive_is p q e)
+  same_type_is (var t) (var u) e = ap var (same_type_is t u e)
+  same_type_is (reg n t) (reg m u) e = ap (λ k. reg k t) (eq_is n m (and_left _ _ e)) ∙ ap (reg m) (same_type_is t u (and_right _ _ e))
+  same_type_is (rec ns ts) (rec ms us) e = ap (λ ks. rec ks ts) (same_names_is ns ms (and_left _ _ e)) ∙ ap (rec ms) (same_types_is ts us (and_right _ _ e))
+  same_type_is (tup ts) (tup us) e = ap tup (same_types_is ts us e)
+  same_type_is (opt t) (opt u) e = ap opt (same_type_is t u e)
+  same_type_is (uni ts) (uni us) e = ap uni (same_types_is ts us e)
+  same_type_is t u e = cc
+
+  pub same_types_is : (ts us : DataTypes) → same_types ts us ≡ true → ts ≡ us
+  same_types_is no_types no_types e = refl
+  same_types_is (type t ts) (type u us) e = ap (λ x. type x ts) (same_type_is t u (and_left _ _ e)) ∙ ap (type u) (same_types_is ts us (and_right _ _ e))
+  same_types_is ts us e = cc
+
+mutual
+  pub same_type-refl : (t : DataType) → same_type t t ≡ true
+  same_type-refl unknown = refl
+  same_type-refl (leaf p) = eq-refl (primitive_number p)
+  same_type-refl (var t) = same_type-refl t
+  same_type-refl (reg n t) = rw (eq-refl n) (same_type-refl t)
+  same_type-refl (rec ns ts) = rw (same_names-refl ns) (same_types-refl ts)
+  same_type-refl (tup ts) = same_types-refl ts
+  same_type-refl (opt t) = same_type-refl t
+  same_type-refl (uni ts) = same_types-refl ts
+
+  pub same_types-refl : (ts : DataTypes) → same_types ts ts ≡ true
+  same_types-refl no_types = refl
+  same_types-refl (type t ts) = rw (same_type-refl t) (same_types-refl ts)
+
+-- an answer that is true exactly of equal types is the test
+pub same_type_from : (b : Truth) (t u : DataType) → (IsTrue b ↔ (t ≡ u)) → b ≡ same_type t u
+same_type_from b t u h = by (same_type t u) refl
+  where
+    by : (x : Truth) → same_type t u ≡ x → b ≡ same_type t u
+    by true e = h.1 (same_type_is t u e) ∙ sym e
+    by false e = from_false b h ∙ sym e
+      where
+        from_false : (c : Truth) → (IsTrue c ↔ (t ≡ u)) → c ≡ false
+        from_false true k = let yes : same_type t u ≡ true = sym (ap (same_type t) (k.0 refl)) ∙ same_type-refl t in cc
+        from_false false k = refl

@@ -1,0 +1,41 @@
+-- The equations of `typ_of` and its like.
+use Rattle.std.proofs.Common.{◌≡◌, ℕ, ◌<◌, List, map, arith, length, slice_get, Some, get_or, refl, sym, ap, ◌∙◌}
+use Rattle.std.specs.Option.{option_map}
+use Rattle.std.proofs.lemmas.List.{length-map}
+use Rattle.std.proofs.lemmas.Option.{slice_get-map, slice_get_read}
+use Rattle.awk_types.specs.DataType.{DataType, tup, uni, rec, types_from}
+use Rattle.awk_types.specs.View.{NamedType, names_of, types_of, typ_step, field_step, fields_step, typs_step, typ_of, field_of, fields_of, typs_of}
+use Rattle.awk_types.specs.declared.typ.Typ.{Typ, Tup, Uni, Rec}
+use Rattle.awk_types.specs.declared.typ.Typ.TheVariants.{rolls-Tup, rolls-Uni, rolls-Rec}
+use Rattle.awk_types.specs.declared.typ.Typs.{Typs}
+use Rattle.awk_types.specs.declared.typ.Field.{Field}
+use Rattle.awk_types.specs.declared.typ.Fields.{Fields}
+use Rattle.awk_types.specs.declared.typ.Typ.TheOpen.{Typ-F}
+use Rattle.awk_types.specs.declared.typ.Typ.TheViews.{out-Typs, out-Fields}
+use Rattle.awk_types.specs.declared.typ.Typ.TheFolds.{fold-roll-Typ, fold_out-Typs, fold_out-Fields}
+
+pub typs_out : (ts : Typs) → typs_of ts ≡ map typ_of (out-Typs ts).items.items
+typs_out = fold_out-Typs DataType NamedType (List NamedType) (List DataType) typ_step field_step fields_step typs_step
+
+pub fields_out : (fs : Fields) → fields_of fs ≡ map field_of (out-Fields fs).items.items
+fields_out = fold_out-Fields DataType NamedType (List NamedType) (List DataType) typ_step field_step fields_step typs_step
+
+-- the variants that hold lists
+pub typ_of-Tup : (ts : Typs) → typ_of (Tup ts) ≡ tup (types_from (typs_of ts))
+typ_of-Tup ts = ap typ_of (sym (rolls-Tup ts)) ∙ fold-roll-Typ DataType NamedType (List NamedType) (List DataType) typ_step field_step fields_step typs_step (Typ-F.Tup ts)
+
+pub typ_of-Uni : (ts : Typs) → typ_of (Uni ts) ≡ uni (types_from (typs_of ts))
+typ_of-Uni ts = ap typ_of (sym (rolls-Uni ts)) ∙ fold-roll-Typ DataType NamedType (List NamedType) (List DataType) typ_step field_step fields_step typs_step (Typ-F.Uni ts)
+
+pub typ_of-Rec : (fs : Fields) → typ_of (Rec fs) ≡ rec (names_of (fields_of fs)) (types_of (fields_of fs))
+typ_of-Rec fs = ap typ_of (sym (rolls-Rec fs)) ∙ fold-roll-Typ DataType NamedType (List NamedType) (List DataType) typ_step field_step fields_step typs_step (Typ-F.Rec fs)
+
+-- the item that `get` reads
+slice_get_of_map : {A B : Type 0} (f : A → B) (xs : List A) (i : ℕ) (x : A) → i < length xs → x ≡ get_or xs i x → slice_get (map f xs) i ≡ Some (f x)
+slice_get_of_map f xs i x within read = slice_get-map f xs i ∙ ap (option_map f) (slice_get_read xs (length xs) i x refl within read)
+
+pub typs_get : (ts : Typs) (i : ℕ) (x : Typ) → i < length (typs_of ts) → x ≡ get_or ts.items.items i x → slice_get (typs_of ts) i ≡ Some (typ_of x)
+typs_get ts i x within read = rw (typs_out ts) (slice_get_of_map typ_of ts.items.items i x (omega (arith, ap length (typs_out ts), length-map ts.items.items typ_of)) read)
+
+pub fields_get : (fs : Fields) (i : ℕ) (x : Field) → i < length (fields_of fs) → x ≡ get_or (out-Fields fs).items.items i x → slice_get (fields_of fs) i ≡ Some (field_of x)
+fields_get fs i x within read = rw (fields_out fs) (slice_get_of_map field_of (out-Fields fs).items.items i x (omega (arith, ap length (fields_out fs), length-map (out-Fields fs).items.items field_of)) read)

@@ -1,0 +1,9 @@
+use Rattle.std.proofs.Common.{◌∙◌}
+use Rattle.std.proofs.lemmas.Result.{IfOk-weaker}
+use Rattle.awk_types.specs.View.{typ_of}
+use Rattle.awk_types.proofs.Simplified.{simplifies_to}
+use Rattle.awk_types.proofs.simplify.simple_of.Goals as goal
+
+pub returns-clause-laws : goal.returns-clause-laws
+returns-clause-laws c =
+    IfOk-weaker c.checked.result _ _ (λ s same. simplifies_to (typ_of c.args.t) (typ_of s) (same ∙ c.in_ok-simplified.ensures)) c.checked.ensures.same

@@ -1,0 +1,21 @@
+-- Names of fields, and which lists of names have no name twice.
+use Rattle.std.specs.Prelude.{◌≡◌, Bool, false, List, [], ◌∷◌}
+use Rattle.std.specs.List.{list_any}
+use Rattle.std.specs.Str.{bytes_eq}
+use Rattle.std.specs.Cmp.Lexicographic.{pointwise}
+use Rattle.awk_types.specs.DataType.{Name}
+
+abbrev pub same_name : Name → Name → Bool
+same_name = bytes_eq
+
+abbrev pub same_names : List Name → List Name → Bool
+same_names = pointwise same_name
+
+-- whether a name is one of these
+abbrev pub is_among : Name → List Name → Bool
+is_among n ns = list_any (λ m. same_name m n) ns
+
+-- no name stands twice
+abbrev pub AreDistinct : List Name → Type 0
+AreDistinct [] = Unit {0}
+AreDistinct (n ∷ ns) = (is_among n ns ≡ false) × AreDistinct ns
