@@ -1,0 +1,4 @@
+pub mod NumberParts
+pub mod BitParts
+pub mod PlaceLaws
+mod Examples

@@ -1,0 +1,122 @@
+//! A lane: numbers of one kind in borrowed bytes.
+ghost use Rattle.std.specs.Prelude.{◌≡◌, ◌+◌, ◌*◌, ◌/◌, ◌%◌, ◌<◌, ◌≤◌, length};
+ghost use Rattle.std.specs.List.{flat_map};
+ghost use Rattle.awk_lanes.specs.Numbers.{width, int_of, bytes_of, numbers, IsOf};
+ghost use Rattle.awk_lanes.specs.Places.{size_of, at};
+ghost use Rattle.awk_lanes.specs.Cut.{cut_of};
+
+use crate::bytes::{item, part};
+use crate::kind::{Kind, Num};
+use crate::steps::Steps;
+use std::marker::Model;
+use std::sync::ledger::Ledger;
+
+/// Numbers of one kind, least significant byte first, in borrowed bytes.
+/// They are seen through `at` and `bulk` alone, which count what they show.
+#[derive(Drop)]
+pub struct Lane<'a> {
+    kind: Kind,
+    count: u64,
+    bytes: &'a [u8],
+}
+
+impl<'a> Model for Lane<'a> {
+    ghost use Rattle.awk_lanes.specs.Column.{Column};
+
+    ghost Value = { Column };
+
+    ghost use Rattle.std.specs.Prelude.{◌≡◌, ◌*◌, length};
+    ghost use Rattle.awk_lanes.specs.Numbers.{width, numbers, AreBytes};
+
+    ghost view = { λ l. record { kind = l.kind; items = numbers l.kind l.count l.bytes.now } };
+
+    ghost invariant = { λ l. (l.count * width l.kind ≡ length l.bytes.now) × AreBytes l.bytes.now };
+}
+
+impl<'a> Lane<'a> {
+    /// The numbers that the bytes are.
+    pub fn new(kind: Kind, bytes: &'a [u8]) -> Lane<'a>
+        requires { length bytes.now % width kind ≡ 0 }
+        ensures kind { result.kind ≡ kind }
+        ensures items { result.items ≡ numbers kind (length bytes.now / width kind) bytes.now }
+    {
+        Lane {
+            kind,
+            count: (bytes.len() / kind.width()) as u64,
+            bytes,
+        }
+    }
+
+    /// The n numbers that the bytes are.
+    pub(crate) fn whole(kind: Kind, n: u64, bytes: &'a [u8]) -> Lane<'a>
+        requires { n * width kind ≡ length bytes.now }
+        ensures { result ≡ record { kind = kind; items = numbers kind n bytes.now } }
+    {
+        Lane {
+            kind,
+            count: n,
+            bytes,
+        }
+    }
+
+    pub fn kind(&self) -> Kind
+        ensures { result ≡ self.now.kind }
+    {
+        self.kind
+    }
+
+    /// How many numbers.
+    pub fn len(&self) -> u64
+        ensures { result ≡ size_of self.now }
+    {
+        self.count
+    }
+
+    /// The number at place i.
+    pub fn at<L: Ledger>(&self, i: u64, steps: &mut Steps<L>) -> Num
+        requires { i < size_of self.now }
+        ensures number { int_of result ≡ at self.now i }
+        ensures kind { IsOf self.now.kind result }
+        ensures cost { steps.new ≡ steps.old + 1 }
+    {
+        steps.tick(); // one number read
+        item(self.kind, self.bytes, i as usize)
+    }
+
+    /// The numbers from place lo below place hi, over the same bytes.
+    pub fn cut<L: Ledger>(&self, lo: u64, hi: u64, steps: &mut Steps<L>) -> Lane<'a>
+        requires order { lo ≤ hi }
+        requires within { hi ≤ size_of self.now }
+        ensures value { result ≡ cut_of self.now lo hi }
+        ensures cost { steps.new ≡ steps.old + 1 }
+    {
+        steps.tick(); // one cut
+        Lane {
+            kind: self.kind,
+            count: hi - lo,
+            bytes: part(self.kind, self.bytes, lo as usize, hi as usize),
+        }
+    }
+
+    /// The bytes of all numbers, at a step for each number.
+    pub fn bulk<L: Ledger>(&self, steps: &mut Steps<L>) -> &'a [u8]
+        ensures numbers { numbers self.now.kind (size_of self.now) result.now ≡ self.now.items }
+        ensures size { length result.now ≡ size_of self.now * width self.now.kind }
+        ensures bytes { result.now ≡ flat_map (bytes_of self.now.kind) self.now.items }
+        ensures cost { steps.new ≡ steps.old + size_of self.now }
+    {
+        steps.add(self.count);
+        self.bytes
+    }
+
+    /// The same numbers, over the same bytes.
+    pub fn copy(&self) -> Lane<'a>
+        ensures { result ≡ self.now }
+    {
+        Lane {
+            kind: self.kind,
+            count: self.count,
+            bytes: self.bytes,
+        }
+    }
+}

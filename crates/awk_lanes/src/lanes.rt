@@ -1,0 +1,55 @@
+//! A list of lanes.
+ghost use Rattle.std.specs.Prelude.{◌≡◌, ◌<◌, ◌++◌, ◌∷◌, [], length, slice_get, Some, OnOk, OnErr};
+
+use crate::lane::Lane;
+use crate::memory::NoMemory;
+use std::alloc::Global;
+use std::marker::Model;
+
+/// A list of lanes, which keeps the allocator that it was made with.
+#[derive(Drop)]
+pub struct Lanes<'a> {
+    lanes: Vec<Lane<'a>>,
+}
+
+impl<'a> Model for Lanes<'a> {
+    ghost use Rattle.std.specs.Prelude.{List};
+    ghost use Rattle.awk_lanes.specs.Column.{Column};
+
+    ghost Value = { List Column };
+
+    ghost view = { λ a. a.lanes.items };
+}
+
+impl<'a> Lanes<'a> {
+    pub fn new(alloc: Global) -> Lanes<'a>
+        ensures { result ≡ [] }
+    {
+        Lanes {
+            lanes: Vec::new(alloc),
+        }
+    }
+
+    /// Adds a lane at the end, or leaves the list as it was where memory is wanting.
+    pub fn push(&mut self, lane: Lane<'a>) -> Result<(), NoMemory>
+        ensures ok { OnOk result (self.new ≡ self.old ++ lane.entry ∷ []) }
+        ensures err { OnErr result (self.new ≡ self.old) }
+    {
+        self.lanes.push(lane)?;
+        Ok(())
+    }
+
+    /// How many lanes.
+    pub fn len(&self) -> usize
+        ensures { result ≡ length self.now }
+    {
+        self.lanes.len()
+    }
+
+    pub fn get(&self, i: usize) -> &Lane<'a>
+        requires { i < length self.now }
+        ensures { slice_get self.now i ≡ Some result.now }
+    {
+        &self.lanes[i]
+    }
+}

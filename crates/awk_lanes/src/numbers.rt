@@ -1,0 +1,64 @@
+//! All numbers of a lane at once, as the kernels take them.
+ghost use Rattle.std.specs.Prelude.{◌≡◌, ◌≢◌, ◌+◌, ◌/◌, map, length, IfOk};
+ghost use Rattle.std.specs.Simd.{first_chunks};
+ghost use Rattle.awk_lanes.specs.Numbers.{width, number};
+ghost use Rattle.awk_lanes.specs.Places.{size_of};
+ghost use Rattle.awk_lanes.specs.declared.kind.Kind.TheVariants as Kind;
+
+use crate::kind::Kind;
+use crate::lane::Lane;
+use crate::memory::NoMemory;
+use crate::steps::Steps;
+use std::alloc::Global;
+use std::sync::ledger::Ledger;
+
+/// The lane's numbers, in one pass over its bytes. Those of each kind but `U64` fit an i64.
+/// A truth value is given as its byte.
+pub fn numbers_of<L: Ledger>(
+    alloc: Global,
+    lane: &Lane,
+    steps: &mut Steps<L>,
+) -> Result<Vec<i64>, NoMemory>
+    requires { lane.now.kind ≢ Kind.U64 }
+    ensures numbers { IfOk result (λ v. v.items ≡ lane.now.items) }
+    ensures cost { steps.new ≡ steps.old + size_of lane.now }
+{
+    numbers_in(alloc, lane.kind(), lane.bulk(steps))
+}
+
+/// The number of each group of as many bytes as the kind takes.
+fn numbers_in(alloc: Global, kind: Kind, bytes: &[u8]) -> Result<Vec<i64>, NoMemory>
+    requires { kind ≢ Kind.U64 }
+    ensures { let n = length bytes.now / width kind in
+        IfOk result (λ v. v.items ≡ map (number kind) (first_chunks (width kind) n bytes.now)) }
+{
+    let (ones, _) = bytes.as_chunks::<1>();
+    let (twos, _) = bytes.as_chunks::<2>();
+    let (fours, _) = bytes.as_chunks::<4>();
+    let (eights, _) = bytes.as_chunks::<8>();
+    match kind {
+        Kind::Bool | Kind::U8 => ones.iter().map(|[b]| *b as i64).collect(alloc),
+        Kind::I8 => ones
+            .iter()
+            .map(|b| i8::from_le_bytes(*b) as i64)
+            .collect(alloc),
+        Kind::I16 => twos
+            .iter()
+            .map(|b| i16::from_le_bytes(*b) as i64)
+            .collect(alloc),
+        Kind::I32 => fours
+            .iter()
+            .map(|b| i32::from_le_bytes(*b) as i64)
+            .collect(alloc),
+        Kind::I64 => eights.iter().map(|b| i64::from_le_bytes(*b)).collect(alloc),
+        Kind::U16 => twos
+            .iter()
+            .map(|b| u16::from_le_bytes(*b) as i64)
+            .collect(alloc),
+        Kind::U32 => fours
+            .iter()
+            .map(|b| u32::from_le_bytes(*b) as i64)
+            .collect(alloc),
+        Kind::U64 => unreachable!(),
+    }
+}
