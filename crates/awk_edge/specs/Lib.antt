@@ -1,0 +1,10 @@
+pub mod Causes
+pub mod Lines
+pub mod Limits
+pub mod MemStream
+pub mod Next
+pub mod Pending
+pub mod Put
+pub mod Reading
+pub mod StdStream
+pub mod Turn
