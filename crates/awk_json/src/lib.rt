@@ -1,0 +1,6 @@
+//! Pieces of JSON texts on their way to a sink.
+#![tactic(auto)]
+
+mod text;
+
+pub use text::{write_number, write_pieces, write_text};
