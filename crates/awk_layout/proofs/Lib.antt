@@ -1,0 +1,2 @@
+pub mod ContentTypes
+pub mod LayoutTypes

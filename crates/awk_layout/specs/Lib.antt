@@ -1,0 +1,16 @@
+pub mod Layout
+pub mod Code
+pub mod Valid
+pub mod Item
+pub mod Place
+pub mod Laws
+pub mod Inner
+pub mod Falls
+pub mod Class
+pub mod Contents
+pub mod Shown
+pub mod Typing
+pub mod Array
+pub mod Datum
+pub mod DatumCode
+pub mod Worked

@@ -1,0 +1,133 @@
+//! Arrays: nodes with their simple types.
+ghost use Rattle.std.specs.Prelude.{◌≡◌, ◌<◌, ◌++◌, ◌∷◌, [], length, slice_get, Some, IfOk, OnOk, OnErr};
+ghost use Rattle.awk_types.specs.Gives.{Gives};
+ghost use Rattle.awk_types.specs.Limit.{limit_told};
+ghost use Rattle.awk_types.specs.View.{typ_of};
+ghost use Rattle.awk_layout.specs.Array.{array_of, IsArrayType};
+ghost use Rattle.awk_layout.specs.Typing.{array_type};
+ghost use Rattle.awk_layout.specs.Valid.{len, IsValid};
+
+use crate::node::Node;
+use crate::typing::type_of;
+use awk_types::{NoMemory, Typ, TypeFault, copy_type, simple_of};
+use std::alloc::Global;
+use std::marker::Model;
+
+/// A node with its type, which is simple and passes no limit.
+#[derive(Drop)]
+pub struct Array<'a> {
+    node: Node<'a>,
+    typ: Typ,
+}
+
+impl<'a> Model for Array<'a> {
+    ghost use Rattle.awk_layout.specs.Layout.{Layout};
+    ghost use Rattle.awk_layout.specs.Code.{coded_layout};
+
+    ghost Value = { Layout };
+
+    ghost coded = { coded_layout };
+
+    ghost use Rattle.awk_types.specs.View.{typ_of};
+    ghost use Rattle.awk_layout.specs.Array.{IsTypeOf};
+
+    ghost view = { λ a. a.node };
+
+    ghost invariant = { λ a. IsTypeOf (typ_of a.typ) a.node };
+}
+
+impl<'a> Array<'a> {
+    /// The array of a node, which is dropped on a refusal.
+    pub fn new(alloc: Global, node: Node<'a>) -> Result<Array<'a>, TypeFault>
+        ensures gives { Gives (λ array. array) limit_told result (array_of node.entry) }
+        ensures node { IfOk result (λ array. array ≡ node.entry) }
+    {
+        let typ = simple_of(alloc, type_of(alloc, &node)?)?;
+        Ok(Array { node, typ })
+    }
+
+    pub fn node(&self) -> &Node<'a>
+        ensures { result.now ≡ self.now }
+    {
+        &self.node
+    }
+
+    /// The number of items.
+    pub fn len(&self) -> u64
+        ensures len { result ≡ len self.now }
+        ensures valid { IsValid self.now }
+    {
+        self.node.len()
+    }
+
+    /// The type of the items.
+    pub fn typ(&self) -> &Typ
+        ensures typ { typ_of result.now ≡ array_type self.now }
+        ensures lawful { IsArrayType (array_type self.now) }
+    {
+        &self.typ
+    }
+
+    /// The same array over the same bytes. It takes no step.
+    pub fn copy(&self, alloc: Global) -> Result<Array<'a>, NoMemory>
+        ensures { IfOk result (λ copied. copied ≡ self.now) }
+    {
+        let node = self.node.copy(alloc)?;
+        let typ = copy_type(alloc, &self.typ)?;
+        Ok(Array { node, typ })
+    }
+}
+
+/// Arrays in order.
+#[derive(Drop)]
+pub struct Arrays<'a> {
+    arrays: Vec<Array<'a>>,
+}
+
+impl<'a> Model for Arrays<'a> {
+    ghost use Rattle.std.specs.Prelude.{List};
+    ghost use Rattle.std.specs.Coded.{coded_list};
+    ghost use Rattle.awk_layout.specs.Layout.{Layout};
+    ghost use Rattle.awk_layout.specs.Code.{coded_layout};
+
+    ghost Value = { List Layout };
+
+    ghost coded = { coded_list coded_layout };
+
+    ghost view = { λ a. a.arrays.items };
+}
+
+impl<'a> Arrays<'a> {
+    /// No arrays.
+    pub fn new(alloc: Global) -> Arrays<'a>
+        ensures { result ≡ [] }
+    {
+        Arrays {
+            arrays: Vec::new(alloc),
+        }
+    }
+
+    /// Puts an array at the end.
+    pub fn push(&mut self, item: Array<'a>) -> Result<(), NoMemory>
+        ensures ok { OnOk result (self.new ≡ self.old ++ item.entry ∷ []) }
+        ensures err { OnErr result (self.new ≡ self.old) }
+    {
+        self.arrays.push(item)?;
+        Ok(())
+    }
+
+    /// How many arrays there are.
+    pub fn len(&self) -> usize
+        ensures { result ≡ length self.now }
+    {
+        self.arrays.len()
+    }
+
+    /// The array at a place.
+    pub fn get(&self, i: usize) -> &Array<'a>
+        requires { i < length self.now }
+        ensures { slice_get self.now i ≡ Some result.now }
+    {
+        &self.arrays[i]
+    }
+}

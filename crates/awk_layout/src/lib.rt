@@ -1,0 +1,17 @@
+//! Layouts of nested, jagged columns: the twelve classes of nodes over borrowed lanes.
+#![tactic(auto)]
+
+mod array;
+mod datum;
+mod node;
+mod typing;
+
+pub use array::{Array, Arrays};
+pub use datum::{Datum, Datums, Operand, Operands};
+pub use node::class::Class;
+pub use node::place::Place;
+pub use node::{Node, Nodes};
+pub use typing::prim_of;
+
+#[cfg(test)]
+mod tests;
