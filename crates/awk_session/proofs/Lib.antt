@@ -1,0 +1,10 @@
+pub mod Sessions
+pub mod LineEnds
+pub mod Runs
+pub mod StepLaws
+pub mod LoadLaws
+pub mod PlaceLaws
+pub mod VariableLaws
+pub mod Joined
+pub mod Printing
+pub mod ReadLaws

@@ -1,0 +1,16 @@
+pub mod Runs
+pub mod Environment
+pub mod Line
+pub mod FirstForm
+pub mod Load
+pub mod ValueText
+pub mod Answer
+pub mod Printed
+pub mod Stored
+pub mod Variables
+pub mod LineView
+pub mod AnswerView
+pub mod FormView
+pub mod Steps
+pub mod Leaves
+pub mod Outcome

@@ -1,0 +1,12 @@
+//! The engine of a session's lines: each line has at most one answer, and may bind a variable.
+#![tactic(auto)]
+
+mod answer;
+mod engine;
+mod first_form;
+mod line;
+mod load;
+mod value;
+
+pub use answer::Answered;
+pub use engine::{Engine, LineEnd, is_blank};
