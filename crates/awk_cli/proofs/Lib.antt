@@ -1,0 +1,4 @@
+pub mod Counts
+pub mod Progress
+pub mod Ends
+pub mod Complete
