@@ -1,0 +1,103 @@
+-- Texts by key: what the map answers at a key, and what a text decodes to.
+use Rattle.std.proofs.Common.{◌≡◌, ◌≢◌, ◌+◌, ◌≤◌, ℕ, length, arith, Bool, true, false, List, [], ◌∷◌, Option, Some, None, Ok, Err, cond, refl, ap, sym, ◌∙◌}
+use Rattle.std.specs.Prelude.{option_and_then, option_map, unwrap_or, is_some, IsTrue, String, string_bytes}
+use Rattle.std.specs.Option.{ok_or}
+use Rattle.std.specs.Result.{result_ok}
+use Rattle.std.specs.declared.alloc.Global.{Global}
+use Rattle.std.specs.BTreeMap.{is_at}
+use Rattle.std.specs.Map.{lookup}
+use Rattle.std.specs.Cmp.Lexicographic.{slice_cmp, bytes_decides}
+use Rattle.std.specs.Ordering.{nat_cmp, is_eq, match_ordering}
+use Rattle.std.specs.declared.cmp.Ordering.{Ordering}
+use Rattle.std.specs.declared.cmp.Ordering.TheVariants.{Less, Equal, Greater}
+use Rattle.std.specs.Str.{bytes_eq}
+use Rattle.std.proofs.lemmas.List.Sums.{sum_by-cons}
+use Rattle.std.proofs.lemmas.Map.Text.{is_eq-slice_cmp}
+use Rattle.base64.specs.declared.decode.DecodeError.{DecodeError}
+use Rattle.base64.specs.Engines.{standard}
+use Rattle.base64.specs.GeneralPurpose.{decode_of, decoded_of, encode_of, IsBytes}
+use Rattle.base64.proofs.EngineFacts.{decode_of-encode_of}
+use Rattle.base64.proofs.Streams.{decoded_of-ok}
+use Rattle.serde_json.specs.Data.{Data, Members, no_members, member}
+use Rattle.serde_json.specs.Find.{as_str, get_member}
+use Rattle.serde_json.specs.View.{view, members_view}
+use Rattle.serde_json.specs.declared.value.Value.{Value}
+use Rattle.serde_json.proofs.Views.{view-lookup}
+use Rattle.awk_store.specs.Buffers.{ByKey, HoldsTexts, texts_of, Buffers, text_of, total_len, is_decoded, undecoded_len, decoding, buffer, why_told}
+use Rattle.awk_types.specs.Gives.{Told}
+use Rattle.awk_store.specs.declared.fault.StoreFault.{StoreFault}
+use Rattle.awk_store.specs.declared.fault.StoreFault.TheVariants.{Bad}
+use Rattle.awk_store.specs.declared.fault.BufferWhy.TheVariants.{Base64}
+
+-- what is there is its own value
+is_own : (o : Option (List ℕ)) → IsTrue (is_some o) → o ≡ Some (unwrap_or o [])
+is_own None h = cc
+is_own (Some text) h = refl
+
+-- one member: the same test picks its value and its text
+picked_text : (o : Ordering) (here : Data) (later : Option Data) (text : Option (List ℕ)) → IsTrue (is_some (as_str here))
+    → option_and_then as_str later ≡ text
+    → option_and_then as_str (match_ordering o later (Some here) later) ≡ cond (is_eq o) (Some (unwrap_or (as_str here) [])) text
+picked_text Less here later text h e = e
+picked_text Equal here later text h e = is_own (as_str here) h
+picked_text Greater here later text h e = e
+
+-- the text of a key is that of its member
+pub text_of-texts_of : (key : List ℕ) (members : Members) → HoldsTexts members → option_and_then as_str (get_member key members) ≡ text_of (texts_of members) key
+text_of-texts_of key no_members h = refl
+text_of-texts_of key (member l here later) h =
+    picked_text (slice_cmp nat_cmp key l) here (get_member key later) _ h.0 (text_of-texts_of key later h.1)
+    ∙ rw is_eq-slice_cmp
+
+-- what a look-up of the map finds, as the text of the key
+and_then-map : (o : Option Value) → option_and_then as_str (option_map view o) ≡ option_and_then (λ v. as_str (view v)) o
+and_then-map None = refl
+and_then-map (Some v) = refl
+
+pub text_of-entries : (key : List ℕ) (entries : List (String Global × Value)) → HoldsTexts (members_view entries)
+    → option_and_then (λ v. as_str (view v)) (lookup (is_at (λ k. slice_cmp nat_cmp key (string_bytes k))) entries) ≡ text_of (texts_of (members_view entries)) key
+text_of-entries key entries h =
+    sym (and_then-map _) ∙ ap (option_and_then as_str) (view-lookup key entries) ∙ text_of-texts_of key (members_view entries) h
+
+-- keys that compare as equal are the same
+pub same_key : (key name : List ℕ) → slice_cmp nat_cmp key name ≡ Equal → name ≡ key
+same_key key name e = sym ((bytes_decides key name).0 (sym (is_eq-slice_cmp key name) ∙ ap is_eq e))
+
+-- a text that decodes
+pub decoding-Ok : (text bytes : List ℕ) → decode_of standard text ≡ Ok bytes → decoding (Some text) ≡ Ok bytes
+decoding-Ok text bytes e = ap (λ o. ok_or o Base64) (decoded_of-ok standard text bytes e)
+
+-- a text that does not
+pub decoding-Err : (text : List ℕ) (why : DecodeError) → decode_of standard text ≡ Err why → decoding (Some text) ≡ Err Base64
+unfolding decoded_of
+decoding-Err text why e = ap (λ r. ok_or (result_ok r) Base64) e
+
+-- a text that encodes bytes decodes to them
+pub decoding-encode_of : (bytes : List ℕ) → IsBytes bytes → decoding (Some (encode_of standard bytes)) ≡ Ok bytes
+decoding-encode_of bytes h = decoding-Ok _ bytes (decode_of-encode_of standard bytes refl h)
+
+pub buffer-encode_of : (texts : ByKey) (key bytes : List ℕ) → IsBytes bytes → text_of texts key ≡ Some (encode_of standard bytes) → buffer texts key ≡ Ok bytes
+buffer-encode_of texts key bytes h e = ap decoding e ∙ decoding-encode_of bytes h
+
+-- a text that is refused encodes no bytes
+pub undecodable : (text : List ℕ) (fault : StoreFault) → Told (why_told fault) (decoding (Some text)) → fault ≡ Bad Base64 → (bytes : List ℕ) → IsBytes bytes → Some text ≢ Some (encode_of standard bytes)
+undecodable text fault said is bytes h e =
+    let refused : decoding (Some text) ≡ Err Base64 = rw is at said in
+    let decodes : decoding (Some text) ≡ Ok bytes = ap decoding e ∙ decoding-encode_of bytes h in
+    cc
+
+-- no text is longer than all of them together
+len_step : (b : Bool) (here : List ℕ) (later : Option (List ℕ)) (rest : ℕ) → length (unwrap_or later []) ≤ rest → length (unwrap_or (cond b (Some here) later) []) ≤ length here + rest
+len_step true here later rest h = omega arith
+len_step false here later rest h = omega arith
+
+text_len-≤ : (texts : ByKey) (key : List ℕ) → length (unwrap_or (text_of texts key) []) ≤ total_len texts
+text_len-≤ [] key = omega arith
+text_len-≤ (e ∷ texts) key = rw sum_by-cons (len_step (bytes_eq key e.0) e.1 (text_of texts key) (total_len texts) (text_len-≤ texts key))
+
+pub undecoded_len-≤ : (s : Buffers) (key : List ℕ) → undecoded_len s key ≤ total_len s.texts
+undecoded_len-≤ s key = undecoded_step (is_decoded s key) _ _ (text_len-≤ s.texts key)
+  where
+    undecoded_step : (b : Bool) (n total : ℕ) → n ≤ total → cond b 0 n ≤ total
+    undecoded_step true n total h = omega arith
+    undecoded_step false n total h = h

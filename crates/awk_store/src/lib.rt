@@ -1,0 +1,10 @@
+//! Buffers by key: the bytes that a map's texts encode, each decoded once into an arena.
+#![tactic(auto)]
+
+mod fault;
+mod store;
+#[cfg(test)]
+mod tests;
+
+pub use fault::{BufferWhy, StoreFault};
+pub use store::Store;
