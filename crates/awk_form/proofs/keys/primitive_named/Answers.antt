@@ -1,0 +1,10 @@
+use Rattle.std.proofs.Common.{sym}
+use Rattle.awk_form.specs.Tables.{primitives}
+use Rattle.awk_form.proofs.Words.{none_of}
+use Rattle.awk_form.proofs.keys.primitive_named.Goals as goal
+
+pub returns-in_default : goal.returns-in_default
+returns-in_default c =
+    let other = c.in_default in
+    sym (none_of primitives c.args.text.now
+    (other.not-bool, (other.not-int8, (other.not-int16, (other.not-int32, (other.not-int64, (other.not-uint8, (other.not-uint16, (other.not-uint32, (other.not-uint64, tt))))))))))

@@ -1,0 +1,10 @@
+pub mod FormTree
+pub mod Tables
+pub mod Node
+pub mod Reading
+pub mod FormType
+pub mod Lawful
+pub mod FormText
+pub mod Told
+pub mod NodeView
+pub mod View

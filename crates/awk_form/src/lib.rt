@@ -1,0 +1,22 @@
+//! Forms: read from JSON, with their first break, their types and their texts.
+#![tactic(auto)]
+
+mod class;
+mod dims;
+mod fault;
+mod form;
+mod keys;
+mod kind;
+mod names;
+mod node;
+mod read;
+#[cfg(test)]
+mod tests;
+mod typing;
+
+pub use dims::Dims;
+pub use fault::{FormFault, FormWhy};
+pub use form::{Form, Forms, Shape};
+pub use kind::IndexKind;
+pub use read::read_form;
+pub use typing::type_of_form;
