@@ -1,0 +1,51 @@
+-- The layout that a form stands for has the form's type.
+use Rattle.std.specs.Prelude.{◌≡◌, ℕ, suc, ◌*◌, List, [], ◌∷◌, Option, Some, None, refl}
+use Rattle.std.proofs.Common.{ap, ap₂}
+use Rattle.awk_types.specs.DataType.{Name, DataType, DataTypes, leaf, var, reg, opt, uni, type}
+use Rattle.awk_types.specs.declared.primitive.Primitive.{Primitive}
+use Rattle.awk_types.specs.declared.primitive.Primitive.TheVariants as primitive
+use Rattle.awk_layout.specs.Layout.{Layout}
+use Rattle.awk_layout.specs.Typing.{primitive_of, layout_type, layout_types, row_type}
+use Rattle.awk_form.specs.FormTree.{FormTree, empty, numpy, regular, list, list_offset, row, indexed, indexed_option, byte_masked, bit_masked, unmasked, union, FormTrees, no_forms, form}
+use Rattle.awk_form.specs.FormType as said
+use Rattle.awk_form.specs.FormType.{type_of, types_of}
+use Rattle.awk_valid.specs.Container.{Container, kind_of}
+use Rattle.awk_valid.specs.Loaded.{shaped, layout_of, layouts_of}
+
+primitive_of-kind_of : (p : Primitive) → primitive_of (kind_of p) ≡ p
+primitive_of-kind_of primitive.Bool = refl
+primitive_of-kind_of primitive.I8 = refl
+primitive_of-kind_of primitive.I16 = refl
+primitive_of-kind_of primitive.I32 = refl
+primitive_of-kind_of primitive.I64 = refl
+primitive_of-kind_of primitive.U8 = refl
+primitive_of-kind_of primitive.U16 = refl
+primitive_of-kind_of primitive.U32 = refl
+primitive_of-kind_of primitive.U64 = refl
+
+shaped-type : (inner : List ℕ) (n : ℕ) (x : Layout) (t : DataType) → layout_type x ≡ t → layout_type (shaped inner n x) ≡ said.shaped inner t
+shaped-type [] n x t e = e
+shaped-type (m ∷ ms) n x t e = ap (reg m) (shaped-type ms (n * m) x t e)
+
+row_type-same : (names : Option (List Name)) (ts us : DataTypes) → ts ≡ us → row_type names ts ≡ said.row_type names us
+row_type-same None ts us e = ap (row_type None) e
+row_type-same (Some names) ts us e = ap (row_type (Some names)) e
+
+mutual
+  pub layout_type-layout_of : (f : FormTree) (n : ℕ) (c : Container) → layout_type (layout_of f n c) ≡ type_of f
+  layout_type-layout_of (empty key) n c = refl
+  layout_type-layout_of (numpy key prim inner) n c = shaped-type inner n _ (leaf prim) (ap leaf (primitive_of-kind_of prim))
+  layout_type-layout_of (regular key size f) n c = ap (reg size) (layout_type-layout_of f _ c)
+  layout_type-layout_of (list key starts stops f) n c = ap var (layout_type-layout_of f _ c)
+  layout_type-layout_of (list_offset key offsets f) n c = ap var (layout_type-layout_of f _ c)
+  layout_type-layout_of (row key names fs) n c = row_type-same names _ _ (layout_types-layouts_of fs _ c)
+  layout_type-layout_of (indexed key index f) n c = layout_type-layout_of f _ c
+  layout_type-layout_of (indexed_option key index f) n c = ap opt (layout_type-layout_of f _ c)
+  layout_type-layout_of (byte_masked key valid_when f) n c = ap opt (layout_type-layout_of f _ c)
+  layout_type-layout_of (bit_masked key valid_when lsb_order f) n c = ap opt (layout_type-layout_of f _ c)
+  layout_type-layout_of (unmasked key f) n c = ap opt (layout_type-layout_of f _ c)
+  layout_type-layout_of (union key index fs) n c = ap uni (layout_types-layouts_of fs _ c)
+
+  pub layout_types-layouts_of : (fs : FormTrees) (lengths : ℕ → ℕ) (c : Container) → layout_types (layouts_of fs lengths c) ≡ types_of fs
+  layout_types-layouts_of no_forms lengths c = refl
+  layout_types-layouts_of (form f fs) lengths c = ap₂ type (layout_type-layout_of f (lengths 0) c) (layout_types-layouts_of fs (λ k. lengths (suc k)) c)

@@ -1,0 +1,6 @@
+pub mod Container
+pub mod Needs
+pub mod Loaded
+pub mod Broken
+pub mod Loading
+pub mod Rules

@@ -1,0 +1,106 @@
+//! The lanes of a node, from the buffers under its keys.
+ghost use Rattle.std.specs.Prelude.{◌≡◌, ◌+◌, ◌*◌, ◌/◌, ◌≤◌, nat_le, length, Some, None, if◌then◌else◌};
+ghost use Rattle.awk_types.specs.Gives.{Gives};
+ghost use Rattle.awk_lanes.specs.Numbers.{width};
+ghost use Rattle.awk_lanes.specs.Bits.{bits};
+ghost use Rattle.awk_store.specs.Buffers.{buffer, undecoded_len};
+ghost use Rattle.awk_valid.specs.Container.{column_at};
+ghost use Rattle.awk_valid.specs.Broken.{item_limit};
+ghost use Rattle.awk_valid.specs.Loading.{told, lane_said, bits_said};
+
+use crate::fault::{BufferFault, LoadFault, buffer_fault};
+use awk_lanes::{Bits, Kind, Lane, Steps};
+use awk_store::{BufferWhy, Store, StoreFault};
+use std::alloc::Global;
+use std::sync::ledger::Ledger;
+
+/// The first n numbers that the bytes are, if there are as many.
+fn first_numbers(bytes: &[u8], kind: Kind, n: u64) -> Option<Lane<'_>>
+    requires few { n ≤ item_limit + 1 }
+    ensures { result ≡ (if nat_le (n * width kind) (length bytes.now) then Some (column_at kind n bytes.now) else None) }
+{
+    let size = n as usize * kind.width();
+    if bytes.len() < size {
+        return None;
+    }
+    Some(Lane::new(kind, &bytes[..size]))
+}
+
+/// The first n numbers of a kind in the buffer under a key. Further bytes are not looked at.
+pub(crate) fn lane_at<'a, L: Ledger>(
+    alloc: Global,
+    store: &mut Store<'_, 'a>,
+    key: &str,
+    kind: Kind,
+    n: u64,
+    steps: &mut Steps<L>,
+) -> Result<Lane<'a>, LoadFault>
+    requires few { n ≤ item_limit + 1 }
+    // The numbers, or exactly what is wrong with the buffer, or want of memory.
+    ensures answer { Gives (λ lane. lane) told result (lane_said key.now kind n (buffer store.old.texts key.now)) }
+    ensures texts { store.new.texts ≡ store.old.texts }
+    ensures cost { steps.new ≤ steps.old + undecoded_len store.old key.now }
+{
+    match store.fetch(key, steps) {
+        Ok(bytes) => match first_numbers(bytes, kind, n) {
+            Some(lane) => Ok(lane),
+            None => Err(buffer_fault(alloc, key, BufferFault::Short)),
+        },
+        Err(StoreFault::Bad(BufferWhy::Absent)) => Err(buffer_fault(
+            alloc,
+            key,
+            BufferFault::Absent,
+        )),
+        Err(StoreFault::Bad(BufferWhy::Base64)) => Err(buffer_fault(
+            alloc,
+            key,
+            BufferFault::Base64,
+        )),
+        Err(StoreFault::NoMemory) => Err(LoadFault::NoMemory),
+    }
+}
+
+/// The first n bits, if the bytes have as many.
+fn first_bits(bytes: &[u8], lsb_order: bool, n: u64) -> Option<Bits<'_>>
+    requires few { n ≤ item_limit }
+    ensures { result ≡ (if nat_le ((n + 7) / 8) (length bytes.now) then Some (bits lsb_order bytes.now 0 n) else None) }
+{
+    if bytes.len() < (n as usize + 7) / 8 {
+        return None;
+    }
+    Some(Bits::new(bytes, 0, n, lsb_order))
+}
+
+/// The first n bits of the buffer under a key. Further bytes are not looked at.
+pub(crate) fn bits_at<'a, L: Ledger>(
+    alloc: Global,
+    store: &mut Store<'_, 'a>,
+    key: &str,
+    lsb_order: bool,
+    n: u64,
+    steps: &mut Steps<L>,
+) -> Result<Bits<'a>, LoadFault>
+    requires few { n ≤ item_limit }
+    // The bits, or exactly what is wrong with the buffer, or want of memory.
+    ensures answer { Gives (λ mask. mask) told result (bits_said key.now lsb_order n (buffer store.old.texts key.now)) }
+    ensures texts { store.new.texts ≡ store.old.texts }
+    ensures cost { steps.new ≤ steps.old + undecoded_len store.old key.now }
+{
+    match store.fetch(key, steps) {
+        Ok(bytes) => match first_bits(bytes, lsb_order, n) {
+            Some(mask) => Ok(mask),
+            None => Err(buffer_fault(alloc, key, BufferFault::Short)),
+        },
+        Err(StoreFault::Bad(BufferWhy::Absent)) => Err(buffer_fault(
+            alloc,
+            key,
+            BufferFault::Absent,
+        )),
+        Err(StoreFault::Bad(BufferWhy::Base64)) => Err(buffer_fault(
+            alloc,
+            key,
+            BufferFault::Base64,
+        )),
+        Err(StoreFault::NoMemory) => Err(LoadFault::NoMemory),
+    }
+}
