@@ -1,8 +1,8 @@
 -- Texts with commas between them, one more after another.
-use Rattle.std.proofs.Common.{◌≡◌, ℕ, zero, suc, ◌+◌, ◌-◌, ◌<◌, ◌≤◌, ◌==◌, Bool, true, false, List, [], ◌∷◌, ◌++◌, map, codes, refl, sym, ap, ◌∙◌, arith, append_assoc, append-nil}
+use Rattle.std.proofs.Common.{◌≡◌, ℕ, zero, suc, ◌+◌, ◌-◌, ◌<◌, ◌≤◌, ◌==◌, true, false, List, [], ◌∷◌, ◌++◌, map, codes, refl, sym, ap, ◌∙◌, arith, append_assoc, append-nil}
 use Rattle.std.specs.List.{range_with_len}
 use Rattle.std.proofs.lemmas.List.FromFn.{map-range_with_len_more}
-use Rattle.awk_types.specs.Value.{Value, Values, value_list}
+use Rattle.awk_types.specs.Value.{Value, value_list}
 use Rattle.awk_layout.specs.Item.{run}
 use Rattle.awk_json.specs.Text.{comma_joined}
 use Rattle.awk_session.specs.Printed.{comma_before}
@@ -90,3 +90,10 @@ three_parts held a b c = simp append_assoc
 
 pub first_part : (held a b c : List ℕ) → held ++ ((a ++ b) ++ c) ≡ (held ++ a) ++ (b ++ c)
 first_part held a b c = simp append_assoc
+
+-- five parts, of which the last three are put as one
+pub five_parts : (held a b c d : List ℕ) → held ++ (((((a ++ b) ++ c) ++ d) ++ (34 ∷ 125 ∷ [])) ++ (10 ∷ [])) ≡ ((held ++ a) ++ b) ++ ((c ++ d) ++ (34 ∷ 125 ∷ 10 ∷ []))
+five_parts held a b c d = simp append_assoc
+
+pub first_of_five : (held a b c d : List ℕ) → held ++ (((((a ++ b) ++ c) ++ d) ++ (34 ∷ 125 ∷ [])) ++ (10 ∷ [])) ≡ (held ++ a) ++ (b ++ ((c ++ d) ++ (34 ∷ 125 ∷ 10 ∷ [])))
+first_of_five held a b c d = simp append_assoc

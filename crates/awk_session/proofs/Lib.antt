@@ -3,6 +3,7 @@ pub mod LineEnds
 pub mod Runs
 pub mod StepLaws
 pub mod LoadLaws
+pub mod FormLaws
 pub mod PlaceLaws
 pub mod VariableLaws
 pub mod Joined

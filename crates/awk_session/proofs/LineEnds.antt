@@ -1,14 +1,14 @@
 -- No answer text holds a line end, so the line ends written count the answers.
-use Rattle.std.proofs.Common.{◌≡◌, ◌≢◌, ℕ, zero, suc, ◌+◌, ◌/◌, ◌%◌, ◌==◌, nat_lt, Bool, true, false, cond, ◌||◌, List, [], ◌∷◌, ◌++◌, map, refl, sym, ap, ◌∙◌, arith, ℤ, pos, negsuc, decimal, codes, count_by, sum_by}
+use Rattle.std.proofs.Common.{◌≡◌, ◌≢◌, ℕ, zero, suc, ◌+◌, ◌/◌, ◌%◌, ◌==◌, Bool, true, false, cond, List, [], ◌∷◌, ◌++◌, map, refl, ◌∙◌, arith, ℤ, pos, negsuc, decimal, codes}
 use Rattle.std.specs.Fmt.{digits, digits_onto, digit_glyph, signed_decimal}
 use Rattle.std.proofs.lemmas.List.Sums.{sum_by-append}
 use Rattle.awk_types.specs.DataType.{Name, DataType, unknown, leaf, var, reg, rec, tup, opt, uni, DataTypes, no_types, type}
-use Rattle.awk_types.specs.Value.{Value, int, truth, null, list, row, alt, value_list}
+use Rattle.awk_types.specs.Value.{Value, int, truth, null, list, row, alt}
 use Rattle.awk_session.specs.Runs.{line_ends}
 use Rattle.awk_edge.specs.Lines.{Unbroken}
 use Rattle.awk_json.specs.Text.{quoted, comma_joined}
 use Rattle.awk_json.proofs.Lines.{quoted-unbroken}
-use Rattle.awk_session.specs.ValueText.{Text, truth_text, leaf_text, list_items, row_items, is_null, tag_of, untagged, place_names, members, value_text, row_texts, alternative_text}
+use Rattle.awk_session.specs.ValueText.{leaf_text, list_items, row_items, is_null, tag_of, untagged, place_names, members, value_text, row_texts, alternative_text}
 
 pub line_ends-append : (xs ys : List ℕ) → line_ends (xs ++ ys) ≡ line_ends xs + line_ends ys
 line_ends-append xs ys = sum_by-append (λ b. cond (b == 10) 1 0) xs ys
@@ -33,7 +33,7 @@ line_ends-digits_onto (suc k) n acc h =
     let onto : line_ends (digit_glyph false (n % 10) ∷ acc) ≡ 0 = other_byte (digit_glyph false (n % 10)) acc (glyph (n % 10)) ∙ h in
     if_same (n / 10 == 0) (digit_glyph false (n % 10) ∷ acc) _ onto (line_ends-digits_onto k (n / 10) (digit_glyph false (n % 10) ∷ acc) onto)
 
-line_ends-decimal : (n : ℕ) → line_ends (decimal n) ≡ 0
+pub line_ends-decimal : (n : ℕ) → line_ends (decimal n) ≡ 0
 unfolding digits
 line_ends-decimal n = line_ends-digits_onto 64 n [] refl
 

@@ -1,5 +1,5 @@
 -- Numbers at the front of bytes, and lists between offsets, one more after another.
-use Rattle.std.proofs.Common.{◌≡◌, ◌≢◌, ◌<◌, ◌≤◌, ℕ, zero, suc, ◌+◌, ◌-◌, ◌*◌, ◌/◌, Bool, true, false, ◌&&◌, ◌||◌, cond, nat_le, List, [], ◌∷◌, ◌++◌, length, map, take, drop, max, Some, None, Option, refl, sym, ap, ◌∙◌, subst, arith, get_or, option_and_then, codes, true≢false, ℤ, pos, negsuc, ◌≤ℤ◌}
+use Rattle.std.proofs.Common.{◌≡◌, ◌≢◌, ◌<◌, ◌≤◌, ℕ, zero, suc, ◌+◌, ◌-◌, ◌*◌, ◌/◌, Bool, true, false, ◌&&◌, ◌||◌, cond, nat_le, List, [], ◌∷◌, ◌++◌, length, map, take, max, Some, None, Option, refl, sym, ap, ◌∙◌, subst, arith, get_or, option_and_then, codes, true≢false, ℤ, pos, negsuc, ◌≤ℤ◌}
 use Rattle.std.specs.List.{range_with_len, list_all}
 use Rattle.std.proofs.lemmas.List.{take_all, length-take}
 use Rattle.std.proofs.lemmas.Int.{ints}

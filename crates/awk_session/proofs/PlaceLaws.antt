@@ -1,17 +1,12 @@
 -- What the items of the printed layouts are, one level down.
 use Rattle.std.proofs.Common.{◌≡◌, ℕ, ◌+◌, Bool, true, false, cond, refl, subst, Bor}
 use Rattle.std.specs.Ordering.{int_eq}
-use Rattle.awk_types.specs.Value.{Value, int}
-use Rattle.awk_lanes.specs.declared.kind.Kind.{Kind}
-use Rattle.awk_lanes.specs.declared.kind.Kind.TheVariants.{I64}
 use Rattle.awk_lanes.specs.declared.kind.Num.{Num}
-use Rattle.awk_lanes.specs.declared.kind.Num.TheVariants.{Int, Nat, Truth}
 use Rattle.awk_lanes.specs.Numbers.{nat_of}
 use Rattle.awk_lanes.specs.Places.{at}
-use Rattle.awk_layout.specs.Layout.{Layout, empty, flat, regular, lists, offset_lists, rows, indexed, optional, byte_masked, bit_masked, unmasked, union}
-use Rattle.awk_layout.specs.Item.{leaf_value}
-use Rattle.awk_layout.specs.Place.{Case, number, span, case_of}
-use Rattle.awk_layout.specs.Shown.{shown, value_of_num}
+use Rattle.awk_layout.specs.Layout.{Layout, flat, offset_lists}
+use Rattle.awk_layout.specs.Place.{span, case_of}
+use Rattle.awk_layout.specs.Shown.{shown}
 use Rattle.awk_layout.specs.declared.node.place.Place.{Place}
 use Rattle.awk_layout.specs.declared.node.place.Place.TheVariants.{Number, Items, Row, Missing, Through, Alternative}
 use Rattle.awk_session.specs.Printed.{IsNumbers, IsLists}

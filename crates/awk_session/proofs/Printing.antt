@@ -1,18 +1,18 @@
 -- The texts of the printed layouts, item by item.
-use Rattle.std.proofs.Common.{◌≡◌, ℕ, List, [], ◌∷◌, map, refl, sym, ap, ◌∙◌}
+use Rattle.std.proofs.Common.{◌≡◌, ℕ, List, [], ◌∷◌, map, refl, ap, ◌∙◌}
 use Rattle.std.specs.List.{range_with_len}
 use Rattle.awk_types.specs.declared.primitive.Primitive.{Primitive}
 use Rattle.awk_types.specs.declared.primitive.Primitive.TheVariants.{I64}
-use Rattle.awk_types.specs.DataType.{DataType, leaf, var}
-use Rattle.awk_types.specs.Value.{Value, Values, int, truth, null, list, row, alt, no_values, value, value_list, values_from}
+use Rattle.awk_types.specs.DataType.{leaf, var}
+use Rattle.awk_types.specs.Value.{Value, int, truth, null, list, row, alt, value_list, values_from}
 use Rattle.awk_types.specs.Simple.{simple_value}
-use Rattle.awk_layout.specs.Layout.{Layout, empty, flat, regular, lists, offset_lists, rows, indexed, optional, byte_masked, bit_masked, unmasked, union}
+use Rattle.awk_layout.specs.Layout.{Layout, flat, offset_lists}
 use Rattle.awk_layout.specs.Valid.{len}
 use Rattle.awk_layout.specs.Item.{item, items, run}
 use Rattle.awk_layout.specs.Typing.{primitive_of}
 use Rattle.awk_session.specs.Answer.{datum_text}
 use Rattle.awk_session.specs.Load.{datum_of}
-use Rattle.awk_session.specs.Printed.{IsNumbers, IsLists}
+use Rattle.awk_session.specs.Printed.{IsLists}
 use Rattle.awk_session.specs.ValueText.{leaf_text, list_text, list_items, value_text}
 use Rattle.awk_session.proofs.Joined.{value_list-run, map-map}
 

@@ -7,6 +7,8 @@ use Rattle.std.proofs.lemmas.Str.{is_utf8-from_IsUtf8}
 use Rattle.serde_json.specs.Read.{read}
 use Rattle.serde_json.proofs.OnLiterals.{serde_json_on_literals}
 use Rattle.base64.proofs.OnLiterals.{base64_on_literals}
+use Rattle.awk_form.specs.Node.{node_at}
+use Rattle.awk_form.specs.Reading.{nodes_of, form_of}
 use Rattle.awk_session.specs.Environment.{Environment}
 use Rattle.awk_session.specs.Load.{decoded}
 use Rattle.awk_session.specs.Steps.{step, step_of, reply, is_blank, answers, has_fault}
@@ -37,11 +39,11 @@ unfolding encode_utf8
 load_lists-read variables = step-read variables load_lists refl (load_lists, (refl, refl))
 
 pub lists_are_shown : answers (load_lists ∷ show_x ∷ []) ≡ lines_of (codes "{\"bound\":\"x\"}" ∷ codes "{\"value\":[[5,-1],[],[7]]}" ∷ [])
-unfolding serde_json_on_literals base64_on_literals decoded digits
+unfolding serde_json_on_literals base64_on_literals decoded digits node_at nodes_of form_of
 lists_are_shown = simp (load_lists-read, show_x-read) refl
 
 pub lists_without_fault : has_fault (load_lists ∷ show_x ∷ []) ≡ false
-unfolding serde_json_on_literals base64_on_literals decoded digits
+unfolding serde_json_on_literals base64_on_literals decoded digits node_at nodes_of form_of
 lists_without_fault = simp (load_lists-read, show_x-read) refl
 
 -- one empty list, at place 5 of no data
@@ -53,7 +55,7 @@ unfolding encode_utf8
 load_empty_list-read variables = step-read variables load_empty_list refl (load_empty_list, (refl, refl))
 
 pub empty_list_is_shown : answers (load_empty_list ∷ show_x ∷ []) ≡ lines_of (codes "{\"bound\":\"x\"}" ∷ codes "{\"value\":[[]]}" ∷ [])
-unfolding serde_json_on_literals base64_on_literals decoded digits
+unfolding serde_json_on_literals base64_on_literals decoded digits node_at nodes_of form_of
 empty_list_is_shown = simp (load_empty_list-read, show_x-read) refl
 
 -- a name that is not bound, and two offsets that are out of order
@@ -65,12 +67,46 @@ unfolding encode_utf8
 load_unordered-read variables = step-read variables load_unordered refl (load_unordered, (refl, refl))
 
 pub unordered_binds_nothing : answers (load_unordered ∷ show_x ∷ []) ≡ lines_of (codes "{\"fault\":\"unbuilt\"}" ∷ codes "{\"fault\":\"name\",\"name\":\"x\"}" ∷ [])
-unfolding serde_json_on_literals base64_on_literals decoded digits
+unfolding serde_json_on_literals base64_on_literals decoded digits node_at nodes_of form_of
 unordered_binds_nothing = simp (load_unordered-read, show_x-read) refl
 
 pub unordered_is_a_fault : has_fault (load_unordered ∷ []) ≡ true
-unfolding serde_json_on_literals base64_on_literals decoded digits
+unfolding serde_json_on_literals base64_on_literals decoded digits node_at nodes_of form_of
 unordered_is_a_fault = simp load_unordered-read refl
+
+-- three forms that are broken: an unknown primitive at the second node, no offsets, and a parameter that is not allowed
+abbrev load_float : List ℕ
+load_float = codes "{\"load\":\"x\",\"form\":{\"class\":\"ListOffsetArray\",\"offsets\":\"i64\",\"content\":{\"class\":\"NumpyArray\",\"primitive\":\"float64\",\"form_key\":\"node1\"},\"form_key\":\"node0\"},\"length\":0,\"buffers\":{}}"
+
+load_float-read : (variables : Environment) → step variables load_float ≡ step_of (reply variables (read load_float))
+unfolding encode_utf8
+load_float-read variables = step-read variables load_float refl (load_float, (refl, refl))
+
+pub float_is_no_primitive : answers (load_float ∷ []) ≡ lines_of (codes "{\"fault\":\"form\",\"node\":1,\"why\":\"primitive\"}" ∷ [])
+unfolding serde_json_on_literals base64_on_literals decoded digits node_at nodes_of form_of
+float_is_no_primitive = simp load_float-read refl
+
+abbrev load_no_offsets : List ℕ
+load_no_offsets = codes "{\"load\":\"x\",\"form\":{\"class\":\"ListOffsetArray\",\"content\":{\"class\":\"NumpyArray\",\"primitive\":\"int64\",\"form_key\":\"node1\"},\"form_key\":\"node0\"},\"length\":0,\"buffers\":{}}"
+
+load_no_offsets-read : (variables : Environment) → step variables load_no_offsets ≡ step_of (reply variables (read load_no_offsets))
+unfolding encode_utf8
+load_no_offsets-read variables = step-read variables load_no_offsets refl (load_no_offsets, (refl, refl))
+
+pub offsets_are_absent : answers (load_no_offsets ∷ []) ≡ lines_of (codes "{\"fault\":\"form\",\"node\":0,\"why\":\"key\"}" ∷ [])
+unfolding serde_json_on_literals base64_on_literals decoded digits node_at nodes_of form_of
+offsets_are_absent = simp load_no_offsets-read refl
+
+abbrev load_string : List ℕ
+load_string = codes "{\"load\":\"x\",\"form\":{\"class\":\"ListOffsetArray\",\"offsets\":\"i64\",\"content\":{\"class\":\"NumpyArray\",\"primitive\":\"int64\",\"form_key\":\"node1\"},\"parameters\":{\"__array__\":\"string\"},\"form_key\":\"node0\"},\"length\":0,\"buffers\":{}}"
+
+load_string-read : (variables : Environment) → step variables load_string ≡ step_of (reply variables (read load_string))
+unfolding encode_utf8
+load_string-read variables = step-read variables load_string refl (load_string, (refl, refl))
+
+pub array_is_told : answers (load_string ∷ []) ≡ lines_of (codes "{\"fault\":\"form\",\"node\":0,\"why\":\"parameter\"}" ∷ [])
+unfolding serde_json_on_literals base64_on_literals decoded digits node_at nodes_of form_of
+array_is_told = simp load_string-read refl
 
 -- a line that is no JSON
 abbrev broken : List ℕ

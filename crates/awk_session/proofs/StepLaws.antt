@@ -1,5 +1,5 @@
 -- What the layer above uses of a step.
-use Rattle.std.proofs.Common.{◌≡◌, ◌≤◌, ℕ, suc, ◌+◌, Bool, true, false, not, cond, List, [], ◌∷◌, ◌++◌, length, Some, None, refl, sym, ap, ◌∙◌, arith, codes}
+use Rattle.std.proofs.Common.{◌≡◌, ◌≤◌, ℕ, ◌+◌, Bool, true, false, not, cond, List, [], ◌∷◌, ◌++◌, None, refl, sym, ap, ◌∙◌, arith, codes, decimal}
 use Rattle.std.proofs.lemmas.List.Sums.{sum_by-append, sum_by-cons}
 use Rattle.awk_types.specs.DataType.{var}
 use Rattle.awk_types.specs.Value.{list, values_from}
@@ -7,10 +7,13 @@ use Rattle.awk_types.specs.Datum.{Datum, arr, one}
 use Rattle.awk_json.specs.Text.{quoted}
 use Rattle.awk_session.specs.Runs.{Step, answer_bytes, texts, line_ends}
 use Rattle.awk_session.specs.Environment.{Environment}
-use Rattle.awk_session.specs.ValueText.{value_text}
-use Rattle.awk_session.specs.Answer.{Answer, bound, value, json, name, unbuilt, answer_text, datum_text}
+use Rattle.awk_form.specs.declared.fault.FormWhy.{FormWhy}
+use Rattle.awk_form.specs.declared.fault.FormWhy.TheVariants as why
+use Rattle.awk_session.specs.declared.answer.Refused.{Refused}
+use Rattle.awk_session.specs.declared.answer.Refused.TheVariants as refusal
+use Rattle.awk_session.specs.Answer.{Answer, bound, value, json, name, refused, answer_text, refused_text, why_text, datum_text}
 use Rattle.awk_session.specs.Steps.{is_blank, step, step_of, reply, json_of, answers, answer_count}
-use Rattle.awk_session.proofs.LineEnds.{line_ends-append, both, line_ends-quoted, line_ends-value_text}
+use Rattle.awk_session.proofs.LineEnds.{line_ends-append, both, line_ends-decimal, line_ends-quoted, line_ends-value_text}
 
 -- a blank line has no answer, and changes nothing
 pub step-blank : (variables : Environment) (line : List ℕ) → is_blank line ≡ true → step variables line ≡ record { answer = None; is_fault = false; after = variables }
@@ -28,12 +31,31 @@ line_ends-datum_text : (d : Datum) → line_ends (datum_text d) ≡ 0
 line_ends-datum_text (arr t vs) = line_ends-value_text (var t) (list (values_from vs))
 line_ends-datum_text (one t v) = line_ends-value_text t v
 
+line_ends-why_text : (cause : FormWhy) → line_ends (why_text cause) ≡ 0
+line_ends-why_text why.Class = refl
+line_ends-why_text why.Key = refl
+line_ends-why_text why.Kind = refl
+line_ends-why_text why.Primitive = refl
+line_ends-why_text why.Parameter = refl
+line_ends-why_text why.Repeated = refl
+line_ends-why_text why.Alternatives = refl
+line_ends-why_text why.FormKey = refl
+
+line_ends-refused_text : (r : Refused) → line_ends (refused_text r) ≡ 0
+line_ends-refused_text (refusal.Form node cause) =
+    let start = codes "{\"fault\":\"form\",\"node\":" in
+    let member = codes ",\"why\":\"" in
+    both (start ++ decimal node ++ member ++ why_text cause) (codes "\"}") (both (start ++ decimal node ++ member) (why_text cause) (both (start ++ decimal node) member (both start (decimal node) refl (line_ends-decimal node)) refl) (line_ends-why_text cause)) refl
+line_ends-refused_text refusal.Depth = refl
+line_ends-refused_text refusal.Size = refl
+line_ends-refused_text refusal.Unbuilt = refl
+
 line_ends-answer_text : (a : Answer) → line_ends (answer_text a) ≡ 0
 line_ends-answer_text (bound n) = both (codes "{\"bound\":" ++ quoted n) (codes "}") (both (codes "{\"bound\":") (quoted n) refl (line_ends-quoted n)) refl
 line_ends-answer_text (value d) = both (codes "{\"value\":" ++ datum_text d) (codes "}") (both (codes "{\"value\":") (datum_text d) refl (line_ends-datum_text d)) refl
 line_ends-answer_text json = refl
 line_ends-answer_text (name n) = both (codes "{\"fault\":\"name\",\"name\":" ++ quoted n) (codes "}") (both (codes "{\"fault\":\"name\",\"name\":") (quoted n) refl (line_ends-quoted n)) refl
-line_ends-answer_text unbuilt = refl
+line_ends-answer_text (refused r) = line_ends-refused_text r
 
 -- so an answer has one line end, behind it
 line_ends-step : (variables : Environment) (line : List ℕ) → line_ends (answer_bytes (step variables line).answer) ≡ cond (not (is_blank line)) 1 0

@@ -6,7 +6,6 @@ use Rattle.std.specs.String.{string_eq}
 use Rattle.indexmap.specs.IndexMap.{insert_entry}
 use Rattle.serde_json.specs.Data.{Members}
 use Rattle.awk_types.specs.DataType.{Name}
-use Rattle.awk_types.specs.Datum.{Datum}
 use Rattle.awk_lanes.specs.declared.kind.Kind.TheVariants.{I64}
 use Rattle.awk_lanes.specs.Column.{Column}
 use Rattle.awk_layout.specs.Layout.{Layout, flat, offset_lists}

@@ -4,7 +4,7 @@ use Rattle.awk_session.specs.declared.answer.Answer as code
 use Rattle.awk_session.specs.declared.answer.Answer.TheVariants as variant
 use Rattle.awk_session.specs.declared.answer.Answered.{Answered}
 use Rattle.awk_session.specs.declared.answer.Answered.TheVariants.{Fine, Fault}
-use Rattle.awk_session.specs.Answer.{Answer, bound, value, json, name, unbuilt}
+use Rattle.awk_session.specs.Answer.{Answer, bound, value, json, name, refused}
 use Rattle.awk_session.specs.Load.{datum_of}
 use Rattle.awk_session.specs.Printed.{IsLists}
 
@@ -13,7 +13,7 @@ answer_view (variant.Bound n) = bound n.now
 answer_view (variant.Value node) = value (datum_of node.now)
 answer_view variant.Json = json
 answer_view (variant.Unbound n) = name n.now
-answer_view variant.Unbuilt = unbuilt
+answer_view (variant.Refused r) = refused r
 
 -- a value can be printed
 abbrev pub IsPrintable : code.Answer → Type 0

@@ -1,6 +1,6 @@
 -- The line that a JSON value is.
 use Rattle.std.specs.Prelude.{ℕ, Bool, true, false, ◌==◌, List, [], ◌∷◌, Option, Some, None, option_and_then, if◌then◌else◌, codes}
-use Rattle.serde_json.specs.Data.{Data, null, boolean, number, string, array, object, Members, no_members, member}
+use Rattle.serde_json.specs.Data.{Data, string, object, Members, no_members, member}
 use Rattle.serde_json.specs.Find.{get_member, as_str, as_number, as_u64, as_object}
 use Rattle.serde_json.specs.Events.{members_len}
 use Rattle.awk_types.specs.DataType.{Name}

@@ -1,5 +1,5 @@
 -- What a load line loads.
-use Rattle.std.specs.Prelude.{◌≡◌, ℕ, ◌+◌, ◌*◌, Bool, true, ◌&&◌, ◌||◌, List, ◌++◌, length, max, map, Option, Some, None, option_map, option_and_then, if◌then◌else◌, nat_le, codes, ℤ, pos, int_le}
+use Rattle.std.specs.Prelude.{◌≡◌, ℕ, ◌+◌, ◌*◌, Bool, ◌&&◌, ◌||◌, List, ◌++◌, length, map, Option, Some, None, option_map, option_and_then, Result, Ok, Err, if◌then◌else◌, nat_le, codes, ℤ, pos, int_le}
 use Rattle.std.specs.List.{range_with_len, list_all}
 use Rattle.std.specs.Ordering.{int_eq}
 use Rattle.serde_json.specs.Data.{Data, Members}
@@ -7,6 +7,9 @@ use Rattle.base64.specs.GeneralPurpose.{decoded_of}
 use Rattle.base64.specs.Engines.{standard}
 use Rattle.awk_types.specs.DataType.{greatest}
 use Rattle.awk_types.specs.Datum.{Datum, arr}
+use Rattle.awk_types.specs.Limit.{depth_limit, size_limit}
+use Rattle.awk_form.specs.FormTree.{FormTree}
+use Rattle.awk_form.specs.Reading.{Refusal, broken, limited, reading}
 use Rattle.awk_lanes.specs.declared.kind.Kind.TheVariants as kinds
 use Rattle.awk_lanes.specs.Column.{Column}
 use Rattle.awk_lanes.specs.Numbers.{numbers, nat_of}
@@ -14,7 +17,9 @@ use Rattle.awk_lanes.specs.Places.{at, size_of}
 use Rattle.awk_layout.specs.Layout.{Layout, flat, offset_lists}
 use Rattle.awk_layout.specs.Typing.{array_type, array_items}
 use Rattle.awk_session.specs.Line.{text_at}
-use Rattle.awk_session.specs.FirstForm.{FormKeys, first_form}
+use Rattle.awk_session.specs.FirstForm.{FormKeys, first_keys}
+use Rattle.awk_session.specs.declared.answer.Refused.{Refused}
+use Rattle.awk_session.specs.declared.answer.Refused.TheVariants as refused
 
 -- the greatest number of items of a node
 abbrev pub item_limit : ℕ
@@ -68,6 +73,22 @@ layout_of keys n buffers = if nat_le n item_limit then option_and_then (lists_of
 abbrev pub datum_of : Layout → Datum
 datum_of layout = arr (array_type layout) (array_items layout)
 
--- the array that a form, a length and buffers are, if the form is the built one and the buffers fit it
-abbrev pub loaded : Data → ℕ → Members → Option Datum
-loaded form n buffers = option_map datum_of (option_and_then (λ keys. layout_of keys n buffers) (first_form form))
+-- a form is refused by its first break, or by the limit that its type passes
+abbrev pub refused_by : Refusal → Refused
+refused_by (broken b) = refused.Form b.node b.why
+refused_by (limited depth_limit) = refused.Depth
+refused_by (limited size_limit) = refused.Size
+
+-- what is not loaded is not built
+abbrev pub or_unbuilt : Option Layout → Result Datum Refused
+or_unbuilt None = Err refused.Unbuilt
+or_unbuilt (Some layout) = Ok (datum_of layout)
+
+-- of a form that is read, the array that it, a length and buffers are, if it is the built one and the buffers fit it
+abbrev pub loaded_from : Result FormTree Refusal → ℕ → Members → Result Datum Refused
+loaded_from (Ok form) n buffers = or_unbuilt (option_and_then (λ keys. layout_of keys n buffers) (first_keys form))
+loaded_from (Err refusal) n buffers = Err (refused_by refusal)
+
+-- the array that a form, a length and buffers are, or why they are refused: the form is judged first
+abbrev pub loaded : Data → ℕ → Members → Result Datum Refused
+loaded form n buffers = loaded_from (reading form) n buffers

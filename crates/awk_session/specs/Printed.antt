@@ -1,7 +1,7 @@
 -- The layouts that are printed, and their texts.
 use Rattle.std.specs.Prelude.{◌≡◌, Bool, List, ℕ, [], codes, if◌then◌else◌}
 use Rattle.awk_lanes.specs.declared.kind.Kind.TheVariants.{I64}
-use Rattle.awk_layout.specs.Layout.{Layout, empty, flat, regular, lists, offset_lists, rows, indexed, optional, byte_masked, bit_masked, unmasked, union}
+use Rattle.awk_layout.specs.Layout.{Layout, flat, offset_lists}
 
 -- numbers of int64
 abbrev pub IsNumbers : Layout → Type 0

@@ -1,5 +1,5 @@
 -- What the engine answers to a line, and to the lines of a session.
-use Rattle.std.specs.Prelude.{ℕ, Bool, false, ◌||◌, ◌==◌, not, List, [], count_by, Option, Some, None, if◌then◌else◌}
+use Rattle.std.specs.Prelude.{ℕ, Bool, false, ◌||◌, ◌==◌, not, List, [], count_by, Option, Some, None, Result, Ok, Err, if◌then◌else◌}
 use Rattle.std.specs.List.{list_all}
 use Rattle.std.specs.Str.{is_utf8}
 use Rattle.serde_json.specs.Data.{Data}
@@ -10,7 +10,9 @@ use Rattle.awk_session.specs.Runs.{Step, texts, any_fault}
 use Rattle.awk_session.specs.Environment.{Environment, look_up, bind}
 use Rattle.awk_session.specs.Line.{Line, load, show, other, line_of}
 use Rattle.awk_session.specs.Load.{loaded}
-use Rattle.awk_session.specs.Answer.{Answer, bound, value, json, name, unbuilt, is_fault, answer_text}
+use Rattle.awk_session.specs.declared.answer.Refused.{Refused}
+use Rattle.awk_session.specs.declared.answer.Refused.TheVariants.{Unbuilt}
+use Rattle.awk_session.specs.Answer.{Answer, bound, value, json, name, refused, is_fault, answer_text}
 
 -- only spaces, tabs and carriage returns
 abbrev pub is_blank : List ℕ → Bool
@@ -26,9 +28,9 @@ pub record Reply : Type 0 where
   pub after : Environment
 
 -- a load line binds its name if it loads
-abbrev pub reply_load : Environment → Name → Option Datum → Reply
-reply_load variables n (Some datum) = record { answer = bound n; after = bind n datum variables }
-reply_load variables n None = record { answer = unbuilt; after = variables }
+abbrev pub reply_load : Environment → Name → Result Datum Refused → Reply
+reply_load variables n (Ok datum) = record { answer = bound n; after = bind n datum variables }
+reply_load variables n (Err r) = record { answer = refused r; after = variables }
 
 -- a show line shows what its name is bound to
 abbrev pub reply_show : Environment → Name → Option Datum → Reply
@@ -38,7 +40,7 @@ reply_show variables n None = record { answer = name n; after = variables }
 abbrev pub reply_line : Environment → Line → Reply
 reply_line variables (load n form length buffers) = reply_load variables n (loaded form length buffers)
 reply_line variables (show n) = reply_show variables n (look_up n variables)
-reply_line variables other = record { answer = unbuilt; after = variables }
+reply_line variables other = record { answer = refused Unbuilt; after = variables }
 
 abbrev pub reply : Environment → Option Data → Reply
 reply variables (Some read) = reply_line variables (line_of read)

@@ -1,5 +1,5 @@
 -- Variables as trees of numbers, and back: a type that contains itself needs such a code where a struct is seen as it.
-use Rattle.std.specs.Prelude.{◌≡◌, ℕ, suc, zero, List, [], ◌∷◌, refl}
+use Rattle.std.specs.Prelude.{◌≡◌, suc, zero, List, [], refl}
 use Rattle.std.specs.Coded.{Coded, code_by}
 use base.Stored.{Gv, gnil, gnum, gcons}
 use denote.Struct.Codes.{itself}

@@ -1,16 +1,18 @@
 //! The answers to lines, and how they are put out.
-ghost use Rattle.std.specs.Prelude.{◌≡◌, ◌∷◌, [], ◌++◌, IsTrue, codes};
+ghost use Rattle.std.specs.Prelude.{◌≡◌, ◌∷◌, [], ◌++◌, IsTrue, codes, decimal};
 ghost use Rattle.awk_edge.specs.Causes.{HasCause};
 ghost use Rattle.awk_edge.specs.Put.{Moves};
 ghost use Rattle.awk_json.specs.Text.{quoted};
-ghost use Rattle.awk_session.specs.Answer.{answer_text, datum_text, is_fault};
+ghost use Rattle.awk_session.specs.Answer.{answer_text, refused_text, why_text, datum_text, is_fault};
 ghost use Rattle.awk_session.specs.Load.{datum_of};
 ghost use Rattle.awk_session.specs.Printed.{IsLists};
+ghost use Rattle.awk_session.specs.declared.answer.Refused.TheVariants as Refused;
 ghost use Rattle.awk_session.specs.AnswerView.{answer_view, IsPrintable, kind_is_fault};
 
 use crate::value::write_array;
 use awk_edge::{Out, Sink, WriteFault};
-use awk_json::write_text;
+use awk_form::FormWhy;
+use awk_json::{write_number, write_text};
 use awk_lanes::Steps;
 use awk_layout::Node;
 use std::sync::ledger::Ledger;
@@ -20,6 +22,19 @@ use std::sync::ledger::Ledger;
 pub enum Answered {
     Fine,
     Fault,
+}
+
+/// Why a line is refused.
+#[derive(Clone, Copy, Debug, PartialEq, Eq)]
+pub enum Refused {
+    /// The first break of the form: a node by its number in pre-order, and the cause against it.
+    Form { node: u64, why: FormWhy },
+    /// The type of the form nests too deep.
+    Depth,
+    /// The type has too many nodes, or a union of too many alternatives.
+    Size,
+    /// The line is not built yet, or does not load.
+    Unbuilt,
 }
 
 /// The answer to a line.
@@ -33,8 +48,8 @@ pub enum Answer<'r, 'a> {
     Json,
     /// The variable with this name is not bound.
     Unbound(&'r str),
-    /// The line is not built yet, or does not load.
-    Unbuilt,
+    /// The line is refused.
+    Refused(Refused),
 }
 
 /// Whether an answer is a fault.
@@ -43,7 +58,7 @@ pub fn kind_of(answer: &Answer<'_, '_>) -> Answered
 {
     match answer {
         Answer::Bound(_) | Answer::Value(_) => Answered::Fine,
-        Answer::Json | Answer::Unbound(_) | Answer::Unbuilt => Answered::Fault,
+        Answer::Json | Answer::Unbound(_) | Answer::Refused(_) => Answered::Fault,
     }
 }
 
@@ -65,7 +80,55 @@ pub fn write_answer<K: Sink, L: Ledger>(
         Answer::Value(node) => write_value(out, sink, *node, steps),
         Answer::Json => out.put(sink, b"{\"fault\":\"json\"}\n"),
         Answer::Unbound(name) => write_named(out, sink, b"{\"fault\":\"name\",\"name\":", *name),
-        Answer::Unbuilt => out.put(sink, b"{\"fault\":\"unbuilt\"}\n"),
+        Answer::Refused(refused) => write_refused(out, sink, *refused),
+    }
+}
+
+// Puts why a line is refused, as a whole answer.
+fn write_refused<K: Sink>(out: &mut Out, sink: &mut K, refused: Refused) -> Result<(), WriteFault>
+    requires open { IsTrue out.old.is_open }
+    ensures bytes { Moves (K.written sink.old) (K.written sink.new) out.new (out.old.held ++ (refused_text refused ++ 10 ∷ [])) result }
+    ensures flushes { K.flushes sink.new ≡ K.flushes sink.old }
+    ensures cause { HasCause (K.faults sink.old) (K.faults sink.new) result }
+{
+    match refused {
+        Refused::Form { node, why } => write_break(out, sink, node, why),
+        Refused::Depth => out.put(sink, b"{\"fault\":\"depth\"}\n"),
+        Refused::Size => out.put(sink, b"{\"fault\":\"size\"}\n"),
+        Refused::Unbuilt => out.put(sink, b"{\"fault\":\"unbuilt\"}\n"),
+    }
+}
+
+// Puts the first break of a form, as a whole answer.
+fn write_break<K: Sink>(
+    out: &mut Out,
+    sink: &mut K,
+    node: u64,
+    why: FormWhy,
+) -> Result<(), WriteFault>
+    requires open { IsTrue out.old.is_open }
+    ensures bytes { Moves (K.written sink.old) (K.written sink.new) out.new (out.old.held ++ (refused_text (Refused.Form node why) ++ 10 ∷ [])) result }
+    ensures flushes { K.flushes sink.new ≡ K.flushes sink.old }
+    ensures cause { HasCause (K.faults sink.old) (K.faults sink.new) result }
+{
+    out.put(sink, b"{\"fault\":\"form\",\"node\":")?;
+    write_number(out, sink, node)?;
+    out.put(sink, cause_member(why))
+}
+
+// The member that tells the cause, with the object's end.
+fn cause_member(why: FormWhy) -> &'static [u8]
+    ensures { result.now ≡ codes ",\"why\":\"" ++ why_text why ++ (34 ∷ 125 ∷ 10 ∷ []) }
+{
+    match why {
+        FormWhy::Class => b",\"why\":\"class\"}\n",
+        FormWhy::Key => b",\"why\":\"key\"}\n",
+        FormWhy::Kind => b",\"why\":\"kind\"}\n",
+        FormWhy::Primitive => b",\"why\":\"primitive\"}\n",
+        FormWhy::Parameter => b",\"why\":\"parameter\"}\n",
+        FormWhy::Repeated => b",\"why\":\"repeated\"}\n",
+        FormWhy::Alternatives => b",\"why\":\"alternatives\"}\n",
+        FormWhy::FormKey => b",\"why\":\"form_key\"}\n",
     }
 }
 

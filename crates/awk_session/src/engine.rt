@@ -1,22 +1,24 @@
 //! The engine: a session's variables, and the answers to its lines.
-ghost use Rattle.std.specs.Prelude.{◌≡◌, ◌≤◌, ◌<◌, ◌∷◌, [], ◌++◌, Err, IsTrue, IsFalse, IfOk, IfErr, OnOk, OnErr, option_map, if◌then◌else◌};
+ghost use Rattle.std.specs.Prelude.{◌≡◌, ◌≤◌, ◌<◌, ◌∷◌, [], ◌++◌, Err, IsTrue, IsFalse, IfOk, IfErr, OnOk, OnErr, Some, option_map};
 ghost use Rattle.awk_edge.specs.Causes.{HasCause, Rose, flushes_after};
 ghost use Rattle.awk_edge.specs.Put.{Moves};
 ghost use Rattle.serde_json.specs.View.{view, members_view};
-ghost use Rattle.awk_session.specs.Answer.{bound, unbuilt, answer_text};
+ghost use Rattle.awk_form.specs.Told.{refusal_told};
+ghost use Rattle.awk_session.specs.Answer.{answer_text};
 ghost use Rattle.awk_session.specs.AnswerView.{answer_view, IsPrintable};
 ghost use Rattle.awk_session.specs.Environment as environment;
 ghost use Rattle.awk_session.specs.Leaves.{Leaves};
-ghost use Rattle.awk_session.specs.Load.{datum_of, loaded};
+ghost use Rattle.awk_session.specs.Load.{datum_of, loaded, refused_by};
 ghost use Rattle.awk_session.specs.Outcome.{answer_of};
 ghost use Rattle.awk_session.specs.Printed.{IsLists};
 ghost use Rattle.awk_session.specs.Steps as answering;
 
-use crate::answer::{Answer, Answered, kind_of, write_answer};
+use crate::answer::{Answer, Answered, Refused, kind_of, write_answer};
 use crate::first_form::first_form;
 use crate::line::{Line, parse, read_line};
 use crate::load::load;
 use awk_edge::{Out, Sink, WriteFault};
+use awk_form::{FormFault, read_form};
 use awk_lanes::Steps;
 use awk_layout::Node;
 use bumpalo::Bump;
@@ -64,7 +66,7 @@ enum Outcome<'v> {
     Bound(&'v str),
     Show(&'v str),
     Json,
-    Unbuilt,
+    Refused(Refused),
 }
 
 /// Whether a line has no answer: it holds only spaces, tabs and carriage returns.
@@ -164,39 +166,38 @@ impl<'a> Engine<'a> {
                 form,
                 length,
                 buffers,
-            } => {
-                if self.load(alloc, name, form, length, buffers, steps)? {
-                    return Ok(Outcome::Bound(name));
-                }
-                Ok(Outcome::Unbuilt)
-            }
+            } => self.load(alloc, name, form, length, buffers, steps),
             Line::Show { name } => Ok(Outcome::Show(name)),
-            Line::Other => Ok(Outcome::Unbuilt),
+            Line::Other => Ok(Outcome::Refused(Refused::Unbuilt)),
         }
     }
 
-    // Binds a name to what a load line loads, and tells whether it loads.
-    fn load<L: Ledger>(
+    // Binds a name to what a load line loads, if it loads.
+    fn load<'v, L: Ledger>(
         &mut self,
         alloc: Global,
-        name: &str,
+        name: &'v str,
         form: &Value,
         length: u64,
         buffers: &Map<String, Value>,
         steps: &mut Steps<L>,
-    ) -> Result<bool, AllocError>
-        ensures reply { IfOk result (λ is_bound. answering.reply_load self.old name.now (loaded (view form.now) length (members_view buffers.now.entries))
-            ≡ record { answer = if is_bound then bound name.now else unbuilt; after = self.new }) }
+    ) -> Result<Outcome<'v>, AllocError>
+        ensures reply { IfOk result (λ outcome. answering.reply_load self.old name.now (loaded (view form.now) length (members_view buffers.now.entries))
+            ≡ record { answer = answer_of self.new outcome; after = self.new }) }
         ensures same { OnErr result (self.new ≡ self.old) }
     {
-        let Some(keys) = first_form(form) else {
-            return Ok(false);
+        let form = match read_form(alloc, form) {
+            Ok(form) => form,
+            Err(fault) => return Ok(Outcome::Refused(refused(fault)?)),
+        };
+        let Some(keys) = first_form(&form) else {
+            return Ok(Outcome::Refused(Refused::Unbuilt));
         };
         let Some(node) = load(alloc, self.arena, &keys, length, buffers, steps)? else {
-            return Ok(false);
+            return Ok(Outcome::Refused(Refused::Unbuilt));
         };
         self.bind(alloc, name, node)?;
-        Ok(true)
+        Ok(Outcome::Bound(name))
     }
 
     fn bind(&mut self, alloc: Global, name: &str, node: Node<'a>) -> Result<(), AllocError>
@@ -221,8 +222,20 @@ impl<'a> Engine<'a> {
                 None => Answer::Unbound(name),
             },
             Outcome::Json => Answer::Json,
-            Outcome::Unbuilt => Answer::Unbuilt,
+            Outcome::Refused(refused) => Answer::Refused(refused),
         }
+    }
+}
+
+// What a line with a form of this fault is told, unless memory is wanting.
+fn refused(fault: FormFault) -> Result<Refused, AllocError>
+    ensures { IfOk result (λ refused. option_map refused_by (refusal_told fault) ≡ Some refused) }
+{
+    match fault {
+        FormFault::Bad { node, why } => Ok(Refused::Form { node, why }),
+        FormFault::Depth => Ok(Refused::Depth),
+        FormFault::Size => Ok(Refused::Size),
+        FormFault::NoMemory => Err(AllocError),
     }
 }
 
@@ -257,6 +270,15 @@ mod tests {
 
     const LISTS: &str =
         "{\"load\":\"x\",\"form\":{\"class\":\"ListOffsetArray\",\"offsets\":\"i64\",\"content\":{\"class\":\"NumpyArray\",\"primitive\":\"int64\",\"form_key\":\"node1\"},\"form_key\":\"node0\"},\"length\":3,\"buffers\":{\"node0-offsets\":\"AAAAAAAAAAACAAAAAAAAAAIAAAAAAAAAAwAAAAAAAAA=\",\"node1-data\":\"BQAAAAAAAAD//////////wcAAAAAAAAA\"}}";
+
+    const FLOAT: &str =
+        "{\"load\":\"x\",\"form\":{\"class\":\"ListOffsetArray\",\"offsets\":\"i64\",\"content\":{\"class\":\"NumpyArray\",\"primitive\":\"float64\",\"form_key\":\"node1\"},\"form_key\":\"node0\"},\"length\":0,\"buffers\":{}}";
+
+    const NO_OFFSETS: &str =
+        "{\"load\":\"x\",\"form\":{\"class\":\"ListOffsetArray\",\"content\":{\"class\":\"NumpyArray\",\"primitive\":\"int64\",\"form_key\":\"node1\"},\"form_key\":\"node0\"},\"length\":0,\"buffers\":{}}";
+
+    const STRING: &str =
+        "{\"load\":\"x\",\"form\":{\"class\":\"ListOffsetArray\",\"offsets\":\"i64\",\"content\":{\"class\":\"NumpyArray\",\"primitive\":\"int64\",\"form_key\":\"node1\"},\"parameters\":{\"__array__\":\"string\"},\"form_key\":\"node0\"},\"length\":0,\"buffers\":{}}";
 
     // The answers to lines, one after another, under a counter that nobody reads.
     fn answers(alloc: Global, lines: &[&str], sink: &mut MemSink) -> Result<(), Fail> {
@@ -309,6 +331,18 @@ mod tests {
         assert_eq!(rt;
             sink.written(),
             b"{\"fault\":\"json\"}\n{\"fault\":\"name\",\"name\":\"\"}\n{\"fault\":\"unbuilt\"}\n".as_slice()
+        );
+        Ok(())
+    }
+
+    #[test]
+    fn answers_each_form_fault(rt: HostRuntime) -> Result<(), Fail> {
+        let alloc = rt.alloc();
+        let mut sink = MemSink::new(alloc, 1000, 4096, &[])?;
+        answers(alloc, &[FLOAT, NO_OFFSETS, STRING], &mut sink)?;
+        assert_eq!(rt;
+            sink.written(),
+            b"{\"fault\":\"form\",\"node\":1,\"why\":\"primitive\"}\n{\"fault\":\"form\",\"node\":0,\"why\":\"key\"}\n{\"fault\":\"form\",\"node\":0,\"why\":\"parameter\"}\n".as_slice()
         );
         Ok(())
     }

@@ -1,4 +1,4 @@
-use Rattle.std.proofs.Common.{refl, sym}
+use Rattle.std.proofs.Common.{refl}
 use Rattle.awk_session.proofs.ReadLaws.{are_texts-members_view}
 use Rattle.awk_session.proofs.line.texts_in.Goals as goal
 

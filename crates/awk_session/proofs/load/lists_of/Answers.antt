@@ -1,5 +1,4 @@
-use Rattle.std.proofs.Common.{◌≡◌, sym, ◌∙◌, arith}
-use Rattle.awk_lanes.specs.Places.{IsOffsets, size_of}
+use Rattle.std.proofs.Common.{sym, ◌∙◌, arith}
 use Rattle.awk_session.proofs.LoadLaws.{chosen_some, lists_of-some, offsets_from}
 use Rattle.awk_session.proofs.load.lists_of.Goals as goal
 

@@ -1,4 +1,4 @@
-use Rattle.std.proofs.Common.{◌++◌, ◌-◌}
+use Rattle.std.proofs.Common.{◌-◌}
 use Rattle.awk_session.proofs.Printing.{list_text-item}
 use Rattle.awk_session.proofs.value.write_list.Goals as goal
 

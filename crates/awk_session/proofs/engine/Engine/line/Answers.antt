@@ -1,5 +1,4 @@
-use Rattle.std.proofs.Common.{◌≡◌, sym, ap, ◌∙◌, rules}
-use Rattle.awk_session.specs.Steps.{step, step_of, reply}
+use Rattle.std.proofs.Common.{sym}
 use Rattle.awk_session.proofs.StepLaws.{step-line}
 use Rattle.awk_session.proofs.engine.Engine.line.Goals as goal
 

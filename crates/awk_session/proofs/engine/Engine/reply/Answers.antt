@@ -1,4 +1,4 @@
-use Rattle.std.proofs.Common.{◌++◌, ap, sym, ◌∙◌}
+use Rattle.std.proofs.Common.{◌++◌, ap, ◌∙◌}
 use Rattle.awk_session.specs.Runs.{answer_bytes}
 use Rattle.awk_session.specs.Steps.{step_of}
 use Rattle.awk_session.proofs.engine.Engine.reply.Goals as goal
