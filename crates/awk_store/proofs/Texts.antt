@@ -1,6 +1,6 @@
 -- Texts by key: what the map answers at a key, and what a text decodes to.
 use Rattle.std.proofs.Common.{◌≡◌, ◌≢◌, ◌+◌, ◌≤◌, ℕ, length, arith, Bool, true, false, List, [], ◌∷◌, Option, Some, None, Ok, Err, cond, refl, ap, sym, ◌∙◌}
-use Rattle.std.specs.Prelude.{option_and_then, option_map, unwrap_or, is_some, IsTrue, String, string_bytes}
+use Rattle.std.specs.Prelude.{option_and_then, option_map, unwrap_or, is_some, replicate, IsTrue, String, string_bytes}
 use Rattle.std.specs.Option.{ok_or}
 use Rattle.std.specs.Result.{result_ok}
 use Rattle.std.specs.declared.alloc.Global.{Global}
@@ -11,12 +11,15 @@ use Rattle.std.specs.Ordering.{nat_cmp, is_eq, match_ordering}
 use Rattle.std.specs.declared.cmp.Ordering.{Ordering}
 use Rattle.std.specs.declared.cmp.Ordering.TheVariants.{Less, Equal, Greater}
 use Rattle.std.specs.Str.{bytes_eq}
+use Rattle.std.proofs.lemmas.List.{length-append}
 use Rattle.std.proofs.lemmas.List.Sums.{sum_by-cons}
 use Rattle.std.proofs.lemmas.Map.Text.{is_eq-slice_cmp}
 use Rattle.base64.specs.declared.decode.DecodeError.{DecodeError}
 use Rattle.base64.specs.Engines.{standard}
 use Rattle.base64.specs.GeneralPurpose.{decode_of, decoded_of, encode_of, IsBytes}
+use Rattle.base64.specs.Rfc4648.{encode_symbols, padding_len}
 use Rattle.base64.proofs.EngineFacts.{decode_of-encode_of}
+use Rattle.base64.proofs.RoundTrip.{length-encode_symbols}
 use Rattle.base64.proofs.Streams.{decoded_of-ok}
 use Rattle.serde_json.specs.Data.{Data, Members, no_members, member}
 use Rattle.serde_json.specs.Find.{as_str, get_member}
@@ -101,3 +104,15 @@ undecoded_len-≤ s key = undecoded_step (is_decoded s key) _ _ (text_len-≤ s.
     undecoded_step : (b : Bool) (n total : ℕ) → n ≤ total → cond b 0 n ≤ total
     undecoded_step true n total h = omega arith
     undecoded_step false n total h = h
+
+-- a text is no shorter than the bytes that it encodes
+encode_of-length : (bytes : List ℕ) → length bytes ≤ length (encode_of standard bytes)
+encode_of-length bytes =
+    omega (arith, length-append (encode_symbols standard.encode_table bytes) (replicate (padding_len (length bytes)) 61), length-encode_symbols standard.encode_table bytes)
+
+-- the bytes of a key are no more than those of all texts
+pub bytes_len-≤ : (texts : ByKey) (key bytes : List ℕ) → text_of texts key ≡ Some (encode_of standard bytes) → length bytes ≤ total_len texts
+bytes_len-≤ texts key bytes e =
+    let most = text_len-≤ texts key in
+    let here = rw e at most in
+    omega (arith, encode_of-length bytes, here)
