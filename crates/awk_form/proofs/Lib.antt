@@ -1,5 +1,6 @@
 pub mod Breaks
 pub mod Distinct
+pub mod FormTexts
 pub mod LawfulReads
 pub mod Levels
 pub mod Nodes

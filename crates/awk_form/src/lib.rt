@@ -13,6 +13,7 @@ mod read;
 #[cfg(test)]
 mod tests;
 mod typing;
+mod write;
 
 pub use dims::Dims;
 pub use fault::{FormFault, FormWhy};
@@ -20,3 +21,4 @@ pub use form::{Form, Forms, Shape};
 pub use kind::IndexKind;
 pub use read::read_form;
 pub use typing::type_of_form;
+pub use write::write_form;

@@ -1,0 +1,95 @@
+-- The texts of a form's parts, and of what is left of a list.
+use Rattle.std.proofs.Common.{◌≡◌, ◌<◌, ◌≤◌, ℕ, ◌+◌, List, [], ◌∷◌, ◌++◌, length, map, drop, get_or, slice_get, codes, Option, Some, Result, Bool, ◌⊎◌, inl, inr, Box, Global, refl, sym, ap, ap₂, ◌∙◌, subst, rules}
+use Rattle.std.proofs.lemmas.List.{drop_more, drop_all}
+use Rattle.std.proofs.lemmas.Option.{slice_get_within, get_or_from_slice_get}
+use Rattle.awk_edge.specs.Pending.{Pending}
+use Rattle.awk_edge.specs.Put.{Moves}
+use Rattle.awk_types.specs.DataType.{Name}
+use Rattle.awk_types.specs.declared.name.Names.{Names}
+use Rattle.awk_form.specs.FormTree.{FormTree, forms_from}
+use Rattle.awk_form.specs.FormText.{key_of, class_text, class_member, members_text, contents_text, end_text, list_text, form_text, form_texts}
+use Rattle.awk_form.specs.View.{Keyed, shape_step, form_step, forms_step, form_of, forms_of, keyed}
+use Rattle.awk_form.specs.declared.form.Form.{Form}
+use Rattle.awk_form.specs.declared.form.Forms.{Forms}
+use Rattle.awk_form.specs.declared.form.Shape.{Shape, Regular, List as Shape-List, ListOffset, Row, Indexed, IndexedOption, ByteMasked, BitMasked, Unmasked, Union, the_lemmas}
+use Rattle.awk_form.specs.declared.form.Shape.TheOpen.{Shape-F}
+use Rattle.awk_form.specs.declared.form.Shape.TheViews.{out-Form}
+use Rattle.awk_form.specs.declared.form.Shape.TheFolds.{fold_out-Shape}
+use Rattle.awk_form.specs.declared.kind.IndexKind.{IndexKind}
+use Rattle.awk_form.proofs.Views.{form_of-shape, keyed-Row, keyed-Union}
+
+-- ---- what is left of a list
+
+-- the next one, and nothing after the last
+pub map_left : {A B : Type 0} (f : A → B) (xs : List A) (i : ℕ) (d : A) → i < length xs → map f (drop i xs) ≡ f (get_or xs i d) ∷ map f (drop (i + 1) xs)
+map_left f xs i d within = ap (map f) (drop_more xs i d within)
+
+pub map_left_at : {A B : Type 0} (f : A → B) (xs : List A) (i : ℕ) (x : A) → slice_get xs i ≡ Some x → map f (drop i xs) ≡ f x ∷ map f (drop (i + 1) xs)
+map_left_at f xs i x at = map_left f xs i x (slice_get_within xs i x at) ∙ ap (λ y. f y ∷ map f (drop (i + 1) xs)) (get_or_from_slice_get xs i x x at)
+
+pub map_none : {A B : Type 0} (f : A → B) (xs : List A) (i : ℕ) → length xs ≤ i → map f (drop i xs) ≡ []
+map_none f xs i past = ap (map f) (drop_all i xs past)
+
+-- a text that is put, by another equation
+pub puts_same : {written0 written1 : Option (List ℕ)} {new : Pending} {E : Type 0} {r : Result (Unit {0}) E} (held : List ℕ) {whole text : List ℕ} → whole ≡ text → Moves {E = E} written0 written1 new (held ++ text) r → Moves {E = E} written0 written1 new (held ++ whole) r
+puts_same {written0 = written0} {written1 = written1} {new = new} {E = E} {r = r} held e m = subst (λ t. Moves {E = E} written0 written1 new (held ++ t) r) (sym e) m
+
+-- ---- a form and its parts
+
+form_texts-from : (fs : List FormTree) → form_texts (forms_from fs) ≡ map form_text fs
+form_texts-from [] = refl
+form_texts-from (f ∷ fs) = ap (λ ts. form_text f ∷ ts) (form_texts-from fs)
+
+key_of-step : (shape : Shape-F Keyed FormTree (List FormTree)) (key : Option Name) → key_of (shape_step shape key) ≡ key
+key_of-step Shape-F.Empty key = refl
+key_of-step (Shape-F.Numpy prim inner) key = refl
+key_of-step (Shape-F.Regular size content) key = refl
+key_of-step (Shape-F.List starts stops content) key = refl
+key_of-step (Shape-F.ListOffset offsets content) key = refl
+key_of-step (Shape-F.Row names contents) key = refl
+key_of-step (Shape-F.Indexed index content) key = refl
+key_of-step (Shape-F.IndexedOption index content) key = refl
+key_of-step (Shape-F.ByteMasked valid_when content) key = refl
+key_of-step (Shape-F.BitMasked valid_when lsb_order content) key = refl
+key_of-step (Shape-F.Unmasked content) key = refl
+key_of-step (Shape-F.Union index contents) key = refl
+
+key_of-keyed : (shape : Shape) (key : Option Name) → key_of (keyed shape key) ≡ key
+key_of-keyed shape key = ap (λ k. key_of (k key)) (fold_out-Shape Keyed FormTree (List FormTree) shape_step form_step forms_step shape) ∙ key_of-step _ key
+
+-- what is behind the members of a form
+after_members : (f : Form) → contents_text (form_of f) ++ end_text (key_of (form_of f)) ≡ contents_text (keyed (out-Form f).shape (out-Form f).key) ++ end_text (out-Form f).key
+after_members f =
+    let shaped = form_of-shape f (out-Form f).shape refl in
+    ap₂ (λ contents key. contents ++ end_text key) (ap contents_text shaped) (ap key_of shaped ∙ key_of-keyed (out-Form f).shape (out-Form f).key)
+
+-- the parts as they are put
+pub form_text-parts : (f : Form) → form_text (form_of f) ≡ class_member (class_text (form_of f)) ++ (members_text (form_of f) ++ (contents_text (keyed (out-Form f).shape (out-Form f).key) ++ end_text (out-Form f).key))
+form_text-parts f = ap (λ t. class_member (class_text (form_of f)) ++ (members_text (form_of f) ++ t)) (after_members f)
+
+-- ---- a shape with one content, or with several
+
+abbrev pub HasContent : Shape → Box Form Global → Type 0
+HasContent s content =
+    ((size : ℕ) × (s ≡ Regular size content)) ⊎ ((starts : IndexKind) × (stops : IndexKind) × (s ≡ Shape-List starts stops content)) ⊎ ((offsets : IndexKind) × (s ≡ ListOffset offsets content))
+    ⊎ ((index : IndexKind) × (s ≡ Indexed index content)) ⊎ ((index : IndexKind) × (s ≡ IndexedOption index content)) ⊎ ((valid_when : Bool) × (s ≡ ByteMasked valid_when content))
+    ⊎ ((valid_when : Bool) × (lsb_order : Bool) × (s ≡ BitMasked valid_when lsb_order content)) ⊎ (s ≡ Unmasked content)
+
+pub content-said : (s : Shape) (content : Box Form Global) (key : Option Name) → HasContent s content → contents_text (keyed s key) ≡ codes ",\"content\":" ++ form_text (form_of content.value)
+content-said s content key (inl (size, e)) = ap (λ z. contents_text (keyed z key)) e ∙ search (rules, the_lemmas)
+content-said s content key (inr (inl (starts, stops, e))) = ap (λ z. contents_text (keyed z key)) e ∙ search (rules, the_lemmas)
+content-said s content key (inr (inr (inl (offsets, e)))) = ap (λ z. contents_text (keyed z key)) e ∙ search (rules, the_lemmas)
+content-said s content key (inr (inr (inr (inl (index, e))))) = ap (λ z. contents_text (keyed z key)) e ∙ search (rules, the_lemmas)
+content-said s content key (inr (inr (inr (inr (inl (index, e)))))) = ap (λ z. contents_text (keyed z key)) e ∙ search (rules, the_lemmas)
+content-said s content key (inr (inr (inr (inr (inr (inl (valid_when, e))))))) = ap (λ z. contents_text (keyed z key)) e ∙ search (rules, the_lemmas)
+content-said s content key (inr (inr (inr (inr (inr (inr (inl (valid_when, lsb_order, e)))))))) = ap (λ z. contents_text (keyed z key)) e ∙ search (rules, the_lemmas)
+content-said s content key (inr (inr (inr (inr (inr (inr (inr e))))))) = ap (λ z. contents_text (keyed z key)) e ∙ search (rules, the_lemmas)
+
+abbrev pub HasContents : Shape → Forms → Type 0
+HasContents s contents = ((names : Option Names) × (s ≡ Row names contents)) ⊎ ((index : IndexKind) × (s ≡ Union index contents))
+
+pub contents-said : (s : Shape) (contents : Forms) (key : Option Name) → HasContents s contents → contents_text (keyed s key) ≡ codes ",\"contents\":" ++ list_text (map form_text (forms_of contents))
+contents-said s contents key (inl (names, e)) =
+    ap (λ z. contents_text (keyed z key)) e ∙ ap contents_text (keyed-Row names contents key) ∙ ap (λ ts. codes ",\"contents\":" ++ list_text ts) (form_texts-from (forms_of contents))
+contents-said s contents key (inr (index, e)) =
+    ap (λ z. contents_text (keyed z key)) e ∙ ap contents_text (keyed-Union index contents key) ∙ ap (λ ts. codes ",\"contents\":" ++ list_text ts) (form_texts-from (forms_of contents))
