@@ -4,3 +4,13 @@ pub mod Places
 pub mod ValidLaws
 pub mod LaneLaws
 pub mod SearchLaws
+pub mod LengthLaws
+pub mod AtLaws
+pub mod BufferLaws
+pub mod ShapeLaws
+pub mod PartLaws
+pub mod WalkLaws
+pub mod SizeLaws
+pub mod ContentLaws
+pub mod LoadLaws
+pub mod FormLaws

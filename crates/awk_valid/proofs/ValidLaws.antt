@@ -16,26 +16,27 @@ use Rattle.awk_form.specs.declared.kind.IndexKind.TheVariants.{I32, U32, I64}
 use Rattle.awk_valid.specs.Container.{Container, kind_of, kind_of_index, column_at, index_at, int8s_at, bytes_at}
 use Rattle.awk_valid.specs.Needs.{product, buffer_needs, reach, behind, behind_at, lists_length, index_length, tag_length, content_length}
 use Rattle.awk_valid.specs.Loaded.{shaped, layout_of, layouts_of}
-use Rattle.awk_valid.specs.Broken.{Break, ◌or◌, item_limit, inner_shape, key_of, buffers_break, places_break, node_break, size_break, shape_break, rule_break, list_rule, index_rule, tag_rule, broken_from, all_broken_from, broken}
+use Rattle.awk_form.specs.FormText.{key_of}
+use Rattle.awk_valid.specs.Broken.{Break, ◌or◌, item_limit, inner_shape, buffers_break, places_break, node_break, size_break, shape_break, rule_break, list_rule, index_rule, tag_rule, broken_from, all_broken_from, broken}
 use Rattle.awk_valid.specs.declared.fault.Rule.TheVariants.{Empty}
 use Rattle.awk_valid.proofs.Places.{or-none, size_break-none, rule_break-none, greatest_below-at, list_rule-none, index_rule-none, below-behind, tag_rule-none, behind_at-own}
 
 -- ---- kinds and sizes
 
-index_kind : (k : IndexKind) → IsIndexKind (kind_of_index k)
+pub index_kind : (k : IndexKind) → IsIndexKind (kind_of_index k)
 index_kind I32 = tt
 index_kind U32 = tt
 index_kind I64 = tt
 
-option_kind : (k : IndexKind) → k ≢ U32 → IsOptionKind (kind_of_index k)
+pub option_kind : (k : IndexKind) → k ≢ U32 → IsOptionKind (kind_of_index k)
 option_kind I32 h = tt
 option_kind U32 h = absurd (h refl)
 option_kind I64 h = tt
 
-size_of-index_at : (c : Container) (key : Option Name) (attribute : List ℕ) (k : IndexKind) (n : ℕ) → size_of (index_at c key attribute k n) ≡ n
+pub size_of-index_at : (c : Container) (key : Option Name) (attribute : List ℕ) (k : IndexKind) (n : ℕ) → size_of (index_at c key attribute k n) ≡ n
 size_of-index_at c key attribute k n = length-numbers (kind_of_index k) n (bytes_at c key attribute)
 
-size_of-int8s_at : (c : Container) (key : Option Name) (attribute : List ℕ) (n : ℕ) → size_of (int8s_at c key attribute n) ≡ n
+pub size_of-int8s_at : (c : Container) (key : Option Name) (attribute : List ℕ) (n : ℕ) → size_of (int8s_at c key attribute n) ≡ n
 size_of-int8s_at c key attribute n = length-numbers Kind.I8 n (bytes_at c key attribute)
 
 -- ---- the classes

@@ -7,6 +7,7 @@ use Rattle.awk_lanes.specs.Places.{at}
 use Rattle.awk_store.specs.declared.fault.BufferWhy.{BufferWhy}
 use Rattle.awk_store.specs.declared.fault.BufferWhy.TheVariants as why
 use Rattle.awk_form.specs.FormTree.{FormTree, empty, numpy, regular, list, list_offset, row, indexed, indexed_option, byte_masked, bit_masked, unmasked, union, FormTrees, no_forms, form}
+use Rattle.awk_form.specs.FormText.{key_of}
 use Rattle.awk_form.specs.Lawful.{count}
 use Rattle.awk_valid.specs.Container.{Container, buffer_key, index_at, int8s_at}
 use Rattle.awk_valid.specs.Needs.{Need, buffer_needs, content_length}
@@ -46,20 +47,6 @@ inner_shape (numpy key prim inner) = inner
 inner_shape f = []
 
 -- ---- buffers
-
-abbrev pub key_of : FormTree → Option Name
-key_of (empty key) = key
-key_of (numpy key prim inner) = key
-key_of (regular key size f) = key
-key_of (list key starts stops f) = key
-key_of (list_offset key offsets f) = key
-key_of (row key names fs) = key
-key_of (indexed key index f) = key
-key_of (indexed_option key index f) = key
-key_of (byte_masked key valid_when f) = key
-key_of (bit_masked key valid_when lsb_order f) = key
-key_of (unmasked key f) = key
-key_of (union key index fs) = key
 
 abbrev pub fault_of : BufferWhy → BufferFault
 fault_of why.Absent = fault.Absent

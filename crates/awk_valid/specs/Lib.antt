@@ -4,3 +4,5 @@ pub mod Loaded
 pub mod Broken
 pub mod Loading
 pub mod Rules
+pub mod Sizes
+pub mod Walked

@@ -3,6 +3,8 @@ use Rattle.std.specs.Prelude.{ℕ, ◌+◌, ◌*◌, ◌/◌, Bool, List, Option
 use Rattle.awk_types.specs.DataType.{Name}
 use Rattle.awk_types.specs.Limit.{Limit, depth_limit, size_limit, limit}
 use Rattle.awk_types.specs.Simple.{simple}
+use Rattle.awk_types.specs.declared.limit.TypeFault.{TypeFault}
+use Rattle.awk_types.specs.declared.limit.TypeFault.TheVariants as types
 use Rattle.awk_lanes.specs.declared.kind.Kind.{Kind}
 use Rattle.awk_lanes.specs.Column.{Column}
 use Rattle.awk_lanes.specs.Numbers.{width}
@@ -62,3 +64,9 @@ told (fault.Invalid node rule place) = Some (broken (invalid node rule place))
 told fault.Depth = Some too_deep
 told fault.Size = Some (broken too_many)
 told fault.NoMemory = None
+
+-- the fault of loading that a fault of the type is
+abbrev pub fault_of : TypeFault → LoadFault
+fault_of types.Depth = fault.Depth
+fault_of types.Size = fault.Size
+fault_of types.NoMemory = fault.NoMemory

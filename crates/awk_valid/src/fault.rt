@@ -3,11 +3,11 @@ ghost use Rattle.std.specs.Prelude.{◌≡◌, Err};
 ghost use Rattle.awk_types.specs.Gives.{Told};
 ghost use Rattle.awk_lanes.specs.Column.{Column};
 ghost use Rattle.awk_valid.specs.Broken.{buffer};
-ghost use Rattle.awk_valid.specs.Loading.{broken, told};
+ghost use Rattle.awk_valid.specs.Loading.{broken, told, fault_of};
 ghost use Rattle.awk_valid.specs.declared.fault.LoadFault.TheVariants.{NoMemory};
 
-use awk_types::Name;
-use std::alloc::{AllocError, Global};
+use awk_types::{Name, TypeFault};
+use std::alloc::{AllocError, AllocFailed, Global};
 
 /// What is wrong with a buffer: its key is not there, its text is not the standard, padded base64
 /// of any bytes, or it has fewer bytes than its node needs.
@@ -52,6 +52,26 @@ impl From<AllocError> for LoadFault {
 
     fn from(_error: AllocError) -> LoadFault {
         LoadFault::NoMemory
+    }
+}
+
+impl<T: Drop> From<AllocFailed<T>> for LoadFault {
+    ghost from_gives = { λ _ fault. fault ≡ NoMemory };
+
+    fn from(_failed: AllocFailed<T>) -> LoadFault {
+        LoadFault::NoMemory
+    }
+}
+
+impl From<TypeFault> for LoadFault {
+    ghost from_gives = { λ fault e. e ≡ fault_of fault };
+
+    fn from(fault: TypeFault) -> LoadFault {
+        match fault {
+            TypeFault::Depth => LoadFault::Depth,
+            TypeFault::Size => LoadFault::Size,
+            TypeFault::NoMemory => LoadFault::NoMemory,
+        }
     }
 }
 

@@ -1,9 +1,9 @@
 //! The lanes of a node, from the buffers under its keys.
-ghost use Rattle.std.specs.Prelude.{◌≡◌, ◌+◌, ◌*◌, ◌/◌, ◌≤◌, nat_le, length, Some, None, if◌then◌else◌};
+ghost use Rattle.std.specs.Prelude.{◌≡◌, ◌+◌, ◌*◌, ◌/◌, ◌≤◌, nat_le, length, Some, None, if◌then◌else◌, IfOk};
 ghost use Rattle.awk_types.specs.Gives.{Gives};
 ghost use Rattle.awk_lanes.specs.Numbers.{width};
 ghost use Rattle.awk_lanes.specs.Bits.{bits};
-ghost use Rattle.awk_store.specs.Buffers.{buffer, undecoded_len};
+ghost use Rattle.awk_store.specs.Buffers.{buffer, total_len, undecoded_len};
 ghost use Rattle.awk_valid.specs.Container.{column_at};
 ghost use Rattle.awk_valid.specs.Broken.{item_limit};
 ghost use Rattle.awk_valid.specs.Loading.{told, lane_said, bits_said};
@@ -38,6 +38,8 @@ pub(crate) fn lane_at<'a, L: Ledger>(
     requires few { n ≤ item_limit + 1 }
     // The numbers, or exactly what is wrong with the buffer, or want of memory.
     ensures answer { Gives (λ lane. lane) told result (lane_said key.now kind n (buffer store.old.texts key.now)) }
+    // A number has a byte at least, and a text is no shorter than the bytes that it encodes.
+    ensures short { IfOk result (λ _. n ≤ total_len store.old.texts) }
     ensures texts { store.new.texts ≡ store.old.texts }
     ensures cost { steps.new ≤ steps.old + undecoded_len store.old key.now }
 {

@@ -2,9 +2,18 @@
 //! walk over the nodes.
 #![tactic(auto)]
 
+mod arrays;
+mod buffers;
 mod fault;
 mod judge;
 mod keys;
 mod lanes;
+mod lengths;
+mod numbers;
+mod parts;
+#[cfg(test)]
+mod tests;
+mod walk;
 
+pub use arrays::load;
 pub use fault::{BufferFault, LoadFault, Rule};

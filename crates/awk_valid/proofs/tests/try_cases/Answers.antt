@@ -1,0 +1,37 @@
+-- The JSON text is an object of texts.
+use Rattle.std.proofs.Common.{◌≡◌, ◌∙◌, ap, sym, refl}
+use Rattle.std.specs.Prelude.{codes, option_map, option_and_then, Some}
+use Rattle.serde_json.specs.Data.{string, object, Members, no_members, member}
+use Rattle.serde_json.specs.Find.{as_object}
+use Rattle.serde_json.specs.View.{view, members_view}
+use Rattle.serde_json.proofs.OnLiterals.{serde_json_on_literals}
+use Rattle.awk_valid.proofs.tests.try_cases.Goals as goal
+
+abbrev sample : Members
+sample =
+    member (codes "a-offsets") (string (codes "AAAAAAAAAAADAAAAAAAAAAIAAAAAAAAA"))
+    (member (codes "b-offsets") (string (codes "AAAAAAAAAAACAAAAAAAAAAMAAAAAAAAA"))
+    (member (codes "c-offsets") (string (codes "AAAAAAAAAAD//////////w=="))
+    (member (codes "d-offsets") (string (codes "//////////8BAAAAAAAAAA=="))
+    (member (codes "e-offsets") (string (codes "+//////////7/////////w=="))
+    (member (codes "f-offsets") (string (codes "AAAAAAAAAAD/////////fw=="))
+    (member (codes "g-offsets") (string (codes ""))
+    (member (codes "h-offsets") (string (codes "AAA"))
+    (member (codes "i-data") (string (codes "BQAAAAAAAAD//////////wcAAAAAAAAA"))
+    (member (codes "j-data") (string (codes "BQAAAAAAAAD//////////wcAAAAAAAA="))
+    (member (codes "k-data") (string (codes "BQAAAAAAAAD//////////wcAAAAAAAAAAA=="))
+    (member (codes "l-index") (string (codes "AAAAAAAAAAAAAAAAAAAAAA=="))
+    (member (codes "l-tags") (string (codes "AAI="))
+    (member (codes "m-index") (string (codes "AAAAAAAAAAAAAAAAAAAAAA=="))
+    (member (codes "m-tags") (string (codes "AAE="))
+    (member (codes "n-index") (string (codes "AAAAAP////8=")) no_members)))))))))))))))
+
+pub new-store-requires : goal.new-store-requires
+unfolding serde_json_on_literals
+new-store-requires g c =
+    let read : Some (object sample) ≡ Some (view c.in_ok-json.json) = c.in_ok-json.ensures.ok in
+    let members : Some (members_view c.expect-buffers.result.now.entries) ≡ Some sample =
+    ap (option_map (λ m. members_view m.now.entries)) (sym c.expect-buffers.ensures) ∙ c.as_object.ensures
+    ∙ ap (option_and_then as_object) (sym read) in
+    let same : members_view c.expect-buffers.result.now.entries ≡ sample = cc in
+    rw same (refl, (refl, (refl, (refl, (refl, (refl, (refl, (refl, (refl, (refl, (refl, (refl, (refl, (refl, (refl, (refl, tt))))))))))))))))

@@ -1,0 +1,56 @@
+//! Arrays, loaded from containers.
+ghost use Rattle.std.specs.Prelude.{◌≡◌, ◌+◌, ◌*◌, ◌≤◌, IfOk};
+ghost use Rattle.awk_types.specs.Gives.{Gives};
+ghost use Rattle.awk_types.specs.Simple.{simple};
+ghost use Rattle.awk_layout.specs.Layout.{weight, height};
+ghost use Rattle.awk_layout.specs.Typing.{array_type};
+ghost use Rattle.awk_layout.specs.Valid.{len};
+ghost use Rattle.awk_store.specs.Buffers.{total_len};
+ghost use Rattle.awk_form.specs.FormType.{type_of};
+ghost use Rattle.awk_form.specs.Lawful.{IsLawful};
+ghost use Rattle.awk_form.specs.View.{form_of};
+ghost use Rattle.awk_valid.specs.Container.{container_of};
+ghost use Rattle.awk_valid.specs.Loading.{told, loading};
+ghost use Rattle.awk_valid.specs.Sizes as size;
+
+use crate::fault::LoadFault;
+use crate::parts::Walk;
+use crate::walk::node;
+use awk_form::{Form, type_of_form};
+use awk_kernels::Kernels;
+use awk_lanes::{Arena, Steps};
+use awk_layout::Array;
+use awk_store::Store;
+use std::alloc::Global;
+use std::sync::ledger::Ledger;
+
+/// The array of n items that a form and the buffers of a store give. Its lanes are the store's bytes, cut and not
+/// copied. The arena is that of the store; nothing more is made in it.
+pub fn load<'a, N: Kernels, L: Ledger>(
+    alloc: Global,
+    form: &Form,
+    n: u64,
+    store: &mut Store<'_, 'a>,
+    kernels: &N,
+    _arena: &'a Arena,
+    steps: &mut Steps<L>,
+) -> Result<Array<'a>, LoadFault>
+    requires lawful { IsLawful (form_of form.now) }
+    // The layout that the form, the length and the buffers stand for, or exactly why there is none: the limit of the
+    // type, else the first break of the walk.
+    ensures answer { Gives (λ array. array) told result (loading (form_of form.now) n (container_of store.old.texts)) }
+    // The type is that of the form, and there are n items.
+    ensures typ { IfOk result (λ array. array_type array ≡ simple (type_of (form_of form.now))) }
+    ensures length { IfOk result (λ array. len array ≡ n) }
+    // It has no more nodes, and is no higher, than the form with its inner numbers.
+    ensures nodes { IfOk result (λ array. weight array ≤ size.width (form_of form.now)) }
+    ensures height { IfOk result (λ array. height array ≤ size.tall (form_of form.now)) }
+    // The store answers as before.
+    ensures texts { store.new.texts ≡ store.old.texts }
+    ensures cost { steps.new ≤ steps.old + 8 * (size.width (form_of form.now) + 1) * (total_len store.old.texts + 1) }
+{
+    type_of_form(alloc, form)?;
+    let walk = Walk { alloc, kernels };
+    let node = node(&walk, form, n, &mut 0, store, steps)?;
+    Ok(Array::new(alloc, node)?)
+}
