@@ -1,0 +1,78 @@
+-- What a case of a valid layout has: names for its fields.
+use Rattle.std.proofs.Common.{◌≡◌, ℕ, ◌+◌, ◌*◌, ◌<◌, ◌==◌, Bool, true, false, List, [], ◌∷◌, Option, Some, None, length, if◌then◌else◌, subst, refl, ap, sym, ◌∙◌, arith}
+use Rattle.std.specs.Ordering.{int_eq}
+use Rattle.awk_types.specs.DataType.{Name}
+use Rattle.awk_lanes.specs.Numbers.{nat_of}
+use Rattle.awk_lanes.specs.Places.{at, option_place_at}
+use Rattle.awk_layout.specs.Layout.{Layout, layout_list, layouts_from, count, height, empty, flat, regular, lists, offset_lists, rows, indexed, optional, byte_masked, bit_masked, unmasked, union}
+use Rattle.awk_layout.specs.Valid.{len, IsValid, AreNames}
+use Rattle.awk_layout.specs.Item.{byte_shows, bit_shows}
+use Rattle.awk_layout.specs.Contents.{count-layouts_from}
+use Rattle.awk_layout.specs.Place.{Case, span, across, missing, through, case_of, through_option}
+use Rattle.awk_text.specs.LayoutText.{AreNamed, layout_text, row_text, case_text}
+use Rattle.awk_text.proofs.CaseTexts.{layout_text-case}
+
+pub height_some : (x : Layout) → 0 < height x
+height_some empty = omega arith
+height_some (flat c) = omega arith
+height_some (regular size n x) = omega arith
+height_some (lists s t x) = omega arith
+height_some (offset_lists o x) = omega arith
+height_some (rows names n xs) = omega arith
+height_some (indexed j x) = omega arith
+height_some (optional j x) = omega arith
+height_some (byte_masked m v x) = omega arith
+height_some (bit_masked m v x) = omega arith
+height_some (unmasked n x) = omega arith
+height_some (union t j xs) = omega arith
+
+layout_list-from : (xs : List Layout) → layout_list (layouts_from xs) ≡ xs
+layout_list-from [] = refl
+layout_list-from (x ∷ xs) = ap (λ ys. x ∷ ys) (layout_list-from xs)
+
+-- the text of an item, by what its place was found to be
+pub item_text-case : (x : Layout) (i : ℕ) (c : Case) → IsValid x → i < len x → c ≡ case_of x i → layout_text x i ≡ case_text c
+item_text-case x i c v p e = layout_text-case x i v p ∙ ap case_text (sym e)
+
+pub item_text-row : (x : Layout) (i : ℕ) (names : Option (List Name)) (xs : List Layout) (k : ℕ) → IsValid x → i < len x → across names (layouts_from xs) k ≡ case_of x i → layout_text x i ≡ row_text names xs k
+item_text-row x i names xs k v p e = item_text-case x i (across names (layouts_from xs) k) v p e ∙ ap (λ ys. row_text names ys k) (layout_list-from xs)
+
+-- a row has a name for each field
+abbrev IsNamed : Case → Type 0
+IsNamed (across names xs i) = AreNamed names (count xs)
+IsNamed c = Unit {0}
+
+block_named : (y : Layout) (e : Bool) (lo hi : ℕ) → IsNamed (if e then span y 0 0 else span y lo hi)
+block_named y true lo hi = tt
+block_named y false lo hi = tt
+
+option_named : (y : Layout) (o : Option ℕ) → IsNamed (through_option y o)
+option_named y None = tt
+option_named y (Some k) = tt
+
+mask_named : (y : Layout) (i : ℕ) (b : Bool) → IsNamed (if b then through y i else missing)
+mask_named y i true = tt
+mask_named y i false = tt
+
+names_named : (names : Option (List Name)) (n : ℕ) → AreNames names n → AreNamed names n
+names_named None n h = tt
+names_named (Some names) n h = omega (arith, h.0)
+
+case_named : (x : Layout) (i : ℕ) → IsValid x → IsNamed (case_of x i)
+case_named empty i v = tt
+case_named (flat c) i v = tt
+case_named (regular size n x) i v = block_named x (size == 0) (i * size) (i * size + size)
+case_named (lists s t x) i v = block_named x (int_eq (at s i) (at t i)) (nat_of (at s i)) (nat_of (at t i))
+case_named (offset_lists o x) i v = block_named x (int_eq (at o i) (at o (i + 1))) (nat_of (at o i)) (nat_of (at o (i + 1)))
+case_named (rows names n xs) i v = names_named names (count xs) v.1
+case_named (indexed j x) i v = tt
+case_named (optional j x) i v = option_named x (option_place_at j i)
+case_named (byte_masked m b x) i v = mask_named x i (byte_shows m b i)
+case_named (bit_masked m b x) i v = mask_named x i (bit_shows m b i)
+case_named (unmasked n x) i v = tt
+case_named (union t j xs) i v = tt
+
+pub row_named : (x : Layout) (i : ℕ) (names : Option (List Name)) (xs : List Layout) (k : ℕ) → IsValid x → across names (layouts_from xs) k ≡ case_of x i → AreNamed names (length xs)
+row_named x i names xs k v e =
+    let named : AreNamed names (count (layouts_from xs)) = subst IsNamed (sym e) (case_named x i v) in
+    subst (AreNamed names) (count-layouts_from xs) named

@@ -1,0 +1,4 @@
+pub mod ValueText
+pub mod ArrayText
+pub mod LayoutText
+pub mod Between

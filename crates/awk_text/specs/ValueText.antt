@@ -1,0 +1,75 @@
+-- The texts of values.
+use Rattle.std.specs.Prelude.{ℕ, zero, suc, Bool, true, false, List, [], ◌∷◌, ◌++◌, map, if◌then◌else◌, codes, decimal}
+use Rattle.std.specs.Fmt.{signed_decimal}
+use Rattle.awk_types.specs.DataType.{Name, DataType, unknown, leaf, var, reg, rec, tup, opt, uni, DataTypes, no_types, type}
+use Rattle.awk_types.specs.Value.{Value, int, truth, null, list, row, alt, value_list}
+use Rattle.awk_json.specs.Text.{quoted, comma_joined}
+
+abbrev pub Text : Type 0
+Text = List ℕ
+
+abbrev pub truth_text : Bool → Text
+truth_text true = codes "true"
+truth_text false = codes "false"
+
+-- a number or a truth value, and any other value as missing
+abbrev pub leaf_text : Value → Text
+leaf_text (int z) = signed_decimal z
+leaf_text (truth b) = truth_text b
+leaf_text v = codes "null"
+
+abbrev pub list_items : Value → List Value
+list_items (list vs) = value_list vs
+list_items v = []
+
+abbrev pub row_items : Value → List Value
+row_items (row vs) = value_list vs
+row_items v = []
+
+abbrev pub is_null : Value → Bool
+is_null null = true
+is_null v = false
+
+abbrev pub tag_of : Value → ℕ
+tag_of (alt k v) = k
+tag_of v = 0
+
+abbrev pub untagged : Value → Value
+untagged (alt k v) = v
+untagged v = v
+
+-- the names of a tuple's places, from a number on
+abbrev pub place_names : ℕ → DataTypes → List Name
+place_names i no_types = []
+place_names i (type t ts) = decimal i ∷ place_names (suc i) ts
+
+-- each text behind its name
+abbrev pub members : List Name → List Text → List Text
+members [] ts = []
+members (n ∷ ns) [] = []
+members (n ∷ ns) (t ∷ ts) = (quoted n ++ codes ":" ++ t) ∷ members ns ts
+
+abbrev pub list_text : List Text → Text
+list_text texts = codes "[" ++ comma_joined texts ++ codes "]"
+
+-- lists in brackets, rows as objects with the fields in order, an alternative without its tag
+abbrev mutual
+  pub value_text : DataType → Value → Text
+  value_text unknown v = leaf_text v
+  value_text (leaf p) v = leaf_text v
+  value_text (var t) v = list_text (map (value_text t) (list_items v))
+  value_text (reg n t) v = list_text (map (value_text t) (list_items v))
+  value_text (rec ns ts) v = codes "{" ++ comma_joined (members ns (row_texts ts (row_items v))) ++ codes "}"
+  value_text (tup ts) v = codes "{" ++ comma_joined (members (place_names 0 ts) (row_texts ts (row_items v))) ++ codes "}"
+  value_text (opt t) v = if is_null v then codes "null" else value_text t v
+  value_text (uni ts) v = alternative_text ts (tag_of v) (untagged v)
+
+  pub row_texts : DataTypes → List Value → List Text
+  row_texts no_types vs = []
+  row_texts (type t ts) [] = []
+  row_texts (type t ts) (v ∷ vs) = value_text t v ∷ row_texts ts vs
+
+  pub alternative_text : DataTypes → ℕ → Value → Text
+  alternative_text no_types k v = []
+  alternative_text (type t ts) zero v = value_text t v
+  alternative_text (type t ts) (suc k) v = alternative_text ts k v
