@@ -2,10 +2,6 @@ pub mod Sessions
 pub mod LineEnds
 pub mod Runs
 pub mod StepLaws
-pub mod LoadLaws
-pub mod FormLaws
-pub mod PlaceLaws
 pub mod VariableLaws
-pub mod Joined
-pub mod Printing
+pub mod Parts
 pub mod ReadLaws

@@ -8,7 +8,7 @@ use Rattle.awk_session.specs.Runs.{line_ends}
 use Rattle.awk_edge.specs.Lines.{Unbroken}
 use Rattle.awk_json.specs.Text.{quoted, comma_joined}
 use Rattle.awk_json.proofs.Lines.{quoted-unbroken}
-use Rattle.awk_session.specs.ValueText.{leaf_text, list_items, row_items, is_null, tag_of, untagged, place_names, members, value_text, row_texts, alternative_text}
+use Rattle.awk_text.specs.ValueText.{Text, leaf_text, list_text, list_items, row_items, is_null, tag_of, untagged, place_names, members, value_text, row_texts, alternative_text}
 
 pub line_ends-append : (xs ys : List ℕ) → line_ends (xs ++ ys) ≡ line_ends xs + line_ends ys
 line_ends-append xs ys = sum_by-append (λ b. cond (b == 10) 1 0) xs ys
@@ -80,12 +80,15 @@ AllFree-members [] ts h = tt
 AllFree-members (n ∷ ns) [] h = tt
 AllFree-members (n ∷ ns) (t ∷ ts) h = (both (quoted n ++ codes ":") t (both (quoted n) (codes ":") (line_ends-quoted n) refl) h.0, AllFree-members ns ts h.1)
 
+line_ends-list_text : (ts : List Text) → AllFree ts → line_ends (list_text ts) ≡ 0
+line_ends-list_text ts h = both (codes "[" ++ comma_joined ts) (codes "]") (line_ends-comma_joined ts h) refl
+
 mutual
   pub line_ends-value_text : (t : DataType) (v : Value) → line_ends (value_text t v) ≡ 0
   line_ends-value_text unknown v = line_ends-leaf_text v
   line_ends-value_text (leaf p) v = line_ends-leaf_text v
-  line_ends-value_text (var t) v = both (codes "[" ++ comma_joined (map (value_text t) (list_items v))) (codes "]") (line_ends-comma_joined (map (value_text t) (list_items v)) (AllFree-map (value_text t) (line_ends-value_text t) (list_items v))) refl
-  line_ends-value_text (reg n t) v = both (codes "[" ++ comma_joined (map (value_text t) (list_items v))) (codes "]") (line_ends-comma_joined (map (value_text t) (list_items v)) (AllFree-map (value_text t) (line_ends-value_text t) (list_items v))) refl
+  line_ends-value_text (var t) v = line_ends-list_text (map (value_text t) (list_items v)) (AllFree-map (value_text t) (line_ends-value_text t) (list_items v))
+  line_ends-value_text (reg n t) v = line_ends-list_text (map (value_text t) (list_items v)) (AllFree-map (value_text t) (line_ends-value_text t) (list_items v))
   line_ends-value_text (rec ns ts) v = both (codes "{" ++ comma_joined (members ns (row_texts ts (row_items v)))) (codes "}") (line_ends-comma_joined (members ns (row_texts ts (row_items v))) (AllFree-members ns (row_texts ts (row_items v)) (AllFree-row_texts ts (row_items v)))) refl
   line_ends-value_text (tup ts) v = both (codes "{" ++ comma_joined (members (place_names 0 ts) (row_texts ts (row_items v)))) (codes "}") (line_ends-comma_joined (members (place_names 0 ts) (row_texts ts (row_items v))) (AllFree-members (place_names 0 ts) (row_texts ts (row_items v)) (AllFree-row_texts ts (row_items v)))) refl
   line_ends-value_text (opt t) v = if_same (is_null v) (codes "null") (value_text t v) refl (line_ends-value_text t v)
@@ -100,3 +103,7 @@ mutual
   line_ends-alternative_text no_types k v = refl
   line_ends-alternative_text (type t ts) zero v = line_ends-value_text t v
   line_ends-alternative_text (type t ts) (suc k) v = line_ends-alternative_text ts k v
+
+-- the values of a list
+pub line_ends-values : (t : DataType) (vs : List Value) → line_ends (list_text (map (value_text t) vs)) ≡ 0
+line_ends-values t vs = line_ends-list_text (map (value_text t) vs) (AllFree-map (value_text t) (line_ends-value_text t) vs)

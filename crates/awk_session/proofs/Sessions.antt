@@ -10,7 +10,6 @@ use Rattle.base64.proofs.OnLiterals.{base64_on_literals}
 use Rattle.awk_form.specs.Node.{node_at}
 use Rattle.awk_form.specs.Reading.{nodes_of, form_of}
 use Rattle.awk_session.specs.Environment.{Environment}
-use Rattle.awk_session.specs.Load.{decoded}
 use Rattle.awk_session.specs.Steps.{step, step_of, reply, is_blank, answers, has_fault}
 
 -- a line that is not blank is answered by what is read from it
@@ -39,11 +38,11 @@ unfolding encode_utf8
 load_lists-read variables = step-read variables load_lists refl (load_lists, (refl, refl))
 
 pub lists_are_shown : answers (load_lists ∷ show_x ∷ []) ≡ lines_of (codes "{\"bound\":\"x\"}" ∷ codes "{\"value\":[[5,-1],[],[7]]}" ∷ [])
-unfolding serde_json_on_literals base64_on_literals decoded digits node_at nodes_of form_of
+unfolding serde_json_on_literals base64_on_literals digits node_at nodes_of form_of
 lists_are_shown = simp (load_lists-read, show_x-read) refl
 
 pub lists_without_fault : has_fault (load_lists ∷ show_x ∷ []) ≡ false
-unfolding serde_json_on_literals base64_on_literals decoded digits node_at nodes_of form_of
+unfolding serde_json_on_literals base64_on_literals digits node_at nodes_of form_of
 lists_without_fault = simp (load_lists-read, show_x-read) refl
 
 -- one empty list, at place 5 of no data
@@ -55,7 +54,7 @@ unfolding encode_utf8
 load_empty_list-read variables = step-read variables load_empty_list refl (load_empty_list, (refl, refl))
 
 pub empty_list_is_shown : answers (load_empty_list ∷ show_x ∷ []) ≡ lines_of (codes "{\"bound\":\"x\"}" ∷ codes "{\"value\":[[]]}" ∷ [])
-unfolding serde_json_on_literals base64_on_literals decoded digits node_at nodes_of form_of
+unfolding serde_json_on_literals base64_on_literals digits node_at nodes_of form_of
 empty_list_is_shown = simp (load_empty_list-read, show_x-read) refl
 
 -- a name that is not bound, and two offsets that are out of order
@@ -66,13 +65,37 @@ load_unordered-read : (variables : Environment) → step variables load_unordere
 unfolding encode_utf8
 load_unordered-read variables = step-read variables load_unordered refl (load_unordered, (refl, refl))
 
-pub unordered_binds_nothing : answers (load_unordered ∷ show_x ∷ []) ≡ lines_of (codes "{\"fault\":\"unbuilt\"}" ∷ codes "{\"fault\":\"name\",\"name\":\"x\"}" ∷ [])
-unfolding serde_json_on_literals base64_on_literals decoded digits node_at nodes_of form_of
+pub unordered_binds_nothing : answers (load_unordered ∷ show_x ∷ []) ≡ lines_of (codes "{\"fault\":\"invalid\",\"node\":0,\"rule\":\"order\",\"place\":1}" ∷ codes "{\"fault\":\"name\",\"name\":\"x\"}" ∷ [])
+unfolding serde_json_on_literals base64_on_literals digits node_at nodes_of form_of
 unordered_binds_nothing = simp (load_unordered-read, show_x-read) refl
 
 pub unordered_is_a_fault : has_fault (load_unordered ∷ []) ≡ true
-unfolding serde_json_on_literals base64_on_literals decoded digits node_at nodes_of form_of
+unfolding serde_json_on_literals base64_on_literals digits node_at nodes_of form_of
 unordered_is_a_fault = simp load_unordered-read refl
+
+-- no buffers at all
+abbrev load_nothing : List ℕ
+load_nothing = codes "{\"load\":\"x\",\"form\":{\"class\":\"ListOffsetArray\",\"offsets\":\"i64\",\"content\":{\"class\":\"NumpyArray\",\"primitive\":\"int64\",\"form_key\":\"node1\"},\"form_key\":\"node0\"},\"length\":0,\"buffers\":{}}"
+
+load_nothing-read : (variables : Environment) → step variables load_nothing ≡ step_of (reply variables (read load_nothing))
+unfolding encode_utf8
+load_nothing-read variables = step-read variables load_nothing refl (load_nothing, (refl, refl))
+
+pub nothing_is_absent : answers (load_nothing ∷ []) ≡ lines_of (codes "{\"fault\":\"buffer\",\"key\":\"node0-offsets\",\"why\":\"absent\"}" ∷ [])
+unfolding serde_json_on_literals base64_on_literals digits node_at nodes_of form_of
+nothing_is_absent = simp load_nothing-read refl
+
+-- a value that is no line
+abbrev null_line : List ℕ
+null_line = codes "null"
+
+null_line-read : (variables : Environment) → step variables null_line ≡ step_of (reply variables (read null_line))
+unfolding encode_utf8
+null_line-read variables = step-read variables null_line refl (null_line, (refl, refl))
+
+pub null_is_unbuilt : answers (null_line ∷ []) ≡ lines_of (codes "{\"fault\":\"unbuilt\"}" ∷ [])
+unfolding serde_json_on_literals
+null_is_unbuilt = simp null_line-read refl
 
 -- three forms that are broken: an unknown primitive at the second node, no offsets, and a parameter that is not allowed
 abbrev load_float : List ℕ
@@ -83,7 +106,7 @@ unfolding encode_utf8
 load_float-read variables = step-read variables load_float refl (load_float, (refl, refl))
 
 pub float_is_no_primitive : answers (load_float ∷ []) ≡ lines_of (codes "{\"fault\":\"form\",\"node\":1,\"why\":\"primitive\"}" ∷ [])
-unfolding serde_json_on_literals base64_on_literals decoded digits node_at nodes_of form_of
+unfolding serde_json_on_literals base64_on_literals digits node_at nodes_of form_of
 float_is_no_primitive = simp load_float-read refl
 
 abbrev load_no_offsets : List ℕ
@@ -94,7 +117,7 @@ unfolding encode_utf8
 load_no_offsets-read variables = step-read variables load_no_offsets refl (load_no_offsets, (refl, refl))
 
 pub offsets_are_absent : answers (load_no_offsets ∷ []) ≡ lines_of (codes "{\"fault\":\"form\",\"node\":0,\"why\":\"key\"}" ∷ [])
-unfolding serde_json_on_literals base64_on_literals decoded digits node_at nodes_of form_of
+unfolding serde_json_on_literals base64_on_literals digits node_at nodes_of form_of
 offsets_are_absent = simp load_no_offsets-read refl
 
 abbrev load_string : List ℕ
@@ -105,7 +128,7 @@ unfolding encode_utf8
 load_string-read variables = step-read variables load_string refl (load_string, (refl, refl))
 
 pub array_is_told : answers (load_string ∷ []) ≡ lines_of (codes "{\"fault\":\"form\",\"node\":0,\"why\":\"parameter\"}" ∷ [])
-unfolding serde_json_on_literals base64_on_literals decoded digits node_at nodes_of form_of
+unfolding serde_json_on_literals base64_on_literals digits node_at nodes_of form_of
 array_is_told = simp load_string-read refl
 
 -- a line that is no JSON

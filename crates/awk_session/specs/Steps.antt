@@ -10,9 +10,7 @@ use Rattle.awk_session.specs.Runs.{Step, texts, any_fault}
 use Rattle.awk_session.specs.Environment.{Environment, look_up, bind}
 use Rattle.awk_session.specs.Line.{Line, load, show, other, line_of}
 use Rattle.awk_session.specs.Load.{loaded}
-use Rattle.awk_session.specs.declared.answer.Refused.{Refused}
-use Rattle.awk_session.specs.declared.answer.Refused.TheVariants.{Unbuilt}
-use Rattle.awk_session.specs.Answer.{Answer, bound, value, json, name, refused, is_fault, answer_text}
+use Rattle.awk_session.specs.Answer.{Answer, bound, value, json, unbuilt, name, is_fault, answer_text}
 
 -- only spaces, tabs and carriage returns
 abbrev pub is_blank : List ℕ → Bool
@@ -27,10 +25,10 @@ pub record Reply : Type 0 where
   pub answer : Answer
   pub after : Environment
 
--- a load line binds its name if it loads
-abbrev pub reply_load : Environment → Name → Result Datum Refused → Reply
+-- a load line binds its name if it loads, and else changes nothing
+abbrev pub reply_load : Environment → Name → Result Datum Answer → Reply
 reply_load variables n (Ok datum) = record { answer = bound n; after = bind n datum variables }
-reply_load variables n (Err r) = record { answer = refused r; after = variables }
+reply_load variables n (Err fault) = record { answer = fault; after = variables }
 
 -- a show line shows what its name is bound to
 abbrev pub reply_show : Environment → Name → Option Datum → Reply
@@ -40,7 +38,7 @@ reply_show variables n None = record { answer = name n; after = variables }
 abbrev pub reply_line : Environment → Line → Reply
 reply_line variables (load n form length buffers) = reply_load variables n (loaded form length buffers)
 reply_line variables (show n) = reply_show variables n (look_up n variables)
-reply_line variables other = record { answer = refused Unbuilt; after = variables }
+reply_line variables other = record { answer = unbuilt; after = variables }
 
 abbrev pub reply : Environment → Option Data → Reply
 reply variables (Some read) = reply_line variables (line_of read)

@@ -1,11 +1,9 @@
 -- The variables that the entries of a map in code stand for.
 use Rattle.std.specs.declared.alloc.Global.{Global}
 use Rattle.std.specs.Prelude.{List, map, String, string_bytes}
-use Rattle.std.specs.List.{AllByRecursion}
 use Rattle.awk_layout.specs.Layout.{Layout}
 use Rattle.awk_session.specs.Environment.{Environment}
 use Rattle.awk_session.specs.Load.{datum_of}
-use Rattle.awk_session.specs.Printed.{IsLists}
 
 abbrev pub Entries : Type 0
 Entries = List (String Global × Layout)
@@ -13,7 +11,3 @@ Entries = List (String Global × Layout)
 -- each name with the array of its layout
 abbrev pub variables_of : Entries → Environment
 variables_of entries = map (λ e. (string_bytes e.0, datum_of e.1)) entries
-
--- each layout can be printed
-abbrev pub AllLists : Entries → Type 0
-AllLists entries = AllByRecursion (λ e. IsLists e.1) entries

@@ -1,26 +1,24 @@
 //! The engine: a session's variables, and the answers to its lines.
-ghost use Rattle.std.specs.Prelude.{◌≡◌, ◌≤◌, ◌<◌, ◌∷◌, [], ◌++◌, Err, IsTrue, IsFalse, IfOk, IfErr, OnOk, OnErr, Some, option_map};
+ghost use Rattle.std.specs.Prelude.{◌≡◌, ◌≤◌, ◌<◌, ◌∷◌, [], ◌++◌, Err, IsTrue, IsFalse, IfOk, IfErr, OnOk, OnErr, option_map};
 ghost use Rattle.awk_edge.specs.Causes.{HasCause, Rose, flushes_after};
 ghost use Rattle.awk_edge.specs.Put.{Moves};
 ghost use Rattle.serde_json.specs.View.{view, members_view};
-ghost use Rattle.awk_form.specs.Told.{refusal_told};
+ghost use Rattle.awk_store.specs.Buffers.{HoldsTexts};
 ghost use Rattle.awk_session.specs.Answer.{answer_text};
-ghost use Rattle.awk_session.specs.AnswerView.{answer_view, IsPrintable};
+ghost use Rattle.awk_session.specs.AnswerView.{answer_view};
 ghost use Rattle.awk_session.specs.Environment as environment;
 ghost use Rattle.awk_session.specs.Leaves.{Leaves};
-ghost use Rattle.awk_session.specs.Load.{datum_of, loaded, refused_by};
+ghost use Rattle.awk_session.specs.Load.{datum_of, loaded};
 ghost use Rattle.awk_session.specs.Outcome.{answer_of};
-ghost use Rattle.awk_session.specs.Printed.{IsLists};
 ghost use Rattle.awk_session.specs.Steps as answering;
 
-use crate::answer::{Answer, Answered, Refused, kind_of, write_answer};
-use crate::first_form::first_form;
+use crate::answer::{Answer, Answered, kind_of, write_answer};
+use crate::fault::{Fault, Refused};
 use crate::line::{Line, parse, read_line};
 use crate::load::load;
 use awk_edge::{Out, Sink, WriteFault};
-use awk_form::{FormFault, read_form};
 use awk_lanes::Steps;
-use awk_layout::Node;
+use awk_layout::Array;
 use bumpalo::Bump;
 use indexmap::IndexMap;
 use serde_json::{Map, Value};
@@ -41,7 +39,7 @@ pub enum LineEnd {
 /// The variables that lines have bound, in the order of first binding. Their buffers lie in the arena.
 #[derive(Drop)]
 pub struct Engine<'a> {
-    variables: IndexMap<String, Node<'a>>,
+    variables: IndexMap<String, Array<'a>>,
     arena: &'a Bump<Global>,
 }
 
@@ -53,20 +51,17 @@ impl<'a> Model for Engine<'a> {
 
     ghost coded = { coded_environment };
 
-    ghost use Rattle.awk_session.specs.Variables.{variables_of, AllLists};
+    ghost use Rattle.awk_session.specs.Variables.{variables_of};
 
     ghost view = { λ s. variables_of s.variables.entries };
-
-    ghost invariant = { λ s. AllLists s.variables.entries };
 }
 
 // What the evaluation of a line came to. A show line's variable is looked up when it is answered.
-#[derive(Clone, Copy)]
+#[derive(Drop)]
 enum Outcome<'v> {
     Bound(&'v str),
     Show(&'v str),
-    Json,
-    Refused(Refused),
+    Fault(Fault),
 }
 
 /// Whether a line has no answer: it holds only spaces, tabs and carriage returns.
@@ -137,7 +132,7 @@ impl<'a> Engine<'a> {
     {
         match self.evaluate(alloc, read, steps) {
             Ok(outcome) => {
-                let answer = self.answer(outcome);
+                let answer = self.answer(&outcome);
                 match send(out, sink, &answer, steps) {
                     Ok(()) => Ok(kind_of(&answer)),
                     Err(_) => Err(LineEnd::Write),
@@ -158,7 +153,7 @@ impl<'a> Engine<'a> {
         ensures same { OnErr result (self.new ≡ self.old) }
     {
         let Some(value) = read else {
-            return Ok(Outcome::Json);
+            return Ok(Outcome::Fault(Fault::Json));
         };
         match read_line(value) {
             Line::Load {
@@ -168,7 +163,7 @@ impl<'a> Engine<'a> {
                 buffers,
             } => self.load(alloc, name, form, length, buffers, steps),
             Line::Show { name } => Ok(Outcome::Show(name)),
-            Line::Other => Ok(Outcome::Refused(Refused::Unbuilt)),
+            Line::Other => Ok(Outcome::Fault(Fault::Unbuilt)),
         }
     }
 
@@ -182,60 +177,42 @@ impl<'a> Engine<'a> {
         buffers: &Map<String, Value>,
         steps: &mut Steps<L>,
     ) -> Result<Outcome<'v>, AllocError>
+        requires texts { HoldsTexts (members_view buffers.now.entries) }
         ensures reply { IfOk result (λ outcome. answering.reply_load self.old name.now (loaded (view form.now) length (members_view buffers.now.entries))
             ≡ record { answer = answer_of self.new outcome; after = self.new }) }
         ensures same { OnErr result (self.new ≡ self.old) }
     {
-        let form = match read_form(alloc, form) {
-            Ok(form) => form,
-            Err(fault) => return Ok(Outcome::Refused(refused(fault)?)),
-        };
-        let Some(keys) = first_form(&form) else {
-            return Ok(Outcome::Refused(Refused::Unbuilt));
-        };
-        let Some(node) = load(alloc, self.arena, &keys, length, buffers, steps)? else {
-            return Ok(Outcome::Refused(Refused::Unbuilt));
-        };
-        self.bind(alloc, name, node)?;
-        Ok(Outcome::Bound(name))
+        match load(alloc, form, length, buffers, self.arena, steps) {
+            Ok(array) => {
+                self.bind(alloc, name, array)?;
+                Ok(Outcome::Bound(name))
+            }
+            Err(Refused::Told(fault)) => Ok(Outcome::Fault(fault)),
+            Err(Refused::NoMemory) => Err(AllocError),
+        }
     }
 
-    fn bind(&mut self, alloc: Global, name: &str, node: Node<'a>) -> Result<(), AllocError>
-        requires lists { IsLists node }
-        ensures bound { OnOk result (self.new ≡ environment.bind name.now (datum_of node.entry) self.old) }
+    fn bind(&mut self, alloc: Global, name: &str, array: Array<'a>) -> Result<(), AllocError>
+        ensures bound { OnOk result (self.new ≡ environment.bind name.now (datum_of array.entry) self.old) }
         ensures same { OnErr result (self.new ≡ self.old) }
     {
         let name = String::from_str(alloc, name)?;
-        let _ = self.variables.insert(name, node)?;
+        let _ = self.variables.insert(name, array)?;
         Ok(())
     }
 
     // The answer that the outcome of a line leads to.
-    fn answer<'r>(&'r self, outcome: Outcome<'r>) -> Answer<'r, 'a>
-        ensures value { answer_view result ≡ answer_of self.now outcome.entry }
-        ensures printable { IsPrintable result }
+    fn answer<'r>(&'r self, outcome: &'r Outcome<'_>) -> Answer<'r, 'a>
+        ensures { answer_view result ≡ answer_of self.now outcome.now }
     {
         match outcome {
-            Outcome::Bound(name) => Answer::Bound(name),
-            Outcome::Show(name) => match self.variables.get(name) {
-                Some(node) => Answer::Value(node),
-                None => Answer::Unbound(name),
+            Outcome::Bound(name) => Answer::Bound(*name),
+            Outcome::Show(name) => match self.variables.get(*name) {
+                Some(array) => Answer::Value(array),
+                None => Answer::Unbound(*name),
             },
-            Outcome::Json => Answer::Json,
-            Outcome::Refused(refused) => Answer::Refused(refused),
+            Outcome::Fault(fault) => Answer::Fault(fault),
         }
-    }
-}
-
-// What a line with a form of this fault is told, unless memory is wanting.
-fn refused(fault: FormFault) -> Result<Refused, AllocError>
-    ensures { IfOk result (λ refused. option_map refused_by (refusal_told fault) ≡ Some refused) }
-{
-    match fault {
-        FormFault::Bad { node, why } => Ok(Refused::Form { node, why }),
-        FormFault::Depth => Ok(Refused::Depth),
-        FormFault::Size => Ok(Refused::Size),
-        FormFault::NoMemory => Err(AllocError),
     }
 }
 
@@ -247,7 +224,6 @@ fn send<K: Sink, L: Ledger>(
     steps: &mut Steps<L>,
 ) -> Result<(), WriteFault>
     requires open { IsTrue out.old.is_open }
-    requires printable { IsPrintable answer.now }
     ensures bytes { Moves (K.written sink.old) (K.written sink.new) out.new (out.old.held ++ (answer_text (answer_view answer.now) ++ 10 ∷ [])) result }
     ensures empty { OnOk result (out.new.held ≡ []) }
     ensures flushed { OnOk result (IsTrue (K.flushed sink.new)) }

@@ -3,10 +3,9 @@
 
 mod answer;
 mod engine;
-mod first_form;
+mod fault;
 mod line;
 mod load;
-mod value;
 
 pub use answer::Answered;
 pub use engine::{Engine, LineEnd, is_blank};

@@ -96,7 +96,7 @@ fn member<'v>(members: &'v Map<String, Value>, key: &str) -> Option<&'v Value>
     members.get(key)
 }
 
-pub fn text_in<'v>(members: &'v Map<String, Value>, key: &str) -> Option<&'v str>
+fn text_in<'v>(members: &'v Map<String, Value>, key: &str) -> Option<&'v str>
     ensures { option_map (λ text. text.now) result ≡ text_at key.now (members_view members.now.entries) }
 {
     member(members, key)?.as_str()
