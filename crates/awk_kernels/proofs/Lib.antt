@@ -1,2 +1,1 @@
-pub mod KernelLaws
 mod Examples

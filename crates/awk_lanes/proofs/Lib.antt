@@ -1,4 +1,5 @@
 pub mod NumberParts
 pub mod BitParts
 pub mod PlaceLaws
+pub mod RangeLaws
 mod Examples

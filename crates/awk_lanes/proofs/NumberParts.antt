@@ -176,7 +176,7 @@ AreBytes-take m b h i = in_or_out (cases_lt i m)
     in_or_out (inl p) = rw (get_or-take m b i 0 p) (h i)
     in_or_out (inr p) = rw (get_or_past (take m b) i 0 (omega (arith, length-take m b))) (omega arith)
 
-AreBytes-drop : (m : ℕ) (b : List ℕ) → AreBytes b → AreBytes (drop m b)
+pub AreBytes-drop : (m : ℕ) (b : List ℕ) → AreBytes b → AreBytes (drop m b)
 AreBytes-drop m b h i = rw (get_or-drop m b i 0) (h (m + i))
 
 pub AreBytes-slice_range : (b : List ℕ) (lo hi : ℕ) → AreBytes b → AreBytes (slice_range b lo hi)
@@ -192,7 +192,7 @@ bytes_worth-below f (suc k) h =
     let more : 256 ^ suc (suc k) ≡ p * 256 = pow-suc 256 (suc k) in
     omega arith
 
-from_le_bytes-below : (w : Width) (b : List ℕ) → AreBytes b → from_le_bytes w b < 256 ^ suc (byte_len w - 1)
+pub from_le_bytes-below : (w : Width) (b : List ℕ) → AreBytes b → from_le_bytes w b < 256 ^ suc (byte_len w - 1)
 from_le_bytes-below w b h = bytes_worth-below (λ i. get_or b i 0) (byte_len w - 1) h
 
 to_le_bytes-from_2 : (b : List ℕ) → 2 ≤ length b → AreBytes b → to_le_bytes w16 (from_le_bytes w16 b) ≡ take 2 b

@@ -4,3 +4,4 @@ pub mod Column
 pub mod Cut
 pub mod Making
 pub mod Places
+pub mod Ranges

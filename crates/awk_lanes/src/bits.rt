@@ -54,7 +54,8 @@ impl<'a> Model for Bits<'a> {
 }
 
 impl<'a> Bits<'a> {
-    /// The n bits of the bytes from bit `first` on, each byte's least significant bit first, or its most significant.
+    /// The n bits of the bytes from bit `first` on: of each byte the least significant bit first,
+    /// or the most significant.
     pub fn new(bytes: &'a [u8], first: u64, n: u64, lsb_order: bool) -> Bits<'a>
         requires { first + n ≤ 8 * length bytes.now }
         ensures { result ≡ bits lsb_order bytes.now first n }

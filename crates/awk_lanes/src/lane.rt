@@ -1,8 +1,9 @@
 //! A lane: numbers of one kind in borrowed bytes.
-ghost use Rattle.std.specs.Prelude.{◌≡◌, ◌+◌, ◌*◌, ◌/◌, ◌%◌, ◌<◌, ◌≤◌, length};
+ghost use Rattle.std.specs.Prelude.{◌≡◌, ◌+◌, ◌*◌, ◌/◌, ◌%◌, ◌<◌, ◌≤◌, ◌^◌, length};
 ghost use Rattle.std.specs.List.{flat_map};
 ghost use Rattle.awk_lanes.specs.Numbers.{width, int_of, bytes_of, numbers, IsOf};
 ghost use Rattle.awk_lanes.specs.Places.{size_of, at};
+ghost use Rattle.awk_lanes.specs.Ranges.{AreNumbers};
 ghost use Rattle.awk_lanes.specs.Cut.{cut_of};
 
 use crate::bytes::{item, part};
@@ -59,16 +60,20 @@ impl<'a> Lane<'a> {
         }
     }
 
+    /// The kind of the numbers.
     pub fn kind(&self) -> Kind
         ensures { result ≡ self.now.kind }
     {
         self.kind
     }
 
-    /// How many numbers.
+    /// How many numbers. Each is in the range of its kind, and a u64 counts their bytes.
     pub fn len(&self) -> u64
-        ensures { result ≡ size_of self.now }
+        ensures len { result ≡ size_of self.now }
+        ensures fits { AreNumbers self.now }
+        ensures small { result * width self.now.kind < 2 ^ 64 }
     {
+        let _ = self.bytes.len();
         self.count
     }
 

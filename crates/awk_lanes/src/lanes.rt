@@ -22,6 +22,7 @@ impl<'a> Model for Lanes<'a> {
 }
 
 impl<'a> Lanes<'a> {
+    /// No lanes.
     pub fn new(alloc: Global) -> Lanes<'a>
         ensures { result ≡ [] }
     {
@@ -46,6 +47,7 @@ impl<'a> Lanes<'a> {
         self.lanes.len()
     }
 
+    /// The lane at a place.
     pub fn get(&self, i: usize) -> &Lane<'a>
         requires { i < length self.now }
         ensures { slice_get self.now i ≡ Some result.now }

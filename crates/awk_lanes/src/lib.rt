@@ -11,8 +11,6 @@ mod memory;
 mod numbers;
 mod readers;
 mod steps;
-#[cfg(test)]
-mod tests;
 
 pub use bits::Bits;
 pub use kind::{Kind, Num};

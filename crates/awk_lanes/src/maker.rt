@@ -50,13 +50,20 @@ impl<'a> Model for LaneMaker<'a> {
     ghost use Rattle.std.specs.Prelude.{◌≡◌, ◌*◌, ◌≤◌, length, vec_len, vec_capacity};
     ghost use Rattle.awk_lanes.specs.Numbers.{width, numbers};
 
-    ghost view = { λ m. record { kind = m.kind; room = m.room; items = numbers m.kind m.made m.bytes.items } };
+    ghost view = { λ m. record {
+      kind = m.kind;
+      room = m.room;
+      items = numbers m.kind m.made m.bytes.items;
+    } };
 
-    ghost invariant = { λ m. (m.made * width m.kind ≡ length m.bytes.items) × (vec_len m.bytes ≡ length m.bytes.items) × (m.room * width m.kind ≤ vec_capacity m.bytes) };
+    ghost invariant = { λ m. (m.made * width m.kind ≡ length m.bytes.items)
+        × (vec_len m.bytes ≡ length m.bytes.items)
+        × (m.room * width m.kind ≤ vec_capacity m.bytes) };
 }
 
 impl<'a> LaneMaker<'a> {
-    /// Begins a lane of n numbers. Where their bytes would be more than a usize can count, it answers want of memory.
+    /// Begins a lane of n numbers. Where their bytes are more than a u64 can count, it answers want
+    /// of memory.
     pub fn new(kind: Kind, n: u64, arena: &'a Arena) -> Result<LaneMaker<'a>, NoMemory>
         ensures begun { IfOk result (λ m. m ≡ record { kind = kind; room = n; items = [] }) }
         ensures fits { IfOk result (λ _. n * width kind < 2 ^ 64) }

@@ -23,7 +23,11 @@ impl<L: Ledger> Model for Steps<L> {
 
 impl<L: Ledger> Steps<L> {
     /// A counter that stands at 0. A caller that counts nothing begins with `Blank::new(1)`.
-    pub fn new(blank: Blank) -> Steps<L>
+    ///
+    /// Only `main` and tests are given the runtime, which is asked for here and not read. So a
+    /// library call, which is handed an allocator and a counter, can begin no counter of its own:
+    /// whatever it reads of a lane is counted in the one that it was handed.
+    pub fn new(_rt: &HostRuntime, blank: Blank) -> Steps<L>
         requires name { blank.name ≡ L.name }
         requires parts { blank.parts ≡ L.parts }
         requires some { 0 < blank.parts }

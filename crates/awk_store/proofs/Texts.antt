@@ -26,7 +26,7 @@ use Rattle.serde_json.specs.Find.{as_str, get_member}
 use Rattle.serde_json.specs.View.{view, members_view}
 use Rattle.serde_json.specs.declared.value.Value.{Value}
 use Rattle.serde_json.proofs.Views.{view-lookup}
-use Rattle.awk_store.specs.Buffers.{ByKey, HoldsTexts, texts_of, Buffers, text_of, total_len, is_decoded, undecoded_len, decoding, buffer, why_told}
+use Rattle.awk_store.specs.Buffers.{ByKey, HoldsTexts, texts_of, Buffers, text_of, total_len, is_decoded, undecoded_len, decoding, why_told}
 use Rattle.awk_types.specs.Gives.{Told}
 use Rattle.awk_store.specs.declared.fault.StoreFault.{StoreFault}
 use Rattle.awk_store.specs.declared.fault.StoreFault.TheVariants.{Bad}
@@ -78,9 +78,6 @@ decoding-Err text why e = ap (λ r. ok_or (result_ok r) Base64) e
 -- a text that encodes bytes decodes to them
 pub decoding-encode_of : (bytes : List ℕ) → IsBytes bytes → decoding (Some (encode_of standard bytes)) ≡ Ok bytes
 decoding-encode_of bytes h = decoding-Ok _ bytes (decode_of-encode_of standard bytes refl h)
-
-pub buffer-encode_of : (texts : ByKey) (key bytes : List ℕ) → IsBytes bytes → text_of texts key ≡ Some (encode_of standard bytes) → buffer texts key ≡ Ok bytes
-buffer-encode_of texts key bytes h e = ap decoding e ∙ decoding-encode_of bytes h
 
 -- a text that is refused encodes no bytes
 pub undecodable : (text : List ℕ) (fault : StoreFault) → Told (why_told fault) (decoding (Some text)) → fault ≡ Bad Base64 → (bytes : List ℕ) → IsBytes bytes → Some text ≢ Some (encode_of standard bytes)

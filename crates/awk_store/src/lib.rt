@@ -3,8 +3,6 @@
 
 mod fault;
 mod store;
-#[cfg(test)]
-mod tests;
 
 pub use fault::{BufferWhy, StoreFault};
 pub use store::Store;

@@ -91,7 +91,8 @@ impl<'v, 'a> Store<'v, 'a> {
         steps: &mut Steps<L>,
     ) -> Result<&'a [u8], StoreFault>
         // The bytes of the key, or exactly why there are none, or want of memory.
-        ensures answer { Gives (λ bytes. bytes.now) why_told result (buffer self.old.texts key.now) }
+        ensures answer { let said = buffer self.old.texts key.now in
+            Gives (λ bytes. bytes.now) why_told result said }
 
         // The key's text is the standard, padded base64 of the bytes, or of no bytes at all.
         ensures encoded { IfOk result

@@ -1,3 +1,4 @@
+pub mod ListLaws
 pub mod Trees
 pub mod Views
 pub mod NameLaws
@@ -8,3 +9,4 @@ pub mod TypeLaws
 pub mod NodeLaws
 pub mod Simplified
 pub mod PromotionLaws
+pub mod RefusalLaws

@@ -1,6 +1,7 @@
 -- What two whole-number types promote to holds the numbers of both.
-use Rattle.std.proofs.Common.{◌≡◌, Bool as Truth, true, false, ◌&&◌, refl, sym, subst, ℤ}
+use Rattle.std.proofs.Common.{◌≡◌, Bool as Truth, true, ◌&&◌, refl, sym, subst, ℤ}
 use Rattle.std.specs.Prelude.{Option, Some, None, ◌≤ℤ◌, T, IfSome}
+use Rattle.std.proofs.lemmas.Bool.{and_parts}
 use Rattle.std.proofs.lemmas.Int.{ints}
 use Rattle.std.proofs.Common.{arith}
 use lib.Signed.{le_z, le_z_yes}
@@ -43,14 +44,6 @@ widens = each_primitive (λ p. (q : Primitive) → Widens p q)
     (each_primitive (Widens U32) refl refl refl refl refl refl refl refl refl)
     (each_primitive (Widens U64) refl refl refl refl refl refl refl refl refl)
 
-and_left : (a b : Truth) → (a && b) ≡ true → a ≡ true
-and_left true b e = refl
-and_left false b e = e
-
-and_right : (a b : Truth) → (a && b) ≡ true → b ≡ true
-and_right true b e = e
-and_right false b e = cc
-
 le_of_test : (a b : ℤ) → le_z a b ≡ true → a ≤ℤ b
 le_of_test a b e = le_z_yes (subst T (sym e) tt)
 
@@ -58,11 +51,11 @@ le_z_trans : (a b c : ℤ) → a ≤ℤ b → b ≤ℤ c → a ≤ℤ c
 le_z_trans a b c h k = omega (arith, ints)
 
 holds_all : (p r : Primitive) → is_wider p r ≡ true → HoldsAll p r
-holds_all p r e z h = (le_z_trans _ _ _ (le_of_test _ _ (and_left _ _ e)) h.0, le_z_trans _ _ _ h.1 (le_of_test _ _ (and_right _ _ e)))
+holds_all p r e z h = (le_z_trans _ _ _ (le_of_test _ _ (and_parts _ _ e).0) h.0, le_z_trans _ _ _ h.1 (le_of_test _ _ (and_parts _ _ e).1))
 
 both_held : (p q : Primitive) (o : Option Primitive) → is_wider_than_both p q o ≡ true → IfSome o (λ r. HoldsAll p r × HoldsAll q r)
 both_held p q None e = tt
-both_held p q (Some r) e = (holds_all p r (and_left _ _ e), holds_all q r (and_right _ _ e))
+both_held p q (Some r) e = (holds_all p r (and_parts _ _ e).0, holds_all q r (and_parts _ _ e).1)
 
 pub promotion_holds : (p q : Primitive) → IfSome (promotion p q) (λ r. HoldsAll p r × HoldsAll q r)
 promotion_holds p q = both_held p q (promotion p q) (widens p q)

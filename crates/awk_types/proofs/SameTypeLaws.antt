@@ -1,6 +1,7 @@
 -- A test of equality of types is true exactly of equal types.
-use Rattle.std.proofs.Common.{◌≡◌, ◌↔◌, ℕ, Bool as Truth, true, false, ◌==◌, ◌&&◌, refl, sym, ap, ◌∙◌, arith}
+use Rattle.std.proofs.Common.{◌≡◌, ◌↔◌, ℕ, Bool as Truth, true, false, ◌==◌, refl, sym, ap, ◌∙◌, arith}
 use Rattle.std.specs.Prelude.{if◌then◌else◌, IsTrue}
+use Rattle.std.proofs.lemmas.Bool.{and_parts}
 use Rattle.awk_types.specs.declared.primitive.Primitive.{Primitive}
 use Rattle.awk_types.specs.declared.primitive.Primitive.TheVariants.{Bool, I8, I16, I32, I64, U8, U16, U32, U64}
 use Rattle.awk_types.specs.DataType.{DataType, unknown, leaf, var, reg, rec, tup, opt, uni, DataTypes, no_types, type}
@@ -12,14 +13,6 @@ eq_is n m e = grind arith
 
 eq-refl : (n : ℕ) → (n == n) ≡ true
 eq-refl n = grind arith
-
-and_left : (a b : Truth) → (a && b) ≡ true → a ≡ true
-and_left true b e = refl
-and_left false b e = e
-
-and_right : (a b : Truth) → (a && b) ≡ true → b ≡ true
-and_right true b e = e
-and_right false b e = cc
 
 primitive_from : ℕ → Primitive
 primitive_from n = if n == 0 then Bool else if n == 1 then I8 else if n == 2 then I16 else if n == 3 then I32 else if n == 4 then I64 else if n == 5 then U8 else if n == 6 then U16 else if n == 7 then U32 else U64
@@ -37,8 +30,8 @@ mutual
   same_type_is unknown unknown e = refl
   same_type_is (leaf p) (leaf q) e = ap leaf (same_primitive_is p q e)
   same_type_is (var t) (var u) e = ap var (same_type_is t u e)
-  same_type_is (reg n t) (reg m u) e = ap (λ k. reg k t) (eq_is n m (and_left _ _ e)) ∙ ap (reg m) (same_type_is t u (and_right _ _ e))
-  same_type_is (rec ns ts) (rec ms us) e = ap (λ ks. rec ks ts) (same_names_is ns ms (and_left _ _ e)) ∙ ap (rec ms) (same_types_is ts us (and_right _ _ e))
+  same_type_is (reg n t) (reg m u) e = ap (λ k. reg k t) (eq_is n m (and_parts _ _ e).0) ∙ ap (reg m) (same_type_is t u (and_parts _ _ e).1)
+  same_type_is (rec ns ts) (rec ms us) e = ap (λ ks. rec ks ts) (same_names_is ns ms (and_parts _ _ e).0) ∙ ap (rec ms) (same_types_is ts us (and_parts _ _ e).1)
   same_type_is (tup ts) (tup us) e = ap tup (same_types_is ts us e)
   same_type_is (opt t) (opt u) e = ap opt (same_type_is t u e)
   same_type_is (uni ts) (uni us) e = ap uni (same_types_is ts us e)
@@ -46,7 +39,7 @@ mutual
 
   pub same_types_is : (ts us : DataTypes) → same_types ts us ≡ true → ts ≡ us
   same_types_is no_types no_types e = refl
-  same_types_is (type t ts) (type u us) e = ap (λ x. type x ts) (same_type_is t u (and_left _ _ e)) ∙ ap (type u) (same_types_is ts us (and_right _ _ e))
+  same_types_is (type t ts) (type u us) e = ap (λ x. type x ts) (same_type_is t u (and_parts _ _ e).0) ∙ ap (type u) (same_types_is ts us (and_parts _ _ e).1)
   same_types_is ts us e = cc
 
 mutual

@@ -1,6 +1,7 @@
 -- The laws of simplifying.
-use Rattle.std.proofs.Common.{◌≡◌, ℕ, zero, ◌+◌, suc, Bool, List, [], ◌∷◌, ◌++◌, map, refl, ap, arith, length, true, false, ◌||◌, ◌∙◌, sym, subst}
+use Rattle.std.proofs.Common.{◌≡◌, ℕ, zero, ◌+◌, suc, Bool, List, [], ◌∷◌, ◌++◌, map, refl, ap, arith, length, true, false, ◌∙◌, sym, subst}
 use Rattle.std.proofs.lemmas.List.{length-map}
+use Rattle.std.proofs.Math.Bool.{or-true}
 use Rattle.std.specs.List.{list_any, flat_map, AllByRecursion}
 use Rattle.awk_types.specs.DataType.{DataType, unknown, leaf, var, reg, rec, tup, opt, uni, DataTypes, no_types, type, types_from, type_list}
 use Rattle.awk_types.specs.Value.{Value, null, list, row, alt, Values, value_list, values_from}
@@ -154,7 +155,7 @@ null_in_option (rec ns ts) h = absurd h
 null_in_option (tup ts) h = absurd h
 null_in_option (uni ts) h = absurd h
 
--- the alternative that a simple value takes among those that its type present_alternatives
+-- the alternative that a simple value takes among those that its type gives
 abbrev pub inner_tag : Value → ℕ
 inner_tag (alt j v) = j
 inner_tag v = 0
@@ -196,14 +197,10 @@ flat_have [] k w s h e = absurd h
 flat_have (t ∷ ts) zero w s h e = has_at (types_from (present_alternatives t ++ flat_map present_alternatives ts)) (inner_value w) _ _ (omega arith) (has_left (present_alternatives t) (flat_map present_alternatives ts) (inner_tag w) (inner_value w) (present_alternatives_have t w s.0 h e))
 flat_have (t ∷ ts) (suc k) w s h e = has_at (types_from (present_alternatives t ++ flat_map present_alternatives ts)) (inner_value w) _ _ (omega arith) (has_right (present_alternatives t) (flat_map present_alternatives ts) (alternatives_before ts k + inner_tag w) (inner_value w) (flat_have ts k w s.1 h e))
 
-or_true : (b : Bool) → (b || true) ≡ true
-or_true true = refl
-or_true false = refl
-
 null_any : (ts : List DataType) (k : ℕ) → HasAlternative (types_from ts) k null → list_any is_option ts ≡ true
 null_any [] k h = absurd h
 null_any (t ∷ ts) zero h = rw (null_in_option t h)
-null_any (t ∷ ts) (suc k) h = simp (null_any ts k h, or_true)
+null_any (t ∷ ts) (suc k) h = simp (null_any ts k h, or-true)
 
 value_after_alternative : (b : ℕ) (w : Value) → is_null w ≡ false → value_after b w ≡ alt (b + inner_tag w) (inner_value w)
 value_after_alternative b null e = cc
@@ -313,9 +310,6 @@ value_twice t v h = value_stays (simple t) (simple_value t v) (simple_is_simple 
 
 -- ---- composing: a node over parts that are simple already
 
-pub simple_option : (t : DataType) → IsSimple t → simple (opt t) ≡ option_of t
-simple_option t s = ap option_of (simple_stays t s)
-
 pub in_option_stays : (f : Value → Value) (v : Value) → f v ≡ v → in_option f v ≡ v
 in_option_stays f null e = refl
 in_option_stays f v e = e
@@ -345,11 +339,3 @@ union_value_over ts v h = absurd h
 -- a list of values of the whole, once each value is simple in itself
 pub each_twice : (t : DataType) (vs : List Value) → AllByRecursion (Has t) vs → map (simple_value (simple t)) (map (simple_value t) vs) ≡ map (simple_value t) vs
 each_twice t vs h = each_stays (simple t) (simple_value (simple t)) (λ v k. value_stays (simple t) v (simple_is_simple t) k) (map (simple_value t) vs) (has_each t (simple t) (simple_value t) (has_simple t) vs h)
-
--- every way to build a node over parts that some are simple and some are not: both sides have the same simple type
-pub union_of_part : (t u : DataType) (ts : DataTypes) → simple t ≡ simple u → simple (uni (type t ts)) ≡ simple (uni (type u ts))
-union_of_part t u ts e = ap (λ s. union_of (s ∷ simples ts)) e
-
--- ---- limits of the head laws: an option over a simple union, and an alternative that is one
-pub option_of_union : (ts : DataTypes) → ArePlain ts → simple (opt (uni ts)) ≡ opt (uni ts)
-option_of_union ts s = simple_stays (opt (uni ts)) (refl, s)

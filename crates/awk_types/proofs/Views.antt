@@ -1,18 +1,18 @@
 -- The equations of `typ_of` and its like.
-use Rattle.std.proofs.Common.{◌≡◌, ℕ, ◌<◌, List, map, arith, length, slice_get, Some, get_or, refl, sym, ap, ◌∙◌}
-use Rattle.std.specs.Option.{option_map}
+use Rattle.std.proofs.Common.{◌≡◌, ℕ, ◌<◌, List, map, arith, length, slice_get, Some, get_or, sym, ap, ◌∙◌}
 use Rattle.std.proofs.lemmas.List.{length-map}
-use Rattle.std.proofs.lemmas.Option.{slice_get-map, slice_get_read}
-use Rattle.awk_types.specs.DataType.{DataType, tup, uni, rec, types_from}
+use Rattle.awk_types.specs.DataType.{Name, DataType, tup, uni, rec, types_from}
 use Rattle.awk_types.specs.View.{NamedType, names_of, types_of, typ_step, field_step, fields_step, typs_step, typ_of, field_of, fields_of, typs_of}
+use Rattle.awk_types.specs.declared.name.Name.{Name as FieldName}
+use Rattle.awk_types.proofs.ListLaws.{slice_get_of_map}
 use Rattle.awk_types.specs.declared.typ.Typ.{Typ, Tup, Uni, Rec}
 use Rattle.awk_types.specs.declared.typ.Typ.TheVariants.{rolls-Tup, rolls-Uni, rolls-Rec}
 use Rattle.awk_types.specs.declared.typ.Typs.{Typs}
-use Rattle.awk_types.specs.declared.typ.Field.{Field}
+use Rattle.awk_types.specs.declared.typ.Field.{Field, roll-Field}
 use Rattle.awk_types.specs.declared.typ.Fields.{Fields}
 use Rattle.awk_types.specs.declared.typ.Typ.TheOpen.{Typ-F}
 use Rattle.awk_types.specs.declared.typ.Typ.TheViews.{out-Typs, out-Fields}
-use Rattle.awk_types.specs.declared.typ.Typ.TheFolds.{fold-roll-Typ, fold_out-Typs, fold_out-Fields}
+use Rattle.awk_types.specs.declared.typ.Typ.TheFolds.{fold-roll-Typ, fold-roll-Field, fold_out-Typs, fold_out-Fields}
 
 pub typs_out : (ts : Typs) → typs_of ts ≡ map typ_of (out-Typs ts).items.items
 typs_out = fold_out-Typs DataType NamedType (List NamedType) (List DataType) typ_step field_step fields_step typs_step
@@ -30,10 +30,14 @@ typ_of-Uni ts = ap typ_of (sym (rolls-Uni ts)) ∙ fold-roll-Typ DataType NamedT
 pub typ_of-Rec : (fs : Fields) → typ_of (Rec fs) ≡ rec (names_of (fields_of fs)) (types_of (fields_of fs))
 typ_of-Rec fs = ap typ_of (sym (rolls-Rec fs)) ∙ fold-roll-Typ DataType NamedType (List NamedType) (List DataType) typ_step field_step fields_step typs_step (Typ-F.Rec fs)
 
--- the item that `get` reads
-slice_get_of_map : {A B : Type 0} (f : A → B) (xs : List A) (i : ℕ) (x : A) → i < length xs → x ≡ get_or xs i x → slice_get (map f xs) i ≡ Some (f x)
-slice_get_of_map f xs i x within read = slice_get-map f xs i ∙ ap (option_map f) (slice_get_read xs (length xs) i x refl within read)
+-- a field is its name and its type
+abbrev pub named_type : Name → DataType → NamedType
+named_type name typ = record { name = name; typ = typ }
 
+pub field_of-roll : (name : FieldName) (typ : Typ) → field_of (roll-Field (record { name = name; typ = typ })) ≡ named_type name (typ_of typ)
+field_of-roll name typ = fold-roll-Field DataType NamedType (List NamedType) (List DataType) typ_step field_step fields_step typs_step (record { name = name; typ = typ })
+
+-- the item that `get` reads
 pub typs_get : (ts : Typs) (i : ℕ) (x : Typ) → i < length (typs_of ts) → x ≡ get_or ts.items.items i x → slice_get (typs_of ts) i ≡ Some (typ_of x)
 typs_get ts i x within read = rw (typs_out ts) (slice_get_of_map typ_of ts.items.items i x (omega (arith, ap length (typs_out ts), length-map ts.items.items typ_of)) read)
 

@@ -1,5 +1,5 @@
 -- Types: of one value, and of the items of a list.
-use Rattle.std.specs.Prelude.{ℕ, suc, max, List, [], ◌∷◌, sum}
+use Rattle.std.specs.Prelude.{ℕ, suc, max, List, [], ◌∷◌, Option, Some, None, sum}
 use Rattle.awk_types.specs.declared.primitive.Primitive.{Primitive}
 
 -- a name is its bytes
@@ -29,6 +29,11 @@ type_list (type t ts) = t ∷ type_list ts
 abbrev pub types_from : List DataType → DataTypes
 types_from [] = no_types
 types_from (t ∷ ts) = type t (types_from ts)
+
+-- a record, or a tuple where there are no names
+abbrev pub row_type : Option (List Name) → DataTypes → DataType
+row_type None ts = tup ts
+row_type (Some names) ts = rec names ts
 
 -- the greatest of the numbers, or 0
 abbrev pub greatest : List ℕ → ℕ

@@ -12,5 +12,7 @@ pub mod Promotion
 pub mod Limit
 pub mod Gives
 pub mod View
+pub mod Trees
+pub mod TypeCodes
 pub mod Faults
 pub mod Examples

@@ -1,5 +1,6 @@
 -- The limits of a type.
-use Rattle.std.specs.Prelude.{ℕ, max, ◌||◌, nat_lt, List, [], ◌∷◌, length, Option, Some, None, Result, Ok, Err, if◌then◌else◌}
+use Rattle.std.specs.Prelude.{ℕ, max, ◌||◌, nat_lt, List, [], ◌∷◌, length, Option, Some, None, Result, if◌then◌else◌}
+use Rattle.awk_types.specs.Gives.{refused_or}
 use Rattle.awk_types.specs.DataType.{DataType, unknown, leaf, var, reg, rec, tup, opt, uni, DataTypes, no_types, type, greatest, depth, nodes}
 use Rattle.awk_types.specs.declared.limit.TypeFault.{TypeFault}
 use Rattle.awk_types.specs.declared.limit.TypeFault.TheVariants.{Depth, Size, NoMemory}
@@ -27,13 +28,9 @@ pub data Limit : Type 0 where
 abbrev pub limit : DataType → Option Limit
 limit t = if nat_lt 60 (depth t) then Some depth_limit else if nat_lt 65536 (nodes t) || nat_lt 127 (width t) then Some size_limit else None
 
-abbrev pub or_limit : DataType → Option Limit → Result DataType Limit
-or_limit t None = Ok t
-or_limit t (Some l) = Err l
-
 -- a type that passes no limit, or the limit that it passes
 abbrev pub within : DataType → Result DataType Limit
-within t = or_limit t (limit t)
+within t = refused_or (limit t) t
 
 -- the limit that a fault of a call tells; want of memory tells none
 abbrev pub limit_told : TypeFault → Option Limit

@@ -26,6 +26,7 @@ pub enum Fault {
     Lengths,
     /// A place is out of range.
     Index,
+    /// Memory is wanting.
     NoMemory,
 }
 

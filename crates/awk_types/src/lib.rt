@@ -22,6 +22,3 @@ pub use primitive::Primitive as Prim;
 pub use promotion::promote;
 pub use simplify::{opt_of, simple_of, uni_of};
 pub use typ::{Field, Fields, Typ, Typs};
-
-#[cfg(test)]
-mod tests;

@@ -8,6 +8,7 @@ pub enum TypeFault {
     Depth,
     /// It has over 65,536 nodes, or a union of over 127 alternatives.
     Size,
+    /// Memory is wanting.
     NoMemory,
 }
 

@@ -76,7 +76,8 @@ fn simplified_all(alloc: Global, ts: Typs) -> Result<Typs, NoMemory>
 #[cycle(simple)]
 fn simplified_fields(alloc: Global, fields: Fields) -> Result<Fields, NoMemory>
     ensures names { IfOk result (λ s. names_of (fields_of s) ≡ names_of (fields_of fields)) }
-    ensures types { IfOk result (λ s. map (λ f. f.typ) (fields_of s) ≡ simples (types_of (fields_of fields))) }
+    ensures types { let given = simples (types_of (fields_of fields)) in
+        IfOk result (λ s. map (λ f. f.typ) (fields_of s) ≡ given) }
 {
     let mut made = Fields::new(alloc);
     for field in fields.items {
@@ -104,7 +105,8 @@ fn union(alloc: Global, ts: Typs) -> Result<Typ, NoMemory>
 /// Puts what types give to a union at its end, and tells whether one of them was optional.
 #[cycle(simple)]
 fn splice_all(alloc: Global, ts: Typs, made: &mut Typs) -> Result<bool, NoMemory>
-    ensures optional { IfOk result (λ b. b ≡ list_any is_option (simples (types_from (typs_of ts)))) }
+    ensures optional { let simple_ones = simples (types_from (typs_of ts)) in
+        IfOk result (λ b. b ≡ list_any is_option simple_ones) }
     ensures spliced { let given = flat_map present_alternatives (simples (types_from (typs_of ts))) in
         OnOk result (typs_of made.new ≡ typs_of made.old ++ given) }
 {
@@ -158,7 +160,8 @@ pub fn opt_of(alloc: Global, t: Typ) -> Result<Typ, TypeFault>
 /// The union of types, simplified. The types are consumed, on a refusal too.
 pub fn uni_of(alloc: Global, ts: Typs) -> Result<Typ, TypeFault>
     requires { 0 < length (typs_of ts) }
-    ensures gives { Gives typ_of limit_told result (within (simple (uni (types_from (typs_of ts))))) }
+    ensures gives { let whole = uni (types_from (typs_of ts)) in
+        Gives typ_of limit_told result (within (simple whole)) }
     ensures within_limits { IfOk result (λ s. limit (typ_of s) ≡ None) }
     ensures laws { IfOk result (λ s. Simplifies (uni (types_from (typs_of ts))) (typ_of s)) }
 {

@@ -1,8 +1,8 @@
 //! Types as trees.
-ghost use Rattle.std.specs.Prelude.{◌≡◌, ◌<◌, [], ◌∷◌, ◌++◌, length, OnErr, OnOk, slice_get};
-ghost use Rattle.awk_types.specs.View.{Below, FieldBelow, typ_of, field_of, fields_of, typs_of};
+ghost use Rattle.std.specs.Prelude.{◌≡◌, ◌<◌, [], ◌∷◌, ◌++◌, length, map, IfOk, OnErr, OnOk, slice_get};
+ghost use Rattle.awk_types.specs.View.{Below, FieldBelow, names_of, typ_of, field_of, fields_of, typs_of};
 
-use crate::name::{Name, NoMemory};
+use crate::name::{Name, Names, NoMemory};
 use crate::primitive::Primitive;
 use std::alloc::Global;
 
@@ -95,6 +95,21 @@ impl Fields {
         Fields {
             items: Vec::new(alloc),
         }
+    }
+
+    /// The fields with these names, each beside the type at its place.
+    pub fn named(alloc: Global, names: &Names, types: Typs) -> Result<Fields, NoMemory>
+        requires { length names.now ≡ length (typs_of types) }
+        ensures names { IfOk result (λ fields. names_of (fields_of fields) ≡ names.now) }
+        ensures types { let given = typs_of types in
+            IfOk result (λ fields. map (λ f. f.typ) (fields_of fields) ≡ given) }
+    {
+        let mut made = Fields::new(alloc);
+        for typ in types.items {
+            let name = names.get(made.len()).copy(alloc)?;
+            made.push(Field { name, typ })?;
+        }
+        Ok(made)
     }
 
     /// Puts a field at the end.

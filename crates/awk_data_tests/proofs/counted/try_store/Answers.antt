@@ -5,10 +5,10 @@ use Rattle.serde_json.specs.Data.{string, object, Members, no_members, member}
 use Rattle.serde_json.specs.Find.{as_object}
 use Rattle.serde_json.specs.View.{view, members_view}
 use Rattle.serde_json.proofs.OnLiterals.{serde_json_on_literals}
-use Rattle.awk_store.proofs.tests.try_texts.Goals as goal
+use Rattle.awk_data_tests.proofs.counted.try_store.Goals as goal
 
 abbrev sample : Members
-sample = member (codes "a") (string (codes "AA==")) (member (codes "b") (string (codes "AAA")) (member (codes "c") (string (codes "AB==")) (member (codes "d") (string (codes "")) no_members)))
+sample = member (codes "a") (string (codes "AA==")) (member (codes "b") (string (codes "AAA")) no_members)
 
 pub new-store-requires : goal.new-store-requires
 unfolding serde_json_on_literals
@@ -18,4 +18,4 @@ new-store-requires g c =
     ap (option_map (λ m. members_view m.now.entries)) (sym c.expect-buffers.ensures) ∙ c.as_object.ensures
     ∙ ap (option_and_then as_object) (sym read) in
     let same : members_view c.expect-buffers.result.now.entries ≡ sample = cc in
-    rw same (refl, (refl, (refl, (refl, tt))))
+    rw same (refl, (refl, tt))
