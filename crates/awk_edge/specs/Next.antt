@@ -1,5 +1,5 @@
 -- What a call of `Lines::next` does.
-use Rattle.std.specs.Prelude.{◌≡◌, ◌≢◌, ℕ, ◌+◌, ◌<◌, ◌≤◌, true, false, if◌then◌else◌, List, [], ◌∷◌, ◌++◌, length, Option, Some, None, Result, Ok, Err, Vec}
+use Rattle.std.specs.Prelude.{◌≡◌, ◌≢◌, ◌⊎◌, ℕ, ◌+◌, ◌<◌, ◌≤◌, true, false, if◌then◌else◌, List, [], ◌∷◌, ◌++◌, length, Option, Some, None, Result, Ok, Err, Vec}
 use Rattle.std.specs.declared.alloc.Global.{Global}
 use Rattle.std.specs.Io.KnownBytes.{Consumes, IsAtEnd}
 use Rattle.awk_edge.specs.Lines.{Unbroken, lines, line_limit, lines_limit}
@@ -54,20 +54,21 @@ Answers left old new given (Err LineTooLong) = IsTooLong old (old.held ++ given)
 Answers left old new given (Err TooManyLines) = (old.taken ≡ lines_limit) × (old.held ++ given ≢ [])
 Answers left old new given (Err NoMemory) = Unit {0}
 
--- the last read, of at most a buffer, began when all the bytes before it were taken and the line was not whole
-pub record ReadsAtNeed (old : Reading) (given : List ℕ) : Type 0 where
+-- the last read gave the last of the bytes, at most a buffer; it began when all before them were taken and the line was not whole
+pub record ReadsAtNeed (old : Reading) (given : List ℕ) (gave : ℕ) : Type 0 where
   pub before : List ℕ
   pub last : List ℕ
   pub all : given ≡ before ++ last
+  pub count : length last ≡ gave
   pub piece : length last ≤ 4096
   pub unfinished : IsUnfinished old (old.held ++ before)
 
--- the bytes that the source gave in the call, and what it says of them
-pub record NextLine (left0 left1 : Option (List ℕ)) (old new : Reading) (result : Result (Option (Vec ℕ Global)) LineFault) : Type 0 where
+-- the bytes that the source gave in the call, and what it says of them; the source is as it was, or was read last at need
+pub record NextLine {S : Type 0} (left : S → Option (List ℕ)) (gave : S → ℕ) (source0 source1 : S) (old new : Reading) (result : Result (Option (Vec ℕ Global)) LineFault) : Type 0 where
   pub given : List ℕ
-  pub consumes : Consumes left0 left1 given
-  pub answer : Answers left1 old new given result
-  pub need : given ≢ [] → ReadsAtNeed old given
+  pub consumes : Consumes (left source0) (left source1) given
+  pub answer : Answers (left source1) old new given result
+  pub need : ((source1 ≡ source0) × (given ≡ [])) ⊎ ReadsAtNeed old given (gave source1)
 
 -- Where the source tells its bytes: of the lines to come the first is answered, and the others are still to come.
 abbrev pub TakesFirst : Option (List ℕ) → Option (List ℕ) → Reading → Reading → Result (Option (Vec ℕ Global)) LineFault → Type 0

@@ -7,13 +7,13 @@ use Rattle.awk_edge.specs.declared.lines.LineFault.{LineFault}
 use Rattle.awk_edge.specs.declared.lines.LineFault.TheVariants.{Read, NoMemory, LineTooLong, TooManyLines}
 
 -- bytes are held now, of one read where none were held, or the source has no more
-pub record Fills (left0 left1 : Option (List ℕ)) (old new : Reading) (more : Bool) : Type 0 where
+pub record Fills {S : Type 0} (left : S → Option (List ℕ)) (gave : S → ℕ) (source0 source1 : S) (old new : Reading) (more : Bool) : Type 0 where
   pub given : List ℕ
-  pub consumes : Consumes left0 left1 given
+  pub consumes : Consumes (left source0) (left source1) given
   pub held : new.held ≡ old.held ++ given
-  pub read : (given ≡ []) ⊎ ((old.held ≡ []) × (length given ≤ 4096))
+  pub read : ((source1 ≡ source0) × (given ≡ [])) ⊎ ((old.held ≡ []) × (length given ≡ gave source1) × (length given ≤ 4096))
   pub some : more ≡ true → new.held ≢ []
-  pub none : more ≡ false → (new.held ≡ []) × IsAtEnd left1
+  pub none : more ≡ false → (new.held ≡ []) × IsAtEnd (left source1)
   pub is_ended : new.is_ended ≡ not more
   pub taken : new.taken ≡ old.taken
   pub is_open : new.is_open ≡ old.is_open

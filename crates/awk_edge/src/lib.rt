@@ -6,8 +6,6 @@ mod memory;
 mod output;
 mod standard;
 mod streams;
-#[cfg(test)]
-mod tests;
 
 pub use lines::{LineFault, Lines};
 pub use memory::{MemSink, MemSource};

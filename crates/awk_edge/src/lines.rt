@@ -1,6 +1,7 @@
 // The lines of a source, one after another.
-ghost use Rattle.std.specs.Prelude.{◌≡◌, ◌⊎◌, ◌++◌, Ok, None, [], IfErr, position, ◌≤◌, ◌<◌, ◌+◌, ◌==◌, ℕ, IsTrue, IsFalse, IfOk, OnOk, OnErr, length, true, false, is_ok};
+ghost use Rattle.std.specs.Prelude.{◌≡◌, ◌⊎◌, ◌++◌, Ok, None, [], IfErr, ◌≤◌, ◌<◌, ◌+◌, ℕ, IsTrue, IsFalse, IfOk, OnOk, OnErr, length, true, false, is_ok};
 ghost use Rattle.std.specs.Io.KnownBytes.{Keeps};
+ghost use Rattle.memchr.specs.Find.{IsFirstByte, is_byte};
 ghost use Rattle.awk_edge.specs.Causes.{HasCause, Rose};
 ghost use Rattle.awk_edge.specs.Lines.{line_limit, lines_limit};
 ghost use Rattle.awk_edge.specs.Next.{NextLine, TakesFirst, IsUnfinished};
@@ -8,6 +9,7 @@ ghost use Rattle.awk_edge.specs.Reading.{Reading};
 ghost use Rattle.awk_edge.specs.Turn.{Fills, TakesPiece, Overflows, IsPieceFault};
 
 use crate::{Failed, Source};
+use memchr::memchr;
 use std::alloc::Global;
 use std::marker::Model;
 use thiserror::Error;
@@ -100,7 +102,7 @@ impl Lines {
         requires open { IsTrue self.old.is_open }
 
         // The answer is told by the bytes held and those that the source gave.
-        ensures line { NextLine (S.left source.old) (S.left source.new) self.old self.new result }
+        ensures line { NextLine S.left S.gave source.old source.new self.old self.new result }
         ensures first { IsFalse self.old.is_ended →
             TakesFirst (S.left source.old) (S.left source.new) self.old self.new result }
 
@@ -131,7 +133,7 @@ impl Lines {
         source: &mut S,
     ) -> Result<Option<Vec<u8>>, LineFault>
         requires open { IsTrue self.old.is_open }
-        ensures line { NextLine (S.left source.old) (S.left source.new) self.old self.new result }
+        ensures line { NextLine S.left S.gave source.old source.new self.old self.new result }
         ensures ready { IsUnfinished self.old self.old.held ⊎ (source.new ≡ source.old) }
         ensures ended { IsTrue self.old.is_ended →
             (result ≡ Ok None) × (source.new ≡ source.old) × (self.new ≡ self.old) }
@@ -199,8 +201,9 @@ impl Lines {
     fn fill<S: Source>(&mut self, source: &mut S) -> Result<bool, Failed>
         requires open { self.old.is_ended ≡ false }
         ensures fills { IfOk result (λ more.
-            Fills (S.left source.old) (S.left source.new) self.old self.new more) }
+            Fills S.left S.gave source.old source.new self.old self.new more) }
         ensures bytes { OnErr result (Keeps (S.left source.old) (S.left source.new)) }
+        ensures gave { OnErr result (S.gave source.new ≡ 0) }
         ensures held { OnErr result (self.old.held ≡ []) }
         ensures ready { (self.old.held ≡ []) ⊎ (source.new ≡ source.old) }
         ensures cause { HasCause (S.faults source.old) (S.faults source.new) result }
@@ -250,9 +253,9 @@ impl Lines {
 
 // Where the first line end stands.
 fn line_end_at(bytes: &[u8]) -> Option<usize>
-    ensures { result ≡ position (λ b. b == 10) bytes.now }
+    ensures { IsFirstByte (is_byte 10) bytes.now result }
 {
-    bytes.iter().position(|b| *b == b'\n')
+    memchr(b'\n', bytes)
 }
 
 // Adds a piece to a line, if the line is not too long then.

@@ -1,8 +1,9 @@
 -- Texts put one after another, and texts with a comma between each two.
-use Rattle.std.proofs.Common.{◌≡◌, ℕ, List, [], ◌∷◌, ◌++◌, codes, Option, Ok, Err, Result, refl, sym, ap, ◌∙◌, append_assoc, append-nil}
+use Rattle.std.proofs.Common.{◌≡◌, ◌==◌, ◌<◌, ◌≤◌, ℕ, suc, ◌+◌, ◌-◌, true, false, List, [], ◌∷◌, ◌++◌, map, codes, Option, Ok, Err, Result, refl, sym, ap, ◌∙◌, subst, arith, append_assoc, append-nil}
+use Rattle.std.specs.List.{range_with_len}
 use Rattle.awk_edge.specs.Pending.{Pending}
 use Rattle.awk_edge.specs.Put.{Moves}
-use Rattle.awk_json.specs.Text.{comma_joined}
+use Rattle.awk_json.specs.Text.{comma_joined, comma_before}
 use Rattle.awk_json.proofs.Puts.{stops, goes}
 
 -- ---- a text of two parts
@@ -16,6 +17,11 @@ stops_at held first more m failed = stops m failed more (sym (append_assoc held 
 pub goes_to : {written0 written1 written2 : Option (List ℕ)} {mid new : Pending} {E F : Type 0} {u : Unit {0}} {r : Result (Unit {0}) F} (held first more : List ℕ)
     → Moves {E = E} written0 written1 mid (held ++ first) (Ok u) → Moves {E = F} written1 written2 new (mid.held ++ more) r → Moves {E = F} written0 written2 new (held ++ (first ++ more)) r
 goes_to held first more m n = goes m n more refl (sym (append_assoc held first more))
+
+-- a text that is put, told in another way
+pub puts_same : {written0 written1 : Option (List ℕ)} {new : Pending} {E : Type 0} {r : Result (Unit {0}) E} (held : List ℕ) {whole text : List ℕ}
+    → whole ≡ text → Moves {E = E} written0 written1 new (held ++ text) r → Moves {E = E} written0 written1 new (held ++ whole) r
+puts_same {written0 = written0} {written1 = written1} {new = new} {E = E} {r = r} held e m = subst (λ t. Moves {E = E} written0 written1 new (held ++ t) r) (sym e) m
 
 -- ---- texts with a comma between each two
 
@@ -78,3 +84,19 @@ pub joins_last : {written0 written1 written2 : Option (List ℕ)} {mid new : Pen
     → Joins written0 written1 mid E held whole separator left close → left ≡ []
     → Moves {E = F} written1 written2 new (mid.held ++ close) r → Moves {E = F} written0 written2 new (held ++ whole) r
 joins_last {held = held} {close = close} j is m = rw (j.all, is) (goes_to held j.done close j.put m)
+
+-- ---- the texts of the places from j to a stop, in a loop that began at a first place
+
+-- the next one, and nothing after the last
+pub texts_left : (f : ℕ → List ℕ) (j stop : ℕ) → j < stop → map f (range_with_len j (stop - j)) ≡ f j ∷ map f (range_with_len (j + 1) (stop - (j + 1)))
+texts_left f j stop below = let more : stop - j ≡ suc (stop - (j + 1)) = omega arith in ap (λ n. map f (range_with_len j n)) more
+
+pub texts_none : (f : ℕ → List ℕ) (j stop : ℕ) → stop ≤ j → map f (range_with_len j (stop - j)) ≡ []
+texts_none f j stop past = let none : stop - j ≡ 0 = omega arith in ap (λ n. map f (range_with_len j n)) none
+
+-- no comma stands before the first of them, and one before each later one
+pub comma_at_first : (first : ℕ) → comma_before (first == first) ≡ []
+comma_at_first first = let same : (first == first) ≡ true = grind arith in ap comma_before same
+
+pub comma_later : (first j : ℕ) → first ≤ j → comma_before (j + 1 == first) ≡ codes ","
+comma_later first j later = let other : (j + 1 == first) ≡ false = grind arith in ap comma_before other

@@ -1,15 +1,12 @@
 -- No piece of a JSON text holds a byte that ends a line.
-use Rattle.std.proofs.Common.{◌≡◌, ◌≢◌, ◌<◌, ℕ, ◌^◌, ◌+◌, ◌/◌, ◌%◌, ◌==◌, ◌&&◌, Bool, true, false, cond, not, List, [], ◌∷◌, ◌++◌, codes, arith, refl, true≢false, decimal, sym, ap, ◌∙◌}
+use Rattle.std.proofs.Common.{◌≡◌, ◌≢◌, ℕ, zero, suc, ℤ, pos, negsuc, ◌/◌, ◌%◌, ◌==◌, ◌&&◌, Bool, true, false, cond, not, List, [], ◌∷◌, ◌++◌, codes, arith, refl, true≢false, decimal, sym, ap, ◌∙◌}
 use Rattle.std.proofs.lemmas.Bool.{eqb-false}
 use Rattle.std.proofs.lemmas.Bool.Decides.{nat_tests}
-use Rattle.std.proofs.lemmas.Fmt.{decimal_by_steps}
+use Rattle.std.specs.Fmt.{digits, digits_onto, digit_glyph, signed_decimal}
 use Rattle.std.specs.List.{AllByRecursion, list_all}
 use Rattle.awk_edge.specs.Lines.{Unbroken}
-use Rattle.awk_json.specs.Text.{hex_digit, is_special, escape, escaped, escaped_all, quoted, comma_joined}
-
-pub unbroken-append : (xs ys : List ℕ) → Unbroken xs → Unbroken ys → Unbroken (xs ++ ys)
-unbroken-append [] ys p q = q
-unbroken-append (x ∷ xs) ys p q = (p.0, unbroken-append xs ys p.1 q)
+use Rattle.awk_edge.proofs.LineLaws.{Unbroken-append}
+use Rattle.awk_json.specs.Text.{hex_digit, is_special, escape, escaped, escaped_all, quoted, comma_joined, list_text, truth_text}
 
 first_passes : (x : ℕ) (t u : Bool) → (x == 10) ≡ t → (not t && u) ≡ true → (x ≢ 10) × (u ≡ true)
 first_passes x true u e h = absurd (true≢false (sym h))
@@ -30,7 +27,7 @@ either false xs ys p q = q
 
 -- the text of a byte without a short escape
 code-unbroken : (b : ℕ) → Unbroken (codes "\\u00" ++ hex_digit (b / 16) ∷ hex_digit (b % 16) ∷ [])
-code-unbroken b = unbroken-append (codes "\\u00") (hex_digit (b / 16) ∷ hex_digit (b % 16) ∷ []) (literal-unbroken (codes "\\u00") refl) (hex_digit-unbroken (b / 16), (hex_digit-unbroken (b % 16), tt))
+code-unbroken b = Unbroken-append (codes "\\u00") (hex_digit (b / 16) ∷ hex_digit (b % 16) ∷ []) (literal-unbroken (codes "\\u00") refl) (hex_digit-unbroken (b / 16), (hex_digit-unbroken (b % 16), tt))
 
 escape-unbroken : (b : ℕ) → Unbroken (escape b)
 escape-unbroken b =
@@ -48,23 +45,42 @@ escaped-unbroken b false plain = ((λ e. absurd (true≢false (ap is_special (sy
 
 escaped_all-unbroken : (bytes : List ℕ) → Unbroken (escaped_all bytes)
 escaped_all-unbroken [] = tt
-escaped_all-unbroken (b ∷ bytes) = unbroken-append (escaped b) (escaped_all bytes) (escaped-unbroken b (is_special b) refl) (escaped_all-unbroken bytes)
+escaped_all-unbroken (b ∷ bytes) = Unbroken-append (escaped b) (escaped_all bytes) (escaped-unbroken b (is_special b) refl) (escaped_all-unbroken bytes)
 
 pub quoted-unbroken : (bytes : List ℕ) → Unbroken (quoted bytes)
 quoted-unbroken bytes =
     let quote = literal-unbroken (codes "\"") refl in
-    unbroken-append (codes "\"" ++ escaped_all bytes) (codes "\"") (unbroken-append (codes "\"") (escaped_all bytes) quote (escaped_all-unbroken bytes)) quote
+    Unbroken-append (codes "\"" ++ escaped_all bytes) (codes "\"") (Unbroken-append (codes "\"") (escaped_all bytes) quote (escaped_all-unbroken bytes)) quote
 
 pub comma_joined-unbroken : (pieces : List (List ℕ)) → AllByRecursion Unbroken pieces → Unbroken (comma_joined pieces)
 comma_joined-unbroken [] h = tt
 comma_joined-unbroken (first ∷ []) h = h.0
 comma_joined-unbroken (first ∷ second ∷ others) h =
-    unbroken-append (first ++ codes ",") (comma_joined (second ∷ others)) (unbroken-append first (codes ",") h.0 (literal-unbroken (codes ",") refl)) (comma_joined-unbroken (second ∷ others) h.1)
+    Unbroken-append (first ++ codes ",") (comma_joined (second ∷ others)) (Unbroken-append first (codes ",") h.0 (literal-unbroken (codes ",") refl)) (comma_joined-unbroken (second ∷ others) h.1)
 
--- a digit
-digit-unbroken : (d : ℕ) → 48 + d ≢ 10
-digit-unbroken d e = omega arith
+pub list_text-unbroken : (texts : List (List ℕ)) → AllByRecursion Unbroken texts → Unbroken (list_text texts)
+list_text-unbroken texts h =
+    Unbroken-append (codes "[") (comma_joined texts ++ codes "]") (literal-unbroken (codes "[") refl) (Unbroken-append (comma_joined texts) (codes "]") (comma_joined-unbroken texts h) (literal-unbroken (codes "]") refl))
 
-pub decimal-unbroken : (n : ℕ) → n < 2 ^ 64 → Unbroken (decimal n)
-decimal-unbroken =
-    decimal_by_steps (λ _. Unbroken) (λ n h. (digit-unbroken n, tt)) (λ n ds h u. unbroken-append ds ((48 + n % 10) ∷ []) u (digit-unbroken (n % 10), tt))
+pub truth_text-unbroken : (b : Bool) → Unbroken (truth_text b)
+truth_text-unbroken true = literal-unbroken (codes "true") refl
+truth_text-unbroken false = literal-unbroken (codes "false") refl
+
+-- ---- numbers
+
+glyph-unbroken : (d : ℕ) → digit_glyph false d ≢ 10
+glyph-unbroken d = grind (arith, nat_tests)
+
+digits_onto-unbroken : (k n : ℕ) (behind : List ℕ) → Unbroken behind → Unbroken (digits_onto k 10 false n behind)
+digits_onto-unbroken zero n behind u = u
+digits_onto-unbroken (suc k) n behind u =
+    let more : Unbroken (digit_glyph false (n % 10) ∷ behind) = (glyph-unbroken (n % 10), u) in
+    either (n / 10 == 0) (digit_glyph false (n % 10) ∷ behind) _ more (digits_onto-unbroken k (n / 10) (digit_glyph false (n % 10) ∷ behind) more)
+
+pub decimal-unbroken : (n : ℕ) → Unbroken (decimal n)
+unfolding digits
+decimal-unbroken n = digits_onto-unbroken 64 n [] tt
+
+pub signed_decimal-unbroken : (z : ℤ) → Unbroken (signed_decimal z)
+signed_decimal-unbroken (pos n) = decimal-unbroken n
+signed_decimal-unbroken (negsuc n) = ((λ e. absurd (cc)), decimal-unbroken (suc n))

@@ -1,23 +1,11 @@
 -- Several texts put one after another.
-use Rattle.std.proofs.Common.{◌≡◌, ◌<◌, ◌+◌, ℕ, List, ◌++◌, length, get_or, drop, Bor, Option, Ok, Err, Result, sym, ap, ◌∙◌, subst, append_assoc}
+use Rattle.std.proofs.Common.{◌≡◌, ◌<◌, ◌+◌, ℕ, List, ◌++◌, length, get_or, drop, Bor, Option, Ok, Result, sym, ap, ◌∙◌, subst}
 use Rattle.std.proofs.lemmas.List.{drop_more}
 use Rattle.std.specs.List.{flat_map}
 use Rattle.awk_edge.specs.Pending.{Pending}
 use Rattle.awk_edge.specs.Put.{Moves}
 use Rattle.awk_edge.proofs.Puts.{moved_on}
-
--- the sink failed in the midst of a part, and so in the midst of the whole
-pub stops : {written0 written1 : Option (List ℕ)} {new : Pending} {E F : Type 0} {e : E} {f : F} {r : Result (Unit {0}) F} {whole part : List ℕ}
-    → Moves {E = E} written0 written1 new part (Err e) → r ≡ Err f → (more : List ℕ) → whole ≡ part ++ more → Moves {E = F} written0 written1 new whole r
-stops {written0 = written0} {written1 = written1} {new = new} {F = F} {whole = whole} m failed more e =
-    subst (λ r. Moves {E = F} written0 written1 new whole r) (sym failed) (record {
-      gone = m.gone;
-      rest = m.rest ++ more;
-      appends = m.appends;
-      all = e ∙ ap (λ z. z ++ more) m.all ∙ append_assoc m.gone m.rest more;
-      held = tt;
-      is_open = m.is_open;
-    })
+pub use Rattle.awk_edge.proofs.Puts.{stops}
 
 -- a part was put, and then more
 pub goes : {written0 written1 written2 : Option (List ℕ)} {mid new : Pending} {E F : Type 0} {u : Unit {0}} {r : Result (Unit {0}) F} {whole part next : List ℕ}

@@ -1,5 +1,5 @@
 -- JSON texts: escaped and in quotes.
-use Rattle.std.specs.Prelude.{◌≡◌, ℕ, ◌+◌, ◌/◌, ◌%◌, ◌||◌, ◌==◌, nat_lt, Bool, List, [], ◌∷◌, ◌++◌, if◌then◌else◌, codes, refl}
+use Rattle.std.specs.Prelude.{◌≡◌, ℕ, ◌+◌, ◌/◌, ◌%◌, ◌||◌, ◌==◌, nat_lt, Bool, true, false, List, [], ◌∷◌, ◌++◌, if◌then◌else◌, codes, refl}
 
 -- a digit of a hexadecimal number, in lower case
 abbrev pub hex_digit : ℕ → ℕ
@@ -39,6 +39,18 @@ comma_joined [] = []
 comma_joined (first ∷ []) = first
 comma_joined (first ∷ second ∷ others) = first ++ codes "," ++ comma_joined (second ∷ others)
 
+-- texts in brackets, with a comma between each two
+abbrev pub list_text : List (List ℕ) → List ℕ
+list_text texts = codes "[" ++ (comma_joined texts ++ codes "]")
+
+-- what stands before a text of a list: a comma, unless it is the first
+abbrev pub comma_before : Bool → List ℕ
+comma_before is_first = if is_first then [] else codes ","
+
+abbrev pub truth_text : Bool → List ℕ
+truth_text true = codes "true"
+truth_text false = codes "false"
+
 -- ---- worked examples
 
 plain_text : quoted (codes "pt_1") ≡ codes "\"pt_1\""
@@ -56,3 +68,9 @@ other_bytes = refl
 
 three_pieces : comma_joined (codes "a" ∷ [] ∷ codes "b" ∷ []) ≡ codes "a,,b"
 three_pieces = refl
+
+list_of_two : list_text (codes "1" ∷ codes "null" ∷ []) ≡ codes "[1,null]"
+list_of_two = refl
+
+empty_list : list_text [] ≡ codes "[]"
+empty_list = refl

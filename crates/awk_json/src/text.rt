@@ -3,7 +3,7 @@ ghost use Rattle.std.specs.Prelude.{◌≡◌, ◌<◌, ◌++◌, IsTrue, decima
 ghost use Rattle.std.specs.List.{flat_map};
 ghost use Rattle.awk_edge.specs.Causes.{HasCause};
 ghost use Rattle.awk_edge.specs.Put.{Moves};
-ghost use Rattle.awk_json.specs.Text.{hex_digit, is_special as special, escape, escaped_all, quoted};
+ghost use Rattle.awk_json.specs.Text.{hex_digit, is_special as special, escape, escaped_all, quoted, comma_before};
 
 use awk_edge::{Out, Sink, WriteFault};
 use itoa::Buffer;
@@ -11,7 +11,8 @@ use itoa::Buffer;
 /// Puts a text in quotes, each special byte escaped.
 pub fn write_text<K: Sink>(out: &mut Out, sink: &mut K, text: &str) -> Result<(), WriteFault>
     requires open { IsTrue out.old.is_open }
-    ensures bytes { Moves (K.written sink.old) (K.written sink.new) out.new (out.old.held ++ quoted text.now) result }
+    ensures bytes { Moves (K.written sink.old) (K.written sink.new) out.new
+        (out.old.held ++ quoted text.now) result }
     ensures flushes { K.flushes sink.new ≡ K.flushes sink.old }
     ensures cause { HasCause (K.faults sink.old) (K.faults sink.new) result }
 {
@@ -23,7 +24,8 @@ pub fn write_text<K: Sink>(out: &mut Out, sink: &mut K, text: &str) -> Result<()
 /// Puts texts one after another, as they stand.
 pub fn write_pieces<K: Sink>(out: &mut Out, sink: &mut K, pieces: &[&str]) -> Result<(), WriteFault>
     requires open { IsTrue out.old.is_open }
-    ensures bytes { Moves (K.written sink.old) (K.written sink.new) out.new (out.old.held ++ flat_map (λ piece. piece.now) pieces.now) result }
+    ensures bytes { Moves (K.written sink.old) (K.written sink.new) out.new
+        (out.old.held ++ flat_map (λ piece. piece.now) pieces.now) result }
     ensures flushes { K.flushes sink.new ≡ K.flushes sink.old }
     ensures cause { HasCause (K.faults sink.old) (K.faults sink.new) result }
 {
@@ -36,7 +38,8 @@ pub fn write_pieces<K: Sink>(out: &mut Out, sink: &mut K, pieces: &[&str]) -> Re
 /// Puts a number in decimal digits.
 pub fn write_number<K: Sink>(out: &mut Out, sink: &mut K, n: u64) -> Result<(), WriteFault>
     requires open { IsTrue out.old.is_open }
-    ensures bytes { Moves (K.written sink.old) (K.written sink.new) out.new (out.old.held ++ decimal n) result }
+    ensures bytes { Moves (K.written sink.old) (K.written sink.new) out.new
+        (out.old.held ++ decimal n) result }
     ensures flushes { K.flushes sink.new ≡ K.flushes sink.old }
     ensures cause { HasCause (K.faults sink.old) (K.faults sink.new) result }
 {
@@ -44,10 +47,22 @@ pub fn write_number<K: Sink>(out: &mut Out, sink: &mut K, n: u64) -> Result<(), 
     out.put(sink, digits.format(n).as_bytes())
 }
 
+/// Puts a comma, unless it is before the first text of a list.
+pub fn write_comma<K: Sink>(out: &mut Out, sink: &mut K, is_first: bool) -> Result<(), WriteFault>
+    requires open { IsTrue out.old.is_open }
+    ensures bytes { Moves (K.written sink.old) (K.written sink.new) out.new
+        (out.old.held ++ comma_before is_first) result }
+    ensures flushes { K.flushes sink.new ≡ K.flushes sink.old }
+    ensures cause { HasCause (K.faults sink.old) (K.faults sink.new) result }
+{
+    out.put(sink, if is_first { b"" } else { b"," })
+}
+
 // Puts bytes, each special one escaped, and those between in one piece.
 fn write_escaped<K: Sink>(out: &mut Out, sink: &mut K, bytes: &[u8]) -> Result<(), WriteFault>
     requires open { IsTrue out.old.is_open }
-    ensures bytes { Moves (K.written sink.old) (K.written sink.new) out.new (out.old.held ++ escaped_all bytes.now) result }
+    ensures bytes { Moves (K.written sink.old) (K.written sink.new) out.new
+        (out.old.held ++ escaped_all bytes.now) result }
     ensures flushes { K.flushes sink.new ≡ K.flushes sink.old }
     ensures cause { HasCause (K.faults sink.old) (K.faults sink.new) result }
 {
@@ -72,7 +87,8 @@ fn is_special(byte: u8) -> bool
 fn write_escape<K: Sink>(out: &mut Out, sink: &mut K, byte: u8) -> Result<(), WriteFault>
     requires open { IsTrue out.old.is_open }
     requires special { IsTrue (special byte) }
-    ensures bytes { Moves (K.written sink.old) (K.written sink.new) out.new (out.old.held ++ escape byte) result }
+    ensures bytes { Moves (K.written sink.old) (K.written sink.new) out.new
+        (out.old.held ++ escape byte) result }
     ensures flushes { K.flushes sink.new ≡ K.flushes sink.old }
     ensures cause { HasCause (K.faults sink.old) (K.faults sink.new) result }
 {
@@ -101,36 +117,5 @@ fn hex(digit: u8) -> u8
         b'0' + digit
     } else {
         b'a' + (digit - 10)
-    }
-}
-
-#[cfg(test)]
-mod tests {
-    use super::*;
-    use awk_edge::MemSink;
-    use std::test::Fail;
-
-    #[test]
-    fn special_bytes_are_escaped(rt: HostRuntime) -> Result<(), Fail> {
-        let mut sink = MemSink::new(rt.alloc(), 100, 4096, &[])?;
-        let mut out = Out::new();
-        write_text(&mut out, &mut sink, "a\"\\\n\u{1f}\u{7f}é")?;
-        out.flush(&mut sink)?;
-        assert_eq!(rt; sink.written(), "\"a\\\"\\\\\\n\\u001f\u{7f}é\"".as_bytes());
-        Ok(())
-    }
-
-    #[test]
-    fn pieces_and_numbers_stand_one_after_another(rt: HostRuntime) -> Result<(), Fail> {
-        let mut sink = MemSink::new(rt.alloc(), 100, 3, &[])?;
-        let mut out = Out::new();
-        write_pieces(&mut out, &mut sink, &["{\"length\":", "", " "])?;
-        write_number(&mut out, &mut sink, u64::MAX)?;
-        out.flush(&mut sink)?;
-        assert_eq!(rt;
-            sink.written(),
-            b"{\"length\": 18446744073709551615".as_slice()
-        );
-        Ok(())
     }
 }
