@@ -1,10 +1,10 @@
 -- The type of a valid layout is a type.
 use Rattle.std.proofs.Common.{◌≡◌, List, Option, Some, None, arith, sym, ◌∙◌, refl}
-use Rattle.awk_types.specs.DataType.{Name}
+use Rattle.awk_types.specs.DataType.{Name, row_type}
 use Rattle.awk_types.specs.IsType.{IsType, AreTypes, count as type_count}
 use Rattle.awk_layout.specs.Layout.{Layout, Layouts, count, empty, flat, regular, lists, offset_lists, rows, indexed, optional, byte_masked, bit_masked, unmasked, union, no_layouts, layout}
 use Rattle.awk_layout.specs.Valid.{IsValid, AllValid, AreNames}
-use Rattle.awk_layout.specs.Typing.{layout_type, layout_types, row_type}
+use Rattle.awk_layout.specs.Typing.{layout_type, layout_types}
 
 count-layout_types : (xs : Layouts) → type_count (layout_types xs) ≡ count xs
 count-layout_types no_layouts = refl

@@ -1,2 +1,4 @@
 pub mod ContentTypes
 pub mod LayoutTypes
+pub mod Runs
+pub mod TypedItems

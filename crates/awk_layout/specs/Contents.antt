@@ -3,6 +3,7 @@ use Rattle.std.specs.Prelude.{◌≡◌, ℕ, zero, suc, ◌≤◌, List, [], �
 use Rattle.std.proofs.Common.{arith}
 use Rattle.awk_layout.specs.Layout.{Layout, layouts_from, count, weight, weights, height, heights}
 use Rattle.awk_layout.specs.Valid.{len, IsValid, AllValid, AllReach}
+use Rattle.awk_layout.specs.Numbered.{IsNumbered, AreNumbered}
 use Rattle.awk_layout.specs.Place.{nth}
 
 pub count-layouts_from : (xs : List Layout) → count (layouts_from xs) ≡ length xs
@@ -18,11 +19,6 @@ pub AllValid-append : (xs : List Layout) (y : Layout) → AllValid (layouts_from
 AllValid-append [] y h v = (v, tt)
 AllValid-append (x ∷ xs) y h v = (h.0, AllValid-append xs y h.1 v)
 
-pub AllValid-get : (xs : List Layout) (k : ℕ) (y : Layout) → slice_get xs k ≡ Some y → AllValid (layouts_from xs) → IsValid y
-AllValid-get [] k y e h = cc
-AllValid-get (x ∷ xs) zero y e h = let f : x ≡ y = cc in rw (← f) h.0
-AllValid-get (x ∷ xs) (suc k) y e h = AllValid-get xs k y e h.1
-
 pub AllReach-get : (n : ℕ) (xs : List Layout) (k : ℕ) (y : Layout) → slice_get xs k ≡ Some y → AllReach n (layouts_from xs) → n ≤ len y
 AllReach-get n [] k y e h = cc
 AllReach-get n (x ∷ xs) zero y e h = let f : x ≡ y = cc in rw (← f) h.0
@@ -37,3 +33,7 @@ pub weight-get : (xs : List Layout) (k : ℕ) (y : Layout) → slice_get xs k �
 weight-get [] k y e = cc
 weight-get (x ∷ xs) zero y e = let f : x ≡ y = cc in rw (← f) (omega arith)
 weight-get (x ∷ xs) (suc k) y e = omega (arith, weight-get xs k y e)
+
+pub AreNumbered-append : (xs : List Layout) (y : Layout) → AreNumbered (layouts_from xs) → IsNumbered y → AreNumbered (layouts_from (xs ++ y ∷ []))
+AreNumbered-append [] y h v = (v, tt)
+AreNumbered-append (x ∷ xs) y h v = (h.0, AreNumbered-append xs y h.1 v)

@@ -48,68 +48,76 @@ abbrev pub count : Layouts → ℕ
 count no_layouts = 0
 count (layout x xs) = count xs + 1
 
--- the number of nodes
-abbrev mutual
-  pub weight : Layout → ℕ
-  weight empty = 1
-  weight (flat c) = 1
-  weight (regular size n x) = weight x + 1
-  weight (lists s t x) = weight x + 1
-  weight (offset_lists o x) = weight x + 1
-  weight (rows names n xs) = weights xs + 1
-  weight (indexed j x) = weight x + 1
-  weight (optional j x) = weight x + 1
-  weight (byte_masked m v x) = weight x + 1
-  weight (bit_masked m v x) = weight x + 1
-  weight (unmasked n x) = weight x + 1
-  weight (union t j xs) = weights xs + 1
+-- the layouts directly below
+abbrev pub contents_of : Layout → Layouts
+contents_of empty = no_layouts
+contents_of (flat c) = no_layouts
+contents_of (regular size n x) = layout x no_layouts
+contents_of (lists s t x) = layout x no_layouts
+contents_of (offset_lists o x) = layout x no_layouts
+contents_of (rows names n xs) = xs
+contents_of (indexed j x) = layout x no_layouts
+contents_of (optional j x) = layout x no_layouts
+contents_of (byte_masked m v x) = layout x no_layouts
+contents_of (bit_masked m v x) = layout x no_layouts
+contents_of (unmasked n x) = layout x no_layouts
+contents_of (union t j xs) = xs
 
-  -- of all together
-  pub weights : Layouts → ℕ
-  weights no_layouts = 0
-  weights (layout x xs) = weight x + weights xs
+-- What a node gives: `own` makes it of the node and of what its contents give. One content gives its own, several give
+-- theirs joined in order, with `none` at the end.
+module _ {ℓ} {A : Type ℓ} (none : A) (join : A → A → A) (own : Layout → A → A) where
+  abbrev mutual
+    pub fold : Layout → A
+    fold empty = own empty none
+    fold (flat c) = own (flat c) none
+    fold (regular size n x) = own (regular size n x) (fold x)
+    fold (lists s t x) = own (lists s t x) (fold x)
+    fold (offset_lists o x) = own (offset_lists o x) (fold x)
+    fold (rows names n xs) = own (rows names n xs) (folds xs)
+    fold (indexed j x) = own (indexed j x) (fold x)
+    fold (optional j x) = own (optional j x) (fold x)
+    fold (byte_masked m v x) = own (byte_masked m v x) (fold x)
+    fold (bit_masked m v x) = own (bit_masked m v x) (fold x)
+    fold (unmasked n x) = own (unmasked n x) (fold x)
+    fold (union t j xs) = own (union t j xs) (folds xs)
+
+    pub folds : Layouts → A
+    folds no_layouts = none
+    folds (layout x xs) = join (fold x) (folds xs)
+
+-- one for itself, beside its contents
+abbrev pub one_more : Layout → ℕ → ℕ
+one_more x n = n + 1
+
+-- the number of nodes
+abbrev pub weight : Layout → ℕ
+weight = fold 0 ◌+◌ one_more
+
+-- of all together
+abbrev pub weights : Layouts → ℕ
+weights = folds 0 ◌+◌ one_more
 
 -- the number of nodes on the longest path
-abbrev mutual
-  pub height : Layout → ℕ
-  height empty = 1
-  height (flat c) = 1
-  height (regular size n x) = height x + 1
-  height (lists s t x) = height x + 1
-  height (offset_lists o x) = height x + 1
-  height (rows names n xs) = heights xs + 1
-  height (indexed j x) = height x + 1
-  height (optional j x) = height x + 1
-  height (byte_masked m v x) = height x + 1
-  height (bit_masked m v x) = height x + 1
-  height (unmasked n x) = height x + 1
-  height (union t j xs) = heights xs + 1
+abbrev pub height : Layout → ℕ
+height = fold 0 max one_more
 
-  -- the greatest of them, or 0
-  pub heights : Layouts → ℕ
-  heights no_layouts = 0
-  heights (layout x xs) = max (height x) (heights xs)
+-- the greatest of them, or 0
+abbrev pub heights : Layouts → ℕ
+heights = folds 0 max one_more
 
 abbrev pub is_rows : Layout → Bool
 is_rows (rows names n xs) = true
 is_rows x = false
 
--- the number of nodes without the IndexedArrays that stand directly over a RecordArray
-abbrev mutual
-  pub held : Layout → ℕ
-  held empty = 1
-  held (flat c) = 1
-  held (regular size n x) = held x + 1
-  held (lists s t x) = held x + 1
-  held (offset_lists o x) = held x + 1
-  held (rows names n xs) = held_all xs + 1
-  held (indexed j x) = held x + (if is_rows x then 0 else 1)
-  held (optional j x) = held x + 1
-  held (byte_masked m v x) = held x + 1
-  held (bit_masked m v x) = held x + 1
-  held (unmasked n x) = held x + 1
-  held (union t j xs) = held_all xs + 1
+-- one for itself, unless it is an IndexedArray directly over a RecordArray
+abbrev pub itself_held : Layout → ℕ → ℕ
+itself_held (indexed j x) n = n + (if is_rows x then 0 else 1)
+itself_held x n = n + 1
 
-  pub held_all : Layouts → ℕ
-  held_all no_layouts = 0
-  held_all (layout x xs) = held x + held_all xs
+-- the number of nodes without the IndexedArrays that stand directly over a RecordArray
+abbrev pub held : Layout → ℕ
+held = fold 0 ◌+◌ itself_held
+
+-- of all together
+abbrev pub held_all : Layouts → ℕ
+held_all = folds 0 ◌+◌ itself_held

@@ -1,6 +1,9 @@
 pub mod Layout
+pub mod Induction
+pub mod Kinds
 pub mod Code
 pub mod Valid
+pub mod Numbered
 pub mod Item
 pub mod Place
 pub mod Laws

@@ -1,31 +1,11 @@
 -- The type of a layout, and the simple type and items of an array of it.
-use Rattle.std.specs.Prelude.{List, Option, Some, None, map}
-use Rattle.awk_types.specs.declared.primitive.Primitive.{Primitive}
-use Rattle.awk_types.specs.declared.primitive.Primitive.TheVariants as Primitives
-use Rattle.awk_types.specs.DataType.{Name, DataType, DataTypes, unknown, leaf, var, reg, rec, tup, opt, uni, no_types, type}
+use Rattle.std.specs.Prelude.{List, map}
+use Rattle.awk_types.specs.DataType.{DataType, DataTypes, unknown, leaf, var, reg, opt, uni, row_type, no_types, type}
 use Rattle.awk_types.specs.Value.{Value}
 use Rattle.awk_types.specs.Simple.{simple, simple_value}
-use Rattle.awk_lanes.specs.declared.kind.Kind.{Kind}
-use Rattle.awk_lanes.specs.declared.kind.Kind.TheVariants.{Bool as Truths, I8, I16, I32, I64, U8, U16, U32, U64}
+use Rattle.awk_layout.specs.Kinds.{primitive_of}
 use Rattle.awk_layout.specs.Layout.{Layout, Layouts, empty, flat, regular, lists, offset_lists, rows, indexed, optional, byte_masked, bit_masked, unmasked, union, no_layouts, layout}
 use Rattle.awk_layout.specs.Item.{items}
-
--- the primitive that numbers of a kind are of
-abbrev pub primitive_of : Kind → Primitive
-primitive_of Truths = Primitives.Bool
-primitive_of I8 = Primitives.I8
-primitive_of I16 = Primitives.I16
-primitive_of I32 = Primitives.I32
-primitive_of I64 = Primitives.I64
-primitive_of U8 = Primitives.U8
-primitive_of U16 = Primitives.U16
-primitive_of U32 = Primitives.U32
-primitive_of U64 = Primitives.U64
-
--- a record, or a tuple where there are no names
-abbrev pub row_type : Option (List Name) → DataTypes → DataType
-row_type None ts = tup ts
-row_type (Some names) ts = rec names ts
 
 abbrev mutual
   pub layout_type : Layout → DataType

@@ -1,5 +1,5 @@
 -- The definitions on small layouts, each with the items and the type that it must have.
-use Rattle.std.specs.Prelude.{◌≡◌, ℕ, zero, suc, ◌<◌, ◌≤ℤ◌, ◌<ℤ◌, List, [], ◌∷◌, Some, None, true, false, ℤ, pos, negsuc, refl}
+use Rattle.std.specs.Prelude.{◌≡◌, ℕ, zero, suc, ◌<◌, ◌≤◌, ◌≤ℤ◌, ◌<ℤ◌, List, [], ◌∷◌, Some, None, true, false, ℤ, pos, negsuc, refl}
 use Rattle.std.proofs.Common.{arith}
 use Rattle.std.proofs.lemmas.Int.{ints}
 use Rattle.awk_types.specs.declared.primitive.Primitive.TheVariants as Primitives
@@ -9,7 +9,8 @@ use Rattle.awk_lanes.specs.declared.kind.Kind.TheVariants.{Bool as Truths, I8, I
 use Rattle.awk_lanes.specs.Column.{Column}
 use Rattle.awk_lanes.specs.Bits.{bits}
 use Rattle.awk_lanes.specs.Places.{at}
-use Rattle.awk_layout.specs.Layout.{Layout, held, weight, height, empty, flat, regular, lists, offset_lists, rows, indexed, optional, byte_masked, bit_masked, union, no_layouts, layout}
+use Rattle.awk_layout.specs.Layout.{Layout, Layouts, contents_of, held, weight, weights, height, heights, empty, flat, regular, lists, offset_lists, rows, indexed, optional, byte_masked, bit_masked, union, no_layouts, layout}
+use Rattle.awk_layout.specs.Induction.{AllOf, by_contents, weight-contents, height-contents}
 use Rattle.awk_layout.specs.Valid.{IsValid}
 use Rattle.awk_layout.specs.Place.{case_of, span}
 use Rattle.awk_layout.specs.Typing.{array_type, array_items}
@@ -132,3 +133,13 @@ picked = indexed (int64s []) (indexed (int64s []) (rows None 0 (layout (indexed 
 
 picked-counts : (weight picked ≡ 5) × (height picked ≡ 5) × (held picked ≡ 4)
 picked-counts = (refl, refl, refl)
+
+-- no path has more nodes than there are: one step for all classes
+heights_within : (xs : Layouts) → AllOf (λ x. height x ≤ weight x) xs → heights xs ≤ weights xs
+heights_within no_layouts h = omega arith
+heights_within (layout x xs) h = omega (arith, h.0, heights_within xs h.1)
+
+pub height-weight : (x : Layout) → height x ≤ weight x
+height-weight =
+    by_contents (λ x. height x ≤ weight x)
+    (λ x h. omega (arith, weight-contents x, height-contents x, heights_within (contents_of x) h))

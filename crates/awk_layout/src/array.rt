@@ -1,10 +1,13 @@
 //! Arrays: nodes with their simple types.
-ghost use Rattle.std.specs.Prelude.{◌≡◌, ◌<◌, ◌++◌, ◌∷◌, [], length, slice_get, Some, IfOk, OnOk, OnErr};
+ghost use Rattle.std.specs.Prelude.{◌≡◌, ◌<◌, ◌++◌, ◌∷◌, [], length, slice_get};
+ghost use Rattle.std.specs.Prelude.{Some, IfOk, OnOk, OnErr};
+ghost use Rattle.std.specs.List.{AllByRecursion};
 ghost use Rattle.awk_types.specs.Gives.{Gives};
+ghost use Rattle.awk_types.specs.Has.{Has};
 ghost use Rattle.awk_types.specs.Limit.{limit_told};
 ghost use Rattle.awk_types.specs.View.{typ_of};
-ghost use Rattle.awk_layout.specs.Array.{array_of, IsArrayType};
-ghost use Rattle.awk_layout.specs.Typing.{array_type};
+ghost use Rattle.awk_layout.specs.Array.{array_of, IsArrayType, IsTypeOf};
+ghost use Rattle.awk_layout.specs.Typing.{array_type, array_items};
 ghost use Rattle.awk_layout.specs.Valid.{len, IsValid};
 
 use crate::node::Node;
@@ -46,6 +49,15 @@ impl<'a> Array<'a> {
         Ok(Array { node, typ })
     }
 
+    /// The array of a node whose simple type is at hand.
+    pub fn with_type(node: Node<'a>, typ: Typ) -> Array<'a>
+        requires { IsTypeOf (typ_of typ) node }
+        ensures { result ≡ node.entry }
+    {
+        Array { node, typ }
+    }
+
+    /// The node.
     pub fn node(&self) -> &Node<'a>
         ensures { result.now ≡ self.now }
     {
@@ -56,6 +68,7 @@ impl<'a> Array<'a> {
     pub fn len(&self) -> u64
         ensures len { result ≡ len self.now }
         ensures valid { IsValid self.now }
+        ensures items { AllByRecursion (Has (array_type self.now)) (array_items self.now) }
     {
         self.node.len()
     }

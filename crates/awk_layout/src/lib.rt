@@ -11,7 +11,4 @@ pub use datum::{Datum, Datums, Operand, Operands};
 pub use node::class::Class;
 pub use node::place::Place;
 pub use node::{Node, Nodes};
-pub use typing::prim_of;
-
-#[cfg(test)]
-mod tests;
+pub use typing::{kind_of, prim_of};

@@ -1,5 +1,6 @@
 //! Nodes: layouts that own their contents and borrow their lanes.
 ghost use Rattle.std.specs.Prelude.{◌≡◌, ◌<◌, ◌++◌, ◌∷◌, [], length, slice_get, Some, OnOk, OnErr};
+ghost use Rattle.awk_layout.specs.Numbered.{IsNumbered};
 ghost use Rattle.awk_layout.specs.Valid.{len, IsValid};
 
 use awk_lanes::{Bits, Lane};
@@ -12,8 +13,8 @@ mod copy;
 mod new;
 pub mod place;
 
-/// A node of a layout. It is valid whatever made it: its lanes are long enough, of an allowed kind, and name only
-/// places, tags and lists that its contents have, and so are its contents.
+/// A node of a layout. It is valid whatever made it: its lanes are long enough, of an allowed kind,
+/// and name only places, tags and lists that its contents have, and so are its contents.
 #[cycle(node)]
 #[derive(Drop)]
 pub struct Node<'a> {
@@ -55,10 +56,12 @@ impl<'a> Model for Node<'a> {
 
     ghost use Rattle.awk_layout.specs.Inner.{layout_of_inner};
     ghost use Rattle.awk_layout.specs.Valid.{IsValid};
+    ghost use Rattle.awk_layout.specs.Numbered.{IsNumbered};
 
     ghost view = { λ a. layout_of_inner a.inner };
 
-    ghost invariant = { λ a. IsValid (layout_of_inner a.inner) };
+    ghost invariant = { λ a.
+        IsValid (layout_of_inner a.inner) × IsNumbered (layout_of_inner a.inner) };
 
     ghost size = { λ x. 2 * height x };
 
@@ -78,10 +81,12 @@ impl<'a> Model for Nodes<'a> {
     ghost coded = { coded_list coded_layout };
 
     ghost use Rattle.awk_layout.specs.Valid.{AllValid};
+    ghost use Rattle.awk_layout.specs.Numbered.{AreNumbered};
 
     ghost view = { λ a. a.nodes.items };
 
-    ghost invariant = { λ a. AllValid (layouts_from a.nodes.items) };
+    ghost invariant = { λ a.
+        AllValid (layouts_from a.nodes.items) × AreNumbered (layouts_from a.nodes.items) };
 
     ghost size = { λ xs. 2 * heights (layouts_from xs) + 1 };
 
@@ -95,6 +100,7 @@ impl<'a> Node<'a> {
     pub fn len(&self) -> u64
         ensures len { result ≡ len self.now }
         ensures valid { IsValid self.now }
+        ensures numbered { IsNumbered self.now }
     {
         match &self.inner {
             Inner::Empty => 0,

@@ -1,13 +1,14 @@
 //! The types of nodes, before they are simplified.
-ghost use Rattle.std.specs.Prelude.{◌≡◌, length, map, IfOk};
+ghost use Rattle.std.specs.Prelude.{◌≡◌, map, IfOk};
 ghost use Rattle.awk_types.specs.IsType.{IsType};
-ghost use Rattle.awk_types.specs.View.{names_of, typ_of, fields_of, typs_of};
-ghost use Rattle.awk_layout.specs.Typing.{primitive_of, layout_type};
+ghost use Rattle.awk_types.specs.View.{typ_of, typs_of};
+ghost use Rattle.awk_layout.specs.Kinds.{primitive_of, kind_of};
+ghost use Rattle.awk_layout.specs.Typing.{layout_type};
 
 use crate::node::class::Class;
 use crate::node::{Node, Nodes};
 use awk_lanes::Kind;
-use awk_types::{Field, Fields, Names, NoMemory, Prim, Typ, Typs};
+use awk_types::{Fields, NoMemory, Prim, Typ, Typs};
 use std::alloc::Global;
 
 /// The primitive that numbers of a kind are of.
@@ -24,6 +25,23 @@ pub fn prim_of(kind: Kind) -> Prim
         Kind::U16 => Prim::U16,
         Kind::U32 => Prim::U32,
         Kind::U64 => Prim::U64,
+    }
+}
+
+/// The kind that numbers of a primitive have.
+pub fn kind_of(prim: Prim) -> Kind
+    ensures { result ≡ kind_of prim }
+{
+    match prim {
+        Prim::Bool => Kind::Bool,
+        Prim::I8 => Kind::I8,
+        Prim::I16 => Kind::I16,
+        Prim::I32 => Kind::I32,
+        Prim::I64 => Kind::I64,
+        Prim::U8 => Kind::U8,
+        Prim::U16 => Kind::U16,
+        Prim::U32 => Kind::U32,
+        Prim::U64 => Kind::U64,
     }
 }
 
@@ -44,7 +62,7 @@ pub(crate) fn type_of(alloc: Global, x: &Node) -> Result<Typ, NoMemory>
         Class::Row {
             names: Some(names),
             contents,
-        } => Ok(Typ::Rec(record_fields(alloc, names, contents)?)),
+        } => Ok(Typ::Rec(Fields::named(alloc, names, types_of(alloc, contents)?)?)),
         Class::Row {
             names: None,
             contents,
@@ -76,23 +94,6 @@ fn types_of(alloc: Global, contents: &Nodes) -> Result<Typs, NoMemory>
     let mut made = Typs::new(alloc);
     for i in 0..contents.len() {
         made.push(type_of(alloc, contents.get(i))?)?;
-    }
-    Ok(made)
-}
-
-/// The fields of a record with these names and contents.
-#[cycle(typing)]
-#[tactic(auto, using(crate::proofs::ContentTypes::contents))]
-fn record_fields(alloc: Global, names: &Names, contents: &Nodes) -> Result<Fields, NoMemory>
-    requires { length names.now ≡ length contents.now }
-    ensures names { IfOk result (λ fields. names_of (fields_of fields) ≡ names.now) }
-    ensures types { IfOk result (λ fields. map (λ f. f.typ) (fields_of fields) ≡ map layout_type contents.now) }
-{
-    let mut made = Fields::new(alloc);
-    for i in 0..contents.len() {
-        let name = names.get(i).copy(alloc)?;
-        let typ = type_of(alloc, contents.get(i))?;
-        made.push(Field { name, typ })?;
     }
     Ok(made)
 }

@@ -2,22 +2,25 @@
 use Rattle.std.proofs.Common.{◌≡◌, ℕ, zero, suc, ◌+◌, ◌-◌, ◌*◌, ◌<◌, ◌≤◌, ◌==◌, Bool, true, false, List, [], ◌∷◌, ◌++◌, length, codes, decimal, map, get_or, Option, Some, None, if◌then◌else◌, refl, ap, sym, ◌∙◌, subst, arith}
 use Rattle.std.specs.List.{range_with_len}
 use Rattle.std.specs.Ordering.{int_eq}
-use Rattle.awk_types.specs.DataType.{Name, DataType, var, reg, opt}
+use Rattle.awk_types.specs.DataType.{Name, DataType, var, reg, opt, row_type}
+use Rattle.awk_types.specs.Has.{Has}
 use Rattle.awk_types.specs.Value.{Value, null, row, value_list}
-use Rattle.awk_json.specs.Text.{quoted, comma_joined}
+use Rattle.awk_json.specs.Text.{quoted, comma_joined, list_text}
 use Rattle.awk_layout.specs.Layout.{Layout, Layouts, layout_list, count, empty, flat, regular, lists, offset_lists, rows, indexed, optional, byte_masked, bit_masked, unmasked, union, no_layouts, layout}
 use Rattle.awk_layout.specs.Valid.{len, len_of, IsValid, AreNames}
 use Rattle.awk_layout.specs.Item.{item, items_across, item_of, run, byte_shows, bit_shows}
 use Rattle.awk_layout.specs.Place.{span, missing, through, case_of, value_of, through_option, nth, IsWithin}
 use Rattle.awk_layout.specs.Laws.{item-case_of, case_of-within}
-use Rattle.awk_layout.specs.Typing.{layout_type, layout_types, row_type}
+use Rattle.awk_layout.specs.Typing.{layout_type, layout_types}
+use Rattle.awk_layout.specs.Numbered.{IsNumbered}
 use Rattle.awk_lanes.specs.Numbers.{nat_of}
 use Rattle.awk_lanes.specs.Places.{at, place_at, option_place_at}
-use Rattle.awk_text.specs.ValueText.{Text, is_null, list_text, value_text, row_texts, alternative_text, members, place_names}
+use Rattle.awk_text.specs.ValueText.{Text, is_null, value_text, row_texts, alternative_text, members, place_names}
 use Rattle.awk_text.specs.LayoutText.{layout_text, row_text, member_text, field_name, case_text}
-use Rattle.awk_text.proofs.Shaped.{IsShaped}
-use Rattle.awk_text.proofs.LayoutShapes.{item_shaped}
-use Rattle.awk_text.proofs.Ranges.{map-map, value_list-run, map-shift, map-range_same}
+use Rattle.awk_layout.proofs.TypedItems.{item_has}
+use Rattle.std.proofs.lemmas.Simd.{map-map}
+use Rattle.awk_layout.proofs.Runs.{value_list-run}
+use Rattle.awk_text.proofs.Ranges.{map-shift, map-range_same}
 
 -- ---- lists
 
@@ -31,7 +34,7 @@ between_case y false lo hi = run_text (layout_type y) y lo (hi - lo)
 -- ---- options
 
 -- null is shown alike with its option and without
-null_shown : (t : DataType) (v : Value) → IsShaped t v → value_text (opt t) v ≡ value_text t v
+null_shown : (t : DataType) (v : Value) → Has t v → value_text (opt t) v ≡ value_text t v
 null_shown (opt t) v h = same_twice (is_null v) (value_text t v)
   where
     same_twice : (b : Bool) (text : Text) → (if b then codes "null" else (if b then codes "null" else text)) ≡ (if b then codes "null" else text)
@@ -40,11 +43,11 @@ null_shown (opt t) v h = same_twice (is_null v) (value_text t v)
 null_shown t null h = absurd h
 null_shown t v h = refl
 
-option_case : (h : ℕ) (y : Layout) (o : Option ℕ) → ((k : ℕ) → k < len y → IsShaped (layout_type y) (item y k)) → IsWithin h (through_option y o) → value_text (opt (layout_type y)) (value_of (through_option y o)) ≡ case_text (through_option y o)
+option_case : (h : ℕ) (y : Layout) (o : Option ℕ) → ((k : ℕ) → k < len y → Has (layout_type y) (item y k)) → IsWithin h (through_option y o) → value_text (opt (layout_type y)) (value_of (through_option y o)) ≡ case_text (through_option y o)
 option_case h y None each w = refl
 option_case h y (Some k) each w = null_shown (layout_type y) (item y k) (each k w.0)
 
-mask_case : (h : ℕ) (y : Layout) (i : ℕ) (b : Bool) → ((k : ℕ) → k < len y → IsShaped (layout_type y) (item y k)) → IsWithin h (if b then through y i else missing) → value_text (opt (layout_type y)) (value_of (if b then through y i else missing)) ≡ case_text (if b then through y i else missing)
+mask_case : (h : ℕ) (y : Layout) (i : ℕ) (b : Bool) → ((k : ℕ) → k < len y → Has (layout_type y) (item y k)) → IsWithin h (if b then through y i else missing) → value_text (opt (layout_type y)) (value_of (if b then through y i else missing)) ≡ case_text (if b then through y i else missing)
 mask_case h y i true each w = null_shown (layout_type y) (item y i) (each i w.0)
 mask_case h y i false each w = refl
 
@@ -100,9 +103,9 @@ members_case names ns xs i enough named =
 
 row_case : (names : Option (List Name)) (xs : Layouts) (i : ℕ) → AreNames names (count xs) → value_text (row_type names (layout_types xs)) (row (items_across xs i)) ≡ row_text names (layout_list xs) i
 row_case None xs i h =
-    ap (λ z. codes "{" ++ comma_joined z ++ codes "}") (members_case None (place_names 0 (layout_types xs)) xs i (omega (arith, length-place_names 0 xs))
+    ap (λ z. codes "{" ++ (comma_joined z ++ codes "}")) (members_case None (place_names 0 (layout_types xs)) xs i (omega (arith, length-place_names 0 xs))
     (λ k p. let e : 0 + k ≡ k = omega arith in place_names-at 0 xs k p ∙ ap decimal e))
-row_case (Some names) xs i h = ap (λ z. codes "{" ++ comma_joined z ++ codes "}") (members_case (Some names) names xs i (omega (arith, h.0, length-layout_list xs)) (λ k p. refl))
+row_case (Some names) xs i h = ap (λ z. codes "{" ++ (comma_joined z ++ codes "}")) (members_case (Some names) names xs i (omega (arith, h.0, length-layout_list xs)) (λ k p. refl))
 
 -- ---- each class
 
@@ -113,19 +116,19 @@ block_case : (n : ℕ) (y : Layout) (e : Bool) (lo hi : ℕ) → value_text (reg
 block_case n y true lo hi = run_text (layout_type y) y 0 0
 block_case n y false lo hi = run_text (layout_type y) y lo (hi - lo)
 
-pub layout_text-case : (x : Layout) (i : ℕ) → IsValid x → i < len x → layout_text x i ≡ case_text (case_of x i)
-layout_text-case empty i v p = refl
-layout_text-case (flat c) i v p = refl
-layout_text-case (regular size n x) i v p = by_value (regular size n x) i (reg size (layout_type x)) refl (block_case size x (size == 0) (i * size) (i * size + size))
-layout_text-case (lists s t x) i v p = by_value (lists s t x) i (var (layout_type x)) refl (between_case x (int_eq (at s i) (at t i)) (nat_of (at s i)) (nat_of (at t i)))
-layout_text-case (offset_lists o x) i v p = by_value (offset_lists o x) i (var (layout_type x)) refl (between_case x (int_eq (at o i) (at o (i + 1))) (nat_of (at o i)) (nat_of (at o (i + 1))))
-layout_text-case (rows names n xs) i v p = row_case names xs i v.1
-layout_text-case (indexed j x) i v p = refl
-layout_text-case (optional j x) i v p =
-    by_value (optional j x) i (opt (layout_type x)) refl (option_case _ x (option_place_at j i) (λ k q. item_shaped x k v.2 q) (case_of-within (optional j x) i v p))
-layout_text-case (byte_masked m b x) i v p =
-    by_value (byte_masked m b x) i (opt (layout_type x)) refl (mask_case _ x i (byte_shows m b i) (λ k q. item_shaped x k v.2 q) (case_of-within (byte_masked m b x) i v p))
-layout_text-case (bit_masked m b x) i v p =
-    by_value (bit_masked m b x) i (opt (layout_type x)) refl (mask_case _ x i (bit_shows m b i) (λ k q. item_shaped x k v.2 q) (case_of-within (bit_masked m b x) i v p))
-layout_text-case (unmasked n x) i v p = null_shown (layout_type x) (item x i) (item_shaped x i v.2 (omega (arith, v.1)))
-layout_text-case (union t j xs) i v p = alternative_case xs (place_at t i) (place_at j i) ((v.1.places i p).1)
+pub layout_text-case : (x : Layout) (i : ℕ) → IsValid x → IsNumbered x → i < len x → layout_text x i ≡ case_text (case_of x i)
+layout_text-case empty i v w p = refl
+layout_text-case (flat c) i v w p = refl
+layout_text-case (regular size n x) i v w p = by_value (regular size n x) i (reg size (layout_type x)) refl (block_case size x (size == 0) (i * size) (i * size + size))
+layout_text-case (lists s t x) i v w p = by_value (lists s t x) i (var (layout_type x)) refl (between_case x (int_eq (at s i) (at t i)) (nat_of (at s i)) (nat_of (at t i)))
+layout_text-case (offset_lists o x) i v w p = by_value (offset_lists o x) i (var (layout_type x)) refl (between_case x (int_eq (at o i) (at o (i + 1))) (nat_of (at o i)) (nat_of (at o (i + 1))))
+layout_text-case (rows names n xs) i v w p = row_case names xs i v.1
+layout_text-case (indexed j x) i v w p = refl
+layout_text-case (optional j x) i v w p =
+    by_value (optional j x) i (opt (layout_type x)) refl (option_case _ x (option_place_at j i) (λ k q. item_has x k v.2 w q) (case_of-within (optional j x) i v p))
+layout_text-case (byte_masked m b x) i v w p =
+    by_value (byte_masked m b x) i (opt (layout_type x)) refl (mask_case _ x i (byte_shows m b i) (λ k q. item_has x k v.2 w q) (case_of-within (byte_masked m b x) i v p))
+layout_text-case (bit_masked m b x) i v w p =
+    by_value (bit_masked m b x) i (opt (layout_type x)) refl (mask_case _ x i (bit_shows m b i) (λ k q. item_has x k v.2 w q) (case_of-within (bit_masked m b x) i v p))
+layout_text-case (unmasked n x) i v w p = null_shown (layout_type x) (item x i) (item_has x i v.2 w (omega (arith, v.1)))
+layout_text-case (union t j xs) i v w p = alternative_case xs (place_at t i) (place_at j i) ((v.1.places i p).1)

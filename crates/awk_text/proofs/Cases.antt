@@ -1,41 +1,38 @@
 -- What a case of a valid layout has: names for its fields.
-use Rattle.std.proofs.Common.{◌≡◌, ℕ, ◌+◌, ◌*◌, ◌<◌, ◌==◌, Bool, true, false, List, [], ◌∷◌, Option, Some, None, length, if◌then◌else◌, subst, refl, ap, sym, ◌∙◌, arith}
+use Rattle.std.proofs.Common.{◌≡◌, ℕ, ◌+◌, ◌*◌, ◌<◌, ◌==◌, Bool, true, false, List, [], ◌∷◌, ◌++◌, ◌-◌, map, codes, Option, Some, None, length, if◌then◌else◌, subst, refl, ap, sym, ◌∙◌, arith}
+use Rattle.std.specs.List.{range_with_len}
 use Rattle.std.specs.Ordering.{int_eq}
 use Rattle.awk_types.specs.DataType.{Name}
 use Rattle.awk_lanes.specs.Numbers.{nat_of}
 use Rattle.awk_lanes.specs.Places.{at, option_place_at}
-use Rattle.awk_layout.specs.Layout.{Layout, layout_list, layouts_from, count, height, empty, flat, regular, lists, offset_lists, rows, indexed, optional, byte_masked, bit_masked, unmasked, union}
+use Rattle.awk_json.specs.Text.{comma_joined}
+use Rattle.awk_layout.specs.Layout.{Layout, layout_list, layouts_from, count, empty, flat, regular, lists, offset_lists, rows, indexed, optional, byte_masked, bit_masked, unmasked, union}
 use Rattle.awk_layout.specs.Valid.{len, IsValid, AreNames}
+use Rattle.awk_layout.specs.Numbered.{IsNumbered}
 use Rattle.awk_layout.specs.Item.{byte_shows, bit_shows}
 use Rattle.awk_layout.specs.Contents.{count-layouts_from}
 use Rattle.awk_layout.specs.Place.{Case, span, across, missing, through, case_of, through_option}
-use Rattle.awk_text.specs.LayoutText.{AreNamed, layout_text, row_text, case_text}
+use Rattle.awk_text.specs.LayoutText.{AreNamed, layout_text, row_text, member_text, case_text}
 use Rattle.awk_text.proofs.CaseTexts.{layout_text-case}
-
-pub height_some : (x : Layout) → 0 < height x
-height_some empty = omega arith
-height_some (flat c) = omega arith
-height_some (regular size n x) = omega arith
-height_some (lists s t x) = omega arith
-height_some (offset_lists o x) = omega arith
-height_some (rows names n xs) = omega arith
-height_some (indexed j x) = omega arith
-height_some (optional j x) = omega arith
-height_some (byte_masked m v x) = omega arith
-height_some (bit_masked m v x) = omega arith
-height_some (unmasked n x) = omega arith
-height_some (union t j xs) = omega arith
+use Rattle.awk_text.proofs.Places.{texts_from}
 
 layout_list-from : (xs : List Layout) → layout_list (layouts_from xs) ≡ xs
 layout_list-from [] = refl
 layout_list-from (x ∷ xs) = ap (λ ys. x ∷ ys) (layout_list-from xs)
 
 -- the text of an item, by what its place was found to be
-pub item_text-case : (x : Layout) (i : ℕ) (c : Case) → IsValid x → i < len x → c ≡ case_of x i → layout_text x i ≡ case_text c
-item_text-case x i c v p e = layout_text-case x i v p ∙ ap case_text (sym e)
+pub item_text-case : (x : Layout) (i : ℕ) (c : Case) → IsValid x → IsNumbered x → i < len x → c ≡ case_of x i → layout_text x i ≡ case_text c
+item_text-case x i c v w p e = layout_text-case x i v w p ∙ ap case_text (sym e)
 
-pub item_text-row : (x : Layout) (i : ℕ) (names : Option (List Name)) (xs : List Layout) (k : ℕ) → IsValid x → i < len x → across names (layouts_from xs) k ≡ case_of x i → layout_text x i ≡ row_text names xs k
-item_text-row x i names xs k v p e = item_text-case x i (across names (layouts_from xs) k) v p e ∙ ap (λ ys. row_text names ys k) (layout_list-from xs)
+pub item_text-row : (x : Layout) (i : ℕ) (names : Option (List Name)) (xs : List Layout) (k : ℕ) → IsValid x → IsNumbered x → i < len x → across names (layouts_from xs) k ≡ case_of x i → layout_text x i ≡ row_text names xs k
+item_text-row x i names xs k v w p e = item_text-case x i (across names (layouts_from xs) k) v w p e ∙ ap (λ ys. row_text names ys k) (layout_list-from xs)
+
+-- a row by the texts of its places
+pub row_text-places : (names : Option (List Name)) (xs : List Layout) (i : ℕ)
+    → row_text names xs i ≡ codes "{" ++ (comma_joined (texts_from (member_text names xs i) 0 (length xs)) ++ codes "}")
+row_text-places names xs i =
+    let all : length xs ≡ length xs - 0 = omega arith in
+    ap (λ n. codes "{" ++ (comma_joined (map (member_text names xs i) (range_with_len 0 n)) ++ codes "}")) all
 
 -- a row has a name for each field
 abbrev IsNamed : Case → Type 0

@@ -2,10 +2,11 @@
 use Rattle.std.proofs.Common.{ℕ, zero, suc, ◌/◌, ◌%◌, ◌<◌, ◌==◌, Bool, true, false, List, [], ◌∷◌, length, decimal, pos, negsuc, ℤ, if◌then◌else◌, arith}
 use Rattle.std.specs.Fmt.{digits, digits_onto, digit_glyph}
 use Rattle.std.specs.Fmt.{signed_decimal}
+use Rattle.awk_json.specs.Text.{truth_text}
 use Rattle.awk_types.specs.DataType.{DataType, unknown, leaf, var, reg, rec, tup, opt, uni, DataTypes, no_types, type}
 use Rattle.awk_types.specs.Value.{Value, int, truth, null, alt}
-use Rattle.awk_text.specs.ValueText.{truth_text, leaf_text, value_text, alternative_text}
-use Rattle.awk_text.proofs.Shaped.{IsShaped, IsAlternative}
+use Rattle.awk_text.specs.ValueText.{leaf_text, value_text, alternative_text}
+use Rattle.awk_types.specs.Has.{Has, HasAlternative}
 
 either_some : (t : Bool) (xs ys : List ℕ) → 0 < length xs → 0 < length ys → 0 < length (if t then xs else ys)
 either_some true xs ys h k = h
@@ -38,7 +39,7 @@ leaf_some (truth b) = truth_some b
 leaf_some v = omega arith
 
 mutual
-  pub text_some : (t : DataType) (v : Value) → IsShaped t v → 0 < length (value_text t v)
+  pub text_some : (t : DataType) (v : Value) → Has t v → 0 < length (value_text t v)
   text_some unknown v h = absurd h
   text_some (leaf p) v h = leaf_some v
   text_some (var t) v h = omega arith
@@ -50,7 +51,7 @@ mutual
   text_some (uni ts) (alt k v) h = alternative_some ts k v h
   text_some (uni ts) v h = absurd h
 
-  pub alternative_some : (ts : DataTypes) (k : ℕ) (v : Value) → IsAlternative ts k v → 0 < length (alternative_text ts k v)
+  pub alternative_some : (ts : DataTypes) (k : ℕ) (v : Value) → HasAlternative ts k v → 0 < length (alternative_text ts k v)
   alternative_some no_types k v h = absurd h
   alternative_some (type t ts) zero v h = text_some t v h
   alternative_some (type t ts) (suc k) v h = alternative_some ts k v h

@@ -1,13 +1,10 @@
-pub mod Shaped
 pub mod Unions
 pub mod SimpleTexts
-pub mod LayoutShapes
 pub mod Lengths
 pub mod Ranges
 pub mod CaseTexts
-pub mod Joined
 pub mod ArrayTexts
 pub mod Costs
-pub mod Parts
+pub mod Places
 pub mod Cases
 pub mod NumberTexts

@@ -2,19 +2,20 @@
 use Rattle.std.proofs.Common.{◌≡◌, ℕ, zero, suc, Bool, true, false, List, [], ◌∷◌, codes, decimal, map, refl, ap, ◌∙◌, subst, arith}
 use Rattle.std.specs.List.{AllByRecursion}
 use Rattle.awk_types.specs.DataType.{DataType, unknown, leaf, var, reg, rec, tup, opt, uni, DataTypes, no_types, type, types_from}
+use Rattle.awk_json.specs.Text.{list_text}
 use Rattle.awk_types.specs.Value.{Value, Values, int, truth, null, list, row, alt, value_list, values_from}
 use Rattle.awk_types.specs.Simple.{is_option, option_of, simple, simples, simple_value, simple_values, values_by, value_by}
 use Rattle.awk_types.proofs.Trees.{value_list-from}
-use Rattle.awk_text.specs.ValueText.{Text, is_null, list_text, value_text, row_texts, alternative_text, place_names}
-use Rattle.awk_text.proofs.Shaped.{IsShaped, AreShaped, IsAlternative}
+use Rattle.awk_text.specs.ValueText.{Text, is_null, value_text, row_texts, alternative_text, place_names}
+use Rattle.awk_types.specs.Has.{Has, HasRow, HasAlternative}
 use Rattle.awk_text.proofs.Unions.{Splits, SplitsAt, SplitsAs, splits_first, splits_later, union_splits}
 
 -- the texts of values, each carried along
-each_text : (f : Value → Value) (t s : DataType) (vs : List Value) → ((v : Value) → IsShaped t v → SplitsAs s (f v) (value_text t v)) → AllByRecursion (IsShaped t) vs → map (value_text s) (map f vs) ≡ map (value_text t) vs
+each_text : (f : Value → Value) (t s : DataType) (vs : List Value) → ((v : Value) → Has t v → SplitsAs s (f v) (value_text t v)) → AllByRecursion (Has t) vs → map (value_text s) (map f vs) ≡ map (value_text t) vs
 each_text f t s [] each h = refl
 each_text f t s (v ∷ vs) each h = ap (λ z. z ∷ map (value_text s) (map f vs)) ((each v h.0).same) ∙ ap (λ z. value_text t v ∷ z) (each_text f t s vs each h.1)
 
-list_same : (f : Value → Value) (t s : DataType) (vs : Values) → ((v : Value) → IsShaped t v → SplitsAs s (f v) (value_text t v)) → AllByRecursion (IsShaped t) (value_list vs)
+list_same : (f : Value → Value) (t s : DataType) (vs : Values) → ((v : Value) → Has t v → SplitsAs s (f v) (value_text t v)) → AllByRecursion (Has t) (value_list vs)
     → list_text (map (value_text s) (value_list (values_from (map f (value_list vs))))) ≡ list_text (map (value_text t) (value_list vs))
 list_same f t s vs each h = ap (λ z. list_text (map (value_text s) z)) (value_list-from (map f (value_list vs))) ∙ ap list_text (each_text f t s (value_list vs) each h)
 
@@ -54,14 +55,14 @@ names_stay i no_types = refl
 names_stay i (type t ts) = ap (λ ns. decimal i ∷ ns) (names_stay (suc i) ts)
 
 mutual
-  pub simple_splits : (t : DataType) (v : Value) → IsShaped t v → SplitsAs (simple t) (simple_value t v) (value_text t v)
+  pub simple_splits : (t : DataType) (v : Value) → Has t v → SplitsAs (simple t) (simple_value t v) (value_text t v)
   simple_splits unknown v h = absurd h
   simple_splits (leaf p) (int z) h = record { same = refl; splits = record { null_in = λ n. absurd (cc); within = λ n. omega arith; shown = λ n. refl } }
   simple_splits (leaf p) (truth b) h = record { same = refl; splits = record { null_in = λ n. absurd (cc); within = λ n. omega arith; shown = λ n. refl } }
   simple_splits (leaf p) v h = absurd h
   simple_splits (var t) (list vs) h = record { same = list_same (simple_value t) t (simple t) vs (λ v k. simple_splits t v k) h; splits = list_splits (simple t) (values_from (map (simple_value t) (value_list vs))) }
   simple_splits (var t) v h = absurd h
-  simple_splits (reg n t) (list vs) h = record { same = list_same (simple_value t) t (simple t) vs (λ v k. simple_splits t v k) h; splits = reg_splits n (simple t) (values_from (map (simple_value t) (value_list vs))) }
+  simple_splits (reg n t) (list vs) h = record { same = list_same (simple_value t) t (simple t) vs (λ v k. simple_splits t v k) h.1; splits = reg_splits n (simple t) (values_from (map (simple_value t) (value_list vs))) }
   simple_splits (reg n t) v h = absurd h
   simple_splits (rec ns ts) (row vs) h = record {
     same = rw (value_list-from (values_by (simple_values ts) (value_list vs)), simple_rows ts (value_list vs) h) refl;
@@ -80,14 +81,14 @@ mutual
       union_splits (simples ts) k w (alternative_text ts k v) (is_null w) refl (simple_alternative ts k v h)
   simple_splits (uni ts) v h = absurd h
 
-  pub simple_rows : (ts : DataTypes) (vs : List Value) → AreShaped ts vs → row_texts (types_from (simples ts)) (values_by (simple_values ts) vs) ≡ row_texts ts vs
+  pub simple_rows : (ts : DataTypes) (vs : List Value) → HasRow ts vs → row_texts (types_from (simples ts)) (values_by (simple_values ts) vs) ≡ row_texts ts vs
   simple_rows no_types vs h = refl
   simple_rows (type t ts) [] h = refl
   simple_rows (type t ts) (v ∷ vs) h =
       ap (λ z. z ∷ row_texts (types_from (simples ts)) (values_by (simple_values ts) vs)) ((simple_splits t v h.0).same)
       ∙ ap (λ z. value_text t v ∷ z) (simple_rows ts vs h.1)
 
-  pub simple_alternative : (ts : DataTypes) (k : ℕ) (v : Value) → IsAlternative ts k v → SplitsAt (simples ts) k (value_by (simple_values ts) k v) (alternative_text ts k v)
+  pub simple_alternative : (ts : DataTypes) (k : ℕ) (v : Value) → HasAlternative ts k v → SplitsAt (simples ts) k (value_by (simple_values ts) k v) (alternative_text ts k v)
   simple_alternative no_types k v h = absurd h
   simple_alternative (type t ts) zero v h =
       let p : SplitsAs (simple t) (simple_value t v) (value_text t v) = simple_splits t v h in
@@ -95,5 +96,5 @@ mutual
   simple_alternative (type t ts) (suc k) v h = splits_later (simple t) (simples ts) k (value_by (simple_values ts) k v) (alternative_text ts k v) (simple_alternative ts k v h)
 
 -- the text stays the same
-pub simple_text : (t : DataType) (v : Value) → IsShaped t v → value_text (simple t) (simple_value t v) ≡ value_text t v
+pub simple_text : (t : DataType) (v : Value) → Has t v → value_text (simple t) (simple_value t v) ≡ value_text t v
 simple_text t v h = (simple_splits t v h).same

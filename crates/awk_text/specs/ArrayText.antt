@@ -1,10 +1,11 @@
 -- The texts of an array and of its items, by the simple type and the simple values.
 use Rattle.std.specs.Prelude.{ℕ, map}
 use Rattle.awk_types.specs.Simple.{simple_value}
+use Rattle.awk_json.specs.Text.{list_text}
 use Rattle.awk_layout.specs.Layout.{Layout}
 use Rattle.awk_layout.specs.Item.{item}
 use Rattle.awk_layout.specs.Typing.{layout_type, array_type, array_items}
-use Rattle.awk_text.specs.ValueText.{Text, list_text, value_text}
+use Rattle.awk_text.specs.ValueText.{Text, value_text}
 
 -- the text of the item at a place
 abbrev pub item_text : Layout → ℕ → Text

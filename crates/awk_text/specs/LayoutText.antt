@@ -3,12 +3,12 @@ use Rattle.std.specs.Prelude.{ℕ, ◌-◌, ◌≤◌, List, [], ◌++◌, map, 
 use Rattle.std.specs.Borrow.{Bor}
 use Rattle.std.specs.List.{range_with_len}
 use Rattle.awk_types.specs.DataType.{Name}
-use Rattle.awk_json.specs.Text.{quoted, comma_joined}
+use Rattle.awk_json.specs.Text.{quoted, comma_joined, list_text}
 use Rattle.awk_layout.specs.Layout.{Layout, empty, layout_list}
 use Rattle.awk_layout.specs.Item.{item}
 use Rattle.awk_layout.specs.Place.{Case, number, span, across, missing, through, alternative}
 use Rattle.awk_layout.specs.Typing.{layout_type}
-use Rattle.awk_text.specs.ValueText.{Text, leaf_text, list_text, value_text}
+use Rattle.awk_text.specs.ValueText.{Text, leaf_text, value_text}
 
 -- the text of the item at a place
 abbrev pub layout_text : Layout → ℕ → Text
@@ -41,7 +41,7 @@ member_text names xs i k = field_text names k ++ layout_text (get_or xs k empty)
 
 -- the row of the contents' items at a place
 abbrev pub row_text : Option (List Name) → List Layout → ℕ → Text
-row_text names xs i = codes "{" ++ comma_joined (map (member_text names xs i) (range_with_len 0 (length xs))) ++ codes "}"
+row_text names xs i = codes "{" ++ (comma_joined (map (member_text names xs i) (range_with_len 0 (length xs))) ++ codes "}")
 
 -- the text of a case
 abbrev pub case_text : Case → Text

@@ -1,4 +1,3 @@
 pub mod ValueText
 pub mod ArrayText
 pub mod LayoutText
-pub mod Between

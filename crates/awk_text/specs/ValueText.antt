@@ -3,14 +3,10 @@ use Rattle.std.specs.Prelude.{ℕ, zero, suc, Bool, true, false, List, [], ◌�
 use Rattle.std.specs.Fmt.{signed_decimal}
 use Rattle.awk_types.specs.DataType.{Name, DataType, unknown, leaf, var, reg, rec, tup, opt, uni, DataTypes, no_types, type}
 use Rattle.awk_types.specs.Value.{Value, int, truth, null, list, row, alt, value_list}
-use Rattle.awk_json.specs.Text.{quoted, comma_joined}
+use Rattle.awk_json.specs.Text.{quoted, comma_joined, list_text, truth_text}
 
 abbrev pub Text : Type 0
 Text = List ℕ
-
-abbrev pub truth_text : Bool → Text
-truth_text true = codes "true"
-truth_text false = codes "false"
 
 -- a number or a truth value, and any other value as missing
 abbrev pub leaf_text : Value → Text
@@ -48,9 +44,6 @@ abbrev pub members : List Name → List Text → List Text
 members [] ts = []
 members (n ∷ ns) [] = []
 members (n ∷ ns) (t ∷ ts) = (quoted n ++ codes ":" ++ t) ∷ members ns ts
-
-abbrev pub list_text : List Text → Text
-list_text texts = codes "[" ++ comma_joined texts ++ codes "]"
 
 -- lists in brackets, rows as objects with the fields in order, an alternative without its tag
 abbrev mutual

@@ -22,13 +22,15 @@ pub fn write_item<K: Sink, L: Ledger>(
 ) -> Result<(), WriteFault>
     requires open { IsTrue out.old.is_open }
     requires within { i < len x.now }
-    ensures bytes { Moves (K.written sink.old) (K.written sink.new) out.new (out.old.held ++ item_text x.now i) result }
+    ensures bytes { Moves (K.written sink.old) (K.written sink.new) out.new
+        (out.old.held ++ item_text x.now i) result }
     ensures flushes { K.flushes sink.new ≡ K.flushes sink.old }
     ensures cause { HasCause (K.faults sink.old) (K.faults sink.new) result }
     ensures cost { steps.new ≤ steps.old + 2 * (height x.now * length (item_text x.now i)) }
 {
-    let _ = x.len();
-    write_node(x.node(), i, out, sink, steps)
+    let node = x.node();
+    let _ = node.len(); // its items are of its type
+    write_node(node, i, out, sink, steps)
 }
 
 /// Puts the list of the items of an array.
@@ -39,10 +41,13 @@ pub fn write_array<K: Sink, L: Ledger>(
     steps: &mut Steps<L>,
 ) -> Result<(), WriteFault>
     requires open { IsTrue out.old.is_open }
-    ensures bytes { Moves (K.written sink.old) (K.written sink.new) out.new (out.old.held ++ array_text x.now) result }
+    ensures bytes { Moves (K.written sink.old) (K.written sink.new) out.new
+        (out.old.held ++ array_text x.now) result }
     ensures flushes { K.flushes sink.new ≡ K.flushes sink.old }
     ensures cause { HasCause (K.faults sink.old) (K.faults sink.new) result }
-    ensures cost { steps.new ≤ steps.old + 8 * (weight x.now + height x.now * length (array_text x.now)) }
+    ensures cost { steps.new ≤ steps.old
+        + 8 * (weight x.now + height x.now * length (array_text x.now)) }
 {
-    write_list(x.node(), 0, x.len(), out, sink, steps)
+    let node = x.node();
+    write_list(node, 0, node.len(), out, sink, steps)
 }

@@ -1,10 +1,9 @@
-//! The texts of numbers and of truth values, names of fields, and what stands between texts.
+//! The texts of numbers and of truth values, and the names of fields.
 ghost use Rattle.std.specs.Prelude.{◌≡◌, ◌+◌, ◌++◌, IsTrue};
 ghost use Rattle.awk_edge.specs.Causes.{HasCause};
 ghost use Rattle.awk_edge.specs.Put.{Moves};
 ghost use Rattle.awk_json.specs.Text.{quoted};
 ghost use Rattle.awk_layout.specs.Shown.{value_of_num};
-ghost use Rattle.awk_text.specs.Between.{comma_before};
 ghost use Rattle.awk_text.specs.LayoutText.{names_shown, field_name, field_text, AreNamed};
 ghost use Rattle.awk_text.specs.ValueText.{leaf_text};
 
@@ -21,7 +20,8 @@ pub(crate) fn write_leaf<K: Sink>(
     sink: &mut K,
 ) -> Result<(), WriteFault>
     requires open { IsTrue out.old.is_open }
-    ensures bytes { Moves (K.written sink.old) (K.written sink.new) out.new (out.old.held ++ leaf_text (value_of_num number)) result }
+    ensures bytes { Moves (K.written sink.old) (K.written sink.new) out.new
+        (out.old.held ++ leaf_text (value_of_num number)) result }
     ensures flushes { K.flushes sink.new ≡ K.flushes sink.old }
     ensures cause { HasCause (K.faults sink.old) (K.faults sink.new) result }
 {
@@ -34,23 +34,6 @@ pub(crate) fn write_leaf<K: Sink>(
     }
 }
 
-/// Puts a comma, unless it is before the first.
-pub(crate) fn put_comma<K: Sink>(
-    is_first: bool,
-    out: &mut Out,
-    sink: &mut K,
-) -> Result<(), WriteFault>
-    requires open { IsTrue out.old.is_open }
-    ensures bytes { Moves (K.written sink.old) (K.written sink.new) out.new (out.old.held ++ comma_before is_first) result }
-    ensures flushes { K.flushes sink.new ≡ K.flushes sink.old }
-    ensures cause { HasCause (K.faults sink.old) (K.faults sink.new) result }
-{
-    if is_first {
-        return out.put(sink, b"");
-    }
-    out.put(sink, b",")
-}
-
 /// Puts the name of the k-th field and a colon.
 pub(crate) fn write_field<K: Sink>(
     names: Option<&Names>,
@@ -60,7 +43,8 @@ pub(crate) fn write_field<K: Sink>(
 ) -> Result<(), WriteFault>
     requires open { IsTrue out.old.is_open }
     requires named { AreNamed (names_shown names) (k + 1) }
-    ensures bytes { Moves (K.written sink.old) (K.written sink.new) out.new (out.old.held ++ field_text (names_shown names.entry) k) result }
+    ensures bytes { Moves (K.written sink.old) (K.written sink.new) out.new
+        (out.old.held ++ field_text (names_shown names.entry) k) result }
     ensures flushes { K.flushes sink.new ≡ K.flushes sink.old }
     ensures cause { HasCause (K.faults sink.old) (K.faults sink.new) result }
 {
@@ -68,7 +52,7 @@ pub(crate) fn write_field<K: Sink>(
     out.put(sink, b":")
 }
 
-// Puts the name of the k-th field. That of a tuple's place is its number.
+/// Puts the name of the k-th field. That of a tuple's place is its number.
 fn write_name<K: Sink>(
     names: Option<&Names>,
     k: usize,
@@ -77,7 +61,8 @@ fn write_name<K: Sink>(
 ) -> Result<(), WriteFault>
     requires open { IsTrue out.old.is_open }
     requires named { AreNamed (names_shown names) (k + 1) }
-    ensures bytes { Moves (K.written sink.old) (K.written sink.new) out.new (out.old.held ++ quoted (field_name (names_shown names.entry) k)) result }
+    ensures bytes { Moves (K.written sink.old) (K.written sink.new) out.new
+        (out.old.held ++ quoted (field_name (names_shown names.entry) k)) result }
     ensures flushes { K.flushes sink.new ≡ K.flushes sink.old }
     ensures cause { HasCause (K.faults sink.old) (K.faults sink.new) result }
 {

@@ -7,6 +7,3 @@ mod numbers;
 mod value;
 
 pub use array::{write_array, write_item};
-
-#[cfg(test)]
-mod tests;

@@ -6,8 +6,9 @@ ghost use Rattle.awk_lanes.specs.Places.{size_of};
 ghost use Rattle.awk_layout.specs.Layout.{flat};
 ghost use Rattle.awk_text.specs.LayoutText.{span_text};
 
-use crate::leaf::{put_comma, write_leaf};
+use crate::leaf::write_leaf;
 use awk_edge::{Out, Sink, WriteFault};
+use awk_json::write_comma;
 use awk_lanes::{Lane, Steps};
 use std::sync::ledger::Ledger;
 
@@ -23,14 +24,15 @@ pub(crate) fn write_numbers<K: Sink, L: Ledger>(
     requires open { IsTrue out.old.is_open }
     requires ordered { lo ≤ hi }
     requires within { hi ≤ size_of lane.now }
-    ensures bytes { Moves (K.written sink.old) (K.written sink.new) out.new (out.old.held ++ span_text (flat lane.now) lo hi) result }
+    ensures bytes { Moves (K.written sink.old) (K.written sink.new) out.new
+        (out.old.held ++ span_text (flat lane.now) lo hi) result }
     ensures flushes { K.flushes sink.new ≡ K.flushes sink.old }
     ensures cause { HasCause (K.faults sink.old) (K.faults sink.new) result }
     ensures cost { steps.new ≤ steps.old + length (span_text (flat lane.now) lo hi) }
 {
     out.put(sink, b"[")?;
     for j in lo..hi {
-        put_comma(j == lo, out, sink)?;
+        write_comma(out, sink, j == lo)?;
         write_leaf(lane.at(j, steps), out, sink)?;
     }
     out.put(sink, b"]")

@@ -3,12 +3,14 @@ ghost use Rattle.std.specs.Prelude.{◌≡◌, ◌<◌, ◌≤◌, ◌+◌, ◌*
 ghost use Rattle.awk_edge.specs.Causes.{HasCause};
 ghost use Rattle.awk_edge.specs.Put.{Moves};
 ghost use Rattle.awk_layout.specs.Layout.{height, heights, layouts_from};
-ghost use Rattle.awk_layout.specs.Valid.{len, IsValid, AllValid, AllReach};
-ghost use Rattle.awk_text.specs.LayoutText.{layout_text, span_text, row_text, names_shown, AreNamed};
+ghost use Rattle.awk_layout.specs.Valid.{len, AllReach};
+ghost use Rattle.awk_text.specs.LayoutText.{layout_text, span_text};
+ghost use Rattle.awk_text.specs.LayoutText.{row_text, names_shown, AreNamed};
 
-use crate::leaf::{put_comma, write_field, write_leaf};
+use crate::leaf::{write_field, write_leaf};
 use crate::numbers::write_numbers;
 use awk_edge::{Out, Sink, WriteFault};
+use awk_json::write_comma;
 use awk_lanes::Steps;
 use awk_layout::{Class, Node, Nodes, Place};
 use awk_types::Names;
@@ -25,8 +27,8 @@ pub(crate) fn write_node<K: Sink, L: Ledger>(
 ) -> Result<(), WriteFault>
     requires open { IsTrue out.old.is_open }
     requires within { i < len x.now }
-    requires valid { IsValid x.now }
-    ensures bytes { Moves (K.written sink.old) (K.written sink.new) out.new (out.old.held ++ layout_text x.now i) result }
+    ensures bytes { Moves (K.written sink.old) (K.written sink.new) out.new
+        (out.old.held ++ layout_text x.now i) result }
     ensures flushes { K.flushes sink.new ≡ K.flushes sink.old }
     ensures cause { HasCause (K.faults sink.old) (K.faults sink.new) result }
     ensures cost { steps.new ≤ steps.old + 2 * (height x.now * length (layout_text x.now i)) }
@@ -58,18 +60,19 @@ pub(crate) fn write_list<K: Sink, L: Ledger>(
     requires open { IsTrue out.old.is_open }
     requires ordered { lo ≤ hi }
     requires within { hi ≤ len content.now }
-    requires valid { IsValid content.now }
-    ensures bytes { Moves (K.written sink.old) (K.written sink.new) out.new (out.old.held ++ span_text content.now lo hi) result }
+    ensures bytes { Moves (K.written sink.old) (K.written sink.new) out.new
+        (out.old.held ++ span_text content.now lo hi) result }
     ensures flushes { K.flushes sink.new ≡ K.flushes sink.old }
     ensures cause { HasCause (K.faults sink.old) (K.faults sink.new) result }
-    ensures cost { steps.new ≤ steps.old + 2 * (height content.now * length (span_text content.now lo hi)) }
+    ensures cost { steps.new ≤ steps.old
+        + 2 * (height content.now * length (span_text content.now lo hi)) }
 {
     if let Class::Numpy { lane } = content.class() {
         return write_numbers(lane, lo, hi, out, sink, steps);
     }
     out.put(sink, b"[")?;
     for j in lo..hi {
-        put_comma(j == lo, out, sink)?;
+        write_comma(out, sink, j == lo)?;
         write_node(content, j, out, sink, steps)?;
     }
     out.put(sink, b"]")
@@ -88,15 +91,16 @@ fn write_row<K: Sink, L: Ledger>(
     requires open { IsTrue out.old.is_open }
     requires named { AreNamed (names_shown names) (length contents.now) }
     requires within { AllReach (place + 1) (layouts_from contents.now) }
-    requires valid { AllValid (layouts_from contents.now) }
-    ensures bytes { Moves (K.written sink.old) (K.written sink.new) out.new (out.old.held ++ row_text (names_shown names.entry) contents.now place) result }
+    ensures bytes { Moves (K.written sink.old) (K.written sink.new) out.new
+        (out.old.held ++ row_text (names_shown names.entry) contents.now place) result }
     ensures flushes { K.flushes sink.new ≡ K.flushes sink.old }
     ensures cause { HasCause (K.faults sink.old) (K.faults sink.new) result }
-    ensures cost { steps.new ≤ steps.old + 2 * (heights (layouts_from contents.now) * length (row_text (names_shown names.entry) contents.now place)) }
+    ensures cost { steps.new ≤ steps.old
+        + 2 * (heights (layouts_from contents.now) * length (row_text (names_shown names.entry) contents.now place)) }
 {
     out.put(sink, b"{")?;
     for k in 0..contents.len() {
-        put_comma(k == 0, out, sink)?;
+        write_comma(out, sink, k == 0)?;
         write_field(names, k, out, sink)?;
         write_node(contents.get(k), place, out, sink, steps)?;
     }

@@ -1,6 +1,7 @@
 //! What a node is.
 ghost use Rattle.std.specs.Prelude.{◌≡◌};
 ghost use Rattle.awk_layout.specs.Class.{layout_of};
+ghost use Rattle.awk_layout.specs.Numbered.{IsNumbered};
 ghost use Rattle.awk_layout.specs.Valid.{len, IsValid};
 
 use crate::node::{Inner, Node, Nodes};
@@ -64,6 +65,7 @@ impl<'a> Node<'a> {
     pub fn class(&self) -> Class<'_, 'a>
         ensures class { layout_of (len self.now) result ≡ self.now }
         ensures valid { IsValid self.now }
+        ensures numbered { IsNumbered self.now }
     {
         match &self.inner {
             Inner::Empty => Class::Empty,

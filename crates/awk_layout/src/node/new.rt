@@ -1,7 +1,8 @@
 //! The twelve constructors. Each takes one step and no memory.
 ghost use Rattle.std.specs.Prelude.{◌≡◌, ◌+◌, ◌*◌, ◌<◌, ◌≤◌, ◌^◌, length};
 ghost use Rattle.awk_lanes.specs.Places.{size_of, IsOffsets, AreSpans, IsOptionalIndex, IsIndex};
-ghost use Rattle.awk_layout.specs.Layout.{count, layouts_from, empty, flat, regular, lists, offset_lists, rows, indexed, optional, byte_masked, bit_masked, unmasked, union};
+ghost use Rattle.awk_layout.specs.Layout.{count, layouts_from, empty, flat, regular, lists, offset_lists};
+ghost use Rattle.awk_layout.specs.Layout.{rows, indexed, optional, byte_masked, bit_masked, unmasked, union};
 ghost use Rattle.awk_layout.specs.Valid.{len, AllReach, AreNames, IsByteMask, IsUnion};
 
 use crate::node::{Inner, Node, Nodes};
@@ -28,6 +29,7 @@ impl<'a> Node<'a> {
         ensures cost { steps.new ≡ steps.old + 1 }
     {
         steps.tick();
+        let _ = lane.len(); // each number is one of its kind
         Node {
             inner: Inner::Numpy(lane),
         }
@@ -46,8 +48,8 @@ impl<'a> Node<'a> {
         ensures cost { steps.new ≡ steps.old + 1 }
     {
         steps.tick();
-        let inside: &Node<'a> = &content;
-        let _ = &inside.inner;
+        // The content is valid, as its length tells.
+        let _ = content.len();
         Node {
             inner: Inner::Regular(size, n, content),
         }
@@ -66,8 +68,8 @@ impl<'a> Node<'a> {
         ensures cost { steps.new ≡ steps.old + 1 }
     {
         steps.tick();
-        let inside: &Node<'a> = &content;
-        let _ = &inside.inner;
+        // The content is valid, as its length tells.
+        let _ = content.len();
         Node {
             inner: Inner::List(starts, stops, content),
         }
@@ -85,14 +87,15 @@ impl<'a> Node<'a> {
         ensures cost { steps.new ≡ steps.old + 1 }
     {
         steps.tick();
-        let inside: &Node<'a> = &content;
-        let _ = &inside.inner;
+        // The content is valid, as its length tells.
+        let _ = content.len();
         Node {
             inner: Inner::ListOffset(offsets, content),
         }
     }
 
-    /// A RecordArray: n rows with a field of each content, or a tuple of them where there are no names.
+    /// A RecordArray: n rows with a field of each content, or a tuple of them where there are no
+    /// names.
     pub fn row<L: Ledger>(
         names: Option<Names>,
         n: u64,
@@ -106,7 +109,6 @@ impl<'a> Node<'a> {
         ensures cost { steps.new ≡ steps.old + 1 }
     {
         steps.tick();
-        let _ = &contents.nodes;
         Node {
             inner: Inner::Row(names, n, contents),
         }
@@ -124,8 +126,8 @@ impl<'a> Node<'a> {
         ensures cost { steps.new ≡ steps.old + 1 }
     {
         steps.tick();
-        let inside: &Node<'a> = &content;
-        let _ = &inside.inner;
+        // The content is valid, as its length tells.
+        let _ = content.len();
         Node {
             inner: Inner::Indexed(index, content),
         }
@@ -143,14 +145,15 @@ impl<'a> Node<'a> {
         ensures cost { steps.new ≡ steps.old + 1 }
     {
         steps.tick();
-        let inside: &Node<'a> = &content;
-        let _ = &inside.inner;
+        // The content is valid, as its length tells.
+        let _ = content.len();
         Node {
             inner: Inner::IndexedOption(index, content),
         }
     }
 
-    /// A ByteMaskedArray: the content's item where the mask's byte agrees with `valid_when`, else null.
+    /// A ByteMaskedArray: the content's item where the mask's byte agrees with `valid_when`, else
+    /// null.
     pub fn byte_masked<L: Ledger>(
         mask: Lane<'a>,
         valid_when: bool,
@@ -163,8 +166,8 @@ impl<'a> Node<'a> {
         ensures cost { steps.new ≡ steps.old + 1 }
     {
         steps.tick();
-        let inside: &Node<'a> = &content;
-        let _ = &inside.inner;
+        // The content is valid, as its length tells.
+        let _ = content.len();
         Node {
             inner: Inner::ByteMasked(mask, valid_when, content),
         }
@@ -183,8 +186,8 @@ impl<'a> Node<'a> {
         ensures cost { steps.new ≡ steps.old + 1 }
     {
         steps.tick();
-        let inside: &Node<'a> = &content;
-        let _ = &inside.inner;
+        // The content is valid, as its length tells.
+        let _ = content.len();
         Node {
             inner: Inner::BitMasked(mask, valid_when, content),
         }
@@ -198,8 +201,8 @@ impl<'a> Node<'a> {
         ensures cost { steps.new ≡ steps.old + 1 }
     {
         steps.tick();
-        let inside: &Node<'a> = &content;
-        let _ = &inside.inner;
+        // The content is valid, as its length tells.
+        let _ = content.len();
         Node {
             inner: Inner::Unmasked(n, content),
         }
@@ -218,7 +221,6 @@ impl<'a> Node<'a> {
         ensures cost { steps.new ≡ steps.old + 1 }
     {
         steps.tick();
-        let _ = &contents.nodes;
         Node {
             inner: Inner::Union(tags, index, contents),
         }

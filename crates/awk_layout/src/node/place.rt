@@ -2,6 +2,7 @@
 ghost use Rattle.std.specs.Prelude.{◌≡◌, ◌+◌, ◌*◌, ◌<◌, ◌≤◌, ◌^◌};
 ghost use Rattle.awk_lanes.specs.Places.{size_of, IsSpan};
 ghost use Rattle.awk_layout.specs.Layout.{layouts_from, height, regular, union};
+ghost use Rattle.awk_layout.specs.Numbered.{IsNumbered};
 ghost use Rattle.awk_layout.specs.Valid.{len, IsUnion, IsValid};
 ghost use Rattle.awk_layout.specs.Item.{item};
 ghost use Rattle.awk_layout.specs.Place.{case_of, value_of, span_between, IsWithin};
@@ -17,7 +18,8 @@ use std::sync::ledger::Ledger;
 pub enum Place<'n, 'a> {
     /// A number or a truth value.
     Number(Num),
-    /// The list of the content's items from place lo below place hi. An empty list is from 0 below 0.
+    /// The list of the content's items from place lo below place hi. An empty list is from 0
+    /// below 0.
     Items {
         content: &'n Node<'a>,
         lo: u64,
@@ -51,6 +53,8 @@ impl<'a> Node<'a> {
         ensures case { shown result ≡ case_of self.now i }
         ensures value { item self.now i ≡ value_of (shown result) }
         ensures within { IsWithin (height self.now) (shown result) }
+        ensures valid { IsValid self.now }
+        ensures numbered { IsNumbered self.now }
         ensures cost { steps.new ≤ steps.old + 2 }
     {
         self.one_level(i, steps)
@@ -61,6 +65,7 @@ impl<'a> Node<'a> {
         requires { i < len self.now }
         ensures case { shown result ≡ case_of self.now i }
         ensures valid { IsValid self.now }
+        ensures numbered { IsNumbered self.now }
         ensures cost { steps.new ≤ steps.old + 2 }
     {
         match &self.inner {

@@ -1,5 +1,5 @@
 use Rattle.std.proofs.Common.{◌≡◌, ◌+◌, ◌*◌, take, map}
-use Rattle.awk_types.specs.View.{names_of, fields_of, typs_of}
+use Rattle.awk_types.specs.View.{typs_of}
 use Rattle.awk_layout.specs.Layout.{height, heights, layouts_from}
 use Rattle.awk_layout.specs.Typing.{layout_type}
 use Rattle.awk_layout.proofs.typing.+typing.Given as goal
@@ -14,14 +14,5 @@ decreases-boxed_type l = 2 * height l.x.now + 1
 abbrev pub decreases-types_of : goal.decreases-types_of
 decreases-types_of l = 2 * heights (layouts_from l.contents.now) + 1
 
-abbrev pub decreases-record_fields : goal.decreases-record_fields
-decreases-record_fields l = 2 * heights (layouts_from l.contents.now) + 1
-
 abbrev pub invariant-types_of-loop-i : goal.invariant-types_of-loop-i
 invariant-types_of-loop-i l = typs_of l.made ≡ map layout_type (take l.i l.contents)
-
-abbrev pub invariant-record_fields-loop-i : goal.invariant-record_fields-loop-i
-invariant-record_fields-loop-i l = record {
-  names : names_of (fields_of l.made) ≡ take l.i l.names;
-  types : map (λ f. f.typ) (fields_of l.made) ≡ map layout_type (take l.i l.contents);
-}
