@@ -1,13 +1,13 @@
--- The texts of a form's parts, and of what is left of a list.
-use Rattle.std.proofs.Common.{◌≡◌, ◌<◌, ◌≤◌, ℕ, ◌+◌, List, [], ◌∷◌, ◌++◌, length, map, drop, get_or, slice_get, codes, Option, Some, Result, Bool, ◌⊎◌, inl, inr, Box, Global, refl, sym, ap, ap₂, ◌∙◌, subst, rules}
-use Rattle.std.proofs.lemmas.List.{drop_more, drop_all}
-use Rattle.std.proofs.lemmas.Option.{slice_get_within, get_or_from_slice_get}
+-- The texts of a form's parts.
+use Rattle.std.proofs.Common.{◌≡◌, ℕ, List, [], ◌∷◌, ◌++◌, map, codes, Option, Result, Ok, Err, Bool, ◌⊎◌, inl, inr, Box, Global, refl, ap, ap₂, ◌∙◌, rules}
 use Rattle.awk_edge.specs.Pending.{Pending}
 use Rattle.awk_edge.specs.Put.{Moves}
 use Rattle.awk_types.specs.DataType.{Name}
+use Rattle.awk_json.specs.Text.{list_text}
 use Rattle.awk_types.specs.declared.name.Names.{Names}
+use Rattle.awk_json.proofs.Joins.{stops_at, goes_to}
 use Rattle.awk_form.specs.FormTree.{FormTree, forms_from}
-use Rattle.awk_form.specs.FormText.{key_of, class_text, class_member, members_text, contents_text, end_text, list_text, form_text, form_texts}
+use Rattle.awk_form.specs.FormText.{key_of, class_text, class_member, members_text, contents_text, end_text, form_text, form_texts}
 use Rattle.awk_form.specs.View.{Keyed, shape_step, form_step, forms_step, form_of, forms_of, keyed}
 use Rattle.awk_form.specs.declared.form.Form.{Form}
 use Rattle.awk_form.specs.declared.form.Forms.{Forms}
@@ -17,22 +17,6 @@ use Rattle.awk_form.specs.declared.form.Shape.TheViews.{out-Form}
 use Rattle.awk_form.specs.declared.form.Shape.TheFolds.{fold_out-Shape}
 use Rattle.awk_form.specs.declared.kind.IndexKind.{IndexKind}
 use Rattle.awk_form.proofs.Views.{form_of-shape, keyed-Row, keyed-Union}
-
--- ---- what is left of a list
-
--- the next one, and nothing after the last
-pub map_left : {A B : Type 0} (f : A → B) (xs : List A) (i : ℕ) (d : A) → i < length xs → map f (drop i xs) ≡ f (get_or xs i d) ∷ map f (drop (i + 1) xs)
-map_left f xs i d within = ap (map f) (drop_more xs i d within)
-
-pub map_left_at : {A B : Type 0} (f : A → B) (xs : List A) (i : ℕ) (x : A) → slice_get xs i ≡ Some x → map f (drop i xs) ≡ f x ∷ map f (drop (i + 1) xs)
-map_left_at f xs i x at = map_left f xs i x (slice_get_within xs i x at) ∙ ap (λ y. f y ∷ map f (drop (i + 1) xs)) (get_or_from_slice_get xs i x x at)
-
-pub map_none : {A B : Type 0} (f : A → B) (xs : List A) (i : ℕ) → length xs ≤ i → map f (drop i xs) ≡ []
-map_none f xs i past = ap (map f) (drop_all i xs past)
-
--- a text that is put, by another equation
-pub puts_same : {written0 written1 : Option (List ℕ)} {new : Pending} {E : Type 0} {r : Result (Unit {0}) E} (held : List ℕ) {whole text : List ℕ} → whole ≡ text → Moves {E = E} written0 written1 new (held ++ text) r → Moves {E = E} written0 written1 new (held ++ whole) r
-puts_same {written0 = written0} {written1 = written1} {new = new} {E = E} {r = r} held e m = subst (λ t. Moves {E = E} written0 written1 new (held ++ t) r) (sym e) m
 
 -- ---- a form and its parts
 
@@ -66,6 +50,30 @@ after_members f =
 -- the parts as they are put
 pub form_text-parts : (f : Form) → form_text (form_of f) ≡ class_member (class_text (form_of f)) ++ (members_text (form_of f) ++ (contents_text (keyed (out-Form f).shape (out-Form f).key) ++ end_text (out-Form f).key))
 form_text-parts f = ap (λ t. class_member (class_text (form_of f)) ++ (members_text (form_of f) ++ t)) (after_members f)
+
+-- the parts behind the class and the members: a fault in the contents, or all of them put
+pub stops_in_contents : {written0 written1 written2 written3 : Option (List ℕ)} {mid near new : Pending} {E F : Type 0} {u v : Unit {0}} {e : E} {r : Result (Unit {0}) F} {x : F} (held : List ℕ) (f : Form)
+    → Moves {E = E} written0 written1 mid (held ++ class_member (class_text (form_of f))) (Ok u)
+    → Moves {E = E} written1 written2 near (mid.held ++ members_text (form_of f)) (Ok v)
+    → Moves {E = E} written2 written3 new (near.held ++ contents_text (keyed (out-Form f).shape (out-Form f).key)) (Err e) → r ≡ Err x
+    → Moves {E = F} written0 written3 new (held ++ form_text (form_of f)) r
+stops_in_contents held f class members contents failed =
+    let inner = contents_text (keyed (out-Form f).shape (out-Form f).key) in
+    let end = end_text (out-Form f).key in
+    rw (form_text-parts f) (goes_to held (class_member (class_text (form_of f))) (members_text (form_of f) ++ (inner ++ end)) class
+    (goes_to _ (members_text (form_of f)) (inner ++ end) members (stops_at _ inner end contents failed)))
+
+pub puts_parts : {written0 written1 written2 written3 written4 : Option (List ℕ)} {mid near far new : Pending} {E : Type 0} {u v w : Unit {0}} {r : Result (Unit {0}) E} (held : List ℕ) (f : Form)
+    → Moves {E = E} written0 written1 mid (held ++ class_member (class_text (form_of f))) (Ok u)
+    → Moves {E = E} written1 written2 near (mid.held ++ members_text (form_of f)) (Ok v)
+    → Moves {E = E} written2 written3 far (near.held ++ contents_text (keyed (out-Form f).shape (out-Form f).key)) (Ok w)
+    → Moves {E = E} written3 written4 new (far.held ++ end_text (out-Form f).key) r
+    → Moves {E = E} written0 written4 new (held ++ form_text (form_of f)) r
+puts_parts held f class members contents ended =
+    let inner = contents_text (keyed (out-Form f).shape (out-Form f).key) in
+    let end = end_text (out-Form f).key in
+    rw (form_text-parts f) (goes_to held (class_member (class_text (form_of f))) (members_text (form_of f) ++ (inner ++ end)) class
+    (goes_to _ (members_text (form_of f)) (inner ++ end) members (goes_to _ inner end contents ended)))
 
 -- ---- a shape with one content, or with several
 

@@ -1,7 +1,8 @@
 -- A form without a break is lawful.
-use Rattle.std.proofs.Common.{◌≡◌, ◌≢◌, ◌<◌, ◌≤◌, ℕ, zero, suc, ◌+◌, ◌&&◌, Bool, true, false, not, cond, nat_lt, List, [], ◌∷◌, ◌++◌, length, map, codes, Option, Some, None, option_and_then, IsSome, Result, Ok, Err, refl, sym, ap, ◌∙◌, subst, arith, true≢false, eqb-true}
+use Rattle.std.proofs.Common.{◌≡◌, ◌≢◌, ◌<◌, ◌≤◌, ℕ, zero, suc, ◌+◌, ◌&&◌, Bool, true, false, not, cond, nat_lt, List, [], ◌∷◌, length, map, codes, Option, Some, None, option_and_then, IsSome, Result, Ok, Err, refl, sym, ap, ◌∙◌, subst, arith, eqb-true}
+use Rattle.std.proofs.lemmas.Bool.{not-true, and_parts}
 use Rattle.std.proofs.lemmas.Bool.Decides.{nat_tests}
-use Rattle.std.specs.List.{flat_map, AllByRecursion}
+use Rattle.std.specs.List.{AllByRecursion}
 use Rattle.awk_types.specs.DataType.{Name}
 use Rattle.awk_types.specs.Names.{AreDistinct, is_among, same_name}
 use Rattle.serde_json.specs.Data.{Data, null, boolean, number, string, array, object, depth}
@@ -10,7 +11,7 @@ use Rattle.awk_form.specs.FormTree.{forms_from}
 use Rattle.awk_form.specs.Lawful.{IsLawful, AreLawful, AreNamesOf, count}
 use Rattle.awk_form.specs.Tables.{meaning, index_kinds, option_index_kinds, byte_kinds, bit_kinds}
 use Rattle.awk_form.specs.Node.{Head, empty, numpy, regular, list, list_offset, row, indexed, indexed_option, byte_masked, bit_masked, unmasked, union, Node, and_then, present_or, allowed_or, text_at, number_at, truth_at, kind_at, primitive_at, inner_shape_at, texts_of, are_distinct, fields_from, fields_at, content_at, contents_at, are_as_many, are_alternatives, parameters_at, form_key_from, form_key_at, has_buffers, class_at, head_at, node_at}
-use Rattle.awk_form.specs.Reading.{Break, contents, contents_said, nodes_of, first_break_from, break_at, form_with, form_of}
+use Rattle.awk_form.specs.Reading.{contents, contents_said, nodes_of, nodes_of_all, first_break_from, form_with, form_of}
 use Rattle.awk_form.specs.declared.class.Class.{Class}
 use Rattle.awk_form.specs.declared.class.Class.TheVariants as class
 use Rattle.awk_form.specs.declared.fault.FormWhy.{FormWhy}
@@ -18,7 +19,7 @@ use Rattle.awk_form.specs.declared.fault.FormWhy.TheVariants as why
 use Rattle.awk_form.specs.declared.kind.IndexKind.{IndexKind}
 use Rattle.awk_form.specs.declared.kind.IndexKind.TheVariants.{I32, U32, I64}
 use Rattle.awk_form.proofs.Nodes.{contents_of-shallow}
-use Rattle.awk_form.proofs.Breaks.{whole_part, first_break-node, first_break-broken, form_of-node}
+use Rattle.awk_form.proofs.Breaks.{or-both, first_break-append, first_break-node, first_break-broken, form_of-node}
 
 -- ---- what a node says fits its class
 
@@ -59,17 +60,9 @@ allowed-fits : (needed : Bool) (e : FormWhy) (b : Bool) (h : Head) → (b ≡ tr
 allowed-fits needed e true h f = f refl
 allowed-fits needed e false h f = tt
 
-both : (s t : Bool) → (s && t) ≡ true → (s ≡ true) × (t ≡ true)
-both true t h = (refl, h)
-both false t h = absurd (true≢false (sym h))
-
-not-true : (s : Bool) → not s ≡ true → s ≡ false
-not-true true h = absurd (true≢false (sym h))
-not-true false h = refl
-
 distinct : (ns : List Name) → are_distinct ns ≡ true → AreDistinct ns
 distinct [] h = tt
-distinct (n ∷ ns) h = let here = both (not (is_among n ns)) (are_distinct ns) h in (not-true (is_among n ns) here.0, distinct ns here.1)
+distinct (n ∷ ns) h = let here = and_parts (not (is_among n ns)) (are_distinct ns) h in (not-true (is_among n ns) here.0, distinct ns here.1)
 
 -- an option's index is signed
 signed-found : (s t : Bool) (p : IndexKind) → cond s (Some I32) (cond t (Some I64) None) ≡ Some p → p ≢ U32
@@ -118,7 +111,7 @@ names-fit None cs h e = tt
 names-fit (Some ns) cs h e = (h, eqb-true (length ns) (length cs) e)
 
 alternatives-fit : (cs : List Data) → are_alternatives cs ≡ true → (1 ≤ length cs) × (length cs ≤ 127)
-alternatives-fit cs h = let e = both (nat_lt 0 (length cs)) (nat_lt (length cs) 128) h in (grind (arith, nat_tests, e.0), grind (arith, nat_tests, e.1))
+alternatives-fit cs h = let e = and_parts (nat_lt 0 (length cs)) (nat_lt (length cs) 128) h in (grind (arith, nat_tests, e.0), grind (arith, nat_tests, e.1))
 
 head-fits : (c : Class) (d : Data) → AllFit (has_buffers c) (head_at c d)
 head-fits class.Empty d = λ key k. tt
@@ -217,26 +210,14 @@ lawful-with key (union p cs) f l = (f.0, omega (arith, f.1, count-contents cs), 
 
 -- ---- the whole
 
-broken_first : (n : ℕ) (r : Result Node FormWhy) (later : Option Break) → break_at n r later ≡ None → (other : Option Break) → other ≡ None → break_at n r other ≡ None
-broken_first n (Ok said) later h other e = e
-broken_first n (Err w) later h other e = absurd (cc)
-
-first_part : (n : ℕ) (ds es : List Data) → first_break_from n (ds ++ es) ≡ None → first_break_from n ds ≡ None
-first_part n [] es h = refl
-first_part n (d ∷ ds) es h = broken_first n (node_at d) _ h (first_break_from (n + 1) ds) (first_part (n + 1) ds es (later_none n (node_at d) _ h))
-  where
-    later_none : (n : ℕ) (r : Result Node FormWhy) (later : Option Break) → break_at n r later ≡ None → later ≡ None
-    later_none n (Ok said) later h = h
-    later_none n (Err w) later h = absurd (cc)
-
 abbrev LawfulBelow : ℕ → Type 0
 LawfulBelow levels = (d : Data) → depth d < levels → (k : ℕ) → first_break_from k (nodes_of d) ≡ None → LawfulAt d
 
-contents-lawful : (levels m : ℕ) → LawfulBelow levels → (cs : List Data) → AllByRecursion (λ c. depth c < levels) cs → first_break_from m (flat_map nodes_of cs) ≡ None → AllByRecursion LawfulAt cs
+contents-lawful : (levels m : ℕ) → LawfulBelow levels → (cs : List Data) → AllByRecursion (λ c. depth c < levels) cs → first_break_from m (nodes_of_all cs) ≡ None → AllByRecursion LawfulAt cs
 contents-lawful levels m below [] s h = tt
 contents-lawful levels m below (c ∷ cs) s h =
-    let here = first_part m (nodes_of c) (flat_map nodes_of cs) h in
-    (below c s.0 m here, contents-lawful levels (m + length (nodes_of c)) below cs s.1 (sym (whole_part m (nodes_of c) (flat_map nodes_of cs) here) ∙ h))
+    let none = or-both _ _ (sym (first_break-append m (nodes_of c) (nodes_of_all cs)) ∙ h) in
+    (below c s.0 m none.0, contents-lawful levels (m + length (nodes_of c)) below cs s.1 none.1)
 
 node-lawful : (d : Data) (k : ℕ) (r : Result Node FormWhy) → LawfulBelow (depth d) → node_at d ≡ r → first_break_from k (nodes_of d) ≡ None → LawfulAt d
 node-lawful d k (Ok said) below e h =

@@ -3,6 +3,7 @@ pub mod Distinct
 pub mod FormTexts
 pub mod LawfulReads
 pub mod Levels
+pub mod Lists
 pub mod Nodes
 pub mod Refusals
 pub mod Types

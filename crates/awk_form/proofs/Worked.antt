@@ -7,20 +7,20 @@ use Rattle.serde_json.proofs.OnLiterals.{serde_json_on_literals}
 use Rattle.awk_form.specs.FormTree.{FormTree, empty, numpy, regular, list, list_offset, row, indexed, indexed_option, byte_masked, bit_masked, unmasked, union, forms_from}
 use Rattle.awk_form.specs.FormText.{form_text}
 use Rattle.awk_form.specs.Node.{node_at}
-use Rattle.awk_form.specs.Reading.{Break, first_break, nodes_of, form_of}
+use Rattle.awk_form.specs.Reading.{Refusal, broken as refused, first_break, nodes_of, form_of}
 use Rattle.awk_form.specs.declared.fault.FormWhy.{FormWhy}
 use Rattle.awk_form.specs.declared.fault.FormWhy.TheVariants.{Primitive}
 use Rattle.awk_form.specs.declared.kind.IndexKind.TheVariants as index
 
 -- the first break of a text that is JSON
-abbrev broken : List ℕ → Option (Option Break)
+abbrev broken : List ℕ → Option (Option Refusal)
 broken text = option_map first_break (read text)
 
 abbrev formed : List ℕ → Option FormTree
 formed text = option_map form_of (read text)
 
-abbrev at : ℕ → FormWhy → Option (Option Break)
-at node why = Some (Some (record { node = node; why = why }))
+abbrev at : ℕ → FormWhy → Option (Option Refusal)
+at node why = Some (Some (refused (record { node = node; why = why })))
 
 lists_of_numbers : broken (codes "{\"class\":\"ListOffsetArray\",\"offsets\":\"i64\",\"content\":{\"class\":\"NumpyArray\",\"primitive\":\"int64\",\"form_key\":\"node1\"},\"form_key\":\"node0\"}") ≡ Some None
 unfolding serde_json_on_literals node_at nodes_of form_of

@@ -1,9 +1,9 @@
 -- The text of a form: one compact JSON object for each node.
-use Rattle.std.specs.Prelude.{ℕ, Bool, true, false, List, [], ◌∷◌, ◌++◌, map, Option, Some, None, codes, decimal}
+use Rattle.std.specs.Prelude.{ℕ, List, [], ◌∷◌, ◌++◌, map, Option, Some, None, codes, decimal}
 use Rattle.awk_types.specs.DataType.{Name}
 use Rattle.awk_types.specs.declared.primitive.Primitive.{Primitive}
 use Rattle.awk_types.specs.declared.primitive.Primitive.TheVariants as primitive
-use Rattle.awk_json.specs.Text.{quoted, comma_joined}
+use Rattle.awk_json.specs.Text.{quoted, list_text, truth_text}
 use Rattle.awk_form.specs.FormTree.{FormTree, empty, numpy, regular, list, list_offset, row, indexed, indexed_option, byte_masked, bit_masked, unmasked, union, FormTrees, no_forms, form}
 use Rattle.awk_form.specs.declared.kind.IndexKind.{IndexKind}
 use Rattle.awk_form.specs.declared.kind.IndexKind.TheVariants as index
@@ -26,13 +26,6 @@ primitive_text primitive.U8 = codes "uint8"
 primitive_text primitive.U16 = codes "uint16"
 primitive_text primitive.U32 = codes "uint32"
 primitive_text primitive.U64 = codes "uint64"
-
-abbrev pub truth_text : Bool → Text
-truth_text true = codes "true"
-truth_text false = codes "false"
-
-abbrev pub list_text : List Text → Text
-list_text pieces = codes "[" ++ (comma_joined pieces ++ codes "]")
 
 abbrev pub fields_text : Option (List Name) → Text
 fields_text None = codes "null"

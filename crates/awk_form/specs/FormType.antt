@@ -1,17 +1,12 @@
 -- The type of the items of a form.
-use Rattle.std.specs.Prelude.{ℕ, List, [], ◌∷◌, Option, Some, None}
-use Rattle.awk_types.specs.DataType.{Name, DataType, DataTypes, unknown, leaf, var, reg, rec, tup, opt, uni, no_types, type}
+use Rattle.std.specs.Prelude.{ℕ, List, [], ◌∷◌}
+use Rattle.awk_types.specs.DataType.{DataType, DataTypes, unknown, leaf, var, reg, opt, uni, no_types, type, row_type}
 use Rattle.awk_form.specs.FormTree.{FormTree, empty, numpy, regular, list, list_offset, row, indexed, indexed_option, byte_masked, bit_masked, unmasked, union, FormTrees, no_forms, form}
 
 -- the regular lists of an inner shape
 abbrev pub shaped : List ℕ → DataType → DataType
 shaped [] t = t
 shaped (n ∷ ns) t = reg n (shaped ns t)
-
--- a record, or a tuple where there are no names
-abbrev pub row_type : Option (List Name) → DataTypes → DataType
-row_type None ts = tup ts
-row_type (Some names) ts = rec names ts
 
 -- both masked classes, the option index and the unmasked class are optional
 abbrev mutual

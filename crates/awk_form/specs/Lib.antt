@@ -1,4 +1,6 @@
 pub mod FormTree
+pub mod Measures
+pub mod Induction
 pub mod Tables
 pub mod Node
 pub mod Reading

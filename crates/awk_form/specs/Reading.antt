@@ -1,7 +1,8 @@
 -- The form that a JSON value is, or its first break.
-use Rattle.std.specs.Prelude.{ℕ, zero, suc, ◌+◌, List, [], ◌∷◌, map, Option, Some, None, Result, Ok, Err}
+use Rattle.std.specs.Prelude.{ℕ, zero, suc, ◌+◌, List, [], ◌∷◌, map, Option, Some, None, option_map, Result, Ok, Err}
 use Rattle.std.specs.List.{flat_map}
 use Rattle.awk_types.specs.DataType.{Name}
+use Rattle.awk_types.specs.Gives.{refused_or, ◌or◌}
 use Rattle.awk_types.specs.Limit.{Limit, limit}
 use Rattle.awk_types.specs.Simple.{simple}
 use Rattle.serde_json.specs.Data.{Data, depth}
@@ -43,22 +44,38 @@ nodes_down (suc levels) d = d ∷ flat_map (nodes_down levels) (contents_of d)
 unfoldable pub nodes_of : Data → List Data
 nodes_of d = nodes_down (suc (depth d)) d
 
+-- of several, and of the contents that a node names
+abbrev pub nodes_of_all : List Data → List Data
+nodes_of_all ds = flat_map nodes_of ds
+
+abbrev pub nodes_below : Head → List Data
+nodes_below head = nodes_of_all (contents head)
+
+-- ---- why a form is refused
+
 -- a node, by its number in pre-order, and the first cause against it
 pub record Break : Type 0 where
   pub node : ℕ
   pub why : FormWhy
 
-abbrev pub break_at : ℕ → Result Node FormWhy → Option Break → Option Break
-break_at n (Ok said) later = later
-break_at n (Err e) later = Some (record { node = n; why = e })
+pub data Refusal : Type 0 where
+  broken : Break → Refusal
+  limited : Limit → Refusal
+
+-- what stands against node n
+abbrev pub break_at : ℕ → Result Node FormWhy → Option Refusal
+break_at n (Ok said) = None
+break_at n (Err e) = Some (broken (record { node = n; why = e }))
 
 -- the first break of nodes that are numbered from n
-abbrev pub first_break_from : ℕ → List Data → Option Break
+abbrev pub first_break_from : ℕ → List Data → Option Refusal
 first_break_from n [] = None
-first_break_from n (d ∷ ds) = break_at n (node_at d) (first_break_from (n + 1) ds)
+first_break_from n (d ∷ ds) = break_at n (node_at d) or first_break_from (n + 1) ds
 
-abbrev pub first_break : Data → Option Break
+abbrev pub first_break : Data → Option Refusal
 first_break d = first_break_from 0 (nodes_of d)
+
+-- ---- the form
 
 -- the form of a node, where f gives the forms of its contents
 abbrev pub form_with : (Data → FormTree) → Option Name → Head → FormTree
@@ -89,18 +106,10 @@ form_of d = form_down (suc (depth d)) d
 
 -- ---- the form, or why it is refused
 
-pub data Refusal : Type 0 where
-  broken : Break → Refusal
-  limited : Limit → Refusal
+-- the limit that its simple type passes
+abbrev pub passed_limit : FormTree → Option Refusal
+passed_limit f = option_map limited (limit (simple (type_of f)))
 
-abbrev pub or_break : {A : Type 0} → Option Break → Result A Refusal → Result A Refusal
-or_break None r = r
-or_break (Some b) r = Err (broken b)
-
-abbrev pub or_limit : {A : Type 0} → Option Limit → A → Result A Refusal
-or_limit None a = Ok a
-or_limit (Some l) a = Err (limited l)
-
--- the first break, and where there is none the limit that the simple type passes
+-- refused for the first break, and where there is none for the limit
 abbrev pub reading : Data → Result FormTree Refusal
-reading d = or_break (first_break d) (or_limit (limit (simple (type_of (form_of d)))) (form_of d))
+reading d = refused_or (first_break d or passed_limit (form_of d)) (form_of d)

@@ -9,7 +9,8 @@ use std::alloc::{AllocError, AllocFailed};
 pub enum FormWhy {
     /// It is no object, or its class is none of the twelve.
     Class,
-    /// A key is absent or its value is not of the JSON type, or there are not as many fields as contents.
+    /// A key is absent or its value is not of the JSON type, or there are not as many fields as
+    /// contents.
     Key,
     /// The kind of an index, of tags or of a mask is not allowed there.
     Kind,

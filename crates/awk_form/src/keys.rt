@@ -17,7 +17,8 @@ use std::alloc::Global;
 
 /// The text at a key, if there is one.
 pub fn text_if_any<'a>(json: &'a Value, key: &str) -> Option<&'a str>
-    ensures { option_map (λ text. text.now) result ≡ option_and_then as_str (get key.now (view json.now)) }
+    ensures { option_map (λ text. text.now) result
+        ≡ option_and_then as_str (get key.now (view json.now)) }
 {
     json.get(key).and_then(Value::as_str)
 }
@@ -73,7 +74,8 @@ pub fn index_kind_at(json: &Value, key: &str) -> Result<IndexKind, FormWhy>
 
 /// The kind of an index at a key, whose negative numbers mean nulls.
 pub fn option_index_kind_at(json: &Value, key: &str) -> Result<IndexKind, FormWhy>
-    ensures { Gives (λ kind. kind) Some result (kind_said option_index_kinds key.now (view json.now)) }
+    ensures { Gives (λ kind. kind) Some result
+        (kind_said option_index_kinds key.now (view json.now)) }
 {
     option_index_kind(text_at(json, key)?).ok_or(FormWhy::Kind)
 }
@@ -124,7 +126,8 @@ pub fn primitive_at(json: &Value) -> Result<Prim, FormWhy>
 
 /// The numbers of a list, if each item is one.
 fn numbers(alloc: Global, items: &Vec<Value>) -> Result<Dims, NodeFault>
-    ensures { Gives (λ dims. dims) why_told result (present_or Key (numbers_of (items_view items.now.items))) }
+    ensures { Gives (λ dims. dims) why_told result
+        (present_or Key (numbers_of (items_view items.now.items))) }
 {
     let mut dims = Dims::new(alloc);
     for item in items {
@@ -152,7 +155,8 @@ pub fn content_at(json: &Value) -> Result<&Value, FormWhy>
 
 /// The contents of a node, each of which is judged as a node of its own.
 pub fn contents_at(json: &Value) -> Result<&[Value], FormWhy>
-    ensures { Gives (λ contents. map view contents.now) Some result (contents_said (view json.now)) }
+    ensures { Gives (λ contents. map view contents.now) Some result
+        (contents_said (view json.now)) }
 {
     let contents = json
         .get("contents")

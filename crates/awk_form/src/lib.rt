@@ -10,8 +10,6 @@ mod kind;
 mod names;
 mod node;
 mod read;
-#[cfg(test)]
-mod tests;
 mod typing;
 mod write;
 

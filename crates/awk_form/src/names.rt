@@ -32,7 +32,8 @@ pub fn fields_at(alloc: Global, json: &Value) -> Result<Option<Names>, NodeFault
 
 /// The texts of a list, if each item is one.
 fn texts(alloc: Global, items: &Vec<Value>) -> Result<Names, NodeFault>
-    ensures { Gives (λ names. names) why_told result (present_or Key (texts_of (items_view items.now.items))) }
+    ensures { Gives (λ names. names) why_told result
+        (present_or Key (texts_of (items_view items.now.items))) }
 {
     let mut names = Names::new(alloc);
     for item in items {

@@ -1,12 +1,11 @@
 //! Forms, read from JSON.
-ghost use Rattle.std.specs.Prelude.{◌≡◌, ◌+◌, [], ◌∷◌, Option, Ok, map, length, IfOk, OnOk};
-ghost use Rattle.std.specs.List.{flat_map};
+ghost use Rattle.std.specs.Prelude.{◌≡◌, ◌+◌, [], ◌∷◌, Option, map, length, IfOk, OnOk};
 ghost use Rattle.awk_types.specs.DataType.{Name};
-ghost use Rattle.awk_types.specs.Gives.{Gives};
+ghost use Rattle.awk_types.specs.Gives.{Gives, refused_or};
 ghost use Rattle.serde_json.specs.View.{view};
 ghost use Rattle.awk_form.specs.Told.{refusal_told};
 ghost use Rattle.awk_form.specs.NodeView.{head_of};
-ghost use Rattle.awk_form.specs.Reading.{contents as contents_in, nodes_of, first_break_from, form_with, form_of as form_said, or_break, reading};
+ghost use Rattle.awk_form.specs.Reading.{nodes_of, nodes_of_all, nodes_below, first_break_from, form_with, form_of as form_said, reading};
 ghost use Rattle.awk_form.specs.Lawful.{IsLawful};
 ghost use Rattle.awk_form.specs.View.{form_of, forms_of, keyed};
 
@@ -40,8 +39,11 @@ impl Reader {
     /// The form of a node and of what is below it.
     #[cycle(read)]
     fn form(&mut self, json: &Value) -> Result<Form, FormFault>
-        ensures gives { Gives form_of refusal_told result (or_break (first_break_from self.old.next (nodes_of (view json.now))) (Ok (form_said (view json.now)))) }
-        ensures next { OnOk result (self.new.next ≡ self.old.next + length (nodes_of (view json.now))) }
+        ensures gives { Gives form_of refusal_told result
+            (refused_or (first_break_from self.old.next (nodes_of (view json.now)))
+            (form_said (view json.now))) }
+        ensures next { OnOk result
+            (self.new.next ≡ self.old.next + length (nodes_of (view json.now))) }
     {
         let number = self.next;
         // There are fewer nodes than 2^64 in any memory.
@@ -59,9 +61,12 @@ impl Reader {
     /// A node without its key, and what is below it.
     #[cycle(read)]
     fn shape(&mut self, head: Head<'_>) -> Result<Shape, FormFault>
-        ensures gives { (key : Option Name) → Gives (λ shape. keyed shape key) refusal_told result
-            (or_break (first_break_from self.old.next (flat_map nodes_of (contents_in (head_of head.entry)))) (Ok (form_with form_said key (head_of head.entry)))) }
-        ensures next { OnOk result (self.new.next ≡ self.old.next + length (flat_map nodes_of (contents_in (head_of head.entry)))) }
+        ensures gives { (key : Option Name) →
+            Gives (λ shape. keyed shape key) refusal_told result
+            (refused_or (first_break_from self.old.next (nodes_below (head_of head.entry)))
+            (form_with form_said key (head_of head.entry))) }
+        ensures next { OnOk result
+            (self.new.next ≡ self.old.next + length (nodes_below (head_of head.entry))) }
     {
         match head {
             Head::Empty => Ok(Shape::Empty),
@@ -125,8 +130,10 @@ impl Reader {
     #[cycle(read)]
     fn content(&mut self, json: &Value) -> Result<Box<Form>, FormFault>
         ensures gives { Gives (λ form. form_of form.value) refusal_told result
-            (or_break (first_break_from self.old.next (flat_map nodes_of (view json.now ∷ []))) (Ok (form_said (view json.now)))) }
-        ensures next { OnOk result (self.new.next ≡ self.old.next + length (flat_map nodes_of (view json.now ∷ []))) }
+            (refused_or (first_break_from self.old.next (nodes_of_all (view json.now ∷ [])))
+            (form_said (view json.now))) }
+        ensures next { OnOk result
+            (self.new.next ≡ self.old.next + length (nodes_of_all (view json.now ∷ []))) }
     {
         let form = self.form(json)?;
         Ok(Box::new(self.alloc, form)?)
@@ -136,8 +143,10 @@ impl Reader {
     #[cycle(read)]
     fn contents(&mut self, contents: &[Value]) -> Result<Forms, FormFault>
         ensures gives { Gives forms_of refusal_told result
-            (or_break (first_break_from self.old.next (flat_map nodes_of (map view contents.now))) (Ok (map form_said (map view contents.now)))) }
-        ensures next { OnOk result (self.new.next ≡ self.old.next + length (flat_map nodes_of (map view contents.now))) }
+            (refused_or (first_break_from self.old.next (nodes_of_all (map view contents.now)))
+            (map form_said (map view contents.now))) }
+        ensures next { OnOk result
+            (self.new.next ≡ self.old.next + length (nodes_of_all (map view contents.now))) }
     {
         let mut forms = Forms::new(self.alloc);
         for json in contents {

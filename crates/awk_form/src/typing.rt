@@ -1,18 +1,18 @@
 //! The types of forms.
 ghost use Rattle.std.specs.Prelude.{◌≡◌, length, map, IfOk};
-ghost use Rattle.awk_types.specs.DataType.{leaf, types_from};
+ghost use Rattle.awk_types.specs.DataType.{leaf, types_from, row_type};
 ghost use Rattle.awk_types.specs.Gives.{Gives};
 ghost use Rattle.awk_types.specs.Limit.{limit_told, within};
 ghost use Rattle.awk_types.specs.Simple.{simple};
 ghost use Rattle.awk_types.specs.View.{typ_of, typs_of, names_of, fields_of};
-ghost use Rattle.awk_form.specs.FormType.{type_of, shaped, row_type};
+ghost use Rattle.awk_form.specs.FormType.{type_of, shaped};
 ghost use Rattle.awk_form.specs.Lawful.{IsLawful, AreLawful, AreNamesOf};
 ghost use Rattle.awk_form.specs.FormTree.{forms_from};
 ghost use Rattle.awk_form.specs.View.{form_of, forms_of};
 
 use crate::dims::Dims;
 use crate::form::{Form, Forms, Shape};
-use awk_types::{Field, Fields, Names, NoMemory, Prim, Typ, TypeFault, Typs, simple_of};
+use awk_types::{Fields, Names, NoMemory, Prim, Typ, TypeFault, Typs, simple_of};
 use std::alloc::Global;
 
 /// The simple type of the items of a form.
@@ -65,11 +65,12 @@ fn item_type(alloc: Global, form: &Form) -> Result<Typ, NoMemory>
 fn row(alloc: Global, names: &Option<Names>, contents: &Forms) -> Result<Typ, NoMemory>
     requires names { AreNamesOf (forms_from (forms_of contents.now)) names.now }
     requires lawful { AreLawful (forms_from (forms_of contents.now)) }
-    ensures { IfOk result (λ t. typ_of t ≡ row_type names.now (types_from (map type_of (forms_of contents.now)))) }
+    ensures { IfOk result (λ t. typ_of t
+        ≡ row_type names.now (types_from (map type_of (forms_of contents.now)))) }
 {
     match names {
         None => Ok(Typ::Tup(item_types(alloc, contents)?)),
-        Some(names) => Ok(Typ::Rec(fields(alloc, names, contents)?)),
+        Some(names) => Ok(Typ::Rec(Fields::named(alloc, names, item_types(alloc, contents)?)?)),
     }
 }
 
@@ -84,23 +85,6 @@ fn item_types(alloc: Global, forms: &Forms) -> Result<Typs, NoMemory>
         types.push(item_type(alloc, form)?)?;
     }
     Ok(types)
-}
-
-/// The types of the items of forms, each beside its name.
-#[cycle(item_type)]
-fn fields(alloc: Global, names: &Names, forms: &Forms) -> Result<Fields, NoMemory>
-    requires count { length names.now ≡ length (forms_of forms.now) }
-    requires lawful { AreLawful (forms_from (forms_of forms.now)) }
-    ensures names { IfOk result (λ fs. names_of (fields_of fs) ≡ names.now) }
-    ensures types { IfOk result (λ fs. map (λ f. f.typ) (fields_of fs) ≡ map type_of (forms_of forms.now)) }
-{
-    let mut fields = Fields::new(alloc);
-    for i in 0..names.len() {
-        let name = names.get(i).copy(alloc)?;
-        let typ = item_type(alloc, forms.get(i))?;
-        fields.push(Field { name, typ })?;
-    }
-    Ok(fields)
 }
 
 /// The regular lists of an inner shape.

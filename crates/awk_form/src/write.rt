@@ -2,23 +2,24 @@
 ghost use Rattle.std.specs.Prelude.{◌≡◌, ◌++◌, IsTrue, Option, codes, decimal, map};
 ghost use Rattle.awk_edge.specs.Causes.{HasCause};
 ghost use Rattle.awk_edge.specs.Put.{Moves};
-ghost use Rattle.awk_json.specs.Text.{quoted};
+ghost use Rattle.awk_json.specs.Text.{quoted, list_text, truth_text};
 ghost use Rattle.awk_types.specs.DataType.{Name as Key};
-ghost use Rattle.awk_form.specs.FormText.{kind_text, primitive_text, truth_text, list_text, fields_text, key_text, member, word, class_text, class_member, members_text, end_text, contents_text, form_text};
+ghost use Rattle.awk_form.specs.FormText.{kind_text, primitive_text, fields_text, key_text, member, word, class_text, class_member, members_text, end_text, contents_text, form_text};
 ghost use Rattle.awk_form.specs.View.{form_of, forms_of, keyed};
 
 use crate::dims::Dims;
 use crate::form::{Form, Forms, Shape};
 use crate::kind::IndexKind;
 use awk_edge::{Out, Sink, WriteFault};
-use awk_json::{write_number, write_pieces, write_text};
+use awk_json::{write_comma, write_number, write_pieces, write_text};
 use awk_types::{Name, Names, Prim};
 
 /// Puts the text of a form: the class, its keys in order, empty parameters and the form key.
 #[cycle(write)]
 pub fn write_form<K: Sink>(form: &Form, out: &mut Out, sink: &mut K) -> Result<(), WriteFault>
     requires open { IsTrue out.old.is_open }
-    ensures bytes { Moves (K.written sink.old) (K.written sink.new) out.new (out.old.held ++ form_text (form_of form.now)) result }
+    ensures bytes { Moves (K.written sink.old) (K.written sink.new) out.new
+        (out.old.held ++ form_text (form_of form.now)) result }
     ensures flushes { K.flushes sink.new ≡ K.flushes sink.old }
     ensures cause { HasCause (K.faults sink.old) (K.faults sink.new) result }
 {
@@ -32,7 +33,9 @@ pub fn write_form<K: Sink>(form: &Form, out: &mut Out, sink: &mut K) -> Result<(
 #[cycle(write)]
 fn write_contents<K: Sink>(shape: &Shape, out: &mut Out, sink: &mut K) -> Result<(), WriteFault>
     requires open { IsTrue out.old.is_open }
-    ensures bytes { (key : Option Key) → Moves (K.written sink.old) (K.written sink.new) out.new (out.old.held ++ contents_text (keyed shape.now key)) result }
+    ensures bytes { (key : Option Key) →
+        Moves (K.written sink.old) (K.written sink.new) out.new
+        (out.old.held ++ contents_text (keyed shape.now key)) result }
     ensures flushes { K.flushes sink.new ≡ K.flushes sink.old }
     ensures cause { HasCause (K.faults sink.old) (K.faults sink.new) result }
 {
@@ -60,16 +63,17 @@ fn write_contents<K: Sink>(shape: &Shape, out: &mut Out, sink: &mut K) -> Result
 #[cycle(write)]
 fn write_forms<K: Sink>(forms: &Forms, out: &mut Out, sink: &mut K) -> Result<(), WriteFault>
     requires open { IsTrue out.old.is_open }
-    ensures bytes { Moves (K.written sink.old) (K.written sink.new) out.new (out.old.held ++ list_text (map form_text (forms_of forms.now))) result }
+    ensures bytes { Moves (K.written sink.old) (K.written sink.new) out.new
+        (out.old.held ++ list_text (map form_text (forms_of forms.now))) result }
     ensures flushes { K.flushes sink.new ≡ K.flushes sink.old }
     ensures cause { HasCause (K.faults sink.old) (K.faults sink.new) result }
 {
-    let mut separator: &[u8] = b"";
+    let mut is_first = true;
     out.put(sink, b"[")?;
     for form in &forms.items {
-        out.put(sink, separator)?;
+        write_comma(out, sink, is_first)?;
         write_form(form, out, sink)?;
-        separator = b",";
+        is_first = false;
     }
     out.put(sink, b"]")
 }
@@ -77,7 +81,8 @@ fn write_forms<K: Sink>(forms: &Forms, out: &mut Out, sink: &mut K) -> Result<()
 /// Puts the object's start and the class.
 fn write_class<K: Sink>(form: &Form, out: &mut Out, sink: &mut K) -> Result<(), WriteFault>
     requires open { IsTrue out.old.is_open }
-    ensures bytes { Moves (K.written sink.old) (K.written sink.new) out.new (out.old.held ++ class_member (class_text (form_of form.now))) result }
+    ensures bytes { Moves (K.written sink.old) (K.written sink.new) out.new
+        (out.old.held ++ class_member (class_text (form_of form.now))) result }
     ensures flushes { K.flushes sink.new ≡ K.flushes sink.old }
     ensures cause { HasCause (K.faults sink.old) (K.faults sink.new) result }
 {
@@ -106,7 +111,8 @@ fn class_name(form: &Form) -> &'static str
 /// Puts the keys of a class that come before its contents.
 fn write_members<K: Sink>(form: &Form, out: &mut Out, sink: &mut K) -> Result<(), WriteFault>
     requires open { IsTrue out.old.is_open }
-    ensures bytes { Moves (K.written sink.old) (K.written sink.new) out.new (out.old.held ++ members_text (form_of form.now)) result }
+    ensures bytes { Moves (K.written sink.old) (K.written sink.new) out.new
+        (out.old.held ++ members_text (form_of form.now)) result }
     ensures flushes { K.flushes sink.new ≡ K.flushes sink.old }
     ensures cause { HasCause (K.faults sink.old) (K.faults sink.new) result }
 {
@@ -137,7 +143,9 @@ fn write_numpy<K: Sink>(
     sink: &mut K,
 ) -> Result<(), WriteFault>
     requires open { IsTrue out.old.is_open }
-    ensures bytes { Moves (K.written sink.old) (K.written sink.new) out.new (out.old.held ++ (member (codes "primitive") (word (primitive_text prim)) ++ member (codes "inner_shape") (list_text (map decimal inner.now)))) result }
+    ensures bytes { Moves (K.written sink.old) (K.written sink.new) out.new
+        (out.old.held ++ (member (codes "primitive") (word (primitive_text prim)) ++
+        member (codes "inner_shape") (list_text (map decimal inner.now)))) result }
     ensures flushes { K.flushes sink.new ≡ K.flushes sink.old }
     ensures cause { HasCause (K.faults sink.old) (K.faults sink.new) result }
 {
@@ -148,7 +156,8 @@ fn write_numpy<K: Sink>(
 
 fn write_regular<K: Sink>(size: u64, out: &mut Out, sink: &mut K) -> Result<(), WriteFault>
     requires open { IsTrue out.old.is_open }
-    ensures bytes { Moves (K.written sink.old) (K.written sink.new) out.new (out.old.held ++ member (codes "size") (decimal size)) result }
+    ensures bytes { Moves (K.written sink.old) (K.written sink.new) out.new
+        (out.old.held ++ member (codes "size") (decimal size)) result }
     ensures flushes { K.flushes sink.new ≡ K.flushes sink.old }
     ensures cause { HasCause (K.faults sink.old) (K.faults sink.new) result }
 {
@@ -163,7 +172,9 @@ fn write_list<K: Sink>(
     sink: &mut K,
 ) -> Result<(), WriteFault>
     requires open { IsTrue out.old.is_open }
-    ensures bytes { Moves (K.written sink.old) (K.written sink.new) out.new (out.old.held ++ (member (codes "starts") (word (kind_text starts)) ++ member (codes "stops") (word (kind_text stops)))) result }
+    ensures bytes { Moves (K.written sink.old) (K.written sink.new) out.new
+        (out.old.held ++ (member (codes "starts") (word (kind_text starts)) ++
+        member (codes "stops") (word (kind_text stops)))) result }
     ensures flushes { K.flushes sink.new ≡ K.flushes sink.old }
     ensures cause { HasCause (K.faults sink.old) (K.faults sink.new) result }
 {
@@ -173,7 +184,8 @@ fn write_list<K: Sink>(
 
 fn write_row<K: Sink>(names: &Option<Names>, out: &mut Out, sink: &mut K) -> Result<(), WriteFault>
     requires open { IsTrue out.old.is_open }
-    ensures bytes { Moves (K.written sink.old) (K.written sink.new) out.new (out.old.held ++ member (codes "fields") (fields_text names.now)) result }
+    ensures bytes { Moves (K.written sink.old) (K.written sink.new) out.new
+        (out.old.held ++ member (codes "fields") (fields_text names.now)) result }
     ensures flushes { K.flushes sink.new ≡ K.flushes sink.old }
     ensures cause { HasCause (K.faults sink.old) (K.faults sink.new) result }
 {
@@ -188,7 +200,8 @@ fn write_fields<K: Sink>(
     sink: &mut K,
 ) -> Result<(), WriteFault>
     requires open { IsTrue out.old.is_open }
-    ensures bytes { Moves (K.written sink.old) (K.written sink.new) out.new (out.old.held ++ fields_text names.now) result }
+    ensures bytes { Moves (K.written sink.old) (K.written sink.new) out.new
+        (out.old.held ++ fields_text names.now) result }
     ensures flushes { K.flushes sink.new ≡ K.flushes sink.old }
     ensures cause { HasCause (K.faults sink.old) (K.faults sink.new) result }
 {
@@ -204,7 +217,9 @@ fn write_byte_masked<K: Sink>(
     sink: &mut K,
 ) -> Result<(), WriteFault>
     requires open { IsTrue out.old.is_open }
-    ensures bytes { Moves (K.written sink.old) (K.written sink.new) out.new (out.old.held ++ (member (codes "mask") (word (codes "i8")) ++ member (codes "valid_when") (truth_text valid_when))) result }
+    ensures bytes { Moves (K.written sink.old) (K.written sink.new) out.new
+        (out.old.held ++ (member (codes "mask") (word (codes "i8")) ++
+        member (codes "valid_when") (truth_text valid_when))) result }
     ensures flushes { K.flushes sink.new ≡ K.flushes sink.old }
     ensures cause { HasCause (K.faults sink.old) (K.faults sink.new) result }
 {
@@ -219,7 +234,10 @@ fn write_bit_masked<K: Sink>(
     sink: &mut K,
 ) -> Result<(), WriteFault>
     requires open { IsTrue out.old.is_open }
-    ensures bytes { Moves (K.written sink.old) (K.written sink.new) out.new (out.old.held ++ (member (codes "mask") (word (codes "u8")) ++ (member (codes "valid_when") (truth_text valid_when) ++ member (codes "lsb_order") (truth_text lsb_order)))) result }
+    ensures bytes { Moves (K.written sink.old) (K.written sink.new) out.new
+        (out.old.held ++ (member (codes "mask") (word (codes "u8")) ++
+        (member (codes "valid_when") (truth_text valid_when) ++
+        member (codes "lsb_order") (truth_text lsb_order)))) result }
     ensures flushes { K.flushes sink.new ≡ K.flushes sink.old }
     ensures cause { HasCause (K.faults sink.old) (K.faults sink.new) result }
 {
@@ -230,7 +248,9 @@ fn write_bit_masked<K: Sink>(
 
 fn write_union<K: Sink>(index: IndexKind, out: &mut Out, sink: &mut K) -> Result<(), WriteFault>
     requires open { IsTrue out.old.is_open }
-    ensures bytes { Moves (K.written sink.old) (K.written sink.new) out.new (out.old.held ++ (member (codes "tags") (word (codes "i8")) ++ member (codes "index") (word (kind_text index)))) result }
+    ensures bytes { Moves (K.written sink.old) (K.written sink.new) out.new
+        (out.old.held ++ (member (codes "tags") (word (codes "i8")) ++
+        member (codes "index") (word (kind_text index)))) result }
     ensures flushes { K.flushes sink.new ≡ K.flushes sink.old }
     ensures cause { HasCause (K.faults sink.old) (K.faults sink.new) result }
 {
@@ -241,7 +261,8 @@ fn write_union<K: Sink>(index: IndexKind, out: &mut Out, sink: &mut K) -> Result
 /// Puts empty parameters and the form key, and ends the object.
 fn write_end<K: Sink>(key: &Option<Name>, out: &mut Out, sink: &mut K) -> Result<(), WriteFault>
     requires open { IsTrue out.old.is_open }
-    ensures bytes { Moves (K.written sink.old) (K.written sink.new) out.new (out.old.held ++ end_text key.now) result }
+    ensures bytes { Moves (K.written sink.old) (K.written sink.new) out.new
+        (out.old.held ++ end_text key.now) result }
     ensures flushes { K.flushes sink.new ≡ K.flushes sink.old }
     ensures cause { HasCause (K.faults sink.old) (K.faults sink.new) result }
 {
@@ -252,7 +273,8 @@ fn write_end<K: Sink>(key: &Option<Name>, out: &mut Out, sink: &mut K) -> Result
 
 fn write_key<K: Sink>(key: &Option<Name>, out: &mut Out, sink: &mut K) -> Result<(), WriteFault>
     requires open { IsTrue out.old.is_open }
-    ensures bytes { Moves (K.written sink.old) (K.written sink.new) out.new (out.old.held ++ key_text key.now) result }
+    ensures bytes { Moves (K.written sink.old) (K.written sink.new) out.new
+        (out.old.held ++ key_text key.now) result }
     ensures flushes { K.flushes sink.new ≡ K.flushes sink.old }
     ensures cause { HasCause (K.faults sink.old) (K.faults sink.new) result }
 {
@@ -264,32 +286,34 @@ fn write_key<K: Sink>(key: &Option<Name>, out: &mut Out, sink: &mut K) -> Result
 
 fn write_names<K: Sink>(names: &Names, out: &mut Out, sink: &mut K) -> Result<(), WriteFault>
     requires open { IsTrue out.old.is_open }
-    ensures bytes { Moves (K.written sink.old) (K.written sink.new) out.new (out.old.held ++ list_text (map quoted names.now)) result }
+    ensures bytes { Moves (K.written sink.old) (K.written sink.new) out.new
+        (out.old.held ++ list_text (map quoted names.now)) result }
     ensures flushes { K.flushes sink.new ≡ K.flushes sink.old }
     ensures cause { HasCause (K.faults sink.old) (K.faults sink.new) result }
 {
-    let mut separator: &[u8] = b"";
+    let mut is_first = true;
     out.put(sink, b"[")?;
     for i in 0..names.len() {
-        out.put(sink, separator)?;
+        write_comma(out, sink, is_first)?;
         write_text(out, sink, names.get(i).as_str())?;
-        separator = b",";
+        is_first = false;
     }
     out.put(sink, b"]")
 }
 
 fn write_numbers<K: Sink>(numbers: &Dims, out: &mut Out, sink: &mut K) -> Result<(), WriteFault>
     requires open { IsTrue out.old.is_open }
-    ensures bytes { Moves (K.written sink.old) (K.written sink.new) out.new (out.old.held ++ list_text (map decimal numbers.now)) result }
+    ensures bytes { Moves (K.written sink.old) (K.written sink.new) out.new
+        (out.old.held ++ list_text (map decimal numbers.now)) result }
     ensures flushes { K.flushes sink.new ≡ K.flushes sink.old }
     ensures cause { HasCause (K.faults sink.old) (K.faults sink.new) result }
 {
-    let mut separator: &[u8] = b"";
+    let mut is_first = true;
     out.put(sink, b"[")?;
     for n in &numbers.items {
-        out.put(sink, separator)?;
+        write_comma(out, sink, is_first)?;
         write_number(out, sink, *n)?;
-        separator = b",";
+        is_first = false;
     }
     out.put(sink, b"]")
 }
@@ -302,7 +326,8 @@ fn write_kind<K: Sink>(
     sink: &mut K,
 ) -> Result<(), WriteFault>
     requires open { IsTrue out.old.is_open }
-    ensures bytes { Moves (K.written sink.old) (K.written sink.new) out.new (out.old.held ++ member name.now (word (kind_text kind))) result }
+    ensures bytes { Moves (K.written sink.old) (K.written sink.new) out.new
+        (out.old.held ++ member name.now (word (kind_text kind))) result }
     ensures flushes { K.flushes sink.new ≡ K.flushes sink.old }
     ensures cause { HasCause (K.faults sink.old) (K.faults sink.new) result }
 {
@@ -312,7 +337,8 @@ fn write_kind<K: Sink>(
 /// Puts a key and a truth value.
 fn write_truth<K: Sink>(name: &str, b: bool, out: &mut Out, sink: &mut K) -> Result<(), WriteFault>
     requires open { IsTrue out.old.is_open }
-    ensures bytes { Moves (K.written sink.old) (K.written sink.new) out.new (out.old.held ++ member name.now (truth_text b)) result }
+    ensures bytes { Moves (K.written sink.old) (K.written sink.new) out.new
+        (out.old.held ++ member name.now (truth_text b)) result }
     ensures flushes { K.flushes sink.new ≡ K.flushes sink.old }
     ensures cause { HasCause (K.faults sink.old) (K.faults sink.new) result }
 {
@@ -327,7 +353,8 @@ fn write_word<K: Sink>(
     sink: &mut K,
 ) -> Result<(), WriteFault>
     requires open { IsTrue out.old.is_open }
-    ensures bytes { Moves (K.written sink.old) (K.written sink.new) out.new (out.old.held ++ member name.now (word text.now)) result }
+    ensures bytes { Moves (K.written sink.old) (K.written sink.new) out.new
+        (out.old.held ++ member name.now (word text.now)) result }
     ensures flushes { K.flushes sink.new ≡ K.flushes sink.old }
     ensures cause { HasCause (K.faults sink.old) (K.faults sink.new) result }
 {
@@ -342,7 +369,8 @@ fn write_value<K: Sink>(
     sink: &mut K,
 ) -> Result<(), WriteFault>
     requires open { IsTrue out.old.is_open }
-    ensures bytes { Moves (K.written sink.old) (K.written sink.new) out.new (out.old.held ++ member name.now text.now) result }
+    ensures bytes { Moves (K.written sink.old) (K.written sink.new) out.new
+        (out.old.held ++ member name.now text.now) result }
     ensures flushes { K.flushes sink.new ≡ K.flushes sink.old }
     ensures cause { HasCause (K.faults sink.old) (K.faults sink.new) result }
 {

@@ -1,8 +1,10 @@
 use Rattle.std.proofs.Common.{◌≡◌, true, false, not, cond, nat_cmp, is_eq, take, Some, sym, ap, ◌∙◌}
 use Rattle.std.specs.Cmp.Lexicographic.{slice_cmp}
+use Rattle.std.proofs.Math.Bool.{not-not}
 use Rattle.awk_types.specs.Names.{is_among}
+use Rattle.awk_types.proofs.ListLaws.{take-get}
 use Rattle.awk_form.specs.Node.{are_distinct}
-use Rattle.awk_form.proofs.Distinct.{distinct-more, taken, repeated, seen-more, not-not}
+use Rattle.awk_form.proofs.Distinct.{distinct-more, repeated, seen-more}
 use Rattle.awk_form.proofs.names.are_distinct.Goals as goal
 
 pub returns-then-not-branch : goal.returns-then-not-branch
@@ -16,7 +18,7 @@ loop-i-preserved c =
     let names = c.args.names.now in
     let i = c.loop-i.i in
     let name = c.as_str.result in
-    let at = taken names i name.now (c.get.ensures ∙ ap Some (sym c.as_str.ensures)) in
+    let at = take-get names i name.now (c.get.ensures ∙ ap Some (sym c.as_str.ensures)) in
     let had : is_among name.now (take i names) ≡ false = sym (c.loop-i.invariant.seen name) ∙ sym (not-not _) ∙ ap not (sym c.in_ok-insert.ensures.added ∙ c.if-not-branch.false) in
     record {
       distinct = ap are_distinct at ∙ distinct-more (take i names) name.now c.loop-i.invariant.distinct had;

@@ -1,13 +1,15 @@
-use Rattle.std.proofs.Common.{◌≡◌, ◌++◌, ◌∷◌, ◌+◌, [], IfOk, Some, map, drop, arith, rules, sym, ap, ◌∙◌, subst, append_assoc}
+use Rattle.std.proofs.Common.{◌≡◌, ◌++◌, ◌∷◌, ◌+◌, [], IfOk, map, drop, arith, rules, sym, ap, ◌∙◌, subst, append_assoc, length}
+use Rattle.std.proofs.lemmas.List.{length-map}
 use Rattle.awk_types.specs.DataType.{uni, types_from}
-use Rattle.awk_types.specs.View.{typ_of, typs_of, fields_of}
+use Rattle.awk_types.specs.View.{typ_of, typs_of}
 use Rattle.awk_types.proofs.Views.{typ_of-Uni}
 use Rattle.awk_form.specs.FormType.{type_of}
 use Rattle.awk_form.specs.View.{form_of, forms_of}
 use Rattle.awk_form.specs.FormTree.{forms_from}
 use Rattle.awk_form.specs.Lawful.{AreNamesOf}
 use Rattle.awk_form.specs.declared.form.Shape.{the_lemmas}
-use Rattle.awk_form.proofs.Types.{named_type, field_of-roll, names-more, types-more, count-from, lawful_at, type-Union, type-Row, lawful-Row, forms_left, lawful_left}
+use Rattle.awk_form.proofs.Types.{count-from, type-Union, type-Row, lawful-Row, lawful_left}
+use Rattle.awk_form.proofs.Lists.{map_left}
 use Rattle.awk_form.proofs.typing.+item_type.Goals as goal
 
 pub item_type-returns-in_ok-item_types-in-Union : goal.item_type-returns-in_ok-item_types-in-Union
@@ -26,9 +28,6 @@ item_types-item_type-requires t c =
     let items = c.deref-form-items.result.now in
     (search (rules, the_lemmas), (lawful_left items c.loop-form.form-index c.form-item.result c.form-item.result (omega arith) c.form-item.is c.loop-form.invariant.lawful).0)
 
-pub fields-item_type-requires : goal.fields-item_type-requires
-fields-item_type-requires t c = (search (rules, the_lemmas), lawful_at (forms_of c.args.forms.now) c.loop-i.i _ c.requires.lawful c.get-in-loop-i.ensures.item)
-
 pub item_types-loop-form-preserved : goal.item_types-loop-form-preserved
 item_types-loop-form-preserved t c =
     let items = c.deref-form-items.result.now in
@@ -41,7 +40,7 @@ item_types-loop-form-preserved t c =
           ap (λ ts. ts ++ map type_of more) c.in_ok-push.ensures.ok
           ∙ append_assoc done (typ_of c.in_ok-item_type.field-0 ∷ []) (map type_of more)
           ∙ ap (λ t. done ++ t ∷ map type_of more) c.in_ok-item_type.ensures
-          ∙ ap (λ fs. done ++ map type_of fs) (sym (forms_left items i item item (omega arith) c.form-item.is))
+          ∙ ap (λ fs. done ++ map type_of fs) (sym (map_left form_of items i item item (omega arith) c.form-item.is))
           ∙ c.loop-form.invariant.types;
       lawful = (lawful_left items i item item (omega arith) c.form-item.is c.loop-form.invariant.lawful).1;
     }
@@ -50,16 +49,7 @@ pub item_type-returns-in-Row : goal.item_type-returns-in-Row
 item_type-returns-in-Row t c =
     subst (λ d. IfOk c.row.result (λ t. typ_of t ≡ d)) (sym (type-Row c.args.form.now c.in-Row.names c.in-Row.contents c.in-Row.is)) c.row.ensures
 
-pub row-fields-requires : goal.row-fields-requires
-row-fields-requires t c =
+pub row-named-requires : goal.row-named-requires
+row-named-requires t c =
     let named = subst (AreNamesOf (forms_from (forms_of c.args.contents.now))) c.in-Some.is c.requires.names in
-    (search (rules, the_lemmas), (named.1 ∙ count-from (forms_of c.args.contents.now), c.requires.lawful))
-
-pub fields-loop-i-preserved : goal.fields-loop-i-preserved
-fields-loop-i-preserved t c =
-    let field = named_type c.in_ok-name.name (typ_of c.in_ok-typ.typ) in
-    let pushed = c.in_ok-push.ensures.ok ∙ ap (λ f. fields_of c.loop-i.fields ++ f ∷ []) (field_of-roll c.in_ok-name.name c.in_ok-typ.typ) in
-    record {
-      names = names-more (fields_of c.loop-i.fields) (fields_of c.push.new.self) field c.args.names.now c.loop-i.i pushed c.loop-i.invariant.names (c.get.ensures ∙ ap Some (sym c.in_ok-name.ensures));
-      types = types-more (fields_of c.loop-i.fields) (fields_of c.push.new.self) field (forms_of c.args.forms.now) c.loop-i.i _ pushed c.loop-i.invariant.types c.get-in-loop-i.ensures.item c.in_ok-typ.ensures;
-    }
+    named.1 ∙ count-from (forms_of c.args.contents.now) ∙ sym (length-map (forms_of c.args.contents.now) type_of) ∙ sym (ap length c.in_ok-item_types-in-Some.ensures)

@@ -1,5 +1,5 @@
-use Rattle.std.proofs.Common.{◌≡◌, ◌++◌, map, take, drop}
-use Rattle.awk_types.specs.View.{typs_of, names_of, fields_of}
+use Rattle.std.proofs.Common.{◌≡◌, ◌++◌, map, drop}
+use Rattle.awk_types.specs.View.{typs_of}
 use Rattle.awk_form.specs.FormTree.{forms_from}
 use Rattle.awk_form.specs.FormType.{type_of}
 use Rattle.awk_form.specs.Lawful.{AreLawful}
@@ -11,10 +11,4 @@ abbrev pub invariant-item_types-loop-form : goal.invariant-item_types-loop-form
 invariant-item_types-loop-form l = record {
   types : typs_of l.types ++ map type_of (map form_of (drop l.form-index l.form-items)) ≡ map type_of (forms_of l.forms);
   lawful : AreLawful (forms_from (map form_of (drop l.form-index l.form-items)));
-}
-
-abbrev pub invariant-fields-loop-i : goal.invariant-fields-loop-i
-invariant-fields-loop-i l = record {
-  names : names_of (fields_of l.fields) ≡ take l.i l.names;
-  types : map (λ f. f.typ) (fields_of l.fields) ≡ map type_of (take l.i (forms_of l.forms));
 }

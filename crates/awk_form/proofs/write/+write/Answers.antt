@@ -1,11 +1,11 @@
 use Rattle.std.proofs.Common.{◌≡◌, ◌++◌, codes, map, arith, sym, ap, ◌∙◌}
-use Rattle.awk_json.proofs.Joins.{stops_at, goes_to, joins_first, joins_next, joins_stop, joins_stop_in, joins_last}
+use Rattle.awk_json.proofs.Joins.{stops_at, goes_to, puts_same, joins_first, joins_next, joins_stop, joins_stop_in, joins_last}
 use Rattle.awk_json.specs.Text.{comma_joined}
-use Rattle.awk_form.specs.FormText.{class_text, class_member, members_text, contents_text, form_text}
-use Rattle.awk_form.specs.View.{form_of, forms_of, keyed}
+use Rattle.awk_form.specs.FormText.{class_text, class_member, members_text, form_text}
+use Rattle.awk_form.specs.View.{form_of, forms_of}
 use Rattle.awk_form.specs.declared.form.Shape.TheViews.{out-Form}
-use Rattle.awk_form.proofs.FormTexts.{form_text-parts, content-said, contents-said, puts_same, map_none}
-use Rattle.awk_form.proofs.Types.{forms_left}
+use Rattle.awk_form.proofs.FormTexts.{stops_in_contents, puts_parts, content-said, contents-said}
+use Rattle.awk_form.proofs.Lists.{map_left, map_none}
 use Rattle.awk_form.proofs.Views.{forms_out}
 use Rattle.awk_form.proofs.write.+write.Goals as goal
 
@@ -21,19 +21,11 @@ write_form-returns-in_err-write_members-clause-bytes g t c =
 
 pub write_form-returns-in_err-write_contents-clause-bytes : goal.write_form-returns-in_err-write_contents-clause-bytes
 write_form-returns-in_err-write_contents-clause-bytes g t c =
-    let f = c.args.form.now in
-    let key = (out-Form f).key in
-    puts_same _ (form_text-parts f) (goes_to _ (class_member (class_text (form_of f))) _ c.in_ok-write_class.ensures.bytes
-    (goes_to _ (members_text (form_of f)) _ c.in_ok-write_members.ensures.bytes
-    (stops_at _ (contents_text (keyed (out-Form f).shape key)) _ (c.in_err-write_contents.ensures.bytes key) (grind arith))))
+    stops_in_contents _ c.args.form.now c.in_ok-write_class.ensures.bytes c.in_ok-write_members.ensures.bytes (c.in_err-write_contents.ensures.bytes (out-Form c.args.form.now).key) (grind arith)
 
 pub write_form-returns-clause-bytes : goal.write_form-returns-clause-bytes
 write_form-returns-clause-bytes g t c =
-    let f = c.args.form.now in
-    let key = (out-Form f).key in
-    puts_same _ (form_text-parts f) (goes_to _ (class_member (class_text (form_of f))) _ c.in_ok-write_class.ensures.bytes
-    (goes_to _ (members_text (form_of f)) _ c.in_ok-write_members.ensures.bytes
-    (goes_to _ (contents_text (keyed (out-Form f).shape key)) _ (c.in_ok-write_contents.ensures.bytes key) c.write_end.ensures.bytes)))
+    puts_parts _ c.args.form.now c.in_ok-write_class.ensures.bytes c.in_ok-write_members.ensures.bytes (c.in_ok-write_contents.ensures.bytes (out-Form c.args.form.now).key) c.write_end.ensures.bytes
 
 -- ---- its contents
 
@@ -69,24 +61,24 @@ write_forms-loop-form-init g t c =
       later = omega (arith, c.in_ok-put.ensures.cause.later);
     }
 
-pub write_forms-returns-in_err-put-2-clause-bytes : goal.write_forms-returns-in_err-put-2-clause-bytes
-write_forms-returns-in_err-put-2-clause-bytes g t c =
-    let left = ap (map form_text) (forms_left c.deref-form-items.result.now c.loop-form.form-index c.form-item.result c.form-item.result (omega arith) c.form-item.is) in
-    joins_stop c.loop-form.invariant.joins left c.in_err-put-2.ensures.bytes (grind arith)
+pub write_forms-returns-in_err-write_comma-clause-bytes : goal.write_forms-returns-in_err-write_comma-clause-bytes
+write_forms-returns-in_err-write_comma-clause-bytes g t c =
+    let left = ap (map form_text) (map_left form_of c.deref-form-items.result.now c.loop-form.form-index c.form-item.result c.form-item.result (omega arith) c.form-item.is) in
+    joins_stop c.loop-form.invariant.joins left c.in_err-write_comma.ensures.bytes (grind arith)
 
 pub write_forms-returns-in_err-write_form-clause-bytes : goal.write_forms-returns-in_err-write_form-clause-bytes
 write_forms-returns-in_err-write_form-clause-bytes g t c =
-    let left = ap (map form_text) (forms_left c.deref-form-items.result.now c.loop-form.form-index c.form-item.result c.form-item.result (omega arith) c.form-item.is) in
-    joins_stop_in c.loop-form.invariant.joins left c.in_ok-put-2.ensures.bytes c.in_err-write_form.ensures.bytes (grind arith)
+    let left = ap (map form_text) (map_left form_of c.deref-form-items.result.now c.loop-form.form-index c.form-item.result c.form-item.result (omega arith) c.form-item.is) in
+    joins_stop_in c.loop-form.invariant.joins left c.in_ok-write_comma.ensures.bytes c.in_err-write_form.ensures.bytes (grind arith)
 
 pub write_forms-loop-form-preserved : goal.write_forms-loop-form-preserved
 write_forms-loop-form-preserved g t c =
     let v = c.loop-form.invariant in
-    let left = ap (map form_text) (forms_left c.deref-form-items.result.now c.loop-form.form-index c.form-item.result c.form-item.result (omega arith) c.form-item.is) in
+    let left = ap (map form_text) (map_left form_of c.deref-form-items.result.now c.loop-form.form-index c.form-item.result c.form-item.result (omega arith) c.form-item.is) in
     record {
-      joins = joins_next v.joins left c.in_ok-put-2.ensures.bytes c.in_ok-write_form.ensures.bytes;
-      flushes = c.write_form.ensures.flushes ∙ c.put-in-loop-form.ensures.flushes ∙ v.flushes;
-      later = omega (arith, v.later, c.put-in-loop-form.ensures.cause.later, c.write_form.ensures.cause.later);
+      joins = joins_next v.joins left c.in_ok-write_comma.ensures.bytes c.in_ok-write_form.ensures.bytes;
+      flushes = c.write_form.ensures.flushes ∙ c.write_comma.ensures.flushes ∙ v.flushes;
+      later = omega (arith, v.later, c.write_comma.ensures.cause.later, c.write_form.ensures.cause.later);
     }
 
 pub write_forms-returns-clause-bytes : goal.write_forms-returns-clause-bytes

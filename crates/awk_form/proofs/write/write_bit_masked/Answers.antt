@@ -1,6 +1,7 @@
 use Rattle.std.proofs.Common.{codes, arith}
 use Rattle.awk_json.proofs.Joins.{stops_at, goes_to}
-use Rattle.awk_form.specs.FormText.{member, word, truth_text}
+use Rattle.awk_json.specs.Text.{truth_text}
+use Rattle.awk_form.specs.FormText.{member, word}
 use Rattle.awk_form.proofs.write.write_bit_masked.Goals as goal
 
 pub returns-in_err-write_word-clause-bytes : goal.returns-in_err-write_word-clause-bytes

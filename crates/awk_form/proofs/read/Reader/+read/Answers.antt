@@ -1,14 +1,15 @@
 use Rattle.std.proofs.Common.{◌≡◌, ◌+◌, ◌++◌, ◌∷◌, [], map, drop, Ok, Err, arith, sym, ap, ◌∙◌, subst, append_assoc}
-use Rattle.std.specs.List.{flat_map}
 use Rattle.awk_types.specs.Gives.{Told}
+use Rattle.awk_types.proofs.RefusalLaws.{refused_or-Ok, or-None, Gives-Err}
 use Rattle.serde_json.specs.View.{view}
-use Rattle.awk_form.specs.Reading.{nodes_of, first_break_from, form_of}
+use Rattle.awk_form.specs.Reading.{nodes_of, nodes_of_all, first_break_from, form_of}
 use Rattle.awk_form.specs.Told.{refusal_told, why_told}
 use Rattle.awk_form.specs.Node.{node_at}
 use Rattle.awk_form.specs.NodeView.{node_of}
-use Rattle.awk_form.proofs.Breaks.{gives_err, values_left, told_of_whole, breaks_on, length_left, unbroken, told_of_node, read_of_node, broken_node, length-node}
+use Rattle.awk_form.proofs.Breaks.{breaks_left, told_of_whole, length_left, told_of_node, read_of_node, broken_node, length-node}
 use Rattle.awk_form.specs.View.{form_of as made, forms_of}
 use Rattle.awk_form.proofs.Views.{form_of-roll}
+use Rattle.awk_form.proofs.Lists.{map_left}
 use Rattle.awk_form.proofs.Levels.{levels-node, levels-item}
 use Rattle.awk_form.proofs.read.Reader.+read.Goals as goal
 
@@ -23,9 +24,9 @@ form-shape-requires t c = (omega (arith, levels-node (view c.args.json.now) (nod
 pub contents-returns-in_err-form-clause-gives : goal.contents-returns-in_err-form-clause-gives
 contents-returns-in_err-form-clause-gives t c =
     let e = c.in_err-form.field-0.0 in
-    let left = values_left c.args.contents.now c.loop-json.json-index c.json-item.result c.json-item.result (omega arith) c.json-item.is in
+    let left = map_left view c.args.contents.now c.loop-json.json-index c.json-item.result c.json-item.result (omega arith) c.json-item.is in
     let failed : c.from_residual.result ≡ Err e = grind arith in
-    gives_err _ _ _ e _ failed (told_of_whole (refusal_told e) _ _ _ _ _ _ _ _ c.loop-json.invariant.breaks left c.in_err-form.ensures.gives)
+    Gives-Err _ _ _ e _ failed (told_of_whole (refusal_told e) _ _ _ _ _ (breaks_left _ _ _ _ _ _ c.loop-json.invariant.breaks left) c.in_err-form.ensures.gives)
 
 pub contents-loop-json-preserved : goal.contents-loop-json-preserved
 contents-loop-json-preserved t c =
@@ -33,10 +34,13 @@ contents-loop-json-preserved t c =
     let i = c.loop-json.json-index in
     let item = view c.json-item.result in
     let more = map view (drop (i + 1) contents) in
-    let left = values_left contents i c.json-item.result c.json-item.result (omega arith) c.json-item.is in
-    let read = unbroken _ _ _ c.in_ok-form.ensures.gives in
+    let left = map_left view contents i c.json-item.result c.json-item.result (omega arith) c.json-item.is in
+    let read = refused_or-Ok _ _ _ c.in_ok-form.ensures.gives in
     record {
-      breaks = breaks_on _ _ _ _ _ _ c.loop-json.invariant.breaks left read.0 ∙ ap (λ n. first_break_from n (flat_map nodes_of more)) (sym c.in_ok-form.ensures.next);
+      breaks =
+          breaks_left _ _ _ _ _ _ c.loop-json.invariant.breaks left
+          ∙ or-None (first_break_from c.loop-json.self.next (nodes_of item)) _ read.0
+          ∙ ap (λ n. first_break_from n (nodes_of_all more)) (sym c.in_ok-form.ensures.next);
       next = omega (arith, c.loop-json.invariant.next, length_left _ _ _ left, c.in_ok-form.ensures.next);
       forms =
           ap (λ fs. fs ++ map form_of more) c.in_ok-push.ensures.ok
@@ -55,7 +59,7 @@ form-returns-in_err-shape-in-Ok-clause-gives t c =
     let e = c.in_err-shape-in-Ok.field-0.0 in
     let failed : c.from_residual-in_err-shape-in-Ok.result ≡ Err e = grind arith in
     let next : c.in_ok-self.field-0 ≡ c.args.self.now.next + 1 = grind arith in
-    gives_err _ _ _ e _ failed (told_of_node (refusal_told e) _ _ _ (node_of c.in-Ok.node) _ _ c.in-Ok.ensures next (c.in_err-shape-in-Ok.ensures.gives c.in-Ok.node.key))
+    Gives-Err _ _ _ e _ failed (told_of_node (refusal_told e) _ _ _ (node_of c.in-Ok.node) _ _ c.in-Ok.ensures next (c.in_err-shape-in-Ok.ensures.gives c.in-Ok.node.key))
 
 pub form-returns-in_ok-shape-in-Ok-clause-gives : goal.form-returns-in_ok-shape-in-Ok-clause-gives
 form-returns-in_ok-shape-in-Ok-clause-gives t c =

@@ -1,9 +1,8 @@
 use Rattle.std.proofs.Common.{◌≡◌, ◌+◌, ◌*◌, ◌++◌, suc, map, drop, length}
-use Rattle.std.specs.List.{flat_map}
 use Rattle.serde_json.specs.Data.{depth}
 use Rattle.serde_json.specs.View.{view}
 use Rattle.awk_form.specs.NodeView.{head_of}
-use Rattle.awk_form.specs.Reading.{contents, nodes_of, first_break_from, form_of}
+use Rattle.awk_form.specs.Reading.{contents, nodes_of_all, first_break_from, form_of}
 use Rattle.awk_form.specs.View.{forms_of}
 use Rattle.awk_form.proofs.Levels.{levels}
 use Rattle.awk_form.proofs.read.Reader.+read.Given as goal
@@ -26,7 +25,7 @@ invariant-contents-loop-json l =
     let rest = map view (drop l.json-index l.contents) in
     let all = map view l.contents in
     record {
-      breaks : first_break_from l.fn.self.next (flat_map nodes_of all) ≡ first_break_from l.self.next (flat_map nodes_of rest);
-      next : l.self.next + length (flat_map nodes_of rest) ≡ l.fn.self.next + length (flat_map nodes_of all);
+      breaks : first_break_from l.fn.self.next (nodes_of_all all) ≡ first_break_from l.self.next (nodes_of_all rest);
+      next : l.self.next + length (nodes_of_all rest) ≡ l.fn.self.next + length (nodes_of_all all);
       forms : forms_of l.forms ++ map form_of rest ≡ map form_of all;
     }

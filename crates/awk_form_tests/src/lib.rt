@@ -1,0 +1,5 @@
+//! Tests of the texts of forms, which no session of a program reaches.
+#![tactic(auto)]
+
+#[cfg(test)]
+mod texts;
