@@ -1,19 +1,14 @@
 -- What judging the numbers of a lane tells of the lane.
-use Rattle.std.proofs.Common.{◌≡◌, ◌<◌, ℕ, ◌+◌, ◌-◌, List, length, get_or, take, drop, get_or-take, get_or-drop, map, Some, None, Option, Ok, Result, length-take, refl, sym, ap, ap₂, ◌∙◌, arith, ℤ, pos}
+use Rattle.std.proofs.Common.{◌≡◌, ◌<◌, ℕ, ◌+◌, ◌-◌, List, length, get_or, take, drop, get_or-take, get_or-drop, map, Result, length-take, sym, ap, ap₂, ◌∙◌, arith, ℤ, pos}
 use Rattle.std.specs.List.{range_with_len}
+use Rattle.awk_types.specs.Gives.{refused_or}
 use Rattle.awk_lanes.specs.declared.kind.Kind.TheVariants.{I8}
 use Rattle.awk_lanes.specs.Column.{Column}
 use Rattle.awk_lanes.specs.Places.{at, size_of, IsIndexKind}
 use Rattle.awk_lanes.proofs.PlaceLaws.{at-index, element-same}
-use Rattle.awk_valid.specs.Broken.{Break, rule_break, list_rule, tag_rule}
-use Rattle.awk_valid.specs.Loading.{Refusal, judged, or_break}
+use Rattle.awk_valid.specs.Broken.{Refusal, rule_break, list_rule, tag_rule}
 use Rattle.awk_valid.specs.Needs.{reach, lists_length, tag_length}
 use Rattle.awk_valid.proofs.LengthLaws.{greatest_below-same, rule_break-same}
-
--- where judging finds nothing, there is no break
-pub judged-none : (b : Option Break) (u : Unit {0}) → judged b ≡ Ok u → b ≡ None
-judged-none None u h = refl
-judged-none (Some b) u h = absurd (cc)
 
 -- ---- the numbers of a lane, by place
 
@@ -27,13 +22,13 @@ at-tag_numbers c xs k e = λ j i. (element-same c.kind (get_or c.items i (pos 0)
 
 -- what judging n lists answers, and how many items they need
 abbrev pub spans_said : ℕ → ℕ → (ℕ → ℤ) → (ℕ → ℤ) → Result ℕ Refusal
-spans_said node n starts stops = or_break (rule_break node n (λ i. list_rule (starts i) (stops i))) (lists_length n starts stops)
+spans_said node n starts stops = refused_or (rule_break node n (λ i. list_rule (starts i) (stops i))) (lists_length n starts stops)
 
 spans_said-same : (node n : ℕ) (f g h k : ℕ → ℤ) → ((i : ℕ) → i < n → f i ≡ h i) → ((i : ℕ) → i < n → g i ≡ k i) → spans_said node n f g ≡ spans_said node n h k
 spans_said-same node n f g h k p q =
     let rules = rule_break-same node n (λ (i : ℕ). list_rule (f i) (g i)) (λ (i : ℕ). list_rule (h i) (k i)) (λ i l. ap₂ list_rule (p i l) (q i l)) in
     let needs = greatest_below-same n (λ (i : ℕ). reach (f i) (g i)) (λ (i : ℕ). reach (h i) (k i)) (λ i l. ap₂ reach (p i l) (q i l)) in
-    ap₂ or_break rules needs
+    ap₂ refused_or rules needs
 
 pub spans_said-lists : (node : ℕ) (s t : Column) (xs ys : List ℤ) → IsIndexKind s.kind → IsIndexKind t.kind → xs ≡ s.items → ys ≡ t.items
     → spans_said node (length xs) (λ i. get_or xs i (pos 0)) (λ i. get_or ys i (pos 0)) ≡ spans_said node (size_of s) (at s) (at t)
@@ -67,7 +62,7 @@ spans_said-offsets node count c xs ys k m e f =
 -- what judging n tags answers, and how many items each alternative needs
 abbrev pub tags_said : ℕ → ℕ → ℕ → (ℕ → ℤ) → (ℕ → ℤ) → Result (List ℕ) Refusal
 tags_said node alternatives n tags index =
-    or_break (rule_break node n (λ i. tag_rule alternatives (tags i) (index i))) (map (tag_length n tags index) (range_with_len 0 alternatives))
+    refused_or (rule_break node n (λ i. tag_rule alternatives (tags i) (index i))) (map (tag_length n tags index) (range_with_len 0 alternatives))
 
 pub tags_said-lanes : (node alternatives : ℕ) (t z : Column) (xs ys : List ℤ) → t.kind ≡ I8 → IsIndexKind z.kind → xs ≡ t.items → ys ≡ z.items
     → tags_said node alternatives (length xs) (λ i. get_or xs i (pos 0)) (λ i. get_or ys i (pos 0)) ≡ tags_said node alternatives (size_of t) (at t) (at z)

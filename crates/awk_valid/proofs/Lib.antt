@@ -11,6 +11,6 @@ pub mod ShapeLaws
 pub mod PartLaws
 pub mod WalkLaws
 pub mod SizeLaws
-pub mod ContentLaws
 pub mod LoadLaws
 pub mod FormLaws
+pub mod DenoteLaws

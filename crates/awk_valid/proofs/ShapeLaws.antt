@@ -6,19 +6,19 @@ use Rattle.std.proofs.Math.Nat.{mul_assoc}
 use Rattle.std.proofs.lemmas.Bool.Decides.{nat_tests}
 use Rattle.std.proofs.lemmas.List.{drop_more}
 use Rattle.std.proofs.lemmas.Option.{slice_get_within, get_or_from_slice_get}
-use Rattle.awk_types.specs.Gives.{Told}
+use Rattle.awk_types.proofs.RefusalLaws.{refused_or-Ok}
+use Rattle.awk_types.specs.Gives.{Told, refused_or}
 use Rattle.awk_lanes.specs.declared.kind.Kind.{Kind}
 use Rattle.awk_lanes.specs.Column.{Column}
 use Rattle.awk_lanes.specs.Places.{size_of}
 use Rattle.awk_lanes.proofs.NumberParts.{length-numbers}
 use Rattle.awk_layout.specs.Layout.{Layout, regular}
 use Rattle.awk_layout.specs.Valid.{len}
-use Rattle.awk_valid.specs.Broken.{Break, item_limit, size_break, shape_break}
+use Rattle.awk_valid.specs.Broken.{Refusal, item_limit, size_break, shape_break}
 use Rattle.awk_valid.specs.Container.{column_at}
 use Rattle.awk_valid.specs.Loaded.{shaped}
-use Rattle.awk_valid.specs.Loading.{Refusal, or_break}
 use Rattle.awk_valid.specs.Needs.{product}
-use Rattle.awk_valid.proofs.Places.{or-none, size_break-none}
+use Rattle.awk_valid.proofs.Places.{neither, size_break-none}
 
 -- the numbers from a place on begin with the one there
 left : (inner : List ℕ) (i m : ℕ) → slice_get inner i ≡ Some m → drop i inner ≡ m ∷ drop (i + 1) inner
@@ -26,13 +26,9 @@ left inner i m at = drop_more inner i m (slice_get_within inner i m at) ∙ ap (
 
 -- ---- judging
 
-pub or_break-Ok : {A : Type 0} (b : Option Break) (x y : A) → or_break b x ≡ Ok y → (b ≡ None) × (x ≡ y)
-or_break-Ok None x y h = (refl, cc)
-or_break-Ok (Some b) x y h = absurd (cc)
-
 -- a lane that was read has so many numbers
-pub read-size : (b : Option Break) (k : Kind) (n : ℕ) (bytes : List ℕ) (lane : Column) → or_break b (column_at k n bytes) ≡ Ok lane → size_of lane ≡ n
-read-size b k n bytes lane h = ap size_of (sym (or_break-Ok b (column_at k n bytes) lane h).1) ∙ length-numbers k n bytes
+pub read-size : (b : Option Refusal) (k : Kind) (n : ℕ) (bytes : List ℕ) (lane : Column) → refused_or b (column_at k n bytes) ≡ Ok lane → size_of lane ≡ n
+read-size b k n bytes lane h = ap size_of (sym (refused_or-Ok b (column_at k n bytes) lane h).1) ∙ length-numbers k n bytes
 
 size_break-small : (n : ℕ) → n ≤ item_limit → size_break n ≡ None
 size_break-small n h =
@@ -40,15 +36,15 @@ size_break-small n h =
     rw e refl
 
 -- a size that is too large is so in each shape
-shape-broken : (n : ℕ) (ms : List ℕ) (b : Break) → size_break n ≡ Some b → shape_break n ms ≡ Some b
+shape-broken : (n : ℕ) (ms : List ℕ) (b : Refusal) → size_break n ≡ Some b → shape_break n ms ≡ Some b
 shape-broken n [] b e = e
 shape-broken n (m ∷ ms) b e = rw e refl
 
 -- what judging the first size tells is told of the shape
-pub told_of_size : {A B : Type 0} (o : Option Refusal) (n : ℕ) (ms : List ℕ) (x : A) (y : B) → Told o (or_break (size_break n) x) → Told o (or_break (shape_break n ms) y)
+pub told_of_size : {A B : Type 0} (o : Option Refusal) (n : ℕ) (ms : List ℕ) (x : A) (y : B) → Told o (refused_or (size_break n) x) → Told o (refused_or (shape_break n ms) y)
 told_of_size {A} {B} o n ms x y h = by o (size_break n) refl h
   where
-    by : (o : Option Refusal) (s : Option Break) → size_break n ≡ s → Told o (or_break s x) → Told o (or_break (shape_break n ms) y)
+    by : (o : Option Refusal) (s : Option Refusal) → size_break n ≡ s → Told o (refused_or s x) → Told o (refused_or (shape_break n ms) y)
     by None s e h = tt
     by (Some f) None e h = absurd (cc)
     by (Some f) (Some b) e h = rw (shape-broken n ms b e) (cc)
@@ -62,7 +58,7 @@ shape-next n i items m inner few at e =
 
 -- what judging the next size tells is told of the shape
 pub told_of_next : {A B : Type 0} (o : Option Refusal) (n i items m : ℕ) (inner : List ℕ) (x : A) (y : B) → items ≤ item_limit → slice_get inner i ≡ Some m → shape_break n inner ≡ shape_break items (drop i inner)
-    → Told o (or_break (size_break (items * m)) x) → Told o (or_break (shape_break n inner) y)
+    → Told o (refused_or (size_break (items * m)) x) → Told o (refused_or (shape_break n inner) y)
 told_of_next o n i items m inner x y few at e h = rw (shape-next n i items m inner few at e) (told_of_size o (items * m) (drop (i + 1) inner) x y h)
 
 pub numbers-next : (whole i items m : ℕ) (inner : List ℕ) → slice_get inner i ≡ Some m → whole ≡ items * product (drop i inner) → whole ≡ items * m * product (drop (i + 1) inner)
@@ -74,12 +70,12 @@ numbers-next whole i items m inner at e =
 
 pub shape-few : (n : ℕ) (ms : List ℕ) → shape_break n ms ≡ None → n ≤ item_limit
 shape-few n [] h = size_break-none n h
-shape-few n (m ∷ ms) h = size_break-none n (or-none (size_break n) (shape_break (n * m) ms) h).0
+shape-few n (m ∷ ms) h = size_break-none n (neither (size_break n) (shape_break (n * m) ms) h).0
 
 pub shape-left : (n i m : ℕ) (inner : List ℕ) → slice_get inner i ≡ Some m → shape_break n (drop i inner) ≡ None → shape_break (n * m) (drop (i + 1) inner) ≡ None
 shape-left n i m inner at h =
     let here = rw (left inner i m at) at h in
-    (or-none (size_break n) (shape_break (n * m) (drop (i + 1) inner)) here).1
+    (neither (size_break n) (shape_break (n * m) (drop (i + 1) inner)) here).1
 
 -- ---- the node
 

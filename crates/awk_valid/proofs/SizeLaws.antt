@@ -4,7 +4,7 @@ use Rattle.awk_layout.specs.Layout.{Layout, weight, weights, height, heights}
 use Rattle.awk_form.specs.FormTree.{FormTree, empty, numpy, regular, list, list_offset, row, indexed, indexed_option, byte_masked, bit_masked, unmasked, union, FormTrees, no_forms, form}
 use Rattle.awk_valid.specs.Container.{Container}
 use Rattle.awk_valid.specs.Loaded.{shaped, layout_of, layouts_of}
-use Rattle.awk_valid.specs.Sizes.{width, width_of, tall, tall_of}
+use Rattle.awk_form.specs.Measures.{width, width_of, height as form_height, height_of as form_height_of}
 
 shaped-weight : (inner : List ℕ) (n : ℕ) (x : Layout) → weight x ≡ 1 → weight (shaped inner n x) ≡ length inner + 1
 shaped-weight [] n x e = omega (arith, e)
@@ -34,7 +34,7 @@ mutual
   weights-layouts_of (form f fs) lengths c = ap₂ (λ v w. v + w) (weight-layout_of f (lengths 0) c) (weights-layouts_of fs (λ k. lengths (suc k)) c)
 
 mutual
-  pub height-layout_of : (f : FormTree) (n : ℕ) (c : Container) → height (layout_of f n c) ≡ tall f
+  pub height-layout_of : (f : FormTree) (n : ℕ) (c : Container) → height (layout_of f n c) ≡ form_height f
   height-layout_of (empty key) n c = refl
   height-layout_of (numpy key prim inner) n c = shaped-height inner n _ refl
   height-layout_of (regular key size f) n c = ap (λ h. h + 1) (height-layout_of f _ c)
@@ -48,6 +48,6 @@ mutual
   height-layout_of (unmasked key f) n c = ap (λ h. h + 1) (height-layout_of f n c)
   height-layout_of (union key index fs) n c = ap (λ h. h + 1) (heights-layouts_of fs _ c)
 
-  pub heights-layouts_of : (fs : FormTrees) (lengths : ℕ → ℕ) (c : Container) → heights (layouts_of fs lengths c) ≡ tall_of fs
+  pub heights-layouts_of : (fs : FormTrees) (lengths : ℕ → ℕ) (c : Container) → heights (layouts_of fs lengths c) ≡ form_height_of fs
   heights-layouts_of no_forms lengths c = refl
   heights-layouts_of (form f fs) lengths c = ap₂ max (height-layout_of f (lengths 0) c) (heights-layouts_of fs (λ k. lengths (suc k)) c)

@@ -1,11 +1,12 @@
 -- The layout that a form stands for has the form's type.
-use Rattle.std.specs.Prelude.{◌≡◌, ℕ, suc, ◌*◌, List, [], ◌∷◌, Option, Some, None, refl}
+use Rattle.std.specs.Prelude.{◌≡◌, ℕ, suc, ◌*◌, List, [], ◌∷◌, refl}
 use Rattle.std.proofs.Common.{ap, ap₂}
-use Rattle.awk_types.specs.DataType.{Name, DataType, DataTypes, leaf, var, reg, opt, uni, type}
+use Rattle.awk_types.specs.DataType.{DataType, leaf, var, reg, opt, uni, row_type, type}
 use Rattle.awk_types.specs.declared.primitive.Primitive.{Primitive}
 use Rattle.awk_types.specs.declared.primitive.Primitive.TheVariants as primitive
 use Rattle.awk_layout.specs.Layout.{Layout}
-use Rattle.awk_layout.specs.Typing.{primitive_of, layout_type, layout_types, row_type}
+use Rattle.awk_layout.specs.Kinds.{primitive_of}
+use Rattle.awk_layout.specs.Typing.{layout_type, layout_types}
 use Rattle.awk_form.specs.FormTree.{FormTree, empty, numpy, regular, list, list_offset, row, indexed, indexed_option, byte_masked, bit_masked, unmasked, union, FormTrees, no_forms, form}
 use Rattle.awk_form.specs.FormType as said
 use Rattle.awk_form.specs.FormType.{type_of, types_of}
@@ -27,10 +28,6 @@ shaped-type : (inner : List ℕ) (n : ℕ) (x : Layout) (t : DataType) → layou
 shaped-type [] n x t e = e
 shaped-type (m ∷ ms) n x t e = ap (reg m) (shaped-type ms (n * m) x t e)
 
-row_type-same : (names : Option (List Name)) (ts us : DataTypes) → ts ≡ us → row_type names ts ≡ said.row_type names us
-row_type-same None ts us e = ap (row_type None) e
-row_type-same (Some names) ts us e = ap (row_type (Some names)) e
-
 mutual
   pub layout_type-layout_of : (f : FormTree) (n : ℕ) (c : Container) → layout_type (layout_of f n c) ≡ type_of f
   layout_type-layout_of (empty key) n c = refl
@@ -38,7 +35,7 @@ mutual
   layout_type-layout_of (regular key size f) n c = ap (reg size) (layout_type-layout_of f _ c)
   layout_type-layout_of (list key starts stops f) n c = ap var (layout_type-layout_of f _ c)
   layout_type-layout_of (list_offset key offsets f) n c = ap var (layout_type-layout_of f _ c)
-  layout_type-layout_of (row key names fs) n c = row_type-same names _ _ (layout_types-layouts_of fs _ c)
+  layout_type-layout_of (row key names fs) n c = ap (row_type names) (layout_types-layouts_of fs _ c)
   layout_type-layout_of (indexed key index f) n c = layout_type-layout_of f _ c
   layout_type-layout_of (indexed_option key index f) n c = ap opt (layout_type-layout_of f _ c)
   layout_type-layout_of (byte_masked key valid_when f) n c = ap opt (layout_type-layout_of f _ c)

@@ -3,8 +3,9 @@ use Rattle.std.specs.Prelude.{◌≡◌, ℕ, List, [], ◌∷◌, ◌++◌, tak
 use Rattle.std.specs.List.{flat_map}
 use Rattle.std.specs.Map.{lookup}
 use Rattle.std.specs.Str.{bytes_eq}
-use Rattle.awk_types.specs.DataType.{unknown, leaf, var, reg, opt, uni, no_types, type}
-use Rattle.awk_types.specs.Value.{Values, int, truth, null, list, alt, no_values, value}
+use Rattle.awk_types.specs.DataType.{unknown, leaf, var, reg, rec, opt, uni, no_types, type}
+use Rattle.awk_types.specs.Datum.{arr}
+use Rattle.awk_types.specs.Value.{Values, int, truth, null, list, row, alt, no_values, value}
 use Rattle.awk_types.specs.declared.primitive.Primitive.TheVariants as primitive
 use Rattle.awk_lanes.specs.declared.kind.Kind.TheVariants as kind
 use Rattle.awk_lanes.specs.Numbers.{bytes_of}
@@ -14,9 +15,11 @@ use Rattle.awk_form.specs.FormTree as form
 use Rattle.awk_form.specs.FormTree.{FormTree, FormTrees, no_forms}
 use Rattle.awk_form.specs.declared.kind.IndexKind.TheVariants.{I32, U32, I64}
 use Rattle.awk_layout.specs.Typing.{array_type, array_items}
+use Rattle.awk_form.specs.Measures.{nodes}
 use Rattle.awk_valid.specs.Container.{Container}
 use Rattle.awk_valid.specs.Loaded.{layout_of}
-use Rattle.awk_valid.specs.Broken.{too_many, buffer, invalid, broken, nodes}
+use Rattle.awk_valid.specs.Denote.{denote}
+use Rattle.awk_valid.specs.Broken.{too_many, buffer, invalid, broken}
 use Rattle.awk_valid.specs.declared.fault.BufferFault.TheVariants as fault
 use Rattle.awk_valid.specs.declared.fault.Rule.TheVariants.{Empty, Order, Start, Negative, Tag}
 
@@ -255,3 +258,51 @@ mixed-nodes = refl
 
 last_alternative : broken (form.row None None (form.form mixed (form.form (form.empty None) no_forms))) 3 (tagged (0 ∷ 1 ∷ 0 ∷ [])) ≡ Some (invalid 6 Empty 0)
 last_alternative = refl
+
+-- ---- what is denoted, place by place over the bytes
+
+three_lists-denoted : denote jagged 3 three_lists ≡ arr (var (leaf primitive.I64)) (list (int_values (pos 5 ∷ negsuc 0 ∷ [])) ∷ list no_values ∷ list (int_values (pos 7 ∷ [])) ∷ [])
+three_lists-denoted = refl
+
+far_away-denoted : denote jagged 1 far_away ≡ arr (var (leaf primitive.I64)) (list no_values ∷ [])
+far_away-denoted = refl
+
+overlapping-denoted : denote spans 2 overlapping ≡ arr (var (leaf primitive.I64)) (list (int_values (pos 1 ∷ pos 2 ∷ pos 3 ∷ [])) ∷ list (int_values (pos 1 ∷ pos 2 ∷ pos 3 ∷ [])) ∷ [])
+overlapping-denoted = refl
+
+hollow-denoted : denote hollow 2 (holding []) ≡ arr (reg 0 unknown) (list no_values ∷ list no_values ∷ [])
+hollow-denoted = refl
+
+blocks-denoted : denote blocks 2 four_bytes
+    ≡ arr (reg 2 (reg 1 (leaf primitive.U8)))
+    (list (value (list (int_values (pos 6 ∷ []))) (value (list (int_values (pos 7 ∷ []))) no_values))
+    ∷ list (value (list (int_values (pos 8 ∷ []))) (value (list (int_values (pos 255 ∷ []))) no_values)) ∷ [])
+blocks-denoted = refl
+
+mostly_null-denoted : denote masked 4 mostly_null ≡ arr (opt (leaf primitive.I64)) (null ∷ null ∷ null ∷ int (pos 9) ∷ [])
+mostly_null-denoted = refl
+
+two_bytes-denoted : denote by_bits 11 two_bytes
+    ≡ arr (opt (leaf primitive.I8)) (int (pos 0) ∷ null ∷ int (pos 2) ∷ int (pos 3) ∷ int (pos 4) ∷ int (pos 5) ∷ null ∷ int (pos 7) ∷ null ∷ int (pos 9) ∷ null ∷ [])
+two_bytes-denoted = refl
+
+mixed-denoted : denote mixed 3 (tagged (0 ∷ 1 ∷ 0 ∷ []))
+    ≡ arr (uni (type (leaf primitive.I64) (type (leaf primitive.Bool) (type (leaf primitive.I8) no_types)))) (alt 0 (int (pos 7)) ∷ alt 2 (int (pos 4)) ∷ alt 1 (truth true) ∷ [])
+mixed-denoted = refl
+
+-- a row of an indexed and an unmasked content: any byte but 0 is true
+abbrev pairs : FormTree
+pairs =
+    form.row None (Some (codes "a" ∷ codes "b" ∷ []))
+    (form.form (form.indexed (Some (codes "i")) I32 (form.numpy (Some (codes "d")) primitive.I8 [])) (form.form (form.unmasked None (form.numpy (Some (codes "e")) primitive.Bool [])) no_forms))
+
+abbrev two_pairs : Container
+two_pairs = holding ((codes "i-index", Ok (flat_map (bytes_of kind.I32) (pos 1 ∷ pos 0 ∷ []))) ∷ (codes "d-data", Ok (9 ∷ 254 ∷ [])) ∷ (codes "e-data", Ok (0 ∷ 7 ∷ [])) ∷ [])
+
+two_pairs-unbroken : broken pairs 2 two_pairs ≡ None
+two_pairs-unbroken = refl
+
+two_pairs-denoted : denote pairs 2 two_pairs
+    ≡ arr (rec (codes "a" ∷ codes "b" ∷ []) (type (leaf primitive.I8) (type (opt (leaf primitive.Bool)) no_types)))
+    (row (value (int (negsuc 1)) (value (truth false) no_values)) ∷ row (value (int (pos 9)) (value (truth true) no_values)) ∷ [])
+two_pairs-denoted = refl

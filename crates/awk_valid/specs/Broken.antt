@@ -2,6 +2,7 @@
 use Rattle.std.specs.Prelude.{ℕ, suc, ◌+◌, ◌*◌, ◌||◌, nat_lt, int_lt, int_le, List, [], ◌∷◌, length, Option, Some, None, Result, Ok, Err, codes, ℤ, pos, if◌then◌else◌}
 use Rattle.std.specs.List.{range_with_len}
 use Rattle.std.specs.Ordering.{int_eq}
+use Rattle.awk_types.specs.Gives.{◌or◌}
 use Rattle.awk_types.specs.DataType.{Name}
 use Rattle.awk_lanes.specs.Places.{at}
 use Rattle.awk_store.specs.declared.fault.BufferWhy.{BufferWhy}
@@ -9,6 +10,7 @@ use Rattle.awk_store.specs.declared.fault.BufferWhy.TheVariants as why
 use Rattle.awk_form.specs.FormTree.{FormTree, empty, numpy, regular, list, list_offset, row, indexed, indexed_option, byte_masked, bit_masked, unmasked, union, FormTrees, no_forms, form}
 use Rattle.awk_form.specs.FormText.{key_of}
 use Rattle.awk_form.specs.Lawful.{count}
+use Rattle.awk_form.specs.Measures.{inner_shape, nodes}
 use Rattle.awk_valid.specs.Container.{Container, buffer_key, index_at, int8s_at}
 use Rattle.awk_valid.specs.Needs.{Need, buffer_needs, content_length}
 use Rattle.awk_valid.specs.declared.fault.BufferFault.{BufferFault}
@@ -16,17 +18,12 @@ use Rattle.awk_valid.specs.declared.fault.BufferFault.TheVariants as fault
 use Rattle.awk_valid.specs.declared.fault.Rule.{Rule}
 use Rattle.awk_valid.specs.declared.fault.Rule.TheVariants.{Empty, Order, Start, Negative, Tag}
 
--- too many items, a buffer by its key, or a place of a node, which is told by its number in pre-order
-pub data Break : Type 0 where
-  too_many : Break
-  buffer : Name → BufferFault → Break
-  invalid : ℕ → Rule → ℕ → Break
-
--- the first break, and where there is none the other
-infixr 20 ◌or◌
-abbrev pub ◌or◌ : Option Break → Option Break → Option Break
-(Some b) or later = Some b
-None or later = later
+-- why a form does not load: the type is too deep, a node has too many items, a buffer by its key, or a place of a node,
+-- which is told by its number in pre-order
+pub data Refusal : Type 0 where
+  too_deep too_many : Refusal
+  buffer : Name → BufferFault → Refusal
+  invalid : ℕ → Rule → ℕ → Refusal
 
 -- ---- sizes
 
@@ -34,17 +31,13 @@ None or later = later
 abbrev pub item_limit : ℕ
 item_limit = 1073741824
 
-abbrev pub size_break : ℕ → Option Break
+abbrev pub size_break : ℕ → Option Refusal
 size_break n = if nat_lt item_limit n then Some too_many else None
 
 -- n, n times the first inner number, n times the first two, and so on
-abbrev pub shape_break : ℕ → List ℕ → Option Break
+abbrev pub shape_break : ℕ → List ℕ → Option Refusal
 shape_break n [] = size_break n
 shape_break n (m ∷ ms) = size_break n or shape_break (n * m) ms
-
-abbrev pub inner_shape : FormTree → List ℕ
-inner_shape (numpy key prim inner) = inner
-inner_shape f = []
 
 -- ---- buffers
 
@@ -53,11 +46,11 @@ fault_of why.Absent = fault.Absent
 fault_of why.Base64 = fault.Base64
 
 -- the bytes are there, decode, and are so many
-abbrev pub bytes_break : Name → ℕ → Result (List ℕ) BufferWhy → Option Break
+abbrev pub bytes_break : Name → ℕ → Result (List ℕ) BufferWhy → Option Refusal
 bytes_break key n (Ok bytes) = if nat_lt (length bytes) n then Some (buffer key fault.Short) else None
 bytes_break key n (Err w) = Some (buffer key (fault_of w))
 
-abbrev pub buffers_break : Container → Option Name → List Need → Option Break
+abbrev pub buffers_break : Container → Option Name → List Need → Option Refusal
 buffers_break c key [] = None
 buffers_break c key (need ∷ needs) =
     bytes_break (buffer_key key need.attribute) need.bytes (c (buffer_key key need.attribute)) or buffers_break c key needs
@@ -76,20 +69,20 @@ abbrev pub tag_rule : ℕ → ℤ → ℤ → Option Rule
 tag_rule alternatives tag z = if int_lt tag (pos 0) || int_le (pos alternatives) tag then Some Tag else index_rule z
 
 -- the rule that a place breaks, else the break of the others
-abbrev pub place_break : ℕ → ℕ → Option Rule → Option Break → Option Break
+abbrev pub place_break : ℕ → ℕ → Option Rule → Option Refusal → Option Refusal
 place_break m i (Some rule) others = Some (invalid m rule i)
 place_break m i None others = others
 
 -- the first of these places of node m that breaks its rule
-abbrev pub first_broken : ℕ → (ℕ → Option Rule) → List ℕ → Option Break
+abbrev pub first_broken : ℕ → (ℕ → Option Rule) → List ℕ → Option Refusal
 first_broken m rule [] = None
 first_broken m rule (i ∷ is) = place_break m i (rule i) (first_broken m rule is)
 
 -- each place below n from 0
-abbrev pub rule_break : ℕ → ℕ → (ℕ → Option Rule) → Option Break
+abbrev pub rule_break : ℕ → ℕ → (ℕ → Option Rule) → Option Refusal
 rule_break m n rule = first_broken m rule (range_with_len 0 n)
 
-abbrev pub places_break : FormTree → ℕ → ℕ → Container → Option Break
+abbrev pub places_break : FormTree → ℕ → ℕ → Container → Option Refusal
 places_break (empty key) m n c = rule_break m n (λ i. Some Empty)
 places_break (list key starts stops f) m n c =
     rule_break m n (λ i. list_rule (at (index_at c key (codes "starts") starts n) i) (at (index_at c key (codes "stops") stops n) i))
@@ -103,33 +96,12 @@ places_break f m n c = None
 -- ---- the walk
 
 -- the first break of node m itself, of n items
-abbrev pub node_break : FormTree → ℕ → ℕ → Container → Option Break
+abbrev pub node_break : FormTree → ℕ → ℕ → Container → Option Refusal
 node_break f m n c = shape_break n (inner_shape f) or buffers_break c (key_of f) (buffer_needs f n) or places_break f m n c
-
--- the number of nodes of a form
-abbrev mutual
-  pub nodes : FormTree → ℕ
-  nodes (empty key) = 1
-  nodes (numpy key prim inner) = 1
-  nodes (regular key size f) = nodes f + 1
-  nodes (list key starts stops f) = nodes f + 1
-  nodes (list_offset key offsets f) = nodes f + 1
-  nodes (row key names fs) = nodes_of fs + 1
-  nodes (indexed key index f) = nodes f + 1
-  nodes (indexed_option key index f) = nodes f + 1
-  nodes (byte_masked key valid_when f) = nodes f + 1
-  nodes (bit_masked key valid_when lsb_order f) = nodes f + 1
-  nodes (unmasked key f) = nodes f + 1
-  nodes (union key index fs) = nodes_of fs + 1
-
-  -- of all together
-  pub nodes_of : FormTrees → ℕ
-  nodes_of no_forms = 0
-  nodes_of (form f fs) = nodes f + nodes_of fs
 
 -- the first break of node m, of n items, and of those below it
 abbrev mutual
-  pub broken_from : FormTree → ℕ → ℕ → Container → Option Break
+  pub broken_from : FormTree → ℕ → ℕ → Container → Option Refusal
   broken_from (empty key) m n c = node_break (empty key) m n c
   broken_from (numpy key prim inner) m n c = node_break (numpy key prim inner) m n c
   broken_from (regular key size f) m n c = node_break (regular key size f) m n c or broken_from f (m + 1) (content_length (regular key size f) n c 0) c
@@ -145,10 +117,10 @@ abbrev mutual
   broken_from (union key index fs) m n c = node_break (union key index fs) m n c or all_broken_from fs (m + 1) (content_length (union key index fs) n c) c
 
   -- of contents from node m on, the k-th of which has the length that is told of k
-  pub all_broken_from : FormTrees → ℕ → (ℕ → ℕ) → Container → Option Break
+  pub all_broken_from : FormTrees → ℕ → (ℕ → ℕ) → Container → Option Refusal
   all_broken_from no_forms m lengths c = None
   all_broken_from (form f fs) m lengths c = broken_from f m (lengths 0) c or all_broken_from fs (m + nodes f) (λ k. lengths (suc k)) c
 
 -- the first break of a form of n items
-abbrev pub broken : FormTree → ℕ → Container → Option Break
+abbrev pub broken : FormTree → ℕ → Container → Option Refusal
 broken f n c = broken_from f 0 n c

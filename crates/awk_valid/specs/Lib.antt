@@ -1,8 +1,9 @@
 pub mod Container
 pub mod Needs
 pub mod Loaded
+pub mod Denote
 pub mod Broken
 pub mod Loading
 pub mod Rules
-pub mod Sizes
+pub mod Parts
 pub mod Walked

@@ -1,32 +1,49 @@
--- What the walk tells of a node and of contents, and the steps that it may take.
-use Rattle.std.specs.Prelude.{ℕ, ◌+◌, ◌*◌, List, [], ◌∷◌, Option, None, Result}
+-- What the walk tells of a node, of its own part and of what is left of its contents, and the steps that it may take.
+use Rattle.std.specs.Prelude.{ℕ, ◌+◌, ◌*◌, List, ◌++◌, drop, Option, None, Result}
+use Rattle.std.specs.Global.{Vec}
+use Rattle.awk_types.specs.Gives.{Gives, refused_or, ◌or◌}
 use Rattle.awk_store.specs.Buffers.{ByKey, total_len}
 use Rattle.awk_layout.specs.Layout.{Layout}
-use Rattle.awk_form.specs.FormTree.{FormTree}
+use Rattle.awk_form.specs.FormTree.{FormTree, contents_of, FormTrees, form_list, forms_from, regular}
+use Rattle.awk_valid.specs.Broken.{Refusal, size_break, node_break, broken_from, all_broken_from}
 use Rattle.awk_valid.specs.Container.{Container, container_of}
-use Rattle.awk_valid.specs.Broken.{Break, ◌or◌, nodes, broken_from}
-use Rattle.awk_valid.specs.Loaded.{layout_of}
-use Rattle.awk_valid.specs.Loading.{Refusal, or_break}
+use Rattle.awk_valid.specs.Loaded.{layout_of, layouts_of}
+use Rattle.awk_valid.specs.Loading.{told}
+use Rattle.awk_valid.specs.Needs.{content_length}
+use Rattle.awk_valid.specs.Parts.{lengths_of, own_of, over, layout_list}
+use Rattle.awk_valid.specs.declared.fault.LoadFault.{LoadFault}
+use Rattle.awk_valid.specs.declared.own.Own.{Own}
 
 -- the layout of node m, of n items, or the first break
 unfoldable pub node_said : FormTree → ℕ → ℕ → ByKey → Result Layout Refusal
-node_said f m n texts = or_break (broken_from f m n (container_of texts)) (layout_of f n (container_of texts))
+node_said f m n texts = refused_or (broken_from f m n (container_of texts)) (layout_of f n (container_of texts))
 
--- the first break of contents from node m on, each beside its length
-abbrev pub contents_break : List FormTree → List ℕ → ℕ → Container → Option Break
-contents_break [] ns m c = None
-contents_break (f ∷ fs) [] m c = None
-contents_break (f ∷ fs) (n ∷ ns) m c = broken_from f m n c or contents_break fs ns (m + nodes f) c
+-- a regular node has no more items in all its lists than a node may have
+abbrev pub product_break : FormTree → ℕ → Option Refusal
+product_break (regular key size f) n = size_break (n * size)
+product_break f n = None
 
--- their layouts
-abbrev pub contents_made : List FormTree → List ℕ → Container → List Layout
-contents_made [] ns c = []
-contents_made (f ∷ fs) [] c = []
-contents_made (f ∷ fs) (n ∷ ns) c = layout_of f n c ∷ contents_made fs ns c
+-- the break that node m is judged for by itself
+abbrev pub own_break : FormTree → ℕ → ℕ → Container → Option Refusal
+own_break f m n c = node_break f m n c or product_break f n
 
--- the layouts of contents from node m on, or the first break
-unfoldable pub contents_said : List FormTree → List ℕ → ℕ → ByKey → Result (List Layout) Refusal
-contents_said fs ns m texts = or_break (contents_break fs ns m (container_of texts)) (contents_made fs ns (container_of texts))
+-- what node m holds beside its contents, and their lengths, or its own break
+unfoldable pub own_said : FormTree → ℕ → ℕ → ByKey → Result (Own × List ℕ) Refusal
+own_said f m n texts = refused_or (own_break f m n (container_of texts)) (own_of f n (container_of texts), lengths_of f n (container_of texts))
+
+abbrev pub GivesOwn : FormTree → ℕ → ℕ → ByKey → Result (Own × Vec ℕ) LoadFault → Type 0
+GivesOwn f m n texts result =
+    Gives {Y = Own × List ℕ} (λ x. (x.0, x.1.items)) told result (refused_or (own_break f m n (container_of texts)) (own_of f n (container_of texts), lengths_of f n (container_of texts)))
+
+-- the contents from a place on
+abbrev pub rest : FormTree → ℕ → FormTrees
+rest f i = forms_from (drop i (form_list (contents_of f)))
+
+-- the node over the layouts so far and those of the contents from place i on, which begin with node j, or their first break
+unfoldable pub left_said : FormTree → ℕ → ℕ → ℕ → List Layout → ByKey → Result Layout Refusal
+left_said f n i j so_far texts =
+    refused_or (all_broken_from (rest f i) j (λ k. content_length f n (container_of texts) (i + k)) (container_of texts))
+    (over n (own_of f n (container_of texts)) (so_far ++ layout_list (layouts_of (rest f i) (λ k. content_length f n (container_of texts) (i + k)) (container_of texts))))
 
 -- the steps that so many nodes and inner numbers may take
 unfoldable pub budget : ℕ → ByKey → ℕ

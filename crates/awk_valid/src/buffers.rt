@@ -1,13 +1,13 @@
 //! The buffers of a node as lanes, and its sizes.
 ghost use Rattle.std.specs.Prelude.{◌≡◌, ◌+◌, ◌*◌, ◌/◌, ◌≤◌, IfOk};
-ghost use Rattle.awk_types.specs.Gives.{Gives};
+ghost use Rattle.awk_types.specs.Gives.{Gives, refused_or};
 ghost use Rattle.awk_lanes.specs.Bits.{bits};
 ghost use Rattle.awk_lanes.specs.Numbers.{width};
 ghost use Rattle.awk_store.specs.Buffers.{total_len};
 ghost use Rattle.awk_valid.specs.Container as container;
 ghost use Rattle.awk_valid.specs.Container.{container_of, bytes_at, index_at, int8s_at, kind_of_index};
 ghost use Rattle.awk_valid.specs.Broken.{item_limit, size_break, bytes_break};
-ghost use Rattle.awk_valid.specs.Loading.{told, or_break, judged, unit};
+ghost use Rattle.awk_valid.specs.Loading.{told, judged, unit};
 
 use crate::fault::LoadFault;
 use crate::keys::buffer_key;
@@ -54,7 +54,7 @@ pub(crate) fn index_lane<'a, L: Ledger>(
     steps: &mut Steps<L>,
 ) -> Result<Lane<'a>, LoadFault>
     requires few { n ≤ item_limit + 1 }
-    ensures answer { Gives (λ lane. lane) told result (or_break
+    ensures answer { Gives (λ lane. lane) told result (refused_or
         (bytes_break (container.buffer_key key.now attribute.now) (n * width (kind_of_index kind))
         (container_of store.old.texts (container.buffer_key key.now attribute.now)))
         (index_at (container_of store.old.texts) key.now attribute.now kind n)) }
@@ -76,7 +76,7 @@ pub(crate) fn int8_lane<'a, L: Ledger>(
     steps: &mut Steps<L>,
 ) -> Result<Lane<'a>, LoadFault>
     requires few { n ≤ item_limit }
-    ensures answer { Gives (λ lane. lane) told result (or_break
+    ensures answer { Gives (λ lane. lane) told result (refused_or
         (bytes_break (container.buffer_key key.now attribute.now) n
         (container_of store.old.texts (container.buffer_key key.now attribute.now)))
         (int8s_at (container_of store.old.texts) key.now attribute.now n)) }
@@ -99,7 +99,7 @@ pub(crate) fn mask_bits<'a, L: Ledger>(
     steps: &mut Steps<L>,
 ) -> Result<Bits<'a>, LoadFault>
     requires few { n ≤ item_limit }
-    ensures answer { Gives (λ mask. mask) told result (or_break
+    ensures answer { Gives (λ mask. mask) told result (refused_or
         (bytes_break (container.buffer_key key.now attribute.now) ((n + 7) / 8)
         (container_of store.old.texts (container.buffer_key key.now attribute.now)))
         (bits lsb_order (bytes_at (container_of store.old.texts) key.now attribute.now) 0 n)) }

@@ -3,7 +3,7 @@ ghost use Rattle.std.specs.Prelude.{◌≡◌, Err};
 ghost use Rattle.awk_types.specs.Gives.{Told};
 ghost use Rattle.awk_lanes.specs.Column.{Column};
 ghost use Rattle.awk_valid.specs.Broken.{buffer};
-ghost use Rattle.awk_valid.specs.Loading.{broken, told, fault_of};
+ghost use Rattle.awk_valid.specs.Loading.{told, fault_of};
 ghost use Rattle.awk_valid.specs.declared.fault.LoadFault.TheVariants.{NoMemory};
 
 use awk_types::{Name, TypeFault};
@@ -77,7 +77,7 @@ impl From<TypeFault> for LoadFault {
 
 /// The fault of the buffer under a key, or want of memory.
 pub(crate) fn buffer_fault(alloc: Global, key: &str, why: BufferFault) -> LoadFault
-    ensures { Told {Y = Column} (told result) (Err (broken (buffer key.now why))) }
+    ensures { Told {Y = Column} (told result) (Err (buffer key.now why)) }
 {
     match Name::new(alloc, key) {
         Ok(key) => LoadFault::Buffer { key, why },

@@ -14,7 +14,8 @@ use awk_kernels::Kernels;
 fn broken_rule(starts: &[i64], stops: &[i64], place: usize) -> Rule
     requires start { place < length starts.now }
     requires stop { place < length stops.now }
-    ensures { result ≡ (if int_lt (get_or stops.now place (pos 0)) (get_or starts.now place (pos 0)) then Order else Start) }
+    ensures { result ≡ (if int_lt (get_or stops.now place (pos 0)) (get_or starts.now place (pos
+        0)) then Order else Start) }
 {
     if stops[place] < starts[place] {
         Rule::Order

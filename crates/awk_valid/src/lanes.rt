@@ -17,7 +17,8 @@ use std::sync::ledger::Ledger;
 /// The first n numbers that the bytes are, if there are as many.
 fn first_numbers(bytes: &[u8], kind: Kind, n: u64) -> Option<Lane<'_>>
     requires few { n ≤ item_limit + 1 }
-    ensures { result ≡ (if nat_le (n * width kind) (length bytes.now) then Some (column_at kind n bytes.now) else None) }
+    ensures { result ≡ (if nat_le (n * width kind) (length bytes.now) then Some (column_at kind n
+        bytes.now) else None) }
 {
     let size = n as usize * kind.width();
     if bytes.len() < size {
@@ -37,7 +38,8 @@ pub(crate) fn lane_at<'a, L: Ledger>(
 ) -> Result<Lane<'a>, LoadFault>
     requires few { n ≤ item_limit + 1 }
     // The numbers, or exactly what is wrong with the buffer, or want of memory.
-    ensures answer { Gives (λ lane. lane) told result (lane_said key.now kind n (buffer store.old.texts key.now)) }
+    ensures answer { Gives (λ lane. lane) told result (lane_said key.now kind n (buffer
+        store.old.texts key.now)) }
     // A number has a byte at least, and a text is no shorter than the bytes that it encodes.
     ensures short { IfOk result (λ _. n ≤ total_len store.old.texts) }
     ensures texts { store.new.texts ≡ store.old.texts }
@@ -65,7 +67,8 @@ pub(crate) fn lane_at<'a, L: Ledger>(
 /// The first n bits, if the bytes have as many.
 fn first_bits(bytes: &[u8], lsb_order: bool, n: u64) -> Option<Bits<'_>>
     requires few { n ≤ item_limit }
-    ensures { result ≡ (if nat_le ((n + 7) / 8) (length bytes.now) then Some (bits lsb_order bytes.now 0 n) else None) }
+    ensures { result ≡ (if nat_le ((n + 7) / 8) (length bytes.now) then Some (bits lsb_order
+        bytes.now 0 n) else None) }
 {
     if bytes.len() < (n as usize + 7) / 8 {
         return None;
@@ -84,7 +87,8 @@ pub(crate) fn bits_at<'a, L: Ledger>(
 ) -> Result<Bits<'a>, LoadFault>
     requires few { n ≤ item_limit }
     // The bits, or exactly what is wrong with the buffer, or want of memory.
-    ensures answer { Gives (λ mask. mask) told result (bits_said key.now lsb_order n (buffer store.old.texts key.now)) }
+    ensures answer { Gives (λ mask. mask) told result (bits_said key.now lsb_order n (buffer
+        store.old.texts key.now)) }
     ensures texts { store.new.texts ≡ store.old.texts }
     ensures cost { steps.new ≤ steps.old + undecoded_len store.old key.now }
 {

@@ -1,11 +1,11 @@
 //! The lanes of a node, judged by the rule of its class, and the lengths that its contents need.
 ghost use Rattle.std.specs.Prelude.{◌≡◌, ℕ, ◌+◌, ◌-◌, ◌<◌, ◌≤◌, length, get_or, map, pos, None, IfOk};
 ghost use Rattle.std.specs.List.{range_with_len};
-ghost use Rattle.awk_types.specs.Gives.{Gives};
+ghost use Rattle.awk_types.specs.Gives.{Gives, refused_or};
 ghost use Rattle.awk_lanes.specs.Places.{size_of, at, IsIndexKind};
 ghost use Rattle.awk_lanes.specs.declared.kind.Kind.TheVariants.{I8};
 ghost use Rattle.awk_valid.specs.Broken.{rule_break, list_rule, index_rule, tag_rule};
-ghost use Rattle.awk_valid.specs.Loading.{told, or_break};
+ghost use Rattle.awk_valid.specs.Loading.{told};
 ghost use Rattle.awk_valid.specs.Needs.{reach, behind, lists_length, index_length, tag_length};
 ghost use Rattle.awk_valid.specs.Rules.{list_rules, tag_rules};
 
@@ -29,7 +29,7 @@ pub(crate) fn judged_lists<N: Kernels, L: Ledger>(
     requires starts { IsIndexKind starts.now.kind }
     requires stops { IsIndexKind stops.now.kind }
     requires same { size_of starts.now ≡ size_of stops.now }
-    ensures answer { Gives (λ length. length) told result (or_break
+    ensures answer { Gives (λ length. length) told result (refused_or
         (rule_break node (size_of starts.now) (λ i. list_rule (at starts.now i) (at stops.now i)))
         (lists_length (size_of starts.now) (at starts.now) (at stops.now))) }
     ensures cost { steps.new ≤ steps.old + size_of starts.now + size_of stops.now }
@@ -49,7 +49,7 @@ pub(crate) fn judged_offsets<N: Kernels, L: Ledger>(
 ) -> Result<u64, LoadFault>
     requires offsets { IsIndexKind offsets.now.kind }
     requires some { 0 < size_of offsets.now }
-    ensures answer { Gives (λ length. length) told result (or_break
+    ensures answer { Gives (λ length. length) told result (refused_or
         (rule_break node (size_of offsets.now - 1) (λ i. list_rule (at offsets.now i) (at offsets.now (i + 1))))
         (lists_length (size_of offsets.now - 1) (at offsets.now) (λ i. at offsets.now (i + 1)))) }
     ensures cost { steps.new ≤ steps.old + size_of offsets.now }
@@ -68,7 +68,7 @@ pub(crate) fn judged_index<N: Kernels, L: Ledger>(
     steps: &mut Steps<L>,
 ) -> Result<u64, LoadFault>
     requires index { IsIndexKind index.now.kind }
-    ensures answer { Gives (λ length. length) told result (or_break
+    ensures answer { Gives (λ length. length) told result (refused_or
         (rule_break node (size_of index.now) (λ i. index_rule (at index.now i)))
         (index_length (size_of index.now) (at index.now))) }
     ensures cost { steps.new ≤ steps.old + size_of index.now }
@@ -86,7 +86,8 @@ pub(crate) fn optional_length<N: Kernels, L: Ledger>(
     steps: &mut Steps<L>,
 ) -> Result<u64, NoMemory>
     requires index { IsIndexKind index.now.kind }
-    ensures length { IfOk result (λ length. length ≡ index_length (size_of index.now) (at index.now)) }
+    ensures length { IfOk result (λ length. length ≡ index_length (size_of index.now) (at
+        index.now)) }
     ensures cost { steps.new ≤ steps.old + size_of index.now }
 {
     let numbers = numbers_of(alloc, index, steps)?;
@@ -106,7 +107,7 @@ pub(crate) fn judged_union<L: Ledger>(
     requires tags { tags.now.kind ≡ I8 }
     requires index { IsIndexKind index.now.kind }
     requires same { size_of tags.now ≡ size_of index.now }
-    ensures answer { Gives (λ lengths. lengths.items) told result (or_break
+    ensures answer { Gives (λ lengths. lengths.items) told result (refused_or
         (rule_break node (size_of tags.now) (λ i. tag_rule alternatives (at tags.now i) (at index.now i)))
         (map (tag_length (size_of tags.now) (at tags.now) (at index.now)) (range_with_len 0 alternatives))) }
     ensures cost { steps.new ≤ steps.old + size_of tags.now + size_of index.now }
@@ -124,7 +125,7 @@ fn judged_spans<N: Kernels>(
     stops: &[i64],
 ) -> Result<u64, LoadFault>
     requires { length starts.now ≡ length stops.now }
-    ensures { Gives (λ length. length) told result (or_break
+    ensures { Gives (λ length. length) told result (refused_or
         (rule_break node (length starts.now) (list_rules starts.now stops.now))
         (lists_length (length starts.now) (λ i. get_or starts.now i (pos 0)) (λ i. get_or stops.now i (pos 0)))) }
 {
@@ -135,7 +136,8 @@ fn judged_spans<N: Kernels>(
 /// The greatest stop of the lists that are not empty, or 0.
 fn spans_length(starts: &[i64], stops: &[i64]) -> u64
     requires { length starts.now ≡ length stops.now }
-    ensures { result ≡ lists_length (length starts.now) (λ i. get_or starts.now i (pos 0)) (λ i. get_or stops.now i (pos 0)) }
+    ensures { result ≡ lists_length (length starts.now) (λ i. get_or starts.now i (pos 0)) (λ i.
+        get_or stops.now i (pos 0)) }
 {
     let mut most = 0;
     for place in 0..starts.len() {
@@ -184,7 +186,7 @@ fn judged_tags(
 ) -> Result<Vec<u64>, LoadFault>
     requires same_length { length tags.now ≡ length index.now }
     requires few { alternatives ≤ 127 }
-    ensures { Gives (λ lengths. lengths.items) told result (or_break
+    ensures { Gives (λ lengths. lengths.items) told result (refused_or
         (rule_break node (length tags.now) (tag_rules alternatives tags.now index.now))
         (map
         (tag_length (length tags.now) (λ i. get_or tags.now i (pos 0)) (λ i. get_or index.now i (pos 0)))
@@ -203,7 +205,8 @@ fn tag_lengths(
 ) -> Result<Vec<u64>, NoMemory>
     requires same_length { length tags.now ≡ length index.now }
     requires few { alternatives ≤ 127 }
-    requires judged { (k : ℕ) → k < length tags.now → tag_rules alternatives tags.now index.now k ≡ None }
+    requires judged { (k : ℕ) → k < length tags.now → tag_rules alternatives tags.now index.now k ≡
+        None }
     ensures { IfOk result (λ lengths. lengths.items ≡ map
         (tag_length (length tags.now) (λ i. get_or tags.now i (pos 0)) (λ i. get_or index.now i (pos 0)))
         (range_with_len 0 alternatives)) }

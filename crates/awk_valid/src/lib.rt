@@ -10,9 +10,8 @@ mod keys;
 mod lanes;
 mod lengths;
 mod numbers;
+mod own;
 mod parts;
-#[cfg(test)]
-mod tests;
 mod walk;
 
 pub use arrays::load;

@@ -1,6 +1,6 @@
 //! The node of a form of numbers: a lane, in the regular lists of its inner shape.
 ghost use Rattle.std.specs.Prelude.{◌≡◌, ℕ, ◌+◌, ◌-◌, ◌*◌, ◌≤◌, length, drop, None, IfOk};
-ghost use Rattle.awk_types.specs.Gives.{Gives};
+ghost use Rattle.awk_types.specs.Gives.{Gives, refused_or};
 ghost use Rattle.awk_lanes.specs.Places.{size_of};
 ghost use Rattle.awk_layout.specs.Layout.{flat};
 ghost use Rattle.awk_store.specs.Buffers.{total_len};
@@ -8,7 +8,7 @@ ghost use Rattle.awk_form.specs.FormTree.{numpy};
 ghost use Rattle.awk_valid.specs.Container.{container_of, kind_of};
 ghost use Rattle.awk_valid.specs.Broken.{item_limit, size_break, shape_break, node_break};
 ghost use Rattle.awk_valid.specs.Loaded.{shaped, layout_of};
-ghost use Rattle.awk_valid.specs.Loading.{told, or_break};
+ghost use Rattle.awk_valid.specs.Loading.{told};
 ghost use Rattle.awk_valid.specs.Needs.{product};
 
 use crate::buffers::judged_size;
@@ -41,8 +41,8 @@ fn kind_of(prim: Prim) -> Kind
 }
 
 /// How many items n lists of one size have.
-fn items_of(n: u64, size: u64) -> Result<u64, LoadFault>
-    ensures { Gives (λ items. items) told result (or_break (size_break (n * size)) (n * size)) }
+pub(crate) fn items_of(n: u64, size: u64) -> Result<u64, LoadFault>
+    ensures { Gives (λ items. items) told result (refused_or (size_break (n * size)) (n * size)) }
 {
     match n.checked_mul(size) {
         Some(items) => match judged_size(items) {
@@ -54,9 +54,11 @@ fn items_of(n: u64, size: u64) -> Result<u64, LoadFault>
     }
 }
 
-/// How many numbers n items of an inner shape have: n, n times the first inner number, and so on are judged.
+/// How many numbers n items of an inner shape have: n, n times the first inner number, and so on
+/// are judged.
 fn judged_shape(inner: &Dims, n: u64) -> Result<u64, LoadFault>
-    ensures answer { Gives (λ items. items) told result (or_break (shape_break n inner.now) (n * product inner.now)) }
+    ensures answer { Gives (λ items. items) told result (refused_or (shape_break n inner.now) (n *
+        product inner.now)) }
     ensures few { IfOk result (λ items. items ≤ item_limit) }
 {
     judged_size(n)?;
@@ -101,7 +103,7 @@ pub(crate) fn numbers_node<'a, L: Ledger>(
     steps: &mut Steps<L>,
 ) -> Result<Node<'a>, LoadFault>
     // The number of the node is told by no break of such a node.
-    ensures answer { (node : ℕ) → Gives (λ x. x) told result (or_break
+    ensures answer { (node : ℕ) → Gives (λ x. x) told result (refused_or
         (node_break (numpy key.now prim inner.now) node n (container_of store.old.texts))
         (layout_of (numpy key.now prim inner.now) n (container_of store.old.texts))) }
     ensures texts { store.new.texts ≡ store.old.texts }

@@ -1,27 +1,28 @@
-//! What a node holds beside its contents: its lanes, judged, and the lengths that its contents need.
-ghost use Rattle.std.specs.Prelude.{◌≡◌, ℕ, ◌+◌, ◌*◌, ◌≤◌, Bool, List, map, Option, codes};
-ghost use Rattle.std.specs.List.{range_with_len};
+//! What a node holds beside its contents, judged, and the lengths that its contents need.
+ghost use Rattle.std.specs.Prelude.{◌≡◌, ℕ, ◌+◌, ◌*◌, ◌≤◌, ◌∷◌, [], Bool, List, Option, length, IfOk};
 ghost use Rattle.awk_types.specs.DataType.{Name};
 ghost use Rattle.awk_types.specs.Gives.{Gives};
-ghost use Rattle.awk_lanes.specs.Bits.{bits};
-ghost use Rattle.awk_lanes.specs.Column.{Column};
 ghost use Rattle.awk_store.specs.Buffers.{ByKey, total_len};
 ghost use Rattle.awk_form.specs.FormTree as tree;
-ghost use Rattle.awk_form.specs.FormTree.{FormTree, FormTrees};
-ghost use Rattle.awk_form.specs.Lawful.{count};
-ghost use Rattle.awk_valid.specs.Container.{container_of, index_at, int8s_at, bytes_at};
-ghost use Rattle.awk_valid.specs.Needs.{content_length};
-ghost use Rattle.awk_valid.specs.Broken.{node_break};
-ghost use Rattle.awk_valid.specs.Loading.{told, or_break, judged, unit};
+ghost use Rattle.awk_form.specs.FormTree.{FormTree, FormTrees, forms_from};
+ghost use Rattle.awk_form.specs.Lawful.{count, IsLawful};
+ghost use Rattle.awk_form.specs.View.{form_of};
+ghost use Rattle.awk_form.specs.Measures.{inner_shape};
+ghost use Rattle.awk_valid.specs.Loading.{told};
+ghost use Rattle.awk_valid.specs.declared.own.Own.{Own};
+ghost use Rattle.awk_valid.specs.Walked.{GivesOwn, own_said};
 
 use crate::buffers::{index_lane, int8_lane, judged_size, mask_bits};
 use crate::fault::{LoadFault, Rule};
 use crate::lengths::{judged_index, judged_lists, judged_offsets, judged_union, optional_length};
-use awk_form::IndexKind;
+use crate::numbers::{items_of, numbers_node};
+use crate::own::{One, Own};
+use awk_form::{Dims, Form, IndexKind, Shape};
 use awk_kernels::Kernels;
-use awk_lanes::{Bits, Lane, Steps};
+use awk_lanes::Steps;
+use awk_layout::Node;
 use awk_store::Store;
-use awk_types::Name;
+use awk_types::{Name, Names, NoMemory, Prim};
 use std::alloc::Global;
 use std::sync::ledger::Ledger;
 
@@ -39,10 +40,22 @@ pub(crate) struct Spot {
     pub n: u64,
 }
 
-/// An EmptyArray has no items.
-pub(crate) fn judged_empty(spot: Spot) -> Result<(), LoadFault>
-    ensures { (key : Option Name) (texts : ByKey) → Gives unit told result
-        (judged (node_break (tree.empty key) spot.node spot.n (container_of texts))) }
+/// The lengths of one content.
+fn one_length(alloc: Global, length: u64) -> Result<Vec<u64>, NoMemory>
+    ensures { IfOk result (λ lengths. lengths.items ≡ length ∷ []) }
+{
+    Ok(vec![in alloc; length; 1]?)
+}
+
+/// An EmptyArray, which has no items.
+fn empty<'a, L: Ledger>(
+    alloc: Global,
+    spot: Spot,
+    steps: &mut Steps<L>,
+) -> Result<(Own<'a>, Vec<u64>), LoadFault>
+    ensures answer { (key : Option Name) (texts : ByKey) → GivesOwn (tree.empty key) spot.node
+        spot.n texts result }
+    ensures cost { steps.new ≤ steps.old + 1 }
 {
     judged_size(spot.n)?;
     if spot.n > 0 {
@@ -52,11 +65,21 @@ pub(crate) fn judged_empty(spot: Spot) -> Result<(), LoadFault>
             place: 0,
         });
     }
-    Ok(())
+    Ok((Own::Whole(Node::empty(steps)), Vec::new(alloc)))
 }
 
-/// The starts and stops of n lists, and how many items their content needs.
-pub(crate) fn starts_and_stops<'a, N: Kernels, L: Ledger>(
+/// A RegularArray.
+fn regular<'a>(alloc: Global, size: u64, spot: Spot) -> Result<(Own<'a>, Vec<u64>), LoadFault>
+    ensures { (key : Option Name) (f : FormTree) (texts : ByKey) → GivesOwn (tree.regular key size
+        f) spot.node spot.n texts result }
+{
+    judged_size(spot.n)?;
+    let lengths = one_length(alloc, items_of(spot.n, size)?)?;
+    Ok((Own::Over(One::Regular(size)), lengths))
+}
+
+/// The starts and stops of lists.
+fn list<'a, N: Kernels, L: Ledger>(
     walk: &Walk<'_, N>,
     key: &Option<Name>,
     start_kind: IndexKind,
@@ -64,13 +87,9 @@ pub(crate) fn starts_and_stops<'a, N: Kernels, L: Ledger>(
     spot: Spot,
     store: &mut Store<'_, 'a>,
     steps: &mut Steps<L>,
-) -> Result<(Lane<'a>, Lane<'a>, u64), LoadFault>
-    ensures answer { (f : FormTree) → Gives {Y = Column × Column × ℕ} (λ x. (x.0, x.1, x.2)) told result (or_break
-        (node_break (tree.list key.now start_kind stop_kind f) spot.node spot.n (container_of store.old.texts)) (
-          index_at (container_of store.old.texts) key.now (codes "starts") start_kind spot.n,
-          index_at (container_of store.old.texts) key.now (codes "stops") stop_kind spot.n,
-          content_length (tree.list key.now start_kind stop_kind f) spot.n (container_of store.old.texts) 0,
-        )) }
+) -> Result<(Own<'a>, Vec<u64>), LoadFault>
+    ensures answer { (f : FormTree) → GivesOwn (tree.list key.now start_kind stop_kind f) spot.node
+        spot.n store.old.texts result }
     ensures texts { store.new.texts ≡ store.old.texts }
     ensures cost { steps.new ≤ steps.old + 4 * total_len store.old.texts }
 {
@@ -78,111 +97,151 @@ pub(crate) fn starts_and_stops<'a, N: Kernels, L: Ledger>(
     let starts = index_lane(walk.alloc, store, key, "starts", start_kind, spot.n, steps)?;
     let stops = index_lane(walk.alloc, store, key, "stops", stop_kind, spot.n, steps)?;
     let length = judged_lists(walk.alloc, walk.kernels, spot.node, &starts, &stops, steps)?;
-    Ok((starts, stops, length))
+    let lengths = one_length(walk.alloc, length)?;
+    Ok((Own::Over(One::Lists(starts, stops)), lengths))
 }
 
-/// The offsets of n lists, and how many items their content needs.
-pub(crate) fn offsets<'a, N: Kernels, L: Ledger>(
+/// The offsets of lists.
+fn list_offset<'a, N: Kernels, L: Ledger>(
     walk: &Walk<'_, N>,
     key: &Option<Name>,
     kind: IndexKind,
     spot: Spot,
     store: &mut Store<'_, 'a>,
     steps: &mut Steps<L>,
-) -> Result<(Lane<'a>, u64), LoadFault>
-    ensures answer { (f : FormTree) → Gives {Y = Column × ℕ} (λ x. (x.0, x.1)) told result (or_break
-        (node_break (tree.list_offset key.now kind f) spot.node spot.n (container_of store.old.texts))
-        (index_at (container_of store.old.texts) key.now (codes "offsets") kind (spot.n + 1), content_length (tree.list_offset key.now kind f) spot.n (container_of store.old.texts) 0)) }
+) -> Result<(Own<'a>, Vec<u64>), LoadFault>
+    ensures answer { (f : FormTree) → GivesOwn (tree.list_offset key.now kind f) spot.node spot.n
+        store.old.texts result }
     ensures texts { store.new.texts ≡ store.old.texts }
     ensures cost { steps.new ≤ steps.old + 4 * total_len store.old.texts }
 {
     judged_size(spot.n)?;
     let offsets = index_lane(walk.alloc, store, key, "offsets", kind, spot.n + 1, steps)?;
     let length = judged_offsets(walk.alloc, walk.kernels, spot.node, &offsets, steps)?;
-    Ok((offsets, length))
+    let lengths = one_length(walk.alloc, length)?;
+    Ok((Own::Over(One::OffsetLists(offsets)), lengths))
 }
 
-/// The index of n items, none of them negative, and how many items its content needs.
-pub(crate) fn index<'a, N: Kernels, L: Ledger>(
+/// The names of a record, and the length of each of its contents.
+fn row<'a>(
+    alloc: Global,
+    names: &Option<Names>,
+    contents: usize,
+    spot: Spot,
+) -> Result<(Own<'a>, Vec<u64>), LoadFault>
+    ensures { (key : Option Name) (fs : FormTrees) (texts : ByKey) → count fs ≡ contents → GivesOwn
+        (tree.row key names.now fs) spot.node spot.n texts result }
+{
+    judged_size(spot.n)?;
+    let lengths = vec![in alloc; spot.n; contents]?;
+    Ok((Own::Rows(copied(alloc, names)?), lengths))
+}
+
+/// The same names, where there are any.
+fn copied(alloc: Global, names: &Option<Names>) -> Result<Option<Names>, NoMemory>
+    ensures { IfOk result (λ copied. copied ≡ names.now) }
+{
+    match names {
+        None => Ok(None),
+        Some(names) => Ok(Some(names.copy(alloc)?)),
+    }
+}
+
+/// The index of items, none of which is missing.
+fn indexed<'a, N: Kernels, L: Ledger>(
     walk: &Walk<'_, N>,
     key: &Option<Name>,
     kind: IndexKind,
     spot: Spot,
     store: &mut Store<'_, 'a>,
     steps: &mut Steps<L>,
-) -> Result<(Lane<'a>, u64), LoadFault>
-    ensures answer { (f : FormTree) → Gives {Y = Column × ℕ} (λ x. (x.0, x.1)) told result (or_break
-        (node_break (tree.indexed key.now kind f) spot.node spot.n (container_of store.old.texts))
-        (index_at (container_of store.old.texts) key.now (codes "index") kind spot.n, content_length (tree.indexed key.now kind f) spot.n (container_of store.old.texts) 0)) }
+) -> Result<(Own<'a>, Vec<u64>), LoadFault>
+    ensures answer { (f : FormTree) → GivesOwn (tree.indexed key.now kind f) spot.node spot.n
+        store.old.texts result }
     ensures texts { store.new.texts ≡ store.old.texts }
     ensures cost { steps.new ≤ steps.old + 4 * total_len store.old.texts }
 {
     judged_size(spot.n)?;
     let index = index_lane(walk.alloc, store, key, "index", kind, spot.n, steps)?;
     let length = judged_index(walk.alloc, walk.kernels, spot.node, &index, steps)?;
-    Ok((index, length))
+    let lengths = one_length(walk.alloc, length)?;
+    Ok((Own::Over(One::Indexed(index)), lengths))
 }
 
-/// The index of n items, of which any may be missing, and how many items its content needs.
-pub(crate) fn optional_index<'a, N: Kernels, L: Ledger>(
+/// The index of items, of which any may be missing.
+fn indexed_option<'a, N: Kernels, L: Ledger>(
     walk: &Walk<'_, N>,
     key: &Option<Name>,
     kind: IndexKind,
     spot: Spot,
     store: &mut Store<'_, 'a>,
     steps: &mut Steps<L>,
-) -> Result<(Lane<'a>, u64), LoadFault>
-    ensures answer { (f : FormTree) → Gives {Y = Column × ℕ} (λ x. (x.0, x.1)) told result (or_break
-        (node_break (tree.indexed_option key.now kind f) spot.node spot.n (container_of store.old.texts))
-        (index_at (container_of store.old.texts) key.now (codes "index") kind spot.n, content_length (tree.indexed_option key.now kind f) spot.n (container_of store.old.texts) 0)) }
+) -> Result<(Own<'a>, Vec<u64>), LoadFault>
+    ensures answer { (f : FormTree) → GivesOwn (tree.indexed_option key.now kind f) spot.node
+        spot.n store.old.texts result }
     ensures texts { store.new.texts ≡ store.old.texts }
     ensures cost { steps.new ≤ steps.old + 4 * total_len store.old.texts }
 {
     judged_size(spot.n)?;
     let index = index_lane(walk.alloc, store, key, "index", kind, spot.n, steps)?;
     let length = optional_length(walk.alloc, walk.kernels, &index, steps)?;
-    Ok((index, length))
+    let lengths = one_length(walk.alloc, length)?;
+    Ok((Own::Over(One::Optional(index)), lengths))
 }
 
-/// The bytes of a mask of n items.
-pub(crate) fn byte_mask<'a, L: Ledger>(
+/// The bytes of a mask.
+fn byte_masked<'a, L: Ledger>(
     alloc: Global,
     key: &Option<Name>,
-    n: u64,
+    valid_when: bool,
+    spot: Spot,
     store: &mut Store<'_, 'a>,
     steps: &mut Steps<L>,
-) -> Result<Lane<'a>, LoadFault>
-    ensures answer { (valid_when : Bool) (f : FormTree) (node : ℕ) → Gives (λ lane. lane) told result (or_break
-        (node_break (tree.byte_masked key.now valid_when f) node n (container_of store.old.texts))
-        (int8s_at (container_of store.old.texts) key.now (codes "mask") n)) }
+) -> Result<(Own<'a>, Vec<u64>), LoadFault>
+    ensures answer { (f : FormTree) → GivesOwn (tree.byte_masked key.now valid_when f) spot.node
+        spot.n store.old.texts result }
     ensures texts { store.new.texts ≡ store.old.texts }
     ensures cost { steps.new ≤ steps.old + total_len store.old.texts }
 {
-    judged_size(n)?;
-    int8_lane(alloc, store, key, "mask", n, steps)
+    judged_size(spot.n)?;
+    let mask = int8_lane(alloc, store, key, "mask", spot.n, steps)?;
+    let lengths = one_length(alloc, spot.n)?;
+    Ok((Own::Over(One::ByteMasked(mask, valid_when)), lengths))
 }
 
-/// The bits of a mask of n items.
-pub(crate) fn bit_mask<'a, L: Ledger>(
+/// The bits of a mask.
+fn bit_masked<'a, L: Ledger>(
     alloc: Global,
     key: &Option<Name>,
+    valid_when: bool,
     lsb_order: bool,
-    n: u64,
+    spot: Spot,
     store: &mut Store<'_, 'a>,
     steps: &mut Steps<L>,
-) -> Result<Bits<'a>, LoadFault>
-    ensures answer { (valid_when : Bool) (f : FormTree) (node : ℕ) → Gives (λ mask. mask) told result (or_break
-        (node_break (tree.bit_masked key.now valid_when lsb_order f) node n (container_of store.old.texts))
-        (bits lsb_order (bytes_at (container_of store.old.texts) key.now (codes "mask")) 0 n)) }
+) -> Result<(Own<'a>, Vec<u64>), LoadFault>
+    ensures answer { (f : FormTree) → GivesOwn (tree.bit_masked key.now valid_when lsb_order f)
+        spot.node spot.n store.old.texts result }
     ensures texts { store.new.texts ≡ store.old.texts }
     ensures cost { steps.new ≤ steps.old + total_len store.old.texts }
 {
-    judged_size(n)?;
-    mask_bits(alloc, store, key, "mask", lsb_order, n, steps)
+    judged_size(spot.n)?;
+    let mask = mask_bits(alloc, store, key, "mask", lsb_order, spot.n, steps)?;
+    let lengths = one_length(alloc, spot.n)?;
+    Ok((Own::Over(One::BitMasked(mask, valid_when)), lengths))
 }
 
-/// The tags and the index of n items, and how many items each alternative needs.
-pub(crate) fn tags_and_index<'a, L: Ledger>(
+/// An UnmaskedArray.
+fn unmasked<'a>(alloc: Global, spot: Spot) -> Result<(Own<'a>, Vec<u64>), LoadFault>
+    ensures { (key : Option Name) (f : FormTree) (texts : ByKey) → GivesOwn (tree.unmasked key f)
+        spot.node spot.n texts result }
+{
+    judged_size(spot.n)?;
+    let lengths = one_length(alloc, spot.n)?;
+    Ok((Own::Over(One::Unmasked), lengths))
+}
+
+/// The tags and the index of items, and how many items each alternative needs.
+fn union<'a, L: Ledger>(
     alloc: Global,
     key: &Option<Name>,
     kind: IndexKind,
@@ -190,14 +249,10 @@ pub(crate) fn tags_and_index<'a, L: Ledger>(
     spot: Spot,
     store: &mut Store<'_, 'a>,
     steps: &mut Steps<L>,
-) -> Result<(Lane<'a>, Lane<'a>, Vec<u64>), LoadFault>
+) -> Result<(Own<'a>, Vec<u64>), LoadFault>
     requires few { alternatives ≤ 127 }
-    ensures answer { (fs : FormTrees) → count fs ≡ alternatives → Gives {Y = Column × Column × List ℕ} (λ x. (x.0, x.1, x.2.items)) told result (or_break
-        (node_break (tree.union key.now kind fs) spot.node spot.n (container_of store.old.texts)) (
-          int8s_at (container_of store.old.texts) key.now (codes "tags") spot.n,
-          index_at (container_of store.old.texts) key.now (codes "index") kind spot.n,
-          map (content_length (tree.union key.now kind fs) spot.n (container_of store.old.texts)) (range_with_len 0 alternatives),
-        )) }
+    ensures answer { (fs : FormTrees) → count fs ≡ alternatives → GivesOwn (tree.union key.now kind
+        fs) spot.node spot.n store.old.texts result }
     ensures texts { store.new.texts ≡ store.old.texts }
     ensures cost { steps.new ≤ steps.old + 4 * total_len store.old.texts }
 {
@@ -205,5 +260,73 @@ pub(crate) fn tags_and_index<'a, L: Ledger>(
     let tags = int8_lane(alloc, store, key, "tags", spot.n, steps)?;
     let index = index_lane(alloc, store, key, "index", kind, spot.n, steps)?;
     let lengths = judged_union(alloc, spot.node, alternatives, &tags, &index, steps)?;
-    Ok((tags, index, lengths))
+    Ok((Own::Union(tags, index), lengths))
+}
+
+/// A NumpyArray.
+fn numbers<'a, L: Ledger>(
+    alloc: Global,
+    key: &Option<Name>,
+    prim: Prim,
+    inner: &Dims,
+    n: u64,
+    store: &mut Store<'_, 'a>,
+    steps: &mut Steps<L>,
+) -> Result<(Own<'a>, Vec<u64>), LoadFault>
+    ensures answer { (node : ℕ) → GivesOwn (tree.numpy key.now prim inner.now) node n
+        store.old.texts result }
+    ensures texts { store.new.texts ≡ store.old.texts }
+    ensures cost { steps.new ≤ steps.old + total_len store.old.texts + length inner.now + 1 }
+{
+    let node = numbers_node(alloc, store, key, prim, inner, n, steps)?;
+    Ok((Own::Whole(node), Vec::new(alloc)))
+}
+
+/// What a node of a form holds beside its contents, and the lengths of those.
+pub(crate) fn own_part<'a, N: Kernels, L: Ledger>(
+    walk: &Walk<'_, N>,
+    form: &Form,
+    spot: Spot,
+    store: &mut Store<'_, 'a>,
+    steps: &mut Steps<L>,
+) -> Result<(Own<'a>, Vec<u64>), LoadFault>
+    requires lawful { IsLawful (form_of form.now) }
+    ensures answer { Gives {Y = Own × List ℕ} (λ x. (x.0, x.1.items)) told result (own_said
+        (form_of form.now) spot.node spot.n store.old.texts) }
+    ensures texts { store.new.texts ≡ store.old.texts }
+    ensures cost { steps.new ≤ steps.old + 4 * total_len store.old.texts + length (inner_shape
+        (form_of form.now)) + 1 }
+{
+    let alloc = walk.alloc;
+    let key = &form.key;
+    match &form.shape {
+        Shape::Empty => empty(alloc, spot, steps),
+        Shape::Numpy { prim, inner } => numbers(alloc, key, *prim, inner, spot.n, store, steps),
+        Shape::Regular { size, .. } => regular(alloc, *size, spot),
+        Shape::List { starts, stops, .. } => list(walk, key, *starts, *stops, spot, store, steps),
+        Shape::ListOffset { offsets, .. } => list_offset(walk, key, *offsets, spot, store, steps),
+        Shape::Row { names, contents } => row(alloc, names, contents.len(), spot),
+        Shape::Indexed { index, .. } => indexed(walk, key, *index, spot, store, steps),
+        Shape::IndexedOption { index, .. } => indexed_option(walk, key, *index, spot, store, steps),
+        Shape::ByteMasked { valid_when, .. } => {
+            byte_masked(alloc, key, *valid_when, spot, store, steps)
+        }
+        Shape::BitMasked {
+            valid_when,
+            lsb_order,
+            ..
+        } => bit_masked(alloc, key, *valid_when, *lsb_order, spot, store, steps),
+        Shape::Unmasked { .. } => unmasked(alloc, spot),
+        Shape::Union { index, contents } => {
+            union(
+                alloc,
+                key,
+                *index,
+                contents.len() as u64,
+                spot,
+                store,
+                steps,
+            )
+        }
+    }
 }

@@ -1,9 +1,10 @@
 -- The lane has all numbers of the shape, and a text is no longer than all texts together.
 use Rattle.std.proofs.Common.{◌*◌, sym, ◌∙◌, arith}
+use Rattle.awk_types.proofs.RefusalLaws.{refused_or-Ok}
 use Rattle.awk_store.proofs.Texts.{undecoded_len-≤}
 use Rattle.awk_valid.specs.Broken.{shape_break}
 use Rattle.awk_valid.specs.Needs.{product}
-use Rattle.awk_valid.proofs.ShapeLaws.{or_break-Ok, read-size}
+use Rattle.awk_valid.proofs.ShapeLaws.{read-size}
 use Rattle.awk_valid.proofs.numbers.numbers_node.Goals as goal
 
 pub returns-in_err-lane-clause-cost : goal.returns-in_err-lane-clause-cost
@@ -12,7 +13,7 @@ returns-in_err-lane-clause-cost g c = omega (arith, c.lane_at.ensures.cost, unde
 pub shaped_node-requires-clause-numbers : goal.shaped_node-requires-clause-numbers
 shaped_node-requires-clause-numbers g c =
     let inner = c.args.inner.now in
-    let judged = or_break-Ok (shape_break c.args.n inner) (c.args.n * product inner) c.in_ok-items.items c.in_ok-items.ensures.answer in
+    let judged = refused_or-Ok (shape_break c.args.n inner) (c.args.n * product inner) c.in_ok-items.items c.in_ok-items.ensures.answer in
     read-size _ _ c.in_ok-items.items _ c.in_ok-lane.lane c.in_ok-lane.ensures.answer ∙ sym judged.1
 
 pub returns-in_err-shaped_node-clause-cost : goal.returns-in_err-shaped_node-clause-cost

@@ -1,11 +1,15 @@
 -- The rule is judged over the tags and the index that were made.
-use Rattle.std.proofs.Common.{◌≡◌, None, Err, arith, ap, sym, ◌∙◌, refl, codes}
+use Rattle.std.proofs.Common.{◌≡◌, None, Err, arith, ap, sym, ◌∙◌, refl, codes, map}
+use Rattle.awk_types.proofs.RefusalLaws.{refused_or-Ok, refused_or-None, Gives-Err}
 use Rattle.awk_store.specs.Buffers.{total_len}
 use Rattle.awk_valid.specs.Container.{container_of}
 use Rattle.awk_valid.specs.Loading.{told}
-use Rattle.awk_form.proofs.Breaks.{gives_err}
-use Rattle.awk_valid.proofs.PartLaws.{told_as, unbroken, whole, both_none, index_fetched, int8s_fetched, union-own}
-use Rattle.awk_valid.proofs.parts.tags_and_index.Goals as goal
+use Rattle.std.specs.List.{range_with_len}
+use Rattle.awk_form.specs.FormTree.{union}
+use Rattle.awk_valid.specs.Needs.{content_length}
+use Rattle.awk_valid.specs.declared.own.Own.TheVariants.{Union}
+use Rattle.awk_valid.proofs.PartLaws.{told_as, both_none, index_fetched, int8s_fetched, union-own}
+use Rattle.awk_valid.proofs.parts.union.Goals as goal
 
 pub judged_union-requires-clause-same : goal.judged_union-requires-clause-same
 judged_union-requires-clause-same g c =
@@ -19,12 +23,12 @@ returns-in_err-lengths-clause-answer g c fs counted =
     let e = c.in_err-lengths.field-0.0 in
     let t = c.args.store.now.texts in
     let failed : c.from_residual-in_err-lengths.result ≡ Err e = grind arith in
-    let small = (unbroken _ _ _ c.in_ok-judged_size.ensures).0 in
+    let small = (refused_or-Ok _ _ _ c.in_ok-judged_size.ensures).0 in
     let tags = int8s_fetched t c.args.key.now (codes "tags") c.args.spot.n c.in_ok-tags.tags c.in_ok-tags.ensures.answer in
     let index = index_fetched t c.int8_lane.new.store.texts c.args.key.now (codes "index") c.args.kind c.args.spot.n c.in_ok-index.index c.in_ok-tags.ensures.texts c.in_ok-index.ensures.answer in
     let own = union-own (container_of t) c.args.key.now c.args.kind fs c.args.alternatives c.args.spot.node c.args.spot.n c.in_ok-tags.tags c.in_ok-index.index counted small
     (both_none _ _ tags.0 (both_none _ None index.0 refl)) tags.1 index.1 tags.2 in
-    gives_err _ _ _ e _ failed (told_as (told e) _ _ _ _ own.0 c.in_err-lengths.ensures.answer)
+    Gives-Err _ _ _ e _ failed (told_as (told e) _ _ _ _ own.0 c.in_err-lengths.ensures.answer)
 
 pub returns-in_err-lengths-clause-cost : goal.returns-in_err-lengths-clause-cost
 returns-in_err-lengths-clause-cost g c =
@@ -37,13 +41,14 @@ returns-in_err-lengths-clause-cost g c =
 pub returns-clause-answer : goal.returns-clause-answer
 returns-clause-answer g c fs counted =
     let t = c.args.store.now.texts in
-    let small = (unbroken _ _ _ c.in_ok-judged_size.ensures).0 in
+    let small = (refused_or-Ok _ _ _ c.in_ok-judged_size.ensures).0 in
     let tags = int8s_fetched t c.args.key.now (codes "tags") c.args.spot.n c.in_ok-tags.tags c.in_ok-tags.ensures.answer in
     let index = index_fetched t c.int8_lane.new.store.texts c.args.key.now (codes "index") c.args.kind c.args.spot.n c.in_ok-index.index c.in_ok-tags.ensures.texts c.in_ok-index.ensures.answer in
     let own = union-own (container_of t) c.args.key.now c.args.kind fs c.args.alternatives c.args.spot.node c.args.spot.n c.in_ok-tags.tags c.in_ok-index.index counted small
     (both_none _ _ tags.0 (both_none _ None index.0 refl)) tags.1 index.1 tags.2 in
-    let rule = unbroken _ _ _ c.in_ok-lengths.ensures.answer in
-    whole _ _ _ (own.0 ∙ rule.0) (λ i. (tags.1 i, index.1 i, (own.1 ∙ rule.1) i))
+    let rule = refused_or-Ok _ _ _ c.in_ok-lengths.ensures.answer in
+    let lengths = ap (λ a. map (content_length (union c.args.key.now c.args.kind fs) c.args.spot.n (container_of t)) (range_with_len 0 a)) counted in
+    refused_or-None _ _ _ (own.0 ∙ rule.0) (λ i. (Union (tags.1 i) (index.1 i), (lengths ∙ own.1 ∙ rule.1) i))
 
 pub returns-clause-cost : goal.returns-clause-cost
 returns-clause-cost g c =

@@ -1,20 +1,22 @@
 -- The rule is judged over the starts and stops that were made.
-use Rattle.std.proofs.Common.{◌≡◌, None, Err, arith, ap, sym, ◌∙◌, refl, codes}
+use Rattle.std.proofs.Common.{◌≡◌, None, Err, arith, ap, sym, ◌∙◌, refl, codes, ◌∷◌, [], ap₂}
+use Rattle.awk_types.proofs.RefusalLaws.{refused_or-Ok, refused_or-None, Gives-Err}
 use Rattle.awk_store.specs.Buffers.{total_len}
 use Rattle.awk_valid.specs.Container.{container_of}
 use Rattle.awk_valid.specs.Loading.{told}
-use Rattle.awk_form.proofs.Breaks.{gives_err}
-use Rattle.awk_valid.proofs.PartLaws.{told_as, told_second, index_told, unbroken, whole, both_none, index_fetched, list-own}
-use Rattle.awk_valid.proofs.parts.starts_and_stops.Goals as goal
+use Rattle.awk_valid.specs.declared.own.One.TheVariants.{Lists}
+use Rattle.awk_valid.specs.declared.own.Own.TheVariants.{Over}
+use Rattle.awk_valid.proofs.PartLaws.{told_as, told_second, index_told, both_none, index_fetched, list-own}
+use Rattle.awk_valid.proofs.parts.list.Goals as goal
 
 pub returns-in_err-stops-clause-answer : goal.returns-in_err-stops-clause-answer
 returns-in_err-stops-clause-answer g c f =
     let e = c.in_err-stops.field-0.0 in
     let t = c.args.store.now.texts in
     let failed : c.from_residual-in_err-stops.result ≡ Err e = grind arith in
-    let small = (unbroken _ _ _ c.in_ok-judged_size.ensures).0 in
+    let small = (refused_or-Ok _ _ _ c.in_ok-judged_size.ensures).0 in
     let starts = index_fetched t t c.args.key.now (codes "starts") c.args.start_kind c.args.spot.n c.in_ok-starts.starts refl c.in_ok-starts.ensures.answer in
-    gives_err _ _ _ e _ failed (told_second (told e) _ _ _ _ t _ small starts.0
+    Gives-Err _ _ _ e _ failed (told_second (told e) _ _ _ _ t _ small starts.0
     (index_told (told e) t c.index_lane.new.store.texts c.args.key.now (codes "stops") c.args.stop_kind c.args.spot.n _ t c.in_ok-starts.ensures.texts c.in_err-stops.ensures.answer))
 
 pub judged_lists-requires-clause-starts : goal.judged_lists-requires-clause-starts
@@ -34,12 +36,12 @@ returns-in_err-length-clause-answer g c f =
     let e = c.in_err-length.field-0.0 in
     let t = c.args.store.now.texts in
     let failed : c.from_residual-in_err-length.result ≡ Err e = grind arith in
-    let small = (unbroken _ _ _ c.in_ok-judged_size.ensures).0 in
+    let small = (refused_or-Ok _ _ _ c.in_ok-judged_size.ensures).0 in
     let starts = index_fetched t t c.args.key.now (codes "starts") c.args.start_kind c.args.spot.n c.in_ok-starts.starts refl c.in_ok-starts.ensures.answer in
     let stops = index_fetched t c.index_lane.new.store.texts c.args.key.now (codes "stops") c.args.stop_kind c.args.spot.n c.in_ok-stops.stops c.in_ok-starts.ensures.texts c.in_ok-stops.ensures.answer in
     let own = list-own (container_of t) c.args.key.now c.args.start_kind c.args.stop_kind f c.args.spot.node c.args.spot.n c.in_ok-starts.starts c.in_ok-stops.stops small
     (both_none _ _ starts.0 (both_none _ None stops.0 refl)) starts.1 stops.1 starts.2 in
-    gives_err _ _ _ e _ failed (told_as (told e) _ _ _ _ own.0 c.in_err-length.ensures.answer)
+    Gives-Err _ _ _ e _ failed (told_as (told e) _ _ _ _ own.0 c.in_err-length.ensures.answer)
 
 pub returns-in_err-length-clause-cost : goal.returns-in_err-length-clause-cost
 returns-in_err-length-clause-cost g c =
@@ -52,16 +54,24 @@ returns-in_err-length-clause-cost g c =
 pub returns-clause-answer : goal.returns-clause-answer
 returns-clause-answer g c f =
     let t = c.args.store.now.texts in
-    let small = (unbroken _ _ _ c.in_ok-judged_size.ensures).0 in
+    let small = (refused_or-Ok _ _ _ c.in_ok-judged_size.ensures).0 in
     let starts = index_fetched t t c.args.key.now (codes "starts") c.args.start_kind c.args.spot.n c.in_ok-starts.starts refl c.in_ok-starts.ensures.answer in
     let stops = index_fetched t c.index_lane.new.store.texts c.args.key.now (codes "stops") c.args.stop_kind c.args.spot.n c.in_ok-stops.stops c.in_ok-starts.ensures.texts c.in_ok-stops.ensures.answer in
     let own = list-own (container_of t) c.args.key.now c.args.start_kind c.args.stop_kind f c.args.spot.node c.args.spot.n c.in_ok-starts.starts c.in_ok-stops.stops small
     (both_none _ _ starts.0 (both_none _ None stops.0 refl)) starts.1 stops.1 starts.2 in
-    let rule = unbroken _ _ _ c.in_ok-length.ensures.answer in
-    whole _ _ _ (own.0 ∙ rule.0) (λ i. (starts.1 i, stops.1 i, (own.1 ∙ rule.1) i))
+    let rule = refused_or-Ok _ _ _ c.in_ok-length.ensures.answer in
+    refused_or-None _ _ _ (own.0 ∙ rule.0) (ap₂ (λ q ls. (q, ls)) (λ i. Over (Lists (starts.1 i) (stops.1 i))) (ap (λ l. l ∷ []) (own.1 ∙ rule.1) ∙ sym c.in_ok-lengths.ensures))
 
 pub returns-clause-cost : goal.returns-clause-cost
 returns-clause-cost g c =
+    let t = c.args.store.now.texts in
+    let starts = index_fetched t t c.args.key.now (codes "starts") c.args.start_kind c.args.spot.n c.in_ok-starts.starts refl c.in_ok-starts.ensures.answer in
+    let stops = index_fetched t c.index_lane.new.store.texts c.args.key.now (codes "stops") c.args.stop_kind c.args.spot.n c.in_ok-stops.stops c.in_ok-starts.ensures.texts c.in_ok-stops.ensures.answer in
+    let same = ap total_len c.in_ok-starts.ensures.texts in
+    omega (arith, starts.2, stops.2, same, c.in_ok-starts.ensures.short, c.in_ok-starts.ensures.cost, c.in_ok-stops.ensures.cost, c.in_ok-length.ensures.cost)
+
+pub returns-in_err-lengths-clause-cost : goal.returns-in_err-lengths-clause-cost
+returns-in_err-lengths-clause-cost g c =
     let t = c.args.store.now.texts in
     let starts = index_fetched t t c.args.key.now (codes "starts") c.args.start_kind c.args.spot.n c.in_ok-starts.starts refl c.in_ok-starts.ensures.answer in
     let stops = index_fetched t c.index_lane.new.store.texts c.args.key.now (codes "stops") c.args.stop_kind c.args.spot.n c.in_ok-stops.stops c.in_ok-starts.ensures.texts c.in_ok-stops.ensures.answer in
