@@ -1,0 +1,12 @@
+pub mod Views
+pub mod Distinct
+pub mod Lists
+pub mod Levels
+pub mod Heads
+pub mod ArgLaws
+pub mod Traversed
+pub mod Pairs
+pub mod Worked
+pub mod LineLaws
+pub mod Examples
+pub mod AllowedLaws

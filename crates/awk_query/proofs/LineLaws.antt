@@ -1,0 +1,204 @@
+-- Lines, by their members.
+use Rattle.std.proofs.Common.{◌≡◌, ℕ, ◌&&◌, ◌==◌, Bool, true, false, cond, arith, List, [], ◌∷◌, length, String, string_bytes, BTreeMap, Global, Option, Some, None, option_map, option_and_then, Result, Ok, Err, codes, is_some, is_eq, nat_cmp, refl, ap, sym, ◌∙◌, subst}
+use Rattle.std.specs.Prelude.{◌≢◌, IfOk}
+use Rattle.std.specs.Option.{option_map_or}
+use Rattle.std.specs.List.{list_all}
+use Rattle.std.specs.Map.{values_of, remove_entry}
+use Rattle.std.specs.BTreeMap.{is_at}
+use Rattle.std.specs.Ordering.{match_ordering}
+use Rattle.std.specs.Cmp.Lexicographic.{slice_cmp}
+use Rattle.std.specs.Str.{IsUtf8, is_utf8}
+use Rattle.std.proofs.lemmas.Str.{IsUtf8-from_is_utf8, is_utf8-from_IsUtf8}
+use Rattle.std.proofs.lemmas.Map.Text.{is_eq-slice_cmp}
+use Rattle.serde_json.specs.Read.{read}
+use Rattle.serde_json.specs.Data.{Data, null, boolean, number, string, array, object, Members, member}
+use Rattle.serde_json.specs.Find.{as_str, as_object, get_member}
+use Rattle.serde_json.specs.Events.{members_len}
+use Rattle.serde_json.specs.View.{view, members_view}
+use Rattle.serde_json.proofs.Views.{Entry, view-Object, members_len-members_view, member_later}
+use Rattle.serde_json.specs.declared.value.Value.{Value, Object}
+use Rattle.awk_types.specs.DataType.{Name}
+use Rattle.awk_types.specs.Gives.{Gives}
+use Rattle.awk_types.proofs.NameLaws.{same_name_is}
+use Rattle.awk_query.specs.Allowed.{IsAllowed, IsAllowedLine}
+use Rattle.awk_query.proofs.AllowedLaws.{May, may-map-of, may-then, may-if, said-is}
+use Rattle.awk_query.specs.ExprTree.{ExprTree}
+use Rattle.awk_query.specs.Reading.{expr_said}
+use Rattle.awk_query.specs.Line.{Line, show, type_of, pack, names_from, line_of, line_with, load_of, load_in, bind_of, bind_in, single_in, name_at, count_at, expr_at, are_texts, if_texts, texts_at, json_of}
+use Rattle.awk_query.specs.LineView.{line_view}
+use Rattle.awk_query.specs.declared.line.Line as code
+use Rattle.awk_query.specs.declared.fault.QueryFault.{QueryFault}
+use Rattle.awk_query.specs.Told.{unread_told, or_query}
+
+-- ---- bytes
+
+-- of UTF-8, what serde_json reads
+pub json_of-read : (line : List ℕ) → IsUtf8 line → json_of line ≡ read line
+json_of-read line text = rw (is_utf8-from_IsUtf8 line text) refl
+
+-- of other bytes, nothing
+pub json_of-none : (line : List ℕ) → (IsUtf8 line → read line ≡ None) → json_of line ≡ None
+json_of-none line none = by (is_utf8 line) refl
+  where
+    by : (b : Bool) → is_utf8 line ≡ b → cond b (read line) None ≡ None
+    by true e = none (IsUtf8-from_is_utf8 line e)
+    by false e = refl
+
+-- ---- objects
+
+-- the line that an object in code is
+pub line_of-Object : (value : Value) (m : BTreeMap (String Global) Value) (count : ℕ)
+    → value ≡ Object m → count ≡ length m.entries
+    → line_of (view value) ≡ line_with count (members_view m.entries)
+line_of-Object value m count is counted =
+    ap (λ v. line_of (view v)) is ∙ ap line_of (view-Object m)
+    ∙ ap (λ n. line_with n (members_view m.entries))
+    (members_len-members_view m.entries ∙ sym counted)
+
+-- of any other number of members it is no line
+pub line_with-none : (count : ℕ) (ms : Members) → (count ≡ 4 → ⊥) → (count ≡ 2 → ⊥)
+    → (count ≡ 1 → ⊥) → line_with count ms ≡ None
+line_with-none count ms not_4 not_2 not_1 =
+    let four : (count == 4) ≡ false = grind arith in
+    let two : (count == 2) ≡ false = grind arith in
+    let one : (count == 1) ≡ false = grind arith in
+    rw (four, two, one) refl
+
+-- ---- members
+
+abbrev without : List ℕ → List Entry → List Entry
+without key es = remove_entry (is_at (λ k. slice_cmp nat_cmp key (string_bytes k))) es
+
+step : (key other : List ℕ) (e : Entry) (es : List Entry) → other ≢ key
+    → get_member other (members_view (without key es)) ≡ get_member other (members_view es)
+    → (b : Bool) → is_eq (slice_cmp nat_cmp key (string_bytes e.0)) ≡ b
+    → get_member other (members_view (cond b es (e ∷ without key es))) ≡ get_member other
+    (members_view (e ∷ es))
+step key other e es apart rest true here =
+    let key_is : key ≡ string_bytes e.0 =
+    same_name_is key (string_bytes e.0) (sym (is_eq-slice_cmp key (string_bytes e.0)) ∙ here) in
+    sym (member_later other e es (λ same. apart (same ∙ sym key_is)))
+step key other e es apart rest false there =
+    ap (λ left. match_ordering (slice_cmp nat_cmp other (string_bytes e.0)) left
+    (Some (view e.1)) left) rest
+
+-- one that is taken out leaves the others
+pub get_member-remove_other : (key other : List ℕ) (es : List Entry) → other ≢ key
+    → get_member other (members_view (without key es)) ≡ get_member other (members_view es)
+get_member-remove_other key other [] apart = refl
+get_member-remove_other key other (e ∷ es) apart =
+    step key other e es apart (get_member-remove_other key other es apart)
+    (is_eq (slice_cmp nat_cmp key (string_bytes e.0))) refl
+
+pub are_texts-members_view : (es : List Entry)
+    → are_texts (members_view es) ≡ list_all (λ v. is_some (as_str (view v))) (values_of es)
+are_texts-members_view [] = refl
+are_texts-members_view (e ∷ es) = by e.0 (view e.1) (are_texts-members_view es)
+  where
+    by : (k : String Global) (d : Data)
+        → are_texts (members_view es) ≡ list_all (λ v. is_some (as_str (view v))) (values_of es)
+        → are_texts (member (string_bytes k) d (members_view es)) ≡
+        (is_some (as_str d) && list_all (λ v. is_some (as_str (view v))) (values_of es))
+    by k null h = refl
+    by k (boolean b) h = refl
+    by k (number n) h = refl
+    by k (string s) h = h
+    by k (array ds) h = refl
+    by k (object ms) h = refl
+
+-- the object that stands under a key, by whether its members are texts
+pub texts_at-Object : (key : List ℕ) (ms : Members) (v : Value) (m : BTreeMap (String Global) Value)
+    (b : Bool) → Some (view v) ≡ get_member key ms → v ≡ Object m
+    → list_all (λ v. is_some (as_str (view v))) (values_of m.entries) ≡ b
+    → texts_at key ms ≡ cond b (Some (members_view m.entries)) None
+texts_at-Object key ms v m b found is all =
+    ap (λ o. option_and_then if_texts (option_and_then as_object o))
+    (sym found ∙ ap (λ v. Some (view v)) is ∙ ap Some (view-Object m))
+    ∙ ap (λ t. cond t (Some (members_view m.entries)) None) (are_texts-members_view m.entries ∙ all)
+
+-- ---- what evaluation and loading take
+
+texts_at-are : (key : List ℕ) (ms : Members)
+    → May (λ texts. are_texts texts ≡ true) (texts_at key ms)
+texts_at-are key ms =
+    may-then (λ texts. are_texts texts ≡ true) if_texts
+    (λ texts. may-if (λ texts. are_texts texts ≡ true) texts (are_texts texts) (λ e. e))
+    (option_and_then as_object (get_member key ms))
+
+load_of-allowed : (name : Option Name) (form : Option Data) (length : Option ℕ)
+    (buffers : Option Members)
+    → May (λ texts. are_texts texts ≡ true) buffers
+    → May IsAllowedLine (load_of name form length buffers)
+load_of-allowed (Some name) (Some form) (Some length) (Some buffers) h = h
+load_of-allowed (Some name) (Some form) (Some length) None h = tt
+load_of-allowed (Some name) (Some form) None buffers h = tt
+load_of-allowed (Some name) None length buffers h = tt
+load_of-allowed None form length buffers h = tt
+
+bind_of-allowed : (name : Option Name) (e : Option ExprTree) → May IsAllowed e
+    → May IsAllowedLine (bind_of name e)
+bind_of-allowed None e h = tt
+bind_of-allowed (Some name) None h = tt
+bind_of-allowed (Some name) (Some e) h = h
+
+names-allowed : (o : Option Data) → May IsAllowedLine (option_and_then names_from o)
+names-allowed None = tt
+names-allowed (Some null) = tt
+names-allowed (Some (boolean b)) = tt
+names-allowed (Some (number n)) = tt
+names-allowed (Some (string s)) = tt
+names-allowed (Some (array ds)) = tt
+names-allowed (Some (object ms)) = tt
+
+expr-allowed : (f : ExprTree → Line) → ((e : ExprTree) → IsAllowed e → IsAllowedLine (f e))
+    → (d : Data) → May IsAllowedLine (option_map f (expr_said d))
+expr-allowed f h d = may-map-of IsAllowed IsAllowedLine f h (expr_said d) (said-is d)
+
+or_else : (f : Data → Option Line) (o : Option Data) (other : Option Line)
+    → ((d : Data) → May IsAllowedLine (f d))
+    → May IsAllowedLine other → May IsAllowedLine (option_map_or f o other)
+or_else f None other h k = k
+or_else f (Some d) other h k = h d
+
+single-allowed : (ms : Members) → May IsAllowedLine (single_in ms)
+single-allowed ms =
+    or_else _ (get_member (codes "show") ms) _ (expr-allowed show (λ e h. h))
+    (or_else _ (get_member (codes "type") ms) _ (expr-allowed type_of (λ e h. h))
+    (or_else _ (get_member (codes "pack") ms) _ (expr-allowed pack (λ e h. h))
+    (names-allowed (get_member (codes "names") ms))))
+
+one_of : (four two one : Bool) (a b c : Option Line) → May IsAllowedLine a → May IsAllowedLine b
+    → May IsAllowedLine c
+    → May IsAllowedLine (cond four a (cond two b (cond one c None)))
+one_of true two one a b c h k l = h
+one_of false true one a b c h k l = k
+one_of false false true a b c h k l = l
+one_of false false false a b c h k l = tt
+
+line_of-allowed : (d : Data) → May IsAllowedLine (line_of d)
+line_of-allowed null = tt
+line_of-allowed (boolean b) = tt
+line_of-allowed (number n) = tt
+line_of-allowed (string s) = tt
+line_of-allowed (array ds) = tt
+line_of-allowed (object ms) =
+    one_of (members_len ms == 4) (members_len ms == 2) (members_len ms == 1) (load_in ms)
+    (bind_in ms) (single_in ms)
+    (load_of-allowed (name_at (codes "load") ms) (get_member (codes "form") ms)
+    (count_at (codes "length") ms)
+    (texts_at (codes "buffers") ms) (texts_at-are (codes "buffers") ms))
+    (bind_of-allowed (name_at (codes "let") ms) (expr_at (codes "be") ms)
+    (may-then IsAllowed expr_said said-is (get_member (codes "be") ms)))
+    (single-allowed ms)
+
+said-allowed : (o : Option Line) (line : Line) → May IsAllowedLine o → or_query o ≡ Ok line
+    → IsAllowedLine line
+said-allowed None line h e = absurd (cc)
+said-allowed (Some l) line h e = let same : l ≡ line = cc in subst IsAllowedLine same h
+
+-- the line that is read from a value is allowed
+pub read-allowed : (d : Data) (r : Result code.Line QueryFault)
+    → Gives line_view unread_told r (or_query (line_of d))
+    → IfOk r (λ line. IsAllowedLine (line_view line))
+read-allowed d (Ok line) h = said-allowed (line_of d) (line_view line) (line_of-allowed d) h
+read-allowed d (Err e) h = tt

@@ -1,0 +1,127 @@
+-- Worked lines, computed from their bytes.
+use Rattle.std.proofs.Common.{◌≡◌, ℕ, pos, negsuc, true, List, [], ◌∷◌, map, codes, Result, Ok, Err, refl}
+use Rattle.serde_json.specs.Data.{string, null, no_members, member}
+use Rattle.serde_json.specs.Read.{read}
+use Rattle.serde_json.proofs.OnLiterals.{serde_json_on_literals}
+use Rattle.awk_query.specs.ExprTree.{ExprTree, var, whole, truth, call, no_exprs, expr}
+use Rattle.awk_query.specs.Line.{Line, load, bind, show, type_of, pack, names, or_json, line_or_unread}
+use Rattle.awk_query.specs.Operations.{row_of}
+use Rattle.awk_query.specs.Reading.{expr_said}
+use Rattle.awk_query.specs.Told.{Unread, json, query}
+use Rattle.awk_query.specs.declared.op.Op.TheVariants as op
+use Rattle.awk_query.specs.declared.fixed.FixedArg.TheVariants.{Place, Text}
+
+abbrev x : ExprTree
+x = var (codes "x")
+
+-- what a line of UTF-8 is read as
+abbrev line_in : List ℕ → Result Line Unread
+line_in text = line_or_unread (or_json (read text))
+
+abbrev said : List (List ℕ) → List (Result Line Unread)
+said texts = map line_in texts
+
+-- ---- numbers
+
+pub numbers :
+    said (
+    codes "{\"show\":18446744073709551615}"
+    ∷ codes "{\"show\":-9223372036854775808}"
+    ∷ codes "{\"show\":0}"
+    ∷ [])
+    ≡ Ok (show (whole (pos 18446744073709551615)))
+    ∷ Ok (show (whole (negsuc 9223372036854775807)))
+    ∷ Ok (show (whole (pos 0)))
+    ∷ []
+unfolding serde_json_on_literals row_of expr_said
+numbers = refl
+
+pub no_numbers :
+    said (
+    codes "{\"show\":-0}"
+    ∷ codes "{\"show\":1.0}"
+    ∷ codes "{\"show\":1e2}"
+    ∷ codes "{\"show\":18446744073709551616}"
+    ∷ codes "{\"show\":-9223372036854775809}"
+    ∷ codes "{\"show\":[\"at\",\"x\",-9223372036854775809]}"
+    ∷ codes "{\"show\":[\"pad_none\",\"x\",18446744073709551616,1,true]}"
+    ∷ [])
+    ≡ Err query ∷ Err query ∷ Err query ∷ Err query ∷ Err query ∷ Err query ∷ Err query ∷ []
+unfolding serde_json_on_literals row_of expr_said
+no_numbers = refl
+
+-- ---- expressions
+
+pub nested :
+    line_in (codes "{\"type\":[\"field\",[\"at\",\"x\",-1],\"0\"]}")
+    ≡ Ok (type_of
+    (call op.Field (expr (call op.At (expr x no_exprs) (Place (negsuc 0) ∷ [])) no_exprs)
+    (Text (codes "0") ∷ [])))
+unfolding serde_json_on_literals row_of expr_said
+nested = refl
+
+pub no_calls :
+    said (
+    codes "{\"show\":[]}"
+    ∷ codes "{\"show\":[\"plus\",\"x\",1]}"
+    ∷ codes "{\"show\":[\"a\",\"x\",1]}"
+    ∷ codes "{\"show\":[\"attic\",\"x\",1]}"
+    ∷ codes "{\"show\":[[\"at\"],\"x\",1]}"
+    ∷ codes "{\"show\":null}"
+    ∷ codes "{\"show\":{}}"
+    ∷ [])
+    ≡ Err query ∷ Err query ∷ Err query ∷ Err query ∷ Err query ∷ Err query ∷ Err query ∷ []
+unfolding serde_json_on_literals row_of expr_said
+no_calls = refl
+
+-- ---- lines
+
+pub lines :
+    said (
+    codes "{\"let\":\"y\",\"be\":true}"
+    ∷ codes "{\"be\":\"x\",\"let\":\"y\"}"
+    ∷ codes "{\"show\":\"\"}"
+    ∷ codes "{\"pack\":1,\"pack\":\"x\"}"
+    ∷ codes " {\"names\":null}\r"
+    ∷ [])
+    ≡ Ok (bind (codes "y") (truth true))
+    ∷ Ok (bind (codes "y") x)
+    ∷ Ok (show (var []))
+    ∷ Ok (pack x)
+    ∷ Ok names
+    ∷ []
+unfolding serde_json_on_literals row_of expr_said
+lines = refl
+
+pub loads :
+    line_in (codes "{\"buffers\":{\"k\":\"AA==\"},\"form\":null,\"load\":\"x\",\"length\":3}")
+    ≡ Ok (load (codes "x") null 3 (member (codes "k") (string (codes "AA==")) no_members))
+unfolding serde_json_on_literals row_of expr_said
+loads = refl
+
+pub no_lines :
+    said (
+    codes "{\"load\":\"\",\"form\":null,\"length\":3,\"buffers\":{}}"
+    ∷ codes "{\"load\":\"x\",\"form\":null,\"length\":-1,\"buffers\":{}}"
+    ∷ codes "{\"load\":\"x\",\"form\":null,\"length\":3,\"buffers\":{\"k\":null}}"
+    ∷ codes "{\"load\":\"x\",\"form\":null,\"length\":3,\"buffers\":[]}"
+    ∷ codes "{\"load\":\"x\",\"form\":null,\"length\":3}"
+    ∷ codes "{\"load\":\"x\",\"form\":null,\"length\":3,\"buffers\":{},\"more\":1}"
+    ∷ codes "{\"let\":\"\",\"be\":1}"
+    ∷ codes "{\"let\":\"x\",\"show\":1}"
+    ∷ codes "{\"show\":\"x\",\"type\":\"x\"}"
+    ∷ codes "{\"names\":0}"
+    ∷ codes "{\"other\":null}"
+    ∷ codes "{}"
+    ∷ codes "[]"
+    ∷ [])
+    ≡ Err query ∷ Err query ∷ Err query ∷ Err query ∷ Err query ∷ Err query ∷ Err query
+    ∷ Err query ∷ Err query ∷ Err query ∷ Err query ∷ Err query ∷ Err query ∷ []
+unfolding serde_json_on_literals row_of expr_said
+no_lines = refl
+
+pub no_json :
+    said ([] ∷ codes "{" ∷ codes "{\"show\":1} 2" ∷ [])
+    ≡ Err json ∷ Err json ∷ Err json ∷ []
+unfolding serde_json_on_literals row_of expr_said
+no_json = refl

@@ -1,0 +1,11 @@
+pub mod Operations
+pub mod FixedCode
+pub mod ExprTree
+pub mod View
+pub mod Arguments
+pub mod ArgsView
+pub mod Reading
+pub mod Told
+pub mod Line
+pub mod LineView
+pub mod Allowed

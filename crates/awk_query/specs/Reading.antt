@@ -1,0 +1,69 @@
+-- The expression that a JSON value is.
+use Rattle.std.specs.Prelude.{ℕ, zero, suc, ◌^◌, ℤ, pos, negsuc, nat_lt, Bool, List, [], ◌∷◌, length, Option, Some, None, option_map, option_and_then, if◌then◌else◌}
+use Rattle.serde_json.specs.Data.{Data, Num, null, boolean, number, string, array, object, depth}
+use Rattle.serde_json.specs.Find.{as_str, as_number, as_integer}
+use Rattle.awk_types.specs.DataType.{Name}
+use Rattle.awk_query.specs.Operations.{Found, row_of}
+use Rattle.awk_query.specs.Arguments.{Args, args_of, item_list, all_of}
+use Rattle.awk_query.specs.ExprTree as tree
+use Rattle.awk_query.specs.ExprTree.{ExprTree, exprs_from}
+use Rattle.awk_query.specs.declared.op.Op.{Op}
+
+-- whether a number fits u64 or i64
+abbrev pub is_whole : ℤ → Bool
+is_whole (pos n) = nat_lt n (2 ^ 64)
+is_whole (negsuc n) = nat_lt n (2 ^ 63)
+
+abbrev pub if_whole : ℤ → Option ℤ
+if_whole z = if is_whole z then Some z else None
+
+-- a whole number that is kept as u64 or i64
+abbrev pub whole_in : Num → Option ℤ
+whole_in n = option_and_then if_whole (as_integer n)
+
+-- an expression whose parts are not read yet
+pub data Head : Type 0 where
+  var : Name → Head
+  whole : ℤ → Head
+  truth : Bool → Head
+  call : Op → Args → Head
+
+abbrev pub call_head : List Data → Found → Option Head
+call_head ds found = option_map (call found.0) (args_of found.1 ds)
+
+-- a call begins with the name of its operation
+abbrev pub list_head : List Data → Option Head
+list_head [] = None
+list_head (d ∷ ds) =
+    option_and_then (call_head ds) (option_and_then (λ name. row_of name (length ds)) (as_str d))
+
+abbrev pub head_of : Data → Option Head
+head_of null = None
+head_of (boolean b) = Some (truth b)
+head_of (number n) = option_map whole (whole_in n)
+head_of (string s) = Some (var s)
+head_of (array ds) = list_head (item_list ds)
+head_of (object ms) = None
+
+-- the expression, where f reads those of a call
+abbrev pub expr_with : (Data → Option ExprTree) → Head → Option ExprTree
+expr_with f (var n) = Some (tree.var n)
+expr_with f (whole z) = Some (tree.whole z)
+expr_with f (truth b) = Some (tree.truth b)
+expr_with f (call op args) =
+    option_map (λ es. tree.call op (exprs_from es) args.fixed) (all_of f args.exprs)
+
+abbrev pub expr_down : ℕ → Data → Option ExprTree
+expr_down zero d = None
+expr_down (suc levels) d = option_and_then (expr_with (expr_down levels)) (head_of d)
+
+-- there are no more levels than the value nests
+unfoldable pub expr_said : Data → Option ExprTree
+expr_said d = expr_down (suc (depth d)) d
+
+-- the call that a list is
+abbrev pub call_said : List Data → Option ExprTree
+call_said ds = option_and_then (expr_with expr_said) (list_head ds)
+
+abbrev pub whole_said : Data → Option ExprTree
+whole_said d = option_map tree.whole (option_and_then whole_in (as_number d))

@@ -1,0 +1,20 @@
+//! Lines of a session and their expressions, read from bytes.
+//! Each operation stands once in one table: its name, and what its arguments are.
+#![tactic(auto)]
+
+mod arguments;
+mod expr;
+mod fault;
+mod fixed;
+mod kind;
+mod line;
+mod op;
+mod operations;
+mod read;
+mod values;
+
+pub use expr::{Expr, Exprs};
+pub use fault::QueryFault;
+pub use fixed::{Fixed, FixedArg};
+pub use line::{Line, read_line};
+pub use op::Op;
