@@ -1,0 +1,15 @@
+pub mod TypeWalks
+pub mod ChoiceTypes
+pub mod ChoiceValues
+pub mod FirstItems
+pub mod ChoiceLayouts
+pub mod ChoiceItems
+pub mod ChoiceNodes
+pub mod ChosenNodes
+pub mod Weights
+pub mod Beside
+pub mod RowSteps
+pub mod FoundSteps
+pub mod ViewLaws
+pub mod RangeParts
+mod RangeWorked
