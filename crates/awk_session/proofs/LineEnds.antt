@@ -1,109 +1,162 @@
--- No answer text holds a line end, so the line ends written count the answers.
-use Rattle.std.proofs.Common.{◌≡◌, ◌≢◌, ℕ, zero, suc, ◌+◌, ◌/◌, ◌%◌, ◌==◌, Bool, true, false, cond, List, [], ◌∷◌, ◌++◌, map, refl, ◌∙◌, arith, ℤ, pos, negsuc, decimal, codes}
-use Rattle.std.specs.Fmt.{digits, digits_onto, digit_glyph, signed_decimal}
-use Rattle.std.proofs.lemmas.List.Sums.{sum_by-append}
+-- No text of a value, of a fault or of an answer holds a byte that ends a line.
+use Rattle.std.proofs.Common.{◌≡◌, ℕ, zero, suc, Bool, true, false, cond, List, [], ◌∷◌, ◌++◌, map, refl, codes, decimal}
+use Rattle.std.specs.List.{AllByRecursion}
 use Rattle.awk_types.specs.DataType.{Name, DataType, unknown, leaf, var, reg, rec, tup, opt, uni, DataTypes, no_types, type}
 use Rattle.awk_types.specs.Value.{Value, int, truth, null, list, row, alt}
-use Rattle.awk_session.specs.Runs.{line_ends}
+use Rattle.awk_types.specs.Datum.{Datum, arr, one}
+use Rattle.awk_types.specs.declared.fault.Fault.{Fault}
+use Rattle.awk_types.specs.declared.fault.Fault.TheVariants as evaluation
 use Rattle.awk_edge.specs.Lines.{Unbroken}
-use Rattle.awk_json.specs.Text.{quoted, comma_joined}
-use Rattle.awk_json.proofs.Lines.{quoted-unbroken}
-use Rattle.awk_text.specs.ValueText.{Text, leaf_text, list_text, list_items, row_items, is_null, tag_of, untagged, place_names, members, value_text, row_texts, alternative_text}
+use Rattle.awk_edge.proofs.LineLaws.{Unbroken-append}
+use Rattle.awk_json.specs.Text.{quoted, comma_joined, list_text}
+use Rattle.awk_json.proofs.Lines.{literal-unbroken, quoted-unbroken, comma_joined-unbroken, list_text-unbroken, decimal-unbroken, signed_decimal-unbroken}
+use Rattle.awk_form.specs.declared.fault.FormWhy.{FormWhy}
+use Rattle.awk_form.specs.declared.fault.FormWhy.TheVariants as why
+use Rattle.awk_valid.specs.declared.fault.BufferFault.{BufferFault}
+use Rattle.awk_valid.specs.declared.fault.BufferFault.TheVariants as buffers
+use Rattle.awk_valid.specs.declared.fault.Rule.{Rule}
+use Rattle.awk_valid.specs.declared.fault.Rule.TheVariants as rules
+use Rattle.awk_text.specs.ValueText.{leaf_text, list_items, row_items, is_null, tag_of, untagged, place_names, members, value_text, row_texts, alternative_text}
+use Rattle.awk_session.specs.declared.fault.AnswerFault.{AnswerFault}
+use Rattle.awk_session.specs.declared.fault.AnswerFault.TheVariants as faults
+use Rattle.awk_session.specs.FaultText.{why_text, buffer_text, rule_text, evaluation_text, fault_text}
+use Rattle.awk_session.specs.Answer.{Answer, bound, value, fault, answer_text, datum_text}
 
-pub line_ends-append : (xs ys : List ℕ) → line_ends (xs ++ ys) ≡ line_ends xs + line_ends ys
-line_ends-append xs ys = sum_by-append (λ b. cond (b == 10) 1 0) xs ys
+-- three texts, one after another
+between : (head text tail : List ℕ) → Unbroken head → Unbroken text → Unbroken tail → Unbroken (head ++ text ++ tail)
+between head text tail h t l = Unbroken-append (head ++ text) tail (Unbroken-append head text h t) l
 
--- two texts without a line end
-pub both : (xs ys : List ℕ) → line_ends xs ≡ 0 → line_ends ys ≡ 0 → line_ends (xs ++ ys) ≡ 0
-both xs ys p q = line_ends-append xs ys ∙ omega (arith, p, q)
-
-other_byte : (b : ℕ) (bs : List ℕ) → (b == 10) ≡ false → line_ends (b ∷ bs) ≡ line_ends bs
-other_byte b bs e = rw e refl
-
-glyph : (d : ℕ) → (digit_glyph false d == 10) ≡ false
-glyph d = grind arith
-
-if_same : (b : Bool) (xs ys : List ℕ) → line_ends xs ≡ 0 → line_ends ys ≡ 0 → line_ends (cond b xs ys) ≡ 0
-if_same true xs ys p q = p
-if_same false xs ys p q = q
-
-line_ends-digits_onto : (k n : ℕ) (acc : List ℕ) → line_ends acc ≡ 0 → line_ends (digits_onto k 10 false n acc) ≡ 0
-line_ends-digits_onto zero n acc h = h
-line_ends-digits_onto (suc k) n acc h =
-    let onto : line_ends (digit_glyph false (n % 10) ∷ acc) ≡ 0 = other_byte (digit_glyph false (n % 10)) acc (glyph (n % 10)) ∙ h in
-    if_same (n / 10 == 0) (digit_glyph false (n % 10) ∷ acc) _ onto (line_ends-digits_onto k (n / 10) (digit_glyph false (n % 10) ∷ acc) onto)
-
-pub line_ends-decimal : (n : ℕ) → line_ends (decimal n) ≡ 0
-unfolding digits
-line_ends-decimal n = line_ends-digits_onto 64 n [] refl
-
-line_ends-signed_decimal : (z : ℤ) → line_ends (signed_decimal z) ≡ 0
-line_ends-signed_decimal (pos n) = line_ends-decimal n
-line_ends-signed_decimal (negsuc n) = line_ends-decimal (suc n)
-
-not_10 : (b : ℕ) → b ≢ 10 → (b == 10) ≡ false
-not_10 b other = grind arith
-
-line_ends-unbroken : (bs : List ℕ) → Unbroken bs → line_ends bs ≡ 0
-line_ends-unbroken [] h = refl
-line_ends-unbroken (b ∷ bs) h = other_byte b bs (not_10 b h.0) ∙ line_ends-unbroken bs h.1
-
-pub line_ends-quoted : (bs : List ℕ) → line_ends (quoted bs) ≡ 0
-line_ends-quoted bs = line_ends-unbroken (quoted bs) (quoted-unbroken bs)
+-- five texts, one after another
+around : (head a middle b tail : List ℕ) → Unbroken head → Unbroken a → Unbroken middle → Unbroken b → Unbroken tail →
+    Unbroken (head ++ a ++ middle ++ b ++ tail)
+around head a middle b tail h p m q l = between (head ++ a ++ middle) b tail (between head a middle h p m) q l
 
 -- ---- values
 
-abbrev AllFree : List (List ℕ) → Type 0
-AllFree [] = Unit {0}
-AllFree (t ∷ ts) = (line_ends t ≡ 0) × AllFree ts
+one_of : (b : Bool) (xs ys : List ℕ) → Unbroken xs → Unbroken ys → Unbroken (cond b xs ys)
+one_of true xs ys p q = p
+one_of false xs ys p q = q
 
-line_ends-comma_joined : (ts : List (List ℕ)) → AllFree ts → line_ends (comma_joined ts) ≡ 0
-line_ends-comma_joined [] h = refl
-line_ends-comma_joined (t ∷ []) h = h.0
-line_ends-comma_joined (t ∷ u ∷ ts) h = both (t ++ codes ",") (comma_joined (u ∷ ts)) (both t (codes ",") h.0 refl) (line_ends-comma_joined (u ∷ ts) h.1)
+leaf_text-unbroken : (v : Value) → Unbroken (leaf_text v)
+leaf_text-unbroken (int z) = signed_decimal-unbroken z
+leaf_text-unbroken (truth true) = literal-unbroken (codes "true") refl
+leaf_text-unbroken (truth false) = literal-unbroken (codes "false") refl
+leaf_text-unbroken null = literal-unbroken (codes "null") refl
+leaf_text-unbroken (list vs) = literal-unbroken (codes "null") refl
+leaf_text-unbroken (row vs) = literal-unbroken (codes "null") refl
+leaf_text-unbroken (alt k v) = literal-unbroken (codes "null") refl
 
-line_ends-leaf_text : (v : Value) → line_ends (leaf_text v) ≡ 0
-line_ends-leaf_text (int z) = line_ends-signed_decimal z
-line_ends-leaf_text (truth true) = refl
-line_ends-leaf_text (truth false) = refl
-line_ends-leaf_text null = refl
-line_ends-leaf_text (list vs) = refl
-line_ends-leaf_text (row vs) = refl
-line_ends-leaf_text (alt k v) = refl
+map-unbroken : (f : Value → List ℕ) → ((v : Value) → Unbroken (f v)) → (vs : List Value) → AllByRecursion Unbroken (map f vs)
+map-unbroken f h [] = tt
+map-unbroken f h (v ∷ vs) = (h v, map-unbroken f h vs)
 
-AllFree-map : (f : Value → List ℕ) → ((v : Value) → line_ends (f v) ≡ 0) → (vs : List Value) → AllFree (map f vs)
-AllFree-map f h [] = tt
-AllFree-map f h (v ∷ vs) = (h v, AllFree-map f h vs)
+members-unbroken : (ns : List Name) (ts : List (List ℕ)) → AllByRecursion Unbroken ts → AllByRecursion Unbroken (members ns ts)
+members-unbroken [] ts h = tt
+members-unbroken (n ∷ ns) [] h = tt
+members-unbroken (n ∷ ns) (t ∷ ts) h =
+    (between (quoted n) (codes ":") t (quoted-unbroken n) (literal-unbroken (codes ":") refl) h.0, members-unbroken ns ts h.1)
 
-AllFree-members : (ns : List Name) (ts : List (List ℕ)) → AllFree ts → AllFree (members ns ts)
-AllFree-members [] ts h = tt
-AllFree-members (n ∷ ns) [] h = tt
-AllFree-members (n ∷ ns) (t ∷ ts) h = (both (quoted n ++ codes ":") t (both (quoted n) (codes ":") (line_ends-quoted n) refl) h.0, AllFree-members ns ts h.1)
-
-line_ends-list_text : (ts : List Text) → AllFree ts → line_ends (list_text ts) ≡ 0
-line_ends-list_text ts h = both (codes "[" ++ comma_joined ts) (codes "]") (line_ends-comma_joined ts h) refl
+-- the members of an object, joined
+object-unbroken : (ns : List Name) (ts : List (List ℕ)) → AllByRecursion Unbroken ts → Unbroken (codes "{" ++ comma_joined (members ns ts) ++ codes "}")
+object-unbroken ns ts h =
+    between (codes "{") (comma_joined (members ns ts)) (codes "}") (literal-unbroken (codes "{") refl)
+    (comma_joined-unbroken (members ns ts) (members-unbroken ns ts h)) (literal-unbroken (codes "}") refl)
 
 mutual
-  pub line_ends-value_text : (t : DataType) (v : Value) → line_ends (value_text t v) ≡ 0
-  line_ends-value_text unknown v = line_ends-leaf_text v
-  line_ends-value_text (leaf p) v = line_ends-leaf_text v
-  line_ends-value_text (var t) v = line_ends-list_text (map (value_text t) (list_items v)) (AllFree-map (value_text t) (line_ends-value_text t) (list_items v))
-  line_ends-value_text (reg n t) v = line_ends-list_text (map (value_text t) (list_items v)) (AllFree-map (value_text t) (line_ends-value_text t) (list_items v))
-  line_ends-value_text (rec ns ts) v = both (codes "{" ++ comma_joined (members ns (row_texts ts (row_items v)))) (codes "}") (line_ends-comma_joined (members ns (row_texts ts (row_items v))) (AllFree-members ns (row_texts ts (row_items v)) (AllFree-row_texts ts (row_items v)))) refl
-  line_ends-value_text (tup ts) v = both (codes "{" ++ comma_joined (members (place_names 0 ts) (row_texts ts (row_items v)))) (codes "}") (line_ends-comma_joined (members (place_names 0 ts) (row_texts ts (row_items v))) (AllFree-members (place_names 0 ts) (row_texts ts (row_items v)) (AllFree-row_texts ts (row_items v)))) refl
-  line_ends-value_text (opt t) v = if_same (is_null v) (codes "null") (value_text t v) refl (line_ends-value_text t v)
-  line_ends-value_text (uni ts) v = line_ends-alternative_text ts (tag_of v) (untagged v)
+  value_text-unbroken : (t : DataType) (v : Value) → Unbroken (value_text t v)
+  value_text-unbroken unknown v = leaf_text-unbroken v
+  value_text-unbroken (leaf p) v = leaf_text-unbroken v
+  value_text-unbroken (var t) v = list_text-unbroken (map (value_text t) (list_items v)) (map-unbroken (value_text t) (value_text-unbroken t) (list_items v))
+  value_text-unbroken (reg n t) v = list_text-unbroken (map (value_text t) (list_items v)) (map-unbroken (value_text t) (value_text-unbroken t) (list_items v))
+  value_text-unbroken (rec ns ts) v = object-unbroken ns (row_texts ts (row_items v)) (row_texts-unbroken ts (row_items v))
+  value_text-unbroken (tup ts) v = object-unbroken (place_names 0 ts) (row_texts ts (row_items v)) (row_texts-unbroken ts (row_items v))
+  value_text-unbroken (opt t) v = one_of (is_null v) (codes "null") (value_text t v) (literal-unbroken (codes "null") refl) (value_text-unbroken t v)
+  value_text-unbroken (uni ts) v = alternative_text-unbroken ts (tag_of v) (untagged v)
 
-  AllFree-row_texts : (ts : DataTypes) (vs : List Value) → AllFree (row_texts ts vs)
-  AllFree-row_texts no_types vs = tt
-  AllFree-row_texts (type t ts) [] = tt
-  AllFree-row_texts (type t ts) (v ∷ vs) = (line_ends-value_text t v, AllFree-row_texts ts vs)
+  row_texts-unbroken : (ts : DataTypes) (vs : List Value) → AllByRecursion Unbroken (row_texts ts vs)
+  row_texts-unbroken no_types vs = tt
+  row_texts-unbroken (type t ts) [] = tt
+  row_texts-unbroken (type t ts) (v ∷ vs) = (value_text-unbroken t v, row_texts-unbroken ts vs)
 
-  line_ends-alternative_text : (ts : DataTypes) (k : ℕ) (v : Value) → line_ends (alternative_text ts k v) ≡ 0
-  line_ends-alternative_text no_types k v = refl
-  line_ends-alternative_text (type t ts) zero v = line_ends-value_text t v
-  line_ends-alternative_text (type t ts) (suc k) v = line_ends-alternative_text ts k v
+  alternative_text-unbroken : (ts : DataTypes) (k : ℕ) (v : Value) → Unbroken (alternative_text ts k v)
+  alternative_text-unbroken no_types k v = tt
+  alternative_text-unbroken (type t ts) zero v = value_text-unbroken t v
+  alternative_text-unbroken (type t ts) (suc k) v = alternative_text-unbroken ts k v
 
--- the values of a list
-pub line_ends-values : (t : DataType) (vs : List Value) → line_ends (list_text (map (value_text t) vs)) ≡ 0
-line_ends-values t vs = line_ends-list_text (map (value_text t) vs) (AllFree-map (value_text t) (line_ends-value_text t) vs)
+datum_text-unbroken : (d : Datum) → Unbroken (datum_text d)
+datum_text-unbroken (arr t vs) = list_text-unbroken (map (value_text t) vs) (map-unbroken (value_text t) (value_text-unbroken t) vs)
+datum_text-unbroken (one t v) = value_text-unbroken t v
+
+-- ---- faults
+
+why_text-unbroken : (cause : FormWhy) → Unbroken (why_text cause)
+why_text-unbroken why.Class = literal-unbroken (codes "class") refl
+why_text-unbroken why.Key = literal-unbroken (codes "key") refl
+why_text-unbroken why.Kind = literal-unbroken (codes "kind") refl
+why_text-unbroken why.Primitive = literal-unbroken (codes "primitive") refl
+why_text-unbroken why.Parameter = literal-unbroken (codes "parameter") refl
+why_text-unbroken why.Repeated = literal-unbroken (codes "repeated") refl
+why_text-unbroken why.Alternatives = literal-unbroken (codes "alternatives") refl
+why_text-unbroken why.FormKey = literal-unbroken (codes "form_key") refl
+
+buffer_text-unbroken : (cause : BufferFault) → Unbroken (buffer_text cause)
+buffer_text-unbroken buffers.Absent = literal-unbroken (codes "absent") refl
+buffer_text-unbroken buffers.Base64 = literal-unbroken (codes "base64") refl
+buffer_text-unbroken buffers.Short = literal-unbroken (codes "short") refl
+
+rule_text-unbroken : (rule : Rule) → Unbroken (rule_text rule)
+rule_text-unbroken rules.Empty = literal-unbroken (codes "empty") refl
+rule_text-unbroken rules.Order = literal-unbroken (codes "order") refl
+rule_text-unbroken rules.Start = literal-unbroken (codes "start") refl
+rule_text-unbroken rules.Negative = literal-unbroken (codes "negative") refl
+rule_text-unbroken rules.Tag = literal-unbroken (codes "tag") refl
+
+-- a text behind a head that is written out, and a brace
+member-unbroken : (head text : List ℕ) → Unbroken head → Unbroken text → Unbroken (head ++ text ++ codes "}")
+member-unbroken head text h t = between head text (codes "}") h t (literal-unbroken (codes "}") refl)
+
+evaluation_text-unbroken : (f : Fault) → Unbroken (evaluation_text f)
+evaluation_text-unbroken (evaluation.Unbound n) =
+    member-unbroken (codes "{\"fault\":\"name\",\"name\":") (quoted n) (literal-unbroken (codes "{\"fault\":\"name\",\"name\":") refl) (quoted-unbroken n)
+evaluation_text-unbroken (evaluation.NoField n) =
+    member-unbroken (codes "{\"fault\":\"field\",\"field\":") (quoted n) (literal-unbroken (codes "{\"fault\":\"field\",\"field\":") refl) (quoted-unbroken n)
+evaluation_text-unbroken evaluation.Axis = literal-unbroken (codes "{\"fault\":\"axis\"}") refl
+evaluation_text-unbroken evaluation.WrongType = literal-unbroken (codes "{\"fault\":\"type\"}") refl
+evaluation_text-unbroken evaluation.Overflow = literal-unbroken (codes "{\"fault\":\"overflow\"}") refl
+evaluation_text-unbroken evaluation.Zero = literal-unbroken (codes "{\"fault\":\"zero\"}") refl
+evaluation_text-unbroken evaluation.Depth = literal-unbroken (codes "{\"fault\":\"depth\"}") refl
+evaluation_text-unbroken evaluation.Size = literal-unbroken (codes "{\"fault\":\"size\"}") refl
+evaluation_text-unbroken evaluation.Lengths = literal-unbroken (codes "{\"fault\":\"lengths\"}") refl
+evaluation_text-unbroken evaluation.Index = literal-unbroken (codes "{\"fault\":\"index\"}") refl
+evaluation_text-unbroken evaluation.NoMemory = tt
+
+fault_text-unbroken : (f : AnswerFault) → Unbroken (fault_text f)
+fault_text-unbroken faults.Json = literal-unbroken (codes "{\"fault\":\"json\"}") refl
+fault_text-unbroken faults.Query = literal-unbroken (codes "{\"fault\":\"query\"}") refl
+fault_text-unbroken faults.Unbuilt = literal-unbroken (codes "{\"fault\":\"unbuilt\"}") refl
+fault_text-unbroken (faults.Form node cause) =
+    let head = codes "{\"fault\":\"form\",\"node\":" in
+    let middle = codes ",\"why\":\"" in
+    around head (decimal node) middle (why_text cause) (codes "\"}") (literal-unbroken head refl) (decimal-unbroken node)
+    (literal-unbroken middle refl) (why_text-unbroken cause) (literal-unbroken (codes "\"}") refl)
+fault_text-unbroken (faults.Buffer key cause) =
+    let head = codes "{\"fault\":\"buffer\",\"key\":" in
+    let middle = codes ",\"why\":\"" in
+    around head (quoted key) middle (buffer_text cause) (codes "\"}") (literal-unbroken head refl) (quoted-unbroken key)
+    (literal-unbroken middle refl) (buffer_text-unbroken cause) (literal-unbroken (codes "\"}") refl)
+fault_text-unbroken (faults.Invalid node rule place) =
+    let head = codes "{\"fault\":\"invalid\",\"node\":" in
+    let middle = codes ",\"rule\":\"" in
+    let last = codes "\",\"place\":" in
+    between (head ++ decimal node ++ middle ++ rule_text rule ++ last) (decimal place) (codes "}")
+    (around head (decimal node) middle (rule_text rule) last (literal-unbroken head refl) (decimal-unbroken node)
+    (literal-unbroken middle refl) (rule_text-unbroken rule) (literal-unbroken last refl))
+    (decimal-unbroken place) (literal-unbroken (codes "}") refl)
+fault_text-unbroken (faults.Evaluation f) = evaluation_text-unbroken f
+
+-- ---- answers
+
+pub answer_text-unbroken : (a : Answer) → Unbroken (answer_text a)
+answer_text-unbroken (bound n) = member-unbroken (codes "{\"bound\":") (quoted n) (literal-unbroken (codes "{\"bound\":") refl) (quoted-unbroken n)
+answer_text-unbroken (value d) = member-unbroken (codes "{\"value\":") (datum_text d) (literal-unbroken (codes "{\"value\":") refl) (datum_text-unbroken d)
+answer_text-unbroken (fault f) = fault_text-unbroken f

@@ -4,15 +4,13 @@ use Rattle.awk_session.specs.declared.answer.Answer as code
 use Rattle.awk_session.specs.declared.answer.Answer.TheVariants as variant
 use Rattle.awk_session.specs.declared.answer.Answered.{Answered}
 use Rattle.awk_session.specs.declared.answer.Answered.TheVariants.{Fine, Fault}
-use Rattle.awk_session.specs.Answer.{Answer, bound, value, name}
-use Rattle.awk_session.specs.FaultView.{fault_answer}
-use Rattle.awk_session.specs.Load.{datum_of}
+use Rattle.awk_session.specs.Answer.{Answer, bound, value, fault}
+use Rattle.awk_session.specs.Load.{array_datum}
 
 abbrev pub answer_view : code.Answer → Answer
 answer_view (variant.Bound n) = bound n.now
-answer_view (variant.Value array) = value (datum_of array.now)
-answer_view (variant.Unbound n) = name n.now
-answer_view (variant.Fault f) = fault_answer f.now
+answer_view (variant.Value array) = value (array_datum array)
+answer_view (variant.Fault f) = fault f
 
 -- whether the answer was a fault
 abbrev pub kind_is_fault : Answered → Bool

@@ -1,13 +1,12 @@
 pub mod Runs
 pub mod Environment
-pub mod Line
+pub mod FaultText
 pub mod Answer
 pub mod Load
 pub mod Stored
 pub mod Variables
-pub mod LineView
-pub mod FaultView
+pub mod ReadView
+pub mod Told
 pub mod AnswerView
-pub mod Steps
+pub mod Replies
 pub mod Leaves
-pub mod Outcome

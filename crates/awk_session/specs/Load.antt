@@ -2,7 +2,8 @@
 use Rattle.std.specs.Prelude.{ℕ, Result, Ok, Err}
 use Rattle.serde_json.specs.Data.{Data, Members}
 use Rattle.awk_types.specs.Datum.{Datum, arr}
-use Rattle.awk_types.specs.Limit.{depth_limit, size_limit}
+use Rattle.awk_types.specs.Limit.{Limit, depth_limit, size_limit}
+use Rattle.awk_types.specs.declared.fault.Fault.TheVariants.{Depth, Size}
 use Rattle.awk_layout.specs.Layout.{Layout}
 use Rattle.awk_layout.specs.Typing.{array_type, array_items}
 use Rattle.awk_store.specs.Buffers.{texts_of}
@@ -11,35 +12,35 @@ use Rattle.awk_form.specs.Reading as forms
 use Rattle.awk_form.specs.Reading.{reading}
 use Rattle.awk_valid.specs.Broken as walk
 use Rattle.awk_valid.specs.Container.{container_of}
-use Rattle.awk_valid.specs.Loading as arrays
-use Rattle.awk_valid.specs.Loading.{loading}
-use Rattle.awk_session.specs.Answer.{Answer, form, depth, size, buffer, invalid}
+use Rattle.awk_valid.specs.Denote.{denoting}
+use Rattle.awk_session.specs.declared.fault.AnswerFault.{AnswerFault}
+use Rattle.awk_session.specs.declared.fault.AnswerFault.TheVariants.{Form, Buffer, Invalid, Evaluation}
 
 -- the array that a layout is
-abbrev pub datum_of : Layout → Datum
-datum_of layout = arr (array_type layout) (array_items layout)
+abbrev pub array_datum : Layout → Datum
+array_datum layout = arr (array_type layout) (array_items layout)
 
 -- a form is refused by its first break, or by the limit that its type passes
-abbrev pub form_answer : forms.Refusal → Answer
-form_answer (forms.broken b) = form b.node b.why
-form_answer (forms.limited depth_limit) = depth
-form_answer (forms.limited size_limit) = size
+abbrev pub form_fault : forms.Refusal → AnswerFault
+form_fault (forms.broken b) = Form b.node b.why
+form_fault (forms.limited depth_limit) = Evaluation Depth
+form_fault (forms.limited size_limit) = Evaluation Size
 
--- a form that is read is refused by the first break of the walk
-abbrev pub walk_answer : arrays.Refusal → Answer
-walk_answer arrays.too_deep = depth
-walk_answer (arrays.broken walk.too_many) = size
-walk_answer (arrays.broken (walk.buffer key why)) = buffer key why
-walk_answer (arrays.broken (walk.invalid node rule place)) = invalid node rule place
+-- a form that is read is refused by the limit of its type, or by the first break of the walk
+abbrev pub walk_fault : walk.Refusal → AnswerFault
+walk_fault walk.too_deep = Evaluation Depth
+walk_fault walk.too_many = Evaluation Size
+walk_fault (walk.buffer key why) = Buffer key why
+walk_fault (walk.invalid node rule place) = Invalid node rule place
 
-abbrev pub walked : Result Layout arrays.Refusal → Result Datum Answer
-walked (Ok layout) = Ok (datum_of layout)
-walked (Err refusal) = Err (walk_answer refusal)
+abbrev pub walked : Result Datum walk.Refusal → Result Datum AnswerFault
+walked (Ok datum) = Ok datum
+walked (Err refusal) = Err (walk_fault refusal)
 
-abbrev pub loaded_from : Result FormTree forms.Refusal → ℕ → Members → Result Datum Answer
-loaded_from (Ok f) n buffers = walked (loading f n (container_of (texts_of buffers)))
-loaded_from (Err refusal) n buffers = Err (form_answer refusal)
+abbrev pub loaded_from : Result FormTree forms.Refusal → ℕ → Members → Result Datum AnswerFault
+loaded_from (Ok f) n buffers = walked (denoting f n (container_of (texts_of buffers)))
+loaded_from (Err refusal) n buffers = Err (form_fault refusal)
 
--- the array that a form, a length and buffers are, or the fault that refuses them: the form is judged first
-abbrev pub loaded : Data → ℕ → Members → Result Datum Answer
+-- the array that a form, a length and buffers denote, or the fault that refuses them: the form is judged first
+abbrev pub loaded : Data → ℕ → Members → Result Datum AnswerFault
 loaded d n buffers = loaded_from (reading d) n buffers

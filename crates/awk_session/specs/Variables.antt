@@ -3,11 +3,11 @@ use Rattle.std.specs.declared.alloc.Global.{Global}
 use Rattle.std.specs.Prelude.{List, map, String, string_bytes}
 use Rattle.awk_layout.specs.Layout.{Layout}
 use Rattle.awk_session.specs.Environment.{Environment}
-use Rattle.awk_session.specs.Load.{datum_of}
+use Rattle.awk_session.specs.Load.{array_datum}
 
 abbrev pub Entries : Type 0
 Entries = List (String Global × Layout)
 
 -- each name with the array of its layout
 abbrev pub variables_of : Entries → Environment
-variables_of entries = map (λ e. (string_bytes e.0, datum_of e.1)) entries
+variables_of entries = map (λ e. (string_bytes e.0, array_datum e.1)) entries

@@ -1,48 +1,48 @@
-//! Why a line is refused.
+//! The faults that answer a line.
 
 use awk_form::{FormFault, FormWhy};
-use awk_types::Name;
+use awk_types::{Fault, Name};
 use awk_valid::{BufferFault, LoadFault, Rule};
 
-/// Why a line is refused, whatever the variables are.
-#[derive(Debug, Drop)]
-pub enum Fault {
+/// A fault that answers a line.
+#[derive(Drop)]
+pub enum AnswerFault {
     /// The line is no JSON.
     Json,
-    /// The line is of no kind that is built.
+    /// The line is JSON, and no line of a session.
+    Query,
+    /// The line is of a kind that is not built yet.
     Unbuilt,
     /// The first break of the form: a node by its number in pre-order, and the cause against it.
     Form { node: u64, why: FormWhy },
-    /// The type of the form nests too deep.
-    Depth,
-    /// The type has too many nodes, a union too many alternatives, or a node too many items.
-    Size,
     /// The buffer of a key, and the cause against it.
     Buffer { key: Name, why: BufferFault },
     /// A place of a node, which is told by its number in pre-order, and the rule that it breaks.
     Invalid { node: u64, rule: Rule, place: u64 },
+    /// A variable is not bound, a limit is passed, or an operation has no result. It is never want of memory.
+    Evaluation(Fault),
 }
 
 /// A fault to tell, or want of memory.
-#[derive(Debug, Drop)]
+#[derive(Drop)]
 pub enum Refused {
-    Told(Fault),
+    Told(AnswerFault),
     NoMemory,
 }
 
 impl From<FormFault> for Refused {
     ghost use Rattle.std.specs.Prelude.{◌≡◌, option_map};
     ghost use Rattle.awk_form.specs.Told.{refusal_told};
-    ghost use Rattle.awk_session.specs.FaultView.{refused_told};
-    ghost use Rattle.awk_session.specs.Load.{form_answer};
+    ghost use Rattle.awk_session.specs.Told.{refused_told};
+    ghost use Rattle.awk_session.specs.Load.{form_fault};
 
-    ghost from_gives = { λ fault refused. refused_told refused ≡ option_map form_answer (refusal_told fault) };
+    ghost from_gives = { λ fault refused. refused_told refused ≡ option_map form_fault (refusal_told fault) };
 
     fn from(fault: FormFault) -> Refused {
         match fault {
-            FormFault::Bad { node, why } => Refused::Told(Fault::Form { node, why }),
-            FormFault::Depth => Refused::Told(Fault::Depth),
-            FormFault::Size => Refused::Told(Fault::Size),
+            FormFault::Bad { node, why } => Refused::Told(AnswerFault::Form { node, why }),
+            FormFault::Depth => Refused::Told(AnswerFault::Evaluation(Fault::Depth)),
+            FormFault::Size => Refused::Told(AnswerFault::Evaluation(Fault::Size)),
             FormFault::NoMemory => Refused::NoMemory,
         }
     }
@@ -51,19 +51,19 @@ impl From<FormFault> for Refused {
 impl From<LoadFault> for Refused {
     ghost use Rattle.std.specs.Prelude.{◌≡◌, option_map};
     ghost use Rattle.awk_valid.specs.Loading.{told};
-    ghost use Rattle.awk_session.specs.FaultView.{refused_told};
-    ghost use Rattle.awk_session.specs.Load.{walk_answer};
+    ghost use Rattle.awk_session.specs.Told.{refused_told};
+    ghost use Rattle.awk_session.specs.Load.{walk_fault};
 
-    ghost from_gives = { λ fault refused. refused_told refused ≡ option_map walk_answer (told fault) };
+    ghost from_gives = { λ fault refused. refused_told refused ≡ option_map walk_fault (told fault) };
 
     fn from(fault: LoadFault) -> Refused {
         match fault {
-            LoadFault::Buffer { key, why } => Refused::Told(Fault::Buffer { key, why }),
+            LoadFault::Buffer { key, why } => Refused::Told(AnswerFault::Buffer { key, why }),
             LoadFault::Invalid { node, rule, place } => {
-                Refused::Told(Fault::Invalid { node, rule, place })
+                Refused::Told(AnswerFault::Invalid { node, rule, place })
             }
-            LoadFault::Depth => Refused::Told(Fault::Depth),
-            LoadFault::Size => Refused::Told(Fault::Size),
+            LoadFault::Depth => Refused::Told(AnswerFault::Evaluation(Fault::Depth)),
+            LoadFault::Size => Refused::Told(AnswerFault::Evaluation(Fault::Size)),
             LoadFault::NoMemory => Refused::NoMemory,
         }
     }

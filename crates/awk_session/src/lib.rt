@@ -4,8 +4,9 @@
 mod answer;
 mod engine;
 mod fault;
-mod line;
+mod fault_text;
 mod load;
+mod pieces;
 
 pub use answer::Answered;
 pub use engine::{Engine, LineEnd, is_blank};

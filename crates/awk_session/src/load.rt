@@ -2,8 +2,8 @@
 ghost use Rattle.serde_json.specs.View.{view, members_view};
 ghost use Rattle.awk_types.specs.Gives.{Gives};
 ghost use Rattle.awk_store.specs.Buffers.{HoldsTexts};
-ghost use Rattle.awk_session.specs.FaultView.{refused_told};
-ghost use Rattle.awk_session.specs.Load.{datum_of, loaded};
+ghost use Rattle.awk_session.specs.Told.{refused_told};
+ghost use Rattle.awk_session.specs.Load.{array_datum, loaded};
 
 use crate::fault::Refused;
 use awk_form::read_form;
@@ -25,7 +25,8 @@ pub fn load<'a, L: Ledger>(
     steps: &mut Steps<L>,
 ) -> Result<Array<'a>, Refused>
     requires texts { HoldsTexts (members_view buffers.now.entries) }
-    ensures { Gives datum_of refused_told result (loaded (view form.now) length (members_view buffers.now.entries)) }
+    ensures { Gives array_datum refused_told result
+        (loaded (view form.now) length (members_view buffers.now.entries)) }
 {
     let form = read_form(alloc, form)?;
     let mut store = Store::new(alloc, buffers, arena);

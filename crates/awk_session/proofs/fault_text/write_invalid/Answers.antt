@@ -1,8 +1,8 @@
 use Rattle.std.proofs.Common.{◌++◌, [], ◌∷◌, codes, decimal, refl, arith}
 use Rattle.awk_json.proofs.Puts.{stops, goes}
-use Rattle.awk_session.specs.Answer.{rule_text}
+use Rattle.awk_session.specs.FaultText.{rule_text}
 use Rattle.awk_session.proofs.Parts.{node_then_place}
-use Rattle.awk_session.proofs.answer.write_invalid.Goals as goal
+use Rattle.awk_session.proofs.fault_text.write_invalid.Goals as goal
 
 pub returns-in_err-write_numbered-clause-bytes : goal.returns-in_err-write_numbered-clause-bytes
 returns-in_err-write_numbered-clause-bytes g c =

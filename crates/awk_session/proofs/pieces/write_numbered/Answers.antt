@@ -1,7 +1,7 @@
 use Rattle.std.proofs.Common.{◌++◌, decimal, refl, arith}
 use Rattle.awk_json.proofs.Puts.{stops, goes}
 use Rattle.awk_session.proofs.Parts.{first_part, three_parts}
-use Rattle.awk_session.proofs.answer.write_numbered.Goals as goal
+use Rattle.awk_session.proofs.pieces.write_numbered.Goals as goal
 
 pub returns-in_err-put-clause-bytes : goal.returns-in_err-put-clause-bytes
 returns-in_err-put-clause-bytes g c =
