@@ -1,0 +1,184 @@
+//! A session, answered line by line.
+ghost use Rattle.std.specs.Prelude.{◌||◌, ◌++◌, List, ℕ, Some, Err, ◌≡◌, ◌≢◌, ◌↔◌, ◌⊎◌, ◌≤◌, ◌∷◌, [], IsTrue, IfErr, OnErr, OnOk};
+ghost use Rattle.awk_edge.specs.Causes.{Rose};
+ghost use Rattle.awk_edge.specs.Limits.{IsWithinLimits};
+ghost use Rattle.awk_edge.specs.Lines.{lines};
+ghost use Rattle.awk_session.specs.Replies.{answers, answer_count};
+ghost use Rattle.awk_run.specs.Answering.{Answers};
+ghost use Rattle.awk_run.specs.Flushes.{risen};
+ghost use Rattle.awk_run.specs.Session.{Session, Completes, IsComplete, number_of};
+ghost use Rattle.awk_run.specs.Words.{IsRun};
+
+use awk_edge::{LineFault, Lines, Out, Sink, Source};
+use awk_lanes::Steps;
+use awk_session::{Answered, Engine, LineEnd, is_blank};
+use bumpalo::Bump;
+use std::alloc::Global;
+use std::sync::ledger::Ledger;
+
+/// How a run ended.
+#[derive(Clone, Copy, Debug, PartialEq, Eq)]
+pub enum Status {
+    /// Each line was answered, and no answer is a fault.
+    Fine,
+    /// Each line was answered, and some answer is a fault.
+    Faults,
+    /// The words of the command line are not known.
+    Words,
+    /// The source failed.
+    Read,
+    /// The sink failed.
+    Write,
+    /// Memory was wanting.
+    Memory,
+    /// A line has more bytes than a line may have.
+    LineTooLong,
+    /// There are more lines than there may be.
+    TooManyLines,
+}
+
+impl Status {
+    /// The number that the program ends with.
+    pub fn number(&self) -> u8
+        ensures { result ≡ number_of self.now }
+    {
+        match self {
+            Status::Fine => 0,
+            Status::Faults => 1,
+            Status::Words => 2,
+            Status::Read => 3,
+            Status::Write => 4,
+            Status::Memory => 5,
+            Status::LineTooLong => 6,
+            Status::TooManyLines => 7,
+        }
+    }
+}
+
+/// Answers the session that the source gives, where the words are the one word `run`.
+/// The sink is flushed once for each answer that was written whole; where it failed, the last flush may be missing.
+pub fn run_words<S: Source, K: Sink, L: Ledger>(
+    alloc: Global,
+    words: &[String],
+    source: &mut S,
+    sink: &mut K,
+    steps: &mut Steps<L>,
+) -> Status
+    // The words are wrong exactly where they are not the one word `run`, and then nothing is read or written.
+    ensures words { (result ≡ Status.Words) ↔ (IsRun words.now → ⊥) }
+    ensures untouched { result ≡ Status.Words → (source.new ≡ source.old) × (sink.new ≡ sink.old) }
+
+    // A complete run wrote the answers to all the lines of the source.
+    ensures answers { (bytes before : List ℕ) → S.left source.old ≡ Some bytes → K.written sink.old ≡ Some before →
+        IsComplete result → K.written sink.new ≡ Some (before ++ answers (lines bytes)) }
+
+    // What each status says of the bytes that the source gave, of those that were written, and of the flushes.
+    ensures session { Session (S.left source.old) (S.left source.new) (K.written sink.old) (K.written sink.new)
+        (K.flushes sink.old) (K.flushes sink.new) result }
+
+    // Unless the sink failed, nothing that was written is left unflushed.
+    ensures flushed { result ≢ Status.Write → IsTrue (K.flushed sink.new) ⊎ (sink.new ≡ sink.old) }
+
+    // A run fails to read or to write only where the source or the sink failed in it.
+    ensures read { result ≡ Status.Read → Rose (S.faults source.old) (S.faults source.new) }
+    ensures write { result ≡ Status.Write → Rose (K.faults sink.old) (K.faults sink.new) }
+
+    // Where neither failed, memory was not wanting and no limit is passed, the run is complete.
+    ensures complete { IsRun words.now → (Rose (S.faults source.old) (S.faults source.new) → ⊥) →
+        (Rose (K.faults sink.old) (K.faults sink.new) → ⊥) → result ≢ Status.Memory →
+        Completes (S.left source.old) (S.left source.new) (K.written sink.old) (K.written sink.new) result }
+    ensures complete_told { (bytes : List ℕ) → S.left source.old ≡ Some bytes → IsWithinLimits bytes →
+        IsRun words.now → (Rose (S.faults source.old) (S.faults source.new) → ⊥) →
+        (Rose (K.faults sink.old) (K.faults sink.new) → ⊥) → result ≢ Status.Memory → IsComplete result }
+{
+    if is_run(words) {
+        run(alloc, source, sink, steps)
+    } else {
+        Status::Words
+    }
+}
+
+// Whether the words are the one word `run`.
+fn is_run(words: &[String]) -> bool
+    ensures { IsTrue result ↔ IsRun words.now }
+{
+    match words {
+        [word] => word.as_str() == "run",
+        _ => false,
+    }
+}
+
+// Answers a session.
+fn run<S: Source, K: Sink, L: Ledger>(
+    alloc: Global,
+    source: &mut S,
+    sink: &mut K,
+    steps: &mut Steps<L>,
+) -> Status
+    ensures not_words { result ≢ Status.Words }
+    ensures session { Session (S.left source.old) (S.left source.new) (K.written sink.old) (K.written sink.new)
+        (K.flushes sink.old) (K.flushes sink.new) result }
+    ensures flushed { result ≢ Status.Write → IsTrue (K.flushed sink.new) ⊎ (sink.new ≡ sink.old) }
+    ensures read { result ≡ Status.Read → Rose (S.faults source.old) (S.faults source.new) }
+    ensures write { result ≡ Status.Write → Rose (K.faults sink.old) (K.faults sink.new) }
+{
+    let mut lines = Lines::new();
+    let mut out = Out::new();
+    let arena = Bump::new(alloc);
+    let mut engine = Engine::new(alloc, &arena);
+    let mut any_fault = false;
+    loop {
+        match lines.next(alloc, source) {
+            Ok(Some(line)) => match answer(alloc, &mut engine, &line, &mut out, sink, steps) {
+                Ok(is_fault) => any_fault = either(any_fault, is_fault),
+                Err(LineEnd::Write) => return Status::Write,
+                Err(LineEnd::NoMemory) => return Status::Memory,
+            },
+            Ok(None) => {
+                if any_fault {
+                    return Status::Faults;
+                }
+                return Status::Fine;
+            }
+            Err(LineFault::Read) => return Status::Read,
+            Err(LineFault::NoMemory) => return Status::Memory,
+            Err(LineFault::LineTooLong) => return Status::LineTooLong,
+            Err(LineFault::TooManyLines) => return Status::TooManyLines,
+        }
+    }
+}
+
+fn either(a: bool, b: bool) -> bool
+    ensures { result ≡ (a || b) }
+{
+    a || b
+}
+
+// Answers a line, if it is not blank. It tells whether the answer is a fault.
+fn answer<K: Sink, L: Ledger>(
+    alloc: Global,
+    engine: &mut Engine<'_>,
+    line: &[u8],
+    out: &mut Out,
+    sink: &mut K,
+    steps: &mut Steps<L>,
+) -> Result<bool, LineEnd>
+    requires open { IsTrue out.old.is_open }
+    requires empty { out.old.held ≡ [] }
+    ensures answers { Answers (K.written sink.old) (K.written sink.new) out.new engine.old engine.new line.now result }
+    ensures flushes { OnOk result (K.flushes sink.new ≡ risen (answer_count (line.now ∷ [])) (K.flushes sink.old)) }
+    ensures unflushed { OnErr result (K.flushes sink.new ≡ K.flushes sink.old) }
+    ensures flushed { OnOk result (IsTrue (K.flushed sink.new) ⊎ (sink.new ≡ sink.old)) }
+    ensures untouched { result ≡ Err LineEnd.NoMemory → sink.new ≡ sink.old }
+    ensures later { K.faults sink.old ≤ K.faults sink.new }
+    ensures write { IfErr result (λ end. end ≡ LineEnd.Write → Rose (K.faults sink.old) (K.faults sink.new)) }
+{
+    if is_blank(line) {
+        return Ok(false);
+    }
+    match engine.line(alloc, line, out, sink, steps) {
+        Ok(Answered::Fine) => Ok(false),
+        Ok(Answered::Fault) => Ok(true),
+        Err(end) => Err(end),
+    }
+}

@@ -1,0 +1,225 @@
+// Whole runs over memory.
+ghost use Rattle.std.specs.Prelude.{◌≡◌, ◌<◌};
+
+use awk_edge::{MemSink, MemSource, NoMemory, Sink, Source, StdSource};
+use awk_lanes::Steps;
+use awk_run::{Status, run_words};
+use std::alloc::Global;
+use std::io;
+use std::marker::Brand;
+use std::process::Abort;
+use std::sync::ledger::{Blank, Ledger};
+use std::test::Fail;
+
+// A session over a source that gives so many bytes at a time and a sink that takes so many, and has room for no more than
+// it says. The calls of these numbers fail, counted from 0; each answer is a call to write, if it fits, and one to flush.
+struct Case<'r> {
+    session: &'r [u8],
+    gives: usize,
+    failing_reads: &'r [u64],
+    takes: usize,
+    room: usize,
+    failing_writes: &'r [u64],
+    answers: &'r [u8],
+    status: Status,
+}
+
+const UNBOUND: &[u8] = b"{\"show\":\"q\"}\n{\"show\":\"q\"}\n";
+
+const FIRST: &[u8] = b"{\"fault\":\"name\",\"name\":\"q\"}\n";
+
+const CASES: [Case<'static>; 9] = [
+    // No byte, no answer.
+    Case {
+        session: b"",
+        gives: 7,
+        failing_reads: &[],
+        takes: 5,
+        room: 0,
+        failing_writes: &[],
+        answers: b"",
+        status: Status::Fine,
+    },
+    // Lines and answers in pieces; a blank line has no answer, and the last line has no line end.
+    Case {
+        session: b"{\n \t\r\n{\"show\":\"\"}\n{\"names\":null}",
+        gives: 7,
+        failing_reads: &[],
+        takes: 5,
+        room: 1000,
+        failing_writes: &[],
+        answers: b"{\"fault\":\"json\"}\n{\"fault\":\"name\",\"name\":\"\"}\n{\"fault\":\"unbuilt\"}\n",
+        status: Status::Faults,
+    },
+    // The first read fails.
+    Case {
+        session: UNBOUND,
+        gives: 8,
+        failing_reads: &[0],
+        takes: 4096,
+        room: 1000,
+        failing_writes: &[],
+        answers: b"",
+        status: Status::Read,
+    },
+    // The third read fails, in the midst of the second line.
+    Case {
+        session: UNBOUND,
+        gives: 8,
+        failing_reads: &[2],
+        takes: 4096,
+        room: 1000,
+        failing_writes: &[],
+        answers: FIRST,
+        status: Status::Read,
+    },
+    // A read fails behind the last line end.
+    Case {
+        session: b"{\"show\":\"q\"}\n",
+        gives: 4096,
+        failing_reads: &[1],
+        takes: 4096,
+        room: 1000,
+        failing_writes: &[],
+        answers: FIRST,
+        status: Status::Read,
+    },
+    // The write of the first answer fails.
+    Case {
+        session: UNBOUND,
+        gives: 4096,
+        failing_reads: &[],
+        takes: 4096,
+        room: 1000,
+        failing_writes: &[0],
+        answers: b"",
+        status: Status::Write,
+    },
+    // The flush of the first answer fails.
+    Case {
+        session: UNBOUND,
+        gives: 4096,
+        failing_reads: &[],
+        takes: 4096,
+        room: 1000,
+        failing_writes: &[1],
+        answers: FIRST,
+        status: Status::Write,
+    },
+    // The write of the second answer fails.
+    Case {
+        session: UNBOUND,
+        gives: 4096,
+        failing_reads: &[],
+        takes: 4096,
+        room: 1000,
+        failing_writes: &[2],
+        answers: FIRST,
+        status: Status::Write,
+    },
+    // The sink is full in the midst of the second answer.
+    Case {
+        session: UNBOUND,
+        gives: 4096,
+        failing_reads: &[],
+        takes: 4096,
+        room: 33,
+        failing_writes: &[],
+        answers: b"{\"fault\":\"name\",\"name\":\"q\"}\n{\"fau",
+        status: Status::Write,
+    },
+];
+
+// A run whose steps nobody reads.
+fn run<S: Source, K: Sink>(
+    host: &HostRuntime,
+    words: &[String],
+    source: &mut S,
+    sink: &mut K,
+) -> Status {
+    counted::<S, K, Brand>(host, Blank::new(1), words, source, sink)
+}
+
+fn counted<S: Source, K: Sink, L: Ledger>(
+    host: &HostRuntime,
+    blank: Blank,
+    words: &[String],
+    source: &mut S,
+    sink: &mut K,
+) -> Status
+    requires name { blank.name ≡ L.name }
+    requires parts { blank.parts ≡ L.parts }
+    requires some { 0 < blank.parts }
+{
+    let mut steps = Steps::<L>::new(host, blank);
+    run_words(host.alloc(), words, source, sink, &mut steps)
+}
+
+fn words_of(alloc: Global, words: &[&str]) -> Result<Vec<String>, NoMemory> {
+    let mut owned = Vec::new(alloc);
+    for word in words {
+        owned.push(String::from_str(alloc, *word)?)?;
+    }
+    Ok(owned)
+}
+
+fn check_case(rt: &impl Abort, host: &HostRuntime, case: &Case<'_>) -> Result<(), NoMemory> {
+    let alloc = host.alloc();
+    assert!(rt; case.gives > 0 && case.takes > 0);
+    let mut source = MemSource::new(alloc, case.session, case.gives, case.failing_reads)?;
+    let mut sink = MemSink::new(alloc, case.room, case.takes, case.failing_writes)?;
+    let status = run(host, &words_of(alloc, &["run"])?, &mut source, &mut sink);
+    assert!(rt; sink.written() == case.answers);
+    assert!(rt; status == case.status);
+    Ok(())
+}
+
+fn check_cases(rt: &impl Abort, host: &HostRuntime, cases: &[Case<'_>]) -> Result<(), NoMemory> {
+    for case in cases {
+        check_case(rt, host, case)?;
+    }
+    Ok(())
+}
+
+#[test]
+fn streams_come_in_pieces_and_fail(rt: HostRuntime) -> Result<(), Fail> {
+    check_cases(&rt, &rt, &CASES)?;
+    Ok(())
+}
+
+#[test]
+fn other_words_touch_nothing(rt: HostRuntime) -> Result<(), Fail> {
+    let alloc = rt.alloc();
+    let cases: [&[&str]; 4] = [&[], &["x"], &["run", "x"], &["run", "run"]];
+    for words in cases {
+        let mut source = MemSource::new(alloc, UNBOUND, 4096, &[])?;
+        let mut sink = MemSink::new(alloc, 1000, 4096, &[])?;
+        let status = run(&rt, &words_of(alloc, words)?, &mut source, &mut sink);
+        assert!(rt; status == Status::Words && sink.written().is_empty());
+    }
+    Ok(())
+}
+
+// As many blank lines as there may be, and a byte more.
+#[test]
+fn too_many_lines_end_the_run(rt: HostRuntime) -> Result<(), Fail> {
+    let alloc = rt.alloc();
+    let mut bytes = vec![in alloc; b'\n'; 1_048_576]?;
+    bytes.push(b'x')?;
+    let mut source = MemSource::new(alloc, &bytes, 4096, &[])?;
+    let mut sink = MemSink::new(alloc, 100, 4096, &[])?;
+    let status = run(&rt, &words_of(alloc, &["run"])?, &mut source, &mut sink);
+    assert!(rt; status == Status::TooManyLines && sink.written().is_empty());
+    Ok(())
+}
+
+// A line without an end.
+#[test]
+fn a_long_line_ends_the_run(rt: HostRuntime) -> Result<(), Fail> {
+    let alloc = rt.alloc();
+    let mut source = StdSource::new(io::repeat(b'a'));
+    let mut sink = MemSink::new(alloc, 100, 4096, &[])?;
+    let status = run(&rt, &words_of(alloc, &["run"])?, &mut source, &mut sink);
+    assert!(rt; status == Status::LineTooLong && sink.written().is_empty());
+    Ok(())
+}
