@@ -30,7 +30,7 @@ prove() {
     { (cd "$here" && rt all check --jobs "$(nproc)") 2>&1 || echo "FAILED"; } | awk -v of="$crates" '
         BEGIN { "date +%s" | getline start; close("date +%s") }
         /^== / { crate = $2; next }
-        /error/ { print > "/dev/stderr" }
+        /: error[:[]/ { print > "/dev/stderr" }
         /^logic=proved/ {
             "date +%s" | getline now; close("date +%s")
             printf "run.sh: proved %s, %d of %d, %.1f minutes so far\n", crate, ++done, of, (now - start) / 60 > "/dev/stderr"
