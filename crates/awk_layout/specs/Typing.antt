@@ -2,6 +2,7 @@
 use Rattle.std.specs.Prelude.{List, map}
 use Rattle.awk_types.specs.DataType.{DataType, DataTypes, unknown, leaf, var, reg, opt, uni, row_type, no_types, type}
 use Rattle.awk_types.specs.Value.{Value}
+use Rattle.awk_types.specs.Datum.{Datum, arr}
 use Rattle.awk_types.specs.Simple.{simple, simple_value}
 use Rattle.awk_layout.specs.Kinds.{primitive_of}
 use Rattle.awk_layout.specs.Layout.{Layout, Layouts, empty, flat, regular, lists, offset_lists, rows, indexed, optional, byte_masked, bit_masked, unmasked, union, no_layouts, layout}
@@ -32,3 +33,7 @@ array_type x = simple (layout_type x)
 
 abbrev pub array_items : Layout → List Value
 array_items x = map (simple_value (layout_type x)) (items x)
+
+-- an array as its type and its items
+abbrev pub array_datum : Layout → Datum
+array_datum x = arr (array_type x) (array_items x)

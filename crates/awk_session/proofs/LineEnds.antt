@@ -128,6 +128,7 @@ evaluation_text-unbroken evaluation.Depth = literal-unbroken (codes "{\"fault\":
 evaluation_text-unbroken evaluation.Size = literal-unbroken (codes "{\"fault\":\"size\"}") refl
 evaluation_text-unbroken evaluation.Lengths = literal-unbroken (codes "{\"fault\":\"lengths\"}") refl
 evaluation_text-unbroken evaluation.Index = literal-unbroken (codes "{\"fault\":\"index\"}") refl
+evaluation_text-unbroken evaluation.Unbuilt = literal-unbroken (codes "{\"fault\":\"unbuilt\"}") refl
 evaluation_text-unbroken evaluation.NoMemory = tt
 
 fault_text-unbroken : (f : AnswerFault) → Unbroken (fault_text f)

@@ -7,7 +7,7 @@ use Rattle.indexmap.specs.IndexMap.{insert_entry}
 use Rattle.awk_types.specs.DataType.{Name}
 use Rattle.awk_layout.specs.Layout.{Layout}
 use Rattle.awk_session.specs.Environment.{Environment, look_up, bind}
-use Rattle.awk_session.specs.Load.{array_datum}
+use Rattle.awk_layout.specs.Typing.{array_datum}
 use Rattle.awk_session.specs.Replies.{reply_show}
 use Rattle.awk_session.specs.Variables.{Entries, variables_of}
 

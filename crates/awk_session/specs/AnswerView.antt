@@ -5,7 +5,7 @@ use Rattle.awk_session.specs.declared.answer.Answer.TheVariants as variant
 use Rattle.awk_session.specs.declared.answer.Answered.{Answered}
 use Rattle.awk_session.specs.declared.answer.Answered.TheVariants.{Fine, Fault}
 use Rattle.awk_session.specs.Answer.{Answer, bound, value, fault}
-use Rattle.awk_session.specs.Load.{array_datum}
+use Rattle.awk_layout.specs.Typing.{array_datum}
 
 abbrev pub answer_view : code.Answer → Answer
 answer_view (variant.Bound n) = bound n.now

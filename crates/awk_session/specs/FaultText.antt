@@ -49,6 +49,7 @@ evaluation_text evaluation.Depth = codes "{\"fault\":\"depth\"}"
 evaluation_text evaluation.Size = codes "{\"fault\":\"size\"}"
 evaluation_text evaluation.Lengths = codes "{\"fault\":\"lengths\"}"
 evaluation_text evaluation.Index = codes "{\"fault\":\"index\"}"
+evaluation_text evaluation.Unbuilt = codes "{\"fault\":\"unbuilt\"}"
 evaluation_text evaluation.NoMemory = []
 
 -- any fault

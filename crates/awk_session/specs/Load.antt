@@ -1,11 +1,9 @@
 -- What a load line loads.
 use Rattle.std.specs.Prelude.{ℕ, Result, Ok, Err}
 use Rattle.serde_json.specs.Data.{Data, Members}
-use Rattle.awk_types.specs.Datum.{Datum, arr}
+use Rattle.awk_types.specs.Datum.{Datum}
 use Rattle.awk_types.specs.Limit.{Limit, depth_limit, size_limit}
 use Rattle.awk_types.specs.declared.fault.Fault.TheVariants.{Depth, Size}
-use Rattle.awk_layout.specs.Layout.{Layout}
-use Rattle.awk_layout.specs.Typing.{array_type, array_items}
 use Rattle.awk_store.specs.Buffers.{texts_of}
 use Rattle.awk_form.specs.FormTree.{FormTree}
 use Rattle.awk_form.specs.Reading as forms
@@ -15,10 +13,6 @@ use Rattle.awk_valid.specs.Container.{container_of}
 use Rattle.awk_valid.specs.Denote.{denoting}
 use Rattle.awk_session.specs.declared.fault.AnswerFault.{AnswerFault}
 use Rattle.awk_session.specs.declared.fault.AnswerFault.TheVariants.{Form, Buffer, Invalid, Evaluation}
-
--- the array that a layout is
-abbrev pub array_datum : Layout → Datum
-array_datum layout = arr (array_type layout) (array_items layout)
 
 -- a form is refused by its first break, or by the limit that its type passes
 abbrev pub form_fault : forms.Refusal → AnswerFault

@@ -3,7 +3,7 @@ use Rattle.std.specs.declared.alloc.Global.{Global}
 use Rattle.std.specs.Prelude.{List, map, String, string_bytes}
 use Rattle.awk_layout.specs.Layout.{Layout}
 use Rattle.awk_session.specs.Environment.{Environment}
-use Rattle.awk_session.specs.Load.{array_datum}
+use Rattle.awk_layout.specs.Typing.{array_datum}
 
 abbrev pub Entries : Type 0
 Entries = List (String Global × Layout)

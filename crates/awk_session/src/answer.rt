@@ -4,7 +4,7 @@ ghost use Rattle.awk_edge.specs.Causes.{HasCause};
 ghost use Rattle.awk_edge.specs.Put.{Moves};
 ghost use Rattle.awk_session.specs.Answer.{answer_text, datum_text, is_fault};
 ghost use Rattle.awk_session.specs.AnswerView.{answer_view, kind_is_fault};
-ghost use Rattle.awk_session.specs.Load.{array_datum};
+ghost use Rattle.awk_layout.specs.Typing.{array_datum};
 
 use crate::fault::AnswerFault;
 use crate::fault_text::write_fault;

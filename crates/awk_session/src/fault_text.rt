@@ -68,6 +68,7 @@ fn write_evaluation<K: Sink>(out: &mut Out, sink: &mut K, fault: &Fault) -> Resu
         Fault::Size => out.put(sink, b"{\"fault\":\"size\"}\n"),
         Fault::Lengths => out.put(sink, b"{\"fault\":\"lengths\"}\n"),
         Fault::Index => out.put(sink, b"{\"fault\":\"index\"}\n"),
+        Fault::Unbuilt => out.put(sink, b"{\"fault\":\"unbuilt\"}\n"),
         Fault::NoMemory => out.put(sink, b"\n"),
     }
 }

@@ -3,7 +3,8 @@ ghost use Rattle.serde_json.specs.View.{view, members_view};
 ghost use Rattle.awk_types.specs.Gives.{Gives};
 ghost use Rattle.awk_store.specs.Buffers.{HoldsTexts};
 ghost use Rattle.awk_session.specs.Told.{refused_told};
-ghost use Rattle.awk_session.specs.Load.{array_datum, loaded};
+ghost use Rattle.awk_layout.specs.Typing.{array_datum};
+ghost use Rattle.awk_session.specs.Load.{loaded};
 
 use crate::fault::Refused;
 use awk_form::read_form;

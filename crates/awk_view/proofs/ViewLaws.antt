@@ -7,7 +7,7 @@ use Rattle.awk_types.specs.DataType.{Name}
 use Rattle.awk_types.specs.Datum.{arr}
 use Rattle.awk_types.specs.Gives.{Told, Gives, refused_or, ◌or◌}
 use Rattle.awk_types.specs.Limit.{Limit, depth_limit, size_limit, limit, limit_told}
-use Rattle.awk_types.specs.Faults.{fault_of}
+use Rattle.awk_types.specs.Faults.{fault_of, limit_fault, fault_told}
 use Rattle.awk_types.specs.Simple.{simple, simple_value}
 use Rattle.awk_types.specs.declared.limit.TypeFault.{TypeFault}
 use Rattle.awk_types.specs.declared.limit.TypeFault.TheVariants as refused
@@ -18,11 +18,11 @@ use Rattle.awk_layout.specs.Layout.{Layout}
 use Rattle.awk_layout.specs.Valid.{len, IsValid}
 use Rattle.awk_layout.specs.Numbered.{IsNumbered}
 use Rattle.awk_layout.specs.Item.{item}
-use Rattle.awk_layout.specs.Typing.{layout_type, array_type, array_items}
+use Rattle.awk_layout.specs.Typing.{layout_type, array_type, array_items, array_datum}
 use Rattle.awk_layout.specs.Array.{array_of}
 use Rattle.awk_layout.proofs.TypedItems.{item_has}
 use Rattle.awk_view.specs.Choice.{Choice, absent, chosen_type, chosen_value}
-use Rattle.awk_view.specs.Answer.{choice_fault, choice_answer, limit_fault, array_datum, fault_told}
+use Rattle.awk_view.specs.Answer.{choice_fault, choice_answer}
 use Rattle.awk_view.specs.Layouts.{IsFound, layout_of_choice}
 use Rattle.awk_view.proofs.ChoiceTypes.{absent-simple, chosen_type-simple}
 use Rattle.awk_view.proofs.ChoiceValues.{chosen_value-simple}

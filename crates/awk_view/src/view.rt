@@ -2,9 +2,11 @@
 ghost use Rattle.std.specs.Prelude.{◌+◌, ◌*◌, ◌≤◌, IfOk};
 ghost use Rattle.awk_types.specs.Gives.{Gives};
 ghost use Rattle.awk_types.specs.Names.{AreDistinct};
+ghost use Rattle.awk_types.specs.Faults.{fault_told};
 ghost use Rattle.awk_layout.specs.Layout.{weight, height};
+ghost use Rattle.awk_layout.specs.Typing.{array_datum};
 ghost use Rattle.awk_view.specs.Choice.{field, fields, without};
-ghost use Rattle.awk_view.specs.Answer.{view_answer, array_datum, fault_told};
+ghost use Rattle.awk_view.specs.Answer.{view_answer};
 ghost use Rattle.awk_view.specs.Layouts.{IsChoice};
 ghost use Rattle.awk_view.specs.Asked.{choice_of};
 

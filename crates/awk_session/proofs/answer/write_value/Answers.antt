@@ -1,7 +1,7 @@
 use Rattle.std.proofs.Common.{◌++◌, [], ◌∷◌, codes, refl, arith}
 use Rattle.awk_json.proofs.Puts.{stops, goes}
 use Rattle.awk_session.specs.Answer.{datum_text}
-use Rattle.awk_session.specs.Load.{array_datum}
+use Rattle.awk_layout.specs.Typing.{array_datum}
 use Rattle.awk_session.proofs.Parts.{first_part, three_parts}
 use Rattle.awk_session.proofs.answer.write_value.Goals as goal
 

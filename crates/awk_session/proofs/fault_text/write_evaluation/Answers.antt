@@ -38,5 +38,8 @@ returns-in-Lengths-clause-bytes g c = rw c.in-Lengths.is c.put-in-Lengths.ensure
 pub returns-in-Index-clause-bytes : goal.returns-in-Index-clause-bytes
 returns-in-Index-clause-bytes g c = rw c.in-Index.is c.put-in-Index.ensures.bytes
 
+pub returns-in-Unbuilt-clause-bytes : goal.returns-in-Unbuilt-clause-bytes
+returns-in-Unbuilt-clause-bytes g c = rw c.in-Unbuilt.is c.put-in-Unbuilt.ensures.bytes
+
 pub returns-in-NoMemory-clause-bytes : goal.returns-in-NoMemory-clause-bytes
 returns-in-NoMemory-clause-bytes g c = rw c.in-NoMemory.is c.put-in-NoMemory.ensures.bytes

@@ -1,6 +1,6 @@
 use Rattle.std.proofs.Common.{ap, ◌∙◌}
 use Rattle.awk_session.specs.Environment.{bind}
-use Rattle.awk_session.specs.Load.{array_datum}
+use Rattle.awk_layout.specs.Typing.{array_datum}
 use Rattle.awk_session.specs.Variables.{variables_of}
 use Rattle.awk_session.proofs.VariableLaws.{variables_of-insert_entry}
 use Rattle.awk_session.proofs.engine.Engine.bind.Goals as goal

@@ -4,7 +4,7 @@ use Rattle.awk_types.specs.declared.fault.Fault.TheVariants.{Unbound}
 use Rattle.awk_layout.specs.Layout.{Layout}
 use Rattle.awk_session.specs.declared.fault.AnswerFault.TheVariants.{Evaluation}
 use Rattle.awk_session.specs.Answer.{value, fault}
-use Rattle.awk_session.specs.Load.{array_datum}
+use Rattle.awk_layout.specs.Typing.{array_datum}
 use Rattle.awk_session.specs.Replies.{Reply}
 use Rattle.awk_session.proofs.VariableLaws.{show-found}
 use Rattle.awk_session.proofs.engine.Engine.show.Goals as goal
