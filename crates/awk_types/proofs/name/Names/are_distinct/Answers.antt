@@ -1,21 +1,20 @@
 use Rattle.std.proofs.Common.{◌≡◌, true, false, not, cond, nat_cmp, is_eq, take, Some, sym, ap, ◌∙◌}
 use Rattle.std.specs.Cmp.Lexicographic.{slice_cmp}
 use Rattle.std.proofs.Math.Bool.{not-not}
-use Rattle.awk_types.specs.Names.{is_among}
+use Rattle.awk_types.specs.Names.{is_among, are_distinct}
 use Rattle.awk_types.proofs.ListLaws.{take-get}
-use Rattle.awk_form.specs.Node.{are_distinct}
-use Rattle.awk_form.proofs.Distinct.{distinct-more, repeated, seen-more}
-use Rattle.awk_form.proofs.names.are_distinct.Goals as goal
+use Rattle.awk_types.proofs.DistinctLaws.{distinct-more, repeated, seen-more}
+use Rattle.awk_types.proofs.name.Names.are_distinct.Goals as goal
 
 pub returns-then-not-branch : goal.returns-then-not-branch
 returns-then-not-branch c =
-    let had : is_among c.as_str.result.now (take c.loop-i.i c.args.names.now) ≡ true =
+    let had : is_among c.as_str.result.now (take c.loop-i.i c.args.self.now) ≡ true =
     sym (c.loop-i.invariant.seen c.as_str.result) ∙ sym (not-not _) ∙ ap not (sym c.in_ok-insert.ensures.added ∙ c.if-not-branch.true) in
-    repeated c.args.names.now c.loop-i.i c.as_str.result.now (c.get.ensures ∙ ap Some (sym c.as_str.ensures)) had
+    repeated c.args.self.now c.loop-i.i c.as_str.result.now (c.get.ensures ∙ ap Some (sym c.as_str.ensures)) had
 
 pub loop-i-preserved : goal.loop-i-preserved
 loop-i-preserved c =
-    let names = c.args.names.now in
+    let names = c.args.self.now in
     let i = c.loop-i.i in
     let name = c.as_str.result in
     let at = take-get names i name.now (c.get.ensures ∙ ap Some (sym c.as_str.ensures)) in
