@@ -1,3 +1,4 @@
+pub mod Worked
 pub mod Unions
 pub mod SimpleTexts
 pub mod Lengths
