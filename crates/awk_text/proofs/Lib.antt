@@ -9,3 +9,5 @@ pub mod Costs
 pub mod Places
 pub mod Cases
 pub mod NumberTexts
+pub mod TypeTexts
+pub mod LineEnds

@@ -1,8 +1,8 @@
 -- The texts of types and of data, on worked examples by computing.
-use Rattle.std.proofs.Common.{◌≡◌, List, [], ◌∷◌, codes, refl}
+use Rattle.std.proofs.Common.{◌≡◌, [], ◌∷◌, codes, refl}
 use Rattle.std.specs.Fmt.{digits}
 use Rattle.awk_types.specs.declared.primitive.Primitive.TheVariants.{Bool as Truths, I8, I64, U8}
-use Rattle.awk_types.specs.DataType.{DataType, unknown, leaf, var, reg, rec, tup, opt, uni, DataTypes, no_types, type}
+use Rattle.awk_types.specs.DataType.{DataType, unknown, leaf, var, reg, rec, tup, opt, uni, no_types, type}
 use Rattle.awk_types.specs.Value.{null, list, no_values}
 use Rattle.awk_types.specs.Datum.{arr, one}
 use Rattle.awk_text.specs.TypeText.{type_text, datum_type_text}

@@ -152,10 +152,10 @@ fn write_size<K: Sink>(size: u64, out: &mut Out, sink: &mut K) -> Result<(), Wri
 fn is_bare(name: &[u8]) -> bool
     ensures { result ≡ bare name.now }
 {
-    if name.is_empty() || name[0].is_ascii_digit() {
+    if name.is_empty() {
         return false;
     }
-    name.iter().all(|byte| is_word(*byte))
+    !name[0].is_ascii_digit() && name.iter().all(|byte| is_word(*byte))
 }
 
 fn is_word(byte: u8) -> bool
