@@ -2,7 +2,7 @@
 -- judged as a node of its own.
 use Rattle.std.specs.Prelude.{ℕ, ◌&&◌, ◌==◌, Bool, true, false, not, nat_lt, List, [], ◌∷◌, length, Option, Some, None, option_and_then, option_map, Result, Ok, Err, codes}
 use Rattle.awk_types.specs.DataType.{Name}
-use Rattle.awk_types.specs.Names.{is_among}
+use Rattle.awk_types.specs.Names.{are_distinct}
 use Rattle.awk_types.specs.declared.primitive.Primitive.{Primitive as PrimitiveKind}
 use Rattle.serde_json.specs.Data.{Data, null, string, object, Items, no_items, item}
 use Rattle.serde_json.specs.Find.{get, get_member, as_str, as_bool, as_number, as_array, as_u64}
@@ -87,11 +87,6 @@ inner_shape_from (Some d) = present_or why.Key (option_and_then numbers_of (as_a
 
 abbrev pub inner_shape_at : Data → Result (List ℕ) FormWhy
 inner_shape_at d = inner_shape_from (get (codes "inner_shape") d)
-
--- whether no name comes twice
-abbrev pub are_distinct : List Name → Bool
-are_distinct [] = true
-are_distinct (n ∷ ns) = not (is_among n ns) && are_distinct ns
 
 -- null makes a tuple, which has no names
 abbrev pub fields_from : Option Data → Result (Option (List Name)) FormWhy

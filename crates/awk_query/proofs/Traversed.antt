@@ -7,7 +7,8 @@ use Rattle.serde_json.specs.Data.{Data}
 use Rattle.serde_json.specs.Find.{as_str}
 use Rattle.serde_json.specs.View.{view}
 use Rattle.serde_json.specs.declared.value.Value.{Value}
-use Rattle.awk_query.specs.Arguments.{all_of, if_distinct, are_distinct}
+use Rattle.awk_types.specs.Names.{are_distinct}
+use Rattle.awk_query.specs.Arguments.{all_of, if_distinct}
 use Rattle.awk_query.specs.Told.{Unread, query, or_query}
 use Rattle.awk_query.proofs.Heads.{failed}
 

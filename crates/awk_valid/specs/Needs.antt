@@ -7,7 +7,8 @@ use Rattle.awk_lanes.specs.Numbers.{width, nat_of}
 use Rattle.awk_lanes.specs.Places.{at}
 use Rattle.awk_form.specs.FormTree.{FormTree, empty, numpy, regular, list, list_offset, row, indexed, indexed_option, byte_masked, bit_masked, unmasked, union}
 use Rattle.awk_form.specs.declared.kind.IndexKind.{IndexKind}
-use Rattle.awk_valid.specs.Container.{Container, kind_of, kind_of_index, index_at, int8s_at}
+use Rattle.awk_layout.specs.Kinds.{kind_of}
+use Rattle.awk_valid.specs.Container.{Container, kind_of_index, index_at, int8s_at}
 
 -- ---- the bytes of its buffers
 
