@@ -7,7 +7,7 @@ use Rattle.std.proofs.lemmas.Int.{ints}
 use Rattle.awk_types.specs.DataType.{Name}
 use Rattle.awk_types.specs.Value.{Value, int, truth, null, list, row, alt, value}
 use Rattle.awk_types.specs.Datum.{arr}
-use Rattle.awk_types.proofs.RefusalLaws.{refused_or-Ok, refused_or-None}
+use Rattle.awk_types.proofs.RefusalLaws.{refused_or-Ok, refused_or-None, or-both}
 use Rattle.awk_types.specs.Limit.{limit}
 use Rattle.awk_types.specs.Simple.{simple, simple_value}
 use Rattle.awk_types.specs.declared.primitive.Primitive.{Primitive}
@@ -28,13 +28,14 @@ use Rattle.awk_form.specs.FormTree.{FormTree, empty, numpy, regular, list as lis
 use Rattle.awk_form.specs.FormType.{type_of}
 use Rattle.awk_form.specs.Lawful.{count}
 use Rattle.awk_form.specs.declared.kind.IndexKind.{IndexKind}
-use Rattle.awk_valid.specs.Container.{Container, bytes_at, kind_of, kind_of_index, column_at, index_at, int8s_at}
+use Rattle.awk_layout.specs.Kinds.{kind_of}
+use Rattle.awk_valid.specs.Container.{Container, bytes_at, kind_of_index, column_at, index_at, int8s_at}
 use Rattle.awk_valid.specs.Needs.{product, reach, behind, behind_at, content_length}
 use Rattle.awk_valid.specs.Loaded.{shaped, layout_of, layouts_of}
 use Rattle.awk_valid.specs.Denote.{element, index_num, int8_num, between, shaped_item, item, items_across, item_of, denote, denoting}
 use Rattle.awk_valid.specs.Broken.{list_rule, index_rule, tag_rule, broken_from, all_broken_from, broken}
 use Rattle.awk_valid.specs.Loading.{limited, refusal, loading}
-use Rattle.awk_valid.proofs.Places.{neither, rule_break-none, greatest_below-at, list_rule-none, index_rule-none, tag_rule-none, behind_at-own}
+use Rattle.awk_valid.proofs.Places.{rule_break-none, greatest_below-at, list_rule-none, index_rule-none, tag_rule-none, behind_at-own}
 use Rattle.awk_valid.proofs.ShapeLaws.{content-len}
 use Rattle.awk_valid.proofs.TypeLaws.{layout_type-layout_of}
 use Rattle.awk_valid.proofs.ValidLaws.{index_kind, size_of-index_at, size_of-int8s_at, own, walked, no-items}
@@ -172,16 +173,16 @@ mutual
       → layout_item.items_across (layouts_of fs lengths c) i ≡ items_across fs c i
   items_across-denoted no_forms m lengths c h i l = refl
   items_across-denoted (form f fs) m lengths c h i l =
-      let p = neither (broken_from f m (lengths 0) c) _ h in
+      let p = or-both (broken_from f m (lengths 0) c) _ h in
       ap₂ value (item-denoted f m (lengths 0) c p.0 i (l 0)) (items_across-denoted fs _ (λ k. lengths (suc k)) c p.1 i (λ k. l (suc k)))
 
   -- of the k-th content
   item_of-denoted : (fs : FormTrees) (m : ℕ) (lengths : ℕ → ℕ) (c : Container) → all_broken_from fs m lengths c ≡ None → (k i : ℕ) → i < lengths k
       → layout_item.item_of (layouts_of fs lengths c) k i ≡ item_of fs c k i
   item_of-denoted no_forms m lengths c h k i l = refl
-  item_of-denoted (form f fs) m lengths c h zero i l = item-denoted f m (lengths 0) c (neither (broken_from f m (lengths 0) c) _ h).0 i l
+  item_of-denoted (form f fs) m lengths c h zero i l = item-denoted f m (lengths 0) c (or-both (broken_from f m (lengths 0) c) _ h).0 i l
   item_of-denoted (form f fs) m lengths c h (suc k) i l =
-      item_of-denoted fs _ (λ k. lengths (suc k)) c (neither (broken_from f m (lengths 0) c) _ h).1 k i l
+      item_of-denoted fs _ (λ k. lengths (suc k)) c (or-both (broken_from f m (lengths 0) c) _ h).1 k i l
 
 -- ---- the number of items
 
@@ -220,5 +221,5 @@ datum-denoted f n c h =
 pub made-denoted : (f : FormTree) (n : ℕ) (c : Container) (x : Layout) → loading f n c ≡ Ok x → denoting f n c ≡ Ok (arr (array_type x) (array_items x))
 made-denoted f n c x h =
     let made = refused_or-Ok (refusal f n c) (layout_of f n c) x h in
-    let none = neither (option_map limited (limit (simple (type_of f)))) (broken f n c) made.0 in
+    let none = or-both (option_map limited (limit (simple (type_of f)))) (broken f n c) made.0 in
     refused_or-None (refusal f n c) (denote f n c) (arr (array_type x) (array_items x)) made.0 (sym (datum-denoted f n c none.1) ∙ ap (λ y. arr (array_type y) (array_items y)) made.1)

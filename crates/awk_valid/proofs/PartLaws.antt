@@ -1,7 +1,7 @@
 -- What the parts of a node say of the node's own break.
-use Rattle.std.proofs.Common.{◌≡◌, ℕ, zero, suc, ◌∷◌, replicate, ◌+◌, ◌-◌, ◌*◌, List, Option, Some, None, Ok, refl, sym, ap, ap₂, ◌∙◌, subst, arith, codes, map}
+use Rattle.std.proofs.Common.{◌≡◌, ℕ, zero, suc, ◌∷◌, replicate, ◌+◌, ◌-◌, ◌*◌, List, Option, None, Ok, refl, sym, ap, ap₂, ◌∙◌, subst, arith, codes, map}
 use Rattle.std.specs.List.{range_with_len}
-use Rattle.awk_types.proofs.RefusalLaws.{Told-other, Told-first, Told-later, refused_or-Ok, or-None}
+use Rattle.awk_types.proofs.RefusalLaws.{Told-other, Told-first, Told-later, refused_or-Ok, or-None, Told-same, or-last}
 use Rattle.awk_types.specs.DataType.{Name}
 use Rattle.awk_types.specs.Gives.{Told, refused_or, ◌or◌}
 use Rattle.awk_lanes.specs.Column.{Column}
@@ -18,15 +18,6 @@ use Rattle.awk_valid.specs.Walked.{own_break}
 use Rattle.awk_valid.proofs.ValidLaws.{index_kind, size_of-index_at, size_of-int8s_at}
 
 -- ---- breaks in turn
-
--- the break of a node that is one of its parts
-pub told_as : {A B : Type 0} (o : Option Refusal) (a b : Option Refusal) (x : A) (y : B) → a ≡ b → Told o (refused_or b x) → Told o (refused_or a y)
-told_as o a b x y e h = subst (λ z. Told o (refused_or z y)) (sym e) (Told-other o b x y h)
-
--- nothing comes behind it
-pub or-last : (a : Option Refusal) → (a or None) ≡ a
-or-last None = refl
-or-last (Some r) = refl
 
 -- so many equal numbers
 pub same_lengths : (n a count : ℕ) → map (λ (k : ℕ). n) (range_with_len a count) ≡ replicate count n
@@ -73,7 +64,7 @@ pub index_told : {A B : Type 0} (o : Option Refusal) (t u : ByKey) (key : Option
 index_told o t u key attribute k n x y same h =
     let name = buffer_key key attribute in
     let size = n * width (kind_of_index k) in
-    told_as o (bytes_break name size (container_of t name)) (bytes_break name size (container_of u name)) x y (ap (λ v. bytes_break name size (container_of v name)) (sym same)) h
+    Told-same o (bytes_break name size (container_of t name)) (bytes_break name size (container_of u name)) x y (ap (λ v. bytes_break name size (container_of v name)) (sym same)) h
 
 -- ---- the rule of a node is judged over the lanes that were made
 

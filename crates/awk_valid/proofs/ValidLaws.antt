@@ -15,13 +15,15 @@ use Rattle.awk_form.specs.Lawful.{count, AreNamesOf, IsLawful, AreLawful}
 use Rattle.awk_form.specs.declared.kind.IndexKind.{IndexKind}
 use Rattle.awk_form.specs.declared.kind.IndexKind.TheVariants.{I32, U32, I64}
 use Rattle.awk_form.specs.Measures.{inner_shape}
-use Rattle.awk_valid.specs.Container.{Container, kind_of, kind_of_index, column_at, index_at, int8s_at, bytes_at}
+use Rattle.awk_types.proofs.RefusalLaws.{or-both}
+use Rattle.awk_layout.specs.Kinds.{kind_of}
+use Rattle.awk_valid.specs.Container.{Container, kind_of_index, column_at, index_at, int8s_at, bytes_at}
 use Rattle.awk_valid.specs.Needs.{product, buffer_needs, reach, behind, behind_at, lists_length, index_length, tag_length, content_length}
 use Rattle.awk_valid.specs.Loaded.{shaped, layout_of, layouts_of}
 use Rattle.awk_form.specs.FormText.{key_of}
 use Rattle.awk_valid.specs.Broken.{Refusal, item_limit, buffers_break, places_break, node_break, size_break, shape_break, rule_break, list_rule, index_rule, tag_rule, broken_from, all_broken_from, broken}
 use Rattle.awk_valid.specs.declared.fault.Rule.TheVariants.{Empty}
-use Rattle.awk_valid.proofs.Places.{neither, size_break-none, rule_break-none, greatest_below-at, list_rule-none, index_rule-none, below-behind, tag_rule-none, behind_at-own}
+use Rattle.awk_valid.proofs.Places.{size_break-none, rule_break-none, greatest_below-at, list_rule-none, index_rule-none, below-behind, tag_rule-none, behind_at-own}
 
 -- ---- kinds and sizes
 
@@ -47,7 +49,7 @@ size_of-int8s_at c key attribute n = length-numbers Kind.I8 n (bytes_at c key at
 pub shaped-valid : (inner : List ℕ) (n : ℕ) (x : Layout) → shape_break n inner ≡ None → len x ≡ n * product inner → IsValid x → IsValid (shaped inner n x) × (len (shaped inner n x) ≡ n)
 shaped-valid [] n x h l v = (v, omega arith)
 shaped-valid (m ∷ ms) n x h l v =
-    let here = neither (size_break n) (shape_break (n * m) ms) h in
+    let here = or-both (size_break n) (shape_break (n * m) ms) h in
     let inside = shaped-valid ms (n * m) x here.1 (l ∙ sym (mul_assoc n m (product ms))) v in
     let small = size_break-none n here.0 in
     ((omega arith, omega (arith, inside.1), inside.0), refl)
@@ -174,14 +176,14 @@ union-valid c key k m n alternatives xs e some h lengths =
 -- a node that is not broken has no break of its sizes and of its places
 pub own : (f : FormTree) (m n : ℕ) (c : Container) → node_break f m n c ≡ None → (shape_break n (inner_shape f) ≡ None) × (places_break f m n c ≡ None)
 own f m n c h =
-    let sizes = neither (shape_break n (inner_shape f)) (buffers_break c (key_of f) (buffer_needs f n) or places_break f m n c) h in
-    (sizes.0, (neither (buffers_break c (key_of f) (buffer_needs f n)) (places_break f m n c) sizes.1).1)
+    let sizes = or-both (shape_break n (inner_shape f)) (buffers_break c (key_of f) (buffer_needs f n) or places_break f m n c) h in
+    (sizes.0, (or-both (buffers_break c (key_of f) (buffer_needs f n)) (places_break f m n c) sizes.1).1)
 
 -- nor has what is below it
 pub walked : (f : FormTree) (m n : ℕ) (c : Container) (later : Option Refusal) → (node_break f m n c or later) ≡ None
     → (shape_break n (inner_shape f) ≡ None) × (places_break f m n c ≡ None) × (later ≡ None)
 walked f m n c later h =
-    let both = neither (node_break f m n c) later h in
+    let both = or-both (node_break f m n c) later h in
     let here = own f m n c both.0 in
     (here.0, here.1, both.1)
 
@@ -192,7 +194,7 @@ no-items m (suc n) h = absurd (cc)
 shape-small : (inner : List ℕ) (n : ℕ) → shape_break n inner ≡ None → n * product inner ≤ item_limit
 shape-small [] n h = omega (arith, size_break-none n h)
 shape-small (k ∷ ks) n h =
-    let here = neither (size_break n) (shape_break (n * k) ks) h in
+    let here = or-both (size_break n) (shape_break (n * k) ks) h in
     let inside = shape-small ks (n * k) here.1 in
     omega (arith, inside, mul_assoc n k (product ks))
 
@@ -257,7 +259,7 @@ mutual
       → AllValid (layouts_of fs lengths c) × HaveLengths (layouts_of fs lengths c) lengths
   layouts_of-valid no_forms m lengths c w h = (tt, tt)
   layouts_of-valid (form f fs) m lengths c w h =
-      let here = neither (broken_from f m (lengths 0) c) _ h in
+      let here = or-both (broken_from f m (lengths 0) c) _ h in
       let one = layout_of-valid f m (lengths 0) c w.0 here.0 in
       let others = layouts_of-valid fs _ (λ k. lengths (suc k)) c w.1 here.1 in
       ((one.0, others.0), (one.1, others.1))

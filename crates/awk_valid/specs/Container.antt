@@ -1,8 +1,6 @@
 -- The bytes of buffers by key, and the numbers and bits in them.
 use Rattle.std.specs.Prelude.{ℕ, List, [], ◌++◌, Option, Result, Ok, Err, unwrap_or, codes}
 use Rattle.awk_types.specs.DataType.{Name}
-use Rattle.awk_types.specs.declared.primitive.Primitive.{Primitive}
-use Rattle.awk_types.specs.declared.primitive.Primitive.TheVariants as primitive
 use Rattle.awk_lanes.specs.declared.kind.Kind.{Kind}
 use Rattle.awk_lanes.specs.declared.kind.Kind.TheVariants as kind
 use Rattle.awk_lanes.specs.Column.{Column}
@@ -36,18 +34,6 @@ bytes_at c key attribute = bytes_or_none (c (buffer_key key attribute))
 -- the first n numbers of a kind in bytes
 abbrev pub column_at : Kind → ℕ → List ℕ → Column
 column_at k n bytes = record { kind = k; items = numbers k n bytes }
-
--- the kind of a primitive's numbers
-abbrev pub kind_of : Primitive → Kind
-kind_of primitive.Bool = kind.Bool
-kind_of primitive.I8 = kind.I8
-kind_of primitive.I16 = kind.I16
-kind_of primitive.I32 = kind.I32
-kind_of primitive.I64 = kind.I64
-kind_of primitive.U8 = kind.U8
-kind_of primitive.U16 = kind.U16
-kind_of primitive.U32 = kind.U32
-kind_of primitive.U64 = kind.U64
 
 -- the kind of an index's numbers
 abbrev pub kind_of_index : IndexKind → Kind
