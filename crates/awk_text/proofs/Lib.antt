@@ -9,5 +9,6 @@ pub mod Costs
 pub mod Places
 pub mod Cases
 pub mod NumberTexts
+pub mod Runs
 pub mod TypeTexts
 pub mod LineEnds

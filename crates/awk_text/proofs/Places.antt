@@ -21,7 +21,7 @@ to_come_first f first stop =
     ap (λ s. joined_after s (codes ",") (texts_from f first stop)) (separator_at_first (codes ",") first)
     ∙ sym (joined_after-nothing (codes ",") (texts_from f first stop))
 
-to_come_more : (f : ℕ → List ℕ) (first j stop : ℕ) → first ≤ j → j < stop
+pub to_come_more : (f : ℕ → List ℕ) (first j stop : ℕ) → first ≤ j → j < stop
     → to_come f first j stop ≡ comma_before (j == first) ++ (f j ++ to_come f first (j + 1) stop)
 to_come_more f first j stop later below =
     ap (joined_after (comma_before (j == first)) (codes ",")) (texts_left f j stop below)

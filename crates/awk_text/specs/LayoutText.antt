@@ -1,9 +1,9 @@
 -- The texts of a layout's items, as the layout has them.
-use Rattle.std.specs.Prelude.{ℕ, ◌-◌, ◌≤◌, List, [], ◌++◌, map, get_or, length, codes, decimal, Option, Some, None, option_map}
+use Rattle.std.specs.Prelude.{ℕ, ◌-◌, ◌≤◌, ◌==◌, List, [], ◌++◌, map, get_or, length, codes, decimal, Option, Some, None, option_map}
 use Rattle.std.specs.Borrow.{Bor}
-use Rattle.std.specs.List.{range_with_len}
+use Rattle.std.specs.List.{range_with_len, flat_map}
 use Rattle.awk_types.specs.DataType.{Name}
-use Rattle.awk_json.specs.Text.{quoted, comma_joined, list_text}
+use Rattle.awk_json.specs.Text.{quoted, comma_joined, comma_before, list_text}
 use Rattle.awk_layout.specs.Layout.{Layout, empty, layout_list}
 use Rattle.awk_layout.specs.Item.{item}
 use Rattle.awk_layout.specs.Place.{Case, number, span, across, missing, through, alternative}
@@ -17,6 +17,10 @@ layout_text x i = value_text (layout_type x) (item x i)
 -- the list of the items from a place below another
 abbrev pub span_text : Layout → ℕ → ℕ → Text
 span_text x lo hi = list_text (map (layout_text x) (range_with_len lo (hi - lo)))
+
+-- the items from a place below a stop, in a list that begins at a first place: each is behind a comma, but for the first
+abbrev pub run_text : Layout → ℕ → ℕ → ℕ → Text
+run_text x first j stop = flat_map (λ k. comma_before (k == first) ++ layout_text x k) (range_with_len j (stop - j))
 
 abbrev pub names_shown : Option (Bor (List Name)) → Option (List Name)
 names_shown names = option_map (λ m. m.now) names

@@ -7,6 +7,7 @@ ghost use Rattle.awk_layout.specs.Shown.{value_of_num};
 ghost use Rattle.awk_text.specs.LayoutText.{names_shown, field_name, field_text, AreNamed};
 ghost use Rattle.awk_text.specs.ValueText.{leaf_text};
 
+use crate::digits::{LONGEST, set_leaf};
 use awk_edge::{Out, Sink, WriteFault};
 use awk_json::write_text;
 use awk_lanes::Num;
@@ -25,13 +26,9 @@ pub(crate) fn write_leaf<K: Sink>(
     ensures flushes { K.flushes sink.new ≡ K.flushes sink.old }
     ensures cause { HasCause (K.faults sink.old) (K.faults sink.new) result }
 {
-    let mut digits = Buffer::new();
-    match number {
-        Num::Int(z) => out.put(sink, digits.format(z).as_bytes()),
-        Num::Nat(n) => out.put(sink, digits.format(n).as_bytes()),
-        Num::Truth(true) => out.put(sink, b"true"),
-        Num::Truth(false) => out.put(sink, b"false"),
-    }
+    let mut room = [0; LONGEST];
+    let start = set_leaf(number, &mut room, LONGEST);
+    out.put(sink, &room[start..])
 }
 
 /// Puts the name of the k-th field and a colon.

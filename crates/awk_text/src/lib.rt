@@ -2,6 +2,7 @@
 #![tactic(auto)]
 
 mod array;
+mod digits;
 mod fault;
 mod leaf;
 mod numbers;
