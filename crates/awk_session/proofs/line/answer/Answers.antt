@@ -1,7 +1,7 @@
 use Rattle.std.proofs.Common.{◌++◌, ap, sym, ◌∙◌}
 use Rattle.awk_session.specs.Runs.{answer_bytes}
 use Rattle.awk_session.specs.Replies.{Reply, step_of}
-use Rattle.awk_session.proofs.engine.Engine.reply.Goals as goal
+use Rattle.awk_session.proofs.line.answer.Goals as goal
 
 pub returns-in-Ok-clause-leaves : goal.returns-in-Ok-clause-leaves
 returns-in-Ok-clause-leaves g c =
