@@ -19,4 +19,4 @@ pub use form::{Form, Forms, Shape};
 pub use kind::IndexKind;
 pub use read::read_form;
 pub use typing::type_of_form;
-pub use write::write_form;
+pub use write::{write_form, write_names};

@@ -284,7 +284,8 @@ fn write_key<K: Sink>(key: &Option<Name>, out: &mut Out, sink: &mut K) -> Result
     }
 }
 
-fn write_names<K: Sink>(names: &Names, out: &mut Out, sink: &mut K) -> Result<(), WriteFault>
+/// Puts a list of names.
+pub fn write_names<K: Sink>(names: &Names, out: &mut Out, sink: &mut K) -> Result<(), WriteFault>
     requires open { IsTrue out.old.is_open }
     ensures bytes { Moves (K.written sink.old) (K.written sink.new) out.new
         (out.old.held ++ list_text (map quoted names.now)) result }

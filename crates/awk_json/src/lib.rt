@@ -3,4 +3,6 @@
 
 mod text;
 
-pub use text::{write_comma, write_number, write_pieces, write_separator, write_text};
+pub use text::{
+    write_comma, write_number, write_pieces, write_quoted, write_separator, write_text,
+};

@@ -16,8 +16,19 @@ pub fn write_text<K: Sink>(out: &mut Out, sink: &mut K, text: &str) -> Result<()
     ensures flushes { K.flushes sink.new ≡ K.flushes sink.old }
     ensures cause { HasCause (K.faults sink.old) (K.faults sink.new) result }
 {
+    write_quoted(out, sink, text.as_bytes())
+}
+
+/// Puts bytes in quotes, each special one escaped.
+pub fn write_quoted<K: Sink>(out: &mut Out, sink: &mut K, bytes: &[u8]) -> Result<(), WriteFault>
+    requires open { IsTrue out.old.is_open }
+    ensures bytes { Moves (K.written sink.old) (K.written sink.new) out.new
+        (out.old.held ++ quoted bytes.now) result }
+    ensures flushes { K.flushes sink.new ≡ K.flushes sink.old }
+    ensures cause { HasCause (K.faults sink.old) (K.faults sink.new) result }
+{
     out.put(sink, b"\"")?;
-    write_escaped(out, sink, text.as_bytes())?;
+    write_escaped(out, sink, bytes)?;
     out.put(sink, b"\"")
 }
 

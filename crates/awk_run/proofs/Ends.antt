@@ -11,7 +11,7 @@ use Rattle.awk_edge.proofs.Known.{Consumes-both, Appends-both, Consumes-none, Ap
 use Rattle.awk_edge.proofs.LineLaws.{lines-unlines, lines-nil, lines-last, lines_some, first_length, ended-unlines, ended-unbroken, ended-long, ended-full}
 use Rattle.awk_edge.proofs.LimitLaws.{get_or_behind, IsWithinLimits-short, IsWithinLimits-few}
 use Rattle.awk_session.specs.Runs.{texts, state_after, answer_bytes}
-use Rattle.awk_session.specs.Environment.{Environment}
+use Rattle.awk_eval.specs.Variables.{Environment}
 use Rattle.awk_session.specs.Replies.{step, answers, has_fault}
 use Rattle.awk_session.specs.Leaves.{Breaks}
 use Rattle.awk_session.proofs.Runs.{texts-append, texts_push}

@@ -8,7 +8,7 @@ use Rattle.awk_edge.specs.Next.{TakesLine, HasNone}
 use Rattle.awk_edge.proofs.Known.{Consumes-both, Consumes-none, Appends-both, Appends-none}
 use Rattle.awk_edge.proofs.LineLaws.{lines-unlines, unlines_push, AreLines_push, lines-nil, lines-last}
 use Rattle.awk_session.specs.Runs.{state_after, answer_bytes}
-use Rattle.awk_session.specs.Environment.{Environment}
+use Rattle.awk_eval.specs.Variables.{Environment}
 use Rattle.awk_session.specs.Replies.{step, answers, has_fault, answer_count}
 use Rattle.awk_session.proofs.Runs.{texts_push, state_push, fault_push}
 use Rattle.awk_run.specs.Answering.{IsAnswered}

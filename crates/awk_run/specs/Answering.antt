@@ -3,7 +3,7 @@ use Rattle.std.specs.Prelude.{◌≡◌, ℕ, Bool, true, List, [], Option, Resu
 use Rattle.std.specs.Io.KnownBytes.{Appends}
 use Rattle.awk_edge.specs.Pending.{Pending}
 use Rattle.awk_session.specs.Runs.{answer_bytes}
-use Rattle.awk_session.specs.Environment.{Environment}
+use Rattle.awk_eval.specs.Variables.{Environment}
 use Rattle.awk_session.specs.Replies.{step}
 use Rattle.awk_session.specs.Leaves.{Breaks}
 use Rattle.awk_session.specs.declared.engine.LineEnd.{LineEnd}

@@ -3,6 +3,7 @@ ghost use Rattle.std.specs.Prelude.{◌||◌, ◌++◌, List, ℕ, Some, Err, �
 ghost use Rattle.awk_edge.specs.Causes.{Rose};
 ghost use Rattle.awk_edge.specs.Limits.{IsWithinLimits};
 ghost use Rattle.awk_edge.specs.Lines.{lines};
+ghost use Rattle.awk_eval.specs.Variables.{denoted};
 ghost use Rattle.awk_session.specs.Replies.{answers, answer_count};
 ghost use Rattle.awk_run.specs.Answering.{Answers};
 ghost use Rattle.awk_run.specs.Flushes.{risen};
@@ -165,7 +166,8 @@ fn answer<K: Sink, L: Ledger>(
 ) -> Result<bool, LineEnd>
     requires open { IsTrue out.old.is_open }
     requires empty { out.old.held ≡ [] }
-    ensures answers { Answers (K.written sink.old) (K.written sink.new) out.new engine.old engine.new line.now result }
+    ensures answers { Answers (K.written sink.old) (K.written sink.new) out.new
+        (denoted engine.old) (denoted engine.new) line.now result }
     ensures flushes { OnOk result (K.flushes sink.new ≡ risen (answer_count (line.now ∷ [])) (K.flushes sink.old)) }
     ensures unflushed { OnErr result (K.flushes sink.new ≡ K.flushes sink.old) }
     ensures flushed { OnOk result (IsTrue (K.flushed sink.new) ⊎ (sink.new ≡ sink.old)) }

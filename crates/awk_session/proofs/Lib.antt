@@ -2,6 +2,6 @@ pub mod Sessions
 pub mod LineEnds
 pub mod Runs
 pub mod StepLaws
-pub mod VariableLaws
+pub mod DenotedLaws
 pub mod Parts
 pub mod ReadLaws

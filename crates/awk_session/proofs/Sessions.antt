@@ -1,6 +1,6 @@
 -- The answers to a few worked sessions, computed. What a run answers is these definitions, so the stored session of the
 -- examples shows the others.
-use Rattle.std.proofs.Common.{◌≡◌, ℕ, true, false, List, [], ◌∷◌, ◌++◌, codes, refl}
+use Rattle.std.proofs.Common.{◌≡◌, ℕ, false, List, [], ◌∷◌, ◌++◌, codes, refl}
 use Rattle.std.specs.Char.{encode_utf8}
 use Rattle.std.specs.Fmt.{digits}
 use Rattle.std.specs.Str.{IsUtf8}
@@ -12,7 +12,7 @@ use Rattle.awk_form.specs.Node.{node_at}
 use Rattle.awk_form.specs.Reading.{nodes_of, form_of}
 use Rattle.awk_query.specs.Line.{or_json, line_or_unread}
 use Rattle.awk_query.specs.Reading.{expr_said}
-use Rattle.awk_session.specs.Environment.{Environment}
+use Rattle.awk_eval.specs.Variables.{Environment}
 use Rattle.awk_session.specs.Runs.{Step}
 use Rattle.awk_session.specs.Replies.{step, step_of, reply, is_blank, answers}
 
@@ -73,7 +73,7 @@ pub null_is_no_line : answers (null_line ∷ []) ≡ lines_of (codes "{\"fault\"
 unfolding expr_said serde_json_on_literals
 null_is_no_line = simp null_line-read refl
 
--- a line that is not built yet
+-- no name is bound
 abbrev names_line : List ℕ
 names_line = codes "{\"names\":null}"
 
@@ -81,9 +81,9 @@ names_line-read : (variables : Environment) → step variables names_line ≡ re
 unfolding encode_utf8
 names_line-read variables = step-read variables names_line refl (names_line, (refl, refl))
 
-pub names_are_not_built : answers (names_line ∷ []) ≡ lines_of (codes "{\"fault\":\"unbuilt\"}" ∷ [])
+pub no_names : answers (names_line ∷ []) ≡ lines_of (codes "{\"names\":[]}" ∷ [])
 unfolding expr_said serde_json_on_literals
-names_are_not_built = simp names_line-read refl
+no_names = simp names_line-read refl
 
 -- a form that is broken: an unknown primitive at the second node
 abbrev load_float : List ℕ

@@ -3,7 +3,7 @@ use Rattle.std.proofs.Common.{◌≡◌, ◌≢◌, ℕ, ◌+◌, ◌==◌, Bool
 use Rattle.std.proofs.lemmas.List.Sums.{sum_by-append, sum_by-cons}
 use Rattle.awk_edge.specs.Lines.{Unbroken}
 use Rattle.awk_session.specs.Runs.{Step, answer_bytes, texts, line_ends}
-use Rattle.awk_session.specs.Environment.{Environment}
+use Rattle.awk_eval.specs.Variables.{Environment}
 use Rattle.awk_session.specs.Answer.{answer_text}
 use Rattle.awk_session.specs.Replies.{is_blank, step, step_of, reply, answers, answer_count}
 use Rattle.awk_query.specs.Line.{line_said}

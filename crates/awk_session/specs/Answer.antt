@@ -7,15 +7,19 @@ use Rattle.awk_text.specs.ValueText.{value_text}
 use Rattle.awk_session.specs.declared.fault.AnswerFault.{AnswerFault}
 use Rattle.awk_session.specs.FaultText.{fault_text}
 
--- a name was bound, a value is shown, or a fault is told
+-- a name was bound, a value or the text of a type is shown, names are listed, or a fault is told
 pub data Answer : Type 0 where
   bound : Name → Answer
   value : Datum → Answer
+  typ : List ℕ → Answer
+  names : List Name → Answer
   fault : AnswerFault → Answer
 
 abbrev pub is_fault : Answer → Bool
 is_fault (bound n) = false
 is_fault (value d) = false
+is_fault (typ text) = false
+is_fault (names ns) = false
 is_fault (fault f) = true
 
 -- an array is shown as the list of its items
@@ -26,4 +30,6 @@ datum_text (one t v) = value_text t v
 abbrev pub answer_text : Answer → List ℕ
 answer_text (bound n) = codes "{\"bound\":" ++ quoted n ++ codes "}"
 answer_text (value d) = codes "{\"value\":" ++ datum_text d ++ codes "}"
+answer_text (typ text) = codes "{\"type\":" ++ quoted text ++ codes "}"
+answer_text (names ns) = codes "{\"names\":" ++ list_text (map quoted ns) ++ codes "}"
 answer_text (fault f) = fault_text f

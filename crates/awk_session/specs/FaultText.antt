@@ -1,7 +1,5 @@
 -- The texts of the faults that answer a line.
-use Rattle.std.specs.Prelude.{List, [], ℕ, ◌++◌, codes, decimal}
-use Rattle.awk_types.specs.declared.fault.Fault.{Fault}
-use Rattle.awk_types.specs.declared.fault.Fault.TheVariants as evaluation
+use Rattle.std.specs.Prelude.{List, ℕ, ◌++◌, codes, decimal}
 use Rattle.awk_json.specs.Text.{quoted}
 use Rattle.awk_form.specs.declared.fault.FormWhy.{FormWhy}
 use Rattle.awk_form.specs.declared.fault.FormWhy.TheVariants as why
@@ -9,6 +7,7 @@ use Rattle.awk_valid.specs.declared.fault.BufferFault.{BufferFault}
 use Rattle.awk_valid.specs.declared.fault.BufferFault.TheVariants as buffers
 use Rattle.awk_valid.specs.declared.fault.Rule.{Rule}
 use Rattle.awk_valid.specs.declared.fault.Rule.TheVariants as rules
+use Rattle.awk_text.specs.FaultText as evaluation
 use Rattle.awk_session.specs.declared.fault.AnswerFault.{AnswerFault}
 use Rattle.awk_session.specs.declared.fault.AnswerFault.TheVariants as fault
 
@@ -37,30 +36,18 @@ rule_text rules.Start = codes "start"
 rule_text rules.Negative = codes "negative"
 rule_text rules.Tag = codes "tag"
 
--- a fault of evaluation; want of memory ends the run, and no step tells it
-abbrev pub evaluation_text : Fault → List ℕ
-evaluation_text (evaluation.Unbound n) = codes "{\"fault\":\"name\",\"name\":" ++ quoted n ++ codes "}"
-evaluation_text (evaluation.NoField n) = codes "{\"fault\":\"field\",\"field\":" ++ quoted n ++ codes "}"
-evaluation_text evaluation.Axis = codes "{\"fault\":\"axis\"}"
-evaluation_text evaluation.WrongType = codes "{\"fault\":\"type\"}"
-evaluation_text evaluation.Overflow = codes "{\"fault\":\"overflow\"}"
-evaluation_text evaluation.Zero = codes "{\"fault\":\"zero\"}"
-evaluation_text evaluation.Depth = codes "{\"fault\":\"depth\"}"
-evaluation_text evaluation.Size = codes "{\"fault\":\"size\"}"
-evaluation_text evaluation.Lengths = codes "{\"fault\":\"lengths\"}"
-evaluation_text evaluation.Index = codes "{\"fault\":\"index\"}"
-evaluation_text evaluation.Unbuilt = codes "{\"fault\":\"unbuilt\"}"
-evaluation_text evaluation.NoMemory = []
-
--- any fault
+-- any fault; those of evaluation have texts of their own
 abbrev pub fault_text : AnswerFault → List ℕ
 fault_text fault.Json = codes "{\"fault\":\"json\"}"
 fault_text fault.Query = codes "{\"fault\":\"query\"}"
-fault_text fault.Unbuilt = codes "{\"fault\":\"unbuilt\"}"
 fault_text (fault.Form node cause) =
-    codes "{\"fault\":\"form\",\"node\":" ++ decimal node ++ codes ",\"why\":\"" ++ why_text cause ++ codes "\"}"
+    codes "{\"fault\":\"form\",\"node\":" ++ decimal node
+    ++ codes ",\"why\":\"" ++ why_text cause ++ codes "\"}"
 fault_text (fault.Buffer key cause) =
-    codes "{\"fault\":\"buffer\",\"key\":" ++ quoted key ++ codes ",\"why\":\"" ++ buffer_text cause ++ codes "\"}"
+    codes "{\"fault\":\"buffer\",\"key\":" ++ quoted key
+    ++ codes ",\"why\":\"" ++ buffer_text cause ++ codes "\"}"
 fault_text (fault.Invalid node rule place) =
-    codes "{\"fault\":\"invalid\",\"node\":" ++ decimal node ++ codes ",\"rule\":\"" ++ rule_text rule ++ codes "\",\"place\":" ++ decimal place ++ codes "}"
-fault_text (fault.Evaluation f) = evaluation_text f
+    codes "{\"fault\":\"invalid\",\"node\":" ++ decimal node
+    ++ codes ",\"rule\":\"" ++ rule_text rule
+    ++ codes "\",\"place\":" ++ decimal place ++ codes "}"
+fault_text (fault.Evaluation f) = evaluation.fault_text f

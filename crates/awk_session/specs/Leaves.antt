@@ -6,7 +6,7 @@ use Rattle.awk_session.specs.declared.answer.Answered.{Answered}
 use Rattle.awk_session.specs.declared.engine.LineEnd.{LineEnd}
 use Rattle.awk_session.specs.declared.engine.LineEnd.TheVariants.{Write, NoMemory}
 use Rattle.awk_session.specs.AnswerView.{kind_is_fault}
-use Rattle.awk_session.specs.Environment.{Environment}
+use Rattle.awk_eval.specs.Variables.{Environment}
 use Rattle.awk_session.specs.Runs.{Step, answer_bytes}
 
 -- the answer of a step went to the sink, behind what was held, and the variables are those after the step

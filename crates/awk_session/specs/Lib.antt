@@ -1,10 +1,7 @@
 pub mod Runs
-pub mod Environment
 pub mod FaultText
 pub mod Answer
 pub mod Load
-pub mod Stored
-pub mod Variables
 pub mod ReadView
 pub mod Told
 pub mod AnswerView

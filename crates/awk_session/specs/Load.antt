@@ -2,7 +2,7 @@
 use Rattle.std.specs.Prelude.{ℕ, Result, Ok, Err}
 use Rattle.serde_json.specs.Data.{Data, Members}
 use Rattle.awk_types.specs.Datum.{Datum}
-use Rattle.awk_types.specs.Limit.{Limit, depth_limit, size_limit}
+use Rattle.awk_types.specs.Limit.{depth_limit, size_limit}
 use Rattle.awk_types.specs.declared.fault.Fault.TheVariants.{Depth, Size}
 use Rattle.awk_store.specs.Buffers.{texts_of}
 use Rattle.awk_form.specs.FormTree.{FormTree}

@@ -3,8 +3,8 @@ use Rattle.std.specs.Prelude.{Result, Ok, Err}
 use Rattle.awk_query.specs.Line.{Line}
 use Rattle.awk_query.specs.LineView.{line_view}
 use Rattle.awk_query.specs.Told.{Unread, json, query}
-use Rattle.awk_session.specs.declared.engine.Read as code
-use Rattle.awk_session.specs.declared.engine.Read.TheVariants as variant
+use Rattle.awk_session.specs.declared.line.Read as code
+use Rattle.awk_session.specs.declared.line.Read.TheVariants as variant
 
 abbrev pub read_view : code.Read → Result Line Unread
 read_view (variant.Line line) = Ok (line_view line)

@@ -1,18 +1,23 @@
 -- What the engine answers to a line, and to the lines of a session.
-use Rattle.std.specs.Prelude.{ℕ, Bool, false, ◌||◌, ◌==◌, not, List, [], count_by, Option, Some, None, Result, Ok, Err, if◌then◌else◌}
+use Rattle.std.specs.Prelude.{ℕ, Bool, false, ◌||◌, ◌==◌, not, List, [], count_by, Some, None, Result, Ok, Err, if◌then◌else◌}
 use Rattle.std.specs.List.{list_all}
 use Rattle.awk_types.specs.DataType.{Name}
 use Rattle.awk_types.specs.Datum.{Datum}
-use Rattle.awk_session.specs.Runs.{Step, texts, any_fault}
-use Rattle.awk_session.specs.Environment.{Environment, look_up, bind}
-use Rattle.awk_query.specs.ExprTree.{ExprTree, var, whole, truth, call}
-use Rattle.awk_query.specs.Line.{Line, load, show, line_said}
+use Rattle.awk_types.specs.declared.fault.Fault.{Fault}
+use Rattle.awk_types.specs.declared.fault.Fault.TheVariants.{Unbuilt}
+use Rattle.awk_text.specs.TypeText.{datum_type_text}
+use Rattle.awk_query.specs.Line as lines
+use Rattle.awk_query.specs.Line.{Line, line_said}
 use Rattle.awk_query.specs.Told.{Unread, json, query}
+use Rattle.awk_eval.specs.Bindings as bindings
+use Rattle.awk_eval.specs.Bindings.{bind}
+use Rattle.awk_eval.specs.Variables.{Environment}
+use Rattle.awk_eval.specs.Eval.{eval}
+use Rattle.awk_session.specs.Runs.{Step, texts, any_fault}
 use Rattle.awk_session.specs.Load.{loaded}
-use Rattle.awk_types.specs.declared.fault.Fault.TheVariants.{Unbound}
 use Rattle.awk_session.specs.declared.fault.AnswerFault.{AnswerFault}
-use Rattle.awk_session.specs.declared.fault.AnswerFault.TheVariants.{Json, Query, Unbuilt, Evaluation}
-use Rattle.awk_session.specs.Answer.{Answer, bound, value, fault, is_fault, answer_text}
+use Rattle.awk_session.specs.declared.fault.AnswerFault.TheVariants.{Json, Query, Evaluation}
+use Rattle.awk_session.specs.Answer.{Answer, bound, value, typ, names, fault, is_fault, answer_text}
 
 -- only spaces, tabs and carriage returns
 abbrev pub is_blank : List ℕ → Bool
@@ -23,47 +28,60 @@ pub record Reply : Type 0 where
   pub answer : Answer
   pub after : Environment
 
--- a load line binds its name if it loads, and else changes nothing
-abbrev pub reply_load : Environment → Name → Result Datum AnswerFault → Reply
-reply_load variables n (Ok datum) = record { answer = bound n; after = bind n datum variables }
-reply_load variables n (Err f) = record { answer = fault f; after = variables }
+-- an answer that leaves the variables as they are
+abbrev pub answering : Environment → Answer → Reply
+answering variables a = record { answer = a; after = variables }
 
--- a show line shows what its name is bound to
-abbrev pub reply_show : Environment → Name → Option Datum → Reply
-reply_show variables n (Some datum) = record { answer = value datum; after = variables }
-reply_show variables n None = record { answer = fault (Evaluation (Unbound n)); after = variables }
+-- a name is bound to what is made for it; where that is a fault, nothing changes
+abbrev pub reply_bind : Environment → Name → Result Datum AnswerFault → Reply
+reply_bind variables n (Ok datum) = record { answer = bound n; after = bind n datum variables }
+reply_bind variables n (Err f) = answering variables (fault f)
 
--- the variable that an expression is
-abbrev pub variable_of : ExprTree → Option Name
-variable_of (var n) = Some n
-variable_of (whole z) = None
-variable_of (truth b) = None
-variable_of (call op args fixed) = None
+-- what an expression is, where its faults are told as answers
+abbrev pub evaluated : Result Datum Fault → Result Datum AnswerFault
+evaluated (Ok datum) = Ok datum
+evaluated (Err f) = Err (Evaluation f)
 
--- a line that is read and not built yet
-abbrev pub not_built : Environment → Reply
-not_built variables = record { answer = fault Unbuilt; after = variables }
+-- what is told of a datum, or its fault
+abbrev pub telling : (Datum → Answer) → Result Datum Fault → Answer
+telling tell (Ok datum) = tell datum
+telling tell (Err f) = fault (Evaluation f)
 
-abbrev pub reply_variable : Environment → Option Name → Reply
-reply_variable variables (Some n) = reply_show variables n (look_up n variables)
-reply_variable variables None = not_built variables
+-- the text of a datum's type
+abbrev pub type_shown : Datum → Answer
+type_shown datum = typ (datum_type_text datum)
+
+-- packing is not built yet
+abbrev pub packed : Datum → Answer
+packed datum = fault (Evaluation Unbuilt)
 
 abbrev pub reply_line : Environment → Line → Reply
-reply_line variables (load n form length buffers) = reply_load variables n (loaded form length buffers)
-reply_line variables (show e) = reply_variable variables (variable_of e)
-reply_line variables _ = not_built variables
+reply_line variables (lines.load n form length buffers) =
+    reply_bind variables n (loaded form length buffers)
+reply_line variables (lines.bind n e) = reply_bind variables n (evaluated (eval variables e))
+reply_line variables (lines.show e) = answering variables (telling value (eval variables e))
+reply_line variables (lines.type_of e) =
+    answering variables (telling type_shown (eval variables e))
+reply_line variables (lines.pack e) = answering variables (telling packed (eval variables e))
+reply_line variables lines.names = answering variables (names (bindings.names variables))
 
 abbrev pub reply : Environment → Result Line Unread → Reply
 reply variables (Ok line) = reply_line variables line
-reply variables (Err json) = record { answer = fault Json; after = variables }
-reply variables (Err query) = record { answer = fault Query; after = variables }
+reply variables (Err json) = answering variables (fault Json)
+reply variables (Err query) = answering variables (fault Query)
 
 abbrev pub step_of : Reply → Step Environment
-step_of r = record { answer = Some (answer_text r.answer); is_fault = is_fault r.answer; after = r.after }
+step_of r = record {
+  answer = Some (answer_text r.answer);
+  is_fault = is_fault r.answer;
+  after = r.after;
+}
 
 -- a blank line has no answer and changes nothing
 unfoldable pub step : Environment → List ℕ → Step Environment
-step variables line = if is_blank line then record { answer = None; is_fault = false; after = variables } else step_of (reply variables (line_said line))
+step variables line =
+    if is_blank line then record { answer = None; is_fault = false; after = variables }
+    else step_of (reply variables (line_said line))
 
 -- the answers to a session's lines, each with its line end
 abbrev pub answers : List (List ℕ) → List ℕ

@@ -1,18 +1,21 @@
 //! The answers to lines, and how they are put out.
-ghost use Rattle.std.specs.Prelude.{◌≡◌, ◌∷◌, [], ◌++◌, IsTrue, codes};
-ghost use Rattle.awk_edge.specs.Causes.{HasCause};
+ghost use Rattle.std.specs.Prelude.{◌≡◌, ◌∷◌, [], ◌++◌, IsTrue, codes, map};
+ghost use Rattle.awk_edge.specs.Causes.{HasCause, flushes_after};
 ghost use Rattle.awk_edge.specs.Put.{Moves};
+ghost use Rattle.awk_json.specs.Text.{quoted, list_text};
+ghost use Rattle.awk_layout.specs.Datum.{IsDatum, datum_of};
 ghost use Rattle.awk_session.specs.Answer.{answer_text, datum_text, is_fault};
-ghost use Rattle.awk_session.specs.AnswerView.{answer_view, kind_is_fault};
-ghost use Rattle.awk_layout.specs.Typing.{array_datum};
+ghost use Rattle.awk_session.specs.AnswerView.{answer_view, kind_is_fault, IsAnswer};
+ghost use Rattle.std.specs.Prelude.{OnOk};
 
 use crate::fault::AnswerFault;
 use crate::fault_text::write_fault;
-use crate::pieces::write_named;
+use crate::pieces::write_quoted_between;
 use awk_edge::{Out, Sink, WriteFault};
 use awk_lanes::Steps;
-use awk_layout::Array;
-use awk_text::write_array;
+use awk_layout::Datum;
+use awk_text::{write_array, write_item};
+use awk_types::Names;
 use std::sync::ledger::Ledger;
 
 /// Whether the answer to a line is a fault.
@@ -28,7 +31,11 @@ pub enum Answer<'v, 'a> {
     /// The name is bound now.
     Bound(&'v str),
     /// The value that is shown.
-    Value(Array<'a>),
+    Value(Datum<'a>),
+    /// The text of the type that is shown.
+    Type(Vec<u8>),
+    /// The bound names, in order of first binding.
+    Names(Names),
     /// The line has no other answer than this fault.
     Fault(AnswerFault),
 }
@@ -38,45 +45,106 @@ pub fn kind_of(answer: &Answer<'_, '_>) -> Answered
     ensures { kind_is_fault result ≡ is_fault (answer_view answer.now) }
 {
     match answer {
-        Answer::Bound(_) | Answer::Value(_) => Answered::Fine,
+        Answer::Bound(_) | Answer::Value(_) | Answer::Type(_) | Answer::Names(_) => Answered::Fine,
         Answer::Fault(_) => Answered::Fault,
     }
 }
 
-/// Puts the text of an answer, with its line end.
-pub fn write_answer<K: Sink, L: Ledger>(
+/// Puts an answer out with its line end, and flushes.
+pub fn send<K: Sink, L: Ledger>(
+    answer: &Answer<'_, '_>,
     out: &mut Out,
     sink: &mut K,
-    answer: &Answer<'_, '_>,
     steps: &mut Steps<L>,
 ) -> Result<(), WriteFault>
     requires open { IsTrue out.old.is_open }
+    requires answer { IsAnswer answer.now }
+    ensures bytes { Moves (K.written sink.old) (K.written sink.new) out.new
+        (out.old.held ++ (answer_text (answer_view answer.now) ++ 10 ∷ [])) result }
+    ensures empty { OnOk result (out.new.held ≡ []) }
+    ensures flushed { OnOk result (IsTrue (K.flushed sink.new)) }
+    ensures flushes { K.flushes sink.new ≡ flushes_after (K.flushes sink.old) result }
+    ensures cause { HasCause (K.faults sink.old) (K.faults sink.new) result }
+{
+    if let Err(fault) = write_answer(answer, out, sink, steps) {
+        return Err(fault);
+    }
+    out.flush(sink)
+}
+
+// Puts the text of an answer, with its line end.
+fn write_answer<K: Sink, L: Ledger>(
+    answer: &Answer<'_, '_>,
+    out: &mut Out,
+    sink: &mut K,
+    steps: &mut Steps<L>,
+) -> Result<(), WriteFault>
+    requires open { IsTrue out.old.is_open }
+    requires answer { IsAnswer answer.now }
     ensures bytes { Moves (K.written sink.old) (K.written sink.new) out.new
         (out.old.held ++ (answer_text (answer_view answer.now) ++ 10 ∷ [])) result }
     ensures flushes { K.flushes sink.new ≡ K.flushes sink.old }
     ensures cause { HasCause (K.faults sink.old) (K.faults sink.new) result }
 {
     match answer {
-        Answer::Bound(name) => write_named(out, sink, b"{\"bound\":", *name, b"}\n"),
-        Answer::Value(array) => write_value(out, sink, array, steps),
-        Answer::Fault(fault) => write_fault(out, sink, fault),
+        Answer::Bound(name) => {
+            write_quoted_between(b"{\"bound\":", name.as_bytes(), b"}\n", out, sink)
+        }
+        Answer::Value(datum) => write_value(datum, out, sink, steps),
+        Answer::Type(text) => write_quoted_between(b"{\"type\":", text, b"}\n", out, sink),
+        Answer::Names(names) => write_names(names, out, sink),
+        Answer::Fault(fault) => write_fault(fault, out, sink),
     }
 }
 
-// Puts the value of an array, as a whole answer.
+// Puts the value of a datum, as a whole answer.
 fn write_value<K: Sink, L: Ledger>(
+    datum: &Datum<'_>,
     out: &mut Out,
     sink: &mut K,
-    array: &Array<'_>,
     steps: &mut Steps<L>,
 ) -> Result<(), WriteFault>
     requires open { IsTrue out.old.is_open }
-    ensures bytes { Moves (K.written sink.old) (K.written sink.new) out.new
-        (out.old.held ++ (codes "{\"value\":" ++ datum_text (array_datum array.now) ++ (125 ∷ 10 ∷ []))) result }
+    requires datum { IsDatum datum.now }
+    ensures bytes { Moves (K.written sink.old) (K.written sink.new) out.new (out.old.held
+        ++ (codes "{\"value\":" ++ datum_text (datum_of datum.now) ++ (125 ∷ 10 ∷ []))) result }
     ensures flushes { K.flushes sink.new ≡ K.flushes sink.old }
     ensures cause { HasCause (K.faults sink.old) (K.faults sink.new) result }
 {
     out.put(sink, b"{\"value\":")?;
-    write_array(array, out, sink, steps)?;
+    write_datum(datum, out, sink, steps)?;
+    out.put(sink, b"}\n")
+}
+
+// Puts an array as the list of its items, and a single value by itself.
+fn write_datum<K: Sink, L: Ledger>(
+    datum: &Datum<'_>,
+    out: &mut Out,
+    sink: &mut K,
+    steps: &mut Steps<L>,
+) -> Result<(), WriteFault>
+    requires open { IsTrue out.old.is_open }
+    requires datum { IsDatum datum.now }
+    ensures bytes { Moves (K.written sink.old) (K.written sink.new) out.new
+        (out.old.held ++ datum_text (datum_of datum.now)) result }
+    ensures flushes { K.flushes sink.new ≡ K.flushes sink.old }
+    ensures cause { HasCause (K.faults sink.old) (K.faults sink.new) result }
+{
+    match datum {
+        Datum::Arr(array) => write_array(array, out, sink, steps),
+        Datum::One(array) => write_item(array, 0, out, sink, steps),
+    }
+}
+
+// Puts the list of names, as a whole answer.
+fn write_names<K: Sink>(names: &Names, out: &mut Out, sink: &mut K) -> Result<(), WriteFault>
+    requires open { IsTrue out.old.is_open }
+    ensures bytes { Moves (K.written sink.old) (K.written sink.new) out.new (out.old.held
+        ++ (codes "{\"names\":" ++ list_text (map quoted names.now) ++ (125 ∷ 10 ∷ []))) result }
+    ensures flushes { K.flushes sink.new ≡ K.flushes sink.old }
+    ensures cause { HasCause (K.faults sink.old) (K.faults sink.new) result }
+{
+    out.put(sink, b"{\"names\":")?;
+    awk_form::write_names(names, out, sink)?;
     out.put(sink, b"}\n")
 }

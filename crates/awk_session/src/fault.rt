@@ -11,15 +11,14 @@ pub enum AnswerFault {
     Json,
     /// The line is JSON, and no line of a session.
     Query,
-    /// The line is of a kind that is not built yet.
-    Unbuilt,
     /// The first break of the form: a node by its number in pre-order, and the cause against it.
     Form { node: u64, why: FormWhy },
     /// The buffer of a key, and the cause against it.
     Buffer { key: Name, why: BufferFault },
     /// A place of a node, which is told by its number in pre-order, and the rule that it breaks.
     Invalid { node: u64, rule: Rule, place: u64 },
-    /// A variable is not bound, a limit is passed, or an operation has no result. It is never want of memory.
+    /// A variable is not bound, a limit is passed, or an operation has no result. It is never want
+    /// of memory.
     Evaluation(Fault),
 }
 
@@ -36,7 +35,8 @@ impl From<FormFault> for Refused {
     ghost use Rattle.awk_session.specs.Told.{refused_told};
     ghost use Rattle.awk_session.specs.Load.{form_fault};
 
-    ghost from_gives = { λ fault refused. refused_told refused ≡ option_map form_fault (refusal_told fault) };
+    ghost from_gives = { λ fault refused.
+        refused_told refused ≡ option_map form_fault (refusal_told fault) };
 
     fn from(fault: FormFault) -> Refused {
         match fault {
@@ -54,7 +54,8 @@ impl From<LoadFault> for Refused {
     ghost use Rattle.awk_session.specs.Told.{refused_told};
     ghost use Rattle.awk_session.specs.Load.{walk_fault};
 
-    ghost from_gives = { λ fault refused. refused_told refused ≡ option_map walk_fault (told fault) };
+    ghost from_gives = { λ fault refused.
+        refused_told refused ≡ option_map walk_fault (told fault) };
 
     fn from(fault: LoadFault) -> Refused {
         match fault {

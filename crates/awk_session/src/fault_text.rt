@@ -1,12 +1,14 @@
 //! The texts of the faults that answer a line.
-ghost use Rattle.std.specs.Prelude.{◌≡◌, ◌∷◌, [], ◌++◌, IsTrue, codes};
+ghost use Rattle.std.specs.Prelude.{◌≡◌, ◌≢◌, ◌∷◌, [], ◌++◌, IsTrue, codes};
 ghost use Rattle.awk_edge.specs.Causes.{HasCause};
 ghost use Rattle.awk_edge.specs.Put.{Moves};
-ghost use Rattle.awk_session.specs.FaultText.{fault_text, evaluation_text, why_text, buffer_text, rule_text};
+ghost use Rattle.awk_text.specs.FaultText.{fault_text as evaluation_text};
+ghost use Rattle.awk_session.specs.AnswerView.{IsTold};
+ghost use Rattle.awk_session.specs.FaultText.{fault_text, why_text, buffer_text, rule_text};
 ghost use Rattle.awk_session.specs.declared.fault.AnswerFault.TheVariants.{Invalid};
 
 use crate::fault::AnswerFault;
-use crate::pieces::{write_named, write_numbered};
+use crate::pieces::{write_numbered, write_quoted_between};
 use awk_edge::{Out, Sink, WriteFault};
 use awk_form::FormWhy;
 use awk_types::Fault;
@@ -14,11 +16,12 @@ use awk_valid::{BufferFault, Rule};
 
 /// Puts the text of a fault, with its line end.
 pub fn write_fault<K: Sink>(
+    fault: &AnswerFault,
     out: &mut Out,
     sink: &mut K,
-    fault: &AnswerFault,
 ) -> Result<(), WriteFault>
     requires open { IsTrue out.old.is_open }
+    requires told { IsTold fault.now }
     ensures bytes { Moves (K.written sink.old) (K.written sink.new) out.new
         (out.old.held ++ (fault_text fault.now ++ 10 ∷ [])) result }
     ensures flushes { K.flushes sink.new ≡ K.flushes sink.old }
@@ -27,59 +30,47 @@ pub fn write_fault<K: Sink>(
     match fault {
         AnswerFault::Json => out.put(sink, b"{\"fault\":\"json\"}\n"),
         AnswerFault::Query => out.put(sink, b"{\"fault\":\"query\"}\n"),
-        AnswerFault::Unbuilt => out.put(sink, b"{\"fault\":\"unbuilt\"}\n"),
         AnswerFault::Form { node, why } => {
             let head = b"{\"fault\":\"form\",\"node\":";
-            write_numbered(out, sink, head, *node, why_member(*why))
+            write_numbered(head, *node, why_member(*why), out, sink)
         }
         AnswerFault::Buffer { key, why } => {
             let head = b"{\"fault\":\"buffer\",\"key\":";
-            write_named(out, sink, head, key.as_str(), buffer_member(*why))
+            write_quoted_between(
+                head,
+                key.as_str().as_bytes(),
+                buffer_member(*why),
+                out,
+                sink,
+            )
         }
         AnswerFault::Invalid { node, rule, place } => {
-            write_invalid(out, sink, *node, *rule, *place)
+            write_invalid(*node, *rule, *place, out, sink)
         }
-        AnswerFault::Evaluation(fault) => write_evaluation(out, sink, fault),
+        AnswerFault::Evaluation(fault) => write_evaluation(fault, out, sink),
     }
 }
 
 // Puts the text of a fault of evaluation, with its line end.
-fn write_evaluation<K: Sink>(out: &mut Out, sink: &mut K, fault: &Fault) -> Result<(), WriteFault>
+fn write_evaluation<K: Sink>(fault: &Fault, out: &mut Out, sink: &mut K) -> Result<(), WriteFault>
     requires open { IsTrue out.old.is_open }
+    requires told { fault.now ≢ Fault.NoMemory }
     ensures bytes { Moves (K.written sink.old) (K.written sink.new) out.new
         (out.old.held ++ (evaluation_text fault.now ++ 10 ∷ [])) result }
     ensures flushes { K.flushes sink.new ≡ K.flushes sink.old }
     ensures cause { HasCause (K.faults sink.old) (K.faults sink.new) result }
 {
-    match fault {
-        Fault::Unbound(name) => {
-            let head = b"{\"fault\":\"name\",\"name\":";
-            write_named(out, sink, head, name.as_str(), b"}\n")
-        }
-        Fault::NoField(field) => {
-            let head = b"{\"fault\":\"field\",\"field\":";
-            write_named(out, sink, head, field.as_str(), b"}\n")
-        }
-        Fault::Axis => out.put(sink, b"{\"fault\":\"axis\"}\n"),
-        Fault::WrongType => out.put(sink, b"{\"fault\":\"type\"}\n"),
-        Fault::Overflow => out.put(sink, b"{\"fault\":\"overflow\"}\n"),
-        Fault::Zero => out.put(sink, b"{\"fault\":\"zero\"}\n"),
-        Fault::Depth => out.put(sink, b"{\"fault\":\"depth\"}\n"),
-        Fault::Size => out.put(sink, b"{\"fault\":\"size\"}\n"),
-        Fault::Lengths => out.put(sink, b"{\"fault\":\"lengths\"}\n"),
-        Fault::Index => out.put(sink, b"{\"fault\":\"index\"}\n"),
-        Fault::Unbuilt => out.put(sink, b"{\"fault\":\"unbuilt\"}\n"),
-        Fault::NoMemory => out.put(sink, b"\n"),
-    }
+    awk_text::write_fault(fault, out, sink)?;
+    out.put(sink, b"\n")
 }
 
 // Puts the rule that a place of a node breaks, as a whole answer.
 fn write_invalid<K: Sink>(
-    out: &mut Out,
-    sink: &mut K,
     node: u64,
     rule: Rule,
     place: u64,
+    out: &mut Out,
+    sink: &mut K,
 ) -> Result<(), WriteFault>
     requires open { IsTrue out.old.is_open }
     ensures bytes { Moves (K.written sink.old) (K.written sink.new) out.new
@@ -88,8 +79,8 @@ fn write_invalid<K: Sink>(
     ensures cause { HasCause (K.faults sink.old) (K.faults sink.new) result }
 {
     let head = b"{\"fault\":\"invalid\",\"node\":";
-    write_numbered(out, sink, head, node, rule_member(rule))?;
-    write_numbered(out, sink, b",\"place\":", place, b"}\n")
+    write_numbered(head, node, rule_member(rule), out, sink)?;
+    write_numbered(b",\"place\":", place, b"}\n", out, sink)
 }
 
 // The member that tells the cause against a node of a form, with the line's end.

@@ -5,8 +5,11 @@ mod answer;
 mod engine;
 mod fault;
 mod fault_text;
+mod line;
 mod load;
 mod pieces;
+mod reply;
+mod type_text;
 
 pub use answer::Answered;
 pub use engine::{Engine, LineEnd, is_blank};

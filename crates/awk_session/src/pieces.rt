@@ -1,38 +1,38 @@
-//! Texts with a name or a number in them.
+//! Texts with a text in quotes or a number in them.
 ghost use Rattle.std.specs.Prelude.{◌≡◌, ◌++◌, IsTrue, decimal};
 ghost use Rattle.awk_edge.specs.Causes.{HasCause};
 ghost use Rattle.awk_edge.specs.Put.{Moves};
 ghost use Rattle.awk_json.specs.Text.{quoted};
 
 use awk_edge::{Out, Sink, WriteFault};
-use awk_json::{write_number, write_text};
+use awk_json::{write_number, write_quoted};
 
-/// Puts a name, as a JSON text, between two texts.
-pub fn write_named<K: Sink>(
+/// Puts a text in quotes, each special byte escaped, between two texts.
+pub fn write_quoted_between<K: Sink>(
+    head: &[u8],
+    text: &[u8],
+    tail: &[u8],
     out: &mut Out,
     sink: &mut K,
-    head: &[u8],
-    name: &str,
-    tail: &[u8],
 ) -> Result<(), WriteFault>
     requires open { IsTrue out.old.is_open }
     ensures bytes { Moves (K.written sink.old) (K.written sink.new) out.new
-        (out.old.held ++ (head.now ++ quoted name.now ++ tail.now)) result }
+        (out.old.held ++ (head.now ++ quoted text.now ++ tail.now)) result }
     ensures flushes { K.flushes sink.new ≡ K.flushes sink.old }
     ensures cause { HasCause (K.faults sink.old) (K.faults sink.new) result }
 {
     out.put(sink, head)?;
-    write_text(out, sink, name)?;
+    write_quoted(out, sink, text)?;
     out.put(sink, tail)
 }
 
 /// Puts a number between two texts.
 pub fn write_numbered<K: Sink>(
-    out: &mut Out,
-    sink: &mut K,
     head: &[u8],
     number: u64,
     tail: &[u8],
+    out: &mut Out,
+    sink: &mut K,
 ) -> Result<(), WriteFault>
     requires open { IsTrue out.old.is_open }
     ensures bytes { Moves (K.written sink.old) (K.written sink.new) out.new

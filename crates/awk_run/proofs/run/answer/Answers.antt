@@ -1,11 +1,12 @@
 use Rattle.std.proofs.Common.{refl, sym}
+use Rattle.awk_eval.specs.Variables.{denoted}
 use Rattle.awk_session.proofs.StepLaws.{step-blank}
 use Rattle.awk_edge.proofs.Known.{Appends-none}
 use Rattle.awk_run.proofs.run.answer.Goals as goal
 
 pub returns-then-is_blank-clause-answers : goal.returns-then-is_blank-clause-answers
 returns-then-is_blank-clause-answers g c =
-    let e = step-blank c.args.engine.now c.args.line.now (sym c.if-is_blank.ensures) in
+    let e = step-blank (denoted c.args.engine.now) c.args.line.now (sym c.if-is_blank.ensures) in
     record {
       appends = rw e (Appends-none _);
       held = c.requires.empty;

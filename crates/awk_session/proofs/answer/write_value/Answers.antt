@@ -1,21 +1,21 @@
 use Rattle.std.proofs.Common.{◌++◌, [], ◌∷◌, codes, refl, arith}
 use Rattle.awk_json.proofs.Puts.{stops, goes}
 use Rattle.awk_session.specs.Answer.{datum_text}
-use Rattle.awk_layout.specs.Typing.{array_datum}
+use Rattle.awk_layout.specs.Datum.{datum_of}
 use Rattle.awk_session.proofs.Parts.{first_part, three_parts}
 use Rattle.awk_session.proofs.answer.write_value.Goals as goal
 
 pub returns-in_err-put-clause-bytes : goal.returns-in_err-put-clause-bytes
 returns-in_err-put-clause-bytes g c =
-    let text = datum_text (array_datum c.args.array.now) in
+    let text = datum_text (datum_of c.args.datum.now) in
     stops c.in_err-put.ensures.bytes (grind arith) (text ++ (125 ∷ 10 ∷ [])) (first_part c.args.out.now.held (codes "{\"value\":") text (125 ∷ 10 ∷ []))
 
-pub returns-in_err-write_array-clause-bytes : goal.returns-in_err-write_array-clause-bytes
-returns-in_err-write_array-clause-bytes g c =
-    let text = datum_text (array_datum c.args.array.now) in
-    stops (goes c.in_ok-put.ensures.bytes c.in_err-write_array.ensures.bytes text refl refl) (grind arith) (125 ∷ 10 ∷ []) (three_parts c.args.out.now.held (codes "{\"value\":") text (125 ∷ 10 ∷ []))
+pub returns-in_err-write_datum-clause-bytes : goal.returns-in_err-write_datum-clause-bytes
+returns-in_err-write_datum-clause-bytes g c =
+    let text = datum_text (datum_of c.args.datum.now) in
+    stops (goes c.in_ok-put.ensures.bytes c.in_err-write_datum.ensures.bytes text refl refl) (grind arith) (125 ∷ 10 ∷ []) (three_parts c.args.out.now.held (codes "{\"value\":") text (125 ∷ 10 ∷ []))
 
 pub returns-clause-bytes : goal.returns-clause-bytes
 returns-clause-bytes g c =
-    let text = datum_text (array_datum c.args.array.now) in
-    goes (goes c.in_ok-put.ensures.bytes c.in_ok-write_array.ensures.bytes text refl refl) c.put-2.ensures.bytes (125 ∷ 10 ∷ []) refl (three_parts c.args.out.now.held (codes "{\"value\":") text (125 ∷ 10 ∷ []))
+    let text = datum_text (datum_of c.args.datum.now) in
+    goes (goes c.in_ok-put.ensures.bytes c.in_ok-write_datum.ensures.bytes text refl refl) c.put-2.ensures.bytes (125 ∷ 10 ∷ []) refl (three_parts c.args.out.now.held (codes "{\"value\":") text (125 ∷ 10 ∷ []))

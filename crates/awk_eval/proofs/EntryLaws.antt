@@ -1,0 +1,60 @@
+-- The variables that the entries of a map are.
+use Rattle.std.proofs.Common.{◌≡◌, ℕ, Bool, true, false, cond, List, [], ◌∷◌, Option, Some, None, option_map, slice_get, String, Global, string_bytes, IfSome, Bor, refl, ap, ◌∙◌}
+use Rattle.std.specs.List.{AllByRecursion}
+use Rattle.std.specs.Map.{lookup}
+use Rattle.std.specs.Str.{bytes_eq}
+use Rattle.std.specs.String.{string_eq}
+use Rattle.std.proofs.lemmas.Option.{slice_get-map}
+use Rattle.indexmap.specs.IndexMap.{insert_entry}
+use Rattle.awk_types.specs.DataType.{Name}
+use Rattle.awk_layout.specs.Datum.{IsDatum}
+use Rattle.awk_layout.specs.declared.datum.Datum.{Datum}
+use Rattle.awk_eval.specs.Bindings.{look_up, bind, names}
+use Rattle.awk_eval.specs.Variables.{Variables}
+use Rattle.awk_eval.specs.Entries.{variables_of, HoldsDatum}
+
+variables_of-cond : (b : Bool) (es fs : List (String Global × Datum)) → variables_of (cond b es fs) ≡ cond b (variables_of es) (variables_of fs)
+variables_of-cond true es fs = refl
+variables_of-cond false es fs = refl
+
+-- an entry more is a name bound
+pub variables_of-insert_entry : (es : List (String Global × Datum)) (k : String Global) (x : Datum) → variables_of (insert_entry string_eq es k x) ≡ bind (string_bytes k) x (variables_of es)
+variables_of-insert_entry [] k x = refl
+variables_of-insert_entry (e ∷ es) k x = variables_of-cond (string_eq k e.0) _ _ ∙ rw (variables_of-insert_entry es k x) refl
+
+-- what a name is bound to is what a look-up finds
+pub look_up-variables_of : (n : Name) (es : List (String Global × Datum)) → look_up n (variables_of es) ≡ lookup (λ k. bytes_eq n (string_bytes k)) es
+look_up-variables_of n [] = refl
+look_up-variables_of n (e ∷ es) = ap (λ r. cond (bytes_eq n (string_bytes e.0)) (Some e.1) r) (look_up-variables_of n es)
+
+-- the name at a place
+pub name-at : (es : List (String Global × Datum)) (i : ℕ) (e : String Global × Datum) → slice_get es i ≡ Some e → slice_get (names (variables_of es)) i ≡ Some (string_bytes e.0)
+name-at es i e at =
+    slice_get-map (λ (v : Name × Datum). v.0) (variables_of es) i
+    ∙ ap (option_map (λ (v : Name × Datum). v.0)) (slice_get-map (λ (d : String Global × Datum). let v : Name × Datum = (string_bytes d.0, d.1) in v) es i ∙ ap (option_map (λ (d : String Global × Datum). let v : Name × Datum = (string_bytes d.0, d.1) in v)) at)
+
+-- ---- each is a datum
+
+holds-cond : (b : Bool) (vs ws : Variables) → AllByRecursion HoldsDatum vs → AllByRecursion HoldsDatum ws → AllByRecursion HoldsDatum (cond b vs ws)
+holds-cond true vs ws h k = h
+holds-cond false vs ws h k = k
+
+pub holds-bind : (n : Name) (x : Datum) (vs : Variables) → IsDatum x → AllByRecursion HoldsDatum vs → AllByRecursion HoldsDatum (bind n x vs)
+holds-bind n x [] d h = (d, tt)
+holds-bind n x (v ∷ vs) d h = holds-cond (bytes_eq n v.0) ((v.0, x) ∷ vs) (v ∷ bind n x vs) (d, h.1) (h.0, holds-bind n x vs d h.1)
+
+abbrev pub MayHold : Option Datum → Type 0
+MayHold None = Unit {0}
+MayHold (Some x) = IsDatum x
+
+may-cond : (b : Bool) (x : Datum) (o : Option Datum) → IsDatum x → MayHold o → MayHold (cond b (Some x) o)
+may-cond true x o d h = d
+may-cond false x o d h = h
+
+pub holds-look_up : (n : Name) (vs : Variables) → AllByRecursion HoldsDatum vs → MayHold (look_up n vs)
+holds-look_up n [] h = tt
+holds-look_up n (v ∷ vs) h = may-cond (bytes_eq n v.0) v.1 (look_up n vs) h.0 (holds-look_up n vs h.1)
+
+pub datum-if : (o : Option (Bor Datum)) → MayHold (option_map (λ (x : Bor Datum). x.now) o) → IfSome o (λ x. IsDatum x.now)
+datum-if None h = tt
+datum-if (Some x) h = h

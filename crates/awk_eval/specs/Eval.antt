@@ -1,0 +1,113 @@
+-- What an expression is over an environment: a datum, or the first fault.
+use Rattle.std.specs.Prelude.{ℕ, suc, ℤ, pos, negsuc, int_le, Bool, true, ◌&&◌, List, [], ◌∷◌, Option, Some, None, Result, Ok, Err, if◌then◌else◌}
+use Rattle.awk_types.specs.DataType.{Name, leaf}
+use Rattle.awk_types.specs.Value.{int, truth}
+use Rattle.awk_types.specs.Datum.{Datum, arr, one}
+use Rattle.awk_types.specs.Settle.{settle}
+use Rattle.awk_types.specs.Gives.{refused_or}
+use Rattle.awk_types.specs.declared.primitive.Primitive.TheVariants as primitive
+use Rattle.awk_types.specs.declared.fault.Fault.{Fault}
+use Rattle.awk_types.specs.declared.fault.Fault.TheVariants.{Unbound, WrongType, Overflow, Unbuilt}
+use Rattle.awk_query.specs.ExprTree as tree
+use Rattle.awk_query.specs.ExprTree.{ExprTree, ExprTrees, no_exprs, expr}
+use Rattle.awk_query.specs.declared.op.Op.{Op}
+use Rattle.awk_query.specs.declared.op.Op.TheVariants as op
+use Rattle.awk_query.specs.declared.fixed.FixedArg.{FixedArg}
+use Rattle.awk_view.specs.Choice.{Choice, field, fields, without, chosen_type, chosen_value}
+use Rattle.awk_view.specs.Answer.{choice_fault, choice_answer}
+use Rattle.awk_eval.specs.Bindings.{look_up}
+use Rattle.awk_eval.specs.Variables.{Environment}
+use Rattle.awk_eval.specs.Operand.{Operand, of, literal, only_in, takes_literal}
+use Rattle.awk_eval.specs.Fixed.{bounds_in, text_in, texts_in}
+use Rattle.awk_eval.specs.Ranges.{range_items}
+
+-- ---- results: the first fault wins
+
+abbrev pub and_then : {A B : Type 0} → (A → Result B Fault) → Result A Fault → Result B Fault
+and_then f (Ok a) = f a
+and_then f (Err e) = Err e
+
+abbrev pub mapped : {A B : Type 0} → (A → B) → Result A Fault → Result B Fault
+mapped f (Ok a) = Ok (f a)
+mapped f (Err e) = Err e
+
+-- ---- single values
+
+abbrev pub found : Name → Option Datum → Result Datum Fault
+found n None = Err (Unbound n)
+found n (Some d) = Ok d
+
+abbrev pub fits_int64 : ℤ → Bool
+fits_int64 z = int_le (negsuc 9223372036854775807) z && int_le z (pos 9223372036854775807)
+
+-- a whole number by itself is of int64
+abbrev pub int64_of : ℤ → Result Datum Fault
+int64_of z = if fits_int64 z then Ok (one (leaf primitive.I64) (int z)) else Err Overflow
+
+abbrev pub bool_of : Bool → Datum
+bool_of b = one (leaf primitive.Bool) (truth b)
+
+-- ---- operations
+
+-- a range of step 1 of an array
+abbrev pub range_of : FixedArg × FixedArg → Datum → Result Datum Fault
+range_of bounds (arr t vs) = Ok (arr t (range_items bounds.0 bounds.1 vs))
+range_of bounds (one t v) = Err WrongType
+
+-- what is chosen of a datum
+abbrev pub choice_of : Choice → Datum → Result Datum Fault
+choice_of c (arr t vs) = choice_answer c t vs
+choice_of c (one t v) = refused_or (choice_fault c t) (one (chosen_type c t) (chosen_value c t v))
+
+abbrev pub settled : Datum → Datum
+settled (arr t vs) = arr t vs
+settled (one t v) = settle t v
+
+-- the field of a single value is settled
+abbrev pub field_of : Name → Datum → Result Datum Fault
+field_of n d = mapped settled (choice_of (field n) d)
+
+abbrev pub fields_of : List Name → Datum → Result Datum Fault
+fields_of ns d = choice_of (fields ns) d
+
+abbrev pub without_of : Name → Datum → Result Datum Fault
+without_of n d = choice_of (without n) d
+
+-- an operation on one datum, with another argument
+abbrev pub given : {A : Type 0} → (A → Datum → Result Datum Fault)
+    → Option A → Option Datum → Result Datum Fault
+given f (Some a) (Some d) = f a d
+given f (Some a) None = Err Unbuilt
+given f None d = Err Unbuilt
+
+-- an operation on its operands; those that are not built yet answer so
+abbrev pub apply : Op → List FixedArg → List Operand → Result Datum Fault
+apply op.Range fixed operands = given range_of (bounds_in fixed) (only_in operands)
+apply op.Field fixed operands = given field_of (text_in fixed) (only_in operands)
+apply op.Fields fixed operands = given fields_of (texts_in fixed) (only_in operands)
+apply op.WithoutField fixed operands = given without_of (text_in fixed) (only_in operands)
+apply _ fixed operands = Err Unbuilt
+
+-- ---- expressions
+
+-- a whole number is a literal where the operation takes one
+abbrev pub operand_of : Bool → ExprTree → Result Datum Fault → Result Operand Fault
+operand_of true (tree.whole z) evaluated = Ok (literal z)
+operand_of _ e evaluated = mapped of evaluated
+
+abbrev pub joined : Result Operand Fault → Result (List Operand) Fault
+    → Result (List Operand) Fault
+joined first later = and_then (λ x. mapped (λ xs. x ∷ xs) later) first
+
+abbrev mutual
+  pub eval : Environment → ExprTree → Result Datum Fault
+  eval env (tree.var n) = found n (look_up n env)
+  eval env (tree.whole z) = int64_of z
+  eval env (tree.truth b) = Ok (bool_of b)
+  eval env (tree.call o es fixed) = and_then (apply o fixed) (operands env o 0 es)
+
+  -- those from the k-th expression of an operation on, from left to right: the first fault is told
+  pub operands : Environment → Op → ℕ → ExprTrees → Result (List Operand) Fault
+  operands env o k no_exprs = Ok []
+  operands env o k (expr e es) =
+      joined (operand_of (takes_literal o k) e (eval env e)) (operands env o (suc k) es)

@@ -1,0 +1,33 @@
+-- What an operation takes: a datum, or a whole number that takes its type from where it stands.
+use Rattle.std.specs.Prelude.{ℕ, ℤ, Bool, true, false, ◌==◌, List, [], ◌∷◌, Option, Some, None, if◌then◌else◌}
+use Rattle.awk_types.specs.Datum.{Datum}
+use Rattle.awk_query.specs.declared.op.Op.{Op}
+use Rattle.awk_query.specs.declared.op.Op.TheVariants as op
+
+pub data Operand : Type 0 where
+  of : Datum → Operand
+  literal : ℤ → Operand
+
+-- Whether a whole number as the k-th expression of an operation takes its type from there: as an
+-- operand of arithmetic or of a comparison, as one of the two that `where` chooses from, and as
+-- what fills nulls.
+abbrev pub takes_literal : Op → ℕ → Bool
+takes_literal op.Add k = true
+takes_literal op.Sub k = true
+takes_literal op.Mul k = true
+takes_literal op.FloorDiv k = true
+takes_literal op.Rem k = true
+takes_literal op.Eq k = true
+takes_literal op.Ne k = true
+takes_literal op.Lt k = true
+takes_literal op.Le k = true
+takes_literal op.Gt k = true
+takes_literal op.Ge k = true
+takes_literal op.Choose k = if k == 0 then false else true
+takes_literal op.FillNone k = k == 1
+takes_literal _ k = false
+
+-- the only operand, where it is a datum
+abbrev pub only_in : List Operand → Option Datum
+only_in (of d ∷ []) = Some d
+only_in _ = None

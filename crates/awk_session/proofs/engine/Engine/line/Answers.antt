@@ -1,6 +1,0 @@
-use Rattle.std.proofs.Common.{sym}
-use Rattle.awk_session.proofs.StepLaws.{step-line}
-use Rattle.awk_session.proofs.engine.Engine.line.Goals as goal
-
-pub returns-in-Ok-clause-leaves : goal.returns-in-Ok-clause-leaves
-returns-in-Ok-clause-leaves g c = rw (step-line c.args.self.now c.args.bytes.now c.requires.not_blank, sym c.in-Ok.ensures.said) c.reply.ensures.leaves

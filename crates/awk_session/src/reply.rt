@@ -1,0 +1,222 @@
+//! What a line binds, and its answer.
+ghost use Rattle.std.specs.Prelude.{◌≡◌, IfOk, OnOk, OnErr};
+ghost use Rattle.serde_json.specs.View.{view, members_view};
+ghost use Rattle.awk_store.specs.Buffers.{HoldsTexts};
+ghost use Rattle.awk_layout.specs.Datum.{datum_of, IsDatum};
+ghost use Rattle.awk_query.specs.Allowed.{IsAllowed, IsAllowedLine};
+ghost use Rattle.awk_query.specs.LineView.{line_view};
+ghost use Rattle.awk_query.specs.View.{expr_of};
+ghost use Rattle.awk_eval.specs.Bindings as bindings;
+ghost use Rattle.awk_eval.specs.Eval as meaning;
+ghost use Rattle.awk_eval.specs.Variables.{denoted};
+ghost use Rattle.awk_session.specs.Answer as answers;
+ghost use Rattle.awk_session.specs.AnswerView.{answer_view, IsAnswer};
+ghost use Rattle.awk_session.specs.Load.{loaded};
+ghost use Rattle.awk_session.specs.ReadView.{read_view};
+ghost use Rattle.awk_session.specs.Replies as replies;
+ghost use Rattle.awk_session.specs.declared.fault.AnswerFault.TheVariants.{Evaluation};
+
+use crate::answer::Answer;
+use crate::fault::{AnswerFault, Refused};
+use crate::line::Read;
+use crate::load::load;
+use crate::type_text::type_text;
+use awk_eval::{Env, eval};
+use awk_kernels::Plain;
+use awk_lanes::{Arena, Steps};
+use awk_layout::Datum;
+use awk_query::{Expr, Line};
+use awk_types::{Fault, Name, Names};
+use serde_json::{Map, Value};
+use std::alloc::{AllocError, Global};
+use std::sync::ledger::Ledger;
+
+/// Binds what a line binds, in the arena that is kept, and gives its answer, which it does not put
+/// out. What is only shown lies in the other arena.
+pub fn reply<'v, 's, 'a: 's, L: Ledger>(
+    alloc: Global,
+    env: &mut Env<'a>,
+    read: &'v Read,
+    kept: &'a Arena,
+    arena: &'s Arena,
+    steps: &mut Steps<L>,
+) -> Result<Answer<'v, 's>, AllocError>
+    requires allowed { IfOk (read_view read.now) IsAllowedLine }
+    ensures reply { IfOk result (λ answer.
+        replies.reply (denoted env.old) (read_view read.now)
+        ≡ record { answer = answer_view answer; after = denoted env.new }) }
+    ensures answer { IfOk result IsAnswer }
+    ensures same { OnErr result (env.new ≡ env.old) }
+{
+    match read {
+        Read::Line(line) => reply_line(alloc, env, line, kept, arena, steps),
+        Read::Json => Ok(Answer::Fault(AnswerFault::Json)),
+        Read::Query => Ok(Answer::Fault(AnswerFault::Query)),
+    }
+}
+
+// The same of a line that was read.
+fn reply_line<'v, 's, 'a: 's, L: Ledger>(
+    alloc: Global,
+    env: &mut Env<'a>,
+    line: &'v Line,
+    kept: &'a Arena,
+    arena: &'s Arena,
+    steps: &mut Steps<L>,
+) -> Result<Answer<'v, 's>, AllocError>
+    requires allowed { IsAllowedLine (line_view line.now) }
+    ensures reply { IfOk result (λ answer.
+        replies.reply_line (denoted env.old) (line_view line.now)
+        ≡ record { answer = answer_view answer; after = denoted env.new }) }
+    ensures answer { IfOk result IsAnswer }
+    ensures same { OnErr result (env.new ≡ env.old) }
+{
+    match line {
+        Line::Load {
+            name,
+            form,
+            length,
+            buffers,
+        } => bind_loaded(alloc, env, name, form, *length, buffers, kept, steps),
+        Line::Let { name, be } => bind_made(alloc, env, name, be, kept, steps),
+        Line::Show(e) => show(alloc, env, e, arena, steps),
+        Line::TypeOf(e) => show_type(alloc, env, e, arena, steps),
+        Line::Pack(e) => pack(alloc, env, e, arena, steps),
+        Line::Names => Ok(Answer::Names(names_of(alloc, env)?)),
+    }
+}
+
+// Binds a name to what a load line loads, if it loads.
+fn bind_loaded<'v, 's, 'a: 's, L: Ledger>(
+    alloc: Global,
+    env: &mut Env<'a>,
+    name: &'v Name,
+    form: &Value,
+    length: u64,
+    buffers: &Map<String, Value>,
+    kept: &'a Arena,
+    steps: &mut Steps<L>,
+) -> Result<Answer<'v, 's>, AllocError>
+    requires texts { HoldsTexts (members_view buffers.now.entries) }
+    ensures reply { IfOk result (λ answer.
+        replies.reply_bind (denoted env.old) name.now
+        (loaded (view form.now) length (members_view buffers.now.entries))
+        ≡ record { answer = answer_view answer; after = denoted env.new }) }
+    ensures answer { IfOk result IsAnswer }
+    ensures same { OnErr result (env.new ≡ env.old) }
+{
+    match load(alloc, form, length, buffers, kept, steps) {
+        Ok(array) => {
+            env.bind(name.copy(alloc)?, Datum::Arr(array))?;
+            Ok(Answer::Bound(name.as_str()))
+        }
+        Err(Refused::Told(fault)) => Ok(Answer::Fault(fault)),
+        Err(Refused::NoMemory) => Err(AllocError),
+    }
+}
+
+// Binds a name to what an expression is, if it is something.
+fn bind_made<'v, 's, 'a: 's, L: Ledger>(
+    alloc: Global,
+    env: &mut Env<'a>,
+    name: &'v Name,
+    e: &Expr,
+    kept: &'a Arena,
+    steps: &mut Steps<L>,
+) -> Result<Answer<'v, 's>, AllocError>
+    requires allowed { IsAllowed (expr_of e.now) }
+    ensures reply { IfOk result (λ answer.
+        replies.reply_bind (denoted env.old) name.now
+        (replies.evaluated (meaning.eval (denoted env.old) (expr_of e.now)))
+        ≡ record { answer = answer_view answer; after = denoted env.new }) }
+    ensures answer { IfOk result IsAnswer }
+    ensures same { OnErr result (env.new ≡ env.old) }
+{
+    match eval(alloc, env, e, &Plain, kept, steps) {
+        Ok(datum) => {
+            env.bind(name.copy(alloc)?, datum)?;
+            Ok(Answer::Bound(name.as_str()))
+        }
+        Err(fault) => refused(fault),
+    }
+}
+
+// The value of an expression, or its fault.
+fn show<'v, 's, 'a: 's, L: Ledger>(
+    alloc: Global,
+    env: &Env<'a>,
+    e: &Expr,
+    arena: &'s Arena,
+    steps: &mut Steps<L>,
+) -> Result<Answer<'v, 's>, AllocError>
+    requires allowed { IsAllowed (expr_of e.now) }
+    ensures shown { IfOk result (λ answer. answer_view answer
+        ≡ replies.telling answers.value (meaning.eval (denoted env.now) (expr_of e.now))) }
+    ensures answer { IfOk result IsAnswer }
+{
+    match eval(alloc, env, e, &Plain, arena, steps) {
+        Ok(datum) => Ok(Answer::Value(datum)),
+        Err(fault) => refused(fault),
+    }
+}
+
+// The type of an expression, or its fault.
+fn show_type<'v, 's, 'a: 's, L: Ledger>(
+    alloc: Global,
+    env: &Env<'a>,
+    e: &Expr,
+    arena: &'s Arena,
+    steps: &mut Steps<L>,
+) -> Result<Answer<'v, 's>, AllocError>
+    requires allowed { IsAllowed (expr_of e.now) }
+    ensures shown { IfOk result (λ answer. answer_view answer ≡ replies.telling
+        replies.type_shown (meaning.eval (denoted env.now) (expr_of e.now))) }
+    ensures answer { IfOk result IsAnswer }
+{
+    match eval(alloc, env, e, &Plain, arena, steps) {
+        Ok(datum) => Ok(Answer::Type(type_text(alloc, &datum)?)),
+        Err(fault) => refused(fault),
+    }
+}
+
+// Packing is not built yet, which is told of what is something.
+fn pack<'v, 's, 'a: 's, L: Ledger>(
+    alloc: Global,
+    env: &Env<'a>,
+    e: &Expr,
+    arena: &'s Arena,
+    steps: &mut Steps<L>,
+) -> Result<Answer<'v, 's>, AllocError>
+    requires allowed { IsAllowed (expr_of e.now) }
+    ensures shown { IfOk result (λ answer. answer_view answer ≡ replies.telling
+        replies.packed (meaning.eval (denoted env.now) (expr_of e.now))) }
+    ensures answer { IfOk result IsAnswer }
+{
+    match eval(alloc, env, e, &Plain, arena, steps) {
+        Ok(_) => Ok(Answer::Fault(AnswerFault::Evaluation(Fault::Unbuilt))),
+        Err(fault) => refused(fault),
+    }
+}
+
+// A fault as an answer, unless memory is wanting.
+fn refused<'v, 's>(fault: Fault) -> Result<Answer<'v, 's>, AllocError>
+    ensures told { IfOk result (λ answer. answer_view answer ≡ answers.fault (Evaluation fault)) }
+    ensures answer { IfOk result IsAnswer }
+    ensures memory { OnErr result (fault ≡ Fault.NoMemory) }
+{
+    match fault {
+        Fault::NoMemory => Err(AllocError),
+        fault => Ok(Answer::Fault(AnswerFault::Evaluation(fault))),
+    }
+}
+
+// The bound names, in order of first binding.
+fn names_of(alloc: Global, env: &Env<'_>) -> Result<Names, AllocError>
+    ensures { IfOk result (λ names. names ≡ bindings.names (denoted env.now)) }
+{
+    let mut names = Names::new(alloc);
+    for i in 0..env.len() {
+        names.push(Name::new(alloc, env.name_at(i))?)?;
+    }
+    Ok(names)
+}
