@@ -71,7 +71,8 @@ short_escapes : quoted (8 ∷ 9 ∷ 10 ∷ 12 ∷ 13 ∷ []) ≡ codes "\"\\b\\t
 short_escapes = refl
 
 -- 127 and the bytes of a character above it stand as they are
-other_bytes : quoted (0 ∷ 11 ∷ 31 ∷ 127 ∷ 195 ∷ 169 ∷ []) ≡ codes "\"\\u0000\\u000b\\u001f" ++ 127 ∷ 195 ∷ 169 ∷ codes "\""
+other_bytes : quoted (0 ∷ 11 ∷ 31 ∷ 127 ∷ 195 ∷ 169 ∷ [])
+    ≡ codes "\"\\u0000\\u000b\\u001f" ++ 127 ∷ 195 ∷ 169 ∷ codes "\""
 other_bytes = refl
 
 three_pieces : comma_joined (codes "a" ∷ [] ∷ codes "b" ∷ []) ≡ codes "a,,b"
