@@ -106,7 +106,8 @@ impl Lines {
         ensures first { IsFalse self.old.is_ended →
             TakesFirst (S.left source.old) (S.left source.new) self.old self.new result }
 
-        // It leaves the source alone where it holds a line end or a line too many, or after the end.
+        // It leaves the source alone where it holds a line end or a line too many, or after the
+        // end.
         ensures ready { IsUnfinished self.old self.old.held ⊎ (source.new ≡ source.old) }
         ensures ended { IsTrue self.old.is_ended →
             (result ≡ Ok None) × (source.new ≡ source.old) × (self.new ≡ self.old) }

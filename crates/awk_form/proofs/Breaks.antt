@@ -1,22 +1,14 @@
 -- The first break of nodes, part by part.
-use Rattle.std.proofs.Common.{◌≡◌, ℕ, suc, ◌+◌, List, [], ◌∷◌, ◌++◌, length, Option, Some, None, Ok, Err, refl, sym, ap, ap₂, ◌∙◌, subst, arith}
+use Rattle.std.proofs.Common.{◌≡◌, ℕ, suc, ◌+◌, List, [], ◌∷◌, ◌++◌, length, Option, Some, Ok, Err, refl, sym, ap, ap₂, ◌∙◌, subst, arith}
 use Rattle.serde_json.specs.Data.{Data}
 use Rattle.awk_form.specs.Node.{Node, node_at}
 use Rattle.std.proofs.lemmas.List.{length-append}
 use Rattle.awk_types.specs.Gives.{Told, refused_or, ◌or◌}
-use Rattle.awk_types.proofs.RefusalLaws.{Told-other, Told-first}
+use Rattle.awk_types.proofs.RefusalLaws.{Told-other, Told-first, or-assoc}
 use Rattle.awk_form.specs.FormTree.{FormTree}
 use Rattle.awk_form.specs.Reading.{Refusal, broken, break_at, first_break_from, nodes_of, nodes_of_all, nodes_below, contents_said, form_with, form_said, form_of}
 use Rattle.awk_form.proofs.Nodes.{nodes_of-is, form_of-is}
 use Rattle.awk_form.specs.declared.fault.FormWhy.{FormWhy}
-
-or-assoc : {F : Type 0} (a b c : Option F) → ((a or b) or c) ≡ (a or (b or c))
-or-assoc None b c = refl
-or-assoc (Some f) b c = refl
-
-pub or-both : {F : Type 0} (a b : Option F) → (a or b) ≡ None → (a ≡ None) × (b ≡ None)
-or-both None b h = (refl, h)
-or-both (Some f) b h = absurd (cc)
 
 -- the first break of two parts
 pub first_break-append : (n : ℕ) (ds es : List Data) → first_break_from n (ds ++ es) ≡ (first_break_from n ds or first_break_from (n + length ds) es)

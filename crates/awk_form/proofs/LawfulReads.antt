@@ -1,16 +1,18 @@
 -- A form without a break is lawful.
 use Rattle.std.proofs.Common.{◌≡◌, ◌≢◌, ◌<◌, ◌≤◌, ℕ, zero, suc, ◌+◌, ◌&&◌, Bool, true, false, not, cond, nat_lt, List, [], ◌∷◌, length, map, codes, Option, Some, None, option_and_then, IsSome, Result, Ok, Err, refl, sym, ap, ◌∙◌, subst, arith, eqb-true}
-use Rattle.std.proofs.lemmas.Bool.{not-true, and_parts}
+use Rattle.std.proofs.lemmas.Bool.{and_parts}
 use Rattle.std.proofs.lemmas.Bool.Decides.{nat_tests}
 use Rattle.std.specs.List.{AllByRecursion}
 use Rattle.awk_types.specs.DataType.{Name}
-use Rattle.awk_types.specs.Names.{AreDistinct, is_among, same_name}
+use Rattle.awk_types.specs.Names.{AreDistinct, same_name, are_distinct}
 use Rattle.serde_json.specs.Data.{Data, null, boolean, number, string, array, object, depth}
 use Rattle.serde_json.specs.Find.{get, as_array}
+use Rattle.awk_types.proofs.DistinctLaws.{AreDistinct-true}
+use Rattle.awk_types.proofs.RefusalLaws.{or-both}
 use Rattle.awk_form.specs.FormTree.{forms_from}
 use Rattle.awk_form.specs.Lawful.{IsLawful, AreLawful, AreNamesOf, count}
 use Rattle.awk_form.specs.Tables.{meaning, index_kinds, option_index_kinds, byte_kinds, bit_kinds}
-use Rattle.awk_form.specs.Node.{Head, empty, numpy, regular, list, list_offset, row, indexed, indexed_option, byte_masked, bit_masked, unmasked, union, Node, and_then, present_or, allowed_or, text_at, number_at, truth_at, kind_at, primitive_at, inner_shape_at, texts_of, are_distinct, fields_from, fields_at, content_at, contents_at, are_as_many, are_alternatives, parameters_at, form_key_from, form_key_at, has_buffers, class_at, head_at, node_at}
+use Rattle.awk_form.specs.Node.{Head, empty, numpy, regular, list, list_offset, row, indexed, indexed_option, byte_masked, bit_masked, unmasked, union, Node, and_then, present_or, allowed_or, text_at, number_at, truth_at, kind_at, primitive_at, inner_shape_at, texts_of, fields_from, fields_at, content_at, contents_at, are_as_many, are_alternatives, parameters_at, form_key_from, form_key_at, has_buffers, class_at, head_at, node_at}
 use Rattle.awk_form.specs.Reading.{contents, contents_said, nodes_of, nodes_of_all, first_break_from, form_with, form_of}
 use Rattle.awk_form.specs.declared.class.Class.{Class}
 use Rattle.awk_form.specs.declared.class.Class.TheVariants as class
@@ -19,7 +21,7 @@ use Rattle.awk_form.specs.declared.fault.FormWhy.TheVariants as why
 use Rattle.awk_form.specs.declared.kind.IndexKind.{IndexKind}
 use Rattle.awk_form.specs.declared.kind.IndexKind.TheVariants.{I32, U32, I64}
 use Rattle.awk_form.proofs.Nodes.{contents_of-shallow}
-use Rattle.awk_form.proofs.Breaks.{or-both, first_break-append, first_break-node, first_break-broken, form_of-node}
+use Rattle.awk_form.proofs.Breaks.{first_break-append, first_break-node, first_break-broken, form_of-node}
 
 -- ---- what a node says fits its class
 
@@ -60,10 +62,6 @@ allowed-fits : (needed : Bool) (e : FormWhy) (b : Bool) (h : Head) → (b ≡ tr
 allowed-fits needed e true h f = f refl
 allowed-fits needed e false h f = tt
 
-distinct : (ns : List Name) → are_distinct ns ≡ true → AreDistinct ns
-distinct [] h = tt
-distinct (n ∷ ns) h = let here = and_parts (not (is_among n ns)) (are_distinct ns) h in (not-true (is_among n ns) here.0, distinct ns here.1)
-
 -- an option's index is signed
 signed-found : (s t : Bool) (p : IndexKind) → cond s (Some I32) (cond t (Some I64) None) ≡ Some p → p ≢ U32
 signed-found true t p h = λ e. cc
@@ -91,7 +89,7 @@ DistinctNames None = Unit {0}
 DistinctNames (Some ns) = AreDistinct ns
 
 texts-distinct : (r : Result (List Name) FormWhy) (names : Option (List Name)) → and_then r (λ ns. allowed_or why.Repeated (are_distinct ns) (Some ns)) ≡ Ok names → DistinctNames names
-texts-distinct (Ok ns) names h = let a = allowed-names (are_distinct ns) ns names h in subst DistinctNames (sym a.0) (distinct ns a.1)
+texts-distinct (Ok ns) names h = let a = allowed-names (are_distinct ns) ns names h in subst DistinctNames (sym a.0) (AreDistinct-true ns a.1)
 texts-distinct (Err e) names h = absurd (cc)
 
 abbrev texts_in : Data → Result (List Name) FormWhy

@@ -1,5 +1,4 @@
 pub mod Breaks
-pub mod Distinct
 pub mod FormTexts
 pub mod LawfulReads
 pub mod Levels

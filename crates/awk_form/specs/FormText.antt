@@ -76,29 +76,40 @@ class_text (union key index fs) = codes "UnionArray"
 -- the keys of the class before its contents, in order
 abbrev pub members_text : FormTree → Text
 members_text (empty key) = []
-members_text (numpy key prim inner) = member (codes "primitive") (word (primitive_text prim)) ++ member (codes "inner_shape") (list_text (map decimal inner))
+members_text (numpy key prim inner) =
+    member (codes "primitive") (word (primitive_text prim))
+    ++ member (codes "inner_shape") (list_text (map decimal inner))
 members_text (regular key size f) = member (codes "size") (decimal size)
-members_text (list key starts stops f) = member (codes "starts") (word (kind_text starts)) ++ member (codes "stops") (word (kind_text stops))
+members_text (list key starts stops f) =
+    member (codes "starts") (word (kind_text starts))
+    ++ member (codes "stops") (word (kind_text stops))
 members_text (list_offset key offsets f) = member (codes "offsets") (word (kind_text offsets))
 members_text (row key names fs) = member (codes "fields") (fields_text names)
 members_text (indexed key index f) = member (codes "index") (word (kind_text index))
 members_text (indexed_option key index f) = member (codes "index") (word (kind_text index))
-members_text (byte_masked key valid_when f) = member (codes "mask") (word (codes "i8")) ++ member (codes "valid_when") (truth_text valid_when)
+members_text (byte_masked key valid_when f) =
+    member (codes "mask") (word (codes "i8")) ++ member (codes "valid_when") (truth_text valid_when)
 members_text (bit_masked key valid_when lsb_order f) =
-    member (codes "mask") (word (codes "u8")) ++ (member (codes "valid_when") (truth_text valid_when) ++ member (codes "lsb_order") (truth_text lsb_order))
+    member (codes "mask") (word (codes "u8"))
+    ++ (member (codes "valid_when") (truth_text valid_when)
+    ++ member (codes "lsb_order") (truth_text lsb_order))
 members_text (unmasked key f) = []
-members_text (union key index fs) = member (codes "tags") (word (codes "i8")) ++ member (codes "index") (word (kind_text index))
+members_text (union key index fs) =
+    member (codes "tags") (word (codes "i8")) ++ member (codes "index") (word (kind_text index))
 
 abbrev pub class_member : Text → Text
 class_member class = codes "{\"class\":\"" ++ (class ++ codes "\"")
 
 -- no parameter is written
 abbrev pub end_text : Option Name → Text
-end_text key = member (codes "parameters") (codes "{}") ++ (member (codes "form_key") (key_text key) ++ codes "}")
+end_text key =
+    member (codes "parameters") (codes "{}")
+    ++ (member (codes "form_key") (key_text key) ++ codes "}")
 
 -- a node whose contents have this text
 abbrev pub node_text : FormTree → Text → Text
-node_text f contents = class_member (class_text f) ++ (members_text f ++ (contents ++ end_text (key_of f)))
+node_text f contents =
+    class_member (class_text f) ++ (members_text f ++ (contents ++ end_text (key_of f)))
 
 -- ---- the contents, and the whole
 
@@ -108,12 +119,16 @@ abbrev mutual
   contents_text (numpy key prim inner) = []
   contents_text (regular key size f) = member (codes "content") (node_text f (contents_text f))
   contents_text (list key starts stops f) = member (codes "content") (node_text f (contents_text f))
-  contents_text (list_offset key offsets f) = member (codes "content") (node_text f (contents_text f))
+  contents_text (list_offset key offsets f) =
+      member (codes "content") (node_text f (contents_text f))
   contents_text (row key names fs) = member (codes "contents") (list_text (form_texts fs))
   contents_text (indexed key index f) = member (codes "content") (node_text f (contents_text f))
-  contents_text (indexed_option key index f) = member (codes "content") (node_text f (contents_text f))
-  contents_text (byte_masked key valid_when f) = member (codes "content") (node_text f (contents_text f))
-  contents_text (bit_masked key valid_when lsb_order f) = member (codes "content") (node_text f (contents_text f))
+  contents_text (indexed_option key index f) =
+      member (codes "content") (node_text f (contents_text f))
+  contents_text (byte_masked key valid_when f) =
+      member (codes "content") (node_text f (contents_text f))
+  contents_text (bit_masked key valid_when lsb_order f) =
+      member (codes "content") (node_text f (contents_text f))
   contents_text (unmasked key f) = member (codes "content") (node_text f (contents_text f))
   contents_text (union key index fs) = member (codes "contents") (list_text (form_texts fs))
 

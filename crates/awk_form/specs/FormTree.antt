@@ -1,4 +1,5 @@
--- Forms: one tree for each, whose nodes are of the twelve classes. Each node has its form key first.
+-- Forms: one tree for each, whose nodes are of the twelve classes. Each node has its form key
+-- first.
 use Rattle.std.specs.Prelude.{ℕ, Bool, List, [], ◌∷◌, Option}
 use Rattle.awk_types.specs.DataType.{Name}
 use Rattle.awk_types.specs.declared.primitive.Primitive.{Primitive}
@@ -47,8 +48,8 @@ contents_of (bit_masked key valid_when lsb_order f) = form f no_forms
 contents_of (unmasked key f) = form f no_forms
 contents_of (union key index fs) = fs
 
--- What a form gives: `own` makes it of the node and of what its contents give. One content gives its own, several give
--- theirs joined in order, with `none` at the end.
+-- What a form gives: `own` makes it of the node and of what its contents give. One content gives
+-- its own, several give theirs joined in order, with `none` at the end.
 module _ {ℓ} {A : Type ℓ} (none : A) (join : A → A → A) (own : FormTree → A → A) where
   abbrev mutual
     pub fold : FormTree → A
@@ -61,7 +62,8 @@ module _ {ℓ} {A : Type ℓ} (none : A) (join : A → A → A) (own : FormTree 
     fold (indexed key index f) = own (indexed key index f) (fold f)
     fold (indexed_option key index f) = own (indexed_option key index f) (fold f)
     fold (byte_masked key valid_when f) = own (byte_masked key valid_when f) (fold f)
-    fold (bit_masked key valid_when lsb_order f) = own (bit_masked key valid_when lsb_order f) (fold f)
+    fold (bit_masked key valid_when lsb_order f) =
+        own (bit_masked key valid_when lsb_order f) (fold f)
     fold (unmasked key f) = own (unmasked key f) (fold f)
     fold (union key index fs) = own (union key index fs) (folds fs)
 

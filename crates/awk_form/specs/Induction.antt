@@ -1,5 +1,5 @@
 -- What holds of every form, by one step for all classes.
-use Rattle.std.specs.Prelude.{◌≡◌, ℕ, ◌+◌, ◌<◌, ◌≤◌, max, List, length, Option, refl}
+use Rattle.std.specs.Prelude.{◌≡◌, ℕ, ◌+◌, ◌≤◌, max, List, length, Option, refl}
 use Rattle.std.proofs.Common.{arith, ap, sym}
 use Rattle.awk_types.specs.DataType.{Name}
 use Rattle.awk_types.specs.declared.primitive.Primitive.{Primitive}
@@ -23,8 +23,10 @@ module _ (P : FormTree → Type 0) (step : (f : FormTree) → AllOf P (contents_
     by_contents (row key names fs) = step (row key names fs) (all_contents fs)
     by_contents (indexed key index f) = step (indexed key index f) (by_contents f, tt)
     by_contents (indexed_option key index f) = step (indexed_option key index f) (by_contents f, tt)
-    by_contents (byte_masked key valid_when f) = step (byte_masked key valid_when f) (by_contents f, tt)
-    by_contents (bit_masked key valid_when lsb_order f) = step (bit_masked key valid_when lsb_order f) (by_contents f, tt)
+    by_contents (byte_masked key valid_when f) =
+        step (byte_masked key valid_when f) (by_contents f, tt)
+    by_contents (bit_masked key valid_when lsb_order f) =
+        step (bit_masked key valid_when lsb_order f) (by_contents f, tt)
     by_contents (unmasked key f) = step (unmasked key f) (by_contents f, tt)
     by_contents (union key index fs) = step (union key index fs) (all_contents fs)
 
@@ -35,10 +37,12 @@ module _ (P : FormTree → Type 0) (step : (f : FormTree) → AllOf P (contents_
 -- a fold by the contents, where joining `none` changes nothing
 module _ {ℓ} {A : Type ℓ} (none : A) (join : A → A → A) (own : FormTree → A → A)
     (neutral : (a : A) → join a none ≡ a) where
-  one_content : (f g : FormTree) → own f (fold none join own g) ≡ own f (folds none join own (form g no_forms))
+  one_content : (f g : FormTree)
+      → own f (fold none join own g) ≡ own f (folds none join own (form g no_forms))
   one_content f g = ap (own f) (sym (neutral (fold none join own g)))
 
-  pub fold-contents : (f : FormTree) → fold none join own f ≡ own f (folds none join own (contents_of f))
+  pub fold-contents : (f : FormTree)
+      → fold none join own f ≡ own f (folds none join own (contents_of f))
   fold-contents (empty key) = refl
   fold-contents (numpy key prim inner) = refl
   fold-contents (regular key size f) = one_content (regular key size f) f
@@ -48,7 +52,8 @@ module _ {ℓ} {A : Type ℓ} (none : A) (join : A → A → A) (own : FormTree 
   fold-contents (indexed key index f) = one_content (indexed key index f) f
   fold-contents (indexed_option key index f) = one_content (indexed_option key index f) f
   fold-contents (byte_masked key valid_when f) = one_content (byte_masked key valid_when f) f
-  fold-contents (bit_masked key valid_when lsb_order f) = one_content (bit_masked key valid_when lsb_order f) f
+  fold-contents (bit_masked key valid_when lsb_order f) =
+      one_content (bit_masked key valid_when lsb_order f) f
   fold-contents (unmasked key f) = one_content (unmasked key f) f
   fold-contents (union key index fs) = refl
 
@@ -57,28 +62,35 @@ module _ {ℓ} {A : Type ℓ} (none : A) (join : A → A → A) (own : FormTree 
 pub nodes-contents : (f : FormTree) → nodes f ≡ nodes_of (contents_of f) + 1
 nodes-contents = fold-contents 0 ◌+◌ one_more (λ n. omega arith)
 
-inner-contents : (join : ℕ → ℕ → ℕ) (neutral : (n : ℕ) → join n 0 ≡ n) (f : FormTree) → fold 0 join inner_more f ≡ folds 0 join inner_more (contents_of f) + (length (inner_shape f) + 1)
+inner-contents : (join : ℕ → ℕ → ℕ) (neutral : (n : ℕ) → join n 0 ≡ n) (f : FormTree)
+    → fold 0 join inner_more f
+    ≡ folds 0 join inner_more (contents_of f) + (length (inner_shape f) + 1)
 inner-contents join neutral (empty key) = omega arith
 inner-contents join neutral (numpy key prim inner) = omega arith
 inner-contents join neutral (regular key size f) = omega (arith, neutral (fold 0 join inner_more f))
-inner-contents join neutral (list key starts stops f) = omega (arith, neutral (fold 0 join inner_more f))
-inner-contents join neutral (list_offset key offsets f) = omega (arith, neutral (fold 0 join inner_more f))
+inner-contents join neutral (list key starts stops f) =
+    omega (arith, neutral (fold 0 join inner_more f))
+inner-contents join neutral (list_offset key offsets f) =
+    omega (arith, neutral (fold 0 join inner_more f))
 inner-contents join neutral (row key names fs) = omega arith
-inner-contents join neutral (indexed key index f) = omega (arith, neutral (fold 0 join inner_more f))
-inner-contents join neutral (indexed_option key index f) = omega (arith, neutral (fold 0 join inner_more f))
-inner-contents join neutral (byte_masked key valid_when f) = omega (arith, neutral (fold 0 join inner_more f))
-inner-contents join neutral (bit_masked key valid_when lsb_order f) = omega (arith, neutral (fold 0 join inner_more f))
+inner-contents join neutral (indexed key index f) =
+    omega (arith, neutral (fold 0 join inner_more f))
+inner-contents join neutral (indexed_option key index f) =
+    omega (arith, neutral (fold 0 join inner_more f))
+inner-contents join neutral (byte_masked key valid_when f) =
+    omega (arith, neutral (fold 0 join inner_more f))
+inner-contents join neutral (bit_masked key valid_when lsb_order f) =
+    omega (arith, neutral (fold 0 join inner_more f))
 inner-contents join neutral (unmasked key f) = omega (arith, neutral (fold 0 join inner_more f))
 inner-contents join neutral (union key index fs) = omega arith
 
-pub width-contents : (f : FormTree) → width f ≡ width_of (contents_of f) + (length (inner_shape f) + 1)
+pub width-contents : (f : FormTree)
+    → width f ≡ width_of (contents_of f) + (length (inner_shape f) + 1)
 width-contents = inner-contents ◌+◌ (λ n. omega arith)
 
-pub height-contents : (f : FormTree) → height f ≡ height_of (contents_of f) + (length (inner_shape f) + 1)
+pub height-contents : (f : FormTree)
+    → height f ≡ height_of (contents_of f) + (length (inner_shape f) + 1)
 height-contents = inner-contents max (λ n. omega arith)
-
-pub nodes-some : (f : FormTree) → 0 < nodes f
-nodes-some f = omega (arith, nodes-contents f)
 
 -- no form has more nodes than its width
 nodes_within : (fs : FormTrees) → AllOf (λ f. nodes f ≤ width f) fs → nodes_of fs ≤ width_of fs
@@ -105,8 +117,10 @@ height-width =
 nodes_of_content : (key : Option Name) (f : FormTree) → nodes (unmasked key f) ≡ nodes f + 1
 nodes_of_content key f = refl
 
-width_of_numbers : (key : Option Name) (prim : Primitive) (inner : List ℕ) → width (numpy key prim inner) ≡ length inner + 1
+width_of_numbers : (key : Option Name) (prim : Primitive) (inner : List ℕ)
+    → width (numpy key prim inner) ≡ length inner + 1
 width_of_numbers key prim inner = refl
 
-height_of_two : (f g : FormTree) → height_of (form f (form g no_forms)) ≡ max (height f) (max (height g) 0)
+height_of_two : (f g : FormTree)
+    → height_of (form f (form g no_forms)) ≡ max (height f) (max (height g) 0)
 height_of_two f g = refl

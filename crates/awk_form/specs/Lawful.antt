@@ -1,5 +1,6 @@
--- Which forms are lawful: an option's index is signed, the names of a record are distinct and as many as its contents,
--- a union has 1 to 127 contents, and each node of a class with buffers has a key.
+-- Which forms are lawful: an option's index is signed, the names of a record are distinct and as
+-- many as its contents, a union has 1 to 127 contents, and each node of a class with buffers has a
+-- key.
 use Rattle.std.specs.Prelude.{◌≡◌, ◌≢◌, ◌≤◌, ℕ, List, length, Option, Some, None, IsSome}
 use Rattle.awk_types.specs.DataType.{Name}
 use Rattle.awk_types.specs.Names.{AreDistinct}

@@ -16,7 +16,8 @@ head_of (Row names contents) = said.row names (map view contents.now)
 head_of (Indexed index content) = said.indexed index (view content.now)
 head_of (IndexedOption index content) = said.indexed_option index (view content.now)
 head_of (ByteMasked valid_when content) = said.byte_masked valid_when (view content.now)
-head_of (BitMasked valid_when lsb_order content) = said.bit_masked valid_when lsb_order (view content.now)
+head_of (BitMasked valid_when lsb_order content) =
+    said.bit_masked valid_when lsb_order (view content.now)
 head_of (Unmasked content) = said.unmasked (view content.now)
 head_of (Union index contents) = said.union index (map view contents.now)
 

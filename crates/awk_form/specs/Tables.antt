@@ -18,18 +18,23 @@ meaning (r ∷ rs) text = if same_name r.0 text then Some r.1 else meaning rs te
 
 abbrev pub classes : Table Class
 classes =
-    (codes "EmptyArray", class.Empty) ∷ (codes "NumpyArray", class.Numpy) ∷ (codes "RegularArray", class.Regular) ∷ (codes "ListArray", class.List)
-    ∷ (codes "ListOffsetArray", class.ListOffset) ∷ (codes "RecordArray", class.Row) ∷ (codes "IndexedArray", class.Indexed)
-    ∷ (codes "IndexedOptionArray", class.IndexedOption) ∷ (codes "ByteMaskedArray", class.ByteMasked) ∷ (codes "BitMaskedArray", class.BitMasked)
+    (codes "EmptyArray", class.Empty) ∷ (codes "NumpyArray", class.Numpy)
+    ∷ (codes "RegularArray", class.Regular) ∷ (codes "ListArray", class.List)
+    ∷ (codes "ListOffsetArray", class.ListOffset) ∷ (codes "RecordArray", class.Row)
+    ∷ (codes "IndexedArray", class.Indexed)
+    ∷ (codes "IndexedOptionArray", class.IndexedOption)
+    ∷ (codes "ByteMaskedArray", class.ByteMasked) ∷ (codes "BitMaskedArray", class.BitMasked)
     ∷ (codes "UnmaskedArray", class.Unmasked) ∷ (codes "UnionArray", class.Union) ∷ []
 
 abbrev pub primitives : Table Primitive
 primitives =
-    (codes "bool", primitive.Bool) ∷ (codes "int8", primitive.I8) ∷ (codes "int16", primitive.I16) ∷ (codes "int32", primitive.I32)
-    ∷ (codes "int64", primitive.I64) ∷ (codes "uint8", primitive.U8) ∷ (codes "uint16", primitive.U16) ∷ (codes "uint32", primitive.U32)
+    (codes "bool", primitive.Bool) ∷ (codes "int8", primitive.I8) ∷ (codes "int16", primitive.I16)
+    ∷ (codes "int32", primitive.I32) ∷ (codes "int64", primitive.I64)
+    ∷ (codes "uint8", primitive.U8) ∷ (codes "uint16", primitive.U16) ∷ (codes "uint32", primitive.U32)
     ∷ (codes "uint64", primitive.U64) ∷ []
 
--- the kinds of an index, of starts, stops and offsets; where a negative number means a null, it must be signed
+-- the kinds of an index, of starts, stops and offsets; where a negative number means a null, it
+-- must be signed
 abbrev pub index_kinds : Table IndexKind
 index_kinds = (codes "i32", I32) ∷ (codes "u32", U32) ∷ (codes "i64", I64) ∷ []
 

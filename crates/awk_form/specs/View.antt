@@ -25,7 +25,8 @@ shape_step (Shape-F.Row names contents) key = row key names (forms_from contents
 shape_step (Shape-F.Indexed index content) key = indexed key index content.value
 shape_step (Shape-F.IndexedOption index content) key = indexed_option key index content.value
 shape_step (Shape-F.ByteMasked valid_when content) key = byte_masked key valid_when content.value
-shape_step (Shape-F.BitMasked valid_when lsb_order content) key = bit_masked key valid_when lsb_order content.value
+shape_step (Shape-F.BitMasked valid_when lsb_order content) key =
+    bit_masked key valid_when lsb_order content.value
 shape_step (Shape-F.Unmasked content) key = unmasked key content.value
 shape_step (Shape-F.Union index contents) key = union key index (forms_from contents)
 

@@ -1,16 +1,15 @@
 //! The field names of a record.
-ghost use Rattle.std.specs.Prelude.{◌≡◌, IfOk};
+ghost use Rattle.std.specs.Prelude.{◌≡◌};
 ghost use Rattle.awk_types.specs.Gives.{Gives};
 ghost use Rattle.serde_json.specs.View.{view, items_view};
 ghost use Rattle.awk_form.specs.Told.{why_told};
-ghost use Rattle.awk_form.specs.Node.{present_or, texts_of, are_distinct as distinct, fields_at as fields_said};
+ghost use Rattle.awk_form.specs.Node.{present_or, texts_of, fields_at as fields_said};
 ghost use Rattle.awk_form.specs.declared.fault.FormWhy.TheVariants.{Key};
 
 use crate::fault::{FormWhy, NodeFault};
-use awk_types::{Name, Names, NoMemory};
+use awk_types::{Name, Names};
 use serde_json::Value;
 use std::alloc::Global;
-use std::collections::BTreeSet;
 
 /// The field names of a node, or none for a tuple.
 pub fn fields_at(alloc: Global, json: &Value) -> Result<Option<Names>, NodeFault>
@@ -21,7 +20,7 @@ pub fn fields_at(alloc: Global, json: &Value) -> Result<Option<Names>, NodeFault
         Some(Value::Null) => Ok(None),
         Some(fields) => {
             let names = texts(alloc, fields.as_array().ok_or(FormWhy::Key)?)?;
-            if are_distinct(alloc, &names)? {
+            if names.are_distinct(alloc)? {
                 Ok(Some(names))
             } else {
                 Err(FormWhy::Repeated.into())
@@ -40,17 +39,4 @@ fn texts(alloc: Global, items: &Vec<Value>) -> Result<Names, NodeFault>
         names.push(Name::new(alloc, item.as_str().ok_or(FormWhy::Key)?)?)?;
     }
     Ok(names)
-}
-
-/// Whether no name comes twice. The names are not copied.
-fn are_distinct(alloc: Global, names: &Names) -> Result<bool, NoMemory>
-    ensures { IfOk result (λ b. b ≡ distinct names.now) }
-{
-    let mut seen: BTreeSet<&str> = BTreeSet::new(alloc);
-    for i in 0..names.len() {
-        if !seen.insert(names.get(i).as_str())? {
-            return Ok(false);
-        }
-    }
-    Ok(true)
 }

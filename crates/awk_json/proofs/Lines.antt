@@ -6,7 +6,7 @@ use Rattle.std.specs.Fmt.{digits, digits_onto, digit_glyph, signed_decimal}
 use Rattle.std.specs.List.{AllByRecursion, list_all}
 use Rattle.awk_edge.specs.Lines.{Unbroken}
 use Rattle.awk_edge.proofs.LineLaws.{Unbroken-append}
-use Rattle.awk_json.specs.Text.{hex_digit, is_special, escape, escaped, escaped_all, quoted, comma_joined, list_text, truth_text}
+use Rattle.awk_json.specs.Text.{hex_digit, is_special, escape, escaped, escaped_all, quoted, joined, comma_joined, list_text, truth_text}
 
 first_passes : (x : ℕ) (t u : Bool) → (x == 10) ≡ t → (not t && u) ≡ true → (x ≢ 10) × (u ≡ true)
 first_passes x true u e h = absurd (true≢false (sym h))
@@ -52,11 +52,14 @@ quoted-unbroken bytes =
     let quote = literal-unbroken (codes "\"") refl in
     Unbroken-append (codes "\"" ++ escaped_all bytes) (codes "\"") (Unbroken-append (codes "\"") (escaped_all bytes) quote (escaped_all-unbroken bytes)) quote
 
+pub joined-unbroken : (separator : List ℕ) (pieces : List (List ℕ)) → Unbroken separator → AllByRecursion Unbroken pieces → Unbroken (joined separator pieces)
+joined-unbroken separator [] u h = tt
+joined-unbroken separator (first ∷ []) u h = h.0
+joined-unbroken separator (first ∷ second ∷ others) u h =
+    Unbroken-append (first ++ separator) (joined separator (second ∷ others)) (Unbroken-append first separator h.0 u) (joined-unbroken separator (second ∷ others) u h.1)
+
 pub comma_joined-unbroken : (pieces : List (List ℕ)) → AllByRecursion Unbroken pieces → Unbroken (comma_joined pieces)
-comma_joined-unbroken [] h = tt
-comma_joined-unbroken (first ∷ []) h = h.0
-comma_joined-unbroken (first ∷ second ∷ others) h =
-    Unbroken-append (first ++ codes ",") (comma_joined (second ∷ others)) (Unbroken-append first (codes ",") h.0 (literal-unbroken (codes ",") refl)) (comma_joined-unbroken (second ∷ others) h.1)
+comma_joined-unbroken pieces h = joined-unbroken (codes ",") pieces (literal-unbroken (codes ",") refl) h
 
 pub list_text-unbroken : (texts : List (List ℕ)) → AllByRecursion Unbroken texts → Unbroken (list_text texts)
 list_text-unbroken texts h =

@@ -33,19 +33,27 @@ escaped_all (b ∷ bytes) = escaped b ++ escaped_all bytes
 abbrev pub quoted : List ℕ → List ℕ
 quoted bytes = codes "\"" ++ escaped_all bytes ++ codes "\""
 
+-- pieces with a separator between each two
+abbrev pub joined : List ℕ → List (List ℕ) → List ℕ
+joined separator [] = []
+joined separator (first ∷ []) = first
+joined separator (first ∷ second ∷ others) = first ++ separator ++ joined separator (second ∷ others)
+
 -- pieces with a comma between each two
 abbrev pub comma_joined : List (List ℕ) → List ℕ
-comma_joined [] = []
-comma_joined (first ∷ []) = first
-comma_joined (first ∷ second ∷ others) = first ++ codes "," ++ comma_joined (second ∷ others)
+comma_joined pieces = joined (codes ",") pieces
 
 -- texts in brackets, with a comma between each two
 abbrev pub list_text : List (List ℕ) → List ℕ
 list_text texts = codes "[" ++ (comma_joined texts ++ codes "]")
 
--- what stands before a text of a list: a comma, unless it is the first
+-- what stands before a piece: the separator, unless the piece is the first
+abbrev pub separator_before : List ℕ → Bool → List ℕ
+separator_before separator is_first = if is_first then [] else separator
+
+-- what stands before a text of a list
 abbrev pub comma_before : Bool → List ℕ
-comma_before is_first = if is_first then [] else codes ","
+comma_before is_first = separator_before (codes ",") is_first
 
 abbrev pub truth_text : Bool → List ℕ
 truth_text true = codes "true"
@@ -63,11 +71,15 @@ short_escapes : quoted (8 ∷ 9 ∷ 10 ∷ 12 ∷ 13 ∷ []) ≡ codes "\"\\b\\t
 short_escapes = refl
 
 -- 127 and the bytes of a character above it stand as they are
-other_bytes : quoted (0 ∷ 11 ∷ 31 ∷ 127 ∷ 195 ∷ 169 ∷ []) ≡ codes "\"\\u0000\\u000b\\u001f" ++ 127 ∷ 195 ∷ 169 ∷ codes "\""
+other_bytes : quoted (0 ∷ 11 ∷ 31 ∷ 127 ∷ 195 ∷ 169 ∷ [])
+    ≡ codes "\"\\u0000\\u000b\\u001f" ++ 127 ∷ 195 ∷ 169 ∷ codes "\""
 other_bytes = refl
 
 three_pieces : comma_joined (codes "a" ∷ [] ∷ codes "b" ∷ []) ≡ codes "a,,b"
 three_pieces = refl
+
+wider_separator : joined (codes ", ") (codes "a" ∷ codes "b" ∷ codes "c" ∷ []) ≡ codes "a, b, c"
+wider_separator = refl
 
 list_of_two : list_text (codes "1" ∷ codes "null" ∷ []) ≡ codes "[1,null]"
 list_of_two = refl

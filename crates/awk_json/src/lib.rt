@@ -3,4 +3,4 @@
 
 mod text;
 
-pub use text::{write_comma, write_number, write_pieces, write_text};
+pub use text::{write_comma, write_number, write_pieces, write_separator, write_text};

@@ -3,7 +3,7 @@ ghost use Rattle.std.specs.Prelude.{◌≡◌, ◌<◌, ◌++◌, IsTrue, decima
 ghost use Rattle.std.specs.List.{flat_map};
 ghost use Rattle.awk_edge.specs.Causes.{HasCause};
 ghost use Rattle.awk_edge.specs.Put.{Moves};
-ghost use Rattle.awk_json.specs.Text.{hex_digit, is_special as special, escape, escaped_all, quoted, comma_before};
+ghost use Rattle.awk_json.specs.Text.{hex_digit, is_special as special, escape, escaped_all, quoted, comma_before, separator_before};
 
 use awk_edge::{Out, Sink, WriteFault};
 use itoa::Buffer;
@@ -47,6 +47,22 @@ pub fn write_number<K: Sink>(out: &mut Out, sink: &mut K, n: u64) -> Result<(), 
     out.put(sink, digits.format(n).as_bytes())
 }
 
+/// Puts what stands between two pieces, unless it is before the first.
+pub fn write_separator<K: Sink>(
+    out: &mut Out,
+    sink: &mut K,
+    separator: &[u8],
+    is_first: bool,
+) -> Result<(), WriteFault>
+    requires open { IsTrue out.old.is_open }
+    ensures bytes { Moves (K.written sink.old) (K.written sink.new) out.new
+        (out.old.held ++ separator_before separator.now is_first) result }
+    ensures flushes { K.flushes sink.new ≡ K.flushes sink.old }
+    ensures cause { HasCause (K.faults sink.old) (K.faults sink.new) result }
+{
+    out.put(sink, if is_first { b"" } else { separator })
+}
+
 /// Puts a comma, unless it is before the first text of a list.
 pub fn write_comma<K: Sink>(out: &mut Out, sink: &mut K, is_first: bool) -> Result<(), WriteFault>
     requires open { IsTrue out.old.is_open }
@@ -55,7 +71,7 @@ pub fn write_comma<K: Sink>(out: &mut Out, sink: &mut K, is_first: bool) -> Resu
     ensures flushes { K.flushes sink.new ≡ K.flushes sink.old }
     ensures cause { HasCause (K.faults sink.old) (K.faults sink.new) result }
 {
-    out.put(sink, if is_first { b"" } else { b"," })
+    write_separator(out, sink, b",", is_first)
 }
 
 // Puts bytes, each special one escaped, and those between in one piece.

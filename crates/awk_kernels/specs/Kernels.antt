@@ -6,7 +6,8 @@ use Rattle.std.specs.List.{zip, reduce}
 
 -- the list from start below stop is not empty, and ends before it starts or starts below 0
 abbrev pub is_out_of_order : ℤ × ℤ → Bool
-is_out_of_order (start, stop) = not (int_eq start stop) && (int_lt stop start || int_lt start (pos 0))
+is_out_of_order (start, stop) =
+    not (int_eq start stop) && (int_lt stop start || int_lt start (pos 0))
 
 -- the first place whose list is out of order
 abbrev pub first_out_of_order : List ℤ → List ℤ → Option ℕ

@@ -4,7 +4,8 @@ use Rattle.std.specs.List.{range_with_len}
 
 -- bit i of the bytes, from the least significant bit of each byte or from the most significant
 abbrev pub bit : Bool → List ℕ → ℕ → Bool
-bit lsb_order bytes i = (slice_index bytes (i / 8) / 2 ^ (if lsb_order then i % 8 else 7 - i % 8)) % 2 == 1
+bit lsb_order bytes i =
+    (slice_index bytes (i / 8) / 2 ^ (if lsb_order then i % 8 else 7 - i % 8)) % 2 == 1
 
 -- n bits, from bit `first` on
 abbrev pub bits : Bool → List ℕ → ℕ → ℕ → List Bool

@@ -22,8 +22,8 @@ width U16 = 2
 width U32 = 4
 width U64 = 8
 
--- the number that the first bytes are, least significant byte first, signed kinds in two's complement;
--- of a truth value the byte as it lies there
+-- the number that the first bytes are, least significant byte first, signed kinds in two's
+-- complement; of a truth value the byte as it lies there
 abbrev pub number : Kind → List ℕ → ℤ
 number Truths b = pos (slice_index b 0)
 number I8 b = cast_signed w8 (slice_index b 0)

@@ -49,13 +49,17 @@ abbrev mutual
   layout_to (regular size n x) = gcons (gnum 1) (gcons (gnum size) (gcons (gnum n) (layout_to x)))
   layout_to (lists s t x) = gcons (gnum 2) (gcons (column_to s) (gcons (column_to t) (layout_to x)))
   layout_to (offset_lists o x) = gcons (gnum 3) (gcons (column_to o) (layout_to x))
-  layout_to (rows names n xs) = gcons (gnum 4) (gcons (field_names_tree.to names) (gcons (gnum n) (layouts_to xs)))
+  layout_to (rows names n xs) =
+      gcons (gnum 4) (gcons (field_names_tree.to names) (gcons (gnum n) (layouts_to xs)))
   layout_to (indexed j x) = gcons (gnum 5) (gcons (column_to j) (layout_to x))
   layout_to (optional j x) = gcons (gnum 6) (gcons (column_to j) (layout_to x))
-  layout_to (byte_masked m v x) = gcons (gnum 7) (gcons (column_to m) (gcons (bool_to v) (layout_to x)))
-  layout_to (bit_masked m v x) = gcons (gnum 8) (gcons (bits_tree.to m) (gcons (bool_to v) (layout_to x)))
+  layout_to (byte_masked m v x) =
+      gcons (gnum 7) (gcons (column_to m) (gcons (bool_to v) (layout_to x)))
+  layout_to (bit_masked m v x) =
+      gcons (gnum 8) (gcons (bits_tree.to m) (gcons (bool_to v) (layout_to x)))
   layout_to (unmasked n x) = gcons (gnum 9) (gcons (gnum n) (layout_to x))
-  layout_to (union t j xs) = gcons (gnum 10) (gcons (column_to t) (gcons (column_to j) (layouts_to xs)))
+  layout_to (union t j xs) =
+      gcons (gnum 10) (gcons (column_to t) (gcons (column_to j) (layouts_to xs)))
 
   pub layouts_to : Layouts → Gv
   layouts_to no_layouts = gnil
@@ -64,16 +68,29 @@ abbrev mutual
 abbrev mutual
   pub layout_from : Gv → Layout
   layout_from (gcons (gnum zero) c) = flat (column_from c)
-  layout_from (gcons (gnum (suc zero)) (gcons size (gcons n x))) = regular (number_from size) (number_from n) (layout_from x)
-  layout_from (gcons (gnum (suc (suc zero))) (gcons s (gcons t x))) = lists (column_from s) (column_from t) (layout_from x)
-  layout_from (gcons (gnum (suc (suc (suc zero)))) (gcons o x)) = offset_lists (column_from o) (layout_from x)
-  layout_from (gcons (gnum (suc (suc (suc (suc zero))))) (gcons names (gcons n xs))) = rows (field_names_tree.from names) (number_from n) (layouts_from xs)
-  layout_from (gcons (gnum (suc (suc (suc (suc (suc zero)))))) (gcons j x)) = indexed (column_from j) (layout_from x)
-  layout_from (gcons (gnum (suc (suc (suc (suc (suc (suc zero))))))) (gcons j x)) = optional (column_from j) (layout_from x)
-  layout_from (gcons (gnum (suc (suc (suc (suc (suc (suc (suc zero)))))))) (gcons m (gcons v x))) = byte_masked (column_from m) (bool_from v) (layout_from x)
-  layout_from (gcons (gnum (suc (suc (suc (suc (suc (suc (suc (suc zero))))))))) (gcons m (gcons v x))) = bit_masked (bits_tree.from m) (bool_from v) (layout_from x)
-  layout_from (gcons (gnum (suc (suc (suc (suc (suc (suc (suc (suc (suc zero)))))))))) (gcons n x)) = unmasked (number_from n) (layout_from x)
-  layout_from (gcons (gnum (suc (suc (suc (suc (suc (suc (suc (suc (suc (suc zero))))))))))) (gcons t (gcons j xs))) = union (column_from t) (column_from j) (layouts_from xs)
+  layout_from (gcons (gnum (suc zero)) (gcons size (gcons n x))) =
+      regular (number_from size) (number_from n) (layout_from x)
+  layout_from (gcons (gnum (suc (suc zero))) (gcons s (gcons t x))) =
+      lists (column_from s) (column_from t) (layout_from x)
+  layout_from (gcons (gnum (suc (suc (suc zero)))) (gcons o x)) =
+      offset_lists (column_from o) (layout_from x)
+  layout_from (gcons (gnum (suc (suc (suc (suc zero))))) (gcons names (gcons n xs))) =
+      rows (field_names_tree.from names) (number_from n) (layouts_from xs)
+  layout_from (gcons (gnum (suc (suc (suc (suc (suc zero)))))) (gcons j x)) =
+      indexed (column_from j) (layout_from x)
+  layout_from (gcons (gnum (suc (suc (suc (suc (suc (suc zero))))))) (gcons j x)) =
+      optional (column_from j) (layout_from x)
+  layout_from (gcons (gnum (suc (suc (suc (suc (suc (suc (suc zero)))))))) (gcons m (gcons v x))) =
+      byte_masked (column_from m) (bool_from v) (layout_from x)
+  layout_from
+      (gcons (gnum (suc (suc (suc (suc (suc (suc (suc (suc zero))))))))) (gcons m (gcons v x))) =
+      bit_masked (bits_tree.from m) (bool_from v) (layout_from x)
+  layout_from
+      (gcons (gnum (suc (suc (suc (suc (suc (suc (suc (suc (suc zero)))))))))) (gcons n x)) =
+      unmasked (number_from n) (layout_from x)
+  layout_from
+      (gcons (gnum (suc (suc (suc (suc (suc (suc (suc (suc (suc (suc zero)))))))))))
+      (gcons t (gcons j xs))) = union (column_from t) (column_from j) (layouts_from xs)
   layout_from _ = empty
 
   pub layouts_from : Gv → Layouts
@@ -90,8 +107,10 @@ mutual
   layout_same (rows names n xs) = λ i. rows (field_names_tree.same names i) n (layouts_same xs i)
   layout_same (indexed j x) = λ i. indexed (column_same j i) (layout_same x i)
   layout_same (optional j x) = λ i. optional (column_same j i) (layout_same x i)
-  layout_same (byte_masked m v x) = λ i. byte_masked (column_same m i) (bool_same v i) (layout_same x i)
-  layout_same (bit_masked m v x) = λ i. bit_masked (bits_tree.same m i) (bool_same v i) (layout_same x i)
+  layout_same (byte_masked m v x) =
+      λ i. byte_masked (column_same m i) (bool_same v i) (layout_same x i)
+  layout_same (bit_masked m v x) =
+      λ i. bit_masked (bits_tree.same m i) (bool_same v i) (layout_same x i)
   layout_same (unmasked n x) = λ i. unmasked n (layout_same x i)
   layout_same (union t j xs) = λ i. union (column_same t i) (column_same j i) (layouts_same xs i)
 

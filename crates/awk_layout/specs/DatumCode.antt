@@ -22,7 +22,8 @@ datum_same (Arr x) = refl
 datum_same (One x) = refl
 
 abbrev pub coded_datum : Coded Datum
-coded_datum = code_by (Layout ⊎ Layout) (coded⊎ coded_layout coded_layout) datum_to datum_from datum_same
+coded_datum =
+    code_by (Layout ⊎ Layout) (coded⊎ coded_layout coded_layout) datum_to datum_from datum_same
 
 abbrev operand_to : Operand → Datum ⊎ ℤ
 operand_to (Of d) = inl d
@@ -37,4 +38,5 @@ operand_same (Of d) = refl
 operand_same (Literal z) = refl
 
 abbrev pub coded_operand : Coded Operand
-coded_operand = code_by (Datum ⊎ ℤ) (coded⊎ coded_datum coded_ℤ) operand_to operand_from operand_same
+coded_operand =
+    code_by (Datum ⊎ ℤ) (coded⊎ coded_datum coded_ℤ) operand_to operand_from operand_same

@@ -22,6 +22,7 @@ node_falls (BitMasked m v x) = omega arith
 node_falls (Unmasked n x) = omega arith
 node_falls (Union t j xs) = omega arith
 
-pub nodes_fall : (xs : Seq Layout) → max (most (λ x. 2 * height x + 1) xs) 0 ≤ 2 * heights (layouts_from xs) + 1
+pub nodes_fall : (xs : Seq Layout)
+    → max (most (λ x. 2 * height x + 1) xs) 0 ≤ 2 * heights (layouts_from xs) + 1
 nodes_fall [] = omega arith
 nodes_fall (x ∷ xs) = omega (arith, nodes_fall xs)

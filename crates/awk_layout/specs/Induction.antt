@@ -32,10 +32,12 @@ module _ (P : Layout → Type 0) (step : (x : Layout) → AllOf P (contents_of x
 -- a fold by the contents, where joining `none` changes nothing
 module _ {ℓ} {A : Type ℓ} (none : A) (join : A → A → A) (own : Layout → A → A)
     (neutral : (a : A) → join a none ≡ a) where
-  one_content : (x y : Layout) → own x (fold none join own y) ≡ own x (folds none join own (layout y no_layouts))
+  one_content : (x y : Layout)
+      → own x (fold none join own y) ≡ own x (folds none join own (layout y no_layouts))
   one_content x y = ap (own x) (sym (neutral (fold none join own y)))
 
-  pub fold-contents : (x : Layout) → fold none join own x ≡ own x (folds none join own (contents_of x))
+  pub fold-contents : (x : Layout)
+      → fold none join own x ≡ own x (folds none join own (contents_of x))
   fold-contents empty = refl
   fold-contents (flat c) = refl
   fold-contents (regular size n x) = one_content (regular size n x) x

@@ -35,18 +35,22 @@ item_of-nth no_layouts k i = refl
 item_of-nth (layout x xs) zero i = refl
 item_of-nth (layout x xs) (suc k) i = item_of-nth xs k i
 
-span_value : (x : Layout) (a b : ℤ) → list (run (item x) (nat_of a) (nat_of b - nat_of a)) ≡ value_of (span_between x a b)
+span_value : (x : Layout) (a b : ℤ)
+    → list (run (item x) (nat_of a) (nat_of b - nat_of a)) ≡ value_of (span_between x a b)
 span_value x a b = grind (arith, Decides-int_eq)
 
 option_value : (x : Layout) (o : Option ℕ) → at_option o (item x) ≡ value_of (through_option x o)
 option_value x None = refl
 option_value x (Some k) = refl
 
-mask_value : (x : Layout) (i : ℕ) (b : Bool) → (if b then item x i else null) ≡ value_of (if b then through x i else missing)
+mask_value : (x : Layout) (i : ℕ) (b : Bool)
+    → (if b then item x i else null) ≡ value_of (if b then through x i else missing)
 mask_value x i true = refl
 mask_value x i false = refl
 
-block_value : (x : Layout) (lo size : ℕ) → list (run (item x) lo size) ≡ value_of (if size == 0 then span x 0 0 else span x lo (lo + size))
+block_value : (x : Layout) (lo size : ℕ)
+    → list (run (item x) lo size)
+    ≡ value_of (if size == 0 then span x 0 0 else span x lo (lo + size))
 block_value x lo zero = refl
 block_value x lo (suc n) =
     let e : lo + suc n - lo ≡ suc n = omega arith in
@@ -65,34 +69,41 @@ item-case_of (optional j x) i = option_value x (option_place_at j i)
 item-case_of (byte_masked m v x) i = mask_value x i (byte_shows m v i)
 item-case_of (bit_masked m v x) i = mask_value x i (bit_shows m v i)
 item-case_of (unmasked n x) i = refl
-item-case_of (union t j xs) i = ap (alt (place_at t i)) (item_of-nth xs (place_at t i) (place_at j i))
+item-case_of (union t j xs) i =
+    ap (alt (place_at t i)) (item_of-nth xs (place_at t i) (place_at j i))
 
 -- ---- a case stays within its layout
 
-span_within : (h : ℕ) (x : Layout) (a b : ℤ) → IsSpan (len x) a b → height x < h → IsValid x → IsWithin h (span_between x a b)
+span_within : (h : ℕ) (x : Layout) (a b : ℤ) → IsSpan (len x) a b → height x < h → IsValid x
+    → IsWithin h (span_between x a b)
 span_within h x a b s l v = go (int_eq a b) refl
   where
     apart : int_eq a b ≡ false → a ≢ b
     apart e = grind (arith, Decides-int_eq)
 
-    go : (t : Bool) → int_eq a b ≡ t → IsWithin h (if t then span x 0 0 else span x (nat_of a) (nat_of b))
+    go : (t : Bool) → int_eq a b ≡ t
+        → IsWithin h (if t then span x 0 0 else span x (nat_of a) (nat_of b))
     go true e = (omega arith, omega arith, l, v)
     go false e = let f = s (apart e) in ordered a b f.0 f.1 f.2
       where
-        ordered : (a b : ℤ) → pos 0 ≤ℤ a → a ≤ℤ b → b ≤ℤ pos (len x) → IsWithin h (span x (nat_of a) (nat_of b))
+        ordered : (a b : ℤ) → pos 0 ≤ℤ a → a ≤ℤ b → b ≤ℤ pos (len x)
+            → IsWithin h (span x (nat_of a) (nat_of b))
         ordered (pos m) (pos n) p q r = (omega (arith, ints), omega (arith, ints), l, v)
         ordered (pos m) (negsuc n) p q r = absurd (omega (arith, ints))
         ordered (negsuc m) b p q r = absurd (omega (arith, ints))
 
-option_within : (h : ℕ) (x : Layout) (z : ℤ) → z <ℤ pos (len x) → height x < h → IsValid x → IsWithin h (through_option x (option_place z))
+option_within : (h : ℕ) (x : Layout) (z : ℤ) → z <ℤ pos (len x) → height x < h → IsValid x
+    → IsWithin h (through_option x (option_place z))
 option_within h x (pos n) p l v = (omega (arith, ints), l, v)
 option_within h x (negsuc n) p l v = tt
 
-mask_within : (h : ℕ) (x : Layout) (i : ℕ) (b : Bool) → i < len x → height x < h → IsValid x → IsWithin h (if b then through x i else missing)
+mask_within : (h : ℕ) (x : Layout) (i : ℕ) (b : Bool) → i < len x → height x < h → IsValid x
+    → IsWithin h (if b then through x i else missing)
 mask_within h x i true p l v = (p, l, v)
 mask_within h x i false p l v = tt
 
-block_within : (h : ℕ) (x : Layout) (size n i : ℕ) → n * size ≤ len x → i < n → height x < h → IsValid x → IsWithin h (if size == 0 then span x 0 0 else span x (i * size) (i * size + size))
+block_within : (h : ℕ) (x : Layout) (size n i : ℕ) → n * size ≤ len x → i < n → height x < h
+    → IsValid x → IsWithin h (if size == 0 then span x 0 0 else span x (i * size) (i * size + size))
 block_within h x zero n i r p l v = (omega arith, omega arith, l, v)
 block_within h x (suc k) n i r p l v =
     let f : (suc k == 0) ≡ false = grind arith in
@@ -103,21 +114,30 @@ pub AllReach-le : (m n : ℕ) (xs : Layouts) → AllReach n xs → m ≤ n → A
 AllReach-le m n no_layouts h e = tt
 AllReach-le m n (layout x xs) h e = (omega (arith, h.0), AllReach-le m n xs h.1 e)
 
-nth_within : (h : ℕ) (xs : Layouts) (t i : ℕ) → AllValid xs → heights xs < h → t < count xs → i < len_of xs t → (i < len (nth xs t)) × (height (nth xs t) < h) × IsValid (nth xs t)
+nth_within : (h : ℕ) (xs : Layouts) (t i : ℕ) → AllValid xs → heights xs < h → t < count xs
+    → i < len_of xs t → (i < len (nth xs t)) × (height (nth xs t) < h) × IsValid (nth xs t)
 nth_within h no_layouts t i v l p q = absurd (omega arith)
 nth_within h (layout x xs) zero i v l p q = (q, omega arith, v.0)
 nth_within h (layout x xs) (suc t) i v l p q = nth_within h xs t i v.1 (omega arith) (omega arith) q
 
-pub case_of-within : (x : Layout) (i : ℕ) → IsValid x → i < len x → IsWithin (height x) (case_of x i)
+pub case_of-within : (x : Layout) (i : ℕ) → IsValid x → i < len x
+    → IsWithin (height x) (case_of x i)
 case_of-within empty i v p = tt
 case_of-within (flat c) i v p = tt
 case_of-within (regular size n x) i v p = block_within _ x size n i v.1 p (omega arith) v.2
-case_of-within (lists s t x) i v p = span_within _ x (at s i) (at t i) (v.1.ordered i p) (omega arith) v.2
-case_of-within (offset_lists o x) i v p = span_within _ x (at o i) (at o (i + 1)) (v.1.ordered i (omega arith)) (omega arith) v.2
-case_of-within (rows names n xs) i v p = (AllReach-le (i + 1) n xs v.2 (omega arith), omega arith, v.3)
+case_of-within (lists s t x) i v p =
+    span_within _ x (at s i) (at t i) (v.1.ordered i p) (omega arith) v.2
+case_of-within (offset_lists o x) i v p =
+    span_within _ x (at o i) (at o (i + 1)) (v.1.ordered i (omega arith)) (omega arith) v.2
+case_of-within (rows names n xs) i v p =
+    (AllReach-le (i + 1) n xs v.2 (omega arith), omega arith, v.3)
 case_of-within (indexed j x) i v p = ((v.1.places i p).1, omega arith, v.2)
 case_of-within (optional j x) i v p = option_within _ x (at j i) (v.1.below i p) (omega arith) v.2
-case_of-within (byte_masked m b x) i v p = mask_within _ x i (byte_shows m b i) (omega (arith, v.1.reach)) (omega arith) v.2
-case_of-within (bit_masked m b x) i v p = mask_within _ x i (bit_shows m b i) (omega (arith, v.1)) (omega arith) v.2
+case_of-within (byte_masked m b x) i v p =
+    mask_within _ x i (byte_shows m b i) (omega (arith, v.1.reach)) (omega arith) v.2
+case_of-within (bit_masked m b x) i v p =
+    mask_within _ x i (bit_shows m b i) (omega (arith, v.1)) (omega arith) v.2
 case_of-within (unmasked n x) i v p = (omega (arith, v.1), omega arith, v.2)
-case_of-within (union t j xs) i v p = nth_within _ xs (place_at t i) (place_at j i) v.2 (omega arith) (v.1.tags i p).1 (v.1.places i p).1
+case_of-within (union t j xs) i v p =
+    nth_within _ xs (place_at t i) (place_at j i) v.2 (omega arith) (v.1.tags i p).1
+    (v.1.places i p).1

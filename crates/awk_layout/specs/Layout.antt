@@ -63,8 +63,8 @@ contents_of (bit_masked m v x) = layout x no_layouts
 contents_of (unmasked n x) = layout x no_layouts
 contents_of (union t j xs) = xs
 
--- What a node gives: `own` makes it of the node and of what its contents give. One content gives its own, several give
--- theirs joined in order, with `none` at the end.
+-- What a node gives: `own` makes it of the node and of what its contents give. One content gives
+-- its own, several give theirs joined in order, with `none` at the end.
 module _ {ℓ} {A : Type ℓ} (none : A) (join : A → A → A) (own : Layout → A → A) where
   abbrev mutual
     pub fold : Layout → A

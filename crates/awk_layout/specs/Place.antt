@@ -40,7 +40,8 @@ nth (layout x xs) (suc k) = nth xs k
 
 -- an empty list is from 0 below 0, wherever it stands
 abbrev pub span_between : Layout → ℤ → ℤ → Case
-span_between x start stop = if int_eq start stop then span x 0 0 else span x (nat_of start) (nat_of stop)
+span_between x start stop =
+    if int_eq start stop then span x 0 0 else span x (nat_of start) (nat_of stop)
 
 abbrev pub through_option : Layout → Option ℕ → Case
 through_option x None = missing

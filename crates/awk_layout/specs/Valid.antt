@@ -50,7 +50,8 @@ pub record IsUnion (t j : Column) (xs : Layouts) : Type 0 where
   pub index_kind : IsIndexKind j.kind
   pub same_size : size_of t ≡ size_of j
   pub tags : (i : ℕ) → i < size_of t → (pos 0 ≤ℤ at t i) × (place_at t i < count xs)
-  pub places : (i : ℕ) → i < size_of t → (pos 0 ≤ℤ at j i) × (place_at j i < len_of xs (place_at t i))
+  pub places : (i : ℕ) → i < size_of t
+      → (pos 0 ≤ℤ at j i) × (place_at j i < len_of xs (place_at t i))
 
 -- no node has more than 2 ^ 63 - 1 items, and each meets the condition of its class
 abbrev mutual

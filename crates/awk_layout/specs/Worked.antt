@@ -27,9 +27,13 @@ int_values (z ∷ zs) = value (int z) (int_values zs)
 
 -- lists by offsets: an empty list may stand anywhere
 abbrev jagged : Layout
-jagged = offset_lists (int64s (pos 0 ∷ pos 2 ∷ pos 2 ∷ pos 3 ∷ [])) (flat (int64s (pos 5 ∷ negsuc 0 ∷ pos 7 ∷ [])))
+jagged =
+    offset_lists (int64s (pos 0 ∷ pos 2 ∷ pos 2 ∷ pos 3 ∷ []))
+    (flat (int64s (pos 5 ∷ negsuc 0 ∷ pos 7 ∷ [])))
 
-jagged-items : array_items jagged ≡ list (int_values (pos 5 ∷ negsuc 0 ∷ [])) ∷ list no_values ∷ list (int_values (pos 7 ∷ [])) ∷ []
+jagged-items : array_items jagged
+    ≡ list (int_values (pos 5 ∷ negsuc 0 ∷ [])) ∷ list no_values ∷ list (int_values (pos 7 ∷ []))
+    ∷ []
 jagged-items = refl
 
 jagged-type : array_type jagged ≡ var (leaf Primitives.I64)
@@ -46,21 +50,36 @@ outside-items : array_items outside ≡ list no_values ∷ list no_values ∷ []
 outside-items = refl
 
 outside-valid : IsValid outside
-outside-valid = (omega arith, record { start_kind = tt; stop_kind = tt; same_size = refl; ordered = ordered }, omega arith)
+outside-valid = (
+  omega arith,
+  record { start_kind = tt; stop_kind = tt; same_size = refl; ordered = ordered },
+  omega arith,
+)
   where
-    ordered : (i : ℕ) → i < 2 → (at (int64s (pos 5 ∷ negsuc 2 ∷ [])) i ≡ at (int64s (pos 5 ∷ negsuc 2 ∷ [])) i → ⊥) → (pos 0 ≤ℤ at (int64s (pos 5 ∷ negsuc 2 ∷ [])) i) × (at (int64s (pos 5 ∷ negsuc 2 ∷ [])) i ≤ℤ at (int64s (pos 5 ∷ negsuc 2 ∷ [])) i) × (at (int64s (pos 5 ∷ negsuc 2 ∷ [])) i ≤ℤ pos 0)
+    ordered : (i : ℕ) → i < 2
+        → (at (int64s (pos 5 ∷ negsuc 2 ∷ [])) i ≡ at (int64s (pos 5 ∷ negsuc 2 ∷ [])) i → ⊥)
+        → (pos 0 ≤ℤ at (int64s (pos 5 ∷ negsuc 2 ∷ [])) i)
+        × (at (int64s (pos 5 ∷ negsuc 2 ∷ [])) i ≤ℤ at (int64s (pos 5 ∷ negsuc 2 ∷ [])) i)
+        × (at (int64s (pos 5 ∷ negsuc 2 ∷ [])) i ≤ℤ pos 0)
     ordered i h apart = absurd (apart refl)
 
 -- two lists over the same items
 abbrev overlapping : Layout
-overlapping = lists (int64s (pos 0 ∷ pos 0 ∷ [])) (int64s (pos 3 ∷ pos 3 ∷ [])) (flat (int64s (pos 1 ∷ pos 2 ∷ pos 3 ∷ [])))
+overlapping =
+    lists (int64s (pos 0 ∷ pos 0 ∷ [])) (int64s (pos 3 ∷ pos 3 ∷ []))
+    (flat (int64s (pos 1 ∷ pos 2 ∷ pos 3 ∷ [])))
 
-overlapping-items : array_items overlapping ≡ list (int_values (pos 1 ∷ pos 2 ∷ pos 3 ∷ [])) ∷ list (int_values (pos 1 ∷ pos 2 ∷ pos 3 ∷ [])) ∷ []
+overlapping-items : array_items overlapping
+    ≡ list (int_values (pos 1 ∷ pos 2 ∷ pos 3 ∷ []))
+    ∷ list (int_values (pos 1 ∷ pos 2 ∷ pos 3 ∷ [])) ∷ []
 overlapping-items = refl
 
--- an option index over a byte mask: each negative index is null, and so is an item that the mask hides
+-- an option index over a byte mask: each negative index is null, and so is an item that the mask
+-- hides
 abbrev masked_twice : Layout
-masked_twice = optional (int64s (negsuc 0 ∷ pos 0 ∷ negsuc 6 ∷ pos 1 ∷ [])) (byte_masked (int8s (pos 0 ∷ pos 1 ∷ [])) true (flat (int64s (pos 8 ∷ pos 9 ∷ []))))
+masked_twice =
+    optional (int64s (negsuc 0 ∷ pos 0 ∷ negsuc 6 ∷ pos 1 ∷ []))
+    (byte_masked (int8s (pos 0 ∷ pos 1 ∷ [])) true (flat (int64s (pos 8 ∷ pos 9 ∷ []))))
 
 masked_twice-items : array_items masked_twice ≡ null ∷ null ∷ null ∷ int (pos 9) ∷ []
 masked_twice-items = refl
@@ -69,7 +88,11 @@ masked_twice-type : array_type masked_twice ≡ opt (leaf Primitives.I64)
 masked_twice-type = refl
 
 masked_twice-valid : IsValid masked_twice
-masked_twice-valid = (omega arith, record { kind = tt; below = below }, (omega arith, record { kind = refl; reach = omega arith }, omega arith))
+masked_twice-valid = (
+  omega arith,
+  record { kind = tt; below = below },
+  (omega arith, record { kind = refl; reach = omega arith }, omega arith),
+)
   where
     below : (i : ℕ) → i < 4 → at (int64s (negsuc 0 ∷ pos 0 ∷ negsuc 6 ∷ pos 1 ∷ [])) i <ℤ pos 2
     below zero h = omega (arith, ints)
@@ -80,9 +103,14 @@ masked_twice-valid = (omega arith, record { kind = tt; below = below }, (omega a
 
 -- bits from the most significant of each byte: an item is there where its bit is 0
 abbrev masked_by_bits : Layout
-masked_by_bits = bit_masked (bits false (0x42 ∷ 0xA0 ∷ []) 0 11) false (flat (int8s (pos 0 ∷ pos 1 ∷ pos 2 ∷ pos 3 ∷ pos 4 ∷ pos 5 ∷ pos 6 ∷ pos 7 ∷ pos 8 ∷ pos 9 ∷ pos 10 ∷ [])))
+masked_by_bits =
+    bit_masked (bits false (0x42 ∷ 0xA0 ∷ []) 0 11) false
+    (flat (int8s
+    (pos 0 ∷ pos 1 ∷ pos 2 ∷ pos 3 ∷ pos 4 ∷ pos 5 ∷ pos 6 ∷ pos 7 ∷ pos 8 ∷ pos 9 ∷ pos 10 ∷ [])))
 
-masked_by_bits-items : array_items masked_by_bits ≡ int (pos 0) ∷ null ∷ int (pos 2) ∷ int (pos 3) ∷ int (pos 4) ∷ int (pos 5) ∷ null ∷ int (pos 7) ∷ null ∷ int (pos 9) ∷ null ∷ []
+masked_by_bits-items : array_items masked_by_bits
+    ≡ int (pos 0) ∷ null ∷ int (pos 2) ∷ int (pos 3) ∷ int (pos 4) ∷ int (pos 5) ∷ null
+    ∷ int (pos 7) ∷ null ∷ int (pos 9) ∷ null ∷ []
 masked_by_bits-items = refl
 
 masked_by_bits-type : array_type masked_by_bits ≡ opt (leaf Primitives.I8)
@@ -92,13 +120,19 @@ masked_by_bits-type = refl
 abbrev mixed : Layout
 mixed =
     union (int8s (pos 0 ∷ pos 1 ∷ pos 0 ∷ [])) (int64s (pos 0 ∷ pos 0 ∷ pos 1 ∷ []))
-    (layout (union (int8s (pos 0 ∷ pos 1 ∷ [])) (int64s (pos 0 ∷ pos 0 ∷ [])) (layout (flat (int64s (pos 7 ∷ []))) (layout (flat (record { kind = Truths; items = pos 1 ∷ [] })) no_layouts)))
+    (layout
+    (union (int8s (pos 0 ∷ pos 1 ∷ [])) (int64s (pos 0 ∷ pos 0 ∷ []))
+    (layout (flat (int64s (pos 7 ∷ [])))
+    (layout (flat (record { kind = Truths; items = pos 1 ∷ [] })) no_layouts)))
     (layout (flat (int8s (pos 4 ∷ []))) no_layouts))
 
-mixed-items : array_items mixed ≡ alt 0 (int (pos 7)) ∷ alt 2 (int (pos 4)) ∷ alt 1 (truth true) ∷ []
+mixed-items : array_items mixed
+    ≡ alt 0 (int (pos 7)) ∷ alt 2 (int (pos 4)) ∷ alt 1 (truth true) ∷ []
 mixed-items = refl
 
-mixed-type : array_type mixed ≡ uni (type (leaf Primitives.I64) (type (leaf Primitives.Bool) (type (leaf Primitives.I8) no_types)))
+mixed-type : array_type mixed
+    ≡ uni
+    (type (leaf Primitives.I64) (type (leaf Primitives.Bool) (type (leaf Primitives.I8) no_types)))
 mixed-type = refl
 
 -- lists of size 0 over no items
@@ -118,7 +152,8 @@ hollow-valid = (omega arith, omega arith, tt)
 abbrev vast : Layout
 vast = regular 1099511627776 3 (rows (Some []) 3298534883328 no_layouts)
 
-vast-case : case_of vast 2 ≡ span (rows (Some []) 3298534883328 no_layouts) 2199023255552 3298534883328
+vast-case : case_of vast 2
+    ≡ span (rows (Some []) 3298534883328 no_layouts) 2199023255552 3298534883328
 vast-case = refl
 
 vast-type : array_type vast ≡ reg 1099511627776 (rec [] no_types)
@@ -129,7 +164,9 @@ vast-valid = (omega arith, omega arith, (omega arith, (refl, tt), tt, tt))
 
 -- an index directly over rows is not counted, and other indexes are
 abbrev picked : Layout
-picked = indexed (int64s []) (indexed (int64s []) (rows None 0 (layout (indexed (int64s []) empty) no_layouts)))
+picked =
+    indexed (int64s [])
+    (indexed (int64s []) (rows None 0 (layout (indexed (int64s []) empty) no_layouts)))
 
 picked-counts : (weight picked ≡ 5) × (height picked ≡ 5) × (held picked ≡ 4)
 picked-counts = (refl, refl, refl)

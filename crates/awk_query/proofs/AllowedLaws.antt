@@ -4,11 +4,11 @@ use Rattle.std.proofs.lemmas.List.{length-map}
 use Rattle.serde_json.specs.Data.{Data, null, boolean, number, string, array, object, depth}
 use Rattle.serde_json.specs.Find.{as_str, as_bool, as_integer}
 use Rattle.awk_types.specs.DataType.{Name}
-use Rattle.awk_types.specs.Names.{is_among}
+use Rattle.awk_types.specs.Names.{is_among, are_distinct}
 use Rattle.awk_query.specs.Allowed.{is_of_kind, IsFixed, IsArgument, AreArguments, HasArguments, IsAllowed, AreAllowed}
-use Rattle.awk_query.specs.Arguments.{Args, both, of_fixed, i64_in, u64_in, items_in, item_list, not_zero, some_count, step_in, some_count_in, primitives, primitive_name, primitive_in, bound_in, all_of, are_distinct, if_distinct, texts_in, pair_in, some_exprs, names_and_exprs, named_exprs, fixed_of, part_of, args_of}
+use Rattle.awk_query.specs.Arguments.{Args, both, of_fixed, i64_in, u64_in, items_in, item_list, not_zero, some_count, step_in, some_count_in, primitives, primitive_name, primitive_in, bound_in, all_of, if_distinct, texts_in, pair_in, some_exprs, names_and_exprs, named_exprs, fixed_of, part_of, args_of}
 use Rattle.awk_query.specs.ExprTree as tree
-use Rattle.awk_query.specs.ExprTree.{ExprTree, ExprTrees, exprs_from, expr_list}
+use Rattle.awk_query.specs.ExprTree.{ExprTree, exprs_from, expr_list}
 use Rattle.awk_query.specs.Operations.{Found, row_of}
 use Rattle.awk_query.specs.Reading.{is_whole, if_whole, whole_in, Head, var, whole, truth, call, call_head, list_head, head_of, expr_with, expr_down, expr_said}
 use Rattle.awk_query.specs.declared.kind.ArgKind.{ArgKind}

@@ -1,5 +1,4 @@
 pub mod Views
-pub mod Distinct
 pub mod Lists
 pub mod Levels
 pub mod Heads

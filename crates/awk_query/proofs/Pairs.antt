@@ -6,7 +6,8 @@ use Rattle.awk_types.specs.DataType.{Name}
 use Rattle.serde_json.specs.Data.{Data}
 use Rattle.serde_json.specs.View.{view}
 use Rattle.serde_json.specs.declared.value.Value.{Value}
-use Rattle.awk_query.specs.Arguments.{Args, both, all_of, pair_of, pair_in, named_exprs, names_and_exprs, are_distinct}
+use Rattle.awk_types.specs.Names.{are_distinct}
+use Rattle.awk_query.specs.Arguments.{Args, both, all_of, pair_of, pair_in, named_exprs, names_and_exprs}
 use Rattle.awk_query.specs.declared.fixed.FixedArg.{FixedArg}
 use Rattle.awk_query.specs.declared.fixed.FixedArg.TheVariants.{Texts}
 use Rattle.awk_query.specs.Told.{Unread, query, or_query}

@@ -1,5 +1,5 @@
 -- Lists whose items are read one after another.
-use Rattle.std.proofs.Common.{◌≡◌, ℕ, ◌+◌, ◌≤◌, true, false, cond, List, [], ◌∷◌, ◌++◌, map, drop, length, Option, Some, None, option_map, option_and_then, Ok, Err, refl, sym, ap, ◌∙◌, subst, append_assoc, append-nil}
+use Rattle.std.proofs.Common.{◌≡◌, ℕ, ◌+◌, ◌≤◌, true, cond, List, [], ◌∷◌, ◌++◌, map, drop, length, Option, Some, None, option_map, option_and_then, Ok, refl, sym, ap, ◌∙◌, subst, append_assoc, append-nil}
 use Rattle.std.proofs.lemmas.List.{drop_all}
 use Rattle.awk_types.specs.Gives.{Told}
 use Rattle.awk_types.specs.DataType.{Name}
@@ -7,8 +7,9 @@ use Rattle.serde_json.specs.Data.{Data}
 use Rattle.serde_json.specs.Find.{as_str}
 use Rattle.serde_json.specs.View.{view}
 use Rattle.serde_json.specs.declared.value.Value.{Value}
-use Rattle.awk_query.specs.Arguments.{all_of, if_distinct, are_distinct}
-use Rattle.awk_query.specs.Told.{Unread, query, or_query}
+use Rattle.awk_types.specs.Names.{are_distinct}
+use Rattle.awk_query.specs.Arguments.{all_of, if_distinct}
+use Rattle.awk_query.specs.Told.{Unread, or_query}
 use Rattle.awk_query.proofs.Heads.{failed}
 
 module _ {B : Type 0} (f : Data → Option B) (made : List B) (vs : List Value) (i : ℕ) (v : Value)
@@ -76,12 +77,5 @@ module _ (o : Option (List Data)) (ds : List Data) (items : or_query o ≡ Ok ds
   pub texts-done : (names : List Name) → all_of as_str ds ≡ Some names → are_distinct names ≡ true
       → or_query (option_and_then if_distinct (option_and_then (all_of as_str) o)) ≡ Ok names
   texts-done names all distinct =
-      ap (λ p. or_query (option_and_then if_distinct p)) (of_items o items ∙ all)
-      ∙ ap (λ b. or_query (cond b (Some names) None)) distinct
-
-  pub texts-repeated : (names : List Name) → all_of as_str ds ≡ Some names
-      → are_distinct names ≡ false
-      → or_query (option_and_then if_distinct (option_and_then (all_of as_str) o)) ≡ Err query
-  texts-repeated names all distinct =
       ap (λ p. or_query (option_and_then if_distinct p)) (of_items o items ∙ all)
       ∙ ap (λ b. or_query (cond b (Some names) None)) distinct

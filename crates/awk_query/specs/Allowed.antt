@@ -2,8 +2,8 @@
 -- bounds, and each whole number fits i64 or u64.
 use Rattle.std.specs.Prelude.{◌≡◌, ◌<◌, ℕ, ◌+◌, Bool, true, false, List, [], ◌∷◌, ◌++◌, length, Some, is_some}
 use Rattle.awk_types.specs.DataType.{Name}
-use Rattle.awk_types.specs.Names.{is_among}
-use Rattle.awk_query.specs.Arguments.{not_zero, some_count, primitives, are_distinct}
+use Rattle.awk_types.specs.Names.{is_among, are_distinct}
+use Rattle.awk_query.specs.Arguments.{not_zero, some_count, primitives}
 use Rattle.awk_query.specs.ExprTree.{ExprTree, ExprTrees, var, whole, truth, call, no_exprs, expr, expr_list}
 use Rattle.awk_query.specs.Line as lines
 use Rattle.awk_query.specs.Operations.{row_of}

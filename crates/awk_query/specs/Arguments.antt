@@ -1,9 +1,9 @@
 -- What the arguments of a call give: the values of its expressions, and its other arguments.
-use Rattle.std.specs.Prelude.{ℕ, zero, suc, ℤ, pos, negsuc, Bool, true, not, ◌&&◌, List, [], ◌∷◌, ◌++◌, map, Option, Some, None, option_map, option_and_then, codes, if◌then◌else◌}
+use Rattle.std.specs.Prelude.{ℕ, zero, suc, ℤ, pos, negsuc, List, [], ◌∷◌, ◌++◌, map, Option, Some, None, option_map, option_and_then, codes, if◌then◌else◌}
 use Rattle.serde_json.specs.Data.{Data, null, Items, no_items, item}
 use Rattle.serde_json.specs.Find.{as_bool, as_number, as_str, as_array, as_u64, as_i64}
 use Rattle.awk_types.specs.DataType.{Name}
-use Rattle.awk_types.specs.Names.{is_among}
+use Rattle.awk_types.specs.Names.{is_among, are_distinct}
 use Rattle.awk_query.specs.declared.kind.ArgKind.{ArgKind}
 use Rattle.awk_query.specs.declared.kind.ArgKind.TheVariants as kind
 use Rattle.awk_query.specs.declared.fixed.FixedArg.{FixedArg}
@@ -87,10 +87,6 @@ abbrev pub all_of : {A B : Type 0} → (A → Option B) → List A → Option (L
 all_of f [] = Some []
 all_of f (a ∷ more) =
     option_and_then (λ b. option_map (λ bs. b ∷ bs) (all_of f more)) (f a)
-
-abbrev pub are_distinct : List Name → Bool
-are_distinct [] = true
-are_distinct (n ∷ ns) = not (is_among n ns) && are_distinct ns
 
 abbrev pub if_distinct : List Name → Option (List Name)
 if_distinct ns = if are_distinct ns then Some ns else None

@@ -9,7 +9,7 @@ ghost use Rattle.awk_query.specs.Told.{Reads};
 use crate::fault::QueryFault;
 use crate::fixed::{Fixed, FixedArg};
 use crate::kind::ArgKind;
-use crate::values::{are_distinct, fixed_arg, items};
+use crate::values::{fixed_arg, items};
 use awk_types::{Name, Names};
 use serde_json::Value;
 use std::alloc::Global;
@@ -101,7 +101,7 @@ fn read_named_exprs<'v>(
         names.push(Name::new(alloc, name)?)?;
         args.exprs.push(value)?;
     }
-    if !are_distinct(alloc, &names)? {
+    if !names.are_distinct(alloc)? {
         return Err(QueryFault::Query);
     }
     args.fixed.push(FixedArg::Texts(names))?;

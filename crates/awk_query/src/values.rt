@@ -1,9 +1,8 @@
 //! Arguments that are no expressions.
-ghost use Rattle.std.specs.Prelude.{◌≡◌, IfOk, map};
+ghost use Rattle.std.specs.Prelude.{◌≡◌, map};
 ghost use Rattle.serde_json.specs.Find.{as_str};
 ghost use Rattle.serde_json.specs.View.{view};
 ghost use Rattle.awk_types.specs.Names.{is_among};
-ghost use Rattle.awk_query.specs.Arguments as said;
 ghost use Rattle.awk_query.specs.Arguments.{fixed_of, items_in, i64_in, u64_in, step_in};
 ghost use Rattle.awk_query.specs.Arguments.{some_count_in, primitive_in, primitives, texts_in};
 ghost use Rattle.awk_query.specs.Told.{Reads};
@@ -11,10 +10,9 @@ ghost use Rattle.awk_query.specs.Told.{Reads};
 use crate::fault::QueryFault;
 use crate::fixed::FixedArg;
 use crate::kind::ArgKind;
-use awk_types::{Name, Names, NoMemory};
+use awk_types::{Name, Names};
 use serde_json::Value;
 use std::alloc::Global;
-use std::collections::BTreeSet;
 
 // The names of the nine leaf types.
 const PRIMITIVES: [&str; 9] = [
@@ -130,21 +128,8 @@ fn texts(alloc: Global, value: &Value) -> Result<Names, QueryFault>
         let text = name(alloc, value)?;
         names.push(text)?;
     }
-    if !are_distinct(alloc, &names)? {
+    if !names.are_distinct(alloc)? {
         return Err(QueryFault::Query);
     }
     Ok(names)
-}
-
-/// Whether no name comes twice. The names are not copied.
-pub fn are_distinct(alloc: Global, names: &Names) -> Result<bool, NoMemory>
-    ensures { IfOk result (λ b. b ≡ said.are_distinct names.now) }
-{
-    let mut seen: BTreeSet<&str> = BTreeSet::new(alloc);
-    for i in 0..names.len() {
-        if !seen.insert(names.get(i).as_str())? {
-            return Ok(false);
-        }
-    }
-    Ok(true)
 }

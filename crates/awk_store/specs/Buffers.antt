@@ -61,12 +61,14 @@ is_decoded store key = list_any (bytes_eq key) store.decoded
 
 -- the store once the text of the key is decoded
 abbrev pub with_decoded : Buffers → List ℕ → Buffers
-with_decoded store key = if is_decoded store key then store else record store { decoded = store.decoded ++ key ∷ [] }
+with_decoded store key =
+    if is_decoded store key then store else record store { decoded = store.decoded ++ key ∷ [] }
 
 -- the length of the text that a fetch of the key has to decode: 0 where there is none, or it is
 -- decoded already
 abbrev pub undecoded_len : Buffers → List ℕ → ℕ
-undecoded_len store key = if is_decoded store key then 0 else length (unwrap_or (text_of store.texts key) [])
+undecoded_len store key =
+    if is_decoded store key then 0 else length (unwrap_or (text_of store.texts key) [])
 
 -- the bytes are those of the key, whose text is their standard, padded base64
 pub record IsBuffer (texts : ByKey) (key bytes : List ℕ) : Type 0 where

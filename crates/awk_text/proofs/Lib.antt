@@ -1,3 +1,4 @@
+pub mod Worked
 pub mod Unions
 pub mod SimpleTexts
 pub mod Lengths
@@ -8,3 +9,5 @@ pub mod Costs
 pub mod Places
 pub mod Cases
 pub mod NumberTexts
+pub mod TypeTexts
+pub mod LineEnds

@@ -1,3 +1,5 @@
 pub mod ValueText
 pub mod ArrayText
 pub mod LayoutText
+pub mod TypeText
+pub mod FaultText

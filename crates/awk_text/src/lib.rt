@@ -1,9 +1,13 @@
-//! The texts of values: numbers in decimal, lists in brackets, rows as objects, an alternative without its tag.
+//! The texts of values, of types and of faults.
 #![tactic(auto)]
 
 mod array;
+mod fault;
 mod leaf;
 mod numbers;
+mod typ;
 mod value;
 
 pub use array::{write_array, write_item};
+pub use fault::write_fault;
+pub use typ::write_type;

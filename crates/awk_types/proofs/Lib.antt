@@ -2,6 +2,7 @@ pub mod ListLaws
 pub mod Trees
 pub mod Views
 pub mod NameLaws
+pub mod DistinctLaws
 pub mod SameTypes
 pub mod SameTypeLaws
 pub mod SimpleLaws

@@ -8,6 +8,11 @@ Told-other None a x y h = tt
 Told-other (Some r) None x y h = absurd (cc)
 Told-other (Some r) (Some b) x y h = let same : b ≡ r = cc in ap Err same
 
+-- and of an equal refusal
+pub Told-same : {A B F : Type 0} (o a b : Option F) (x : A) (y : B) → a ≡ b
+    → Told o (refused_or b x) → Told o (refused_or a y)
+Told-same o a b x y e h = subst (λ z. Told o (refused_or z y)) (sym e) (Told-other o b x y h)
+
 -- the first is told first
 pub Told-first : {A B F : Type 0} (o a b : Option F) (x : A) (y : B) → Told o (refused_or a x) → Told o (refused_or (a or b) y)
 Told-first None a b x y h = tt
@@ -35,6 +40,20 @@ refused_or-None a x y e f = ap₂ refused_or e f
 -- where the first is not there, the second
 pub or-None : {F : Type 0} (a b : Option F) → a ≡ None → (a or b) ≡ b
 or-None a b e = ap (λ z. z or b) e
+
+-- behind the first nothing comes
+pub or-last : {F : Type 0} (a : Option F) → (a or None) ≡ a
+or-last None = refl
+or-last (Some r) = refl
+
+pub or-assoc : {F : Type 0} (a b c : Option F) → ((a or b) or c) ≡ (a or (b or c))
+or-assoc None b c = refl
+or-assoc (Some f) b c = refl
+
+-- where none of both is there, neither is
+pub or-both : {F : Type 0} (a b : Option F) → (a or b) ≡ None → (a ≡ None) × (b ≡ None)
+or-both None b h = (refl, h)
+or-both (Some f) b h = absurd (cc)
 
 -- a call that fails, by the fault that it tells
 pub Gives-Err : {X Y E F : Type 0} (view : X → Y) (told : E → Option F) (r : Result X E) (e : E) (said : Result Y F) → r ≡ Err e → Told (told e) said → Gives view told r said

@@ -1,6 +1,6 @@
 -- A test of equality of types is true exactly of equal types.
-use Rattle.std.proofs.Common.{◌≡◌, ◌↔◌, ℕ, Bool as Truth, true, false, ◌==◌, refl, sym, ap, ◌∙◌, arith}
-use Rattle.std.specs.Prelude.{if◌then◌else◌, IsTrue}
+use Rattle.std.proofs.Common.{◌≡◌, ℕ, true, ◌==◌, refl, sym, ap, ◌∙◌, arith}
+use Rattle.std.specs.Prelude.{if◌then◌else◌}
 use Rattle.std.proofs.lemmas.Bool.{and_parts}
 use Rattle.awk_types.specs.declared.primitive.Primitive.{Primitive}
 use Rattle.awk_types.specs.declared.primitive.Primitive.TheVariants.{Bool, I8, I16, I32, I64, U8, U16, U32, U64}
@@ -56,15 +56,3 @@ mutual
   pub same_types-refl : (ts : DataTypes) → same_types ts ts ≡ true
   same_types-refl no_types = refl
   same_types-refl (type t ts) = rw (same_type-refl t) (same_types-refl ts)
-
--- an answer that is true exactly of equal types is the test
-pub same_type_from : (b : Truth) (t u : DataType) → (IsTrue b ↔ (t ≡ u)) → b ≡ same_type t u
-same_type_from b t u h = by (same_type t u) refl
-  where
-    by : (x : Truth) → same_type t u ≡ x → b ≡ same_type t u
-    by true e = h.1 (same_type_is t u e) ∙ sym e
-    by false e = from_false b h ∙ sym e
-      where
-        from_false : (c : Truth) → (IsTrue c ↔ (t ≡ u)) → c ≡ false
-        from_false true k = let yes : same_type t u ≡ true = sym (ap (same_type t) (k.0 refl)) ∙ same_type-refl t in cc
-        from_false false k = refl

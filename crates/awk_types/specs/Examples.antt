@@ -59,14 +59,19 @@ width_127 = refl
 width_128 : limit (union_type (times 128 (leaf I64))) ≡ Some size_limit
 width_128 = refl
 
-width_within : width (opt (tup (types_from (union_type (times 3 (leaf Bool)) ∷ union_type (times 5 (leaf Bool)) ∷ [])))) ≡ 5
+width_within : width
+    (opt
+    (tup (types_from (union_type (times 3 (leaf Bool)) ∷ union_type (times 5 (leaf Bool)) ∷ []))))
+    ≡ 5
 width_within = refl
 
 -- 1 + 255 * (1 + 256) nodes, and then one more
 nodes_65536 : limit (tup (types_from (times 255 (tup (types_from (times 256 (leaf I64))))))) ≡ None
 nodes_65536 = refl
 
-nodes_65537 : limit (tup (types_from (leaf I64 ∷ times 255 (tup (types_from (times 256 (leaf I64))))))) ≡ Some size_limit
+nodes_65537 : limit
+    (tup (types_from (leaf I64 ∷ times 255 (tup (types_from (times 256 (leaf I64)))))))
+    ≡ Some size_limit
 nodes_65537 = refl
 
 -- the depth is told first
@@ -96,7 +101,8 @@ two_nulls = (refl, (tt, (tt, tt)))
 option_in_option : simple (opt (opt (leaf I64))) ≡ opt (leaf I64)
 option_in_option = refl
 
-option_in_option_values : map (simple_value (opt (opt (leaf I64)))) (null ∷ int (pos 9) ∷ []) ≡ null ∷ int (pos 9) ∷ []
+option_in_option_values : map (simple_value (opt (opt (leaf I64)))) (null ∷ int (pos 9) ∷ [])
+    ≡ null ∷ int (pos 9) ∷ []
 option_in_option_values = refl
 
 optional_unknown : simple (opt unknown) ≡ opt unknown
@@ -109,24 +115,33 @@ nested = union_type (union_type (leaf I64 ∷ leaf Bool ∷ []) ∷ leaf I8 ∷ 
 union_in_union : simple nested ≡ union_type (leaf I64 ∷ leaf Bool ∷ leaf I8 ∷ [])
 union_in_union = refl
 
-union_in_union_values : map (simple_value nested) (alt 0 (alt 0 (int (pos 7))) ∷ alt 1 (int (pos 4)) ∷ alt 0 (alt 1 (truth true)) ∷ []) ≡ alt 0 (int (pos 7)) ∷ alt 2 (int (pos 4)) ∷ alt 1 (truth true) ∷ []
+union_in_union_values : map (simple_value nested)
+    (alt 0 (alt 0 (int (pos 7))) ∷ alt 1 (int (pos 4)) ∷ alt 0 (alt 1 (truth true)) ∷ [])
+    ≡ alt 0 (int (pos 7)) ∷ alt 2 (int (pos 4)) ∷ alt 1 (truth true) ∷ []
 union_in_union_values = refl
 
 -- an option in a union is moved outside, through another union too
 abbrev optional : DataType
-optional = union_type (opt (leaf I64) ∷ opt (union_type (leaf Bool ∷ opt (leaf I8) ∷ [])) ∷ leaf U8 ∷ [])
+optional =
+    union_type (opt (leaf I64) ∷ opt (union_type (leaf Bool ∷ opt (leaf I8) ∷ [])) ∷ leaf U8 ∷ [])
 
 option_in_union : simple optional ≡ opt (union_type (leaf I64 ∷ leaf Bool ∷ leaf I8 ∷ leaf U8 ∷ []))
 option_in_union = refl
 
-option_in_union_values : map (simple_value optional) (alt 0 null ∷ alt 0 (int (pos 7)) ∷ alt 1 null ∷ alt 1 (alt 0 (truth true)) ∷ alt 1 (alt 1 null) ∷ alt 1 (alt 1 (int (pos 5))) ∷ alt 2 (int (pos 3)) ∷ []) ≡ null ∷ alt 0 (int (pos 7)) ∷ null ∷ alt 1 (truth true) ∷ null ∷ alt 2 (int (pos 5)) ∷ alt 3 (int (pos 3)) ∷ []
+option_in_union_values : map (simple_value optional)
+    (alt 0 null ∷ alt 0 (int (pos 7)) ∷ alt 1 null ∷ alt 1 (alt 0 (truth true)) ∷ alt 1 (alt 1 null)
+    ∷ alt 1 (alt 1 (int (pos 5))) ∷ alt 2 (int (pos 3)) ∷ [])
+    ≡ null ∷ alt 0 (int (pos 7)) ∷ null ∷ alt 1 (truth true) ∷ null ∷ alt 2 (int (pos 5))
+    ∷ alt 3 (int (pos 3)) ∷ []
 option_in_union_values = refl
 
 -- a union of one stays a union
 union_of_one : simple (union_type (leaf I64 ∷ [])) ≡ union_type (leaf I64 ∷ [])
 union_of_one = refl
 
-within_lists : simple_value (var (tup (types_from (nested ∷ leaf I8 ∷ [])))) (list_value (row_value (alt 1 (int (pos 4)) ∷ int (negsuc 0) ∷ []) ∷ [])) ≡ list_value (row_value (alt 2 (int (pos 4)) ∷ int (negsuc 0) ∷ []) ∷ [])
+within_lists : simple_value (var (tup (types_from (nested ∷ leaf I8 ∷ []))))
+    (list_value (row_value (alt 1 (int (pos 4)) ∷ int (negsuc 0) ∷ []) ∷ []))
+    ≡ list_value (row_value (alt 2 (int (pos 4)) ∷ int (negsuc 0) ∷ []) ∷ [])
 within_lists = refl
 
 -- ---- settling
@@ -134,13 +149,16 @@ within_lists = refl
 settled_null : settle (opt (var (leaf I64))) null ≡ one (opt (var (leaf I64))) null
 settled_null = refl
 
-settled_present : settle (opt (var (leaf I64))) (list_value (int (pos 1) ∷ [])) ≡ arr (leaf I64) (int (pos 1) ∷ [])
+settled_present : settle (opt (var (leaf I64))) (list_value (int (pos 1) ∷ []))
+    ≡ arr (leaf I64) (int (pos 1) ∷ [])
 settled_present = refl
 
-settled_alternative : settle (union_type (leaf Bool ∷ reg 1 (leaf I8) ∷ [])) (alt 1 (list_value (int (pos 1) ∷ []))) ≡ arr (leaf I8) (int (pos 1) ∷ [])
+settled_alternative : settle (union_type (leaf Bool ∷ reg 1 (leaf I8) ∷ []))
+    (alt 1 (list_value (int (pos 1) ∷ []))) ≡ arr (leaf I8) (int (pos 1) ∷ [])
 settled_alternative = refl
 
-settled_number : settle (opt (union_type (leaf Bool ∷ leaf I8 ∷ []))) (alt 1 (int (pos 1))) ≡ one (leaf I8) (int (pos 1))
+settled_number : settle (opt (union_type (leaf Bool ∷ leaf I8 ∷ []))) (alt 1 (int (pos 1)))
+    ≡ one (leaf I8) (int (pos 1))
 settled_number = refl
 
 -- ---- promotion: all pairs of primitives

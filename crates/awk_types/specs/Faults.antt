@@ -1,4 +1,5 @@
--- The faults of operations: that of a type that is refused, that of a limit, and what is told of each.
+-- The faults of operations: that of a type that is refused, that of a limit, and what is told of
+-- each.
 use Rattle.std.specs.Prelude.{Option, Some, None}
 use Rattle.awk_types.specs.Limit.{Limit, depth_limit, size_limit}
 use Rattle.awk_types.specs.declared.limit.TypeFault.{TypeFault}

@@ -6,7 +6,8 @@ abbrev pub Told : {Y F : Type 0} → Option F → Result Y F → Type 0
 Told None said = ⊤
 Told (Some f) said = said ≡ Err f
 
--- what the call answers is what the definition says, where `view` shows its values and `told` its errors
+-- what the call answers is what the definition says, where `view` shows its values and `told` its
+-- errors
 abbrev pub Gives : {X Y E F : Type 0} → (X → Y) → (E → Option F) → Result X E → Result Y F → Type 0
 Gives view told (Ok x) said = said ≡ Ok (view x)
 Gives view told (Err e) said = Told (told e) said

@@ -6,7 +6,8 @@ use Rattle.awk_types.specs.Value.{Value, int, truth, null, list, row, alt, value
 use Rattle.awk_types.specs.declared.primitive.Primitive.{Primitive}
 use Rattle.awk_types.specs.declared.primitive.Primitive.TheVariants.{Bool, I8, I16, I32, I64, U8, U16, U32, U64}
 
--- the least and the greatest number of a primitive; truth values are no numbers, and no number lies in their range
+-- the least and the greatest number of a primitive; truth values are no numbers, and no number lies
+-- in their range
 abbrev pub least_number : Primitive → ℤ
 least_number Bool = pos 0
 least_number I8 = negsuc 127

@@ -24,9 +24,13 @@ abbrev mutual
 pub data Limit : Type 0 where
   depth_limit size_limit : Limit
 
--- the limit that a type passes: its depth first, and then its nodes and the alternatives of its unions
+-- the limit that a type passes: its depth first, and then its nodes and the alternatives of its
+-- unions
 abbrev pub limit : DataType → Option Limit
-limit t = if nat_lt 60 (depth t) then Some depth_limit else if nat_lt 65536 (nodes t) || nat_lt 127 (width t) then Some size_limit else None
+limit t =
+    if nat_lt 60 (depth t) then Some depth_limit
+    else if nat_lt 65536 (nodes t) || nat_lt 127 (width t) then Some size_limit
+    else None
 
 -- a type that passes no limit, or the limit that it passes
 abbrev pub within : DataType → Result DataType Limit

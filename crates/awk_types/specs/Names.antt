@@ -1,5 +1,5 @@
 -- Names of fields, and which lists of names have no name twice.
-use Rattle.std.specs.Prelude.{◌≡◌, Bool, false, List, [], ◌∷◌}
+use Rattle.std.specs.Prelude.{◌≡◌, ◌&&◌, not, Bool, true, false, List, [], ◌∷◌}
 use Rattle.std.specs.List.{list_any}
 use Rattle.std.specs.Str.{bytes_eq}
 use Rattle.std.specs.Cmp.Lexicographic.{pointwise}
@@ -19,3 +19,8 @@ is_among n ns = list_any (λ m. same_name m n) ns
 abbrev pub AreDistinct : List Name → Type 0
 AreDistinct [] = Unit {0}
 AreDistinct (n ∷ ns) = (is_among n ns ≡ false) × AreDistinct ns
+
+-- whether no name comes twice
+abbrev pub are_distinct : List Name → Bool
+are_distinct [] = true
+are_distinct (n ∷ ns) = not (is_among n ns) && are_distinct ns

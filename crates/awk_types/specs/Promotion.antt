@@ -38,7 +38,8 @@ signed_twice U16 = Some I32
 signed_twice U32 = Some I64
 signed_twice p = None
 
--- a signed one and an unsigned one: the signed one where it has more bits, else the signed one of twice the bits
+-- a signed one and an unsigned one: the signed one where it has more bits, else the signed one of
+-- twice the bits
 abbrev pub promotion_mixed : Primitive → Primitive → Option Primitive
 promotion_mixed p q = if nat_lt (bits q) (bits p) then Some p else signed_twice q
 
@@ -50,7 +51,8 @@ promotion_whole a b p q = Some (wider p q)
 
 -- truth values promote to nothing
 abbrev pub promotion : Primitive → Primitive → Option Primitive
-promotion p q = if is_whole p && is_whole q then promotion_whole (is_signed p) (is_signed q) p q else None
+promotion p q =
+    if is_whole p && is_whole q then promotion_whole (is_signed p) (is_signed q) p q else None
 
 -- every number of p is one of r
 abbrev pub HoldsAll : Primitive → Primitive → Type 0

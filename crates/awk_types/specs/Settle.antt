@@ -4,7 +4,8 @@ use Rattle.awk_types.specs.DataType.{DataType, unknown, var, reg, opt, uni, Data
 use Rattle.awk_types.specs.Value.{Value, null, list, alt, value_list}
 use Rattle.awk_types.specs.Datum.{Datum, arr, one}
 
--- a list is the array of its items, a value that is present loses its option, and an alternative its union
+-- a list is the array of its items, a value that is present loses its option, and an alternative
+-- its union
 abbrev mutual
   pub settle : DataType → Value → Datum
   settle (opt t) null = one (opt t) null

@@ -1,5 +1,5 @@
--- Simplifying of types, and of the values that are carried with them: an option of an option is one option, a
--- union in a union is spliced in its place, and an option in a union is moved outside.
+-- Simplifying of types, and of the values that are carried with them: an option of an option is one
+-- option, a union in a union is spliced in its place, and an option in a union is moved outside.
 use Rattle.std.specs.Prelude.{◌≡◌, ℕ, zero, suc, ◌+◌, Bool, true, false, List, [], ◌∷◌, length, map}
 use Rattle.std.specs.List.{list_any, flat_map}
 use Rattle.awk_types.specs.DataType.{DataType, unknown, leaf, var, reg, rec, tup, opt, uni, DataTypes, no_types, type, type_list, types_from}
@@ -37,7 +37,8 @@ option_of t = opt (present t)
 
 -- the union of simple types: where one was optional, the whole is optional
 abbrev pub union_of : List DataType → DataType
-union_of ts = option_if (list_any is_option ts) (uni (types_from (flat_map present_alternatives ts)))
+union_of ts =
+    option_if (list_any is_option ts) (uni (types_from (flat_map present_alternatives ts)))
 
 abbrev mutual
   pub simple : DataType → DataType

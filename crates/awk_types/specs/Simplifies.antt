@@ -32,7 +32,8 @@ pub record Simplifies (whole made : DataType) : Type 0 where
   pub is_simple : IsSimple made
   pub is_type : IsType whole → IsType made
   pub nodes_within : nodes made ≤ nodes whole
-  -- a simple type stays as it is, simplifying twice is once, and simplifying the parts first changes nothing
+  -- a simple type stays as it is, simplifying twice is once, and simplifying the parts first
+  -- changes nothing
   pub stays : IsSimple whole → made ≡ whole
   pub twice : simple made ≡ made
   pub parts_first : simple (over_simple_parts whole) ≡ made
@@ -41,4 +42,6 @@ pub record Simplifies (whole made : DataType) : Type 0 where
   -- values of a simple type stay as they are
   pub values_stay : IsSimple whole → (v : Value) → Has whole v → simple_value whole v ≡ v
   pub values_twice : (v : Value) → Has made v → simple_value made v ≡ v
-  pub values_parts_first : (v : Value) → Has whole v → simple_value (over_simple_parts whole) (value_over_simple_parts whole v) ≡ simple_value whole v
+  pub values_parts_first : (v : Value) → Has whole v
+      → simple_value (over_simple_parts whole) (value_over_simple_parts whole v)
+      ≡ simple_value whole v

@@ -60,7 +60,8 @@ abbrev mutual
   type_from (gcons (gnum zero) p) = leaf (primitive_from p)
   type_from (gcons (gnum (suc zero)) t) = var (type_from t)
   type_from (gcons (gnum (suc (suc zero))) (gcons n t)) = reg (number_tree.from n) (type_from t)
-  type_from (gcons (gnum (suc (suc (suc zero)))) (gcons ns ts)) = rec (names_tree.from ns) (types_from_tree ts)
+  type_from (gcons (gnum (suc (suc (suc zero)))) (gcons ns ts)) =
+      rec (names_tree.from ns) (types_from_tree ts)
   type_from (gcons (gnum (suc (suc (suc (suc zero))))) ts) = tup (types_from_tree ts)
   type_from (gcons (gnum (suc (suc (suc (suc (suc zero)))))) t) = opt (type_from t)
   type_from (gcons (gnum (suc (suc (suc (suc (suc (suc zero))))))) ts) = uni (types_from_tree ts)
@@ -107,7 +108,8 @@ abbrev mutual
   value_from (gcons (gnum (suc zero)) b) = truth (bool_tree.from b)
   value_from (gcons (gnum (suc (suc zero))) vs) = list (values_from_tree vs)
   value_from (gcons (gnum (suc (suc (suc zero)))) vs) = row (values_from_tree vs)
-  value_from (gcons (gnum (suc (suc (suc (suc zero))))) (gcons k v)) = alt (number_tree.from k) (value_from v)
+  value_from (gcons (gnum (suc (suc (suc (suc zero))))) (gcons k v)) =
+      alt (number_tree.from k) (value_from v)
   value_from _ = null
 
   pub values_from_tree : Gv → Values

@@ -32,23 +32,32 @@ typ_step (Typ-F.Uni ts) = uni (types_from ts)
 abbrev pub field_step : Field-F DataType NamedType (List NamedType) (List DataType) → NamedType
 field_step f = record { name = f.name; typ = f.typ }
 
-abbrev pub fields_step : Fields-F DataType NamedType (List NamedType) (List DataType) → List NamedType
+abbrev pub fields_step : Fields-F DataType NamedType (List NamedType) (List DataType)
+    → List NamedType
 fields_step f = f.items.items
 
 abbrev pub typs_step : Typs-F DataType NamedType (List NamedType) (List DataType) → List DataType
 typs_step f = f.items.items
 
 abbrev pub typ_of : Typ → DataType
-typ_of = fold-Typ DataType NamedType (List NamedType) (List DataType) typ_step field_step fields_step typs_step
+typ_of =
+    fold-Typ DataType NamedType (List NamedType) (List DataType) typ_step field_step fields_step
+    typs_step
 
 abbrev pub field_of : Field → NamedType
-field_of = fold-Field DataType NamedType (List NamedType) (List DataType) typ_step field_step fields_step typs_step
+field_of =
+    fold-Field DataType NamedType (List NamedType) (List DataType) typ_step field_step fields_step
+    typs_step
 
 abbrev pub fields_of : Fields → List NamedType
-fields_of = fold-Fields DataType NamedType (List NamedType) (List DataType) typ_step field_step fields_step typs_step
+fields_of =
+    fold-Fields DataType NamedType (List NamedType) (List DataType) typ_step field_step fields_step
+    typs_step
 
 abbrev pub typs_of : Typs → List DataType
-typs_of = fold-Typs DataType NamedType (List NamedType) (List DataType) typ_step field_step fields_step typs_step
+typs_of =
+    fold-Typs DataType NamedType (List NamedType) (List DataType) typ_step field_step fields_step
+    typs_step
 
 -- a type that `get` hands out is smaller than the list: a recursion may go into it
 abbrev pub Below : Typ → Typs → Type 0

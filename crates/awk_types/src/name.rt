@@ -1,8 +1,10 @@
 //! Names of fields.
 ghost use Rattle.std.specs.Prelude.{◌≡◌, ◌<◌, [], ◌∷◌, ◌++◌, length, string_bytes, IfOk, OnErr, OnOk, slice_get};
 ghost use Rattle.awk_types.specs.Names.{is_among};
+ghost use Rattle.awk_types.specs.Names as said;
 
 use std::alloc::{AllocError, Global};
+use std::collections::BTreeSet;
 use std::marker::Model;
 
 /// Want of memory.
@@ -112,6 +114,19 @@ impl Names {
             }
         }
         false
+    }
+
+    /// Whether no name comes twice. The names are not copied.
+    pub fn are_distinct(&self, alloc: Global) -> Result<bool, NoMemory>
+        ensures { IfOk result (λ b. b ≡ said.are_distinct self.now) }
+    {
+        let mut seen: BTreeSet<&str> = BTreeSet::new(alloc);
+        for i in 0..self.len() {
+            if !seen.insert(self.get(i).as_str())? {
+                return Ok(false);
+            }
+        }
+        Ok(true)
     }
 
     /// Equal names.

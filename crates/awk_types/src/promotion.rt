@@ -71,8 +71,8 @@ fn promote_whole(p: Primitive, q: Primitive) -> Option<Primitive>
     }
 }
 
-/// The type that numbers of both types are carried into. There is none where one of the two is `Bool`, or where one is
-/// signed and the other is `U64`.
+/// The type that numbers of both types are carried into. There is none where one of the two is
+/// `Bool`, or where one is signed and the other is `U64`.
 pub fn promote(a: Primitive, b: Primitive) -> Option<Primitive>
     ensures value { result ≡ promotion a b }
     ensures holds_both { IfSome result (λ r. HoldsAll a r × HoldsAll b r) }

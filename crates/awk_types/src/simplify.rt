@@ -107,7 +107,8 @@ fn union(alloc: Global, ts: Typs) -> Result<Typ, NoMemory>
 fn splice_all(alloc: Global, ts: Typs, made: &mut Typs) -> Result<bool, NoMemory>
     ensures optional { let simple_ones = simples (types_from (typs_of ts)) in
         IfOk result (λ b. b ≡ list_any is_option simple_ones) }
-    ensures spliced { let given = flat_map present_alternatives (simples (types_from (typs_of ts))) in
+    ensures spliced { let given =
+        flat_map present_alternatives (simples (types_from (typs_of ts))) in
         OnOk result (typs_of made.new ≡ typs_of made.old ++ given) }
 {
     let mut is_optional = false;

@@ -5,7 +5,6 @@ use Rattle.std.specs.List.{range_with_len}
 use Rattle.std.specs.Ordering.{int_eq}
 use Rattle.std.proofs.lemmas.Int.{ints}
 use Rattle.std.proofs.lemmas.Bool.Decides.{Decides-int_eq, nat_tests}
-use Rattle.awk_types.specs.Gives.{◌or◌}
 use Rattle.awk_types.specs.DataType.{greatest}
 use Rattle.awk_lanes.specs.Numbers.{nat_of}
 use Rattle.awk_lanes.specs.Places.{IsSpan}
@@ -13,12 +12,6 @@ use Rattle.awk_valid.specs.Needs.{greatest_below, reach, behind, behind_at}
 use Rattle.awk_valid.specs.Broken.{Refusal, too_many, item_limit, size_break, place_break, first_broken, rule_break, list_rule, index_rule, tag_rule}
 use Rattle.awk_valid.specs.declared.fault.Rule.{Rule}
 use Rattle.awk_valid.specs.declared.fault.Rule.TheVariants.{Order, Start, Tag}
-
--- ---- of two breaks neither is there
-
-pub neither : (a b : Option Refusal) → (a or b) ≡ None → (a ≡ None) × (b ≡ None)
-neither None b h = (refl, h)
-neither (Some x) b h = absurd (cc)
 
 pub size_break-none : (n : ℕ) → size_break n ≡ None → n ≤ item_limit
 size_break-none n h = by (nat_lt item_limit n) refl h

@@ -6,7 +6,7 @@ use Rattle.std.proofs.Math.Nat.{mul_assoc}
 use Rattle.std.proofs.lemmas.Bool.Decides.{nat_tests}
 use Rattle.std.proofs.lemmas.List.{drop_more}
 use Rattle.std.proofs.lemmas.Option.{slice_get_within, get_or_from_slice_get}
-use Rattle.awk_types.proofs.RefusalLaws.{refused_or-Ok}
+use Rattle.awk_types.proofs.RefusalLaws.{refused_or-Ok, or-both}
 use Rattle.awk_types.specs.Gives.{Told, refused_or}
 use Rattle.awk_lanes.specs.declared.kind.Kind.{Kind}
 use Rattle.awk_lanes.specs.Column.{Column}
@@ -18,7 +18,7 @@ use Rattle.awk_valid.specs.Broken.{Refusal, item_limit, size_break, shape_break}
 use Rattle.awk_valid.specs.Container.{column_at}
 use Rattle.awk_valid.specs.Loaded.{shaped}
 use Rattle.awk_valid.specs.Needs.{product}
-use Rattle.awk_valid.proofs.Places.{neither, size_break-none}
+use Rattle.awk_valid.proofs.Places.{size_break-none}
 
 -- the numbers from a place on begin with the one there
 left : (inner : List ℕ) (i m : ℕ) → slice_get inner i ≡ Some m → drop i inner ≡ m ∷ drop (i + 1) inner
@@ -70,12 +70,12 @@ numbers-next whole i items m inner at e =
 
 pub shape-few : (n : ℕ) (ms : List ℕ) → shape_break n ms ≡ None → n ≤ item_limit
 shape-few n [] h = size_break-none n h
-shape-few n (m ∷ ms) h = size_break-none n (neither (size_break n) (shape_break (n * m) ms) h).0
+shape-few n (m ∷ ms) h = size_break-none n (or-both (size_break n) (shape_break (n * m) ms) h).0
 
 pub shape-left : (n i m : ℕ) (inner : List ℕ) → slice_get inner i ≡ Some m → shape_break n (drop i inner) ≡ None → shape_break (n * m) (drop (i + 1) inner) ≡ None
 shape-left n i m inner at h =
     let here = rw (left inner i m at) at h in
-    (neither (size_break n) (shape_break (n * m) (drop (i + 1) inner)) here).1
+    (or-both (size_break n) (shape_break (n * m) (drop (i + 1) inner)) here).1
 
 -- ---- the node
 

@@ -2,27 +2,14 @@
 use Rattle.std.specs.Prelude.{◌≡◌, ℕ, suc, ◌*◌, List, [], ◌∷◌, refl}
 use Rattle.std.proofs.Common.{ap, ap₂}
 use Rattle.awk_types.specs.DataType.{DataType, leaf, var, reg, opt, uni, row_type, type}
-use Rattle.awk_types.specs.declared.primitive.Primitive.{Primitive}
-use Rattle.awk_types.specs.declared.primitive.Primitive.TheVariants as primitive
 use Rattle.awk_layout.specs.Layout.{Layout}
-use Rattle.awk_layout.specs.Kinds.{primitive_of}
+use Rattle.awk_layout.specs.Kinds.{primitive_of-kind_of}
 use Rattle.awk_layout.specs.Typing.{layout_type, layout_types}
 use Rattle.awk_form.specs.FormTree.{FormTree, empty, numpy, regular, list, list_offset, row, indexed, indexed_option, byte_masked, bit_masked, unmasked, union, FormTrees, no_forms, form}
 use Rattle.awk_form.specs.FormType as said
 use Rattle.awk_form.specs.FormType.{type_of, types_of}
-use Rattle.awk_valid.specs.Container.{Container, kind_of}
+use Rattle.awk_valid.specs.Container.{Container}
 use Rattle.awk_valid.specs.Loaded.{shaped, layout_of, layouts_of}
-
-primitive_of-kind_of : (p : Primitive) → primitive_of (kind_of p) ≡ p
-primitive_of-kind_of primitive.Bool = refl
-primitive_of-kind_of primitive.I8 = refl
-primitive_of-kind_of primitive.I16 = refl
-primitive_of-kind_of primitive.I32 = refl
-primitive_of-kind_of primitive.I64 = refl
-primitive_of-kind_of primitive.U8 = refl
-primitive_of-kind_of primitive.U16 = refl
-primitive_of-kind_of primitive.U32 = refl
-primitive_of-kind_of primitive.U64 = refl
 
 shaped-type : (inner : List ℕ) (n : ℕ) (x : Layout) (t : DataType) → layout_type x ≡ t → layout_type (shaped inner n x) ≡ said.shaped inner t
 shaped-type [] n x t e = e

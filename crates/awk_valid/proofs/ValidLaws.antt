@@ -1,10 +1,10 @@
 -- Where the walk finds no break, the layout is valid and has so many items.
-use Rattle.std.proofs.Common.{◌≡◌, ◌≢◌, ◌<◌, ◌≤◌, ℕ, zero, suc, ◌+◌, ◌*◌, List, [], ◌∷◌, Some, None, Option, refl, sym, ◌∙◌, arith, codes}
+use Rattle.std.proofs.Common.{◌≡◌, ◌≢◌, ◌<◌, ◌≤◌, ℕ, zero, suc, ◌+◌, ◌*◌, List, [], ◌∷◌, Some, None, Option, refl, sym, ◌∙◌, arith, codes, subst}
 use Rattle.std.proofs.Math.Nat.{mul_assoc}
 use Rattle.awk_types.specs.Gives.{◌or◌}
 use Rattle.awk_types.specs.DataType.{Name}
 use Rattle.awk_lanes.specs.declared.kind.Kind.{Kind}
-use Rattle.awk_lanes.specs.Places.{size_of, at, place_at, IsIndexKind, IsOptionKind, AreSpans, IsOffsets, IsIndex, IsOptionalIndex}
+use Rattle.awk_lanes.specs.Places.{size_of, at, place_at, IsOptionKind, AreSpans, IsOffsets, IsIndex, IsOptionalIndex}
 use Rattle.awk_lanes.proofs.NumberParts.{length-numbers}
 use Rattle.awk_lanes.proofs.BitParts.{length-bits}
 use Rattle.awk_layout.specs.Layout as made
@@ -15,20 +15,18 @@ use Rattle.awk_form.specs.Lawful.{count, AreNamesOf, IsLawful, AreLawful}
 use Rattle.awk_form.specs.declared.kind.IndexKind.{IndexKind}
 use Rattle.awk_form.specs.declared.kind.IndexKind.TheVariants.{I32, U32, I64}
 use Rattle.awk_form.specs.Measures.{inner_shape}
-use Rattle.awk_valid.specs.Container.{Container, kind_of, kind_of_index, column_at, index_at, int8s_at, bytes_at}
+use Rattle.awk_types.proofs.RefusalLaws.{or-both}
+use Rattle.awk_layout.specs.Kinds.{kind_of}
+use Rattle.awk_valid.specs.Container.{Container, kind_of_index, column_at, index_at, int8s_at, bytes_at}
 use Rattle.awk_valid.specs.Needs.{product, buffer_needs, reach, behind, behind_at, lists_length, index_length, tag_length, content_length}
 use Rattle.awk_valid.specs.Loaded.{shaped, layout_of, layouts_of}
 use Rattle.awk_form.specs.FormText.{key_of}
 use Rattle.awk_valid.specs.Broken.{Refusal, item_limit, buffers_break, places_break, node_break, size_break, shape_break, rule_break, list_rule, index_rule, tag_rule, broken_from, all_broken_from, broken}
 use Rattle.awk_valid.specs.declared.fault.Rule.TheVariants.{Empty}
-use Rattle.awk_valid.proofs.Places.{neither, size_break-none, rule_break-none, greatest_below-at, list_rule-none, index_rule-none, below-behind, tag_rule-none, behind_at-own}
+use Rattle.awk_valid.proofs.Places.{size_break-none, rule_break-none, greatest_below-at, list_rule-none, index_rule-none, below-behind, tag_rule-none, behind_at-own}
+use Rattle.awk_valid.proofs.ByteLaws.{index_kind, spans-rule, spans-length, offsets-rule, offsets-length, index-rule, index-length, tags-rule, tags-length}
 
 -- ---- kinds and sizes
-
-pub index_kind : (k : IndexKind) → IsIndexKind (kind_of_index k)
-index_kind I32 = tt
-index_kind U32 = tt
-index_kind I64 = tt
 
 pub option_kind : (k : IndexKind) → k ≢ U32 → IsOptionKind (kind_of_index k)
 option_kind I32 h = tt
@@ -47,7 +45,7 @@ size_of-int8s_at c key attribute n = length-numbers Kind.I8 n (bytes_at c key at
 pub shaped-valid : (inner : List ℕ) (n : ℕ) (x : Layout) → shape_break n inner ≡ None → len x ≡ n * product inner → IsValid x → IsValid (shaped inner n x) × (len (shaped inner n x) ≡ n)
 shaped-valid [] n x h l v = (v, omega arith)
 shaped-valid (m ∷ ms) n x h l v =
-    let here = neither (size_break n) (shape_break (n * m) ms) h in
+    let here = or-both (size_break n) (shape_break (n * m) ms) h in
     let inside = shaped-valid ms (n * m) x here.1 (l ∙ sym (mul_assoc n m (product ms))) v in
     let small = size_break-none n here.0 in
     ((omega arith, omega (arith, inside.1), inside.0), refl)
@@ -174,14 +172,14 @@ union-valid c key k m n alternatives xs e some h lengths =
 -- a node that is not broken has no break of its sizes and of its places
 pub own : (f : FormTree) (m n : ℕ) (c : Container) → node_break f m n c ≡ None → (shape_break n (inner_shape f) ≡ None) × (places_break f m n c ≡ None)
 own f m n c h =
-    let sizes = neither (shape_break n (inner_shape f)) (buffers_break c (key_of f) (buffer_needs f n) or places_break f m n c) h in
-    (sizes.0, (neither (buffers_break c (key_of f) (buffer_needs f n)) (places_break f m n c) sizes.1).1)
+    let sizes = or-both (shape_break n (inner_shape f)) (buffers_break c (key_of f) (buffer_needs f n) or places_break f m n c) h in
+    (sizes.0, (or-both (buffers_break c (key_of f) (buffer_needs f n)) (places_break f m n c) sizes.1).1)
 
 -- nor has what is below it
 pub walked : (f : FormTree) (m n : ℕ) (c : Container) (later : Option Refusal) → (node_break f m n c or later) ≡ None
     → (shape_break n (inner_shape f) ≡ None) × (places_break f m n c ≡ None) × (later ≡ None)
 walked f m n c later h =
-    let both = neither (node_break f m n c) later h in
+    let both = or-both (node_break f m n c) later h in
     let here = own f m n c both.0 in
     (here.0, here.1, both.1)
 
@@ -192,7 +190,7 @@ no-items m (suc n) h = absurd (cc)
 shape-small : (inner : List ℕ) (n : ℕ) → shape_break n inner ≡ None → n * product inner ≤ item_limit
 shape-small [] n h = omega (arith, size_break-none n h)
 shape-small (k ∷ ks) n h =
-    let here = neither (size_break n) (shape_break (n * k) ks) h in
+    let here = or-both (size_break n) (shape_break (n * k) ks) h in
     let inside = shape-small ks (n * k) here.1 in
     omega (arith, inside, mul_assoc n k (product ks))
 
@@ -211,12 +209,12 @@ mutual
       let p = walked (list key j k f) m n c _ h in
       let inside = layout_of-valid f _ (content_length (list key j k f) n c 0) c w.1 p.2 in
       let l = size_of-index_at c key (codes "starts") j n in
-      ((omega (arith, l, size_break-none n p.0), spans-valid c key j k m n _ p.1 (sym inside.1), inside.0), l)
+      ((omega (arith, l, size_break-none n p.0), spans-valid c key j k m n _ (sym (spans-rule c key m n j k) ∙ p.1) (sym (spans-length c key m n j k) ∙ sym inside.1), inside.0), l)
   layout_of-valid (list_offset key k f) m n c w h =
       let p = walked (list_offset key k f) m n c _ h in
       let inside = layout_of-valid f _ (content_length (list_offset key k f) n c 0) c w.1 p.2 in
       let l = size_of-index_at c key (codes "offsets") k (n + 1) in
-      ((omega (arith, l, size_break-none n p.0), offsets-valid c key k m n _ p.1 (sym inside.1), inside.0), omega (arith, l))
+      ((omega (arith, l, size_break-none n p.0), offsets-valid c key k m n _ (sym (offsets-rule c key m n k) ∙ p.1) (sym (offsets-length c key m n k) ∙ sym inside.1), inside.0), omega (arith, l))
   layout_of-valid (row key names fs) m n c w h =
       let p = walked (row key names fs) m n c _ h in
       let inside = layouts_of-valid fs _ (content_length (row key names fs) n c) c w.1 p.2 in
@@ -226,12 +224,12 @@ mutual
       let p = walked (indexed key k f) m n c _ h in
       let inside = layout_of-valid f _ (content_length (indexed key k f) n c 0) c w.1 p.2 in
       let l = size_of-index_at c key (codes "index") k n in
-      ((omega (arith, l, size_break-none n p.0), index-valid c key k m n _ p.1 (sym inside.1), inside.0), l)
+      ((omega (arith, l, size_break-none n p.0), index-valid c key k m n _ (sym (index-rule c key m n k) ∙ p.1) (sym (index-length c key m n k) ∙ sym inside.1), inside.0), l)
   layout_of-valid (indexed_option key k f) m n c w h =
       let p = walked (indexed_option key k f) m n c _ h in
       let inside = layout_of-valid f _ (content_length (indexed_option key k f) n c 0) c w.2 p.2 in
       let l = size_of-index_at c key (codes "index") k n in
-      ((omega (arith, l, size_break-none n p.0), option-valid c key k n _ w.1 (sym inside.1), inside.0), l)
+      ((omega (arith, l, size_break-none n p.0), option-valid c key k n _ w.1 (sym (index-length c key m n k) ∙ sym inside.1), inside.0), l)
   layout_of-valid (byte_masked key valid_when f) m n c w h =
       let p = walked (byte_masked key valid_when f) m n c _ h in
       let inside = layout_of-valid f _ n c w.1 p.2 in
@@ -250,14 +248,21 @@ mutual
       let p = walked (union key k fs) m n c _ h in
       let inside = layouts_of-valid fs _ (content_length (union key k fs) n c) c w.3 p.2 in
       let counted = count-layouts_of fs (content_length (union key k fs) n c) c in
-      let l = size_of-int8s_at c key (codes "tags") n in
-      ((omega (arith, l, size_break-none n p.0), union-valid c key k m n (count fs) _ counted (omega (arith, w.1)) p.1 inside.1, inside.0), l)
+      let l = size_of-int8s_at c key (codes "tags") n in (
+        (
+          omega (arith, l, size_break-none n p.0),
+          union-valid c key k m n (count fs) _ counted (omega (arith, w.1)) (sym (tags-rule c key m n k (count fs)) ∙ p.1)
+              (subst (HaveLengths _) (λ i a. tags-length c key m n k a i) inside.1),
+          inside.0,
+        ),
+        l,
+      )
 
   pub layouts_of-valid : (fs : FormTrees) (m : ℕ) (lengths : ℕ → ℕ) (c : Container) → AreLawful fs → all_broken_from fs m lengths c ≡ None
       → AllValid (layouts_of fs lengths c) × HaveLengths (layouts_of fs lengths c) lengths
   layouts_of-valid no_forms m lengths c w h = (tt, tt)
   layouts_of-valid (form f fs) m lengths c w h =
-      let here = neither (broken_from f m (lengths 0) c) _ h in
+      let here = or-both (broken_from f m (lengths 0) c) _ h in
       let one = layout_of-valid f m (lengths 0) c w.0 here.0 in
       let others = layouts_of-valid fs _ (λ k. lengths (suc k)) c w.1 here.1 in
       ((one.0, others.0), (one.1, others.1))

@@ -4,7 +4,7 @@ use Rattle.std.proofs.lemmas.List.{drop_more, drop_all, append-nil}
 use Rattle.std.proofs.lemmas.List.FromFn.{get_or-map-range_with_len, length-map-range_with_len}
 use Rattle.std.proofs.lemmas.Option.{slice_get_within, get_or_from_slice_get}
 use Rattle.std.specs.Global.{Vec}
-use Rattle.awk_types.proofs.RefusalLaws.{Told-first, refused_or-Ok, or-None}
+use Rattle.awk_types.proofs.RefusalLaws.{Told-first, refused_or-Ok, or-None, or-last}
 use Rattle.awk_types.specs.Gives.{Gives, Told, refused_or, ◌or◌}
 use Rattle.awk_store.specs.Buffers.{ByKey, total_len}
 use Rattle.awk_layout.specs.Layout as made
@@ -26,7 +26,6 @@ use Rattle.awk_valid.specs.Walked.{node_said, product_break, own_break, own_said
 use Rattle.awk_valid.specs.Loading.{told}
 use Rattle.awk_valid.specs.declared.fault.LoadFault.{LoadFault}
 use Rattle.awk_valid.specs.declared.own.Own.{Own}
-use Rattle.awk_valid.proofs.PartLaws.{or-last}
 use Rattle.awk_valid.proofs.ValidLaws.{layout_of-valid}
 
 -- ---- steps

@@ -12,7 +12,7 @@ use Rattle.awk_lanes.specs.Numbers.{bytes_of}
 use Rattle.awk_store.specs.declared.fault.BufferWhy.{BufferWhy}
 use Rattle.awk_store.specs.declared.fault.BufferWhy.TheVariants.{Absent, Base64}
 use Rattle.awk_form.specs.FormTree as form
-use Rattle.awk_form.specs.FormTree.{FormTree, FormTrees, no_forms}
+use Rattle.awk_form.specs.FormTree.{FormTree, no_forms}
 use Rattle.awk_form.specs.declared.kind.IndexKind.TheVariants.{I32, U32, I64}
 use Rattle.awk_layout.specs.Typing.{array_type, array_items}
 use Rattle.awk_form.specs.Measures.{nodes}

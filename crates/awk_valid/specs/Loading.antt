@@ -46,7 +46,8 @@ lane_said key k n r = refused_or (bytes_break key (n * width k) r) (column_at k 
 
 -- the first n bits of what there is of a key
 abbrev pub bits_said : Name → Bool → ℕ → Result (List ℕ) BufferWhy → Result (List Bool) Refusal
-bits_said key lsb_order n r = refused_or (bytes_break key ((n + 7) / 8) r) (bits lsb_order (bytes_or_none r) 0 n)
+bits_said key lsb_order n r =
+    refused_or (bytes_break key ((n + 7) / 8) r) (bits lsb_order (bytes_or_none r) 0 n)
 
 -- the refusal that a fault tells; want of memory tells none
 abbrev pub told : LoadFault → Option Refusal

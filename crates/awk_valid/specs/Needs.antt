@@ -4,10 +4,10 @@ use Rattle.std.specs.List.{range_with_len}
 use Rattle.std.specs.Ordering.{int_eq}
 use Rattle.awk_types.specs.DataType.{greatest}
 use Rattle.awk_lanes.specs.Numbers.{width, nat_of}
-use Rattle.awk_lanes.specs.Places.{at}
 use Rattle.awk_form.specs.FormTree.{FormTree, empty, numpy, regular, list, list_offset, row, indexed, indexed_option, byte_masked, bit_masked, unmasked, union}
 use Rattle.awk_form.specs.declared.kind.IndexKind.{IndexKind}
-use Rattle.awk_valid.specs.Container.{Container, kind_of, kind_of_index, index_at, int8s_at}
+use Rattle.awk_layout.specs.Kinds.{kind_of}
+use Rattle.awk_valid.specs.Container.{Container, kind_of_index, index_num, int8_num}
 
 -- ---- the bytes of its buffers
 
@@ -30,9 +30,11 @@ index_need attribute k n = need_of attribute (n * width (kind_of_index k))
 -- the buffers of a node, in order
 abbrev pub buffer_needs : FormTree → ℕ → List Need
 buffer_needs (empty key) n = []
-buffer_needs (numpy key prim inner) n = need_of (codes "data") (n * product inner * width (kind_of prim)) ∷ []
+buffer_needs (numpy key prim inner) n =
+    need_of (codes "data") (n * product inner * width (kind_of prim)) ∷ []
 buffer_needs (regular key size f) n = []
-buffer_needs (list key starts stops f) n = index_need (codes "starts") starts n ∷ index_need (codes "stops") stops n ∷ []
+buffer_needs (list key starts stops f) n =
+    index_need (codes "starts") starts n ∷ index_need (codes "stops") stops n ∷ []
 buffer_needs (list_offset key offsets f) n = index_need (codes "offsets") offsets (n + 1) ∷ []
 buffer_needs (row key names fs) n = []
 buffer_needs (indexed key index f) n = index_need (codes "index") index n ∷ []
@@ -40,7 +42,8 @@ buffer_needs (indexed_option key index f) n = index_need (codes "index") index n
 buffer_needs (byte_masked key valid_when f) n = need_of (codes "mask") n ∷ []
 buffer_needs (bit_masked key valid_when lsb_order f) n = need_of (codes "mask") ((n + 7) / 8) ∷ []
 buffer_needs (unmasked key f) n = []
-buffer_needs (union key index fs) n = need_of (codes "tags") n ∷ index_need (codes "index") index n ∷ []
+buffer_needs (union key index fs) n =
+    need_of (codes "tags") n ∷ index_need (codes "index") index n ∷ []
 
 -- ---- the lengths of its contents
 
@@ -78,13 +81,18 @@ abbrev pub content_length : FormTree → ℕ → Container → ℕ → ℕ
 content_length (empty key) n c k = 0
 content_length (numpy key prim inner) n c k = 0
 content_length (regular key size f) n c k = n * size
-content_length (list key starts stops f) n c k = lists_length n (at (index_at c key (codes "starts") starts n)) (at (index_at c key (codes "stops") stops n))
+content_length (list key starts stops f) n c k =
+    lists_length n (index_num c key (codes "starts") starts) (index_num c key (codes "stops") stops)
 content_length (list_offset key offsets f) n c k =
-    lists_length n (at (index_at c key (codes "offsets") offsets (n + 1))) (λ i. at (index_at c key (codes "offsets") offsets (n + 1)) (i + 1))
+    lists_length n (index_num c key (codes "offsets") offsets)
+    (λ i. index_num c key (codes "offsets") offsets (i + 1))
 content_length (row key names fs) n c k = n
-content_length (indexed key index f) n c k = index_length n (at (index_at c key (codes "index") index n))
-content_length (indexed_option key index f) n c k = index_length n (at (index_at c key (codes "index") index n))
+content_length (indexed key index f) n c k =
+    index_length n (index_num c key (codes "index") index)
+content_length (indexed_option key index f) n c k =
+    index_length n (index_num c key (codes "index") index)
 content_length (byte_masked key valid_when f) n c k = n
 content_length (bit_masked key valid_when lsb_order f) n c k = n
 content_length (unmasked key f) n c k = n
-content_length (union key index fs) n c k = tag_length n (at (int8s_at c key (codes "tags") n)) (at (index_at c key (codes "index") index n)) k
+content_length (union key index fs) n c k =
+    tag_length n (int8_num c key (codes "tags")) (index_num c key (codes "index") index) k

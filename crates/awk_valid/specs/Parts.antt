@@ -22,15 +22,20 @@ abbrev pub own_of : FormTree → ℕ → Container → Own
 own_of (empty key) n c = Whole made.empty
 own_of (numpy key prim inner) n c = Whole (layout_of (numpy key prim inner) n c)
 own_of (regular key size f) n c = Over (Regular size)
-own_of (list key starts stops f) n c = Over (Lists (index_at c key (codes "starts") starts n) (index_at c key (codes "stops") stops n))
-own_of (list_offset key offsets f) n c = Over (OffsetLists (index_at c key (codes "offsets") offsets (n + 1)))
+own_of (list key starts stops f) n c =
+    Over (Lists (index_at c key (codes "starts") starts n) (index_at c key (codes "stops") stops n))
+own_of (list_offset key offsets f) n c =
+    Over (OffsetLists (index_at c key (codes "offsets") offsets (n + 1)))
 own_of (row key names fs) n c = Rows names
 own_of (indexed key index f) n c = Over (Indexed (index_at c key (codes "index") index n))
 own_of (indexed_option key index f) n c = Over (Optional (index_at c key (codes "index") index n))
-own_of (byte_masked key valid_when f) n c = Over (ByteMasked (int8s_at c key (codes "mask") n) valid_when)
-own_of (bit_masked key valid_when lsb_order f) n c = Over (BitMasked (bits lsb_order (bytes_at c key (codes "mask")) 0 n) valid_when)
+own_of (byte_masked key valid_when f) n c =
+    Over (ByteMasked (int8s_at c key (codes "mask") n) valid_when)
+own_of (bit_masked key valid_when lsb_order f) n c =
+    Over (BitMasked (bits lsb_order (bytes_at c key (codes "mask")) 0 n) valid_when)
 own_of (unmasked key f) n c = Over Unmasked
-own_of (union key index fs) n c = Union (int8s_at c key (codes "tags") n) (index_at c key (codes "index") index n)
+own_of (union key index fs) n c =
+    Union (int8s_at c key (codes "tags") n) (index_at c key (codes "index") index n)
 
 -- the last of the contents of a node, or a layout of no items
 abbrev pub only : List Layout → Layout

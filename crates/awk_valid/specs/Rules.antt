@@ -13,4 +13,5 @@ index_rules index i = index_rule (get_or index i (pos 0))
 
 -- of tags, and of the index beside each
 abbrev pub tag_rules : ℕ → List ℤ → List ℤ → ℕ → Option Rule
-tag_rules alternatives tags index i = tag_rule alternatives (get_or tags i (pos 0)) (get_or index i (pos 0))
+tag_rules alternatives tags index i =
+    tag_rule alternatives (get_or tags i (pos 0)) (get_or index i (pos 0))

@@ -1,4 +1,5 @@
--- What the walk tells of a node, of its own part and of what is left of its contents, and the steps that it may take.
+-- What the walk tells of a node, of its own part and of what is left of its contents, and the steps
+-- that it may take.
 use Rattle.std.specs.Prelude.{ℕ, ◌+◌, ◌*◌, List, ◌++◌, drop, Option, None, Result}
 use Rattle.std.specs.Global.{Vec}
 use Rattle.awk_types.specs.Gives.{Gives, refused_or, ◌or◌}
@@ -16,7 +17,8 @@ use Rattle.awk_valid.specs.declared.own.Own.{Own}
 
 -- the layout of node m, of n items, or the first break
 unfoldable pub node_said : FormTree → ℕ → ℕ → ByKey → Result Layout Refusal
-node_said f m n texts = refused_or (broken_from f m n (container_of texts)) (layout_of f n (container_of texts))
+node_said f m n texts =
+    refused_or (broken_from f m n (container_of texts)) (layout_of f n (container_of texts))
 
 -- a regular node has no more items in all its lists than a node may have
 abbrev pub product_break : FormTree → ℕ → Option Refusal
@@ -29,21 +31,32 @@ own_break f m n c = node_break f m n c or product_break f n
 
 -- what node m holds beside its contents, and their lengths, or its own break
 unfoldable pub own_said : FormTree → ℕ → ℕ → ByKey → Result (Own × List ℕ) Refusal
-own_said f m n texts = refused_or (own_break f m n (container_of texts)) (own_of f n (container_of texts), lengths_of f n (container_of texts))
+own_said f m n texts =
+    refused_or (own_break f m n (container_of texts))
+    (own_of f n (container_of texts), lengths_of f n (container_of texts))
 
 abbrev pub GivesOwn : FormTree → ℕ → ℕ → ByKey → Result (Own × Vec ℕ) LoadFault → Type 0
 GivesOwn f m n texts result =
-    Gives {Y = Own × List ℕ} (λ x. (x.0, x.1.items)) told result (refused_or (own_break f m n (container_of texts)) (own_of f n (container_of texts), lengths_of f n (container_of texts)))
+    Gives {Y = Own × List ℕ} (λ x. (x.0, x.1.items)) told result
+    (refused_or (own_break f m n (container_of texts))
+    (own_of f n (container_of texts), lengths_of f n (container_of texts)))
 
 -- the contents from a place on
 abbrev pub rest : FormTree → ℕ → FormTrees
 rest f i = forms_from (drop i (form_list (contents_of f)))
 
--- the node over the layouts so far and those of the contents from place i on, which begin with node j, or their first break
+-- the node over the layouts so far and those of the contents from place i on, which begin with node
+-- j, or their first break
 unfoldable pub left_said : FormTree → ℕ → ℕ → ℕ → List Layout → ByKey → Result Layout Refusal
 left_said f n i j so_far texts =
-    refused_or (all_broken_from (rest f i) j (λ k. content_length f n (container_of texts) (i + k)) (container_of texts))
-    (over n (own_of f n (container_of texts)) (so_far ++ layout_list (layouts_of (rest f i) (λ k. content_length f n (container_of texts) (i + k)) (container_of texts))))
+    refused_or
+    (all_broken_from (rest f i) j (λ k. content_length f n (container_of texts) (i + k))
+    (container_of texts))
+    (over n (own_of f n (container_of texts))
+    (so_far
+    ++ layout_list
+    (layouts_of (rest f i) (λ k. content_length f n (container_of texts) (i + k))
+    (container_of texts))))
 
 -- the steps that so many nodes and inner numbers may take
 unfoldable pub budget : ℕ → ByKey → ℕ

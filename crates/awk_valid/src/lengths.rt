@@ -50,7 +50,8 @@ pub(crate) fn judged_offsets<N: Kernels, L: Ledger>(
     requires offsets { IsIndexKind offsets.now.kind }
     requires some { 0 < size_of offsets.now }
     ensures answer { Gives (λ length. length) told result (refused_or
-        (rule_break node (size_of offsets.now - 1) (λ i. list_rule (at offsets.now i) (at offsets.now (i + 1))))
+        (rule_break node (size_of offsets.now - 1)
+        (λ i. list_rule (at offsets.now i) (at offsets.now (i + 1))))
         (lists_length (size_of offsets.now - 1) (at offsets.now) (λ i. at offsets.now (i + 1)))) }
     ensures cost { steps.new ≤ steps.old + size_of offsets.now }
 {
@@ -108,8 +109,10 @@ pub(crate) fn judged_union<L: Ledger>(
     requires index { IsIndexKind index.now.kind }
     requires same { size_of tags.now ≡ size_of index.now }
     ensures answer { Gives (λ lengths. lengths.items) told result (refused_or
-        (rule_break node (size_of tags.now) (λ i. tag_rule alternatives (at tags.now i) (at index.now i)))
-        (map (tag_length (size_of tags.now) (at tags.now) (at index.now)) (range_with_len 0 alternatives))) }
+        (rule_break node (size_of tags.now)
+        (λ i. tag_rule alternatives (at tags.now i) (at index.now i)))
+        (map (tag_length (size_of tags.now) (at tags.now) (at index.now))
+        (range_with_len 0 alternatives))) }
     ensures cost { steps.new ≤ steps.old + size_of tags.now + size_of index.now }
 {
     let tag_numbers = numbers_of(alloc, tags, steps)?;
@@ -127,7 +130,8 @@ fn judged_spans<N: Kernels>(
     requires { length starts.now ≡ length stops.now }
     ensures { Gives (λ length. length) told result (refused_or
         (rule_break node (length starts.now) (list_rules starts.now stops.now))
-        (lists_length (length starts.now) (λ i. get_or starts.now i (pos 0)) (λ i. get_or stops.now i (pos 0)))) }
+        (lists_length (length starts.now) (λ i. get_or starts.now i (pos 0))
+        (λ i. get_or stops.now i (pos 0)))) }
 {
     judge_lists(kernels, node, starts, stops)?;
     Ok(spans_length(starts, stops))
@@ -189,7 +193,8 @@ fn judged_tags(
     ensures { Gives (λ lengths. lengths.items) told result (refused_or
         (rule_break node (length tags.now) (tag_rules alternatives tags.now index.now))
         (map
-        (tag_length (length tags.now) (λ i. get_or tags.now i (pos 0)) (λ i. get_or index.now i (pos 0)))
+        (tag_length (length tags.now) (λ i. get_or tags.now i (pos 0))
+        (λ i. get_or index.now i (pos 0)))
         (range_with_len 0 alternatives))) }
 {
     judge_tags(node, alternatives, tags, index)?;
@@ -208,7 +213,8 @@ fn tag_lengths(
     requires judged { (k : ℕ) → k < length tags.now → tag_rules alternatives tags.now index.now k ≡
         None }
     ensures { IfOk result (λ lengths. lengths.items ≡ map
-        (tag_length (length tags.now) (λ i. get_or tags.now i (pos 0)) (λ i. get_or index.now i (pos 0)))
+        (tag_length (length tags.now) (λ i. get_or tags.now i (pos 0))
+        (λ i. get_or index.now i (pos 0)))
         (range_with_len 0 alternatives)) }
 {
     let mut lengths = vec![in alloc; 0; alternatives as usize]?;

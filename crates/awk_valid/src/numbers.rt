@@ -5,7 +5,8 @@ ghost use Rattle.awk_lanes.specs.Places.{size_of};
 ghost use Rattle.awk_layout.specs.Layout.{flat};
 ghost use Rattle.awk_store.specs.Buffers.{total_len};
 ghost use Rattle.awk_form.specs.FormTree.{numpy};
-ghost use Rattle.awk_valid.specs.Container.{container_of, kind_of};
+ghost use Rattle.awk_layout.specs.Kinds.{kind_of};
+ghost use Rattle.awk_valid.specs.Container.{container_of};
 ghost use Rattle.awk_valid.specs.Broken.{item_limit, size_break, shape_break, node_break};
 ghost use Rattle.awk_valid.specs.Loaded.{shaped, layout_of};
 ghost use Rattle.awk_valid.specs.Loading.{told};
@@ -16,29 +17,12 @@ use crate::fault::LoadFault;
 use crate::keys::buffer_key;
 use crate::lanes::lane_at;
 use awk_form::Dims;
-use awk_lanes::{Kind, Lane, Steps};
-use awk_layout::Node;
+use awk_lanes::{Lane, Steps};
+use awk_layout::{Node, kind_of};
 use awk_store::Store;
 use awk_types::{Name, NoMemory, Prim};
 use std::alloc::Global;
 use std::sync::ledger::Ledger;
-
-/// The kind of a primitive's numbers.
-fn kind_of(prim: Prim) -> Kind
-    ensures { result ≡ kind_of prim }
-{
-    match prim {
-        Prim::Bool => Kind::Bool,
-        Prim::I8 => Kind::I8,
-        Prim::I16 => Kind::I16,
-        Prim::I32 => Kind::I32,
-        Prim::I64 => Kind::I64,
-        Prim::U8 => Kind::U8,
-        Prim::U16 => Kind::U16,
-        Prim::U32 => Kind::U32,
-        Prim::U64 => Kind::U64,
-    }
-}
 
 /// How many items n lists of one size have.
 pub(crate) fn items_of(n: u64, size: u64) -> Result<u64, LoadFault>

@@ -60,7 +60,8 @@ pub(crate) fn node<'a, N: Kernels, L: Ledger>(
         store.old.texts) }
     ensures next { OnOk result (next.new ≡ next.old + nodes (form_of form.now)) }
     ensures texts { store.new.texts ≡ store.old.texts }
-    ensures cost { steps.new ≤ steps.old + budget (extent.width (form_of form.now)) store.old.texts }
+    ensures cost { steps.new ≤
+        steps.old + budget (extent.width (form_of form.now)) store.old.texts }
 {
     let spot = Spot { node: *next, n };
     // There are fewer nodes than 2^64 in any memory.

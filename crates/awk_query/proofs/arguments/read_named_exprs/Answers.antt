@@ -2,7 +2,8 @@ use Rattle.std.proofs.Common.{◌≡◌, ◌+◌, ◌<◌, ◌++◌, ◌∷◌, 
 use Rattle.std.proofs.lemmas.List.{drop_more, length-map, map-append}
 use Rattle.serde_json.specs.View.{view}
 use Rattle.awk_types.proofs.RefusalLaws.{Gives-Err}
-use Rattle.awk_query.specs.Arguments.{items_in, pair_in, are_distinct}
+use Rattle.awk_types.specs.Names.{are_distinct}
+use Rattle.awk_query.specs.Arguments.{items_in, pair_in}
 use Rattle.awk_query.specs.declared.fixed.FixedArg.TheVariants.{Texts}
 use Rattle.awk_query.specs.ArgsView.{args_view}
 use Rattle.awk_query.specs.Told.{unread_told}

@@ -8,7 +8,7 @@ use Rattle.awk_text.proofs.numbers.write_numbers.Given as goal
 -- some numbers are put, and those from place j on are left
 abbrev pub invariant-loop-j : goal.invariant-loop-j
 invariant-loop-j g l = record {
-  places : PlacesLeft (g.K.Sink.written l.fn.sink) (g.K.Sink.written l.sink) l.out l.fn.out.held (span_text (flat l.lane) l.lo l.hi)
+  places : PlacesLeft (codes ",") (g.K.Sink.written l.fn.sink) (g.K.Sink.written l.sink) l.out l.fn.out.held (span_text (flat l.lane) l.lo l.hi)
       (layout_text (flat l.lane)) l.lo l.j l.hi (codes "]");
   flushes : g.K.Sink.flushes l.sink ≡ g.K.Sink.flushes l.fn.sink;
   later : g.K.Sink.faults l.fn.sink ≤ g.K.Sink.faults l.sink;

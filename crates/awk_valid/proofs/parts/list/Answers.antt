@@ -1,12 +1,12 @@
 -- The rule is judged over the starts and stops that were made.
 use Rattle.std.proofs.Common.{◌≡◌, None, Err, arith, ap, sym, ◌∙◌, refl, codes, ◌∷◌, [], ap₂}
-use Rattle.awk_types.proofs.RefusalLaws.{refused_or-Ok, refused_or-None, Gives-Err}
+use Rattle.awk_types.proofs.RefusalLaws.{refused_or-Ok, refused_or-None, Gives-Err, Told-same}
 use Rattle.awk_store.specs.Buffers.{total_len}
 use Rattle.awk_valid.specs.Container.{container_of}
 use Rattle.awk_valid.specs.Loading.{told}
 use Rattle.awk_valid.specs.declared.own.One.TheVariants.{Lists}
 use Rattle.awk_valid.specs.declared.own.Own.TheVariants.{Over}
-use Rattle.awk_valid.proofs.PartLaws.{told_as, told_second, index_told, both_none, index_fetched, list-own}
+use Rattle.awk_valid.proofs.PartLaws.{told_second, index_told, both_none, index_fetched, list-own}
 use Rattle.awk_valid.proofs.parts.list.Goals as goal
 
 pub returns-in_err-stops-clause-answer : goal.returns-in_err-stops-clause-answer
@@ -41,7 +41,7 @@ returns-in_err-length-clause-answer g c f =
     let stops = index_fetched t c.index_lane.new.store.texts c.args.key.now (codes "stops") c.args.stop_kind c.args.spot.n c.in_ok-stops.stops c.in_ok-starts.ensures.texts c.in_ok-stops.ensures.answer in
     let own = list-own (container_of t) c.args.key.now c.args.start_kind c.args.stop_kind f c.args.spot.node c.args.spot.n c.in_ok-starts.starts c.in_ok-stops.stops small
     (both_none _ _ starts.0 (both_none _ None stops.0 refl)) starts.1 stops.1 starts.2 in
-    Gives-Err _ _ _ e _ failed (told_as (told e) _ _ _ _ own.0 c.in_err-length.ensures.answer)
+    Gives-Err _ _ _ e _ failed (Told-same (told e) _ _ _ _ own.0 c.in_err-length.ensures.answer)
 
 pub returns-in_err-length-clause-cost : goal.returns-in_err-length-clause-cost
 returns-in_err-length-clause-cost g c =

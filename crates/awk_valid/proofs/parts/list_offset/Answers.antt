@@ -1,11 +1,11 @@
 -- The rule is judged over the offsets that were made.
 use Rattle.std.proofs.Common.{◌≡◌, ◌+◌, None, Err, arith, ◌∙◌, refl, codes, ◌∷◌, [], ap, ap₂, sym}
-use Rattle.awk_types.proofs.RefusalLaws.{refused_or-Ok, refused_or-None, Gives-Err}
+use Rattle.awk_types.proofs.RefusalLaws.{refused_or-Ok, refused_or-None, Gives-Err, Told-same}
 use Rattle.awk_valid.specs.Container.{container_of}
 use Rattle.awk_valid.specs.Loading.{told}
 use Rattle.awk_valid.specs.declared.own.One.TheVariants.{OffsetLists}
 use Rattle.awk_valid.specs.declared.own.Own.TheVariants.{Over}
-use Rattle.awk_valid.proofs.PartLaws.{told_as, both_none, index_fetched, offsets-own}
+use Rattle.awk_valid.proofs.PartLaws.{both_none, index_fetched, offsets-own}
 use Rattle.awk_valid.proofs.parts.list_offset.Goals as goal
 
 pub returns-in_err-length-clause-answer : goal.returns-in_err-length-clause-answer
@@ -16,7 +16,7 @@ returns-in_err-length-clause-answer g c f =
     let small = (refused_or-Ok _ _ _ c.in_ok-judged_size.ensures).0 in
     let lane = index_fetched t t c.args.key.now (codes "offsets") c.args.kind (c.args.spot.n + 1) c.in_ok-offsets.offsets refl c.in_ok-offsets.ensures.answer in
     let own = offsets-own (container_of t) c.args.key.now c.args.kind f c.args.spot.node c.args.spot.n c.in_ok-offsets.offsets small (both_none _ None lane.0 refl) lane.1 lane.2 in
-    Gives-Err _ _ _ e _ failed (told_as (told e) _ _ _ _ own.0 c.in_err-length.ensures.answer)
+    Gives-Err _ _ _ e _ failed (Told-same (told e) _ _ _ _ own.0 c.in_err-length.ensures.answer)
 
 pub returns-in_err-length-clause-cost : goal.returns-in_err-length-clause-cost
 returns-in_err-length-clause-cost g c =

@@ -1,9 +1,8 @@
 -- A NumpyArray has no contents.
 use Rattle.std.proofs.Common.{◌≡◌, None, Err, arith, sym, ap₂, ◌∙◌}
-use Rattle.awk_types.proofs.RefusalLaws.{Told-first, refused_or-Ok, refused_or-None, Gives-Err}
+use Rattle.awk_types.proofs.RefusalLaws.{Told-first, refused_or-Ok, refused_or-None, Gives-Err, or-last}
 use Rattle.awk_valid.specs.Loading.{told}
 use Rattle.awk_valid.specs.declared.own.Own.TheVariants.{Whole}
-use Rattle.awk_valid.proofs.PartLaws.{or-last}
 use Rattle.awk_valid.proofs.parts.numbers.Goals as goal
 
 pub returns-in_err-node-clause-answer : goal.returns-in_err-node-clause-answer

@@ -1,9 +1,9 @@
 -- Each content is as long as the node.
 use Rattle.std.proofs.Common.{◌≡◌, replicate, arith, sym, ap, ap₂, ◌∙◌}
-use Rattle.awk_types.proofs.RefusalLaws.{refused_or-Ok, refused_or-None}
+use Rattle.awk_types.proofs.RefusalLaws.{refused_or-Ok, refused_or-None, or-last}
 use Rattle.awk_form.specs.Lawful.{count}
 use Rattle.awk_valid.specs.declared.own.Own.TheVariants.{Rows}
-use Rattle.awk_valid.proofs.PartLaws.{or-last, same_lengths}
+use Rattle.awk_valid.proofs.PartLaws.{same_lengths}
 use Rattle.awk_valid.proofs.parts.row.Goals as goal
 
 pub returns : goal.returns

@@ -1,6 +1,6 @@
 -- The rule is judged over the tags and the index that were made.
 use Rattle.std.proofs.Common.{◌≡◌, None, Err, arith, ap, sym, ◌∙◌, refl, codes, map}
-use Rattle.awk_types.proofs.RefusalLaws.{refused_or-Ok, refused_or-None, Gives-Err}
+use Rattle.awk_types.proofs.RefusalLaws.{refused_or-Ok, refused_or-None, Gives-Err, Told-same}
 use Rattle.awk_store.specs.Buffers.{total_len}
 use Rattle.awk_valid.specs.Container.{container_of}
 use Rattle.awk_valid.specs.Loading.{told}
@@ -8,7 +8,7 @@ use Rattle.std.specs.List.{range_with_len}
 use Rattle.awk_form.specs.FormTree.{union}
 use Rattle.awk_valid.specs.Needs.{content_length}
 use Rattle.awk_valid.specs.declared.own.Own.TheVariants.{Union}
-use Rattle.awk_valid.proofs.PartLaws.{told_as, both_none, index_fetched, int8s_fetched, union-own}
+use Rattle.awk_valid.proofs.PartLaws.{both_none, index_fetched, int8s_fetched, union-own}
 use Rattle.awk_valid.proofs.parts.union.Goals as goal
 
 pub judged_union-requires-clause-same : goal.judged_union-requires-clause-same
@@ -28,7 +28,7 @@ returns-in_err-lengths-clause-answer g c fs counted =
     let index = index_fetched t c.int8_lane.new.store.texts c.args.key.now (codes "index") c.args.kind c.args.spot.n c.in_ok-index.index c.in_ok-tags.ensures.texts c.in_ok-index.ensures.answer in
     let own = union-own (container_of t) c.args.key.now c.args.kind fs c.args.alternatives c.args.spot.node c.args.spot.n c.in_ok-tags.tags c.in_ok-index.index counted small
     (both_none _ _ tags.0 (both_none _ None index.0 refl)) tags.1 index.1 tags.2 in
-    Gives-Err _ _ _ e _ failed (told_as (told e) _ _ _ _ own.0 c.in_err-lengths.ensures.answer)
+    Gives-Err _ _ _ e _ failed (Told-same (told e) _ _ _ _ own.0 c.in_err-lengths.ensures.answer)
 
 pub returns-in_err-lengths-clause-cost : goal.returns-in_err-lengths-clause-cost
 returns-in_err-lengths-clause-cost g c =

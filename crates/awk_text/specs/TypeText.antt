@@ -1,0 +1,87 @@
+-- The texts of types, and of data by their types.
+use Rattle.std.specs.Prelude.{ℕ, Bool, true, false, not, ◌==◌, ◌&&◌, ◌||◌, List, [], ◌∷◌, ◌++◌, if◌then◌else◌, codes, decimal, length}
+use Rattle.std.specs.Char.{is_ascii_digit, is_ascii_alphanumeric}
+use Rattle.std.specs.List.{list_all}
+use Rattle.awk_types.specs.declared.primitive.Primitive.{Primitive}
+use Rattle.awk_types.specs.declared.primitive.Primitive.TheVariants as primitive
+use Rattle.awk_types.specs.DataType.{Name, DataType, unknown, leaf, var, reg, rec, tup, opt, uni, DataTypes, no_types, type}
+use Rattle.awk_types.specs.Datum.{Datum, arr, one}
+use Rattle.awk_types.specs.View.{NamedType}
+use Rattle.awk_json.specs.Text.{quoted, joined}
+use Rattle.awk_text.specs.ValueText.{Text}
+
+abbrev pub primitive_text : Primitive → Text
+primitive_text primitive.Bool = codes "bool"
+primitive_text primitive.I8 = codes "int8"
+primitive_text primitive.I16 = codes "int16"
+primitive_text primitive.I32 = codes "int32"
+primitive_text primitive.I64 = codes "int64"
+primitive_text primitive.U8 = codes "uint8"
+primitive_text primitive.U16 = codes "uint16"
+primitive_text primitive.U32 = codes "uint32"
+primitive_text primitive.U64 = codes "uint64"
+
+-- a letter, a digit or `_`
+abbrev pub is_word : ℕ → Bool
+is_word b = is_ascii_alphanumeric b || b == 95
+
+-- whether a name stands as it is: of letters, digits and `_`, beginning with no digit
+abbrev pub is_bare : Name → Bool
+is_bare [] = false
+is_bare (b ∷ bytes) = not (is_ascii_digit b) && list_all is_word (b ∷ bytes)
+
+abbrev pub name_text : Name → Text
+name_text n = if is_bare n then n else quoted n
+
+abbrev pub is_list : DataType → Bool
+is_list (var t) = true
+is_list (reg n t) = true
+is_list t = false
+
+-- what stands around the type of an option's values: brackets where they are lists
+abbrev pub option_opening : DataType → Text
+option_opening t = if is_list t then codes "option[" else codes "?"
+
+abbrev pub option_close : DataType → Text
+option_close t = if is_list t then codes "]" else []
+
+-- texts between two brackets
+abbrev pub enclosed : Text → List Text → Text → Text
+enclosed opening texts close = opening ++ (joined (codes ", ") texts ++ close)
+
+-- a field: its name, and the text of its type
+abbrev pub field_type_text : Name → Text → Text
+field_type_text n text = name_text n ++ (codes ": " ++ text)
+
+abbrev pub field_type_texts : List Name → List Text → List Text
+field_type_texts [] texts = []
+field_type_texts (n ∷ ns) [] = []
+field_type_texts (n ∷ ns) (text ∷ texts) = field_type_text n text ∷ field_type_texts ns texts
+
+-- the length of a list, before the type of its items
+abbrev pub size_text : ℕ → Text
+size_text n = decimal n ++ codes " * "
+
+abbrev mutual
+  pub type_text : DataType → Text
+  type_text unknown = codes "unknown"
+  type_text (leaf p) = primitive_text p
+  type_text (var t) = codes "var * " ++ type_text t
+  type_text (reg n t) = size_text n ++ type_text t
+  type_text (rec ns ts) = enclosed (codes "{") (field_type_texts ns (type_texts ts)) (codes "}")
+  type_text (tup ts) = enclosed (codes "(") (type_texts ts) (codes ")")
+  type_text (opt t) = option_opening t ++ (type_text t ++ option_close t)
+  type_text (uni ts) = enclosed (codes "union[") (type_texts ts) (codes "]")
+
+  pub type_texts : DataTypes → List Text
+  type_texts no_types = []
+  type_texts (type t ts) = type_text t ∷ type_texts ts
+
+-- a field of a record
+abbrev pub named_type_text : NamedType → Text
+named_type_text f = field_type_text f.name (type_text f.typ)
+
+-- an array's type has its length, that of a single value stands alone
+abbrev pub datum_type_text : Datum → Text
+datum_type_text (arr t vs) = size_text (length vs) ++ type_text t
+datum_type_text (one t v) = type_text t
