@@ -16,3 +16,13 @@ pub mod Spreads
 pub mod Shapes
 pub mod Settles
 pub mod Inners
+pub mod CountedLaws
+pub mod PlaceLanes
+pub mod ReachedLaws
+pub mod TaggedLaws
+pub mod SpanLaws
+pub mod ResultLaws
+pub mod OrderedOptions
+pub mod OrderedUnions
+pub mod OrderedKinds
+pub mod JoinedLaws

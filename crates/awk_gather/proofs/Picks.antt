@@ -1,6 +1,6 @@
 -- Layouts that hold the items at places.
 use Rattle.std.proofs.Common.{subst, length, ◌≡◌, ℕ, suc, zero, ◌+◌, ◌-◌, ◌*◌, ◌<◌, ◌≤◌, ◌^◌, List, arith, refl, ap, sym, ◌∙◌}
-use Rattle.std.specs.Prelude.{ℤ, pos, ◌≤ℤ◌, Bool, Option}
+use Rattle.std.specs.Prelude.{ℤ, pos, ◌≤ℤ◌, Bool}
 use Rattle.std.proofs.lemmas.Nat.{row_fits}
 use Rattle.awk_types.specs.DataType.{reg}
 use Rattle.awk_types.specs.Value.{Value, list}
@@ -8,7 +8,7 @@ use Rattle.awk_lanes.specs.declared.kind.Kind.TheVariants.{I64}
 use Rattle.awk_lanes.specs.Column.{Column}
 use Rattle.awk_lanes.specs.Numbers.{nat_of}
 use Rattle.awk_lanes.specs.Places.{at, place_at, size_of, option_place, AreSpans, IsIndex, IsOptionalIndex}
-use Rattle.awk_layout.specs.Layout.{Layout, Layouts, empty, flat, regular, lists, offset_lists, rows, indexed, optional, byte_masked, bit_masked, unmasked, union, height}
+use Rattle.awk_layout.specs.Layout.{Layout, Layouts, empty, flat, regular, lists, offset_lists, indexed, optional, byte_masked, bit_masked, unmasked, union, height}
 use Rattle.awk_layout.specs.Valid.{len, IsValid}
 use Rattle.awk_layout.specs.Laws.{len-fits}
 use Rattle.awk_layout.specs.Item.{item, leaf_value, run, at_option, byte_shows, bit_shows}
@@ -118,7 +118,7 @@ union_picks t i p xs = record {
 }
 
 -- k items from a place on
-run_same : (f g : ℕ → Value) (a b k : ℕ) → ((i : ℕ) → i < k → f (a + i) ≡ g (b + i)) → run f a k ≡ run g b k
+pub run_same : (f g : ℕ → Value) (a b k : ℕ) → ((i : ℕ) → i < k → f (a + i) ≡ g (b + i)) → run f a k ≡ run g b k
 run_same f g a b zero h = refl
 run_same f g a b (suc k) h =
     let z : a + 0 ≡ a = omega arith in

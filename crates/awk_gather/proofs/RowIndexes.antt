@@ -1,20 +1,18 @@
 -- Places as an index over the rows of a record.
-use Rattle.std.proofs.Common.{◌≡◌, ℕ, ◌<◌, ◌≤◌, get_or, length, map, Bool, true, false, arith, refl, ap, sym, ◌∙◌, subst}
-use Rattle.std.specs.Prelude.{ℤ, pos, ◌≤ℤ◌, nat_lt, Option, List, if◌then◌else◌}
-use Rattle.std.specs.List.{range_with_len}
+use Rattle.std.proofs.Common.{◌≡◌, ℕ, ◌<◌, ◌≤◌, get_or, Bool, true, false, arith, refl, ap, sym, ◌∙◌}
+use Rattle.std.specs.Prelude.{ℤ, pos, nat_lt, Option, List, if◌then◌else◌}
 use Rattle.std.proofs.lemmas.Bool.{le-ltb}
 use Rattle.std.proofs.lemmas.List.{ext_get_or}
 use Rattle.std.proofs.lemmas.List.FromFn.{length-map-range_with_len, get_or-map-range_with_len}
-use Rattle.awk_lanes.specs.declared.kind.Kind.{Kind}
 use Rattle.awk_lanes.specs.declared.kind.Kind.TheVariants.{U32, I64}
 use Rattle.awk_lanes.specs.Column.{Column}
 use Rattle.awk_lanes.specs.Numbers.{element, nat_of}
-use Rattle.awk_lanes.specs.Places.{at, place_at, size_of, IsIndexKind, IsIndex}
+use Rattle.awk_lanes.specs.Places.{at, size_of, IsIndexKind, IsIndex}
 use Rattle.awk_types.specs.DataType.{Name}
 use Rattle.awk_layout.specs.Layout.{Layout, Layouts, is_rows, empty, flat, regular, lists, offset_lists, rows, indexed, optional, byte_masked, bit_masked, unmasked, union}
 use Rattle.awk_layout.specs.Item.{item}
 use Rattle.awk_layout.specs.Valid.{len}
-use Rattle.awk_gather.specs.Arrays.{index_kind, index_over}
+use Rattle.awk_gather.specs.Arrays.{index_over}
 use Rattle.awk_gather.specs.Lanes.{lane_of}
 use Rattle.awk_gather.specs.Picked.{IsPicked}
 use Rattle.awk_gather.proofs.Gathers.{at-I64}

@@ -1,5 +1,5 @@
 -- The items of an array at places.
-use Rattle.std.specs.Prelude.{◌≡◌, ℕ, ◌<◌, ◌≤◌, List, map, get_or, ℤ, option_map, Result, if◌then◌else◌}
+use Rattle.std.specs.Prelude.{◌≡◌, ℕ, ◌<◌, List, map, get_or, ℤ, option_map, Result, if◌then◌else◌}
 use Rattle.std.specs.Prelude.{nat_lt}
 use Rattle.awk_types.specs.DataType.{DataType, opt}
 use Rattle.awk_types.specs.Value.{Value, null}

@@ -19,4 +19,23 @@ impl Kernels for Plain {
     fn greatest(&self, xs: &[i64]) -> Option<i64> {
         xs.iter().copied().max()
     }
+
+    fn prefix_sums(&self, xs: &[u64], out: &mut [u64]) -> Option<usize> {
+        out[0] = 0;
+        let mut sum: u64 = 0;
+        for i in 0..xs.len() {
+            let Some(next) = sum.checked_add(xs[i]) else {
+                return Some(i);
+            };
+            sum = next;
+            out[i + 1] = next;
+        }
+        None
+    }
+
+    fn gather(&self, xs: &[i64], places: &[u64], out: &mut [i64]) {
+        for i in 0..places.len() {
+            out[i] = xs[places[i] as usize];
+        }
+    }
 }

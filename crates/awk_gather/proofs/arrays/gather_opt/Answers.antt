@@ -1,9 +1,9 @@
 -- The array of the node is what is told: its type and items, or the limit that the type passes.
-use Rattle.std.proofs.Common.{◌≡◌, subst}
+use Rattle.std.proofs.Common.{subst}
 use Rattle.awk_layout.specs.Layout.{Layout}
 use Rattle.awk_gather.specs.Arrays.{picked_or_null}
 use Rattle.awk_gather.specs.Peeled.{IsPickedOpt}
-use Rattle.awk_gather.proofs.ArrayAnswers.{datum_or_fault, answer_refused, answer_given}
+use Rattle.awk_gather.proofs.ArrayAnswers.{answer_refused, answer_given}
 use Rattle.awk_gather.proofs.Gathers.{gathered_opt, picked_or_null-is}
 use Rattle.awk_gather.proofs.arrays.gather_opt.Goals as goal
 
