@@ -1,5 +1,5 @@
 -- Where an item settles, from where the item below it does.
-use Rattle.std.proofs.Common.{◌≡◌, ◌≢◌, ℕ, ◌+◌, ◌*◌, ◌<◌, ◌≤◌, arith, refl, sym, ◌∙◌, inl, inr, ◌⊎◌, subst, ap, ap₂, [], ◌∷◌, length, get_or, slice_range}
+use Rattle.std.proofs.Common.{◌≡◌, ℕ, ◌+◌, ◌<◌, ◌≤◌, arith, refl, sym, ◌∙◌, inl, inr, ◌⊎◌, subst, ap, ap₂, [], ◌∷◌, length, get_or, slice_range}
 use Rattle.std.specs.Prelude.{None, Result, Ok, Err, IfOk}
 use Rattle.awk_types.specs.Datum.{arr, one}
 use Rattle.awk_types.specs.Limit.{limit}
@@ -10,12 +10,12 @@ use Rattle.awk_layout.specs.declared.datum.Datum.{Datum}
 use Rattle.awk_layout.specs.declared.datum.Datum.TheVariants.{One}
 use Rattle.awk_layout.specs.Item.{item}
 use Rattle.awk_layout.specs.Layout.{Layout, weight, height}
-use Rattle.awk_layout.specs.Place.{Case, IsWithin, span, through}
+use Rattle.awk_layout.specs.Place.{IsWithin, span, through}
 use Rattle.awk_layout.specs.Typing.{layout_type, array_type, array_items}
 use Rattle.awk_layout.specs.Valid.{len}
 use Rattle.awk_view.specs.declared.settling.End.{End}
 use Rattle.awk_view.specs.declared.settling.End.TheVariants.{Null, Single, Items}
-use Rattle.awk_view.specs.End.{IsEnd, IsSingleOf, IsListOf, IsItemOf, IsOneOf, IsArrOf, simple_item, settled_item, end_weight}
+use Rattle.awk_view.specs.End.{IsEnd, IsSingleOf, IsListOf, IsItemOf, IsOneOf, IsArrOf, simple_item, settled_item}
 use Rattle.awk_view.proofs.Limits.{limit-settle}
 use Rattle.awk_view.proofs.SettleLaws.{settle-null}
 use Rattle.awk_view.proofs.SettledItems.{StaysOne, IsListed, Follows, length-array_items, get_or-array_items, item_part}

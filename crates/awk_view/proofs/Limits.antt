@@ -1,9 +1,9 @@
 -- What a value of a type settles to has a type within the same limits.
-use Rattle.std.proofs.Common.{◌≡◌, ℕ, zero, suc, ◌+◌, ◌≤◌, ◌||◌, sum, ◌∷◌, true, false, Bool, if◌then◌else◌, arith, refl, ap, ◌∙◌, sym}
+use Rattle.std.proofs.Common.{◌≡◌, ℕ, zero, suc, ◌+◌, ◌≤◌, ◌||◌, sum, true, false, Bool, if◌then◌else◌, arith, refl, ap, ◌∙◌, sym}
 use Rattle.std.specs.Prelude.{nat_lt, Option, Some, None}
 use Rattle.std.proofs.lemmas.Bool.{le-ltb, ltb-false}
 use Rattle.std.proofs.lemmas.Grind.{common_steps}
-use Rattle.awk_types.specs.DataType.{DataType, unknown, leaf, var, reg, rec, tup, opt, uni, DataTypes, no_types, type, greatest, depth, depths, nodes, nodes_each}
+use Rattle.awk_types.specs.DataType.{DataType, var, reg, opt, uni, DataTypes, no_types, type, greatest, depth, depths, nodes, nodes_each}
 use Rattle.awk_types.specs.Datum.{Datum, arr, one}
 use Rattle.awk_types.specs.Limit.{Limit, depth_limit, size_limit, limit, width, widths}
 use Rattle.awk_types.specs.Settle.{settle, settle_alternative}

@@ -2,7 +2,7 @@
 use Rattle.std.proofs.Common.{◌≡◌, ◌≢◌, ℕ, zero, suc, ◌+◌, ◌<◌, Bool, true, false, List, [], ◌∷◌, ◌++◌, length, arith, refl, ap, sym, ◌∙◌}
 use Rattle.std.specs.List.{list_any, flat_map}
 use Rattle.awk_types.specs.DataType.{DataType, unknown, leaf, var, reg, rec, tup, opt, uni, DataTypes, no_types, type, types_from, type_list}
-use Rattle.awk_types.specs.Value.{Value, int, truth, null, list, row, alt}
+use Rattle.awk_types.specs.Value.{Value, null, alt}
 use Rattle.awk_types.specs.Datum.{one}
 use Rattle.awk_types.specs.Has.{Has, HasAlternative}
 use Rattle.awk_types.specs.Settle.{settle, settle_alternative}

@@ -1,28 +1,28 @@
 -- How an item of a valid layout settles, by what it is one level down.
-use Rattle.std.proofs.Common.{◌≡◌, ◌≢◌, ℕ, zero, suc, ◌+◌, ◌-◌, ◌*◌, ◌<◌, ◌≤◌, ◌==◌, Bool, true, false, List, [], ◌∷◌, length, map, take, drop, get_or, slice_range, Option, Some, None, if◌then◌else◌, arith, refl, ap, ap₂, sym, subst, ◌∙◌, ℤ, length-take, length-drop, get_or-take, get_or-drop}
+use Rattle.std.proofs.Common.{◌≡◌, ◌≢◌, ℕ, zero, suc, ◌+◌, ◌-◌, ◌*◌, ◌<◌, ◌≤◌, ◌==◌, Bool, true, false, List, [], ◌∷◌, length, map, drop, get_or, slice_range, Option, Some, None, if◌then◌else◌, arith, refl, ap, sym, subst, ◌∙◌, ℤ, length-take, length-drop, get_or-take, get_or-drop}
 use Rattle.std.specs.List.{range_with_len}
 use Rattle.std.specs.Ordering.{int_eq}
 use Rattle.std.proofs.lemmas.List.{ext_get_or, length-map, get_or-map}
 use Rattle.std.proofs.lemmas.List.FromFn.{length-map-range_with_len, get_or-map-range_with_len}
-use Rattle.awk_types.specs.DataType.{Name, DataType, DataTypes, unknown, leaf, var, reg, rec, tup, opt, uni, row_type, types_from}
-use Rattle.awk_types.specs.Datum.{Datum, arr, one}
-use Rattle.awk_types.specs.Has.{Has, HasAlternative}
+use Rattle.awk_types.specs.DataType.{Name, DataType, DataTypes, var, reg, opt, uni, row_type, types_from}
+use Rattle.awk_types.specs.Datum.{arr, one}
+use Rattle.awk_types.specs.Has.{HasAlternative}
 use Rattle.awk_types.specs.Settle.{settle, settle_alternative}
-use Rattle.awk_types.specs.Simple.{simple, simples, simple_value, simple_values, in_list, value_by, value_after, alternatives_before}
-use Rattle.awk_types.specs.Value.{Value, Values, int, truth, null, list, row, alt, value_list, values_from}
+use Rattle.awk_types.specs.Simple.{simple, simples, simple_value, simple_values, value_by, value_after, alternatives_before}
+use Rattle.awk_types.specs.Value.{Value, Values, null, row, alt, value_list, values_from}
 use Rattle.awk_types.proofs.SimpleLaws.{simples_are_simple, has_simple_alternative}
 use Rattle.awk_types.proofs.Trees.{value_list-from}
 use Rattle.awk_lanes.specs.declared.kind.Kind.{Kind}
 use Rattle.awk_lanes.specs.declared.kind.Kind.TheVariants.{Bool as Truths, I8, I16, I32, I64, U8, U16, U32, U64}
 use Rattle.awk_lanes.specs.Places.{at, place_at, option_place_at}
 use Rattle.awk_layout.specs.Layout.{Layout, Layouts, count, weight, weights, empty, flat, regular, lists, offset_lists, rows, indexed, optional, byte_masked, bit_masked, unmasked, union, no_layouts, layout}
-use Rattle.awk_layout.specs.Valid.{len, IsValid, AllValid}
+use Rattle.awk_layout.specs.Valid.{len, IsValid}
 use Rattle.awk_layout.specs.Numbered.{IsNumbered}
 use Rattle.awk_layout.specs.Item.{item, items, items_across, item_of, leaf_value, run, byte_shows, bit_shows}
 use Rattle.awk_layout.specs.Place.{Case, number, span, across, missing, through, alternative, case_of, value_of, nth, span_between, through_option, IsWithin}
 use Rattle.awk_layout.specs.Laws.{item-case_of, case_of-within}
 use Rattle.awk_layout.specs.Typing.{layout_type, layout_types, array_type, array_items}
-use Rattle.awk_layout.proofs.Runs.{value_list-run, length-run}
+use Rattle.awk_layout.proofs.Runs.{value_list-run}
 use Rattle.awk_layout.proofs.TypedItems.{alternative_has}
 use Rattle.awk_view.proofs.SettleLaws.{settle-option_of, in_option-simple, value_after-present, settle-union_of}
 

@@ -2,7 +2,7 @@
 use Rattle.std.specs.Prelude.{◌≡◌, ℕ, List, [], ◌∷◌, get_or, codes, true, Some, ℤ, pos, negsuc, refl}
 use Rattle.awk_types.specs.DataType.{DataType, leaf, var, rec, opt, uni, types_from}
 use Rattle.awk_types.specs.declared.primitive.Primitive.TheVariants.{I8, I64}
-use Rattle.awk_types.specs.Value.{int, null, row, alt, values_from}
+use Rattle.awk_types.specs.Value.{int, null, row, values_from}
 use Rattle.awk_types.specs.Datum.{Datum, arr, one}
 use Rattle.awk_types.specs.Settle.{settle}
 use Rattle.awk_lanes.specs.declared.kind.Kind.TheVariants as kind
