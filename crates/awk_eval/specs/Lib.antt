@@ -6,3 +6,4 @@ pub mod Ranges
 pub mod Fixed
 pub mod OperandView
 pub mod Eval
+pub mod Views

@@ -1,10 +1,9 @@
 -- Where the walk finds no break, the items of the layout are those that the form denotes, at each place.
-use Rattle.std.proofs.Common.{◌≡◌, ◌≢◌, ◌<◌, ◌≤◌, ℕ, zero, suc, ◌+◌, ◌-◌, ◌*◌, List, [], ◌∷◌, get_or, map, None, Option, Ok, refl, sym, ap, ap₂, ◌∙◌, arith, codes, ℤ, pos, negsuc, ◌≤ℤ◌, Bool, false, cond}
+use Rattle.std.proofs.Common.{◌≡◌, ◌≢◌, ◌<◌, ◌≤◌, ℕ, zero, suc, ◌+◌, ◌-◌, ◌*◌, List, [], ◌∷◌, get_or, map, None, Ok, refl, sym, ap, ap₂, ◌∙◌, arith, codes, ℤ, pos, negsuc, ◌≤ℤ◌, Bool, false, cond}
 use Rattle.std.specs.List.{range_with_len}
 use Rattle.std.specs.Option.{option_map}
 use Rattle.std.proofs.Math.Nat.{mul_assoc, mul-le-mul}
 use Rattle.std.proofs.lemmas.Int.{ints}
-use Rattle.awk_types.specs.DataType.{Name}
 use Rattle.awk_types.specs.Value.{Value, int, truth, null, list, row, alt, value}
 use Rattle.awk_types.specs.Datum.{arr}
 use Rattle.awk_types.proofs.RefusalLaws.{refused_or-Ok, refused_or-None, or-both}
@@ -18,7 +17,6 @@ use Rattle.awk_lanes.specs.Numbers.{is_nonzero, nat_of, element as read_as}
 use Rattle.awk_lanes.specs.Places.{at, option_place, IsSpan}
 use Rattle.awk_lanes.proofs.NumberParts.{get_or-numbers, length-numbers}
 use Rattle.awk_lanes.proofs.BitParts.{get_or-bits, length-bits}
-use Rattle.awk_lanes.proofs.PlaceLaws.{at-index}
 use Rattle.awk_layout.specs.Layout.{Layout}
 use Rattle.awk_layout.specs.Item as layout_item
 use Rattle.awk_layout.specs.Item.{leaf_value, run, at_option, agrees, items}
@@ -27,26 +25,20 @@ use Rattle.awk_layout.specs.Valid.{len}
 use Rattle.awk_form.specs.FormTree.{FormTree, empty, numpy, regular, list as list_array, list_offset, row as row_array, indexed, indexed_option, byte_masked, bit_masked, unmasked, union, FormTrees, no_forms, form}
 use Rattle.awk_form.specs.FormType.{type_of}
 use Rattle.awk_form.specs.Lawful.{count}
-use Rattle.awk_form.specs.declared.kind.IndexKind.{IndexKind}
 use Rattle.awk_layout.specs.Kinds.{kind_of}
-use Rattle.awk_valid.specs.Container.{Container, bytes_at, kind_of_index, column_at, index_at, int8s_at}
+use Rattle.awk_valid.specs.Container.{Container, bytes_at, column_at, index_num, int8_num}
 use Rattle.awk_valid.specs.Needs.{product, reach, behind, behind_at, content_length}
 use Rattle.awk_valid.specs.Loaded.{shaped, layout_of, layouts_of}
-use Rattle.awk_valid.specs.Denote.{element, index_num, int8_num, between, shaped_item, item, items_across, item_of, denote, denoting}
+use Rattle.awk_valid.specs.Denote.{element, between, shaped_item, item, items_across, item_of, denote, denoting}
 use Rattle.awk_valid.specs.Broken.{list_rule, index_rule, tag_rule, broken_from, all_broken_from, broken}
 use Rattle.awk_valid.specs.Loading.{limited, refusal, loading}
 use Rattle.awk_valid.proofs.Places.{rule_break-none, greatest_below-at, list_rule-none, index_rule-none, tag_rule-none, behind_at-own}
 use Rattle.awk_valid.proofs.ShapeLaws.{content-len}
 use Rattle.awk_valid.proofs.TypeLaws.{layout_type-layout_of}
-use Rattle.awk_valid.proofs.ValidLaws.{index_kind, size_of-index_at, size_of-int8s_at, own, walked, no-items}
+use Rattle.awk_valid.proofs.ValidLaws.{size_of-index_at, size_of-int8s_at, own, walked, no-items}
+use Rattle.awk_valid.proofs.ByteLaws.{index-num, int8-num}
 
 -- ---- numbers by place
-
-index-num : (c : Container) (key : Option Name) (attribute : List ℕ) (k : IndexKind) (n i : ℕ) → i < n → at (index_at c key attribute k n) i ≡ index_num c key attribute k i
-index-num c key attribute k n i h = at-index (index_at c key attribute k n) i (index_kind k) ∙ get_or-numbers (kind_of_index k) n (bytes_at c key attribute) i h
-
-int8-num : (c : Container) (key : Option Name) (attribute : List ℕ) (n i : ℕ) → i < n → at (int8s_at c key attribute n) i ≡ int8_num c key attribute i
-int8-num c key attribute n i h = get_or-numbers kind.I8 n (bytes_at c key attribute) i h
 
 mask-bit : (o : Bool) (b : List ℕ) (n i : ℕ) → i < n → get_or (bits o b 0 n) i false ≡ bit o b i
 mask-bit o b n i h = let e : 0 + i ≡ i = omega arith in rw e at (get_or-bits o b 0 n i h)
@@ -117,36 +109,38 @@ mutual
       ap list (run-same _ _ (i * size) size (λ k q r. item-denoted f _ (n * size) c p.2 k (within-lists i n size k l r)))
   item-denoted (list_array key j k f) m n c h i l =
       let p = walked (list_array key j k f) m n c _ h in
-      let s = index_at c key (codes "starts") j n in
-      let t = index_at c key (codes "stops") k n in
+      let s = index_num c key (codes "starts") j in
+      let t = index_num c key (codes "stops") k in
       let size = content_length (list_array key j k f) n c 0 in
-      let most = greatest_below-at (λ (i : ℕ). reach (at s i) (at t i)) n i l in
-      let span = list_rule-none size (at s i) (at t i) (rule_break-none m n i (λ (i : ℕ). list_rule (at s i) (at t i)) p.1 l) most in
-      ap list (span-same _ _ (at s i) (at t i) size span (item-denoted f _ size c p.2) ∙ ap₂ (between (item f c)) (index-num c key (codes "starts") j n i l) (index-num c key (codes "stops") k n i l))
+      let most = greatest_below-at (λ (i : ℕ). reach (s i) (t i)) n i l in
+      let span = list_rule-none size (s i) (t i) (rule_break-none m n i (λ (i : ℕ). list_rule (s i) (t i)) p.1 l) most in
+      ap list (ap₂ (between (layout_item.item (layout_of f size c))) (index-num c key (codes "starts") j n i l) (index-num c key (codes "stops") k n i l)
+      ∙ span-same _ _ (s i) (t i) size span (item-denoted f _ size c p.2))
   item-denoted (list_offset key k f) m n c h i l =
       let p = walked (list_offset key k f) m n c _ h in
-      let o = index_at c key (codes "offsets") k (n + 1) in
+      let o = index_num c key (codes "offsets") k in
       let size = content_length (list_offset key k f) n c 0 in
-      let most = greatest_below-at (λ (i : ℕ). reach (at o i) (at o (i + 1))) n i l in
-      let span = list_rule-none size (at o i) (at o (i + 1)) (rule_break-none m n i (λ (i : ℕ). list_rule (at o i) (at o (i + 1))) p.1 l) most in
-      ap list (span-same _ _ (at o i) (at o (i + 1)) size span (item-denoted f _ size c p.2)
-      ∙ ap₂ (between (item f c)) (index-num c key (codes "offsets") k (n + 1) i (omega arith)) (index-num c key (codes "offsets") k (n + 1) (i + 1) (omega arith)))
+      let most = greatest_below-at (λ (i : ℕ). reach (o i) (o (i + 1))) n i l in
+      let span = list_rule-none size (o i) (o (i + 1)) (rule_break-none m n i (λ (i : ℕ). list_rule (o i) (o (i + 1))) p.1 l) most in
+      ap list (ap₂ (between (layout_item.item (layout_of f size c))) (index-num c key (codes "offsets") k (n + 1) i (omega arith)) (index-num c key (codes "offsets") k (n + 1) (i + 1) (omega arith))
+      ∙ span-same _ _ (o i) (o (i + 1)) size span (item-denoted f _ size c p.2))
   item-denoted (row_array key names fs) m n c h i l =
       let p = walked (row_array key names fs) m n c _ h in
       ap row (items_across-denoted fs _ (content_length (row_array key names fs) n c) c p.2 i (λ k. l))
   item-denoted (indexed key k f) m n c h i l =
       let p = walked (indexed key k f) m n c _ h in
-      let j = index_at c key (codes "index") k n in
+      let j = index_num c key (codes "index") k in
       let size = content_length (indexed key k f) n c 0 in
-      let most = greatest_below-at (λ (i : ℕ). behind (at j i)) n i l in
-      let place = index_rule-none size (at j i) (rule_break-none m n i (λ (i : ℕ). index_rule (at j i)) p.1 l) most in
-      item-denoted f _ size c p.2 _ place.1 ∙ ap (λ z. item f c (nat_of z)) (index-num c key (codes "index") k n i l)
+      let most = greatest_below-at (λ (i : ℕ). behind (j i)) n i l in
+      let place = index_rule-none size (j i) (rule_break-none m n i (λ (i : ℕ). index_rule (j i)) p.1 l) most in
+      ap (λ z. layout_item.item (layout_of f size c) (nat_of z)) (index-num c key (codes "index") k n i l) ∙ item-denoted f _ size c p.2 _ place.1
   item-denoted (indexed_option key k f) m n c h i l =
       let p = walked (indexed_option key k f) m n c _ h in
-      let j = index_at c key (codes "index") k n in
+      let j = index_num c key (codes "index") k in
       let size = content_length (indexed_option key k f) n c 0 in
-      let most = greatest_below-at (λ (i : ℕ). behind (at j i)) n i l in
-      at_option-same size (at j i) _ (item f c) most (item-denoted f _ size c p.2) ∙ ap (λ z. at_option (option_place z) (item f c)) (index-num c key (codes "index") k n i l)
+      let most = greatest_below-at (λ (i : ℕ). behind (j i)) n i l in
+      ap (λ z. at_option (option_place z) (layout_item.item (layout_of f size c))) (index-num c key (codes "index") k n i l)
+      ∙ at_option-same size (j i) _ (item f c) most (item-denoted f _ size c p.2)
   item-denoted (byte_masked key valid_when f) m n c h i l =
       let p = walked (byte_masked key valid_when f) m n c _ h in
       ap₂ (λ z v. cond (agrees valid_when (is_nonzero z)) v null) (int8-num c key (codes "mask") n i l) (item-denoted f _ n c p.2 i l)
@@ -158,15 +152,15 @@ mutual
       item-denoted f _ n c p.2 i l
   item-denoted (union key k fs) m n c h i l =
       let p = walked (union key k fs) m n c _ h in
-      let t = int8s_at c key (codes "tags") n in
-      let j = index_at c key (codes "index") k n in
+      let t = int8_num c key (codes "tags") in
+      let j = index_num c key (codes "index") k in
       let lengths = content_length (union key k fs) n c in
-      let kept = tag_rule-none (count fs) (at t i) (at j i) (rule_break-none m n i (λ (i : ℕ). tag_rule (count fs) (at t i) (at j i)) p.1 l) in
-      let most = greatest_below-at (λ (i' : ℕ). behind_at (nat_of (at t i)) (at t i') (at j i')) n i l in
-      let reached = behind_at-own (at t i) (at j i) kept.0 in
-      let place = index_rule-none (lengths (nat_of (at t i))) (at j i) kept.2 (omega (arith, most, reached)) in
-      ap (alt (nat_of (at t i))) (item_of-denoted fs _ lengths c p.2 (nat_of (at t i)) (nat_of (at j i)) place.1)
-      ∙ ap₂ (λ y z. alt (nat_of y) (item_of fs c (nat_of y) (nat_of z))) (int8-num c key (codes "tags") n i l) (index-num c key (codes "index") k n i l)
+      let kept = tag_rule-none (count fs) (t i) (j i) (rule_break-none m n i (λ (i : ℕ). tag_rule (count fs) (t i) (j i)) p.1 l) in
+      let most = greatest_below-at (λ (i' : ℕ). behind_at (nat_of (t i)) (t i') (j i')) n i l in
+      let reached = behind_at-own (t i) (j i) kept.0 in
+      let place = index_rule-none (lengths (nat_of (t i))) (j i) kept.2 (omega (arith, most, reached)) in
+      ap₂ (λ y z. alt (nat_of y) (layout_item.item_of (layouts_of fs lengths c) (nat_of y) (nat_of z))) (int8-num c key (codes "tags") n i l) (index-num c key (codes "index") k n i l)
+      ∙ ap (alt (nat_of (t i))) (item_of-denoted fs _ lengths c p.2 (nat_of (t i)) (nat_of (j i)) place.1)
 
   -- at one place of all contents
   items_across-denoted : (fs : FormTrees) (m : ℕ) (lengths : ℕ → ℕ) (c : Container) → all_broken_from fs m lengths c ≡ None → (i : ℕ) → ((k : ℕ) → i < lengths k)

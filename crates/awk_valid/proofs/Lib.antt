@@ -1,6 +1,7 @@
 pub mod Worked
 pub mod TypeLaws
 pub mod Places
+pub mod ByteLaws
 pub mod ValidLaws
 pub mod LaneLaws
 pub mod SearchLaws

@@ -15,7 +15,8 @@ use Rattle.awk_valid.specs.Container.{Container, container_of, kind_of_index, bu
 use Rattle.awk_valid.specs.Needs.{buffer_needs, lists_length, index_length, tag_length, content_length}
 use Rattle.awk_valid.specs.Broken.{Refusal, size_break, bytes_break, buffers_break, rule_break, list_rule, index_rule, tag_rule}
 use Rattle.awk_valid.specs.Walked.{own_break}
-use Rattle.awk_valid.proofs.ValidLaws.{index_kind, size_of-index_at, size_of-int8s_at}
+use Rattle.awk_valid.proofs.ValidLaws.{size_of-index_at, size_of-int8s_at}
+use Rattle.awk_valid.proofs.ByteLaws.{index_kind, spans-rule, spans-length, offsets-rule, offsets-length, index-rule, index-length, tags-rule, tags-length}
 
 -- ---- breaks in turn
 
@@ -74,8 +75,9 @@ pub list-own : (c : Container) (key : Option Name) (j k : IndexKind) (f : FormTr
     × (content_length (list key j k f) n c 0 ≡ lists_length (size_of starts) (at starts) (at stops))
 list-own c key j k f m n starts stops small there e g size = (
   or-last _ ∙ or-None (size_break n) _ small ∙ or-None (buffers_break c key (buffer_needs (list key j k f) n)) _ there
+      ∙ spans-rule c key m n j k
       ∙ ap₂ (λ s t. rule_break m n (λ i. list_rule (at s i) (at t i))) e g ∙ ap (λ l. rule_break m l (λ i. list_rule (at starts i) (at stops i))) (sym size),
-  ap₂ (λ s t. lists_length n (at s) (at t)) e g ∙ ap (λ l. lists_length l (at starts) (at stops)) (sym size),
+  spans-length c key m n j k ∙ ap₂ (λ s t. lists_length n (at s) (at t)) e g ∙ ap (λ l. lists_length l (at starts) (at stops)) (sym size),
 )
 
 pub offsets-own : (c : Container) (key : Option Name) (k : IndexKind) (f : FormTree) (m n : ℕ) (lane : Column) → size_break n ≡ None
@@ -85,8 +87,9 @@ pub offsets-own : (c : Container) (key : Option Name) (k : IndexKind) (f : FormT
 offsets-own c key k f m n lane small there e size =
     let less : n ≡ size_of lane - 1 = omega (arith, size) in (
       or-last _ ∙ or-None (size_break n) _ small ∙ or-None (buffers_break c key (buffer_needs (list_offset key k f) n)) _ there
+          ∙ offsets-rule c key m n k
           ∙ ap₂ (λ l s. rule_break m l (λ i. list_rule (at s i) (at s (i + 1)))) less e,
-      ap₂ (λ l s. lists_length l (at s) (λ i. at s (i + 1))) less e,
+      offsets-length c key m n k ∙ ap₂ (λ l s. lists_length l (at s) (λ i. at s (i + 1))) less e,
     )
 
 pub indexed-own : (c : Container) (key : Option Name) (k : IndexKind) (f : FormTree) (m n : ℕ) (lane : Column) → size_break n ≡ None
@@ -94,8 +97,9 @@ pub indexed-own : (c : Container) (key : Option Name) (k : IndexKind) (f : FormT
     → (own_break (indexed key k f) m n c ≡ rule_break m (size_of lane) (λ i. index_rule (at lane i))) × (content_length (indexed key k f) n c 0 ≡ index_length (size_of lane) (at lane))
 indexed-own c key k f m n lane small there e size = (
   or-last _ ∙ or-None (size_break n) _ small ∙ or-None (buffers_break c key (buffer_needs (indexed key k f) n)) _ there
+      ∙ index-rule c key m n k
       ∙ ap₂ (λ l s. rule_break m l (λ i. index_rule (at s i))) (sym size) e,
-  ap₂ (λ l s. index_length l (at s)) (sym size) e,
+  index-length c key m n k ∙ ap₂ (λ l s. index_length l (at s)) (sym size) e,
 )
 
 pub optional-own : (c : Container) (key : Option Name) (k : IndexKind) (f : FormTree) (m n : ℕ) (lane : Column) → size_break n ≡ None
@@ -103,7 +107,7 @@ pub optional-own : (c : Container) (key : Option Name) (k : IndexKind) (f : Form
     → (own_break (indexed_option key k f) m n c ≡ None) × (content_length (indexed_option key k f) n c 0 ≡ index_length (size_of lane) (at lane))
 optional-own c key k f m n lane small there e size = (
   or-last _ ∙ or-None (size_break n) _ small ∙ or-None (buffers_break c key (buffer_needs (indexed_option key k f) n)) _ there,
-  ap₂ (λ l s. index_length l (at s)) (sym size) e,
+  index-length c key m n k ∙ ap₂ (λ l s. index_length l (at s)) (sym size) e,
 )
 
 pub union-own : (c : Container) (key : Option Name) (k : IndexKind) (fs : FormTrees) (alternatives m n : ℕ) (tags index : Column) → count fs ≡ alternatives → size_break n ≡ None
@@ -112,7 +116,9 @@ pub union-own : (c : Container) (key : Option Name) (k : IndexKind) (fs : FormTr
     × (map (content_length (union key k fs) n c) (range_with_len 0 alternatives) ≡ map (tag_length (size_of tags) (at tags) (at index)) (range_with_len 0 alternatives))
 union-own c key k fs alternatives m n tags index counted small there e g size = (
   or-last _ ∙ or-None (size_break n) _ small ∙ or-None (buffers_break c key (buffer_needs (union key k fs) n)) _ there
+      ∙ tags-rule c key m n k (count fs)
       ∙ ap (λ a. rule_break m n (λ i. tag_rule a (at (int8s_at c key (codes "tags") n) i) (at (index_at c key (codes "index") k n) i))) counted
       ∙ ap₂ (λ s t. rule_break m n (λ i. tag_rule alternatives (at s i) (at t i))) e g ∙ ap (λ l. rule_break m l (λ i. tag_rule alternatives (at tags i) (at index i))) (sym size),
-  ap₂ (λ s t. map (tag_length n (at s) (at t)) (range_with_len 0 alternatives)) e g ∙ ap (λ l. map (tag_length l (at tags) (at index)) (range_with_len 0 alternatives)) (sym size),
+  (λ i. map (λ a. tags-length c key m n k a i) (range_with_len 0 alternatives))
+      ∙ ap₂ (λ s t. map (tag_length n (at s) (at t)) (range_with_len 0 alternatives)) e g ∙ ap (λ l. map (tag_length l (at tags) (at index)) (range_with_len 0 alternatives)) (sym size),
 )

@@ -1,10 +1,10 @@
 -- Where the walk finds no break, the layout is valid and has so many items.
-use Rattle.std.proofs.Common.{◌≡◌, ◌≢◌, ◌<◌, ◌≤◌, ℕ, zero, suc, ◌+◌, ◌*◌, List, [], ◌∷◌, Some, None, Option, refl, sym, ◌∙◌, arith, codes}
+use Rattle.std.proofs.Common.{◌≡◌, ◌≢◌, ◌<◌, ◌≤◌, ℕ, zero, suc, ◌+◌, ◌*◌, List, [], ◌∷◌, Some, None, Option, refl, sym, ◌∙◌, arith, codes, subst}
 use Rattle.std.proofs.Math.Nat.{mul_assoc}
 use Rattle.awk_types.specs.Gives.{◌or◌}
 use Rattle.awk_types.specs.DataType.{Name}
 use Rattle.awk_lanes.specs.declared.kind.Kind.{Kind}
-use Rattle.awk_lanes.specs.Places.{size_of, at, place_at, IsIndexKind, IsOptionKind, AreSpans, IsOffsets, IsIndex, IsOptionalIndex}
+use Rattle.awk_lanes.specs.Places.{size_of, at, place_at, IsOptionKind, AreSpans, IsOffsets, IsIndex, IsOptionalIndex}
 use Rattle.awk_lanes.proofs.NumberParts.{length-numbers}
 use Rattle.awk_lanes.proofs.BitParts.{length-bits}
 use Rattle.awk_layout.specs.Layout as made
@@ -24,13 +24,9 @@ use Rattle.awk_form.specs.FormText.{key_of}
 use Rattle.awk_valid.specs.Broken.{Refusal, item_limit, buffers_break, places_break, node_break, size_break, shape_break, rule_break, list_rule, index_rule, tag_rule, broken_from, all_broken_from, broken}
 use Rattle.awk_valid.specs.declared.fault.Rule.TheVariants.{Empty}
 use Rattle.awk_valid.proofs.Places.{size_break-none, rule_break-none, greatest_below-at, list_rule-none, index_rule-none, below-behind, tag_rule-none, behind_at-own}
+use Rattle.awk_valid.proofs.ByteLaws.{index_kind, spans-rule, spans-length, offsets-rule, offsets-length, index-rule, index-length, tags-rule, tags-length}
 
 -- ---- kinds and sizes
-
-pub index_kind : (k : IndexKind) → IsIndexKind (kind_of_index k)
-index_kind I32 = tt
-index_kind U32 = tt
-index_kind I64 = tt
 
 pub option_kind : (k : IndexKind) → k ≢ U32 → IsOptionKind (kind_of_index k)
 option_kind I32 h = tt
@@ -213,12 +209,12 @@ mutual
       let p = walked (list key j k f) m n c _ h in
       let inside = layout_of-valid f _ (content_length (list key j k f) n c 0) c w.1 p.2 in
       let l = size_of-index_at c key (codes "starts") j n in
-      ((omega (arith, l, size_break-none n p.0), spans-valid c key j k m n _ p.1 (sym inside.1), inside.0), l)
+      ((omega (arith, l, size_break-none n p.0), spans-valid c key j k m n _ (sym (spans-rule c key m n j k) ∙ p.1) (sym (spans-length c key m n j k) ∙ sym inside.1), inside.0), l)
   layout_of-valid (list_offset key k f) m n c w h =
       let p = walked (list_offset key k f) m n c _ h in
       let inside = layout_of-valid f _ (content_length (list_offset key k f) n c 0) c w.1 p.2 in
       let l = size_of-index_at c key (codes "offsets") k (n + 1) in
-      ((omega (arith, l, size_break-none n p.0), offsets-valid c key k m n _ p.1 (sym inside.1), inside.0), omega (arith, l))
+      ((omega (arith, l, size_break-none n p.0), offsets-valid c key k m n _ (sym (offsets-rule c key m n k) ∙ p.1) (sym (offsets-length c key m n k) ∙ sym inside.1), inside.0), omega (arith, l))
   layout_of-valid (row key names fs) m n c w h =
       let p = walked (row key names fs) m n c _ h in
       let inside = layouts_of-valid fs _ (content_length (row key names fs) n c) c w.1 p.2 in
@@ -228,12 +224,12 @@ mutual
       let p = walked (indexed key k f) m n c _ h in
       let inside = layout_of-valid f _ (content_length (indexed key k f) n c 0) c w.1 p.2 in
       let l = size_of-index_at c key (codes "index") k n in
-      ((omega (arith, l, size_break-none n p.0), index-valid c key k m n _ p.1 (sym inside.1), inside.0), l)
+      ((omega (arith, l, size_break-none n p.0), index-valid c key k m n _ (sym (index-rule c key m n k) ∙ p.1) (sym (index-length c key m n k) ∙ sym inside.1), inside.0), l)
   layout_of-valid (indexed_option key k f) m n c w h =
       let p = walked (indexed_option key k f) m n c _ h in
       let inside = layout_of-valid f _ (content_length (indexed_option key k f) n c 0) c w.2 p.2 in
       let l = size_of-index_at c key (codes "index") k n in
-      ((omega (arith, l, size_break-none n p.0), option-valid c key k n _ w.1 (sym inside.1), inside.0), l)
+      ((omega (arith, l, size_break-none n p.0), option-valid c key k n _ w.1 (sym (index-length c key m n k) ∙ sym inside.1), inside.0), l)
   layout_of-valid (byte_masked key valid_when f) m n c w h =
       let p = walked (byte_masked key valid_when f) m n c _ h in
       let inside = layout_of-valid f _ n c w.1 p.2 in
@@ -252,8 +248,15 @@ mutual
       let p = walked (union key k fs) m n c _ h in
       let inside = layouts_of-valid fs _ (content_length (union key k fs) n c) c w.3 p.2 in
       let counted = count-layouts_of fs (content_length (union key k fs) n c) c in
-      let l = size_of-int8s_at c key (codes "tags") n in
-      ((omega (arith, l, size_break-none n p.0), union-valid c key k m n (count fs) _ counted (omega (arith, w.1)) p.1 inside.1, inside.0), l)
+      let l = size_of-int8s_at c key (codes "tags") n in (
+        (
+          omega (arith, l, size_break-none n p.0),
+          union-valid c key k m n (count fs) _ counted (omega (arith, w.1)) (sym (tags-rule c key m n k (count fs)) ∙ p.1)
+              (subst (HaveLengths _) (λ i a. tags-length c key m n k a i) inside.1),
+          inside.0,
+        ),
+        l,
+      )
 
   pub layouts_of-valid : (fs : FormTrees) (m : ℕ) (lengths : ℕ → ℕ) (c : Container) → AreLawful fs → all_broken_from fs m lengths c ≡ None
       → AllValid (layouts_of fs lengths c) × HaveLengths (layouts_of fs lengths c) lengths

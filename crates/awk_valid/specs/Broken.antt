@@ -5,14 +5,13 @@ use Rattle.std.specs.List.{range_with_len}
 use Rattle.std.specs.Ordering.{int_eq}
 use Rattle.awk_types.specs.Gives.{◌or◌}
 use Rattle.awk_types.specs.DataType.{Name}
-use Rattle.awk_lanes.specs.Places.{at}
 use Rattle.awk_store.specs.declared.fault.BufferWhy.{BufferWhy}
 use Rattle.awk_store.specs.declared.fault.BufferWhy.TheVariants as why
 use Rattle.awk_form.specs.FormTree.{FormTree, empty, numpy, regular, list, list_offset, row, indexed, indexed_option, byte_masked, bit_masked, unmasked, union, FormTrees, no_forms, form}
 use Rattle.awk_form.specs.FormText.{key_of}
 use Rattle.awk_form.specs.Lawful.{count}
 use Rattle.awk_form.specs.Measures.{inner_shape, nodes}
-use Rattle.awk_valid.specs.Container.{Container, buffer_key, index_at, int8s_at}
+use Rattle.awk_valid.specs.Container.{Container, buffer_key, index_num, int8_num}
 use Rattle.awk_valid.specs.Needs.{Need, buffer_needs, content_length}
 use Rattle.awk_valid.specs.declared.fault.BufferFault.{BufferFault}
 use Rattle.awk_valid.specs.declared.fault.BufferFault.TheVariants as fault
@@ -94,18 +93,18 @@ abbrev pub places_break : FormTree → ℕ → ℕ → Container → Option Refu
 places_break (empty key) m n c = rule_break m n (λ i. Some Empty)
 places_break (list key starts stops f) m n c =
     rule_break m n
-    (λ i. list_rule (at (index_at c key (codes "starts") starts n) i)
-    (at (index_at c key (codes "stops") stops n) i))
+    (λ i. list_rule (index_num c key (codes "starts") starts i)
+    (index_num c key (codes "stops") stops i))
 places_break (list_offset key offsets f) m n c =
     rule_break m n
-    (λ i. list_rule (at (index_at c key (codes "offsets") offsets (n + 1)) i)
-    (at (index_at c key (codes "offsets") offsets (n + 1)) (i + 1)))
+    (λ i. list_rule (index_num c key (codes "offsets") offsets i)
+    (index_num c key (codes "offsets") offsets (i + 1)))
 places_break (indexed key index f) m n c =
-    rule_break m n (λ i. index_rule (at (index_at c key (codes "index") index n) i))
+    rule_break m n (λ i. index_rule (index_num c key (codes "index") index i))
 places_break (union key index fs) m n c =
     rule_break m n
-    (λ i. tag_rule (count fs) (at (int8s_at c key (codes "tags") n) i)
-    (at (index_at c key (codes "index") index n) i))
+    (λ i. tag_rule (count fs) (int8_num c key (codes "tags") i)
+    (index_num c key (codes "index") index i))
 places_break f m n c = None
 
 -- ---- the walk

@@ -1,10 +1,10 @@
 -- The bytes of buffers by key, and the numbers and bits in them.
-use Rattle.std.specs.Prelude.{ℕ, List, [], ◌++◌, Option, Result, Ok, Err, unwrap_or, codes}
+use Rattle.std.specs.Prelude.{ℕ, List, [], ◌++◌, Option, Result, Ok, Err, unwrap_or, codes, ◌*◌, drop, ℤ}
 use Rattle.awk_types.specs.DataType.{Name}
 use Rattle.awk_lanes.specs.declared.kind.Kind.{Kind}
 use Rattle.awk_lanes.specs.declared.kind.Kind.TheVariants as kind
 use Rattle.awk_lanes.specs.Column.{Column}
-use Rattle.awk_lanes.specs.Numbers.{numbers}
+use Rattle.awk_lanes.specs.Numbers.{numbers, width, number}
 use Rattle.awk_store.specs.declared.fault.BufferWhy.{BufferWhy}
 use Rattle.awk_store.specs.Buffers.{ByKey, buffer}
 use Rattle.awk_form.specs.declared.kind.IndexKind.{IndexKind}
@@ -31,6 +31,11 @@ bytes_or_none (Err why) = []
 abbrev pub bytes_at : Container → Option Name → List ℕ → List ℕ
 bytes_at c key attribute = bytes_or_none (c (buffer_key key attribute))
 
+-- the little-endian number in the i-th group of bytes of the kind's width; signed kinds in two's
+-- complement
+abbrev pub num : Kind → List ℕ → ℕ → ℤ
+num k b i = number k (drop (i * width k) b)
+
 -- the first n numbers of a kind in bytes
 abbrev pub column_at : Kind → ℕ → List ℕ → Column
 column_at k n bytes = record { kind = k; items = numbers k n bytes }
@@ -40,6 +45,14 @@ abbrev pub kind_of_index : IndexKind → Kind
 kind_of_index index.I32 = kind.I32
 kind_of_index index.U32 = kind.U32
 kind_of_index index.I64 = kind.I64
+
+-- the i-th number of a node's index, starts, stops or offsets
+abbrev pub index_num : Container → Option Name → List ℕ → IndexKind → ℕ → ℤ
+index_num c key attribute k i = num (kind_of_index k) (bytes_at c key attribute) i
+
+-- the i-th tag of a node, or byte of its mask
+abbrev pub int8_num : Container → Option Name → List ℕ → ℕ → ℤ
+int8_num c key attribute i = num kind.I8 (bytes_at c key attribute) i
 
 -- n numbers of a node's index, starts, stops or offsets
 abbrev pub index_at : Container → Option Name → List ℕ → IndexKind → ℕ → Column

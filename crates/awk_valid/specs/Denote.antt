@@ -1,34 +1,26 @@
 -- What a form, a length and a container denote: values, place by place, over the bytes of the
 -- buffers, with no columns in between. A buffer without bytes counts as empty, and a number behind
 -- the last byte is 0.
-use Rattle.std.specs.Prelude.{ℕ, zero, suc, ◌+◌, ◌-◌, ◌*◌, List, [], ◌∷◌, map, codes, ℤ, if◌then◌else◌, drop, Option, Result}
+use Rattle.std.specs.Prelude.{ℕ, zero, suc, ◌+◌, ◌-◌, ◌*◌, List, [], ◌∷◌, map, codes, ℤ, if◌then◌else◌, Result}
 use Rattle.std.specs.List.{range_with_len}
 use Rattle.awk_types.specs.Gives.{refused_or}
-use Rattle.awk_types.specs.DataType.{Name}
 use Rattle.awk_types.specs.Value.{Value, Values, int, truth, null, list, row, alt, no_values, value}
 use Rattle.awk_types.specs.Datum.{Datum, arr}
 use Rattle.awk_types.specs.Simple.{simple, simple_value}
 use Rattle.awk_types.specs.declared.primitive.Primitive.{Primitive}
 use Rattle.awk_types.specs.declared.primitive.Primitive.TheVariants as primitive
-use Rattle.awk_lanes.specs.declared.kind.Kind.{Kind}
 use Rattle.awk_lanes.specs.declared.kind.Kind.TheVariants as kind
 use Rattle.awk_lanes.specs.Bits.{bit}
-use Rattle.awk_lanes.specs.Numbers.{width, number, is_nonzero, nat_of}
+use Rattle.awk_lanes.specs.Numbers.{is_nonzero, nat_of}
 use Rattle.awk_lanes.specs.Places.{option_place}
 use Rattle.awk_layout.specs.Item.{run, at_option, agrees}
 use Rattle.awk_form.specs.FormTree.{FormTree, empty, numpy, regular, list as list_array, list_offset, row as row_array, indexed, indexed_option, byte_masked, bit_masked, unmasked, union, FormTrees, no_forms, form}
 use Rattle.awk_form.specs.FormType.{type_of}
-use Rattle.awk_form.specs.declared.kind.IndexKind.{IndexKind}
-use Rattle.awk_valid.specs.Container.{Container, bytes_at, kind_of_index}
+use Rattle.awk_valid.specs.Container.{Container, bytes_at, num, index_num, int8_num}
 use Rattle.awk_valid.specs.Broken.{Refusal}
 use Rattle.awk_valid.specs.Loading.{refusal}
 
 -- ---- numbers in bytes
-
--- the little-endian number in the i-th group of bytes of the kind's width; signed kinds in two's
--- complement
-abbrev pub num : Kind → List ℕ → ℕ → ℤ
-num k b i = number k (drop (i * width k) b)
 
 -- the element of a primitive there; of bool whether the byte is not 0
 abbrev pub element : Primitive → List ℕ → ℕ → Value
@@ -41,14 +33,6 @@ element primitive.U8 b i = int (num kind.U8 b i)
 element primitive.U16 b i = int (num kind.U16 b i)
 element primitive.U32 b i = int (num kind.U32 b i)
 element primitive.U64 b i = int (num kind.U64 b i)
-
--- the i-th number of a node's index, starts, stops or offsets
-abbrev pub index_num : Container → Option Name → List ℕ → IndexKind → ℕ → ℤ
-index_num c key attribute k i = num (kind_of_index k) (bytes_at c key attribute) i
-
--- the i-th tag of a node, or byte of its mask
-abbrev pub int8_num : Container → Option Name → List ℕ → ℕ → ℤ
-int8_num c key attribute i = num kind.I8 (bytes_at c key attribute) i
 
 -- ---- items
 

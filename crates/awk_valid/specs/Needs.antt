@@ -4,11 +4,10 @@ use Rattle.std.specs.List.{range_with_len}
 use Rattle.std.specs.Ordering.{int_eq}
 use Rattle.awk_types.specs.DataType.{greatest}
 use Rattle.awk_lanes.specs.Numbers.{width, nat_of}
-use Rattle.awk_lanes.specs.Places.{at}
 use Rattle.awk_form.specs.FormTree.{FormTree, empty, numpy, regular, list, list_offset, row, indexed, indexed_option, byte_masked, bit_masked, unmasked, union}
 use Rattle.awk_form.specs.declared.kind.IndexKind.{IndexKind}
 use Rattle.awk_layout.specs.Kinds.{kind_of}
-use Rattle.awk_valid.specs.Container.{Container, kind_of_index, index_at, int8s_at}
+use Rattle.awk_valid.specs.Container.{Container, kind_of_index, index_num, int8_num}
 
 -- ---- the bytes of its buffers
 
@@ -83,19 +82,17 @@ content_length (empty key) n c k = 0
 content_length (numpy key prim inner) n c k = 0
 content_length (regular key size f) n c k = n * size
 content_length (list key starts stops f) n c k =
-    lists_length n (at (index_at c key (codes "starts") starts n))
-    (at (index_at c key (codes "stops") stops n))
+    lists_length n (index_num c key (codes "starts") starts) (index_num c key (codes "stops") stops)
 content_length (list_offset key offsets f) n c k =
-    lists_length n (at (index_at c key (codes "offsets") offsets (n + 1)))
-    (λ i. at (index_at c key (codes "offsets") offsets (n + 1)) (i + 1))
+    lists_length n (index_num c key (codes "offsets") offsets)
+    (λ i. index_num c key (codes "offsets") offsets (i + 1))
 content_length (row key names fs) n c k = n
 content_length (indexed key index f) n c k =
-    index_length n (at (index_at c key (codes "index") index n))
+    index_length n (index_num c key (codes "index") index)
 content_length (indexed_option key index f) n c k =
-    index_length n (at (index_at c key (codes "index") index n))
+    index_length n (index_num c key (codes "index") index)
 content_length (byte_masked key valid_when f) n c k = n
 content_length (bit_masked key valid_when lsb_order f) n c k = n
 content_length (unmasked key f) n c k = n
 content_length (union key index fs) n c k =
-    tag_length n (at (int8s_at c key (codes "tags") n))
-    (at (index_at c key (codes "index") index n)) k
+    tag_length n (int8_num c key (codes "tags")) (index_num c key (codes "index") index) k

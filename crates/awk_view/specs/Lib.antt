@@ -4,3 +4,4 @@ pub mod Asked
 pub mod Answer
 pub mod Examples
 pub mod Range
+pub mod Settled

@@ -1,4 +1,4 @@
-//! Views of arrays: ranges, and the fields of their records.
+//! Views of arrays: ranges, the fields of their records, and what single items are.
 #![tactic(auto)]
 
 mod choice;
@@ -6,7 +6,9 @@ mod chosen;
 mod first;
 mod found;
 mod ranges;
+mod settling;
 mod view;
 
 pub use ranges::range;
+pub use settling::{item_at, settled};
 pub use view::{field, fields, without};

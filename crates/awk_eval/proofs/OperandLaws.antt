@@ -1,0 +1,18 @@
+-- The operands in code and those that they stand for.
+use Rattle.std.proofs.Common.{◌≡◌, List, [], ◌∷◌, length, slice_get, Some, ap, subst, arith}
+use Rattle.awk_layout.specs.declared.datum.Operand.{Operand}
+use Rattle.awk_layout.specs.declared.datum.Operand.TheVariants.{Of}
+use Rattle.awk_layout.specs.declared.datum.Datum.{Datum}
+use Rattle.awk_eval.specs.Views.{Size, IsWithin, AreWithin}
+
+-- of one operand, the only one is that at place 0
+pub operands-one : (os : List Operand) (o : Operand) → length os ≡ 1 → slice_get os 0 ≡ Some o
+    → os ≡ o ∷ []
+operands-one [] o one at = absurd (omega arith)
+operands-one (p ∷ []) o one at = let same : p ≡ o = cc in ap (λ x. x ∷ []) same
+operands-one (p ∷ q ∷ os) o one at = absurd (omega arith)
+
+-- what is so of all operands is so of the only one
+pub IsWithin-one : (s : Size) (os : List Operand) (x : Datum) → os ≡ Of x ∷ [] → AreWithin s os
+    → IsWithin s x
+IsWithin-one s os x is are = let one : AreWithin s (Of x ∷ []) = subst (AreWithin s) is are in one.0

@@ -1,0 +1,158 @@
+//! Operations on their operands.
+ghost use Rattle.std.specs.Prelude.{◌≡◌, ◌+◌, ◌*◌, ◌≤◌, true, length, IfOk};
+ghost use Rattle.awk_types.specs.Gives.{Gives};
+ghost use Rattle.awk_types.specs.Faults.{fault_told};
+ghost use Rattle.awk_types.specs.Names.{AreDistinct};
+ghost use Rattle.awk_layout.specs.Datum.{IsDatum, datum_of};
+ghost use Rattle.awk_layout.specs.Layout.{weight, height};
+ghost use Rattle.awk_layout.specs.Typing.{array_type, array_items};
+ghost use Rattle.awk_query.specs.Allowed.{HasArguments};
+ghost use Rattle.awk_eval.specs.Fixed.{bounds_in, text_in, texts_in};
+ghost use Rattle.awk_eval.specs.Operand.{only_in};
+ghost use Rattle.awk_eval.specs.OperandView.{shown_operands};
+ghost use Rattle.awk_eval.specs.Ranges.{range_items};
+ghost use Rattle.awk_eval.specs.Views.{Size, Takes, IsWithin, AreWithin, is_view_op};
+ghost use Rattle.awk_eval.specs.Eval as meaning;
+
+use crate::arguments::{bound_or, bounds, only, text, texts};
+use awk_lanes::Steps;
+use awk_layout::{Array, Datum, Operands};
+use awk_query::{Fixed, FixedArg, Op};
+use awk_types::{Fault, Names, NoMemory};
+use awk_view::{field, fields, range, settled, without};
+use std::alloc::Global;
+use std::sync::ledger::Ledger;
+
+/// An operation on its operands. One that is not built yet answers so.
+pub(crate) fn apply<'s, L: Ledger>(
+    alloc: Global,
+    op: Op,
+    fixed: &Fixed,
+    operands: &Operands<'s>,
+    steps: &mut Steps<L>,
+) -> Result<Datum<'s>, Fault>
+    requires { HasArguments op (length operands.now) fixed.now }
+    ensures answer { Gives datum_of fault_told result
+        (meaning.apply op fixed.now (shown_operands operands.now)) }
+    ensures datum { IfOk result (λ made. IsDatum made) }
+    ensures cost { (s : Size) → is_view_op op fixed.now ≡ true → AreWithin s operands.now
+        → Takes s 1 steps.old steps.new result }
+{
+    match op {
+        Op::Range => match (bounds(fixed), only(operands)) {
+            (Some((lo, hi)), Some(x)) => range_of(alloc, x, lo, hi, steps),
+            _ => Err(Fault::Unbuilt),
+        },
+        Op::Field => match (text(fixed), only(operands)) {
+            (Some(name), Some(x)) => field_of(alloc, x, name.as_str(), steps),
+            _ => Err(Fault::Unbuilt),
+        },
+        Op::Fields => match (texts(fixed), only(operands)) {
+            (Some(names), Some(x)) => fields_of(alloc, x, names, steps),
+            _ => Err(Fault::Unbuilt),
+        },
+        Op::WithoutField => match (text(fixed), only(operands)) {
+            (Some(name), Some(x)) => without_of(alloc, x, name.as_str(), steps),
+            _ => Err(Fault::Unbuilt),
+        },
+        _ => Err(Fault::Unbuilt),
+    }
+}
+
+// The items from one bound below another. A single value has none.
+fn range_of<'s, L: Ledger>(
+    alloc: Global,
+    x: &Datum<'s>,
+    lo: &FixedArg,
+    hi: &FixedArg,
+    steps: &mut Steps<L>,
+) -> Result<Datum<'s>, Fault>
+    ensures answer { Gives datum_of fault_told result
+        (meaning.range_of (lo.now, hi.now) (datum_of x.now)) }
+    ensures datum { IfOk result (λ made. IsDatum made) }
+    ensures cost { (s : Size) → IsWithin s x.now → Takes s 1 steps.old steps.new result }
+{
+    match x {
+        Datum::Arr(x) => Ok(Datum::Arr(between(alloc, x, lo, hi, steps)?)),
+        Datum::One(_) => Err(Fault::WrongType),
+    }
+}
+
+fn between<'s, L: Ledger>(
+    alloc: Global,
+    x: &Array<'s>,
+    lo: &FixedArg,
+    hi: &FixedArg,
+    steps: &mut Steps<L>,
+) -> Result<Array<'s>, NoMemory>
+    ensures typ { IfOk result (λ made. array_type made ≡ array_type x.now) }
+    ensures items { IfOk result (λ made.
+        array_items made ≡ range_items lo.now hi.now (array_items x.now)) }
+    ensures cost { steps.new ≤ steps.old + 4 * weight x.now }
+    ensures nodes { IfOk result (λ made. weight made ≤ weight x.now) }
+    ensures height { IfOk result (λ made. height made ≤ height x.now) }
+{
+    let n = x.len();
+    let from = bound_or(n, 0, lo);
+    let to = bound_or(n, n, hi).max(from);
+    range(alloc, x, from, to, steps)
+}
+
+// The field of a single value is settled.
+fn field_of<'s, L: Ledger>(
+    alloc: Global,
+    x: &Datum<'s>,
+    name: &str,
+    steps: &mut Steps<L>,
+) -> Result<Datum<'s>, Fault>
+    requires { IsDatum x.now }
+    ensures answer { Gives datum_of fault_told result
+        (meaning.field_of name.now (datum_of x.now)) }
+    ensures datum { IfOk result (λ made. IsDatum made) }
+    ensures cost { (s : Size) → IsWithin s x.now → Takes s 1 steps.old steps.new result }
+{
+    match x {
+        Datum::Arr(x) => Ok(Datum::Arr(field(alloc, x, name, steps)?)),
+        Datum::One(x) => {
+            let made = field(alloc, x, name, steps)?;
+            Ok(settled(alloc, &made, steps)?)
+        }
+    }
+}
+
+fn fields_of<'s, L: Ledger>(
+    alloc: Global,
+    x: &Datum<'s>,
+    names: &Names,
+    steps: &mut Steps<L>,
+) -> Result<Datum<'s>, Fault>
+    requires datum { IsDatum x.now }
+    requires distinct { AreDistinct names.now }
+    ensures answer { Gives datum_of fault_told result
+        (meaning.fields_of names.now (datum_of x.now)) }
+    ensures datum { IfOk result (λ made. IsDatum made) }
+    ensures cost { (s : Size) → IsWithin s x.now → Takes s 1 steps.old steps.new result }
+{
+    match x {
+        Datum::Arr(x) => Ok(Datum::Arr(fields(alloc, x, names, steps)?)),
+        Datum::One(x) => Ok(Datum::One(fields(alloc, x, names, steps)?)),
+    }
+}
+
+fn without_of<'s, L: Ledger>(
+    alloc: Global,
+    x: &Datum<'s>,
+    name: &str,
+    steps: &mut Steps<L>,
+) -> Result<Datum<'s>, Fault>
+    requires { IsDatum x.now }
+    ensures answer { Gives datum_of fault_told result
+        (meaning.without_of name.now (datum_of x.now)) }
+    ensures datum { IfOk result (λ made. IsDatum made) }
+    ensures cost { (s : Size) → IsWithin s x.now → Takes s 1 steps.old steps.new result }
+{
+    match x {
+        Datum::Arr(x) => Ok(Datum::Arr(without(alloc, x, name, steps)?)),
+        Datum::One(x) => Ok(Datum::One(without(alloc, x, name, steps)?)),
+    }
+}

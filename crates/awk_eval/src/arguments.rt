@@ -1,0 +1,97 @@
+//! The arguments of a call, by what an operation takes.
+ghost use Rattle.std.specs.Prelude.{◌≡◌, ◌≤◌, [], ◌∷◌, IfSome, option_map};
+ghost use Rattle.awk_layout.specs.Datum.{IsDatum, datum_of};
+ghost use Rattle.awk_layout.specs.declared.datum.Operand.TheVariants.{Of};
+ghost use Rattle.awk_eval.specs.Fixed as given;
+ghost use Rattle.awk_eval.specs.Operand.{only_in};
+ghost use Rattle.awk_eval.specs.OperandView.{shown_operands};
+ghost use Rattle.awk_eval.specs.Ranges as ranges;
+
+use awk_layout::{Datum, Operand, Operands};
+use awk_query::{Fixed, FixedArg};
+use awk_types::{Name, Names};
+
+/// The only operand, where it is a datum.
+pub(crate) fn only<'o, 's>(operands: &'o Operands<'s>) -> Option<&'o Datum<'s>>
+    ensures only { option_map (λ x. datum_of x.now) result
+        ≡ only_in (shown_operands operands.now) }
+    ensures alone { IfSome result (λ x. operands.now ≡ Of x.now ∷ []) }
+    ensures datum { IfSome result (λ x. IsDatum x.now) }
+{
+    if operands.len() != 1 {
+        return None;
+    }
+    match operands.get(0) {
+        Operand::Of(x) => Some(x),
+        Operand::Literal(_) => None,
+    }
+}
+
+/// The bounds of a range, where its step is 1.
+pub(crate) fn bounds(fixed: &Fixed) -> Option<(&FixedArg, &FixedArg)>
+    ensures { option_map (λ b. (b.0.now, b.1.now)) result ≡ given.bounds_in fixed.now }
+{
+    let n = fixed.len();
+    if n == 2 || n == 3 && is_one(fixed.get(2)) {
+        return Some((fixed.get(0), fixed.get(1)));
+    }
+    None
+}
+
+fn is_one(step: &FixedArg) -> bool
+    ensures { result ≡ given.is_one step.now }
+{
+    match step {
+        FixedArg::Place(z) => *z == 1,
+        _ => false,
+    }
+}
+
+/// The only argument, where it is a name.
+pub(crate) fn text(fixed: &Fixed) -> Option<&Name>
+    ensures { option_map (λ name. name.now) result ≡ given.text_in fixed.now }
+{
+    if fixed.len() != 1 {
+        return None;
+    }
+    match fixed.get(0) {
+        FixedArg::Text(name) => Some(name),
+        _ => None,
+    }
+}
+
+/// The only argument, where it is names.
+pub(crate) fn texts(fixed: &Fixed) -> Option<&Names>
+    ensures { option_map (λ names. names.now) result ≡ given.texts_in fixed.now }
+{
+    if fixed.len() != 1 {
+        return None;
+    }
+    match fixed.get(0) {
+        FixedArg::Texts(names) => Some(names),
+        _ => None,
+    }
+}
+
+/// A bound of a range over n items, or what stands for one that is not given.
+pub(crate) fn bound_or(n: u64, other: u64, bound: &FixedArg) -> u64
+    requires { other ≤ n }
+    ensures bound { result ≡ ranges.bound_or n other bound.now }
+    ensures within { result ≤ n }
+{
+    match bound {
+        FixedArg::Place(z) => clamped(n, *z),
+        _ => other,
+    }
+}
+
+// A negative bound counts from the end.
+fn clamped(n: u64, z: i64) -> u64
+    ensures bound { result ≡ ranges.clamped n z }
+    ensures within { result ≤ n }
+{
+    if z >= 0 {
+        return n.min(z as u64);
+    }
+    n.saturating_sub(z.unsigned_abs())
+}

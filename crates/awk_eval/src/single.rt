@@ -1,0 +1,57 @@
+//! Single values: numbers and truth values as arrays of one item.
+ghost use Rattle.std.specs.Prelude.{◌≡◌, [], ◌∷◌, IfOk};
+ghost use Rattle.awk_types.specs.Gives.{Gives};
+ghost use Rattle.awk_types.specs.Faults.{fault_told};
+ghost use Rattle.awk_lanes.specs.Numbers.{int_of, IsOf};
+ghost use Rattle.awk_layout.specs.Datum.{IsDatum, datum_of};
+ghost use Rattle.awk_layout.specs.Layout.{flat};
+ghost use Rattle.awk_eval.specs.Eval as meaning;
+
+use awk_lanes::{Arena, Kind, LaneMaker, Num, Steps};
+use awk_layout::{Array, Datum, Node, prim_of};
+use awk_types::{Fault, NoMemory, Typ};
+use std::sync::ledger::Ledger;
+
+/// A whole number as a single int64, if it fits.
+pub(crate) fn int64_of<'s, L: Ledger>(
+    z: i128,
+    arena: &'s Arena,
+    steps: &mut Steps<L>,
+) -> Result<Datum<'s>, Fault>
+    ensures answer { Gives datum_of fault_told result (meaning.int64_of z) }
+    ensures datum { IfOk result (λ made. IsDatum made) }
+{
+    if z < i128::from(i64::MIN) || z > i128::from(i64::MAX) {
+        return Err(Fault::Overflow);
+    }
+    Ok(Datum::One(only(Kind::I64, Num::Int(z as i64), arena, steps)?))
+}
+
+/// A single truth value.
+pub(crate) fn bool_of<'s, L: Ledger>(
+    b: bool,
+    arena: &'s Arena,
+    steps: &mut Steps<L>,
+) -> Result<Datum<'s>, NoMemory>
+    ensures value { IfOk result (λ made. datum_of made ≡ meaning.bool_of b) }
+    ensures datum { IfOk result (λ made. IsDatum made) }
+{
+    Ok(Datum::One(only(Kind::Bool, Num::Truth(b), arena, steps)?))
+}
+
+// The array of one number of a kind.
+fn only<'s, L: Ledger>(
+    kind: Kind,
+    x: Num,
+    arena: &'s Arena,
+    steps: &mut Steps<L>,
+) -> Result<Array<'s>, NoMemory>
+    requires kind { IsOf kind x }
+    ensures { IfOk result (λ made.
+        made ≡ flat (record { kind = kind; items = int_of x ∷ [] })) }
+{
+    let mut maker = LaneMaker::new(kind, 1, arena)?;
+    maker.push(x);
+    let node = Node::numpy(maker.finish(), steps);
+    Ok(Array::with_type(node, Typ::Leaf(prim_of(kind))))
+}
