@@ -1,0 +1,2 @@
+//! The texts in a line are together no longer than the line.
+#![tactic(auto)]
