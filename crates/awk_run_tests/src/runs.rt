@@ -28,7 +28,7 @@ const UNBOUND: &[u8] = b"{\"show\":\"q\"}\n{\"show\":\"q\"}\n";
 
 const FIRST: &[u8] = b"{\"fault\":\"name\",\"name\":\"q\"}\n";
 
-const CASES: [Case<'static>; 9] = [
+const CASES: [Case<'static>; 10] = [
     // No byte, no answer.
     Case {
         session: b"",
@@ -48,7 +48,7 @@ const CASES: [Case<'static>; 9] = [
         takes: 5,
         room: 1000,
         failing_writes: &[],
-        answers: b"{\"fault\":\"json\"}\n{\"fault\":\"name\",\"name\":\"\"}\n{\"fault\":\"unbuilt\"}\n",
+        answers: b"{\"fault\":\"json\"}\n{\"fault\":\"name\",\"name\":\"\"}\n{\"names\":[]}\n",
         status: Status::Faults,
     },
     // The first read fails.
@@ -71,6 +71,17 @@ const CASES: [Case<'static>; 9] = [
         room: 1000,
         failing_writes: &[],
         answers: FIRST,
+        status: Status::Read,
+    },
+    // The third read fails, behind two lines that came whole.
+    Case {
+        session: b"{\"show\":1}\n{\"show\":2}\n{\"show\":3}\n",
+        gives: 11,
+        failing_reads: &[2],
+        takes: 4096,
+        room: 1000,
+        failing_writes: &[],
+        answers: b"{\"value\":1}\n{\"value\":2}\n",
         status: Status::Read,
     },
     // A read fails behind the last line end.

@@ -137,7 +137,7 @@ fn bind_made<'v, 's, 'a: 's, L: Ledger>(
             env.bind(name.copy(alloc)?, datum)?;
             Ok(Answer::Bound(name.as_str()))
         }
-        Err(fault) => refused(fault),
+        Err(why) => refused(why),
     }
 }
 
@@ -215,7 +215,8 @@ fn names_of(alloc: Global, env: &Env<'_>) -> Result<Names, AllocError>
     ensures { IfOk result (λ names. names ≡ bindings.names (denoted env.now)) }
 {
     let mut names = Names::new(alloc);
-    for i in 0..env.len() {
+    let count = env.len();
+    for i in 0..count {
         names.push(Name::new(alloc, env.name_at(i))?)?;
     }
     Ok(names)
