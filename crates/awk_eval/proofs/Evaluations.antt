@@ -66,7 +66,8 @@ Takes-variable n variables (Arr x) steps0 steps1 result is same cost array =
     subst (λ s. Takes s 1 steps0 steps1 result) (sym size)
     (record {
       steps = omega arith;
-      within = IfOk-map (λ made. made ≡ Arr x) (IsWithin (size_of (Arr x))) (same_within x) result same;
+      within = IfOk-map (λ made. made ≡ Arr x) (IsWithin (size_of (Arr x))) (same_within x)
+          result same;
     })
 Takes-variable n variables (One x) steps0 steps1 result is same cost array =
     absurd (subst IsArray (sym is) array)
@@ -87,9 +88,11 @@ module _ (env : Environment) (o : Op) (es : List ExprTree) (old : List code.Oper
   abbrev behind : List Operand → Result (List Operand) Fault → Result (List Operand) Fault
   behind made rs = mapped (λ xs. made ++ xs) rs
 
-  next : operands env o 0 (exprs_from es) ≡ behind (shown_operands old) (joined here (later (i + 1)))
+  next : operands env o 0 (exprs_from es)
+      ≡ behind (shown_operands old) (joined here (later (i + 1)))
   next = before
-      ∙ ap (λ us. behind (shown_operands old) (operands env o i (exprs_from us))) (drop-get es i e at)
+      ∙ ap (λ us. behind (shown_operands old) (operands env o i (exprs_from us)))
+      (drop-get es i e at)
       ∙ ap₂ (λ b k. behind (shown_operands old) (joined (operand_of b e (eval env e)) (later k)))
       (sym place) (sym (add-one i))
 

@@ -44,7 +44,8 @@ module _ (c : Choice) (x made : Layout) (single : len x ≡ 1)
 
   chosen_items : chosen_value c (array_type x) (first_item x) ∷ [] ≡ array_items made
   chosen_items =
-      let all : map (chosen_value c (array_type x)) (array_items x) ≡ array_items made = cc (kept.1) in
+      let all : map (chosen_value c (array_type x)) (array_items x) ≡ array_items made =
+      cc (kept.1) in
       ap (map (chosen_value c (array_type x))) (sym (array_items-one x single)) ∙ all
 
   -- is one of one item
@@ -59,7 +60,8 @@ module _ (c : Choice) (x made : Layout) (single : len x ≡ 1)
       let items : chosen_value c (array_type x) (first_item x) ∷ [] ≡ first_item made ∷ [] =
       chosen_items ∙ array_items-one made len-chosen in
       let value : chosen_value c (array_type x) (first_item x) ≡ first_item made = cc (items) in
-      ap (λ f. refused_or f (one (chosen_type c (array_type x)) (chosen_value c (array_type x) (first_item x)))) (kept.0)
+      ap (λ f. refused_or f
+      (one (chosen_type c (array_type x)) (chosen_value c (array_type x) (first_item x)))) kept.0
       ∙ ap₂ (λ t v. Ok (one t v)) typ value
 
 -- the field of a single value is settled
@@ -67,4 +69,5 @@ pub field_of-one : (n : Name) (x made : Layout) → len x ≡ 1
     → view_answer (field n) x ≡ Ok (array_datum made)
     → field_of n (one (array_type x) (first_item x))
     ≡ Ok (settle (array_type made) (first_item made))
-field_of-one n x made single given = ap (mapped settled) (choice_of-one (field n) x made single given)
+field_of-one n x made single given =
+    ap (mapped settled) (choice_of-one (field n) x made single given)

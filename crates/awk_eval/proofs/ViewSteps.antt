@@ -106,14 +106,15 @@ module _ (variables : Variables) where
       (λ at_first v taken. let before : steps1 ≤ steps0 = first at_first in omega arith) h
 
   -- and gives the only operand
-  pub within-get : (es : List ExprTree) (k : ℕ) (e : ExprTree) (old new : List Operand) (x : Operand)
-      → slice_get es k ≡ Some e → length old ≡ k → new ≡ old ++ x ∷ []
+  pub within-get : (es : List ExprTree) (k : ℕ) (e : ExprTree) (old new : List Operand)
+      (x : Operand) → slice_get es k ≡ Some e → length old ≡ k → new ≡ old ++ x ∷ []
       → OfView variables (view_of e) (λ v. IsOperandWithin (size_in variables v) x)
       → OfView variables (only_view es) (λ v. AreWithin (size_in variables v) new)
   within-get es k e old new x at counted pushed h =
       OfView-get variables es k e (λ v. IsOperandWithin (size_in variables v) x)
       (λ v. AreWithin (size_in variables v) new) at
-      (λ first v within. first_within (size_in variables v) old new x k first counted pushed within) h
+      (λ first v within.
+      first_within (size_in variables v) old new x k first counted pushed within) h
 
   -- ---- calls
 

@@ -11,7 +11,8 @@ ghost use Rattle.awk_eval.specs.Variables.{denoted};
 ghost use Rattle.awk_eval.specs.Operand as operand;
 ghost use Rattle.awk_eval.specs.OperandView.{shown_operand, shown_operands};
 ghost use Rattle.awk_eval.specs.Views.{IsTaken, Takes, TakesView, OfView, IsArray, AreWithin};
-ghost use Rattle.awk_eval.specs.Views.{IsOperandWithin, size_at, sizes_of, size_in, view_of, only_view};
+ghost use Rattle.awk_eval.specs.Views.{IsOperandWithin, size_at, sizes_of, size_in};
+ghost use Rattle.awk_eval.specs.Views.{view_of, only_view};
 ghost use Rattle.awk_eval.specs.Eval as meaning;
 
 use crate::application::apply;

@@ -39,7 +39,8 @@ operands-loop-k-preserved g t c = record {
       c.takes_literal.ensures c.loop-k.invariant.made c.push.new.self c.in_ok-x.x
       c.in_ok-push.ensures.ok c.in_ok-x.ensures.answer;
   count = ap length c.in_ok-push.ensures.ok
-      ∙ (length-append c.loop-k.made (c.in_ok-x.x ∷ []) ∙ ap (λ n. n + 1) c.loop-k.invariant.count);
+      ∙ length-append c.loop-k.made (c.in_ok-x.x ∷ [])
+      ∙ ap (λ n. n + 1) c.loop-k.invariant.count;
   first = λ at_first. absurd (omega arith);
   cost = Taken-get c.args.env.now (exprs_of c.args.args.now) c.loop-k.k (expr_of c.get.result.now)
       c.args.steps.now c.loop-k.steps c.operand.new.steps c.get.ensures.item c.loop-k.invariant.first
@@ -96,7 +97,8 @@ pub eval-returns-in_err-operands-in-Call-clause-cost :
     goal.eval-returns-in_err-operands-in-Call-clause-cost
 eval-returns-in_err-operands-in-Call-clause-cost g t c =
     TakesView-fault c.args.env.now c.args.e.now c.in-Call.op c.in-Call.args c.in-Call.fixed
-    c.in-Call.is c.args.steps.now c.operands.new.steps c.from_residual-in_err-operands-in-Call.result
+    c.in-Call.is c.args.steps.now c.operands.new.steps
+    c.from_residual-in_err-operands-in-Call.result
     c.from_residual-in_err-operands-in-Call.ensures.0 c.operands.ensures.cost
 
 pub eval-returns-in_ok-operands-in-Call-clause-cost :

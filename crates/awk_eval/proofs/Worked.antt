@@ -1,0 +1,208 @@
+-- Worked expressions, each computed.
+use Rattle.std.specs.Prelude.{◌≡◌, ℕ, pos, negsuc, true, List, [], ◌∷◌, map, codes, Some, None, Ok, Err, refl}
+use Rattle.awk_types.specs.DataType.{Name, DataType, leaf, var, rec, opt, types_from}
+use Rattle.awk_types.specs.Value.{Value, int, truth, null, list, row, values_from}
+use Rattle.awk_types.specs.Datum.{arr, one}
+use Rattle.awk_types.specs.declared.primitive.Primitive.TheVariants.{Bool, I64}
+use Rattle.awk_types.specs.declared.fault.Fault.TheVariants.{Unbound, NoField, WrongType, Overflow, Unbuilt}
+use Rattle.awk_query.specs.ExprTree as tree
+use Rattle.awk_query.specs.ExprTree.{ExprTree, exprs_from}
+use Rattle.awk_query.specs.declared.op.Op.{Op}
+use Rattle.awk_query.specs.declared.op.Op.TheVariants as op
+use Rattle.awk_query.specs.declared.fixed.FixedArg.{FixedArg}
+use Rattle.awk_query.specs.declared.fixed.FixedArg.TheVariants.{Place, Missing, Text, Texts}
+use Rattle.awk_eval.specs.Bindings.{Bindings, names, bind}
+use Rattle.awk_eval.specs.Variables.{Environment}
+use Rattle.awk_eval.specs.Eval.{eval}
+use Rattle.awk_eval.specs.Views.{view_of}
+
+abbrev x : Name
+x = codes "x"
+
+abbrev y : Name
+y = codes "y"
+
+abbrev n : ℕ → Value
+n k = int (pos k)
+
+abbrev numbers : List ℕ → List Value
+numbers ks = map n ks
+
+-- records of an int64 and a list of int64
+abbrev pairs : DataType
+pairs = rec (x ∷ y ∷ []) (types_from (leaf I64 ∷ var (leaf I64) ∷ []))
+
+abbrev pair : ℕ → List ℕ → Value
+pair k ks = row (values_from (n k ∷ list (values_from (numbers ks)) ∷ []))
+
+-- records of an optional int64
+abbrev optional : DataType
+optional = rec (x ∷ []) (types_from (opt (leaf I64) ∷ []))
+
+-- `a` is [{"x":1,"y":[1,2]},{"x":2,"y":[]}], and `b` the first of its rows alone
+abbrev env : Environment
+env =
+    (codes "a", arr pairs (pair 1 (1 ∷ 2 ∷ []) ∷ pair 2 [] ∷ [])) ∷
+    (codes "b", one pairs (pair 1 (1 ∷ 2 ∷ []))) ∷
+    (codes "m", arr (leaf I64) (numbers (0 ∷ 1 ∷ 2 ∷ 3 ∷ 4 ∷ []))) ∷
+    (codes "o", one optional (row (values_from (null ∷ [])))) ∷
+    (codes "p", one optional (row (values_from (n 7 ∷ [])))) ∷
+    []
+
+abbrev a : ExprTree
+a = tree.var (codes "a")
+
+abbrev b : ExprTree
+b = tree.var (codes "b")
+
+abbrev m : ExprTree
+m = tree.var (codes "m")
+
+-- a name that is not bound
+abbrev missing : ExprTree
+missing = tree.var (codes "z")
+
+abbrev of : Op → List ExprTree → List FixedArg → ExprTree
+of o es fixed = tree.call o (exprs_from es) fixed
+
+-- the greatest u64
+abbrev great : ExprTree
+great = tree.whole (pos 18446744073709551615)
+
+-- ---- single values
+
+a_name : eval env m ≡ Ok (arr (leaf I64) (numbers (0 ∷ 1 ∷ 2 ∷ 3 ∷ 4 ∷ [])))
+a_name = refl
+
+no_name : eval env missing ≡ Err (Unbound (codes "z"))
+no_name = refl
+
+a_number : eval [] (tree.whole (negsuc 4)) ≡ Ok (one (leaf I64) (int (negsuc 4)))
+a_number = refl
+
+greatest_int64 : eval [] (tree.whole (pos 9223372036854775807))
+    ≡ Ok (one (leaf I64) (int (pos 9223372036854775807)))
+greatest_int64 = refl
+
+too_great : eval [] great ≡ Err Overflow
+too_great = refl
+
+a_truth_value : eval [] (tree.truth true) ≡ Ok (one (leaf Bool) (truth true))
+a_truth_value = refl
+
+-- ---- arguments
+
+-- the first fault from the left is told
+left_first : eval env (of op.Pick (missing ∷ great ∷ []) []) ≡ Err (Unbound (codes "z"))
+left_first = refl
+
+left_first_too : eval env (of op.Pick (great ∷ missing ∷ []) []) ≡ Err Overflow
+left_first_too = refl
+
+-- a number is a literal where the operation takes one, and else an int64
+literal_operand : eval env (of op.Add (great ∷ missing ∷ []) []) ≡ Err (Unbound (codes "z"))
+literal_operand = refl
+
+no_literal_operand : eval env (of op.Neg (great ∷ []) []) ≡ Err Overflow
+no_literal_operand = refl
+
+no_literal_condition : eval env (of op.Choose (great ∷ m ∷ m ∷ []) []) ≡ Err Overflow
+no_literal_condition = refl
+
+literal_choice : eval env (of op.Choose (m ∷ great ∷ missing ∷ []) []) ≡ Err (Unbound (codes "z"))
+literal_choice = refl
+
+literal_fills : eval env (of op.FillNone (m ∷ great ∷ []) (Place (pos 0) ∷ [])) ≡ Err Unbuilt
+literal_fills = refl
+
+-- what is not built yet says so after its arguments
+not_built : eval env (of op.Num (m ∷ []) (Place (pos 0) ∷ [])) ≡ Err Unbuilt
+not_built = refl
+
+not_built_of_nothing : eval env (of op.Num (missing ∷ []) (Place (pos 0) ∷ []))
+    ≡ Err (Unbound (codes "z"))
+not_built_of_nothing = refl
+
+-- ---- ranges
+
+abbrev range : FixedArg → FixedArg → ExprTree
+range lo hi = of op.Range (m ∷ []) (lo ∷ hi ∷ [])
+
+all_items : eval env (range Missing Missing) ≡ eval env m
+all_items = refl
+
+but_the_last : eval env (range (Place (pos 1)) (Place (negsuc 0)))
+    ≡ Ok (arr (leaf I64) (numbers (1 ∷ 2 ∷ 3 ∷ [])))
+but_the_last = refl
+
+beyond_both_ends : eval env (range (Place (negsuc 9)) (Place (pos 99))) ≡ eval env m
+beyond_both_ends = refl
+
+last_before_first : eval env (range (Place (pos 3)) (Place (pos 1))) ≡ Ok (arr (leaf I64) [])
+last_before_first = refl
+
+step_of_one : eval env (of op.Range (m ∷ []) (Place (pos 3) ∷ Missing ∷ Place (pos 1) ∷ []))
+    ≡ Ok (arr (leaf I64) (numbers (3 ∷ 4 ∷ [])))
+step_of_one = refl
+
+step_of_two : eval env (of op.Range (m ∷ []) (Missing ∷ Missing ∷ Place (pos 2) ∷ []))
+    ≡ Err Unbuilt
+step_of_two = refl
+
+range_of_a_value : eval env (of op.Range (b ∷ []) (Missing ∷ Missing ∷ [])) ≡ Err WrongType
+range_of_a_value = refl
+
+-- ---- fields
+
+abbrev field : ExprTree → Name → ExprTree
+field e k = of op.Field (e ∷ []) (Text k ∷ [])
+
+field_of_each : eval env (field a x) ≡ Ok (arr (leaf I64) (numbers (1 ∷ 2 ∷ [])))
+field_of_each = refl
+
+-- the field of a single value is settled
+settled_list : eval env (field b y) ≡ Ok (arr (leaf I64) (numbers (1 ∷ 2 ∷ [])))
+settled_list = refl
+
+settled_null : eval env (field (tree.var (codes "o")) x) ≡ Ok (one (opt (leaf I64)) null)
+settled_null = refl
+
+settled_present : eval env (field (tree.var (codes "p")) x) ≡ Ok (one (leaf I64) (n 7))
+settled_present = refl
+
+-- and the record of some fields is not
+fields_of_a_value : eval env (of op.Fields (tree.var (codes "p") ∷ []) (Texts (x ∷ []) ∷ []))
+    ≡ Ok (one optional (row (values_from (n 7 ∷ []))))
+fields_of_a_value = refl
+
+without_x : eval env (of op.WithoutField (b ∷ []) (Text x ∷ []))
+    ≡ Ok (one (rec (y ∷ []) (types_from (var (leaf I64) ∷ [])))
+    (row (values_from (list (values_from (numbers (1 ∷ 2 ∷ []))) ∷ []))))
+without_x = refl
+
+no_field : eval env (field b (codes "w")) ≡ Err (NoField (codes "w"))
+no_field = refl
+
+-- ---- names
+
+abbrev two : Bindings ℕ
+two = (x, 1) ∷ (y, 2) ∷ []
+
+-- a name that is bound keeps its place, and a new one goes last
+bound_anew : bind x 5 two ≡ (x, 5) ∷ (y, 2) ∷ []
+bound_anew = refl
+
+bound_last : names (bind (codes "z") 5 two) ≡ x ∷ y ∷ codes "z" ∷ []
+bound_last = refl
+
+-- ---- views
+
+three_times : view_of (of op.Range (field a x ∷ []) (Missing ∷ Missing ∷ []))
+    ≡ Some (record { name = codes "a"; count = 3 })
+three_times = refl
+
+no_view : view_of (of op.Range (a ∷ []) (Missing ∷ Missing ∷ Place (pos 2) ∷ [])) ≡ None
+no_view = refl
+
+no_view_of_a_sum : view_of (of op.Sum (a ∷ []) []) ≡ None
+no_view_of_a_sum = refl
