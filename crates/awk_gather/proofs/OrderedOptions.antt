@@ -23,10 +23,10 @@ use Rattle.awk_gather.specs.InOrder.{IsInOrder}
 use Rattle.awk_gather.specs.Opened.{IsOpened}
 use Rattle.awk_gather.specs.Reached.{IsReached}
 use Rattle.awk_gather.specs.declared.opening.Opened.TheVariants.{Option as Optional}
-use Rattle.awk_gather.proofs.CountedLaws.{first_of-room}
-use Rattle.awk_gather.proofs.Making.{size-lane_of, at-lane_of}
-use Rattle.awk_gather.proofs.ReachedLaws.{below-first_of, first_of-at, reached-len, reached-item}
-use Rattle.awk_gather.proofs.Shapes.{present_item}
+use Rattle.awk_gather.proofs.FirstPlaces.{first_of-room}
+use Rattle.awk_gather.proofs.MadeLanes.{size-lane_of, at-lane_of}
+use Rattle.awk_gather.proofs.ReachedContents.{below-first_of, first_of-at, reached-len, reached-item}
+use Rattle.awk_gather.proofs.ItemShapes.{present_item}
 
 -- the items of an array, by place
 pub array_items-is : (x : Layout) → array_items x ≡ map (array_item x) (range_with_len 0 (len x))

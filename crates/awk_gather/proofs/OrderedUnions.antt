@@ -24,10 +24,11 @@ use Rattle.awk_gather.specs.InOrder.{IsInOrder, AreAlternatives}
 use Rattle.awk_gather.specs.Opened.{IsOpened}
 use Rattle.awk_gather.specs.Reached.{IsReached, AreReached}
 use Rattle.awk_gather.specs.declared.opening.Opened.TheVariants.{Union}
-use Rattle.awk_gather.proofs.CountedLaws.{length-first_of, first_of-room}
-use Rattle.awk_gather.proofs.Making.{size-lane_of, at-lane_of}
+use Rattle.awk_gather.proofs.FirstPlaces.{length-first_of, first_of-room}
+use Rattle.awk_gather.proofs.LayoutParts.{len_of-get, len_of-nth}
+use Rattle.awk_gather.proofs.MadeLanes.{size-lane_of, at-lane_of}
 use Rattle.awk_gather.proofs.OrderedOptions.{array_items-is, map-same}
-use Rattle.awk_gather.proofs.ReachedLaws.{below-first_of, first_of-at, reached-len, reached-item}
+use Rattle.awk_gather.proofs.ReachedContents.{below-first_of, first_of-at, reached-len, reached-item}
 
 -- ---- values of a union
 
@@ -142,20 +143,10 @@ nth_of_all t j ys zs a h l =
     let g : 0 + a ≡ a = omega arith in
     subst (λ c. IsReached (nth (layouts_from ys) a) (first_of (tagged_at t j c) (size_of t)) (nth (layouts_from zs) a)) g (nth_reached t j 0 ys zs a h l)
 
-len_of-nth : (ys : List Layout) (a : ℕ) → a < count (layouts_from ys) → len_of (layouts_from ys) a ≡ len (nth (layouts_from ys) a)
-len_of-nth [] a l = absurd (omega arith)
-len_of-nth (y ∷ ys) zero l = refl
-len_of-nth (y ∷ ys) (suc a) l = len_of-nth ys a (omega arith)
-
 -- the places of an alternative are places of its content
 tagged_below : (same : Bool) (a b k n : ℕ) → (a == b) ≡ same → (a ≡ b → k < n) → AreBelow n (if a == b then k ∷ [] else [])
 tagged_below true a b k n e h = rw e (h (grind arith), tt)
 tagged_below false a b k n e h = rw e tt
-
-len_of-get : (ys : List Layout) (a : ℕ) (y : Layout) → slice_get ys a ≡ Some y → len_of (layouts_from ys) a ≡ len y
-len_of-get [] a y e = cc
-len_of-get (x ∷ ys) zero y e = let f : x ≡ y = cc in ap len f
-len_of-get (x ∷ ys) (suc a) y e = len_of-get ys a y e
 
 pub union_below : (t j : Column) (ys : List Layout) (a : ℕ) (y : Layout) → slice_get ys a ≡ Some y → IsValid (union t j (layouts_from ys)) → AreBelow (len y) (first_of (tagged_at t j a) (size_of t))
 union_below t j ys a y e v =
@@ -198,7 +189,7 @@ union_tagged t j ys v = record {
   places = λ i l.
       let p = v.1.places i l in
       let q = (v.1.tags i l).1 in
-      (p.0, omega (arith, p.1, len_of-nth ys (place_at t i) q, len-fits (nth (layouts_from ys) (place_at t i)) (valid_at ys (place_at t i) v.2 q)));
+      (p.0, omega (arith, p.1, len_of-nth (layouts_from ys) (place_at t i), len-fits (nth (layouts_from ys) (place_at t i)) (valid_at ys (place_at t i) v.2 q)));
 }
   where
     valid_at : (ys : List Layout) (a : ℕ) → AllValid (layouts_from ys) → a < count (layouts_from ys) → IsValid (nth (layouts_from ys) a)
@@ -223,7 +214,7 @@ union_opened x t j k ys zs h e r = rw e (record {
           let a = place_at t i in
           rw (at-counted t j i l) (
             omega (arith, ints),
-            omega (arith, counted_within t j i l, len_of-nth zs a (omega (arith, c, count_reached t j 0 ys zs r)), reached-len (nth (layouts_from ys) a) (nth (layouts_from zs) a) (first_of (tagged_at t j a) (size_of t)) (nth_of_all t j ys zs a r c)),
+            omega (arith, counted_within t j i l, len_of-nth (layouts_from zs) a, reached-len (nth (layouts_from ys) a) (nth (layouts_from zs) a) (first_of (tagged_at t j a) (size_of t)) (nth_of_all t j ys zs a r c)),
           );
     },
     valid_reached t j 0 ys zs r,

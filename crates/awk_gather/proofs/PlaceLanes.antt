@@ -5,7 +5,7 @@ use Rattle.std.proofs.lemmas.List.{append-nil, length-map, map-append}
 use Rattle.awk_lanes.specs.declared.kind.Kind.TheVariants.{I64}
 use Rattle.awk_lanes.specs.Making.{Making, with_item}
 use Rattle.awk_gather.specs.Counted.{first_of}
-use Rattle.awk_gather.proofs.CountedLaws.{first_of-more, first_of-room}
+use Rattle.awk_gather.proofs.FirstPlaces.{first_of-more, first_of-room}
 
 -- these places are made, of n
 pub record ArePlaces (n : ℕ) (ks : List ℕ) (m : Making) : Type 0 where
@@ -23,10 +23,6 @@ places_pushed n ks k z old new e g h = record {
 -- there is room for one place more
 pub places_room : (n : ℕ) (ks : List ℕ) (m : Making) → length ks < n → ArePlaces n ks m → length m.items < m.room
 places_room n ks m l h = omega (arith, ap length h.items, length-map ks (λ k. pos k), h.room)
-
--- all are made
-pub places_full : (n : ℕ) (ks : List ℕ) (m : Making) → length ks ≡ n → ArePlaces n ks m → length m.items ≡ m.room
-places_full n ks m l h = ap length h.items ∙ length-map ks (λ k. pos k) ∙ l ∙ sym h.room
 
 -- ---- the places that f gives, one place after another
 

@@ -37,7 +37,7 @@ pub record IsGathered (x : Layout) (p : Column) (r : Layout) : Type 0 where
 abbrev pub optional_type : Layout → DataType
 optional_type x = simple (opt (array_type x))
 
--- the items of an array at places with null at each negative number, unless their type passes a limit
+-- the items of an array at places and null at each negative number, unless the type is refused
 abbrev pub picked_or_null : Layout → Column → Result Datum Fault
 picked_or_null x p =
     refused_or (option_map limit_fault (limit (optional_type x)))
@@ -46,7 +46,8 @@ picked_or_null x p =
 -- r has the items of x at places, and null at each negative number, each by its place
 pub record IsGatheredOpt (x : Layout) (p : Column) (r : Layout) : Type 0 where
   pub size : len r ≡ size_of p
-  pub each : (j : ℕ) → j < size_of p → array_item r j ≡ at_option (option_place_at p j) (array_item x)
+  pub each : (j : ℕ) → j < size_of p →
+      array_item r j ≡ at_option (option_place_at p j) (array_item x)
 
 -- the kind of an index over n items
 abbrev pub index_kind : ℕ → Kind

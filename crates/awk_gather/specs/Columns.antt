@@ -1,5 +1,7 @@
--- The columns of values: all that stands at one place of their type, in order, and the numbers that lead there.
-use Rattle.std.specs.Prelude.{ℕ, suc, ◌+◌, ◌==◌, Bool, true, false, List, [], ◌∷◌, length, map, get_or}
+-- Columns of values: all that stands at one place of their type, in order, and the numbers that
+-- lead there.
+use Rattle.std.specs.Prelude.{ℕ, suc, ◌+◌, ◌==◌, Bool, true, false, List, [], ◌∷◌, length, map}
+use Rattle.std.specs.Prelude.{get_or}
 use Rattle.std.specs.Prelude.{ℤ, pos, negsuc, if◌then◌else◌}
 use Rattle.std.specs.List.{flat_map}
 use Rattle.awk_types.specs.Value.{Value, null, list, row, alt, value_list}

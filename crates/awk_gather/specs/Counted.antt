@@ -1,5 +1,7 @@
--- What is made of lanes of places when contents are brought in order: the places that are taken, and new lanes.
-use Rattle.std.specs.Prelude.{◌≡◌, ℕ, ◌+◌, ◌<◌, ◌≤◌, ◌≤ℤ◌, ◌-◌, ◌^◌, ◌==◌, List, [], ◌∷◌, length, map, ℤ, pos, negsuc, Option, Some, None, if◌then◌else◌}
+-- What is made of lanes when contents are brought in order: the places that are taken, and new
+-- lanes.
+use Rattle.std.specs.Prelude.{◌≡◌, ℕ, ◌+◌, ◌<◌, ◌≤◌, ◌≤ℤ◌, ◌-◌, ◌^◌, ◌==◌, List, [], ◌∷◌, length}
+use Rattle.std.specs.Prelude.{map, ℤ, pos, negsuc, Option, Some, None, if◌then◌else◌}
 use Rattle.std.specs.List.{range_with_len, flat_map}
 use Rattle.awk_lanes.specs.declared.kind.Kind.TheVariants.{I8, I64}
 use Rattle.awk_lanes.specs.Column.{Column}

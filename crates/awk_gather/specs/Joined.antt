@@ -1,5 +1,6 @@
 -- Lists by starts and stops as values, and the same lists one after another.
-use Rattle.std.specs.Prelude.{◌≡◌, ℕ, ◌+◌, ◌-◌, ◌<◌, nat_lt, List, length, map, Option, Some, None, Result, if◌then◌else◌}
+use Rattle.std.specs.Prelude.{◌≡◌, ℕ, ◌+◌, ◌-◌, ◌<◌, nat_lt, List, length, map, Option, Some, None}
+use Rattle.std.specs.Prelude.{Result, if◌then◌else◌}
 use Rattle.std.specs.List.{range_with_len}
 use Rattle.awk_types.specs.DataType.{DataType}
 use Rattle.awk_types.specs.Datum.{Datum, arr}
@@ -32,10 +33,14 @@ too_many n = if nat_lt item_limit n then Some Size else None
 abbrev pub joined_datum : DataType → List Value → Result Datum Fault
 joined_datum t vs = refused_or (too_many (length (joined_items vs))) (arr t (joined_items vs))
 
+-- the list of the items from an offset below the next
+abbrev pub list_between : Column → Layout → ℕ → Value
+list_between o z i = list (run (array_item z) (place_at o i) (place_at o (i + 1) - place_at o i))
+
 -- the same lists by offsets into other items, which they fill
 pub record AreJoined (s t : Column) (y : Layout) (o : Column) (z : Layout) : Type 0 where
   pub valid : IsValid (offset_lists o z)
   pub size : size_of o ≡ size_of s + 1
   pub first : place_at o 0 ≡ 0
   pub last : place_at o (size_of s) ≡ len z
-  pub each : (i : ℕ) → i < size_of s → list_at s t y i ≡ list (run (array_item z) (place_at o i) (place_at o (i + 1) - place_at o i))
+  pub each : (i : ℕ) → i < size_of s → list_at s t y i ≡ list_between o z i

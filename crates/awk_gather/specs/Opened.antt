@@ -1,6 +1,7 @@
 -- The outermost kind of an array.
 use Rattle.std.specs.Prelude.{◌≡◌, ℕ, ◌-◌, ◌<◌, List, [], ◌∷◌, map, None}
-use Rattle.awk_types.specs.DataType.{DataType, unknown, leaf, var, reg, opt, uni, row_type, types_from}
+use Rattle.awk_types.specs.DataType.{DataType, unknown, leaf, var, reg, opt, uni, row_type}
+use Rattle.awk_types.specs.DataType.{types_from}
 use Rattle.awk_types.specs.Limit.{limit}
 use Rattle.awk_types.specs.Value.{Value, null, list, row, alt, values_from}
 use Rattle.awk_lanes.specs.Column.{Column}
@@ -14,7 +15,8 @@ use Rattle.awk_layout.specs.Typing.{array_type}
 use Rattle.awk_gather.specs.Arrays.{array_item}
 use Rattle.awk_gather.specs.Picked.{IsPicked}
 use Rattle.awk_gather.specs.declared.opening.Opened.{Opened}
-use Rattle.awk_gather.specs.declared.opening.Opened.TheVariants.{Empty, Leaf, Items, Row, Option as Optional, Union}
+use Rattle.awk_gather.specs.declared.opening.Opened.TheVariants.{Empty, Leaf, Items, Row}
+use Rattle.awk_gather.specs.declared.opening.Opened.TheVariants.{Option as Optional, Union}
 
 -- the type of lists, of any one length, of another type
 abbrev pub IsListOf : DataType → DataType → Type 0
@@ -38,7 +40,8 @@ opened_item (Leaf c) i = leaf_value c.kind (at c i)
 opened_item (Items s e y) i = list (run (array_item y) (place_at s i) (place_at e i - place_at s i))
 opened_item (Row names ys) i = row (values_from (map (λ y. array_item y i) ys))
 opened_item (Optional j y) i = at_option (option_place_at j i) (array_item y)
-opened_item (Union t j ys) i = alt (place_at t i) (array_item (nth (layouts_from ys) (place_at t i)) (place_at j i))
+opened_item (Union t j ys) i =
+    alt (place_at t i) (array_item (nth (layouts_from ys) (place_at t i)) (place_at j i))
 
 -- the layout of n items with these lanes and contents
 abbrev pub opened_layout : ℕ → Opened → Layout

@@ -17,6 +17,7 @@ pub record IsReached (y : Layout) (ks : List ℕ) (z : Layout) : Type 0 where
 abbrev pub AreReached : Column → Column → ℕ → List Layout → List Layout → Type 0
 AreReached t j a [] [] = Unit {0}
 AreReached t j a (y ∷ ys) (z ∷ zs) =
-    (IsReached y (first_of (tagged_at t j a) (size_of t)) z × IsValid z) × AreReached t j (suc a) ys zs
+    (IsReached y (first_of (tagged_at t j a) (size_of t)) z × IsValid z)
+    × AreReached t j (suc a) ys zs
 AreReached t j a [] (z ∷ zs) = ⊥
 AreReached t j a (y ∷ ys) [] = ⊥

@@ -19,7 +19,7 @@ use std::alloc::{AllocError, Global};
 use std::sync::ledger::Ledger;
 
 /// The array of a node whose type passes no limit.
-#[tactic(auto, using(crate::proofs::Gathers::refusals))]
+#[tactic(auto, using(crate::proofs::GatheredArrays::refusals))]
 pub(crate) fn array_within<'a>(alloc: Global, node: Node<'a>) -> Result<Array<'a>, NoMemory>
     requires { limit (array_type node) ≡ None }
     ensures { IfOk result (λ array. array ≡ node.entry) }
@@ -33,9 +33,9 @@ pub(crate) fn array_within<'a>(alloc: Global, node: Node<'a>) -> Result<Array<'a
 
 /// The items of an array at places, in the order of the places, which may repeat.
 ///
-/// Numbers, starts and stops, masks and indexes are moved, and contents are borrowed. A record moves
-/// nothing: the places become an index over it, in 32 bits where it has at most 2^32 items. No other
-/// array is put behind a further index.
+/// Numbers, starts and stops, masks and indexes are moved, and contents are borrowed. A record
+/// moves nothing: the places become an index over it, in 32 bits where it has at most 2^32 items.
+/// No other array is put behind a further index.
 pub fn gather<'a, L: Ledger>(
     alloc: Global,
     x: &Array<'a>,

@@ -21,7 +21,7 @@ pub(crate) fn one_if(place: Option<u64>) -> u64
 }
 
 /// How many items the index of an option names.
-#[tactic(auto, using(crate::proofs::CountedLaws::counting))]
+#[tactic(auto, using(crate::proofs::FirstPlaces::counting))]
 pub(crate) fn count_present<L: Ledger>(index: &Lane, steps: &mut Steps<L>) -> u64
     requires kind { IsOptionKind index.now.kind }
     ensures { result ≡ length (first_of (present_at index.now) (size_of index.now)) }
@@ -48,7 +48,7 @@ fn next_number<L: Ledger>(index: &Lane, i: u64, next: u64, steps: &mut Steps<L>)
 }
 
 /// The index of an option over the present items alone: it counts up, and is -1 for each null.
-#[tactic(auto, using(crate::proofs::Making::making))]
+#[tactic(auto, using(crate::proofs::MadeLanes::making))]
 pub(crate) fn counted<'a, L: Ledger>(
     index: &Lane,
     arena: &'a Arena,

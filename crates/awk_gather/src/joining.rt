@@ -53,8 +53,8 @@ fn joined_items<'a, L: Ledger>(
     }
 }
 
-/// The items of lists, one after another, and offsets into these. `Size` tells exactly that they are
-/// more than 1,073,741,824 together.
+/// The items of lists, one after another, and offsets into these. `Size` tells exactly that they
+/// are more than 1,073,741,824 together.
 pub fn join_lists<'a, L: Ledger>(
     alloc: Global,
     starts: &Lane<'a>,
@@ -66,10 +66,12 @@ pub fn join_lists<'a, L: Ledger>(
     requires small { size_of starts.now < 2 ^ 63 }
     requires spans { AreSpans starts.now stops.now (len content.now) }
     ensures answer { let vs = list_values starts.now stops.now content.now in
-        Gives (λ j. array_datum j.content) fault_told result (joined_datum (array_type content.now) vs) }
+        let said = joined_datum (array_type content.now) vs in
+        Gives (λ j. array_datum j.content) fault_told result said }
     ensures offsets { let vs = list_values starts.now stops.now content.now in
         IfOk result (λ j. j.offsets ≡ record { kind = Kind.I64; items = offsets_of 0 vs }) }
-    ensures lists { IfOk result (λ j. AreJoined starts.now stops.now content.now j.offsets j.content) }
+    ensures lists { let joins = AreJoined starts.now stops.now content.now in
+        IfOk result (λ j. joins j.offsets j.content) }
 {
     let _ = content.len();
     let Some(n) = total(starts, stops, steps) else {

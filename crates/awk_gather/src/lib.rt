@@ -16,7 +16,7 @@ mod spans;
 mod spread;
 mod tagged;
 mod taken;
-mod united;
+mod unions;
 
 pub use arrays::{gather, gather_opt};
 pub use joining::{Joined, join_lists};

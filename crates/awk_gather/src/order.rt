@@ -118,10 +118,12 @@ fn order_union<'a, L: Ledger>(
     })
 }
 
-/// The outermost kind of an array, where the content of an option holds exactly its present items
-/// and the contents of a union exactly those of each alternative, in order: an option's index counts
-/// 0, 1 and so on, with -1 for each null, and a union's counts so for each alternative. The columns of
-/// rows are those of all rows. Lists are given as they lie: `join_lists` gives their items in order.
+/// The outermost kind of an array, whose contents hold exactly what is reached, in order.
+///
+/// An option's content holds its present items, and its index counts 0, 1 and so on, with -1 for
+/// each null. A union's contents hold the items of each alternative, and its index counts so for
+/// each. The columns of rows are those of all rows. Lists are given as they lie: `join_lists` puts
+/// their items in order.
 pub fn in_order<'a, L: Ledger>(
     alloc: Global,
     x: &Array<'a>,

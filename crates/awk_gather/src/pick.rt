@@ -3,7 +3,8 @@ ghost use Rattle.std.specs.Prelude.{◌≡◌, ◌+◌, ◌-◌, ◌<◌, ◌≤
 ghost use Rattle.awk_lanes.specs.declared.kind.Kind.TheVariants as Kind;
 ghost use Rattle.awk_lanes.specs.Places.{size_of, IsIndex};
 ghost use Rattle.awk_layout.specs.Layout.{layouts_from, is_rows, flat, lists, offset_lists};
-ghost use Rattle.awk_layout.specs.Layout.{indexed as indexed_at, optional, byte_masked, bit_masked, unmasked};
+ghost use Rattle.awk_layout.specs.Layout.{indexed as indexed_at, optional, byte_masked, bit_masked};
+ghost use Rattle.awk_layout.specs.Layout.{unmasked};
 ghost use Rattle.awk_layout.specs.Layout.{union as united};
 ghost use Rattle.awk_layout.specs.Valid.{len, IsValid};
 ghost use Rattle.awk_gather.specs.Arrays.{index_over};
@@ -17,7 +18,7 @@ use awk_layout::{Class, Node, Nodes};
 use std::alloc::{AllocError, Global};
 use std::sync::ledger::Ledger;
 
-#[tactic(auto, using(crate::proofs::Picks::picks))]
+#[tactic(auto, using(crate::proofs::PickedNodes::picks))]
 fn pick_flat<'a, L: Ledger>(
     lane: &Lane<'a>,
     places: &Lane<'a>,
@@ -34,7 +35,7 @@ fn pick_flat<'a, L: Ledger>(
     Ok(Node::numpy(lane, steps))
 }
 
-#[tactic(auto, using(crate::proofs::Picks::picks))]
+#[tactic(auto, using(crate::proofs::PickedNodes::picks))]
 fn pick_lists<'a, L: Ledger>(
     alloc: Global,
     starts: &Lane<'a>,
@@ -56,7 +57,7 @@ fn pick_lists<'a, L: Ledger>(
     Ok(Node::list(starts, stops, content, steps))
 }
 
-#[tactic(auto, using(crate::proofs::Picks::picks))]
+#[tactic(auto, using(crate::proofs::PickedNodes::picks))]
 fn pick_offsets<'a, L: Ledger>(
     alloc: Global,
     offsets: &Lane<'a>,
@@ -77,7 +78,7 @@ fn pick_offsets<'a, L: Ledger>(
     Ok(Node::list(starts, stops, content, steps))
 }
 
-#[tactic(auto, using(crate::proofs::Picks::picks))]
+#[tactic(auto, using(crate::proofs::PickedNodes::picks))]
 fn pick_indexed<'a, L: Ledger>(
     alloc: Global,
     index: &Lane<'a>,
@@ -97,7 +98,7 @@ fn pick_indexed<'a, L: Ledger>(
     Ok(Node::indexed(index, content, steps))
 }
 
-#[tactic(auto, using(crate::proofs::Picks::picks))]
+#[tactic(auto, using(crate::proofs::PickedNodes::picks))]
 fn pick_optional<'a, L: Ledger>(
     alloc: Global,
     index: &Lane<'a>,
@@ -117,7 +118,7 @@ fn pick_optional<'a, L: Ledger>(
     Ok(Node::indexed_option(index, content, steps))
 }
 
-#[tactic(auto, using(crate::proofs::Picks::picks))]
+#[tactic(auto, using(crate::proofs::PickedNodes::picks))]
 fn pick_bytes<'a, L: Ledger>(
     alloc: Global,
     mask: &Lane<'a>,
@@ -138,7 +139,7 @@ fn pick_bytes<'a, L: Ledger>(
     Ok(Node::indexed_option(index, content, steps))
 }
 
-#[tactic(auto, using(crate::proofs::Picks::picks))]
+#[tactic(auto, using(crate::proofs::PickedNodes::picks))]
 fn pick_bits<'a, L: Ledger>(
     alloc: Global,
     mask: &Bits<'a>,
@@ -160,7 +161,7 @@ fn pick_bits<'a, L: Ledger>(
 }
 
 /// An item of an unmasked node is an item of its content, so the places are an index.
-#[tactic(auto, using(crate::proofs::Picks::picks))]
+#[tactic(auto, using(crate::proofs::PickedNodes::picks))]
 fn pick_unmasked<'a, L: Ledger>(
     alloc: Global,
     n: u64,
@@ -178,7 +179,7 @@ fn pick_unmasked<'a, L: Ledger>(
     Ok(Node::indexed_option(places.copy(), content, steps))
 }
 
-#[tactic(auto, using(crate::proofs::Picks::picks))]
+#[tactic(auto, using(crate::proofs::PickedNodes::picks))]
 fn pick_union<'a, L: Ledger>(
     alloc: Global,
     tags: &Lane<'a>,
@@ -192,7 +193,8 @@ fn pick_union<'a, L: Ledger>(
     requires kind { places.now.kind ≡ Kind.I64 }
     requires small { size_of places.now < 2 ^ 63 }
     requires places { IsIndex places.now (size_of tags.now) }
-    ensures node { IfOk result (IsPicked (united tags.now index.now (layouts_from contents.now)) places.now) }
+    ensures node { let x = united tags.now index.now (layouts_from contents.now) in
+        IfOk result (IsPicked x places.now) }
 {
     let contents = contents.copy(alloc)?;
     let tags = gather_lane(tags, places, arena, steps)?;
@@ -202,7 +204,7 @@ fn pick_union<'a, L: Ledger>(
 
 /// The items at places.
 #[cycle(gather_node)]
-#[tactic(auto, using(crate::proofs::Picks::picks))]
+#[tactic(auto, using(crate::proofs::PickedNodes::picks))]
 pub(crate) fn gather_node<'a, L: Ledger>(
     alloc: Global,
     x: &Node<'a>,

@@ -26,7 +26,7 @@ fn narrow<L: Ledger>(places: &Lane, n: u64, i: u64, steps: &mut Steps<L>) -> Num
 }
 
 /// Places below n in 32 bits.
-#[tactic(auto, using(crate::proofs::Making::making))]
+#[tactic(auto, using(crate::proofs::MadeLanes::making))]
 fn narrowed<'a, L: Ledger>(
     places: &Lane,
     n: u64,

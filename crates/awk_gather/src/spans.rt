@@ -1,4 +1,4 @@
-//! Lists by their starts and stops: how many items they have together, where these lie, and offsets.
+//! Lists by their starts and stops: how many items they have together, and where these lie.
 ghost use Rattle.std.specs.Prelude.{◌≡◌, ◌+◌, ◌-◌, ◌<◌, ◌≤◌, ◌^◌, length, IfOk, IfSome, IsTrue};
 ghost use Rattle.std.specs.List.{range_with_len};
 ghost use Rattle.awk_lanes.specs.Places.{size_of, AreSpans};

@@ -1,5 +1,6 @@
 //! Indexes of unions that count up, and the places of the items of one alternative.
-ghost use Rattle.std.specs.Prelude.{◌≡◌, ℕ, ◌+◌, ◌<◌, ◌^◌, length, slice_index_or, slice_set, IfSome, IfOk};
+ghost use Rattle.std.specs.Prelude.{◌≡◌, ℕ, ◌+◌, ◌<◌, ◌^◌, length, slice_index_or, slice_set};
+ghost use Rattle.std.specs.Prelude.{IfSome, IfOk};
 ghost use Rattle.awk_lanes.specs.Places.{size_of, place_at};
 ghost use Rattle.awk_lanes.specs.declared.kind.Kind.TheVariants as Kind;
 ghost use Rattle.awk_gather.specs.Counted.{first_of, places_lane, present_place, tagged_at};
@@ -79,7 +80,7 @@ fn count_one(counts: &mut Vec<u64>, tag: usize) -> u64
 }
 
 /// The index of a union over the items of each alternative alone: it counts up for each.
-#[tactic(auto, using(crate::proofs::Making::making))]
+#[tactic(auto, using(crate::proofs::MadeLanes::making))]
 pub(crate) fn counted_union<'a, L: Ledger>(
     alloc: Global,
     tags: &Lane,

@@ -7,7 +7,7 @@ use Rattle.awk_layout.specs.Layout.{Layout, indexed, is_rows, held, weight}
 use Rattle.awk_layout.specs.Valid.{len}
 use Rattle.awk_gather.specs.Arrays.{index_over}
 use Rattle.awk_gather.specs.Picked.{IsPicked}
-use Rattle.awk_gather.proofs.Gathers.{gathered_of, gathered_limit}
+use Rattle.awk_gather.proofs.GatheredArrays.{gathered_of, gathered_limit}
 use Rattle.awk_gather.proofs.arrays.gather.Goals as goal
 
 pub array_within-requires : goal.array_within-requires

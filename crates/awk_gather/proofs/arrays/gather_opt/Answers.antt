@@ -4,7 +4,7 @@ use Rattle.awk_layout.specs.Layout.{Layout}
 use Rattle.awk_gather.specs.Arrays.{picked_or_null}
 use Rattle.awk_gather.specs.Peeled.{IsPickedOpt}
 use Rattle.awk_gather.proofs.ArrayAnswers.{answer_refused, answer_given}
-use Rattle.awk_gather.proofs.Gathers.{gathered_opt, picked_or_null-is}
+use Rattle.awk_gather.proofs.GatheredArrays.{gathered_opt, picked_or_null-is}
 use Rattle.awk_gather.proofs.arrays.gather_opt.Goals as goal
 
 pub returns-in_err-new-clause-answer : goal.returns-in_err-new-clause-answer

@@ -2,8 +2,8 @@ use Rattle.std.proofs.Common.{◌+◌, length, arith, ap, ◌∙◌}
 use Rattle.awk_lanes.specs.Numbers.{int_of}
 use Rattle.awk_lanes.specs.Places.{option_place_at}
 use Rattle.awk_gather.specs.Counted.{count_or_null, present_place, present_at}
-use Rattle.awk_gather.proofs.CountedLaws.{length-first_of, present-few}
-use Rattle.awk_gather.proofs.Making.{so_far_pushed}
+use Rattle.awk_gather.proofs.FirstPlaces.{length-first_of, present-few}
+use Rattle.awk_gather.proofs.MadeLanes.{so_far_pushed}
 use Rattle.awk_gather.proofs.counted.counted.Goals as goal
 
 pub loop-i-preserved : goal.loop-i-preserved

@@ -2,7 +2,7 @@ use Rattle.std.proofs.Common.{arith, ◌∙◌, subst}
 use Rattle.awk_layout.specs.Laws.{len-fits}
 use Rattle.awk_layout.specs.Valid.{len}
 use Rattle.awk_gather.specs.Counted.{IsTotal}
-use Rattle.awk_gather.proofs.JoinedLaws.{spans_wider, are_joined, joined_refused, joined_given, offsets_lane-is}
+use Rattle.awk_gather.proofs.JoinedLists.{spans_wider, are_joined, joined_refused, joined_given, offsets_lane-is}
 use Rattle.awk_gather.proofs.PlaceLanes.{none_left}
 use Rattle.awk_gather.proofs.joining.join_lists.Goals as goal
 

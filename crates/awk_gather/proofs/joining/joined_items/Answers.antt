@@ -4,7 +4,7 @@ use Rattle.std.proofs.lemmas.Result.{IfOk-weaker}
 use Rattle.awk_layout.specs.Laws.{len-fits}
 use Rattle.awk_layout.specs.Valid.{len}
 use Rattle.awk_gather.specs.Counted.{IsRow}
-use Rattle.awk_gather.proofs.JoinedLaws.{spans_wider, spans_places, row_reached, gather_reached}
+use Rattle.awk_gather.proofs.JoinedLists.{spans_wider, spans_places, row_reached, gather_reached}
 use Rattle.awk_gather.proofs.ResultLaws.{IfOk-both}
 use Rattle.awk_gather.proofs.joining.joined_items.Goals as goal
 

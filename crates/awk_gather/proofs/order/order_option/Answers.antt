@@ -3,7 +3,7 @@ use Rattle.awk_lanes.specs.Places.{size_of, IsIndex}
 use Rattle.awk_layout.specs.Valid.{len}
 use Rattle.awk_gather.specs.Counted.{first_of, present_at}
 use Rattle.awk_gather.proofs.OrderedOptions.{option_below, option_opened, option_in_order}
-use Rattle.awk_gather.proofs.ReachedLaws.{places_index, reached_by}
+use Rattle.awk_gather.proofs.ReachedContents.{places_index, reached_by}
 use Rattle.awk_gather.proofs.order.order_option.Goals as goal
 
 pub taken-requires-clause-places : goal.taken-requires-clause-places

@@ -2,7 +2,7 @@ use Rattle.std.proofs.Common.{subst, sym}
 use Rattle.awk_lanes.specs.Places.{size_of, IsIndex}
 use Rattle.awk_layout.specs.Valid.{len}
 use Rattle.awk_gather.specs.Counted.{first_of, tagged_at}
-use Rattle.awk_gather.proofs.ReachedLaws.{places_index, reached_by}
+use Rattle.awk_gather.proofs.ReachedContents.{places_index, reached_by}
 use Rattle.awk_gather.proofs.ResultLaws.{IfOk-both}
 use Rattle.awk_gather.proofs.order.taken_of.Goals as goal
 

@@ -1,6 +1,6 @@
 use Rattle.std.proofs.Common.{rules}
 use Rattle.awk_layout.specs.Valid.{len}
-use Rattle.awk_gather.proofs.Picks.{regular_inner, regular_of, regular_blocks, regular_reach}
+use Rattle.awk_gather.proofs.PickedNodes.{regular_inner, regular_of, regular_blocks, regular_reach}
 use Rattle.awk_gather.proofs.pick.+gather_node.Goals as goal
 
 pub block_lane-requires-clause-blocks : goal.block_lane-requires-clause-blocks

@@ -1,6 +1,6 @@
 use Rattle.std.proofs.Common.{arith}
 use Rattle.awk_lanes.specs.Numbers.{int_of}
-use Rattle.awk_gather.proofs.Making.{so_far_pushed}
+use Rattle.awk_gather.proofs.MadeLanes.{so_far_pushed}
 use Rattle.awk_gather.proofs.rows.narrowed.Goals as goal
 
 pub loop-i-preserved : goal.loop-i-preserved

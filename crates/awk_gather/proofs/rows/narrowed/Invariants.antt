@@ -1,7 +1,7 @@
 use Rattle.std.proofs.Common.{◌+◌, ◌≤◌}
 use Rattle.awk_lanes.specs.declared.kind.Kind.TheVariants.{U32}
 use Rattle.awk_lanes.specs.Places.{size_of, at}
-use Rattle.awk_gather.proofs.Making.{IsSoFar}
+use Rattle.awk_gather.proofs.MadeLanes.{IsSoFar}
 use Rattle.awk_gather.proofs.rows.narrowed.Given as goal
 
 abbrev pub invariant-loop-i : goal.invariant-loop-i

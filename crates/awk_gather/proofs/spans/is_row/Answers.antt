@@ -1,5 +1,5 @@
 use Rattle.std.proofs.Common.{◌≡◌, ◌<◌, arith}
-use Rattle.awk_gather.proofs.SpanLaws.{span-count, row_more}
+use Rattle.awk_gather.proofs.SpanPlaces.{span-count, row_more}
 use Rattle.awk_gather.proofs.spans.is_row.Goals as goal
 use Rattle.awk_gather.proofs.spans.is_row.Goals.{then-span-gt0+else-span-end, else-span-gt0}
 

@@ -4,8 +4,8 @@ use Rattle.awk_lanes.specs.declared.kind.Kind.TheVariants.{I64}
 use Rattle.awk_lanes.specs.Numbers.{int_of}
 use Rattle.awk_lanes.specs.Places.{size_of}
 use Rattle.awk_gather.specs.Counted.{first_of, span_at, offset_at}
-use Rattle.awk_gather.proofs.Making.{so_far_pushed, made_size}
-use Rattle.awk_gather.proofs.SpanLaws.{span-count, span-room}
+use Rattle.awk_gather.proofs.MadeLanes.{so_far_pushed, made_size}
+use Rattle.awk_gather.proofs.SpanPlaces.{span-count, span-room}
 use Rattle.awk_gather.proofs.spans.offsets.Goals as goal
 
 pub overflow_add-end : goal.overflow_add-end

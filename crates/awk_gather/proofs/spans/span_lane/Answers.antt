@@ -1,6 +1,6 @@
 use Rattle.std.proofs.Common.{◌<◌, arith}
 use Rattle.awk_lanes.specs.Places.{size_of}
-use Rattle.awk_gather.proofs.SpanLaws.{spans_begun, spans_pushed, spans_next, spans_room}
+use Rattle.awk_gather.proofs.SpanPlaces.{spans_begun, spans_pushed, spans_next, spans_room}
 use Rattle.awk_gather.proofs.spans.span_lane.Goals as goal
 
 pub loop-k-init : goal.loop-k-init

@@ -1,6 +1,6 @@
 use Rattle.std.proofs.Common.{◌<◌, arith}
 use Rattle.awk_lanes.specs.Places.{size_of}
-use Rattle.awk_gather.proofs.SpanLaws.{span-count, span-room}
+use Rattle.awk_gather.proofs.SpanPlaces.{span-count, span-room}
 use Rattle.awk_gather.proofs.spans.total.Goals as goal
 
 pub returns-then-span-sum : goal.returns-then-span-sum

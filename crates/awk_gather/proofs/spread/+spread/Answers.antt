@@ -1,6 +1,6 @@
 use Rattle.std.proofs.Common.{arith, rules}
 use Rattle.std.proofs.lemmas.Result.{IfOk-weaker}
-use Rattle.awk_gather.proofs.Spreads.{alternative_call, sizes_same, all_start, all_step, spread_end, spread_of_peeled}
+use Rattle.awk_gather.proofs.SpreadUnions.{alternative_call, sizes_same, all_start, all_step, spread_end, spread_of_peeled}
 use Rattle.awk_gather.proofs.spread.+spread.Goals as goal
 
 pub alternatives-returns : goal.alternatives-returns

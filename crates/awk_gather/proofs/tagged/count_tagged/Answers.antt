@@ -1,6 +1,6 @@
 use Rattle.std.proofs.Common.{◌≡◌, ◌+◌, length, arith, ap, ◌∙◌}
 use Rattle.awk_gather.specs.Counted.{tagged_at}
-use Rattle.awk_gather.proofs.CountedLaws.{length-first_of, tagged-few}
+use Rattle.awk_gather.proofs.FirstPlaces.{length-first_of, tagged-few}
 use Rattle.awk_gather.proofs.tagged.count_tagged.Goals as goal
 
 pub overflow_add-count : goal.overflow_add-count

@@ -2,8 +2,8 @@ use Rattle.std.proofs.Common.{◌+◌, ◌<◌, length, arith, refl, ap, sym, �
 use Rattle.std.proofs.lemmas.List.{length-set}
 use Rattle.awk_lanes.specs.Numbers.{int_of}
 use Rattle.awk_lanes.specs.Places.{size_of}
-use Rattle.awk_gather.proofs.Making.{so_far_pushed}
-use Rattle.awk_gather.proofs.TaggedLaws.{AreCounts, counts_more, count_before}
+use Rattle.awk_gather.proofs.MadeLanes.{so_far_pushed}
+use Rattle.awk_gather.proofs.TaggedCounts.{AreCounts, counts_more, count_before}
 use Rattle.awk_gather.proofs.tagged.counted_union.Goals as goal
 
 pub count_one-count-requires-clause-fits : goal.count_one-count-requires-clause-fits

@@ -5,8 +5,8 @@ use Rattle.std.proofs.lemmas.Result.{IfOk-weaker}
 use Rattle.awk_layout.specs.Typing.{array_items}
 use Rattle.awk_layout.specs.Valid.{len}
 use Rattle.awk_gather.specs.Counted.{IsRun}
-use Rattle.awk_gather.proofs.Gathers.{length-array_items}
-use Rattle.awk_gather.proofs.ReachedLaws.{run_picked}
+use Rattle.awk_gather.proofs.GatheredArrays.{length-array_items}
+use Rattle.awk_gather.proofs.ReachedContents.{run_picked}
 use Rattle.awk_gather.proofs.taken.taken.Goals as goal
 
 pub returns-in-Some-clause-items : goal.returns-in-Some-clause-items
