@@ -13,15 +13,15 @@ from jagged import BUILT_PROGRAM, PROGRAM_VARIABLE, Session, UnbuiltFault
 
 IS_NAMED = bool(os.environ.get(PROGRAM_VARIABLE))
 
-# The lines and operations that the built program answers by the fault `unbuilt`; `literal` is a
-# number that is the whole expression. Take out what is built: a test fails that says so. A program
-# that the environment names is held to everything.
+# The lines and operations that the built program answers by the fault `unbuilt`; `step_range` is a
+# range of another step than 1. Take out what is built: a test fails that says so. A program that
+# the environment names is held to everything.
 NOT_YET = frozenset(
     []
     if IS_NAMED
     else """
-    let type names pack literal
-    at range field fields without_field at_each pick
+    pack
+    at step_range at_each pick
     num flatten local_index unflatten run_lengths zip tuple with_field concatenate
     is_none fill_none drop_none firsts singletons pad_none put_mask
     add sub mul floor_div rem eq ne lt le gt ge and or xor not neg abs where cast
@@ -57,7 +57,11 @@ def words_of(expression: Any) -> list[str]:
     if not isinstance(expression, list):
         return []
     inner = [word for part in expression for word in words_of(part)]
-    return [*expression[:1], *inner] if isinstance(expression[0], str) else inner
+    return [_word_of(expression), *inner] if isinstance(expression[0], str) else inner
+
+
+def _word_of(call: list[Any]) -> str:
+    return "step_range" if call[0] == "range" and call[4:] not in ([], [1]) else call[0]
 
 
 class EngineCase(unittest.TestCase):
