@@ -24,12 +24,14 @@ number_of TooManyLines = 7
 abbrev pub IsComplete : Status → Type 0
 IsComplete status = (status ≡ Fine) ⊎ (status ≡ Faults)
 
--- the lines that may be answered: those ended within the limits, or all where the source has nothing left
+-- the lines that may be answered: those ended within the limits, or all where the source has
+-- nothing left
 abbrev pub MayBeAnswered : Option (List ℕ) → List ℕ → List (List ℕ) → Type 0
 MayBeAnswered left given ls = (ls ≡ ended given) ⊎ ((ls ≡ lines given) × IsAtEnd left)
 
 -- the source has nothing left, and the answers to all lines were written
-pub record IsWhole (left : Option (List ℕ)) (given written : List ℕ) (some_fault : Bool) : Type 0 where
+pub record IsWhole (left : Option (List ℕ)) (given written : List ℕ)
+    (some_fault : Bool) : Type 0 where
   pub at_end : IsAtEnd left
   pub answers : written ≡ answers (lines given)
   pub faults : has_fault (lines given) ≡ some_fault
@@ -60,12 +62,16 @@ Says Memory left given written = HasFirstAnswers left given written
 Says LineTooLong left given written = (written ≡ answers (ended given)) × HasLongLine given
 Says TooManyLines left given written = (written ≡ answers (ended given)) × HasTooManyLines given
 
--- The sink was flushed once for each answer that was written whole. Where it failed, the flush of the last may be missing.
+-- The sink was flushed once for each answer that was written whole. Where it failed, the flush of
+-- the last may be missing.
 abbrev pub FlushesEach : Status → ℕ → ℕ → ℕ → Type 0
-FlushesEach status flushes0 flushes1 answered = (flushes1 ≡ risen answered flushes0) ⊎ ((status ≡ Write) × (flushes1 ≡ risen (answered - 1) flushes0))
+FlushesEach status flushes0 flushes1 answered =
+    (flushes1 ≡ risen answered flushes0)
+    ⊎ ((status ≡ Write) × (flushes1 ≡ risen (answered - 1) flushes0))
 
 -- The bytes that the source gave and those that were written, and what the status says of them.
-pub record Session (left0 left1 written0 written1 : Option (List ℕ)) (flushes0 flushes1 : ℕ) (status : Status) : Type 0 where
+pub record Session (left0 left1 written0 written1 : Option (List ℕ)) (flushes0 flushes1 : ℕ)
+    (status : Status) : Type 0 where
   pub given : List ℕ
   pub written : List ℕ
   pub reads : Consumes left0 left1 given
@@ -77,7 +83,8 @@ pub record Session (left0 left1 written0 written1 : Option (List ℕ)) (flushes0
   pub flushes : FlushesEach status flushes0 flushes1 (line_ends written)
 
 -- where the bytes given are within the limits, the answers to all their lines were written
-pub record Completes (left0 left1 written0 written1 : Option (List ℕ)) (status : Status) : Type 0 where
+pub record Completes (left0 left1 written0 written1 : Option (List ℕ))
+    (status : Status) : Type 0 where
   pub given : List ℕ
   pub written : List ℕ
   pub reads : Consumes left0 left1 given
