@@ -128,6 +128,8 @@ fn run<S: Source, K: Sink, L: Ledger>(
     ensures flushed { result ≢ Status.Write → IsTrue (K.flushed sink.new) ⊎ (sink.new ≡ sink.old) }
     ensures read { result ≡ Status.Read → Rose (S.faults source.old) (S.faults source.new) }
     ensures write { result ≡ Status.Write → Rose (K.faults sink.old) (K.faults sink.new) }
+    ensures cost { (bytes : List ℕ) → S.left source.old ≡ Some bytes →
+        IsTrue (are_plain (lines bytes)) → steps.new ≤ steps.old + cost (lines bytes) }
 {
     let mut lines = Lines::new();
     let mut out = Out::new();

@@ -1,15 +1,16 @@
 -- A line takes at most its cost, by what its parts take.
-use Rattle.std.proofs.Common.{◌≡◌, ◌≤◌, ℕ, ◌+◌, ◌*◌, Bool, true, false, List, length, Option, Some, None, Result, Ok, Err, refl, sym, ap, ◌∙◌, subst, arith}
+use Rattle.std.proofs.Common.{◌≡◌, ◌≤◌, ℕ, ◌+◌, ◌*◌, Bool, true, false, List, ◌++◌, length, length-append, Option, Some, None, Result, Ok, Err, refl, sym, ap, ◌∙◌, subst, arith}
 use Rattle.std.specs.Prelude.{IfOk, IfSome, is_some}
-use Rattle.core.specs.Result.{result_ok}
+use Rattle.std.specs.Result.{result_ok}
 use Rattle.awk_store.specs.Buffers.{texts_of, total_len}
 use Rattle.awk_lengths.specs.LineBytes.{HasBytes}
-use Rattle.awk_query.specs.Line.{Line, load, bind, show, type_of, pack, names}
+use Rattle.awk_query.specs.Line.{Line, load, bind, show, type_of, pack, names, line_said}
 use Rattle.awk_eval.specs.Variables.{Variables}
 use Rattle.awk_eval.specs.Views.{Size, View, view_of, sizes_of, size_in, size_or_none}
 use Rattle.awk_session.specs.Answer.{answer_text}
 use Rattle.awk_session.specs.AnswerView.{answer_view}
-use Rattle.awk_session.specs.Cost.{form_size, view_size, load_cost, view_cost, text_cost, has_cost, made_cost, shown_cost}
+use Rattle.awk_session.specs.Cost.{form_size, view_size, load_cost, view_cost, text_cost, has_cost, made_cost, shown_cost, line_in}
+use Rattle.awk_session.specs.Replies.{is_blank}
 use Rattle.awk_session.specs.Spending.{IsAtMost, IsOfArray, IsOfArrays, IsViewTaken, TakesBy, Takes, TakesCost, shown_size, sent_cost, ShowsNone, ShowsView, ShowsBy, Shows}
 use Rattle.awk_session.specs.declared.answer.Answer as code
 
@@ -27,8 +28,20 @@ pub text_cost-more : (s t : Size) (m n : ℕ) → IsAtMost s t → m ≤ n → t
 text_cost-more s t m n h le =
     let product = times s.height m t.height n h.1 le in omega (arith, h.0, product)
 
+-- a text within another costs no more
+pub text_cost-around : (s : Size) (head text tail : List ℕ)
+    → text_cost s (length text) ≤ text_cost s (length (head ++ text ++ tail))
+text_cost-around s head text tail =
+    text_cost-more s s (length text) (length (head ++ text ++ tail)) (omega arith, omega arith)
+    (omega (arith, length-append (head ++ text) tail, length-append head text))
+
+none_costs : (n : ℕ) → text_cost (size_or_none None) n ≡ 0
+none_costs n = grind arith
+
 pub none_sent : (a : code.Answer) → ShowsNone a → sent_cost a ≡ 0
-none_sent a e = ap (λ s. text_cost s (length (answer_text (answer_view a)))) e
+none_sent a e =
+    let n = length (answer_text (answer_view a)) in
+    ap (λ s. text_cost s n) e ∙ none_costs n
 
 -- ---- a line
 
@@ -94,3 +107,14 @@ Takes-unanswered variables None n answer steps0 steps1 takes bytes plain arrays 
     omega (arith, takes)
 Takes-unanswered variables (Some l) n answer steps0 steps1 takes bytes plain arrays =
     omega (arith, made variables l n steps0 steps1 takes bytes plain arrays)
+
+-- ---- what a line is read as
+
+pub line_in-blank : (line : List ℕ) → is_blank line ≡ true → line_in line ≡ None
+unfolding line_in
+line_in-blank line e = rw e refl
+
+pub line_in-said : (line : List ℕ) → is_blank line ≡ false
+    → line_in line ≡ result_ok (line_said line)
+unfolding line_in
+line_in-said line e = rw e refl

@@ -1,6 +1,6 @@
 -- Lines take no more steps than their session costs.
 use Rattle.std.proofs.Common.{◌≡◌, ◌≤◌, ℕ, ◌+◌, ◌*◌, Bool, true, false, ◌&&◌, List, [], ◌∷◌, ◌++◌, length, Option, Some, None, refl, sym, ap, ◌∙◌, subst, arith}
-use Rattle.core.specs.Option.{option_map_or}
+use Rattle.std.specs.Option.{option_map_or}
 use Rattle.awk_query.specs.Line.{Line, load, bind, show, type_of, pack, names}
 use Rattle.awk_eval.specs.Variables.{Variables, Environment, denoted}
 use Rattle.awk_eval.specs.Views.{Sizes, View, view_of, sizes_of, size_at}
@@ -59,7 +59,7 @@ cost_at s line = cost_of s.sizes line (step s.variables line).answer
 
 costs-append : (s : Standing) (xs ys : List (List ℕ))
     → costs s (xs ++ ys) ≡ costs s xs + costs (standing_after s xs) ys
-costs-append s [] ys = refl
+costs-append s [] ys = omega arith
 costs-append s (x ∷ xs) ys = omega (arith, costs-append (next s x) xs ys)
 
 costs-push : (s : Standing) (xs : List (List ℕ)) (x : List ℕ)

@@ -1,6 +1,6 @@
 -- The costs of worked sessions, computed.
 use Rattle.std.proofs.Common.{◌≡◌, ℕ, true, false, List, [], ◌∷◌, codes, refl, Option}
-use Rattle.core.specs.Result.{result_ok}
+use Rattle.std.specs.Result.{result_ok}
 use Rattle.std.specs.Char.{encode_utf8}
 use Rattle.std.specs.Fmt.{digits}
 use Rattle.std.specs.Str.{IsUtf8}
@@ -11,6 +11,7 @@ use Rattle.base64.proofs.OnLiterals.{base64_on_literals}
 use Rattle.awk_form.specs.Node.{node_at}
 use Rattle.awk_form.specs.Reading.{nodes_of, form_of}
 use Rattle.awk_query.specs.Line.{Line, or_json, line_or_unread}
+use Rattle.awk_query.specs.Operations.{row_of}
 use Rattle.awk_query.specs.Reading.{expr_said}
 use Rattle.awk_eval.specs.Variables.{Environment}
 use Rattle.awk_session.specs.Replies.{step, is_blank}
@@ -67,11 +68,11 @@ unfolding encode_utf8
 show_range-line = line_in-read show_range refl (show_range, (refl, refl))
 
 pub masked_is_plain : are_plain (load_masked ∷ show_range ∷ []) ≡ true
-unfolding expr_said serde_json_on_literals base64_on_literals digits node_at nodes_of form_of
+unfolding expr_said row_of serde_json_on_literals base64_on_literals digits node_at nodes_of form_of
 masked_is_plain = simp (load_masked-line, show_range-line) refl
 
 -- 8 * 3 * 246 for the load, and 4 * 2 * 2 + 8 * (2 + 2 * 31) for the show
 pub masked_cost : cost (load_masked ∷ show_range ∷ []) ≡ 6432
-unfolding expr_said serde_json_on_literals base64_on_literals digits node_at nodes_of form_of
+unfolding expr_said row_of serde_json_on_literals base64_on_literals digits node_at nodes_of form_of
 masked_cost =
     simp (load_masked-read, show_range-read, load_masked-line, show_range-line) refl

@@ -1,7 +1,7 @@
 -- What the lines of a session of loads and views cost, in steps.
 use Rattle.std.specs.Prelude.{ℕ, ◌+◌, ◌*◌, Bool, true, false, List, [], ◌∷◌, length, Option, Some, None, is_some, Result, Ok, Err, if◌then◌else◌}
-use Rattle.core.specs.Option.{option_map_or}
-use Rattle.core.specs.Result.{result_ok}
+use Rattle.std.specs.Option.{option_map_or}
+use Rattle.std.specs.Result.{result_ok}
 use Rattle.std.specs.List.{list_all}
 use Rattle.serde_json.specs.Data.{Data}
 use Rattle.awk_types.specs.DataType.{Name}

@@ -1,6 +1,6 @@
 -- What lines take and bind, by the sizes of the variables.
 use Rattle.std.specs.Prelude.{◌≡◌, ◌≤◌, ◌+◌, ℕ, Bool, true, false, List, length, Option, Some, None, option_and_then, Result, Ok, Err, MatchOption, IfSome, IsTrue}
-use Rattle.core.specs.Option.{option_map_or}
+use Rattle.std.specs.Option.{option_map_or}
 use Rattle.serde_json.specs.Data.{Data}
 use Rattle.awk_types.specs.DataType.{Name}
 use Rattle.awk_layout.specs.Layout.{Layout}

@@ -1,6 +1,6 @@
 //! A line: what it is read as, and how it is answered.
 ghost use Rattle.std.specs.Prelude.{◌≡◌, ◌≤◌, Err, IsTrue, IsFalse, IfOk, IfErr, OnOk, ℕ, length};
-ghost use Rattle.core.specs.Result.{result_ok};
+ghost use Rattle.std.specs.Result.{result_ok};
 ghost use Rattle.awk_edge.specs.Causes.{Rose, flushes_after};
 ghost use Rattle.awk_query.specs.Allowed.{IsAllowedLine};
 ghost use Rattle.awk_lengths.specs.LineBytes.{HasBytes};

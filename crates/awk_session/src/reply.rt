@@ -1,6 +1,6 @@
 //! What a line binds, and its answer.
 ghost use Rattle.std.specs.Prelude.{◌≡◌, IfOk, OnOk, OnErr};
-ghost use Rattle.core.specs.Result.{result_ok};
+ghost use Rattle.std.specs.Result.{result_ok};
 ghost use Rattle.serde_json.specs.View.{view, members_view};
 ghost use Rattle.awk_store.specs.Buffers.{HoldsTexts, texts_of, total_len};
 ghost use Rattle.awk_layout.specs.Datum.{datum_of, IsDatum};
