@@ -9,3 +9,4 @@ pub mod SizeLaws
 pub mod CostLaws
 pub mod SpendLaws
 pub mod WorkedCosts
+pub mod ViewLaws

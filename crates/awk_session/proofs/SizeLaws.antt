@@ -87,7 +87,7 @@ AreWithin (s ∷ ss) (v ∷ vs) = (v.0 ≡ s.0) × IsWithin s.1 v.1 × AreWithin
 AreWithin (s ∷ ss) [] = ⊥
 AreWithin [] (v ∷ vs) = ⊥
 
-size_of-within : (d : Datum) (s : Size) → IsWithin s d → IsAtMost (size_of d) s
+pub size_of-within : (d : Datum) (s : Size) → IsWithin s d → IsAtMost (size_of d) s
 size_of-within (Arr x) s h = h
 size_of-within (One x) s h = absurd h
 
