@@ -96,8 +96,12 @@ pub Takes-answered : (variables : Variables) (line : Option Line) (n : ℕ) (a :
 Takes-answered variables None n a steps0 steps1 steps2 takes shows puts bytes plain arrays =
     omega (arith, takes, puts, none_sent a shows)
 Takes-answered variables (Some l) n a steps0 steps1 steps2 takes shows puts bytes plain arrays =
-    omega (arith, puts, made variables l n steps0 steps1 takes bytes plain arrays,
-    sent variables l a shows plain arrays)
+    omega (
+      arith,
+      puts,
+      made variables l n steps0 steps1 takes bytes plain arrays,
+      sent variables l a shows plain arrays,
+    )
 
 -- where memory was wanting before
 pub Takes-unanswered : (variables : Variables) (line : Option Line) (n : ℕ)

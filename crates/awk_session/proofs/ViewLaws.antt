@@ -6,7 +6,7 @@ use Rattle.awk_layout.specs.declared.datum.Datum.{Datum}
 use Rattle.awk_eval.specs.Bindings as bindings
 use Rattle.awk_eval.specs.Variables.{Variables}
 use Rattle.awk_eval.specs.Views.{Size, View, size_of, size_in, size_or_none, IsWithin, OfView, TakesView}
-use Rattle.awk_eval.proofs.ViewSteps.{OfView-all, OfView-map, TakesView-within}
+use Rattle.awk_eval.proofs.ViewSteps.{OfView-all, OfView-both, TakesView-within}
 use Rattle.awk_session.specs.Answer.{fault, is_fault}
 use Rattle.awk_session.specs.AnswerView.{answer_view}
 use Rattle.awk_session.specs.Spending.{IsAtMost, IsBound, IsBoundUnless, IsViewWithin, ShowsNone, ShowsView, shown_size}
@@ -20,10 +20,11 @@ pub shows_value : (variables : Variables) (view : Option View) (steps0 steps1 : 
     → TakesView variables view steps0 steps1 (Ok made)
     → ShowsView variables view (variant.Value made)
 shows_value variables view steps0 steps1 made h =
-    OfView-map variables view (λ v. IsWithin (size_in variables v) made)
+    let within = TakesView-within variables view steps0 steps1 made h in
+    OfView-both variables view (λ v. IsWithin (size_in variables v) made)
+    (λ v. IsWithin (size_in variables v) made)
     (λ v. IsAtMost (size_of made) (size_in variables v))
-    (λ v within. size_of-within made (size_in variables v) within)
-    (TakesView-within variables view steps0 steps1 made h)
+    (λ v fits _. size_of-within made (size_in variables v) fits) within within
 
 none_at_most : (s t : Size) → s ≡ size_or_none None → IsAtMost s t
 none_at_most s t e =

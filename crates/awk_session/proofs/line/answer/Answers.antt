@@ -1,7 +1,8 @@
 use Rattle.std.proofs.Common.{◌++◌, ap, sym, ◌∙◌, subst}
 use Rattle.std.specs.Result.{result_ok}
+use Rattle.awk_eval.specs.Variables.{denoted}
 use Rattle.awk_session.specs.Runs.{answer_bytes}
-use Rattle.awk_session.specs.Replies.{Reply, step_of}
+use Rattle.awk_session.specs.Replies.{Reply, reply, step_of}
 use Rattle.awk_session.specs.ReadView.{read_view}
 use Rattle.awk_session.specs.Spending.{TakesCost}
 use Rattle.awk_session.proofs.CostLaws.{read-bytes, Takes-answered, Takes-unanswered}
@@ -41,5 +42,6 @@ returns-in-Ok-clause-cost g c = λ n bytes.
 
 pub returns-clause-cost : goal.returns-clause-cost
 returns-clause-cost g c = λ n bytes.
-    Takes-unanswered c.args.env.now (result_ok (read_view c.args.read.now)) n _ c.args.steps.now
+    Takes-unanswered c.args.env.now (result_ok (read_view c.args.read.now)) n
+    (step_of (reply (denoted c.args.env.now) (read_view c.args.read.now))).answer c.args.steps.now
     c.reply.new.steps c.reply.ensures.cost (read-bytes n (read_view c.args.read.now) bytes)

@@ -13,14 +13,20 @@ returns-in-Ok-clause-leaves g c = rw (step-line (denoted c.args.env.now) c.args.
 pub returns-in-Ok-clause-binds : goal.returns-in-Ok-clause-binds
 returns-in-Ok-clause-binds g c =
     let bytes = c.args.bytes.now in
-    rw (step-line (denoted c.args.env.now) bytes c.requires.not_blank,
-    line_in-said bytes c.requires.not_blank, sym c.in-Ok.ensures.said) c.answer.ensures.binds
+    rw (
+      step-line (denoted c.args.env.now) bytes c.requires.not_blank,
+      line_in-said bytes c.requires.not_blank,
+      sym c.in-Ok.ensures.said,
+    ) c.answer.ensures.binds
 
 pub returns-in-Ok-clause-cost : goal.returns-in-Ok-clause-cost
 returns-in-Ok-clause-cost g c =
     let bytes = c.args.bytes.now in
     let texts = subst (λ r. IfOk r (HasBytes (length bytes))) (sym c.in-Ok.ensures.said)
     (line_said-bytes bytes) in
-    rw (step-line (denoted c.args.env.now) bytes c.requires.not_blank,
-    line_in-said bytes c.requires.not_blank, sym c.in-Ok.ensures.said)
+    rw (
+      step-line (denoted c.args.env.now) bytes c.requires.not_blank,
+      line_in-said bytes c.requires.not_blank,
+      sym c.in-Ok.ensures.said,
+    )
     (c.answer.ensures.cost (length bytes) texts)
