@@ -2,3 +2,4 @@ pub mod Counts
 pub mod Progress
 pub mod Ends
 pub mod Complete
+pub mod Spends

@@ -1,10 +1,12 @@
 //! A session, answered line by line.
-ghost use Rattle.std.specs.Prelude.{◌||◌, ◌++◌, List, ℕ, Some, Err, ◌≡◌, ◌≢◌, ◌↔◌, ◌⊎◌, ◌≤◌, ◌∷◌, [], IsTrue, IfErr, OnErr, OnOk};
+ghost use Rattle.std.specs.Prelude.{◌||◌, ◌++◌, List, ℕ, Some, Err, ◌≡◌, ◌≢◌, ◌↔◌, ◌⊎◌, ◌≤◌, ◌+◌, ◌∷◌, [], IsTrue, IfErr, OnErr, OnOk, length};
 ghost use Rattle.awk_edge.specs.Causes.{Rose};
 ghost use Rattle.awk_edge.specs.Limits.{IsWithinLimits};
 ghost use Rattle.awk_edge.specs.Lines.{lines};
 ghost use Rattle.awk_eval.specs.Variables.{denoted};
-ghost use Rattle.awk_session.specs.Replies.{answers, answer_count};
+ghost use Rattle.awk_session.specs.Cost.{are_plain, cost, line_in};
+ghost use Rattle.awk_session.specs.Replies.{answers, answer_count, step};
+ghost use Rattle.awk_session.specs.Spending.{Binds, TakesCost};
 ghost use Rattle.awk_run.specs.Answering.{Answers};
 ghost use Rattle.awk_run.specs.Flushes.{risen};
 ghost use Rattle.awk_run.specs.Session.{Session, Completes, IsComplete, number_of};
@@ -91,6 +93,10 @@ pub fn run_words<S: Source, K: Sink, L: Ledger>(
     ensures complete_told { (bytes : List ℕ) → S.left source.old ≡ Some bytes → IsWithinLimits bytes →
         IsRun words.now → (Rose (S.faults source.old) (S.faults source.new) → ⊥) →
         (Rose (K.faults sink.old) (K.faults sink.new) → ⊥) → result ≢ Status.Memory → IsComplete result }
+
+    // A session of lines that each have a cost takes at most what they cost together.
+    ensures cost { (bytes : List ℕ) → S.left source.old ≡ Some bytes →
+        IsTrue (are_plain (lines bytes)) → steps.new ≤ steps.old + cost (lines bytes) }
 {
     if is_run(words) {
         run(alloc, source, sink, steps)
@@ -122,6 +128,8 @@ fn run<S: Source, K: Sink, L: Ledger>(
     ensures flushed { result ≢ Status.Write → IsTrue (K.flushed sink.new) ⊎ (sink.new ≡ sink.old) }
     ensures read { result ≡ Status.Read → Rose (S.faults source.old) (S.faults source.new) }
     ensures write { result ≡ Status.Write → Rose (K.faults sink.old) (K.faults sink.new) }
+    ensures cost { (bytes : List ℕ) → S.left source.old ≡ Some bytes →
+        IsTrue (are_plain (lines bytes)) → steps.new ≤ steps.old + cost (lines bytes) }
 {
     let mut lines = Lines::new();
     let mut out = Out::new();
@@ -174,6 +182,10 @@ fn answer<K: Sink, L: Ledger>(
     ensures untouched { result ≡ Err LineEnd.NoMemory → sink.new ≡ sink.old }
     ensures later { K.faults sink.old ≤ K.faults sink.new }
     ensures write { IfErr result (λ end. end ≡ LineEnd.Write → Rose (K.faults sink.old) (K.faults sink.new)) }
+    ensures binds { OnOk result (Binds (line_in line.now)
+        (step (denoted engine.old) line.now).is_fault engine.old engine.new) }
+    ensures cost { TakesCost engine.old (line_in line.now) (length line.now)
+        (step (denoted engine.old) line.now).answer steps.old steps.new }
 {
     if is_blank(line) {
         return Ok(false);

@@ -5,3 +5,8 @@ pub mod StepLaws
 pub mod DenotedLaws
 pub mod Parts
 pub mod ReadLaws
+pub mod SizeLaws
+pub mod CostLaws
+pub mod SpendLaws
+pub mod WorkedCosts
+pub mod ViewLaws

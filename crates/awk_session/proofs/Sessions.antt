@@ -17,11 +17,11 @@ use Rattle.awk_session.specs.Runs.{Step}
 use Rattle.awk_session.specs.Replies.{step, step_of, reply, is_blank, answers}
 
 -- the step of a line of UTF-8, by what it is read as
-abbrev read_as : Environment → List ℕ → Step Environment
+abbrev pub read_as : Environment → List ℕ → Step Environment
 read_as variables line = step_of (reply variables (line_or_unread (or_json (read line))))
 
 -- a line that is not blank is answered by what is read from it
-step-read : (variables : Environment) (line : List ℕ) → is_blank line ≡ false → IsUtf8 line → step variables line ≡ read_as variables line
+pub step-read : (variables : Environment) (line : List ℕ) → is_blank line ≡ false → IsUtf8 line → step variables line ≡ read_as variables line
 unfolding step
 step-read variables line some text = rw (some, is_utf8-from_IsUtf8 line text) refl
 
@@ -30,18 +30,18 @@ abbrev lines_of : List (List ℕ) → List ℕ
 lines_of [] = []
 lines_of (text ∷ texts) = text ++ 10 ∷ lines_of texts
 
-abbrev show_x : List ℕ
+abbrev pub show_x : List ℕ
 show_x = codes "{\"show\":\"x\"}"
 
-show_x-read : (variables : Environment) → step variables show_x ≡ read_as variables show_x
+pub show_x-read : (variables : Environment) → step variables show_x ≡ read_as variables show_x
 unfolding encode_utf8
 show_x-read variables = step-read variables show_x refl (show_x, (refl, refl))
 
 -- three lists of int64, at offsets 0, 2, 2 and 3
-abbrev load_lists : List ℕ
+abbrev pub load_lists : List ℕ
 load_lists = codes "{\"load\":\"x\",\"form\":{\"class\":\"ListOffsetArray\",\"offsets\":\"i64\",\"content\":{\"class\":\"NumpyArray\",\"primitive\":\"int64\",\"form_key\":\"node1\"},\"form_key\":\"node0\"},\"length\":3,\"buffers\":{\"node0-offsets\":\"AAAAAAAAAAACAAAAAAAAAAIAAAAAAAAAAwAAAAAAAAA=\",\"node1-data\":\"BQAAAAAAAAD//////////wcAAAAAAAAA\"}}"
 
-load_lists-read : (variables : Environment) → step variables load_lists ≡ read_as variables load_lists
+pub load_lists-read : (variables : Environment) → step variables load_lists ≡ read_as variables load_lists
 unfolding encode_utf8
 load_lists-read variables = step-read variables load_lists refl (load_lists, (refl, refl))
 

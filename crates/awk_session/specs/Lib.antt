@@ -7,3 +7,5 @@ pub mod Told
 pub mod AnswerView
 pub mod Replies
 pub mod Leaves
+pub mod Cost
+pub mod Spending

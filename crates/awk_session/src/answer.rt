@@ -1,11 +1,14 @@
 //! The answers to lines, and how they are put out.
-ghost use Rattle.std.specs.Prelude.{◌≡◌, ◌∷◌, [], ◌++◌, IsTrue, codes, map};
+ghost use Rattle.std.specs.Prelude.{◌≡◌, ◌≤◌, ◌+◌, ◌∷◌, [], ◌++◌, IsTrue, codes, length, map};
 ghost use Rattle.awk_edge.specs.Causes.{HasCause, flushes_after};
 ghost use Rattle.awk_edge.specs.Put.{Moves};
 ghost use Rattle.awk_json.specs.Text.{quoted, list_text};
 ghost use Rattle.awk_layout.specs.Datum.{IsDatum, datum_of};
 ghost use Rattle.awk_session.specs.Answer.{answer_text, datum_text, is_fault};
 ghost use Rattle.awk_session.specs.AnswerView.{answer_view, kind_is_fault, IsAnswer};
+ghost use Rattle.awk_session.specs.Cost.{text_cost};
+ghost use Rattle.awk_session.specs.Spending.{sent_cost};
+ghost use Rattle.awk_eval.specs.Views.{size_of};
 ghost use Rattle.std.specs.Prelude.{OnOk};
 
 use crate::fault::AnswerFault;
@@ -65,6 +68,7 @@ pub fn send<K: Sink, L: Ledger>(
     ensures flushed { OnOk result (IsTrue (K.flushed sink.new)) }
     ensures flushes { K.flushes sink.new ≡ flushes_after (K.flushes sink.old) result }
     ensures cause { HasCause (K.faults sink.old) (K.faults sink.new) result }
+    ensures cost { steps.new ≤ steps.old + sent_cost answer.now }
 {
     if let Err(fault) = write_answer(answer, out, sink, steps) {
         return Err(fault);
@@ -85,6 +89,7 @@ fn write_answer<K: Sink, L: Ledger>(
         (out.old.held ++ (answer_text (answer_view answer.now) ++ 10 ∷ [])) result }
     ensures flushes { K.flushes sink.new ≡ K.flushes sink.old }
     ensures cause { HasCause (K.faults sink.old) (K.faults sink.new) result }
+    ensures cost { steps.new ≤ steps.old + sent_cost answer.now }
 {
     match answer {
         Answer::Bound(name) => {
@@ -110,6 +115,8 @@ fn write_value<K: Sink, L: Ledger>(
         ++ (codes "{\"value\":" ++ datum_text (datum_of datum.now) ++ (125 ∷ 10 ∷ []))) result }
     ensures flushes { K.flushes sink.new ≡ K.flushes sink.old }
     ensures cause { HasCause (K.faults sink.old) (K.faults sink.new) result }
+    ensures cost { steps.new ≤ steps.old + text_cost (size_of datum.now)
+        (length (codes "{\"value\":" ++ datum_text (datum_of datum.now) ++ codes "}")) }
 {
     out.put(sink, b"{\"value\":")?;
     write_datum(datum, out, sink, steps)?;
@@ -129,6 +136,8 @@ fn write_datum<K: Sink, L: Ledger>(
         (out.old.held ++ datum_text (datum_of datum.now)) result }
     ensures flushes { K.flushes sink.new ≡ K.flushes sink.old }
     ensures cause { HasCause (K.faults sink.old) (K.faults sink.new) result }
+    ensures cost { steps.new ≤ steps.old
+        + text_cost (size_of datum.now) (length (datum_text (datum_of datum.now))) }
 {
     match datum {
         Datum::Arr(array) => write_array(array, out, sink, steps),

@@ -1,9 +1,15 @@
 //! The engine: a session's variables, and the answers to its lines.
-ghost use Rattle.std.specs.Prelude.{◌≡◌, ◌≤◌, [], Err, IsTrue, IsFalse, IfErr, OnOk};
+ghost use Rattle.std.specs.Prelude.{◌≡◌, ◌≢◌, ◌≤◌, ◌+◌, [], Some, Err, IsTrue, IsFalse, IfErr};
+ghost use Rattle.std.specs.Prelude.{OnOk, IfSome};
+ghost use Rattle.awk_types.specs.DataType as types;
 ghost use Rattle.awk_edge.specs.Causes.{Rose, flushes_after};
+ghost use Rattle.awk_eval.specs.Bindings.{look_up};
 ghost use Rattle.awk_eval.specs.Variables.{denoted};
+ghost use Rattle.awk_eval.specs.Views.{sizes_of};
+ghost use Rattle.awk_session.specs.Cost.{line_in, is_plain, cost_of};
 ghost use Rattle.awk_session.specs.Leaves.{Leaves};
 ghost use Rattle.awk_session.specs.Replies as replies;
+ghost use Rattle.awk_session.specs.Spending.{Binds, IsOfArrays, Unless, name_in};
 
 use crate::answer::Answered;
 use crate::line::answer_line;
@@ -96,6 +102,19 @@ impl<'a> Engine<'a> {
         ensures later { K.faults sink.old ≤ K.faults sink.new }
         ensures write { IfErr result (λ end. end ≡ LineEnd.Write →
             Rose (K.faults sink.old) (K.faults sink.new)) }
+
+        // A load binds an array no greater than its form, and a let of a view of an array one no
+        // greater than that. What the line does not bind stays the same datum.
+        ensures binds { Unless result (Binds (line_in bytes.now)
+            (replies.step (denoted self.old) bytes.now).is_fault self.old self.new) }
+        ensures keeps { (n : types.Name) → name_in bytes.now ≢ Some n →
+            look_up n self.new ≡ look_up n self.old }
+
+        // A line that has a cost, and whose view is of an array, takes at most that.
+        ensures cost { IsTrue (is_plain bytes.now) →
+            IfSome (line_in bytes.now) (IsOfArrays self.old) →
+            steps.new ≤ steps.old + cost_of (sizes_of self.old) bytes.now
+            (replies.step (denoted self.old) bytes.now).answer }
     {
         answer_line(alloc, &mut self.env, bytes, self.arena, out, sink, steps)
     }

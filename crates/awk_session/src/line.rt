@@ -1,12 +1,16 @@
 //! A line: what it is read as, and how it is answered.
-ghost use Rattle.std.specs.Prelude.{◌≡◌, ◌≤◌, Err, IsTrue, IsFalse, IfOk, IfErr, OnOk};
+ghost use Rattle.std.specs.Prelude.{◌≡◌, ◌≤◌, Err, IsTrue, IsFalse, IfOk, IfErr, OnOk, ℕ, length};
+ghost use Rattle.std.specs.Result.{result_ok};
 ghost use Rattle.awk_edge.specs.Causes.{Rose, flushes_after};
 ghost use Rattle.awk_query.specs.Allowed.{IsAllowedLine};
+ghost use Rattle.awk_lengths.specs.LineBytes.{HasBytes};
 ghost use Rattle.awk_query.specs.Line.{line_said};
 ghost use Rattle.awk_eval.specs.Variables.{denoted};
+ghost use Rattle.awk_session.specs.Cost.{line_in};
 ghost use Rattle.awk_session.specs.Leaves.{Leaves};
 ghost use Rattle.awk_session.specs.ReadView.{read_view};
 ghost use Rattle.awk_session.specs.Replies as replies;
+ghost use Rattle.awk_session.specs.Spending.{Binds, TakesCost, Unless};
 
 use crate::answer::{Answered, kind_of, send};
 use crate::engine::LineEnd;
@@ -48,6 +52,10 @@ pub fn answer_line<'a, K: Sink, L: Ledger>(
     ensures later { K.faults sink.old ≤ K.faults sink.new }
     ensures write { IfErr result (λ end. end ≡ LineEnd.Write →
         Rose (K.faults sink.old) (K.faults sink.new)) }
+    ensures binds { Unless result (Binds (line_in bytes.now)
+        (replies.step (denoted env.old) bytes.now).is_fault env.old env.new) }
+    ensures cost { TakesCost env.old (line_in bytes.now) (length bytes.now)
+        (replies.step (denoted env.old) bytes.now).answer steps.old steps.new }
 {
     match read_as(alloc, bytes) {
         Ok(read) => answer(alloc, env, &read, kept, out, sink, steps),
@@ -90,6 +98,13 @@ fn answer<'a, K: Sink, L: Ledger>(
     ensures later { K.faults sink.old ≤ K.faults sink.new }
     ensures write { IfErr result (λ end. end ≡ LineEnd.Write →
         Rose (K.faults sink.old) (K.faults sink.new)) }
+    ensures binds { let reply = replies.reply (denoted env.old) (read_view read.now) in
+        Unless result (Binds (result_ok (read_view read.now)) (replies.step_of reply).is_fault
+        env.old env.new) }
+    ensures cost { (n : ℕ) → IfOk (read_view read.now) (HasBytes n) →
+        let reply = replies.reply (denoted env.old) (read_view read.now) in
+        TakesCost env.old (result_ok (read_view read.now)) n (replies.step_of reply).answer
+        steps.old steps.new }
 {
     let arena = Bump::new(alloc);
     match reply(alloc, env, read, kept, &arena, steps) {

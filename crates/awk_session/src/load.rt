@@ -1,10 +1,13 @@
 //! What a load line loads.
+ghost use Rattle.std.specs.Prelude.{IfOk};
 ghost use Rattle.serde_json.specs.View.{view, members_view};
 ghost use Rattle.awk_types.specs.Gives.{Gives};
-ghost use Rattle.awk_store.specs.Buffers.{HoldsTexts};
+ghost use Rattle.awk_store.specs.Buffers.{HoldsTexts, texts_of, total_len};
 ghost use Rattle.awk_session.specs.Told.{refused_told};
 ghost use Rattle.awk_layout.specs.Typing.{array_datum};
+ghost use Rattle.awk_session.specs.Cost.{form_size};
 ghost use Rattle.awk_session.specs.Load.{loaded};
+ghost use Rattle.awk_session.specs.Spending.{IsArrayWithin, IsLoaded};
 
 use crate::fault::Refused;
 use awk_form::read_form;
@@ -26,8 +29,11 @@ pub fn load<'a, L: Ledger>(
     steps: &mut Steps<L>,
 ) -> Result<Array<'a>, Refused>
     requires texts { HoldsTexts (members_view buffers.now.entries) }
-    ensures { Gives array_datum refused_told result
+    ensures answer { Gives array_datum refused_told result
         (loaded (view form.now) length (members_view buffers.now.entries)) }
+    ensures within { IfOk result (IsArrayWithin (form_size (view form.now))) }
+    ensures cost { let texts = texts_of (members_view buffers.now.entries) in
+        IsLoaded (view form.now) (total_len texts) steps.old steps.new }
 {
     let form = read_form(alloc, form)?;
     let mut store = Store::new(alloc, buffers, arena);

@@ -1,7 +1,8 @@
 //! What a line binds, and its answer.
 ghost use Rattle.std.specs.Prelude.{◌≡◌, IfOk, OnOk, OnErr};
+ghost use Rattle.std.specs.Result.{result_ok};
 ghost use Rattle.serde_json.specs.View.{view, members_view};
-ghost use Rattle.awk_store.specs.Buffers.{HoldsTexts};
+ghost use Rattle.awk_store.specs.Buffers.{HoldsTexts, texts_of, total_len};
 ghost use Rattle.awk_layout.specs.Datum.{datum_of, IsDatum};
 ghost use Rattle.awk_query.specs.Allowed.{IsAllowed, IsAllowedLine};
 ghost use Rattle.awk_query.specs.LineView.{line_view};
@@ -9,11 +10,16 @@ ghost use Rattle.awk_query.specs.View.{expr_of};
 ghost use Rattle.awk_eval.specs.Bindings as bindings;
 ghost use Rattle.awk_eval.specs.Eval as meaning;
 ghost use Rattle.awk_eval.specs.Variables.{denoted};
+ghost use Rattle.awk_eval.specs.Views.{IsWithin, view_of};
 ghost use Rattle.awk_session.specs.Answer as answers;
 ghost use Rattle.awk_session.specs.AnswerView.{answer_view, IsAnswer};
+ghost use Rattle.awk_session.specs.Cost.{form_size};
 ghost use Rattle.awk_session.specs.Load.{loaded};
 ghost use Rattle.awk_session.specs.ReadView.{read_view};
 ghost use Rattle.awk_session.specs.Replies as replies;
+ghost use Rattle.awk_session.specs.Spending.{Binds, BindsBy, IsBoundUnless, IsViewWithin};
+ghost use Rattle.awk_session.specs.Spending.{Takes, TakesBy, IsLoaded, IsViewTaken};
+ghost use Rattle.awk_session.specs.Spending.{Shows, ShowsBy, ShowsNone, ShowsView};
 ghost use Rattle.awk_session.specs.declared.fault.AnswerFault.TheVariants.{Evaluation};
 
 use crate::answer::Answer;
@@ -47,6 +53,10 @@ pub fn reply<'v, 's, 'a: 's, L: Ledger>(
         ≡ record { answer = answer_view answer; after = denoted env.new }) }
     ensures answer { IfOk result IsAnswer }
     ensures same { OnErr result (env.new ≡ env.old) }
+    ensures binds { IfOk result (λ a. Binds (result_ok (read_view read.now))
+        (answers.is_fault (answer_view a)) env.old env.new) }
+    ensures shows { IfOk result (Shows env.old (result_ok (read_view read.now))) }
+    ensures cost { Takes env.old (result_ok (read_view read.now)) steps.old steps.new }
 {
     match read {
         Read::Line(line) => reply_line(alloc, env, line, kept, arena, steps),
@@ -70,6 +80,10 @@ fn reply_line<'v, 's, 'a: 's, L: Ledger>(
         ≡ record { answer = answer_view answer; after = denoted env.new }) }
     ensures answer { IfOk result IsAnswer }
     ensures same { OnErr result (env.new ≡ env.old) }
+    ensures binds { IfOk result (λ a. BindsBy (line_view line.now)
+        (answers.is_fault (answer_view a)) env.old env.new) }
+    ensures shows { IfOk result (ShowsBy env.old (line_view line.now)) }
+    ensures cost { TakesBy env.old (line_view line.now) steps.old steps.new }
 {
     match line {
         Line::Load {
@@ -104,6 +118,11 @@ fn bind_loaded<'v, 's, 'a: 's, L: Ledger>(
         ≡ record { answer = answer_view answer; after = denoted env.new }) }
     ensures answer { IfOk result IsAnswer }
     ensures same { OnErr result (env.new ≡ env.old) }
+    ensures binds { IfOk result (λ a. IsBoundUnless (answers.is_fault (answer_view a)) name.now
+        (IsWithin (form_size (view form.now))) env.old env.new) }
+    ensures shows { IfOk result ShowsNone }
+    ensures cost { let texts = texts_of (members_view buffers.now.entries) in
+        IsLoaded (view form.now) (total_len texts) steps.old steps.new }
 {
     match load(alloc, form, length, buffers, kept, steps) {
         Ok(array) => {
@@ -131,6 +150,10 @@ fn bind_made<'v, 's, 'a: 's, L: Ledger>(
         ≡ record { answer = answer_view answer; after = denoted env.new }) }
     ensures answer { IfOk result IsAnswer }
     ensures same { OnErr result (env.new ≡ env.old) }
+    ensures binds { IfOk result (λ a. IsBoundUnless (answers.is_fault (answer_view a)) name.now
+        (IsViewWithin env.old (view_of (expr_of e.now))) env.old env.new) }
+    ensures shows { IfOk result ShowsNone }
+    ensures cost { IsViewTaken env.old (view_of (expr_of e.now)) steps.old steps.new }
 {
     match eval(alloc, env, e, &Plain, kept, steps) {
         Ok(datum) => {
@@ -153,6 +176,8 @@ fn show<'v, 's, 'a: 's, L: Ledger>(
     ensures shown { IfOk result (λ answer. answer_view answer
         ≡ replies.telling answers.value (meaning.eval (denoted env.now) (expr_of e.now))) }
     ensures answer { IfOk result IsAnswer }
+    ensures shows { IfOk result (ShowsView env.now (view_of (expr_of e.now))) }
+    ensures cost { IsViewTaken env.now (view_of (expr_of e.now)) steps.old steps.new }
 {
     match eval(alloc, env, e, &Plain, arena, steps) {
         Ok(datum) => Ok(Answer::Value(datum)),
@@ -172,6 +197,8 @@ fn show_type<'v, 's, 'a: 's, L: Ledger>(
     ensures shown { IfOk result (λ answer. answer_view answer ≡ replies.telling
         replies.type_shown (meaning.eval (denoted env.now) (expr_of e.now))) }
     ensures answer { IfOk result IsAnswer }
+    ensures shows { IfOk result ShowsNone }
+    ensures cost { IsViewTaken env.now (view_of (expr_of e.now)) steps.old steps.new }
 {
     match eval(alloc, env, e, &Plain, arena, steps) {
         Ok(datum) => Ok(Answer::Type(type_text(alloc, &datum)?)),
@@ -191,6 +218,7 @@ fn pack<'v, 's, 'a: 's, L: Ledger>(
     ensures shown { IfOk result (λ answer. answer_view answer ≡ replies.telling
         replies.packed (meaning.eval (denoted env.now) (expr_of e.now))) }
     ensures answer { IfOk result IsAnswer }
+    ensures shows { IfOk result ShowsNone }
 {
     match eval(alloc, env, e, &Plain, arena, steps) {
         Ok(_) => Ok(Answer::Fault(AnswerFault::Evaluation(Fault::Unbuilt))),
@@ -202,6 +230,7 @@ fn pack<'v, 's, 'a: 's, L: Ledger>(
 fn refused<'v, 's>(fault: Fault) -> Result<Answer<'v, 's>, AllocError>
     ensures told { IfOk result (λ answer. answer_view answer ≡ answers.fault (Evaluation fault)) }
     ensures answer { IfOk result IsAnswer }
+    ensures shows { IfOk result ShowsNone }
     ensures memory { OnErr result (fault ≡ Fault.NoMemory) }
 {
     match fault {

@@ -1,7 +1,8 @@
-use Rattle.std.proofs.Common.{refl, sym}
+use Rattle.std.proofs.Common.{refl, sym, arith}
 use Rattle.awk_eval.specs.Variables.{denoted}
 use Rattle.awk_session.proofs.StepLaws.{step-blank}
 use Rattle.awk_edge.proofs.Known.{Appends-none}
+use Rattle.awk_session.proofs.CostLaws.{line_in-blank}
 use Rattle.awk_run.proofs.run.answer.Goals as goal
 
 pub returns-then-is_blank-clause-answers : goal.returns-then-is_blank-clause-answers
@@ -14,3 +15,11 @@ returns-then-is_blank-clause-answers g c =
       variables = rw e refl;
       fault = rw e refl;
     }
+
+pub returns-then-is_blank-clause-binds : goal.returns-then-is_blank-clause-binds
+returns-then-is_blank-clause-binds g c =
+    rw (line_in-blank c.args.line.now (sym c.if-is_blank.ensures)) refl
+
+pub returns-then-is_blank-clause-cost : goal.returns-then-is_blank-clause-cost
+returns-then-is_blank-clause-cost g c =
+    rw (line_in-blank c.args.line.now (sym c.if-is_blank.ensures)) (λ plain arrays. omega arith)

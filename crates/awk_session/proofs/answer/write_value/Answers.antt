@@ -2,7 +2,9 @@ use Rattle.std.proofs.Common.{◌++◌, [], ◌∷◌, codes, refl, arith}
 use Rattle.awk_json.proofs.Puts.{stops, goes}
 use Rattle.awk_session.specs.Answer.{datum_text}
 use Rattle.awk_layout.specs.Datum.{datum_of}
+use Rattle.awk_eval.specs.Views.{size_of}
 use Rattle.awk_session.proofs.Parts.{first_part, three_parts}
+use Rattle.awk_session.proofs.CostLaws.{text_cost-around}
 use Rattle.awk_session.proofs.answer.write_value.Goals as goal
 
 pub returns-in_err-put-clause-bytes : goal.returns-in_err-put-clause-bytes
@@ -19,3 +21,15 @@ pub returns-clause-bytes : goal.returns-clause-bytes
 returns-clause-bytes g c =
     let text = datum_text (datum_of c.args.datum.now) in
     goes (goes c.in_ok-put.ensures.bytes c.in_ok-write_datum.ensures.bytes text refl refl) c.put-2.ensures.bytes (125 ∷ 10 ∷ []) refl (three_parts c.args.out.now.held (codes "{\"value\":") text (125 ∷ 10 ∷ []))
+
+pub returns-in_err-write_datum-clause-cost : goal.returns-in_err-write_datum-clause-cost
+returns-in_err-write_datum-clause-cost g c =
+    let text = datum_text (datum_of c.args.datum.now) in
+    let around = text_cost-around (size_of c.args.datum.now) (codes "{\"value\":") text (codes "}") in
+    omega (arith, c.write_datum.ensures.cost, around)
+
+pub returns-clause-cost : goal.returns-clause-cost
+returns-clause-cost g c =
+    let text = datum_text (datum_of c.args.datum.now) in
+    let around = text_cost-around (size_of c.args.datum.now) (codes "{\"value\":") text (codes "}") in
+    omega (arith, c.write_datum.ensures.cost, around)

@@ -1,0 +1,124 @@
+-- A line takes at most its cost, by what its parts take.
+use Rattle.std.proofs.Common.{◌≡◌, ◌≤◌, ℕ, ◌+◌, ◌*◌, Bool, true, false, List, ◌++◌, length, length-append, Option, Some, None, Result, Ok, Err, refl, sym, ap, ◌∙◌, subst, arith}
+use Rattle.std.specs.Prelude.{IfOk, IfSome, is_some}
+use Rattle.std.specs.Result.{result_ok}
+use Rattle.awk_store.specs.Buffers.{texts_of, total_len}
+use Rattle.awk_lengths.specs.LineBytes.{HasBytes}
+use Rattle.awk_query.specs.Line.{Line, load, bind, show, type_of, pack, names, line_said}
+use Rattle.awk_eval.specs.Variables.{Variables}
+use Rattle.awk_eval.specs.Views.{Size, View, view_of, sizes_of, size_in, size_or_none}
+use Rattle.awk_session.specs.Answer.{answer_text}
+use Rattle.awk_session.specs.AnswerView.{answer_view}
+use Rattle.awk_session.specs.Cost.{form_size, view_size, load_cost, view_cost, text_cost, has_cost, made_cost, shown_cost, line_in}
+use Rattle.awk_session.specs.Replies.{is_blank}
+use Rattle.awk_session.specs.Spending.{IsAtMost, IsOfArray, IsOfArrays, IsViewTaken, TakesBy, Takes, TakesCost, shown_size, sent_cost, ShowsNone, ShowsView, ShowsBy, Shows}
+use Rattle.awk_session.specs.declared.answer.Answer as code
+
+-- ---- products
+
+pub times : (a b c d : ℕ) → a ≤ c → b ≤ d → a * b ≤ c * d
+times a b c d h k = grind arith
+
+pub load_cost-bytes : (s : Size) (m n : ℕ) → m ≤ n → load_cost s m ≤ load_cost s n
+load_cost-bytes s m n h =
+    times (8 * (s.width + 1)) (m + 1) (8 * (s.width + 1)) (n + 1) (omega arith) (omega arith)
+
+-- a greater text of a greater array costs more
+pub text_cost-more : (s t : Size) (m n : ℕ) → IsAtMost s t → m ≤ n → text_cost s m ≤ text_cost t n
+text_cost-more s t m n h le =
+    let product = times s.height m t.height n h.1 le in omega (arith, h.0, product)
+
+-- a text within another costs no more
+pub text_cost-around : (s : Size) (head text tail : List ℕ)
+    → text_cost s (length text) ≤ text_cost s (length (head ++ text ++ tail))
+text_cost-around s head text tail =
+    text_cost-more s s (length text) (length (head ++ text ++ tail)) (omega arith, omega arith)
+    (omega (arith, length-append (head ++ text) tail, length-append head text))
+
+none_costs : (n : ℕ) → text_cost (size_or_none None) n ≡ 0
+none_costs n = grind arith
+
+pub none_sent : (a : code.Answer) → ShowsNone a → sent_cost a ≡ 0
+none_sent a e =
+    let n = length (answer_text (answer_view a)) in
+    ap (λ s. text_cost s n) e ∙ none_costs n
+
+-- ---- a line
+
+made_view : (variables : Variables) (view : Option View) (steps0 steps1 : ℕ)
+    → IsViewTaken variables view steps0 steps1 → is_some view ≡ true → IsOfArray variables view
+    → steps1 ≤ steps0 + view_cost (sizes_of variables) view
+made_view variables None steps0 steps1 taken plain array = absurd (cc)
+made_view variables (Some v) steps0 steps1 taken plain array = taken array
+
+sent_view : (variables : Variables) (view : Option View) (a : code.Answer)
+    → ShowsView variables view a → is_some view ≡ true → IsOfArray variables view
+    → sent_cost a ≤ text_cost (view_size (sizes_of variables) view) (length (answer_text (answer_view a)))
+sent_view variables None a shows plain array = absurd (cc)
+sent_view variables (Some v) a shows plain array =
+    text_cost-more (shown_size a) (size_in variables v) _ _ (shows array) (omega arith)
+
+made : (variables : Variables) (l : Line) (n steps0 steps1 : ℕ)
+    → TakesBy variables l steps0 steps1 → HasBytes n l → has_cost l ≡ true → IsOfArrays variables l
+    → steps1 ≤ steps0 + made_cost (sizes_of variables) n l
+made variables (load m form count buffers) n steps0 steps1 taken bytes plain arrays =
+    omega (arith, taken, load_cost-bytes (form_size form) (total_len (texts_of buffers)) n bytes)
+made variables (bind m e) n steps0 steps1 taken bytes plain arrays =
+    made_view variables (view_of e) steps0 steps1 taken plain arrays
+made variables (show e) n steps0 steps1 taken bytes plain arrays =
+    made_view variables (view_of e) steps0 steps1 taken plain arrays
+made variables (type_of e) n steps0 steps1 taken bytes plain arrays =
+    made_view variables (view_of e) steps0 steps1 taken plain arrays
+made variables (pack e) n steps0 steps1 taken bytes plain arrays = absurd (cc)
+made variables names n steps0 steps1 taken bytes plain arrays = omega (arith, taken)
+
+sent : (variables : Variables) (l : Line) (a : code.Answer) → ShowsBy variables l a
+    → has_cost l ≡ true → IsOfArrays variables l
+    → sent_cost a ≤ shown_cost (sizes_of variables) (length (answer_text (answer_view a))) l
+sent variables (load m form count buffers) a shows plain arrays = omega (arith, none_sent a shows)
+sent variables (bind m e) a shows plain arrays = omega (arith, none_sent a shows)
+sent variables (show e) a shows plain arrays = sent_view variables (view_of e) a shows plain arrays
+sent variables (type_of e) a shows plain arrays = omega (arith, none_sent a shows)
+sent variables (pack e) a shows plain arrays = omega (arith, none_sent a shows)
+sent variables names a shows plain arrays = omega (arith, none_sent a shows)
+
+-- a line that was read has the bytes that its reading has
+pub read-bytes : {E : Type 0} (n : ℕ) (r : Result Line E) → IfOk r (HasBytes n)
+    → IfSome (result_ok r) (HasBytes n)
+read-bytes n (Ok l) h = h
+read-bytes n (Err e) h = tt
+
+-- where its answer was put
+pub Takes-answered : (variables : Variables) (line : Option Line) (n : ℕ) (a : code.Answer)
+    (steps0 steps1 steps2 : ℕ) → Takes variables line steps0 steps1 → Shows variables line a
+    → steps2 ≤ steps1 + sent_cost a → IfSome line (HasBytes n)
+    → TakesCost variables line n (Some (answer_text (answer_view a))) steps0 steps2
+Takes-answered variables None n a steps0 steps1 steps2 takes shows puts bytes plain arrays =
+    omega (arith, takes, puts, none_sent a shows)
+Takes-answered variables (Some l) n a steps0 steps1 steps2 takes shows puts bytes plain arrays =
+    omega (
+      arith,
+      puts,
+      made variables l n steps0 steps1 takes bytes plain arrays,
+      sent variables l a shows plain arrays,
+    )
+
+-- where memory was wanting before
+pub Takes-unanswered : (variables : Variables) (line : Option Line) (n : ℕ)
+    (answer : Option (List ℕ)) (steps0 steps1 : ℕ) → Takes variables line steps0 steps1
+    → IfSome line (HasBytes n) → TakesCost variables line n answer steps0 steps1
+Takes-unanswered variables None n answer steps0 steps1 takes bytes plain arrays =
+    omega (arith, takes)
+Takes-unanswered variables (Some l) n answer steps0 steps1 takes bytes plain arrays =
+    omega (arith, made variables l n steps0 steps1 takes bytes plain arrays)
+
+-- ---- what a line is read as
+
+pub line_in-blank : (line : List ℕ) → is_blank line ≡ true → line_in line ≡ None
+unfolding line_in
+line_in-blank line e = rw e refl
+
+pub line_in-said : (line : List ℕ) → is_blank line ≡ false
+    → line_in line ≡ result_ok (line_said line)
+unfolding line_in
+line_in-said line e = rw e refl

@@ -1,0 +1,142 @@
+-- What the lines of a session of loads and views cost, in steps.
+use Rattle.std.specs.Prelude.{ℕ, ◌+◌, ◌*◌, Bool, true, false, List, [], ◌∷◌, length, Option, Some, None, is_some, Result, Ok, Err, if◌then◌else◌}
+use Rattle.std.specs.Option.{option_map_or}
+use Rattle.std.specs.Result.{result_ok}
+use Rattle.std.specs.List.{list_all}
+use Rattle.serde_json.specs.Data.{Data}
+use Rattle.awk_types.specs.DataType.{Name}
+use Rattle.awk_form.specs.FormTree.{FormTree}
+use Rattle.awk_form.specs.Measures as form
+use Rattle.awk_form.specs.Reading.{Refusal, reading}
+use Rattle.awk_query.specs.Line.{Line, load, bind, show, type_of, pack, names, line_said}
+use Rattle.awk_eval.specs.Bindings as bindings
+use Rattle.awk_eval.specs.Variables.{Environment}
+use Rattle.awk_eval.specs.Views.{Size, Sizes, size_or_none, size_at, View, view_of}
+use Rattle.awk_session.specs.Runs.{Step}
+use Rattle.awk_session.specs.Replies.{is_blank, step}
+
+-- ---- sizes
+
+-- the size of a form that is read: its nodes and inner numbers, and those on its longest path
+abbrev pub read_size : Result FormTree Refusal → Size
+read_size (Ok f) = record { width = form.width f; height = form.height f }
+read_size (Err refusal) = size_or_none None
+
+abbrev pub form_size : Data → Size
+form_size d = read_size (reading d)
+
+-- the size of the variable of a view
+abbrev pub view_size : Sizes → Option View → Size
+view_size sizes None = size_or_none None
+view_size sizes (Some v) = size_at sizes v.name
+
+-- ---- lines
+
+-- a load, of so many bytes
+abbrev pub load_cost : Size → ℕ → ℕ
+load_cost s bytes = 8 * (s.width + 1) * (bytes + 1)
+
+-- four for each node of its variable, each time that a view takes it
+abbrev pub view_cost : Sizes → Option View → ℕ
+view_cost sizes None = 0
+view_cost sizes (Some v) = 4 * (size_at sizes v.name).width * v.count
+
+-- an answer of so many bytes, that shows an array
+abbrev pub text_cost : Size → ℕ → ℕ
+text_cost s bytes = 8 * (s.width + s.height * bytes)
+
+-- whether a line has a cost
+abbrev pub has_cost : Line → Bool
+has_cost (load n form count buffers) = true
+has_cost (bind n e) = is_some (view_of e)
+has_cost (show e) = is_some (view_of e)
+has_cost (type_of e) = is_some (view_of e)
+has_cost (pack e) = false
+has_cost names = true
+
+-- what a line of so many bytes costs before its answer is put
+abbrev pub made_cost : Sizes → ℕ → Line → ℕ
+made_cost sizes bytes (load n form count buffers) = load_cost (form_size form) bytes
+made_cost sizes bytes (bind n e) = view_cost sizes (view_of e)
+made_cost sizes bytes (show e) = view_cost sizes (view_of e)
+made_cost sizes bytes (type_of e) = view_cost sizes (view_of e)
+made_cost sizes bytes (pack e) = 0
+made_cost sizes bytes names = 0
+
+-- and what an answer of so many bytes costs
+abbrev pub shown_cost : Sizes → ℕ → Line → ℕ
+shown_cost sizes answered (show e) = text_cost (view_size sizes (view_of e)) answered
+shown_cost sizes answered _ = 0
+
+abbrev pub line_cost : Sizes → ℕ → ℕ → Line → ℕ
+line_cost sizes bytes answered line = made_cost sizes bytes line + shown_cost sizes answered line
+
+-- the line that bytes are read as, where they are not blank and are one
+unfoldable pub line_in : List ℕ → Option Line
+line_in bytes = if is_blank bytes then None else result_ok (line_said bytes)
+
+-- what is blank, no JSON or no line has a cost too, which is nothing
+abbrev pub is_plain : List ℕ → Bool
+is_plain bytes = option_map_or has_cost (line_in bytes) true
+
+abbrev pub answer_length : Option (List ℕ) → ℕ
+answer_length None = 0
+answer_length (Some text) = length text
+
+-- the cost of a line, by the sizes of the variables and its answer
+abbrev pub cost_of : Sizes → List ℕ → Option (List ℕ) → ℕ
+cost_of sizes bytes answer =
+    option_map_or (line_cost sizes (length bytes) (answer_length answer)) (line_in bytes) 0
+
+-- ---- sessions
+
+-- a name gets a size, where the answer is no fault
+abbrev pub sized_unless : Bool → Name → Size → Sizes → Sizes
+sized_unless is_fault n s sizes = if is_fault then sizes else bindings.bind n s sizes
+
+-- A load gives its name the size of its form, and a let that of its view's variable.
+abbrev pub sizes_by : Line → Bool → Sizes → Sizes
+sizes_by (load n form count buffers) is_fault sizes =
+    sized_unless is_fault n (form_size form) sizes
+sizes_by (bind n e) is_fault sizes =
+    sized_unless is_fault n (view_size sizes (view_of e)) sizes
+sizes_by _ is_fault sizes = sizes
+
+abbrev pub sizes_after : Sizes → List ℕ → Bool → Sizes
+sizes_after sizes bytes is_fault =
+    option_map_or (λ line. sizes_by line is_fault sizes) (line_in bytes) sizes
+
+-- where a session stands: its variables, and the sizes that its costs count with
+pub record Standing : Type 0 where
+  pub variables : Environment
+  pub sizes : Sizes
+
+abbrev pub at_start : Standing
+at_start = record { variables = []; sizes = [] }
+
+abbrev pub moved : Standing → List ℕ → Step Environment → Standing
+moved s bytes t = record {
+  variables = t.after;
+  sizes = sizes_after s.sizes bytes t.is_fault;
+}
+
+-- a line later
+abbrev pub next : Standing → List ℕ → Standing
+next s bytes = moved s bytes (step s.variables bytes)
+
+abbrev pub standing_after : Standing → List (List ℕ) → Standing
+standing_after s [] = s
+standing_after s (line ∷ lines) = standing_after (next s line) lines
+
+abbrev pub costs : Standing → List (List ℕ) → ℕ
+costs s [] = 0
+costs s (line ∷ lines) =
+    cost_of s.sizes line (step s.variables line).answer + costs (next s line) lines
+
+-- the cost of a session: that of its lines together
+abbrev pub cost : List (List ℕ) → ℕ
+cost lines = costs at_start lines
+
+-- whether each line has a cost
+abbrev pub are_plain : List (List ℕ) → Bool
+are_plain lines = list_all is_plain lines
