@@ -10,9 +10,9 @@ use Rattle.awk_session.proofs.SpendLaws.{MaySpend, LineTakes, spends, spends_in}
 use Rattle.awk_run.proofs.Progress.{Taken}
 
 -- the first of some lines
-record AreFirst (taken all : List (List ℕ)) : Type 0 where
+record AreFirst (taken whole : List (List ℕ)) : Type 0 where
   pub more : List (List ℕ)
-  pub all : all ≡ taken ++ more
+  pub all : whole ≡ taken ++ more
 
 first_lines : (left1 : Option (List ℕ)) (bytes : List ℕ) (reading : Reading)
     (taken : List (List ℕ)) → Taken (Some bytes) left1 reading taken → (b : Bool)
