@@ -1,6 +1,5 @@
 -- The lines that a run took are the first of those of its source, so it takes no more than they cost.
 use Rattle.std.proofs.Common.{◌≡◌, ◌≤◌, ℕ, ◌+◌, Bool, true, false, List, [], ◌∷◌, ◌++◌, Option, Some, None, refl, sym, ap, subst, ◌∙◌, append_assoc, append-nil}
-use Rattle.std.specs.Io.KnownBytes.{Consumes, IsAtEnd}
 use Rattle.awk_edge.specs.Lines.{lines, unlines}
 use Rattle.awk_edge.specs.Reading.{Reading}
 use Rattle.awk_edge.proofs.LineLaws.{lines-unlines}
