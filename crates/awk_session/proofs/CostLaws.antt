@@ -53,7 +53,8 @@ made_view variables (Some v) steps0 steps1 taken plain array = taken array
 
 sent_view : (variables : Variables) (view : Option View) (a : code.Answer)
     → ShowsView variables view a → is_some view ≡ true → IsOfArray variables view
-    → sent_cost a ≤ text_cost (view_size (sizes_of variables) view) (length (answer_text (answer_view a)))
+    → sent_cost a
+    ≤ text_cost (view_size (sizes_of variables) view) (length (answer_text (answer_view a)))
 sent_view variables None a shows plain array = absurd (cc)
 sent_view variables (Some v) a shows plain array =
     text_cost-more (shown_size a) (size_in variables v) _ _ (shows array) (omega arith)

@@ -91,7 +91,8 @@ plain-push xs x e =
 
 -- the variables are where the session stands, each an array within its size, and the steps since
 -- are within what its lines cost
-pub record IsSpent (steps0 steps1 : ℕ) (variables : Variables) (taken : List (List ℕ)) : Type 0 where
+pub record IsSpent (steps0 steps1 : ℕ) (variables : Variables) (taken : List (List ℕ))
+    : Type 0 where
   pub shown : (standing_after at_start taken).variables ≡ denoted variables
   pub within : AreWithin (standing_after at_start taken).sizes variables
   pub steps : steps1 ≤ steps0 + cost taken
