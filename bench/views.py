@@ -123,7 +123,8 @@ def main():
         for records in (RECORDS // 10, RECORDS):
             for views in (VIEWS // 2, VIEWS):
                 more = taken[records, views][i] - taken[records, 0][i]
-                print(f"  a view of {records:9,} records, of {views:6,}: {more / views * 1e6:8.2f} µs")
+                each = more / views * 1e6
+                print(f"  a view of {records:9,} records, of {views:6,}: {each:8.2f} µs")
 
 
 if __name__ == "__main__":

@@ -1,5 +1,5 @@
 -- A line takes at most its cost, by what its parts take.
-use Rattle.std.proofs.Common.{◌≡◌, ◌≤◌, ℕ, ◌+◌, ◌*◌, Bool, true, false, List, ◌++◌, length, length-append, Option, Some, None, Result, Ok, Err, refl, sym, ap, ◌∙◌, subst, arith}
+use Rattle.std.proofs.Common.{◌≡◌, ◌≤◌, ℕ, ◌+◌, ◌*◌, true, false, List, ◌++◌, length, length-append, Option, Some, None, Result, Ok, Err, refl, ap, ◌∙◌, arith}
 use Rattle.std.specs.Prelude.{IfOk, IfSome, is_some}
 use Rattle.std.specs.Result.{result_ok}
 use Rattle.awk_store.specs.Buffers.{texts_of, total_len}
@@ -53,7 +53,8 @@ made_view variables (Some v) steps0 steps1 taken plain array = taken array
 
 sent_view : (variables : Variables) (view : Option View) (a : code.Answer)
     → ShowsView variables view a → is_some view ≡ true → IsOfArray variables view
-    → sent_cost a ≤ text_cost (view_size (sizes_of variables) view) (length (answer_text (answer_view a)))
+    → sent_cost a
+    ≤ text_cost (view_size (sizes_of variables) view) (length (answer_text (answer_view a)))
 sent_view variables None a shows plain array = absurd (cc)
 sent_view variables (Some v) a shows plain array =
     text_cost-more (shown_size a) (size_in variables v) _ _ (shows array) (omega arith)

@@ -1,5 +1,5 @@
 -- Variables within sizes, and what a line binds.
-use Rattle.std.proofs.Common.{◌≡◌, ◌≢◌, ◌≤◌, ℕ, Bool, true, false, cond, List, [], ◌∷◌, Option, Some, None, option_and_then, Result, Ok, Err, refl, sym, ap, ◌∙◌, subst, arith}
+use Rattle.std.proofs.Common.{◌≡◌, ◌≢◌, Bool, true, false, cond, [], ◌∷◌, Option, Some, None, option_and_then, Result, Ok, Err, refl, sym, ap, ◌∙◌, subst, arith}
 use Rattle.std.specs.Prelude.{IfSome, is_some}
 use Rattle.std.specs.Option.{option_map_or}
 use Rattle.std.specs.Str.{bytes_eq}
@@ -11,9 +11,9 @@ use Rattle.awk_query.specs.Line.{Line, load, bind, show, type_of, pack, names}
 use Rattle.awk_eval.specs.Bindings as bindings
 use Rattle.awk_eval.specs.Bindings.{Bindings, look_up}
 use Rattle.awk_eval.specs.Variables.{Variables}
-use Rattle.awk_eval.specs.Views.{Size, Sizes, View, view_of, size_of, sizes_of, size_at, size_in, size_or_none, IsWithin, IsArray, OfView}
+use Rattle.awk_eval.specs.Views.{Size, Sizes, View, view_of, size_of, sizes_of, size_at, size_in, size_or_none, IsWithin, IsArray}
 use Rattle.awk_session.specs.Cost.{form_size, view_size, has_cost, sized_unless, sizes_by}
-use Rattle.awk_session.specs.Spending.{IsAtMost, IsOfArray, IsOfArrays, IsBound, IsBoundUnless, IsViewWithin, BindsBy, Binds, Unless, name_by}
+use Rattle.awk_session.specs.Spending.{IsAtMost, IsOfArray, IsOfArrays, IsBoundUnless, IsViewWithin, BindsBy, Binds, Unless, name_by}
 use Rattle.awk_session.specs.declared.answer.Answered.{Answered}
 use Rattle.awk_session.specs.declared.engine.LineEnd.{LineEnd}
 use Rattle.awk_session.specs.declared.engine.LineEnd.TheVariants.{Write, NoMemory}

@@ -2,11 +2,10 @@
 use Rattle.std.proofs.Common.{◌≡◌, ◌≤◌, ℕ, ◌+◌, ◌*◌, Bool, true, false, ◌&&◌, List, [], ◌∷◌, ◌++◌, length, Option, Some, None, refl, sym, ap, ◌∙◌, subst, arith}
 use Rattle.std.specs.Option.{option_map_or}
 use Rattle.awk_query.specs.Line.{Line, load, bind, show, type_of, pack, names}
-use Rattle.awk_eval.specs.Variables.{Variables, Environment, denoted}
+use Rattle.awk_eval.specs.Variables.{Variables, denoted}
 use Rattle.awk_eval.specs.Views.{Sizes, View, view_of, sizes_of, size_at}
-use Rattle.awk_session.specs.Runs.{Step}
 use Rattle.awk_session.specs.Replies.{step}
-use Rattle.awk_session.specs.Cost.{Standing, at_start, next, moved, standing_after, costs, cost, cost_of, is_plain, are_plain, line_in, line_cost, made_cost, shown_cost, view_cost, view_size, text_cost, answer_length, sizes_after}
+use Rattle.awk_session.specs.Cost.{Standing, at_start, next, standing_after, costs, cost, cost_of, is_plain, are_plain, line_in, line_cost, made_cost, shown_cost, view_cost, view_size, answer_length, sizes_after}
 use Rattle.awk_session.specs.Spending.{Binds, TakesCost}
 use Rattle.awk_session.proofs.SizeLaws.{AreWithin, size_at-within, view_size-within, IsOfArrays-within, sizes-within}
 use Rattle.awk_session.proofs.CostLaws.{times, text_cost-more}
@@ -92,7 +91,8 @@ plain-push xs x e =
 
 -- the variables are where the session stands, each an array within its size, and the steps since
 -- are within what its lines cost
-pub record IsSpent (steps0 steps1 : ℕ) (variables : Variables) (taken : List (List ℕ)) : Type 0 where
+pub record IsSpent (steps0 steps1 : ℕ) (variables : Variables) (taken : List (List ℕ))
+    : Type 0 where
   pub shown : (standing_after at_start taken).variables ≡ denoted variables
   pub within : AreWithin (standing_after at_start taken).sizes variables
   pub steps : steps1 ≤ steps0 + cost taken

@@ -1,11 +1,11 @@
 -- What a view of an array leaves, as an answer and bound to a name.
-use Rattle.std.proofs.Common.{◌≡◌, ◌≤◌, ℕ, Bool, true, false, Option, None, Result, Ok, Err, refl, sym, ap, ◌∙◌, subst, arith}
+use Rattle.std.proofs.Common.{◌≡◌, ℕ, Option, None, Result, Ok, Err, refl, sym, ap, ◌∙◌, subst, arith}
 use Rattle.std.specs.Prelude.{IfOk}
 use Rattle.awk_types.specs.DataType.{Name}
 use Rattle.awk_layout.specs.declared.datum.Datum.{Datum}
 use Rattle.awk_eval.specs.Bindings as bindings
 use Rattle.awk_eval.specs.Variables.{Variables}
-use Rattle.awk_eval.specs.Views.{Size, View, size_of, size_in, size_or_none, IsWithin, OfView, TakesView}
+use Rattle.awk_eval.specs.Views.{Size, View, size_of, size_in, size_or_none, IsWithin, TakesView}
 use Rattle.awk_eval.proofs.ViewSteps.{OfView-all, OfView-both, TakesView-within}
 use Rattle.awk_session.specs.Answer.{fault, is_fault}
 use Rattle.awk_session.specs.AnswerView.{answer_view}

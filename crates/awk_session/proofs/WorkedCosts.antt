@@ -48,7 +48,8 @@ lists_cost = simp (load_lists-read, show_x-read, load_lists-line, show_x-line) r
 abbrev load_masked : List ℕ
 load_masked = codes "{\"load\":\"x\",\"form\":{\"class\":\"BitMaskedArray\",\"mask\":\"u8\",\"valid_when\":false,\"lsb_order\":false,\"content\":{\"class\":\"NumpyArray\",\"primitive\":\"int8\",\"form_key\":\"d\"},\"form_key\":\"m\"},\"length\":11,\"buffers\":{\"m-mask\":\"QqA=\",\"d-data\":\"AAECAwQFBgcICQo=\"}}"
 
-load_masked-read : (variables : Environment) → step variables load_masked ≡ read_as variables load_masked
+load_masked-read : (variables : Environment)
+    → step variables load_masked ≡ read_as variables load_masked
 unfolding encode_utf8
 load_masked-read variables = step-read variables load_masked refl (load_masked, (refl, refl))
 
@@ -59,7 +60,8 @@ load_masked-line = line_in-read load_masked refl (load_masked, (refl, refl))
 abbrev show_range : List ℕ
 show_range = codes "{\"show\":[\"range\",\"x\",3,10]}"
 
-show_range-read : (variables : Environment) → step variables show_range ≡ read_as variables show_range
+show_range-read : (variables : Environment)
+    → step variables show_range ≡ read_as variables show_range
 unfolding encode_utf8
 show_range-read variables = step-read variables show_range refl (show_range, (refl, refl))
 
