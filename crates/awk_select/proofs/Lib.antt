@@ -1,0 +1,6 @@
+pub mod Worked
+pub mod Lists
+pub mod RangePlaces
+pub mod CellLaws
+pub mod PickedPlaces
+pub mod PickAnswers
