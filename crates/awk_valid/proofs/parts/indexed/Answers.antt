@@ -14,33 +14,74 @@ returns-in_err-length-clause-answer g c f =
     let t = c.args.store.now.texts in
     let failed : c.from_residual-in_err-length.result ≡ Err e = grind arith in
     let small = (refused_or-Ok _ _ _ c.in_ok-judged_size.ensures).0 in
-    let lane = index_fetched t t c.args.key.now (codes "index") c.args.kind c.args.spot.n c.in_ok-index.index refl c.in_ok-index.ensures.answer in
-    let own = indexed-own (container_of t) c.args.key.now c.args.kind f c.args.spot.node c.args.spot.n c.in_ok-index.index small (both_none _ None lane.0 refl) lane.1 lane.2 in
+    let lane =
+    index_fetched t t c.args.key.now
+    (codes "index") c.args.kind c.args.spot.n c.in_ok-index.index refl
+    c.in_ok-index.ensures.answer in
+    let own =
+    indexed-own
+    (container_of t) c.args.key.now c.args.kind f c.args.spot.node c.args.spot.n
+    c.in_ok-index.index small (both_none _ None lane.0 refl) lane.1 lane.2 in
     Gives-Err _ _ _ e _ failed (Told-same (told e) _ _ _ _ own.0 c.in_err-length.ensures.answer)
 
 pub returns-in_err-length-clause-cost : goal.returns-in_err-length-clause-cost
 returns-in_err-length-clause-cost g c =
     let t = c.args.store.now.texts in
-    let lane = index_fetched t t c.args.key.now (codes "index") c.args.kind c.args.spot.n c.in_ok-index.index refl c.in_ok-index.ensures.answer in
-    omega (arith, lane.2, c.in_ok-index.ensures.short, c.in_ok-index.ensures.cost, c.in_err-length.ensures.cost)
+    let lane =
+    index_fetched t t c.args.key.now
+    (codes "index") c.args.kind c.args.spot.n c.in_ok-index.index refl
+    c.in_ok-index.ensures.answer in
+    omega (
+      arith,
+      lane.2,
+      c.in_ok-index.ensures.short,
+      c.in_ok-index.ensures.cost,
+      c.in_err-length.ensures.cost,
+    )
 
 pub returns-clause-answer : goal.returns-clause-answer
 returns-clause-answer g c f =
     let t = c.args.store.now.texts in
     let small = (refused_or-Ok _ _ _ c.in_ok-judged_size.ensures).0 in
-    let lane = index_fetched t t c.args.key.now (codes "index") c.args.kind c.args.spot.n c.in_ok-index.index refl c.in_ok-index.ensures.answer in
-    let own = indexed-own (container_of t) c.args.key.now c.args.kind f c.args.spot.node c.args.spot.n c.in_ok-index.index small (both_none _ None lane.0 refl) lane.1 lane.2 in
+    let lane =
+    index_fetched t t c.args.key.now
+    (codes "index") c.args.kind c.args.spot.n c.in_ok-index.index refl
+    c.in_ok-index.ensures.answer in
+    let own =
+    indexed-own
+    (container_of t) c.args.key.now c.args.kind f c.args.spot.node c.args.spot.n
+    c.in_ok-index.index small (both_none _ None lane.0 refl) lane.1 lane.2 in
     let rule = refused_or-Ok _ _ _ c.in_ok-length.ensures.answer in
-    refused_or-None _ _ _ (own.0 ∙ rule.0) (ap₂ (λ q ls. (q, ls)) (λ i. Over (Indexed (lane.1 i))) (ap (λ l. l ∷ []) (own.1 ∙ rule.1) ∙ sym c.in_ok-lengths.ensures))
+    refused_or-None _ _ _ (own.0 ∙ rule.0)
+    (ap₂ (λ q ls. (q, ls)) (λ i. Over (Indexed (lane.1 i)))
+    (ap (λ l. l ∷ []) (own.1 ∙ rule.1) ∙ sym c.in_ok-lengths.ensures))
 
 pub returns-clause-cost : goal.returns-clause-cost
 returns-clause-cost g c =
     let t = c.args.store.now.texts in
-    let lane = index_fetched t t c.args.key.now (codes "index") c.args.kind c.args.spot.n c.in_ok-index.index refl c.in_ok-index.ensures.answer in
-    omega (arith, lane.2, c.in_ok-index.ensures.short, c.in_ok-index.ensures.cost, c.in_ok-length.ensures.cost)
+    let lane =
+    index_fetched t t c.args.key.now
+    (codes "index") c.args.kind c.args.spot.n c.in_ok-index.index refl
+    c.in_ok-index.ensures.answer in
+    omega (
+      arith,
+      lane.2,
+      c.in_ok-index.ensures.short,
+      c.in_ok-index.ensures.cost,
+      c.in_ok-length.ensures.cost,
+    )
 
 pub returns-in_err-lengths-clause-cost : goal.returns-in_err-lengths-clause-cost
 returns-in_err-lengths-clause-cost g c =
     let t = c.args.store.now.texts in
-    let lane = index_fetched t t c.args.key.now (codes "index") c.args.kind c.args.spot.n c.in_ok-index.index refl c.in_ok-index.ensures.answer in
-    omega (arith, lane.2, c.in_ok-index.ensures.short, c.in_ok-index.ensures.cost, c.in_ok-length.ensures.cost)
+    let lane =
+    index_fetched t t c.args.key.now
+    (codes "index") c.args.kind c.args.spot.n c.in_ok-index.index refl
+    c.in_ok-index.ensures.answer in
+    omega (
+      arith,
+      lane.2,
+      c.in_ok-index.ensures.short,
+      c.in_ok-index.ensures.cost,
+      c.in_ok-length.ensures.cost,
+    )

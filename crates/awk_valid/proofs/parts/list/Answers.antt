@@ -15,20 +15,33 @@ returns-in_err-stops-clause-answer g c f =
     let t = c.args.store.now.texts in
     let failed : c.from_residual-in_err-stops.result ≡ Err e = grind arith in
     let small = (refused_or-Ok _ _ _ c.in_ok-judged_size.ensures).0 in
-    let starts = index_fetched t t c.args.key.now (codes "starts") c.args.start_kind c.args.spot.n c.in_ok-starts.starts refl c.in_ok-starts.ensures.answer in
+    let starts =
+    index_fetched t t c.args.key.now
+    (codes "starts") c.args.start_kind c.args.spot.n c.in_ok-starts.starts refl
+    c.in_ok-starts.ensures.answer in
     Gives-Err _ _ _ e _ failed (told_second (told e) _ _ _ _ t _ small starts.0
-    (index_told (told e) t c.index_lane.new.store.texts c.args.key.now (codes "stops") c.args.stop_kind c.args.spot.n _ t c.in_ok-starts.ensures.texts c.in_err-stops.ensures.answer))
+    (index_told (told e) t c.index_lane.new.store.texts c.args.key.now
+    (codes "stops") c.args.stop_kind c.args.spot.n _ t c.in_ok-starts.ensures.texts
+    c.in_err-stops.ensures.answer))
 
 pub judged_lists-requires-clause-starts : goal.judged_lists-requires-clause-starts
 judged_lists-requires-clause-starts g c =
     let t = c.args.store.now.texts in
-    (index_fetched t t c.args.key.now (codes "starts") c.args.start_kind c.args.spot.n c.in_ok-starts.starts refl c.in_ok-starts.ensures.answer).3
+    (index_fetched t t c.args.key.now
+    (codes "starts") c.args.start_kind c.args.spot.n c.in_ok-starts.starts refl
+    c.in_ok-starts.ensures.answer).3
 
 pub judged_lists-requires-clause-same : goal.judged_lists-requires-clause-same
 judged_lists-requires-clause-same g c =
     let t = c.args.store.now.texts in
-    let starts = index_fetched t t c.args.key.now (codes "starts") c.args.start_kind c.args.spot.n c.in_ok-starts.starts refl c.in_ok-starts.ensures.answer in
-    let stops = index_fetched t c.index_lane.new.store.texts c.args.key.now (codes "stops") c.args.stop_kind c.args.spot.n c.in_ok-stops.stops c.in_ok-starts.ensures.texts c.in_ok-stops.ensures.answer in
+    let starts =
+    index_fetched t t c.args.key.now
+    (codes "starts") c.args.start_kind c.args.spot.n c.in_ok-starts.starts refl
+    c.in_ok-starts.ensures.answer in
+    let stops =
+    index_fetched t c.index_lane.new.store.texts c.args.key.now
+    (codes "stops") c.args.stop_kind c.args.spot.n c.in_ok-stops.stops
+    c.in_ok-starts.ensures.texts c.in_ok-stops.ensures.answer in
     starts.2 ∙ sym stops.2
 
 pub returns-in_err-length-clause-answer : goal.returns-in_err-length-clause-answer
@@ -37,43 +50,108 @@ returns-in_err-length-clause-answer g c f =
     let t = c.args.store.now.texts in
     let failed : c.from_residual-in_err-length.result ≡ Err e = grind arith in
     let small = (refused_or-Ok _ _ _ c.in_ok-judged_size.ensures).0 in
-    let starts = index_fetched t t c.args.key.now (codes "starts") c.args.start_kind c.args.spot.n c.in_ok-starts.starts refl c.in_ok-starts.ensures.answer in
-    let stops = index_fetched t c.index_lane.new.store.texts c.args.key.now (codes "stops") c.args.stop_kind c.args.spot.n c.in_ok-stops.stops c.in_ok-starts.ensures.texts c.in_ok-stops.ensures.answer in
-    let own = list-own (container_of t) c.args.key.now c.args.start_kind c.args.stop_kind f c.args.spot.node c.args.spot.n c.in_ok-starts.starts c.in_ok-stops.stops small
+    let starts =
+    index_fetched t t c.args.key.now
+    (codes "starts") c.args.start_kind c.args.spot.n c.in_ok-starts.starts refl
+    c.in_ok-starts.ensures.answer in
+    let stops =
+    index_fetched t c.index_lane.new.store.texts c.args.key.now
+    (codes "stops") c.args.stop_kind c.args.spot.n c.in_ok-stops.stops
+    c.in_ok-starts.ensures.texts c.in_ok-stops.ensures.answer in
+    let own =
+    list-own
+    (container_of t) c.args.key.now c.args.start_kind c.args.stop_kind f c.args.spot.node
+    c.args.spot.n c.in_ok-starts.starts c.in_ok-stops.stops small
     (both_none _ _ starts.0 (both_none _ None stops.0 refl)) starts.1 stops.1 starts.2 in
     Gives-Err _ _ _ e _ failed (Told-same (told e) _ _ _ _ own.0 c.in_err-length.ensures.answer)
 
 pub returns-in_err-length-clause-cost : goal.returns-in_err-length-clause-cost
 returns-in_err-length-clause-cost g c =
     let t = c.args.store.now.texts in
-    let starts = index_fetched t t c.args.key.now (codes "starts") c.args.start_kind c.args.spot.n c.in_ok-starts.starts refl c.in_ok-starts.ensures.answer in
-    let stops = index_fetched t c.index_lane.new.store.texts c.args.key.now (codes "stops") c.args.stop_kind c.args.spot.n c.in_ok-stops.stops c.in_ok-starts.ensures.texts c.in_ok-stops.ensures.answer in
+    let starts =
+    index_fetched t t c.args.key.now
+    (codes "starts") c.args.start_kind c.args.spot.n c.in_ok-starts.starts refl
+    c.in_ok-starts.ensures.answer in
+    let stops =
+    index_fetched t c.index_lane.new.store.texts c.args.key.now
+    (codes "stops") c.args.stop_kind c.args.spot.n c.in_ok-stops.stops
+    c.in_ok-starts.ensures.texts c.in_ok-stops.ensures.answer in
     let same = ap total_len c.in_ok-starts.ensures.texts in
-    omega (arith, starts.2, stops.2, same, c.in_ok-starts.ensures.short, c.in_ok-starts.ensures.cost, c.in_ok-stops.ensures.cost, c.in_err-length.ensures.cost)
+    omega (
+      arith,
+      starts.2,
+      stops.2,
+      same,
+      c.in_ok-starts.ensures.short,
+      c.in_ok-starts.ensures.cost,
+      c.in_ok-stops.ensures.cost,
+      c.in_err-length.ensures.cost,
+    )
 
 pub returns-clause-answer : goal.returns-clause-answer
 returns-clause-answer g c f =
     let t = c.args.store.now.texts in
     let small = (refused_or-Ok _ _ _ c.in_ok-judged_size.ensures).0 in
-    let starts = index_fetched t t c.args.key.now (codes "starts") c.args.start_kind c.args.spot.n c.in_ok-starts.starts refl c.in_ok-starts.ensures.answer in
-    let stops = index_fetched t c.index_lane.new.store.texts c.args.key.now (codes "stops") c.args.stop_kind c.args.spot.n c.in_ok-stops.stops c.in_ok-starts.ensures.texts c.in_ok-stops.ensures.answer in
-    let own = list-own (container_of t) c.args.key.now c.args.start_kind c.args.stop_kind f c.args.spot.node c.args.spot.n c.in_ok-starts.starts c.in_ok-stops.stops small
+    let starts =
+    index_fetched t t c.args.key.now
+    (codes "starts") c.args.start_kind c.args.spot.n c.in_ok-starts.starts refl
+    c.in_ok-starts.ensures.answer in
+    let stops =
+    index_fetched t c.index_lane.new.store.texts c.args.key.now
+    (codes "stops") c.args.stop_kind c.args.spot.n c.in_ok-stops.stops
+    c.in_ok-starts.ensures.texts c.in_ok-stops.ensures.answer in
+    let own =
+    list-own
+    (container_of t) c.args.key.now c.args.start_kind c.args.stop_kind f c.args.spot.node
+    c.args.spot.n c.in_ok-starts.starts c.in_ok-stops.stops small
     (both_none _ _ starts.0 (both_none _ None stops.0 refl)) starts.1 stops.1 starts.2 in
     let rule = refused_or-Ok _ _ _ c.in_ok-length.ensures.answer in
-    refused_or-None _ _ _ (own.0 ∙ rule.0) (ap₂ (λ q ls. (q, ls)) (λ i. Over (Lists (starts.1 i) (stops.1 i))) (ap (λ l. l ∷ []) (own.1 ∙ rule.1) ∙ sym c.in_ok-lengths.ensures))
+    refused_or-None _ _ _ (own.0 ∙ rule.0)
+    (ap₂ (λ q ls. (q, ls)) (λ i. Over (Lists (starts.1 i) (stops.1 i)))
+    (ap (λ l. l ∷ []) (own.1 ∙ rule.1) ∙ sym c.in_ok-lengths.ensures))
 
 pub returns-clause-cost : goal.returns-clause-cost
 returns-clause-cost g c =
     let t = c.args.store.now.texts in
-    let starts = index_fetched t t c.args.key.now (codes "starts") c.args.start_kind c.args.spot.n c.in_ok-starts.starts refl c.in_ok-starts.ensures.answer in
-    let stops = index_fetched t c.index_lane.new.store.texts c.args.key.now (codes "stops") c.args.stop_kind c.args.spot.n c.in_ok-stops.stops c.in_ok-starts.ensures.texts c.in_ok-stops.ensures.answer in
+    let starts =
+    index_fetched t t c.args.key.now
+    (codes "starts") c.args.start_kind c.args.spot.n c.in_ok-starts.starts refl
+    c.in_ok-starts.ensures.answer in
+    let stops =
+    index_fetched t c.index_lane.new.store.texts c.args.key.now
+    (codes "stops") c.args.stop_kind c.args.spot.n c.in_ok-stops.stops
+    c.in_ok-starts.ensures.texts c.in_ok-stops.ensures.answer in
     let same = ap total_len c.in_ok-starts.ensures.texts in
-    omega (arith, starts.2, stops.2, same, c.in_ok-starts.ensures.short, c.in_ok-starts.ensures.cost, c.in_ok-stops.ensures.cost, c.in_ok-length.ensures.cost)
+    omega (
+      arith,
+      starts.2,
+      stops.2,
+      same,
+      c.in_ok-starts.ensures.short,
+      c.in_ok-starts.ensures.cost,
+      c.in_ok-stops.ensures.cost,
+      c.in_ok-length.ensures.cost,
+    )
 
 pub returns-in_err-lengths-clause-cost : goal.returns-in_err-lengths-clause-cost
 returns-in_err-lengths-clause-cost g c =
     let t = c.args.store.now.texts in
-    let starts = index_fetched t t c.args.key.now (codes "starts") c.args.start_kind c.args.spot.n c.in_ok-starts.starts refl c.in_ok-starts.ensures.answer in
-    let stops = index_fetched t c.index_lane.new.store.texts c.args.key.now (codes "stops") c.args.stop_kind c.args.spot.n c.in_ok-stops.stops c.in_ok-starts.ensures.texts c.in_ok-stops.ensures.answer in
+    let starts =
+    index_fetched t t c.args.key.now
+    (codes "starts") c.args.start_kind c.args.spot.n c.in_ok-starts.starts refl
+    c.in_ok-starts.ensures.answer in
+    let stops =
+    index_fetched t c.index_lane.new.store.texts c.args.key.now
+    (codes "stops") c.args.stop_kind c.args.spot.n c.in_ok-stops.stops
+    c.in_ok-starts.ensures.texts c.in_ok-stops.ensures.answer in
     let same = ap total_len c.in_ok-starts.ensures.texts in
-    omega (arith, starts.2, stops.2, same, c.in_ok-starts.ensures.short, c.in_ok-starts.ensures.cost, c.in_ok-stops.ensures.cost, c.in_ok-length.ensures.cost)
+    omega (
+      arith,
+      starts.2,
+      stops.2,
+      same,
+      c.in_ok-starts.ensures.short,
+      c.in_ok-starts.ensures.cost,
+      c.in_ok-stops.ensures.cost,
+      c.in_ok-length.ensures.cost,
+    )

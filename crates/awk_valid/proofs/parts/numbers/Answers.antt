@@ -14,4 +14,5 @@ returns-in_err-node-clause-answer g c node =
 pub returns-clause-answer : goal.returns-clause-answer
 returns-clause-answer g c node =
     let said = refused_or-Ok _ _ _ (c.in_ok-node.ensures.answer node) in
-    refused_or-None _ _ _ (or-last _ ∙ said.0) (ap₂ (λ x ls. (Whole x, ls)) said.1 (sym c.new.ensures.items))
+    refused_or-None _ _ _ (or-last _ ∙ said.0)
+    (ap₂ (λ x ls. (Whole x, ls)) said.1 (sym c.new.ensures.items))
