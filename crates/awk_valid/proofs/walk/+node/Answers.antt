@@ -4,7 +4,8 @@ use Rattle.std.proofs.Common.{◌≡◌, ◌<◌, ◌≤◌, ◌+◌, ◌++◌, 
 use Rattle.awk_types.specs.Gives.{Told}
 use Rattle.awk_layout.specs.Valid.{IsValid}
 use Rattle.awk_form.specs.Induction.{nodes-contents}
-use Rattle.awk_form.specs.Lawful.{AreLawful}
+use Rattle.awk_form.specs.FormTree.{contents_of}
+use Rattle.awk_form.specs.Lawful.{AreLawful, count}
 use Rattle.awk_form.specs.Measures.{nodes_of}
 use Rattle.awk_form.specs.View.{form_of}
 use Rattle.awk_form.specs.declared.form.Shape.{the_lemmas}
@@ -60,8 +61,8 @@ content_at-requires g t' c =
     let counted =
     own-count f c.args.next.now n t c.in_ok-own.own c.in_ok-own.lengths.items
     c.in_ok-own.ensures.answer in
-    let within =
-    subst (λ k. c.loop-i.i < k) (c.len-i-end.ensures ∙ counted) c.loop-i-test.true in
+    let within : c.loop-i.i < count (contents_of f) =
+    omega (arith, counted, c.loop-i-test.true, c.len-i-end.ensures) in
     record { within = within }
 
 pub node-requires : goal.node-requires
@@ -81,8 +82,8 @@ returns-in_err-content-clause-answer g t' c =
     let counted =
     own-count f c.args.next.now n t c.in_ok-own.own c.in_ok-own.lengths.items
     c.in_ok-own.ensures.answer in
-    let within =
-    subst (λ k. c.loop-i.i < k) (c.len-i-end.ensures ∙ counted) c.loop-i-test.true in
+    let within : c.loop-i.i < count (contents_of f) =
+    omega (arith, counted, c.loop-i-test.true, c.len-i-end.ensures) in
     let size =
     own-length f c.args.next.now n t c.in_ok-own.own c.in_ok-own.lengths.items c.loop-i.i
     c.index.result.now c.in_ok-own.ensures.answer within c.index.ensures in
@@ -121,8 +122,8 @@ loop-i-preserved g t' c =
     let counted =
     own-count f c.args.next.now n t c.in_ok-own.own c.in_ok-own.lengths.items
     c.in_ok-own.ensures.answer in
-    let within =
-    subst (λ k. c.loop-i.i < k) (c.len-i-end.ensures ∙ counted) c.loop-i-test.true in
+    let within : c.loop-i.i < count (contents_of f) =
+    omega (arith, counted, c.loop-i-test.true, c.len-i-end.ensures) in
     let size =
     own-length f c.args.next.now n t c.in_ok-own.own c.in_ok-own.lengths.items c.loop-i.i
     c.index.result.now c.in_ok-own.ensures.answer within c.index.ensures in
@@ -161,8 +162,8 @@ over-requires g t' c =
     let counted =
     own-count f c.args.next.now n t c.in_ok-own.own c.in_ok-own.lengths.items
     c.in_ok-own.ensures.answer in
-    let past =
-    subst (λ k. k ≤ c.loop-i.i) (c.len-i-end.ensures ∙ counted) c.loop-i-test.false in
+    let past : count (contents_of f) ≤ c.loop-i.i =
+    omega (arith, counted, c.loop-i-test.false, c.len-i-end.ensures) in
     let said =
     c.loop-i.invariant.said
     ∙ left-none f n c.loop-i.i c.loop-i.next c.loop-i.contents.items t past in
@@ -181,8 +182,8 @@ returns-clause-answer g t' c =
     let counted =
     own-count f c.args.next.now n t c.in_ok-own.own c.in_ok-own.lengths.items
     c.in_ok-own.ensures.answer in
-    let past =
-    subst (λ k. k ≤ c.loop-i.i) (c.len-i-end.ensures ∙ counted) c.loop-i-test.false in
+    let past : count (contents_of f) ≤ c.loop-i.i =
+    omega (arith, counted, c.loop-i-test.false, c.len-i-end.ensures) in
     c.loop-i.invariant.said
     ∙ left-none f n c.loop-i.i c.loop-i.next c.loop-i.contents.items t past
     ∙ ap (λ q. Ok (over n q c.loop-i.contents.items)) c.loop-i.invariant.own
@@ -196,6 +197,6 @@ returns-clause-next g t' c =
     let counted =
     own-count f c.args.next.now n t c.in_ok-own.own c.in_ok-own.lengths.items
     c.in_ok-own.ensures.answer in
-    let past =
-    subst (λ k. k ≤ c.loop-i.i) (c.len-i-end.ensures ∙ counted) c.loop-i-test.false in
+    let past : count (contents_of f) ≤ c.loop-i.i =
+    omega (arith, counted, c.loop-i-test.false, c.len-i-end.ensures) in
     omega (arith, ap nodes_of (rest-none f c.loop-i.i past), c.loop-i.invariant.next)
