@@ -22,6 +22,9 @@ nat_le-true : (a b : ℕ) → nat_le a b ≡ true → a ≤ b
 nat_le-true a b e = grind arith
 
 -- where there are n numbers in the bytes, there are n bytes
-pub lane_len-≤ : (k : Kind) (n : ℕ) (bytes : List ℕ) (x lane : Column) → Some lane ≡ cond (nat_le (n * width k) (length bytes)) (Some x) None → n ≤ length bytes
+pub lane_len-≤ : (k : Kind) (n : ℕ) (bytes : List ℕ) (x lane : Column)
+    → Some lane ≡ cond (nat_le (n * width k) (length bytes)) (Some x) None → n ≤ length bytes
 lane_len-≤ k n bytes x lane some =
-    numbers-≤ k n (length bytes) (nat_le-true (n * width k) (length bytes) (cond_some (nat_le (n * width k) (length bytes)) x lane (sym some)).0)
+    numbers-≤ k n (length bytes)
+    (nat_le-true (n * width k) (length bytes)
+    (cond_some (nat_le (n * width k) (length bytes)) x lane (sym some)).0)

@@ -19,10 +19,14 @@ numbers-take k n b =
     e ∙ take_all n (numbers k n b) whole
 
 -- the lane over so many bytes has the first numbers of the bytes
-pub first_numbers-some : (k : Kind) (n : ℕ) (b : List ℕ) (lane : Column) → 0 < width k → n * width k ≤ length b → lane.kind ≡ k → lane.items ≡ numbers k (length (take (n * width k) b) / width k) (take (n * width k) b)
+pub first_numbers-some : (k : Kind) (n : ℕ) (b : List ℕ) (lane : Column) → 0 < width k
+    → n * width k ≤ length b → lane.kind ≡ k
+    → lane.items ≡ numbers k (length (take (n * width k) b) / width k) (take (n * width k) b)
     → Some lane ≡ cond (nat_le (n * width k) (length b)) (Some (column_at k n b)) None
 first_numbers-some k n b lane some fits kind items =
     let test : nat_le (n * width k) (length b) ≡ true = grind arith in
-    let cut : length (take (n * width k) b) ≡ n * width k = rw (length-take (n * width k) b) (omega arith) in
-    let same : lane.items ≡ numbers k n b = items ∙ rw (cut, mul-div_cancel n some) (numbers-take k n b) in
+    let cut : length (take (n * width k) b) ≡ n * width k =
+    rw (length-take (n * width k) b) (omega arith) in
+    let same : lane.items ≡ numbers k n b =
+    items ∙ rw (cut, mul-div_cancel n some) (numbers-take k n b) in
     rw test (ap Some (λ i. record { kind = kind i; items = same i }))

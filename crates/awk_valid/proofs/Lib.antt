@@ -9,6 +9,7 @@ pub mod LengthLaws
 pub mod AtLaws
 pub mod BufferLaws
 pub mod ShapeLaws
+pub mod FaultLaws
 pub mod PartLaws
 pub mod WalkLaws
 pub mod SizeLaws

@@ -31,36 +31,56 @@ use Rattle.awk_valid.proofs.TypeLaws.{layout_type-layout_of}
 use Rattle.awk_valid.proofs.ValidLaws.{broken-none}
 
 -- the limit of the type is told first
-told_limit : {A : Type 0} (e : TypeFault) (l : Option Limit) (b : Option Refusal) (t : DataType) (x : A) → Told (limit_told e) (refused_or l t) → Told (told (fault_of e)) (refused_or (option_map limited l or b) x)
-told_limit Depth l b t x h = ap (λ p. refused_or (option_map limited p or b) x) (refused_or-Err l t depth_limit h)
-told_limit Size l b t x h = ap (λ p. refused_or (option_map limited p or b) x) (refused_or-Err l t size_limit h)
+told_limit : {A : Type 0} (e : TypeFault) (l : Option Limit) (b : Option Refusal) (t : DataType)
+    (x : A) → Told (limit_told e) (refused_or l t)
+    → Told (told (fault_of e)) (refused_or (option_map limited l or b) x)
+told_limit Depth l b t x h =
+    ap (λ p. refused_or (option_map limited p or b) x) (refused_or-Err l t depth_limit h)
+told_limit Size l b t x h =
+    ap (λ p. refused_or (option_map limited p or b) x) (refused_or-Err l t size_limit h)
 told_limit NoMemory l b t x h = tt
 
-pub load_type : {A : Type 0} (e : TypeFault) (f : FormTree) (n : ℕ) (c : Container) (x : A) → Told (limit_told e) (within (simple (type_of f))) → Told (told (fault_of e)) (refused_or (refusal f n c) x)
-load_type e f n c x h = told_limit e (limit (simple (type_of f))) (broken f n c) (simple (type_of f)) x h
+pub load_type : {A : Type 0} (e : TypeFault) (f : FormTree) (n : ℕ) (c : Container) (x : A)
+    → Told (limit_told e) (within (simple (type_of f)))
+    → Told (told (fault_of e)) (refused_or (refusal f n c) x)
+load_type e f n c x h =
+    told_limit e (limit (simple (type_of f))) (broken f n c) (simple (type_of f)) x h
 
 -- then the first break
-pub load_walk : {A : Type 0} (o : Option Refusal) (f : FormTree) (n : ℕ) (t : ByKey) (s : DataType) (x : A) → within (simple (type_of f)) ≡ Ok s → Told o (node_said f 0 n t)
+pub load_walk : {A : Type 0} (o : Option Refusal) (f : FormTree) (n : ℕ) (t : ByKey) (s : DataType)
+    (x : A) → within (simple (type_of f)) ≡ Ok s → Told o (node_said f 0 n t)
     → Told o (refused_or (refusal f n (container_of t)) x)
 unfolding node_said
 load_walk o f n t s x fits h =
-    let none = ap (option_map limited) (refused_or-Ok (limit (simple (type_of f))) (simple (type_of f)) s fits).0 in
-    Told-later o (option_map limited (limit (simple (type_of f)))) (broken f n (container_of t)) (layout_of f n (container_of t)) x none h
+    let none =
+    ap (option_map limited)
+    (refused_or-Ok (limit (simple (type_of f))) (simple (type_of f)) s fits).0 in
+    Told-later o (option_map limited (limit (simple (type_of f)))) (broken f n (container_of t))
+    (layout_of f n (container_of t)) x none h
 
-pub load_made : (f : FormTree) (n : ℕ) (t : ByKey) (s : DataType) (x : Layout) → within (simple (type_of f)) ≡ Ok s → node_said f 0 n t ≡ Ok x → loading f n (container_of t) ≡ Ok x
+pub load_made : (f : FormTree) (n : ℕ) (t : ByKey) (s : DataType) (x : Layout)
+    → within (simple (type_of f)) ≡ Ok s → node_said f 0 n t ≡ Ok x
+    → loading f n (container_of t) ≡ Ok x
 unfolding node_said
 load_made f n t s x fits said =
-    let none = ap (option_map limited) (refused_or-Ok (limit (simple (type_of f))) (simple (type_of f)) s fits).0 in
-    ap (λ b. refused_or (b or broken f n (container_of t)) (layout_of f n (container_of t))) none ∙ said
+    let none =
+    ap (option_map limited)
+    (refused_or-Ok (limit (simple (type_of f))) (simple (type_of f)) s fits).0 in
+    ap (λ b. refused_or (b or broken f n (container_of t)) (layout_of f n (container_of t))) none
+    ∙ said
 
 -- an array of the node has the type of the form
-pub load_typ : (f : FormTree) (n : ℕ) (t : ByKey) (x : Layout) → node_said f 0 n t ≡ Ok x → array_type x ≡ simple (type_of f)
+pub load_typ : (f : FormTree) (n : ℕ) (t : ByKey) (x : Layout) → node_said f 0 n t ≡ Ok x
+    → array_type x ≡ simple (type_of f)
 unfolding node_said
 load_typ f n t x h =
-    ap array_type (sym (refused_or-Ok (broken f n (container_of t)) (layout_of f n (container_of t)) x h).1) ∙ ap simple (layout_type-layout_of f n (container_of t))
+    ap array_type
+    (sym (refused_or-Ok (broken f n (container_of t)) (layout_of f n (container_of t)) x h).1)
+    ∙ ap simple (layout_type-layout_of f n (container_of t))
 
 -- so the type that was judged is that of the array
-pub load_typed : (f : FormTree) (n : ℕ) (t : ByKey) (s : DataType) (x : Layout) → IsLawful f → within (simple (type_of f)) ≡ Ok s → node_said f 0 n t ≡ Ok x → IsTypeOf s x
+pub load_typed : (f : FormTree) (n : ℕ) (t : ByKey) (s : DataType) (x : Layout) → IsLawful f
+    → within (simple (type_of f)) ≡ Ok s → node_said f 0 n t ≡ Ok x → IsTypeOf s x
 unfolding node_said
 load_typed f n t s x w fits h =
     let made = refused_or-Ok (broken f n (container_of t)) (layout_of f n (container_of t)) x h in
@@ -76,17 +96,24 @@ load_typed f n t s x w fits h =
       };
     }
 
-pub load_size : (f : FormTree) (n : ℕ) (t : ByKey) (x : Layout) → node_said f 0 n t ≡ Ok x → (weight x ≡ extent.width f) × (height x ≡ extent.height f)
+pub load_size : (f : FormTree) (n : ℕ) (t : ByKey) (x : Layout) → node_said f 0 n t ≡ Ok x
+    → (weight x ≡ extent.width f) × (height x ≡ extent.height f)
 unfolding node_said
 load_size f n t x h =
-    let is = (refused_or-Ok (broken_from f 0 n (container_of t)) (layout_of f n (container_of t)) x h).1 in
-    (ap weight (sym is) ∙ weight-layout_of f n (container_of t), ap height (sym is) ∙ height-layout_of f n (container_of t))
+    let is =
+    (refused_or-Ok (broken_from f 0 n (container_of t))
+    (layout_of f n (container_of t)) x h).1 in (
+      ap weight (sym is) ∙ weight-layout_of f n (container_of t),
+      ap height (sym is) ∙ height-layout_of f n (container_of t),
+    )
 
 -- and as many items as it was asked for
-pub load_length : (f : FormTree) (n : ℕ) (t : ByKey) (x : Layout) → IsLawful f → node_said f 0 n t ≡ Ok x → len x ≡ n
+pub load_length : (f : FormTree) (n : ℕ) (t : ByKey) (x : Layout) → IsLawful f
+    → node_said f 0 n t ≡ Ok x → len x ≡ n
 unfolding node_said
 load_length f n t x w h =
-    let is = refused_or-Ok (broken_from f 0 n (container_of t)) (layout_of f n (container_of t)) x h in
+    let is =
+    refused_or-Ok (broken_from f 0 n (container_of t)) (layout_of f n (container_of t)) x h in
     subst (λ y. len y ≡ n) is.1 (broken-none f n (container_of t) w is.0).1
 
 pub load_cost : (w : ℕ) (t : ByKey) → budget w t ≤ 8 * (w + 1) * (total_len t + 1)

@@ -22,21 +22,30 @@ size_break-none n h = by (nat_lt item_limit n) refl h
 
 -- ---- places
 
-place_break-none : (m i : ℕ) (r : Option Rule) (others : Option Refusal) → place_break m i r others ≡ None → (r ≡ None) × (others ≡ None)
+place_break-none : (m i : ℕ) (r : Option Rule) (others : Option Refusal)
+    → place_break m i r others ≡ None → (r ≡ None) × (others ≡ None)
 place_break-none m i None others h = (refl, h)
 place_break-none m i (Some rule) others h = absurd (cc)
 
-first_broken-none : (m a n j : ℕ) (rule : ℕ → Option Rule) → first_broken m rule (range_with_len a n) ≡ None → j < n → rule (a + j) ≡ None
+first_broken-none : (m a n j : ℕ) (rule : ℕ → Option Rule)
+    → first_broken m rule (range_with_len a n) ≡ None → j < n → rule (a + j) ≡ None
 first_broken-none m a zero j rule h l = absurd (omega arith)
-first_broken-none m a (suc n) zero rule h l = let e : a + 0 ≡ a = omega arith in rw e (place_break-none m a (rule a) _ h).0
+first_broken-none m a (suc n) zero rule h l =
+    let e : a + 0 ≡ a = omega arith in rw e (place_break-none m a (rule a) _ h).0
 first_broken-none m a (suc n) (suc j) rule h l =
-    let e : a + suc j ≡ (a + 1) + j = omega arith in rw e (first_broken-none m (a + 1) n j rule (place_break-none m a (rule a) _ h).1 (omega arith))
+    let e : a + suc j ≡ (a + 1) + j =
+    omega arith in
+    rw e
+    (first_broken-none m (a + 1) n j rule (place_break-none m a (rule a) _ h).1 (omega arith))
 
 -- each place below n keeps its rule
-pub rule_break-none : (m n i : ℕ) (rule : ℕ → Option Rule) → rule_break m n rule ≡ None → i < n → rule i ≡ None
-rule_break-none m n i rule h l = let e : 0 + i ≡ i = omega arith in rw e at (first_broken-none m 0 n i rule h l)
+pub rule_break-none : (m n i : ℕ) (rule : ℕ → Option Rule) → rule_break m n rule ≡ None → i < n
+    → rule i ≡ None
+rule_break-none m n i rule h l =
+    let e : 0 + i ≡ i = omega arith in rw e at (first_broken-none m 0 n i rule h l)
 
-greatest_from-at : (f : ℕ → ℕ) (a n j : ℕ) → j < n → f (a + j) ≤ greatest (map f (range_with_len a n))
+greatest_from-at : (f : ℕ → ℕ) (a n j : ℕ) → j < n
+    → f (a + j) ≤ greatest (map f (range_with_len a n))
 greatest_from-at f a zero j l = absurd (omega arith)
 greatest_from-at f a (suc n) zero l = let e : a + 0 ≡ a = omega arith in rw e (omega arith)
 greatest_from-at f a (suc n) (suc j) l =
@@ -65,7 +74,9 @@ list_rule-none n a b h l apart = by (int_eq a b) (int_lt b a) (int_lt a (pos 0))
     within (pos j) (negsuc k) p q r = absurd (omega (arith, ints))
     within (negsuc j) (negsuc k) p q r = absurd (omega (arith, ints))
 
-    by : (e l s : Bool) → int_eq a b ≡ e → int_lt b a ≡ l → int_lt a (pos 0) ≡ s → cond e None (cond l (Some Order) (cond s (Some Start) None)) ≡ None → cond e 0 (nat_of b) ≤ n
+    by : (e l s : Bool) → int_eq a b ≡ e → int_lt b a ≡ l → int_lt a (pos 0) ≡ s
+        → cond e None (cond l (Some Order) (cond s (Some Start) None)) ≡ None
+        → cond e 0 (nat_of b) ≤ n
         → (pos 0 ≤ℤ a) × (a ≤ℤ b) × (b ≤ℤ pos n)
     by true l s e f g h r = absurd (apart ((Decides-int_eq a b).0 e))
     by false true s e f g h r = absurd (cc)
@@ -76,7 +87,8 @@ list_rule-none n a b h l apart = by (int_eq a b) (int_lt b a) (int_lt a (pos 0))
         (p, q, within a b p q r)
 
 -- an index that keeps its rule is a place of the items that it needs
-pub index_rule-none : (n : ℕ) (z : ℤ) → index_rule z ≡ None → behind z ≤ n → (pos 0 ≤ℤ z) × (nat_of z < n)
+pub index_rule-none : (n : ℕ) (z : ℤ) → index_rule z ≡ None → behind z ≤ n
+    → (pos 0 ≤ℤ z) × (nat_of z < n)
 index_rule-none n (pos k) h l = (omega (arith, ints), omega arith)
 index_rule-none n (negsuc k) h l = absurd (cc)
 
@@ -86,17 +98,21 @@ below-behind n (pos k) l = omega (arith, ints)
 below-behind n (negsuc k) l = omega (arith, ints)
 
 -- a tag that keeps its rule is the place of an alternative
-pub tag_rule-none : (count : ℕ) (t z : ℤ) → tag_rule count t z ≡ None → (pos 0 ≤ℤ t) × (nat_of t < count) × (index_rule z ≡ None)
+pub tag_rule-none : (count : ℕ) (t z : ℤ) → tag_rule count t z ≡ None
+    → (pos 0 ≤ℤ t) × (nat_of t < count) × (index_rule z ≡ None)
 tag_rule-none count t z h = by t (int_lt t (pos 0)) (int_le (pos count) t) refl refl h
   where
     within : (t : ℤ) → pos 0 ≤ℤ t → t <ℤ pos count → nat_of t < count
     within (pos k) p q = omega (arith, ints)
     within (negsuc k) p q = absurd (omega (arith, ints))
 
-    by : (t : ℤ) (s l : Bool) → int_lt t (pos 0) ≡ s → int_le (pos count) t ≡ l → cond (s || l) (Some Tag) (index_rule z) ≡ None → (pos 0 ≤ℤ t) × (nat_of t < count) × (index_rule z ≡ None)
+    by : (t : ℤ) (s l : Bool) → int_lt t (pos 0) ≡ s → int_le (pos count) t ≡ l
+        → cond (s || l) (Some Tag) (index_rule z) ≡ None
+        → (pos 0 ≤ℤ t) × (nat_of t < count) × (index_rule z ≡ None)
     by t true l e f h = absurd (cc)
     by t false true e f h = absurd (cc)
-    by t false false e f h = let p = int_lt-false t (pos 0) e in (p, within t p (int_le-false (pos count) t f), h)
+    by t false false e f h =
+        let p = int_lt-false t (pos 0) e in (p, within t p (int_le-false (pos count) t f), h)
 
 -- at its own tag an index needs the items up to it
 pub behind_at-own : (t z : ℤ) → pos 0 ≤ℤ t → behind_at (nat_of t) t z ≡ behind z

@@ -46,7 +46,8 @@ int_values (z ∷ zs) = value (int z) (int_values zs)
 -- ---- lists between offsets
 
 abbrev jagged : FormTree
-jagged = form.list_offset (Some (codes "node0")) I64 (form.numpy (Some (codes "node1")) primitive.I64 [])
+jagged =
+    form.list_offset (Some (codes "node0")) I64 (form.numpy (Some (codes "node1")) primitive.I64 [])
 
 abbrev offsets : List ℤ → Entries → Entries
 offsets zs others = (codes "node0-offsets", Ok (int64s zs)) ∷ others
@@ -55,30 +56,43 @@ abbrev numbers_in : List ℕ → Entries
 numbers_in bytes = (codes "node1-data", Ok bytes) ∷ []
 
 abbrev three_lists : Container
-three_lists = holding (offsets (pos 0 ∷ pos 2 ∷ pos 2 ∷ pos 3 ∷ []) (numbers_in (int64s (pos 5 ∷ negsuc 0 ∷ pos 7 ∷ []))))
+three_lists =
+    holding
+    (offsets (pos 0 ∷ pos 2 ∷ pos 2 ∷ pos 3 ∷ [])
+    (numbers_in (int64s (pos 5 ∷ negsuc 0 ∷ pos 7 ∷ []))))
 
 three_lists-unbroken : broken jagged 3 three_lists ≡ None
 three_lists-unbroken = refl
 
-three_lists-items : array_items (layout_of jagged 3 three_lists) ≡ list (int_values (pos 5 ∷ negsuc 0 ∷ [])) ∷ list no_values ∷ list (int_values (pos 7 ∷ [])) ∷ []
+three_lists-items : array_items (layout_of jagged 3 three_lists)
+    ≡ list (int_values (pos 5 ∷ negsuc 0 ∷ [])) ∷ list no_values ∷ list (int_values (pos 7 ∷ []))
+    ∷ []
 three_lists-items = refl
 
 three_lists-type : array_type (layout_of jagged 3 three_lists) ≡ var (leaf primitive.I64)
 three_lists-type = refl
 
 -- the places of a node are judged before the buffers of its content
-stops_early : broken jagged 2 (holding (offsets (pos 0 ∷ pos 3 ∷ pos 2 ∷ []) [])) ≡ Some (invalid 0 Order 1)
+stops_early : broken jagged 2 (holding (offsets (pos 0 ∷ pos 3 ∷ pos 2 ∷ []) []))
+    ≡ Some (invalid 0 Order 1)
 stops_early = refl
 
-no_data : broken jagged 1 (holding (offsets (pos 0 ∷ pos 1 ∷ []) [])) ≡ Some (buffer (codes "node1-data") fault.Absent)
+no_data : broken jagged 1 (holding (offsets (pos 0 ∷ pos 1 ∷ []) []))
+    ≡ Some (buffer (codes "node1-data") fault.Absent)
 no_data = refl
 
-a_byte_too_few : broken jagged 3 (holding (offsets (pos 0 ∷ pos 2 ∷ pos 2 ∷ pos 3 ∷ []) (numbers_in (take 23 (int64s (pos 5 ∷ negsuc 0 ∷ pos 7 ∷ []))))))
+a_byte_too_few : broken jagged 3
+    (holding
+    (offsets (pos 0 ∷ pos 2 ∷ pos 2 ∷ pos 3 ∷ [])
+    (numbers_in (take 23 (int64s (pos 5 ∷ negsuc 0 ∷ pos 7 ∷ []))))))
     ≡ Some (buffer (codes "node1-data") fault.Short)
 a_byte_too_few = refl
 
 abbrev a_byte_more : Container
-a_byte_more = holding (offsets (pos 0 ∷ pos 2 ∷ pos 2 ∷ pos 3 ∷ []) (numbers_in (int64s (pos 5 ∷ negsuc 0 ∷ pos 7 ∷ []) ++ 0 ∷ [])))
+a_byte_more =
+    holding
+    (offsets (pos 0 ∷ pos 2 ∷ pos 2 ∷ pos 3 ∷ [])
+    (numbers_in (int64s (pos 5 ∷ negsuc 0 ∷ pos 7 ∷ []) ++ 0 ∷ [])))
 
 -- further bytes are not looked at
 a_byte_more-unbroken : broken jagged 3 a_byte_more ≡ None
@@ -88,10 +102,12 @@ a_byte_more-same : layout_of jagged 3 a_byte_more ≡ layout_of jagged 3 three_l
 a_byte_more-same = refl
 
 -- a list that ends before it starts is out of order, wherever it starts
-ends_below_zero : broken jagged 1 (holding (offsets (pos 0 ∷ negsuc 0 ∷ []) (numbers_in []))) ≡ Some (invalid 0 Order 0)
+ends_below_zero : broken jagged 1 (holding (offsets (pos 0 ∷ negsuc 0 ∷ []) (numbers_in [])))
+    ≡ Some (invalid 0 Order 0)
 ends_below_zero = refl
 
-starts_below_zero : broken jagged 1 (holding (offsets (negsuc 0 ∷ pos 1 ∷ []) (numbers_in []))) ≡ Some (invalid 0 Start 0)
+starts_below_zero : broken jagged 1 (holding (offsets (negsuc 0 ∷ pos 1 ∷ []) (numbers_in [])))
+    ≡ Some (invalid 0 Start 0)
 starts_below_zero = refl
 
 abbrev far_away : Container
@@ -104,17 +120,20 @@ far_away-unbroken = refl
 far_away-items : array_items (layout_of jagged 1 far_away) ≡ list no_values ∷ []
 far_away-items = refl
 
-too_many_items : broken jagged 1 (holding (offsets (pos 0 ∷ pos 9223372036854775807 ∷ []) (numbers_in []))) ≡ Some too_many
+too_many_items : broken jagged 1
+    (holding (offsets (pos 0 ∷ pos 9223372036854775807 ∷ []) (numbers_in []))) ≡ Some too_many
 too_many_items = refl
 
 -- no lists have one offset
-no_offset : broken jagged 0 (holding (offsets [] (numbers_in []))) ≡ Some (buffer (codes "node0-offsets") fault.Short)
+no_offset : broken jagged 0 (holding (offsets [] (numbers_in [])))
+    ≡ Some (buffer (codes "node0-offsets") fault.Short)
 no_offset = refl
 
 one_offset : broken jagged 0 (holding (offsets (pos 8 ∷ []) (numbers_in []))) ≡ None
 one_offset = refl
 
-undecodable : broken jagged 1 (holding ((codes "node0-offsets", Err Base64) ∷ numbers_in [])) ≡ Some (buffer (codes "node0-offsets") fault.Base64)
+undecodable : broken jagged 1 (holding ((codes "node0-offsets", Err Base64) ∷ numbers_in []))
+    ≡ Some (buffer (codes "node0-offsets") fault.Base64)
 undecodable = refl
 
 -- ---- lists between starts and stops
@@ -124,13 +143,17 @@ spans = form.list (Some (codes "l")) I64 U32 (form.numpy (Some (codes "d")) prim
 
 abbrev overlapping : Container
 overlapping =
-    holding ((codes "l-starts", Ok (int64s (pos 0 ∷ pos 0 ∷ []))) ∷ (codes "l-stops", Ok (flat_map (bytes_of kind.U32) (pos 3 ∷ pos 3 ∷ [])))
+    holding
+    ((codes "l-starts", Ok (int64s (pos 0 ∷ pos 0 ∷ [])))
+    ∷ (codes "l-stops", Ok (flat_map (bytes_of kind.U32) (pos 3 ∷ pos 3 ∷ [])))
     ∷ (codes "d-data", Ok (int64s (pos 1 ∷ pos 2 ∷ pos 3 ∷ []))) ∷ [])
 
 overlapping-unbroken : broken spans 2 overlapping ≡ None
 overlapping-unbroken = refl
 
-overlapping-items : array_items (layout_of spans 2 overlapping) ≡ list (int_values (pos 1 ∷ pos 2 ∷ pos 3 ∷ [])) ∷ list (int_values (pos 1 ∷ pos 2 ∷ pos 3 ∷ [])) ∷ []
+overlapping-items : array_items (layout_of spans 2 overlapping)
+    ≡ list (int_values (pos 1 ∷ pos 2 ∷ pos 3 ∷ []))
+    ∷ list (int_values (pos 1 ∷ pos 2 ∷ pos 3 ∷ [])) ∷ []
 overlapping-items = refl
 
 -- ---- EmptyArray and RegularArray
@@ -151,10 +174,12 @@ hollow-type : array_type (layout_of hollow 2 (holding [])) ≡ reg 0 unknown
 hollow-type = refl
 
 -- a list with a size holds an item of the EmptyArray
-not_hollow : broken (form.regular None 1 (form.empty None)) 2 (holding []) ≡ Some (invalid 1 Empty 0)
+not_hollow : broken (form.regular None 1 (form.empty None)) 2 (holding [])
+    ≡ Some (invalid 1 Empty 0)
 not_hollow = refl
 
-vast : broken (form.regular None 1099511627776 (form.row None (Some []) no_forms)) 1 (holding []) ≡ Some too_many
+vast : broken (form.regular None 1099511627776 (form.row None (Some []) no_forms)) 1 (holding [])
+    ≡ Some too_many
 vast = refl
 
 -- ---- NumpyArray
@@ -169,8 +194,11 @@ blocks-unbroken : broken blocks 2 four_bytes ≡ None
 blocks-unbroken = refl
 
 blocks-items : array_items (layout_of blocks 2 four_bytes)
-    ≡ list (value (list (int_values (pos 6 ∷ []))) (value (list (int_values (pos 7 ∷ []))) no_values))
-    ∷ list (value (list (int_values (pos 8 ∷ []))) (value (list (int_values (pos 255 ∷ []))) no_values)) ∷ []
+    ≡ list
+    (value (list (int_values (pos 6 ∷ []))) (value (list (int_values (pos 7 ∷ []))) no_values))
+    ∷ list
+    (value (list (int_values (pos 8 ∷ [])))
+    (value (list (int_values (pos 255 ∷ []))) no_values)) ∷ []
 blocks-items = refl
 
 blocks-type : array_type (layout_of blocks 2 four_bytes) ≡ reg 2 (reg 1 (leaf primitive.U8))
@@ -180,44 +208,58 @@ blocks-short : broken blocks 3 four_bytes ≡ Some (buffer (codes "b-data") faul
 blocks-short = refl
 
 -- each product is judged, also where a later inner number is 0
-blocks-too_many : broken (form.numpy (Some (codes "b")) primitive.U8 (1073741824 ∷ 0 ∷ [])) 2 four_bytes ≡ Some too_many
+blocks-too_many : broken
+    (form.numpy (Some (codes "b")) primitive.U8 (1073741824 ∷ 0 ∷ [])) 2 four_bytes ≡ Some too_many
 blocks-too_many = refl
 
 -- ---- indexes and masks
 
-below_zero : broken (form.indexed (Some (codes "i")) I32 (form.numpy (Some (codes "d")) primitive.I8 [])) 2
-    (holding ((codes "i-index", Ok (flat_map (bytes_of kind.I32) (pos 0 ∷ negsuc 0 ∷ []))) ∷ (codes "d-data", Ok (9 ∷ [])) ∷ []))
+below_zero : broken
+    (form.indexed (Some (codes "i")) I32 (form.numpy (Some (codes "d")) primitive.I8 [])) 2
+    (holding
+    ((codes "i-index", Ok (flat_map (bytes_of kind.I32) (pos 0 ∷ negsuc 0 ∷ [])))
+    ∷ (codes "d-data", Ok (9 ∷ [])) ∷ []))
     ≡ Some (invalid 0 Negative 1)
 below_zero = refl
 
 abbrev masked : FormTree
-masked = form.indexed_option (Some (codes "i")) I64 (form.byte_masked (Some (codes "m")) true (form.numpy (Some (codes "d")) primitive.I64 []))
+masked =
+    form.indexed_option (Some (codes "i")) I64
+    (form.byte_masked (Some (codes "m")) true (form.numpy (Some (codes "d")) primitive.I64 []))
 
 abbrev mostly_null : Container
 mostly_null =
-    holding ((codes "i-index", Ok (int64s (negsuc 0 ∷ pos 0 ∷ negsuc 6 ∷ pos 1 ∷ []))) ∷ (codes "m-mask", Ok (0 ∷ 1 ∷ []))
+    holding
+    ((codes "i-index", Ok (int64s (negsuc 0 ∷ pos 0 ∷ negsuc 6 ∷ pos 1 ∷ [])))
+    ∷ (codes "m-mask", Ok (0 ∷ 1 ∷ []))
     ∷ (codes "d-data", Ok (int64s (pos 8 ∷ pos 9 ∷ []))) ∷ [])
 
 mostly_null-unbroken : broken masked 4 mostly_null ≡ None
 mostly_null-unbroken = refl
 
-mostly_null-items : array_items (layout_of masked 4 mostly_null) ≡ null ∷ null ∷ null ∷ int (pos 9) ∷ []
+mostly_null-items : array_items (layout_of masked 4 mostly_null)
+    ≡ null ∷ null ∷ null ∷ int (pos 9) ∷ []
 mostly_null-items = refl
 
 mostly_null-type : array_type (layout_of masked 4 mostly_null) ≡ opt (leaf primitive.I64)
 mostly_null-type = refl
 
 abbrev by_bits : FormTree
-by_bits = form.bit_masked (Some (codes "m")) false false (form.numpy (Some (codes "d")) primitive.I8 [])
+by_bits =
+    form.bit_masked (Some (codes "m")) false false (form.numpy (Some (codes "d")) primitive.I8 [])
 
 abbrev two_bytes : Container
-two_bytes = holding ((codes "m-mask", Ok (0x42 ∷ 0xA0 ∷ [])) ∷ (codes "d-data", Ok (0 ∷ 1 ∷ 2 ∷ 3 ∷ 4 ∷ 5 ∷ 6 ∷ 7 ∷ 8 ∷ 9 ∷ 10 ∷ [])) ∷ [])
+two_bytes =
+    holding
+    ((codes "m-mask", Ok (0x42 ∷ 0xA0 ∷ []))
+    ∷ (codes "d-data", Ok (0 ∷ 1 ∷ 2 ∷ 3 ∷ 4 ∷ 5 ∷ 6 ∷ 7 ∷ 8 ∷ 9 ∷ 10 ∷ [])) ∷ [])
 
 two_bytes-unbroken : broken by_bits 11 two_bytes ≡ None
 two_bytes-unbroken = refl
 
 two_bytes-items : array_items (layout_of by_bits 11 two_bytes)
-    ≡ int (pos 0) ∷ null ∷ int (pos 2) ∷ int (pos 3) ∷ int (pos 4) ∷ int (pos 5) ∷ null ∷ int (pos 7) ∷ null ∷ int (pos 9) ∷ null ∷ []
+    ≡ int (pos 0) ∷ null ∷ int (pos 2) ∷ int (pos 3) ∷ int (pos 4) ∷ int (pos 5) ∷ null
+    ∷ int (pos 7) ∷ null ∷ int (pos 9) ∷ null ∷ []
 two_bytes-items = refl
 
 -- 17 bits lie in three bytes
@@ -229,21 +271,31 @@ one_bit_more = refl
 abbrev mixed : FormTree
 mixed =
     form.union (Some (codes "a")) I64
-    (form.form (form.union (Some (codes "b")) I64 (form.form (form.numpy (Some (codes "c")) primitive.I64 []) (form.form (form.numpy (Some (codes "d")) primitive.Bool []) no_forms)))
+    (form.form
+    (form.union (Some (codes "b")) I64
+    (form.form (form.numpy (Some (codes "c")) primitive.I64 [])
+    (form.form (form.numpy (Some (codes "d")) primitive.Bool []) no_forms)))
     (form.form (form.numpy (Some (codes "e")) primitive.I8 []) no_forms))
 
 abbrev tagged : List ℕ → Container
 tagged tags =
-    holding ((codes "a-tags", Ok tags) ∷ (codes "a-index", Ok (int64s (pos 0 ∷ pos 0 ∷ pos 1 ∷ []))) ∷ (codes "b-tags", Ok (0 ∷ 1 ∷ []))
-    ∷ (codes "b-index", Ok (int64s (pos 0 ∷ pos 0 ∷ []))) ∷ (codes "c-data", Ok (int64s (pos 7 ∷ []))) ∷ (codes "d-data", Ok (1 ∷ [])) ∷ (codes "e-data", Ok (4 ∷ [])) ∷ [])
+    holding
+    ((codes "a-tags", Ok tags) ∷ (codes "a-index", Ok (int64s (pos 0 ∷ pos 0 ∷ pos 1 ∷ [])))
+    ∷ (codes "b-tags", Ok (0 ∷ 1 ∷ []))
+    ∷ (codes "b-index", Ok (int64s (pos 0 ∷ pos 0 ∷ [])))
+    ∷ (codes "c-data", Ok (int64s (pos 7 ∷ []))) ∷ (codes "d-data", Ok (1 ∷ []))
+    ∷ (codes "e-data", Ok (4 ∷ [])) ∷ [])
 
 mixed-unbroken : broken mixed 3 (tagged (0 ∷ 1 ∷ 0 ∷ [])) ≡ None
 mixed-unbroken = refl
 
-mixed-items : array_items (layout_of mixed 3 (tagged (0 ∷ 1 ∷ 0 ∷ []))) ≡ alt 0 (int (pos 7)) ∷ alt 2 (int (pos 4)) ∷ alt 1 (truth true) ∷ []
+mixed-items : array_items (layout_of mixed 3 (tagged (0 ∷ 1 ∷ 0 ∷ [])))
+    ≡ alt 0 (int (pos 7)) ∷ alt 2 (int (pos 4)) ∷ alt 1 (truth true) ∷ []
 mixed-items = refl
 
-mixed-type : array_type (layout_of mixed 3 (tagged (0 ∷ 1 ∷ 0 ∷ []))) ≡ uni (type (leaf primitive.I64) (type (leaf primitive.Bool) (type (leaf primitive.I8) no_types)))
+mixed-type : array_type (layout_of mixed 3 (tagged (0 ∷ 1 ∷ 0 ∷ [])))
+    ≡ uni
+    (type (leaf primitive.I64) (type (leaf primitive.Bool) (type (leaf primitive.I8) no_types)))
 mixed-type = refl
 
 no_such_tag : broken mixed 3 (tagged (0 ∷ 2 ∷ 0 ∷ [])) ≡ Some (invalid 0 Tag 1)
@@ -256,53 +308,79 @@ tag_below_zero = refl
 mixed-nodes : nodes mixed ≡ 5
 mixed-nodes = refl
 
-last_alternative : broken (form.row None None (form.form mixed (form.form (form.empty None) no_forms))) 3 (tagged (0 ∷ 1 ∷ 0 ∷ [])) ≡ Some (invalid 6 Empty 0)
+last_alternative : broken
+    (form.row None None (form.form mixed (form.form (form.empty None) no_forms))) 3
+    (tagged (0 ∷ 1 ∷ 0 ∷ [])) ≡ Some (invalid 6 Empty 0)
 last_alternative = refl
 
 -- ---- what is denoted, place by place over the bytes
 
-three_lists-denoted : denote jagged 3 three_lists ≡ arr (var (leaf primitive.I64)) (list (int_values (pos 5 ∷ negsuc 0 ∷ [])) ∷ list no_values ∷ list (int_values (pos 7 ∷ [])) ∷ [])
+three_lists-denoted : denote jagged 3 three_lists
+    ≡ arr (var (leaf primitive.I64))
+    (list (int_values (pos 5 ∷ negsuc 0 ∷ [])) ∷ list no_values ∷ list (int_values (pos 7 ∷ []))
+    ∷ [])
 three_lists-denoted = refl
 
 far_away-denoted : denote jagged 1 far_away ≡ arr (var (leaf primitive.I64)) (list no_values ∷ [])
 far_away-denoted = refl
 
-overlapping-denoted : denote spans 2 overlapping ≡ arr (var (leaf primitive.I64)) (list (int_values (pos 1 ∷ pos 2 ∷ pos 3 ∷ [])) ∷ list (int_values (pos 1 ∷ pos 2 ∷ pos 3 ∷ [])) ∷ [])
+overlapping-denoted : denote spans 2 overlapping
+    ≡ arr (var (leaf primitive.I64))
+    (list (int_values (pos 1 ∷ pos 2 ∷ pos 3 ∷ [])) ∷ list (int_values (pos 1 ∷ pos 2 ∷ pos 3 ∷ []))
+    ∷ [])
 overlapping-denoted = refl
 
-hollow-denoted : denote hollow 2 (holding []) ≡ arr (reg 0 unknown) (list no_values ∷ list no_values ∷ [])
+hollow-denoted : denote hollow 2 (holding [])
+    ≡ arr (reg 0 unknown) (list no_values ∷ list no_values ∷ [])
 hollow-denoted = refl
 
 blocks-denoted : denote blocks 2 four_bytes
     ≡ arr (reg 2 (reg 1 (leaf primitive.U8)))
-    (list (value (list (int_values (pos 6 ∷ []))) (value (list (int_values (pos 7 ∷ []))) no_values))
-    ∷ list (value (list (int_values (pos 8 ∷ []))) (value (list (int_values (pos 255 ∷ []))) no_values)) ∷ [])
+    (list
+    (value (list (int_values (pos 6 ∷ []))) (value (list (int_values (pos 7 ∷ []))) no_values))
+    ∷ list
+    (value (list (int_values (pos 8 ∷ [])))
+    (value (list (int_values (pos 255 ∷ []))) no_values)) ∷ [])
 blocks-denoted = refl
 
-mostly_null-denoted : denote masked 4 mostly_null ≡ arr (opt (leaf primitive.I64)) (null ∷ null ∷ null ∷ int (pos 9) ∷ [])
+mostly_null-denoted : denote masked 4 mostly_null
+    ≡ arr (opt (leaf primitive.I64)) (null ∷ null ∷ null ∷ int (pos 9) ∷ [])
 mostly_null-denoted = refl
 
 two_bytes-denoted : denote by_bits 11 two_bytes
-    ≡ arr (opt (leaf primitive.I8)) (int (pos 0) ∷ null ∷ int (pos 2) ∷ int (pos 3) ∷ int (pos 4) ∷ int (pos 5) ∷ null ∷ int (pos 7) ∷ null ∷ int (pos 9) ∷ null ∷ [])
+    ≡ arr (opt (leaf primitive.I8))
+    (int (pos 0) ∷ null ∷ int (pos 2) ∷ int (pos 3) ∷ int (pos 4) ∷ int (pos 5) ∷ null
+    ∷ int (pos 7) ∷ null ∷ int (pos 9) ∷ null ∷ [])
 two_bytes-denoted = refl
 
 mixed-denoted : denote mixed 3 (tagged (0 ∷ 1 ∷ 0 ∷ []))
-    ≡ arr (uni (type (leaf primitive.I64) (type (leaf primitive.Bool) (type (leaf primitive.I8) no_types)))) (alt 0 (int (pos 7)) ∷ alt 2 (int (pos 4)) ∷ alt 1 (truth true) ∷ [])
+    ≡ arr
+    (uni
+    (type (leaf primitive.I64)
+    (type (leaf primitive.Bool) (type (leaf primitive.I8) no_types))))
+    (alt 0 (int (pos 7)) ∷ alt 2 (int (pos 4)) ∷ alt 1 (truth true) ∷ [])
 mixed-denoted = refl
 
 -- a row of an indexed and an unmasked content: any byte but 0 is true
 abbrev pairs : FormTree
 pairs =
     form.row None (Some (codes "a" ∷ codes "b" ∷ []))
-    (form.form (form.indexed (Some (codes "i")) I32 (form.numpy (Some (codes "d")) primitive.I8 [])) (form.form (form.unmasked None (form.numpy (Some (codes "e")) primitive.Bool [])) no_forms))
+    (form.form (form.indexed (Some (codes "i")) I32 (form.numpy (Some (codes "d")) primitive.I8 []))
+    (form.form (form.unmasked None (form.numpy (Some (codes "e")) primitive.Bool [])) no_forms))
 
 abbrev two_pairs : Container
-two_pairs = holding ((codes "i-index", Ok (flat_map (bytes_of kind.I32) (pos 1 ∷ pos 0 ∷ []))) ∷ (codes "d-data", Ok (9 ∷ 254 ∷ [])) ∷ (codes "e-data", Ok (0 ∷ 7 ∷ [])) ∷ [])
+two_pairs =
+    holding
+    ((codes "i-index", Ok (flat_map (bytes_of kind.I32) (pos 1 ∷ pos 0 ∷ [])))
+    ∷ (codes "d-data", Ok (9 ∷ 254 ∷ [])) ∷ (codes "e-data", Ok (0 ∷ 7 ∷ [])) ∷ [])
 
 two_pairs-unbroken : broken pairs 2 two_pairs ≡ None
 two_pairs-unbroken = refl
 
 two_pairs-denoted : denote pairs 2 two_pairs
-    ≡ arr (rec (codes "a" ∷ codes "b" ∷ []) (type (leaf primitive.I8) (type (opt (leaf primitive.Bool)) no_types)))
-    (row (value (int (negsuc 1)) (value (truth false) no_values)) ∷ row (value (int (pos 9)) (value (truth true) no_values)) ∷ [])
+    ≡ arr
+    (rec (codes "a" ∷ codes "b" ∷ [])
+    (type (leaf primitive.I8) (type (opt (leaf primitive.Bool)) no_types)))
+    (row (value (int (negsuc 1)) (value (truth false) no_values))
+    ∷ row (value (int (pos 9)) (value (truth true) no_values)) ∷ [])
 two_pairs-denoted = refl

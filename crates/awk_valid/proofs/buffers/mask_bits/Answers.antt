@@ -4,4 +4,5 @@ use Rattle.awk_store.proofs.Texts.{undecoded_len-≤}
 use Rattle.awk_valid.proofs.buffers.mask_bits.Goals as goal
 
 pub returns-clause-cost : goal.returns-clause-cost
-returns-clause-cost g c = omega (arith, c.bits_at.ensures.cost, undecoded_len-≤ c.args.store.now c.deref.result.now)
+returns-clause-cost g c =
+    omega (arith, c.bits_at.ensures.cost, undecoded_len-≤ c.args.store.now c.deref.result.now)

@@ -8,4 +8,5 @@ pub returns-in-None : goal.returns-in-None
 returns-in-None c = ap judged (indexes-clear c.args.node c.args.index.now (sym c.in-None.ensures))
 
 pub returns-in-Some : goal.returns-in-Some
-returns-in-Some c = ap judged (indexes-broken c.args.node c.in-Some.place c.args.index.now (sym c.in-Some.ensures))
+returns-in-Some c =
+    ap judged (indexes-broken c.args.node c.in-Some.place c.args.index.now (sym c.in-Some.ensures))

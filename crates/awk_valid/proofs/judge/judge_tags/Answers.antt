@@ -7,10 +7,14 @@ use Rattle.awk_valid.proofs.judge.judge_tags.Goals as goal
 
 pub returns-in-Some : goal.returns-in-Some
 returns-in-Some c =
-    ap judged (rule_break-first c.args.node (length c.args.tags.now) c.loop-place.place (tag_rules c.args.alternatives c.args.tags.now c.args.index.now) c.in-Some.rule
+    ap judged
+    (rule_break-first c.args.node (length c.args.tags.now) c.loop-place.place
+    (tag_rules c.args.alternatives c.args.tags.now c.args.index.now) c.in-Some.rule
     (omega (arith, c.loop-place-test.true)) c.loop-place.invariant (sym c.in-Some.ensures))
 
 pub returns : goal.returns
 returns c =
-    ap judged (rule_break-clear c.args.node (length c.args.tags.now) (tag_rules c.args.alternatives c.args.tags.now c.args.index.now)
+    ap judged
+    (rule_break-clear c.args.node (length c.args.tags.now)
+    (tag_rules c.args.alternatives c.args.tags.now c.args.index.now)
     (λ k l. c.loop-place.invariant k (omega (arith, c.loop-place-test.false))))

@@ -5,5 +5,6 @@ use Rattle.awk_valid.proofs.lanes.first_numbers.Goals as goal
 
 pub returns : goal.returns
 returns c =
-    first_numbers-some c.args.kind c.args.n c.args.bytes.now c.new.result (omega (arith, c.width.ensures.value)) (rw c.width.ensures.value at c.if-bytes-size.false)
+    first_numbers-some c.args.kind c.args.n c.args.bytes.now c.new.result
+    (omega (arith, c.width.ensures.value)) (rw c.width.ensures.value at c.if-bytes-size.false)
     c.new.ensures.kind (rw c.width.ensures.value at c.new.ensures.items)

@@ -7,4 +7,6 @@ use Rattle.awk_valid.proofs.lengths.judged_tags.Goals as goal
 
 pub tag_lengths-requires-clause-judged : goal.tag_lengths-requires-clause-judged
 tag_lengths-requires-clause-judged c = λ k l.
-    rule_break-none c.args.node (length c.args.tags.now) k (tag_rules c.args.alternatives c.args.tags.now c.args.index.now) ((refused_or-Ok _ _ _ c.in_ok-judge_tags.ensures).0) l
+    rule_break-none c.args.node (length c.args.tags.now) k
+    (tag_rules c.args.alternatives c.args.tags.now c.args.index.now)
+    ((refused_or-Ok _ _ _ c.in_ok-judge_tags.ensures).0) l

@@ -4,4 +4,5 @@ use Rattle.awk_valid.specs.Needs.{lists_length}
 use Rattle.awk_valid.proofs.lengths.spans_length.Given as goal
 
 abbrev pub invariant-loop-place : goal.invariant-loop-place
-invariant-loop-place l = l.most ≡ lists_length l.place (λ i. get_or l.starts i (pos 0)) (λ i. get_or l.stops i (pos 0))
+invariant-loop-place l =
+    l.most ≡ lists_length l.place (λ i. get_or l.starts i (pos 0)) (λ i. get_or l.stops i (pos 0))

@@ -11,52 +11,116 @@ use Rattle.awk_valid.proofs.WalkLaws.{own-said}
 use Rattle.awk_valid.proofs.parts.own_part.Goals as goal
 
 pub returns-in-Empty-clause-answer : goal.returns-in-Empty-clause-answer
-returns-in-Empty-clause-answer g c = own-said _ _ _ _ _ _ (form-Empty c.args.form.now c.in-Empty.is) (c.empty.ensures.answer (out-Form c.args.form.now).key c.args.store.now.texts)
+returns-in-Empty-clause-answer g c =
+    own-said
+    (form_of c.args.form.now) _ c.args.spot.node c.args.spot.n c.args.store.now.texts
+    c.empty.result (form-Empty c.args.form.now c.in-Empty.is)
+    (c.empty.ensures.answer (out-Form c.args.form.now).key c.args.store.now.texts)
 
 pub returns-in-Numpy-clause-answer : goal.returns-in-Numpy-clause-answer
-returns-in-Numpy-clause-answer g c = own-said _ _ _ _ _ _ (form-Numpy c.args.form.now c.in-Numpy.prim c.in-Numpy.inner c.in-Numpy.is) (c.numbers.ensures.answer c.args.spot.node)
+returns-in-Numpy-clause-answer g c =
+    own-said
+    (form_of c.args.form.now) _ c.args.spot.node c.args.spot.n c.args.store.now.texts
+    c.numbers.result (form-Numpy c.args.form.now c.in-Numpy.prim c.in-Numpy.inner c.in-Numpy.is)
+    (c.numbers.ensures.answer c.args.spot.node)
 
 pub returns-in-Numpy-clause-cost : goal.returns-in-Numpy-clause-cost
 returns-in-Numpy-clause-cost g c =
-    let inner = ap (λ f. length (inner_shape f)) (form-Numpy c.args.form.now c.in-Numpy.prim c.in-Numpy.inner c.in-Numpy.is) in
+    let inner =
+    ap (λ f. length (inner_shape f))
+    (form-Numpy c.args.form.now c.in-Numpy.prim c.in-Numpy.inner c.in-Numpy.is) in
     omega (arith, inner, c.numbers.ensures.cost)
 
 pub returns-in-Regular-clause-answer : goal.returns-in-Regular-clause-answer
-returns-in-Regular-clause-answer g c = own-said _ _ _ _ _ _ (form-Regular c.args.form.now c.in-Regular.size c.in-Regular.content c.in-Regular.is) (c.regular.ensures (out-Form c.args.form.now).key (form_of c.in-Regular.content.value) c.args.store.now.texts)
+returns-in-Regular-clause-answer g c =
+    own-said
+    (form_of c.args.form.now) _ c.args.spot.node c.args.spot.n c.args.store.now.texts
+    c.regular.result
+    (form-Regular c.args.form.now c.in-Regular.size c.in-Regular.content c.in-Regular.is)
+    (c.regular.ensures (out-Form c.args.form.now).key
+    (form_of c.in-Regular.content.value) c.args.store.now.texts)
 
 pub returns-in-List-clause-answer : goal.returns-in-List-clause-answer
-returns-in-List-clause-answer g c = own-said _ _ _ _ _ _ (form-List c.args.form.now c.in-List.starts c.in-List.stops c.in-List.content c.in-List.is) (c.list.ensures.answer (form_of c.in-List.content.value))
+returns-in-List-clause-answer g c =
+    own-said
+    (form_of c.args.form.now) _ c.args.spot.node c.args.spot.n c.args.store.now.texts
+    c.list.result
+    (form-List c.args.form.now c.in-List.starts c.in-List.stops c.in-List.content c.in-List.is)
+    (c.list.ensures.answer (form_of c.in-List.content.value))
 
 pub returns-in-ListOffset-clause-answer : goal.returns-in-ListOffset-clause-answer
-returns-in-ListOffset-clause-answer g c = own-said _ _ _ _ _ _ (form-ListOffset c.args.form.now c.in-ListOffset.offsets c.in-ListOffset.content c.in-ListOffset.is) (c.list_offset.ensures.answer (form_of c.in-ListOffset.content.value))
+returns-in-ListOffset-clause-answer g c =
+    own-said
+    (form_of c.args.form.now) _ c.args.spot.node c.args.spot.n c.args.store.now.texts
+    c.list_offset.result
+    (form-ListOffset c.args.form.now c.in-ListOffset.offsets c.in-ListOffset.content
+    c.in-ListOffset.is) (c.list_offset.ensures.answer (form_of c.in-ListOffset.content.value))
 
 pub returns-in-Indexed-clause-answer : goal.returns-in-Indexed-clause-answer
-returns-in-Indexed-clause-answer g c = own-said _ _ _ _ _ _ (form-Indexed c.args.form.now c.in-Indexed.index c.in-Indexed.content c.in-Indexed.is) (c.indexed.ensures.answer (form_of c.in-Indexed.content.value))
+returns-in-Indexed-clause-answer g c =
+    own-said
+    (form_of c.args.form.now) _ c.args.spot.node c.args.spot.n c.args.store.now.texts
+    c.indexed.result
+    (form-Indexed c.args.form.now c.in-Indexed.index c.in-Indexed.content c.in-Indexed.is)
+    (c.indexed.ensures.answer (form_of c.in-Indexed.content.value))
 
 pub returns-in-IndexedOption-clause-answer : goal.returns-in-IndexedOption-clause-answer
-returns-in-IndexedOption-clause-answer g c = own-said _ _ _ _ _ _ (form-IndexedOption c.args.form.now c.in-IndexedOption.index c.in-IndexedOption.content c.in-IndexedOption.is) (c.indexed_option.ensures.answer (form_of c.in-IndexedOption.content.value))
+returns-in-IndexedOption-clause-answer g c =
+    own-said
+    (form_of c.args.form.now) _ c.args.spot.node c.args.spot.n c.args.store.now.texts
+    c.indexed_option.result
+    (form-IndexedOption c.args.form.now c.in-IndexedOption.index c.in-IndexedOption.content
+    c.in-IndexedOption.is)
+    (c.indexed_option.ensures.answer (form_of c.in-IndexedOption.content.value))
 
 pub returns-in-ByteMasked-clause-answer : goal.returns-in-ByteMasked-clause-answer
-returns-in-ByteMasked-clause-answer g c = own-said _ _ _ _ _ _ (form-ByteMasked c.args.form.now c.in-ByteMasked.valid_when c.in-ByteMasked.content c.in-ByteMasked.is) (c.byte_masked.ensures.answer (form_of c.in-ByteMasked.content.value))
+returns-in-ByteMasked-clause-answer g c =
+    own-said
+    (form_of c.args.form.now) _ c.args.spot.node c.args.spot.n c.args.store.now.texts
+    c.byte_masked.result
+    (form-ByteMasked c.args.form.now c.in-ByteMasked.valid_when c.in-ByteMasked.content
+    c.in-ByteMasked.is) (c.byte_masked.ensures.answer (form_of c.in-ByteMasked.content.value))
 
 pub returns-in-BitMasked-clause-answer : goal.returns-in-BitMasked-clause-answer
-returns-in-BitMasked-clause-answer g c = own-said _ _ _ _ _ _ (form-BitMasked c.args.form.now c.in-BitMasked.valid_when c.in-BitMasked.lsb_order c.in-BitMasked.content c.in-BitMasked.is) (c.bit_masked.ensures.answer (form_of c.in-BitMasked.content.value))
+returns-in-BitMasked-clause-answer g c =
+    own-said
+    (form_of c.args.form.now) _ c.args.spot.node c.args.spot.n c.args.store.now.texts
+    c.bit_masked.result
+    (form-BitMasked c.args.form.now c.in-BitMasked.valid_when c.in-BitMasked.lsb_order
+    c.in-BitMasked.content c.in-BitMasked.is)
+    (c.bit_masked.ensures.answer (form_of c.in-BitMasked.content.value))
 
 pub returns-in-Row-clause-answer : goal.returns-in-Row-clause-answer
 returns-in-Row-clause-answer g c =
     let fs = forms_of c.in-Row.contents in
-    own-said _ _ _ _ _ _ (form-Row c.args.form.now c.in-Row.names c.in-Row.contents c.in-Row.is) (c.row.ensures (out-Form c.args.form.now).key (forms_from fs) c.args.store.now.texts (count-from fs ∙ sym c.len.ensures))
+    own-said
+    (form_of c.args.form.now) _ c.args.spot.node c.args.spot.n c.args.store.now.texts
+    c.row.result (form-Row c.args.form.now c.in-Row.names c.in-Row.contents c.in-Row.is)
+    (c.row.ensures (out-Form c.args.form.now).key (forms_from fs) c.args.store.now.texts
+    (count-from fs ∙ sym c.len.ensures))
 
 pub returns-in-Unmasked-clause-answer : goal.returns-in-Unmasked-clause-answer
-returns-in-Unmasked-clause-answer g c = own-said _ _ _ _ _ _ (form-Unmasked c.args.form.now c.in-Unmasked.content c.in-Unmasked.is) (c.unmasked.ensures (out-Form c.args.form.now).key (form_of c.in-Unmasked.content.value) c.args.store.now.texts)
+returns-in-Unmasked-clause-answer g c =
+    own-said
+    (form_of c.args.form.now) _ c.args.spot.node c.args.spot.n c.args.store.now.texts
+    c.unmasked.result (form-Unmasked c.args.form.now c.in-Unmasked.content c.in-Unmasked.is)
+    (c.unmasked.ensures (out-Form c.args.form.now).key
+    (form_of c.in-Unmasked.content.value) c.args.store.now.texts)
 
 pub union-requires : goal.union-requires
 union-requires g c =
     let fs = forms_of c.in-Union.contents in
-    let lawful = subst IsLawful (form-Union c.args.form.now c.in-Union.index c.in-Union.contents c.in-Union.is) c.requires.lawful in
+    let lawful =
+    subst IsLawful
+    (form-Union c.args.form.now c.in-Union.index c.in-Union.contents c.in-Union.is)
+    c.requires.lawful in
     record { few = omega (arith, lawful.2, count-from fs, c.len-in-Union.ensures) }
 
 pub returns-in-Union-clause-answer : goal.returns-in-Union-clause-answer
 returns-in-Union-clause-answer g c =
     let fs = forms_of c.in-Union.contents in
-    own-said _ _ _ _ _ _ (form-Union c.args.form.now c.in-Union.index c.in-Union.contents c.in-Union.is) (c.union.ensures.answer (forms_from fs) (count-from fs ∙ sym c.len-in-Union.ensures))
+    own-said
+    (form_of c.args.form.now) _ c.args.spot.node c.args.spot.n c.args.store.now.texts
+    c.union.result
+    (form-Union c.args.form.now c.in-Union.index c.in-Union.contents c.in-Union.is)
+    (c.union.ensures.answer (forms_from fs) (count-from fs ∙ sym c.len-in-Union.ensures))

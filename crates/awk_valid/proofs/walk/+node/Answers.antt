@@ -1,55 +1,56 @@
--- A node is told with its own break, then with those of its contents in order, and is its own part over them.
-use Rattle.std.proofs.Common.{◌≡◌, ◌<◌, ◌≤◌, ◌+◌, ◌++◌, ◌∷◌, [], length, Ok, Err, arith, rules, sym, ap, ap₂, ◌∙◌, subst}
-use Rattle.std.proofs.lemmas.List.{get_or_default}
-use Rattle.awk_types.proofs.RefusalLaws.{Gives-Err}
+-- A node is told with its own break, then with those of its contents in order, and is its own part
+-- over them.
+use Rattle.std.proofs.Common.{◌≡◌, ◌<◌, ◌≤◌, ◌+◌, ◌++◌, ◌∷◌, [], Ok, arith, rules, sym, ap, ap₂, ◌∙◌, subst}
 use Rattle.awk_types.specs.Gives.{Told}
 use Rattle.awk_layout.specs.Valid.{IsValid}
-use Rattle.awk_form.specs.FormTree.{form_list}
-use Rattle.awk_form.specs.Lawful.{count, AreLawful}
+use Rattle.awk_form.specs.Induction.{nodes-contents}
+use Rattle.awk_form.specs.FormTree.{contents_of}
+use Rattle.awk_form.specs.Lawful.{AreLawful, count}
+use Rattle.awk_form.specs.Measures.{nodes_of}
 use Rattle.awk_form.specs.View.{form_of}
 use Rattle.awk_form.specs.declared.form.Shape.{the_lemmas}
-use Rattle.awk_form.specs.Measures.{inner_shape, nodes_of}
 use Rattle.awk_valid.specs.Loading.{told}
-use Rattle.awk_form.specs.FormTree.{contents_of}
-use Rattle.awk_valid.specs.Parts.{over}
-use Rattle.awk_form.specs.Measures as extent
-use Rattle.awk_valid.specs.Walked.{left_said, budget}
-use Rattle.awk_form.specs.Induction.{nodes-contents}
-use Rattle.awk_valid.proofs.WalkLaws.{budget-node, width-split, told-own, left-all, lengths-own, rest-all, rest-none, rest-lawful, rest-nodes, rest-budget, lawful-over, left-told, left-next, left-none, said-valid}
+use Rattle.awk_valid.specs.Container.{container_of}
+use Rattle.awk_valid.specs.Parts.{own_of, over}
+use Rattle.awk_valid.specs.Walked.{node_said, left_said}
+use Rattle.awk_valid.proofs.FaultLaws.{Gives-fails}
+use Rattle.awk_valid.proofs.WalkLaws.{steps-own, steps-within, steps-first, steps-next, told-own, left-all, own-count, own-length, rest-all, rest-none, rest-lawful, rest-nodes, lawful-over, left-told, left-next, left-none, said-valid}
 use Rattle.awk_valid.proofs.walk.+node.Goals as goal
 
 pub returns-in_err-own-clause-answer : goal.returns-in_err-own-clause-answer
 returns-in_err-own-clause-answer g t' c =
     let e = c.in_err-own.field-0.0 in
-    let failed : c.from_residual-in_err-own.result ≡ Err e = grind arith in
-    Gives-Err _ _ _ e _ failed (told-own (told e) (form_of c.args.form.now) c.args.next.now c.args.n c.args.store.now.texts c.in_err-own.ensures.answer)
+    let f = form_of c.args.form.now in
+    let t = c.args.store.now.texts in
+    Gives-fails (λ x. x) c.from_residual-in_err-own.result e
+    (node_said f c.args.next.now c.args.n t)
+    c.from_residual-in_err-own.ensures.1
+    (told-own (told e) f c.args.next.now c.args.n t c.in_err-own.ensures.answer)
 
 pub returns-in_err-own-clause-cost : goal.returns-in_err-own-clause-cost
 returns-in_err-own-clause-cost g t' c =
     let f = form_of c.args.form.now in
     let t = c.args.store.now.texts in
-    let whole = ap (λ w. budget w t) (width-split f) in
-    omega (arith, whole, budget-node (length (inner_shape f)) (extent.width_of (contents_of f)) t, c.in_err-own.ensures.cost)
+    steps-within _ _ _ (steps-own f t _ _ c.in_err-own.ensures.cost)
 
 pub loop-i-init : goal.loop-i-init
 loop-i-init g t' c =
     let f = form_of c.args.form.now in
     let t = c.args.store.now.texts in
     let n = c.args.n in
-    let own = left-all f c.args.next.now n t c.in_ok-own.own c.in_ok-own.lengths.items c.in_ok-own.ensures.answer in
-    let lengths = lengths-own f n t c.in_ok-own.lengths.items own.2 in
-    let all = rest-all f in
+    let own =
+    left-all f c.args.next.now n t c.in_ok-own.own c.in_ok-own.lengths.items
+    c.in_ok-own.ensures.answer in
     let next : c.in_ok-next.field-0 ≡ c.args.next.now + 1 = first_of (cc, grind arith) in
-    let none : c.new-contents.result.items ≡ [] = c.new-contents.ensures.items in
-    let whole = ap (λ w. budget w t) (width-split f) in
-    let left = ap (λ gs. budget (extent.width_of gs) t) all in
     record {
-      lawful = subst AreLawful (sym all) (lawful-over f c.requires.lawful);
+      lawful = subst AreLawful (sym (rest-all f)) (lawful-over f c.requires.lawful);
       own = own.1;
-      said = own.0 ∙ ap₂ (λ j xs. left_said f n 0 j xs t) (sym next) (sym none);
-      next = omega (arith, next, ap nodes_of all, nodes-contents f);
+      said =
+          own.0
+          ∙ ap₂ (λ j xs. left_said f n 0 j xs t) (sym next) (sym c.new-contents.ensures.items);
+      next = omega (arith, next, ap nodes_of (rest-all f), nodes-contents f);
       texts = c.in_ok-own.ensures.texts;
-      cost = omega (arith, whole, left, budget-node (length (inner_shape f)) (extent.width_of (contents_of f)) t, c.in_ok-own.ensures.cost);
+      cost = steps-first f t _ _ c.in_ok-own.ensures.cost;
     }
 
 pub content_at-requires : goal.content_at-requires
@@ -57,16 +58,19 @@ content_at-requires g t' c =
     let f = form_of c.args.form.now in
     let t = c.args.store.now.texts in
     let n = c.args.n in
-    let own = left-all f c.args.next.now n t c.in_ok-own.own c.in_ok-own.lengths.items c.in_ok-own.ensures.answer in
-    let lengths = lengths-own f n t c.in_ok-own.lengths.items own.2 in
-    let i = c.loop-i.i in
-    let within : i < count (contents_of f) = omega (arith, lengths.0, c.loop-i-test.true, c.len-i-end.ensures) in
+    let counted =
+    own-count f c.args.next.now n t c.in_ok-own.own c.in_ok-own.lengths.items
+    c.in_ok-own.ensures.answer in
+    let within : c.loop-i.i < count (contents_of f) =
+    omega (arith, counted, c.loop-i-test.true, c.len-i-end.ensures) in
     record { within = within }
 
 pub node-requires : goal.node-requires
 node-requires g t' c =
     let below = c.content_at.ensures.below in
-    let lawful = (rest-lawful (form_of c.args.form.now) (form_of c.content_at.result.now) c.loop-i.i c.content_at.ensures.item c.loop-i.invariant.lawful).0 in
+    let lawful =
+    (rest-lawful (form_of c.args.form.now) (form_of c.content_at.result.now) c.loop-i.i
+    c.content_at.ensures.item c.loop-i.invariant.lawful).0 in
     search (rules, the_lemmas)
 
 pub returns-in_err-content-clause-answer : goal.returns-in_err-content-clause-answer
@@ -75,52 +79,79 @@ returns-in_err-content-clause-answer g t' c =
     let f = form_of c.args.form.now in
     let t = c.args.store.now.texts in
     let n = c.args.n in
-    let own = left-all f c.args.next.now n t c.in_ok-own.own c.in_ok-own.lengths.items c.in_ok-own.ensures.answer in
-    let lengths = lengths-own f n t c.in_ok-own.lengths.items own.2 in
-    let i = c.loop-i.i in
-    let within : i < count (contents_of f) = omega (arith, lengths.0, c.loop-i-test.true, c.len-i-end.ensures) in
-    let at = c.content_at.ensures.item in
-    let size = c.index.ensures ∙ get_or_default c.in_ok-own.lengths.items i c.index.result.now 0 (omega (arith, lengths.0, within)) ∙ lengths.1 i within in
-    let failed : c.from_residual-in_err-content.result ≡ Err e = grind arith in
-    Gives-Err _ _ _ e _ failed (subst (Told (told e)) (sym c.loop-i.invariant.said)
-    (left-told (told e) f (form_of c.content_at.result.now) n i c.loop-i.next c.index.result.now c.loop-i.contents.items t c.loop-i.store.texts at size c.loop-i.invariant.texts c.in_err-content.ensures.answer))
+    let counted =
+    own-count f c.args.next.now n t c.in_ok-own.own c.in_ok-own.lengths.items
+    c.in_ok-own.ensures.answer in
+    let within : c.loop-i.i < count (contents_of f) =
+    omega (arith, counted, c.loop-i-test.true, c.len-i-end.ensures) in
+    let size =
+    own-length f c.args.next.now n t c.in_ok-own.own c.in_ok-own.lengths.items c.loop-i.i
+    c.index.result.now c.in_ok-own.ensures.answer within c.index.ensures in
+    Gives-fails (λ x. x) c.from_residual-in_err-content.result e (node_said f c.args.next.now n t)
+    c.from_residual-in_err-content.ensures.1
+    (subst (Told (told e)) (sym c.loop-i.invariant.said)
+    (left-told (told e) f (form_of c.content_at.result.now) n c.loop-i.i c.loop-i.next
+    c.index.result.now c.loop-i.contents.items t c.loop-i.store.texts c.content_at.ensures.item
+    size c.loop-i.invariant.texts c.in_err-content.ensures.answer))
 
 pub returns-in_err-content-clause-cost : goal.returns-in_err-content-clause-cost
 returns-in_err-content-clause-cost g t' c =
     let f = form_of c.args.form.now in
-    let x = form_of c.content_at.result.now in
-    let same = ap (budget (extent.width x)) c.loop-i.invariant.texts in
-    omega (arith, same, rest-budget f x c.loop-i.i c.args.store.now.texts c.content_at.ensures.item, c.loop-i.invariant.cost, c.in_err-content.ensures.cost)
+    let t = c.args.store.now.texts in
+    let later =
+    steps-next f (form_of c.content_at.result.now) c.loop-i.i t c.loop-i.store.texts _ _ _
+    c.content_at.ensures.item c.loop-i.invariant.texts c.loop-i.invariant.cost
+    c.in_err-content.ensures.cost in
+    steps-within _ _ _ later
 
 pub returns-in_err-push-clause-cost : goal.returns-in_err-push-clause-cost
 returns-in_err-push-clause-cost g t' c =
     let f = form_of c.args.form.now in
-    let x = form_of c.content_at.result.now in
-    let same = ap (budget (extent.width x)) c.loop-i.invariant.texts in
-    omega (arith, same, rest-budget f x c.loop-i.i c.args.store.now.texts c.content_at.ensures.item, c.loop-i.invariant.cost, c.in_ok-content.ensures.cost)
+    let t = c.args.store.now.texts in
+    let later =
+    steps-next f (form_of c.content_at.result.now) c.loop-i.i t c.loop-i.store.texts _ _ _
+    c.content_at.ensures.item c.loop-i.invariant.texts c.loop-i.invariant.cost
+    c.in_ok-content.ensures.cost in
+    steps-within _ _ _ later
 
 pub loop-i-preserved : goal.loop-i-preserved
 loop-i-preserved g t' c =
     let f = form_of c.args.form.now in
     let t = c.args.store.now.texts in
     let n = c.args.n in
-    let own = left-all f c.args.next.now n t c.in_ok-own.own c.in_ok-own.lengths.items c.in_ok-own.ensures.answer in
-    let lengths = lengths-own f n t c.in_ok-own.lengths.items own.2 in
+    let counted =
+    own-count f c.args.next.now n t c.in_ok-own.own c.in_ok-own.lengths.items
+    c.in_ok-own.ensures.answer in
+    let within : c.loop-i.i < count (contents_of f) =
+    omega (arith, counted, c.loop-i-test.true, c.len-i-end.ensures) in
+    let size =
+    own-length f c.args.next.now n t c.in_ok-own.own c.in_ok-own.lengths.items c.loop-i.i
+    c.index.result.now c.in_ok-own.ensures.answer within c.index.ensures in
     let i = c.loop-i.i in
-    let within : i < count (contents_of f) = omega (arith, lengths.0, c.loop-i-test.true, c.len-i-end.ensures) in
     let at = c.content_at.ensures.item in
-    let size = c.index.ensures ∙ get_or_default c.in_ok-own.lengths.items i c.index.result.now 0 (omega (arith, lengths.0, within)) ∙ lengths.1 i within in
     let x = form_of c.content_at.result.now in
-    let pushed : c.push.new.self.items ≡ c.loop-i.contents.items ++ c.in_ok-content.content ∷ [] = first_of (cc, grind (arith, c.in_ok-push.ensures.items)) in
-    let same = ap (budget (extent.width x)) c.loop-i.invariant.texts in
+    let pushed : c.push.new.self.items ≡ c.loop-i.contents.items ++ c.in_ok-content.content ∷ [] =
+    first_of (cc, grind (arith, c.in_ok-push.ensures.items)) in
     record {
       lawful = (rest-lawful f x i at c.loop-i.invariant.lawful).1;
       own = c.loop-i.invariant.own;
-      said = c.loop-i.invariant.said ∙ left-next f x n i c.loop-i.next c.node.new.next c.index.result.now c.loop-i.contents.items c.push.new.self.items c.in_ok-content.content t c.loop-i.store.texts at size c.loop-i.invariant.texts
-          c.in_ok-content.ensures.answer c.in_ok-content.ensures.next pushed;
-      next = omega (arith, rest-nodes f x i at, c.in_ok-content.ensures.next, c.loop-i.invariant.next);
+      said =
+          c.loop-i.invariant.said
+          ∙ left-next f x n i c.loop-i.next c.node.new.next c.index.result.now
+          c.loop-i.contents.items c.push.new.self.items c.in_ok-content.content t
+          c.loop-i.store.texts at size c.loop-i.invariant.texts c.in_ok-content.ensures.answer
+          c.in_ok-content.ensures.next pushed;
+      next =
+          omega (
+            arith,
+            rest-nodes f x i at,
+            c.in_ok-content.ensures.next,
+            c.loop-i.invariant.next,
+          );
       texts = c.in_ok-content.ensures.texts ∙ c.loop-i.invariant.texts;
-      cost = omega (arith, same, rest-budget f x i t at, c.loop-i.invariant.cost, c.in_ok-content.ensures.cost);
+      cost =
+          steps-next f x i t c.loop-i.store.texts _ _ _ at c.loop-i.invariant.texts
+          c.loop-i.invariant.cost c.in_ok-content.ensures.cost;
     }
 
 pub over-requires : goal.over-requires
@@ -128,29 +159,44 @@ over-requires g t' c =
     let f = form_of c.args.form.now in
     let t = c.args.store.now.texts in
     let n = c.args.n in
-    let own = left-all f c.args.next.now n t c.in_ok-own.own c.in_ok-own.lengths.items c.in_ok-own.ensures.answer in
-    let lengths = lengths-own f n t c.in_ok-own.lengths.items own.2 in
-    let past : length (form_list (contents_of f)) ≤ c.loop-i.i = omega (arith, lengths.0, c.loop-i-test.false, c.len-i-end.ensures) in
-    let said = c.loop-i.invariant.said ∙ left-none f n c.loop-i.i c.loop-i.next c.loop-i.contents.items t past in
-    record { valid = subst (λ q. IsValid (over n q c.loop-i.contents.items)) c.loop-i.invariant.own (said-valid f c.args.next.now n t _ c.requires.lawful said) }
+    let counted =
+    own-count f c.args.next.now n t c.in_ok-own.own c.in_ok-own.lengths.items
+    c.in_ok-own.ensures.answer in
+    let past : count (contents_of f) ≤ c.loop-i.i =
+    omega (arith, counted, c.loop-i-test.false, c.len-i-end.ensures) in
+    let said =
+    c.loop-i.invariant.said
+    ∙ left-none f n c.loop-i.i c.loop-i.next c.loop-i.contents.items t past in
+    record {
+      valid =
+          subst (λ q. IsValid (over n q c.loop-i.contents.items)) c.loop-i.invariant.own
+          (said-valid f c.args.next.now n t
+          (over n (own_of f n (container_of t)) c.loop-i.contents.items) c.requires.lawful said);
+    }
 
 pub returns-clause-answer : goal.returns-clause-answer
 returns-clause-answer g t' c =
     let f = form_of c.args.form.now in
     let t = c.args.store.now.texts in
     let n = c.args.n in
-    let own = left-all f c.args.next.now n t c.in_ok-own.own c.in_ok-own.lengths.items c.in_ok-own.ensures.answer in
-    let lengths = lengths-own f n t c.in_ok-own.lengths.items own.2 in
-    let past : length (form_list (contents_of f)) ≤ c.loop-i.i = omega (arith, lengths.0, c.loop-i-test.false, c.len-i-end.ensures) in
-    c.loop-i.invariant.said ∙ left-none f n c.loop-i.i c.loop-i.next c.loop-i.contents.items t past
-    ∙ ap (λ q. Ok (over n q c.loop-i.contents.items)) c.loop-i.invariant.own ∙ ap Ok (sym c.in_ok-over.ensures.node)
+    let counted =
+    own-count f c.args.next.now n t c.in_ok-own.own c.in_ok-own.lengths.items
+    c.in_ok-own.ensures.answer in
+    let past : count (contents_of f) ≤ c.loop-i.i =
+    omega (arith, counted, c.loop-i-test.false, c.len-i-end.ensures) in
+    c.loop-i.invariant.said
+    ∙ left-none f n c.loop-i.i c.loop-i.next c.loop-i.contents.items t past
+    ∙ ap (λ q. Ok (over n q c.loop-i.contents.items)) c.loop-i.invariant.own
+    ∙ ap Ok (sym c.in_ok-over.ensures.node)
 
 pub returns-clause-next : goal.returns-clause-next
 returns-clause-next g t' c =
     let f = form_of c.args.form.now in
     let t = c.args.store.now.texts in
     let n = c.args.n in
-    let own = left-all f c.args.next.now n t c.in_ok-own.own c.in_ok-own.lengths.items c.in_ok-own.ensures.answer in
-    let lengths = lengths-own f n t c.in_ok-own.lengths.items own.2 in
-    let past : length (form_list (contents_of f)) ≤ c.loop-i.i = omega (arith, lengths.0, c.loop-i-test.false, c.len-i-end.ensures) in
+    let counted =
+    own-count f c.args.next.now n t c.in_ok-own.own c.in_ok-own.lengths.items
+    c.in_ok-own.ensures.answer in
+    let past : count (contents_of f) ≤ c.loop-i.i =
+    omega (arith, counted, c.loop-i-test.false, c.len-i-end.ensures) in
     omega (arith, ap nodes_of (rest-none f c.loop-i.i past), c.loop-i.invariant.next)

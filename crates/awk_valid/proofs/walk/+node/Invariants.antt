@@ -19,5 +19,6 @@ invariant-loop-i g l =
       said : node_said f l.fn.next l.n given ≡ left_said f l.n l.i l.next l.contents.items given;
       next : l.next + nodes_of (rest f l.i) ≡ l.fn.next + nodes f;
       texts : l.store.texts ≡ given;
-      cost : l.steps + 2 + budget (size.width_of (rest f l.i)) given ≤ l.fn.steps + budget (size.width f) given;
+      cost : l.steps + 2 + budget (size.width_of (rest f l.i)) given
+          ≤ l.fn.steps + budget (size.width f) given;
     }
