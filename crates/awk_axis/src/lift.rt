@@ -13,7 +13,7 @@ ghost use Rattle.awk_axis.specs.Mapped.{AreEven, list_layout, IsAtAxis, IsLifted
 use crate::causes::{Spoil, sooner_spoil};
 use crate::function::{ListOp, Made};
 use crate::place::Reach;
-use crate::opening::{Joined, Opened, joined, opened};
+use crate::opening::{Joined, Opened, join_spans, open_array};
 use awk_lanes::{Arena, Kind, Lane, LaneMaker, NoMemory, Num, Steps};
 use awk_layout::{Array, Arrays, Node, Nodes};
 use awk_types::Names;
@@ -122,7 +122,7 @@ pub fn lifted<'a, F: ListOp, L: Ledger>(
     requires { spec.refusal_at (F.function f.now) k (array_type x.now) ≡ None }
     ensures { IfOk result (IsLifted (F.function f.now) k x.now) }
 {
-    match opened(alloc, x, arena, steps)? {
+    match open_array(alloc, x, arena, steps)? {
         Opened::Unknown => match k {
             Reach::Axis(k) => below_unknown(alloc, f, k, x, arena, steps),
             Reach::Innermost => unreachable!(),
@@ -170,7 +170,7 @@ fn lifted_lists<'a, F: ListOp, L: Ledger>(
     if k.is_here(content.typ()) {
         return at_axis(alloc, f, class, starts, stops, content, arena, steps);
     }
-    match joined(alloc, class, starts, stops, content, arena, steps)? {
+    match join_spans(alloc, class, starts, stops, content, arena, steps)? {
         Joined::TooMany => Ok(Mapped::Spoiled(Spoil::Size)),
         Joined::Lists { offsets, content } => {
             match lifted(alloc, f, k.inner(), &content, arena, steps)? {
