@@ -13,5 +13,9 @@ pub mod Falls
 pub mod KindLaws
 pub mod IfOk
 pub mod AllLaws
-pub mod Judged
+pub mod JudgedTypes
 pub mod GivenTypes
+mod Worked
+pub mod ItemAnswers
+pub mod WholeAnswers
+pub mod OpeningLaws

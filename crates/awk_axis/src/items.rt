@@ -31,7 +31,7 @@ fn too_many(n: u64) -> Option<Spoil>
 }
 
 /// The one of two that is told first.
-#[tactic(auto, using(crate::proofs::Judged::first_some))]
+#[tactic(auto, using(crate::proofs::JudgedTypes::first_some))]
 fn first_of(many: Option<Spoil>, why: Spoil) -> Spoil
     ensures { first_spoil many (Some why) ≡ Some result }
 {

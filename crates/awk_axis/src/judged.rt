@@ -53,7 +53,7 @@ fn limited(why: TypeFault) -> Fault
 
 /// What types tell of the lists inside: why the type is refused, or the limit that the given type
 /// passes.
-#[tactic(auto, using(crate::proofs::Judged::judging))]
+#[tactic(auto, using(crate::proofs::JudgedTypes::judging))]
 pub(crate) fn judged<F: ListOp>(alloc: Global, f: &F, k: Reach, t: &Typ) -> Result<(), Fault>
     ensures { let giving = (F.function f.now).giving in
         let refusal = spec.refusal_at (F.function f.now) k (typ_of t.now) in
@@ -70,7 +70,7 @@ pub(crate) fn judged<F: ListOp>(alloc: Global, f: &F, k: Reach, t: &Typ) -> Resu
 }
 
 /// The same of a whole array as one list.
-#[tactic(auto, using(crate::proofs::Judged::judging))]
+#[tactic(auto, using(crate::proofs::JudgedTypes::judging))]
 pub(crate) fn judged_whole<F: ListOp>(alloc: Global, f: &F, t: &Typ) -> Result<(), Fault>
     ensures { let giving = (F.function f.now).giving in
         let refusal = (F.function f.now).refusal (typ_of t.now) in
@@ -87,7 +87,7 @@ pub(crate) fn judged_whole<F: ListOp>(alloc: Global, f: &F, t: &Typ) -> Result<(
 }
 
 /// The array of a node whose type passes no limit.
-#[tactic(auto, using(crate::proofs::Judged::making))]
+#[tactic(auto, using(crate::proofs::JudgedTypes::making))]
 pub(crate) fn made<'a>(alloc: Global, node: Node<'a>) -> Result<Array<'a>, NoMemory>
     requires { limit (array_type node) ≡ None }
     ensures { IfOk result (λ array. array ≡ node.entry) }

@@ -5,7 +5,7 @@ use Rattle.awk_lanes.specs.Places.{size_of}
 use Rattle.awk_axis.specs.Lanes.{before}
 use Rattle.awk_gather.proofs.MadeLanes.{so_far_pushed, made_size}
 use Rattle.awk_axis.proofs.Offsets.{before-next, before_mono}
-use Rattle.awk_axis.proofs.local_index.offsets.Goals as goal
+use Rattle.awk_axis.proofs.indexes.offsets.Goals as goal
 
 pub finish-requires : goal.finish-requires
 finish-requires g c =

@@ -4,7 +4,7 @@ use Rattle.awk_axis.specs.Lanes.{before, IsTotal}
 use Rattle.awk_gather.specs.Counted.{item_limit}
 use Rattle.awk_axis.proofs.Spans.{lists_within}
 use Rattle.awk_axis.proofs.Offsets.{local-length, local_given, local_spoilt, local_fine}
-use Rattle.awk_axis.proofs.local_index.LocalIndexListOp.column.Goals as goal
+use Rattle.awk_axis.proofs.indexes.LocalIndexListOp.column.Goals as goal
 
 pub total-requires : goal.total-requires
 total-requires g c = record { spans = lists_within c.args._class c.args.starts.now c.args.stops.now c.args._content.now c.requires.lists }

@@ -2,7 +2,7 @@ use Rattle.std.proofs.Common.{◌+◌, ◌<◌, arith}
 use Rattle.awk_lanes.specs.Places.{size_of}
 use Rattle.awk_gather.specs.Counted.{item_limit}
 use Rattle.awk_axis.proofs.Offsets.{total_passed}
-use Rattle.awk_axis.proofs.local_index.total.Goals as goal
+use Rattle.awk_axis.proofs.indexes.total.Goals as goal
 
 pub returns-then-length-sum : goal.returns-then-length-sum
 returns-then-length-sum g c =

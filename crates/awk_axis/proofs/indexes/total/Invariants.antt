@@ -1,7 +1,7 @@
 use Rattle.std.specs.Prelude.{◌≡◌, ◌≤◌}
 use Rattle.awk_axis.specs.Lanes.{before}
 use Rattle.awk_gather.specs.Counted.{item_limit}
-use Rattle.awk_axis.proofs.local_index.total.Given as goal
+use Rattle.awk_axis.proofs.indexes.total.Given as goal
 
 abbrev pub invariant-loop-i : goal.invariant-loop-i
 invariant-loop-i g l = record {

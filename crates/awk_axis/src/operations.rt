@@ -9,7 +9,7 @@ ghost use Rattle.awk_axis.specs.LocalIndex.{local_index_function};
 
 use crate::datum::lift_at;
 use crate::length::Length;
-use crate::local_index::LocalIndex;
+use crate::indexes::LocalIndex;
 use awk_lanes::{Arena, Steps};
 use awk_layout::Datum;
 use awk_types::Fault;
