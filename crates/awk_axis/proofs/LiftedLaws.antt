@@ -1,5 +1,5 @@
 -- What is lifted for each outermost kind of an array, from what is lifted for its contents.
-use Rattle.std.specs.Prelude.{◌≡◌, ℕ, zero, suc, ◌+◌, ◌-◌, ◌*◌, ◌==◌, ◌<◌, ◌≤◌, ◌^◌, nat_lt, refl, Bool, true, false, List, [], ◌∷◌, ◌++◌, map, take, drop, length, slice_get, Option, Some, None, if◌then◌else◌}
+use Rattle.std.specs.Prelude.{◌≡◌, ℕ, zero, suc, min, ◌+◌, ◌-◌, ◌*◌, ◌==◌, ◌<◌, ◌≤◌, ◌^◌, nat_lt, refl, Bool, true, false, List, [], ◌∷◌, ◌++◌, map, take, drop, length, slice_get, Option, Some, None, if◌then◌else◌}
 use Rattle.std.proofs.Common.{arith, ap, sym, ◌∙◌, add-one}
 use Rattle.std.specs.List.{range_with_len, flat_map}
 use Rattle.awk_types.specs.DataType.{Name, DataType, DataTypes, unknown, uni, opt, var, types_from, depth, depths, greatest, row_type}
@@ -178,13 +178,13 @@ no_lists s e x p = ap (λ n. map (items_at s e x) (range_with_len 0 n)) p
 pub unknown_spoiled : (f : ListFunction) (k : ℕ) (s e : Column) (x : Layout) (why : Spoil) → OpensNothing x → size_of s ≡ 0 → f.spoil (array_type x) (all_items_at s e x) ≡ Some why → IsLifted f (Axis k) x (mapped.Spoiled why)
 unknown_spoiled f k s e x why o p h = ap (λ u. spoil_at f (Axis k) u (array_items x)) o.typ ∙ ap (f.spoil unknown) (sym (no_lists s e x p)) ∙ ap (λ u. f.spoil u (all_items_at s e x)) (sym o.typ) ∙ h
 
-pub unknown_lifted : (f : ListFunction) (k : ℕ) (s e : Column) (x y : Layout) → OpensNothing x → size_of s ≡ 0 → f.spoil (array_type x) (all_items_at s e x) ≡ None → IsColumn (nested k (given_type f.giving None (array_type x))) (λ i. null) 0 y → IsLifted f (Axis k) x (mapped.Column y)
-unknown_lifted f k s e x y o p h m =
+pub unknown_lifted : (f : ListFunction) (k n : ℕ) (s e : Column) (x y : Layout) → n ≡ min k 61 → OpensNothing x → size_of s ≡ 0 → f.spoil (array_type x) (all_items_at s e x) ≡ None → IsColumn (nested n (given_type f.giving None (array_type x))) (λ i. null) 0 y → IsLifted f (Axis k) x (mapped.Column y)
+unknown_lifted f k n s e x y b o p h m =
     (ap (λ u. spoil_at f (Axis k) u (array_items x)) o.typ ∙ ap (f.spoil unknown) (sym (no_lists s e x p)) ∙ ap (λ u. f.spoil u (all_items_at s e x)) (sym o.typ) ∙ h,
      record {
        valid = m.valid;
        size = m.size ∙ sym o.none;
-       typ = m.typ ∙ ap (λ u. simple (nested k (given_type f.giving None u))) o.typ ∙ ap (λ u. simple (lifted_type f.giving (Axis k) u)) (sym o.typ);
+       typ = m.typ ∙ ap (λ i. simple (nested i (given_type f.giving None (array_type x)))) b ∙ ap (λ u. simple (nested (min k 61) (given_type f.giving None u))) o.typ ∙ ap (λ u. simple (lifted_type f.giving (Axis k) u)) (sym o.typ);
        items = λ i q. absurd (omega (arith, q, o.none));
      })
 

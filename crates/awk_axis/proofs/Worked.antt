@@ -1,7 +1,9 @@
 -- Worked examples of lifting, each checked by computing.
-use Rattle.std.specs.Prelude.{◌≡◌, List, [], ◌∷◌, map, pos, negsuc, codes, ℤ, Ok, Err, Some, None, true, false, refl}
+use Rattle.std.specs.Prelude.{◌≡◌, List, [], ◌∷◌, map, pos, negsuc, codes, ℤ, Ok, Err, Some, None}
+use Rattle.std.specs.Prelude.{true, false, refl}
 use Rattle.awk_types.specs.declared.primitive.Primitive.TheVariants.{Bool, I64}
-use Rattle.awk_types.specs.DataType.{DataType, unknown, leaf, var, reg, rec, tup, opt, uni, types_from}
+use Rattle.awk_types.specs.DataType.{DataType, unknown, leaf, var, reg, rec, tup, opt, uni}
+use Rattle.awk_types.specs.DataType.{types_from}
 use Rattle.awk_types.specs.Value.{Value, int, truth, null, list, row, alt, values_from}
 use Rattle.awk_types.specs.Datum.{Datum, arr, one}
 use Rattle.awk_axis.specs.Length.{length_function}
@@ -25,11 +27,14 @@ ints zs = list_value (map (λ z. int z) zs)
 
 -- [[1,2,3],[],[4,5]]
 abbrev jagged : Datum
-jagged = arr (var int64) (ints (pos 1 ∷ pos 2 ∷ pos 3 ∷ []) ∷ ints [] ∷ ints (pos 4 ∷ pos 5 ∷ []) ∷ [])
+jagged =
+    arr (var int64) (ints (pos 1 ∷ pos 2 ∷ pos 3 ∷ []) ∷ ints [] ∷ ints (pos 4 ∷ pos 5 ∷ []) ∷ [])
 
 -- [[1,null],null,[3]]
 abbrev holes : Datum
-holes = arr (opt (var (opt int64))) (list_value (int (pos 1) ∷ null ∷ []) ∷ null ∷ ints (pos 3 ∷ []) ∷ [])
+holes =
+    arr (opt (var (opt int64)))
+    (list_value (int (pos 1) ∷ null ∷ []) ∷ null ∷ ints (pos 3 ∷ []) ∷ [])
 
 -- [{"x":[1,2],"y":[[3]]},{"x":[],"y":[[],[4,5]]}]
 abbrev two_rows : Datum
@@ -46,7 +51,8 @@ flat_field = arr (rec (codes "x" ∷ codes "y" ∷ []) (types_from (int64 ∷ va
 num_0 : lift length_function (pos 0) jagged ≡ Ok (one int64 (int (pos 3)))
 num_0 = refl
 
-num_1 : lift length_function (pos 1) jagged ≡ Ok (arr int64 (int (pos 3) ∷ int (pos 0) ∷ int (pos 2) ∷ []))
+num_1 : lift length_function (pos 1) jagged
+    ≡ Ok (arr int64 (int (pos 3) ∷ int (pos 0) ∷ int (pos 2) ∷ []))
 num_1 = refl
 
 num_2 : lift length_function (pos 2) jagged ≡ Err Axis
@@ -58,7 +64,8 @@ num_negative = refl
 num_leaf_beside_list : lift length_function (pos 1) flat_field ≡ Err Axis
 num_leaf_beside_list = refl
 
-num_through_option : lift length_function (pos 1) holes ≡ Ok (arr (opt int64) (int (pos 2) ∷ null ∷ int (pos 1) ∷ []))
+num_through_option : lift length_function (pos 1) holes
+    ≡ Ok (arr (opt int64) (int (pos 2) ∷ null ∷ int (pos 1) ∷ []))
 num_through_option = refl
 
 num_through_rows : lift length_function (pos 1) two_rows
@@ -74,6 +81,9 @@ num_of_unknown_1 = refl
 -- an axis past the depth limit
 num_past_limit : lift length_function (pos 61) (arr unknown []) ≡ Err Depth
 num_past_limit = refl
+
+num_far_past_limit : lift length_function (pos 9223372036854775807) (arr unknown []) ≡ Err Depth
+num_far_past_limit = refl
 
 -- an axis fault of another branch is told first
 num_axis_before_depth : lift length_function (pos 61) (arr (rec (codes "x" ∷ codes "y" ∷ []) (types_from (unknown ∷ int64 ∷ []))) []) ≡ Err Axis
@@ -97,7 +107,8 @@ num_of_one = refl
 num_of_leaf : lift length_function (pos 0) (one int64 (int (pos 5))) ≡ Err Axis
 num_of_leaf = refl
 
-no_fields_no_fault : lift length_function (pos 4) (arr (rec [] (types_from [])) (row_value [] ∷ [])) ≡ Ok (arr (rec [] (types_from [])) (row_value [] ∷ []))
+no_fields_no_fault : lift length_function (pos 4) (arr (rec [] (types_from [])) (row_value [] ∷ []))
+    ≡ Ok (arr (rec [] (types_from [])) (row_value [] ∷ []))
 no_fields_no_fault = refl
 
 -- ---- places
@@ -106,7 +117,8 @@ local_index_1 : lift local_index_function (pos 1) jagged
   ≡ Ok (arr (var int64) (ints (pos 0 ∷ pos 1 ∷ pos 2 ∷ []) ∷ ints [] ∷ ints (pos 0 ∷ pos 1 ∷ []) ∷ []))
 local_index_1 = refl
 
-local_index_0 : lift local_index_function (pos 0) jagged ≡ Ok (arr int64 (int (pos 0) ∷ int (pos 1) ∷ int (pos 2) ∷ []))
+local_index_0 : lift local_index_function (pos 0) jagged
+    ≡ Ok (arr int64 (int (pos 0) ∷ int (pos 1) ∷ int (pos 2) ∷ []))
 local_index_0 = refl
 
 local_index_keeps_class : lift local_index_function (pos 1) (arr (reg 2 (leaf Bool)) (list_value (truth true ∷ truth false ∷ []) ∷ []))
@@ -115,10 +127,12 @@ local_index_keeps_class = refl
 
 -- ---- items that are not null
 
-drop_none_0 : lift drop_none_function (pos 0) holes ≡ Ok (arr (var (opt int64)) (list_value (int (pos 1) ∷ null ∷ []) ∷ ints (pos 3 ∷ []) ∷ []))
+drop_none_0 : lift drop_none_function (pos 0) holes
+    ≡ Ok (arr (var (opt int64)) (list_value (int (pos 1) ∷ null ∷ []) ∷ ints (pos 3 ∷ []) ∷ []))
 drop_none_0 = refl
 
-drop_none_1 : lift drop_none_function (pos 1) holes ≡ Ok (arr (opt (var int64)) (ints (pos 1 ∷ []) ∷ null ∷ ints (pos 3 ∷ []) ∷ []))
+drop_none_1 : lift drop_none_function (pos 1) holes
+    ≡ Ok (arr (opt (var int64)) (ints (pos 1 ∷ []) ∷ null ∷ ints (pos 3 ∷ []) ∷ []))
 drop_none_1 = refl
 
 drop_none_gives_var : lift drop_none_function (pos 1) (arr (reg 1 (opt int64)) (list_value (null ∷ []) ∷ [])) ≡ Ok (arr (var int64) (ints [] ∷ []))
@@ -126,10 +140,12 @@ drop_none_gives_var = refl
 
 -- ---- innermost lists
 
-count_innermost : deep count_function holes ≡ Ok (arr (opt int64) (int (pos 1) ∷ null ∷ int (pos 1) ∷ []))
+count_innermost : deep count_function holes
+    ≡ Ok (arr (opt int64) (int (pos 1) ∷ null ∷ int (pos 1) ∷ []))
 count_innermost = refl
 
-count_whole : deep count_function (arr (opt int64) (int (pos 1) ∷ null ∷ int (pos 3) ∷ [])) ≡ Ok (one int64 (int (pos 2)))
+count_whole : deep count_function (arr (opt int64) (int (pos 1) ∷ null ∷ int (pos 3) ∷ []))
+    ≡ Ok (one int64 (int (pos 2)))
 count_whole = refl
 
 count_below_regular : deep count_function (arr (reg 1 (var int64)) (list_value (ints (pos 6 ∷ pos 7 ∷ []) ∷ []) ∷ [])) ≡ Ok (arr (reg 1 int64) (ints (pos 2 ∷ []) ∷ []))

@@ -26,8 +26,11 @@ pub record JoinsLists (s t : Column) (y : Layout) (o : Column) (z : Layout) : Ty
   pub typ : array_type z ≡ array_type y
   pub valid : IsValid z
   pub offsets : AreOffsets o (size_of s) (len z)
-  pub lengths : (i : ℕ) → i < size_of s → place_at o (i + 1) ≡ place_at o i + (place_at t i - place_at s i)
-  pub lists : (i : ℕ) → i < size_of s → run (array_item y) (place_at s i) (place_at t i - place_at s i) ≡ run (array_item z) (place_at o i) (place_at o (i + 1) - place_at o i)
+  pub lengths : (i : ℕ) → i < size_of s → place_at o (i + 1)
+      ≡ place_at o i + (place_at t i - place_at s i)
+  pub lists : (i : ℕ) → i < size_of s
+      → run (array_item y) (place_at s i) (place_at t i - place_at s i)
+      ≡ run (array_item z) (place_at o i) (place_at o (i + 1) - place_at o i)
   pub column : array_items z ≡ flat_map (items_at s t y) (range_with_len 0 (size_of s))
 
 -- how many items lists have together

@@ -1,5 +1,6 @@
 -- Lanes that are made of lists by their starts and stops.
-use Rattle.std.specs.Prelude.{◌≡◌, ℕ, zero, suc, ◌+◌, ◌-◌, ◌<◌, ◌≤◌, List, [], ◌∷◌, ◌++◌, map, pos, ℤ, Option, Some, None}
+use Rattle.std.specs.Prelude.{◌≡◌, ℕ, zero, suc, ◌+◌, ◌-◌, ◌<◌, ◌≤◌, List, [], ◌∷◌, ◌++◌, map, pos}
+use Rattle.std.specs.Prelude.{ℤ, Option, Some, None}
 use Rattle.std.specs.List.{range_with_len}
 use Rattle.awk_lanes.specs.declared.kind.Kind.{Kind}
 use Rattle.awk_lanes.specs.declared.kind.Kind.TheVariants.{I64}
@@ -28,7 +29,8 @@ offsets_lane s t = lane_of I64 (size_of s + 1) (λ i. pos (before s t i))
 -- the places of the items of the first i lists
 abbrev pub local_places : Column → Column → ℕ → List ℤ
 local_places s t zero = []
-local_places s t (suc i) = local_places s t i ++ map (λ j. pos j) (range_with_len 0 (span_length s t i))
+local_places s t (suc i) =
+    local_places s t i ++ map (λ j. pos j) (range_with_len 0 (span_length s t i))
 
 abbrev pub local_lane : Column → Column → Column
 local_lane s t = record { kind = I64; items = local_places s t (size_of s) }

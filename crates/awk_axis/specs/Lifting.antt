@@ -36,14 +36,16 @@ spoil_fault spoilt.Overflow = fault.Overflow
 
 -- the first of what types tell, of the limit of the type of the result, and of what values tell
 abbrev pub first_told : Option Refusal → Option Limit → Option Spoil → Option Fault
-first_told r l s = option_map refusal_fault r or option_map limit_fault l or option_map spoil_fault s
+first_told r l s =
+    option_map refusal_fault r or option_map limit_fault l or option_map spoil_fault s
 
 -- the whole array as one list: what is given is settled. Of a list that is given the limit is
 -- judged of the type of its items.
 abbrev pub on_whole : ListFunction → DataType → List Value → Result Datum Fault
 on_whole f t vs =
     let u = given_type f.giving None t in
-    let told = first_told (f.refusal t) (limit (simple (made_type f.giving t))) (f.spoil t (vs ∷ [])) in
+    let told =
+        first_told (f.refusal t) (limit (simple (made_type f.giving t))) (f.spoil t (vs ∷ [])) in
     refused_or told (settle (simple u) (simple_value u (given_value f.giving t vs)))
 
 -- the lists inside the items of an array

@@ -1,5 +1,7 @@
--- What the outermost kind of an array tells: its lanes and contents, whose items are columns of those of the array.
-use Rattle.std.specs.Prelude.{◌≡◌, ℕ, zero, suc, ◌+◌, ◌-◌, ◌<◌, ◌≤◌, ◌^◌, List, [], ◌∷◌, length, map, Option, Some, None}
+-- What the outermost kind of an array tells: its lanes and contents, whose items are columns of
+-- those of the array.
+use Rattle.std.specs.Prelude.{◌≡◌, ℕ, zero, suc, ◌+◌, ◌-◌, ◌<◌, ◌≤◌, ◌^◌, List, [], ◌∷◌, length}
+use Rattle.std.specs.Prelude.{map, Option, Some, None}
 use Rattle.std.specs.List.{range_with_len}
 use Rattle.awk_types.specs.DataType.{Name, DataType, unknown, leaf, opt, uni, types_from, row_type}
 use Rattle.awk_types.specs.Value.{Value, Values, null, list, row, alt, no_values, value, value_list}
@@ -17,7 +19,8 @@ use Rattle.awk_gather.specs.InOrder.{AreParts, AreAlternatives}
 use Rattle.awk_gather.specs.Columns.{alternative_values}
 use Rattle.awk_axis.specs.ListFunction.{Class, list_type}
 use Rattle.awk_axis.specs.declared.opening.Opened.{Opened}
-use Rattle.awk_axis.specs.declared.opening.Opened.TheVariants.{Unknown, Leaf, Items, Row, Option as Optional, Union}
+use Rattle.awk_axis.specs.declared.opening.Opened.TheVariants.{Unknown, Leaf, Items, Row}
+use Rattle.awk_axis.specs.declared.opening.Opened.TheVariants.{Option as Optional, Union}
 
 -- the items from a start below a stop, as one list
 abbrev pub items_at : Column → Column → Layout → ℕ → List Value
@@ -42,7 +45,8 @@ pub record OpensLists (class : Class) (s t : Column) (y x : Layout) : Type 0 whe
   pub typ : array_type x ≡ list_type class (array_type y)
   pub lists : AreLists class s t y
   pub size : size_of s ≡ len x
-  pub items : (i : ℕ) → i < len x → array_item x i ≡ list (run (array_item y) (place_at s i) (place_at t i - place_at s i))
+  pub items : (i : ℕ) → i < len x → array_item x i
+      ≡ list (run (array_item y) (place_at s i) (place_at t i - place_at s i))
 
 pub record OpensOption (j : Column) (y x : Layout) : Type 0 where
   pub typ : array_type x ≡ opt (array_type y)
@@ -85,7 +89,8 @@ pub record OpensUnion (t j : Column) (ys : List Layout) (x : Layout) : Type 0 wh
   pub fits : size_of t < 2 ^ 63
   pub union : IsUnion t j (layouts_from ys)
   pub valid : AllValid (layouts_from ys)
-  pub items : (i : ℕ) → i < len x → array_item x i ≡ alt (place_at t i) (item_among ys (place_at t i) (place_at j i))
+  pub items : (i : ℕ) → i < len x → array_item x i
+      ≡ alt (place_at t i) (item_among ys (place_at t i) (place_at j i))
   pub columns : AreAlternatives 0 (array_items x) ys
 
 pub record OpensLeaf (c : Column) (x : Layout) : Type 0 where

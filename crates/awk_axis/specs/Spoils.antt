@@ -1,7 +1,10 @@
--- Why the values of a column are refused: the lists above the axis hold too many items together, or the function
+-- Why the values of a column are refused: the lists above the axis hold too many items together, or
+-- the function
 -- refuses the lists at the axis.
-use Rattle.std.specs.Prelude.{ℕ, suc, ◌-◌, ◌==◌, nat_lt, List, [], ◌∷◌, length, Option, Some, None, if◌then◌else◌}
-use Rattle.awk_types.specs.DataType.{DataType, unknown, leaf, var, reg, rec, tup, opt, uni, DataTypes, no_types, type}
+use Rattle.std.specs.Prelude.{ℕ, suc, ◌-◌, ◌==◌, nat_lt, List, [], ◌∷◌, length, Option, Some, None}
+use Rattle.std.specs.Prelude.{if◌then◌else◌}
+use Rattle.awk_types.specs.DataType.{DataType, unknown, leaf, var, reg, rec, tup, opt, uni}
+use Rattle.awk_types.specs.DataType.{DataTypes, no_types, type}
 use Rattle.awk_types.specs.Value.{Value}
 use Rattle.awk_axis.specs.declared.causes.Spoil.{Spoil}
 use Rattle.awk_axis.specs.declared.causes.Spoil.TheVariants.{Size}
@@ -29,14 +32,17 @@ spoil_among (h ∷ hs) k vs = first_spoil (h (alternative_values k vs)) (spoil_a
 
 -- the lists above the axis, and then what is inside
 abbrev pub spoil_inside : (List Value → Option Spoil) → List Value → Option Spoil
-spoil_inside h vs = if nat_lt item_limit (length (joined_items vs)) then Some Size else h (joined_items vs)
+spoil_inside h vs =
+    if nat_lt item_limit (length (joined_items vs)) then Some Size else h (joined_items vs)
 
 abbrev mutual
   pub spoil_at : ListFunction → Reach → DataType → List Value → Option Spoil
   spoil_at f k unknown vs = f.spoil unknown []
   spoil_at f k (leaf p) vs = None
-  spoil_at f k (var t) vs = if here k t then f.spoil t (lists_among vs) else spoil_inside (spoil_at f (inner k) t) vs
-  spoil_at f k (reg n t) vs = if here k t then f.spoil t (lists_among vs) else spoil_inside (spoil_at f (inner k) t) vs
+  spoil_at f k (var t) vs =
+      if here k t then f.spoil t (lists_among vs) else spoil_inside (spoil_at f (inner k) t) vs
+  spoil_at f k (reg n t) vs =
+      if here k t then f.spoil t (lists_among vs) else spoil_inside (spoil_at f (inner k) t) vs
   spoil_at f k (rec ns ts) vs = spoil_across (spoils_at f k ts) 0 vs
   spoil_at f k (tup ts) vs = spoil_across (spoils_at f k ts) 0 vs
   spoil_at f k (opt t) vs = spoil_at f k t (present_values vs)

@@ -4,7 +4,8 @@ ghost use Rattle.awk_types.specs.View.{typ_of};
 ghost use Rattle.awk_layout.specs.Typing.{array_type};
 ghost use Rattle.awk_axis.specs.Opened.{AreLists};
 ghost use Rattle.awk_axis.specs.Mapped.{IsMade};
-ghost use Rattle.awk_axis.specs.ListFunction.{ListFunction, made_type, given_type, given_class, gives_lists, list_type};
+ghost use Rattle.awk_axis.specs.ListFunction.{ListFunction, made_type, given_type, given_class};
+ghost use Rattle.awk_axis.specs.ListFunction.{gives_lists, list_type};
 
 use crate::causes::{Refusal, Spoil};
 use awk_lanes::{Arena, Lane, Steps};
@@ -35,7 +36,8 @@ pub trait ListOp {
 
     /// The type of the items of a list that is given, or that of a single value.
     fn typ(&self, alloc: Global, item: &Typ) -> Result<Typ, NoMemory>
-        ensures { IfOk result (λ t. typ_of t ≡ made_type (function self.now).giving (typ_of item.now)) };
+        ensures { let giving = (function self.now).giving in
+            IfOk result (λ t. typ_of t ≡ made_type giving (typ_of item.now)) };
 
     /// Whether it gives lists.
     fn gives_lists(&self) -> bool

@@ -5,7 +5,8 @@ ghost use Rattle.awk_layout.specs.Valid.{len};
 ghost use Rattle.awk_layout.specs.Typing.{array_type};
 ghost use Rattle.awk_axis.specs.Lift as spec;
 ghost use Rattle.awk_axis.specs.declared.place.Reach.TheVariants as Reach;
-ghost use Rattle.awk_axis.specs.Opened.{AreLists, OpensLists, OpensOption, OpensRow, OpensUnion, OpensNothing};
+ghost use Rattle.awk_axis.specs.Opened.{AreLists, OpensLists, OpensOption, OpensRow, OpensUnion};
+ghost use Rattle.awk_axis.specs.Opened.{OpensNothing};
 ghost use Rattle.awk_axis.specs.Joined.{AreOffsets};
 ghost use Rattle.awk_axis.specs.Taken.{IsTaken};
 ghost use Rattle.awk_axis.specs.Mapped.{AreEven, list_layout, IsAtAxis, IsLifted, AreLifted};
@@ -13,6 +14,7 @@ ghost use Rattle.awk_axis.specs.Mapped.{AreEven, list_layout, IsAtAxis, IsLifted
 use crate::causes::{Spoil, sooner_spoil};
 use crate::function::{ListOp, Made};
 use crate::place::Reach;
+use crate::types::MOST_LISTS;
 use crate::opening::{Joined, Opened, join_spans, open_array};
 use awk_lanes::{Arena, Kind, Lane, LaneMaker, NoMemory, Num, Steps};
 use awk_layout::{Array, Arrays, Node, Nodes};
@@ -79,7 +81,8 @@ fn at_axis<'a, F: ListOp, L: Ledger>(
     }
 }
 
-/// An array without items, whose type is that of k lists of any length around what is given for lists of unknown.
+/// An array without items, whose type is that of k lists of any length around what is given for
+/// lists of unknown.
 fn below_unknown<'a, F: ListOp, L: Ledger>(
     alloc: Global,
     f: &F,
@@ -93,12 +96,13 @@ fn below_unknown<'a, F: ListOp, L: Ledger>(
     ensures { IfOk result (IsLifted (F.function f.now) (Reach.Axis k) x.now) }
 {
     let none = LaneMaker::new(Kind::I64, 0, arena)?.finish();
+    let above = k.min(MOST_LISTS);
     let _ = x.len();
     match at_axis(alloc, f, None, &none, &none, x, arena, steps)? {
         Mapped::Spoiled(why) => Ok(Mapped::Spoiled(why)),
         Mapped::Column(node) => {
             let mut made = node;
-            for i in 0..k {
+            for i in 0..above {
                 let mut offsets = LaneMaker::new(Kind::I64, 1, arena)?;
                 offsets.push(Num::Int(0));
                 made = Node::list_offset(offsets.finish(), Box::new(alloc, made)?, steps);
@@ -253,7 +257,10 @@ fn lifted_union<'a, F: ListOp, L: Ledger>(
 {
     match lifted_all(alloc, f, k, contents, arena, steps)? {
         AllMapped::Spoiled(why) => Ok(Mapped::Spoiled(why)),
-        AllMapped::Columns(nodes) => Ok(Mapped::Column(Node::union(tags.copy(), index.copy(), nodes, steps))),
+        AllMapped::Columns(nodes) => {
+            let node = Node::union(tags.copy(), index.copy(), nodes, steps);
+            Ok(Mapped::Column(node))
+        }
     }
 }
 
@@ -285,7 +292,8 @@ fn lifted_all<'a, F: ListOp, L: Ledger>(
     arena: &'a Arena,
     steps: &mut Steps<L>,
 ) -> Result<AllMapped<'a>, NoMemory>
-    requires accepted { spec.refusal_among (F.function f.now) k (types_from (map array_type xs.now)) ≡ None }
+    requires accepted { let types = types_from (map array_type xs.now) in
+        spec.refusal_among (F.function f.now) k types ≡ None }
     ensures { IfOk result (AreLifted (F.function f.now) k xs.now) }
 {
     let mut first = None;

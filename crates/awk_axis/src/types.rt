@@ -57,6 +57,9 @@ fn refusal_of_fields<F: ListOp>(f: &F, k: Reach, fields: &Fields) -> Option<Refu
     first
 }
 
+/// More lists than any type may have around it.
+pub(crate) const MOST_LISTS: u64 = 61;
+
 /// A type in k lists of any length.
 fn nested(alloc: Global, k: u64, t: Typ) -> Result<Typ, NoMemory>
     ensures { IfOk result (λ u. typ_of u ≡ spec.nested k (typ_of t)) }
@@ -72,11 +75,12 @@ fn nested(alloc: Global, k: u64, t: Typ) -> Result<Typ, NoMemory>
 #[cycle(lifted)]
 #[tactic(auto, using(crate::proofs::Walks::walks))]
 pub fn lifted_type<F: ListOp>(alloc: Global, f: &F, k: Reach, t: &Typ) -> Result<Typ, NoMemory>
-    ensures { IfOk result (λ u. typ_of u ≡ spec.lifted_type (F.function f.now).giving k (typ_of t.now)) }
+    ensures { let giving = (F.function f.now).giving in
+        IfOk result (λ u. typ_of u ≡ spec.lifted_type giving k (typ_of t.now)) }
 {
     match t {
         Typ::Unknown => match k {
-            Reach::Axis(k) => nested(alloc, k, given_typ(alloc, f, None, t)?),
+            Reach::Axis(k) => nested(alloc, k.min(MOST_LISTS), given_typ(alloc, f, None, t)?),
             Reach::Innermost => Ok(Typ::Unknown),
         },
         Typ::Leaf(prim) => Ok(Typ::Leaf(*prim)),
@@ -104,7 +108,9 @@ pub fn lifted_type<F: ListOp>(alloc: Global, f: &F, k: Reach, t: &Typ) -> Result
 #[cycle(lifted)]
 #[tactic(auto, using(crate::proofs::Walks::walks))]
 fn lifted_types<F: ListOp>(alloc: Global, f: &F, k: Reach, ts: &Typs) -> Result<Typs, NoMemory>
-    ensures { IfOk result (λ us. typs_of us ≡ spec.lifted_types (F.function f.now).giving k (types_from (typs_of ts.now))) }
+    ensures { let giving = (F.function f.now).giving in
+        let types = types_from (typs_of ts.now) in
+        IfOk result (λ us. typs_of us ≡ spec.lifted_types giving k types) }
 {
     let mut made = Typs::new(alloc);
     for i in 0..ts.len() {
@@ -115,9 +121,16 @@ fn lifted_types<F: ListOp>(alloc: Global, f: &F, k: Reach, ts: &Typs) -> Result<
 
 #[cycle(lifted)]
 #[tactic(auto, using(crate::proofs::Walks::walks))]
-fn lifted_fields<F: ListOp>(alloc: Global, f: &F, k: Reach, fields: &Fields) -> Result<Fields, NoMemory>
+fn lifted_fields<F: ListOp>(
+    alloc: Global,
+    f: &F,
+    k: Reach,
+    fields: &Fields,
+) -> Result<Fields, NoMemory>
     ensures names { IfOk result (λ us. names_of (fields_of us) ≡ names_of (fields_of fields.now)) }
-    ensures types { IfOk result (λ us. map (λ f. f.typ) (fields_of us) ≡ spec.lifted_types (F.function f.now).giving k (types_of (fields_of fields.now))) }
+    ensures types { let giving = (F.function f.now).giving in
+        let types = types_of (fields_of fields.now) in
+        IfOk result (λ us. map (λ f. f.typ) (fields_of us) ≡ spec.lifted_types giving k types) }
 {
     let mut made = Fields::new(alloc);
     for i in 0..fields.len() {
