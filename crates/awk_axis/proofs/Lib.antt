@@ -19,3 +19,4 @@ mod Worked
 pub mod ItemAnswers
 pub mod WholeAnswers
 pub mod OpeningLaws
+pub mod LiftAnswers

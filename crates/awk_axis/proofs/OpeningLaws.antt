@@ -75,9 +75,9 @@ pub opens_lists : (x y : Layout) (s e : Column) (c : Class) → c ≡ class_of (
 opens_lists x y s e c is o z = rw is (record {
   typ = list_type-of (array_type x) (array_type y) o.kind;
   lists = record {
-    spans = o.valid.1.0;
+    spans = o.valid.1;
     fits = o.valid.0;
-    valid = o.valid.1.1;
+    valid = o.valid.2;
     same_class = of_class (array_type x) (array_type y) s e y o.kind z;
   };
   size = o.size;
@@ -92,8 +92,8 @@ opens_option x y j o h = record {
   typ = o.kind;
   size = o.size;
   fits = o.valid.0;
-  index = o.valid.1.0;
-  valid = o.valid.1.1;
+  index = o.valid.1;
+  valid = o.valid.2;
   items = o.items;
   column = h.1;
 }
@@ -113,10 +113,10 @@ pub opens_row : (x : Layout) (names : Option (List Name)) (ys : List Layout)
     → OpensRow names ys x
 opens_row x names ys o h = record {
   typ = o.kind;
-  are_names = o.valid.1.0;
+  are_names = o.valid.1;
   fits = o.valid.0;
   lens = all_long (len x) ys o.columns;
-  valid = o.valid.1.1.1;
+  valid = o.valid.3;
   items = λ i p. o.items i p ∙ ap row (across-is ys i);
   columns = h;
 }
@@ -135,10 +135,10 @@ opens_union x t j ys o h = record {
   typ = o.kind;
   size = o.size;
   fits = o.valid.0;
-  union = o.valid.1.0;
-  valid = o.valid.1.1;
+  union = o.valid.1;
+  valid = o.valid.2;
   items = λ i p. o.items i p ∙ ap (alt (place_at t i)) (among-is ys (place_at t i) (place_at j i));
-  columns = h.1.1;
+  columns = h.2;
 }
 
 -- ---- lists joined
@@ -202,9 +202,9 @@ join_given s t y o z h is j =
     (subst (λ n. n ≤ item_limit) (ap length (joined-total s t y)) (limit_kept (length (joined_items vs)) both.0),
      record {
        typ = sym (datum_type _ _ _ _ both.1);
-       valid = j.valid.1.1;
+       valid = j.valid.2;
        offsets = record {
-         offsets = j.valid.1.0;
+         offsets = j.valid.1;
          fits = j.valid.0;
          size = j.size;
          first = j.first;
