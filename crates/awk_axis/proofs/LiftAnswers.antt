@@ -1,11 +1,16 @@
 -- Which lists a call reaches, by its axis and by its datum.
-use Rattle.std.specs.Prelude.{◌≡◌, ◌≢◌, ℕ, zero, suc, ◌-◌, refl, List, ℤ, pos, negsuc, ◌<ℤ◌, Err, true, false}
-use Rattle.std.proofs.Common.{arith, ap, ◌∙◌}
+use Rattle.std.specs.Prelude.{◌≡◌, ◌≢◌, ℕ, zero, suc, ◌-◌, refl, List, ℤ, pos, negsuc, ◌<ℤ◌, Result, Err, true, false}
+use Rattle.std.proofs.Common.{arith, ap, ◌∙◌, sym, subst}
 use Rattle.std.proofs.lemmas.Int.{ints}
 use Rattle.awk_types.specs.DataType.{DataType}
 use Rattle.awk_types.specs.Datum.{Datum, arr, one}
 use Rattle.awk_types.specs.Value.{Value}
 use Rattle.awk_types.specs.declared.fault.Fault.TheVariants as fault
+use Rattle.awk_types.specs.Faults.{fault_told}
+use Rattle.awk_types.specs.Gives.{Gives}
+use Rattle.awk_types.specs.declared.fault.Fault.{Fault}
+use Rattle.awk_layout.specs.Datum.{datum_of}
+use Rattle.awk_layout.specs.declared.datum.Datum as code
 use Rattle.awk_axis.specs.declared.place.Reach.TheVariants.{Axis, Innermost}
 use Rattle.awk_axis.specs.ListFunction.{ListFunction}
 use Rattle.awk_axis.specs.Lifting.{on_whole, on_items, on_one, lift, deep}
@@ -39,3 +44,8 @@ deep_whole f t vs e = rw e refl
 pub deep_items : (f : ListFunction) (t : DataType) (vs : List Value) → here Innermost t ≡ false
     → deep f (arr t vs) ≡ on_items f Innermost t vs
 deep_items f t vs e = rw e refl
+
+-- what is given of one saying is given of an equal one
+pub gives_same : (r : Result code.Datum Fault) (a b : Result Datum Fault) → a ≡ b
+    → Gives datum_of fault_told r b → Gives datum_of fault_told r a
+gives_same r a b e h = subst (Gives datum_of fault_told r) (sym e) h
