@@ -1,5 +1,5 @@
 -- Which lists a call reaches, by its axis and by its datum.
-use Rattle.std.specs.Prelude.{◌≡◌, ◌≢◌, ℕ, zero, suc, ◌-◌, refl, List, ℤ, pos, negsuc, ◌<ℤ◌, Result, Err, true, false}
+use Rattle.std.specs.Prelude.{◌≡◌, ℕ, zero, suc, ◌-◌, ◌<◌, refl, List, ℤ, pos, negsuc, ◌<ℤ◌, Result, Err, true, false}
 use Rattle.std.proofs.Common.{arith, ap, ◌∙◌, sym, subst}
 use Rattle.std.proofs.lemmas.Int.{ints}
 use Rattle.awk_types.specs.DataType.{DataType}
@@ -32,9 +32,9 @@ pub lift_whole : (f : ListFunction) (n : ℕ) (t : DataType) (vs : List Value) �
     → lift f (pos n) (arr t vs) ≡ on_whole f t vs
 lift_whole f n t vs e = ap (λ m. lift f (pos m) (arr t vs)) e
 
-pub lift_items : (f : ListFunction) (n m : ℕ) (t : DataType) (vs : List Value) → n ≢ 0 → m ≡ n - 1
+pub lift_items : (f : ListFunction) (n m : ℕ) (t : DataType) (vs : List Value) → 0 < n → m ≡ n - 1
     → lift f (pos n) (arr t vs) ≡ on_items f (Axis m) t vs
-lift_items f zero m t vs p e = absurd (p refl)
+lift_items f zero m t vs p e = absurd (omega (arith, p))
 lift_items f (suc n) m t vs p e = let g : n ≡ m = omega (arith, e) in ap (λ k. on_items f (Axis k) t vs) g
 
 pub deep_whole : (f : ListFunction) (t : DataType) (vs : List Value) → here Innermost t ≡ true

@@ -117,12 +117,12 @@ lifted_lists-list_node-requires-clause-offsets g t c =
     let f = g.F.ListOp.function c.args.f.now in
     let j : IsJoined c.args.starts.now c.args.stops.now c.args.content.now (joined.Lists c.in-Lists.offsets c.in-Lists.content) = rw c.in-Lists.is at c.in_ok-join_spans.ensures in
     let h : IsLifted f (inner c.args.k) c.in-Lists.content (mapped.Column c.in-Column.node) = rw (c.inner.ensures, c.in-Column.is) at c.in_ok-why-in-Lists.ensures in
-    rw (c.len.ensures, h.1.size) j.1.offsets
+    rw (c.len.ensures.len, h.1.size) j.1.offsets
 
 pub lifted_lists-list_node-requires-clause-even : goal.lifted_lists-list_node-requires-clause-even
 lifted_lists-list_node-requires-clause-even g t c =
     let j : IsJoined c.args.starts.now c.args.stops.now c.args.content.now (joined.Lists c.in-Lists.offsets c.in-Lists.content) = rw c.in-Lists.is at c.in_ok-join_spans.ensures in
-    rw c.len.ensures (joined_even c.args.class c.args.starts.now c.args.stops.now c.args.content.now c.in-Lists.offsets c.in-Lists.content c.requires.opens.lists.same_class j.1)
+    rw c.len.ensures.len (joined_even c.args.class c.args.starts.now c.args.stops.now c.args.content.now c.in-Lists.offsets c.in-Lists.content c.requires.opens.lists.same_class j.1)
 
 pub lifted_lists-returns-in_err-node-in-Column : goal.lifted_lists-returns-in_err-node-in-Column
 lifted_lists-returns-in_err-node-in-Column g t c = search rules
@@ -133,7 +133,7 @@ lifted_lists-returns g t c =
     let e : here c.args.k (array_type c.args.content.now) ≡ false = ap (here c.args.k) (sym c.typ.ensures.typ) ∙ sym c.is_here.ensures ∙ c.if-is_here.false in
     let j : IsJoined c.args.starts.now c.args.stops.now c.args.content.now (joined.Lists c.in-Lists.offsets c.in-Lists.content) = rw c.in-Lists.is at c.in_ok-join_spans.ensures in
     let h : IsLifted f (inner c.args.k) c.in-Lists.content (mapped.Column c.in-Column.node) = rw (c.inner.ensures, c.in-Column.is) at c.in_ok-why-in-Lists.ensures in
-    rw (c.in_ok-node-in-Column.ensures, c.len.ensures) (lists_above f c.args.k c.args.class c.args.starts.now c.args.stops.now c.in-Lists.offsets c.args.content.now c.in-Lists.content c.args.x.now c.in-Column.node e c.requires.opens j.0 j.1 h)
+    rw (c.in_ok-node-in-Column.ensures, c.len.ensures.len) (lists_above f c.args.k c.args.class c.args.starts.now c.args.stops.now c.in-Lists.offsets c.args.content.now c.in-Lists.content c.args.x.now c.in-Column.node e c.requires.opens j.0 j.1 h)
 
 pub lifted_option-lifted-requires : goal.lifted_option-lifted-requires
 lifted_option-lifted-requires g t c κs within =
