@@ -57,7 +57,7 @@ pub items_spoilt : (f : ListFunction) (k : Reach) (x : Layout) (many s : Option 
     → first_spoil many s ≡ Some w → on_items f k (array_type x) (array_items x) ≡ Err (spoil_fault w)
 items_spoilt f k x many s w a p q h =
     let spoil : first_spoil (too_many (length (array_items x))) (spoil_at f k (array_type x) (array_items x)) ≡ Some w =
-          ap (λ n. first_spoil (too_many n) (spoil_at f k (array_type x) (array_items x))) (length-items x) ∙ ap (λ z. first_spoil (too_many (len x)) z) q ∙ ap (λ z. first_spoil z s) (sym p) ∙ h in
+    ap (λ n. first_spoil (too_many n) (spoil_at f k (array_type x) (array_items x))) (length-items x) ∙ ap (λ z. first_spoil (too_many (len x)) z) q ∙ ap (λ z. first_spoil z s) (sym p) ∙ h in
     told_values _ _ _ (given_items f k x) a.0 a.1 ∙ ap (λ z. refused_or (option_map spoil_fault z) (given_items f k x)) spoil
 
 pub items_made : (f : ListFunction) (k : Reach) (x y : Layout) (many : Option Spoil)
@@ -67,7 +67,7 @@ items_made f k x y many a p n h =
     let t = lifted_type f.giving k (array_type x) in
     let g = lifted_value f.giving k (array_type x) in
     let spoil : first_spoil (too_many (length (array_items x))) (spoil_at f k (array_type x) (array_items x)) ≡ None =
-          ap (λ n. first_spoil (too_many n) (spoil_at f k (array_type x) (array_items x))) (length-items x) ∙ ap (λ z. first_spoil (too_many (len x)) z) h.0 ∙ ap (λ z. first_spoil z None) (sym p ∙ n) in
+    ap (λ n. first_spoil (too_many n) (spoil_at f k (array_type x) (array_items x))) (length-items x) ∙ ap (λ z. first_spoil (too_many (len x)) z) h.0 ∙ ap (λ z. first_spoil z None) (sym p ∙ n) in
     told_values _ _ _ (given_items f k x) a.0 a.1 ∙ ap (λ z. refused_or (option_map spoil_fault z) (given_items f k x)) spoil
     ∙ ap (λ u. Ok (arr u (map (λ v. simple_value t (g v)) (array_items x)))) (sym h.1.typ)
     ∙ ap (λ vs. Ok (arr (array_type y) vs)) (sym (mapped_items t g x y h.1))

@@ -52,4 +52,5 @@ pub first_some : (many : Option Spoil) (w : Spoil) → first_spoil many (Some w)
 first_some many w h = let e : Some w ≡ None = (first_spoil-both many (Some w) h).1 in cc
 
 pub ruleset judging = (judged_refused, judged_accepted, judged_limited)
+
 pub ruleset making = (array_of-within)

@@ -55,8 +55,8 @@ option_column u g j c x y gn o m = record {
   size = o.size;
   typ = ap option_of m.typ;
   items = λ i p.
-    option_item (at j i) (len c) (o.index.below i (omega (arith, p, o.size))) (simple_value (layout_type y)) (item y) (simple_value u) g (array_item c) (simple_null (layout_type y)) (simple_null u) gn m.items
-    ∙ ap (λ v. in_option (simple_value u) (in_option g v)) (sym (o.items i p));
+      option_item (at j i) (len c) (o.index.below i (omega (arith, p, o.size))) (simple_value (layout_type y)) (item y) (simple_value u) g (array_item c) (simple_null (layout_type y)) (simple_null u) gn m.items
+      ∙ ap (λ v. in_option (simple_value u) (in_option g v)) (sym (o.items i p));
 }
 
 -- ---- lists
@@ -118,12 +118,12 @@ lists_column class u g s t o c z x y opens joins m =
       size = len-list class (size_of s) o y offsets.size ∙ opens.size;
       typ = array_type-list class (size_of s) o y ∙ ap (list_type class) m.typ ∙ sym (simple-list class u);
       items = λ i p.
-        let q : i < size_of s = omega (arith, p, opens.size) in
-        let a = place_at o i in
-        let n = place_at o (i + 1) - place_at o i in
-        item-list class (size_of s) o y even i q
-        ∙ ap list (run_same (array_item y) (λ k. simple_value u (g (array_item z k))) a n (λ k _ r. m.items k (omega (arith, r, joins.offsets.within i q))))
-        ∙ sym (simple_value-list class u (in_list g (array_item x i))
+          let q : i < size_of s = omega (arith, p, opens.size) in
+          let a = place_at o i in
+          let n = place_at o (i + 1) - place_at o i in
+          item-list class (size_of s) o y even i q
+          ∙ ap list (run_same (array_item y) (λ k. simple_value u (g (array_item z k))) a n (λ k _ r. m.items k (omega (arith, r, joins.offsets.within i q))))
+          ∙ sym (simple_value-list class u (in_list g (array_item x i))
           ∙ ap (λ v. in_list (simple_value u) (in_list g v)) (opens.items i p ∙ ap list (joins.lists i q))
           ∙ ap (in_list (simple_value u)) (run_in_list g (array_item z) a n)
           ∙ run_in_list (simple_value u) (λ k. g (array_item z k)) a n);
@@ -136,9 +136,9 @@ given_column class t f s e o y z g = record {
   size = len-list class (size_of s) o z g.offsets.size;
   typ = array_type-list class (size_of s) o z ∙ ap (list_type class) g.typ ∙ sym (simple-list class t);
   items = λ i p.
-    item-list class (size_of s) o z g.even i p
-    ∙ ap list (sym (values_from-list _) ∙ ap values_from (g.lists i p ∙ ap (map (simple_value t)) (sym (value_list-from (f (items_at s e y i))))))
-    ∙ sym (simple_value-list class t (list (values_from (f (items_at s e y i)))));
+      item-list class (size_of s) o z g.even i p
+      ∙ ap list (sym (values_from-list _) ∙ ap values_from (g.lists i p ∙ ap (map (simple_value t)) (sym (value_list-from (f (items_at s e y i))))))
+      ∙ sym (simple_value-list class t (list (values_from (f (items_at s e y i)))));
 }
 
 pub spoil-list : (f : ListFunction) (k : Reach) (class : Class) (t : DataType) (vs : List Value) → here k t ≡ false → spoil_at f k (list_type class t) vs ≡ spoil_inside (spoil_at f (inner k) t) vs
@@ -264,9 +264,9 @@ row_column f k names xs ys x o m = record {
   size = refl;
   typ = simple-row names (layout_types (layouts_from ys)) ∙ ap (λ ts. row_type names (types_from ts)) (simples_mapped f k xs ys m) ∙ sym (simple-row names (types_from (lifted_types f.giving k (types_from (map array_type xs)))));
   items = λ i p.
-    let ts = types_from (map array_type xs) in
-    row_item names (len x) ys i
-    ∙ sym (simple_value-row names (types_from (lifted_types f.giving k ts)) (in_row (lifted_values f.giving k ts) (array_item x i))
+      let ts = types_from (map array_type xs) in
+      row_item names (len x) ys i
+      ∙ sym (simple_value-row names (types_from (lifted_types f.giving k ts)) (in_row (lifted_values f.giving k ts) (array_item x i))
       ∙ ap (λ v. in_row (simple_values (types_from (lifted_types f.giving k ts))) (in_row (lifted_values f.giving k ts) v)) (o.items i p)
       ∙ ap (λ vs. row (values_from (values_by (simple_values (types_from (lifted_types f.giving k ts))) vs))) (value_list-from (values_by (lifted_values f.giving k ts) (value_list (across xs i))))
       ∙ ap (λ vs. row (values_from vs)) (across_mapped f k (len x) xs ys i p o.lens m)
@@ -317,12 +317,12 @@ union_column f k t j xs ys x o m = record {
   size = o.size;
   typ = ap union_of (simples_mapped f k xs ys m);
   items = λ i p.
-    let ts = types_from (map array_type xs) in
-    let us = types_from (lifted_types f.giving k ts) in
-    let tag = place_at t i in
-    let q : i < size_of t = omega (arith, p, o.size) in
-    ap (λ v. union_value (simples (layout_types (layouts_from ys))) (alt tag v)) (among-item ys tag (place_at j i))
-    ∙ ap (λ zs. union_value zs (alt tag (item_among ys tag (place_at j i)))) (simples_mapped f k xs ys m)
-    ∙ sym (ap (λ v. union_value (simples us) (in_alternative (simple_values us) (in_alternative (lifted_values f.giving k ts) v))) (o.items i p)
+      let ts = types_from (map array_type xs) in
+      let us = types_from (lifted_types f.giving k ts) in
+      let tag = place_at t i in
+      let q : i < size_of t = omega (arith, p, o.size) in
+      ap (λ v. union_value (simples (layout_types (layouts_from ys))) (alt tag v)) (among-item ys tag (place_at j i))
+      ∙ ap (λ zs. union_value zs (alt tag (item_among ys tag (place_at j i)))) (simples_mapped f k xs ys m)
+      ∙ sym (ap (λ v. union_value (simples us) (in_alternative (simple_values us) (in_alternative (lifted_values f.giving k ts) v))) (o.items i p)
       ∙ ap (λ v. union_value (simples us) (alt tag v)) (among_mapped f k xs ys tag (place_at j i) (o.union.places i q).1 m));
 }

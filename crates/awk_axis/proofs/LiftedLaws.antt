@@ -53,10 +53,11 @@ not_over a b p = grind arith
 -- ---- options
 
 pub option_lifted : (f : ListFunction) (k : Reach) (j : Column) (c x y : Layout) → OpensOption j c x → IsLifted f k c (mapped.Column y) → IsLifted f k x (mapped.Column (optional j y))
-option_lifted f k j c x y o h =
-    (ap (λ t. spoil_at f k t (array_items x)) o.typ ∙ ap (spoil_at f k (array_type c)) (sym o.column) ∙ h.0,
-     column_as _ _ _ _ _ _ (ap (lifted_type f.giving k) (sym o.typ)) (λ i p. ap (λ t. lifted_value f.giving k t (array_item x i)) (sym o.typ))
-       (option_column (lifted_type f.giving k (array_type c)) (lifted_value f.giving k (array_type c)) j c x y (lifted_null f.giving k (array_type c)) o h.1))
+option_lifted f k j c x y o h = (
+  ap (λ t. spoil_at f k t (array_items x)) o.typ ∙ ap (spoil_at f k (array_type c)) (sym o.column) ∙ h.0,
+  column_as _ _ _ _ _ _ (ap (lifted_type f.giving k) (sym o.typ)) (λ i p. ap (λ t. lifted_value f.giving k t (array_item x i)) (sym o.typ))
+      (option_column (lifted_type f.giving k (array_type c)) (lifted_value f.giving k (array_type c)) j c x y (lifted_null f.giving k (array_type c)) o h.1),
+)
 
 pub option_spoiled : (f : ListFunction) (k : Reach) (j : Column) (c x : Layout) (why : Spoil) → OpensOption j c x → IsLifted f k c (mapped.Spoiled why) → IsLifted f k x (mapped.Spoiled why)
 option_spoiled f k j c x why o h = ap (λ t. spoil_at f k t (array_items x)) o.typ ∙ ap (spoil_at f k (array_type c)) (sym o.column) ∙ h
@@ -70,11 +71,12 @@ here_spoil f k class s t c x e o =
 
 pub lists_here : (f : ListFunction) (k : Reach) (class : Class) (s t : Column) (c x : Layout) (m : Mapped) → here k (array_type c) ≡ true → OpensLists class s t c x → IsAtAxis f class s t c m → IsLifted f k x m
 lists_here f k class s t c x (mapped.Spoiled why) e o h = here_spoil f k class s t c x e o ∙ h
-lists_here f k class s t c x (mapped.Column y) e o h =
-    (here_spoil f k class s t c x e o ∙ h.0,
-     column_as _ _ _ _ _ _ (sym (ap (lifted_type f.giving k) o.typ ∙ type-list_here f.giving k class (array_type c) e))
-       (λ i p. sym (ap (λ u. lifted_value f.giving k u (array_item x i)) o.typ ∙ value-list_here f.giving k class (array_type c) (array_item x i) e ∙ ap (on_list (given_value f.giving (array_type c))) (o.items i p)))
-       (rw (← o.size) h.1))
+lists_here f k class s t c x (mapped.Column y) e o h = (
+  here_spoil f k class s t c x e o ∙ h.0,
+  column_as _ _ _ _ _ _ (sym (ap (lifted_type f.giving k) o.typ ∙ type-list_here f.giving k class (array_type c) e))
+      (λ i p. sym (ap (λ u. lifted_value f.giving k u (array_item x i)) o.typ ∙ value-list_here f.giving k class (array_type c) (array_item x i) e ∙ ap (on_list (given_value f.giving (array_type c))) (o.items i p)))
+      (rw (← o.size) h.1),
+)
 
 above_spoil : (f : ListFunction) (k : Reach) (class : Class) (s t : Column) (c x : Layout) → here k (array_type c) ≡ false → OpensLists class s t c x →
     spoil_at f k (array_type x) (array_items x) ≡ (if nat_lt item_limit (total s t c) then Some Size else spoil_at f (inner k) (array_type c) (flat_map (items_at s t c) (range_with_len 0 (size_of s))))
@@ -101,11 +103,12 @@ lists_spoiled f k class s t o c z x why e opens p joins h = within_spoil f k cla
 pub lists_above : (f : ListFunction) (k : Reach) (class : Class) (s t o : Column) (c z x y : Layout) → here k (array_type c) ≡ false → OpensLists class s t c x → total s t c ≤ item_limit → JoinsLists s t c o z → IsLifted f (inner k) z (mapped.Column y) → IsLifted f k x (mapped.Column (list_layout class (size_of s) o y))
 lists_above f k class s t o c z x y e opens p joins h =
     let ez : here k (array_type z) ≡ false = ap (here k) joins.typ ∙ e in
-    let typ : array_type x ≡ list_type class (array_type z) = opens.typ ∙ ap (list_type class) (sym joins.typ) in
-    (within_spoil f k class s t o c z x e opens p joins ∙ h.0,
-     column_as _ _ _ _ _ _ (sym (ap (lifted_type f.giving k) typ ∙ type-list f.giving k class (array_type z) ez))
-       (λ i p. sym (ap (λ u. lifted_value f.giving k u (array_item x i)) typ ∙ value-list f.giving k class (array_type z) (array_item x i) ez))
-       (lists_column class (lifted_type f.giving (inner k) (array_type z)) (lifted_value f.giving (inner k) (array_type z)) s t o c z x y opens joins h.1))
+    let typ : array_type x ≡ list_type class (array_type z) = opens.typ ∙ ap (list_type class) (sym joins.typ) in (
+      within_spoil f k class s t o c z x e opens p joins ∙ h.0,
+      column_as _ _ _ _ _ _ (sym (ap (lifted_type f.giving k) typ ∙ type-list f.giving k class (array_type z) ez))
+          (λ i p. sym (ap (λ u. lifted_value f.giving k u (array_item x i)) typ ∙ value-list f.giving k class (array_type z) (array_item x i) ez))
+          (lists_column class (lifted_type f.giving (inner k) (array_type z)) (lifted_value f.giving (inner k) (array_type z)) s t o c z x y opens joins h.1),
+    )
 
 -- ---- rows
 
@@ -113,11 +116,12 @@ row_spoil : (f : ListFunction) (k : Reach) (names : Option (List Name)) (xs : Li
 row_spoil f k names xs x o = ap (λ u. spoil_at f k u (array_items x)) o.typ ∙ spoil-row f k names (types_from (map array_type xs)) (array_items x) ∙ spoil_parts f k 0 (array_items x) xs o.columns
 
 pub row_lifted : (f : ListFunction) (k : Reach) (names : Option (List Name)) (xs ys : List Layout) (x : Layout) → OpensRow names xs x → spoil_of_all f k xs ≡ None → AreMapped f k xs ys → IsLifted f k x (mapped.Column (rows names (len x) (layouts_from ys)))
-row_lifted f k names xs ys x o n m =
-    (row_spoil f k names xs x o ∙ n,
-     column_as _ _ _ _ _ _ (sym (ap (lifted_type f.giving k) o.typ ∙ type-row f.giving k names (types_from (map array_type xs))))
-       (λ i p. sym (ap (λ u. lifted_value f.giving k u (array_item x i)) o.typ ∙ value-row f.giving k names (types_from (map array_type xs)) (array_item x i)))
-       (row_column f k names xs ys x o m))
+row_lifted f k names xs ys x o n m = (
+  row_spoil f k names xs x o ∙ n,
+  column_as _ _ _ _ _ _ (sym (ap (lifted_type f.giving k) o.typ ∙ type-row f.giving k names (types_from (map array_type xs))))
+      (λ i p. sym (ap (λ u. lifted_value f.giving k u (array_item x i)) o.typ ∙ value-row f.giving k names (types_from (map array_type xs)) (array_item x i)))
+      (row_column f k names xs ys x o m),
+)
 
 pub row_spoiled : (f : ListFunction) (k : Reach) (names : Option (List Name)) (xs : List Layout) (x : Layout) (why : Spoil) → OpensRow names xs x → spoil_of_all f k xs ≡ Some why → IsLifted f k x (mapped.Spoiled why)
 row_spoiled f k names xs x why o n = row_spoil f k names xs x o ∙ n
@@ -128,10 +132,11 @@ union_spoil : (f : ListFunction) (k : Reach) (t j : Column) (xs : List Layout) (
 union_spoil f k t j xs x o = ap (λ u. spoil_at f k u (array_items x)) o.typ ∙ spoil_alternatives f k 0 (array_items x) xs o.columns
 
 pub union_lifted : (f : ListFunction) (k : Reach) (t j : Column) (xs ys : List Layout) (x : Layout) → OpensUnion t j xs x → spoil_of_all f k xs ≡ None → AreMapped f k xs ys → IsLifted f k x (mapped.Column (union t j (layouts_from ys)))
-union_lifted f k t j xs ys x o n m =
-    (union_spoil f k t j xs x o ∙ n,
-     column_as _ _ _ _ _ _ (sym (ap (lifted_type f.giving k) o.typ)) (λ i p. sym (ap (λ u. lifted_value f.giving k u (array_item x i)) o.typ))
-       (union_column f k t j xs ys x o m))
+union_lifted f k t j xs ys x o n m = (
+  union_spoil f k t j xs x o ∙ n,
+  column_as _ _ _ _ _ _ (sym (ap (lifted_type f.giving k) o.typ)) (λ i p. sym (ap (λ u. lifted_value f.giving k u (array_item x i)) o.typ))
+      (union_column f k t j xs ys x o m),
+)
 
 pub union_spoiled : (f : ListFunction) (k : Reach) (t j : Column) (xs : List Layout) (x : Layout) (why : Spoil) → OpensUnion t j xs x → spoil_of_all f k xs ≡ Some why → IsLifted f k x (mapped.Spoiled why)
 union_spoiled f k t j xs x why o n = union_spoil f k t j xs x o ∙ n
@@ -179,14 +184,15 @@ pub unknown_spoiled : (f : ListFunction) (k : ℕ) (s e : Column) (x : Layout) (
 unknown_spoiled f k s e x why o p h = ap (λ u. spoil_at f (Axis k) u (array_items x)) o.typ ∙ ap (f.spoil unknown) (sym (no_lists s e x p)) ∙ ap (λ u. f.spoil u (all_items_at s e x)) (sym o.typ) ∙ h
 
 pub unknown_lifted : (f : ListFunction) (k n : ℕ) (s e : Column) (x y : Layout) → n ≡ min k 61 → OpensNothing x → size_of s ≡ 0 → f.spoil (array_type x) (all_items_at s e x) ≡ None → IsColumn (nested n (given_type f.giving None (array_type x))) (λ i. null) 0 y → IsLifted f (Axis k) x (mapped.Column y)
-unknown_lifted f k n s e x y b o p h m =
-    (ap (λ u. spoil_at f (Axis k) u (array_items x)) o.typ ∙ ap (f.spoil unknown) (sym (no_lists s e x p)) ∙ ap (λ u. f.spoil u (all_items_at s e x)) (sym o.typ) ∙ h,
-     record {
-       valid = m.valid;
-       size = m.size ∙ sym o.none;
-       typ = m.typ ∙ ap (λ i. simple (nested i (given_type f.giving None (array_type x)))) b ∙ ap (λ u. simple (nested (min k 61) (given_type f.giving None u))) o.typ ∙ ap (λ u. simple (lifted_type f.giving (Axis k) u)) (sym o.typ);
-       items = λ i q. absurd (omega (arith, q, o.none));
-     })
+unknown_lifted f k n s e x y b o p h m = (
+  ap (λ u. spoil_at f (Axis k) u (array_items x)) o.typ ∙ ap (f.spoil unknown) (sym (no_lists s e x p)) ∙ ap (λ u. f.spoil u (all_items_at s e x)) (sym o.typ) ∙ h,
+  record {
+    valid = m.valid;
+    size = m.size ∙ sym o.none;
+    typ = m.typ ∙ ap (λ i. simple (nested i (given_type f.giving None (array_type x)))) b ∙ ap (λ u. simple (nested (min k 61) (given_type f.giving None u))) o.typ ∙ ap (λ u. simple (lifted_type f.giving (Axis k) u)) (sym o.typ);
+    items = λ i q. absurd (omega (arith, q, o.none));
+  },
+)
 
 -- ---- refusals and depths of contents
 

@@ -72,11 +72,11 @@ are_offsets s t p = record {
   first = place-offsets s t 0 (omega arith);
   last = place-offsets s t (size_of s) (omega arith);
   within = λ i q.
-    let a = place-offsets s t i (omega (arith, q)) in
-    let b = place-offsets s t (i + 1) (omega (arith, q)) in
-    let c = before_mono s t i (i + 1) (omega arith) in
-    let d = before_mono s t (i + 1) (size_of s) (omega (arith, q)) in
-    omega (arith, a, b, c, d);
+      let a = place-offsets s t i (omega (arith, q)) in
+      let b = place-offsets s t (i + 1) (omega (arith, q)) in
+      let c = before_mono s t i (i + 1) (omega arith) in
+      let d = before_mono s t (i + 1) (size_of s) (omega (arith, q)) in
+      omega (arith, a, b, c, d);
 }
 
 -- lists of one size have even offsets
@@ -115,7 +115,7 @@ local_more s t i j (suc k) p =
     let m : before s t (suc i) ≤ before s t (suc i + k) = before_more s t (suc i) k in
     let within : before s t i + j < length (local_places s t (suc i + k)) = omega (arith, local-length s t (suc i + k), m, p) in
     subst (λ m. get_or (local_places s t m) (before s t i + j) (pos 0) ≡ pos j) e
-      (get_or_append_left (local_places s t (suc i + k)) (map (λ (q : ℕ). pos q) (range_with_len 0 (span_length s t (suc i + k)))) (pos 0) (before s t i + j) within ∙ local_more s t i j k p)
+    (get_or_append_left (local_places s t (suc i + k)) (map (λ (q : ℕ). pos q) (range_with_len 0 (span_length s t (suc i + k)))) (pos 0) (before s t i + j) within ∙ local_more s t i j k p)
 
 local-at : (s t : Column) (i j n : ℕ) → i < n → j < span_length s t i → get_or (local_places s t n) (before s t i + j) (pos 0) ≡ pos j
 local-at s t i j n q p =
@@ -139,15 +139,15 @@ local_given class s t y h p = record {
   even = even_offsets class s t h.same_class;
   typ = refl;
   lists = λ i q.
-    let a : place_at (offsets_lane s t) i ≡ before s t i = place-offsets s t i (omega (arith, q)) in
-    let b : place_at (offsets_lane s t) (i + 1) ≡ before s t i + span_length s t i = place-offsets s t (i + 1) (omega (arith, q)) ∙ before-next s t i in
-    let n : place_at (offsets_lane s t) (i + 1) - place_at (offsets_lane s t) i ≡ span_length s t i = omega (arith, a, b) in
-    let f : ℕ → Value = λ j. int (pos j) in
-    ap (λ z. value_list (run (array_item (flat (local_lane s t))) (place_at (offsets_lane s t) i) z)) n
-    ∙ ap (λ z. value_list (run (array_item (flat (local_lane s t))) z (span_length s t i))) a
-    ∙ run_by (array_item (flat (local_lane s t))) f (before s t i) (span_length s t i) (λ j r. ap int (local-at s t i j (size_of s) q r))
-    ∙ ap (λ k. map f (range_with_len 0 k)) (sym (items_at-length s t y i))
-    ∙ sym (map-map (simple_value (leaf I64)) f (range_with_len 0 (length (items_at s t y i))));
+      let a : place_at (offsets_lane s t) i ≡ before s t i = place-offsets s t i (omega (arith, q)) in
+      let b : place_at (offsets_lane s t) (i + 1) ≡ before s t i + span_length s t i = place-offsets s t (i + 1) (omega (arith, q)) ∙ before-next s t i in
+      let n : place_at (offsets_lane s t) (i + 1) - place_at (offsets_lane s t) i ≡ span_length s t i = omega (arith, a, b) in
+      let f : ℕ → Value = λ j. int (pos j) in
+      ap (λ z. value_list (run (array_item (flat (local_lane s t))) (place_at (offsets_lane s t) i) z)) n
+      ∙ ap (λ z. value_list (run (array_item (flat (local_lane s t))) z (span_length s t i))) a
+      ∙ run_by (array_item (flat (local_lane s t))) f (before s t i) (span_length s t i) (λ j r. ap int (local-at s t i j (size_of s) q r))
+      ∙ ap (λ k. map f (range_with_len 0 k)) (sym (items_at-length s t y i))
+      ∙ sym (map-map (simple_value (leaf I64)) f (range_with_len 0 (length (items_at s t y i))));
 }
 
 -- ---- how many there are
@@ -165,7 +165,7 @@ sum_before s t g e (suc n) =
     let more : suc n ≡ n + 1 = omega arith in
     let h : sum (map g (range_with_len 0 n)) ≡ before s t n = sum_before s t g e n in
     let l : sum (map g (range_with_len 0 (suc n))) ≡ sum (map g (range_with_len 0 n)) + g n =
-          ap (λ k. sum (map g (range_with_len 0 k))) more ∙ ap sum (map-range_with_len_more g 0 n n (omega arith)) ∙ sum-append_one (map g (range_with_len 0 n)) (g n) in
+    ap (λ k. sum (map g (range_with_len 0 k))) more ∙ ap sum (map-range_with_len_more g 0 n n (omega arith)) ∙ sum-append_one (map g (range_with_len 0 n)) (g n) in
     omega (arith, l, h, e n)
 
 pub local_count : (s t : Column) (y : Layout) → sum (map (λ (l : List Value). length (map (λ (i : ℕ). int (pos i)) (range_with_len 0 (length l)))) (all_items_at s t y)) ≡ before s t (size_of s)
@@ -213,8 +213,8 @@ places_more s t n i k z old new e g h = record {
   kind = ap (λ (m : Making). m.kind) e ∙ h.kind;
   room = ap (λ (m : Making). m.room) e ∙ h.room;
   items = ap (λ (m : Making). m.items) e ∙ ap (λ zs. zs ++ z ∷ []) h.items ∙ ap (λ y. (local_places s t i ++ map (λ (j : ℕ). pos j) (range_with_len 0 k)) ++ y ∷ []) g
-    ∙ append_twice (local_places s t i) (map (λ (j : ℕ). pos j) (range_with_len 0 k)) (pos k ∷ [])
-    ∙ ap (λ zs. local_places s t i ++ zs) (sym (map-range_with_len_more (λ (j : ℕ). pos j) 0 k k (omega arith)));
+      ∙ append_twice (local_places s t i) (map (λ (j : ℕ). pos j) (range_with_len 0 k)) (pos k ∷ [])
+      ∙ ap (λ zs. local_places s t i ++ zs) (sym (map-range_with_len_more (λ (j : ℕ). pos j) 0 k k (omega arith)));
 }
 
 pub places_next : (s t : Column) (n i k : ℕ) (m : Making) → k ≡ span_length s t i → ArePlacesIn s t n i k m → ArePlaces s t n (i + 1) m
@@ -228,7 +228,7 @@ places_next s t n i k m e h = record {
 pub places_room : (s t : Column) (n i k : ℕ) (m : Making) → n ≡ before s t (size_of s) → i < size_of s → k < span_length s t i → ArePlacesIn s t n i k m → length m.items < m.room
 places_room s t n i k m e p q h =
     let l : length m.items ≡ length (local_places s t i) + k =
-          ap length h.items ∙ length-append (local_places s t i) (map (λ (j : ℕ). pos j) (range_with_len 0 k)) ∙ ap (λ z. length (local_places s t i) + z) (length-map-range_with_len (λ (j : ℕ). pos j) 0 k) in
+    ap length h.items ∙ length-append (local_places s t i) (map (λ (j : ℕ). pos j) (range_with_len 0 k)) ∙ ap (λ z. length (local_places s t i) + z) (length-map-range_with_len (λ (j : ℕ). pos j) 0 k) in
     let b = before_mono s t (i + 1) (size_of s) (omega (arith, p)) in
     omega (arith, l, local-length s t i, b, before-next s t i, q, e, h.room)
 

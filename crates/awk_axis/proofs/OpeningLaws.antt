@@ -198,20 +198,21 @@ pub join_given : (s t : Column) (y : Layout) (o : Column) (z : Layout)
 join_given s t y o z h is j =
     let vs = gathered.list_values s t y in
     let both = refused_or-Ok (gathered.too_many (length (joined_items vs))) (arr (array_type y) (joined_items vs)) (array_datum z) h in
-    let e : o ≡ offsets_lane s t = is ∙ sym (offsets_lane-is s t y) in
-    (subst (λ n. n ≤ item_limit) (ap length (joined-total s t y)) (limit_kept (length (joined_items vs)) both.0),
-     record {
-       typ = sym (datum_type _ _ _ _ both.1);
-       valid = j.valid.2;
-       offsets = record {
-         offsets = j.valid.1;
-         fits = j.valid.0;
-         size = j.size;
-         first = j.first;
-         last = j.last;
-         within = λ i p. offset_within s t o i (len z) e p j.last;
-       };
-       lengths = λ i p. offset_grows s t o i e p;
-       lists = λ i p. same_run _ _ (j.each i p);
-       column = sym (datum_items _ _ _ _ both.1) ∙ joined-total s t y;
-     })
+    let e : o ≡ offsets_lane s t = is ∙ sym (offsets_lane-is s t y) in (
+      subst (λ n. n ≤ item_limit) (ap length (joined-total s t y)) (limit_kept (length (joined_items vs)) both.0),
+      record {
+        typ = sym (datum_type _ _ _ _ both.1);
+        valid = j.valid.2;
+        offsets = record {
+          offsets = j.valid.1;
+          fits = j.valid.0;
+          size = j.size;
+          first = j.first;
+          last = j.last;
+          within = λ i p. offset_within s t o i (len z) e p j.last;
+        };
+        lengths = λ i p. offset_grows s t o i e p;
+        lists = λ i p. same_run _ _ (j.each i p);
+        column = sym (datum_items _ _ _ _ both.1) ∙ joined-total s t y;
+      },
+    )

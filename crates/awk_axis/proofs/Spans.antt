@@ -41,7 +41,7 @@ items_at-length s t y i = run_length (array_item y) (place_at s i) (place_at t i
 
 -- the lengths of lists as a column
 pub lengths_column : (s t : Column) (y : Layout) → size_of s < 2 ^ 63 → IsColumn (leaf I64) (λ i. int (pos (length (items_at s t y i)))) (size_of s) (flat (lengths_lane s t))
-lengths_column s t y p = 
+lengths_column s t y p =
     let f : ℕ → ℤ = λ i. pos (span_length s t i) in
     record {
       valid = rw (size-lane_of kinds.I64 (size_of s) f) p;

@@ -39,12 +39,12 @@ holes =
 -- [{"x":[1,2],"y":[[3]]},{"x":[],"y":[[],[4,5]]}]
 abbrev two_rows : Datum
 two_rows = arr (rec (codes "x" ∷ codes "y" ∷ []) (types_from (var int64 ∷ var (reg 2 int64) ∷ [])))
-  (row_value (ints (pos 1 ∷ pos 2 ∷ []) ∷ list_value [] ∷ []) ∷ row_value (ints [] ∷ list_value (ints (pos 3 ∷ pos 4 ∷ []) ∷ []) ∷ []) ∷ [])
+    (row_value (ints (pos 1 ∷ pos 2 ∷ []) ∷ list_value [] ∷ []) ∷ row_value (ints [] ∷ list_value (ints (pos 3 ∷ pos 4 ∷ []) ∷ []) ∷ []) ∷ [])
 
 -- [{"x":1,"y":[1,2]},{"x":2,"y":[]}]
 abbrev flat_field : Datum
 flat_field = arr (rec (codes "x" ∷ codes "y" ∷ []) (types_from (int64 ∷ var int64 ∷ [])))
-  (row_value (int (pos 1) ∷ ints (pos 1 ∷ pos 2 ∷ []) ∷ []) ∷ row_value (int (pos 2) ∷ ints [] ∷ []) ∷ [])
+    (row_value (int (pos 1) ∷ ints (pos 1 ∷ pos 2 ∷ []) ∷ []) ∷ row_value (int (pos 2) ∷ ints [] ∷ []) ∷ [])
 
 -- ---- lengths
 
@@ -69,7 +69,7 @@ num_through_option : lift length_function (pos 1) holes
 num_through_option = refl
 
 num_through_rows : lift length_function (pos 1) two_rows
-  ≡ Ok (arr (rec (codes "x" ∷ codes "y" ∷ []) (types_from (int64 ∷ int64 ∷ []))) (row_value (int (pos 2) ∷ int (pos 0) ∷ []) ∷ row_value (int (pos 0) ∷ int (pos 1) ∷ []) ∷ []))
+    ≡ Ok (arr (rec (codes "x" ∷ codes "y" ∷ []) (types_from (int64 ∷ int64 ∷ []))) (row_value (int (pos 2) ∷ int (pos 0) ∷ []) ∷ row_value (int (pos 0) ∷ int (pos 1) ∷ []) ∷ []))
 num_through_rows = refl
 
 num_of_unknown : lift length_function (pos 3) (arr unknown []) ≡ Ok (arr (var (var int64)) [])
@@ -91,17 +91,17 @@ num_axis_before_depth = refl
 
 -- equal alternatives are not joined
 num_through_union : lift length_function (pos 1) (arr (uni (types_from (var int64 ∷ reg 1 (leaf Bool) ∷ []))) (alt 1 (list_value (truth true ∷ [])) ∷ alt 0 (ints []) ∷ []))
-  ≡ Ok (arr (uni (types_from (int64 ∷ int64 ∷ []))) (alt 1 (int (pos 1)) ∷ alt 0 (int (pos 0)) ∷ []))
+    ≡ Ok (arr (uni (types_from (int64 ∷ int64 ∷ []))) (alt 1 (int (pos 1)) ∷ alt 0 (int (pos 0)) ∷ []))
 num_through_union = refl
 
 -- a list above the axis keeps its class
 num_below_regular : lift length_function (pos 2) (arr (reg 2 (var int64)) (list_value (ints [] ∷ ints (pos 7 ∷ []) ∷ []) ∷ []))
-  ≡ Ok (arr (reg 2 int64) (ints (pos 0 ∷ pos 1 ∷ []) ∷ []))
+    ≡ Ok (arr (reg 2 int64) (ints (pos 0 ∷ pos 1 ∷ []) ∷ []))
 num_below_regular = refl
 
 -- in a single value axis 0 is the lists directly inside
 num_of_one : lift length_function (pos 0) (one (rec (codes "x" ∷ []) (types_from (var int64 ∷ []))) (row_value (ints (pos 7 ∷ pos 8 ∷ []) ∷ [])))
-  ≡ Ok (one (rec (codes "x" ∷ []) (types_from (int64 ∷ []))) (row_value (int (pos 2) ∷ [])))
+    ≡ Ok (one (rec (codes "x" ∷ []) (types_from (int64 ∷ []))) (row_value (int (pos 2) ∷ [])))
 num_of_one = refl
 
 num_of_leaf : lift length_function (pos 0) (one int64 (int (pos 5))) ≡ Err Axis
@@ -114,7 +114,7 @@ no_fields_no_fault = refl
 -- ---- places
 
 local_index_1 : lift local_index_function (pos 1) jagged
-  ≡ Ok (arr (var int64) (ints (pos 0 ∷ pos 1 ∷ pos 2 ∷ []) ∷ ints [] ∷ ints (pos 0 ∷ pos 1 ∷ []) ∷ []))
+    ≡ Ok (arr (var int64) (ints (pos 0 ∷ pos 1 ∷ pos 2 ∷ []) ∷ ints [] ∷ ints (pos 0 ∷ pos 1 ∷ []) ∷ []))
 local_index_1 = refl
 
 local_index_0 : lift local_index_function (pos 0) jagged
@@ -122,7 +122,7 @@ local_index_0 : lift local_index_function (pos 0) jagged
 local_index_0 = refl
 
 local_index_keeps_class : lift local_index_function (pos 1) (arr (reg 2 (leaf Bool)) (list_value (truth true ∷ truth false ∷ []) ∷ []))
-  ≡ Ok (arr (reg 2 int64) (ints (pos 0 ∷ pos 1 ∷ []) ∷ []))
+    ≡ Ok (arr (reg 2 int64) (ints (pos 0 ∷ pos 1 ∷ []) ∷ []))
 local_index_keeps_class = refl
 
 -- ---- items that are not null

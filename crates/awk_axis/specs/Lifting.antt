@@ -45,7 +45,7 @@ abbrev pub on_whole : ListFunction → DataType → List Value → Result Datum 
 on_whole f t vs =
     let u = given_type f.giving None t in
     let told =
-        first_told (f.refusal t) (limit (simple (made_type f.giving t))) (f.spoil t (vs ∷ [])) in
+    first_told (f.refusal t) (limit (simple (made_type f.giving t))) (f.spoil t (vs ∷ [])) in
     refused_or told (settle (simple u) (simple_value u (given_value f.giving t vs)))
 
 -- the lists inside the items of an array

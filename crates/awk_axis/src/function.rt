@@ -20,7 +20,10 @@ pub enum Made<'a> {
     /// The lists are refused.
     Spoiled(Spoil),
     /// A list for each list. The lists fill their content.
-    Lists { offsets: Lane<'a>, content: Node<'a> },
+    Lists {
+        offsets: Lane<'a>,
+        content: Node<'a>,
+    },
     /// A single value for each list.
     Singles(Node<'a>),
 }
@@ -85,5 +88,9 @@ pub(crate) fn given_typ<F: ListOp>(
         IfOk result (λ t. typ_of t ≡ given_type giving class (typ_of item.now)) }
 {
     let made = f.typ(alloc, item)?;
-    if f.gives_lists() { list_typ(alloc, f.class(class), made) } else { Ok(made) }
+    if f.gives_lists() {
+        list_typ(alloc, f.class(class), made)
+    } else {
+        Ok(made)
+    }
 }

@@ -27,7 +27,11 @@ const ITEM_LIMIT: u64 = 1_073_741_824;
 fn too_many(n: u64) -> Option<Spoil>
     ensures { result ≡ too_many n }
 {
-    if n > ITEM_LIMIT { Some(Spoil::Size) } else { None }
+    if n > ITEM_LIMIT {
+        Some(Spoil::Size)
+    } else {
+        None
+    }
 }
 
 /// The one of two that is told first.

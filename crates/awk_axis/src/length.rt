@@ -23,7 +23,11 @@ pub(crate) fn length_at<L: Ledger>(starts: &Lane, stops: &Lane, i: u64, steps: &
 {
     let start = index_at(starts, i, steps);
     let stop = index_at(stops, i, steps);
-    if start == stop { 0 } else { (stop - start) as u64 }
+    if start == stop {
+        0
+    } else {
+        (stop - start) as u64
+    }
 }
 
 /// A number of a lane of i64.

@@ -13,9 +13,9 @@ ghost use Rattle.awk_axis.specs.Mapped.{AreEven, list_layout, IsAtAxis, IsLifted
 
 use crate::causes::{Spoil, sooner_spoil};
 use crate::function::{ListOp, Made};
+use crate::opening::{Joined, Opened, join_spans, open_array};
 use crate::place::Reach;
 use crate::types::MOST_LISTS;
-use crate::opening::{Joined, Opened, join_spans, open_array};
 use awk_lanes::{Arena, Kind, Lane, LaneMaker, NoMemory, Num, Steps};
 use awk_layout::{Array, Arrays, Node, Nodes};
 use awk_types::Names;
@@ -137,7 +137,9 @@ pub fn lifted<'a, F: ListOp, L: Ledger>(
             starts,
             stops,
             content,
-        } => lifted_lists(alloc, f, k, x, class, &starts, &stops, &content, arena, steps),
+        } => lifted_lists(
+            alloc, f, k, x, class, &starts, &stops, &content, arena, steps,
+        ),
         Opened::Row { names, columns } => {
             lifted_row(alloc, f, k, x, names, columns, arena, steps)
         }

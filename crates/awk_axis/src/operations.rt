@@ -8,8 +8,8 @@ ghost use Rattle.awk_axis.specs.Lifting.{lift};
 ghost use Rattle.awk_axis.specs.LocalIndex.{local_index_function};
 
 use crate::datum::lift_at;
-use crate::length::Length;
 use crate::indexes::LocalIndex;
+use crate::length::Length;
 use awk_lanes::{Arena, Steps};
 use awk_layout::Datum;
 use awk_types::Fault;

@@ -23,7 +23,11 @@ pub fn refusal_at<F: ListOp>(f: &F, k: Reach, t: &Typ) -> Option<Refusal>
         },
         Typ::Leaf(_) => Some(Refusal::Axis),
         Typ::Var(item) | Typ::Reg(_, item) => {
-            if k.is_here(item) { f.refusal(item) } else { refusal_at(f, k.inner(), item) }
+            if k.is_here(item) {
+                f.refusal(item)
+            } else {
+                refusal_at(f, k.inner(), item)
+            }
         }
         Typ::Rec(_) | Typ::Tup(_) | Typ::Uni(_) if !k.passes_rows() => Some(Refusal::WrongType),
         Typ::Rec(fields) => refusal_of_fields(f, k, fields),
@@ -95,7 +99,10 @@ pub fn lifted_type<F: ListOp>(alloc: Global, f: &F, k: Reach, t: &Typ) -> Result
             if k.is_here(item) {
                 given_typ(alloc, f, Some(*n), item)
             } else {
-                Ok(Typ::Reg(*n, Box::new(alloc, lifted_type(alloc, f, k.inner(), item)?)?))
+                Ok(Typ::Reg(
+                    *n,
+                    Box::new(alloc, lifted_type(alloc, f, k.inner(), item)?)?,
+                ))
             }
         }
         Typ::Rec(fields) => Ok(Typ::Rec(lifted_fields(alloc, f, k, fields)?)),

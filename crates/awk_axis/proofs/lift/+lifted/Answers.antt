@@ -76,7 +76,7 @@ lifted_lists-returns-then-is_here g t c =
     let f = g.F.ListOp.function c.args.f.now in
     let e : here c.args.k (array_type c.args.content.now) ≡ true = ap (here c.args.k) (sym c.typ.ensures.typ) ∙ sym c.is_here.ensures ∙ c.if-is_here.true in
     if_ok (IsAtAxis f c.args.class c.args.starts.now c.args.stops.now c.args.content.now) (IsLifted f c.args.k c.args.x.now) c.at_axis.result
-      (λ m. lists_here f c.args.k c.args.class c.args.starts.now c.args.stops.now c.args.content.now c.args.x.now m e c.requires.opens) c.at_axis.ensures
+    (λ m. lists_here f c.args.k c.args.class c.args.starts.now c.args.stops.now c.args.content.now c.args.x.now m e c.requires.opens) c.at_axis.ensures
 
 pub lifted_lists-join_spans-requires : goal.lifted_lists-join_spans-requires
 lifted_lists-join_spans-requires g t c = c.requires.opens.lists
@@ -97,9 +97,10 @@ lifted_lists-lifted-requires g t c κs within =
     let e : here c.args.k (array_type c.args.content.now) ≡ false = ap (here c.args.k) (sym c.typ.ensures.typ) ∙ sym c.is_here.ensures ∙ c.if-is_here.false in
     let j : IsJoined c.args.starts.now c.args.stops.now c.args.content.now (joined.Lists c.in-Lists.offsets c.in-Lists.content) = rw c.in-Lists.is at c.in_ok-join_spans.ensures in
     let r : refusal_at f (inner c.args.k) (array_type c.args.content.now) ≡ refusal_at f c.args.k (array_type c.args.x.now) = sym (refusal-list f c.args.k c.args.class (array_type c.args.content.now) e) ∙ ap (refusal_at f c.args.k) (sym c.requires.opens.typ) in
-    let d : depth (array_type c.args.x.now) ≡ depth (array_type c.in-Lists.content) + 1 = ap depth c.requires.opens.typ ∙ depth-list c.args.class (array_type c.args.content.now) ∙ ap (λ u. depth u + 1) (sym j.1.typ) in
-    (omega (arith, falls_item (depth (array_type c.args.x.now)) (depth (array_type c.in-Lists.content)) d, c.decreases),
-     (within.0, (within.1, ap (λ k. refusal_at f k (array_type c.in-Lists.content)) c.inner.ensures ∙ ap (refusal_at f (inner c.args.k)) j.1.typ ∙ r ∙ c.requires.accepted)))
+    let d : depth (array_type c.args.x.now) ≡ depth (array_type c.in-Lists.content) + 1 = ap depth c.requires.opens.typ ∙ depth-list c.args.class (array_type c.args.content.now) ∙ ap (λ u. depth u + 1) (sym j.1.typ) in (
+      omega (arith, falls_item (depth (array_type c.args.x.now)) (depth (array_type c.in-Lists.content)) d, c.decreases),
+      (within.0, (within.1, ap (λ k. refusal_at f k (array_type c.in-Lists.content)) c.inner.ensures ∙ ap (refusal_at f (inner c.args.k)) j.1.typ ∙ r ∙ c.requires.accepted)),
+    )
 
 pub lifted_lists-returns-in_err-why-in-Lists : goal.lifted_lists-returns-in_err-why-in-Lists
 lifted_lists-returns-in_err-why-in-Lists g t c = search rules
@@ -137,9 +138,10 @@ lifted_lists-returns g t c =
 
 pub lifted_option-lifted-requires : goal.lifted_option-lifted-requires
 lifted_option-lifted-requires g t c κs within =
-    let d : depth (array_type c.args.x.now) ≡ depth (array_type c.args.content.now) + 1 = ap depth c.requires.opens.typ ∙ depth-option (array_type c.args.content.now) in
-    (omega (arith, falls_item (depth (array_type c.args.x.now)) (depth (array_type c.args.content.now)) d, c.decreases),
-     (within.0, (within.1, ap (refusal_at (g.F.ListOp.function c.args.f.now) c.args.k) (sym c.requires.opens.typ) ∙ c.requires.accepted)))
+    let d : depth (array_type c.args.x.now) ≡ depth (array_type c.args.content.now) + 1 = ap depth c.requires.opens.typ ∙ depth-option (array_type c.args.content.now) in (
+      omega (arith, falls_item (depth (array_type c.args.x.now)) (depth (array_type c.args.content.now)) d, c.decreases),
+      (within.0, (within.1, ap (refusal_at (g.F.ListOp.function c.args.f.now) c.args.k) (sym c.requires.opens.typ) ∙ c.requires.accepted)),
+    )
 
 pub lifted_option-returns-in_err-why : goal.lifted_option-returns-in_err-why
 lifted_option-returns-in_err-why g t c = search rules
@@ -168,9 +170,10 @@ lifted_option-returns-in_ok-node-in-Column g t c =
 pub lifted_row-lifted_all-requires : goal.lifted_row-lifted_all-requires
 lifted_row-lifted_all-requires g t c κs within =
     let ts = types_from (map array_type c.args.columns) in
-    let d : depth (array_type c.args.x.now) ≡ greatest (depths ts) + 1 = ap depth c.requires.opens.typ ∙ depth-row c.args.names ts in
-    (omega (arith, falls_all (depth (array_type c.args.x.now)) (greatest (depths ts)) d, c.decreases),
-     (within.0, (within.1, refusal-row (g.F.ListOp.function c.args.f.now) c.args.k c.args.names ts (ap (refusal_at (g.F.ListOp.function c.args.f.now) c.args.k) (sym c.requires.opens.typ) ∙ c.requires.accepted))))
+    let d : depth (array_type c.args.x.now) ≡ greatest (depths ts) + 1 = ap depth c.requires.opens.typ ∙ depth-row c.args.names ts in (
+      omega (arith, falls_all (depth (array_type c.args.x.now)) (greatest (depths ts)) d, c.decreases),
+      (within.0, (within.1, refusal-row (g.F.ListOp.function c.args.f.now) c.args.k c.args.names ts (ap (refusal_at (g.F.ListOp.function c.args.f.now) c.args.k) (sym c.requires.opens.typ) ∙ c.requires.accepted))),
+    )
 
 pub lifted_row-returns-in_err-why : goal.lifted_row-returns-in_err-why
 lifted_row-returns-in_err-why g t c = search rules
@@ -201,9 +204,10 @@ lifted_row-returns g t c =
 pub lifted_union-lifted_all-requires : goal.lifted_union-lifted_all-requires
 lifted_union-lifted_all-requires g t c κs within =
     let ts = types_from (map array_type c.args.contents.now) in
-    let d : depth (array_type c.args.x.now) ≡ greatest (depths ts) + 1 = ap depth c.requires.opens.typ ∙ depth-union ts in
-    (omega (arith, falls_all (depth (array_type c.args.x.now)) (greatest (depths ts)) d, c.decreases),
-     (within.0, (within.1, refusal-union (g.F.ListOp.function c.args.f.now) c.args.k ts (ap (refusal_at (g.F.ListOp.function c.args.f.now) c.args.k) (sym c.requires.opens.typ) ∙ c.requires.accepted))))
+    let d : depth (array_type c.args.x.now) ≡ greatest (depths ts) + 1 = ap depth c.requires.opens.typ ∙ depth-union ts in (
+      omega (arith, falls_all (depth (array_type c.args.x.now)) (greatest (depths ts)) d, c.decreases),
+      (within.0, (within.1, refusal-union (g.F.ListOp.function c.args.f.now) c.args.k ts (ap (refusal_at (g.F.ListOp.function c.args.f.now) c.args.k) (sym c.requires.opens.typ) ∙ c.requires.accepted))),
+    )
 
 pub lifted_union-returns-in_err-why : goal.lifted_union-returns-in_err-why
 lifted_union-returns-in_err-why g t c = search rules
@@ -242,6 +246,7 @@ pub lifted-lifted_union-requires : goal.lifted-lifted_union-requires
 lifted-lifted_union-requires g t c κs within = (omega (arith, falls_kind (depth (array_type c.args.x.now)), c.decreases), (within.0, (within.1, (c.requires, rw c.in-Union.is at c.in_ok-open_array.ensures))))
 
 pub lifted_all-lifted-requires : goal.lifted_all-lifted-requires
-lifted_all-lifted-requires g t c κs within =
-    (omega (arith, falls_each (depth (array_type c.get.result.now)) (greatest (depths (types_from (map array_type c.args.xs.now)))) (depth-get c.args.xs.now c.loop-i.i c.get.result.now c.get.ensures), c.decreases),
-     (within.0, (within.1, refusal-get (g.F.ListOp.function c.args.f.now) c.args.k c.args.xs.now c.loop-i.i c.get.result.now c.get.ensures c.requires.accepted)))
+lifted_all-lifted-requires g t c κs within = (
+  omega (arith, falls_each (depth (array_type c.get.result.now)) (greatest (depths (types_from (map array_type c.args.xs.now)))) (depth-get c.args.xs.now c.loop-i.i c.get.result.now c.get.ensures), c.decreases),
+  (within.0, (within.1, refusal-get (g.F.ListOp.function c.args.f.now) c.args.k c.args.xs.now c.loop-i.i c.get.result.now c.get.ensures c.requires.accepted)),
+)

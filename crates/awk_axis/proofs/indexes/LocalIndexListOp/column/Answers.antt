@@ -28,6 +28,7 @@ returns-in-None g c =
 pub returns-in_ok-places-in-Some : goal.returns-in_ok-places-in-Some
 returns-in_ok-places-in-Some g c =
     let t : IsTotal c.args.starts.now c.args.stops.now (Some c.in-Some.n) = rw c.in-Some.is at c.total.ensures in
-    let p : before c.args.starts.now c.args.stops.now (size_of c.args.starts.now) ≤ item_limit = omega (arith, t.0, t.1) in
-    (local_fine c.args.starts.now c.args.stops.now c.args._content.now p,
-     rw (c.numpy.ensures.node, c.in_ok-places-in-Some.ensures, c.in_ok-offsets-in-Some.ensures) (local_given c.args._class c.args.starts.now c.args.stops.now c.args._content.now c.requires.lists p))
+    let p : before c.args.starts.now c.args.stops.now (size_of c.args.starts.now) ≤ item_limit = omega (arith, t.0, t.1) in (
+      local_fine c.args.starts.now c.args.stops.now c.args._content.now p,
+      rw (c.numpy.ensures.node, c.in_ok-places-in-Some.ensures, c.in_ok-offsets-in-Some.ensures) (local_given c.args._class c.args.starts.now c.args.stops.now c.args._content.now c.requires.lists p),
+    )
