@@ -1,0 +1,22 @@
+pub mod CauseLaws
+pub mod ListLaws
+pub mod Walks
+pub mod TypeWalks
+pub mod Fields
+pub mod LiftedLaws
+pub mod LiftLaws
+pub mod ArrayLaws
+pub mod ArrayKinds
+pub mod Spans
+pub mod Offsets
+pub mod Falls
+pub mod KindLaws
+pub mod IfOk
+pub mod AllLaws
+pub mod JudgedTypes
+pub mod GivenTypes
+mod Worked
+pub mod ItemAnswers
+pub mod WholeAnswers
+pub mod OpeningLaws
+pub mod LiftAnswers

@@ -1,0 +1,115 @@
+-- What is made of an array: its items by a function, as items of a type.
+use Rattle.std.specs.Prelude.{◌≡◌, ℕ, ◌+◌, ◌-◌, ◌*◌, ◌<◌, ◌≤◌, List, [], ◌∷◌, map, Option, Some}
+use Rattle.std.specs.Prelude.{None}
+use Rattle.awk_types.specs.DataType.{DataType, types_from, var}
+use Rattle.awk_types.specs.Value.{Value, list, values_from, value_list}
+use Rattle.awk_types.specs.Simple.{simple, simple_value}
+use Rattle.awk_lanes.specs.Column.{Column}
+use Rattle.awk_lanes.specs.Places.{size_of, place_at}
+use Rattle.awk_layout.specs.Layout.{Layout, offset_lists, regular}
+use Rattle.awk_layout.specs.Valid.{len, IsValid}
+use Rattle.awk_layout.specs.Item.{run}
+use Rattle.awk_layout.specs.Typing.{array_type, array_items}
+use Rattle.awk_axis.specs.declared.causes.Spoil.{Spoil}
+use Rattle.awk_axis.specs.declared.place.Reach.{Reach}
+use Rattle.awk_axis.specs.Causes.{first_spoil}
+use Rattle.awk_axis.specs.ListFunction.{Class, Giving, lists, singles, ListFunction, given_type}
+use Rattle.awk_axis.specs.ListFunction.{given_value, given_class}
+use Rattle.awk_axis.specs.Lift.{lifted_type, lifted_value}
+use Rattle.awk_axis.specs.Spoils.{spoil_at}
+use Rattle.awk_axis.specs.Opened.{items_at, all_items_at}
+use Rattle.awk_gather.specs.Arrays.{array_item}
+use Rattle.awk_axis.specs.Joined.{AreOffsets}
+use Rattle.awk_axis.specs.declared.function.Made.{Made}
+use Rattle.awk_axis.specs.declared.function.Made.TheVariants as made
+use Rattle.awk_axis.specs.declared.lift.Mapped.{Mapped}
+use Rattle.awk_axis.specs.declared.lift.Mapped.TheVariants as mapped
+use Rattle.awk_axis.specs.declared.lift.AllMapped.{AllMapped}
+use Rattle.awk_axis.specs.declared.lift.AllMapped.TheVariants as all_mapped
+
+-- y has n items, which are the values at the places, as items of a type
+pub record IsColumn (t : DataType) (value : ℕ → Value) (n : ℕ) (y : Layout) : Type 0 where
+  pub valid : IsValid y
+  pub size : len y ≡ n
+  pub typ : array_type y ≡ simple t
+  pub items : (i : ℕ) → i < n → array_item y i ≡ simple_value t (value i)
+
+-- y is x with each item by a function
+abbrev pub IsMapped : DataType → (Value → Value) → Layout → Layout → Type 0
+IsMapped t g x y = IsColumn t (λ i. g (array_item x i)) (len x) y
+
+-- ---- one column of lists
+
+-- offsets of a class: of a sized one each list has this length
+abbrev pub AreEven : Class → Column → ℕ → Type 0
+AreEven None o n = Unit {0}
+AreEven (Some m) o n = (i : ℕ) → i ≤ n → place_at o i ≡ i * m
+
+-- offsets and contents whose lists are given for the lists of a column
+pub record AreGiven (class : Class) (t : DataType) (items : List Value → List Value)
+    (s e : Column) (y : Layout) (o : Column) (z : Layout) : Type 0 where
+  pub valid : IsValid z
+  pub offsets : AreOffsets o (size_of s) (len z)
+  pub even : AreEven class o (size_of s)
+  pub typ : array_type z ≡ simple t
+  pub lists : (i : ℕ) → i < size_of s
+      → value_list (run (array_item z) (place_at o i) (place_at o (i + 1) - place_at o i))
+      ≡ map (simple_value t) (items (items_at s e y i))
+
+-- the node of lists of a class
+abbrev pub list_layout : Class → ℕ → Column → Layout → Layout
+list_layout None n o z = offset_lists o z
+list_layout (Some m) n o z = regular m n z
+
+-- what a function makes of a column of lists
+abbrev pub GivesLists : Giving → Class → Column → Column → Layout → Column → Layout → Type 0
+GivesLists (lists class typ items) c s e y o z =
+    AreGiven (class c) (typ (array_type y)) (items (array_type y)) s e y o z
+GivesLists (singles typ value) c s e y o z = ⊥
+
+abbrev pub GivesSingles : Giving → Column → Column → Layout → Layout → Type 0
+GivesSingles (lists class typ items) s e y z = ⊥
+GivesSingles (singles typ value) s e y z =
+    IsColumn (typ (array_type y)) (λ i. value (array_type y) (items_at s e y i)) (size_of s) z
+
+abbrev pub IsMade : ListFunction → Class → Column → Column → Layout → Made → Type 0
+IsMade f c s e y (made.Spoiled why) = f.spoil (array_type y) (all_items_at s e y) ≡ Some why
+IsMade f c s e y (made.Lists o z) =
+    (f.spoil (array_type y) (all_items_at s e y) ≡ None) × GivesLists f.giving c s e y o z
+IsMade f c s e y (made.Singles z) =
+    (f.spoil (array_type y) (all_items_at s e y) ≡ None) × GivesSingles f.giving s e y z
+
+-- the same as one node
+abbrev pub IsAtAxis : ListFunction → Class → Column → Column → Layout → Mapped → Type 0
+IsAtAxis f c s e y (mapped.Spoiled why) = f.spoil (array_type y) (all_items_at s e y) ≡ Some why
+IsAtAxis f c s e y (mapped.Column z) =
+    let t = array_type y in
+    (f.spoil t (all_items_at s e y) ≡ None)
+    × IsColumn (given_type f.giving c t) (λ i. given_value f.giving t (items_at s e y i)) (size_of s) z
+
+-- ---- an array
+
+abbrev pub IsLifted : ListFunction → Reach → Layout → Mapped → Type 0
+IsLifted f k x (mapped.Spoiled why) = spoil_at f k (array_type x) (array_items x) ≡ Some why
+IsLifted f k x (mapped.Column y) =
+    (spoil_at f k (array_type x) (array_items x) ≡ None)
+    × IsMapped (lifted_type f.giving k (array_type x)) (lifted_value f.giving k (array_type x)) x y
+
+-- ---- arrays, one after another
+
+abbrev pub spoil_of_all : ListFunction → Reach → List Layout → Option Spoil
+spoil_of_all f k [] = None
+spoil_of_all f k (x ∷ xs) =
+    first_spoil (spoil_at f k (array_type x) (array_items x)) (spoil_of_all f k xs)
+
+abbrev pub AreMapped : ListFunction → Reach → List Layout → List Layout → Type 0
+AreMapped f k [] [] = Unit {0}
+AreMapped f k (x ∷ xs) (y ∷ ys) =
+    IsMapped (lifted_type f.giving k (array_type x)) (lifted_value f.giving k (array_type x)) x y
+    × AreMapped f k xs ys
+AreMapped f k [] (y ∷ ys) = ⊥
+AreMapped f k (x ∷ xs) [] = ⊥
+
+abbrev pub AreLifted : ListFunction → Reach → List Layout → AllMapped → Type 0
+AreLifted f k xs (all_mapped.Spoiled why) = spoil_of_all f k xs ≡ Some why
+AreLifted f k xs (all_mapped.Columns ys) = (spoil_of_all f k xs ≡ None) × AreMapped f k xs ys

@@ -1,0 +1,95 @@
+//! A function of one list, applied to the lists inside the items of an array.
+ghost use Rattle.std.specs.Prelude.{◌≡◌, Some, IfOk};
+ghost use Rattle.awk_types.specs.Faults.{fault_told};
+ghost use Rattle.awk_types.specs.Gives.{Gives};
+ghost use Rattle.awk_layout.specs.Datum.{datum_of, first_item, IsDatum};
+ghost use Rattle.awk_layout.specs.Typing.{array_type, array_items};
+ghost use Rattle.awk_layout.specs.Valid.{len};
+ghost use Rattle.awk_axis.specs.Causes.{first_spoil};
+ghost use Rattle.awk_axis.specs.Lifting as spec;
+ghost use Rattle.awk_axis.specs.Spoils.{too_many};
+
+use crate::causes::{Spoil, sooner_spoil};
+use crate::function::ListOp;
+use crate::judged::{judged, made, spoilt};
+use crate::lift::{Mapped, lifted};
+use crate::place::Reach;
+use awk_lanes::{Arena, Steps};
+use awk_layout::{Array, Datum};
+use awk_types::Fault;
+use std::alloc::Global;
+use std::sync::ledger::Ledger;
+
+/// The most items of a column.
+const ITEM_LIMIT: u64 = 1_073_741_824;
+
+/// The spoil of a column of n items.
+fn too_many(n: u64) -> Option<Spoil>
+    ensures { result ≡ too_many n }
+{
+    if n > ITEM_LIMIT {
+        Some(Spoil::Size)
+    } else {
+        None
+    }
+}
+
+/// The one of two that is told first.
+#[tactic(auto, using(crate::proofs::JudgedTypes::first_some))]
+fn first_of(many: Option<Spoil>, why: Spoil) -> Spoil
+    ensures { first_spoil many (Some why) ≡ Some result }
+{
+    match sooner_spoil(many, Some(why)) {
+        Some(first) => first,
+        None => why,
+    }
+}
+
+/// The array, each list inside its items that is reached by the function.
+pub(crate) fn on_items<'a, F: ListOp, L: Ledger>(
+    alloc: Global,
+    f: &F,
+    k: Reach,
+    x: &Array<'a>,
+    arena: &'a Arena,
+    steps: &mut Steps<L>,
+) -> Result<Datum<'a>, Fault>
+    ensures answer { Gives datum_of fault_told result
+        (spec.on_items (F.function f.now) k (array_type x.now) (array_items x.now)) }
+    ensures datum { IfOk result IsDatum }
+{
+    if let Err(why) = judged(alloc, f, k, x.typ()) {
+        return Err(why);
+    }
+    let many = too_many(x.len());
+    match lifted(alloc, f, k, x, arena, steps)? {
+        Mapped::Spoiled(why) => Err(spoilt(first_of(many, why))),
+        Mapped::Column(node) => match many {
+            Some(why) => Err(spoilt(why)),
+            None => Ok(Datum::Arr(made(alloc, node)?)),
+        },
+    }
+}
+
+/// The single value that is the item of an array, each list inside that is reached by the function.
+pub(crate) fn on_one<'a, F: ListOp, L: Ledger>(
+    alloc: Global,
+    f: &F,
+    k: Reach,
+    x: &Array<'a>,
+    arena: &'a Arena,
+    steps: &mut Steps<L>,
+) -> Result<Datum<'a>, Fault>
+    requires one { len x.now ≡ 1 }
+    ensures answer { Gives datum_of fault_told result
+        (spec.on_one (F.function f.now) k (array_type x.now) (first_item x.now)) }
+    ensures datum { IfOk result IsDatum }
+{
+    if let Err(why) = judged(alloc, f, k, x.typ()) {
+        return Err(why);
+    }
+    match lifted(alloc, f, k, x, arena, steps)? {
+        Mapped::Spoiled(why) => Err(spoilt(why)),
+        Mapped::Column(node) => Ok(Datum::One(made(alloc, node)?)),
+    }
+}

@@ -1,0 +1,94 @@
+//! The number of items of each list.
+ghost use Rattle.std.specs.Prelude.{◌≡◌, ◌<◌, ◌^◌, IfOk, pos};
+ghost use Rattle.awk_lanes.specs.Numbers.{int_of, IsOf};
+ghost use Rattle.awk_lanes.specs.declared.kind.Kind.TheVariants as Kinds;
+ghost use Rattle.awk_lanes.specs.Places.{size_of, AreSpans};
+ghost use Rattle.awk_axis.specs.Lanes.{span_length, lengths_lane};
+ghost use Rattle.awk_axis.specs.Length.{length_function};
+
+use crate::causes::Refusal;
+use crate::function::{ListOp, Made};
+use awk_lanes::{Arena, Kind, Lane, LaneMaker, Num, Steps, index_at};
+use awk_layout::{Array, Node};
+use awk_types::{NoMemory, Prim, Typ};
+use std::alloc::Global;
+use std::sync::ledger::Ledger;
+
+/// How many items the list at a place has.
+pub(crate) fn length_at<L: Ledger>(starts: &Lane, stops: &Lane, i: u64, steps: &mut Steps<L>) -> u64
+    requires within { i < size_of starts.now }
+    requires spans { AreSpans starts.now stops.now 9223372036854775807 }
+    ensures length { result ≡ span_length starts.now stops.now i }
+    ensures fits { result < 2 ^ 63 }
+{
+    let start = index_at(starts, i, steps);
+    let stop = index_at(stops, i, steps);
+    if start == stop {
+        0
+    } else {
+        (stop - start) as u64
+    }
+}
+
+/// A number of a lane of i64.
+pub(crate) fn number(n: u64) -> Num
+    requires { n < 2 ^ 63 }
+    ensures number { int_of result ≡ pos n }
+    ensures kind { IsOf Kinds.I64 result }
+{
+    Num::Int(n as i64)
+}
+
+/// The lengths of lists.
+pub(crate) fn lengths<'a, L: Ledger>(
+    starts: &Lane,
+    stops: &Lane,
+    arena: &'a Arena,
+    steps: &mut Steps<L>,
+) -> Result<Lane<'a>, NoMemory>
+    requires spans { AreSpans starts.now stops.now 9223372036854775807 }
+    ensures { IfOk result (λ r. r ≡ lengths_lane starts.now stops.now) }
+{
+    let mut maker = LaneMaker::new(Kind::I64, starts.len(), arena)?;
+    for i in 0..starts.len() {
+        maker.push(number(length_at(starts, stops, i, steps)));
+    }
+    Ok(maker.finish())
+}
+
+/// The number of items of a list.
+#[derive(Clone, Copy, Debug, PartialEq, Eq)]
+pub struct Length;
+
+impl ListOp for Length {
+    ghost function = { λ f. length_function };
+
+    fn refusal(&self, _item: &Typ) -> Option<Refusal> {
+        None
+    }
+
+    fn typ(&self, _alloc: Global, _item: &Typ) -> Result<Typ, NoMemory> {
+        Ok(Typ::Leaf(Prim::I64))
+    }
+
+    fn gives_lists(&self) -> bool {
+        false
+    }
+
+    fn class(&self, class: Option<u64>) -> Option<u64> {
+        class
+    }
+
+    fn column<'a, L: Ledger>(
+        &self,
+        _alloc: Global,
+        _class: Option<u64>,
+        starts: &Lane<'a>,
+        stops: &Lane<'a>,
+        _content: &Array<'a>,
+        arena: &'a Arena,
+        steps: &mut Steps<L>,
+    ) -> Result<Made<'a>, NoMemory> {
+        Ok(Made::Singles(Node::numpy(lengths(starts, stops, arena, steps)?, steps)))
+    }
+}

@@ -1,0 +1,311 @@
+//! A function of one list, applied to each list of an array at an axis.
+ghost use Rattle.std.specs.Prelude.{◌≡◌, None, map, IfOk};
+ghost use Rattle.awk_types.specs.DataType.{types_from};
+ghost use Rattle.awk_layout.specs.Valid.{len};
+ghost use Rattle.awk_layout.specs.Typing.{array_type};
+ghost use Rattle.awk_axis.specs.Lift as spec;
+ghost use Rattle.awk_axis.specs.declared.place.Reach.TheVariants as Reach;
+ghost use Rattle.awk_axis.specs.Opened.{AreLists, OpensLists, OpensOption, OpensRow, OpensUnion};
+ghost use Rattle.awk_axis.specs.Opened.{OpensNothing};
+ghost use Rattle.awk_axis.specs.Joined.{AreOffsets};
+ghost use Rattle.awk_axis.specs.Taken.{IsTaken};
+ghost use Rattle.awk_axis.specs.Mapped.{AreEven, list_layout, IsAtAxis, IsLifted, AreLifted};
+
+use crate::causes::{Spoil, sooner_spoil};
+use crate::function::{ListOp, Made};
+use crate::opening::{Joined, Opened, join_spans, open_array};
+use crate::place::Reach;
+use crate::types::MOST_LISTS;
+use awk_lanes::{Arena, Kind, Lane, LaneMaker, NoMemory, Num, Steps};
+use awk_layout::{Array, Arrays, Node, Nodes};
+use awk_types::Names;
+use std::alloc::Global;
+use std::sync::ledger::Ledger;
+
+/// What is made of one array.
+#[derive(Drop)]
+pub enum Mapped<'a> {
+    Spoiled(Spoil),
+    Column(Node<'a>),
+}
+
+/// What is made of arrays, one after another.
+#[derive(Drop)]
+pub enum AllMapped<'a> {
+    Spoiled(Spoil),
+    Columns(Nodes<'a>),
+}
+
+/// Lists over their content: even ones of a sized class.
+fn list_node<'a, L: Ledger>(
+    alloc: Global,
+    class: Option<u64>,
+    n: u64,
+    offsets: Lane<'a>,
+    content: Node<'a>,
+    steps: &mut Steps<L>,
+) -> Result<Node<'a>, NoMemory>
+    requires offsets { AreOffsets offsets n (len content) }
+    requires even { AreEven class offsets n }
+    ensures { IfOk result (λ y. y ≡ list_layout class n offsets.entry content.entry) }
+{
+    let content = Box::new(alloc, content)?;
+    match class {
+        None => Ok(Node::list_offset(offsets, content, steps)),
+        Some(size) => Ok(Node::regular(size, n, content, steps)),
+    }
+}
+
+/// What the function makes of a column of lists, as one node.
+fn at_axis<'a, F: ListOp, L: Ledger>(
+    alloc: Global,
+    f: &F,
+    class: Option<u64>,
+    starts: &Lane<'a>,
+    stops: &Lane<'a>,
+    content: &Array<'a>,
+    arena: &'a Arena,
+    steps: &mut Steps<L>,
+) -> Result<Mapped<'a>, NoMemory>
+    requires accepted { (F.function f.now).refusal (array_type content.now) ≡ None }
+    requires lists { AreLists class starts.now stops.now content.now }
+    ensures { IfOk result (IsAtAxis (F.function f.now) class starts.now stops.now content.now) }
+{
+    match f.column(alloc, class, starts, stops, content, arena, steps)? {
+        Made::Spoiled(why) => Ok(Mapped::Spoiled(why)),
+        Made::Singles(node) => Ok(Mapped::Column(node)),
+        Made::Lists { offsets, content } => {
+            let node = list_node(alloc, f.class(class), starts.len(), offsets, content, steps)?;
+            Ok(Mapped::Column(node))
+        }
+    }
+}
+
+/// An array without items, whose type is that of k lists of any length around what is given for
+/// lists of unknown.
+fn below_unknown<'a, F: ListOp, L: Ledger>(
+    alloc: Global,
+    f: &F,
+    k: u64,
+    x: &Array<'a>,
+    arena: &'a Arena,
+    steps: &mut Steps<L>,
+) -> Result<Mapped<'a>, NoMemory>
+    requires accepted { (F.function f.now).refusal (array_type x.now) ≡ None }
+    requires nothing { OpensNothing x.now }
+    ensures { IfOk result (IsLifted (F.function f.now) (Reach.Axis k) x.now) }
+{
+    let none = LaneMaker::new(Kind::I64, 0, arena)?.finish();
+    let above = k.min(MOST_LISTS);
+    let _ = x.len();
+    match at_axis(alloc, f, None, &none, &none, x, arena, steps)? {
+        Mapped::Spoiled(why) => Ok(Mapped::Spoiled(why)),
+        Mapped::Column(node) => {
+            let mut made = node;
+            for i in 0..above {
+                let mut offsets = LaneMaker::new(Kind::I64, 1, arena)?;
+                offsets.push(Num::Int(0));
+                made = Node::list_offset(offsets.finish(), Box::new(alloc, made)?, steps);
+            }
+            Ok(Mapped::Column(made))
+        }
+    }
+}
+
+/// The array, each list that is reached by the function.
+#[cycle(lifted)]
+#[tactic(none)]
+pub fn lifted<'a, F: ListOp, L: Ledger>(
+    alloc: Global,
+    f: &F,
+    k: Reach,
+    x: &Array<'a>,
+    arena: &'a Arena,
+    steps: &mut Steps<L>,
+) -> Result<Mapped<'a>, NoMemory>
+    requires { spec.refusal_at (F.function f.now) k (array_type x.now) ≡ None }
+    ensures { IfOk result (IsLifted (F.function f.now) k x.now) }
+{
+    match open_array(alloc, x, arena, steps)? {
+        Opened::Unknown => match k {
+            Reach::Axis(k) => below_unknown(alloc, f, k, x, arena, steps),
+            Reach::Innermost => unreachable!(),
+        },
+        Opened::Leaf(_) => unreachable!(),
+        Opened::Items {
+            class,
+            starts,
+            stops,
+            content,
+        } => lifted_lists(
+            alloc, f, k, x, class, &starts, &stops, &content, arena, steps,
+        ),
+        Opened::Row { names, columns } => {
+            lifted_row(alloc, f, k, x, names, columns, arena, steps)
+        }
+        Opened::Option { index, content } => {
+            lifted_option(alloc, f, k, x, &index, &content, arena, steps)
+        }
+        Opened::Union {
+            tags,
+            index,
+            contents,
+        } => lifted_union(alloc, f, k, x, &tags, &index, &contents, arena, steps),
+    }
+}
+
+/// The same of lists: their items at the next axis, or each list itself.
+#[cycle(lifted)]
+#[tactic(none)]
+fn lifted_lists<'a, F: ListOp, L: Ledger>(
+    alloc: Global,
+    f: &F,
+    k: Reach,
+    x: &Array<'a>,
+    class: Option<u64>,
+    starts: &Lane<'a>,
+    stops: &Lane<'a>,
+    content: &Array<'a>,
+    arena: &'a Arena,
+    steps: &mut Steps<L>,
+) -> Result<Mapped<'a>, NoMemory>
+    requires accepted { spec.refusal_at (F.function f.now) k (array_type x.now) ≡ None }
+    requires opens { OpensLists class starts.now stops.now content.now x.now }
+    ensures { IfOk result (IsLifted (F.function f.now) k x.now) }
+{
+    if k.is_here(content.typ()) {
+        return at_axis(alloc, f, class, starts, stops, content, arena, steps);
+    }
+    match join_spans(alloc, class, starts, stops, content, arena, steps)? {
+        Joined::TooMany => Ok(Mapped::Spoiled(Spoil::Size)),
+        Joined::Lists { offsets, content } => {
+            match lifted(alloc, f, k.inner(), &content, arena, steps)? {
+                Mapped::Spoiled(why) => Ok(Mapped::Spoiled(why)),
+                Mapped::Column(node) => {
+                    let node = list_node(alloc, class, starts.len(), offsets, node, steps)?;
+                    Ok(Mapped::Column(node))
+                }
+            }
+        }
+    }
+}
+
+/// The same of an option.
+#[cycle(lifted)]
+#[tactic(none)]
+fn lifted_option<'a, F: ListOp, L: Ledger>(
+    alloc: Global,
+    f: &F,
+    k: Reach,
+    x: &Array<'a>,
+    index: &Lane<'a>,
+    content: &Array<'a>,
+    arena: &'a Arena,
+    steps: &mut Steps<L>,
+) -> Result<Mapped<'a>, NoMemory>
+    requires accepted { spec.refusal_at (F.function f.now) k (array_type x.now) ≡ None }
+    requires opens { OpensOption index.now content.now x.now }
+    ensures { IfOk result (IsLifted (F.function f.now) k x.now) }
+{
+    match lifted(alloc, f, k, content, arena, steps)? {
+        Mapped::Spoiled(why) => Ok(Mapped::Spoiled(why)),
+        Mapped::Column(node) => {
+            let node = Box::new(alloc, node)?;
+            Ok(Mapped::Column(Node::indexed_option(index.copy(), node, steps)))
+        }
+    }
+}
+
+/// The same of rows.
+#[cycle(lifted)]
+#[tactic(none)]
+fn lifted_row<'a, F: ListOp, L: Ledger>(
+    alloc: Global,
+    f: &F,
+    k: Reach,
+    x: &Array<'a>,
+    names: Option<Names>,
+    columns: Arrays<'a>,
+    arena: &'a Arena,
+    steps: &mut Steps<L>,
+) -> Result<Mapped<'a>, NoMemory>
+    requires accepted { spec.refusal_at (F.function f.now) k (array_type x.now) ≡ None }
+    requires opens { OpensRow names columns x.now }
+    ensures { IfOk result (IsLifted (F.function f.now) k x.now) }
+{
+    match lifted_all(alloc, f, k, &columns, arena, steps)? {
+        AllMapped::Spoiled(why) => Ok(Mapped::Spoiled(why)),
+        AllMapped::Columns(nodes) => Ok(Mapped::Column(Node::row(names, x.len(), nodes, steps))),
+    }
+}
+
+/// The same of a union.
+#[cycle(lifted)]
+#[tactic(none)]
+fn lifted_union<'a, F: ListOp, L: Ledger>(
+    alloc: Global,
+    f: &F,
+    k: Reach,
+    x: &Array<'a>,
+    tags: &Lane<'a>,
+    index: &Lane<'a>,
+    contents: &Arrays<'a>,
+    arena: &'a Arena,
+    steps: &mut Steps<L>,
+) -> Result<Mapped<'a>, NoMemory>
+    requires accepted { spec.refusal_at (F.function f.now) k (array_type x.now) ≡ None }
+    requires opens { OpensUnion tags.now index.now contents.now x.now }
+    ensures { IfOk result (IsLifted (F.function f.now) k x.now) }
+{
+    match lifted_all(alloc, f, k, contents, arena, steps)? {
+        AllMapped::Spoiled(why) => Ok(Mapped::Spoiled(why)),
+        AllMapped::Columns(nodes) => {
+            let node = Node::union(tags.copy(), index.copy(), nodes, steps);
+            Ok(Mapped::Column(node))
+        }
+    }
+}
+
+/// One more array: of several refusals the one that is told first is told.
+fn taken<'a>(
+    first: Option<Spoil>,
+    nodes: &mut Nodes<'a>,
+    made: Mapped<'a>,
+) -> Result<Option<Spoil>, NoMemory>
+    ensures { IfOk result (λ next. IsTaken first nodes.old made.entry next nodes.new) }
+{
+    match made {
+        Mapped::Spoiled(why) => Ok(sooner_spoil(first, Some(why))),
+        Mapped::Column(node) => {
+            nodes.push(node)?;
+            Ok(first)
+        }
+    }
+}
+
+/// The same of arrays, one after another.
+#[cycle(lifted)]
+#[tactic(auto, using(crate::proofs::ArrayKinds::all))]
+fn lifted_all<'a, F: ListOp, L: Ledger>(
+    alloc: Global,
+    f: &F,
+    k: Reach,
+    xs: &Arrays<'a>,
+    arena: &'a Arena,
+    steps: &mut Steps<L>,
+) -> Result<AllMapped<'a>, NoMemory>
+    requires accepted { let types = types_from (map array_type xs.now) in
+        spec.refusal_among (F.function f.now) k types ≡ None }
+    ensures { IfOk result (AreLifted (F.function f.now) k xs.now) }
+{
+    let mut first = None;
+    let mut nodes = Nodes::new(alloc);
+    for i in 0..xs.len() {
+        let made = lifted(alloc, f, k, xs.get(i), arena, steps)?;
+        first = taken(first, &mut nodes, made)?;
+    }
+    match first {
+        Some(why) => Ok(AllMapped::Spoiled(why)),
+        None => Ok(AllMapped::Columns(nodes)),
+    }
+}

@@ -1,0 +1,75 @@
+//! A function of one list, applied to a whole array as one list.
+ghost use Rattle.std.specs.Prelude.{◌≡◌, ◌∷◌, [], ◌<◌, ◌^◌, None, IfOk, pos};
+ghost use Rattle.awk_types.specs.Faults.{fault_told};
+ghost use Rattle.awk_types.specs.Gives.{Gives};
+ghost use Rattle.awk_types.specs.Limit.{limit};
+ghost use Rattle.awk_types.specs.Simple.{simple};
+ghost use Rattle.awk_lanes.specs.declared.kind.Kind.TheVariants as Kind;
+ghost use Rattle.awk_layout.specs.Datum.{datum_of, IsDatum};
+ghost use Rattle.awk_layout.specs.Typing.{array_type, array_items};
+ghost use Rattle.awk_axis.specs.Lifting as spec;
+ghost use Rattle.awk_axis.specs.ListFunction.{made_type};
+
+use crate::function::{ListOp, Made};
+use crate::judged::{judged_whole, made, spoilt};
+use crate::length::number;
+use awk_lanes::{Arena, Kind, Lane, LaneMaker, NoMemory, Steps};
+use awk_layout::{Array, Datum};
+use awk_types::Fault;
+use awk_view::settled;
+use std::alloc::Global;
+use std::sync::ledger::Ledger;
+
+/// A lane of one number.
+fn one_number<'a>(n: u64, arena: &'a Arena) -> Result<Lane<'a>, NoMemory>
+    requires { n < 2 ^ 63 }
+    ensures { IfOk result (λ r. r ≡ record { kind = Kind.I64; items = pos n ∷ [] }) }
+{
+    let mut maker = LaneMaker::new(Kind::I64, 1, arena)?;
+    maker.push(number(n));
+    Ok(maker.finish())
+}
+
+/// What the function gives for the array as one list, settled.
+fn given_whole<'a, F: ListOp, L: Ledger>(
+    alloc: Global,
+    f: &F,
+    x: &Array<'a>,
+    arena: &'a Arena,
+    steps: &mut Steps<L>,
+) -> Result<Datum<'a>, Fault>
+    requires accepted { (F.function f.now).refusal (array_type x.now) ≡ None }
+    requires limit { limit (simple (made_type (F.function f.now).giving (array_type x.now))) ≡ None }
+    ensures answer { Gives datum_of fault_told result
+        (spec.on_whole (F.function f.now) (array_type x.now) (array_items x.now)) }
+    ensures datum { IfOk result IsDatum }
+{
+    let starts = one_number(0, arena)?;
+    let stops = one_number(x.len(), arena)?;
+    match f.column(alloc, None, &starts, &stops, x, arena, steps)? {
+        Made::Spoiled(why) => Err(spoilt(why)),
+        Made::Lists { content, .. } => Ok(Datum::Arr(made(alloc, content)?)),
+        Made::Singles(node) => {
+            let one = made(alloc, node)?;
+            Ok(settled(alloc, &one, steps)?)
+        }
+    }
+}
+
+/// The array as one list by the function, settled, or the first fault.
+pub(crate) fn on_whole<'a, F: ListOp, L: Ledger>(
+    alloc: Global,
+    f: &F,
+    x: &Array<'a>,
+    arena: &'a Arena,
+    steps: &mut Steps<L>,
+) -> Result<Datum<'a>, Fault>
+    ensures answer { Gives datum_of fault_told result
+        (spec.on_whole (F.function f.now) (array_type x.now) (array_items x.now)) }
+    ensures datum { IfOk result IsDatum }
+{
+    if let Err(why) = judged_whole(alloc, f, x.typ()) {
+        return Err(why);
+    }
+    given_whole(alloc, f, x, arena, steps)
+}
