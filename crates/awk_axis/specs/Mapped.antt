@@ -85,7 +85,8 @@ IsAtAxis f c s e y (mapped.Spoiled why) = f.spoil (array_type y) (all_items_at s
 IsAtAxis f c s e y (mapped.Column z) =
     let t = array_type y in
     (f.spoil t (all_items_at s e y) ≡ None)
-    × IsColumn (given_type f.giving c t) (λ i. given_value f.giving t (items_at s e y i)) (size_of s) z
+    × IsColumn (given_type f.giving c t) (λ i. given_value f.giving t (items_at s e y i))
+    (size_of s) z
 
 -- ---- an array
 

@@ -39,7 +39,8 @@ fn given_whole<'a, F: ListOp, L: Ledger>(
     steps: &mut Steps<L>,
 ) -> Result<Datum<'a>, Fault>
     requires accepted { (F.function f.now).refusal (array_type x.now) ≡ None }
-    requires limit { limit (simple (made_type (F.function f.now).giving (array_type x.now))) ≡ None }
+    requires limit { limit (simple
+        (made_type (F.function f.now).giving (array_type x.now))) ≡ None }
     ensures answer { Gives datum_of fault_told result
         (spec.on_whole (F.function f.now) (array_type x.now) (array_items x.now)) }
     ensures datum { IfOk result IsDatum }

@@ -1,4 +1,5 @@
-//! The run of a session: its lines come from a source, the answers go to a sink, and a status tells how it ended.
+//! The run of a session: its lines come from a source, the answers go to a sink, and a status tells
+//! how it ended.
 #![tactic(auto)]
 
 mod program;

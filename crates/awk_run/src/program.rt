@@ -8,9 +8,11 @@ use std::rt::Env;
 use std::sync::ledger::Ledger;
 use std::{env, io};
 
-/// Answers the session on standard input to standard output, by `run_words` over the words of the command line.
+/// Answers the session on standard input to standard output, by `run_words` over the words of the
+/// command line.
 ///
-/// The runtime is a parameter, so this begins no counter of its own: it counts in the one that it is given.
+/// The runtime is a parameter, so this begins no counter of its own: it counts in the one that it
+/// is given.
 pub fn run_program<R: Env + Input + Print + AllocGlobal, L: Ledger>(
     rt: &R,
     steps: &mut Steps<L>,

@@ -59,7 +59,8 @@ impl Status {
 }
 
 /// Answers the session that the source gives, where the words are the one word `run`.
-/// The sink is flushed once for each answer that was written whole; where it failed, the last flush may be missing.
+/// The sink is flushed once for each answer that was written whole; where it failed, the last flush
+/// may be missing.
 pub fn run_words<S: Source, K: Sink, L: Ledger>(
     alloc: Global,
     words: &[String],
@@ -67,17 +68,20 @@ pub fn run_words<S: Source, K: Sink, L: Ledger>(
     sink: &mut K,
     steps: &mut Steps<L>,
 ) -> Status
-    // The words are wrong exactly where they are not the one word `run`, and then nothing is read or written.
+    // The words are wrong exactly where they are not the one word `run`, and then nothing is read
+    // or written.
     ensures words { (result ≡ Status.Words) ↔ (IsRun words.now → ⊥) }
     ensures untouched { result ≡ Status.Words → (source.new ≡ source.old) × (sink.new ≡ sink.old) }
 
     // A complete run wrote the answers to all the lines of the source.
-    ensures answers { (bytes before : List ℕ) → S.left source.old ≡ Some bytes → K.written sink.old ≡ Some before →
-        IsComplete result → K.written sink.new ≡ Some (before ++ answers (lines bytes)) }
+    ensures answers { (bytes before : List ℕ) → S.left source.old ≡ Some bytes →
+        K.written sink.old ≡ Some before → IsComplete result →
+        K.written sink.new ≡ Some (before ++ answers (lines bytes)) }
 
-    // What each status says of the bytes that the source gave, of those that were written, and of the flushes.
-    ensures session { Session (S.left source.old) (S.left source.new) (K.written sink.old) (K.written sink.new)
-        (K.flushes sink.old) (K.flushes sink.new) result }
+    // What each status says of the bytes that the source gave, of those that were written, and of
+    // the flushes.
+    ensures session { Session (S.left source.old) (S.left source.new)
+        (K.written sink.old) (K.written sink.new) (K.flushes sink.old) (K.flushes sink.new) result }
 
     // Unless the sink failed, nothing that was written is left unflushed.
     ensures flushed { result ≢ Status.Write → IsTrue (K.flushed sink.new) ⊎ (sink.new ≡ sink.old) }
@@ -89,10 +93,13 @@ pub fn run_words<S: Source, K: Sink, L: Ledger>(
     // Where neither failed, memory was not wanting and no limit is passed, the run is complete.
     ensures complete { IsRun words.now → (Rose (S.faults source.old) (S.faults source.new) → ⊥) →
         (Rose (K.faults sink.old) (K.faults sink.new) → ⊥) → result ≢ Status.Memory →
-        Completes (S.left source.old) (S.left source.new) (K.written sink.old) (K.written sink.new) result }
-    ensures complete_told { (bytes : List ℕ) → S.left source.old ≡ Some bytes → IsWithinLimits bytes →
-        IsRun words.now → (Rose (S.faults source.old) (S.faults source.new) → ⊥) →
-        (Rose (K.faults sink.old) (K.faults sink.new) → ⊥) → result ≢ Status.Memory → IsComplete result }
+        Completes (S.left source.old) (S.left source.new)
+        (K.written sink.old) (K.written sink.new) result }
+    ensures complete_told { (bytes : List ℕ) → S.left source.old ≡ Some bytes →
+        IsWithinLimits bytes → IsRun words.now →
+        (Rose (S.faults source.old) (S.faults source.new) → ⊥) →
+        (Rose (K.faults sink.old) (K.faults sink.new) → ⊥) → result ≢ Status.Memory →
+        IsComplete result }
 
     // A session of lines that each have a cost takes at most what they cost together.
     ensures cost { (bytes : List ℕ) → S.left source.old ≡ Some bytes →
@@ -123,8 +130,8 @@ fn run<S: Source, K: Sink, L: Ledger>(
     steps: &mut Steps<L>,
 ) -> Status
     ensures not_words { result ≢ Status.Words }
-    ensures session { Session (S.left source.old) (S.left source.new) (K.written sink.old) (K.written sink.new)
-        (K.flushes sink.old) (K.flushes sink.new) result }
+    ensures session { Session (S.left source.old) (S.left source.new)
+        (K.written sink.old) (K.written sink.new) (K.flushes sink.old) (K.flushes sink.new) result }
     ensures flushed { result ≢ Status.Write → IsTrue (K.flushed sink.new) ⊎ (sink.new ≡ sink.old) }
     ensures read { result ≡ Status.Read → Rose (S.faults source.old) (S.faults source.new) }
     ensures write { result ≡ Status.Write → Rose (K.faults sink.old) (K.faults sink.new) }
@@ -176,12 +183,14 @@ fn answer<K: Sink, L: Ledger>(
     requires empty { out.old.held ≡ [] }
     ensures answers { Answers (K.written sink.old) (K.written sink.new) out.new
         (denoted engine.old) (denoted engine.new) line.now result }
-    ensures flushes { OnOk result (K.flushes sink.new ≡ risen (answer_count (line.now ∷ [])) (K.flushes sink.old)) }
+    ensures flushes { OnOk result
+        (K.flushes sink.new ≡ risen (answer_count (line.now ∷ [])) (K.flushes sink.old)) }
     ensures unflushed { OnErr result (K.flushes sink.new ≡ K.flushes sink.old) }
     ensures flushed { OnOk result (IsTrue (K.flushed sink.new) ⊎ (sink.new ≡ sink.old)) }
     ensures untouched { result ≡ Err LineEnd.NoMemory → sink.new ≡ sink.old }
     ensures later { K.faults sink.old ≤ K.faults sink.new }
-    ensures write { IfErr result (λ end. end ≡ LineEnd.Write → Rose (K.faults sink.old) (K.faults sink.new)) }
+    ensures write { IfErr result (λ end. end ≡ LineEnd.Write →
+        Rose (K.faults sink.old) (K.faults sink.new)) }
     ensures binds { OnOk result (Binds (line_in line.now)
         (step (denoted engine.old) line.now).is_fault engine.old engine.new) }
     ensures cost { TakesCost engine.old (line_in line.now) (length line.now)

@@ -35,6 +35,7 @@ abbrev pub loaded_from : Result FormTree forms.Refusal → ℕ → Members → R
 loaded_from (Ok f) n buffers = walked (denoting f n (container_of (texts_of buffers)))
 loaded_from (Err refusal) n buffers = Err (form_fault refusal)
 
--- the array that a form, a length and buffers denote, or the fault that refuses them: the form is judged first
+-- the array that a form, a length and buffers denote, or the fault that refuses them: the form is
+-- judged first
 abbrev pub loaded : Data → ℕ → Members → Result Datum AnswerFault
 loaded d n buffers = loaded_from (reading d) n buffers

@@ -90,7 +90,8 @@ impl<'a> Engine<'a> {
         // The answer and the variables are those of the step, and after a write fault the output is
         // closed. Want of memory leaves all as it was.
         ensures leaves { Leaves (K.written sink.old) (K.written sink.new) out.old out.new
-            (denoted self.old) (denoted self.new) (replies.step (denoted self.old) bytes.now) result }
+            (denoted self.old) (denoted self.new) (replies.step (denoted self.old) bytes.now)
+            result }
         ensures same { result ≡ Err LineEnd.NoMemory → self.new ≡ self.old }
         ensures untouched { result ≡ Err LineEnd.NoMemory → sink.new ≡ sink.old }
 
