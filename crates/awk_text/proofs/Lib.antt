@@ -16,4 +16,3 @@ pub mod BufferTexts
 pub mod OwnKeys
 pub mod BufferKeys
 pub mod PackedLines
-pub mod PackedLanes
