@@ -12,3 +12,7 @@ pub mod NumberTexts
 pub mod Runs
 pub mod TypeTexts
 pub mod LineEnds
+pub mod BufferTexts
+pub mod OwnKeys
+pub mod BufferKeys
+pub mod PackedLines

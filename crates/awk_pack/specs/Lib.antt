@@ -1,0 +1,5 @@
+pub mod Columns
+pub mod Lanes
+pub mod PackedForm
+pub mod Canon
+pub mod Shown
