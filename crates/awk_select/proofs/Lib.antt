@@ -1,0 +1,5 @@
+pub mod Worked
+pub mod Lists
+pub mod RangePlaces
+pub mod CellLaws
+pub mod PickedPlaces

@@ -1,0 +1,77 @@
+-- The numbers or truth values of an array as lanes, with its nulls.
+use Rattle.std.specs.Prelude.{◌≡◌, ℕ, ◌<◌, ℤ, pos, negsuc, Bool, true, false, List, [], ◌∷◌, map, Option, Some, None}
+use Rattle.awk_types.specs.DataType.{DataType, unknown, leaf}
+use Rattle.awk_types.specs.Value.{Value, int, truth, null}
+use Rattle.awk_lanes.specs.Column.{Column}
+use Rattle.awk_lanes.specs.Places.{size_of, at, option_place_at, IsOptionKind}
+use Rattle.awk_lanes.specs.declared.kind.Kind.TheVariants.{I64}
+use Rattle.awk_lanes.specs.declared.kind.Num.{Num}
+use Rattle.awk_lanes.specs.declared.kind.Num.TheVariants.{Int, Nat, Truth}
+use Rattle.awk_layout.specs.Layout.{Layout}
+use Rattle.awk_layout.specs.Valid.{len}
+use Rattle.awk_layout.specs.Item.{leaf_value, at_option}
+use Rattle.awk_gather.specs.Arrays.{array_item}
+use Rattle.awk_select.specs.Picks.{mask_place, take_place}
+use Rattle.awk_select.specs.declared.cells.Cells.{Cells}
+use Rattle.awk_select.specs.declared.cells.Cells.TheVariants.{Nulls, Plain, Optional}
+
+-- a type whose items are single numbers or truth values, or that has none
+abbrev pub is_leaf : DataType → Bool
+is_leaf unknown = true
+is_leaf (leaf p) = true
+is_leaf t = false
+
+-- the value that a number in code is
+abbrev pub number_value : Num → Value
+number_value (Int z) = int z
+number_value (Nat n) = int (pos n)
+number_value (Truth b) = truth b
+
+abbrev pub cell_shown : Option Num → Value
+cell_shown None = null
+cell_shown (Some x) = number_value x
+
+-- the value at a place
+abbrev pub cell_value : Cells → ℕ → Value
+cell_value Nulls i = null
+cell_value (Plain c) i = leaf_value c.kind (at c i)
+cell_value (Optional j c) i = at_option (option_place_at j i) (λ k. leaf_value c.kind (at c k))
+
+abbrev pub IsBelow : ℕ → Option ℕ → Type 0
+IsBelow n None = Unit {0}
+IsBelow n (Some k) = k < n
+
+-- there is a value at a place
+abbrev pub IsCell : Cells → ℕ → Type 0
+IsCell Nulls i = Unit {0}
+IsCell (Plain c) i = i < size_of c
+IsCell (Optional j c) i =
+    IsOptionKind j.kind × (i < size_of j) × IsBelow (size_of c) (option_place_at j i)
+
+-- the values of an array, each by its place
+pub record AreCells (x : Layout) (c : Cells) : Type 0 where
+  pub there : (i : ℕ) → i < len x → IsCell c i
+  pub values : (i : ℕ) → i < len x → array_item x i ≡ cell_value c i
+
+-- ---- lanes of places
+
+-- a place as a number of a lane, and -1 for null
+abbrev pub place_number : Option ℕ → ℤ
+place_number None = negsuc 0
+place_number (Some k) = pos k
+
+abbrev pub places_lane : List (Option ℕ) → Column
+places_lane places = record { kind = I64; items = map place_number places }
+
+-- what item i of a mask gives to its places, as numbers of a lane
+abbrev pub mask_numbers : Layout → ℕ → List ℤ
+mask_numbers m i = map place_number (mask_place i (array_item m i))
+
+-- the place that item i of an index names, as a number of a lane
+abbrev pub take_number : ℕ → Layout → ℕ → ℤ
+take_number n ix i = place_number (take_place n (array_item ix i))
+
+-- these numbers, none or one, are all that code holds
+abbrev pub numbers_shown : Option ℤ → List ℤ
+numbers_shown None = []
+numbers_shown (Some z) = z ∷ []

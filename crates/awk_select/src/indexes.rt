@@ -1,0 +1,178 @@
+//! The items of an array at the places of an index.
+ghost use Rattle.std.specs.Prelude.{◌≡◌, ◌<◌, ◌≤◌, ◌^◌, true, None, length, not, IfOk};
+ghost use Rattle.std.specs.List.{list_any};
+ghost use Rattle.awk_types.specs.Datum.{arr};
+ghost use Rattle.awk_types.specs.Faults.{fault_told};
+ghost use Rattle.awk_types.specs.Gives.{Gives, refused_or, ◌or◌};
+ghost use Rattle.awk_types.specs.Limit.{limit};
+ghost use Rattle.awk_types.specs.View.{typ_of};
+ghost use Rattle.awk_lanes.specs.Numbers.{int_of, IsOf};
+ghost use Rattle.awk_lanes.specs.declared.kind.Kind.TheVariants as Kind;
+ghost use Rattle.awk_layout.specs.Datum.{IsDatum, datum_of};
+ghost use Rattle.awk_layout.specs.Typing.{array_type, array_items, array_datum};
+ghost use Rattle.awk_layout.specs.Valid.{len};
+ghost use Rattle.awk_gather.specs.Arrays.{array_item};
+ghost use Rattle.awk_gather.specs.Joined.{too_many};
+ghost use Rattle.awk_gather.specs.Lanes.{lane_of};
+ghost use Rattle.awk_select.specs.Cells.{AreCells, take_number};
+ghost use Rattle.awk_select.specs.Picks as picks;
+ghost use Rattle.awk_select.specs.Picks.{take_of, take_places, is_outside, index_refused};
+ghost use Rattle.awk_select.specs.Picks.{picked, picked_type};
+
+use crate::cells::{Cells, cells_of};
+use crate::picked::{ITEM_LIMIT, judge_type, pick};
+use crate::places::{number, place_of};
+use awk_lanes::{Arena, Kind, Lane, LaneMaker, NoMemory, Num, Steps};
+use awk_layout::{Array, Datum};
+use awk_types::{Fault, Prim, Typ};
+use std::alloc::Global;
+use std::sync::ledger::Ledger;
+
+/// The items of an array at the places of an index, in its order, and null where it is null. A
+/// negative place counts from the end. `WrongType` tells that one of the two is a single value, or
+/// that the index's items are no whole numbers, and `Index` that the array has not every place.
+/// `Depth` and `Size` tell the limit that the optional type passes, and `Size` also that the items
+/// are more than 1,073,741,824.
+pub fn take<'a, L: Ledger>(
+    alloc: Global,
+    x: &Datum<'a>,
+    ix: &Datum<'a>,
+    arena: &'a Arena,
+    steps: &mut Steps<L>,
+) -> Result<Datum<'a>, Fault>
+    ensures answer { Gives datum_of fault_told result (take_of (datum_of x.now) (datum_of ix.now)) }
+    ensures datum { IfOk result (λ made. IsDatum made) }
+{
+    match (x, ix) {
+        (Datum::Arr(x), Datum::Arr(ix)) => Ok(Datum::Arr(taken(alloc, x, ix, arena, steps)?)),
+        _ => Err(Fault::WrongType),
+    }
+}
+
+fn is_numbers(t: &Typ) -> bool
+    ensures { result ≡ picks.is_numbers (typ_of t.now) }
+{
+    match t {
+        Typ::Unknown => true,
+        Typ::Leaf(Prim::Bool) => false,
+        Typ::Leaf(_) => true,
+        _ => false,
+    }
+}
+
+// Whether items of a type are whole numbers or unknown, optional or not.
+fn is_index(t: &Typ) -> bool
+    ensures { result ≡ picks.is_index (typ_of t.now) }
+{
+    match t {
+        Typ::Opt(inner) => is_numbers(inner),
+        _ => is_numbers(t),
+    }
+}
+
+fn taken<'a, L: Ledger>(
+    alloc: Global,
+    x: &Array<'a>,
+    ix: &Array<'a>,
+    arena: &'a Arena,
+    steps: &mut Steps<L>,
+) -> Result<Array<'a>, Fault>
+    ensures answer { let said = picks.taken (array_type x.now) (array_items x.now) in
+        Gives array_datum fault_told result (said (array_type ix.now) (array_items ix.now)) }
+{
+    if !is_index(ix.typ()) {
+        return Err(Fault::WrongType);
+    }
+    judge_type(alloc, x.typ(), ix.typ())?;
+    taken_items(alloc, x, ix, arena, steps)
+}
+
+fn taken_items<'a, L: Ledger>(
+    alloc: Global,
+    x: &Array<'a>,
+    ix: &Array<'a>,
+    arena: &'a Arena,
+    steps: &mut Steps<L>,
+) -> Result<Array<'a>, Fault>
+    requires index { picks.is_index (array_type ix.now) ≡ true }
+    requires limit { limit (picked_type (array_type ix.now) (array_type x.now)) ≡ None }
+    ensures answer { let n = length (array_items x.now) in
+        let t = picked_type (array_type ix.now) (array_type x.now) in
+        let refused = index_refused n (array_items ix.now) or too_many (length (array_items ix.now)) in
+        let said = refused_or refused (arr t (picked (array_items x.now) (take_places n (array_items ix.now)))) in
+        Gives array_datum fault_told result said }
+{
+    let cells = cells_of(alloc, ix, arena, steps)?;
+    let n = x.len();
+    if !are_inside(ix, &cells, n, steps) {
+        return Err(Fault::Index);
+    }
+    if ix.len() > ITEM_LIMIT {
+        return Err(Fault::Size);
+    }
+    let places = take_lane(ix, &cells, n, arena, steps)?;
+    pick(alloc, x, &places, ix.typ(), arena, steps)
+}
+
+// Whether item i of an index is null or names a place of n items.
+fn is_inside<L: Ledger>(ix: &Array, cells: &Cells, n: u64, i: u64, steps: &mut Steps<L>) -> bool
+    requires cells { AreCells ix.now cells.now }
+    requires within { i < len ix.now }
+    ensures { not result ≡ is_outside n (array_item ix.now i) }
+{
+    match cells.at(i, steps) {
+        Some(Num::Truth(_)) | None => true,
+        Some(x) => place_of(n, x).is_some(),
+    }
+}
+
+// Whether all items of an index do.
+fn are_inside<L: Ledger>(ix: &Array, cells: &Cells, n: u64, steps: &mut Steps<L>) -> bool
+    requires { AreCells ix.now cells.now }
+    ensures { not result ≡ list_any (is_outside n) (array_items ix.now) }
+{
+    for i in 0..ix.len() {
+        if !is_inside(ix, cells, n, i, steps) {
+            return false;
+        }
+    }
+    true
+}
+
+// The place of n items that item i of an index names, or -1 for null.
+fn taken_number<L: Ledger>(ix: &Array, cells: &Cells, n: u64, i: u64, steps: &mut Steps<L>) -> Num
+    requires cells { AreCells ix.now cells.now }
+    requires within { i < len ix.now }
+    requires small { n ≤ 2 ^ 63 }
+    ensures number { int_of result ≡ take_number n ix.now i }
+    ensures kind { IsOf Kind.I64 result }
+{
+    match cells.at(i, steps) {
+        None => Num::Int(-1),
+        Some(x) => match place_of(n, x) {
+            None => Num::Int(-1),
+            Some(k) => number(k),
+        },
+    }
+}
+
+// The places of n items that an index names, and -1 for each null.
+fn take_lane<'a, L: Ledger>(
+    ix: &Array,
+    cells: &Cells,
+    n: u64,
+    arena: &'a Arena,
+    steps: &mut Steps<L>,
+) -> Result<Lane<'a>, NoMemory>
+    requires cells { AreCells ix.now cells.now }
+    requires small { n ≤ 2 ^ 63 }
+    ensures lane { IfOk result (λ r. r ≡ lane_of Kind.I64 (len ix.now) (take_number n ix.now)) }
+{
+    let count = ix.len();
+    let mut maker = LaneMaker::new(Kind::I64, count, arena)?;
+    for i in 0..count {
+        let place = taken_number(ix, cells, n, i, steps);
+        maker.push(place);
+    }
+    Ok(maker.finish())
+}

@@ -1,0 +1,15 @@
+//! Picks: the item at a place, ranges of any step, and the items that a mask or an index names.
+#![tactic(auto)]
+
+mod cells;
+mod indexes;
+mod masks;
+mod picked;
+mod place;
+mod places;
+mod ranges;
+
+pub use indexes::take;
+pub use masks::{is_mask, mask};
+pub use place::at;
+pub use ranges::step_range;
