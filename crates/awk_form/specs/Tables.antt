@@ -30,8 +30,8 @@ abbrev pub primitives : Table Primitive
 primitives =
     (codes "bool", primitive.Bool) ∷ (codes "int8", primitive.I8) ∷ (codes "int16", primitive.I16)
     ∷ (codes "int32", primitive.I32) ∷ (codes "int64", primitive.I64)
-    ∷ (codes "uint8", primitive.U8) ∷ (codes "uint16", primitive.U16) ∷ (codes "uint32", primitive.U32)
-    ∷ (codes "uint64", primitive.U64) ∷ []
+    ∷ (codes "uint8", primitive.U8) ∷ (codes "uint16", primitive.U16)
+    ∷ (codes "uint32", primitive.U32) ∷ (codes "uint64", primitive.U64) ∷ []
 
 -- the kinds of an index, of starts, stops and offsets; where a negative number means a null, it
 -- must be signed

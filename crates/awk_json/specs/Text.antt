@@ -37,7 +37,8 @@ quoted bytes = codes "\"" ++ escaped_all bytes ++ codes "\""
 abbrev pub joined : List ℕ → List (List ℕ) → List ℕ
 joined separator [] = []
 joined separator (first ∷ []) = first
-joined separator (first ∷ second ∷ others) = first ++ separator ++ joined separator (second ∷ others)
+joined separator (first ∷ second ∷ others) =
+    first ++ separator ++ joined separator (second ∷ others)
 
 -- pieces with a comma between each two
 abbrev pub comma_joined : List (List ℕ) → List ℕ

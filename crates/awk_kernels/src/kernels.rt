@@ -19,8 +19,8 @@ pub trait Kernels {
     fn greatest(&self, xs: &[i64]) -> Option<i64>
         ensures { result ≡ greatest xs.now };
 
-    /// Writes 0 and then the running sums of the numbers, or tells the first place whose running sum
-    /// does not fit a u64. Then it says nothing of `out`, which has one place more than `xs`.
+    /// Writes 0 and then the running sums of the numbers, or tells the first place whose running
+    /// sum does not fit a u64. Then it says nothing of `out`, which has one place more than `xs`.
     fn prefix_sums(&self, xs: &[u64], out: &mut [u64]) -> Option<usize>
         requires { length out.old ≡ length xs.now + 1 }
         ensures past { result ≡ first_past xs.now }

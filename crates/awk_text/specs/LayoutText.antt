@@ -18,9 +18,11 @@ layout_text x i = value_text (layout_type x) (item x i)
 abbrev pub span_text : Layout → ℕ → ℕ → Text
 span_text x lo hi = list_text (map (layout_text x) (range_with_len lo (hi - lo)))
 
--- the items from a place below a stop, in a list that begins at a first place: each is behind a comma, but for the first
+-- the items from a place below a stop, in a list that begins at a first place: each is behind a
+-- comma, but for the first
 abbrev pub run_text : Layout → ℕ → ℕ → ℕ → Text
-run_text x first j stop = flat_map (λ k. comma_before (k == first) ++ layout_text x k) (range_with_len j (stop - j))
+run_text x first j stop =
+    flat_map (λ k. comma_before (k == first) ++ layout_text x k) (range_with_len j (stop - j))
 
 abbrev pub names_shown : Option (Bor (List Name)) → Option (List Name)
 names_shown names = option_map (λ m. m.now) names
@@ -45,7 +47,9 @@ member_text names xs i k = field_text names k ++ layout_text (get_or xs k empty)
 
 -- the row of the contents' items at a place
 abbrev pub row_text : Option (List Name) → List Layout → ℕ → Text
-row_text names xs i = codes "{" ++ (comma_joined (map (member_text names xs i) (range_with_len 0 (length xs))) ++ codes "}")
+row_text names xs i =
+    codes "{"
+    ++ (comma_joined (map (member_text names xs i) (range_with_len 0 (length xs))) ++ codes "}")
 
 -- the text of a case
 abbrev pub case_text : Case → Text

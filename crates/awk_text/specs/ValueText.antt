@@ -52,8 +52,11 @@ abbrev mutual
   value_text (leaf p) v = leaf_text v
   value_text (var t) v = list_text (map (value_text t) (list_items v))
   value_text (reg n t) v = list_text (map (value_text t) (list_items v))
-  value_text (rec ns ts) v = codes "{" ++ comma_joined (members ns (row_texts ts (row_items v))) ++ codes "}"
-  value_text (tup ts) v = codes "{" ++ comma_joined (members (place_names 0 ts) (row_texts ts (row_items v))) ++ codes "}"
+  value_text (rec ns ts) v =
+      codes "{" ++ comma_joined (members ns (row_texts ts (row_items v))) ++ codes "}"
+  value_text (tup ts) v =
+      codes "{" ++ comma_joined (members (place_names 0 ts) (row_texts ts (row_items v)))
+      ++ codes "}"
   value_text (opt t) v = if is_null v then codes "null" else value_text t v
   value_text (uni ts) v = alternative_text ts (tag_of v) (untagged v)
 

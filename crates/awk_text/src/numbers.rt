@@ -47,7 +47,8 @@ pub(crate) fn write_numbers<K: Sink, L: Ledger>(
     out.put(sink, b"]")
 }
 
-/// Sets a run of a list's numbers, from place j below a stop, at the end of a room of bytes, and tells where it starts.
+/// Sets a run of a list's numbers, from place j below a stop, at the end of a room of bytes, and
+/// tells where it starts.
 /// The list begins at place first.
 fn set_run<L: Ledger>(
     lane: &Lane<'_>,

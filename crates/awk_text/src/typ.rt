@@ -75,7 +75,8 @@ fn write_types<K: Sink>(
 ) -> Result<(), WriteFault>
     requires open { IsTrue out.old.is_open }
     ensures bytes { Moves (K.written sink.old) (K.written sink.new) out.new
-        (out.old.held ++ enclosed opening.now (type_texts (types_from (typs_of types.now))) close.now) result }
+        (out.old.held
+        ++ enclosed opening.now (type_texts (types_from (typs_of types.now))) close.now) result }
     ensures flushes { K.flushes sink.new ≡ K.flushes sink.old }
     ensures cause { HasCause (K.faults sink.old) (K.faults sink.new) result }
 {

@@ -96,7 +96,8 @@ fn write_row<K: Sink, L: Ledger>(
     ensures flushes { K.flushes sink.new ≡ K.flushes sink.old }
     ensures cause { HasCause (K.faults sink.old) (K.faults sink.new) result }
     ensures cost { steps.new ≤ steps.old
-        + 2 * (heights (layouts_from contents.now) * length (row_text (names_shown names.entry) contents.now place)) }
+        + 2 * (heights (layouts_from contents.now)
+        * length (row_text (names_shown names.entry) contents.now place)) }
 {
     out.put(sink, b"{")?;
     for k in 0..contents.len() {

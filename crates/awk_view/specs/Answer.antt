@@ -12,13 +12,16 @@ use Rattle.awk_layout.specs.Layout.{Layout}
 use Rattle.awk_layout.specs.Typing.{array_type, array_items}
 use Rattle.awk_view.specs.Choice.{Choice, absent, chosen_type, chosen_value}
 
--- the first fault: a field that is not found, and then a limit that the type of what is chosen passes
+-- the first fault: a field that is not found, and then a limit that the type of what is chosen
+-- passes
 abbrev pub choice_fault : Choice → DataType → Option Fault
-choice_fault c t = option_map NoField (absent c t) or option_map limit_fault (limit (chosen_type c t))
+choice_fault c t =
+    option_map NoField (absent c t) or option_map limit_fault (limit (chosen_type c t))
 
 -- of items of a type
 abbrev pub choice_answer : Choice → DataType → List Value → Result Datum Fault
-choice_answer c t vs = refused_or (choice_fault c t) (arr (chosen_type c t) (map (chosen_value c t) vs))
+choice_answer c t vs =
+    refused_or (choice_fault c t) (arr (chosen_type c t) (map (chosen_value c t) vs))
 
 -- of an array
 abbrev pub view_answer : Choice → Layout → Result Datum Fault

@@ -1,4 +1,5 @@
--- Choices of fields: what is looked for through lists, options and every alternative of a union, and what stays of each
+-- Choices of fields: what is looked for through lists, options and every alternative of a union,
+-- and what stays of each
 -- record that is found.
 use Rattle.std.specs.Prelude.{ℕ, suc, Bool, true, false, ◌&&◌, List, [], ◌∷◌, length, map, get_or, decimal, Option, Some, None, option_map, if◌then◌else◌}
 use Rattle.std.specs.List.{range_with_len}
@@ -38,7 +39,8 @@ beside other n names xs = get_or xs (place_of n names) other
 abbrev pub apart_from : {A : Type 0} → Name → List Name → List A → List A
 apart_from n [] xs = []
 apart_from n (m ∷ ms) [] = []
-apart_from n (m ∷ ms) (x ∷ xs) = if same_name m n then apart_from n ms xs else x ∷ apart_from n ms xs
+apart_from n (m ∷ ms) (x ∷ xs) =
+    if same_name m n then apart_from n ms xs else x ∷ apart_from n ms xs
 
 -- ---- what is not found
 
@@ -79,7 +81,8 @@ abbrev pub first_absent : List Name → DataType → Option Name
 first_absent [] t = None
 first_absent (n ∷ ns) t = if has_field n t then first_absent ns t else Some n
 
--- the name that is not found: the empty text where none is looked for and something else than a record is met
+-- the name that is not found: the empty text where none is looked for and something else than a
+-- record is met
 abbrev pub absent : Choice → DataType → Option Name
 absent (field n) t = first_absent (n ∷ []) t
 absent (fields ns) t = first_absent ns t or (if has_records t then None else Some [])
@@ -90,8 +93,12 @@ absent (without n) t = first_absent (n ∷ []) t
 -- of a record with these names, or of a tuple
 abbrev pub row_type_of : Choice → Option (List Name) → List DataType → DataType
 row_type_of (field k) names ts = beside unknown k (row_names names (length ts)) ts
-row_type_of (fields ks) names ts = row_type (option_map (λ _. ks) names) (types_from (map (λ k. beside unknown k (row_names names (length ts)) ts) ks))
-row_type_of (without k) names ts = row_type (option_map (λ ns. apart_from k ns ns) names) (types_from (apart_from k (row_names names (length ts)) ts))
+row_type_of (fields ks) names ts =
+    row_type (option_map (λ _. ks) names)
+    (types_from (map (λ k. beside unknown k (row_names names (length ts)) ts) ks))
+row_type_of (without k) names ts =
+    row_type (option_map (λ ns. apart_from k ns ns) names)
+    (types_from (apart_from k (row_names names (length ts)) ts))
 
 abbrev mutual
   pub type_of_choice : Choice → DataType → DataType
@@ -117,7 +124,8 @@ chosen_type c t = simple (type_of_choice c t)
 -- of a row whose fields have these names
 abbrev pub in_row_of : Choice → List Name → Value → Value
 in_row_of (field k) names (row vs) = beside null k names (value_list vs)
-in_row_of (fields ks) names (row vs) = row (values_from (map (λ k. beside null k names (value_list vs)) ks))
+in_row_of (fields ks) names (row vs) =
+    row (values_from (map (λ k. beside null k names (value_list vs)) ks))
 in_row_of (without k) names (row vs) = row (values_from (apart_from k names (value_list vs)))
 in_row_of c names v = v
 

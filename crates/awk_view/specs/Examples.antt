@@ -35,25 +35,32 @@ pair k ks = row (values_from (n k ∷ numbers ks ∷ []))
 abbrev two : List Value
 two = pair 1 (1 ∷ 2 ∷ []) ∷ pair 2 [] ∷ []
 
-field_y : choice_answer (field y) pairs two ≡ Ok (arr (var (leaf I64)) (numbers (1 ∷ 2 ∷ []) ∷ numbers [] ∷ []))
+field_y : choice_answer (field y) pairs two
+    ≡ Ok (arr (var (leaf I64)) (numbers (1 ∷ 2 ∷ []) ∷ numbers [] ∷ []))
 field_y = refl
 
 field_w : choice_answer (field w) pairs two ≡ Err (NoField w)
 field_w = refl
 
 fields_in_another_order : choice_answer (fields (y ∷ x ∷ [])) pairs two
-    ≡ Ok (arr (rec (y ∷ x ∷ []) (types_from (var (leaf I64) ∷ leaf I64 ∷ []))) (row (values_from (numbers (1 ∷ 2 ∷ []) ∷ n 1 ∷ [])) ∷ row (values_from (numbers [] ∷ n 2 ∷ [])) ∷ []))
+    ≡ Ok (arr (rec (y ∷ x ∷ []) (types_from (var (leaf I64) ∷ leaf I64 ∷ [])))
+    (row (values_from (numbers (1 ∷ 2 ∷ []) ∷ n 1 ∷ []))
+    ∷ row (values_from (numbers [] ∷ n 2 ∷ [])) ∷ []))
 fields_in_another_order = refl
 
 -- the first absent name, in the order asked
 first_of_two_absent : choice_answer (fields (x ∷ w ∷ codes "v" ∷ [])) pairs two ≡ Err (NoField w)
 first_of_two_absent = refl
 
-without_y : choice_answer (without y) pairs two ≡ Ok (arr (rec (x ∷ []) (types_from (leaf I64 ∷ []))) (row (values_from (n 1 ∷ [])) ∷ row (values_from (n 2 ∷ [])) ∷ []))
+without_y : choice_answer (without y) pairs two
+    ≡ Ok (arr (rec (x ∷ []) (types_from (leaf I64 ∷ [])))
+    (row (values_from (n 1 ∷ [])) ∷ row (values_from (n 2 ∷ [])) ∷ []))
 without_y = refl
 
 -- through lists and options
-field_of_lists : choice_answer (field x) (var (opt pairs)) (list (values_from (pair 1 [] ∷ null ∷ [])) ∷ []) ≡ Ok (arr (var (opt (leaf I64))) (list (values_from (n 1 ∷ null ∷ [])) ∷ []))
+field_of_lists : choice_answer (field x) (var (opt pairs))
+    (list (values_from (pair 1 [] ∷ null ∷ [])) ∷ [])
+    ≡ Ok (arr (var (opt (leaf I64))) (list (values_from (n 1 ∷ null ∷ [])) ∷ []))
 field_of_lists = refl
 
 -- of every alternative of a union
@@ -61,9 +68,13 @@ abbrev either : DataType
 either = uni (types_from (pairs ∷ rec (y ∷ []) (types_from (opt (leaf I8) ∷ [])) ∷ []))
 
 abbrev one_of_each : List Value
-one_of_each = alt 0 (pair 1 (5 ∷ [])) ∷ alt 1 (row (values_from (n 7 ∷ []))) ∷ alt 1 (row (values_from (null ∷ []))) ∷ []
+one_of_each =
+    alt 0 (pair 1 (5 ∷ [])) ∷ alt 1 (row (values_from (n 7 ∷ [])))
+    ∷ alt 1 (row (values_from (null ∷ []))) ∷ []
 
-field_of_a_union : choice_answer (field y) either one_of_each ≡ Ok (arr (opt (uni (types_from (var (leaf I64) ∷ leaf I8 ∷ [])))) (alt 0 (numbers (5 ∷ [])) ∷ alt 1 (n 7) ∷ null ∷ []))
+field_of_a_union : choice_answer (field y) either one_of_each
+    ≡ Ok (arr (opt (uni (types_from (var (leaf I64) ∷ leaf I8 ∷ []))))
+    (alt 0 (numbers (5 ∷ [])) ∷ alt 1 (n 7) ∷ null ∷ []))
 field_of_a_union = refl
 
 second_alternative_lacks : choice_answer (field x) either one_of_each ≡ Err (NoField x)
@@ -73,7 +84,8 @@ second_alternative_lacks = refl
 no_names_of_a_leaf : absent (fields []) (var (leaf I64)) ≡ Some []
 no_names_of_a_leaf = refl
 
-no_names_of_records : choice_answer (fields []) pairs two ≡ Ok (arr (rec [] (types_from [])) (row (values_from []) ∷ row (values_from []) ∷ []))
+no_names_of_records : choice_answer (fields []) pairs two
+    ≡ Ok (arr (rec [] (types_from [])) (row (values_from []) ∷ row (values_from []) ∷ []))
 no_names_of_records = refl
 
 a_name_of_a_leaf : absent (fields (x ∷ [])) (var (leaf I64)) ≡ Some x
@@ -103,11 +115,15 @@ no_further_place : absent (field (codes "3")) triples ≡ Some (codes "3")
 unfolding digits
 no_further_place = refl
 
-fields_of_a_tuple : choice_answer (fields (codes "2" ∷ codes "0" ∷ [])) triples (triple ∷ []) ≡ Ok (arr (tup (types_from (leaf Bool ∷ leaf I64 ∷ []))) (row (values_from (n 7 ∷ n 5 ∷ [])) ∷ []))
+fields_of_a_tuple : choice_answer (fields (codes "2" ∷ codes "0" ∷ [])) triples (triple ∷ [])
+    ≡ Ok (arr (tup (types_from (leaf Bool ∷ leaf I64 ∷ [])))
+    (row (values_from (n 7 ∷ n 5 ∷ [])) ∷ []))
 unfolding digits
 fields_of_a_tuple = refl
 
 -- later places move up
-without_a_place : choice_answer (without (codes "1")) triples (triple ∷ []) ≡ Ok (arr (tup (types_from (leaf I64 ∷ leaf Bool ∷ []))) (row (values_from (n 5 ∷ n 7 ∷ [])) ∷ []))
+without_a_place : choice_answer (without (codes "1")) triples (triple ∷ [])
+    ≡ Ok (arr (tup (types_from (leaf I64 ∷ leaf Bool ∷ [])))
+    (row (values_from (n 5 ∷ n 7 ∷ [])) ∷ []))
 unfolding digits
 without_a_place = refl

@@ -1,4 +1,5 @@
--- What is chosen of a layout: each lane stays, and of a record's column the items below the record's length.
+-- What is chosen of a layout: each lane stays, and of a record's column the items below the
+-- record's length.
 use Rattle.std.specs.Prelude.{◌≡◌, ℕ, ◌+◌, true, List, [], ◌∷◌, length, map, slice_range, Option, None, option_map}
 use Rattle.std.specs.List.{AllByRecursion}
 use Rattle.awk_types.specs.DataType.{Name, DataType, unknown, leaf, var, reg, rec, tup, opt, uni, DataTypes, no_types, type}
@@ -54,8 +55,12 @@ first_items n (union t j xs) = union (cut_of t 0 n) (cut_of j 0 n) xs
 -- of n rows with these contents
 abbrev pub row_of_choice : Choice → Option (List Name) → ℕ → List Layout → Layout
 row_of_choice (field k) names n xs = first_items n (beside empty k (row_names names (length xs)) xs)
-row_of_choice (fields ks) names n xs = rows (option_map (λ _. ks) names) n (layouts_from (map (λ k. beside empty k (row_names names (length xs)) xs) ks))
-row_of_choice (without k) names n xs = rows (option_map (λ ns. apart_from k ns ns) names) n (layouts_from (apart_from k (row_names names (length xs)) xs))
+row_of_choice (fields ks) names n xs =
+    rows (option_map (λ _. ks) names) n
+    (layouts_from (map (λ k. beside empty k (row_names names (length xs)) xs) ks))
+row_of_choice (without k) names n xs =
+    rows (option_map (λ ns. apart_from k ns ns) names) n
+    (layouts_from (apart_from k (row_names names (length xs)) xs))
 
 abbrev mutual
   pub layout_of_choice : Choice → Layout → Layout

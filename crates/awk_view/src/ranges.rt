@@ -13,7 +13,8 @@ use awk_types::{NoMemory, copy_type};
 use std::alloc::Global;
 use std::sync::ledger::Ledger;
 
-/// The items from place `lo` below place `hi`, over the same bytes: lanes and bits are cut, and no item is read.
+/// The items from place `lo` below place `hi`, over the same bytes: lanes and bits are cut, and no
+/// item is read.
 pub fn range<'a, L: Ledger>(
     alloc: Global,
     x: &Array<'a>,
@@ -217,7 +218,8 @@ fn union<'a, L: Ledger>(
     requires valid { IsValid (united tags.now index.now (layouts_from contents.now)) }
     requires order { lo ≤ hi }
     requires within { hi ≤ size_of tags.now }
-    ensures part { IfOk result (IsPart (united tags.now index.now (layouts_from contents.now)) lo hi) }
+    ensures part { IfOk result
+        (IsPart (united tags.now index.now (layouts_from contents.now)) lo hi) }
     ensures cost { steps.new ≤ steps.old + 3 }
 {
     let contents = contents.copy(alloc)?;

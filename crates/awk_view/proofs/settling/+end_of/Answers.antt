@@ -43,3 +43,8 @@ pub returns-in-Alternative-clause-cost : goal.returns-in-Alternative-clause-cost
 returns-in-Alternative-clause-cost g t c =
     let s = item-settles c.args.x.now c.args.i _ c.in-Alternative.ensures.case c.place.ensures.valid c.place.ensures.numbered c.requires in
     omega (arith, s.0, c.in-Alternative.ensures.cost, c.end_of-in-Alternative.ensures.cost)
+
+pub returns-in-Missing-clause-end : goal.returns-in-Missing-clause-end
+returns-in-Missing-clause-end g t c =
+    item-settles c.args.x.now c.args.i _ c.in-Missing.ensures.case c.place.ensures.valid
+    c.place.ensures.numbered c.requires
