@@ -14,14 +14,14 @@ ghost use Rattle.awk_layout.specs.Valid.{len};
 ghost use Rattle.awk_gather.specs.Arrays.{array_item};
 ghost use Rattle.awk_gather.specs.Joined.{too_many};
 ghost use Rattle.awk_gather.specs.Lanes.{lane_of};
-ghost use Rattle.awk_select.specs.Cells.{AreCells, take_number};
+ghost use Rattle.awk_select.specs.Cells.{AreCells, number_value, take_number};
 ghost use Rattle.awk_select.specs.Picks as picks;
 ghost use Rattle.awk_select.specs.Picks.{take_of, take_places, is_outside, index_refused};
 ghost use Rattle.awk_select.specs.Picks.{picked, picked_type};
 
 use crate::cells::{Cells, cells_of};
 use crate::picked::{ITEM_LIMIT, judge_type, pick};
-use crate::places::{number, place_of};
+use crate::places::{number, place_in, place_of};
 use awk_lanes::{Arena, Kind, Lane, LaneMaker, NoMemory, Num, Steps};
 use awk_layout::{Array, Datum};
 use awk_types::{Fault, Prim, Typ};
@@ -114,6 +114,17 @@ fn taken_items<'a, L: Ledger>(
     pick(alloc, x, &places, ix.typ(), arena, steps)
 }
 
+// Whether a number of an index names a place of n items.
+fn names_place(n: u64, x: Num) -> bool
+    ensures { not result ≡ is_outside n (number_value x) }
+{
+    match x {
+        Num::Int(i) => place_in(n, i).is_some(),
+        Num::Nat(k) => k < n,
+        Num::Truth(_) => true,
+    }
+}
+
 // Whether item i of an index is null or names a place of n items.
 fn is_inside<L: Ledger>(ix: &Array, cells: &Cells, n: u64, i: u64, steps: &mut Steps<L>) -> bool
     requires cells { AreCells ix.now cells.now }
@@ -121,8 +132,8 @@ fn is_inside<L: Ledger>(ix: &Array, cells: &Cells, n: u64, i: u64, steps: &mut S
     ensures { not result ≡ is_outside n (array_item ix.now i) }
 {
     match cells.at(i, steps) {
-        Some(Num::Truth(_)) | None => true,
-        Some(x) => place_of(n, x).is_some(),
+        None => true,
+        Some(x) => names_place(n, x),
     }
 }
 
@@ -157,6 +168,7 @@ fn taken_number<L: Ledger>(ix: &Array, cells: &Cells, n: u64, i: u64, steps: &mu
 }
 
 // The places of n items that an index names, and -1 for each null.
+#[tactic(auto, using(awk_gather::proofs::MadeLanes::making))]
 fn take_lane<'a, L: Ledger>(
     ix: &Array,
     cells: &Cells,

@@ -1,5 +1,5 @@
 //! The items of an array where a mask is true.
-ghost use Rattle.std.specs.Prelude.{◌≡◌, ◌<◌, ◌^◌, true, None, length, option_map, pos, IfOk, IfSome};
+ghost use Rattle.std.specs.Prelude.{◌≡◌, ◌<◌, ◌^◌, true, None, length, map, IfOk};
 ghost use Rattle.awk_types.specs.Datum.{arr};
 ghost use Rattle.awk_types.specs.Faults.{fault_told};
 ghost use Rattle.awk_types.specs.Gives.{Gives, refused_or};
@@ -9,9 +9,10 @@ ghost use Rattle.awk_layout.specs.Datum.{IsDatum, datum_of};
 ghost use Rattle.awk_layout.specs.Typing.{array_type, array_items, array_datum};
 ghost use Rattle.awk_layout.specs.Valid.{len};
 ghost use Rattle.awk_gather.specs.Joined.{too_many};
-ghost use Rattle.awk_select.specs.Cells.{AreCells, places_lane, mask_numbers, numbers_shown};
+ghost use Rattle.awk_select.specs.Cells.{AreCells, number_value, place_number, places_lane};
+ghost use Rattle.awk_select.specs.Cells.{mask_numbers, numbers_shown};
 ghost use Rattle.awk_select.specs.Picks as picks;
-ghost use Rattle.awk_select.specs.Picks.{mask_of, mask_places, picked, picked_type};
+ghost use Rattle.awk_select.specs.Picks.{mask_of, mask_place, mask_places, picked, picked_type};
 
 use crate::cells::{Cells, cells_of};
 use crate::picked::{ITEM_LIMIT, judge_type, pick};
@@ -104,6 +105,23 @@ fn masked_items<'a, L: Ledger>(
     pick(alloc, x, &places, m.typ(), arena, steps)
 }
 
+// What a value at place i of a mask gives to its places: i where it is true.
+fn kept_number(i: u64, x: Num) -> Option<i64>
+    requires { i < 2 ^ 63 }
+    ensures { numbers_shown result ≡ map place_number (mask_place i (number_value x)) }
+{
+    match x {
+        Num::Truth(b) => {
+            if b {
+                Some(i as i64)
+            } else {
+                None
+            }
+        }
+        Num::Int(_) | Num::Nat(_) => None,
+    }
+}
+
 // What item i of a mask gives to its places: i where it is true, and -1 where it is null.
 fn kept<L: Ledger>(m: &Array, cells: &Cells, i: u64, steps: &mut Steps<L>) -> Option<i64>
     requires cells { AreCells m.now cells.now }
@@ -113,8 +131,16 @@ fn kept<L: Ledger>(m: &Array, cells: &Cells, i: u64, steps: &mut Steps<L>) -> Op
 {
     match cells.at(i, steps) {
         None => Some(-1),
-        Some(Num::Truth(true)) => Some(i as i64),
-        Some(_) => None,
+        Some(x) => kept_number(i, x),
+    }
+}
+
+fn one_if(x: Option<i64>) -> u64
+    ensures { result ≡ length (numbers_shown x) }
+{
+    match x {
+        None => 0,
+        Some(_) => 1,
     }
 }
 
@@ -125,14 +151,13 @@ fn count<L: Ledger>(m: &Array, cells: &Cells, steps: &mut Steps<L>) -> u64
 {
     let mut count = 0;
     for i in 0..m.len() {
-        if kept(m, cells, i, steps).is_some() {
-            count += 1;
-        }
+        count += one_if(kept(m, cells, i, steps));
     }
     count
 }
 
 // The places of the true items of a mask, and -1 for each null: n together.
+#[tactic(auto, using(awk_gather::proofs::MadeLanes::making))]
 fn mask_lane<'a, L: Ledger>(
     m: &Array,
     cells: &Cells,

@@ -37,8 +37,8 @@ pub(crate) fn is_optional(t: &Typ) -> bool
 /// Judges the type of items of type t that are picked by others of type u.
 pub(crate) fn judge_type(alloc: Global, t: &Typ, u: &Typ) -> Result<(), Fault>
     requires { limit (typ_of t.now) ≡ None }
-    ensures { let said = refused_or (limit_refused (picked_type (typ_of u.now) (typ_of t.now))) tt in
-        Gives (λ _. tt) fault_told result said }
+    ensures { let said = refused_or (limit_refused (picked_type (typ_of u.now) (typ_of t.now))) (tt {0}) in
+        Gives (λ _. tt {0}) fault_told result said }
 {
     if is_optional(u) {
         judge_option(alloc, t)
@@ -49,8 +49,8 @@ pub(crate) fn judge_type(alloc: Global, t: &Typ, u: &Typ) -> Result<(), Fault>
 
 // Judges the option of a type.
 fn judge_option(alloc: Global, t: &Typ) -> Result<(), Fault>
-    ensures { let said = refused_or (limit_refused (simple (opt (typ_of t.now)))) tt in
-        Gives (λ _. tt) fault_told result said }
+    ensures { let said = refused_or (limit_refused (simple (opt (typ_of t.now)))) (tt {0}) in
+        Gives (λ _. tt {0}) fault_told result said }
 {
     let t = copy_type(alloc, t)?;
     let _ = opt_of(alloc, t)?;

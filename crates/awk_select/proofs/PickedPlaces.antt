@@ -1,0 +1,320 @@
+-- The places that masks and indexes name, as lanes.
+use Rattle.std.proofs.Common.{◌≡◌, ℕ, zero, suc, ◌+◌, ◌-◌, ◌<◌, ◌≤◌, List, [], ◌∷◌, ◌++◌, map, length, get_or, arith, refl, ap, ap₂, sym, ◌∙◌, subst, true≢false, ltb-true, le-ltb}
+use Rattle.std.specs.Prelude.{ℤ, pos, negsuc, ◌<ℤ◌, ◌≤ℤ◌, Bool, true, false, ◌||◌, nat_lt, Option, Some, None, is_none, if◌then◌else◌}
+use Rattle.std.specs.List.{range_with_len, flat_map, list_any, AllByRecursion}
+use Rattle.std.proofs.lemmas.Int.{ints}
+use Rattle.std.proofs.lemmas.List.{get_or-map, length-map, map-append}
+use Rattle.awk_types.specs.DataType.{DataType, unknown, leaf, var, reg, rec, tup, opt, uni}
+use Rattle.awk_types.specs.Has.{Has}
+use Rattle.awk_types.specs.Simple.{is_option, present, simple_value}
+use Rattle.awk_types.specs.Value.{Value, int, truth, null, list, row, alt}
+use Rattle.awk_types.specs.declared.primitive.Primitive.{Primitive}
+use Rattle.awk_types.specs.declared.primitive.Primitive.TheVariants.{Bool as Truths, I8, I16, I32, I64, U8, U16, U32, U64}
+use Rattle.awk_lanes.specs.Column.{Column}
+use Rattle.awk_lanes.specs.Making.{Making, with_item}
+use Rattle.awk_lanes.specs.Places.{at, size_of, place_at, option_place, IsIndex, IsOptionalIndex}
+use Rattle.awk_lanes.specs.declared.kind.Kind.TheVariants as kind
+use Rattle.awk_layout.specs.Layout.{Layout}
+use Rattle.awk_layout.specs.Valid.{len}
+use Rattle.awk_layout.specs.Item.{item, at_option}
+use Rattle.awk_layout.specs.Typing.{layout_type, array_items}
+use Rattle.awk_gather.specs.Arrays.{array_item, pick}
+use Rattle.awk_gather.specs.Lanes.{lane_of}
+use Rattle.awk_gather.proofs.GatheredArrays.{length-array_items, get_or-array_items}
+use Rattle.awk_select.specs.Cells.{IsBelow, place_number, places_lane, mask_numbers, take_number}
+use Rattle.awk_select.specs.Picks.{picked, is_truths, is_mask, mask_place, mask_places, is_numbers, is_index, take_place, take_places, is_outside}
+use Rattle.awk_select.specs.Places.{place_in}
+use Rattle.awk_select.proofs.Lists.{map-map, each_of, each_of-more, each_of-room, length-each_of}
+
+map-same : {X Y : Type 0} (f g : X → Y) → ((x : X) → f x ≡ g x) → (xs : List X) → map f xs ≡ map g xs
+map-same f g h [] = refl
+map-same f g h (x ∷ xs) = ap₂ (λ y ys. y ∷ ys) (h x) (map-same f g h xs)
+
+-- the items of a lane of places, and null at each -1
+number-item : (f : ℕ → Value) (o : Option ℕ) → at_option (option_place (place_number o)) f ≡ at_option o f
+number-item f None = refl
+number-item f (Some k) = refl
+
+pub pick-picked : (vs : List Value) (os : List (Option ℕ)) (p : Column) → p ≡ places_lane os → pick vs p.items ≡ picked vs os
+pick-picked vs os p e =
+    ap (λ (c : Column). pick vs c.items) e
+    ∙ map-map (λ z. at_option (option_place z) (λ k. get_or vs k null)) place_number os
+    ∙ map-same _ _ (number-item (λ k. get_or vs k null)) os
+
+-- ---- lanes of places
+
+-- it is a place of n items, and not null
+abbrev pub IsThere : ℕ → Option ℕ → Type 0
+IsThere n None = ⊥
+IsThere n (Some k) = k < n
+
+below-number : (n : ℕ) (os : List (Option ℕ)) (i : ℕ) → AllByRecursion (IsBelow n) os → i < length os → place_number (get_or os i None) <ℤ pos n
+below-number n [] i h l = absurd (omega arith)
+below-number n (None ∷ os) zero h l = omega (arith, ints)
+below-number n (Some k ∷ os) zero h l = omega (arith, ints, h.0)
+below-number n (o ∷ os) (suc i) h l = below-number n os i h.1 (omega arith)
+
+there-number : (n : ℕ) (os : List (Option ℕ)) (i : ℕ) → AllByRecursion (IsThere n) os → i < length os → (k : ℕ) × (place_number (get_or os i None) ≡ pos k) × (k < n)
+there-number n [] i h l = absurd (omega arith)
+there-number n (None ∷ os) zero h l = absurd h.0
+there-number n (Some k ∷ os) zero h l = (k, refl, h.0)
+there-number n (o ∷ os) (suc i) h l = there-number n os i h.1 (omega arith)
+
+at-places : (os : List (Option ℕ)) (i : ℕ) → i < length os → at (places_lane os) i ≡ place_number (get_or os i None)
+at-places os i l = get_or-map place_number os i None (pos 0) l
+
+pub optional-lane : (n : ℕ) (os : List (Option ℕ)) (p : Column) → p ≡ places_lane os → AllByRecursion (IsBelow n) os → IsOptionalIndex p n
+optional-lane n os p e h = subst (λ c. IsOptionalIndex c n) (sym e) (record {
+  kind = tt;
+  below = λ i l.
+      let l' : i < length os = omega (arith, length-map os place_number) in
+      subst (λ z. z <ℤ pos n) (sym (at-places os i l')) (below-number n os i h l');
+})
+
+place-there : (n : ℕ) (z : ℤ) → ((k : ℕ) × (z ≡ pos k) × (k < n)) → (pos 0 ≤ℤ z) × (z <ℤ pos n)
+place-there n z h = (rw h.1 (omega (arith, ints)), rw h.1 (omega (arith, ints, h.2)))
+
+pub index-lane : (n : ℕ) (os : List (Option ℕ)) (p : Column) → p ≡ places_lane os → AllByRecursion (IsThere n) os → IsIndex p n
+index-lane n os p e h = subst (λ c. IsIndex c n) (sym e) (record {
+  kind = tt;
+  places = λ i l.
+      let l' : i < length os = omega (arith, length-map os place_number) in
+      let t = there-number n os i h l' in
+      rw (at-places os i l', t.1) (omega (arith, ints), t.2);
+})
+
+-- ---- masks
+
+-- the places that the first items of a mask give
+abbrev pub mask_first : List Value → ℕ → List (Option ℕ)
+mask_first ms i = each_of (λ k. mask_place k (get_or ms k null)) i
+
+-- these places are made, of n
+pub record IsMade (n : ℕ) (os : List (Option ℕ)) (m : Making) : Type 0 where
+  pub kind : m.kind ≡ kind.I64
+  pub room : m.room ≡ n
+  pub items : m.items ≡ map place_number os
+
+numbers-at : (m : Layout) (i : ℕ) → i < len m → map place_number (mask_place i (get_or (array_items m) i null)) ≡ mask_numbers m i
+numbers-at m i l = ap (λ v. map place_number (mask_place i v)) (get_or-array_items m i l)
+
+numbers-more : (m : Layout) (i : ℕ) → i < len m → map place_number (mask_first (array_items m) (i + 1)) ≡ map place_number (mask_first (array_items m) i) ++ mask_numbers m i
+numbers-more m i l =
+    let f = λ k. mask_place k (get_or (array_items m) k null) in
+    ap (map place_number) (each_of-more f i)
+    ∙ map-append place_number (each_of f i) (f i)
+    ∙ ap (λ zs. map place_number (each_of f i) ++ zs) (numbers-at m i l)
+
+-- how many numbers one item more gives
+pub mask-count : (m : Layout) (i : ℕ) (zs : List ℤ) → i < len m → zs ≡ mask_numbers m i → length (mask_first (array_items m) (i + 1)) ≡ length (mask_first (array_items m) i) + length zs
+mask-count m i zs l e =
+    let f = λ k. mask_place k (get_or (array_items m) k null) in
+    let h : length (f i) ≡ length zs = sym (length-map (f i) place_number) ∙ ap length (numbers-at m i l ∙ sym e) in
+    omega (arith, length-each_of f i, h)
+
+few-numbers : (k : ℕ) (v : Value) → length (mask_place k v) ≤ 1
+few-numbers k (truth true) = omega arith
+few-numbers k (truth false) = omega arith
+few-numbers k null = omega arith
+few-numbers k (int z) = omega arith
+few-numbers k (list vs) = omega arith
+few-numbers k (row vs) = omega arith
+few-numbers k (alt j v) = omega arith
+
+-- no more numbers than items
+pub mask-few : (ms : List Value) (i : ℕ) → length (mask_first ms i) ≤ i
+mask-few ms zero = omega arith
+mask-few ms (suc i) =
+    let f = λ k. mask_place k (get_or ms k null) in
+    let e : i + 1 ≡ suc i = omega arith in
+    subst (λ m. length (mask_first ms m) ≤ m) e (omega (arith, mask-few ms i, length-each_of f i, few-numbers i (get_or ms i null)))
+
+pub made-pushed : (m : Layout) (n i : ℕ) (z y : ℤ) (old new : Making) → i < len m → z ∷ [] ≡ mask_numbers m i → new ≡ with_item old y → y ≡ z → IsMade n (mask_first (array_items m) i) old → IsMade n (mask_first (array_items m) (i + 1)) new
+made-pushed m n i z y old new l e g q h = record {
+  kind = ap (λ (w : Making). w.kind) g ∙ h.kind;
+  room = ap (λ (w : Making). w.room) g ∙ h.room;
+  items = ap (λ (w : Making). w.items) g ∙ ap (λ ys. ys ++ y ∷ []) h.items
+      ∙ ap (λ x. map place_number (mask_first (array_items m) i) ++ x ∷ []) q
+      ∙ ap (λ zs. map place_number (mask_first (array_items m) i) ++ zs) e
+      ∙ sym (numbers-more m i l);
+}
+
+append-none : {X : Type 0} (xs : List X) → xs ++ [] ≡ xs
+append-none [] = refl
+append-none (x ∷ xs) = ap (λ ys. x ∷ ys) (append-none xs)
+
+pub made-none : (m : Layout) (n i : ℕ) (old : Making) → i < len m → [] ≡ mask_numbers m i → IsMade n (mask_first (array_items m) i) old → IsMade n (mask_first (array_items m) (i + 1)) old
+made-none m n i old l e h = record {
+  kind = h.kind;
+  room = h.room;
+  items = h.items ∙ sym (append-none _) ∙ ap (λ zs. map place_number (mask_first (array_items m) i) ++ zs) e ∙ sym (numbers-more m i l);
+}
+
+mask-whole : (m : Layout) → mask_places (array_items m) ≡ mask_first (array_items m) (len m)
+mask-whole m = ap (mask_first (array_items m)) (length-array_items m)
+
+pub made-room : (m : Layout) (n i : ℕ) (z : ℤ) (old : Making) → n ≡ length (mask_places (array_items m)) → i < len m → z ∷ [] ≡ mask_numbers m i → IsMade n (mask_first (array_items m) i) old → length old.items < old.room
+made-room m n i z old e l h d =
+    let f = λ k. mask_place k (get_or (array_items m) k null) in
+    let one : length (f i) ≡ 1 = sym (length-map (f i) place_number) ∙ ap length (numbers-at m i l ∙ sym h) in
+    let all : length (mask_first (array_items m) (len m)) ≡ n = sym (e ∙ ap length (mask-whole m)) in
+    omega (arith, ap length d.items, length-map (mask_first (array_items m) i) place_number, d.room, each_of-room f i (len m) l, one, all)
+
+-- all is made
+pub made-whole : (m : Layout) (n i : ℕ) (w : Making) → i ≡ len m → n ≡ length (mask_places (array_items m)) → IsMade n (mask_first (array_items m) i) w → (length w.items ≡ w.room) × (w.items ≡ map place_number (mask_places (array_items m)))
+made-whole m n i w e c h =
+    let all : w.items ≡ map place_number (mask_places (array_items m)) = h.items ∙ ap (λ j. map place_number (mask_first (array_items m) j)) e ∙ sym (ap (map place_number) (mask-whole m)) in
+    (ap length all ∙ length-map (mask_places (array_items m)) place_number ∙ sym c ∙ sym h.room, all)
+
+pub count-whole : (m : Layout) (i n : ℕ) → i ≡ len m → n ≡ length (mask_first (array_items m) i) → n ≡ length (mask_places (array_items m))
+count-whole m i n e h = h ∙ ap (λ j. length (mask_first (array_items m) j)) e ∙ sym (ap length (mask-whole m))
+
+-- ---- each place that a mask gives
+
+all-append : {X : Type 0} (P : X → Type 0) (xs ys : List X) → AllByRecursion P xs → AllByRecursion P ys → AllByRecursion P (xs ++ ys)
+all-append P [] ys h g = g
+all-append P (x ∷ xs) ys h g = (h.0, all-append P xs ys h.1 g)
+
+all-each : {X : Type 0} (P : X → Type 0) (f : ℕ → List X) (a m : ℕ) → ((i : ℕ) → i < a + m → AllByRecursion P (f i)) → AllByRecursion P (flat_map f (range_with_len a m))
+all-each P f a zero h = tt
+all-each P f a (suc m) h =
+    all-append P (f a) (flat_map f (range_with_len (a + 1) m)) (h a (omega arith)) (all-each P f (a + 1) m (λ i l. h i (omega arith)))
+
+mask_place-below : (n k : ℕ) (v : Value) → k < n → AllByRecursion (IsBelow n) (mask_place k v)
+mask_place-below n k (truth true) h = (h, tt)
+mask_place-below n k (truth false) h = tt
+mask_place-below n k null h = (tt, tt)
+mask_place-below n k (int z) h = tt
+mask_place-below n k (list vs) h = tt
+mask_place-below n k (row vs) h = tt
+mask_place-below n k (alt j v) h = tt
+
+pub mask_places-below : (n : ℕ) (ms : List Value) → length ms ≡ n → AllByRecursion (IsBelow n) (mask_places ms)
+mask_places-below n ms e =
+    all-each (IsBelow n) (λ k. mask_place k (get_or ms k null)) 0 (length ms) (λ i l. mask_place-below n i (get_or ms i null) (omega arith))
+
+-- a truth value gives no null
+mask_place-there : (n k : ℕ) (v : Value) → Has (leaf Truths) v → k < n → AllByRecursion (IsThere n) (mask_place k v)
+mask_place-there n k (truth true) t h = (h, tt)
+mask_place-there n k (truth false) t h = tt
+mask_place-there n k null t h = absurd t
+mask_place-there n k (int z) t h = tt
+mask_place-there n k (list vs) t h = tt
+mask_place-there n k (row vs) t h = tt
+mask_place-there n k (alt j v) t h = tt
+
+has-at : (P : Value → Type 0) (vs : List Value) (i : ℕ) → AllByRecursion P vs → i < length vs → P (get_or vs i null)
+has-at P [] i h l = absurd (omega arith)
+has-at P (v ∷ vs) zero h l = h.0
+has-at P (v ∷ vs) (suc i) h l = has-at P vs i h.1 (omega arith)
+
+-- a mask that is not optional is of truth values
+truths-of : (t : DataType) → is_mask t ≡ true → is_option t ≡ false → t ≡ leaf Truths
+truths-of unknown m o = absurd (true≢false (sym m))
+truths-of (leaf Truths) m o = refl
+truths-of (leaf I8) m o = absurd (true≢false (sym m))
+truths-of (leaf I16) m o = absurd (true≢false (sym m))
+truths-of (leaf I32) m o = absurd (true≢false (sym m))
+truths-of (leaf I64) m o = absurd (true≢false (sym m))
+truths-of (leaf U8) m o = absurd (true≢false (sym m))
+truths-of (leaf U16) m o = absurd (true≢false (sym m))
+truths-of (leaf U32) m o = absurd (true≢false (sym m))
+truths-of (leaf U64) m o = absurd (true≢false (sym m))
+truths-of (var t) m o = absurd (true≢false (sym m))
+truths-of (reg n t) m o = absurd (true≢false (sym m))
+truths-of (rec ns ts) m o = absurd (true≢false (sym m))
+truths-of (tup ts) m o = absurd (true≢false (sym m))
+truths-of (opt t) m o = absurd (true≢false o)
+truths-of (uni ts) m o = absurd (true≢false (sym m))
+
+pub mask_places-there : (n : ℕ) (t : DataType) (ms : List Value) → length ms ≡ n → is_mask t ≡ true → is_option t ≡ false → AllByRecursion (Has t) ms → AllByRecursion (IsThere n) (mask_places ms)
+mask_places-there n t ms e m o h =
+    let h' : AllByRecursion (Has (leaf Truths)) ms = subst (λ u. AllByRecursion (Has u) ms) (truths-of t m o) h in
+    all-each (IsThere n) (λ k. mask_place k (get_or ms k null)) 0 (length ms) (λ i l.
+    mask_place-there n i (get_or ms i null) (has-at (Has (leaf Truths)) ms i h' (omega arith)) (omega arith))
+
+-- ---- each place that an index names
+
+below-if : (b : Bool) (n j : ℕ) → (b ≡ true → j < n) → IsBelow n (if b then Some j else None)
+below-if true n j h = h refl
+below-if false n j h = tt
+
+place_in-below : (n : ℕ) (z : ℤ) → IsBelow n (place_in n z)
+place_in-below n (pos k) = below-if (nat_lt k n) n k (ltb-true k n)
+place_in-below n (negsuc k) = below-if (nat_lt k n) n (n - suc k) (λ h. omega (arith, ltb-true k n h))
+
+pub take_place-below : (n : ℕ) (v : Value) → IsBelow n (take_place n v)
+take_place-below n (int z) = place_in-below n z
+take_place-below n (truth b) = tt
+take_place-below n null = tt
+take_place-below n (list vs) = tt
+take_place-below n (row vs) = tt
+take_place-below n (alt j v) = tt
+
+pub take_places-below : (n : ℕ) (ws : List Value) → AllByRecursion (IsBelow n) (take_places n ws)
+take_places-below n [] = tt
+take_places-below n (w ∷ ws) = (take_place-below n w, take_places-below n ws)
+
+there-of : (n : ℕ) (o : Option ℕ) → IsBelow n o → is_none o ≡ false → IsThere n o
+there-of n None b h = absurd (true≢false h)
+there-of n (Some k) b h = b
+
+-- of numbers that are not optional, each is a number
+take_place-there : (n : ℕ) (p : Primitive) (v : Value) → is_numbers (leaf p) ≡ true → Has (leaf p) v → is_outside n v ≡ false → IsThere n (take_place n v)
+take_place-there n p (int z) m t h = there-of n (place_in n z) (place_in-below n z) h
+take_place-there n Truths (truth b) m t h = absurd (true≢false (sym m))
+take_place-there n I8 (truth b) m t h = absurd t
+take_place-there n I16 (truth b) m t h = absurd t
+take_place-there n I32 (truth b) m t h = absurd t
+take_place-there n I64 (truth b) m t h = absurd t
+take_place-there n U8 (truth b) m t h = absurd t
+take_place-there n U16 (truth b) m t h = absurd t
+take_place-there n U32 (truth b) m t h = absurd t
+take_place-there n U64 (truth b) m t h = absurd t
+take_place-there n p null m t h = absurd t
+take_place-there n p (list vs) m t h = absurd t
+take_place-there n p (row vs) m t h = absurd t
+take_place-there n p (alt j v) m t h = absurd t
+
+or-parts : (a b : Bool) → (a || b) ≡ false → (a ≡ false) × (b ≡ false)
+or-parts true b h = absurd (true≢false h)
+or-parts false b h = (refl, h)
+
+leaves-there : (n : ℕ) (p : Primitive) (ws : List Value) → is_numbers (leaf p) ≡ true → AllByRecursion (Has (leaf p)) ws → list_any (is_outside n) ws ≡ false → AllByRecursion (IsThere n) (take_places n ws)
+leaves-there n p [] m t h = tt
+leaves-there n p (w ∷ ws) m t h =
+    let e = or-parts (is_outside n w) (list_any (is_outside n) ws) h in
+    (take_place-there n p w m t.0 e.0, leaves-there n p ws m t.1 e.1)
+
+unknown-there : (n : ℕ) (ws : List Value) → AllByRecursion (Has unknown) ws → AllByRecursion (IsThere n) (take_places n ws)
+unknown-there n [] t = tt
+unknown-there n (w ∷ ws) t = absurd t.0
+
+pub take_places-there : (n : ℕ) (t : DataType) (ws : List Value) → is_index t ≡ true → is_option t ≡ false → AllByRecursion (Has t) ws → list_any (is_outside n) ws ≡ false → AllByRecursion (IsThere n) (take_places n ws)
+take_places-there n unknown ws m o t h = unknown-there n ws t
+take_places-there n (leaf p) ws m o t h = leaves-there n p ws m t h
+take_places-there n (var u) ws m o t h = absurd (true≢false (sym m))
+take_places-there n (reg k u) ws m o t h = absurd (true≢false (sym m))
+take_places-there n (rec ns ts) ws m o t h = absurd (true≢false (sym m))
+take_places-there n (tup ts) ws m o t h = absurd (true≢false (sym m))
+take_places-there n (opt u) ws m o t h = absurd (true≢false o)
+take_places-there n (uni ts) ws m o t h = absurd (true≢false (sym m))
+
+-- the lane of an index
+pub take-lane : (n : ℕ) (ix : Layout) (p : Column) → p ≡ lane_of kind.I64 (len ix) (take_number n ix) → p ≡ places_lane (take_places n (array_items ix))
+take-lane n ix p e =
+    e ∙ ap (λ zs. record { kind = kind.I64; items = zs }) (sym
+    (map-map place_number (take_place n) (array_items ix)
+    ∙ map-map (λ v. place_number (take_place n v)) (simple_value (layout_type ix)) (map (item ix) (range_with_len 0 (len ix)))
+    ∙ map-map (λ v. place_number (take_place n (simple_value (layout_type ix) v))) (item ix) (range_with_len 0 (len ix))))
+
+-- ---- what is outside
+
+pub any-at : (p : Value → Bool) (vs : List Value) (i : ℕ) → i < length vs → p (get_or vs i null) ≡ true → list_any p vs ≡ true
+any-at p [] i l h = absurd (omega arith)
+any-at p (v ∷ vs) zero l h = ap (λ b. b || list_any p vs) h
+any-at p (v ∷ vs) (suc i) l h = ap (λ b. p v || b) (any-at p vs i (omega arith) h) ∙ or-true (p v)
+  where
+    or-true : (b : Bool) → (b || true) ≡ true
+    or-true true = refl
+    or-true false = refl
