@@ -118,9 +118,12 @@ fn pick_of<'s, L: Ledger>(
         (meaning.pick_of (datum_of e.now) (datum_of x.now)) }
     ensures datum { IfOk result (λ made. IsDatum made) }
 {
-    match (e, x) {
-        (Datum::Arr(_), Datum::Arr(items)) => picked(alloc, e, x, items.typ(), arena, steps),
-        _ => Err(Fault::WrongType),
+    match e {
+        Datum::Arr(_) => match x {
+            Datum::Arr(items) => picked(alloc, e, x, items.typ(), arena, steps),
+            Datum::One(_) => Err(Fault::WrongType),
+        },
+        Datum::One(_) => Err(Fault::WrongType),
     }
 }
 

@@ -36,9 +36,12 @@ pub(crate) fn both<'o, 's>(operands: &'o Operands<'s>) -> Option<(&'o Datum<'s>,
     if operands.len() != 2 {
         return None;
     }
-    match (operands.get(0), operands.get(1)) {
-        (Operand::Of(x), Operand::Of(y)) => Some((x, y)),
-        _ => None,
+    match operands.get(0) {
+        Operand::Of(x) => match operands.get(1) {
+            Operand::Of(y) => Some((x, y)),
+            Operand::Literal(_) => None,
+        },
+        Operand::Literal(_) => None,
     }
 }
 

@@ -3,3 +3,5 @@ pub mod Lists
 pub mod RangePlaces
 pub mod CellLaws
 pub mod PickedPlaces
+pub mod PickAnswers
+pub mod JudgedTypes

@@ -24,10 +24,7 @@ pub(crate) enum Cells<'a> {
     /// The numbers of a lane.
     Plain(Lane<'a>),
     /// Null where the index is negative, else the number there.
-    Optional {
-        index: Lane<'a>,
-        lane: Lane<'a>,
-    },
+    Optional { index: Lane<'a>, lane: Lane<'a> },
 }
 
 impl<'a> Cells<'a> {
@@ -45,12 +42,7 @@ impl<'a> Cells<'a> {
 }
 
 // The number of a lane at place i of an index, or none for null.
-fn number_in<L: Ledger>(
-    index: &Lane,
-    lane: &Lane,
-    i: u64,
-    steps: &mut Steps<L>,
-) -> Option<Num>
+fn number_in<L: Ledger>(index: &Lane, lane: &Lane, i: u64, steps: &mut Steps<L>) -> Option<Num>
     requires { IsCell (Cells.Optional index.now lane.now) i }
     ensures { cell_shown result ≡ cell_value (Cells.Optional index.now lane.now) i }
 {
@@ -97,9 +89,7 @@ fn optional_cells<'a, L: Ledger>(
             index: index.copy(),
             lane,
         }),
-        Opened::Items { .. }
-        | Opened::Row { .. }
-        | Opened::Option { .. }
-        | Opened::Union { .. } => unreachable!(),
+        Opened::Items { .. } | Opened::Row { .. } | Opened::Option { .. } | Opened::Union { .. } =>
+            unreachable!(),
     }
 }

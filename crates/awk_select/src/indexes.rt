@@ -43,9 +43,12 @@ pub fn take<'a, L: Ledger>(
     ensures answer { Gives datum_of fault_told result (take_of (datum_of x.now) (datum_of ix.now)) }
     ensures datum { IfOk result (λ made. IsDatum made) }
 {
-    match (x, ix) {
-        (Datum::Arr(x), Datum::Arr(ix)) => Ok(Datum::Arr(taken(alloc, x, ix, arena, steps)?)),
-        _ => Err(Fault::WrongType),
+    match x {
+        Datum::Arr(x) => match ix {
+            Datum::Arr(ix) => Ok(Datum::Arr(taken(alloc, x, ix, arena, steps)?)),
+            Datum::One(_) => Err(Fault::WrongType),
+        },
+        Datum::One(_) => Err(Fault::WrongType),
     }
 }
 

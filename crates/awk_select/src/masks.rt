@@ -36,9 +36,12 @@ pub fn mask<'a, L: Ledger>(
     ensures answer { Gives datum_of fault_told result (mask_of (datum_of x.now) (datum_of m.now)) }
     ensures datum { IfOk result (λ made. IsDatum made) }
 {
-    match (x, m) {
-        (Datum::Arr(x), Datum::Arr(m)) => Ok(Datum::Arr(masked(alloc, x, m, arena, steps)?)),
-        _ => Err(Fault::WrongType),
+    match x {
+        Datum::Arr(x) => match m {
+            Datum::Arr(m) => Ok(Datum::Arr(masked(alloc, x, m, arena, steps)?)),
+            Datum::One(_) => Err(Fault::WrongType),
+        },
+        Datum::One(_) => Err(Fault::WrongType),
     }
 }
 
@@ -111,13 +114,7 @@ fn kept_number(i: u64, x: Num) -> Option<i64>
     ensures { numbers_shown result ≡ map place_number (mask_place i (number_value x)) }
 {
     match x {
-        Num::Truth(b) => {
-            if b {
-                Some(i as i64)
-            } else {
-                None
-            }
-        }
+        Num::Truth(b) => { if b { Some(i as i64) } else { None } }
         Num::Int(_) | Num::Nat(_) => None,
     }
 }

@@ -98,7 +98,12 @@ fn range_lane<'a>(
     if step > 0 {
         lane_up(bound_up(n, 0, lo), bound_up(n, n, hi), step as u64, arena)
     } else {
-        lane_down(bound_down(n, n, lo), bound_down(n, 0, hi), step.unsigned_abs(), arena)
+        lane_down(
+            bound_down(n, n, lo),
+            bound_down(n, 0, hi),
+            step.unsigned_abs(),
+            arena,
+        )
     }
 }
 

@@ -10,11 +10,6 @@ fields_of-requires-clause-distinct g c =
     (subst (λ o. HasArguments o (length c.args.operands.now) c.args.fixed.now) c.in-Fields.is
     c.requires) (sym c.in-Some-Some-3.ensures)
 
-pub returns-in-Some-Some-clause-cost : goal.returns-in-Some-Some-clause-cost
-returns-in-Some-Some-clause-cost g c s cuts are =
-    c.range_of.ensures.cost s
-    (IsWithin-one s c.args.operands.now c.in-Some-Some.x.now c.in-Some-Some.ensures'.alone are)
-
 pub returns-in-Some-Some-2-clause-cost : goal.returns-in-Some-Some-2-clause-cost
 returns-in-Some-Some-2-clause-cost g c s cuts are =
     c.field_of.ensures.cost s

@@ -1,0 +1,127 @@
+-- What masks and indexes answer: the first refusal, or the items.
+use Rattle.std.proofs.Common.{◌≡◌, ◌≢◌, ℕ, ◌<◌, ◌≤◌, List, length, arith, refl, ap, ap₂, sym, ◌∙◌, subst, eq-eqb, ne_eqb, le-ltb, lt-ltb}
+use Rattle.std.specs.Prelude.{Bool, true, false, ◌==◌, nat_lt, Option, Some, None, option_map, Result, Ok, Err, if◌then◌else◌}
+use Rattle.std.specs.List.{list_any}
+use Rattle.awk_types.specs.DataType.{DataType}
+use Rattle.awk_types.specs.Datum.{Datum, arr}
+use Rattle.awk_types.specs.Faults.{limit_fault, fault_told}
+use Rattle.awk_types.specs.Gives.{Told, Gives, refused_or, ◌or◌}
+use Rattle.awk_types.specs.Limit.{Limit, limit}
+use Rattle.awk_types.specs.Value.{Value}
+use Rattle.awk_types.specs.declared.fault.Fault.{Fault}
+use Rattle.awk_types.specs.declared.fault.Fault.TheVariants.{WrongType, Lengths, Index, Size}
+use Rattle.awk_types.proofs.RefusalLaws.{Told-first, Told-later, refused_or-Ok, refused_or-None}
+use Rattle.awk_lanes.specs.Column.{Column}
+use Rattle.awk_lanes.specs.declared.kind.Kind.TheVariants.{I64}
+use Rattle.awk_layout.specs.Layout.{Layout}
+use Rattle.awk_layout.specs.Valid.{len}
+use Rattle.awk_layout.specs.Typing.{array_type, array_items, array_datum}
+use Rattle.awk_gather.specs.Arrays.{pick}
+use Rattle.awk_gather.specs.Counted.{item_limit}
+use Rattle.awk_gather.specs.Joined.{too_many}
+use Rattle.awk_gather.specs.Lanes.{lane_of}
+use Rattle.awk_select.specs.Cells.{places_lane, take_number}
+use Rattle.awk_select.specs.Picks.{picked, picked_type, type_refused, limit_refused, is_mask, mask_places, lengths_refused, mask_refused, masked, is_index, take_places, is_outside, index_refused, take_refused, taken}
+use Rattle.awk_select.proofs.PickedPlaces.{pick-picked, take-lane}
+
+-- ---- parts of refusals
+
+many : (n : ℕ) → item_limit < n → too_many n ≡ Some Size
+many n h = ap (λ b. if b then Some Size else None) (lt-ltb item_limit n h)
+
+few : (n : ℕ) → n ≤ item_limit → too_many n ≡ None
+few n h = ap (λ b. if b then Some Size else None) (le-ltb item_limit n h)
+
+no_limit : (o : Option Limit) → option_map limit_fault o ≡ None → o ≡ None
+no_limit None h = refl
+no_limit (Some l) h = absurd (cc)
+
+-- a type that is judged well passes no limit
+pub judged : (t : DataType) → refused_or (limit_refused t) (tt {0}) ≡ Ok (tt {0}) → limit t ≡ None
+judged t h = no_limit (limit t) (refused_or-Ok (limit_refused t) (tt {0}) (tt {0}) h).0
+
+-- ---- masks
+
+pub mask-wrong : (t : DataType) (vs : List Value) (u : DataType) (ms : List Value) → is_mask u ≡ false → masked t vs u ms ≡ Err WrongType
+mask-wrong t vs u ms m =
+    ap (λ b. refused_or (type_refused b or (limit_refused (picked_type u t) or (lengths_refused (length vs) (length ms) or too_many (length (mask_places ms))))) (arr (picked_type u t) (picked vs (mask_places ms)))) m
+
+pub mask-limit : (t : DataType) (vs : List Value) (u : DataType) (ms : List Value) (o : Option Fault) → is_mask u ≡ true → Told o (refused_or (limit_refused (picked_type u t)) (tt {0})) → Told o (masked t vs u ms)
+mask-limit t vs u ms o m h =
+    let a = arr (picked_type u t) (picked vs (mask_places ms)) in
+    let later = lengths_refused (length vs) (length ms) or too_many (length (mask_places ms)) in
+    Told-later o (type_refused (is_mask u)) (limit_refused (picked_type u t) or later) a a (ap type_refused m)
+    (Told-first o (limit_refused (picked_type u t)) later (tt {0}) a h)
+
+-- the refusals behind the type and its limit
+mask-open : (t : DataType) (vs : List Value) (u : DataType) (ms : List Value) → is_mask u ≡ true → limit (picked_type u t) ≡ None → masked t vs u ms ≡ refused_or (lengths_refused (length vs) (length ms) or too_many (length (mask_places ms))) (arr (picked_type u t) (picked vs (mask_places ms)))
+mask-open t vs u ms m l =
+    let a = arr (picked_type u t) (picked vs (mask_places ms)) in
+    let later = lengths_refused (length vs) (length ms) or too_many (length (mask_places ms)) in
+    ap (λ b. refused_or (type_refused b or (limit_refused (picked_type u t) or later)) a) m
+    ∙ ap (λ o. refused_or (option_map limit_fault o or later) a) l
+
+pub mask-lengths : (t : DataType) (vs : List Value) (u : DataType) (ms : List Value) → is_mask u ≡ true → limit (picked_type u t) ≡ None → length vs ≢ length ms → masked t vs u ms ≡ Err Lengths
+mask-lengths t vs u ms m l n =
+    mask-open t vs u ms m l
+    ∙ ap (λ b. refused_or ((if b then None else Some Lengths) or too_many (length (mask_places ms))) (arr (picked_type u t) (picked vs (mask_places ms)))) (ne_eqb (length vs) (length ms) n)
+
+pub mask-items : (t : DataType) (vs : List Value) (u : DataType) (ms : List Value) → is_mask u ≡ true → limit (picked_type u t) ≡ None → length vs ≡ length ms → refused_or (too_many (length (mask_places ms))) (arr (picked_type u t) (picked vs (mask_places ms))) ≡ masked t vs u ms
+mask-items t vs u ms m l n =
+    sym (mask-open t vs u ms m l
+    ∙ ap (λ b. refused_or ((if b then None else Some Lengths) or too_many (length (mask_places ms))) (arr (picked_type u t) (picked vs (mask_places ms)))) (eq-eqb (length vs) (length ms) n))
+
+pub mask-size : (k n : ℕ) (a : Datum) → k ≡ n → item_limit < k → refused_or (too_many n) a ≡ Err Size
+mask-size k n a e h = ap (λ o. refused_or o a) (ap too_many (sym e) ∙ many k h)
+
+pub mask-said : (x m : Layout) (p : Column) (u : DataType) (k : ℕ) (r : Result Layout Fault) → u ≡ array_type m → p ≡ places_lane (mask_places (array_items m)) → k ≡ length (mask_places (array_items m)) → k ≤ item_limit → Gives array_datum fault_told r (Ok (arr (picked_type u (array_type x)) (pick (array_items x) p.items))) → Gives array_datum fault_told r (refused_or (too_many (length (mask_places (array_items m)))) (arr (picked_type (array_type m) (array_type x)) (picked (array_items x) (mask_places (array_items m)))))
+mask-said x m p u k r t e c l h =
+    let os = mask_places (array_items m) in
+    let a = arr (picked_type (array_type m) (array_type x)) (picked (array_items x) os) in
+    let same : Ok (arr (picked_type u (array_type x)) (pick (array_items x) p.items)) ≡ refused_or (too_many (length os)) a =
+    ap₂ (λ t vs. Ok (arr (picked_type t (array_type x)) vs)) t (pick-picked (array_items x) os p e)
+    ∙ sym (refused_or-None (too_many (length os)) a a (ap too_many (sym c) ∙ few k l) refl) in
+    subst (λ said. Gives array_datum fault_told r said) same h
+
+-- ---- indexes
+
+pub take-wrong : (t : DataType) (vs : List Value) (u : DataType) (ws : List Value) → is_index u ≡ false → taken t vs u ws ≡ Err WrongType
+take-wrong t vs u ws m =
+    ap (λ b. refused_or (type_refused b or (limit_refused (picked_type u t) or (index_refused (length vs) ws or too_many (length ws)))) (arr (picked_type u t) (picked vs (take_places (length vs) ws)))) m
+
+pub take-limit : (t : DataType) (vs : List Value) (u : DataType) (ws : List Value) (o : Option Fault) → is_index u ≡ true → Told o (refused_or (limit_refused (picked_type u t)) (tt {0})) → Told o (taken t vs u ws)
+take-limit t vs u ws o m h =
+    let a = arr (picked_type u t) (picked vs (take_places (length vs) ws)) in
+    let later = index_refused (length vs) ws or too_many (length ws) in
+    Told-later o (type_refused (is_index u)) (limit_refused (picked_type u t) or later) a a (ap type_refused m)
+    (Told-first o (limit_refused (picked_type u t)) later (tt {0}) a h)
+
+pub take-open : (t : DataType) (vs : List Value) (u : DataType) (ws : List Value) → is_index u ≡ true → limit (picked_type u t) ≡ None → refused_or (index_refused (length vs) ws or too_many (length ws)) (arr (picked_type u t) (picked vs (take_places (length vs) ws))) ≡ taken t vs u ws
+take-open t vs u ws m l =
+    let a = arr (picked_type u t) (picked vs (take_places (length vs) ws)) in
+    let later = index_refused (length vs) ws or too_many (length ws) in
+    sym (ap (λ b. refused_or (type_refused b or (limit_refused (picked_type u t) or later)) a) m
+    ∙ ap (λ o. refused_or (option_map limit_fault o or later) a) l)
+
+pub take-outside : (n k : ℕ) (ws : List Value) (a : Datum) → k ≡ n → list_any (is_outside k) ws ≡ true → refused_or (index_refused n ws or too_many (length ws)) a ≡ Err Index
+take-outside n k ws a e h =
+    ap (λ m. refused_or (index_refused m ws or too_many (length ws)) a) (sym e)
+    ∙ ap (λ b. refused_or ((if b then Some Index else None) or too_many (length ws)) a) h
+
+take-inside : (n k : ℕ) (ws : List Value) (a : Datum) → k ≡ n → list_any (is_outside k) ws ≡ false → refused_or (index_refused n ws or too_many (length ws)) a ≡ refused_or (too_many (length ws)) a
+take-inside n k ws a e h =
+    ap (λ m. refused_or (index_refused m ws or too_many (length ws)) a) (sym e)
+    ∙ ap (λ b. refused_or ((if b then Some Index else None) or too_many (length ws)) a) h
+
+pub take-size : (n k q : ℕ) (ws : List Value) (a : Datum) → k ≡ n → list_any (is_outside k) ws ≡ false → q ≡ length ws → item_limit < q → refused_or (index_refused n ws or too_many (length ws)) a ≡ Err Size
+take-size n k q ws a e h c l = take-inside n k ws a e h ∙ mask-size q (length ws) a c l
+
+pub take-said : (x ix : Layout) (p : Column) (u : DataType) (n q : ℕ) (r : Result Layout Fault) → u ≡ array_type ix → n ≡ length (array_items x) → p ≡ lane_of I64 (len ix) (take_number n ix) → list_any (is_outside n) (array_items ix) ≡ false → q ≡ length (array_items ix) → q ≤ item_limit → Gives array_datum fault_told r (Ok (arr (picked_type u (array_type x)) (pick (array_items x) p.items))) → Gives array_datum fault_told r (refused_or (index_refused (length (array_items x)) (array_items ix) or too_many (length (array_items ix))) (arr (picked_type (array_type ix) (array_type x)) (picked (array_items x) (take_places (length (array_items x)) (array_items ix)))))
+take-said x ix p u n q r t e lane inside c l h =
+    let ws = array_items ix in
+    let a = arr (picked_type (array_type ix) (array_type x)) (picked (array_items x) (take_places (length (array_items x)) ws)) in
+    let same : Ok (arr (picked_type u (array_type x)) (pick (array_items x) p.items)) ≡ refused_or (index_refused (length (array_items x)) ws or too_many (length ws)) a =
+    ap₂ (λ t vs. Ok (arr (picked_type t (array_type x)) vs)) t
+    (pick-picked (array_items x) (take_places n ws) p (take-lane n ix p lane) ∙ ap (λ m. picked (array_items x) (take_places m ws)) e)
+    ∙ sym (take-inside (length (array_items x)) n ws a e inside ∙ refused_or-None (too_many (length ws)) a a (ap too_many (sym c) ∙ few q l) refl) in
+    subst (λ said. Gives array_datum fault_told r said) same h
