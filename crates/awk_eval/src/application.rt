@@ -16,7 +16,7 @@ ghost use Rattle.awk_eval.specs.Ranges.{range_items};
 ghost use Rattle.awk_eval.specs.Views.{Size, Takes, IsWithin, AreWithin, is_view_op};
 ghost use Rattle.awk_eval.specs.Eval as meaning;
 
-use crate::arguments::{both, bound_or, bounds, only, place, stepped, text, texts};
+use crate::arguments::{both, bound_or, bounds, only, place, text, texts, with_step};
 use awk_lanes::{Arena, Steps};
 use awk_layout::{Array, Datum, Operands};
 use awk_query::{Fixed, FixedArg, Op};
@@ -85,7 +85,7 @@ fn ranged<'s, L: Ledger>(
     let Some(x) = only(operands) else {
         return Err(Fault::Unbuilt);
     };
-    match (bounds(fixed), stepped(fixed)) {
+    match (bounds(fixed), with_step(fixed)) {
         (Some((lo, hi)), _) => range_of(alloc, x, lo, hi, steps),
         (None, Some(s)) => step_range(alloc, x, s.lo, s.hi, s.step, arena, steps),
         (None, None) => Err(Fault::Unbuilt),

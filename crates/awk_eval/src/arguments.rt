@@ -74,7 +74,7 @@ pub(crate) struct Stepped {
 }
 
 /// The bounds and the step of a range, where it has a step that is not 0.
-pub(crate) fn stepped(fixed: &Fixed) -> Option<Stepped>
+pub(crate) fn with_step(fixed: &Fixed) -> Option<Stepped>
     ensures stepped { option_map stepped_view result ≡ given.stepped_in fixed.now }
     ensures step { IfSome result (λ s. s.step ≢ pos 0) }
 {

@@ -13,6 +13,7 @@ use Rattle.awk_types.specs.declared.primitive.Primitive.TheVariants.{Bool as Tru
 use Rattle.awk_lanes.specs.Column.{Column}
 use Rattle.awk_lanes.specs.Making.{Making, with_item}
 use Rattle.awk_lanes.specs.Places.{at, size_of, place_at, option_place, IsIndex, IsOptionalIndex}
+use Rattle.awk_lanes.specs.declared.kind.Kind.{Kind}
 use Rattle.awk_lanes.specs.declared.kind.Kind.TheVariants as kind
 use Rattle.awk_layout.specs.Layout.{Layout}
 use Rattle.awk_layout.specs.Valid.{len}
@@ -318,3 +319,13 @@ any-at p (v ∷ vs) (suc i) l h = ap (λ b. p v || b) (any-at p vs i (omega arit
     or-true : (b : Bool) → (b || true) ≡ true
     or-true true = refl
     or-true false = refl
+
+-- ---- lanes by their kind and numbers
+
+pub lane-ext : (p : Column) (k : Kind) (zs : List ℤ) → p.kind ≡ k → p.items ≡ zs → p ≡ record { kind = k; items = zs }
+lane-ext p k zs e h = ap₂ (λ k zs. record { kind = k; items = zs }) e h
+
+-- no number is none
+pub none_left : (o : Option ℤ) → ((k : ℤ) → o ≡ Some k → ⊥) → o ≡ None
+none_left None h = refl
+none_left (Some k) h = absurd (h k refl)

@@ -99,3 +99,7 @@ cut-range vs n from to lo hi counted first last =
     ap (λ m. take m (drop from vs)) same
     ∙ cut-items vs from (bound_up n n hi) (omega (arith, bound_up-below n n hi (omega arith)))
     ∙ ap (λ f. items_at vs (places_up f (bound_up n n hi) 1)) first
+
+-- all numbers are made
+pub end-is : (f : ℕ → ℤ) (j n m : ℕ) → j ≡ n → n ≡ m → map f (range_with_len 0 j) ≡ map f (range_with_len 0 m)
+end-is f j n m e h = ap (λ k. map f (range_with_len 0 k)) (e ∙ h)

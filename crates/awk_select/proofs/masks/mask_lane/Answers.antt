@@ -1,0 +1,38 @@
+use Rattle.std.proofs.Common.{◌≡◌, ◌+◌, ◌<◌, [], ◌∷◌, Some, None, arith, refl, ap, ap₂, sym, ◌∙◌, subst}
+use Rattle.awk_lanes.specs.Column.{Column}
+use Rattle.awk_layout.specs.Typing.{array_items}
+use Rattle.awk_layout.specs.Valid.{len}
+use Rattle.awk_select.specs.Cells.{numbers_shown, mask_numbers}
+use Rattle.awk_select.proofs.PickedPlaces.{mask_first, IsMade, made-pushed, made-none, made-room, made-whole, none_left, lane-ext}
+use Rattle.awk_select.proofs.masks.mask_lane.Goals as goal
+use Rattle.awk_select.proofs.masks.mask_lane.Goals.{in-Some, in_default}
+
+pub push-requires-clause-room : goal.push-requires-clause-room
+push-requires-clause-room g c =
+    let i : c.loop-i.i < len c.args.m.now = omega (arith, c.loop-i-test.true, c.len-i-end.ensures.len) in
+    made-room c.args.m.now c.args.n c.loop-i.i c.in-Some.z c.loop-i.maker c.requires.count i
+    (ap numbers_shown (sym c.in-Some.is) ∙ c.kept.ensures) c.loop-i.invariant
+
+pub loop-i-preserved : goal.loop-i-preserved
+loop-i-preserved g c =
+    let i : c.loop-i.i < len c.args.m.now = omega (arith, c.loop-i-test.true, c.len-i-end.ensures.len) in
+    elim c.match-kept.branch [
+      | in-Some w ↦ subst (IsMade c.args.n (mask_first (array_items c.args.m.now) (c.loop-i.i + 1))) (sym w.maker-is)
+          (made-pushed c.args.m.now c.args.n c.loop-i.i w.in-Some.z w.in-Some.z c.loop-i.maker w.push.new.self i
+          (ap numbers_shown (sym w.in-Some.is) ∙ c.kept.ensures) w.push.ensures refl c.loop-i.invariant)
+      | in_default w ↦ subst (IsMade c.args.n (mask_first (array_items c.args.m.now) (c.loop-i.i + 1))) (sym w.maker-is)
+          (made-none c.args.m.now c.args.n c.loop-i.i c.loop-i.maker i
+          (ap numbers_shown (sym (none_left _ (λ k e. w.in_default.not-Some k e))) ∙ c.kept.ensures) c.loop-i.invariant)
+    ]
+
+pub finish-requires : goal.finish-requires
+finish-requires g c =
+    (made-whole c.args.m.now c.args.n c.loop-i.i c.loop-i.maker (omega (arith, c.loop-i-test.false, c.loop-i.auto, c.len-i-end.ensures.len))
+    c.requires.count c.loop-i.invariant).0
+
+pub returns : goal.returns
+returns g c = record {
+  lane = lane-ext c.finish.result _ _ (c.finish.ensures.kind ∙ c.loop-i.invariant.kind)
+      (c.finish.ensures.items ∙ (made-whole c.args.m.now c.args.n c.loop-i.i c.loop-i.maker (omega (arith, c.loop-i-test.false, c.loop-i.auto, c.len-i-end.ensures.len))
+      c.requires.count c.loop-i.invariant).1);
+}
