@@ -39,3 +39,10 @@ pub last_part : (bytes : List ℕ) (start i : ℕ) → i ≡ length bytes → sl
 last_part bytes start i ended =
     let none : drop i bytes ≡ [] = drop_all i bytes (omega arith) in
     ap (λ z. slice_range bytes start i ++ escaped_all z) none ∙ append-nil (slice_range bytes start i) ∙ ap (slice_range bytes start) ended
+
+-- two texts, joined
+pub escaped_all-append : (xs ys : List ℕ) → escaped_all (xs ++ ys) ≡ escaped_all xs ++ escaped_all ys
+escaped_all-append [] ys = refl
+escaped_all-append (x ∷ xs) ys =
+    ap (λ z. escaped x ++ z) (escaped_all-append xs ys)
+    ∙ sym (append_assoc (escaped x) (escaped_all xs) (escaped_all ys))

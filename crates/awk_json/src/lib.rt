@@ -4,5 +4,6 @@
 mod text;
 
 pub use text::{
-    write_comma, write_number, write_pieces, write_quoted, write_separator, write_text,
+    write_comma, write_joined, write_number, write_pieces, write_quoted, write_separator,
+    write_text,
 };

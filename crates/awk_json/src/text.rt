@@ -32,6 +32,25 @@ pub fn write_quoted<K: Sink>(out: &mut Out, sink: &mut K, bytes: &[u8]) -> Resul
     out.put(sink, b"\"")
 }
 
+/// Puts two texts, joined, in quotes, each special byte escaped.
+pub fn write_joined<K: Sink>(
+    out: &mut Out,
+    sink: &mut K,
+    first: &str,
+    second: &str,
+) -> Result<(), WriteFault>
+    requires open { IsTrue out.old.is_open }
+    ensures bytes { Moves (K.written sink.old) (K.written sink.new) out.new
+        (out.old.held ++ quoted (first.now ++ second.now)) result }
+    ensures flushes { K.flushes sink.new ≡ K.flushes sink.old }
+    ensures cause { HasCause (K.faults sink.old) (K.faults sink.new) result }
+{
+    out.put(sink, b"\"")?;
+    write_escaped(out, sink, first.as_bytes())?;
+    write_escaped(out, sink, second.as_bytes())?;
+    out.put(sink, b"\"")
+}
+
 /// Puts texts one after another, as they stand.
 pub fn write_pieces<K: Sink>(out: &mut Out, sink: &mut K, pieces: &[&str]) -> Result<(), WriteFault>
     requires open { IsTrue out.old.is_open }
