@@ -134,3 +134,16 @@ optional_cells x y j c h v e = record {
       let l' : i < size_of j = omega (arith, h.size) in
       h.items i l ∙ value_at y c (option_place_at j i) (option_below (at j i) (len y) (v.1.below i l')) e;
 }
+
+-- ---- no other kinds
+
+pub only_cells : (t : DataType) (r : Opened) → IsKindOf t r → is_leaf (present t) ≡ true → (r ≡ Opened.Empty → ⊥) → ((c : Column) → r ≡ Opened.Leaf c → ⊥) → ((j : Column) (y : Layout) → r ≡ Opened.Option j y → ⊥) → ⊥
+only_cells t Opened.Empty k h e l o = e refl
+only_cells t (Opened.Leaf c) k h e l o = l c refl
+only_cells t (Opened.Items s f y) k h e l o = no_lists t s f y k h
+only_cells t (Opened.Row names ys) k h e l o = no_rows t names ys k h
+only_cells t (Opened.Option j y) k h e l o = o j y refl
+only_cells t (Opened.Union g j ys) k h e l o = no_union t g j ys k h
+
+pub only_leaves : (t : DataType) (r : Opened) → IsKindOf t r → is_leaf t ≡ true → (r ≡ Opened.Empty → ⊥) → ((c : Column) → r ≡ Opened.Leaf c → ⊥) → ⊥
+only_leaves t r k h e l = only_cells t r k (leaf_present t h) e l (λ j y q. no_option t j y (subst (IsKindOf t) q k) h)

@@ -16,12 +16,13 @@ use Rattle.awk_lanes.specs.declared.kind.Kind.TheVariants.{I64}
 use Rattle.awk_layout.specs.Layout.{Layout}
 use Rattle.awk_layout.specs.Valid.{len}
 use Rattle.awk_layout.specs.Typing.{array_type, array_items, array_datum}
+use Rattle.awk_gather.proofs.GatheredArrays.{length-array_items}
 use Rattle.awk_gather.specs.Arrays.{pick}
 use Rattle.awk_gather.specs.Counted.{item_limit}
 use Rattle.awk_gather.specs.Joined.{too_many}
 use Rattle.awk_gather.specs.Lanes.{lane_of}
 use Rattle.awk_select.specs.Cells.{places_lane, take_number}
-use Rattle.awk_select.specs.Picks.{picked, picked_type, type_refused, limit_refused, is_mask, mask_places, lengths_refused, mask_refused, masked, is_index, take_places, is_outside, index_refused, take_refused, taken}
+use Rattle.awk_select.specs.Picks.{picked, picked_type, type_refused, limit_refused, is_mask, mask_places, lengths_refused, mask_refused, masked, alike, is_index, take_places, is_outside, index_refused, take_refused, taken}
 use Rattle.awk_select.proofs.PickedPlaces.{pick-picked, take-lane}
 
 -- ---- parts of refusals
@@ -125,3 +126,15 @@ take-said x ix p u n q r t e lane inside c l h =
     (pick-picked (array_items x) (take_places n ws) p (take-lane n ix p lane) ∙ ap (λ m. picked (array_items x) (take_places m ws)) e)
     ∙ sym (take-inside (length (array_items x)) n ws a e inside ∙ refused_or-None (too_many (length ws)) a a (ap too_many (sym c) ∙ few q l) refl) in
     subst (λ said. Gives array_datum fault_told r said) same h
+
+-- ---- lengths
+
+pub alike-refused : (x m : Layout) (a b : ℕ) → a ≡ len x → b ≡ len m → (a ≡ b → ⊥) → alike (array_type x) (array_items x) (array_type m) (array_items m) ≡ Err Lengths
+alike-refused x m a b e h n =
+    let apart : length (array_items x) ≡ length (array_items m) → ⊥ = λ s. n (e ∙ sym (length-array_items x) ∙ s ∙ length-array_items m ∙ sym h) in
+    ap (λ b. refused_or ((if b then None else Some Lengths) or too_many (length (mask_places (array_items m)))) (arr (picked_type (array_type m) (array_type x)) (picked (array_items x) (mask_places (array_items m))))) (ne_eqb (length (array_items x)) (length (array_items m)) apart)
+
+pub alike-said : (x m : Layout) (r : Result Layout Fault) → len x ≡ len m → Gives array_datum fault_told r (refused_or (too_many (length (mask_places (array_items m)))) (arr (picked_type (array_type m) (array_type x)) (picked (array_items x) (mask_places (array_items m))))) → Gives array_datum fault_told r (alike (array_type x) (array_items x) (array_type m) (array_items m))
+alike-said x m r e h =
+    subst (λ said. Gives array_datum fault_told r said)
+    (sym (ap (λ b. refused_or ((if b then None else Some Lengths) or too_many (length (mask_places (array_items m)))) (arr (picked_type (array_type m) (array_type x)) (picked (array_items x) (mask_places (array_items m))))) (eq-eqb (length (array_items x)) (length (array_items m)) (length-array_items x ∙ e ∙ sym (length-array_items m))))) h

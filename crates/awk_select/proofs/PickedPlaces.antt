@@ -101,7 +101,7 @@ numbers-at m i l = ap (λ v. map place_number (mask_place i v)) (get_or-array_it
 
 numbers-more : (m : Layout) (i : ℕ) → i < len m → map place_number (mask_first (array_items m) (i + 1)) ≡ map place_number (mask_first (array_items m) i) ++ mask_numbers m i
 numbers-more m i l =
-    let f = λ k. mask_place k (get_or (array_items m) k null) in
+    let f : ℕ → List (Option ℕ) = λ k. mask_place k (get_or (array_items m) k null) in
     ap (map place_number) (each_of-more f i)
     ∙ map-append place_number (each_of f i) (f i)
     ∙ ap (λ zs. map place_number (each_of f i) ++ zs) (numbers-at m i l)
@@ -109,7 +109,7 @@ numbers-more m i l =
 -- how many numbers one item more gives
 pub mask-count : (m : Layout) (i : ℕ) (zs : List ℤ) → i < len m → zs ≡ mask_numbers m i → length (mask_first (array_items m) (i + 1)) ≡ length (mask_first (array_items m) i) + length zs
 mask-count m i zs l e =
-    let f = λ k. mask_place k (get_or (array_items m) k null) in
+    let f : ℕ → List (Option ℕ) = λ k. mask_place k (get_or (array_items m) k null) in
     let h : length (f i) ≡ length zs = sym (length-map (f i) place_number) ∙ ap length (numbers-at m i l ∙ sym e) in
     omega (arith, length-each_of f i, h)
 
@@ -126,7 +126,7 @@ few-numbers k (alt j v) = omega arith
 pub mask-few : (ms : List Value) (i : ℕ) → length (mask_first ms i) ≤ i
 mask-few ms zero = omega arith
 mask-few ms (suc i) =
-    let f = λ k. mask_place k (get_or ms k null) in
+    let f : ℕ → List (Option ℕ) = λ k. mask_place k (get_or ms k null) in
     let e : i + 1 ≡ suc i = omega arith in
     subst (λ m. length (mask_first ms m) ≤ m) e (omega (arith, mask-few ms i, length-each_of f i, few-numbers i (get_or ms i null)))
 
@@ -156,7 +156,7 @@ mask-whole m = ap (mask_first (array_items m)) (length-array_items m)
 
 pub made-room : (m : Layout) (n i : ℕ) (z : ℤ) (old : Making) → n ≡ length (mask_places (array_items m)) → i < len m → z ∷ [] ≡ mask_numbers m i → IsMade n (mask_first (array_items m) i) old → length old.items < old.room
 made-room m n i z old e l h d =
-    let f = λ k. mask_place k (get_or (array_items m) k null) in
+    let f : ℕ → List (Option ℕ) = λ k. mask_place k (get_or (array_items m) k null) in
     let one : length (f i) ≡ 1 = sym (length-map (f i) place_number) ∙ ap length (numbers-at m i l ∙ sym h) in
     let all : length (mask_first (array_items m) (len m)) ≡ n = sym (e ∙ ap length (mask-whole m)) in
     omega (arith, ap length d.items, length-map (mask_first (array_items m) i) place_number, d.room, each_of-room f i (len m) l, one, all)
@@ -326,6 +326,6 @@ pub lane-ext : (p : Column) (k : Kind) (zs : List ℤ) → p.kind ≡ k → p.it
 lane-ext p k zs e h = ap₂ (λ k zs. record { kind = k; items = zs }) e h
 
 -- no number is none
-pub none_left : (o : Option ℤ) → ((k : ℤ) → o ≡ Some k → ⊥) → o ≡ None
+pub none_left : {X : Type 0} (o : Option X) → ((k : X) → o ≡ Some k → ⊥) → o ≡ None
 none_left None h = refl
 none_left (Some k) h = absurd (h k refl)

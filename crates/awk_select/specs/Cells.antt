@@ -3,6 +3,7 @@ use Rattle.std.specs.Prelude.{◌≡◌, ℕ, ◌<◌, ℤ, pos, negsuc, Bool, t
 use Rattle.awk_types.specs.DataType.{DataType, unknown, leaf}
 use Rattle.awk_types.specs.Value.{Value, int, truth, null}
 use Rattle.awk_lanes.specs.Column.{Column}
+use Rattle.awk_lanes.specs.Numbers.{int_of}
 use Rattle.awk_lanes.specs.Places.{size_of, at, option_place_at, IsOptionKind}
 use Rattle.awk_lanes.specs.declared.kind.Kind.TheVariants.{I64}
 use Rattle.awk_lanes.specs.declared.kind.Num.{Num}
@@ -72,6 +73,6 @@ abbrev pub take_number : ℕ → Layout → ℕ → ℤ
 take_number n ix i = place_number (take_place n (array_item ix i))
 
 -- these numbers, none or one, are all that code holds
-abbrev pub numbers_shown : Option ℤ → List ℤ
+abbrev pub numbers_shown : Option Num → List ℤ
 numbers_shown None = []
-numbers_shown (Some z) = z ∷ []
+numbers_shown (Some z) = int_of z ∷ []

@@ -87,6 +87,12 @@ mask_refused t vs u ms =
     or (limit_refused (picked_type u t)
     or (lengths_refused (length vs) (length ms) or too_many (length (mask_places ms))))
 
+-- the same, where the types are judged
+abbrev pub alike : DataType → List Value → DataType → List Value → Result Datum Fault
+alike t vs u ms =
+    refused_or (lengths_refused (length vs) (length ms) or too_many (length (mask_places ms)))
+    (arr (picked_type u t) (picked vs (mask_places ms)))
+
 abbrev pub masked : DataType → List Value → DataType → List Value → Result Datum Fault
 masked t vs u ms =
     refused_or (mask_refused t vs u ms) (arr (picked_type u t) (picked vs (mask_places ms)))

@@ -66,7 +66,7 @@ pub(crate) fn cells_of<'a, L: Ledger>(
         Opened::Empty => Ok(Cells::Nulls),
         Opened::Leaf(lane) => Ok(Cells::Plain(lane)),
         Opened::Option { index, content } => optional_cells(alloc, &index, &content, arena, steps),
-        Opened::Items { .. } | Opened::Row { .. } | Opened::Union { .. } => unreachable!(),
+        _ => unreachable!(),
     }
 }
 
@@ -89,7 +89,6 @@ fn optional_cells<'a, L: Ledger>(
             index: index.copy(),
             lane,
         }),
-        Opened::Items { .. } | Opened::Row { .. } | Opened::Option { .. } | Opened::Union { .. } =>
-            unreachable!(),
+        _ => unreachable!(),
     }
 }

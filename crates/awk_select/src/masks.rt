@@ -1,10 +1,12 @@
 //! The items of an array where a mask is true.
-ghost use Rattle.std.specs.Prelude.{◌≡◌, ◌<◌, ◌^◌, true, None, length, map, IfOk};
+ghost use Rattle.std.specs.Prelude.{◌≡◌, ◌<◌, ◌^◌, true, None, length, map, IfOk, IfSome};
 ghost use Rattle.awk_types.specs.Datum.{arr};
 ghost use Rattle.awk_types.specs.Faults.{fault_told};
 ghost use Rattle.awk_types.specs.Gives.{Gives, refused_or};
 ghost use Rattle.awk_types.specs.Limit.{limit};
 ghost use Rattle.awk_types.specs.View.{typ_of};
+ghost use Rattle.awk_lanes.specs.Numbers.{IsOf};
+ghost use Rattle.awk_lanes.specs.declared.kind.Kind.TheVariants as Kind;
 ghost use Rattle.awk_layout.specs.Datum.{IsDatum, datum_of};
 ghost use Rattle.awk_layout.specs.Typing.{array_type, array_items, array_datum};
 ghost use Rattle.awk_layout.specs.Valid.{len};
@@ -12,10 +14,11 @@ ghost use Rattle.awk_gather.specs.Joined.{too_many};
 ghost use Rattle.awk_select.specs.Cells.{AreCells, number_value, place_number, places_lane};
 ghost use Rattle.awk_select.specs.Cells.{mask_numbers, numbers_shown};
 ghost use Rattle.awk_select.specs.Picks as picks;
-ghost use Rattle.awk_select.specs.Picks.{mask_of, mask_place, mask_places, picked, picked_type};
+ghost use Rattle.awk_select.specs.Picks.{alike, mask_of, mask_place, mask_places, picked, picked_type};
 
 use crate::cells::{Cells, cells_of};
 use crate::picked::{ITEM_LIMIT, judge_type, pick};
+use crate::places::number;
 use awk_lanes::{Arena, Kind, Lane, LaneMaker, NoMemory, Num, Steps};
 use awk_layout::{Array, Datum};
 use awk_types::{Fault, Prim, Typ};
@@ -78,6 +81,21 @@ fn masked<'a, L: Ledger>(
         return Err(Fault::WrongType);
     }
     judge_type(alloc, x.typ(), m.typ())?;
+    masked_alike(alloc, x, m, arena, steps)
+}
+
+fn masked_alike<'a, L: Ledger>(
+    alloc: Global,
+    x: &Array<'a>,
+    m: &Array<'a>,
+    arena: &'a Arena,
+    steps: &mut Steps<L>,
+) -> Result<Array<'a>, Fault>
+    requires mask { picks.is_mask (array_type m.now) ≡ true }
+    requires limit { limit (picked_type (array_type m.now) (array_type x.now)) ≡ None }
+    ensures answer { let said = alike (array_type x.now) (array_items x.now) in
+        Gives array_datum fault_told result (said (array_type m.now) (array_items m.now)) }
+{
     if x.len() != m.len() {
         return Err(Fault::Lengths);
     }
@@ -99,6 +117,7 @@ fn masked_items<'a, L: Ledger>(
         let said = refused_or (too_many (length places)) (arr t (picked (array_items x.now) places)) in
         Gives array_datum fault_told result said }
 {
+    let _ = m.len();
     let cells = cells_of(alloc, m, arena, steps)?;
     let n = count(m, &cells, steps);
     if n > ITEM_LIMIT {
@@ -109,30 +128,32 @@ fn masked_items<'a, L: Ledger>(
 }
 
 // What a value at place i of a mask gives to its places: i where it is true.
-fn kept_number(i: u64, x: Num) -> Option<i64>
+fn kept_number(i: u64, x: Num) -> Option<Num>
     requires { i < 2 ^ 63 }
-    ensures { numbers_shown result ≡ map place_number (mask_place i (number_value x)) }
+    ensures kind { IfSome result (λ z. IsOf Kind.I64 z) }
+    ensures numbers { numbers_shown result ≡ map place_number (mask_place i (number_value x)) }
 {
     match x {
-        Num::Truth(b) => { if b { Some(i as i64) } else { None } }
+        Num::Truth(b) => { if b { Some(number(i)) } else { None } }
         Num::Int(_) | Num::Nat(_) => None,
     }
 }
 
 // What item i of a mask gives to its places: i where it is true, and -1 where it is null.
-fn kept<L: Ledger>(m: &Array, cells: &Cells, i: u64, steps: &mut Steps<L>) -> Option<i64>
+fn kept<L: Ledger>(m: &Array, cells: &Cells, i: u64, steps: &mut Steps<L>) -> Option<Num>
     requires cells { AreCells m.now cells.now }
     requires within { i < len m.now }
     requires small { i < 2 ^ 63 }
-    ensures { numbers_shown result ≡ mask_numbers m.now i }
+    ensures kind { IfSome result (λ z. IsOf Kind.I64 z) }
+    ensures numbers { numbers_shown result ≡ mask_numbers m.now i }
 {
     match cells.at(i, steps) {
-        None => Some(-1),
+        None => Some(Num::Int(-1)),
         Some(x) => kept_number(i, x),
     }
 }
 
-fn one_if(x: Option<i64>) -> u64
+fn one_if(x: Option<Num>) -> u64
     ensures { result ≡ length (numbers_shown x) }
 {
     match x {
@@ -169,7 +190,7 @@ fn mask_lane<'a, L: Ledger>(
     let mut maker = LaneMaker::new(Kind::I64, n, arena)?;
     for i in 0..m.len() {
         if let Some(z) = kept(m, cells, i, steps) {
-            maker.push(Num::Int(z));
+            maker.push(z);
         }
     }
     Ok(maker.finish())

@@ -1,5 +1,7 @@
 use Rattle.std.proofs.Common.{◌≡◌, length, Option, Some, None, Ok, ap, sym, ◌∙◌}
 use Rattle.std.specs.Prelude.{ℕ, ℤ}
+use Rattle.std.specs.Int.{w64}
+use Rattle.std.proofs.lemmas.Int.{to_z-of_z}
 use Rattle.awk_layout.specs.Layout.{Layout}
 use Rattle.awk_layout.specs.Typing.{array_type, array_items}
 use Rattle.awk_layout.specs.Valid.{len}
@@ -18,10 +20,10 @@ place-is x i n o p e h s =
 pub returns-in_ok-item_at-in-Some-clause-answer : goal.returns-in_ok-item_at-in-Some-clause-answer
 returns-in_ok-item_at-in-Some-clause-answer g c =
     place-is c.args.x.now c.args.i c.len.result c.place_in.result (Some c.in-Some.k)
-    c.len.ensures.len c.place_in.ensures c.in-Some.is
+    c.len.ensures.len (c.place_in.ensures ∙ ap (place_in c.len.result) (to_z-of_z w64 c.args.i c.ranges.i.sfits)) c.in-Some.is
     ∙ ap Ok (sym c.in_ok-item_at-in-Some.ensures.settled)
 
 pub returns-in-None-clause-answer : goal.returns-in-None-clause-answer
 returns-in-None-clause-answer g c =
     place-is c.args.x.now c.args.i c.len.result c.place_in.result None c.len.ensures.len
-    c.place_in.ensures c.in-None.is
+    (c.place_in.ensures ∙ ap (place_in c.len.result) (to_z-of_z w64 c.args.i c.ranges.i.sfits)) c.in-None.is

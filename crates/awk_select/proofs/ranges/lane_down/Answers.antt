@@ -8,17 +8,17 @@ use Rattle.awk_select.proofs.RangePlaces.{multiple-below, lane-down, end-is}
 use Rattle.awk_select.proofs.ranges.lane_down.Goals as goal
 
 pub place_down-requires-clause-below : goal.place_down-requires-clause-below
-place_down-requires-clause-below g c =
+place_down-requires-clause-below c =
     let n : c.multiples_below-n.result ≡ multiples_below (c.args.lo - c.args.hi) c.args.step = c.multiples_below-n.ensures ∙ ap (λ d. multiples_below d c.args.step) c.saturating_sub.ensures in
     multiple-below (c.args.lo - c.args.hi) c.args.step c.loop-j.j c.requires.step (omega (arith, n, c.loop-j-test.true))
 
 pub loop-j-preserved : goal.loop-j-preserved
-loop-j-preserved g c =
+loop-j-preserved c =
     so_far_pushed _ _ (λ j. pos (c.args.lo - suc (j * c.args.step))) c.loop-j.j (int_of c.number.result) c.loop-j.maker c.push.new.self c.push.ensures
     (c.number.ensures.number ∙ ap pos c.place_down.ensures.place) c.loop-j.invariant
 
 pub returns : goal.returns
-returns g c =
+returns c =
     let n : c.multiples_below-n.result ≡ multiples_below (c.args.lo - c.args.hi) c.args.step = c.multiples_below-n.ensures ∙ ap (λ d. multiples_below d c.args.step) c.saturating_sub.ensures in
     record {
       lane = lane-down c.args.lo c.args.hi c.args.step c.finish.result (lane-ext c.finish.result _ _ (c.finish.ensures.kind ∙ c.loop-j.invariant.kind)

@@ -4,4 +4,4 @@ use Rattle.awk_gather.proofs.MadeLanes.{IsSoFar}
 use Rattle.awk_select.proofs.ranges.lane_down.Given as goal
 
 abbrev pub invariant-loop-j : goal.invariant-loop-j
-invariant-loop-j g l = IsSoFar I64 l.n (λ j. pos (l.lo - suc (j * l.step))) l.j l.maker
+invariant-loop-j l = IsSoFar I64 l.n (λ j. pos (l.lo - suc (j * l.step))) l.j l.maker

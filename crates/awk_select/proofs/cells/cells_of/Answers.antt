@@ -1,0 +1,10 @@
+use Rattle.std.proofs.Common.{sym, subst}
+use Rattle.awk_layout.specs.Typing.{array_type}
+use Rattle.awk_gather.specs.Opened.{IsOpened}
+use Rattle.awk_select.proofs.CellLaws.{only_cells}
+use Rattle.awk_select.proofs.cells.cells_of.Goals as goal
+
+pub unreachable-requires : goal.unreachable-requires
+unreachable-requires g c =
+    only_cells (array_type c.args.x.now) c.in_ok-opened.field-0 c.in_ok-opened.ensures.opened.kind c.requires
+    c.in_default.not-Empty c.in_default.not-Leaf c.in_default.not-Option
