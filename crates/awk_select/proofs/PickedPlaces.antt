@@ -22,7 +22,7 @@ use Rattle.awk_layout.specs.Typing.{layout_type, array_items}
 use Rattle.awk_gather.specs.Arrays.{array_item, pick}
 use Rattle.awk_gather.specs.Lanes.{lane_of}
 use Rattle.awk_gather.proofs.GatheredArrays.{length-array_items, get_or-array_items}
-use Rattle.awk_select.specs.Cells.{IsBelow, place_number, places_lane, mask_numbers, take_number}
+use Rattle.awk_select.specs.Cells.{is_leaf, IsBelow, place_number, places_lane, mask_numbers, take_number}
 use Rattle.awk_select.specs.Picks.{picked, is_truths, is_mask, mask_place, mask_places, is_numbers, is_index, take_place, take_places, is_outside}
 use Rattle.awk_select.specs.Places.{place_in}
 use Rattle.awk_select.proofs.Lists.{map-map, each_of, each_of-more, each_of-room, length-each_of}
@@ -329,3 +329,18 @@ lane-ext p k zs e h = ap₂ (λ k zs. record { kind = k; items = zs }) e h
 pub none_left : {X : Type 0} (o : Option X) → ((k : X) → o ≡ Some k → ⊥) → o ≡ None
 none_left None h = refl
 none_left (Some k) h = absurd (h k refl)
+
+-- ---- a mask has leaves
+
+truths_leaf : (t : DataType) → is_truths t ≡ true → is_leaf t ≡ true
+truths_leaf unknown h = refl
+truths_leaf (leaf p) h = refl
+truths_leaf (var t) h = absurd (true≢false (sym h))
+truths_leaf (reg n t) h = absurd (true≢false (sym h))
+truths_leaf (rec ns ts) h = absurd (true≢false (sym h))
+truths_leaf (tup ts) h = absurd (true≢false (sym h))
+truths_leaf (opt t) h = absurd (true≢false (sym h))
+truths_leaf (uni ts) h = absurd (true≢false (sym h))
+
+pub mask_leaf : (t : DataType) → is_mask t ≡ true → is_leaf (present t) ≡ true
+mask_leaf t h = truths_leaf (present t) h

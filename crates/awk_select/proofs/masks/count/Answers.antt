@@ -9,8 +9,15 @@ use Rattle.awk_select.proofs.masks.count.Goals as goal
 pub overflow_add-count : goal.overflow_add-count
 overflow_add-count g c =
     let i : c.loop-i.i < len c.args.m.now = omega (arith, c.loop-i-test.true, c.len-i-end.ensures.len) in
-    omega (arith, c.one_if-count.ensures, mask-count c.args.m.now c.loop-i.i (numbers_shown c.kept.result) i c.kept.ensures.numbers,
-    mask-few (array_items c.args.m.now) (c.loop-i.i + 1), c.loop-i.invariant, i, len-fits c.args.m.now c.len-i-end.ensures.valid)
+    omega (
+      arith,
+      c.one_if-count.ensures,
+      mask-count c.args.m.now c.loop-i.i (numbers_shown c.kept.result) i c.kept.ensures.numbers,
+      mask-few (array_items c.args.m.now) (c.loop-i.i + 1),
+      c.loop-i.invariant,
+      i,
+      len-fits c.args.m.now c.len-i-end.ensures.valid,
+    )
 
 pub loop-i-preserved : goal.loop-i-preserved
 loop-i-preserved g c =

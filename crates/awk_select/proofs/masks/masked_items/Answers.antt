@@ -6,8 +6,11 @@ use Rattle.awk_layout.specs.Valid.{len}
 use Rattle.awk_gather.proofs.GatheredArrays.{length-array_items}
 use Rattle.awk_select.specs.Picks.{mask_places}
 use Rattle.awk_select.proofs.PickAnswers.{mask-said}
-use Rattle.awk_select.proofs.PickedPlaces.{optional-lane, index-lane, mask_places-below, mask_places-there}
+use Rattle.awk_select.proofs.PickedPlaces.{optional-lane, index-lane, mask_places-below, mask_places-there, mask_leaf}
 use Rattle.awk_select.proofs.masks.masked_items.Goals as goal
+
+pub cells_of-requires : goal.cells_of-requires
+cells_of-requires g c = mask_leaf (array_type c.args.m.now) c.requires.mask
 
 pub pick-requires-clause-places : goal.pick-requires-clause-places
 pick-requires-clause-places g c =
