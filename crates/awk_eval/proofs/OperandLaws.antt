@@ -1,8 +1,10 @@
 -- The operands in code and those that they stand for.
-use Rattle.std.proofs.Common.{◌≡◌, List, [], ◌∷◌, length, slice_get, Some, ap, subst, arith}
+use Rattle.std.proofs.Common.{◌≡◌, List, [], ◌∷◌, length, slice_get, Some, None, ℤ, ap, ap₂, subst, arith}
 use Rattle.awk_layout.specs.declared.datum.Operand.{Operand}
-use Rattle.awk_layout.specs.declared.datum.Operand.TheVariants.{Of}
+use Rattle.awk_layout.specs.declared.datum.Operand.TheVariants.{Of, Literal}
 use Rattle.awk_layout.specs.declared.datum.Datum.{Datum}
+use Rattle.awk_eval.specs.Operand.{both_in}
+use Rattle.awk_eval.specs.OperandView.{shown_operands}
 use Rattle.awk_eval.specs.Views.{Size, IsWithin, AreWithin}
 
 -- of one operand, the only one is that at place 0
@@ -11,6 +13,25 @@ pub operands-one : (os : List Operand) (o : Operand) → length os ≡ 1 → sli
 operands-one [] o one at = absurd (omega arith)
 operands-one (p ∷ []) o one at = let same : p ≡ o = cc in ap (λ x. x ∷ []) same
 operands-one (p ∷ q ∷ os) o one at = absurd (omega arith)
+
+-- of two operands
+pub operands-two : (os : List Operand) (o p : Operand) → length os ≡ 2 → slice_get os 0 ≡ Some o
+    → slice_get os 1 ≡ Some p → os ≡ o ∷ p ∷ []
+operands-two [] o p two at next = absurd (omega arith)
+operands-two (x ∷ []) o p two at next = absurd (omega arith)
+operands-two (x ∷ y ∷ []) o p two at next =
+    let first : x ≡ o = cc in
+    let second : y ≡ p = cc in
+    ap₂ (λ x y. x ∷ y ∷ []) first second
+operands-two (x ∷ y ∷ z ∷ os) o p two at next = absurd (omega arith)
+
+-- where the first is a literal, they are not two data
+pub literal-first : (os : List Operand) (o : Operand) (z : ℤ) → slice_get os 0 ≡ Some o
+    → o ≡ Literal z → both_in (shown_operands os) ≡ None
+literal-first [] o z at is = absurd (cc)
+literal-first (p ∷ ps) o z at is =
+    let same : p ≡ Literal z = cc in
+    ap (λ x. both_in (shown_operands (x ∷ ps))) same
 
 -- what is so of all operands is so of the only one
 pub IsWithin-one : (s : Size) (os : List Operand) (x : Datum) → os ≡ Of x ∷ [] → AreWithin s os

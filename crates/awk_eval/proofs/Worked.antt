@@ -4,7 +4,7 @@ use Rattle.awk_types.specs.DataType.{Name, DataType, leaf, var, rec, opt, types_
 use Rattle.awk_types.specs.Value.{Value, int, truth, null, list, row, values_from}
 use Rattle.awk_types.specs.Datum.{arr, one}
 use Rattle.awk_types.specs.declared.primitive.Primitive.TheVariants.{Bool, I64}
-use Rattle.awk_types.specs.declared.fault.Fault.TheVariants.{Unbound, NoField, WrongType, Overflow, Unbuilt}
+use Rattle.awk_types.specs.declared.fault.Fault.TheVariants.{Unbound, NoField, WrongType, Overflow, Index, Unbuilt}
 use Rattle.awk_query.specs.ExprTree as tree
 use Rattle.awk_query.specs.ExprTree.{ExprTree, exprs_from}
 use Rattle.awk_query.specs.declared.op.Op.{Op}
@@ -146,8 +146,12 @@ step_of_one : eval env (of op.Range (m ∷ []) (Place (pos 3) ∷ Missing ∷ Pl
 step_of_one = refl
 
 step_of_two : eval env (of op.Range (m ∷ []) (Missing ∷ Missing ∷ Place (pos 2) ∷ []))
-    ≡ Err Unbuilt
+    ≡ Ok (arr (leaf I64) (numbers (0 ∷ 2 ∷ 4 ∷ [])))
 step_of_two = refl
+
+step_back : eval env (of op.Range (m ∷ []) (Place (pos 3) ∷ Place (pos 0) ∷ Place (negsuc 1) ∷ []))
+    ≡ Ok (arr (leaf I64) (numbers (3 ∷ 1 ∷ [])))
+step_back = refl
 
 range_of_a_value : eval env (of op.Range (b ∷ []) (Missing ∷ Missing ∷ [])) ≡ Err WrongType
 range_of_a_value = refl
@@ -182,6 +186,26 @@ without_x = refl
 
 no_field : eval env (field b (codes "w")) ≡ Err (NoField (codes "w"))
 no_field = refl
+
+-- ---- picks
+
+last_item : eval env (of op.At (m ∷ []) (Place (negsuc 0) ∷ [])) ≡ Ok (one (leaf I64) (n 4))
+last_item = refl
+
+no_item : eval env (of op.At (m ∷ []) (Place (pos 5) ∷ [])) ≡ Err Index
+no_item = refl
+
+-- the numbers picked by their own, backwards
+picked_back : eval env (of op.Pick (m ∷ of op.Range (m ∷ [])
+    (Missing ∷ Missing ∷ Place (negsuc 1) ∷ []) ∷ []) [])
+    ≡ Ok (arr (leaf I64) (numbers (4 ∷ 2 ∷ 0 ∷ [])))
+picked_back = refl
+
+picked_by_a_value : eval env (of op.Pick (m ∷ b ∷ []) []) ≡ Err WrongType
+picked_by_a_value = refl
+
+picked_by_lists : eval env (of op.Pick (m ∷ field a y ∷ []) []) ≡ Err Unbuilt
+picked_by_lists = refl
 
 -- ---- names
 

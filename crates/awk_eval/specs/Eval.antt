@@ -1,10 +1,11 @@
 -- What an expression is over an environment: a datum, or the first fault.
-use Rattle.std.specs.Prelude.{ℕ, suc, ℤ, pos, negsuc, int_le, Bool, true, ◌&&◌, List, [], ◌∷◌, Option, Some, None, Result, Ok, Err, if◌then◌else◌}
-use Rattle.awk_types.specs.DataType.{Name, leaf}
+use Rattle.std.specs.Prelude.{ℕ, suc, ℤ, pos, negsuc, int_le, Bool, true, false, ◌&&◌, List, [], ◌∷◌, Option, Some, None, Result, Ok, Err, if◌then◌else◌}
+use Rattle.awk_types.specs.DataType.{DataType, Name, leaf, var, reg}
 use Rattle.awk_types.specs.Value.{int, truth}
 use Rattle.awk_types.specs.Datum.{Datum, arr, one}
 use Rattle.awk_types.specs.Settle.{settle}
 use Rattle.awk_types.specs.Gives.{refused_or}
+use Rattle.awk_types.specs.Simple.{present}
 use Rattle.awk_types.specs.declared.primitive.Primitive.TheVariants as primitive
 use Rattle.awk_types.specs.declared.fault.Fault.{Fault}
 use Rattle.awk_types.specs.declared.fault.Fault.TheVariants.{Unbound, WrongType, Overflow, Unbuilt}
@@ -17,8 +18,9 @@ use Rattle.awk_view.specs.Choice.{Choice, field, fields, without, chosen_type, c
 use Rattle.awk_view.specs.Answer.{choice_fault, choice_answer}
 use Rattle.awk_eval.specs.Bindings.{look_up}
 use Rattle.awk_eval.specs.Variables.{Environment}
-use Rattle.awk_eval.specs.Operand.{Operand, of, literal, only_in, takes_literal}
-use Rattle.awk_eval.specs.Fixed.{bounds_in, text_in, texts_in}
+use Rattle.awk_select.specs.Picks.{at_of, step_range_of, is_mask, mask_of, take_of}
+use Rattle.awk_eval.specs.Operand.{Operand, of, literal, only_in, both_in, takes_literal}
+use Rattle.awk_eval.specs.Fixed.{bounds_in, Stepped, stepped_in, place_in, text_in, texts_in}
 use Rattle.awk_eval.specs.Ranges.{range_items}
 
 -- ---- results: the first fault wins
@@ -80,12 +82,44 @@ given f (Some a) (Some d) = f a d
 given f (Some a) None = Err Unbuilt
 given f None d = Err Unbuilt
 
+-- a range of an array, by step 1 or by another
+abbrev pub stepped_of : Stepped → Datum → Result Datum Fault
+stepped_of s d = step_range_of s.lo s.hi s.step d
+
+abbrev pub ranged : Option (FixedArg × FixedArg) → List FixedArg → Option Datum
+    → Result Datum Fault
+ranged (Some bounds) fixed d = given range_of (Some bounds) d
+ranged None fixed d = given stepped_of (stepped_in fixed) d
+
+abbrev pub is_list : DataType → Bool
+is_list (var t) = true
+is_list (reg n t) = true
+is_list t = false
+
+-- the items of e that items x of type u name: a mask where these are truth values, else an index;
+-- lists of these are not built yet
+abbrev pub pick_by : DataType → Datum → Datum → Result Datum Fault
+pick_by u e x =
+    if is_list (present u) then Err Unbuilt else if is_mask u then mask_of e x else take_of e x
+
+abbrev pub pick_of : Datum → Datum → Result Datum Fault
+pick_of (arr t vs) (arr u ws) = pick_by u (arr t vs) (arr u ws)
+pick_of e x = Err WrongType
+
+-- an operation on two data
+abbrev pub paired : (Datum → Datum → Result Datum Fault) → Option (Datum × Datum)
+    → Result Datum Fault
+paired f (Some p) = f p.0 p.1
+paired f None = Err Unbuilt
+
 -- an operation on its operands; those that are not built yet answer so
 abbrev pub apply : Op → List FixedArg → List Operand → Result Datum Fault
-apply op.Range fixed operands = given range_of (bounds_in fixed) (only_in operands)
+apply op.At fixed operands = given at_of (place_in fixed) (only_in operands)
+apply op.Range fixed operands = ranged (bounds_in fixed) fixed (only_in operands)
 apply op.Field fixed operands = given field_of (text_in fixed) (only_in operands)
 apply op.Fields fixed operands = given fields_of (texts_in fixed) (only_in operands)
 apply op.WithoutField fixed operands = given without_of (text_in fixed) (only_in operands)
+apply op.Pick fixed operands = paired pick_of (both_in operands)
 apply _ fixed operands = Err Unbuilt
 
 -- ---- expressions

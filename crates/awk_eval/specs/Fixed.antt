@@ -1,6 +1,7 @@
 -- The arguments of a call that are no expressions, by what an operation takes.
-use Rattle.std.specs.Prelude.{zero, suc, pos, Bool, true, false, List, [], ◌∷◌, Option, Some, None, if◌then◌else◌}
+use Rattle.std.specs.Prelude.{zero, suc, ℤ, pos, Bool, true, false, List, [], ◌∷◌, Option, Some, None, option_map, if◌then◌else◌}
 use Rattle.awk_types.specs.DataType.{Name}
+use Rattle.awk_query.specs.Arguments.{not_zero}
 use Rattle.awk_query.specs.declared.fixed.FixedArg.{FixedArg}
 use Rattle.awk_query.specs.declared.fixed.FixedArg.TheVariants.{Place, Text, Texts}
 
@@ -14,6 +15,30 @@ abbrev pub bounds_in : List FixedArg → Option (FixedArg × FixedArg)
 bounds_in (lo ∷ hi ∷ []) = Some (lo, hi)
 bounds_in (lo ∷ hi ∷ step ∷ []) = if is_one step then Some (lo, hi) else None
 bounds_in _ = None
+
+-- a bound, where it is given
+abbrev pub bound_in : FixedArg → Option ℤ
+bound_in (Place z) = Some z
+bound_in _ = None
+
+-- a range with a step
+pub record Stepped : Type 0 where
+  pub lo : Option ℤ
+  pub hi : Option ℤ
+  pub step : ℤ
+
+abbrev pub stepped_by : FixedArg → FixedArg → ℤ → Stepped
+stepped_by lo hi step = record { lo = bound_in lo; hi = bound_in hi; step = step }
+
+-- the bounds and the step of a range, where it has a step that is not 0
+abbrev pub stepped_in : List FixedArg → Option Stepped
+stepped_in (lo ∷ hi ∷ Place step ∷ []) = option_map (stepped_by lo hi) (not_zero step)
+stepped_in _ = None
+
+-- the only argument, where it is a place
+abbrev pub place_in : List FixedArg → Option ℤ
+place_in (Place z ∷ []) = Some z
+place_in _ = None
 
 -- the only argument, where it is a name
 abbrev pub text_in : List FixedArg → Option Name

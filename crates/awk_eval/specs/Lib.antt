@@ -5,5 +5,6 @@ pub mod Operand
 pub mod Ranges
 pub mod Fixed
 pub mod OperandView
+pub mod SteppedView
 pub mod Eval
 pub mod Views

@@ -31,3 +31,8 @@ takes_literal _ k = false
 abbrev pub only_in : List Operand → Option Datum
 only_in (of d ∷ []) = Some d
 only_in _ = None
+
+-- the two operands, where both are data
+abbrev pub both_in : List Operand → Option (Datum × Datum)
+both_in (of d ∷ of e ∷ []) = Some (d, e)
+both_in _ = None

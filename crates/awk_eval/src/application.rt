@@ -1,8 +1,10 @@
 //! Operations on their operands.
-ghost use Rattle.std.specs.Prelude.{◌≡◌, ◌+◌, ◌*◌, ◌≤◌, true, length, IfOk};
+ghost use Rattle.std.specs.Prelude.{◌≡◌, ◌+◌, ◌*◌, ◌≤◌, true, length, is_some, IfOk};
 ghost use Rattle.awk_types.specs.Gives.{Gives};
 ghost use Rattle.awk_types.specs.Faults.{fault_told};
 ghost use Rattle.awk_types.specs.Names.{AreDistinct};
+ghost use Rattle.awk_types.specs.Simple.{present};
+ghost use Rattle.awk_types.specs.View.{typ_of};
 ghost use Rattle.awk_layout.specs.Datum.{IsDatum, datum_of};
 ghost use Rattle.awk_layout.specs.Layout.{weight, height};
 ghost use Rattle.awk_layout.specs.Typing.{array_type, array_items};
@@ -14,11 +16,12 @@ ghost use Rattle.awk_eval.specs.Ranges.{range_items};
 ghost use Rattle.awk_eval.specs.Views.{Size, Takes, IsWithin, AreWithin, is_view_op};
 ghost use Rattle.awk_eval.specs.Eval as meaning;
 
-use crate::arguments::{bound_or, bounds, only, text, texts};
-use awk_lanes::Steps;
+use crate::arguments::{both, bound_or, bounds, only, place, text, texts, with_step};
+use awk_lanes::{Arena, Steps};
 use awk_layout::{Array, Datum, Operands};
 use awk_query::{Fixed, FixedArg, Op};
-use awk_types::{Fault, Names, NoMemory};
+use awk_select::{at, is_mask, mask, step_range, take};
+use awk_types::{Fault, Names, NoMemory, Typ};
 use awk_view::{field, fields, range, settled, without};
 use std::alloc::Global;
 use std::sync::ledger::Ledger;
@@ -29,6 +32,7 @@ pub(crate) fn apply<'s, L: Ledger>(
     op: Op,
     fixed: &Fixed,
     operands: &Operands<'s>,
+    arena: &'s Arena,
     steps: &mut Steps<L>,
 ) -> Result<Datum<'s>, Fault>
     requires { HasArguments op (length operands.now) fixed.now }
@@ -39,10 +43,11 @@ pub(crate) fn apply<'s, L: Ledger>(
         → Takes s 1 steps.old steps.new result }
 {
     match op {
-        Op::Range => match (bounds(fixed), only(operands)) {
-            (Some((lo, hi)), Some(x)) => range_of(alloc, x, lo, hi, steps),
+        Op::At => match (place(fixed), only(operands)) {
+            (Some(i), Some(x)) => at(alloc, x, i, steps),
             _ => Err(Fault::Unbuilt),
         },
+        Op::Range => ranged(alloc, fixed, operands, arena, steps),
         Op::Field => match (text(fixed), only(operands)) {
             (Some(name), Some(x)) => field_of(alloc, x, name.as_str(), steps),
             _ => Err(Fault::Unbuilt),
@@ -55,7 +60,92 @@ pub(crate) fn apply<'s, L: Ledger>(
             (Some(name), Some(x)) => without_of(alloc, x, name.as_str(), steps),
             _ => Err(Fault::Unbuilt),
         },
+        Op::Pick => match both(operands) {
+            Some((e, x)) => pick_of(alloc, e, x, arena, steps),
+            None => Err(Fault::Unbuilt),
+        },
         _ => Err(Fault::Unbuilt),
+    }
+}
+
+// A range, of step 1 or of another.
+fn ranged<'s, L: Ledger>(
+    alloc: Global,
+    fixed: &Fixed,
+    operands: &Operands<'s>,
+    arena: &'s Arena,
+    steps: &mut Steps<L>,
+) -> Result<Datum<'s>, Fault>
+    ensures answer { let only = only_in (shown_operands operands.now) in
+        Gives datum_of fault_told result (meaning.ranged (bounds_in fixed.now) fixed.now only) }
+    ensures datum { IfOk result (λ made. IsDatum made) }
+    ensures cost { (s : Size) → is_some (bounds_in fixed.now) ≡ true → AreWithin s operands.now
+        → Takes s 1 steps.old steps.new result }
+{
+    let Some(x) = only(operands) else {
+        return Err(Fault::Unbuilt);
+    };
+    match (bounds(fixed), with_step(fixed)) {
+        (Some((lo, hi)), _) => range_of(alloc, x, lo, hi, steps),
+        (None, Some(s)) => step_range(alloc, x, s.lo, s.hi, s.step, arena, steps),
+        (None, None) => Err(Fault::Unbuilt),
+    }
+}
+
+// Whether items of a type are lists, optional or not.
+fn is_list(t: &Typ) -> bool
+    ensures { result ≡ meaning.is_list (present (typ_of t.now)) }
+{
+    match t {
+        Typ::Var(_) | Typ::Reg(_, _) => true,
+        Typ::Opt(inner) => match &**inner {
+            Typ::Var(_) | Typ::Reg(_, _) => true,
+            _ => false,
+        },
+        _ => false,
+    }
+}
+
+// The items of an array that another names, by a mask or by an index.
+fn pick_of<'s, L: Ledger>(
+    alloc: Global,
+    e: &Datum<'s>,
+    x: &Datum<'s>,
+    arena: &'s Arena,
+    steps: &mut Steps<L>,
+) -> Result<Datum<'s>, Fault>
+    ensures answer { Gives datum_of fault_told result
+        (meaning.pick_of (datum_of e.now) (datum_of x.now)) }
+    ensures datum { IfOk result (λ made. IsDatum made) }
+{
+    match e {
+        Datum::Arr(_) => match x {
+            Datum::Arr(items) => picked(alloc, e, x, items.typ(), arena, steps),
+            Datum::One(_) => Err(Fault::WrongType),
+        },
+        Datum::One(_) => Err(Fault::WrongType),
+    }
+}
+
+// The same, where the items that name others are of a type.
+fn picked<'s, L: Ledger>(
+    alloc: Global,
+    e: &Datum<'s>,
+    x: &Datum<'s>,
+    u: &Typ,
+    arena: &'s Arena,
+    steps: &mut Steps<L>,
+) -> Result<Datum<'s>, Fault>
+    ensures answer { Gives datum_of fault_told result
+        (meaning.pick_by (typ_of u.now) (datum_of e.now) (datum_of x.now)) }
+    ensures datum { IfOk result (λ made. IsDatum made) }
+{
+    if is_list(u) {
+        Err(Fault::Unbuilt)
+    } else if is_mask(u) {
+        mask(alloc, e, x, arena, steps)
+    } else {
+        take(alloc, e, x, arena, steps)
     }
 }
 

@@ -1,10 +1,11 @@
 //! The arguments of a call, by what an operation takes.
-ghost use Rattle.std.specs.Prelude.{◌≡◌, ◌≤◌, [], ◌∷◌, IfSome, option_map};
+ghost use Rattle.std.specs.Prelude.{◌≡◌, ◌≢◌, ◌≤◌, [], ◌∷◌, pos, IfSome, option_map};
 ghost use Rattle.awk_layout.specs.Datum.{IsDatum, datum_of};
 ghost use Rattle.awk_layout.specs.declared.datum.Operand.TheVariants.{Of};
 ghost use Rattle.awk_eval.specs.Fixed as given;
-ghost use Rattle.awk_eval.specs.Operand.{only_in};
+ghost use Rattle.awk_eval.specs.Operand.{only_in, both_in};
 ghost use Rattle.awk_eval.specs.OperandView.{shown_operands};
+ghost use Rattle.awk_eval.specs.SteppedView.{stepped_view};
 ghost use Rattle.awk_eval.specs.Ranges as ranges;
 
 use awk_layout::{Datum, Operand, Operands};
@@ -27,6 +28,23 @@ pub(crate) fn only<'o, 's>(operands: &'o Operands<'s>) -> Option<&'o Datum<'s>>
     }
 }
 
+/// The two operands, where both are data.
+pub(crate) fn both<'o, 's>(operands: &'o Operands<'s>) -> Option<(&'o Datum<'s>, &'o Datum<'s>)>
+    ensures both { option_map (λ p. (datum_of p.0.now, datum_of p.1.now)) result
+        ≡ both_in (shown_operands operands.now) }
+{
+    if operands.len() != 2 {
+        return None;
+    }
+    match operands.get(0) {
+        Operand::Of(x) => match operands.get(1) {
+            Operand::Of(y) => Some((x, y)),
+            Operand::Literal(_) => None,
+        },
+        Operand::Literal(_) => None,
+    }
+}
+
 /// The bounds of a range, where its step is 1.
 pub(crate) fn bounds(fixed: &Fixed) -> Option<(&FixedArg, &FixedArg)>
     ensures { option_map (λ b. (b.0.now, b.1.now)) result ≡ given.bounds_in fixed.now }
@@ -44,6 +62,55 @@ fn is_one(step: &FixedArg) -> bool
     match step {
         FixedArg::Place(z) => *z == 1,
         _ => false,
+    }
+}
+
+/// A range with a step.
+#[derive(Clone, Copy)]
+pub(crate) struct Stepped {
+    pub lo: Option<i64>,
+    pub hi: Option<i64>,
+    pub step: i64,
+}
+
+/// The bounds and the step of a range, where it has a step that is not 0.
+pub(crate) fn with_step(fixed: &Fixed) -> Option<Stepped>
+    ensures stepped { option_map stepped_view result ≡ given.stepped_in fixed.now }
+    ensures step { IfSome result (λ s. s.step ≢ pos 0) }
+{
+    if fixed.len() != 3 {
+        return None;
+    }
+    match fixed.get(2) {
+        FixedArg::Place(0) => None,
+        FixedArg::Place(step) => Some(Stepped {
+            lo: bound(fixed.get(0)),
+            hi: bound(fixed.get(1)),
+            step: *step,
+        }),
+        _ => None,
+    }
+}
+
+fn bound(arg: &FixedArg) -> Option<i64>
+    ensures { result ≡ given.bound_in arg.now }
+{
+    match arg {
+        FixedArg::Place(z) => Some(*z),
+        _ => None,
+    }
+}
+
+/// The only argument, where it is a place.
+pub(crate) fn place(fixed: &Fixed) -> Option<i64>
+    ensures { result ≡ given.place_in fixed.now }
+{
+    if fixed.len() != 1 {
+        return None;
+    }
+    match fixed.get(0) {
+        FixedArg::Place(z) => Some(*z),
+        _ => None,
     }
 }
 

@@ -1,5 +1,6 @@
-use Rattle.std.proofs.Common.{length, sym, subst}
+use Rattle.std.proofs.Common.{◌≡◌, true, length, sym, subst}
 use Rattle.awk_query.specs.Allowed.{HasArguments}
+use Rattle.awk_eval.specs.Views.{is_view_op}
 use Rattle.awk_eval.proofs.OperandLaws.{IsWithin-one}
 use Rattle.awk_eval.proofs.Rows.{AreDistinct-fields}
 use Rattle.awk_eval.proofs.application.apply.Goals as goal
@@ -10,10 +11,10 @@ fields_of-requires-clause-distinct g c =
     (subst (λ o. HasArguments o (length c.args.operands.now) c.args.fixed.now) c.in-Fields.is
     c.requires) (sym c.in-Some-Some-3.ensures)
 
-pub returns-in-Some-Some-clause-cost : goal.returns-in-Some-Some-clause-cost
-returns-in-Some-Some-clause-cost g c s cuts are =
-    c.range_of.ensures.cost s
-    (IsWithin-one s c.args.operands.now c.in-Some-Some.x.now c.in-Some-Some.ensures'.alone are)
+pub returns-in-Range-clause-cost : goal.returns-in-Range-clause-cost
+returns-in-Range-clause-cost g c s cuts are =
+    c.ranged.ensures.cost s
+    (subst (λ o. is_view_op o c.args.fixed.now ≡ true) c.in-Range.is cuts) are
 
 pub returns-in-Some-Some-2-clause-cost : goal.returns-in-Some-Some-2-clause-cost
 returns-in-Some-Some-2-clause-cost g c s cuts are =
