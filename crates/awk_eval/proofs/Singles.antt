@@ -1,8 +1,6 @@
 -- Single values as arrays of one item, and what is chosen of them.
 use Rattle.std.proofs.Common.{◌≡◌, ◌∷◌, [], length, map, Ok, None, ap, ap₂, sym, ◌∙◌, subst}
 use Rattle.std.specs.List.{range_with_len}
-use Rattle.std.proofs.lemmas.List.{length-map}
-use Rattle.std.proofs.lemmas.List.FromFn.{length-map-range_with_len}
 use Rattle.awk_types.specs.Datum.{arr, one}
 use Rattle.awk_types.specs.Gives.{refused_or}
 use Rattle.awk_types.specs.Simple.{simple_value}
@@ -14,15 +12,12 @@ use Rattle.awk_layout.specs.Datum.{IsDatum, first_item}
 use Rattle.awk_layout.specs.declared.datum.Datum as code
 use Rattle.awk_layout.specs.declared.datum.Datum.TheVariants.{One}
 use Rattle.awk_layout.specs.Typing.{layout_type, array_type, array_items, array_datum}
+use Rattle.awk_layout.proofs.ArrayItems.{length-array_items}
 use Rattle.awk_view.specs.Choice.{Choice, field, chosen_type, chosen_value}
 use Rattle.awk_view.specs.Answer.{choice_fault, view_answer}
 use Rattle.awk_types.specs.DataType.{Name}
 use Rattle.awk_types.specs.Settle.{settle}
 use Rattle.awk_eval.specs.Eval.{choice_of, field_of, mapped, settled}
-
-pub length-array_items : (x : Layout) → length (array_items x) ≡ len x
-length-array_items x = length-map (items x) (simple_value (layout_type x))
-    ∙ length-map-range_with_len (item x) 0 (len x)
 
 -- an array of one item has its first alone
 pub array_items-one : (x : Layout) → len x ≡ 1 → array_items x ≡ first_item x ∷ []

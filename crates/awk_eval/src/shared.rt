@@ -1,11 +1,11 @@
 //! Copies for a shorter life, over the same bytes: nodes and names are copied, and lanes are lent.
-ghost use Rattle.std.specs.Prelude.{◌≡◌, ◌+◌, ◌≤◌, IfOk, option_map};
+ghost use Rattle.std.specs.Prelude.{◌≡◌, ◌+◌, ◌≤◌, IfOk};
 ghost use Rattle.awk_layout.specs.Layout.{weight, weights, layouts_from};
 ghost use Rattle.awk_eval.specs.Views.{size_of};
 
 use awk_lanes::{Bits, Lane, Steps};
 use awk_layout::{Array, Class, Datum, Node, Nodes};
-use awk_types::{Names, NoMemory, copy_type};
+use awk_types::{Names, NoMemory, copy_names, copy_type};
 use std::alloc::Global;
 use std::sync::ledger::Ledger;
 
@@ -166,13 +166,4 @@ fn shorter_bits<'s, 'a: 's>(bits: Bits<'a>) -> Bits<'s>
     ensures { result ≡ bits.entry }
 {
     bits
-}
-
-fn copy_names(alloc: Global, names: Option<&Names>) -> Result<Option<Names>, NoMemory>
-    ensures { IfOk result (λ made. made ≡ option_map (λ names. names.now) names.entry) }
-{
-    match names {
-        Some(names) => Ok(Some(names.copy(alloc)?)),
-        None => Ok(None),
-    }
 }

@@ -22,6 +22,7 @@ use Rattle.awk_layout.specs.Valid.{len}
 use Rattle.awk_layout.specs.Item.{item, items, at_option}
 use Rattle.awk_layout.specs.Typing.{layout_type, array_type, array_items}
 use Rattle.awk_layout.specs.Array.{array_of}
+use Rattle.awk_layout.proofs.ArrayItems.{length-array_items, get_or-array_items}
 use Rattle.awk_gather.specs.Arrays.{array_item, pick, IsGathered, IsGatheredOpt, optional_type, picked_or_null}
 use Rattle.awk_gather.specs.Picked.{IsPicked}
 use Rattle.awk_gather.specs.Peeled.{IsPeeled, IsPickedOpt}
@@ -29,14 +30,6 @@ use Rattle.awk_gather.proofs.ArrayAnswers.{datum_or_fault}
 use Rattle.awk_gather.proofs.FollowedIndexes.{item_at_place}
 use Rattle.awk_gather.proofs.PickedLanes.{optional_of_places}
 use Rattle.awk_gather.proofs.OptionItems.{item-optional}
-
-pub length-array_items : (x : Layout) → length (array_items x) ≡ len x
-length-array_items x = length-map (items x) (simple_value (layout_type x)) ∙ length-map-range_with_len (item x) 0 (len x)
-
-pub get_or-array_items : (x : Layout) (j : ℕ) → j < len x → get_or (array_items x) j null ≡ array_item x j
-get_or-array_items x j h =
-    get_or-map (simple_value (layout_type x)) (items x) j null null (omega (arith, length-map-range_with_len (item x) 0 (len x)))
-    ∙ ap (simple_value (layout_type x)) (get_or-map-range_with_len (item x) 0 (len x) j j null h (omega arith))
 
 pub picked_item : (x : Layout) (z : ℤ) → z <ℤ pos (len x) → at_option (option_place z) (λ k. get_or (array_items x) k null) ≡ at_option (option_place z) (array_item x)
 picked_item x (pos n) h = get_or-array_items x n (omega (arith, ints))

@@ -26,7 +26,7 @@ use Rattle.awk_gather.specs.Joined.{list_at, list_values, too_many, joined_datum
 use Rattle.awk_gather.specs.Reached.{IsReached}
 use Rattle.awk_gather.proofs.FirstPlaces.{length-first_of, first_of-mono, first_of-room}
 use Rattle.awk_gather.proofs.MadeLanes.{size-lane_of, at-lane_of}
-use Rattle.awk_gather.proofs.GatheredArrays.{length-array_items}
+use Rattle.awk_layout.proofs.ArrayItems.{length-array_items}
 use Rattle.awk_gather.proofs.PickedNodes.{run_same}
 use Rattle.awk_gather.proofs.ReachedContents.{below-first_of, first_of-at, places_index, reached_by, reached-len, reached-item, run_picked}
 use Rattle.awk_gather.proofs.SpanPlaces.{row_run}

@@ -15,7 +15,7 @@ use Rattle.awk_layout.proofs.Runs.{length-run}
 use Rattle.awk_gather.specs.Inner.{IsInner, AreSized}
 use Rattle.awk_gather.specs.Arrays.{array_item}
 use Rattle.awk_gather.specs.Opened.{IsKindOf, IsOpened}
-use Rattle.awk_gather.proofs.GatheredArrays.{length-array_items, get_or-array_items}
+use Rattle.awk_layout.proofs.ArrayItems.{length-array_items, get_or-array_items}
 use Rattle.awk_gather.specs.declared.opening.Opened.{Opened}
 use Rattle.awk_gather.specs.declared.opening.Opened.TheVariants.{Empty, Leaf, Items, Row, Option as Optional, Union}
 

@@ -17,7 +17,8 @@ use Rattle.awk_gather.specs.Counted.{first_of, places_lane, AreBelow, IsRun}
 use Rattle.awk_gather.specs.Reached.{IsReached}
 use Rattle.awk_gather.proofs.FirstPlaces.{first_of-more, length-first_of, first_of-mono}
 use Rattle.awk_gather.proofs.FollowedIndexes.{item_at_place}
-use Rattle.awk_gather.proofs.GatheredArrays.{length-array_items, get_or-array_items, at-I64}
+use Rattle.awk_layout.proofs.ArrayItems.{length-array_items, get_or-array_items}
+use Rattle.awk_gather.proofs.GatheredArrays.{at-I64}
 
 -- ---- what is given at each place, in the list of all
 

@@ -2,3 +2,4 @@ pub mod ContentTypes
 pub mod LayoutTypes
 pub mod Runs
 pub mod TypedItems
+pub mod ArrayItems

@@ -21,7 +21,7 @@ use Rattle.awk_layout.specs.Item.{item, at_option}
 use Rattle.awk_layout.specs.Typing.{layout_type, array_items}
 use Rattle.awk_gather.specs.Arrays.{array_item, pick}
 use Rattle.awk_gather.specs.Lanes.{lane_of}
-use Rattle.awk_gather.proofs.GatheredArrays.{length-array_items, get_or-array_items}
+use Rattle.awk_layout.proofs.ArrayItems.{length-array_items, get_or-array_items}
 use Rattle.awk_select.specs.Cells.{is_leaf, IsBelow, place_number, places_lane, mask_numbers, take_number}
 use Rattle.awk_select.specs.Picks.{picked, is_truths, is_mask, mask_place, mask_places, is_numbers, is_index, take_place, take_places, is_outside}
 use Rattle.awk_select.specs.Places.{place_in}

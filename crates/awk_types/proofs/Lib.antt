@@ -11,3 +11,5 @@ pub mod NodeLaws
 pub mod Simplified
 pub mod PromotionLaws
 pub mod RefusalLaws
+pub mod SettleLaws
+pub mod SettleLimits

@@ -17,7 +17,7 @@ pub use equality::same;
 pub use fault::Fault;
 pub use limit::TypeFault;
 pub use measure::{depth, nodes};
-pub use name::{Name, Names, NoMemory};
+pub use name::{Name, Names, NoMemory, copy_names};
 pub use primitive::Primitive as Prim;
 pub use promotion::promote;
 pub use simplify::{opt_of, simple_of, uni_of};

@@ -1,5 +1,5 @@
 //! Names of fields.
-ghost use Rattle.std.specs.Prelude.{◌≡◌, ◌<◌, [], ◌∷◌, ◌++◌, length, string_bytes, IfOk, OnErr, OnOk, slice_get};
+ghost use Rattle.std.specs.Prelude.{◌≡◌, ◌<◌, [], ◌∷◌, ◌++◌, length, option_map, string_bytes, IfOk, OnErr, OnOk, slice_get};
 ghost use Rattle.awk_types.specs.Names.{is_among};
 ghost use Rattle.awk_types.specs.Names as said;
 
@@ -138,5 +138,15 @@ impl Names {
             items.push(item.copy(alloc)?)?;
         }
         Ok(Names { items })
+    }
+}
+
+/// Equal names, where there are names.
+pub fn copy_names(alloc: Global, names: Option<&Names>) -> Result<Option<Names>, NoMemory>
+    ensures { IfOk result (λ made. made ≡ option_map (λ names. names.now) names.entry) }
+{
+    match names {
+        Some(names) => Ok(Some(names.copy(alloc)?)),
+        None => Ok(None),
     }
 }

@@ -16,9 +16,10 @@ use Rattle.awk_layout.specs.Valid.{len}
 use Rattle.awk_view.specs.declared.settling.End.{End}
 use Rattle.awk_view.specs.declared.settling.End.TheVariants.{Null, Single, Items}
 use Rattle.awk_view.specs.End.{IsEnd, IsSingleOf, IsListOf, IsItemOf, IsOneOf, IsArrOf, simple_item, settled_item}
-use Rattle.awk_view.proofs.Limits.{limit-settle}
-use Rattle.awk_view.proofs.SettleLaws.{settle-null}
-use Rattle.awk_view.proofs.SettledItems.{StaysOne, IsListed, Follows, length-array_items, get_or-array_items, item_part}
+use Rattle.awk_types.proofs.SettleLimits.{limit-settle}
+use Rattle.awk_types.proofs.SettleLaws.{settle-null}
+use Rattle.awk_layout.proofs.ArrayItems.{length-array_items, get_or-array_items}
+use Rattle.awk_view.proofs.SettledItems.{StaysOne, IsListed, Follows, item_part}
 
 pub single_end : (x : Layout) (i : ℕ) → i < len x → StaysOne (layout_type x) (item x i) → IsSingleOf x i x i
 single_end x i p s = record { is = s.is; present = s.present; within = p; below = inr refl; height_within = omega arith }

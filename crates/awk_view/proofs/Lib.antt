@@ -13,8 +13,6 @@ pub mod FoundSteps
 pub mod ViewLaws
 pub mod RangeParts
 mod RangeWorked
-pub mod SettleLaws
-pub mod Limits
 pub mod SettledItems
 pub mod Ends
 mod SettledWorked

@@ -10,6 +10,7 @@ use Rattle.awk_types.specs.Has.{HasAlternative}
 use Rattle.awk_types.specs.Settle.{settle, settle_alternative}
 use Rattle.awk_types.specs.Simple.{simple, simples, simple_value, simple_values, value_by, value_after, alternatives_before}
 use Rattle.awk_types.specs.Value.{Value, Values, null, row, alt, value_list, values_from}
+use Rattle.awk_types.proofs.SettleLaws.{settle-option_of, in_option-simple, value_after-present, settle-union_of}
 use Rattle.awk_types.proofs.SimpleLaws.{simples_are_simple, has_simple_alternative}
 use Rattle.awk_types.proofs.Trees.{value_list-from}
 use Rattle.awk_lanes.specs.declared.kind.Kind.{Kind}
@@ -22,9 +23,9 @@ use Rattle.awk_layout.specs.Item.{item, items, items_across, item_of, leaf_value
 use Rattle.awk_layout.specs.Place.{Case, number, span, across, missing, through, alternative, case_of, value_of, nth, span_between, through_option, IsWithin}
 use Rattle.awk_layout.specs.Laws.{item-case_of, case_of-within}
 use Rattle.awk_layout.specs.Typing.{layout_type, layout_types, array_type, array_items}
+use Rattle.awk_layout.proofs.ArrayItems.{length-array_items, get_or-array_items}
 use Rattle.awk_layout.proofs.Runs.{value_list-run}
 use Rattle.awk_layout.proofs.TypedItems.{alternative_has}
-use Rattle.awk_view.proofs.SettleLaws.{settle-option_of, in_option-simple, value_after-present, settle-union_of}
 
 -- a value that settles as it is
 pub record StaysOne (t : DataType) (v : Value) : Type 0 where
@@ -70,17 +71,10 @@ row_stays (Some names) ts vs = record { present = λ e. cc; is = refl }
 
 -- ---- lists
 
-pub length-array_items : (x : Layout) → length (array_items x) ≡ len x
-length-array_items x = length-map (items x) (simple_value (layout_type x)) ∙ length-map-range_with_len (item x) 0 (len x)
-
 get_or-run : (y : Layout) (lo n j : ℕ) → j < n → get_or (map (simple_value (layout_type y)) (map (item y) (range_with_len lo n))) j null ≡ simple_value (layout_type y) (item y (lo + j))
 get_or-run y lo n j h =
     get_or-map (simple_value (layout_type y)) (map (item y) (range_with_len lo n)) j null null (omega (arith, length-map-range_with_len (item y) lo n))
     ∙ ap (simple_value (layout_type y)) (get_or-map-range_with_len (item y) lo n j (lo + j) null h refl)
-
--- the item of an array at a place
-pub get_or-array_items : (x : Layout) (j : ℕ) → j < len x → get_or (array_items x) j null ≡ simple_value (layout_type x) (item x j)
-get_or-array_items x j h = get_or-run x 0 (len x) j h ∙ ap (λ k. simple_value (layout_type x) (item x k)) (omega arith)
 
 -- the items of an array from a place below another
 part : (y : Layout) (lo hi : ℕ) → lo ≤ hi → hi ≤ len y → map (simple_value (layout_type y)) (map (item y) (range_with_len lo (hi - lo))) ≡ slice_range (array_items y) lo hi

@@ -2,7 +2,7 @@ use Rattle.std.proofs.Common.{◌≡◌, max, ap, ◌∙◌, sym, subst}
 use Rattle.std.specs.Prelude.{IfOk}
 use Rattle.awk_layout.specs.Typing.{array_items}
 use Rattle.awk_eval.proofs.Ranges.{range_items-of}
-use Rattle.awk_eval.proofs.Singles.{length-array_items}
+use Rattle.awk_layout.proofs.ArrayItems.{length-array_items}
 use Rattle.awk_eval.proofs.application.between.Goals as goal
 
 pub returns-clause-items : goal.returns-clause-items

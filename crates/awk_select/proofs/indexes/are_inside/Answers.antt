@@ -6,7 +6,7 @@ use Rattle.std.proofs.lemmas.List.Folds.{list_any_more}
 use Rattle.awk_types.specs.Value.{null}
 use Rattle.awk_layout.specs.Typing.{array_items}
 use Rattle.awk_layout.specs.Valid.{len}
-use Rattle.awk_gather.proofs.GatheredArrays.{length-array_items, get_or-array_items}
+use Rattle.awk_layout.proofs.ArrayItems.{length-array_items, get_or-array_items}
 use Rattle.awk_select.specs.Picks.{is_outside}
 use Rattle.awk_select.proofs.PickedPlaces.{any-at}
 use Rattle.awk_select.proofs.indexes.are_inside.Goals as goal

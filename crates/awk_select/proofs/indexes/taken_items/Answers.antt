@@ -4,7 +4,7 @@ use Rattle.awk_types.specs.Simple.{is_option}
 use Rattle.awk_types.specs.View.{typ_of}
 use Rattle.awk_lanes.specs.Places.{IsIndex, IsOptionalIndex}
 use Rattle.awk_layout.specs.Typing.{array_type, array_items}
-use Rattle.awk_gather.proofs.GatheredArrays.{length-array_items}
+use Rattle.awk_layout.proofs.ArrayItems.{length-array_items}
 use Rattle.awk_select.specs.Picks.{take_places}
 use Rattle.awk_select.proofs.PickAnswers.{take-outside, take-size, take-said}
 use Rattle.awk_select.proofs.PickedPlaces.{take-lane, optional-lane, index-lane, take_places-below, take_places-there}

@@ -3,7 +3,7 @@ use Rattle.awk_types.specs.Simple.{is_option}
 use Rattle.awk_types.specs.View.{typ_of}
 use Rattle.awk_layout.specs.Typing.{array_type, array_items}
 use Rattle.awk_layout.specs.Valid.{len}
-use Rattle.awk_gather.proofs.GatheredArrays.{length-array_items}
+use Rattle.awk_layout.proofs.ArrayItems.{length-array_items}
 use Rattle.awk_select.specs.Picks.{mask_places}
 use Rattle.awk_select.proofs.PickAnswers.{mask-said}
 use Rattle.awk_select.proofs.PickedPlaces.{optional-lane, index-lane, mask_places-below, mask_places-there, mask_leaf}

@@ -5,7 +5,7 @@ use Rattle.std.proofs.lemmas.Int.{to_z-of_z}
 use Rattle.awk_layout.specs.Layout.{Layout}
 use Rattle.awk_layout.specs.Typing.{array_type, array_items}
 use Rattle.awk_layout.specs.Valid.{len}
-use Rattle.awk_gather.proofs.GatheredArrays.{length-array_items}
+use Rattle.awk_layout.proofs.ArrayItems.{length-array_items}
 use Rattle.awk_select.specs.Picks.{settled_at}
 use Rattle.awk_select.specs.Places.{place_in}
 use Rattle.awk_select.proofs.place.item_of.Goals as goal

@@ -2,7 +2,7 @@ use Rattle.std.proofs.Common.{◌≡◌, max, ap, ◌∙◌, sym, subst}
 use Rattle.std.specs.Prelude.{IfOk}
 use Rattle.awk_layout.specs.Typing.{array_items}
 use Rattle.awk_layout.specs.Valid.{len}
-use Rattle.awk_gather.proofs.GatheredArrays.{length-array_items}
+use Rattle.awk_layout.proofs.ArrayItems.{length-array_items}
 use Rattle.awk_select.specs.Places.{bound_up}
 use Rattle.awk_select.proofs.RangePlaces.{cut-range}
 use Rattle.awk_select.proofs.ranges.between.Goals as goal

@@ -5,7 +5,7 @@ use Rattle.awk_types.specs.Datum.{arr}
 use Rattle.awk_layout.specs.Datum.{datum_of}
 use Rattle.awk_layout.specs.Typing.{array_items}
 use Rattle.awk_layout.specs.Valid.{len}
-use Rattle.awk_gather.proofs.GatheredArrays.{length-array_items}
+use Rattle.awk_layout.proofs.ArrayItems.{length-array_items}
 use Rattle.awk_select.specs.Picks.{step_range_of, items_at}
 use Rattle.awk_select.specs.Places.{range_places}
 use Rattle.awk_select.proofs.ranges.step_range.Goals as goal
