@@ -1,7 +1,7 @@
--- The whole of what is packed from node 0 on.
-use Rattle.std.proofs.Common.{◌≡◌, ◌<◌, ◌≤◌, ◌||◌, ℕ, Bool, true, false, List, [], length, Option, Some, None, Result, Ok, Err, refl, sym, ap, ap₂, ◌∙◌, arith}
+-- The whole of what is packed.
+use Rattle.std.proofs.Common.{◌≡◌, ◌<◌, ◌≤◌, ◌^◌, ◌||◌, ℕ, Bool, true, false, List, [], length, Option, Some, None, Result, Ok, Err, refl, sym, ap, ap₂, ◌∙◌, arith}
 use Rattle.std.specs.Prelude.{nat_lt, if◌then◌else◌}
-use Rattle.std.proofs.lemmas.Bool.{lt-ltb, le-ltb, ltb-false}
+use Rattle.std.proofs.lemmas.Bool.{ltb-false}
 use Rattle.awk_types.specs.DataType.{DataType, nodes, depth}
 use Rattle.awk_types.specs.Limit.{Limit, depth_limit, size_limit, limit, width}
 use Rattle.awk_types.specs.Value.{Value}
@@ -11,29 +11,21 @@ use Rattle.awk_layout.specs.Typing.{array_type, array_items}
 use Rattle.awk_layout.specs.Valid.{len}
 use Rattle.awk_form.specs.FormTree.{FormTree}
 use Rattle.awk_gather.proofs.GatheredArrays.{length-array_items}
-use Rattle.awk_pack.specs.Canon.{Pack, canon, packed, column_limit, is_too_large}
-use Rattle.awk_pack.specs.Packing.{IsPacked}
+use Rattle.awk_pack.specs.Canon.{Pack, canon, packed, is_too_large}
+use Rattle.awk_pack.specs.Packing.{IsPut}
+use Rattle.awk_pack.specs.PackedForm.{packed_form}
 use Rattle.awk_pack.specs.declared.packed.PackFault.TheVariants.{Size}
-use Rattle.awk_pack.proofs.KindLaws.{node_large}
 
-pub canon-packed : (x : Layout) (f : FormTree) (lanes : List Column) (n m : ℕ) → IsPacked 0 (array_type x) (array_items x) [] f lanes n → m ≡ len x → canon (array_type x) (array_items x) ≡ Ok (record { form = f; length = m; lanes = lanes })
-canon-packed x f lanes n m h e =
+pub canon-packed : (x : Layout) (f : FormTree) (lanes : List Column) (n : ℕ) → f ≡ packed_form 0 (array_type x) → IsPut (array_type x) (array_items x) [] lanes → n ≡ len x → canon (array_type x) (array_items x) ≡ Ok (record { form = f; length = n; lanes = lanes })
+canon-packed x f lanes n form h e =
     let t = array_type x in
     let vs = array_items x in
     ap (λ b. if b then Err Size else Ok (packed t vs)) h.fits
-    ∙ ap₂ (λ (f : FormTree) (cs : List Column). Ok (record { form = f; length = length vs; lanes = cs })) (sym h.form) (sym h.lanes)
+    ∙ ap₂ (λ (f : FormTree) (cs : List Column). Ok (record { form = f; length = length vs; lanes = cs })) (sym form) (sym h.lanes)
     ∙ ap (λ k. Ok (record { form = f; length = k; lanes = lanes })) (length-array_items x ∙ sym e)
 
 pub canon-size : (t : DataType) (vs : List Value) → is_too_large t vs ≡ true → canon t vs ≡ Err Size
 canon-size t vs h = ap (λ b. if b then Err Size else Ok (packed t vs)) h
-
--- an array that is too long
-pub array-large : (x : Layout) → column_limit < len x → is_too_large (array_type x) (array_items x) ≡ true
-array-large x l = node_large (array_type x) (array_items x) (ap (nat_lt column_limit) (length-array_items x) ∙ lt-ltb column_limit (len x) l)
-
--- and one that is not
-pub array-few : (x : Layout) → len x ≤ column_limit → nat_lt column_limit (length (array_items x)) ≡ false
-array-few x l = ap (nat_lt column_limit) (length-array_items x) ∙ le-ltb column_limit (len x) l
 
 few_by : (n : ℕ) (a b c : Bool) → nat_lt 65536 n ≡ b → ◌≡◌ {A = Option Limit} (if a then Some depth_limit else if b || c then Some size_limit else None) None → n ≤ 65536
 few_by n true b c f h = cc

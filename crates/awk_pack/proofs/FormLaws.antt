@@ -1,51 +1,45 @@
--- The forms of nodes, by the numbers of those below them.
-use Rattle.std.proofs.Common.{◌≡◌, ◌<◌, ◌≤◌, ℕ, zero, suc, ◌+◌, List, [], ◌∷◌, ◌++◌, sum, map, take, slice_get, Some, refl, sym, ap, ap₂, ◌∙◌, arith, add-one}
+-- The forms of types in order, and of the fields of a record.
+use Rattle.std.proofs.Common.{◌≡◌, ℕ, ◌+◌, ◌≤◌, List, [], ◌∷◌, ◌++◌, sum, map, drop, slice_get, Some, refl, sym, ap, ap₂, ◌∙◌, append_assoc, arith}
+use Rattle.std.specs.Option.{option_map}
 use Rattle.std.proofs.lemmas.Grind.{common_steps}
-use Rattle.awk_types.specs.DataType.{DataType, unknown, leaf, var, reg, rec, tup, opt, uni, types_from, nodes, nodes_each}
-use Rattle.awk_layout.specs.Layout.{Layout}
-use Rattle.awk_layout.specs.Typing.{array_type}
+use Rattle.std.proofs.lemmas.Option.{slice_get-map}
+use Rattle.awk_types.specs.DataType.{DataType, types_from, nodes, nodes_each}
+use Rattle.awk_types.specs.View.{NamedType, typ_step, field_step, fields_step, typs_step, typ_of, field_of}
+use Rattle.awk_types.specs.declared.typ.Field.{Field}
+use Rattle.awk_types.specs.declared.typ.Typ.TheViews.{out-Field}
+use Rattle.awk_types.specs.declared.typ.Typ.TheFolds.{fold_out-Field}
+use Rattle.awk_types.proofs.ListLaws.{drop-get}
 use Rattle.awk_form.specs.FormTree.{FormTree, form, forms_from}
-use Rattle.awk_pack.specs.PackedForm.{packed_form, packed_forms, node_key}
-use Rattle.awk_pack.specs.Packing.{shaped_form, all_nodes, all_forms}
+use Rattle.awk_pack.specs.PackedForm.{packed_form, packed_forms, all_nodes, form_each}
 
--- node j has its key, and its contents are numbered from the next on
-pub shaped-packed : (j : ℕ) (t : DataType) → shaped_form (suc j) t (Some (node_key j)) ≡ packed_form j t
-shaped-packed j unknown = refl
-shaped-packed j (leaf p) = refl
-shaped-packed j (var t) = refl
-shaped-packed j (reg n t) = refl
-shaped-packed j (rec ns ts) = refl
-shaped-packed j (tup ts) = refl
-shaped-packed j (opt t) = refl
-shaped-packed j (uni ts) = refl
-
--- contents in order, as a list
-pub all_forms-is : (k : ℕ) (ys : List Layout) → forms_from (all_forms k ys) ≡ packed_forms k (types_from (map array_type ys))
-all_forms-is k [] = refl
-all_forms-is k (y ∷ ys) = ap (form (packed_form k (array_type y))) (all_forms-is (k + nodes (array_type y)) ys)
-
-pub all_forms-snoc : (k : ℕ) (ys : List Layout) (y : Layout) → all_forms k (ys ++ y ∷ []) ≡ all_forms k ys ++ packed_form (k + all_nodes ys) (array_type y) ∷ []
-all_forms-snoc k [] y = let e : k ≡ k + 0 = omega arith in ap (λ j. packed_form j (array_type y) ∷ []) e
-all_forms-snoc k (z ∷ ys) y =
-    let n = nodes (array_type z) in
-    let e : k + n + all_nodes ys ≡ k + (n + all_nodes ys) = omega arith in
-    ap (λ fs. packed_form k (array_type z) ∷ fs) (all_forms-snoc (k + n) ys y ∙ ap (λ j. all_forms (k + n) ys ++ packed_form j (array_type y) ∷ []) e)
-
-pub all_nodes-snoc : (ys : List Layout) (y : Layout) → all_nodes (ys ++ y ∷ []) ≡ all_nodes ys + nodes (array_type y)
-all_nodes-snoc [] y = omega arith
-all_nodes-snoc (z ∷ ys) y = omega (arith, all_nodes-snoc ys y)
+pub forms_from-form_each : (k : ℕ) (ts : List DataType) → forms_from (form_each k ts) ≡ packed_forms k (types_from ts)
+forms_from-form_each k [] = refl
+forms_from-form_each k (t ∷ ts) = ap (form (packed_form k t)) (forms_from-form_each (k + nodes t) ts)
 
 sum-cons : (n : ℕ) (ns : List ℕ) → sum (n ∷ ns) ≡ n + sum ns
 sum-cons n ns = grind (arith, common_steps)
 
-pub all_nodes-is : (ys : List Layout) → sum (nodes_each (types_from (map array_type ys))) ≡ all_nodes ys
-all_nodes-is [] = refl
-all_nodes-is (y ∷ ys) =
-    sum-cons (nodes (array_type y)) (nodes_each (types_from (map array_type ys)))
-    ∙ ap (λ n. nodes (array_type y) + n) (all_nodes-is ys)
+pub sum-nodes_each : (ts : List DataType) → sum (nodes_each (types_from ts)) ≡ all_nodes ts
+sum-nodes_each [] = refl
+sum-nodes_each (t ∷ ts) = sum-cons (nodes t) (nodes_each (types_from ts)) ∙ ap (λ n. nodes t + n) (sum-nodes_each ts)
 
--- those so far and the next are within all
-pub all_nodes-within : (ys : List Layout) (i : ℕ) (y : Layout) → slice_get ys i ≡ Some y → all_nodes (take i ys) + nodes (array_type y) ≤ all_nodes ys
-all_nodes-within [] i y at = absurd (cc)
-all_nodes-within (z ∷ ys) zero y at = let same : z ≡ y = cc in omega (arith, ap (λ x. nodes (array_type x)) same)
-all_nodes-within (z ∷ ys) (suc i) y at = omega (arith, all_nodes-within ys i y at)
+-- those left, where the next is numbered n
+pub all_nodes-drop : (ts : List DataType) (i : ℕ) (t : DataType) → slice_get ts i ≡ Some t → all_nodes (drop i ts) ≡ nodes t + all_nodes (drop (i + 1) ts)
+all_nodes-drop ts i t at = ap all_nodes (drop-get ts i t at)
+
+pub form_each-drop : (n m : ℕ) (ts : List DataType) (i : ℕ) (t : DataType) (made more : List FormTree) (f : FormTree) → slice_get ts i ≡ Some t → f ≡ packed_form n t → m ≡ n + nodes t → more ≡ made ++ f ∷ [] → more ++ form_each m (drop (i + 1) ts) ≡ made ++ form_each n (drop i ts)
+form_each-drop n m ts i t made more f at is next pushed =
+    ap₂ (λ fs k. fs ++ form_each k (drop (i + 1) ts)) pushed next
+    ∙ append_assoc made (f ∷ []) (form_each (n + nodes t) (drop (i + 1) ts))
+    ∙ ap (λ g. made ++ g ∷ form_each (n + nodes t) (drop (i + 1) ts)) is
+    ∙ ap (λ us. made ++ form_each n us) (sym (drop-get ts i t at))
+
+-- ---- fields
+
+-- a field is its name and its type
+pub field_of-out : (f : Field) → field_of f ≡ record { name = (out-Field f).name; typ = typ_of (out-Field f).typ }
+field_of-out = fold_out-Field DataType NamedType (List NamedType) (List DataType) typ_step field_step fields_step typs_step
+
+pub type_at : (fs : List NamedType) (i : ℕ) (f : Field) → slice_get fs i ≡ Some (field_of f) → slice_get (map (λ f. f.typ) fs) i ≡ Some (typ_of (out-Field f).typ)
+type_at fs i f at =
+    slice_get-map (λ f. f.typ) fs i ∙ ap (option_map (λ (f : NamedType). f.typ)) (at ∙ ap Some (field_of-out f))

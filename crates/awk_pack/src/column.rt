@@ -1,28 +1,19 @@
-//! What is made for one node: its key and names, the lane of a leaf, and the items of lists joined.
+//! The lane of a leaf, and the items of lists joined.
 ghost use Rattle.std.specs.Prelude.{◌≡◌, ◌<◌, ◌^◌, true, length, nat_lt, IfOk};
 ghost use Rattle.awk_lanes.specs.Places.{size_of, AreSpans};
 ghost use Rattle.awk_layout.specs.Valid.{len};
 ghost use Rattle.awk_gather.specs.Columns.{joined_items};
 ghost use Rattle.awk_gather.specs.Joined.{list_values};
 ghost use Rattle.awk_pack.specs.Canon.{column_limit};
-ghost use Rattle.awk_pack.specs.PackedForm.{node_key};
 ghost use Rattle.awk_pack.specs.Packing.{IsJoined, leaf_lane, IfSize, fault_of};
 
 use crate::packed::PackFault;
 use awk_gather::{Joined, join_lists};
 use awk_lanes::{Arena, Kind, Lane, LaneMaker, Steps};
 use awk_layout::Array;
-use awk_types::{Fault, Name, Names, NoMemory};
+use awk_types::{Fault, NoMemory};
 use std::alloc::Global;
 use std::sync::ledger::Ledger;
-
-/// The key of node k.
-pub(crate) fn node_key(alloc: Global, k: u64) -> Result<Name, NoMemory>
-    ensures { IfOk result (λ key. key ≡ node_key k) }
-{
-    let text = format!(in alloc; "node{k}")?;
-    Name::new(alloc, &text)
-}
 
 /// Truth values as bytes 0 and 1.
 fn truths<'a, L: Ledger>(
@@ -84,18 +75,5 @@ pub(crate) fn joined<'a, L: Ledger>(
     match join_lists(alloc, starts, stops, content, arena, steps) {
         Ok(joined) => Ok(joined),
         Err(fault) => Err(pack_fault(&fault)),
-    }
-}
-
-/// Equal names, or none.
-pub(crate) fn names_of(
-    alloc: Global,
-    names: &Option<Names>,
-) -> Result<Option<Names>, NoMemory>
-    ensures { IfOk result (λ copied. copied ≡ names.now) }
-{
-    match names {
-        None => Ok(None),
-        Some(names) => Ok(Some(names.copy(alloc)?)),
     }
 }

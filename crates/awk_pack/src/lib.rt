@@ -2,9 +2,10 @@
 #![tactic(auto)]
 
 mod column;
+mod contents;
+mod form;
 mod packed;
 mod packing;
-mod parts;
 
 pub use packed::{PackFault, Packed};
 pub use packing::pack;

@@ -1,5 +1,5 @@
-//! A node but for the forms of its contents: what it is, its lanes, and the arrays of its contents.
-ghost use Rattle.std.specs.Prelude.{◌≡◌, List, true, IfOk};
+//! The lanes of one node, and the arrays of its contents.
+ghost use Rattle.std.specs.Prelude.{◌≡◌, [], ◌∷◌, List, true, IfOk};
 ghost use Rattle.awk_types.specs.DataType.{DataType};
 ghost use Rattle.awk_types.specs.Value.{Value};
 ghost use Rattle.awk_types.specs.View.{typ_of};
@@ -8,49 +8,56 @@ ghost use Rattle.awk_layout.specs.Typing.{array_type, array_items};
 ghost use Rattle.awk_layout.specs.Valid.{IsValid};
 ghost use Rattle.awk_gather.specs.declared.opening.Opened.TheVariants as Opened;
 ghost use Rattle.awk_pack.specs.Canon.{is_too_large};
-ghost use Rattle.awk_pack.specs.Packing.{IsPrepared, IsColumn, IfSize};
+ghost use Rattle.awk_pack.specs.Packing.{IsColumn, IsLeft, IfSize, is_regular as is_regular_type};
 
 use crate::column::{joined, leaf_lane};
 use crate::packed::PackFault;
 use awk_gather::{Joined, Opened, in_order};
 use awk_lanes::{Arena, Lane, Lanes, Steps};
-use awk_layout::{Array, Arrays, prim_of};
-use awk_types::{Names, Prim, Typ};
+use awk_layout::{Array, Arrays};
+use awk_types::{NoMemory, Typ};
 use std::alloc::Global;
 use std::sync::ledger::Ledger;
 
 /// The most items of a column.
 const COLUMN_LIMIT: u64 = 1_073_741_824;
 
-/// A node, with the arrays of its contents: each holds the column of a node below.
-#[derive(Drop)]
-pub(crate) enum Parts<'a> {
-    Empty,
-    Leaf(Prim),
-    Var(Array<'a>),
-    Reg(u64, Array<'a>),
-    Option(Array<'a>),
-    Row(Option<Names>, Arrays<'a>),
-    Union(Arrays<'a>),
+/// Whether lists of a type are all of one length.
+fn is_regular(t: &Typ) -> bool
+    ensures { result ≡ is_regular_type (typ_of t.now) }
+{
+    match t {
+        Typ::Reg(_, _) => true,
+        _ => false,
+    }
 }
 
-/// Numbers or truth values.
-fn leaf_parts<'a, L: Ledger>(
+/// The only one.
+fn only<'a>(alloc: Global, content: Array<'a>) -> Result<Arrays<'a>, NoMemory>
+    ensures { IfOk result (λ ys. ys ≡ content.entry ∷ []) }
+{
+    let mut contents = Arrays::new(alloc);
+    contents.push(content)?;
+    Ok(contents)
+}
+
+/// Numbers or truth values, which have no contents.
+fn leaf_contents<'a, L: Ledger>(
+    alloc: Global,
     lane: &Lane<'a>,
     lanes: &mut Lanes<'a>,
     arena: &'a Arena,
     steps: &mut Steps<L>,
-) -> Result<Parts<'a>, PackFault>
-    ensures parts { (t : DataType) (vs : List Value) → IsColumn t vs (Opened.Leaf lane.now) →
-        IfOk result (λ p. IsPrepared t vs lanes.old p lanes.new) }
-    ensures size { IfSize result ⊥ }
+) -> Result<Arrays<'a>, NoMemory>
+    ensures left { (t : DataType) (vs : List Value) → IsColumn t vs (Opened.Leaf lane.now) →
+        IfOk result (λ ys. IsLeft t vs lanes.old ys lanes.new) }
 {
     lanes.push(leaf_lane(lane, arena, steps)?)?;
-    Ok(Parts::Leaf(prim_of(lane.kind())))
+    Ok(Arrays::new(alloc))
 }
 
-/// Lists, by their type.
-fn list_parts<'a, L: Ledger>(
+/// Lists, by their type: offsets where their lengths differ, and their items.
+fn list_contents<'a, L: Ledger>(
     alloc: Global,
     typ: &Typ,
     starts: &Lane<'a>,
@@ -59,48 +66,47 @@ fn list_parts<'a, L: Ledger>(
     lanes: &mut Lanes<'a>,
     arena: &'a Arena,
     steps: &mut Steps<L>,
-) -> Result<Parts<'a>, PackFault>
+) -> Result<Arrays<'a>, PackFault>
     requires valid { IsValid (lists starts.now stops.now content.now) }
-    ensures parts { let opened = Opened.Items starts.now stops.now content.now in
+    ensures left { let opened = Opened.Items starts.now stops.now content.now in
         (vs : List Value) → IsColumn (typ_of typ.now) vs opened →
-        IfOk result (λ p. IsPrepared (typ_of typ.now) vs lanes.old p lanes.new) }
+        IfOk result (λ ys. IsLeft (typ_of typ.now) vs lanes.old ys lanes.new) }
     ensures size { let opened = Opened.Items starts.now stops.now content.now in
         (vs : List Value) → IsColumn (typ_of typ.now) vs opened →
         IfSize result (is_too_large (typ_of typ.now) vs ≡ true) }
 {
     let Joined { offsets, content } = joined(alloc, starts, stops, content, arena, steps)?;
-    match typ {
-        Typ::Reg(size, _) => Ok(Parts::Reg(*size, content)),
-        _ => {
-            lanes.push(offsets)?;
-            Ok(Parts::Var(content))
-        }
+    if is_regular(typ) {
+        return Ok(only(alloc, content)?);
     }
+    lanes.push(offsets)?;
+    Ok(only(alloc, content)?)
 }
 
-/// The parts of an array; its lanes are put behind the others.
-pub(crate) fn opened_parts<'a, L: Ledger>(
+/// The arrays of the contents of a node, each holding the column of a node below. The lanes of the
+/// node itself are put behind the others.
+pub(crate) fn contents<'a, L: Ledger>(
     alloc: Global,
     x: &Array<'a>,
     lanes: &mut Lanes<'a>,
     arena: &'a Arena,
     steps: &mut Steps<L>,
-) -> Result<Parts<'a>, PackFault>
-    ensures parts { let t = array_type x.now in let vs = array_items x.now in
-        IfOk result (λ p. IsPrepared t vs lanes.old p lanes.new) }
+) -> Result<Arrays<'a>, PackFault>
+    ensures left { IfOk result (λ ys.
+        IsLeft (array_type x.now) (array_items x.now) lanes.old ys lanes.new) }
     ensures size { IfSize result (is_too_large (array_type x.now) (array_items x.now) ≡ true) }
 {
     if x.len() > COLUMN_LIMIT {
         return Err(PackFault::Size);
     }
     match in_order(alloc, x, arena, steps)? {
-        Opened::Empty => Ok(Parts::Empty),
-        Opened::Leaf(lane) => leaf_parts(&lane, lanes, arena, steps),
+        Opened::Empty => Ok(Arrays::new(alloc)),
+        Opened::Leaf(lane) => Ok(leaf_contents(alloc, &lane, lanes, arena, steps)?),
         Opened::Items {
             starts,
             stops,
             content,
-        } => list_parts(
+        } => list_contents(
             alloc,
             x.typ(),
             &starts,
@@ -110,10 +116,10 @@ pub(crate) fn opened_parts<'a, L: Ledger>(
             arena,
             steps,
         ),
-        Opened::Row { names, columns } => Ok(Parts::Row(names, columns)),
+        Opened::Row { columns, .. } => Ok(columns),
         Opened::Option { index, content } => {
             lanes.push(index)?;
-            Ok(Parts::Option(content))
+            Ok(only(alloc, content)?)
         }
         Opened::Union {
             tags,
@@ -122,7 +128,7 @@ pub(crate) fn opened_parts<'a, L: Ledger>(
         } => {
             lanes.push(tags)?;
             lanes.push(index)?;
-            Ok(Parts::Union(contents))
+            Ok(contents)
         }
     }
 }
