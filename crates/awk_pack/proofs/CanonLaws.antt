@@ -10,7 +10,7 @@ use Rattle.awk_layout.specs.Layout.{Layout}
 use Rattle.awk_layout.specs.Typing.{array_type, array_items}
 use Rattle.awk_layout.specs.Valid.{len}
 use Rattle.awk_form.specs.FormTree.{FormTree}
-use Rattle.awk_gather.proofs.GatheredArrays.{length-array_items}
+use Rattle.awk_layout.proofs.ArrayItems.{length-array_items}
 use Rattle.awk_pack.specs.Canon.{Pack, canon, packed, is_too_large}
 use Rattle.awk_pack.specs.Packing.{IsPut}
 use Rattle.awk_pack.specs.PackedForm.{packed_form}

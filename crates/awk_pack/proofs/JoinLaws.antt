@@ -17,7 +17,7 @@ use Rattle.awk_gather.specs.Columns.{joined_items, offsets}
 use Rattle.awk_gather.specs.Counted.{item_limit}
 use Rattle.awk_gather.specs.Joined.{joined_datum, too_many}
 use Rattle.awk_pack.specs.Lanes.{lane_of}
-use Rattle.awk_pack.specs.Packing.{IsJoined, IfSize, fault_of}
+use Rattle.awk_pack.specs.Packing.{IsJoined, OnSize, fault_of}
 
 pub joined-is : (y : Layout) (vs : List Value) (o : Column) (z : Layout) → joined_datum (array_type y) vs ≡ Ok (array_datum z) → o ≡ lane_of kind.I64 (offsets 0 vs) → IsJoined y vs o z
 joined-is y vs o z e l =
@@ -46,6 +46,6 @@ pub joined-large : (t : DataType) (vs : List Value) (e : Fault) → e ≢ NoMemo
 joined-large t vs e h told = told_many (nat_lt item_limit (length (joined_items vs))) (arr t (joined_items vs)) e (told-some e (joined_datum t vs) h told)
 
 -- so `Size` is told exactly then
-pub joined-told : (A : Type 0) (t : DataType) (vs : List Value) (e : Fault) → Told (fault_told e) (joined_datum t vs) → IfSize {A = A} (Err (fault_of e)) (nat_lt item_limit (length (joined_items vs)) ≡ true)
-joined-told A t vs NoMemory told = tt
-joined-told A t vs e told = joined-large t vs e (λ is. absurd (cc)) told
+pub joined-told : (t : DataType) (vs : List Value) (e : Fault) → Told (fault_told e) (joined_datum t vs) → OnSize (fault_of e) (nat_lt item_limit (length (joined_items vs)) ≡ true)
+joined-told t vs NoMemory told = tt
+joined-told t vs e told = joined-large t vs e (λ is. absurd (cc)) told
