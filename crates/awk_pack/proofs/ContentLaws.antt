@@ -1,5 +1,5 @@
 -- What is left after the lanes of an opened column are put, by its kind.
-use Rattle.std.proofs.Common.{◌≡◌, ◌<◌, ◌≤◌, ℕ, zero, suc, ◌+◌, Bool, true, false, ◌||◌, List, [], ◌∷◌, ◌++◌, length, map, Option, Some, None, refl, sym, ap, ap₂, ◌∙◌, subst, append_assoc, arith}
+use Rattle.std.proofs.Common.{◌≡◌, ◌≤◌, ℕ, suc, true, false, ◌||◌, List, [], ◌∷◌, ◌++◌, length, map, Option, Some, None, refl, sym, ap, ap₂, ◌∙◌, subst, append_assoc, arith}
 use Rattle.std.specs.Prelude.{nat_lt, filter}
 use Rattle.std.specs.List.{flat_map, list_any}
 use Rattle.std.proofs.lemmas.List.{append-nil}
@@ -20,7 +20,7 @@ use Rattle.awk_gather.specs.declared.opening.Opened.TheVariants.{Empty, Leaf, It
 use Rattle.awk_gather.specs.declared.opening.Opened.TheVariants.{Option as Optional, Union}
 use Rattle.awk_pack.specs.Columns.{placed, placed_fields, placed_alternatives, at_node}
 use Rattle.awk_pack.specs.Lanes.{lane_of, node_lanes}
-use Rattle.awk_pack.specs.Canon.{column_limit, is_too_long, is_too_large, lanes_of}
+use Rattle.awk_pack.specs.Canon.{column_limit, is_too_long, lanes_of}
 use Rattle.awk_pack.specs.PackedForm.{all_nodes}
 use Rattle.awk_pack.specs.Packing.{is_regular, IsColumn, IsLeft, leaf_lane, IsJoined, are_too_large, placed_of}
 use Rattle.awk_pack.proofs.FormLaws.{sum-nodes_each}

@@ -1,5 +1,5 @@
 -- What joining lists tells, as packing needs it.
-use Rattle.std.proofs.Common.{◌≡◌, ◌≢◌, ℕ, Bool, true, false, List, length, Option, Some, None, Result, Ok, Err, refl, sym, ap, ap₂, ◌∙◌}
+use Rattle.std.proofs.Common.{◌≡◌, ◌≢◌, Bool, true, false, List, length, Some, None, Result, Ok, Err, refl, sym}
 use Rattle.std.specs.Prelude.{nat_lt, if◌then◌else◌}
 use Rattle.awk_types.specs.DataType.{DataType}
 use Rattle.awk_types.specs.Datum.{Datum, arr}
@@ -11,7 +11,7 @@ use Rattle.awk_types.specs.declared.fault.Fault.TheVariants.{NoMemory, Size}
 use Rattle.awk_types.proofs.RefusalLaws.{refused_or-Ok}
 use Rattle.awk_lanes.specs.Column.{Column}
 use Rattle.awk_layout.specs.Layout.{Layout}
-use Rattle.awk_layout.specs.Typing.{array_type, array_items, array_datum}
+use Rattle.awk_layout.specs.Typing.{array_type, array_datum}
 use Rattle.awk_lanes.specs.declared.kind.Kind.TheVariants as kind
 use Rattle.awk_gather.specs.Columns.{joined_items, offsets}
 use Rattle.awk_gather.specs.Counted.{item_limit}
@@ -30,6 +30,7 @@ joined-is y vs o z e l =
   where
     typ_part : {t u : DataType} {vs ws : List Value} → arr t vs ≡ arr u ws → t ≡ u
     typ_part e = cc
+
     items_part : {t u : DataType} {vs ws : List Value} → arr t vs ≡ arr u ws → vs ≡ ws
     items_part e = cc
 

@@ -1,5 +1,5 @@
 -- What the steps of packing give: lanes are put behind others, node by node in pre-order.
-use Rattle.std.specs.Prelude.{◌≡◌, ◌<◌, ℕ, Bool, true, false, nat_lt, List, ◌++◌, length, map}
+use Rattle.std.specs.Prelude.{◌≡◌, ◌<◌, Bool, true, false, nat_lt, List, ◌++◌, length, map}
 use Rattle.std.specs.Prelude.{Result, Ok, Err}
 use Rattle.std.specs.List.{flat_map, list_any}
 use Rattle.awk_types.specs.DataType.{DataType, reg, nodes}

@@ -1,4 +1,4 @@
-use Rattle.std.proofs.Common.{◌≡◌, ◌≤◌, IfOk, arith, sym, subst}
+use Rattle.std.proofs.Common.{IfOk, arith, sym, subst}
 use Rattle.awk_layout.specs.Typing.{array_type, array_items}
 use Rattle.awk_gather.specs.declared.opening.Opened.TheVariants as opened
 use Rattle.awk_pack.specs.Packing.{IsColumn, IsLeft}
