@@ -10,12 +10,6 @@ pub map-map : {X Y Z : Type 0} (f : Y → Z) (g : X → Y) (xs : List X) → map
 map-map f g [] = refl
 map-map f g (x ∷ xs) = ap (λ ys. f (g x) ∷ ys) (map-map f g xs)
 
--- what is the same at each of some places
-pub map-each : {Y : Type 0} (f g : ℕ → Y) (a m : ℕ) → ((i : ℕ) → i < a + m → f i ≡ g i) → map f (range_with_len a m) ≡ map g (range_with_len a m)
-map-each f g a zero h = refl
-map-each f g a (suc m) h =
-    ap₂ (λ y ys. y ∷ ys) (h a (omega arith)) (map-each f g (a + 1) m (λ i l. h i (omega arith)))
-
 -- what f gives at the first n places, one after another
 abbrev pub each_of : {Y : Type 0} → (ℕ → List Y) → ℕ → List Y
 each_of f n = flat_map f (range_with_len 0 n)

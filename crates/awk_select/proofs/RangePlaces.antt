@@ -1,8 +1,8 @@
 -- The places of ranges: each is a place of the items, and by step 1 they are those of a cut.
-use Rattle.std.proofs.Common.{◌≡◌, ◌≢◌, ℕ, zero, suc, ◌+◌, ◌-◌, ◌*◌, ◌/◌, ◌<◌, ◌≤◌, max, min, List, [], ◌∷◌, map, length, get_or, take, drop, slice_range, arith, refl, ap, sym, ◌∙◌, subst, mul-le-mul_right, suc-mul, mul-one, div-mul-le_self, div-one, length-take, length-drop, get_or-take, get_or-drop}
+use Rattle.std.proofs.Common.{◌≡◌, ◌≢◌, ℕ, zero, suc, ◌+◌, ◌-◌, ◌*◌, ◌/◌, ◌<◌, ◌≤◌, max, List, map, length, get_or, take, drop, slice_range, arith, refl, ap, sym, ◌∙◌, subst, mul-le-mul_right, suc-mul, mul-one, div-mul-le_self, div-one, length-take, length-drop, get_or-take, get_or-drop}
 use Rattle.std.specs.Prelude.{ℤ, pos, negsuc, Option, Some, None}
 use Rattle.std.specs.List.{range_with_len}
-use Rattle.std.proofs.lemmas.List.{ext_get_or, length-map}
+use Rattle.std.proofs.lemmas.List.{ext_get_or}
 use Rattle.std.proofs.lemmas.List.FromFn.{length-map-range_with_len, get_or-map-range_with_len}
 use Rattle.awk_types.specs.Value.{Value, null}
 use Rattle.awk_lanes.specs.declared.kind.Kind.TheVariants.{I64}

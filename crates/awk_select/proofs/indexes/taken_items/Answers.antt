@@ -1,5 +1,4 @@
-use Rattle.std.proofs.Common.{◌≡◌, ◌≤◌, ◌<◌, length, arith, ap, sym, ◌∙◌, subst}
-use Rattle.std.specs.Prelude.{false}
+use Rattle.std.proofs.Common.{length, arith, ap, sym, ◌∙◌, subst}
 use Rattle.awk_types.specs.Simple.{is_option}
 use Rattle.awk_types.specs.View.{typ_of}
 use Rattle.awk_lanes.specs.Places.{IsIndex, IsOptionalIndex}
