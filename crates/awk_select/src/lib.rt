@@ -15,4 +15,5 @@ pub use each::at_each;
 pub use indexes::take;
 pub use masks::{is_mask, mask};
 pub use place::at;
+pub use places::bound_up;
 pub use ranges::step_range;
