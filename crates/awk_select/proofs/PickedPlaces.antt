@@ -202,7 +202,7 @@ mask_place-there n k (list vs) t h = tt
 mask_place-there n k (row vs) t h = tt
 mask_place-there n k (alt j v) t h = tt
 
-has-at : (P : Value → Type 0) (vs : List Value) (i : ℕ) → AllByRecursion P vs → i < length vs → P (get_or vs i null)
+pub has-at : (P : Value → Type 0) (vs : List Value) (i : ℕ) → AllByRecursion P vs → i < length vs → P (get_or vs i null)
 has-at P [] i h l = absurd (omega arith)
 has-at P (v ∷ vs) zero h l = h.0
 has-at P (v ∷ vs) (suc i) h l = has-at P vs i h.1 (omega arith)
@@ -238,7 +238,7 @@ below-if : (b : Bool) (n j : ℕ) → (b ≡ true → j < n) → IsBelow n (if b
 below-if true n j h = h refl
 below-if false n j h = tt
 
-place_in-below : (n : ℕ) (z : ℤ) → IsBelow n (place_in n z)
+pub place_in-below : (n : ℕ) (z : ℤ) → IsBelow n (place_in n z)
 place_in-below n (pos k) = below-if (nat_lt k n) n k (ltb-true k n)
 place_in-below n (negsuc k) = below-if (nat_lt k n) n (n - suc k) (λ h. omega (arith, ltb-true k n h))
 

@@ -1,9 +1,13 @@
 //! The item at a place of each list.
-ghost use Rattle.std.specs.Prelude.{◌≡◌, ◌+◌, ◌-◌, ◌<◌, ◌^◌, IfOk, IfSome};
+ghost use Rattle.std.specs.Prelude.{◌≡◌, ◌+◌, ◌-◌, ◌<◌, ◌^◌, None, IfOk, IfSome};
 ghost use Rattle.awk_types.specs.Faults.{fault_told};
 ghost use Rattle.awk_types.specs.Gives.{Gives};
-ghost use Rattle.awk_lanes.specs.Places.{size_of, place_at, AreSpans};
+ghost use Rattle.awk_lanes.specs.Places.{size_of, place_at, AreSpans, IsIndex};
+ghost use Rattle.awk_lanes.specs.declared.kind.Kind.TheVariants as Kind;
 ghost use Rattle.awk_layout.specs.Datum.{IsDatum, datum_of};
+ghost use Rattle.awk_layout.specs.Valid.{len, IsValid};
+ghost use Rattle.awk_gather.specs.Arrays.{IsGathered};
+ghost use Rattle.awk_axis.specs.Mapped.{IsMade};
 ghost use Rattle.awk_select.specs.Each as each;
 ghost use Rattle.awk_select.specs.Each.{item_place, AreItemPlaces};
 
@@ -11,7 +15,7 @@ use crate::places::{number, place_in};
 use awk_axis::{ListOp, Made, Refusal, Spoil, lift_at};
 use awk_gather::gather;
 use awk_lanes::{Arena, Kind, Lane, LaneMaker, NoMemory, Steps, index_at, to_place};
-use awk_layout::{Array, Datum};
+use awk_layout::{Array, Datum, Node};
 use awk_types::{Fault, Typ, copy_type};
 use std::alloc::Global;
 use std::sync::ledger::Ledger;
@@ -88,6 +92,7 @@ fn item_place<L: Ledger>(
 }
 
 // Where in the content the items of all lists lie, if each has one.
+#[tactic(auto, using(awk_gather::proofs::MadeLanes::making))]
 fn item_places<'a, L: Ledger>(
     starts: &Lane,
     stops: &Lane,
@@ -101,12 +106,50 @@ fn item_places<'a, L: Ledger>(
     let n = starts.len();
     let mut maker = LaneMaker::new(Kind::I64, n, arena)?;
     for j in 0..n {
-        match item_place(starts, stops, i, j, steps) {
-            Some(k) => maker.push(number(k)),
-            None => return Ok(None),
-        }
+        let Some(place) = item_place(starts, stops, i, j, steps) else {
+            return Ok(None);
+        };
+        maker.push(number(place));
     }
     Ok(Some(maker.finish()))
+}
+
+// The items of an array at places, as a node.
+fn items_at<'a, L: Ledger>(
+    alloc: Global,
+    x: &Array<'a>,
+    places: &Lane<'a>,
+    arena: &'a Arena,
+    steps: &mut Steps<L>,
+) -> Result<Node<'a>, NoMemory>
+    requires kind { places.now.kind ≡ Kind.I64 }
+    requires places { IsIndex places.now (len x.now) }
+    ensures gathered { IfOk result (λ made. IsGathered x.now places.now made) }
+    ensures valid { IfOk result (λ made. IsValid made) }
+{
+    let items = gather(alloc, x, places, arena, steps)?;
+    let _ = items.len();
+    items.node().copy(alloc)
+}
+
+// The item of each list at place i, or that some list has none.
+fn items_of<'a, L: Ledger>(
+    alloc: Global,
+    starts: &Lane<'a>,
+    stops: &Lane<'a>,
+    content: &Array<'a>,
+    i: i64,
+    arena: &'a Arena,
+    steps: &mut Steps<L>,
+) -> Result<Made<'a>, NoMemory>
+    requires spans { AreSpans starts.now stops.now (len content.now) }
+    ensures { IfOk result (IsMade (each.item_at i) None starts.now stops.now content.now) }
+{
+    let _ = content.len();
+    match item_places(starts, stops, i, arena, steps)? {
+        None => Ok(Made::Spoiled(Spoil::Index)),
+        Some(places) => Ok(Made::Singles(items_at(alloc, content, &places, arena, steps)?)),
+    }
 }
 
 /// The item of a list at a place.
@@ -144,14 +187,6 @@ impl ListOp for ItemAt {
         arena: &'a Arena,
         steps: &mut Steps<L>,
     ) -> Result<Made<'a>, NoMemory> {
-        let _ = content.len();
-        match item_places(starts, stops, self.place, arena, steps)? {
-            None => Ok(Made::Spoiled(Spoil::Index)),
-            Some(places) => {
-                let items = gather(alloc, content, &places, arena, steps)?;
-                let _ = items.len();
-                Ok(Made::Singles(items.node().copy(alloc)?))
-            }
-        }
+        items_of(alloc, starts, stops, content, self.place, arena, steps)
     }
 }
