@@ -1,0 +1,4 @@
+pub mod Spans
+pub mod Offsets
+pub mod Singles
+mod Worked
