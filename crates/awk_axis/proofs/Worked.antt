@@ -37,12 +37,14 @@ holes =
 -- [{"x":[1,2],"y":[[3]]},{"x":[],"y":[[],[4,5]]}]
 abbrev two_rows : Datum
 two_rows = arr (rec (codes "x" ∷ codes "y" ∷ []) (types_from (var int64 ∷ var (reg 2 int64) ∷ [])))
-    (row_value (ints (pos 1 ∷ pos 2 ∷ []) ∷ list_value [] ∷ []) ∷ row_value (ints [] ∷ list_value (ints (pos 3 ∷ pos 4 ∷ []) ∷ []) ∷ []) ∷ [])
+    (row_value (ints (pos 1 ∷ pos 2 ∷ []) ∷ list_value [] ∷ []) ∷ row_value
+        (ints [] ∷ list_value (ints (pos 3 ∷ pos 4 ∷ []) ∷ []) ∷ []) ∷ [])
 
 -- [{"x":1,"y":[1,2]},{"x":2,"y":[]}]
 abbrev flat_field : Datum
 flat_field = arr (rec (codes "x" ∷ codes "y" ∷ []) (types_from (int64 ∷ var int64 ∷ [])))
-    (row_value (int (pos 1) ∷ ints (pos 1 ∷ pos 2 ∷ []) ∷ []) ∷ row_value (int (pos 2) ∷ ints [] ∷ []) ∷ [])
+    (row_value (int (pos 1) ∷ ints (pos 1 ∷ pos 2 ∷ []) ∷ []) ∷ row_value
+        (int (pos 2) ∷ ints [] ∷ []) ∷ [])
 
 -- ---- counts at an axis
 
@@ -67,7 +69,9 @@ counted_through_option : lift count_function (pos 1) holes
 counted_through_option = refl
 
 counted_through_rows : lift count_function (pos 1) two_rows
-    ≡ Ok (arr (rec (codes "x" ∷ codes "y" ∷ []) (types_from (int64 ∷ int64 ∷ []))) (row_value (int (pos 2) ∷ int (pos 0) ∷ []) ∷ row_value (int (pos 0) ∷ int (pos 1) ∷ []) ∷ []))
+    ≡ Ok (arr (rec (codes "x" ∷ codes "y" ∷ []) (types_from (int64 ∷ int64 ∷ [])))
+        (row_value (int (pos 2) ∷ int (pos 0) ∷ []) ∷ row_value (int (pos 0) ∷ int (pos 1) ∷ [])
+        ∷ []))
 counted_through_rows = refl
 
 counted_of_unknown : lift count_function (pos 3) (arr unknown []) ≡ Ok (arr (var (var int64)) [])
@@ -84,21 +88,28 @@ counted_far_past_limit : lift count_function (pos 9223372036854775807) (arr unkn
 counted_far_past_limit = refl
 
 -- an axis fault of another branch is told first
-counted_axis_before_depth : lift count_function (pos 61) (arr (rec (codes "x" ∷ codes "y" ∷ []) (types_from (unknown ∷ int64 ∷ []))) []) ≡ Err Axis
+counted_axis_before_depth : lift count_function (pos 61)
+    (arr (rec (codes "x" ∷ codes "y" ∷ []) (types_from (unknown ∷ int64 ∷ []))) []) ≡ Err Axis
 counted_axis_before_depth = refl
 
 -- equal alternatives are not joined
-counted_through_union : lift count_function (pos 1) (arr (uni (types_from (var int64 ∷ reg 1 (leaf Bool) ∷ []))) (alt 1 (list_value (truth true ∷ [])) ∷ alt 0 (ints []) ∷ []))
-    ≡ Ok (arr (uni (types_from (int64 ∷ int64 ∷ []))) (alt 1 (int (pos 1)) ∷ alt 0 (int (pos 0)) ∷ []))
+counted_through_union : lift count_function (pos 1)
+    (arr (uni (types_from (var int64 ∷ reg 1 (leaf Bool) ∷ [])))
+    (alt 1 (list_value (truth true ∷ [])) ∷ alt 0 (ints []) ∷ []))
+    ≡ Ok (arr (uni (types_from (int64 ∷ int64 ∷ [])))
+        (alt 1 (int (pos 1)) ∷ alt 0 (int (pos 0)) ∷ []))
 counted_through_union = refl
 
 -- a list above the axis keeps its class
-counted_below_regular : lift count_function (pos 2) (arr (reg 2 (var int64)) (list_value (ints [] ∷ ints (pos 7 ∷ []) ∷ []) ∷ []))
+counted_below_regular : lift count_function (pos 2)
+    (arr (reg 2 (var int64)) (list_value (ints [] ∷ ints (pos 7 ∷ []) ∷ []) ∷ []))
     ≡ Ok (arr (reg 2 int64) (ints (pos 0 ∷ pos 1 ∷ []) ∷ []))
 counted_below_regular = refl
 
 -- in a single value axis 0 is the lists directly inside
-counted_of_one : lift count_function (pos 0) (one (rec (codes "x" ∷ []) (types_from (var int64 ∷ []))) (row_value (ints (pos 7 ∷ pos 8 ∷ []) ∷ [])))
+counted_of_one : lift count_function (pos 0) (one
+    (rec (codes "x" ∷ []) (types_from (var int64 ∷ [])))
+    (row_value (ints (pos 7 ∷ pos 8 ∷ []) ∷ [])))
     ≡ Ok (one (rec (codes "x" ∷ []) (types_from (int64 ∷ []))) (row_value (int (pos 2) ∷ [])))
 counted_of_one = refl
 
@@ -119,7 +130,8 @@ drop_none_1 : lift drop_none_function (pos 1) holes
     ≡ Ok (arr (opt (var int64)) (ints (pos 1 ∷ []) ∷ null ∷ ints (pos 3 ∷ []) ∷ []))
 drop_none_1 = refl
 
-drop_none_gives_var : lift drop_none_function (pos 1) (arr (reg 1 (opt int64)) (list_value (null ∷ []) ∷ [])) ≡ Ok (arr (var int64) (ints [] ∷ []))
+drop_none_gives_var : lift drop_none_function (pos 1)
+    (arr (reg 1 (opt int64)) (list_value (null ∷ []) ∷ [])) ≡ Ok (arr (var int64) (ints [] ∷ []))
 drop_none_gives_var = refl
 
 -- ---- innermost lists
@@ -132,7 +144,9 @@ count_whole : deep count_function (arr (opt int64) (int (pos 1) ∷ null ∷ int
     ≡ Ok (one int64 (int (pos 2)))
 count_whole = refl
 
-count_below_regular : deep count_function (arr (reg 1 (var int64)) (list_value (ints (pos 6 ∷ pos 7 ∷ []) ∷ []) ∷ [])) ≡ Ok (arr (reg 1 int64) (ints (pos 2 ∷ []) ∷ []))
+count_below_regular : deep count_function (arr (reg 1 (var int64))
+    (list_value (ints (pos 6 ∷ pos 7 ∷ []) ∷ []) ∷ [])) ≡ Ok
+    (arr (reg 1 int64) (ints (pos 2 ∷ []) ∷ []))
 count_below_regular = refl
 
 count_of_rows : deep count_function flat_field ≡ Err WrongType

@@ -44,4 +44,5 @@ IsListed x (Lists o z) = (length (joined_items (array_items x)) ≤ item_limit) 
 pub record MarksNulls (j : Column) (vs : List Value) : Type 0 where
   pub kind : IsOptionKind j.kind
   pub size : size_of j ≡ length vs
-  pub marks : (i : ℕ) → i < length vs → is_some (option_place_at j i) ≡ is_present (get_or vs i null)
+  pub marks : (i : ℕ) → i < length vs
+      → is_some (option_place_at j i) ≡ is_present (get_or vs i null)

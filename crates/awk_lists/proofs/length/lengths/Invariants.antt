@@ -6,4 +6,5 @@ use Rattle.awk_gather.proofs.MadeLanes.{IsSoFar}
 use Rattle.awk_lists.proofs.length.lengths.Given as goal
 
 abbrev pub invariant-loop-i : goal.invariant-loop-i
-invariant-loop-i g l = IsSoFar Kind.I64 (size_of l.starts) (λ i. pos (span_length l.starts l.stops i)) l.i l.maker
+invariant-loop-i g l = IsSoFar Kind.I64 (size_of l.starts)
+    (λ i. pos (span_length l.starts l.stops i)) l.i l.maker
