@@ -203,7 +203,49 @@ runs_between-few c start stop =
 
 -- ---- numbers of one kind
 
-abbrev IsInt : Num → Type 0
-IsInt (Int z) = Unit {0}
-IsInt (Nat n) = ⊥
-IsInt (Truth b) = ⊥
+int_nat : (k : Kind) (z : ℤ) (n : ℕ) → IsOf k (Int z) → IsOf k (Nat n) → ⊥
+int_nat kinds.Bool z n p q = p
+int_nat kinds.I8 z n p q = q
+int_nat kinds.I16 z n p q = q
+int_nat kinds.I32 z n p q = q
+int_nat kinds.I64 z n p q = q
+int_nat kinds.U8 z n p q = p
+int_nat kinds.U16 z n p q = p
+int_nat kinds.U32 z n p q = p
+int_nat kinds.U64 z n p q = p
+
+int_truth : (k : Kind) (z : ℤ) (b : Bool) → IsOf k (Int z) → IsOf k (Truth b) → ⊥
+int_truth kinds.Bool z b p q = p
+int_truth kinds.I8 z b p q = q
+int_truth kinds.I16 z b p q = q
+int_truth kinds.I32 z b p q = q
+int_truth kinds.I64 z b p q = q
+int_truth kinds.U8 z b p q = p
+int_truth kinds.U16 z b p q = p
+int_truth kinds.U32 z b p q = p
+int_truth kinds.U64 z b p q = p
+
+nat_truth : (k : Kind) (n : ℕ) (b : Bool) → IsOf k (Nat n) → IsOf k (Truth b) → ⊥
+nat_truth kinds.Bool n b p q = p
+nat_truth kinds.I8 n b p q = p
+nat_truth kinds.I16 n b p q = p
+nat_truth kinds.I32 n b p q = p
+nat_truth kinds.I64 n b p q = p
+nat_truth kinds.U8 n b p q = q
+nat_truth kinds.U16 n b p q = q
+nat_truth kinds.U32 n b p q = q
+nat_truth kinds.U64 n b p q = q
+
+-- two numbers of one kind are held alike
+pub held_alike : (k : Kind) (x y : Num) → IsOf k x → IsOf k y
+    → ((a b : ℤ) → x ≡ Int a → y ≡ Int b → ⊥) → ((a b : ℕ) → x ≡ Nat a → y ≡ Nat b → ⊥)
+    → ((a b : Bool) → x ≡ Truth a → y ≡ Truth b → ⊥) → ⊥
+held_alike k (Int a) (Int b) p q i n t = i a b refl refl
+held_alike k (Nat a) (Nat b) p q i n t = n a b refl refl
+held_alike k (Truth a) (Truth b) p q i n t = t a b refl refl
+held_alike k (Int a) (Nat b) p q i n t = int_nat k a b p q
+held_alike k (Nat a) (Int b) p q i n t = int_nat k b a q p
+held_alike k (Int a) (Truth b) p q i n t = int_truth k a b p q
+held_alike k (Truth a) (Int b) p q i n t = int_truth k b a q p
+held_alike k (Nat a) (Truth b) p q i n t = nat_truth k a b p q
+held_alike k (Truth a) (Nat b) p q i n t = nat_truth k b a q p
