@@ -1,0 +1,12 @@
+//! A law of packing and loading: what is packed is read back.
+#![tactic(auto)]
+
+ghost use Rattle.awk_readback.specs.ReadBack.{PackedReadsBack};
+
+/// Every container that holds the buffers of a packed array is valid for its form and length, and
+/// denotes the type and the values that were packed; so packing that again gives the same.
+#[tactic(auto, using(crate::proofs::ReadBack::packed_reads_back))]
+pub fn packed_reads_back()
+    ensures reads_back { PackedReadsBack }
+{
+}
