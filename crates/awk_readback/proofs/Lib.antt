@@ -1,1 +1,10 @@
 pub mod Worked
+pub mod LaneBytes
+pub mod IndexLanes
+pub mod IndexNeeds
+pub mod ValueLists
+pub mod ColumnTypes
+pub mod ColumnItems
+pub mod BufferParts
+pub mod LeafReads
+pub mod NodeReads
