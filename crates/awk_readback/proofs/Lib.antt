@@ -8,3 +8,6 @@ pub mod ColumnItems
 pub mod BufferParts
 pub mod LeafReads
 pub mod NodeReads
+pub mod PackedReads
+pub mod PackedForms
+pub mod ReadBack
