@@ -10,4 +10,6 @@ pub mod LeafReads
 pub mod NodeReads
 pub mod PackedReads
 pub mod PackedForms
+pub mod KeyLaws
+pub mod HeldLaws
 pub mod ReadBack

@@ -13,19 +13,23 @@ use Rattle.awk_types.specs.Value.{Value, null}
 use Rattle.awk_types.proofs.RefusalLaws.{refused_or-None}
 use Rattle.awk_types.proofs.Simplified.{simplifies}
 use Rattle.awk_form.specs.FormType.{type_of}
+use Rattle.awk_form.specs.Lawful.{IsLawful}
 use Rattle.awk_pack.specs.Columns.{Placed, placed}
 use Rattle.awk_pack.specs.PackedForm.{packed_form}
-use Rattle.awk_pack.specs.Canon.{Pack, is_too_long, packed, canon}
+use Rattle.awk_pack.specs.Canon.{Pack, is_too_long, lanes_of, packed, canon}
 use Rattle.awk_pack.specs.declared.packed.PackFault.TheVariants.{Size}
+use Rattle.awk_text.specs.Buffers.{buffer_keys}
 use Rattle.awk_text.specs.PackedText.{buffers}
 use Rattle.awk_valid.specs.Container.{Container}
 use Rattle.awk_valid.specs.Broken.{broken}
 use Rattle.awk_valid.specs.Denote.{item, denote}
 use Rattle.awk_valid.specs.Loading.{limited, refusal}
-use Rattle.awk_readback.specs.ReadBack.{HasBuffers, IsReadBack, PackedReadsBack}
+use Rattle.awk_readback.specs.ReadBack.{HasBuffers, IsReadBack, PackedReadsBack, PackedIsLawful, IsHeld, PackedIsHeld}
 use Rattle.awk_readback.proofs.ValueLists.{Reads, all-at, reads-all}
-use Rattle.awk_readback.proofs.BufferParts.{neither}
-use Rattle.awk_readback.proofs.PackedForms.{type-packed_form}
+use Rattle.awk_readback.proofs.BufferParts.{as-many, neither}
+use Rattle.awk_readback.proofs.HeldLaws.{distinct-held}
+use Rattle.awk_readback.proofs.KeyLaws.{packed-keys-distinct}
+use Rattle.awk_readback.proofs.PackedForms.{type-packed_form, lawful-packed_form}
 use Rattle.awk_readback.proofs.PackedReads.{AllFit, packed-reads}
 
 -- ---- what is known where packing is not refused
@@ -126,3 +130,23 @@ packed_reads_back t vs s l h p e c b =
     subst (λ q. IsReadBack t vs q c) is.0
     (read-back t vs c s l h is.1 (e ∙ ap Ok (sym is.0))
     (subst (λ q. HasBuffers c (buffers q)) (sym is.0) b))
+
+-- ---- the form and the keys
+
+pub packed_is_lawful : PackedIsLawful
+packed_is_lawful t vs p h l e =
+    subst (λ q. IsLawful q.form) (packed-whole t vs p e).0
+    (lawful-packed_form 0 t h (few-alternatives t l))
+
+packed-held : (t : DataType) (vs : List Value) → nodes t ≤ 65536 → IsHeld (packed t vs)
+packed-held t vs few =
+    let distinct = packed-keys-distinct t (omega (arith, few)) in
+    record {
+      lanes = as-many 0 t vs;
+      distinct = distinct;
+      held = distinct-held (buffer_keys (packed_form 0 t)) (lanes_of (placed t vs)) distinct;
+    }
+
+pub packed_is_held : PackedIsHeld
+packed_is_held t vs p l e =
+    subst IsHeld (packed-whole t vs p e).0 (packed-held t vs (few-nodes t l))

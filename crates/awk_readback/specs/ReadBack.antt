@@ -8,12 +8,16 @@ use Rattle.std.specs.Str.{bytes_eq}
 use Rattle.awk_types.specs.DataType.{Name, DataType}
 use Rattle.awk_types.specs.Datum.{arr}
 use Rattle.awk_types.specs.Has.{Has}
+use Rattle.awk_types.specs.IsType.{IsType}
 use Rattle.awk_types.specs.Limit.{limit}
+use Rattle.awk_types.specs.Names.{AreDistinct}
 use Rattle.awk_types.specs.Simple.{IsSimple}
 use Rattle.awk_types.specs.Value.{Value}
 use Rattle.awk_store.specs.declared.fault.BufferWhy.TheVariants.{Absent}
+use Rattle.awk_form.specs.Lawful.{IsLawful}
 use Rattle.awk_pack.specs.Canon.{Pack, canon}
-use Rattle.awk_text.specs.PackedText.{buffers}
+use Rattle.awk_text.specs.Buffers.{buffer_keys}
+use Rattle.awk_text.specs.PackedText.{HasLanes, buffers}
 use Rattle.awk_valid.specs.Container.{Container}
 use Rattle.awk_valid.specs.Broken.{broken}
 use Rattle.awk_valid.specs.Denote.{denote, denoting}
@@ -48,3 +52,19 @@ abbrev pub PackedReadsBack : Type 0
 PackedReadsBack =
     (t : DataType) (vs : List Value) → IsSimple t → limit t ≡ None → AllByRecursion (Has t) vs
     → ReadsBack t vs
+
+-- the form is lawful, as a form that was read
+abbrev pub PackedIsLawful : Type 0
+PackedIsLawful =
+    (t : DataType) (vs : List Value) (p : Pack) → IsType t → limit t ≡ None → canon t vs ≡ Ok p
+    → IsLawful p.form
+
+-- there is such a container: each lane is a buffer, and no two have the same key
+pub record IsHeld (p : Pack) : Type 0 where
+  pub lanes : HasLanes p
+  pub distinct : AreDistinct (buffer_keys p.form)
+  pub held : HasBuffers (holding (buffers p)) (buffers p)
+
+abbrev pub PackedIsHeld : Type 0
+PackedIsHeld =
+    (t : DataType) (vs : List Value) (p : Pack) → limit t ≡ None → canon t vs ≡ Ok p → IsHeld p
