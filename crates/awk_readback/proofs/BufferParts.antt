@@ -1,5 +1,5 @@
 -- Buffers under their keys: those of contents side by side, and the numbers of one buffer.
-use Rattle.std.proofs.Common.{◌≡◌, ◌<◌, ◌≤◌, ℕ, suc, ◌+◌, ◌*◌, false, List, [], ◌∷◌, ◌++◌, length, map, get_or, None, Ok, Option, refl, ap, sym, subst, ◌∙◌, arith, length-append, ℤ, pos}
+use Rattle.std.proofs.Common.{◌≡◌, ◌<◌, ◌≤◌, ℕ, suc, ◌+◌, ◌*◌, false, List, [], ◌∷◌, ◌++◌, length, map, get_or, None, Ok, Option, refl, ap, subst, ◌∙◌, arith, length-append, ℤ, pos}
 use Rattle.std.specs.Prelude.{filter, nat_lt}
 use Rattle.std.specs.List.{flat_map, AllByRecursion}
 use Rattle.std.proofs.lemmas.Grind.{flat_map-append}

@@ -13,3 +13,4 @@ pub mod PackedForms
 pub mod KeyLaws
 pub mod HeldLaws
 pub mod ReadBack
+pub mod BackLaws

@@ -1,8 +1,8 @@
 -- A node with contents that are read is read: nothing breaks, and its items are its values.
-use Rattle.std.proofs.Common.{◌≡◌, ◌<◌, ◌≤◌, ℕ, suc, ◌+◌, ◌*◌, List, length, get_or, None, Option, refl, ap, ap₂, sym, subst, ◌∙◌, arith, add-one, codes, pos}
+use Rattle.std.proofs.Common.{◌≡◌, ◌<◌, ◌≤◌, ℕ, suc, ◌+◌, ◌*◌, List, length, get_or, None, Option, refl, ap, ap₂, sym, ◌∙◌, arith, add-one, codes, pos}
 use Rattle.std.specs.Prelude.{filter}
 use Rattle.std.specs.List.{AllByRecursion}
-use Rattle.awk_types.specs.DataType.{Name, DataType, DataTypes, var, reg, opt, uni}
+use Rattle.awk_types.specs.DataType.{Name, DataType, DataTypes, var, reg}
 use Rattle.awk_types.specs.Value.{Value, null, list, row, values_from}
 use Rattle.awk_types.specs.Has.{Has}
 use Rattle.awk_lanes.specs.declared.kind.Kind.TheVariants as kind

@@ -103,7 +103,7 @@ module _ (t : DataType) (vs : List Value) (c : Container) (s : IsSimple t)
   packed-refusal l valid =
       neither _ _ (ap (λ u. option_map limited (limit u)) simple-form ∙ ap (option_map limited) l) valid
 
-same-canon : (t u : DataType) (vs ws : List Value) (p : Pack) → canon t vs ≡ Ok p
+pub same-canon : (t u : DataType) (vs ws : List Value) (p : Pack) → canon t vs ≡ Ok p
     → arr t vs ≡ arr u ws → canon u ws ≡ Ok p
 same-canon t u vs ws p e same =
     let typ : u ≡ t = cc in

@@ -1,5 +1,5 @@
 -- What is packed is read back, at worked values.
-use Rattle.std.specs.Prelude.{◌≡◌, List, [], ◌∷◌, None, Ok, true, ℤ, pos, negsuc, codes, refl}
+use Rattle.std.specs.Prelude.{◌≡◌, List, [], ◌∷◌, None, true, pos, negsuc, codes, refl}
 use Rattle.std.specs.Fmt.{digits}
 use Rattle.awk_types.specs.declared.primitive.Primitive.TheVariants as primitive
 use Rattle.awk_types.specs.DataType.{DataType, leaf, var, reg, rec, opt, uni, no_types, type}

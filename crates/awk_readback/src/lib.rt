@@ -1,21 +1,8 @@
-//! A law of packing and loading: what is packed is read back.
+//! Laws of packing and loading: what is packed is read back.
 #![tactic(auto)]
 
-ghost use Rattle.awk_readback.specs.ReadBack.{PackedReadsBack, PackedIsLawful, PackedIsHeld};
+mod back;
+mod laws;
 
-/// Every container that holds the buffers of a packed array is valid for its form and length, and
-/// denotes the type and the values that were packed; so packing that again gives the same.
-/// The form is lawful, and there is such a container.
-#[tactic(
-    auto,
-    using(
-        crate::proofs::ReadBack::packed_reads_back,
-        crate::proofs::ReadBack::packed_is_lawful
-    )
-)]
-pub fn packed_reads_back()
-    ensures reads_back { PackedReadsBack }
-    ensures lawful { PackedIsLawful }
-    ensures held { PackedIsHeld }
-{
-}
+pub use back::{Back, BackFault, load_packed, there_and_back};
+pub use laws::packed_reads_back;
