@@ -8,7 +8,8 @@ use Rattle.awk_types.specs.Has.{Has}
 use Rattle.awk_types.specs.Value.{Value}
 use Rattle.awk_layout.specs.Array.{IsArrayType}
 use Rattle.awk_layout.specs.Layout.{Layout}
-use Rattle.awk_layout.specs.Typing.{array_datum}
+use Rattle.awk_layout.specs.Typing.{array_type, array_items, array_datum}
+use Rattle.awk_form.specs.View.{form_of}
 use Rattle.awk_store.specs.Buffers.{ByKey}
 use Rattle.awk_pack.specs.Canon.{Pack, is_too_large, packed, canon}
 use Rattle.awk_pack.specs.Shown.{packed_of}
@@ -16,6 +17,7 @@ use Rattle.awk_pack.specs.declared.packed.PackFault.TheVariants as pack
 use Rattle.awk_text.specs.PackedText.{buffers}
 use Rattle.awk_valid.specs.Broken.{Refusal}
 use Rattle.awk_valid.specs.Container.{container_of}
+use Rattle.awk_valid.specs.Denote.{denoting}
 use Rattle.awk_valid.specs.Loading.{told}
 use Rattle.awk_valid.specs.declared.fault.LoadFault.{LoadFault}
 use Rattle.awk_readback.specs.ReadBack.{HasBuffers}
@@ -34,6 +36,13 @@ GivesBack p texts result =
 abbrev pub HoldsPacked : ByKey → DataType → List Value → Type 0
 HoldsPacked texts t vs =
     (p : Pack) → canon t vs ≡ Ok p → HasBuffers (container_of texts) (buffers p)
+
+-- the three calls in a row: the array is packed, what that denotes is loaded, and that is packed
+pub record IsRound (x : Layout) (texts : ByKey) (b : Back) : Type 0 where
+  pub first : canon (array_type x) (array_items x) ≡ Ok (packed_of b.first)
+  pub array : denoting (form_of b.first.form) b.first.length (container_of texts)
+      ≡ Ok (array_datum b.array)
+  pub again : canon (array_type b.array) (array_items b.array) ≡ Ok (packed_of b.again)
 
 -- a packed array, the array that was loaded of it, and that packed
 pub record Round : Type 0 where

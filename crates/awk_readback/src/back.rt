@@ -1,5 +1,5 @@
 //! There and back: packing, loading what was packed, and packing that again.
-ghost use Rattle.std.specs.Prelude.{◌≡◌};
+ghost use Rattle.std.specs.Prelude.{◌≡◌, IfOk};
 ghost use Rattle.awk_types.specs.Gives.{Gives};
 ghost use Rattle.awk_layout.specs.Typing.{array_type, array_items, array_datum};
 ghost use Rattle.awk_form.specs.Lawful.{IsLawful};
@@ -9,7 +9,7 @@ ghost use Rattle.awk_valid.specs.Container.{container_of};
 ghost use Rattle.awk_valid.specs.Denote.{denoting};
 ghost use Rattle.awk_valid.specs.Loading.{told};
 ghost use Rattle.awk_readback.specs.Back.{GivesBack, HoldsPacked, round_of, there_and_back};
-ghost use Rattle.awk_readback.specs.Back.{back_told};
+ghost use Rattle.awk_readback.specs.Back.{IsRound, back_told};
 
 use awk_kernels::Kernels;
 use awk_lanes::{Arena, Steps};
@@ -85,6 +85,8 @@ pub fn there_and_back<'a, N: Kernels, L: Ledger>(
     arena: &'a Arena,
     steps: &mut Steps<L>,
 ) -> Result<Back<'a>, BackFault>
+    // What the calls give.
+    ensures round { IfOk result (IsRound x.now store.old.texts) }
     // Over a store whose texts decode to the buffers, the array that is loaded has the same type
     // and items, and packing that gives the same form, length and lanes.
     ensures back { HoldsPacked store.old.texts (array_type x.now) (array_items x.now) → Gives
