@@ -1,5 +1,6 @@
 pub mod LayoutParts
 pub mod MadeLanes
+pub mod MovedGroups
 pub mod PickedLanes
 pub mod FollowedIndexes
 pub mod PickedNodes

@@ -6,6 +6,7 @@ mod counted;
 mod follow;
 mod joining;
 mod lanes_at;
+mod moved;
 mod opening;
 mod order;
 mod outermost;
