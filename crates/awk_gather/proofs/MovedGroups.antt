@@ -1,6 +1,6 @@
 -- The numbers of groups of bytes that were moved.
 use Rattle.std.proofs.Common.{◌≡◌, ◌≢◌, ℕ, suc, zero, ◌+◌, ◌-◌, ◌*◌, ◌/◌, ◌<◌, ◌≤◌, List, [], ◌∷◌, ◌++◌, length, drop, get_or, map, refl, ap, sym, subst, ◌∙◌, arith, drop-drop, length-take, length-drop}
-use Rattle.std.specs.Prelude.{ℤ, pos}
+use Rattle.std.specs.Prelude.{◌^◌, ℤ, pos, negsuc, ◌≤ℤ◌}
 use Rattle.std.specs.List.{range_with_len, flat_map}
 use Rattle.std.specs.Simd.{first_chunks}
 use Rattle.std.proofs.lemmas.List.{length-map, get_or-map, take_at, drop_at}
@@ -11,8 +11,11 @@ use Rattle.awk_lanes.specs.declared.kind.Kind.TheVariants.{Bool as Truths, I8, I
 use Rattle.awk_lanes.specs.Column.{Column}
 use Rattle.awk_lanes.specs.Numbers.{width, number, numbers, nat_of, element}
 use Rattle.awk_lanes.specs.Places.{size_of, at, place_at, IsIndex}
-use Rattle.awk_lanes.proofs.NumberParts.{length-numbers, get_or-numbers, number-take, map-number_all}
-use Rattle.awk_gather.specs.Moved.{past, eight, group_past, groups_past, ArePlacesPast}
+use Rattle.awk_lanes.specs.declared.kind.Num.TheVariants.{Nat}
+use Rattle.std.specs.Int.{to_le_bytes, w32}
+use Rattle.std.proofs.lemmas.Int.{ints}
+use Rattle.awk_lanes.proofs.NumberParts.{number-bytes_of, length-numbers, get_or-numbers, number-take, map-number_all}
+use Rattle.awk_gather.specs.Moved.{past, eight, group_past, groups_past, ArePlacesPast, narrow_group, narrow_groups}
 
 -- a number takes at most eight bytes
 pub width-small : (k : Kind) → width k ≤ 8
@@ -77,11 +80,14 @@ module _ (c : Column) (b : List ℕ) (size : length b ≡ size_of c * width c.ki
       ∙ ap (λ zs. get_or zs i (pos 0)) map-number_groups
 
 -- one group more
-pub moved_more : (d : ℕ) (gs ps : List (List ℕ)) (i : ℕ) (x : List ℕ) (old new : List (List ℕ)) → new ≡ old ++ x ∷ [] → x ≡ group_past d gs ps i → old ≡ map (group_past d gs ps) (range_with_len 0 i) → new ≡ map (group_past d gs ps) (range_with_len 0 (i + 1))
-moved_more d gs ps i x old new e g h =
-    rw (e, h, g) (sym (map-range_with_len_more (group_past d gs ps) 0 i i (omega arith)))
+pub group_pushed : (f : ℕ → List ℕ) (i : ℕ) (x : List ℕ) (old new : List (List ℕ)) → new ≡ old ++ x ∷ [] → x ≡ f i → old ≡ map f (range_with_len 0 i) → new ≡ map f (range_with_len 0 (i + 1))
+group_pushed f i x old new e g h = rw (e, h, g) (sym (map-range_with_len_more f 0 i i (omega arith)))
 
 -- ---- moved groups make the lane of the numbers
+
+pos-nat_of : (z : ℤ) → pos 0 ≤ℤ z → z ≡ pos (nat_of z)
+pos-nat_of (pos n) h = refl
+pos-nat_of (negsuc n) h = absurd (omega (arith, ints))
 
 element-number : (k : Kind) (z : ℤ) → k ≢ Truths → element k z ≡ z
 element-number Truths z h = absurd (h refl)
@@ -93,6 +99,22 @@ element-number U8 z h = refl
 element-number U16 z h = refl
 element-number U32 z h = refl
 element-number U64 z h = refl
+
+-- the numbers of groups that are joined
+pub numbers-flat : (k : Kind) (w n : ℕ) (g : ℕ → List ℕ) (f : ℕ → ℤ) → width k ≡ w → 0 < w → ((i : ℕ) → i < n → length (g i) ≡ width k) → ((i : ℕ) → i < n → number k (g i) ≡ f i) → (gs : List (List ℕ)) → gs ≡ map g (range_with_len 0 n) → (flat : List ℕ) → flat ≡ flat_map (λ x. x) gs → length flat ≡ length gs * w → numbers k (length flat / width k) flat ≡ map f (range_with_len 0 n)
+numbers-flat k w n g f wide some long is gs m flat e size =
+    let count : length gs ≡ n = ap length m ∙ length-map-range_with_len g 0 n in
+    let each : (i : ℕ) → i < n → get_or gs i [] ≡ g i =
+    λ i l. ap (λ xs. get_or xs i []) m ∙ get_or-map-range_with_len g 0 n i i [] l (omega arith) in
+    let h : length flat / width k ≡ n =
+    ap (λ x. x / width k) (size ∙ ap (λ v. length gs * v) (sym wide)) ∙ mul-div_left (length gs) (rw wide some) ∙ count in
+    fill_by_all f (numbers k (length flat / width k) flat) n (pos 0) (length-numbers k (length flat / width k) flat ∙ h)
+    (λ j l.
+    get_or-numbers k (length flat / width k) flat j (omega (arith, h))
+    ∙ ap (λ x. number k (drop (j * width k) x)) e
+    ∙ number-flat k gs j (λ i l'. let i' : i < n = omega (arith, count) in ap length (each i i') ∙ long i i') (omega (arith, count))
+    ∙ ap (number k) (each j l)
+    ∙ is j l)
 
 -- places in bytes
 module _ (p : Column) (b : List ℕ) (n d : ℕ) (kind : p.kind ≡ I64) (size : length b ≡ size_of p * width p.kind) (same : numbers p.kind (size_of p) b ≡ p.items) where
@@ -141,19 +163,24 @@ module _ (c p : Column) (b q : List ℕ) (d w : ℕ) (plain : c.kind ≢ Truths)
       length-first_chunk (width c.kind) (length b / width c.kind) b (nat_of (eight (get_or (first_chunks 8 (length q / 8) q) i [])) + d) (div-mul-le_self (length b) (width c.kind)) (omega (arith, count))
 
   pub numbers-moved : moved ≡ groups_past d (first_chunks w (length b / w) b) (first_chunks 8 (length q / 8) q) → (flat : List ℕ) → flat ≡ flat_map (λ x. x) moved → length flat ≡ length moved * w → numbers c.kind (length flat / width c.kind) flat ≡ (past d c p).items
-  numbers-moved h flat e long =
-      let m : moved ≡ map group_at (range_with_len 0 (size_of p)) =
-          h ∙ ap (λ v. groups_past d (first_chunks v (length b / v) b) (first_chunks 8 (length q / 8) q)) (sym wide)
-          ∙ ap (λ n. map group_at (range_with_len 0 n)) (length-eights p q (size_of c) d kind p-size p-same) in
-      let n : length moved ≡ size_of p = ap length m ∙ length-map-range_with_len group_at 0 (size_of p) in
-      let each : (i : ℕ) → i < size_of p → get_or moved i [] ≡ group_at i =
-          λ i l. ap (λ gs. get_or gs i []) m ∙ get_or-map-range_with_len group_at 0 (size_of p) i i [] l (omega arith) in
-      let k : length flat / width c.kind ≡ size_of p =
-          ap (λ x. x / width c.kind) (long ∙ ap (λ v. length moved * v) (sym wide)) ∙ mul-div_left (length moved) (rw wide some) ∙ n in
-      fill_by_all (λ i. at c (place_at p i + d)) (numbers c.kind (length flat / width c.kind) flat) (size_of p) (pos 0) (length-numbers c.kind (length flat / width c.kind) flat ∙ k)
-      (λ j l.
-      get_or-numbers c.kind (length flat / width c.kind) flat j (omega (arith, k))
-      ∙ ap (λ x. number c.kind (drop (j * width c.kind) x)) e
-      ∙ number-flat c.kind moved j (λ i l'. let i' : i < size_of p = omega (arith, n) in ap length (each i i') ∙ group-wide i i') (omega (arith, n))
-      ∙ ap (number c.kind) (each j l)
-      ∙ number-past j l)
+  numbers-moved h =
+      numbers-flat c.kind w (size_of p) group_at (λ i. at c (place_at p i + d)) wide some group-wide number-past moved
+      (h ∙ ap (λ v. groups_past d (first_chunks v (length b / v) b) (first_chunks 8 (length q / 8) q)) (sym wide)
+      ∙ ap (λ n. map group_at (range_with_len 0 n)) (length-eights p q (size_of c) d kind p-size p-same))
+
+-- the numbers of the groups that places were narrowed to are the places
+module _ (p : Column) (q : List ℕ) (kind : p.kind ≡ I64) (p-size : length q ≡ size_of p * width p.kind) (p-same : numbers p.kind (size_of p) q ≡ p.items) (within : IsIndex p (2 ^ 32)) where
+  abbrev narrow_at : ℕ → List ℕ
+  narrow_at = narrow_group (first_chunks 8 (length q / 8) q)
+
+  number-narrow : (i : ℕ) → i < size_of p → number U32 (narrow_at i) ≡ at p i
+  number-narrow i l =
+      let e : eight (get_or (first_chunks 8 (length q / 8) q) i []) ≡ at p i = eight-at p q (2 ^ 32) 0 kind p-size p-same i l in
+      ap (λ z. number U32 (to_le_bytes w32 (nat_of z))) e
+      ∙ number-bytes_of U32 (Nat (place_at p i)) (within.places i l).1
+      ∙ sym (pos-nat_of (at p i) (within.places i l).0)
+
+  pub numbers-narrow : (gs : List (List ℕ)) → gs ≡ narrow_groups (first_chunks 8 (length q / 8) q) → (flat : List ℕ) → flat ≡ flat_map (λ x. x) gs → length flat ≡ length gs * 4 → numbers U32 (length flat / 4) flat ≡ map (at p) (range_with_len 0 (size_of p))
+  numbers-narrow gs h =
+      numbers-flat U32 4 (size_of p) narrow_at (at p) refl (omega arith) (λ i l. refl) number-narrow gs
+      (h ∙ ap (λ n. map narrow_at (range_with_len 0 n)) (length-eights p q (2 ^ 32) 0 kind p-size p-same))

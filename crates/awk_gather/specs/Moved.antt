@@ -1,5 +1,6 @@
 -- Numbers of lanes that are moved as the groups of bytes that they lie in.
 use Rattle.std.specs.Prelude.{ℕ, ◌+◌, ◌<◌, List, [], map, get_or, length, ℤ, pos, ◌≤ℤ◌}
+use Rattle.std.specs.Int.{to_le_bytes, w32}
 use Rattle.std.specs.List.{range_with_len}
 use Rattle.awk_lanes.specs.declared.kind.Kind.TheVariants.{I64}
 use Rattle.awk_lanes.specs.Column.{Column}
@@ -27,3 +28,10 @@ abbrev pub ArePlacesPast : ℕ → ℕ → List (List ℕ) → Type 0
 ArePlacesPast d n ps =
     (i : ℕ) → i < length ps →
     (pos 0 ≤ℤ eight (get_or ps i [])) × (nat_of (eight (get_or ps i [])) + d < n)
+
+-- the place at i of places, in four bytes
+abbrev pub narrow_group : List (List ℕ) → ℕ → List ℕ
+narrow_group ps i = to_le_bytes w32 (nat_of (eight (get_or ps i [])))
+
+abbrev pub narrow_groups : List (List ℕ) → List (List ℕ)
+narrow_groups ps = map (narrow_group ps) (range_with_len 0 (length ps))

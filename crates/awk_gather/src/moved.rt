@@ -1,11 +1,14 @@
 //! Numbers of lanes at places, moved as the groups of bytes that they lie in.
-ghost use Rattle.std.specs.Prelude.{◌≡◌, ◌≢◌, ◌+◌, ◌-◌, ◌<◌, ◌≤◌, length, pos, ◌≤ℤ◌, IfOk};
+ghost use Rattle.std.specs.Prelude.{◌≡◌, ◌≢◌, ◌+◌, ◌-◌, ◌<◌, ◌^◌, length, pos, ◌≤ℤ◌, IfOk};
+ghost use Rattle.std.specs.Int.{to_le_bytes, w32};
 ghost use Rattle.awk_lanes.specs.Numbers.{nat_of, width};
-ghost use Rattle.awk_lanes.specs.Places.{size_of, IsIndex};
+ghost use Rattle.awk_lanes.specs.Places.{size_of, at, IsIndex};
 ghost use Rattle.awk_lanes.specs.declared.kind.Kind.TheVariants as Kind;
+ghost use Rattle.awk_gather.specs.Lanes.{lane_of};
 ghost use Rattle.awk_gather.specs.Moved.{past, eight, groups_past as groups_past_of, ArePlacesPast};
+ghost use Rattle.awk_gather.specs.Moved.{narrow_groups as narrow_groups_of};
 
-use awk_lanes::{Arena, Lane, NoMemory, Steps};
+use awk_lanes::{Arena, Kind, Lane, NoMemory, Steps};
 use bumpalo::collections::into_bump_slice;
 use std::sync::ledger::Ledger;
 
@@ -54,4 +57,41 @@ pub(crate) fn move_past<'a, const W: usize, L: Ledger>(
     let (places, _) = places.bulk(steps).as_chunks::<8>();
     let moved = groups_past(groups, places, distance, arena)?;
     Ok(Lane::new(lane.kind(), moved.as_flattened()))
+}
+
+/// A place in four bytes.
+fn narrow(bytes: [u8; 8]) -> [u8; 4]
+    requires positive { pos 0 ≤ℤ eight bytes }
+    requires few { nat_of (eight bytes) < 2 ^ 32 }
+    ensures { result ≡ to_le_bytes w32 (nat_of (eight bytes)) }
+{
+    (place_of(bytes) as u32).to_le_bytes()
+}
+
+/// Places in four bytes each.
+fn narrow_groups<'a>(places: &[[u8; 8]], arena: &'a Arena) -> Result<&'a [[u8; 4]], NoMemory>
+    requires places { ArePlacesPast 0 (2 ^ 32) places.now }
+    ensures { IfOk result (λ r. r.now ≡ narrow_groups_of places.now) }
+{
+    let mut moved = Vec::with_capacity(arena, places.len())?;
+    for i in 0..places.len() {
+        moved.push_reserved(narrow(places[i]));
+    }
+    Ok(into_bump_slice(moved))
+}
+
+/// Places below 2^32 in 32 bits.
+pub(crate) fn narrowed<'a, L: Ledger>(
+    places: &Lane,
+    arena: &'a Arena,
+    steps: &mut Steps<L>,
+) -> Result<Lane<'a>, NoMemory>
+    requires index { places.now.kind ≡ Kind.I64 }
+    requires few { IsIndex places.now (2 ^ 32) }
+    ensures lane { IfOk result (λ r. r ≡ lane_of Kind.U32 (size_of places.now) (at places.now)) }
+    ensures cost { steps.new ≡ steps.old + size_of places.now }
+{
+    let (places, _) = places.bulk(steps).as_chunks::<8>();
+    let groups = narrow_groups(places, arena)?;
+    Ok(Lane::new(Kind::U32, groups.as_flattened()))
 }

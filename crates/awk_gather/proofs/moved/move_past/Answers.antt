@@ -12,9 +12,9 @@ pub groups_past-requires : goal.groups_past-requires
 groups_past-requires g c =
     let small : width c.args.lane.now.kind ≤ 8 = width-small c.args.lane.now.kind in
     let groups : length c.as_chunks.result.0.now ≡ size_of c.args.lane.now =
-        ap length {y = first_chunks g.row.W (length c.bulk.result.now / g.row.W) c.bulk.result.now} c.as_chunks.ensures.front
-        ∙ ap (λ w. length (first_chunks w (length c.bulk.result.now / w) c.bulk.result.now)) (sym c.requires.width)
-        ∙ length-groups c.args.lane.now c.bulk.result.now c.bulk.ensures.size c.bulk.ensures.numbers in
+    ap length {y = first_chunks g.row.W (length c.bulk.result.now / g.row.W) c.bulk.result.now} c.as_chunks.ensures.front
+    ∙ ap (λ w. length (first_chunks w (length c.bulk.result.now / w) c.bulk.result.now)) (sym c.requires.width)
+    ∙ length-groups c.args.lane.now c.bulk.result.now c.bulk.ensures.size c.bulk.ensures.numbers in
     let past = places_past c.args.places.now c.bulk-2.result.now (size_of c.args.lane.now) c.args.distance c.requires.index c.bulk-2.ensures.size c.bulk-2.ensures.numbers c.requires.places in
     (omega (arith, c.requires.width), rw (groups, c.as_chunks-2.ensures.front) past)
 
