@@ -13,6 +13,7 @@ pub mod PartLimits
 pub mod UnionItems
 pub mod OpenedKinds
 pub mod OpenedArrays
+pub mod WholeLanes
 pub mod PlainNodes
 pub mod SpreadUnions
 pub mod ItemShapes

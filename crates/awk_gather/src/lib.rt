@@ -18,6 +18,7 @@ mod spread;
 mod tagged;
 mod taken;
 mod unions;
+mod whole;
 
 pub use arrays::{gather, gather_opt};
 pub use joining::{Joined, join_lists};
