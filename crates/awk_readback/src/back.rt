@@ -73,7 +73,15 @@ pub fn load_packed<'a, N: Kernels, L: Ledger>(
     ensures back { GivesBack (packed_of packed.now) store.old.texts result }
     ensures texts { store.new.texts ≡ store.old.texts }
 {
-    load(alloc, &packed.form, packed.length, store, kernels, arena, steps)
+    load(
+        alloc,
+        &packed.form,
+        packed.length,
+        store,
+        kernels,
+        arena,
+        steps,
+    )
 }
 
 /// Packs an array, loads what was packed from a store, and packs that again.
@@ -99,5 +107,9 @@ pub fn there_and_back<'a, N: Kernels, L: Ledger>(
     let first = pack(alloc, x, arena, steps)?;
     let array = load_packed(alloc, &first, store, kernels, arena, steps)?;
     let again = pack(alloc, &array, arena, steps)?;
-    Ok(Back { first, array, again })
+    Ok(Back {
+        first,
+        array,
+        again,
+    })
 }
