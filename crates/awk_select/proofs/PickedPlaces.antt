@@ -2,7 +2,7 @@
 use Rattle.std.proofs.Common.{◌≡◌, ℕ, zero, suc, ◌+◌, ◌-◌, ◌<◌, ◌≤◌, List, [], ◌∷◌, ◌++◌, map}
 use Rattle.std.proofs.Common.{length, get_or, take, arith, refl, ap, ap₂, sym, ◌∙◌, subst}
 use Rattle.std.proofs.Common.{true≢false, ltb-true}
-use Rattle.std.specs.Prelude.{ℤ, pos, negsuc, ◌<ℤ◌, ◌≤ℤ◌, Bool, true, false, ◌||◌, nat_lt, Option}
+use Rattle.std.specs.Prelude.{ℤ, pos, negsuc, ◌<ℤ◌, Bool, true, false, ◌||◌, nat_lt, Option}
 use Rattle.std.specs.Prelude.{Some, None, is_none, if◌then◌else◌}
 use Rattle.std.specs.List.{range_with_len, flat_map, list_any, AllByRecursion}
 use Rattle.std.proofs.lemmas.Int.{ints}
