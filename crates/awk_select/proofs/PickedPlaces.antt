@@ -315,15 +315,6 @@ take-lane n ix p e =
 
 -- ---- what is outside
 
-pub any-at : (p : Value → Bool) (vs : List Value) (i : ℕ) → i < length vs → p (get_or vs i null) ≡ true → list_any p vs ≡ true
-any-at p [] i l h = absurd (omega arith)
-any-at p (v ∷ vs) zero l h = ap (λ b. b || list_any p vs) h
-any-at p (v ∷ vs) (suc i) l h = ap (λ b. p v || b) (any-at p vs i (omega arith) h) ∙ or-true (p v)
-  where
-    or-true : (b : Bool) → (b || true) ≡ true
-    or-true true = refl
-    or-true false = refl
-
 -- one item more, and still none
 pub none-more : (p : Value → Bool) (vs : List Value) (i : ℕ) → i < length vs → list_any p (take i vs) ≡ false → p (get_or vs i null) ≡ false → list_any p (take (i + 1) vs) ≡ false
 none-more p vs i l h g = list_any_more p vs i null l ∙ ap₂ (λ a b. a || b) h g
