@@ -16,3 +16,5 @@ pub mod BufferTexts
 pub mod OwnKeys
 pub mod BufferKeys
 pub mod PackedLines
+pub mod PackedLanes
+pub mod BufferCosts
