@@ -1,5 +1,5 @@
 -- The whole of what is packed.
-use Rattle.std.proofs.Common.{◌≡◌, ◌<◌, ◌≤◌, ◌^◌, ◌||◌, ℕ, Bool, true, false, List, [], length, Option, Some, None, Result, Ok, Err, refl, sym, ap, ap₂, ◌∙◌, arith}
+use Rattle.std.proofs.Common.{◌≡◌, ◌≤◌, ◌||◌, ℕ, Bool, true, false, List, [], length, Option, Some, None, Ok, Err, refl, sym, ap, ap₂, ◌∙◌}
 use Rattle.std.specs.Prelude.{nat_lt, if◌then◌else◌}
 use Rattle.std.proofs.lemmas.Bool.{ltb-false}
 use Rattle.awk_types.specs.DataType.{DataType, nodes, depth}
@@ -10,8 +10,8 @@ use Rattle.awk_layout.specs.Layout.{Layout}
 use Rattle.awk_layout.specs.Typing.{array_type, array_items}
 use Rattle.awk_layout.specs.Valid.{len}
 use Rattle.awk_form.specs.FormTree.{FormTree}
-use Rattle.awk_gather.proofs.GatheredArrays.{length-array_items}
-use Rattle.awk_pack.specs.Canon.{Pack, canon, packed, is_too_large}
+use Rattle.awk_layout.proofs.ArrayItems.{length-array_items}
+use Rattle.awk_pack.specs.Canon.{canon, packed, is_too_large}
 use Rattle.awk_pack.specs.Packing.{IsPut}
 use Rattle.awk_pack.specs.PackedForm.{packed_form}
 use Rattle.awk_pack.specs.declared.packed.PackFault.TheVariants.{Size}

@@ -1,5 +1,5 @@
 -- What is left after the lanes of an opened column are put, by its kind.
-use Rattle.std.proofs.Common.{◌≡◌, ◌<◌, ℕ, zero, suc, ◌+◌, Bool, true, false, ◌||◌, List, [], ◌∷◌, ◌++◌, length, map, Option, Some, None, refl, sym, ap, ap₂, ◌∙◌, subst, append_assoc, arith}
+use Rattle.std.proofs.Common.{◌≡◌, ◌≤◌, ℕ, suc, true, false, ◌||◌, List, [], ◌∷◌, ◌++◌, length, map, Option, Some, None, refl, sym, ap, ap₂, ◌∙◌, subst, append_assoc, arith}
 use Rattle.std.specs.Prelude.{nat_lt, filter}
 use Rattle.std.specs.List.{flat_map, list_any}
 use Rattle.std.proofs.lemmas.List.{append-nil}
@@ -10,17 +10,21 @@ use Rattle.awk_lanes.specs.declared.kind.Kind.TheVariants as kind
 use Rattle.awk_layout.specs.Kinds.{primitive_of}
 use Rattle.awk_layout.specs.Layout.{Layout}
 use Rattle.awk_layout.specs.Typing.{array_type, array_items}
+use Rattle.awk_layout.specs.Valid.{len}
 use Rattle.awk_gather.specs.Columns.{joined_items, offsets, is_present}
-use Rattle.awk_gather.specs.InOrder.{AreParts, AreAlternatives}
+use Rattle.awk_gather.specs.InOrder.{IsInOrder, AreParts, AreAlternatives}
+use Rattle.awk_gather.specs.Opened.{IsOpened}
+use Rattle.awk_gather.specs.declared.opening.Opened.{Opened}
 use Rattle.awk_gather.specs.Joined.{list_values}
 use Rattle.awk_gather.specs.declared.opening.Opened.TheVariants.{Empty, Leaf, Items, Row}
 use Rattle.awk_gather.specs.declared.opening.Opened.TheVariants.{Option as Optional, Union}
 use Rattle.awk_pack.specs.Columns.{placed, placed_fields, placed_alternatives, at_node}
 use Rattle.awk_pack.specs.Lanes.{lane_of, node_lanes}
-use Rattle.awk_pack.specs.Canon.{column_limit, is_too_long, is_too_large, lanes_of}
+use Rattle.awk_pack.specs.Canon.{column_limit, is_too_long, lanes_of}
 use Rattle.awk_pack.specs.PackedForm.{all_nodes}
 use Rattle.awk_pack.specs.Packing.{is_regular, IsColumn, IsLeft, leaf_lane, IsJoined, are_too_large, placed_of}
 use Rattle.awk_pack.proofs.FormLaws.{sum-nodes_each}
+use Rattle.awk_pack.proofs.LargeLaws.{few_items}
 use Rattle.awk_pack.proofs.LeafLanes.{leaf-lane}
 
 -- the lanes of the node are put, and its contents hold the columns of the nodes below
@@ -41,6 +45,15 @@ left t vs old ys new h =
       fits = sym (ap (list_any is_too_long) h.columns ∙ ap (λ b. b || are_too_large ys) h.few);
       count = omega (arith, h.count);
     }
+
+-- ---- an opened array
+
+pub column-is : (x : Layout) (r s : Opened) → r ≡ s → IsOpened x r → IsInOrder (array_items x) r → len x ≤ column_limit → IsColumn (array_type x) (array_items x) s
+column-is x r s is opened order l = subst (λ s. IsColumn (array_type x) (array_items x) s) is (record {
+  kind = opened.kind;
+  order = order;
+  few = few_items x l;
+})
 
 -- ---- no contents
 

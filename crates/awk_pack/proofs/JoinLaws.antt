@@ -1,5 +1,5 @@
 -- What joining lists tells, as packing needs it.
-use Rattle.std.proofs.Common.{◌≡◌, ◌≢◌, ℕ, Bool, true, false, List, length, Option, Some, None, Result, Ok, Err, refl, sym, ap, ap₂, ◌∙◌}
+use Rattle.std.proofs.Common.{◌≡◌, ◌≢◌, Bool, true, false, List, length, Some, None, Result, Ok, Err, refl, sym}
 use Rattle.std.specs.Prelude.{nat_lt, if◌then◌else◌}
 use Rattle.awk_types.specs.DataType.{DataType}
 use Rattle.awk_types.specs.Datum.{Datum, arr}
@@ -11,13 +11,13 @@ use Rattle.awk_types.specs.declared.fault.Fault.TheVariants.{NoMemory, Size}
 use Rattle.awk_types.proofs.RefusalLaws.{refused_or-Ok}
 use Rattle.awk_lanes.specs.Column.{Column}
 use Rattle.awk_layout.specs.Layout.{Layout}
-use Rattle.awk_layout.specs.Typing.{array_type, array_items, array_datum}
+use Rattle.awk_layout.specs.Typing.{array_type, array_datum}
 use Rattle.awk_lanes.specs.declared.kind.Kind.TheVariants as kind
 use Rattle.awk_gather.specs.Columns.{joined_items, offsets}
 use Rattle.awk_gather.specs.Counted.{item_limit}
 use Rattle.awk_gather.specs.Joined.{joined_datum, too_many}
 use Rattle.awk_pack.specs.Lanes.{lane_of}
-use Rattle.awk_pack.specs.Packing.{IsJoined, IfSize, fault_of}
+use Rattle.awk_pack.specs.Packing.{IsJoined, OnSize, fault_of}
 
 pub joined-is : (y : Layout) (vs : List Value) (o : Column) (z : Layout) → joined_datum (array_type y) vs ≡ Ok (array_datum z) → o ≡ lane_of kind.I64 (offsets 0 vs) → IsJoined y vs o z
 joined-is y vs o z e l =
@@ -30,6 +30,7 @@ joined-is y vs o z e l =
   where
     typ_part : {t u : DataType} {vs ws : List Value} → arr t vs ≡ arr u ws → t ≡ u
     typ_part e = cc
+
     items_part : {t u : DataType} {vs ws : List Value} → arr t vs ≡ arr u ws → vs ≡ ws
     items_part e = cc
 
@@ -46,6 +47,6 @@ pub joined-large : (t : DataType) (vs : List Value) (e : Fault) → e ≢ NoMemo
 joined-large t vs e h told = told_many (nat_lt item_limit (length (joined_items vs))) (arr t (joined_items vs)) e (told-some e (joined_datum t vs) h told)
 
 -- so `Size` is told exactly then
-pub joined-told : (A : Type 0) (t : DataType) (vs : List Value) (e : Fault) → Told (fault_told e) (joined_datum t vs) → IfSize {A = A} (Err (fault_of e)) (nat_lt item_limit (length (joined_items vs)) ≡ true)
-joined-told A t vs NoMemory told = tt
-joined-told A t vs e told = joined-large t vs e (λ is. absurd (cc)) told
+pub joined-told : (t : DataType) (vs : List Value) (e : Fault) → Told (fault_told e) (joined_datum t vs) → OnSize (fault_of e) (nat_lt item_limit (length (joined_items vs)) ≡ true)
+joined-told t vs NoMemory told = tt
+joined-told t vs e told = joined-large t vs e (λ is. absurd (cc)) told

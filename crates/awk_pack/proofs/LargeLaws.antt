@@ -12,7 +12,7 @@ use Rattle.awk_layout.specs.Valid.{len}
 use Rattle.awk_gather.specs.Columns.{joined_items, is_present}
 use Rattle.awk_gather.specs.Joined.{list_values}
 use Rattle.awk_gather.specs.declared.opening.Opened.TheVariants.{Items}
-use Rattle.awk_gather.proofs.GatheredArrays.{length-array_items}
+use Rattle.awk_layout.proofs.ArrayItems.{length-array_items}
 use Rattle.awk_pack.specs.Columns.{placed_fields, placed_alternatives}
 use Rattle.awk_pack.specs.Canon.{column_limit, is_too_long, is_too_large}
 use Rattle.awk_pack.specs.Packing.{IsColumn}

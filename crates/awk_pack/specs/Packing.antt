@@ -1,5 +1,5 @@
 -- What the steps of packing give: lanes are put behind others, node by node in pre-order.
-use Rattle.std.specs.Prelude.{◌≡◌, ◌<◌, ℕ, Bool, true, false, nat_lt, List, ◌++◌, length, map}
+use Rattle.std.specs.Prelude.{◌≡◌, ◌<◌, Bool, true, false, nat_lt, List, ◌++◌, length, map}
 use Rattle.std.specs.Prelude.{Result, Ok, Err}
 use Rattle.std.specs.List.{flat_map, list_any}
 use Rattle.awk_types.specs.DataType.{DataType, reg, nodes}
@@ -23,10 +23,14 @@ use Rattle.awk_pack.specs.Canon.{column_limit, is_too_long, is_too_large, lanes_
 use Rattle.awk_pack.specs.declared.packed.PackFault.{PackFault}
 use Rattle.awk_pack.specs.declared.packed.PackFault.TheVariants.{Size, NoMemory}
 
+-- what holds where a fault is `Size`
+abbrev pub OnSize : PackFault → Type 0 → Type 0
+OnSize Size P = P
+OnSize NoMemory P = Unit {0}
+
 -- what holds where a call tells `Size`
 abbrev pub IfSize : {A : Type 0} → Result A PackFault → Type 0 → Type 0
-IfSize (Err Size) P = P
-IfSize (Err NoMemory) P = Unit {0}
+IfSize (Err e) P = OnSize e P
 IfSize (Ok a) P = Unit {0}
 
 -- joining lists refuses too many items, or memory is wanting

@@ -12,7 +12,7 @@ ghost use Rattle.awk_pack.specs.Packing.{IsColumn, IsLeft, IfSize, is_regular as
 
 use crate::column::{joined, leaf_lane};
 use crate::packed::PackFault;
-use awk_gather::{Joined, Opened, in_order};
+use awk_gather::{Opened, in_order};
 use awk_lanes::{Arena, Lane, Lanes, Steps};
 use awk_layout::{Array, Arrays};
 use awk_types::{NoMemory, Typ};
@@ -75,12 +75,12 @@ fn list_contents<'a, L: Ledger>(
         (vs : List Value) → IsColumn (typ_of typ.now) vs opened →
         IfSize result (is_too_large (typ_of typ.now) vs ≡ true) }
 {
-    let Joined { offsets, content } = joined(alloc, starts, stops, content, arena, steps)?;
+    let lists = joined(alloc, starts, stops, content, arena, steps)?;
     if is_regular(typ) {
-        return Ok(only(alloc, content)?);
+        return Ok(only(alloc, lists.content)?);
     }
-    lanes.push(offsets)?;
-    Ok(only(alloc, content)?)
+    lanes.push(lists.offsets)?;
+    Ok(only(alloc, lists.content)?)
 }
 
 /// The arrays of the contents of a node, each holding the column of a node below. The lanes of the

@@ -164,12 +164,7 @@ fn option_form(alloc: Global, key: Name, content: Form) -> Result<Form, NoMemory
     })
 }
 
-fn record_form(
-    alloc: Global,
-    key: Name,
-    fields: &Fields,
-    contents: Forms,
-) -> Result<Form, NoMemory>
+fn record_form(alloc: Global, key: Name, fields: &Fields, contents: Forms) -> Result<Form, NoMemory>
     ensures { let names = Some (fields_names (fields_of fields.now)) in
         let forms = forms_from (forms_of contents) in
         IfOk result (λ form. form_of form ≡ tree.row (Some key) names forms) }

@@ -1,6 +1,5 @@
-use Rattle.awk_layout.specs.Typing.{array_type}
 use Rattle.awk_gather.specs.Joined.{list_values}
-use Rattle.awk_pack.proofs.JoinLaws.{joined-is, joined-told}
+use Rattle.awk_pack.proofs.JoinLaws.{joined-is}
 use Rattle.awk_pack.proofs.column.joined.Goals as goal
 
 pub returns-in-Ok-clause-joined : goal.returns-in-Ok-clause-joined

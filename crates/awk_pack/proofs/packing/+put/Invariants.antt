@@ -8,6 +8,6 @@ abbrev pub decreases-put_lanes : goal.decreases-put_lanes
 decreases-put_lanes g l = nodes (array_type l.x.now)
 
 -- the arrays so far are put
-abbrev pub invariant-put_lanes-loop-i : goal.invariant-put_lanes-loop-i
-invariant-put_lanes-loop-i g l =
-    IsLeft (array_type l.fn.x) (array_items l.fn.x) l.fn.lanes (drop l.i l.inner) l.lanes
+abbrev pub invariant-loop-i : goal.invariant-loop-i
+invariant-loop-i g l =
+    IsLeft (array_type l.fn.x) (array_items l.fn.x) l.fn.lanes (drop l.i l.inner-inside.arrays.items) l.lanes
