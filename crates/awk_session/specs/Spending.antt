@@ -12,6 +12,7 @@ use Rattle.awk_eval.specs.Bindings as bindings
 use Rattle.awk_eval.specs.Bindings.{look_up}
 use Rattle.awk_eval.specs.Variables.{Variables}
 use Rattle.awk_eval.specs.Views.{Size, View, view_of, IsWithin, IsArray, IsTaken, OfView, size_of, sizes_of, size_in, size_or_none}
+use Rattle.awk_pack.specs.declared.packed.Packed.{Packed}
 use Rattle.awk_text.specs.Buffers.{numbers_in}
 use Rattle.awk_session.specs.Cost.{form_size, load_cost, text_cost, has_cost, line_cost, line_in, answer_length}
 use Rattle.awk_session.specs.AnswerView.{answer_view}
@@ -116,11 +117,14 @@ abbrev pub Takes : Variables → Option Line → ℕ → ℕ → Type 0
 Takes variables line steps0 steps1 =
     MatchOption line (steps1 ≡ steps0) (λ l. TakesBy variables l steps0 steps1)
 
--- the size of the value that an answer shows, and 0 where it shows none; packed buffers are as wide
--- as they have numbers
+-- packed buffers are as wide as they have numbers
+abbrev pub packed_size : Packed → Size
+packed_size p = record { width = numbers_in p.lanes; height = 0 }
+
+-- the size of what an answer shows, and 0 where it shows nothing
 abbrev pub shown_size : code.Answer → Size
 shown_size (variant.Value d) = size_of d
-shown_size (variant.Packed p) = record { width = numbers_in p.lanes; height = 0 }
+shown_size (variant.Packed p) = packed_size p
 shown_size _ = size_or_none None
 
 -- what putting an answer takes

@@ -8,8 +8,7 @@ ghost use Rattle.awk_pack.specs.Shown.{packed_of};
 ghost use Rattle.awk_session.specs.Answer.{answer_text, datum_text, is_fault};
 ghost use Rattle.awk_session.specs.AnswerView.{answer_view, kind_is_fault, IsAnswer};
 ghost use Rattle.awk_session.specs.Cost.{text_cost};
-ghost use Rattle.awk_session.specs.Spending.{sent_cost};
-ghost use Rattle.awk_text.specs.Buffers.{numbers_in};
+ghost use Rattle.awk_session.specs.Spending.{packed_size, sent_cost};
 ghost use Rattle.awk_text.specs.PackedText.{HasLanes, packed_text};
 ghost use Rattle.awk_eval.specs.Views.{size_of};
 ghost use Rattle.std.specs.Prelude.{OnOk};
@@ -169,6 +168,8 @@ fn write_pack<K: Sink, L: Ledger>(
         (out.old.held ++ (packed_text (packed_of p.now) ++ 10 ∷ [])) result }
     ensures flushes { K.flushes sink.new ≡ K.flushes sink.old }
     ensures cause { HasCause (K.faults sink.old) (K.faults sink.new) result }
+    ensures cost { steps.new ≤ steps.old
+        + text_cost (packed_size p.now) (length (packed_text (packed_of p.now))) }
 {
     write_packed(p, out, sink, steps)?;
     out.put(sink, b"\n")

@@ -11,3 +11,9 @@ returns-in_err-write_packed-clause-bytes g c =
 pub returns-clause-bytes : goal.returns-clause-bytes
 returns-clause-bytes g c =
     goes_to _ (packed_text (packed_of c.args.p.now)) (10 ∷ []) c.in_ok-write_packed.ensures.bytes c.put.ensures.bytes
+
+pub returns-in_err-write_packed-clause-cost : goal.returns-in_err-write_packed-clause-cost
+returns-in_err-write_packed-clause-cost g c = omega (arith, c.write_packed.ensures.cost)
+
+pub returns-clause-cost : goal.returns-clause-cost
+returns-clause-cost g c = omega (arith, c.write_packed.ensures.cost)
