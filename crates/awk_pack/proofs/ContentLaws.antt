@@ -1,5 +1,5 @@
 -- What is left after the lanes of an opened column are put, by its kind.
-use Rattle.std.proofs.Common.{◌≡◌, ◌≤◌, ℕ, suc, true, false, ◌||◌, List, [], ◌∷◌, ◌++◌, length, map, Option, Some, None, refl, sym, ap, ap₂, ◌∙◌, subst, append_assoc, arith}
+use Rattle.std.proofs.Common.{◌≡◌, ◌≤◌, ℕ, suc, false, ◌||◌, List, [], ◌∷◌, ◌++◌, length, map, Option, Some, None, refl, sym, ap, ap₂, ◌∙◌, subst, append_assoc, arith}
 use Rattle.std.specs.Prelude.{nat_lt, filter}
 use Rattle.std.specs.List.{flat_map, list_any}
 use Rattle.std.proofs.lemmas.List.{append-nil}
@@ -16,7 +16,7 @@ use Rattle.awk_gather.specs.InOrder.{IsInOrder, AreParts, AreAlternatives}
 use Rattle.awk_gather.specs.Opened.{IsOpened}
 use Rattle.awk_gather.specs.declared.opening.Opened.{Opened}
 use Rattle.awk_gather.specs.Joined.{list_values}
-use Rattle.awk_gather.specs.declared.opening.Opened.TheVariants.{Empty, Leaf, Items, Row}
+use Rattle.awk_gather.specs.declared.opening.Opened.TheVariants.{Leaf, Items, Row}
 use Rattle.awk_gather.specs.declared.opening.Opened.TheVariants.{Option as Optional, Union}
 use Rattle.awk_pack.specs.Columns.{placed, placed_fields, placed_alternatives, at_node}
 use Rattle.awk_pack.specs.Lanes.{lane_of, node_lanes}
@@ -57,19 +57,6 @@ column-is x r s is opened order l = subst (λ s. IsColumn (array_type x) (array_
 
 -- ---- no contents
 
-own_empty : (vs : List Value) (old : List Column) → nat_lt column_limit (length vs) ≡ false → IsOwn unknown vs old [] old
-own_empty vs old few = record {
-  lanes = sym (append-nil old);
-  columns = refl;
-  count = refl;
-  few = few;
-}
-
-pub left_empty : (t : DataType) (vs : List Value) (old : List Column) (ys : List Layout) → IsColumn t vs Empty → ys ≡ [] → IsLeft t vs old ys old
-left_empty t vs old ys h none =
-    subst (λ ys. IsLeft t vs old ys old) (sym none)
-    (subst (λ t. IsLeft t vs old [] old) (sym h.kind) (left unknown vs old [] old (own_empty vs old h.few)))
-
 pub left_leaf : (t : DataType) (vs : List Value) (old new : List Column) (ys : List Layout) (c r : Column) → IsColumn t vs (Leaf c) → r ≡ leaf_lane c → new ≡ old ++ r ∷ [] → ys ≡ [] → IsLeft t vs old ys new
 left_leaf t vs old new ys c r h l e none =
     subst (λ ys. IsLeft t vs old ys new) (sym none)
@@ -96,17 +83,6 @@ own_var u vs old new s e o y z h j m =
       few = h.few;
     }
 
-own_reg : (u : DataType) (n : ℕ) (vs : List Value) (old : List Column) (s e o : Column) (y z : Layout) → IsColumn (reg n u) vs (Items s e y) → IsJoined y (list_values s e y) o z → IsOwn (reg n u) vs old (z ∷ []) old
-own_reg u n vs old s e o y z h j =
-    let typ : array_type z ≡ u = j.typ ∙ sym h.kind in
-    let items : array_items z ≡ joined_items vs = j.items ∙ ap joined_items (sym h.order) in
-    record {
-      lanes = sym (append-nil old);
-      columns = ap (λ ps. at_node (reg n u) vs ∷ ps) (one u (joined_items vs) z typ items);
-      count = omega (arith, ap nodes typ);
-      few = h.few;
-    }
-
 -- lists that are not of one length have offsets
 offsets_put : (t : DataType) (vs : List Value) (old new : List Column) (s e o : Column) (y z : Layout) → is_regular t ≡ false → IsColumn t vs (Items s e y) → IsJoined y (list_values s e y) o z → new ≡ old ++ o ∷ [] → IsLeft t vs old (z ∷ []) new
 offsets_put (var u) vs old new s e o y z r h j m = left (var u) vs old (z ∷ []) new (own_var u vs old new s e o y z h j m)
@@ -118,21 +94,8 @@ offsets_put (tup ts) vs old new s e o y z r h j m = absurd h.kind
 offsets_put (opt u) vs old new s e o y z r h j m = absurd h.kind
 offsets_put (uni ts) vs old new s e o y z r h j m = absurd h.kind
 
-none_put : (t : DataType) (vs : List Value) (old : List Column) (s e o : Column) (y z : Layout) → is_regular t ≡ true → IsColumn t vs (Items s e y) → IsJoined y (list_values s e y) o z → IsLeft t vs old (z ∷ []) old
-none_put (reg n u) vs old s e o y z r h j = left (reg n u) vs old (z ∷ []) old (own_reg u n vs old s e o y z h j)
-none_put (var u) vs old s e o y z r h j = absurd (cc)
-none_put unknown vs old s e o y z r h j = absurd h.kind
-none_put (leaf q) vs old s e o y z r h j = absurd h.kind
-none_put (rec ns ts) vs old s e o y z r h j = absurd h.kind
-none_put (tup ts) vs old s e o y z r h j = absurd h.kind
-none_put (opt u) vs old s e o y z r h j = absurd h.kind
-none_put (uni ts) vs old s e o y z r h j = absurd h.kind
-
 pub left_var : (t : DataType) (vs : List Value) (old new : List Column) (s e o : Column) (y z : Layout) (ys : List Layout) → is_regular t ≡ false → IsJoined y (list_values s e y) o z → new ≡ old ++ o ∷ [] → ys ≡ z ∷ [] → IsColumn t vs (Items s e y) → IsLeft t vs old ys new
 left_var t vs old new s e o y z ys r j m is h = subst (λ ys. IsLeft t vs old ys new) (sym is) (offsets_put t vs old new s e o y z r h j m)
-
-pub left_reg : (t : DataType) (vs : List Value) (old : List Column) (s e o : Column) (y z : Layout) (ys : List Layout) → is_regular t ≡ true → IsJoined y (list_values s e y) o z → ys ≡ z ∷ [] → IsColumn t vs (Items s e y) → IsLeft t vs old ys old
-left_reg t vs old s e o y z ys r j is h = subst (λ ys. IsLeft t vs old ys old) (sym is) (none_put t vs old s e o y z r h j)
 
 -- ---- options
 

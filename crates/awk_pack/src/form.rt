@@ -128,7 +128,8 @@ fn leaf_form(alloc: Global, key: Name, prim: Prim) -> Form
 }
 
 fn list_form(alloc: Global, key: Name, content: Form) -> Result<Form, NoMemory>
-    ensures { IfOk result (λ form. form_of form ≡ tree.list_offset (Some key) I64 (form_of content)) }
+    ensures { let form_of_lists = tree.list_offset (Some key) I64 (form_of content) in
+        IfOk result (λ form. form_of form ≡ form_of_lists) }
 {
     Ok(Form {
         key: Some(key),
