@@ -1,5 +1,5 @@
 -- How many numbers the lanes before a place have.
-use Rattle.std.proofs.Common.{◌≡◌, ◌<◌, ◌≤◌, ℕ, zero, suc, ◌+◌, List, [], ◌∷◌, length, get_or, slice_get, Some, arith, ap, sym, ◌∙◌}
+use Rattle.std.proofs.Common.{◌≡◌, ◌<◌, ◌≤◌, ℕ, zero, suc, ◌+◌, List, [], ◌∷◌, length, get_or, slice_get, Some, arith, ap, sym, subst, ◌∙◌}
 use Rattle.std.proofs.lemmas.Option.{get_or_from_slice_get}
 use Rattle.awk_lanes.specs.Column.{Column}
 use Rattle.awk_lanes.specs.Places.{size_of}
@@ -26,7 +26,12 @@ numbers_before-all zero cs = omega arith
 numbers_before-all (suc n) [] = omega arith
 numbers_before-all (suc n) (c ∷ cs) = omega (arith, numbers_before-all n cs)
 
+grows : (n : ℕ) (cs : List Column) → numbers_before n cs ≤ numbers_before (suc n) cs
+grows zero cs = omega arith
+grows (suc n) [] = omega arith
+grows (suc n) (c ∷ cs) = omega (arith, grows n cs)
+
 pub numbers_before-grows : (n : ℕ) (cs : List Column) → numbers_before n cs ≤ numbers_before (n + 1) cs
-numbers_before-grows zero cs = omega arith
-numbers_before-grows (suc n) [] = omega arith
-numbers_before-grows (suc n) (c ∷ cs) = omega (arith, numbers_before-grows n cs)
+numbers_before-grows n cs =
+    let one : n + 1 ≡ suc n = omega arith in
+    subst (λ k. numbers_before n cs ≤ numbers_before k cs) (sym one) (grows n cs)
