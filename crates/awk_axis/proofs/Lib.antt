@@ -7,8 +7,6 @@ pub mod LiftedLaws
 pub mod LiftLaws
 pub mod ArrayLaws
 pub mod ArrayKinds
-pub mod Spans
-pub mod Offsets
 pub mod Falls
 pub mod KindLaws
 pub mod IfOk

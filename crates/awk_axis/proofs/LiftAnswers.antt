@@ -1,5 +1,6 @@
 -- Which lists a call reaches, by its axis and by its datum.
-use Rattle.std.specs.Prelude.{◌≡◌, ℕ, zero, suc, ◌-◌, ◌<◌, refl, List, ℤ, pos, negsuc, ◌<ℤ◌, Result, Err, true, false}
+use Rattle.std.specs.Prelude.{◌≡◌, ℕ, zero, suc, ◌-◌, ◌<◌, refl, List, ℤ, pos, negsuc, ◌<ℤ◌, Result}
+use Rattle.std.specs.Prelude.{Err, true, false}
 use Rattle.std.proofs.Common.{arith, ap, ◌∙◌, sym, subst}
 use Rattle.std.proofs.lemmas.Int.{ints}
 use Rattle.awk_types.specs.DataType.{DataType}
@@ -16,11 +17,13 @@ use Rattle.awk_axis.specs.ListFunction.{ListFunction}
 use Rattle.awk_axis.specs.Lifting.{on_whole, on_items, on_one, lift, deep}
 use Rattle.awk_axis.specs.Reach.{here}
 
-pub lift_negative : (f : ListFunction) (a : ℤ) (d : Datum) → a <ℤ pos 0 → lift f a d ≡ Err fault.Axis
+pub lift_negative : (f : ListFunction) (a : ℤ) (d : Datum) → a <ℤ pos 0
+    → lift f a d ≡ Err fault.Axis
 lift_negative f (pos n) d h = absurd (omega (arith, ints, h))
 lift_negative f (negsuc n) d h = refl
 
-one_by : (f : ListFunction) (n : ℕ) (t : DataType) (v : Value) → lift f (pos n) (one t v) ≡ on_one f (Axis n) t v
+one_by : (f : ListFunction) (n : ℕ) (t : DataType) (v : Value)
+    → lift f (pos n) (one t v) ≡ on_one f (Axis n) t v
 one_by f zero t v = refl
 one_by f (suc n) t v = refl
 
@@ -35,7 +38,8 @@ lift_whole f n t vs e = ap (λ m. lift f (pos m) (arr t vs)) e
 pub lift_items : (f : ListFunction) (n m : ℕ) (t : DataType) (vs : List Value) → 0 < n → m ≡ n - 1
     → lift f (pos n) (arr t vs) ≡ on_items f (Axis m) t vs
 lift_items f zero m t vs p e = absurd (omega (arith, p))
-lift_items f (suc n) m t vs p e = let g : n ≡ m = omega (arith, e) in ap (λ k. on_items f (Axis k) t vs) g
+lift_items f (suc n) m t vs p e = let g : n ≡ m = omega (arith, e) in
+    ap (λ k. on_items f (Axis k) t vs) g
 
 pub deep_whole : (f : ListFunction) (t : DataType) (vs : List Value) → here Innermost t ≡ true
     → deep f (arr t vs) ≡ on_whole f t vs

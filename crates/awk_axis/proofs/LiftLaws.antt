@@ -1,14 +1,22 @@
--- What a function applied at an axis gives for lists, options, rows and unions, from what it gives for their contents.
-use Rattle.std.specs.Prelude.{◌≡◌, ℕ, zero, suc, ◌+◌, ◌-◌, ◌*◌, ◌==◌, ◌<◌, ◌≤◌, ◌^◌, refl, Bool, true, false, List, [], ◌∷◌, ◌++◌, map, length, Option, Some, None, if◌then◌else◌}
+-- What a function applied at an axis gives for lists, options, rows and unions, from what it gives
+-- for their contents.
+use Rattle.std.specs.Prelude.{◌≡◌, ℕ, zero, suc, ◌+◌, ◌-◌, ◌*◌, ◌==◌, ◌<◌, ◌≤◌, ◌^◌, refl, Bool}
+use Rattle.std.specs.Prelude.{true, false, List, [], ◌∷◌, ◌++◌, map, length, Option, Some, None}
+use Rattle.std.specs.Prelude.{if◌then◌else◌}
 use Rattle.std.proofs.Common.{arith, ap, sym, ◌∙◌, add-one}
 use Rattle.std.specs.List.{range_with_len, flat_map}
-use Rattle.awk_types.specs.DataType.{Name, DataType, DataTypes, unknown, leaf, var, reg, rec, tup, opt, uni, types_from, row_type}
-use Rattle.awk_types.specs.Value.{Value, Values, null, list, row, alt, no_values, value, value_list, values_from}
-use Rattle.awk_types.specs.Simple.{simple, simples, simple_value, simple_values, in_list, in_row, in_option, in_alternative, option_of, union_of, union_value, values_by, value_by}
+use Rattle.awk_types.specs.DataType.{Name, DataType, DataTypes, unknown, leaf, var, reg, rec, tup}
+use Rattle.awk_types.specs.DataType.{opt, uni, types_from, row_type}
+use Rattle.awk_types.specs.Value.{Value, Values, null, list, row, alt, no_values, value, value_list}
+use Rattle.awk_types.specs.Value.{values_from}
+use Rattle.awk_types.specs.Simple.{simple, simples, simple_value, simple_values, in_list, in_row}
+use Rattle.awk_types.specs.Simple.{in_option, in_alternative, option_of, union_of, union_value}
+use Rattle.awk_types.specs.Simple.{values_by, value_by}
 use Rattle.awk_types.proofs.Trees.{values_from-list, value_list-from}
 use Rattle.awk_lanes.specs.Column.{Column}
 use Rattle.awk_lanes.specs.Places.{size_of, at, place_at, option_place_at, IsOptionalIndex}
-use Rattle.awk_layout.specs.Layout.{Layout, Layouts, layouts_from, count, empty, flat, regular, lists, offset_lists, rows, optional, union}
+use Rattle.awk_layout.specs.Layout.{Layout, Layouts, layouts_from, count, empty, flat, regular}
+use Rattle.awk_layout.specs.Layout.{lists, offset_lists, rows, optional, union}
 use Rattle.awk_layout.specs.Valid.{len, len_of, IsValid, AllValid, AllReach, IsUnion}
 use Rattle.awk_layout.specs.Item.{item, item_of, items_across, run, at_option}
 use Rattle.awk_layout.specs.Typing.{layout_type, layout_types, array_type, array_items}
@@ -20,17 +28,24 @@ use Rattle.awk_axis.specs.Reach.{here, inner, passes_rows}
 use Rattle.awk_axis.specs.Causes.{first_spoil}
 use Rattle.awk_axis.specs.Columns.{present_values, lists_among}
 use Rattle.awk_gather.specs.Columns.{joined_items}
-use Rattle.awk_axis.specs.ListFunction.{Class, Giving, ListFunction, list_type, given_type, given_value, given_class}
+use Rattle.awk_axis.specs.ListFunction.{Class, Giving, ListFunction, list_type, given_type}
+use Rattle.awk_axis.specs.ListFunction.{given_value, given_class}
 use Rattle.awk_axis.specs.ListFunction as giving
-use Rattle.awk_axis.specs.Lift.{lifted_type, lifted_types, lifted_value, lifted_values, refusal_at, refusal_among, on_list, nested}
-use Rattle.awk_axis.specs.Spoils.{spoil_at, spoils_at, spoil_inside, spoil_across, spoil_among, too_many}
+use Rattle.awk_axis.specs.Lift.{lifted_type, lifted_types, lifted_value, lifted_values, refusal_at}
+use Rattle.awk_axis.specs.Lift.{refusal_among, on_list, nested}
+use Rattle.awk_axis.specs.Spoils.{spoil_at, spoils_at, spoil_inside, spoil_across, spoil_among}
+use Rattle.awk_axis.specs.Spoils.{too_many}
 use Rattle.awk_gather.specs.Counted.{item_limit}
-use Rattle.awk_axis.specs.Opened.{items_at, all_items_at, across, item_among, AllOfLen, AreOfClass, AreLists, OpensLists, OpensOption, OpensRow, OpensUnion, OpensNothing}
+use Rattle.awk_axis.specs.Opened.{items_at, all_items_at, across, item_among, AllOfLen, AreOfClass}
+use Rattle.awk_axis.specs.Opened.{AreLists, OpensLists, OpensOption, OpensRow, OpensUnion}
+use Rattle.awk_axis.specs.Opened.{OpensNothing}
 use Rattle.awk_gather.specs.InOrder.{AreParts, AreAlternatives}
 use Rattle.awk_gather.specs.Arrays.{array_item}
 use Rattle.awk_axis.specs.Joined.{AreOffsets, JoinsLists}
-use Rattle.awk_axis.specs.Mapped.{IsColumn, IsMapped, AreEven, AreGiven, GivesLists, GivesSingles, list_layout, spoil_of_all, AreMapped}
-use Rattle.awk_axis.proofs.ArrayLaws.{simple_null, in_option_same, run_in_list, run_map, run_same, option_item, lists-inner, lists-among}
+use Rattle.awk_axis.specs.Mapped.{IsColumn, IsMapped, AreEven, AreGiven, GivesLists, GivesSingles}
+use Rattle.awk_axis.specs.Mapped.{list_layout, spoil_of_all, AreMapped}
+use Rattle.awk_axis.proofs.ArrayLaws.{simple_null, in_option_same, run_in_list, run_map, run_same}
+use Rattle.awk_axis.proofs.ArrayLaws.{option_item, lists-inner, lists-among}
 
 same_branches : {X : Type 0} (b : Bool) (x y : X) → x ≡ y → (if b then x else y) ≡ y
 same_branches true x y e = e
@@ -49,52 +64,70 @@ lifted_null g k (uni ts) = refl
 
 -- ---- options
 
-pub option_column : (u : DataType) (g : Value → Value) (j : Column) (c x y : Layout) → g null ≡ null → OpensOption j c x → IsMapped u g c y → IsMapped (opt u) (in_option g) x (optional j y)
+pub option_column : (u : DataType) (g : Value → Value) (j : Column) (c x y : Layout) → g null ≡ null
+    → OpensOption j c x → IsMapped u g c y → IsMapped (opt u) (in_option g) x (optional j y)
 option_column u g j c x y gn o m = record {
   valid = (o.fits, rw m.size o.index, m.valid);
   size = o.size;
   typ = ap option_of m.typ;
   items = λ i p.
-      option_item (at j i) (len c) (o.index.below i (omega (arith, p, o.size))) (simple_value (layout_type y)) (item y) (simple_value u) g (array_item c) (simple_null (layout_type y)) (simple_null u) gn m.items
+      option_item (at j i) (len c) (o.index.below i (omega (arith, p, o.size)))
+      (simple_value (layout_type y)) (item y) (simple_value u) g (array_item c)
+      (simple_null (layout_type y)) (simple_null u) gn m.items
       ∙ ap (λ v. in_option (simple_value u) (in_option g v)) (sym (o.items i p));
 }
 
 -- ---- lists
 
-pub simple-list : (class : Class) (t : DataType) → simple (list_type class t) ≡ list_type class (simple t)
+pub simple-list : (class : Class) (t : DataType)
+    → simple (list_type class t) ≡ list_type class (simple t)
 simple-list None t = refl
 simple-list (Some n) t = refl
 
-pub simple_value-list : (class : Class) (t : DataType) (v : Value) → simple_value (list_type class t) v ≡ in_list (simple_value t) v
+pub simple_value-list : (class : Class) (t : DataType) (v : Value)
+    → simple_value (list_type class t) v ≡ in_list (simple_value t) v
 simple_value-list None t v = refl
 simple_value-list (Some n) t v = refl
 
-pub array_type-list : (class : Class) (n : ℕ) (o : Column) (z : Layout) → array_type (list_layout class n o z) ≡ list_type class (array_type z)
+pub array_type-list : (class : Class) (n : ℕ) (o : Column) (z : Layout)
+    → array_type (list_layout class n o z) ≡ list_type class (array_type z)
 array_type-list None n o z = refl
 array_type-list (Some m) n o z = refl
 
-pub len-list : (class : Class) (n : ℕ) (o : Column) (z : Layout) → size_of o ≡ n + 1 → len (list_layout class n o z) ≡ n
+pub len-list : (class : Class) (n : ℕ) (o : Column) (z : Layout) → size_of o ≡ n + 1
+    → len (list_layout class n o z) ≡ n
 len-list None n o z e = omega (arith, e)
 len-list (Some m) n o z e = refl
 
-pub valid-list : (class : Class) (n : ℕ) (o : Column) (z : Layout) → AreOffsets o n (len z) → AreEven class o n → IsValid z → IsValid (list_layout class n o z)
+pub valid-list : (class : Class) (n : ℕ) (o : Column) (z : Layout) → AreOffsets o n (len z)
+    → AreEven class o n → IsValid z → IsValid (list_layout class n o z)
 valid-list None n o z a e v = (a.fits, a.offsets, v)
-valid-list (Some m) n o z a e v = (omega (arith, a.fits, a.size), omega (arith, e n (omega arith), a.last), v)
+valid-list (Some m) n o z a e v = (
+  omega (arith, a.fits, a.size),
+  omega (arith, e n (omega arith), a.last),
+  v,
+)
 
 -- the list at a place of lists over a content
-pub item-list : (class : Class) (n : ℕ) (o : Column) (z : Layout) → AreEven class o n → (i : ℕ) → i < n → array_item (list_layout class n o z) i ≡ list (run (array_item z) (place_at o i) (place_at o (i + 1) - place_at o i))
-item-list None n o z e i p = run_in_list (simple_value (layout_type z)) (item z) (place_at o i) (place_at o (i + 1) - place_at o i)
+pub item-list : (class : Class) (n : ℕ) (o : Column) (z : Layout) → AreEven class o n → (i : ℕ)
+    → i < n → array_item (list_layout class n o z) i ≡ list
+    (run (array_item z) (place_at o i) (place_at o (i + 1) - place_at o i))
+item-list None n o z e i p = run_in_list (simple_value (layout_type z)) (item z) (place_at o i)
+    (place_at o (i + 1) - place_at o i)
 item-list (Some m) n o z e i p =
     let start : place_at o i ≡ i * m = e i (omega (arith, p)) in
     let next : place_at o (i + 1) ≡ (i + 1) * m = e (i + 1) (omega (arith, p)) in
-    let size : place_at o (i + 1) - place_at o i ≡ m = omega (arith, start, next, distributes i m) in
+    let size : place_at o (i + 1) - place_at o i ≡ m =
+    omega (arith, start, next, distributes i m) in
     run_in_list (simple_value (layout_type z)) (item z) (i * m) m
-    ∙ sym (ap (λ a. list (run (array_item z) a (place_at o (i + 1) - place_at o i))) start ∙ ap (λ n. list (run (array_item z) (i * m) n)) size)
+    ∙ sym (ap (λ a. list (run (array_item z) a (place_at o (i + 1) - place_at o i))) start
+    ∙ ap (λ n. list (run (array_item z) (i * m) n)) size)
   where
     distributes : (i m : ℕ) → (i + 1) * m ≡ i * m + m
     distributes i m = grind arith
 
-pub joined_even : (class : Class) (s t : Column) (y : Layout) (o : Column) (z : Layout) → AreOfClass class s t → JoinsLists s t y o z → AreEven class o (size_of s)
+pub joined_even : (class : Class) (s t : Column) (y : Layout) (o : Column) (z : Layout)
+    → AreOfClass class s t → JoinsLists s t y o z → AreEven class o (size_of s)
 joined_even None s t y o z c j = tt
 joined_even (Some m) s t y o z c j = go
   where
@@ -102,216 +135,305 @@ joined_even (Some m) s t y o z c j = go
     go zero p = omega (arith, j.offsets.first)
     go (suc i) p =
         let here : place_at o i ≡ i * m = go i (omega (arith, p)) in
-        let grown : place_at o (i + 1) ≡ place_at o i + (place_at t i - place_at s i) = j.lengths i (omega (arith, p)) in
+        let grown : place_at o (i + 1) ≡ place_at o i + (place_at t i - place_at s i) =
+        j.lengths i (omega (arith, p)) in
         let size : place_at t i - place_at s i ≡ m = c i (omega (arith, p)) in
         let next : suc i * m ≡ i * m + m = grind arith in
         let all : place_at o (i + 1) ≡ suc i * m = omega (arith, here, grown, size, next) in
         rw add-one at all
 
 -- lists above the axis: their items, each by the function
-pub lists_column : (class : Class) (u : DataType) (g : Value → Value) (s t o : Column) (c z x y : Layout) → OpensLists class s t c x → JoinsLists s t c o z → IsMapped u g z y → IsMapped (list_type class u) (in_list g) x (list_layout class (size_of s) o y)
+pub lists_column : (class : Class) (u : DataType) (g : Value → Value) (s t o : Column)
+    (c z x y : Layout) → OpensLists class s t c x → JoinsLists s t c o z → IsMapped u g z y
+    → IsMapped (list_type class u) (in_list g) x (list_layout class (size_of s) o y)
 lists_column class u g s t o c z x y opens joins m =
     let even = joined_even class s t c o z opens.lists.same_class joins in
     let offsets : AreOffsets o (size_of s) (len y) = rw m.size joins.offsets in
     record {
       valid = valid-list class (size_of s) o y offsets even m.valid;
       size = len-list class (size_of s) o y offsets.size ∙ opens.size;
-      typ = array_type-list class (size_of s) o y ∙ ap (list_type class) m.typ ∙ sym (simple-list class u);
+      typ = array_type-list class (size_of s) o y ∙ ap (list_type class) m.typ
+          ∙ sym (simple-list class u);
       items = λ i p.
           let q : i < size_of s = omega (arith, p, opens.size) in
           let a = place_at o i in
           let n = place_at o (i + 1) - place_at o i in
           item-list class (size_of s) o y even i q
-          ∙ ap list (run_same (array_item y) (λ k. simple_value u (g (array_item z k))) a n (λ k _ r. m.items k (omega (arith, r, joins.offsets.within i q))))
+          ∙ ap list (run_same (array_item y) (λ k. simple_value u (g (array_item z k))) a n
+          (λ k _ r. m.items k (omega (arith, r, joins.offsets.within i q))))
           ∙ sym (simple_value-list class u (in_list g (array_item x i))
-          ∙ ap (λ v. in_list (simple_value u) (in_list g v)) (opens.items i p ∙ ap list (joins.lists i q))
+          ∙ ap (λ v. in_list (simple_value u) (in_list g v))
+          (opens.items i p ∙ ap list (joins.lists i q))
           ∙ ap (in_list (simple_value u)) (run_in_list g (array_item z) a n)
           ∙ run_in_list (simple_value u) (λ k. g (array_item z k)) a n);
     }
 
 -- lists at the axis
-pub given_column : (class : Class) (t : DataType) (f : List Value → List Value) (s e o : Column) (y z : Layout) → AreGiven class t f s e y o z → IsColumn (list_type class t) (λ i. list (values_from (f (items_at s e y i)))) (size_of s) (list_layout class (size_of s) o z)
+pub given_column : (class : Class) (t : DataType) (f : List Value → List Value) (s e o : Column)
+    (y z : Layout) → AreGiven class t f s e y o z
+    → IsColumn (list_type class t) (λ i. list (values_from (f (items_at s e y i)))) (size_of s)
+    (list_layout class (size_of s) o z)
 given_column class t f s e o y z g = record {
   valid = valid-list class (size_of s) o z g.offsets g.even g.valid;
   size = len-list class (size_of s) o z g.offsets.size;
-  typ = array_type-list class (size_of s) o z ∙ ap (list_type class) g.typ ∙ sym (simple-list class t);
+  typ = array_type-list class (size_of s) o z ∙ ap (list_type class) g.typ
+      ∙ sym (simple-list class t);
   items = λ i p.
       item-list class (size_of s) o z g.even i p
-      ∙ ap list (sym (values_from-list _) ∙ ap values_from (g.lists i p ∙ ap (map (simple_value t)) (sym (value_list-from (f (items_at s e y i))))))
+      ∙ ap list (sym (values_from-list _)
+      ∙ ap values_from (g.lists i p
+      ∙ ap (map (simple_value t)) (sym (value_list-from (f (items_at s e y i))))))
       ∙ sym (simple_value-list class t (list (values_from (f (items_at s e y i)))));
 }
 
-pub spoil-list : (f : ListFunction) (k : Reach) (class : Class) (t : DataType) (vs : List Value) → here k t ≡ false → spoil_at f k (list_type class t) vs ≡ spoil_inside (spoil_at f (inner k) t) vs
+pub spoil-list : (f : ListFunction) (k : Reach) (class : Class) (t : DataType) (vs : List Value)
+    → here k t ≡ false → spoil_at f k (list_type class t) vs ≡ spoil_inside (spoil_at f (inner k) t)
+    vs
 spoil-list f k None t vs e = rw e refl
 spoil-list f k (Some n) t vs e = rw e refl
 
-pub spoil-list_here : (f : ListFunction) (k : Reach) (class : Class) (t : DataType) (vs : List Value) → here k t ≡ true → spoil_at f k (list_type class t) vs ≡ f.spoil t (lists_among vs)
+pub spoil-list_here : (f : ListFunction) (k : Reach) (class : Class) (t : DataType)
+    (vs : List Value) → here k t ≡ true
+    → spoil_at f k (list_type class t) vs ≡ f.spoil t (lists_among vs)
 spoil-list_here f k None t vs e = rw e refl
 spoil-list_here f k (Some n) t vs e = rw e refl
 
-pub type-list : (g : Giving) (k : Reach) (class : Class) (t : DataType) → here k t ≡ false → lifted_type g k (list_type class t) ≡ list_type class (lifted_type g (inner k) t)
+pub type-list : (g : Giving) (k : Reach) (class : Class) (t : DataType) → here k t ≡ false
+    → lifted_type g k (list_type class t) ≡ list_type class (lifted_type g (inner k) t)
 type-list g k None t e = rw e refl
 type-list g k (Some n) t e = rw e refl
 
-pub type-list_here : (g : Giving) (k : Reach) (class : Class) (t : DataType) → here k t ≡ true → lifted_type g k (list_type class t) ≡ given_type g class t
+pub type-list_here : (g : Giving) (k : Reach) (class : Class) (t : DataType) → here k t ≡ true
+    → lifted_type g k (list_type class t) ≡ given_type g class t
 type-list_here g k None t e = rw e refl
 type-list_here g k (Some n) t e = rw e refl
 
-pub value-list : (g : Giving) (k : Reach) (class : Class) (t : DataType) (v : Value) → here k t ≡ false → lifted_value g k (list_type class t) v ≡ in_list (lifted_value g (inner k) t) v
+pub value-list : (g : Giving) (k : Reach) (class : Class) (t : DataType) (v : Value)
+    → here k t ≡ false → lifted_value g k (list_type class t) v ≡ in_list
+    (lifted_value g (inner k) t) v
 value-list g k None t v e = rw e refl
 value-list g k (Some n) t v e = rw e refl
 
-pub value-list_here : (g : Giving) (k : Reach) (class : Class) (t : DataType) (v : Value) → here k t ≡ true → lifted_value g k (list_type class t) v ≡ on_list (given_value g t) v
+pub value-list_here : (g : Giving) (k : Reach) (class : Class) (t : DataType) (v : Value)
+    → here k t ≡ true → lifted_value g k (list_type class t) v ≡ on_list (given_value g t) v
 value-list_here g k None t v e = rw e refl
 value-list_here g k (Some n) t v e = rw e refl
 
-pub refusal-list : (f : ListFunction) (k : Reach) (class : Class) (t : DataType) → here k t ≡ false → refusal_at f k (list_type class t) ≡ refusal_at f (inner k) t
+pub refusal-list : (f : ListFunction) (k : Reach) (class : Class) (t : DataType) → here k t ≡ false
+    → refusal_at f k (list_type class t) ≡ refusal_at f (inner k) t
 refusal-list f k None t e = rw e refl
 refusal-list f k (Some n) t e = rw e refl
 
-pub refusal-list_here : (f : ListFunction) (k : Reach) (class : Class) (t : DataType) → here k t ≡ true → refusal_at f k (list_type class t) ≡ f.refusal t
+pub refusal-list_here : (f : ListFunction) (k : Reach) (class : Class) (t : DataType)
+    → here k t ≡ true → refusal_at f k (list_type class t) ≡ f.refusal t
 refusal-list_here f k None t e = rw e refl
 refusal-list_here f k (Some n) t e = rw e refl
 
 -- ---- rows
 
-pub row-items : (ys : List Layout) (i : ℕ) → values_by (simple_values (layout_types (layouts_from ys))) (value_list (items_across (layouts_from ys) i)) ≡ value_list (across ys i)
+pub row-items : (ys : List Layout) (i : ℕ)
+    → values_by (simple_values (layout_types (layouts_from ys)))
+    (value_list (items_across (layouts_from ys) i)) ≡ value_list (across ys i)
 row-items [] i = refl
 row-items (y ∷ ys) i = ap (λ vs. array_item y i ∷ vs) (row-items ys i)
 
-pub simple_value-row : (names : Option (List Name)) (ts : DataTypes) (v : Value) → simple_value (row_type names ts) v ≡ in_row (simple_values ts) v
+pub simple_value-row : (names : Option (List Name)) (ts : DataTypes) (v : Value)
+    → simple_value (row_type names ts) v ≡ in_row (simple_values ts) v
 simple_value-row None ts v = refl
 simple_value-row (Some ns) ts v = refl
 
-pub simple-row : (names : Option (List Name)) (ts : DataTypes) → simple (row_type names ts) ≡ row_type names (types_from (simples ts))
+pub simple-row : (names : Option (List Name)) (ts : DataTypes)
+    → simple (row_type names ts) ≡ row_type names (types_from (simples ts))
 simple-row None ts = refl
 simple-row (Some ns) ts = refl
 
-pub type-row : (g : Giving) (k : Reach) (names : Option (List Name)) (ts : DataTypes) → lifted_type g k (row_type names ts) ≡ row_type names (types_from (lifted_types g k ts))
+pub type-row : (g : Giving) (k : Reach) (names : Option (List Name)) (ts : DataTypes)
+    → lifted_type g k (row_type names ts) ≡ row_type names (types_from (lifted_types g k ts))
 type-row g k None ts = refl
 type-row g k (Some ns) ts = refl
 
-pub value-row : (g : Giving) (k : Reach) (names : Option (List Name)) (ts : DataTypes) (v : Value) → lifted_value g k (row_type names ts) v ≡ in_row (lifted_values g k ts) v
+pub value-row : (g : Giving) (k : Reach) (names : Option (List Name)) (ts : DataTypes) (v : Value)
+    → lifted_value g k (row_type names ts) v ≡ in_row (lifted_values g k ts) v
 value-row g k None ts v = refl
 value-row g k (Some ns) ts v = refl
 
-if_passes : (b : Bool) (r s : Option Refusal) (w : Refusal) → s ≡ Some w → (if b then r else s) ≡ None → r ≡ None
+if_passes : (b : Bool) (r s : Option Refusal) (w : Refusal) → s ≡ Some w
+    → (if b then r else s) ≡ None → r ≡ None
 if_passes true r s w e h = h
 if_passes false r s w e h = cc
 
 -- rows and unions that are not refused are gone through
-pub refusal-row : (f : ListFunction) (k : Reach) (names : Option (List Name)) (ts : DataTypes) → refusal_at f k (row_type names ts) ≡ None → refusal_among f k ts ≡ None
-refusal-row f k None ts h = if_passes (passes_rows k) (refusal_among f k ts) (Some WrongType) WrongType refl h
-refusal-row f k (Some ns) ts h = if_passes (passes_rows k) (refusal_among f k ts) (Some WrongType) WrongType refl h
+pub refusal-row : (f : ListFunction) (k : Reach) (names : Option (List Name)) (ts : DataTypes)
+    → refusal_at f k (row_type names ts) ≡ None → refusal_among f k ts ≡ None
+refusal-row f k None ts h = if_passes (passes_rows k) (refusal_among f k ts) (Some WrongType)
+    WrongType refl h
+refusal-row f k (Some ns) ts h = if_passes (passes_rows k) (refusal_among f k ts) (Some WrongType)
+    WrongType refl h
 
-pub refusal-union : (f : ListFunction) (k : Reach) (ts : DataTypes) → refusal_at f k (uni ts) ≡ None → refusal_among f k ts ≡ None
-refusal-union f k ts h = if_passes (passes_rows k) (refusal_among f k ts) (Some WrongType) WrongType refl h
+pub refusal-union : (f : ListFunction) (k : Reach) (ts : DataTypes) → refusal_at f k (uni ts) ≡ None
+    → refusal_among f k ts ≡ None
+refusal-union f k ts h = if_passes (passes_rows k) (refusal_among f k ts) (Some WrongType) WrongType
+    refl h
 
-pub spoil-row : (f : ListFunction) (k : Reach) (names : Option (List Name)) (ts : DataTypes) (vs : List Value) → spoil_at f k (row_type names ts) vs ≡ spoil_across (spoils_at f k ts) 0 vs
+pub spoil-row : (f : ListFunction) (k : Reach) (names : Option (List Name)) (ts : DataTypes)
+    (vs : List Value) → spoil_at f k (row_type names ts) vs ≡ spoil_across (spoils_at f k ts) 0 vs
 spoil-row f k None ts vs = refl
 spoil-row f k (Some ns) ts vs = refl
 
-pub row_item : (names : Option (List Name)) (n : ℕ) (ys : List Layout) (i : ℕ) → array_item (rows names n (layouts_from ys)) i ≡ row (across ys i)
+pub row_item : (names : Option (List Name)) (n : ℕ) (ys : List Layout) (i : ℕ)
+    → array_item (rows names n (layouts_from ys)) i ≡ row (across ys i)
 row_item names n ys i =
     simple_value-row names (layout_types (layouts_from ys)) (row (items_across (layouts_from ys) i))
     ∙ ap (λ vs. row (values_from vs)) (row-items ys i) ∙ ap row (values_from-list (across ys i))
 
 -- each item by the function of its place
-pub across_mapped : (f : ListFunction) (k : Reach) (n : ℕ) (xs ys : List Layout) (i : ℕ) → i < n → AllOfLen n xs → AreMapped f k xs ys →
-    values_by (simple_values (types_from (lifted_types f.giving k (types_from (map array_type xs))))) (values_by (lifted_values f.giving k (types_from (map array_type xs))) (value_list (across xs i))) ≡ value_list (across ys i)
+pub across_mapped : (f : ListFunction) (k : Reach) (n : ℕ) (xs ys : List Layout) (i : ℕ) → i < n
+    → AllOfLen n xs → AreMapped f k xs ys →
+    values_by (simple_values (types_from (lifted_types f.giving k
+    (types_from (map array_type xs))))) (values_by
+    (lifted_values f.giving k (types_from (map array_type xs))) (value_list (across xs i)))
+    ≡ value_list (across ys i)
 across_mapped f k n [] [] i p a m = refl
 across_mapped f k n [] (y ∷ ys) i p a m = absurd m
 across_mapped f k n (x ∷ xs) [] i p a m = absurd m
 across_mapped f k n (x ∷ xs) (y ∷ ys) i p a m =
-    ap (λ v. v ∷ values_by (simple_values (types_from (lifted_types f.giving k (types_from (map array_type xs))))) (values_by (lifted_values f.giving k (types_from (map array_type xs))) (value_list (across xs i)))) (sym (m.0.items i (omega (arith, p, a.0))))
+    ap (λ v. v ∷ values_by (simple_values (types_from
+    (lifted_types f.giving k (types_from (map array_type xs)))))
+    (values_by (lifted_values f.giving k (types_from (map array_type xs)))
+    (value_list (across xs i)))) (sym (m.0.items i (omega (arith, p, a.0))))
     ∙ ap (λ vs. array_item y i ∷ vs) (across_mapped f k n xs ys i p a.1 m.1)
 
-pub simples_mapped : (f : ListFunction) (k : Reach) (xs ys : List Layout) → AreMapped f k xs ys → simples (layout_types (layouts_from ys)) ≡ simples (types_from (lifted_types f.giving k (types_from (map array_type xs))))
+pub simples_mapped : (f : ListFunction) (k : Reach) (xs ys : List Layout) → AreMapped f k xs ys
+    → simples (layout_types (layouts_from ys)) ≡ simples
+    (types_from (lifted_types f.giving k (types_from (map array_type xs))))
 simples_mapped f k [] [] m = refl
 simples_mapped f k [] (y ∷ ys) m = absurd m
 simples_mapped f k (x ∷ xs) [] m = absurd m
-simples_mapped f k (x ∷ xs) (y ∷ ys) m = ap (λ t. t ∷ simples (layout_types (layouts_from ys))) m.0.typ ∙ ap (λ ts. simple (lifted_type f.giving k (array_type x)) ∷ ts) (simples_mapped f k xs ys m.1)
+simples_mapped f k (x ∷ xs) (y ∷ ys) m =
+    ap (λ t. t ∷ simples (layout_types (layouts_from ys))) m.0.typ
+    ∙ ap (λ ts. simple (lifted_type f.giving k (array_type x)) ∷ ts) (simples_mapped f k xs ys m.1)
 
-pub valid_mapped : (f : ListFunction) (k : Reach) (xs ys : List Layout) → AreMapped f k xs ys → AllValid (layouts_from ys)
+pub valid_mapped : (f : ListFunction) (k : Reach) (xs ys : List Layout) → AreMapped f k xs ys
+    → AllValid (layouts_from ys)
 valid_mapped f k [] [] m = tt
 valid_mapped f k [] (y ∷ ys) m = absurd m
 valid_mapped f k (x ∷ xs) [] m = absurd m
 valid_mapped f k (x ∷ xs) (y ∷ ys) m = (m.0.valid, valid_mapped f k xs ys m.1)
 
-pub count_mapped : (f : ListFunction) (k : Reach) (xs ys : List Layout) → AreMapped f k xs ys → count (layouts_from ys) ≡ count (layouts_from xs)
+pub count_mapped : (f : ListFunction) (k : Reach) (xs ys : List Layout) → AreMapped f k xs ys
+    → count (layouts_from ys) ≡ count (layouts_from xs)
 count_mapped f k [] [] m = refl
 count_mapped f k [] (y ∷ ys) m = absurd m
 count_mapped f k (x ∷ xs) [] m = absurd m
 count_mapped f k (x ∷ xs) (y ∷ ys) m = ap (λ (n : ℕ). n + 1) (count_mapped f k xs ys m.1)
 
-pub reach_mapped : (f : ListFunction) (k : Reach) (n : ℕ) (xs ys : List Layout) → AllOfLen n xs → AreMapped f k xs ys → AllReach n (layouts_from ys)
+pub reach_mapped : (f : ListFunction) (k : Reach) (n : ℕ) (xs ys : List Layout) → AllOfLen n xs
+    → AreMapped f k xs ys → AllReach n (layouts_from ys)
 reach_mapped f k n [] [] a m = tt
 reach_mapped f k n [] (y ∷ ys) a m = absurd m
 reach_mapped f k n (x ∷ xs) [] a m = absurd m
-reach_mapped f k n (x ∷ xs) (y ∷ ys) a m = (omega (arith, a.0, m.0.size), reach_mapped f k n xs ys a.1 m.1)
+reach_mapped f k n (x ∷ xs) (y ∷ ys) a m =
+    (omega (arith, a.0, m.0.size), reach_mapped f k n xs ys a.1 m.1)
 
-pub len_of_mapped : (f : ListFunction) (k : Reach) (xs ys : List Layout) (j : ℕ) → AreMapped f k xs ys → len_of (layouts_from ys) j ≡ len_of (layouts_from xs) j
+pub len_of_mapped : (f : ListFunction) (k : Reach) (xs ys : List Layout) (j : ℕ)
+    → AreMapped f k xs ys → len_of (layouts_from ys) j ≡ len_of (layouts_from xs) j
 len_of_mapped f k [] [] j m = refl
 len_of_mapped f k [] (y ∷ ys) j m = absurd m
 len_of_mapped f k (x ∷ xs) [] j m = absurd m
 len_of_mapped f k (x ∷ xs) (y ∷ ys) zero m = m.0.size
 len_of_mapped f k (x ∷ xs) (y ∷ ys) (suc j) m = len_of_mapped f k xs ys j m.1
 
-pub row_column : (f : ListFunction) (k : Reach) (names : Option (List Name)) (xs ys : List Layout) (x : Layout) → OpensRow names xs x → AreMapped f k xs ys →
-    IsMapped (row_type names (types_from (lifted_types f.giving k (types_from (map array_type xs))))) (in_row (lifted_values f.giving k (types_from (map array_type xs)))) x (rows names (len x) (layouts_from ys))
+pub row_column : (f : ListFunction) (k : Reach) (names : Option (List Name)) (xs ys : List Layout)
+    (x : Layout) → OpensRow names xs x → AreMapped f k xs ys →
+    IsMapped (row_type names (types_from (lifted_types f.giving k
+    (types_from (map array_type xs))))) (in_row
+    (lifted_values f.giving k (types_from (map array_type xs)))) x
+    (rows names (len x) (layouts_from ys))
 row_column f k names xs ys x o m = record {
-  valid = (o.fits, rw (count_mapped f k xs ys m) o.are_names, reach_mapped f k (len x) xs ys o.lens m, valid_mapped f k xs ys m);
+  valid = (
+    o.fits,
+    rw (count_mapped f k xs ys m) o.are_names,
+    reach_mapped f k (len x) xs ys o.lens m,
+    valid_mapped f k xs ys m,
+  );
   size = refl;
-  typ = simple-row names (layout_types (layouts_from ys)) ∙ ap (λ ts. row_type names (types_from ts)) (simples_mapped f k xs ys m) ∙ sym (simple-row names (types_from (lifted_types f.giving k (types_from (map array_type xs)))));
+  typ = simple-row names (layout_types (layouts_from ys))
+      ∙ ap (λ ts. row_type names (types_from ts)) (simples_mapped f k xs ys m)
+      ∙ sym (simple-row names (types_from (lifted_types f.giving k
+      (types_from (map array_type xs)))));
   items = λ i p.
       let ts = types_from (map array_type xs) in
       row_item names (len x) ys i
-      ∙ sym (simple_value-row names (types_from (lifted_types f.giving k ts)) (in_row (lifted_values f.giving k ts) (array_item x i))
-      ∙ ap (λ v. in_row (simple_values (types_from (lifted_types f.giving k ts))) (in_row (lifted_values f.giving k ts) v)) (o.items i p)
-      ∙ ap (λ vs. row (values_from (values_by (simple_values (types_from (lifted_types f.giving k ts))) vs))) (value_list-from (values_by (lifted_values f.giving k ts) (value_list (across xs i))))
+      ∙ sym (simple_value-row names (types_from (lifted_types f.giving k ts))
+      (in_row (lifted_values f.giving k ts) (array_item x i))
+      ∙ ap (λ v. in_row (simple_values (types_from (lifted_types f.giving k ts)))
+      (in_row (lifted_values f.giving k ts) v)) (o.items i p)
+      ∙ ap (λ vs. row (values_from (values_by
+      (simple_values (types_from (lifted_types f.giving k ts))) vs)))
+      (value_list-from (values_by (lifted_values f.giving k ts) (value_list (across xs i))))
       ∙ ap (λ vs. row (values_from vs)) (across_mapped f k (len x) xs ys i p o.lens m)
       ∙ ap row (values_from-list (across ys i)));
 }
 
-pub spoil_parts : (f : ListFunction) (k : Reach) (j : ℕ) (vs : List Value) (xs : List Layout) → AreParts j vs xs → spoil_across (spoils_at f k (types_from (map array_type xs))) j vs ≡ spoil_of_all f k xs
+pub spoil_parts : (f : ListFunction) (k : Reach) (j : ℕ) (vs : List Value) (xs : List Layout)
+    → AreParts j vs xs → spoil_across (spoils_at f k (types_from (map array_type xs))) j vs
+    ≡ spoil_of_all f k xs
 spoil_parts f k j vs [] a = refl
 spoil_parts f k j vs (x ∷ xs) a =
-    ap (λ ws. first_spoil (spoil_at f k (array_type x) ws) (spoil_across (spoils_at f k (types_from (map array_type xs))) (suc j) vs)) (sym a.0)
-    ∙ ap (first_spoil (spoil_at f k (array_type x) (array_items x))) (spoil_parts f k (suc j) vs xs a.1)
+    ap (λ ws. first_spoil (spoil_at f k (array_type x) ws)
+    (spoil_across (spoils_at f k (types_from (map array_type xs))) (suc j) vs)) (sym a.0)
+    ∙ ap (first_spoil (spoil_at f k (array_type x) (array_items x)))
+    (spoil_parts f k (suc j) vs xs a.1)
 
 -- ---- unions
 
-pub spoil_alternatives : (f : ListFunction) (k : Reach) (j : ℕ) (vs : List Value) (xs : List Layout) → AreAlternatives j vs xs → spoil_among (spoils_at f k (types_from (map array_type xs))) j vs ≡ spoil_of_all f k xs
+pub spoil_alternatives : (f : ListFunction) (k : Reach) (j : ℕ) (vs : List Value) (xs : List Layout)
+    → AreAlternatives j vs xs → spoil_among (spoils_at f k (types_from (map array_type xs))) j vs
+    ≡ spoil_of_all f k xs
 spoil_alternatives f k j vs [] a = refl
 spoil_alternatives f k j vs (x ∷ xs) a =
-    ap (λ ws. first_spoil (spoil_at f k (array_type x) ws) (spoil_among (spoils_at f k (types_from (map array_type xs))) (suc j) vs)) (sym a.0)
-    ∙ ap (first_spoil (spoil_at f k (array_type x) (array_items x))) (spoil_alternatives f k (suc j) vs xs a.1)
+    ap (λ ws. first_spoil (spoil_at f k (array_type x) ws)
+    (spoil_among (spoils_at f k (types_from (map array_type xs))) (suc j) vs)) (sym a.0)
+    ∙ ap (first_spoil (spoil_at f k (array_type x) (array_items x)))
+    (spoil_alternatives f k (suc j) vs xs a.1)
 
-pub among-item : (ys : List Layout) (k i : ℕ) → value_by (simple_values (layout_types (layouts_from ys))) k (item_of (layouts_from ys) k i) ≡ item_among ys k i
+pub among-item : (ys : List Layout) (k i : ℕ)
+    → value_by (simple_values (layout_types (layouts_from ys))) k (item_of (layouts_from ys) k i)
+    ≡ item_among ys k i
 among-item [] k i = refl
 among-item (y ∷ ys) zero i = refl
 among-item (y ∷ ys) (suc k) i = among-item ys k i
 
-pub among_mapped : (f : ListFunction) (k : Reach) (xs ys : List Layout) (j i : ℕ) → i < len_of (layouts_from xs) j → AreMapped f k xs ys →
-    value_by (simple_values (types_from (lifted_types f.giving k (types_from (map array_type xs))))) j (value_by (lifted_values f.giving k (types_from (map array_type xs))) j (item_among xs j i)) ≡ item_among ys j i
+pub among_mapped : (f : ListFunction) (k : Reach) (xs ys : List Layout) (j i : ℕ)
+    → i < len_of (layouts_from xs) j → AreMapped f k xs ys →
+    value_by (simple_values (types_from (lifted_types f.giving k (types_from (map array_type xs)))))
+    j (value_by (lifted_values f.giving k (types_from (map array_type xs))) j
+    (item_among xs j i)) ≡ item_among ys j i
 among_mapped f k [] [] j i p m = refl
 among_mapped f k [] (y ∷ ys) j i p m = absurd m
 among_mapped f k (x ∷ xs) [] j i p m = absurd m
 among_mapped f k (x ∷ xs) (y ∷ ys) zero i p m = sym (m.0.items i p)
 among_mapped f k (x ∷ xs) (y ∷ ys) (suc j) i p m = among_mapped f k xs ys j i p m.1
 
-pub union_mapped : (f : ListFunction) (k : Reach) (t j : Column) (xs ys : List Layout) → IsUnion t j (layouts_from xs) → AreMapped f k xs ys → IsUnion t j (layouts_from ys)
+pub union_mapped : (f : ListFunction) (k : Reach) (t j : Column) (xs ys : List Layout)
+    → IsUnion t j (layouts_from xs) → AreMapped f k xs ys → IsUnion t j (layouts_from ys)
 union_mapped f k t j xs ys u m = record {
   some = rw (count_mapped f k xs ys m) u.some;
   tag_kind = u.tag_kind;
   index_kind = u.index_kind;
   same_size = u.same_size;
   tags = λ i p. ((u.tags i p).0, rw (count_mapped f k xs ys m) (u.tags i p).1);
-  places = λ i p. ((u.places i p).0, rw (len_of_mapped f k xs ys (place_at t i) m) (u.places i p).1);
+  places = λ i p. (
+    (u.places i p).0,
+    rw (len_of_mapped f k xs ys (place_at t i) m) (u.places i p).1,
+  );
 }
 
-pub union_column : (f : ListFunction) (k : Reach) (t j : Column) (xs ys : List Layout) (x : Layout) → OpensUnion t j xs x → AreMapped f k xs ys →
-    IsMapped (uni (types_from (lifted_types f.giving k (types_from (map array_type xs))))) (in_alternative (lifted_values f.giving k (types_from (map array_type xs)))) x (union t j (layouts_from ys))
+pub union_column : (f : ListFunction) (k : Reach) (t j : Column) (xs ys : List Layout) (x : Layout)
+    → OpensUnion t j xs x → AreMapped f k xs ys →
+    IsMapped (uni (types_from (lifted_types f.giving k (types_from (map array_type xs)))))
+    (in_alternative (lifted_values f.giving k (types_from (map array_type xs)))) x
+    (union t j (layouts_from ys))
 union_column f k t j xs ys x o m = record {
   valid = (o.fits, union_mapped f k t j xs ys o.union m, valid_mapped f k xs ys m);
   size = o.size;
@@ -321,8 +443,13 @@ union_column f k t j xs ys x o m = record {
       let us = types_from (lifted_types f.giving k ts) in
       let tag = place_at t i in
       let q : i < size_of t = omega (arith, p, o.size) in
-      ap (λ v. union_value (simples (layout_types (layouts_from ys))) (alt tag v)) (among-item ys tag (place_at j i))
-      ∙ ap (λ zs. union_value zs (alt tag (item_among ys tag (place_at j i)))) (simples_mapped f k xs ys m)
-      ∙ sym (ap (λ v. union_value (simples us) (in_alternative (simple_values us) (in_alternative (lifted_values f.giving k ts) v))) (o.items i p)
-      ∙ ap (λ v. union_value (simples us) (alt tag v)) (among_mapped f k xs ys tag (place_at j i) (o.union.places i q).1 m));
+      ap (λ v. union_value (simples (layout_types (layouts_from ys))) (alt tag v))
+      (among-item ys tag (place_at j i))
+      ∙ ap (λ zs. union_value zs (alt tag (item_among ys tag (place_at j i))))
+      (simples_mapped f k xs ys m)
+      ∙ sym (ap (λ v. union_value (simples us)
+      (in_alternative (simple_values us) (in_alternative (lifted_values f.giving k ts) v)))
+      (o.items i p)
+      ∙ ap (λ v. union_value (simples us) (alt tag v))
+      (among_mapped f k xs ys tag (place_at j i) (o.union.places i q).1 m));
 }

@@ -1,8 +1,11 @@
 -- What is lifted for each outermost kind of an array, from what is lifted for its contents.
-use Rattle.std.specs.Prelude.{◌≡◌, ℕ, zero, suc, min, ◌+◌, ◌-◌, ◌*◌, ◌==◌, ◌<◌, ◌≤◌, ◌^◌, nat_lt, refl, Bool, true, false, List, [], ◌∷◌, ◌++◌, map, take, drop, length, slice_get, Option, Some, None, if◌then◌else◌}
+use Rattle.std.specs.Prelude.{◌≡◌, ℕ, zero, suc, min, ◌+◌, ◌-◌, ◌*◌, ◌==◌, ◌<◌, ◌≤◌, ◌^◌, nat_lt}
+use Rattle.std.specs.Prelude.{refl, Bool, true, false, List, [], ◌∷◌, ◌++◌, map, take, drop, length}
+use Rattle.std.specs.Prelude.{slice_get, Option, Some, None, if◌then◌else◌}
 use Rattle.std.proofs.Common.{arith, ap, sym, ◌∙◌, add-one}
 use Rattle.std.specs.List.{range_with_len, flat_map}
-use Rattle.awk_types.specs.DataType.{Name, DataType, DataTypes, unknown, uni, opt, var, types_from, depth, depths, greatest, row_type}
+use Rattle.awk_types.specs.DataType.{Name, DataType, DataTypes, unknown, uni, opt, var, types_from}
+use Rattle.awk_types.specs.DataType.{depth, depths, greatest, row_type}
 use Rattle.awk_types.specs.Value.{Value, null, list, values_from, value_list}
 use Rattle.awk_types.specs.Simple.{simple, simple_value, in_list, in_option, in_row, in_alternative}
 use Rattle.awk_types.proofs.Trees.{values_from-list}
@@ -22,21 +25,30 @@ use Rattle.awk_axis.specs.Reach.{here, inner}
 use Rattle.awk_axis.specs.Causes.{first_spoil, sooner}
 use Rattle.awk_axis.specs.Columns.{lists_among}
 use Rattle.awk_gather.specs.Columns.{joined_items}
-use Rattle.awk_axis.specs.ListFunction.{Class, Giving, lists, singles, ListFunction, list_type, given_type, given_value, given_class}
-use Rattle.awk_axis.specs.Lift.{lifted_type, lifted_types, lifted_value, lifted_values, on_list, refusal_at, refusal_among, nested}
+use Rattle.awk_axis.specs.ListFunction.{Class, Giving, lists, singles, ListFunction, list_type}
+use Rattle.awk_axis.specs.ListFunction.{given_type, given_value, given_class}
+use Rattle.awk_axis.specs.Lift.{lifted_type, lifted_types, lifted_value, lifted_values, on_list}
+use Rattle.awk_axis.specs.Lift.{refusal_at, refusal_among, nested}
 use Rattle.awk_axis.specs.Spoils.{spoil_at, spoils_at, spoil_inside, spoil_across, spoil_among}
 use Rattle.awk_gather.specs.Counted.{item_limit}
-use Rattle.awk_axis.specs.Opened.{items_at, all_items_at, OpensLists, OpensOption, OpensRow, OpensUnion, OpensNothing}
+use Rattle.awk_axis.specs.Opened.{items_at, all_items_at, OpensLists, OpensOption, OpensRow}
+use Rattle.awk_axis.specs.Opened.{OpensUnion, OpensNothing}
 use Rattle.awk_gather.specs.Arrays.{array_item}
 use Rattle.awk_axis.specs.Joined.{AreOffsets, JoinsLists, total}
 use Rattle.awk_axis.specs.declared.lift.Mapped.{Mapped}
 use Rattle.awk_axis.specs.declared.lift.Mapped.TheVariants as mapped
-use Rattle.awk_axis.specs.Mapped.{GivesLists, AreEven, IsColumn, IsMapped, IsAtAxis, IsLifted, list_layout, spoil_of_all, AreMapped}
+use Rattle.awk_axis.specs.Mapped.{GivesLists, AreEven, IsColumn, IsMapped, IsAtAxis, IsLifted}
+use Rattle.awk_axis.specs.Mapped.{list_layout, spoil_of_all, AreMapped}
 use Rattle.awk_axis.proofs.ArrayLaws.{lists-inner, lists-among}
-use Rattle.awk_axis.proofs.LiftLaws.{given_column, lifted_null, option_column, lists_column, row_column, union_column, spoil-list, spoil-list_here, type-list, type-list_here, value-list, value-list_here, type-row, value-row, spoil-row, spoil_parts, spoil_alternatives}
+use Rattle.awk_axis.proofs.LiftLaws.{given_column, lifted_null, option_column, lists_column}
+use Rattle.awk_axis.proofs.LiftLaws.{row_column, union_column, spoil-list, spoil-list_here}
+use Rattle.awk_axis.proofs.LiftLaws.{type-list, type-list_here, value-list, value-list_here}
+use Rattle.awk_axis.proofs.LiftLaws.{type-row, value-row, spoil-row, spoil_parts}
+use Rattle.awk_axis.proofs.LiftLaws.{spoil_alternatives}
 
 -- the same column under another name of its type and of its values
-pub column_as : (t u : DataType) (v w : ℕ → Value) (n : ℕ) (y : Layout) → t ≡ u → ((i : ℕ) → i < n → v i ≡ w i) → IsColumn t v n y → IsColumn u w n y
+pub column_as : (t u : DataType) (v w : ℕ → Value) (n : ℕ) (y : Layout) → t ≡ u
+    → ((i : ℕ) → i < n → v i ≡ w i) → IsColumn t v n y → IsColumn u w n y
 column_as t u v w n y e q m = record {
   valid = m.valid;
   size = m.size;
@@ -52,126 +64,210 @@ not_over a b p = grind arith
 
 -- ---- options
 
-pub option_lifted : (f : ListFunction) (k : Reach) (j : Column) (c x y : Layout) → OpensOption j c x → IsLifted f k c (mapped.Column y) → IsLifted f k x (mapped.Column (optional j y))
+pub option_lifted : (f : ListFunction) (k : Reach) (j : Column) (c x y : Layout) → OpensOption j c x
+    → IsLifted f k c (mapped.Column y) → IsLifted f k x (mapped.Column (optional j y))
 option_lifted f k j c x y o h = (
-  ap (λ t. spoil_at f k t (array_items x)) o.typ ∙ ap (spoil_at f k (array_type c)) (sym o.column) ∙ h.0,
-  column_as _ _ _ _ _ _ (ap (lifted_type f.giving k) (sym o.typ)) (λ i p. ap (λ t. lifted_value f.giving k t (array_item x i)) (sym o.typ))
-      (option_column (lifted_type f.giving k (array_type c)) (lifted_value f.giving k (array_type c)) j c x y (lifted_null f.giving k (array_type c)) o h.1),
+  ap (λ t. spoil_at f k t (array_items x)) o.typ ∙ ap (spoil_at f k (array_type c)) (sym o.column)
+      ∙ h.0,
+  column_as _ _ _ _ _ _ (ap (lifted_type f.giving k) (sym o.typ))
+      (λ i p. ap (λ t. lifted_value f.giving k t (array_item x i)) (sym o.typ))
+      (option_column (lifted_type f.giving k (array_type c))
+      (lifted_value f.giving k (array_type c)) j c x y (lifted_null f.giving k (array_type c)) o
+      h.1),
 )
 
-pub option_spoiled : (f : ListFunction) (k : Reach) (j : Column) (c x : Layout) (why : Spoil) → OpensOption j c x → IsLifted f k c (mapped.Spoiled why) → IsLifted f k x (mapped.Spoiled why)
-option_spoiled f k j c x why o h = ap (λ t. spoil_at f k t (array_items x)) o.typ ∙ ap (spoil_at f k (array_type c)) (sym o.column) ∙ h
+pub option_spoiled : (f : ListFunction) (k : Reach) (j : Column) (c x : Layout) (why : Spoil)
+    → OpensOption j c x → IsLifted f k c (mapped.Spoiled why) → IsLifted f k x (mapped.Spoiled why)
+option_spoiled f k j c x why o h = ap (λ t. spoil_at f k t (array_items x)) o.typ
+    ∙ ap (spoil_at f k (array_type c)) (sym o.column) ∙ h
 
 -- ---- lists
 
-here_spoil : (f : ListFunction) (k : Reach) (class : Class) (s t : Column) (c x : Layout) → here k (array_type c) ≡ true → OpensLists class s t c x → spoil_at f k (array_type x) (array_items x) ≡ f.spoil (array_type c) (all_items_at s t c)
+here_spoil : (f : ListFunction) (k : Reach) (class : Class) (s t : Column) (c x : Layout)
+    → here k (array_type c) ≡ true → OpensLists class s t c x
+    → spoil_at f k (array_type x) (array_items x) ≡ f.spoil (array_type c) (all_items_at s t c)
 here_spoil f k class s t c x e o =
-    ap (λ u. spoil_at f k u (array_items x)) o.typ ∙ spoil-list_here f k class (array_type c) (array_items x) e
-    ∙ ap (f.spoil (array_type c)) (lists-among class s t c x o ∙ ap (λ n. map (items_at s t c) (range_with_len 0 n)) (sym o.size))
+    ap (λ u. spoil_at f k u (array_items x)) o.typ
+    ∙ spoil-list_here f k class (array_type c) (array_items x) e
+    ∙ ap (f.spoil (array_type c)) (lists-among class s t c x o
+    ∙ ap (λ n. map (items_at s t c) (range_with_len 0 n)) (sym o.size))
 
-pub lists_here : (f : ListFunction) (k : Reach) (class : Class) (s t : Column) (c x : Layout) (m : Mapped) → here k (array_type c) ≡ true → OpensLists class s t c x → IsAtAxis f class s t c m → IsLifted f k x m
+pub lists_here : (f : ListFunction) (k : Reach) (class : Class) (s t : Column) (c x : Layout)
+    (m : Mapped) → here k (array_type c) ≡ true → OpensLists class s t c x
+    → IsAtAxis f class s t c m → IsLifted f k x m
 lists_here f k class s t c x (mapped.Spoiled why) e o h = here_spoil f k class s t c x e o ∙ h
 lists_here f k class s t c x (mapped.Column y) e o h = (
   here_spoil f k class s t c x e o ∙ h.0,
-  column_as _ _ _ _ _ _ (sym (ap (lifted_type f.giving k) o.typ ∙ type-list_here f.giving k class (array_type c) e))
-      (λ i p. sym (ap (λ u. lifted_value f.giving k u (array_item x i)) o.typ ∙ value-list_here f.giving k class (array_type c) (array_item x i) e ∙ ap (on_list (given_value f.giving (array_type c))) (o.items i p)))
+  column_as _ _ _ _ _ _ (sym (ap (lifted_type f.giving k) o.typ
+      ∙ type-list_here f.giving k class (array_type c) e))
+      (λ i p. sym (ap (λ u. lifted_value f.giving k u (array_item x i)) o.typ
+      ∙ value-list_here f.giving k class (array_type c) (array_item x i) e
+      ∙ ap (on_list (given_value f.giving (array_type c))) (o.items i p)))
       (rw (← o.size) h.1),
 )
 
-above_spoil : (f : ListFunction) (k : Reach) (class : Class) (s t : Column) (c x : Layout) → here k (array_type c) ≡ false → OpensLists class s t c x →
-    spoil_at f k (array_type x) (array_items x) ≡ (if nat_lt item_limit (total s t c) then Some Size else spoil_at f (inner k) (array_type c) (flat_map (items_at s t c) (range_with_len 0 (size_of s))))
+above_spoil : (f : ListFunction) (k : Reach) (class : Class) (s t : Column) (c x : Layout)
+    → here k (array_type c) ≡ false → OpensLists class s t c x →
+    spoil_at f k (array_type x) (array_items x)
+    ≡ (if nat_lt item_limit (total s t c) then Some Size else spoil_at f (inner k)
+    (array_type c) (flat_map (items_at s t c) (range_with_len 0 (size_of s))))
 above_spoil f k class s t c x e o =
-    ap (λ u. spoil_at f k u (array_items x)) o.typ ∙ spoil-list f k class (array_type c) (array_items x) e
-    ∙ ap (λ vs. if nat_lt item_limit (length vs) then Some Size else spoil_at f (inner k) (array_type c) vs) (lists-inner class s t c x o ∙ ap (λ n. flat_map (items_at s t c) (range_with_len 0 n)) (sym o.size))
+    ap (λ u. spoil_at f k u (array_items x)) o.typ
+    ∙ spoil-list f k class (array_type c) (array_items x) e
+    ∙ ap (λ vs. if nat_lt item_limit (length vs) then Some Size else spoil_at f (inner k)
+    (array_type c) vs) (lists-inner class s t c x o
+    ∙ ap (λ n. flat_map (items_at s t c) (range_with_len 0 n)) (sym o.size))
 
-pub lists_too_many : (f : ListFunction) (k : Reach) (class : Class) (s t : Column) (c x : Layout) → here k (array_type c) ≡ false → OpensLists class s t c x → item_limit < total s t c → IsLifted f k x (mapped.Spoiled Size)
+pub lists_too_many : (f : ListFunction) (k : Reach) (class : Class) (s t : Column) (c x : Layout)
+    → here k (array_type c) ≡ false → OpensLists class s t c x → item_limit < total s t c
+    → IsLifted f k x (mapped.Spoiled Size)
 lists_too_many f k class s t c x e o p =
     let q : nat_lt item_limit (total s t c) ≡ true = over item_limit (total s t c) p in
     above_spoil f k class s t c x e o ∙ rw q refl
 
-within_spoil : (f : ListFunction) (k : Reach) (class : Class) (s t o : Column) (c z x : Layout) → here k (array_type c) ≡ false → OpensLists class s t c x → total s t c ≤ item_limit → JoinsLists s t c o z →
-    spoil_at f k (array_type x) (array_items x) ≡ spoil_at f (inner k) (array_type z) (array_items z)
+within_spoil : (f : ListFunction) (k : Reach) (class : Class) (s t o : Column) (c z x : Layout)
+    → here k (array_type c) ≡ false → OpensLists class s t c x → total s t c ≤ item_limit
+    → JoinsLists s t c o z →
+    spoil_at f k (array_type x) (array_items x) ≡ spoil_at f (inner k) (array_type z)
+    (array_items z)
 within_spoil f k class s t o c z x e opens p joins =
     let q : nat_lt item_limit (total s t c) ≡ false = not_over item_limit (total s t c) p in
     above_spoil f k class s t c x e opens
-    ∙ ap (λ b. if b then Some Size else spoil_at f (inner k) (array_type c) (flat_map (items_at s t c) (range_with_len 0 (size_of s)))) q
-    ∙ ap (spoil_at f (inner k) (array_type c)) (sym joins.column) ∙ ap (λ u. spoil_at f (inner k) u (array_items z)) (sym joins.typ)
+    ∙ ap (λ b. if b then Some Size else spoil_at f (inner k) (array_type c)
+    (flat_map (items_at s t c) (range_with_len 0 (size_of s)))) q
+    ∙ ap (spoil_at f (inner k) (array_type c)) (sym joins.column)
+    ∙ ap (λ u. spoil_at f (inner k) u (array_items z)) (sym joins.typ)
 
-pub lists_spoiled : (f : ListFunction) (k : Reach) (class : Class) (s t o : Column) (c z x : Layout) (why : Spoil) → here k (array_type c) ≡ false → OpensLists class s t c x → total s t c ≤ item_limit → JoinsLists s t c o z → IsLifted f (inner k) z (mapped.Spoiled why) → IsLifted f k x (mapped.Spoiled why)
-lists_spoiled f k class s t o c z x why e opens p joins h = within_spoil f k class s t o c z x e opens p joins ∙ h
+pub lists_spoiled : (f : ListFunction) (k : Reach) (class : Class) (s t o : Column) (c z x : Layout)
+    (why : Spoil) → here k (array_type c) ≡ false → OpensLists class s t c x
+    → total s t c ≤ item_limit → JoinsLists s t c o z → IsLifted f (inner k) z (mapped.Spoiled why)
+    → IsLifted f k x (mapped.Spoiled why)
+lists_spoiled f k class s t o c z x why e opens p joins h =
+    within_spoil f k class s t o c z x e opens p joins ∙ h
 
-pub lists_above : (f : ListFunction) (k : Reach) (class : Class) (s t o : Column) (c z x y : Layout) → here k (array_type c) ≡ false → OpensLists class s t c x → total s t c ≤ item_limit → JoinsLists s t c o z → IsLifted f (inner k) z (mapped.Column y) → IsLifted f k x (mapped.Column (list_layout class (size_of s) o y))
+pub lists_above : (f : ListFunction) (k : Reach) (class : Class) (s t o : Column) (c z x y : Layout)
+    → here k (array_type c) ≡ false → OpensLists class s t c x → total s t c ≤ item_limit
+    → JoinsLists s t c o z → IsLifted f (inner k) z (mapped.Column y)
+    → IsLifted f k x (mapped.Column (list_layout class (size_of s) o y))
 lists_above f k class s t o c z x y e opens p joins h =
     let ez : here k (array_type z) ≡ false = ap (here k) joins.typ ∙ e in
-    let typ : array_type x ≡ list_type class (array_type z) = opens.typ ∙ ap (list_type class) (sym joins.typ) in (
+    let typ : array_type x ≡ list_type class (array_type z) = opens.typ
+    ∙ ap (list_type class) (sym joins.typ) in (
       within_spoil f k class s t o c z x e opens p joins ∙ h.0,
-      column_as _ _ _ _ _ _ (sym (ap (lifted_type f.giving k) typ ∙ type-list f.giving k class (array_type z) ez))
-          (λ i p. sym (ap (λ u. lifted_value f.giving k u (array_item x i)) typ ∙ value-list f.giving k class (array_type z) (array_item x i) ez))
-          (lists_column class (lifted_type f.giving (inner k) (array_type z)) (lifted_value f.giving (inner k) (array_type z)) s t o c z x y opens joins h.1),
+      column_as _ _ _ _ _ _ (sym (ap (lifted_type f.giving k) typ
+          ∙ type-list f.giving k class (array_type z) ez))
+          (λ i p. sym (ap (λ u. lifted_value f.giving k u (array_item x i)) typ
+          ∙ value-list f.giving k class (array_type z) (array_item x i) ez))
+          (lists_column class (lifted_type f.giving (inner k) (array_type z))
+          (lifted_value f.giving (inner k) (array_type z)) s t o c z x y opens joins h.1),
     )
 
 -- ---- rows
 
-row_spoil : (f : ListFunction) (k : Reach) (names : Option (List Name)) (xs : List Layout) (x : Layout) → OpensRow names xs x → spoil_at f k (array_type x) (array_items x) ≡ spoil_of_all f k xs
-row_spoil f k names xs x o = ap (λ u. spoil_at f k u (array_items x)) o.typ ∙ spoil-row f k names (types_from (map array_type xs)) (array_items x) ∙ spoil_parts f k 0 (array_items x) xs o.columns
+row_spoil : (f : ListFunction) (k : Reach) (names : Option (List Name)) (xs : List Layout)
+    (x : Layout) → OpensRow names xs x
+    → spoil_at f k (array_type x) (array_items x) ≡ spoil_of_all f k xs
+row_spoil f k names xs x o = ap (λ u. spoil_at f k u (array_items x)) o.typ
+    ∙ spoil-row f k names (types_from (map array_type xs)) (array_items x)
+    ∙ spoil_parts f k 0 (array_items x) xs o.columns
 
-pub row_lifted : (f : ListFunction) (k : Reach) (names : Option (List Name)) (xs ys : List Layout) (x : Layout) → OpensRow names xs x → spoil_of_all f k xs ≡ None → AreMapped f k xs ys → IsLifted f k x (mapped.Column (rows names (len x) (layouts_from ys)))
+pub row_lifted : (f : ListFunction) (k : Reach) (names : Option (List Name)) (xs ys : List Layout)
+    (x : Layout) → OpensRow names xs x → spoil_of_all f k xs ≡ None → AreMapped f k xs ys
+    → IsLifted f k x (mapped.Column (rows names (len x) (layouts_from ys)))
 row_lifted f k names xs ys x o n m = (
   row_spoil f k names xs x o ∙ n,
-  column_as _ _ _ _ _ _ (sym (ap (lifted_type f.giving k) o.typ ∙ type-row f.giving k names (types_from (map array_type xs))))
-      (λ i p. sym (ap (λ u. lifted_value f.giving k u (array_item x i)) o.typ ∙ value-row f.giving k names (types_from (map array_type xs)) (array_item x i)))
+  column_as _ _ _ _ _ _ (sym (ap (lifted_type f.giving k) o.typ
+      ∙ type-row f.giving k names (types_from (map array_type xs))))
+      (λ i p. sym (ap (λ u. lifted_value f.giving k u (array_item x i)) o.typ
+      ∙ value-row f.giving k names (types_from (map array_type xs)) (array_item x i)))
       (row_column f k names xs ys x o m),
 )
 
-pub row_spoiled : (f : ListFunction) (k : Reach) (names : Option (List Name)) (xs : List Layout) (x : Layout) (why : Spoil) → OpensRow names xs x → spoil_of_all f k xs ≡ Some why → IsLifted f k x (mapped.Spoiled why)
+pub row_spoiled : (f : ListFunction) (k : Reach) (names : Option (List Name)) (xs : List Layout)
+    (x : Layout) (why : Spoil) → OpensRow names xs x → spoil_of_all f k xs ≡ Some why
+    → IsLifted f k x (mapped.Spoiled why)
 row_spoiled f k names xs x why o n = row_spoil f k names xs x o ∙ n
 
 -- ---- unions
 
-union_spoil : (f : ListFunction) (k : Reach) (t j : Column) (xs : List Layout) (x : Layout) → OpensUnion t j xs x → spoil_at f k (array_type x) (array_items x) ≡ spoil_of_all f k xs
-union_spoil f k t j xs x o = ap (λ u. spoil_at f k u (array_items x)) o.typ ∙ spoil_alternatives f k 0 (array_items x) xs o.columns
+union_spoil : (f : ListFunction) (k : Reach) (t j : Column) (xs : List Layout) (x : Layout)
+    → OpensUnion t j xs x → spoil_at f k (array_type x) (array_items x) ≡ spoil_of_all f k xs
+union_spoil f k t j xs x o = ap (λ u. spoil_at f k u (array_items x)) o.typ
+    ∙ spoil_alternatives f k 0 (array_items x) xs o.columns
 
-pub union_lifted : (f : ListFunction) (k : Reach) (t j : Column) (xs ys : List Layout) (x : Layout) → OpensUnion t j xs x → spoil_of_all f k xs ≡ None → AreMapped f k xs ys → IsLifted f k x (mapped.Column (union t j (layouts_from ys)))
+pub union_lifted : (f : ListFunction) (k : Reach) (t j : Column) (xs ys : List Layout) (x : Layout)
+    → OpensUnion t j xs x → spoil_of_all f k xs ≡ None → AreMapped f k xs ys
+    → IsLifted f k x (mapped.Column (union t j (layouts_from ys)))
 union_lifted f k t j xs ys x o n m = (
   union_spoil f k t j xs x o ∙ n,
-  column_as _ _ _ _ _ _ (sym (ap (lifted_type f.giving k) o.typ)) (λ i p. sym (ap (λ u. lifted_value f.giving k u (array_item x i)) o.typ))
+  column_as _ _ _ _ _ _ (sym (ap (lifted_type f.giving k) o.typ))
+      (λ i p. sym (ap (λ u. lifted_value f.giving k u (array_item x i)) o.typ))
       (union_column f k t j xs ys x o m),
 )
 
-pub union_spoiled : (f : ListFunction) (k : Reach) (t j : Column) (xs : List Layout) (x : Layout) (why : Spoil) → OpensUnion t j xs x → spoil_of_all f k xs ≡ Some why → IsLifted f k x (mapped.Spoiled why)
+pub union_spoiled : (f : ListFunction) (k : Reach) (t j : Column) (xs : List Layout) (x : Layout)
+    (why : Spoil) → OpensUnion t j xs x → spoil_of_all f k xs ≡ Some why
+    → IsLifted f k x (mapped.Spoiled why)
 union_spoiled f k t j xs x why o n = union_spoil f k t j xs x o ∙ n
 
 -- ---- one array after another
 
-pub mapped_push : (f : ListFunction) (k : Reach) (xs ys : List Layout) (x y : Layout) → AreMapped f k xs ys → IsMapped (lifted_type f.giving k (array_type x)) (lifted_value f.giving k (array_type x)) x y → AreMapped f k (xs ++ x ∷ []) (ys ++ y ∷ [])
+pub mapped_push : (f : ListFunction) (k : Reach) (xs ys : List Layout) (x y : Layout)
+    → AreMapped f k xs ys → IsMapped (lifted_type f.giving k (array_type x))
+    (lifted_value f.giving k (array_type x)) x y → AreMapped f k (xs ++ x ∷ []) (ys ++ y ∷ [])
 mapped_push f k [] [] x y m h = (h, tt)
 mapped_push f k [] (y' ∷ ys) x y m h = absurd m
 mapped_push f k (x' ∷ xs) [] x y m h = absurd m
 mapped_push f k (x' ∷ xs) (y' ∷ ys) x y m h = (m.0, mapped_push f k xs ys x y m.1 h)
 
-pub depth-get : (xs : List Layout) (i : ℕ) (x : Layout) → slice_get xs i ≡ Some x → depth (array_type x) ≤ greatest (depths (types_from (map array_type xs)))
+pub depth-get : (xs : List Layout) (i : ℕ) (x : Layout) → slice_get xs i ≡ Some x
+    → depth (array_type x) ≤ greatest (depths (types_from (map array_type xs)))
 depth-get [] i x e = cc
 depth-get (y ∷ xs) zero x e = let f : y ≡ x = cc in rw (← f) (omega arith)
 depth-get (y ∷ xs) (suc i) x e = omega (arith, depth-get xs i x e)
 
 -- ---- what a function makes of a column of lists, as one node
 
-pub gives_offsets : (g : Giving) (c : Class) (s e o : Column) (y z : Layout) → GivesLists g c s e y o z → AreOffsets o (size_of s) (len z) × AreEven (given_class g c) o (size_of s)
+pub gives_offsets : (g : Giving) (c : Class) (s e o : Column) (y z : Layout)
+    → GivesLists g c s e y o z → AreOffsets o (size_of s) (len z)
+    × AreEven (given_class g c) o (size_of s)
 gives_offsets (lists class typ items) c s e o y z h = (h.offsets, h.even)
 gives_offsets (singles typ value) c s e o y z h = absurd h
 
-pub gives_column : (g : Giving) (c : Class) (s e o : Column) (y z : Layout) → GivesLists g c s e y o z → IsColumn (given_type g c (array_type y)) (λ i. given_value g (array_type y) (items_at s e y i)) (size_of s) (list_layout (given_class g c) (size_of s) o z)
-gives_column (lists class typ items) c s e o y z h = given_column (class c) (typ (array_type y)) (items (array_type y)) s e o y z h
+pub gives_column : (g : Giving) (c : Class) (s e o : Column) (y z : Layout)
+    → GivesLists g c s e y o z → IsColumn (given_type g c (array_type y))
+    (λ i. given_value g (array_type y) (items_at s e y i)) (size_of s)
+    (list_layout (given_class g c) (size_of s) o z)
+gives_column (lists class typ items) c s e o y z h =
+    given_column (class c) (typ (array_type y)) (items (array_type y)) s e o y z h
 gives_column (singles typ value) c s e o y z h = absurd h
 
 -- ---- unknown: there are no lists
 
-pub nested_first : (t : DataType) (v : ℕ → Value) (n : ℕ) (y : Layout) → n ≡ 0 → IsColumn t v n y → IsColumn (nested 0 t) (λ i. null) 0 y
-nested_first t v n y e m = record { valid = m.valid; size = m.size ∙ e; typ = m.typ; items = λ i p. absurd (omega (arith, p)) }
+pub nested_first : (t : DataType) (v : ℕ → Value) (n : ℕ) (y : Layout) → n ≡ 0 → IsColumn t v n y
+    → IsColumn (nested 0 t) (λ i. null) 0 y
+nested_first t v n y e m = record {
+  valid = m.valid;
+  size = m.size ∙ e;
+  typ = m.typ;
+  items =
+      λ i p. absurd (omega (arith, p));
+}
 
-pub nested_next : (t : DataType) (i : ℕ) (o : Column) (y : Layout) → o.kind ≡ I64 → size_of o ≡ 1 → IsColumn (nested i t) (λ i. null) 0 y → IsColumn (nested (i + 1) t) (λ i. null) 0 (offset_lists o y)
+pub nested_next : (t : DataType) (i : ℕ) (o : Column) (y : Layout) → o.kind ≡ I64 → size_of o ≡ 1
+    → IsColumn (nested i t) (λ i. null) 0 y
+    → IsColumn (nested (i + 1) t) (λ i. null) 0 (offset_lists o y)
 nested_next t i o y k e m = record {
-  valid = (omega (arith, e), record { kind = rw k tt; some = omega (arith, e); ordered = λ j p. absurd (omega (arith, p, e)) }, m.valid);
+  valid = (
+    omega (arith, e),
+    record {
+      kind = rw k tt;
+      some = omega (arith, e);
+      ordered =
+          λ j p. absurd (omega (arith, p, e));
+    },
+    m.valid,
+  );
   size = omega (arith, e);
   typ = rw add-one (ap var m.typ);
   items = λ j p. absurd (omega (arith, p));
@@ -180,32 +276,50 @@ nested_next t i o y k e m = record {
 no_lists : (s e : Column) (x : Layout) → size_of s ≡ 0 → all_items_at s e x ≡ []
 no_lists s e x p = ap (λ n. map (items_at s e x) (range_with_len 0 n)) p
 
-pub unknown_spoiled : (f : ListFunction) (k : ℕ) (s e : Column) (x : Layout) (why : Spoil) → OpensNothing x → size_of s ≡ 0 → f.spoil (array_type x) (all_items_at s e x) ≡ Some why → IsLifted f (Axis k) x (mapped.Spoiled why)
-unknown_spoiled f k s e x why o p h = ap (λ u. spoil_at f (Axis k) u (array_items x)) o.typ ∙ ap (f.spoil unknown) (sym (no_lists s e x p)) ∙ ap (λ u. f.spoil u (all_items_at s e x)) (sym o.typ) ∙ h
+pub unknown_spoiled : (f : ListFunction) (k : ℕ) (s e : Column) (x : Layout) (why : Spoil)
+    → OpensNothing x → size_of s ≡ 0 → f.spoil (array_type x) (all_items_at s e x) ≡ Some why
+    → IsLifted f (Axis k) x (mapped.Spoiled why)
+unknown_spoiled f k s e x why o p h = ap (λ u. spoil_at f (Axis k) u (array_items x)) o.typ
+    ∙ ap (f.spoil unknown) (sym (no_lists s e x p))
+    ∙ ap (λ u. f.spoil u (all_items_at s e x)) (sym o.typ) ∙ h
 
-pub unknown_lifted : (f : ListFunction) (k n : ℕ) (s e : Column) (x y : Layout) → n ≡ min k 61 → OpensNothing x → size_of s ≡ 0 → f.spoil (array_type x) (all_items_at s e x) ≡ None → IsColumn (nested n (given_type f.giving None (array_type x))) (λ i. null) 0 y → IsLifted f (Axis k) x (mapped.Column y)
+pub unknown_lifted : (f : ListFunction) (k n : ℕ) (s e : Column) (x y : Layout) → n ≡ min k 61
+    → OpensNothing x → size_of s ≡ 0 → f.spoil (array_type x) (all_items_at s e x) ≡ None
+    → IsColumn (nested n (given_type f.giving None (array_type x))) (λ i. null) 0 y
+    → IsLifted f (Axis k) x (mapped.Column y)
 unknown_lifted f k n s e x y b o p h m = (
-  ap (λ u. spoil_at f (Axis k) u (array_items x)) o.typ ∙ ap (f.spoil unknown) (sym (no_lists s e x p)) ∙ ap (λ u. f.spoil u (all_items_at s e x)) (sym o.typ) ∙ h,
+  ap (λ u. spoil_at f (Axis k) u (array_items x)) o.typ
+      ∙ ap (f.spoil unknown) (sym (no_lists s e x p))
+      ∙ ap (λ u. f.spoil u (all_items_at s e x)) (sym o.typ) ∙ h,
   record {
     valid = m.valid;
     size = m.size ∙ sym o.none;
-    typ = m.typ ∙ ap (λ i. simple (nested i (given_type f.giving None (array_type x)))) b ∙ ap (λ u. simple (nested (min k 61) (given_type f.giving None u))) o.typ ∙ ap (λ u. simple (lifted_type f.giving (Axis k) u)) (sym o.typ);
+    typ = m.typ ∙ ap (λ i. simple (nested i (given_type f.giving None (array_type x)))) b
+        ∙ ap (λ u. simple (nested (min k 61) (given_type f.giving None u))) o.typ
+        ∙ ap (λ u. simple (lifted_type f.giving (Axis k) u)) (sym o.typ);
     items = λ i q. absurd (omega (arith, q, o.none));
   },
 )
 
 -- ---- refusals and depths of contents
 
-pub refusal-get : (f : ListFunction) (k : Reach) (xs : List Layout) (i : ℕ) (x : Layout) → slice_get xs i ≡ Some x → refusal_among f k (types_from (map array_type xs)) ≡ None → refusal_at f k (array_type x) ≡ None
+pub refusal-get : (f : ListFunction) (k : Reach) (xs : List Layout) (i : ℕ) (x : Layout)
+    → slice_get xs i ≡ Some x → refusal_among f k (types_from (map array_type xs)) ≡ None
+    → refusal_at f k (array_type x) ≡ None
 refusal-get f k [] i x e h = cc
-refusal-get f k (y ∷ xs) zero x e h = let q : y ≡ x = cc in rw (← q) (sooner-both (refusal_at f k (array_type y)) (refusal_among f k (types_from (map array_type xs))) h).0
-refusal-get f k (y ∷ xs) (suc i) x e h = refusal-get f k xs i x e (sooner-both (refusal_at f k (array_type y)) (refusal_among f k (types_from (map array_type xs))) h).1
+refusal-get f k (y ∷ xs) zero x e h = let q : y ≡ x = cc in
+    rw (← q) (sooner-both (refusal_at f k (array_type y))
+    (refusal_among f k (types_from (map array_type xs))) h).0
+refusal-get f k (y ∷ xs) (suc i) x e h =
+    refusal-get f k xs i x e (sooner-both (refusal_at f k (array_type y))
+    (refusal_among f k (types_from (map array_type xs))) h).1
 
 pub depth-list : (class : Class) (t : DataType) → depth (list_type class t) ≡ depth t + 1
 depth-list None t = omega arith
 depth-list (Some n) t = omega arith
 
-pub depth-row : (names : Option (List Name)) (ts : DataTypes) → depth (row_type names ts) ≡ greatest (depths ts) + 1
+pub depth-row : (names : Option (List Name)) (ts : DataTypes)
+    → depth (row_type names ts) ≡ greatest (depths ts) + 1
 depth-row None ts = omega arith
 depth-row (Some ns) ts = omega arith
 
@@ -217,23 +331,33 @@ depth-union ts = omega arith
 
 -- ---- going from left to right
 
-drop_suc-get : {X : Type 0} (xs : List X) (i : ℕ) (x : X) → slice_get xs i ≡ Some x → drop i xs ≡ x ∷ drop (suc i) xs
+drop_suc-get : {X : Type 0} (xs : List X) (i : ℕ) (x : X) → slice_get xs i ≡ Some x
+    → drop i xs ≡ x ∷ drop (suc i) xs
 drop_suc-get [] i x e = cc
 drop_suc-get (y ∷ xs) zero x e = let f : y ≡ x = cc in rw f refl
 drop_suc-get (y ∷ xs) (suc i) x e = drop_suc-get xs i x e
 
-take_suc-get : {X : Type 0} (xs : List X) (i : ℕ) (x : X) → slice_get xs i ≡ Some x → take (suc i) xs ≡ take i xs ++ x ∷ []
+take_suc-get : {X : Type 0} (xs : List X) (i : ℕ) (x : X) → slice_get xs i ≡ Some x
+    → take (suc i) xs ≡ take i xs ++ x ∷ []
 take_suc-get [] i x e = cc
 take_suc-get (y ∷ xs) zero x e = let f : y ≡ x = cc in rw f refl
 take_suc-get (y ∷ xs) (suc i) x e = ap (λ zs. y ∷ zs) (take_suc-get xs i x e)
 
 -- one more array, whose spoil is told
-pub spoil_next : (f : ListFunction) (k : Reach) (xs : List Layout) (i : ℕ) (x : Layout) (first s w : Option Spoil) → slice_get xs i ≡ Some x → s ≡ first_spoil first (spoil_at f k (array_type x) (array_items x)) → first_spoil first (spoil_of_all f k (drop i xs)) ≡ w → first_spoil s (spoil_of_all f k (drop (i + 1) xs)) ≡ w
+pub spoil_next : (f : ListFunction) (k : Reach) (xs : List Layout) (i : ℕ) (x : Layout)
+    (first s w : Option Spoil) → slice_get xs i ≡ Some x
+    → s ≡ first_spoil first (spoil_at f k (array_type x) (array_items x))
+    → first_spoil first (spoil_of_all f k (drop i xs)) ≡ w
+    → first_spoil s (spoil_of_all f k (drop (i + 1) xs)) ≡ w
 spoil_next f k xs i x first s w e q h =
     let d : drop i xs ≡ x ∷ drop (i + 1) xs = rw add-one (drop_suc-get xs i x e) in
     ap (λ z. first_spoil z (spoil_of_all f k (drop (i + 1) xs))) q
-    ∙ first_spoil-assoc first (spoil_at f k (array_type x) (array_items x)) (spoil_of_all f k (drop (i + 1) xs))
+    ∙ first_spoil-assoc first (spoil_at f k (array_type x) (array_items x))
+    (spoil_of_all f k (drop (i + 1) xs))
     ∙ ap (λ ys. first_spoil first (spoil_of_all f k ys)) (sym d) ∙ h
 
-pub mapped_next : (f : ListFunction) (k : Reach) (xs ys more : List Layout) (i : ℕ) (x y : Layout) → slice_get xs i ≡ Some x → more ≡ ys ++ y ∷ [] → AreMapped f k (take i xs) ys → IsLifted f k x (mapped.Column y) → AreMapped f k (take (i + 1) xs) more
-mapped_next f k xs ys more i x y e q m h = rw (add-one, take_suc-get xs i x e, q) (mapped_push f k (take i xs) ys x y m h.1)
+pub mapped_next : (f : ListFunction) (k : Reach) (xs ys more : List Layout) (i : ℕ) (x y : Layout)
+    → slice_get xs i ≡ Some x → more ≡ ys ++ y ∷ [] → AreMapped f k (take i xs) ys
+    → IsLifted f k x (mapped.Column y) → AreMapped f k (take (i + 1) xs) more
+mapped_next f k xs ys more i x y e q m h =
+    rw (add-one, take_suc-get xs i x e, q) (mapped_push f k (take i xs) ys x y m h.1)

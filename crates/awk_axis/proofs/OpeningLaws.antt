@@ -1,13 +1,17 @@
 -- The outermost kind of an array in order, and lists joined, as the recursion takes them.
-use Rattle.std.specs.Prelude.{◌≡◌, ℕ, zero, suc, ◌+◌, ◌-◌, ◌<◌, ◌≤◌, ◌^◌, nat_lt, true, false, refl, List, [], ◌∷◌, map, length, Option, Some, None, Result, Ok, Err, if◌then◌else◌}
+use Rattle.std.specs.Prelude.{◌≡◌, ℕ, zero, suc, ◌+◌, ◌-◌, ◌<◌, ◌≤◌, ◌^◌, nat_lt, true, false, refl}
+use Rattle.std.specs.Prelude.{List, [], ◌∷◌, map, length, Option, Some, None, Result, Ok, Err}
+use Rattle.std.specs.Prelude.{if◌then◌else◌}
 use Rattle.std.proofs.Common.{arith, ap, ap₂, sym, ◌∙◌, subst}
 use Rattle.std.specs.List.{range_with_len, flat_map}
 use Rattle.std.proofs.lemmas.List.Folds.{flat_map-map}
 use Rattle.std.proofs.lemmas.List.FromFn.{length-range_with_len}
-use Rattle.awk_types.specs.DataType.{Name, DataType, unknown, leaf, var, reg, opt, uni, row_type, types_from, rec, tup}
+use Rattle.awk_types.specs.DataType.{Name, DataType, unknown, leaf, var, reg, opt, uni, row_type}
+use Rattle.awk_types.specs.DataType.{types_from, rec, tup}
 use Rattle.awk_types.specs.Datum.{Datum, arr}
 use Rattle.awk_types.specs.Gives.{Told, Gives, refused_or}
-use Rattle.awk_types.specs.Value.{Value, Values, row, alt, no_values, value, list, value_list, values_from}
+use Rattle.awk_types.specs.Value.{Value, Values, row, alt, no_values, value, list, value_list}
+use Rattle.awk_types.specs.Value.{values_from}
 use Rattle.awk_types.specs.declared.fault.Fault.{Fault}
 use Rattle.awk_types.specs.declared.fault.Fault.TheVariants.{Size}
 use Rattle.awk_types.proofs.RefusalLaws.{refused_or-Ok, refused_or-Err}
@@ -34,7 +38,9 @@ use Rattle.awk_gather.proofs.JoinedLists.{offsets_lane-is}
 use Rattle.awk_gather.proofs.MadeLanes.{at-lane_of}
 use Rattle.awk_axis.specs.Joined.{AreOffsets, JoinsLists, total, IsJoined}
 use Rattle.awk_axis.specs.ListFunction.{Class, list_type, class_of}
-use Rattle.awk_axis.specs.Opened.{items_at, across, item_among, AllOfLen, AreOfClass, AreLists, OpensLists, OpensOption, OpensRow, OpensUnion, OpensLeaf, OpensNothing, IsOpened}
+use Rattle.awk_axis.specs.Opened.{items_at, across, item_among, AllOfLen, AreOfClass, AreLists}
+use Rattle.awk_axis.specs.Opened.{OpensLists, OpensOption, OpensRow, OpensUnion, OpensLeaf}
+use Rattle.awk_axis.specs.Opened.{OpensNothing, IsOpened}
 use Rattle.awk_axis.specs.declared.opening.Opened.TheVariants as opened
 use Rattle.awk_axis.specs.declared.opening.Joined.TheVariants as joined
 
@@ -58,7 +64,8 @@ list_type-of (tup ts) u h = absurd h
 list_type-of (opt t) u h = absurd h
 list_type-of (uni ts) u h = absurd h
 
-of_class : (t u : DataType) (s e : Column) (y : Layout) → IsListOf t u → AreSized t (ordered.Items s e y)
+of_class : (t u : DataType) (s e : Column) (y : Layout) → IsListOf t u
+    → AreSized t (ordered.Items s e y)
     → AreOfClass (class_of t) s e
 of_class unknown u s e y h z = absurd h
 of_class (leaf p) u s e y h z = absurd h
@@ -143,7 +150,9 @@ opens_union x t j ys o h = record {
 
 -- ---- lists joined
 
-joined-total : (s t : Column) (y : Layout) → joined_items (gathered.list_values s t y) ≡ flat_map (items_at s t y) (range_with_len 0 (size_of s))
+joined-total : (s t : Column) (y : Layout)
+    → joined_items (gathered.list_values s t y) ≡ flat_map (items_at s t y)
+    (range_with_len 0 (size_of s))
 joined-total s t y = flat_map-map list_items (gathered.list_at s t y) (range_with_len 0 (size_of s))
 
 limit_passed : (n : ℕ) → gathered.too_many n ≡ Some Size → item_limit < n
@@ -156,20 +165,24 @@ pub join_refused : (s t : Column) (y : Layout)
     → Told (Some Size) (gathered.joined_datum (array_type y) (gathered.list_values s t y))
     → IsJoined s t y joined.TooMany
 join_refused s t y h =
-    let e = refused_or-Err (gathered.too_many (length (joined_items (gathered.list_values s t y)))) (arr (array_type y) (joined_items (gathered.list_values s t y))) Size h in
-    subst (λ n. item_limit < n) (ap length (joined-total s t y)) (limit_passed (length (joined_items (gathered.list_values s t y))) e)
+    let e = refused_or-Err (gathered.too_many (length (joined_items (gathered.list_values s t y))))
+    (arr (array_type y) (joined_items (gathered.list_values s t y))) Size h in
+    subst (λ n. item_limit < n) (ap length (joined-total s t y))
+    (limit_passed (length (joined_items (gathered.list_values s t y))) e)
 
 place_of_offset : (s t o : Column) (i : ℕ) → o ≡ offsets_lane s t → i ≤ size_of s
     → place_at o i ≡ length (first_of (span_at s t) i)
 place_of_offset s t o i e p =
-    ap (λ c. place_at c i) e ∙ ap nat_of (at-lane_of I64 (size_of s + 1) (offset_at s t) i (omega (arith, p)))
+    ap (λ c. place_at c i) e ∙ ap nat_of (at-lane_of I64 (size_of s + 1) (offset_at s t) i
+    (omega (arith, p)))
 
 offset_grows : (s t o : Column) (i : ℕ) → o ≡ offsets_lane s t → i < size_of s
     → place_at o (i + 1) ≡ place_at o i + (place_at t i - place_at s i)
 offset_grows s t o i e p =
     let a = place_of_offset s t o i e (omega (arith, p)) in
     let b = place_of_offset s t o (i + 1) e (omega (arith, p)) in
-    let l : length (span_at s t i) ≡ place_at t i - place_at s i = length-range_with_len (place_at s i) (place_at t i - place_at s i) in
+    let l : length (span_at s t i) ≡ place_at t i - place_at s i =
+    length-range_with_len (place_at s i) (place_at t i - place_at s i) in
     omega (arith, a, b, l, length-first_of (span_at s t) i)
 
 offset_within : (s t o : Column) (i whole : ℕ) → o ≡ offsets_lane s t → i < size_of s
@@ -197,9 +210,11 @@ pub join_given : (s t : Column) (y : Layout) (o : Column) (z : Layout)
     → gathered.AreJoined s t y o z → IsJoined s t y (joined.Lists o z)
 join_given s t y o z h is j =
     let vs = gathered.list_values s t y in
-    let both = refused_or-Ok (gathered.too_many (length (joined_items vs))) (arr (array_type y) (joined_items vs)) (array_datum z) h in
+    let both = refused_or-Ok (gathered.too_many (length (joined_items vs)))
+    (arr (array_type y) (joined_items vs)) (array_datum z) h in
     let e : o ≡ offsets_lane s t = is ∙ sym (offsets_lane-is s t y) in (
-      subst (λ n. n ≤ item_limit) (ap length (joined-total s t y)) (limit_kept (length (joined_items vs)) both.0),
+      subst (λ n. n ≤ item_limit) (ap length (joined-total s t y))
+          (limit_kept (length (joined_items vs)) both.0),
       record {
         typ = sym (datum_type _ _ _ _ both.1);
         valid = j.valid.2;
@@ -211,6 +226,7 @@ join_given s t y o z h is j =
           last = j.last;
           within = λ i p. offset_within s t o i (len z) e p j.last;
         };
+        lane = e;
         lengths = λ i p. offset_grows s t o i e p;
         lists = λ i p. same_run _ _ (j.each i p);
         column = sym (datum_items _ _ _ _ both.1) ∙ joined-total s t y;

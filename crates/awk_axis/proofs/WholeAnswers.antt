@@ -1,5 +1,6 @@
 -- What is told of a function of one list, applied to a whole array as one list.
-use Rattle.std.specs.Prelude.{◌≡◌, ℕ, zero, suc, ◌+◌, ◌-◌, ◌<◌, ◌≤◌, ◌^◌, refl, List, [], ◌∷◌, map, length, Option, Some, None, Result, Ok, Err, option_map, pos}
+use Rattle.std.specs.Prelude.{◌≡◌, ℕ, zero, suc, ◌+◌, ◌-◌, ◌<◌, ◌≤◌, ◌^◌, refl, List, [], ◌∷◌, map}
+use Rattle.std.specs.Prelude.{length, Option, Some, None, Result, Ok, Err, option_map, pos}
 use Rattle.std.proofs.Common.{arith, ap, ap₂, sym, ◌∙◌, subst}
 use Rattle.std.specs.List.{range_with_len}
 use Rattle.std.proofs.lemmas.Int.{ints}
@@ -28,7 +29,8 @@ use Rattle.awk_axis.specs.declared.causes.Spoil.{Spoil}
 use Rattle.awk_axis.specs.declared.function.Made.TheVariants as made
 use Rattle.awk_axis.specs.Faults.{IsJudged}
 use Rattle.awk_axis.specs.Joined.{AreOffsets}
-use Rattle.awk_axis.specs.ListFunction.{Class, Giving, lists, singles, ListFunction, list_type, made_type, given_type, given_value}
+use Rattle.awk_axis.specs.ListFunction.{Class, Giving, lists, singles, ListFunction, list_type}
+use Rattle.awk_axis.specs.ListFunction.{made_type, given_type, given_value}
 use Rattle.awk_axis.specs.Lifting.{spoil_fault, on_whole}
 use Rattle.awk_axis.specs.Mapped.{IsColumn, AreGiven, GivesLists, GivesSingles, IsMade}
 use Rattle.awk_axis.specs.Opened.{AreLists, items_at, all_items_at}
@@ -73,16 +75,19 @@ IsTaken f x =
     × (limit (simple (made_type f.giving (array_type x))) ≡ None)
 
 abbrev whole_datum : Giving → DataType → List Value → Datum
-whole_datum g t vs = settle (simple (given_type g None t)) (simple_value (given_type g None t) (given_value g t vs))
+whole_datum g t vs = settle (simple (given_type g None t))
+    (simple_value (given_type g None t) (given_value g t vs))
 
 whole_told : (f : ListFunction) (x : Layout) (s : Option Spoil) → IsTaken f x
     → f.spoil (array_type x) (all_items_at (single 0) (single (len x)) x) ≡ s
     → on_whole f (array_type x) (array_items x)
     ≡ refused_or (option_map spoil_fault s) (whole_datum f.giving (array_type x) (array_items x))
 whole_told f x s a h =
-    let spoil : f.spoil (array_type x) (array_items x ∷ []) ≡ s = ap (λ vs. f.spoil (array_type x) (vs ∷ [])) (sym (whole_items x)) ∙ h in
+    let spoil : f.spoil (array_type x) (array_items x ∷ []) ≡ s =
+    ap (λ vs. f.spoil (array_type x) (vs ∷ [])) (sym (whole_items x)) ∙ h in
     told_values _ _ _ (whole_datum f.giving (array_type x) (array_items x)) a.0 a.1
-    ∙ ap (λ z. refused_or (option_map spoil_fault z) (whole_datum f.giving (array_type x) (array_items x))) spoil
+    ∙ ap (λ z. refused_or (option_map spoil_fault z)
+    (whole_datum f.giving (array_type x) (array_items x))) spoil
 
 pub whole_spoilt : (f : ListFunction) (x : Layout) (w : Spoil) → IsTaken f x
     → IsMade f None (single 0) (single (len x)) x (made.Spoiled w)
@@ -94,11 +99,16 @@ whole_spoilt f x w a h = whole_told f x (Some w) a h
 settle_list : (c : Class) (t : DataType) (vs : List Value)
     → settle (simple (list_type c t)) (simple_value (list_type c t) (list (values_from vs)))
     ≡ arr (simple t) (map (simple_value t) vs)
-settle_list None t vs = ap (arr (simple t)) (value_list-from (map (simple_value t) (value_list (values_from vs))) ∙ ap (map (simple_value t)) (value_list-from vs))
-settle_list (Some n) t vs = ap (arr (simple t)) (value_list-from (map (simple_value t) (value_list (values_from vs))) ∙ ap (map (simple_value t)) (value_list-from vs))
+settle_list None t vs = ap (arr (simple t)) (value_list-from
+    (map (simple_value t) (value_list (values_from vs)))
+    ∙ ap (map (simple_value t)) (value_list-from vs))
+settle_list (Some n) t vs = ap (arr (simple t))
+    (value_list-from (map (simple_value t) (value_list (values_from vs)))
+    ∙ ap (map (simple_value t)) (value_list-from vs))
 
 given_whole : (c : Class) (t : DataType) (f : List Value → List Value) (x z : Layout) (o : Column)
-    → AreGiven c t f (single 0) (single (len x)) x o z → array_items z ≡ map (simple_value t) (f (array_items x))
+    → AreGiven c t f (single 0) (single (len x)) x o z
+    → array_items z ≡ map (simple_value t) (f (array_items x))
 given_whole c t f x z o g =
     let a : place_at o 0 ≡ 0 = g.offsets.first in
     let b : place_at o 1 ≡ len z = g.offsets.last in
@@ -113,14 +123,16 @@ lists_datum : (g : Giving) (x z : Layout) (o : Column)
     → whole_datum g (array_type x) (array_items x) ≡ arr (array_type z) (array_items z)
 lists_datum (lists class typ items) x z o h =
     settle_list (class None) (typ (array_type x)) (items (array_type x) (array_items x))
-    ∙ ap₂ arr (sym h.typ) (sym (given_whole (class None) (typ (array_type x)) (items (array_type x)) x z o h))
+    ∙ ap₂ arr (sym h.typ) (sym (given_whole (class None) (typ (array_type x)) (items (array_type x))
+    x z o h))
 lists_datum (singles typ value) x z o h = absurd h
 
 pub lists_within : (f : ListFunction) (x z : Layout) (o : Column) → IsTaken f x
     → IsMade f None (single 0) (single (len x)) x (made.Lists o z) → limit (array_type z) ≡ None
 lists_within f x z o a h = ap limit (lists_type f.giving x z o h.1) ∙ a.1
   where
-    lists_type : (g : Giving) (x z : Layout) (o : Column) → GivesLists g None (single 0) (single (len x)) x o z
+    lists_type : (g : Giving) (x z : Layout) (o : Column)
+        → GivesLists g None (single 0) (single (len x)) x o z
         → array_type z ≡ simple (made_type g (array_type x))
     lists_type (lists class typ items) x z o h = h.typ
     lists_type (singles typ value) x z o h = absurd h
@@ -153,7 +165,8 @@ pub singles_size : (f : ListFunction) (x z : Layout)
     → IsMade f None (single 0) (single (len x)) x (made.Singles z) → len z ≡ 1
 singles_size f x z h = size_of_singles f.giving x z h.1
   where
-    size_of_singles : (g : Giving) (x z : Layout) → GivesSingles g (single 0) (single (len x)) x z → len z ≡ 1
+    size_of_singles : (g : Giving) (x z : Layout) → GivesSingles g (single 0) (single (len x)) x z
+        → len z ≡ 1
     size_of_singles (lists class typ items) x z h = absurd h
     size_of_singles (singles typ value) x z h = h.size
 
@@ -161,4 +174,5 @@ pub whole_single : (f : ListFunction) (x z : Layout) (d : Datum) → IsTaken f x
     → IsMade f None (single 0) (single (len x)) x (made.Singles z)
     → d ≡ settle (array_type z) (first_item z)
     → on_whole f (array_type x) (array_items x) ≡ Ok d
-whole_single f x z d a h e = whole_told f x None a h.0 ∙ ap Ok (singles_datum f.giving x z h.1 ∙ sym e)
+whole_single f x z d a h e = whole_told f x None a h.0
+    ∙ ap Ok (singles_datum f.giving x z h.1 ∙ sym e)

@@ -6,8 +6,6 @@ use Rattle.awk_types.specs.DataType.{DataType, unknown, leaf, var, reg, rec, tup
 use Rattle.awk_types.specs.DataType.{types_from}
 use Rattle.awk_types.specs.Value.{Value, int, truth, null, list, row, alt, values_from}
 use Rattle.awk_types.specs.Datum.{Datum, arr, one}
-use Rattle.awk_axis.specs.Length.{length_function}
-use Rattle.awk_axis.specs.LocalIndex.{local_index_function}
 use Rattle.awk_axis.specs.DropNone.{drop_none_function}
 use Rattle.awk_axis.specs.Count.{count_function}
 use Rattle.awk_types.specs.declared.fault.Fault.TheVariants.{Axis, WrongType, Depth}
@@ -39,91 +37,88 @@ holes =
 -- [{"x":[1,2],"y":[[3]]},{"x":[],"y":[[],[4,5]]}]
 abbrev two_rows : Datum
 two_rows = arr (rec (codes "x" ∷ codes "y" ∷ []) (types_from (var int64 ∷ var (reg 2 int64) ∷ [])))
-    (row_value (ints (pos 1 ∷ pos 2 ∷ []) ∷ list_value [] ∷ []) ∷ row_value (ints [] ∷ list_value (ints (pos 3 ∷ pos 4 ∷ []) ∷ []) ∷ []) ∷ [])
+    (row_value (ints (pos 1 ∷ pos 2 ∷ []) ∷ list_value [] ∷ []) ∷ row_value
+    (ints [] ∷ list_value (ints (pos 3 ∷ pos 4 ∷ []) ∷ []) ∷ []) ∷ [])
 
 -- [{"x":1,"y":[1,2]},{"x":2,"y":[]}]
 abbrev flat_field : Datum
 flat_field = arr (rec (codes "x" ∷ codes "y" ∷ []) (types_from (int64 ∷ var int64 ∷ [])))
-    (row_value (int (pos 1) ∷ ints (pos 1 ∷ pos 2 ∷ []) ∷ []) ∷ row_value (int (pos 2) ∷ ints [] ∷ []) ∷ [])
+    (row_value (int (pos 1) ∷ ints (pos 1 ∷ pos 2 ∷ []) ∷ []) ∷ row_value
+    (int (pos 2) ∷ ints [] ∷ []) ∷ [])
 
--- ---- lengths
+-- ---- counts at an axis
 
-num_0 : lift length_function (pos 0) jagged ≡ Ok (one int64 (int (pos 3)))
-num_0 = refl
+counted_0 : lift count_function (pos 0) jagged ≡ Ok (one int64 (int (pos 3)))
+counted_0 = refl
 
-num_1 : lift length_function (pos 1) jagged
+counted_1 : lift count_function (pos 1) jagged
     ≡ Ok (arr int64 (int (pos 3) ∷ int (pos 0) ∷ int (pos 2) ∷ []))
-num_1 = refl
+counted_1 = refl
 
-num_2 : lift length_function (pos 2) jagged ≡ Err Axis
-num_2 = refl
+counted_2 : lift count_function (pos 2) jagged ≡ Err Axis
+counted_2 = refl
 
-num_negative : lift length_function (negsuc 0) jagged ≡ Err Axis
-num_negative = refl
+counted_negative : lift count_function (negsuc 0) jagged ≡ Err Axis
+counted_negative = refl
 
-num_leaf_beside_list : lift length_function (pos 1) flat_field ≡ Err Axis
-num_leaf_beside_list = refl
+counted_leaf_beside_list : lift count_function (pos 1) flat_field ≡ Err Axis
+counted_leaf_beside_list = refl
 
-num_through_option : lift length_function (pos 1) holes
-    ≡ Ok (arr (opt int64) (int (pos 2) ∷ null ∷ int (pos 1) ∷ []))
-num_through_option = refl
+counted_through_option : lift count_function (pos 1) holes
+    ≡ Ok (arr (opt int64) (int (pos 1) ∷ null ∷ int (pos 1) ∷ []))
+counted_through_option = refl
 
-num_through_rows : lift length_function (pos 1) two_rows
-    ≡ Ok (arr (rec (codes "x" ∷ codes "y" ∷ []) (types_from (int64 ∷ int64 ∷ []))) (row_value (int (pos 2) ∷ int (pos 0) ∷ []) ∷ row_value (int (pos 0) ∷ int (pos 1) ∷ []) ∷ []))
-num_through_rows = refl
+counted_through_rows : lift count_function (pos 1) two_rows
+    ≡ Ok (arr (rec (codes "x" ∷ codes "y" ∷ []) (types_from (int64 ∷ int64 ∷ [])))
+    (row_value (int (pos 2) ∷ int (pos 0) ∷ []) ∷ row_value (int (pos 0) ∷ int (pos 1) ∷ [])
+    ∷ []))
+counted_through_rows = refl
 
-num_of_unknown : lift length_function (pos 3) (arr unknown []) ≡ Ok (arr (var (var int64)) [])
-num_of_unknown = refl
+counted_of_unknown : lift count_function (pos 3) (arr unknown []) ≡ Ok (arr (var (var int64)) [])
+counted_of_unknown = refl
 
-num_of_unknown_1 : lift length_function (pos 1) (arr unknown []) ≡ Ok (arr int64 [])
-num_of_unknown_1 = refl
+counted_of_unknown_1 : lift count_function (pos 1) (arr unknown []) ≡ Ok (arr int64 [])
+counted_of_unknown_1 = refl
 
 -- an axis past the depth limit
-num_past_limit : lift length_function (pos 61) (arr unknown []) ≡ Err Depth
-num_past_limit = refl
+counted_past_limit : lift count_function (pos 61) (arr unknown []) ≡ Err Depth
+counted_past_limit = refl
 
-num_far_past_limit : lift length_function (pos 9223372036854775807) (arr unknown []) ≡ Err Depth
-num_far_past_limit = refl
+counted_far_past_limit : lift count_function (pos 9223372036854775807) (arr unknown []) ≡ Err Depth
+counted_far_past_limit = refl
 
 -- an axis fault of another branch is told first
-num_axis_before_depth : lift length_function (pos 61) (arr (rec (codes "x" ∷ codes "y" ∷ []) (types_from (unknown ∷ int64 ∷ []))) []) ≡ Err Axis
-num_axis_before_depth = refl
+counted_axis_before_depth : lift count_function (pos 61)
+    (arr (rec (codes "x" ∷ codes "y" ∷ []) (types_from (unknown ∷ int64 ∷ []))) []) ≡ Err Axis
+counted_axis_before_depth = refl
 
 -- equal alternatives are not joined
-num_through_union : lift length_function (pos 1) (arr (uni (types_from (var int64 ∷ reg 1 (leaf Bool) ∷ []))) (alt 1 (list_value (truth true ∷ [])) ∷ alt 0 (ints []) ∷ []))
-    ≡ Ok (arr (uni (types_from (int64 ∷ int64 ∷ []))) (alt 1 (int (pos 1)) ∷ alt 0 (int (pos 0)) ∷ []))
-num_through_union = refl
+counted_through_union : lift count_function (pos 1)
+    (arr (uni (types_from (var int64 ∷ reg 1 (leaf Bool) ∷ [])))
+    (alt 1 (list_value (truth true ∷ [])) ∷ alt 0 (ints []) ∷ []))
+    ≡ Ok (arr (uni (types_from (int64 ∷ int64 ∷ [])))
+    (alt 1 (int (pos 1)) ∷ alt 0 (int (pos 0)) ∷ []))
+counted_through_union = refl
 
 -- a list above the axis keeps its class
-num_below_regular : lift length_function (pos 2) (arr (reg 2 (var int64)) (list_value (ints [] ∷ ints (pos 7 ∷ []) ∷ []) ∷ []))
+counted_below_regular : lift count_function (pos 2)
+    (arr (reg 2 (var int64)) (list_value (ints [] ∷ ints (pos 7 ∷ []) ∷ []) ∷ []))
     ≡ Ok (arr (reg 2 int64) (ints (pos 0 ∷ pos 1 ∷ []) ∷ []))
-num_below_regular = refl
+counted_below_regular = refl
 
 -- in a single value axis 0 is the lists directly inside
-num_of_one : lift length_function (pos 0) (one (rec (codes "x" ∷ []) (types_from (var int64 ∷ []))) (row_value (ints (pos 7 ∷ pos 8 ∷ []) ∷ [])))
+counted_of_one : lift count_function (pos 0) (one
+    (rec (codes "x" ∷ []) (types_from (var int64 ∷ [])))
+    (row_value (ints (pos 7 ∷ pos 8 ∷ []) ∷ [])))
     ≡ Ok (one (rec (codes "x" ∷ []) (types_from (int64 ∷ []))) (row_value (int (pos 2) ∷ [])))
-num_of_one = refl
+counted_of_one = refl
 
-num_of_leaf : lift length_function (pos 0) (one int64 (int (pos 5))) ≡ Err Axis
-num_of_leaf = refl
+counted_of_leaf : lift count_function (pos 0) (one int64 (int (pos 5))) ≡ Err Axis
+counted_of_leaf = refl
 
-no_fields_no_fault : lift length_function (pos 4) (arr (rec [] (types_from [])) (row_value [] ∷ []))
+no_fields_no_fault : lift count_function (pos 4) (arr (rec [] (types_from [])) (row_value [] ∷ []))
     ≡ Ok (arr (rec [] (types_from [])) (row_value [] ∷ []))
 no_fields_no_fault = refl
-
--- ---- places
-
-local_index_1 : lift local_index_function (pos 1) jagged
-    ≡ Ok (arr (var int64) (ints (pos 0 ∷ pos 1 ∷ pos 2 ∷ []) ∷ ints [] ∷ ints (pos 0 ∷ pos 1 ∷ []) ∷ []))
-local_index_1 = refl
-
-local_index_0 : lift local_index_function (pos 0) jagged
-    ≡ Ok (arr int64 (int (pos 0) ∷ int (pos 1) ∷ int (pos 2) ∷ []))
-local_index_0 = refl
-
-local_index_keeps_class : lift local_index_function (pos 1) (arr (reg 2 (leaf Bool)) (list_value (truth true ∷ truth false ∷ []) ∷ []))
-    ≡ Ok (arr (reg 2 int64) (ints (pos 0 ∷ pos 1 ∷ []) ∷ []))
-local_index_keeps_class = refl
 
 -- ---- items that are not null
 
@@ -135,7 +130,8 @@ drop_none_1 : lift drop_none_function (pos 1) holes
     ≡ Ok (arr (opt (var int64)) (ints (pos 1 ∷ []) ∷ null ∷ ints (pos 3 ∷ []) ∷ []))
 drop_none_1 = refl
 
-drop_none_gives_var : lift drop_none_function (pos 1) (arr (reg 1 (opt int64)) (list_value (null ∷ []) ∷ [])) ≡ Ok (arr (var int64) (ints [] ∷ []))
+drop_none_gives_var : lift drop_none_function (pos 1)
+    (arr (reg 1 (opt int64)) (list_value (null ∷ []) ∷ [])) ≡ Ok (arr (var int64) (ints [] ∷ []))
 drop_none_gives_var = refl
 
 -- ---- innermost lists
@@ -148,7 +144,9 @@ count_whole : deep count_function (arr (opt int64) (int (pos 1) ∷ null ∷ int
     ≡ Ok (one int64 (int (pos 2)))
 count_whole = refl
 
-count_below_regular : deep count_function (arr (reg 1 (var int64)) (list_value (ints (pos 6 ∷ pos 7 ∷ []) ∷ []) ∷ [])) ≡ Ok (arr (reg 1 int64) (ints (pos 2 ∷ []) ∷ []))
+count_below_regular : deep count_function (arr (reg 1 (var int64))
+    (list_value (ints (pos 6 ∷ pos 7 ∷ []) ∷ []) ∷ [])) ≡ Ok
+    (arr (reg 1 int64) (ints (pos 2 ∷ []) ∷ []))
 count_below_regular = refl
 
 count_of_rows : deep count_function flat_field ≡ Err WrongType

@@ -88,7 +88,7 @@ pub(crate) fn judged_whole<F: ListOp>(alloc: Global, f: &F, t: &Typ) -> Result<(
 
 /// The array of a node whose type passes no limit.
 #[tactic(auto, using(crate::proofs::JudgedTypes::making))]
-pub(crate) fn made<'a>(alloc: Global, node: Node<'a>) -> Result<Array<'a>, NoMemory>
+pub fn made<'a>(alloc: Global, node: Node<'a>) -> Result<Array<'a>, NoMemory>
     requires { limit (array_type node) ≡ None }
     ensures { IfOk result (λ array. array ≡ node.entry) }
 {

@@ -60,7 +60,7 @@ fn class_of(t: &Typ) -> Option<u64>
 }
 
 /// The outermost kind of an array.
-pub(crate) fn open_array<'a, L: Ledger>(
+pub fn open_array<'a, L: Ledger>(
     alloc: Global,
     x: &Array<'a>,
     arena: &'a Arena,
@@ -98,7 +98,7 @@ pub(crate) fn open_array<'a, L: Ledger>(
 }
 
 /// The items of lists one after another, or that they are too many.
-pub(crate) fn join_spans<'a, L: Ledger>(
+pub fn join_spans<'a, L: Ledger>(
     alloc: Global,
     class: Option<u64>,
     starts: &Lane<'a>,

@@ -12,7 +12,7 @@ ghost use Rattle.awk_axis.specs.ListFunction.{made_type};
 
 use crate::function::{ListOp, Made};
 use crate::judged::{judged_whole, made, spoilt};
-use crate::length::number;
+use crate::numbers::number;
 use awk_lanes::{Arena, Kind, Lane, LaneMaker, NoMemory, Steps};
 use awk_layout::{Array, Datum};
 use awk_types::Fault;

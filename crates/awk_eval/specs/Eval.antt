@@ -1,5 +1,6 @@
 -- What an expression is over an environment: a datum, or the first fault.
-use Rattle.std.specs.Prelude.{ℕ, suc, ℤ, pos, negsuc, int_le, Bool, true, false, ◌&&◌, List, [], ◌∷◌, Option, Some, None, Result, Ok, Err, if◌then◌else◌}
+use Rattle.std.specs.Prelude.{ℕ, suc, ℤ, pos, negsuc, int_le, Bool, true, false, ◌&&◌, List, []}
+use Rattle.std.specs.Prelude.{◌∷◌, Option, Some, None, Result, Ok, Err, if◌then◌else◌}
 use Rattle.awk_types.specs.DataType.{DataType, Name, leaf, var, reg}
 use Rattle.awk_types.specs.Value.{int, truth}
 use Rattle.awk_types.specs.Datum.{Datum, arr, one}
@@ -18,6 +19,7 @@ use Rattle.awk_view.specs.Choice.{Choice, field, fields, without, chosen_type, c
 use Rattle.awk_view.specs.Answer.{choice_fault, choice_answer}
 use Rattle.awk_eval.specs.Bindings.{look_up}
 use Rattle.awk_eval.specs.Variables.{Environment}
+use Rattle.awk_select.specs.Each.{at_each_of}
 use Rattle.awk_select.specs.Picks.{at_of, step_range_of, is_mask, mask_of, take_of}
 use Rattle.awk_eval.specs.Operand.{Operand, of, literal, only_in, both_in, takes_literal}
 use Rattle.awk_eval.specs.Fixed.{bounds_in, Stepped, stepped_in, place_in, text_in, texts_in}
@@ -119,6 +121,7 @@ apply op.Range fixed operands = ranged (bounds_in fixed) fixed (only_in operands
 apply op.Field fixed operands = given field_of (text_in fixed) (only_in operands)
 apply op.Fields fixed operands = given fields_of (texts_in fixed) (only_in operands)
 apply op.WithoutField fixed operands = given without_of (text_in fixed) (only_in operands)
+apply op.AtEach fixed operands = given at_each_of (place_in fixed) (only_in operands)
 apply op.Pick fixed operands = paired pick_of (both_in operands)
 apply _ fixed operands = Err Unbuilt
 

@@ -20,7 +20,7 @@ use crate::arguments::{both, bound_or, bounds, only, place, text, texts, with_st
 use awk_lanes::{Arena, Steps};
 use awk_layout::{Array, Datum, Operands};
 use awk_query::{Fixed, FixedArg, Op};
-use awk_select::{at, is_mask, mask, step_range, take};
+use awk_select::{at, at_each, is_mask, mask, step_range, take};
 use awk_types::{Fault, Names, NoMemory, Typ};
 use awk_view::{field, fields, range, settled, without};
 use std::alloc::Global;
@@ -58,6 +58,10 @@ pub(crate) fn apply<'s, L: Ledger>(
         },
         Op::WithoutField => match (text(fixed), only(operands)) {
             (Some(name), Some(x)) => without_of(alloc, x, name.as_str(), steps),
+            _ => Err(Fault::Unbuilt),
+        },
+        Op::AtEach => match (place(fixed), only(operands)) {
+            (Some(i), Some(x)) => at_each(alloc, x, i, arena, steps),
             _ => Err(Fault::Unbuilt),
         },
         Op::Pick => match both(operands) {

@@ -1,8 +1,7 @@
 -- Going on from what is put to what is left.
-use Rattle.std.proofs.Common.{◌≡◌, ◌<◌, ◌≤◌, ◌+◌, ℕ, true, ◌||◌, List, [], ◌∷◌, ◌++◌, length, drop, Some, slice_get, subst, sym, ap, ◌∙◌, append_assoc, arith}
+use Rattle.std.proofs.Common.{◌≡◌, ◌<◌, ◌+◌, ℕ, true, ◌||◌, List, ◌∷◌, ◌++◌, drop, Some, slice_get, subst, sym, ap, ◌∙◌, append_assoc, arith}
 use Rattle.std.specs.List.{flat_map}
 use Rattle.std.proofs.lemmas.Grind.{flat_map-append}
-use Rattle.std.proofs.lemmas.List.{append-nil, drop_all}
 use Rattle.std.proofs.lemmas.List.Folds.{list_any-append}
 use Rattle.awk_types.specs.DataType.{DataType, nodes}
 use Rattle.awk_types.specs.Value.{Value}
@@ -48,12 +47,3 @@ left_large t vs old new ys i y at h large =
     sym (first t vs old new ys i y at h).fits
     ∙ list_any-append is_too_long (placed_of y) (flat_map placed_of rest)
     ∙ ap (λ b. b || are_too_large rest) large
-
--- none is left
-pub left_none : (t : DataType) (vs : List Value) (old new : List Column) (ys : List Layout) (i : ℕ) → length ys ≤ i → IsLeft t vs old (drop i ys) new → IsPut t vs old new
-left_none t vs old new ys i l h =
-    let done : IsLeft t vs old [] new = subst (λ zs. IsLeft t vs old zs new) (drop_all i ys l) h in
-    record {
-      lanes = sym (append-nil new) ∙ done.lanes;
-      fits = sym done.fits;
-    }

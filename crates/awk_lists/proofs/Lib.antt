@@ -1,0 +1,11 @@
+pub mod Spans
+pub mod Offsets
+pub mod Singles
+pub mod JoinedItems
+pub mod Ends
+pub mod Flattened
+pub mod Leaves
+pub mod Cuts
+pub mod RunLaws
+pub mod RunLists
+mod Worked

@@ -1,0 +1,10 @@
+pub mod Lanes
+pub mod Num
+pub mod LocalIndex
+pub mod Flatten
+pub mod Listed
+pub mod Numbers
+pub mod Unflatten
+pub mod RunLengths
+pub mod Runs
+pub mod WithoutField

@@ -1,0 +1,100 @@
+//! The number of items of each list.
+ghost use Rattle.std.specs.Prelude.{◌≡◌, ◌<◌, ◌^◌, IfOk};
+ghost use Rattle.awk_types.specs.Faults.{fault_told};
+ghost use Rattle.awk_types.specs.Gives.{Gives};
+ghost use Rattle.awk_lanes.specs.Places.{size_of, AreSpans};
+ghost use Rattle.awk_layout.specs.Datum.{datum_of, IsDatum};
+ghost use Rattle.awk_lists.specs.Lanes.{span_length, lengths_lane};
+ghost use Rattle.awk_lists.specs.Num.{length_function, num_of};
+
+use awk_axis::{ListOp, Made, Refusal, lift_at, number};
+use awk_lanes::{Arena, Kind, Lane, LaneMaker, Steps, index_at};
+use awk_layout::{Array, Datum, Node};
+use awk_types::{Fault, NoMemory, Prim, Typ};
+use std::alloc::Global;
+use std::sync::ledger::Ledger;
+
+/// How many items the list at a place has.
+pub(crate) fn length_at<L: Ledger>(starts: &Lane, stops: &Lane, i: u64, steps: &mut Steps<L>) -> u64
+    requires within { i < size_of starts.now }
+    requires spans { AreSpans starts.now stops.now 9223372036854775807 }
+    ensures length { result ≡ span_length starts.now stops.now i }
+    ensures fits { result < 2 ^ 63 }
+{
+    let start = index_at(starts, i, steps);
+    let stop = index_at(stops, i, steps);
+    if start == stop {
+        0
+    } else {
+        (stop - start) as u64
+    }
+}
+
+/// The lengths of lists.
+fn lengths<'a, L: Ledger>(
+    starts: &Lane,
+    stops: &Lane,
+    arena: &'a Arena,
+    steps: &mut Steps<L>,
+) -> Result<Lane<'a>, NoMemory>
+    requires spans { AreSpans starts.now stops.now 9223372036854775807 }
+    ensures { IfOk result (λ r. r ≡ lengths_lane starts.now stops.now) }
+{
+    let mut maker = LaneMaker::new(Kind::I64, starts.len(), arena)?;
+    for i in 0..starts.len() {
+        maker.push(number(length_at(starts, stops, i, steps)));
+    }
+    Ok(maker.finish())
+}
+
+/// The number of items of a list.
+#[derive(Clone, Copy, Debug, PartialEq, Eq)]
+struct Length;
+
+impl ListOp for Length {
+    ghost function = { λ f. length_function };
+
+    fn refusal(&self, _item: &Typ) -> Option<Refusal> {
+        None
+    }
+
+    fn typ(&self, _alloc: Global, _item: &Typ) -> Result<Typ, NoMemory> {
+        Ok(Typ::Leaf(Prim::I64))
+    }
+
+    fn gives_lists(&self) -> bool {
+        false
+    }
+
+    fn class(&self, class: Option<u64>) -> Option<u64> {
+        class
+    }
+
+    fn column<'a, L: Ledger>(
+        &self,
+        _alloc: Global,
+        _class: Option<u64>,
+        starts: &Lane<'a>,
+        stops: &Lane<'a>,
+        _content: &Array<'a>,
+        arena: &'a Arena,
+        steps: &mut Steps<L>,
+    ) -> Result<Made<'a>, NoMemory> {
+        Ok(Made::Singles(Node::numpy(lengths(starts, stops, arena, steps)?, steps)))
+    }
+}
+
+/// How many items each list at an axis has. Axis 0 of an array is the array itself.
+pub fn num<'a, L: Ledger>(
+    alloc: Global,
+    x: &Datum<'a>,
+    axis: i64,
+    arena: &'a Arena,
+    steps: &mut Steps<L>,
+) -> Result<Datum<'a>, Fault>
+    requires datum { IsDatum x.now }
+    ensures answer { Gives datum_of fault_told result (num_of axis (datum_of x.now)) }
+    ensures datum { IfOk result (λ made. IsDatum made) }
+{
+    lift_at(alloc, &Length, x, axis, arena, steps)
+}
