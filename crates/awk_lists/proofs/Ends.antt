@@ -27,10 +27,11 @@ use Rattle.awk_gather.specs.Arrays.{array_item}
 use Rattle.awk_gather.specs.Columns.{joined_items, list_items, is_present}
 use Rattle.awk_gather.specs.Counted.{item_limit, first_of, present_at, present_place, span_at}
 use Rattle.awk_gather.specs.Counted.{offset_at, offsets_lane}
-use Rattle.awk_gather.specs.Lanes.{lane_of}
+use Rattle.awk_gather.specs.Lanes.{lane_of, picked}
 use Rattle.awk_gather.proofs.FirstPlaces.{length-first_of}
 use Rattle.awk_gather.proofs.ItemShapes.{present_item}
 use Rattle.awk_gather.proofs.MadeLanes.{size-lane_of, at-lane_of}
+use Rattle.awk_gather.proofs.PickedLanes.{size-picked, at-picked}
 use Rattle.awk_axis.specs.Columns.{present_values}
 use Rattle.awk_axis.specs.Joined.{AreOffsets, JoinsLists, IsJoined}
 use Rattle.awk_axis.specs.ListFunction.{Class, list_type}
@@ -39,7 +40,7 @@ use Rattle.awk_axis.specs.declared.opening.Joined.{Joined}
 use Rattle.awk_axis.specs.declared.opening.Joined.TheVariants.{TooMany, Lists}
 use Rattle.awk_axis.proofs.ArrayLaws.{lists-inner}
 use Rattle.awk_lists.specs.Flatten.{is_list, item_type}
-use Rattle.awk_lists.specs.Listed.{items_before, present_lane, offsets_at, AreEnds, AreListed}
+use Rattle.awk_lists.specs.Listed.{items_before, present_lane, AreEnds, AreListed}
 use Rattle.awk_lists.specs.Listed.{IsListed}
 use Rattle.awk_lists.proofs.JoinedItems.{joined-present, items_before-next, items_before-all}
 use Rattle.awk_lists.proofs.JoinedItems.{items_before-mono}
@@ -274,7 +275,7 @@ filter_few vs i =
 
 option_end : (j : Column) (y x : Layout) (o : Column) → OpensOption j y x
     → is_list (array_type y) ≡ true → AreEnds o (array_items y) → (i : ℕ) → i ≤ len x
-    → at (offsets_at o (present_lane j)) i ≡ pos (items_before (array_items x) i)
+    → at (picked o (present_lane j)) i ≡ pos (items_before (array_items x) i)
 option_end j y x o op l h i p =
     let c = count_present j y x op (list_not_option (array_type y) l) i p in
     let q : i < size_of (present_lane j) = omega (arith, p, op.size, size-counts j) in
@@ -283,7 +284,7 @@ option_end j y x o op l h i p =
     let few = filter_few (array_items x) i in
     let s : length (array_items y) ≡ length (present_values (array_items x)) =
         ap length op.column in
-    at-lane_of I64 (size_of (present_lane j)) (λ k. at o (place_at (present_lane j) k)) i q
+    at-picked o (present_lane j) i q
     ∙ ap (at o) here
     ∙ h.ends (length (present_values (take i (array_items x)))) (omega (arith, few, s))
     ∙ ap (λ vs. pos (items_before vs (length (present_values (take i (array_items x))))))
@@ -307,7 +308,7 @@ option_places j y x o op l h = record {
 
 pub option_listed : (j : Column) (y x : Layout) (o : Column) (z : Layout) → OpensOption j y x
     → is_list (array_type y) ≡ true → IsListed y (Lists o z)
-    → IsListed x (Lists (offsets_at o (present_lane j)) z)
+    → IsListed x (Lists (picked o (present_lane j)) z)
 option_listed j y x o z op l h =
     let all : joined_items (array_items y) ≡ joined_items (array_items x) =
         ap joined_items op.column ∙ joined-present (array_items x) in (
@@ -317,9 +318,8 @@ option_listed j y x o z op l h =
             ∙ sym (ap present op.typ));
         valid = h.1.valid;
         ends = record {
-          kind = tt;
-          size = size-lane_of I64 (size_of (present_lane j)) (λ i. at o (place_at (present_lane j) i))
-              ∙ size-counts j ∙ ap (λ n. n + 1) (op.size ∙ sym (length-array_items x));
+          kind = h.1.ends.kind;
+          size = size-picked o (present_lane j) ∙ size-counts j ∙ ap (λ n. n + 1) (op.size ∙ sym (length-array_items x));
           ends = λ i p. option_end j y x o op l h.1.ends i
               (omega (arith, p, length-array_items x));
         };

@@ -23,7 +23,8 @@ use Rattle.awk_layout.proofs.ArrayItems.{length-array_items}
 use Rattle.awk_gather.specs.Arrays.{array_item}
 use Rattle.awk_gather.specs.Columns.{joined_items}
 use Rattle.awk_gather.specs.Counted.{item_limit}
-use Rattle.awk_gather.proofs.MadeLanes.{size-lane_of, at-lane_of}
+use Rattle.awk_gather.specs.Lanes.{picked}
+use Rattle.awk_gather.proofs.PickedLanes.{size-picked, at-picked}
 use Rattle.awk_axis.specs.Joined.{AreOffsets, JoinsLists}
 use Rattle.awk_axis.specs.ListFunction.{Class}
 use Rattle.awk_axis.specs.Mapped.{AreGiven, IsMade}
@@ -35,7 +36,7 @@ use Rattle.awk_axis.specs.declared.causes.Spoil.TheVariants.{Size}
 use Rattle.awk_axis.specs.declared.function.Made.TheVariants as made
 use Rattle.awk_axis.specs.declared.opening.Joined.TheVariants.{TooMany, Lists}
 use Rattle.awk_lists.specs.Flatten.{is_list, item_type, flatten_function}
-use Rattle.awk_lists.specs.Listed.{items_before, offsets_at, AreEnds, AreListed, IsListed}
+use Rattle.awk_lists.specs.Listed.{items_before, AreEnds, AreListed, IsListed}
 use Rattle.awk_lists.proofs.Ends.{rising_offsets, joined_at}
 use Rattle.awk_lists.proofs.JoinedItems.{items_before-add, items_before-mono, items_before-all}
 use Rattle.awk_lists.proofs.JoinedItems.{slice-joined, run-slice, count-joined}
@@ -76,24 +77,23 @@ module _ (s e : Column) (y : Layout) (rows : Column) (lists : Layout) (o : Colum
   }
 
   at-ends : (i : ℕ) → i ≤ size_of s
-      → at (offsets_at o rows) i ≡ pos (items_before vs (place_at rows i))
+      → at (picked o rows) i ≡ pos (items_before vs (place_at rows i))
   at-ends i p =
-      at-lane_of I64 (size_of rows) (λ k. at o (place_at rows k)) i
-          (omega (arith, p, j.offsets.size))
+      at-picked o rows i (omega (arith, p, j.offsets.size))
       ∙ h.ends.ends (place_at rows i) (row_below i p)
 
   place-ends : (i : ℕ) → i ≤ size_of s
-      → place_at (offsets_at o rows) i ≡ items_before vs (place_at rows i)
+      → place_at (picked o rows) i ≡ items_before vs (place_at rows i)
   place-ends i p = ap nat_of (at-ends i p)
 
   whole : length (array_items z) ≡ length (joined_items vs)
   whole = ap length h.column
 
-  ends_offsets : AreOffsets (offsets_at o rows) (size_of s) (len z)
+  ends_offsets : AreOffsets (picked o rows) (size_of s) (len z)
   ends_offsets =
-      rising_offsets (offsets_at o rows) (size_of s) (len z)
-          (λ i. items_before vs (place_at rows i)) tt
-          (size-lane_of I64 (size_of rows) (λ k. at o (place_at rows k)) ∙ j.offsets.size)
+      rising_offsets (picked o rows) (size_of s) (len z)
+          (λ i. items_before vs (place_at rows i)) h.ends.kind
+          (size-picked o rows ∙ j.offsets.size)
           a.fits at-ends
           (λ i p. items_before-mono vs (place_at rows i) (place_at rows (i + 1))
               (omega (arith, j.lengths i p)))
@@ -105,25 +105,25 @@ module _ (s e : Column) (y : Layout) (rows : Column) (lists : Layout) (o : Colum
   -- ---- the lists
 
   joined_list : (i : ℕ) → i < size_of s
-      → value_list (run (array_item z) (place_at (offsets_at o rows) i)
-          (place_at (offsets_at o rows) (i + 1) - place_at (offsets_at o rows) i))
+      → value_list (run (array_item z) (place_at (picked o rows) i)
+          (place_at (picked o rows) (i + 1) - place_at (picked o rows) i))
       ≡ joined_items (items_at s e y i)
   joined_list i p =
       let start : ℕ = place_at rows i in
       let n : ℕ = place_at e i - place_at s i in
       let stop : place_at rows (i + 1) ≡ start + n = j.lengths i p in
       let c = place-ends i (omega (arith, p)) in
-      let d : place_at (offsets_at o rows) (i + 1) ≡ items_before vs (start + n) =
+      let d : place_at (picked o rows) (i + 1) ≡ items_before vs (start + n) =
           place-ends (i + 1) (omega (arith, p)) ∙ ap (items_before vs) stop in
       let more = items_before-add vs start n in
-      let size : place_at (offsets_at o rows) (i + 1) - place_at (offsets_at o rows) i
+      let size : place_at (picked o rows) (i + 1) - place_at (picked o rows) i
           ≡ items_before (drop start vs) n = omega (arith, c, d, more) in
       let within = ends_offsets.within i p in
       let same : place_at rows (i + 1) - place_at rows i ≡ n = omega (arith, stop) in
       let inside = j.offsets.within i p in
-      run-slice z (place_at (offsets_at o rows) i)
-          (place_at (offsets_at o rows) (i + 1) - place_at (offsets_at o rows) i) within
-      ∙ ap (λ k. take k (drop (place_at (offsets_at o rows) i) (array_items z))) size
+      run-slice z (place_at (picked o rows) i)
+          (place_at (picked o rows) (i + 1) - place_at (picked o rows) i) within
+      ∙ ap (λ k. take k (drop (place_at (picked o rows) i) (array_items z))) size
       ∙ ap (λ k. take (items_before (drop start vs) n) (drop k (array_items z))) c
       ∙ ap (λ ws. take (items_before (drop start vs) n) (drop (items_before vs start) ws)) h.column
       ∙ slice-joined vs start n
@@ -150,8 +150,8 @@ module _ (s e : Column) (y : Layout) (rows : Column) (lists : Layout) (o : Colum
   part_stays : AllByRecursion (Has (array_type z)) (array_items z) → (i : ℕ) → i < size_of s
       → map (simple_value t) (joined_items (items_at s e y i)) ≡ joined_items (items_at s e y i)
   part_stays has i p =
-      let first : ℕ = place_at (offsets_at o rows) i in
-      let n : ℕ = place_at (offsets_at o rows) (i + 1) - first in
+      let first : ℕ = place_at (picked o rows) i in
+      let n : ℕ = place_at (picked o rows) (i + 1) - first in
       let part : take n (drop first (array_items z)) ≡ joined_items (items_at s e y i) =
           sym (run-slice z first n (ends_offsets.within i p)) ∙ joined_list i p in
       ap (map (simple_value t)) (sym part)
@@ -161,7 +161,7 @@ module _ (s e : Column) (y : Layout) (rows : Column) (lists : Layout) (o : Colum
       ∙ part
 
   pub are_given : AllByRecursion (Has (array_type z)) (array_items z)
-      → AreGiven None t (λ ws. joined_items ws) s e y (offsets_at o rows) z
+      → AreGiven None t (λ ws. joined_items ws) s e y (picked o rows) z
   are_given has = record {
     valid = h.valid;
     offsets = ends_offsets;
