@@ -1,5 +1,5 @@
 -- An array cut by counts.
-use Rattle.std.specs.Prelude.{◌≡◌, ℕ, zero, suc, ◌+◌, ◌-◌, ◌<◌, ◌≤◌, ◌^◌, ◌==◌, nat_lt, refl}
+use Rattle.std.specs.Prelude.{◌≡◌, ℕ, zero, suc, ◌+◌, ◌-◌, ◌<◌, ◌≤◌, ◌^◌, ◌==◌, nat_eq, nat_lt, refl}
 use Rattle.std.specs.Prelude.{Bool, true, false, ◌||◌, not, List, [], ◌∷◌, length, map, take, drop}
 use Rattle.std.specs.Prelude.{get_or, sum_by, ℤ, pos, Option, Some, None, Result, Ok, Err}
 use Rattle.std.specs.Prelude.{if◌then◌else◌}
@@ -108,6 +108,22 @@ pub counted_whole : (cs : List Value) (n : ℕ) → do_not_add_up n cs ≡ false
 counted_whole cs n h =
     same_number (sum_by count_of cs) n (or_false (list_any is_negative cs) _ h)
 
+pub all_added : (cs : List Value) (n left i : ℕ) → length cs ≤ i
+    → list_any is_negative (take i cs) ≡ false → counted_before cs i + left ≡ n
+    → not (nat_eq left 0) ≡ do_not_add_up n cs
+all_added cs n left i p h e =
+    let whole = take_all i cs p in
+    let none : list_any is_negative cs ≡ false = ap (list_any is_negative) (sym whole) ∙ h in
+    let sum : counted_before cs i ≡ sum_by count_of cs = ap (sum_by count_of) whole in
+    go left none (omega (arith, sum, e))
+  where
+    go : (k : ℕ) → list_any is_negative cs ≡ false → sum_by count_of cs + k ≡ n
+        → not (nat_eq k 0) ≡ do_not_add_up n cs
+    go zero a b = sym (adds_up cs n a (omega (arith, b)))
+    go (suc k) a b =
+        let f : not (nat_eq (suc k) 0) ≡ true = grind arith in
+        f ∙ sym (under_wrong cs n (omega (arith, b)))
+
 -- ---- the offsets
 
 abbrev pub count_offsets : List Value → ℕ → Column
@@ -166,11 +182,16 @@ length-cut : (ns : List ℕ) (vs : List Value) → length (cut_by ns vs) ≡ len
 length-cut [] vs = refl
 length-cut (n ∷ ns) vs = ap suc (length-cut ns (drop n vs))
 
+drop-none : (n : ℕ) → drop {A = Value} n [] ≡ []
+drop-none zero = refl
+drop-none (suc n) = refl
+
 drop-drop : (vs : List Value) (a b : ℕ) → drop a (drop b vs) ≡ drop (b + a) vs
-drop-drop vs a zero = refl
-drop-drop [] zero (suc b) = refl
-drop-drop [] (suc a) (suc b) = refl
-drop-drop (v ∷ vs) a (suc b) = drop-drop vs a b
+drop-drop vs a zero = let z : a ≡ 0 + a = omega arith in ap (λ k. drop k vs) z
+drop-drop [] a (suc b) = drop-none a ∙ sym (drop-none (suc b + a))
+drop-drop (v ∷ vs) a (suc b) =
+    let e : suc (b + a) ≡ suc b + a = omega arith in
+    drop-drop vs a b ∙ ap (λ k. drop k (v ∷ vs)) e
 
 cut_at : (cs vs : List Value) (k : ℕ) → k < length cs
     → get_or (cut_by (map count_of cs) vs) k null
@@ -189,7 +210,7 @@ cut_lists : (cs vs : List Value) → cut_by (map count_of cs) vs
 cut_lists cs vs =
     fill_by_all (λ k. list (values_from (take (count_of (get_or cs k null))
         (drop (counted_before cs k) vs)))) (cut_by (map count_of cs) vs) (length cs) null
-        (length-cut (map count_of cs) vs ∙ length-map count_of cs) (λ k p. cut_at cs vs k p)
+        (length-cut (map count_of cs) vs ∙ length-map cs count_of) (λ k p. cut_at cs vs k p)
 
 pub lists_cut : (x counts : Layout) (c : Column) → AreCounts counts c → len counts < 2 ^ 63
     → do_not_add_up (len x) (array_items counts) ≡ false

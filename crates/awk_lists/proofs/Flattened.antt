@@ -1,12 +1,13 @@
 -- Lists of a column joined: what is made of them, and when they are too many.
 use Rattle.std.specs.Prelude.{◌≡◌, ℕ, zero, suc, ◌+◌, ◌-◌, ◌<◌, ◌≤◌, ◌^◌, nat_lt, true, false, refl}
-use Rattle.std.specs.Prelude.{List, length, map, take, drop, sum, ℤ, pos, ◌≤ℤ◌, Bool}
+use Rattle.std.specs.Prelude.{List, length, map, take, drop, sum, ℤ, pos, negsuc, ◌≤ℤ◌, ◌-ℤ◌, Bool}
 use Rattle.std.specs.Prelude.{Option, Some, None, if◌then◌else◌}
 use Rattle.std.specs.List.{AllByRecursion, range_with_len}
 use Rattle.std.proofs.Common.{arith, ap, sym, ◌∙◌, subst}
 use Rattle.std.proofs.lemmas.Int.{ints}
 use Rattle.std.proofs.lemmas.List.{take-map, drop-map}
 use Rattle.awk_types.specs.DataType.{DataType}
+use Rattle.awk_types.specs.Datum.{Datum}
 use Rattle.awk_types.specs.Has.{Has}
 use Rattle.awk_types.specs.Simple.{present, simple, simple_value}
 use Rattle.awk_types.specs.Value.{Value, value_list}
@@ -26,6 +27,7 @@ use Rattle.awk_gather.specs.Counted.{item_limit}
 use Rattle.awk_gather.specs.Lanes.{picked}
 use Rattle.awk_gather.proofs.PickedLanes.{size-picked, at-picked}
 use Rattle.awk_axis.specs.Joined.{AreOffsets, JoinsLists}
+use Rattle.awk_axis.specs.Lifting.{lift}
 use Rattle.awk_axis.specs.ListFunction.{Class}
 use Rattle.awk_axis.specs.Mapped.{AreGiven, IsMade}
 use Rattle.awk_axis.specs.Opened.{AreLists, items_at, all_items_at}
@@ -35,7 +37,7 @@ use Rattle.awk_axis.specs.declared.causes.Refusal.TheVariants as refused
 use Rattle.awk_axis.specs.declared.causes.Spoil.TheVariants.{Size}
 use Rattle.awk_axis.specs.declared.function.Made.TheVariants as made
 use Rattle.awk_axis.specs.declared.opening.Joined.TheVariants.{TooMany, Lists}
-use Rattle.awk_lists.specs.Flatten.{is_list, item_type, flatten_function}
+use Rattle.awk_lists.specs.Flatten.{is_list, item_type, flatten_function, flatten_of}
 use Rattle.awk_lists.specs.Listed.{items_before, AreEnds, AreListed, IsListed}
 use Rattle.awk_lists.proofs.Ends.{rising_offsets, joined_at}
 use Rattle.awk_lists.proofs.JoinedItems.{items_before-add, items_before-mono, items_before-all}
@@ -193,3 +195,17 @@ module _ (s e : Column) (y : Layout) (rows : Column) (lists : Layout)
       ap too_many counted_all
       ∙ ap (λ b. if b then Some Size else None)
           (within_limit (length (joined_items (array_items lists))) h)
+
+-- ---- the axis
+
+pub axis_previous : (z : ℤ) → pos 1 ≤ℤ z → z -ℤ pos 1 ≡ pos (nat_of z - 1)
+axis_previous (pos zero) p = absurd (omega (arith, ints, p))
+axis_previous (pos (suc k)) p = omega (arith, ints)
+axis_previous (negsuc k) p = absurd (omega (arith, ints, p))
+
+pub flatten_at : (axis : ℤ) (d : Datum) → pos 1 ≤ℤ axis
+    → lift flatten_function (pos (nat_of axis - 1)) d ≡ flatten_of axis d
+flatten_at (pos zero) d p = absurd (omega (arith, ints, p))
+flatten_at (pos (suc k)) d p =
+    let e : suc k - 1 ≡ k = omega arith in ap (λ n. lift flatten_function (pos n) d) e
+flatten_at (negsuc k) d p = absurd (omega (arith, ints, p))

@@ -90,7 +90,7 @@ flat_items : (zs : List ℤ)
 flat_items zs =
     array_items-at (flat (record { kind = I64; items = zs }))
     ∙ sym (fill_by_all (λ k. int (at (record { kind = I64; items = zs }) k)) (map (λ z. int z) zs)
-        (length zs) (int (pos 0)) (length-map (λ z. int z) zs) 
+        (length zs) (int (pos 0)) (length-map zs (λ z. int z)) 
         (λ k p. get_or-map (λ z. int z) zs k (pos 0) (int (pos 0)) p))
 
 module _ (s e : Column) (y : Layout) (o : Column) (z : Layout) (c : Column)
@@ -140,7 +140,7 @@ module _ (s e : Column) (y : Layout) (o : Column) (z : Layout) (c : Column)
   made = flat (run_lane c o (size_of s))
 
   size-made : len made ≡ runs_before c o (size_of s)
-  size-made = length-map (λ (k : ℕ). pos k) (first_of (runs_at c o) (size_of s))
+  size-made = length-map (first_of (runs_at c o) (size_of s)) (λ (k : ℕ). pos k)
 
   items-made : array_items made
       ≡ map (λ (k : ℕ). int (pos k)) (first_of (runs_at c o) (size_of s))

@@ -1,9 +1,11 @@
 //! The lists of a list joined to one list.
-ghost use Rattle.std.specs.Prelude.{◌≡◌, ◌<◌, ◌^◌, true, None, length, IfOk};
+ghost use Rattle.std.specs.Prelude.{◌≡◌, ◌-◌, ◌<◌, ◌^◌, ◌≤ℤ◌, true, None, length, pos};
+ghost use Rattle.std.specs.Prelude.{IfOk};
 ghost use Rattle.awk_types.specs.Faults.{fault_told};
 ghost use Rattle.awk_types.specs.Gives.{Gives};
 ghost use Rattle.awk_types.specs.Simple.{present};
 ghost use Rattle.awk_types.specs.View.{typ_of};
+ghost use Rattle.awk_lanes.specs.Numbers.{nat_of};
 ghost use Rattle.awk_lanes.specs.Places.{size_of, IsIndex, IsOptionKind};
 ghost use Rattle.awk_layout.specs.Datum.{datum_of, IsDatum};
 ghost use Rattle.awk_layout.specs.Typing.{array_type};
@@ -269,6 +271,14 @@ impl ListOp for JoinedLists {
     }
 }
 
+/// The axis before an axis.
+fn axis_before(axis: i64) -> i64
+    requires { pos 1 ≤ℤ axis }
+    ensures { result ≡ pos (nat_of axis - 1) }
+{
+    axis - 1
+}
+
 /// The lists at an axis joined within each list of the axis before, null as an empty one. The axis
 /// is at least 1, and there the items are lists, optional lists or unknown, else `Axis`. Each list
 /// that is given may have any length.
@@ -288,5 +298,6 @@ pub fn flatten<'a, L: Ledger>(
     if axis < 1 {
         return Err(Fault::Axis);
     }
-    lift_at(alloc, &JoinedLists, x, axis - 1, arena, steps)
+    let before = axis_before(axis);
+    lift_at(alloc, &JoinedLists, x, before, arena, steps)
 }
