@@ -3,6 +3,8 @@ use Rattle.std.specs.Prelude.{◌≡◌, ℕ, zero, suc, ◌+◌, ◌-◌, ◌<�
 use Rattle.std.specs.Prelude.{length, map, Bool, true, false, ℤ, pos, negsuc, if◌then◌else◌}
 use Rattle.std.specs.Ordering.{int_eq}
 use Rattle.std.proofs.Common.{arith, ap, ap₂, sym, ◌∙◌, subst}
+use Rattle.std.proofs.lemmas.List.{length-append, length-map}
+use Rattle.awk_axis.proofs.ListLaws.{append_one}
 use Rattle.awk_types.specs.Value.{Value, int, truth, value_list}
 use Rattle.awk_lanes.specs.Column.{Column}
 use Rattle.awk_lanes.specs.Numbers.{int_of, is_nonzero, element, IsOf}
@@ -24,7 +26,7 @@ longer_by k (n ∷ ns) = (k + n) ∷ ns
 
 pub longer_by-none : (ns : List ℕ) → longer_by 0 ns ≡ ns
 longer_by-none [] = refl
-longer_by-none (n ∷ ns) = refl
+longer_by-none (n ∷ ns) = let z : 0 + n ≡ n = omega arith in ap (λ m. m ∷ ns) z
 
 pub longer_by-next : (k : ℕ) (ns : List ℕ) → longer_by k (longer ns) ≡ longer_by (k + 1) ns
 longer_by-next k [] = refl
@@ -200,6 +202,37 @@ pub runs_between-few : (c : Column) (start stop : ℕ)
     → length (runs_between c start stop) ≤ stop - start
 runs_between-few c start stop =
     omega (arith, runs_few (values_between c start stop), length_values c start (stop - start))
+
+-- ---- runs that are put
+
+pub runs_pushed : (zs : List ℤ) (z : ℤ) (n : ℕ) (rest all : List ℕ) (w : List ℤ)
+    → all ≡ n ∷ rest → z ≡ pos n → zs ++ map (λ m. pos m) all ≡ w
+    → (zs ++ z ∷ []) ++ map (λ m. pos m) rest ≡ w
+runs_pushed zs z n rest all w a e h =
+    append_one zs z (map (λ m. pos m) rest)
+    ∙ ap (λ y. zs ++ y ∷ map (λ m. pos m) rest) e
+    ∙ ap (λ ns. zs ++ map (λ m. pos m) ns) (sym a) ∙ h
+
+pub runs_room : (zs old : List ℤ) (n room : ℕ) (rest all whole : List ℕ) → all ≡ n ∷ rest
+    → zs ++ map (λ m. pos m) all ≡ old ++ map (λ m. pos m) whole
+    → length old + length whole ≤ room → length zs < room
+runs_room zs old n room rest all whole a h p =
+    let l : length zs + length all ≡ length old + length whole =
+        sym (length-append zs (map (λ m. pos m) all)
+            ∙ ap (λ k. length zs + k) (length-map all (λ m. pos m)))
+        ∙ ap length h
+        ∙ length-append old (map (λ m. pos m) whole)
+        ∙ ap (λ k. length old + k) (length-map whole (λ m. pos m)) in
+    omega (arith, l, p, ap length a)
+
+pub runs_put : (c : Column) (stop : ℕ) (zs w : List ℤ)
+    → zs ++ map (λ m. pos m) (runs_between c stop stop) ≡ w → zs ≡ w
+runs_put c stop zs w h =
+    sym (append_none zs) ∙ ap (λ ns. zs ++ map (λ m. pos m) ns) (sym (runs_none c stop)) ∙ h
+  where
+    append_none : (xs : List ℤ) → xs ++ [] ≡ xs
+    append_none [] = refl
+    append_none (x ∷ xs) = ap (λ ys. x ∷ ys) (append_none xs)
 
 -- ---- numbers of one kind
 
