@@ -60,15 +60,23 @@ are_leaves t h = go (is_leaf t) h
 
 range_more : (a n k : ℕ)
     → range_with_len a (n + k) ≡ range_with_len a n ++ range_with_len (a + n) k
-range_more a zero k = let e : a ≡ a + 0 = omega arith in ap (λ b. range_with_len b k) e
+range_more a zero k =
+    let z : 0 + k ≡ k = omega arith in
+    let e : a ≡ a + 0 = omega arith in
+    ap (range_with_len a) z ∙ ap (λ b. range_with_len b k) e
 range_more a (suc n) k =
+    let z : suc n + k ≡ suc (n + k) = omega arith in
     let e : a + 1 + n ≡ a + suc n = omega arith in
-    ap (λ xs. a ∷ xs) (range_more (a + 1) n k ∙ ap (λ b. range_with_len (a + 1) n ++ range_with_len b k) e)
+    ap (range_with_len a) z
+    ∙ ap (λ xs. a ∷ xs) (range_more (a + 1) n k
+        ∙ ap (λ b. range_with_len (a + 1) n ++ range_with_len b k) e)
 
 first_of-add : (f : ℕ → List ℕ) (i k : ℕ)
     → first_of f (i + k) ≡ first_of f i ++ flat_map f (range_with_len i k)
 first_of-add f i k =
-    ap (flat_map f) (range_more 0 i k)
+    let z : 0 + i ≡ i = omega arith in
+    ap (flat_map f) (range_more 0 i k
+        ∙ ap (λ b. range_with_len 0 i ++ range_with_len b k) z)
     ∙ flat_map-append f (range_with_len 0 i) (range_with_len i k)
 
 -- the part of all that is of one
@@ -136,7 +144,7 @@ module _ (s e : Column) (y : Layout) (o : Column) (z : Layout) (c : Column)
       → place_at (run_offsets c o (size_of s)) i ≡ runs_before c o i
   place-runs i p = ap nat_of (at-runs i p)
 
-  made : Layout
+  abbrev made : Layout
   made = flat (run_lane c o (size_of s))
 
   size-made : len made ≡ runs_before c o (size_of s)
