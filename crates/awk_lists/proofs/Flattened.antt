@@ -67,7 +67,7 @@ module _ (s e : Column) (y : Layout) (rows : Column) (lists : Layout) (o : Colum
       let grown = j.lengths i (omega (arith, p)) in
       let e : i + 1 ≡ suc i = omega arith in
       subst (λ k. place_at rows k ≤ length vs) e
-          (omega (arith, within, grown, length-array_items lists))
+      (omega (arith, within, grown, length-array_items lists))
 
   pub rows_index : IsIndex rows (size_of o)
   rows_index = record {
@@ -94,21 +94,21 @@ module _ (s e : Column) (y : Layout) (rows : Column) (lists : Layout) (o : Colum
   ends_offsets : AreOffsets (picked o rows) (size_of s) (len z)
   ends_offsets =
       rising_offsets (picked o rows) (size_of s) (len z)
-          (λ i. items_before vs (place_at rows i)) h.ends.kind
-          (size-picked o rows ∙ j.offsets.size)
-          a.fits at-ends
-          (λ i p. items_before-mono vs (place_at rows i) (place_at rows (i + 1))
-              (omega (arith, j.lengths i p)))
-          (ap (items_before vs) j.offsets.first)
-          (items_before-all vs (place_at rows (size_of s))
-              (omega (arith, j.offsets.last, length-array_items lists))
-              ∙ sym whole ∙ length-array_items z)
+      (λ i. items_before vs (place_at rows i)) h.ends.kind
+      (size-picked o rows ∙ j.offsets.size)
+      a.fits at-ends
+      (λ i p. items_before-mono vs (place_at rows i) (place_at rows (i + 1))
+      (omega (arith, j.lengths i p)))
+      (ap (items_before vs) j.offsets.first)
+      (items_before-all vs (place_at rows (size_of s))
+      (omega (arith, j.offsets.last, length-array_items lists))
+      ∙ sym whole ∙ length-array_items z)
 
   -- ---- the lists
 
   joined_list : (i : ℕ) → i < size_of s
       → value_list (run (array_item z) (place_at (picked o rows) i)
-          (place_at (picked o rows) (i + 1) - place_at (picked o rows) i))
+      (place_at (picked o rows) (i + 1) - place_at (picked o rows) i))
       ≡ joined_items (items_at s e y i)
   joined_list i p =
       let start : ℕ = place_at rows i in
@@ -116,15 +116,15 @@ module _ (s e : Column) (y : Layout) (rows : Column) (lists : Layout) (o : Colum
       let stop : place_at rows (i + 1) ≡ start + n = j.lengths i p in
       let c = place-ends i (omega (arith, p)) in
       let d : place_at (picked o rows) (i + 1) ≡ items_before vs (start + n) =
-          place-ends (i + 1) (omega (arith, p)) ∙ ap (items_before vs) stop in
+      place-ends (i + 1) (omega (arith, p)) ∙ ap (items_before vs) stop in
       let more = items_before-add vs start n in
       let size : place_at (picked o rows) (i + 1) - place_at (picked o rows) i
-          ≡ items_before (drop start vs) n = omega (arith, c, d, more) in
+      ≡ items_before (drop start vs) n = omega (arith, c, d, more) in
       let within = ends_offsets.within i p in
       let same : place_at rows (i + 1) - place_at rows i ≡ n = omega (arith, stop) in
       let inside = j.offsets.within i p in
       run-slice z (place_at (picked o rows) i)
-          (place_at (picked o rows) (i + 1) - place_at (picked o rows) i) within
+      (place_at (picked o rows) (i + 1) - place_at (picked o rows) i) within
       ∙ ap (λ k. take k (drop (place_at (picked o rows) i) (array_items z))) size
       ∙ ap (λ k. take (items_before (drop start vs) n) (drop k (array_items z))) c
       ∙ ap (λ ws. take (items_before (drop start vs) n) (drop (items_before vs start) ws)) h.column
@@ -146,8 +146,8 @@ module _ (s e : Column) (y : Layout) (rows : Column) (lists : Layout) (o : Colum
   stay has =
       ap (λ u. map (simple_value u) (array_items z)) (sym made_type)
       ∙ each_stays (array_type z) (simple_value (array_type z))
-          (λ v k. value_stays (array_type z) v (simple_is_simple (layout_type z)) k)
-          (array_items z) has
+      (λ v k. value_stays (array_type z) v (simple_is_simple (layout_type z)) k)
+      (array_items z) has
 
   part_stays : AllByRecursion (Has (array_type z)) (array_items z) → (i : ℕ) → i < size_of s
       → map (simple_value t) (joined_items (items_at s e y i)) ≡ joined_items (items_at s e y i)
@@ -155,7 +155,7 @@ module _ (s e : Column) (y : Layout) (rows : Column) (lists : Layout) (o : Colum
       let first : ℕ = place_at (picked o rows) i in
       let n : ℕ = place_at (picked o rows) (i + 1) - first in
       let part : take n (drop first (array_items z)) ≡ joined_items (items_at s e y i) =
-          sym (run-slice z first n (ends_offsets.within i p)) ∙ joined_list i p in
+      sym (run-slice z first n (ends_offsets.within i p)) ∙ joined_list i p in
       ap (map (simple_value t)) (sym part)
       ∙ sym (take-map (simple_value t) n (drop first (array_items z)))
       ∙ ap (take n) (sym (drop-map (simple_value t) first (array_items z)))
@@ -187,14 +187,14 @@ module _ (s e : Column) (y : Layout) (rows : Column) (lists : Layout)
   too_many_joined h =
       ap too_many counted_all
       ∙ ap (λ b. if b then Some Size else None)
-          (over_limit (length (joined_items (array_items lists))) h)
+      (over_limit (length (joined_items (array_items lists))) h)
 
   pub few_joined : length (joined_items (array_items lists)) ≤ item_limit
       → flatten_function.spoil (array_type y) (all_items_at s e y) ≡ None
   few_joined h =
       ap too_many counted_all
       ∙ ap (λ b. if b then Some Size else None)
-          (within_limit (length (joined_items (array_items lists))) h)
+      (within_limit (length (joined_items (array_items lists))) h)
 
 -- ---- the axis
 

@@ -70,14 +70,14 @@ items_before-add vs a n =
     ap length (joined-split (take (a + n) vs) a)
     ∙ length-append (joined_items (take a (take (a + n) vs))) (joined_items (drop a (take (a + n) vs)))
     ∙ ap (λ ws. length (joined_items ws) + length (joined_items (drop a (take (a + n) vs))))
-        (take-take vs a n)
+    (take-take vs a n)
     ∙ ap (λ ws. items_before vs a + length (joined_items ws)) (drop-take a n vs)
 
 pub items_before-mono : (vs : List Value) (a b : ℕ) → a ≤ b → items_before vs a ≤ items_before vs b
 items_before-mono vs a b p =
     let e : a + (b - a) ≡ b = omega (arith, p) in
     subst (λ k. items_before vs a ≤ items_before vs k) e
-        (omega (arith, items_before-add vs a (b - a)))
+    (omega (arith, items_before-add vs a (b - a)))
 
 pub items_before-all : (vs : List Value) (n : ℕ) → length vs ≤ n
     → items_before vs n ≡ length (joined_items vs)
@@ -126,10 +126,10 @@ run-slice x a n p =
     let z : 0 + a ≡ a = omega arith in
     value_list-run (array_item x) a n
     ∙ sym (ap (λ vs. take n (drop a vs)) (array_items-at x)
-        ∙ ap (λ k. take n (drop a (map (array_item x) (range_with_len 0 k)))) e
-        ∙ ap (take n) (drop-range (array_item x) 0 a m
-            ∙ ap (λ k. map (array_item x) (range_with_len k m)) z)
-        ∙ take-map-range_with_len (array_item x) a m n (omega (arith, p)))
+    ∙ ap (λ k. take n (drop a (map (array_item x) (range_with_len 0 k)))) e
+    ∙ ap (take n) (drop-range (array_item x) 0 a m
+    ∙ ap (λ k. map (array_item x) (range_with_len k m)) z)
+    ∙ take-map-range_with_len (array_item x) a m n (omega (arith, p)))
 
 -- ---- how many there are
 

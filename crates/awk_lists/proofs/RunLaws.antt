@@ -100,31 +100,31 @@ runs_pair v w vs = refl
 runs_step : (c : Column) (a stop : ℕ) → a + 1 < stop
     → runs_between c a stop
     ≡ (if int_eq (at c a) (at c (a + 1)) then longer (runs_between c (a + 1) stop)
-        else 1 ∷ runs_between c (a + 1) stop)
+    else 1 ∷ runs_between c (a + 1) stop)
 runs_step c a stop p =
     let rest : List Value = value_list (run (value_at c) (a + 1 + 1) (stop - (a + 1) - 1)) in
     let two : values_between c (a + 1) stop ≡ value_at c (a + 1) ∷ rest =
-        values_first c (a + 1) stop p in
+    values_first c (a + 1) stop p in
     ap runs (values_two c a stop p ∙ ap (λ vs. value_at c a ∷ vs) two)
     ∙ runs_pair (value_at c a) (value_at c (a + 1)) rest
     ∙ ap (λ vs. if is_same (value_at c a) (value_at c (a + 1)) then longer (runs vs)
-        else 1 ∷ runs vs) (sym two)
+    else 1 ∷ runs vs) (sym two)
     ∙ ap (λ b. if b then longer (runs_between c (a + 1) stop)
-        else 1 ∷ runs_between c (a + 1) stop) (same_value c.kind _ _)
+    else 1 ∷ runs_between c (a + 1) stop) (same_value c.kind _ _)
 
 pub runs_same : (c : Column) (a stop : ℕ) → a + 1 < stop → int_eq (at c a) (at c (a + 1)) ≡ true
     → runs_between c a stop ≡ longer (runs_between c (a + 1) stop)
 runs_same c a stop p e =
     runs_step c a stop p
     ∙ ap (λ b. if b then longer (runs_between c (a + 1) stop)
-        else 1 ∷ runs_between c (a + 1) stop) e
+    else 1 ∷ runs_between c (a + 1) stop) e
 
 pub runs_other : (c : Column) (a stop : ℕ) → a + 1 < stop → int_eq (at c a) (at c (a + 1)) ≡ false
     → runs_between c a stop ≡ 1 ∷ runs_between c (a + 1) stop
 runs_other c a stop p e =
     runs_step c a stop p
     ∙ ap (λ b. if b then longer (runs_between c (a + 1) stop)
-        else 1 ∷ runs_between c (a + 1) stop) e
+    else 1 ∷ runs_between c (a + 1) stop) e
 
 pub runs_one : (c : Column) (a stop : ℕ) → a + 1 ≡ stop → runs_between c a stop ≡ 1 ∷ []
 runs_one c a stop e = ap runs (values_one c a stop e)
@@ -144,7 +144,7 @@ run_begun c start stop =
     let k : start + 1 - 1 - start ≡ 0 = omega arith in
     let a : start + 1 - 1 ≡ start = omega arith in
     sym (ap₂ (λ m b. longer_by m (runs_between c b stop)) k a
-        ∙ longer_by-none (runs_between c start stop))
+    ∙ longer_by-none (runs_between c start stop))
 
 pub run_longer : (c : Column) (start stop i : ℕ) → start < i → i < stop
     → int_eq (at c (i - 1)) (at c i) ≡ true → IsRunSoFar c start stop i
@@ -154,8 +154,8 @@ run_longer c start stop i p q e h =
     let k : i - 1 - start + 1 ≡ i + 1 - 1 - start = omega (arith, p) in
     let here : i ≡ i + 1 - 1 = omega arith in
     h ∙ ap (longer_by (i - 1 - start))
-        (runs_same c (i - 1) stop (omega (arith, p, q))
-            (ap (λ j. int_eq (at c (i - 1)) (at c j)) one ∙ e))
+    (runs_same c (i - 1) stop (omega (arith, p, q))
+    (ap (λ j. int_eq (at c (i - 1)) (at c j)) one ∙ e))
     ∙ longer_by-next (i - 1 - start) (runs_between c (i - 1 + 1) stop)
     ∙ ap₂ (λ m b. longer_by m (runs_between c b stop)) k (one ∙ here)
 
@@ -166,8 +166,8 @@ run_ends c start stop i p q e h =
     let one : i - 1 + 1 ≡ i = omega (arith, p) in
     let k : i - 1 - start + 1 ≡ i - start = omega (arith, p) in
     h ∙ ap (longer_by (i - 1 - start))
-        (runs_other c (i - 1) stop (omega (arith, p, q))
-            (ap (λ j. int_eq (at c (i - 1)) (at c j)) one ∙ e))
+    (runs_other c (i - 1) stop (omega (arith, p, q))
+    (ap (λ j. int_eq (at c (i - 1)) (at c j)) one ∙ e))
     ∙ ap₂ (λ m b. m ∷ runs_between c b stop) k one
 
 pub run_whole : (c : Column) (start stop : ℕ) → start < stop → IsRunSoFar c start stop stop
@@ -218,11 +218,11 @@ pub runs_room : (zs old : List ℤ) (n room : ℕ) (rest all whole : List ℕ) �
     → length old + length whole ≤ room → length zs < room
 runs_room zs old n room rest all whole a h p =
     let l : length zs + length all ≡ length old + length whole =
-        sym (length-append zs (map (λ m. pos m) all)
-            ∙ ap (λ k. length zs + k) (length-map all (λ m. pos m)))
-        ∙ ap length h
-        ∙ length-append old (map (λ m. pos m) whole)
-        ∙ ap (λ k. length old + k) (length-map whole (λ m. pos m)) in
+    sym (length-append zs (map (λ m. pos m) all)
+    ∙ ap (λ k. length zs + k) (length-map all (λ m. pos m)))
+    ∙ ap length h
+    ∙ length-append old (map (λ m. pos m) whole)
+    ∙ ap (λ k. length old + k) (length-map whole (λ m. pos m)) in
     omega (arith, l, p, ap length a)
 
 pub runs_put : (c : Column) (stop : ℕ) (zs w : List ℤ)

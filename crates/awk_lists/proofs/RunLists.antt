@@ -69,14 +69,14 @@ range_more a (suc n) k =
     let e : a + 1 + n ≡ a + suc n = omega arith in
     ap (range_with_len a) z
     ∙ ap (λ xs. a ∷ xs) (range_more (a + 1) n k
-        ∙ ap (λ b. range_with_len (a + 1) n ++ range_with_len b k) e)
+    ∙ ap (λ b. range_with_len (a + 1) n ++ range_with_len b k) e)
 
 first_of-add : (f : ℕ → List ℕ) (i k : ℕ)
     → first_of f (i + k) ≡ first_of f i ++ flat_map f (range_with_len i k)
 first_of-add f i k =
     let z : 0 + i ≡ i = omega arith in
     ap (flat_map f) (range_more 0 i k
-        ∙ ap (λ b. range_with_len 0 i ++ range_with_len b k) z)
+    ∙ ap (λ b. range_with_len 0 i ++ range_with_len b k) z)
     ∙ flat_map-append f (range_with_len 0 i) (range_with_len i k)
 
 -- the part of all that is of one
@@ -86,7 +86,7 @@ first_of-part f i n p =
     let e : i + suc (n - i - 1) ≡ n = omega (arith, p) in
     let rest : List ℕ = flat_map f (range_with_len (i + 1) (n - i - 1)) in
     ap (λ xs. take (length (f i)) (drop (length (first_of f i)) xs))
-        (sym (ap (first_of f) e) ∙ first_of-add f i (suc (n - i - 1)))
+    (sym (ap (first_of f) e) ∙ first_of-add f i (suc (n - i - 1)))
     ∙ ap (take (length (f i))) (drop-append_seam (first_of f i) (f i ++ rest))
     ∙ take-append_seam (f i) rest
 
@@ -98,8 +98,8 @@ flat_items : (zs : List ℤ)
 flat_items zs =
     array_items-at (flat (record { kind = I64; items = zs }))
     ∙ sym (fill_by_all (λ k. int (at (record { kind = I64; items = zs }) k)) (map (λ z. int z) zs)
-        (length zs) (int (pos 0)) (length-map zs (λ z. int z)) 
-        (λ k p. get_or-map (λ z. int z) zs k (pos 0) (int (pos 0)) p))
+    (length zs) (int (pos 0)) (length-map zs (λ z. int z))
+    (λ k p. get_or-map (λ z. int z) zs k (pos 0) (int (pos 0)) p))
 
 module _ (s e : Column) (y : Layout) (o : Column) (z : Layout) (c : Column)
     (class : Class) (a : AreLists class s e y) (j : JoinsLists s e y o z) (n : AreNumbers z c) where
@@ -130,8 +130,13 @@ module _ (s e : Column) (y : Layout) (o : Column) (z : Layout) (c : Column)
       let q : i < size_of s = omega (arith, p) in
       let one : i + 1 ≡ suc i = omega arith in
       subst (λ k. runs_before c o k ≤ place_at o k) one
-          (omega (arith, length-first_of (runs_at c o) i, few_before i (omega (arith, p)),
-              few_at i q, j.lengths i q))
+      (omega (
+        arith,
+        length-first_of (runs_at c o) i,
+        few_before i (omega (arith, p)),
+        few_at i q,
+        j.lengths i q,
+      ))
 
   pub few_runs : runs_before c o (size_of s) ≤ size_of c
   few_runs = omega (arith, few_before (size_of s) (omega arith), j.offsets.last, n.size)
@@ -158,22 +163,22 @@ module _ (s e : Column) (y : Layout) (o : Column) (z : Layout) (c : Column)
   run_ends_offsets : AreOffsets (run_offsets c o (size_of s)) (size_of s) (len made)
   run_ends_offsets =
       rising_offsets (run_offsets c o (size_of s)) (size_of s) (len made) (runs_before c o) tt
-          (size-lane_of I64 (size_of s + 1) (λ k. pos (runs_before c o k)))
-          a.fits at-runs (λ i p. omega (arith, length-first_of (runs_at c o) i)) refl
-          (sym size-made)
+      (size-lane_of I64 (size_of s + 1) (λ k. pos (runs_before c o k)))
+      a.fits at-runs (λ i p. omega (arith, length-first_of (runs_at c o) i)) refl
+      (sym size-made)
 
   -- the values of a list are those of the lane
   same_values : (i : ℕ) → i < size_of s → runs_at c o i ≡ runs (items_at s e y i)
   same_values i p =
       ap runs (ap value_list (sym (j.lists i p
-          ∙ run_same (array_item z) (λ k. leaf_value c.kind (at c k)) (place_at o i)
-              (place_at o (i + 1) - place_at o i)
-              (λ k q r. n.items k (omega (arith, r, j.offsets.within i p))))))
+      ∙ run_same (array_item z) (λ k. leaf_value c.kind (at c k)) (place_at o i)
+      (place_at o (i + 1) - place_at o i)
+      (λ k q r. n.items k (omega (arith, r, j.offsets.within i p))))))
 
   run_list : (i : ℕ) → i < size_of s
       → value_list (run (array_item made) (place_at (run_offsets c o (size_of s)) i)
-          (place_at (run_offsets c o (size_of s)) (i + 1)
-          - place_at (run_offsets c o (size_of s)) i))
+      (place_at (run_offsets c o (size_of s)) (i + 1)
+      - place_at (run_offsets c o (size_of s)) i))
       ≡ map (λ (k : ℕ). int (pos k)) (runs (items_at s e y i))
   run_list i p =
       let w : Column = run_offsets c o (size_of s) in
@@ -181,10 +186,10 @@ module _ (s e : Column) (y : Layout) (o : Column) (z : Layout) (c : Column)
       let next = place-runs (i + 1) (omega (arith, p)) in
       let more = length-first_of (runs_at c o) i in
       let size : place_at w (i + 1) - place_at w i ≡ length (runs_at c o i) =
-          omega (arith, first, next, more) in
+      omega (arith, first, next, more) in
       let all : List ℕ = first_of (runs_at c o) (size_of s) in
       run-slice made (place_at w i) (place_at w (i + 1) - place_at w i)
-          (run_ends_offsets.within i p)
+      (run_ends_offsets.within i p)
       ∙ ap (λ k. take k (drop (place_at w i) (array_items made))) size
       ∙ ap (λ k. take (length (runs_at c o i)) (drop k (array_items made))) first
       ∙ ap (λ vs. take (length (runs_at c o i)) (drop (runs_before c o i) vs)) items-made
@@ -203,7 +208,7 @@ module _ (s e : Column) (y : Layout) (o : Column) (z : Layout) (c : Column)
     typ = refl;
     lists = λ i p. run_list i p
         ∙ sym (map-map (simple_value (leaf primitive.I64)) (λ (k : ℕ). int (pos k))
-            (runs (items_at s e y i)));
+        (runs (items_at s e y i)));
   }
 
 -- ---- how many items there are

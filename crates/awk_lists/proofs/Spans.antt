@@ -27,8 +27,13 @@ span_wider : (m n : ℕ) (a b : ℤ) → m ≤ n → IsSpan m a b → IsSpan n a
 span_wider m n a b p h = λ d. ((h d).0, (h d).1, omega (arith, ints, (h d).2, p))
 
 pub spans_wider : (s t : Column) (m n : ℕ) → m ≤ n → AreSpans s t m → AreSpans s t n
-spans_wider s t m n p h = record { start_kind = h.start_kind; stop_kind = h.stop_kind; same_size =
-    h.same_size; ordered = λ i q. span_wider m n (at s i) (at t i) p (h.ordered i q) }
+spans_wider s t m n p h = record {
+  start_kind = h.start_kind;
+  stop_kind = h.stop_kind;
+  same_size =
+      h.same_size;
+  ordered = λ i q. span_wider m n (at s i) (at t i) p (h.ordered i q);
+}
 
 -- lists of an array, within the greatest length
 pub lists_within : (class : Class) (s t : Column) (y : Layout) → AreLists class s t y

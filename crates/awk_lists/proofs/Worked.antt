@@ -46,7 +46,7 @@ abbrev nested : Datum
 nested =
     arr (var (reg 1 int64))
     (list_value (ints_list (pos 1 ∷ []) ∷ ints_list (pos 2 ∷ []) ∷ [])
-      ∷ list_value (ints_list (pos 3 ∷ []) ∷ []) ∷ [])
+    ∷ list_value (ints_list (pos 3 ∷ []) ∷ []) ∷ [])
 
 -- ---- lengths
 

@@ -82,13 +82,7 @@ fn count(x: Num) -> u64
     ensures { result ≡ nat_of (int_of x) }
 {
     match x {
-        Num::Int(z) => {
-            if z < 0 {
-                0
-            } else {
-                z as u64
-            }
-        }
+        Num::Int(z) => { if z < 0 { 0 } else { z as u64 } }
         Num::Nat(n) => n,
         Num::Truth(b) => u64::from(b),
     }

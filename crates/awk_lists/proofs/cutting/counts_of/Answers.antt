@@ -10,4 +10,4 @@ numbers_of-requires g c = counts_leaf (array_type c.args.counts.now) c.requires
 pub returns : goal.returns
 returns g c =
     if_ok (AreNumbers c.args.counts.now) (AreCounts c.args.counts.now) c.numbers_of.result
-        (λ n h. are_whole c.args.counts.now n c.requires h) c.numbers_of.ensures
+    (λ n h. are_whole c.args.counts.now n c.requires h) c.numbers_of.ensures

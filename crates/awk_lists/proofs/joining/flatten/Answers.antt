@@ -16,9 +16,9 @@ pub returns-clause-answer : goal.returns-clause-answer
 returns-clause-answer g c =
     let fits : FitsSigned w64 c.axis_before-before.result = search rules in
     subst (λ said. Gives datum_of fault_told c.lift_at.result said)
-        (ap (λ z. lift flatten_function z (datum_of c.args.x.now))
-            (to_z-of_z w64 c.axis_before-before.result fits ∙ c.axis_before-before.ensures)
-            ∙ ap (λ z. lift flatten_function (pos (nat_of z - 1)) (datum_of c.args.x.now))
-                (to_z-of_z w64 c.args.axis c.ranges.axis)
-            ∙ flatten_at c.args.axis (datum_of c.args.x.now) (search rules))
-        c.lift_at.ensures.answer
+    (ap (λ z. lift flatten_function z (datum_of c.args.x.now))
+    (to_z-of_z w64 c.axis_before-before.result fits ∙ c.axis_before-before.ensures)
+    ∙ ap (λ z. lift flatten_function (pos (nat_of z - 1)) (datum_of c.args.x.now))
+    (to_z-of_z w64 c.args.axis c.ranges.axis)
+    ∙ flatten_at c.args.axis (datum_of c.args.x.now) (search rules))
+    c.lift_at.ensures.answer

@@ -16,20 +16,20 @@ lists_of-requires g c =
 pub returns-in-TooMany : goal.returns-in-TooMany
 returns-in-TooMany g c =
     too_many_joined c.args.starts.now c.args.stops.now c.args.content.now c.args.rows.now
-        c.args.lists.now c.requires.rows (rw c.in-TooMany.is at c.in_ok-lists_of.ensures)
+    c.args.lists.now c.requires.rows (rw c.in-TooMany.is at c.in_ok-lists_of.ensures)
 
 pub offsets_at-requires : goal.offsets_at-requires
 offsets_at-requires g c =
     let h : IsListed c.args.lists.now (Lists c.in-Lists.offsets c.in-Lists.content) =
-        rw c.in-Lists.is at c.in_ok-lists_of.ensures in
+    rw c.in-Lists.is at c.in_ok-lists_of.ensures in
     rows_index c.args.starts.now c.args.stops.now c.args.content.now c.args.rows.now
-        c.args.lists.now c.in-Lists.offsets c.in-Lists.content c.args.class c.requires.spans
-        c.requires.rows h.1
+    c.args.lists.now c.in-Lists.offsets c.in-Lists.content c.args.class c.requires.spans
+    c.requires.rows h.1
 
 pub returns-in_ok-copy-in-Lists : goal.returns-in_ok-copy-in-Lists
 returns-in_ok-copy-in-Lists g c =
     let h : IsListed c.args.lists.now (Lists c.in-Lists.offsets c.in-Lists.content) =
-        rw c.in-Lists.is at c.in_ok-lists_of.ensures in
+    rw c.in-Lists.is at c.in_ok-lists_of.ensures in
     rw (c.in_ok-copy-in-Lists.ensures, c.node.ensures, c.in_ok-offsets-in-Lists.ensures) (
       few_joined c.args.starts.now c.args.stops.now c.args.content.now c.args.rows.now
           c.args.lists.now c.requires.rows h.0,
