@@ -1,28 +1,27 @@
 -- An array cut by counts.
 use Rattle.std.specs.Prelude.{◌≡◌, ℕ, zero, suc, ◌+◌, ◌-◌, ◌<◌, ◌≤◌, ◌^◌, ◌==◌, nat_eq, nat_lt, refl}
 use Rattle.std.specs.Prelude.{Bool, true, false, ◌||◌, not, List, [], ◌∷◌, length, map, take, drop}
-use Rattle.std.specs.Prelude.{get_or, sum_by, ℤ, pos, Option, Some, None, Result, Ok, Err}
+use Rattle.std.specs.Prelude.{get_or, sum_by, pos, Some, None, Ok, Err}
 use Rattle.std.specs.Prelude.{if◌then◌else◌}
 use Rattle.std.specs.List.{list_any, range_with_len}
-use Rattle.std.proofs.Common.{arith, ap, ap₂, sym, ◌∙◌, subst}
+use Rattle.std.proofs.Common.{arith, ap, ap₂, sym, ◌∙◌}
 use Rattle.std.proofs.lemmas.List.{length-map, take_all}
 use Rattle.std.proofs.lemmas.List.Folds.{list_any_at, list_any_more}
 use Rattle.std.proofs.lemmas.List.FromFn.{fill_by_all}
 use Rattle.std.proofs.lemmas.List.Sums.{sum_by-cons, sum_by_more, sum_by-take-le}
 use Rattle.awk_types.specs.DataType.{DataType, var}
-use Rattle.awk_types.specs.Datum.{Datum, arr}
+use Rattle.awk_types.specs.Datum.{arr}
 use Rattle.awk_types.specs.Gives.{refused_or, ◌or◌}
 use Rattle.awk_types.specs.Simple.{simple_value}
-use Rattle.awk_types.specs.Value.{Value, null, int, list, value_list, values_from}
-use Rattle.awk_types.specs.declared.fault.Fault.{Fault}
+use Rattle.awk_types.specs.Value.{Value, null, int, list, values_from}
 use Rattle.awk_types.specs.declared.fault.Fault.TheVariants.{Lengths, Size}
 use Rattle.awk_types.proofs.Trees.{values_from-list}
 use Rattle.awk_lanes.specs.Column.{Column}
 use Rattle.awk_lanes.specs.Numbers.{nat_of}
-use Rattle.awk_lanes.specs.Places.{size_of, at, place_at}
+use Rattle.awk_lanes.specs.Places.{at, place_at}
 use Rattle.awk_lanes.specs.declared.kind.Kind.TheVariants.{I64}
 use Rattle.awk_layout.specs.Layout.{Layout, offset_lists}
-use Rattle.awk_layout.specs.Item.{item, run}
+use Rattle.awk_layout.specs.Item.{item}
 use Rattle.awk_layout.specs.Typing.{layout_type, array_type, array_items, array_datum}
 use Rattle.awk_layout.specs.Valid.{len}
 use Rattle.awk_layout.proofs.ArrayItems.{length-array_items, get_or-array_items}
@@ -35,7 +34,7 @@ use Rattle.awk_axis.specs.Joined.{AreOffsets}
 use Rattle.awk_axis.proofs.ArrayLaws.{array_items-at, map-same, run_in_list}
 use Rattle.awk_lists.specs.Numbers.{AreCounts}
 use Rattle.awk_lists.specs.Unflatten.{is_negative, count_of, counted_before, do_not_add_up, cut_by}
-use Rattle.awk_lists.specs.Unflatten.{lists_by, lengths_refused, cut_items}
+use Rattle.awk_lists.specs.Unflatten.{lists_by, cut_items}
 use Rattle.awk_lists.proofs.Ends.{rising_offsets}
 use Rattle.awk_lists.proofs.JoinedItems.{run-slice}
 

@@ -1,7 +1,7 @@
 -- Offsets by what stands before each list, and the lists of an array.
 use Rattle.std.specs.Prelude.{◌≡◌, ℕ, zero, suc, ◌+◌, ◌-◌, ◌<◌, ◌≤◌, ◌^◌, refl, List, [], ◌∷◌}
-use Rattle.std.specs.Prelude.{length, map, take, drop, get_or, filter, ℤ, pos, negsuc, ◌<ℤ◌, cond}
-use Rattle.std.specs.Prelude.{Option, Some, None, true, false}
+use Rattle.std.specs.Prelude.{length, take, drop, get_or, ℤ, pos, negsuc, ◌<ℤ◌, cond}
+use Rattle.std.specs.Prelude.{Some, None, true, false}
 use Rattle.std.specs.List.{flat_map, range_with_len}
 use Rattle.std.proofs.Common.{arith, ap, sym, ◌∙◌, subst}
 use Rattle.std.proofs.lemmas.Int.{ints}
@@ -11,23 +11,23 @@ use Rattle.std.proofs.lemmas.List.Elements.{filter-append}
 use Rattle.std.proofs.lemmas.List.Filters.{length-filter_more}
 use Rattle.awk_types.specs.DataType.{DataType, unknown, leaf, var, reg, rec, tup, opt, uni}
 use Rattle.awk_types.specs.Simple.{present, is_option}
-use Rattle.awk_types.specs.Value.{Value, null, int, truth, list, row, alt, value_list}
+use Rattle.awk_types.specs.Value.{Value, null, int, truth, list, row, alt}
 use Rattle.awk_lanes.specs.Column.{Column}
 use Rattle.awk_lanes.specs.Numbers.{nat_of}
-use Rattle.awk_lanes.specs.Places.{size_of, at, place_at, option_place, option_place_at, IsSpan}
-use Rattle.awk_lanes.specs.Places.{IsIndex, IsIndexKind, IsOptionalIndex}
+use Rattle.awk_lanes.specs.Places.{size_of, at, place_at, option_place}
+use Rattle.awk_lanes.specs.Places.{IsIndex, IsIndexKind}
 use Rattle.awk_lanes.specs.declared.kind.Kind.TheVariants.{I64}
 use Rattle.awk_layout.specs.Layout.{Layout}
 use Rattle.awk_layout.specs.Item.{run, at_option}
-use Rattle.awk_layout.specs.Typing.{layout_type, array_type, array_items}
+use Rattle.awk_layout.specs.Typing.{array_type, array_items}
 use Rattle.awk_layout.specs.Valid.{len, IsValid}
 use Rattle.awk_layout.proofs.ArrayItems.{length-array_items, get_or-array_items}
 use Rattle.awk_layout.proofs.Runs.{length-run}
 use Rattle.awk_gather.specs.Arrays.{array_item}
 use Rattle.awk_gather.specs.Columns.{joined_items, list_items, is_present}
-use Rattle.awk_gather.specs.Counted.{item_limit, first_of, present_at, present_place, span_at}
-use Rattle.awk_gather.specs.Counted.{offset_at, offsets_lane}
-use Rattle.awk_gather.specs.Lanes.{lane_of, picked}
+use Rattle.awk_gather.specs.Counted.{item_limit, first_of, present_at, present_place}
+use Rattle.awk_gather.specs.Counted.{offset_at}
+use Rattle.awk_gather.specs.Lanes.{picked}
 use Rattle.awk_gather.proofs.FirstPlaces.{length-first_of}
 use Rattle.awk_gather.proofs.ItemShapes.{present_item}
 use Rattle.awk_gather.proofs.MadeLanes.{size-lane_of, at-lane_of}
@@ -40,10 +40,9 @@ use Rattle.awk_axis.specs.declared.opening.Joined.{Joined}
 use Rattle.awk_axis.specs.declared.opening.Joined.TheVariants.{TooMany, Lists}
 use Rattle.awk_axis.proofs.ArrayLaws.{lists-inner}
 use Rattle.awk_lists.specs.Flatten.{is_list, item_type}
-use Rattle.awk_lists.specs.Listed.{items_before, present_lane, AreEnds, AreListed}
+use Rattle.awk_lists.specs.Listed.{items_before, present_lane, AreEnds}
 use Rattle.awk_lists.specs.Listed.{IsListed}
-use Rattle.awk_lists.proofs.JoinedItems.{joined-present, items_before-next, items_before-all}
-use Rattle.awk_lists.proofs.JoinedItems.{items_before-mono}
+use Rattle.awk_lists.proofs.JoinedItems.{joined-present, items_before-next}
 
 -- ---- offsets
 

@@ -1,7 +1,7 @@
 -- Lists of a column joined: what is made of them, and when they are too many.
-use Rattle.std.specs.Prelude.{◌≡◌, ℕ, zero, suc, ◌+◌, ◌-◌, ◌<◌, ◌≤◌, ◌^◌, nat_lt, true, false, refl}
+use Rattle.std.specs.Prelude.{◌≡◌, ℕ, zero, suc, ◌+◌, ◌-◌, ◌<◌, ◌≤◌, true, false, refl}
 use Rattle.std.specs.Prelude.{List, length, map, take, drop, sum, ℤ, pos, negsuc, ◌≤ℤ◌, ◌-ℤ◌, Bool}
-use Rattle.std.specs.Prelude.{Option, Some, None, if◌then◌else◌}
+use Rattle.std.specs.Prelude.{Some, None, if◌then◌else◌}
 use Rattle.std.specs.List.{AllByRecursion, range_with_len}
 use Rattle.std.proofs.Common.{arith, ap, sym, ◌∙◌, subst}
 use Rattle.std.proofs.lemmas.Int.{ints}
@@ -14,12 +14,11 @@ use Rattle.awk_types.specs.Value.{Value, value_list}
 use Rattle.awk_types.proofs.SimpleLaws.{simple_twice, simple_is_simple, value_stays, each_stays}
 use Rattle.awk_lanes.specs.Column.{Column}
 use Rattle.awk_lanes.specs.Numbers.{nat_of}
-use Rattle.awk_lanes.specs.Places.{size_of, at, place_at, IsIndex, IsIndexKind}
-use Rattle.awk_lanes.specs.declared.kind.Kind.TheVariants.{I64}
+use Rattle.awk_lanes.specs.Places.{size_of, at, place_at, IsIndex}
 use Rattle.awk_layout.specs.Layout.{Layout}
 use Rattle.awk_layout.specs.Item.{run}
 use Rattle.awk_layout.specs.Typing.{layout_type, array_type, array_items}
-use Rattle.awk_layout.specs.Valid.{len, IsValid}
+use Rattle.awk_layout.specs.Valid.{len}
 use Rattle.awk_layout.proofs.ArrayItems.{length-array_items}
 use Rattle.awk_gather.specs.Arrays.{array_item}
 use Rattle.awk_gather.specs.Columns.{joined_items}
@@ -29,16 +28,14 @@ use Rattle.awk_gather.proofs.PickedLanes.{size-picked, at-picked}
 use Rattle.awk_axis.specs.Joined.{AreOffsets, JoinsLists}
 use Rattle.awk_axis.specs.Lifting.{lift}
 use Rattle.awk_axis.specs.ListFunction.{Class}
-use Rattle.awk_axis.specs.Mapped.{AreGiven, IsMade}
+use Rattle.awk_axis.specs.Mapped.{AreGiven}
 use Rattle.awk_axis.specs.Opened.{AreLists, items_at, all_items_at}
 use Rattle.awk_axis.specs.Spoils.{too_many}
-use Rattle.awk_axis.specs.declared.causes.Refusal.{Refusal}
 use Rattle.awk_axis.specs.declared.causes.Refusal.TheVariants as refused
 use Rattle.awk_axis.specs.declared.causes.Spoil.TheVariants.{Size}
-use Rattle.awk_axis.specs.declared.function.Made.TheVariants as made
-use Rattle.awk_axis.specs.declared.opening.Joined.TheVariants.{TooMany, Lists}
+use Rattle.awk_axis.specs.declared.opening.Joined.TheVariants.{TooMany}
 use Rattle.awk_lists.specs.Flatten.{is_list, item_type, flatten_function, flatten_of}
-use Rattle.awk_lists.specs.Listed.{items_before, AreEnds, AreListed, IsListed}
+use Rattle.awk_lists.specs.Listed.{items_before, AreListed, IsListed}
 use Rattle.awk_lists.proofs.Ends.{rising_offsets, joined_at}
 use Rattle.awk_lists.proofs.JoinedItems.{items_before-add, items_before-mono, items_before-all}
 use Rattle.awk_lists.proofs.JoinedItems.{slice-joined, run-slice, count-joined}

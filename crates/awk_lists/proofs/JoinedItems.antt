@@ -1,6 +1,6 @@
 -- The items of lists one after another: parts of them, and how many there are.
 use Rattle.std.specs.Prelude.{◌≡◌, ℕ, zero, suc, ◌+◌, ◌-◌, ◌<◌, ◌≤◌, refl, List, [], ◌∷◌, ◌++◌}
-use Rattle.std.specs.Prelude.{length, map, take, drop, get_or, sum, sum_by, filter}
+use Rattle.std.specs.Prelude.{length, map, take, drop, get_or, sum}
 use Rattle.std.specs.List.{flat_map, range_with_len}
 use Rattle.std.proofs.Common.{arith, ap, sym, ◌∙◌, subst, add-one}
 use Rattle.std.proofs.Math.Seq.{drop-append_seam, take-append_seam}

@@ -1,16 +1,16 @@
 -- Lists one after another: their offsets, and the places of their items.
 use Rattle.std.specs.Prelude.{◌≡◌, ℕ, zero, suc, ◌+◌, ◌-◌, ◌*◌, ◌<◌, ◌≤◌, ◌^◌, refl, List, [], ◌∷◌}
 use Rattle.std.specs.Prelude.{◌++◌, map, length, sum, get_or, nat_lt, true, false, if◌then◌else◌, ℤ}
-use Rattle.std.specs.Prelude.{pos, ◌≤ℤ◌, Option, Some, None}
+use Rattle.std.specs.Prelude.{pos, Some, None}
 use Rattle.std.proofs.Common.{arith, ap, sym, ◌∙◌, subst, add-one}
 use Rattle.std.proofs.lemmas.Int.{ints}
 use Rattle.std.proofs.lemmas.Simd.{map-map}
 use Rattle.std.proofs.lemmas.List.{length-append, get_or_append_left, get_or-append_right}
-use Rattle.std.proofs.lemmas.List.FromFn.{length-map-range_with_len, length-range_with_len}
+use Rattle.std.proofs.lemmas.List.FromFn.{length-map-range_with_len}
 use Rattle.std.proofs.lemmas.List.FromFn.{get_or-map-range_with_len, map-range_with_len_more}
 use Rattle.std.proofs.lemmas.List.FromFn.{fill_by_all}
 use Rattle.std.specs.List.{range_with_len, fold}
-use Rattle.awk_types.specs.DataType.{DataType, leaf}
+use Rattle.awk_types.specs.DataType.{leaf}
 use Rattle.awk_types.specs.declared.primitive.Primitive.TheVariants.{I64}
 use Rattle.awk_types.specs.Simple.{simple_value}
 use Rattle.awk_types.specs.Value.{Value, null, int, value_list}
@@ -18,12 +18,11 @@ use Rattle.awk_lanes.specs.declared.kind.Kind.TheVariants as kinds
 use Rattle.awk_lanes.specs.Column.{Column}
 use Rattle.awk_lanes.specs.Making.{Making, with_item}
 use Rattle.awk_lanes.specs.Numbers.{nat_of}
-use Rattle.awk_lanes.specs.Places.{size_of, at, place_at, IsSpan, IsOffsets}
+use Rattle.awk_lanes.specs.Places.{size_of, at, place_at, IsSpan}
 use Rattle.awk_layout.specs.Layout.{Layout, flat}
 use Rattle.awk_layout.specs.Item.{run}
 use Rattle.awk_axis.specs.ListFunction.{Class}
 use Rattle.awk_lists.specs.Lanes.{span_length, before, offsets_lane, local_places, local_lane}
-use Rattle.awk_gather.specs.Lanes.{lane_of}
 use Rattle.awk_lists.specs.LocalIndex.{local_index_function}
 use Rattle.awk_axis.specs.declared.causes.Spoil.TheVariants.{Size}
 use Rattle.awk_layout.specs.Typing.{array_type}

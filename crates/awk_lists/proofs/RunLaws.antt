@@ -1,14 +1,14 @@
 -- Runs of equal neighbours: how they grow, and those of neighbouring lists.
-use Rattle.std.specs.Prelude.{◌≡◌, ℕ, zero, suc, ◌+◌, ◌-◌, ◌<◌, ◌≤◌, ◌^◌, refl, List, [], ◌∷◌, ◌++◌}
-use Rattle.std.specs.Prelude.{length, map, Bool, true, false, ℤ, pos, negsuc, if◌then◌else◌}
+use Rattle.std.specs.Prelude.{◌≡◌, ℕ, zero, suc, ◌+◌, ◌-◌, ◌<◌, ◌≤◌, refl, List, [], ◌∷◌, ◌++◌}
+use Rattle.std.specs.Prelude.{length, map, Bool, true, false, ℤ, pos, if◌then◌else◌}
 use Rattle.std.specs.Ordering.{int_eq}
-use Rattle.std.proofs.Common.{arith, ap, ap₂, sym, ◌∙◌, subst}
+use Rattle.std.proofs.Common.{arith, ap, ap₂, sym, ◌∙◌}
 use Rattle.std.proofs.lemmas.List.{length-append, length-map}
 use Rattle.awk_axis.proofs.ListLaws.{append_one}
-use Rattle.awk_types.specs.Value.{Value, int, truth, value_list}
+use Rattle.awk_types.specs.Value.{Value, value_list}
 use Rattle.awk_lanes.specs.Column.{Column}
-use Rattle.awk_lanes.specs.Numbers.{int_of, is_nonzero, element, IsOf}
-use Rattle.awk_lanes.specs.Places.{size_of, at}
+use Rattle.awk_lanes.specs.Numbers.{is_nonzero, element, IsOf}
+use Rattle.awk_lanes.specs.Places.{at}
 use Rattle.awk_lanes.specs.declared.kind.Kind.{Kind}
 use Rattle.awk_lanes.specs.declared.kind.Kind.TheVariants as kinds
 use Rattle.awk_lanes.specs.declared.kind.Num.{Num}

@@ -1,8 +1,8 @@
 -- The runs of the lists of a column: what is made of them.
-use Rattle.std.specs.Prelude.{◌≡◌, ℕ, zero, suc, ◌+◌, ◌-◌, ◌<◌, ◌≤◌, ◌^◌, nat_lt, refl, true, false}
+use Rattle.std.specs.Prelude.{◌≡◌, ℕ, zero, suc, ◌+◌, ◌-◌, ◌<◌, ◌≤◌, ◌^◌, refl, true, false}
 use Rattle.std.specs.Prelude.{Bool}
-use Rattle.std.specs.Prelude.{List, [], ◌∷◌, ◌++◌, length, map, take, drop, sum, ℤ, pos, ◌≤ℤ◌}
-use Rattle.std.specs.Prelude.{Option, Some, None, if◌then◌else◌}
+use Rattle.std.specs.Prelude.{List, ◌∷◌, ◌++◌, length, map, take, drop, sum, ℤ, pos}
+use Rattle.std.specs.Prelude.{Some, None, if◌then◌else◌}
 use Rattle.std.specs.List.{range_with_len, flat_map}
 use Rattle.std.proofs.Common.{arith, ap, sym, ◌∙◌, subst}
 use Rattle.std.proofs.Math.Seq.{drop-append_seam, take-append_seam}
@@ -25,10 +25,9 @@ use Rattle.awk_layout.specs.Item.{leaf_value, run}
 use Rattle.awk_layout.specs.Layout.{Layout, flat}
 use Rattle.awk_layout.specs.Typing.{array_type, array_items}
 use Rattle.awk_layout.specs.Valid.{len}
-use Rattle.awk_layout.proofs.Runs.{value_list-run}
 use Rattle.awk_gather.specs.Arrays.{array_item}
 use Rattle.awk_gather.specs.Counted.{item_limit, first_of}
-use Rattle.awk_gather.proofs.FirstPlaces.{first_of-more, length-first_of, first_of-mono}
+use Rattle.awk_gather.proofs.FirstPlaces.{length-first_of}
 use Rattle.awk_gather.proofs.MadeLanes.{size-lane_of, at-lane_of}
 use Rattle.awk_axis.specs.Joined.{AreOffsets, JoinsLists, total, IsJoined}
 use Rattle.awk_axis.specs.ListFunction.{Class}
@@ -38,11 +37,11 @@ use Rattle.awk_axis.specs.Reach.{is_leaf}
 use Rattle.awk_axis.specs.Spoils.{too_many}
 use Rattle.awk_axis.specs.declared.causes.Refusal.TheVariants as refused
 use Rattle.awk_axis.specs.declared.causes.Spoil.TheVariants.{Size}
-use Rattle.awk_axis.specs.declared.opening.Joined.TheVariants.{TooMany, Lists}
+use Rattle.awk_axis.specs.declared.opening.Joined.TheVariants.{TooMany}
 use Rattle.awk_axis.proofs.ArrayLaws.{run_same, array_items-at}
 use Rattle.awk_lists.specs.Numbers.{AreNumbers}
 use Rattle.awk_lists.specs.RunLengths.{runs, run_lengths_function}
-use Rattle.awk_lists.specs.Runs.{runs_between, runs_at, runs_before, run_offsets, run_lane}
+use Rattle.awk_lists.specs.Runs.{runs_at, runs_before, run_offsets, run_lane}
 use Rattle.awk_lists.specs.Runs.{AreRising}
 use Rattle.awk_lists.proofs.Ends.{rising_offsets, joined_at}
 use Rattle.awk_lists.proofs.JoinedItems.{run-slice}

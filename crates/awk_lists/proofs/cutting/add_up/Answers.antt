@@ -1,12 +1,10 @@
-use Rattle.std.proofs.Common.{◌≡◌, ◌+◌, ◌<◌, ◌≤◌, length, arith, ap, sym, ◌∙◌}
-use Rattle.std.specs.Prelude.{true, false}
+use Rattle.std.proofs.Common.{◌+◌, ◌<◌, arith, ap, sym, ◌∙◌}
 use Rattle.awk_types.specs.Value.{int}
 use Rattle.awk_lanes.specs.Numbers.{nat_of}
-use Rattle.awk_lanes.specs.Places.{at}
 use Rattle.awk_layout.specs.Typing.{array_items}
 use Rattle.awk_layout.specs.Valid.{len}
 use Rattle.awk_layout.proofs.ArrayItems.{length-array_items}
-use Rattle.awk_lists.specs.Unflatten.{is_negative, counted_before}
+use Rattle.awk_lists.specs.Unflatten.{is_negative}
 use Rattle.awk_lists.proofs.Cuts.{negative_wrong, over_wrong, negative_next, counted_next}
 use Rattle.awk_lists.proofs.Cuts.{counted_few, all_added}
 use Rattle.awk_lists.proofs.cutting.add_up.Goals as goal

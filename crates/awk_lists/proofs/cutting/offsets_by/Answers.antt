@@ -1,4 +1,4 @@
-use Rattle.std.proofs.Common.{◌≡◌, ◌+◌, ◌<◌, length, arith, ap, ◌∙◌}
+use Rattle.std.proofs.Common.{◌≡◌, ◌+◌, ◌<◌, arith, ap, ◌∙◌}
 use Rattle.std.specs.Prelude.{pos}
 use Rattle.awk_lanes.specs.Numbers.{int_of, nat_of}
 use Rattle.awk_lanes.specs.declared.kind.Kind.TheVariants.{I64}

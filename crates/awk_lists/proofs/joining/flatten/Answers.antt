@@ -1,4 +1,4 @@
-use Rattle.std.proofs.Common.{◌≡◌, ap, ◌∙◌, subst, to_z, of_z}
+use Rattle.std.proofs.Common.{ap, ◌∙◌, subst}
 use Rattle.std.specs.Prelude.{FitsSigned, pos, ◌-◌}
 use Rattle.awk_lanes.specs.Numbers.{nat_of}
 use Rattle.std.specs.Int.{w64}

@@ -1,8 +1,7 @@
-use Rattle.std.proofs.Common.{◌≡◌, ap, sym, ◌∙◌}
-use Rattle.std.specs.Prelude.{true, None}
+use Rattle.std.proofs.Common.{ap, ◌∙◌}
 use Rattle.awk_types.specs.Simple.{present}
 use Rattle.awk_layout.specs.Typing.{array_type}
-use Rattle.awk_axis.specs.declared.opening.Joined.TheVariants.{TooMany, Lists}
+use Rattle.awk_axis.specs.declared.opening.Joined.TheVariants.{Lists}
 use Rattle.awk_lists.specs.Flatten.{is_list}
 use Rattle.awk_lists.specs.Listed.{IsListed}
 use Rattle.awk_lists.proofs.Flattened.{are_lists, rows_index, are_given, too_many_joined, few_joined}

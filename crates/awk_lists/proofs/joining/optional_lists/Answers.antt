@@ -1,5 +1,4 @@
-use Rattle.std.proofs.Common.{sym, ap₂}
-use Rattle.awk_axis.specs.declared.opening.Joined.TheVariants.{TooMany, Lists}
+use Rattle.awk_axis.specs.declared.opening.Joined.TheVariants.{Lists}
 use Rattle.awk_lists.specs.Listed.{IsListed}
 use Rattle.awk_lists.proofs.Ends.{option_places, option_listed, option_refused}
 use Rattle.awk_lists.proofs.joining.optional_lists.Goals as goal

@@ -1,5 +1,5 @@
-use Rattle.std.proofs.Common.{◌≡◌, length, ap, sym, ◌∙◌, arith}
-use Rattle.std.specs.Prelude.{ℕ, ℤ, pos}
+use Rattle.std.proofs.Common.{◌≡◌, length, ap, ◌∙◌, arith}
+use Rattle.std.specs.Prelude.{pos}
 use Rattle.awk_lanes.specs.declared.kind.Kind.TheVariants as Kind
 use Rattle.awk_lanes.specs.Places.{size_of}
 use Rattle.awk_lists.specs.Lanes.{span_length}

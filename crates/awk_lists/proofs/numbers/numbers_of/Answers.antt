@@ -1,5 +1,5 @@
 use Rattle.awk_layout.specs.Typing.{array_type}
-use Rattle.awk_lists.proofs.Leaves.{only_numbers, leaf_numbers, no_numbers}
+use Rattle.awk_lists.proofs.Leaves.{only_numbers, leaf_numbers}
 use Rattle.awk_lists.proofs.numbers.numbers_of.Goals as goal
 
 pub unreachable-requires : goal.unreachable-requires

@@ -1,4 +1,4 @@
-use Rattle.std.proofs.Common.{◌≡◌, ◌++◌, ◌<◌, length, map, arith, ap, ap₂, sym, ◌∙◌}
+use Rattle.std.proofs.Common.{◌≡◌, ◌++◌, length, map, arith, ap, ap₂, sym, ◌∙◌}
 use Rattle.std.specs.Prelude.{ℕ, pos}
 use Rattle.std.proofs.lemmas.List.{length-map, map-append}
 use Rattle.awk_gather.specs.Counted.{first_of}

@@ -1,4 +1,4 @@
-use Rattle.std.proofs.Common.{◌<◌, arith, sym}
+use Rattle.std.proofs.Common.{arith, sym}
 use Rattle.awk_lists.proofs.RunLaws.{run_longer, run_ends}
 use Rattle.awk_lists.proofs.runs.run_end.Goals as goal
 

@@ -1,4 +1,4 @@
-use Rattle.std.proofs.Common.{◌≡◌, ◌+◌, ◌<◌, ◌≤◌, length, arith, ap, ap₂, sym, ◌∙◌}
+use Rattle.std.proofs.Common.{◌≡◌, ◌+◌, length, arith, ap, ap₂, sym, ◌∙◌}
 use Rattle.std.specs.Prelude.{pos}
 use Rattle.awk_lanes.specs.Numbers.{int_of}
 use Rattle.awk_lanes.specs.declared.kind.Kind.TheVariants.{I64}

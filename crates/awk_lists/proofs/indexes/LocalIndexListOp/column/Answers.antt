@@ -1,4 +1,4 @@
-use Rattle.std.proofs.Common.{◌≡◌, ◌≤◌, None, Some, ap, sym, ◌∙◌, arith}
+use Rattle.std.proofs.Common.{◌≤◌, None, Some, arith}
 use Rattle.awk_lanes.specs.Places.{size_of}
 use Rattle.awk_lists.specs.Lanes.{before, IsTotal}
 use Rattle.awk_gather.specs.Counted.{item_limit}

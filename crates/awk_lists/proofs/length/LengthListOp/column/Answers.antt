@@ -1,5 +1,4 @@
-use Rattle.std.proofs.Common.{◌≡◌, refl, arith}
-use Rattle.std.proofs.Common.{rules, sym}
+use Rattle.std.proofs.Common.{refl}
 use Rattle.awk_lanes.specs.declared.kind.Kind.TheVariants as Kinds
 use Rattle.std.specs.Prelude.{pos}
 use Rattle.awk_lanes.specs.Places.{size_of}
