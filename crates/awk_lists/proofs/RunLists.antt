@@ -1,8 +1,8 @@
 -- The runs of the lists of a column: what is made of them.
-use Rattle.std.specs.Prelude.{◌≡◌, ℕ, zero, suc, ◌+◌, ◌-◌, ◌<◌, ◌≤◌, ◌^◌, nat_lt, refl, true, false}
+use Rattle.std.specs.Prelude.{◌≡◌, ℕ, zero, suc, ◌+◌, ◌-◌, ◌<◌, ◌≤◌, ◌^◌, refl, true, false}
 use Rattle.std.specs.Prelude.{Bool}
-use Rattle.std.specs.Prelude.{List, [], ◌∷◌, ◌++◌, length, map, take, drop, sum, ℤ, pos, ◌≤ℤ◌}
-use Rattle.std.specs.Prelude.{Option, Some, None, if◌then◌else◌}
+use Rattle.std.specs.Prelude.{List, ◌∷◌, ◌++◌, length, map, take, drop, sum, ℤ, pos}
+use Rattle.std.specs.Prelude.{Some, None, if◌then◌else◌}
 use Rattle.std.specs.List.{range_with_len, flat_map}
 use Rattle.std.proofs.Common.{arith, ap, sym, ◌∙◌, subst}
 use Rattle.std.proofs.Math.Seq.{drop-append_seam, take-append_seam}
@@ -25,10 +25,9 @@ use Rattle.awk_layout.specs.Item.{leaf_value, run}
 use Rattle.awk_layout.specs.Layout.{Layout, flat}
 use Rattle.awk_layout.specs.Typing.{array_type, array_items}
 use Rattle.awk_layout.specs.Valid.{len}
-use Rattle.awk_layout.proofs.Runs.{value_list-run}
 use Rattle.awk_gather.specs.Arrays.{array_item}
 use Rattle.awk_gather.specs.Counted.{item_limit, first_of}
-use Rattle.awk_gather.proofs.FirstPlaces.{first_of-more, length-first_of, first_of-mono}
+use Rattle.awk_gather.proofs.FirstPlaces.{length-first_of}
 use Rattle.awk_gather.proofs.MadeLanes.{size-lane_of, at-lane_of}
 use Rattle.awk_axis.specs.Joined.{AreOffsets, JoinsLists, total, IsJoined}
 use Rattle.awk_axis.specs.ListFunction.{Class}
@@ -38,11 +37,11 @@ use Rattle.awk_axis.specs.Reach.{is_leaf}
 use Rattle.awk_axis.specs.Spoils.{too_many}
 use Rattle.awk_axis.specs.declared.causes.Refusal.TheVariants as refused
 use Rattle.awk_axis.specs.declared.causes.Spoil.TheVariants.{Size}
-use Rattle.awk_axis.specs.declared.opening.Joined.TheVariants.{TooMany, Lists}
+use Rattle.awk_axis.specs.declared.opening.Joined.TheVariants.{TooMany}
 use Rattle.awk_axis.proofs.ArrayLaws.{run_same, array_items-at}
 use Rattle.awk_lists.specs.Numbers.{AreNumbers}
 use Rattle.awk_lists.specs.RunLengths.{runs, run_lengths_function}
-use Rattle.awk_lists.specs.Runs.{runs_between, runs_at, runs_before, run_offsets, run_lane}
+use Rattle.awk_lists.specs.Runs.{runs_at, runs_before, run_offsets, run_lane}
 use Rattle.awk_lists.specs.Runs.{AreRising}
 use Rattle.awk_lists.proofs.Ends.{rising_offsets, joined_at}
 use Rattle.awk_lists.proofs.JoinedItems.{run-slice}
@@ -60,15 +59,23 @@ are_leaves t h = go (is_leaf t) h
 
 range_more : (a n k : ℕ)
     → range_with_len a (n + k) ≡ range_with_len a n ++ range_with_len (a + n) k
-range_more a zero k = let e : a ≡ a + 0 = omega arith in ap (λ b. range_with_len b k) e
+range_more a zero k =
+    let z : 0 + k ≡ k = omega arith in
+    let e : a ≡ a + 0 = omega arith in
+    ap (range_with_len a) z ∙ ap (λ b. range_with_len b k) e
 range_more a (suc n) k =
+    let z : suc n + k ≡ suc (n + k) = omega arith in
     let e : a + 1 + n ≡ a + suc n = omega arith in
-    ap (λ xs. a ∷ xs) (range_more (a + 1) n k ∙ ap (λ b. range_with_len (a + 1) n ++ range_with_len b k) e)
+    ap (range_with_len a) z
+    ∙ ap (λ xs. a ∷ xs) (range_more (a + 1) n k
+    ∙ ap (λ b. range_with_len (a + 1) n ++ range_with_len b k) e)
 
 first_of-add : (f : ℕ → List ℕ) (i k : ℕ)
     → first_of f (i + k) ≡ first_of f i ++ flat_map f (range_with_len i k)
 first_of-add f i k =
-    ap (flat_map f) (range_more 0 i k)
+    let z : 0 + i ≡ i = omega arith in
+    ap (flat_map f) (range_more 0 i k
+    ∙ ap (λ b. range_with_len 0 i ++ range_with_len b k) z)
     ∙ flat_map-append f (range_with_len 0 i) (range_with_len i k)
 
 -- the part of all that is of one
@@ -78,7 +85,7 @@ first_of-part f i n p =
     let e : i + suc (n - i - 1) ≡ n = omega (arith, p) in
     let rest : List ℕ = flat_map f (range_with_len (i + 1) (n - i - 1)) in
     ap (λ xs. take (length (f i)) (drop (length (first_of f i)) xs))
-        (sym (ap (first_of f) e) ∙ first_of-add f i (suc (n - i - 1)))
+    (sym (ap (first_of f) e) ∙ first_of-add f i (suc (n - i - 1)))
     ∙ ap (take (length (f i))) (drop-append_seam (first_of f i) (f i ++ rest))
     ∙ take-append_seam (f i) rest
 
@@ -90,8 +97,8 @@ flat_items : (zs : List ℤ)
 flat_items zs =
     array_items-at (flat (record { kind = I64; items = zs }))
     ∙ sym (fill_by_all (λ k. int (at (record { kind = I64; items = zs }) k)) (map (λ z. int z) zs)
-        (length zs) (int (pos 0)) (length-map (λ z. int z) zs) 
-        (λ k p. get_or-map (λ z. int z) zs k (pos 0) (int (pos 0)) p))
+    (length zs) (int (pos 0)) (length-map zs (λ z. int z))
+    (λ k p. get_or-map (λ z. int z) zs k (pos 0) (int (pos 0)) p))
 
 module _ (s e : Column) (y : Layout) (o : Column) (z : Layout) (c : Column)
     (class : Class) (a : AreLists class s e y) (j : JoinsLists s e y o z) (n : AreNumbers z c) where
@@ -122,8 +129,13 @@ module _ (s e : Column) (y : Layout) (o : Column) (z : Layout) (c : Column)
       let q : i < size_of s = omega (arith, p) in
       let one : i + 1 ≡ suc i = omega arith in
       subst (λ k. runs_before c o k ≤ place_at o k) one
-          (omega (arith, length-first_of (runs_at c o) i, few_before i (omega (arith, p)),
-              few_at i q, j.lengths i q))
+      (omega (
+        arith,
+        length-first_of (runs_at c o) i,
+        few_before i (omega (arith, p)),
+        few_at i q,
+        j.lengths i q,
+      ))
 
   pub few_runs : runs_before c o (size_of s) ≤ size_of c
   few_runs = omega (arith, few_before (size_of s) (omega arith), j.offsets.last, n.size)
@@ -136,11 +148,11 @@ module _ (s e : Column) (y : Layout) (o : Column) (z : Layout) (c : Column)
       → place_at (run_offsets c o (size_of s)) i ≡ runs_before c o i
   place-runs i p = ap nat_of (at-runs i p)
 
-  made : Layout
+  abbrev made : Layout
   made = flat (run_lane c o (size_of s))
 
   size-made : len made ≡ runs_before c o (size_of s)
-  size-made = length-map (λ (k : ℕ). pos k) (first_of (runs_at c o) (size_of s))
+  size-made = length-map (first_of (runs_at c o) (size_of s)) (λ (k : ℕ). pos k)
 
   items-made : array_items made
       ≡ map (λ (k : ℕ). int (pos k)) (first_of (runs_at c o) (size_of s))
@@ -150,22 +162,22 @@ module _ (s e : Column) (y : Layout) (o : Column) (z : Layout) (c : Column)
   run_ends_offsets : AreOffsets (run_offsets c o (size_of s)) (size_of s) (len made)
   run_ends_offsets =
       rising_offsets (run_offsets c o (size_of s)) (size_of s) (len made) (runs_before c o) tt
-          (size-lane_of I64 (size_of s + 1) (λ k. pos (runs_before c o k)))
-          a.fits at-runs (λ i p. omega (arith, length-first_of (runs_at c o) i)) refl
-          (sym size-made)
+      (size-lane_of I64 (size_of s + 1) (λ k. pos (runs_before c o k)))
+      a.fits at-runs (λ i p. omega (arith, length-first_of (runs_at c o) i)) refl
+      (sym size-made)
 
   -- the values of a list are those of the lane
   same_values : (i : ℕ) → i < size_of s → runs_at c o i ≡ runs (items_at s e y i)
   same_values i p =
       ap runs (ap value_list (sym (j.lists i p
-          ∙ run_same (array_item z) (λ k. leaf_value c.kind (at c k)) (place_at o i)
-              (place_at o (i + 1) - place_at o i)
-              (λ k q r. n.items k (omega (arith, r, j.offsets.within i p))))))
+      ∙ run_same (array_item z) (λ k. leaf_value c.kind (at c k)) (place_at o i)
+      (place_at o (i + 1) - place_at o i)
+      (λ k q r. n.items k (omega (arith, r, j.offsets.within i p))))))
 
   run_list : (i : ℕ) → i < size_of s
       → value_list (run (array_item made) (place_at (run_offsets c o (size_of s)) i)
-          (place_at (run_offsets c o (size_of s)) (i + 1)
-          - place_at (run_offsets c o (size_of s)) i))
+      (place_at (run_offsets c o (size_of s)) (i + 1)
+      - place_at (run_offsets c o (size_of s)) i))
       ≡ map (λ (k : ℕ). int (pos k)) (runs (items_at s e y i))
   run_list i p =
       let w : Column = run_offsets c o (size_of s) in
@@ -173,10 +185,10 @@ module _ (s e : Column) (y : Layout) (o : Column) (z : Layout) (c : Column)
       let next = place-runs (i + 1) (omega (arith, p)) in
       let more = length-first_of (runs_at c o) i in
       let size : place_at w (i + 1) - place_at w i ≡ length (runs_at c o i) =
-          omega (arith, first, next, more) in
+      omega (arith, first, next, more) in
       let all : List ℕ = first_of (runs_at c o) (size_of s) in
       run-slice made (place_at w i) (place_at w (i + 1) - place_at w i)
-          (run_ends_offsets.within i p)
+      (run_ends_offsets.within i p)
       ∙ ap (λ k. take k (drop (place_at w i) (array_items made))) size
       ∙ ap (λ k. take (length (runs_at c o i)) (drop k (array_items made))) first
       ∙ ap (λ vs. take (length (runs_at c o i)) (drop (runs_before c o i) vs)) items-made
@@ -195,7 +207,7 @@ module _ (s e : Column) (y : Layout) (o : Column) (z : Layout) (c : Column)
     typ = refl;
     lists = λ i p. run_list i p
         ∙ sym (map-map (simple_value (leaf primitive.I64)) (λ (k : ℕ). int (pos k))
-            (runs (items_at s e y i)));
+        (runs (items_at s e y i)));
   }
 
 -- ---- how many items there are
