@@ -1,5 +1,7 @@
 -- What view expressions take, through the operands of their operations.
-use Rattle.std.proofs.Common.{◌≡◌, ℕ, zero, suc, ◌+◌, ◌*◌, ◌≤◌, Bool, true, false, cond, List, [], ◌∷◌, ◌++◌, length, slice_get, Option, Some, None, option_map, Result, Ok, Err, refl, sym, ap, ◌∙◌, subst, arith, mul-add}
+use Rattle.std.proofs.Common.{◌≡◌, ℕ, zero, suc, ◌+◌, ◌*◌, ◌≤◌, Bool, true, false, cond, List, []}
+use Rattle.std.proofs.Common.{◌∷◌, ◌++◌, length, slice_get, Option, Some, None, option_map, Result}
+use Rattle.std.proofs.Common.{Ok, Err, refl, sym, ap, ◌∙◌, subst, arith, mul-add}
 use Rattle.std.specs.Prelude.{IfOk, IsErr}
 use Rattle.awk_types.specs.declared.fault.Fault.{Fault}
 use Rattle.awk_types.specs.DataType.{Name}
@@ -25,7 +27,8 @@ use Rattle.awk_query.specs.declared.expr.Exprs.{Exprs}
 use Rattle.awk_query.specs.declared.fixed.Fixed.{Fixed}
 use Rattle.awk_query.proofs.Views.{expr_of-Call}
 use Rattle.awk_eval.specs.Variables.{Variables}
-use Rattle.awk_eval.specs.Views.{Size, View, view_of, only_view, is_view_op, size_in, OfView, IsTaken, Takes, TakesView, AreWithin, IsOperandWithin, IsWithin}
+use Rattle.awk_eval.specs.Views.{Size, View, view_of, only_view, is_view_op, size_in, OfView}
+use Rattle.awk_eval.specs.Views.{IsTaken, Takes, TakesView, AreWithin, IsOperandWithin, IsWithin}
 
 -- one view more
 abbrev pub again : View → View

@@ -1,5 +1,6 @@
 -- What an expression is over an environment: a datum, or the first fault.
-use Rattle.std.specs.Prelude.{ℕ, suc, ℤ, pos, negsuc, int_le, Bool, true, false, ◌&&◌, List, [], ◌∷◌, Option, Some, None, Result, Ok, Err, if◌then◌else◌}
+use Rattle.std.specs.Prelude.{ℕ, suc, ℤ, pos, negsuc, int_le, Bool, true, false, ◌&&◌, List, []}
+use Rattle.std.specs.Prelude.{◌∷◌, Option, Some, None, Result, Ok, Err, if◌then◌else◌}
 use Rattle.awk_types.specs.DataType.{DataType, Name, leaf, var, reg}
 use Rattle.awk_types.specs.Value.{int, truth}
 use Rattle.awk_types.specs.Datum.{Datum, arr, one}

@@ -1,5 +1,6 @@
 -- The arguments of a call that are no expressions, by what an operation takes.
-use Rattle.std.specs.Prelude.{zero, suc, ℤ, pos, Bool, true, false, List, [], ◌∷◌, Option, Some, None, option_map, if◌then◌else◌}
+use Rattle.std.specs.Prelude.{zero, suc, ℤ, pos, Bool, true, false, List, [], ◌∷◌, Option, Some}
+use Rattle.std.specs.Prelude.{None, option_map, if◌then◌else◌}
 use Rattle.awk_types.specs.DataType.{Name}
 use Rattle.awk_query.specs.Arguments.{not_zero}
 use Rattle.awk_query.specs.declared.fixed.FixedArg.{FixedArg}

@@ -1,7 +1,8 @@
 -- The item at a place of each list, by its place in the content.
 use Rattle.std.proofs.Common.{◌≡◌, ◌≢◌, ℕ, zero, suc, ◌+◌, ◌-◌, ◌<◌, ◌≤◌, List, map, length, get_or}
 use Rattle.std.proofs.Common.{refl, ap, ap₂, sym, ◌∙◌, subst, arith, true≢false, ltb-true}
-use Rattle.std.specs.Prelude.{ℤ, pos, negsuc, ◌≤ℤ◌, ◌^◌, nat_lt, [], Bool, true, false, ◌||◌, Option, Some, None, is_none}
+use Rattle.std.specs.Prelude.{ℤ, pos, negsuc, ◌≤ℤ◌, ◌^◌, nat_lt, [], Bool, true, false, ◌||◌}
+use Rattle.std.specs.Prelude.{Option, Some, None, is_none}
 use Rattle.std.specs.Prelude.{option_map, if◌then◌else◌}
 use Rattle.std.specs.List.{range_with_len, list_any, AllByRecursion}
 use Rattle.std.proofs.lemmas.Bool.{ltb-false}
@@ -138,7 +139,8 @@ none-lack : (p : List Value → Bool) (f : ℕ → List Value) (a n : ℕ)
     → ((j : ℕ) → j < a + n → p (f j) ≡ false) → list_any p (map f (range_with_len a n)) ≡ false
 none-lack p f a zero h = refl
 none-lack p f a (suc n) h =
-    ap₂ (λ b c. b || c) (h a (omega arith)) (none-lack p f (a + 1) n (λ j l. h j (omega (arith, l))))
+    ap₂ (λ b c. b || c) (h a (omega arith))
+    (none-lack p f (a + 1) n (λ j l. h j (omega (arith, l))))
 
 pub lists-have : (i : ℤ) (s t : Column) (y : Layout) → AllHave i s t (size_of s)
     → (item_at i).spoil (array_type y) (all_items_at s t y) ≡ None
@@ -148,7 +150,8 @@ lists-have i s t y h =
     (λ j l. lacks-item i s t y j ∙ h j (omega (arith, l))))
 
 module _ (i : ℤ) (s t : Column) (y : Layout) (p : Column) (spans : AreSpans s t (len y))
-    (have : AllHave i s t (size_of s)) (made : p ≡ lane_of I64 (size_of s) (item_number i s t)) where
+    (have : AllHave i s t (size_of s))
+    (made : p ≡ lane_of I64 (size_of s) (item_number i s t)) where
   number-at : (j k : ℕ) → j < size_of s → place_in (length_of s t j) i ≡ Some k
       → at p j ≡ pos (place_at s j + k)
   number-at j k l e =
@@ -181,7 +184,8 @@ module _ (i : ℤ) (s t : Column) (y : Layout) (p : Column) (spans : AreSpans s 
         let f = place-found i s t j (have j l) in
         let b = subst (IsBelow (length_of s t j)) f.1 (place_in-below (length_of s t j) i) in
         let m = place_at s j + f.0 in
-        g.each j (omega (arith, l, items-size)) ∙ ap (λ z. array_item y (nat_of z)) (number-at j f.0 l f.1)
+        g.each j (omega (arith, l, items-size))
+        ∙ ap (λ z. array_item y (nat_of z)) (number-at j f.0 l f.1)
         ∙ sym (item-stays y m h (place-within s t (len y) j f.0 spans l b))
         ∙ ap (simple_value (array_type y)) (sym (item-in i s t y j f.0 f.1 b));
   }

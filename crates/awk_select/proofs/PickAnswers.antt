@@ -1,6 +1,8 @@
 -- What masks and indexes answer: the first refusal, or the items.
-use Rattle.std.proofs.Common.{◌≡◌, ◌≢◌, ℕ, ◌<◌, ◌≤◌, List, length, refl, ap, ap₂, sym, ◌∙◌, subst, eq-eqb, ne_eqb, le-ltb, lt-ltb}
-use Rattle.std.specs.Prelude.{true, false, Option, Some, None, option_map, Result, Ok, Err, if◌then◌else◌}
+use Rattle.std.proofs.Common.{◌≡◌, ◌≢◌, ℕ, ◌<◌, ◌≤◌, List, length, refl, ap, ap₂, sym, ◌∙◌, subst}
+use Rattle.std.proofs.Common.{eq-eqb, ne_eqb, le-ltb, lt-ltb}
+use Rattle.std.specs.Prelude.{true, false, Option, Some, None, option_map, Result, Ok, Err}
+use Rattle.std.specs.Prelude.{if◌then◌else◌}
 use Rattle.std.specs.List.{list_any}
 use Rattle.awk_types.specs.DataType.{DataType}
 use Rattle.awk_types.specs.Datum.{Datum, arr}
@@ -22,7 +24,9 @@ use Rattle.awk_gather.specs.Counted.{item_limit}
 use Rattle.awk_gather.specs.Joined.{too_many}
 use Rattle.awk_gather.specs.Lanes.{lane_of}
 use Rattle.awk_select.specs.Cells.{places_lane, take_number}
-use Rattle.awk_select.specs.Picks.{picked, picked_type, type_refused, limit_refused, is_mask, mask_places, lengths_refused, masked, alike, is_index, take_places, is_outside, index_refused, taken}
+use Rattle.awk_select.specs.Picks.{picked, picked_type, type_refused, limit_refused, is_mask}
+use Rattle.awk_select.specs.Picks.{mask_places, lengths_refused, masked, alike, is_index}
+use Rattle.awk_select.specs.Picks.{take_places, is_outside, index_refused, taken}
 use Rattle.awk_select.proofs.PickedPlaces.{pick-picked, take-lane}
 
 -- ---- parts of refusals

@@ -1,6 +1,9 @@
 -- The places that masks and indexes name, as lanes.
-use Rattle.std.proofs.Common.{◌≡◌, ℕ, zero, suc, ◌+◌, ◌-◌, ◌<◌, ◌≤◌, List, [], ◌∷◌, ◌++◌, map, length, get_or, take, arith, refl, ap, ap₂, sym, ◌∙◌, subst, true≢false, ltb-true}
-use Rattle.std.specs.Prelude.{ℤ, pos, negsuc, ◌<ℤ◌, ◌≤ℤ◌, Bool, true, false, ◌||◌, nat_lt, Option, Some, None, is_none, if◌then◌else◌}
+use Rattle.std.proofs.Common.{◌≡◌, ℕ, zero, suc, ◌+◌, ◌-◌, ◌<◌, ◌≤◌, List, [], ◌∷◌, ◌++◌, map}
+use Rattle.std.proofs.Common.{length, get_or, take, arith, refl, ap, ap₂, sym, ◌∙◌, subst}
+use Rattle.std.proofs.Common.{true≢false, ltb-true}
+use Rattle.std.specs.Prelude.{ℤ, pos, negsuc, ◌<ℤ◌, ◌≤ℤ◌, Bool, true, false, ◌||◌, nat_lt, Option}
+use Rattle.std.specs.Prelude.{Some, None, is_none, if◌then◌else◌}
 use Rattle.std.specs.List.{range_with_len, flat_map, list_any, AllByRecursion}
 use Rattle.std.proofs.lemmas.Int.{ints}
 use Rattle.std.proofs.lemmas.List.{get_or-map, length-map, map-append}
@@ -10,7 +13,8 @@ use Rattle.awk_types.specs.Has.{Has}
 use Rattle.awk_types.specs.Simple.{is_option, present, simple_value}
 use Rattle.awk_types.specs.Value.{Value, int, truth, null, list, row, alt}
 use Rattle.awk_types.specs.declared.primitive.Primitive.{Primitive}
-use Rattle.awk_types.specs.declared.primitive.Primitive.TheVariants.{Bool as Truths, I8, I16, I32, I64, U8, U16, U32, U64}
+use Rattle.awk_types.specs.declared.primitive.Primitive.TheVariants.{Bool as Truths, I8, I16, I32}
+use Rattle.awk_types.specs.declared.primitive.Primitive.TheVariants.{I64, U8, U16, U32, U64}
 use Rattle.awk_lanes.specs.Column.{Column}
 use Rattle.awk_lanes.specs.Making.{Making, with_item}
 use Rattle.awk_lanes.specs.Places.{at, option_place, IsIndex, IsOptionalIndex}
@@ -23,8 +27,10 @@ use Rattle.awk_layout.specs.Typing.{layout_type, array_items}
 use Rattle.awk_gather.specs.Arrays.{pick}
 use Rattle.awk_gather.specs.Lanes.{lane_of}
 use Rattle.awk_layout.proofs.ArrayItems.{length-array_items, get_or-array_items}
-use Rattle.awk_select.specs.Cells.{is_leaf, IsBelow, place_number, places_lane, mask_numbers, take_number}
-use Rattle.awk_select.specs.Picks.{picked, is_truths, is_mask, mask_place, mask_places, is_numbers, is_index, take_place, take_places, is_outside}
+use Rattle.awk_select.specs.Cells.{is_leaf, IsBelow, place_number, places_lane, mask_numbers}
+use Rattle.awk_select.specs.Cells.{take_number}
+use Rattle.awk_select.specs.Picks.{picked, is_truths, is_mask, mask_place, mask_places, is_numbers}
+use Rattle.awk_select.specs.Picks.{is_index, take_place, take_places, is_outside}
 use Rattle.awk_select.specs.Places.{place_in}
 use Rattle.awk_select.proofs.Lists.{map-map, each_of, each_of-more, each_of-room, length-each_of}
 

@@ -1,5 +1,6 @@
 -- Worked picks, each computed.
-use Rattle.std.specs.Prelude.{◌≡◌, ℕ, pos, negsuc, true, false, List, [], ◌∷◌, Some, None, Ok, Err, refl}
+use Rattle.std.specs.Prelude.{◌≡◌, ℕ, pos, negsuc, true, false, List, [], ◌∷◌, Some, None, Ok, Err}
+use Rattle.std.specs.Prelude.{refl}
 use Rattle.awk_types.specs.DataType.{leaf, var, opt, unknown}
 use Rattle.awk_types.specs.Value.{Value, int, truth, null, list, values_from}
 use Rattle.awk_types.specs.Datum.{Datum, arr, one}

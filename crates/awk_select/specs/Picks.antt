@@ -1,7 +1,8 @@
 -- Picks of a datum: the item at a place, a range of any step, and the items that a mask or an index
 -- names.
 use Rattle.std.specs.Prelude.{ℕ, ◌==◌, ℤ, Bool, true, false, List, [], ◌∷◌, length, map, get_or}
-use Rattle.std.specs.Prelude.{Option, Some, None, is_none, option_map, Result, Ok, Err, if◌then◌else◌}
+use Rattle.std.specs.Prelude.{Option, Some, None, is_none, option_map, Result, Ok, Err}
+use Rattle.std.specs.Prelude.{if◌then◌else◌}
 use Rattle.std.specs.List.{range_with_len, flat_map, list_any}
 use Rattle.awk_types.specs.DataType.{DataType, unknown, leaf, opt}
 use Rattle.awk_types.specs.Value.{Value, int, truth, null}

@@ -20,9 +20,9 @@ use awk_types::{Fault, Typ, copy_type};
 use std::alloc::Global;
 use std::sync::ledger::Ledger;
 
-/// The item at a place of each list that is directly inside the items of an array, or inside those
-/// of a single value's list. A negative place counts from the end. Options, rows and unions are gone
-/// through, where null stays null.
+/// The item at a place of each list at axis 1: of an array the lists directly inside its items, of
+/// a single value those inside its lists. A negative place counts from the end. Options, rows and
+/// unions are gone through, where null stays null.
 ///
 /// `Axis` tells that there is no list somewhere, `Depth` and `Size` the limit that the type of the
 /// result passes, and `Index` that some list lacks the place. `Size` tells also that the array, or

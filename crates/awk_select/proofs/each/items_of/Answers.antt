@@ -1,7 +1,8 @@
 use Rattle.std.proofs.Common.{◌≡◌, None, Some, ap, sym, ◌∙◌, subst, w64, to_z, of_z}
 use Rattle.std.proofs.lemmas.Int.{to_z-of_z}
 use Rattle.awk_select.specs.Each.{AreItemPlaces}
-use Rattle.awk_select.proofs.EachItems.{spans-small, lists-lack, lists-have, items-index, items-column}
+use Rattle.awk_select.proofs.EachItems.{spans-small, lists-lack, lists-have, items-index}
+use Rattle.awk_select.proofs.EachItems.{items-column}
 use Rattle.awk_select.proofs.each.items_of.Goals as goal
 
 pub item_places-requires : goal.item_places-requires
@@ -40,6 +41,6 @@ returns-in_ok-items_at-in-Some g c =
     (to_z-of_z w64 c.args.i c.ranges.i) made in (
       lists-have c.args.i s t c.args.content.now found.0,
       items-column c.args.i s t c.args.content.now c.in-Some.places c.requires.spans found.0
-      found.1 c.in_ok-items_at-in-Some.field-0 c.in_ok-items_at-in-Some.ensures.gathered
-      c.in_ok-items_at-in-Some.ensures.valid c.len.ensures.items
+          found.1 c.in_ok-items_at-in-Some.field-0 c.in_ok-items_at-in-Some.ensures.gathered
+          c.in_ok-items_at-in-Some.ensures.valid c.len.ensures.items,
     )

@@ -6,7 +6,8 @@ use Rattle.awk_layout.specs.Valid.{len}
 use Rattle.awk_layout.proofs.ArrayItems.{length-array_items}
 use Rattle.awk_select.specs.Picks.{mask_places}
 use Rattle.awk_select.proofs.PickAnswers.{mask-said}
-use Rattle.awk_select.proofs.PickedPlaces.{optional-lane, index-lane, mask_places-below, mask_places-there, mask_leaf}
+use Rattle.awk_select.proofs.PickedPlaces.{optional-lane, index-lane, mask_places-below}
+use Rattle.awk_select.proofs.PickedPlaces.{mask_places-there, mask_leaf}
 use Rattle.awk_select.proofs.masks.masked_items.Goals as goal
 
 pub cells_of-requires : goal.cells_of-requires
