@@ -1,26 +1,19 @@
 -- The values of an array by its lanes.
 use Rattle.std.proofs.Common.{◌≡◌, ℕ, ◌<◌, arith, refl, ap, sym, ◌∙◌, subst, true≢false}
-use Rattle.std.specs.Prelude.{ℤ, pos, negsuc, ◌<ℤ◌, true, false, List, Option, Some, None}
+use Rattle.std.specs.Prelude.{ℤ, pos, negsuc, ◌<ℤ◌, true, List, Option, Some, None}
 use Rattle.std.proofs.lemmas.Int.{ints}
 use Rattle.awk_types.specs.DataType.{DataType, Name, unknown, leaf, var, reg, rec, tup, opt, uni}
 use Rattle.awk_types.specs.Simple.{present}
-use Rattle.awk_types.specs.Value.{Value, null}
 use Rattle.awk_lanes.specs.Column.{Column}
-use Rattle.awk_lanes.specs.Numbers.{int_of, IsOf}
 use Rattle.awk_lanes.specs.Places.{size_of, at, option_place, option_place_at}
-use Rattle.awk_lanes.specs.declared.kind.Kind.{Kind}
-use Rattle.awk_lanes.specs.declared.kind.Kind.TheVariants.{Bool as Truths, I8, I16, I32, I64, U8}
-use Rattle.awk_lanes.specs.declared.kind.Kind.TheVariants.{U16, U32, U64}
-use Rattle.awk_lanes.specs.declared.kind.Num.{Num}
-use Rattle.awk_lanes.specs.declared.kind.Num.TheVariants.{Int, Nat, Truth}
 use Rattle.awk_layout.specs.Layout.{Layout, optional}
 use Rattle.awk_layout.specs.Valid.{len, IsValid}
 use Rattle.awk_layout.specs.Item.{leaf_value, at_option}
 use Rattle.awk_gather.specs.Arrays.{array_item}
 use Rattle.awk_gather.specs.Opened.{IsOpened, IsKindOf}
 use Rattle.awk_gather.specs.declared.opening.Opened.{Opened}
-use Rattle.awk_select.specs.Cells.{is_leaf, number_value, IsBelow, AreCells}
-use Rattle.awk_select.specs.declared.cells.Cells.TheVariants.{Nulls, Plain, Optional}
+use Rattle.awk_select.specs.Cells.{is_leaf, IsBelow, AreCells}
+use Rattle.awk_select.specs.declared.cells.Cells.TheVariants.{Optional}
 
 -- ---- the kinds that have such values
 

@@ -1,5 +1,5 @@
 -- What masks and indexes answer: the first refusal, or the items.
-use Rattle.std.proofs.Common.{◌≡◌, ◌≢◌, ℕ, ◌<◌, ◌≤◌, List, length, refl, ap, ap₂, sym, ◌∙◌, subst}
+use Rattle.std.proofs.Common.{◌≡◌, ℕ, ◌<◌, ◌≤◌, List, length, refl, ap, ap₂, sym, ◌∙◌, subst}
 use Rattle.std.proofs.Common.{eq-eqb, ne_eqb, le-ltb, lt-ltb}
 use Rattle.std.specs.Prelude.{true, false, Option, Some, None, option_map, Result, Ok, Err}
 use Rattle.std.specs.Prelude.{if◌then◌else◌}
@@ -7,12 +7,12 @@ use Rattle.std.specs.List.{list_any}
 use Rattle.awk_types.specs.DataType.{DataType}
 use Rattle.awk_types.specs.Datum.{Datum, arr}
 use Rattle.awk_types.specs.Faults.{limit_fault, fault_told}
-use Rattle.awk_types.specs.Gives.{Told, Gives, refused_or, ◌or◌}
+use Rattle.awk_types.specs.Gives.{Gives, refused_or, ◌or◌}
 use Rattle.awk_types.specs.Limit.{Limit, limit}
 use Rattle.awk_types.specs.Value.{Value}
 use Rattle.awk_types.specs.declared.fault.Fault.{Fault}
-use Rattle.awk_types.specs.declared.fault.Fault.TheVariants.{WrongType, Lengths, Index, Size}
-use Rattle.awk_types.proofs.RefusalLaws.{Told-first, Told-later, refused_or-Ok, refused_or-None}
+use Rattle.awk_types.specs.declared.fault.Fault.TheVariants.{Lengths, Index, Size}
+use Rattle.awk_types.proofs.RefusalLaws.{refused_or-Ok, refused_or-None}
 use Rattle.awk_lanes.specs.Column.{Column}
 use Rattle.awk_lanes.specs.declared.kind.Kind.TheVariants.{I64}
 use Rattle.awk_layout.specs.Layout.{Layout}
@@ -24,9 +24,9 @@ use Rattle.awk_gather.specs.Counted.{item_limit}
 use Rattle.awk_gather.specs.Joined.{too_many}
 use Rattle.awk_gather.specs.Lanes.{lane_of}
 use Rattle.awk_select.specs.Cells.{places_lane, take_number}
-use Rattle.awk_select.specs.Picks.{picked, picked_type, type_refused, limit_refused, is_mask}
-use Rattle.awk_select.specs.Picks.{mask_places, lengths_refused, masked, alike, is_index}
-use Rattle.awk_select.specs.Picks.{take_places, is_outside, index_refused, taken}
+use Rattle.awk_select.specs.Picks.{picked, picked_type, limit_refused}
+use Rattle.awk_select.specs.Picks.{mask_places, alike}
+use Rattle.awk_select.specs.Picks.{take_places, is_outside, index_refused}
 use Rattle.awk_select.proofs.PickedPlaces.{pick-picked, take-lane}
 
 -- ---- parts of refusals

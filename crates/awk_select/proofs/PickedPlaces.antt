@@ -2,7 +2,7 @@
 use Rattle.std.proofs.Common.{◌≡◌, ℕ, zero, suc, ◌+◌, ◌-◌, ◌<◌, ◌≤◌, List, [], ◌∷◌, ◌++◌, map}
 use Rattle.std.proofs.Common.{length, get_or, take, arith, refl, ap, ap₂, sym, ◌∙◌, subst}
 use Rattle.std.proofs.Common.{true≢false, ltb-true}
-use Rattle.std.specs.Prelude.{ℤ, pos, negsuc, ◌<ℤ◌, ◌≤ℤ◌, Bool, true, false, ◌||◌, nat_lt, Option}
+use Rattle.std.specs.Prelude.{ℤ, pos, negsuc, ◌<ℤ◌, Bool, true, false, ◌||◌, nat_lt, Option}
 use Rattle.std.specs.Prelude.{Some, None, is_none, if◌then◌else◌}
 use Rattle.std.specs.List.{range_with_len, flat_map, list_any, AllByRecursion}
 use Rattle.std.proofs.lemmas.Int.{ints}
@@ -314,15 +314,6 @@ take-lane n ix p e =
     ∙ map-map (λ v. place_number (take_place n (simple_value (layout_type ix) v))) (item ix) (range_with_len 0 (len ix))))
 
 -- ---- what is outside
-
-pub any-at : (p : Value → Bool) (vs : List Value) (i : ℕ) → i < length vs → p (get_or vs i null) ≡ true → list_any p vs ≡ true
-any-at p [] i l h = absurd (omega arith)
-any-at p (v ∷ vs) zero l h = ap (λ b. b || list_any p vs) h
-any-at p (v ∷ vs) (suc i) l h = ap (λ b. p v || b) (any-at p vs i (omega arith) h) ∙ or-true (p v)
-  where
-    or-true : (b : Bool) → (b || true) ≡ true
-    or-true true = refl
-    or-true false = refl
 
 -- one item more, and still none
 pub none-more : (p : Value → Bool) (vs : List Value) (i : ℕ) → i < length vs → list_any p (take i vs) ≡ false → p (get_or vs i null) ≡ false → list_any p (take (i + 1) vs) ≡ false

@@ -1,5 +1,5 @@
 -- The item at a place of each list that is directly inside the items of a datum.
-use Rattle.std.specs.Prelude.{◌≡◌, ℕ, ◌+◌, ◌-◌, ◌<◌, ℤ, pos, Bool, true, false, List, length}
+use Rattle.std.specs.Prelude.{◌≡◌, ℕ, ◌+◌, ◌-◌, ◌<◌, ℤ, pos, Bool, false, List, length}
 use Rattle.std.specs.Prelude.{get_or}
 use Rattle.std.specs.Prelude.{Option, Some, None, is_none, option_map, Result, if◌then◌else◌}
 use Rattle.std.specs.List.{list_any}

@@ -1,4 +1,4 @@
-use Rattle.std.proofs.Common.{◌≡◌, None, Some, ap, sym, ◌∙◌, subst, w64, to_z, of_z}
+use Rattle.std.proofs.Common.{None, Some, subst, w64, to_z, of_z}
 use Rattle.std.proofs.lemmas.Int.{to_z-of_z}
 use Rattle.awk_select.specs.Each.{AreItemPlaces}
 use Rattle.awk_select.proofs.EachItems.{spans-small, lists-lack, lists-have, items-index}
