@@ -226,6 +226,7 @@ join_given s t y o z h is j =
           last = j.last;
           within = λ i p. offset_within s t o i (len z) e p j.last;
         };
+        lane = e;
         lengths = λ i p. offset_grows s t o i e p;
         lists = λ i p. same_run _ _ (j.each i p);
         column = sym (datum_items _ _ _ _ both.1) ∙ joined-total s t y;

@@ -9,7 +9,7 @@ use Rattle.awk_layout.specs.Typing.{array_type, array_items}
 use Rattle.awk_layout.specs.Item.{run}
 use Rattle.awk_axis.specs.Opened.{items_at}
 use Rattle.awk_gather.specs.Arrays.{array_item}
-use Rattle.awk_gather.specs.Counted.{item_limit}
+use Rattle.awk_gather.specs.Counted.{item_limit, offsets_lane}
 use Rattle.awk_axis.specs.declared.opening.Joined.{Joined}
 use Rattle.awk_axis.specs.declared.opening.Joined.TheVariants.{TooMany, Lists}
 
@@ -26,6 +26,7 @@ pub record JoinsLists (s t : Column) (y : Layout) (o : Column) (z : Layout) : Ty
   pub typ : array_type z ≡ array_type y
   pub valid : IsValid z
   pub offsets : AreOffsets o (size_of s) (len z)
+  pub lane : o ≡ offsets_lane s t
   pub lengths : (i : ℕ) → i < size_of s → place_at o (i + 1)
       ≡ place_at o i + (place_at t i - place_at s i)
   pub lists : (i : ℕ) → i < size_of s

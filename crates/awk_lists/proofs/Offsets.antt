@@ -218,10 +218,10 @@ local_count s t y =
         (λ i. length-map-range_with_len (λ (j : ℕ). int (pos j)) 0 (length (items_at s t y i))
         ∙ items_at-length s t y i) (size_of s)
 
-over_limit : (n : ℕ) → item_limit < n → nat_lt item_limit n ≡ true
+pub over_limit : (n : ℕ) → item_limit < n → nat_lt item_limit n ≡ true
 over_limit n p = grind arith
 
-within_limit : (n : ℕ) → n ≤ item_limit → nat_lt item_limit n ≡ false
+pub within_limit : (n : ℕ) → n ≤ item_limit → nat_lt item_limit n ≡ false
 within_limit n p = grind arith
 
 pub local_spoilt : (s t : Column) (y : Layout) → item_limit < before s t (size_of s)

@@ -6,4 +6,5 @@ pub mod Listed
 pub mod Numbers
 pub mod Unflatten
 pub mod RunLengths
+pub mod Runs
 pub mod WithoutField

@@ -1,17 +1,16 @@
 -- The lists of an array, one after another, where null has no items.
-use Rattle.std.specs.Prelude.{◌≡◌, ℕ, ◌+◌, ◌<◌, ◌≤◌, List, length, take, get_or, is_some, pos}
+use Rattle.std.specs.Prelude.{◌≡◌, ℕ, ◌+◌, ◌<◌, ◌≤◌, List, length, take, pos}
 use Rattle.awk_types.specs.Simple.{present}
-use Rattle.awk_types.specs.Value.{Value, null}
+use Rattle.awk_types.specs.Value.{Value}
 use Rattle.awk_lanes.specs.Column.{Column}
-use Rattle.awk_lanes.specs.Places.{size_of, place_at, option_place_at, IsOptionKind}
+use Rattle.awk_lanes.specs.Places.{size_of, at, place_at, IsIndexKind}
 use Rattle.awk_lanes.specs.declared.kind.Kind.TheVariants.{I64}
 use Rattle.awk_layout.specs.Layout.{Layout}
-use Rattle.awk_layout.specs.Valid.{len, IsValid}
+use Rattle.awk_layout.specs.Valid.{IsValid}
 use Rattle.awk_layout.specs.Typing.{array_type, array_items}
-use Rattle.awk_gather.specs.Columns.{joined_items, is_present}
-use Rattle.awk_gather.specs.Counted.{item_limit}
+use Rattle.awk_gather.specs.Columns.{joined_items}
+use Rattle.awk_gather.specs.Counted.{first_of, present_at, item_limit}
 use Rattle.awk_gather.specs.Lanes.{lane_of}
-use Rattle.awk_axis.specs.Joined.{AreOffsets}
 use Rattle.awk_axis.specs.declared.opening.Joined.{Joined}
 use Rattle.awk_axis.specs.declared.opening.Joined.TheVariants.{TooMany, Lists}
 use Rattle.awk_lists.specs.Flatten.{item_type}
@@ -20,29 +19,27 @@ use Rattle.awk_lists.specs.Flatten.{item_type}
 abbrev pub items_before : List Value → ℕ → ℕ
 items_before vs i = length (joined_items (take i vs))
 
--- offsets of lists one after another
-abbrev pub offsets_by : List Value → Column
-offsets_by vs = lane_of I64 (length vs + 1) (λ i. pos (items_before vs i))
+-- how many of the first items of an option are present
+abbrev pub present_lane : Column → Column
+present_lane j =
+    lane_of I64 (size_of j + 1) (λ i. pos (length (first_of (present_at j) i)))
 
--- offsets with an entry for each of these lists
+-- the offsets at places
+abbrev pub offsets_at : Column → Column → Column
+offsets_at o p = lane_of I64 (size_of p) (λ i. at o (place_at p i))
+
+-- where each of these lists begins and ends, if they lie one after another
 pub record AreEnds (o : Column) (vs : List Value) : Type 0 where
+  pub kind : IsIndexKind o.kind
   pub size : size_of o ≡ length vs + 1
-  pub ends : (i : ℕ) → i ≤ length vs → place_at o i ≡ items_before vs i
+  pub ends : (i : ℕ) → i ≤ length vs → at o i ≡ pos (items_before vs i)
 
 pub record AreListed (x : Layout) (o : Column) (z : Layout) : Type 0 where
   pub typ : array_type z ≡ item_type (present (array_type x))
   pub valid : IsValid z
-  pub offsets : AreOffsets o (len x) (len z)
   pub ends : AreEnds o (array_items x)
   pub column : array_items z ≡ joined_items (array_items x)
 
 abbrev pub IsListed : Layout → Joined → Type 0
 IsListed x TooMany = item_limit < length (joined_items (array_items x))
 IsListed x (Lists o z) = (length (joined_items (array_items x)) ≤ item_limit) × AreListed x o z
-
--- an index that is negative exactly at the nulls
-pub record MarksNulls (j : Column) (vs : List Value) : Type 0 where
-  pub kind : IsOptionKind j.kind
-  pub size : size_of j ≡ length vs
-  pub marks : (i : ℕ) → i < length vs
-      → is_some (option_place_at j i) ≡ is_present (get_or vs i null)

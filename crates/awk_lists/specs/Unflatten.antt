@@ -1,6 +1,6 @@
 -- An array cut into lists of given lengths.
-use Rattle.std.specs.Prelude.{ℕ, ◌==◌, nat_lt, negsuc, pos, Bool, true, false, ◌||◌, not}
-use Rattle.std.specs.Prelude.{List, [], ◌∷◌, length, map, sum, take, drop, Option, Some, None}
+use Rattle.std.specs.Prelude.{ℕ, ◌==◌, negsuc, Bool, true, false, ◌||◌, not}
+use Rattle.std.specs.Prelude.{List, [], ◌∷◌, length, map, sum_by, take, drop, Option, Some, None}
 use Rattle.std.specs.Prelude.{option_map, Result, Err, if◌then◌else◌}
 use Rattle.std.specs.List.{list_any}
 use Rattle.awk_types.specs.DataType.{DataType, unknown, leaf, var}
@@ -12,6 +12,7 @@ use Rattle.awk_types.specs.Value.{Value, int, list, values_from}
 use Rattle.awk_types.specs.declared.fault.Fault.{Fault}
 use Rattle.awk_types.specs.declared.fault.Fault.TheVariants.{WrongType, Lengths}
 use Rattle.awk_types.specs.declared.primitive.Primitive.TheVariants.{Bool as Truths}
+use Rattle.awk_lanes.specs.Numbers.{nat_of}
 use Rattle.awk_gather.specs.Joined.{too_many}
 
 -- whole numbers, or unknown
@@ -26,30 +27,50 @@ is_negative (int (negsuc n)) = true
 is_negative v = false
 
 abbrev pub count_of : Value → ℕ
-count_of (int (pos n)) = n
+count_of (int z) = nat_of z
 count_of v = 0
+
+-- how many items the first i counts are together
+abbrev pub counted_before : List Value → ℕ → ℕ
+counted_before cs i = sum_by count_of (take i cs)
 
 abbrev pub type_refused : DataType → Option Fault
 type_refused u = if are_counts u then None else Some WrongType
 
--- no count is negative, and together they are the number of items
+abbrev pub limit_refused : DataType → Option Fault
+limit_refused t = option_map limit_fault (limit (var t))
+
+-- some count is negative, or all together are not n
+abbrev pub do_not_add_up : ℕ → List Value → Bool
+do_not_add_up n cs = list_any is_negative cs || not (sum_by count_of cs == n)
+
 abbrev pub lengths_refused : ℕ → List Value → Option Fault
-lengths_refused n cs =
-    if list_any is_negative cs || not (sum (map count_of cs) == n) then Some Lengths else None
+lengths_refused n cs = if do_not_add_up n cs then Some Lengths else None
 
 -- the first items as a list, and so on
 abbrev pub cut_by : List ℕ → List Value → List Value
 cut_by [] vs = []
 cut_by (n ∷ ns) vs = list (values_from (take n vs)) ∷ cut_by ns (drop n vs)
 
--- why items are not cut by counts
+-- items of type t in lists, as many in each as the counts say
+abbrev pub lists_by : DataType → List Value → List Value → Datum
+lists_by t vs cs = arr (var t) (cut_by (map count_of cs) vs)
+
+-- the same, where the types are judged
+abbrev pub cut_items : DataType → List Value → List Value → Result Datum Fault
+cut_items t vs cs =
+    refused_or (lengths_refused (length vs) cs or too_many (length cs)) (lists_by t vs cs)
+
+-- why items are not cut by counts of type u
 abbrev pub cut_refused : DataType → List Value → DataType → List Value → Option Fault
 cut_refused t vs u cs =
-    type_refused u or (option_map limit_fault (limit (var t))
-    or (lengths_refused (length vs) cs or too_many (length cs)))
+    type_refused u
+    or (limit_refused t or (lengths_refused (length vs) cs or too_many (length cs)))
+
+abbrev pub cut : DataType → List Value → DataType → List Value → Result Datum Fault
+cut t vs u cs = refused_or (cut_refused t vs u cs) (lists_by t vs cs)
 
 -- the items of an array in lists, as many in each as the counts say
 abbrev pub unflatten_of : Datum → Datum → Result Datum Fault
-unflatten_of (arr t vs) (arr u cs) =
-    refused_or (cut_refused t vs u cs) (arr (var t) (cut_by (map count_of cs) vs))
+unflatten_of (arr t vs) (arr u cs) = cut t vs u cs
 unflatten_of x counts = Err WrongType

@@ -1,23 +1,28 @@
 //! An array cut into lists of given lengths.
-ghost use Rattle.std.specs.Prelude.{◌≡◌, ◌≤◌, ◌<◌, ◌^◌, true, None, length, map, sum, not, IfOk};
-ghost use Rattle.std.specs.Prelude.{IsTrue, ◌↔◌};
+ghost use Rattle.std.specs.Prelude.{◌≡◌, ◌+◌, ◌<◌, ◌^◌, true, false, None, sum_by, not, pos, IfOk};
 ghost use Rattle.awk_types.specs.DataType.{var};
 ghost use Rattle.awk_types.specs.Faults.{fault_told};
 ghost use Rattle.awk_types.specs.Gives.{Gives, refused_or};
 ghost use Rattle.awk_types.specs.Limit.{limit};
+ghost use Rattle.awk_types.specs.Simple.{simple};
+ghost use Rattle.awk_types.specs.Value.{int};
 ghost use Rattle.awk_types.specs.View.{typ_of};
-ghost use Rattle.awk_lanes.specs.Places.{size_of};
+ghost use Rattle.awk_lanes.specs.Numbers.{int_of, nat_of};
+ghost use Rattle.awk_lanes.specs.declared.kind.Kind.TheVariants as Kind;
 ghost use Rattle.awk_layout.specs.Datum.{datum_of, IsDatum};
 ghost use Rattle.awk_layout.specs.Typing.{array_type, array_items, array_datum};
-ghost use Rattle.awk_lists.specs.Numbers.{AreNumbers};
+ghost use Rattle.awk_layout.specs.Valid.{len};
+ghost use Rattle.awk_gather.specs.Lanes.{lane_of};
+ghost use Rattle.awk_lists.specs.Numbers.{AreCounts};
 ghost use Rattle.awk_lists.specs.Unflatten as spec;
-ghost use Rattle.awk_lists.specs.Unflatten.{unflatten_of};
+ghost use Rattle.awk_lists.specs.Unflatten.{unflatten_of, count_of, counted_before, do_not_add_up};
+ghost use Rattle.awk_lists.specs.Unflatten.{limit_refused, lists_by};
 
 use crate::numbers::numbers_of;
 use awk_axis::{made, number};
 use awk_lanes::{Arena, Kind, Lane, LaneMaker, Num, Steps};
 use awk_layout::{Array, Datum, Node};
-use awk_types::{Fault, NoMemory, Prim, Typ, TypeFault, copy_type, simple_of};
+use awk_types::{Fault, NoMemory, Prim, Typ, copy_type, simple_of};
 use std::alloc::Global;
 use std::sync::ledger::Ledger;
 
@@ -36,65 +41,117 @@ fn are_counts(t: &Typ) -> bool
     }
 }
 
-/// The limit that the type of lists of items passes.
+/// Judges the type of lists of items.
 fn judge_lists(alloc: Global, t: &Typ) -> Result<(), Fault>
+    requires { simple (typ_of t.now) ≡ typ_of t.now }
+    ensures { let said = refused_or (limit_refused (typ_of t.now)) (tt {0}) in
+        Gives (λ _. tt {0}) fault_told result said }
 {
     let lists = Typ::Var(Box::new(alloc, copy_type(alloc, t)?)?);
-    match simple_of(alloc, lists) {
-        Ok(_) => Ok(()),
-        Err(why) => Err(Fault::from(why)),
+    let _ = simple_of(alloc, lists)?;
+    Ok(())
+}
+
+/// The whole numbers of an array.
+fn counts_of<'a, L: Ledger>(
+    alloc: Global,
+    counts: &Array<'a>,
+    arena: &'a Arena,
+    steps: &mut Steps<L>,
+) -> Result<Lane<'a>, NoMemory>
+    requires { spec.are_counts (array_type counts.now) ≡ true }
+    ensures { IfOk result (AreCounts counts.now) }
+{
+    numbers_of(alloc, counts, arena, steps)
+}
+
+fn is_negative(x: Num) -> bool
+    ensures { result ≡ spec.is_negative (int (int_of x)) }
+{
+    match x {
+        Num::Int(z) => z < 0,
+        Num::Nat(_) | Num::Truth(_) => false,
     }
 }
 
-/// A count, where it is not negative.
-fn count(x: Num) -> Option<u64>
+/// A number as a count: a negative number is 0.
+fn count(x: Num) -> u64
+    ensures { result ≡ nat_of (int_of x) }
 {
     match x {
         Num::Int(z) => {
             if z < 0 {
-                None
+                0
             } else {
-                Some(z as u64)
+                z as u64
             }
         }
-        Num::Nat(n) => Some(n),
-        Num::Truth(_) => Some(0),
+        Num::Nat(n) => n,
+        Num::Truth(b) => u64::from(b),
     }
 }
 
 /// Whether no count is negative and all together are n.
-fn add_up<L: Ledger>(counts: &Lane, n: u64, steps: &mut Steps<L>) -> bool
+fn add_up<L: Ledger>(counts: &Array, lane: &Lane, n: u64, steps: &mut Steps<L>) -> bool
+    requires { AreCounts counts.now lane.now }
+    ensures { not result ≡ do_not_add_up n (array_items counts.now) }
 {
     let mut left = n;
     for i in 0..counts.len() {
-        match count(counts.at(i, steps)) {
-            None => return false,
-            Some(k) => {
-                if k > left {
-                    return false;
-                }
-                left -= k;
-            }
+        let x = lane.at(i, steps);
+        if is_negative(x) {
+            return false;
         }
+        if count(x) > left {
+            return false;
+        }
+        left -= count(x);
     }
     left == 0
 }
 
 /// The offsets of lists of these lengths.
-fn offsets<'a, L: Ledger>(
-    counts: &Lane,
+fn offsets_by<'a, L: Ledger>(
+    counts: &Array,
+    lane: &Lane,
     arena: &'a Arena,
     steps: &mut Steps<L>,
 ) -> Result<Lane<'a>, NoMemory>
+    requires counts { AreCounts counts.now lane.now }
+    requires fits { sum_by count_of (array_items counts.now) < 2 ^ 63 }
+    ensures { let before = counted_before (array_items counts.now) in
+        IfOk result (λ r. r ≡ lane_of Kind.I64 (len counts.now + 1) (λ i. pos (before i))) }
 {
-    let mut maker = LaneMaker::new(Kind::I64, counts.len() + 1, arena)?;
+    let n = counts.len();
+    let mut maker = LaneMaker::new(Kind::I64, n + 1, arena)?;
     let mut end = 0;
     maker.push(number(0));
-    for i in 0..counts.len() {
-        end += count(counts.at(i, steps)).unwrap_or(0);
+    for i in 0..n {
+        end += count(lane.at(i, steps));
         maker.push(number(end));
     }
     Ok(maker.finish())
+}
+
+/// The array in lists between offsets.
+fn lists_between<'a, L: Ledger>(
+    alloc: Global,
+    x: &Array<'a>,
+    counts: &Array<'a>,
+    lane: &Lane<'a>,
+    arena: &'a Arena,
+    steps: &mut Steps<L>,
+) -> Result<Array<'a>, NoMemory>
+    requires counts { AreCounts counts.now lane.now }
+    requires limit { limit (var (array_type x.now)) ≡ None }
+    requires whole { do_not_add_up (len x.now) (array_items counts.now) ≡ false }
+    ensures { let said = lists_by (array_type x.now) (array_items x.now) (array_items counts.now) in
+        IfOk result (λ y. array_datum y ≡ said) }
+{
+    let _ = x.len();
+    let offsets = offsets_by(counts, lane, arena, steps)?;
+    let content = Box::new(alloc, x.node().copy(alloc)?)?;
+    made(alloc, Node::list_offset(offsets, content, steps))
 }
 
 /// The array cut, where the types are judged.
@@ -105,17 +162,19 @@ fn cut_items<'a, L: Ledger>(
     arena: &'a Arena,
     steps: &mut Steps<L>,
 ) -> Result<Array<'a>, Fault>
+    requires counts { spec.are_counts (array_type counts.now) ≡ true }
+    requires limit { limit (var (array_type x.now)) ≡ None }
+    ensures answer { let said = spec.cut_items (array_type x.now) (array_items x.now) in
+        Gives array_datum fault_told result (said (array_items counts.now)) }
 {
-    let lane = numbers_of(alloc, counts, arena, steps)?;
-    if !add_up(&lane, x.len(), steps) {
+    let lane = counts_of(alloc, counts, arena, steps)?;
+    if !add_up(counts, &lane, x.len(), steps) {
         return Err(Fault::Lengths);
     }
     if counts.len() > ITEM_LIMIT {
         return Err(Fault::Size);
     }
-    let offsets = offsets(&lane, arena, steps)?;
-    let content = Box::new(alloc, x.node().copy(alloc)?)?;
-    Ok(made(alloc, Node::list_offset(offsets, content, steps))?)
+    Ok(lists_between(alloc, x, counts, &lane, arena, steps)?)
 }
 
 /// The array cut into lists.
@@ -126,6 +185,8 @@ fn cut<'a, L: Ledger>(
     arena: &'a Arena,
     steps: &mut Steps<L>,
 ) -> Result<Array<'a>, Fault>
+    ensures answer { let said = spec.cut (array_type x.now) (array_items x.now) in
+        Gives array_datum fault_told result (said (array_type counts.now) (array_items counts.now)) }
 {
     if !are_counts(counts.typ()) {
         return Err(Fault::WrongType);

@@ -1,21 +1,21 @@
 //! The lists of a list joined to one list.
-ghost use Rattle.std.specs.Prelude.{◌≡◌, ◌+◌, ◌≤◌, ◌^◌, true, IfOk};
+ghost use Rattle.std.specs.Prelude.{◌≡◌, ◌<◌, ◌^◌, true, length, IfOk};
 ghost use Rattle.awk_types.specs.Faults.{fault_told};
 ghost use Rattle.awk_types.specs.Gives.{Gives};
 ghost use Rattle.awk_types.specs.Simple.{present};
 ghost use Rattle.awk_types.specs.View.{typ_of};
-ghost use Rattle.awk_lanes.specs.Places.{size_of, IsIndex};
+ghost use Rattle.awk_lanes.specs.Places.{size_of, IsIndex, IsIndexKind, IsOptionKind};
 ghost use Rattle.awk_layout.specs.Datum.{datum_of, IsDatum};
 ghost use Rattle.awk_layout.specs.Typing.{array_type};
-ghost use Rattle.awk_axis.specs.Joined.{AreOffsets};
 ghost use Rattle.awk_axis.specs.Opened.{OpensNothing, OpensOption};
-ghost use Rattle.awk_gather.specs.Lanes.{picked};
+ghost use Rattle.awk_gather.specs.Counted.{present_at};
 ghost use Rattle.awk_lists.specs.Flatten as spec;
 ghost use Rattle.awk_lists.specs.Flatten.{flatten_function, flatten_of};
-ghost use Rattle.awk_lists.specs.Listed.{IsListed, IsSpread, AreListed};
+ghost use Rattle.awk_lists.specs.Listed.{IsListed, present_lane, offsets_at};
 
-use awk_axis::{Joined, ListOp, Made, Opened, Refusal, Spoil, join_spans, lift_at, number, open_array};
-use awk_lanes::{Arena, Kind, Lane, LaneMaker, Steps, option_place_in, place_in};
+use awk_axis::{Joined, ListOp, Made, Opened, Refusal, Spoil};
+use awk_axis::{join_spans, lift_at, number, open_array};
+use awk_lanes::{Arena, Kind, Lane, LaneMaker, Num, Steps, index_at, option_place_in, place_in};
 use awk_layout::{Array, Datum};
 use awk_types::{Fault, NoMemory, Typ, copy_type};
 use std::alloc::{AllocError, Global};
@@ -84,24 +84,54 @@ fn plain_lists<'a, L: Ledger>(
     }
 }
 
-/// The offsets of lists with a list of no items for each null.
-fn spread<'a, L: Ledger>(
+/// How many of the first items of an option are present: 0, then one more after each that is.
+fn present_counts<'a, L: Ledger>(
     index: &Lane,
-    offsets: &Lane,
     arena: &'a Arena,
     steps: &mut Steps<L>,
 ) -> Result<Lane<'a>, NoMemory>
+    requires kind { IsOptionKind index.now.kind }
+    requires fits { size_of index.now < 2 ^ 63 }
+    ensures { IfOk result (λ r. r ≡ present_lane index.now) }
 {
     let mut maker = LaneMaker::new(Kind::I64, index.len() + 1, arena)?;
-    let mut next = 0;
-    let mut end = 0;
+    let mut count = 0;
     maker.push(number(0));
     for i in 0..index.len() {
-        if let Some(_) = option_place_in(index, i, steps) {
-            next += 1;
-            end = place_in(offsets, next, steps);
-        }
-        maker.push(number(end));
+        count += one_if_present(index, i, steps);
+        maker.push(number(count));
+    }
+    Ok(maker.finish())
+}
+
+fn one_if_present<L: Ledger>(index: &Lane, i: u64, steps: &mut Steps<L>) -> u64
+    requires kind { IsOptionKind index.now.kind }
+    requires within { i < size_of index.now }
+    ensures { result ≡ length (present_at index.now i) }
+{
+    match option_place_in(index, i, steps) {
+        Some(_) => 1,
+        None => 0,
+    }
+}
+
+/// The offsets at places.
+#[tactic(auto, using(awk_gather::proofs::MadeLanes::making))]
+fn offsets_at<'a, L: Ledger>(
+    offsets: &Lane,
+    places: &Lane,
+    arena: &'a Arena,
+    steps: &mut Steps<L>,
+) -> Result<Lane<'a>, NoMemory>
+    requires kind { IsIndexKind offsets.now.kind }
+    requires places { IsIndex places.now (size_of offsets.now) }
+    ensures { IfOk result (λ r. r ≡ offsets_at offsets.now places.now) }
+{
+    let n = places.len();
+    let mut maker = LaneMaker::new(Kind::I64, n, arena)?;
+    for i in 0..n {
+        let place = place_in(places, i, steps);
+        maker.push(Num::Int(index_at(offsets, place, steps)));
     }
     Ok(maker.finish())
 }
@@ -109,18 +139,24 @@ fn spread<'a, L: Ledger>(
 /// The lists of an option: null has no items.
 fn optional_lists<'a, L: Ledger>(
     alloc: Global,
+    x: &Array<'a>,
     index: &Lane<'a>,
     content: &Array<'a>,
     arena: &'a Arena,
     steps: &mut Steps<L>,
 ) -> Result<Joined<'a>, NoMemory>
+    requires lists { spec.is_list (array_type content.now) ≡ true }
+    requires opens { OpensOption index.now content.now x.now }
+    ensures { IfOk result (IsListed x.now) }
 {
+    let _ = x.len();
     match plain_lists(alloc, content, arena, steps)? {
         Joined::TooMany => Ok(Joined::TooMany),
-        Joined::Lists { offsets, content } => Ok(Joined::Lists {
-            offsets: spread(index, &offsets, arena, steps)?,
-            content,
-        }),
+        Joined::Lists { offsets, content } => {
+            let counts = present_counts(index, arena, steps)?;
+            let offsets = offsets_at(&offsets, &counts, arena, steps)?;
+            Ok(Joined::Lists { offsets, content })
+        }
     }
 }
 
@@ -142,26 +178,11 @@ fn lists_of<'a, L: Ledger>(
             stops,
             content,
         } => join_spans(alloc, class, &starts, &stops, &content, arena, steps),
-        Opened::Option { index, content } => optional_lists(alloc, &index, &content, arena, steps),
+        Opened::Option { index, content } => {
+            optional_lists(alloc, x, &index, &content, arena, steps)
+        }
         _ => unreachable!(),
     }
-}
-
-/// The offsets at places of offsets.
-#[tactic(auto, using(awk_gather::proofs::MadeLanes::making))]
-fn offsets_at<'a, L: Ledger>(
-    offsets: &Lane,
-    places: &Lane,
-    arena: &'a Arena,
-    steps: &mut Steps<L>,
-) -> Result<Lane<'a>, NoMemory>
-{
-    let mut maker = LaneMaker::new(Kind::I64, places.len(), arena)?;
-    for i in 0..places.len() {
-        let place = place_in(places, i, steps);
-        maker.push(offsets.at(place, steps));
-    }
-    Ok(maker.finish())
 }
 
 /// The lists of a list joined.
@@ -211,10 +232,13 @@ impl ListOp for JoinedLists {
                 content: lists,
             } => match lists_of(alloc, &lists, arena, steps)? {
                 Joined::TooMany => Ok(Made::Spoiled(Spoil::Size)),
-                Joined::Lists { offsets, content } => Ok(Made::Lists {
-                    offsets: offsets_at(&offsets, &rows, arena, steps)?,
-                    content: content.node().copy(alloc)?,
-                }),
+                Joined::Lists { offsets, content } => {
+                    let _ = content.len();
+                    Ok(Made::Lists {
+                        offsets: offsets_at(&offsets, &rows, arena, steps)?,
+                        content: content.node().copy(alloc)?,
+                    })
+                }
             },
         }
     }

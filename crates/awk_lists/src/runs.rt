@@ -1,15 +1,20 @@
 //! The lengths of runs of equal neighbours.
-ghost use Rattle.std.specs.Prelude.{◌≡◌, ◌≤◌, ◌<◌, IfOk};
+ghost use Rattle.std.specs.Prelude.{◌≡◌, ◌+◌, ◌-◌, ◌<◌, ◌≤◌, ◌^◌, ◌∷◌, ◌++◌, length, map, pos, IfOk};
+ghost use Rattle.std.specs.Ordering.{int_eq};
 ghost use Rattle.awk_types.specs.Faults.{fault_told};
 ghost use Rattle.awk_types.specs.Gives.{Gives};
 ghost use Rattle.awk_types.specs.View.{typ_of};
+ghost use Rattle.awk_lanes.specs.Places.{size_of, at};
+ghost use Rattle.awk_lanes.specs.declared.kind.Kind.TheVariants as Kind;
 ghost use Rattle.awk_layout.specs.Datum.{datum_of, IsDatum};
 ghost use Rattle.awk_axis.specs.Reach as reach;
 ghost use Rattle.awk_lists.specs.RunLengths.{run_lengths_function, run_lengths_of};
+ghost use Rattle.awk_lists.specs.Runs as spec;
+ghost use Rattle.awk_lists.specs.Runs.{runs_between, runs_before, run_lane, AreRising};
 
 use crate::numbers::numbers_of;
 use awk_axis::{Joined, ListOp, Made, Refusal, Spoil, join_spans, lift_deep, number};
-use awk_lanes::{Arena, Kind, Lane, LaneMaker, Steps, place_in};
+use awk_lanes::{Arena, Kind, Lane, LaneMaker, Num, Steps, place_in};
 use awk_layout::{Array, Datum, Node};
 use awk_types::{Fault, NoMemory, Prim, Typ};
 use std::alloc::Global;
@@ -22,11 +27,31 @@ fn is_leaf(t: &Typ) -> bool
     matches!(t, Typ::Unknown | Typ::Leaf(_))
 }
 
+/// Whether the numbers at two places are the same.
+fn is_same<L: Ledger>(items: &Lane, i: u64, j: u64, steps: &mut Steps<L>) -> bool
+    requires first { i < size_of items.now }
+    requires second { j < size_of items.now }
+    ensures { result ≡ int_eq (at items.now i) (at items.now j) }
+{
+    match (items.at(i, steps), items.at(j, steps)) {
+        (Num::Int(a), Num::Int(b)) => a == b,
+        (Num::Nat(a), Num::Nat(b)) => a == b,
+        (Num::Truth(a), Num::Truth(b)) => a == b,
+        _ => unreachable!(),
+    }
+}
+
 /// Where the run that begins at a place ends.
 fn run_end<L: Ledger>(items: &Lane, start: u64, stop: u64, steps: &mut Steps<L>) -> u64
+    requires some { start < stop }
+    requires within { stop ≤ size_of items.now }
+    ensures after { start < result }
+    ensures within { result ≤ stop }
+    ensures run { runs_between items.now start stop
+        ≡ (result - start) ∷ runs_between items.now result stop }
 {
     for i in start + 1..stop {
-        if items.at(i - 1, steps) != items.at(i, steps) {
+        if !is_same(items, i - 1, i, steps) {
             return i;
         }
     }
@@ -35,6 +60,9 @@ fn run_end<L: Ledger>(items: &Lane, start: u64, stop: u64, steps: &mut Steps<L>)
 
 /// How many runs the items from a start below a stop are.
 fn count_runs<L: Ledger>(items: &Lane, start: u64, stop: u64, steps: &mut Steps<L>) -> u64
+    requires order { start ≤ stop }
+    requires within { stop ≤ size_of items.now }
+    ensures { result ≡ length (runs_between items.now start stop) }
 {
     let mut count = 0;
     let mut next = start;
@@ -53,6 +81,16 @@ fn put_runs<'a, L: Ledger>(
     maker: &mut LaneMaker<'a>,
     steps: &mut Steps<L>,
 )
+    requires order { start ≤ stop }
+    requires within { stop ≤ size_of items.now }
+    requires small { stop < 2 ^ 63 }
+    requires kind { maker.old.kind ≡ Kind.I64 }
+    requires room { let n = length (runs_between items.now start stop) in
+        length maker.old.items + n ≤ maker.old.room }
+    ensures kind { maker.new.kind ≡ Kind.I64 }
+    ensures room { maker.new.room ≡ maker.old.room }
+    ensures items { let lengths = map (λ n. pos n) (runs_between items.now start stop) in
+        maker.new.items ≡ maker.old.items ++ lengths }
 {
     let mut next = start;
     while next < stop {
@@ -70,6 +108,10 @@ fn run_offsets<'a, L: Ledger>(
     arena: &'a Arena,
     steps: &mut Steps<L>,
 ) -> Result<Lane<'a>, NoMemory>
+    requires lists { AreRising offsets.now n (size_of items.now) }
+    requires fits { n < 2 ^ 63 }
+    requires few { runs_before items.now offsets.now n < 2 ^ 63 }
+    ensures { IfOk result (λ r. r ≡ spec.run_offsets items.now offsets.now n) }
 {
     let mut maker = LaneMaker::new(Kind::I64, n + 1, arena)?;
     let mut end = 0;
@@ -92,6 +134,11 @@ fn all_runs<'a, L: Ledger>(
     arena: &'a Arena,
     steps: &mut Steps<L>,
 ) -> Result<Lane<'a>, NoMemory>
+    requires lists { AreRising offsets.now n (size_of items.now) }
+    requires small { size_of items.now < 2 ^ 63 }
+    requires fits { n < 2 ^ 63 }
+    requires count { count ≡ runs_before items.now offsets.now n }
+    ensures { IfOk result (λ r. r ≡ run_lane items.now offsets.now n) }
 {
     let mut maker = LaneMaker::new(Kind::I64, count, arena)?;
     for i in 0..n {

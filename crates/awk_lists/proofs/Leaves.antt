@@ -1,0 +1,92 @@
+-- The numbers of an array of leaves, as a lane.
+use Rattle.std.specs.Prelude.{◌≡◌, ℕ, ◌<◌, ◌≤◌, refl, true, false, ℤ, List, [], pos, Option, Some, None}
+use Rattle.std.proofs.Common.{arith, ap, sym, ◌∙◌, subst}
+use Rattle.awk_types.specs.DataType.{DataType, unknown, leaf, var, reg, rec, tup, opt, uni, row_type}
+use Rattle.awk_types.specs.Value.{Value, int}
+use Rattle.awk_lanes.specs.Column.{Column}
+use Rattle.awk_lanes.specs.Places.{size_of, at}
+use Rattle.awk_lanes.specs.declared.kind.Kind.{Kind}
+use Rattle.awk_lanes.specs.declared.kind.Kind.TheVariants as kinds
+use Rattle.awk_layout.specs.Kinds.{primitive_of}
+use Rattle.awk_layout.specs.Item.{leaf_value}
+use Rattle.awk_layout.specs.Layout.{Layout}
+use Rattle.awk_layout.specs.Typing.{array_type}
+use Rattle.awk_layout.specs.Valid.{len}
+use Rattle.awk_gather.specs.Arrays.{array_item}
+use Rattle.awk_gather.specs.Opened.{IsOpened, IsKindOf, IsListOf}
+use Rattle.awk_gather.specs.declared.opening.Opened.{Opened}
+use Rattle.awk_gather.specs.declared.opening.Opened.TheVariants as opened
+use Rattle.awk_axis.specs.Reach.{is_leaf}
+use Rattle.awk_lists.specs.Numbers.{AreNumbers, AreCounts}
+use Rattle.awk_lists.specs.Unflatten.{are_counts}
+
+-- ---- the kinds that have such values
+
+no_list : (t u : DataType) → IsListOf t u → is_leaf t ≡ true → ⊥
+no_list unknown u h e = h
+no_list (leaf p) u h e = h
+no_list (var t) u h e = cc
+no_list (reg n t) u h e = cc
+no_list (rec ns ts) u h e = h
+no_list (tup ts) u h e = h
+no_list (opt t) u h e = h
+no_list (uni ts) u h e = h
+
+pub only_numbers : (t : DataType) (r : Opened) → IsKindOf t r → is_leaf t ≡ true
+    → (r ≡ opened.Empty → ⊥) → ((c : Column) → r ≡ opened.Leaf c → ⊥) → ⊥
+only_numbers t opened.Empty k h e l = e refl
+only_numbers t (opened.Leaf c) k h e l = l c refl
+only_numbers t (opened.Items s f y) k h e l = no_list t (array_type y) k h
+only_numbers t (opened.Row None ys) k h e l = let f : false ≡ true = sym (ap is_leaf k) ∙ h in cc
+only_numbers t (opened.Row (Some ns) ys) k h e l =
+    let f : false ≡ true = sym (ap is_leaf k) ∙ h in cc
+only_numbers t (opened.Option j y) k h e l =
+    let f : false ≡ true = sym (ap is_leaf k) ∙ h in cc
+only_numbers t (opened.Union g j ys) k h e l =
+    let f : false ≡ true = sym (ap is_leaf k) ∙ h in cc
+
+pub leaf_numbers : (x : Layout) (c : Column) → IsOpened x (opened.Leaf c) → AreNumbers x c
+leaf_numbers x c o = record { typ = λ p. o.kind; size = o.size; fits = o.valid; items = o.items }
+
+pub no_numbers : (x : Layout) (c : Column) → IsOpened x opened.Empty → c.items ≡ []
+    → AreNumbers x c
+no_numbers x c o e =
+    let none : 0 ≡ len x = o.size in
+    record {
+      typ = λ p. absurd (omega (arith, p, none));
+      size = rw e none;
+      fits = rw e (omega arith);
+      items = λ i p. absurd (omega (arith, p, none));
+    }
+
+-- ---- whole numbers
+
+whole_value : (k : Kind) (z : ℤ) → are_counts (leaf (primitive_of k)) ≡ true → leaf_value k z ≡ int z
+whole_value kinds.Bool z e = cc
+whole_value kinds.I8 z e = refl
+whole_value kinds.I16 z e = refl
+whole_value kinds.I32 z e = refl
+whole_value kinds.I64 z e = refl
+whole_value kinds.U8 z e = refl
+whole_value kinds.U16 z e = refl
+whole_value kinds.U32 z e = refl
+whole_value kinds.U64 z e = refl
+
+pub counts_leaf : (t : DataType) → are_counts t ≡ true → is_leaf t ≡ true
+counts_leaf unknown e = refl
+counts_leaf (leaf p) e = refl
+counts_leaf (var t) e = cc
+counts_leaf (reg n t) e = cc
+counts_leaf (rec ns ts) e = cc
+counts_leaf (tup ts) e = cc
+counts_leaf (opt t) e = cc
+counts_leaf (uni ts) e = cc
+
+pub are_whole : (x : Layout) (c : Column) → are_counts (array_type x) ≡ true → AreNumbers x c
+    → AreCounts x c
+are_whole x c e n = record {
+  size = n.size;
+  items = λ i p.
+      n.items i p
+      ∙ whole_value c.kind (at c i) (sym (ap are_counts (n.typ (omega (arith, p)))) ∙ e);
+}
