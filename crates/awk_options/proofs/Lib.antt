@@ -1,1 +1,8 @@
+pub mod Spans
+pub mod NullLaws
+pub mod OptionNodes
+pub mod FirstLaws
+pub mod PresentLaws
+pub mod SingleLaws
+pub mod DropLaws
 mod Worked

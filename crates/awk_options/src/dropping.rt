@@ -104,10 +104,13 @@ impl ListOp for PresentItems {
         let ends = numbers_at_ends(&items.counts, starts, stops, stops, arena, steps)?;
         match join_spans(alloc, None, &firsts, &ends, &items.content, arena, steps)? {
             Joined::TooMany => Ok(Made::Spoiled(Spoil::Size)),
-            Joined::Lists { offsets, content } => Ok(Made::Lists {
-                offsets,
-                content: content.node().copy(alloc)?,
-            }),
+            Joined::Lists { offsets, content } => {
+                let _ = content.len();
+                Ok(Made::Lists {
+                    offsets,
+                    content: content.node().copy(alloc)?,
+                })
+            }
         }
     }
 }

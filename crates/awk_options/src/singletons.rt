@@ -61,6 +61,7 @@ impl ListOp for Singletons {
         match join_spans(alloc, class, starts, stops, content, arena, steps)? {
             Joined::TooMany => Ok(Made::Spoiled(Spoil::Size)),
             Joined::Lists { offsets, content } => {
+                let _ = content.len();
                 let items = present_of(alloc, &content, arena, steps)?;
                 let inner = Box::new(alloc, items.content.node().copy(alloc)?)?;
                 Ok(Made::Lists {
