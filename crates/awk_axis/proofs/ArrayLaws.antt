@@ -51,9 +51,9 @@ pub map-same : {X : Type 0} (f g : ℕ → X) (a n : ℕ) → ((i : ℕ) → a �
 map-same f g a zero e = refl
 map-same {X} f g a (suc n) e =
     let rest : map f (range_with_len (a + 1) n) ≡ map g (range_with_len (a + 1) n) =
-        map-same f g (a + 1) n (λ i p q. e i (omega (arith, p)) (omega (arith, q))) in
+    map-same f g (a + 1) n (λ i p q. e i (omega (arith, p)) (omega (arith, q))) in
     ap (λ (x : X). x ∷ map f (range_with_len (a + 1) n)) (e a (omega arith) (omega arith))
-        ∙ ap (λ xs. g a ∷ xs) rest
+    ∙ ap (λ xs. g a ∷ xs) rest
 
 -- ---- runs
 
@@ -72,7 +72,7 @@ pub run_same : (f g : ℕ → Value) (a n : ℕ) → ((i : ℕ) → a ≤ i → 
 run_same f g a zero e = refl
 run_same f g a (suc n) e =
     let rest : run f (suc a) n ≡ run g (suc a) n =
-        run_same f g (suc a) n (λ i p q. e i (omega (arith, p)) (omega (arith, q))) in
+    run_same f g (suc a) n (λ i p q. e i (omega (arith, p)) (omega (arith, q))) in
     ap (λ v. value v (run f (suc a) n)) (e a (omega arith) (omega arith)) ∙ ap (value (g a)) rest
 
 -- ---- lists of an array
@@ -88,9 +88,9 @@ pub lists-inner : (class : Option ℕ) (s t : Column) (y x : Layout) → OpensLi
 lists-inner class s t y x o =
     ap joined_items (lists_values class s t y x o)
     ∙ flat_map-map list_items (λ i. list (values_from (items_at s t y i)))
-        (range_with_len 0 (len x))
+    (range_with_len 0 (len x))
     ∙ flat_map_same (λ i. value_list (values_from (items_at s t y i))) (items_at s t y)
-        (λ i. value_list-from (items_at s t y i)) (range_with_len 0 (len x))
+    (λ i. value_list-from (items_at s t y i)) (range_with_len 0 (len x))
   where
     flat_map_same : {X Y : Type 0} (f g : X → List Y) → ((x : X) → f x ≡ g x) → (xs : List X)
         → flat_map f xs ≡ flat_map g xs
@@ -105,7 +105,7 @@ lists-among class s t y x o =
     ∙ flat_map-map list_of (λ i. list (values_from (items_at s t y i))) (range_with_len 0 (len x))
     ∙ flat_map_single (λ i. value_list (values_from (items_at s t y i))) (range_with_len 0 (len x))
     ∙ map-same (λ i. value_list (values_from (items_at s t y i))) (items_at s t y) 0 (len x)
-        (λ i p q. value_list-from (items_at s t y i))
+    (λ i p q. value_list-from (items_at s t y i))
 
 -- ---- options
 
@@ -116,5 +116,5 @@ pub option_item : (z : ℤ) (n : ℕ) → z <ℤ pos n
     (in_option g (at_option (option_place z) ac))
 option_item (pos k) n p sy it su g ac ny nu ng e =
     in_option_same sy ny (it k) ∙ e k (omega (arith, ints, p))
-        ∙ sym (in_option_same su nu (in_option g (ac k)) ∙ ap su (in_option_same g ng (ac k)))
+    ∙ sym (in_option_same su nu (in_option g (ac k)) ∙ ap su (in_option_same g ng (ac k)))
 option_item (negsuc k) n p sy it su g ac ny nu ng e = refl

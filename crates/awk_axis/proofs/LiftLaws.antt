@@ -72,8 +72,8 @@ option_column u g j c x y gn o m = record {
   typ = ap option_of m.typ;
   items = λ i p.
       option_item (at j i) (len c) (o.index.below i (omega (arith, p, o.size)))
-          (simple_value (layout_type y)) (item y) (simple_value u) g (array_item c)
-          (simple_null (layout_type y)) (simple_null u) gn m.items
+      (simple_value (layout_type y)) (item y) (simple_value u) g (array_item c)
+      (simple_null (layout_type y)) (simple_null u) gn m.items
       ∙ ap (λ v. in_option (simple_value u) (in_option g v)) (sym (o.items i p));
 }
 
@@ -102,8 +102,11 @@ len-list (Some m) n o z e = refl
 pub valid-list : (class : Class) (n : ℕ) (o : Column) (z : Layout) → AreOffsets o n (len z)
     → AreEven class o n → IsValid z → IsValid (list_layout class n o z)
 valid-list None n o z a e v = (a.fits, a.offsets, v)
-valid-list (Some m) n o z a e v = (omega (arith, a.fits, a.size),
-    omega (arith, e n (omega arith), a.last), v)
+valid-list (Some m) n o z a e v = (
+  omega (arith, a.fits, a.size),
+  omega (arith, e n (omega arith), a.last),
+  v,
+)
 
 -- the list at a place of lists over a content
 pub item-list : (class : Class) (n : ℕ) (o : Column) (z : Layout) → AreEven class o n → (i : ℕ)
@@ -115,10 +118,10 @@ item-list (Some m) n o z e i p =
     let start : place_at o i ≡ i * m = e i (omega (arith, p)) in
     let next : place_at o (i + 1) ≡ (i + 1) * m = e (i + 1) (omega (arith, p)) in
     let size : place_at o (i + 1) - place_at o i ≡ m =
-        omega (arith, start, next, distributes i m) in
+    omega (arith, start, next, distributes i m) in
     run_in_list (simple_value (layout_type z)) (item z) (i * m) m
     ∙ sym (ap (λ a. list (run (array_item z) a (place_at o (i + 1) - place_at o i))) start
-        ∙ ap (λ n. list (run (array_item z) (i * m) n)) size)
+    ∙ ap (λ n. list (run (array_item z) (i * m) n)) size)
   where
     distributes : (i m : ℕ) → (i + 1) * m ≡ i * m + m
     distributes i m = grind arith
@@ -133,7 +136,7 @@ joined_even (Some m) s t y o z c j = go
     go (suc i) p =
         let here : place_at o i ≡ i * m = go i (omega (arith, p)) in
         let grown : place_at o (i + 1) ≡ place_at o i + (place_at t i - place_at s i) =
-            j.lengths i (omega (arith, p)) in
+        j.lengths i (omega (arith, p)) in
         let size : place_at t i - place_at s i ≡ m = c i (omega (arith, p)) in
         let next : suc i * m ≡ i * m + m = grind arith in
         let all : place_at o (i + 1) ≡ suc i * m = omega (arith, here, grown, size, next) in
@@ -157,10 +160,10 @@ lists_column class u g s t o c z x y opens joins m =
           let n = place_at o (i + 1) - place_at o i in
           item-list class (size_of s) o y even i q
           ∙ ap list (run_same (array_item y) (λ k. simple_value u (g (array_item z k))) a n
-              (λ k _ r. m.items k (omega (arith, r, joins.offsets.within i q))))
+          (λ k _ r. m.items k (omega (arith, r, joins.offsets.within i q))))
           ∙ sym (simple_value-list class u (in_list g (array_item x i))
           ∙ ap (λ v. in_list (simple_value u) (in_list g v))
-              (opens.items i p ∙ ap list (joins.lists i q))
+          (opens.items i p ∙ ap list (joins.lists i q))
           ∙ ap (in_list (simple_value u)) (run_in_list g (array_item z) a n)
           ∙ run_in_list (simple_value u) (λ k. g (array_item z k)) a n);
     }
@@ -178,8 +181,8 @@ given_column class t f s e o y z g = record {
   items = λ i p.
       item-list class (size_of s) o z g.even i p
       ∙ ap list (sym (values_from-list _)
-          ∙ ap values_from (g.lists i p
-          ∙ ap (map (simple_value t)) (sym (value_list-from (f (items_at s e y i))))))
+      ∙ ap values_from (g.lists i p
+      ∙ ap (map (simple_value t)) (sym (value_list-from (f (items_at s e y i))))))
       ∙ sym (simple_value-list class t (list (values_from (f (items_at s e y i)))));
 }
 
@@ -287,17 +290,17 @@ row_item names n ys i =
 pub across_mapped : (f : ListFunction) (k : Reach) (n : ℕ) (xs ys : List Layout) (i : ℕ) → i < n
     → AllOfLen n xs → AreMapped f k xs ys →
     values_by (simple_values (types_from (lifted_types f.giving k
-        (types_from (map array_type xs))))) (values_by
-        (lifted_values f.giving k (types_from (map array_type xs))) (value_list (across xs i)))
-        ≡ value_list (across ys i)
+    (types_from (map array_type xs))))) (values_by
+    (lifted_values f.giving k (types_from (map array_type xs))) (value_list (across xs i)))
+    ≡ value_list (across ys i)
 across_mapped f k n [] [] i p a m = refl
 across_mapped f k n [] (y ∷ ys) i p a m = absurd m
 across_mapped f k n (x ∷ xs) [] i p a m = absurd m
 across_mapped f k n (x ∷ xs) (y ∷ ys) i p a m =
     ap (λ v. v ∷ values_by (simple_values (types_from
-        (lifted_types f.giving k (types_from (map array_type xs)))))
-        (values_by (lifted_values f.giving k (types_from (map array_type xs)))
-        (value_list (across xs i)))) (sym (m.0.items i (omega (arith, p, a.0))))
+    (lifted_types f.giving k (types_from (map array_type xs)))))
+    (values_by (lifted_values f.giving k (types_from (map array_type xs)))
+    (value_list (across xs i)))) (sym (m.0.items i (omega (arith, p, a.0))))
     ∙ ap (λ vs. array_item y i ∷ vs) (across_mapped f k n xs ys i p a.1 m.1)
 
 pub simples_mapped : (f : ListFunction) (k : Reach) (xs ys : List Layout) → AreMapped f k xs ys
@@ -343,12 +346,16 @@ len_of_mapped f k (x ∷ xs) (y ∷ ys) (suc j) m = len_of_mapped f k xs ys j m.
 pub row_column : (f : ListFunction) (k : Reach) (names : Option (List Name)) (xs ys : List Layout)
     (x : Layout) → OpensRow names xs x → AreMapped f k xs ys →
     IsMapped (row_type names (types_from (lifted_types f.giving k
-        (types_from (map array_type xs))))) (in_row
-        (lifted_values f.giving k (types_from (map array_type xs)))) x
-        (rows names (len x) (layouts_from ys))
+    (types_from (map array_type xs))))) (in_row
+    (lifted_values f.giving k (types_from (map array_type xs)))) x
+    (rows names (len x) (layouts_from ys))
 row_column f k names xs ys x o m = record {
-  valid = (o.fits, rw (count_mapped f k xs ys m) o.are_names,
-      reach_mapped f k (len x) xs ys o.lens m, valid_mapped f k xs ys m);
+  valid = (
+    o.fits,
+    rw (count_mapped f k xs ys m) o.are_names,
+    reach_mapped f k (len x) xs ys o.lens m,
+    valid_mapped f k xs ys m,
+  );
   size = refl;
   typ = simple-row names (layout_types (layouts_from ys))
       ∙ ap (λ ts. row_type names (types_from ts)) (simples_mapped f k xs ys m)
@@ -358,12 +365,12 @@ row_column f k names xs ys x o m = record {
       let ts = types_from (map array_type xs) in
       row_item names (len x) ys i
       ∙ sym (simple_value-row names (types_from (lifted_types f.giving k ts))
-          (in_row (lifted_values f.giving k ts) (array_item x i))
+      (in_row (lifted_values f.giving k ts) (array_item x i))
       ∙ ap (λ v. in_row (simple_values (types_from (lifted_types f.giving k ts)))
-          (in_row (lifted_values f.giving k ts) v)) (o.items i p)
+      (in_row (lifted_values f.giving k ts) v)) (o.items i p)
       ∙ ap (λ vs. row (values_from (values_by
-          (simple_values (types_from (lifted_types f.giving k ts))) vs)))
-          (value_list-from (values_by (lifted_values f.giving k ts) (value_list (across xs i))))
+      (simple_values (types_from (lifted_types f.giving k ts))) vs)))
+      (value_list-from (values_by (lifted_values f.giving k ts) (value_list (across xs i))))
       ∙ ap (λ vs. row (values_from vs)) (across_mapped f k (len x) xs ys i p o.lens m)
       ∙ ap row (values_from-list (across ys i)));
 }
@@ -374,9 +381,9 @@ pub spoil_parts : (f : ListFunction) (k : Reach) (j : ℕ) (vs : List Value) (xs
 spoil_parts f k j vs [] a = refl
 spoil_parts f k j vs (x ∷ xs) a =
     ap (λ ws. first_spoil (spoil_at f k (array_type x) ws)
-        (spoil_across (spoils_at f k (types_from (map array_type xs))) (suc j) vs)) (sym a.0)
+    (spoil_across (spoils_at f k (types_from (map array_type xs))) (suc j) vs)) (sym a.0)
     ∙ ap (first_spoil (spoil_at f k (array_type x) (array_items x)))
-        (spoil_parts f k (suc j) vs xs a.1)
+    (spoil_parts f k (suc j) vs xs a.1)
 
 -- ---- unions
 
@@ -386,9 +393,9 @@ pub spoil_alternatives : (f : ListFunction) (k : Reach) (j : ℕ) (vs : List Val
 spoil_alternatives f k j vs [] a = refl
 spoil_alternatives f k j vs (x ∷ xs) a =
     ap (λ ws. first_spoil (spoil_at f k (array_type x) ws)
-        (spoil_among (spoils_at f k (types_from (map array_type xs))) (suc j) vs)) (sym a.0)
+    (spoil_among (spoils_at f k (types_from (map array_type xs))) (suc j) vs)) (sym a.0)
     ∙ ap (first_spoil (spoil_at f k (array_type x) (array_items x)))
-        (spoil_alternatives f k (suc j) vs xs a.1)
+    (spoil_alternatives f k (suc j) vs xs a.1)
 
 pub among-item : (ys : List Layout) (k i : ℕ)
     → value_by (simple_values (layout_types (layouts_from ys))) k (item_of (layouts_from ys) k i)
@@ -400,8 +407,8 @@ among-item (y ∷ ys) (suc k) i = among-item ys k i
 pub among_mapped : (f : ListFunction) (k : Reach) (xs ys : List Layout) (j i : ℕ)
     → i < len_of (layouts_from xs) j → AreMapped f k xs ys →
     value_by (simple_values (types_from (lifted_types f.giving k (types_from (map array_type xs)))))
-        j (value_by (lifted_values f.giving k (types_from (map array_type xs))) j
-        (item_among xs j i)) ≡ item_among ys j i
+    j (value_by (lifted_values f.giving k (types_from (map array_type xs))) j
+    (item_among xs j i)) ≡ item_among ys j i
 among_mapped f k [] [] j i p m = refl
 among_mapped f k [] (y ∷ ys) j i p m = absurd m
 among_mapped f k (x ∷ xs) [] j i p m = absurd m
@@ -416,15 +423,17 @@ union_mapped f k t j xs ys u m = record {
   index_kind = u.index_kind;
   same_size = u.same_size;
   tags = λ i p. ((u.tags i p).0, rw (count_mapped f k xs ys m) (u.tags i p).1);
-  places = λ i p. ((u.places i p).0,
-      rw (len_of_mapped f k xs ys (place_at t i) m) (u.places i p).1);
+  places = λ i p. (
+    (u.places i p).0,
+    rw (len_of_mapped f k xs ys (place_at t i) m) (u.places i p).1,
+  );
 }
 
 pub union_column : (f : ListFunction) (k : Reach) (t j : Column) (xs ys : List Layout) (x : Layout)
     → OpensUnion t j xs x → AreMapped f k xs ys →
     IsMapped (uni (types_from (lifted_types f.giving k (types_from (map array_type xs)))))
-        (in_alternative (lifted_values f.giving k (types_from (map array_type xs)))) x
-        (union t j (layouts_from ys))
+    (in_alternative (lifted_values f.giving k (types_from (map array_type xs)))) x
+    (union t j (layouts_from ys))
 union_column f k t j xs ys x o m = record {
   valid = (o.fits, union_mapped f k t j xs ys o.union m, valid_mapped f k xs ys m);
   size = o.size;
@@ -435,12 +444,12 @@ union_column f k t j xs ys x o m = record {
       let tag = place_at t i in
       let q : i < size_of t = omega (arith, p, o.size) in
       ap (λ v. union_value (simples (layout_types (layouts_from ys))) (alt tag v))
-          (among-item ys tag (place_at j i))
+      (among-item ys tag (place_at j i))
       ∙ ap (λ zs. union_value zs (alt tag (item_among ys tag (place_at j i))))
-          (simples_mapped f k xs ys m)
+      (simples_mapped f k xs ys m)
       ∙ sym (ap (λ v. union_value (simples us)
-          (in_alternative (simple_values us) (in_alternative (lifted_values f.giving k ts) v)))
-          (o.items i p)
+      (in_alternative (simple_values us) (in_alternative (lifted_values f.giving k ts) v)))
+      (o.items i p)
       ∙ ap (λ v. union_value (simples us) (alt tag v))
-          (among_mapped f k xs ys tag (place_at j i) (o.union.places i q).1 m));
+      (among_mapped f k xs ys tag (place_at j i) (o.union.places i q).1 m));
 }

@@ -72,8 +72,8 @@ option_lifted f k j c x y o h = (
   column_as _ _ _ _ _ _ (ap (lifted_type f.giving k) (sym o.typ))
       (λ i p. ap (λ t. lifted_value f.giving k t (array_item x i)) (sym o.typ))
       (option_column (lifted_type f.giving k (array_type c))
-          (lifted_value f.giving k (array_type c)) j c x y (lifted_null f.giving k (array_type c)) o
-          h.1),
+      (lifted_value f.giving k (array_type c)) j c x y (lifted_null f.giving k (array_type c)) o
+      h.1),
 )
 
 pub option_spoiled : (f : ListFunction) (k : Reach) (j : Column) (c x : Layout) (why : Spoil)
@@ -88,9 +88,9 @@ here_spoil : (f : ListFunction) (k : Reach) (class : Class) (s t : Column) (c x 
     → spoil_at f k (array_type x) (array_items x) ≡ f.spoil (array_type c) (all_items_at s t c)
 here_spoil f k class s t c x e o =
     ap (λ u. spoil_at f k u (array_items x)) o.typ
-        ∙ spoil-list_here f k class (array_type c) (array_items x) e
+    ∙ spoil-list_here f k class (array_type c) (array_items x) e
     ∙ ap (f.spoil (array_type c)) (lists-among class s t c x o
-        ∙ ap (λ n. map (items_at s t c) (range_with_len 0 n)) (sym o.size))
+    ∙ ap (λ n. map (items_at s t c) (range_with_len 0 n)) (sym o.size))
 
 pub lists_here : (f : ListFunction) (k : Reach) (class : Class) (s t : Column) (c x : Layout)
     (m : Mapped) → here k (array_type c) ≡ true → OpensLists class s t c x
@@ -101,22 +101,22 @@ lists_here f k class s t c x (mapped.Column y) e o h = (
   column_as _ _ _ _ _ _ (sym (ap (lifted_type f.giving k) o.typ
       ∙ type-list_here f.giving k class (array_type c) e))
       (λ i p. sym (ap (λ u. lifted_value f.giving k u (array_item x i)) o.typ
-          ∙ value-list_here f.giving k class (array_type c) (array_item x i) e
-          ∙ ap (on_list (given_value f.giving (array_type c))) (o.items i p)))
+      ∙ value-list_here f.giving k class (array_type c) (array_item x i) e
+      ∙ ap (on_list (given_value f.giving (array_type c))) (o.items i p)))
       (rw (← o.size) h.1),
 )
 
 above_spoil : (f : ListFunction) (k : Reach) (class : Class) (s t : Column) (c x : Layout)
     → here k (array_type c) ≡ false → OpensLists class s t c x →
     spoil_at f k (array_type x) (array_items x)
-        ≡ (if nat_lt item_limit (total s t c) then Some Size else spoil_at f (inner k)
-        (array_type c) (flat_map (items_at s t c) (range_with_len 0 (size_of s))))
+    ≡ (if nat_lt item_limit (total s t c) then Some Size else spoil_at f (inner k)
+    (array_type c) (flat_map (items_at s t c) (range_with_len 0 (size_of s))))
 above_spoil f k class s t c x e o =
     ap (λ u. spoil_at f k u (array_items x)) o.typ
-        ∙ spoil-list f k class (array_type c) (array_items x) e
+    ∙ spoil-list f k class (array_type c) (array_items x) e
     ∙ ap (λ vs. if nat_lt item_limit (length vs) then Some Size else spoil_at f (inner k)
-        (array_type c) vs) (lists-inner class s t c x o
-        ∙ ap (λ n. flat_map (items_at s t c) (range_with_len 0 n)) (sym o.size))
+    (array_type c) vs) (lists-inner class s t c x o
+    ∙ ap (λ n. flat_map (items_at s t c) (range_with_len 0 n)) (sym o.size))
 
 pub lists_too_many : (f : ListFunction) (k : Reach) (class : Class) (s t : Column) (c x : Layout)
     → here k (array_type c) ≡ false → OpensLists class s t c x → item_limit < total s t c
@@ -129,14 +129,14 @@ within_spoil : (f : ListFunction) (k : Reach) (class : Class) (s t o : Column) (
     → here k (array_type c) ≡ false → OpensLists class s t c x → total s t c ≤ item_limit
     → JoinsLists s t c o z →
     spoil_at f k (array_type x) (array_items x) ≡ spoil_at f (inner k) (array_type z)
-        (array_items z)
+    (array_items z)
 within_spoil f k class s t o c z x e opens p joins =
     let q : nat_lt item_limit (total s t c) ≡ false = not_over item_limit (total s t c) p in
     above_spoil f k class s t c x e opens
     ∙ ap (λ b. if b then Some Size else spoil_at f (inner k) (array_type c)
-        (flat_map (items_at s t c) (range_with_len 0 (size_of s)))) q
+    (flat_map (items_at s t c) (range_with_len 0 (size_of s)))) q
     ∙ ap (spoil_at f (inner k) (array_type c)) (sym joins.column)
-        ∙ ap (λ u. spoil_at f (inner k) u (array_items z)) (sym joins.typ)
+    ∙ ap (λ u. spoil_at f (inner k) u (array_items z)) (sym joins.typ)
 
 pub lists_spoiled : (f : ListFunction) (k : Reach) (class : Class) (s t o : Column) (c z x : Layout)
     (why : Spoil) → here k (array_type c) ≡ false → OpensLists class s t c x
@@ -152,14 +152,14 @@ pub lists_above : (f : ListFunction) (k : Reach) (class : Class) (s t o : Column
 lists_above f k class s t o c z x y e opens p joins h =
     let ez : here k (array_type z) ≡ false = ap (here k) joins.typ ∙ e in
     let typ : array_type x ≡ list_type class (array_type z) = opens.typ
-        ∙ ap (list_type class) (sym joins.typ) in (
+    ∙ ap (list_type class) (sym joins.typ) in (
       within_spoil f k class s t o c z x e opens p joins ∙ h.0,
       column_as _ _ _ _ _ _ (sym (ap (lifted_type f.giving k) typ
           ∙ type-list f.giving k class (array_type z) ez))
           (λ i p. sym (ap (λ u. lifted_value f.giving k u (array_item x i)) typ
-              ∙ value-list f.giving k class (array_type z) (array_item x i) ez))
+          ∙ value-list f.giving k class (array_type z) (array_item x i) ez))
           (lists_column class (lifted_type f.giving (inner k) (array_type z))
-              (lifted_value f.giving (inner k) (array_type z)) s t o c z x y opens joins h.1),
+          (lifted_value f.giving (inner k) (array_type z)) s t o c z x y opens joins h.1),
     )
 
 -- ---- rows
@@ -179,7 +179,7 @@ row_lifted f k names xs ys x o n m = (
   column_as _ _ _ _ _ _ (sym (ap (lifted_type f.giving k) o.typ
       ∙ type-row f.giving k names (types_from (map array_type xs))))
       (λ i p. sym (ap (λ u. lifted_value f.giving k u (array_item x i)) o.typ
-          ∙ value-row f.giving k names (types_from (map array_type xs)) (array_item x i)))
+      ∙ value-row f.giving k names (types_from (map array_type xs)) (array_item x i)))
       (row_column f k names xs ys x o m),
 )
 
@@ -246,15 +246,28 @@ gives_column (singles typ value) c s e o y z h = absurd h
 
 pub nested_first : (t : DataType) (v : ℕ → Value) (n : ℕ) (y : Layout) → n ≡ 0 → IsColumn t v n y
     → IsColumn (nested 0 t) (λ i. null) 0 y
-nested_first t v n y e m = record { valid = m.valid; size = m.size ∙ e; typ = m.typ; items =
-    λ i p. absurd (omega (arith, p)) }
+nested_first t v n y e m = record {
+  valid = m.valid;
+  size = m.size ∙ e;
+  typ = m.typ;
+  items =
+      λ i p. absurd (omega (arith, p));
+}
 
 pub nested_next : (t : DataType) (i : ℕ) (o : Column) (y : Layout) → o.kind ≡ I64 → size_of o ≡ 1
     → IsColumn (nested i t) (λ i. null) 0 y
     → IsColumn (nested (i + 1) t) (λ i. null) 0 (offset_lists o y)
 nested_next t i o y k e m = record {
-  valid = (omega (arith, e), record { kind = rw k tt; some = omega (arith, e); ordered =
-      λ j p. absurd (omega (arith, p, e)) }, m.valid);
+  valid = (
+    omega (arith, e),
+    record {
+      kind = rw k tt;
+      some = omega (arith, e);
+      ordered =
+          λ j p. absurd (omega (arith, p, e));
+    },
+    m.valid,
+  );
   size = omega (arith, e);
   typ = rw add-one (ap var m.typ);
   items = λ j p. absurd (omega (arith, p));
@@ -340,7 +353,7 @@ spoil_next f k xs i x first s w e q h =
     let d : drop i xs ≡ x ∷ drop (i + 1) xs = rw add-one (drop_suc-get xs i x e) in
     ap (λ z. first_spoil z (spoil_of_all f k (drop (i + 1) xs))) q
     ∙ first_spoil-assoc first (spoil_at f k (array_type x) (array_items x))
-        (spoil_of_all f k (drop (i + 1) xs))
+    (spoil_of_all f k (drop (i + 1) xs))
     ∙ ap (λ ys. first_spoil first (spoil_of_all f k ys)) (sym d) ∙ h
 
 pub mapped_next : (f : ListFunction) (k : Reach) (xs ys more : List Layout) (i : ℕ) (x y : Layout)

@@ -166,15 +166,15 @@ pub join_refused : (s t : Column) (y : Layout)
     → IsJoined s t y joined.TooMany
 join_refused s t y h =
     let e = refused_or-Err (gathered.too_many (length (joined_items (gathered.list_values s t y))))
-        (arr (array_type y) (joined_items (gathered.list_values s t y))) Size h in
+    (arr (array_type y) (joined_items (gathered.list_values s t y))) Size h in
     subst (λ n. item_limit < n) (ap length (joined-total s t y))
-        (limit_passed (length (joined_items (gathered.list_values s t y))) e)
+    (limit_passed (length (joined_items (gathered.list_values s t y))) e)
 
 place_of_offset : (s t o : Column) (i : ℕ) → o ≡ offsets_lane s t → i ≤ size_of s
     → place_at o i ≡ length (first_of (span_at s t) i)
 place_of_offset s t o i e p =
     ap (λ c. place_at c i) e ∙ ap nat_of (at-lane_of I64 (size_of s + 1) (offset_at s t) i
-        (omega (arith, p)))
+    (omega (arith, p)))
 
 offset_grows : (s t o : Column) (i : ℕ) → o ≡ offsets_lane s t → i < size_of s
     → place_at o (i + 1) ≡ place_at o i + (place_at t i - place_at s i)
@@ -182,7 +182,7 @@ offset_grows s t o i e p =
     let a = place_of_offset s t o i e (omega (arith, p)) in
     let b = place_of_offset s t o (i + 1) e (omega (arith, p)) in
     let l : length (span_at s t i) ≡ place_at t i - place_at s i =
-        length-range_with_len (place_at s i) (place_at t i - place_at s i) in
+    length-range_with_len (place_at s i) (place_at t i - place_at s i) in
     omega (arith, a, b, l, length-first_of (span_at s t) i)
 
 offset_within : (s t o : Column) (i whole : ℕ) → o ≡ offsets_lane s t → i < size_of s
@@ -211,7 +211,7 @@ pub join_given : (s t : Column) (y : Layout) (o : Column) (z : Layout)
 join_given s t y o z h is j =
     let vs = gathered.list_values s t y in
     let both = refused_or-Ok (gathered.too_many (length (joined_items vs)))
-        (arr (array_type y) (joined_items vs)) (array_datum z) h in
+    (arr (array_type y) (joined_items vs)) (array_datum z) h in
     let e : o ≡ offsets_lane s t = is ∙ sym (offsets_lane-is s t y) in (
       subst (λ n. n ≤ item_limit) (ap length (joined-total s t y))
           (limit_kept (length (joined_items vs)) both.0),

@@ -18,7 +18,7 @@ pub refusal_next : (f : ListFunction) (k : Reach) (ts : List DataType) (i : ℕ)
     → sooner s (refusal_among f k (types_from (drop (i + 1) ts))) ≡ w
 refusal_next f k ts i t first r s w g er es h =
     ap (λ z. sooner z (refusal_among f k (types_from (drop (i + 1) ts))))
-        (es ∙ ap (sooner first) er)
+    (es ∙ ap (sooner first) er)
     ∙ sooner-assoc first (refusal_at f k t) (refusal_among f k (types_from (drop (i + 1) ts)))
     ∙ ap (λ us. sooner first (refusal_among f k (types_from us))) (sym (drop-get ts i t g)) ∙ h
 
@@ -38,7 +38,7 @@ pub lifted_next : (g : Giving) (k : Reach) (ts : List DataType) (i : ℕ) (t u :
     → more ++ lifted_types g k (types_from (drop (i + 1) ts)) ≡ w
 lifted_next g k ts i t u made more w e eu em h =
     ap (λ z. z ++ lifted_types g k (types_from (drop (i + 1) ts)))
-        (em ∙ ap (λ z. made ++ z ∷ []) eu)
+    (em ∙ ap (λ z. made ++ z ∷ []) eu)
     ∙ append_one made (lifted_type g k t) (lifted_types g k (types_from (drop (i + 1) ts)))
     ∙ ap (λ us. made ++ lifted_types g k (types_from us)) (sym (drop-get ts i t e)) ∙ h
 
@@ -49,12 +49,12 @@ pub lifted_next_field : (g : Giving) (k : Reach) (fs : List NamedType) (i : ℕ)
     → map (λ f. f.typ) more ++ lifted_types g k (types_of (drop (i + 1) fs)) ≡ w
 lifted_next_field g k fs i t u made more w e eu em h =
     ap (λ z. z ++ lifted_types g k (types_of (drop (i + 1) fs)))
-        (ap (map (λ (f : NamedType). f.typ)) em ∙ map_one (λ (f : NamedType). f.typ) made u
-        ∙ ap (λ z. map (λ (f : NamedType). f.typ) made ++ z ∷ []) eu)
+    (ap (map (λ (f : NamedType). f.typ)) em ∙ map_one (λ (f : NamedType). f.typ) made u
+    ∙ ap (λ z. map (λ (f : NamedType). f.typ) made ++ z ∷ []) eu)
     ∙ append_one (map (λ (f : NamedType). f.typ) made) (lifted_type g k t.typ)
-        (lifted_types g k (types_of (drop (i + 1) fs)))
+    (lifted_types g k (types_of (drop (i + 1) fs)))
     ∙ ap (λ us. map (λ (f : NamedType). f.typ) made ++ lifted_types g k (types_of us))
-        (sym (drop-get fs i t e)) ∙ h
+    (sym (drop-get fs i t e)) ∙ h
   where
     map_one : {X Y : Type 0} (f : X → Y) (xs : List X) (x : X)
         → map f (xs ++ x ∷ []) ≡ map f xs ++ f x ∷ []
@@ -67,7 +67,7 @@ pub names_next : (fs : List NamedType) (i : ℕ) (t u : NamedType) (made more : 
     → names_of more ++ names_of (drop (i + 1) fs) ≡ names_of fs
 names_next fs i t u made more e eu em h =
     ap (λ z. z ++ names_of (drop (i + 1) fs))
-        (ap names_of em ∙ map_one made u ∙ ap (λ z. names_of made ++ z ∷ []) eu)
+    (ap names_of em ∙ map_one made u ∙ ap (λ z. names_of made ++ z ∷ []) eu)
     ∙ append_one (names_of made) t.name (names_of (drop (i + 1) fs))
     ∙ ap (λ us. names_of made ++ names_of us) (sym (drop-get fs i t e)) ∙ h
   where

@@ -84,10 +84,10 @@ whole_told : (f : ListFunction) (x : Layout) (s : Option Spoil) → IsTaken f x
     ≡ refused_or (option_map spoil_fault s) (whole_datum f.giving (array_type x) (array_items x))
 whole_told f x s a h =
     let spoil : f.spoil (array_type x) (array_items x ∷ []) ≡ s =
-        ap (λ vs. f.spoil (array_type x) (vs ∷ [])) (sym (whole_items x)) ∙ h in
+    ap (λ vs. f.spoil (array_type x) (vs ∷ [])) (sym (whole_items x)) ∙ h in
     told_values _ _ _ (whole_datum f.giving (array_type x) (array_items x)) a.0 a.1
     ∙ ap (λ z. refused_or (option_map spoil_fault z)
-        (whole_datum f.giving (array_type x) (array_items x))) spoil
+    (whole_datum f.giving (array_type x) (array_items x))) spoil
 
 pub whole_spoilt : (f : ListFunction) (x : Layout) (w : Spoil) → IsTaken f x
     → IsMade f None (single 0) (single (len x)) x (made.Spoiled w)
@@ -108,7 +108,7 @@ settle_list (Some n) t vs = ap (arr (simple t))
 
 given_whole : (c : Class) (t : DataType) (f : List Value → List Value) (x z : Layout) (o : Column)
     → AreGiven c t f (single 0) (single (len x)) x o z
-        → array_items z ≡ map (simple_value t) (f (array_items x))
+    → array_items z ≡ map (simple_value t) (f (array_items x))
 given_whole c t f x z o g =
     let a : place_at o 0 ≡ 0 = g.offsets.first in
     let b : place_at o 1 ≡ len z = g.offsets.last in
@@ -124,7 +124,7 @@ lists_datum : (g : Giving) (x z : Layout) (o : Column)
 lists_datum (lists class typ items) x z o h =
     settle_list (class None) (typ (array_type x)) (items (array_type x) (array_items x))
     ∙ ap₂ arr (sym h.typ) (sym (given_whole (class None) (typ (array_type x)) (items (array_type x))
-        x z o h))
+    x z o h))
 lists_datum (singles typ value) x z o h = absurd h
 
 pub lists_within : (f : ListFunction) (x z : Layout) (o : Column) → IsTaken f x

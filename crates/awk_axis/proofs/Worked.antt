@@ -38,13 +38,13 @@ holes =
 abbrev two_rows : Datum
 two_rows = arr (rec (codes "x" ∷ codes "y" ∷ []) (types_from (var int64 ∷ var (reg 2 int64) ∷ [])))
     (row_value (ints (pos 1 ∷ pos 2 ∷ []) ∷ list_value [] ∷ []) ∷ row_value
-        (ints [] ∷ list_value (ints (pos 3 ∷ pos 4 ∷ []) ∷ []) ∷ []) ∷ [])
+    (ints [] ∷ list_value (ints (pos 3 ∷ pos 4 ∷ []) ∷ []) ∷ []) ∷ [])
 
 -- [{"x":1,"y":[1,2]},{"x":2,"y":[]}]
 abbrev flat_field : Datum
 flat_field = arr (rec (codes "x" ∷ codes "y" ∷ []) (types_from (int64 ∷ var int64 ∷ [])))
     (row_value (int (pos 1) ∷ ints (pos 1 ∷ pos 2 ∷ []) ∷ []) ∷ row_value
-        (int (pos 2) ∷ ints [] ∷ []) ∷ [])
+    (int (pos 2) ∷ ints [] ∷ []) ∷ [])
 
 -- ---- counts at an axis
 
@@ -70,8 +70,8 @@ counted_through_option = refl
 
 counted_through_rows : lift count_function (pos 1) two_rows
     ≡ Ok (arr (rec (codes "x" ∷ codes "y" ∷ []) (types_from (int64 ∷ int64 ∷ [])))
-        (row_value (int (pos 2) ∷ int (pos 0) ∷ []) ∷ row_value (int (pos 0) ∷ int (pos 1) ∷ [])
-        ∷ []))
+    (row_value (int (pos 2) ∷ int (pos 0) ∷ []) ∷ row_value (int (pos 0) ∷ int (pos 1) ∷ [])
+    ∷ []))
 counted_through_rows = refl
 
 counted_of_unknown : lift count_function (pos 3) (arr unknown []) ≡ Ok (arr (var (var int64)) [])
@@ -97,7 +97,7 @@ counted_through_union : lift count_function (pos 1)
     (arr (uni (types_from (var int64 ∷ reg 1 (leaf Bool) ∷ [])))
     (alt 1 (list_value (truth true ∷ [])) ∷ alt 0 (ints []) ∷ []))
     ≡ Ok (arr (uni (types_from (int64 ∷ int64 ∷ [])))
-        (alt 1 (int (pos 1)) ∷ alt 0 (int (pos 0)) ∷ []))
+    (alt 1 (int (pos 1)) ∷ alt 0 (int (pos 0)) ∷ []))
 counted_through_union = refl
 
 -- a list above the axis keeps its class

@@ -31,9 +31,9 @@ pub lifted-below_unknown-requires-clause-accepted :
     goal.lifted-below_unknown-requires-clause-accepted
 lifted-below_unknown-requires-clause-accepted g t c =
     let o : IsOpened c.args.x.now opened.Unknown =
-        rw c.in-Unknown.is at c.in_ok-open_array.ensures in
+    rw c.in-Unknown.is at c.in_ok-open_array.ensures in
     unknown_accepted (g.F.ListOp.function c.args.f.now) c.args.k c.in-Axis.k
-        (array_type c.args.x.now) c.in-Axis.is o.typ c.requires
+    (array_type c.args.x.now) c.in-Axis.is o.typ c.requires
 
 pub lifted-below_unknown-requires-clause-nothing : goal.lifted-below_unknown-requires-clause-nothing
 lifted-below_unknown-requires-clause-nothing g t c =
@@ -42,9 +42,9 @@ lifted-below_unknown-requires-clause-nothing g t c =
 pub lifted-unreachable-requires : goal.lifted-unreachable-requires
 lifted-unreachable-requires g t c =
     let o : IsOpened c.args.x.now opened.Unknown =
-        rw c.in-Unknown.is at c.in_ok-open_array.ensures in
+    rw c.in-Unknown.is at c.in_ok-open_array.ensures in
     unknown_refused (g.F.ListOp.function c.args.f.now) c.args.k (array_type c.args.x.now)
-        c.in-Innermost.is o.typ c.requires
+    c.in-Innermost.is o.typ c.requires
 
 pub lifted-unreachable-unreachable : goal.lifted-unreachable-unreachable
 lifted-unreachable-unreachable g t c = c.unreachable.result
@@ -52,9 +52,9 @@ lifted-unreachable-unreachable g t c = c.unreachable.result
 pub lifted-unreachable-requires-in-Leaf : goal.lifted-unreachable-requires-in-Leaf
 lifted-unreachable-requires-in-Leaf g t c =
     let o : IsOpened c.args.x.now (opened.Leaf c.in-Leaf.field-0) =
-        rw c.in-Leaf.is at c.in_ok-open_array.ensures in
+    rw c.in-Leaf.is at c.in_ok-open_array.ensures in
     leaf_refused (g.F.ListOp.function c.args.f.now) c.args.k _ (array_type c.args.x.now) o.typ
-        c.requires
+    c.requires
 
 pub lifted-unreachable-unreachable-in-Leaf : goal.lifted-unreachable-unreachable-in-Leaf
 lifted-unreachable-unreachable-in-Leaf g t c = c.unreachable-in-Leaf.result
@@ -79,9 +79,9 @@ pub lifted_lists-at_axis-requires-clause-accepted :
 lifted_lists-at_axis-requires-clause-accepted g t c =
     let f = g.F.ListOp.function c.args.f.now in
     let e : here c.args.k (array_type c.args.content.now) ≡ true =
-        ap (here c.args.k) (sym c.typ.ensures.typ) ∙ sym c.is_here.ensures ∙ c.if-is_here.true in
+    ap (here c.args.k) (sym c.typ.ensures.typ) ∙ sym c.is_here.ensures ∙ c.if-is_here.true in
     sym (refusal-list_here f c.args.k c.args.class (array_type c.args.content.now) e)
-        ∙ ap (refusal_at f c.args.k) (sym c.requires.opens.typ) ∙ c.requires.accepted
+    ∙ ap (refusal_at f c.args.k) (sym c.requires.opens.typ) ∙ c.requires.accepted
 
 pub lifted_lists-at_axis-requires-clause-lists : goal.lifted_lists-at_axis-requires-clause-lists
 lifted_lists-at_axis-requires-clause-lists g t c = c.requires.opens.lists
@@ -90,11 +90,11 @@ pub lifted_lists-returns-then-is_here : goal.lifted_lists-returns-then-is_here
 lifted_lists-returns-then-is_here g t c =
     let f = g.F.ListOp.function c.args.f.now in
     let e : here c.args.k (array_type c.args.content.now) ≡ true =
-        ap (here c.args.k) (sym c.typ.ensures.typ) ∙ sym c.is_here.ensures ∙ c.if-is_here.true in
+    ap (here c.args.k) (sym c.typ.ensures.typ) ∙ sym c.is_here.ensures ∙ c.if-is_here.true in
     if_ok (IsAtAxis f c.args.class c.args.starts.now c.args.stops.now c.args.content.now)
-        (IsLifted f c.args.k c.args.x.now) c.at_axis.result
+    (IsLifted f c.args.k c.args.x.now) c.at_axis.result
     (λ m. lists_here f c.args.k c.args.class c.args.starts.now c.args.stops.now c.args.content.now
-        c.args.x.now m e c.requires.opens) c.at_axis.ensures
+    c.args.x.now m e c.requires.opens) c.at_axis.ensures
 
 pub lifted_lists-join_spans-requires : goal.lifted_lists-join_spans-requires
 lifted_lists-join_spans-requires g t c = c.requires.opens.lists
@@ -106,31 +106,41 @@ pub lifted_lists-returns-in-TooMany : goal.lifted_lists-returns-in-TooMany
 lifted_lists-returns-in-TooMany g t c =
     let f = g.F.ListOp.function c.args.f.now in
     let e : here c.args.k (array_type c.args.content.now) ≡ false =
-        ap (here c.args.k) (sym c.typ.ensures.typ) ∙ sym c.is_here.ensures ∙ c.if-is_here.false in
+    ap (here c.args.k) (sym c.typ.ensures.typ) ∙ sym c.is_here.ensures ∙ c.if-is_here.false in
     let j : IsJoined c.args.starts.now c.args.stops.now c.args.content.now joined.TooMany =
-        rw c.in-TooMany.is at c.in_ok-join_spans.ensures in
+    rw c.in-TooMany.is at c.in_ok-join_spans.ensures in
     lists_too_many f c.args.k c.args.class c.args.starts.now c.args.stops.now c.args.content.now
-        c.args.x.now e c.requires.opens j
+    c.args.x.now e c.requires.opens j
 
 pub lifted_lists-lifted-requires : goal.lifted_lists-lifted-requires
 lifted_lists-lifted-requires g t c κs within =
     let f = g.F.ListOp.function c.args.f.now in
     let e : here c.args.k (array_type c.args.content.now) ≡ false =
-        ap (here c.args.k) (sym c.typ.ensures.typ) ∙ sym c.is_here.ensures ∙ c.if-is_here.false in
+    ap (here c.args.k) (sym c.typ.ensures.typ) ∙ sym c.is_here.ensures ∙ c.if-is_here.false in
     let j : IsJoined c.args.starts.now c.args.stops.now c.args.content.now
-        (joined.Lists c.in-Lists.offsets c.in-Lists.content) =
-        rw c.in-Lists.is at c.in_ok-join_spans.ensures in
+    (joined.Lists c.in-Lists.offsets c.in-Lists.content) =
+    rw c.in-Lists.is at c.in_ok-join_spans.ensures in
     let r : refusal_at f (inner c.args.k) (array_type c.args.content.now) ≡ refusal_at f c.args.k
-        (array_type c.args.x.now) =
-        sym (refusal-list f c.args.k c.args.class (array_type c.args.content.now) e)
-        ∙ ap (refusal_at f c.args.k) (sym c.requires.opens.typ) in
+    (array_type c.args.x.now) =
+    sym (refusal-list f c.args.k c.args.class (array_type c.args.content.now) e)
+    ∙ ap (refusal_at f c.args.k) (sym c.requires.opens.typ) in
     let d : depth (array_type c.args.x.now) ≡ depth (array_type c.in-Lists.content) + 1 =
-        ap depth c.requires.opens.typ ∙ depth-list c.args.class (array_type c.args.content.now)
-        ∙ ap (λ u. depth u + 1) (sym j.1.typ) in (
-      omega (arith, falls_item (depth (array_type c.args.x.now))
-          (depth (array_type c.in-Lists.content)) d, c.decreases),
-      (within.0, (within.1, ap (λ k. refusal_at f k (array_type c.in-Lists.content)) c.inner.ensures
-          ∙ ap (refusal_at f (inner c.args.k)) j.1.typ ∙ r ∙ c.requires.accepted)),
+    ap depth c.requires.opens.typ ∙ depth-list c.args.class (array_type c.args.content.now)
+    ∙ ap (λ u. depth u + 1) (sym j.1.typ) in (
+      omega (
+        arith,
+        falls_item (depth (array_type c.args.x.now))
+            (depth (array_type c.in-Lists.content)) d,
+        c.decreases,
+      ),
+      (
+        within.0,
+        (
+          within.1,
+          ap (λ k. refusal_at f k (array_type c.in-Lists.content)) c.inner.ensures
+              ∙ ap (refusal_at f (inner c.args.k)) j.1.typ ∙ r ∙ c.requires.accepted,
+        ),
+      ),
     )
 
 pub lifted_lists-returns-in_err-why-in-Lists : goal.lifted_lists-returns-in_err-why-in-Lists
@@ -140,35 +150,35 @@ pub lifted_lists-returns-in-Spoiled : goal.lifted_lists-returns-in-Spoiled
 lifted_lists-returns-in-Spoiled g t c =
     let f = g.F.ListOp.function c.args.f.now in
     let e : here c.args.k (array_type c.args.content.now) ≡ false =
-        ap (here c.args.k) (sym c.typ.ensures.typ) ∙ sym c.is_here.ensures ∙ c.if-is_here.false in
+    ap (here c.args.k) (sym c.typ.ensures.typ) ∙ sym c.is_here.ensures ∙ c.if-is_here.false in
     let j : IsJoined c.args.starts.now c.args.stops.now c.args.content.now
-        (joined.Lists c.in-Lists.offsets c.in-Lists.content) =
-        rw c.in-Lists.is at c.in_ok-join_spans.ensures in
+    (joined.Lists c.in-Lists.offsets c.in-Lists.content) =
+    rw c.in-Lists.is at c.in_ok-join_spans.ensures in
     let h : IsLifted f (inner c.args.k) c.in-Lists.content (mapped.Spoiled c.in-Spoiled.why) =
-        rw (c.inner.ensures, c.in-Spoiled.is) at c.in_ok-why-in-Lists.ensures in
+    rw (c.inner.ensures, c.in-Spoiled.is) at c.in_ok-why-in-Lists.ensures in
     lists_spoiled f c.args.k c.args.class c.args.starts.now c.args.stops.now c.in-Lists.offsets
-        c.args.content.now c.in-Lists.content c.args.x.now c.in-Spoiled.why e c.requires.opens j.0
-        j.1 h
+    c.args.content.now c.in-Lists.content c.args.x.now c.in-Spoiled.why e c.requires.opens j.0
+    j.1 h
 
 pub lifted_lists-list_node-requires-clause-offsets :
     goal.lifted_lists-list_node-requires-clause-offsets
 lifted_lists-list_node-requires-clause-offsets g t c =
     let f = g.F.ListOp.function c.args.f.now in
     let j : IsJoined c.args.starts.now c.args.stops.now c.args.content.now
-        (joined.Lists c.in-Lists.offsets c.in-Lists.content) =
-        rw c.in-Lists.is at c.in_ok-join_spans.ensures in
+    (joined.Lists c.in-Lists.offsets c.in-Lists.content) =
+    rw c.in-Lists.is at c.in_ok-join_spans.ensures in
     let h : IsLifted f (inner c.args.k) c.in-Lists.content (mapped.Column c.in-Column.node) =
-        rw (c.inner.ensures, c.in-Column.is) at c.in_ok-why-in-Lists.ensures in
+    rw (c.inner.ensures, c.in-Column.is) at c.in_ok-why-in-Lists.ensures in
     rw (c.len.ensures.len, h.1.size) j.1.offsets
 
 pub lifted_lists-list_node-requires-clause-even : goal.lifted_lists-list_node-requires-clause-even
 lifted_lists-list_node-requires-clause-even g t c =
     let j : IsJoined c.args.starts.now c.args.stops.now c.args.content.now
-        (joined.Lists c.in-Lists.offsets c.in-Lists.content) =
-        rw c.in-Lists.is at c.in_ok-join_spans.ensures in
+    (joined.Lists c.in-Lists.offsets c.in-Lists.content) =
+    rw c.in-Lists.is at c.in_ok-join_spans.ensures in
     rw c.len.ensures.len (joined_even c.args.class c.args.starts.now c.args.stops.now
-        c.args.content.now c.in-Lists.offsets c.in-Lists.content c.requires.opens.lists.same_class
-        j.1)
+    c.args.content.now c.in-Lists.offsets c.in-Lists.content c.requires.opens.lists.same_class
+    j.1)
 
 pub lifted_lists-returns-in_err-node-in-Column : goal.lifted_lists-returns-in_err-node-in-Column
 lifted_lists-returns-in_err-node-in-Column g t c = search rules
@@ -177,25 +187,35 @@ pub lifted_lists-returns : goal.lifted_lists-returns
 lifted_lists-returns g t c =
     let f = g.F.ListOp.function c.args.f.now in
     let e : here c.args.k (array_type c.args.content.now) ≡ false =
-        ap (here c.args.k) (sym c.typ.ensures.typ) ∙ sym c.is_here.ensures ∙ c.if-is_here.false in
+    ap (here c.args.k) (sym c.typ.ensures.typ) ∙ sym c.is_here.ensures ∙ c.if-is_here.false in
     let j : IsJoined c.args.starts.now c.args.stops.now c.args.content.now
-        (joined.Lists c.in-Lists.offsets c.in-Lists.content) =
-        rw c.in-Lists.is at c.in_ok-join_spans.ensures in
+    (joined.Lists c.in-Lists.offsets c.in-Lists.content) =
+    rw c.in-Lists.is at c.in_ok-join_spans.ensures in
     let h : IsLifted f (inner c.args.k) c.in-Lists.content (mapped.Column c.in-Column.node) =
-        rw (c.inner.ensures, c.in-Column.is) at c.in_ok-why-in-Lists.ensures in
+    rw (c.inner.ensures, c.in-Column.is) at c.in_ok-why-in-Lists.ensures in
     rw (c.in_ok-node-in-Column.ensures, c.len.ensures.len)
-        (lists_above f c.args.k c.args.class c.args.starts.now c.args.stops.now c.in-Lists.offsets
-        c.args.content.now c.in-Lists.content c.args.x.now c.in-Column.node e c.requires.opens j.0
-        j.1 h)
+    (lists_above f c.args.k c.args.class c.args.starts.now c.args.stops.now c.in-Lists.offsets
+    c.args.content.now c.in-Lists.content c.args.x.now c.in-Column.node e c.requires.opens j.0
+    j.1 h)
 
 pub lifted_option-lifted-requires : goal.lifted_option-lifted-requires
 lifted_option-lifted-requires g t c κs within =
     let d : depth (array_type c.args.x.now) ≡ depth (array_type c.args.content.now) + 1 =
-        ap depth c.requires.opens.typ ∙ depth-option (array_type c.args.content.now) in (
-      omega (arith, falls_item (depth (array_type c.args.x.now))
-          (depth (array_type c.args.content.now)) d, c.decreases),
-      (within.0, (within.1, ap (refusal_at (g.F.ListOp.function c.args.f.now) c.args.k)
-          (sym c.requires.opens.typ) ∙ c.requires.accepted)),
+    ap depth c.requires.opens.typ ∙ depth-option (array_type c.args.content.now) in (
+      omega (
+        arith,
+        falls_item (depth (array_type c.args.x.now))
+            (depth (array_type c.args.content.now)) d,
+        c.decreases,
+      ),
+      (
+        within.0,
+        (
+          within.1,
+          ap (refusal_at (g.F.ListOp.function c.args.f.now) c.args.k)
+              (sym c.requires.opens.typ) ∙ c.requires.accepted,
+        ),
+      ),
     )
 
 pub lifted_option-returns-in_err-why : goal.lifted_option-returns-in_err-why
@@ -204,9 +224,9 @@ lifted_option-returns-in_err-why g t c = search rules
 pub lifted_option-returns-in-Spoiled : goal.lifted_option-returns-in-Spoiled
 lifted_option-returns-in-Spoiled g t c =
     let h : IsLifted (g.F.ListOp.function c.args.f.now) c.args.k c.args.content.now
-        (mapped.Spoiled c.in-Spoiled.why) = rw c.in-Spoiled.is at c.in_ok-why.ensures in
+    (mapped.Spoiled c.in-Spoiled.why) = rw c.in-Spoiled.is at c.in_ok-why.ensures in
     option_spoiled (g.F.ListOp.function c.args.f.now) c.args.k c.args.index.now c.args.content.now
-        c.args.x.now c.in-Spoiled.why c.requires.opens h
+    c.args.x.now c.in-Spoiled.why c.requires.opens h
 
 pub lifted_option-returns-in_err-node-in-Column : goal.lifted_option-returns-in_err-node-in-Column
 lifted_option-returns-in_err-node-in-Column g t c = search rules
@@ -219,27 +239,36 @@ pub lifted_option-indexed_option-requires-clause-valid :
     goal.lifted_option-indexed_option-requires-clause-valid
 lifted_option-indexed_option-requires-clause-valid g t c =
     let h : IsLifted (g.F.ListOp.function c.args.f.now) c.args.k c.args.content.now
-        (mapped.Column c.in-Column.node) = rw c.in-Column.is at c.in_ok-why.ensures in
+    (mapped.Column c.in-Column.node) = rw c.in-Column.is at c.in_ok-why.ensures in
     rw (c.copy.ensures, c.in_ok-node-in-Column.ensures.ok, h.1.size) c.requires.opens.index
 
 pub lifted_option-returns-in_ok-node-in-Column : goal.lifted_option-returns-in_ok-node-in-Column
 lifted_option-returns-in_ok-node-in-Column g t c =
     let h : IsLifted (g.F.ListOp.function c.args.f.now) c.args.k c.args.content.now
-        (mapped.Column c.in-Column.node) = rw c.in-Column.is at c.in_ok-why.ensures in
+    (mapped.Column c.in-Column.node) = rw c.in-Column.is at c.in_ok-why.ensures in
     rw (c.indexed_option.ensures.node, c.copy.ensures, c.in_ok-node-in-Column.ensures.ok)
-        (option_lifted (g.F.ListOp.function c.args.f.now) c.args.k c.args.index.now
-        c.args.content.now c.args.x.now c.in-Column.node c.requires.opens h)
+    (option_lifted (g.F.ListOp.function c.args.f.now) c.args.k c.args.index.now
+    c.args.content.now c.args.x.now c.in-Column.node c.requires.opens h)
 
 pub lifted_row-lifted_all-requires : goal.lifted_row-lifted_all-requires
 lifted_row-lifted_all-requires g t c κs within =
     let ts = types_from (map array_type c.args.columns) in
     let d : depth (array_type c.args.x.now) ≡ greatest (depths ts) + 1 =
-        ap depth c.requires.opens.typ ∙ depth-row c.args.names ts in (
-      omega (arith, falls_all (depth (array_type c.args.x.now)) (greatest (depths ts)) d,
-          c.decreases),
-      (within.0, (within.1, refusal-row (g.F.ListOp.function c.args.f.now) c.args.k c.args.names ts
-          (ap (refusal_at (g.F.ListOp.function c.args.f.now) c.args.k) (sym c.requires.opens.typ)
-          ∙ c.requires.accepted))),
+    ap depth c.requires.opens.typ ∙ depth-row c.args.names ts in (
+      omega (
+        arith,
+        falls_all (depth (array_type c.args.x.now)) (greatest (depths ts)) d,
+        c.decreases,
+      ),
+      (
+        within.0,
+        (
+          within.1,
+          refusal-row (g.F.ListOp.function c.args.f.now) c.args.k c.args.names ts
+              (ap (refusal_at (g.F.ListOp.function c.args.f.now) c.args.k) (sym c.requires.opens.typ)
+              ∙ c.requires.accepted),
+        ),
+      ),
     )
 
 pub lifted_row-returns-in_err-why : goal.lifted_row-returns-in_err-why
@@ -248,9 +277,9 @@ lifted_row-returns-in_err-why g t c = search rules
 pub lifted_row-returns-in-Spoiled : goal.lifted_row-returns-in-Spoiled
 lifted_row-returns-in-Spoiled g t c =
     let h : AreLifted (g.F.ListOp.function c.args.f.now) c.args.k c.args.columns
-        (all_mapped.Spoiled c.in-Spoiled.why) = rw c.in-Spoiled.is at c.in_ok-why.ensures in
+    (all_mapped.Spoiled c.in-Spoiled.why) = rw c.in-Spoiled.is at c.in_ok-why.ensures in
     row_spoiled (g.F.ListOp.function c.args.f.now) c.args.k c.args.names c.args.columns c.args.x.now
-        c.in-Spoiled.why c.requires.opens h
+    c.in-Spoiled.why c.requires.opens h
 
 pub lifted_row-row-requires-clause-length : goal.lifted_row-row-requires-clause-length
 lifted_row-row-requires-clause-length g t c = rw c.len.ensures.len c.requires.opens.fits
@@ -258,35 +287,44 @@ lifted_row-row-requires-clause-length g t c = rw c.len.ensures.len c.requires.op
 pub lifted_row-row-requires-clause-names : goal.lifted_row-row-requires-clause-names
 lifted_row-row-requires-clause-names g t c =
     let h : AreLifted (g.F.ListOp.function c.args.f.now) c.args.k c.args.columns
-        (all_mapped.Columns c.in-Columns.nodes) = rw c.in-Columns.is at c.in_ok-why.ensures in
+    (all_mapped.Columns c.in-Columns.nodes) = rw c.in-Columns.is at c.in_ok-why.ensures in
     rw (count_mapped (g.F.ListOp.function c.args.f.now) c.args.k c.args.columns c.in-Columns.nodes
-        h.1) c.requires.opens.are_names
+    h.1) c.requires.opens.are_names
 
 pub lifted_row-row-requires-clause-valid : goal.lifted_row-row-requires-clause-valid
 lifted_row-row-requires-clause-valid g t c =
     let h : AreLifted (g.F.ListOp.function c.args.f.now) c.args.k c.args.columns
-        (all_mapped.Columns c.in-Columns.nodes) = rw c.in-Columns.is at c.in_ok-why.ensures in
+    (all_mapped.Columns c.in-Columns.nodes) = rw c.in-Columns.is at c.in_ok-why.ensures in
     rw c.len.ensures.len (reach_mapped (g.F.ListOp.function c.args.f.now) c.args.k
-        (len c.args.x.now) c.args.columns c.in-Columns.nodes c.requires.opens.lens h.1)
+    (len c.args.x.now) c.args.columns c.in-Columns.nodes c.requires.opens.lens h.1)
 
 pub lifted_row-returns : goal.lifted_row-returns
 lifted_row-returns g t c =
     let h : AreLifted (g.F.ListOp.function c.args.f.now) c.args.k c.args.columns
-        (all_mapped.Columns c.in-Columns.nodes) = rw c.in-Columns.is at c.in_ok-why.ensures in
+    (all_mapped.Columns c.in-Columns.nodes) = rw c.in-Columns.is at c.in_ok-why.ensures in
     rw (c.row.ensures.node, c.len.ensures.len)
-        (row_lifted (g.F.ListOp.function c.args.f.now) c.args.k c.args.names c.args.columns
-        c.in-Columns.nodes c.args.x.now c.requires.opens h.0 h.1)
+    (row_lifted (g.F.ListOp.function c.args.f.now) c.args.k c.args.names c.args.columns
+    c.in-Columns.nodes c.args.x.now c.requires.opens h.0 h.1)
 
 pub lifted_union-lifted_all-requires : goal.lifted_union-lifted_all-requires
 lifted_union-lifted_all-requires g t c κs within =
     let ts = types_from (map array_type c.args.contents.now) in
     let d : depth (array_type c.args.x.now) ≡ greatest (depths ts) + 1 =
-        ap depth c.requires.opens.typ ∙ depth-union ts in (
-      omega (arith, falls_all (depth (array_type c.args.x.now)) (greatest (depths ts)) d,
-          c.decreases),
-      (within.0, (within.1, refusal-union (g.F.ListOp.function c.args.f.now) c.args.k ts
-          (ap (refusal_at (g.F.ListOp.function c.args.f.now) c.args.k) (sym c.requires.opens.typ)
-          ∙ c.requires.accepted))),
+    ap depth c.requires.opens.typ ∙ depth-union ts in (
+      omega (
+        arith,
+        falls_all (depth (array_type c.args.x.now)) (greatest (depths ts)) d,
+        c.decreases,
+      ),
+      (
+        within.0,
+        (
+          within.1,
+          refusal-union (g.F.ListOp.function c.args.f.now) c.args.k ts
+              (ap (refusal_at (g.F.ListOp.function c.args.f.now) c.args.k) (sym c.requires.opens.typ)
+              ∙ c.requires.accepted),
+        ),
+      ),
     )
 
 pub lifted_union-returns-in_err-why : goal.lifted_union-returns-in_err-why
@@ -295,9 +333,9 @@ lifted_union-returns-in_err-why g t c = search rules
 pub lifted_union-returns-in-Spoiled : goal.lifted_union-returns-in-Spoiled
 lifted_union-returns-in-Spoiled g t c =
     let h : AreLifted (g.F.ListOp.function c.args.f.now) c.args.k c.args.contents.now
-        (all_mapped.Spoiled c.in-Spoiled.why) = rw c.in-Spoiled.is at c.in_ok-why.ensures in
+    (all_mapped.Spoiled c.in-Spoiled.why) = rw c.in-Spoiled.is at c.in_ok-why.ensures in
     union_spoiled (g.F.ListOp.function c.args.f.now) c.args.k c.args.tags.now c.args.index.now
-        c.args.contents.now c.args.x.now c.in-Spoiled.why c.requires.opens h
+    c.args.contents.now c.args.x.now c.in-Spoiled.why c.requires.opens h
 
 pub lifted_union-union-node-requires-clause-length :
     goal.lifted_union-union-node-requires-clause-length
@@ -307,18 +345,18 @@ pub lifted_union-union-node-requires-clause-valid :
     goal.lifted_union-union-node-requires-clause-valid
 lifted_union-union-node-requires-clause-valid g t c =
     let h : AreLifted (g.F.ListOp.function c.args.f.now) c.args.k c.args.contents.now
-        (all_mapped.Columns c.in-Columns.nodes) = rw c.in-Columns.is at c.in_ok-why.ensures in
+    (all_mapped.Columns c.in-Columns.nodes) = rw c.in-Columns.is at c.in_ok-why.ensures in
     rw (c.copy.ensures, c.copy-in-Columns.ensures)
-        (union_mapped (g.F.ListOp.function c.args.f.now) c.args.k c.args.tags.now c.args.index.now
-        c.args.contents.now c.in-Columns.nodes c.requires.opens.union h.1)
+    (union_mapped (g.F.ListOp.function c.args.f.now) c.args.k c.args.tags.now c.args.index.now
+    c.args.contents.now c.in-Columns.nodes c.requires.opens.union h.1)
 
 pub lifted_union-returns-in-Columns : goal.lifted_union-returns-in-Columns
 lifted_union-returns-in-Columns g t c =
     let h : AreLifted (g.F.ListOp.function c.args.f.now) c.args.k c.args.contents.now
-        (all_mapped.Columns c.in-Columns.nodes) = rw c.in-Columns.is at c.in_ok-why.ensures in
+    (all_mapped.Columns c.in-Columns.nodes) = rw c.in-Columns.is at c.in_ok-why.ensures in
     rw (c.union-node.ensures.node, c.copy.ensures, c.copy-in-Columns.ensures)
-        (union_lifted (g.F.ListOp.function c.args.f.now) c.args.k c.args.tags.now c.args.index.now
-        c.args.contents.now c.in-Columns.nodes c.args.x.now c.requires.opens h.0 h.1)
+    (union_lifted (g.F.ListOp.function c.args.f.now) c.args.k c.args.tags.now c.args.index.now
+    c.args.contents.now c.in-Columns.nodes c.args.x.now c.requires.opens h.0 h.1)
 
 pub lifted_all-loop-i-preserved : goal.lifted_all-loop-i-preserved
 lifted_all-loop-i-preserved g t c =
@@ -327,30 +365,44 @@ lifted_all-loop-i-preserved g t c =
     c.taken.new.nodes c.get.ensures c.in_ok-made.ensures c.in_ok-first.ensures c.loop-i.invariant
 
 pub lifted-lifted_lists-requires : goal.lifted-lifted_lists-requires
-lifted-lifted_lists-requires g t c κs within =
-    (omega (arith, falls_kind (depth (array_type c.args.x.now)), c.decreases),
-    (within.0, (within.1, (c.requires, rw c.in-Items.is at c.in_ok-open_array.ensures))))
+lifted-lifted_lists-requires g t c κs within = (
+  omega (arith, falls_kind (depth (array_type c.args.x.now)), c.decreases),
+  (within.0, (within.1, (c.requires, rw c.in-Items.is at c.in_ok-open_array.ensures))),
+)
 
 pub lifted-lifted_row-requires : goal.lifted-lifted_row-requires
-lifted-lifted_row-requires g t c κs within =
-    (omega (arith, falls_kind (depth (array_type c.args.x.now)), c.decreases),
-    (within.0, (within.1, (c.requires, rw c.in-Row.is at c.in_ok-open_array.ensures))))
+lifted-lifted_row-requires g t c κs within = (
+  omega (arith, falls_kind (depth (array_type c.args.x.now)), c.decreases),
+  (within.0, (within.1, (c.requires, rw c.in-Row.is at c.in_ok-open_array.ensures))),
+)
 
 pub lifted-lifted_option-requires : goal.lifted-lifted_option-requires
-lifted-lifted_option-requires g t c κs within =
-    (omega (arith, falls_kind (depth (array_type c.args.x.now)), c.decreases),
-    (within.0, (within.1, (c.requires, rw c.in-Option.is at c.in_ok-open_array.ensures))))
+lifted-lifted_option-requires g t c κs within = (
+  omega (arith, falls_kind (depth (array_type c.args.x.now)), c.decreases),
+  (within.0, (within.1, (c.requires, rw c.in-Option.is at c.in_ok-open_array.ensures))),
+)
 
 pub lifted-lifted_union-requires : goal.lifted-lifted_union-requires
-lifted-lifted_union-requires g t c κs within =
-    (omega (arith, falls_kind (depth (array_type c.args.x.now)), c.decreases),
-    (within.0, (within.1, (c.requires, rw c.in-Union.is at c.in_ok-open_array.ensures))))
+lifted-lifted_union-requires g t c κs within = (
+  omega (arith, falls_kind (depth (array_type c.args.x.now)), c.decreases),
+  (within.0, (within.1, (c.requires, rw c.in-Union.is at c.in_ok-open_array.ensures))),
+)
 
 pub lifted_all-lifted-requires : goal.lifted_all-lifted-requires
 lifted_all-lifted-requires g t c κs within = (
-  omega (arith, falls_each (depth (array_type c.get.result.now))
-      (greatest (depths (types_from (map array_type c.args.xs.now))))
-      (depth-get c.args.xs.now c.loop-i.i c.get.result.now c.get.ensures), c.decreases),
-  (within.0, (within.1, refusal-get (g.F.ListOp.function c.args.f.now) c.args.k c.args.xs.now
-      c.loop-i.i c.get.result.now c.get.ensures c.requires.accepted)),
+  omega (
+    arith,
+    falls_each (depth (array_type c.get.result.now))
+        (greatest (depths (types_from (map array_type c.args.xs.now))))
+        (depth-get c.args.xs.now c.loop-i.i c.get.result.now c.get.ensures),
+    c.decreases,
+  ),
+  (
+    within.0,
+    (
+      within.1,
+      refusal-get (g.F.ListOp.function c.args.f.now) c.args.k c.args.xs.now
+          c.loop-i.i c.get.result.now c.get.ensures c.requires.accepted,
+    ),
+  ),
 )

@@ -11,8 +11,8 @@ returns-in-Spoiled-clause-answer g c =
     let x = c.args.x.now in
     let a : IsTaken f x = (c.requires.accepted, c.requires.limit) in
     let h : IsMade f None (single 0) (single (len x)) x (made.Spoiled c.in-Spoiled.why) =
-        rw (c.in-Spoiled.is, c.in_ok-starts.ensures, c.in_ok-stops.ensures, c.len.ensures.len)
-        at c.in_ok-why.ensures in
+    rw (c.in-Spoiled.is, c.in_ok-starts.ensures, c.in_ok-stops.ensures, c.len.ensures.len)
+    at c.in_ok-why.ensures in
     rw c.spoilt.ensures (whole_spoilt f x c.in-Spoiled.why a h)
 
 pub returns-in_ok-made-in-Lists-clause-answer : goal.returns-in_ok-made-in-Lists-clause-answer
@@ -21,9 +21,9 @@ returns-in_ok-made-in-Lists-clause-answer g c =
     let x = c.args.x.now in
     let a : IsTaken f x = (c.requires.accepted, c.requires.limit) in
     let h : IsMade f None (single 0) (single (len x)) x
-        (made.Lists c.in-Lists.offsets c.in-Lists.content) =
-        rw (c.in-Lists.is, c.in_ok-starts.ensures, c.in_ok-stops.ensures, c.len.ensures.len)
-        at c.in_ok-why.ensures in
+    (made.Lists c.in-Lists.offsets c.in-Lists.content) =
+    rw (c.in-Lists.is, c.in_ok-starts.ensures, c.in_ok-stops.ensures, c.len.ensures.len)
+    at c.in_ok-why.ensures in
     rw c.in_ok-made-in-Lists.ensures (whole_given f x c.in-Lists.content c.in-Lists.offsets a h)
 
 pub returns-in_ok-settled-in-Singles-clause-answer :
@@ -33,7 +33,7 @@ returns-in_ok-settled-in-Singles-clause-answer g c =
     let x = c.args.x.now in
     let a : IsTaken f x = (c.requires.accepted, c.requires.limit) in
     let h : IsMade f None (single 0) (single (len x)) x (made.Singles c.in-Singles.node) =
-        rw (c.in-Singles.is, c.in_ok-starts.ensures, c.in_ok-stops.ensures, c.len.ensures.len)
-        at c.in_ok-why.ensures in
+    rw (c.in-Singles.is, c.in_ok-starts.ensures, c.in_ok-stops.ensures, c.len.ensures.len)
+    at c.in_ok-why.ensures in
     whole_single f x c.in-Singles.node _ a h (rw c.in_ok-one-in-Singles.ensures
-        at c.in_ok-settled-in-Singles.ensures.settled)
+    at c.in_ok-settled-in-Singles.ensures.settled)
