@@ -1,6 +1,6 @@
 -- Lists of the items that are not null.
-use Rattle.std.specs.Prelude.{◌≡◌, ℕ, zero, suc, ◌+◌, ◌-◌, ◌<◌, ◌≤◌, ◌^◌, ◌==◌, refl, List, map, sum, ℤ}
-use Rattle.std.specs.Prelude.{pos, negsuc, ◌≤ℤ◌, length, Some, None, if◌then◌else◌}
+use Rattle.std.specs.Prelude.{◌≡◌, ℕ, zero, suc, ◌+◌, ◌-◌, ◌<◌, ◌≤◌, ◌^◌, ◌==◌, refl, List, map}
+use Rattle.std.specs.Prelude.{sum, ℤ, pos, negsuc, ◌≤ℤ◌, length, Some, None, if◌then◌else◌}
 use Rattle.std.specs.List.{range_with_len, flat_map}
 use Rattle.std.proofs.Common.{arith, ap, sym, ◌∙◌, subst}
 use Rattle.std.proofs.lemmas.Int.{ints}
@@ -25,6 +25,7 @@ use Rattle.awk_axis.specs.Joined.{AreOffsets, JoinsLists, total}
 use Rattle.awk_axis.specs.ListFunction.{Class}
 use Rattle.awk_axis.specs.Mapped.{AreGiven}
 use Rattle.awk_axis.specs.Opened.{AreLists, items_at, all_items_at}
+use Rattle.awk_axis.specs.Spoils.{too_many}
 use Rattle.awk_axis.specs.declared.causes.Spoil.TheVariants.{Size}
 use Rattle.awk_options.specs.Lanes.{span_length, ArePresent, AreEnds, numbers_at_ends}
 use Rattle.awk_options.proofs.FirstLaws.{start_there}
@@ -78,10 +79,12 @@ module _ (class : Class) (s t : Column) (y : Layout) (a : AreLists class s t y)
   stops = numbers_at_ends c s t t
 
   size-starts : size_of starts ≡ size_of s
-  size-starts = size-lane_of I64 (size_of s) (λ i. end_number (span_length s t i) (at c (place_at s i)))
+  size-starts =
+      size-lane_of I64 (size_of s) (λ i. end_number (span_length s t i) (at c (place_at s i)))
 
   size-stops : size_of stops ≡ size_of s
-  size-stops = size-lane_of I64 (size_of s) (λ i. end_number (span_length s t i) (at c (place_at t i)))
+  size-stops =
+      size-lane_of I64 (size_of s) (λ i. end_number (span_length s t i) (at c (place_at t i)))
 
   at-starts : (i : ℕ) → i < size_of s
       → at starts i ≡ end_number (span_length s t i) (at c (place_at s i))
@@ -114,7 +117,8 @@ module _ (class : Class) (s t : Column) (y : Layout) (a : AreLists class s t y)
           ap (at c) both.0 ∙ at-count y c z h (k + suc n) both.1 in
       let up = counts_up y c z h k (suc n) both.1 in
       let within = counts_within y c z h (k + suc n) both.1 in
-      rw (low, high) (λ d. (omega (arith, ints), omega (arith, ints, up), omega (arith, ints, within)))
+      rw (low, high) (λ d.
+          (omega (arith, ints), omega (arith, ints, up), omega (arith, ints, within)))
 
   ends : (i : ℕ) → i < size_of s → 0 < span_length s t i
       → (place_at t i ≡ place_at s i + span_length s t i)
@@ -156,11 +160,11 @@ module _ (class : Class) (s t : Column) (y : Layout) (a : AreLists class s t y)
 
   pub present_spoilt : item_limit < total starts stops z
       → drop_none_function.spoil (array_type y) (all_items_at s t y) ≡ Some Size
-  present_spoilt q = over_limit _ (omega (arith, count_is, q))
+  present_spoilt q = ap too_many count_is ∙ over_limit (total starts stops z) q
 
   pub present_fine : total starts stops z ≤ item_limit
       → drop_none_function.spoil (array_type y) (all_items_at s t y) ≡ None
-  present_fine q = within_limit _ (omega (arith, count_is, q))
+  present_fine q = ap too_many count_is ∙ within_limit (total starts stops z) q
 
   module _ (o : Column) (w : Layout) (j : JoinsLists starts stops z o w) (has : HasItems w) where
     abbrev typ : DataType

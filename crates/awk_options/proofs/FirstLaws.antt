@@ -1,6 +1,6 @@
 -- The first items of lists.
-use Rattle.std.specs.Prelude.{◌≡◌, ◌≢◌, ℕ, zero, suc, ◌+◌, ◌-◌, ◌<◌, ◌≤◌, ◌^◌, ◌==◌, refl, true, false}
-use Rattle.std.specs.Prelude.{Bool, ℤ, pos, negsuc, ◌≤ℤ◌, ◌<ℤ◌, Option, Some, None, if◌then◌else◌}
+use Rattle.std.specs.Prelude.{◌≡◌, ◌≢◌, ℕ, zero, suc, ◌+◌, ◌-◌, ◌<◌, ◌≤◌, ◌^◌, ◌==◌, refl, ℤ, pos}
+use Rattle.std.specs.Prelude.{negsuc, ◌≤ℤ◌, ◌<ℤ◌, Some, if◌then◌else◌}
 use Rattle.std.proofs.Common.{arith, ap, sym, ◌∙◌, subst}
 use Rattle.std.proofs.lemmas.Int.{ints}
 use Rattle.awk_types.specs.DataType.{opt}
@@ -40,7 +40,8 @@ abbrev first_number : ℕ → ℤ → ℤ
 first_number n a = if n == 0 then negsuc 0 else a
 
 first_shown : (f : ℕ → Value) (n : ℕ) (a : ℤ) → (0 < n → a ≡ pos (nat_of a))
-    → at_option (option_place (first_number n a)) f ≡ first_or_null (value_list (run f (nat_of a) n))
+    → at_option (option_place (first_number n a)) f
+    ≡ first_or_null (value_list (run f (nat_of a) n))
 first_shown f zero a h = refl
 first_shown f (suc n) a h =
     let e : a ≡ pos (nat_of a) = h (omega arith) in

@@ -5,4 +5,6 @@ pub mod FirstLaws
 pub mod PresentLaws
 pub mod SingleLaws
 pub mod DropLaws
+pub mod PadLaws
+pub mod PadGiven
 mod Worked

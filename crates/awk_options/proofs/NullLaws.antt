@@ -26,12 +26,12 @@ use Rattle.awk_gather.specs.Opened.{IsOpened}
 use Rattle.awk_gather.specs.declared.opening.Opened.TheVariants.{Option as Optional}
 use Rattle.awk_gather.proofs.ItemShapes.{present_item}
 use Rattle.awk_gather.proofs.MadeLanes.{size-lane_of, at-lane_of}
-use Rattle.awk_axis.specs.Joined.{JoinsLists, IsJoined, total}
+use Rattle.awk_axis.specs.Joined.{JoinsLists, total}
 use Rattle.awk_axis.specs.ListFunction.{Class}
 use Rattle.awk_axis.specs.Mapped.{AreGiven}
 use Rattle.awk_axis.specs.Opened.{AreLists, items_at, all_items_at}
+use Rattle.awk_axis.specs.Spoils.{too_many}
 use Rattle.awk_axis.specs.declared.causes.Spoil.TheVariants.{Size}
-use Rattle.awk_axis.specs.declared.opening.Joined.TheVariants.{TooMany}
 use Rattle.awk_axis.proofs.ArrayLaws.{run_map, run_same}
 use Rattle.awk_axis.proofs.LiftLaws.{joined_even}
 use Rattle.awk_options.specs.IsNone.{is_null, nulls, is_none_function}
@@ -114,11 +114,9 @@ length-nulls vs = length-map vs (λ v. truth (is_null v))
 pub nulls_spoilt : (s t : Column) (y : Layout) → item_limit < total s t y
     → is_none_function.spoil (array_type y) (all_items_at s t y) ≡ Some Size
 nulls_spoilt s t y h =
-    let e = count_same nulls s t y length-nulls in
-    over_limit _ (omega (arith, e, h))
+    ap too_many (count_same nulls s t y length-nulls) ∙ over_limit (total s t y) h
 
 pub nulls_fine : (s t : Column) (y : Layout) → total s t y ≤ item_limit
     → is_none_function.spoil (array_type y) (all_items_at s t y) ≡ None
 nulls_fine s t y h =
-    let e = count_same nulls s t y length-nulls in
-    within_limit _ (omega (arith, e, h))
+    ap too_many (count_same nulls s t y length-nulls) ∙ within_limit (total s t y) h

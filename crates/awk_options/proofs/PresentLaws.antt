@@ -1,6 +1,6 @@
 -- The items of an array that are not null, and runs of them.
-use Rattle.std.specs.Prelude.{◌≡◌, ℕ, zero, suc, ◌+◌, ◌-◌, ◌<◌, ◌≤◌, ◌^◌, refl, true, false, List, []}
-use Rattle.std.specs.Prelude.{◌∷◌, ◌++◌, length, map, take, drop, get_or, cond, filter, ℤ, pos, negsuc}
+use Rattle.std.specs.Prelude.{◌≡◌, ℕ, zero, suc, ◌+◌, ◌-◌, ◌<◌, ◌≤◌, refl, true, false, List, []}
+use Rattle.std.specs.Prelude.{◌∷◌, ◌++◌, length, map, take, drop, get_or, cond, ℤ, pos, negsuc}
 use Rattle.std.specs.Prelude.{◌<ℤ◌}
 use Rattle.std.specs.List.{AllByRecursion, range_with_len}
 use Rattle.std.proofs.Common.{arith, ap, sym, ◌∙◌, subst}
@@ -147,7 +147,8 @@ option_present j y x op = record {
 present_split : (vs : List Value) (a : ℕ)
     → present_values vs ≡ present_values (take a vs) ++ present_values (drop a vs)
 present_split vs a =
-    ap present_values (sym (take-append-drop a vs)) ∙ filter-append is_present (take a vs) (drop a vs)
+    ap present_values (sym (take-append-drop a vs))
+    ∙ filter-append is_present (take a vs) (drop a vs)
 
 take-take : (vs : List Value) (a n : ℕ) → take a (take (a + n) vs) ≡ take a vs
 take-take vs zero n = refl

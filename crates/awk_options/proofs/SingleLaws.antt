@@ -1,5 +1,5 @@
 -- Each item as a list of at most one.
-use Rattle.std.specs.Prelude.{◌≡◌, ℕ, ◌+◌, ◌-◌, ◌<◌, ◌≤◌, ◌^◌, refl, List, [], ◌∷◌, map, length, pos}
+use Rattle.std.specs.Prelude.{◌≡◌, ℕ, ◌+◌, ◌-◌, ◌<◌, ◌≤◌, ◌^◌, refl, List, [], ◌∷◌, map, length}
 use Rattle.std.specs.Prelude.{Some, None}
 use Rattle.std.proofs.Common.{arith, ap, sym, ◌∙◌}
 use Rattle.std.proofs.lemmas.Int.{ints}
@@ -25,6 +25,7 @@ use Rattle.awk_axis.specs.Joined.{JoinsLists, total}
 use Rattle.awk_axis.specs.ListFunction.{Class}
 use Rattle.awk_axis.specs.Mapped.{AreGiven}
 use Rattle.awk_axis.specs.Opened.{AreLists, items_at, all_items_at}
+use Rattle.awk_axis.specs.Spoils.{too_many}
 use Rattle.awk_axis.specs.declared.causes.Spoil.TheVariants.{Size}
 use Rattle.awk_axis.proofs.ArrayLaws.{run_map, run_same, run_in_list}
 use Rattle.awk_axis.proofs.LiftLaws.{joined_even}
@@ -81,7 +82,8 @@ module _ (x : Layout) (c : Column) (z : Layout) (fits : len x < 2 ^ 63) (h : Are
         let b = at-count x c z h (i + 1) q in
         let up = counts_up x c z h i 1 q in
         let within = counts_within x c z h (i + 1) q in
-        rw (a, b) (λ d. (omega (arith, ints), omega (arith, ints, up), omega (arith, ints, within)));
+        rw (a, b) (λ d.
+            (omega (arith, ints), omega (arith, ints, up), omega (arith, ints, within)));
   }
 
   pub single_fit : size_of c ≤ 2 ^ 63
@@ -134,11 +136,9 @@ length-singles vs = length-map vs single_list
 pub singles_spoilt : (s t : Column) (y : Layout) → item_limit < total s t y
     → singletons_function.spoil (array_type y) (all_items_at s t y) ≡ Some Size
 singles_spoilt s t y h =
-    let e = count_same (map single_list) s t y length-singles in
-    over_limit _ (omega (arith, e, h))
+    ap too_many (count_same (map single_list) s t y length-singles) ∙ over_limit (total s t y) h
 
 pub singles_fine : (s t : Column) (y : Layout) → total s t y ≤ item_limit
     → singletons_function.spoil (array_type y) (all_items_at s t y) ≡ None
 singles_fine s t y h =
-    let e = count_same (map single_list) s t y length-singles in
-    within_limit _ (omega (arith, e, h))
+    ap too_many (count_same (map single_list) s t y length-singles) ∙ within_limit (total s t y) h

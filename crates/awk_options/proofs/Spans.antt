@@ -65,9 +65,13 @@ pub count_same : (f : List Value → List Value) (s t : Column) (y : Layout)
 count_same f s t y e = count_lists f s t y (items_at s t y) (λ i _. e (items_at s t y i))
 
 pub over_limit : (n : ℕ) → item_limit < n → too_many n ≡ Some Size
-over_limit n p = let e : nat_lt item_limit n ≡ true = grind arith in
-    ap (λ b. if b then Some Size else None) e
+over_limit n p = ap (λ b. if b then Some Size else None) (over n p)
+  where
+    over : (n : ℕ) → item_limit < n → nat_lt item_limit n ≡ true
+    over n p = grind arith
 
 pub within_limit : (n : ℕ) → n ≤ item_limit → too_many n ≡ None
-within_limit n p = let e : nat_lt item_limit n ≡ false = grind arith in
-    ap (λ b. if b then Some Size else None) e
+within_limit n p = ap (λ b. if b then Some Size else None) (not_over n p)
+  where
+    not_over : (n : ℕ) → n ≤ item_limit → nat_lt item_limit n ≡ false
+    not_over n p = grind arith

@@ -1,6 +1,6 @@
 -- Lanes that are made of lists by their starts and stops, and of the indexes of options.
-use Rattle.std.specs.Prelude.{◌≡◌, ℕ, zero, suc, ◌+◌, ◌-◌, ◌==◌, ◌<◌, ◌≤◌, ◌≤ℤ◌, nat_lt, Bool, List, []}
-use Rattle.std.specs.Prelude.{◌++◌, map, length, take, ℤ, pos, negsuc, Option, Some, None}
+use Rattle.std.specs.Prelude.{◌≡◌, ℕ, zero, suc, ◌+◌, ◌-◌, ◌==◌, ◌<◌, ◌≤◌, ◌≤ℤ◌, nat_lt, Bool, List}
+use Rattle.std.specs.Prelude.{[], ◌++◌, map, length, take, ℤ, pos, negsuc, Option, Some, None}
 use Rattle.std.specs.Prelude.{if◌then◌else◌}
 use Rattle.std.specs.List.{range_with_len}
 use Rattle.awk_types.specs.Simple.{present}

@@ -9,8 +9,8 @@ ghost use Rattle.awk_options.specs.DropNone.{drop_none_of};
 ghost use Rattle.awk_options.specs.Lanes.{span_length, numbers_at_ends, AreEnds};
 
 use crate::presence::present_of;
-use crate::singletons::present_typ;
-use crate::spans::length_at;
+use crate::singles::present_typ;
+use crate::lengths::length_at;
 use awk_axis::{Joined, ListOp, Made, Refusal, Spoil, join_spans, lift_at};
 use awk_lanes::{Arena, Kind, Lane, LaneMaker, Num, Steps, index_at, place_in};
 use awk_layout::{Array, Datum};
@@ -115,7 +115,8 @@ impl ListOp for PresentItems {
     }
 }
 
-/// The items of each list at an axis that are not null. Each list that is given may have any length.
+/// The items of each list at an axis that are not null. Each list that is given may have any
+/// length.
 pub fn drop_none<'a, L: Ledger>(
     alloc: Global,
     x: &Datum<'a>,

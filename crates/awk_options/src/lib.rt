@@ -3,15 +3,15 @@
 #![tactic(auto)]
 
 mod dropping;
-mod firsts;
+mod first_items;
+mod lengths;
 mod nulls;
 mod padding;
 mod presence;
-mod singletons;
-mod spans;
+mod singles;
 
 pub use dropping::drop_none;
-pub use firsts::firsts;
+pub use first_items::firsts;
 pub use nulls::is_none;
 pub use padding::pad_none;
-pub use singletons::singletons;
+pub use singles::singletons;

@@ -73,16 +73,19 @@ fn nulls_of<'a, L: Ledger>(
         return falses(n, arena);
     }
     match opened(alloc, x, arena, steps)? {
-        Opened::Option { index, .. } => nulls(&index, arena, steps),
+        Opened::Option {
+            index,
+            content: _content,
+        } => nulls(&index, arena, steps),
         _ => unreachable!(),
     }
 }
 
 /// Whether the items of a list are null.
 #[derive(Clone, Copy, Debug, PartialEq, Eq)]
-struct Nulls;
+struct NullTests;
 
-impl ListOp for Nulls {
+impl ListOp for NullTests {
     ghost function = { λ f. is_none_function };
 
     fn refusal(&self, _item: &Typ) -> Option<Refusal> {
@@ -137,5 +140,5 @@ pub fn is_none<'a, L: Ledger>(
     ensures answer { Gives datum_of fault_told result (is_none_of axis (datum_of x.now)) }
     ensures datum { IfOk result (λ made. IsDatum made) }
 {
-    lift_at(alloc, &Nulls, x, axis, arena, steps)
+    lift_at(alloc, &NullTests, x, axis, arena, steps)
 }

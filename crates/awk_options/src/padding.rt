@@ -1,16 +1,15 @@
 //! Lists with nulls at their end.
-ghost use Rattle.std.specs.Prelude.{◌≡◌, ◌+◌, ◌<◌, ◌≤◌, ◌^◌, IfOk, nat_lt, negsuc, pos};
-ghost use Rattle.std.specs.Prelude.{if◌then◌else◌};
+ghost use Rattle.std.specs.Prelude.{◌≡◌, ◌<◌, ◌≤◌, ◌^◌, IfOk};
 ghost use Rattle.awk_types.specs.Faults.{fault_told};
 ghost use Rattle.awk_types.specs.Gives.{Gives};
-ghost use Rattle.awk_lanes.specs.Places.{size_of, place_at, AreSpans};
+ghost use Rattle.awk_lanes.specs.Places.{size_of, AreSpans};
 ghost use Rattle.awk_layout.specs.Datum.{datum_of, IsDatum};
 ghost use Rattle.awk_gather.specs.Counted.{item_limit};
-ghost use Rattle.awk_options.specs.Lanes.{span_length, padded_span, before, offsets_by, padded_place};
+ghost use Rattle.awk_options.specs.Lanes.{padded_span, before, offsets_by, padded_place};
 ghost use Rattle.awk_options.specs.Lanes.{padded_lane, IsTotal};
-ghost use Rattle.awk_options.specs.PadNone.{padded_length, pad_none_function, pad_none_of};
+ghost use Rattle.awk_options.specs.PadNone.{pad_none_function, pad_none_of};
 
-use crate::spans::length_at;
+use crate::lengths::length_at;
 use awk_axis::{ListOp, Made, Refusal, Spoil, lift_at, number};
 use awk_lanes::{Arena, Kind, Lane, LaneMaker, Num, Steps, index_at};
 use awk_layout::{Array, Datum, Node};
@@ -76,7 +75,8 @@ impl Padding {
     ) -> Result<Lane<'a>, NoMemory>
         requires spans { AreSpans starts.now stops.now 9223372036854775807 }
         requires fits { size_of starts.now < 2 ^ 63 }
-        requires total { let length = padded_span self.now.size self.now.clip starts.now stops.now in
+        requires total {
+            let length = padded_span self.now.size self.now.clip starts.now stops.now in
             before length (size_of starts.now) ≤ item_limit }
         ensures { let length = padded_span self.now.size self.now.clip starts.now stops.now in
             IfOk result (λ r. r ≡ offsets_by length (size_of starts.now)) }
@@ -101,7 +101,8 @@ impl Padding {
         steps: &mut Steps<L>,
     ) -> Result<Lane<'a>, NoMemory>
         requires spans { AreSpans starts.now stops.now 9223372036854775807 }
-        requires total { let length = padded_span self.now.size self.now.clip starts.now stops.now in
+        requires total {
+            let length = padded_span self.now.size self.now.clip starts.now stops.now in
             n ≡ before length (size_of starts.now) }
         ensures { IfOk result (λ r.
             r ≡ padded_lane self.now.size self.now.clip starts.now stops.now) }

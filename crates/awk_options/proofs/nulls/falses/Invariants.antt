@@ -4,4 +4,4 @@ use Rattle.awk_gather.proofs.MadeLanes.{IsSoFar}
 use Rattle.awk_options.proofs.nulls.falses.Given as goal
 
 abbrev pub invariant-loop-i : goal.invariant-loop-i
-invariant-loop-i g l = IsSoFar Kinds.Bool l.n (λ i. pos 0) l.i l.maker
+invariant-loop-i l = IsSoFar Kinds.Bool l.n (λ i. pos 0) l.i l.maker

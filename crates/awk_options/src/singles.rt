@@ -27,9 +27,9 @@ pub(crate) fn present_typ(alloc: Global, t: &Typ) -> Result<Typ, NoMemory>
 
 /// The items of a list as lists of at most one.
 #[derive(Clone, Copy, Debug, PartialEq, Eq)]
-struct Singletons;
+struct SingleLists;
 
-impl ListOp for Singletons {
+impl ListOp for SingleLists {
     ghost function = { λ f. singletons_function };
 
     fn refusal(&self, _item: &Typ) -> Option<Refusal> {
@@ -86,5 +86,5 @@ pub fn singletons<'a, L: Ledger>(
     ensures answer { Gives datum_of fault_told result (singletons_of axis (datum_of x.now)) }
     ensures datum { IfOk result (λ made. IsDatum made) }
 {
-    lift_at(alloc, &Singletons, x, axis, arena, steps)
+    lift_at(alloc, &SingleLists, x, axis, arena, steps)
 }

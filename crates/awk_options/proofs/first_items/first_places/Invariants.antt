@@ -3,7 +3,7 @@ use Rattle.awk_lanes.specs.declared.kind.Kind.TheVariants as Kinds
 use Rattle.awk_lanes.specs.Places.{size_of, at}
 use Rattle.awk_gather.proofs.MadeLanes.{IsSoFar}
 use Rattle.awk_options.specs.Lanes.{span_length}
-use Rattle.awk_options.proofs.firsts.first_places.Given as goal
+use Rattle.awk_options.proofs.first_items.first_places.Given as goal
 
 abbrev pub invariant-loop-i : goal.invariant-loop-i
 invariant-loop-i g l = IsSoFar Kinds.I64 (size_of l.starts)

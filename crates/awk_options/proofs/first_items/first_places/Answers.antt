@@ -1,5 +1,5 @@
 use Rattle.awk_gather.proofs.MadeLanes.{so_far_pushed}
-use Rattle.awk_options.proofs.firsts.first_places.Goals as goal
+use Rattle.awk_options.proofs.first_items.first_places.Goals as goal
 
 pub loop-i-preserved : goal.loop-i-preserved
 loop-i-preserved g c =

@@ -7,7 +7,7 @@ ghost use Rattle.awk_layout.specs.Datum.{datum_of, IsDatum};
 ghost use Rattle.awk_options.specs.Firsts.{firsts_function, firsts_of};
 ghost use Rattle.awk_options.specs.Lanes.{span_length, firsts_lane};
 
-use crate::spans::length_at;
+use crate::lengths::length_at;
 use awk_axis::{ListOp, Made, Refusal, lift_at};
 use awk_lanes::{Arena, Kind, Lane, LaneMaker, Num, Steps, index_at};
 use awk_layout::{Array, Datum, Node};
