@@ -1,6 +1,6 @@
 -- Lists of the items that are not null.
-use Rattle.std.specs.Prelude.{◌≡◌, ℕ, zero, suc, ◌+◌, ◌-◌, ◌<◌, ◌≤◌, ◌^◌, ◌==◌, refl, List, map}
-use Rattle.std.specs.Prelude.{sum, ℤ, pos, negsuc, ◌≤ℤ◌, length, Some, None, if◌then◌else◌}
+use Rattle.std.specs.Prelude.{◌≡◌, ℕ, zero, suc, ◌+◌, ◌-◌, ◌<◌, ◌≤◌, ◌^◌, ◌==◌, refl, false, List}
+use Rattle.std.specs.Prelude.{map, sum, ℤ, pos, negsuc, ◌≤ℤ◌, length, Some, None, if◌then◌else◌}
 use Rattle.std.specs.List.{range_with_len, flat_map}
 use Rattle.std.proofs.Common.{arith, ap, sym, ◌∙◌, subst}
 use Rattle.std.proofs.lemmas.Int.{ints}
@@ -36,6 +36,11 @@ use Rattle.awk_options.proofs.Spans.{count_lists, over_limit, within_limit}
 -- a number where a list has items, else 0
 abbrev end_number : ℕ → ℤ → ℤ
 end_number n z = if n == 0 then pos 0 else z
+
+end_some : (n : ℕ) (z : ℤ) → end_number (suc n) z ≡ z
+end_some n z =
+    let e : (suc n == 0) ≡ false = grind arith in
+    ap (λ b. if b then pos 0 else z) e
 
 -- a list with items ends at a place
 stop_there : (m : ℕ) (a b : ℤ) → IsSpan m a b → 0 < nat_of b - nat_of a
@@ -104,7 +109,12 @@ module _ (class : Class) (s t : Column) (y : Layout) (a : AreLists class s t y)
   part zero k l b = refl
   part (suc n) k l b =
       let both = b (omega arith) in
-      ap (λ m. value_list (run (array_item z) (place_at c k) (place_at c m - place_at c k))) both.0
+      ap (λ w. value_list (run (array_item z) (nat_of w)
+          (nat_of (end_number (suc n) (at c l)) - nat_of w))) (end_some n (at c k))
+      ∙ ap (λ w. value_list (run (array_item z) (place_at c k) (nat_of w - place_at c k)))
+          (end_some n (at c l))
+      ∙ ap (λ m. value_list (run (array_item z) (place_at c k) (place_at c m - place_at c k)))
+          both.0
       ∙ present_run y c z h k (suc n) both.1
 
   span : (n k l : ℕ) → (0 < n → (l ≡ k + n) × (k + n ≤ len y))
@@ -117,7 +127,7 @@ module _ (class : Class) (s t : Column) (y : Layout) (a : AreLists class s t y)
           ap (at c) both.0 ∙ at-count y c z h (k + suc n) both.1 in
       let up = counts_up y c z h k (suc n) both.1 in
       let within = counts_within y c z h (k + suc n) both.1 in
-      rw (low, high) (λ d.
+      rw (end_some n (at c k) ∙ low, end_some n (at c l) ∙ high) (λ d.
           (omega (arith, ints), omega (arith, ints, up), omega (arith, ints, within)))
 
   ends : (i : ℕ) → i < size_of s → 0 < span_length s t i

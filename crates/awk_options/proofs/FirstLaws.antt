@@ -1,6 +1,6 @@
 -- The first items of lists.
-use Rattle.std.specs.Prelude.{◌≡◌, ◌≢◌, ℕ, zero, suc, ◌+◌, ◌-◌, ◌<◌, ◌≤◌, ◌^◌, ◌==◌, refl, ℤ, pos}
-use Rattle.std.specs.Prelude.{negsuc, ◌≤ℤ◌, ◌<ℤ◌, Some, if◌then◌else◌}
+use Rattle.std.specs.Prelude.{◌≡◌, ◌≢◌, ℕ, zero, suc, ◌+◌, ◌-◌, ◌<◌, ◌≤◌, ◌^◌, ◌==◌, refl, false, ℤ}
+use Rattle.std.specs.Prelude.{pos, negsuc, ◌≤ℤ◌, ◌<ℤ◌, Some, if◌then◌else◌}
 use Rattle.std.proofs.Common.{arith, ap, sym, ◌∙◌, subst}
 use Rattle.std.proofs.lemmas.Int.{ints}
 use Rattle.awk_types.specs.DataType.{opt}
@@ -39,27 +39,32 @@ start_there m (negsuc k) (negsuc l) h p = absurd (omega (arith, p))
 abbrev first_number : ℕ → ℤ → ℤ
 first_number n a = if n == 0 then negsuc 0 else a
 
+first_some : (n : ℕ) (a : ℤ) → first_number (suc n) a ≡ a
+first_some n a =
+    let e : (suc n == 0) ≡ false = grind arith in
+    ap (λ b. if b then negsuc 0 else a) e
+
 first_shown : (f : ℕ → Value) (n : ℕ) (a : ℤ) → (0 < n → a ≡ pos (nat_of a))
     → at_option (option_place (first_number n a)) f
     ≡ first_or_null (value_list (run f (nat_of a) n))
 first_shown f zero a h = refl
 first_shown f (suc n) a h =
     let e : a ≡ pos (nat_of a) = h (omega arith) in
-    ap (λ z. at_option (option_place z) f) e
+    ap (λ z. at_option (option_place z) f) (first_some n a ∙ e)
 
 first_below : (m n : ℕ) (a : ℤ) → (0 < n → (a ≡ pos (nat_of a)) × (nat_of a + n ≤ m))
     → first_number n a <ℤ pos m
 first_below m zero a h = omega (arith, ints)
 first_below m (suc n) a h =
     let both = h (omega arith) in
-    subst (λ z. z <ℤ pos m) (sym both.0) (omega (arith, ints, both.1))
+    subst (λ z. z <ℤ pos m) (sym (first_some n a ∙ both.0)) (omega (arith, ints, both.1))
 
 place_below : (z : ℤ) (m k : ℕ) → z <ℤ pos m → option_place z ≡ Some k → k < m
 place_below (pos n) m k h e = let f : n ≡ k = cc in omega (arith, ints, h, f)
 place_below (negsuc n) m k h e = cc
 
 module _ (class : Class) (s t : Column) (y : Layout) (a : AreLists class s t y) where
-  number : ℕ → ℤ
+  abbrev number : ℕ → ℤ
   number i = if span_length s t i == 0 then negsuc 0 else at s i
 
   there : (i : ℕ) → i < size_of s → 0 < span_length s t i

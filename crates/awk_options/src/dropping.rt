@@ -3,6 +3,8 @@ ghost use Rattle.std.specs.Prelude.{◌≡◌, ◌==◌, ◌<◌, pos, IfOk, if�
 ghost use Rattle.awk_types.specs.Faults.{fault_told};
 ghost use Rattle.awk_types.specs.Gives.{Gives};
 ghost use Rattle.awk_layout.specs.Datum.{datum_of, IsDatum};
+ghost use Rattle.awk_lanes.specs.Numbers.{int_of, IsOf};
+ghost use Rattle.awk_lanes.specs.declared.kind.Kind.TheVariants as Kinds;
 ghost use Rattle.awk_lanes.specs.Places.{size_of, at, place_at, AreSpans, IsIndexKind};
 ghost use Rattle.awk_axis.specs.DropNone.{drop_none_function};
 ghost use Rattle.awk_options.specs.DropNone.{drop_none_of};
@@ -26,19 +28,20 @@ fn number_at_end<L: Ledger>(
     ends: &Lane,
     i: u64,
     steps: &mut Steps<L>,
-) -> i64
+) -> Num
     requires kind { IsIndexKind numbers.now.kind }
     requires within { i < size_of starts.now }
     requires spans { AreSpans starts.now stops.now 9223372036854775807 }
     requires ends { AreEnds numbers.now starts.now stops.now ends.now }
-    ensures { result ≡ (if span_length starts.now stops.now i == 0 then pos 0
+    ensures number { int_of result ≡ (if span_length starts.now stops.now i == 0 then pos 0
         else at numbers.now (place_at ends.now i)) }
+    ensures kind { IsOf Kinds.I64 result }
 {
     if length_at(starts, stops, i, steps) == 0 {
-        0
+        Num::Int(0)
     } else {
         let place = place_in(ends, i, steps);
-        index_at(numbers, place, steps)
+        Num::Int(index_at(numbers, place, steps))
     }
 }
 
@@ -61,7 +64,7 @@ fn numbers_at_ends<'a, L: Ledger>(
     let mut maker = LaneMaker::new(Kind::I64, n, arena)?;
     for i in 0..n {
         let number = number_at_end(numbers, starts, stops, ends, i, steps);
-        maker.push(Num::Int(number));
+        maker.push(number);
     }
     Ok(maker.finish())
 }

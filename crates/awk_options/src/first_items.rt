@@ -2,7 +2,9 @@
 ghost use Rattle.std.specs.Prelude.{◌≡◌, ◌==◌, ◌<◌, negsuc, IfOk, if◌then◌else◌};
 ghost use Rattle.awk_types.specs.Faults.{fault_told};
 ghost use Rattle.awk_types.specs.Gives.{Gives};
+ghost use Rattle.awk_lanes.specs.Numbers.{int_of, IsOf};
 ghost use Rattle.awk_lanes.specs.Places.{size_of, at, AreSpans};
+ghost use Rattle.awk_lanes.specs.declared.kind.Kind.TheVariants as Kinds;
 ghost use Rattle.awk_layout.specs.Datum.{datum_of, IsDatum};
 ghost use Rattle.awk_options.specs.Firsts.{firsts_function, firsts_of};
 ghost use Rattle.awk_options.specs.Lanes.{span_length, firsts_lane};
@@ -16,16 +18,17 @@ use std::alloc::Global;
 use std::sync::ledger::Ledger;
 
 /// Where the first item of the list at a place is, or -1 where it has none.
-fn first_place<L: Ledger>(starts: &Lane, stops: &Lane, i: u64, steps: &mut Steps<L>) -> i64
+fn first_place<L: Ledger>(starts: &Lane, stops: &Lane, i: u64, steps: &mut Steps<L>) -> Num
     requires within { i < size_of starts.now }
     requires spans { AreSpans starts.now stops.now 9223372036854775807 }
-    ensures { result ≡ (if span_length starts.now stops.now i == 0 then negsuc 0
+    ensures number { int_of result ≡ (if span_length starts.now stops.now i == 0 then negsuc 0
         else at starts.now i) }
+    ensures kind { IsOf Kinds.I64 result }
 {
     if length_at(starts, stops, i, steps) == 0 {
-        -1
+        Num::Int(-1)
     } else {
-        index_at(starts, i, steps)
+        Num::Int(index_at(starts, i, steps))
     }
 }
 
@@ -44,7 +47,7 @@ fn first_places<'a, L: Ledger>(
     let mut maker = LaneMaker::new(Kind::I64, n, arena)?;
     for i in 0..n {
         let place = first_place(starts, stops, i, steps);
-        maker.push(Num::Int(place));
+        maker.push(place);
     }
     Ok(maker.finish())
 }

@@ -2,7 +2,9 @@
 ghost use Rattle.std.specs.Prelude.{◌≡◌, ◌<◌, ◌≤◌, ◌^◌, IfOk};
 ghost use Rattle.awk_types.specs.Faults.{fault_told};
 ghost use Rattle.awk_types.specs.Gives.{Gives};
+ghost use Rattle.awk_lanes.specs.Numbers.{int_of, IsOf};
 ghost use Rattle.awk_lanes.specs.Places.{size_of, AreSpans};
+ghost use Rattle.awk_lanes.specs.declared.kind.Kind.TheVariants as Kinds;
 ghost use Rattle.awk_layout.specs.Datum.{datum_of, IsDatum};
 ghost use Rattle.awk_gather.specs.Counted.{item_limit};
 ghost use Rattle.awk_options.specs.Lanes.{padded_span, before, offsets_by, padded_place};
@@ -11,7 +13,7 @@ ghost use Rattle.awk_options.specs.PadNone.{pad_none_function, pad_none_of};
 
 use crate::lengths::length_at;
 use awk_axis::{ListOp, Made, Refusal, Spoil, lift_at, number};
-use awk_lanes::{Arena, Kind, Lane, LaneMaker, Num, Steps, index_at};
+use awk_lanes::{Arena, Kind, Lane, LaneMaker, Num, Steps, place_in};
 use awk_layout::{Array, Datum, Node};
 use awk_types::{Fault, NoMemory, Typ, copy_type};
 use std::alloc::Global;
@@ -110,7 +112,7 @@ impl Padding {
         let mut maker = LaneMaker::new(Kind::I64, n, arena)?;
         for i in 0..starts.len() {
             for k in 0..self.length_at(starts, stops, i, steps) {
-                maker.push(Num::Int(padded_place(starts, stops, i, k, steps)));
+                maker.push(padded_place(starts, stops, i, k, steps));
             }
         }
         Ok(maker.finish())
@@ -124,15 +126,16 @@ fn padded_place<L: Ledger>(
     i: u64,
     k: u64,
     steps: &mut Steps<L>,
-) -> i64
+) -> Num
     requires within { i < size_of starts.now }
     requires spans { AreSpans starts.now stops.now 9223372036854775807 }
-    ensures { result ≡ padded_place starts.now stops.now i k }
+    ensures number { int_of result ≡ padded_place starts.now stops.now i k }
+    ensures kind { IsOf Kinds.I64 result }
 {
     if k < length_at(starts, stops, i, steps) {
-        index_at(starts, i, steps) + k as i64
+        number(place_in(starts, i, steps) + k)
     } else {
-        -1
+        Num::Int(-1)
     }
 }
 
