@@ -150,10 +150,16 @@ present_split vs a =
     ap present_values (sym (take-append-drop a vs))
     ∙ filter-append is_present (take a vs) (drop a vs)
 
+take-none : (n : ℕ) → take {A = Value} n [] ≡ []
+take-none zero = refl
+take-none (suc n) = refl
+
 take-take : (vs : List Value) (a n : ℕ) → take a (take (a + n) vs) ≡ take a vs
 take-take vs zero n = refl
-take-take [] (suc a) n = refl
-take-take (v ∷ vs) (suc a) n = ap (λ ws. v ∷ ws) (take-take vs a n)
+take-take [] (suc a) n = ap (take (suc a)) (take-none (suc a + n))
+take-take (v ∷ vs) (suc a) n =
+    let e : suc a + n ≡ suc (a + n) = omega arith in
+    ap (λ k. take (suc a) (take k (v ∷ vs))) e ∙ ap (λ ws. v ∷ ws) (take-take vs a n)
 
 abbrev present_before : List Value → ℕ → ℕ
 present_before vs a = length (present_values (take a vs))
@@ -191,20 +197,26 @@ slice_present vs a n =
 drop-range : (f : ℕ → Value) (b a m : ℕ)
     → drop a (map f (range_with_len b (a + m))) ≡ map f (range_with_len (b + a) m)
 drop-range f b zero m =
-    let e : b ≡ b + 0 = omega arith in ap (λ k. map f (range_with_len k m)) e
+    let z : 0 + m ≡ m = omega arith in
+    let e : b ≡ b + 0 = omega arith in
+    ap (λ k. map f (range_with_len b k)) z ∙ ap (λ k. map f (range_with_len k m)) e
 drop-range f b (suc a) m =
+    let z : suc a + m ≡ suc (a + m) = omega arith in
     let e : (b + 1) + a ≡ b + suc a = omega arith in
-    drop-range f (b + 1) a m ∙ ap (λ k. map f (range_with_len k m)) e
+    ap (λ k. drop (suc a) (map f (range_with_len b k))) z
+    ∙ drop-range f (b + 1) a m ∙ ap (λ k. map f (range_with_len k m)) e
 
 pub run-slice : (x : Layout) (a n : ℕ) → a + n ≤ len x
     → value_list (run (array_item x) a n) ≡ take n (drop a (array_items x))
 run-slice x a n p =
     let m : ℕ = len x - a in
     let e : len x ≡ a + m = omega (arith, p) in
+    let z : 0 + a ≡ a = omega arith in
     value_list-run (array_item x) a n
     ∙ sym (ap (λ vs. take n (drop a vs)) (array_items-at x)
         ∙ ap (λ k. take n (drop a (map (array_item x) (range_with_len 0 k)))) e
-        ∙ ap (take n) (drop-range (array_item x) 0 a m)
+        ∙ ap (take n) (drop-range (array_item x) 0 a m
+            ∙ ap (λ k. map (array_item x) (range_with_len k m)) z)
         ∙ take-map-range_with_len (array_item x) a m n (omega (arith, p)))
 
 module _ (x : Layout) (c : Column) (z : Layout) (h : ArePresent x c z) where

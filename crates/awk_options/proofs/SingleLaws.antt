@@ -30,7 +30,7 @@ use Rattle.awk_axis.specs.declared.causes.Spoil.TheVariants.{Size}
 use Rattle.awk_axis.proofs.ArrayLaws.{run_map, run_same, run_in_list}
 use Rattle.awk_axis.proofs.LiftLaws.{joined_even}
 use Rattle.awk_options.specs.Singletons.{single_list, singletons_function}
-use Rattle.awk_options.specs.Lanes.{ArePresent}
+use Rattle.awk_options.specs.Lanes.{ArePresent, AreSingles}
 use Rattle.awk_options.proofs.OptionNodes.{HasItems, item_stays}
 use Rattle.awk_options.proofs.PresentLaws.{at-count, counts_up, counts_within, present_run}
 use Rattle.awk_options.proofs.Spans.{count_same, over_limit, within_limit}
@@ -98,37 +98,47 @@ module _ (x : Layout) (c : Column) (z : Layout) (fits : len x < 2 ^ 63) (h : Are
           (present_run x c z h i 1 (omega (arith, p))))
       ∙ single-present (array_item x i)
 
-  module _ (class : Class) (s t : Column) (y : Layout) (o : Column) (a : AreLists class s t y)
-      (j : JoinsLists s t y o x) (has : HasItems x) where
-    abbrev typ : DataType
-    typ = var (present (array_type y))
+  pub singles_are : AreSingles x (offset_lists c z)
+  singles_are = record {
+    valid = (single_fit, single_offsets, h.valid);
+    size = omega (arith, h.size);
+    typ = ap var h.typ;
+    items = single_item;
+  }
 
-    made_typ : array_type (offset_lists c z) ≡ typ
-    made_typ = ap var (h.typ ∙ ap present j.typ)
+module _ (class : Class) (s t : Column) (y : Layout) (o : Column) (x w : Layout)
+    (a : AreLists class s t y) (j : JoinsLists s t y o x) (has : HasItems x)
+    (h : AreSingles x w) where
+  abbrev typ : DataType
+  typ = var (present (array_type y))
 
-    stay : (i : ℕ) → i < len x
-        → simple_value typ (single_list (array_item x i)) ≡ single_list (array_item x i)
-    stay i p = ap (λ u. simple_value (var (present u)) (single_list (array_item x i))) (sym j.typ)
-        ∙ single_stays (array_type x) (array_item x i) (item_stays x has i p)
+  made_typ : array_type w ≡ typ
+  made_typ = h.typ ∙ ap (λ u. var (present u)) j.typ
 
-    pub singles_given : AreGiven class typ (λ vs. map single_list vs) s t y o (offset_lists c z)
-    singles_given = record {
-      valid = (single_fit, single_offsets, h.valid);
-      offsets = let e : size_of c - 1 ≡ len x = omega (arith, h.size) in rw e j.offsets;
-      even = joined_even class s t y o x a.same_class j;
-      typ = sym (simple_twice (layout_type (offset_lists c z))) ∙ ap simple made_typ;
-      lists = λ i p.
-          let first = place_at o i in
-          let n = place_at o (i + 1) - place_at o i in
-          let within = j.offsets.within i p in
-          ap value_list (run_same (array_item (offset_lists c z))
-              (λ k. simple_value typ (single_list (array_item x k))) first n
-              (λ k _ q. single_item k (omega (arith, q, within))
-                  ∙ sym (stay k (omega (arith, q, within)))))
-          ∙ sym (run_map (λ v. simple_value typ (single_list v)) (array_item x) first n)
-          ∙ ap (λ r. map (λ v. simple_value typ (single_list v)) (value_list r)) (sym (j.lists i p))
-          ∙ sym (map-map (simple_value typ) single_list (items_at s t y i));
-    }
+  stay : (i : ℕ) → i < len x
+      → simple_value typ (single_list (array_item x i)) ≡ single_list (array_item x i)
+  stay i p =
+      ap (λ u. simple_value (var (present u)) (single_list (array_item x i))) (sym j.typ)
+      ∙ single_stays (array_type x) (array_item x i) (item_stays x has i p)
+
+  pub singles_given : AreGiven class typ (λ vs. map single_list vs) s t y o w
+  singles_given = record {
+    valid = h.valid;
+    offsets = rw h.size j.offsets;
+    even = joined_even class s t y o x a.same_class j;
+    typ = sym (simple_twice (layout_type w)) ∙ ap simple made_typ;
+    lists = λ i p.
+        let first = place_at o i in
+        let n = place_at o (i + 1) - place_at o i in
+        let within = j.offsets.within i p in
+        ap value_list (run_same (array_item w)
+            (λ k. simple_value typ (single_list (array_item x k))) first n
+            (λ k _ q. h.items k (omega (arith, q, within))
+                ∙ sym (stay k (omega (arith, q, within)))))
+        ∙ sym (run_map (λ v. simple_value typ (single_list v)) (array_item x) first n)
+        ∙ ap (λ r. map (λ v. simple_value typ (single_list v)) (value_list r)) (sym (j.lists i p))
+        ∙ sym (map-map (simple_value typ) single_list (items_at s t y i));
+  }
 
 length-singles : (vs : List Value) → length (map single_list vs) ≡ length vs
 length-singles vs = length-map vs single_list

@@ -3,6 +3,7 @@ use Rattle.std.specs.Prelude.{◌≡◌, ℕ, zero, suc, ◌+◌, ◌-◌, ◌==
 use Rattle.std.specs.Prelude.{[], ◌++◌, map, length, take, ℤ, pos, negsuc, Option, Some, None}
 use Rattle.std.specs.Prelude.{if◌then◌else◌}
 use Rattle.std.specs.List.{range_with_len}
+use Rattle.awk_types.specs.DataType.{var}
 use Rattle.awk_types.specs.Simple.{present}
 use Rattle.awk_types.specs.Value.{truth}
 use Rattle.awk_lanes.specs.Column.{Column}
@@ -17,6 +18,7 @@ use Rattle.awk_gather.specs.Lanes.{lane_of}
 use Rattle.awk_axis.specs.Columns.{present_values}
 use Rattle.awk_options.specs.IsNone.{is_null}
 use Rattle.awk_options.specs.PadNone.{padded_length}
+use Rattle.awk_options.specs.Singletons.{single_list}
 
 -- how many items a list has
 abbrev pub span_length : Column → Column → ℕ → ℕ
@@ -64,6 +66,13 @@ pub record ArePresent (x : Layout) (c : Column) (z : Layout) : Type 0 where
   pub size : size_of c ≡ len x + 1
   pub counts : (i : ℕ) → i ≤ len x
       → at c i ≡ pos (length (present_values (take i (array_items x))))
+
+-- a list of at most one for each item of an array
+pub record AreSingles (x w : Layout) : Type 0 where
+  pub valid : IsValid w
+  pub size : len w ≡ len x
+  pub typ : array_type w ≡ var (present (array_type x))
+  pub items : (i : ℕ) → i < len x → array_item w i ≡ single_list (array_item x i)
 
 -- ends of lists are places of a lane, where the lists have items
 pub record AreEnds (c s t ends : Column) : Type 0 where

@@ -1,10 +1,14 @@
 //! Each item as a list of at most one.
-ghost use Rattle.std.specs.Prelude.{◌≡◌, IfOk};
+ghost use Rattle.std.specs.Prelude.{◌≡◌, ◌≤◌, ◌^◌, IfOk};
 ghost use Rattle.awk_types.specs.Faults.{fault_told};
 ghost use Rattle.awk_types.specs.Gives.{Gives};
 ghost use Rattle.awk_types.specs.Simple.{present};
 ghost use Rattle.awk_types.specs.View.{typ_of};
+ghost use Rattle.awk_lanes.specs.Places.{size_of, IsOffsets};
 ghost use Rattle.awk_layout.specs.Datum.{datum_of, IsDatum};
+ghost use Rattle.awk_layout.specs.Layout.{offset_lists};
+ghost use Rattle.awk_layout.specs.Valid.{len};
+ghost use Rattle.awk_options.specs.Lanes.{AreSingles};
 ghost use Rattle.awk_options.specs.Singletons.{singletons_function, singletons_of};
 
 use crate::presence::present_of;
@@ -23,6 +27,35 @@ pub(crate) fn present_typ(alloc: Global, t: &Typ) -> Result<Typ, NoMemory>
         Typ::Opt(inner) => copy_type(alloc, inner),
         _ => copy_type(alloc, t),
     }
+}
+
+/// The lists of content between counts.
+fn lists_between<'a, L: Ledger>(
+    alloc: Global,
+    counts: &Lane<'a>,
+    content: &Array<'a>,
+    steps: &mut Steps<L>,
+) -> Result<Node<'a>, NoMemory>
+    requires fits { size_of counts.now ≤ 2 ^ 63 }
+    requires offsets { IsOffsets counts.now (len content.now) }
+    ensures { IfOk result (λ node. node ≡ offset_lists counts.now content.now) }
+{
+    let inner = Box::new(alloc, content.node().copy(alloc)?)?;
+    Ok(Node::list_offset(counts.copy(), inner, steps))
+}
+
+/// Each item of an array as a list of at most one.
+fn singles_of<'a, L: Ledger>(
+    alloc: Global,
+    x: &Array<'a>,
+    arena: &'a Arena,
+    steps: &mut Steps<L>,
+) -> Result<Node<'a>, NoMemory>
+    ensures { IfOk result (AreSingles x.now) }
+{
+    let _ = x.len();
+    let items = present_of(alloc, x, arena, steps)?;
+    lists_between(alloc, &items.counts, &items.content, steps)
 }
 
 /// The items of a list as lists of at most one.
@@ -62,11 +95,10 @@ impl ListOp for SingleLists {
             Joined::TooMany => Ok(Made::Spoiled(Spoil::Size)),
             Joined::Lists { offsets, content } => {
                 let _ = content.len();
-                let items = present_of(alloc, &content, arena, steps)?;
-                let inner = Box::new(alloc, items.content.node().copy(alloc)?)?;
+                let singles = singles_of(alloc, &content, arena, steps)?;
                 Ok(Made::Lists {
                     offsets,
-                    content: Node::list_offset(items.counts, inner, steps),
+                    content: singles,
                 })
             }
         }
