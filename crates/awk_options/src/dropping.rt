@@ -7,8 +7,10 @@ ghost use Rattle.awk_lanes.specs.Numbers.{int_of, IsOf};
 ghost use Rattle.awk_lanes.specs.declared.kind.Kind.TheVariants as Kinds;
 ghost use Rattle.awk_lanes.specs.Places.{size_of, at, place_at, AreSpans, IsIndexKind};
 ghost use Rattle.awk_axis.specs.DropNone.{drop_none_function};
+ghost use Rattle.awk_axis.specs.Mapped.{IsMade};
+ghost use Rattle.awk_axis.specs.Opened.{AreLists};
 ghost use Rattle.awk_options.specs.DropNone.{drop_none_of};
-ghost use Rattle.awk_options.specs.Lanes.{span_length, numbers_at_ends, AreEnds};
+ghost use Rattle.awk_options.specs.Lanes.{span_length, numbers_at_ends, AreEnds, ArePresent};
 
 use crate::presence::present_of;
 use crate::singles::present_typ;
@@ -69,6 +71,36 @@ fn numbers_at_ends<'a, L: Ledger>(
     Ok(maker.finish())
 }
 
+/// The lists among the items that are present, one after another.
+fn present_lists<'a, L: Ledger>(
+    alloc: Global,
+    class: Option<u64>,
+    starts: &Lane<'a>,
+    stops: &Lane<'a>,
+    content: &Array<'a>,
+    counts: &Lane<'a>,
+    items: &Array<'a>,
+    arena: &'a Arena,
+    steps: &mut Steps<L>,
+) -> Result<Made<'a>, NoMemory>
+    requires lists { AreLists class starts.now stops.now content.now }
+    requires items { ArePresent content.now counts.now items.now }
+    ensures { IfOk result (IsMade drop_none_function class starts.now stops.now content.now) }
+{
+    let firsts = numbers_at_ends(counts, starts, stops, starts, arena, steps)?;
+    let ends = numbers_at_ends(counts, starts, stops, stops, arena, steps)?;
+    match join_spans(alloc, None, &firsts, &ends, items, arena, steps)? {
+        Joined::TooMany => Ok(Made::Spoiled(Spoil::Size)),
+        Joined::Lists { offsets, content } => {
+            let _ = content.len();
+            Ok(Made::Lists {
+                offsets,
+                content: content.node().copy(alloc)?,
+            })
+        }
+    }
+}
+
 /// The items of a list that are not null.
 #[derive(Clone, Copy, Debug, PartialEq, Eq)]
 struct PresentItems;
@@ -95,7 +127,7 @@ impl ListOp for PresentItems {
     fn column<'a, L: Ledger>(
         &self,
         alloc: Global,
-        _class: Option<u64>,
+        class: Option<u64>,
         starts: &Lane<'a>,
         stops: &Lane<'a>,
         content: &Array<'a>,
@@ -103,18 +135,9 @@ impl ListOp for PresentItems {
         steps: &mut Steps<L>,
     ) -> Result<Made<'a>, NoMemory> {
         let items = present_of(alloc, content, arena, steps)?;
-        let firsts = numbers_at_ends(&items.counts, starts, stops, starts, arena, steps)?;
-        let ends = numbers_at_ends(&items.counts, starts, stops, stops, arena, steps)?;
-        match join_spans(alloc, None, &firsts, &ends, &items.content, arena, steps)? {
-            Joined::TooMany => Ok(Made::Spoiled(Spoil::Size)),
-            Joined::Lists { offsets, content } => {
-                let _ = content.len();
-                Ok(Made::Lists {
-                    offsets,
-                    content: content.node().copy(alloc)?,
-                })
-            }
-        }
+        present_lists(
+            alloc, class, starts, stops, content, &items.counts, &items.content, arena, steps,
+        )
     }
 }
 
