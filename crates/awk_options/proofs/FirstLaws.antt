@@ -59,7 +59,7 @@ first_below m (suc n) a h =
     let both = h (omega arith) in
     subst (λ z. z <ℤ pos m) (sym (first_some n a ∙ both.0)) (omega (arith, ints, both.1))
 
-place_below : (z : ℤ) (m k : ℕ) → z <ℤ pos m → option_place z ≡ Some k → k < m
+pub place_below : (z : ℤ) (m k : ℕ) → z <ℤ pos m → option_place z ≡ Some k → k < m
 place_below (pos n) m k h e = let f : n ≡ k = cc in omega (arith, ints, h, f)
 place_below (negsuc n) m k h e = cc
 

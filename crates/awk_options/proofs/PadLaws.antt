@@ -147,14 +147,16 @@ module _ (m : ℕ → ℕ) where
         → q < length (numbers n) → get_or (numbers n) q (pos 0) <ℤ b
     numbers-below b zero f q p = absurd (omega (arith, p))
     numbers-below b (suc n) f q p = go (nat_lt q (length (numbers n))) refl
+        (λ low. numbers-below b n (λ i k s t. f i k (omega (arith, s)) t) q low)
       where
         go : (c : Bool) → nat_lt q (length (numbers n)) ≡ c
+            → (q < length (numbers n) → get_or (numbers n) q (pos 0) <ℤ b)
             → get_or (numbers n ++ part n) q (pos 0) <ℤ b
-        go true e =
+        go true e below =
             let low : q < length (numbers n) = grind (arith, e) in
             subst (λ z. z <ℤ b) (sym (get_or_append_left (numbers n) (part n) (pos 0) q low))
-                (numbers-below b n (λ i k s t. f i k (omega (arith, s)) t) q low)
-        go false e =
+                (below low)
+        go false e below =
             let high : length (numbers n) ≤ q = grind (arith, e) in
             let all = length-append (numbers n) (part n) in
             let j : q - length (numbers n) < m n =
