@@ -1,16 +1,16 @@
 -- Lists of the items that are not null.
-use Rattle.std.specs.Prelude.{◌≡◌, ℕ, zero, suc, ◌+◌, ◌-◌, ◌<◌, ◌≤◌, ◌^◌, ◌==◌, refl, false, List}
+use Rattle.std.specs.Prelude.{◌≡◌, ℕ, zero, suc, ◌+◌, ◌-◌, ◌<◌, ◌≤◌, ◌==◌, refl, false}
 use Rattle.std.specs.Prelude.{map, sum, ℤ, pos, negsuc, ◌≤ℤ◌, length, Some, None, if◌then◌else◌}
 use Rattle.std.specs.List.{range_with_len, flat_map}
 use Rattle.std.proofs.Common.{arith, ap, sym, ◌∙◌, subst}
 use Rattle.std.proofs.lemmas.Int.{ints}
 use Rattle.awk_types.specs.DataType.{DataType}
 use Rattle.awk_types.specs.Simple.{present, simple, simple_value}
-use Rattle.awk_types.specs.Value.{Value, value_list}
+use Rattle.awk_types.specs.Value.{value_list}
 use Rattle.awk_types.proofs.SimpleLaws.{simple_twice}
 use Rattle.awk_lanes.specs.Column.{Column}
 use Rattle.awk_lanes.specs.Numbers.{nat_of}
-use Rattle.awk_lanes.specs.Places.{size_of, at, place_at, IsSpan, AreSpans}
+use Rattle.awk_lanes.specs.Places.{size_of, at, place_at, IsSpan}
 use Rattle.awk_lanes.specs.declared.kind.Kind.TheVariants.{I64}
 use Rattle.awk_layout.specs.Layout.{Layout}
 use Rattle.awk_layout.specs.Item.{run}
@@ -104,17 +104,17 @@ module _ (class : Class) (s t : Column) (y : Layout) (a : AreLists class s t y)
   -- from the number before the first of n items to that before the next
   part : (n k l : ℕ) → (0 < n → (l ≡ k + n) × (k + n ≤ len y))
       → value_list (run (array_item z) (nat_of (end_number n (at c k)))
-          (nat_of (end_number n (at c l)) - nat_of (end_number n (at c k))))
+      (nat_of (end_number n (at c l)) - nat_of (end_number n (at c k))))
       ≡ present_values (value_list (run (array_item y) k n))
   part zero k l b = refl
   part (suc n) k l b =
       let both = b (omega arith) in
       ap (λ w. value_list (run (array_item z) (nat_of w)
-          (nat_of (end_number (suc n) (at c l)) - nat_of w))) (end_some n (at c k))
+      (nat_of (end_number (suc n) (at c l)) - nat_of w))) (end_some n (at c k))
       ∙ ap (λ w. value_list (run (array_item z) (place_at c k) (nat_of w - place_at c k)))
-          (end_some n (at c l))
+      (end_some n (at c l))
       ∙ ap (λ m. value_list (run (array_item z) (place_at c k) (place_at c m - place_at c k)))
-          both.0
+      both.0
       ∙ present_run y c z h k (suc n) both.1
 
   span : (n k l : ℕ) → (0 < n → (l ≡ k + n) × (k + n ≤ len y))
@@ -124,11 +124,11 @@ module _ (class : Class) (s t : Column) (y : Layout) (a : AreLists class s t y)
       let both = b (omega arith) in
       let low = at-count y c z h k (omega (arith, both.1)) in
       let high : at c l ≡ pos (place_at c (k + suc n)) =
-          ap (at c) both.0 ∙ at-count y c z h (k + suc n) both.1 in
+      ap (at c) both.0 ∙ at-count y c z h (k + suc n) both.1 in
       let up = counts_up y c z h k (suc n) both.1 in
       let within = counts_within y c z h (k + suc n) both.1 in
       rw (end_some n (at c k) ∙ low, end_some n (at c l) ∙ high) (λ d.
-          (omega (arith, ints), omega (arith, ints, up), omega (arith, ints, within)))
+      (omega (arith, ints), omega (arith, ints, up), omega (arith, ints, within)))
 
   ends : (i : ℕ) → i < size_of s → 0 < span_length s t i
       → (place_at t i ≡ place_at s i + span_length s t i)
@@ -144,7 +144,7 @@ module _ (class : Class) (s t : Column) (y : Layout) (a : AreLists class s t y)
       ordered = λ i p.
           let q : i < size_of s = omega (arith, p, size-starts) in
           rw (at-starts i q, at-stops i q)
-              (span (span_length s t i) (place_at s i) (place_at t i) (ends i q));
+          (span (span_length s t i) (place_at s i) (place_at t i) (ends i q));
     };
     fits = omega (arith, size-starts, a.fits);
     valid = h.valid;
@@ -155,17 +155,17 @@ module _ (class : Class) (s t : Column) (y : Layout) (a : AreLists class s t y)
       → items_at starts stops z i ≡ present_values (items_at s t y i)
   list_is i p =
       ap (λ w. value_list (run (array_item z) (nat_of w) (place_at stops i - nat_of w)))
-          (at-starts i p)
+      (at-starts i p)
       ∙ ap (λ w. value_list (run (array_item z)
-          (nat_of (end_number (span_length s t i) (at c (place_at s i))))
-          (nat_of w - nat_of (end_number (span_length s t i) (at c (place_at s i))))))
-          (at-stops i p)
+      (nat_of (end_number (span_length s t i) (at c (place_at s i))))
+      (nat_of w - nat_of (end_number (span_length s t i) (at c (place_at s i))))))
+      (at-stops i p)
       ∙ part (span_length s t i) (place_at s i) (place_at t i) (ends i p)
 
   count_is : sum (map (λ l. length (present_values l)) (all_items_at s t y)) ≡ total starts stops z
   count_is =
       count_lists (λ vs. present_values vs) s t y (items_at starts stops z)
-          (λ i p. ap length (sym (list_is i p)))
+      (λ i p. ap length (sym (list_is i p)))
       ∙ ap (λ n. length (flat_map (items_at starts stops z) (range_with_len 0 n))) (sym size-starts)
 
   pub present_spoilt : item_limit < total starts stops z

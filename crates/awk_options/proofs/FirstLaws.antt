@@ -1,6 +1,6 @@
 -- The first items of lists.
 use Rattle.std.specs.Prelude.{◌≡◌, ◌≢◌, ℕ, zero, suc, ◌+◌, ◌-◌, ◌<◌, ◌≤◌, ◌^◌, ◌==◌, refl, false, ℤ}
-use Rattle.std.specs.Prelude.{pos, negsuc, ◌≤ℤ◌, ◌<ℤ◌, Some, if◌then◌else◌}
+use Rattle.std.specs.Prelude.{pos, negsuc, ◌<ℤ◌, Some, if◌then◌else◌}
 use Rattle.std.proofs.Common.{arith, ap, sym, ◌∙◌, subst}
 use Rattle.std.proofs.lemmas.Int.{ints}
 use Rattle.awk_types.specs.DataType.{opt}
@@ -9,7 +9,7 @@ use Rattle.awk_types.specs.Value.{Value, value_list}
 use Rattle.awk_lanes.specs.declared.kind.Kind.TheVariants as kinds
 use Rattle.awk_lanes.specs.Column.{Column}
 use Rattle.awk_lanes.specs.Numbers.{nat_of}
-use Rattle.awk_lanes.specs.Places.{size_of, at, place_at, option_place, option_place_at, IsSpan}
+use Rattle.awk_lanes.specs.Places.{size_of, at, place_at, option_place, IsSpan}
 use Rattle.awk_lanes.specs.Places.{IsOptionalIndex}
 use Rattle.awk_layout.specs.Layout.{Layout, optional}
 use Rattle.awk_layout.specs.Item.{run, at_option}
@@ -83,7 +83,7 @@ module _ (class : Class) (s t : Column) (y : Layout) (a : AreLists class s t y) 
     below = λ i p.
         let q : i < size_of s = omega (arith, p, size-firsts) in
         subst (λ z. z <ℤ pos (len y)) (sym (at-firsts i q))
-            (first_below (len y) (span_length s t i) (at s i) (there i q));
+        (first_below (len y) (span_length s t i) (at s i) (there i q));
   }
 
   pub firsts_fit : size_of (firsts_lane s t) < 2 ^ 63
@@ -98,10 +98,10 @@ module _ (class : Class) (s t : Column) (y : Layout) (a : AreLists class s t y) 
     typ = optional_type-is (firsts_lane s t) y;
     items = λ i p.
         let below : at (firsts_lane s t) i <ℤ pos (len y) =
-            firsts_index.below i (omega (arith, p, size-firsts)) in
+        firsts_index.below i (omega (arith, p, size-firsts)) in
         optional_item (firsts_lane s t) y i h
-            (λ k e. place_below (at (firsts_lane s t) i) (len y) k below e)
+        (λ k e. place_below (at (firsts_lane s t) i) (len y) k below e)
         ∙ ap (simple_value (opt (array_type y)))
-            (ap (λ z. at_option (option_place z) (array_item y)) (at-firsts i p)
-            ∙ first_shown (array_item y) (span_length s t i) (at s i) (λ q. (there i p q).0));
+        (ap (λ z. at_option (option_place z) (array_item y)) (at-firsts i p)
+        ∙ first_shown (array_item y) (span_length s t i) (at s i) (λ q. (there i p q).0));
   }

@@ -1,11 +1,11 @@
 -- Which items of an array are null.
-use Rattle.std.specs.Prelude.{◌≡◌, ℕ, ◌+◌, ◌-◌, ◌<◌, ◌≤◌, ◌^◌, refl, true, false, List, map, length}
+use Rattle.std.specs.Prelude.{◌≡◌, ℕ, ◌+◌, ◌-◌, ◌<◌, ◌≤◌, refl, false, List, length}
 use Rattle.std.specs.Prelude.{ℤ, pos, negsuc, ◌<ℤ◌, Some, None}
 use Rattle.std.proofs.Common.{arith, ap, sym, ◌∙◌, subst}
 use Rattle.std.proofs.lemmas.Int.{ints}
 use Rattle.std.proofs.lemmas.List.{length-map}
 use Rattle.std.proofs.lemmas.Simd.{map-map}
-use Rattle.awk_types.specs.DataType.{DataType, leaf, opt}
+use Rattle.awk_types.specs.DataType.{leaf, opt}
 use Rattle.awk_types.specs.Simple.{is_option, simple_value, IsSimple}
 use Rattle.awk_types.specs.Value.{Value, null, int, truth, list, row, alt, value_list}
 use Rattle.awk_types.specs.declared.primitive.Primitive.TheVariants.{Bool as Truths}
@@ -17,7 +17,7 @@ use Rattle.awk_lanes.specs.Places.{size_of, at, place_at, option_place, option_p
 use Rattle.awk_layout.specs.Kinds.{primitive_of}
 use Rattle.awk_layout.specs.Laws.{len-fits}
 use Rattle.awk_layout.specs.Layout.{Layout, flat}
-use Rattle.awk_layout.specs.Item.{run, at_option}
+use Rattle.awk_layout.specs.Item.{at_option}
 use Rattle.awk_layout.specs.Typing.{layout_type, array_type}
 use Rattle.awk_layout.specs.Valid.{len, IsValid}
 use Rattle.awk_gather.specs.Arrays.{array_item}
@@ -83,7 +83,7 @@ nulls_are x y j o =
       nulls = λ i p.
           let q : i < size_of j = omega (arith, p, o.size) in
           ap (λ z. truth (is_nonzero z))
-              (at-lane_of kinds.Bool (size_of j) (λ k. null_number (option_place_at j k)) i q)
+          (at-lane_of kinds.Bool (size_of j) (λ k. null_number (option_place_at j k)) i q)
           ∙ ap truth (null_shown y (at j i) o.valid.2 n (o.valid.1.below i q))
           ∙ ap (λ v. truth (is_null v)) (sym (o.items i p));
     }
@@ -102,7 +102,7 @@ nulls_given class s t y o x c a v j h = record {
       let first = place_at o i in
       let n = place_at o (i + 1) - place_at o i in
       ap value_list (run_same (array_item (flat c)) (λ k. truth (is_null (array_item x k))) first n
-          (λ k _ q. h.nulls k (omega (arith, q, j.offsets.within i p))))
+      (λ k _ q. h.nulls k (omega (arith, q, j.offsets.within i p))))
       ∙ sym (run_map (λ w. truth (is_null w)) (array_item x) first n)
       ∙ ap (λ r. nulls (value_list r)) (sym (j.lists i p))
       ∙ sym (map-map (simple_value (leaf Truths)) (λ w. truth (is_null w)) (items_at s t y i));

@@ -1,5 +1,5 @@
 -- An index over an array's items, with null where it is negative.
-use Rattle.std.specs.Prelude.{◌≡◌, ℕ, ◌+◌, ◌<◌, ◌≤◌, refl, length, map, get_or, Option, Some, None}
+use Rattle.std.specs.Prelude.{◌≡◌, ℕ, ◌+◌, ◌<◌, ◌≤◌, refl, map, get_or, Option, Some, None}
 use Rattle.std.specs.List.{AllByRecursion}
 use Rattle.std.proofs.Common.{arith, ap, sym, ◌∙◌}
 use Rattle.std.proofs.lemmas.List.{get_or-map}
@@ -30,11 +30,11 @@ pub item_stays : (y : Layout) → HasItems y → (k : ℕ) → k < len y
 item_stays y h k p =
     let t : DataType = array_type y in
     let all : map (simple_value t) (array_items y) ≡ array_items y =
-        each_stays t (simple_value t) (λ v i. value_stays t v (simple_is_simple (layout_type y)) i)
-            (array_items y) h in
+    each_stays t (simple_value t) (λ v i. value_stays t v (simple_is_simple (layout_type y)) i)
+    (array_items y) h in
     ap (simple_value t) (sym (get_or-array_items y k p))
     ∙ sym (get_or-map (simple_value t) (array_items y) k null null
-        (omega (arith, p, length-array_items y)))
+    (omega (arith, p, length-array_items y)))
     ∙ ap (λ vs. get_or vs k null) all
     ∙ get_or-array_items y k p
 
@@ -44,7 +44,7 @@ pub run_stays : (y : Layout) → HasItems y → (a n : ℕ) → a + n ≤ len y
 run_stays y h a n p =
     run_map (simple_value (array_type y)) (array_item y) a n
     ∙ ap value_list (run_same (λ k. simple_value (array_type y) (array_item y k)) (array_item y) a n
-        (λ k _ q. item_stays y h k (omega (arith, q, p))))
+    (λ k _ q. item_stays y h k (omega (arith, q, p))))
 
 -- ---- with null where an index is negative
 

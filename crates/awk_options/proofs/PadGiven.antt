@@ -1,19 +1,18 @@
 -- Lists with nulls at their end, over the items that they have.
-use Rattle.std.specs.Prelude.{◌≡◌, ℕ, zero, suc, max, ◌+◌, ◌-◌, ◌*◌, ◌<◌, ◌≤◌, ◌^◌, nat_lt, refl}
-use Rattle.std.specs.Prelude.{true, false, Bool, List, length, map, get_or, sum, ℤ, pos, negsuc}
-use Rattle.std.specs.Prelude.{◌<ℤ◌, Option, Some, None, if◌then◌else◌}
+use Rattle.std.specs.Prelude.{◌≡◌, ℕ, zero, suc, ◌+◌, ◌-◌, ◌*◌, ◌<◌, ◌≤◌, ◌^◌, nat_lt, refl}
+use Rattle.std.specs.Prelude.{true, false, Bool, List, length, map, get_or, sum, pos, negsuc}
+use Rattle.std.specs.Prelude.{◌<ℤ◌, Some, None, if◌then◌else◌}
 use Rattle.std.specs.List.{range_with_len}
-use Rattle.std.proofs.Common.{arith, ap, sym, ◌∙◌, subst}
+use Rattle.std.proofs.Common.{arith, ap, sym, ◌∙◌}
 use Rattle.std.proofs.lemmas.Int.{ints}
 use Rattle.std.proofs.lemmas.List.{get_or_past}
 use Rattle.std.proofs.lemmas.List.FromFn.{fill_by_all, length-map-range_with_len}
 use Rattle.std.proofs.lemmas.Simd.{map-map}
-use Rattle.awk_types.specs.DataType.{DataType, opt}
+use Rattle.awk_types.specs.DataType.{opt}
 use Rattle.awk_types.specs.Simple.{simple_value}
 use Rattle.awk_types.specs.Value.{Value, null, value_list}
 use Rattle.awk_lanes.specs.Column.{Column}
-use Rattle.awk_lanes.specs.Numbers.{nat_of}
-use Rattle.awk_lanes.specs.Places.{size_of, at, place_at, option_place, option_place_at}
+use Rattle.awk_lanes.specs.Places.{size_of, at, place_at, option_place}
 use Rattle.awk_lanes.specs.Places.{IsOptionalIndex}
 use Rattle.awk_layout.specs.Layout.{Layout, optional}
 use Rattle.awk_layout.specs.Item.{run, at_option}
@@ -29,7 +28,7 @@ use Rattle.awk_axis.specs.Spoils.{too_many}
 use Rattle.awk_axis.specs.declared.causes.Spoil.TheVariants.{Size}
 use Rattle.awk_options.specs.PadNone.{padded, padded_length, padded_class, pad_none_function}
 use Rattle.awk_options.specs.Lanes.{span_length, padded_span, padded_place, padded_lane, before}
-use Rattle.awk_options.specs.Lanes.{offsets_by, numbers_of_lists}
+use Rattle.awk_options.specs.Lanes.{offsets_by}
 use Rattle.awk_options.proofs.FirstLaws.{start_there, place_below}
 use Rattle.awk_options.proofs.OptionNodes.{HasItems, optional_type-is, optional_item}
 use Rattle.awk_options.proofs.PadLaws.{before-next, before_mono, place-offsets, are_offsets}
@@ -64,7 +63,7 @@ shown h start n k = go (nat_lt k n) refl
     go false e =
         let p : n ≤ k = grind (arith, e) in
         sym (get_or_past (value_list (run h start n)) k null
-            (omega (arith, length-run h start n, p)))
+        (omega (arith, length-run h start n, p)))
 
 below_end : (start n k b : ℕ) → (0 < n → start + n ≤ b)
     → (if nat_lt k n then pos (start + k) else negsuc 0) <ℤ pos b
@@ -107,7 +106,7 @@ module _ (n : ℕ) (clip : Bool) (class : Class) (s t : Column) (y : Layout)
     kind = tt;
     below = λ i p. numbers-below m (padded_place s t) (pos (len y)) (size_of s)
         (λ j k q _. below_end (place_at s j) (span_length s t j) k (len y)
-            (λ r. (start_there (len y) (at s j) (at t j) (a.spans.ordered j q) r).1)) i p;
+        (λ r. (start_there (len y) (at s j) (at t j) (a.spans.ordered j q) r).1)) i p;
   }
 
   pub padded_fits : whole ≤ item_limit → size_of lane < 2 ^ 63
@@ -118,16 +117,16 @@ module _ (n : ℕ) (clip : Bool) (class : Class) (s t : Column) (y : Layout)
       ≡ simple_value (opt (array_type y)) (get_or (items_at s t y i) k null)
   item_is has i k p q =
       let z : at lane (before m i + k) ≡ padded_place s t i k =
-          numbers-at m (padded_place s t) i k (size_of s) p q in
+      numbers-at m (padded_place s t) i k (size_of s) p q in
       let up = before_mono m (i + 1) (size_of s) (omega (arith, p)) in
       let inside : before m i + k < size_of lane =
-          omega (arith, size-lane, up, before-next m i, q) in
+      omega (arith, size-lane, up, before-next m i, q) in
       optional_item lane y (before m i + k) has
-          (λ j e. place_below (at lane (before m i + k)) (len y) j
-              (padded_index.below (before m i + k) inside) e)
+      (λ j e. place_below (at lane (before m i + k)) (len y) j
+      (padded_index.below (before m i + k) inside) e)
       ∙ ap (simple_value (opt (array_type y)))
-          (ap (λ w. at_option (option_place w) (array_item y)) z
-          ∙ shown (array_item y) (place_at s i) (span_length s t i) k)
+      (ap (λ w. at_option (option_place w) (array_item y)) z
+      ∙ shown (array_item y) (place_at s i) (span_length s t i) k)
 
   pub padded_given : HasItems y → whole ≤ item_limit
       → AreGiven (padded_class n clip) (opt (array_type y)) (λ vs. padded n clip vs) s t y
@@ -141,28 +140,28 @@ module _ (n : ℕ) (clip : Bool) (class : Class) (s t : Column) (y : Layout)
         let o : Column = offsets_by m (size_of s) in
         let first : place_at o i ≡ before m i = place-offsets m (size_of s) i (omega (arith, p)) in
         let next : place_at o (i + 1) ≡ before m i + m i =
-            place-offsets m (size_of s) (i + 1) (omega (arith, p)) ∙ before-next m i in
+        place-offsets m (size_of s) (i + 1) (omega (arith, p)) ∙ before-next m i in
         let size : place_at o (i + 1) - place_at o i ≡ m i = omega (arith, first, next) in
         let f : ℕ → Value = λ k. get_or (items_at s t y i) k null in
         ap (λ k. value_list (run (array_item (optional lane y)) (place_at o i) k)) size
         ∙ ap (λ k. value_list (run (array_item (optional lane y)) k (m i))) first
         ∙ run_by (array_item (optional lane y)) (λ k. simple_value (opt (array_type y)) (f k))
-            (before m i) (m i) (λ k q. item_is has i k p q)
+        (before m i) (m i) (λ k q. item_is has i k p q)
         ∙ sym (map-map (simple_value (opt (array_type y))) f (range_with_len 0 (m i)))
         ∙ ap (λ k. map (simple_value (opt (array_type y)))
-            (map f (range_with_len 0 (padded_length n clip k)))) (sym (items_at-length s t y i));
+        (map f (range_with_len 0 (padded_length n clip k)))) (sym (items_at-length s t y i));
   }
 
   length-padded : (i : ℕ) → length (padded n clip (items_at s t y i)) ≡ m i
   length-padded i =
       length-map-range_with_len (λ k. get_or (items_at s t y i) k null) 0
-          (padded_length n clip (length (items_at s t y i)))
+      (padded_length n clip (length (items_at s t y i)))
       ∙ ap (padded_length n clip) (items_at-length s t y i)
 
   count_is : sum (map (λ l. length (padded n clip l)) (all_items_at s t y)) ≡ whole
   count_is =
       ap sum (map-map (λ (l : List Value). length (padded n clip l)) (items_at s t y)
-          (range_with_len 0 (size_of s)))
+      (range_with_len 0 (size_of s)))
       ∙ sum-before m (λ i. length (padded n clip (items_at s t y i))) length-padded (size_of s)
 
   pub padded_spoilt : item_limit < whole

@@ -1,7 +1,7 @@
 -- Lists one after another, each by its length: their offsets, and a number for each item.
-use Rattle.std.specs.Prelude.{◌≡◌, ℕ, zero, suc, ◌+◌, ◌-◌, ◌*◌, ◌<◌, ◌≤◌, ◌^◌, nat_lt, refl, true}
+use Rattle.std.specs.Prelude.{◌≡◌, ℕ, zero, suc, ◌+◌, ◌-◌, ◌<◌, ◌≤◌, ◌^◌, nat_lt, refl, true}
 use Rattle.std.specs.Prelude.{false, Bool, List, [], ◌∷◌, ◌++◌, length, map, get_or, sum, ℤ, pos}
-use Rattle.std.specs.Prelude.{negsuc, ◌≤ℤ◌, ◌<ℤ◌, Option, Some, None, if◌then◌else◌}
+use Rattle.std.specs.Prelude.{◌<ℤ◌}
 use Rattle.std.specs.List.{range_with_len, fold}
 use Rattle.std.proofs.Common.{arith, ap, sym, ◌∙◌, subst, add-one}
 use Rattle.std.proofs.lemmas.Int.{ints}
@@ -9,12 +9,10 @@ use Rattle.std.proofs.lemmas.List.{length-append, get_or_append_left, get_or-app
 use Rattle.std.proofs.lemmas.List.FromFn.{length-map-range_with_len, get_or-map-range_with_len}
 use Rattle.std.proofs.lemmas.List.FromFn.{map-range_with_len_more}
 use Rattle.awk_lanes.specs.declared.kind.Kind.TheVariants as kinds
-use Rattle.awk_lanes.specs.Column.{Column}
 use Rattle.awk_lanes.specs.Making.{Making, with_item}
 use Rattle.awk_lanes.specs.Numbers.{nat_of}
-use Rattle.awk_lanes.specs.Places.{size_of, at, place_at, IsSpan, IsOffsets}
+use Rattle.awk_lanes.specs.Places.{size_of, at, place_at, IsSpan}
 use Rattle.awk_gather.specs.Counted.{item_limit}
-use Rattle.awk_gather.specs.Lanes.{lane_of}
 use Rattle.awk_gather.proofs.MadeLanes.{size-lane_of, at-lane_of}
 use Rattle.awk_axis.specs.Joined.{AreOffsets}
 use Rattle.awk_options.specs.Lanes.{before, numbers_of_lists, offsets_by}
@@ -53,12 +51,16 @@ module _ (m : ℕ → ℕ) where
       let a = before_mono i (i + 1) (omega arith) in
       let b = before_mono (i + 1) n p in
       rw (at-offsets n i (omega (arith, p)), at-offsets n (i + 1) p)
-          (λ d. (omega (arith, ints), omega (arith, ints, a), omega (arith, ints, b)))
+      (λ d. (omega (arith, ints), omega (arith, ints, a), omega (arith, ints, b)))
 
   pub are_offsets : (n : ℕ) → n < 2 ^ 63 → AreOffsets (offsets_by m n) n (before m n)
   are_offsets n p = record {
-    offsets = record { kind = tt; some = omega (arith, size-offsets n); ordered =
-        λ i q. offsets_span n i (omega (arith, q, size-offsets n)) };
+    offsets = record {
+      kind = tt;
+      some = omega (arith, size-offsets n);
+      ordered =
+          λ i q. offsets_span n i (omega (arith, q, size-offsets n));
+    };
     fits = omega (arith, size-offsets n, p);
     size = size-offsets n;
     first = place-offsets n 0 (omega arith);
@@ -91,9 +93,9 @@ module _ (m : ℕ → ℕ) where
       let more : suc n ≡ n + 1 = omega arith in
       let h : sum (map g (range_with_len 0 n)) ≡ before m n = sum-before g e n in
       let l : sum (map g (range_with_len 0 (suc n))) ≡ sum (map g (range_with_len 0 n)) + g n =
-          ap (λ k. sum (map g (range_with_len 0 k))) more
-          ∙ ap sum (map-range_with_len_more g 0 n n (omega arith))
-          ∙ fold_one 0 (map g (range_with_len 0 n)) (g n) in
+      ap (λ k. sum (map g (range_with_len 0 k))) more
+      ∙ ap sum (map-range_with_len_more g 0 n n (omega arith))
+      ∙ fold_one 0 (map g (range_with_len 0 n)) (g n) in
       omega (arith, l, h, e n)
 
   -- ---- the numbers
@@ -117,9 +119,9 @@ module _ (m : ℕ → ℕ) where
     last_at : (i j : ℕ) → j < m i → get_or (numbers (suc i)) (before m i + j) (pos 0) ≡ h i j
     last_at i j p =
         get_or-append_right (numbers i) (part i) (before m i) (before m i + j) (pos 0)
-            (length-numbers i) (omega arith)
+        (length-numbers i) (omega arith)
         ∙ get_or-map-range_with_len (h i) 0 (m i) (before m i + j - before m i) j (pos 0)
-            (omega (arith, p)) (omega arith)
+        (omega (arith, p)) (omega arith)
 
     more_at : (i j k : ℕ) → j < m i
         → get_or (numbers (suc i + k)) (before m i + j) (pos 0) ≡ h i j
@@ -130,17 +132,17 @@ module _ (m : ℕ → ℕ) where
         let e : suc (suc i + k) ≡ suc i + suc k = omega arith in
         let up : before m (suc i) ≤ before m (suc i + k) = before_more (suc i) k in
         let within : before m i + j < length (numbers (suc i + k)) =
-            omega (arith, length-numbers (suc i + k), up, p) in
+        omega (arith, length-numbers (suc i + k), up, p) in
         subst (λ n. get_or (numbers n) (before m i + j) (pos 0) ≡ h i j) e
-            (get_or_append_left (numbers (suc i + k)) (part (suc i + k)) (pos 0) (before m i + j)
-                within ∙ more_at i j k p)
+        (get_or_append_left (numbers (suc i + k)) (part (suc i + k)) (pos 0) (before m i + j)
+        within ∙ more_at i j k p)
 
     pub numbers-at : (i j n : ℕ) → i < n → j < m i
         → get_or (numbers n) (before m i + j) (pos 0) ≡ h i j
     numbers-at i j n q p =
         let e : suc i + (n - suc i) ≡ n = omega (arith, q) in
         subst (λ k. get_or (numbers k) (before m i + j) (pos 0) ≡ h i j) e
-            (more_at i j (n - suc i) p)
+        (more_at i j (n - suc i) p)
 
     -- all are below a bound
     pub numbers-below : (b : ℤ) (n : ℕ) → ((i k : ℕ) → i < n → k < m i → h i k <ℤ b) → (q : ℕ)
@@ -155,18 +157,18 @@ module _ (m : ℕ → ℕ) where
         go true e below =
             let low : q < length (numbers n) = grind (arith, e) in
             subst (λ z. z <ℤ b) (sym (get_or_append_left (numbers n) (part n) (pos 0) q low))
-                (below low)
+            (below low)
         go false e below =
             let high : length (numbers n) ≤ q = grind (arith, e) in
             let all = length-append (numbers n) (part n) in
             let j : q - length (numbers n) < m n =
-                omega (arith, high, p, all, length-part n (m n)) in
+            omega (arith, high, p, all, length-part n (m n)) in
             subst (λ z. z <ℤ b)
-                (sym (get_or-append_right (numbers n) (part n) (length (numbers n)) q (pos 0) refl
-                    high
-                ∙ get_or-map-range_with_len (h n) 0 (m n) (q - length (numbers n))
-                    (q - length (numbers n)) (pos 0) j (omega arith)))
-                (f n (q - length (numbers n)) (omega arith) j)
+            (sym (get_or-append_right (numbers n) (part n) (length (numbers n)) q (pos 0) refl
+            high
+            ∙ get_or-map-range_with_len (h n) 0 (m n) (q - length (numbers n))
+            (q - length (numbers n)) (pos 0) j (omega arith)))
+            (f n (q - length (numbers n)) (omega arith) j)
 
     -- ---- while they are made
 
@@ -189,8 +191,12 @@ module _ (m : ℕ → ℕ) where
     append_twice (x ∷ xs) ys zs = ap (λ ws. x ∷ ws) (append_twice xs ys zs)
 
     pub places_first : (n i : ℕ) (w : Making) → ArePlaces n i w → ArePlacesIn n i 0 w
-    places_first n i w p = record { kind = p.kind; room = p.room; items = p.items
-        ∙ sym (append_nil (numbers i)) }
+    places_first n i w p = record {
+      kind = p.kind;
+      room = p.room;
+      items = p.items
+          ∙ sym (append_nil (numbers i));
+    }
 
     pub places_more : (n i k : ℕ) (z : ℤ) (old new : Making) → new ≡ with_item old z → z ≡ h i k
         → ArePlacesIn n i k old → ArePlacesIn n i (k + 1) new
@@ -201,7 +207,7 @@ module _ (m : ℕ → ℕ) where
           ∙ ap (λ y. (numbers i ++ map (h i) (range_with_len 0 k)) ++ y ∷ []) g
           ∙ append_twice (numbers i) (map (h i) (range_with_len 0 k)) (h i k ∷ [])
           ∙ ap (λ zs. numbers i ++ zs) (sym
-              (map-range_with_len_more (h i) 0 k k (omega arith)));
+          (map-range_with_len_more (h i) 0 k k (omega arith)));
     }
 
     pub places_next : (n i k : ℕ) (w : Making) → k ≡ m i → ArePlacesIn n i k w
@@ -218,8 +224,8 @@ module _ (m : ℕ → ℕ) where
         → ArePlacesIn n i k w → length w.items < w.room
     places_room whole n i k w e p q a =
         let l : length w.items ≡ length (numbers i) + k =
-            ap length a.items ∙ length-append (numbers i) (map (h i) (range_with_len 0 k))
-            ∙ ap (λ z. length (numbers i) + z) (length-part i k) in
+        ap length a.items ∙ length-append (numbers i) (map (h i) (range_with_len 0 k))
+        ∙ ap (λ z. length (numbers i) + z) (length-part i k) in
         let b = before_mono (i + 1) whole (omega (arith, p)) in
         omega (arith, l, length-numbers i, b, before-next i, q, e, a.room)
 

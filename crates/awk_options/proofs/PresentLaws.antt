@@ -17,7 +17,7 @@ use Rattle.awk_types.specs.Value.{Value, null, int, truth, list, row, alt, value
 use Rattle.awk_types.proofs.SimpleLaws.{null_in_option, present_stays}
 use Rattle.awk_lanes.specs.Column.{Column}
 use Rattle.awk_lanes.specs.Numbers.{nat_of}
-use Rattle.awk_lanes.specs.Places.{size_of, at, place_at, option_place, option_place_at}
+use Rattle.awk_lanes.specs.Places.{size_of, at, place_at, option_place}
 use Rattle.awk_lanes.specs.declared.kind.Kind.TheVariants.{I64}
 use Rattle.awk_layout.specs.Layout.{Layout}
 use Rattle.awk_layout.specs.Item.{run, at_option}
@@ -91,8 +91,8 @@ whole_present x v n h = record {
   size = size-lane_of I64 (len x + 1) pos;
   counts = λ i p.
       let c : length (present_values (take i (array_items x))) ≡ i =
-          all_counted (array_type x) n (array_items x) h i
-          (omega (arith, p, length-array_items x)) in
+      all_counted (array_type x) n (array_items x) h i
+      (omega (arith, p, length-array_items x)) in
       at-lane_of I64 (len x + 1) pos i (omega (arith, p)) ∙ ap pos (sym c);
 }
 
@@ -105,7 +105,7 @@ present_one : (y : Layout) (z : ℤ) → IsValid y → is_option (array_type y) 
 present_one y (negsuc k) v n p = refl
 present_one y (pos k) v n p =
     let e : is_present (array_item y k) ≡ true =
-        not_null (array_item y k) (present_item y k v (omega (arith, ints, p)) n) in
+    not_null (array_item y k) (present_item y k v (omega (arith, ints, p)) n) in
     rw e refl
 
 count_present : (j : Column) (y x : Layout) → OpensOption j y x → is_option (array_type y) ≡ false
@@ -117,13 +117,13 @@ count_present j y x op n (suc i) p =
     let e : i + 1 ≡ suc i = omega arith in
     let before = count_present j y x op n i (omega (arith, p)) in
     let here : length (present_at j i) ≡ cond (is_present (get_or (array_items x) i null)) 1 0 =
-        present_one y (at j i) op.valid n (op.index.below i (omega (arith, q, op.size)))
-        ∙ ap (λ v. cond (is_present v) 1 0) (sym (get_or-array_items x i q ∙ op.items i q)) in
+    present_one y (at j i) op.valid n (op.index.below i (omega (arith, q, op.size)))
+    ∙ ap (λ v. cond (is_present v) 1 0) (sym (get_or-array_items x i q ∙ op.items i q)) in
     let a = length-first_of (present_at j) i in
     let b = length-filter_more is_present (array_items x) i null
-        (omega (arith, q, length-array_items x)) in
+    (omega (arith, q, length-array_items x)) in
     subst (λ k. length (first_of (present_at j) k)
-        ≡ length (present_values (take k (array_items x)))) e (omega (arith, before, here, a, b))
+    ≡ length (present_values (take k (array_items x)))) e (omega (arith, before, here, a, b))
 
 size-counts : (j : Column) → size_of (present_lane j) ≡ size_of j + 1
 size-counts j = size-lane_of I64 (size_of j + 1) (λ i. pos (length (first_of (present_at j) i)))
@@ -138,7 +138,7 @@ option_present j y x op = record {
   size = size-counts j ∙ ap (λ n. n + 1) op.size;
   counts = λ i p.
       at-lane_of I64 (size_of j + 1) (λ k. pos (length (first_of (present_at j) k))) i
-          (omega (arith, p, op.size))
+      (omega (arith, p, op.size))
       ∙ ap pos (count_present j y x op (inner_not_option x y op.typ) i p);
 }
 
@@ -169,15 +169,15 @@ before-add : (vs : List Value) (a n : ℕ)
 before-add vs a n =
     ap length (present_split (take (a + n) vs) a)
     ∙ length-append (present_values (take a (take (a + n) vs)))
-        (present_values (drop a (take (a + n) vs)))
+    (present_values (drop a (take (a + n) vs)))
     ∙ ap (λ ws. length (present_values ws) + length (present_values (drop a (take (a + n) vs))))
-        (take-take vs a n)
+    (take-take vs a n)
     ∙ ap (λ ws. present_before vs a + length (present_values ws)) (drop-take a n vs)
 
 before-few : (vs : List Value) (a : ℕ) → present_before vs a ≤ length (present_values vs)
 before-few vs a =
     let e = ap length (present_split vs a)
-        ∙ length-append (present_values (take a vs)) (present_values (drop a vs)) in
+    ∙ length-append (present_values (take a vs)) (present_values (drop a vs)) in
     omega (arith, e)
 
 slice_present : (vs : List Value) (a n : ℕ)
@@ -185,12 +185,12 @@ slice_present : (vs : List Value) (a n : ℕ)
     ≡ present_values (take n (drop a vs))
 slice_present vs a n =
     ap (λ ws. take (present_before (drop a vs) n) (drop (present_before vs a) ws))
-        (present_split vs a)
+    (present_split vs a)
     ∙ ap (take (present_before (drop a vs) n))
-        (drop-append_seam (present_values (take a vs)) (present_values (drop a vs)))
+    (drop-append_seam (present_values (take a vs)) (present_values (drop a vs)))
     ∙ ap (take (present_before (drop a vs) n)) (present_split (drop a vs) n)
     ∙ take-append_seam (present_values (take n (drop a vs)))
-        (present_values (drop n (drop a vs)))
+    (present_values (drop n (drop a vs)))
 
 -- ---- runs of an array
 
@@ -214,10 +214,10 @@ run-slice x a n p =
     let z : 0 + a ≡ a = omega arith in
     value_list-run (array_item x) a n
     ∙ sym (ap (λ vs. take n (drop a vs)) (array_items-at x)
-        ∙ ap (λ k. take n (drop a (map (array_item x) (range_with_len 0 k)))) e
-        ∙ ap (take n) (drop-range (array_item x) 0 a m
-            ∙ ap (λ k. map (array_item x) (range_with_len k m)) z)
-        ∙ take-map-range_with_len (array_item x) a m n (omega (arith, p)))
+    ∙ ap (λ k. take n (drop a (map (array_item x) (range_with_len 0 k)))) e
+    ∙ ap (take n) (drop-range (array_item x) 0 a m
+    ∙ ap (λ k. map (array_item x) (range_with_len k m)) z)
+    ∙ take-map-range_with_len (array_item x) a m n (omega (arith, p)))
 
 module _ (x : Layout) (c : Column) (z : Layout) (h : ArePresent x c z) where
   pub at-count : (a : ℕ) → a ≤ len x → at c a ≡ pos (place_at c a)
@@ -236,7 +236,7 @@ module _ (x : Layout) (c : Column) (z : Layout) (h : ArePresent x c z) where
   counts_within a p =
       let i = count_is a p in
       let e : length (array_items z) ≡ length (present_values (array_items x)) =
-          ap length h.column in
+      ap length h.column in
       omega (arith, i, before-few (array_items x) a, e, length-array_items z)
 
   -- the present ones of a run of items
@@ -247,15 +247,15 @@ module _ (x : Layout) (c : Column) (z : Layout) (h : ArePresent x c z) where
       let i = count_is a (omega (arith, p)) in
       let k = count_is (a + n) p in
       let size : place_at c (a + n) - place_at c a
-          ≡ present_before (drop a (array_items x)) n =
-          omega (arith, i, k, before-add (array_items x) a n) in
+      ≡ present_before (drop a (array_items x)) n =
+      omega (arith, i, k, before-add (array_items x) a n) in
       let up = counts_up a n p in
       let within = counts_within (a + n) p in
       run-slice z (place_at c a) (place_at c (a + n) - place_at c a)
-          (omega (arith, up, within))
+      (omega (arith, up, within))
       ∙ ap (λ m. take m (drop (place_at c a) (array_items z))) size
       ∙ ap (λ m. take (present_before (drop a (array_items x)) n) (drop m (array_items z))) i
       ∙ ap (λ ws. take (present_before (drop a (array_items x)) n)
-          (drop (present_before (array_items x) a) ws)) h.column
+      (drop (present_before (array_items x) a) ws)) h.column
       ∙ slice_present (array_items x) a n
       ∙ ap present_values (sym (run-slice x a n p))

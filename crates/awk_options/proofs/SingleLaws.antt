@@ -7,17 +7,16 @@ use Rattle.std.proofs.lemmas.List.{length-map}
 use Rattle.std.proofs.lemmas.Simd.{map-map}
 use Rattle.awk_types.specs.DataType.{DataType, unknown, leaf, var, reg, rec, tup, opt, uni}
 use Rattle.awk_types.specs.Simple.{present, simple, simple_value, in_list, in_option}
-use Rattle.awk_types.specs.Value.{Value, Values, int, truth, null, list, row, alt, no_values, value}
+use Rattle.awk_types.specs.Value.{Value, int, truth, null, list, row, alt, no_values, value}
 use Rattle.awk_types.specs.Value.{value_list, values_from}
 use Rattle.awk_types.proofs.SimpleLaws.{simple_twice, in_option_stays}
 use Rattle.awk_types.proofs.Trees.{values_from-list}
 use Rattle.awk_lanes.specs.Column.{Column}
-use Rattle.awk_lanes.specs.Places.{size_of, at, place_at, IsOffsets}
-use Rattle.awk_layout.specs.Laws.{len-fits}
+use Rattle.awk_lanes.specs.Places.{size_of, place_at, IsOffsets}
 use Rattle.awk_layout.specs.Layout.{Layout, offset_lists}
-use Rattle.awk_layout.specs.Item.{item, run}
+use Rattle.awk_layout.specs.Item.{item}
 use Rattle.awk_layout.specs.Typing.{layout_type, array_type}
-use Rattle.awk_layout.specs.Valid.{len, IsValid}
+use Rattle.awk_layout.specs.Valid.{len}
 use Rattle.awk_gather.specs.Arrays.{array_item}
 use Rattle.awk_gather.specs.Counted.{item_limit}
 use Rattle.awk_axis.specs.Columns.{present_values}
@@ -83,7 +82,7 @@ module _ (x : Layout) (c : Column) (z : Layout) (fits : len x < 2 ^ 63) (h : Are
         let up = counts_up x c z h i 1 q in
         let within = counts_within x c z h (i + 1) q in
         rw (a, b) (λ d.
-            (omega (arith, ints), omega (arith, ints, up), omega (arith, ints, within)));
+        (omega (arith, ints), omega (arith, ints, up), omega (arith, ints, within)));
   }
 
   pub single_fit : size_of c ≤ 2 ^ 63
@@ -93,9 +92,9 @@ module _ (x : Layout) (c : Column) (z : Layout) (fits : len x < 2 ^ 63) (h : Are
       → array_item (offset_lists c z) i ≡ single_list (array_item x i)
   single_item i p =
       run_in_list (simple_value (layout_type z)) (item z) (place_at c i)
-          (place_at c (i + 1) - place_at c i)
+      (place_at c (i + 1) - place_at c i)
       ∙ ap list (sym (values_from-list _) ∙ ap values_from
-          (present_run x c z h i 1 (omega (arith, p))))
+      (present_run x c z h i 1 (omega (arith, p))))
       ∙ single-present (array_item x i)
 
   pub singles_are : AreSingles x (offset_lists c z)
@@ -132,9 +131,9 @@ module _ (class : Class) (s t : Column) (y : Layout) (o : Column) (x w : Layout)
         let n = place_at o (i + 1) - place_at o i in
         let within = j.offsets.within i p in
         ap value_list (run_same (array_item w)
-            (λ k. simple_value typ (single_list (array_item x k))) first n
-            (λ k _ q. h.items k (omega (arith, q, within))
-                ∙ sym (stay k (omega (arith, q, within)))))
+        (λ k. simple_value typ (single_list (array_item x k))) first n
+        (λ k _ q. h.items k (omega (arith, q, within))
+        ∙ sym (stay k (omega (arith, q, within)))))
         ∙ sym (run_map (λ v. simple_value typ (single_list v)) (array_item x) first n)
         ∙ ap (λ r. map (λ v. simple_value typ (single_list v)) (value_list r)) (sym (j.lists i p))
         ∙ sym (map-map (simple_value typ) single_list (items_at s t y i));

@@ -1,5 +1,5 @@
 -- Lists by their starts and stops, and how many items they have together.
-use Rattle.std.specs.Prelude.{◌≡◌, ℕ, ◌+◌, ◌-◌, ◌<◌, ◌≤◌, ◌^◌, nat_lt, true}
+use Rattle.std.specs.Prelude.{◌≡◌, ℕ, ◌-◌, ◌<◌, ◌≤◌, nat_lt, true}
 use Rattle.std.specs.Prelude.{false, List, length, map, sum, ℤ, Some, None}
 use Rattle.std.specs.Prelude.{if◌then◌else◌}
 use Rattle.std.specs.List.{flat_map, range_with_len}
@@ -30,8 +30,13 @@ span_wider : (m n : ℕ) (a b : ℤ) → m ≤ n → IsSpan m a b → IsSpan n a
 span_wider m n a b p h = λ d. ((h d).0, (h d).1, omega (arith, ints, (h d).2, p))
 
 spans_wider : (s t : Column) (m n : ℕ) → m ≤ n → AreSpans s t m → AreSpans s t n
-spans_wider s t m n p h = record { start_kind = h.start_kind; stop_kind = h.stop_kind; same_size =
-    h.same_size; ordered = λ i q. span_wider m n (at s i) (at t i) p (h.ordered i q) }
+spans_wider s t m n p h = record {
+  start_kind = h.start_kind;
+  stop_kind = h.stop_kind;
+  same_size =
+      h.same_size;
+  ordered = λ i q. span_wider m n (at s i) (at t i) p (h.ordered i q);
+}
 
 -- lists of an array, within the greatest length
 pub lists_within : (class : Class) (s t : Column) (y : Layout) → AreLists class s t y
@@ -52,9 +57,9 @@ pub count_lists : (f : List Value → List Value) (s t : Column) (y : Layout) (g
     ≡ length (flat_map g (range_with_len 0 (size_of s)))
 count_lists f s t y g e =
     ap sum (map-map (λ (l : List Value). length (f l)) (items_at s t y)
-            (range_with_len 0 (size_of s))
-        ∙ map-same (λ i. length (f (items_at s t y i))) (λ i. length (g i)) 0 (size_of s)
-            (λ i _ q. e i (omega (arith, q))))
+    (range_with_len 0 (size_of s))
+    ∙ map-same (λ i. length (f (items_at s t y i))) (λ i. length (g i)) 0 (size_of s)
+    (λ i _ q. e i (omega (arith, q))))
     ∙ sum-map (λ i. length (g i)) (range_with_len 0 (size_of s))
     ∙ sym (length-flat_map g (range_with_len 0 (size_of s)))
 

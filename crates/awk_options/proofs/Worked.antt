@@ -131,13 +131,13 @@ singletons_of_lists = refl
 padded_1 : pad_none_of 2 (pos 1) false jagged
     ≡ Ok (arr (var (opt int64))
     (ints_list (pos 1 ∷ pos 2 ∷ pos 3 ∷ []) ∷ list_value (null ∷ null ∷ [])
-      ∷ ints_list (pos 4 ∷ pos 5 ∷ []) ∷ []))
+    ∷ ints_list (pos 4 ∷ pos 5 ∷ []) ∷ []))
 padded_1 = refl
 
 clipped_1 : pad_none_of 2 (pos 1) true jagged
     ≡ Ok (arr (reg 2 (opt int64))
     (ints_list (pos 1 ∷ pos 2 ∷ []) ∷ list_value (null ∷ null ∷ [])
-      ∷ ints_list (pos 4 ∷ pos 5 ∷ []) ∷ []))
+    ∷ ints_list (pos 4 ∷ pos 5 ∷ []) ∷ []))
 clipped_1 = refl
 
 padded_0 : pad_none_of 4 (pos 0) false some
@@ -176,7 +176,7 @@ masked_by_nulls = refl
 
 masked_lists_whole : put_mask_of jagged truths true
     ≡ Ok (arr (opt (var int64)) (ints_list (pos 1 ∷ pos 2 ∷ pos 3 ∷ []) ∷ null
-      ∷ ints_list (pos 4 ∷ pos 5 ∷ []) ∷ []))
+    ∷ ints_list (pos 4 ∷ pos 5 ∷ []) ∷ []))
 masked_lists_whole = refl
 
 masked_unequal : put_mask_of (arr int64 []) truths true ≡ Err Lengths

@@ -1,5 +1,5 @@
 -- The first item of a list.
-use Rattle.std.specs.Prelude.{List, [], ◌∷◌, ℤ, Option, None, Result}
+use Rattle.std.specs.Prelude.{List, [], ◌∷◌, ℤ, None, Result}
 use Rattle.awk_types.specs.DataType.{opt}
 use Rattle.awk_types.specs.Datum.{Datum}
 use Rattle.awk_types.specs.Value.{Value, null}

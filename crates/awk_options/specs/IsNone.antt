@@ -1,5 +1,5 @@
 -- Whether items are null.
-use Rattle.std.specs.Prelude.{Bool, true, false, List, map, ℤ, Option, None, Result}
+use Rattle.std.specs.Prelude.{Bool, true, false, List, map, ℤ, None, Result}
 use Rattle.awk_types.specs.DataType.{leaf}
 use Rattle.awk_types.specs.Datum.{Datum}
 use Rattle.awk_types.specs.Value.{Value, truth, null}

@@ -111,8 +111,11 @@ abbrev pub padded_place : Column → Column → ℕ → ℕ → ℤ
 padded_place s t i k = if nat_lt k (span_length s t i) then pos (place_at s i + k) else negsuc 0
 
 abbrev pub padded_lane : ℕ → Bool → Column → Column → Column
-padded_lane n clip s t = record { kind = I64; items =
-    numbers_of_lists (padded_span n clip s t) (padded_place s t) (size_of s) }
+padded_lane n clip s t = record {
+  kind = I64;
+  items =
+      numbers_of_lists (padded_span n clip s t) (padded_place s t) (size_of s);
+}
 
 -- the number of all items, or none where it is over the most items of a column
 abbrev pub IsTotal : ℕ → Option ℕ → Type 0

@@ -1,5 +1,5 @@
 -- Lists with nulls at their end.
-use Rattle.std.specs.Prelude.{ℕ, max, Bool, true, false, List, map, length, get_or, ℤ, Option, Some}
+use Rattle.std.specs.Prelude.{ℕ, max, Bool, true, false, List, map, length, get_or, ℤ, Some}
 use Rattle.std.specs.Prelude.{None, Result}
 use Rattle.std.specs.List.{range_with_len}
 use Rattle.awk_types.specs.DataType.{opt}

@@ -53,9 +53,9 @@ masked_type u t = opt t
 
 -- the items of two lists in pairs
 abbrev pub in_pairs : {A B C : Type 0} → (A → B → C) → List A → List B → List C
-in_pairs f [] bs = []
-in_pairs f (a ∷ as) [] = []
-in_pairs f (a ∷ as) (b ∷ bs) = f a b ∷ in_pairs f as bs
+in_pairs f [] ys = []
+in_pairs f (x ∷ xs) [] = []
+in_pairs f (x ∷ xs) (y ∷ ys) = f x y ∷ in_pairs f xs ys
 
 -- two lists by a function of their items, and null where either is null
 abbrev pub of_lists : (List Value → List Value → List Value) → Value → Value → Value

@@ -1,5 +1,5 @@
 -- Each item as a list of at most one.
-use Rattle.std.specs.Prelude.{List, map, ℤ, Option, None, Result}
+use Rattle.std.specs.Prelude.{map, ℤ, None, Result}
 use Rattle.awk_types.specs.DataType.{var}
 use Rattle.awk_types.specs.Datum.{Datum}
 use Rattle.awk_types.specs.Simple.{present}

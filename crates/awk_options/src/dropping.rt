@@ -12,9 +12,9 @@ ghost use Rattle.awk_axis.specs.Opened.{AreLists};
 ghost use Rattle.awk_options.specs.DropNone.{drop_none_of};
 ghost use Rattle.awk_options.specs.Lanes.{span_length, numbers_at_ends, AreEnds, ArePresent};
 
+use crate::lengths::length_at;
 use crate::presence::present_of;
 use crate::singles::present_typ;
-use crate::lengths::length_at;
 use awk_axis::{Joined, ListOp, Made, Refusal, Spoil, join_spans, lift_at};
 use awk_lanes::{Arena, Kind, Lane, LaneMaker, Num, Steps, index_at, place_in};
 use awk_layout::{Array, Datum};
@@ -136,7 +136,15 @@ impl ListOp for PresentItems {
     ) -> Result<Made<'a>, NoMemory> {
         let items = present_of(alloc, content, arena, steps)?;
         present_lists(
-            alloc, class, starts, stops, content, &items.counts, &items.content, arena, steps,
+            alloc,
+            class,
+            starts,
+            stops,
+            content,
+            &items.counts,
+            &items.content,
+            arena,
+            steps,
         )
     }
 }

@@ -31,13 +31,7 @@ struct Padding {
 
 impl Padding {
     /// How long the list at a place becomes.
-    fn length_at<L: Ledger>(
-        &self,
-        starts: &Lane,
-        stops: &Lane,
-        i: u64,
-        steps: &mut Steps<L>,
-    ) -> u64
+    fn length_at<L: Ledger>(&self, starts: &Lane, stops: &Lane, i: u64, steps: &mut Steps<L>) -> u64
         requires within { i < size_of starts.now }
         requires spans { AreSpans starts.now stops.now 9223372036854775807 }
         ensures { result ≡ padded_span self.now.size self.now.clip starts.now stops.now i }
@@ -77,8 +71,7 @@ impl Padding {
     ) -> Result<Lane<'a>, NoMemory>
         requires spans { AreSpans starts.now stops.now 9223372036854775807 }
         requires fits { size_of starts.now < 2 ^ 63 }
-        requires total {
-            let length = padded_span self.now.size self.now.clip starts.now stops.now in
+        requires total { let length = padded_span self.now.size self.now.clip starts.now stops.now in
             before length (size_of starts.now) ≤ item_limit }
         ensures { let length = padded_span self.now.size self.now.clip starts.now stops.now in
             IfOk result (λ r. r ≡ offsets_by length (size_of starts.now)) }
@@ -103,8 +96,7 @@ impl Padding {
         steps: &mut Steps<L>,
     ) -> Result<Lane<'a>, NoMemory>
         requires spans { AreSpans starts.now stops.now 9223372036854775807 }
-        requires total {
-            let length = padded_span self.now.size self.now.clip starts.now stops.now in
+        requires total { let length = padded_span self.now.size self.now.clip starts.now stops.now in
             n ≡ before length (size_of starts.now) }
         ensures { IfOk result (λ r.
             r ≡ padded_lane self.now.size self.now.clip starts.now stops.now) }
@@ -120,13 +112,7 @@ impl Padding {
 }
 
 /// The place of item k of the list at a place, and -1 past its end.
-fn padded_place<L: Ledger>(
-    starts: &Lane,
-    stops: &Lane,
-    i: u64,
-    k: u64,
-    steps: &mut Steps<L>,
-) -> Num
+fn padded_place<L: Ledger>(starts: &Lane, stops: &Lane, i: u64, k: u64, steps: &mut Steps<L>) -> Num
     requires within { i < size_of starts.now }
     requires spans { AreSpans starts.now stops.now 9223372036854775807 }
     ensures number { int_of result ≡ padded_place starts.now stops.now i k }
@@ -155,11 +141,7 @@ impl ListOp for Padding {
     }
 
     fn class(&self, _class: Option<u64>) -> Option<u64> {
-        if self.clip {
-            Some(self.size)
-        } else {
-            None
-        }
+        if self.clip { Some(self.size) } else { None }
     }
 
     fn column<'a, L: Ledger>(

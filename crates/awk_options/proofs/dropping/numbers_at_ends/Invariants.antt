@@ -8,4 +8,4 @@ use Rattle.awk_options.proofs.dropping.numbers_at_ends.Given as goal
 abbrev pub invariant-loop-i : goal.invariant-loop-i
 invariant-loop-i g l = IsSoFar Kinds.I64 (size_of l.starts)
     (λ i. if span_length l.starts l.stops i == 0 then pos 0
-      else at l.numbers (place_at l.ends i)) l.i l.maker
+    else at l.numbers (place_at l.ends i)) l.i l.maker

@@ -8,4 +8,4 @@ pub loop-i-preserved : goal.loop-i-preserved
 loop-i-preserved g c =
     so_far_pushed _ _ _ c.loop-i.i (int_of c.null_number.result) c.loop-i.maker c.push.new.self
     c.push.ensures (c.null_number.ensures.number
-        ∙ ap null_number c.option_place_in.ensures.value) c.loop-i.invariant
+    ∙ ap null_number c.option_place_in.ensures.value) c.loop-i.invariant

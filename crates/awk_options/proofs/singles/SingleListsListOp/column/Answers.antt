@@ -1,4 +1,3 @@
-use Rattle.std.proofs.Common.{◌≡◌, ap}
 use Rattle.awk_axis.specs.Joined.{IsJoined}
 use Rattle.awk_axis.specs.declared.opening.Joined.TheVariants.{Lists}
 use Rattle.awk_options.proofs.SingleLaws.{singles_given, singles_spoilt, singles_fine}
@@ -11,8 +10,8 @@ returns-in-TooMany g c = singles_spoilt c.args.starts.now c.args.stops.now c.arg
 pub returns-in_ok-singles-in-Lists : goal.returns-in_ok-singles-in-Lists
 returns-in_ok-singles-in-Lists g c =
     let j : IsJoined c.args.starts.now c.args.stops.now c.args.content.now
-        (Lists c.in-Lists.offsets c.in-Lists.content) =
-        rw c.in-Lists.is at c.in_ok-join_spans.ensures in (
+    (Lists c.in-Lists.offsets c.in-Lists.content) =
+    rw c.in-Lists.is at c.in_ok-join_spans.ensures in (
       singles_fine c.args.starts.now c.args.stops.now c.args.content.now j.0,
       singles_given c.args.class c.args.starts.now c.args.stops.now c.args.content.now
           c.in-Lists.offsets c.in-Lists.content c.in_ok-singles-in-Lists.singles c.requires.lists
