@@ -1,0 +1,7 @@
+pub mod IsNone
+pub mod Lanes
+pub mod DropNone
+pub mod Firsts
+pub mod Singletons
+pub mod PadNone
+pub mod PutMask

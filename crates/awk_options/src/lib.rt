@@ -1,0 +1,17 @@
+//! Operations on nulls: which items are null, and lists without them, padded by them, and of single
+//! items.
+#![tactic(auto)]
+
+mod dropping;
+mod first_items;
+mod lengths;
+mod nulls;
+mod padding;
+mod presence;
+mod singles;
+
+pub use dropping::drop_none;
+pub use first_items::firsts;
+pub use nulls::is_none;
+pub use padding::pad_none;
+pub use singles::singletons;
