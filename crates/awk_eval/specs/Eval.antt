@@ -25,8 +25,14 @@ use Rattle.awk_lists.specs.Num.{num_of}
 use Rattle.awk_lists.specs.RunLengths.{run_lengths_of}
 use Rattle.awk_lists.specs.Unflatten.{unflatten_of}
 use Rattle.awk_lists.specs.WithoutField.{choice_of, without_field_of}
+use Rattle.awk_options.specs.DropNone.{drop_none_of}
+use Rattle.awk_options.specs.Firsts.{firsts_of}
+use Rattle.awk_options.specs.IsNone.{is_none_of}
+use Rattle.awk_options.specs.PadNone.{pad_none_of}
+use Rattle.awk_options.specs.Singletons.{singletons_of}
 use Rattle.awk_eval.specs.Operand.{Operand, of, literal, only_in, both_in, takes_literal}
 use Rattle.awk_eval.specs.Fixed.{bounds_in, Stepped, stepped_in, place_in, text_in, texts_in}
+use Rattle.awk_eval.specs.Fixed.{padding_in}
 use Rattle.awk_eval.specs.Ranges.{range_items}
 
 -- ---- results: the first fault wins
@@ -115,14 +121,27 @@ abbrev pub paired : (Datum → Datum → Result Datum Fault) → Option (Datum �
 paired f (Some p) = f p.0 p.1
 paired f None = Err Unbuilt
 
--- an operation on lists on its operands; those that are not built yet answer so
+-- lists padded by nulls to so many items, at an axis, cut or not
+abbrev pub padded_by : ℕ × ℤ × Bool → Datum → Result Datum Fault
+padded_by p d = pad_none_of p.0 p.1 p.2 d
+
+-- an operation on null items on its operands; those that are not built yet answer so
+abbrev pub optioned : Op → List FixedArg → List Operand → Result Datum Fault
+optioned op.IsNone fixed operands = given is_none_of (place_in fixed) (only_in operands)
+optioned op.DropNone fixed operands = given drop_none_of (place_in fixed) (only_in operands)
+optioned op.Firsts fixed operands = given firsts_of (place_in fixed) (only_in operands)
+optioned op.Singletons fixed operands = given singletons_of (place_in fixed) (only_in operands)
+optioned op.PadNone fixed operands = given padded_by (padding_in fixed) (only_in operands)
+optioned _ fixed operands = Err Unbuilt
+
+-- an operation on lists on its operands
 abbrev pub listed : Op → List FixedArg → List Operand → Result Datum Fault
 listed op.Num fixed operands = given num_of (place_in fixed) (only_in operands)
 listed op.Flatten fixed operands = given flatten_of (place_in fixed) (only_in operands)
 listed op.LocalIndex fixed operands = given local_index_of (place_in fixed) (only_in operands)
 listed op.Unflatten fixed operands = paired unflatten_of (both_in operands)
 listed op.RunLengths fixed operands = alone run_lengths_of (only_in operands)
-listed _ fixed operands = Err Unbuilt
+listed o fixed operands = optioned o fixed operands
 
 -- an operation on its operands
 abbrev pub apply : Op → List FixedArg → List Operand → Result Datum Fault

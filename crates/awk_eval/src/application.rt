@@ -17,10 +17,11 @@ ghost use Rattle.awk_eval.specs.Ranges.{range_items};
 ghost use Rattle.awk_eval.specs.Views.{Size, Takes, IsWithin, AreWithin, is_view_op};
 ghost use Rattle.awk_eval.specs.Eval as meaning;
 
-use crate::arguments::{both, bound_or, bounds, only, place, text, texts, with_step};
+use crate::arguments::{both, bound_or, bounds, only, padding, place, text, texts, with_step};
 use awk_lanes::{Arena, Steps};
 use awk_layout::{Array, Datum, Operands};
 use awk_lists::{flatten, local_index, num, run_lengths, unflatten, without_field};
+use awk_options::{drop_none, firsts, is_none, pad_none, singletons};
 use awk_query::{Fixed, FixedArg, Op};
 use awk_select::{at, at_each, is_mask, mask, step_range, take};
 use awk_types::{Fault, Names, NoMemory, Typ};
@@ -74,7 +75,7 @@ pub(crate) fn apply<'s, L: Ledger>(
     }
 }
 
-// An operation on lists on its operands. One that is not built yet answers so.
+// An operation on lists on its operands.
 fn listed<'s, L: Ledger>(
     alloc: Global,
     op: Op,
@@ -107,6 +108,44 @@ fn listed<'s, L: Ledger>(
         Op::RunLengths => match only(operands) {
             Some(x) => run_lengths(alloc, x, arena, steps),
             None => Err(Fault::Unbuilt),
+        },
+        _ => optioned(alloc, op, fixed, operands, arena, steps),
+    }
+}
+
+// An operation on null items on its operands. One that is not built yet answers so.
+fn optioned<'s, L: Ledger>(
+    alloc: Global,
+    op: Op,
+    fixed: &Fixed,
+    operands: &Operands<'s>,
+    arena: &'s Arena,
+    steps: &mut Steps<L>,
+) -> Result<Datum<'s>, Fault>
+    ensures answer { Gives datum_of fault_told result
+        (meaning.optioned op fixed.now (shown_operands operands.now)) }
+    ensures datum { IfOk result (λ made. IsDatum made) }
+{
+    match op {
+        Op::IsNone => match (place(fixed), only(operands)) {
+            (Some(axis), Some(x)) => is_none(alloc, x, axis, arena, steps),
+            _ => Err(Fault::Unbuilt),
+        },
+        Op::DropNone => match (place(fixed), only(operands)) {
+            (Some(axis), Some(x)) => drop_none(alloc, x, axis, arena, steps),
+            _ => Err(Fault::Unbuilt),
+        },
+        Op::Firsts => match (place(fixed), only(operands)) {
+            (Some(axis), Some(x)) => firsts(alloc, x, axis, arena, steps),
+            _ => Err(Fault::Unbuilt),
+        },
+        Op::Singletons => match (place(fixed), only(operands)) {
+            (Some(axis), Some(x)) => singletons(alloc, x, axis, arena, steps),
+            _ => Err(Fault::Unbuilt),
+        },
+        Op::PadNone => match (padding(fixed), only(operands)) {
+            (Some((n, axis, clip)), Some(x)) => pad_none(alloc, x, n, axis, clip, arena, steps),
+            _ => Err(Fault::Unbuilt),
         },
         _ => Err(Fault::Unbuilt),
     }

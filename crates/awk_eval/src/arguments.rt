@@ -142,6 +142,21 @@ pub(crate) fn texts(fixed: &Fixed) -> Option<&Names>
     }
 }
 
+/// How many items lists are padded to, at which axis, and whether they are cut.
+pub(crate) fn padding(fixed: &Fixed) -> Option<(u64, i64, bool)>
+    ensures { result ≡ given.padding_in fixed.now }
+{
+    if fixed.len() != 3 {
+        return None;
+    }
+    match (fixed.get(0), fixed.get(1), fixed.get(2)) {
+        (FixedArg::Count(n), FixedArg::Place(axis), FixedArg::Truth(clip)) => {
+            Some((*n, *axis, *clip))
+        }
+        _ => None,
+    }
+}
+
 /// A bound of a range over n items, or what stands for one that is not given.
 pub(crate) fn bound_or(n: u64, other: u64, bound: &FixedArg) -> u64
     requires { other ≤ n }
