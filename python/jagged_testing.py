@@ -20,10 +20,8 @@ NOT_YET = frozenset(
     []
     if IS_NAMED
     else """
-    pack
-    at_each
-    num flatten local_index unflatten run_lengths zip tuple with_field concatenate
-    is_none fill_none drop_none firsts singletons pad_none put_mask
+    zip tuple with_field concatenate
+    fill_none put_mask
     add sub mul floor_div rem eq ne lt le gt ge and or xor not neg abs where cast
     sum prod min max argmin argmax any all count count_nonzero
     cartesian argcartesian combinations argcombinations

@@ -1,5 +1,6 @@
 -- The operands in code and those that they stand for.
-use Rattle.std.proofs.Common.{◌≡◌, List, [], ◌∷◌, length, slice_get, Some, None, ℤ, ap, ap₂, subst, arith}
+use Rattle.std.proofs.Common.{◌≡◌, List, [], ◌∷◌, length, slice_get, Some, None, ℤ, ap, ap₂, subst}
+use Rattle.std.proofs.Common.{arith}
 use Rattle.awk_layout.specs.declared.datum.Operand.{Operand}
 use Rattle.awk_layout.specs.declared.datum.Operand.TheVariants.{Of, Literal}
 use Rattle.awk_layout.specs.declared.datum.Datum.{Datum}

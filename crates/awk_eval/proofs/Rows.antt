@@ -1,5 +1,6 @@
 -- What an allowed call has, from the table of operations by computing.
-use Rattle.std.proofs.Common.{◌≡◌, ℕ, ◌&&◌, ◌==◌, Bool, true, false, cond, List, [], ◌∷◌, ◌++◌, length, Option, Some, refl, sym, ap, ap₂, ◌∙◌, subst}
+use Rattle.std.proofs.Common.{◌≡◌, ℕ, ◌&&◌, ◌==◌, Bool, true, false, cond, List, [], ◌∷◌, ◌++◌}
+use Rattle.std.proofs.Common.{length, Option, Some, refl, sym, ap, ap₂, ◌∙◌, subst}
 use Rattle.std.specs.List.{list_all}
 use Rattle.std.proofs.lemmas.Bool.{and_parts}
 use Rattle.awk_types.specs.DataType.{Name}
@@ -12,7 +13,8 @@ use Rattle.awk_query.specs.declared.op.Op.TheVariants as op
 use Rattle.awk_query.specs.declared.kind.ArgKind.{ArgKind}
 use Rattle.awk_query.specs.declared.kind.ArgKind.TheVariants as kind
 use Rattle.awk_query.specs.declared.fixed.FixedArg.{FixedArg}
-use Rattle.awk_query.specs.declared.fixed.FixedArg.TheVariants.{Place, Count, Missing, Truth, Text, Texts}
+use Rattle.awk_query.specs.declared.fixed.FixedArg.TheVariants.{Place, Count, Missing, Truth, Text}
+use Rattle.awk_query.specs.declared.fixed.FixedArg.TheVariants.{Texts}
 use Rattle.awk_eval.specs.Fixed.{texts_in}
 
 -- ---- what is so of each row is so of the one that is found

@@ -1,8 +1,22 @@
 -- What view expressions take, through the operands of their operations.
-use Rattle.std.proofs.Common.{◌≡◌, ℕ, zero, suc, ◌+◌, ◌*◌, ◌≤◌, Bool, true, false, cond, List, [], ◌∷◌, ◌++◌, length, slice_get, Option, Some, None, option_map, Result, Ok, Err, refl, sym, ap, ◌∙◌, subst, arith, mul-add}
+use Rattle.std.proofs.Common.{◌≡◌, ℕ, zero, suc, ◌+◌, ◌*◌, ◌≤◌, Bool, true, false, cond, List, []}
+use Rattle.std.proofs.Common.{◌∷◌, ◌++◌, length, slice_get, Option, Some, None, option_map, Result}
+use Rattle.std.proofs.Common.{Ok, Err, refl, sym, ap, ◌∙◌, subst, arith, mul-add}
 use Rattle.std.specs.Prelude.{IfOk, IsErr}
 use Rattle.awk_types.specs.declared.fault.Fault.{Fault}
+use Rattle.awk_types.specs.DataType.{Name}
+use Rattle.awk_types.specs.Faults.{fault_told}
+use Rattle.awk_types.specs.Gives.{Gives}
+use Rattle.awk_types.proofs.RefusalLaws.{refused_or-Ok}
+use Rattle.awk_layout.specs.Datum.{datum_of}
+use Rattle.awk_layout.specs.Layout.{Layout, weight, height}
+use Rattle.awk_layout.specs.Typing.{array_type, array_datum}
 use Rattle.awk_layout.specs.declared.datum.Datum.{Datum}
+use Rattle.awk_layout.specs.declared.datum.Datum.TheVariants.{Arr, One}
+use Rattle.awk_lists.specs.WithoutField.{without_field_of}
+use Rattle.awk_view.specs.Answer.{choice_fault}
+use Rattle.awk_view.specs.Choice.{without}
+use Rattle.awk_view.specs.Settled.{kept}
 use Rattle.awk_layout.specs.declared.datum.Operand.{Operand}
 use Rattle.awk_query.specs.ExprTree.{ExprTree, call, exprs_from}
 use Rattle.awk_query.specs.View.{expr_of, exprs_of}
@@ -13,7 +27,8 @@ use Rattle.awk_query.specs.declared.expr.Exprs.{Exprs}
 use Rattle.awk_query.specs.declared.fixed.Fixed.{Fixed}
 use Rattle.awk_query.proofs.Views.{expr_of-Call}
 use Rattle.awk_eval.specs.Variables.{Variables}
-use Rattle.awk_eval.specs.Views.{Size, View, view_of, only_view, is_view_op, size_in, OfView, IsTaken, Takes, TakesView, AreWithin, IsOperandWithin, IsWithin}
+use Rattle.awk_eval.specs.Views.{Size, View, view_of, only_view, is_view_op, size_in, OfView}
+use Rattle.awk_eval.specs.Views.{IsTaken, Takes, TakesView, AreWithin, IsOperandWithin, IsWithin}
 
 -- one view more
 abbrev pub again : View → View
@@ -163,3 +178,29 @@ module _ (variables : Variables) where
         (λ v. AreWithin (size_in variables v) made)
         (λ v. Taken steps0 steps1 v × AreWithin (size_in variables v) made) (λ v t w. (t, w))
         taken within))
+
+-- ---- a datum without a field
+
+within_kept : (s : Size) (name : Name) (y : Layout) (result : Result Datum Fault)
+    → IsWithin s (Arr y) → Gives datum_of fault_told result (without_field_of name (array_datum y))
+    → IfOk result (λ made. weight (kept made) ≤ weight y)
+    → IfOk result (λ made. height (kept made) ≤ height y) → IfOk result (IsWithin s)
+within_kept s name y (Err f) within said nodes high = tt
+within_kept s name y (Ok (Arr z)) within said nodes high =
+    (omega (arith, within.0, nodes), omega (arith, within.1, high))
+within_kept s name y (Ok (One z)) within said nodes high =
+    let kept = refused_or-Ok (choice_fault (without name) (array_type y)) _ _ said in
+    absurd (cc (kept.1))
+
+-- as a view takes an array
+pub Takes-kept : (s : Size) (name : Name) (x : Datum) (steps0 steps1 : ℕ)
+    (result : Result Datum Fault) → IsWithin s x
+    → Gives datum_of fault_told result (without_field_of name (datum_of x))
+    → steps1 ≤ steps0 + 4 * weight (kept x)
+    → IfOk result (λ made. weight (kept made) ≤ weight (kept x))
+    → IfOk result (λ made. height (kept made) ≤ height (kept x)) → Takes s 1 steps0 steps1 result
+Takes-kept s name (One y) steps0 steps1 result within said cost nodes high = absurd within
+Takes-kept s name (Arr y) steps0 steps1 result within said cost nodes high = record {
+  steps = omega (arith, cost, within.0);
+  within = within_kept s name y result within said nodes high;
+}

@@ -1,10 +1,12 @@
 -- Worked expressions, each computed.
-use Rattle.std.specs.Prelude.{◌≡◌, ℕ, pos, negsuc, true, List, [], ◌∷◌, map, codes, Some, None, Ok, Err, refl}
+use Rattle.std.specs.Prelude.{◌≡◌, ℕ, pos, negsuc, true, List, [], ◌∷◌, map, codes, Some, None, Ok}
+use Rattle.std.specs.Prelude.{Err, refl}
 use Rattle.awk_types.specs.DataType.{Name, DataType, leaf, var, rec, opt, types_from}
 use Rattle.awk_types.specs.Value.{Value, int, truth, null, list, row, values_from}
 use Rattle.awk_types.specs.Datum.{arr, one}
 use Rattle.awk_types.specs.declared.primitive.Primitive.TheVariants.{Bool, I64}
-use Rattle.awk_types.specs.declared.fault.Fault.TheVariants.{Unbound, NoField, WrongType, Overflow, Index, Unbuilt}
+use Rattle.awk_types.specs.declared.fault.Fault.TheVariants.{Unbound, NoField, WrongType, Overflow}
+use Rattle.awk_types.specs.declared.fault.Fault.TheVariants.{Index, Unbuilt}
 use Rattle.awk_query.specs.ExprTree as tree
 use Rattle.awk_query.specs.ExprTree.{ExprTree, exprs_from}
 use Rattle.awk_query.specs.declared.op.Op.{Op}
@@ -116,7 +118,7 @@ literal_fills : eval env (of op.FillNone (m ∷ great ∷ []) (Place (pos 0) ∷
 literal_fills = refl
 
 -- what is not built yet says so after its arguments
-not_built : eval env (of op.Num (m ∷ []) (Place (pos 0) ∷ [])) ≡ Err Unbuilt
+not_built : eval env (of op.IsNone (m ∷ []) (Place (pos 0) ∷ [])) ≡ Err Unbuilt
 not_built = refl
 
 not_built_of_nothing : eval env (of op.Num (missing ∷ []) (Place (pos 0) ∷ []))

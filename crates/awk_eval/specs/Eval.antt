@@ -1,10 +1,10 @@
 -- What an expression is over an environment: a datum, or the first fault.
-use Rattle.std.specs.Prelude.{ℕ, suc, ℤ, pos, negsuc, int_le, Bool, true, false, ◌&&◌, List, [], ◌∷◌, Option, Some, None, Result, Ok, Err, if◌then◌else◌}
+use Rattle.std.specs.Prelude.{ℕ, suc, ℤ, pos, negsuc, int_le, Bool, true, false, ◌&&◌, List, []}
+use Rattle.std.specs.Prelude.{◌∷◌, Option, Some, None, Result, Ok, Err, if◌then◌else◌}
 use Rattle.awk_types.specs.DataType.{DataType, Name, leaf, var, reg}
 use Rattle.awk_types.specs.Value.{int, truth}
 use Rattle.awk_types.specs.Datum.{Datum, arr, one}
 use Rattle.awk_types.specs.Settle.{settle}
-use Rattle.awk_types.specs.Gives.{refused_or}
 use Rattle.awk_types.specs.Simple.{present}
 use Rattle.awk_types.specs.declared.primitive.Primitive.TheVariants as primitive
 use Rattle.awk_types.specs.declared.fault.Fault.{Fault}
@@ -14,13 +14,25 @@ use Rattle.awk_query.specs.ExprTree.{ExprTree, ExprTrees, no_exprs, expr}
 use Rattle.awk_query.specs.declared.op.Op.{Op}
 use Rattle.awk_query.specs.declared.op.Op.TheVariants as op
 use Rattle.awk_query.specs.declared.fixed.FixedArg.{FixedArg}
-use Rattle.awk_view.specs.Choice.{Choice, field, fields, without, chosen_type, chosen_value}
-use Rattle.awk_view.specs.Answer.{choice_fault, choice_answer}
+use Rattle.awk_view.specs.Choice.{field, fields}
 use Rattle.awk_eval.specs.Bindings.{look_up}
 use Rattle.awk_eval.specs.Variables.{Environment}
+use Rattle.awk_select.specs.Each.{at_each_of}
 use Rattle.awk_select.specs.Picks.{at_of, step_range_of, is_mask, mask_of, take_of}
+use Rattle.awk_lists.specs.Flatten.{flatten_of}
+use Rattle.awk_lists.specs.LocalIndex.{local_index_of}
+use Rattle.awk_lists.specs.Num.{num_of}
+use Rattle.awk_lists.specs.RunLengths.{run_lengths_of}
+use Rattle.awk_lists.specs.Unflatten.{unflatten_of}
+use Rattle.awk_lists.specs.WithoutField.{choice_of, without_field_of}
+use Rattle.awk_options.specs.DropNone.{drop_none_of}
+use Rattle.awk_options.specs.Firsts.{firsts_of}
+use Rattle.awk_options.specs.IsNone.{is_none_of}
+use Rattle.awk_options.specs.PadNone.{pad_none_of}
+use Rattle.awk_options.specs.Singletons.{singletons_of}
 use Rattle.awk_eval.specs.Operand.{Operand, of, literal, only_in, both_in, takes_literal}
 use Rattle.awk_eval.specs.Fixed.{bounds_in, Stepped, stepped_in, place_in, text_in, texts_in}
+use Rattle.awk_eval.specs.Fixed.{padding_in}
 use Rattle.awk_eval.specs.Ranges.{range_items}
 
 -- ---- results: the first fault wins
@@ -56,11 +68,6 @@ abbrev pub range_of : FixedArg × FixedArg → Datum → Result Datum Fault
 range_of bounds (arr t vs) = Ok (arr t (range_items bounds.0 bounds.1 vs))
 range_of bounds (one t v) = Err WrongType
 
--- what is chosen of a datum
-abbrev pub choice_of : Choice → Datum → Result Datum Fault
-choice_of c (arr t vs) = choice_answer c t vs
-choice_of c (one t v) = refused_or (choice_fault c t) (one (chosen_type c t) (chosen_value c t v))
-
 abbrev pub settled : Datum → Datum
 settled (arr t vs) = arr t vs
 settled (one t v) = settle t v
@@ -72,15 +79,17 @@ field_of n d = mapped settled (choice_of (field n) d)
 abbrev pub fields_of : List Name → Datum → Result Datum Fault
 fields_of ns d = choice_of (fields ns) d
 
-abbrev pub without_of : Name → Datum → Result Datum Fault
-without_of n d = choice_of (without n) d
-
 -- an operation on one datum, with another argument
 abbrev pub given : {A : Type 0} → (A → Datum → Result Datum Fault)
     → Option A → Option Datum → Result Datum Fault
 given f (Some a) (Some d) = f a d
 given f (Some a) None = Err Unbuilt
 given f None d = Err Unbuilt
+
+-- an operation on one datum alone
+abbrev pub alone : (Datum → Result Datum Fault) → Option Datum → Result Datum Fault
+alone f (Some d) = f d
+alone f None = Err Unbuilt
 
 -- a range of an array, by step 1 or by another
 abbrev pub stepped_of : Stepped → Datum → Result Datum Fault
@@ -112,15 +121,38 @@ abbrev pub paired : (Datum → Datum → Result Datum Fault) → Option (Datum �
 paired f (Some p) = f p.0 p.1
 paired f None = Err Unbuilt
 
--- an operation on its operands; those that are not built yet answer so
+-- lists padded by nulls to so many items, at an axis, cut or not
+abbrev pub padded_by : ℕ × ℤ × Bool → Datum → Result Datum Fault
+padded_by p d = pad_none_of p.0 p.1 p.2 d
+
+-- an operation on null items on its operands; those that are not built yet answer so
+abbrev pub optioned : Op → List FixedArg → List Operand → Result Datum Fault
+optioned op.IsNone fixed operands = given is_none_of (place_in fixed) (only_in operands)
+optioned op.DropNone fixed operands = given drop_none_of (place_in fixed) (only_in operands)
+optioned op.Firsts fixed operands = given firsts_of (place_in fixed) (only_in operands)
+optioned op.Singletons fixed operands = given singletons_of (place_in fixed) (only_in operands)
+optioned op.PadNone fixed operands = given padded_by (padding_in fixed) (only_in operands)
+optioned _ fixed operands = Err Unbuilt
+
+-- an operation on lists on its operands
+abbrev pub listed : Op → List FixedArg → List Operand → Result Datum Fault
+listed op.Num fixed operands = given num_of (place_in fixed) (only_in operands)
+listed op.Flatten fixed operands = given flatten_of (place_in fixed) (only_in operands)
+listed op.LocalIndex fixed operands = given local_index_of (place_in fixed) (only_in operands)
+listed op.Unflatten fixed operands = paired unflatten_of (both_in operands)
+listed op.RunLengths fixed operands = alone run_lengths_of (only_in operands)
+listed o fixed operands = optioned o fixed operands
+
+-- an operation on its operands
 abbrev pub apply : Op → List FixedArg → List Operand → Result Datum Fault
 apply op.At fixed operands = given at_of (place_in fixed) (only_in operands)
 apply op.Range fixed operands = ranged (bounds_in fixed) fixed (only_in operands)
 apply op.Field fixed operands = given field_of (text_in fixed) (only_in operands)
 apply op.Fields fixed operands = given fields_of (texts_in fixed) (only_in operands)
-apply op.WithoutField fixed operands = given without_of (text_in fixed) (only_in operands)
+apply op.WithoutField fixed operands = given without_field_of (text_in fixed) (only_in operands)
+apply op.AtEach fixed operands = given at_each_of (place_in fixed) (only_in operands)
 apply op.Pick fixed operands = paired pick_of (both_in operands)
-apply _ fixed operands = Err Unbuilt
+apply o fixed operands = listed o fixed operands
 
 -- ---- expressions
 

@@ -1,9 +1,10 @@
 -- The arguments of a call that are no expressions, by what an operation takes.
-use Rattle.std.specs.Prelude.{zero, suc, ℤ, pos, Bool, true, false, List, [], ◌∷◌, Option, Some, None, option_map, if◌then◌else◌}
+use Rattle.std.specs.Prelude.{ℕ, zero, suc, ℤ, pos, Bool, true, false, List, [], ◌∷◌, Option, Some}
+use Rattle.std.specs.Prelude.{None, option_map, if◌then◌else◌}
 use Rattle.awk_types.specs.DataType.{Name}
 use Rattle.awk_query.specs.Arguments.{not_zero}
 use Rattle.awk_query.specs.declared.fixed.FixedArg.{FixedArg}
-use Rattle.awk_query.specs.declared.fixed.FixedArg.TheVariants.{Place, Text, Texts}
+use Rattle.awk_query.specs.declared.fixed.FixedArg.TheVariants.{Place, Count, Truth, Text, Texts}
 
 -- whether a step is 1
 abbrev pub is_one : FixedArg → Bool
@@ -49,3 +50,8 @@ text_in _ = None
 abbrev pub texts_in : List FixedArg → Option (List Name)
 texts_in (Texts ns ∷ []) = Some ns
 texts_in _ = None
+
+-- how many items lists are padded to, at which axis, and whether they are cut
+abbrev pub padding_in : List FixedArg → Option (ℕ × ℤ × Bool)
+padding_in (Count n ∷ Place axis ∷ Truth clip ∷ []) = Some (n, axis, clip)
+padding_in _ = None

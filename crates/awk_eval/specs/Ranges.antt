@@ -1,18 +1,13 @@
 -- Ranges of step 1.
-use Rattle.std.specs.Prelude.{ℕ, suc, ◌-◌, min, ℤ, pos, negsuc, List, length}
+use Rattle.std.specs.Prelude.{ℕ, List, length}
 use Rattle.std.specs.List.{slice_range}
 use Rattle.awk_query.specs.declared.fixed.FixedArg.{FixedArg}
-use Rattle.awk_query.specs.declared.fixed.FixedArg.TheVariants.{Place}
+use Rattle.awk_select.specs.Places.{bound_up}
+use Rattle.awk_eval.specs.Fixed.{bound_in}
 
--- a bound of a range over n items: a negative one counts from the end, and it is kept in 0 to n
-abbrev pub clamped : ℕ → ℤ → ℕ
-clamped n (pos k) = min k n
-clamped n (negsuc k) = n - suc k
-
--- a bound, or what stands for one that is not given
+-- a bound over n items, or what stands for one that is not given
 abbrev pub bound_or : ℕ → ℕ → FixedArg → ℕ
-bound_or n other (Place z) = clamped n z
-bound_or n other _ = other
+bound_or n other bound = bound_up n other (bound_in bound)
 
 -- the items from one bound below another: from the first, or up to the last, where none is given
 abbrev pub range_items : {A : Type 0} → FixedArg → FixedArg → List A → List A

@@ -1,6 +1,7 @@
 -- View expressions: a variable, and ranges of step 1 and choices of fields of it. They read no
 -- item, so what they take goes by the number of nodes of the variable's array.
-use Rattle.std.specs.Prelude.{◌≤◌, ℕ, ◌+◌, ◌*◌, Bool, true, false, Option, Some, None, option_map, is_some, Result, IfOk, List, [], ◌∷◌, if◌then◌else◌}
+use Rattle.std.specs.Prelude.{◌≤◌, ℕ, ◌+◌, ◌*◌, Bool, true, false, Option, Some, None, option_map}
+use Rattle.std.specs.Prelude.{is_some, Result, IfOk, List, [], ◌∷◌, if◌then◌else◌}
 use Rattle.std.specs.List.{AllByRecursion}
 use Rattle.awk_types.specs.DataType.{Name}
 use Rattle.awk_types.specs.declared.fault.Fault.{Fault}

@@ -8,6 +8,7 @@ ghost use Rattle.awk_types.specs.View.{typ_of};
 ghost use Rattle.awk_layout.specs.Datum.{IsDatum, datum_of};
 ghost use Rattle.awk_layout.specs.Layout.{weight, height};
 ghost use Rattle.awk_layout.specs.Typing.{array_type, array_items};
+ghost use Rattle.awk_lists.specs.WithoutField.{without_field_of};
 ghost use Rattle.awk_query.specs.Allowed.{HasArguments};
 ghost use Rattle.awk_eval.specs.Fixed.{bounds_in, text_in, texts_in};
 ghost use Rattle.awk_eval.specs.Operand.{only_in};
@@ -16,13 +17,15 @@ ghost use Rattle.awk_eval.specs.Ranges.{range_items};
 ghost use Rattle.awk_eval.specs.Views.{Size, Takes, IsWithin, AreWithin, is_view_op};
 ghost use Rattle.awk_eval.specs.Eval as meaning;
 
-use crate::arguments::{both, bound_or, bounds, only, place, text, texts, with_step};
+use crate::arguments::{both, bound_or, bounds, only, padding, place, text, texts, with_step};
 use awk_lanes::{Arena, Steps};
 use awk_layout::{Array, Datum, Operands};
+use awk_lists::{flatten, local_index, num, run_lengths, unflatten, without_field};
+use awk_options::{drop_none, firsts, is_none, pad_none, singletons};
 use awk_query::{Fixed, FixedArg, Op};
-use awk_select::{at, is_mask, mask, step_range, take};
+use awk_select::{at, at_each, is_mask, mask, step_range, take};
 use awk_types::{Fault, Names, NoMemory, Typ};
-use awk_view::{field, fields, range, settled, without};
+use awk_view::{field, fields, range, settled};
 use std::alloc::Global;
 use std::sync::ledger::Ledger;
 
@@ -57,12 +60,92 @@ pub(crate) fn apply<'s, L: Ledger>(
             _ => Err(Fault::Unbuilt),
         },
         Op::WithoutField => match (text(fixed), only(operands)) {
-            (Some(name), Some(x)) => without_of(alloc, x, name.as_str(), steps),
+            (Some(name), Some(x)) => without_of(alloc, x, name.as_str(), arena, steps),
+            _ => Err(Fault::Unbuilt),
+        },
+        Op::AtEach => match (place(fixed), only(operands)) {
+            (Some(i), Some(x)) => at_each(alloc, x, i, arena, steps),
             _ => Err(Fault::Unbuilt),
         },
         Op::Pick => match both(operands) {
             Some((e, x)) => pick_of(alloc, e, x, arena, steps),
             None => Err(Fault::Unbuilt),
+        },
+        _ => listed(alloc, op, fixed, operands, arena, steps),
+    }
+}
+
+// An operation on lists on its operands.
+fn listed<'s, L: Ledger>(
+    alloc: Global,
+    op: Op,
+    fixed: &Fixed,
+    operands: &Operands<'s>,
+    arena: &'s Arena,
+    steps: &mut Steps<L>,
+) -> Result<Datum<'s>, Fault>
+    ensures answer { Gives datum_of fault_told result
+        (meaning.listed op fixed.now (shown_operands operands.now)) }
+    ensures datum { IfOk result (λ made. IsDatum made) }
+{
+    match op {
+        Op::Num => match (place(fixed), only(operands)) {
+            (Some(axis), Some(x)) => num(alloc, x, axis, arena, steps),
+            _ => Err(Fault::Unbuilt),
+        },
+        Op::Flatten => match (place(fixed), only(operands)) {
+            (Some(axis), Some(x)) => flatten(alloc, x, axis, arena, steps),
+            _ => Err(Fault::Unbuilt),
+        },
+        Op::LocalIndex => match (place(fixed), only(operands)) {
+            (Some(axis), Some(x)) => local_index(alloc, x, axis, arena, steps),
+            _ => Err(Fault::Unbuilt),
+        },
+        Op::Unflatten => match both(operands) {
+            Some((x, counts)) => unflatten(alloc, x, counts, arena, steps),
+            None => Err(Fault::Unbuilt),
+        },
+        Op::RunLengths => match only(operands) {
+            Some(x) => run_lengths(alloc, x, arena, steps),
+            None => Err(Fault::Unbuilt),
+        },
+        _ => optioned(alloc, op, fixed, operands, arena, steps),
+    }
+}
+
+// An operation on null items on its operands. One that is not built yet answers so.
+fn optioned<'s, L: Ledger>(
+    alloc: Global,
+    op: Op,
+    fixed: &Fixed,
+    operands: &Operands<'s>,
+    arena: &'s Arena,
+    steps: &mut Steps<L>,
+) -> Result<Datum<'s>, Fault>
+    ensures answer { Gives datum_of fault_told result
+        (meaning.optioned op fixed.now (shown_operands operands.now)) }
+    ensures datum { IfOk result (λ made. IsDatum made) }
+{
+    match op {
+        Op::IsNone => match (place(fixed), only(operands)) {
+            (Some(axis), Some(x)) => is_none(alloc, x, axis, arena, steps),
+            _ => Err(Fault::Unbuilt),
+        },
+        Op::DropNone => match (place(fixed), only(operands)) {
+            (Some(axis), Some(x)) => drop_none(alloc, x, axis, arena, steps),
+            _ => Err(Fault::Unbuilt),
+        },
+        Op::Firsts => match (place(fixed), only(operands)) {
+            (Some(axis), Some(x)) => firsts(alloc, x, axis, arena, steps),
+            _ => Err(Fault::Unbuilt),
+        },
+        Op::Singletons => match (place(fixed), only(operands)) {
+            (Some(axis), Some(x)) => singletons(alloc, x, axis, arena, steps),
+            _ => Err(Fault::Unbuilt),
+        },
+        Op::PadNone => match (padding(fixed), only(operands)) {
+            (Some((n, axis, clip)), Some(x)) => pad_none(alloc, x, n, axis, clip, arena, steps),
+            _ => Err(Fault::Unbuilt),
         },
         _ => Err(Fault::Unbuilt),
     }
@@ -229,20 +312,19 @@ fn fields_of<'s, L: Ledger>(
     }
 }
 
+// It takes as a view does, and gives an array where it is given one.
 fn without_of<'s, L: Ledger>(
     alloc: Global,
     x: &Datum<'s>,
     name: &str,
+    arena: &'s Arena,
     steps: &mut Steps<L>,
 ) -> Result<Datum<'s>, Fault>
     requires { IsDatum x.now }
     ensures answer { Gives datum_of fault_told result
-        (meaning.without_of name.now (datum_of x.now)) }
+        (without_field_of name.now (datum_of x.now)) }
     ensures datum { IfOk result (λ made. IsDatum made) }
     ensures cost { (s : Size) → IsWithin s x.now → Takes s 1 steps.old steps.new result }
 {
-    match x {
-        Datum::Arr(x) => Ok(Datum::Arr(without(alloc, x, name, steps)?)),
-        Datum::One(x) => Ok(Datum::One(without(alloc, x, name, steps)?)),
-    }
+    without_field(alloc, x, name, arena, steps)
 }

@@ -10,6 +10,7 @@ ghost use Rattle.awk_eval.specs.Ranges as ranges;
 
 use awk_layout::{Datum, Operand, Operands};
 use awk_query::{Fixed, FixedArg};
+use awk_select::bound_up;
 use awk_types::{Name, Names};
 
 /// The only operand, where it is a datum.
@@ -84,15 +85,16 @@ pub(crate) fn with_step(fixed: &Fixed) -> Option<Stepped>
     match fixed.get(2) {
         FixedArg::Place(0) => None,
         FixedArg::Place(step) => Some(Stepped {
-            lo: bound(fixed.get(0)),
-            hi: bound(fixed.get(1)),
+            lo: bound_of(fixed.get(0)),
+            hi: bound_of(fixed.get(1)),
             step: *step,
         }),
         _ => None,
     }
 }
 
-fn bound(arg: &FixedArg) -> Option<i64>
+// A bound, where it is given.
+fn bound_of(arg: &FixedArg) -> Option<i64>
     ensures { result ≡ given.bound_in arg.now }
 {
     match arg {
@@ -140,25 +142,26 @@ pub(crate) fn texts(fixed: &Fixed) -> Option<&Names>
     }
 }
 
+/// How many items lists are padded to, at which axis, and whether they are cut.
+pub(crate) fn padding(fixed: &Fixed) -> Option<(u64, i64, bool)>
+    ensures { result ≡ given.padding_in fixed.now }
+{
+    if fixed.len() != 3 {
+        return None;
+    }
+    match (fixed.get(0), fixed.get(1), fixed.get(2)) {
+        (FixedArg::Count(n), FixedArg::Place(axis), FixedArg::Truth(clip)) => {
+            Some((*n, *axis, *clip))
+        }
+        _ => None,
+    }
+}
+
 /// A bound of a range over n items, or what stands for one that is not given.
 pub(crate) fn bound_or(n: u64, other: u64, bound: &FixedArg) -> u64
     requires { other ≤ n }
     ensures bound { result ≡ ranges.bound_or n other bound.now }
     ensures within { result ≤ n }
 {
-    match bound {
-        FixedArg::Place(z) => clamped(n, *z),
-        _ => other,
-    }
-}
-
-// A negative bound counts from the end.
-fn clamped(n: u64, z: i64) -> u64
-    ensures bound { result ≡ ranges.clamped n z }
-    ensures within { result ≤ n }
-{
-    if z >= 0 {
-        return n.min(z as u64);
-    }
-    n.saturating_sub(z.unsigned_abs())
+    bound_up(n, other, bound_of(bound))
 }

@@ -1,9 +1,8 @@
 -- The arrays that a gather gives.
-use Rattle.std.proofs.Common.{◌≡◌, ℕ, ◌<◌, length, get_or, arith, refl, ap, ap₂, sym, ◌∙◌, subst}
+use Rattle.std.proofs.Common.{◌≡◌, ℕ, ◌<◌, get_or, arith, refl, ap, ap₂, sym, ◌∙◌, subst}
 use Rattle.std.specs.Prelude.{ℤ, pos, negsuc, ◌<ℤ◌, None, option_map, Err}
 use Rattle.std.proofs.lemmas.Int.{ints}
 use Rattle.std.proofs.lemmas.List.{ext_get_or, get_or-map, length-map}
-use Rattle.std.proofs.lemmas.List.FromFn.{length-map-range_with_len, get_or-map-range_with_len}
 use Rattle.awk_types.specs.DataType.{opt}
 use Rattle.awk_types.specs.Datum.{arr}
 use Rattle.awk_types.specs.Faults.{limit_fault}
@@ -19,7 +18,7 @@ use Rattle.awk_lanes.specs.Numbers.{element}
 use Rattle.awk_lanes.specs.Places.{at, place_at, size_of, option_place, option_place_at, IsIndex, IsOptionalIndex}
 use Rattle.awk_layout.specs.Layout.{Layout, optional}
 use Rattle.awk_layout.specs.Valid.{len}
-use Rattle.awk_layout.specs.Item.{item, items, at_option}
+use Rattle.awk_layout.specs.Item.{item, at_option}
 use Rattle.awk_layout.specs.Typing.{layout_type, array_type, array_items}
 use Rattle.awk_layout.specs.Array.{array_of}
 use Rattle.awk_layout.proofs.ArrayItems.{length-array_items, get_or-array_items}

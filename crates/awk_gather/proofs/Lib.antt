@@ -1,5 +1,6 @@
 pub mod LayoutParts
 pub mod MadeLanes
+pub mod MovedGroups
 pub mod PickedLanes
 pub mod FollowedIndexes
 pub mod PickedNodes
@@ -12,6 +13,7 @@ pub mod PartLimits
 pub mod UnionItems
 pub mod OpenedKinds
 pub mod OpenedArrays
+pub mod WholeLanes
 pub mod PlainNodes
 pub mod SpreadUnions
 pub mod ItemShapes

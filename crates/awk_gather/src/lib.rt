@@ -6,6 +6,7 @@ mod counted;
 mod follow;
 mod joining;
 mod lanes_at;
+mod moved;
 mod opening;
 mod order;
 mod outermost;
@@ -17,6 +18,7 @@ mod spread;
 mod tagged;
 mod taken;
 mod unions;
+mod whole;
 
 pub use arrays::{gather, gather_opt};
 pub use joining::{Joined, join_lists};

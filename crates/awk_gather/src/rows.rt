@@ -1,51 +1,16 @@
 //! Records at places: an index over the record, which moves no column.
 ghost use Rattle.std.specs.Prelude.{◌≡◌, ◌+◌, ◌≤◌, ◌<◌, ◌^◌, IfOk};
-ghost use Rattle.awk_lanes.specs.Numbers.{int_of, IsOf};
-ghost use Rattle.awk_lanes.specs.Places.{size_of, at, IsIndex};
+ghost use Rattle.awk_lanes.specs.Places.{size_of, IsIndex};
 ghost use Rattle.awk_lanes.specs.declared.kind.Kind.TheVariants as Kind;
 ghost use Rattle.awk_layout.specs.Layout.{indexed};
 ghost use Rattle.awk_layout.specs.Valid.{len};
 ghost use Rattle.awk_gather.specs.Arrays.{index_over};
-ghost use Rattle.awk_gather.specs.Lanes.{lane_of};
 
-use awk_lanes::{Arena, Kind, Lane, LaneMaker, NoMemory, Num, Steps, place_in};
+use crate::moved::narrowed;
+use awk_lanes::{Arena, Lane, NoMemory, Steps};
 use awk_layout::Node;
 use std::alloc::Global;
 use std::sync::ledger::Ledger;
-
-/// A place as a number of 32 bits.
-fn narrow<L: Ledger>(places: &Lane, n: u64, i: u64, steps: &mut Steps<L>) -> Num
-    requires few { n ≤ 2 ^ 32 }
-    requires places { IsIndex places.now n }
-    requires within { i < size_of places.now }
-    ensures number { int_of result ≡ at places.now i }
-    ensures kind { IsOf Kind.U32 result }
-    ensures cost { steps.new ≡ steps.old + 1 }
-{
-    Num::Nat(place_in(places, i, steps))
-}
-
-/// Places below n in 32 bits.
-#[tactic(auto, using(crate::proofs::MadeLanes::making))]
-fn narrowed<'a, L: Ledger>(
-    places: &Lane,
-    n: u64,
-    arena: &'a Arena,
-    steps: &mut Steps<L>,
-) -> Result<Lane<'a>, NoMemory>
-    requires few { n ≤ 2 ^ 32 }
-    requires places { IsIndex places.now n }
-    ensures lane { IfOk result (λ r. r ≡ lane_of Kind.U32 (size_of places.now) (at places.now)) }
-    ensures cost { steps.new ≤ steps.old + size_of places.now }
-{
-    let count = places.len();
-    let mut maker = LaneMaker::new(Kind::U32, count, arena)?;
-    for i in 0..count {
-        let place = narrow(places, n, i, steps);
-        maker.push(place);
-    }
-    Ok(maker.finish())
-}
 
 /// Places as an index over n items.
 fn index_of_places<'a, L: Ledger>(
@@ -62,7 +27,7 @@ fn index_of_places<'a, L: Ledger>(
     if n > 1 << 32 {
         Ok(places.copy())
     } else {
-        narrowed(places, n, arena, steps)
+        narrowed(places, arena, steps)
     }
 }
 

@@ -1,28 +1,27 @@
 -- An array cut by counts.
-use Rattle.std.specs.Prelude.{◌≡◌, ℕ, zero, suc, ◌+◌, ◌-◌, ◌<◌, ◌≤◌, ◌^◌, ◌==◌, nat_lt, refl}
+use Rattle.std.specs.Prelude.{◌≡◌, ℕ, zero, suc, ◌+◌, ◌-◌, ◌<◌, ◌≤◌, ◌^◌, ◌==◌, nat_eq, nat_lt, refl}
 use Rattle.std.specs.Prelude.{Bool, true, false, ◌||◌, not, List, [], ◌∷◌, length, map, take, drop}
-use Rattle.std.specs.Prelude.{get_or, sum_by, ℤ, pos, Option, Some, None, Result, Ok, Err}
+use Rattle.std.specs.Prelude.{get_or, sum_by, pos, Some, None, Ok, Err}
 use Rattle.std.specs.Prelude.{if◌then◌else◌}
 use Rattle.std.specs.List.{list_any, range_with_len}
-use Rattle.std.proofs.Common.{arith, ap, ap₂, sym, ◌∙◌, subst}
+use Rattle.std.proofs.Common.{arith, ap, ap₂, sym, ◌∙◌}
 use Rattle.std.proofs.lemmas.List.{length-map, take_all}
 use Rattle.std.proofs.lemmas.List.Folds.{list_any_at, list_any_more}
 use Rattle.std.proofs.lemmas.List.FromFn.{fill_by_all}
 use Rattle.std.proofs.lemmas.List.Sums.{sum_by-cons, sum_by_more, sum_by-take-le}
 use Rattle.awk_types.specs.DataType.{DataType, var}
-use Rattle.awk_types.specs.Datum.{Datum, arr}
+use Rattle.awk_types.specs.Datum.{arr}
 use Rattle.awk_types.specs.Gives.{refused_or, ◌or◌}
 use Rattle.awk_types.specs.Simple.{simple_value}
-use Rattle.awk_types.specs.Value.{Value, null, int, list, value_list, values_from}
-use Rattle.awk_types.specs.declared.fault.Fault.{Fault}
+use Rattle.awk_types.specs.Value.{Value, null, int, list, values_from}
 use Rattle.awk_types.specs.declared.fault.Fault.TheVariants.{Lengths, Size}
 use Rattle.awk_types.proofs.Trees.{values_from-list}
 use Rattle.awk_lanes.specs.Column.{Column}
 use Rattle.awk_lanes.specs.Numbers.{nat_of}
-use Rattle.awk_lanes.specs.Places.{size_of, at, place_at}
+use Rattle.awk_lanes.specs.Places.{at, place_at}
 use Rattle.awk_lanes.specs.declared.kind.Kind.TheVariants.{I64}
 use Rattle.awk_layout.specs.Layout.{Layout, offset_lists}
-use Rattle.awk_layout.specs.Item.{item, run}
+use Rattle.awk_layout.specs.Item.{item}
 use Rattle.awk_layout.specs.Typing.{layout_type, array_type, array_items, array_datum}
 use Rattle.awk_layout.specs.Valid.{len}
 use Rattle.awk_layout.proofs.ArrayItems.{length-array_items, get_or-array_items}
@@ -35,7 +34,7 @@ use Rattle.awk_axis.specs.Joined.{AreOffsets}
 use Rattle.awk_axis.proofs.ArrayLaws.{array_items-at, map-same, run_in_list}
 use Rattle.awk_lists.specs.Numbers.{AreCounts}
 use Rattle.awk_lists.specs.Unflatten.{is_negative, count_of, counted_before, do_not_add_up, cut_by}
-use Rattle.awk_lists.specs.Unflatten.{lists_by, lengths_refused, cut_items}
+use Rattle.awk_lists.specs.Unflatten.{lists_by, cut_items}
 use Rattle.awk_lists.proofs.Ends.{rising_offsets}
 use Rattle.awk_lists.proofs.JoinedItems.{run-slice}
 
@@ -72,8 +71,8 @@ pub negative_wrong : (x : Layout) (c : Column) (n : ℕ) → AreCounts x c → (
     → is_negative (int (at c i)) ≡ true → do_not_add_up n (array_items x) ≡ true
 negative_wrong x c n a i p e =
     ap (λ b. b || not (sum_by count_of (array_items x) == n))
-        (list_any_at is_negative (array_items x) i null (omega (arith, p, length-array_items x))
-            (ap is_negative (count_at x c a i p) ∙ e))
+    (list_any_at is_negative (array_items x) i null (omega (arith, p, length-array_items x))
+    (ap is_negative (count_at x c a i p) ∙ e))
 
 unequal_wrong : (n m : ℕ) → (n ≡ m → ⊥) → not (n == m) ≡ true
 unequal_wrong n m h = grind arith
@@ -84,13 +83,13 @@ equal_right n m h = grind arith
 pub over_wrong : (cs : List Value) (n : ℕ) → n < sum_by count_of cs → do_not_add_up n cs ≡ true
 over_wrong cs n p =
     ap (λ b. list_any is_negative cs || b)
-        (unequal_wrong (sum_by count_of cs) n (λ e. omega (arith, p, e)))
+    (unequal_wrong (sum_by count_of cs) n (λ e. omega (arith, p, e)))
     ∙ or_true (list_any is_negative cs)
 
 pub under_wrong : (cs : List Value) (n : ℕ) → sum_by count_of cs < n → do_not_add_up n cs ≡ true
 under_wrong cs n p =
     ap (λ b. list_any is_negative cs || b)
-        (unequal_wrong (sum_by count_of cs) n (λ e. omega (arith, p, e)))
+    (unequal_wrong (sum_by count_of cs) n (λ e. omega (arith, p, e)))
     ∙ or_true (list_any is_negative cs)
 
 pub adds_up : (cs : List Value) (n : ℕ) → list_any is_negative cs ≡ false → sum_by count_of cs ≡ n
@@ -107,6 +106,22 @@ same_number n m h = grind arith
 pub counted_whole : (cs : List Value) (n : ℕ) → do_not_add_up n cs ≡ false → sum_by count_of cs ≡ n
 counted_whole cs n h =
     same_number (sum_by count_of cs) n (or_false (list_any is_negative cs) _ h)
+
+pub all_added : (cs : List Value) (n left i : ℕ) → length cs ≤ i
+    → list_any is_negative (take i cs) ≡ false → counted_before cs i + left ≡ n
+    → not (nat_eq left 0) ≡ do_not_add_up n cs
+all_added cs n left i p h e =
+    let whole = take_all i cs p in
+    let none : list_any is_negative cs ≡ false = ap (list_any is_negative) (sym whole) ∙ h in
+    let sum : counted_before cs i ≡ sum_by count_of cs = ap (sum_by count_of) whole in
+    go left none (omega (arith, sum, e))
+  where
+    go : (k : ℕ) → list_any is_negative cs ≡ false → sum_by count_of cs + k ≡ n
+        → not (nat_eq k 0) ≡ do_not_add_up n cs
+    go zero a b = sym (adds_up cs n a (omega (arith, b)))
+    go (suc k) a b =
+        let f : not (nat_eq (suc k) 0) ≡ true = grind arith in
+        f ∙ sym (under_wrong cs n (omega (arith, b)))
 
 -- ---- the offsets
 
@@ -131,10 +146,10 @@ module _ (x counts : Layout) (c : Column) (a : AreCounts counts c) (fits : len c
   pub cut_offsets : AreOffsets o (len counts) (len x)
   cut_offsets =
       rising_offsets o (len counts) (len x) (counted_before cs) tt
-          (size-lane_of I64 (len counts + 1) (λ k. pos (counted_before cs k)))
-          fits at-counts
-          (λ i p. omega (arith, counted_next counts c a i p)) refl
-          (all_counted cs (len counts) (length-array_items counts) ∙ whole)
+      (size-lane_of I64 (len counts + 1) (λ k. pos (counted_before cs k)))
+      fits at-counts
+      (λ i p. omega (arith, counted_next counts c a i p)) refl
+      (all_counted cs (len counts) (length-array_items counts) ∙ whole)
     where
       all_counted : (vs : List Value) (n : ℕ) → length vs ≡ n
           → counted_before vs n ≡ sum_by count_of vs
@@ -144,21 +159,21 @@ module _ (x counts : Layout) (c : Column) (a : AreCounts counts c) (fits : len c
 
   cut_value : (i : ℕ) → i < len counts → array_item (offset_lists o x) i
       ≡ list (values_from (take (count_of (get_or cs i null)) (drop (counted_before cs i)
-          (array_items x))))
+      (array_items x))))
   cut_value i p =
       let first = place-counts i (omega (arith, p)) in
       let next : place_at o (i + 1) ≡ counted_before cs i + count_of (get_or cs i null) =
-          place-counts (i + 1) (omega (arith, p))
-          ∙ sum_by_more count_of cs i null (omega (arith, p, length-array_items counts)) in
+      place-counts (i + 1) (omega (arith, p))
+      ∙ sum_by_more count_of cs i null (omega (arith, p, length-array_items counts)) in
       let size : place_at o (i + 1) - place_at o i ≡ count_of (get_or cs i null) =
-          omega (arith, first, next) in
+      omega (arith, first, next) in
       let within = cut_offsets.within i p in
       run_in_list (simple_value (layout_type x)) (item x) (place_at o i)
-          (place_at o (i + 1) - place_at o i)
+      (place_at o (i + 1) - place_at o i)
       ∙ ap list (sym (values_from-list _)
-          ∙ ap values_from (run-slice x (place_at o i) (place_at o (i + 1) - place_at o i) within
-          ∙ ap (λ k. take k (drop (place_at o i) (array_items x))) size
-          ∙ ap (λ k. take (count_of (get_or cs i null)) (drop k (array_items x))) first))
+      ∙ ap values_from (run-slice x (place_at o i) (place_at o (i + 1) - place_at o i) within
+      ∙ ap (λ k. take k (drop (place_at o i) (array_items x))) size
+      ∙ ap (λ k. take (count_of (get_or cs i null)) (drop k (array_items x))) first))
 
 -- ---- lists by counts, one after another
 
@@ -166,11 +181,16 @@ length-cut : (ns : List ℕ) (vs : List Value) → length (cut_by ns vs) ≡ len
 length-cut [] vs = refl
 length-cut (n ∷ ns) vs = ap suc (length-cut ns (drop n vs))
 
+drop-none : (n : ℕ) → drop {A = Value} n [] ≡ []
+drop-none zero = refl
+drop-none (suc n) = refl
+
 drop-drop : (vs : List Value) (a b : ℕ) → drop a (drop b vs) ≡ drop (b + a) vs
-drop-drop vs a zero = refl
-drop-drop [] zero (suc b) = refl
-drop-drop [] (suc a) (suc b) = refl
-drop-drop (v ∷ vs) a (suc b) = drop-drop vs a b
+drop-drop vs a zero = let z : a ≡ 0 + a = omega arith in ap (λ k. drop k vs) z
+drop-drop [] a (suc b) = drop-none a ∙ sym (drop-none (suc b + a))
+drop-drop (v ∷ vs) a (suc b) =
+    let e : suc (b + a) ≡ suc b + a = omega arith in
+    drop-drop vs a b ∙ ap (λ k. drop k (v ∷ vs)) e
 
 cut_at : (cs vs : List Value) (k : ℕ) → k < length cs
     → get_or (cut_by (map count_of cs) vs) k null
@@ -180,16 +200,16 @@ cut_at (c ∷ cs) vs zero p = refl
 cut_at (c ∷ cs) vs (suc k) p =
     cut_at cs (drop (count_of c) vs) k (omega (arith, p))
     ∙ ap (λ ws. list (values_from (take (count_of (get_or cs k null)) ws)))
-        (drop-drop vs (counted_before cs k) (count_of c)
-            ∙ ap (λ n. drop n vs) (sym (sum_by-cons count_of c (take k cs))))
+    (drop-drop vs (counted_before cs k) (count_of c)
+    ∙ ap (λ n. drop n vs) (sym (sum_by-cons count_of c (take k cs))))
 
 cut_lists : (cs vs : List Value) → cut_by (map count_of cs) vs
     ≡ map (λ k. list (values_from (take (count_of (get_or cs k null))
-        (drop (counted_before cs k) vs)))) (range_with_len 0 (length cs))
+    (drop (counted_before cs k) vs)))) (range_with_len 0 (length cs))
 cut_lists cs vs =
     fill_by_all (λ k. list (values_from (take (count_of (get_or cs k null))
-        (drop (counted_before cs k) vs)))) (cut_by (map count_of cs) vs) (length cs) null
-        (length-cut (map count_of cs) vs ∙ length-map count_of cs) (λ k p. cut_at cs vs k p)
+    (drop (counted_before cs k) vs)))) (cut_by (map count_of cs) vs) (length cs) null
+    (length-cut (map count_of cs) vs ∙ length-map cs count_of) (λ k p. cut_at cs vs k p)
 
 pub lists_cut : (x counts : Layout) (c : Column) → AreCounts counts c → len counts < 2 ^ 63
     → do_not_add_up (len x) (array_items counts) ≡ false
@@ -201,16 +221,16 @@ lists_cut x counts c a fits h =
     let n = cut_offsets x counts c a fits whole in
     let size : len (offset_lists o x) ≡ len counts = omega (arith, n.size) in
     ap (arr (var (array_type x)))
-        (array_items-at (offset_lists o x)
-        ∙ ap (λ k. map (array_item (offset_lists o x)) (range_with_len 0 k)) size
-        ∙ map-same (array_item (offset_lists o x))
-            (λ k. list (values_from (take (count_of (get_or (array_items counts) k null))
-                (drop (counted_before (array_items counts) k) (array_items x))))) 0 (len counts)
-            (λ i p q. cut_value x counts c a fits whole i (omega (arith, q)))
-        ∙ ap (λ k. map (λ j. list (values_from (take (count_of (get_or (array_items counts) j null))
-            (drop (counted_before (array_items counts) j) (array_items x)))))
-            (range_with_len 0 k)) (sym (length-array_items counts))
-        ∙ sym (cut_lists (array_items counts) (array_items x)))
+    (array_items-at (offset_lists o x)
+    ∙ ap (λ k. map (array_item (offset_lists o x)) (range_with_len 0 k)) size
+    ∙ map-same (array_item (offset_lists o x))
+    (λ k. list (values_from (take (count_of (get_or (array_items counts) k null))
+    (drop (counted_before (array_items counts) k) (array_items x))))) 0 (len counts)
+    (λ i p q. cut_value x counts c a fits whole i (omega (arith, q)))
+    ∙ ap (λ k. map (λ j. list (values_from (take (count_of (get_or (array_items counts) j null))
+    (drop (counted_before (array_items counts) j) (array_items x)))))
+    (range_with_len 0 k)) (sym (length-array_items counts))
+    ∙ sym (cut_lists (array_items counts) (array_items x)))
 
 -- ---- what is told
 
@@ -218,14 +238,14 @@ pub told_lengths : (t : DataType) (vs cs : List Value) (n : ℕ) → length vs �
     → do_not_add_up n cs ≡ true → cut_items t vs cs ≡ Err Lengths
 told_lengths t vs cs n e h =
     ap (λ b. refused_or ((if b then Some Lengths else None) or too_many (length cs))
-        (lists_by t vs cs)) (ap (λ k. do_not_add_up k cs) e ∙ h)
+    (lists_by t vs cs)) (ap (λ k. do_not_add_up k cs) e ∙ h)
 
 pub told_size : (t : DataType) (vs cs : List Value) (n m : ℕ) → length vs ≡ n → length cs ≡ m
     → do_not_add_up n cs ≡ false → item_limit < m → cut_items t vs cs ≡ Err Size
 told_size t vs cs n m e f h p =
     let q : nat_lt item_limit (length cs) ≡ true = grind (arith, f, p) in
     ap (λ b. refused_or ((if b then Some Lengths else None) or too_many (length cs))
-        (lists_by t vs cs)) (ap (λ k. do_not_add_up k cs) e ∙ h)
+    (lists_by t vs cs)) (ap (λ k. do_not_add_up k cs) e ∙ h)
     ∙ ap (λ b. refused_or (if b then Some Size else None) (lists_by t vs cs)) q
 
 pub told_lists : (t : DataType) (vs cs : List Value) (n m : ℕ) → length vs ≡ n → length cs ≡ m
@@ -233,5 +253,5 @@ pub told_lists : (t : DataType) (vs cs : List Value) (n m : ℕ) → length vs �
 told_lists t vs cs n m e f h p =
     let q : nat_lt item_limit (length cs) ≡ false = grind (arith, f, p) in
     ap (λ b. refused_or ((if b then Some Lengths else None) or too_many (length cs))
-        (lists_by t vs cs)) (ap (λ k. do_not_add_up k cs) e ∙ h)
+    (lists_by t vs cs)) (ap (λ k. do_not_add_up k cs) e ∙ h)
     ∙ ap (λ b. refused_or (if b then Some Size else None) (lists_by t vs cs)) q

@@ -1,7 +1,7 @@
 -- Offsets by what stands before each list, and the lists of an array.
 use Rattle.std.specs.Prelude.{◌≡◌, ℕ, zero, suc, ◌+◌, ◌-◌, ◌<◌, ◌≤◌, ◌^◌, refl, List, [], ◌∷◌}
-use Rattle.std.specs.Prelude.{length, map, take, drop, get_or, filter, ℤ, pos, negsuc, ◌<ℤ◌, cond}
-use Rattle.std.specs.Prelude.{Option, Some, None, true, false}
+use Rattle.std.specs.Prelude.{length, take, drop, get_or, ℤ, pos, negsuc, ◌<ℤ◌, cond}
+use Rattle.std.specs.Prelude.{Some, None, true, false}
 use Rattle.std.specs.List.{flat_map, range_with_len}
 use Rattle.std.proofs.Common.{arith, ap, sym, ◌∙◌, subst}
 use Rattle.std.proofs.lemmas.Int.{ints}
@@ -11,26 +11,27 @@ use Rattle.std.proofs.lemmas.List.Elements.{filter-append}
 use Rattle.std.proofs.lemmas.List.Filters.{length-filter_more}
 use Rattle.awk_types.specs.DataType.{DataType, unknown, leaf, var, reg, rec, tup, opt, uni}
 use Rattle.awk_types.specs.Simple.{present, is_option}
-use Rattle.awk_types.specs.Value.{Value, null, int, truth, list, row, alt, value_list}
+use Rattle.awk_types.specs.Value.{Value, null, int, truth, list, row, alt}
 use Rattle.awk_lanes.specs.Column.{Column}
 use Rattle.awk_lanes.specs.Numbers.{nat_of}
-use Rattle.awk_lanes.specs.Places.{size_of, at, place_at, option_place, option_place_at, IsSpan}
-use Rattle.awk_lanes.specs.Places.{IsIndex, IsIndexKind, IsOptionalIndex}
+use Rattle.awk_lanes.specs.Places.{size_of, at, place_at, option_place}
+use Rattle.awk_lanes.specs.Places.{IsIndex, IsIndexKind}
 use Rattle.awk_lanes.specs.declared.kind.Kind.TheVariants.{I64}
 use Rattle.awk_layout.specs.Layout.{Layout}
 use Rattle.awk_layout.specs.Item.{run, at_option}
-use Rattle.awk_layout.specs.Typing.{layout_type, array_type, array_items}
+use Rattle.awk_layout.specs.Typing.{array_type, array_items}
 use Rattle.awk_layout.specs.Valid.{len, IsValid}
 use Rattle.awk_layout.proofs.ArrayItems.{length-array_items, get_or-array_items}
 use Rattle.awk_layout.proofs.Runs.{length-run}
 use Rattle.awk_gather.specs.Arrays.{array_item}
 use Rattle.awk_gather.specs.Columns.{joined_items, list_items, is_present}
-use Rattle.awk_gather.specs.Counted.{item_limit, first_of, present_at, present_place, span_at}
-use Rattle.awk_gather.specs.Counted.{offset_at, offsets_lane}
-use Rattle.awk_gather.specs.Lanes.{lane_of}
+use Rattle.awk_gather.specs.Counted.{item_limit, first_of, present_at, present_place}
+use Rattle.awk_gather.specs.Counted.{offset_at}
+use Rattle.awk_gather.specs.Lanes.{picked}
 use Rattle.awk_gather.proofs.FirstPlaces.{length-first_of}
 use Rattle.awk_gather.proofs.ItemShapes.{present_item}
 use Rattle.awk_gather.proofs.MadeLanes.{size-lane_of, at-lane_of}
+use Rattle.awk_gather.proofs.PickedLanes.{size-picked, at-picked}
 use Rattle.awk_axis.specs.Columns.{present_values}
 use Rattle.awk_axis.specs.Joined.{AreOffsets, JoinsLists, IsJoined}
 use Rattle.awk_axis.specs.ListFunction.{Class, list_type}
@@ -39,10 +40,9 @@ use Rattle.awk_axis.specs.declared.opening.Joined.{Joined}
 use Rattle.awk_axis.specs.declared.opening.Joined.TheVariants.{TooMany, Lists}
 use Rattle.awk_axis.proofs.ArrayLaws.{lists-inner}
 use Rattle.awk_lists.specs.Flatten.{is_list, item_type}
-use Rattle.awk_lists.specs.Listed.{items_before, present_lane, offsets_at, AreEnds, AreListed}
+use Rattle.awk_lists.specs.Listed.{items_before, present_lane, AreEnds}
 use Rattle.awk_lists.specs.Listed.{IsListed}
-use Rattle.awk_lists.proofs.JoinedItems.{joined-present, items_before-next, items_before-all}
-use Rattle.awk_lists.proofs.JoinedItems.{items_before-mono}
+use Rattle.awk_lists.proofs.JoinedItems.{joined-present, items_before-next}
 
 -- ---- offsets
 
@@ -61,10 +61,10 @@ pub rising_offsets : (o : Column) (n whole : ℕ) (f : ℕ → ℕ) → IsIndexK
     → ((i : ℕ) → i < n → f i ≤ f (i + 1)) → f 0 ≡ 0 → f n ≡ whole → AreOffsets o n whole
 rising_offsets o n whole f kind size fits here m first last =
     let most : (i : ℕ) → i ≤ n → f i ≤ whole = λ i p.
-        let e : i + (n - i) ≡ n = omega (arith, p) in
-        let a : f i ≤ f n =
-            subst (λ j. f i ≤ f j) e (mono_up f n m i (n - i) (omega (arith, p))) in
-        omega (arith, a, last) in
+    let e : i + (n - i) ≡ n = omega (arith, p) in
+    let a : f i ≤ f n =
+    subst (λ j. f i ≤ f j) e (mono_up f n m i (n - i) (omega (arith, p))) in
+    omega (arith, a, last) in
     record {
       offsets = record {
         kind = kind;
@@ -94,7 +94,7 @@ pub joined_at : (s t : Column) (y : Layout) (o : Column) (z : Layout) → JoinsL
     → i ≤ size_of s → at o i ≡ pos (place_at o i)
 joined_at s t y o z j i p =
     let e : at o i ≡ offset_at s t i = ap (λ c. at c i) j.lane
-        ∙ at-lane_of I64 (size_of s + 1) (offset_at s t) i (omega (arith, p)) in
+    ∙ at-lane_of I64 (size_of s + 1) (offset_at s t) i (omega (arith, p)) in
     e ∙ sym (ap (λ w. pos (nat_of w)) e)
 
 list_length : (h : ℕ → Value) (a n : ℕ) → length (list_items (list (run h a n))) ≡ n
@@ -110,11 +110,11 @@ ends_from class s t y x o z op j (suc i) p =
     let before = ends_from class s t y x o z op j i (omega (arith, p)) in
     let grown = j.lengths i (omega (arith, q, op.size)) in
     let here : length (list_items (get_or (array_items x) i null)) ≡ place_at t i - place_at s i =
-        ap (λ v. length (list_items v)) (get_or-array_items x i q ∙ op.items i q)
-        ∙ list_length (array_item y) (place_at s i) (place_at t i - place_at s i) in
+    ap (λ v. length (list_items v)) (get_or-array_items x i q ∙ op.items i q)
+    ∙ list_length (array_item y) (place_at s i) (place_at t i - place_at s i) in
     let next = items_before-next (array_items x) i (omega (arith, q, length-array_items x)) in
     subst (λ k. place_at o k ≡ items_before (array_items x) k) e
-        (omega (arith, before, grown, here, next))
+    (omega (arith, before, grown, here, next))
 
 present-list : (class : Class) (u : DataType) → item_type (present (list_type class u)) ≡ u
 present-list None u = refl
@@ -145,7 +145,7 @@ lists_joined class s t y x (Lists o z) op h =
           ends = λ i p.
               let q : i ≤ len x = omega (arith, p, length-array_items x) in
               joined_at s t y o z h.1 i (omega (arith, q, op.size))
-                  ∙ ap pos (ends_from class s t y x o z op h.1 i q);
+              ∙ ap pos (ends_from class s t y x o z op h.1 i q);
         };
         column = h.1.column ∙ sym items;
       },
@@ -218,7 +218,7 @@ present_one : (y : Layout) (z : ℤ) → IsValid y → is_option (array_type y) 
 present_one y (negsuc k) v n p = refl
 present_one y (pos k) v n p =
     let e : is_present (array_item y k) ≡ true =
-        not_null (array_item y k) (present_item y k v (omega (arith, ints, p)) n) in
+    not_null (array_item y k) (present_item y k v (omega (arith, ints, p)) n) in
     rw e refl
 
 pub count_present : (j : Column) (y x : Layout) → OpensOption j y x
@@ -230,21 +230,21 @@ count_present j y x op n (suc i) p =
     let e : i + 1 ≡ suc i = omega arith in
     let before = count_present j y x op n i (omega (arith, p)) in
     let here : length (present_at j i) ≡ cond (is_present (get_or (array_items x) i null)) 1 0 =
-        present_one y (at j i) op.valid n (op.index.below i (omega (arith, q, op.size)))
-        ∙ ap (λ v. cond (is_present v) 1 0) (sym (get_or-array_items x i q ∙ op.items i q)) in
+    present_one y (at j i) op.valid n (op.index.below i (omega (arith, q, op.size)))
+    ∙ ap (λ v. cond (is_present v) 1 0) (sym (get_or-array_items x i q ∙ op.items i q)) in
     let a = length-first_of (present_at j) i in
     let b = length-filter_more is_present (array_items x) i null
-        (omega (arith, q, length-array_items x)) in
+    (omega (arith, q, length-array_items x)) in
     subst (λ k. length (first_of (present_at j) k)
-        ≡ length (present_values (take k (array_items x)))) e (omega (arith, before, here, a, b))
+    ≡ length (present_values (take k (array_items x)))) e (omega (arith, before, here, a, b))
 
 take_present : (vs : List Value) (i : ℕ)
     → take (length (present_values (take i vs))) (present_values vs) ≡ present_values (take i vs)
 take_present vs i =
     ap (λ ws. take (length (present_values (take i vs))) (present_values ws))
-        (sym (take-append-drop i vs))
+    (sym (take-append-drop i vs))
     ∙ ap (take (length (present_values (take i vs))))
-        (filter-append is_present (take i vs) (drop i vs))
+    (filter-append is_present (take i vs) (drop i vs))
     ∙ take-append_seam (present_values (take i vs)) (present_values (drop i vs))
 
 -- the lists before a place are the present ones before it
@@ -266,28 +266,28 @@ filter_few : (vs : List Value) (i : ℕ)
     → length (present_values (take i vs)) ≤ length (present_values vs)
 filter_few vs i =
     let e : length (present_values vs)
-        ≡ length (present_values (take i vs)) + length (present_values (drop i vs)) =
-        ap (λ ws. length (present_values ws)) (sym (take-append-drop i vs))
-        ∙ ap length (filter-append is_present (take i vs) (drop i vs))
-        ∙ length-append (present_values (take i vs)) (present_values (drop i vs)) in
+    ≡ length (present_values (take i vs)) + length (present_values (drop i vs)) =
+    ap (λ ws. length (present_values ws)) (sym (take-append-drop i vs))
+    ∙ ap length (filter-append is_present (take i vs) (drop i vs))
+    ∙ length-append (present_values (take i vs)) (present_values (drop i vs)) in
     omega (arith, e)
 
 option_end : (j : Column) (y x : Layout) (o : Column) → OpensOption j y x
     → is_list (array_type y) ≡ true → AreEnds o (array_items y) → (i : ℕ) → i ≤ len x
-    → at (offsets_at o (present_lane j)) i ≡ pos (items_before (array_items x) i)
+    → at (picked o (present_lane j)) i ≡ pos (items_before (array_items x) i)
 option_end j y x o op l h i p =
     let c = count_present j y x op (list_not_option (array_type y) l) i p in
     let q : i < size_of (present_lane j) = omega (arith, p, op.size, size-counts j) in
     let here : place_at (present_lane j) i ≡ length (present_values (take i (array_items x))) =
-        ap nat_of (at-counts j i (omega (arith, p, op.size))) ∙ c in
+    ap nat_of (at-counts j i (omega (arith, p, op.size))) ∙ c in
     let few = filter_few (array_items x) i in
     let s : length (array_items y) ≡ length (present_values (array_items x)) =
-        ap length op.column in
-    at-lane_of I64 (size_of (present_lane j)) (λ k. at o (place_at (present_lane j) k)) i q
+    ap length op.column in
+    at-picked o (present_lane j) i q
     ∙ ap (at o) here
     ∙ h.ends (length (present_values (take i (array_items x)))) (omega (arith, few, s))
     ∙ ap (λ vs. pos (items_before vs (length (present_values (take i (array_items x))))))
-        op.column
+    op.column
     ∙ ap pos (before_present (array_items x) i)
 
 pub option_places : (j : Column) (y x : Layout) (o : Column) → OpensOption j y x
@@ -301,25 +301,24 @@ option_places j y x o op l h = record {
       let c = count_present j y x op (list_not_option (array_type y) l) i q in
       let few = filter_few (array_items x) i in
       let s : length (array_items y) ≡ length (present_values (array_items x)) =
-          ap length op.column in
+      ap length op.column in
       (rw e (omega (arith, ints)), rw e (omega (arith, c, few, s, h.size)));
 }
 
 pub option_listed : (j : Column) (y x : Layout) (o : Column) (z : Layout) → OpensOption j y x
     → is_list (array_type y) ≡ true → IsListed y (Lists o z)
-    → IsListed x (Lists (offsets_at o (present_lane j)) z)
+    → IsListed x (Lists (picked o (present_lane j)) z)
 option_listed j y x o z op l h =
     let all : joined_items (array_items y) ≡ joined_items (array_items x) =
-        ap joined_items op.column ∙ joined-present (array_items x) in (
+    ap joined_items op.column ∙ joined-present (array_items x) in (
       subst (λ n. n ≤ item_limit) (ap length all) h.0,
       record {
         typ = h.1.typ ∙ ap item_type (list_present (array_type y) l
             ∙ sym (ap present op.typ));
         valid = h.1.valid;
         ends = record {
-          kind = tt;
-          size = size-lane_of I64 (size_of (present_lane j)) (λ i. at o (place_at (present_lane j) i))
-              ∙ size-counts j ∙ ap (λ n. n + 1) (op.size ∙ sym (length-array_items x));
+          kind = h.1.ends.kind;
+          size = size-picked o (present_lane j) ∙ size-counts j ∙ ap (λ n. n + 1) (op.size ∙ sym (length-array_items x));
           ends = λ i p. option_end j y x o op l h.1.ends i
               (omega (arith, p, length-array_items x));
         };
@@ -331,4 +330,4 @@ pub option_refused : (j : Column) (y x : Layout) → OpensOption j y x → IsLis
     → IsListed x TooMany
 option_refused j y x op h =
     subst (λ n. item_limit < n)
-        (ap length (ap joined_items op.column ∙ joined-present (array_items x))) h
+    (ap length (ap joined_items op.column ∙ joined-present (array_items x))) h

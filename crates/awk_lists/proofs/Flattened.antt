@@ -1,41 +1,41 @@
 -- Lists of a column joined: what is made of them, and when they are too many.
-use Rattle.std.specs.Prelude.{◌≡◌, ℕ, zero, suc, ◌+◌, ◌-◌, ◌<◌, ◌≤◌, ◌^◌, nat_lt, true, false, refl}
-use Rattle.std.specs.Prelude.{List, length, map, take, drop, sum, ℤ, pos, ◌≤ℤ◌, Bool}
-use Rattle.std.specs.Prelude.{Option, Some, None, if◌then◌else◌}
+use Rattle.std.specs.Prelude.{◌≡◌, ℕ, zero, suc, ◌+◌, ◌-◌, ◌<◌, ◌≤◌, true, false, refl}
+use Rattle.std.specs.Prelude.{List, length, map, take, drop, sum, ℤ, pos, negsuc, ◌≤ℤ◌, ◌-ℤ◌, Bool}
+use Rattle.std.specs.Prelude.{Some, None, if◌then◌else◌}
 use Rattle.std.specs.List.{AllByRecursion, range_with_len}
 use Rattle.std.proofs.Common.{arith, ap, sym, ◌∙◌, subst}
 use Rattle.std.proofs.lemmas.Int.{ints}
 use Rattle.std.proofs.lemmas.List.{take-map, drop-map}
 use Rattle.awk_types.specs.DataType.{DataType}
+use Rattle.awk_types.specs.Datum.{Datum}
 use Rattle.awk_types.specs.Has.{Has}
 use Rattle.awk_types.specs.Simple.{present, simple, simple_value}
 use Rattle.awk_types.specs.Value.{Value, value_list}
 use Rattle.awk_types.proofs.SimpleLaws.{simple_twice, simple_is_simple, value_stays, each_stays}
 use Rattle.awk_lanes.specs.Column.{Column}
 use Rattle.awk_lanes.specs.Numbers.{nat_of}
-use Rattle.awk_lanes.specs.Places.{size_of, at, place_at, IsIndex, IsIndexKind}
-use Rattle.awk_lanes.specs.declared.kind.Kind.TheVariants.{I64}
+use Rattle.awk_lanes.specs.Places.{size_of, at, place_at, IsIndex}
 use Rattle.awk_layout.specs.Layout.{Layout}
 use Rattle.awk_layout.specs.Item.{run}
 use Rattle.awk_layout.specs.Typing.{layout_type, array_type, array_items}
-use Rattle.awk_layout.specs.Valid.{len, IsValid}
+use Rattle.awk_layout.specs.Valid.{len}
 use Rattle.awk_layout.proofs.ArrayItems.{length-array_items}
 use Rattle.awk_gather.specs.Arrays.{array_item}
 use Rattle.awk_gather.specs.Columns.{joined_items}
 use Rattle.awk_gather.specs.Counted.{item_limit}
-use Rattle.awk_gather.proofs.MadeLanes.{size-lane_of, at-lane_of}
+use Rattle.awk_gather.specs.Lanes.{picked}
+use Rattle.awk_gather.proofs.PickedLanes.{size-picked, at-picked}
 use Rattle.awk_axis.specs.Joined.{AreOffsets, JoinsLists}
+use Rattle.awk_axis.specs.Lifting.{lift}
 use Rattle.awk_axis.specs.ListFunction.{Class}
-use Rattle.awk_axis.specs.Mapped.{AreGiven, IsMade}
+use Rattle.awk_axis.specs.Mapped.{AreGiven}
 use Rattle.awk_axis.specs.Opened.{AreLists, items_at, all_items_at}
 use Rattle.awk_axis.specs.Spoils.{too_many}
-use Rattle.awk_axis.specs.declared.causes.Refusal.{Refusal}
 use Rattle.awk_axis.specs.declared.causes.Refusal.TheVariants as refused
 use Rattle.awk_axis.specs.declared.causes.Spoil.TheVariants.{Size}
-use Rattle.awk_axis.specs.declared.function.Made.TheVariants as made
-use Rattle.awk_axis.specs.declared.opening.Joined.TheVariants.{TooMany, Lists}
-use Rattle.awk_lists.specs.Flatten.{is_list, item_type, flatten_function}
-use Rattle.awk_lists.specs.Listed.{items_before, offsets_at, AreEnds, AreListed, IsListed}
+use Rattle.awk_axis.specs.declared.opening.Joined.TheVariants.{TooMany}
+use Rattle.awk_lists.specs.Flatten.{is_list, item_type, flatten_function, flatten_of}
+use Rattle.awk_lists.specs.Listed.{items_before, AreListed, IsListed}
 use Rattle.awk_lists.proofs.Ends.{rising_offsets, joined_at}
 use Rattle.awk_lists.proofs.JoinedItems.{items_before-add, items_before-mono, items_before-all}
 use Rattle.awk_lists.proofs.JoinedItems.{slice-joined, run-slice, count-joined}
@@ -64,7 +64,7 @@ module _ (s e : Column) (y : Layout) (rows : Column) (lists : Layout) (o : Colum
       let grown = j.lengths i (omega (arith, p)) in
       let e : i + 1 ≡ suc i = omega arith in
       subst (λ k. place_at rows k ≤ length vs) e
-          (omega (arith, within, grown, length-array_items lists))
+      (omega (arith, within, grown, length-array_items lists))
 
   pub rows_index : IsIndex rows (size_of o)
   rows_index = record {
@@ -76,54 +76,53 @@ module _ (s e : Column) (y : Layout) (rows : Column) (lists : Layout) (o : Colum
   }
 
   at-ends : (i : ℕ) → i ≤ size_of s
-      → at (offsets_at o rows) i ≡ pos (items_before vs (place_at rows i))
+      → at (picked o rows) i ≡ pos (items_before vs (place_at rows i))
   at-ends i p =
-      at-lane_of I64 (size_of rows) (λ k. at o (place_at rows k)) i
-          (omega (arith, p, j.offsets.size))
+      at-picked o rows i (omega (arith, p, j.offsets.size))
       ∙ h.ends.ends (place_at rows i) (row_below i p)
 
   place-ends : (i : ℕ) → i ≤ size_of s
-      → place_at (offsets_at o rows) i ≡ items_before vs (place_at rows i)
+      → place_at (picked o rows) i ≡ items_before vs (place_at rows i)
   place-ends i p = ap nat_of (at-ends i p)
 
   whole : length (array_items z) ≡ length (joined_items vs)
   whole = ap length h.column
 
-  ends_offsets : AreOffsets (offsets_at o rows) (size_of s) (len z)
+  ends_offsets : AreOffsets (picked o rows) (size_of s) (len z)
   ends_offsets =
-      rising_offsets (offsets_at o rows) (size_of s) (len z)
-          (λ i. items_before vs (place_at rows i)) tt
-          (size-lane_of I64 (size_of rows) (λ k. at o (place_at rows k)) ∙ j.offsets.size)
-          a.fits at-ends
-          (λ i p. items_before-mono vs (place_at rows i) (place_at rows (i + 1))
-              (omega (arith, j.lengths i p)))
-          (ap (items_before vs) j.offsets.first)
-          (items_before-all vs (place_at rows (size_of s))
-              (omega (arith, j.offsets.last, length-array_items lists))
-              ∙ sym whole ∙ length-array_items z)
+      rising_offsets (picked o rows) (size_of s) (len z)
+      (λ i. items_before vs (place_at rows i)) h.ends.kind
+      (size-picked o rows ∙ j.offsets.size)
+      a.fits at-ends
+      (λ i p. items_before-mono vs (place_at rows i) (place_at rows (i + 1))
+      (omega (arith, j.lengths i p)))
+      (ap (items_before vs) j.offsets.first)
+      (items_before-all vs (place_at rows (size_of s))
+      (omega (arith, j.offsets.last, length-array_items lists))
+      ∙ sym whole ∙ length-array_items z)
 
   -- ---- the lists
 
   joined_list : (i : ℕ) → i < size_of s
-      → value_list (run (array_item z) (place_at (offsets_at o rows) i)
-          (place_at (offsets_at o rows) (i + 1) - place_at (offsets_at o rows) i))
+      → value_list (run (array_item z) (place_at (picked o rows) i)
+      (place_at (picked o rows) (i + 1) - place_at (picked o rows) i))
       ≡ joined_items (items_at s e y i)
   joined_list i p =
       let start : ℕ = place_at rows i in
       let n : ℕ = place_at e i - place_at s i in
       let stop : place_at rows (i + 1) ≡ start + n = j.lengths i p in
       let c = place-ends i (omega (arith, p)) in
-      let d : place_at (offsets_at o rows) (i + 1) ≡ items_before vs (start + n) =
-          place-ends (i + 1) (omega (arith, p)) ∙ ap (items_before vs) stop in
+      let d : place_at (picked o rows) (i + 1) ≡ items_before vs (start + n) =
+      place-ends (i + 1) (omega (arith, p)) ∙ ap (items_before vs) stop in
       let more = items_before-add vs start n in
-      let size : place_at (offsets_at o rows) (i + 1) - place_at (offsets_at o rows) i
-          ≡ items_before (drop start vs) n = omega (arith, c, d, more) in
+      let size : place_at (picked o rows) (i + 1) - place_at (picked o rows) i
+      ≡ items_before (drop start vs) n = omega (arith, c, d, more) in
       let within = ends_offsets.within i p in
       let same : place_at rows (i + 1) - place_at rows i ≡ n = omega (arith, stop) in
       let inside = j.offsets.within i p in
-      run-slice z (place_at (offsets_at o rows) i)
-          (place_at (offsets_at o rows) (i + 1) - place_at (offsets_at o rows) i) within
-      ∙ ap (λ k. take k (drop (place_at (offsets_at o rows) i) (array_items z))) size
+      run-slice z (place_at (picked o rows) i)
+      (place_at (picked o rows) (i + 1) - place_at (picked o rows) i) within
+      ∙ ap (λ k. take k (drop (place_at (picked o rows) i) (array_items z))) size
       ∙ ap (λ k. take (items_before (drop start vs) n) (drop k (array_items z))) c
       ∙ ap (λ ws. take (items_before (drop start vs) n) (drop (items_before vs start) ws)) h.column
       ∙ slice-joined vs start n
@@ -144,16 +143,16 @@ module _ (s e : Column) (y : Layout) (rows : Column) (lists : Layout) (o : Colum
   stay has =
       ap (λ u. map (simple_value u) (array_items z)) (sym made_type)
       ∙ each_stays (array_type z) (simple_value (array_type z))
-          (λ v k. value_stays (array_type z) v (simple_is_simple (layout_type z)) k)
-          (array_items z) has
+      (λ v k. value_stays (array_type z) v (simple_is_simple (layout_type z)) k)
+      (array_items z) has
 
   part_stays : AllByRecursion (Has (array_type z)) (array_items z) → (i : ℕ) → i < size_of s
       → map (simple_value t) (joined_items (items_at s e y i)) ≡ joined_items (items_at s e y i)
   part_stays has i p =
-      let first : ℕ = place_at (offsets_at o rows) i in
-      let n : ℕ = place_at (offsets_at o rows) (i + 1) - first in
+      let first : ℕ = place_at (picked o rows) i in
+      let n : ℕ = place_at (picked o rows) (i + 1) - first in
       let part : take n (drop first (array_items z)) ≡ joined_items (items_at s e y i) =
-          sym (run-slice z first n (ends_offsets.within i p)) ∙ joined_list i p in
+      sym (run-slice z first n (ends_offsets.within i p)) ∙ joined_list i p in
       ap (map (simple_value t)) (sym part)
       ∙ sym (take-map (simple_value t) n (drop first (array_items z)))
       ∙ ap (take n) (sym (drop-map (simple_value t) first (array_items z)))
@@ -161,7 +160,7 @@ module _ (s e : Column) (y : Layout) (rows : Column) (lists : Layout) (o : Colum
       ∙ part
 
   pub are_given : AllByRecursion (Has (array_type z)) (array_items z)
-      → AreGiven None t (λ ws. joined_items ws) s e y (offsets_at o rows) z
+      → AreGiven None t (λ ws. joined_items ws) s e y (picked o rows) z
   are_given has = record {
     valid = h.valid;
     offsets = ends_offsets;
@@ -185,11 +184,25 @@ module _ (s e : Column) (y : Layout) (rows : Column) (lists : Layout)
   too_many_joined h =
       ap too_many counted_all
       ∙ ap (λ b. if b then Some Size else None)
-          (over_limit (length (joined_items (array_items lists))) h)
+      (over_limit (length (joined_items (array_items lists))) h)
 
   pub few_joined : length (joined_items (array_items lists)) ≤ item_limit
       → flatten_function.spoil (array_type y) (all_items_at s e y) ≡ None
   few_joined h =
       ap too_many counted_all
       ∙ ap (λ b. if b then Some Size else None)
-          (within_limit (length (joined_items (array_items lists))) h)
+      (within_limit (length (joined_items (array_items lists))) h)
+
+-- ---- the axis
+
+pub axis_previous : (z : ℤ) → pos 1 ≤ℤ z → z -ℤ pos 1 ≡ pos (nat_of z - 1)
+axis_previous (pos zero) p = absurd (omega (arith, ints, p))
+axis_previous (pos (suc k)) p = omega (arith, ints)
+axis_previous (negsuc k) p = absurd (omega (arith, ints, p))
+
+pub flatten_at : (axis : ℤ) (d : Datum) → pos 1 ≤ℤ axis
+    → lift flatten_function (pos (nat_of axis - 1)) d ≡ flatten_of axis d
+flatten_at (pos zero) d p = absurd (omega (arith, ints, p))
+flatten_at (pos (suc k)) d p =
+    let e : suc k - 1 ≡ k = omega arith in ap (λ n. lift flatten_function (pos n) d) e
+flatten_at (negsuc k) d p = absurd (omega (arith, ints, p))

@@ -1,6 +1,6 @@
 -- The items of lists one after another: parts of them, and how many there are.
 use Rattle.std.specs.Prelude.{◌≡◌, ℕ, zero, suc, ◌+◌, ◌-◌, ◌<◌, ◌≤◌, refl, List, [], ◌∷◌, ◌++◌}
-use Rattle.std.specs.Prelude.{length, map, take, drop, get_or, sum, sum_by, filter}
+use Rattle.std.specs.Prelude.{length, map, take, drop, get_or, sum}
 use Rattle.std.specs.List.{flat_map, range_with_len}
 use Rattle.std.proofs.Common.{arith, ap, sym, ◌∙◌, subst, add-one}
 use Rattle.std.proofs.Math.Seq.{drop-append_seam, take-append_seam}
@@ -52,10 +52,16 @@ take-joined vs n =
     ap (take (items_before vs n)) (joined-split vs n)
     ∙ take-append_seam (joined_items (take n vs)) (joined_items (drop n vs))
 
+take-none : (n : ℕ) → take {A = Value} n [] ≡ []
+take-none zero = refl
+take-none (suc n) = refl
+
 take-take : (vs : List Value) (a n : ℕ) → take a (take (a + n) vs) ≡ take a vs
 take-take vs zero n = refl
-take-take [] (suc a) n = refl
-take-take (v ∷ vs) (suc a) n = ap (λ ws. v ∷ ws) (take-take vs a n)
+take-take [] (suc a) n = ap (take (suc a)) (take-none (suc a + n))
+take-take (v ∷ vs) (suc a) n =
+    let e : suc a + n ≡ suc (a + n) = omega arith in
+    ap (λ k. take (suc a) (take k (v ∷ vs))) e ∙ ap (λ ws. v ∷ ws) (take-take vs a n)
 
 -- lists counted in two parts
 pub items_before-add : (vs : List Value) (a n : ℕ)
@@ -64,14 +70,14 @@ items_before-add vs a n =
     ap length (joined-split (take (a + n) vs) a)
     ∙ length-append (joined_items (take a (take (a + n) vs))) (joined_items (drop a (take (a + n) vs)))
     ∙ ap (λ ws. length (joined_items ws) + length (joined_items (drop a (take (a + n) vs))))
-        (take-take vs a n)
+    (take-take vs a n)
     ∙ ap (λ ws. items_before vs a + length (joined_items ws)) (drop-take a n vs)
 
 pub items_before-mono : (vs : List Value) (a b : ℕ) → a ≤ b → items_before vs a ≤ items_before vs b
 items_before-mono vs a b p =
     let e : a + (b - a) ≡ b = omega (arith, p) in
     subst (λ k. items_before vs a ≤ items_before vs k) e
-        (omega (arith, items_before-add vs a (b - a)))
+    (omega (arith, items_before-add vs a (b - a)))
 
 pub items_before-all : (vs : List Value) (n : ℕ) → length vs ≤ n
     → items_before vs n ≡ length (joined_items vs)
@@ -103,21 +109,27 @@ slice-joined vs a n =
 drop-range : (f : ℕ → Value) (b a m : ℕ)
     → drop a (map f (range_with_len b (a + m))) ≡ map f (range_with_len (b + a) m)
 drop-range f b zero m =
-    let e : b ≡ b + 0 = omega arith in ap (λ k. map f (range_with_len k m)) e
+    let z : 0 + m ≡ m = omega arith in
+    let e : b ≡ b + 0 = omega arith in
+    ap (λ k. map f (range_with_len b k)) z ∙ ap (λ k. map f (range_with_len k m)) e
 drop-range f b (suc a) m =
+    let z : suc a + m ≡ suc (a + m) = omega arith in
     let e : (b + 1) + a ≡ b + suc a = omega arith in
-    drop-range f (b + 1) a m ∙ ap (λ k. map f (range_with_len k m)) e
+    ap (λ k. drop (suc a) (map f (range_with_len b k))) z
+    ∙ drop-range f (b + 1) a m ∙ ap (λ k. map f (range_with_len k m)) e
 
 pub run-slice : (x : Layout) (a n : ℕ) → a + n ≤ len x
     → value_list (run (array_item x) a n) ≡ take n (drop a (array_items x))
 run-slice x a n p =
     let m : ℕ = len x - a in
     let e : len x ≡ a + m = omega (arith, p) in
+    let z : 0 + a ≡ a = omega arith in
     value_list-run (array_item x) a n
     ∙ sym (ap (λ vs. take n (drop a vs)) (array_items-at x)
-        ∙ ap (λ k. take n (drop a (map (array_item x) (range_with_len 0 k)))) e
-        ∙ ap (take n) (drop-range (array_item x) 0 a m)
-        ∙ take-map-range_with_len (array_item x) a m n (omega (arith, p)))
+    ∙ ap (λ k. take n (drop a (map (array_item x) (range_with_len 0 k)))) e
+    ∙ ap (take n) (drop-range (array_item x) 0 a m
+    ∙ ap (λ k. map (array_item x) (range_with_len k m)) z)
+    ∙ take-map-range_with_len (array_item x) a m n (omega (arith, p)))
 
 -- ---- how many there are
 

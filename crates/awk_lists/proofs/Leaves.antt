@@ -1,10 +1,10 @@
 -- The numbers of an array of leaves, as a lane.
-use Rattle.std.specs.Prelude.{◌≡◌, ℕ, ◌<◌, ◌≤◌, refl, true, false, ℤ, List, [], pos, Option, Some, None}
-use Rattle.std.proofs.Common.{arith, ap, sym, ◌∙◌, subst}
-use Rattle.awk_types.specs.DataType.{DataType, unknown, leaf, var, reg, rec, tup, opt, uni, row_type}
-use Rattle.awk_types.specs.Value.{Value, int}
+use Rattle.std.specs.Prelude.{◌≡◌, refl, true, false, ℤ, [], Some, None}
+use Rattle.std.proofs.Common.{arith, ap, sym, ◌∙◌}
+use Rattle.awk_types.specs.DataType.{DataType, unknown, leaf, var, reg, rec, tup, opt, uni}
+use Rattle.awk_types.specs.Value.{int}
 use Rattle.awk_lanes.specs.Column.{Column}
-use Rattle.awk_lanes.specs.Places.{size_of, at}
+use Rattle.awk_lanes.specs.Places.{at}
 use Rattle.awk_lanes.specs.declared.kind.Kind.{Kind}
 use Rattle.awk_lanes.specs.declared.kind.Kind.TheVariants as kinds
 use Rattle.awk_layout.specs.Kinds.{primitive_of}
@@ -12,7 +12,6 @@ use Rattle.awk_layout.specs.Item.{leaf_value}
 use Rattle.awk_layout.specs.Layout.{Layout}
 use Rattle.awk_layout.specs.Typing.{array_type}
 use Rattle.awk_layout.specs.Valid.{len}
-use Rattle.awk_gather.specs.Arrays.{array_item}
 use Rattle.awk_gather.specs.Opened.{IsOpened, IsKindOf, IsListOf}
 use Rattle.awk_gather.specs.declared.opening.Opened.{Opened}
 use Rattle.awk_gather.specs.declared.opening.Opened.TheVariants as opened

@@ -4,4 +4,8 @@ pub mod Singles
 pub mod JoinedItems
 pub mod Ends
 pub mod Flattened
+pub mod Leaves
+pub mod Cuts
+pub mod RunLaws
+pub mod RunLists
 mod Worked

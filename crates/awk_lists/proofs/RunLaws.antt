@@ -1,12 +1,14 @@
 -- Runs of equal neighbours: how they grow, and those of neighbouring lists.
-use Rattle.std.specs.Prelude.{◌≡◌, ℕ, zero, suc, ◌+◌, ◌-◌, ◌<◌, ◌≤◌, ◌^◌, refl, List, [], ◌∷◌, ◌++◌}
-use Rattle.std.specs.Prelude.{length, map, Bool, true, false, ℤ, pos, negsuc, if◌then◌else◌}
+use Rattle.std.specs.Prelude.{◌≡◌, ℕ, zero, suc, ◌+◌, ◌-◌, ◌<◌, ◌≤◌, refl, List, [], ◌∷◌, ◌++◌}
+use Rattle.std.specs.Prelude.{length, map, Bool, true, false, ℤ, pos, if◌then◌else◌}
 use Rattle.std.specs.Ordering.{int_eq}
-use Rattle.std.proofs.Common.{arith, ap, ap₂, sym, ◌∙◌, subst}
-use Rattle.awk_types.specs.Value.{Value, int, truth, value_list}
+use Rattle.std.proofs.Common.{arith, ap, ap₂, sym, ◌∙◌}
+use Rattle.std.proofs.lemmas.List.{length-append, length-map}
+use Rattle.awk_axis.proofs.ListLaws.{append_one}
+use Rattle.awk_types.specs.Value.{Value, value_list}
 use Rattle.awk_lanes.specs.Column.{Column}
-use Rattle.awk_lanes.specs.Numbers.{int_of, is_nonzero, element, IsOf}
-use Rattle.awk_lanes.specs.Places.{size_of, at}
+use Rattle.awk_lanes.specs.Numbers.{is_nonzero, element, IsOf}
+use Rattle.awk_lanes.specs.Places.{at}
 use Rattle.awk_lanes.specs.declared.kind.Kind.{Kind}
 use Rattle.awk_lanes.specs.declared.kind.Kind.TheVariants as kinds
 use Rattle.awk_lanes.specs.declared.kind.Num.{Num}
@@ -24,7 +26,7 @@ longer_by k (n ∷ ns) = (k + n) ∷ ns
 
 pub longer_by-none : (ns : List ℕ) → longer_by 0 ns ≡ ns
 longer_by-none [] = refl
-longer_by-none (n ∷ ns) = refl
+longer_by-none (n ∷ ns) = let z : 0 + n ≡ n = omega arith in ap (λ m. m ∷ ns) z
 
 pub longer_by-next : (k : ℕ) (ns : List ℕ) → longer_by k (longer ns) ≡ longer_by (k + 1) ns
 longer_by-next k [] = refl
@@ -98,31 +100,31 @@ runs_pair v w vs = refl
 runs_step : (c : Column) (a stop : ℕ) → a + 1 < stop
     → runs_between c a stop
     ≡ (if int_eq (at c a) (at c (a + 1)) then longer (runs_between c (a + 1) stop)
-        else 1 ∷ runs_between c (a + 1) stop)
+    else 1 ∷ runs_between c (a + 1) stop)
 runs_step c a stop p =
     let rest : List Value = value_list (run (value_at c) (a + 1 + 1) (stop - (a + 1) - 1)) in
     let two : values_between c (a + 1) stop ≡ value_at c (a + 1) ∷ rest =
-        values_first c (a + 1) stop p in
+    values_first c (a + 1) stop p in
     ap runs (values_two c a stop p ∙ ap (λ vs. value_at c a ∷ vs) two)
     ∙ runs_pair (value_at c a) (value_at c (a + 1)) rest
     ∙ ap (λ vs. if is_same (value_at c a) (value_at c (a + 1)) then longer (runs vs)
-        else 1 ∷ runs vs) (sym two)
+    else 1 ∷ runs vs) (sym two)
     ∙ ap (λ b. if b then longer (runs_between c (a + 1) stop)
-        else 1 ∷ runs_between c (a + 1) stop) (same_value c.kind _ _)
+    else 1 ∷ runs_between c (a + 1) stop) (same_value c.kind _ _)
 
 pub runs_same : (c : Column) (a stop : ℕ) → a + 1 < stop → int_eq (at c a) (at c (a + 1)) ≡ true
     → runs_between c a stop ≡ longer (runs_between c (a + 1) stop)
 runs_same c a stop p e =
     runs_step c a stop p
     ∙ ap (λ b. if b then longer (runs_between c (a + 1) stop)
-        else 1 ∷ runs_between c (a + 1) stop) e
+    else 1 ∷ runs_between c (a + 1) stop) e
 
 pub runs_other : (c : Column) (a stop : ℕ) → a + 1 < stop → int_eq (at c a) (at c (a + 1)) ≡ false
     → runs_between c a stop ≡ 1 ∷ runs_between c (a + 1) stop
 runs_other c a stop p e =
     runs_step c a stop p
     ∙ ap (λ b. if b then longer (runs_between c (a + 1) stop)
-        else 1 ∷ runs_between c (a + 1) stop) e
+    else 1 ∷ runs_between c (a + 1) stop) e
 
 pub runs_one : (c : Column) (a stop : ℕ) → a + 1 ≡ stop → runs_between c a stop ≡ 1 ∷ []
 runs_one c a stop e = ap runs (values_one c a stop e)
@@ -142,7 +144,7 @@ run_begun c start stop =
     let k : start + 1 - 1 - start ≡ 0 = omega arith in
     let a : start + 1 - 1 ≡ start = omega arith in
     sym (ap₂ (λ m b. longer_by m (runs_between c b stop)) k a
-        ∙ longer_by-none (runs_between c start stop))
+    ∙ longer_by-none (runs_between c start stop))
 
 pub run_longer : (c : Column) (start stop i : ℕ) → start < i → i < stop
     → int_eq (at c (i - 1)) (at c i) ≡ true → IsRunSoFar c start stop i
@@ -152,8 +154,8 @@ run_longer c start stop i p q e h =
     let k : i - 1 - start + 1 ≡ i + 1 - 1 - start = omega (arith, p) in
     let here : i ≡ i + 1 - 1 = omega arith in
     h ∙ ap (longer_by (i - 1 - start))
-        (runs_same c (i - 1) stop (omega (arith, p, q))
-            (ap (λ j. int_eq (at c (i - 1)) (at c j)) one ∙ e))
+    (runs_same c (i - 1) stop (omega (arith, p, q))
+    (ap (λ j. int_eq (at c (i - 1)) (at c j)) one ∙ e))
     ∙ longer_by-next (i - 1 - start) (runs_between c (i - 1 + 1) stop)
     ∙ ap₂ (λ m b. longer_by m (runs_between c b stop)) k (one ∙ here)
 
@@ -164,8 +166,8 @@ run_ends c start stop i p q e h =
     let one : i - 1 + 1 ≡ i = omega (arith, p) in
     let k : i - 1 - start + 1 ≡ i - start = omega (arith, p) in
     h ∙ ap (longer_by (i - 1 - start))
-        (runs_other c (i - 1) stop (omega (arith, p, q))
-            (ap (λ j. int_eq (at c (i - 1)) (at c j)) one ∙ e))
+    (runs_other c (i - 1) stop (omega (arith, p, q))
+    (ap (λ j. int_eq (at c (i - 1)) (at c j)) one ∙ e))
     ∙ ap₂ (λ m b. m ∷ runs_between c b stop) k one
 
 pub run_whole : (c : Column) (start stop : ℕ) → start < stop → IsRunSoFar c start stop stop
@@ -201,9 +203,82 @@ pub runs_between-few : (c : Column) (start stop : ℕ)
 runs_between-few c start stop =
     omega (arith, runs_few (values_between c start stop), length_values c start (stop - start))
 
+-- ---- runs that are put
+
+pub runs_pushed : (zs : List ℤ) (z : ℤ) (n : ℕ) (rest all : List ℕ) (w : List ℤ)
+    → all ≡ n ∷ rest → z ≡ pos n → zs ++ map (λ m. pos m) all ≡ w
+    → (zs ++ z ∷ []) ++ map (λ m. pos m) rest ≡ w
+runs_pushed zs z n rest all w a e h =
+    append_one zs z (map (λ m. pos m) rest)
+    ∙ ap (λ y. zs ++ y ∷ map (λ m. pos m) rest) e
+    ∙ ap (λ ns. zs ++ map (λ m. pos m) ns) (sym a) ∙ h
+
+pub runs_room : (zs old : List ℤ) (n room : ℕ) (rest all whole : List ℕ) → all ≡ n ∷ rest
+    → zs ++ map (λ m. pos m) all ≡ old ++ map (λ m. pos m) whole
+    → length old + length whole ≤ room → length zs < room
+runs_room zs old n room rest all whole a h p =
+    let l : length zs + length all ≡ length old + length whole =
+    sym (length-append zs (map (λ m. pos m) all)
+    ∙ ap (λ k. length zs + k) (length-map all (λ m. pos m)))
+    ∙ ap length h
+    ∙ length-append old (map (λ m. pos m) whole)
+    ∙ ap (λ k. length old + k) (length-map whole (λ m. pos m)) in
+    omega (arith, l, p, ap length a)
+
+pub runs_put : (c : Column) (stop : ℕ) (zs w : List ℤ)
+    → zs ++ map (λ m. pos m) (runs_between c stop stop) ≡ w → zs ≡ w
+runs_put c stop zs w h =
+    sym (append_none zs) ∙ ap (λ ns. zs ++ map (λ m. pos m) ns) (sym (runs_none c stop)) ∙ h
+  where
+    append_none : (xs : List ℤ) → xs ++ [] ≡ xs
+    append_none [] = refl
+    append_none (x ∷ xs) = ap (λ ys. x ∷ ys) (append_none xs)
+
 -- ---- numbers of one kind
 
-abbrev IsInt : Num → Type 0
-IsInt (Int z) = Unit {0}
-IsInt (Nat n) = ⊥
-IsInt (Truth b) = ⊥
+int_nat : (k : Kind) (z : ℤ) (n : ℕ) → IsOf k (Int z) → IsOf k (Nat n) → ⊥
+int_nat kinds.Bool z n p q = p
+int_nat kinds.I8 z n p q = q
+int_nat kinds.I16 z n p q = q
+int_nat kinds.I32 z n p q = q
+int_nat kinds.I64 z n p q = q
+int_nat kinds.U8 z n p q = p
+int_nat kinds.U16 z n p q = p
+int_nat kinds.U32 z n p q = p
+int_nat kinds.U64 z n p q = p
+
+int_truth : (k : Kind) (z : ℤ) (b : Bool) → IsOf k (Int z) → IsOf k (Truth b) → ⊥
+int_truth kinds.Bool z b p q = p
+int_truth kinds.I8 z b p q = q
+int_truth kinds.I16 z b p q = q
+int_truth kinds.I32 z b p q = q
+int_truth kinds.I64 z b p q = q
+int_truth kinds.U8 z b p q = p
+int_truth kinds.U16 z b p q = p
+int_truth kinds.U32 z b p q = p
+int_truth kinds.U64 z b p q = p
+
+nat_truth : (k : Kind) (n : ℕ) (b : Bool) → IsOf k (Nat n) → IsOf k (Truth b) → ⊥
+nat_truth kinds.Bool n b p q = p
+nat_truth kinds.I8 n b p q = p
+nat_truth kinds.I16 n b p q = p
+nat_truth kinds.I32 n b p q = p
+nat_truth kinds.I64 n b p q = p
+nat_truth kinds.U8 n b p q = q
+nat_truth kinds.U16 n b p q = q
+nat_truth kinds.U32 n b p q = q
+nat_truth kinds.U64 n b p q = q
+
+-- two numbers of one kind are held alike
+pub held_alike : (k : Kind) (x y : Num) → IsOf k x → IsOf k y
+    → ((a b : ℤ) → x ≡ Int a → y ≡ Int b → ⊥) → ((a b : ℕ) → x ≡ Nat a → y ≡ Nat b → ⊥)
+    → ((a b : Bool) → x ≡ Truth a → y ≡ Truth b → ⊥) → ⊥
+held_alike k (Int a) (Int b) p q i n t = i a b refl refl
+held_alike k (Nat a) (Nat b) p q i n t = n a b refl refl
+held_alike k (Truth a) (Truth b) p q i n t = t a b refl refl
+held_alike k (Int a) (Nat b) p q i n t = int_nat k a b p q
+held_alike k (Nat a) (Int b) p q i n t = int_nat k b a q p
+held_alike k (Int a) (Truth b) p q i n t = int_truth k a b p q
+held_alike k (Truth a) (Int b) p q i n t = int_truth k b a q p
+held_alike k (Nat a) (Truth b) p q i n t = nat_truth k a b p q
+held_alike k (Truth a) (Nat b) p q i n t = nat_truth k b a q p

@@ -7,7 +7,7 @@ use Rattle.awk_types.specs.Simple.{simple_value}
 use Rattle.awk_types.proofs.RefusalLaws.{refused_or-Ok}
 use Rattle.awk_layout.specs.Layout.{Layout}
 use Rattle.awk_layout.specs.Valid.{len}
-use Rattle.awk_layout.specs.Item.{item, items}
+use Rattle.awk_layout.specs.Item.{item}
 use Rattle.awk_layout.specs.Datum.{IsDatum, first_item}
 use Rattle.awk_layout.specs.declared.datum.Datum as code
 use Rattle.awk_layout.specs.declared.datum.Datum.TheVariants.{One}

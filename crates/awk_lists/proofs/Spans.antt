@@ -1,14 +1,13 @@
 -- Lists by their starts and stops.
-use Rattle.std.specs.Prelude.{◌≡◌, ◌≢◌, ℕ, zero, suc, ◌+◌, ◌-◌, ◌<◌, ◌≤◌, ◌^◌, length, refl, map, ℤ}
-use Rattle.std.specs.Prelude.{pos, negsuc, ◌≤ℤ◌, None}
+use Rattle.std.specs.Prelude.{◌≡◌, ℕ, zero, suc, ◌-◌, ◌<◌, ◌≤◌, ◌^◌, length, refl, ℤ}
+use Rattle.std.specs.Prelude.{pos}
 use Rattle.std.proofs.Common.{arith, ap, sym, ◌∙◌}
 use Rattle.std.proofs.lemmas.Int.{ints}
-use Rattle.awk_types.specs.DataType.{DataType, leaf}
+use Rattle.awk_types.specs.DataType.{leaf}
 use Rattle.awk_types.specs.declared.primitive.Primitive.TheVariants.{I64}
 use Rattle.awk_types.specs.Value.{Value, int, value_list}
 use Rattle.awk_lanes.specs.declared.kind.Kind.TheVariants as kinds
 use Rattle.awk_lanes.specs.Column.{Column}
-use Rattle.awk_lanes.specs.Numbers.{nat_of}
 use Rattle.awk_lanes.specs.Places.{size_of, at, place_at, IsSpan, AreSpans}
 use Rattle.awk_layout.specs.Layout.{Layout, flat}
 use Rattle.awk_layout.specs.Laws.{len-fits}
@@ -16,7 +15,6 @@ use Rattle.awk_layout.specs.Valid.{len}
 use Rattle.awk_axis.specs.ListFunction.{Class}
 use Rattle.awk_layout.specs.Item.{run}
 use Rattle.awk_lists.specs.Lanes.{span_length, lengths_lane}
-use Rattle.awk_gather.specs.Lanes.{lane_of}
 use Rattle.awk_axis.specs.Opened.{AreLists, items_at}
 use Rattle.awk_gather.specs.Arrays.{array_item}
 use Rattle.awk_axis.specs.Mapped.{IsColumn}
@@ -27,8 +25,13 @@ span_wider : (m n : ℕ) (a b : ℤ) → m ≤ n → IsSpan m a b → IsSpan n a
 span_wider m n a b p h = λ d. ((h d).0, (h d).1, omega (arith, ints, (h d).2, p))
 
 pub spans_wider : (s t : Column) (m n : ℕ) → m ≤ n → AreSpans s t m → AreSpans s t n
-spans_wider s t m n p h = record { start_kind = h.start_kind; stop_kind = h.stop_kind; same_size =
-    h.same_size; ordered = λ i q. span_wider m n (at s i) (at t i) p (h.ordered i q) }
+spans_wider s t m n p h = record {
+  start_kind = h.start_kind;
+  stop_kind = h.stop_kind;
+  same_size =
+      h.same_size;
+  ordered = λ i q. span_wider m n (at s i) (at t i) p (h.ordered i q);
+}
 
 -- lists of an array, within the greatest length
 pub lists_within : (class : Class) (s t : Column) (y : Layout) → AreLists class s t y

@@ -5,7 +5,7 @@ use Rattle.awk_types.specs.declared.primitive.Primitive.TheVariants.{Bool, I64}
 use Rattle.awk_types.specs.DataType.{DataType, unknown, leaf, var, reg, rec, opt, uni, types_from}
 use Rattle.awk_types.specs.Value.{Value, int, truth, null, list, row, values_from}
 use Rattle.awk_types.specs.Datum.{Datum, arr, one}
-use Rattle.awk_types.specs.declared.fault.Fault.TheVariants.{Axis, WrongType, Depth, Lengths}
+use Rattle.awk_types.specs.declared.fault.Fault.TheVariants.{Axis, WrongType, Lengths}
 use Rattle.awk_types.specs.declared.fault.Fault.TheVariants.{NoField}
 use Rattle.awk_lists.specs.Num.{num_of}
 use Rattle.awk_lists.specs.LocalIndex.{local_index_of}
@@ -46,7 +46,7 @@ abbrev nested : Datum
 nested =
     arr (var (reg 1 int64))
     (list_value (ints_list (pos 1 ∷ []) ∷ ints_list (pos 2 ∷ []) ∷ [])
-      ∷ list_value (ints_list (pos 3 ∷ []) ∷ []) ∷ [])
+    ∷ list_value (ints_list (pos 3 ∷ []) ∷ []) ∷ [])
 
 -- ---- lengths
 

@@ -1,5 +1,5 @@
 -- The lists of a list joined to one list.
-use Rattle.std.specs.Prelude.{suc, ℤ, pos, Bool, true, false, Option, Some, None, Result, Err}
+use Rattle.std.specs.Prelude.{suc, ℤ, pos, Bool, true, false, Some, None, Result, Err}
 use Rattle.std.specs.Prelude.{if◌then◌else◌}
 use Rattle.awk_types.specs.DataType.{DataType, unknown, var, reg}
 use Rattle.awk_types.specs.Datum.{Datum}

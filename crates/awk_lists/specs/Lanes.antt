@@ -1,8 +1,7 @@
 -- Lanes that are made of lists by their starts and stops.
-use Rattle.std.specs.Prelude.{◌≡◌, ℕ, zero, suc, ◌+◌, ◌-◌, ◌<◌, ◌≤◌, List, [], ◌∷◌, ◌++◌, map, pos}
+use Rattle.std.specs.Prelude.{◌≡◌, ℕ, zero, suc, ◌+◌, ◌-◌, ◌<◌, ◌≤◌, List, [], ◌++◌, map, pos}
 use Rattle.std.specs.Prelude.{ℤ, Option, Some, None}
 use Rattle.std.specs.List.{range_with_len}
-use Rattle.awk_lanes.specs.declared.kind.Kind.{Kind}
 use Rattle.awk_lanes.specs.declared.kind.Kind.TheVariants.{I64}
 use Rattle.awk_lanes.specs.Column.{Column}
 use Rattle.awk_lanes.specs.Places.{size_of, place_at}

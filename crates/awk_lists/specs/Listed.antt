@@ -3,7 +3,7 @@ use Rattle.std.specs.Prelude.{◌≡◌, ℕ, ◌+◌, ◌<◌, ◌≤◌, List,
 use Rattle.awk_types.specs.Simple.{present}
 use Rattle.awk_types.specs.Value.{Value}
 use Rattle.awk_lanes.specs.Column.{Column}
-use Rattle.awk_lanes.specs.Places.{size_of, at, place_at, IsIndexKind}
+use Rattle.awk_lanes.specs.Places.{size_of, at, IsIndexKind}
 use Rattle.awk_lanes.specs.declared.kind.Kind.TheVariants.{I64}
 use Rattle.awk_layout.specs.Layout.{Layout}
 use Rattle.awk_layout.specs.Valid.{IsValid}
@@ -23,10 +23,6 @@ items_before vs i = length (joined_items (take i vs))
 abbrev pub present_lane : Column → Column
 present_lane j =
     lane_of I64 (size_of j + 1) (λ i. pos (length (first_of (present_at j) i)))
-
--- the offsets at places
-abbrev pub offsets_at : Column → Column → Column
-offsets_at o p = lane_of I64 (size_of p) (λ i. at o (place_at p i))
 
 -- where each of these lists begins and ends, if they lie one after another
 pub record AreEnds (o : Column) (vs : List Value) : Type 0 where

@@ -1,8 +1,8 @@
 -- The lengths of runs of equal neighbours.
-use Rattle.std.specs.Prelude.{ℕ, suc, pos, Bool, true, false, List, [], ◌∷◌, length, map, sum}
-use Rattle.std.specs.Prelude.{Option, Some, None, Result, if◌then◌else◌}
+use Rattle.std.specs.Prelude.{ℕ, suc, pos, Bool, false, List, [], ◌∷◌, length, map, sum}
+use Rattle.std.specs.Prelude.{Some, None, Result, if◌then◌else◌}
 use Rattle.std.specs.Ordering.{int_eq}
-use Rattle.awk_types.specs.DataType.{DataType, leaf}
+use Rattle.awk_types.specs.DataType.{leaf}
 use Rattle.awk_types.specs.Datum.{Datum}
 use Rattle.awk_types.specs.Value.{Value, int, truth}
 use Rattle.awk_types.specs.declared.fault.Fault.{Fault}

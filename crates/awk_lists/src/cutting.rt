@@ -1,5 +1,6 @@
 //! An array cut into lists of given lengths.
-ghost use Rattle.std.specs.Prelude.{◌≡◌, ◌+◌, ◌<◌, ◌^◌, true, false, None, sum_by, not, pos, IfOk};
+ghost use Rattle.std.specs.Prelude.{◌≡◌, ◌+◌, ◌<◌, ◌≤◌, ◌^◌, true, false, None};
+ghost use Rattle.std.specs.Prelude.{sum_by, not, pos, IfOk};
 ghost use Rattle.awk_types.specs.DataType.{var};
 ghost use Rattle.awk_types.specs.Faults.{fault_told};
 ghost use Rattle.awk_types.specs.Gives.{Gives, refused_or};
@@ -8,8 +9,10 @@ ghost use Rattle.awk_types.specs.Simple.{simple};
 ghost use Rattle.awk_types.specs.Value.{int};
 ghost use Rattle.awk_types.specs.View.{typ_of};
 ghost use Rattle.awk_lanes.specs.Numbers.{int_of, nat_of};
+ghost use Rattle.awk_lanes.specs.Places.{size_of, IsOffsets};
 ghost use Rattle.awk_lanes.specs.declared.kind.Kind.TheVariants as Kind;
 ghost use Rattle.awk_layout.specs.Datum.{datum_of, IsDatum};
+ghost use Rattle.awk_layout.specs.Layout.{offset_lists};
 ghost use Rattle.awk_layout.specs.Typing.{array_type, array_items, array_datum};
 ghost use Rattle.awk_layout.specs.Valid.{len};
 ghost use Rattle.awk_gather.specs.Lanes.{lane_of};
@@ -79,13 +82,7 @@ fn count(x: Num) -> u64
     ensures { result ≡ nat_of (int_of x) }
 {
     match x {
-        Num::Int(z) => {
-            if z < 0 {
-                0
-            } else {
-                z as u64
-            }
-        }
+        Num::Int(z) => { if z < 0 { 0 } else { z as u64 } }
         Num::Nat(n) => n,
         Num::Truth(b) => u64::from(b),
     }
@@ -134,6 +131,22 @@ fn offsets_by<'a, L: Ledger>(
 }
 
 /// The array in lists between offsets.
+fn lists_over<'a, L: Ledger>(
+    alloc: Global,
+    x: &Array<'a>,
+    offsets: Lane<'a>,
+    steps: &mut Steps<L>,
+) -> Result<Array<'a>, NoMemory>
+    requires length { size_of offsets ≤ 2 ^ 63 }
+    requires valid { IsOffsets offsets (len x.now) }
+    requires limit { limit (var (array_type x.now)) ≡ None }
+    ensures { IfOk result (λ y. y ≡ offset_lists offsets.entry x.now) }
+{
+    let content = Box::new(alloc, x.node().copy(alloc)?)?;
+    made(alloc, Node::list_offset(offsets, content, steps))
+}
+
+/// The array in lists of the lengths that counts say.
 fn lists_between<'a, L: Ledger>(
     alloc: Global,
     x: &Array<'a>,
@@ -149,9 +162,9 @@ fn lists_between<'a, L: Ledger>(
         IfOk result (λ y. array_datum y ≡ said) }
 {
     let _ = x.len();
+    let _ = counts.len();
     let offsets = offsets_by(counts, lane, arena, steps)?;
-    let content = Box::new(alloc, x.node().copy(alloc)?)?;
-    made(alloc, Node::list_offset(offsets, content, steps))
+    lists_over(alloc, x, offsets, steps)
 }
 
 /// The array cut, where the types are judged.

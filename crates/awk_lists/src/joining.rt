@@ -1,21 +1,27 @@
 //! The lists of a list joined to one list.
-ghost use Rattle.std.specs.Prelude.{◌≡◌, ◌<◌, ◌^◌, true, length, IfOk};
+ghost use Rattle.std.specs.Prelude.{◌≡◌, ◌-◌, ◌<◌, ◌^◌, ◌≤ℤ◌, true, None, length, pos};
+ghost use Rattle.std.specs.Prelude.{IfOk};
 ghost use Rattle.awk_types.specs.Faults.{fault_told};
 ghost use Rattle.awk_types.specs.Gives.{Gives};
 ghost use Rattle.awk_types.specs.Simple.{present};
 ghost use Rattle.awk_types.specs.View.{typ_of};
-ghost use Rattle.awk_lanes.specs.Places.{size_of, IsIndex, IsIndexKind, IsOptionKind};
+ghost use Rattle.awk_lanes.specs.Numbers.{nat_of};
+ghost use Rattle.awk_lanes.specs.Places.{size_of, IsIndex, IsOptionKind};
 ghost use Rattle.awk_layout.specs.Datum.{datum_of, IsDatum};
 ghost use Rattle.awk_layout.specs.Typing.{array_type};
-ghost use Rattle.awk_axis.specs.Opened.{OpensNothing, OpensOption};
+ghost use Rattle.awk_axis.specs.Opened.{AreLists, OpensNothing, OpensOption};
 ghost use Rattle.awk_gather.specs.Counted.{present_at};
+ghost use Rattle.awk_gather.specs.Lanes.{picked};
+ghost use Rattle.awk_axis.specs.Joined.{JoinsLists};
+ghost use Rattle.awk_axis.specs.Mapped.{IsMade};
 ghost use Rattle.awk_lists.specs.Flatten as spec;
 ghost use Rattle.awk_lists.specs.Flatten.{flatten_function, flatten_of};
-ghost use Rattle.awk_lists.specs.Listed.{IsListed, present_lane, offsets_at};
+ghost use Rattle.awk_lists.specs.Listed.{IsListed, present_lane};
 
-use awk_axis::{Joined, ListOp, Made, Opened, Refusal, Spoil};
-use awk_axis::{join_spans, lift_at, number, open_array};
-use awk_lanes::{Arena, Kind, Lane, LaneMaker, Num, Steps, index_at, option_place_in, place_in};
+use awk_axis::{
+    Joined, ListOp, Made, Opened, Refusal, Spoil, join_spans, lift_at, number, open_array,
+};
+use awk_lanes::{Arena, Kind, Lane, LaneMaker, Steps, option_place_in, place_in};
 use awk_layout::{Array, Datum};
 use awk_types::{Fault, NoMemory, Typ, copy_type};
 use std::alloc::{AllocError, Global};
@@ -123,15 +129,14 @@ fn offsets_at<'a, L: Ledger>(
     arena: &'a Arena,
     steps: &mut Steps<L>,
 ) -> Result<Lane<'a>, NoMemory>
-    requires kind { IsIndexKind offsets.now.kind }
-    requires places { IsIndex places.now (size_of offsets.now) }
-    ensures { IfOk result (λ r. r ≡ offsets_at offsets.now places.now) }
+    requires { IsIndex places.now (size_of offsets.now) }
+    ensures { IfOk result (λ r. r ≡ picked offsets.now places.now) }
 {
     let n = places.len();
-    let mut maker = LaneMaker::new(Kind::I64, n, arena)?;
+    let mut maker = LaneMaker::new(offsets.kind(), n, arena)?;
     for i in 0..n {
         let place = place_in(places, i, steps);
-        maker.push(Num::Int(index_at(offsets, place, steps)));
+        maker.push(offsets.at(place, steps));
     }
     Ok(maker.finish())
 }
@@ -185,6 +190,36 @@ fn lists_of<'a, L: Ledger>(
     }
 }
 
+/// Rows of lists joined, where the rows lie one after another.
+fn joined_rows<'a, L: Ledger>(
+    alloc: Global,
+    class: Option<u64>,
+    starts: &Lane<'a>,
+    stops: &Lane<'a>,
+    content: &Array<'a>,
+    rows: &Lane<'a>,
+    lists: &Array<'a>,
+    arena: &'a Arena,
+    steps: &mut Steps<L>,
+) -> Result<Made<'a>, NoMemory>
+    requires accepted { flatten_function.refusal (array_type content.now) ≡ None }
+    requires spans { AreLists class starts.now stops.now content.now }
+    requires rows { JoinsLists starts.now stops.now content.now rows.now lists.now }
+    ensures { IfOk result (IsMade flatten_function class starts.now stops.now content.now) }
+{
+    match lists_of(alloc, lists, arena, steps)? {
+        Joined::TooMany => Ok(Made::Spoiled(Spoil::Size)),
+        Joined::Lists { offsets, content } => {
+            let _ = content.len();
+            let offsets = offsets_at(&offsets, rows, arena, steps)?;
+            Ok(Made::Lists {
+                offsets,
+                content: content.node().copy(alloc)?,
+            })
+        }
+    }
+}
+
 /// The lists of a list joined.
 #[derive(Clone, Copy, Debug, PartialEq, Eq)]
 struct JoinedLists;
@@ -228,20 +263,21 @@ impl ListOp for JoinedLists {
         match join_spans(alloc, class, starts, stops, content, arena, steps)? {
             Joined::TooMany => Err(AllocError), // so many lists want more memory than there is
             Joined::Lists {
-                offsets: rows,
+                offsets,
                 content: lists,
-            } => match lists_of(alloc, &lists, arena, steps)? {
-                Joined::TooMany => Ok(Made::Spoiled(Spoil::Size)),
-                Joined::Lists { offsets, content } => {
-                    let _ = content.len();
-                    Ok(Made::Lists {
-                        offsets: offsets_at(&offsets, &rows, arena, steps)?,
-                        content: content.node().copy(alloc)?,
-                    })
-                }
-            },
+            } => joined_rows(
+                alloc, class, starts, stops, content, &offsets, &lists, arena, steps,
+            ),
         }
     }
+}
+
+/// The axis before an axis.
+fn axis_before(axis: i64) -> i64
+    requires { pos 1 ≤ℤ axis }
+    ensures { result ≡ pos (nat_of axis - 1) }
+{
+    axis - 1
 }
 
 /// The lists at an axis joined within each list of the axis before, null as an empty one. The axis
@@ -263,5 +299,6 @@ pub fn flatten<'a, L: Ledger>(
     if axis < 1 {
         return Err(Fault::Axis);
     }
-    lift_at(alloc, &JoinedLists, x, axis - 1, arena, steps)
+    let before = axis_before(axis);
+    lift_at(alloc, &JoinedLists, x, before, arena, steps)
 }

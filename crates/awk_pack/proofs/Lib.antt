@@ -1,1 +1,9 @@
+pub mod LeafLanes
+pub mod JoinLaws
+pub mod SizeLaws
+pub mod FormLaws
+pub mod LeftLaws
+pub mod LargeLaws
+pub mod ContentLaws
+pub mod CanonLaws
 pub mod Worked

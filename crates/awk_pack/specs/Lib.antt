@@ -3,3 +3,4 @@ pub mod Lanes
 pub mod PackedForm
 pub mod Canon
 pub mod Shown
+pub mod Packing

@@ -1,5 +1,5 @@
 -- The one form of a packed array of a type. Every node has a key, by its number in pre-order.
-use Rattle.std.specs.Prelude.{ℕ, suc, ◌+◌, [], ◌++◌, Some, None, codes, decimal}
+use Rattle.std.specs.Prelude.{ℕ, suc, ◌+◌, List, [], ◌∷◌, ◌++◌, Some, None, codes, decimal}
 use Rattle.awk_types.specs.DataType.{Name, DataType, unknown, leaf, var, reg, rec, tup, opt, uni}
 use Rattle.awk_types.specs.DataType.{DataTypes, no_types, type, nodes}
 use Rattle.awk_form.specs.FormTree as form
@@ -25,3 +25,15 @@ abbrev mutual
   pub packed_forms : ℕ → DataTypes → FormTrees
   packed_forms k no_types = form.no_forms
   packed_forms k (type t ts) = form.form (packed_form k t) (packed_forms (k + nodes t) ts)
+
+-- ---- types in order, as a list
+
+-- the number of nodes of all
+abbrev pub all_nodes : List DataType → ℕ
+all_nodes [] = 0
+all_nodes (t ∷ ts) = nodes t + all_nodes ts
+
+-- their forms from node k on
+abbrev pub form_each : ℕ → List DataType → List FormTree
+form_each k [] = []
+form_each k (t ∷ ts) = packed_form k t ∷ form_each (k + nodes t) ts

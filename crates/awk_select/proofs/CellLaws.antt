@@ -1,61 +1,19 @@
 -- The values of an array by its lanes.
-use Rattle.std.proofs.Common.{◌≡◌, ℕ, zero, suc, ◌<◌, arith, refl, ap, sym, ◌∙◌, subst, true≢false}
-use Rattle.std.specs.Prelude.{ℤ, pos, negsuc, ◌<ℤ◌, Bool, true, false, List, Option, Some, None, map}
+use Rattle.std.proofs.Common.{◌≡◌, ℕ, ◌<◌, arith, refl, ap, sym, ◌∙◌, subst, true≢false}
+use Rattle.std.specs.Prelude.{ℤ, pos, negsuc, ◌<ℤ◌, true, List, Option, Some, None}
 use Rattle.std.proofs.lemmas.Int.{ints}
 use Rattle.awk_types.specs.DataType.{DataType, Name, unknown, leaf, var, reg, rec, tup, opt, uni}
 use Rattle.awk_types.specs.Simple.{present}
-use Rattle.awk_types.specs.Value.{Value, null}
 use Rattle.awk_lanes.specs.Column.{Column}
-use Rattle.awk_lanes.specs.Numbers.{int_of, IsOf}
 use Rattle.awk_lanes.specs.Places.{size_of, at, option_place, option_place_at}
-use Rattle.awk_lanes.specs.declared.kind.Kind.{Kind}
-use Rattle.awk_lanes.specs.declared.kind.Kind.TheVariants.{Bool as Truths, I8, I16, I32, I64, U8, U16, U32, U64}
-use Rattle.awk_lanes.specs.declared.kind.Num.{Num}
-use Rattle.awk_lanes.specs.declared.kind.Num.TheVariants.{Int, Nat, Truth}
 use Rattle.awk_layout.specs.Layout.{Layout, optional}
 use Rattle.awk_layout.specs.Valid.{len, IsValid}
 use Rattle.awk_layout.specs.Item.{leaf_value, at_option}
-use Rattle.awk_layout.specs.Typing.{array_type}
 use Rattle.awk_gather.specs.Arrays.{array_item}
-use Rattle.awk_gather.specs.Opened.{IsOpened, IsKindOf, opened_item}
+use Rattle.awk_gather.specs.Opened.{IsOpened, IsKindOf}
 use Rattle.awk_gather.specs.declared.opening.Opened.{Opened}
-use Rattle.awk_gather.specs.declared.opening.Opened.TheVariants as Opened
-use Rattle.awk_select.specs.Cells.{is_leaf, number_value, IsBelow, AreCells}
-use Rattle.awk_select.specs.declared.cells.Cells.TheVariants.{Nulls, Plain, Optional}
-
--- a number as code holds it is the value that its kind makes of it
-number-value : (k : Kind) (x : Num) → IsOf k x → number_value x ≡ leaf_value k (int_of x)
-number-value Truths (Truth true) h = refl
-number-value Truths (Truth false) h = refl
-number-value Truths (Int z) h = absurd h
-number-value Truths (Nat n) h = absurd h
-number-value I8 (Int z) h = refl
-number-value I16 (Int z) h = refl
-number-value I32 (Int z) h = refl
-number-value I64 (Int z) h = refl
-number-value U8 (Nat n) h = refl
-number-value U16 (Nat n) h = refl
-number-value U32 (Nat n) h = refl
-number-value U64 (Nat n) h = refl
-number-value I8 (Nat n) h = absurd h
-number-value I16 (Nat n) h = absurd h
-number-value I32 (Nat n) h = absurd h
-number-value I64 (Nat n) h = absurd h
-number-value U8 (Int z) h = absurd h
-number-value U16 (Int z) h = absurd h
-number-value U32 (Int z) h = absurd h
-number-value U64 (Int z) h = absurd h
-number-value I8 (Truth b) h = absurd h
-number-value I16 (Truth b) h = absurd h
-number-value I32 (Truth b) h = absurd h
-number-value I64 (Truth b) h = absurd h
-number-value U8 (Truth b) h = absurd h
-number-value U16 (Truth b) h = absurd h
-number-value U32 (Truth b) h = absurd h
-number-value U64 (Truth b) h = absurd h
-
-pub number-at : (c : Column) (i : ℕ) (x : Num) → IsOf c.kind x → int_of x ≡ at c i → number_value x ≡ leaf_value c.kind (at c i)
-number-at c i x k e = number-value c.kind x k ∙ ap (leaf_value c.kind) e
+use Rattle.awk_select.specs.Cells.{is_leaf, IsBelow, AreCells}
+use Rattle.awk_select.specs.declared.cells.Cells.TheVariants.{Optional}
 
 -- ---- the kinds that have such values
 
@@ -92,34 +50,9 @@ leaf_present (uni ts) h = absurd (true≢false (sym h))
 
 -- ---- values
 
-pub no_cells : (x : Layout) → IsOpened x Opened.Empty → AreCells x Nulls
-no_cells x h = record {
-  there = λ i l. tt;
-  values = λ i l. absurd (omega (arith, h.size));
-}
-
-pub plain_cells : (x : Layout) (c : Column) → IsOpened x (Opened.Leaf c) → AreCells x (Plain c)
-plain_cells x c h = record {
-  there = λ i l. omega (arith, h.size);
-  values = λ i l. h.items i l;
-}
-
 option_below : (z : ℤ) (n : ℕ) → z <ℤ pos n → IsBelow n (option_place z)
 option_below (pos k) n h = omega (arith, ints)
 option_below (negsuc k) n h = tt
-
--- where there is no item, each is null
-null_of_none : (z : ℤ) (f : ℕ → Value) → z <ℤ pos 0 → at_option (option_place z) f ≡ null
-null_of_none (pos k) f h = absurd (omega (arith, ints))
-null_of_none (negsuc k) f h = refl
-
-pub null_cells : (x y : Layout) (j : Column) → IsOpened x (Opened.Option j y) → IsValid (optional j y) → IsOpened y Opened.Empty → AreCells x Nulls
-null_cells x y j h v e = record {
-  there = λ i l. tt;
-  values = λ i l.
-      let l' : i < size_of j = omega (arith, h.size) in
-      h.items i l ∙ null_of_none (at j i) (array_item y) (subst (λ n. at j i <ℤ pos n) (sym e.size) (v.1.below i l'));
-}
 
 value_at : (y : Layout) (c : Column) (o : Option ℕ) → IsBelow (len y) o → IsOpened y (Opened.Leaf c) → at_option o (array_item y) ≡ at_option o (λ k. leaf_value c.kind (at c k))
 value_at y c None b h = refl

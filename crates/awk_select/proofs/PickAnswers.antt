@@ -1,16 +1,18 @@
 -- What masks and indexes answer: the first refusal, or the items.
-use Rattle.std.proofs.Common.{◌≡◌, ◌≢◌, ℕ, ◌<◌, ◌≤◌, List, length, arith, refl, ap, ap₂, sym, ◌∙◌, subst, eq-eqb, ne_eqb, le-ltb, lt-ltb}
-use Rattle.std.specs.Prelude.{Bool, true, false, ◌==◌, nat_lt, Option, Some, None, option_map, Result, Ok, Err, if◌then◌else◌}
+use Rattle.std.proofs.Common.{◌≡◌, ℕ, ◌<◌, ◌≤◌, List, length, refl, ap, ap₂, sym, ◌∙◌, subst}
+use Rattle.std.proofs.Common.{eq-eqb, ne_eqb, le-ltb, lt-ltb}
+use Rattle.std.specs.Prelude.{true, false, Option, Some, None, option_map, Result, Ok, Err}
+use Rattle.std.specs.Prelude.{if◌then◌else◌}
 use Rattle.std.specs.List.{list_any}
 use Rattle.awk_types.specs.DataType.{DataType}
 use Rattle.awk_types.specs.Datum.{Datum, arr}
 use Rattle.awk_types.specs.Faults.{limit_fault, fault_told}
-use Rattle.awk_types.specs.Gives.{Told, Gives, refused_or, ◌or◌}
+use Rattle.awk_types.specs.Gives.{Gives, refused_or, ◌or◌}
 use Rattle.awk_types.specs.Limit.{Limit, limit}
 use Rattle.awk_types.specs.Value.{Value}
 use Rattle.awk_types.specs.declared.fault.Fault.{Fault}
-use Rattle.awk_types.specs.declared.fault.Fault.TheVariants.{WrongType, Lengths, Index, Size}
-use Rattle.awk_types.proofs.RefusalLaws.{Told-first, Told-later, refused_or-Ok, refused_or-None}
+use Rattle.awk_types.specs.declared.fault.Fault.TheVariants.{Lengths, Index, Size}
+use Rattle.awk_types.proofs.RefusalLaws.{refused_or-Ok, refused_or-None}
 use Rattle.awk_lanes.specs.Column.{Column}
 use Rattle.awk_lanes.specs.declared.kind.Kind.TheVariants.{I64}
 use Rattle.awk_layout.specs.Layout.{Layout}
@@ -22,7 +24,9 @@ use Rattle.awk_gather.specs.Counted.{item_limit}
 use Rattle.awk_gather.specs.Joined.{too_many}
 use Rattle.awk_gather.specs.Lanes.{lane_of}
 use Rattle.awk_select.specs.Cells.{places_lane, take_number}
-use Rattle.awk_select.specs.Picks.{picked, picked_type, type_refused, limit_refused, is_mask, mask_places, lengths_refused, mask_refused, masked, alike, is_index, take_places, is_outside, index_refused, take_refused, taken}
+use Rattle.awk_select.specs.Picks.{picked, picked_type, limit_refused}
+use Rattle.awk_select.specs.Picks.{mask_places, alike}
+use Rattle.awk_select.specs.Picks.{take_places, is_outside, index_refused}
 use Rattle.awk_select.proofs.PickedPlaces.{pick-picked, take-lane}
 
 -- ---- parts of refusals
@@ -43,35 +47,6 @@ judged t h = no_limit (limit t) (refused_or-Ok (limit_refused t) (tt {0}) (tt {0
 
 -- ---- masks
 
-pub mask-wrong : (t : DataType) (vs : List Value) (u : DataType) (ms : List Value) → is_mask u ≡ false → masked t vs u ms ≡ Err WrongType
-mask-wrong t vs u ms m =
-    ap (λ b. refused_or (type_refused b or (limit_refused (picked_type u t) or (lengths_refused (length vs) (length ms) or too_many (length (mask_places ms))))) (arr (picked_type u t) (picked vs (mask_places ms)))) m
-
-pub mask-limit : (t : DataType) (vs : List Value) (u : DataType) (ms : List Value) (o : Option Fault) → is_mask u ≡ true → Told o (refused_or (limit_refused (picked_type u t)) (tt {0})) → Told o (masked t vs u ms)
-mask-limit t vs u ms o m h =
-    let a = arr (picked_type u t) (picked vs (mask_places ms)) in
-    let later = lengths_refused (length vs) (length ms) or too_many (length (mask_places ms)) in
-    Told-later o (type_refused (is_mask u)) (limit_refused (picked_type u t) or later) a a (ap type_refused m)
-    (Told-first o (limit_refused (picked_type u t)) later (tt {0}) a h)
-
--- the refusals behind the type and its limit
-mask-open : (t : DataType) (vs : List Value) (u : DataType) (ms : List Value) → is_mask u ≡ true → limit (picked_type u t) ≡ None → masked t vs u ms ≡ refused_or (lengths_refused (length vs) (length ms) or too_many (length (mask_places ms))) (arr (picked_type u t) (picked vs (mask_places ms)))
-mask-open t vs u ms m l =
-    let a = arr (picked_type u t) (picked vs (mask_places ms)) in
-    let later = lengths_refused (length vs) (length ms) or too_many (length (mask_places ms)) in
-    ap (λ b. refused_or (type_refused b or (limit_refused (picked_type u t) or later)) a) m
-    ∙ ap (λ o. refused_or (option_map limit_fault o or later) a) l
-
-pub mask-lengths : (t : DataType) (vs : List Value) (u : DataType) (ms : List Value) → is_mask u ≡ true → limit (picked_type u t) ≡ None → length vs ≢ length ms → masked t vs u ms ≡ Err Lengths
-mask-lengths t vs u ms m l n =
-    mask-open t vs u ms m l
-    ∙ ap (λ b. refused_or ((if b then None else Some Lengths) or too_many (length (mask_places ms))) (arr (picked_type u t) (picked vs (mask_places ms)))) (ne_eqb (length vs) (length ms) n)
-
-pub mask-items : (t : DataType) (vs : List Value) (u : DataType) (ms : List Value) → is_mask u ≡ true → limit (picked_type u t) ≡ None → length vs ≡ length ms → refused_or (too_many (length (mask_places ms))) (arr (picked_type u t) (picked vs (mask_places ms))) ≡ masked t vs u ms
-mask-items t vs u ms m l n =
-    sym (mask-open t vs u ms m l
-    ∙ ap (λ b. refused_or ((if b then None else Some Lengths) or too_many (length (mask_places ms))) (arr (picked_type u t) (picked vs (mask_places ms)))) (eq-eqb (length vs) (length ms) n))
-
 pub mask-size : (k n : ℕ) (a : Datum) → k ≡ n → item_limit < k → refused_or (too_many n) a ≡ Err Size
 mask-size k n a e h = ap (λ o. refused_or o a) (ap too_many (sym e) ∙ many k h)
 
@@ -85,24 +60,6 @@ mask-said x m p u k r t e c l h =
     subst (λ said. Gives array_datum fault_told r said) same h
 
 -- ---- indexes
-
-pub take-wrong : (t : DataType) (vs : List Value) (u : DataType) (ws : List Value) → is_index u ≡ false → taken t vs u ws ≡ Err WrongType
-take-wrong t vs u ws m =
-    ap (λ b. refused_or (type_refused b or (limit_refused (picked_type u t) or (index_refused (length vs) ws or too_many (length ws)))) (arr (picked_type u t) (picked vs (take_places (length vs) ws)))) m
-
-pub take-limit : (t : DataType) (vs : List Value) (u : DataType) (ws : List Value) (o : Option Fault) → is_index u ≡ true → Told o (refused_or (limit_refused (picked_type u t)) (tt {0})) → Told o (taken t vs u ws)
-take-limit t vs u ws o m h =
-    let a = arr (picked_type u t) (picked vs (take_places (length vs) ws)) in
-    let later = index_refused (length vs) ws or too_many (length ws) in
-    Told-later o (type_refused (is_index u)) (limit_refused (picked_type u t) or later) a a (ap type_refused m)
-    (Told-first o (limit_refused (picked_type u t)) later (tt {0}) a h)
-
-pub take-open : (t : DataType) (vs : List Value) (u : DataType) (ws : List Value) → is_index u ≡ true → limit (picked_type u t) ≡ None → refused_or (index_refused (length vs) ws or too_many (length ws)) (arr (picked_type u t) (picked vs (take_places (length vs) ws))) ≡ taken t vs u ws
-take-open t vs u ws m l =
-    let a = arr (picked_type u t) (picked vs (take_places (length vs) ws)) in
-    let later = index_refused (length vs) ws or too_many (length ws) in
-    sym (ap (λ b. refused_or (type_refused b or (limit_refused (picked_type u t) or later)) a) m
-    ∙ ap (λ o. refused_or (option_map limit_fault o or later) a) l)
 
 pub take-outside : (n k : ℕ) (ws : List Value) (a : Datum) → k ≡ n → list_any (is_outside k) ws ≡ true → refused_or (index_refused n ws or too_many (length ws)) a ≡ Err Index
 take-outside n k ws a e h =

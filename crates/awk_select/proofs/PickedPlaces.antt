@@ -1,29 +1,36 @@
 -- The places that masks and indexes name, as lanes.
-use Rattle.std.proofs.Common.{◌≡◌, ℕ, zero, suc, ◌+◌, ◌-◌, ◌<◌, ◌≤◌, List, [], ◌∷◌, ◌++◌, map, length, get_or, arith, refl, ap, ap₂, sym, ◌∙◌, subst, true≢false, ltb-true, le-ltb}
-use Rattle.std.specs.Prelude.{ℤ, pos, negsuc, ◌<ℤ◌, ◌≤ℤ◌, Bool, true, false, ◌||◌, nat_lt, Option, Some, None, is_none, if◌then◌else◌}
+use Rattle.std.proofs.Common.{◌≡◌, ℕ, zero, suc, ◌+◌, ◌-◌, ◌<◌, ◌≤◌, List, [], ◌∷◌, ◌++◌, map}
+use Rattle.std.proofs.Common.{length, get_or, take, arith, refl, ap, ap₂, sym, ◌∙◌, subst}
+use Rattle.std.proofs.Common.{true≢false, ltb-true}
+use Rattle.std.specs.Prelude.{ℤ, pos, negsuc, ◌<ℤ◌, Bool, true, false, ◌||◌, nat_lt, Option}
+use Rattle.std.specs.Prelude.{Some, None, is_none, if◌then◌else◌}
 use Rattle.std.specs.List.{range_with_len, flat_map, list_any, AllByRecursion}
 use Rattle.std.proofs.lemmas.Int.{ints}
 use Rattle.std.proofs.lemmas.List.{get_or-map, length-map, map-append}
+use Rattle.std.proofs.lemmas.List.Folds.{list_any_more}
 use Rattle.awk_types.specs.DataType.{DataType, unknown, leaf, var, reg, rec, tup, opt, uni}
 use Rattle.awk_types.specs.Has.{Has}
 use Rattle.awk_types.specs.Simple.{is_option, present, simple_value}
 use Rattle.awk_types.specs.Value.{Value, int, truth, null, list, row, alt}
 use Rattle.awk_types.specs.declared.primitive.Primitive.{Primitive}
-use Rattle.awk_types.specs.declared.primitive.Primitive.TheVariants.{Bool as Truths, I8, I16, I32, I64, U8, U16, U32, U64}
+use Rattle.awk_types.specs.declared.primitive.Primitive.TheVariants.{Bool as Truths, I8, I16, I32}
+use Rattle.awk_types.specs.declared.primitive.Primitive.TheVariants.{I64, U8, U16, U32, U64}
 use Rattle.awk_lanes.specs.Column.{Column}
 use Rattle.awk_lanes.specs.Making.{Making, with_item}
-use Rattle.awk_lanes.specs.Places.{at, size_of, place_at, option_place, IsIndex, IsOptionalIndex}
+use Rattle.awk_lanes.specs.Places.{at, option_place, IsIndex, IsOptionalIndex}
 use Rattle.awk_lanes.specs.declared.kind.Kind.{Kind}
 use Rattle.awk_lanes.specs.declared.kind.Kind.TheVariants as kind
 use Rattle.awk_layout.specs.Layout.{Layout}
 use Rattle.awk_layout.specs.Valid.{len}
 use Rattle.awk_layout.specs.Item.{item, at_option}
 use Rattle.awk_layout.specs.Typing.{layout_type, array_items}
-use Rattle.awk_gather.specs.Arrays.{array_item, pick}
+use Rattle.awk_gather.specs.Arrays.{pick}
 use Rattle.awk_gather.specs.Lanes.{lane_of}
 use Rattle.awk_layout.proofs.ArrayItems.{length-array_items, get_or-array_items}
-use Rattle.awk_select.specs.Cells.{is_leaf, IsBelow, place_number, places_lane, mask_numbers, take_number}
-use Rattle.awk_select.specs.Picks.{picked, is_truths, is_mask, mask_place, mask_places, is_numbers, is_index, take_place, take_places, is_outside}
+use Rattle.awk_select.specs.Cells.{is_leaf, IsBelow, place_number, places_lane, mask_numbers}
+use Rattle.awk_select.specs.Cells.{take_number}
+use Rattle.awk_select.specs.Picks.{picked, is_truths, is_mask, mask_place, mask_places, is_numbers}
+use Rattle.awk_select.specs.Picks.{is_index, take_place, take_places, is_outside}
 use Rattle.awk_select.specs.Places.{place_in}
 use Rattle.awk_select.proofs.Lists.{map-map, each_of, each_of-more, each_of-room, length-each_of}
 
@@ -71,9 +78,6 @@ optional-lane n os p e h = subst (λ c. IsOptionalIndex c n) (sym e) (record {
       let l' : i < length os = omega (arith, length-map os place_number) in
       subst (λ z. z <ℤ pos n) (sym (at-places os i l')) (below-number n os i h l');
 })
-
-place-there : (n : ℕ) (z : ℤ) → ((k : ℕ) × (z ≡ pos k) × (k < n)) → (pos 0 ≤ℤ z) × (z <ℤ pos n)
-place-there n z h = (rw h.1 (omega (arith, ints)), rw h.1 (omega (arith, ints, h.2)))
 
 pub index-lane : (n : ℕ) (os : List (Option ℕ)) (p : Column) → p ≡ places_lane os → AllByRecursion (IsThere n) os → IsIndex p n
 index-lane n os p e h = subst (λ c. IsIndex c n) (sym e) (record {
@@ -204,7 +208,7 @@ mask_place-there n k (list vs) t h = tt
 mask_place-there n k (row vs) t h = tt
 mask_place-there n k (alt j v) t h = tt
 
-has-at : (P : Value → Type 0) (vs : List Value) (i : ℕ) → AllByRecursion P vs → i < length vs → P (get_or vs i null)
+pub has-at : (P : Value → Type 0) (vs : List Value) (i : ℕ) → AllByRecursion P vs → i < length vs → P (get_or vs i null)
 has-at P [] i h l = absurd (omega arith)
 has-at P (v ∷ vs) zero h l = h.0
 has-at P (v ∷ vs) (suc i) h l = has-at P vs i h.1 (omega arith)
@@ -240,7 +244,7 @@ below-if : (b : Bool) (n j : ℕ) → (b ≡ true → j < n) → IsBelow n (if b
 below-if true n j h = h refl
 below-if false n j h = tt
 
-place_in-below : (n : ℕ) (z : ℤ) → IsBelow n (place_in n z)
+pub place_in-below : (n : ℕ) (z : ℤ) → IsBelow n (place_in n z)
 place_in-below n (pos k) = below-if (nat_lt k n) n k (ltb-true k n)
 place_in-below n (negsuc k) = below-if (nat_lt k n) n (n - suc k) (λ h. omega (arith, ltb-true k n h))
 
@@ -311,14 +315,9 @@ take-lane n ix p e =
 
 -- ---- what is outside
 
-pub any-at : (p : Value → Bool) (vs : List Value) (i : ℕ) → i < length vs → p (get_or vs i null) ≡ true → list_any p vs ≡ true
-any-at p [] i l h = absurd (omega arith)
-any-at p (v ∷ vs) zero l h = ap (λ b. b || list_any p vs) h
-any-at p (v ∷ vs) (suc i) l h = ap (λ b. p v || b) (any-at p vs i (omega arith) h) ∙ or-true (p v)
-  where
-    or-true : (b : Bool) → (b || true) ≡ true
-    or-true true = refl
-    or-true false = refl
+-- one item more, and still none
+pub none-more : (p : Value → Bool) (vs : List Value) (i : ℕ) → i < length vs → list_any p (take i vs) ≡ false → p (get_or vs i null) ≡ false → list_any p (take (i + 1) vs) ≡ false
+none-more p vs i l h g = list_any_more p vs i null l ∙ ap₂ (λ a b. a || b) h g
 
 -- ---- lanes by their kind and numbers
 

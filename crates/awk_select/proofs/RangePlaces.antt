@@ -1,8 +1,11 @@
 -- The places of ranges: each is a place of the items, and by step 1 they are those of a cut.
-use Rattle.std.proofs.Common.{◌≡◌, ◌≢◌, ℕ, zero, suc, ◌+◌, ◌-◌, ◌*◌, ◌/◌, ◌<◌, ◌≤◌, max, min, List, [], ◌∷◌, map, length, get_or, take, drop, slice_range, arith, refl, ap, sym, ◌∙◌, subst, mul-le-mul_right, suc-mul, mul-one, div-mul-le_self, div-one, length-take, length-drop, get_or-take, get_or-drop}
+use Rattle.std.proofs.Common.{◌≡◌, ◌≢◌, ℕ, zero, suc, ◌+◌, ◌-◌, ◌*◌, ◌/◌, ◌<◌, ◌≤◌, max, List, map}
+use Rattle.std.proofs.Common.{length, get_or, take, drop, slice_range, arith, refl, ap, sym, ◌∙◌}
+use Rattle.std.proofs.Common.{subst, mul-le-mul_right, suc-mul, mul-one, div-mul-le_self, div-one}
+use Rattle.std.proofs.Common.{length-take, length-drop, get_or-take, get_or-drop}
 use Rattle.std.specs.Prelude.{ℤ, pos, negsuc, Option, Some, None}
 use Rattle.std.specs.List.{range_with_len}
-use Rattle.std.proofs.lemmas.List.{ext_get_or, length-map}
+use Rattle.std.proofs.lemmas.List.{ext_get_or}
 use Rattle.std.proofs.lemmas.List.FromFn.{length-map-range_with_len, get_or-map-range_with_len}
 use Rattle.awk_types.specs.Value.{Value, null}
 use Rattle.awk_lanes.specs.declared.kind.Kind.TheVariants.{I64}
@@ -13,7 +16,8 @@ use Rattle.awk_gather.specs.Counted.{places_lane, AreBelow}
 use Rattle.awk_gather.specs.Lanes.{lane_of}
 use Rattle.awk_gather.proofs.ReachedContents.{places_index}
 use Rattle.awk_select.specs.Picks.{items_at}
-use Rattle.awk_select.specs.Places.{bound_up, bound_down, multiples_below, places_up, places_down, range_places}
+use Rattle.awk_select.specs.Places.{bound_up, bound_down, multiples_below, places_up, places_down}
+use Rattle.awk_select.specs.Places.{range_places}
 use Rattle.awk_select.proofs.Lists.{map-map}
 
 -- ---- multiples of a step

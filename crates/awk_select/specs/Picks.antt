@@ -1,7 +1,8 @@
 -- Picks of a datum: the item at a place, a range of any step, and the items that a mask or an index
 -- names.
-use Rattle.std.specs.Prelude.{ℕ, ◌==◌, ℤ, pos, negsuc, Bool, true, false, List, [], ◌∷◌, length, map, get_or}
-use Rattle.std.specs.Prelude.{Option, Some, None, is_none, option_map, Result, Ok, Err, if◌then◌else◌}
+use Rattle.std.specs.Prelude.{ℕ, ◌==◌, ℤ, Bool, true, false, List, [], ◌∷◌, length, map, get_or}
+use Rattle.std.specs.Prelude.{Option, Some, None, is_none, option_map, Result, Ok, Err}
+use Rattle.std.specs.Prelude.{if◌then◌else◌}
 use Rattle.std.specs.List.{range_with_len, flat_map, list_any}
 use Rattle.awk_types.specs.DataType.{DataType, unknown, leaf, opt}
 use Rattle.awk_types.specs.Value.{Value, int, truth, null}
@@ -13,7 +14,6 @@ use Rattle.awk_types.specs.Settle.{settle}
 use Rattle.awk_types.specs.Simple.{is_option, present, simple}
 use Rattle.awk_types.specs.declared.fault.Fault.{Fault}
 use Rattle.awk_types.specs.declared.fault.Fault.TheVariants.{WrongType, Lengths, Index}
-use Rattle.awk_types.specs.declared.primitive.Primitive.{Primitive}
 use Rattle.awk_types.specs.declared.primitive.Primitive.TheVariants.{Bool as Truths}
 use Rattle.awk_layout.specs.Item.{at_option}
 use Rattle.awk_gather.specs.Joined.{too_many}

@@ -99,10 +99,11 @@ fn taken_items<'a, L: Ledger>(
 ) -> Result<Array<'a>, Fault>
     requires index { picks.is_index (array_type ix.now) ≡ true }
     requires limit { limit (picked_type (array_type ix.now) (array_type x.now)) ≡ None }
-    ensures answer { let n = length (array_items x.now) in
+    ensures answer { let vs = array_items x.now in
+        let ws = array_items ix.now in
         let t = picked_type (array_type ix.now) (array_type x.now) in
-        let refused = index_refused n (array_items ix.now) or too_many (length (array_items ix.now)) in
-        let said = refused_or refused (arr t (picked (array_items x.now) (take_places n (array_items ix.now)))) in
+        let refused = index_refused (length vs) ws or too_many (length ws) in
+        let said = refused_or refused (arr t (picked vs (take_places (length vs) ws))) in
         Gives array_datum fault_told result said }
 {
     let cells = cells_of(alloc, ix, arena, steps)?;

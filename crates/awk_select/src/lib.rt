@@ -1,7 +1,9 @@
-//! Picks: the item at a place, ranges of any step, and the items that a mask or an index names.
+//! Picks: the item at a place, of an array and of each list, ranges of any step, and the items that
+//! a mask or an index names.
 #![tactic(auto)]
 
 mod cells;
+mod each;
 mod indexes;
 mod masks;
 mod picked;
@@ -9,7 +11,9 @@ mod place;
 mod places;
 mod ranges;
 
+pub use each::at_each;
 pub use indexes::take;
 pub use masks::{is_mask, mask};
 pub use place::at;
+pub use places::bound_up;
 pub use ranges::step_range;

@@ -14,7 +14,8 @@ ghost use Rattle.awk_gather.specs.Joined.{too_many};
 ghost use Rattle.awk_select.specs.Cells.{AreCells, number_value, place_number, places_lane};
 ghost use Rattle.awk_select.specs.Cells.{mask_numbers, numbers_shown};
 ghost use Rattle.awk_select.specs.Picks as picks;
-ghost use Rattle.awk_select.specs.Picks.{alike, mask_of, mask_place, mask_places, picked, picked_type};
+ghost use Rattle.awk_select.specs.Picks.{alike, mask_of, mask_place, mask_places};
+ghost use Rattle.awk_select.specs.Picks.{picked, picked_type};
 
 use crate::cells::{Cells, cells_of};
 use crate::picked::{ITEM_LIMIT, judge_type, pick};
@@ -114,7 +115,8 @@ fn masked_items<'a, L: Ledger>(
     requires lengths { len x.now ≡ len m.now }
     ensures answer { let places = mask_places (array_items m.now) in
         let t = picked_type (array_type m.now) (array_type x.now) in
-        let said = refused_or (too_many (length places)) (arr t (picked (array_items x.now) places)) in
+        let made = arr t (picked (array_items x.now) places) in
+        let said = refused_or (too_many (length places)) made in
         Gives array_datum fault_told result said }
 {
     let _ = m.len();

@@ -37,7 +37,8 @@ pub(crate) fn is_optional(t: &Typ) -> bool
 /// Judges the type of items of type t that are picked by others of type u.
 pub(crate) fn judge_type(alloc: Global, t: &Typ, u: &Typ) -> Result<(), Fault>
     requires { limit (typ_of t.now) ≡ None }
-    ensures { let said = refused_or (limit_refused (picked_type (typ_of u.now) (typ_of t.now))) (tt {0}) in
+    ensures { let made = picked_type (typ_of u.now) (typ_of t.now) in
+        let said = refused_or (limit_refused made) (tt {0}) in
         Gives (λ _. tt {0}) fault_told result said }
 {
     if is_optional(u) {

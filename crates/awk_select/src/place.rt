@@ -14,8 +14,8 @@ use awk_view::item_at;
 use std::alloc::Global;
 use std::sync::ledger::Ledger;
 
-/// The item of an array at a place, settled. A negative place counts from the end. `WrongType` tells
-/// that it is a single value, and `Index` that the array has no such place.
+/// The item of an array at a place, settled. A negative place counts from the end. `WrongType`
+/// tells that it is a single value, and `Index` that the array has no such place.
 pub fn at<'a, L: Ledger>(
     alloc: Global,
     x: &Datum<'a>,

@@ -47,7 +47,7 @@ pub(crate) fn number(place: u64) -> Num
 }
 
 /// A bound of a range that goes up, or what stands for one that is not given.
-pub(crate) fn bound_up(n: u64, other: u64, bound: Option<i64>) -> u64
+pub fn bound_up(n: u64, other: u64, bound: Option<i64>) -> u64
     requires { other ≤ n }
     ensures bound { result ≡ places.bound_up n other bound }
     ensures within { result ≤ n }

@@ -80,7 +80,7 @@ sent variables (load m form count buffers) a shows plain arrays = omega (arith, 
 sent variables (bind m e) a shows plain arrays = omega (arith, none_sent a shows)
 sent variables (show e) a shows plain arrays = sent_view variables (view_of e) a shows plain arrays
 sent variables (type_of e) a shows plain arrays = omega (arith, none_sent a shows)
-sent variables (pack e) a shows plain arrays = omega (arith, none_sent a shows)
+sent variables (pack e) a shows plain arrays = absurd (cc)
 sent variables names a shows plain arrays = omega (arith, none_sent a shows)
 
 -- a line that was read has the bytes that its reading has

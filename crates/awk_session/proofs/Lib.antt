@@ -9,4 +9,5 @@ pub mod SizeLaws
 pub mod CostLaws
 pub mod SpendLaws
 pub mod WorkedCosts
+pub mod PackLaws
 pub mod ViewLaws

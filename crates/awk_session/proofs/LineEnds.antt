@@ -14,11 +14,12 @@ use Rattle.awk_valid.specs.declared.fault.BufferFault.TheVariants as buffers
 use Rattle.awk_valid.specs.declared.fault.Rule.{Rule}
 use Rattle.awk_valid.specs.declared.fault.Rule.TheVariants as rules
 use Rattle.awk_text.proofs.LineEnds as evaluations
+use Rattle.awk_text.proofs.PackedLines.{packed_text-unbroken}
 use Rattle.awk_text.proofs.LineEnds.{value_text-unbroken, values_text-unbroken}
 use Rattle.awk_session.specs.declared.fault.AnswerFault.{AnswerFault}
 use Rattle.awk_session.specs.declared.fault.AnswerFault.TheVariants as faults
 use Rattle.awk_session.specs.FaultText.{why_text, buffer_text, rule_text, fault_text}
-use Rattle.awk_session.specs.Answer.{Answer, bound, value, typ, names, fault, answer_text, datum_text}
+use Rattle.awk_session.specs.Answer.{Answer, bound, value, typ, packed, names, fault, answer_text, datum_text}
 
 -- three texts, one after another
 between : (head text tail : List ℕ) → Unbroken head → Unbroken text → Unbroken tail → Unbroken (head ++ text ++ tail)
@@ -94,5 +95,6 @@ pub answer_text-unbroken : (a : Answer) → Unbroken (answer_text a)
 answer_text-unbroken (bound n) = member-unbroken (codes "{\"bound\":") (quoted n) (literal-unbroken (codes "{\"bound\":") refl) (quoted-unbroken n)
 answer_text-unbroken (value d) = member-unbroken (codes "{\"value\":") (datum_text d) (literal-unbroken (codes "{\"value\":") refl) (datum_text-unbroken d)
 answer_text-unbroken (typ text) = member-unbroken (codes "{\"type\":") (quoted text) (literal-unbroken (codes "{\"type\":") refl) (quoted-unbroken text)
+answer_text-unbroken (packed p) = packed_text-unbroken p
 answer_text-unbroken (names ns) = member-unbroken (codes "{\"names\":") (list_text (map quoted ns)) (literal-unbroken (codes "{\"names\":") refl) (list_text-unbroken (map quoted ns) (quoted_texts-unbroken ns))
 answer_text-unbroken (fault f) = fault_text-unbroken f

@@ -3,15 +3,19 @@ use Rattle.std.specs.Prelude.{Bool, true, false, List, ℕ, map, ◌++◌, codes
 use Rattle.awk_types.specs.DataType.{Name}
 use Rattle.awk_types.specs.Datum.{Datum, arr, one}
 use Rattle.awk_json.specs.Text.{quoted, list_text}
+use Rattle.awk_pack.specs.Canon.{Pack}
+use Rattle.awk_text.specs.PackedText.{packed_text}
 use Rattle.awk_text.specs.ValueText.{value_text}
 use Rattle.awk_session.specs.declared.fault.AnswerFault.{AnswerFault}
 use Rattle.awk_session.specs.FaultText.{fault_text}
 
--- a name was bound, a value or the text of a type is shown, names are listed, or a fault is told
+-- a name was bound, a value, the text of a type or packed buffers are shown, names are listed, or a
+-- fault is told
 pub data Answer : Type 0 where
   bound : Name → Answer
   value : Datum → Answer
   typ : List ℕ → Answer
+  packed : Pack → Answer
   names : List Name → Answer
   fault : AnswerFault → Answer
 
@@ -19,6 +23,7 @@ abbrev pub is_fault : Answer → Bool
 is_fault (bound n) = false
 is_fault (value d) = false
 is_fault (typ text) = false
+is_fault (packed p) = false
 is_fault (names ns) = false
 is_fault (fault f) = true
 
@@ -31,5 +36,6 @@ abbrev pub answer_text : Answer → List ℕ
 answer_text (bound n) = codes "{\"bound\":" ++ quoted n ++ codes "}"
 answer_text (value d) = codes "{\"value\":" ++ datum_text d ++ codes "}"
 answer_text (typ text) = codes "{\"type\":" ++ quoted text ++ codes "}"
+answer_text (packed p) = packed_text p
 answer_text (names ns) = codes "{\"names\":" ++ list_text (map quoted ns) ++ codes "}"
 answer_text (fault f) = fault_text f

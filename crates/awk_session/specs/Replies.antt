@@ -2,9 +2,11 @@
 use Rattle.std.specs.Prelude.{ℕ, Bool, false, ◌||◌, ◌==◌, not, List, [], count_by, Some, None, Result, Ok, Err, if◌then◌else◌}
 use Rattle.std.specs.List.{list_all}
 use Rattle.awk_types.specs.DataType.{Name}
-use Rattle.awk_types.specs.Datum.{Datum}
+use Rattle.awk_types.specs.Datum.{Datum, arr, one}
 use Rattle.awk_types.specs.declared.fault.Fault.{Fault}
-use Rattle.awk_types.specs.declared.fault.Fault.TheVariants.{Unbuilt}
+use Rattle.awk_types.specs.declared.fault.Fault.TheVariants.{Size, WrongType}
+use Rattle.awk_pack.specs.Canon.{Pack, canon}
+use Rattle.awk_pack.specs.declared.packed.PackFault.{PackFault}
 use Rattle.awk_text.specs.TypeText.{datum_type_text}
 use Rattle.awk_query.specs.Line as lines
 use Rattle.awk_query.specs.Line.{Line, line_said}
@@ -17,7 +19,7 @@ use Rattle.awk_session.specs.Runs.{Step, texts, any_fault}
 use Rattle.awk_session.specs.Load.{loaded}
 use Rattle.awk_session.specs.declared.fault.AnswerFault.{AnswerFault}
 use Rattle.awk_session.specs.declared.fault.AnswerFault.TheVariants.{Json, Query, Evaluation}
-use Rattle.awk_session.specs.Answer.{Answer, bound, value, typ, names, fault, is_fault, answer_text}
+use Rattle.awk_session.specs.Answer.{Answer, bound, value, typ, packed, names, fault, is_fault, answer_text}
 
 -- only spaces, tabs and carriage returns
 abbrev pub is_blank : List ℕ → Bool
@@ -51,9 +53,15 @@ telling tell (Err f) = fault (Evaluation f)
 abbrev pub type_shown : Datum → Answer
 type_shown datum = typ (datum_type_text datum)
 
--- packing is not built yet
-abbrev pub packed : Datum → Answer
-packed datum = fault (Evaluation Unbuilt)
+-- the one fault of packing is a column that is too large
+abbrev pub packing : Result Pack PackFault → Answer
+packing (Ok p) = packed p
+packing (Err f) = fault (Evaluation Size)
+
+-- the packed buffers of an array; a single value has none
+abbrev pub pack_shown : Datum → Answer
+pack_shown (arr t vs) = packing (canon t vs)
+pack_shown (one t v) = fault (Evaluation WrongType)
 
 abbrev pub reply_line : Environment → Line → Reply
 reply_line variables (lines.load n form length buffers) =
@@ -62,7 +70,7 @@ reply_line variables (lines.bind n e) = reply_bind variables n (evaluated (eval 
 reply_line variables (lines.show e) = answering variables (telling value (eval variables e))
 reply_line variables (lines.type_of e) =
     answering variables (telling type_shown (eval variables e))
-reply_line variables (lines.pack e) = answering variables (telling packed (eval variables e))
+reply_line variables (lines.pack e) = answering variables (telling pack_shown (eval variables e))
 reply_line variables lines.names = answering variables (names (bindings.names variables))
 
 abbrev pub reply : Environment → Result Line Unread → Reply

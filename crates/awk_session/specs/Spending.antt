@@ -12,6 +12,8 @@ use Rattle.awk_eval.specs.Bindings as bindings
 use Rattle.awk_eval.specs.Bindings.{look_up}
 use Rattle.awk_eval.specs.Variables.{Variables}
 use Rattle.awk_eval.specs.Views.{Size, View, view_of, IsWithin, IsArray, IsTaken, OfView, size_of, sizes_of, size_in, size_or_none}
+use Rattle.awk_pack.specs.declared.packed.Packed.{Packed}
+use Rattle.awk_text.specs.Buffers.{numbers_in}
 use Rattle.awk_session.specs.Cost.{form_size, load_cost, text_cost, has_cost, line_cost, line_in, answer_length}
 use Rattle.awk_session.specs.AnswerView.{answer_view}
 use Rattle.awk_session.specs.Answer.{answer_text}
@@ -115,9 +117,14 @@ abbrev pub Takes : Variables → Option Line → ℕ → ℕ → Type 0
 Takes variables line steps0 steps1 =
     MatchOption line (steps1 ≡ steps0) (λ l. TakesBy variables l steps0 steps1)
 
--- the size of the value that an answer shows, and 0 where it shows none
+-- packed buffers are as wide as they have numbers
+abbrev pub packed_size : Packed → Size
+packed_size p = record { width = numbers_in p.lanes; height = 0 }
+
+-- the size of what an answer shows, and 0 where it shows nothing
 abbrev pub shown_size : code.Answer → Size
 shown_size (variant.Value d) = size_of d
+shown_size (variant.Packed p) = packed_size p
 shown_size _ = size_or_none None
 
 -- what putting an answer takes
@@ -136,9 +143,10 @@ abbrev pub ShowsView : Variables → Option View → code.Answer → Type 0
 ShowsView variables view a =
     OfView variables view (λ v. IsAtMost (shown_size a) (size_in variables v))
 
--- a show shows its view, and another line none
+-- a show shows its view, a pack line what it packs, and another line none
 abbrev pub ShowsBy : Variables → Line → code.Answer → Type 0
 ShowsBy variables (show e) a = ShowsView variables (view_of e) a
+ShowsBy variables (pack e) a = Unit {0}
 ShowsBy variables _ a = ShowsNone a
 
 -- what is no line shows none

@@ -4,10 +4,12 @@ ghost use Rattle.awk_edge.specs.Causes.{HasCause, flushes_after};
 ghost use Rattle.awk_edge.specs.Put.{Moves};
 ghost use Rattle.awk_json.specs.Text.{quoted, list_text};
 ghost use Rattle.awk_layout.specs.Datum.{IsDatum, datum_of};
+ghost use Rattle.awk_pack.specs.Shown.{packed_of};
 ghost use Rattle.awk_session.specs.Answer.{answer_text, datum_text, is_fault};
 ghost use Rattle.awk_session.specs.AnswerView.{answer_view, kind_is_fault, IsAnswer};
 ghost use Rattle.awk_session.specs.Cost.{text_cost};
-ghost use Rattle.awk_session.specs.Spending.{sent_cost};
+ghost use Rattle.awk_session.specs.Spending.{packed_size, sent_cost};
+ghost use Rattle.awk_text.specs.PackedText.{HasLanes, packed_text};
 ghost use Rattle.awk_eval.specs.Views.{size_of};
 ghost use Rattle.std.specs.Prelude.{OnOk};
 
@@ -17,7 +19,8 @@ use crate::pieces::write_quoted_between;
 use awk_edge::{Out, Sink, WriteFault};
 use awk_lanes::Steps;
 use awk_layout::Datum;
-use awk_text::{write_array, write_item};
+use awk_pack::Packed;
+use awk_text::{write_array, write_item, write_packed};
 use awk_types::Names;
 use std::sync::ledger::Ledger;
 
@@ -37,6 +40,8 @@ pub enum Answer<'v, 'a> {
     Value(Datum<'a>),
     /// The text of the type that is shown.
     Type(Vec<u8>),
+    /// The packed buffers that are shown.
+    Packed(Packed<'a>),
     /// The bound names, in order of first binding.
     Names(Names),
     /// The line has no other answer than this fault.
@@ -48,7 +53,11 @@ pub fn kind_of(answer: &Answer<'_, '_>) -> Answered
     ensures { kind_is_fault result ≡ is_fault (answer_view answer.now) }
 {
     match answer {
-        Answer::Bound(_) | Answer::Value(_) | Answer::Type(_) | Answer::Names(_) => Answered::Fine,
+        Answer::Bound(_)
+        | Answer::Value(_)
+        | Answer::Type(_)
+        | Answer::Packed(_)
+        | Answer::Names(_) => Answered::Fine,
         Answer::Fault(_) => Answered::Fault,
     }
 }
@@ -97,6 +106,7 @@ fn write_answer<K: Sink, L: Ledger>(
         }
         Answer::Value(datum) => write_value(datum, out, sink, steps),
         Answer::Type(text) => write_quoted_between(b"{\"type\":", text, b"}\n", out, sink),
+        Answer::Packed(p) => write_pack(p, out, sink, steps),
         Answer::Names(names) => write_names(names, out, sink),
         Answer::Fault(fault) => write_fault(fault, out, sink),
     }
@@ -143,6 +153,26 @@ fn write_datum<K: Sink, L: Ledger>(
         Datum::Arr(array) => write_array(array, out, sink, steps),
         Datum::One(array) => write_item(array, 0, out, sink, steps),
     }
+}
+
+// Puts packed buffers, as a whole answer.
+fn write_pack<K: Sink, L: Ledger>(
+    p: &Packed<'_>,
+    out: &mut Out,
+    sink: &mut K,
+    steps: &mut Steps<L>,
+) -> Result<(), WriteFault>
+    requires open { IsTrue out.old.is_open }
+    requires lanes { HasLanes (packed_of p.now) }
+    ensures bytes { Moves (K.written sink.old) (K.written sink.new) out.new
+        (out.old.held ++ (packed_text (packed_of p.now) ++ 10 ∷ [])) result }
+    ensures flushes { K.flushes sink.new ≡ K.flushes sink.old }
+    ensures cause { HasCause (K.faults sink.old) (K.faults sink.new) result }
+    ensures cost { steps.new ≤ steps.old
+        + text_cost (packed_size p.now) (length (packed_text (packed_of p.now))) }
+{
+    write_packed(p, out, sink, steps)?;
+    out.put(sink, b"\n")
 }
 
 // Puts the list of names, as a whole answer.

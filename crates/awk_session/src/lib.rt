@@ -5,6 +5,7 @@ mod answer;
 mod engine;
 mod fault;
 mod fault_text;
+pub mod laws;
 mod line;
 mod load;
 mod pieces;

@@ -31,6 +31,7 @@ use awk_eval::{Env, eval};
 use awk_kernels::Plain;
 use awk_lanes::{Arena, Steps};
 use awk_layout::Datum;
+use awk_pack::{PackFault, pack};
 use awk_query::{Expr, Line};
 use awk_types::{Fault, Name, Names};
 use serde_json::{Map, Value};
@@ -95,7 +96,7 @@ fn reply_line<'v, 's, 'a: 's, L: Ledger>(
         Line::Let { name, be } => bind_made(alloc, env, name, be, kept, steps),
         Line::Show(e) => show(alloc, env, e, arena, steps),
         Line::TypeOf(e) => show_type(alloc, env, e, arena, steps),
-        Line::Pack(e) => pack(alloc, env, e, arena, steps),
+        Line::Pack(e) => show_packed(alloc, env, e, arena, steps),
         Line::Names => Ok(Answer::Names(names_of(alloc, env)?)),
     }
 }
@@ -206,8 +207,8 @@ fn show_type<'v, 's, 'a: 's, L: Ledger>(
     }
 }
 
-// Packing is not built yet, which is told of what is something.
-fn pack<'v, 's, 'a: 's, L: Ledger>(
+// The packed buffers of an expression, or its fault.
+fn show_packed<'v, 's, 'a: 's, L: Ledger>(
     alloc: Global,
     env: &Env<'a>,
     e: &Expr,
@@ -216,13 +217,33 @@ fn pack<'v, 's, 'a: 's, L: Ledger>(
 ) -> Result<Answer<'v, 's>, AllocError>
     requires allowed { IsAllowed (expr_of e.now) }
     ensures shown { IfOk result (λ answer. answer_view answer ≡ replies.telling
-        replies.packed (meaning.eval (denoted env.now) (expr_of e.now))) }
+        replies.pack_shown (meaning.eval (denoted env.now) (expr_of e.now))) }
     ensures answer { IfOk result IsAnswer }
-    ensures shows { IfOk result ShowsNone }
 {
     match eval(alloc, env, e, &Plain, arena, steps) {
-        Ok(_) => Ok(Answer::Fault(AnswerFault::Evaluation(Fault::Unbuilt))),
+        Ok(datum) => packed(alloc, &datum, arena, steps),
         Err(fault) => refused(fault),
+    }
+}
+
+// The packed buffers of an array. A single value has none.
+fn packed<'v, 's, L: Ledger>(
+    alloc: Global,
+    datum: &Datum<'s>,
+    arena: &'s Arena,
+    steps: &mut Steps<L>,
+) -> Result<Answer<'v, 's>, AllocError>
+    ensures shown { IfOk result (λ answer.
+        answer_view answer ≡ replies.pack_shown (datum_of datum.now)) }
+    ensures answer { IfOk result IsAnswer }
+{
+    let Datum::Arr(array) = datum else {
+        return Ok(Answer::Fault(AnswerFault::Evaluation(Fault::WrongType)));
+    };
+    match pack(alloc, array, arena, steps) {
+        Ok(p) => Ok(Answer::Packed(p)),
+        Err(PackFault::Size) => Ok(Answer::Fault(AnswerFault::Evaluation(Fault::Size))),
+        Err(PackFault::NoMemory) => Err(AllocError),
     }
 }
 

@@ -16,3 +16,4 @@ pub mod BufferTexts
 pub mod OwnKeys
 pub mod BufferKeys
 pub mod PackedLines
+pub mod BufferCosts

@@ -1,6 +1,6 @@
 -- The buffers of a form with lanes, and their texts: nodes in pre-order, and at a node in the order
 -- of its class.
-use Rattle.std.specs.Prelude.{◌≡◌, ℕ, suc, ◌==◌, List, [], ◌∷◌, ◌++◌, get_or, Option, Some, None}
+use Rattle.std.specs.Prelude.{◌≡◌, ℕ, zero, suc, ◌+◌, ◌==◌, List, [], ◌∷◌, ◌++◌, get_or, Option, Some, None}
 use Rattle.std.specs.Prelude.{unwrap_or, codes, pos, refl, if◌then◌else◌}
 use Rattle.std.specs.List.{flat_map}
 use Rattle.base64.specs.Engines.{standard}
@@ -11,6 +11,7 @@ use Rattle.awk_types.specs.declared.primitive.Primitive.TheVariants as primitive
 use Rattle.awk_lanes.specs.declared.kind.Kind.TheVariants as kind
 use Rattle.awk_lanes.specs.Column.{Column}
 use Rattle.awk_lanes.specs.Numbers.{bytes_of}
+use Rattle.awk_lanes.specs.Places.{size_of}
 use Rattle.awk_json.specs.Text.{quoted}
 use Rattle.awk_form.specs.FormTree.{FormTree, FormTrees, fold, folds}
 use Rattle.awk_form.specs.FormTree.{empty, numpy, regular, list, list_offset, row}
@@ -84,6 +85,16 @@ abbrev pub texts_from : ℕ → List Name → List Column → List ℕ
 texts_from n [] cs = []
 texts_from n (k ∷ ks) cs =
     separator n ++ (buffer_text (k, lane_bytes (lane_at cs n)) ++ texts_from (suc n) ks cs)
+
+-- how many numbers the lanes before a place have, and how many all have
+abbrev pub numbers_before : ℕ → List Column → ℕ
+numbers_before zero cs = 0
+numbers_before (suc n) [] = 0
+numbers_before (suc n) (c ∷ cs) = size_of c + numbers_before n cs
+
+abbrev pub numbers_in : List Column → ℕ
+numbers_in [] = 0
+numbers_in (c ∷ cs) = size_of c + numbers_in cs
 
 -- ---- worked examples
 

@@ -3,9 +3,10 @@ ghost use Rattle.std.specs.Prelude.{◌≡◌, ◌<◌, ◌≤◌, ◌+◌, ◌+
 ghost use Rattle.awk_edge.specs.Causes.{HasCause};
 ghost use Rattle.awk_edge.specs.Put.{Moves};
 ghost use Rattle.awk_types.specs.DataType.{Name as Key};
+ghost use Rattle.awk_lanes.specs.Places.{size_of};
 ghost use Rattle.awk_form.specs.FormTree.{contents_of, forms_from};
 ghost use Rattle.awk_form.specs.View.{form_of, forms_of, keyed};
-ghost use Rattle.awk_text.specs.Buffers.{own_keys, buffer_keys, keys_of, lane_bytes, buffer_text, texts_from, separator as comma};
+ghost use Rattle.awk_text.specs.Buffers.{own_keys, buffer_keys, keys_of, lane_bytes, buffer_text, texts_from, numbers_before, separator as comma};
 
 use crate::encoded::write_base64;
 use awk_edge::{Out, Sink, WriteFault};
@@ -33,6 +34,8 @@ pub(crate) fn write_buffers<K: Sink, L: Ledger>(
         (next.new ≡ next.old + length (buffer_keys (form_of form.now))) }
     ensures flushes { K.flushes sink.new ≡ K.flushes sink.old }
     ensures cause { HasCause (K.faults sink.old) (K.faults sink.new) result }
+    ensures cost { steps.new + numbers_before next.old lanes.now
+        ≤ steps.old + numbers_before next.new lanes.now }
 {
     write_own(form, lanes, next, out, sink, steps)?;
     write_below(&form.shape, lanes, next, out, sink, steps)
@@ -58,6 +61,8 @@ fn write_below<K: Sink, L: Ledger>(
         (next.new ≡ next.old + length (keys_of (contents_of (keyed shape.now key)))) }
     ensures flushes { K.flushes sink.new ≡ K.flushes sink.old }
     ensures cause { HasCause (K.faults sink.old) (K.faults sink.new) result }
+    ensures cost { steps.new + numbers_before next.old lanes.now
+        ≤ steps.old + numbers_before next.new lanes.now }
 {
     match shape {
         Shape::Empty | Shape::Numpy { .. } => Ok(()),
@@ -94,6 +99,8 @@ fn write_all<K: Sink, L: Ledger>(
         (next.new ≡ next.old + length (keys_of (forms_from (forms_of forms.now)))) }
     ensures flushes { K.flushes sink.new ≡ K.flushes sink.old }
     ensures cause { HasCause (K.faults sink.old) (K.faults sink.new) result }
+    ensures cost { steps.new + numbers_before next.old lanes.now
+        ≤ steps.old + numbers_before next.new lanes.now }
 {
     for i in 0..forms.len() {
         write_buffers(forms.get(i), lanes, next, out, sink, steps)?;
@@ -117,6 +124,8 @@ fn write_own<K: Sink, L: Ledger>(
     ensures next { OnOk result (next.new ≡ next.old + length (own_keys (form_of form.now))) }
     ensures flushes { K.flushes sink.new ≡ K.flushes sink.old }
     ensures cause { HasCause (K.faults sink.old) (K.faults sink.new) result }
+    ensures cost { steps.new + numbers_before next.old lanes.now
+        ≤ steps.old + numbers_before next.new lanes.now }
 {
     let key = &form.key;
     match &form.shape {
@@ -153,6 +162,8 @@ fn write_two<K: Sink, L: Ledger>(
     ensures next { OnOk result (next.new ≡ next.old + 2) }
     ensures flushes { K.flushes sink.new ≡ K.flushes sink.old }
     ensures cause { HasCause (K.faults sink.old) (K.faults sink.new) result }
+    ensures cost { steps.new + numbers_before next.old lanes.now
+        ≤ steps.old + numbers_before next.new lanes.now }
 {
     write_next(key, first, lanes, next, out, sink, steps)?;
     write_next(key, second, lanes, next, out, sink, steps)
@@ -176,6 +187,8 @@ fn write_next<K: Sink, L: Ledger>(
     ensures next { next.new ≡ next.old + 1 }
     ensures flushes { K.flushes sink.new ≡ K.flushes sink.old }
     ensures cause { HasCause (K.faults sink.old) (K.faults sink.new) result }
+    ensures cost { steps.new + numbers_before next.old lanes.now
+        ≤ steps.old + numbers_before next.new lanes.now }
 {
     let _ = lanes.len(); // so the number of the next buffer fits
     let at = *next;
@@ -204,6 +217,7 @@ fn write_buffer<K: Sink, L: Ledger>(
         ++ buffer_text (unwrap_or key.now [] ++ attribute.now, lane_bytes lane.now)) result }
     ensures flushes { K.flushes sink.new ≡ K.flushes sink.old }
     ensures cause { HasCause (K.faults sink.old) (K.faults sink.new) result }
+    ensures cost { steps.new ≤ steps.old + size_of lane.now }
 {
     write_joined(out, sink, key_text(key), attribute)?;
     out.put(sink, b":\"")?;

@@ -1,8 +1,9 @@
 //! The texts of packed arrays.
-ghost use Rattle.std.specs.Prelude.{◌≡◌, ◌++◌, IsTrue};
+ghost use Rattle.std.specs.Prelude.{◌≡◌, ◌≤◌, ◌+◌, ◌++◌, IsTrue};
 ghost use Rattle.awk_edge.specs.Causes.{HasCause};
 ghost use Rattle.awk_edge.specs.Put.{Moves};
 ghost use Rattle.awk_pack.specs.Shown.{packed_of};
+ghost use Rattle.awk_text.specs.Buffers.{numbers_in};
 ghost use Rattle.awk_text.specs.PackedText.{HasLanes, packed_text, buffers_text};
 
 use crate::buffers::write_buffers;
@@ -27,6 +28,7 @@ pub fn write_packed<K: Sink, L: Ledger>(
         (out.old.held ++ packed_text (packed_of p.now)) result }
     ensures flushes { K.flushes sink.new ≡ K.flushes sink.old }
     ensures cause { HasCause (K.faults sink.old) (K.faults sink.new) result }
+    ensures cost { steps.new ≤ steps.old + numbers_in p.now.lanes }
 {
     out.put(sink, b"{\"form\":")?;
     write_form(&p.form, out, sink)?;
@@ -50,6 +52,7 @@ fn write_all_buffers<K: Sink, L: Ledger>(
         (out.old.held ++ buffers_text (packed_of p.now)) result }
     ensures flushes { K.flushes sink.new ≡ K.flushes sink.old }
     ensures cause { HasCause (K.faults sink.old) (K.faults sink.new) result }
+    ensures cost { steps.new ≤ steps.old + numbers_in p.now.lanes }
 {
     let mut next = 0;
     out.put(sink, b"{")?;

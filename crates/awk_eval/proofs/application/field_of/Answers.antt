@@ -2,7 +2,8 @@ use Rattle.std.proofs.Common.{Ok, ap, sym, ◌∙◌}
 use Rattle.awk_layout.specs.Datum.{datum_of}
 use Rattle.awk_view.specs.Choice.{field}
 use Rattle.awk_eval.specs.Eval as meaning
-use Rattle.awk_eval.proofs.Singles.{one_item, len-chosen, field_of-one}
+use Rattle.awk_lists.proofs.Singles.{one_item, len-chosen}
+use Rattle.awk_eval.proofs.Singles.{field_of-one}
 use Rattle.awk_eval.proofs.application.field_of.Goals as goal
 
 pub settled-requires : goal.settled-requires

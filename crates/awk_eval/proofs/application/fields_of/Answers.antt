@@ -2,7 +2,7 @@ use Rattle.std.proofs.Common.{ap, ◌∙◌}
 use Rattle.awk_layout.specs.Datum.{datum_of}
 use Rattle.awk_view.specs.Choice.{fields}
 use Rattle.awk_eval.specs.Eval as meaning
-use Rattle.awk_eval.proofs.Singles.{one_item, len-chosen, choice_of-one}
+use Rattle.awk_lists.proofs.Singles.{one_item, len-chosen, choice_of-one}
 use Rattle.awk_eval.proofs.application.fields_of.Goals as goal
 
 pub returns-in_ok-fields-in-One-clause-answer : goal.returns-in_ok-fields-in-One-clause-answer

@@ -1,17 +1,8 @@
-use Rattle.std.proofs.Common.{ap, ◌∙◌}
-use Rattle.awk_layout.specs.Datum.{datum_of}
-use Rattle.awk_view.specs.Choice.{without}
-use Rattle.awk_eval.specs.Eval as meaning
-use Rattle.awk_eval.proofs.Singles.{one_item, len-chosen, choice_of-one}
+use Rattle.awk_eval.proofs.ViewSteps.{Takes-kept}
 use Rattle.awk_eval.proofs.application.without_of.Goals as goal
 
-pub returns-in_ok-without-in-One-clause-answer : goal.returns-in_ok-without-in-One-clause-answer
-returns-in_ok-without-in-One-clause-answer g c =
-    ap (λ x. meaning.without_of c.args.name.now (datum_of x)) c.in-One.is
-    ∙ choice_of-one (without c.args.name.now) c.in-One.x c.in_ok-without-in-One.field-0
-    (one_item c.args.x.now c.in-One.x c.in-One.is c.requires) c.in_ok-without-in-One.ensures.answer
-
-pub returns-in_ok-without-in-One-clause-datum : goal.returns-in_ok-without-in-One-clause-datum
-returns-in_ok-without-in-One-clause-datum g c =
-    len-chosen (without c.args.name.now) c.in-One.x c.in_ok-without-in-One.field-0
-    (one_item c.args.x.now c.in-One.x c.in-One.is c.requires) c.in_ok-without-in-One.ensures.answer
+pub returns-clause-cost : goal.returns-clause-cost
+returns-clause-cost g c s within =
+    Takes-kept s c.args.name.now c.args.x.now c.args.steps.now c.without_field.new.steps
+    c.without_field.result within c.without_field.ensures.answer c.without_field.ensures.cost
+    c.without_field.ensures.nodes c.without_field.ensures.height

@@ -1,12 +1,15 @@
-use Rattle.std.proofs.Common.{◌≡◌, ◌+◌, ◌∷◌, [], length, length-append, Err, ap, sym, ◌∙◌, subst, arith, rules}
+use Rattle.std.proofs.Common.{◌≡◌, ◌+◌, ◌∷◌, [], length, length-append, Err, ap, sym, ◌∙◌, subst}
+use Rattle.std.proofs.Common.{arith, rules}
 use Rattle.awk_types.specs.Faults.{fault_told}
 use Rattle.awk_types.proofs.RefusalLaws.{Gives-Err}
 use Rattle.awk_query.specs.Allowed.{HasArguments}
 use Rattle.awk_query.specs.View.{expr_of, exprs_of}
 use Rattle.awk_eval.specs.Variables.{denoted}
-use Rattle.awk_eval.proofs.Evaluations.{operands-push, operands-told, AreAllowed-get, HasArguments-call}
+use Rattle.awk_eval.proofs.Evaluations.{operands-push, operands-told, AreAllowed-get}
+use Rattle.awk_eval.proofs.Evaluations.{HasArguments-call}
 use Rattle.awk_eval.specs.Views.{view_of, only_view, size_in, AreWithin, IsOperandWithin}
-use Rattle.awk_eval.proofs.ViewSteps.{OfView-all, Taken-get, within-get, TakesView-steps, TakesView-within, TakesView-fault, TakesView-call, IfOk-IsErr}
+use Rattle.awk_eval.proofs.ViewSteps.{OfView-all, Taken-get, within-get, TakesView-steps}
+use Rattle.awk_eval.proofs.ViewSteps.{TakesView-within, TakesView-fault, TakesView-call, IfOk-IsErr}
 use Rattle.awk_eval.proofs.evaluation.+eval.Goals as goal
 
 pub eval-apply-requires : goal.eval-apply-requires

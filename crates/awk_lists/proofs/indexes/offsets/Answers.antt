@@ -1,5 +1,5 @@
-use Rattle.std.proofs.Common.{◌≡◌, ◌+◌, ◌≤◌, length, ap, sym, ◌∙◌, arith}
-use Rattle.std.specs.Prelude.{ℕ, pos}
+use Rattle.std.proofs.Common.{◌≡◌, ◌+◌, ◌≤◌, length, ap, ◌∙◌, arith}
+use Rattle.std.specs.Prelude.{pos}
 use Rattle.awk_lanes.specs.declared.kind.Kind.TheVariants as Kind
 use Rattle.awk_lanes.specs.Places.{size_of}
 use Rattle.awk_lists.specs.Lanes.{before}
@@ -10,40 +10,56 @@ use Rattle.awk_lists.proofs.indexes.offsets.Goals as goal
 pub finish-requires : goal.finish-requires
 finish-requires g c =
     let e : length c.loop-i.maker.items ≡ c.loop-i.i + 1 =
-        made_size (λ j. pos (before c.args.starts.now c.args.stops.now j)) (c.loop-i.i + 1) _
-        c.loop-i.invariant.made.items in
+    made_size (λ j. pos (before c.args.starts.now c.args.stops.now j)) (c.loop-i.i + 1) _
+    c.loop-i.invariant.made.items in
     omega (arith, e, c.loop-i.invariant.made.room, c.loop-i-test.false)
 
 pub overflow_add-end : goal.overflow_add-end
 overflow_add-end g c =
     let b : before c.args.starts.now c.args.stops.now (c.loop-i.i + 1) ≤ before c.args.starts.now
-        c.args.stops.now (size_of c.args.starts.now) =
-        before_mono c.args.starts.now c.args.stops.now (c.loop-i.i + 1) (size_of c.args.starts.now)
-        (omega (arith, c.loop-i-test.true)) in
-    omega (arith, b, before-next c.args.starts.now c.args.stops.now c.loop-i.i,
-        c.loop-i.invariant.total, c.length_at-end.ensures.length, c.requires.total)
+    c.args.stops.now (size_of c.args.starts.now) =
+    before_mono c.args.starts.now c.args.stops.now (c.loop-i.i + 1) (size_of c.args.starts.now)
+    (omega (arith, c.loop-i-test.true)) in
+    omega (
+      arith,
+      b,
+      before-next c.args.starts.now c.args.stops.now c.loop-i.i,
+      c.loop-i.invariant.total,
+      c.length_at-end.ensures.length,
+      c.requires.total,
+    )
 
 pub number-requires-in-loop-i : goal.number-requires-in-loop-i
 number-requires-in-loop-i g c =
     let b : before c.args.starts.now c.args.stops.now (c.loop-i.i + 1) ≤ before c.args.starts.now
-        c.args.stops.now (size_of c.args.starts.now) =
-        before_mono c.args.starts.now c.args.stops.now (c.loop-i.i + 1) (size_of c.args.starts.now)
-        (omega (arith, c.loop-i-test.true)) in
-    omega (arith, b, before-next c.args.starts.now c.args.stops.now c.loop-i.i,
-        c.loop-i.invariant.total, c.length_at-end.ensures.length, c.requires.total)
+    c.args.stops.now (size_of c.args.starts.now) =
+    before_mono c.args.starts.now c.args.stops.now (c.loop-i.i + 1) (size_of c.args.starts.now)
+    (omega (arith, c.loop-i-test.true)) in
+    omega (
+      arith,
+      b,
+      before-next c.args.starts.now c.args.stops.now c.loop-i.i,
+      c.loop-i.invariant.total,
+      c.length_at-end.ensures.length,
+      c.requires.total,
+    )
 
 pub push-requires-in-loop-i-clause-room : goal.push-requires-in-loop-i-clause-room
 push-requires-in-loop-i-clause-room g c =
     let e : length c.loop-i.maker.items ≡ c.loop-i.i + 1 =
-        made_size (λ j. pos (before c.args.starts.now c.args.stops.now j)) (c.loop-i.i + 1) _
-        c.loop-i.invariant.made.items in
+    made_size (λ j. pos (before c.args.starts.now c.args.stops.now j)) (c.loop-i.i + 1) _
+    c.loop-i.invariant.made.items in
     omega (arith, e, c.loop-i.invariant.made.room, c.loop-i-test.true)
 
 pub loop-i-preserved : goal.loop-i-preserved
 loop-i-preserved g c =
     let t : c.loop-i.end + c.length_at-end.result ≡ before c.args.starts.now c.args.stops.now
-        (c.loop-i.i + 1) = omega (arith, before-next c.args.starts.now c.args.stops.now c.loop-i.i,
-        c.loop-i.invariant.total, c.length_at-end.ensures.length) in
+    (c.loop-i.i + 1) = omega (
+      arith,
+      before-next c.args.starts.now c.args.stops.now c.loop-i.i,
+      c.loop-i.invariant.total,
+      c.length_at-end.ensures.length,
+    ) in
     record {
       total = t;
       made = so_far_pushed Kind.I64 (size_of c.args.starts.now + 1)

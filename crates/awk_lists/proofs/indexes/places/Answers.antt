@@ -1,6 +1,5 @@
 use Rattle.std.proofs.Common.{arith}
-use Rattle.awk_lanes.specs.Places.{size_of}
-use Rattle.awk_lists.proofs.Offsets.{places_first, places_more, places_next, places_room}
+use Rattle.awk_lists.proofs.Offsets.{places_more, places_room}
 use Rattle.awk_lists.proofs.Offsets.{places_done}
 use Rattle.awk_lists.proofs.indexes.places.Goals as goal
 

@@ -8,6 +8,6 @@ pub returns-then-length-sum : goal.returns-then-length-sum
 returns-then-length-sum g c =
     let p : c.loop-i.i < size_of c.args.starts.now = omega (arith, c.loop-i-test.true) in
     let q : item_limit < c.loop-i.sum + c.length_at-length.result =
-        omega (arith, c.if-length-sum.true, c.loop-i.invariant.small) in
+    omega (arith, c.if-length-sum.true, c.loop-i.invariant.small) in
     total_passed c.args.starts.now c.args.stops.now c.loop-i.i c.loop-i.sum
-        c.length_at-length.result p c.loop-i.invariant.total c.length_at-length.ensures.length q
+    c.length_at-length.result p c.loop-i.invariant.total c.length_at-length.ensures.length q

@@ -1,5 +1,5 @@
-use Rattle.std.proofs.Common.{◌≡◌, length, ap, sym, ◌∙◌, arith}
-use Rattle.std.specs.Prelude.{ℕ, ℤ, pos}
+use Rattle.std.proofs.Common.{◌≡◌, length, ap, ◌∙◌, arith}
+use Rattle.std.specs.Prelude.{pos}
 use Rattle.awk_lanes.specs.declared.kind.Kind.TheVariants as Kind
 use Rattle.awk_lanes.specs.Places.{size_of}
 use Rattle.awk_lists.specs.Lanes.{span_length}
@@ -9,8 +9,8 @@ use Rattle.awk_lists.proofs.length.lengths.Goals as goal
 pub push-requires-clause-room : goal.push-requires-clause-room
 push-requires-clause-room g c =
     let e : length c.loop-i.maker.items ≡ c.loop-i.i =
-        made_size (λ i. pos (span_length c.args.starts.now c.args.stops.now i)) c.loop-i.i _
-        c.loop-i.invariant.items in
+    made_size (λ i. pos (span_length c.args.starts.now c.args.stops.now i)) c.loop-i.i _
+    c.loop-i.invariant.items in
     omega (arith, e, c.loop-i.invariant.room, c.loop-i-test.true)
 
 pub loop-i-preserved : goal.loop-i-preserved
@@ -22,6 +22,6 @@ loop-i-preserved g c = so_far_pushed Kind.I64 (size_of c.args.starts.now)
 pub finish-requires : goal.finish-requires
 finish-requires g c =
     let e : length c.loop-i.maker.items ≡ c.loop-i.i =
-        made_size (λ i. pos (span_length c.args.starts.now c.args.stops.now i)) c.loop-i.i _
-        c.loop-i.invariant.items in
+    made_size (λ i. pos (span_length c.args.starts.now c.args.stops.now i)) c.loop-i.i _
+    c.loop-i.invariant.items in
     omega (arith, e, c.loop-i.invariant.room, c.loop-i-test.false)

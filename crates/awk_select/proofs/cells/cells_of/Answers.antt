@@ -1,6 +1,4 @@
-use Rattle.std.proofs.Common.{sym, subst}
 use Rattle.awk_layout.specs.Typing.{array_type}
-use Rattle.awk_gather.specs.Opened.{IsOpened}
 use Rattle.awk_select.proofs.CellLaws.{only_cells}
 use Rattle.awk_select.proofs.cells.cells_of.Goals as goal
 

@@ -1,5 +1,4 @@
-use Rattle.std.proofs.Common.{◌≡◌, ◌≤◌, ◌<◌, length, arith, ap, sym, ◌∙◌, subst}
-use Rattle.std.specs.Prelude.{false}
+use Rattle.std.proofs.Common.{length, arith, ap, sym, ◌∙◌, subst}
 use Rattle.awk_types.specs.Simple.{is_option}
 use Rattle.awk_types.specs.View.{typ_of}
 use Rattle.awk_lanes.specs.Places.{IsIndex, IsOptionalIndex}
@@ -7,7 +6,8 @@ use Rattle.awk_layout.specs.Typing.{array_type, array_items}
 use Rattle.awk_layout.proofs.ArrayItems.{length-array_items}
 use Rattle.awk_select.specs.Picks.{take_places}
 use Rattle.awk_select.proofs.PickAnswers.{take-outside, take-size, take-said}
-use Rattle.awk_select.proofs.PickedPlaces.{take-lane, optional-lane, index-lane, take_places-below, take_places-there}
+use Rattle.awk_select.proofs.PickedPlaces.{take-lane, optional-lane, index-lane, take_places-below}
+use Rattle.awk_select.proofs.PickedPlaces.{take_places-there}
 use Rattle.awk_select.proofs.indexes.taken_items.Goals as goal
 
 pub returns-then-not-are_inside : goal.returns-then-not-are_inside

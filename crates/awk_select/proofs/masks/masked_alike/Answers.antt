@@ -1,4 +1,4 @@
-use Rattle.std.proofs.Common.{◌≡◌, arith, sym, ◌∙◌}
+use Rattle.std.proofs.Common.{arith}
 use Rattle.awk_select.proofs.PickAnswers.{alike-refused, alike-said}
 use Rattle.awk_select.proofs.masks.masked_alike.Goals as goal
 

@@ -1,4 +1,4 @@
-use Rattle.std.proofs.Common.{◌≡◌, ◌≤◌, length, arith, ap, sym, ◌∙◌}
+use Rattle.std.proofs.Common.{arith, ap, sym, ◌∙◌}
 use Rattle.awk_types.specs.Simple.{is_option}
 use Rattle.awk_types.specs.View.{typ_of}
 use Rattle.awk_layout.specs.Typing.{array_type, array_items}
@@ -6,7 +6,8 @@ use Rattle.awk_layout.specs.Valid.{len}
 use Rattle.awk_layout.proofs.ArrayItems.{length-array_items}
 use Rattle.awk_select.specs.Picks.{mask_places}
 use Rattle.awk_select.proofs.PickAnswers.{mask-said}
-use Rattle.awk_select.proofs.PickedPlaces.{optional-lane, index-lane, mask_places-below, mask_places-there, mask_leaf}
+use Rattle.awk_select.proofs.PickedPlaces.{optional-lane, index-lane, mask_places-below}
+use Rattle.awk_select.proofs.PickedPlaces.{mask_places-there, mask_leaf}
 use Rattle.awk_select.proofs.masks.masked_items.Goals as goal
 
 pub cells_of-requires : goal.cells_of-requires

@@ -1,4 +1,4 @@
-use Rattle.std.proofs.Common.{◌≡◌, ◌+◌, ◌-◌, ◌*◌, ◌<◌, ℕ, suc, arith, ap, sym, ◌∙◌}
+use Rattle.std.proofs.Common.{◌≡◌, ◌+◌, ◌-◌, ◌*◌, arith, ap, ◌∙◌}
 use Rattle.std.specs.Prelude.{pos}
 use Rattle.awk_lanes.specs.Numbers.{int_of}
 use Rattle.awk_gather.proofs.MadeLanes.{so_far_pushed}

@@ -1,4 +1,4 @@
-use Rattle.std.proofs.Common.{◌≡◌, Ok, ap, ap₂, sym, ◌∙◌}
+use Rattle.std.proofs.Common.{Ok, ap, ap₂, sym, ◌∙◌}
 use Rattle.std.specs.Int.{w64}
 use Rattle.std.proofs.lemmas.Int.{to_z-of_z}
 use Rattle.awk_types.specs.Datum.{arr}

@@ -91,6 +91,7 @@ write_all-loop-i-init g t c = record {
   next = omega arith;
   flushes = refl;
   later = omega arith;
+  cost = omega arith;
 }
 
 pub write_all-write_buffers-requires : goal.write_all-write_buffers-requires
@@ -136,6 +137,7 @@ write_all-loop-i-preserved g t c =
       next = omega (arith, v.next, c.in_ok-write_buffers.ensures.next, length-append v.done ks);
       flushes = c.write_buffers.ensures.flushes ∙ v.flushes;
       later = omega (arith, v.later, c.write_buffers.ensures.cause.later);
+      cost = omega (arith, v.cost, c.write_buffers.ensures.cost);
     }
 
 pub write_all-returns-clause-bytes : goal.write_all-returns-clause-bytes

@@ -4,7 +4,7 @@ use Rattle.awk_edge.specs.Put.{Moves}
 use Rattle.awk_edge.specs.declared.output.WriteFault.{WriteFault}
 use Rattle.awk_form.specs.FormTree.{forms_from}
 use Rattle.awk_form.specs.View.{forms_of}
-use Rattle.awk_text.specs.Buffers.{keys_of, texts_from}
+use Rattle.awk_text.specs.Buffers.{keys_of, texts_from, numbers_before}
 use Rattle.awk_text.proofs.buffers.+buffers.Given as goal
 
 abbrev pub decreases-write_all : goal.decreases-write_all
@@ -25,4 +25,5 @@ invariant-write_all-loop-i g l = record {
   next : l.next ≡ l.fn.next + length done;
   flushes : g.K.Sink.flushes l.sink ≡ g.K.Sink.flushes l.fn.sink;
   later : g.K.Sink.faults l.fn.sink ≤ g.K.Sink.faults l.sink;
+  cost : l.steps + numbers_before l.fn.next l.lanes ≤ l.fn.steps + numbers_before l.next l.lanes;
 }

@@ -5,6 +5,7 @@ use Rattle.awk_form.specs.View.{form_of}
 use Rattle.awk_pack.specs.Shown.{packed_of}
 use Rattle.awk_text.specs.Buffers.{buffer_keys, buffer_text}
 use Rattle.awk_text.specs.PackedText.{buffers}
+use Rattle.awk_text.proofs.BufferCosts.{numbers_before-all}
 use Rattle.awk_text.proofs.BufferTexts.{texts_from-all}
 use Rattle.awk_text.proofs.packed.write_all_buffers.Goals as goal
 
@@ -31,3 +32,11 @@ returns-clause-bytes g c =
     let all = sym (texts_from-all (buffer_keys (form_of p.form)) p.lanes c.requires.lanes) in
     goes_to _ (codes "{") (texts ++ codes "}") c.in_ok-put.ensures.bytes
     (goes_to _ texts (codes "}") (puts_same _ all c.in_ok-write_buffers.ensures.bytes) c.put-2.ensures.bytes)
+
+pub returns-in_err-write_buffers-clause-cost : goal.returns-in_err-write_buffers-clause-cost
+returns-in_err-write_buffers-clause-cost g c =
+    omega (arith, c.write_buffers.ensures.cost, numbers_before-all c.write_buffers.new.next c.args.p.now.lanes)
+
+pub returns-clause-cost : goal.returns-clause-cost
+returns-clause-cost g c =
+    omega (arith, c.write_buffers.ensures.cost, numbers_before-all c.write_buffers.new.next c.args.p.now.lanes)

@@ -1,4 +1,4 @@
-use Rattle.std.proofs.Common.{◌≡◌, ◌≤◌, None, Some, ap, sym, ◌∙◌, arith}
+use Rattle.std.proofs.Common.{◌≤◌, None, Some, arith}
 use Rattle.awk_lanes.specs.Places.{size_of}
 use Rattle.awk_lists.specs.Lanes.{before, IsTotal}
 use Rattle.awk_gather.specs.Counted.{item_limit}
@@ -7,9 +7,11 @@ use Rattle.awk_lists.proofs.Offsets.{local-length, local_given, local_spoilt, lo
 use Rattle.awk_lists.proofs.indexes.LocalIndexListOp.column.Goals as goal
 
 pub total-requires : goal.total-requires
-total-requires g c = record { spans =
-    lists_within c.args._class c.args.starts.now c.args.stops.now c.args._content.now
-    c.requires.lists }
+total-requires g c = record {
+  spans =
+      lists_within c.args._class c.args.starts.now c.args.stops.now c.args._content.now
+      c.requires.lists;
+}
 
 pub offsets-requires-clause-spans : goal.offsets-requires-clause-spans
 offsets-requires-clause-spans g c =
@@ -23,9 +25,13 @@ places-requires-clause-spans g c = lists_within c.args._class c.args.starts.now 
 pub numpy-requires : goal.numpy-requires
 numpy-requires g c =
     let t : IsTotal c.args.starts.now c.args.stops.now (Some c.in-Some.n) =
-        rw c.in-Some.is at c.total.ensures in
-    rw c.in_ok-places-in-Some.ensures (omega (arith,
-        local-length c.args.starts.now c.args.stops.now (size_of c.args.starts.now), t.0, t.1))
+    rw c.in-Some.is at c.total.ensures in
+    rw c.in_ok-places-in-Some.ensures (omega (
+      arith,
+      local-length c.args.starts.now c.args.stops.now (size_of c.args.starts.now),
+      t.0,
+      t.1,
+    ))
 
 pub returns-in-None : goal.returns-in-None
 returns-in-None g c =
@@ -35,9 +41,9 @@ returns-in-None g c =
 pub returns-in_ok-places-in-Some : goal.returns-in_ok-places-in-Some
 returns-in_ok-places-in-Some g c =
     let t : IsTotal c.args.starts.now c.args.stops.now (Some c.in-Some.n) =
-        rw c.in-Some.is at c.total.ensures in
+    rw c.in-Some.is at c.total.ensures in
     let p : before c.args.starts.now c.args.stops.now (size_of c.args.starts.now) ≤ item_limit =
-        omega (arith, t.0, t.1) in (
+    omega (arith, t.0, t.1) in (
       local_fine c.args.starts.now c.args.stops.now c.args._content.now p,
       rw (c.numpy.ensures.node, c.in_ok-places-in-Some.ensures, c.in_ok-offsets-in-Some.ensures)
           (local_given c.args._class c.args.starts.now c.args.stops.now c.args._content.now

@@ -1,0 +1,13 @@
+use Rattle.awk_layout.specs.Typing.{array_type}
+use Rattle.awk_axis.proofs.IfOk.{if_ok}
+use Rattle.awk_lists.specs.Numbers.{AreNumbers, AreCounts}
+use Rattle.awk_lists.proofs.Leaves.{counts_leaf, are_whole}
+use Rattle.awk_lists.proofs.cutting.counts_of.Goals as goal
+
+pub numbers_of-requires : goal.numbers_of-requires
+numbers_of-requires g c = counts_leaf (array_type c.args.counts.now) c.requires
+
+pub returns : goal.returns
+returns g c =
+    if_ok (AreNumbers c.args.counts.now) (AreCounts c.args.counts.now) c.numbers_of.result
+    (λ n h. are_whole c.args.counts.now n c.requires h) c.numbers_of.ensures

@@ -1,0 +1,15 @@
+use Rattle.awk_axis.specs.Joined.{IsJoined}
+use Rattle.awk_axis.specs.Opened.{OpensLists}
+use Rattle.awk_axis.proofs.IfOk.{if_ok}
+use Rattle.awk_lists.specs.Listed.{IsListed}
+use Rattle.awk_lists.proofs.Ends.{lists_joined}
+use Rattle.awk_lists.proofs.joining.lists_of.Goals as goal
+
+pub returns-in-Items : goal.returns-in-Items
+returns-in-Items g c =
+    let opens : OpensLists c.in-Items.class c.in-Items.starts c.in-Items.stops c.in-Items.content
+    c.args.x.now = rw c.in-Items.is at c.in_ok-open_array.ensures in
+    if_ok (IsJoined c.in-Items.starts c.in-Items.stops c.in-Items.content) (IsListed c.args.x.now)
+    c.join_spans.result
+    (λ j h. lists_joined c.in-Items.class c.in-Items.starts c.in-Items.stops
+    c.in-Items.content c.args.x.now j opens h) c.join_spans.ensures

@@ -1,0 +1,134 @@
+//! The lanes of one node, and the arrays of its contents.
+ghost use Rattle.std.specs.Prelude.{◌≡◌, [], ◌∷◌, List, true, IfOk};
+ghost use Rattle.awk_types.specs.DataType.{DataType};
+ghost use Rattle.awk_types.specs.Value.{Value};
+ghost use Rattle.awk_types.specs.View.{typ_of};
+ghost use Rattle.awk_layout.specs.Layout.{lists};
+ghost use Rattle.awk_layout.specs.Typing.{array_type, array_items};
+ghost use Rattle.awk_layout.specs.Valid.{IsValid};
+ghost use Rattle.awk_gather.specs.declared.opening.Opened.TheVariants as Opened;
+ghost use Rattle.awk_pack.specs.Canon.{is_too_large};
+ghost use Rattle.awk_pack.specs.Packing.{IsColumn, IsLeft, IfSize, is_regular as is_regular_type};
+
+use crate::column::{joined, leaf_lane};
+use crate::packed::PackFault;
+use awk_gather::{Opened, in_order};
+use awk_lanes::{Arena, Lane, Lanes, Steps};
+use awk_layout::{Array, Arrays};
+use awk_types::{NoMemory, Typ};
+use std::alloc::Global;
+use std::sync::ledger::Ledger;
+
+/// The most items of a column.
+const COLUMN_LIMIT: u64 = 1_073_741_824;
+
+/// Whether lists of a type are all of one length.
+fn is_regular(t: &Typ) -> bool
+    ensures { result ≡ is_regular_type (typ_of t.now) }
+{
+    match t {
+        Typ::Reg(_, _) => true,
+        _ => false,
+    }
+}
+
+/// The only one.
+fn only<'a>(alloc: Global, content: Array<'a>) -> Result<Arrays<'a>, NoMemory>
+    ensures { IfOk result (λ ys. ys ≡ content.entry ∷ []) }
+{
+    let mut contents = Arrays::new(alloc);
+    contents.push(content)?;
+    Ok(contents)
+}
+
+/// Numbers or truth values, which have no contents.
+fn leaf_contents<'a, L: Ledger>(
+    alloc: Global,
+    lane: &Lane<'a>,
+    lanes: &mut Lanes<'a>,
+    arena: &'a Arena,
+    steps: &mut Steps<L>,
+) -> Result<Arrays<'a>, NoMemory>
+    ensures left { (t : DataType) (vs : List Value) → IsColumn t vs (Opened.Leaf lane.now) →
+        IfOk result (λ ys. IsLeft t vs lanes.old ys lanes.new) }
+{
+    lanes.push(leaf_lane(lane, arena, steps)?)?;
+    Ok(Arrays::new(alloc))
+}
+
+/// Lists, by their type: offsets where their lengths differ, and their items.
+fn list_contents<'a, L: Ledger>(
+    alloc: Global,
+    typ: &Typ,
+    starts: &Lane<'a>,
+    stops: &Lane<'a>,
+    content: &Array<'a>,
+    lanes: &mut Lanes<'a>,
+    arena: &'a Arena,
+    steps: &mut Steps<L>,
+) -> Result<Arrays<'a>, PackFault>
+    requires valid { IsValid (lists starts.now stops.now content.now) }
+    ensures left { let opened = Opened.Items starts.now stops.now content.now in
+        (vs : List Value) → IsColumn (typ_of typ.now) vs opened →
+        IfOk result (λ ys. IsLeft (typ_of typ.now) vs lanes.old ys lanes.new) }
+    ensures size { let opened = Opened.Items starts.now stops.now content.now in
+        (vs : List Value) → IsColumn (typ_of typ.now) vs opened →
+        IfSize result (is_too_large (typ_of typ.now) vs ≡ true) }
+{
+    let lists = joined(alloc, starts, stops, content, arena, steps)?;
+    if is_regular(typ) {
+        return Ok(only(alloc, lists.content)?);
+    }
+    lanes.push(lists.offsets)?;
+    Ok(only(alloc, lists.content)?)
+}
+
+/// The arrays of the contents of a node, each holding the column of a node below. The lanes of the
+/// node itself are put behind the others.
+pub(crate) fn contents<'a, L: Ledger>(
+    alloc: Global,
+    x: &Array<'a>,
+    lanes: &mut Lanes<'a>,
+    arena: &'a Arena,
+    steps: &mut Steps<L>,
+) -> Result<Arrays<'a>, PackFault>
+    ensures left { IfOk result (λ ys.
+        IsLeft (array_type x.now) (array_items x.now) lanes.old ys lanes.new) }
+    ensures size { IfSize result (is_too_large (array_type x.now) (array_items x.now) ≡ true) }
+{
+    if x.len() > COLUMN_LIMIT {
+        return Err(PackFault::Size);
+    }
+    match in_order(alloc, x, arena, steps)? {
+        Opened::Empty => Ok(Arrays::new(alloc)),
+        Opened::Leaf(lane) => Ok(leaf_contents(alloc, &lane, lanes, arena, steps)?),
+        Opened::Items {
+            starts,
+            stops,
+            content,
+        } => list_contents(
+            alloc,
+            x.typ(),
+            &starts,
+            &stops,
+            &content,
+            lanes,
+            arena,
+            steps,
+        ),
+        Opened::Row { columns, .. } => Ok(columns),
+        Opened::Option { index, content } => {
+            lanes.push(index)?;
+            Ok(only(alloc, content)?)
+        }
+        Opened::Union {
+            tags,
+            index,
+            contents,
+        } => {
+            lanes.push(tags)?;
+            lanes.push(index)?;
+            Ok(contents)
+        }
+    }
+}

@@ -1,0 +1,16 @@
+pub mod Worked
+pub mod LaneBytes
+pub mod IndexLanes
+pub mod IndexNeeds
+pub mod ValueLists
+pub mod ColumnTypes
+pub mod ColumnItems
+pub mod BufferParts
+pub mod LeafReads
+pub mod NodeReads
+pub mod PackedReads
+pub mod PackedForms
+pub mod KeyLaws
+pub mod HeldLaws
+pub mod ReadBack
+pub mod BackLaws

@@ -1,0 +1,70 @@
+-- What is packed is read back: in every container that holds the buffers of a packed array, its
+-- form and length are valid, and they denote the type and the values that were packed.
+use Rattle.std.specs.Prelude.{◌≡◌, ℕ, List, None, Ok}
+use Rattle.std.specs.List.{AllByRecursion}
+use Rattle.std.specs.Map.{lookup}
+use Rattle.std.specs.Option.{ok_or}
+use Rattle.std.specs.Str.{bytes_eq}
+use Rattle.awk_types.specs.DataType.{Name, DataType}
+use Rattle.awk_types.specs.Datum.{arr}
+use Rattle.awk_types.specs.Has.{Has}
+use Rattle.awk_types.specs.IsType.{IsType}
+use Rattle.awk_types.specs.Limit.{limit}
+use Rattle.awk_types.specs.Names.{AreDistinct}
+use Rattle.awk_types.specs.Simple.{IsSimple}
+use Rattle.awk_types.specs.Value.{Value}
+use Rattle.awk_store.specs.declared.fault.BufferWhy.TheVariants.{Absent}
+use Rattle.awk_form.specs.Lawful.{IsLawful}
+use Rattle.awk_pack.specs.Canon.{Pack, canon}
+use Rattle.awk_text.specs.Buffers.{buffer_keys}
+use Rattle.awk_text.specs.PackedText.{HasLanes, buffers}
+use Rattle.awk_valid.specs.Container.{Container}
+use Rattle.awk_valid.specs.Broken.{broken}
+use Rattle.awk_valid.specs.Denote.{denote, denoting}
+
+-- what is under each key decodes to the bytes beside it
+abbrev pub HasBuffers : Container → List (Name × List ℕ) → Type 0
+HasBuffers c buffers = AllByRecursion (λ b. c b.0 ≡ Ok b.1) buffers
+
+-- the container of these buffers and no others
+abbrev pub holding : List (Name × List ℕ) → Container
+holding buffers key = ok_or (lookup (bytes_eq key) buffers) Absent
+
+-- what the form and the length of a packed array are in a container
+pub record IsReadBack (t : DataType) (vs : List Value) (p : Pack) (c : Container) : Type 0 where
+  -- nothing breaks
+  pub valid : broken p.form p.length c ≡ None
+  -- they denote the type and the values, and load as these
+  pub denoted : denote p.form p.length c ≡ arr t vs
+  pub loaded : denoting p.form p.length c ≡ Ok (arr t vs)
+  -- what is denoted has the same form, length and lanes
+  pub again : (u : DataType) (ws : List Value) → denote p.form p.length c ≡ arr u ws
+      → canon u ws ≡ Ok p
+
+-- where values of a type are packed, every container that holds the buffers gives them back
+abbrev pub ReadsBack : DataType → List Value → Type 0
+ReadsBack t vs =
+    (p : Pack) → canon t vs ≡ Ok p → (c : Container) → HasBuffers c (buffers p)
+    → IsReadBack t vs p c
+
+-- for each simple type within the limits, and values of it
+abbrev pub PackedReadsBack : Type 0
+PackedReadsBack =
+    (t : DataType) (vs : List Value) → IsSimple t → limit t ≡ None → AllByRecursion (Has t) vs
+    → ReadsBack t vs
+
+-- the form is lawful, as a form that was read
+abbrev pub PackedIsLawful : Type 0
+PackedIsLawful =
+    (t : DataType) (vs : List Value) (p : Pack) → IsType t → limit t ≡ None → canon t vs ≡ Ok p
+    → IsLawful p.form
+
+-- there is such a container: each lane is a buffer, and no two have the same key
+pub record IsHeld (p : Pack) : Type 0 where
+  pub lanes : HasLanes p
+  pub distinct : AreDistinct (buffer_keys p.form)
+  pub held : HasBuffers (holding (buffers p)) (buffers p)
+
+abbrev pub PackedIsHeld : Type 0
+PackedIsHeld =
+    (t : DataType) (vs : List Value) (p : Pack) → limit t ≡ None → canon t vs ≡ Ok p → IsHeld p

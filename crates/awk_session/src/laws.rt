@@ -1,0 +1,2 @@
+//! Laws over the definitions of what a session packs and loads.
+pub use awk_readback::packed_reads_back;
