@@ -47,8 +47,8 @@ impl Padding {
     /// How many items there are, or none where they are too many.
     fn total<L: Ledger>(&self, starts: &Lane, stops: &Lane, steps: &mut Steps<L>) -> Option<u64>
         requires spans { AreSpans starts.now stops.now 9223372036854775807 }
-        ensures { let length = padded_span self.now.size self.now.clip starts.now stops.now in
-            IsTotal (before length (size_of starts.now)) result }
+        ensures { let span = padded_span self.now.size self.now.clip starts.now stops.now in
+            IsTotal (before span (size_of starts.now)) result }
     {
         let mut sum = 0;
         for i in 0..starts.len() {
@@ -71,10 +71,10 @@ impl Padding {
     ) -> Result<Lane<'a>, NoMemory>
         requires spans { AreSpans starts.now stops.now 9223372036854775807 }
         requires fits { size_of starts.now < 2 ^ 63 }
-        requires total { let length = padded_span self.now.size self.now.clip starts.now stops.now in
-            before length (size_of starts.now) ≤ item_limit }
-        ensures { let length = padded_span self.now.size self.now.clip starts.now stops.now in
-            IfOk result (λ r. r ≡ offsets_by length (size_of starts.now)) }
+        requires total { let span = padded_span self.now.size self.now.clip starts.now stops.now in
+            before span (size_of starts.now) ≤ item_limit }
+        ensures { let span = padded_span self.now.size self.now.clip starts.now stops.now in
+            IfOk result (λ r. r ≡ offsets_by span (size_of starts.now)) }
     {
         let mut maker = LaneMaker::new(Kind::I64, starts.len() + 1, arena)?;
         maker.push(number(0));
@@ -96,8 +96,8 @@ impl Padding {
         steps: &mut Steps<L>,
     ) -> Result<Lane<'a>, NoMemory>
         requires spans { AreSpans starts.now stops.now 9223372036854775807 }
-        requires total { let length = padded_span self.now.size self.now.clip starts.now stops.now in
-            n ≡ before length (size_of starts.now) }
+        requires total { let span = padded_span self.now.size self.now.clip starts.now stops.now in
+            n ≡ before span (size_of starts.now) }
         ensures { IfOk result (λ r.
             r ≡ padded_lane self.now.size self.now.clip starts.now stops.now) }
     {
