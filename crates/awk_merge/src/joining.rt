@@ -11,7 +11,7 @@ ghost use Rattle.awk_merge.specs.View.{found_of, lift_of, lifts_of, parts_of, un
 use crate::lift::{Lift, Lifts};
 use crate::parts::Parts;
 use crate::places::Places;
-use crate::tests::{is_same, is_unknown};
+use crate::predicates::{is_same, is_unknown};
 use crate::unified::Unified;
 use awk_types::{NoMemory, Prim, Typ, copy_type, promote};
 use std::alloc::Global;

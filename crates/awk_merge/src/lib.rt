@@ -9,7 +9,7 @@ mod lift;
 mod parts;
 mod placed;
 mod places;
-mod tests;
+mod predicates;
 mod unified;
 mod unifying;
 

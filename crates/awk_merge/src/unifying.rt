@@ -17,7 +17,7 @@ use crate::fields::{are_alike, place, records};
 use crate::joining::{as_it_is, early, joined_leaves, lists, optional, regular_lists, tuples};
 use crate::parts::Parts;
 use crate::placed::{Placed, PlacedAll};
-use crate::tests::{is_optional, is_union, present};
+use crate::predicates::{is_optional, is_union, present};
 use crate::unified::Unified;
 use awk_types::{Fields, NoMemory, Typ, TypeFault, Typs, simple_of};
 use std::alloc::Global;
