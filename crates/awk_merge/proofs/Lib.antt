@@ -19,3 +19,5 @@ pub mod NameRowLaws
 pub mod PartsLaws
 pub mod NamePlaces
 pub mod PlacedLaws
+pub mod ScalarLaws
+pub mod UnifiesLaws

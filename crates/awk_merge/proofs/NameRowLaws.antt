@@ -259,7 +259,7 @@ names_carry ns ms us ps ts fs dn dm a lu lt e c (row vs) h =
     )
 names_carry ns ms us ps ts fs dn dm a lu lt e c v h = absurd h
 
-picked_length : (ns ms : List Name) (us ps : List DataType) → picked ns ms us ≡ Some ps → length ps ≡ length ns
+pub picked_length : (ns ms : List Name) (us ps : List DataType) → picked ns ms us ≡ Some ps → length ps ≡ length ns
 picked_length [] ms us ps e = ap length (some_is ps [] (sym e))
 picked_length (n ∷ ns) ms us ps e = with_length (field_type n ms us) (picked ns ms us) ps e (picked_length ns ms us)
   where

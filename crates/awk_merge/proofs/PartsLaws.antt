@@ -1,14 +1,18 @@
 -- Parts that are unified one after another.
 use Rattle.std.proofs.Common.{◌≡◌, ◌+◌, ◌∷◌, ◌++◌, ◌∙◌, [], ℕ, List, Some, add-one, ap, append_assoc, arith, drop, length, map, min, refl, slice_get, suc, sym, zero}
-use Rattle.std.specs.Prelude.{None, Option}
-use Rattle.std.proofs.lemmas.List.{append-nil, drop_all}
+use Rattle.std.specs.Prelude.{IfSome, None, Option}
+use Rattle.std.proofs.lemmas.List.{append-nil, drop_all, length-map}
 use Rattle.awk_types.proofs.ListLaws.{drop-get}
 use Rattle.awk_types.specs.DataType.{DataType, Name}
-use Rattle.awk_types.specs.View.{NamedType, names_of}
+use Rattle.awk_types.specs.View.{NamedType, names_of, typs_of}
 use Rattle.awk_merge.specs.Carry.{Carry}
 use Rattle.awk_merge.specs.FieldNames.{field_type, picked, place_in, with_type}
 use Rattle.awk_merge.specs.Join.{Unifying, field_types, no_parts, one_more, unify_fields, unify_parts, unify_picked, with_first}
 use Rattle.awk_merge.specs.Unification.{Unification, Unifications}
+use Rattle.awk_merge.specs.View.{parts_found, parts_of}
+use Rattle.awk_merge.specs.declared.parts.Parts.{Parts}
+use Rattle.awk_merge.proofs.NameRowLaws.{picked_length}
+use Rattle.awk_merge.proofs.TypeLaws.{parts_length}
 use Rattle.awk_merge.proofs.NamePlaces.{field_type-at, field_type-beyond}
 
 -- parts, and others behind them
@@ -38,11 +42,6 @@ parts_next u p q all ts us i a b r e f g h k =
     ap (λ x. behind x rest) (h ∙ ap (one_more p) g) ∙ behind-one_more p rest (u a b)
     ∙ sym (ap (λ xs. behind p (unify_parts u xs (drop i us))) (drop-get ts i a e) ∙ ap (λ ys. behind p (unify_parts u (a ∷ drop (i + 1) ts) ys)) (drop-get us i b f))
     ∙ k
-
-parts_end : (u : Unifying) (ts us : List DataType) → min (length ts) (length us) ≡ 0 → unify_parts u ts us ≡ no_parts
-parts_end u [] us h = refl
-parts_end u (t ∷ ts) [] h = refl
-parts_end u (t ∷ ts) (v ∷ us) h = absurd (omega arith)
 
 drop-nil : {X : Type 0} (i : ℕ) → drop {A = X} i [] ≡ []
 drop-nil zero = refl
@@ -93,3 +92,15 @@ fields_none u p all xs ys i x e f k =
 
 pub fields_last : (u : Unifying) (p : Unifications) (all : Option Unifications) (xs ys : List NamedType) (i : ℕ) → length xs ≤ i → and_behind p (unify_fields u (drop i xs) ys) ≡ all → Some p ≡ all
 fields_last u p all xs ys i l h = ap Some (sym (behind-no_parts p)) ∙ sym (ap (λ zs. and_behind p (unify_fields u zs ys)) (drop_all i xs l)) ∙ h
+
+-- as many types are made as the first record has fields
+pub fields_length : (u : Unifying) (xs ys : List NamedType) (o : Option Parts) → parts_found o ≡ unify_fields u xs ys → IfSome o (λ p. length xs ≡ length (typs_of p.typs))
+fields_length u xs ys None e = tt
+fields_length u xs ys (Some p) e = step (picked (names_of xs) (names_of ys) (field_types ys)) refl e
+  where
+    step : (q : Option (List DataType)) → picked (names_of xs) (names_of ys) (field_types ys) ≡ q → Some (parts_of p) ≡ unify_picked u (field_types xs) q → length xs ≡ length (typs_of p.typs)
+    step None h k = cc
+    step (Some us) h k =
+        let made : parts_of p ≡ unify_parts u (field_types xs) us = cc in
+        let many : length (field_types xs) ≡ length us = length-map xs (λ f. f.typ) ∙ sym (length-map xs (λ f. f.name)) ∙ sym (picked_length (names_of xs) (names_of ys) (field_types ys) us h) in
+        sym (ap (λ r. length r.typs) made ∙ parts_length u (field_types xs) us many ∙ length-map xs (λ f. f.typ))

@@ -29,7 +29,7 @@ parts_types u g [] bs s t = tt
 parts_types u g (a ∷ firsts) [] s t = tt
 parts_types u g (a ∷ firsts) (b ∷ bs) s t = (g a b s.0 t.0, parts_types u g firsts bs s.1 t.1)
 
-parts_length : (u : Unifying) (firsts bs : List DataType) → length firsts ≡ length bs → length (unify_parts u firsts bs).typs ≡ length firsts
+pub parts_length : (u : Unifying) (firsts bs : List DataType) → length firsts ≡ length bs → length (unify_parts u firsts bs).typs ≡ length firsts
 parts_length u [] bs e = refl
 parts_length u (a ∷ firsts) [] e = absurd (omega arith)
 parts_length u (a ∷ firsts) (b ∷ bs) e = ap suc (parts_length u firsts bs (omega arith))

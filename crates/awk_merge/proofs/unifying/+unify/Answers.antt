@@ -1,15 +1,18 @@
-use Rattle.std.proofs.Common.{arith, ◌≡◌, ◌+◌, ◌∙◌, map, take, drop, ap}
+use Rattle.std.proofs.Common.{arith, ◌≡◌, ◌+◌, ◌∙◌, take, drop, ap, ap₂, slice_get, sym}
 use Rattle.std.proofs.lemmas.Result.{IfOk-weaker}
 use Rattle.awk_types.specs.Simple.{alternatives}
-use Rattle.awk_types.specs.View.{names_of, fields_of, typ_of, typs_of}
+use Rattle.awk_types.specs.View.{field_of, fields_of, names_of, typ_of, typs_of}
 use Rattle.awk_merge.specs.Insert.{ahead, joined_first}
-use Rattle.awk_merge.specs.Join.{join_by, tup_join}
+use Rattle.awk_merge.specs.Join.{join_by, join_records, tup_join}
 use Rattle.awk_merge.specs.Merge.{insert, insert_all, start, merged}
 use Rattle.awk_merge.specs.Unification.{Placed, PlacedAll}
 use Rattle.awk_merge.specs.View.{found_of, parts_of, placed_of, placed_all_of, unified_of}
 use Rattle.awk_merge.specs.Unify.{unification}
+use Rattle.awk_merge.specs.FieldNames.{place_in}
+use Rattle.awk_merge.proofs.NamePlaces.{name_out, typ_out}
+use Rattle.awk_merge.proofs.PartsLaws.{fields_last, fields_next, fields_none, parts_last, parts_next}
 use Rattle.awk_merge.proofs.InsertLaws.{passed, found, put_in}
-use Rattle.awk_merge.proofs.Steps.{early_found, bare_found, join_found, join_none, tuples_of_one_length, tuples_of_other_lengths, join_records, records_join, merged_union}
+use Rattle.awk_merge.proofs.Steps.{early_found, bare_found, join_found, join_none, tuples_of_one_length, tuples_of_other_lengths, records_join, merged_union}
 use Rattle.awk_merge.proofs.unifying.+unify.Goals as goal
 
 pub bare_unified-returns-in-Some : goal.bare_unified-returns-in-Some
@@ -43,9 +46,9 @@ joined-returns-else-len t c =
 
 pub joined-returns-in-Rec-Rec : goal.joined-returns-in-Rec-Rec
 joined-returns-in-Rec-Rec t c =
-    let joins : join_records (names_of (fields_of c.in-Rec-Rec.xs)) (names_of (fields_of c.in-Rec-Rec.ys)) (map (λ f. f.typ) (fields_of c.in-Rec-Rec.xs)) (map (λ f. f.typ) (fields_of c.in-Rec-Rec.ys)) ≡ join_by unification (typ_of c.args.a.now) (typ_of c.args.b.now) =
+    let joins : join_records unification (fields_of c.in-Rec-Rec.xs) (fields_of c.in-Rec-Rec.ys) ≡ join_by unification (typ_of c.args.a.now) (typ_of c.args.b.now) =
         records_join c.args.a.now c.args.b.now c.in-Rec-Rec.xs c.in-Rec-Rec.ys c.in-Rec-Rec.is-0 c.in-Rec-Rec.is-1 in
-    IfOk-weaker c.joined_records.result (λ o. found_of o ≡ join_records (names_of (fields_of c.in-Rec-Rec.xs)) (names_of (fields_of c.in-Rec-Rec.ys)) (map (λ f. f.typ) (fields_of c.in-Rec-Rec.xs)) (map (λ f. f.typ) (fields_of c.in-Rec-Rec.ys))) (λ o. found_of o ≡ join_by unification (typ_of c.args.a.now) (typ_of c.args.b.now)) (λ o e. e ∙ joins) c.joined_records.ensures
+    IfOk-weaker c.joined_records.result (λ o. found_of o ≡ join_records unification (fields_of c.in-Rec-Rec.xs) (fields_of c.in-Rec-Rec.ys)) (λ o. found_of o ≡ join_by unification (typ_of c.args.a.now) (typ_of c.args.b.now)) (λ o e. e ∙ joins) c.joined_records.ensures
 
 pub merged-returns-in_ok-inserted_each-in-Uni : goal.merged-returns-in_ok-inserted_each-in-Uni
 merged-returns-in_ok-inserted_each-in-Uni t c =
@@ -53,3 +56,26 @@ merged-returns-in_ok-inserted_each-in-Uni t c =
     let is : placed_all_of c.in_ok-inserted_each-in-Uni.field-0 ≡ all =
         merged_union (join_by unification) (typ_of c.args.a.now) c.args.b.now c.in-Uni.bs (typs_of c.in_ok-alternatives_of.field-0) (placed_all_of c.in_ok-start.start) (placed_all_of c.in_ok-inserted_each-in-Uni.field-0) c.in_ok-inserted_each-in-Uni.ensures c.in_ok-start.ensures c.in_ok-alternatives_of.ensures c.in-Uni.is in
     IfOk-weaker c.of_placed.result (λ u. unified_of u ≡ merged (placed_all_of c.in_ok-inserted_each-in-Uni.field-0)) (λ u. unified_of u ≡ merged (typ_of c.args.a.now) (typ_of c.args.b.now) all) (λ u e. e ∙ ap (merged (typ_of c.args.a.now) (typ_of c.args.b.now)) is) c.of_placed.ensures
+
+-- ---- parts and fields
+
+pub unified_parts-loop-i-preserved : goal.unified_parts-loop-i-preserved
+unified_parts-loop-i-preserved t c = parts_next unification _ _ _ (typs_of c.args.xs.now) (typs_of c.args.ys.now) c.loop-i.i _ _ _ c.get.ensures.item c.get-in-loop-i.ensures.item c.in_ok-unified.ensures c.in_ok-push.ensures c.loop-i.invariant
+
+pub unified_parts-returns : goal.unified_parts-returns
+unified_parts-returns t c = parts_last unification _ _ (typs_of c.args.xs.now) (typs_of c.args.ys.now) c.loop-i.i (omega (arith, c.loop-i-test.false, c.loop-i.auto.i-end, c.min-i-end.ensures, c.len.ensures, c.len-2.ensures)) c.loop-i.invariant
+
+pub unified_fields-returns-then-k-len : goal.unified_fields-returns-then-k-len
+unified_fields-returns-then-k-len t c =
+    let at : c.place-k.result ≡ place_in (names_of (fields_of c.args.ys.now)) (field_of c.get-field.result.now).name =
+        c.place-k.ensures ∙ ap (place_in (names_of (fields_of c.args.ys.now))) (sym (name_out c.get-field.result.now)) in
+    fields_none unification (parts_of c.loop-i.made) _ (fields_of c.args.xs.now) (fields_of c.args.ys.now) c.loop-i.i (field_of c.get-field.result.now) c.get-field.ensures.item (omega (arith, at, c.if-k-len.true, c.len.ensures)) c.loop-i.invariant
+
+pub unified_fields-loop-i-preserved : goal.unified_fields-loop-i-preserved
+unified_fields-loop-i-preserved t c =
+    let at : c.place-k.result ≡ place_in (names_of (fields_of c.args.ys.now)) (field_of c.get-field.result.now).name =
+        c.place-k.ensures ∙ ap (place_in (names_of (fields_of c.args.ys.now))) (sym (name_out c.get-field.result.now)) in
+    fields_next unification _ _ _ (fields_of c.args.xs.now) (fields_of c.args.ys.now) c.loop-i.i (field_of c.get-field.result.now) (field_of c.get.result.now) _ c.get-field.ensures.item (ap (slice_get (fields_of c.args.ys.now)) (sym at) ∙ c.get.ensures.item) (c.in_ok-unified.ensures ∙ ap₂ unification (sym (typ_out c.get-field.result.now)) (sym (typ_out c.get.result.now))) c.in_ok-push.ensures c.loop-i.invariant
+
+pub unified_fields-returns : goal.unified_fields-returns
+unified_fields-returns t c = fields_last unification (parts_of c.loop-i.made) _ (fields_of c.args.xs.now) (fields_of c.args.ys.now) c.loop-i.i (omega (arith, c.loop-i-test.false, c.loop-i.auto.i-end, c.len-i-end.ensures)) c.loop-i.invariant
