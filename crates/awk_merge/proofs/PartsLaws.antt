@@ -1,5 +1,5 @@
 -- Parts that are unified one after another.
-use Rattle.std.proofs.Common.{◌≡◌, ◌+◌, ◌∷◌, ◌++◌, ◌∙◌, [], ℕ, List, Some, add-one, ap, append_assoc, arith, drop, length, map, min, refl, slice_get, suc, sym, zero}
+use Rattle.std.proofs.Common.{◌≡◌, ◌+◌, ◌≤◌, ◌∷◌, ◌++◌, ◌∙◌, [], ℕ, List, Some, add-one, ap, append_assoc, arith, drop, length, map, min, refl, slice_get, suc, sym, zero}
 use Rattle.std.specs.Prelude.{IfSome, None, Option}
 use Rattle.std.proofs.lemmas.List.{append-nil, drop_all, length-map}
 use Rattle.awk_types.proofs.ListLaws.{drop-get}

@@ -1,5 +1,5 @@
 //! Fields of records by name.
-ghost use Rattle.std.specs.Prelude.{◌≡◌, length, map, IfOk, IfSome};
+ghost use Rattle.std.specs.Prelude.{◌≡◌, ◌≤◌, length, map, IfOk, IfSome};
 ghost use Rattle.awk_types.specs.View.{names_of, fields_of, typs_of};
 ghost use Rattle.awk_merge.specs.Carries.{carry_at};
 ghost use Rattle.awk_merge.specs.FieldNames as said;
@@ -18,7 +18,8 @@ use std::alloc::Global;
 /// The place of the first field with the name; where there is none, the number of fields.
 #[tactic(auto, using(crate::proofs::NamePlaces::place_laws))]
 pub(crate) fn place(xs: &Fields, name: &Name) -> usize
-    ensures { result ≡ place_in (names_of (fields_of xs.now)) name.now }
+    ensures at { result ≡ place_in (names_of (fields_of xs.now)) name.now }
+    ensures within { result ≤ length (fields_of xs.now) }
 {
     for i in 0..xs.len() {
         if xs.get(i).name.as_str() == name.as_str() {

@@ -10,7 +10,7 @@ use Rattle.awk_merge.specs.View.{found_of, parts_of, placed_of, placed_all_of, u
 use Rattle.awk_merge.specs.Unify.{unification}
 use Rattle.awk_merge.specs.FieldNames.{place_in}
 use Rattle.awk_merge.proofs.NamePlaces.{name_out, typ_out}
-use Rattle.awk_merge.proofs.PartsLaws.{fields_last, fields_next, fields_none, parts_last, parts_next}
+use Rattle.awk_merge.proofs.PartsLaws.{fields_last, fields_length, fields_next, fields_none, parts_last, parts_next}
 use Rattle.awk_merge.proofs.InsertLaws.{passed, found, put_in}
 use Rattle.awk_merge.proofs.Steps.{early_found, bare_found, join_found, join_none, tuples_of_one_length, tuples_of_other_lengths, records_join, merged_union}
 use Rattle.awk_merge.proofs.unifying.+unify.Goals as goal
@@ -55,7 +55,7 @@ merged-returns-in_ok-inserted_each-in-Uni t c =
     let all : PlacedAll = insert_all (join_by unification) (start (alternatives (typ_of c.args.a.now))) (alternatives (typ_of c.args.b.now)) in
     let is : placed_all_of c.in_ok-inserted_each-in-Uni.field-0 ≡ all =
         merged_union (join_by unification) (typ_of c.args.a.now) c.args.b.now c.in-Uni.bs (typs_of c.in_ok-alternatives_of.field-0) (placed_all_of c.in_ok-start.start) (placed_all_of c.in_ok-inserted_each-in-Uni.field-0) c.in_ok-inserted_each-in-Uni.ensures c.in_ok-start.ensures c.in_ok-alternatives_of.ensures c.in-Uni.is in
-    IfOk-weaker c.of_placed.result (λ u. unified_of u ≡ merged (placed_all_of c.in_ok-inserted_each-in-Uni.field-0)) (λ u. unified_of u ≡ merged (typ_of c.args.a.now) (typ_of c.args.b.now) all) (λ u e. e ∙ ap (merged (typ_of c.args.a.now) (typ_of c.args.b.now)) is) c.of_placed.ensures
+    IfOk-weaker c.of_placed.result (λ u. unified_of u ≡ merged (placed_all_of c.in_ok-inserted_each-in-Uni.field-0)) (λ u. unified_of u ≡ merged all) (λ u e. e ∙ ap merged is) c.of_placed.ensures
 
 -- ---- parts and fields
 
@@ -68,14 +68,17 @@ unified_parts-returns t c = parts_last unification _ _ (typs_of c.args.xs.now) (
 pub unified_fields-returns-then-k-len : goal.unified_fields-returns-then-k-len
 unified_fields-returns-then-k-len t c =
     let at : c.place-k.result ≡ place_in (names_of (fields_of c.args.ys.now)) (field_of c.get-field.result.now).name =
-        c.place-k.ensures ∙ ap (place_in (names_of (fields_of c.args.ys.now))) (sym (name_out c.get-field.result.now)) in
+        c.place-k.ensures.at ∙ ap (place_in (names_of (fields_of c.args.ys.now))) (sym (name_out c.get-field.result.now)) in
     fields_none unification (parts_of c.loop-i.made) _ (fields_of c.args.xs.now) (fields_of c.args.ys.now) c.loop-i.i (field_of c.get-field.result.now) c.get-field.ensures.item (omega (arith, at, c.if-k-len.true, c.len.ensures)) c.loop-i.invariant
 
 pub unified_fields-loop-i-preserved : goal.unified_fields-loop-i-preserved
 unified_fields-loop-i-preserved t c =
     let at : c.place-k.result ≡ place_in (names_of (fields_of c.args.ys.now)) (field_of c.get-field.result.now).name =
-        c.place-k.ensures ∙ ap (place_in (names_of (fields_of c.args.ys.now))) (sym (name_out c.get-field.result.now)) in
+        c.place-k.ensures.at ∙ ap (place_in (names_of (fields_of c.args.ys.now))) (sym (name_out c.get-field.result.now)) in
     fields_next unification _ _ _ (fields_of c.args.xs.now) (fields_of c.args.ys.now) c.loop-i.i (field_of c.get-field.result.now) (field_of c.get.result.now) _ c.get-field.ensures.item (ap (slice_get (fields_of c.args.ys.now)) (sym at) ∙ c.get.ensures.item) (c.in_ok-unified.ensures ∙ ap₂ unification (sym (typ_out c.get-field.result.now)) (sym (typ_out c.get.result.now))) c.in_ok-push.ensures c.loop-i.invariant
 
 pub unified_fields-returns : goal.unified_fields-returns
 unified_fields-returns t c = fields_last unification (parts_of c.loop-i.made) _ (fields_of c.args.xs.now) (fields_of c.args.ys.now) c.loop-i.i (omega (arith, c.loop-i-test.false, c.loop-i.auto.i-end, c.len-i-end.ensures)) c.loop-i.invariant
+
+pub joined_records-records-requires : goal.joined_records-records-requires
+joined_records-records-requires t c = fields_length unification (fields_of c.args.xs.now) (fields_of c.args.ys.now) c.in_ok-unified_fields.field-0 c.in_ok-unified_fields.ensures
