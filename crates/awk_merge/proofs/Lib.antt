@@ -1,3 +1,4 @@
+pub mod Worked
 pub mod Tests
 pub mod AfterLaws
 pub mod DepthLaws

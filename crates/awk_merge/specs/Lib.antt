@@ -11,4 +11,3 @@ pub mod Early
 pub mod Insert
 pub mod View
 pub mod Unifies
-pub mod Examples
