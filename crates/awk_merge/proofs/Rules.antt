@@ -37,5 +37,4 @@ bare_early a b u e = early_or a b _ ∙ ap (λ o. joined_or o (joins_or_unions u
 pub bare_later : (a b : DataType) → early a b ≡ None → bare unification a b ≡ joins_or_unions unification a b
 bare_later a b e = early_or a b _ ∙ ap (λ o. joined_or o (joins_or_unions unification a b)) e
 
-
 pub ruleset rule_laws = (unified_early, unified_optional, unified_later, bare_early, bare_later)

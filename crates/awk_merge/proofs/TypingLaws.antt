@@ -70,7 +70,7 @@ union_carries true n u g si ty a c e d s t x y p q =
     let fa : AllFine (alternatives a) = ((alternatives_are_types a s).0, alternatives_plain a x p) in
     let fc : AllFine (alternatives c) = ((alternatives_are_types c t).0, alternatives_plain c y q) in
     let all : AllCarried (alternatives a) (alternatives c) (insert_all (join_by u) (start (alternatives a)) (alternatives c)) =
-        insert_all_carries n u si ty (join_carries n u g) (alternatives a) [] (start (alternatives a)) (alternatives c) (omega (arith, deepest_alternatives c)) (record { all_kept = kept_same (alternatives a); all_put = tt; all_fine = fa }) fc in
+    insert_all_carries n u si ty (join_carries n u g) (alternatives a) [] (start (alternatives a)) (alternatives c) (omega (arith, deepest_alternatives c)) (record { all_kept = kept_same (alternatives a); all_put = tt; all_fine = fa }) fc in
     record {
       to_left = alts_carry a _ _ _ p (kept_put 0 [] (alternatives a) _ _ refl all.all_kept);
       to_right = alts_carry c _ _ _ q all.all_put;

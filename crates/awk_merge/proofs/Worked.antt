@@ -89,7 +89,8 @@ optional_lists : joint (var (leaf I64)) (opt (var (opt (leaf I64)))) ≡ opt (va
 optional_lists = refl
 
 optional_lists_values :
-    rights (var (leaf I64)) (opt (var (opt (leaf I64)))) (items (int (pos 1) ∷ null ∷ []) ∷ null ∷ [])
+    rights (var (leaf I64)) (opt (var (opt (leaf I64))))
+    (items (int (pos 1) ∷ null ∷ []) ∷ null ∷ [])
     ≡ items (int (pos 1) ∷ null ∷ []) ∷ null ∷ []
 optional_lists_values = refl
 
@@ -105,13 +106,14 @@ list_and_number = refl
 -- ---- records and tuples
 
 fields_in_other_order :
-    joint (record_of two (leaf I8 ∷ leaf Bool ∷ [])) (record_of swapped (opt (leaf Bool) ∷ leaf I64 ∷ []))
+    joint (record_of two (leaf I8 ∷ leaf Bool ∷ []))
+    (record_of swapped (opt (leaf Bool) ∷ leaf I64 ∷ []))
     ≡ record_of two (leaf I64 ∷ opt (leaf Bool) ∷ [])
 fields_in_other_order = refl
 
 fields_in_other_order_value :
-    rights (record_of two (leaf I8 ∷ leaf Bool ∷ [])) (record_of swapped (leaf Bool ∷ leaf I64 ∷ []))
-    (parts (truth true ∷ int (pos 3) ∷ []) ∷ [])
+    rights (record_of two (leaf I8 ∷ leaf Bool ∷ []))
+    (record_of swapped (leaf Bool ∷ leaf I64 ∷ [])) (parts (truth true ∷ int (pos 3) ∷ []) ∷ [])
     ≡ parts (int (pos 3) ∷ truth true ∷ []) ∷ []
 fields_in_other_order_value = refl
 
@@ -137,7 +139,8 @@ widened : joint (leaf U8) (union (leaf I8 ∷ leaf U64 ∷ [])) ≡ union (leaf 
 widened = refl
 
 widened_values :
-    rights (leaf U8) (union (leaf I8 ∷ leaf U64 ∷ [])) (alt 0 (int (negsuc 0)) ∷ alt 1 (int (pos 9)) ∷ [])
+    rights (leaf U8) (union (leaf I8 ∷ leaf U64 ∷ []))
+    (alt 0 (int (negsuc 0)) ∷ alt 1 (int (pos 9)) ∷ [])
     ≡ alt 0 (int (negsuc 0)) ∷ alt 1 (int (pos 9)) ∷ []
 widened_values = refl
 

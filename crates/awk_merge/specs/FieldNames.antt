@@ -25,7 +25,7 @@ abbrev pub place_in : List Name → Name → ℕ
 place_in [] m = 0
 place_in (n ∷ ns) m = if same_name n m then 0 else suc (place_in ns m)
 
--- the same names in any order, where those of a record are distinct and the first's are all among the second's
+-- the same names in any order, where those of a record are distinct
 abbrev pub is_in : List Name → Name → Bool
 is_in ns m = is_among m ns
 

@@ -59,7 +59,12 @@ pub(crate) fn apart(alloc: Global, a: &Typ, b: &Typ) -> Result<Unified, NoMemory
 pub(crate) fn of_placed(alloc: Global, p: PlacedAll) -> Result<Unified, NoMemory>
     ensures { IfOk result (λ u. unified_of u ≡ merge.merged (placed_all_of p)) }
 {
-    let PlacedAll { typs, kept, tags, puts } = p;
+    let PlacedAll {
+        typs,
+        kept,
+        tags,
+        puts,
+    } = p;
     Ok(Unified {
         typ: Typ::Uni(typs),
         left: Lift::Alternatives {
@@ -108,7 +113,8 @@ fn push_later(alloc: Global, made: &mut Typs, ts: &Typs, n: usize) -> Result<(),
     Ok(())
 }
 
-/// The alternatives with the one at a place replaced by what it and the type that was put in join to.
+/// The alternatives with the one at a place replaced by what it and the type that was put in join
+/// to.
 pub(crate) fn widened(alloc: Global, ts: &Typs, k: usize, j: Unified) -> Result<Placed, NoMemory>
     requires { k < length (typs_of ts.now) }
     ensures { let joined = joined_first (unified_of j) (drop (k + 1) (typs_of ts.now)) in

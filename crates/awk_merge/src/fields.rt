@@ -85,12 +85,21 @@ fn names(alloc: Global, xs: &Fields) -> Result<Names, NoMemory>
 }
 
 /// The record of what fields unify to, in the order of the first side.
-pub(crate) fn records(alloc: Global, xs: &Fields, ys: &Fields, parts: Option<Parts>) -> Result<Option<Unified>, NoMemory>
+pub(crate) fn records(
+    alloc: Global,
+    xs: &Fields,
+    ys: &Fields,
+    parts: Option<Parts>,
+) -> Result<Option<Unified>, NoMemory>
     requires { IfSome parts (λ p. length (fields_of xs.now) ≡ length (typs_of p.typs)) }
     ensures { let join = rec_of (names_of (fields_of xs.now)) (names_of (fields_of ys.now)) in
         IfOk result (λ o. found_of o ≡ join (parts_found parts)) }
 {
-    let Parts { typs, lefts, rights } = match parts {
+    let Parts {
+        typs,
+        lefts,
+        rights,
+    } = match parts {
         Some(parts) => parts,
         None => return Ok(None),
     };

@@ -115,7 +115,11 @@ pub(crate) fn in_own_places(alloc: Global, parts: Lifts) -> Result<Lift, NoMemor
 pub(crate) fn tuples(alloc: Global, parts: Parts) -> Result<Option<Unified>, NoMemory>
     ensures { IfOk result (λ o. found_of o ≡ join.tup_join (parts_of parts)) }
 {
-    let Parts { typs, lefts, rights } = parts;
+    let Parts {
+        typs,
+        lefts,
+        rights,
+    } = parts;
     let left = in_own_places(alloc, lefts)?;
     let right = in_own_places(alloc, rights)?;
     Ok(Some(Unified {

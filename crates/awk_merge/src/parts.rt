@@ -8,7 +8,8 @@ use crate::unified::Unified;
 use awk_types::{NoMemory, Typs};
 use std::alloc::Global;
 
-/// The types that parts of two rows unify to, and how the values of each side become values of them.
+/// The types that parts of two rows unify to, and how the values of each side become values of
+/// them.
 #[derive(Debug, Drop)]
 pub(crate) struct Parts {
     pub(crate) typs: Typs,

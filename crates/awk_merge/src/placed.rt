@@ -11,7 +11,8 @@ use crate::places::Places;
 use awk_types::{NoMemory, Typs};
 use std::alloc::Global;
 
-/// Alternatives into which a type was put: how those that were there are kept, and where and how its values go.
+/// Alternatives into which a type was put: how those that were there are kept, and where and how
+/// its values go.
 #[derive(Debug, Drop)]
 pub(crate) struct Placed {
     pub(crate) typs: Typs,
@@ -69,7 +70,12 @@ impl PlacedAll {
         ensures { let both = spec.further (placed_all_of self) (placed_of placed) in
             IfOk result (λ p. placed_all_of p ≡ both) }
     {
-        let PlacedAll { kept, tags, puts, .. } = self;
+        let PlacedAll {
+            kept,
+            tags,
+            puts,
+            ..
+        } = self;
         let kept_now = each_then(alloc, &kept, &placed.kept)?;
         let mut puts_now = each_after(alloc, &placed.kept, &tags, &puts)?;
         let mut tags_now = tags;

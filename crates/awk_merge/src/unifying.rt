@@ -44,7 +44,8 @@ pub(crate) fn unified(alloc: Global, a: &Typ, b: &Typ) -> Result<Unified, NoMemo
 #[cycle(unify)]
 #[tactic(auto, using(crate::proofs::Rules::rule_laws))]
 fn bare_unified(alloc: Global, a: &Typ, b: &Typ) -> Result<Unified, NoMemory>
-    ensures { IfOk result (λ u. unified_of u ≡ rule.bare unification (typ_of a.now) (typ_of b.now)) }
+    ensures { let made = rule.bare unification (typ_of a.now) (typ_of b.now) in
+        IfOk result (λ u. unified_of u ≡ made) }
 {
     match early(alloc, a, b)? {
         Some(found) => Ok(found),
@@ -55,7 +56,8 @@ fn bare_unified(alloc: Global, a: &Typ, b: &Typ) -> Result<Unified, NoMemory>
 /// Types that join, else a union.
 #[cycle(unify)]
 fn joined_or_merged(alloc: Global, a: &Typ, b: &Typ) -> Result<Unified, NoMemory>
-    ensures { IfOk result (λ u. unified_of u ≡ rule.joins_or_unions unification (typ_of a.now) (typ_of b.now)) }
+    ensures { let made = rule.joins_or_unions unification (typ_of a.now) (typ_of b.now) in
+        IfOk result (λ u. unified_of u ≡ made) }
 {
     match joined(alloc, a, b)? {
         Some(found) => Ok(found),
@@ -146,7 +148,8 @@ fn joined_records(alloc: Global, xs: &Fields, ys: &Fields) -> Result<Option<Unif
 /// A type put into the first alternative that joins with it, else as a new last one.
 #[cycle(unify)]
 fn inserted(alloc: Global, ts: &Typs, b: &Typ) -> Result<Placed, NoMemory>
-    ensures { IfOk result (λ p. placed_of p ≡ insert (join_by unification) (typs_of ts.now) (typ_of b.now)) }
+    ensures { let made = insert (join_by unification) (typs_of ts.now) (typ_of b.now) in
+        IfOk result (λ p. placed_of p ≡ made) }
 {
     for i in 0..ts.len() {
         match joined(alloc, ts.get(i), b)? {
@@ -160,7 +163,9 @@ fn inserted(alloc: Global, ts: &Typs, b: &Typ) -> Result<Placed, NoMemory>
 /// Types put in one after another.
 #[cycle(unify)]
 fn inserted_each(alloc: Global, start: PlacedAll, bs: &Typs) -> Result<PlacedAll, NoMemory>
-    ensures { IfOk result (λ p. placed_all_of p ≡ insert_all (join_by unification) (placed_all_of start) (typs_of bs.now)) }
+    ensures { let made =
+        insert_all (join_by unification) (placed_all_of start) (typs_of bs.now) in
+        IfOk result (λ p. placed_all_of p ≡ made) }
 {
     let mut made = start;
     for i in 0..bs.len() {
@@ -173,7 +178,8 @@ fn inserted_each(alloc: Global, start: PlacedAll, bs: &Typs) -> Result<PlacedAll
 /// Two types of which one is a union.
 #[cycle(unify)]
 fn merged(alloc: Global, a: &Typ, b: &Typ) -> Result<Unified, NoMemory>
-    ensures { let p = insert_all (join_by unification) (merge.start (alternatives (typ_of a.now))) (alternatives (typ_of b.now)) in
+    ensures { let first = merge.start (alternatives (typ_of a.now)) in
+        let p = insert_all (join_by unification) first (alternatives (typ_of b.now)) in
         IfOk result (λ u. unified_of u ≡ merge.merged p) }
 {
     let start = PlacedAll::start(alloc, alternatives_of(alloc, a)?)?;
