@@ -1,9 +1,9 @@
 -- Lifts after one another, over lists.
-use Rattle.std.proofs.Common.{◌≡◌, ℕ, ◌+◌, ◌<◌, ◌≤◌, List, [], ◌∷◌, ◌++◌, map, min, drop, length, slice_get, Some, add-one, refl, ap, arith, zero, suc, ◌∙◌, sym}
+use Rattle.std.proofs.Common.{◌≡◌, ℕ, ◌+◌, ◌≤◌, List, [], ◌∷◌, ◌++◌, map, min, drop, length, slice_get, Some, add-one, refl, ap, arith, zero, suc, ◌∙◌, sym}
 use Rattle.std.proofs.lemmas.List.{append-nil}
 use Rattle.awk_types.proofs.ListLaws.{drop-get}
 use Rattle.awk_types.specs.DataType.{DataType}
-use Rattle.awk_merge.specs.Carry.{Carry, Carries, carry, keep, carries_from, tag_at}
+use Rattle.awk_merge.specs.Carry.{Carry, carry, keep, carries_from, tag_at}
 use Rattle.awk_merge.specs.After.{after, afters, carry_by, each_after}
 use Rattle.awk_merge.specs.Carries.{all_same, carry_at, each_then, put_after, kept_each}
 

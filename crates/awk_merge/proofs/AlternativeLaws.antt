@@ -1,5 +1,5 @@
 -- Types put into alternatives: those that were there are kept, and what is put in goes where it says.
-use Rattle.std.proofs.Common.{◌≡◌, ◌+◌, ◌≤◌, ◌∷◌, ◌++◌, [], ℕ, List, append_assoc, arith, false, length, length-append, subst, suc, sym, zero}
+use Rattle.std.proofs.Common.{◌≡◌, ◌≤◌, ◌∷◌, ◌++◌, [], ℕ, List, append_assoc, arith, false, length, length-append, subst, suc, sym, zero}
 use Rattle.std.proofs.lemmas.List.{append-nil}
 use Rattle.std.specs.Prelude.{None, Option, Some}
 use Rattle.awk_merge.proofs.AfterLaws.{Fits, FitsAt, InPlace}

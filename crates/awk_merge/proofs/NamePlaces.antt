@@ -1,10 +1,10 @@
 -- The places of names among the fields of a record.
-use Rattle.std.proofs.Common.{◌≡◌, ◌+◌, ◌≤◌, ◌<◌, ◌==◌, ◌&&◌, ◌||◌, ◌∷◌, ◌++◌, ◌∙◌, [], ℕ, Bool, List, Some, ap, arith, drop, false, length, map, refl, slice_get, suc, sym, take, true, zero}
-use Rattle.std.specs.List.{list_all, list_any}
-use Rattle.std.specs.Prelude.{None, Option, if◌then◌else◌}
+use Rattle.std.proofs.Common.{◌≡◌, ◌+◌, ◌≤◌, ◌==◌, ◌&&◌, ◌||◌, ◌∷◌, ◌++◌, ◌∙◌, [], ℕ, Bool, List, Some, ap, arith, drop, false, length, map, refl, slice_get, suc, sym, take, true}
+use Rattle.std.specs.List.{list_all}
+use Rattle.std.specs.Prelude.{None, if◌then◌else◌}
 use Rattle.std.proofs.lemmas.List.{drop_all, length-map, map-append, take_all}
 use Rattle.awk_types.proofs.ListLaws.{drop-get, map-take-get}
-use Rattle.awk_types.proofs.NameLaws.{same_name-refl, same_name_is, same_name_apart}
+use Rattle.awk_types.proofs.NameLaws.{same_name-refl, same_name_is}
 use Rattle.awk_types.specs.DataType.{DataType, Name}
 use Rattle.awk_types.specs.Names.{same_name}
 use Rattle.awk_types.proofs.Views.{named_type}

@@ -1,9 +1,9 @@
 -- Parts that are unified one after another.
-use Rattle.std.proofs.Common.{◌≡◌, ◌+◌, ◌≤◌, ◌∷◌, ◌++◌, ◌∙◌, [], ℕ, List, Some, add-one, ap, append_assoc, arith, drop, length, map, min, refl, slice_get, suc, sym, zero}
+use Rattle.std.proofs.Common.{◌≡◌, ◌+◌, ◌≤◌, ◌∷◌, ◌++◌, ◌∙◌, [], ℕ, List, Some, ap, append_assoc, arith, drop, length, min, refl, slice_get, suc, sym, zero}
 use Rattle.std.specs.Prelude.{IfSome, None, Option}
 use Rattle.std.proofs.lemmas.List.{append-nil, drop_all, length-map}
 use Rattle.awk_types.proofs.ListLaws.{drop-get}
-use Rattle.awk_types.specs.DataType.{DataType, Name}
+use Rattle.awk_types.specs.DataType.{DataType}
 use Rattle.awk_types.specs.View.{NamedType, names_of, typs_of}
 use Rattle.awk_merge.specs.Carry.{Carry}
 use Rattle.awk_merge.specs.FieldNames.{field_type, picked, place_in, with_type}

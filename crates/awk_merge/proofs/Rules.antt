@@ -1,13 +1,12 @@
 -- The rules of unifying, one by one, and the tests that choose among them.
-use Rattle.std.proofs.Common.{◌≡◌, Bool, true, false, ◌||◌, refl, ap, sym, ◌∙◌}
-use Rattle.std.specs.Prelude.{Option, Some, None, if◌then◌else◌}
+use Rattle.std.proofs.Common.{◌≡◌, Bool, true, false, ◌||◌, refl, ap, ◌∙◌}
+use Rattle.std.specs.Prelude.{Some, None, if◌then◌else◌}
 use Rattle.awk_types.specs.DataType.{DataType}
 use Rattle.awk_types.specs.Simple.{is_option, present}
 use Rattle.awk_types.specs.SameType.{same_type}
-use Rattle.awk_merge.specs.Carry.{keep}
 use Rattle.awk_merge.specs.Early.{as_it_is, early}
 use Rattle.awk_merge.specs.Unification.{Unification}
-use Rattle.awk_merge.specs.Unify.{is_unknown, equal_or_unknown, joined_or, joins_or_unions, bare, optional, options_or, rules as six_rules, unification}
+use Rattle.awk_merge.specs.Unify.{is_unknown, equal_or_unknown, joined_or, joins_or_unions, bare, optional, options_or, unification}
 use Rattle.awk_merge.proofs.DepthLaws.{unify_rules}
 
 by_tests : (x y z : Bool) (a b r : Unification) → (if x then a else if y then b else if z then a else r) ≡ joined_or (if x then Some a else if y then Some b else if z then Some a else None) r

@@ -4,16 +4,13 @@ use Rattle.awk_types.proofs.RefusalLaws.{Told-same, refused_or-None, refused_or-
 use Rattle.awk_types.proofs.SimpleLaws.{simple_stays}
 use Rattle.awk_types.specs.DataType.{DataType}
 use Rattle.awk_types.specs.Gives.{Told}
-use Rattle.awk_types.specs.Has.{Has}
-use Rattle.awk_types.specs.IsType.{IsType}
 use Rattle.awk_types.specs.Limit.{Limit, limit, within}
 use Rattle.awk_types.specs.Simple.{IsSimple, simple}
-use Rattle.awk_types.specs.Value.{Value}
-use Rattle.awk_merge.specs.Carry.{Carry, carried}
+use Rattle.awk_merge.specs.Carry.{Carry}
 use Rattle.awk_merge.specs.Unification.{Unification}
 use Rattle.awk_merge.specs.Unifies.{IsCarriedInto, Unifies, within_type}
 use Rattle.awk_merge.specs.Unify.{unification}
-use Rattle.awk_merge.proofs.CarriedLaws.{IsCarried, Takes}
+use Rattle.awk_merge.proofs.CarriedLaws.{Takes}
 use Rattle.awk_merge.proofs.DepthLaws.{unify_rules}
 use Rattle.awk_merge.proofs.ScalarLaws.{scalar_stays}
 use Rattle.awk_merge.proofs.SimpleLaws.{unify_simple}

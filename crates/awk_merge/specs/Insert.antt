@@ -1,5 +1,5 @@
 -- Putting a type into alternatives, by the first one that joins with it.
-use Rattle.std.specs.Prelude.{ℕ, ◌+◌, List, [], ◌∷◌, ◌++◌, length}
+use Rattle.std.specs.Prelude.{◌+◌, List, [], ◌∷◌, ◌++◌, length}
 use Rattle.awk_types.specs.DataType.{DataType}
 use Rattle.awk_merge.specs.Carries.{all_same}
 use Rattle.awk_merge.specs.Carry.{keep}

@@ -6,7 +6,7 @@ use Rattle.awk_types.specs.Has.{Has}
 use Rattle.awk_types.specs.IsType.{IsType}
 use Rattle.awk_types.specs.Limit.{Limit, limit}
 use Rattle.awk_types.specs.Simple.{IsSimple}
-use Rattle.awk_types.specs.Value.{Value, int, truth, null, list, row, alt}
+use Rattle.awk_types.specs.Value.{Value, int, truth, null, alt}
 use Rattle.awk_merge.specs.Carry.{Carry, carried}
 use Rattle.awk_merge.specs.Unification.{Unification}
 use Rattle.awk_merge.specs.Unify.{rules, unification}

@@ -1,4 +1,4 @@
-use Rattle.std.proofs.Common.{◌≡◌, ◌∙◌, ap, ap₂, sym, true, false}
+use Rattle.std.proofs.Common.{◌≡◌, ◌∙◌, ap₂, sym, true, false}
 use Rattle.awk_types.specs.Names.{same_name}
 use Rattle.awk_types.specs.View.{field_of, fields_of}
 use Rattle.awk_merge.proofs.NamePlaces.{name_out, place-here, place-next}
