@@ -1,5 +1,6 @@
 -- Lifts after one another, over lists.
-use Rattle.std.proofs.Common.{◌≡◌, ℕ, ◌+◌, ◌≤◌, List, [], ◌∷◌, ◌++◌, map, min, drop, length, slice_get, Some, add-one, refl, ap, arith, zero, suc, ◌∙◌, sym}
+use Rattle.std.proofs.Common.{◌≡◌, ℕ, ◌+◌, ◌≤◌, List, [], ◌∷◌, ◌++◌, map, min, drop, length, slice_get, Some, add-one, refl, ap, arith, zero, suc, ◌∙◌, sym, append_assoc}
+use Rattle.std.proofs.Math.Seq.{drop-nil}
 use Rattle.std.proofs.lemmas.List.{append-nil}
 use Rattle.awk_types.proofs.ListLaws.{drop-get}
 use Rattle.awk_types.specs.DataType.{DataType}
@@ -20,10 +21,6 @@ pub each_are : (gs : List Carry) (ps : List ℕ) (fs : List Carry) → each_afte
 each_are gs [] fs = refl
 each_are gs (p ∷ ps) [] = refl
 each_are gs (p ∷ ps) (f ∷ fs) = ap (λ h. carry h (each_after (afters (carries_from gs)) ps (carries_from fs))) (by_place gs p f) ∙ ap (carry (after (carry_at gs p) f)) (each_are gs ps fs)
-
-drop-nil : {X : Type 0} (i : ℕ) → drop {A = X} i [] ≡ []
-drop-nil zero = refl
-drop-nil (suc i) = refl
 
 -- the one at a place, and beyond the last one
 pub carry_at-get : (gs : List Carry) (k : ℕ) (g : Carry) → slice_get gs k ≡ Some g → carry_at gs k ≡ g
@@ -67,12 +64,8 @@ pub ruleset afters_laws = (by_place, each_are, carry_at-get, carry_at-beyond, pu
 pub ruleset kept_laws = (kept_each-push, all_same-length)
 
 -- one more item of a loop
-append_one : {X : Type 0} (xs : List X) (x : X) (ys : List X) → (xs ++ x ∷ []) ++ ys ≡ xs ++ x ∷ ys
-append_one [] x ys = refl
-append_one (z ∷ xs) x ys = ap (λ zs. z ∷ zs) (append_one xs x ys)
-
 pub loop_step : {X : Type 0} (made new rest more all : List X) (x : X) → made ++ rest ≡ all → rest ≡ x ∷ more → new ≡ made ++ x ∷ [] → new ++ more ≡ all
-loop_step made new rest more all x e f g = ap (λ xs. xs ++ more) g ∙ append_one made x more ∙ sym (ap (λ xs. made ++ xs) f) ∙ e
+loop_step made new rest more all x e f g = ap (λ xs. xs ++ more) g ∙ append_assoc made (x ∷ []) more ∙ sym (ap (λ xs. made ++ xs) f) ∙ e
 
 pub put_step : (gs : List Carry) (ks : List ℕ) (fs : List Carry) (i k : ℕ) (f h : Carry) → slice_get ks i ≡ Some k → slice_get fs i ≡ Some f → h ≡ after (carry_at gs k) f → put_after gs (drop i ks) (drop i fs) ≡ h ∷ put_after gs (drop (i + 1) ks) (drop (i + 1) fs)
 put_step gs ks fs i k f h d e a = rw (drop-get ks i k d, drop-get fs i f e, a) refl

@@ -40,16 +40,8 @@ found join ts b i x j all e s h =
     sym (ap (λ o. ahead (take i ts) (chosen x (drop (i + 1) ts) o (insert join (drop (i + 1) ts) b))) s)
     ∙ sym (ap (λ us. ahead (take i ts) (insert join us b)) (drop-get ts i x e)) ∙ h
 
--- none joins
-pub none_joins : (join : Joining) (ts : List DataType) (b : DataType) (i : ℕ) (all : Placed) → length ts ≤ i → ahead (take i ts) (insert join (drop i ts) b) ≡ all → ahead ts (last b) ≡ all
-none_joins join ts b i all l h =
-    sym (ap (λ us. ahead us (last b)) (take_all i ts l)) ∙ sym (ap (λ us. ahead (take i ts) (insert join us b)) (drop_all i ts l)) ∙ h
-
 -- one more is put in
 pub put_in : (join : Joining) (p q all : PlacedAll) (s : Placed) (bs : List DataType) (i : ℕ) (b : DataType) → slice_get bs i ≡ Some b → s ≡ insert join p.typs b → q ≡ further p s → insert_all join p (drop i bs) ≡ all → insert_all join q (drop (i + 1) bs) ≡ all
 put_in join p q all s bs i b e f g h =
     ap (λ r. insert_all join r (drop (i + 1) bs)) (g ∙ ap (further p) f)
     ∙ sym (ap (insert_all join p) (drop-get bs i b e)) ∙ h
-
-pub all_in : (join : Joining) (p all : PlacedAll) (bs : List DataType) (i : ℕ) → length bs ≤ i → insert_all join p (drop i bs) ≡ all → p ≡ all
-all_in join p all bs i l h = sym (ap (insert_all join p) (drop_all i bs l)) ∙ h

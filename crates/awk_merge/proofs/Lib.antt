@@ -6,7 +6,6 @@ pub mod SimpleLaws
 pub mod TypeLaws
 pub mod HasLaws
 pub mod TypingLaws
-pub mod ListLaws
 pub mod Lists
 pub mod Afters
 pub mod Views

@@ -2,6 +2,7 @@
 use Rattle.std.proofs.Common.{◌≡◌, ◌+◌, ◌≤◌, ◌==◌, ◌&&◌, ◌||◌, ◌∷◌, ◌++◌, ◌∙◌, [], ℕ, Bool, List, Some, ap, arith, drop, false, length, map, refl, slice_get, suc, sym, take, true}
 use Rattle.std.specs.List.{list_all}
 use Rattle.std.specs.Prelude.{None, if◌then◌else◌}
+use Rattle.std.proofs.Math.Bool.{and-false}
 use Rattle.std.proofs.lemmas.List.{drop_all, length-map, map-append, take_all}
 use Rattle.awk_types.proofs.ListLaws.{drop-get, map-take-get}
 use Rattle.awk_types.proofs.NameLaws.{same_name-refl, same_name_is}
@@ -14,7 +15,7 @@ use Rattle.awk_types.specs.declared.typ.Typ.TheViews.{out-Field}
 use Rattle.awk_types.specs.declared.typ.Typ.TheFolds.{fold_out-Field}
 use Rattle.awk_merge.specs.FieldNames.{alike, field_type, is_in, place_in}
 use Rattle.awk_merge.specs.Join.{field_types}
-use Rattle.awk_merge.proofs.Tests.{eq_is}
+use Rattle.awk_merge.proofs.Tests.{eq_false, eq_true}
 
 -- a field is its name and its type
 field_out : (f : Field) → field_of f ≡ named_type (out-Field f).name (typ_of (out-Field f).typ)
@@ -26,7 +27,7 @@ name_out f = ap (λ x. x.name) (field_out f)
 pub typ_out : (f : Field) → (field_of f).typ ≡ typ_of (out-Field f).typ
 typ_out f = ap (λ x. x.typ) (field_out f)
 
-same_name-flip : (n m : Name) → same_name n m ≡ same_name m n
+pub same_name-flip : (n m : Name) → same_name n m ≡ same_name m n
 same_name-flip n m = step (same_name n m) refl
   where
     step : (b : Bool) → same_name n m ≡ b → b ≡ same_name m n
@@ -82,17 +83,10 @@ alike-not : (ns : List Name) (ys : List NamedType) (i : ℕ) (y : NamedType) (al
 alike-not ns ys i y all e h k =
     sym (ap (λ xs. list_all (is_in ns) (names_of xs)) (drop-get ys i y e) ∙ ap (λ b. b && list_all (is_in ns) (names_of (drop (i + 1) ys))) h) ∙ k
 
-and_false : (a : Bool) → false ≡ (a && false)
-and_false true = refl
-and_false false = refl
-
 -- a name that is not there
 pub alike-none : (ns : List Name) (ys : List NamedType) (i : ℕ) (y : NamedType) → slice_get ys i ≡ Some y → is_in ns y.name ≡ false → list_all (is_in ns) (names_of (drop i ys)) ≡ list_all (is_in ns) (names_of ys) → false ≡ alike ns (names_of ys)
 alike-none ns ys i y e h k =
-    and_false (length ns == length (names_of ys)) ∙ ap (λ b. (length ns == length (names_of ys)) && b) (alike-not ns ys i y (list_all (is_in ns) (names_of ys)) e h k)
-
-eq_true : (n m : ℕ) → n ≡ m → (n == m) ≡ true
-eq_true n m e = grind arith
+    sym (and-false (length ns == length (names_of ys))) ∙ ap (λ b. (length ns == length (names_of ys)) && b) (alike-not ns ys i y (list_all (is_in ns) (names_of ys)) e h k)
 
 pub alike-all : (xs ys : List NamedType) (i : ℕ) → length xs ≡ length ys → length ys ≤ i → list_all (is_in (names_of xs)) (names_of (drop i ys)) ≡ list_all (is_in (names_of xs)) (names_of ys) → true ≡ alike (names_of xs) (names_of ys)
 alike-all xs ys i e l k =
@@ -101,11 +95,7 @@ alike-all xs ys i e l k =
     there ∙ ap (λ b. b && list_all (is_in (names_of xs)) (names_of ys)) (sym (eq_true _ _ long))
 
 pub alike-apart : (xs ys : List NamedType) → (length xs ≡ length ys → ⊥) → false ≡ alike (names_of xs) (names_of ys)
-alike-apart xs ys d = ap (λ b. b && list_all (is_in (names_of xs)) (names_of ys)) (step (length (names_of xs) == length (names_of ys)) refl)
-  where
-    step : (b : Bool) → (length (names_of xs) == length (names_of ys)) ≡ b → false ≡ b
-    step true h = absurd (d (sym (length-map xs (λ f. f.name)) ∙ eq_is _ _ h ∙ length-map ys (λ f. f.name)))
-    step false h = refl
+alike-apart xs ys d = ap (λ b. b && list_all (is_in (names_of xs)) (names_of ys)) (sym (eq_false _ _ (λ e. d (sym (length-map xs (λ f. f.name)) ∙ e ∙ length-map ys (λ f. f.name)))))
 
 -- ---- the type of the field at the place of a name
 
@@ -142,6 +132,6 @@ made-next h ys i y made new x e before pushed is =
 pub made-all : {B : Type 0} (h : Name → B) (ys : List NamedType) (i : ℕ) (made : List B) → length ys ≤ i → made ≡ map h (names_of (take i ys)) → made ≡ map h (names_of ys)
 made-all h ys i made l before = before ∙ ap (λ zs. map h (names_of zs)) (take_all i ys l)
 
-pub ruleset place_laws = (place-here, place-next, place-last)
+pub ruleset place_laws = (place-last)
 
-pub ruleset alike_laws = (is_in-none, is_in-some, alike-next, alike-none, alike-all, alike-apart)
+pub ruleset alike_laws = (alike-all, alike-apart)

@@ -1,13 +1,15 @@
 -- Rows of a record, whose parts go to the places of their names.
 use Rattle.std.proofs.Common.{◌≡◌, ◌+◌, ◌≤◌, ◌<◌, ◌||◌, ◌==◌, ◌∷◌, [], ℕ, ◌∙◌, List, Bool as Truth, ap, arith, false, length, map, refl, subst, suc, sym, true, zero}
 use Rattle.std.proofs.lemmas.List.{length-map}
+use Rattle.std.proofs.lemmas.Bool.{and_parts, or_parts}
 use Rattle.std.specs.List.{list_all, list_any}
 use Rattle.std.specs.Prelude.{if◌then◌else◌, None, Option, Some}
 use Rattle.awk_merge.proofs.AfterLaws.{Apart, ArePlaces, FitEach, Fits}
 use Rattle.awk_merge.proofs.DepthLaws.{deepest_list}
 use Rattle.awk_merge.proofs.HasLaws.{of_list, rec_tup, tup_rec}
 use Rattle.awk_merge.proofs.SimpleLaws.{IfAllFine, picked_fine}
-use Rattle.awk_merge.proofs.Tests.{and_left, and_right, eq_is}
+use Rattle.awk_merge.proofs.NamePlaces.{same_name-flip}
+use Rattle.awk_merge.proofs.Tests.{eq_is}
 use Rattle.awk_merge.proofs.TypeLaws.{IfFields, picked_ok}
 use Rattle.awk_merge.specs.Carries.{carry_at}
 use Rattle.awk_merge.specs.Carry.{Carry, at_place, carried, carried_each, carries_from, in_order}
@@ -28,11 +30,8 @@ use Rattle.awk_merge.proofs.RowLaws.{EachCarry, PartsCarry, as_list, own_carry, 
 
 -- ---- records: the parts go to the places of their names
 
-name_same : (n : Name) → same_name n n ≡ true
-name_same n = same_name-refl n
-
 name_of : (n m : Name) → n ≡ m → same_name n m ≡ true
-name_of n m e = subst (λ k. same_name n k ≡ true) e (name_same n)
+name_of n m e = subst (λ k. same_name n k ≡ true) e (same_name-refl n)
 
 abbrev name_at : List Name → ℕ → Name
 name_at [] k = []
@@ -70,31 +69,23 @@ places_differ ns m k e f d = step (place_in ns m == place_in ns k) refl
     step false h = refl
 
 name_sym : (m k : Name) → same_name m k ≡ false → same_name k m ≡ false
-name_sym m k d = step (same_name k m) refl
-  where
-    step : (b : Truth) → same_name k m ≡ b → b ≡ false
-    step true h = sym (name_of m k (sym (same_name_is k m h))) ∙ d
-    step false h = refl
-
-or_false : (a b : Truth) → (a || b) ≡ false → (a ≡ false) × (b ≡ false)
-or_false true b e = cc
-or_false false b e = (refl, e)
+name_sym m k d = sym (same_name-flip m k) ∙ d
 
 -- the test of names, the other way round
 other_way : (m : Name) (ms : List Name) → is_among m ms ≡ false → list_any (same_name m) ms ≡ false
 other_way m [] e = refl
-other_way m (k ∷ ms) e = rw (name_sym k m (or_false _ _ e).0) (other_way m ms (or_false (same_name k m) _ e).1)
+other_way m (k ∷ ms) e = rw (name_sym k m (or_parts _ _ e).0) (other_way m ms (or_parts (same_name k m) _ e).1)
 
 apart_names : (ns : List Name) (m : Name) (ms : List Name) → is_in ns m ≡ true → list_all (is_in ns) ms ≡ true → list_any (same_name m) ms ≡ false → Apart (place_in ns m) (map (place_in ns) ms)
 apart_names ns m [] e f d = tt
 apart_names ns m (k ∷ ms) e f d =
-    let here : same_name m k ≡ false = (or_false _ _ d).0 in
-    let known : is_in ns k ≡ true = and_left _ _ f in
-    (places_differ ns k m known e (name_sym m k here), places_differ ns m k e known here, apart_names ns m ms e (and_right (is_in ns k) _ f) (or_false (same_name m k) _ d).1)
+    let here : same_name m k ≡ false = (or_parts _ _ d).0 in
+    let known : is_in ns k ≡ true = (and_parts _ _ f).0 in
+    (places_differ ns k m known e (name_sym m k here), places_differ ns m k e known here, apart_names ns m ms e (and_parts (is_in ns k) _ f).1 (or_parts (same_name m k) _ d).1)
 
 are_name_places : (ns ms : List Name) → list_all (is_in ns) ms ≡ true → AreDistinct ms → ArePlaces (length ns) (map (place_in ns) ms)
 are_name_places ns [] f d = tt
-are_name_places ns (m ∷ ms) f d = (place_below ns m (and_left _ _ f), apart_names ns m ms (and_left _ _ f) (and_right (is_in ns m) _ f) (other_way m ms d.0), are_name_places ns ms (and_right (is_in ns m) _ f) d.1)
+are_name_places ns (m ∷ ms) f d = (place_below ns m (and_parts _ _ f).0, apart_names ns m ms (and_parts _ _ f).0 (and_parts (is_in ns m) _ f).1 (other_way m ms d.0), are_name_places ns ms (and_parts (is_in ns m) _ f).1 d.1)
 
 -- which type a name has
 abbrev FieldsAre : List Name → List DataType → List Name → List DataType → Type 0
@@ -104,12 +95,12 @@ FieldsAre ms us qs ts = Unit {0}
 fields_more : (m : Name) (u : DataType) (ms : List Name) (us : List DataType) (qs : List Name) (ts : List DataType) → list_any (same_name m) qs ≡ false → FieldsAre ms us qs ts → FieldsAre (m ∷ ms) (u ∷ us) qs ts
 fields_more m u ms us [] ts d f = tt
 fields_more m u ms us (q ∷ qs) [] d f = tt
-fields_more m u ms us (q ∷ qs) (t ∷ ts) d f = (rw (name_sym m q (or_false _ _ d).0) f.0, fields_more m u ms us qs ts (or_false (same_name m q) _ d).1 f.1)
+fields_more m u ms us (q ∷ qs) (t ∷ ts) d f = (rw (name_sym m q (or_parts _ _ d).0) f.0, fields_more m u ms us qs ts (or_parts (same_name m q) _ d).1 f.1)
 
 fields_are : (ms : List Name) (us : List DataType) → AreDistinct ms → FieldsAre ms us ms us
 fields_are [] us d = tt
 fields_are (m ∷ ms) [] d = tt
-fields_are (m ∷ ms) (u ∷ us) d = (rw (name_same m), fields_more m u ms us ms us (other_way m ms d.0) (fields_are ms us d.1))
+fields_are (m ∷ ms) (u ∷ us) d = (rw (same_name-refl m), fields_more m u ms us ms us (other_way m ms d.0) (fields_are ms us d.1))
 
 -- picked types, by place
 some_is : {A : Type 0} (x y : A) → Some x ≡ Some y → x ≡ y
@@ -160,11 +151,11 @@ named_each ns ms us ps ts fs e c l [] (w ∷ ws) vs n a f h = absurd (omega arit
 named_each ns ms us ps ts fs e c l (k ∷ ks) [] vs n a f h = absurd (omega arith)
 named_each ns ms us ps ts fs e c l (k ∷ ks) (w ∷ ws) [] n a f h = absurd h
 named_each ns ms us ps ts fs e c l (k ∷ ks) (w ∷ ws) (v ∷ vs) n a f h =
-    let known : is_in ns k ≡ true = and_left _ _ a in
+    let known : is_in ns k ≡ true = (and_parts _ _ a).0 in
     let of_type : type_at ps (place_in ns k) ≡ w = some_is _ _ (sym (picked_at ns ms us ps k e known) ∙ f.0) in
     let low : place_in ns k < length ts = subst (λ x. place_in ns k < x) l (place_below ns k known) in
     let one : Fits (carry_at fs (place_in ns k)) v × Has (type_at ts (place_in ns k)) (carried (carry_at fs (place_in ns k)) v) = takes_at ps fs ts (place_in ns k) c low v (subst (λ t. Has t v) (sym of_type) h.0) in
-    let rest : FitEach (map (place_in ns) ks) (carries_from (map (λ m. carry_at fs (place_in ns m)) ks)) vs × TypedAt ts (map (place_in ns) ks) (values_by (carried_each (carries_from (map (λ m. carry_at fs (place_in ns m)) ks))) vs) = named_each ns ms us ps ts fs e c l ks ws vs (omega arith) (and_right (is_in ns k) _ a) f.1 h.1 in
+    let rest : FitEach (map (place_in ns) ks) (carries_from (map (λ m. carry_at fs (place_in ns m)) ks)) vs × TypedAt ts (map (place_in ns) ks) (values_by (carried_each (carries_from (map (λ m. carry_at fs (place_in ns m)) ks))) vs) = named_each ns ms us ps ts fs e c l ks ws vs (omega arith) (and_parts (is_in ns k) _ a).1 f.1 h.1 in
     ((one.0, rest.0), (one.1, rest.1))
 
 -- each place is taken
@@ -184,13 +175,13 @@ at_typed ts j (p ∷ ps) (x ∷ xs) c e = typed_step (p == j) refl e c.0 (at_typ
 
 name_place : (ns : List Name) (j : ℕ) → AreDistinct ns → j < length ns → place_in ns (name_at ns j) ≡ j
 name_place [] j d l = absurd (omega arith)
-name_place (n ∷ ns) zero d l = rw (name_same n)
+name_place (n ∷ ns) zero d l = rw (same_name-refl n)
 name_place (n ∷ ns) (suc j) d l = rw (differs n ns j (other_way n ns d.0) (omega arith)) (ap suc (name_place ns j d.1 (omega arith)))
   where
     differs : (n : Name) (ns : List Name) (j : ℕ) → list_any (same_name n) ns ≡ false → j < length ns → same_name n (name_at ns j) ≡ false
     differs n [] j e l = absurd (omega arith)
-    differs n (k ∷ ns) zero e l = (or_false _ _ e).0
-    differs n (k ∷ ns) (suc j) e l = differs n ns j (or_false (same_name n k) _ e).1 (omega arith)
+    differs n (k ∷ ns) zero e l = (or_parts _ _ e).0
+    differs n (k ∷ ns) (suc j) e l = differs n ns j (or_parts (same_name n k) _ e).1 (omega arith)
 
 found_name : (n : Name) (ms : List Name) (us : List DataType) (t : DataType) → field_type n ms us ≡ Some t → list_any (same_name n) ms ≡ true
 found_name n [] us t e = cc
@@ -203,7 +194,7 @@ found_name n (m ∷ ms) (u ∷ us) t e = step (same_name n m) e (found_name n ms
 
 name_in : (ns : List Name) (j : ℕ) → j < length ns → is_in ns (name_at ns j) ≡ true
 name_in [] j l = absurd (omega arith)
-name_in (n ∷ ns) zero l = rw (name_same n)
+name_in (n ∷ ns) zero l = rw (same_name-refl n)
 name_in (n ∷ ns) (suc j) l = or_right (same_name n (name_at ns j)) (is_in ns (name_at ns j)) (name_in ns j (omega arith))
   where
     or_right : (a b : Truth) → b ≡ true → (a || b) ≡ true
@@ -245,8 +236,8 @@ at_zero ts j qs xs h = subst (λ k. Has (type_at ts j) (at_place k qs xs)) (omeg
 names_carry : (ns ms : List Name) (us ps ts : List DataType) (fs : List Carry) → AreDistinct ns → AreDistinct ms → alike ns ms ≡ true → length ms ≡ length us → length ns ≡ length ts → picked ns ms us ≡ Some ps → EachCarry ps fs ts →
     Takes (tup (types_from us)) (to_names ns ms fs) (tup (types_from ts))
 names_carry ns ms us ps ts fs dn dm a lu lt e c (row vs) h =
-    let all_in : list_all (is_in ns) ms ≡ true = and_right (length ns == length ms) _ a in
-    let long : length ns ≡ length ms = eq_is _ _ (and_left (length ns == length ms) _ a) in
+    let all_in : list_all (is_in ns) ms ≡ true = (and_parts (length ns == length ms) _ a).1 in
+    let long : length ns ≡ length ms = eq_is _ _ (and_parts (length ns == length ms) _ a).0 in
     let qs : List ℕ = map (place_in ns) ms in
     let many : length qs ≡ length ts = length-map ms (place_in ns) ∙ sym long ∙ lt in
     let each : FitEach qs (carries_from (map (λ m. carry_at fs (place_in ns m)) ms)) (value_list vs) × TypedAt ts qs (values_by (carried_each (carries_from (map (λ m. carry_at fs (place_in ns m)) ms))) (value_list vs)) = named_each ns ms us ps ts fs e c lt ms us (value_list vs) lu all_in (fields_are ms us dm) h in

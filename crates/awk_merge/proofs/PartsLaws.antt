@@ -1,6 +1,7 @@
 -- Parts that are unified one after another.
 use Rattle.std.proofs.Common.{◌≡◌, ◌+◌, ◌≤◌, ◌∷◌, ◌++◌, ◌∙◌, [], ℕ, List, Some, ap, append_assoc, arith, drop, length, min, refl, slice_get, suc, sym, zero}
 use Rattle.std.specs.Prelude.{IfSome, None, Option}
+use Rattle.std.proofs.Math.Seq.{drop-nil}
 use Rattle.std.proofs.lemmas.List.{append-nil, drop_all, length-map}
 use Rattle.awk_types.proofs.ListLaws.{drop-get}
 use Rattle.awk_types.specs.DataType.{DataType}
@@ -42,10 +43,6 @@ parts_next u p q all ts us i a b r e f g h k =
     ap (λ x. behind x rest) (h ∙ ap (one_more p) g) ∙ behind-one_more p rest (u a b)
     ∙ sym (ap (λ xs. behind p (unify_parts u xs (drop i us))) (drop-get ts i a e) ∙ ap (λ ys. behind p (unify_parts u (a ∷ drop (i + 1) ts) ys)) (drop-get us i b f))
     ∙ k
-
-drop-nil : {X : Type 0} (i : ℕ) → drop {A = X} i [] ≡ []
-drop-nil zero = refl
-drop-nil (suc i) = refl
 
 parts_beyond : (u : Unifying) (ts us : List DataType) (i : ℕ) → i ≡ min (length ts) (length us) → unify_parts u (drop i ts) (drop i us) ≡ no_parts
 parts_beyond u [] us i h = rw (drop-nil i) refl

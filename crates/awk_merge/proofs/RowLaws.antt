@@ -1,11 +1,11 @@
 -- Leaves, lists and rows whose parts are carried.
 use Rattle.std.proofs.Common.{◌≡◌, ◌+◌, ◌≤◌, ◌<◌, ◌&&◌, ◌==◌, ◌∷◌, [], ◌≢◌, ℕ, ◌∙◌, List, Bool as Truth, ap, arith, false, length, refl, subst, suc, sym, true, zero}
+use Rattle.std.proofs.lemmas.Bool.{and_parts}
 use Rattle.std.specs.List.{AllByRecursion}
 use Rattle.std.specs.Prelude.{if◌then◌else◌, IfSome, None, Option, Some}
 use Rattle.awk_merge.proofs.AfterLaws.{AllInPlace, Apart, ArePlaces, FitEach, Fits, InPlace, in_order_same, length_places}
 use Rattle.awk_merge.proofs.DepthLaws.{Deepest, deepest_list}
 use Rattle.awk_merge.proofs.HasLaws.{of_list, reg_var}
-use Rattle.awk_merge.proofs.Tests.{and_left, and_right}
 use Rattle.awk_merge.specs.Carry.{Carry, carried, carried_each, carries_from, in_items, in_order}
 use Rattle.awk_merge.specs.FieldNames.{in_own}
 use Rattle.awk_merge.specs.Join.{Unifying, leaf_join, list_join, tup_join, unify_parts}
@@ -44,13 +44,13 @@ promoted_carries : (p q : Primitive) (o : Option Primitive) → promotion p q �
 promoted_carries p q None e h = tt
 promoted_carries p q (Some r) e h =
     let whole : (is_whole p && is_whole q) ≡ true = were_whole _ _ r e in
-    record { to_left = λ v k. (tt, number_has p r (and_left _ _ whole) h.0 v k); to_right = λ v k. (tt, number_has q r (and_right (is_whole p) _ whole) h.1 v k); in_place = tt }
+    record { to_left = λ v k. (tt, number_has p r (and_parts _ _ whole).0 h.0 v k); to_right = λ v k. (tt, number_has q r (and_parts (is_whole p) _ whole).1 h.1 v k); in_place = tt }
 
 pub leaf_carries : (b : Truth) (p q : Primitive) → (same_primitive p Bool && same_primitive q Bool) ≡ b → IfJoins (leaf p) (leaf q) (leaf_join (if b then Some Bool else promotion p q))
 leaf_carries true p q e =
     record {
-      to_left = λ v h. (tt, subst (λ x. Has (leaf x) v) (same_primitive_is p Bool (and_left _ _ e)) h);
-      to_right = λ v h. (tt, subst (λ x. Has (leaf x) v) (same_primitive_is q Bool (and_right (same_primitive p Bool) _ e)) h);
+      to_left = λ v h. (tt, subst (λ x. Has (leaf x) v) (same_primitive_is p Bool (and_parts _ _ e).0) h);
+      to_right = λ v h. (tt, subst (λ x. Has (leaf x) v) (same_primitive_is q Bool (and_parts (same_primitive p Bool) _ e).1) h);
       in_place = tt;
     }
 leaf_carries false p q e = promoted_carries p q (promotion p q) refl (promotion_holds p q)

@@ -18,7 +18,7 @@ use Rattle.awk_merge.specs.Unify.{bare, unification}
 use Rattle.awk_merge.specs.View.{unified_of, found_of}
 use Rattle.awk_merge.specs.declared.unified.Unified.{Unified}
 use Rattle.awk_merge.proofs.Rules.{unified_early, bare_early}
-use Rattle.awk_merge.proofs.Tests.{eq_is}
+use Rattle.awk_merge.proofs.Tests.{eq_false, eq_true}
 
 pub early_found : (o : Option Unified) (u : Unified) (a b : DataType) → found_of o ≡ early a b → o ≡ Some u → unified_of u ≡ unification a b
 early_found o u a b e s = sym (unified_early a b (unified_of u) (sym e ∙ ap found_of s))
@@ -33,9 +33,6 @@ pub join_none : (o : Option Unified) (j : Option Unification) → found_of o ≡
 join_none o j e s = sym e ∙ ap found_of s
 
 -- ---- tuples and records
-
-eq_true : (n m : ℕ) → n ≡ m → (n == m) ≡ true
-eq_true n m e = grind arith
 
 abbrev records : List Name → List Name → List DataType → List DataType → Option Unification
 records ns ms xs ys = if alike ns ms then rec_join unification ns ms xs (picked ns ms ys) else None
@@ -54,13 +51,6 @@ pub tuples_of_one_length : (a b : Typ) (xs ys : Typs) (p : Unifications) → a �
 tuples_of_one_length a b xs ys p e f g h =
     ap tup_join h ∙ sym (tuples_join a b xs ys e f ∙ ap (λ x. if x then tup_join (unify_parts unification (typs_of xs) (typs_of ys)) else None) (eq_true _ _ g))
 
-eq_false : (n m : ℕ) → (n ≡ m → ⊥) → (n == m) ≡ false
-eq_false n m d = step (n == m) refl
-  where
-    step : (x : Bool) → (n == m) ≡ x → x ≡ false
-    step true h = absurd (d (eq_is n m h))
-    step false h = refl
-
 pub tuples_of_other_lengths : (a b : Typ) (xs ys : Typs) → a ≡ Tup xs → b ≡ Tup ys → (length (typs_of xs) ≡ length (typs_of ys) → ⊥) → None ≡ join_by unification (typ_of a) (typ_of b)
 tuples_of_other_lengths a b xs ys e f d =
     sym (tuples_join a b xs ys e f ∙ ap (λ x. if x then tup_join (unify_parts unification (typs_of xs) (typs_of ys)) else None) (eq_false _ _ d))
@@ -72,13 +62,6 @@ records_join a b xs ys e f =
     ∙ ap (λ zs. records (names_of (fields_of xs)) (names_of (fields_of ys)) zs (type_list (types_of (fields_of ys)))) (type_list-from (map (λ f. f.typ) (fields_of xs)))
     ∙ ap (records (names_of (fields_of xs)) (names_of (fields_of ys)) (map (λ f. f.typ) (fields_of xs))) (type_list-from (map (λ f. f.typ) (fields_of ys))))
 
--- where the names differ nothing joins
-pub records_apart : (xs ys : List NamedType) → alike (names_of xs) (names_of ys) ≡ false → join_records unification xs ys ≡ None
-records_apart xs ys e = rw e refl
-
-pub records_alike : (xs ys : List NamedType) → alike (names_of xs) (names_of ys) ≡ true → join_records unification xs ys ≡ rec_of (names_of xs) (names_of ys) (unify_fields unification xs ys)
-records_alike xs ys e = rw e refl
-
 -- ---- alternatives
 
 pub union_alternatives : (t : Typ) (ts : Typs) → t ≡ Uni ts → typs_of ts ≡ alternatives (typ_of t)
@@ -87,7 +70,3 @@ union_alternatives t ts e = sym (ap (λ x. alternatives (typ_of x)) e ∙ ap alt
 pub merged_union : (join : Joining) (a : DataType) (b : Typ) (bs : Typs) (ts : List DataType) (s p : PlacedAll) → p ≡ insert_all join s (typs_of bs) → s ≡ start ts → ts ≡ alternatives a → b ≡ Uni bs → p ≡ insert_all join (start (alternatives a)) (alternatives (typ_of b))
 merged_union join a b bs ts s p e f g h =
     e ∙ ap (λ x. insert_all join x (typs_of bs)) (f ∙ ap start g) ∙ ap (insert_all join (start (alternatives a))) (union_alternatives b bs h)
-
-pub merged_one : (join : Joining) (a b : DataType) (ts : List DataType) (s p : PlacedAll) (q : Placed) → p ≡ further s q → q ≡ insert join s.typs b → s ≡ start ts → ts ≡ alternatives a → alternatives b ≡ b ∷ [] → p ≡ insert_all join (start (alternatives a)) (alternatives b)
-merged_one join a b ts s p q e f g h one =
-    e ∙ ap (further s) f ∙ ap (λ x. insert_all join x (b ∷ [])) (g ∙ ap start h) ∙ sym (ap (insert_all join (start (alternatives a))) one)

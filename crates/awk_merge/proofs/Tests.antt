@@ -6,18 +6,18 @@ use Rattle.awk_types.proofs.SameTypeLaws.{same_type-refl, same_type_is}
 use Rattle.awk_types.specs.DataType.{DataType, unknown}
 use Rattle.awk_types.specs.SameType.{same_type}
 
--- ---- tests that are true
+-- ---- equal numbers
 
 pub eq_is : (n m : ℕ) → (n == m) ≡ true → n ≡ m
 eq_is n m e = grind arith
 
-pub and_left : (a b : Bool) → (a && b) ≡ true → a ≡ true
-and_left true b e = refl
-and_left false b e = e
+pub eq_true : (n m : ℕ) → n ≡ m → (n == m) ≡ true
+eq_true n m e = grind arith
 
-pub and_right : (a b : Bool) → (a && b) ≡ true → b ≡ true
-and_right true b e = e
-and_right false b e = cc
+pub eq_false : (n m : ℕ) → (n ≡ m → ⊥) → (n == m) ≡ false
+eq_false n m d = false_from_ne_true (n == m) (λ h. d (eq_is n m h))
+
+-- ---- tests of types
 
 pub unknown_is : (t : DataType) → is_unknown t ≡ true → t ≡ unknown
 unknown_is unknown e = refl

@@ -1,7 +1,6 @@
 -- The type that two types unify to, and how the values of both are carried into it.
-use Rattle.std.specs.Prelude.{◌||◌, ◌∷◌, ◌++◌, [], ℕ, if◌then◌else◌, Bool, List, None, Option, Some, false, map, suc, true, zero}
-use Rattle.awk_merge.specs.After.{after}
-use Rattle.awk_merge.specs.Carry.{Carry, carry, keep, no_carries, to_alternatives}
+use Rattle.std.specs.Prelude.{◌||◌, ◌∷◌, [], ℕ, if◌then◌else◌, Bool, None, Option, Some, false, suc, true, zero}
+use Rattle.awk_merge.specs.Carry.{carry, keep, no_carries, to_alternatives}
 use Rattle.awk_merge.specs.Join.{Unifying, join_by}
 use Rattle.awk_merge.specs.Merge.{start, insert_all, merged}
 use Rattle.awk_merge.specs.Unification.{Unification}
@@ -69,17 +68,3 @@ unification_at (suc n) a b = rules (unification_at n) a b
 
 abbrev pub unification : Unifying
 unification a b = unification_at (depth b) a b
-
--- more than two types are unified from the left: the type, and how the values of each are carried
-pub record UnificationList : Type 0 where
-  pub typ : DataType
-  pub lifts : List Carry
-
-abbrev pub unification_more : DataType → List Carry → List DataType → UnificationList
-unification_more t fs [] = record { typ = t; lifts = fs }
-unification_more t fs (b ∷ bs) =
-    let r = unification t b in
-    unification_more r.typ (map (after r.left) fs ++ r.right ∷ []) bs
-
-abbrev pub unification_list : DataType → List DataType → UnificationList
-unification_list t ts = unification_more t (keep ∷ []) ts
