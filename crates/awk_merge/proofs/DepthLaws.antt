@@ -1,16 +1,14 @@
 -- As many steps as the second type is deep are enough.
-use Rattle.std.proofs.Common.{◌≡◌, ◌-◌, ◌≤◌, ◌||◌, ◌==◌, ◌∷◌, [], ℕ, ◌∙◌, Bool, List, ap, arith, false, length, max, min, refl, suc, sym, true, zero}
+use Rattle.std.proofs.Common.{◌≡◌, ◌-◌, ◌≤◌, ◌==◌, ◌∷◌, [], ℕ, ◌∙◌, Bool, List, ap, arith, false, length, max, min, refl, suc, true, zero}
 use Rattle.std.specs.Prelude.{if◌then◌else◌, None, Option, Some}
-use Rattle.awk_merge.specs.Carry.{keep}
 use Rattle.awk_merge.specs.FieldNames.{alike, field_type, picked, with_type}
 use Rattle.awk_merge.specs.Join.{Unifying, join_by, list_join, rec_join, tup_join, unify_parts}
-use Rattle.awk_merge.specs.Merge.{chosen, insert, start, further, insert_all, merged}
-use Rattle.awk_merge.specs.Unification.{PlacedAll, Unification}
-use Rattle.awk_merge.specs.Unify.{apart, bare, equal_or_unknown, is_unknown, joins_or_unions, optional, options_or, rules, unification, unification_at}
+use Rattle.awk_merge.specs.Merge.{chosen, insert, start, further, insert_all}
+use Rattle.awk_merge.specs.Unification.{PlacedAll}
+use Rattle.awk_merge.specs.Unify.{joins_or_unions, rules, unification, unification_at}
 use Rattle.awk_types.specs.DataType.{DataType, DataTypes, Name, depth, depths, greatest, leaf, no_types, opt, rec, reg, tup, type, type_list, types_from, uni, unknown, var}
 use Rattle.awk_types.specs.Names.{same_name}
-use Rattle.awk_types.specs.SameType.{same_type}
-use Rattle.awk_types.specs.Simple.{alternatives, is_option, is_union, present}
+use Rattle.awk_types.specs.Simple.{alternatives, present}
 
 -- two ways to unify agree where the second type is at most n deep
 abbrev pub Agree : ℕ → Unifying → Unifying → Type 0

@@ -1,10 +1,9 @@
 -- Putting a type into alternatives: the first one that joins is found from left to right.
-use Rattle.std.proofs.Common.{◌≡◌, ℕ, zero, suc, ◌+◌, ◌≤◌, List, [], ◌∷◌, ◌++◌, take, drop, length, slice_get, add-one, arith, ap, sym, ◌∙◌}
+use Rattle.std.proofs.Common.{◌≡◌, ℕ, zero, suc, ◌+◌, List, [], ◌∷◌, ◌++◌, take, drop, length, slice_get, add-one, arith, ap, sym, ◌∙◌}
 use Rattle.std.specs.Prelude.{Some, None}
-use Rattle.std.proofs.lemmas.List.{drop_all, take_all}
 use Rattle.awk_types.specs.DataType.{DataType}
 use Rattle.awk_merge.specs.Carries.{all_same}
-use Rattle.awk_merge.specs.Insert.{ahead, last, joined_first}
+use Rattle.awk_merge.specs.Insert.{ahead, joined_first}
 use Rattle.awk_merge.specs.Join.{Joining}
 use Rattle.awk_merge.specs.Merge.{chosen, insert, insert_all, further}
 use Rattle.awk_merge.specs.Unification.{Placed, PlacedAll, Unification}

@@ -1,9 +1,9 @@
 -- The steps of unifying, by what its calls answer.
-use Rattle.std.proofs.Common.{◌≡◌, ℕ, Bool, true, false, ◌==◌, List, [], ◌∷◌, map, length, arith, refl, ap, sym, ◌∙◌}
+use Rattle.std.proofs.Common.{◌≡◌, ◌==◌, List, map, length, ap, sym, ◌∙◌}
 use Rattle.std.specs.Prelude.{Option, Some, None, if◌then◌else◌}
 use Rattle.awk_types.specs.DataType.{Name, DataType, rec, tup, types_from, type_list}
 use Rattle.awk_types.specs.Simple.{alternatives}
-use Rattle.awk_types.specs.View.{NamedType, names_of, types_of, typ_of, fields_of, typs_of}
+use Rattle.awk_types.specs.View.{names_of, types_of, typ_of, fields_of, typs_of}
 use Rattle.awk_types.specs.declared.typ.Typ.{Typ, Tup, Uni, Rec}
 use Rattle.awk_types.specs.declared.typ.Typs.{Typs}
 use Rattle.awk_types.specs.declared.typ.Fields.{Fields}
@@ -11,9 +11,9 @@ use Rattle.awk_types.proofs.Trees.{type_list-from}
 use Rattle.awk_types.proofs.Views.{typ_of-Tup, typ_of-Uni, typ_of-Rec}
 use Rattle.awk_merge.specs.Early.{early}
 use Rattle.awk_merge.specs.FieldNames.{alike, picked}
-use Rattle.awk_merge.specs.Join.{Joining, join_by, join_records, rec_join, rec_of, tup_join, unify_fields, unify_parts}
-use Rattle.awk_merge.specs.Merge.{insert, insert_all, further, start}
-use Rattle.awk_merge.specs.Unification.{Unification, Unifications, Placed, PlacedAll}
+use Rattle.awk_merge.specs.Join.{Joining, join_by, join_records, rec_join, tup_join, unify_parts}
+use Rattle.awk_merge.specs.Merge.{insert_all, start}
+use Rattle.awk_merge.specs.Unification.{Unification, Unifications, PlacedAll}
 use Rattle.awk_merge.specs.Unify.{bare, unification}
 use Rattle.awk_merge.specs.View.{unified_of, found_of}
 use Rattle.awk_merge.specs.declared.unified.Unified.{Unified}

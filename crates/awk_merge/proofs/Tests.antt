@@ -1,5 +1,5 @@
 -- What follows where a test is true.
-use Rattle.std.proofs.Common.{◌≡◌, ◌↔◌, ◌&&◌, ◌==◌, ℕ, Bool, IsTrue, arith, false, refl, subst, sym, true}
+use Rattle.std.proofs.Common.{◌≡◌, ◌↔◌, ◌==◌, ℕ, Bool, IsTrue, arith, false, refl, subst, sym, true}
 use Rattle.std.proofs.lemmas.Bool.{false_from_ne_true}
 use Rattle.awk_merge.specs.Unify.{is_unknown}
 use Rattle.awk_types.proofs.SameTypeLaws.{same_type-refl, same_type_is}
