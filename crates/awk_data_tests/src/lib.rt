@@ -7,5 +7,3 @@ mod counted;
 mod kernels;
 #[cfg(test)]
 mod types;
-#[cfg(test)]
-mod unifying;
