@@ -1,0 +1,13 @@
+pub mod Places
+pub mod Carry
+pub mod After
+pub mod Unification
+pub mod Carries
+pub mod FieldNames
+pub mod Join
+pub mod Merge
+pub mod Unify
+pub mod Early
+pub mod Insert
+pub mod View
+pub mod Unifies

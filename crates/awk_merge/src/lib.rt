@@ -1,0 +1,19 @@
+//! Types that several types unify to, and how values are carried into them.
+#![tactic(auto)]
+
+mod after;
+mod alternatives;
+mod fields;
+mod joining;
+mod lift;
+mod parts;
+mod placed;
+mod places;
+mod predicates;
+mod unified;
+mod unifying;
+
+pub use lift::{Lift, Lifts, copy_lift};
+pub use places::Places;
+pub use unified::Unified;
+pub use unifying::unify;
