@@ -21,3 +21,5 @@ pub mod NamePlaces
 pub mod PlacedLaws
 pub mod ScalarLaws
 pub mod UnifiesLaws
+pub mod LimitLaws
+pub mod ListLaws

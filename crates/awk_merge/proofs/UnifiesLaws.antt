@@ -1,7 +1,6 @@
 -- What a call of unifying gives, by the laws.
 use Rattle.std.proofs.Common.{◌≡◌, ◌∙◌, Ok, None, Option, ap, subst, sym}
-use Rattle.awk_types.proofs.RefusalLaws.{Told-same, refused_or-None, refused_or-Ok}
-use Rattle.awk_types.proofs.SimpleLaws.{simple_stays}
+use Rattle.awk_types.proofs.RefusalLaws.{refused_or-None}
 use Rattle.awk_types.specs.DataType.{DataType}
 use Rattle.awk_types.specs.Gives.{Told}
 use Rattle.awk_types.specs.Limit.{Limit, limit, within}
@@ -12,12 +11,13 @@ use Rattle.awk_merge.specs.Unifies.{IsCarriedInto, Unifies, within_type}
 use Rattle.awk_merge.specs.Unify.{unification}
 use Rattle.awk_merge.proofs.CarriedLaws.{Takes}
 use Rattle.awk_merge.proofs.DepthLaws.{unify_rules}
+use Rattle.awk_merge.proofs.LimitLaws.{within_is, within_none, within_told}
 use Rattle.awk_merge.proofs.ScalarLaws.{scalar_stays}
 use Rattle.awk_merge.proofs.SimpleLaws.{unify_simple}
 use Rattle.awk_merge.proofs.TypeLaws.{unify_type}
 use Rattle.awk_merge.proofs.TypingLaws.{unify_carries}
 
-carried_into : (a : DataType) (f : Carry) (t : DataType) → Takes a f t → IsCarriedInto a f t
+pub carried_into : (a : DataType) (f : Carry) (t : DataType) → Takes a f t → IsCarriedInto a f t
 carried_into a f t h = record { values = λ v k. (h v k).1; scalars = λ v k. scalar_stays f v (h v k).0 }
 
 unifies_so : (a b : DataType) → IsSimple a → IsSimple b → Unifies a b (unification a b)
@@ -33,22 +33,18 @@ unifies_so a b x y = record {
 pub unifies : (a b : DataType) (r : Unification) → IsSimple a → IsSimple b → r ≡ unification a b → Unifies a b r
 unifies a b r x y e = subst (Unifies a b) (sym e) (unifies_so a b x y)
 
--- the type that two simple types unify to stays as it is where it is simplified
-stays : (a b t : DataType) → IsSimple a → IsSimple b → t ≡ (unification a b).typ → simple t ≡ (unification a b).typ
-stays a b t x y e = ap simple e ∙ simple_stays (unification a b).typ (unify_simple a b x y)
-
--- so what passes no limit is what the two types unify to
+-- what passes no limit is what the two types unify to
 pub unified_within : (a b t s : DataType) (f g : Carry) → IsSimple a → IsSimple b → record { typ = t; left = f; right = g } ≡ unification a b → within (simple t) ≡ Ok s → record { typ = s; left = f; right = g } ≡ unification a b
 unified_within a b t s f g x y e h =
     let one : t ≡ (unification a b).typ = ap (λ r. r.typ) e in
-    let same : s ≡ t = sym (refused_or-Ok (limit (simple t)) (simple t) s h).1 ∙ stays a b t x y one ∙ sym one in
+    let same : s ≡ t = within_is t s (unification a b).typ (unify_simple a b x y) one h ∙ sym one in
     ap (λ z. record { typ = z; left = f; right = g }) same ∙ e
 
 pub unified_gives : (a b t s : DataType) (f g : Carry) → IsSimple a → IsSimple b → record { typ = t; left = f; right = g } ≡ unification a b → within (simple t) ≡ Ok s → within_type (unification a b) ≡ Ok (record { typ = s; left = f; right = g })
 unified_gives a b t s f g x y e h =
-    let none : limit (unification a b).typ ≡ None = ap limit (sym (stays a b t x y (ap (λ r. r.typ) e))) ∙ (refused_or-Ok (limit (simple t)) (simple t) s h).0 in
+    let none : limit (unification a b).typ ≡ None = within_none t s (unification a b).typ (unify_simple a b x y) (ap (λ r. r.typ) e) h in
     refused_or-None (limit (unification a b).typ) (unification a b) (record { typ = s; left = f; right = g }) none (sym (unified_within a b t s f g x y e h))
 
 -- and a limit is told that it passes
 pub unified_told : (a b t : DataType) (f g : Carry) (o : Option Limit) → IsSimple a → IsSimple b → record { typ = t; left = f; right = g } ≡ unification a b → Told o (within (simple t)) → Told o (within_type (unification a b))
-unified_told a b t f g o x y e h = Told-same o (limit (unification a b).typ) (limit (simple t)) (simple t) (unification a b) (ap limit (sym (stays a b t x y (ap (λ r. r.typ) e)))) h
+unified_told a b t f g o x y e h = within_told t (unification a b).typ o (unification a b) (unify_simple a b x y) (ap (λ r. r.typ) e) h

@@ -1,7 +1,8 @@
 -- Worked examples of unifying, each checked by computing.
-use Rattle.std.proofs.Common.{◌≡◌, ◌∷◌, [], List, codes, map, negsuc, pos, refl, true}
+use Rattle.std.proofs.Common.{◌≡◌, ◌∷◌, [], ℕ, List, codes, map, negsuc, pos, refl, true}
 use Rattle.awk_merge.specs.Carry.{carried}
 use Rattle.awk_merge.specs.Unify.{unification}
+use Rattle.awk_merge.specs.UnifyList.{unification_list}
 use Rattle.awk_types.specs.DataType.{DataType, Name, leaf, opt, rec, reg, tup, types_from, uni, unknown, var}
 use Rattle.awk_types.specs.Value.{Value, alt, int, list, null, row, truth, values_from}
 use Rattle.awk_types.specs.declared.primitive.Primitive.TheVariants.{Bool, I16, I32, I64, I8, U16, U64, U8}
@@ -161,3 +162,20 @@ into_first = refl
 
 union_of_one : joint (union (leaf I64 ∷ [])) (leaf I64) ≡ union (leaf I64 ∷ [])
 union_of_one = refl
+
+-- ---- three types, from the left
+
+abbrev several : List DataType
+several = var (leaf I8) ∷ reg 2 (leaf U8) ∷ opt (var (leaf Bool)) ∷ []
+
+three : (unification_list several).typ
+    ≡ opt (var (union (leaf I16 ∷ leaf Bool ∷ [])))
+three = refl
+
+abbrev of_tag : List ℕ → List Value
+of_tag ks = map (λ k. items (alt k (int (pos 3)) ∷ [])) ks
+
+three_values :
+    map (λ f. carried f (items (int (pos 3) ∷ []))) (unification_list several).lifts
+    ≡ of_tag (0 ∷ 0 ∷ 1 ∷ [])
+three_values = refl

@@ -11,3 +11,4 @@ pub mod Early
 pub mod Insert
 pub mod View
 pub mod Unifies
+pub mod UnifyList

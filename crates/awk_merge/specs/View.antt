@@ -8,6 +8,8 @@ use Rattle.awk_merge.specs.declared.lift.Lift.{Lift, size-Lift}
 use Rattle.awk_merge.specs.declared.lift.Lifts.{Lifts, size-Lifts}
 use Rattle.awk_merge.specs.declared.lift.Lift.TheOpen.{Lift-F, Lifts-F}
 use Rattle.awk_merge.specs.declared.lift.Lift.TheFolds.{fold-Lift, fold-Lifts}
+use Rattle.awk_merge.specs.UnifyList.{UnificationList}
+use Rattle.awk_merge.specs.declared.several.UnifiedAll.{UnifiedAll}
 use Rattle.awk_merge.specs.declared.unified.Unified.{Unified}
 use Rattle.awk_merge.specs.declared.parts.Parts.{Parts}
 use Rattle.awk_merge.specs.declared.placed.Placed.{Placed}
@@ -53,3 +55,6 @@ parts_of p = record { typs = typs_of p.typs; lefts = lifts_of p.lefts; rights = 
 abbrev pub parts_found : Option Parts → Option spec.Unifications
 parts_found None = None
 parts_found (Some p) = Some (parts_of p)
+
+abbrev pub all_of : UnifiedAll → UnificationList
+all_of u = record { typ = typ_of u.typ; lifts = lifts_of u.lifts }

@@ -10,10 +10,12 @@ mod parts;
 mod placed;
 mod places;
 mod predicates;
+mod several;
 mod unified;
 mod unifying;
 
 pub use lift::{Lift, Lifts, copy_lift};
 pub use places::Places;
+pub use several::{UnifiedAll, unify_all};
 pub use unified::Unified;
 pub use unifying::unify;

@@ -152,9 +152,8 @@ fn inserted(alloc: Global, ts: &Typs, b: &Typ) -> Result<Placed, NoMemory>
         IfOk result (λ p. placed_of p ≡ made) }
 {
     for i in 0..ts.len() {
-        match joined(alloc, ts.get(i), b)? {
-            Some(j) => return widened(alloc, ts, i, j),
-            None => {}
+        if let Some(j) = joined(alloc, ts.get(i), b)? {
+            return widened(alloc, ts, i, j);
         }
     }
     appended(alloc, ts, b)

@@ -29,7 +29,7 @@ inserted-returns-in-Some t c =
     IfOk-weaker c.widened.result (λ p. placed_of p ≡ ahead (take c.loop-i.i (typs_of c.args.ts.now)) (joined_first (unified_of c.in-Some.j) (drop (c.loop-i.i + 1) (typs_of c.args.ts.now)))) (λ p. placed_of p ≡ all) (λ p e. e ∙ found_here) c.widened.ensures
 
 pub inserted-loop-i-preserved : goal.inserted-loop-i-preserved
-inserted-loop-i-preserved t c = passed (join_by unification) (typs_of c.args.ts.now) (typ_of c.args.b.now) c.loop-i.i (typ_of c.get.result.now) (insert (join_by unification) (typs_of c.args.ts.now) (typ_of c.args.b.now)) c.get.ensures.item (join_none c.in_ok-j.field-0 (join_by unification (typ_of c.get.result.now) (typ_of c.args.b.now)) c.in_ok-j.ensures c.in-None.is) c.loop-i.invariant
+inserted-loop-i-preserved t c = passed (join_by unification) (typs_of c.args.ts.now) (typ_of c.args.b.now) c.loop-i.i (typ_of c.get.result.now) (insert (join_by unification) (typs_of c.args.ts.now) (typ_of c.args.b.now)) c.get.ensures.item (join_none c.in_ok-j.field-0 (join_by unification (typ_of c.get.result.now) (typ_of c.args.b.now)) c.in_ok-j.ensures c.in_default.is) c.loop-i.invariant
 
 pub inserted_each-loop-i-preserved : goal.inserted_each-loop-i-preserved
 inserted_each-loop-i-preserved t c = put_in (join_by unification) _ _ _ _ _ c.loop-i.i _ c.get.ensures.item c.in_ok-placed.ensures c.in_ok-made.ensures c.loop-i.invariant
