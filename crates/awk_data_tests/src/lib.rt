@@ -7,3 +7,5 @@ mod counted;
 mod kernels;
 #[cfg(test)]
 mod types;
+#[cfg(test)]
+mod unifying;
