@@ -146,6 +146,9 @@ class Ends(unittest.TestCase):
         """Has SIGINT come in 0.3 seconds, as from a terminal."""
         before = signal.signal(signal.SIGALRM, lambda *_: signal.raise_signal(signal.SIGINT))
         self.addCleanup(signal.signal, signal.SIGALRM, before)
+        # A run in the background ignores SIGINT.
+        before = signal.signal(signal.SIGINT, signal.default_int_handler)
+        self.addCleanup(signal.signal, signal.SIGINT, before)
         signal.setitimer(signal.ITIMER_REAL, 0.3)
 
     def assert_gone(self, process: int) -> None:
