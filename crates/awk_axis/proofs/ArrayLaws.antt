@@ -1,6 +1,6 @@
 -- Items of arrays by place, and runs of them.
-use Rattle.std.specs.Prelude.{◌≡◌, ℕ, suc, zero, ◌+◌, ◌-◌, ◌*◌, ◌<◌, ◌≤◌, ◌^◌, refl, List, [], ◌∷◌}
-use Rattle.std.specs.Prelude.{◌++◌, map, length, Option, Some, None, ℤ, pos, negsuc, ◌<ℤ◌}
+use Rattle.std.specs.Prelude.{◌≡◌, ℕ, suc, zero, ◌+◌, ◌<◌, ◌≤◌, refl, List, [], ◌∷◌}
+use Rattle.std.specs.Prelude.{◌++◌, map, Option, ℤ, pos, negsuc, ◌<ℤ◌}
 use Rattle.std.proofs.Common.{arith, ap, sym, ◌∙◌}
 use Rattle.std.proofs.lemmas.Int.{ints}
 use Rattle.std.proofs.lemmas.Simd.{map-map}
@@ -8,9 +8,9 @@ use Rattle.std.proofs.lemmas.List.Folds.{flat_map-map}
 use Rattle.std.proofs.lemmas.List.Concat.{flat_map_single}
 use Rattle.std.specs.List.{range_with_len, flat_map}
 use Rattle.awk_types.specs.DataType.{DataType, unknown, leaf, var, reg, rec, tup, opt, uni}
-use Rattle.awk_types.specs.Value.{Value, Values, int, truth, null, list, row, alt, no_values, value}
+use Rattle.awk_types.specs.Value.{Value, int, truth, null, list, row, alt, value}
 use Rattle.awk_types.specs.Value.{value_list, values_from}
-use Rattle.awk_types.specs.Simple.{simple, simple_value, in_list, in_option}
+use Rattle.awk_types.specs.Simple.{simple_value, in_list, in_option}
 use Rattle.awk_types.proofs.Trees.{values_from-list, value_list-from}
 use Rattle.awk_lanes.specs.Column.{Column}
 use Rattle.awk_lanes.specs.Places.{option_place}
@@ -20,7 +20,7 @@ use Rattle.awk_layout.specs.Item.{item, run, at_option}
 use Rattle.awk_layout.specs.Typing.{layout_type, array_items}
 use Rattle.awk_axis.specs.Columns.{lists_among, list_of}
 use Rattle.awk_gather.specs.Columns.{joined_items, list_items}
-use Rattle.awk_axis.specs.Opened.{items_at, all_items_at, OpensLists}
+use Rattle.awk_axis.specs.Opened.{items_at, OpensLists}
 use Rattle.awk_gather.specs.Arrays.{array_item}
 
 -- null stays null

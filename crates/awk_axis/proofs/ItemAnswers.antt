@@ -1,5 +1,5 @@
 -- What is told of a function of one list, applied to the lists inside items.
-use Rattle.std.specs.Prelude.{◌≡◌, ℕ, zero, ◌<◌, ◌+◌, refl, List, [], ◌∷◌, map, length, Option}
+use Rattle.std.specs.Prelude.{◌≡◌, [], ◌∷◌, map, length, Option}
 use Rattle.std.specs.Prelude.{Some, None, Ok, Err, option_map}
 use Rattle.std.proofs.Common.{arith, ap, ap₂, sym, ◌∙◌}
 use Rattle.std.specs.List.{range_with_len}

@@ -1,5 +1,5 @@
 -- What types tell, and what is told where they tell nothing.
-use Rattle.std.specs.Prelude.{◌≡◌, refl, Option, Some, None, Result, Ok, Err, option_map}
+use Rattle.std.specs.Prelude.{◌≡◌, refl, Option, Some, None, Ok, Err, option_map}
 use Rattle.awk_types.specs.DataType.{DataType}
 use Rattle.awk_types.specs.Datum.{Datum}
 use Rattle.awk_types.specs.Faults.{fault_told, limit_fault}

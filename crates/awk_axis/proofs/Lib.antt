@@ -2,7 +2,6 @@ pub mod CauseLaws
 pub mod ListLaws
 pub mod Walks
 pub mod TypeWalks
-pub mod Fields
 pub mod LiftedLaws
 pub mod LiftLaws
 pub mod ArrayLaws

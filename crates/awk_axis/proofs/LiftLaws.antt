@@ -1,51 +1,44 @@
 -- What a function applied at an axis gives for lists, options, rows and unions, from what it gives
 -- for their contents.
-use Rattle.std.specs.Prelude.{◌≡◌, ℕ, zero, suc, ◌+◌, ◌-◌, ◌*◌, ◌==◌, ◌<◌, ◌≤◌, ◌^◌, refl, Bool}
-use Rattle.std.specs.Prelude.{true, false, List, [], ◌∷◌, ◌++◌, map, length, Option, Some, None}
+use Rattle.std.specs.Prelude.{◌≡◌, ℕ, zero, suc, ◌+◌, ◌-◌, ◌*◌, ◌<◌, ◌≤◌, refl, Bool}
+use Rattle.std.specs.Prelude.{true, false, List, [], ◌∷◌, map, Option, Some, None}
 use Rattle.std.specs.Prelude.{if◌then◌else◌}
 use Rattle.std.proofs.Common.{arith, ap, sym, ◌∙◌, add-one}
-use Rattle.std.specs.List.{range_with_len, flat_map}
 use Rattle.awk_types.specs.DataType.{Name, DataType, DataTypes, unknown, leaf, var, reg, rec, tup}
 use Rattle.awk_types.specs.DataType.{opt, uni, types_from, row_type}
-use Rattle.awk_types.specs.Value.{Value, Values, null, list, row, alt, no_values, value, value_list}
+use Rattle.awk_types.specs.Value.{Value, null, list, row, alt, value_list}
 use Rattle.awk_types.specs.Value.{values_from}
 use Rattle.awk_types.specs.Simple.{simple, simples, simple_value, simple_values, in_list, in_row}
 use Rattle.awk_types.specs.Simple.{in_option, in_alternative, option_of, union_of, union_value}
 use Rattle.awk_types.specs.Simple.{values_by, value_by}
 use Rattle.awk_types.proofs.Trees.{values_from-list, value_list-from}
 use Rattle.awk_lanes.specs.Column.{Column}
-use Rattle.awk_lanes.specs.Places.{size_of, at, place_at, option_place_at, IsOptionalIndex}
-use Rattle.awk_layout.specs.Layout.{Layout, Layouts, layouts_from, count, empty, flat, regular}
-use Rattle.awk_layout.specs.Layout.{lists, offset_lists, rows, optional, union}
+use Rattle.awk_lanes.specs.Places.{size_of, at, place_at}
+use Rattle.awk_layout.specs.Layout.{Layout, layouts_from, count}
+use Rattle.awk_layout.specs.Layout.{rows, optional, union}
 use Rattle.awk_layout.specs.Valid.{len, len_of, IsValid, AllValid, AllReach, IsUnion}
-use Rattle.awk_layout.specs.Item.{item, item_of, items_across, run, at_option}
+use Rattle.awk_layout.specs.Item.{item, item_of, items_across, run}
 use Rattle.awk_layout.specs.Typing.{layout_type, layout_types, array_type, array_items}
 use Rattle.awk_axis.specs.declared.causes.Refusal.{Refusal}
 use Rattle.awk_axis.specs.declared.causes.Refusal.TheVariants.{WrongType}
-use Rattle.awk_axis.specs.declared.causes.Spoil.{Spoil}
 use Rattle.awk_axis.specs.declared.place.Reach.{Reach}
 use Rattle.awk_axis.specs.Reach.{here, inner, passes_rows}
 use Rattle.awk_axis.specs.Causes.{first_spoil}
-use Rattle.awk_axis.specs.Columns.{present_values, lists_among}
-use Rattle.awk_gather.specs.Columns.{joined_items}
+use Rattle.awk_axis.specs.Columns.{lists_among}
 use Rattle.awk_axis.specs.ListFunction.{Class, Giving, ListFunction, list_type, given_type}
-use Rattle.awk_axis.specs.ListFunction.{given_value, given_class}
-use Rattle.awk_axis.specs.ListFunction as giving
+use Rattle.awk_axis.specs.ListFunction.{given_value}
 use Rattle.awk_axis.specs.Lift.{lifted_type, lifted_types, lifted_value, lifted_values, refusal_at}
-use Rattle.awk_axis.specs.Lift.{refusal_among, on_list, nested}
+use Rattle.awk_axis.specs.Lift.{refusal_among, on_list}
 use Rattle.awk_axis.specs.Spoils.{spoil_at, spoils_at, spoil_inside, spoil_across, spoil_among}
-use Rattle.awk_axis.specs.Spoils.{too_many}
-use Rattle.awk_gather.specs.Counted.{item_limit}
-use Rattle.awk_axis.specs.Opened.{items_at, all_items_at, across, item_among, AllOfLen, AreOfClass}
-use Rattle.awk_axis.specs.Opened.{AreLists, OpensLists, OpensOption, OpensRow, OpensUnion}
-use Rattle.awk_axis.specs.Opened.{OpensNothing}
+use Rattle.awk_axis.specs.Opened.{items_at, across, item_among, AllOfLen, AreOfClass}
+use Rattle.awk_axis.specs.Opened.{OpensLists, OpensOption, OpensRow, OpensUnion}
 use Rattle.awk_gather.specs.InOrder.{AreParts, AreAlternatives}
 use Rattle.awk_gather.specs.Arrays.{array_item}
 use Rattle.awk_axis.specs.Joined.{AreOffsets, JoinsLists}
-use Rattle.awk_axis.specs.Mapped.{IsColumn, IsMapped, AreEven, AreGiven, GivesLists, GivesSingles}
+use Rattle.awk_axis.specs.Mapped.{IsColumn, IsMapped, AreEven, AreGiven}
 use Rattle.awk_axis.specs.Mapped.{list_layout, spoil_of_all, AreMapped}
-use Rattle.awk_axis.proofs.ArrayLaws.{simple_null, in_option_same, run_in_list, run_map, run_same}
-use Rattle.awk_axis.proofs.ArrayLaws.{option_item, lists-inner, lists-among}
+use Rattle.awk_axis.proofs.ArrayLaws.{simple_null, run_in_list, run_same}
+use Rattle.awk_axis.proofs.ArrayLaws.{option_item}
 
 same_branches : {X : Type 0} (b : Bool) (x y : X) → x ≡ y → (if b then x else y) ≡ y
 same_branches true x y e = e

@@ -1,36 +1,32 @@
 -- What is lifted for each outermost kind of an array, from what is lifted for its contents.
-use Rattle.std.specs.Prelude.{◌≡◌, ℕ, zero, suc, min, ◌+◌, ◌-◌, ◌*◌, ◌==◌, ◌<◌, ◌≤◌, ◌^◌, nat_lt}
-use Rattle.std.specs.Prelude.{refl, Bool, true, false, List, [], ◌∷◌, ◌++◌, map, take, drop, length}
+use Rattle.std.specs.Prelude.{◌≡◌, ℕ, zero, suc, min, ◌+◌, ◌<◌, ◌≤◌, nat_lt}
+use Rattle.std.specs.Prelude.{refl, true, false, List, [], ◌∷◌, ◌++◌, map, take, drop, length}
 use Rattle.std.specs.Prelude.{slice_get, Option, Some, None, if◌then◌else◌}
 use Rattle.std.proofs.Common.{arith, ap, sym, ◌∙◌, add-one}
 use Rattle.std.specs.List.{range_with_len, flat_map}
 use Rattle.awk_types.specs.DataType.{Name, DataType, DataTypes, unknown, uni, opt, var, types_from}
 use Rattle.awk_types.specs.DataType.{depth, depths, greatest, row_type}
-use Rattle.awk_types.specs.Value.{Value, null, list, values_from, value_list}
-use Rattle.awk_types.specs.Simple.{simple, simple_value, in_list, in_option, in_row, in_alternative}
-use Rattle.awk_types.proofs.Trees.{values_from-list}
+use Rattle.awk_types.specs.Value.{Value, null}
+use Rattle.awk_types.specs.Simple.{simple, simple_value}
+use Rattle.awk_types.specs.ItemLimit.{item_limit}
 use Rattle.awk_lanes.specs.Column.{Column}
-use Rattle.awk_lanes.specs.Places.{size_of, place_at}
+use Rattle.awk_lanes.specs.Places.{size_of}
 use Rattle.awk_layout.specs.Layout.{Layout, layouts_from, rows, optional, union, offset_lists}
 use Rattle.awk_layout.specs.Valid.{len}
 use Rattle.awk_lanes.specs.declared.kind.Kind.TheVariants.{I64}
 use Rattle.awk_axis.proofs.CauseLaws.{sooner-both, first_spoil-assoc}
 use Rattle.awk_layout.specs.Typing.{array_type, array_items}
-use Rattle.awk_axis.specs.declared.causes.Refusal.{Refusal}
 use Rattle.awk_axis.specs.declared.causes.Spoil.{Spoil}
 use Rattle.awk_axis.specs.declared.causes.Spoil.TheVariants.{Size}
 use Rattle.awk_axis.specs.declared.place.Reach.{Reach}
 use Rattle.awk_axis.specs.declared.place.Reach.TheVariants.{Axis}
 use Rattle.awk_axis.specs.Reach.{here, inner}
-use Rattle.awk_axis.specs.Causes.{first_spoil, sooner}
-use Rattle.awk_axis.specs.Columns.{lists_among}
-use Rattle.awk_gather.specs.Columns.{joined_items}
+use Rattle.awk_axis.specs.Causes.{first_spoil}
 use Rattle.awk_axis.specs.ListFunction.{Class, Giving, lists, singles, ListFunction, list_type}
 use Rattle.awk_axis.specs.ListFunction.{given_type, given_value, given_class}
-use Rattle.awk_axis.specs.Lift.{lifted_type, lifted_types, lifted_value, lifted_values, on_list}
+use Rattle.awk_axis.specs.Lift.{lifted_type, lifted_value, on_list}
 use Rattle.awk_axis.specs.Lift.{refusal_at, refusal_among, nested}
-use Rattle.awk_axis.specs.Spoils.{spoil_at, spoils_at, spoil_inside, spoil_across, spoil_among}
-use Rattle.awk_gather.specs.Counted.{item_limit}
+use Rattle.awk_axis.specs.Spoils.{spoil_at}
 use Rattle.awk_axis.specs.Opened.{items_at, all_items_at, OpensLists, OpensOption, OpensRow}
 use Rattle.awk_axis.specs.Opened.{OpensUnion, OpensNothing}
 use Rattle.awk_gather.specs.Arrays.{array_item}

@@ -1,32 +1,30 @@
 -- The outermost kind of an array in order, and lists joined, as the recursion takes them.
-use Rattle.std.specs.Prelude.{◌≡◌, ℕ, zero, suc, ◌+◌, ◌-◌, ◌<◌, ◌≤◌, ◌^◌, nat_lt, true, false, refl}
-use Rattle.std.specs.Prelude.{List, [], ◌∷◌, map, length, Option, Some, None, Result, Ok, Err}
-use Rattle.std.specs.Prelude.{if◌then◌else◌}
-use Rattle.std.proofs.Common.{arith, ap, ap₂, sym, ◌∙◌, subst}
+use Rattle.std.specs.Prelude.{◌≡◌, ℕ, zero, suc, ◌+◌, ◌-◌, ◌<◌, ◌≤◌, refl}
+use Rattle.std.specs.Prelude.{List, [], ◌∷◌, map, length, Option, Some, None, Ok}
+use Rattle.std.proofs.Common.{arith, ap, sym, ◌∙◌, subst}
 use Rattle.std.specs.List.{range_with_len, flat_map}
 use Rattle.std.proofs.lemmas.List.Folds.{flat_map-map}
 use Rattle.std.proofs.lemmas.List.FromFn.{length-range_with_len}
-use Rattle.awk_types.specs.DataType.{Name, DataType, unknown, leaf, var, reg, opt, uni, row_type}
-use Rattle.awk_types.specs.DataType.{types_from, rec, tup}
-use Rattle.awk_types.specs.Datum.{Datum, arr}
-use Rattle.awk_types.specs.Gives.{Told, Gives, refused_or}
-use Rattle.awk_types.specs.Value.{Value, Values, row, alt, no_values, value, list, value_list}
+use Rattle.awk_types.specs.DataType.{Name, DataType, unknown, leaf, var, reg, opt, uni}
+use Rattle.awk_types.specs.DataType.{rec, tup}
+use Rattle.awk_types.specs.Datum.{arr}
+use Rattle.awk_types.specs.Gives.{Told}
+use Rattle.awk_types.specs.Value.{Value, Values, row, alt, value, list}
 use Rattle.awk_types.specs.Value.{values_from}
-use Rattle.awk_types.specs.declared.fault.Fault.{Fault}
+use Rattle.awk_types.specs.ItemLimit.{item_limit, too_many}
 use Rattle.awk_types.specs.declared.fault.Fault.TheVariants.{Size}
 use Rattle.awk_types.proofs.RefusalLaws.{refused_or-Ok, refused_or-Err}
 use Rattle.awk_lanes.specs.Column.{Column}
 use Rattle.awk_lanes.specs.Numbers.{nat_of}
 use Rattle.awk_lanes.specs.declared.kind.Kind.TheVariants.{I64}
-use Rattle.awk_lanes.specs.Places.{size_of, at, place_at}
+use Rattle.awk_lanes.specs.Places.{size_of, place_at}
 use Rattle.awk_layout.specs.Layout.{Layout, layouts_from}
 use Rattle.awk_layout.specs.Place.{nth}
-use Rattle.awk_layout.specs.Valid.{len, IsValid, AllValid}
-use Rattle.awk_layout.specs.Item.{run}
+use Rattle.awk_layout.specs.Valid.{len}
 use Rattle.awk_layout.specs.Typing.{array_type, array_items, array_datum}
 use Rattle.awk_gather.specs.Arrays.{array_item}
 use Rattle.awk_gather.specs.Columns.{joined_items, list_items, offsets}
-use Rattle.awk_gather.specs.Counted.{item_limit, first_of, span_at, offset_at, offsets_lane}
+use Rattle.awk_gather.specs.Counted.{first_of, span_at, offset_at, offsets_lane}
 use Rattle.awk_gather.specs.InOrder.{IsInOrder}
 use Rattle.awk_gather.specs.Inner.{AreSized}
 use Rattle.awk_gather.specs.Joined as gathered
@@ -36,12 +34,11 @@ use Rattle.awk_gather.specs.declared.opening.Opened.TheVariants as ordered
 use Rattle.awk_gather.proofs.FirstPlaces.{length-first_of, first_of-mono}
 use Rattle.awk_gather.proofs.JoinedLists.{offsets_lane-is}
 use Rattle.awk_gather.proofs.MadeLanes.{at-lane_of}
-use Rattle.awk_axis.specs.Joined.{AreOffsets, JoinsLists, total, IsJoined}
+use Rattle.awk_axis.specs.Joined.{IsJoined}
 use Rattle.awk_axis.specs.ListFunction.{Class, list_type, class_of}
-use Rattle.awk_axis.specs.Opened.{items_at, across, item_among, AllOfLen, AreOfClass, AreLists}
+use Rattle.awk_axis.specs.Opened.{items_at, across, item_among, AllOfLen, AreOfClass}
 use Rattle.awk_axis.specs.Opened.{OpensLists, OpensOption, OpensRow, OpensUnion, OpensLeaf}
-use Rattle.awk_axis.specs.Opened.{OpensNothing, IsOpened}
-use Rattle.awk_axis.specs.declared.opening.Opened.TheVariants as opened
+use Rattle.awk_axis.specs.Opened.{OpensNothing}
 use Rattle.awk_axis.specs.declared.opening.Joined.TheVariants as joined
 
 -- ---- nothing and leaves
@@ -155,17 +152,17 @@ joined-total : (s t : Column) (y : Layout)
     (range_with_len 0 (size_of s))
 joined-total s t y = flat_map-map list_items (gathered.list_at s t y) (range_with_len 0 (size_of s))
 
-limit_passed : (n : ℕ) → gathered.too_many n ≡ Some Size → item_limit < n
+limit_passed : (n : ℕ) → too_many n ≡ Some Size → item_limit < n
 limit_passed n h = grind arith
 
-limit_kept : (n : ℕ) → gathered.too_many n ≡ None → n ≤ item_limit
+limit_kept : (n : ℕ) → too_many n ≡ None → n ≤ item_limit
 limit_kept n h = grind arith
 
 pub join_refused : (s t : Column) (y : Layout)
     → Told (Some Size) (gathered.joined_datum (array_type y) (gathered.list_values s t y))
     → IsJoined s t y joined.TooMany
 join_refused s t y h =
-    let e = refused_or-Err (gathered.too_many (length (joined_items (gathered.list_values s t y))))
+    let e = refused_or-Err (too_many (length (joined_items (gathered.list_values s t y))))
     (arr (array_type y) (joined_items (gathered.list_values s t y))) Size h in
     subst (λ n. item_limit < n) (ap length (joined-total s t y))
     (limit_passed (length (joined_items (gathered.list_values s t y))) e)
@@ -210,7 +207,7 @@ pub join_given : (s t : Column) (y : Layout) (o : Column) (z : Layout)
     → gathered.AreJoined s t y o z → IsJoined s t y (joined.Lists o z)
 join_given s t y o z h is j =
     let vs = gathered.list_values s t y in
-    let both = refused_or-Ok (gathered.too_many (length (joined_items vs)))
+    let both = refused_or-Ok (too_many (length (joined_items vs)))
     (arr (array_type y) (joined_items vs)) (array_datum z) h in
     let e : o ≡ offsets_lane s t = is ∙ sym (offsets_lane-is s t y) in (
       subst (λ n. n ≤ item_limit) (ap length (joined-total s t y))

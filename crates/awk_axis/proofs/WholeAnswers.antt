@@ -1,21 +1,18 @@
 -- What is told of a function of one list, applied to a whole array as one list.
-use Rattle.std.specs.Prelude.{◌≡◌, ℕ, zero, suc, ◌+◌, ◌-◌, ◌<◌, ◌≤◌, ◌^◌, refl, List, [], ◌∷◌, map}
-use Rattle.std.specs.Prelude.{length, Option, Some, None, Result, Ok, Err, option_map, pos}
-use Rattle.std.proofs.Common.{arith, ap, ap₂, sym, ◌∙◌, subst}
-use Rattle.std.specs.List.{range_with_len}
+use Rattle.std.specs.Prelude.{◌≡◌, ℕ, zero, suc, ◌-◌, ◌<◌, refl, List, [], ◌∷◌, map}
+use Rattle.std.specs.Prelude.{Option, Some, None, Ok, Err, option_map, pos}
+use Rattle.std.proofs.Common.{arith, ap, ap₂, sym, ◌∙◌}
 use Rattle.std.proofs.lemmas.Int.{ints}
 use Rattle.awk_types.specs.DataType.{DataType}
-use Rattle.awk_types.specs.Datum.{Datum, arr, one}
-use Rattle.awk_types.specs.Faults.{fault_told}
-use Rattle.awk_types.specs.Gives.{Told, refused_or}
+use Rattle.awk_types.specs.Datum.{Datum, arr}
+use Rattle.awk_types.specs.Gives.{refused_or}
 use Rattle.awk_types.specs.Limit.{limit}
 use Rattle.awk_types.specs.Settle.{settle}
 use Rattle.awk_types.specs.Simple.{simple, simple_value}
 use Rattle.awk_types.specs.Value.{Value, list, value_list, values_from}
-use Rattle.awk_types.specs.declared.fault.Fault.{Fault}
 use Rattle.awk_types.proofs.Trees.{value_list-from}
 use Rattle.awk_lanes.specs.Column.{Column}
-use Rattle.awk_lanes.specs.Places.{size_of, at, place_at, IsSpan, AreSpans}
+use Rattle.awk_lanes.specs.Places.{at, place_at, IsSpan}
 use Rattle.awk_lanes.specs.declared.kind.Kind.TheVariants.{I64}
 use Rattle.awk_layout.specs.Datum.{first_item}
 use Rattle.awk_layout.specs.Item.{run}
@@ -24,15 +21,12 @@ use Rattle.awk_layout.specs.Valid.{len, IsValid}
 use Rattle.awk_layout.specs.Typing.{array_type, array_items}
 use Rattle.awk_layout.proofs.Runs.{value_list-run}
 use Rattle.awk_gather.specs.Arrays.{array_item}
-use Rattle.awk_axis.specs.declared.causes.Refusal.{Refusal}
 use Rattle.awk_axis.specs.declared.causes.Spoil.{Spoil}
 use Rattle.awk_axis.specs.declared.function.Made.TheVariants as made
-use Rattle.awk_axis.specs.Faults.{IsJudged}
-use Rattle.awk_axis.specs.Joined.{AreOffsets}
 use Rattle.awk_axis.specs.ListFunction.{Class, Giving, lists, singles, ListFunction, list_type}
 use Rattle.awk_axis.specs.ListFunction.{made_type, given_type, given_value}
 use Rattle.awk_axis.specs.Lifting.{spoil_fault, on_whole}
-use Rattle.awk_axis.specs.Mapped.{IsColumn, AreGiven, GivesLists, GivesSingles, IsMade}
+use Rattle.awk_axis.specs.Mapped.{AreGiven, GivesLists, GivesSingles, IsMade}
 use Rattle.awk_axis.specs.Opened.{AreLists, items_at, all_items_at}
 use Rattle.awk_axis.proofs.ArrayLaws.{array_items-at}
 use Rattle.awk_axis.proofs.JudgedTypes.{told_values}

@@ -9,7 +9,8 @@ use Rattle.awk_layout.specs.Typing.{array_type, array_items}
 use Rattle.awk_layout.specs.Item.{run}
 use Rattle.awk_axis.specs.Opened.{items_at}
 use Rattle.awk_gather.specs.Arrays.{array_item}
-use Rattle.awk_gather.specs.Counted.{item_limit, offsets_lane}
+use Rattle.awk_gather.specs.Counted.{offsets_lane}
+use Rattle.awk_types.specs.ItemLimit.{item_limit}
 use Rattle.awk_axis.specs.declared.opening.Joined.{Joined}
 use Rattle.awk_axis.specs.declared.opening.Joined.TheVariants.{TooMany, Lists}
 

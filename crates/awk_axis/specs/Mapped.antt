@@ -1,8 +1,8 @@
 -- What is made of an array: its items by a function, as items of a type.
 use Rattle.std.specs.Prelude.{◌≡◌, ℕ, ◌+◌, ◌-◌, ◌*◌, ◌<◌, ◌≤◌, List, [], ◌∷◌, map, Option, Some}
 use Rattle.std.specs.Prelude.{None}
-use Rattle.awk_types.specs.DataType.{DataType, types_from, var}
-use Rattle.awk_types.specs.Value.{Value, list, values_from, value_list}
+use Rattle.awk_types.specs.DataType.{DataType}
+use Rattle.awk_types.specs.Value.{Value, value_list}
 use Rattle.awk_types.specs.Simple.{simple, simple_value}
 use Rattle.awk_lanes.specs.Column.{Column}
 use Rattle.awk_lanes.specs.Places.{size_of, place_at}
@@ -14,7 +14,7 @@ use Rattle.awk_axis.specs.declared.causes.Spoil.{Spoil}
 use Rattle.awk_axis.specs.declared.place.Reach.{Reach}
 use Rattle.awk_axis.specs.Causes.{first_spoil}
 use Rattle.awk_axis.specs.ListFunction.{Class, Giving, lists, singles, ListFunction, given_type}
-use Rattle.awk_axis.specs.ListFunction.{given_value, given_class}
+use Rattle.awk_axis.specs.ListFunction.{given_value}
 use Rattle.awk_axis.specs.Lift.{lifted_type, lifted_value}
 use Rattle.awk_axis.specs.Spoils.{spoil_at}
 use Rattle.awk_axis.specs.Opened.{items_at, all_items_at}

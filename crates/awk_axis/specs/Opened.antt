@@ -1,22 +1,20 @@
 -- What the outermost kind of an array tells: its lanes and contents, whose items are columns of
 -- those of the array.
-use Rattle.std.specs.Prelude.{◌≡◌, ℕ, zero, suc, ◌+◌, ◌-◌, ◌<◌, ◌≤◌, ◌^◌, List, [], ◌∷◌, length}
+use Rattle.std.specs.Prelude.{◌≡◌, ℕ, zero, suc, ◌-◌, ◌<◌, ◌^◌, List, [], ◌∷◌}
 use Rattle.std.specs.Prelude.{map, Option, Some, None}
 use Rattle.std.specs.List.{range_with_len}
-use Rattle.awk_types.specs.DataType.{Name, DataType, unknown, leaf, opt, uni, types_from, row_type}
+use Rattle.awk_types.specs.DataType.{Name, unknown, leaf, opt, uni, types_from, row_type}
 use Rattle.awk_types.specs.Value.{Value, Values, null, list, row, alt, no_values, value, value_list}
-use Rattle.awk_types.specs.Simple.{simple_value}
 use Rattle.awk_lanes.specs.Column.{Column}
 use Rattle.awk_lanes.specs.Places.{size_of, place_at, option_place_at, AreSpans, IsOptionalIndex}
 use Rattle.awk_layout.specs.Layout.{Layout, layouts_from, count}
 use Rattle.awk_layout.specs.Valid.{len, IsValid, AllValid, AreNames, IsUnion}
-use Rattle.awk_layout.specs.Item.{item, run, at_option}
-use Rattle.awk_layout.specs.Typing.{layout_type, array_type, array_items}
+use Rattle.awk_layout.specs.Item.{run, at_option}
+use Rattle.awk_layout.specs.Typing.{array_type, array_items}
 use Rattle.awk_layout.specs.Kinds.{primitive_of}
 use Rattle.awk_axis.specs.Columns.{present_values}
 use Rattle.awk_gather.specs.Arrays.{array_item}
 use Rattle.awk_gather.specs.InOrder.{AreParts, AreAlternatives}
-use Rattle.awk_gather.specs.Columns.{alternative_values}
 use Rattle.awk_axis.specs.ListFunction.{Class, list_type}
 use Rattle.awk_axis.specs.declared.opening.Opened.{Opened}
 use Rattle.awk_axis.specs.declared.opening.Opened.TheVariants.{Unknown, Leaf, Items, Row}

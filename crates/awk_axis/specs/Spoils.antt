@@ -1,16 +1,16 @@
 -- Why the values of a column are refused: the lists above the axis hold too many items together, or
 -- the function
 -- refuses the lists at the axis.
-use Rattle.std.specs.Prelude.{ℕ, suc, ◌-◌, ◌==◌, nat_lt, List, [], ◌∷◌, length, Option, Some, None}
+use Rattle.std.specs.Prelude.{ℕ, suc, nat_lt, List, [], ◌∷◌, length, Option, Some, None}
 use Rattle.std.specs.Prelude.{if◌then◌else◌}
 use Rattle.awk_types.specs.DataType.{DataType, unknown, leaf, var, reg, rec, tup, opt, uni}
 use Rattle.awk_types.specs.DataType.{DataTypes, no_types, type}
 use Rattle.awk_types.specs.Value.{Value}
+use Rattle.awk_types.specs.ItemLimit.{item_limit}
 use Rattle.awk_axis.specs.declared.causes.Spoil.{Spoil}
 use Rattle.awk_axis.specs.declared.causes.Spoil.TheVariants.{Size}
 use Rattle.awk_axis.specs.declared.place.Reach.{Reach}
 use Rattle.awk_axis.specs.Reach.{here, inner}
-use Rattle.awk_gather.specs.Counted.{item_limit}
 use Rattle.awk_axis.specs.Causes.{first_spoil}
 use Rattle.awk_axis.specs.Columns.{present_values, part_values, lists_among}
 use Rattle.awk_gather.specs.Columns.{joined_items, alternative_values}

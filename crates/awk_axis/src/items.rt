@@ -16,12 +16,9 @@ use crate::lift::{Mapped, lifted};
 use crate::place::Reach;
 use awk_lanes::{Arena, Steps};
 use awk_layout::{Array, Datum};
-use awk_types::Fault;
+use awk_types::{Fault, ITEM_LIMIT};
 use std::alloc::Global;
 use std::sync::ledger::Ledger;
-
-/// The most items of a column.
-const ITEM_LIMIT: u64 = 1_073_741_824;
 
 /// The spoil of a column of n items.
 fn too_many(n: u64) -> Option<Spoil>

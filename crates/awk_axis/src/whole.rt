@@ -12,8 +12,7 @@ ghost use Rattle.awk_axis.specs.ListFunction.{made_type};
 
 use crate::function::{ListOp, Made};
 use crate::judged::{judged_whole, made, spoilt};
-use crate::numbers::number;
-use awk_lanes::{Arena, Kind, Lane, LaneMaker, NoMemory, Steps};
+use awk_lanes::{Arena, Kind, Lane, LaneMaker, NoMemory, Steps, number};
 use awk_layout::{Array, Datum};
 use awk_types::Fault;
 use awk_view::settled;

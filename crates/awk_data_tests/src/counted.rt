@@ -1,4 +1,5 @@
-// What counts steps: lanes that are made, cut and read, bits that are cut, and buffers that are fetched twice.
+// What counts steps: lanes that are made, cut and read, bits that are cut, and buffers that are
+// fetched twice.
 ghost use Rattle.std.specs.Prelude.{◌≡◌, ◌<◌};
 
 use awk_lanes::{Arena, Bits, Kind, Lane, LaneMaker, Lanes, NoMemory, Steps};

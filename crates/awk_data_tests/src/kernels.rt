@@ -1,4 +1,5 @@
-// The kernels at each length around the width of a vector, through the bound as other crates call them.
+// The kernels at each length around the width of a vector, through the bound as other crates call
+// them.
 use awk_kernels::{Kernels, Plain};
 use std::process::Abort;
 

@@ -1,4 +1,5 @@
-//! What no stored session reaches of types, lanes, kernels and buffers, called at values that were worked out by hand.
+//! What no stored session reaches of types, lanes, kernels and buffers, called at values that were
+//! worked out by hand.
 #![tactic(auto)]
 
 #[cfg(test)]

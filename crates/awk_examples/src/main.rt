@@ -1,4 +1,5 @@
-//! Runs the worked examples: a stored session of every class and every fault is its input, and their answers its output.
+//! Runs the worked examples: a stored session of every class and every fault is its input, and
+//! their answers its output.
 #![tactic(auto)]
 
 ghost use Rattle.std.specs.Prelude.{◌≡◌, ◌<◌};

@@ -9,6 +9,7 @@ use Rattle.std.proofs.lemmas.List.FromFn.{length-range_with_len, get_or-range_wi
 use Rattle.awk_types.specs.Datum.{arr}
 use Rattle.awk_types.specs.Gives.{refused_or}
 use Rattle.awk_types.specs.Value.{Value, list}
+use Rattle.awk_types.specs.ItemLimit.{item_limit, too_many}
 use Rattle.awk_types.specs.declared.fault.Fault.TheVariants.{Size}
 use Rattle.awk_lanes.specs.declared.kind.Kind.TheVariants.{I64}
 use Rattle.awk_lanes.specs.Column.{Column}
@@ -21,8 +22,8 @@ use Rattle.awk_layout.proofs.Runs.{value_list-run}
 use Rattle.awk_layout.specs.Typing.{array_type, array_items, array_datum}
 use Rattle.awk_gather.specs.Arrays.{array_item, IsGathered}
 use Rattle.awk_gather.specs.Columns.{list_items, joined_items, offsets}
-use Rattle.awk_gather.specs.Counted.{first_of, span_at, spans, places_lane, offset_at, offsets_lane, item_limit, AreBelow, IsRow}
-use Rattle.awk_gather.specs.Joined.{list_at, list_values, too_many, joined_datum, AreJoined}
+use Rattle.awk_gather.specs.Counted.{first_of, span_at, spans, places_lane, offset_at, offsets_lane, AreBelow, IsRow}
+use Rattle.awk_gather.specs.Joined.{list_at, list_values, joined_datum, AreJoined}
 use Rattle.awk_gather.specs.Reached.{IsReached}
 use Rattle.awk_gather.proofs.FirstPlaces.{length-first_of, first_of-mono, first_of-room}
 use Rattle.awk_gather.proofs.MadeLanes.{size-lane_of, at-lane_of}

@@ -3,6 +3,7 @@
 use Rattle.std.specs.Prelude.{◌≡◌, ℕ, ◌+◌, ◌<◌, ◌≤◌, ◌≤ℤ◌, ◌-◌, ◌^◌, ◌==◌, List, [], ◌∷◌, length}
 use Rattle.std.specs.Prelude.{map, ℤ, pos, negsuc, Option, Some, None, if◌then◌else◌}
 use Rattle.std.specs.List.{range_with_len, flat_map}
+use Rattle.awk_types.specs.ItemLimit.{item_limit}
 use Rattle.awk_lanes.specs.declared.kind.Kind.TheVariants.{I8, I64}
 use Rattle.awk_lanes.specs.Column.{Column}
 use Rattle.awk_lanes.specs.Places.{size_of, at, place_at, option_place_at, IsIndexKind}
@@ -77,10 +78,6 @@ span_at s t i = range_with_len (place_at s i) (place_at t i - place_at s i)
 -- the places of the items of all lists
 abbrev pub spans : Column → Column → List ℕ
 spans s t = first_of (span_at s t) (size_of s)
-
--- the most items of a column
-abbrev pub item_limit : ℕ
-item_limit = 1073741824
 
 -- how many items lists have together, or none where they are too many
 abbrev pub IsTotal : Column → Column → Option ℕ → Type 0

@@ -1,13 +1,13 @@
 -- Lists by starts and stops as values, and the same lists one after another.
-use Rattle.std.specs.Prelude.{◌≡◌, ℕ, ◌+◌, ◌-◌, ◌<◌, nat_lt, List, length, map, Option, Some, None}
+use Rattle.std.specs.Prelude.{◌≡◌, ℕ, ◌+◌, ◌-◌, ◌<◌, List, length, map}
 use Rattle.std.specs.Prelude.{Result, if◌then◌else◌}
 use Rattle.std.specs.List.{range_with_len}
 use Rattle.awk_types.specs.DataType.{DataType}
 use Rattle.awk_types.specs.Datum.{Datum, arr}
 use Rattle.awk_types.specs.Gives.{refused_or}
 use Rattle.awk_types.specs.Value.{Value, list}
+use Rattle.awk_types.specs.ItemLimit.{too_many}
 use Rattle.awk_types.specs.declared.fault.Fault.{Fault}
-use Rattle.awk_types.specs.declared.fault.Fault.TheVariants.{Size}
 use Rattle.awk_lanes.specs.Column.{Column}
 use Rattle.awk_lanes.specs.Places.{size_of, place_at}
 use Rattle.awk_layout.specs.Layout.{Layout, offset_lists}
@@ -15,7 +15,6 @@ use Rattle.awk_layout.specs.Valid.{len, IsValid}
 use Rattle.awk_layout.specs.Item.{run}
 use Rattle.awk_gather.specs.Arrays.{array_item}
 use Rattle.awk_gather.specs.Columns.{joined_items}
-use Rattle.awk_gather.specs.Counted.{item_limit}
 
 -- the list of the items from a start below a stop
 abbrev pub list_at : Column → Column → Layout → ℕ → Value
@@ -24,10 +23,6 @@ list_at s t y i = list (run (array_item y) (place_at s i) (place_at t i - place_
 -- all these lists
 abbrev pub list_values : Column → Column → Layout → List Value
 list_values s t y = map (list_at s t y) (range_with_len 0 (size_of s))
-
--- a column of n items
-abbrev pub too_many : ℕ → Option Fault
-too_many n = if nat_lt item_limit n then Some Size else None
 
 -- the items of all lists, unless they are too many
 abbrev pub joined_datum : DataType → List Value → Result Datum Fault

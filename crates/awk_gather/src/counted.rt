@@ -6,8 +6,7 @@ ghost use Rattle.awk_lanes.specs.declared.kind.Kind.TheVariants as Kind;
 ghost use Rattle.awk_gather.specs.Counted.{first_of, places_lane, present_place, present_at};
 ghost use Rattle.awk_gather.specs.Counted.{count_or_null, counted_lane};
 
-use crate::lanes_at::number;
-use awk_lanes::{Arena, Kind, Lane, LaneMaker, NoMemory, Num, Steps, option_place_in};
+use awk_lanes::{Arena, Kind, Lane, LaneMaker, NoMemory, Num, Steps, number, option_place_in};
 use std::sync::ledger::Ledger;
 
 /// 1 where there is a place, else 0.

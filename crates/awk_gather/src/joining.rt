@@ -2,12 +2,13 @@
 ghost use Rattle.std.specs.Prelude.{◌≡◌, ◌-◌, ◌<◌, ◌≤◌, ◌^◌, length, IfOk};
 ghost use Rattle.awk_types.specs.Faults.{fault_told};
 ghost use Rattle.awk_types.specs.Gives.{Gives};
+ghost use Rattle.awk_types.specs.ItemLimit.{item_limit};
 ghost use Rattle.awk_lanes.specs.Places.{size_of, AreSpans};
 ghost use Rattle.awk_lanes.specs.declared.kind.Kind.TheVariants as Kind;
 ghost use Rattle.awk_layout.specs.Typing.{array_type, array_datum};
 ghost use Rattle.awk_layout.specs.Valid.{len};
 ghost use Rattle.awk_gather.specs.Columns.{offsets as offsets_of};
-ghost use Rattle.awk_gather.specs.Counted.{spans, item_limit};
+ghost use Rattle.awk_gather.specs.Counted.{spans};
 ghost use Rattle.awk_gather.specs.Joined.{list_values, joined_datum, AreJoined};
 ghost use Rattle.awk_gather.specs.Reached.{IsReached};
 

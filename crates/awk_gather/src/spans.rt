@@ -2,15 +2,13 @@
 ghost use Rattle.std.specs.Prelude.{◌≡◌, ◌+◌, ◌-◌, ◌<◌, ◌≤◌, ◌^◌, length, IfOk, IfSome, IsTrue};
 ghost use Rattle.std.specs.List.{range_with_len};
 ghost use Rattle.awk_lanes.specs.Places.{size_of, AreSpans};
-ghost use Rattle.awk_gather.specs.Counted.{places_lane, span_at, spans, item_limit, IsTotal};
+ghost use Rattle.awk_gather.specs.Counted.{places_lane, span_at, spans, IsTotal};
+ghost use Rattle.awk_types.specs.ItemLimit.{item_limit};
 ghost use Rattle.awk_gather.specs.Counted.{offsets_lane, IsRow};
 
-use crate::lanes_at::number;
-use awk_lanes::{Arena, Kind, Lane, LaneMaker, NoMemory, Steps, index_at, to_place};
+use awk_lanes::{Arena, Kind, Lane, LaneMaker, NoMemory, Steps, index_at, number, to_place};
+use awk_types::ITEM_LIMIT;
 use std::sync::ledger::Ledger;
-
-/// The most items of a column.
-const ITEM_LIMIT: u64 = 1_073_741_824;
 
 /// Where a list begins, and how many items it has.
 #[derive(Clone, Copy)]

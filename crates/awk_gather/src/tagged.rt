@@ -2,13 +2,11 @@
 ghost use Rattle.std.specs.Prelude.{◌≡◌, ℕ, ◌+◌, ◌<◌, ◌^◌, length, slice_index_or, slice_set};
 ghost use Rattle.std.specs.Prelude.{IfSome, IfOk};
 ghost use Rattle.awk_lanes.specs.Places.{size_of, place_at};
-ghost use Rattle.awk_lanes.specs.declared.kind.Kind.TheVariants as Kind;
 ghost use Rattle.awk_gather.specs.Counted.{first_of, places_lane, present_place, tagged_at};
 ghost use Rattle.awk_gather.specs.Counted.{AreTagged, counted_tags};
 
 use crate::counted::one_if;
-use crate::lanes_at::number;
-use awk_lanes::{Arena, Kind, Lane, LaneMaker, NoMemory, Steps, place_in, tag_in};
+use awk_lanes::{Arena, Kind, Lane, LaneMaker, NoMemory, Steps, number, place_in, tag_in};
 use std::alloc::Global;
 use std::sync::ledger::Ledger;
 

@@ -17,7 +17,6 @@ ghost use Rattle.awk_gather.specs.Settled.{AreTags, CanUnite, IsSettled};
 ghost use Rattle.awk_gather.specs.Spread.{or_else as or_else_of};
 
 use crate::arrays::array_within;
-use crate::lanes_at::number;
 use crate::opening::{Opened, firsts};
 use crate::spread::{Spread, alternatives};
 use awk_lanes::{Arena, Kind, Lane, LaneMaker, NoMemory, Num, Steps, index_at, place_in};

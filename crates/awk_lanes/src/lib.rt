@@ -19,5 +19,7 @@ pub use lanes::Lanes;
 pub use maker::LaneMaker;
 pub use memory::{Arena, NoMemory};
 pub use numbers::numbers_of;
-pub use readers::{index_at, is_set, option_place_in, place_in, tag_in, to_option_place, to_place};
+pub use readers::{
+    index_at, is_set, number, option_place_in, place_in, tag_in, to_option_place, to_place,
+};
 pub use steps::Steps;

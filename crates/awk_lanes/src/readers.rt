@@ -1,6 +1,6 @@
 //! Readers of one number, for lanes of offsets, places, tags and masks. Each takes one step.
-ghost use Rattle.std.specs.Prelude.{◌≡◌, ◌+◌, ◌<◌, ◌≤ℤ◌, pos};
-ghost use Rattle.awk_lanes.specs.Numbers.{nat_of, is_nonzero};
+ghost use Rattle.std.specs.Prelude.{◌≡◌, ◌+◌, ◌<◌, ◌^◌, ◌≤ℤ◌, pos};
+ghost use Rattle.awk_lanes.specs.Numbers.{nat_of, int_of, is_nonzero, IsOf};
 ghost use Rattle.awk_lanes.specs.Places.{size_of, at, place_at, option_place, option_place_at, IsIndexKind, IsOptionKind};
 ghost use Rattle.awk_lanes.specs.declared.kind.Kind.TheVariants as Kind;
 
@@ -84,6 +84,15 @@ pub fn to_place(z: i64) -> u64
     ensures { result ≡ nat_of z }
 {
     z as u64
+}
+
+/// A place as a number of a lane.
+pub fn number(place: u64) -> Num
+    requires { place < 2 ^ 63 }
+    ensures number { int_of result ≡ pos place }
+    ensures kind { IsOf Kind.I64 result }
+{
+    Num::Int(place as i64)
 }
 
 /// A number as a place, or none where it is negative.

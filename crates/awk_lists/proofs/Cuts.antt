@@ -14,6 +14,7 @@ use Rattle.awk_types.specs.Datum.{arr}
 use Rattle.awk_types.specs.Gives.{refused_or, ◌or◌}
 use Rattle.awk_types.specs.Simple.{simple_value}
 use Rattle.awk_types.specs.Value.{Value, null, int, list, values_from}
+use Rattle.awk_types.specs.ItemLimit.{item_limit, too_many}
 use Rattle.awk_types.specs.declared.fault.Fault.TheVariants.{Lengths, Size}
 use Rattle.awk_types.proofs.Trees.{values_from-list}
 use Rattle.awk_lanes.specs.Column.{Column}
@@ -26,8 +27,6 @@ use Rattle.awk_layout.specs.Typing.{layout_type, array_type, array_items, array_
 use Rattle.awk_layout.specs.Valid.{len}
 use Rattle.awk_layout.proofs.ArrayItems.{length-array_items, get_or-array_items}
 use Rattle.awk_gather.specs.Arrays.{array_item}
-use Rattle.awk_gather.specs.Counted.{item_limit}
-use Rattle.awk_gather.specs.Joined.{too_many}
 use Rattle.awk_gather.specs.Lanes.{lane_of}
 use Rattle.awk_gather.proofs.MadeLanes.{size-lane_of, at-lane_of}
 use Rattle.awk_axis.specs.Joined.{AreOffsets}

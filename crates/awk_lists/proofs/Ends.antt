@@ -12,6 +12,7 @@ use Rattle.std.proofs.lemmas.List.Filters.{length-filter_more}
 use Rattle.awk_types.specs.DataType.{DataType, unknown, leaf, var, reg, rec, tup, opt, uni}
 use Rattle.awk_types.specs.Simple.{present, is_option}
 use Rattle.awk_types.specs.Value.{Value, null, int, truth, list, row, alt}
+use Rattle.awk_types.specs.ItemLimit.{item_limit}
 use Rattle.awk_lanes.specs.Column.{Column}
 use Rattle.awk_lanes.specs.Numbers.{nat_of}
 use Rattle.awk_lanes.specs.Places.{size_of, at, place_at, option_place}
@@ -25,7 +26,7 @@ use Rattle.awk_layout.proofs.ArrayItems.{length-array_items, get_or-array_items}
 use Rattle.awk_layout.proofs.Runs.{length-run}
 use Rattle.awk_gather.specs.Arrays.{array_item}
 use Rattle.awk_gather.specs.Columns.{joined_items, list_items, is_present}
-use Rattle.awk_gather.specs.Counted.{item_limit, first_of, present_at, present_place}
+use Rattle.awk_gather.specs.Counted.{first_of, present_at, present_place}
 use Rattle.awk_gather.specs.Counted.{offset_at}
 use Rattle.awk_gather.specs.Lanes.{picked}
 use Rattle.awk_gather.proofs.FirstPlaces.{length-first_of}

@@ -11,6 +11,7 @@ use Rattle.awk_types.specs.Datum.{Datum}
 use Rattle.awk_types.specs.Has.{Has}
 use Rattle.awk_types.specs.Simple.{present, simple, simple_value}
 use Rattle.awk_types.specs.Value.{Value, value_list}
+use Rattle.awk_types.specs.ItemLimit.{item_limit}
 use Rattle.awk_types.proofs.SimpleLaws.{simple_twice, simple_is_simple, value_stays, each_stays}
 use Rattle.awk_lanes.specs.Column.{Column}
 use Rattle.awk_lanes.specs.Numbers.{nat_of}
@@ -22,7 +23,6 @@ use Rattle.awk_layout.specs.Valid.{len}
 use Rattle.awk_layout.proofs.ArrayItems.{length-array_items}
 use Rattle.awk_gather.specs.Arrays.{array_item}
 use Rattle.awk_gather.specs.Columns.{joined_items}
-use Rattle.awk_gather.specs.Counted.{item_limit}
 use Rattle.awk_gather.specs.Lanes.{picked}
 use Rattle.awk_gather.proofs.PickedLanes.{size-picked, at-picked}
 use Rattle.awk_axis.specs.Joined.{AreOffsets, JoinsLists}

@@ -17,7 +17,7 @@ use Rattle.awk_gather.specs.declared.opening.Opened.{Opened}
 use Rattle.awk_gather.specs.declared.opening.Opened.TheVariants as opened
 use Rattle.awk_axis.specs.Reach.{is_leaf}
 use Rattle.awk_lists.specs.Numbers.{AreNumbers, AreCounts}
-use Rattle.awk_lists.specs.Unflatten.{are_counts}
+use Rattle.awk_types.specs.WholeNumbers.{is_numbers}
 
 -- ---- the kinds that have such values
 
@@ -60,7 +60,7 @@ no_numbers x c o e =
 
 -- ---- whole numbers
 
-whole_value : (k : Kind) (z : ℤ) → are_counts (leaf (primitive_of k)) ≡ true → leaf_value k z ≡ int z
+whole_value : (k : Kind) (z : ℤ) → is_numbers (leaf (primitive_of k)) ≡ true → leaf_value k z ≡ int z
 whole_value kinds.Bool z e = cc
 whole_value kinds.I8 z e = refl
 whole_value kinds.I16 z e = refl
@@ -71,7 +71,7 @@ whole_value kinds.U16 z e = refl
 whole_value kinds.U32 z e = refl
 whole_value kinds.U64 z e = refl
 
-pub counts_leaf : (t : DataType) → are_counts t ≡ true → is_leaf t ≡ true
+pub counts_leaf : (t : DataType) → is_numbers t ≡ true → is_leaf t ≡ true
 counts_leaf unknown e = refl
 counts_leaf (leaf p) e = refl
 counts_leaf (var t) e = cc
@@ -81,11 +81,11 @@ counts_leaf (tup ts) e = cc
 counts_leaf (opt t) e = cc
 counts_leaf (uni ts) e = cc
 
-pub are_whole : (x : Layout) (c : Column) → are_counts (array_type x) ≡ true → AreNumbers x c
+pub are_whole : (x : Layout) (c : Column) → is_numbers (array_type x) ≡ true → AreNumbers x c
     → AreCounts x c
 are_whole x c e n = record {
   size = n.size;
   items = λ i p.
       n.items i p
-      ∙ whole_value c.kind (at c i) (sym (ap are_counts (n.typ (omega (arith, p)))) ∙ e);
+      ∙ whole_value c.kind (at c i) (sym (ap is_numbers (n.typ (omega (arith, p)))) ∙ e);
 }

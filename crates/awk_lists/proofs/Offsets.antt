@@ -14,6 +14,7 @@ use Rattle.awk_types.specs.DataType.{leaf}
 use Rattle.awk_types.specs.declared.primitive.Primitive.TheVariants.{I64}
 use Rattle.awk_types.specs.Simple.{simple_value}
 use Rattle.awk_types.specs.Value.{Value, null, int, value_list}
+use Rattle.awk_types.specs.ItemLimit.{item_limit}
 use Rattle.awk_lanes.specs.declared.kind.Kind.TheVariants as kinds
 use Rattle.awk_lanes.specs.Column.{Column}
 use Rattle.awk_lanes.specs.Making.{Making, with_item}
@@ -30,7 +31,6 @@ use Rattle.awk_axis.specs.Joined.{AreOffsets}
 use Rattle.awk_axis.specs.Opened.{AreOfClass, AreLists, items_at, all_items_at}
 use Rattle.awk_gather.specs.Arrays.{array_item}
 use Rattle.awk_axis.specs.Spoils.{too_many}
-use Rattle.awk_gather.specs.Counted.{item_limit}
 use Rattle.awk_axis.specs.Mapped.{AreEven, AreGiven}
 use Rattle.awk_gather.proofs.MadeLanes.{size-lane_of, at-lane_of}
 use Rattle.awk_lists.proofs.Spans.{items_at-length, run_length}

@@ -6,7 +6,7 @@ use Rattle.awk_lanes.specs.declared.kind.Kind.TheVariants.{I64}
 use Rattle.awk_lanes.specs.Column.{Column}
 use Rattle.awk_lanes.specs.Places.{size_of, place_at}
 use Rattle.awk_gather.specs.Lanes.{lane_of}
-use Rattle.awk_gather.specs.Counted.{item_limit}
+use Rattle.awk_types.specs.ItemLimit.{item_limit}
 
 -- how many items a list has
 abbrev pub span_length : Column → Column → ℕ → ℕ

@@ -2,6 +2,7 @@
 use Rattle.std.specs.Prelude.{◌≡◌, ℕ, ◌+◌, ◌<◌, ◌≤◌, List, length, take, pos}
 use Rattle.awk_types.specs.Simple.{present}
 use Rattle.awk_types.specs.Value.{Value}
+use Rattle.awk_types.specs.ItemLimit.{item_limit}
 use Rattle.awk_lanes.specs.Column.{Column}
 use Rattle.awk_lanes.specs.Places.{size_of, at, IsIndexKind}
 use Rattle.awk_lanes.specs.declared.kind.Kind.TheVariants.{I64}
@@ -9,7 +10,7 @@ use Rattle.awk_layout.specs.Layout.{Layout}
 use Rattle.awk_layout.specs.Valid.{IsValid}
 use Rattle.awk_layout.specs.Typing.{array_type, array_items}
 use Rattle.awk_gather.specs.Columns.{joined_items}
-use Rattle.awk_gather.specs.Counted.{first_of, present_at, item_limit}
+use Rattle.awk_gather.specs.Counted.{first_of, present_at}
 use Rattle.awk_gather.specs.Lanes.{lane_of}
 use Rattle.awk_axis.specs.declared.opening.Joined.{Joined}
 use Rattle.awk_axis.specs.declared.opening.Joined.TheVariants.{TooMany, Lists}

@@ -3,24 +3,17 @@ use Rattle.std.specs.Prelude.{ℕ, ◌==◌, negsuc, Bool, true, false, ◌||◌
 use Rattle.std.specs.Prelude.{List, [], ◌∷◌, length, map, sum_by, take, drop, Option, Some, None}
 use Rattle.std.specs.Prelude.{option_map, Result, Err, if◌then◌else◌}
 use Rattle.std.specs.List.{list_any}
-use Rattle.awk_types.specs.DataType.{DataType, unknown, leaf, var}
+use Rattle.awk_types.specs.DataType.{DataType, var}
 use Rattle.awk_types.specs.Datum.{Datum, arr}
 use Rattle.awk_types.specs.Faults.{limit_fault}
 use Rattle.awk_types.specs.Gives.{refused_or, ◌or◌}
 use Rattle.awk_types.specs.Limit.{limit}
 use Rattle.awk_types.specs.Value.{Value, int, list, values_from}
+use Rattle.awk_types.specs.WholeNumbers.{is_numbers}
+use Rattle.awk_types.specs.ItemLimit.{too_many}
 use Rattle.awk_types.specs.declared.fault.Fault.{Fault}
 use Rattle.awk_types.specs.declared.fault.Fault.TheVariants.{WrongType, Lengths}
-use Rattle.awk_types.specs.declared.primitive.Primitive.TheVariants.{Bool as Truths}
 use Rattle.awk_lanes.specs.Numbers.{nat_of}
-use Rattle.awk_gather.specs.Joined.{too_many}
-
--- whole numbers, or unknown
-abbrev pub are_counts : DataType → Bool
-are_counts unknown = true
-are_counts (leaf Truths) = false
-are_counts (leaf p) = true
-are_counts t = false
 
 abbrev pub is_negative : Value → Bool
 is_negative (int (negsuc n)) = true
@@ -35,7 +28,7 @@ abbrev pub counted_before : List Value → ℕ → ℕ
 counted_before cs i = sum_by count_of (take i cs)
 
 abbrev pub type_refused : DataType → Option Fault
-type_refused u = if are_counts u then None else Some WrongType
+type_refused u = if is_numbers u then None else Some WrongType
 
 abbrev pub limit_refused : DataType → Option Fault
 limit_refused t = option_map limit_fault (limit (var t))

@@ -8,6 +8,7 @@ ghost use Rattle.awk_types.specs.Limit.{limit};
 ghost use Rattle.awk_types.specs.Simple.{simple};
 ghost use Rattle.awk_types.specs.Value.{int};
 ghost use Rattle.awk_types.specs.View.{typ_of};
+ghost use Rattle.awk_types.specs.WholeNumbers.{is_numbers};
 ghost use Rattle.awk_lanes.specs.Numbers.{int_of, nat_of};
 ghost use Rattle.awk_lanes.specs.Places.{size_of, IsOffsets};
 ghost use Rattle.awk_lanes.specs.declared.kind.Kind.TheVariants as Kind;
@@ -22,27 +23,12 @@ ghost use Rattle.awk_lists.specs.Unflatten.{unflatten_of, count_of, counted_befo
 ghost use Rattle.awk_lists.specs.Unflatten.{limit_refused, lists_by};
 
 use crate::numbers::numbers_of;
-use awk_axis::{made, number};
-use awk_lanes::{Arena, Kind, Lane, LaneMaker, Num, Steps};
+use awk_axis::made;
+use awk_lanes::{Arena, Kind, Lane, LaneMaker, Num, Steps, number};
 use awk_layout::{Array, Datum, Node};
-use awk_types::{Fault, NoMemory, Prim, Typ, copy_type, simple_of};
+use awk_types::{Fault, ITEM_LIMIT, NoMemory, Typ, copy_type, is_numbers, simple_of};
 use std::alloc::Global;
 use std::sync::ledger::Ledger;
-
-/// The most items of a column.
-const ITEM_LIMIT: u64 = 1_073_741_824;
-
-/// Whether items of a type are whole numbers or unknown.
-fn are_counts(t: &Typ) -> bool
-    ensures { result ≡ spec.are_counts (typ_of t.now) }
-{
-    match t {
-        Typ::Unknown => true,
-        Typ::Leaf(Prim::Bool) => false,
-        Typ::Leaf(_) => true,
-        _ => false,
-    }
-}
 
 /// Judges the type of lists of items.
 fn judge_lists(alloc: Global, t: &Typ) -> Result<(), Fault>
@@ -62,7 +48,7 @@ fn counts_of<'a, L: Ledger>(
     arena: &'a Arena,
     steps: &mut Steps<L>,
 ) -> Result<Lane<'a>, NoMemory>
-    requires { spec.are_counts (array_type counts.now) ≡ true }
+    requires { is_numbers (array_type counts.now) ≡ true }
     ensures { IfOk result (AreCounts counts.now) }
 {
     numbers_of(alloc, counts, arena, steps)
@@ -175,7 +161,7 @@ fn cut_items<'a, L: Ledger>(
     arena: &'a Arena,
     steps: &mut Steps<L>,
 ) -> Result<Array<'a>, Fault>
-    requires counts { spec.are_counts (array_type counts.now) ≡ true }
+    requires counts { is_numbers (array_type counts.now) ≡ true }
     requires limit { limit (var (array_type x.now)) ≡ None }
     ensures answer { let said = spec.cut_items (array_type x.now) (array_items x.now) in
         Gives array_datum fault_told result (said (array_items counts.now)) }
@@ -199,9 +185,10 @@ fn cut<'a, L: Ledger>(
     steps: &mut Steps<L>,
 ) -> Result<Array<'a>, Fault>
     ensures answer { let said = spec.cut (array_type x.now) (array_items x.now) in
-        Gives array_datum fault_told result (said (array_type counts.now) (array_items counts.now)) }
+        Gives array_datum fault_told result
+        (said (array_type counts.now) (array_items counts.now)) }
 {
-    if !are_counts(counts.typ()) {
+    if !is_numbers(counts.typ()) {
         return Err(Fault::WrongType);
     }
     judge_lists(alloc, x.typ())?;
@@ -211,9 +198,9 @@ fn cut<'a, L: Ledger>(
 /// The items of an array in lists, as many in each as the counts say.
 ///
 /// `WrongType` tells that one of the two is a single value, or that the counts are neither whole
-/// numbers nor unknown, and `Depth` or `Size` the limit that the type of the lists passes. `Lengths`
-/// tells a negative count, or counts that are not the number of items together, and `Size` also more
-/// than 1,073,741,824 counts. No item is touched.
+/// numbers nor unknown, and `Depth` or `Size` the limit that the type of the lists passes.
+/// `Lengths` tells a negative count, or counts that are not the number of items together, and
+/// `Size` also more than 1,073,741,824 counts. No item is touched.
 pub fn unflatten<'a, L: Ledger>(
     alloc: Global,
     x: &Datum<'a>,

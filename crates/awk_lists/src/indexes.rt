@@ -2,22 +2,19 @@
 ghost use Rattle.std.specs.Prelude.{◌≡◌, ◌<◌, ◌≤◌, ◌^◌, IfOk};
 ghost use Rattle.awk_types.specs.Faults.{fault_told};
 ghost use Rattle.awk_types.specs.Gives.{Gives};
+ghost use Rattle.awk_types.specs.ItemLimit.{item_limit};
 ghost use Rattle.awk_lanes.specs.Places.{size_of, AreSpans};
 ghost use Rattle.awk_layout.specs.Datum.{datum_of, IsDatum};
-ghost use Rattle.awk_gather.specs.Counted.{item_limit};
 ghost use Rattle.awk_lists.specs.Lanes.{before, offsets_lane, local_lane, IsTotal};
 ghost use Rattle.awk_lists.specs.LocalIndex.{local_index_function, local_index_of};
 
 use crate::length::length_at;
-use awk_axis::{ListOp, Made, Refusal, Spoil, lift_at, number};
-use awk_lanes::{Arena, Kind, Lane, LaneMaker, Steps};
+use awk_axis::{ListOp, Made, Refusal, Spoil, lift_at};
+use awk_lanes::{Arena, Kind, Lane, LaneMaker, Steps, number};
 use awk_layout::{Array, Datum, Node};
-use awk_types::{Fault, NoMemory, Prim, Typ};
+use awk_types::{Fault, ITEM_LIMIT, NoMemory, Prim, Typ};
 use std::alloc::Global;
 use std::sync::ledger::Ledger;
-
-/// The most items of a column.
-const ITEM_LIMIT: u64 = 1_073_741_824;
 
 /// How many items lists have together, or none where they are too many.
 fn total<L: Ledger>(starts: &Lane, stops: &Lane, steps: &mut Steps<L>) -> Option<u64>

@@ -18,10 +18,8 @@ ghost use Rattle.awk_lists.specs.Flatten as spec;
 ghost use Rattle.awk_lists.specs.Flatten.{flatten_function, flatten_of};
 ghost use Rattle.awk_lists.specs.Listed.{IsListed, present_lane};
 
-use awk_axis::{
-    Joined, ListOp, Made, Opened, Refusal, Spoil, join_spans, lift_at, number, open_array,
-};
-use awk_lanes::{Arena, Kind, Lane, LaneMaker, Steps, option_place_in, place_in};
+use awk_axis::{Joined, ListOp, Made, Opened, Refusal, Spoil, join_spans, lift_at, open_array};
+use awk_lanes::{Arena, Kind, Lane, LaneMaker, Steps, number, option_place_in, place_in};
 use awk_layout::{Array, Datum};
 use awk_types::{Fault, NoMemory, Typ, copy_type};
 use std::alloc::{AllocError, Global};

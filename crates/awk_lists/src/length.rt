@@ -7,8 +7,8 @@ ghost use Rattle.awk_layout.specs.Datum.{datum_of, IsDatum};
 ghost use Rattle.awk_lists.specs.Lanes.{span_length, lengths_lane};
 ghost use Rattle.awk_lists.specs.Num.{length_function, num_of};
 
-use awk_axis::{ListOp, Made, Refusal, lift_at, number};
-use awk_lanes::{Arena, Kind, Lane, LaneMaker, Steps, index_at};
+use awk_axis::{ListOp, Made, Refusal, lift_at};
+use awk_lanes::{Arena, Kind, Lane, LaneMaker, Steps, index_at, number};
 use awk_layout::{Array, Datum, Node};
 use awk_types::{Fault, NoMemory, Prim, Typ};
 use std::alloc::Global;

@@ -8,6 +8,7 @@ use Rattle.std.proofs.lemmas.Simd.{map-map}
 use Rattle.awk_types.specs.DataType.{leaf, opt}
 use Rattle.awk_types.specs.Simple.{is_option, simple_value, IsSimple}
 use Rattle.awk_types.specs.Value.{Value, null, int, truth, list, row, alt, value_list}
+use Rattle.awk_types.specs.ItemLimit.{item_limit}
 use Rattle.awk_types.specs.declared.primitive.Primitive.TheVariants.{Bool as Truths}
 use Rattle.awk_types.proofs.SimpleLaws.{simple_is_simple}
 use Rattle.awk_lanes.specs.declared.kind.Kind.TheVariants as kinds
@@ -21,7 +22,6 @@ use Rattle.awk_layout.specs.Item.{at_option}
 use Rattle.awk_layout.specs.Typing.{layout_type, array_type}
 use Rattle.awk_layout.specs.Valid.{len, IsValid}
 use Rattle.awk_gather.specs.Arrays.{array_item}
-use Rattle.awk_gather.specs.Counted.{item_limit}
 use Rattle.awk_gather.specs.Opened.{IsOpened}
 use Rattle.awk_gather.specs.declared.opening.Opened.TheVariants.{Option as Optional}
 use Rattle.awk_gather.proofs.ItemShapes.{present_item}

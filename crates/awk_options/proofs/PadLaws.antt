@@ -12,7 +12,7 @@ use Rattle.awk_lanes.specs.declared.kind.Kind.TheVariants as kinds
 use Rattle.awk_lanes.specs.Making.{Making, with_item}
 use Rattle.awk_lanes.specs.Numbers.{nat_of}
 use Rattle.awk_lanes.specs.Places.{size_of, at, place_at, IsSpan}
-use Rattle.awk_gather.specs.Counted.{item_limit}
+use Rattle.awk_types.specs.ItemLimit.{item_limit}
 use Rattle.awk_gather.proofs.MadeLanes.{size-lane_of, at-lane_of}
 use Rattle.awk_axis.specs.Joined.{AreOffsets}
 use Rattle.awk_options.specs.Lanes.{before, numbers_of_lists, offsets_by}

@@ -9,6 +9,7 @@ use Rattle.awk_types.specs.DataType.{DataType, unknown, leaf, var, reg, rec, tup
 use Rattle.awk_types.specs.Simple.{present, simple, simple_value, in_list, in_option}
 use Rattle.awk_types.specs.Value.{Value, int, truth, null, list, row, alt, no_values, value}
 use Rattle.awk_types.specs.Value.{value_list, values_from}
+use Rattle.awk_types.specs.ItemLimit.{item_limit}
 use Rattle.awk_types.proofs.SimpleLaws.{simple_twice, in_option_stays}
 use Rattle.awk_types.proofs.Trees.{values_from-list}
 use Rattle.awk_lanes.specs.Column.{Column}
@@ -18,7 +19,6 @@ use Rattle.awk_layout.specs.Item.{item}
 use Rattle.awk_layout.specs.Typing.{layout_type, array_type}
 use Rattle.awk_layout.specs.Valid.{len}
 use Rattle.awk_gather.specs.Arrays.{array_item}
-use Rattle.awk_gather.specs.Counted.{item_limit}
 use Rattle.awk_axis.specs.Columns.{present_values}
 use Rattle.awk_axis.specs.Joined.{JoinsLists, total}
 use Rattle.awk_axis.specs.ListFunction.{Class}

@@ -9,6 +9,7 @@ use Rattle.std.proofs.lemmas.List.Concat.{length-flat_map}
 use Rattle.std.proofs.lemmas.List.Sums.{sum-map}
 use Rattle.std.proofs.lemmas.Simd.{map-map}
 use Rattle.awk_types.specs.Value.{Value}
+use Rattle.awk_types.specs.ItemLimit.{item_limit}
 use Rattle.awk_lanes.specs.Column.{Column}
 use Rattle.awk_lanes.specs.Places.{size_of, at, place_at, IsSpan, AreSpans}
 use Rattle.awk_layout.specs.Laws.{len-fits}
@@ -16,7 +17,6 @@ use Rattle.awk_layout.specs.Layout.{Layout}
 use Rattle.awk_layout.specs.Valid.{len}
 use Rattle.awk_layout.proofs.Runs.{length-run}
 use Rattle.awk_gather.specs.Arrays.{array_item}
-use Rattle.awk_gather.specs.Counted.{item_limit}
 use Rattle.awk_axis.specs.Joined.{total}
 use Rattle.awk_axis.specs.ListFunction.{Class}
 use Rattle.awk_axis.specs.Opened.{AreLists, items_at, all_items_at}

@@ -6,6 +6,7 @@ use Rattle.std.specs.List.{range_with_len}
 use Rattle.awk_types.specs.DataType.{var}
 use Rattle.awk_types.specs.Simple.{present}
 use Rattle.awk_types.specs.Value.{truth}
+use Rattle.awk_types.specs.ItemLimit.{item_limit}
 use Rattle.awk_lanes.specs.Column.{Column}
 use Rattle.awk_lanes.specs.Places.{size_of, at, place_at, option_place_at, IsIndexKind}
 use Rattle.awk_lanes.specs.declared.kind.Kind.TheVariants.{Bool as Truths, I64}
@@ -13,7 +14,7 @@ use Rattle.awk_layout.specs.Layout.{Layout, flat}
 use Rattle.awk_layout.specs.Valid.{len, IsValid}
 use Rattle.awk_layout.specs.Typing.{array_type, array_items}
 use Rattle.awk_gather.specs.Arrays.{array_item}
-use Rattle.awk_gather.specs.Counted.{first_of, present_at, item_limit}
+use Rattle.awk_gather.specs.Counted.{first_of, present_at}
 use Rattle.awk_gather.specs.Lanes.{lane_of}
 use Rattle.awk_axis.specs.Columns.{present_values}
 use Rattle.awk_options.specs.IsNone.{is_null}

@@ -8,12 +8,12 @@ use Rattle.awk_types.specs.Gives.{refused_or, ◌or◌}
 use Rattle.awk_types.specs.Limit.{limit}
 use Rattle.awk_types.specs.Simple.{simple, simple_value}
 use Rattle.awk_types.specs.Value.{Value, truth, null, list, value_list, values_from}
+use Rattle.awk_types.specs.ItemLimit.{too_many}
 use Rattle.awk_types.specs.declared.fault.Fault.{Fault}
 use Rattle.awk_types.specs.declared.fault.Fault.TheVariants.{WrongType, Lengths}
 use Rattle.awk_types.specs.declared.primitive.Primitive.TheVariants.{Bool as Truths}
 use Rattle.awk_layout.specs.Item.{agrees}
 use Rattle.awk_gather.specs.Columns.{joined_items}
-use Rattle.awk_gather.specs.Joined.{too_many}
 
 -- ---- types
 

@@ -2,25 +2,22 @@
 ghost use Rattle.std.specs.Prelude.{◌≡◌, ◌<◌, ◌≤◌, ◌^◌, IfOk};
 ghost use Rattle.awk_types.specs.Faults.{fault_told};
 ghost use Rattle.awk_types.specs.Gives.{Gives};
+ghost use Rattle.awk_types.specs.ItemLimit.{item_limit};
 ghost use Rattle.awk_lanes.specs.Numbers.{int_of, IsOf};
 ghost use Rattle.awk_lanes.specs.Places.{size_of, AreSpans};
 ghost use Rattle.awk_lanes.specs.declared.kind.Kind.TheVariants as Kinds;
 ghost use Rattle.awk_layout.specs.Datum.{datum_of, IsDatum};
-ghost use Rattle.awk_gather.specs.Counted.{item_limit};
 ghost use Rattle.awk_options.specs.Lanes.{padded_span, before, offsets_by, padded_place};
 ghost use Rattle.awk_options.specs.Lanes.{padded_lane, IsTotal};
 ghost use Rattle.awk_options.specs.PadNone.{pad_none_function, pad_none_of};
 
 use crate::lengths::length_at;
-use awk_axis::{ListOp, Made, Refusal, Spoil, lift_at, number};
-use awk_lanes::{Arena, Kind, Lane, LaneMaker, Num, Steps, place_in};
+use awk_axis::{ListOp, Made, Refusal, Spoil, lift_at};
+use awk_lanes::{Arena, Kind, Lane, LaneMaker, Num, Steps, number, place_in};
 use awk_layout::{Array, Datum, Node};
-use awk_types::{Fault, NoMemory, Typ, copy_type};
+use awk_types::{Fault, ITEM_LIMIT, NoMemory, Typ, copy_type};
 use std::alloc::Global;
 use std::sync::ledger::Ledger;
-
-/// The most items of a column.
-const ITEM_LIMIT: u64 = 1_073_741_824;
 
 /// Nulls at the end of lists up to so many items; where lists are clipped, cut to so many.
 #[derive(Clone, Copy, Debug, PartialEq, Eq)]

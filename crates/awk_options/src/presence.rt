@@ -8,8 +8,8 @@ ghost use Rattle.awk_gather.specs.Counted.{present_at};
 ghost use Rattle.awk_gather.specs.Lanes.{lane_of};
 ghost use Rattle.awk_options.specs.Lanes.{present_lane, ArePresent};
 
-use awk_axis::{Opened, number, open_array};
-use awk_lanes::{Arena, Kind, Lane, LaneMaker, Steps, option_place_in};
+use awk_axis::{Opened, open_array};
+use awk_lanes::{Arena, Kind, Lane, LaneMaker, Steps, number, option_place_in};
 use awk_layout::Array;
 use awk_types::{NoMemory, Typ};
 use std::alloc::Global;

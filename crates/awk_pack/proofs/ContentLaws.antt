@@ -5,6 +5,7 @@ use Rattle.std.specs.List.{flat_map, list_any}
 use Rattle.std.proofs.lemmas.List.{append-nil}
 use Rattle.awk_types.specs.DataType.{Name, DataType, unknown, leaf, var, reg, rec, tup, opt, uni, types_from, row_type, nodes}
 use Rattle.awk_types.specs.Value.{Value}
+use Rattle.awk_types.specs.ItemLimit.{item_limit}
 use Rattle.awk_lanes.specs.Column.{Column}
 use Rattle.awk_lanes.specs.declared.kind.Kind.TheVariants as kind
 use Rattle.awk_layout.specs.Kinds.{primitive_of}
@@ -20,7 +21,7 @@ use Rattle.awk_gather.specs.declared.opening.Opened.TheVariants.{Leaf, Items, Ro
 use Rattle.awk_gather.specs.declared.opening.Opened.TheVariants.{Option as Optional, Union}
 use Rattle.awk_pack.specs.Columns.{placed, placed_fields, placed_alternatives, at_node}
 use Rattle.awk_pack.specs.Lanes.{lane_of, node_lanes}
-use Rattle.awk_pack.specs.Canon.{column_limit, is_too_long, lanes_of}
+use Rattle.awk_pack.specs.Canon.{is_too_long, lanes_of}
 use Rattle.awk_pack.specs.PackedForm.{all_nodes}
 use Rattle.awk_pack.specs.Packing.{is_regular, IsColumn, IsLeft, leaf_lane, IsJoined, are_too_large, placed_of}
 use Rattle.awk_pack.proofs.FormLaws.{sum-nodes_each}
@@ -32,7 +33,7 @@ record IsOwn (t : DataType) (vs : List Value) (old : List Column) (ys : List Lay
   pub lanes : new ≡ old ++ node_lanes t vs
   pub columns : placed t vs ≡ at_node t vs ∷ flat_map placed_of ys
   pub count : nodes t ≡ suc (all_nodes (map array_type ys))
-  pub few : nat_lt column_limit (length vs) ≡ false
+  pub few : nat_lt item_limit (length vs) ≡ false
 
 left : (t : DataType) (vs : List Value) (old : List Column) (ys : List Layout) (new : List Column) → IsOwn t vs old ys new → IsLeft t vs old ys new
 left t vs old ys new h =
@@ -48,7 +49,7 @@ left t vs old ys new h =
 
 -- ---- an opened array
 
-pub column-is : (x : Layout) (r s : Opened) → r ≡ s → IsOpened x r → IsInOrder (array_items x) r → len x ≤ column_limit → IsColumn (array_type x) (array_items x) s
+pub column-is : (x : Layout) (r s : Opened) → r ≡ s → IsOpened x r → IsInOrder (array_items x) r → len x ≤ item_limit → IsColumn (array_type x) (array_items x) s
 column-is x r s is opened order l = subst (λ s. IsColumn (array_type x) (array_items x) s) is (record {
   kind = opened.kind;
   order = order;
@@ -115,7 +116,7 @@ placed-parts : (k : ℕ) (vs : List Value) (ys : List Layout) → AreParts k vs 
 placed-parts k vs [] h = refl
 placed-parts k vs (y ∷ ys) h = ap₂ (λ ps qs. ps ++ qs) (ap (placed (array_type y)) (sym h.0)) (placed-parts (suc k) vs ys h.1)
 
-own_row : (names : Option (List Name)) (vs : List Value) (old : List Column) (ys : List Layout) → AreParts 0 vs ys → nat_lt column_limit (length vs) ≡ false → IsOwn (row_type names (types_from (map array_type ys))) vs old ys old
+own_row : (names : Option (List Name)) (vs : List Value) (old : List Column) (ys : List Layout) → AreParts 0 vs ys → nat_lt item_limit (length vs) ≡ false → IsOwn (row_type names (types_from (map array_type ys))) vs old ys old
 own_row None vs old ys h few = record {
   lanes = sym (append-nil old);
   columns = ap (λ ps. at_node (tup (types_from (map array_type ys))) vs ∷ ps) (placed-parts 0 vs ys h);

@@ -4,11 +4,11 @@ use Rattle.std.specs.Option.{option_map}
 use Rattle.std.proofs.lemmas.Grind.{common_steps}
 use Rattle.std.proofs.lemmas.Option.{slice_get-map}
 use Rattle.awk_types.specs.DataType.{Name, DataType, DataTypes, uni, types_from, row_type, nodes, nodes_each}
-use Rattle.awk_types.specs.View.{NamedType, names_of, typ_step, field_step, fields_step, typs_step, typ_of, field_of}
+use Rattle.awk_types.specs.View.{NamedType, names_of, typ_of, field_of}
 use Rattle.awk_types.specs.declared.typ.Field.{Field}
 use Rattle.awk_types.specs.declared.typ.Typ.TheViews.{out-Field}
-use Rattle.awk_types.specs.declared.typ.Typ.TheFolds.{fold_out-Field}
 use Rattle.awk_types.proofs.ListLaws.{drop-get}
+use Rattle.awk_types.proofs.Views.{field_of-out}
 use Rattle.awk_form.specs.FormTree.{FormTree, FormTrees, form, row, union, forms_from}
 use Rattle.awk_form.specs.declared.kind.IndexKind.TheVariants.{I64}
 use Rattle.awk_pack.specs.PackedForm.{node_key, packed_form, packed_forms, all_nodes, form_each}
@@ -36,10 +36,6 @@ form_each-drop n m ts i t made more f at is next pushed =
     ∙ ap (λ us. made ++ form_each n us) (sym (drop-get ts i t at))
 
 -- ---- fields
-
--- a field is its name and its type
-pub field_of-out : (f : Field) → field_of f ≡ record { name = (out-Field f).name; typ = typ_of (out-Field f).typ }
-field_of-out = fold_out-Field DataType NamedType (List NamedType) (List DataType) typ_step field_step fields_step typs_step
 
 pub type_at : (fs : List NamedType) (i : ℕ) (f : Field) → slice_get fs i ≡ Some (field_of f) → slice_get (map (λ f. f.typ) fs) i ≡ Some (typ_of (out-Field f).typ)
 type_at fs i f at =

@@ -3,13 +3,14 @@ use Rattle.std.proofs.Common.{◌≡◌, List, length, Ok, sym}
 use Rattle.awk_types.specs.DataType.{DataType}
 use Rattle.awk_types.specs.Datum.{arr}
 use Rattle.awk_types.specs.Value.{Value}
+use Rattle.awk_types.specs.ItemLimit.{too_many}
 use Rattle.awk_types.proofs.RefusalLaws.{refused_or-Ok}
 use Rattle.awk_lanes.specs.Column.{Column}
 use Rattle.awk_layout.specs.Layout.{Layout}
 use Rattle.awk_layout.specs.Typing.{array_type, array_datum}
 use Rattle.awk_lanes.specs.declared.kind.Kind.TheVariants as kind
 use Rattle.awk_gather.specs.Columns.{joined_items, offsets}
-use Rattle.awk_gather.specs.Joined.{joined_datum, too_many}
+use Rattle.awk_gather.specs.Joined.{joined_datum}
 use Rattle.awk_pack.specs.Lanes.{lane_of}
 use Rattle.awk_pack.specs.Packing.{IsJoined}
 

@@ -5,6 +5,7 @@ use Rattle.std.specs.Prelude.{Result, Ok, Err, if◌then◌else◌}
 use Rattle.std.specs.List.{list_any, flat_map}
 use Rattle.awk_types.specs.DataType.{DataType}
 use Rattle.awk_types.specs.Value.{Value}
+use Rattle.awk_types.specs.ItemLimit.{item_limit}
 use Rattle.awk_lanes.specs.Column.{Column}
 use Rattle.awk_form.specs.FormTree.{FormTree}
 use Rattle.awk_pack.specs.Columns.{Placed, placed}
@@ -19,12 +20,8 @@ pub record Pack : Type 0 where
   pub length : ℕ
   pub lanes : List Column
 
--- the most values of a column
-abbrev pub column_limit : ℕ
-column_limit = 1073741824
-
 abbrev pub is_too_long : Placed → Bool
-is_too_long p = nat_lt column_limit (length p.values)
+is_too_long p = nat_lt item_limit (length p.values)
 
 -- a column has too many values
 abbrev pub is_too_large : DataType → List Value → Bool

@@ -4,6 +4,7 @@ use Rattle.std.specs.Prelude.{Result, Ok, Err}
 use Rattle.std.specs.List.{flat_map, list_any}
 use Rattle.awk_types.specs.DataType.{DataType, reg, nodes}
 use Rattle.awk_types.specs.Value.{Value}
+use Rattle.awk_types.specs.ItemLimit.{item_limit}
 use Rattle.awk_types.specs.declared.fault.Fault.{Fault}
 use Rattle.awk_types.specs.declared.fault.Fault.TheVariants as fault
 use Rattle.awk_lanes.specs.Column.{Column}
@@ -19,7 +20,7 @@ use Rattle.awk_gather.specs.declared.opening.Opened.{Opened}
 use Rattle.awk_pack.specs.Columns.{Placed, placed}
 use Rattle.awk_pack.specs.Lanes.{lane_of}
 use Rattle.awk_pack.specs.PackedForm.{all_nodes}
-use Rattle.awk_pack.specs.Canon.{column_limit, is_too_long, is_too_large, lanes_of}
+use Rattle.awk_pack.specs.Canon.{is_too_long, is_too_large, lanes_of}
 use Rattle.awk_pack.specs.declared.packed.PackFault.{PackFault}
 use Rattle.awk_pack.specs.declared.packed.PackFault.TheVariants.{Size, NoMemory}
 
@@ -58,7 +59,7 @@ pub record IsJoined (y : Layout) (vs : List Value) (o : Column) (z : Layout) : T
 pub record IsColumn (t : DataType) (vs : List Value) (r : Opened) : Type 0 where
   pub kind : IsKindOf t r
   pub order : IsInOrder vs r
-  pub few : nat_lt column_limit (length vs) ≡ false
+  pub few : nat_lt item_limit (length vs) ≡ false
 
 -- ---- a node and those below it
 

@@ -4,7 +4,7 @@ ghost use Rattle.awk_lanes.specs.Places.{size_of, AreSpans};
 ghost use Rattle.awk_layout.specs.Valid.{len};
 ghost use Rattle.awk_gather.specs.Columns.{joined_items};
 ghost use Rattle.awk_gather.specs.Joined.{list_values};
-ghost use Rattle.awk_pack.specs.Canon.{column_limit};
+ghost use Rattle.awk_types.specs.ItemLimit.{item_limit};
 ghost use Rattle.awk_pack.specs.Packing.{IsJoined, leaf_lane, IfSize, fault_of};
 
 use crate::packed::PackFault;
@@ -70,7 +70,7 @@ pub(crate) fn joined<'a, L: Ledger>(
     ensures joined { let vs = list_values starts.now stops.now content.now in
         IfOk result (λ j. IsJoined content.now vs j.offsets j.content) }
     ensures size { let vs = list_values starts.now stops.now content.now in
-        IfSize result (nat_lt column_limit (length (joined_items vs)) ≡ true) }
+        IfSize result (nat_lt item_limit (length (joined_items vs)) ≡ true) }
 {
     match join_lists(alloc, starts, stops, content, arena, steps) {
         Ok(joined) => Ok(joined),

@@ -15,12 +15,9 @@ use crate::packed::PackFault;
 use awk_gather::{Opened, in_order};
 use awk_lanes::{Arena, Lane, Lanes, Steps};
 use awk_layout::{Array, Arrays};
-use awk_types::{NoMemory, Typ};
+use awk_types::{ITEM_LIMIT, NoMemory, Typ};
 use std::alloc::Global;
 use std::sync::ledger::Ledger;
-
-/// The most items of a column.
-const COLUMN_LIMIT: u64 = 1_073_741_824;
 
 /// Whether lists of a type are all of one length.
 fn is_regular(t: &Typ) -> bool
@@ -96,7 +93,7 @@ pub(crate) fn contents<'a, L: Ledger>(
         IsLeft (array_type x.now) (array_items x.now) lanes.old ys lanes.new) }
     ensures size { IfSize result (is_too_large (array_type x.now) (array_items x.now) ≡ true) }
 {
-    if x.len() > COLUMN_LIMIT {
+    if x.len() > ITEM_LIMIT {
         return Err(PackFault::Size);
     }
     match in_order(alloc, x, arena, steps)? {

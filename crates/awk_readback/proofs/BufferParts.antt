@@ -7,6 +7,7 @@ use Rattle.std.proofs.lemmas.Bool.Decides.{nat_tests}
 use Rattle.awk_types.specs.Gives.{◌or◌}
 use Rattle.awk_types.specs.DataType.{Name, DataType, unknown, leaf, var, reg, rec, tup, opt, uni, DataTypes, no_types, type, nodes}
 use Rattle.awk_types.specs.Value.{Value}
+use Rattle.awk_types.specs.ItemLimit.{item_limit}
 use Rattle.awk_lanes.specs.Column.{Column}
 use Rattle.awk_lanes.specs.declared.kind.Kind.{Kind}
 use Rattle.awk_lanes.specs.Numbers.{width, bytes_of}
@@ -17,7 +18,7 @@ use Rattle.awk_pack.specs.Canon.{lanes_of}
 use Rattle.awk_pack.specs.PackedForm.{packed_form, packed_forms}
 use Rattle.awk_text.specs.Buffers.{buffer_keys, keys_of, keyed_bytes}
 use Rattle.awk_valid.specs.Container.{Container, buffer_key, bytes_or_none, bytes_at, num}
-use Rattle.awk_valid.specs.Broken.{Refusal, item_limit, size_break, bytes_break}
+use Rattle.awk_valid.specs.Broken.{Refusal, size_break, bytes_break}
 use Rattle.awk_readback.specs.ReadBack.{HasBuffers}
 use Rattle.awk_readback.proofs.LaneBytes.{IsHeld, length-lane_bytes, num-lane_bytes}
 

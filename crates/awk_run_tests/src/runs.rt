@@ -11,8 +11,9 @@ use std::process::Abort;
 use std::sync::ledger::{Blank, Ledger};
 use std::test::Fail;
 
-// A session over a source that gives so many bytes at a time and a sink that takes so many, and has room for no more than
-// it says. The calls of these numbers fail, counted from 0; each answer is a call to write, if it fits, and one to flush.
+// A session over a source that gives so many bytes at a time and a sink that takes so many, and has
+// room for no more than it says. The calls of these numbers fail, counted from 0; each answer is a
+// call to write, if it fits, and one to flush.
 struct Case<'r> {
     session: &'r [u8],
     gives: usize,

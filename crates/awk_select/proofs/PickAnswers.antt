@@ -10,6 +10,7 @@ use Rattle.awk_types.specs.Faults.{limit_fault, fault_told}
 use Rattle.awk_types.specs.Gives.{Gives, refused_or, ◌or◌}
 use Rattle.awk_types.specs.Limit.{Limit, limit}
 use Rattle.awk_types.specs.Value.{Value}
+use Rattle.awk_types.specs.ItemLimit.{item_limit, too_many}
 use Rattle.awk_types.specs.declared.fault.Fault.{Fault}
 use Rattle.awk_types.specs.declared.fault.Fault.TheVariants.{Lengths, Index, Size}
 use Rattle.awk_types.proofs.RefusalLaws.{refused_or-Ok, refused_or-None}
@@ -20,8 +21,6 @@ use Rattle.awk_layout.specs.Valid.{len}
 use Rattle.awk_layout.specs.Typing.{array_type, array_items, array_datum}
 use Rattle.awk_layout.proofs.ArrayItems.{length-array_items}
 use Rattle.awk_gather.specs.Arrays.{pick}
-use Rattle.awk_gather.specs.Counted.{item_limit}
-use Rattle.awk_gather.specs.Joined.{too_many}
 use Rattle.awk_gather.specs.Lanes.{lane_of}
 use Rattle.awk_select.specs.Cells.{places_lane, take_number}
 use Rattle.awk_select.specs.Picks.{picked, picked_type, limit_refused}

@@ -29,7 +29,8 @@ use Rattle.awk_gather.specs.Lanes.{lane_of}
 use Rattle.awk_layout.proofs.ArrayItems.{length-array_items, get_or-array_items}
 use Rattle.awk_select.specs.Cells.{is_leaf, IsBelow, place_number, places_lane, mask_numbers}
 use Rattle.awk_select.specs.Cells.{take_number}
-use Rattle.awk_select.specs.Picks.{picked, is_truths, is_mask, mask_place, mask_places, is_numbers}
+use Rattle.awk_select.specs.Picks.{picked, is_truths, is_mask, mask_place, mask_places}
+use Rattle.awk_types.specs.WholeNumbers.{is_numbers}
 use Rattle.awk_select.specs.Picks.{is_index, take_place, take_places, is_outside}
 use Rattle.awk_select.specs.Places.{place_in}
 use Rattle.awk_select.proofs.Lists.{map-map, each_of, each_of-more, each_of-room, length-each_of}

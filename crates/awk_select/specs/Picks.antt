@@ -12,11 +12,11 @@ use Rattle.awk_types.specs.Gives.{refused_or, ◌or◌}
 use Rattle.awk_types.specs.Limit.{limit}
 use Rattle.awk_types.specs.Settle.{settle}
 use Rattle.awk_types.specs.Simple.{is_option, present, simple}
+use Rattle.awk_types.specs.ItemLimit.{too_many}
 use Rattle.awk_types.specs.declared.fault.Fault.{Fault}
 use Rattle.awk_types.specs.declared.fault.Fault.TheVariants.{WrongType, Lengths, Index}
 use Rattle.awk_types.specs.declared.primitive.Primitive.TheVariants.{Bool as Truths}
 use Rattle.awk_layout.specs.Item.{at_option}
-use Rattle.awk_gather.specs.Joined.{too_many}
 use Rattle.awk_select.specs.Places.{place_in, range_places}
 
 -- ---- a place
@@ -103,12 +103,6 @@ mask_of (arr t vs) (arr u ms) = masked t vs u ms
 mask_of x m = Err WrongType
 
 -- ---- an index
-
-abbrev pub is_numbers : DataType → Bool
-is_numbers unknown = true
-is_numbers (leaf Truths) = false
-is_numbers (leaf p) = true
-is_numbers t = false
 
 -- whole numbers or unknown, optional or not
 abbrev pub is_index : DataType → Bool

@@ -11,10 +11,10 @@ ghost use Rattle.awk_axis.specs.Mapped.{IsMade};
 ghost use Rattle.awk_select.specs.Each as each;
 ghost use Rattle.awk_select.specs.Each.{item_place, AreItemPlaces};
 
-use crate::places::{number, place_in};
+use crate::places::place_in;
 use awk_axis::{ListOp, Made, Refusal, Spoil, lift_at};
 use awk_gather::gather;
-use awk_lanes::{Arena, Kind, Lane, LaneMaker, NoMemory, Steps, index_at, to_place};
+use awk_lanes::{Arena, Kind, Lane, LaneMaker, NoMemory, Steps, index_at, number, to_place};
 use awk_layout::{Array, Datum, Node};
 use awk_types::{Fault, Typ, copy_type};
 use std::alloc::Global;

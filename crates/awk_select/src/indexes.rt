@@ -6,13 +6,13 @@ ghost use Rattle.awk_types.specs.Faults.{fault_told};
 ghost use Rattle.awk_types.specs.Gives.{Gives, refused_or, ◌or◌};
 ghost use Rattle.awk_types.specs.Limit.{limit};
 ghost use Rattle.awk_types.specs.View.{typ_of};
+ghost use Rattle.awk_types.specs.ItemLimit.{too_many};
 ghost use Rattle.awk_lanes.specs.Numbers.{int_of, IsOf};
 ghost use Rattle.awk_lanes.specs.declared.kind.Kind.TheVariants as Kind;
 ghost use Rattle.awk_layout.specs.Datum.{IsDatum, datum_of};
 ghost use Rattle.awk_layout.specs.Typing.{array_type, array_items, array_datum};
 ghost use Rattle.awk_layout.specs.Valid.{len};
 ghost use Rattle.awk_gather.specs.Arrays.{array_item};
-ghost use Rattle.awk_gather.specs.Joined.{too_many};
 ghost use Rattle.awk_gather.specs.Lanes.{lane_of};
 ghost use Rattle.awk_select.specs.Cells.{AreCells, number_value, take_number};
 ghost use Rattle.awk_select.specs.Picks as picks;
@@ -20,11 +20,11 @@ ghost use Rattle.awk_select.specs.Picks.{take_of, take_places, is_outside, index
 ghost use Rattle.awk_select.specs.Picks.{picked, picked_type};
 
 use crate::cells::{Cells, cells_of};
-use crate::picked::{ITEM_LIMIT, judge_type, pick};
-use crate::places::{number, place_in, place_of};
-use awk_lanes::{Arena, Kind, Lane, LaneMaker, NoMemory, Num, Steps};
+use crate::picked::{judge_type, pick};
+use crate::places::{place_in, place_of};
+use awk_lanes::{Arena, Kind, Lane, LaneMaker, NoMemory, Num, Steps, number};
 use awk_layout::{Array, Datum};
-use awk_types::{Fault, Prim, Typ};
+use awk_types::{Fault, ITEM_LIMIT, Typ, is_numbers};
 use std::alloc::Global;
 use std::sync::ledger::Ledger;
 
@@ -49,17 +49,6 @@ pub fn take<'a, L: Ledger>(
             Datum::One(_) => Err(Fault::WrongType),
         },
         Datum::One(_) => Err(Fault::WrongType),
-    }
-}
-
-fn is_numbers(t: &Typ) -> bool
-    ensures { result ≡ picks.is_numbers (typ_of t.now) }
-{
-    match t {
-        Typ::Unknown => true,
-        Typ::Leaf(Prim::Bool) => false,
-        Typ::Leaf(_) => true,
-        _ => false,
     }
 }
 

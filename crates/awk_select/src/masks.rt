@@ -5,12 +5,12 @@ ghost use Rattle.awk_types.specs.Faults.{fault_told};
 ghost use Rattle.awk_types.specs.Gives.{Gives, refused_or};
 ghost use Rattle.awk_types.specs.Limit.{limit};
 ghost use Rattle.awk_types.specs.View.{typ_of};
+ghost use Rattle.awk_types.specs.ItemLimit.{too_many};
 ghost use Rattle.awk_lanes.specs.Numbers.{IsOf};
 ghost use Rattle.awk_lanes.specs.declared.kind.Kind.TheVariants as Kind;
 ghost use Rattle.awk_layout.specs.Datum.{IsDatum, datum_of};
 ghost use Rattle.awk_layout.specs.Typing.{array_type, array_items, array_datum};
 ghost use Rattle.awk_layout.specs.Valid.{len};
-ghost use Rattle.awk_gather.specs.Joined.{too_many};
 ghost use Rattle.awk_select.specs.Cells.{AreCells, number_value, place_number, places_lane};
 ghost use Rattle.awk_select.specs.Cells.{mask_numbers, numbers_shown};
 ghost use Rattle.awk_select.specs.Picks as picks;
@@ -18,11 +18,10 @@ ghost use Rattle.awk_select.specs.Picks.{alike, mask_of, mask_place, mask_places
 ghost use Rattle.awk_select.specs.Picks.{picked, picked_type};
 
 use crate::cells::{Cells, cells_of};
-use crate::picked::{ITEM_LIMIT, judge_type, pick};
-use crate::places::number;
-use awk_lanes::{Arena, Kind, Lane, LaneMaker, NoMemory, Num, Steps};
+use crate::picked::{judge_type, pick};
+use awk_lanes::{Arena, Kind, Lane, LaneMaker, NoMemory, Num, Steps, number};
 use awk_layout::{Array, Datum};
-use awk_types::{Fault, Prim, Typ};
+use awk_types::{Fault, ITEM_LIMIT, Prim, Typ};
 use std::alloc::Global;
 use std::sync::ledger::Ledger;
 

@@ -21,9 +21,6 @@ use awk_types::{Fault, Typ, copy_type, opt_of};
 use std::alloc::Global;
 use std::sync::ledger::Ledger;
 
-/// The most items of a column.
-pub(crate) const ITEM_LIMIT: u64 = 1_073_741_824;
-
 /// Whether a type is optional.
 pub(crate) fn is_optional(t: &Typ) -> bool
     ensures { result ≡ is_option (typ_of t.now) }

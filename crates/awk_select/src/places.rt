@@ -1,7 +1,5 @@
 //! Places that are counted from either end, bounds of ranges, and places as numbers of lanes.
-ghost use Rattle.std.specs.Prelude.{◌≡◌, ◌+◌, ◌-◌, ◌*◌, ◌<◌, ◌≤◌, ◌^◌, pos};
-ghost use Rattle.awk_lanes.specs.Numbers.{int_of, IsOf};
-ghost use Rattle.awk_lanes.specs.declared.kind.Kind.TheVariants as Kind;
+ghost use Rattle.std.specs.Prelude.{◌≡◌, ◌+◌, ◌-◌, ◌<◌, ◌≤◌, pos};
 ghost use Rattle.awk_select.specs.Cells.{number_value};
 ghost use Rattle.awk_select.specs.Picks.{take_place};
 ghost use Rattle.awk_select.specs.Places as places;
@@ -35,15 +33,6 @@ pub(crate) fn place_of(n: u64, x: Num) -> Option<u64>
         Num::Nat(k) => below(n, k),
         Num::Truth(_) => None,
     }
-}
-
-/// A place as a number of a lane.
-pub(crate) fn number(place: u64) -> Num
-    requires { place < 2 ^ 63 }
-    ensures number { int_of result ≡ pos place }
-    ensures kind { IsOf Kind.I64 result }
-{
-    Num::Int(place as i64)
 }
 
 /// A bound of a range that goes up, or what stands for one that is not given.

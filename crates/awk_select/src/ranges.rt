@@ -1,19 +1,17 @@
 //! Ranges of any step.
-ghost use Rattle.std.specs.Prelude.{◌≡◌, ◌≢◌, ◌+◌, ◌-◌, ◌*◌, ◌<◌, ◌≤◌, ◌^◌, length, pos, suc, IfOk};
+ghost use Rattle.std.specs.Prelude.{◌≡◌, ◌≢◌, ◌+◌, ◌-◌, ◌*◌, ◌<◌, ◌≤◌, ◌^◌, pos, suc, IfOk};
 ghost use Rattle.awk_types.specs.Faults.{fault_told};
 ghost use Rattle.awk_types.specs.Gives.{Gives};
-ghost use Rattle.awk_lanes.specs.declared.kind.Kind.TheVariants as Kind;
 ghost use Rattle.awk_layout.specs.Datum.{IsDatum, datum_of};
 ghost use Rattle.awk_layout.specs.Typing.{array_type, array_items};
 ghost use Rattle.awk_layout.specs.Valid.{len};
 ghost use Rattle.awk_gather.specs.Counted.{places_lane};
-ghost use Rattle.awk_gather.specs.Lanes.{lane_of};
 ghost use Rattle.awk_select.specs.Picks.{items_at, step_range_of};
 ghost use Rattle.awk_select.specs.Places as places;
 
-use crate::places::{bound_down, bound_up, number};
+use crate::places::{bound_down, bound_up};
 use awk_gather::gather;
-use awk_lanes::{Arena, Kind, Lane, LaneMaker, NoMemory, Steps};
+use awk_lanes::{Arena, Kind, Lane, LaneMaker, NoMemory, Steps, number};
 use awk_layout::{Array, Datum};
 use awk_types::Fault;
 use awk_view::range;

@@ -14,7 +14,8 @@ const CHUNK: usize = 768;
 /// Puts the encoding of bytes.
 pub fn write_base64<K: Sink>(bytes: &[u8], out: &mut Out, sink: &mut K) -> Result<(), WriteFault>
     requires open { IsTrue out.old.is_open }
-    ensures bytes { Moves (K.written sink.old) (K.written sink.new) out.new (out.old.held ++ encode_of standard bytes.now) result }
+    ensures bytes { Moves (K.written sink.old) (K.written sink.new) out.new
+        (out.old.held ++ encode_of standard bytes.now) result }
     ensures flushes { K.flushes sink.new ≡ K.flushes sink.old }
     ensures cause { HasCause (K.faults sink.old) (K.faults sink.new) result }
 {
@@ -31,7 +32,8 @@ pub fn write_base64<K: Sink>(bytes: &[u8], out: &mut Out, sink: &mut K) -> Resul
 fn write_chunk<K: Sink>(bytes: &[u8], out: &mut Out, sink: &mut K) -> Result<(), WriteFault>
     requires open { IsTrue out.old.is_open }
     requires few { length bytes.now ≤ 768 }
-    ensures bytes { Moves (K.written sink.old) (K.written sink.new) out.new (out.old.held ++ encode_of standard bytes.now) result }
+    ensures bytes { Moves (K.written sink.old) (K.written sink.new) out.new
+        (out.old.held ++ encode_of standard bytes.now) result }
     ensures flushes { K.flushes sink.new ≡ K.flushes sink.old }
     ensures cause { HasCause (K.faults sink.old) (K.faults sink.new) result }
 {

@@ -11,14 +11,20 @@ use Rattle.awk_types.specs.declared.typ.Typs.{Typs}
 use Rattle.awk_types.specs.declared.typ.Field.{Field, roll-Field}
 use Rattle.awk_types.specs.declared.typ.Fields.{Fields}
 use Rattle.awk_types.specs.declared.typ.Typ.TheOpen.{Typ-F}
-use Rattle.awk_types.specs.declared.typ.Typ.TheViews.{out-Typs, out-Fields}
-use Rattle.awk_types.specs.declared.typ.Typ.TheFolds.{fold-roll-Typ, fold-roll-Field, fold_out-Typs, fold_out-Fields}
+use Rattle.awk_types.specs.declared.typ.Typ.TheViews.{out-Typs, out-Field, out-Fields}
+use Rattle.awk_types.specs.declared.typ.Typ.TheFolds.{fold-roll-Typ, fold-roll-Field, fold_out-Typs, fold_out-Field, fold_out-Fields}
 
 pub typs_out : (ts : Typs) → typs_of ts ≡ map typ_of (out-Typs ts).items.items
 typs_out = fold_out-Typs DataType NamedType (List NamedType) (List DataType) typ_step field_step fields_step typs_step
 
 pub fields_out : (fs : Fields) → fields_of fs ≡ map field_of (out-Fields fs).items.items
 fields_out = fold_out-Fields DataType NamedType (List NamedType) (List DataType) typ_step field_step fields_step typs_step
+
+-- a field is its name and its type
+pub field_of-out : (f : Field) → field_of f ≡ record
+    { name = (out-Field f).name; typ = typ_of (out-Field f).typ }
+field_of-out = fold_out-Field DataType NamedType (List NamedType) (List DataType) typ_step
+    field_step fields_step typs_step
 
 -- the variants that hold lists
 pub typ_of-Tup : (ts : Typs) → typ_of (Tup ts) ≡ tup (types_from (typs_of ts))
@@ -30,7 +36,7 @@ typ_of-Uni ts = ap typ_of (sym (rolls-Uni ts)) ∙ fold-roll-Typ DataType NamedT
 pub typ_of-Rec : (fs : Fields) → typ_of (Rec fs) ≡ rec (names_of (fields_of fs)) (types_of (fields_of fs))
 typ_of-Rec fs = ap typ_of (sym (rolls-Rec fs)) ∙ fold-roll-Typ DataType NamedType (List NamedType) (List DataType) typ_step field_step fields_step typs_step (Typ-F.Rec fs)
 
--- a field is its name and its type
+-- a field of a name and a type
 abbrev pub named_type : Name → DataType → NamedType
 named_type name typ = record { name = name; typ = typ }
 

@@ -10,6 +10,8 @@ pub mod SameType
 pub mod Settle
 pub mod Promotion
 pub mod Limit
+pub mod ItemLimit
+pub mod WholeNumbers
 pub mod Gives
 pub mod View
 pub mod Trees

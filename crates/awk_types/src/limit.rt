@@ -1,5 +1,8 @@
-//! Limits of types.
+//! Limits of types and of columns.
 use std::alloc::{AllocError, AllocFailed};
+
+/// The most items of a column.
+pub const ITEM_LIMIT: u64 = 1_073_741_824;
 
 /// Why a type is refused.
 #[derive(Clone, Copy, Debug, PartialEq, Eq)]

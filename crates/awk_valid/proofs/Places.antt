@@ -6,10 +6,11 @@ use Rattle.std.specs.Ordering.{int_eq}
 use Rattle.std.proofs.lemmas.Int.{ints}
 use Rattle.std.proofs.lemmas.Bool.Decides.{Decides-int_eq, nat_tests}
 use Rattle.awk_types.specs.DataType.{greatest}
+use Rattle.awk_types.specs.ItemLimit.{item_limit}
 use Rattle.awk_lanes.specs.Numbers.{nat_of}
 use Rattle.awk_lanes.specs.Places.{IsSpan}
 use Rattle.awk_valid.specs.Needs.{greatest_below, reach, behind, behind_at}
-use Rattle.awk_valid.specs.Broken.{Refusal, too_many, item_limit, size_break, place_break, first_broken, rule_break, list_rule, index_rule, tag_rule}
+use Rattle.awk_valid.specs.Broken.{Refusal, too_many, size_break, place_break, first_broken, rule_break, list_rule, index_rule, tag_rule}
 use Rattle.awk_valid.specs.declared.fault.Rule.{Rule}
 use Rattle.awk_valid.specs.declared.fault.Rule.TheVariants.{Order, Start, Tag}
 

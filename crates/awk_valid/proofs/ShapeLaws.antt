@@ -8,13 +8,14 @@ use Rattle.std.proofs.lemmas.List.{drop_more}
 use Rattle.std.proofs.lemmas.Option.{slice_get_within, get_or_from_slice_get}
 use Rattle.awk_types.proofs.RefusalLaws.{refused_or-Ok, or-both}
 use Rattle.awk_types.specs.Gives.{Told, refused_or}
+use Rattle.awk_types.specs.ItemLimit.{item_limit}
 use Rattle.awk_lanes.specs.declared.kind.Kind.{Kind}
 use Rattle.awk_lanes.specs.Column.{Column}
 use Rattle.awk_lanes.specs.Places.{size_of}
 use Rattle.awk_lanes.proofs.NumberParts.{length-numbers}
 use Rattle.awk_layout.specs.Layout.{Layout, regular}
 use Rattle.awk_layout.specs.Valid.{len}
-use Rattle.awk_valid.specs.Broken.{Refusal, item_limit, size_break, shape_break}
+use Rattle.awk_valid.specs.Broken.{Refusal, size_break, shape_break}
 use Rattle.awk_valid.specs.Container.{column_at}
 use Rattle.awk_valid.specs.Loaded.{shaped}
 use Rattle.awk_valid.specs.Needs.{product}

@@ -3,6 +3,7 @@ use Rattle.std.proofs.Common.{◌≡◌, ◌≢◌, ◌<◌, ◌≤◌, ℕ, zer
 use Rattle.std.proofs.Math.Nat.{mul_assoc}
 use Rattle.awk_types.specs.Gives.{◌or◌}
 use Rattle.awk_types.specs.DataType.{Name}
+use Rattle.awk_types.specs.ItemLimit.{item_limit}
 use Rattle.awk_lanes.specs.declared.kind.Kind.{Kind}
 use Rattle.awk_lanes.specs.Places.{size_of, at, place_at, IsOptionKind, AreSpans, IsOffsets, IsIndex, IsOptionalIndex}
 use Rattle.awk_lanes.proofs.NumberParts.{length-numbers}
@@ -21,7 +22,7 @@ use Rattle.awk_valid.specs.Container.{Container, kind_of_index, column_at, index
 use Rattle.awk_valid.specs.Needs.{product, buffer_needs, reach, behind, behind_at, lists_length, index_length, tag_length, content_length}
 use Rattle.awk_valid.specs.Loaded.{shaped, layout_of, layouts_of}
 use Rattle.awk_form.specs.FormText.{key_of}
-use Rattle.awk_valid.specs.Broken.{Refusal, item_limit, buffers_break, places_break, node_break, size_break, shape_break, rule_break, list_rule, index_rule, tag_rule, broken_from, all_broken_from, broken}
+use Rattle.awk_valid.specs.Broken.{Refusal, buffers_break, places_break, node_break, size_break, shape_break, rule_break, list_rule, index_rule, tag_rule, broken_from, all_broken_from, broken}
 use Rattle.awk_valid.specs.declared.fault.Rule.TheVariants.{Empty}
 use Rattle.awk_valid.proofs.Places.{size_break-none, rule_break-none, greatest_below-at, list_rule-none, index_rule-none, below-behind, tag_rule-none, behind_at-own}
 use Rattle.awk_valid.proofs.ByteLaws.{index_kind, spans-rule, spans-length, offsets-rule, offsets-length, index-rule, index-length, tags-rule, tags-length}

@@ -5,6 +5,7 @@ use Rattle.std.specs.List.{range_with_len}
 use Rattle.std.specs.Ordering.{int_eq}
 use Rattle.awk_types.specs.Gives.{◌or◌}
 use Rattle.awk_types.specs.DataType.{Name}
+use Rattle.awk_types.specs.ItemLimit.{item_limit}
 use Rattle.awk_store.specs.declared.fault.BufferWhy.{BufferWhy}
 use Rattle.awk_store.specs.declared.fault.BufferWhy.TheVariants as why
 use Rattle.awk_form.specs.FormTree.{FormTree, empty, numpy, regular, list, list_offset, row, indexed, indexed_option, byte_masked, bit_masked, unmasked, union, FormTrees, no_forms, form}
@@ -26,10 +27,6 @@ pub data Refusal : Type 0 where
   invalid : ℕ → Rule → ℕ → Refusal
 
 -- ---- sizes
-
--- the greatest number of items of a node
-abbrev pub item_limit : ℕ
-item_limit = 1073741824
 
 abbrev pub size_break : ℕ → Option Refusal
 size_break n = if nat_lt item_limit n then Some too_many else None

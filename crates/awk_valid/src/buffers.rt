@@ -1,12 +1,13 @@
 //! The buffers of a node as lanes, and its sizes.
 ghost use Rattle.std.specs.Prelude.{◌≡◌, ◌+◌, ◌*◌, ◌/◌, ◌≤◌, IfOk};
 ghost use Rattle.awk_types.specs.Gives.{Gives, refused_or};
+ghost use Rattle.awk_types.specs.ItemLimit.{item_limit};
 ghost use Rattle.awk_lanes.specs.Bits.{bits};
 ghost use Rattle.awk_lanes.specs.Numbers.{width};
 ghost use Rattle.awk_store.specs.Buffers.{total_len};
 ghost use Rattle.awk_valid.specs.Container as container;
 ghost use Rattle.awk_valid.specs.Container.{container_of, bytes_at, index_at, int8s_at, kind_of_index};
-ghost use Rattle.awk_valid.specs.Broken.{item_limit, size_break, bytes_break};
+ghost use Rattle.awk_valid.specs.Broken.{size_break, bytes_break};
 ghost use Rattle.awk_valid.specs.Loading.{told, judged, unit};
 
 use crate::fault::LoadFault;
@@ -15,12 +16,9 @@ use crate::lanes::{bits_at, lane_at};
 use awk_form::IndexKind;
 use awk_lanes::{Bits, Kind, Lane, Steps};
 use awk_store::Store;
-use awk_types::Name;
+use awk_types::{ITEM_LIMIT, Name};
 use std::alloc::Global;
 use std::sync::ledger::Ledger;
-
-/// The greatest number of items of a node.
-const ITEM_LIMIT: u64 = 1_073_741_824;
 
 /// Refuses a node of too many items.
 pub(crate) fn judged_size(n: u64) -> Result<(), LoadFault>

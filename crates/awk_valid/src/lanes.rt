@@ -1,11 +1,11 @@
 //! The lanes of a node, from the buffers under its keys.
 ghost use Rattle.std.specs.Prelude.{◌≡◌, ◌+◌, ◌*◌, ◌/◌, ◌≤◌, nat_le, length, Some, None, if◌then◌else◌, IfOk};
 ghost use Rattle.awk_types.specs.Gives.{Gives};
+ghost use Rattle.awk_types.specs.ItemLimit.{item_limit};
 ghost use Rattle.awk_lanes.specs.Numbers.{width};
 ghost use Rattle.awk_lanes.specs.Bits.{bits};
 ghost use Rattle.awk_store.specs.Buffers.{buffer, total_len, undecoded_len};
 ghost use Rattle.awk_valid.specs.Container.{column_at};
-ghost use Rattle.awk_valid.specs.Broken.{item_limit};
 ghost use Rattle.awk_valid.specs.Loading.{told, lane_said, bits_said};
 
 use crate::fault::{BufferFault, LoadFault, buffer_fault};

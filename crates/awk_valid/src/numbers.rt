@@ -1,13 +1,14 @@
 //! The node of a form of numbers: a lane, in the regular lists of its inner shape.
 ghost use Rattle.std.specs.Prelude.{◌≡◌, ℕ, ◌+◌, ◌-◌, ◌*◌, ◌≤◌, length, drop, None, IfOk};
 ghost use Rattle.awk_types.specs.Gives.{Gives, refused_or};
+ghost use Rattle.awk_types.specs.ItemLimit.{item_limit};
 ghost use Rattle.awk_lanes.specs.Places.{size_of};
 ghost use Rattle.awk_layout.specs.Layout.{flat};
 ghost use Rattle.awk_store.specs.Buffers.{total_len};
 ghost use Rattle.awk_form.specs.FormTree.{numpy};
 ghost use Rattle.awk_layout.specs.Kinds.{kind_of};
 ghost use Rattle.awk_valid.specs.Container.{container_of};
-ghost use Rattle.awk_valid.specs.Broken.{item_limit, size_break, shape_break, node_break};
+ghost use Rattle.awk_valid.specs.Broken.{size_break, shape_break, node_break};
 ghost use Rattle.awk_valid.specs.Loaded.{shaped, layout_of};
 ghost use Rattle.awk_valid.specs.Loading.{told};
 ghost use Rattle.awk_valid.specs.Needs.{product};

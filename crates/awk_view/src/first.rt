@@ -4,12 +4,11 @@ ghost use Rattle.awk_lanes.specs.Places.{size_of};
 ghost use Rattle.awk_layout.specs.Layout.{flat, lists, offset_lists, indexed, optional};
 ghost use Rattle.awk_layout.specs.Layout.{byte_masked, bit_masked, union, layouts_from};
 ghost use Rattle.awk_layout.specs.Valid.{len, IsValid};
-ghost use Rattle.awk_view.specs.Asked.{seen};
 ghost use Rattle.awk_view.specs.Layouts.{first_items};
 
 use awk_lanes::{Bits, Lane, Steps};
 use awk_layout::{Class, Node, Nodes};
-use awk_types::{Names, NoMemory};
+use awk_types::{NoMemory, copy_names};
 use std::alloc::Global;
 use std::sync::ledger::Ledger;
 
@@ -18,16 +17,6 @@ fn boxed<'a>(alloc: Global, x: &Node<'a>) -> Result<Box<Node<'a>>, NoMemory>
     ensures { IfOk result (λ copied. copied.value ≡ x.now) }
 {
     Ok(Box::new(alloc, x.copy(alloc)?)?)
-}
-
-/// The names, where there are some.
-pub(crate) fn copy_names(alloc: Global, names: Option<&Names>) -> Result<Option<Names>, NoMemory>
-    ensures { IfOk result (λ copied. copied ≡ seen names.entry) }
-{
-    match names {
-        None => Ok(None),
-        Some(names) => Ok(Some(names.copy(alloc)?)),
-    }
 }
 
 #[tactic(auto, using(crate::proofs::FirstItems::firsts))]

@@ -6,10 +6,9 @@ ghost use Rattle.awk_layout.specs.Valid.{len, IsValid, IsByteMask, AllReach};
 ghost use Rattle.awk_lanes.specs.Places.{size_of};
 ghost use Rattle.awk_view.specs.Range.{IsPart, AreParts};
 
-use crate::first::copy_names;
 use awk_lanes::{Bits, Lane, Steps};
 use awk_layout::{Array, Class, Node, Nodes};
-use awk_types::{NoMemory, copy_type};
+use awk_types::{NoMemory, copy_names, copy_type};
 use std::alloc::Global;
 use std::sync::ledger::Ledger;
 

@@ -2,7 +2,7 @@
 ghost use Rattle.std.specs.Prelude.{◌≡◌, IfOk};
 
 use crate::node::{Inner, Node, Nodes};
-use awk_types::{Names, NoMemory};
+use awk_types::{NoMemory, copy_names};
 use std::alloc::Global;
 
 impl<'a> Node<'a> {
@@ -24,7 +24,11 @@ impl<'a> Node<'a> {
                 Inner::ListOffset(offsets.copy(), content.boxed_copy(alloc)?)
             }
             Inner::Row(names, n, contents) => {
-                Inner::Row(copy_names(alloc, names)?, *n, contents.copy(alloc)?)
+                Inner::Row(
+                    copy_names(alloc, names.as_ref())?,
+                    *n,
+                    contents.copy(alloc)?,
+                )
             }
             Inner::Indexed(index, content) => {
                 Inner::Indexed(index.copy(), content.boxed_copy(alloc)?)
@@ -68,14 +72,5 @@ impl<'a> Nodes<'a> {
             i += 1;
         }
         Ok(Nodes { nodes })
-    }
-}
-
-fn copy_names(alloc: Global, names: &Option<Names>) -> Result<Option<Names>, NoMemory>
-    ensures { IfOk result (λ copied. copied ≡ names.now) }
-{
-    match names {
-        None => Ok(None),
-        Some(names) => Ok(Some(names.copy(alloc)?)),
     }
 }

@@ -1,7 +1,6 @@
-use Rattle.std.proofs.Common.{Some, None}
 use Rattle.awk_axis.specs.Mapped.{IsLifted}
 use Rattle.awk_axis.specs.declared.lift.Mapped.TheVariants as mapped
-use Rattle.awk_axis.proofs.ItemAnswers.{IsAccepted, one_spoilt, one_made, one_size, lifted_within}
+use Rattle.awk_axis.proofs.ItemAnswers.{IsAccepted, one_spoilt, one_made, one_size}
 use Rattle.awk_axis.proofs.items.on_one.Goals as goal
 
 pub returns-in-Spoiled-clause-answer : goal.returns-in-Spoiled-clause-answer

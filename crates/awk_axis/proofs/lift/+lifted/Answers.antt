@@ -1,6 +1,5 @@
 use Rattle.std.proofs.Common.{◌+◌, arith, rules, ◌≡◌, sym, true, false, ap, ◌∙◌, map}
 use Rattle.awk_layout.specs.Typing.{array_type}
-use Rattle.awk_layout.specs.Kinds.{primitive_of}
 use Rattle.awk_axis.specs.Opened.{IsOpened}
 use Rattle.awk_axis.proofs.KindLaws.{unknown_accepted, unknown_refused, leaf_refused}
 use Rattle.awk_axis.specs.Reach.{here, inner}

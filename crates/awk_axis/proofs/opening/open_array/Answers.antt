@@ -1,5 +1,4 @@
-use Rattle.std.proofs.Common.{◌≡◌, ap, ◌∙◌}
-use Rattle.awk_gather.specs.Opened as gathers
+use Rattle.std.proofs.Common.{ap, ◌∙◌}
 use Rattle.awk_axis.specs.ListFunction.{class_of}
 use Rattle.awk_axis.proofs.OpeningLaws.{opens_nothing, opens_leaf, opens_lists, opens_option}
 use Rattle.awk_axis.proofs.OpeningLaws.{opens_row, opens_union}

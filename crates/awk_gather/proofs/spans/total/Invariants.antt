@@ -1,5 +1,6 @@
 use Rattle.std.specs.Prelude.{◌≡◌, ◌≤◌, length}
-use Rattle.awk_gather.specs.Counted.{first_of, span_at, item_limit}
+use Rattle.awk_gather.specs.Counted.{first_of, span_at}
+use Rattle.awk_types.specs.ItemLimit.{item_limit}
 use Rattle.awk_gather.proofs.spans.total.Given as goal
 
 abbrev pub invariant-loop-i : goal.invariant-loop-i

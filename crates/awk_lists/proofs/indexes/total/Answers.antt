@@ -1,6 +1,6 @@
 use Rattle.std.proofs.Common.{◌+◌, ◌<◌, arith}
 use Rattle.awk_lanes.specs.Places.{size_of}
-use Rattle.awk_gather.specs.Counted.{item_limit}
+use Rattle.awk_types.specs.ItemLimit.{item_limit}
 use Rattle.awk_lists.proofs.Offsets.{total_passed}
 use Rattle.awk_lists.proofs.indexes.total.Goals as goal
 

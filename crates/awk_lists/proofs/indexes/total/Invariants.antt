@@ -1,6 +1,6 @@
 use Rattle.std.specs.Prelude.{◌≡◌, ◌≤◌}
 use Rattle.awk_lists.specs.Lanes.{before}
-use Rattle.awk_gather.specs.Counted.{item_limit}
+use Rattle.awk_types.specs.ItemLimit.{item_limit}
 use Rattle.awk_lists.proofs.indexes.total.Given as goal
 
 abbrev pub invariant-loop-i : goal.invariant-loop-i

@@ -1,5 +1,5 @@
 use Rattle.std.proofs.Common.{◌≡◌, ◌<◌, ◌∙◌}
-use Rattle.awk_gather.specs.Counted.{item_limit}
+use Rattle.awk_types.specs.ItemLimit.{item_limit}
 use Rattle.awk_axis.specs.Joined.{IsJoined, total}
 use Rattle.awk_axis.specs.declared.opening.Joined.TheVariants.{TooMany, Lists}
 use Rattle.awk_options.specs.Lanes.{numbers_at_ends}

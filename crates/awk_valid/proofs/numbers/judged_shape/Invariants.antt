@@ -1,7 +1,8 @@
 -- What is left to judge is the shape from a place on.
 use Rattle.std.proofs.Common.{◌≡◌, ◌≤◌, ◌*◌, drop}
 use Rattle.awk_valid.specs.Needs.{product}
-use Rattle.awk_valid.specs.Broken.{item_limit, shape_break}
+use Rattle.awk_valid.specs.Broken.{shape_break}
+use Rattle.awk_types.specs.ItemLimit.{item_limit}
 use Rattle.awk_valid.proofs.numbers.judged_shape.Given as goal
 
 abbrev pub invariant-loop-i : goal.invariant-loop-i

@@ -1,7 +1,7 @@
 use Rattle.std.proofs.Common.{◌≤◌, None, Some, arith}
 use Rattle.awk_lanes.specs.Places.{size_of}
 use Rattle.awk_lists.specs.Lanes.{before, IsTotal}
-use Rattle.awk_gather.specs.Counted.{item_limit}
+use Rattle.awk_types.specs.ItemLimit.{item_limit}
 use Rattle.awk_lists.proofs.Spans.{lists_within}
 use Rattle.awk_lists.proofs.Offsets.{local-length, local_given, local_spoilt, local_fine}
 use Rattle.awk_lists.proofs.indexes.LocalIndexListOp.column.Goals as goal

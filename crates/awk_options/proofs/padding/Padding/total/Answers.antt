@@ -1,6 +1,6 @@
 use Rattle.std.proofs.Common.{◌+◌, ◌<◌, ℕ, arith}
 use Rattle.awk_lanes.specs.Places.{size_of}
-use Rattle.awk_gather.specs.Counted.{item_limit}
+use Rattle.awk_types.specs.ItemLimit.{item_limit}
 use Rattle.awk_options.specs.Lanes.{padded_span}
 use Rattle.awk_options.proofs.PadLaws.{total_passed}
 use Rattle.awk_options.proofs.padding.Padding.total.Goals as goal

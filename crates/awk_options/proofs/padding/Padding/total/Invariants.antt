@@ -1,5 +1,5 @@
 use Rattle.std.specs.Prelude.{◌≡◌, ◌≤◌}
-use Rattle.awk_gather.specs.Counted.{item_limit}
+use Rattle.awk_types.specs.ItemLimit.{item_limit}
 use Rattle.awk_options.specs.Lanes.{before, padded_span}
 use Rattle.awk_options.proofs.padding.Padding.total.Given as goal
 

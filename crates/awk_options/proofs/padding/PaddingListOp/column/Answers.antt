@@ -1,6 +1,6 @@
 use Rattle.std.proofs.Common.{◌≡◌, ◌≤◌, ℕ, None, Some, ◌∙◌, arith}
 use Rattle.awk_lanes.specs.Places.{size_of}
-use Rattle.awk_gather.specs.Counted.{item_limit}
+use Rattle.awk_types.specs.ItemLimit.{item_limit}
 use Rattle.awk_options.specs.Lanes.{padded_span, before, IsTotal}
 use Rattle.awk_options.proofs.Spans.{lists_within}
 use Rattle.awk_options.proofs.PadGiven.{padded_index, padded_fits, padded_given, padded_spoilt}
