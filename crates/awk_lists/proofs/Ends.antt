@@ -16,7 +16,7 @@ use Rattle.awk_types.specs.ItemLimit.{item_limit}
 use Rattle.awk_lanes.specs.Column.{Column}
 use Rattle.awk_lanes.specs.Numbers.{nat_of}
 use Rattle.awk_lanes.specs.Places.{size_of, at, place_at, option_place}
-use Rattle.awk_lanes.specs.Places.{IsIndex, IsIndexKind}
+use Rattle.awk_lanes.specs.Places.{IsIndexKind}
 use Rattle.awk_lanes.specs.declared.kind.Kind.TheVariants.{I64}
 use Rattle.awk_layout.specs.Layout.{Layout}
 use Rattle.awk_layout.specs.Item.{run, at_option}
@@ -28,11 +28,9 @@ use Rattle.awk_gather.specs.Arrays.{array_item}
 use Rattle.awk_gather.specs.Columns.{joined_items, list_items, is_present}
 use Rattle.awk_gather.specs.Counted.{first_of, present_at, present_place}
 use Rattle.awk_gather.specs.Counted.{offset_at}
-use Rattle.awk_gather.specs.Lanes.{picked}
 use Rattle.awk_gather.proofs.FirstPlaces.{length-first_of}
 use Rattle.awk_gather.proofs.ItemShapes.{present_item}
 use Rattle.awk_gather.proofs.MadeLanes.{size-lane_of, at-lane_of}
-use Rattle.awk_gather.proofs.PickedLanes.{size-picked, at-picked}
 use Rattle.awk_axis.specs.Columns.{present_values}
 use Rattle.awk_axis.specs.Joined.{AreOffsets, JoinsLists, IsJoined}
 use Rattle.awk_axis.specs.ListFunction.{Class, list_type}
@@ -43,7 +41,7 @@ use Rattle.awk_axis.proofs.ArrayLaws.{lists-inner}
 use Rattle.awk_lists.specs.Flatten.{is_list, item_type}
 use Rattle.awk_lists.specs.Listed.{items_before, present_lane, AreEnds}
 use Rattle.awk_lists.specs.Listed.{IsListed}
-use Rattle.awk_lists.proofs.JoinedItems.{joined-present, items_before-next}
+use Rattle.awk_lists.proofs.JoinedItems.{items_before-next}
 
 -- ---- offsets
 
@@ -91,8 +89,8 @@ rising_offsets o n whole f kind size fits here m first last =
 
 -- ---- lists joined
 
-pub joined_at : (s t : Column) (y : Layout) (o : Column) (z : Layout) → JoinsLists s t y o z → (i : ℕ)
-    → i ≤ size_of s → at o i ≡ pos (place_at o i)
+pub joined_at : (s t : Column) (y : Layout) (o : Column) (z : Layout) → JoinsLists s t y o z
+    → (i : ℕ) → i ≤ size_of s → at o i ≡ pos (place_at o i)
 joined_at s t y o z j i p =
     let e : at o i ≡ offset_at s t i = ap (λ c. at c i) j.lane
     ∙ at-lane_of I64 (size_of s + 1) (offset_at s t) i (omega (arith, p)) in
@@ -158,7 +156,7 @@ empty_list : (vs : List Value) → length vs ≡ 0 → vs ≡ []
 empty_list [] e = refl
 empty_list (v ∷ vs) e = absurd (omega (arith, e))
 
-no_items : (x : Layout) → len x ≡ 0 → array_items x ≡ []
+pub no_items : (x : Layout) → len x ≡ 0 → array_items x ≡ []
 no_items x e = empty_list (array_items x) (length-array_items x ∙ e)
 
 no_ends : (o : Column) → o ≡ record { kind = I64; items = pos 0 ∷ [] } → AreEnds o []
@@ -184,7 +182,7 @@ nothing_listed x o v n e =
 
 -- ---- options
 
-list_not_option : (t : DataType) → is_list t ≡ true → is_option t ≡ false
+pub list_not_option : (t : DataType) → is_list t ≡ true → is_option t ≡ false
 list_not_option unknown e = refl
 list_not_option (leaf p) e = refl
 list_not_option (var t) e = refl
@@ -194,7 +192,7 @@ list_not_option (tup ts) e = refl
 list_not_option (uni ts) e = refl
 list_not_option (opt t) e = cc
 
-list_present : (t : DataType) → is_list t ≡ true → present t ≡ t
+pub list_present : (t : DataType) → is_list t ≡ true → present t ≡ t
 list_present unknown e = refl
 list_present (leaf p) e = refl
 list_present (var t) e = refl
@@ -239,7 +237,7 @@ count_present j y x op n (suc i) p =
     subst (λ k. length (first_of (present_at j) k)
     ≡ length (present_values (take k (array_items x)))) e (omega (arith, before, here, a, b))
 
-take_present : (vs : List Value) (i : ℕ)
+pub take_present : (vs : List Value) (i : ℕ)
     → take (length (present_values (take i vs))) (present_values vs) ≡ present_values (take i vs)
 take_present vs i =
     ap (λ ws. take (length (present_values (take i vs))) (present_values ws))
@@ -248,22 +246,15 @@ take_present vs i =
     (filter-append is_present (take i vs) (drop i vs))
     ∙ take-append_seam (present_values (take i vs)) (present_values (drop i vs))
 
--- the lists before a place are the present ones before it
-before_present : (vs : List Value) (i : ℕ)
-    → items_before (present_values vs) (length (present_values (take i vs))) ≡ items_before vs i
-before_present vs i =
-    ap (λ ws. length (joined_items ws)) (take_present vs i)
-    ∙ ap length (joined-present (take i vs))
-
-size-counts : (j : Column) → size_of (present_lane j) ≡ size_of j + 1
+pub size-counts : (j : Column) → size_of (present_lane j) ≡ size_of j + 1
 size-counts j = size-lane_of I64 (size_of j + 1) (λ i. pos (length (first_of (present_at j) i)))
 
-at-counts : (j : Column) (i : ℕ) → i ≤ size_of j
+pub at-counts : (j : Column) (i : ℕ) → i ≤ size_of j
     → at (present_lane j) i ≡ pos (length (first_of (present_at j) i))
 at-counts j i p = at-lane_of I64 (size_of j + 1) (λ k. pos (length (first_of (present_at j) k))) i
     (omega (arith, p))
 
-filter_few : (vs : List Value) (i : ℕ)
+pub filter_few : (vs : List Value) (i : ℕ)
     → length (present_values (take i vs)) ≤ length (present_values vs)
 filter_few vs i =
     let e : length (present_values vs)
@@ -272,63 +263,3 @@ filter_few vs i =
     ∙ ap length (filter-append is_present (take i vs) (drop i vs))
     ∙ length-append (present_values (take i vs)) (present_values (drop i vs)) in
     omega (arith, e)
-
-option_end : (j : Column) (y x : Layout) (o : Column) → OpensOption j y x
-    → is_list (array_type y) ≡ true → AreEnds o (array_items y) → (i : ℕ) → i ≤ len x
-    → at (picked o (present_lane j)) i ≡ pos (items_before (array_items x) i)
-option_end j y x o op l h i p =
-    let c = count_present j y x op (list_not_option (array_type y) l) i p in
-    let q : i < size_of (present_lane j) = omega (arith, p, op.size, size-counts j) in
-    let here : place_at (present_lane j) i ≡ length (present_values (take i (array_items x))) =
-    ap nat_of (at-counts j i (omega (arith, p, op.size))) ∙ c in
-    let few = filter_few (array_items x) i in
-    let s : length (array_items y) ≡ length (present_values (array_items x)) =
-    ap length op.column in
-    at-picked o (present_lane j) i q
-    ∙ ap (at o) here
-    ∙ h.ends (length (present_values (take i (array_items x)))) (omega (arith, few, s))
-    ∙ ap (λ vs. pos (items_before vs (length (present_values (take i (array_items x))))))
-    op.column
-    ∙ ap pos (before_present (array_items x) i)
-
-pub option_places : (j : Column) (y x : Layout) (o : Column) → OpensOption j y x
-    → is_list (array_type y) ≡ true → AreEnds o (array_items y)
-    → IsIndex (present_lane j) (size_of o)
-option_places j y x o op l h = record {
-  kind = tt;
-  places = λ i p.
-      let q : i ≤ len x = omega (arith, p, op.size, size-counts j) in
-      let e = at-counts j i (omega (arith, q, op.size)) in
-      let c = count_present j y x op (list_not_option (array_type y) l) i q in
-      let few = filter_few (array_items x) i in
-      let s : length (array_items y) ≡ length (present_values (array_items x)) =
-      ap length op.column in
-      (rw e (omega (arith, ints)), rw e (omega (arith, c, few, s, h.size)));
-}
-
-pub option_listed : (j : Column) (y x : Layout) (o : Column) (z : Layout) → OpensOption j y x
-    → is_list (array_type y) ≡ true → IsListed y (Lists o z)
-    → IsListed x (Lists (picked o (present_lane j)) z)
-option_listed j y x o z op l h =
-    let all : joined_items (array_items y) ≡ joined_items (array_items x) =
-    ap joined_items op.column ∙ joined-present (array_items x) in (
-      subst (λ n. n ≤ item_limit) (ap length all) h.0,
-      record {
-        typ = h.1.typ ∙ ap item_type (list_present (array_type y) l
-            ∙ sym (ap present op.typ));
-        valid = h.1.valid;
-        ends = record {
-          kind = h.1.ends.kind;
-          size = size-picked o (present_lane j) ∙ size-counts j ∙ ap (λ n. n + 1) (op.size ∙ sym (length-array_items x));
-          ends = λ i p. option_end j y x o op l h.1.ends i
-              (omega (arith, p, length-array_items x));
-        };
-        column = h.1.column ∙ all;
-      },
-    )
-
-pub option_refused : (j : Column) (y x : Layout) → OpensOption j y x → IsListed y TooMany
-    → IsListed x TooMany
-option_refused j y x op h =
-    subst (λ n. item_limit < n)
-    (ap length (ap joined_items op.column ∙ joined-present (array_items x))) h

@@ -10,7 +10,7 @@ use Rattle.std.proofs.lemmas.List.Concat.{length-flat_map}
 use Rattle.std.proofs.lemmas.List.Folds.{flat_map-map}
 use Rattle.std.proofs.lemmas.List.FromFn.{take-map-range_with_len}
 use Rattle.std.proofs.lemmas.List.Sums.{sum-map}
-use Rattle.awk_types.specs.Value.{Value, null, int, truth, list, row, alt, value_list}
+use Rattle.awk_types.specs.Value.{Value, null, value_list}
 use Rattle.awk_layout.specs.Layout.{Layout}
 use Rattle.awk_layout.specs.Item.{run}
 use Rattle.awk_layout.specs.Typing.{array_items}
@@ -18,19 +18,8 @@ use Rattle.awk_layout.specs.Valid.{len}
 use Rattle.awk_layout.proofs.Runs.{value_list-run}
 use Rattle.awk_gather.specs.Arrays.{array_item}
 use Rattle.awk_gather.specs.Columns.{joined_items, list_items}
-use Rattle.awk_axis.specs.Columns.{present_values}
 use Rattle.awk_axis.proofs.ArrayLaws.{array_items-at}
 use Rattle.awk_lists.specs.Listed.{items_before}
-
--- null has no items
-pub joined-present : (vs : List Value) → joined_items (present_values vs) ≡ joined_items vs
-joined-present [] = refl
-joined-present (null ∷ vs) = joined-present vs
-joined-present (int z ∷ vs) = joined-present vs
-joined-present (truth b ∷ vs) = joined-present vs
-joined-present (list ws ∷ vs) = ap (λ us. value_list ws ++ us) (joined-present vs)
-joined-present (row ws ∷ vs) = joined-present vs
-joined-present (alt k v ∷ vs) = joined-present vs
 
 -- ---- parts
 
@@ -56,7 +45,7 @@ take-none : (n : ℕ) → take {A = Value} n [] ≡ []
 take-none zero = refl
 take-none (suc n) = refl
 
-take-take : (vs : List Value) (a n : ℕ) → take a (take (a + n) vs) ≡ take a vs
+pub take-take : (vs : List Value) (a n : ℕ) → take a (take (a + n) vs) ≡ take a vs
 take-take vs zero n = refl
 take-take [] (suc a) n = ap (take (suc a)) (take-none (suc a + n))
 take-take (v ∷ vs) (suc a) n =
@@ -68,7 +57,8 @@ pub items_before-add : (vs : List Value) (a n : ℕ)
     → items_before vs (a + n) ≡ items_before vs a + items_before (drop a vs) n
 items_before-add vs a n =
     ap length (joined-split (take (a + n) vs) a)
-    ∙ length-append (joined_items (take a (take (a + n) vs))) (joined_items (drop a (take (a + n) vs)))
+    ∙ length-append (joined_items (take a (take (a + n) vs)))
+    (joined_items (drop a (take (a + n) vs)))
     ∙ ap (λ ws. length (joined_items ws) + length (joined_items (drop a (take (a + n) vs))))
     (take-take vs a n)
     ∙ ap (λ ws. items_before vs a + length (joined_items ws)) (drop-take a n vs)

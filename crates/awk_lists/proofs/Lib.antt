@@ -4,6 +4,8 @@ pub mod Singles
 pub mod JoinedItems
 pub mod Ends
 pub mod Flattened
+pub mod HeldLists
+pub mod MovedSpans
 pub mod Leaves
 pub mod Cuts
 pub mod RunLaws

@@ -10,6 +10,7 @@ use Rattle.awk_types.specs.declared.fault.Fault.TheVariants.{NoField}
 use Rattle.awk_lists.specs.Num.{num_of}
 use Rattle.awk_lists.specs.LocalIndex.{local_index_of}
 use Rattle.awk_lists.specs.Flatten.{flatten_of}
+use Rattle.awk_lists.specs.Held.{held_lists}
 use Rattle.awk_lists.specs.Unflatten.{unflatten_of}
 use Rattle.awk_lists.specs.RunLengths.{run_lengths_of}
 use Rattle.awk_lists.specs.WithoutField.{without_field_of}
@@ -91,6 +92,11 @@ flatten_1 = refl
 flatten_null_as_empty : flatten_of (pos 1) holes
     ≡ Ok (arr (opt int64) (int (pos 1) ∷ null ∷ int (pos 3) ∷ []))
 flatten_null_as_empty = refl
+
+-- an empty list and null hold no item
+held_lists_alone : held_lists (ints_list [] ∷ ints_list (pos 4 ∷ []) ∷ null ∷ [])
+    ≡ ints_list (pos 4 ∷ []) ∷ []
+held_lists_alone = refl
 
 flatten_0 : flatten_of (pos 0) jagged ≡ Err Axis
 flatten_0 = refl

@@ -1,10 +1,10 @@
 -- Lanes that are made of lists by their starts and stops.
-use Rattle.std.specs.Prelude.{◌≡◌, ℕ, zero, suc, ◌+◌, ◌-◌, ◌<◌, ◌≤◌, List, [], ◌++◌, map, pos}
-use Rattle.std.specs.Prelude.{ℤ, Option, Some, None}
+use Rattle.std.specs.Prelude.{◌≡◌, ℕ, zero, suc, ◌+◌, ◌-◌, ◌==◌, ◌<◌, ◌≤◌, List, [], ◌++◌, map}
+use Rattle.std.specs.Prelude.{ℤ, pos, ◌≤ℤ◌, Option, Some, None, if◌then◌else◌}
 use Rattle.std.specs.List.{range_with_len}
 use Rattle.awk_lanes.specs.declared.kind.Kind.TheVariants.{I64}
 use Rattle.awk_lanes.specs.Column.{Column}
-use Rattle.awk_lanes.specs.Places.{size_of, place_at}
+use Rattle.awk_lanes.specs.Places.{size_of, at, place_at, IsIndexKind}
 use Rattle.awk_gather.specs.Lanes.{lane_of}
 use Rattle.awk_types.specs.ItemLimit.{item_limit}
 
@@ -38,3 +38,16 @@ local_lane s t = record { kind = I64; items = local_places s t (size_of s) }
 abbrev pub IsTotal : Column → Column → Option ℕ → Type 0
 IsTotal s t None = item_limit < before s t (size_of s)
 IsTotal s t (Some n) = (n ≡ before s t (size_of s)) × (n ≤ item_limit)
+
+-- ends of lists are places of a lane, where the lists have items
+pub record AreListEnds (c s t ends : Column) : Type 0 where
+  pub kind : IsIndexKind ends.kind
+  pub size : size_of ends ≡ size_of s
+  pub places : (i : ℕ) → i < size_of s → 0 < span_length s t i
+      → (pos 0 ≤ℤ at ends i) × (place_at ends i < size_of c)
+
+-- the numbers of a lane at ends of lists, and 0 where a list has no items
+abbrev pub numbers_at_ends : Column → Column → Column → Column → Column
+numbers_at_ends c s t ends =
+    lane_of I64 (size_of s)
+    (λ i. if span_length s t i == 0 then pos 0 else at c (place_at ends i))

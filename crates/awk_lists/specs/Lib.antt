@@ -3,6 +3,7 @@ pub mod Num
 pub mod LocalIndex
 pub mod Flatten
 pub mod Listed
+pub mod Held
 pub mod Numbers
 pub mod Unflatten
 pub mod RunLengths

@@ -1,11 +1,14 @@
 //! Operations on lists: their lengths, their places, and lists joined, cut and counted.
 #![tactic(auto)]
 
+mod counting;
 mod cutting;
 mod fields;
+mod holding;
 mod indexes;
 mod joining;
 mod length;
+mod moved;
 mod numbers;
 mod runs;
 

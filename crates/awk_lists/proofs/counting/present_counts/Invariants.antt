@@ -3,7 +3,7 @@ use Rattle.awk_lanes.specs.Places.{size_of}
 use Rattle.awk_lanes.specs.declared.kind.Kind.TheVariants as Kind
 use Rattle.awk_gather.specs.Counted.{first_of, present_at}
 use Rattle.awk_gather.proofs.MadeLanes.{IsSoFar}
-use Rattle.awk_lists.proofs.joining.present_counts.Given as goal
+use Rattle.awk_lists.proofs.counting.present_counts.Given as goal
 
 abbrev pub invariant-loop-i : goal.invariant-loop-i
 invariant-loop-i g l = record {

@@ -1,6 +1,6 @@
 use Rattle.awk_lanes.specs.Places.{size_of, at, place_at}
 use Rattle.awk_gather.proofs.MadeLanes.{IsSoFar}
-use Rattle.awk_lists.proofs.joining.offsets_at.Given as goal
+use Rattle.awk_lists.proofs.counting.offsets_at.Given as goal
 
 abbrev pub invariant-loop-i : goal.invariant-loop-i
 invariant-loop-i g l =

@@ -6,7 +6,7 @@ use Rattle.awk_lanes.specs.declared.kind.Kind.TheVariants.{I64}
 use Rattle.awk_gather.specs.Counted.{first_of, present_at}
 use Rattle.awk_gather.proofs.FirstPlaces.{length-first_of, present-few}
 use Rattle.awk_gather.proofs.MadeLanes.{so_far_pushed, made_size}
-use Rattle.awk_lists.proofs.joining.present_counts.Goals as goal
+use Rattle.awk_lists.proofs.counting.present_counts.Goals as goal
 
 pub overflow_add-count : goal.overflow_add-count
 overflow_add-count g c =

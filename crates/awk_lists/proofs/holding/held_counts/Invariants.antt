@@ -1,0 +1,14 @@
+use Rattle.std.specs.Prelude.{◌≡◌, ◌+◌, length, pos}
+use Rattle.awk_lanes.specs.Places.{size_of}
+use Rattle.awk_lanes.specs.declared.kind.Kind.TheVariants as Kind
+use Rattle.awk_gather.specs.Counted.{first_of}
+use Rattle.awk_gather.proofs.MadeLanes.{IsSoFar}
+use Rattle.awk_lists.specs.Held.{held_at}
+use Rattle.awk_lists.proofs.holding.held_counts.Given as goal
+
+abbrev pub invariant-loop-i : goal.invariant-loop-i
+invariant-loop-i g l = record {
+  count : l.count ≡ length (first_of (held_at l.starts l.stops) l.i);
+  made : IsSoFar Kind.I64 (size_of l.starts + 1)
+      (λ j. pos (length (first_of (held_at l.starts l.stops) j))) (l.i + 1) l.maker;
+}

@@ -1,0 +1,78 @@
+use Rattle.std.proofs.Common.{◌<◌, IfOk, None}
+use Rattle.awk_lanes.specs.Column.{Column}
+use Rattle.awk_types.specs.ItemLimit.{item_limit}
+use Rattle.awk_axis.specs.Joined.{IsJoined, total}
+use Rattle.awk_axis.specs.Mapped.{IsMade}
+use Rattle.awk_axis.specs.declared.opening.Joined.TheVariants.{TooMany}
+use Rattle.awk_axis.proofs.IfOk.{if_ok}
+use Rattle.awk_lists.specs.Flatten.{flatten_function}
+use Rattle.awk_lists.specs.Lanes.{numbers_at_ends}
+use Rattle.awk_lists.proofs.MovedSpans.{starts_are, stops_are, moved_spans, moved_spoilt}
+use Rattle.awk_lists.proofs.MovedSpans.{held_typ, moved_made}
+use Rattle.awk_lists.proofs.Spans.{lists_within}
+use Rattle.awk_lists.proofs.joining.held_rows.Goals as goal
+
+pub numbers_at_ends-requires-clause-spans : goal.numbers_at_ends-requires-clause-spans
+numbers_at_ends-requires-clause-spans g c =
+    lists_within c.args.class c.args.starts.now c.args.stops.now c.args.content.now
+    c.requires.spans
+
+pub numbers_at_ends-requires-clause-ends : goal.numbers_at_ends-requires-clause-ends
+numbers_at_ends-requires-clause-ends g c =
+    starts_are c.args.class c.args.starts.now c.args.stops.now c.args.content.now
+    c.requires.spans c.args.counts.now c.args.lists.now c.requires.lists
+
+pub numbers_at_ends-requires-2-clause-spans : goal.numbers_at_ends-requires-2-clause-spans
+numbers_at_ends-requires-2-clause-spans g c =
+    lists_within c.args.class c.args.starts.now c.args.stops.now c.args.content.now
+    c.requires.spans
+
+pub numbers_at_ends-requires-2-clause-ends : goal.numbers_at_ends-requires-2-clause-ends
+numbers_at_ends-requires-2-clause-ends g c =
+    stops_are c.args.class c.args.starts.now c.args.stops.now c.args.content.now
+    c.requires.spans c.args.counts.now c.args.lists.now c.requires.lists
+
+pub join_spans-requires : goal.join_spans-requires
+join_spans-requires g c =
+    rw (c.in_ok-firsts.ensures, c.in_ok-ends.ensures)
+    (moved_spans c.args.class c.args.starts.now c.args.stops.now c.args.content.now
+    c.requires.spans c.args.counts.now c.args.lists.now c.requires.lists)
+
+pub joined_rows-requires-clause-lists : goal.joined_rows-requires-clause-lists
+joined_rows-requires-clause-lists g c =
+    held_typ c.args.class c.args.starts.now c.args.stops.now c.args.content.now
+    c.requires.spans c.args.counts.now c.args.lists.now c.requires.lists c.requires.accepted
+
+pub joined_rows-requires-clause-spans : goal.joined_rows-requires-clause-spans
+joined_rows-requires-clause-spans g c =
+    rw (c.in_ok-firsts.ensures, c.in_ok-ends.ensures)
+    (moved_spans c.args.class c.args.starts.now c.args.stops.now c.args.content.now
+    c.requires.spans c.args.counts.now c.args.lists.now c.requires.lists)
+
+pub returns-in-TooMany : goal.returns-in-TooMany
+returns-in-TooMany g c =
+    let j : IsJoined c.in_ok-firsts.firsts c.in_ok-ends.ends c.args.lists.now TooMany =
+    rw c.in-TooMany.is at c.in_ok-join_spans.ensures in
+    let k : item_limit < total
+    (numbers_at_ends c.args.counts.now c.args.starts.now c.args.stops.now c.args.starts.now)
+    (numbers_at_ends c.args.counts.now c.args.starts.now c.args.stops.now c.args.stops.now)
+    c.args.lists.now =
+    rw (c.in_ok-firsts.ensures, c.in_ok-ends.ensures) at j in
+    moved_spoilt c.args.class c.args.starts.now c.args.stops.now c.args.content.now
+    c.requires.spans c.args.counts.now c.args.lists.now c.requires.lists k
+
+pub returns-in-Lists : goal.returns-in-Lists
+returns-in-Lists g c =
+    let firsts : Column =
+    numbers_at_ends c.args.counts.now c.args.starts.now c.args.stops.now c.args.starts.now in
+    let ends : Column =
+    numbers_at_ends c.args.counts.now c.args.starts.now c.args.stops.now c.args.stops.now in
+    let made : IfOk c.joined_rows.result
+    (IsMade flatten_function None firsts ends c.args.lists.now) =
+    rw (c.in_ok-firsts.ensures, c.in_ok-ends.ensures) at c.joined_rows.ensures in
+    if_ok (IsMade flatten_function None firsts ends c.args.lists.now)
+    (IsMade flatten_function c.args.class c.args.starts.now c.args.stops.now c.args.content.now)
+    c.joined_rows.result
+    (moved_made c.args.class c.args.starts.now c.args.stops.now c.args.content.now
+    c.requires.spans c.args.counts.now c.args.lists.now c.requires.lists c.requires.accepted)
+    made
