@@ -1,7 +1,0 @@
-use Rattle.std.proofs.Common.{◌∙◌}
-use Rattle.std.proofs.lemmas.Result.{IfOk-weaker}
-use Rattle.awk_merge.proofs.Steps.{union_alternatives}
-use Rattle.awk_merge.proofs.alternatives.alternatives_of.Goals as goal
-
-pub returns-in-Uni : goal.returns-in-Uni
-returns-in-Uni c = IfOk-weaker c.copy.result _ _ (λ ts e. e ∙ union_alternatives _ _ c.in-Uni.is) c.copy.ensures

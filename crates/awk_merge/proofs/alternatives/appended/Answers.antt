@@ -1,6 +1,0 @@
-use Rattle.awk_merge.proofs.PlacedLaws.{appended_is}
-use Rattle.awk_merge.proofs.Views.{lift_of-Same}
-use Rattle.awk_merge.proofs.alternatives.appended.Goals as goal
-
-pub returns : goal.returns
-returns c = appended_is _ _ _ _ _ _ _ _ _ c.in_ok-push.ensures.ok c.in_ok-typs.ensures c.in_ok-copy_type.ensures c.in_ok-all_same.ensures c.len.ensures c.len-2.ensures lift_of-Same

@@ -1,7 +1,0 @@
-use Rattle.std.proofs.Common.{◌≡◌, ◌++◌}
-use Rattle.awk_merge.specs.Carries.{kept_each}
-use Rattle.awk_merge.specs.View.{lifts_of}
-use Rattle.awk_merge.proofs.placed.push_same.Given as goal
-
-abbrev pub invariant-loop-i : goal.invariant-loop-i
-invariant-loop-i l = lifts_of l.made ≡ lifts_of l.fn.made ++ kept_each l.i

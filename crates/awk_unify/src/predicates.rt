@@ -1,0 +1,44 @@
+//! Tests of types.
+ghost use Rattle.std.specs.Prelude.{◌≡◌, ◌≤◌};
+ghost use Rattle.awk_types.specs.SameType.{same_type};
+ghost use Rattle.awk_types.specs.Simple.{is_option, is_union as is_uni, present as present_of};
+ghost use Rattle.awk_types.specs.View.{typ_of};
+ghost use Rattle.awk_types.specs.declared.typ.Typ.{size-Typ};
+ghost use Rattle.awk_unify.specs.Unify as rule;
+
+use awk_types::{Typ, same};
+
+pub(crate) fn is_same(a: &Typ, b: &Typ) -> bool
+    ensures { result ≡ same_type (typ_of a.now) (typ_of b.now) }
+{
+    same(a, b)
+}
+
+pub(crate) fn is_unknown(t: &Typ) -> bool
+    ensures { result ≡ rule.is_unknown (typ_of t.now) }
+{
+    matches!(t, Typ::Unknown)
+}
+
+pub(crate) fn is_optional(t: &Typ) -> bool
+    ensures { result ≡ is_option (typ_of t.now) }
+{
+    matches!(t, Typ::Opt(_))
+}
+
+pub(crate) fn is_union(t: &Typ) -> bool
+    ensures { result ≡ is_uni (typ_of t.now) }
+{
+    matches!(t, Typ::Uni(_))
+}
+
+/// The type without its option.
+pub(crate) fn present(t: &Typ) -> &Typ
+    ensures item { typ_of result.now ≡ present_of (typ_of t.now) }
+    ensures within { size-Typ result.now ≤ size-Typ t.now }
+{
+    match t {
+        Typ::Opt(item) => item,
+        _ => t,
+    }
+}
