@@ -14,6 +14,7 @@ mod several;
 mod unified;
 mod unifying;
 
+pub use fields::field_names;
 pub use lift::{Lift, Lifts, copy_lift};
 pub use places::Places;
 pub use several::{UnifiedAll, unify_all};
