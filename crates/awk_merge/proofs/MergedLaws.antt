@@ -5,6 +5,7 @@ use Rattle.std.proofs.lemmas.Option.{slice_get-map}
 use Rattle.std.specs.List.{AllByRecursion}
 use Rattle.std.specs.Prelude.{option_map}
 use Rattle.awk_types.proofs.Trees.{type_list-from, types_from-list}
+use Rattle.awk_types.proofs.Views.{typ_of-Rec, typ_of-Tup}
 use Rattle.awk_types.specs.DataType.{DataType, Name, leaf, opt, rec, reg, row_type, tup, type_list, types_from, uni, unknown, var}
 use Rattle.awk_types.specs.Has.{Has}
 use Rattle.awk_types.specs.Simple.{simple_value}
@@ -12,8 +13,7 @@ use Rattle.awk_types.specs.Value.{Value}
 use Rattle.awk_types.specs.View.{NamedType, field_of, fields_of, typ_of, typs_of}
 use Rattle.awk_types.specs.declared.typ.Field.{Field}
 use Rattle.awk_types.specs.declared.typ.Fields.{Fields}
-use Rattle.awk_types.specs.declared.typ.Typ.{Typ}
-use Rattle.awk_types.specs.declared.typ.Typ.TheVariants.{Rec, Tup}
+use Rattle.awk_types.specs.declared.typ.Typ.{Rec, Tup, Typ}
 use Rattle.awk_types.specs.declared.typ.Typs.{Typs}
 use Rattle.awk_layout.specs.Array.{IsArrayType}
 use Rattle.awk_layout.specs.Item.{item}
@@ -30,9 +30,9 @@ use Rattle.awk_merge.specs.declared.groups.Groups.{Groups}
 
 -- ---- one column, and none
 
-kept : (f : Carry) (vs : List Value) → f ≡ keep → map (carried f) vs ≡ vs
-kept f [] e = refl
-kept f (v ∷ vs) e = rw e (ap (λ ws. v ∷ ws) (kept keep vs refl))
+kept : (vs : List Value) → map (carried keep) vs ≡ vs
+kept [] = refl
+kept (v ∷ vs) = ap (λ ws. v ∷ ws) (kept vs)
 
 -- the only column is all, where its values stay
 pub only_merged : (t : DataType) (ss : List Side) (s : Side) → length ss ≡ 1
@@ -42,10 +42,9 @@ only_merged t (x ∷ []) s n e k h =
     let same : x ≡ s = cc in
     record {
       typ = h;
-      items = sym (
-        ap (λ y. merged_items (y ∷ [])) same ∙ append-nil (side_items s)
-        ∙ kept s.carry (array_items s.column) k
-      );
+      items = sym
+          (ap (λ y. merged_items (y ∷ [])) same ∙ append-nil (side_items s)
+          ∙ ap (λ f. map (carried f) (array_items s.column)) k ∙ kept (array_items s.column));
     }
 only_merged t (x ∷ y ∷ ss) s n e k h = absurd (omega (arith, n))
 
@@ -98,11 +97,14 @@ rows_merged t ss n r ys k e l m =
 
 -- the parts of a tuple, and of a record
 pub tuple_parts : (t : Typ) (ts : Typs) → t ≡ Tup ts → row_parts (typ_of t) ≡ typs_of ts
-tuple_parts t ts e = rw e (type_list-from (typs_of ts))
+tuple_parts t ts e =
+    ap (λ u. row_parts (typ_of u)) e ∙ ap row_parts (typ_of-Tup ts) ∙ type_list-from (typs_of ts)
 
 pub record_parts : (t : Typ) (fs : Fields) → t ≡ Rec fs
     → row_parts (typ_of t) ≡ map (λ f. f.typ) (fields_of fs)
-record_parts t fs e = rw e (type_list-from (map (λ f. f.typ) (fields_of fs)))
+record_parts t fs e =
+    ap (λ u. row_parts (typ_of u)) e ∙ ap row_parts (typ_of-Rec fs)
+    ∙ type_list-from (map (λ f. f.typ) (fields_of fs))
 
 pub field_types-get : (fs : List NamedType) (j : ℕ) (f : NamedType) → slice_get fs j ≡ Some f
     → slice_get (map (λ g. g.typ) fs) j ≡ Some f.typ
