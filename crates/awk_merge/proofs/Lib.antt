@@ -1,1 +1,2 @@
 pub mod SideLaws
+pub mod NumberLaws

@@ -1,3 +1,4 @@
 pub mod Sides
 pub mod Lifts
+pub mod Leaves
 pub mod Levels
