@@ -1,4 +1,5 @@
 pub mod Sides
 pub mod Lifts
 pub mod Leaves
+pub mod Present
 pub mod Levels
