@@ -1,3 +1,4 @@
 pub mod SideLaws
 pub mod NumberLaws
 pub mod OptionLaws
+pub mod GroupLaws

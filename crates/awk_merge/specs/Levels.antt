@@ -90,11 +90,11 @@ row_parts (rec ns ts) = type_list ts
 row_parts (tup ts) = type_list ts
 row_parts t = []
 
--- a tuple or a record of n parts
-abbrev pub IsRowOf : ℕ → DataType → Type 0
-IsRowOf n (rec ns ts) = length (type_list ts) ≡ n
-IsRowOf n (tup ts) = length (type_list ts) ≡ n
-IsRowOf n t = ⊥
+-- a tuple or a record
+abbrev pub IsRowType : DataType → Type 0
+IsRowType (rec ns ts) = Unit {0}
+IsRowType (tup ts) = Unit {0}
+IsRowType t = ⊥
 
 -- the items at a place
 abbrev pub across : List (List Side) → ℕ → List Value

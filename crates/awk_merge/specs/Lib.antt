@@ -3,3 +3,4 @@ pub mod Lifts
 pub mod Leaves
 pub mod Present
 pub mod Levels
+pub mod Parts

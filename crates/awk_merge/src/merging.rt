@@ -67,13 +67,13 @@ pub fn merge<'a, L: Ledger>(
             Ok(Node::regular(*size, sides.total(), node, steps))
         }
         Typ::Rec(fields) => {
-            let groups = row_level(alloc, fields.len(), sides, arena, steps)?;
+            let groups = row_level(alloc, t, sides, arena, steps)?;
             let nodes = merge_fields(alloc, fields, &groups, arena, steps)?;
             let names = field_names(alloc, fields)?;
             Ok(Node::row(Some(names), sides.total(), nodes, steps))
         }
         Typ::Tup(parts) => {
-            let groups = row_level(alloc, parts.len(), sides, arena, steps)?;
+            let groups = row_level(alloc, t, sides, arena, steps)?;
             let nodes = merge_each(alloc, parts, &groups, arena, steps)?;
             Ok(Node::row(None, sides.total(), nodes, steps))
         }
