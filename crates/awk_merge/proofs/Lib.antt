@@ -2,3 +2,4 @@ pub mod SideLaws
 pub mod NumberLaws
 pub mod OptionLaws
 pub mod GroupLaws
+pub mod RowLaws
