@@ -119,17 +119,18 @@ leaf_opened p s r h k o n =
     first P (v ∷ vs) q k = k.0
 
     lists_not : (a u : DataType) → IsLeaf a → IsListOf a u → ⊥
-    lists_not (leaf p) u l k = absurd k
+    lists_not (leaf p) u q k = absurd k
+    lists_not a u q k = absurd q
 
     by_kind : (r : Opened) → IsLeaf (array_type s.column) → IsKindOf (array_type s.column) r
         → ((c : Column) → r ≡ Leaf c → ⊥) → ⊥
-    by_kind Empty l k n = subst IsLeaf k l
-    by_kind (Leaf c) l k n = n c refl
-    by_kind (Items b e y) l k n = lists_not _ _ l k
-    by_kind (Row None ys) l k n = subst IsLeaf k l
-    by_kind (Row (Some ns) ys) l k n = subst IsLeaf k l
-    by_kind (Optional j y) l k n = subst IsLeaf k l
-    by_kind (Union t j ys) l k n = subst IsLeaf k l
+    by_kind Empty q k n = subst IsLeaf k q
+    by_kind (Leaf c) q k n = n c refl
+    by_kind (Items b e y) q k n = lists_not _ _ q k
+    by_kind (Row None ys) q k n = subst IsLeaf k q
+    by_kind (Row (Some ns) ys) q k n = subst IsLeaf k q
+    by_kind (Optional j y) q k n = subst IsLeaf k q
+    by_kind (Union t j ys) q k n = subst IsLeaf k q
 
 -- the lane of a column of numbers
 pub side_leaves : (p : Primitive) (s : Side) (c : Column) → IsSide (leaf p) s
