@@ -113,7 +113,7 @@ places-range : {X : Type 0} (g : ℕ → X) (a n : ℕ)
 places-range g a zero = refl
 places-range {X} g a (suc n) =
     ap (λ (xs : List X). g a ∷ xs) (places-range g (suc a) n
-    ∙ ap (λ i. map g (range_with_len i n)) (add-one a))
+    ∙ ap (λ i. map g (range_with_len i n)) (sym (add-one a)))
 
 length-in_order : (ps : List ℕ) (vs : List Value) → length (in_order ps vs) ≡ length ps
 length-in_order ps vs =
@@ -415,7 +415,7 @@ pub rows_put : (ts : List DataType) (ss : List Side) (x : Layout) (f : Carry) (y
     (old new : List (List Side)) → IsSide (tup (types_from ts)) (record { column = x; carry = f })
     → HasItems x → OpensAsRow x ys → ArePut (part_side (len x) f ys) (length old) old new
     → AreRowParts ts ss old → AreRowParts ts (ss ++ record { column = x; carry = f } ∷ []) new
-rows_put ts ss x f ys old new side typed row p h =
+rows_put ts ss x f ys old new side typed opens p h =
     record {
       groups = groups_by ts new (p.size ∙ size) (λ j l.
           let q : j < length old = omega (arith, l, size) in
@@ -423,14 +423,14 @@ rows_put ts ss x f ys old new side typed row p h =
           (AreSides-with_side (get_or ts j unknown) (get_or old j [])
           (part_side (len x) f ys j).column (part_side (len x) f ys j).carry
           (group_at ts old j h.groups l)
-          (λ some. part_carries ts x f row.0 ys side typed row.1 j l)));
+          (λ some. part_carries ts x f opens.0 ys side typed opens.1 j l)));
       long = long_by (length (merged_items (ss ++ s ∷ []))) new (λ j l.
           let q : j < length old = omega (arith, l, p.size) in
           ap (λ g. length (merged_items g)) (p.put j q q)
           ∙ total-with_side (get_or old j []) (part_side (len x) f ys j).column
           (part_side (len x) f ys j).carry
           ∙ ap₂ (λ a b. a + b) (long_at m old j h.long q)
-          (part_len ts x f row.0 ys side typed row.1 j)
+          (part_len ts x f opens.0 ys side typed opens.1 j)
           ∙ sym total);
       items = λ i l. item_at i (omega (arith, l, total)) (cases_lt i m);
     }
@@ -454,11 +454,11 @@ rows_put ts ss x f ys old new side typed row p h =
         ap₂ (λ vs i. get_or vs i null) (merged_items-side ss s) e
         ∙ get_or-append-add (merged_items ss) (side_items s) k null
         ∙ get_or-side_items s k l
-        ∙ carried_row ts x f row.0 ys side typed row.1 k l
+        ∙ carried_row ts x f opens.0 ys side typed opens.1 k l
         ∙ ap (λ vs. row (values_from vs))
         (rows_follow (part_side (len x) f ys) (part_value f (row_at ys k)) old new m k (len x)
-        (length ts) p h.long size (part_len ts x f row.0 ys side typed row.1) l
-        (λ j. part_item ts x f row.0 ys side typed row.1 k j l)
+        (length ts) p h.long size (part_len ts x f opens.0 ys side typed opens.1) l
+        (λ j. part_item ts x f opens.0 ys side typed opens.1 k j l)
         ∙ ap (across new) (sym e))
 
     item_at : (i : ℕ) → i < m + len x → (i < m) ⊎ (m ≤ i)
