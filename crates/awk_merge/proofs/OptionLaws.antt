@@ -1,10 +1,10 @@
 -- Columns without their nulls, and the index into all that is present.
-use Rattle.std.proofs.Common.{◌≡◌, ℕ, zero, suc, ◌+◌, ◌-◌, ◌<◌, ◌≤◌, List, [], ◌∷◌, ◌++◌, Bool, true, false, length, map, take, get_or, Option, Some, None, refl, ap, ap₂, sym, subst, ◌∙◌, arith, length-append}
+use Rattle.std.proofs.Common.{◌≡◌, ℕ, zero, suc, ◌+◌, ◌-◌, ◌<◌, ◌≤◌, List, [], ◌∷◌, ◌++◌, Bool, true, false, length, map, take, get_or, Option, Some, None, refl, ap, ap₂, sym, subst, ◌∙◌, arith, length-append, append_assoc}
 use Rattle.std.specs.Prelude.{ℤ, pos, negsuc, ◌<ℤ◌, slice_get, ◌^◌}
 use Rattle.std.specs.List.{AllByRecursion, range_with_len}
 use Rattle.std.proofs.lemmas.Int.{ints}
 use Rattle.std.proofs.lemmas.List.{length-map, get_or-map, map-append, get_or_append_left, get_or-append-add, take_all, append-nil, ext_get_or}
-use Rattle.std.proofs.lemmas.List.FromFn.{fill_by_all}
+use Rattle.std.proofs.lemmas.List.FromFn.{fill_by_all, length-map-range_with_len, map-range_with_len_more}
 use Rattle.std.proofs.lemmas.Simd.{map-map}
 use Rattle.awk_types.specs.DataType.{DataType, unknown, leaf, var, reg, rec, tup, opt, uni, row_type}
 use Rattle.awk_types.specs.Has.{Has}
@@ -35,7 +35,7 @@ use Rattle.awk_merge.specs.Levels.{IsOptionLevel}
 use Rattle.awk_merge.specs.Present.{with_items, places_on, moved, index_on, ArePresent, IsPresentPut}
 use Rattle.awk_merge.specs.Sides.{Side, sides_of, side_items, merged_items, with_side, Carries, IsSide, AreSides, IsCounted, IsMerged}
 use Rattle.awk_merge.specs.declared.options.OptionLevel.{OptionLevel}
-use Rattle.awk_merge.proofs.SideLaws.{merged_items-side, merged_items-with_side, AreSides-with_side, length-carried, get_or-carried, length-side_items, total-next, total-within, all-append}
+use Rattle.awk_merge.proofs.SideLaws.{merged_items-side, merged_items-with_side, AreSides-with_side, length-carried, get_or-carried, length-side_items, total-with_side, total-within, all-append}
 
 -- ---- what a carry does to null
 
@@ -169,6 +169,47 @@ below-index n m j h =
 below-places : (n m : ℕ) → AllBelow (n + m) (places_on n m)
 below-places n m =
     all_in_range (λ z. z <ℤ pos (n + m)) (λ i. pos (n + i)) 0 m (λ i l. omega (arith, ints, l))
+
+-- ---- the numbers of an index, put one by one
+
+pub items_room : (f : ℕ → ℤ) (old m : Making) (i n : ℕ)
+    → m ≡ with_items old (map f (range_with_len 0 i)) → i < n → length old.items + n ≤ old.room
+    → length m.items < m.room
+items_room f old m i n e l r =
+    let size : length (old.items ++ map f (range_with_len 0 i)) ≡ length old.items + i =
+    length-append old.items (map f (range_with_len 0 i))
+    ∙ ap (λ k. length old.items + k) (length-map-range_with_len f 0 i) in
+    let here : length m.items ≡ length old.items + i =
+    ap (λ (m : Making). length m.items) e ∙ size in
+    let room : m.room ≡ old.room = ap (λ (m : Making). m.room) e in
+    omega (arith, here, room, l, r)
+
+pub items_next : (f : ℕ → ℤ) (old m new : Making) (i : ℕ) (z : ℤ) → new ≡ with_item m z → z ≡ f i
+    → m ≡ with_items old (map f (range_with_len 0 i))
+    → new ≡ with_items old (map f (range_with_len 0 (i + 1)))
+items_next f old m new i z e a h =
+    e ∙ ap₂ with_item h a
+    ∙ ap (λ zs. record { kind = old.kind; room = old.room; items = zs })
+    (append_assoc old.items (map f (range_with_len 0 i)) (f i ∷ [])
+    ∙ ap (λ zs. old.items ++ zs) (sym (map-range_with_len_more f 0 i i (omega arith))))
+
+pub index_more : (j : Column) (n m : ℕ) → n ≤ m → IsOptionalIndex j n → IsOptionalIndex j m
+index_more j n m l h = record {
+  kind = h.kind;
+  below = λ i p. less (at j i) (h.below i p);
+}
+  where
+    less : (z : ℤ) → z <ℤ pos n → z <ℤ pos m
+    less z q = omega (arith, ints, q, l)
+
+-- where the columns with one more are counted, so many places fit
+pub pushed_room : (before after : List Side) (total first : ℕ) (x : Layout) (f : Carry)
+    → after ≡ with_side before x f → first ≡ length (merged_items before)
+    → total ≡ length (merged_items after) → total < 2 ^ 63 → first + len x < 2 ^ 63
+pushed_room before after total first x f a b t l =
+    let size : length (merged_items after) ≡ length (merged_items before) + len x =
+    ap (λ ss. length (merged_items ss)) a ∙ total-with_side before x f in
+    omega (arith, size, b, t, l)
 
 -- ---- one column more
 
