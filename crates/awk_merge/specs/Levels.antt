@@ -1,7 +1,7 @@
 -- One level of columns that are merged: lanes into all items, and the columns of what is below.
-use Rattle.std.specs.Prelude.{◌≡◌, false, ◌+◌, ◌-◌, ◌*◌, ◌<◌, ◌^◌, ◌∷◌, [], ℕ, zero, suc, List, get_or, length, map, pos, ◌≤ℤ◌}
+use Rattle.std.specs.Prelude.{Option, Some, None, ◌≡◌, false, ◌+◌, ◌-◌, ◌*◌, ◌<◌, ◌^◌, ◌∷◌, [], ℕ, zero, suc, List, get_or, length, map, pos, ◌≤ℤ◌}
 use Rattle.std.specs.List.{AllByRecursion, range_with_len}
-use Rattle.awk_types.specs.DataType.{DataType, rec, tup, opt, type_list}
+use Rattle.awk_types.specs.DataType.{DataType, Name, rec, reg, tup, opt, type_list, var}
 use Rattle.awk_types.specs.Simple.{is_option}
 use Rattle.awk_types.specs.Value.{Value, null, list, row, alt, values_from}
 use Rattle.awk_lanes.specs.Column.{Column}
@@ -32,6 +32,13 @@ pub record IsOptionLevel (ss : List Side) (r : OptionLevel) : Type 0 where
   pub items : merged_items ss ≡ pick (merged_items (sides_of r.sides)) r.index.items
 
 -- ---- lists
+
+-- columns whose values become lists of any length, or lists of one
+abbrev pub AreListSides : List Side → Type 0
+AreListSides ss = (u : DataType) × AreSides (var u) ss
+
+abbrev pub AreRegularSides : List Side → Type 0
+AreRegularSides ss = (n : ℕ) × ((u : DataType) × AreSides (reg n u) ss)
 
 -- the values from a start on, so many
 abbrev pub cut : List Value → ℕ → ℕ → Value
@@ -95,6 +102,11 @@ abbrev pub IsRowType : DataType → Type 0
 IsRowType (rec ns ts) = Unit {0}
 IsRowType (tup ts) = Unit {0}
 IsRowType t = ⊥
+
+-- the names of a record
+abbrev pub row_names : DataType → Option (List Name)
+row_names (rec ns ts) = Some ns
+row_names t = None
 
 -- the items at a place
 abbrev pub across : List (List Side) → ℕ → List Value
