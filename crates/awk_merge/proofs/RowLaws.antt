@@ -1,6 +1,7 @@
 -- Columns of rows: what they give to each part, and the column of the rows of all.
 use Rattle.std.proofs.Common.{◌≡◌, ◌≢◌, ◌==◌, ℕ, zero, suc, ◌+◌, ◌-◌, ◌<◌, ◌≤◌, List, [], ◌∷◌, ◌++◌, Bool, true, false, length, map, take, get_or, slice_get, Option, Some, None, option_map, if◌then◌else◌, replicate, refl, ap, ap₂, sym, subst, ◌∙◌, arith, add-one, length-append, inl, inr, ◌⊎◌}
-use Rattle.std.specs.Prelude.{ℤ, pos, negsuc}
+use Rattle.std.specs.Prelude.{ℤ, pos, negsuc, ◌<ℤ◌}
+use Rattle.std.proofs.lemmas.Int.{ints}
 use Rattle.std.specs.List.{AllByRecursion, range_with_len}
 use Rattle.std.proofs.lemmas.Bool.{cases_lt}
 use Rattle.std.proofs.lemmas.List.{length-map, get_or-map, ext_get_or, get_or_append_left, get_or-append-add, take_all}
@@ -10,11 +11,18 @@ use Rattle.awk_types.specs.DataType.{Name, DataType, DataTypes, no_types, type, 
 use Rattle.awk_types.specs.Has.{Has, HasRow}
 use Rattle.awk_types.specs.Simple.{simple, simples, simple_value, simple_values, values_by, in_row}
 use Rattle.awk_types.specs.Value.{Value, Values, no_values, value, int, truth, null, list, row, alt, value_list, values_from}
+use Rattle.awk_types.specs.View.{typ_of, typs_of, fields_of}
+use Rattle.awk_types.specs.declared.typ.Fields.{Fields}
+use Rattle.awk_types.specs.declared.typ.Typ.{Typ}
+use Rattle.awk_types.specs.declared.typ.Typ.TheVariants as types
+use Rattle.awk_types.specs.declared.typ.Typs.{Typs}
 use Rattle.awk_types.proofs.ListLaws.{take-get}
+use Rattle.awk_types.proofs.Views.{typ_of-Rec, typ_of-Tup}
 use Rattle.awk_types.proofs.Trees.{types_from-list, type_list-from, values_from-list, value_list-from}
 use Rattle.awk_lanes.specs.Column.{Column}
-use Rattle.awk_lanes.specs.Places.{at, size_of, option_place, option_place_at}
+use Rattle.awk_lanes.specs.Places.{at, size_of, option_place, option_place_at, IsOptionalIndex}
 use Rattle.awk_lanes.specs.declared.kind.Kind.TheVariants.{I64}
+use Rattle.awk_layout.specs.Array.{IsTypeOf}
 use Rattle.awk_layout.specs.Item.{item, items_across, at_option}
 use Rattle.awk_layout.specs.Layout.{Layout, Layouts, no_layouts, layout, layouts_from, count, rows, optional, empty}
 use Rattle.awk_layout.specs.Typing.{layout_type, layout_types, array_type, array_items}
@@ -22,6 +30,7 @@ use Rattle.awk_layout.specs.Valid.{len, AllReach}
 use Rattle.awk_layout.proofs.ArrayItems.{length-array_items, get_or-array_items}
 use Rattle.awk_gather.specs.Arrays.{array_item}
 use Rattle.awk_gather.specs.Lanes.{lane_of}
+use Rattle.awk_gather.proofs.MovedGroups.{lane_is}
 use Rattle.awk_gather.proofs.MadeLanes.{at-lane_of, size-lane_of}
 use Rattle.awk_gather.proofs.OptionItems.{item-optional}
 use Rattle.awk_axis.specs.Opened.{IsOpened, OpensRow, AllOfLen}
@@ -186,6 +195,30 @@ row_item : (names : Option (List Name)) (ys : List Layout) (x : Layout) (i : ℕ
 row_item names ys x i o l = o.items i l ∙ ap row (across-row ys i)
 
 -- nulls
+null_lane : (j : Column) (n : ℕ) → j.kind ≡ I64
+    → j.items ≡ map (λ i. negsuc 0) (range_with_len 0 n) → j ≡ lane_of I64 n (λ i. negsuc 0)
+null_lane j n e h = lane_is j (lane_of I64 n (λ i. negsuc 0)) e h
+
+pub null_index : (j : Column) (n : ℕ) → j.kind ≡ I64
+    → j.items ≡ map (λ i. negsuc 0) (range_with_len 0 n) → IsOptionalIndex j 0
+null_index j n e h = subst (λ j. IsOptionalIndex j 0) (sym (null_lane j n e h)) (record {
+  kind = tt;
+  below = λ i l. subst (λ z. z <ℤ pos 0)
+      (sym (at-lane_of I64 n (λ i. negsuc 0) i
+      (omega (arith, l, size-lane_of I64 n (λ i. negsuc 0))))) (omega (arith, ints));
+})
+
+pub null_node : (j : Column) (n : ℕ) (x : Layout) → j.kind ≡ I64
+    → j.items ≡ map (λ i. negsuc 0) (range_with_len 0 n) → x ≡ optional j empty
+    → x ≡ null_column n
+null_node j n x e h a = a ∙ ap (λ j. optional j empty) (null_lane j n e h)
+
+pub null_type : (n : ℕ) (x : Layout) → x ≡ null_column n → IsTypeOf (opt unknown) x
+null_type n x e = record {
+  typ = ap array_type (sym e);
+  lawful = record { is_type = tt; is_simple = (refl, tt); within_limits = refl };
+}
+
 len-null_column : (n : ℕ) → len (null_column n) ≡ n
 len-null_column n = size-lane_of I64 n (λ i. negsuc 0)
 
@@ -219,6 +252,31 @@ from_item n i f ys None a l = or_item n i keep None tt l
 from_item n i f ys (Some k) a l =
     or_item n i (f k) (slice_get ys k) (of_len n ys k a) l
     ∙ ap (or_null (f k)) (sym (slice_get-map (λ y. array_item y i) ys k))
+
+-- the three cases of a part
+pub part_missing : (n : ℕ) (f : Carry) (ys : List Layout) (j : ℕ) (s : Side)
+    → part_source f j ≡ None → s ≡ or_nulls n keep None → s ≡ part_side n f ys j
+part_missing n f ys j s e a = a ∙ ap (side_from n (part_carry f) ys) (sym e)
+
+pub part_beyond : (n : ℕ) (f : Carry) (ys : List Layout) (j k : ℕ) (s : Side)
+    → part_source f j ≡ Some k → length ys ≤ k → s ≡ or_nulls n keep None
+    → s ≡ part_side n f ys j
+part_beyond n f ys j k s e l a =
+    a ∙ ap (or_nulls n (part_carry f k)) (sym (beyond ys k l))
+    ∙ ap (side_from n (part_carry f) ys) (sym e)
+  where
+    beyond : (ys : List Layout) (k : ℕ) → length ys ≤ k → slice_get ys k ≡ None
+    beyond [] k l = refl
+    beyond (y ∷ ys) zero l = absurd (omega (arith, l))
+    beyond (y ∷ ys) (suc k) l = beyond ys k (omega (arith, l))
+
+pub part_given : (n : ℕ) (f : Carry) (ys : List Layout) (j k : ℕ) (y z : Layout) (g : Carry)
+    → part_source f j ≡ Some k → slice_get ys k ≡ Some y → z ≡ y → g ≡ part_carry f k
+    → record { column = z; carry = g } ≡ part_side n f ys j
+part_given n f ys j k y z g e h a b =
+    ap₂ (λ z g. record { column = z; carry = g }) a b
+    ∙ ap (or_nulls n (part_carry f k)) (sym h)
+    ∙ ap (side_from n (part_carry f) ys) (sym e)
 
 or_len : (n : ℕ) (f : Carry) (o : Option Layout) → OfLen n o → len (or_nulls n f o).column ≡ n
 or_len n f (Some y) e = e
@@ -621,6 +679,21 @@ as_tuple (var t) s r h = absurd r
 as_tuple (reg n t) s r h = absurd r
 as_tuple (opt t) s r h = absurd r
 as_tuple (uni ts) s r h = absurd r
+
+pub rec_count : (t : Typ) (fields : Fields) → t ≡ types.Rec fields
+    → length (fields_of fields) ≡ length (row_parts (typ_of t))
+rec_count t fields e =
+    sym (ap (λ t. length (row_parts (typ_of t))) e
+    ∙ ap (λ t. length (row_parts t)) (typ_of-Rec fields)
+    ∙ ap length (type_list-from (map (λ f. f.typ) (fields_of fields)))
+    ∙ length-map (fields_of fields) (λ f. f.typ))
+
+pub tup_count : (t : Typ) (parts : Typs) → t ≡ types.Tup parts
+    → length (typs_of parts) ≡ length (row_parts (typ_of t))
+tup_count t parts e =
+    sym (ap (λ t. length (row_parts (typ_of t))) e
+    ∙ ap (λ t. length (row_parts t)) (typ_of-Tup parts)
+    ∙ ap length (type_list-from (typs_of parts)))
 
 pub row_side : (t : DataType) (ss : List Side) (i : ℕ) (s : Side) → IsRowType t → AreSides t ss
     → slice_get ss i ≡ Some s → IsSide (tup (types_from (row_parts t))) s
