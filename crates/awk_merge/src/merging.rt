@@ -78,7 +78,7 @@ pub fn merge<'a, L: Ledger>(
             Ok(Node::row(None, sides.total(), nodes, steps))
         }
         Typ::Uni(alternatives) => {
-            let level = union_level(alloc, alternatives.len(), sides, arena, steps)?;
+            let level = union_level(alloc, alternatives, sides, arena, steps)?;
             let nodes = merge_each(alloc, alternatives, &level.groups, arena, steps)?;
             Ok(Node::union(level.tags, level.index, nodes, steps))
         }
