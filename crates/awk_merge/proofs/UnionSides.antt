@@ -31,7 +31,7 @@ use Rattle.awk_merge.proofs.AlternativeLaws.{alternative-inside, single-carried,
 use Rattle.awk_merge.proofs.AlternativeLaws.{single-inside, single, no-option}
 use Rattle.awk_merge.proofs.GroupLaws.{length-groups, AreGroups-none, AreGroups-with_side_at}
 use Rattle.awk_merge.proofs.SideLaws.{all-append, item_has, side_has, total-within}
-use Rattle.awk_merge.proofs.SideLaws.{merged_items-all}
+use Rattle.awk_merge.proofs.SideLaws.{merged_items-all, merged_items-next, IsSide-get}
 use Rattle.awk_merge.proofs.TaggedLaws.{tagged-append, tagged-grown, tagged-items, tagged-at}
 use Rattle.awk_merge.proofs.TaggedLaws.{length-tags, length-places}
 use Rattle.awk_merge.proofs.TargetLaws.{Grows, grows-side, grows-alternatives, Lies, lies-side}
@@ -40,7 +40,8 @@ use Rattle.awk_merge.proofs.TargetLaws.{length-targets_of, AreGroups-alternative
 use Rattle.awk_merge.specs.Levels.{groups_of, item_in, AreGroups, AreCounted, IsUnionLevel}
 use Rattle.awk_merge.specs.Lifts.{alternative_tag, alternative_carry}
 use Rattle.awk_merge.specs.Sides as sides
-use Rattle.awk_merge.specs.Sides.{Side, sides_of, side_items, merged_items, IsSide, IsCounted}
+use Rattle.awk_merge.specs.Sides.{Side, sides_of, side_items, merged_items, IsSide, AreSides}
+use Rattle.awk_merge.specs.Sides.{IsCounted}
 use Rattle.awk_merge.specs.Tagged.{target_in, target_at, targets_of, with_alternative}
 use Rattle.awk_merge.specs.Tagged.{with_alternatives, item_tag, item_place, IsTargeted}
 use Rattle.awk_merge.specs.Tagged.{AreTargeted, IsReady, with_numbers, IsTagged, AreTagged}
@@ -302,17 +303,17 @@ whole-side s g g' m m' x count u all e counted d size tags index = record {
 
 -- ---- all columns
 
-pub level-none : (ts : List DataType) (n k : ℕ) (g : Groups) (m : Tagged)
-    → groups_of g ≡ replicate k [] → k ≡ length ts → AreCounted g
-    → m.tags ≡ record { kind = I8; room = n; items = [] }
-    → m.index ≡ record { kind = I64; room = n; items = [] } → IsUnionSoFar ts n [] g m
-level-none ts n k g m e d counted tags index = record {
+pub level-none : (ts : List DataType) (n k a b : ℕ) (g : Groups) (m : Tagged)
+    → groups_of g ≡ replicate k [] → k ≡ length ts → AreCounted g → a ≡ n → b ≡ n
+    → m.tags ≡ record { kind = I8; room = a; items = [] }
+    → m.index ≡ record { kind = I64; room = b; items = [] } → IsUnionSoFar ts n [] g m
+level-none ts n k a b g m e d counted x y tags index = record {
   groups = subst (AreGroups ts) (sym (e ∙ ap (λ j. replicate j []) d)) (AreGroups-none ts);
   counted = counted;
   tag_kind = ap (λ (k : Making). k.kind) tags;
   index_kind = ap (λ (k : Making). k.kind) index;
-  tag_room = ap (λ (k : Making). k.room) tags;
-  index_room = ap (λ (k : Making). k.room) index;
+  tag_room = ap (λ (k : Making). k.room) tags ∙ x;
+  index_room = ap (λ (k : Making). k.room) index ∙ y;
   tagged = subst (λ zs. AreTagged (groups_of g) zs m.index.items [])
       (sym (ap (λ (k : Making). k.items) tags))
       (subst (λ zs. AreTagged (groups_of g) [] zs []) (sym (ap (λ (k : Making). k.items) index)) tt);
@@ -339,12 +340,36 @@ level-ready ts n ss i s g m e d so =
           length-places (groups_of g) m.tags.items m.index.items (merged_items (take i ss)) so.tagged);
     }
 
+-- one column more
+pub level-next : (ts : List DataType) (n : ℕ) (ss : List Side) (i : ℕ) (s : Side) (g g' : Groups)
+    (m m' : Tagged) → slice_get ss i ≡ Some s → IsArrayType (uni (types_from ts))
+    → AreSides (uni (types_from ts)) ss → IsUnionSoFar ts n (merged_items (take i ss)) g m
+    → PutsSide s g m g' m' → IsUnionSoFar ts n (merged_items (take (i + 1) ss)) g' m'
+level-next ts n ss i s g g' m m' e lawful sides so puts =
+    subst (λ vs. IsUnionSoFar ts n vs g' m') (sym (merged_items-next ss i s e))
+    (puts.so_far ts n (merged_items (take i ss)) lawful
+    (IsSide-get (uni (types_from ts)) ss i s e sides) so)
+
 -- all are there
 pub level-all : (ts : List DataType) (n : ℕ) (ss : List Side) (i : ℕ) (g : Groups) (m : Tagged)
     → length ss ≤ i → IsUnionSoFar ts n (merged_items (take i ss)) g m
     → IsUnionSoFar ts n (merged_items ss) g m
 level-all ts n ss i g m h so =
     subst (λ vs. IsUnionSoFar ts n vs g m) (merged_items-all ss i h) so
+
+pub level-tags : (ts : List DataType) (n : ℕ) (ss : List Side) (g : Groups) (m : Tagged)
+    → n ≡ length (merged_items ss) → IsUnionSoFar ts n (merged_items ss) g m
+    → length m.tags.items ≡ m.tags.room
+level-tags ts n ss g m d so =
+    length-tags (groups_of g) m.tags.items m.index.items (merged_items ss) so.tagged
+    ∙ sym (so.tag_room ∙ d)
+
+pub level-places : (ts : List DataType) (n : ℕ) (ss : List Side) (g : Groups) (m : Tagged)
+    → n ≡ length (merged_items ss) → IsUnionSoFar ts n (merged_items ss) g m
+    → length m.index.items ≡ m.index.room
+level-places ts n ss g m d so =
+    length-places (groups_of g) m.tags.items m.index.items (merged_items ss) so.tagged
+    ∙ sym (so.index_room ∙ d)
 
 tag-at : (c : Column) (i : ℕ) → c.kind ≡ I8 → at c i ≡ get_or c.items i (pos 0)
 tag-at c i e = ap (λ k. element k (get_or c.items i (pos 0))) e
