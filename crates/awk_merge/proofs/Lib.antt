@@ -5,3 +5,5 @@ pub mod TargetLaws
 pub mod TaggedLaws
 pub mod UnionSides
 pub mod UnionLaws
+pub mod CarryLaws
+pub mod TypeParts
