@@ -1,7 +1,12 @@
 pub mod SideLaws
+pub mod GroupLaws
+pub mod AlternativeLaws
+pub mod TargetLaws
+pub mod TaggedLaws
+pub mod UnionSides
+pub mod UnionLaws
 pub mod CarryLaws
 pub mod TypeParts
 pub mod NumberLaws
 pub mod OptionLaws
-pub mod GroupLaws
 pub mod RowLaws

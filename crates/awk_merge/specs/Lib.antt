@@ -4,3 +4,4 @@ pub mod Leaves
 pub mod Present
 pub mod Levels
 pub mod Parts
+pub mod Tagged
