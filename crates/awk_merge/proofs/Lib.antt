@@ -1,1 +1,3 @@
 pub mod SideLaws
+pub mod CarriedLists
+pub mod ListLaws

@@ -1,7 +1,7 @@
 -- One level of columns that are merged: lanes into all items, and the columns of what is below.
 use Rattle.std.specs.Prelude.{◌≡◌, ◌+◌, ◌-◌, ◌*◌, ◌<◌, ◌^◌, ◌∷◌, [], ℕ, zero, suc, List, get_or, length, map, pos, ◌≤ℤ◌}
 use Rattle.std.specs.List.{AllByRecursion, range_with_len}
-use Rattle.awk_types.specs.DataType.{DataType, tup, types_from}
+use Rattle.awk_types.specs.DataType.{DataType, var, reg, tup, types_from}
 use Rattle.awk_types.specs.Value.{Value, null, list, row, alt, values_from}
 use Rattle.awk_lanes.specs.Column.{Column}
 use Rattle.awk_lanes.specs.Places.{size_of, at, place_at, AreSpans, IsOptionalIndex}
@@ -28,6 +28,13 @@ pub record IsOptionLevel (u : DataType) (ss : List Side) (r : OptionLevel) : Typ
   pub items : merged_items ss ≡ pick (merged_items (sides_of r.sides)) r.index.items
 
 -- ---- lists
+
+-- columns whose values become lists of any length, or lists of one
+abbrev pub AreListSides : List Side → Type 0
+AreListSides ss = (u : DataType) × AreSides (var u) ss
+
+abbrev pub AreRegularSides : List Side → Type 0
+AreRegularSides ss = (n : ℕ) × ((u : DataType) × AreSides (reg n u) ss)
 
 -- the values from a start on, so many
 abbrev pub cut : List Value → ℕ → ℕ → Value

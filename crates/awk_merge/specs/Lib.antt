@@ -1,3 +1,4 @@
 pub mod Sides
 pub mod Lifts
 pub mod Levels
+pub mod Lists
