@@ -47,7 +47,7 @@ kept_list (Some n) u (row vs) h = absurd h
 kept_list (Some n) u (alt k v) h = absurd h
 
 -- what is carried to a list is one
-carried_list : (f : Carry) (d : Class) (u : DataType) (v : Value)
+pub carried_list : (f : Carry) (d : Class) (u : DataType) (v : Value)
     → Has (list_type d u) (carried f v) → IsList v
 carried_list keep d u v h = kept_list d u v h
 carried_list (in_items f) d u (list vs) h = tt

@@ -1,3 +1,4 @@
 pub mod SideLaws
 pub mod CarriedLists
 pub mod ListLaws
+pub mod RegularLaws
