@@ -1,4 +1,6 @@
 pub mod SideLaws
 pub mod CarriedLists
+pub mod MadePlaces
 pub mod ListLaws
 pub mod RegularLaws
+pub mod OpenedLists
