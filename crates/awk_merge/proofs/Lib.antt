@@ -4,3 +4,5 @@ pub mod MadePlaces
 pub mod ListLaws
 pub mod RegularLaws
 pub mod OpenedLists
+pub mod CarryLaws
+pub mod TypeParts

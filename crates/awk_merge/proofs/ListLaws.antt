@@ -23,19 +23,20 @@ use Rattle.awk_layout.proofs.ArrayItems.{length-array_items, get_or-array_items}
 use Rattle.awk_gather.specs.Arrays.{array_item}
 use Rattle.awk_axis.specs.ListFunction.{Class, list_type}
 use Rattle.awk_axis.proofs.ArrayLaws.{run_in_list}
-use Rattle.awk_unify.specs.Carry.{carried}
+use Rattle.awk_unify.specs.Carry.{Carry, carried}
 use Rattle.awk_merge.specs.Levels.{cut, IsListLevel, AreListSides}
 use Rattle.awk_merge.specs.Lifts.{items_carry}
 use Rattle.awk_merge.specs.Lists.{moved_place, moved_places, HasRoom, HoldsLists, PutsLists}
 use Rattle.awk_merge.specs.Sides.{Side, sides_of, side_items, merged_items, AreSides, IsSide}
-use Rattle.awk_merge.specs.Sides.{IsCounted, IsMerged}
+use Rattle.awk_merge.specs.Sides.{with_side, IsCounted, IsMerged}
 use Rattle.awk_merge.specs.declared.lists.ListLevel.{ListLevel}
 use Rattle.awk_merge.specs.declared.lists.ListMaker.{ListMaker}
+use Rattle.awk_merge.specs.declared.sides.Sides.{Sides}
 use Rattle.awk_merge.proofs.CarriedLists.{run_moved, carried-run, over_carried}
 use Rattle.awk_merge.proofs.SideLaws.{length-side_items, get_or-side_items, get_or-carried}
 use Rattle.awk_merge.proofs.SideLaws.{length-carried, item_has, merged_items-with_side}
 use Rattle.awk_merge.proofs.SideLaws.{AreSides-with_side, IsSide-get, merged_items-next}
-use Rattle.awk_merge.proofs.SideLaws.{merged_items-all, total-within}
+use Rattle.awk_merge.proofs.SideLaws.{merged_items-all, total-within, total-with_side}
 
 -- ---- spans
 
@@ -262,6 +263,16 @@ pub record IsListing (ss : List Side) (i : ℕ) (m : ListMaker) : Type 0 where
   pub sides : (u : DataType) → AreSides (var u) ss → AreSides u (sides_of m.sides)
   pub lists : (u : DataType) → AreSides (var u) ss → AreCut (merged_items (take i ss))
       m.starts.items m.stops.items (merged_items (sides_of m.sides))
+
+-- the items of one column more are no more than a column may have
+pub put_fits : (before now : Sides) (y : Layout) (f : Carry)
+    → sides_of now ≡ with_side (sides_of before) y f → IsCounted before → IsCounted now
+    → before.total + len y < 2 ^ 63
+put_fits before now y f e b k =
+    let w = total-with_side (sides_of before) y f in
+    let l : length (merged_items (sides_of now)) ≡ length (merged_items (with_side (sides_of before) y f)) =
+    ap (λ ss. length (merged_items ss)) e in
+    omega (arith, w, l, b.total, k.total, k.fits)
 
 empty_cut : AreCut [] [] [] []
 empty_cut = record {

@@ -1,7 +1,7 @@
 -- Columns one after another: their items, one column more, and the steps of loops over them.
-use Rattle.std.proofs.Common.{◌≡◌, ◌==◌, ◌+◌, ◌<◌, ◌≤◌, ◌∷◌, ◌++◌, [], ℕ, suc, zero, List, Bool, true, false, length, map, take, get_or, slice_get, Some, if◌then◌else◌, refl, ap, sym, subst, ◌∙◌, arith}
+use Rattle.std.proofs.Common.{◌≡◌, ◌==◌, ◌+◌, ◌<◌, ◌≤◌, ◌∷◌, ◌++◌, ◌^◌, [], ℕ, suc, zero, List, Bool, true, false, length, map, take, get_or, slice_get, Some, if◌then◌else◌, refl, ap, sym, subst, ◌∙◌, arith}
 use Rattle.std.proofs.lemmas.Grind.{flat_map-append}
-use Rattle.std.proofs.lemmas.List.{append-nil, length-append, length-map, get_or-map, get_or_append_left, get_or-append-add, take_all}
+use Rattle.std.proofs.lemmas.List.{append-nil, length-append, length-map, map-append, get_or-map, get_or_append_left, get_or-append-add, take_all}
 use Rattle.std.specs.List.{AllByRecursion}
 use Rattle.awk_types.proofs.ListLaws.{take-get}
 use Rattle.awk_types.proofs.SimpleLaws.{has_each}
@@ -15,7 +15,9 @@ use Rattle.awk_layout.specs.Layout.{Layout}
 use Rattle.awk_layout.specs.Typing.{layout_type, array_type, array_items}
 use Rattle.awk_layout.specs.Valid.{len}
 use Rattle.awk_unify.specs.Carry.{Carry, carried}
-use Rattle.awk_merge.specs.Sides.{Side, side_items, merged_items, Carries, IsSide, AreSides, with_side}
+use Rattle.awk_merge.specs.Sides.{Side, side_of, sides_of, side_items, merged_items, Carries, IsSide, AreSides, IsCounted, with_side}
+use Rattle.awk_merge.specs.declared.sides.Side as declared
+use Rattle.awk_merge.specs.declared.sides.Sides.{Sides}
 
 -- ---- lists
 
@@ -113,6 +115,20 @@ total-with_side ss x f =
     ap length (merged_items-with_side ss x f)
     ∙ length-append (merged_items ss) (map (carried f) (array_items x))
     ∙ ap (λ n. length (merged_items ss) + n) (length-carried x f)
+
+-- the number that is kept stays that of all
+pub counted_push : (before now : Sides) (s : declared.Side) → IsCounted before
+    → now.sides.items ≡ before.sides.items ++ s ∷ []
+    → now.total ≡ before.total + len s.column → now.total < 2 ^ 63 → IsCounted now
+counted_push before now s h e n l =
+    let all : sides_of now ≡ sides_of before ++ side_of s ∷ []
+        = ap (map side_of) e ∙ map-append side_of before.sides.items (s ∷ []) in
+    let more : length (merged_items (sides_of now))
+        ≡ length (merged_items (sides_of before)) + length (side_items (side_of s))
+        = ap (λ ss. length (merged_items ss)) all
+        ∙ ap length (merged_items-side (sides_of before) (side_of s))
+        ∙ length-append (merged_items (sides_of before)) (side_items (side_of s)) in
+    record { total = omega (arith, n, h.total, more, length-side_items (side_of s)); fits = l }
 
 -- the items that were there stay, and the new ones follow
 pub get_or-before : (ss : List Side) (x : Layout) (f : Carry) (j : ℕ) → j < length (merged_items ss)

@@ -5,6 +5,7 @@ mod carry;
 mod groups;
 mod lists;
 mod merging;
+mod nodes;
 mod numbers;
 mod options;
 mod rows;

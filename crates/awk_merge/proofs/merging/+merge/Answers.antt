@@ -1,0 +1,1 @@
+use Rattle.awk_merge.proofs.merging.+merge.Goals as goal
