@@ -283,16 +283,16 @@ empty_cut = record {
 }
 
 -- before the first
-pub listing_none : (ss : List Side) (n : ℕ) (m : ListMaker) → n ≡ length (merged_items ss)
-    → m.starts ≡ record { kind = I64; room = n; items = [] }
-    → m.stops ≡ record { kind = I64; room = n; items = [] } → sides_of m.sides ≡ []
+pub listing_none : (ss : List Side) (n k : ℕ) (m : ListMaker) → n ≡ length (merged_items ss)
+    → k ≡ length (merged_items ss) → m.starts ≡ record { kind = I64; room = n; items = [] }
+    → m.stops ≡ record { kind = I64; room = k; items = [] } → sides_of m.sides ≡ []
     → IsCounted m.sides → IsListing ss 0 m
-listing_none ss n m e a b s k = record {
+listing_none ss n k m e f a b s c = record {
   starts_kind = ap (λ (x : Making). x.kind) a;
   stops_kind = ap (λ (x : Making). x.kind) b;
   starts_room = ap (λ (x : Making). x.room) a ∙ e;
-  stops_room = ap (λ (x : Making). x.room) b ∙ e;
-  counted = k;
+  stops_room = ap (λ (x : Making). x.room) b ∙ f;
+  counted = c;
   sides = λ u h. rw s tt;
   lists = λ u h. rw (ap (λ (x : Making). x.items) a, ap (λ (x : Making). x.items) b, s) empty_cut;
 }
@@ -339,13 +339,23 @@ listing_next ss i x before now e all p h = record {
       ∙ merged_items-with_side (sides_of before.sides) p.content g);
 }
 
+-- all room is taken at the end
+pub listing_full : (ss : List Side) (i : ℕ) (m : ListMaker) → length ss ≤ i → AreListSides ss
+    → IsListing ss i m → (length m.starts.items ≡ m.starts.room)
+    × (length m.stops.items ≡ m.stops.room)
+listing_full ss i m n p h =
+    let l = h.lists p.0 p.1 in
+    let e : length (merged_items (take i ss)) ≡ length (merged_items ss) =
+    ap length (merged_items-all ss i n) in
+    (l.starts ∙ e ∙ sym h.starts_room, l.stops ∙ e ∙ sym h.stops_room)
+
 at-made : (c : Column) (zs : List ℤ) (i : ℕ) → c.kind ≡ I64 → c.items ≡ zs
     → at c i ≡ start_of zs i
 at-made c zs i k e =
     ap (λ q. element q (get_or c.items i (pos 0))) k ∙ ap (λ a. start_of a i) e
 
 -- all columns
-pub level_listed : (ss : List Side) (i : ℕ) (m : ListMaker) (r : ListLevel) → i ≡ length ss
+pub level_listed : (ss : List Side) (i : ℕ) (m : ListMaker) (r : ListLevel) → length ss ≤ i
     → length (merged_items ss) < 2 ^ 63 → r.starts.kind ≡ m.starts.kind
     → r.starts.items ≡ m.starts.items → r.stops.kind ≡ m.stops.kind
     → r.stops.items ≡ m.stops.items → r.sides ≡ m.sides → IsListing ss i m → (u : DataType)
@@ -353,7 +363,7 @@ pub level_listed : (ss : List Side) (i : ℕ) (m : ListMaker) (r : ListLevel) �
 level_listed ss i m r n fits sk si tk ti e h u k =
     let ws = merged_items (sides_of m.sides) in
     let all : merged_items (take i ss) ≡ merged_items ss =
-    merged_items-all ss i (omega (arith, n)) in
+    merged_items-all ss i n in
     let l : AreCut (merged_items ss) m.starts.items m.stops.items ws =
     subst (λ vs. AreCut vs m.starts.items m.stops.items ws) all (h.lists u k) in
     let a : (j : ℕ) → at r.starts j ≡ start_of m.starts.items j =

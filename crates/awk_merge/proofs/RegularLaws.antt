@@ -188,11 +188,11 @@ filled_next ss i x y before now e all holds w c h =
     }
 
 -- all columns
-pub level_filled : (ss : List Side) (i : ℕ) (r : Sides) → i ≡ length ss → AreFilled ss i r
+pub level_filled : (ss : List Side) (i : ℕ) (r : Sides) → length ss ≤ i → AreFilled ss i r
     → (n : ℕ) (u : DataType) → AreSides (reg n u) ss → IsRegularLevel n u ss r
 level_filled ss i r e h n u k =
     let all : merged_items (take i ss) ≡ merged_items ss =
-    merged_items-all ss i (omega (arith, e)) in
+    merged_items-all ss i e in
     let b : AreBlocks n (merged_items ss) (merged_items (sides_of r)) =
     subst (λ vs. AreBlocks n vs (merged_items (sides_of r))) all (h.blocks n u k) in
     record { sides = h.sides n u k; counted = h.counted; size = b.size; items = b.items }
