@@ -5,3 +5,4 @@ pub mod Present
 pub mod Levels
 pub mod Parts
 pub mod Tagged
+pub mod Lists
