@@ -1,7 +1,8 @@
 -- One level of columns that are merged: lanes into all items, and the columns of what is below.
 use Rattle.std.specs.Prelude.{Option, Some, None, ◌≡◌, false, ◌+◌, ◌-◌, ◌*◌, ◌<◌, ◌^◌, ◌∷◌, [], ℕ, zero, suc, List, get_or, length, map, pos, ◌≤ℤ◌}
 use Rattle.std.specs.List.{AllByRecursion, range_with_len}
-use Rattle.awk_types.specs.DataType.{DataType, Name, rec, reg, tup, opt, type_list, var}
+use Rattle.awk_types.specs.DataType.{DataType, Name, rec, reg, tup, opt, uni, type_list, types_from, var}
+use Rattle.awk_types.specs.Has.{Has}
 use Rattle.awk_types.specs.Simple.{is_option}
 use Rattle.awk_types.specs.Value.{Value, null, list, row, alt, values_from}
 use Rattle.awk_lanes.specs.Column.{Column}
@@ -142,3 +143,4 @@ pub record IsUnionLevel (ts : List DataType) (ss : List Side) (r : UnionLevel) :
       × (place_at r.index i < length (merged_items (get_or (groups_of r.groups) (place_at r.tags i) [])))
   pub items : (i : ℕ) → i < size_of r.tags → get_or (merged_items ss) i null
       ≡ alt (place_at r.tags i) (item_in (groups_of r.groups) (place_at r.tags i) (place_at r.index i))
+  pub typed : AllByRecursion (Has (uni (types_from ts))) (merged_items ss)
