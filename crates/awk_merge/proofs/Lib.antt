@@ -9,6 +9,7 @@ pub mod MergedLaws
 pub mod NumberLaws
 pub mod OpenedLists
 pub mod OptionLaws
+pub mod PartTypeLaws
 pub mod RegularLaws
 pub mod RowLaws
 pub mod SideLaws

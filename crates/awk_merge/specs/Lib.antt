@@ -6,3 +6,4 @@ pub mod Levels
 pub mod Parts
 pub mod Tagged
 pub mod Lists
+pub mod PartTypes
