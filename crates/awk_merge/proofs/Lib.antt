@@ -10,7 +10,10 @@ pub mod NumberLaws
 pub mod OpenedLists
 pub mod OptionLaws
 pub mod RegularLaws
+pub mod RowGroups
 pub mod RowLaws
+pub mod RowSides
+pub mod RowValues
 pub mod SideLaws
 pub mod TaggedLaws
 pub mod TargetLaws

@@ -33,7 +33,9 @@ use Rattle.awk_axis.proofs.ArrayLaws.{array_items-at}
 use Rattle.awk_unify.specs.Carry.{Carry, carried, keep, in_items, to_parts, to_alternatives}
 use Rattle.awk_merge.specs.Leaves.{lane_value, leaf_values, num_value, is_unsigned, AreOf}
 use Rattle.awk_merge.specs.Sides.{Side, side_items, merged_items, Carries, IsSide, AreSides, IsMerged}
-use Rattle.awk_merge.proofs.SideLaws.{side_has, merged_items-next, merged_items-all, length-side_items}
+use Rattle.awk_gather.specs.Arrays.{array_item}
+use Rattle.awk_merge.proofs.CarryLaws.{IsLeafType, leaf_scalar, scalar_stays, leaves_before}
+use Rattle.awk_merge.proofs.SideLaws.{side_has, merged_items-next, item_has}
 
 -- ---- the values of a lane
 
@@ -53,84 +55,34 @@ length-leaf_values c = length-map c.items (lane_value c.kind)
 
 -- ---- what a carry does to a number: nothing
 
-leaf_carried : (p : Primitive) (f : Carry) (v : Value) → Has (leaf p) (carried f v) → carried f v ≡ v
-leaf_carried p keep v h = refl
-leaf_carried p (in_items f) (list vs) h = absurd h
-leaf_carried p (in_items f) v h = refl
-leaf_carried p (to_parts ps fs) (row vs) h = absurd h
-leaf_carried p (to_parts ps fs) v h = refl
-leaf_carried p (to_alternatives ts fs) null h = refl
-leaf_carried p (to_alternatives ts fs) (int z) h = absurd h
-leaf_carried p (to_alternatives ts fs) (truth b) h = absurd h
-leaf_carried p (to_alternatives ts fs) (list vs) h = absurd h
-leaf_carried p (to_alternatives ts fs) (row vs) h = absurd h
-leaf_carried p (to_alternatives ts fs) (alt k v) h = absurd h
-
-leaf_itself : (p : Primitive) (f : Carry) (v : Value) → Has (leaf p) (carried f v) → Has (leaf p) v
-leaf_itself p f v h = subst (Has (leaf p)) (leaf_carried p f v h) h
-
 leaves_carried : (p : Primitive) (f : Carry) (vs : List Value)
     → AllByRecursion (Has (leaf p)) (map (carried f) vs) → map (carried f) vs ≡ vs
 leaves_carried p f [] h = refl
 leaves_carried p f (v ∷ vs) h =
-    ap₂ (λ w ws. w ∷ ws) (leaf_carried p f v h.0) (leaves_carried p f vs h.1)
+    ap₂ (λ w ws. w ∷ ws) (scalar_stays f v (leaf_scalar p (carried f v) h.0))
+    (leaves_carried p f vs h.1)
 
 -- ---- only a column of numbers becomes numbers
-
-abbrev IsLeaf : DataType → Type 0
-IsLeaf (leaf p) = Unit {0}
-IsLeaf unknown = ⊥
-IsLeaf (var t) = ⊥
-IsLeaf (reg n t) = ⊥
-IsLeaf (rec ns ts) = ⊥
-IsLeaf (tup ts) = ⊥
-IsLeaf (opt t) = ⊥
-IsLeaf (uni ts) = ⊥
-
-leaf_typed : (a : DataType) (p : Primitive) (f : Carry) (v : Value) → Has a v
-    → Carries a f (leaf p) → IsLeaf a
-leaf_typed (leaf q) p f v h c = tt
-leaf_typed unknown p f v h c = absurd h
-leaf_typed (var t) p f (list vs) h c = absurd (leaf_itself p f (list vs) (c (list vs) h))
-leaf_typed (var t) p f v h c = absurd h
-leaf_typed (reg n t) p f (list vs) h c = absurd (leaf_itself p f (list vs) (c (list vs) h))
-leaf_typed (reg n t) p f v h c = absurd h
-leaf_typed (rec ns ts) p f (row vs) h c = absurd (leaf_itself p f (row vs) (c (row vs) h))
-leaf_typed (rec ns ts) p f v h c = absurd h
-leaf_typed (tup ts) p f (row vs) h c = absurd (leaf_itself p f (row vs) (c (row vs) h))
-leaf_typed (tup ts) p f v h c = absurd h
-leaf_typed (opt t) p f v h c = absurd (leaf_itself p f null (c null tt))
-leaf_typed (uni ts) p f (alt k v) h c = absurd (leaf_itself p f (alt k v) (c (alt k v) h))
-leaf_typed (uni ts) p f v h c = absurd h
-
--- so a column that is opened otherwise has no items
 pub leaf_opened : (p : Primitive) (s : Side) (r : Opened) → IsSide (leaf p) s
     → AllByRecursion (Has (array_type s.column)) (array_items s.column)
     → IsKindOf (array_type s.column) r → ((c : Column) → r ≡ Leaf c → ⊥) → ⊥
 leaf_opened p s r h k o n =
-    by_kind r (leaf_typed _ p s.carry _ (first _ _ (omega (arith, h.some, l)) k) h.values) o n
+    by_kind r (leaves_before p (array_type s.column) s.carry (array_item s.column 0)
+    (item_has s.column 0 k h.some) h.values) o n
   where
-    l : length (array_items s.column) ≡ len s.column
-    l = sym (length-map (array_items s.column) (carried s.carry)) ∙ length-side_items s
-
-    first : (P : Value → Type 0) (vs : List Value) → 0 < length vs → AllByRecursion P vs
-        → P (get_or vs 0 null)
-    first P [] q k = absurd (omega (arith, q))
-    first P (v ∷ vs) q k = k.0
-
-    lists_not : (a u : DataType) → IsLeaf a → IsListOf a u → ⊥
+    lists_not : (a u : DataType) → IsLeafType a → IsListOf a u → ⊥
     lists_not (leaf p) u q k = absurd k
     lists_not a u q k = absurd q
 
-    by_kind : (r : Opened) → IsLeaf (array_type s.column) → IsKindOf (array_type s.column) r
+    by_kind : (r : Opened) → IsLeafType (array_type s.column) → IsKindOf (array_type s.column) r
         → ((c : Column) → r ≡ Leaf c → ⊥) → ⊥
-    by_kind Empty q k n = subst IsLeaf k q
+    by_kind Empty q k n = subst IsLeafType k q
     by_kind (Leaf c) q k n = n c refl
     by_kind (Items b e y) q k n = lists_not _ _ q k
-    by_kind (Row None ys) q k n = subst IsLeaf k q
-    by_kind (Row (Some ns) ys) q k n = subst IsLeaf k q
-    by_kind (Optional j y) q k n = subst IsLeaf k q
-    by_kind (Union t j ys) q k n = subst IsLeaf k q
+    by_kind (Row None ys) q k n = subst IsLeafType k q
+    by_kind (Row (Some ns) ys) q k n = subst IsLeafType k q
+    by_kind (Optional j y) q k n = subst IsLeafType k q
+    by_kind (Union t j ys) q k n = subst IsLeafType k q
 
 -- the lane of a column of numbers
 pub side_leaves : (p : Primitive) (s : Side) (c : Column) → IsSide (leaf p) s

@@ -35,66 +35,9 @@ use Rattle.awk_merge.specs.Levels.{IsOptionLevel}
 use Rattle.awk_merge.specs.Present.{with_items, places_on, moved, index_on, ArePresent, IsPresentPut}
 use Rattle.awk_merge.specs.Sides.{Side, sides_of, side_items, merged_items, with_side, Carries, IsSide, AreSides, IsCounted, IsMerged}
 use Rattle.awk_merge.specs.declared.options.OptionLevel.{OptionLevel}
+use Rattle.awk_unify.proofs.AfterLaws.{carry_null}
+use Rattle.awk_merge.proofs.CarryLaws.{Carries-opt, Carries-present}
 use Rattle.awk_merge.proofs.SideLaws.{merged_items-side, merged_items-with_side, AreSides-with_side, length-carried, get_or-carried, length-side_items, total-with_side, total-within, all-append}
-
--- ---- what a carry does to null
-
-pub carried-null : (f : Carry) → carried f null ≡ null
-carried-null keep = refl
-carried-null (in_items f) = refl
-carried-null (to_parts ps fs) = refl
-carried-null (to_alternatives ts fs) = refl
-
--- and to what is not null
-carried-present : (f : Carry) (v : Value) → carried f v ≡ null → v ≡ null
-carried-present keep v e = e
-carried-present (in_items f) (list vs) e = cc
-carried-present (in_items f) v e = e
-carried-present (to_parts ps fs) (row vs) e = cc
-carried-present (to_parts ps fs) v e = e
-carried-present (to_alternatives ts fs) null e = refl
-carried-present (to_alternatives ts fs) (int z) e = cc
-carried-present (to_alternatives ts fs) (truth b) e = cc
-carried-present (to_alternatives ts fs) (list vs) e = cc
-carried-present (to_alternatives ts fs) (row vs) e = cc
-carried-present (to_alternatives ts fs) (alt k v) e = cc
-
-null_has : (t : DataType) → is_option t ≡ false → Has t null → ⊥
-null_has unknown e h = h
-null_has (leaf p) e h = h
-null_has (var t) e h = h
-null_has (reg n t) e h = h
-null_has (rec ns ts) e h = h
-null_has (tup ts) e h = h
-null_has (uni ts) e h = h
-null_has (opt t) e h = cc
-
-some_has : (t : DataType) (v : Value) → Has t v → Has (opt t) v
-some_has t null h = tt
-some_has t (int z) h = h
-some_has t (truth b) h = h
-some_has t (list vs) h = h
-some_has t (row vs) h = h
-some_has t (alt k v) h = h
-
-present_has : (t : DataType) (v : Value) → (v ≡ null → ⊥) → Has (opt t) v → Has t v
-present_has t null n h = absurd (n refl)
-present_has t (int z) n h = h
-present_has t (truth b) n h = h
-present_has t (list vs) n h = h
-present_has t (row vs) n h = h
-present_has t (alt k v) n h = h
-
--- values of a type without nulls become ones without nulls
-pub whole_values : (a u : DataType) (f : Carry) → is_option a ≡ false → Carries a f (opt u)
-    → Carries a f u
-whole_values a u f e c v h =
-    present_has u (carried f v)
-    (λ n. null_has a e (subst (Has a) (carried-present f v n) h)) (c v h)
-
-pub present_values : (a u : DataType) (f : Carry) → is_option a ≡ false
-    → Carries (opt a) f (opt u) → Carries a f u
-present_values a u f e c = whole_values a u f e (λ v h. c v (some_has a v h))
 
 -- ---- an index into one list behind another
 
@@ -263,7 +206,7 @@ whole_put x f before after old new first o a b e = record {
       (below-places (length (merged_items before)) (len x)))
       (sym (pick-places (merged_items before) vs (len x) (length-carried x f)))
       (λ u q k h. AreSides-with_side u before x f h
-      (λ p. whole_values (array_type x) u f o k.values)) h);
+      (λ p. Carries-present (array_type x) u f o k.values)) h);
 }
   where
     vs : List Value
@@ -275,7 +218,7 @@ inner_option a b e s = let t : IsSimple (opt b) = subst IsSimple e s in t.0
 
 carried_option : (f : Carry) (o : Option ℕ) (g : ℕ → Value)
     → carried f (at_option o g) ≡ at_option o (λ k. carried f (g k))
-carried_option f None g = carried-null f
+carried_option f None g = carry_null f
 carried_option f (Some k) g = refl
 
 option_same : (z : ℤ) (n : ℕ) (f g : ℕ → Value) → z <ℤ pos n → ((k : ℕ) → k < n → f k ≡ g k)
@@ -317,8 +260,8 @@ present_put x y f j before after old new first s o a b e = record {
       (below-index (length (merged_items before)) (len y) j o.index))
       (option_items x y f j o ∙ sym (pick-index (merged_items before) vs j))
       (λ u q k h. AreSides-with_side u before y f h
-      (λ p. present_values (array_type y) u f (inner_option _ _ o.typ s)
-      (subst (λ a. Carries a f (opt u)) o.typ k.values))) h);
+      (λ p. Carries-present (array_type y) u f (inner_option _ _ o.typ s)
+      (Carries-opt (array_type y) (opt u) f (subst (λ a. Carries a f (opt u)) o.typ k.values)))) h);
 }
   where
     vs : List Value

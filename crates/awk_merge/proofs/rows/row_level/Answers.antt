@@ -2,7 +2,8 @@ use Rattle.std.proofs.Common.{take}
 use Rattle.awk_types.specs.View.{typ_of}
 use Rattle.awk_merge.specs.Levels.{groups_of, row_parts}
 use Rattle.awk_merge.specs.Sides.{side_of, sides_of}
-use Rattle.awk_merge.proofs.RowLaws.{no_rows, row_side, rows_next}
+use Rattle.awk_merge.proofs.RowGroups.{no_rows, rows_next}
+use Rattle.awk_merge.proofs.RowSides.{row_side}
 use Rattle.awk_merge.proofs.rows.row_level.Goals as goal
 
 pub loop-i-init : goal.loop-i-init
