@@ -1,38 +1,37 @@
 -- Numbers of columns in one lane.
-use Rattle.std.proofs.Common.{◌≡◌, ◌≢◌, ℕ, zero, suc, ◌+◌, ◌*◌, ◌/◌, ◌%◌, ◌<◌, ◌≤◌, List, [], ◌∷◌, ◌++◌, Bool, true, false, length, map, take, drop, get_or, Option, Some, None, refl, ap, ap₂, sym, subst, ◌∙◌, arith, add-one, w8, w16, w32, w64, ◌^◌, length-drop, length-append}
-use Rattle.std.specs.Prelude.{ℤ, pos, negsuc, slice_get, FitsSigned}
+use Rattle.std.proofs.Common.{◌≡◌, ℕ, zero, suc, ◌+◌, ◌*◌, ◌/◌, ◌%◌, ◌<◌, ◌≤◌, List, [], ◌∷◌, ◌++◌, true, false, length, map, take, drop, get_or, Some, None, refl, ap, ap₂, sym, subst, ◌∙◌, arith, length-drop, length-append}
+use Rattle.std.specs.Prelude.{ℤ, pos, slice_get}
 use Rattle.std.specs.List.{AllByRecursion, range_with_len}
 use Rattle.std.proofs.lemmas.Int.{ints}
-use Rattle.std.proofs.lemmas.List.{length-map, get_or-map, map-append, take-append-le, drop-append-le, take_all, append-nil}
+use Rattle.std.proofs.lemmas.List.{length-map, get_or-map, map-append, take-append-le, drop-append-le, append-nil}
 use Rattle.std.proofs.lemmas.List.FromFn.{fill_by_all, map-range_with_len_more, length-map-range_with_len}
 use Rattle.std.proofs.Math.Nat.{mul-mod_left}
-use Rattle.awk_types.specs.DataType.{DataType, unknown, leaf, var, reg, rec, tup, opt, uni, row_type, types_from}
+use Rattle.awk_types.specs.DataType.{DataType, leaf}
 use Rattle.awk_types.specs.Has.{Has}
-use Rattle.awk_types.specs.Value.{Value, int, truth, null, list, row, alt}
+use Rattle.awk_types.specs.Value.{Value, int, null}
 use Rattle.awk_types.specs.declared.primitive.Primitive.{Primitive}
 use Rattle.awk_lanes.specs.Column.{Column}
 use Rattle.awk_lanes.specs.Making.{Making, with_item}
-use Rattle.awk_lanes.specs.Numbers.{element, number, numbers, width, int_of, IsOf, is_nonzero}
+use Rattle.awk_lanes.specs.Numbers.{number, numbers, width, int_of, IsOf}
 use Rattle.awk_lanes.specs.Places.{size_of, at}
 use Rattle.awk_lanes.specs.declared.kind.Kind.{Kind}
 use Rattle.awk_lanes.specs.declared.kind.Kind.TheVariants.{Bool as Truths, I8, I16, I32, I64, U8, U16, U32, U64}
 use Rattle.awk_lanes.specs.declared.kind.Num.{Num}
 use Rattle.awk_lanes.specs.declared.kind.Num.TheVariants.{Int, Nat, Truth}
-use Rattle.awk_lanes.proofs.NumberParts.{length-numbers, number-take}
+use Rattle.awk_lanes.proofs.NumberParts.{number-take}
 use Rattle.awk_layout.specs.Item.{leaf_value}
 use Rattle.awk_layout.specs.Kinds.{primitive_of, kind_of, primitive_of-kind_of}
-use Rattle.awk_layout.specs.Layout.{Layout, flat}
+use Rattle.awk_layout.specs.Layout.{flat}
 use Rattle.awk_layout.specs.Typing.{array_type, array_items}
-use Rattle.awk_layout.specs.Valid.{len}
 use Rattle.awk_gather.specs.InOrder.{IsInOrder}
 use Rattle.awk_gather.specs.Opened.{IsKindOf, IsListOf}
 use Rattle.awk_gather.specs.declared.opening.Opened.{Opened}
 use Rattle.awk_gather.specs.declared.opening.Opened.TheVariants.{Empty, Leaf, Items, Row}
 use Rattle.awk_gather.specs.declared.opening.Opened.TheVariants.{Option as Optional, Union}
 use Rattle.awk_axis.proofs.ArrayLaws.{array_items-at}
-use Rattle.awk_unify.specs.Carry.{Carry, carried, keep, in_items, to_parts, to_alternatives}
+use Rattle.awk_unify.specs.Carry.{Carry, carried}
 use Rattle.awk_merge.specs.Leaves.{lane_value, leaf_values, num_value, is_unsigned, AreOf}
-use Rattle.awk_merge.specs.Sides.{Side, side_items, merged_items, Carries, IsSide, AreSides, IsMerged}
+use Rattle.awk_merge.specs.Sides.{Side, side_items, merged_items, IsSide, IsMerged}
 use Rattle.awk_gather.specs.Arrays.{array_item}
 use Rattle.awk_merge.proofs.CarryLaws.{IsLeafType, leaf_scalar, scalar_stays, leaves_before}
 use Rattle.awk_merge.proofs.SideLaws.{side_has, merged_items-next, item_has}

@@ -1,20 +1,18 @@
 -- Columns without their nulls, and the index into all that is present.
-use Rattle.std.proofs.Common.{◌≡◌, ℕ, zero, suc, ◌+◌, ◌-◌, ◌<◌, ◌≤◌, List, [], ◌∷◌, ◌++◌, Bool, true, false, length, map, take, get_or, Option, Some, None, refl, ap, ap₂, sym, subst, ◌∙◌, arith, length-append, append_assoc}
+use Rattle.std.proofs.Common.{◌≡◌, ℕ, zero, suc, ◌+◌, ◌<◌, ◌≤◌, List, [], ◌∷◌, ◌++◌, false, length, map, take, get_or, Option, Some, None, refl, ap, ap₂, sym, subst, ◌∙◌, arith, length-append, append_assoc}
 use Rattle.std.specs.Prelude.{ℤ, pos, negsuc, ◌<ℤ◌, slice_get, ◌^◌}
 use Rattle.std.specs.List.{AllByRecursion, range_with_len}
 use Rattle.std.proofs.lemmas.Int.{ints}
-use Rattle.std.proofs.lemmas.List.{length-map, get_or-map, map-append, get_or_append_left, get_or-append-add, take_all, append-nil, ext_get_or}
+use Rattle.std.proofs.lemmas.List.{length-map, map-append, get_or_append_left, get_or-append-add, take_all}
 use Rattle.std.proofs.lemmas.List.FromFn.{fill_by_all, length-map-range_with_len, map-range_with_len_more}
 use Rattle.std.proofs.lemmas.Simd.{map-map}
-use Rattle.awk_types.specs.DataType.{DataType, unknown, leaf, var, reg, rec, tup, opt, uni, row_type}
-use Rattle.awk_types.specs.Has.{Has}
+use Rattle.awk_types.specs.DataType.{DataType, unknown, leaf, var, reg, rec, tup, opt, uni}
 use Rattle.awk_types.specs.Simple.{is_option, present, option_of, IsSimple}
-use Rattle.awk_types.specs.Value.{Value, int, truth, null, list, row, alt}
+use Rattle.awk_types.specs.Value.{Value, null}
 use Rattle.awk_types.proofs.ListLaws.{take-get}
 use Rattle.awk_lanes.specs.Column.{Column}
 use Rattle.awk_lanes.specs.Making.{Making, with_item}
 use Rattle.awk_lanes.specs.Places.{size_of, at, option_place, option_place_at, IsOptionKind, IsOptionalIndex}
-use Rattle.awk_lanes.specs.declared.kind.Kind.{Kind}
 use Rattle.awk_lanes.specs.declared.kind.Kind.TheVariants.{I64}
 use Rattle.awk_layout.specs.Item.{at_option}
 use Rattle.awk_layout.specs.Layout.{Layout, optional}
@@ -24,20 +22,19 @@ use Rattle.awk_layout.proofs.ArrayItems.{length-array_items}
 use Rattle.awk_gather.specs.Arrays.{array_item, pick}
 use Rattle.awk_gather.proofs.GatheredArrays.{picked_items, at-I64}
 use Rattle.awk_gather.proofs.OptionItems.{item-optional}
-use Rattle.awk_axis.specs.ListFunction.{Class}
 use Rattle.awk_axis.specs.Opened.{IsOpened, OpensOption}
 use Rattle.awk_axis.specs.declared.opening.Opened.{Opened}
 use Rattle.awk_axis.specs.declared.opening.Opened.TheVariants.{Unknown, Leaf, Items, Row}
 use Rattle.awk_axis.specs.declared.opening.Opened.TheVariants.{Option as Optional, Union}
 use Rattle.awk_axis.proofs.ArrayLaws.{array_items-at, map-same}
-use Rattle.awk_unify.specs.Carry.{Carry, carried, keep, in_items, to_parts, to_alternatives}
+use Rattle.awk_unify.specs.Carry.{Carry, carried}
 use Rattle.awk_merge.specs.Levels.{IsOptionLevel}
 use Rattle.awk_merge.specs.Present.{with_items, places_on, moved, index_on, ArePresent, IsPresentPut}
 use Rattle.awk_merge.specs.Sides.{Side, sides_of, side_items, merged_items, with_side, Carries, IsSide, AreSides, IsCounted, IsMerged}
 use Rattle.awk_merge.specs.declared.options.OptionLevel.{OptionLevel}
 use Rattle.awk_unify.proofs.AfterLaws.{carry_null}
 use Rattle.awk_merge.proofs.CarryLaws.{Carries-opt, Carries-present}
-use Rattle.awk_merge.proofs.SideLaws.{merged_items-side, merged_items-with_side, AreSides-with_side, length-carried, get_or-carried, length-side_items, total-with_side, total-within, all-append}
+use Rattle.awk_merge.proofs.SideLaws.{merged_items-side, merged_items-with_side, AreSides-with_side, length-carried, get_or-carried, total-with_side, total-within, all-append}
 
 -- ---- an index into one list behind another
 

@@ -7,9 +7,9 @@ use Rattle.std.proofs.lemmas.List.FromFn.{fill_by_all}
 use Rattle.awk_types.specs.DataType.{DataType, unknown, tup, types_from}
 use Rattle.awk_types.specs.Value.{Value, null, row, values_from}
 use Rattle.awk_types.proofs.ListLaws.{take-get}
-use Rattle.awk_layout.specs.Layout.{Layout, rows}
+use Rattle.awk_layout.specs.Layout.{Layout}
 use Rattle.awk_layout.specs.Valid.{len}
-use Rattle.awk_unify.specs.Carry.{Carry, carry}
+use Rattle.awk_unify.specs.Carry.{Carry}
 use Rattle.awk_merge.specs.Levels.{groups_of, across, AreEachLong, AreGroups, AreCounted, IsRowLevel, with_side_at}
 use Rattle.awk_merge.specs.Parts.{part_side, ArePut, OpensAsRow, AreRowParts}
 use Rattle.awk_merge.specs.Sides.{Side, side_items, merged_items, with_side, IsSide, AreSides}

@@ -1,11 +1,11 @@
 -- A column of rows: what it gives to each part.
-use Rattle.std.proofs.Common.{◌≡◌, ℕ, zero, suc, ◌-◌, ◌<◌, ◌≤◌, List, [], ◌∷◌, length, map, get_or, slice_get, Option, Some, None, option_map, refl, ap, ap₂, sym, subst, ◌∙◌, arith}
-use Rattle.std.specs.Prelude.{ℤ, pos, negsuc, ◌<ℤ◌}
+use Rattle.std.proofs.Common.{◌≡◌, ℕ, zero, suc, ◌<◌, ◌≤◌, List, [], ◌∷◌, length, map, get_or, slice_get, Option, Some, None, option_map, refl, ap, ap₂, sym, subst, ◌∙◌, arith}
+use Rattle.std.specs.Prelude.{pos, negsuc, ◌<ℤ◌}
 use Rattle.std.proofs.lemmas.Int.{ints}
 use Rattle.std.specs.List.{AllByRecursion, range_with_len}
 use Rattle.std.proofs.lemmas.List.{length-map}
 use Rattle.std.proofs.lemmas.Option.{slice_get-map}
-use Rattle.awk_types.specs.DataType.{Name, DataType, DataTypes, type, unknown, leaf, var, reg, rec, tup, opt, uni, row_type, types_from}
+use Rattle.awk_types.specs.DataType.{Name, DataType, DataTypes, unknown, leaf, var, reg, rec, tup, opt, uni, row_type, types_from}
 use Rattle.awk_types.specs.Has.{Has, HasRow}
 use Rattle.awk_types.specs.Value.{Value, value, int, truth, null, list, row, alt, values_from}
 use Rattle.awk_types.specs.View.{typ_of, typs_of, fields_of}
@@ -16,11 +16,11 @@ use Rattle.awk_types.specs.declared.typ.Typs.{Typs}
 use Rattle.awk_types.proofs.Views.{typ_of-Rec, typ_of-Tup}
 use Rattle.awk_types.proofs.Trees.{type_list-from, value_list-from}
 use Rattle.awk_lanes.specs.Column.{Column}
-use Rattle.awk_lanes.specs.Places.{at, option_place, IsOptionalIndex}
+use Rattle.awk_lanes.specs.Places.{option_place, IsOptionalIndex}
 use Rattle.awk_lanes.specs.declared.kind.Kind.TheVariants.{I64}
 use Rattle.awk_layout.specs.Array.{IsTypeOf}
 use Rattle.awk_layout.specs.Item.{at_option}
-use Rattle.awk_layout.specs.Layout.{Layout, rows, optional, empty}
+use Rattle.awk_layout.specs.Layout.{Layout, optional, empty}
 use Rattle.awk_layout.specs.Typing.{array_type, array_items}
 use Rattle.awk_layout.specs.Valid.{len}
 use Rattle.awk_gather.specs.Arrays.{array_item}
@@ -33,7 +33,7 @@ use Rattle.awk_axis.specs.Opened as opening
 use Rattle.awk_axis.specs.declared.opening.Opened.{Opened}
 use Rattle.awk_axis.specs.declared.opening.Opened.TheVariants.{Unknown, Leaf, Items, Row}
 use Rattle.awk_axis.specs.declared.opening.Opened.TheVariants.{Option as Optional, Union}
-use Rattle.awk_unify.specs.Carry.{Carry, carry, carried, keep}
+use Rattle.awk_unify.specs.Carry.{Carry, carried, keep}
 use Rattle.awk_unify.proofs.HasLaws.{rec_tup, of_list}
 use Rattle.awk_merge.specs.Levels.{row_parts, IsRowType}
 use Rattle.awk_merge.specs.Lifts.{part_source, part_carry}
