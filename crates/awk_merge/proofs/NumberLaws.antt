@@ -1,14 +1,12 @@
 -- Numbers of columns in one lane.
-use Rattle.std.proofs.Common.{◌≡◌, ℕ, zero, suc, ◌+◌, ◌*◌, ◌/◌, ◌%◌, ◌<◌, ◌≤◌, List, [], ◌∷◌, ◌++◌, true, false, length, map, take, drop, get_or, Some, None, refl, ap, ap₂, sym, subst, ◌∙◌, arith, length-drop, length-append}
-use Rattle.std.specs.Prelude.{ℤ, pos, slice_get}
+use Rattle.std.proofs.Common.{◌≡◌, ℕ, zero, suc, ◌+◌, ◌*◌, ◌<◌, ◌≤◌, List, [], ◌∷◌, ◌++◌, true, false, length, map, take, drop, get_or, Some, None, refl, ap, ap₂, sym, subst, ◌∙◌, arith, length-drop, length-append}
+use Rattle.std.specs.Prelude.{pos, slice_get}
 use Rattle.std.specs.List.{AllByRecursion, range_with_len}
-use Rattle.std.proofs.lemmas.Int.{ints}
 use Rattle.std.proofs.lemmas.List.{length-map, get_or-map, map-append, take-append-le, drop-append-le, append-nil}
 use Rattle.std.proofs.lemmas.List.FromFn.{fill_by_all, map-range_with_len_more, length-map-range_with_len}
-use Rattle.std.proofs.Math.Nat.{mul-mod_left}
 use Rattle.awk_types.specs.DataType.{DataType, leaf}
 use Rattle.awk_types.specs.Has.{Has}
-use Rattle.awk_types.specs.Value.{Value, int, null}
+use Rattle.awk_types.specs.Value.{Value, null}
 use Rattle.awk_types.specs.declared.primitive.Primitive.{Primitive}
 use Rattle.awk_lanes.specs.Column.{Column}
 use Rattle.awk_lanes.specs.Making.{Making, with_item}
@@ -30,7 +28,7 @@ use Rattle.awk_gather.specs.declared.opening.Opened.TheVariants.{Empty, Leaf, It
 use Rattle.awk_gather.specs.declared.opening.Opened.TheVariants.{Option as Optional, Union}
 use Rattle.awk_axis.proofs.ArrayLaws.{array_items-at}
 use Rattle.awk_unify.specs.Carry.{Carry, carried}
-use Rattle.awk_merge.specs.Leaves.{lane_value, leaf_values, num_value, is_unsigned, AreOf}
+use Rattle.awk_merge.specs.Leaves.{lane_value, leaf_values, num_value, AreOf}
 use Rattle.awk_merge.specs.Sides.{Side, side_items, merged_items, IsSide, IsMerged}
 use Rattle.awk_gather.specs.Arrays.{array_item}
 use Rattle.awk_merge.proofs.CarryLaws.{IsLeafType, leaf_scalar, scalar_stays, leaves_before}
@@ -177,18 +175,6 @@ read_of p c i x h l a e =
 
 -- ---- a number in another kind that holds it
 
-pub as_unsigned : (k : Kind) (z : ℤ) → Has (leaf (primitive_of k)) (int z) → is_unsigned k ≡ true
-    → (n : ℕ) → z ≡ pos n → IsOf k (Nat n)
-as_unsigned U8 z h e n is = let b = h.1 in omega (arith, ints, is, b)
-as_unsigned U16 z h e n is = let b = h.1 in omega (arith, ints, is, b)
-as_unsigned U32 z h e n is = let b = h.1 in omega (arith, ints, is, b)
-as_unsigned U64 z h e n is = let b = h.1 in omega (arith, ints, is, b)
-as_unsigned Truths z h e n is = cc
-as_unsigned I8 z h e n is = cc
-as_unsigned I16 z h e n is = cc
-as_unsigned I32 z h e n is = cc
-as_unsigned I64 z h e n is = cc
-
 -- ---- bytes one after another
 
 -- the numbers of bytes, with others after them
@@ -213,9 +199,6 @@ pub record AreBytesOf (k : Kind) (vs : List Value) (b : List ℕ) : Type 0 where
   pub size : length b ≡ length vs * width k
   pub values : map (lane_value k) (numbers k (length vs) b) ≡ vs
 
-pub bytes_of_none : (k : Kind) → AreBytesOf k [] []
-bytes_of_none k = record { size = omega arith; values = refl }
-
 pub bytes_of_more : (k : Kind) (vs ws : List Value) (c : Column) (a b : List ℕ)
     → c.kind ≡ k → leaf_values c ≡ ws → numbers c.kind (size_of c) b ≡ c.items
     → length b ≡ size_of c * width c.kind → AreBytesOf k vs a → AreBytesOf k (vs ++ ws) (a ++ b)
@@ -237,27 +220,6 @@ bytes_of_more k vs ws c a b e v n l h =
           ∙ map-append (lane_value k) (numbers k (length vs) a) (numbers k (length ws) b)
           ∙ ap₂ (λ x y. x ++ y) h.values others;
     }
-
-pub bytes_whole : (k : Kind) (vs : List Value) (b : List ℕ) → AreBytesOf k vs b
-    → length b % width k ≡ 0
-bytes_whole k vs b h = ap (λ n. n % width k) h.size ∙ mul-mod_left (length vs) (width k)
-
-pub bytes_all : (k : Kind) (vs : List Value) (b : List ℕ) (c : Column) → c.kind ≡ k
-    → c.items ≡ numbers k (length b / width k) b → AreBytesOf k vs b → leaf_values c ≡ vs
-bytes_all k vs b c e n h =
-    let count : length b / width k ≡ length vs = ap (λ n. n / width k) h.size ∙ divided k (length vs) in
-    ap₂ (λ k zs. map (lane_value k) zs) e (n ∙ ap (λ n. numbers k n b) count) ∙ h.values
-  where
-    divided : (k : Kind) (n : ℕ) → n * width k / width k ≡ n
-    divided Truths n = omega arith
-    divided I8 n = omega arith
-    divided I16 n = omega arith
-    divided I32 n = omega arith
-    divided I64 n = omega arith
-    divided U8 n = omega arith
-    divided U16 n = omega arith
-    divided U32 n = omega arith
-    divided U64 n = omega arith
 
 -- the bytes of the next column
 pub bytes_next : (k : Kind) (ss : List Side) (i : ℕ) (s : Side) (c : Column) (a b : List ℕ)

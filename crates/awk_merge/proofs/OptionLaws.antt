@@ -3,7 +3,7 @@ use Rattle.std.proofs.Common.{◌≡◌, ℕ, zero, suc, ◌+◌, ◌<◌, ◌�
 use Rattle.std.specs.Prelude.{ℤ, pos, negsuc, ◌<ℤ◌, slice_get, ◌^◌}
 use Rattle.std.specs.List.{AllByRecursion, range_with_len}
 use Rattle.std.proofs.lemmas.Int.{ints}
-use Rattle.std.proofs.lemmas.List.{length-map, map-append, get_or_append_left, get_or-append-add, take_all}
+use Rattle.std.proofs.lemmas.List.{length-map, map-append, get_or_append_left, get_or-append-add}
 use Rattle.std.proofs.lemmas.List.FromFn.{fill_by_all, length-map-range_with_len, map-range_with_len_more}
 use Rattle.std.proofs.lemmas.Simd.{map-map}
 use Rattle.awk_types.specs.DataType.{DataType, unknown, leaf, var, reg, rec, tup, opt, uni}
@@ -12,25 +12,21 @@ use Rattle.awk_types.specs.Value.{Value, null}
 use Rattle.awk_types.proofs.ListLaws.{take-get}
 use Rattle.awk_lanes.specs.Column.{Column}
 use Rattle.awk_lanes.specs.Making.{Making, with_item}
-use Rattle.awk_lanes.specs.Places.{size_of, at, option_place, option_place_at, IsOptionKind, IsOptionalIndex}
-use Rattle.awk_lanes.specs.declared.kind.Kind.TheVariants.{I64}
+use Rattle.awk_lanes.specs.Places.{size_of, at, option_place, option_place_at, IsOptionalIndex}
 use Rattle.awk_layout.specs.Item.{at_option}
 use Rattle.awk_layout.specs.Layout.{Layout, optional}
 use Rattle.awk_layout.specs.Typing.{array_type, array_items}
 use Rattle.awk_layout.specs.Valid.{len}
 use Rattle.awk_layout.proofs.ArrayItems.{length-array_items}
 use Rattle.awk_gather.specs.Arrays.{array_item, pick}
-use Rattle.awk_gather.proofs.GatheredArrays.{picked_items, at-I64}
+use Rattle.awk_gather.proofs.GatheredArrays.{picked_items}
 use Rattle.awk_gather.proofs.OptionItems.{item-optional}
-use Rattle.awk_axis.specs.Opened.{IsOpened, OpensOption}
-use Rattle.awk_axis.specs.declared.opening.Opened.{Opened}
-use Rattle.awk_axis.specs.declared.opening.Opened.TheVariants.{Unknown, Leaf, Items, Row}
-use Rattle.awk_axis.specs.declared.opening.Opened.TheVariants.{Option as Optional, Union}
+use Rattle.awk_axis.specs.Opened.{OpensOption}
 use Rattle.awk_axis.proofs.ArrayLaws.{array_items-at, map-same}
 use Rattle.awk_unify.specs.Carry.{Carry, carried}
 use Rattle.awk_merge.specs.Levels.{IsOptionLevel}
 use Rattle.awk_merge.specs.Present.{with_items, places_on, moved, index_on, ArePresent, IsPresentPut}
-use Rattle.awk_merge.specs.Sides.{Side, sides_of, side_items, merged_items, with_side, Carries, IsSide, AreSides, IsCounted, IsMerged}
+use Rattle.awk_merge.specs.Sides.{Side, sides_of, side_items, merged_items, with_side, Carries, IsSide, AreSides, IsMerged}
 use Rattle.awk_merge.specs.declared.options.OptionLevel.{OptionLevel}
 use Rattle.awk_unify.proofs.AfterLaws.{carry_null}
 use Rattle.awk_merge.proofs.CarryLaws.{Carries-opt, Carries-present}
@@ -225,8 +221,8 @@ option_same (negsuc k) n f g p e = refl
 
 option_items : (x y : Layout) (f : Carry) (j : Column) → OpensOption j y x
     → map (carried f) (array_items x)
-    ≡ map (λ i. at_option (option_place_at j i) (λ k. get_or (map (carried f) (array_items y)) k null))
-    (range_with_len 0 (size_of j))
+    ≡ map (λ i. at_option (option_place_at j i)
+    (λ k. get_or (map (carried f) (array_items y)) k null)) (range_with_len 0 (size_of j))
 option_items x y f j o =
     ap (map (carried f)) (array_items-at x)
     ∙ map-map (carried f) (array_item x) (range_with_len 0 (len x))
@@ -264,22 +260,7 @@ present_put x y f j before after old new first s o a b e = record {
     vs : List Value
     vs = map (carried f) (array_items y)
 
--- a column that is opened otherwise has no nulls
-pub not_optional : (x : Layout) (r : Opened) → IsOpened x r
-    → ((j : Column) (y : Layout) → r ≡ Optional j y → ⊥) → is_option (array_type x) ≡ false
-not_optional x Unknown o n = ap is_option o.typ
-not_optional x (Leaf c) o n = ap is_option o.typ
-not_optional x (Items None s t y) o n = ap is_option o.typ
-not_optional x (Items (Some m) s t y) o n = ap is_option o.typ
-not_optional x (Row None ys) o n = ap is_option o.typ
-not_optional x (Row (Some ns) ys) o n = ap is_option o.typ
-not_optional x (Optional j y) o n = absurd (n j y refl)
-not_optional x (Union t j ys) o n = ap is_option o.typ
-
 -- ---- loops
-
-pub none_present : ArePresent [] [] []
-none_present = record { sides = λ u o k. tt; below = tt; items = refl }
 
 pub present_next : (ss : List Side) (i : ℕ) (s : Side) (before after : List Side)
     (old new : Making) → slice_get ss i ≡ Some s → IsPresentPut s before old after new
@@ -300,35 +281,6 @@ present_room ss i s present m e r h =
     omega (arith, total-within ss i s e, present_size (take i ss) present m.items h, r)
 
 -- ---- all columns
-
-below-get : (zs : List ℤ) (n i : ℕ) → i < length zs → AllBelow n zs
-    → get_or zs i (pos 0) <ℤ pos n
-below-get [] n i l h = absurd (omega (arith, l))
-below-get (z ∷ zs) n zero l h = h.0
-below-get (z ∷ zs) n (suc i) l h = below-get zs n i (omega (arith, l)) h.1
-
-index_of : (c : Column) (n : ℕ) → c.kind ≡ I64 → AllBelow n c.items → IsOptionalIndex c n
-index_of c n e h = record {
-  kind = subst IsOptionKind (sym e) tt;
-  below = λ i l. subst (λ z. z <ℤ pos n) (sym (at-I64 c i e)) (below-get c.items n i l h);
-}
-
-pub all_present : (ss : List Side) (total n : ℕ) (r : OptionLevel) (m : Making) → length ss ≤ n
-    → total ≡ length (merged_items ss) → total < 2 ^ 63 → IsCounted r.sides → m.kind ≡ I64
-    → r.index.kind ≡ m.kind → r.index.items ≡ m.items
-    → ArePresent (take n ss) (sides_of r.sides) m.items → IsOptionLevel ss r
-all_present ss total n r m l t f c k a b h =
-    let all : ArePresent ss (sides_of r.sides) m.items =
-    subst (λ us. ArePresent us (sides_of r.sides) m.items) (take_all n ss l) h in
-    record {
-      sides = all.sides;
-      counted = c;
-      kind = a ∙ k;
-      fits = omega (arith, ap length b, present_size ss (sides_of r.sides) m.items all, t, f);
-      index = index_of r.index (length (merged_items (sides_of r.sides))) (a ∙ k)
-          (rw b all.below);
-      items = all.items ∙ ap (pick (merged_items (sides_of r.sides))) (sym b);
-    }
 
 -- ---- the column of the index over what is present
 

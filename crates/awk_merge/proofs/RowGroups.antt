@@ -2,7 +2,7 @@
 use Rattle.std.proofs.Common.{◌≡◌, ℕ, zero, suc, ◌+◌, ◌-◌, ◌<◌, ◌≤◌, List, [], ◌∷◌, ◌++◌, length, map, take, get_or, slice_get, Some, replicate, refl, ap, ap₂, sym, subst, ◌∙◌, arith, length-append, inl, inr, ◌⊎◌}
 use Rattle.std.specs.List.{range_with_len}
 use Rattle.std.proofs.lemmas.Bool.{cases_lt}
-use Rattle.std.proofs.lemmas.List.{length-map, get_or-map, ext_get_or, get_or_append_left, get_or-append-add, take_all}
+use Rattle.std.proofs.lemmas.List.{length-map, get_or-map, ext_get_or, get_or_append_left, get_or-append-add}
 use Rattle.std.proofs.lemmas.List.FromFn.{fill_by_all}
 use Rattle.awk_types.specs.DataType.{DataType, unknown, tup, types_from}
 use Rattle.awk_types.specs.Value.{Value, null, row, values_from}
@@ -10,10 +10,9 @@ use Rattle.awk_types.proofs.ListLaws.{take-get}
 use Rattle.awk_layout.specs.Layout.{Layout}
 use Rattle.awk_layout.specs.Valid.{len}
 use Rattle.awk_unify.specs.Carry.{Carry}
-use Rattle.awk_merge.specs.Levels.{groups_of, across, AreEachLong, AreGroups, AreCounted, IsRowLevel, with_side_at}
+use Rattle.awk_merge.specs.Levels.{across, AreEachLong, AreGroups, with_side_at}
 use Rattle.awk_merge.specs.Parts.{part_side, ArePut, OpensAsRow, AreRowParts}
 use Rattle.awk_merge.specs.Sides.{Side, side_items, merged_items, with_side, IsSide, AreSides}
-use Rattle.awk_merge.specs.declared.groups.Groups.{Groups}
 use Rattle.awk_merge.proofs.SideLaws.{merged_items-side, total-with_side, get_or-before, get_or-added, AreSides-with_side, get_or-side_items, length-side_items}
 use Rattle.awk_merge.proofs.GroupLaws.{length-groups, AreGroups-none, length-with_side_at, get_or-with_side_at, get_or-with_side_at-other}
 use Rattle.awk_merge.proofs.RowValues.{part_value}
@@ -155,13 +154,6 @@ rows_put ts ss x f ys old new side typed opens p h =
 
 -- ---- loops
 
-pub none_put : (s : ℕ → Side) (gs : List (List Side)) → ArePut s 0 gs gs
-none_put s gs = record {
-  size = refl;
-  put = λ k l q. absurd (omega (arith, l));
-  left = λ k l. refl;
-}
-
 pub put_next : (s : ℕ → Side) (j : ℕ) (old before after : List (List Side)) (x : Layout) (f : Carry)
     → record { column = x; carry = f } ≡ s j → j < length old
     → after ≡ with_side_at j before x f → ArePut s j old before → ArePut s (j + 1) old after
@@ -189,10 +181,6 @@ put_next s j old before after x f e l a h = record {
         subst (λ k. get_or after k [] ≡ with_side (get_or old k []) (s k).column (s k).carry) same
         here
 
-pub all_put : (s : ℕ → Side) (j : ℕ) (old new : List (List Side)) → j ≡ length old
-    → ArePut s j old new → ArePut s (length old) old new
-all_put s j old new e h = subst (λ j. ArePut s j old new) e h
-
 pub no_rows : (ts : List DataType) (n : ℕ) (gs : List (List Side)) → n ≡ length ts
     → gs ≡ replicate n [] → AreRowParts ts [] gs
 no_rows ts n gs e g =
@@ -210,10 +198,3 @@ pub rows_next : (ts : List DataType) (ss : List Side) (i : ℕ) (s : Side) (new 
     → slice_get ss i ≡ Some s → AreRowParts ts (take i ss ++ s ∷ []) new
     → AreRowParts ts (take (i + 1) ss) new
 rows_next ts ss i s new e h = subst (λ us. AreRowParts ts us new) (sym (take-get ss i s e)) h
-
-pub all_rows : (ts : List DataType) (ss : List Side) (n : ℕ) (r : Groups) → length ss ≤ n
-    → AreCounted r → AreRowParts ts (take n ss) (groups_of r) → IsRowLevel ts ss r
-all_rows ts ss n r l c h =
-    let all : AreRowParts ts ss (groups_of r) =
-    subst (λ us. AreRowParts ts us (groups_of r)) (take_all n ss l) h in
-    record { groups = all.groups; counted = c; long = all.long; items = all.items }

@@ -1,5 +1,5 @@
 -- A column of rows: what it gives to each part.
-use Rattle.std.proofs.Common.{◌≡◌, ℕ, zero, suc, ◌<◌, ◌≤◌, List, [], ◌∷◌, length, map, get_or, slice_get, Option, Some, None, option_map, refl, ap, ap₂, sym, subst, ◌∙◌, arith}
+use Rattle.std.proofs.Common.{◌≡◌, ℕ, zero, suc, ◌<◌, List, [], ◌∷◌, length, map, get_or, slice_get, Option, Some, None, option_map, refl, ap, sym, subst, ◌∙◌, arith}
 use Rattle.std.specs.Prelude.{pos, negsuc, ◌<ℤ◌}
 use Rattle.std.proofs.lemmas.Int.{ints}
 use Rattle.std.specs.List.{AllByRecursion, range_with_len}
@@ -18,9 +18,8 @@ use Rattle.awk_types.proofs.Trees.{type_list-from, value_list-from}
 use Rattle.awk_lanes.specs.Column.{Column}
 use Rattle.awk_lanes.specs.Places.{option_place, IsOptionalIndex}
 use Rattle.awk_lanes.specs.declared.kind.Kind.TheVariants.{I64}
-use Rattle.awk_layout.specs.Array.{IsTypeOf}
 use Rattle.awk_layout.specs.Item.{at_option}
-use Rattle.awk_layout.specs.Layout.{Layout, optional, empty}
+use Rattle.awk_layout.specs.Layout.{Layout, empty}
 use Rattle.awk_layout.specs.Typing.{array_type, array_items}
 use Rattle.awk_layout.specs.Valid.{len}
 use Rattle.awk_gather.specs.Arrays.{array_item}
@@ -71,17 +70,6 @@ null_index j n e h = subst (λ j. IsOptionalIndex j 0) (sym (null_lane j n e h))
       (omega (arith, l, size-lane_of I64 n (λ i. negsuc 0))))) (omega (arith, ints));
 })
 
-pub null_node : (j : Column) (n : ℕ) (x : Layout) → j.kind ≡ I64
-    → j.items ≡ map (λ i. negsuc 0) (range_with_len 0 n) → x ≡ optional j empty
-    → x ≡ null_column n
-null_node j n x e h a = a ∙ ap (λ j. optional j empty) (null_lane j n e h)
-
-pub null_type : (n : ℕ) (x : Layout) → x ≡ null_column n → IsTypeOf (opt unknown) x
-null_type n x e = record {
-  typ = ap array_type (sym e);
-  lawful = record { is_type = tt; is_simple = (refl, tt); within_limits = refl };
-}
-
 len-null_column : (n : ℕ) → len (null_column n) ≡ n
 len-null_column n = size-lane_of I64 n (λ i. negsuc 0)
 
@@ -115,31 +103,6 @@ from_item n i f ys None a l = or_item n i keep None tt l
 from_item n i f ys (Some k) a l =
     or_item n i (f k) (slice_get ys k) (of_len n ys k a) l
     ∙ ap (or_null (f k)) (sym (slice_get-map (λ y. array_item y i) ys k))
-
--- the three cases of a part
-pub part_missing : (n : ℕ) (f : Carry) (ys : List Layout) (j : ℕ) (s : Side)
-    → part_source f j ≡ None → s ≡ or_nulls n keep None → s ≡ part_side n f ys j
-part_missing n f ys j s e a = a ∙ ap (side_from n (part_carry f) ys) (sym e)
-
-pub part_beyond : (n : ℕ) (f : Carry) (ys : List Layout) (j k : ℕ) (s : Side)
-    → part_source f j ≡ Some k → length ys ≤ k → s ≡ or_nulls n keep None
-    → s ≡ part_side n f ys j
-part_beyond n f ys j k s e l a =
-    a ∙ ap (or_nulls n (part_carry f k)) (sym (beyond ys k l))
-    ∙ ap (side_from n (part_carry f) ys) (sym e)
-  where
-    beyond : (ys : List Layout) (k : ℕ) → length ys ≤ k → slice_get ys k ≡ None
-    beyond [] k l = refl
-    beyond (y ∷ ys) zero l = absurd (omega (arith, l))
-    beyond (y ∷ ys) (suc k) l = beyond ys k (omega (arith, l))
-
-pub part_given : (n : ℕ) (f : Carry) (ys : List Layout) (j k : ℕ) (y z : Layout) (g : Carry)
-    → part_source f j ≡ Some k → slice_get ys k ≡ Some y → z ≡ y → g ≡ part_carry f k
-    → record { column = z; carry = g } ≡ part_side n f ys j
-part_given n f ys j k y z g e h a b =
-    ap₂ (λ z g. record { column = z; carry = g }) a b
-    ∙ ap (or_nulls n (part_carry f k)) (sym h)
-    ∙ ap (side_from n (part_carry f) ys) (sym e)
 
 or_len : (n : ℕ) (f : Carry) (o : Option Layout) → OfLen n o → len (or_nulls n f o).column ≡ n
 or_len n f (Some y) e = e

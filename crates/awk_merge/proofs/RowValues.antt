@@ -95,11 +95,12 @@ in_order-parts : (ps : List ℕ) (fs : CarryList) (vs : List Value) (n : ℕ) �
     → in_order ps (values_by (carried_each fs) vs) ≡ first_parts (to_parts ps fs) vs n
 in_order-parts ps fs vs n e =
     places-range (λ j. at_place j ps (values_by (carried_each fs) vs)) 0 (length ps)
-    ∙ map-same (λ j. at_place j ps (values_by (carried_each fs) vs)) (part_value (to_parts ps fs) vs)
-    0 (length ps) (λ j p q. placed_part j ps fs vs)
+    ∙ map-same (λ j. at_place j ps (values_by (carried_each fs) vs))
+    (part_value (to_parts ps fs) vs) 0 (length ps) (λ j p q. placed_part j ps fs vs)
     ∙ ap (first_parts (to_parts ps fs) vs) e
 
-kept_part : (vs : List Value) (j : ℕ) → j < length vs → get_or vs j null ≡ or_null keep (slice_get vs j)
+kept_part : (vs : List Value) (j : ℕ) → j < length vs
+    → get_or vs j null ≡ or_null keep (slice_get vs j)
 kept_part [] j l = absurd (omega (arith, l))
 kept_part (v ∷ vs) zero l = refl
 kept_part (v ∷ vs) (suc j) l = kept_part vs j (omega (arith, l))
