@@ -14,9 +14,11 @@ loop-i-init g c = record {
 }
 
 pub put_side-requires-clause-row : goal.put_side-requires-clause-row
-put_side-requires-clause-row g c =
-    (row_parts (typ_of c.args.t.now), row_side (typ_of c.args.t.now) (sides_of c.args.sides.now)
-    c.loop-i.i (side_of c.get.result.now) c.requires.row c.requires.sides c.get.ensures)
+put_side-requires-clause-row g c = (
+  row_parts (typ_of c.args.t.now),
+  row_side (typ_of c.args.t.now) (sides_of c.args.sides.now)
+      c.loop-i.i (side_of c.get.result.now) c.requires.row c.requires.sides c.get.ensures,
+)
 
 pub loop-i-preserved : goal.loop-i-preserved
 loop-i-preserved g c = record {
