@@ -8,6 +8,7 @@ mod merging;
 mod nodes;
 mod numbers;
 mod options;
+mod parts;
 mod rows;
 mod sides;
 mod unions;

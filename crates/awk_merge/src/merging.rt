@@ -1,10 +1,11 @@
 //! Columns of several types merged into one.
-ghost use Rattle.std.specs.Prelude.{◌≡◌, IfOk, map};
+ghost use Rattle.std.specs.Prelude.{◌≡◌, IfOk};
 ghost use Rattle.awk_types.specs.DataType.{opt, reg, types_from, uni, var};
-ghost use Rattle.awk_types.specs.View.{typ_of, typs_of, fields_of};
+ghost use Rattle.awk_types.specs.View.{typ_of, typs_of};
 ghost use Rattle.awk_layout.specs.Array.{IsArrayType};
-ghost use Rattle.awk_merge.specs.Levels.{groups_of, row_parts, AreArrayTypes, AreCounted};
+ghost use Rattle.awk_merge.specs.Levels.{groups_of, AreArrayTypes, AreCounted};
 ghost use Rattle.awk_merge.specs.Levels.{AreGroups, AreMerged, IsRowType};
+ghost use Rattle.awk_merge.specs.PartTypes.{part_types};
 ghost use Rattle.awk_merge.specs.Sides.{sides_of, AreSides, IsCounted, IsMerged};
 
 use crate::groups::Groups;
@@ -12,12 +13,13 @@ use crate::lists::{list_level, regular_level};
 use crate::nodes::{list_node, nothing, only, option_node, regular_node, row_node};
 use crate::numbers::numbers;
 use crate::options::option_level;
+use crate::parts::part_type;
 use crate::rows::row_level;
 use crate::sides::Sides;
 use crate::unions::union_level;
 use awk_lanes::{Arena, Steps};
 use awk_layout::{Node, Nodes};
-use awk_types::{Fields, NoMemory, Typ, Typs};
+use awk_types::{NoMemory, Typ, Typs};
 use std::alloc::Global;
 use std::sync::ledger::Ledger;
 
@@ -45,7 +47,7 @@ pub fn merge<'a, L: Ledger>(
         Typ::Var(item) => merge_lists(alloc, item, sides, arena, steps),
         Typ::Reg(size, item) => merge_regular(alloc, *size, item, sides, arena, steps),
         Typ::Rec(_) | Typ::Tup(_) => merge_rows(alloc, t, sides, arena, steps),
-        Typ::Uni(alternatives) => merge_unions(alloc, alternatives, sides, arena, steps),
+        Typ::Uni(alternatives) => merge_unions(alloc, t, alternatives, sides, arena, steps),
     }
 }
 
@@ -123,91 +125,49 @@ fn merge_rows<'a, L: Ledger>(
     ensures { IfOk result (IsMerged (typ_of t.now) (sides_of sides.now)) }
 {
     let groups = row_level(alloc, t, sides, arena, steps)?;
-    let nodes = merge_parts(alloc, t, &groups, arena, steps)?;
+    let nodes = merge_each(alloc, t, &groups, arena, steps)?;
     row_node(alloc, t, sides.total(), nodes, steps)
 }
 
-/// One column for each part of a record or tuple.
+/// Columns of unions, which have these alternatives.
 #[cycle(merge)]
-fn merge_parts<'a, L: Ledger>(
+fn merge_unions<'a, L: Ledger>(
+    alloc: Global,
+    t: &Typ,
+    alternatives: &Typs,
+    sides: &Sides<'a>,
+    arena: &'a Arena,
+    steps: &mut Steps<L>,
+) -> Result<Node<'a>, NoMemory>
+    requires typ { typ_of t.now ≡ uni (types_from (typs_of alternatives.now)) }
+    requires lawful { IsArrayType (typ_of t.now) }
+    requires sides { AreSides (typ_of t.now) (sides_of sides.now) }
+    requires counted { IsCounted sides.now }
+    ensures { IfOk result (IsMerged (typ_of t.now) (sides_of sides.now)) }
+{
+    let level = union_level(alloc, alternatives, sides, arena, steps)?;
+    let nodes = merge_each(alloc, t, &level.groups, arena, steps)?;
+    Ok(Node::union(level.tags, level.index, nodes, steps))
+}
+
+/// One column for each part or alternative.
+#[cycle(merge)]
+fn merge_each<'a, L: Ledger>(
     alloc: Global,
     t: &Typ,
     groups: &Groups<'a>,
     arena: &'a Arena,
     steps: &mut Steps<L>,
 ) -> Result<Nodes<'a>, NoMemory>
-    requires row { IsRowType (typ_of t.now) }
-    requires lawful { AreArrayTypes (row_parts (typ_of t.now)) }
-    requires groups { AreGroups (row_parts (typ_of t.now)) (groups_of groups.now) }
+    requires lawful { AreArrayTypes (part_types (typ_of t.now)) }
+    requires groups { AreGroups (part_types (typ_of t.now)) (groups_of groups.now) }
     requires counted { AreCounted groups.now }
-    ensures { IfOk result (AreMerged (row_parts (typ_of t.now)) (groups_of groups.now)) }
-{
-    match t {
-        Typ::Rec(fields) => merge_fields(alloc, fields, groups, arena, steps),
-        Typ::Tup(parts) => merge_each(alloc, parts, groups, arena, steps),
-        _ => unreachable!(),
-    }
-}
-
-/// Columns of unions.
-#[cycle(merge)]
-fn merge_unions<'a, L: Ledger>(
-    alloc: Global,
-    alternatives: &Typs,
-    sides: &Sides<'a>,
-    arena: &'a Arena,
-    steps: &mut Steps<L>,
-) -> Result<Node<'a>, NoMemory>
-    requires lawful { IsArrayType (uni (types_from (typs_of alternatives.now))) }
-    requires sides { AreSides (uni (types_from (typs_of alternatives.now))) (sides_of sides.now) }
-    requires counted { IsCounted sides.now }
-    ensures { let t = uni (types_from (typs_of alternatives.now)) in
-        IfOk result (IsMerged t (sides_of sides.now)) }
-{
-    let level = union_level(alloc, alternatives, sides, arena, steps)?;
-    let nodes = merge_each(alloc, alternatives, &level.groups, arena, steps)?;
-    Ok(Node::union(level.tags, level.index, nodes, steps))
-}
-
-/// One column for each type.
-#[cycle(merge)]
-fn merge_each<'a, L: Ledger>(
-    alloc: Global,
-    ts: &Typs,
-    groups: &Groups<'a>,
-    arena: &'a Arena,
-    steps: &mut Steps<L>,
-) -> Result<Nodes<'a>, NoMemory>
-    requires lawful { AreArrayTypes (typs_of ts.now) }
-    requires groups { AreGroups (typs_of ts.now) (groups_of groups.now) }
-    requires counted { AreCounted groups.now }
-    ensures { IfOk result (AreMerged (typs_of ts.now) (groups_of groups.now)) }
+    ensures { IfOk result (AreMerged (part_types (typ_of t.now)) (groups_of groups.now)) }
 {
     let mut nodes = Nodes::new(alloc);
-    for j in 0..ts.len() {
-        nodes.push(merge(alloc, ts.get(j), groups.get(j), arena, steps)?)?;
-    }
-    Ok(nodes)
-}
-
-/// One column for each field.
-#[cycle(merge)]
-fn merge_fields<'a, L: Ledger>(
-    alloc: Global,
-    fields: &Fields,
-    groups: &Groups<'a>,
-    arena: &'a Arena,
-    steps: &mut Steps<L>,
-) -> Result<Nodes<'a>, NoMemory>
-    requires lawful { AreArrayTypes (map (λ f. f.typ) (fields_of fields.now)) }
-    requires groups { AreGroups (map (λ f. f.typ) (fields_of fields.now)) (groups_of groups.now) }
-    requires counted { AreCounted groups.now }
-    ensures { let ts = map (λ f. f.typ) (fields_of fields.now) in
-        IfOk result (AreMerged ts (groups_of groups.now)) }
-{
-    let mut nodes = Nodes::new(alloc);
-    for j in 0..fields.len() {
-        nodes.push(merge(alloc, &fields.get(j).typ, groups.get(j), arena, steps)?)?;
+    for j in 0..groups.len() {
+        let node = merge(alloc, part_type(t, j), groups.get(j), arena, steps)?;
+        nodes.push(node)?;
     }
     Ok(nodes)
 }
