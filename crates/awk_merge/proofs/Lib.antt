@@ -20,3 +20,4 @@ pub mod TargetLaws
 pub mod TypeParts
 pub mod UnionLaws
 pub mod UnionSides
+pub mod PartTypeLaws
