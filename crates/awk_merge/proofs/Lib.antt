@@ -11,10 +11,14 @@ pub mod OpenedLists
 pub mod OptionLaws
 pub mod PartTypeLaws
 pub mod RegularLaws
+pub mod RowGroups
 pub mod RowLaws
+pub mod RowSides
+pub mod RowValues
 pub mod SideLaws
 pub mod TaggedLaws
 pub mod TargetLaws
 pub mod TypeParts
 pub mod UnionLaws
 pub mod UnionSides
+pub mod PartTypeLaws

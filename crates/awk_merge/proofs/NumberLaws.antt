@@ -1,39 +1,38 @@
 -- Numbers of columns in one lane.
-use Rattle.std.proofs.Common.{◌≡◌, ◌≢◌, ℕ, zero, suc, ◌+◌, ◌*◌, ◌/◌, ◌%◌, ◌<◌, ◌≤◌, List, [], ◌∷◌, ◌++◌, Bool, true, false, length, map, take, drop, get_or, Option, Some, None, refl, ap, ap₂, sym, subst, ◌∙◌, arith, add-one, w8, w16, w32, w64, ◌^◌, length-drop, length-append}
-use Rattle.std.specs.Prelude.{ℤ, pos, negsuc, slice_get, FitsSigned}
+use Rattle.std.proofs.Common.{◌≡◌, ℕ, zero, suc, ◌+◌, ◌*◌, ◌<◌, ◌≤◌, List, [], ◌∷◌, ◌++◌, true, false, length, map, take, drop, get_or, Some, None, refl, ap, ap₂, sym, subst, ◌∙◌, arith, length-drop, length-append}
+use Rattle.std.specs.Prelude.{pos, slice_get}
 use Rattle.std.specs.List.{AllByRecursion, range_with_len}
-use Rattle.std.proofs.lemmas.Int.{ints}
-use Rattle.std.proofs.lemmas.List.{length-map, get_or-map, map-append, take-append-le, drop-append-le, take_all, append-nil}
+use Rattle.std.proofs.lemmas.List.{length-map, get_or-map, map-append, take-append-le, drop-append-le, append-nil}
 use Rattle.std.proofs.lemmas.List.FromFn.{fill_by_all, map-range_with_len_more, length-map-range_with_len}
-use Rattle.std.proofs.Math.Nat.{mul-mod_left}
-use Rattle.awk_types.specs.DataType.{DataType, unknown, leaf, var, reg, rec, tup, opt, uni, row_type, types_from}
+use Rattle.awk_types.specs.DataType.{DataType, leaf}
 use Rattle.awk_types.specs.Has.{Has}
-use Rattle.awk_types.specs.Value.{Value, int, truth, null, list, row, alt}
+use Rattle.awk_types.specs.Value.{Value, null}
 use Rattle.awk_types.specs.declared.primitive.Primitive.{Primitive}
 use Rattle.awk_lanes.specs.Column.{Column}
 use Rattle.awk_lanes.specs.Making.{Making, with_item}
-use Rattle.awk_lanes.specs.Numbers.{element, number, numbers, width, int_of, IsOf, is_nonzero}
+use Rattle.awk_lanes.specs.Numbers.{number, numbers, width, int_of, IsOf}
 use Rattle.awk_lanes.specs.Places.{size_of, at}
 use Rattle.awk_lanes.specs.declared.kind.Kind.{Kind}
 use Rattle.awk_lanes.specs.declared.kind.Kind.TheVariants.{Bool as Truths, I8, I16, I32, I64, U8, U16, U32, U64}
 use Rattle.awk_lanes.specs.declared.kind.Num.{Num}
 use Rattle.awk_lanes.specs.declared.kind.Num.TheVariants.{Int, Nat, Truth}
-use Rattle.awk_lanes.proofs.NumberParts.{length-numbers, number-take}
+use Rattle.awk_lanes.proofs.NumberParts.{number-take}
 use Rattle.awk_layout.specs.Item.{leaf_value}
 use Rattle.awk_layout.specs.Kinds.{primitive_of, kind_of, primitive_of-kind_of}
-use Rattle.awk_layout.specs.Layout.{Layout, flat}
+use Rattle.awk_layout.specs.Layout.{flat}
 use Rattle.awk_layout.specs.Typing.{array_type, array_items}
-use Rattle.awk_layout.specs.Valid.{len}
 use Rattle.awk_gather.specs.InOrder.{IsInOrder}
 use Rattle.awk_gather.specs.Opened.{IsKindOf, IsListOf}
 use Rattle.awk_gather.specs.declared.opening.Opened.{Opened}
 use Rattle.awk_gather.specs.declared.opening.Opened.TheVariants.{Empty, Leaf, Items, Row}
 use Rattle.awk_gather.specs.declared.opening.Opened.TheVariants.{Option as Optional, Union}
 use Rattle.awk_axis.proofs.ArrayLaws.{array_items-at}
-use Rattle.awk_unify.specs.Carry.{Carry, carried, keep, in_items, to_parts, to_alternatives}
-use Rattle.awk_merge.specs.Leaves.{lane_value, leaf_values, num_value, is_unsigned, AreOf}
-use Rattle.awk_merge.specs.Sides.{Side, side_items, merged_items, Carries, IsSide, AreSides, IsMerged}
-use Rattle.awk_merge.proofs.SideLaws.{side_has, merged_items-next, merged_items-all, length-side_items}
+use Rattle.awk_unify.specs.Carry.{Carry, carried}
+use Rattle.awk_merge.specs.Leaves.{lane_value, leaf_values, num_value, AreOf}
+use Rattle.awk_merge.specs.Sides.{Side, side_items, merged_items, IsSide, IsMerged}
+use Rattle.awk_gather.specs.Arrays.{array_item}
+use Rattle.awk_merge.proofs.CarryLaws.{IsLeafType, leaf_scalar, scalar_stays, leaves_before}
+use Rattle.awk_merge.proofs.SideLaws.{side_has, merged_items-next, item_has}
 
 -- ---- the values of a lane
 
@@ -53,84 +52,34 @@ length-leaf_values c = length-map c.items (lane_value c.kind)
 
 -- ---- what a carry does to a number: nothing
 
-leaf_carried : (p : Primitive) (f : Carry) (v : Value) → Has (leaf p) (carried f v) → carried f v ≡ v
-leaf_carried p keep v h = refl
-leaf_carried p (in_items f) (list vs) h = absurd h
-leaf_carried p (in_items f) v h = refl
-leaf_carried p (to_parts ps fs) (row vs) h = absurd h
-leaf_carried p (to_parts ps fs) v h = refl
-leaf_carried p (to_alternatives ts fs) null h = refl
-leaf_carried p (to_alternatives ts fs) (int z) h = absurd h
-leaf_carried p (to_alternatives ts fs) (truth b) h = absurd h
-leaf_carried p (to_alternatives ts fs) (list vs) h = absurd h
-leaf_carried p (to_alternatives ts fs) (row vs) h = absurd h
-leaf_carried p (to_alternatives ts fs) (alt k v) h = absurd h
-
-leaf_itself : (p : Primitive) (f : Carry) (v : Value) → Has (leaf p) (carried f v) → Has (leaf p) v
-leaf_itself p f v h = subst (Has (leaf p)) (leaf_carried p f v h) h
-
 leaves_carried : (p : Primitive) (f : Carry) (vs : List Value)
     → AllByRecursion (Has (leaf p)) (map (carried f) vs) → map (carried f) vs ≡ vs
 leaves_carried p f [] h = refl
 leaves_carried p f (v ∷ vs) h =
-    ap₂ (λ w ws. w ∷ ws) (leaf_carried p f v h.0) (leaves_carried p f vs h.1)
+    ap₂ (λ w ws. w ∷ ws) (scalar_stays f v (leaf_scalar p (carried f v) h.0))
+    (leaves_carried p f vs h.1)
 
 -- ---- only a column of numbers becomes numbers
-
-abbrev IsLeaf : DataType → Type 0
-IsLeaf (leaf p) = Unit {0}
-IsLeaf unknown = ⊥
-IsLeaf (var t) = ⊥
-IsLeaf (reg n t) = ⊥
-IsLeaf (rec ns ts) = ⊥
-IsLeaf (tup ts) = ⊥
-IsLeaf (opt t) = ⊥
-IsLeaf (uni ts) = ⊥
-
-leaf_typed : (a : DataType) (p : Primitive) (f : Carry) (v : Value) → Has a v
-    → Carries a f (leaf p) → IsLeaf a
-leaf_typed (leaf q) p f v h c = tt
-leaf_typed unknown p f v h c = absurd h
-leaf_typed (var t) p f (list vs) h c = absurd (leaf_itself p f (list vs) (c (list vs) h))
-leaf_typed (var t) p f v h c = absurd h
-leaf_typed (reg n t) p f (list vs) h c = absurd (leaf_itself p f (list vs) (c (list vs) h))
-leaf_typed (reg n t) p f v h c = absurd h
-leaf_typed (rec ns ts) p f (row vs) h c = absurd (leaf_itself p f (row vs) (c (row vs) h))
-leaf_typed (rec ns ts) p f v h c = absurd h
-leaf_typed (tup ts) p f (row vs) h c = absurd (leaf_itself p f (row vs) (c (row vs) h))
-leaf_typed (tup ts) p f v h c = absurd h
-leaf_typed (opt t) p f v h c = absurd (leaf_itself p f null (c null tt))
-leaf_typed (uni ts) p f (alt k v) h c = absurd (leaf_itself p f (alt k v) (c (alt k v) h))
-leaf_typed (uni ts) p f v h c = absurd h
-
--- so a column that is opened otherwise has no items
 pub leaf_opened : (p : Primitive) (s : Side) (r : Opened) → IsSide (leaf p) s
     → AllByRecursion (Has (array_type s.column)) (array_items s.column)
     → IsKindOf (array_type s.column) r → ((c : Column) → r ≡ Leaf c → ⊥) → ⊥
 leaf_opened p s r h k o n =
-    by_kind r (leaf_typed _ p s.carry _ (first _ _ (omega (arith, h.some, l)) k) h.values) o n
+    by_kind r (leaves_before p (array_type s.column) s.carry (array_item s.column 0)
+    (item_has s.column 0 k h.some) h.values) o n
   where
-    l : length (array_items s.column) ≡ len s.column
-    l = sym (length-map (array_items s.column) (carried s.carry)) ∙ length-side_items s
-
-    first : (P : Value → Type 0) (vs : List Value) → 0 < length vs → AllByRecursion P vs
-        → P (get_or vs 0 null)
-    first P [] q k = absurd (omega (arith, q))
-    first P (v ∷ vs) q k = k.0
-
-    lists_not : (a u : DataType) → IsLeaf a → IsListOf a u → ⊥
+    lists_not : (a u : DataType) → IsLeafType a → IsListOf a u → ⊥
     lists_not (leaf p) u q k = absurd k
     lists_not a u q k = absurd q
 
-    by_kind : (r : Opened) → IsLeaf (array_type s.column) → IsKindOf (array_type s.column) r
+    by_kind : (r : Opened) → IsLeafType (array_type s.column) → IsKindOf (array_type s.column) r
         → ((c : Column) → r ≡ Leaf c → ⊥) → ⊥
-    by_kind Empty q k n = subst IsLeaf k q
+    by_kind Empty q k n = subst IsLeafType k q
     by_kind (Leaf c) q k n = n c refl
     by_kind (Items b e y) q k n = lists_not _ _ q k
-    by_kind (Row None ys) q k n = subst IsLeaf k q
-    by_kind (Row (Some ns) ys) q k n = subst IsLeaf k q
-    by_kind (Optional j y) q k n = subst IsLeaf k q
-    by_kind (Union t j ys) q k n = subst IsLeaf k q
+    by_kind (Row None ys) q k n = subst IsLeafType k q
+    by_kind (Row (Some ns) ys) q k n = subst IsLeafType k q
+    by_kind (Optional j y) q k n = subst IsLeafType k q
+    by_kind (Union t j ys) q k n = subst IsLeafType k q
 
 -- the lane of a column of numbers
 pub side_leaves : (p : Primitive) (s : Side) (c : Column) → IsSide (leaf p) s
@@ -226,18 +175,6 @@ read_of p c i x h l a e =
 
 -- ---- a number in another kind that holds it
 
-pub as_unsigned : (k : Kind) (z : ℤ) → Has (leaf (primitive_of k)) (int z) → is_unsigned k ≡ true
-    → (n : ℕ) → z ≡ pos n → IsOf k (Nat n)
-as_unsigned U8 z h e n is = let b = h.1 in omega (arith, ints, is, b)
-as_unsigned U16 z h e n is = let b = h.1 in omega (arith, ints, is, b)
-as_unsigned U32 z h e n is = let b = h.1 in omega (arith, ints, is, b)
-as_unsigned U64 z h e n is = let b = h.1 in omega (arith, ints, is, b)
-as_unsigned Truths z h e n is = cc
-as_unsigned I8 z h e n is = cc
-as_unsigned I16 z h e n is = cc
-as_unsigned I32 z h e n is = cc
-as_unsigned I64 z h e n is = cc
-
 -- ---- bytes one after another
 
 -- the numbers of bytes, with others after them
@@ -262,9 +199,6 @@ pub record AreBytesOf (k : Kind) (vs : List Value) (b : List ℕ) : Type 0 where
   pub size : length b ≡ length vs * width k
   pub values : map (lane_value k) (numbers k (length vs) b) ≡ vs
 
-pub bytes_of_none : (k : Kind) → AreBytesOf k [] []
-bytes_of_none k = record { size = omega arith; values = refl }
-
 pub bytes_of_more : (k : Kind) (vs ws : List Value) (c : Column) (a b : List ℕ)
     → c.kind ≡ k → leaf_values c ≡ ws → numbers c.kind (size_of c) b ≡ c.items
     → length b ≡ size_of c * width c.kind → AreBytesOf k vs a → AreBytesOf k (vs ++ ws) (a ++ b)
@@ -286,27 +220,6 @@ bytes_of_more k vs ws c a b e v n l h =
           ∙ map-append (lane_value k) (numbers k (length vs) a) (numbers k (length ws) b)
           ∙ ap₂ (λ x y. x ++ y) h.values others;
     }
-
-pub bytes_whole : (k : Kind) (vs : List Value) (b : List ℕ) → AreBytesOf k vs b
-    → length b % width k ≡ 0
-bytes_whole k vs b h = ap (λ n. n % width k) h.size ∙ mul-mod_left (length vs) (width k)
-
-pub bytes_all : (k : Kind) (vs : List Value) (b : List ℕ) (c : Column) → c.kind ≡ k
-    → c.items ≡ numbers k (length b / width k) b → AreBytesOf k vs b → leaf_values c ≡ vs
-bytes_all k vs b c e n h =
-    let count : length b / width k ≡ length vs = ap (λ n. n / width k) h.size ∙ divided k (length vs) in
-    ap₂ (λ k zs. map (lane_value k) zs) e (n ∙ ap (λ n. numbers k n b) count) ∙ h.values
-  where
-    divided : (k : Kind) (n : ℕ) → n * width k / width k ≡ n
-    divided Truths n = omega arith
-    divided I8 n = omega arith
-    divided I16 n = omega arith
-    divided I32 n = omega arith
-    divided I64 n = omega arith
-    divided U8 n = omega arith
-    divided U16 n = omega arith
-    divided U32 n = omega arith
-    divided U64 n = omega arith
 
 -- the bytes of the next column
 pub bytes_next : (k : Kind) (ss : List Side) (i : ℕ) (s : Side) (c : Column) (a b : List ℕ)

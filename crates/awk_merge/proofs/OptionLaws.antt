@@ -1,100 +1,36 @@
 -- Columns without their nulls, and the index into all that is present.
-use Rattle.std.proofs.Common.{◌≡◌, ℕ, zero, suc, ◌+◌, ◌-◌, ◌<◌, ◌≤◌, List, [], ◌∷◌, ◌++◌, Bool, true, false, length, map, take, get_or, Option, Some, None, refl, ap, ap₂, sym, subst, ◌∙◌, arith, length-append, append_assoc}
+use Rattle.std.proofs.Common.{◌≡◌, ℕ, zero, suc, ◌+◌, ◌<◌, ◌≤◌, List, [], ◌∷◌, ◌++◌, false, length, map, take, get_or, Option, Some, None, refl, ap, ap₂, sym, subst, ◌∙◌, arith, length-append, append_assoc}
 use Rattle.std.specs.Prelude.{ℤ, pos, negsuc, ◌<ℤ◌, slice_get, ◌^◌}
 use Rattle.std.specs.List.{AllByRecursion, range_with_len}
 use Rattle.std.proofs.lemmas.Int.{ints}
-use Rattle.std.proofs.lemmas.List.{length-map, get_or-map, map-append, get_or_append_left, get_or-append-add, take_all, append-nil, ext_get_or}
+use Rattle.std.proofs.lemmas.List.{length-map, map-append, get_or_append_left, get_or-append-add}
 use Rattle.std.proofs.lemmas.List.FromFn.{fill_by_all, length-map-range_with_len, map-range_with_len_more}
 use Rattle.std.proofs.lemmas.Simd.{map-map}
-use Rattle.awk_types.specs.DataType.{DataType, unknown, leaf, var, reg, rec, tup, opt, uni, row_type}
-use Rattle.awk_types.specs.Has.{Has}
+use Rattle.awk_types.specs.DataType.{DataType, unknown, leaf, var, reg, rec, tup, opt, uni}
 use Rattle.awk_types.specs.Simple.{is_option, present, option_of, IsSimple}
-use Rattle.awk_types.specs.Value.{Value, int, truth, null, list, row, alt}
+use Rattle.awk_types.specs.Value.{Value, null}
 use Rattle.awk_types.proofs.ListLaws.{take-get}
 use Rattle.awk_lanes.specs.Column.{Column}
 use Rattle.awk_lanes.specs.Making.{Making, with_item}
-use Rattle.awk_lanes.specs.Places.{size_of, at, option_place, option_place_at, IsOptionKind, IsOptionalIndex}
-use Rattle.awk_lanes.specs.declared.kind.Kind.{Kind}
-use Rattle.awk_lanes.specs.declared.kind.Kind.TheVariants.{I64}
+use Rattle.awk_lanes.specs.Places.{size_of, at, option_place, option_place_at, IsOptionalIndex}
 use Rattle.awk_layout.specs.Item.{at_option}
 use Rattle.awk_layout.specs.Layout.{Layout, optional}
 use Rattle.awk_layout.specs.Typing.{array_type, array_items}
 use Rattle.awk_layout.specs.Valid.{len}
 use Rattle.awk_layout.proofs.ArrayItems.{length-array_items}
 use Rattle.awk_gather.specs.Arrays.{array_item, pick}
-use Rattle.awk_gather.proofs.GatheredArrays.{picked_items, at-I64}
+use Rattle.awk_gather.proofs.GatheredArrays.{picked_items}
 use Rattle.awk_gather.proofs.OptionItems.{item-optional}
-use Rattle.awk_axis.specs.ListFunction.{Class}
-use Rattle.awk_axis.specs.Opened.{IsOpened, OpensOption}
-use Rattle.awk_axis.specs.declared.opening.Opened.{Opened}
-use Rattle.awk_axis.specs.declared.opening.Opened.TheVariants.{Unknown, Leaf, Items, Row}
-use Rattle.awk_axis.specs.declared.opening.Opened.TheVariants.{Option as Optional, Union}
+use Rattle.awk_axis.specs.Opened.{OpensOption}
 use Rattle.awk_axis.proofs.ArrayLaws.{array_items-at, map-same}
-use Rattle.awk_unify.specs.Carry.{Carry, carried, keep, in_items, to_parts, to_alternatives}
+use Rattle.awk_unify.specs.Carry.{Carry, carried}
 use Rattle.awk_merge.specs.Levels.{IsOptionLevel}
 use Rattle.awk_merge.specs.Present.{with_items, places_on, moved, index_on, ArePresent, IsPresentPut}
-use Rattle.awk_merge.specs.Sides.{Side, sides_of, side_items, merged_items, with_side, Carries, IsSide, AreSides, IsCounted, IsMerged}
+use Rattle.awk_merge.specs.Sides.{Side, sides_of, side_items, merged_items, with_side, Carries, IsSide, AreSides, IsMerged}
 use Rattle.awk_merge.specs.declared.options.OptionLevel.{OptionLevel}
-use Rattle.awk_merge.proofs.SideLaws.{merged_items-side, merged_items-with_side, AreSides-with_side, length-carried, get_or-carried, length-side_items, total-with_side, total-within, all-append}
-
--- ---- what a carry does to null
-
-pub carried-null : (f : Carry) → carried f null ≡ null
-carried-null keep = refl
-carried-null (in_items f) = refl
-carried-null (to_parts ps fs) = refl
-carried-null (to_alternatives ts fs) = refl
-
--- and to what is not null
-carried-present : (f : Carry) (v : Value) → carried f v ≡ null → v ≡ null
-carried-present keep v e = e
-carried-present (in_items f) (list vs) e = cc
-carried-present (in_items f) v e = e
-carried-present (to_parts ps fs) (row vs) e = cc
-carried-present (to_parts ps fs) v e = e
-carried-present (to_alternatives ts fs) null e = refl
-carried-present (to_alternatives ts fs) (int z) e = cc
-carried-present (to_alternatives ts fs) (truth b) e = cc
-carried-present (to_alternatives ts fs) (list vs) e = cc
-carried-present (to_alternatives ts fs) (row vs) e = cc
-carried-present (to_alternatives ts fs) (alt k v) e = cc
-
-null_has : (t : DataType) → is_option t ≡ false → Has t null → ⊥
-null_has unknown e h = h
-null_has (leaf p) e h = h
-null_has (var t) e h = h
-null_has (reg n t) e h = h
-null_has (rec ns ts) e h = h
-null_has (tup ts) e h = h
-null_has (uni ts) e h = h
-null_has (opt t) e h = cc
-
-some_has : (t : DataType) (v : Value) → Has t v → Has (opt t) v
-some_has t null h = tt
-some_has t (int z) h = h
-some_has t (truth b) h = h
-some_has t (list vs) h = h
-some_has t (row vs) h = h
-some_has t (alt k v) h = h
-
-present_has : (t : DataType) (v : Value) → (v ≡ null → ⊥) → Has (opt t) v → Has t v
-present_has t null n h = absurd (n refl)
-present_has t (int z) n h = h
-present_has t (truth b) n h = h
-present_has t (list vs) n h = h
-present_has t (row vs) n h = h
-present_has t (alt k v) n h = h
-
--- values of a type without nulls become ones without nulls
-pub whole_values : (a u : DataType) (f : Carry) → is_option a ≡ false → Carries a f (opt u)
-    → Carries a f u
-whole_values a u f e c v h =
-    present_has u (carried f v)
-    (λ n. null_has a e (subst (Has a) (carried-present f v n) h)) (c v h)
-
-pub present_values : (a u : DataType) (f : Carry) → is_option a ≡ false
-    → Carries (opt a) f (opt u) → Carries a f u
-present_values a u f e c = whole_values a u f e (λ v h. c v (some_has a v h))
+use Rattle.awk_unify.proofs.AfterLaws.{carry_null}
+use Rattle.awk_merge.proofs.CarryLaws.{Carries-opt, Carries-present}
+use Rattle.awk_merge.proofs.SideLaws.{merged_items-side, merged_items-with_side, AreSides-with_side, length-carried, get_or-carried, total-with_side, total-within, all-append}
 
 -- ---- an index into one list behind another
 
@@ -263,7 +199,7 @@ whole_put x f before after old new first o a b e = record {
       (below-places (length (merged_items before)) (len x)))
       (sym (pick-places (merged_items before) vs (len x) (length-carried x f)))
       (λ u q k h. AreSides-with_side u before x f h
-      (λ p. whole_values (array_type x) u f o k.values)) h);
+      (λ p. Carries-present (array_type x) u f o k.values)) h);
 }
   where
     vs : List Value
@@ -275,7 +211,7 @@ inner_option a b e s = let t : IsSimple (opt b) = subst IsSimple e s in t.0
 
 carried_option : (f : Carry) (o : Option ℕ) (g : ℕ → Value)
     → carried f (at_option o g) ≡ at_option o (λ k. carried f (g k))
-carried_option f None g = carried-null f
+carried_option f None g = carry_null f
 carried_option f (Some k) g = refl
 
 option_same : (z : ℤ) (n : ℕ) (f g : ℕ → Value) → z <ℤ pos n → ((k : ℕ) → k < n → f k ≡ g k)
@@ -285,8 +221,8 @@ option_same (negsuc k) n f g p e = refl
 
 option_items : (x y : Layout) (f : Carry) (j : Column) → OpensOption j y x
     → map (carried f) (array_items x)
-    ≡ map (λ i. at_option (option_place_at j i) (λ k. get_or (map (carried f) (array_items y)) k null))
-    (range_with_len 0 (size_of j))
+    ≡ map (λ i. at_option (option_place_at j i)
+    (λ k. get_or (map (carried f) (array_items y)) k null)) (range_with_len 0 (size_of j))
 option_items x y f j o =
     ap (map (carried f)) (array_items-at x)
     ∙ map-map (carried f) (array_item x) (range_with_len 0 (len x))
@@ -317,29 +253,14 @@ present_put x y f j before after old new first s o a b e = record {
       (below-index (length (merged_items before)) (len y) j o.index))
       (option_items x y f j o ∙ sym (pick-index (merged_items before) vs j))
       (λ u q k h. AreSides-with_side u before y f h
-      (λ p. present_values (array_type y) u f (inner_option _ _ o.typ s)
-      (subst (λ a. Carries a f (opt u)) o.typ k.values))) h);
+      (λ p. Carries-present (array_type y) u f (inner_option _ _ o.typ s)
+      (Carries-opt (array_type y) (opt u) f (subst (λ a. Carries a f (opt u)) o.typ k.values)))) h);
 }
   where
     vs : List Value
     vs = map (carried f) (array_items y)
 
--- a column that is opened otherwise has no nulls
-pub not_optional : (x : Layout) (r : Opened) → IsOpened x r
-    → ((j : Column) (y : Layout) → r ≡ Optional j y → ⊥) → is_option (array_type x) ≡ false
-not_optional x Unknown o n = ap is_option o.typ
-not_optional x (Leaf c) o n = ap is_option o.typ
-not_optional x (Items None s t y) o n = ap is_option o.typ
-not_optional x (Items (Some m) s t y) o n = ap is_option o.typ
-not_optional x (Row None ys) o n = ap is_option o.typ
-not_optional x (Row (Some ns) ys) o n = ap is_option o.typ
-not_optional x (Optional j y) o n = absurd (n j y refl)
-not_optional x (Union t j ys) o n = ap is_option o.typ
-
 -- ---- loops
-
-pub none_present : ArePresent [] [] []
-none_present = record { sides = λ u o k. tt; below = tt; items = refl }
 
 pub present_next : (ss : List Side) (i : ℕ) (s : Side) (before after : List Side)
     (old new : Making) → slice_get ss i ≡ Some s → IsPresentPut s before old after new
@@ -360,35 +281,6 @@ present_room ss i s present m e r h =
     omega (arith, total-within ss i s e, present_size (take i ss) present m.items h, r)
 
 -- ---- all columns
-
-below-get : (zs : List ℤ) (n i : ℕ) → i < length zs → AllBelow n zs
-    → get_or zs i (pos 0) <ℤ pos n
-below-get [] n i l h = absurd (omega (arith, l))
-below-get (z ∷ zs) n zero l h = h.0
-below-get (z ∷ zs) n (suc i) l h = below-get zs n i (omega (arith, l)) h.1
-
-index_of : (c : Column) (n : ℕ) → c.kind ≡ I64 → AllBelow n c.items → IsOptionalIndex c n
-index_of c n e h = record {
-  kind = subst IsOptionKind (sym e) tt;
-  below = λ i l. subst (λ z. z <ℤ pos n) (sym (at-I64 c i e)) (below-get c.items n i l h);
-}
-
-pub all_present : (ss : List Side) (total n : ℕ) (r : OptionLevel) (m : Making) → length ss ≤ n
-    → total ≡ length (merged_items ss) → total < 2 ^ 63 → IsCounted r.sides → m.kind ≡ I64
-    → r.index.kind ≡ m.kind → r.index.items ≡ m.items
-    → ArePresent (take n ss) (sides_of r.sides) m.items → IsOptionLevel ss r
-all_present ss total n r m l t f c k a b h =
-    let all : ArePresent ss (sides_of r.sides) m.items =
-    subst (λ us. ArePresent us (sides_of r.sides) m.items) (take_all n ss l) h in
-    record {
-      sides = all.sides;
-      counted = c;
-      kind = a ∙ k;
-      fits = omega (arith, ap length b, present_size ss (sides_of r.sides) m.items all, t, f);
-      index = index_of r.index (length (merged_items (sides_of r.sides))) (a ∙ k)
-          (rw b all.below);
-      items = all.items ∙ ap (pick (merged_items (sides_of r.sides))) (sym b);
-    }
 
 -- ---- the column of the index over what is present
 

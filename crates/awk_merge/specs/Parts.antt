@@ -4,8 +4,6 @@ use Rattle.awk_types.specs.DataType.{DataType, tup, types_from}
 use Rattle.awk_types.specs.Value.{null, row, values_from}
 use Rattle.awk_lanes.specs.declared.kind.Kind.TheVariants.{I64}
 use Rattle.awk_layout.specs.Layout.{Layout, optional, empty}
-use Rattle.awk_layout.specs.Typing.{array_type}
-use Rattle.awk_layout.specs.Valid.{len}
 use Rattle.awk_gather.specs.Lanes.{lane_of}
 use Rattle.awk_axis.specs.Opened.{OpensRow}
 use Rattle.awk_unify.specs.Carry.{Carry, keep}

@@ -108,7 +108,10 @@ fn joined<'a, L: Ledger>(
     ensures kind { IfOk result (λ r. r.kind ≡ kind) }
     ensures values { IfOk result (λ r. leaf_values r ≡ merged_items (sides_of sides.now)) }
 {
-    let size = sides.total().checked_mul(kind.width() as u64).ok_or(AllocError)?;
+    let size = sides
+        .total()
+        .checked_mul(kind.width() as u64)
+        .ok_or(AllocError)?;
     let mut bytes = Vec::with_capacity(arena, size as usize)?;
     for i in 0..sides.len() {
         let lane = side_lane(alloc, kind, sides.get(i), arena, steps)?;

@@ -74,8 +74,8 @@ fn put_whole<'a>(
     requires kind { maker.old.kind ≡ Kind.I64 }
     requires room { length maker.old.items + len side.now.column ≤ maker.old.room }
     ensures counted { OnOk result (IsCounted present.new) }
-    ensures put { let s = side_of side.now in
-        OnOk result (IsPresentPut s (sides_of present.old) maker.old (sides_of present.new) maker.new) }
+    ensures put { let s = side_of side.now in OnOk result
+        (IsPresentPut s (sides_of present.old) maker.old (sides_of present.new) maker.new) }
 {
     let first = present.total();
     let n = side.column.len();
@@ -100,8 +100,8 @@ fn put_present<'a, L: Ledger>(
     requires kind { maker.old.kind ≡ Kind.I64 }
     requires room { length maker.old.items + len side.now.column ≤ maker.old.room }
     ensures counted { OnOk result (IsCounted present.new) }
-    ensures put { let s = side_of side.now in
-        OnOk result (IsPresentPut s (sides_of present.old) maker.old (sides_of present.new) maker.new) }
+    ensures put { let s = side_of side.now in OnOk result
+        (IsPresentPut s (sides_of present.old) maker.old (sides_of present.new) maker.new) }
 {
     let first = present.total();
     present.push(alloc, content, &side.lift)?;
@@ -122,8 +122,8 @@ fn put_side<'a, L: Ledger>(
     requires kind { maker.old.kind ≡ Kind.I64 }
     requires room { length maker.old.items + len side.now.column ≤ maker.old.room }
     ensures counted { OnOk result (IsCounted present.new) }
-    ensures put { let s = side_of side.now in
-        OnOk result (IsPresentPut s (sides_of present.old) maker.old (sides_of present.new) maker.new) }
+    ensures put { let s = side_of side.now in OnOk result
+        (IsPresentPut s (sides_of present.old) maker.old (sides_of present.new) maker.new) }
 {
     let _ = side.column.typ();
     match open_array(alloc, &side.column, arena, steps)? {

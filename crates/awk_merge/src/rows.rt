@@ -93,7 +93,7 @@ fn put_parts<'a, L: Ledger>(
     ensures counted { OnOk result (AreCounted groups.new) }
     ensures put { let parts = part_side (len side.now.column) (lift_of side.now.lift) columns.now in
         OnOk result (ArePut parts (length (groups_of groups.old)) (groups_of groups.old)
-            (groups_of groups.new)) }
+        (groups_of groups.new)) }
 {
     for j in 0..groups.len() {
         let part = part(alloc, side, columns, j as u64, arena, steps)?;

@@ -28,6 +28,12 @@ returns c =
     past : (c.loop-k.k < length c.args.places.now) ⊎ (length c.args.places.now ≤ c.loop-k.k)
         → (length c.args.places.now ≤ c.loop-k.k)
         ⊎ (length (lifts_of c.args.parts.now) ≤ c.loop-k.k)
-    past (inl l) = inr (omega (arith, l, c.loop-k-test.false, c.min-k-end.ensures, c.len.ensures,
-        c.len-2.ensures))
+    past (inl l) = inr (omega (
+      arith,
+      l,
+      c.loop-k-test.false,
+      c.min-k-end.ensures,
+      c.len.ensures,
+      c.len-2.ensures,
+    ))
     past (inr l) = inl l

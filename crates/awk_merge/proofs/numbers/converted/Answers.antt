@@ -11,9 +11,13 @@ as_kind-requires g c = record {
 
 pub push-requires-clause-room : goal.push-requires-clause-room
 push-requires-clause-room g c =
-    omega (arith, c.loop-i-test.true, c.loop-i.invariant.room,
-    converted_size c.args.kind c.len-n.result c.args.lane.now c.loop-i.i c.loop-i.maker
-    c.loop-i.invariant)
+    omega (
+      arith,
+      c.loop-i-test.true,
+      c.loop-i.invariant.room,
+      converted_size c.args.kind c.len-n.result c.args.lane.now c.loop-i.i c.loop-i.maker
+          c.loop-i.invariant,
+    )
 
 pub loop-i-preserved : goal.loop-i-preserved
 loop-i-preserved g c =
@@ -23,9 +27,14 @@ loop-i-preserved g c =
 
 pub finish-requires : goal.finish-requires
 finish-requires g c =
-    omega (arith, c.loop-i-test.false, c.loop-i.auto.i-end, c.loop-i.invariant.room,
-    converted_size c.args.kind c.len-n.result c.args.lane.now c.loop-i.i c.loop-i.maker
-    c.loop-i.invariant)
+    omega (
+      arith,
+      c.loop-i-test.false,
+      c.loop-i.auto.i-end,
+      c.loop-i.invariant.room,
+      converted_size c.args.kind c.len-n.result c.args.lane.now c.loop-i.i c.loop-i.maker
+          c.loop-i.invariant,
+    )
 
 pub returns-clause-values : goal.returns-clause-values
 returns-clause-values g c =

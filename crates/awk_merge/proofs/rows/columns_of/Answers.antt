@@ -1,5 +1,5 @@
 use Rattle.awk_merge.specs.Sides.{side_of}
-use Rattle.awk_merge.proofs.RowLaws.{row_opened}
+use Rattle.awk_merge.proofs.RowSides.{row_opened}
 use Rattle.awk_merge.proofs.rows.columns_of.Goals as goal
 
 pub unreachable-requires : goal.unreachable-requires

@@ -1,5 +1,5 @@
 use Rattle.std.proofs.Common.{◌∙◌}
-use Rattle.awk_merge.proofs.RowLaws.{rec_count, tup_count}
+use Rattle.awk_merge.proofs.RowSides.{rec_count, tup_count}
 use Rattle.awk_merge.proofs.rows.count.Goals as goal
 
 pub returns-in-Rec : goal.returns-in-Rec

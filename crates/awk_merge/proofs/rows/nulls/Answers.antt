@@ -4,7 +4,7 @@ use Rattle.std.specs.Prelude.{negsuc}
 use Rattle.awk_lanes.specs.Places.{IsOptionalIndex}
 use Rattle.awk_layout.specs.Valid.{len}
 use Rattle.awk_gather.proofs.MadeLanes.{so_far_pushed}
-use Rattle.awk_merge.proofs.RowLaws.{null_index}
+use Rattle.awk_merge.proofs.RowSides.{null_index}
 use Rattle.awk_merge.proofs.rows.nulls.Goals as goal
 
 pub loop-i-preserved : goal.loop-i-preserved

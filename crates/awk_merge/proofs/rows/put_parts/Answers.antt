@@ -3,7 +3,7 @@ use Rattle.awk_layout.specs.Valid.{len}
 use Rattle.awk_unify.specs.View.{lift_of}
 use Rattle.awk_merge.specs.Levels.{groups_of}
 use Rattle.awk_merge.specs.Parts.{part_side}
-use Rattle.awk_merge.proofs.RowLaws.{put_next}
+use Rattle.awk_merge.proofs.RowGroups.{put_next}
 use Rattle.awk_merge.proofs.rows.put_parts.Goals as goal
 
 pub loop-j-preserved : goal.loop-j-preserved

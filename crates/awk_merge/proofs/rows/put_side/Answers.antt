@@ -1,7 +1,7 @@
 use Rattle.std.proofs.lemmas.Result.{on_ok_weaker}
 use Rattle.awk_unify.specs.View.{lift_of}
 use Rattle.awk_merge.specs.Levels.{groups_of}
-use Rattle.awk_merge.proofs.RowLaws.{rows_put}
+use Rattle.awk_merge.proofs.RowGroups.{rows_put}
 use Rattle.awk_merge.proofs.rows.put_side.Goals as goal
 
 pub returns-clause-parts : goal.returns-clause-parts
