@@ -141,7 +141,7 @@ pub alternative-carries : (ts us : List DataType) (f : Carry) (k : ℕ) (u t : D
     → sides.Carries u (alternative_carry f k) t
 alternative-carries ts us f k u t p c d e = λ v h.
     let has : Has (uni (types_from ts)) (carried f (alt k v))
-        = c (alt k v) (has-alternative us k u v d h) in
+    = c (alt k v) (has-alternative us k u v d h) in
     alternative-has ts (alternative_tag f k) t (carried (alternative_carry f k) v) e
     (subst (Has (uni (types_from ts))) (alternative-carried ts f k v p has) has)
 

@@ -190,7 +190,7 @@ run_moved f g a b (suc n) e =
     let r : b + 0 ≡ b = omega arith in
     let first : f a ≡ g b = ap f l ∙ e 0 (omega arith) ∙ ap g r in
     let rest : run f (suc a) n ≡ run g (suc b) n = run_moved f g (suc a) (suc b) n (λ j p.
-        let m : suc a + j ≡ a + suc j = omega arith in
-        let k : b + suc j ≡ suc b + j = omega arith in
-        ap f m ∙ e (suc j) (omega (arith, p)) ∙ ap g k) in
+    let m : suc a + j ≡ a + suc j = omega arith in
+    let k : b + suc j ≡ suc b + j = omega arith in
+    ap f m ∙ e (suc j) (omega (arith, p)) ∙ ap g k) in
     ap (λ v. value v (run f (suc a) n)) first ∙ ap (value (g b)) rest

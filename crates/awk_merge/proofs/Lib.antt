@@ -22,3 +22,4 @@ pub mod TypeParts
 pub mod UnionLaws
 pub mod UnionSides
 pub mod PartTypeLaws
+mod Worked

@@ -69,8 +69,8 @@ pub source_found : (j p k : ℕ) (ps : List ℕ) (fs : List Carry) (all : Option
 source_found j p k ps fs all e l same h =
     let yes : (p == j) ≡ true = grind (arith, same) in
     let step : source_at j (drop k ps) (drop k fs) ≡ Some 0
-        = ahead j p k ps fs e l
-        ∙ ap (λ b. if b then Some 0 else option_map suc (source_at j (drop (k + 1) ps) (drop (k + 1) fs))) yes in
+    = ahead j p k ps fs e l
+    ∙ ap (λ b. if b then Some 0 else option_map suc (source_at j (drop (k + 1) ps) (drop (k + 1) fs))) yes in
     sym (h ∙ ap (from k) step ∙ ap Some (omega arith))
 
 pub source_next : (j p k : ℕ) (ps : List ℕ) (fs : List Carry) (all : Option ℕ)
@@ -80,9 +80,9 @@ pub source_next : (j p k : ℕ) (ps : List ℕ) (fs : List Carry) (all : Option 
 source_next j p k ps fs all e l other h =
     let no : (p == j) ≡ false = grind (arith, other) in
     let step : source_at j (drop k ps) (drop k fs)
-        ≡ option_map suc (source_at j (drop (k + 1) ps) (drop (k + 1) fs))
-        = ahead j p k ps fs e l
-        ∙ ap (λ b. if b then Some 0 else option_map suc (source_at j (drop (k + 1) ps) (drop (k + 1) fs))) no in
+    ≡ option_map suc (source_at j (drop (k + 1) ps) (drop (k + 1) fs))
+    = ahead j p k ps fs e l
+    ∙ ap (λ b. if b then Some 0 else option_map suc (source_at j (drop (k + 1) ps) (drop (k + 1) fs))) no in
     h ∙ ap (from k) step ∙ from-suc k (source_at j (drop (k + 1) ps) (drop (k + 1) fs))
 
 no_more : (j : ℕ) (ps : List ℕ) (fs : List Carry) → (length ps ≡ 0) ⊎ (length fs ≡ 0)

@@ -224,7 +224,7 @@ pub cut_put : (vs us vs0 : List Value) (a b a0 b0 : List ℤ) (ws more ws0 : Lis
 cut_put vs us vs0 a b a0 b0 ws more ws0 s t n e h size spans items v x y w =
     let there : AreSpans s t (length more) = rw e spans in
     let all : AreCut (vs ++ us) (a ++ moved_places (length ws) n s)
-        (b ++ moved_places (length ws) n t) (ws ++ more) =
+    (b ++ moved_places (length ws) n t) (ws ++ more) =
     rw (sym e) (cut_more vs us a b ws more s t h size there items) in
     rw (v, x, y, w) all
 

@@ -42,7 +42,7 @@ pub within-Rec : (t : Typ) (fs : Fields) (j : ℕ) → t ≡ Rec fs → j < leng
     → j < length (fields_of fs)
 within-Rec t fs j e h =
     let l : j < length (map (λ f. f.typ) (fields_of fs))
-        = subst (λ us. j < length us) (record_parts t fs e) h in
+    = subst (λ us. j < length us) (record_parts t fs e) h in
     omega (arith, l, length-map (fields_of fs) (λ f. f.typ))
 
 -- and what stands there is its type
@@ -59,7 +59,7 @@ pub read-Rec : (t : Typ) (fs : Fields) (j : ℕ) (f : Field) → t ≡ Rec fs
     → slice_get (part_types (typ_of t)) j ≡ Some (typ_of (out-Field f).typ)
 read-Rec t fs j f e h =
     let one : slice_get (map (λ g. g.typ) (fields_of fs)) j ≡ Some (field_of f).typ
-        = slice_get-map (λ g. g.typ) (fields_of fs) j ∙ ap (option_map (λ g. g.typ)) h in
+    = slice_get-map (λ g. g.typ) (fields_of fs) j ∙ ap (option_map (λ g. g.typ)) h in
     subst (λ us. slice_get us j ≡ Some (typ_of (out-Field f).typ)) (sym (record_parts t fs e))
     (one ∙ ap Some (typ_out f))
 

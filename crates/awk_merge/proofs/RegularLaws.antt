@@ -58,42 +58,42 @@ pub record AreBlocks (n : ℕ) (vs ws : List Value) : Type 0 where
   pub items : (i : ℕ) → i < length vs → get_or vs i null ≡ cut ws (i * n) n
 
 module _ (n : ℕ) (vs us ws more : List Value) (h : AreBlocks n vs ws) (k : AreBlocks n us more)
-    where
-  abbrev m : ℕ
-  m = length vs
+  where
+    abbrev m : ℕ
+    m = length vs
 
-  all : length (vs ++ us) ≡ m + length us
-  all = length-append vs us
+    all : length (vs ++ us) ≡ m + length us
+    all = length-append vs us
 
-  early : (i : ℕ) → i < m → cut ws (i * n) n ≡ cut (ws ++ more) (i * n) n
-  early i p =
-      let w = block_within m n i p in
-      ap list (run_moved (λ j. get_or ws j null) (λ j. get_or (ws ++ more) j null) (i * n) (i * n) n
-      (λ j q. sym (get_or_append_left ws more null (i * n + j) (omega (arith, w, q, h.size)))))
+    early : (i : ℕ) → i < m → cut ws (i * n) n ≡ cut (ws ++ more) (i * n) n
+    early i p =
+        let w = block_within m n i p in
+        ap list (run_moved (λ j. get_or ws j null) (λ j. get_or (ws ++ more) j null) (i * n) (i * n) n
+        (λ j q. sym (get_or_append_left ws more null (i * n + j) (omega (arith, w, q, h.size)))))
 
-  late : (i : ℕ) → m ≤ i → cut more ((i - m) * n) n ≡ cut (ws ++ more) (i * n) n
-  late i p =
-      let g : ℕ → Value = λ j. get_or (ws ++ more) j null in
-      let b = block_behind m n i p in
-      ap list (run_moved (λ j. get_or more j null) g ((i - m) * n) (i * n) n (λ j q.
-      let e : length ws + ((i - m) * n + j) ≡ i * n + j = omega (arith, b, h.size) in
-      sym (get_or-append-add ws more ((i - m) * n + j) null) ∙ ap g e))
+    late : (i : ℕ) → m ≤ i → cut more ((i - m) * n) n ≡ cut (ws ++ more) (i * n) n
+    late i p =
+        let g : ℕ → Value = λ j. get_or (ws ++ more) j null in
+        let b = block_behind m n i p in
+        ap list (run_moved (λ j. get_or more j null) g ((i - m) * n) (i * n) n (λ j q.
+        let e : length ws + ((i - m) * n + j) ≡ i * n + j = omega (arith, b, h.size) in
+        sym (get_or-append-add ws more ((i - m) * n + j) null) ∙ ap g e))
 
-  -- the lists of one column more
-  pub blocks_more : AreBlocks n (vs ++ us) (ws ++ more)
-  blocks_more = record {
-    size =
-        let l : length (ws ++ more) ≡ length ws + length more = length-append ws more in
-        let f : (m + length us) * n ≡ m * n + length us * n = grind arith in
-        let g : length (vs ++ us) * n ≡ m * n + length us * n = ap (λ q. q * n) all ∙ f in
-        omega (arith, l, g, h.size, k.size);
-    items = λ i p. below_or i m
-        (λ q. get_or_append_left vs us null i q ∙ h.items i q ∙ early i q)
-        (λ q.
-        let j : i ≡ m + (i - m) = omega (arith, q) in
-        ap (λ x. get_or (vs ++ us) x null) j ∙ get_or-append-add vs us (i - m) null
-        ∙ k.items (i - m) (omega (arith, q, p, all)) ∙ late i q);
-  }
+    -- the lists of one column more
+    pub blocks_more : AreBlocks n (vs ++ us) (ws ++ more)
+    blocks_more = record {
+      size =
+          let l : length (ws ++ more) ≡ length ws + length more = length-append ws more in
+          let f : (m + length us) * n ≡ m * n + length us * n = grind arith in
+          let g : length (vs ++ us) * n ≡ m * n + length us * n = ap (λ q. q * n) all ∙ f in
+          omega (arith, l, g, h.size, k.size);
+      items = λ i p. below_or i m
+          (λ q. get_or_append_left vs us null i q ∙ h.items i q ∙ early i q)
+          (λ q.
+          let j : i ≡ m + (i - m) = omega (arith, q) in
+          ap (λ x. get_or (vs ++ us) x null) j ∙ get_or-append-add vs us (i - m) null
+          ∙ k.items (i - m) (omega (arith, q, p, all)) ∙ late i q);
+    }
 
 -- ---- columns of lists
 
@@ -181,8 +181,11 @@ filled_next ss i x y before now e all holds w c h =
       blocks = λ n u k.
           let side : IsSide (reg n u) x = IsSide-get (reg n u) ss i x e k in
           let l = holds n (side_long n u x side all) in
-          rw (merged_items-next ss i x e, ap merged_items w
-          ∙ merged_items-with_side (sides_of before) y g)
+          rw (
+            merged_items-next ss i x e,
+            ap merged_items w
+                ∙ merged_items-with_side (sides_of before) y g,
+          )
           (blocks_more n (merged_items (take i ss)) (side_items x) (merged_items (sides_of before))
           (map (carried g) (array_items y)) (h.blocks n u k) (side_block n u x y side all l));
     }

@@ -122,12 +122,12 @@ pub counted_push : (before now : Sides) (s : declared.Side) → IsCounted before
     → now.total ≡ before.total + len s.column → now.total < 2 ^ 63 → IsCounted now
 counted_push before now s h e n l =
     let all : sides_of now ≡ sides_of before ++ side_of s ∷ []
-        = ap (map side_of) e ∙ map-append side_of before.sides.items (s ∷ []) in
+    = ap (map side_of) e ∙ map-append side_of before.sides.items (s ∷ []) in
     let more : length (merged_items (sides_of now))
-        ≡ length (merged_items (sides_of before)) + length (side_items (side_of s))
-        = ap (λ ss. length (merged_items ss)) all
-        ∙ ap length (merged_items-side (sides_of before) (side_of s))
-        ∙ length-append (merged_items (sides_of before)) (side_items (side_of s)) in
+    ≡ length (merged_items (sides_of before)) + length (side_items (side_of s))
+    = ap (λ ss. length (merged_items ss)) all
+    ∙ ap length (merged_items-side (sides_of before) (side_of s))
+    ∙ length-append (merged_items (sides_of before)) (side_items (side_of s)) in
     record { total = omega (arith, n, h.total, more, length-side_items (side_of s)); fits = l }
 
 -- the items that were there stay, and the new ones follow
@@ -191,11 +191,11 @@ total-take [] (suc i) = omega arith
 total-take (s ∷ ss) zero = omega arith
 total-take (s ∷ ss) (suc i) =
     let e : length (side_items s ++ merged_items (take i ss))
-        ≡ length (side_items s) + length (merged_items (take i ss))
-        = length-append (side_items s) (merged_items (take i ss)) in
+    ≡ length (side_items s) + length (merged_items (take i ss))
+    = length-append (side_items s) (merged_items (take i ss)) in
     let f : length (side_items s ++ merged_items ss)
-        ≡ length (side_items s) + length (merged_items ss)
-        = length-append (side_items s) (merged_items ss) in
+    ≡ length (side_items s) + length (merged_items ss)
+    = length-append (side_items s) (merged_items ss) in
     omega (arith, e, f, total-take ss i)
 
 -- so many fit where all do

@@ -35,7 +35,7 @@ pub numbers-next : (old m new : Making) (i : ℕ) (f : ℕ → ℕ) (z : ℕ) �
     → z ≡ f i → new ≡ with_item m (pos z) → new ≡ with_numbers old (i + 1) f
 numbers-next old m new i f z d h e =
     let more : numbers (i + 1) f ≡ numbers i f ++ pos (f i) ∷ []
-        = map-range_with_len_more (λ i. pos (f i)) 0 i i (omega arith) in
+    = map-range_with_len_more (λ i. pos (f i)) 0 i i (omega arith) in
     e ∙ ap (λ k. with_item m (pos k)) h ∙ ap (λ k. with_item k (pos (f i))) d
     ∙ ap (λ zs. record { kind = old.kind; room = old.room; items = zs })
     (append_assoc old.items (numbers i f) (pos (f i) ∷ [])
@@ -52,9 +52,9 @@ pub ready-next : (n i : ℕ) (old m : Tagged) (f h : ℕ → ℕ) → IsReady n 
     → m.tags ≡ with_numbers old.tags i f → m.index ≡ with_numbers old.index i h → IsReady 1 m
 ready-next n i old m f h r l d e =
     let tags : length m.tags.items ≡ length old.tags.items + i
-        = ap (λ (k : Making). length k.items) d ∙ length-numbers old.tags i f in
+    = ap (λ (k : Making). length k.items) d ∙ length-numbers old.tags i f in
     let index : length m.index.items ≡ length old.index.items + i
-        = ap (λ (k : Making). length k.items) e ∙ length-numbers old.index i h in
+    = ap (λ (k : Making). length k.items) e ∙ length-numbers old.index i h in
     let tag_room : m.tags.room ≡ old.tags.room = ap (λ (k : Making). k.room) d in
     let index_room : m.index.room ≡ old.index.room = ap (λ (k : Making). k.room) e in
     record {
@@ -144,7 +144,7 @@ tagged-at gs (t ∷ ts) (j ∷ js) [] i h l = absurd h
 -- the items of a column, each by its own tag and place
 tagged-run : (gs : List (List Side)) (x : Layout) (f : Carry) (a b : ℕ → ℕ)
     → ((i : ℕ) → i < len x
-        → IsTagged gs (pos (a i)) (pos (b i)) (carried f (simple_value (layout_type x) (item x i))))
+    → IsTagged gs (pos (a i)) (pos (b i)) (carried f (simple_value (layout_type x) (item x i))))
     → (first n : ℕ) → first + n ≤ len x
     → AreTagged gs (map (λ i. pos (a i)) (range_with_len first n))
     (map (λ i. pos (b i)) (range_with_len first n))
@@ -156,7 +156,7 @@ tagged-run gs x f a b h first (suc n) l =
 pub tagged-items : (gs : List (List Side)) (x : Layout) (f : Carry) (n : ℕ) (a b : ℕ → ℕ)
     → n ≡ len x
     → ((i : ℕ) → i < len x
-        → IsTagged gs (pos (a i)) (pos (b i)) (carried f (simple_value (layout_type x) (item x i))))
+    → IsTagged gs (pos (a i)) (pos (b i)) (carried f (simple_value (layout_type x) (item x i))))
     → AreTagged gs (map (λ i. pos (a i)) (range_with_len 0 n))
     (map (λ i. pos (b i)) (range_with_len 0 n)) (map (carried f) (array_items x))
 tagged-items gs x f n a b e h =

@@ -97,8 +97,11 @@ lies-side x f tag gs = record {
   past = λ h. ap (λ g. length (merged_items g)) (get_or_past gs tag [] (omega (arith, h, n)));
   tag = λ h. kept-tag (nat_lt tag (length gs)) tag (length gs) refl (omega (arith, h, n));
   below = λ h.
-      omega (arith, ap (λ g. length (merged_items g)) (there (omega (arith, h, n))),
-      total-with_side (get_or gs tag []) x f);
+      omega (
+        arith,
+        ap (λ g. length (merged_items g)) (there (omega (arith, h, n))),
+        total-with_side (get_or gs tag []) x f,
+      );
   items = λ h p l.
       ap (λ g. get_or (merged_items g) (length (merged_items (get_or gs tag [])) + p) null)
       (there (omega (arith, h, n)))
@@ -160,7 +163,7 @@ pub fits-lies : (x : Layout) (f : Carry) (tag : ℕ) (gs : List (List Side)) (t 
     → Lies x f tag gs t → t.base + len x < 2 ^ 63
 fits-lies x f tag gs t h l a =
     elim (cases_lt tag (length gs)) [
-      inl c ↦ omega (arith, a.below c, h tag)
+      | inl c ↦ omega (arith, a.below c, h tag)
       | inr c ↦ omega (arith, a.past c, l)
     ]
 
@@ -177,17 +180,17 @@ pub fits-put : (x : Layout) (f : Carry) (g : ℕ) (gs : List (List Side)) (ss : 
     → len x < 2 ^ 63 → t ≡ target_in g gs → t.base + len x < 2 ^ 63
 fits-put x f g gs ss t e h l d =
     let all : (k : ℕ) → length (merged_items (get_or (with_side_at g gs x f) k [])) < 2 ^ 63
-        = λ k. subst (λ hs. length (merged_items (get_or hs k [])) < 2 ^ 63) e (groups-fit ss h k) in
+    = λ k. subst (λ hs. length (merged_items (get_or hs k [])) < 2 ^ 63) e (groups-fit ss h k) in
     let fits : (target_in g gs).base + len x < 2 ^ 63
-        = fits-lies x f g (with_side_at g gs x f) (target_in g gs) all l (lies-side x f g gs) in
+    = fits-lies x f g (with_side_at g gs x f) (target_in g gs) all l (lies-side x f g gs) in
     subst (λ (t : Target). t.base + len x < 2 ^ 63) (sym d) fits
 
 -- each alternative has values of the type of its tag
 pub AreGroups-alternatives : (ts : List DataType) (f : Carry) (k : ℕ) (ys : List Layout)
     (gs : List (List Side)) → AreGroups ts gs
     → ((a : ℕ) (y : Layout) (t : DataType) → slice_get ys a ≡ Some y
-        → slice_get ts (alternative_tag f (k + a)) ≡ Some t
-        → Carries (array_type y) (alternative_carry f (k + a)) t)
+    → slice_get ts (alternative_tag f (k + a)) ≡ Some t
+    → Carries (array_type y) (alternative_carry f (k + a)) t)
     → AreGroups ts (with_alternatives f k ys gs)
 AreGroups-alternatives ts f k [] gs h c = h
 AreGroups-alternatives ts f k (y ∷ ys) gs h c =

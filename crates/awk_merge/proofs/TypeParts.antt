@@ -43,7 +43,7 @@ each_lawful : (ts : List DataType) → AreTypes (types_from ts) → AreSimple (t
 each_lawful [] t s l = tt
 each_lawful (u ∷ ts) t s l = (
   record { is_type = t.0; is_simple = s.0; within_limits = l 0 u refl },
-  each_lawful ts t.1 s.1 (λ k w e. l (suc k) w e)
+  each_lawful ts t.1 s.1 (λ k w e. l (suc k) w e),
 )
 
 pub row_lawful : (names : Option (List Name)) (ts : List DataType)

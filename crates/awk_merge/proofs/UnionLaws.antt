@@ -71,8 +71,11 @@ before-plain : (ts : List DataType) (k : ℕ) → ArePlain (types_from ts) → k
 before-plain [] k p h = absurd (omega (arith, h))
 before-plain (t ∷ ts) zero p h = refl
 before-plain (t ∷ ts) (suc k) p h =
-    omega (arith, ap length (present_alternatives_stay t p.0 p.1),
-    before-plain ts k p.3 (omega (arith, h)))
+    omega (
+      arith,
+      ap length (present_alternatives_stay t p.0 p.1),
+      before-plain ts k p.3 (omega (arith, h)),
+    )
 
 after-single : (b : ℕ) (v : Value) → IsSingle v → value_after b v ≡ alt b v
 after-single b (int z) s = refl
@@ -129,11 +132,11 @@ union_merged ts ss r ys a u m = record {
         ≡ alt (place_at r.tags i) (item_in gs (place_at r.tags i) (place_at r.index i))
     each i h =
         let has : Has (uni (types_from ts)) (get_or (merged_items ss) i null)
-            = all-at (Has (uni (types_from ts))) (merged_items ss) i u.typed
-            (omega (arith, h, u.size)) in
+        = all-at (Has (uni (types_from ts))) (merged_items ss) i u.typed
+        (omega (arith, h, u.size)) in
         let one : HasAlternative (types_from ts) (place_at r.tags i)
-            (item_in gs (place_at r.tags i) (place_at r.index i))
-            = subst (Has (uni (types_from ts))) (u.items i h) has in
+        (item_in gs (place_at r.tags i) (place_at r.index i))
+        = subst (Has (uni (types_from ts))) (u.items i h) has in
         union-item ts gs ys (place_at r.tags i) (place_at r.index i) a.is_simple m
         (omega (arith, (u.tags i h).1, length-groups ts gs u.groups)) (u.places i h).1
         (alternative-single ts (place_at r.tags i) _ a.is_simple one)
@@ -153,8 +156,11 @@ union_merges ts ss r ys a u m = record {
   );
   places = λ i h. (
     (u.places i h).0,
-    omega (arith, (u.places i h).1,
-    merged-len ts (groups_of r.groups) ys (place_at r.tags i) m),
+    omega (
+      arith,
+      (u.places i h).1,
+      merged-len ts (groups_of r.groups) ys (place_at r.tags i) m,
+    ),
   );
 }
   where

@@ -115,11 +115,11 @@ union-targets f x t j ys gs ss xs o few e counted d = record {
         let here : slice_get ys k ≡ Some y = slice_get-get_or ys k x within in
         let lies = lies-at f ys gs k y here in
         let total : (k : ℕ) → length (merged_items (get_or hs k [])) < 2 ^ 63
-            = λ k. subst (λ gs. length (merged_items (get_or gs k [])) < 2 ^ 63) e
-            (groups-fit ss counted k) in
+        = λ k. subst (λ gs. length (merged_items (get_or gs k [])) < 2 ^ 63) e
+        (groups-fit ss counted k) in
         let fits = fits-lies y (alternative_carry f k) (alternative_tag f k) hs
-            (target_at (targets_of f 0 ys gs) k) total
-            (len-fits y (valid-is ys k y here o.valid)) lies in
+        (target_at (targets_of f 0 ys gs) k) total
+        (len-fits y (valid-is ys k y here o.valid)) lies in
         record {
           tag = (o.union.tags i h).0;
           place = (o.union.places i h).0;
@@ -139,8 +139,12 @@ tagged-one y c g p hs x v lies h l e =
       tag = omega (arith, ints);
       within = omega (arith, tag, h);
       place = omega (arith, ints);
-      below = omega (arith, lies.below h, l,
-          ap (λ n. length (merged_items (get_or hs n []))) tag);
+      below = omega (
+        arith,
+        lies.below h,
+        l,
+        ap (λ n. length (merged_items (get_or hs n []))) tag,
+      );
       value = e ∙ ap (alt g) (sym (lies.items h p l))
           ∙ ap (λ n. alt n (item_in hs n (x.base + p))) (sym tag);
     }
@@ -153,20 +157,20 @@ go-on : (ts : List DataType) (n : ℕ) (vs : List Value) (s : Side) (g g' : Grou
     → AllByRecursion (Has (array_type s.column)) (array_items s.column) → count ≡ len s.column
     → m'.tags ≡ with_numbers m.tags count a → m'.index ≡ with_numbers m.index count b
     → ((i : ℕ) → i < len s.column
-        → IsTagged (groups_of g') (pos (a i)) (pos (b i)) (carried s.carry (item_at s.column i)))
+    → IsTagged (groups_of g') (pos (a i)) (pos (b i)) (carried s.carry (item_at s.column i)))
     → IsUnionSoFar ts n (vs ++ side_items s) g' m'
 go-on ts n vs s g g' m m' count a b so groups counted grows side has size tags index each =
     let new : AreTagged (groups_of g') (map (λ i. pos (a i)) (range_with_len 0 count))
-        (map (λ i. pos (b i)) (range_with_len 0 count)) (side_items s)
-        = tagged-items (groups_of g') s.column s.carry count a b size each in
+    (map (λ i. pos (b i)) (range_with_len 0 count)) (side_items s)
+    = tagged-items (groups_of g') s.column s.carry count a b size each in
     let old : AreTagged (groups_of g') m.tags.items m.index.items vs
-        = tagged-grown (groups_of g) (groups_of g') m.tags.items m.index.items vs grows so.tagged in
+    = tagged-grown (groups_of g) (groups_of g') m.tags.items m.index.items vs grows so.tagged in
     let both : AreTagged (groups_of g')
-        (m.tags.items ++ map (λ i. pos (a i)) (range_with_len 0 count))
-        (m.index.items ++ map (λ i. pos (b i)) (range_with_len 0 count)) (vs ++ side_items s)
-        = tagged-append (groups_of g') m.tags.items m.index.items
-        (map (λ i. pos (a i)) (range_with_len 0 count))
-        (map (λ i. pos (b i)) (range_with_len 0 count)) vs (side_items s) old new in
+    (m.tags.items ++ map (λ i. pos (a i)) (range_with_len 0 count))
+    (m.index.items ++ map (λ i. pos (b i)) (range_with_len 0 count)) (vs ++ side_items s)
+    = tagged-append (groups_of g') m.tags.items m.index.items
+    (map (λ i. pos (a i)) (range_with_len 0 count))
+    (map (λ i. pos (b i)) (range_with_len 0 count)) vs (side_items s) old new in
     record {
       groups = groups;
       counted = counted;
@@ -193,9 +197,9 @@ union-groups ts f x t j ys gs lawful o c h =
     AreGroups-alternatives ts f 0 ys gs h (λ a y u d e.
     let on : 0 + a ≡ a = omega arith in
     let e' : slice_get ts (alternative_tag f a) ≡ Some u
-        = subst (λ n. slice_get ts (alternative_tag f n) ≡ Some u) on e in
+    = subst (λ n. slice_get ts (alternative_tag f n) ≡ Some u) on e in
     let c' : sides.Carries (uni (types_from (map array_type ys))) f (uni (types_from ts))
-        = subst (λ t. sides.Carries t f (uni (types_from ts))) o.typ c in
+    = subst (λ t. sides.Carries t f (uni (types_from ts))) o.typ c in
     subst (λ n. sides.Carries (array_type y) (alternative_carry f n) u) (sym on)
     (alternative-carries ts (map array_type ys) f a (array_type y) u lawful.is_simple c'
     (type-is ys a y d) e'))
@@ -215,16 +219,16 @@ union-tagged ts f x t j ys gs lawful o c groups all i l =
     let here : slice_get ys k ≡ Some y = slice_get-get_or ys k x within in
     let inside : p < len y = omega (arith, (o.union.places i h).1, len-is ys k y here) in
     let is : item_at x i ≡ alt k (item_at y p)
-        = o.items i l ∙ ap (alt k) (among-is ys k p y here) in
+    = o.items i l ∙ ap (alt k) (among-is ys k p y here) in
     let has : Has (uni (types_from (map array_type ys))) (alt k (item_at y p))
-        = subst (Has (uni (types_from (map array_type ys)))) is
-        (subst (λ t. Has t (item_at x i)) o.typ (item_has x i all l)) in
+    = subst (Has (uni (types_from (map array_type ys)))) is
+    (subst (λ t. Has t (item_at x i)) o.typ (item_has x i all l)) in
     let c' : sides.Carries (uni (types_from (map array_type ys))) f (uni (types_from ts))
-        = subst (λ t. sides.Carries t f (uni (types_from ts))) o.typ c in
+    = subst (λ t. sides.Carries t f (uni (types_from ts))) o.typ c in
     let reach : alternative_tag f k < length ts
-        = alternative-inside ts (map array_type ys) f k (item_at y p) lawful.is_simple c' has in
+    = alternative-inside ts (map array_type ys) f k (item_at y p) lawful.is_simple c' has in
     let size : length (with_alternatives f 0 ys gs) ≡ length ts
-        = (grows-alternatives f 0 ys gs).size ∙ length-groups ts gs groups in
+    = (grows-alternatives f 0 ys gs).size ∙ length-groups ts gs groups in
     tagged-one y (alternative_carry f k) (alternative_tag f k) p (with_alternatives f 0 ys gs)
     (target_at (targets_of f 0 ys gs) k) (carried f (item_at x i)) (lies-at f ys gs k y here)
     (omega (arith, reach, size)) inside
@@ -264,10 +268,10 @@ whole-tagged : (ts : List DataType) (f : Carry) (x : Layout) (gs : List (List Si
 whole-tagged ts f x gs lawful u c groups all i l =
     let has : Has (array_type x) (item_at x i) = item_has x i all l in
     let reach : alternative_tag f 0 < length ts
-        = single-inside ts f (array_type x) (item_at x i) lawful.is_simple u c has in
+    = single-inside ts f (array_type x) (item_at x i) lawful.is_simple u c has in
     let size : length (with_alternative f 0 x gs) ≡ length ts
-        = (grows-side (alternative_tag f 0) gs x (alternative_carry f 0)).size
-        ∙ length-groups ts gs groups in
+    = (grows-side (alternative_tag f 0) gs x (alternative_carry f 0)).size
+    ∙ length-groups ts gs groups in
     tagged-one x (alternative_carry f 0) (alternative_tag f 0) i (with_alternative f 0 x gs)
     (target_in (alternative_tag f 0) gs) (carried f (item_at x i))
     (lies-side x (alternative_carry f 0) (alternative_tag f 0) gs)
@@ -323,8 +327,11 @@ level-none ts n k a b g m e d counted x y tags index = record {
 pub level-few : (ts : List DataType) (n : ℕ) (vs : List Value) (g : Groups) (m : Tagged)
     → IsArrayType (uni (types_from ts)) → IsUnionSoFar ts n vs g m → length (groups_of g) ≤ 127
 level-few ts n vs g m lawful so =
-    omega (arith, length-groups ts (groups_of g) so.groups,
-    few_alternatives ts lawful.within_limits)
+    omega (
+      arith,
+      length-groups ts (groups_of g) so.groups,
+      few_alternatives ts lawful.within_limits,
+    )
 
 pub level-ready : (ts : List DataType) (n : ℕ) (ss : List Side) (i : ℕ) (s : Side) (g : Groups)
     (m : Tagged) → slice_get ss i ≡ Some s → n ≡ length (merged_items ss)
@@ -334,10 +341,20 @@ level-ready ts n ss i s g m e d so =
     record {
       tag_kind = so.tag_kind;
       index_kind = so.index_kind;
-      tag_room = omega (arith, more, d, so.tag_room,
-          length-tags (groups_of g) m.tags.items m.index.items (merged_items (take i ss)) so.tagged);
-      index_room = omega (arith, more, d, so.index_room,
-          length-places (groups_of g) m.tags.items m.index.items (merged_items (take i ss)) so.tagged);
+      tag_room = omega (
+        arith,
+        more,
+        d,
+        so.tag_room,
+        length-tags (groups_of g) m.tags.items m.index.items (merged_items (take i ss)) so.tagged,
+      );
+      index_room = omega (
+        arith,
+        more,
+        d,
+        so.index_room,
+        length-places (groups_of g) m.tags.items m.index.items (merged_items (take i ss)) so.tagged,
+      );
     }
 
 -- one column more

@@ -23,7 +23,9 @@ use awk_types::{NoMemory, Typ, Typs};
 use std::alloc::Global;
 use std::sync::ledger::Ledger;
 
-/// One column of a type, with the carried items of columns one after another.
+/// One column of a type, with the items of all columns one after another, each carried as the lift
+/// of its column says. The type is one that arrays have, and each lift makes values of it of the
+/// values of its column's type, as the lifts of `unify` and `unify_all` do.
 #[cycle(merge)]
 pub fn merge<'a, L: Ledger>(
     alloc: Global,

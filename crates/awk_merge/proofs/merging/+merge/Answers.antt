@@ -41,7 +41,7 @@ merge_options-returns g t c =
 pub merge_lists-merge-requires : goal.merge_lists-merge-requires
 merge_lists-merge-requires g t c κs within =
     let l : IsListLevel (typ_of c.args.item.now) (sides_of c.args.sides.now) c.in_ok-level.level
-        = c.in_ok-level.ensures (typ_of c.args.item.now) c.requires.sides in (
+    = c.in_ok-level.ensures (typ_of c.args.item.now) c.requires.sides in (
       omega (arith, c.decreases),
       (within, (item_lawful (typ_of c.args.item.now) c.requires.lawful, (l.sides, l.counted))),
     )
@@ -49,7 +49,7 @@ merge_lists-merge-requires g t c κs within =
 pub merge_lists-list_node-requires-clause-length : goal.merge_lists-list_node-requires-clause-length
 merge_lists-list_node-requires-clause-length g t c =
     let l : IsListLevel (typ_of c.args.item.now) (sides_of c.args.sides.now) c.in_ok-level.level
-        = c.in_ok-level.ensures (typ_of c.args.item.now) c.requires.sides in
+    = c.in_ok-level.ensures (typ_of c.args.item.now) c.requires.sides in
     l.fits
 
 pub merge_lists-list_node-requires-clause-valid : goal.merge_lists-list_node-requires-clause-valid
@@ -77,7 +77,7 @@ merge_regular-regular_level-requires-clause-lists g t c =
 pub merge_regular-merge-requires : goal.merge_regular-merge-requires
 merge_regular-merge-requires g t c κs within =
     let l : IsRegularLevel c.args.size (typ_of c.args.item.now) (sides_of c.args.sides.now) c.in_ok-items.items
-        = c.in_ok-items.ensures c.args.size (typ_of c.args.item.now) c.requires.sides in (
+    = c.in_ok-items.ensures c.args.size (typ_of c.args.item.now) c.requires.sides in (
       omega (arith, c.decreases),
       (
         within,
@@ -216,7 +216,7 @@ pub merge_each-returns : goal.merge_each-returns
 merge_each-returns g t c =
     let ts = part_types (typ_of c.args.t.now) in
     let n : length (groups_of c.args.groups.now) ≡ length ts
-        = length-groups ts (groups_of c.args.groups.now) c.requires.groups in
+    = length-groups ts (groups_of c.args.groups.now) c.requires.groups in
     AreMerged-all ts (groups_of c.args.groups.now) c.loop-j.nodes c.loop-j.j
     (omega (arith, c.loop-j-test.false, c.loop-j.auto.j-end, c.len-j-end.ensures, n))
     (omega (arith, c.loop-j-test.false, c.loop-j.auto.j-end, c.len-j-end.ensures)) c.loop-j.invariant

@@ -12,8 +12,8 @@ loop-k-preserved c =
     let made = c.in_ok-put_alternative.ensures in (
       made.counted,
       put-next f c.args.contents.now c.loop-k.k c.get.result.now old new c.get.ensures made.groups
-      ∙ c.loop-k.invariant.1,
+          ∙ c.loop-k.invariant.1,
       targets-next f c.args.contents.now c.loop-k.k c.get.result.now old new
-      c.loop-k.targets.items c.push.new.self.items c.in_ok-put_alternative.field-0 c.get.ensures
-      made.groups made.target c.in_ok-push.ensures.items ∙ c.loop-k.invariant.2,
+          c.loop-k.targets.items c.push.new.self.items c.in_ok-put_alternative.field-0 c.get.ensures
+          made.groups made.target c.in_ok-push.ensures.items ∙ c.loop-k.invariant.2,
     )

@@ -11,6 +11,6 @@ invariant-loop-k l =
     let left = drop l.k l.contents in
     AreCounted l.groups
     × (with_alternatives f l.k left (groups_of l.groups)
-        ≡ with_alternatives f 0 l.contents (groups_of l.fn.groups))
+    ≡ with_alternatives f 0 l.contents (groups_of l.fn.groups))
     × (l.targets.items ++ targets_of f l.k left (groups_of l.groups)
-        ≡ targets_of f 0 l.contents (groups_of l.fn.groups))
+    ≡ targets_of f 0 l.contents (groups_of l.fn.groups))

@@ -10,7 +10,7 @@ push-requires-clause-ready c =
 pub loop-i-preserved : goal.loop-i-preserved
 loop-i-preserved c = (
   numbers-next c.args.made.now.tags c.loop-i.made.tags c.push.new.self.tags c.loop-i.i _ _
-  c.loop-i.invariant.0 refl c.push.ensures.tags,
+      c.loop-i.invariant.0 refl c.push.ensures.tags,
   numbers-next c.args.made.now.index c.loop-i.made.index c.push.new.self.index c.loop-i.i _ _
-  c.loop-i.invariant.1 refl c.push.ensures.index,
+      c.loop-i.invariant.1 refl c.push.ensures.index,
 )

@@ -13,10 +13,13 @@ pub put_run-requires-clause-fits : goal.put_run-requires-clause-fits
 put_run-requires-clause-fits c =
     let f = lift_of c.args.side.now.lift in
     let made = c.in_ok-target.ensures in
-    omega (arith, c.len.ensures.len,
-    fits-put c.args.side.now.column (alternative_carry f 0) (alternative_tag f 0)
-    (groups_of c.args.groups.now) c.put_alternative.new.groups.groups.items c.in_ok-target.target
-    made.groups made.counted (len-fits c.args.side.now.column c.len.ensures.valid) made.target)
+    omega (
+      arith,
+      c.len.ensures.len,
+      fits-put c.args.side.now.column (alternative_carry f 0) (alternative_tag f 0)
+          (groups_of c.args.groups.now) c.put_alternative.new.groups.groups.items c.in_ok-target.target
+          made.groups made.counted (len-fits c.args.side.now.column c.len.ensures.valid) made.target,
+    )
 
 pub returns : goal.returns
 returns c =
