@@ -1,7 +1,9 @@
 -- One level of columns that are merged: lanes into all items, and the columns of what is below.
-use Rattle.std.specs.Prelude.{◌≡◌, ◌+◌, ◌-◌, ◌*◌, ◌<◌, ◌^◌, ◌∷◌, [], ℕ, zero, suc, List, get_or, length, map, pos, ◌≤ℤ◌}
+use Rattle.std.specs.Prelude.{Option, Some, None, ◌≡◌, false, ◌+◌, ◌-◌, ◌*◌, ◌<◌, ◌^◌, ◌∷◌, [], ℕ, zero, suc, List, get_or, length, map, pos, ◌≤ℤ◌}
 use Rattle.std.specs.List.{AllByRecursion, range_with_len}
-use Rattle.awk_types.specs.DataType.{DataType, tup, types_from}
+use Rattle.awk_types.specs.DataType.{DataType, Name, rec, reg, tup, opt, uni, type_list, types_from, var}
+use Rattle.awk_types.specs.Has.{Has}
+use Rattle.awk_types.specs.Simple.{is_option}
 use Rattle.awk_types.specs.Value.{Value, null, list, row, alt, values_from}
 use Rattle.awk_lanes.specs.Column.{Column}
 use Rattle.awk_lanes.specs.Places.{size_of, at, place_at, AreSpans, IsOptionalIndex}
@@ -20,14 +22,24 @@ use Rattle.awk_merge.specs.declared.unions.UnionLevel.{UnionLevel}
 
 -- ---- options
 
-pub record IsOptionLevel (u : DataType) (ss : List Side) (r : OptionLevel) : Type 0 where
-  pub sides : AreSides u (sides_of r.sides)
+-- the columns of what is present have a type where those of all have its option
+pub record IsOptionLevel (ss : List Side) (r : OptionLevel) : Type 0 where
+  pub sides : (u : DataType) → is_option u ≡ false → AreSides (opt u) ss
+      → AreSides u (sides_of r.sides)
   pub counted : IsCounted r.sides
+  pub kind : r.index.kind ≡ I64
   pub fits : size_of r.index < 2 ^ 63
   pub index : IsOptionalIndex r.index (length (merged_items (sides_of r.sides)))
   pub items : merged_items ss ≡ pick (merged_items (sides_of r.sides)) r.index.items
 
 -- ---- lists
+
+-- columns whose values become lists of any length, or lists of one
+abbrev pub AreListSides : List Side → Type 0
+AreListSides ss = (u : DataType) × AreSides (var u) ss
+
+abbrev pub AreRegularSides : List Side → Type 0
+AreRegularSides ss = (n : ℕ) × ((u : DataType) × AreSides (reg n u) ss)
 
 -- the values from a start on, so many
 abbrev pub cut : List Value → ℕ → ℕ → Value
@@ -80,9 +92,22 @@ AreArrayTypes ts = AllByRecursion IsArrayType ts
 
 -- ---- rows
 
--- columns of records or tuples with these parts
-abbrev pub AreRowSides : List DataType → List Side → Type 0
-AreRowSides ts ss = AreSides (tup (types_from ts)) ss
+-- the parts of a tuple or a record
+abbrev pub row_parts : DataType → List DataType
+row_parts (rec ns ts) = type_list ts
+row_parts (tup ts) = type_list ts
+row_parts t = []
+
+-- a tuple or a record
+abbrev pub IsRowType : DataType → Type 0
+IsRowType (rec ns ts) = Unit {0}
+IsRowType (tup ts) = Unit {0}
+IsRowType t = ⊥
+
+-- the names of a record
+abbrev pub row_names : DataType → Option (List Name)
+row_names (rec ns ts) = Some ns
+row_names t = None
 
 -- the items at a place
 abbrev pub across : List (List Side) → ℕ → List Value
@@ -118,3 +143,4 @@ pub record IsUnionLevel (ts : List DataType) (ss : List Side) (r : UnionLevel) :
       × (place_at r.index i < length (merged_items (get_or (groups_of r.groups) (place_at r.tags i) [])))
   pub items : (i : ℕ) → i < size_of r.tags → get_or (merged_items ss) i null
       ≡ alt (place_at r.tags i) (item_in (groups_of r.groups) (place_at r.tags i) (place_at r.index i))
+  pub typed : AllByRecursion (Has (uni (types_from ts))) (merged_items ss)

@@ -1,7 +1,8 @@
 //! How the parts of a value are carried where it is.
-ghost use Rattle.std.specs.Prelude.{◌≡◌, IfOk, option_map};
-ghost use Rattle.awk_unify.specs.View.{lift_of};
-ghost use Rattle.awk_merge.specs.Lifts.{items_carry, part_source, part_carry};
+ghost use Rattle.std.specs.Prelude.{◌≡◌, IfOk};
+ghost use Rattle.awk_unify.specs.Carries.{carry_at};
+ghost use Rattle.awk_unify.specs.View.{lift_of, lifts_of};
+ghost use Rattle.awk_merge.specs.Lifts.{items_carry, part_source, part_carry, source_at as source};
 ghost use Rattle.awk_merge.specs.Lifts.{alternative_tag, alternative_carry};
 
 use awk_types::NoMemory;
@@ -9,7 +10,10 @@ use awk_unify::{Lift, Lifts, Places, copy_lift};
 use std::alloc::Global;
 
 /// The lift at a place; beyond the last one the value stays.
-fn lift_at(alloc: Global, lifts: &Lifts, k: u64) -> Result<Lift, NoMemory> {
+#[tactic(auto, using(awk_unify::proofs::Afters::afters_laws))]
+fn lift_at(alloc: Global, lifts: &Lifts, k: u64) -> Result<Lift, NoMemory>
+    ensures { IfOk result (λ f. lift_of f ≡ carry_at (lifts_of lifts.now) k) }
+{
     if k < lifts.len() as u64 {
         copy_lift(alloc, lifts.get(k as usize))
     } else {
@@ -32,14 +36,16 @@ pub(crate) fn part_source(f: &Lift, j: u64) -> Option<u64>
     ensures { result ≡ part_source (lift_of f.now) j }
 {
     match f {
-        Lift::Parts { places, parts } => source_at(places, parts.len() as u64, j),
+        Lift::Parts { places, parts } => source_at(places, parts, j),
         _ => Some(j),
     }
 }
 
-/// The first of the first n places that is j.
-fn source_at(places: &Places, n: u64, j: u64) -> Option<u64> {
-    for k in 0..places.len().min(n as usize) {
+/// The first part whose place is j.
+fn source_at(places: &Places, parts: &Lifts, j: u64) -> Option<u64>
+    ensures { result ≡ source j places.now (lifts_of parts.now) }
+{
+    for k in 0..places.len().min(parts.len()) {
         if places.get(k) == j {
             return Some(k as u64);
         }

@@ -1,6 +1,6 @@
 //! Columns in groups, one for each part of a row or alternative of a union.
-ghost use Rattle.std.specs.Prelude.{◌≡◌, ◌<◌, [], IfOk, OnOk, length, map, Some, slice_get};
-ghost use Rattle.std.specs.List.{AllByRecursion, repeat};
+ghost use Rattle.std.specs.Prelude.{◌≡◌, ◌<◌, [], IfOk, OnOk, length, map, replicate, Some, slice_get};
+ghost use Rattle.std.specs.List.{AllByRecursion};
 ghost use Rattle.awk_unify.specs.View.{lift_of};
 ghost use Rattle.awk_merge.specs.Sides.{sides_of, IsCounted};
 ghost use Rattle.awk_merge.specs.Levels.{groups_of, with_side_at, AreCounted};
@@ -20,11 +20,11 @@ pub(crate) struct Groups<'a> {
 impl<'a> Groups<'a> {
     /// So many groups without columns.
     pub(crate) fn new(alloc: Global, n: usize) -> Result<Groups<'a>, NoMemory>
-        ensures groups { IfOk result (λ g. groups_of g ≡ repeat n []) }
+        ensures groups { IfOk result (λ g. groups_of g ≡ replicate n []) }
         ensures counted { IfOk result AreCounted }
     {
         let mut groups = Vec::new(alloc);
-        for i in 0..n {
+        for _i in 0..n {
             groups.push(Sides::new(alloc))?;
         }
         Ok(Groups { groups })

@@ -1,37 +1,31 @@
 //! Columns of several types merged into one.
-ghost use Rattle.std.specs.Prelude.{◌≡◌, IfOk, map};
-ghost use Rattle.awk_types.specs.View.{typ_of, typs_of, fields_of};
+ghost use Rattle.std.specs.Prelude.{◌≡◌, IfOk};
+ghost use Rattle.awk_types.specs.DataType.{opt, reg, types_from, uni, var};
+ghost use Rattle.awk_types.specs.View.{typ_of, typs_of};
 ghost use Rattle.awk_layout.specs.Array.{IsArrayType};
-ghost use Rattle.awk_merge.specs.Levels.{groups_of, AreCounted, AreMerged, AreGroups, AreArrayTypes};
+ghost use Rattle.awk_merge.specs.Levels.{groups_of, AreArrayTypes, AreCounted};
+ghost use Rattle.awk_merge.specs.Levels.{AreGroups, AreMerged, IsRowType};
+ghost use Rattle.awk_merge.specs.PartTypes.{part_types};
 ghost use Rattle.awk_merge.specs.Sides.{sides_of, AreSides, IsCounted, IsMerged};
 
 use crate::groups::Groups;
 use crate::lists::{list_level, regular_level};
+use crate::nodes::{list_node, nothing, only, option_node, regular_node, row_node};
 use crate::numbers::numbers;
 use crate::options::option_level;
+use crate::parts::part_type;
 use crate::rows::row_level;
 use crate::sides::Sides;
 use crate::unions::union_level;
 use awk_lanes::{Arena, Steps};
 use awk_layout::{Node, Nodes};
-use awk_types::{Fields, NoMemory, Typ, Typs, same};
-use awk_unify::{Lift, field_names};
+use awk_types::{NoMemory, Typ, Typs};
 use std::alloc::Global;
 use std::sync::ledger::Ledger;
 
-/// The only column, where its values are of the type and stay.
-fn only<'a>(alloc: Global, t: &Typ, sides: &Sides<'a>) -> Result<Option<Node<'a>>, NoMemory> {
-    if sides.len() != 1 {
-        return Ok(None);
-    }
-    let side = sides.get(0);
-    match side.lift {
-        Lift::Same if same(side.column.typ(), t) => Ok(Some(side.column.node().copy(alloc)?)),
-        _ => Ok(None),
-    }
-}
-
-/// One column of a type, with the carried items of columns one after another.
+/// One column of a type, with the items of all columns one after another, each carried as the lift
+/// of its column says. The type is one that arrays have, and each lift makes values of it of the
+/// values of its column's type, as the lifts of `unify` and `unify_all` do.
 #[cycle(merge)]
 pub fn merge<'a, L: Ledger>(
     alloc: Global,
@@ -49,81 +43,133 @@ pub fn merge<'a, L: Ledger>(
         return Ok(node);
     }
     match t {
-        Typ::Unknown => Ok(Node::empty(steps)),
+        Typ::Unknown => Ok(nothing(sides, steps)),
         Typ::Leaf(prim) => numbers(alloc, *prim, sides, arena, steps),
-        Typ::Opt(present) => {
-            let level = option_level(alloc, sides, arena, steps)?;
-            let node = Box::new(alloc, merge(alloc, present, &level.sides, arena, steps)?)?;
-            Ok(Node::indexed_option(level.index, node, steps))
-        }
-        Typ::Var(item) => {
-            let level = list_level(alloc, sides, arena, steps)?;
-            let node = Box::new(alloc, merge(alloc, item, &level.sides, arena, steps)?)?;
-            Ok(Node::list(level.starts, level.stops, node, steps))
-        }
-        Typ::Reg(size, item) => {
-            let items = regular_level(alloc, sides, arena, steps)?;
-            let node = Box::new(alloc, merge(alloc, item, &items, arena, steps)?)?;
-            Ok(Node::regular(*size, sides.total(), node, steps))
-        }
-        Typ::Rec(fields) => {
-            let groups = row_level(alloc, fields.len(), sides, arena, steps)?;
-            let nodes = merge_fields(alloc, fields, &groups, arena, steps)?;
-            let names = field_names(alloc, fields)?;
-            Ok(Node::row(Some(names), sides.total(), nodes, steps))
-        }
-        Typ::Tup(parts) => {
-            let groups = row_level(alloc, parts.len(), sides, arena, steps)?;
-            let nodes = merge_each(alloc, parts, &groups, arena, steps)?;
-            Ok(Node::row(None, sides.total(), nodes, steps))
-        }
-        Typ::Uni(alternatives) => {
-            let level = union_level(alloc, alternatives.len(), sides, arena, steps)?;
-            let nodes = merge_each(alloc, alternatives, &level.groups, arena, steps)?;
-            Ok(Node::union(level.tags, level.index, nodes, steps))
-        }
+        Typ::Opt(present) => merge_options(alloc, present, sides, arena, steps),
+        Typ::Var(item) => merge_lists(alloc, item, sides, arena, steps),
+        Typ::Reg(size, item) => merge_regular(alloc, *size, item, sides, arena, steps),
+        Typ::Rec(_) | Typ::Tup(_) => merge_rows(alloc, t, sides, arena, steps),
+        Typ::Uni(alternatives) => merge_unions(alloc, t, alternatives, sides, arena, steps),
     }
 }
 
-/// One column for each type.
+/// Columns of an option.
+#[cycle(merge)]
+fn merge_options<'a, L: Ledger>(
+    alloc: Global,
+    present: &Typ,
+    sides: &Sides<'a>,
+    arena: &'a Arena,
+    steps: &mut Steps<L>,
+) -> Result<Node<'a>, NoMemory>
+    requires lawful { IsArrayType (opt (typ_of present.now)) }
+    requires sides { AreSides (opt (typ_of present.now)) (sides_of sides.now) }
+    requires counted { IsCounted sides.now }
+    ensures { IfOk result (IsMerged (opt (typ_of present.now)) (sides_of sides.now)) }
+{
+    let level = option_level(alloc, sides, arena, steps)?;
+    let content = merge(alloc, present, &level.sides, arena, steps)?;
+    option_node(alloc, level.index, content, steps)
+}
+
+/// Columns of lists of any length.
+#[cycle(merge)]
+fn merge_lists<'a, L: Ledger>(
+    alloc: Global,
+    item: &Typ,
+    sides: &Sides<'a>,
+    arena: &'a Arena,
+    steps: &mut Steps<L>,
+) -> Result<Node<'a>, NoMemory>
+    requires lawful { IsArrayType (var (typ_of item.now)) }
+    requires sides { AreSides (var (typ_of item.now)) (sides_of sides.now) }
+    requires counted { IsCounted sides.now }
+    ensures { IfOk result (IsMerged (var (typ_of item.now)) (sides_of sides.now)) }
+{
+    let level = list_level(alloc, sides, arena, steps)?;
+    let content = merge(alloc, item, &level.sides, arena, steps)?;
+    list_node(alloc, level.starts, level.stops, content, steps)
+}
+
+/// Columns of lists of one length.
+#[cycle(merge)]
+fn merge_regular<'a, L: Ledger>(
+    alloc: Global,
+    size: u64,
+    item: &Typ,
+    sides: &Sides<'a>,
+    arena: &'a Arena,
+    steps: &mut Steps<L>,
+) -> Result<Node<'a>, NoMemory>
+    requires lawful { IsArrayType (reg size (typ_of item.now)) }
+    requires sides { AreSides (reg size (typ_of item.now)) (sides_of sides.now) }
+    requires counted { IsCounted sides.now }
+    ensures { IfOk result (IsMerged (reg size (typ_of item.now)) (sides_of sides.now)) }
+{
+    let items = regular_level(alloc, sides, arena, steps)?;
+    let content = merge(alloc, item, &items, arena, steps)?;
+    regular_node(alloc, size, sides.total(), content, steps)
+}
+
+/// Columns of records or tuples.
+#[cycle(merge)]
+fn merge_rows<'a, L: Ledger>(
+    alloc: Global,
+    t: &Typ,
+    sides: &Sides<'a>,
+    arena: &'a Arena,
+    steps: &mut Steps<L>,
+) -> Result<Node<'a>, NoMemory>
+    requires row { IsRowType (typ_of t.now) }
+    requires lawful { IsArrayType (typ_of t.now) }
+    requires sides { AreSides (typ_of t.now) (sides_of sides.now) }
+    requires counted { IsCounted sides.now }
+    ensures { IfOk result (IsMerged (typ_of t.now) (sides_of sides.now)) }
+{
+    let groups = row_level(alloc, t, sides, arena, steps)?;
+    let nodes = merge_each(alloc, t, &groups, arena, steps)?;
+    row_node(alloc, t, sides.total(), nodes, steps)
+}
+
+/// Columns of unions, which have these alternatives.
+#[cycle(merge)]
+fn merge_unions<'a, L: Ledger>(
+    alloc: Global,
+    t: &Typ,
+    alternatives: &Typs,
+    sides: &Sides<'a>,
+    arena: &'a Arena,
+    steps: &mut Steps<L>,
+) -> Result<Node<'a>, NoMemory>
+    requires typ { typ_of t.now ≡ uni (types_from (typs_of alternatives.now)) }
+    requires lawful { IsArrayType (typ_of t.now) }
+    requires sides { AreSides (typ_of t.now) (sides_of sides.now) }
+    requires counted { IsCounted sides.now }
+    ensures { IfOk result (IsMerged (typ_of t.now) (sides_of sides.now)) }
+{
+    let level = union_level(alloc, alternatives, sides, arena, steps)?;
+    let nodes = merge_each(alloc, t, &level.groups, arena, steps)?;
+    Ok(Node::union(level.tags, level.index, nodes, steps))
+}
+
+/// One column for each part or alternative.
 #[cycle(merge)]
 fn merge_each<'a, L: Ledger>(
     alloc: Global,
-    ts: &Typs,
+    t: &Typ,
     groups: &Groups<'a>,
     arena: &'a Arena,
     steps: &mut Steps<L>,
 ) -> Result<Nodes<'a>, NoMemory>
-    requires lawful { AreArrayTypes (typs_of ts.now) }
-    requires groups { AreGroups (typs_of ts.now) (groups_of groups.now) }
+    requires lawful { AreArrayTypes (part_types (typ_of t.now)) }
+    requires groups { AreGroups (part_types (typ_of t.now)) (groups_of groups.now) }
     requires counted { AreCounted groups.now }
-    ensures { IfOk result (AreMerged (typs_of ts.now) (groups_of groups.now)) }
+    ensures { IfOk result (AreMerged (part_types (typ_of t.now)) (groups_of groups.now)) }
 {
     let mut nodes = Nodes::new(alloc);
-    for j in 0..ts.len() {
-        nodes.push(merge(alloc, ts.get(j), groups.get(j), arena, steps)?)?;
-    }
-    Ok(nodes)
-}
-
-/// One column for each field.
-#[cycle(merge)]
-fn merge_fields<'a, L: Ledger>(
-    alloc: Global,
-    fields: &Fields,
-    groups: &Groups<'a>,
-    arena: &'a Arena,
-    steps: &mut Steps<L>,
-) -> Result<Nodes<'a>, NoMemory>
-    requires lawful { AreArrayTypes (map (λ f. f.typ) (fields_of fields.now)) }
-    requires groups { AreGroups (map (λ f. f.typ) (fields_of fields.now)) (groups_of groups.now) }
-    requires counted { AreCounted groups.now }
-    ensures { let ts = map (λ f. f.typ) (fields_of fields.now) in
-        IfOk result (AreMerged ts (groups_of groups.now)) }
-{
-    let mut nodes = Nodes::new(alloc);
-    for j in 0..fields.len() {
-        nodes.push(merge(alloc, &fields.get(j).typ, groups.get(j), arena, steps)?)?;
+    for j in 0..groups.len() {
+        let node = merge(alloc, part_type(t, j), groups.get(j), arena, steps)?;
+        nodes.push(node)?;
     }
     Ok(nodes)
 }

@@ -1,6 +1,5 @@
 //! Columns whose values become values of one type.
 ghost use Rattle.std.specs.Prelude.{◌≡◌, ◌<◌, [], Some, IfOk, OnOk, length, slice_get};
-ghost use Rattle.awk_layout.specs.Typing.{array_items};
 ghost use Rattle.awk_unify.specs.View.{lift_of};
 ghost use Rattle.awk_merge.specs.Sides.{side_of, sides_of, with_side, IsCounted};
 
@@ -16,7 +15,8 @@ pub struct Side<'a> {
     pub(crate) lift: Lift,
 }
 
-/// Columns in order, each with how its values become values of one type. None is without items.
+/// Columns in order, each with how its values become values of one type. A column without items is
+/// left out, so each has an item.
 #[derive(Drop)]
 pub struct Sides<'a> {
     sides: Vec<Side<'a>>,
