@@ -2,14 +2,20 @@
 #![tactic(auto)]
 
 mod carry;
+mod concatenate;
 mod groups;
+mod joining_arrays;
+mod joining_rows;
 mod lists;
 mod merging;
 mod numbers;
+mod operands;
 mod options;
 mod rows;
 mod sides;
 mod unions;
 
+pub use concatenate::concatenate;
 pub use merging::merge;
+pub use operands::Axis;
 pub use sides::{Side, Sides};
