@@ -2,8 +2,8 @@
 #![tactic(auto)]
 
 mod carry;
-mod concatenate;
 mod groups;
+mod joining;
 mod joining_arrays;
 mod joining_rows;
 mod lists;
@@ -15,7 +15,7 @@ mod rows;
 mod sides;
 mod unions;
 
-pub use concatenate::concatenate;
+pub use joining::concatenate;
 pub use merging::merge;
 pub use operands::Axis;
 pub use sides::{Side, Sides};

@@ -1,5 +1,5 @@
 //! What operands are joined as at an axis: their types, and their columns with their lifts.
-ghost use Rattle.std.specs.Prelude.{◌≡◌, IfOk, map, option_map, MatchOption, ⊤};
+ghost use Rattle.std.specs.Prelude.{◌≡◌, IfOk, map, option_map, IfSome};
 ghost use Rattle.awk_types.specs.IsType.{IsType};
 ghost use Rattle.awk_types.specs.Simple.{IsSimple};
 ghost use Rattle.awk_types.specs.View.{typ_of, typs_of};
@@ -65,7 +65,7 @@ fn rows_typ(alloc: Global, t: &Typ) -> Result<Option<Typ>, NoMemory>
 fn operand_typ(alloc: Global, axis: Axis, x: &Datum) -> Result<Option<Typ>, NoMemory>
     ensures typ { let said = operand_type axis (datum_of x.now) in
         IfOk result (λ u. option_map typ_of u ≡ said) }
-    ensures lawful { IfOk result (λ u. MatchOption u ⊤ (λ t. IsType (typ_of t) × IsSimple (typ_of t))) }
+    ensures lawful { IfOk result (λ u. IfSome u (λ t. IsType (typ_of t) × IsSimple (typ_of t))) }
 {
     match x {
         Datum::Arr(x) => match axis {
@@ -80,7 +80,7 @@ fn operand_typ(alloc: Global, axis: Axis, x: &Datum) -> Result<Option<Typ>, NoMe
 pub(crate) fn operand_typs(alloc: Global, axis: Axis, xs: &Datums) -> Result<Option<Typs>, NoMemory>
     ensures types { let said = spec.operand_types axis (map datum_of xs.now) in
         IfOk result (λ ts. option_map typs_of ts ≡ said) }
-    ensures lawful { IfOk result (λ ts. MatchOption ts ⊤ (λ us. AreLawful (typs_of us))) }
+    ensures lawful { IfOk result (λ ts. IfSome ts (λ us. AreLawful (typs_of us))) }
 {
     let mut types = Typs::new(alloc);
     for i in 0..xs.len() {

@@ -1,12 +1,17 @@
 //! Arrays joined one after another, or list by list within their rows.
-ghost use Rattle.std.specs.Prelude.{◌≡◌, ◌<◌, IfOk, length, map};
+ghost use Rattle.std.specs.Prelude.{◌≡◌, ◌<◌, IfOk, Some, length, map};
 ghost use Rattle.awk_types.specs.Faults.{fault_told};
-ghost use Rattle.awk_types.specs.Gives.{Gives};
+ghost use Rattle.awk_types.specs.Gives.{Gives, refused_or};
+ghost use Rattle.awk_types.specs.View.{typ_of};
+ghost use Rattle.awk_layout.specs.Array.{IsArrayType};
 ghost use Rattle.awk_layout.specs.Datum.{datum_of, IsDatum};
-ghost use Rattle.awk_layout.specs.Valid.{len};
+ghost use Rattle.awk_layout.specs.Typing.{array_datum};
+ghost use Rattle.awk_unify.specs.View.{lifts_of};
 ghost use Rattle.awk_merge.specs.Concatenate as spec;
-ghost use Rattle.awk_merge.specs.Concatenate.{concatenate_of, joined_as};
-ghost use Rattle.awk_merge.specs.Operands.{array_in, column_in};
+ghost use Rattle.awk_merge.specs.Concatenate.{carried_columns, concatenate_at, concatenate_of};
+ghost use Rattle.awk_merge.specs.Operands.{column_in, rows_refused, joined_datum};
+ghost use Rattle.awk_merge.specs.Operands.{AreCarriedOperands, IsRowsType};
+ghost use Rattle.awk_merge.specs.declared.operands.Axis.TheVariants as Axis;
 
 use crate::joining_arrays::joined_arrays;
 use crate::joining_rows::joined_rows;
@@ -31,7 +36,10 @@ fn are_long(xs: &Datums, n: u64) -> bool
 }
 
 /// Judges the lengths of columns whose rows are joined.
-fn judge_rows(xs: &Datums, n: u64) -> Result<(), Fault> {
+fn judge_rows(xs: &Datums, n: u64) -> Result<(), Fault>
+    ensures { let said = rows_refused n (map column_in xs.now) in
+        Gives (λ _. tt {0}) fault_told result (refused_or said (tt {0})) }
+{
     if !are_long(xs, n) {
         return Err(Fault::Lengths);
     }
@@ -49,7 +57,14 @@ fn joined<'a, L: Ledger>(
     whole: UnifiedAll,
     arena: &'a Arena,
     steps: &mut Steps<L>,
-) -> Result<Array<'a>, Fault> {
+) -> Result<Array<'a>, Fault>
+    requires some { 0 < length xs.now }
+    requires lawful { IsArrayType (typ_of whole.typ) }
+    requires carried { AreCarriedOperands xs.now (lifts_of whole.lifts) (typ_of whole.typ) }
+    requires rows { axis ≡ Axis.Rows → IsRowsType (typ_of whole.typ) }
+    ensures { let columns = carried_columns (lifts_of whole.entry.lifts) (map column_in xs.now) in
+        Gives array_datum fault_told result (joined_datum axis (typ_of whole.entry.typ) columns) }
+{
     match axis {
         Axis::Arrays => {
             let sides = operand_sides(alloc, xs, &whole)?;
@@ -71,7 +86,11 @@ fn joined_at<'a, L: Ledger>(
     xs: &Datums<'a>,
     arena: &'a Arena,
     steps: &mut Steps<L>,
-) -> Result<Array<'a>, Fault> {
+) -> Result<Array<'a>, Fault>
+    requires some { 0 < length xs.now }
+    ensures { let said = concatenate_at (Some axis) (map datum_of xs.now) in
+        Gives array_datum fault_told result said }
+{
     match operand_typs(alloc, axis, xs)? {
         Some(types) => {
             let whole = unify_all(alloc, &types)?;

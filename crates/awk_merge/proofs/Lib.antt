@@ -1,0 +1,5 @@
+pub mod OperandLaws
+pub mod RowTypeLaws
+pub mod RangeLaws
+pub mod ListPlaceLaws
+pub mod StackLaws
