@@ -3,3 +3,7 @@ pub mod RowTypeLaws
 pub mod RangeLaws
 pub mod ListPlaceLaws
 pub mod StackLaws
+pub mod JoinedRowLaws
+pub mod NullRowLaws
+pub mod AnswerLaws
+pub mod Worked

@@ -88,7 +88,7 @@ rows_index index n k m l = record {
 
 -- ---- the ends of the lists of a row
 
-abbrev ends_place : Bool → ℕ → Option ℕ
+abbrev pub ends_place : Bool → ℕ → Option ℕ
 ends_place b i = if b then Some i else None
 
 row_option : (b : Bool) (i : ℕ) → option_place (row_place b i) ≡ ends_place b i
@@ -99,7 +99,7 @@ module _ (index : Option Column) (n k : ℕ) where
   abbrev rows : Column
   rows = rows_lane index n k
 
-  option-rows : (i : ℕ) → i < n → option_place_at rows i ≡ ends_place (is_whole index n k i) i
+  pub option-rows : (i : ℕ) → i < n → option_place_at rows i ≡ ends_place (is_whole index n k i) i
   option-rows i p =
       ap option_place (at-rows index n k i p) ∙ row_option (is_whole index n k i) i
 
@@ -132,13 +132,13 @@ module _ (index : Option Column) (n k : ℕ) where
       (h : IsListIndex index (k * n) (size_of s)) where
     place_span : (o : Option ℕ) → ((p : ℕ) → o ≡ Some p → p < size_of s)
         → IsSpan (len y) (end_at s o) (end_at t o)
-    place_span None l d = absurd (d refl)
+    place_span None l = λ d. absurd (d refl)
     place_span (Some p) l = a.spans.ordered p (l p refl)
 
     row_span : (b : Bool) (i j : ℕ) → i < n → j < k
         → IsSpan (len y) (end_of_row index n s j (ends_place b i))
         (end_of_row index n t j (ends_place b i))
-    row_span false i j p q d = absurd (d refl)
+    row_span false i j p q = λ d. absurd (d refl)
     row_span true i j p q =
         place_span (list_place index (j * n + i))
         (λ m e. place_within index (k * n) (size_of s) (j * n + i) m h (cell n k i j p q) e)

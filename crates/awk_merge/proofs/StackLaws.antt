@@ -1,12 +1,14 @@
 -- Columns of operands one after another, and their rows.
 use Rattle.std.proofs.Common.{◌≡◌, ◌∙◌, ◌+◌, ◌*◌, ◌<◌, ◌≤◌, ◌==◌, ◌&&◌, ◌∷◌, ◌++◌, [], ℕ, zero, suc, Bool, true, false, List, Some, ap, sym, subst, refl, map, drop, length, slice_get, get_or, arith}
-use Rattle.std.proofs.lemmas.Option.{slice_get_within}
+use Rattle.std.specs.Prelude.{None, nat_lt, if◌then◌else◌}
 use Rattle.std.specs.List.{flat_map, list_all, range_with_len}
 use Rattle.std.proofs.lemmas.Grind.{flat_map-append}
 use Rattle.std.proofs.lemmas.List.{append-nil, append_assoc, length-append, length-map, drop_all, get_or_append_left, get_or-append-add}
 use Rattle.awk_types.proofs.ListLaws.{drop-get}
 use Rattle.awk_types.specs.DataType.{DataType}
+use Rattle.awk_types.specs.ItemLimit.{item_limit, too_many}
 use Rattle.awk_types.specs.Value.{Value, null}
+use Rattle.awk_types.specs.declared.fault.Fault.TheVariants.{Size}
 use Rattle.awk_layout.specs.Layout.{Layout}
 use Rattle.awk_layout.specs.Typing.{array_type, array_items}
 use Rattle.awk_layout.specs.declared.datum.Datum.{Datum}
@@ -38,11 +40,11 @@ one_taken ds fs t i ss rs d f e g h k =
     let a = drop-get ds i d e in
     let b = drop-get fs i f g in
     let here : AreCarriedOperands (d ∷ drop (i + 1) ds) (f ∷ drop (i + 1) fs) t =
-        subst (λ xs. AreCarriedOperands xs (f ∷ drop (i + 1) fs) t) a
-        (subst (λ gs. AreCarriedOperands (drop i ds) gs t) b k.left) in
+    subst (λ xs. AreCarriedOperands xs (f ∷ drop (i + 1) fs) t) a
+    (subst (λ gs. AreCarriedOperands (drop i ds) gs t) b k.left) in
     let now : List Value = map (carried f) (column_in d) in
     let later : List Value =
-        stacked (carried_columns (drop (i + 1) fs) (map column_in (drop (i + 1) ds))) in
+    stacked (carried_columns (drop (i + 1) fs) (map column_in (drop (i + 1) ds))) in
     record {
       items =
           ap (λ xs. merged_items xs ++ later) h
@@ -118,7 +120,7 @@ range_later : {X : Type 0} (f : ℕ → X) (a n : ℕ)
 range_later f a zero = refl
 range_later f a (suc n) = ap (λ xs. f (a + 1) ∷ xs) (range_later f (a + 1) n)
 
-map-at : {X : Type 0} (f g : ℕ → X) (a n : ℕ) → ((j : ℕ) → j < a + n → f j ≡ g j)
+pub map-at : {X : Type 0} (f g : ℕ → X) (a n : ℕ) → ((j : ℕ) → j < a + n → f j ≡ g j)
     → map f (range_with_len a n) ≡ map g (range_with_len a n)
 map-at f g a zero e = refl
 map-at {X} f g a (suc n) e =
@@ -132,13 +134,13 @@ row-stacked (vs ∷ vss) n i p e =
     let h = long_first vs vss n e in
     let zero_row : 0 * n + i ≡ i = omega arith in
     let first : get_or (vs ++ stacked vss) (0 * n + i) null ≡ get_or vs i null =
-        ap (λ m. get_or (vs ++ stacked vss) m null) zero_row
-        ∙ get_or_append_left vs (stacked vss) null i (omega (arith, p, h.0)) in
+    ap (λ m. get_or (vs ++ stacked vss) m null) zero_row
+    ∙ get_or_append_left vs (stacked vss) null i (omega (arith, p, h.0)) in
     let next : (j : ℕ) → get_or (vs ++ stacked vss) ((j + 1) * n + i) null
-        ≡ get_or (stacked vss) (j * n + i) null = λ j.
-        let w : (j + 1) * n + i ≡ length vs + (j * n + i) = grind (arith, h.0) in
-        ap (λ m. get_or (vs ++ stacked vss) m null) w
-        ∙ get_or-append-add vs (stacked vss) (j * n + i) null in
+    ≡ get_or (stacked vss) (j * n + i) null = λ j.
+    let w : (j + 1) * n + i ≡ length vs + (j * n + i) = grind (arith, h.0) in
+    ap (λ m. get_or (vs ++ stacked vss) m null) w
+    ∙ get_or-append-add vs (stacked vss) (j * n + i) null in
     ap (λ v. v ∷ map (λ j. get_or (vs ++ stacked vss) (j * n + i) null)
     (range_with_len 1 (length vss))) first
     ∙ ap (λ ws. get_or vs i null ∷ ws)
@@ -154,3 +156,17 @@ rows-stacked vss n r e =
     (λ i. joined_row (row_of vss i)) 0 n
     (λ i p. ap joined_row (row-stacked vss n i (omega (arith, p)) e))
     ∙ ap (λ m. map (λ i. joined_row (row_of vss i)) (range_with_len 0 m)) r
+
+-- ---- the most items
+
+many : (n : ℕ) → item_limit < n → nat_lt item_limit n ≡ true
+many n p = grind arith
+
+few : (n : ℕ) → n ≤ item_limit → nat_lt item_limit n ≡ false
+few n p = grind arith
+
+pub over_limit : (n : ℕ) → item_limit < n → too_many n ≡ Some Size
+over_limit n p = ap (λ b. if b then Some Size else None) (many n p)
+
+pub within_limit : (n : ℕ) → n ≤ item_limit → too_many n ≡ None
+within_limit n p = ap (λ b. if b then Some Size else None) (few n p)

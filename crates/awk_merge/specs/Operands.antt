@@ -1,5 +1,5 @@
 -- What operands that are joined are: their columns, and the lists of each row among those of all.
-use Rattle.std.specs.Prelude.{◌≡◌, ◌+◌, ◌-◌, ◌*◌, ◌/◌, ◌%◌, ◌<◌, ◌∷◌, [], ℕ, ℤ, pos, negsuc, Bool}
+use Rattle.std.specs.Prelude.{◌≡◌, ◌+◌, ◌-◌, ◌*◌, ◌/◌, ◌%◌, ◌<◌, ◌≤◌, ◌∷◌, [], ℕ, ℤ, pos, negsuc, Bool}
 use Rattle.std.specs.Prelude.{if◌then◌else◌, List, length, map, get_or, Option, Some, None, is_some}
 use Rattle.std.specs.Prelude.{Result}
 use Rattle.std.specs.List.{list_all, range_with_len}
@@ -14,7 +14,7 @@ use Rattle.awk_types.specs.declared.fault.Fault.{Fault}
 use Rattle.awk_types.specs.declared.fault.Fault.TheVariants.{Lengths}
 use Rattle.awk_lanes.specs.Column.{Column}
 use Rattle.awk_lanes.specs.Places.{size_of, at, place_at, option_place_at}
-use Rattle.awk_lanes.specs.Places.{IsOptionalIndex, IsOptionKind}
+use Rattle.awk_lanes.specs.Places.{IsIndexKind, IsOptionalIndex, IsOptionKind}
 use Rattle.awk_lanes.specs.declared.kind.Kind.TheVariants.{I64}
 use Rattle.awk_layout.specs.Item.{run, at_option}
 use Rattle.awk_layout.specs.Layout.{Layout}
@@ -155,4 +155,12 @@ ends_in_rows index rows k ends =
 
 -- each k-th offset
 abbrev pub offsets_of_rows : Column → ℕ → ℕ → Column
-offsets_of_rows offsets n k = lane_of I64 (n + 1) (λ i. at offsets (i * k))
+offsets_of_rows offsets n k = lane_of offsets.kind (n + 1) (λ i. at offsets (i * k))
+
+-- offsets of m lists that fill a list of this length
+pub record AreRising (o : Column) (m whole : ℕ) : Type 0 where
+  pub kind : IsIndexKind o.kind
+  pub size : size_of o ≡ m + 1
+  pub numbers : (i : ℕ) → i ≤ m → at o i ≡ pos (place_at o i)
+  pub rises : (i : ℕ) → i < m → place_at o i ≤ place_at o (i + 1)
+  pub last : place_at o m ≡ whole

@@ -49,6 +49,46 @@ fn judge_rows(xs: &Datums, n: u64) -> Result<(), Fault>
     Ok(())
 }
 
+/// Operands joined one after another as items of the type that theirs unify to.
+fn in_order<'a, L: Ledger>(
+    alloc: Global,
+    xs: &Datums<'a>,
+    whole: UnifiedAll,
+    arena: &'a Arena,
+    steps: &mut Steps<L>,
+) -> Result<Array<'a>, Fault>
+    requires lawful { IsArrayType (typ_of whole.typ) }
+    requires carried { AreCarriedOperands xs.now (lifts_of whole.lifts) (typ_of whole.typ) }
+    ensures { let columns = carried_columns (lifts_of whole.entry.lifts) (map column_in xs.now) in
+        let said = joined_datum Axis.Arrays (typ_of whole.entry.typ) columns in
+        Gives array_datum fault_told result said }
+{
+    let sides = operand_sides(alloc, xs, &whole)?;
+    joined_arrays(alloc, whole.typ, &sides, arena, steps)
+}
+
+/// Operands joined row by row as items of the type that their rows unify to.
+fn by_rows<'a, L: Ledger>(
+    alloc: Global,
+    xs: &Datums<'a>,
+    whole: UnifiedAll,
+    arena: &'a Arena,
+    steps: &mut Steps<L>,
+) -> Result<Array<'a>, Fault>
+    requires some { 0 < length xs.now }
+    requires lawful { IsArrayType (typ_of whole.typ) }
+    requires rows { IsRowsType (typ_of whole.typ) }
+    requires carried { AreCarriedOperands xs.now (lifts_of whole.lifts) (typ_of whole.typ) }
+    ensures { let columns = carried_columns (lifts_of whole.entry.lifts) (map column_in xs.now) in
+        let said = joined_datum Axis.Rows (typ_of whole.entry.typ) columns in
+        Gives array_datum fault_told result said }
+{
+    let n = array_in(xs.get(0)).len();
+    judge_rows(xs, n)?;
+    let sides = operand_sides(alloc, xs, &whole)?;
+    joined_rows(alloc, whole.typ, n, xs.len() as u64, &sides, arena, steps)
+}
+
 /// Operands joined as items of the type that theirs unify to.
 fn joined<'a, L: Ledger>(
     alloc: Global,
@@ -66,16 +106,8 @@ fn joined<'a, L: Ledger>(
         Gives array_datum fault_told result (joined_datum axis (typ_of whole.entry.typ) columns) }
 {
     match axis {
-        Axis::Arrays => {
-            let sides = operand_sides(alloc, xs, &whole)?;
-            joined_arrays(alloc, whole.typ, &sides, arena, steps)
-        }
-        Axis::Rows => {
-            let n = array_in(xs.get(0)).len();
-            judge_rows(xs, n)?;
-            let sides = operand_sides(alloc, xs, &whole)?;
-            joined_rows(alloc, whole.typ, n, xs.len() as u64, &sides, arena, steps)
-        }
+        Axis::Arrays => in_order(alloc, xs, whole, arena, steps),
+        Axis::Rows => by_rows(alloc, xs, whole, arena, steps),
     }
 }
 

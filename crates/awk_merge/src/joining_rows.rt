@@ -3,25 +3,27 @@ ghost use Rattle.std.specs.Prelude.{◌≡◌, ◌*◌, ◌<◌, ◌^◌, ℕ, O
 ghost use Rattle.awk_types.specs.DataType.{DataType, var};
 ghost use Rattle.awk_types.specs.Faults.{fault_told};
 ghost use Rattle.awk_types.specs.Gives.{Gives};
+ghost use Rattle.awk_types.specs.Simple.{is_option};
 ghost use Rattle.awk_types.specs.View.{typ_of};
+ghost use Rattle.awk_lanes.specs.Numbers.{int_of, IsOf};
+ghost use Rattle.awk_lanes.specs.declared.kind.Kind.TheVariants as Kinds;
 ghost use Rattle.awk_lanes.specs.Places.{size_of, IsIndexKind, IsOptionalIndex};
 ghost use Rattle.awk_layout.specs.Array.{IsArrayType};
-ghost use Rattle.awk_layout.specs.Layout.{offset_lists};
+ghost use Rattle.awk_layout.specs.Layout.{offset_lists, optional};
 ghost use Rattle.awk_layout.specs.Typing.{array_type, array_items, array_datum};
 ghost use Rattle.awk_layout.specs.Valid.{len};
 ghost use Rattle.awk_gather.specs.Arrays.{array_item};
-ghost use Rattle.awk_axis.specs.Joined.{AreOffsets};
 ghost use Rattle.awk_axis.specs.Opened.{AreLists};
 ghost use Rattle.awk_merge.specs.Operands as spec;
 ghost use Rattle.awk_merge.specs.Operands.{stacked_rows, filled_rows, rows_datum, values_by};
 ghost use Rattle.awk_merge.specs.Operands.{type_by, list_between, IsListIndex, IsRowsType};
-ghost use Rattle.awk_merge.specs.Operands.{IndexHas, IndexesAll};
+ghost use Rattle.awk_merge.specs.Operands.{IndexHas, IndexesAll, AreRising};
 ghost use Rattle.awk_merge.specs.Sides.{sides_of, merged_items, AreSides, IsCounted};
 
 use crate::merging::merge;
 use crate::sides::Sides;
 use awk_axis::{Joined, Opened, join_spans, open_array};
-use awk_lanes::{Arena, Kind, Lane, LaneMaker, Num, Steps, index_at, option_place_in};
+use awk_lanes::{Arena, Kind, Lane, LaneMaker, Num, Steps, index_at, number, option_place_in};
 use awk_layout::{Array, Node};
 use awk_types::{Fault, NoMemory, Typ, copy_type};
 use std::alloc::Global;
@@ -54,17 +56,18 @@ fn is_whole<L: Ledger>(index: &Option<Lane>, n: u64, k: u64, i: u64, steps: &mut
 }
 
 /// The place of a row without null, and -1 for another.
-fn row_or_null<L: Ledger>(index: &Option<Lane>, n: u64, k: u64, i: u64, steps: &mut Steps<L>) -> i64
+fn row_or_null<L: Ledger>(index: &Option<Lane>, n: u64, k: u64, i: u64, steps: &mut Steps<L>) -> Num
     requires index { IndexesAll index.now (k * n) }
     requires fits { k * n < 2 ^ 63 }
     requires small { n < 2 ^ 63 }
     requires within { i < n }
-    ensures { result ≡ spec.row_or_null index.now n k i }
+    ensures number { int_of result ≡ spec.row_or_null index.now n k i }
+    ensures kind { IsOf Kinds.I64 result }
 {
     if is_whole(index, n, k, i, steps) {
-        i as i64
+        number(i)
     } else {
-        -1
+        Num::Int(-1)
     }
 }
 
@@ -85,7 +88,7 @@ fn rows_lane<'a, L: Ledger>(
     let mut maker = LaneMaker::new(Kind::I64, n, arena)?;
     for i in 0..n {
         let row = row_or_null(index, n, k, i, steps);
-        maker.push(Num::Int(row));
+        maker.push(row);
     }
     Ok(maker.finish())
 }
@@ -98,20 +101,21 @@ fn end_in_rows<L: Ledger>(
     ends: &Lane,
     t: u64,
     steps: &mut Steps<L>,
-) -> i64
+) -> Num
     requires index { IsListIndex index.now (k * size_of rows.now) (size_of ends.now) }
     requires fits { k * size_of rows.now < 2 ^ 63 }
     requires rows { IsOptionalIndex rows.now (size_of rows.now) }
     requires ends { IsIndexKind ends.now.kind }
     requires within { t < size_of rows.now * k }
-    ensures { result ≡ spec.end_in_rows index.now rows.now k ends.now t }
+    ensures number { int_of result ≡ spec.end_in_rows index.now rows.now k ends.now t }
+    ensures kind { IsOf Kinds.I64 result }
 {
     match option_place_in(rows, t / k, steps) {
         Some(i) => match list_place(index, t % k * rows.len() + i, steps) {
-            Some(place) => index_at(ends, place, steps),
-            None => 0,
+            Some(place) => Num::Int(index_at(ends, place, steps)),
+            None => Num::Int(0),
         },
-        None => 0,
+        None => Num::Int(0),
     }
 }
 
@@ -135,7 +139,7 @@ fn ends_in_rows<'a, L: Ledger>(
     let mut maker = LaneMaker::new(Kind::I64, n, arena)?;
     for t in 0..n {
         let end = end_in_rows(index, rows, k, ends, t, steps);
-        maker.push(Num::Int(end));
+        maker.push(end);
     }
     Ok(maker.finish())
 }
@@ -149,15 +153,15 @@ fn offsets_of_rows<'a, L: Ledger>(
     arena: &'a Arena,
     steps: &mut Steps<L>,
 ) -> Result<Lane<'a>, NoMemory>
-    requires kind { IsIndexKind offsets.now.kind }
     requires within { n * k < size_of offsets.now }
     requires fits { n < 2 ^ 63 }
+    requires small { n * k < 2 ^ 63 }
     ensures { IfOk result (λ r. r ≡ spec.offsets_of_rows offsets.now n k) }
 {
-    let mut maker = LaneMaker::new(Kind::I64, n + 1, arena)?;
+    let mut maker = LaneMaker::new(offsets.kind(), n + 1, arena)?;
     for i in 0..n + 1 {
-        let offset = index_at(offsets, i * k, steps);
-        maker.push(Num::Int(offset));
+        let offset = offsets.at(i * k, steps);
+        maker.push(offset);
     }
     Ok(maker.finish())
 }
@@ -173,7 +177,8 @@ fn lists_of_rows<'a, L: Ledger>(
     steps: &mut Steps<L>,
 ) -> Result<Node<'a>, NoMemory>
     requires fits { n < 2 ^ 63 }
-    requires offsets { AreOffsets offsets.now (n * k) (len content.now) }
+    requires small { n * k < 2 ^ 63 }
+    requires offsets { AreRising offsets.now (n * k) (len content.now) }
     ensures { let made = spec.offsets_of_rows offsets.now n k in
         IfOk result (λ r. r ≡ offset_lists made content.now) }
 {
@@ -216,6 +221,21 @@ fn joined_lists<'a, L: Ledger>(
     }
 }
 
+/// Lists by an index that has -1 where they are null.
+fn null_rows<'a, L: Ledger>(
+    alloc: Global,
+    rows: Lane<'a>,
+    lists: Node<'a>,
+    steps: &mut Steps<L>,
+) -> Result<Node<'a>, NoMemory>
+    requires fits { size_of rows < 2 ^ 63 }
+    requires index { IsOptionalIndex rows (len lists) }
+    ensures { IfOk result (λ r. r ≡ optional rows.entry lists.entry) }
+{
+    let lists = Box::new(alloc, lists)?;
+    Ok(Node::indexed_option(rows, lists, steps))
+}
+
 /// Rows of lists, which are null where an index tells that one of theirs is.
 fn rows_by_index<'a, L: Ledger>(
     alloc: Global,
@@ -239,10 +259,7 @@ fn rows_by_index<'a, L: Ledger>(
     let rows = rows_lane(index, n, k, arena, steps)?;
     let lists = joined_lists(alloc, index, &rows, k, starts, stops, content, arena, steps)?;
     match index {
-        Some(_) => {
-            let lists = Box::new(alloc, lists)?;
-            Ok(Node::indexed_option(rows, lists, steps))
-        }
+        Some(_) => Ok(null_rows(alloc, rows, lists, steps)?),
         None => Ok(lists),
     }
 }
@@ -276,6 +293,13 @@ fn plain_rows<'a, L: Ledger>(
     }
 }
 
+/// Whether values of a type may be null.
+fn is_option(t: &Typ) -> bool
+    ensures { result ≡ is_option (typ_of t.now) }
+{
+    matches!(t, Typ::Opt(_))
+}
+
 /// The rows of k columns of n values, one column after another, each joined to one list, or null
 /// where a value is.
 fn rows_of<'a, L: Ledger>(
@@ -289,17 +313,18 @@ fn rows_of<'a, L: Ledger>(
     requires rows { IsRowsType (array_type x.now) }
     requires whole { len x.now ≡ k * n }
     requires some { 0 < k }
+    requires fits { k * n < 2 ^ 63 }
     ensures { let rows = stacked_rows n k (array_items x.now) in
         Gives array_datum fault_told result (rows_datum (array_type x.now) rows) }
 {
-    match x.typ() {
-        Typ::Opt(_) => match open_array(alloc, x, arena, steps)? {
-            Opened::Option { index, content } => {
-                plain_rows(alloc, &Some(index), n, k, &content, arena, steps)
-            }
-            _ => unreachable!(),
-        },
-        _ => plain_rows(alloc, &None, n, k, x, arena, steps),
+    if !is_option(x.typ()) {
+        return plain_rows(alloc, &None, n, k, x, arena, steps);
+    }
+    match open_array(alloc, x, arena, steps)? {
+        Opened::Option { index, content } => {
+            plain_rows(alloc, &Some(index), n, k, &content, arena, steps)
+        }
+        _ => unreachable!(),
     }
 }
 

@@ -17,16 +17,15 @@ get-requires-in-loop-i c =
     )
 
 pub loop-i-preserved : goal.loop-i-preserved
-loop-i-preserved c =
-    (
-      one_taken c.args.xs.now (lifts_of c.args.whole.now.lifts) (typ_of c.args.whole.now.typ)
+loop-i-preserved c = (
+  one_taken c.args.xs.now (lifts_of c.args.whole.now.lifts) (typ_of c.args.whole.now.typ)
       c.loop-i.i (sides_of c.loop-i.sides) (sides_of c.push.new.self) c.get.result.now
       (lift_of c.get-in-loop-i.result.now) c.get.ensures.item c.get-in-loop-i.ensures.item
       (c.in_ok-push.ensures.sides
       ∙ ap (λ x. with_side (sides_of c.loop-i.sides) x (lift_of c.get-in-loop-i.result.now))
       (c.in_ok-column.ensures ∙ c.array_in.ensures)) c.loop-i.invariant.0,
-      c.in_ok-push.ensures.counted,
-    )
+  c.in_ok-push.ensures.counted,
+)
 
 pub returns-clause-items : goal.returns-clause-items
 returns-clause-items c =

@@ -13,16 +13,15 @@ use Rattle.awk_merge.proofs.operands.operand_typs.Goals as goal
 pub loop-i-preserved : goal.loop-i-preserved
 loop-i-preserved c =
     let some : Some (typ_of c.in-Some.typ) ≡ operand_type c.args.axis (datum_of c.get.result.now) =
-        ap (option_map typ_of) (sym c.in-Some.is) ∙ c.in_ok-typ.ensures.typ in
-    (
+    ap (option_map typ_of) (sym c.in-Some.is) ∙ c.in_ok-typ.ensures.typ in (
       types_next c.args.axis c.args.xs.now c.loop-i.i c.get.result.now (typ_of c.in-Some.typ)
-      (typs_of c.loop-i.types) (typs_of c.push.new.self) _ c.get.ensures.item some
-      c.in_ok-push-in-Some.ensures.ok c.loop-i.invariant.0,
+          (typs_of c.loop-i.types) (typs_of c.push.new.self) _ c.get.ensures.item some
+          c.in_ok-push-in-Some.ensures.ok c.loop-i.invariant.0,
       lawful_more (typs_of c.loop-i.types) (typs_of c.push.new.self) (typ_of c.in-Some.typ)
-      c.in_ok-push-in-Some.ensures.ok
-      (MatchOption-at_some ⊤ (λ t. IsType (typ_of t) × IsSimple (typ_of t)) c.in-Some.typ
-      c.in-Some.is c.in_ok-typ.ensures.lawful)
-      c.loop-i.invariant.1,
+          c.in_ok-push-in-Some.ensures.ok
+          (MatchOption-at_some ⊤ (λ t. IsType (typ_of t) × IsSimple (typ_of t)) c.in-Some.typ
+          c.in-Some.is c.in_ok-typ.ensures.lawful)
+          c.loop-i.invariant.1,
     )
 
 pub returns-in-None-clause-types : goal.returns-in-None-clause-types
