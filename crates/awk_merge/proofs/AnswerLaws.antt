@@ -1,6 +1,6 @@
 -- What the parts of joining answer, as parts of the whole.
 use Rattle.std.proofs.Common.{◌≡◌, ◌∙◌, ◌+◌, ◌*◌, ◌<◌, ◌==◌, ◌&&◌, ◌≤◌, ◌∷◌, [], ℕ, suc, Bool, true, false, List, Option, Some, None, Result, Ok, Err, ap, ap₂, sym, subst, refl, map, drop, length, slice_get, arith}
-use Rattle.std.specs.Prelude.{if◌then◌else◌, option_map}
+use Rattle.std.specs.Prelude.{if◌then◌else◌, option_map, IsErrAnd}
 use Rattle.std.proofs.lemmas.List.{drop_all}
 use Rattle.awk_types.proofs.ListLaws.{drop-get}
 use Rattle.awk_types.proofs.RefusalLaws.{Told-same, Told-first, Told-later, refused_or-Ok, refused_or-Err, or-None, or-assoc, or-both}
@@ -180,3 +180,13 @@ array_type_is ts u h l n = record {
   is_simple = l.is_simple h.are_simple;
   within_limits = n;
 }
+
+-- a call that fails as the type is refused
+pub limit_gives : (axis : Axis) (ds : List Datum) (ts : List DataType)
+    → operand_types axis (map datum_of ds) ≡ Some ts → (f : TypeFault) (r : Result Layout Fault)
+    → IsErrAnd r (λ e. e ≡ fault_of f) → Told (limit_told f) (within_list (unification_list ts))
+    → Gives array_datum fault_told r (concatenate_at (Some axis) (map datum_of ds))
+limit_gives axis ds ts e f (Ok y) h k = absurd h
+limit_gives axis ds ts e f (Err x) h k =
+    subst (λ z. Told (fault_told z) (concatenate_at (Some axis) (map datum_of ds))) (sym h)
+    (told_by_limit axis ds ts e f k)

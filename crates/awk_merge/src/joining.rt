@@ -53,40 +53,40 @@ fn judge_rows(xs: &Datums, n: u64) -> Result<(), Fault>
 fn in_order<'a, L: Ledger>(
     alloc: Global,
     xs: &Datums<'a>,
-    whole: UnifiedAll,
+    whole: &UnifiedAll,
     arena: &'a Arena,
     steps: &mut Steps<L>,
 ) -> Result<Array<'a>, Fault>
-    requires lawful { IsArrayType (typ_of whole.typ) }
-    requires carried { AreCarriedOperands xs.now (lifts_of whole.lifts) (typ_of whole.typ) }
-    ensures { let columns = carried_columns (lifts_of whole.entry.lifts) (map column_in xs.now) in
-        let said = joined_datum Axis.Arrays (typ_of whole.entry.typ) columns in
+    requires lawful { IsArrayType (typ_of whole.now.typ) }
+    requires carried { AreCarriedOperands xs.now (lifts_of whole.now.lifts) (typ_of whole.now.typ) }
+    ensures { let columns = carried_columns (lifts_of whole.now.lifts) (map column_in xs.now) in
+        let said = joined_datum Axis.Arrays (typ_of whole.now.typ) columns in
         Gives array_datum fault_told result said }
 {
-    let sides = operand_sides(alloc, xs, &whole)?;
-    joined_arrays(alloc, whole.typ, &sides, arena, steps)
+    let sides = operand_sides(alloc, xs, whole)?;
+    joined_arrays(alloc, &whole.typ, &sides, arena, steps)
 }
 
 /// Operands joined row by row as items of the type that their rows unify to.
 fn by_rows<'a, L: Ledger>(
     alloc: Global,
     xs: &Datums<'a>,
-    whole: UnifiedAll,
+    whole: &UnifiedAll,
     arena: &'a Arena,
     steps: &mut Steps<L>,
 ) -> Result<Array<'a>, Fault>
     requires some { 0 < length xs.now }
-    requires lawful { IsArrayType (typ_of whole.typ) }
-    requires rows { IsRowsType (typ_of whole.typ) }
-    requires carried { AreCarriedOperands xs.now (lifts_of whole.lifts) (typ_of whole.typ) }
-    ensures { let columns = carried_columns (lifts_of whole.entry.lifts) (map column_in xs.now) in
-        let said = joined_datum Axis.Rows (typ_of whole.entry.typ) columns in
+    requires lawful { IsArrayType (typ_of whole.now.typ) }
+    requires rows { IsRowsType (typ_of whole.now.typ) }
+    requires carried { AreCarriedOperands xs.now (lifts_of whole.now.lifts) (typ_of whole.now.typ) }
+    ensures { let columns = carried_columns (lifts_of whole.now.lifts) (map column_in xs.now) in
+        let said = joined_datum Axis.Rows (typ_of whole.now.typ) columns in
         Gives array_datum fault_told result said }
 {
     let n = array_in(xs.get(0)).len();
     judge_rows(xs, n)?;
-    let sides = operand_sides(alloc, xs, &whole)?;
-    joined_rows(alloc, whole.typ, n, xs.len() as u64, &sides, arena, steps)
+    let sides = operand_sides(alloc, xs, whole)?;
+    joined_rows(alloc, &whole.typ, n, xs.len() as u64, &sides, arena, steps)
 }
 
 /// Operands joined as items of the type that theirs unify to.
@@ -94,16 +94,16 @@ fn joined<'a, L: Ledger>(
     alloc: Global,
     axis: Axis,
     xs: &Datums<'a>,
-    whole: UnifiedAll,
+    whole: &UnifiedAll,
     arena: &'a Arena,
     steps: &mut Steps<L>,
 ) -> Result<Array<'a>, Fault>
     requires some { 0 < length xs.now }
-    requires lawful { IsArrayType (typ_of whole.typ) }
-    requires carried { AreCarriedOperands xs.now (lifts_of whole.lifts) (typ_of whole.typ) }
-    requires rows { axis ≡ Axis.Rows → IsRowsType (typ_of whole.typ) }
-    ensures { let columns = carried_columns (lifts_of whole.entry.lifts) (map column_in xs.now) in
-        Gives array_datum fault_told result (joined_datum axis (typ_of whole.entry.typ) columns) }
+    requires lawful { IsArrayType (typ_of whole.now.typ) }
+    requires carried { AreCarriedOperands xs.now (lifts_of whole.now.lifts) (typ_of whole.now.typ) }
+    requires rows { axis ≡ Axis.Rows → IsRowsType (typ_of whole.now.typ) }
+    ensures { let columns = carried_columns (lifts_of whole.now.lifts) (map column_in xs.now) in
+        Gives array_datum fault_told result (joined_datum axis (typ_of whole.now.typ) columns) }
 {
     match axis {
         Axis::Arrays => in_order(alloc, xs, whole, arena, steps),
@@ -126,7 +126,7 @@ fn joined_at<'a, L: Ledger>(
     match operand_typs(alloc, axis, xs)? {
         Some(types) => {
             let whole = unify_all(alloc, &types)?;
-            joined(alloc, axis, xs, whole, arena, steps)
+            joined(alloc, axis, xs, &whole, arena, steps)
         }
         None => Err(Fault::Axis),
     }

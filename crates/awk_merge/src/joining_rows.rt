@@ -13,14 +13,14 @@ ghost use Rattle.awk_layout.specs.Layout.{offset_lists, optional};
 ghost use Rattle.awk_layout.specs.Typing.{array_type, array_items, array_datum};
 ghost use Rattle.awk_layout.specs.Valid.{len};
 ghost use Rattle.awk_gather.specs.Arrays.{array_item};
-ghost use Rattle.awk_axis.specs.Opened.{AreLists};
+ghost use Rattle.awk_axis.specs.Opened.{AreLists, OpensLists};
 ghost use Rattle.awk_merge.specs.Operands as spec;
 ghost use Rattle.awk_merge.specs.Operands.{stacked_rows, filled_rows, rows_datum, values_by};
 ghost use Rattle.awk_merge.specs.Operands.{type_by, list_between, IsListIndex, IsRowsType};
 ghost use Rattle.awk_merge.specs.Operands.{IndexHas, IndexesAll, AreRising};
 ghost use Rattle.awk_merge.specs.Sides.{sides_of, merged_items, AreSides, IsCounted};
 
-use crate::merging::merge;
+use crate::joining_arrays::merged;
 use crate::sides::Sides;
 use awk_axis::{Joined, Opened, join_spans, open_array};
 use awk_lanes::{Arena, Kind, Lane, LaneMaker, Num, Steps, index_at, number, option_place_in};
@@ -264,6 +264,40 @@ fn rows_by_index<'a, L: Ledger>(
     }
 }
 
+/// Where the lists of a column lie, and what holds their items.
+#[derive(Drop)]
+struct OpenedLists<'a> {
+    starts: Lane<'a>,
+    stops: Lane<'a>,
+    content: Array<'a>,
+}
+
+/// The lists of a column.
+fn opened_lists<'a, L: Ledger>(
+    alloc: Global,
+    x: &Array<'a>,
+    arena: &'a Arena,
+    steps: &mut Steps<L>,
+) -> Result<OpenedLists<'a>, NoMemory>
+    requires lists { (u : DataType) × (array_type x.now ≡ var u) }
+    ensures { IfOk result (λ r.
+        (class : Option ℕ) × OpensLists class r.starts r.stops r.content x.now) }
+{
+    match open_array(alloc, x, arena, steps)? {
+        Opened::Items {
+            starts,
+            stops,
+            content,
+            ..
+        } => Ok(OpenedLists {
+            starts,
+            stops,
+            content,
+        }),
+        _ => unreachable!(),
+    }
+}
+
 /// The same of a column that is no option.
 fn plain_rows<'a, L: Ledger>(
     alloc: Global,
@@ -282,15 +316,18 @@ fn plain_rows<'a, L: Ledger>(
         let typ = type_by index.now (array_type lists.now) in
         Gives array_datum fault_told result (rows_datum typ (stacked_rows n k vs)) }
 {
-    match open_array(alloc, lists, arena, steps)? {
-        Opened::Items {
-            starts,
-            stops,
-            content,
-            ..
-        } => rows_by_index(alloc, index, n, k, &starts, &stops, &content, arena, steps),
-        _ => unreachable!(),
-    }
+    let opened = opened_lists(alloc, lists, arena, steps)?;
+    rows_by_index(
+        alloc,
+        index,
+        n,
+        k,
+        &opened.starts,
+        &opened.stops,
+        &opened.content,
+        arena,
+        steps,
+    )
 }
 
 /// Whether values of a type may be null.
@@ -332,24 +369,24 @@ fn rows_of<'a, L: Ledger>(
 /// items are too many together.
 pub(crate) fn joined_rows<'a, L: Ledger>(
     alloc: Global,
-    typ: Typ,
+    typ: &Typ,
     n: u64,
     k: u64,
     sides: &Sides<'a>,
     arena: &'a Arena,
     steps: &mut Steps<L>,
 ) -> Result<Array<'a>, Fault>
-    requires lawful { IsArrayType (typ_of typ) }
-    requires rows { IsRowsType (typ_of typ) }
-    requires sides { AreSides (typ_of typ) (sides_of sides.now) }
+    requires lawful { IsArrayType (typ_of typ.now) }
+    requires rows { IsRowsType (typ_of typ.now) }
+    requires sides { AreSides (typ_of typ.now) (sides_of sides.now) }
     requires counted { IsCounted sides.now }
     requires whole { length (merged_items (sides_of sides.now)) ≡ k * n }
     requires some { 0 < k }
     ensures { let rows = stacked_rows n k (merged_items (sides_of sides.now)) in
-        Gives array_datum fault_told result (rows_datum (typ_of typ.entry) rows) }
+        Gives array_datum fault_told result (rows_datum (typ_of typ.now) rows) }
 {
-    let node = merge(alloc, &typ, sides, arena, steps)?;
-    let stacked = Array::with_type(node, copy_type(alloc, &typ)?);
-    let rows = rows_of(alloc, &stacked, n, k, arena, steps)?;
-    Ok(Array::with_type(rows, typ))
+    let x = merged(alloc, typ, sides, arena, steps)?;
+    let rows = rows_of(alloc, &x, n, k, arena, steps)?;
+    let again = copy_type(alloc, typ)?;
+    Ok(Array::with_type(rows, again))
 }
