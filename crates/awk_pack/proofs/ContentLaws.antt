@@ -29,13 +29,15 @@ use Rattle.awk_pack.proofs.LargeLaws.{few_items}
 use Rattle.awk_pack.proofs.LeafLanes.{leaf-lane}
 
 -- the lanes of the node are put, and its contents hold the columns of the nodes below
-record IsOwn (t : DataType) (vs : List Value) (old : List Column) (ys : List Layout) (new : List Column) : Type 0 where
+record IsOwn (t : DataType) (vs : List Value) (old : List Column) (ys : List Layout)
+    (new : List Column) : Type 0 where
   pub lanes : new ≡ old ++ node_lanes t vs
   pub columns : placed t vs ≡ at_node t vs ∷ flat_map placed_of ys
   pub count : nodes t ≡ suc (all_nodes (map array_type ys))
   pub few : nat_lt item_limit (length vs) ≡ false
 
-left : (t : DataType) (vs : List Value) (old : List Column) (ys : List Layout) (new : List Column) → IsOwn t vs old ys new → IsLeft t vs old ys new
+left : (t : DataType) (vs : List Value) (old : List Column) (ys : List Layout) (new : List Column)
+    → IsOwn t vs old ys new → IsLeft t vs old ys new
 left t vs old ys new h =
     let rest = lanes_of (flat_map placed_of ys) in
     record {
@@ -49,19 +51,24 @@ left t vs old ys new h =
 
 -- ---- an opened array
 
-pub column-is : (x : Layout) (r s : Opened) → r ≡ s → IsOpened x r → IsInOrder (array_items x) r → len x ≤ item_limit → IsColumn (array_type x) (array_items x) s
-column-is x r s is opened order l = subst (λ s. IsColumn (array_type x) (array_items x) s) is (record {
-  kind = opened.kind;
-  order = order;
-  few = few_items x l;
-})
+pub column-is : (x : Layout) (r s : Opened) → r ≡ s → IsOpened x r → IsInOrder (array_items x) r
+    → len x ≤ item_limit → IsColumn (array_type x) (array_items x) s
+column-is x r s is opened order l =
+    subst (λ s. IsColumn (array_type x) (array_items x) s) is (record {
+      kind = opened.kind;
+      order = order;
+      few = few_items x l;
+    })
 
 -- ---- no contents
 
-pub left_leaf : (t : DataType) (vs : List Value) (old new : List Column) (ys : List Layout) (c r : Column) → IsColumn t vs (Leaf c) → r ≡ leaf_lane c → new ≡ old ++ r ∷ [] → ys ≡ [] → IsLeft t vs old ys new
+pub left_leaf : (t : DataType) (vs : List Value) (old new : List Column) (ys : List Layout)
+    (c r : Column) → IsColumn t vs (Leaf c) → r ≡ leaf_lane c → new ≡ old ++ r ∷ [] → ys ≡ []
+    → IsLeft t vs old ys new
 left_leaf t vs old new ys c r h l e none =
     subst (λ ys. IsLeft t vs old ys new) (sym none)
-    (subst (λ t. IsLeft t vs old [] new) (sym h.kind) (left (leaf (primitive_of c.kind)) vs old [] new (record {
+    (subst (λ t. IsLeft t vs old [] new) (sym h.kind)
+    (left (leaf (primitive_of c.kind)) vs old [] new (record {
       lanes = e ∙ ap (λ c. old ++ c ∷ []) (l ∙ leaf-lane c vs h.order);
       columns = refl;
       count = refl;
@@ -70,23 +77,31 @@ left_leaf t vs old new ys c r h l e none =
 
 -- ---- lists
 
-one : (t : DataType) (vs : List Value) (z : Layout) → array_type z ≡ t → array_items z ≡ vs → placed t vs ≡ flat_map placed_of (z ∷ [])
+one : (t : DataType) (vs : List Value) (z : Layout) → array_type z ≡ t → array_items z ≡ vs
+    → placed t vs ≡ flat_map placed_of (z ∷ [])
 one t vs z e f = ap₂ placed (sym e) (sym f) ∙ sym (append-nil (placed_of z))
 
-own_var : (u : DataType) (vs : List Value) (old new : List Column) (s e o : Column) (y z : Layout) → IsColumn (var u) vs (Items s e y) → IsJoined y (list_values s e y) o z → new ≡ old ++ o ∷ [] → IsOwn (var u) vs old (z ∷ []) new
+own_var : (u : DataType) (vs : List Value) (old new : List Column) (s e o : Column) (y z : Layout)
+    → IsColumn (var u) vs (Items s e y) → IsJoined y (list_values s e y) o z → new ≡ old ++ o ∷ []
+    → IsOwn (var u) vs old (z ∷ []) new
 own_var u vs old new s e o y z h j m =
     let typ : array_type z ≡ u = j.typ ∙ sym h.kind in
     let items : array_items z ≡ joined_items vs = j.items ∙ ap joined_items (sym h.order) in
     record {
-      lanes = m ∙ ap (λ c. old ++ c ∷ []) (j.offsets ∙ ap (λ vs. lane_of kind.I64 (offsets 0 vs)) (sym h.order));
+      lanes =
+          m ∙ ap (λ c. old ++ c ∷ [])
+          (j.offsets ∙ ap (λ vs. lane_of kind.I64 (offsets 0 vs)) (sym h.order));
       columns = ap (λ ps. at_node (var u) vs ∷ ps) (one u (joined_items vs) z typ items);
       count = omega (arith, ap nodes typ);
       few = h.few;
     }
 
 -- lists that are not of one length have offsets
-offsets_put : (t : DataType) (vs : List Value) (old new : List Column) (s e o : Column) (y z : Layout) → is_regular t ≡ false → IsColumn t vs (Items s e y) → IsJoined y (list_values s e y) o z → new ≡ old ++ o ∷ [] → IsLeft t vs old (z ∷ []) new
-offsets_put (var u) vs old new s e o y z r h j m = left (var u) vs old (z ∷ []) new (own_var u vs old new s e o y z h j m)
+offsets_put : (t : DataType) (vs : List Value) (old new : List Column) (s e o : Column)
+    (y z : Layout) → is_regular t ≡ false → IsColumn t vs (Items s e y)
+    → IsJoined y (list_values s e y) o z → new ≡ old ++ o ∷ [] → IsLeft t vs old (z ∷ []) new
+offsets_put (var u) vs old new s e o y z r h j m =
+    left (var u) vs old (z ∷ []) new (own_var u vs old new s e o y z h j m)
 offsets_put (reg n u) vs old new s e o y z r h j m = absurd (cc)
 offsets_put unknown vs old new s e o y z r h j m = absurd h.kind
 offsets_put (leaf q) vs old new s e o y z r h j m = absurd h.kind
@@ -95,57 +110,77 @@ offsets_put (tup ts) vs old new s e o y z r h j m = absurd h.kind
 offsets_put (opt u) vs old new s e o y z r h j m = absurd h.kind
 offsets_put (uni ts) vs old new s e o y z r h j m = absurd h.kind
 
-pub left_var : (t : DataType) (vs : List Value) (old new : List Column) (s e o : Column) (y z : Layout) (ys : List Layout) → is_regular t ≡ false → IsJoined y (list_values s e y) o z → new ≡ old ++ o ∷ [] → ys ≡ z ∷ [] → IsColumn t vs (Items s e y) → IsLeft t vs old ys new
-left_var t vs old new s e o y z ys r j m is h = subst (λ ys. IsLeft t vs old ys new) (sym is) (offsets_put t vs old new s e o y z r h j m)
+pub left_var : (t : DataType) (vs : List Value) (old new : List Column) (s e o : Column)
+    (y z : Layout) (ys : List Layout) → is_regular t ≡ false → IsJoined y (list_values s e y) o z
+    → new ≡ old ++ o ∷ [] → ys ≡ z ∷ [] → IsColumn t vs (Items s e y) → IsLeft t vs old ys new
+left_var t vs old new s e o y z ys r j m is h =
+    subst (λ ys. IsLeft t vs old ys new) (sym is) (offsets_put t vs old new s e o y z r h j m)
 
 -- ---- options
 
-pub left_option : (t : DataType) (vs : List Value) (old new : List Column) (j : Column) (y : Layout) (ys : List Layout) → IsColumn t vs (Optional j y) → new ≡ old ++ j ∷ [] → ys ≡ y ∷ [] → IsLeft t vs old ys new
+pub left_option : (t : DataType) (vs : List Value) (old new : List Column) (j : Column) (y : Layout)
+    (ys : List Layout) → IsColumn t vs (Optional j y) → new ≡ old ++ j ∷ [] → ys ≡ y ∷ []
+    → IsLeft t vs old ys new
 left_option t vs old new j y ys h m is =
     subst (λ ys. IsLeft t vs old ys new) (sym is)
-    (subst (λ t. IsLeft t vs old (y ∷ []) new) (sym h.kind) (left (opt (array_type y)) vs old (y ∷ []) new (record {
+    (subst (λ t. IsLeft t vs old (y ∷ []) new) (sym h.kind)
+    (left (opt (array_type y)) vs old (y ∷ []) new (record {
       lanes = m ∙ ap (λ c. old ++ c ∷ []) h.order.0;
-      columns = ap (λ ps. at_node (opt (array_type y)) vs ∷ ps) (one (array_type y) (filter is_present vs) y refl h.order.1);
+      columns = ap (λ ps. at_node (opt (array_type y)) vs ∷ ps)
+          (one (array_type y) (filter is_present vs) y refl h.order.1);
       count = omega arith;
       few = h.few;
     })))
 
 -- ---- rows
 
-placed-parts : (k : ℕ) (vs : List Value) (ys : List Layout) → AreParts k vs ys → placed_fields k (types_from (map array_type ys)) vs ≡ flat_map placed_of ys
+placed-parts : (k : ℕ) (vs : List Value) (ys : List Layout) → AreParts k vs ys
+    → placed_fields k (types_from (map array_type ys)) vs ≡ flat_map placed_of ys
 placed-parts k vs [] h = refl
-placed-parts k vs (y ∷ ys) h = ap₂ (λ ps qs. ps ++ qs) (ap (placed (array_type y)) (sym h.0)) (placed-parts (suc k) vs ys h.1)
+placed-parts k vs (y ∷ ys) h =
+    ap₂ (λ ps qs. ps ++ qs) (ap (placed (array_type y)) (sym h.0)) (placed-parts (suc k) vs ys h.1)
 
-own_row : (names : Option (List Name)) (vs : List Value) (old : List Column) (ys : List Layout) → AreParts 0 vs ys → nat_lt item_limit (length vs) ≡ false → IsOwn (row_type names (types_from (map array_type ys))) vs old ys old
+own_row : (names : Option (List Name)) (vs : List Value) (old : List Column) (ys : List Layout)
+    → AreParts 0 vs ys → nat_lt item_limit (length vs) ≡ false
+    → IsOwn (row_type names (types_from (map array_type ys))) vs old ys old
 own_row None vs old ys h few = record {
   lanes = sym (append-nil old);
-  columns = ap (λ ps. at_node (tup (types_from (map array_type ys))) vs ∷ ps) (placed-parts 0 vs ys h);
+  columns =
+      ap (λ ps. at_node (tup (types_from (map array_type ys))) vs ∷ ps) (placed-parts 0 vs ys h);
   count = ap suc (sum-nodes_each (map array_type ys));
   few = few;
 }
 own_row (Some names) vs old ys h few = record {
   lanes = sym (append-nil old);
-  columns = ap (λ ps. at_node (rec names (types_from (map array_type ys))) vs ∷ ps) (placed-parts 0 vs ys h);
+  columns = ap (λ ps. at_node (rec names (types_from (map array_type ys))) vs ∷ ps)
+      (placed-parts 0 vs ys h);
   count = ap suc (sum-nodes_each (map array_type ys));
   few = few;
 }
 
-pub left_row : (t : DataType) (vs : List Value) (old : List Column) (names : Option (List Name)) (ys : List Layout) → IsColumn t vs (Row names ys) → IsLeft t vs old ys old
+pub left_row : (t : DataType) (vs : List Value) (old : List Column) (names : Option (List Name))
+    (ys : List Layout) → IsColumn t vs (Row names ys) → IsLeft t vs old ys old
 left_row t vs old names ys h =
     let u = row_type names (types_from (map array_type ys)) in
-    subst (λ t. IsLeft t vs old ys old) (sym h.kind) (left u vs old ys old (own_row names vs old ys h.order h.few))
+    subst (λ t. IsLeft t vs old ys old) (sym h.kind)
+    (left u vs old ys old (own_row names vs old ys h.order h.few))
 
 -- ---- unions
 
-placed-alternatives : (k : ℕ) (vs : List Value) (ys : List Layout) → AreAlternatives k vs ys → placed_alternatives k (types_from (map array_type ys)) vs ≡ flat_map placed_of ys
+placed-alternatives : (k : ℕ) (vs : List Value) (ys : List Layout) → AreAlternatives k vs ys
+    → placed_alternatives k (types_from (map array_type ys)) vs ≡ flat_map placed_of ys
 placed-alternatives k vs [] h = refl
-placed-alternatives k vs (y ∷ ys) h = ap₂ (λ ps qs. ps ++ qs) (ap (placed (array_type y)) (sym h.0)) (placed-alternatives (suc k) vs ys h.1)
+placed-alternatives k vs (y ∷ ys) h = ap₂ (λ ps qs. ps ++ qs) (ap (placed (array_type y)) (sym h.0))
+    (placed-alternatives (suc k) vs ys h.1)
 
-pub left_union : (t : DataType) (vs : List Value) (old mid new : List Column) (g j : Column) (ys : List Layout) → IsColumn t vs (Union g j ys) → mid ≡ old ++ g ∷ [] → new ≡ mid ++ j ∷ [] → IsLeft t vs old ys new
+pub left_union : (t : DataType) (vs : List Value) (old mid new : List Column) (g j : Column)
+    (ys : List Layout) → IsColumn t vs (Union g j ys) → mid ≡ old ++ g ∷ [] → new ≡ mid ++ j ∷ []
+    → IsLeft t vs old ys new
 left_union t vs old mid new g j ys h a b =
     let u = uni (types_from (map array_type ys)) in
     subst (λ t. IsLeft t vs old ys new) (sym h.kind) (left u vs old ys new (record {
-      lanes = b ∙ ap (λ cs. cs ++ j ∷ []) a ∙ append_assoc old (g ∷ []) (j ∷ []) ∙ ap₂ (λ g j. old ++ g ∷ j ∷ []) h.order.0 h.order.1;
+      lanes = b ∙ ap (λ cs. cs ++ j ∷ []) a ∙ append_assoc old (g ∷ []) (j ∷ [])
+          ∙ ap₂ (λ g j. old ++ g ∷ j ∷ []) h.order.0 h.order.1;
       columns = ap (λ ps. at_node u vs ∷ ps) (placed-alternatives 0 vs ys h.order.2);
       count = ap suc (sum-nodes_each (map array_type ys));
       few = h.few;

@@ -14,9 +14,13 @@ use Rattle.awk_gather.specs.Joined.{joined_datum}
 use Rattle.awk_pack.specs.Lanes.{lane_of}
 use Rattle.awk_pack.specs.Packing.{IsJoined}
 
-pub joined-is : (y : Layout) (vs : List Value) (o : Column) (z : Layout) → joined_datum (array_type y) vs ≡ Ok (array_datum z) → o ≡ lane_of kind.I64 (offsets 0 vs) → IsJoined y vs o z
+pub joined-is : (y : Layout) (vs : List Value) (o : Column) (z : Layout)
+    → joined_datum (array_type y) vs ≡ Ok (array_datum z) → o ≡ lane_of kind.I64 (offsets 0 vs)
+    → IsJoined y vs o z
 joined-is y vs o z e l =
-    let same : arr (array_type y) (joined_items vs) ≡ array_datum z = (refused_or-Ok (too_many (length (joined_items vs))) (arr (array_type y) (joined_items vs)) (array_datum z) e).1 in
+    let same : arr (array_type y) (joined_items vs) ≡ array_datum z =
+    (refused_or-Ok (too_many (length (joined_items vs))) (arr (array_type y) (joined_items vs))
+    (array_datum z) e).1 in
     record {
       typ = sym (typ_part same);
       items = sym (items_part same);

@@ -19,7 +19,8 @@ use Rattle.awk_pack.specs.Canon.{is_too_long, is_too_large}
 use Rattle.awk_pack.specs.Packing.{IsColumn}
 
 -- the column of the node itself is too long
-pub large_node : (t : DataType) (vs : List Value) → nat_lt item_limit (length vs) ≡ true → is_too_large t vs ≡ true
+pub large_node : (t : DataType) (vs : List Value) → nat_lt item_limit (length vs) ≡ true
+    → is_too_large t vs ≡ true
 large_node unknown vs h = ap (λ b. b || false) h
 large_node (leaf p) vs h = ap (λ b. b || false) h
 large_node (var t) vs h = ap (λ b. b || is_too_large t (joined_items vs)) h
@@ -30,10 +31,13 @@ large_node (opt t) vs h = ap (λ b. b || is_too_large t (filter is_present vs)) 
 large_node (uni ts) vs h = ap (λ b. b || list_any is_too_long (placed_alternatives 0 ts vs)) h
 
 -- an array that is too long, and one that is not
-pub large_array : (x : Layout) → item_limit < len x → is_too_large (array_type x) (array_items x) ≡ true
-large_array x l = large_node (array_type x) (array_items x) (ap (nat_lt item_limit) (length-array_items x) ∙ lt-ltb item_limit (len x) l)
+pub large_array : (x : Layout) → item_limit < len x
+    → is_too_large (array_type x) (array_items x) ≡ true
+large_array x l = large_node (array_type x) (array_items x)
+    (ap (nat_lt item_limit) (length-array_items x) ∙ lt-ltb item_limit (len x) l)
 
-pub few_items : (x : Layout) → len x ≤ item_limit → nat_lt item_limit (length (array_items x)) ≡ false
+pub few_items : (x : Layout) → len x ≤ item_limit
+    → nat_lt item_limit (length (array_items x)) ≡ false
 few_items x l = ap (nat_lt item_limit) (length-array_items x) ∙ le-ltb item_limit (len x) l
 
 or_true : (a b : Bool) → b ≡ true → (a || b) ≡ true
@@ -41,9 +45,17 @@ or_true true b h = refl
 or_true false b h = h
 
 -- the items of lists are too many
-pub large_lists : (t : DataType) (vs : List Value) (s e : Column) (y : Layout) → nat_lt item_limit (length (joined_items (list_values s e y))) ≡ true → IsColumn t vs (Items s e y) → is_too_large t vs ≡ true
-large_lists (var t) vs s e y l h = or_true (is_too_long (record { typ = var t; values = vs })) (is_too_large t (joined_items vs)) (large_node t (joined_items vs) (ap (λ vs. nat_lt item_limit (length (joined_items vs))) h.order ∙ l))
-large_lists (reg n t) vs s e y l h = or_true (is_too_long (record { typ = reg n t; values = vs })) (is_too_large t (joined_items vs)) (large_node t (joined_items vs) (ap (λ vs. nat_lt item_limit (length (joined_items vs))) h.order ∙ l))
+pub large_lists : (t : DataType) (vs : List Value) (s e : Column) (y : Layout)
+    → nat_lt item_limit (length (joined_items (list_values s e y))) ≡ true
+    → IsColumn t vs (Items s e y) → is_too_large t vs ≡ true
+large_lists (var t) vs s e y l h = or_true (is_too_long (record { typ = var t; values = vs }))
+    (is_too_large t (joined_items vs))
+    (large_node t (joined_items vs)
+    (ap (λ vs. nat_lt item_limit (length (joined_items vs))) h.order ∙ l))
+large_lists (reg n t) vs s e y l h = or_true (is_too_long (record { typ = reg n t; values = vs }))
+    (is_too_large t (joined_items vs))
+    (large_node t (joined_items vs)
+    (ap (λ vs. nat_lt item_limit (length (joined_items vs))) h.order ∙ l))
 large_lists unknown vs s e y l h = absurd h.kind
 large_lists (leaf q) vs s e y l h = absurd h.kind
 large_lists (rec ns ts) vs s e y l h = absurd h.kind

@@ -9,5 +9,6 @@ told-on Size P Q h f = f h
 told-on NoMemory P Q h f = tt
 
 -- a fault is handed on
-pub size_on : {B : Type 0} (r : Result B PackFault) (e : PackFault) (P Q : Type 0) → r ≡ Err e → OnSize e P → (P → Q) → IfSize r Q
+pub size_on : {B : Type 0} (r : Result B PackFault) (e : PackFault) (P Q : Type 0) → r ≡ Err e
+    → OnSize e P → (P → Q) → IfSize r Q
 size_on r e P Q is h f = subst (λ r. IfSize r Q) (sym is) (told-on e P Q h f)

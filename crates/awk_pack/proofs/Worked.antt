@@ -83,7 +83,8 @@ some_null : packed (tup (type (opt (leaf primitive.I8)) (type (leaf primitive.Bo
           (form.numpy (Some (codes "node2")) primitive.I8 []))
           (form.form (form.numpy (Some (codes "node3")) primitive.Bool []) form.no_forms));
       length = 3;
-      lanes = lane_of kind.I64 (pos 0 ∷ negsuc 0 ∷ pos 1 ∷ []) ∷ lane_of kind.I8 (pos 4 ∷ pos 6 ∷ [])
+      lanes =
+          lane_of kind.I64 (pos 0 ∷ negsuc 0 ∷ pos 1 ∷ []) ∷ lane_of kind.I8 (pos 4 ∷ pos 6 ∷ [])
           ∷ lane_of kind.Bool (pos 1 ∷ pos 1 ∷ pos 1 ∷ []) ∷ [];
     }
 unfolding digits

@@ -53,7 +53,8 @@ round-large : (t : DataType) (vs : List Value) → canon t vs ≡ Err Size
     → there_and_back t vs ≡ Err size
 round-large t vs e = by (is_too_large t vs) e
   where
-    by : (b : Bool) → ◌≡◌ {A = Result Pack PackFault} (cond b (Err Size) (Ok (packed t vs))) (Err Size)
+    by : (b : Bool) → ◌≡◌ {A = Result Pack PackFault} (cond b (Err Size) (Ok (packed t vs)))
+        (Err Size)
         → ◌≡◌ {A = Result Round Unback} (cond b (Err size)
         (Ok (round (packed t vs) (arr t vs) (packed t vs)))) (Err size)
     by true e = refl

@@ -47,7 +47,14 @@ mutual
       let keys = length-append (buffer_keys (packed_form k t)) (keys_of fs) in
       let lanes = length-append (lanes_of here) (lanes_of others) in
       rw apart
-      (omega (arith, keys, lanes, as-many k t (map (part_at j) rows), fields-as-many (k + nodes t) (suc j) ts rows))
+      (omega (
+        arith,
+        keys,
+        lanes,
+        as-many k t (map (part_at j) rows),
+        fields-as-many (k + nodes t)
+            (suc j) ts rows,
+      ))
 
   alternatives-as-many : (k j : ℕ) (ts : DataTypes) (vs : List Value)
       → length (keys_of (packed_forms k ts)) ≡ length (lanes_of (placed_alternatives j ts vs))
@@ -60,7 +67,14 @@ mutual
       let keys = length-append (buffer_keys (packed_form k t)) (keys_of fs) in
       let lanes = length-append (lanes_of here) (lanes_of others) in
       rw apart
-      (omega (arith, keys, lanes, as-many k t (alternative_values j vs), alternatives-as-many (k + nodes t) (suc j) ts vs))
+      (omega (
+        arith,
+        keys,
+        lanes,
+        as-many k t (alternative_values j vs),
+        alternatives-as-many
+            (k + nodes t) (suc j) ts vs,
+      ))
 
 -- ---- contents side by side
 
@@ -86,7 +100,8 @@ HasFields c k j ts rows =
 -- those of the alternatives from place j on
 abbrev pub HasAlternatives : Container → ℕ → ℕ → DataTypes → List Value → Type 0
 HasAlternatives c k j ts vs =
-    HasBuffers c (keyed_bytes (keys_of (packed_forms k ts)) (lanes_of (placed_alternatives j ts vs)))
+    HasBuffers c
+    (keyed_bytes (keys_of (packed_forms k ts)) (lanes_of (placed_alternatives j ts vs)))
 
 pub has-fields : (c : Container) (k j : ℕ) (t : DataType) (ts : DataTypes) (rows : List Value)
     → HasFields c k j (type t ts) rows
@@ -97,7 +112,8 @@ has-fields c k j t ts rows h =
     let keys = buffer_keys (packed_form k t) in
     let later = keys_of (packed_forms (k + nodes t) ts) in
     has-both c keys later (lanes_of here) (lanes_of others) (as-many k t (map (part_at j) rows))
-    (subst (λ ls. HasBuffers c (keyed_bytes (keys ++ later) ls)) (flat_map-append lanes_at here others) h)
+    (subst (λ ls. HasBuffers c (keyed_bytes (keys ++ later) ls))
+    (flat_map-append lanes_at here others) h)
 
 pub has-alternatives : (c : Container) (k j : ℕ) (t : DataType) (ts : DataTypes) (vs : List Value)
     → HasAlternatives c k j (type t ts) vs
@@ -108,7 +124,8 @@ has-alternatives c k j t ts vs h =
     let keys = buffer_keys (packed_form k t) in
     let later = keys_of (packed_forms (k + nodes t) ts) in
     has-both c keys later (lanes_of here) (lanes_of others) (as-many k t (alternative_values j vs))
-    (subst (λ ls. HasBuffers c (keyed_bytes (keys ++ later) ls)) (flat_map-append lanes_at here others) h)
+    (subst (λ ls. HasBuffers c (keyed_bytes (keys ++ later) ls))
+    (flat_map-append lanes_at here others) h)
 
 -- ---- one buffer
 

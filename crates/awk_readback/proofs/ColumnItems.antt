@@ -1,5 +1,5 @@
--- The items that lie behind offsets, an option's index, or tags and an index, over the columns of the
--- contents.
+-- The items that lie behind offsets, an option's index, or tags and an index, over the columns of
+-- the contents.
 use Rattle.std.proofs.Common.{◌≡◌, ◌<◌, ℕ, zero, suc, ◌+◌, ◌-◌, ◌*◌, Bool, true, false, cond, List, [], ◌∷◌, ◌++◌, length, get_or, refl, ap, sym, subst, ◌∙◌, arith, length-append, append_assoc, ℤ, pos}
 use Rattle.std.specs.Prelude.{filter, ◌==◌}
 use Rattle.std.specs.List.{AllByRecursion}
@@ -19,7 +19,8 @@ run-reads : (f : ℕ → Value) (n : ℕ) (pre xs rest : List Value) → length 
 run-reads f n pre [] rest e h = refl
 run-reads f n pre (x ∷ xs) rest e h =
     let here : f n ≡ x =
-    ap f (sym e) ∙ h (length pre) (seam-below pre x (xs ++ rest)) ∙ get_or-seam pre x (xs ++ rest) in
+    ap f (sym e) ∙ h (length pre) (seam-below pre x (xs ++ rest))
+    ∙ get_or-seam pre x (xs ++ rest) in
     let more =
     run-reads f (suc n) (pre ++ x ∷ []) xs rest (length-snoc pre x ∙ ap suc e)
     (subst (Reads f) (sym (snoc pre x (xs ++ rest))) h) in
@@ -103,7 +104,8 @@ own-first : (j : ℕ) (w : Value) (pre vs : List Value)
 own-first j w pre vs =
     let same : (j == j) ≡ true = grind arith in
     flat_map-append (given_to j) pre (alt j w ∷ vs)
-    ∙ ap (λ (b : Bool). alternative_values j pre ++ (cond b (w ∷ []) [] ++ alternative_values j vs)) same
+    ∙ ap (λ (b : Bool). alternative_values j pre ++ (cond b (w ∷ []) [] ++ alternative_values j vs))
+    same
 
 -- one more value of a tag is one more of its alternative
 counts-more : (k j : ℕ) (w : Value) (counts : ℕ → ℕ) (pre : List Value)

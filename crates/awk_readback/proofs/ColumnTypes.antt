@@ -49,7 +49,12 @@ pub regs-length : (n : ℕ) (t : DataType) (vs : List Value) → AllByRecursion 
     → length (joined_items vs) ≡ length vs * n
 regs-length n t [] h = omega arith
 regs-length n t (v ∷ vs) h =
-    omega (arith, length-append (list_items v) (joined_items vs), (reg-list n t v h.0).1, regs-length n t vs h.1)
+    omega (
+      arith,
+      length-append (list_items v) (joined_items vs),
+      (reg-list n t v h.0).1,
+      regs-length n t vs h.1,
+    )
 
 -- ---- options
 

@@ -100,7 +100,8 @@ given false w ws = omega arith
 union_index-behind : (k a : ℕ) (counts : ℕ → ℕ) (vs : List Value) (f : ℕ → ℕ)
     → AllByRecursion IsAlternative vs
     → ((j : ℕ) → j < length vs
-    → f (a + j) ≡ behind_at k (get_or (tags vs) j (pos 0)) (get_or (union_index counts vs) j (pos 0)))
+    → f (a + j) ≡ behind_at k (get_or (tags vs) j (pos 0))
+    (get_or (union_index counts vs) j (pos 0)))
     → max (counts k) (greatest (map f (range_with_len a (length vs))))
     ≡ counts k + length (alternative_values k vs)
 union_index-behind k a counts [] f are h = omega arith

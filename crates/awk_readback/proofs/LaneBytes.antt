@@ -28,7 +28,12 @@ pub length-lane_bytes : (k : Kind) (zs : List ℤ)
     → length (flat_map (bytes_of k) zs) ≡ length zs * width k
 length-lane_bytes k [] = omega arith
 length-lane_bytes k (z ∷ zs) =
-    omega (arith, length-append (bytes_of k z) (flat_map (bytes_of k) zs), length-bytes_of k z, length-lane_bytes k zs)
+    omega (
+      arith,
+      length-append (bytes_of k z) (flat_map (bytes_of k) zs),
+      length-bytes_of k z,
+      length-lane_bytes k zs,
+    )
 
 number-held : (k : Kind) (z : ℤ) → IsHeld k z → number k (bytes_of k z) ≡ z
 number-held k z h =
@@ -50,7 +55,8 @@ first-number k z rest h =
 
 other-bytes : (k : Kind) (z : ℤ) (rest : List ℕ) → drop (width k) (bytes_of k z ++ rest) ≡ rest
 other-bytes k z rest =
-    ap (λ n. drop n (bytes_of k z ++ rest)) (sym (length-bytes_of k z)) ∙ drop-own (bytes_of k z) rest
+    ap (λ n. drop n (bytes_of k z ++ rest)) (sym (length-bytes_of k z))
+    ∙ drop-own (bytes_of k z) rest
 
 numbers-lane_bytes : (k : Kind) (zs : List ℤ) → AllByRecursion (IsHeld k) zs
     → numbers k (length zs) (flat_map (bytes_of k) zs) ≡ zs

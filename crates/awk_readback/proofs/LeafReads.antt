@@ -31,7 +31,8 @@ abbrev pub IsRead : FormTree → Container → List Value → Type 0
 IsRead f c vs = IsUnbroken f (length vs) c × Reads (item f c) vs
 
 -- the same of a number that is equal
-pub unbroken-at : (f : FormTree) (m n : ℕ) (c : Container) → m ≡ n → IsUnbroken f m c → IsUnbroken f n c
+pub unbroken-at : (f : FormTree) (m n : ℕ) (c : Container) → m ≡ n → IsUnbroken f m c
+    → IsUnbroken f n c
 unbroken-at f m n c e h = subst (λ l. IsUnbroken f l c) e h
 
 -- ---- no items
@@ -109,11 +110,13 @@ leaves-node key p vs c h small e =
     let zs = map number_of vs in
     let size = length-map vs number_of in
     let needs : length vs * 1 * width (kind_of p) ≡ length zs * width (kind_of p) =
-    let one : length vs * 1 ≡ length zs = omega (arith, size) in ap (λ n. n * width (kind_of p)) one in
+    let one : length vs * 1 ≡ length zs = omega (arith, size) in
+    ap (λ n. n * width (kind_of p)) one in
     let bytes = bytes-well c key (codes "data") (kind_of p) _ zs e needs in (
       λ m. neither (size_break (length vs)) _ (size-well (length vs) small)
           (neither _ None (neither _ None bytes refl) refl),
       λ i l. element-value p (bytes_at c key (codes "data")) i _
-          (num-read c key (codes "data") (kind_of p) zs i e (leaves-held p vs h) (omega (arith, size)))
+          (num-read c key (codes "data") (kind_of p) zs i e (leaves-held p vs h)
+          (omega (arith, size)))
           ∙ number-at p vs i h l,
     )

@@ -164,7 +164,8 @@ module _ (key : Option Name) (fs : FormTrees) (vs : List Value) (c : Container)
       → index_num c key (codes "index") I64 i ≡ get_or (union_index (λ k. 0) vs) i (pos 0)
   tagged_place i l =
       num-read c key (codes "index") kind.I64 (union_index (λ k. 0) vs) i e
-      (union_index-held (λ k. 0) vs (λ k. omega arith)) (omega (arith, length-union_index (λ k. 0) vs))
+      (union_index-held (λ k. 0) vs (λ k. omega arith))
+      (omega (arith, length-union_index (λ k. 0) vs))
 
   pub unions-needs : (k : ℕ)
       → length (alternative_values k vs)

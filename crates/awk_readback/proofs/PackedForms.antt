@@ -47,5 +47,8 @@ mutual
   lawful-packed_forms : (k : ℕ) (ts : DataTypes) → AreTypes ts → greatest (widths ts) ≤ 127
       → AreLawful (packed_forms k ts)
   lawful-packed_forms k no_types h w = tt
-  lawful-packed_forms k (type t ts) h w =
-      (lawful-packed_form k t h.0 (omega arith), lawful-packed_forms (k + nodes t) ts h.1 (omega arith))
+  lawful-packed_forms k (type t ts) h w = (
+    lawful-packed_form k t h.0 (omega arith),
+    lawful-packed_forms (k + nodes t) ts h.1
+        (omega arith),
+  )

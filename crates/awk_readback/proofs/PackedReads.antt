@@ -46,7 +46,8 @@ fits (uni ts) vs h = h.0
 
 -- ---- as many contents as types
 
-pub count-packed_forms : (k : ℕ) (ts : DataTypes) → count (packed_forms k ts) ≡ length (type_list ts)
+pub count-packed_forms : (k : ℕ) (ts : DataTypes)
+    → count (packed_forms k ts) ≡ length (type_list ts)
 count-packed_forms k no_types = refl
 count-packed_forms k (type t ts) = ap suc (count-packed_forms (k + nodes t) ts)
 
@@ -97,7 +98,8 @@ one-field k j t ts rows c h one others =
           (field-at t ts (row_parts (get_or rows i null)) j
           (all-at (FieldsFrom j (type t ts)) rows i h l)).2 in
           ap₂ value
-          (one.1 i (omega (arith, length-map rows (part_at j))) ∙ get_or-map (part_at j) rows i null null l)
+          (one.1 i (omega (arith, length-map rows (part_at j))) ∙ get_or-map (part_at j) rows i null
+          null l)
           (others.1 i l)
           ∙ ap values_from (sym parts),
     )
@@ -159,7 +161,8 @@ mutual
       let are = unis-alternatives ts vs h in
       let within = tags-within (suc k) ts vs h in
       let several : count fs ≤ 127 = omega (arith, counted, length-widths ts) in
-      let below = alternatives-read (suc k) 0 ts vs c (unis-have ts vs h) fit.1 (omega arith) b.1.1 in
+      let below =
+      alternatives-read (suc k) 0 ts vs c (unis-have ts vs h) fit.1 (omega arith) b.1.1 in
       let needs = unions-needs (Some (node_key k)) fs vs c fit.0 are within several b.0 b.1.0 in
       unions-node (Some (node_key k)) fs vs c fit.0 are within several b.0 b.1.0
       (below.0 (content_length (form.union (Some (node_key k)) I64 fs) (length vs) c)
@@ -183,7 +186,8 @@ mutual
       let own = has-fields c k j t ts rows b in
       one-field k j t ts rows c h
       (packed-reads k t column c (first-have j t ts rows h) apart.0 (omega arith) own.0)
-      (fields-read (k + nodes t) (suc j) ts rows c (others-have j t ts rows h) apart.1 (omega arith) own.1)
+      (fields-read (k + nodes t) (suc j) ts rows c (others-have j t ts rows h) apart.1 (omega arith)
+      own.1)
 
   alternatives-read : (k j : ℕ) (ts : DataTypes) (vs : List Value) (c : Container)
       → AllByRecursion (AlternativeFrom j ts) vs → AllFit (placed_alternatives j ts vs)
@@ -196,4 +200,5 @@ mutual
       let own = has-alternatives c k j t ts vs b in
       one-alternative k j t ts vs c
       (packed-reads k t column c (alternative-have j t ts vs h) apart.0 (omega arith) own.0)
-      (alternatives-read (k + nodes t) (suc j) ts vs c (later-have j t ts vs h) apart.1 (omega arith) own.1)
+      (alternatives-read (k + nodes t) (suc j) ts vs c (later-have j t ts vs h) apart.1
+      (omega arith) own.1)

@@ -101,7 +101,8 @@ module _ (t : DataType) (vs : List Value) (c : Container) (s : IsSimple t)
   packed-refusal : limit t ≡ None → broken (packed_form 0 t) (length vs) c ≡ None
       → refusal (packed_form 0 t) (length vs) c ≡ None
   packed-refusal l valid =
-      neither _ _ (ap (λ u. option_map limited (limit u)) simple-form ∙ ap (option_map limited) l) valid
+      neither _ _ (ap (λ u. option_map limited (limit u)) simple-form ∙ ap (option_map limited) l)
+      valid
 
 pub same-canon : (t u : DataType) (vs ws : List Value) (p : Pack) → canon t vs ≡ Ok p
     → arr t vs ≡ arr u ws → canon u ws ≡ Ok p

@@ -22,13 +22,16 @@ use Rattle.awk_session.specs.FaultText.{why_text, buffer_text, rule_text, fault_
 use Rattle.awk_session.specs.Answer.{Answer, bound, value, typ, packed, names, fault, answer_text, datum_text}
 
 -- three texts, one after another
-between : (head text tail : List ℕ) → Unbroken head → Unbroken text → Unbroken tail → Unbroken (head ++ text ++ tail)
+between : (head text tail : List ℕ) → Unbroken head → Unbroken text → Unbroken tail
+    → Unbroken (head ++ text ++ tail)
 between head text tail h t l = Unbroken-append (head ++ text) tail (Unbroken-append head text h t) l
 
 -- five texts, one after another
-around : (head a middle b tail : List ℕ) → Unbroken head → Unbroken a → Unbroken middle → Unbroken b → Unbroken tail →
+around : (head a middle b tail : List ℕ) → Unbroken head → Unbroken a → Unbroken middle → Unbroken b
+    → Unbroken tail →
     Unbroken (head ++ a ++ middle ++ b ++ tail)
-around head a middle b tail h p m q l = between (head ++ a ++ middle) b tail (between head a middle h p m) q l
+around head a middle b tail h p m q l =
+    between (head ++ a ++ middle) b tail (between head a middle h p m) q l
 
 -- ---- faults
 
@@ -55,8 +58,10 @@ rule_text-unbroken rules.Negative = literal-unbroken (codes "negative") refl
 rule_text-unbroken rules.Tag = literal-unbroken (codes "tag") refl
 
 -- a text behind a head that is written out, and a brace
-member-unbroken : (head text : List ℕ) → Unbroken head → Unbroken text → Unbroken (head ++ text ++ codes "}")
-member-unbroken head text h t = between head text (codes "}") h t (literal-unbroken (codes "}") refl)
+member-unbroken : (head text : List ℕ) → Unbroken head → Unbroken text
+    → Unbroken (head ++ text ++ codes "}")
+member-unbroken head text h t =
+    between head text (codes "}") h t (literal-unbroken (codes "}") refl)
 
 fault_text-unbroken : (f : AnswerFault) → Unbroken (fault_text f)
 fault_text-unbroken faults.Json = literal-unbroken (codes "{\"fault\":\"json\"}") refl
@@ -64,19 +69,23 @@ fault_text-unbroken faults.Query = literal-unbroken (codes "{\"fault\":\"query\"
 fault_text-unbroken (faults.Form node cause) =
     let head = codes "{\"fault\":\"form\",\"node\":" in
     let middle = codes ",\"why\":\"" in
-    around head (decimal node) middle (why_text cause) (codes "\"}") (literal-unbroken head refl) (decimal-unbroken node)
+    around head (decimal node) middle (why_text cause) (codes "\"}") (literal-unbroken head refl)
+    (decimal-unbroken node)
     (literal-unbroken middle refl) (why_text-unbroken cause) (literal-unbroken (codes "\"}") refl)
 fault_text-unbroken (faults.Buffer key cause) =
     let head = codes "{\"fault\":\"buffer\",\"key\":" in
     let middle = codes ",\"why\":\"" in
-    around head (quoted key) middle (buffer_text cause) (codes "\"}") (literal-unbroken head refl) (quoted-unbroken key)
-    (literal-unbroken middle refl) (buffer_text-unbroken cause) (literal-unbroken (codes "\"}") refl)
+    around head (quoted key) middle (buffer_text cause) (codes "\"}") (literal-unbroken head refl)
+    (quoted-unbroken key)
+    (literal-unbroken middle refl) (buffer_text-unbroken cause)
+    (literal-unbroken (codes "\"}") refl)
 fault_text-unbroken (faults.Invalid node rule place) =
     let head = codes "{\"fault\":\"invalid\",\"node\":" in
     let middle = codes ",\"rule\":\"" in
     let last = codes "\",\"place\":" in
     between (head ++ decimal node ++ middle ++ rule_text rule ++ last) (decimal place) (codes "}")
-    (around head (decimal node) middle (rule_text rule) last (literal-unbroken head refl) (decimal-unbroken node)
+    (around head (decimal node) middle (rule_text rule) last (literal-unbroken head refl)
+    (decimal-unbroken node)
     (literal-unbroken middle refl) (rule_text-unbroken rule) (literal-unbroken last refl))
     (decimal-unbroken place) (literal-unbroken (codes "}") refl)
 fault_text-unbroken (faults.Evaluation f) = evaluations.fault_text-unbroken f
@@ -92,9 +101,14 @@ quoted_texts-unbroken [] = tt
 quoted_texts-unbroken (n ∷ ns) = (quoted-unbroken n, quoted_texts-unbroken ns)
 
 pub answer_text-unbroken : (a : Answer) → Unbroken (answer_text a)
-answer_text-unbroken (bound n) = member-unbroken (codes "{\"bound\":") (quoted n) (literal-unbroken (codes "{\"bound\":") refl) (quoted-unbroken n)
-answer_text-unbroken (value d) = member-unbroken (codes "{\"value\":") (datum_text d) (literal-unbroken (codes "{\"value\":") refl) (datum_text-unbroken d)
-answer_text-unbroken (typ text) = member-unbroken (codes "{\"type\":") (quoted text) (literal-unbroken (codes "{\"type\":") refl) (quoted-unbroken text)
+answer_text-unbroken (bound n) = member-unbroken (codes "{\"bound\":") (quoted n)
+    (literal-unbroken (codes "{\"bound\":") refl) (quoted-unbroken n)
+answer_text-unbroken (value d) = member-unbroken (codes "{\"value\":") (datum_text d)
+    (literal-unbroken (codes "{\"value\":") refl) (datum_text-unbroken d)
+answer_text-unbroken (typ text) = member-unbroken (codes "{\"type\":") (quoted text)
+    (literal-unbroken (codes "{\"type\":") refl) (quoted-unbroken text)
 answer_text-unbroken (packed p) = packed_text-unbroken p
-answer_text-unbroken (names ns) = member-unbroken (codes "{\"names\":") (list_text (map quoted ns)) (literal-unbroken (codes "{\"names\":") refl) (list_text-unbroken (map quoted ns) (quoted_texts-unbroken ns))
+answer_text-unbroken (names ns) = member-unbroken (codes "{\"names\":") (list_text (map quoted ns))
+    (literal-unbroken (codes "{\"names\":") refl)
+    (list_text-unbroken (map quoted ns) (quoted_texts-unbroken ns))
 answer_text-unbroken (fault f) = fault_text-unbroken f

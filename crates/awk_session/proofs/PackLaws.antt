@@ -10,7 +10,8 @@ use Rattle.awk_text.specs.PackedText.{HasLanes}
 use Rattle.awk_readback.proofs.BufferParts.{as-many}
 
 has_lanes : (t : DataType) (vs : List Value) (p : Pack) (large : Bool)
-    → ◌≡◌ {A = Result Pack PackFault} (if large then Err Size else Ok (packed t vs)) (Ok p) → HasLanes p
+    → ◌≡◌ {A = Result Pack PackFault} (if large then Err Size else Ok (packed t vs)) (Ok p)
+    → HasLanes p
 has_lanes t vs p true e = absurd (cc)
 has_lanes t vs p false e = let same : packed t vs ≡ p = cc in subst HasLanes same (as-many 0 t vs)
 

@@ -1,5 +1,5 @@
--- The answers to a few worked sessions, computed. What a run answers is these definitions, so the stored session of the
--- examples shows the others.
+-- The answers to a few worked sessions, computed. What a run answers is these definitions, so the
+-- stored session of the examples shows the others.
 use Rattle.std.proofs.Common.{◌≡◌, ℕ, false, List, [], ◌∷◌, ◌++◌, codes, refl}
 use Rattle.std.specs.Char.{encode_utf8}
 use Rattle.std.specs.Fmt.{digits}
@@ -21,7 +21,8 @@ abbrev pub read_as : Environment → List ℕ → Step Environment
 read_as variables line = step_of (reply variables (line_or_unread (or_json (read line))))
 
 -- a line that is not blank is answered by what is read from it
-pub step-read : (variables : Environment) (line : List ℕ) → is_blank line ≡ false → IsUtf8 line → step variables line ≡ read_as variables line
+pub step-read : (variables : Environment) (line : List ℕ) → is_blank line ≡ false → IsUtf8 line
+    → step variables line ≡ read_as variables line
 unfolding step
 step-read variables line some text = rw (some, is_utf8-from_IsUtf8 line text) refl
 
@@ -41,11 +42,13 @@ show_x-read variables = step-read variables show_x refl (show_x, (refl, refl))
 abbrev pub load_lists : List ℕ
 load_lists = codes "{\"load\":\"x\",\"form\":{\"class\":\"ListOffsetArray\",\"offsets\":\"i64\",\"content\":{\"class\":\"NumpyArray\",\"primitive\":\"int64\",\"form_key\":\"node1\"},\"form_key\":\"node0\"},\"length\":3,\"buffers\":{\"node0-offsets\":\"AAAAAAAAAAACAAAAAAAAAAIAAAAAAAAAAwAAAAAAAAA=\",\"node1-data\":\"BQAAAAAAAAD//////////wcAAAAAAAAA\"}}"
 
-pub load_lists-read : (variables : Environment) → step variables load_lists ≡ read_as variables load_lists
+pub load_lists-read : (variables : Environment)
+    → step variables load_lists ≡ read_as variables load_lists
 unfolding encode_utf8
 load_lists-read variables = step-read variables load_lists refl (load_lists, (refl, refl))
 
-pub lists_are_shown : answers (load_lists ∷ show_x ∷ []) ≡ lines_of (codes "{\"bound\":\"x\"}" ∷ codes "{\"value\":[[5,-1],[],[7]]}" ∷ [])
+pub lists_are_shown : answers (load_lists ∷ show_x ∷ [])
+    ≡ lines_of (codes "{\"bound\":\"x\"}" ∷ codes "{\"value\":[[5,-1],[],[7]]}" ∷ [])
 unfolding expr_said serde_json_on_literals base64_on_literals digits node_at nodes_of form_of
 lists_are_shown = simp (load_lists-read, show_x-read) refl
 
@@ -53,11 +56,16 @@ lists_are_shown = simp (load_lists-read, show_x-read) refl
 abbrev load_unordered : List ℕ
 load_unordered = codes "{\"load\":\"x\",\"form\":{\"class\":\"ListOffsetArray\",\"offsets\":\"i64\",\"content\":{\"class\":\"NumpyArray\",\"primitive\":\"int64\",\"form_key\":\"node1\"},\"form_key\":\"node0\"},\"length\":2,\"buffers\":{\"node0-offsets\":\"AAAAAAAAAAADAAAAAAAAAAIAAAAAAAAA\"}}"
 
-load_unordered-read : (variables : Environment) → step variables load_unordered ≡ read_as variables load_unordered
+load_unordered-read : (variables : Environment)
+    → step variables load_unordered ≡ read_as variables load_unordered
 unfolding encode_utf8
-load_unordered-read variables = step-read variables load_unordered refl (load_unordered, (refl, refl))
+load_unordered-read variables =
+    step-read variables load_unordered refl (load_unordered, (refl, refl))
 
-pub unordered_binds_nothing : answers (load_unordered ∷ show_x ∷ []) ≡ lines_of (codes "{\"fault\":\"invalid\",\"node\":0,\"rule\":\"order\",\"place\":1}" ∷ codes "{\"fault\":\"name\",\"name\":\"x\"}" ∷ [])
+pub unordered_binds_nothing : answers (load_unordered ∷ show_x ∷ [])
+    ≡ lines_of
+    (codes "{\"fault\":\"invalid\",\"node\":0,\"rule\":\"order\",\"place\":1}"
+    ∷ codes "{\"fault\":\"name\",\"name\":\"x\"}" ∷ [])
 unfolding expr_said serde_json_on_literals base64_on_literals digits node_at nodes_of form_of
 unordered_binds_nothing = simp (load_unordered-read, show_x-read) refl
 
@@ -77,7 +85,8 @@ null_is_no_line = simp null_line-read refl
 abbrev names_line : List ℕ
 names_line = codes "{\"names\":null}"
 
-names_line-read : (variables : Environment) → step variables names_line ≡ read_as variables names_line
+names_line-read : (variables : Environment)
+    → step variables names_line ≡ read_as variables names_line
 unfolding encode_utf8
 names_line-read variables = step-read variables names_line refl (names_line, (refl, refl))
 
@@ -89,11 +98,13 @@ no_names = simp names_line-read refl
 abbrev load_float : List ℕ
 load_float = codes "{\"load\":\"x\",\"form\":{\"class\":\"ListOffsetArray\",\"offsets\":\"i64\",\"content\":{\"class\":\"NumpyArray\",\"primitive\":\"float64\",\"form_key\":\"node1\"},\"form_key\":\"node0\"},\"length\":0,\"buffers\":{}}"
 
-load_float-read : (variables : Environment) → step variables load_float ≡ read_as variables load_float
+load_float-read : (variables : Environment)
+    → step variables load_float ≡ read_as variables load_float
 unfolding encode_utf8
 load_float-read variables = step-read variables load_float refl (load_float, (refl, refl))
 
-pub float_is_no_primitive : answers (load_float ∷ []) ≡ lines_of (codes "{\"fault\":\"form\",\"node\":1,\"why\":\"primitive\"}" ∷ [])
+pub float_is_no_primitive : answers (load_float ∷ [])
+    ≡ lines_of (codes "{\"fault\":\"form\",\"node\":1,\"why\":\"primitive\"}" ∷ [])
 unfolding expr_said serde_json_on_literals base64_on_literals digits node_at nodes_of form_of
 float_is_no_primitive = simp load_float-read refl
 

@@ -10,14 +10,24 @@ use Rattle.awk_query.specs.Line.{line_said}
 use Rattle.awk_session.proofs.LineEnds.{answer_text-unbroken}
 
 -- a blank line has no answer, and changes nothing
-pub step-blank : (variables : Environment) (line : List ℕ) → is_blank line ≡ true → step variables line ≡ record { answer = None; is_fault = false; after = variables }
+pub step-blank : (variables : Environment) (line : List ℕ) → is_blank line ≡ true
+    → step variables line ≡ record { answer = None; is_fault = false; after = variables }
 unfolding step
-step-blank variables line e = ap (λ b. cond b (let s : Step Environment = record { answer = None; is_fault = false; after = variables } in s) (step_of (reply variables (line_said line)))) e
+step-blank variables line e =
+    ap
+    (λ b. cond b
+    (let s : Step Environment = record { answer = None; is_fault = false; after = variables } in s)
+    (step_of (reply variables (line_said line)))) e
 
 -- another line is answered by the line that its JSON is
-pub step-line : (variables : Environment) (line : List ℕ) → is_blank line ≡ false → step variables line ≡ step_of (reply variables (line_said line))
+pub step-line : (variables : Environment) (line : List ℕ) → is_blank line ≡ false
+    → step variables line ≡ step_of (reply variables (line_said line))
 unfolding step
-step-line variables line e = ap (λ b. cond b (let s : Step Environment = record { answer = None; is_fault = false; after = variables } in s) (step_of (reply variables (line_said line)))) e
+step-line variables line e =
+    ap
+    (λ b. cond b
+    (let s : Step Environment = record { answer = None; is_fault = false; after = variables } in s)
+    (step_of (reply variables (line_said line)))) e
 
 -- ---- the line ends written count the answers
 
@@ -32,20 +42,29 @@ line_ends-unbroken [] h = refl
 line_ends-unbroken (b ∷ bs) h = rw (not_10 b h.0) (line_ends-unbroken bs h.1)
 
 -- an answer has one line end, behind it
-line_ends-step : (variables : Environment) (line : List ℕ) → line_ends (answer_bytes (step variables line).answer) ≡ cond (not (is_blank line)) 1 0
+line_ends-step : (variables : Environment) (line : List ℕ)
+    → line_ends (answer_bytes (step variables line).answer) ≡ cond (not (is_blank line)) 1 0
 line_ends-step variables line = by (is_blank line) refl
   where
-    by : (b : Bool) → is_blank line ≡ b → line_ends (answer_bytes (step variables line).answer) ≡ cond (not b) 1 0
+    by : (b : Bool) → is_blank line ≡ b
+        → line_ends (answer_bytes (step variables line).answer) ≡ cond (not b) 1 0
     by true e = rw (step-blank variables line e) refl
     by false e =
         let said = (reply variables (line_said line)).answer in
-        rw (step-line variables line e, line_ends-append (answer_text said) (10 ∷ []), line_ends-unbroken (answer_text said) (answer_text-unbroken said)) refl
+        rw (
+          step-line variables line e,
+          line_ends-append (answer_text said) (10 ∷ []),
+          line_ends-unbroken (answer_text said) (answer_text-unbroken said),
+        ) refl
 
-line_ends-texts : (variables : Environment) (lines : List (List ℕ)) → line_ends (texts step variables lines) ≡ answer_count lines
+line_ends-texts : (variables : Environment) (lines : List (List ℕ))
+    → line_ends (texts step variables lines) ≡ answer_count lines
 line_ends-texts variables [] = refl
 line_ends-texts variables (line ∷ lines) =
-    line_ends-append (answer_bytes (step variables line).answer) (texts step (step variables line).after lines)
-    ∙ rw (line_ends-step variables line, line_ends-texts (step variables line).after lines) (sym (sum_by-cons (λ (l : List ℕ). cond (not (is_blank l)) 1 0) line lines))
+    line_ends-append (answer_bytes (step variables line).answer)
+    (texts step (step variables line).after lines)
+    ∙ rw (line_ends-step variables line, line_ends-texts (step variables line).after lines)
+    (sym (sum_by-cons (λ (l : List ℕ). cond (not (is_blank l)) 1 0) line lines))
 
 -- the line ends of the answers to lines count those that have one
 pub line_ends-answers : (lines : List (List ℕ)) → line_ends (answers lines) ≡ answer_count lines

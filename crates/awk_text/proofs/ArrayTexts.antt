@@ -18,7 +18,8 @@ use Rattle.std.proofs.lemmas.Simd.{map-map}
 use Rattle.awk_text.proofs.Ranges.{map-range_same}
 use Rattle.awk_text.proofs.SimpleTexts.{simple_text}
 
-pub item_text-layout : (x : Layout) (i : ℕ) → IsValid x → IsNumbered x → i < len x → item_text x i ≡ layout_text x i
+pub item_text-layout : (x : Layout) (i : ℕ) → IsValid x → IsNumbered x → i < len x
+    → item_text x i ≡ layout_text x i
 item_text-layout x i v w p = simple_text (layout_type x) (item x i) (item_has x i v w p)
 
 pub array_text-span : (x : Layout) → IsValid x → IsNumbered x → array_text x ≡ span_text x 0 (len x)
@@ -27,9 +28,13 @@ array_text-span x v w =
     let carried : Value → Value = simple_value (layout_type x) in
     let all : ℕ = len x - 0 in
     let e : len x ≡ all = omega arith in
-    ap list_text (map-map shown carried (items x) ∙ map-map (λ v. shown (carried v)) (item x) (range_with_len 0 (len x)) ∙ ap (λ n. map (item_text x) (range_with_len 0 n)) e
-    ∙ map-range_same (item_text x) (layout_text x) 0 all (λ k p q. item_text-layout x k v w (omega arith)))
+    ap list_text
+    (map-map shown carried (items x) ∙ map-map (λ v. shown (carried v)) (item x)
+    (range_with_len 0 (len x)) ∙ ap (λ n. map (item_text x) (range_with_len 0 n)) e
+    ∙ map-range_same (item_text x) (layout_text x) 0 all
+    (λ k p q. item_text-layout x k v w (omega arith)))
 
 -- an item's text is not empty
-pub item_some : (x : Layout) (i : ℕ) → IsValid x → IsNumbered x → i < len x → 0 < length (layout_text x i)
+pub item_some : (x : Layout) (i : ℕ) → IsValid x → IsNumbered x → i < len x
+    → 0 < length (layout_text x i)
 item_some x i v w p = text_some (layout_type x) (item x i) (item_has x i v w p)

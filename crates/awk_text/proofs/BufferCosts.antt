@@ -13,7 +13,8 @@ numbers_before-next zero (c ∷ cs) l = omega arith
 numbers_before-next (suc n) [] l = absurd (omega arith)
 numbers_before-next (suc n) (c ∷ cs) l = omega (arith, numbers_before-next n cs (omega arith))
 
-pub numbers_before-more : (n : ℕ) (cs : List Column) (c : Column) → n < length cs → slice_get cs n ≡ Some c
+pub numbers_before-more : (n : ℕ) (cs : List Column) (c : Column) → n < length cs
+    → slice_get cs n ≡ Some c
     → numbers_before (n + 1) cs ≡ numbers_before n cs + size_of c
 numbers_before-more n cs c l e =
     let one : n + 1 ≡ suc n = omega arith in
@@ -31,7 +32,8 @@ grows zero cs = omega arith
 grows (suc n) [] = omega arith
 grows (suc n) (c ∷ cs) = omega (arith, grows n cs)
 
-pub numbers_before-grows : (n : ℕ) (cs : List Column) → numbers_before n cs ≤ numbers_before (n + 1) cs
+pub numbers_before-grows : (n : ℕ) (cs : List Column)
+    → numbers_before n cs ≤ numbers_before (n + 1) cs
 numbers_before-grows n cs =
     let one : n + 1 ≡ suc n = omega arith in
     subst (λ k. numbers_before n cs ≤ numbers_before k cs) (sym one) (grows n cs)

@@ -21,18 +21,26 @@ layout_list-from [] = refl
 layout_list-from (x ∷ xs) = ap (λ ys. x ∷ ys) (layout_list-from xs)
 
 -- the text of an item, by what its place was found to be
-pub item_text-case : (x : Layout) (i : ℕ) (c : Case) → IsValid x → IsNumbered x → i < len x → c ≡ case_of x i → layout_text x i ≡ case_text c
+pub item_text-case : (x : Layout) (i : ℕ) (c : Case) → IsValid x → IsNumbered x → i < len x
+    → c ≡ case_of x i → layout_text x i ≡ case_text c
 item_text-case x i c v w p e = layout_text-case x i v w p ∙ ap case_text (sym e)
 
-pub item_text-row : (x : Layout) (i : ℕ) (names : Option (List Name)) (xs : List Layout) (k : ℕ) → IsValid x → IsNumbered x → i < len x → across names (layouts_from xs) k ≡ case_of x i → layout_text x i ≡ row_text names xs k
-item_text-row x i names xs k v w p e = item_text-case x i (across names (layouts_from xs) k) v w p e ∙ ap (λ ys. row_text names ys k) (layout_list-from xs)
+pub item_text-row : (x : Layout) (i : ℕ) (names : Option (List Name)) (xs : List Layout) (k : ℕ)
+    → IsValid x → IsNumbered x → i < len x → across names (layouts_from xs) k ≡ case_of x i
+    → layout_text x i ≡ row_text names xs k
+item_text-row x i names xs k v w p e = item_text-case x i (across names (layouts_from xs) k) v w p e
+    ∙ ap (λ ys. row_text names ys k) (layout_list-from xs)
 
 -- a row by the texts of its places
 pub row_text-places : (names : Option (List Name)) (xs : List Layout) (i : ℕ)
-    → row_text names xs i ≡ codes "{" ++ (comma_joined (texts_from (member_text names xs i) 0 (length xs)) ++ codes "}")
+    → row_text names xs i
+    ≡ codes "{"
+    ++ (comma_joined (texts_from (member_text names xs i) 0 (length xs)) ++ codes "}")
 row_text-places names xs i =
     let all : length xs ≡ length xs - 0 = omega arith in
-    ap (λ n. codes "{" ++ (comma_joined (map (member_text names xs i) (range_with_len 0 n)) ++ codes "}")) all
+    ap
+    (λ n. codes "{"
+    ++ (comma_joined (map (member_text names xs i) (range_with_len 0 n)) ++ codes "}")) all
 
 -- a row has a name for each field
 abbrev IsNamed : Case → Type 0
@@ -59,8 +67,10 @@ case_named : (x : Layout) (i : ℕ) → IsValid x → IsNamed (case_of x i)
 case_named empty i v = tt
 case_named (flat c) i v = tt
 case_named (regular size n x) i v = block_named x (size == 0) (i * size) (i * size + size)
-case_named (lists s t x) i v = block_named x (int_eq (at s i) (at t i)) (nat_of (at s i)) (nat_of (at t i))
-case_named (offset_lists o x) i v = block_named x (int_eq (at o i) (at o (i + 1))) (nat_of (at o i)) (nat_of (at o (i + 1)))
+case_named (lists s t x) i v =
+    block_named x (int_eq (at s i) (at t i)) (nat_of (at s i)) (nat_of (at t i))
+case_named (offset_lists o x) i v =
+    block_named x (int_eq (at o i) (at o (i + 1))) (nat_of (at o i)) (nat_of (at o (i + 1)))
 case_named (rows names n xs) i v = names_named names (count xs) v.1
 case_named (indexed j x) i v = tt
 case_named (optional j x) i v = option_named x (option_place_at j i)
@@ -69,7 +79,9 @@ case_named (bit_masked m b x) i v = mask_named x i (bit_shows m b i)
 case_named (unmasked n x) i v = tt
 case_named (union t j xs) i v = tt
 
-pub row_named : (x : Layout) (i : ℕ) (names : Option (List Name)) (xs : List Layout) (k : ℕ) → IsValid x → across names (layouts_from xs) k ≡ case_of x i → AreNamed names (length xs)
+pub row_named : (x : Layout) (i : ℕ) (names : Option (List Name)) (xs : List Layout) (k : ℕ)
+    → IsValid x → across names (layouts_from xs) k ≡ case_of x i → AreNamed names (length xs)
 row_named x i names xs k v e =
-    let named : AreNamed names (count (layouts_from xs)) = subst IsNamed (sym e) (case_named x i v) in
+    let named : AreNamed names (count (layouts_from xs)) =
+    subst IsNamed (sym e) (case_named x i v) in
     subst (AreNamed names) (count-layouts_from xs) named

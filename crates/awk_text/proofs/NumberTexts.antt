@@ -29,17 +29,27 @@ number_value U32 (Nat n) h = refl
 number_value U64 (Nat n) h = refl
 number_value k n h = absurd h
 
-pub number_text : (c : Column) (j : ℕ) (n : Num) → IsOf c.kind n → int_of n ≡ at c j → layout_text (flat c) j ≡ leaf_text (value_of_num n)
-number_text c j n h e = ap (λ z. leaf_text (leaf_value c.kind z)) (sym e) ∙ ap leaf_text (number_value c.kind n h)
+pub number_text : (c : Column) (j : ℕ) (n : Num) → IsOf c.kind n → int_of n ≡ at c j
+    → layout_text (flat c) j ≡ leaf_text (value_of_num n)
+number_text c j n h e =
+    ap (λ z. leaf_text (leaf_value c.kind z)) (sym e) ∙ ap leaf_text (number_value c.kind n h)
 
 -- a run of a lane's numbers begins with the number before the rest of it
-pub number_run : (c : Column) (first k stop : ℕ) (n : Num) → 0 < k → k ≤ stop → IsOf c.kind n → int_of n ≡ at c (k - 1)
-    → pieces (layout_text (flat c)) first (k - 1) stop ≡ comma_before (k - 1 == first) ++ (leaf_text (value_of_num n) ++ pieces (layout_text (flat c)) first k stop)
+pub number_run : (c : Column) (first k stop : ℕ) (n : Num) → 0 < k → k ≤ stop → IsOf c.kind n
+    → int_of n ≡ at c (k - 1)
+    → pieces (layout_text (flat c)) first (k - 1) stop
+    ≡ comma_before (k - 1 == first)
+    ++ (leaf_text (value_of_num n) ++ pieces (layout_text (flat c)) first k stop)
 number_run c first k stop n some within h e =
     let next : k - 1 + 1 ≡ k = omega arith in
     pieces_more (layout_text (flat c)) first (k - 1) stop (omega arith)
-    ∙ ap (λ text. comma_before (k - 1 == first) ++ (text ++ pieces (layout_text (flat c)) first (k - 1 + 1) stop)) (number_text c (k - 1) n h e)
-    ∙ ap (λ j. comma_before (k - 1 == first) ++ (leaf_text (value_of_num n) ++ pieces (layout_text (flat c)) first j stop)) next
+    ∙ ap
+    (λ text. comma_before (k - 1 == first)
+    ++ (text ++ pieces (layout_text (flat c)) first (k - 1 + 1) stop))
+    (number_text c (k - 1) n h e)
+    ∙ ap
+    (λ j. comma_before (k - 1 == first)
+    ++ (leaf_text (value_of_num n) ++ pieces (layout_text (flat c)) first j stop)) next
 
 -- no text of a lane's number is empty
 pub number_some : (c : Column) (k : ℕ) → 0 < length (layout_text (flat c) k)

@@ -31,10 +31,13 @@ symbols-unbroken : (t : List ℕ) → Unbroken t → (m : List ℕ) → Unbroken
 unfolding encode_symbols
 symbols-unbroken t u [] = tt
 symbols-unbroken t u (a ∷ []) = (symbol-unbroken t u _, (symbol-unbroken t u _, tt))
-symbols-unbroken t u (a ∷ b ∷ []) = (symbol-unbroken t u _, (symbol-unbroken t u _, (symbol-unbroken t u _, tt)))
+symbols-unbroken t u (a ∷ b ∷ []) =
+    (symbol-unbroken t u _, (symbol-unbroken t u _, (symbol-unbroken t u _, tt)))
 symbols-unbroken t u (a ∷ b ∷ c ∷ rest) =
-    Unbroken-append (encode_group t a b c) (encode_symbols t rest)
-    (symbol-unbroken t u _, (symbol-unbroken t u _, (symbol-unbroken t u _, (symbol-unbroken t u _, tt))))
+    Unbroken-append (encode_group t a b c) (encode_symbols t rest) (
+      symbol-unbroken t u _,
+      (symbol-unbroken t u _, (symbol-unbroken t u _, (symbol-unbroken t u _, tt))),
+    )
     (symbols-unbroken t u rest)
 
 padding-unbroken : (n : ℕ) → Unbroken (replicate n 61)
@@ -53,10 +56,12 @@ encode_of-unbroken m =
 behind : (head text : List ℕ) → Unbroken head → Unbroken text → Unbroken (head ++ text)
 behind head text h t = Unbroken-append head text h t
 
-member-unbroken : (name value : List ℕ) → Unbroken name → Unbroken value → Unbroken (member name value)
+member-unbroken : (name value : List ℕ) → Unbroken name → Unbroken value
+    → Unbroken (member name value)
 member-unbroken name value n v =
     behind (codes ",\"") (name ++ (codes "\":" ++ value)) (literal-unbroken (codes ",\"") refl)
-    (behind name (codes "\":" ++ value) n (behind (codes "\":") value (literal-unbroken (codes "\":") refl) v))
+    (behind name (codes "\":" ++ value) n
+    (behind (codes "\":") value (literal-unbroken (codes "\":") refl) v))
 
 word-unbroken : (text : List ℕ) → Unbroken text → Unbroken (word text)
 word-unbroken text t =
@@ -89,7 +94,8 @@ decimals-unbroken (n ∷ ns) = (decimal-unbroken n, decimals-unbroken ns)
 
 fields_text-unbroken : (names : Option (List Name)) → Unbroken (fields_text names)
 fields_text-unbroken None = literal-unbroken (codes "null") refl
-fields_text-unbroken (Some names) = list_text-unbroken (map quoted names) (quoted_all-unbroken names)
+fields_text-unbroken (Some names) =
+    list_text-unbroken (map quoted names) (quoted_all-unbroken names)
 
 key_text-unbroken : (key : Option Name) → Unbroken (key_text key)
 key_text-unbroken None = literal-unbroken (codes "null") refl
@@ -105,13 +111,16 @@ class_text-unbroken (row key names fs) = literal-unbroken (codes "RecordArray") 
 class_text-unbroken (indexed key kind f) = literal-unbroken (codes "IndexedArray") refl
 class_text-unbroken (indexed_option key kind f) = literal-unbroken (codes "IndexedOptionArray") refl
 class_text-unbroken (byte_masked key valid_when f) = literal-unbroken (codes "ByteMaskedArray") refl
-class_text-unbroken (bit_masked key valid_when lsb_order f) = literal-unbroken (codes "BitMaskedArray") refl
+class_text-unbroken (bit_masked key valid_when lsb_order f) =
+    literal-unbroken (codes "BitMaskedArray") refl
 class_text-unbroken (unmasked key f) = literal-unbroken (codes "UnmaskedArray") refl
 class_text-unbroken (union key kind fs) = literal-unbroken (codes "UnionArray") refl
 
 -- a member whose name is written out, and whose value is a kind or a truth value
-kind_member : (name : List ℕ) (k : IndexKind) → Unbroken name → Unbroken (member name (word (kind_text k)))
-kind_member name k n = member-unbroken name (word (kind_text k)) n (word-unbroken (kind_text k) (kind_text-unbroken k))
+kind_member : (name : List ℕ) (k : IndexKind) → Unbroken name
+    → Unbroken (member name (word (kind_text k)))
+kind_member name k n = member-unbroken name (word (kind_text k)) n
+    (word-unbroken (kind_text k) (kind_text-unbroken k))
 
 truth_member : (name : List ℕ) (b : Bool) → Unbroken name → Unbroken (member name (truth_text b))
 truth_member name b n = member-unbroken name (truth_text b) n (truth_text-unbroken b)
@@ -119,72 +128,117 @@ truth_member name b n = member-unbroken name (truth_text b) n (truth_text-unbrok
 members_text-unbroken : (f : FormTree) → Unbroken (members_text f)
 members_text-unbroken (empty key) = tt
 members_text-unbroken (numpy key prim inner) =
-    behind (member (codes "primitive") (word (primitive_text prim))) (member (codes "inner_shape") (list_text (map decimal inner)))
-    (member-unbroken (codes "primitive") (word (primitive_text prim)) (literal-unbroken (codes "primitive") refl) (word-unbroken (primitive_text prim) (primitive_text-unbroken prim)))
-    (member-unbroken (codes "inner_shape") (list_text (map decimal inner)) (literal-unbroken (codes "inner_shape") refl) (list_text-unbroken (map decimal inner) (decimals-unbroken inner)))
-members_text-unbroken (regular key size f) = member-unbroken (codes "size") (decimal size) (literal-unbroken (codes "size") refl) (decimal-unbroken size)
+    behind (member (codes "primitive") (word (primitive_text prim)))
+    (member (codes "inner_shape") (list_text (map decimal inner)))
+    (member-unbroken (codes "primitive") (word (primitive_text prim))
+    (literal-unbroken (codes "primitive") refl)
+    (word-unbroken (primitive_text prim) (primitive_text-unbroken prim)))
+    (member-unbroken (codes "inner_shape") (list_text (map decimal inner))
+    (literal-unbroken (codes "inner_shape") refl)
+    (list_text-unbroken (map decimal inner) (decimals-unbroken inner)))
+members_text-unbroken (regular key size f) = member-unbroken (codes "size") (decimal size)
+    (literal-unbroken (codes "size") refl) (decimal-unbroken size)
 members_text-unbroken (list key starts stops f) =
-    behind (member (codes "starts") (word (kind_text starts))) (member (codes "stops") (word (kind_text stops)))
-    (kind_member (codes "starts") starts (literal-unbroken (codes "starts") refl)) (kind_member (codes "stops") stops (literal-unbroken (codes "stops") refl))
-members_text-unbroken (list_offset key offsets f) = kind_member (codes "offsets") offsets (literal-unbroken (codes "offsets") refl)
-members_text-unbroken (row key names fs) = member-unbroken (codes "fields") (fields_text names) (literal-unbroken (codes "fields") refl) (fields_text-unbroken names)
-members_text-unbroken (indexed key kind f) = kind_member (codes "index") kind (literal-unbroken (codes "index") refl)
-members_text-unbroken (indexed_option key kind f) = kind_member (codes "index") kind (literal-unbroken (codes "index") refl)
+    behind (member (codes "starts") (word (kind_text starts)))
+    (member (codes "stops") (word (kind_text stops)))
+    (kind_member (codes "starts") starts (literal-unbroken (codes "starts") refl))
+    (kind_member (codes "stops") stops (literal-unbroken (codes "stops") refl))
+members_text-unbroken (list_offset key offsets f) =
+    kind_member (codes "offsets") offsets (literal-unbroken (codes "offsets") refl)
+members_text-unbroken (row key names fs) = member-unbroken (codes "fields") (fields_text names)
+    (literal-unbroken (codes "fields") refl) (fields_text-unbroken names)
+members_text-unbroken (indexed key kind f) =
+    kind_member (codes "index") kind (literal-unbroken (codes "index") refl)
+members_text-unbroken (indexed_option key kind f) =
+    kind_member (codes "index") kind (literal-unbroken (codes "index") refl)
 members_text-unbroken (byte_masked key valid_when f) =
-    behind (member (codes "mask") (word (codes "i8"))) (member (codes "valid_when") (truth_text valid_when))
-    (literal-unbroken (member (codes "mask") (word (codes "i8"))) refl) (truth_member (codes "valid_when") valid_when (literal-unbroken (codes "valid_when") refl))
+    behind (member (codes "mask") (word (codes "i8")))
+    (member (codes "valid_when") (truth_text valid_when))
+    (literal-unbroken (member (codes "mask") (word (codes "i8"))) refl)
+    (truth_member (codes "valid_when") valid_when (literal-unbroken (codes "valid_when") refl))
 members_text-unbroken (bit_masked key valid_when lsb_order f) =
-    behind (member (codes "mask") (word (codes "u8"))) (member (codes "valid_when") (truth_text valid_when) ++ member (codes "lsb_order") (truth_text lsb_order))
+    behind (member (codes "mask") (word (codes "u8")))
+    (member (codes "valid_when") (truth_text valid_when) ++ member (codes "lsb_order")
+    (truth_text lsb_order))
     (literal-unbroken (member (codes "mask") (word (codes "u8"))) refl)
-    (behind (member (codes "valid_when") (truth_text valid_when)) (member (codes "lsb_order") (truth_text lsb_order))
-    (truth_member (codes "valid_when") valid_when (literal-unbroken (codes "valid_when") refl)) (truth_member (codes "lsb_order") lsb_order (literal-unbroken (codes "lsb_order") refl)))
+    (behind (member (codes "valid_when") (truth_text valid_when))
+    (member (codes "lsb_order") (truth_text lsb_order))
+    (truth_member (codes "valid_when") valid_when (literal-unbroken (codes "valid_when") refl))
+    (truth_member (codes "lsb_order") lsb_order (literal-unbroken (codes "lsb_order") refl)))
 members_text-unbroken (unmasked key f) = tt
 members_text-unbroken (union key kind fs) =
-    behind (member (codes "tags") (word (codes "i8"))) (member (codes "index") (word (kind_text kind)))
-    (literal-unbroken (member (codes "tags") (word (codes "i8"))) refl) (kind_member (codes "index") kind (literal-unbroken (codes "index") refl))
+    behind (member (codes "tags") (word (codes "i8")))
+    (member (codes "index") (word (kind_text kind)))
+    (literal-unbroken (member (codes "tags") (word (codes "i8"))) refl)
+    (kind_member (codes "index") kind (literal-unbroken (codes "index") refl))
 
 class_member-unbroken : (class : List ℕ) → Unbroken class → Unbroken (class_member class)
 class_member-unbroken class c =
-    behind (codes "{\"class\":\"") (class ++ codes "\"") (literal-unbroken (codes "{\"class\":\"") refl)
+    behind (codes "{\"class\":\"") (class ++ codes "\"")
+    (literal-unbroken (codes "{\"class\":\"") refl)
     (behind class (codes "\"") c (literal-unbroken (codes "\"") refl))
 
 end_text-unbroken : (key : Option Name) → Unbroken (end_text key)
 end_text-unbroken key =
-    behind (member (codes "parameters") (codes "{}")) (member (codes "form_key") (key_text key) ++ codes "}")
+    behind (member (codes "parameters") (codes "{}"))
+    (member (codes "form_key") (key_text key) ++ codes "}")
     (literal-unbroken (member (codes "parameters") (codes "{}")) refl)
     (behind (member (codes "form_key") (key_text key)) (codes "}")
-    (member-unbroken (codes "form_key") (key_text key) (literal-unbroken (codes "form_key") refl) (key_text-unbroken key)) (literal-unbroken (codes "}") refl))
+    (member-unbroken (codes "form_key") (key_text key) (literal-unbroken (codes "form_key") refl)
+    (key_text-unbroken key)) (literal-unbroken (codes "}") refl))
 
-node_text-unbroken : (f : FormTree) (contents : List ℕ) → Unbroken contents → Unbroken (node_text f contents)
+node_text-unbroken : (f : FormTree) (contents : List ℕ) → Unbroken contents
+    → Unbroken (node_text f contents)
 node_text-unbroken f contents c =
-    behind (class_member (class_text f)) (members_text f ++ (contents ++ end_text (key_of f))) (class_member-unbroken (class_text f) (class_text-unbroken f))
-    (behind (members_text f) (contents ++ end_text (key_of f)) (members_text-unbroken f) (behind contents (end_text (key_of f)) c (end_text-unbroken (key_of f))))
+    behind (class_member (class_text f)) (members_text f ++ (contents ++ end_text (key_of f)))
+    (class_member-unbroken (class_text f) (class_text-unbroken f))
+    (behind (members_text f) (contents ++ end_text (key_of f)) (members_text-unbroken f)
+    (behind contents (end_text (key_of f)) c (end_text-unbroken (key_of f))))
 
 -- the member of one content, or of several
 content-unbroken : (text : List ℕ) → Unbroken text → Unbroken (member (codes "content") text)
-content-unbroken text t = member-unbroken (codes "content") text (literal-unbroken (codes "content") refl) t
+content-unbroken text t =
+    member-unbroken (codes "content") text (literal-unbroken (codes "content") refl) t
 
-contents-unbroken : (texts : List (List ℕ)) → AllByRecursion Unbroken texts → Unbroken (member (codes "contents") (list_text texts))
-contents-unbroken texts t = member-unbroken (codes "contents") (list_text texts) (literal-unbroken (codes "contents") refl) (list_text-unbroken texts t)
+contents-unbroken : (texts : List (List ℕ)) → AllByRecursion Unbroken texts
+    → Unbroken (member (codes "contents") (list_text texts))
+contents-unbroken texts t = member-unbroken (codes "contents") (list_text texts)
+    (literal-unbroken (codes "contents") refl) (list_text-unbroken texts t)
 
 mutual
   contents_text-unbroken : (f : FormTree) → Unbroken (contents_text f)
   contents_text-unbroken (empty key) = tt
   contents_text-unbroken (numpy key prim inner) = tt
-  contents_text-unbroken (regular key size f) = content-unbroken (node_text f (contents_text f)) (node_text-unbroken f (contents_text f) (contents_text-unbroken f))
-  contents_text-unbroken (list key starts stops f) = content-unbroken (node_text f (contents_text f)) (node_text-unbroken f (contents_text f) (contents_text-unbroken f))
-  contents_text-unbroken (list_offset key offsets f) = content-unbroken (node_text f (contents_text f)) (node_text-unbroken f (contents_text f) (contents_text-unbroken f))
-  contents_text-unbroken (row key names fs) = contents-unbroken (form_texts fs) (form_texts-unbroken fs)
-  contents_text-unbroken (indexed key kind f) = content-unbroken (node_text f (contents_text f)) (node_text-unbroken f (contents_text f) (contents_text-unbroken f))
-  contents_text-unbroken (indexed_option key kind f) = content-unbroken (node_text f (contents_text f)) (node_text-unbroken f (contents_text f) (contents_text-unbroken f))
-  contents_text-unbroken (byte_masked key valid_when f) = content-unbroken (node_text f (contents_text f)) (node_text-unbroken f (contents_text f) (contents_text-unbroken f))
-  contents_text-unbroken (bit_masked key valid_when lsb_order f) = content-unbroken (node_text f (contents_text f)) (node_text-unbroken f (contents_text f) (contents_text-unbroken f))
-  contents_text-unbroken (unmasked key f) = content-unbroken (node_text f (contents_text f)) (node_text-unbroken f (contents_text f) (contents_text-unbroken f))
-  contents_text-unbroken (union key kind fs) = contents-unbroken (form_texts fs) (form_texts-unbroken fs)
+  contents_text-unbroken (regular key size f) = content-unbroken (node_text f (contents_text f))
+      (node_text-unbroken f (contents_text f) (contents_text-unbroken f))
+  contents_text-unbroken (list key starts stops f) =
+      content-unbroken (node_text f (contents_text f))
+      (node_text-unbroken f (contents_text f) (contents_text-unbroken f))
+  contents_text-unbroken (list_offset key offsets f) =
+      content-unbroken (node_text f (contents_text f))
+      (node_text-unbroken f (contents_text f) (contents_text-unbroken f))
+  contents_text-unbroken (row key names fs) =
+      contents-unbroken (form_texts fs) (form_texts-unbroken fs)
+  contents_text-unbroken (indexed key kind f) = content-unbroken (node_text f (contents_text f))
+      (node_text-unbroken f (contents_text f) (contents_text-unbroken f))
+  contents_text-unbroken (indexed_option key kind f) =
+      content-unbroken (node_text f (contents_text f))
+      (node_text-unbroken f (contents_text f) (contents_text-unbroken f))
+  contents_text-unbroken (byte_masked key valid_when f) =
+      content-unbroken (node_text f (contents_text f))
+      (node_text-unbroken f (contents_text f) (contents_text-unbroken f))
+  contents_text-unbroken (bit_masked key valid_when lsb_order f) =
+      content-unbroken (node_text f (contents_text f))
+      (node_text-unbroken f (contents_text f) (contents_text-unbroken f))
+  contents_text-unbroken (unmasked key f) = content-unbroken (node_text f (contents_text f))
+      (node_text-unbroken f (contents_text f) (contents_text-unbroken f))
+  contents_text-unbroken (union key kind fs) =
+      contents-unbroken (form_texts fs) (form_texts-unbroken fs)
 
   form_texts-unbroken : (fs : FormTrees) → AllByRecursion Unbroken (form_texts fs)
   form_texts-unbroken no_forms = tt
-  form_texts-unbroken (form f fs) = (node_text-unbroken f (contents_text f) (contents_text-unbroken f), form_texts-unbroken fs)
+  form_texts-unbroken (form f fs) =
+      (node_text-unbroken f (contents_text f) (contents_text-unbroken f), form_texts-unbroken fs)
 
 form_text-unbroken : (f : FormTree) → Unbroken (form_text f)
 form_text-unbroken f = node_text-unbroken f (contents_text f) (contents_text-unbroken f)
@@ -193,9 +247,12 @@ form_text-unbroken f = node_text-unbroken f (contents_text f) (contents_text-unb
 
 buffer_text-unbroken : (b : Name × List ℕ) → Unbroken (buffer_text b)
 buffer_text-unbroken b =
-    behind (quoted b.0) (codes ":\"" ++ (encode_of standard b.1 ++ codes "\"")) (quoted-unbroken b.0)
-    (behind (codes ":\"") (encode_of standard b.1 ++ codes "\"") (literal-unbroken (codes ":\"") refl)
-    (behind (encode_of standard b.1) (codes "\"") (encode_of-unbroken b.1) (literal-unbroken (codes "\"") refl)))
+    behind (quoted b.0) (codes ":\"" ++ (encode_of standard b.1 ++ codes "\""))
+    (quoted-unbroken b.0)
+    (behind (codes ":\"") (encode_of standard b.1 ++ codes "\"")
+    (literal-unbroken (codes ":\"") refl)
+    (behind (encode_of standard b.1) (codes "\"") (encode_of-unbroken b.1)
+    (literal-unbroken (codes "\"") refl)))
 
 buffer_texts-unbroken : (bs : List (Name × List ℕ)) → AllByRecursion Unbroken (map buffer_text bs)
 buffer_texts-unbroken [] = tt
@@ -205,13 +262,16 @@ pub packed_text-unbroken : (p : Pack) → Unbroken (packed_text p)
 packed_text-unbroken p =
     let texts = map buffer_text (buffers p) in
     let close = literal-unbroken (codes "}") refl in
-    let all : Unbroken (buffers_text p) = behind (codes "{") (comma_joined texts ++ codes "}") (literal-unbroken (codes "{") refl)
-    (behind (comma_joined texts) (codes "}") (comma_joined-unbroken texts (buffer_texts-unbroken (buffers p))) close) in
+    let all : Unbroken (buffers_text p) =
+    behind (codes "{") (comma_joined texts ++ codes "}") (literal-unbroken (codes "{") refl)
+    (behind (comma_joined texts) (codes "}")
+    (comma_joined-unbroken texts (buffer_texts-unbroken (buffers p))) close) in
     let buffered = buffers_text p ++ codes "}" in
     let counted = codes ",\"buffers\":" ++ buffered in
     let sized = decimal p.length ++ counted in
     let formed = codes ",\"length\":" ++ sized in
-    behind (codes "{\"form\":") (form_text p.form ++ formed) (literal-unbroken (codes "{\"form\":") refl)
+    behind (codes "{\"form\":") (form_text p.form ++ formed)
+    (literal-unbroken (codes "{\"form\":") refl)
     (behind (form_text p.form) formed (form_text-unbroken p.form)
     (behind (codes ",\"length\":") sized (literal-unbroken (codes ",\"length\":") refl)
     (behind (decimal p.length) counted (decimal-unbroken p.length)

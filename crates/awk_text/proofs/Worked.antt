@@ -10,15 +10,20 @@ use Rattle.awk_text.specs.TypeText.{type_text, datum_type_text}
 abbrev muon : DataType
 muon = rec (codes "pt" ∷ codes "charge" ∷ []) (type (leaf I64) (type (leaf I8) no_types))
 
-jagged_records : datum_type_text (arr (var muon) (list no_values ∷ list no_values ∷ list no_values ∷ list no_values ∷ [])) ≡ codes "4 * var * {pt: int64, charge: int8}"
+jagged_records : datum_type_text
+    (arr (var muon) (list no_values ∷ list no_values ∷ list no_values ∷ list no_values ∷ []))
+    ≡ codes "4 * var * {pt: int64, charge: int8}"
 unfolding digits
 jagged_records = refl
 
-alternatives : datum_type_text (arr (uni (type (leaf I64) (type (leaf Truths) (type (leaf I8) no_types)))) (null ∷ null ∷ null ∷ [])) ≡ codes "3 * union[int64, bool, int8]"
+alternatives : datum_type_text
+    (arr (uni (type (leaf I64) (type (leaf Truths) (type (leaf I8) no_types))))
+    (null ∷ null ∷ null ∷ [])) ≡ codes "3 * union[int64, bool, int8]"
 unfolding digits
 alternatives = refl
 
-optional_numbers : datum_type_text (arr (opt (leaf I64)) (null ∷ null ∷ null ∷ null ∷ [])) ≡ codes "4 * ?int64"
+optional_numbers : datum_type_text (arr (opt (leaf I64)) (null ∷ null ∷ null ∷ null ∷ []))
+    ≡ codes "4 * ?int64"
 unfolding digits
 optional_numbers = refl
 
@@ -34,11 +39,14 @@ optional_regular : type_text (opt (reg 12 (opt (leaf U8)))) ≡ codes "option[12
 unfolding digits
 optional_regular = refl
 
-optional_row : type_text (opt (tup (type (leaf I64) (type (var (leaf I8)) no_types)))) ≡ codes "?(int64, var * int8)"
+optional_row : type_text (opt (tup (type (leaf I64) (type (var (leaf I8)) no_types))))
+    ≡ codes "?(int64, var * int8)"
 optional_row = refl
 
 -- names of letters, digits and `_` that begin with no digit are bare, all others quoted
-names : type_text (rec (codes "aZ_9" ∷ codes "_" ∷ codes "0" ∷ [] ∷ codes "a b" ∷ codes "\"" ∷ []) (type unknown (type unknown (type unknown (type unknown (type unknown (type unknown no_types)))))))
+names : type_text (rec (codes "aZ_9" ∷ codes "_" ∷ codes "0" ∷ [] ∷ codes "a b" ∷ codes "\"" ∷ [])
+    (type unknown
+    (type unknown (type unknown (type unknown (type unknown (type unknown no_types)))))))
     ≡ codes "{aZ_9: unknown, _: unknown, \"0\": unknown, \"\": unknown, \"a b\": unknown, \"\\\"\": unknown}"
 names = refl
 

@@ -9,7 +9,9 @@ pub put_lanes-requires : goal.put_lanes-requires
 put_lanes-requires g t c κs within =
     let same : c.inner.inside.arrays.items ≡ c.in_ok-inner.inner = grind arith in
     let at = ap (λ ys. slice_get ys c.loop-i.i) same ∙ c.get.ensures in
-    let below = left_below (array_type c.args.x.now) (array_items c.args.x.now) c.args.lanes.now c.loop-i.lanes c.inner.inside.arrays.items c.loop-i.i c.get.result.now at c.loop-i.invariant in
+    let below = left_below (array_type c.args.x.now) (array_items c.args.x.now) c.args.lanes.now
+    c.loop-i.lanes c.inner.inside.arrays.items c.loop-i.i c.get.result.now at
+    c.loop-i.invariant in
     search rules
 
 pub returns-in_err-put_lanes-clause-size : goal.returns-in_err-put_lanes-clause-size
@@ -18,11 +20,18 @@ returns-in_err-put_lanes-clause-size g t c =
     let at = ap (λ ys. slice_get ys c.loop-i.i) same ∙ c.get.ensures in
     let e = c.in_err-put_lanes.field-0.0 in
     let failed : c.from_residual-in_err-put_lanes.result ≡ Err e = grind arith in
-    size_on c.from_residual-in_err-put_lanes.result e (is_too_large (array_type c.get.result.now) (array_items c.get.result.now) ≡ true) (is_too_large (array_type c.args.x.now) (array_items c.args.x.now) ≡ true) failed c.in_err-put_lanes.ensures.size
-    (λ large. left_large (array_type c.args.x.now) (array_items c.args.x.now) c.args.lanes.now c.loop-i.lanes c.inner.inside.arrays.items c.loop-i.i c.get.result.now at c.loop-i.invariant large)
+    size_on c.from_residual-in_err-put_lanes.result e
+    (is_too_large (array_type c.get.result.now) (array_items c.get.result.now) ≡ true)
+    (is_too_large (array_type c.args.x.now) (array_items c.args.x.now) ≡ true) failed
+    c.in_err-put_lanes.ensures.size
+    (λ large. left_large (array_type c.args.x.now) (array_items c.args.x.now) c.args.lanes.now
+    c.loop-i.lanes c.inner.inside.arrays.items c.loop-i.i c.get.result.now at c.loop-i.invariant
+    large)
 
 pub loop-i-preserved : goal.loop-i-preserved
 loop-i-preserved g t c =
     let same : c.inner.inside.arrays.items ≡ c.in_ok-inner.inner = grind arith in
     let at = ap (λ ys. slice_get ys c.loop-i.i) same ∙ c.get.ensures in
-    left_next (array_type c.args.x.now) (array_items c.args.x.now) c.args.lanes.now c.loop-i.lanes c.put_lanes.new.lanes c.inner.inside.arrays.items c.loop-i.i c.get.result.now at c.loop-i.invariant c.in_ok-put_lanes.ensures.put
+    left_next (array_type c.args.x.now) (array_items c.args.x.now) c.args.lanes.now c.loop-i.lanes
+    c.put_lanes.new.lanes c.inner.inside.arrays.items c.loop-i.i c.get.result.now at
+    c.loop-i.invariant c.in_ok-put_lanes.ensures.put

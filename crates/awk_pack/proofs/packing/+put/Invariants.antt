@@ -10,4 +10,5 @@ decreases-put_lanes g l = nodes (array_type l.x.now)
 -- the arrays so far are put
 abbrev pub invariant-loop-i : goal.invariant-loop-i
 invariant-loop-i g l =
-    IsLeft (array_type l.fn.x) (array_items l.fn.x) l.fn.lanes (drop l.i l.inner-inside.arrays.items) l.lanes
+    IsLeft (array_type l.fn.x) (array_items l.fn.x) l.fn.lanes
+    (drop l.i l.inner-inside.arrays.items) l.lanes

@@ -9,5 +9,7 @@ use Rattle.awk_pack.proofs.packing.pack.Goals as goal
 pub returns : goal.returns
 returns g c =
     let x = c.args.x.now in
-    canon-packed x (form_of c.in_ok-form.form) c.put_lanes.new.lanes c.len.result (c.in_ok-form.ensures ∙ ap (packed_form 0) c.typ.ensures.typ)
-    (subst (λ cs. IsPut (array_type x) (array_items x) cs c.put_lanes.new.lanes) c.new-lanes.ensures c.in_ok-put_lanes.ensures.put) c.len.ensures.len
+    canon-packed x (form_of c.in_ok-form.form) c.put_lanes.new.lanes c.len.result
+    (c.in_ok-form.ensures ∙ ap (packed_form 0) c.typ.ensures.typ)
+    (subst (λ cs. IsPut (array_type x) (array_items x) cs c.put_lanes.new.lanes) c.new-lanes.ensures
+    c.in_ok-put_lanes.ensures.put) c.len.ensures.len

@@ -16,7 +16,8 @@ returns-in-Ok-clause-leaves g c =
         gone = b.gone;
         rest = b.rest;
         appends = b.appends;
-        all = ap (λ r. c.args.out.now.held ++ answer_bytes (step_of r).answer) c.in-Ok.ensures.reply ∙ b.all;
+        all = ap (λ r. c.args.out.now.held ++ answer_bytes (step_of r).answer) c.in-Ok.ensures.reply
+            ∙ b.all;
       };
       is_open = b.is_open;
       variables = ap (λ (r : Reply). r.after) (sym c.in-Ok.ensures.reply);

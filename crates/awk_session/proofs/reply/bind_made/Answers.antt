@@ -9,7 +9,10 @@ use Rattle.awk_session.proofs.reply.bind_made.Goals as goal
 
 pub returns-in_ok-bind-in-Ok-clause-reply : goal.returns-in_ok-bind-in-Ok-clause-reply
 returns-in_ok-bind-in-Ok-clause-reply g c =
-    rw c.as_str.ensures (bound-denoted c.args.env.now c.bind.new.self c.args.name.now _ _ _ (ap evaluated c.in-Ok.ensures.answer) c.in_ok-copy-in-Ok.ensures c.in_ok-bind-in-Ok.ensures.ok)
+    rw c.as_str.ensures
+    (bound-denoted c.args.env.now c.bind.new.self c.args.name.now _ _ _
+    (ap evaluated c.in-Ok.ensures.answer) c.in_ok-copy-in-Ok.ensures
+    c.in_ok-bind-in-Ok.ensures.ok)
 
 pub returns-in_err-copy-in-Ok-clause-cost : goal.returns-in_err-copy-in-Ok-clause-cost
 returns-in_err-copy-in-Ok-clause-cost g c =

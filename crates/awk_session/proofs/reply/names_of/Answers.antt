@@ -11,12 +11,21 @@ use Rattle.awk_session.proofs.reply.names_of.Goals as goal
 
 pub loop-i-preserved : goal.loop-i-preserved
 loop-i-preserved c = record {
-  names = c.in_ok-push.ensures.ok ∙ rw (c.in_ok-new.ensures, c.loop-i.invariant.names) (sym (take-get (names c.args.env.now) c.loop-i.i c.name_at.result.now c.name_at.ensures));
+  names = c.in_ok-push.ensures.ok ∙ rw (c.in_ok-new.ensures, c.loop-i.invariant.names)
+      (sym (take-get (names c.args.env.now) c.loop-i.i c.name_at.result.now c.name_at.ensures));
   counted = c.loop-i.invariant.counted;
 }
 
 pub returns : goal.returns
 returns c =
     let ns = names c.args.env.now in
-    let all : c.loop-i.i ≡ length ns = omega (arith, c.loop-i.invariant.counted, c.loop-i.auto.i-end, c.loop-i-test.false, length-map c.args.env.now (λ (v : Name × Datum). v.0)) in
-    c.loop-i.invariant.names ∙ ap (λ k. take k ns) all ∙ take-length ns ∙ sym (names-each datum_of c.args.env.now)
+    let all : c.loop-i.i ≡ length ns =
+    omega (
+      arith,
+      c.loop-i.invariant.counted,
+      c.loop-i.auto.i-end,
+      c.loop-i-test.false,
+      length-map c.args.env.now (λ (v : Name × Datum). v.0),
+    ) in
+    c.loop-i.invariant.names ∙ ap (λ k. take k ns) all ∙ take-length ns
+    ∙ sym (names-each datum_of c.args.env.now)

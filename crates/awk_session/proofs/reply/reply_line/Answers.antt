@@ -8,5 +8,6 @@ use Rattle.awk_session.proofs.reply.reply_line.Goals as goal
 
 pub bind_loaded-requires : goal.bind_loaded-requires
 bind_loaded-requires g c = record {
-  texts = are_texts-holds (members_view c.in-Load.buffers.entries) (subst (λ l. IsAllowedLine (line_view l)) c.in-Load.is c.requires.allowed);
+  texts = are_texts-holds (members_view c.in-Load.buffers.entries)
+      (subst (λ l. IsAllowedLine (line_view l)) c.in-Load.is c.requires.allowed);
 }

@@ -20,8 +20,10 @@ decreases-write_buffers g l = goal.size-write_buffers g l
 abbrev pub invariant-write_all-loop-i : goal.invariant-write_all-loop-i
 invariant-write_all-loop-i g l = record {
   done : List Name;
-  put : Moves {E = WriteFault} (g.K.Sink.written l.fn.sink) (g.K.Sink.written l.sink) l.out (l.fn.out.held ++ texts_from l.fn.next done l.lanes) (Ok tt);
-  left : keys_of (forms_from (forms_of l.forms)) ≡ done ++ keys_of (forms_from (drop l.i (forms_of l.forms)));
+  put : Moves {E = WriteFault} (g.K.Sink.written l.fn.sink)
+      (g.K.Sink.written l.sink) l.out (l.fn.out.held ++ texts_from l.fn.next done l.lanes) (Ok tt);
+  left : keys_of (forms_from (forms_of l.forms))
+      ≡ done ++ keys_of (forms_from (drop l.i (forms_of l.forms)));
   next : l.next ≡ l.fn.next + length done;
   flushes : g.K.Sink.flushes l.sink ≡ g.K.Sink.flushes l.fn.sink;
   later : g.K.Sink.faults l.fn.sink ≤ g.K.Sink.faults l.sink;

@@ -3,7 +3,12 @@ use Rattle.std.proofs.lemmas.Fmt.{length-decimal-le}
 use Rattle.awk_text.proofs.digits.set_digits.Goals as goal
 
 pub write_digits-requires : goal.write_digits-requires
-write_digits-requires c = (omega (arith, length-decimal-le 20 c.args.n (omega arith) (omega arith) (omega arith)), search rules)
+write_digits-requires c = (
+  omega (arith, length-decimal-le 20 c.args.n (omega arith) (omega arith) (omega arith)),
+  search
+      rules,
+)
 
 pub returns-clause-start : goal.returns-clause-start
-returns-clause-start c = omega (arith, length-decimal-le 20 c.args.n (omega arith) (omega arith) (omega arith))
+returns-clause-start c =
+    omega (arith, length-decimal-le 20 c.args.n (omega arith) (omega arith) (omega arith))

@@ -5,25 +5,60 @@ use Rattle.itoa.proofs.Decimal.{minus_first}
 use Rattle.awk_text.proofs.digits.set_signed.Goals as goal
 
 pub write_digits-start-requires : goal.write_digits-start-requires
-write_digits-start-requires c = (omega (arith, length-decimal-le 19 c.unsigned_abs.result (omega arith) (omega arith) (omega arith)), search rules)
+write_digits-start-requires c = (
+  omega (
+    arith,
+    length-decimal-le 19 c.unsigned_abs.result (omega arith) (omega arith)
+        (omega arith),
+  ),
+  search rules,
+)
 
 pub returns-then-z-ge0-clause-start : goal.returns-then-z-ge0-clause-start
-returns-then-z-ge0-clause-start c = omega (arith, length-decimal-le 19 c.unsigned_abs.result (omega arith) (omega arith) (omega arith))
+returns-then-z-ge0-clause-start c =
+    omega (
+      arith,
+      length-decimal-le 19 c.unsigned_abs.result (omega arith) (omega arith)
+          (omega arith),
+    )
 
 pub overflow_sub-room : goal.overflow_sub-room
-overflow_sub-room c = omega (arith, length-decimal-le 19 c.unsigned_abs.result (omega arith) (omega arith) (omega arith))
+overflow_sub-room c =
+    omega (
+      arith,
+      length-decimal-le 19 c.unsigned_abs.result (omega arith) (omega arith)
+          (omega arith),
+    )
 
 pub overflow_sub-result : goal.overflow_sub-result
-overflow_sub-result c = omega (arith, length-decimal-le 19 c.unsigned_abs.result (omega arith) (omega arith) (omega arith))
+overflow_sub-result c =
+    omega (
+      arith,
+      length-decimal-le 19 c.unsigned_abs.result (omega arith) (omega arith)
+          (omega arith),
+    )
 
 pub returns-clause-start : goal.returns-clause-start
-returns-clause-start c = omega (arith, length-decimal-le 19 c.unsigned_abs.result (omega arith) (omega arith) (omega arith))
+returns-clause-start c =
+    omega (
+      arith,
+      length-decimal-le 19 c.unsigned_abs.result (omega arith) (omega arith)
+          (omega arith),
+    )
 
 pub returns-clause-text : goal.returns-clause-text
 returns-clause-text c =
     let w = c.write_digits-start in
-    let long = length-decimal-le 19 c.unsigned_abs.result (omega arith) (omega arith) (omega arith) in
+    let long =
+    length-decimal-le 19 c.unsigned_abs.result (omega arith) (omega arith) (omega arith) in
     let e : w.result - 1 + 1 ≡ w.result = omega arith in
     let back = to_z-of_z c.ranges.z in
-    rw (drop-set w.new.buf (w.result - 1) 45 (omega arith), e, w.ensures.written, c.unsigned_abs.ensures.value, back)
-    (ap (λ digits. digits ++ drop c.args.end c.args.room.now) (minus_first c.args.z (rw back at c.if-z-ge0.false)))
+    rw (
+      drop-set w.new.buf (w.result - 1) 45 (omega arith),
+      e,
+      w.ensures.written,
+      c.unsigned_abs.ensures.value,
+      back,
+    )
+    (ap (λ digits. digits ++ drop c.args.end c.args.room.now)
+    (minus_first c.args.z (rw back at c.if-z-ge0.false)))

@@ -15,12 +15,14 @@ loop-k-init g c = record {
   ahead = omega arith;
   fits = omega arith;
   within = omega arith;
-  text = drop_all 252 c.args.room.now (omega (arith, c.told-room)) ∙ sym (pieces_none (layout_text (flat c.args.lane.now)) c.args.first c.args.stop);
+  text = drop_all 252 c.args.room.now (omega (arith, c.told-room))
+      ∙ sym (pieces_none (layout_text (flat c.args.lane.now)) c.args.first c.args.stop);
   cost = omega arith;
 }
 
 -- a comma is set before what stands there
-comma_set : (room tail whole : List ℕ) (start : ℕ) → 0 < start → start ≤ length room → drop start room ≡ tail → whole ≡ codes "," ++ tail
+comma_set : (room tail whole : List ℕ) (start : ℕ) → 0 < start → start ≤ length room
+    → drop start room ≡ tail → whole ≡ codes "," ++ tail
     → drop (start - 1) (set room (start - 1) 44) ≡ whole
 comma_set room tail whole start some within e all =
     let back : start - 1 + 1 ≡ start = omega arith in
@@ -31,13 +33,19 @@ loop-k-preserved-then-k-first g c =
     let k = c.loop-k.k in
     let w = c.set_leaf-start in
     let leaf = leaf_text (value_of_num c.at.result) in
-    let whole = number_run c.args.lane.now c.args.first k c.args.stop c.at.result (omega arith) (omega arith) c.at.ensures.kind c.at.ensures.number in
+    let whole = number_run c.args.lane.now c.args.first k c.args.stop c.at.result (omega arith)
+    (omega arith) c.at.ensures.kind c.at.ensures.number in
     let later : comma_before (k - 1 == c.args.first) ≡ codes "," = grind arith in
     let tail = w.ensures.text ∙ ap (λ z. leaf ++ z) c.loop-k.invariant.text in
     record {
       ahead = omega arith;
       fits = omega arith;
       within = omega arith;
-      text = comma_set w.new.room _ _ w.result (omega arith) (omega (arith, c.told-room)) tail (whole ∙ ap (λ z. z ++ (leaf ++ pieces (layout_text (flat c.args.lane.now)) c.args.first k c.args.stop)) later);
+      text = comma_set w.new.room _ _ w.result (omega arith) (omega (arith, c.told-room)) tail
+          (whole
+          ∙ ap
+          (λ z. z
+          ++ (leaf ++ pieces (layout_text (flat c.args.lane.now)) c.args.first k c.args.stop))
+          later);
       cost = omega arith;
     }

@@ -12,7 +12,8 @@ use Rattle.awk_text.proofs.numbers.write_numbers.Goals as goal
 pub returns-in_err-put-clause-bytes : goal.returns-in_err-put-clause-bytes
 returns-in_err-put-clause-bytes g c =
     let texts = texts_from (layout_text (flat c.args.lane.now)) c.args.lo c.args.hi in
-    stops_at _ (codes "[") (comma_joined texts ++ codes "]") c.in_err-put.ensures.bytes (grind arith)
+    stops_at _ (codes "[") (comma_joined texts ++ codes "]") c.in_err-put.ensures.bytes
+    (grind arith)
 
 pub loop-j-init : goal.loop-j-init
 loop-j-init g c =
@@ -20,25 +21,33 @@ loop-j-init g c =
     record {
       from = omega arith;
       within = omega arith;
-      places = places_first _ _ (codes "[") f c.args.lo c.args.hi (codes "]") refl c.in_ok-put.ensures.bytes;
+      places = places_first _ _ (codes "[") f c.args.lo c.args.hi (codes "]") refl
+          c.in_ok-put.ensures.bytes;
       flushes = grind arith;
       later = omega (arith, c.in_ok-put.ensures.cause.later);
       cost = paid_start 1 c.args.steps.now _ (codes "[") f c.args.lo c.args.hi (codes "]") refl;
     }
 
 -- the last bytes of a room of 252
-last_bytes : (room : List ℕ) (start : ℕ) → length room ≡ 252 → take (252 - start) (drop start room) ≡ drop start room
-last_bytes room start long = take_all (252 - start) (drop start room) (simp length-drop (omega arith))
+last_bytes : (room : List ℕ) (start : ℕ) → length room ≡ 252
+    → take (252 - start) (drop start room) ≡ drop start room
+last_bytes room start long =
+    take_all (252 - start) (drop start room) (simp length-drop (omega arith))
 
 pub returns-in_err-put-2-clause-bytes : goal.returns-in_err-put-2-clause-bytes
 returns-in_err-put-2-clause-bytes g c =
-    places_stop_run (layout_text (flat c.args.lane.now)) c.args.lo c.loop-j.j (c.loop-j.j + c.min.result) c.args.hi _ c.loop-j.invariant.places (omega arith) (omega arith) (omega arith)
-    (last_bytes c.set_run-start.new.room c.set_run-start.result (omega arith) ∙ c.set_run-start.ensures.text) c.in_err-put-2.ensures.bytes (grind arith)
+    places_stop_run (layout_text (flat c.args.lane.now)) c.args.lo c.loop-j.j
+    (c.loop-j.j + c.min.result) c.args.hi _ c.loop-j.invariant.places (omega arith)
+    (omega arith) (omega arith)
+    (last_bytes c.set_run-start.new.room c.set_run-start.result (omega arith)
+    ∙ c.set_run-start.ensures.text) c.in_err-put-2.ensures.bytes (grind arith)
 
 pub returns-in_err-put-2-clause-cost : goal.returns-in_err-put-2-clause-cost
 returns-in_err-put-2-clause-cost g c =
     let f = layout_text (flat c.args.lane.now) in
-    let paid = paid_run _ _ c.set_run-start.new.steps f c.args.lo c.loop-j.j (c.loop-j.j + c.min.result) c.args.hi (codes "]") _ (number_some c.args.lane.now) c.loop-j.invariant.cost
+    let paid = paid_run _ _ c.set_run-start.new.steps f c.args.lo c.loop-j.j
+    (c.loop-j.j + c.min.result) c.args.hi (codes "]") _ (number_some c.args.lane.now)
+    c.loop-j.invariant.cost
     (omega arith) (omega arith) (omega arith) (omega arith) in
     omega (arith, paid.within)
 
@@ -50,12 +59,18 @@ loop-j-preserved g c =
     record {
       from = omega arith;
       within = omega arith;
-      places = places_run f c.args.lo c.loop-j.j stop c.args.hi _ v.places (omega arith) (omega arith) (omega arith) (last_bytes c.set_run-start.new.room c.set_run-start.result (omega arith) ∙ c.set_run-start.ensures.text) c.in_ok-put-2.ensures.bytes;
+      places = places_run f c.args.lo c.loop-j.j stop c.args.hi _ v.places (omega arith)
+          (omega arith) (omega arith)
+          (last_bytes c.set_run-start.new.room c.set_run-start.result (omega arith)
+          ∙ c.set_run-start.ensures.text) c.in_ok-put-2.ensures.bytes;
       flushes = c.put-in-loop-j.ensures.flushes ∙ v.flushes;
       later = omega (arith, v.later, c.put-in-loop-j.ensures.cause.later);
-      cost = paid_run _ _ _ f c.args.lo c.loop-j.j stop c.args.hi (codes "]") _ (number_some c.args.lane.now) v.cost (omega arith) (omega arith) (omega arith) (omega arith);
+      cost = paid_run _ _ _ f c.args.lo c.loop-j.j stop c.args.hi (codes "]") _
+          (number_some c.args.lane.now) v.cost (omega arith) (omega arith) (omega arith)
+          (omega arith);
     }
 
 pub returns-clause-bytes : goal.returns-clause-bytes
 returns-clause-bytes g c =
-    places_last (layout_text (flat c.args.lane.now)) c.args.lo c.loop-j.j c.args.hi c.loop-j.invariant.places (omega arith) c.put-2.ensures.bytes
+    places_last (layout_text (flat c.args.lane.now)) c.args.lo c.loop-j.j c.args.hi
+    c.loop-j.invariant.places (omega arith) c.put-2.ensures.bytes

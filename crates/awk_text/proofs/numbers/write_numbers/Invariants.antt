@@ -10,11 +10,13 @@ abbrev pub invariant-loop-j : goal.invariant-loop-j
 invariant-loop-j g l = record {
   from : l.lo ≤ l.j;
   within : l.j ≤ l.hi;
-  places : PlacesLeft (codes ",") (g.K.Sink.written l.fn.sink) (g.K.Sink.written l.sink) l.out l.fn.out.held (span_text (flat l.lane) l.lo l.hi)
+  places : PlacesLeft (codes ",") (g.K.Sink.written l.fn.sink)
+      (g.K.Sink.written l.sink) l.out l.fn.out.held (span_text (flat l.lane) l.lo l.hi)
       (layout_text (flat l.lane)) l.lo l.j l.hi (codes "]");
   flushes : g.K.Sink.flushes l.sink ≡ g.K.Sink.flushes l.fn.sink;
   later : g.K.Sink.faults l.fn.sink ≤ g.K.Sink.faults l.sink;
-  cost : IsPaid 1 l.fn.steps l.steps (to_come (layout_text (flat l.lane)) l.lo l.j l.hi ++ codes "]") (span_text (flat l.lane) l.lo l.hi);
+  cost : IsPaid 1 l.fn.steps l.steps (to_come (layout_text (flat l.lane)) l.lo l.j l.hi
+      ++ codes "]") (span_text (flat l.lane) l.lo l.hi);
 }
 
 abbrev pub decreases-loop-j : goal.decreases-loop-j

@@ -10,7 +10,8 @@ use Rattle.awk_text.proofs.BufferTexts.{texts_from-all}
 use Rattle.awk_text.proofs.packed.write_all_buffers.Goals as goal
 
 pub write_buffers-requires : goal.write_buffers-requires
-write_buffers-requires g c = record { «open» = search rules; enough = omega (arith, c.requires.lanes) }
+write_buffers-requires g c =
+    record { «open» = search rules; enough = omega (arith, c.requires.lanes) }
 
 pub returns-in_err-put-clause-bytes : goal.returns-in_err-put-clause-bytes
 returns-in_err-put-clause-bytes g c =
@@ -23,7 +24,8 @@ returns-in_err-write_buffers-clause-bytes g c =
     let texts = comma_joined (map buffer_text (buffers (packed_of p))) in
     let all = sym (texts_from-all (buffer_keys (form_of p.form)) p.lanes c.requires.lanes) in
     goes_to _ (codes "{") (texts ++ codes "}") c.in_ok-put.ensures.bytes
-    (stops_at _ texts (codes "}") (puts_same _ all c.in_err-write_buffers.ensures.bytes) (grind arith))
+    (stops_at _ texts (codes "}") (puts_same _ all c.in_err-write_buffers.ensures.bytes)
+    (grind arith))
 
 pub returns-clause-bytes : goal.returns-clause-bytes
 returns-clause-bytes g c =
@@ -31,12 +33,23 @@ returns-clause-bytes g c =
     let texts = comma_joined (map buffer_text (buffers (packed_of p))) in
     let all = sym (texts_from-all (buffer_keys (form_of p.form)) p.lanes c.requires.lanes) in
     goes_to _ (codes "{") (texts ++ codes "}") c.in_ok-put.ensures.bytes
-    (goes_to _ texts (codes "}") (puts_same _ all c.in_ok-write_buffers.ensures.bytes) c.put-2.ensures.bytes)
+    (goes_to _ texts (codes "}") (puts_same _ all c.in_ok-write_buffers.ensures.bytes)
+    c.put-2.ensures.bytes)
 
 pub returns-in_err-write_buffers-clause-cost : goal.returns-in_err-write_buffers-clause-cost
 returns-in_err-write_buffers-clause-cost g c =
-    omega (arith, c.write_buffers.ensures.cost, numbers_before-all c.write_buffers.new.next c.args.p.now.lanes)
+    omega (
+      arith,
+      c.write_buffers.ensures.cost,
+      numbers_before-all c.write_buffers.new.next
+          c.args.p.now.lanes,
+    )
 
 pub returns-clause-cost : goal.returns-clause-cost
 returns-clause-cost g c =
-    omega (arith, c.write_buffers.ensures.cost, numbers_before-all c.write_buffers.new.next c.args.p.now.lanes)
+    omega (
+      arith,
+      c.write_buffers.ensures.cost,
+      numbers_before-all c.write_buffers.new.next
+          c.args.p.now.lanes,
+    )

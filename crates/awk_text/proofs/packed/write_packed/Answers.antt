@@ -1,4 +1,4 @@
-use Rattle.std.proofs.Common.{◌++◌, codes, decimal, arith}
+use Rattle.std.proofs.Common.{codes, decimal, arith}
 use Rattle.awk_json.proofs.Joins.{stops_at, goes_to}
 use Rattle.awk_form.specs.FormText.{form_text}
 use Rattle.awk_form.specs.View.{form_of}
@@ -13,7 +13,8 @@ returns-in_err-put-clause-bytes g c =
 pub returns-in_err-write_form-clause-bytes : goal.returns-in_err-write_form-clause-bytes
 returns-in_err-write_form-clause-bytes g c =
     goes_to _ (codes "{\"form\":") _ c.in_ok-put.ensures.bytes
-    (stops_at _ (form_text (form_of c.args.p.now.form)) _ c.in_err-write_form.ensures.bytes (grind arith))
+    (stops_at _ (form_text (form_of c.args.p.now.form)) _ c.in_err-write_form.ensures.bytes
+    (grind arith))
 
 pub returns-in_err-put-2-clause-bytes : goal.returns-in_err-put-2-clause-bytes
 returns-in_err-put-2-clause-bytes g c =
@@ -44,7 +45,8 @@ returns-in_err-write_all_buffers-clause-bytes g c =
     (goes_to _ (codes ",\"length\":") _ c.in_ok-put-2.ensures.bytes
     (goes_to _ (decimal c.args.p.now.length) _ c.in_ok-write_number.ensures.bytes
     (goes_to _ (codes ",\"buffers\":") _ c.in_ok-put-3.ensures.bytes
-    (stops_at _ (buffers_text (packed_of c.args.p.now)) _ c.in_err-write_all_buffers.ensures.bytes (grind arith))))))
+    (stops_at _ (buffers_text (packed_of c.args.p.now)) _ c.in_err-write_all_buffers.ensures.bytes
+    (grind arith))))))
 
 pub returns-clause-bytes : goal.returns-clause-bytes
 returns-clause-bytes g c =
@@ -53,4 +55,5 @@ returns-clause-bytes g c =
     (goes_to _ (codes ",\"length\":") _ c.in_ok-put-2.ensures.bytes
     (goes_to _ (decimal c.args.p.now.length) _ c.in_ok-write_number.ensures.bytes
     (goes_to _ (codes ",\"buffers\":") _ c.in_ok-put-3.ensures.bytes
-    (goes_to _ (buffers_text (packed_of c.args.p.now)) (codes "}") c.in_ok-write_all_buffers.ensures.bytes c.put-4.ensures.bytes)))))
+    (goes_to _ (buffers_text (packed_of c.args.p.now)) (codes "}")
+    c.in_ok-write_all_buffers.ensures.bytes c.put-4.ensures.bytes)))))

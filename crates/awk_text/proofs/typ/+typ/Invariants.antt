@@ -9,8 +9,10 @@ use Rattle.awk_text.proofs.typ.+typ.Given as goal
 -- some types are put, and those from place k on are left
 abbrev pub invariant-write_types-loop-k : goal.invariant-write_types-loop-k
 invariant-write_types-loop-k g l = record {
-  places : PlacesLeft (codes ", ") (g.K.Sink.written l.fn.sink) (g.K.Sink.written l.sink) l.out l.fn.out.held
-      (enclosed l.opening (type_texts (types_from (typs_of l.types))) l.close) (type_at (typs_of l.types)) 0 l.k (length (typs_of l.types)) l.close;
+  places : PlacesLeft (codes ", ") (g.K.Sink.written l.fn.sink)
+      (g.K.Sink.written l.sink) l.out l.fn.out.held
+      (enclosed l.opening (type_texts (types_from (typs_of l.types))) l.close)
+      (type_at (typs_of l.types)) 0 l.k (length (typs_of l.types)) l.close;
   flushes : g.K.Sink.flushes l.sink ≡ g.K.Sink.flushes l.fn.sink;
   later : g.K.Sink.faults l.fn.sink ≤ g.K.Sink.faults l.sink;
 }
@@ -18,8 +20,11 @@ invariant-write_types-loop-k g l = record {
 -- some fields are put, and those from place k on are left
 abbrev pub invariant-write_fields-loop-k : goal.invariant-write_fields-loop-k
 invariant-write_fields-loop-k g l = record {
-  places : PlacesLeft (codes ", ") (g.K.Sink.written l.fn.sink) (g.K.Sink.written l.sink) l.out l.fn.out.held
-      (enclosed (codes "{") (field_type_texts (names_of (fields_of l.fields)) (type_texts (types_of (fields_of l.fields)))) (codes "}"))
+  places : PlacesLeft (codes ", ") (g.K.Sink.written l.fn.sink)
+      (g.K.Sink.written l.sink) l.out l.fn.out.held
+      (enclosed (codes "{")
+      (field_type_texts (names_of (fields_of l.fields))
+      (type_texts (types_of (fields_of l.fields)))) (codes "}"))
       (field_at (fields_of l.fields)) 0 l.k (length (fields_of l.fields)) (codes "}");
   flushes : g.K.Sink.flushes l.sink ≡ g.K.Sink.flushes l.fn.sink;
   later : g.K.Sink.faults l.fn.sink ≤ g.K.Sink.faults l.sink;
