@@ -1,13 +1,14 @@
 -- Types of rows unify to a type of rows.
-use Rattle.std.proofs.Common.{◌≡◌, ◌∙◌, ◌+◌, ◌<◌, ◌∷◌, [], suc, List, Option, Some, None, ap, sym, subst, refl, map, length, arith}
+use Rattle.std.proofs.Common.{◌≡◌, ◌∙◌, ◌+◌, ◌<◌, ◌∷◌, [], suc, Bool, true, false, List, Option, Some, None, ap, sym, subst, refl, map, length, arith}
 use Rattle.std.specs.List.{AllByRecursion}
 use Rattle.std.specs.Option.{option_map}
 use Rattle.awk_types.specs.DataType.{DataType, unknown, leaf, var, reg, rec, tup, opt, uni}
+use Rattle.awk_types.specs.Simple.{option_if}
 use Rattle.awk_layout.specs.Datum.{datum_of}
 use Rattle.awk_layout.specs.Typing.{array_type}
 use Rattle.awk_layout.specs.declared.datum.Datum.{Datum}
 use Rattle.awk_layout.specs.declared.datum.Datum.TheVariants.{Arr, One}
-use Rattle.awk_unify.specs.Unify.{unification, options_or, joins_or_unions}
+use Rattle.awk_unify.specs.Unify.{unification, options_or, joins_or_unions, rules}
 use Rattle.awk_unify.specs.UnifyList.{UnificationList, one_further, unification_list, unification_more}
 use Rattle.awk_unify.proofs.DepthLaws.{unify_rules}
 use Rattle.awk_unify.proofs.SimpleLaws.{equal_is}
@@ -16,20 +17,53 @@ use Rattle.awk_merge.specs.Operands.{IsRowsType}
 use Rattle.awk_merge.specs.declared.operands.Axis.TheVariants.{Rows}
 use Rattle.awk_merge.proofs.OperandLaws.{IsBefore, before_is}
 
+-- ---- the two forms of such a type
+
+record IsOfRows (t : DataType) : Type 0 where
+  optional : Bool
+  item : DataType
+  is : t ≡ option_if optional (var item)
+
+rows_form : (t : DataType) → IsRowsType t → IsOfRows t
+rows_form (var t) h = record { optional = false; item = t; is = refl }
+rows_form (opt (var t)) h = record { optional = true; item = t; is = refl }
+rows_form (opt unknown) h = absurd h
+rows_form (opt (leaf p)) h = absurd h
+rows_form (opt (reg n t)) h = absurd h
+rows_form (opt (rec ns ts)) h = absurd h
+rows_form (opt (tup ts)) h = absurd h
+rows_form (opt (opt t)) h = absurd h
+rows_form (opt (uni ts)) h = absurd h
+rows_form unknown h = absurd h
+rows_form (leaf p) h = absurd h
+rows_form (reg n t) h = absurd h
+rows_form (rec ns ts) h = absurd h
+rows_form (tup ts) h = absurd h
+rows_form (uni ts) h = absurd h
+
 -- ---- two types
+
+by_form : (o p : Bool) (a b : DataType)
+    → IsRowsType (options_or unification (option_if o (var a)) (option_if p (var b))).typ
+by_form false false a b = tt
+by_form true false a b =
+    equal_is (λ t. IsRowsType (opt t)) (var a) (var b) (joins_or_unions unification (var a) (var b))
+    tt tt tt
+by_form false true a b =
+    equal_is (λ t. IsRowsType (opt t)) (var a) (var b) (joins_or_unions unification (var a) (var b))
+    tt tt tt
+by_form true true a b =
+    equal_is (λ t. IsRowsType (opt t)) (var a) (var b) (joins_or_unions unification (var a) (var b))
+    tt tt tt
 
 options_rows : (a b : DataType) → IsRowsType a → IsRowsType b
     → IsRowsType (options_or unification a b).typ
-options_rows (var a) (var b) h k = tt
-options_rows (opt (var a)) (var b) h k =
-    equal_is (λ t. IsRowsType (opt t)) (var a) (var b) (joins_or_unions unification (var a) (var b))
-    tt tt tt
-options_rows (var a) (opt (var b)) h k =
-    equal_is (λ t. IsRowsType (opt t)) (var a) (var b) (joins_or_unions unification (var a) (var b))
-    tt tt tt
-options_rows (opt (var a)) (opt (var b)) h k =
-    equal_is (λ t. IsRowsType (opt t)) (var a) (var b) (joins_or_unions unification (var a) (var b))
-    tt tt tt
+options_rows a b h k =
+    let f = rows_form a h in
+    let g = rows_form b k in
+    subst (λ t. IsRowsType (options_or unification t b).typ) (sym f.is)
+    (subst (λ t. IsRowsType (options_or unification (option_if f.optional (var f.item)) t).typ)
+    (sym g.is) (by_form f.optional g.optional f.item g.item))
 
 rows_unify : (a b : DataType) → IsRowsType a → IsRowsType b → IsRowsType (unification a b).typ
 rows_unify a b h k =
@@ -43,9 +77,17 @@ rows_more : (u : UnificationList) (bs : List DataType) → IsRowsType u.typ
 rows_more u [] h k = h
 rows_more u (b ∷ bs) h k = rows_more (one_further u b) bs (rows_unify u.typ b h k.0) k.1
 
+first_form : (o : Bool) (b : DataType)
+    → IsRowsType (rules unification unknown (option_if o (var b))).typ
+first_form false b = tt
+first_form true b = tt
+
 first_rows : (b : DataType) → IsRowsType b → IsRowsType (unification unknown b).typ
-first_rows (var t) h = subst (λ r. IsRowsType r.typ) (sym (unify_rules unknown (var t))) tt
-first_rows (opt (var t)) h = subst (λ r. IsRowsType r.typ) (sym (unify_rules unknown (opt (var t)))) tt
+first_rows b h =
+    let f = rows_form b h in
+    subst (λ r. IsRowsType r.typ) (sym (unify_rules unknown b))
+    (subst (λ t. IsRowsType (rules unification unknown t).typ) (sym f.is)
+    (first_form f.optional f.item))
 
 rows_list : (ts : List DataType) → 0 < length ts → AllByRecursion IsRowsType ts
     → IsRowsType (unification_list ts).typ

@@ -9,14 +9,14 @@ loop-i-preserved c =
     let n : length (column_in c.get.result.now) ≡ c.len.result =
     length-column c.get.result.now ∙ sym (c.len.ensures.len ∙ ap len c.array_in.ensures) in
     long_next c.args.xs.now c.loop-i.i c.args.n c.get.result.now _ c.get.ensures.item
-    (n ∙ grind (arith, c.if-len-ne-n.false)) c.loop-i.invariant
+    (n ∙ grind (arith, c.if-len-n.false)) c.loop-i.invariant
 
-pub returns-then-len-ne-n : goal.returns-then-len-ne-n
-returns-then-len-ne-n c =
+pub returns-then-len-n : goal.returns-then-len-n
+returns-then-len-n c =
     let n : length (column_in c.get.result.now) ≡ c.len.result =
     length-column c.get.result.now ∙ sym (c.len.ensures.len ∙ ap len c.array_in.ensures) in
     let other : (length (column_in c.get.result.now) == c.args.n) ≡ false =
-    grind (arith, n, c.if-len-ne-n.true) in
+    grind (arith, n, c.if-len-n.true) in
     long_fails c.args.xs.now c.loop-i.i c.args.n c.get.result.now _ c.get.ensures.item other
     c.loop-i.invariant
 

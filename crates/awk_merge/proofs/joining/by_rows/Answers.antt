@@ -17,9 +17,9 @@ returns-in_err-judge_rows g c =
     let rows : row_count (map column_in c.args.xs.now) ≡ c.len-n.result =
     first_rows c.args.xs.now c.get.result.now c.get.ensures.item
     ∙ sym (c.len-n.ensures.len ∙ ap len c.array_in.ensures) in
-    let failed : c.from_residual-in_err-judge_rows.result ≡ Err c.in_err-judge_rows.field-0.0 =
+    let failed : c.from_residual.result ≡ Err c.in_err-judge_rows.field-0.0 =
     grind arith in
-    Gives-Err array_datum fault_told c.from_residual-in_err-judge_rows.result
+    Gives-Err array_datum fault_told c.from_residual.result
     c.in_err-judge_rows.field-0.0 _ failed
     (rows_told_first c.args.xs.now (lifts_of c.args.whole.now.lifts) (typ_of c.args.whole.now.typ)
     c.len-n.result c.requires.carried rows (fault_told c.in_err-judge_rows.field-0.0)
