@@ -21,5 +21,13 @@ pub mod TargetLaws
 pub mod TypeParts
 pub mod UnionLaws
 pub mod UnionSides
-pub mod PartTypeLaws
+pub mod OperandLaws
+pub mod RowTypeLaws
+pub mod RangeLaws
+pub mod ListPlaceLaws
+pub mod StackLaws
+pub mod JoinedRowLaws
+pub mod NullRowLaws
+pub mod AnswerLaws
 mod Worked
+mod WorkedMerging

@@ -1,44 +1,69 @@
--- The definitions on small columns and lifts.
-use Rattle.std.specs.Prelude.{◌≡◌, ◌∷◌, [], List, None, Some, pos, refl, ℤ}
-use Rattle.awk_types.specs.Value.{int}
-use Rattle.awk_lanes.specs.Column.{Column}
-use Rattle.awk_lanes.specs.declared.kind.Kind.TheVariants.{I64}
-use Rattle.awk_layout.specs.Layout.{Layout, empty, flat}
-use Rattle.awk_unify.specs.Carry.{Carry, carry, in_items, keep, no_carries, to_alternatives, to_parts}
-use Rattle.awk_merge.specs.Lifts.{alternative_tag, items_carry, part_carry}
-use Rattle.awk_merge.specs.Lifts.{part_source}
-use Rattle.awk_merge.specs.Sides.{merged_items, with_side}
+-- Worked examples of joined arrays, each checked by computing.
+use Rattle.std.specs.Prelude.{◌≡◌, List, [], ◌∷◌, map, pos, negsuc, ℤ, true, Ok, Err, refl}
+use Rattle.awk_types.specs.declared.primitive.Primitive.TheVariants.{Bool, I64}
+use Rattle.awk_types.specs.DataType.{DataType, unknown, leaf, var, reg, opt, uni, types_from}
+use Rattle.awk_types.specs.Value.{Value, int, truth, null, list, alt, values_from}
+use Rattle.awk_types.specs.Datum.{Datum, arr, one}
+use Rattle.awk_types.specs.declared.fault.Fault.TheVariants.{Axis, Lengths}
+use Rattle.awk_merge.specs.Concatenate.{concatenate_of}
 
-abbrev numbers : List ℤ → Layout
-numbers zs = flat (record { kind = I64; items = zs })
+abbrev int64 : DataType
+int64 = leaf I64
 
--- the items of columns one after another; a column without items is left out
-one_after_another : merged_items (with_side (with_side [] (numbers (pos 1 ∷ pos 2 ∷ [])) keep) (numbers (pos 3 ∷ [])) keep)
-    ≡ int (pos 1) ∷ int (pos 2) ∷ int (pos 3) ∷ []
+abbrev list_value : List Value → Value
+list_value vs = list (values_from vs)
+
+abbrev ints : List ℤ → Value
+ints zs = list_value (map (λ z. int z) zs)
+
+-- [[1,2,3],[],[4,5]]
+abbrev jagged : Datum
+jagged = arr (var int64) (ints (pos 1 ∷ pos 2 ∷ pos 3 ∷ []) ∷ ints [] ∷ ints (pos 4 ∷ pos 5 ∷ []) ∷ [])
+
+-- [[1,null],null,[3]]
+abbrev holes : Datum
+holes =
+    arr (opt (var (opt int64)))
+    (list_value (int (pos 1) ∷ null ∷ []) ∷ null ∷ ints (pos 3 ∷ []) ∷ [])
+
+one_after_another : concatenate_of (pos 0) (jagged ∷ holes ∷ []) ≡ Ok (arr (opt (var (opt int64)))
+    (ints (pos 1 ∷ pos 2 ∷ pos 3 ∷ []) ∷ ints [] ∷ ints (pos 4 ∷ pos 5 ∷ [])
+    ∷ list_value (int (pos 1) ∷ null ∷ []) ∷ null ∷ ints (pos 3 ∷ []) ∷ []))
 one_after_another = refl
 
-left_out : with_side [] empty keep ≡ []
-left_out = refl
+row_by_row : concatenate_of (pos 1) (jagged ∷ jagged ∷ []) ≡ Ok (arr (var int64)
+    (ints (pos 1 ∷ pos 2 ∷ pos 3 ∷ pos 1 ∷ pos 2 ∷ pos 3 ∷ []) ∷ ints []
+    ∷ ints (pos 4 ∷ pos 5 ∷ pos 4 ∷ pos 5 ∷ []) ∷ []))
+row_by_row = refl
 
--- the parts of rows change places, and a part that none goes to has no source
-abbrev swapped : Carry
-swapped = to_parts (1 ∷ 0 ∷ []) (carry keep (carry (in_items keep) no_carries))
+-- a row that is null in an operand is null
+null_row : concatenate_of (pos 1) (jagged ∷ holes ∷ []) ≡ Ok (arr (opt (var (opt int64)))
+    (list_value (int (pos 1) ∷ int (pos 2) ∷ int (pos 3) ∷ int (pos 1) ∷ null ∷ []) ∷ null
+    ∷ ints (pos 4 ∷ pos 5 ∷ pos 3 ∷ []) ∷ []))
+null_row = refl
 
-source : part_source swapped 0 ≡ Some 1
-source = refl
+-- whole numbers and truth values do not join: each gets its tag
+apart : concatenate_of (pos 0) (arr int64 (int (pos 7) ∷ []) ∷ arr (leaf Bool) (truth true ∷ []) ∷ [])
+    ≡ Ok (arr (uni (types_from (int64 ∷ leaf Bool ∷ []))) (alt 0 (int (pos 7)) ∷ alt 1 (truth true) ∷ []))
+apart = refl
 
-no_source : part_source swapped 2 ≡ None
-no_source = refl
+-- unknown counts as lists, here as the only operand
+nothing_joined : concatenate_of (pos 1) (arr unknown [] ∷ []) ≡ Ok (arr (var unknown) [])
+nothing_joined = refl
 
-part : part_carry swapped 1 ≡ in_items keep
-part = refl
+other_axis : concatenate_of (pos 2) (jagged ∷ []) ≡ Err Axis
+other_axis = refl
 
--- an alternative gets another tag
-tag : alternative_tag (to_alternatives (2 ∷ 0 ∷ []) (carry keep (carry keep no_carries))) 0 ≡ 2
-tag = refl
+negative_axis : concatenate_of (negsuc 0) (jagged ∷ []) ≡ Err Axis
+negative_axis = refl
 
-same_tag : alternative_tag keep 1 ≡ 1
-same_tag = refl
+single_value : concatenate_of (pos 0) (jagged ∷ one int64 (int (pos 1)) ∷ []) ≡ Err Axis
+single_value = refl
 
-of_items : items_carry (in_items swapped) ≡ swapped
-of_items = refl
+-- items of an operand are no lists, though the lengths differ too
+no_lists : concatenate_of (pos 1) (jagged ∷ arr int64 (int (pos 1) ∷ []) ∷ []) ≡ Err Axis
+no_lists = refl
+
+other_lengths : concatenate_of (pos 1) (jagged ∷ arr (reg 1 int64) (ints (pos 1 ∷ []) ∷ []) ∷ [])
+    ≡ Err Lengths
+other_lengths = refl

@@ -7,4 +7,5 @@ pub mod Levels
 pub mod Parts
 pub mod Tagged
 pub mod Lists
-pub mod PartTypes
+pub mod Concatenate
+pub mod Operands

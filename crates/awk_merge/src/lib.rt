@@ -3,15 +3,21 @@
 
 mod carry;
 mod groups;
+mod joining;
+mod joining_arrays;
+mod joining_rows;
 mod lists;
 mod merging;
 mod nodes;
 mod numbers;
+mod operands;
 mod options;
 mod parts;
 mod rows;
 mod sides;
 mod unions;
 
+pub use joining::concatenate;
 pub use merging::merge;
+pub use operands::Axis;
 pub use sides::{Side, Sides};

@@ -12,6 +12,7 @@ use Rattle.awk_types.specs.Gives.{refused_or, ◌or◌}
 use Rattle.awk_types.specs.Limit.{limit}
 use Rattle.awk_types.specs.Settle.{settle}
 use Rattle.awk_types.specs.Simple.{is_option, present, simple}
+use Rattle.awk_types.specs.WholeNumbers.{is_numbers}
 use Rattle.awk_types.specs.ItemLimit.{too_many}
 use Rattle.awk_types.specs.declared.fault.Fault.{Fault}
 use Rattle.awk_types.specs.declared.fault.Fault.TheVariants.{WrongType, Lengths, Index}

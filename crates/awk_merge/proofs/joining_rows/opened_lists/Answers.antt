@@ -1,0 +1,5 @@
+use Rattle.awk_axis.specs.Opened.{OpensLists}
+use Rattle.awk_merge.proofs.joining_rows.opened_lists.Goals as goal
+
+pub returns : goal.returns
+returns g c = (c.in-Items.class, rw c.in-Items.is at c.in_ok-starts.ensures)
