@@ -1,6 +1,6 @@
 -- Values carried into a union: the tag that each gets, and how the value of its alternative is
 -- carried.
-use Rattle.std.proofs.Common.{◌≡◌, ◌<◌, ◌∷◌, [], ℕ, suc, zero, List, Bool, true, false, length, slice_get, Some, refl, ap, sym, subst, ◌∙◌, arith}
+use Rattle.std.proofs.Common.{◌≡◌, ◌<◌, ◌∷◌, [], ℕ, suc, zero, List, Bool, true, false, length, slice_get, Some, refl, ap, subst, arith}
 use Rattle.awk_types.proofs.SimpleLaws.{null_in_option}
 use Rattle.awk_types.specs.DataType.{DataType, unknown, leaf, var, reg, rec, tup, opt, uni, types_from}
 use Rattle.awk_types.specs.Has.{Has, HasAlternative}

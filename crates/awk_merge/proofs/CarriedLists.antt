@@ -1,5 +1,5 @@
 -- Lists that are carried: only a list becomes a list, and its items are carried each by itself.
-use Rattle.std.specs.Prelude.{◌≡◌, ◌+◌, ◌<◌, ℕ, zero, suc, Bool, true, false, List, [], ◌∷◌, length, map, Some, None, refl}
+use Rattle.std.specs.Prelude.{◌≡◌, ◌+◌, ◌<◌, ℕ, zero, suc, false, ◌∷◌, length, map, Some, None, refl}
 use Rattle.std.proofs.Common.{arith, ap, sym, subst, ◌∙◌}
 use Rattle.std.proofs.lemmas.List.{map-id}
 use Rattle.std.specs.List.{AllByRecursion}
@@ -13,7 +13,6 @@ use Rattle.awk_layout.specs.Layout.{Layout}
 use Rattle.awk_layout.specs.Typing.{array_type, array_items}
 use Rattle.awk_layout.specs.Valid.{len}
 use Rattle.awk_gather.specs.Arrays.{array_item}
-use Rattle.awk_gather.specs.Columns.{list_items}
 use Rattle.awk_axis.specs.ListFunction.{Class, list_type}
 use Rattle.awk_axis.proofs.ArrayLaws.{run_map}
 use Rattle.awk_unify.specs.Carry.{Carry, keep, in_items, to_parts, to_alternatives, carried}

@@ -1,14 +1,11 @@
 -- What carries keep: nulls, shapes of values, and the values of parts of types.
-use Rattle.std.proofs.Common.{◌≡◌, ◌≢◌, ◌<◌, ◌∷◌, [], ℕ, suc, zero, List, Bool, true, false, length, map, refl, subst, sym, ap, ◌∙◌, arith}
-use Rattle.std.specs.List.{AllByRecursion}
+use Rattle.std.proofs.Common.{◌≡◌, ◌≢◌, ◌∷◌, [], ℕ, true, false, refl, subst, sym, ◌∙◌}
 use Rattle.awk_types.proofs.SimpleLaws.{has_option, null_in_option}
-use Rattle.awk_types.proofs.Trees.{value_list-from}
 use Rattle.awk_types.specs.DataType.{DataType, leaf, opt, rec, reg, tup, uni, unknown, var}
 use Rattle.awk_types.specs.Has.{Has}
 use Rattle.awk_types.specs.Simple.{is_option}
-use Rattle.awk_types.specs.Value.{Value, alt, int, list, null, row, truth, value_list, values_from}
+use Rattle.awk_types.specs.Value.{Value, alt, int, list, null, row, truth, values_from}
 use Rattle.awk_types.specs.declared.primitive.Primitive.{Primitive}
-use Rattle.awk_types.specs.declared.primitive.Primitive.TheVariants.{Bool as Truths}
 use Rattle.awk_unify.proofs.AfterLaws.{carry_null}
 use Rattle.awk_unify.specs.Carry.{Carry, carried, in_items, keep, to_alternatives, to_parts}
 use Rattle.awk_merge.specs.Lifts.{items_carry}

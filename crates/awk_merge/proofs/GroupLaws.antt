@@ -8,7 +8,7 @@ use Rattle.awk_layout.specs.Layout.{Layout}
 use Rattle.awk_layout.specs.Typing.{array_type}
 use Rattle.awk_layout.specs.Valid.{len}
 use Rattle.awk_unify.specs.Carry.{Carry}
-use Rattle.awk_merge.proofs.SideLaws.{all-get, AreSides-with_side}
+use Rattle.awk_merge.proofs.SideLaws.{AreSides-with_side}
 use Rattle.awk_merge.specs.Levels.{AreGroups, AreMerged, with_side_at}
 use Rattle.awk_merge.specs.Sides.{Side, sides_of, with_side, Carries, AreSides, IsCounted, IsMerged}
 use Rattle.awk_merge.specs.declared.sides.Sides.{Sides}

@@ -1,5 +1,5 @@
 -- How lifts act on parts, by their variants, and the search for a part.
-use Rattle.std.proofs.Common.{◌≡◌, ◌≢◌, ◌==◌, ◌+◌, ◌<◌, ◌≤◌, ◌∷◌, [], ℕ, suc, zero, List, Bool, true, false, Option, Some, None, drop, length, slice_get, if◌then◌else◌, option_map, refl, ap, ap₂, sym, ◌∙◌, arith, ◌⊎◌, inl, inr}
+use Rattle.std.proofs.Common.{◌≡◌, ◌≢◌, ◌==◌, ◌+◌, ◌<◌, ◌≤◌, ◌∷◌, [], ℕ, suc, List, true, false, Option, Some, None, drop, length, slice_get, if◌then◌else◌, option_map, refl, ap, ap₂, sym, ◌∙◌, arith, ◌⊎◌, inl, inr}
 use Rattle.std.proofs.lemmas.List.{drop_all, drop_more}
 use Rattle.awk_types.proofs.ListLaws.{drop-get}
 use Rattle.awk_unify.proofs.Views.{lift_of-Alternatives, lift_of-Parts}

@@ -1,9 +1,9 @@
 -- Columns merged: one alone, none, and rows by their type.
-use Rattle.std.proofs.Common.{◌≡◌, ◌+◌, ◌<◌, ◌≤◌, ◌∷◌, ◌++◌, [], ℕ, suc, zero, List, Option, Some, None, length, map, get_or, slice_get, refl, ap, sym, subst, ◌∙◌, arith}
+use Rattle.std.proofs.Common.{◌≡◌, ◌∷◌, [], ℕ, List, Option, Some, None, length, map, slice_get, refl, ap, sym, subst, ◌∙◌, arith}
 use Rattle.std.proofs.lemmas.List.{append-nil}
 use Rattle.std.specs.List.{AllByRecursion}
 use Rattle.awk_types.proofs.Trees.{type_list-from, types_from-list}
-use Rattle.awk_types.specs.DataType.{DataType, Name, leaf, opt, rec, reg, row_type, tup, type_list, types_from, uni, unknown, var}
+use Rattle.awk_types.specs.DataType.{DataType, Name, leaf, opt, rec, reg, row_type, tup, types_from, uni, unknown, var}
 use Rattle.awk_types.specs.Has.{Has}
 use Rattle.awk_types.specs.Simple.{simple_value}
 use Rattle.awk_types.specs.Value.{Value}
@@ -11,8 +11,8 @@ use Rattle.awk_layout.specs.Array.{IsArrayType}
 use Rattle.awk_layout.specs.Item.{item}
 use Rattle.awk_layout.specs.Layout.{Layout, count, empty, layouts_from, rows, union}
 use Rattle.awk_layout.specs.Typing.{array_items, array_type, layout_type}
-use Rattle.awk_layout.specs.Valid.{AllReach, AreNames, IsUnion, len}
-use Rattle.awk_unify.specs.Carry.{Carry, carried, keep}
+use Rattle.awk_layout.specs.Valid.{AllReach, AreNames, IsUnion}
+use Rattle.awk_unify.specs.Carry.{carried, keep}
 use Rattle.awk_merge.proofs.RowLaws.{merged_count, row_merged, row_reach}
 use Rattle.awk_merge.proofs.SideLaws.{IsSide-get, item_has}
 use Rattle.awk_merge.proofs.TypeParts.{alternatives_lawful, names_lawful, row_lawful}

@@ -1,15 +1,15 @@
 -- What an opened column of lists holds, as it lies and joined.
-use Rattle.std.specs.Prelude.{◌≡◌, ◌+◌, ◌-◌, ◌*◌, ◌<◌, ◌≤◌, ◌++◌, ℕ, zero, suc, List, length, map, Option, None, Some, pos, refl}
+use Rattle.std.specs.Prelude.{◌≡◌, ◌+◌, ◌-◌, ◌*◌, ◌<◌, ◌≤◌, ◌++◌, ℕ, zero, suc, List, length, Option, None, Some, pos, refl}
 use Rattle.std.specs.List.{flat_map, range_with_len}
 use Rattle.std.proofs.Common.{arith, ap, sym, subst, ◌∙◌, get_or-take, get_or-drop, length-take, length-drop, drop}
 use Rattle.std.proofs.lemmas.List.{length-append}
-use Rattle.awk_types.specs.DataType.{DataType, DataTypes, Name, types_from, row_type}
+use Rattle.awk_types.specs.DataType.{DataTypes, Name, row_type}
 use Rattle.awk_types.specs.ItemLimit.{item_limit}
 use Rattle.awk_types.specs.Value.{Value, list}
 use Rattle.awk_lanes.specs.Column.{Column}
 use Rattle.awk_lanes.specs.Cut.{cut_of}
-use Rattle.awk_lanes.specs.Numbers.{element, nat_of}
-use Rattle.awk_lanes.specs.Places.{size_of, at, place_at, AreSpans, IsOffsets}
+use Rattle.awk_lanes.specs.Numbers.{element}
+use Rattle.awk_lanes.specs.Places.{size_of, at, place_at}
 use Rattle.awk_layout.specs.Item.{run}
 use Rattle.awk_layout.specs.Layout.{Layout}
 use Rattle.awk_layout.specs.Typing.{array_type}
@@ -19,8 +19,8 @@ use Rattle.awk_gather.specs.Arrays.{array_item}
 use Rattle.awk_gather.specs.Columns.{list_items}
 use Rattle.awk_axis.specs.Joined.{JoinsLists, total}
 use Rattle.awk_axis.specs.ListFunction.{Class, list_type}
-use Rattle.awk_axis.specs.Opened.{OpensLists, OpensOption, OpensRow, OpensUnion, OpensLeaf}
-use Rattle.awk_axis.specs.Opened.{OpensNothing, IsOpened, AreOfClass, items_at}
+use Rattle.awk_axis.specs.Opened.{OpensLists}
+use Rattle.awk_axis.specs.Opened.{IsOpened, AreOfClass, items_at}
 use Rattle.awk_axis.specs.declared.opening.Opened.{Opened}
 use Rattle.awk_axis.specs.declared.opening.Opened.TheVariants as opened
 use Rattle.awk_axis.proofs.LiftLaws.{joined_even}

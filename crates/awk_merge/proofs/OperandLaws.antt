@@ -1,21 +1,19 @@
 -- Operands that are joined: their types, their columns and how these are carried.
-use Rattle.std.proofs.Common.{◌≡◌, ◌∙◌, ◌+◌, ◌<◌, ◌≤◌, ◌∷◌, ◌++◌, [], ℕ, suc, List, Option, Some, None, ap, sym, subst, refl, map, drop, length, slice_get, append_assoc, arith}
+use Rattle.std.proofs.Common.{◌≡◌, ◌∙◌, ◌+◌, ◌≤◌, ◌∷◌, ◌++◌, [], ℕ, suc, List, Option, Some, None, ap, sym, subst, refl, map, drop, length, slice_get, append_assoc}
 use Rattle.std.specs.Option.{option_map, IfSome}
 use Rattle.std.proofs.lemmas.List.{append-nil, drop_all}
 use Rattle.awk_types.proofs.ListLaws.{drop-get}
 use Rattle.awk_types.proofs.TypeLaws.{types_append}
 use Rattle.awk_types.specs.DataType.{DataType, unknown, leaf, var, reg, rec, tup, opt, uni, types_from}
-use Rattle.awk_types.specs.Datum as shown
 use Rattle.awk_types.specs.Has.{Has}
-use Rattle.awk_types.specs.IsType.{IsType, AreTypes}
+use Rattle.awk_types.specs.IsType.{IsType}
 use Rattle.awk_types.specs.Simple.{IsSimple, AreSimple}
 use Rattle.awk_types.specs.Value.{Value, int, truth, null, list, row, alt}
 use Rattle.awk_layout.specs.Datum.{datum_of}
-use Rattle.awk_layout.specs.Layout.{Layout}
-use Rattle.awk_layout.specs.Typing.{array_type, array_items}
+use Rattle.awk_layout.specs.Typing.{array_type}
 use Rattle.awk_layout.specs.declared.datum.Datum.{Datum}
 use Rattle.awk_layout.specs.declared.datum.Datum.TheVariants.{Arr, One}
-use Rattle.awk_unify.specs.Carry.{Carry, carried}
+use Rattle.awk_unify.specs.Carry.{Carry}
 use Rattle.awk_unify.specs.Unifies.{IsCarriedInto}
 use Rattle.awk_unify.specs.UnifyList.{AreCarriedInto}
 use Rattle.awk_merge.specs.Concatenate.{lists_type, rows_type, operand_type, operand_types, type_before, operand_items}

@@ -1,12 +1,12 @@
 -- The types of parts and alternatives, as they are read.
-use Rattle.std.proofs.Common.{◌≡◌, ◌<◌, ℕ, List, Some, length, map, slice_get, ap, sym, subst, ◌∙◌, arith}
+use Rattle.std.proofs.Common.{◌≡◌, ◌<◌, ℕ, Some, length, map, slice_get, ap, sym, subst, ◌∙◌, arith}
 use Rattle.std.proofs.lemmas.List.{length-map}
 use Rattle.std.proofs.lemmas.Option.{slice_get-map}
 use Rattle.std.specs.Prelude.{option_map}
 use Rattle.awk_types.proofs.Trees.{type_list-from}
 use Rattle.awk_types.proofs.Views.{typ_of-Rec, typ_of-Tup, typ_of-Uni}
 use Rattle.awk_types.specs.DataType.{DataType}
-use Rattle.awk_types.specs.View.{NamedType, field_of, fields_of, typ_of, typs_of}
+use Rattle.awk_types.specs.View.{field_of, fields_of, typ_of, typs_of}
 use Rattle.awk_types.specs.declared.typ.Field.{Field}
 use Rattle.awk_types.specs.declared.typ.Fields.{Fields}
 use Rattle.awk_types.specs.declared.typ.Typ.{Rec, Tup, Typ, Uni}

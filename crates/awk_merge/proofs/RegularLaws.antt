@@ -1,5 +1,5 @@
 -- Lists of one length merged: their items one after another, and the column of them.
-use Rattle.std.specs.Prelude.{◌≡◌, ◌+◌, ◌-◌, ◌*◌, ◌<◌, ◌≤◌, ◌^◌, ◌++◌, ◌∷◌, [], ℕ, zero, suc, List, length, map, take, get_or, slice_get, None, Some, refl}
+use Rattle.std.specs.Prelude.{◌≡◌, ◌+◌, ◌-◌, ◌*◌, ◌<◌, ◌≤◌, ◌++◌, [], ℕ, List, length, map, take, get_or, slice_get, Some}
 use Rattle.std.specs.List.{AllByRecursion}
 use Rattle.std.proofs.Common.{arith, ap, sym, subst, ◌∙◌}
 use Rattle.std.proofs.lemmas.List.{ext_get_or, length-append, length-map, get_or_append_left}
@@ -16,7 +16,6 @@ use Rattle.awk_layout.specs.Valid.{len}
 use Rattle.awk_layout.proofs.ArrayItems.{length-array_items, get_or-array_items}
 use Rattle.awk_gather.specs.Arrays.{array_item}
 use Rattle.awk_gather.specs.Columns.{list_items}
-use Rattle.awk_axis.specs.ListFunction.{Class, list_type}
 use Rattle.awk_axis.proofs.ArrayLaws.{run_in_list}
 use Rattle.awk_unify.specs.Carry.{Carry, carried}
 use Rattle.awk_merge.specs.Levels.{cut, IsRegularLevel}

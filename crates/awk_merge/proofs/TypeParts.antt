@@ -1,14 +1,13 @@
 -- The parts of a type that arrays have are such types.
-use Rattle.std.proofs.Common.{◌≡◌, ◌≤◌, ◌∷◌, [], ℕ, suc, zero, List, Bool, true, false, length, slice_get, refl, sym, subst}
-use Rattle.std.specs.List.{AllByRecursion}
+use Rattle.std.proofs.Common.{◌≡◌, ◌≤◌, ◌∷◌, [], ℕ, suc, List, false, length, slice_get, refl, subst}
 use Rattle.std.specs.Prelude.{None, Option, Some}
 use Rattle.awk_types.proofs.SimpleLaws.{plain_are_simple}
 use Rattle.awk_types.proofs.Trees.{type_list-from}
-use Rattle.awk_types.specs.DataType.{DataType, Name, opt, rec, reg, row_type, tup, types_from, uni, var}
-use Rattle.awk_types.specs.IsType.{AreTypes, IsType}
+use Rattle.awk_types.specs.DataType.{DataType, Name, opt, rec, reg, row_type, types_from, uni, var}
+use Rattle.awk_types.specs.IsType.{AreTypes}
 use Rattle.awk_types.specs.Limit.{limit}
 use Rattle.awk_types.specs.Names.{AreDistinct}
-use Rattle.awk_types.specs.Simple.{ArePlain, AreSimple, IsSimple, is_option}
+use Rattle.awk_types.specs.Simple.{ArePlain, AreSimple, is_option}
 use Rattle.awk_layout.specs.Array.{IsArrayType}
 use Rattle.awk_gather.proofs.PartLimits.{few_alternatives, within_opt, within_reg, within_row, within_uni, within_var}
 use Rattle.awk_merge.specs.Levels.{AreArrayTypes}

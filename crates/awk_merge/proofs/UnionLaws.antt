@@ -1,25 +1,24 @@
 -- A union of the columns that the alternatives become.
-use Rattle.std.proofs.Common.{◌≡◌, ◌+◌, ◌<◌, ◌≤◌, ◌∷◌, [], ℕ, suc, zero, List, length, map, get_or, refl, ap, sym, subst, ◌∙◌, arith}
+use Rattle.std.proofs.Common.{◌≡◌, ◌<◌, ◌∷◌, [], ℕ, suc, zero, List, length, get_or, refl, ap, sym, subst, ◌∙◌, arith}
 use Rattle.std.proofs.lemmas.List.{ext_get_or}
 use Rattle.std.specs.List.{AllByRecursion}
 use Rattle.awk_types.proofs.SimpleLaws.{present_alternatives_stay, union_of_stays}
 use Rattle.awk_types.proofs.Trees.{type_list-from}
-use Rattle.awk_types.specs.DataType.{DataType, uni, type_list, types_from}
+use Rattle.awk_types.specs.DataType.{DataType, uni, types_from}
 use Rattle.awk_types.specs.Has.{Has, HasAlternative}
 use Rattle.awk_types.specs.Simple.{ArePlain, simples, simple_values, union_of, value_after, value_by}
 use Rattle.awk_types.specs.Simple.{alternatives_before}
 use Rattle.awk_types.specs.Value.{Value, int, truth, null, list, row, alt}
 use Rattle.awk_lanes.specs.Places.{size_of, place_at, IsIndexKind}
-use Rattle.awk_lanes.specs.declared.kind.Kind.TheVariants.{I64}
 use Rattle.awk_layout.proofs.ArrayItems.{length-array_items, get_or-array_items}
 use Rattle.awk_layout.specs.Array.{IsArrayType}
 use Rattle.awk_layout.specs.Item.{item_of}
 use Rattle.awk_layout.specs.Layout.{Layout, layouts_from, count, union}
-use Rattle.awk_layout.specs.Typing.{layout_types, array_items, array_type}
+use Rattle.awk_layout.specs.Typing.{layout_types, array_items}
 use Rattle.awk_layout.specs.Valid.{len_of, IsUnion}
 use Rattle.awk_merge.proofs.AlternativeLaws.{IsSingle, alternative-single}
 use Rattle.awk_merge.proofs.GroupLaws.{length-merged, length-groups}
-use Rattle.awk_merge.specs.Levels.{groups_of, item_in, AreGroups, AreMerged, IsUnionLevel}
+use Rattle.awk_merge.specs.Levels.{groups_of, item_in, AreMerged, IsUnionLevel}
 use Rattle.awk_merge.specs.Sides.{Side, merged_items, IsMerged}
 use Rattle.awk_merge.specs.declared.unions.UnionLevel.{UnionLevel}
 

@@ -1,21 +1,19 @@
 -- One column more of those that become a union: its alternatives in their groups, and its items by
 -- their tags and places.
-use Rattle.std.proofs.Common.{◌≡◌, ◌+◌, ◌<◌, ◌≤◌, ◌^◌, ◌∷◌, ◌++◌, [], ℕ, suc, zero, List, Bool, false, length, map, take, get_or, slice_get, Some, replicate, refl, ap, sym, subst, ◌∙◌, arith}
-use Rattle.std.specs.Prelude.{ℤ, pos, None}
+use Rattle.std.proofs.Common.{◌≡◌, ◌+◌, ◌<◌, ◌≤◌, ◌^◌, ◌∷◌, ◌++◌, [], ℕ, suc, zero, List, false, length, map, take, get_or, slice_get, Some, replicate, refl, ap, sym, subst, ◌∙◌, arith}
+use Rattle.std.specs.Prelude.{pos}
 use Rattle.std.proofs.lemmas.Int.{ints}
-use Rattle.std.proofs.lemmas.List.{length-map}
 use Rattle.std.proofs.lemmas.Option.{slice_get-get_or, slice_get-map}
 use Rattle.std.specs.List.{AllByRecursion, range_with_len}
 use Rattle.std.specs.Option.{option_map}
 use Rattle.awk_types.specs.DataType.{DataType, uni, types_from}
-use Rattle.awk_types.specs.Has.{Has, HasAlternative}
+use Rattle.awk_types.specs.Has.{Has}
 use Rattle.awk_types.specs.Simple.{is_union, simple_value}
 use Rattle.awk_types.specs.Value.{Value, null, alt}
 use Rattle.awk_lanes.specs.Column.{Column}
 use Rattle.awk_lanes.specs.Making.{Making}
 use Rattle.awk_lanes.specs.Numbers.{element}
 use Rattle.awk_lanes.specs.Places.{size_of, at, place_at}
-use Rattle.awk_lanes.specs.declared.kind.Kind.{Kind}
 use Rattle.awk_lanes.specs.declared.kind.Kind.TheVariants.{I8, I64}
 use Rattle.awk_layout.specs.Array.{IsArrayType}
 use Rattle.awk_layout.specs.Item.{item}

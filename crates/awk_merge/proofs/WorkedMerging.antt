@@ -1,7 +1,6 @@
 -- The definitions on small columns and lifts.
 use Rattle.std.specs.Prelude.{◌≡◌, ◌∷◌, [], List, None, Some, pos, refl, ℤ}
 use Rattle.awk_types.specs.Value.{int}
-use Rattle.awk_lanes.specs.Column.{Column}
 use Rattle.awk_lanes.specs.declared.kind.Kind.TheVariants.{I64}
 use Rattle.awk_layout.specs.Layout.{Layout, empty, flat}
 use Rattle.awk_unify.specs.Carry.{Carry, carry, in_items, keep, no_carries, to_alternatives, to_parts}

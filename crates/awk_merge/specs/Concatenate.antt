@@ -1,5 +1,5 @@
 -- Arrays joined one after another, or list by list within their rows.
-use Rattle.std.specs.Prelude.{◌==◌, ◌&&◌, ◌∷◌, [], ℕ, ℤ, pos, negsuc, Bool, not, if◌then◌else◌}
+use Rattle.std.specs.Prelude.{◌==◌, ◌∷◌, [], ℕ, ℤ, pos, negsuc, Bool, if◌then◌else◌}
 use Rattle.std.specs.Prelude.{List, length, map, get_or, Option, Some, None, option_map}
 use Rattle.std.specs.Prelude.{Result, Err}
 use Rattle.std.specs.List.{flat_map, list_all, range_with_len}

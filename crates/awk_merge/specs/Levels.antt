@@ -1,11 +1,10 @@
 -- One level of columns that are merged: lanes into all items, and the columns of what is below.
-use Rattle.std.specs.Prelude.{Option, Some, None, ◌≡◌, false, ◌+◌, ◌-◌, ◌*◌, ◌<◌, ◌^◌, ◌∷◌, [], ℕ, zero, suc, List, get_or, length, map, pos, ◌≤ℤ◌}
-use Rattle.std.specs.List.{AllByRecursion, range_with_len}
+use Rattle.std.specs.Prelude.{Option, Some, None, ◌≡◌, false, ◌-◌, ◌*◌, ◌<◌, ◌^◌, ◌∷◌, [], ℕ, zero, suc, List, get_or, length, map, pos, ◌≤ℤ◌}
+use Rattle.std.specs.List.{AllByRecursion}
 use Rattle.awk_types.specs.DataType.{DataType, Name, rec, reg, tup, opt, uni, type_list, types_from, var}
 use Rattle.awk_types.specs.Has.{Has}
 use Rattle.awk_types.specs.Simple.{is_option}
 use Rattle.awk_types.specs.Value.{Value, null, list, row, alt, values_from}
-use Rattle.awk_lanes.specs.Column.{Column}
 use Rattle.awk_lanes.specs.Places.{size_of, at, place_at, AreSpans, IsOptionalIndex}
 use Rattle.awk_lanes.specs.declared.kind.Kind.TheVariants.{I8, I64}
 use Rattle.awk_layout.specs.Array.{IsArrayType}

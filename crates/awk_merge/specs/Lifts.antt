@@ -1,6 +1,5 @@
 -- How the parts of a value are carried where it is.
-use Rattle.std.specs.Prelude.{◌&&◌, ◌==◌, ◌∷◌, [], ℕ, List, Option, Some, None, option_map, suc, zero, if◌then◌else◌, nat_lt, length}
-use Rattle.awk_types.specs.DataType.{DataType}
+use Rattle.std.specs.Prelude.{◌==◌, ◌∷◌, ℕ, List, Option, Some, None, option_map, suc, if◌then◌else◌}
 use Rattle.awk_unify.specs.Carry.{Carry, keep, in_items, to_parts, to_alternatives, carry_list, tag_at}
 use Rattle.awk_unify.specs.Carries.{carry_at}
 

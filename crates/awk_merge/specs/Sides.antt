@@ -1,5 +1,5 @@
 -- Columns whose values become values of one type, and their items one after another.
-use Rattle.std.specs.Prelude.{◌≡◌, ◌==◌, ◌++◌, ◌∷◌, [], ℕ, ◌<◌, ◌^◌, List, length, map, if◌then◌else◌}
+use Rattle.std.specs.Prelude.{◌≡◌, ◌==◌, ◌++◌, ◌∷◌, [], ◌<◌, ◌^◌, List, length, map, if◌then◌else◌}
 use Rattle.std.specs.List.{AllByRecursion, flat_map}
 use Rattle.awk_types.specs.DataType.{DataType}
 use Rattle.awk_types.specs.Has.{Has}

@@ -1,4 +1,4 @@
-use Rattle.std.proofs.Common.{◌≡◌, sym, ◌∙◌}
+use Rattle.std.proofs.Common.{sym, ◌∙◌}
 use Rattle.std.proofs.lemmas.Result.{IfOk-weaker}
 use Rattle.awk_merge.specs.Sides.{side_of, sides_of}
 use Rattle.awk_merge.proofs.NumberLaws.{only_side}

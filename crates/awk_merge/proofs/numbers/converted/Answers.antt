@@ -1,4 +1,4 @@
-use Rattle.std.proofs.Common.{◌≡◌, arith, subst, sym, ◌∙◌}
+use Rattle.std.proofs.Common.{◌≡◌, arith, subst}
 use Rattle.awk_layout.specs.Kinds.{primitive_of}
 use Rattle.awk_merge.proofs.NumberLaws.{AreConverted, read_of, converted_size, converted_step, converted_all}
 use Rattle.awk_merge.proofs.numbers.converted.Goals as goal

@@ -1,4 +1,4 @@
-use Rattle.std.proofs.Common.{◌≡◌, ◌+◌, take, subst, sym, ◌∙◌}
+use Rattle.std.proofs.Common.{◌+◌, take, subst, sym}
 use Rattle.awk_merge.specs.Sides.{side_of, sides_of, merged_items}
 use Rattle.awk_merge.proofs.NumberLaws.{AreBytesOf, bytes_next}
 use Rattle.awk_merge.proofs.numbers.joined.Goals as goal

@@ -1,4 +1,4 @@
-use Rattle.std.proofs.Common.{◌≡◌, ◌+◌, ◌<◌, arith, ap, ◌∙◌}
+use Rattle.std.proofs.Common.{◌+◌, ◌<◌, arith, ap, ◌∙◌}
 use Rattle.std.specs.Prelude.{◌^◌}
 use Rattle.awk_layout.specs.Valid.{len}
 use Rattle.awk_unify.specs.View.{lift_of}

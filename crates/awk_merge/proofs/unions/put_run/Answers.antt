@@ -1,4 +1,4 @@
-use Rattle.std.proofs.Common.{◌+◌, refl, arith}
+use Rattle.std.proofs.Common.{refl, arith}
 use Rattle.awk_merge.proofs.TaggedLaws.{numbers-next, ready-next}
 use Rattle.awk_merge.proofs.unions.put_run.Goals as goal
 

@@ -1,4 +1,4 @@
-use Rattle.std.proofs.Common.{◌≡◌, [], List, map, replicate}
+use Rattle.std.proofs.Common.{◌≡◌, [], map, replicate}
 use Rattle.std.specs.List.{AllByRecursion}
 use Rattle.awk_merge.specs.Sides.{sides_of, IsCounted}
 use Rattle.awk_merge.proofs.groups.Groups.new.Given as goal
