@@ -7,4 +7,14 @@ pub mod SingleLaws
 pub mod DropLaws
 pub mod PadLaws
 pub mod PadGiven
+pub mod MaskTypes
+pub mod MaskLists
+pub mod MaskPairs
+pub mod MaskLeaves
+pub mod MaskNulls
+pub mod MaskNullLists
+pub mod MaskOptions
+pub mod MaskPresent
+pub mod MaskJoined
+pub mod MaskColumns
 mod Worked
