@@ -17,4 +17,11 @@ pub mod MaskOptions
 pub mod MaskPresent
 pub mod MaskJoined
 pub mod MaskColumns
+pub mod MaskCounts
+pub mod MaskUnder
+pub mod MaskNullLevels
+pub mod MaskListLevels
+pub mod MaskListColumns
+pub mod MaskOpened
+pub mod MaskFaults
 mod Worked

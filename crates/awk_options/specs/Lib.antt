@@ -9,3 +9,4 @@ pub mod MaskLists
 pub mod MaskLeaves
 pub mod MaskNulls
 pub mod MaskLevels
+pub mod MaskTypes

@@ -83,6 +83,7 @@ pub record AreListsIn (x : Layout) (class : Class) (n : ℕ) (o : Column) (z : L
   pub total : len z ≤ item_limit
   pub offsets : AreOffsets o n (len z)
   pub even : AreEven class o n
+  pub ordered : (i : ℕ) → i < n → place_at o i ≤ place_at o (i + 1)
   pub joined : array_items z ≡ joined_items (array_items x)
   pub lists : (i : ℕ) → i < n → array_item x i
       ≡ list (run (array_item z) (place_at o i) (place_at o (i + 1) - place_at o i))

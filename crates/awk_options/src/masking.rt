@@ -1,13 +1,14 @@
 //! The items of an array where a mask over it is of one truth value, and null elsewhere.
-ghost use Rattle.std.specs.Prelude.{◌≡◌, None, IfOk};
+ghost use Rattle.std.specs.Prelude.{◌≡◌, IfOk};
 ghost use Rattle.awk_types.specs.Faults.{fault_told};
-ghost use Rattle.awk_types.specs.Gives.{Gives, refused_or};
+ghost use Rattle.awk_types.specs.Gives.{Gives};
 ghost use Rattle.awk_types.specs.View.{typ_of};
 ghost use Rattle.awk_layout.specs.Datum.{datum_of, IsDatum};
 ghost use Rattle.awk_layout.specs.Typing.{array_datum};
-ghost use Rattle.awk_layout.specs.Valid.{len, IsValid};
+ghost use Rattle.awk_layout.specs.Valid.{IsValid};
 ghost use Rattle.awk_axis.specs.Mapped.{list_layout};
 ghost use Rattle.awk_options.specs.MaskLevels.{IsUnder, IsMaskedBy};
+ghost use Rattle.awk_options.specs.MaskTypes.{IsJudged};
 ghost use Rattle.awk_options.specs.PutMask.{put_mask_of, types_refused};
 
 use crate::mask_leaves::masked_items;
@@ -90,9 +91,9 @@ fn masked<'a, L: Ledger>(
 }
 
 /// What types tell: that the mask is none, or the limit that the type of the result passes.
+#[tactic(auto, using(crate::proofs::MaskFaults::judging))]
 fn judged(alloc: Global, u: &Typ, t: &Typ) -> Result<(), Fault>
-    ensures { Gives (λ told. told) fault_told result
-        (refused_or (types_refused (typ_of u.now) (typ_of t.now)) tt) }
+    ensures { IsJudged (types_refused (typ_of u.now) (typ_of t.now)) result }
 {
     if !masks(u, t) {
         return Err(Fault::WrongType);
