@@ -74,27 +74,23 @@ pairs_none : (f : Value → Value → Value) (ms : List Value) → in_pairs f ms
 pairs_none f [] = refl
 pairs_none f (m ∷ ms) = refl
 
--- one more pair
-more_pairs : (w : Value) (us ws : List Value) → joined_items us ≡ joined_items ws
-    → joined_items (w ∷ us) ≡ joined_items (w ∷ ws)
-more_pairs w us ws e = ap (λ is. list_items w ++ is) e
-
-null_pair : (w : Value) (us ws : List Value) → w ≡ null → joined_items us ≡ joined_items ws
-    → joined_items (w ∷ us) ≡ joined_items ws
-null_pair w us ws e h = ap (λ w. list_items w ++ joined_items us) e ∙ h
-
 pub joined_left : (f : Value → Value → Value) → ((v : Value) → f null v ≡ null)
     → (ms vs : List Value) → joined_items (in_pairs f ms vs)
     ≡ joined_items (in_pairs f (filter is_present ms) (present_with ms vs))
 joined_left f s [] vs = refl
 joined_left f s (m ∷ ms) [] = sym (ap joined_items (pairs_none f (filter is_present (m ∷ ms))))
 joined_left f s (null ∷ ms) (v ∷ vs) =
-    null_pair (f null v) (in_pairs f ms vs) _ (s v) (joined_left f s ms vs)
-joined_left f s (int z ∷ ms) (v ∷ vs) = more_pairs (f (int z) v) _ _ (joined_left f s ms vs)
-joined_left f s (truth b ∷ ms) (v ∷ vs) = more_pairs (f (truth b) v) _ _ (joined_left f s ms vs)
-joined_left f s (list us ∷ ms) (v ∷ vs) = more_pairs (f (list us) v) _ _ (joined_left f s ms vs)
-joined_left f s (row us ∷ ms) (v ∷ vs) = more_pairs (f (row us) v) _ _ (joined_left f s ms vs)
-joined_left f s (alt j u ∷ ms) (v ∷ vs) = more_pairs (f (alt j u) v) _ _ (joined_left f s ms vs)
+    ap (λ w. list_items w ++ joined_items (in_pairs f ms vs)) (s v) ∙ joined_left f s ms vs
+joined_left f s (int z ∷ ms) (v ∷ vs) =
+    ap (λ is. list_items (f (int z) v) ++ is) (joined_left f s ms vs)
+joined_left f s (truth b ∷ ms) (v ∷ vs) =
+    ap (λ is. list_items (f (truth b) v) ++ is) (joined_left f s ms vs)
+joined_left f s (list us ∷ ms) (v ∷ vs) =
+    ap (λ is. list_items (f (list us) v) ++ is) (joined_left f s ms vs)
+joined_left f s (row us ∷ ms) (v ∷ vs) =
+    ap (λ is. list_items (f (row us) v) ++ is) (joined_left f s ms vs)
+joined_left f s (alt j u ∷ ms) (v ∷ vs) =
+    ap (λ is. list_items (f (alt j u) v) ++ is) (joined_left f s ms vs)
 
 pub joined_right : (f : Value → Value → Value) → ((m : Value) → f m null ≡ null)
     → (ms vs : List Value) → joined_items (in_pairs f ms vs)
@@ -103,12 +99,17 @@ joined_right f s [] [] = refl
 joined_right f s [] (v ∷ vs) = refl
 joined_right f s (m ∷ ms) [] = refl
 joined_right f s (m ∷ ms) (null ∷ vs) =
-    null_pair (f m null) (in_pairs f ms vs) _ (s m) (joined_right f s ms vs)
-joined_right f s (m ∷ ms) (int z ∷ vs) = more_pairs (f m (int z)) _ _ (joined_right f s ms vs)
-joined_right f s (m ∷ ms) (truth b ∷ vs) = more_pairs (f m (truth b)) _ _ (joined_right f s ms vs)
-joined_right f s (m ∷ ms) (list us ∷ vs) = more_pairs (f m (list us)) _ _ (joined_right f s ms vs)
-joined_right f s (m ∷ ms) (row us ∷ vs) = more_pairs (f m (row us)) _ _ (joined_right f s ms vs)
-joined_right f s (m ∷ ms) (alt j u ∷ vs) = more_pairs (f m (alt j u)) _ _ (joined_right f s ms vs)
+    ap (λ w. list_items w ++ joined_items (in_pairs f ms vs)) (s m) ∙ joined_right f s ms vs
+joined_right f s (m ∷ ms) (int z ∷ vs) =
+    ap (λ is. list_items (f m (int z)) ++ is) (joined_right f s ms vs)
+joined_right f s (m ∷ ms) (truth b ∷ vs) =
+    ap (λ is. list_items (f m (truth b)) ++ is) (joined_right f s ms vs)
+joined_right f s (m ∷ ms) (list us ∷ vs) =
+    ap (λ is. list_items (f m (list us)) ++ is) (joined_right f s ms vs)
+joined_right f s (m ∷ ms) (row us ∷ vs) =
+    ap (λ is. list_items (f m (row us)) ++ is) (joined_right f s ms vs)
+joined_right f s (m ∷ ms) (alt j u ∷ vs) =
+    ap (λ is. list_items (f m (alt j u)) ++ is) (joined_right f s ms vs)
 
 -- ---- the items of lists
 

@@ -1,6 +1,6 @@
 -- Lists of a mask and of the array under it: what is below them.
 use Rattle.std.specs.Prelude.{◌≡◌, ℕ, zero, suc, ◌+◌, ◌-◌, ◌<◌, ◌≤◌, refl, Bool, true, false, List}
-use Rattle.std.specs.Prelude.{[], ◌∷◌, length, map, get_or, Some}
+use Rattle.std.specs.Prelude.{[], ◌∷◌, length, map, get_or, Some, None}
 use Rattle.std.specs.List.{AllByRecursion}
 use Rattle.std.proofs.Common.{arith, ap, ap₂, sym, ◌∙◌}
 use Rattle.std.proofs.lemmas.List.{get_or-map, length-map}
@@ -113,14 +113,17 @@ lists_of_type c t u e = ap is_list e ∙ is_list_type c u
 
 -- ---- too many items
 
+pub alike_inside : (c : Class) (u : DataType) (ms vs : List Value)
+    → AllByRecursion IsListValue ms → AllByRecursion IsListValue vs → length ms ≡ length vs
+    → any_pair (differs (list_type c u)) ms vs ≡ false
+    → AreAlike (differs u) (joined_items ms) (joined_items vs)
+alike_inside c u ms vs a b e h =
+    joined_alike (differs u) ms vs e a b
+    (ap (λ f. any_pair f ms vs) (sym (differs-lists c u)) ∙ h)
+
 module _ (c : Class) (u : DataType) (keep : Bool) (ms vs : List Value)
     (a : AllByRecursion IsListValue ms) (b : AllByRecursion IsListValue vs)
     (e : length ms ≡ length vs) (h : any_pair (differs (list_type c u)) ms vs ≡ false) where
-  pub alike_inside : AreAlike (differs u) (joined_items ms) (joined_items vs)
-  alike_inside =
-      joined_alike (differs u) ms vs e a b
-      (ap (λ f. any_pair f ms vs) (sym (differs-lists c u)) ∙ h)
-
   pub refused_inside : inner_refused (list_type c u)
       (in_pairs (masked_value (list_type c u) keep) ms vs)
       ≡ levels_refused u (in_pairs (masked_value u keep) (joined_items ms) (joined_items vs))
@@ -133,7 +136,8 @@ module _ (c : Class) (u : DataType) (keep : Bool) (ms vs : List Value)
   inside_length : length (in_pairs (masked_value u keep) (joined_items ms) (joined_items vs))
       ≡ length (joined_items vs)
   inside_length =
-      pairs_length (masked_value u keep) (joined_items ms) (joined_items vs) alike_inside.lengths
+      pairs_length (masked_value u keep) (joined_items ms) (joined_items vs)
+      (alike_inside c u ms vs a b e h).lengths
 
   pub refused_over : item_limit < length (joined_items vs) → inner_refused (list_type c u)
       (in_pairs (masked_value (list_type c u) keep) ms vs) ≡ Some Size

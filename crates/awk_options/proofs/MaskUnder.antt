@@ -39,10 +39,11 @@ made_len keep m x r u h =
     (under_lengths m x u)
     ∙ length-array_items x
 
+filter_more : (p : Value → Bool) (v : Value) (vs : List Value) (b : Bool) → p v ≡ b
+    → length (filter p vs) ≤ length vs → length (filter p (v ∷ vs)) ≤ length (v ∷ vs)
+filter_more p v vs true e h = rw e (omega (arith, h))
+filter_more p v vs false e h = rw e (omega (arith, h))
+
 pub filter_length : (p : Value → Bool) (vs : List Value) → length (filter p vs) ≤ length vs
 filter_length p [] = omega arith
-filter_length p (v ∷ vs) = by_test (p v) refl
-  where
-    by_test : (b : Bool) → p v ≡ b → length (filter p (v ∷ vs)) ≤ length (v ∷ vs)
-    by_test true e = rw e (omega (arith, filter_length p vs))
-    by_test false e = rw e (omega (arith, filter_length p vs))
+filter_length p (v ∷ vs) = filter_more p v vs (p v) refl (filter_length p vs)

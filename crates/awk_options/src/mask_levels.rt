@@ -75,7 +75,7 @@ fn present_in<'a, L: Ledger>(
 }
 
 /// The items of lists.
-fn below<'a, L: Ledger>(
+fn lists_in<'a, L: Ledger>(
     alloc: Global,
     x: &Array<'a>,
     arena: &'a Arena,
@@ -159,11 +159,11 @@ fn lists_of_both<'a, L: Ledger>(
     requires under { IsUnder m.now x.now }
     ensures { IfOk result (IsLevel m.now x.now) }
 {
-    let mask = match below(alloc, m, arena, steps)? {
+    let mask = match lists_in(alloc, m, arena, steps)? {
         Below::TooMany => return Ok(Level::TooMany),
         Below::Lists { content, .. } => content,
     };
-    match below(alloc, x, arena, steps)? {
+    match lists_in(alloc, x, arena, steps)? {
         Below::TooMany => Ok(Level::TooMany),
         Below::Lists {
             class,

@@ -49,8 +49,8 @@ fn list_node<'a, L: Ledger>(
 }
 
 /// An array where a mask is over it, each level over what is made of the level below.
-#[cycle(masked)]
-fn masked<'a, L: Ledger>(
+#[cycle(masked_array)]
+fn masked_array<'a, L: Ledger>(
     alloc: Global,
     x: &Array<'a>,
     m: &Array<'a>,
@@ -67,7 +67,7 @@ fn masked<'a, L: Ledger>(
             let node = masked_items(alloc, x, m, keep, arena, steps)?;
             Ok(Masked::Column(node))
         }
-        Level::Nulls { index, x, m } => match masked(alloc, &x, &m, keep, arena, steps)? {
+        Level::Nulls { index, x, m } => match masked_array(alloc, &x, &m, keep, arena, steps)? {
             Masked::TooMany => Ok(Masked::TooMany),
             Masked::Column(node) => {
                 let content = Box::new(alloc, node)?;
@@ -80,7 +80,7 @@ fn masked<'a, L: Ledger>(
             offsets,
             x,
             m,
-        } => match masked(alloc, &x, &m, keep, arena, steps)? {
+        } => match masked_array(alloc, &x, &m, keep, arena, steps)? {
             Masked::TooMany => Ok(Masked::TooMany),
             Masked::Column(node) => {
                 let node = list_node(alloc, class, n, offsets, node, steps)?;
@@ -123,7 +123,7 @@ fn put_over<'a, L: Ledger>(
     if x.len() > ITEM_LIMIT {
         return Err(Fault::Size);
     }
-    match masked(alloc, x, m, keep, arena, steps)? {
+    match masked_array(alloc, x, m, keep, arena, steps)? {
         Masked::TooMany => Err(Fault::Size),
         Masked::Column(node) => Ok(Datum::Arr(made(alloc, node)?)),
     }

@@ -1,7 +1,0 @@
-use Rattle.std.proofs.Common.{◌+◌}
-use Rattle.awk_types.specs.DataType.{depth}
-use Rattle.awk_layout.specs.Typing.{array_type}
-use Rattle.awk_options.proofs.masking.+masked.Given as goal
-
-abbrev pub decreases-masked : goal.decreases-masked
-decreases-masked g l = depth (array_type l.m.now) + depth (array_type l.x.now)
