@@ -79,7 +79,7 @@ fn places<'a, L: Ledger>(
 #[derive(Clone, Copy, Debug, PartialEq, Eq)]
 struct LocalIndex;
 
-impl ListOp for LocalIndex {
+impl<'a> ListOp<'a> for LocalIndex {
     ghost function = { λ f. local_index_function };
 
     fn refusal(&self, _item: &Typ) -> Option<Refusal> {
@@ -98,7 +98,7 @@ impl ListOp for LocalIndex {
         class
     }
 
-    fn column<'a, L: Ledger>(
+    fn column<L: Ledger>(
         &self,
         _alloc: Global,
         _class: Option<u64>,

@@ -56,7 +56,7 @@ fn first_places<'a, L: Ledger>(
 #[derive(Clone, Copy, Debug, PartialEq, Eq)]
 struct First;
 
-impl ListOp for First {
+impl<'a> ListOp<'a> for First {
     ghost function = { λ f. firsts_function };
 
     fn refusal(&self, _item: &Typ) -> Option<Refusal> {
@@ -75,7 +75,7 @@ impl ListOp for First {
         class
     }
 
-    fn column<'a, L: Ledger>(
+    fn column<L: Ledger>(
         &self,
         alloc: Global,
         _class: Option<u64>,

@@ -158,7 +158,7 @@ struct ItemAt {
     place: i64,
 }
 
-impl ListOp for ItemAt {
+impl<'a> ListOp<'a> for ItemAt {
     ghost function = { λ f. each.item_at f.place };
 
     fn refusal(&self, _item: &Typ) -> Option<Refusal> {
@@ -177,7 +177,7 @@ impl ListOp for ItemAt {
         class
     }
 
-    fn column<'a, L: Ledger>(
+    fn column<L: Ledger>(
         &self,
         alloc: Global,
         _class: Option<u64>,

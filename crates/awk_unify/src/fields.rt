@@ -74,7 +74,7 @@ fn to_names(alloc: Global, xs: &Fields, ys: &Fields, rights: &Lifts) -> Result<L
 }
 
 /// The names of fields, in order.
-fn names(alloc: Global, xs: &Fields) -> Result<Names, NoMemory>
+pub fn field_names(alloc: Global, xs: &Fields) -> Result<Names, NoMemory>
     ensures { IfOk result (λ ns. ns ≡ names_of (fields_of xs.now)) }
 {
     let mut made = Names::new(alloc);
@@ -105,7 +105,7 @@ pub(crate) fn records(
     };
     let left = in_own_places(alloc, lefts)?;
     let right = to_names(alloc, xs, ys, &rights)?;
-    let names = names(alloc, xs)?;
+    let names = field_names(alloc, xs)?;
     Ok(Some(Unified {
         typ: Typ::Rec(Fields::named(alloc, &names, typs)?),
         left,

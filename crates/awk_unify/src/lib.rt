@@ -14,8 +14,9 @@ mod several;
 mod unified;
 mod unifying;
 
+pub use fields::field_names;
 pub use lift::{Lift, Lifts, copy_lift};
 pub use places::Places;
 pub use several::{UnifiedAll, unify_all};
 pub use unified::Unified;
-pub use unifying::unify;
+pub use unifying::{unified, unify};

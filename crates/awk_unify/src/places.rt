@@ -68,7 +68,7 @@ impl Places {
 
     /// The one at a place, or 0 beyond the last one.
     #[tactic(auto, using(crate::proofs::Lists::place_laws))]
-    pub(crate) fn at(&self, i: u64) -> u64
+    pub fn at(&self, i: u64) -> u64
         ensures { result ≡ tag_at self.now i }
     {
         if i < self.len() as u64 {

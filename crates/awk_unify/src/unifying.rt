@@ -22,10 +22,11 @@ use crate::unified::Unified;
 use awk_types::{Fields, NoMemory, Typ, TypeFault, Typs, simple_of};
 use std::alloc::Global;
 
-/// What two types unify to, whatever its size.
+/// What two types unify to, whatever its size: for a type that becomes a part of another one, whose
+/// limits are judged as a whole.
 #[cycle(unify)]
 #[tactic(auto, using(crate::proofs::Rules::rule_laws))]
-pub(crate) fn unified(alloc: Global, a: &Typ, b: &Typ) -> Result<Unified, NoMemory>
+pub fn unified(alloc: Global, a: &Typ, b: &Typ) -> Result<Unified, NoMemory>
     ensures { IfOk result (λ u. unified_of u ≡ unification (typ_of a.now) (typ_of b.now)) }
 {
     match early(alloc, a, b)? {
