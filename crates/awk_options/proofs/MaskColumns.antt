@@ -15,7 +15,7 @@ use Rattle.awk_layout.proofs.ArrayItems.{length-array_items, get_or-array_items}
 use Rattle.awk_gather.specs.Arrays.{array_item}
 use Rattle.awk_axis.specs.Mapped.{IsColumn}
 use Rattle.awk_options.specs.MaskLeaves.{is_innermost}
-use Rattle.awk_options.specs.MaskLists.{has_lists}
+use Rattle.awk_options.specs.MaskLists.{is_list}
 use Rattle.awk_options.specs.PutMask.{in_pairs, masks}
 
 pub pairs_length : (f : Value → Value → Value) (ms vs : List Value) → length ms ≡ length vs
@@ -67,7 +67,7 @@ truths_only primitive.U32 t h = cc
 truths_only primitive.U64 t h = cc
 
 -- a mask that is neither of lists nor optional is of single truth values
-pub innermost_mask : (u t : DataType) → masks u t ≡ true → has_lists u ≡ false
+pub innermost_mask : (u t : DataType) → masks u t ≡ true → is_list u ≡ false
     → is_option u ≡ false → is_innermost u ≡ true
 innermost_mask unknown t h l o = refl
 innermost_mask (leaf p) t h l o = truths_only p t h

@@ -153,3 +153,48 @@ module _ (c : Class) (u : DataType) (keep : Bool) (ms vs : List Value)
       refused_inside
       ∙ levels_within u (in_pairs (masked_value u keep) (joined_items ms) (joined_items vs))
       (omega (arith, p, inside_length))
+
+-- ---- the same of a mask of lists of some class
+
+over_type : (t : DataType) (keep : Bool) (ms vs : List Value) → is_list t ≡ true
+    → AllByRecursion IsListValue ms → AllByRecursion IsListValue vs → length ms ≡ length vs
+    → any_pair (differs t) ms vs ≡ false → item_limit < length (joined_items vs)
+    → inner_refused t (in_pairs (masked_value t keep) ms vs) ≡ Some Size
+over_type (var u) keep ms vs l a b e h p = refused_over None u keep ms vs a b e h p
+over_type (reg n u) keep ms vs l a b e h p = refused_over (Some n) u keep ms vs a b e h p
+over_type unknown keep ms vs l a b e h p = absurd cc
+over_type (leaf k) keep ms vs l a b e h p = absurd cc
+over_type (rec ns ts) keep ms vs l a b e h p = absurd cc
+over_type (tup ts) keep ms vs l a b e h p = absurd cc
+over_type (opt u) keep ms vs l a b e h p = absurd cc
+over_type (uni ts) keep ms vs l a b e h p = absurd cc
+
+joined_type : (t : DataType) (ms vs : List Value) → is_list t ≡ true
+    → AllByRecursion IsListValue ms → AllByRecursion IsListValue vs → length ms ≡ length vs
+    → any_pair (differs t) ms vs ≡ false → length (joined_items ms) ≡ length (joined_items vs)
+joined_type (var u) ms vs l a b e h = (alike_inside None u ms vs a b e h).lengths
+joined_type (reg n u) ms vs l a b e h = (alike_inside (Some n) u ms vs a b e h).lengths
+joined_type unknown ms vs l a b e h = absurd cc
+joined_type (leaf k) ms vs l a b e h = absurd cc
+joined_type (rec ns ts) ms vs l a b e h = absurd cc
+joined_type (tup ts) ms vs l a b e h = absurd cc
+joined_type (opt u) ms vs l a b e h = absurd cc
+joined_type (uni ts) ms vs l a b e h = absurd cc
+
+module _ (m x : Layout) (u : IsUnder m x) (l : is_list (array_type m) ≡ true)
+    (k : is_list (array_type x) ≡ true) (hm : HasItems m) (hx : HasItems x) where
+  pub items_over : item_limit < length (joined_items (array_items x)) → (keep : Bool)
+      → below_refused keep m x ≡ Some Size
+  items_over p keep =
+      over_type (array_type m) keep (array_items m) (array_items x) l (all_lists m l hm)
+      (all_lists x k hx) (under_lengths m x u) (under_pairs m x u) p
+
+  pub mask_over : item_limit < length (joined_items (array_items m)) → (keep : Bool)
+      → below_refused keep m x ≡ Some Size
+  mask_over p =
+      items_over (omega (
+        arith,
+        p,
+        joined_type (array_type m) (array_items m) (array_items x) l (all_lists m l hm)
+            (all_lists x k hx) (under_lengths m x u) (under_pairs m x u),
+      ))

@@ -159,6 +159,8 @@ fn lists_of_both<'a, L: Ledger>(
     requires under { IsUnder m.now x.now }
     ensures { IfOk result (IsLevel m.now x.now) }
 {
+    let _ = m.len();
+    let _ = x.len();
     let mask = match lists_in(alloc, m, arena, steps)? {
         Below::TooMany => return Ok(Level::TooMany),
         Below::Lists { content, .. } => content,
