@@ -24,4 +24,5 @@ pub mod MaskListLevels
 pub mod MaskListColumns
 pub mod MaskOpened
 pub mod MaskFaults
+pub mod MaskMade
 mod Worked

@@ -28,6 +28,8 @@ use Rattle.awk_options.specs.declared.mask_levels.Below.{Below}
 use Rattle.awk_options.specs.declared.mask_levels.Below.TheVariants as below
 use Rattle.awk_options.specs.declared.mask_levels.Level.{Level}
 use Rattle.awk_options.specs.declared.mask_levels.Level.TheVariants as level
+use Rattle.awk_options.specs.declared.mask_levels.Over.{Over}
+use Rattle.awk_options.specs.declared.mask_levels.Over.TheVariants as over
 use Rattle.awk_options.specs.declared.masking.Masked.{Masked}
 use Rattle.awk_options.specs.declared.masking.Masked.TheVariants as masked
 
@@ -101,8 +103,21 @@ pub record IsBelow (m x m' x' : Layout) (over : Layout → Layout) : Type 0 wher
   pub made : (keep : Bool) (r : Layout) → IsMaskedArray keep m' x' r
       → IsMaskedArray keep m x (over r)
 
+-- these items with what is over them
+abbrev pub over_layout : Over → Layout → Layout
+over_layout (over.Nulls j) r = optional j r
+over_layout (over.Lists class n o) r = list_layout class n o r
+
 abbrev pub IsLevel : Layout → Layout → Level → Type 0
 IsLevel m x level.Innermost = (is_innermost (array_type m) ≡ true) × (len m ≡ len x)
 IsLevel m x level.TooMany = (keep : Bool) → below_refused keep m x ≡ Some Size
-IsLevel m x (level.Nulls j x' m') = IsBelow m x m' x' (optional j)
-IsLevel m x (level.Lists class n o x' m') = IsBelow m x m' x' (list_layout class n o)
+IsLevel m x (level.Within o x' m') = IsBelow m x m' x' (over_layout o)
+
+abbrev pub CanHold : Over → Masked → Type 0
+CanHold o masked.TooMany = Unit {0}
+CanHold o (masked.Column r) = IsValid (over_layout o r)
+
+-- what is made with what is over it
+abbrev pub IsOver : Over → Masked → Masked → Type 0
+IsOver o masked.TooMany made = made ≡ masked.TooMany
+IsOver o (masked.Column r) made = made ≡ masked.Column (over_layout o r)

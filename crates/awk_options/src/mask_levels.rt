@@ -16,24 +16,28 @@ use awk_types::NoMemory;
 use std::alloc::Global;
 use std::sync::ledger::Ledger;
 
-/// What is over the items of an array and of a mask.
+/// What is over items.
+#[derive(Drop)]
+pub(crate) enum Over<'a> {
+    /// An index with nulls.
+    Nulls(Lane<'a>),
+    Lists {
+        class: Option<u64>,
+        n: u64,
+        offsets: Lane<'a>,
+    },
+}
+
+/// The outermost level of an array and of a mask over it.
 #[derive(Drop)]
 pub(crate) enum Level<'a> {
     /// The mask is of single truth values.
     Innermost,
     /// The lists have too many items together.
     TooMany,
-    /// An index with nulls over the items where both are present.
-    Nulls {
-        index: Lane<'a>,
-        x: Array<'a>,
-        m: Array<'a>,
-    },
-    /// Lists.
-    Lists {
-        class: Option<u64>,
-        n: u64,
-        offsets: Lane<'a>,
+    /// What is over the items of both.
+    Within {
+        over: Over<'a>,
         x: Array<'a>,
         m: Array<'a>,
     },
@@ -117,8 +121,8 @@ fn nulls_of_mask<'a, L: Ledger>(
 {
     let mask = present_in(alloc, m, arena, steps)?;
     let items = items_where(alloc, x, &mask.index, arena, steps)?;
-    Ok(Level::Nulls {
-        index: mask.index,
+    Ok(Level::Within {
+        over: Over::Nulls(mask.index),
         x: items,
         m: mask.content,
     })
@@ -139,8 +143,8 @@ fn nulls_of_items<'a, L: Ledger>(
 {
     let items = present_in(alloc, x, arena, steps)?;
     let mask = items_where(alloc, m, &items.index, arena, steps)?;
-    Ok(Level::Nulls {
-        index: items.index,
+    Ok(Level::Within {
+        over: Over::Nulls(items.index),
         x: items.content,
         m: mask,
     })
@@ -172,13 +176,14 @@ fn lists_of_both<'a, L: Ledger>(
             n,
             offsets,
             content,
-        } => Ok(Level::Lists {
-            class,
-            n,
-            offsets,
-            x: content,
-            m: mask,
-        }),
+        } => {
+            let over = Over::Lists { class, n, offsets };
+            Ok(Level::Within {
+                over,
+                x: content,
+                m: mask,
+            })
+        }
     }
 }
 

@@ -1,19 +1,20 @@
 //! The items of an array where a mask over it is of one truth value, and null elsewhere.
-ghost use Rattle.std.specs.Prelude.{◌≡◌, IfOk};
+ghost use Rattle.std.specs.Prelude.{◌≡◌, true, IfOk};
 ghost use Rattle.awk_types.specs.Faults.{fault_told};
 ghost use Rattle.awk_types.specs.Gives.{Gives};
 ghost use Rattle.awk_types.specs.View.{typ_of};
 ghost use Rattle.awk_layout.specs.Datum.{datum_of, IsDatum};
-ghost use Rattle.awk_layout.specs.Typing.{array_datum};
+ghost use Rattle.awk_layout.specs.Typing.{array_type, array_datum};
 ghost use Rattle.awk_layout.specs.Valid.{IsValid};
 ghost use Rattle.awk_axis.specs.Mapped.{list_layout};
-ghost use Rattle.awk_options.specs.MaskLevels.{IsUnder, IsMaskedBy};
+ghost use Rattle.awk_options.specs.MaskLeaves.{is_innermost};
+ghost use Rattle.awk_options.specs.MaskLevels.{IsUnder, IsMaskedBy, IsLevel, CanHold, IsOver};
 ghost use Rattle.awk_options.specs.MaskTypes.{IsJudged};
 ghost use Rattle.awk_options.specs.PutMask.{put_mask_of, types_refused};
 
 use crate::mask_leaves::masked_items;
 use crate::mask_lengths::unequal;
-use crate::mask_levels::{Level, level_of};
+use crate::mask_levels::{Level, Over, level_of};
 use crate::mask_types::{masked_type, masks};
 use awk_axis::made;
 use awk_lanes::{Arena, Lane, Steps};
@@ -48,8 +49,53 @@ fn list_node<'a, L: Ledger>(
     }
 }
 
-/// An array where a mask is over it, each level over what is made of the level below.
+/// What is made at a level, over what is made of its items.
+fn put_over<'a, L: Ledger>(
+    alloc: Global,
+    over: &Over<'a>,
+    made: Masked<'a>,
+    steps: &mut Steps<L>,
+) -> Result<Masked<'a>, NoMemory>
+    requires { CanHold over.now made }
+    ensures { IfOk result (IsOver over.now made.entry) }
+{
+    match made {
+        Masked::TooMany => Ok(Masked::TooMany),
+        Masked::Column(node) => match over {
+            Over::Nulls(index) => {
+                let content = Box::new(alloc, node)?;
+                let node = Node::indexed_option(index.copy(), content, steps);
+                Ok(Masked::Column(node))
+            }
+            Over::Lists { class, n, offsets } => {
+                let node = list_node(alloc, *class, *n, offsets.copy(), node, steps)?;
+                Ok(Masked::Column(node))
+            }
+        },
+    }
+}
+
+/// An array where a mask of single truth values is over it.
+fn innermost<'a, L: Ledger>(
+    alloc: Global,
+    x: &Array<'a>,
+    m: &Array<'a>,
+    keep: bool,
+    arena: &'a Arena,
+    steps: &mut Steps<L>,
+) -> Result<Masked<'a>, NoMemory>
+    requires under { IsUnder m.now x.now }
+    requires mask { is_innermost (array_type m.now) ≡ true }
+    ensures { IfOk result (IsMaskedBy keep m.now x.now) }
+{
+    let _ = x.len();
+    let node = masked_items(alloc, x, m, keep, arena, steps)?;
+    Ok(Masked::Column(node))
+}
+
+/// An array where a mask is over it.
 #[cycle(masked_array)]
+#[tactic(none)]
 fn masked_array<'a, L: Ledger>(
     alloc: Global,
     x: &Array<'a>,
@@ -61,32 +107,37 @@ fn masked_array<'a, L: Ledger>(
     requires { IsUnder m.now x.now }
     ensures { IfOk result (IsMaskedBy keep m.now x.now) }
 {
-    match level_of(alloc, x, m, arena, steps)? {
+    let level = level_of(alloc, x, m, arena, steps)?;
+    masked_level(alloc, &level, x, m, keep, arena, steps)
+}
+
+/// The same by its outermost level.
+#[cycle(masked_array)]
+#[tactic(none)]
+fn masked_level<'a, L: Ledger>(
+    alloc: Global,
+    level: &Level<'a>,
+    x: &Array<'a>,
+    m: &Array<'a>,
+    keep: bool,
+    arena: &'a Arena,
+    steps: &mut Steps<L>,
+) -> Result<Masked<'a>, NoMemory>
+    requires under { IsUnder m.now x.now }
+    requires level { IsLevel m.now x.now level.now }
+    ensures { IfOk result (IsMaskedBy keep m.now x.now) }
+{
+    match level {
         Level::TooMany => Ok(Masked::TooMany),
-        Level::Innermost => {
-            let node = masked_items(alloc, x, m, keep, arena, steps)?;
-            Ok(Masked::Column(node))
+        Level::Innermost => innermost(alloc, x, m, keep, arena, steps),
+        Level::Within {
+            over,
+            x: items,
+            m: mask,
+        } => {
+            let made = masked_array(alloc, items, mask, keep, arena, steps)?;
+            put_over(alloc, over, made, steps)
         }
-        Level::Nulls { index, x, m } => match masked_array(alloc, &x, &m, keep, arena, steps)? {
-            Masked::TooMany => Ok(Masked::TooMany),
-            Masked::Column(node) => {
-                let content = Box::new(alloc, node)?;
-                Ok(Masked::Column(Node::indexed_option(index, content, steps)))
-            }
-        },
-        Level::Lists {
-            class,
-            n,
-            offsets,
-            x,
-            m,
-        } => match masked_array(alloc, &x, &m, keep, arena, steps)? {
-            Masked::TooMany => Ok(Masked::TooMany),
-            Masked::Column(node) => {
-                let node = list_node(alloc, class, n, offsets, node, steps)?;
-                Ok(Masked::Column(node))
-            }
-        },
     }
 }
 
@@ -104,7 +155,7 @@ fn judged(alloc: Global, u: &Typ, t: &Typ) -> Result<(), Fault>
 }
 
 /// An array where a mask is over it.
-fn put_over<'a, L: Ledger>(
+fn put_mask_over<'a, L: Ledger>(
     alloc: Global,
     x: &Array<'a>,
     m: &Array<'a>,
@@ -153,7 +204,7 @@ pub fn put_mask<'a, L: Ledger>(
 {
     match x {
         Datum::Arr(items) => match mask {
-            Datum::Arr(over) => put_over(alloc, items, over, valid_when, arena, steps),
+            Datum::Arr(over) => put_mask_over(alloc, items, over, valid_when, arena, steps),
             Datum::One(_) => Err(Fault::WrongType),
         },
         Datum::One(_) => Err(Fault::WrongType),
