@@ -1,13 +1,12 @@
 -- The lists of what is made under a mask, counted level by level.
 use Rattle.std.specs.Prelude.{◌≡◌, ℕ, ◌<◌, ◌≤◌, refl, nat_lt, Bool, true, false, List, [], ◌∷◌, ◌++◌}
-use Rattle.std.specs.Prelude.{length, filter, Option, Some, None, if◌then◌else◌}
+use Rattle.std.specs.Prelude.{length, filter, Some, None, if◌then◌else◌}
 use Rattle.std.specs.List.{AllByRecursion}
 use Rattle.std.proofs.Common.{arith, ap, ap₂, sym, ◌∙◌}
 use Rattle.awk_types.specs.DataType.{DataType, unknown, leaf, var, reg, rec, tup, opt, uni}
 use Rattle.awk_types.specs.Gives.{◌or◌}
 use Rattle.awk_types.specs.ItemLimit.{item_limit, too_many}
-use Rattle.awk_types.specs.Value.{Value, null, int, truth, list, row, alt, value_list, values_from}
-use Rattle.awk_types.specs.declared.fault.Fault.{Fault}
+use Rattle.awk_types.specs.Value.{Value, null, int, truth, list, row, alt, value_list}
 use Rattle.awk_types.specs.declared.fault.Fault.TheVariants.{Size}
 use Rattle.awk_types.proofs.RefusalLaws.{or-last, or-None}
 use Rattle.awk_types.proofs.Trees.{value_list-from}
@@ -16,7 +15,6 @@ use Rattle.awk_options.specs.MaskLevels.{inner_refused}
 use Rattle.awk_options.specs.MaskNulls.{present_with}
 use Rattle.awk_options.specs.PutMask.{in_pairs, of_lists, any_pair, differ_inside, levels_refused}
 use Rattle.awk_options.specs.PutMask.{lists_differ}
-use Rattle.awk_options.proofs.MaskColumns.{pairs_length}
 use Rattle.awk_options.proofs.MaskJoined.{IsListValue, same_length}
 use Rattle.awk_options.proofs.MaskPresent.{or_left, or_right}
 

@@ -1,6 +1,6 @@
 -- What is told of an array and a mask over it, in the order of the definition.
-use Rattle.std.specs.Prelude.{◌≡◌, ℕ, ◌<◌, ◌≤◌, refl, Bool, true, false, List, length, map, Option}
-use Rattle.std.specs.Prelude.{Some, None, Ok, Err, option_map, if◌then◌else◌}
+use Rattle.std.specs.Prelude.{◌≡◌, ◌<◌, refl, Bool, true, false, length, map, Option}
+use Rattle.std.specs.Prelude.{Some, None, Ok, Err, option_map}
 use Rattle.std.proofs.Common.{arith, ap, ap₂, sym, ◌∙◌}
 use Rattle.awk_types.specs.DataType.{DataType}
 use Rattle.awk_types.specs.Datum.{Datum, arr}
@@ -9,7 +9,6 @@ use Rattle.awk_types.specs.Gives.{Told, refused_or, ◌or◌}
 use Rattle.awk_types.specs.ItemLimit.{item_limit}
 use Rattle.awk_types.specs.Limit.{Limit, limit, limit_told, within, depth_limit, size_limit}
 use Rattle.awk_types.specs.Simple.{simple, simple_value}
-use Rattle.awk_types.specs.Value.{Value}
 use Rattle.awk_types.specs.declared.fault.Fault.{Fault}
 use Rattle.awk_types.specs.declared.fault.Fault.TheVariants.{WrongType, Lengths, Size, NoMemory}
 use Rattle.awk_types.specs.declared.limit.TypeFault.{TypeFault}
@@ -19,12 +18,11 @@ use Rattle.awk_layout.specs.Layout.{Layout}
 use Rattle.awk_layout.specs.Typing.{array_type, array_items, array_datum}
 use Rattle.awk_layout.specs.Valid.{len}
 use Rattle.awk_layout.proofs.ArrayItems.{length-array_items}
-use Rattle.awk_options.specs.MaskLevels.{IsUnder, IsMaskedArray, IsMaskedBy, pairs_of, below_refused}
+use Rattle.awk_options.specs.MaskLevels.{IsUnder, IsMaskedBy, pairs_of, below_refused}
 use Rattle.awk_options.specs.MaskTypes.{IsJudged}
 use Rattle.awk_options.specs.PutMask.{masks, masked_type, masked_value, differs, lists_differ}
 use Rattle.awk_options.specs.PutMask.{types_refused, type_refused, lengths_refused, levels_refused}
 use Rattle.awk_options.specs.PutMask.{put_mask_of}
-use Rattle.awk_options.specs.declared.masking.Masked.{Masked}
 use Rattle.awk_options.specs.declared.masking.Masked.TheVariants as masked
 use Rattle.awk_options.proofs.MaskColumns.{pairs_length}
 use Rattle.awk_options.proofs.MaskCounts.{levels_over, levels_within}

@@ -1,5 +1,5 @@
 -- Lists over what is made of their items under a mask.
-use Rattle.std.specs.Prelude.{◌≡◌, ℕ, zero, suc, ◌+◌, ◌-◌, ◌<◌, ◌≤◌, refl, Bool, true, false, List}
+use Rattle.std.specs.Prelude.{◌≡◌, ℕ, zero, suc, ◌+◌, ◌-◌, ◌<◌, ◌≤◌, refl, Bool, false, List}
 use Rattle.std.specs.Prelude.{[], ◌∷◌, length, map, get_or}
 use Rattle.std.proofs.Common.{arith, ap, ap₂, sym, ◌∙◌, add-one}
 use Rattle.std.proofs.lemmas.List.{get_or-map}
@@ -25,7 +25,7 @@ use Rattle.awk_axis.proofs.LiftLaws.{simple-list, simple_value-list, array_type-
 use Rattle.awk_axis.proofs.LiftLaws.{valid-list, item-list}
 use Rattle.awk_options.specs.MaskLevels.{IsUnder, IsMaskedArray, AreListsIn, IsBelow}
 use Rattle.awk_options.specs.MaskLevels.{below_refused, inner_refused, pairs_of}
-use Rattle.awk_options.specs.PutMask.{masks, differs, differ_inside, lists_differ, any_pair, in_pairs}
+use Rattle.awk_options.specs.PutMask.{masks, differs, differ_inside, any_pair, in_pairs}
 use Rattle.awk_options.specs.PutMask.{of_lists, masked_type, masked_value}
 use Rattle.awk_options.proofs.MaskColumns.{column_pairs, pair_of, pairs_length}
 use Rattle.awk_options.proofs.MaskJoined.{AreAlike, same_length}

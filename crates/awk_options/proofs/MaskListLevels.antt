@@ -1,42 +1,26 @@
 -- Lists of a mask and of the array under it: what is below them.
-use Rattle.std.specs.Prelude.{◌≡◌, ℕ, zero, suc, ◌+◌, ◌-◌, ◌<◌, ◌≤◌, refl, Bool, true, false, List}
-use Rattle.std.specs.Prelude.{[], ◌∷◌, length, map, get_or, Some, None}
+use Rattle.std.specs.Prelude.{◌≡◌, ◌<◌, ◌≤◌, refl, Bool, true, false, List}
+use Rattle.std.specs.Prelude.{[], ◌∷◌, length, Some, None}
 use Rattle.std.specs.List.{AllByRecursion}
-use Rattle.std.proofs.Common.{arith, ap, ap₂, sym, ◌∙◌}
-use Rattle.std.proofs.lemmas.List.{get_or-map, length-map}
+use Rattle.std.proofs.Common.{arith, ap, sym, ◌∙◌}
 use Rattle.awk_types.specs.DataType.{DataType, unknown, leaf, var, reg, rec, tup, opt, uni, depth}
 use Rattle.awk_types.specs.Has.{Has}
 use Rattle.awk_types.specs.ItemLimit.{item_limit}
-use Rattle.awk_types.specs.Simple.{simple, simple_value, in_list}
-use Rattle.awk_types.specs.Value.{Value, null, int, truth, list, row, alt, value_list, values_from}
+use Rattle.awk_types.specs.Value.{Value, null, int, truth, list, row, alt}
 use Rattle.awk_types.specs.declared.fault.Fault.TheVariants.{Size}
-use Rattle.awk_types.proofs.Trees.{values_from-list}
-use Rattle.awk_lanes.specs.Column.{Column}
-use Rattle.awk_lanes.specs.Places.{place_at}
-use Rattle.awk_layout.specs.Item.{run}
 use Rattle.awk_layout.specs.Layout.{Layout}
 use Rattle.awk_layout.specs.Typing.{array_type, array_items}
-use Rattle.awk_layout.specs.Valid.{len}
-use Rattle.awk_layout.proofs.ArrayItems.{length-array_items, get_or-array_items}
-use Rattle.awk_layout.proofs.Runs.{length-run}
-use Rattle.awk_gather.specs.Arrays.{array_item}
 use Rattle.awk_gather.specs.Columns.{joined_items}
-use Rattle.awk_axis.specs.Joined.{AreOffsets}
 use Rattle.awk_axis.specs.ListFunction.{Class, list_type}
-use Rattle.awk_axis.specs.Mapped.{IsColumn, list_layout}
-use Rattle.awk_axis.proofs.ArrayLaws.{run_in_list, run_same}
-use Rattle.awk_axis.proofs.LiftLaws.{simple-list, simple_value-list, array_type-list, len-list}
-use Rattle.awk_axis.proofs.LiftLaws.{valid-list, item-list}
-use Rattle.awk_options.specs.MaskLevels.{IsUnder, IsMaskedArray, AreListsIn, IsBelow}
-use Rattle.awk_options.specs.MaskLevels.{below_refused, inner_refused, pairs_of}
+use Rattle.awk_options.specs.MaskLevels.{IsUnder}
+use Rattle.awk_options.specs.MaskLevels.{below_refused, inner_refused}
 use Rattle.awk_options.specs.MaskLists.{is_list}
-use Rattle.awk_options.specs.PutMask.{masks, differs, differ_inside, lists_differ, any_pair, in_pairs}
+use Rattle.awk_options.specs.PutMask.{masks, differs, differ_inside, any_pair, in_pairs}
 use Rattle.awk_options.specs.PutMask.{of_lists, masked_type, masked_value, levels_refused}
-use Rattle.awk_options.proofs.MaskColumns.{column_pairs, pair_of, pairs_length}
+use Rattle.awk_options.proofs.MaskColumns.{pairs_length}
 use Rattle.awk_options.proofs.MaskCounts.{joined_pairs, levels_over, levels_within}
-use Rattle.awk_options.proofs.MaskJoined.{IsListValue, AreAlike, joined_alike, same_length}
-use Rattle.awk_options.proofs.MaskPairs.{equal_lengths}
-use Rattle.awk_options.proofs.MaskUnder.{under_lengths, under_len, under_pairs, made_len}
+use Rattle.awk_options.proofs.MaskJoined.{IsListValue, AreAlike, joined_alike}
+use Rattle.awk_options.proofs.MaskUnder.{under_lengths, under_pairs}
 use Rattle.awk_options.proofs.OptionNodes.{HasItems}
 
 -- ---- the items of an array of lists are lists

@@ -1,13 +1,13 @@
 -- What is made at one level of an array and a mask over it.
-use Rattle.std.specs.Prelude.{◌≡◌, refl, Bool, true, List, Option, Some, None}
+use Rattle.std.specs.Prelude.{◌≡◌, refl, Bool, true, List, None}
 use Rattle.std.proofs.Common.{◌∙◌}
 use Rattle.awk_types.specs.DataType.{DataType, unknown, leaf, var, reg, rec, tup, opt, uni}
 use Rattle.awk_types.specs.Value.{Value}
 use Rattle.awk_layout.specs.Layout.{Layout}
 use Rattle.awk_layout.specs.Typing.{array_type}
 use Rattle.awk_options.specs.MaskLeaves.{is_innermost, IsMasked}
-use Rattle.awk_options.specs.MaskLevels.{IsUnder, IsMaskedArray, IsMaskedBy, IsBelow, CanHold, IsOver}
-use Rattle.awk_options.specs.MaskLevels.{below_refused, inner_refused, over_layout, pairs_of}
+use Rattle.awk_options.specs.MaskLevels.{IsUnder, IsMaskedBy, IsBelow, CanHold, IsOver}
+use Rattle.awk_options.specs.MaskLevels.{inner_refused, over_layout, pairs_of}
 use Rattle.awk_options.specs.PutMask.{masked_type, masked_value}
 use Rattle.awk_options.specs.declared.mask_levels.Over.{Over}
 use Rattle.awk_options.specs.declared.masking.Masked.{Masked}

@@ -1,10 +1,9 @@
 -- Nulls of a mask, and nulls of an array under a mask of lists: what is below them.
-use Rattle.std.specs.Prelude.{◌≡◌, ℕ, ◌<◌, refl, Bool, true, false, List, length, map, filter}
+use Rattle.std.specs.Prelude.{◌≡◌, refl, Bool, true, false, length, map, filter}
 use Rattle.std.specs.Prelude.{if◌then◌else◌}
 use Rattle.std.proofs.Common.{arith, ap, ap₂, sym, ◌∙◌}
 use Rattle.awk_types.specs.DataType.{DataType, unknown, leaf, var, reg, rec, tup, opt, uni, depth}
 use Rattle.awk_types.specs.Simple.{simple, simple_value, option_of}
-use Rattle.awk_types.specs.Value.{Value}
 use Rattle.awk_lanes.specs.Column.{Column}
 use Rattle.awk_layout.specs.Layout.{Layout, optional}
 use Rattle.awk_layout.specs.Typing.{array_type, array_items}

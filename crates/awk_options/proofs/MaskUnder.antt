@@ -1,6 +1,6 @@
 -- What is told of an array and a mask over it, before one is made.
-use Rattle.std.specs.Prelude.{◌≡◌, ℕ, ◌≤◌, ◌==◌, refl, Bool, true, false, not, List, [], ◌∷◌, length}
-use Rattle.std.specs.Prelude.{map, filter}
+use Rattle.std.specs.Prelude.{◌≡◌, ◌≤◌, ◌==◌, refl, Bool, true, false, not, List, [], ◌∷◌, length}
+use Rattle.std.specs.Prelude.{filter}
 use Rattle.std.proofs.Common.{arith, ap, sym, ◌∙◌}
 use Rattle.std.proofs.lemmas.List.{length-map}
 use Rattle.awk_types.specs.Simple.{simple_value}

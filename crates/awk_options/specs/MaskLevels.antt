@@ -3,7 +3,6 @@
 use Rattle.std.specs.Prelude.{◌≡◌, ℕ, ◌+◌, ◌-◌, ◌<◌, ◌≤◌, ◌^◌, Bool, true, false, List, length, map}
 use Rattle.std.specs.Prelude.{filter, Option, Some, None}
 use Rattle.awk_types.specs.DataType.{DataType, var, reg, opt, depth}
-use Rattle.awk_types.specs.Gives.{◌or◌}
 use Rattle.awk_types.specs.ItemLimit.{item_limit}
 use Rattle.awk_types.specs.Simple.{simple, simple_value}
 use Rattle.awk_types.specs.Value.{Value, list}

@@ -1,4 +1,3 @@
-use Rattle.std.proofs.Common.{◌≡◌}
 use Rattle.awk_axis.specs.Joined.{IsJoined}
 use Rattle.awk_axis.specs.Opened.{OpensLists}
 use Rattle.awk_axis.specs.declared.opening.Joined.TheVariants.{TooMany, Lists}

@@ -1,4 +1,4 @@
-use Rattle.std.proofs.Common.{◌≡◌, ◌<◌, length}
+use Rattle.std.proofs.Common.{◌<◌, length}
 use Rattle.awk_types.specs.ItemLimit.{item_limit}
 use Rattle.awk_layout.specs.Typing.{array_items}
 use Rattle.awk_gather.specs.Columns.{joined_items}

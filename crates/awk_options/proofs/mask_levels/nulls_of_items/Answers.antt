@@ -1,4 +1,4 @@
-use Rattle.std.proofs.Common.{◌≡◌, ◌∙◌, sym, arith, ◌≤◌}
+use Rattle.std.proofs.Common.{◌∙◌, sym, arith}
 use Rattle.awk_options.proofs.MaskNullLevels.{below_item_nulls}
 use Rattle.awk_options.proofs.MaskUnder.{under_len}
 use Rattle.awk_options.proofs.mask_levels.nulls_of_items.Goals as goal

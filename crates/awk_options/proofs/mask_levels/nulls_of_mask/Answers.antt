@@ -1,4 +1,4 @@
-use Rattle.std.proofs.Common.{◌≡◌, ◌∙◌}
+use Rattle.std.proofs.Common.{◌∙◌}
 use Rattle.awk_options.proofs.MaskNullLevels.{below_mask_nulls}
 use Rattle.awk_options.proofs.MaskUnder.{under_len}
 use Rattle.awk_options.proofs.mask_levels.nulls_of_mask.Goals as goal

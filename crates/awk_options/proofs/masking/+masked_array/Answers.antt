@@ -1,4 +1,4 @@
-use Rattle.std.proofs.Common.{◌≡◌, arith, rules}
+use Rattle.std.proofs.Common.{arith, rules}
 use Rattle.awk_axis.proofs.IfOk.{if_ok}
 use Rattle.awk_options.specs.MaskLevels.{IsBelow, IsLevel, over_layout}
 use Rattle.awk_options.specs.declared.mask_levels.Level.TheVariants.{Innermost, TooMany}

@@ -1,5 +1,5 @@
-use Rattle.std.specs.Prelude.{None, false, length}
-use Rattle.std.proofs.Common.{◌≡◌, arith, sym, ◌∙◌, ◌≤◌, ◌<◌}
+use Rattle.std.specs.Prelude.{None, false}
+use Rattle.std.proofs.Common.{◌≡◌, arith, sym, ◌∙◌, ◌<◌}
 use Rattle.awk_types.specs.ItemLimit.{item_limit}
 use Rattle.awk_layout.specs.Typing.{array_type, array_items}
 use Rattle.awk_layout.specs.Valid.{len}
