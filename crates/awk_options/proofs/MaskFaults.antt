@@ -108,18 +108,18 @@ module _ (keep : Bool) (m x : Layout)
   told_lengths e = told true (levels_refused (array_type m) (pairs_of keep m x)) e refl
 
   module _ (e : lists_differ (differs (array_type m)) (array_items m) (array_items x) ≡ false)
-      where
-    made_length : length (array_items m) ≡ length (array_items x)
-        → length (pairs_of keep m x) ≡ len x
-    made_length h =
-        pairs_length (masked_value (array_type m) keep) (array_items m) (array_items x) h
-        ∙ length-array_items x
+    where
+      made_length : length (array_items m) ≡ length (array_items x)
+          → length (pairs_of keep m x) ≡ len x
+      made_length h =
+          pairs_length (masked_value (array_type m) keep) (array_items m) (array_items x) h
+          ∙ length-array_items x
 
-    pub told_many : length (array_items m) ≡ length (array_items x) → item_limit < len x
-        → put_mask_of (array_datum x) (array_datum m) keep ≡ Err Size
-    told_many h p =
-        told false (Some Size) e
-        (levels_over (array_type m) (pairs_of keep m x) (omega (arith, p, made_length h)))
+      pub told_many : length (array_items m) ≡ length (array_items x) → item_limit < len x
+          → put_mask_of (array_datum x) (array_datum m) keep ≡ Err Size
+      told_many h p =
+          told false (Some Size) e
+          (levels_over (array_type m) (pairs_of keep m x) (omega (arith, p, made_length h)))
 
   module _ (u : IsUnder m x) where
     levels : levels_refused (array_type m) (pairs_of keep m x) ≡ below_refused keep m x

@@ -223,12 +223,12 @@ module _ (m x : Layout) (d : Class) (k : ℕ) (p : Column) (m' : Layout) (c : Cl
   below_lists = record {
     under = inside_under;
     less = omega (
-          arith,
-          depth-list d (array_type m'),
-          depth-list c (array_type x'),
-          ap depth am.typ,
-          ap depth ax.typ,
-        );
+      arith,
+      depth-list d (array_type m'),
+      depth-list c (array_type x'),
+      ap depth am.typ,
+      ap depth ax.typ,
+    );
     refused = lists_refused;
     made = lists_made;
   }

@@ -39,12 +39,12 @@ innermost_made keep m x r u l h = (
 )
 
 module _ (keep : Bool) (m x m' x' : Layout) (o : Over) (b : IsBelow m x m' x' (over_layout o))
-    where
-  pub can_hold : (made : Masked) → IsMaskedBy keep m' x' made → CanHold o made
-  can_hold TooMany h = tt
-  can_hold (Column r) h = (b.made keep r h.1).valid
+  where
+    pub can_hold : (made : Masked) → IsMaskedBy keep m' x' made → CanHold o made
+    can_hold TooMany h = tt
+    can_hold (Column r) h = (b.made keep r h.1).valid
 
-  pub over_made : (made : Masked) → IsMaskedBy keep m' x' made → (r : Masked) → IsOver o made r
-      → IsMaskedBy keep m x r
-  over_made TooMany h r e = rw e (b.refused keep ∙ h)
-  over_made (Column y) h r e = rw e (b.refused keep ∙ h.0, b.made keep y h.1)
+    pub over_made : (made : Masked) → IsMaskedBy keep m' x' made → (r : Masked) → IsOver o made r
+        → IsMaskedBy keep m x r
+    over_made TooMany h r e = rw e (b.refused keep ∙ h)
+    over_made (Column y) h r e = rw e (b.refused keep ∙ h.0, b.made keep y h.1)

@@ -55,15 +55,15 @@ module _ (m x : Layout) (j : Column) (m' x' : Layout) (u : IsUnder m x) (o : Are
         (ap (λ t. any_pair (differs t) (array_items m) (array_items x)) (sym o.typ)
         ∙ under_pairs m x u);
     fits = omega (
-          arith,
-          length-array_items x',
-          mask_lengths,
-          ap length o.items,
-          filter_length is_present (array_items m),
-          length-array_items m,
-          under_len m x u,
-          u.fits,
-        );
+      arith,
+      length-array_items x',
+      mask_lengths,
+      ap length o.items,
+      filter_length is_present (array_items m),
+      length-array_items m,
+      under_len m x u,
+      u.fits,
+    );
   }
 
   mask_type : masked_type (array_type m) (array_type x)
@@ -167,13 +167,13 @@ module _ (m x : Layout) (j : Column) (m' x' : Layout) (l : is_list (array_type m
         ∙ alike_above (differs (array_type m)) (array_items m) (array_items x)
         (under_pairs m x u);
     fits = omega (
-          arith,
-          length-array_items x',
-          ap length o.items,
-          filter_length is_present (array_items x),
-          length-array_items x,
-          u.fits,
-        );
+      arith,
+      length-array_items x',
+      ap length o.items,
+      filter_length is_present (array_items x),
+      length-array_items x,
+      u.fits,
+    );
   }
 
   item_type : masked_type (array_type m) (array_type x)
