@@ -1,6 +1,6 @@
 // What two types unify to, and where the values of each go.
-use awk_unify::{Lift, unify};
 use awk_types::{Fields, Name, Names, NoMemory, Prim, Typ, Typs, opt_of, same, simple_of, uni_of};
+use awk_unify::{Lift, unify};
 use std::alloc::Global;
 use std::process::Abort;
 use std::test::Fail;

@@ -29,7 +29,7 @@ use Rattle.awk_options.specs.Lanes.{span_length}
 span_wider : (m n : ℕ) (a b : ℤ) → m ≤ n → IsSpan m a b → IsSpan n a b
 span_wider m n a b p h = λ d. ((h d).0, (h d).1, omega (arith, ints, (h d).2, p))
 
-spans_wider : (s t : Column) (m n : ℕ) → m ≤ n → AreSpans s t m → AreSpans s t n
+pub spans_wider : (s t : Column) (m n : ℕ) → m ≤ n → AreSpans s t m → AreSpans s t n
 spans_wider s t m n p h = record {
   start_kind = h.start_kind;
   stop_kind = h.stop_kind;

@@ -5,3 +5,8 @@ pub mod Firsts
 pub mod Singletons
 pub mod PadNone
 pub mod PutMask
+pub mod MaskLists
+pub mod MaskLeaves
+pub mod MaskNulls
+pub mod MaskLevels
+pub mod MaskTypes

@@ -17,13 +17,20 @@ use Rattle.awk_gather.specs.Columns.{joined_items}
 
 -- ---- types
 
--- whether a type is of lists, optional or not, whose items' type is as asked
+abbrev pub is_unknown : DataType → Bool
+is_unknown unknown = true
+is_unknown t = false
+
+-- whether a type is of lists whose items' type is as asked
+abbrev pub of_items : (DataType → Bool) → DataType → Bool
+of_items asked (var t) = asked t
+of_items asked (reg n t) = asked t
+of_items asked t = false
+
+-- the same of lists that are optional or not
 abbrev pub has_items : (DataType → Bool) → DataType → Bool
-has_items asked (var t) = asked t
-has_items asked (reg n t) = asked t
-has_items asked (opt (var t)) = asked t
-has_items asked (opt (reg n t)) = asked t
-has_items asked t = false
+has_items asked (opt t) = of_items asked t
+has_items asked t = of_items asked t
 
 -- a mask of truth values, optional or not, or of unknown, lies in lists only where the items do
 abbrev pub masks : DataType → DataType → Bool
@@ -31,8 +38,7 @@ masks unknown t = true
 masks (leaf Truths) t = true
 masks (var u) t = has_items (masks u) t
 masks (reg n u) t = has_items (masks u) t
-masks (opt unknown) t = false
-masks (opt u) t = masks u t
+masks (opt u) t = if is_unknown u then false else masks u t
 masks u t = false
 
 -- lists, optional or not, with their items' type by a function
@@ -111,13 +117,17 @@ levels_refused (reg n u) vs = too_many (length vs) or levels_refused u (joined_i
 levels_refused (opt u) vs = levels_refused u vs
 levels_refused u vs = too_many (length vs)
 
+-- what types tell of items of type t under a mask of type u
+abbrev pub types_refused : DataType → DataType → Option Fault
+types_refused u t =
+    type_refused (masks u t) or option_map limit_fault (limit (simple (masked_type u t)))
+
 -- why items of type t are not masked by others of type u, where these values are made of them
 abbrev pub masked_refused : DataType → List Value → DataType → List Value → List Value
     → Option Fault
 masked_refused t vs u ms made =
-    type_refused (masks u t)
-    or (option_map limit_fault (limit (simple (masked_type u t)))
-    or (lengths_refused (lists_differ (differs u) ms vs) or levels_refused u made))
+    types_refused u t
+    or (lengths_refused (lists_differ (differs u) ms vs) or levels_refused u made)
 
 abbrev pub masked : DataType → List Value → DataType → List Value → Bool → Result Datum Fault
 masked t vs u ms keep =

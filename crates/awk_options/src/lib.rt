@@ -5,6 +5,12 @@
 mod dropping;
 mod first_items;
 mod lengths;
+mod mask_leaves;
+mod mask_lengths;
+mod mask_levels;
+mod mask_nulls;
+mod mask_types;
+mod masking;
 mod nulls;
 mod padding;
 mod presence;
@@ -12,6 +18,7 @@ mod singles;
 
 pub use dropping::drop_none;
 pub use first_items::firsts;
+pub use masking::put_mask;
 pub use nulls::is_none;
 pub use padding::pad_none;
 pub use singles::singletons;

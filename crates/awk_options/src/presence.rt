@@ -33,7 +33,7 @@ pub(crate) fn is_optional(t: &Typ) -> bool
     }
 }
 
-fn one_if_present<L: Ledger>(index: &Lane, i: u64, steps: &mut Steps<L>) -> u64
+pub(crate) fn one_if_present<L: Ledger>(index: &Lane, i: u64, steps: &mut Steps<L>) -> u64
     requires kind { IsOptionKind index.now.kind }
     requires within { i < size_of index.now }
     ensures { result ≡ length (present_at index.now i) }
@@ -66,7 +66,7 @@ fn present_counts<'a, L: Ledger>(
 
 /// The numbers from 0 on.
 #[tactic(auto, using(awk_gather::proofs::MadeLanes::making))]
-fn numbers<'a>(n: u64, arena: &'a Arena) -> Result<Lane<'a>, NoMemory>
+pub(crate) fn numbers<'a>(n: u64, arena: &'a Arena) -> Result<Lane<'a>, NoMemory>
     requires { n < 2 ^ 63 + 1 }
     ensures { IfOk result (λ r. r ≡ lane_of Kinds.I64 n pos) }
 {
