@@ -26,13 +26,16 @@ use Rattle.awk_lists.specs.RunLengths.{run_lengths_of}
 use Rattle.awk_lists.specs.Unflatten.{unflatten_of}
 use Rattle.awk_lists.specs.WithoutField.{choice_of, without_field_of}
 use Rattle.awk_options.specs.DropNone.{drop_none_of}
+use Rattle.awk_merge.specs.Concatenate.{concatenate_of}
 use Rattle.awk_options.specs.Firsts.{firsts_of}
 use Rattle.awk_options.specs.IsNone.{is_none_of}
 use Rattle.awk_options.specs.PadNone.{pad_none_of}
+use Rattle.awk_options.specs.PutMask.{put_mask_of}
 use Rattle.awk_options.specs.Singletons.{singletons_of}
-use Rattle.awk_eval.specs.Operand.{Operand, of, literal, only_in, both_in, takes_literal}
+use Rattle.awk_eval.specs.Operand.{Operand, of, literal, only_in, both_in, data_in}
+use Rattle.awk_eval.specs.Operand.{takes_literal}
 use Rattle.awk_eval.specs.Fixed.{bounds_in, Stepped, stepped_in, place_in, text_in, texts_in}
-use Rattle.awk_eval.specs.Fixed.{padding_in}
+use Rattle.awk_eval.specs.Fixed.{padding_in, truth_in}
 use Rattle.awk_eval.specs.Ranges.{range_items}
 
 -- ---- results: the first fault wins
@@ -79,9 +82,9 @@ field_of n d = mapped settled (choice_of (field n) d)
 abbrev pub fields_of : List Name → Datum → Result Datum Fault
 fields_of ns d = choice_of (fields ns) d
 
--- an operation on one datum, with another argument
-abbrev pub given : {A : Type 0} → (A → Datum → Result Datum Fault)
-    → Option A → Option Datum → Result Datum Fault
+-- an operation on what it is given, with another argument
+abbrev pub given : {A B : Type 0} → (A → B → Result Datum Fault)
+    → Option A → Option B → Result Datum Fault
 given f (Some a) (Some d) = f a d
 given f (Some a) None = Err Unbuilt
 given f None d = Err Unbuilt
@@ -125,6 +128,10 @@ paired f None = Err Unbuilt
 abbrev pub padded_by : ℕ × ℤ × Bool → Datum → Result Datum Fault
 padded_by p d = pad_none_of p.0 p.1 p.2 d
 
+-- an array where a mask over it is as asked, and null elsewhere
+abbrev pub masked_by : Bool → Datum × Datum → Result Datum Fault
+masked_by w p = put_mask_of p.0 p.1 w
+
 -- an operation on null items on its operands; those that are not built yet answer so
 abbrev pub optioned : Op → List FixedArg → List Operand → Result Datum Fault
 optioned op.IsNone fixed operands = given is_none_of (place_in fixed) (only_in operands)
@@ -132,6 +139,7 @@ optioned op.DropNone fixed operands = given drop_none_of (place_in fixed) (only_
 optioned op.Firsts fixed operands = given firsts_of (place_in fixed) (only_in operands)
 optioned op.Singletons fixed operands = given singletons_of (place_in fixed) (only_in operands)
 optioned op.PadNone fixed operands = given padded_by (padding_in fixed) (only_in operands)
+optioned op.PutMask fixed operands = given masked_by (truth_in fixed) (both_in operands)
 optioned _ fixed operands = Err Unbuilt
 
 -- an operation on lists on its operands
@@ -141,6 +149,8 @@ listed op.Flatten fixed operands = given flatten_of (place_in fixed) (only_in op
 listed op.LocalIndex fixed operands = given local_index_of (place_in fixed) (only_in operands)
 listed op.Unflatten fixed operands = paired unflatten_of (both_in operands)
 listed op.RunLengths fixed operands = alone run_lengths_of (only_in operands)
+listed op.Concatenate fixed operands =
+    given concatenate_of (place_in fixed) (data_in operands)
 listed o fixed operands = optioned o fixed operands
 
 -- an operation on its operands

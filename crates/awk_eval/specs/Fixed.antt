@@ -51,6 +51,11 @@ abbrev pub texts_in : List FixedArg → Option (List Name)
 texts_in (Texts ns ∷ []) = Some ns
 texts_in _ = None
 
+-- the only argument, where it is a truth value
+abbrev pub truth_in : List FixedArg → Option Bool
+truth_in (Truth b ∷ []) = Some b
+truth_in _ = None
+
 -- how many items lists are padded to, at which axis, and whether they are cut
 abbrev pub padding_in : List FixedArg → Option (ℕ × ℤ × Bool)
 padding_in (Count n ∷ Place axis ∷ Truth clip ∷ []) = Some (n, axis, clip)

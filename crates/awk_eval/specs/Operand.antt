@@ -1,6 +1,6 @@
 -- What an operation takes: a datum, or a whole number that takes its type from where it stands.
 use Rattle.std.specs.Prelude.{ℕ, ℤ, Bool, true, false, ◌==◌, List, [], ◌∷◌, Option, Some, None}
-use Rattle.std.specs.Prelude.{if◌then◌else◌}
+use Rattle.std.specs.Prelude.{option_map, if◌then◌else◌}
 use Rattle.awk_types.specs.Datum.{Datum}
 use Rattle.awk_query.specs.declared.op.Op.{Op}
 use Rattle.awk_query.specs.declared.op.Op.TheVariants as op
@@ -37,3 +37,18 @@ only_in _ = None
 abbrev pub both_in : List Operand → Option (Datum × Datum)
 both_in (of d ∷ of e ∷ []) = Some (d, e)
 both_in _ = None
+
+-- one datum more
+abbrev pub one_more : Operand → Option (List Datum) → Option (List Datum)
+one_more (of d) found = option_map (λ ds. d ∷ ds) found
+one_more (literal z) found = None
+
+-- all operands, where all are data
+abbrev pub all_in : List Operand → Option (List Datum)
+all_in [] = Some []
+all_in (x ∷ xs) = one_more x (all_in xs)
+
+-- all of some operands
+abbrev pub data_in : List Operand → Option (List Datum)
+data_in [] = None
+data_in (x ∷ xs) = all_in (x ∷ xs)

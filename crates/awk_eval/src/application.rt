@@ -17,11 +17,14 @@ ghost use Rattle.awk_eval.specs.Ranges.{range_items};
 ghost use Rattle.awk_eval.specs.Views.{Size, Takes, IsWithin, AreWithin, is_view_op};
 ghost use Rattle.awk_eval.specs.Eval as meaning;
 
-use crate::arguments::{both, bound_or, bounds, only, padding, place, text, texts, with_step};
+use crate::arguments::{
+    both, bound_or, bounds, data, only, padding, place, text, texts, truth, with_step,
+};
 use awk_lanes::{Arena, Steps};
 use awk_layout::{Array, Datum, Operands};
 use awk_lists::{flatten, local_index, num, run_lengths, unflatten, without_field};
-use awk_options::{drop_none, firsts, is_none, pad_none, singletons};
+use awk_merge::concatenate;
+use awk_options::{drop_none, firsts, is_none, pad_none, put_mask, singletons};
 use awk_query::{Fixed, FixedArg, Op};
 use awk_select::{at, at_each, is_mask, mask, step_range, take};
 use awk_types::{Fault, Names, NoMemory, Typ};
@@ -109,6 +112,10 @@ fn listed<'s, L: Ledger>(
             Some(x) => run_lengths(alloc, x, arena, steps),
             None => Err(Fault::Unbuilt),
         },
+        Op::Concatenate => match (place(fixed), data(alloc, operands)?) {
+            (Some(axis), Some(xs)) => concatenate(alloc, axis, &xs, arena, steps),
+            _ => Err(Fault::Unbuilt),
+        },
         _ => optioned(alloc, op, fixed, operands, arena, steps),
     }
 }
@@ -145,6 +152,10 @@ fn optioned<'s, L: Ledger>(
         },
         Op::PadNone => match (padding(fixed), only(operands)) {
             (Some((n, axis, clip)), Some(x)) => pad_none(alloc, x, n, axis, clip, arena, steps),
+            _ => Err(Fault::Unbuilt),
+        },
+        Op::PutMask => match (truth(fixed), both(operands)) {
+            (Some(w), Some((x, mask))) => put_mask(alloc, x, mask, w, arena, steps),
             _ => Err(Fault::Unbuilt),
         },
         _ => Err(Fault::Unbuilt),

@@ -1,17 +1,18 @@
 //! The arguments of a call, by what an operation takes.
-ghost use Rattle.std.specs.Prelude.{◌≡◌, ◌≢◌, ◌≤◌, [], ◌∷◌, pos, IfSome, option_map};
+ghost use Rattle.std.specs.Prelude.{◌≡◌, ◌≢◌, ◌<◌, ◌≤◌, [], ◌∷◌, length, map, pos, IfOk, IfSome, option_map};
 ghost use Rattle.awk_layout.specs.Datum.{IsDatum, datum_of};
 ghost use Rattle.awk_layout.specs.declared.datum.Operand.TheVariants.{Of};
 ghost use Rattle.awk_eval.specs.Fixed as given;
-ghost use Rattle.awk_eval.specs.Operand.{only_in, both_in};
+ghost use Rattle.awk_eval.specs.Operand.{only_in, both_in, data_in};
 ghost use Rattle.awk_eval.specs.OperandView.{shown_operands};
 ghost use Rattle.awk_eval.specs.SteppedView.{stepped_view};
 ghost use Rattle.awk_eval.specs.Ranges as ranges;
 
-use awk_layout::{Datum, Operand, Operands};
+use awk_layout::{Datum, Datums, Operand, Operands};
 use awk_query::{Fixed, FixedArg};
 use awk_select::bound_up;
-use awk_types::{Name, Names};
+use awk_types::{Name, Names, NoMemory};
+use std::alloc::Global;
 
 /// The only operand, where it is a datum.
 pub(crate) fn only<'o, 's>(operands: &'o Operands<'s>) -> Option<&'o Datum<'s>>
@@ -33,6 +34,7 @@ pub(crate) fn only<'o, 's>(operands: &'o Operands<'s>) -> Option<&'o Datum<'s>>
 pub(crate) fn both<'o, 's>(operands: &'o Operands<'s>) -> Option<(&'o Datum<'s>, &'o Datum<'s>)>
     ensures both { option_map (λ p. (datum_of p.0.now, datum_of p.1.now)) result
         ≡ both_in (shown_operands operands.now) }
+    ensures data { IfSome result (λ p. IsDatum p.0.now × IsDatum p.1.now) }
 {
     if operands.len() != 2 {
         return None;
@@ -44,6 +46,38 @@ pub(crate) fn both<'o, 's>(operands: &'o Operands<'s>) -> Option<(&'o Datum<'s>,
         },
         Operand::Literal(_) => None,
     }
+}
+
+/// An equal datum.
+fn copy_datum<'s>(alloc: Global, x: &Datum<'s>) -> Result<Datum<'s>, NoMemory>
+    ensures { IfOk result (λ made. made ≡ x.now) }
+{
+    match x {
+        Datum::Arr(x) => Ok(Datum::Arr(x.copy(alloc)?)),
+        Datum::One(x) => Ok(Datum::One(x.copy(alloc)?)),
+    }
+}
+
+/// All operands, where there are some and all are data.
+pub(crate) fn data<'s>(
+    alloc: Global,
+    operands: &Operands<'s>,
+) -> Result<Option<Datums<'s>>, NoMemory>
+    ensures data { IfOk result (λ found. option_map (map datum_of) found
+        ≡ data_in (shown_operands operands.now)) }
+    ensures some { IfOk result (λ found. IfSome found (λ xs. 0 < length xs)) }
+{
+    if operands.len() == 0 {
+        return Ok(None);
+    }
+    let mut made = Datums::new(alloc);
+    for k in 0..operands.len() {
+        match operands.get(k) {
+            Operand::Of(x) => made.push(copy_datum(alloc, x)?)?,
+            Operand::Literal(_) => return Ok(None),
+        }
+    }
+    Ok(Some(made))
 }
 
 /// The bounds of a range, where its step is 1.
@@ -138,6 +172,19 @@ pub(crate) fn texts(fixed: &Fixed) -> Option<&Names>
     }
     match fixed.get(0) {
         FixedArg::Texts(names) => Some(names),
+        _ => None,
+    }
+}
+
+/// The only argument, where it is a truth value.
+pub(crate) fn truth(fixed: &Fixed) -> Option<bool>
+    ensures { result ≡ given.truth_in fixed.now }
+{
+    if fixed.len() != 1 {
+        return None;
+    }
+    match fixed.get(0) {
+        FixedArg::Truth(b) => Some(*b),
         _ => None,
     }
 }

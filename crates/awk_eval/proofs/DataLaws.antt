@@ -1,0 +1,45 @@
+-- All operands as data.
+use Rattle.std.proofs.Common.{◌≡◌, List, [], ◌∷◌, ◌++◌, map, option_map, slice_get, Option, Some, None}
+use Rattle.std.proofs.Common.{ℕ, zero, suc, ℤ, ap, refl}
+use Rattle.awk_types.specs.Datum as shown
+use Rattle.awk_layout.specs.Datum.{datum_of}
+use Rattle.awk_layout.specs.declared.datum.Datum.{Datum}
+use Rattle.awk_layout.specs.declared.datum.Operand.{Operand}
+use Rattle.awk_layout.specs.declared.datum.Operand.TheVariants.{Of, Literal}
+use Rattle.awk_eval.specs.Operand.{all_in, one_more}
+use Rattle.awk_eval.specs.OperandView.{shown_operand, shown_operands}
+
+-- one datum more at the end
+further : (d e : shown.Datum) (found next : Option (List shown.Datum)) (ds : List shown.Datum)
+    → ((es : List shown.Datum) → found ≡ Some es → next ≡ Some (es ++ e ∷ []))
+    → option_map (λ xs. d ∷ xs) found ≡ Some ds
+    → option_map (λ xs. d ∷ xs) next ≡ Some (ds ++ e ∷ [])
+further d e None next ds go h = absurd (cc)
+further d e (Some es) next ds go h =
+    let is : next ≡ Some (es ++ e ∷ []) = go es refl in
+    let same : ds ≡ d ∷ es = cc in
+    rw is (rw same refl)
+
+pub all_in-next : (os : List Operand) (d : Datum) (ds : List shown.Datum)
+    → all_in (shown_operands os) ≡ Some ds
+    → all_in (shown_operands (os ++ Of d ∷ [])) ≡ Some (ds ++ datum_of d ∷ [])
+all_in-next [] d ds h = let none : ds ≡ [] = cc in rw none refl
+all_in-next (Of x ∷ os) d ds h =
+    further (datum_of x) (datum_of d) (all_in (shown_operands os))
+    (all_in (shown_operands (os ++ Of d ∷ []))) ds (λ es is. all_in-next os d es is) h
+all_in-next (Literal z ∷ os) d ds h = absurd (cc)
+
+none_further : (o : Operand) (found : Option (List shown.Datum)) → found ≡ None
+    → one_more (shown_operand o) found ≡ None
+none_further (Of x) found h = ap (option_map (λ ds. datum_of x ∷ ds)) h
+none_further (Literal z) found h = refl
+
+-- a literal is no datum
+pub all_in-literal : (os : List Operand) (k : ℕ) (z : ℤ) → slice_get os k ≡ Some (Literal z)
+    → all_in (shown_operands os) ≡ None
+all_in-literal [] k z h = absurd (cc)
+all_in-literal (o ∷ os) zero z h =
+    let is : o ≡ Literal z = cc in
+    ap (λ p. one_more (shown_operand p) (all_in (shown_operands os))) is
+all_in-literal (o ∷ os) (suc k) z h =
+    none_further o (all_in (shown_operands os)) (all_in-literal os k z h)
