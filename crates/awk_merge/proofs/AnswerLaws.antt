@@ -1,9 +1,9 @@
 -- What the parts of joining answer, as parts of the whole.
-use Rattle.std.proofs.Common.{◌≡◌, ◌∙◌, ◌+◌, ◌*◌, ◌<◌, ◌==◌, ◌&&◌, ◌≤◌, ◌∷◌, [], ℕ, suc, Bool, true, false, List, Option, Some, None, Result, Ok, Err, ap, ap₂, sym, subst, refl, map, drop, length, slice_get, arith}
+use Rattle.std.proofs.Common.{◌≡◌, ◌∙◌, ◌+◌, ◌*◌, ◌==◌, ◌&&◌, ◌≤◌, ◌∷◌, [], ℕ, suc, Bool, true, false, List, Option, Some, None, Result, Ok, Err, ap, ap₂, sym, subst, refl, map, drop, length, slice_get, arith}
 use Rattle.std.specs.Prelude.{if◌then◌else◌, option_map, IsErrAnd}
 use Rattle.std.proofs.lemmas.List.{drop_all}
 use Rattle.awk_types.proofs.ListLaws.{drop-get}
-use Rattle.awk_types.proofs.RefusalLaws.{Told-same, Told-first, Told-later, refused_or-Ok, refused_or-Err, or-None, or-assoc, or-both}
+use Rattle.awk_types.proofs.RefusalLaws.{Told-first, refused_or-Ok, refused_or-Err, or-assoc, or-both}
 use Rattle.awk_types.specs.DataType.{DataType}
 use Rattle.awk_types.specs.Datum as shown
 use Rattle.awk_types.specs.Faults.{fault_of, fault_told, limit_fault}
@@ -18,7 +18,7 @@ use Rattle.awk_types.specs.declared.limit.TypeFault.TheVariants as refused
 use Rattle.awk_layout.specs.Array.{IsArrayType}
 use Rattle.awk_layout.specs.Datum.{datum_of}
 use Rattle.awk_layout.specs.Layout.{Layout}
-use Rattle.awk_layout.specs.Typing.{array_items, array_datum}
+use Rattle.awk_layout.specs.Typing.{array_datum}
 use Rattle.awk_layout.specs.Valid.{len}
 use Rattle.awk_layout.specs.declared.datum.Datum.{Datum}
 use Rattle.awk_layout.proofs.ArrayItems.{length-array_items}
@@ -26,9 +26,9 @@ use Rattle.awk_gather.specs.Columns.{joined_items}
 use Rattle.awk_unify.specs.Carry.{Carry}
 use Rattle.awk_unify.specs.UnifyList.{UnificationList, UnifiesAll, unification_list, within_list}
 use Rattle.awk_merge.specs.Concatenate.{operand_types, operand_items, carried_columns, stacked, joined_rows, row_count, are_long, lengths_fault, values_fault, joined_values, joined, joined_as, concatenate_at}
-use Rattle.awk_merge.specs.Operands.{array_in, column_in, stacked_rows, stacked_datum, rows_datum, rows_refused, joined_datum, AreLawful, AreCarriedOperands}
+use Rattle.awk_merge.specs.Operands.{array_in, column_in, stacked_rows, rows_datum, rows_refused, joined_datum, AreLawful, AreCarriedOperands}
 use Rattle.awk_merge.specs.declared.operands.Axis.{Axis}
-use Rattle.awk_merge.specs.declared.operands.Axis.TheVariants.{Arrays, Rows}
+use Rattle.awk_merge.specs.declared.operands.Axis.TheVariants.{Rows}
 use Rattle.awk_merge.proofs.OperandLaws.{length-lifts, operand_columns}
 use Rattle.awk_merge.proofs.StackLaws.{carried_long, carried_rows, length-carried_columns, length-stacked, rows-stacked}
 

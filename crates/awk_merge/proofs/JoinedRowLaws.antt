@@ -1,6 +1,6 @@
 -- The lists of each row joined: their items, and the lists by offsets into these.
-use Rattle.std.proofs.Common.{◌≡◌, ◌∙◌, ◌+◌, ◌-◌, ◌*◌, ◌<◌, ◌≤◌, ◌^◌, [], ℕ, zero, suc, Bool, true, false, List, Option, Some, None, Ok, Err, ap, ap₂, sym, subst, refl, map, length, get_or, arith}
-use Rattle.std.specs.Prelude.{ℤ, pos, nat_lt, is_some, if◌then◌else◌}
+use Rattle.std.proofs.Common.{◌≡◌, ◌∙◌, ◌+◌, ◌-◌, ◌*◌, ◌<◌, ◌≤◌, [], ℕ, Bool, true, false, List, Option, Some, None, Ok, Err, ap, ap₂, sym, subst, refl, map, length, get_or, arith}
+use Rattle.std.specs.Prelude.{pos, is_some, if◌then◌else◌}
 use Rattle.std.specs.List.{flat_map, list_all, range_with_len}
 use Rattle.std.proofs.lemmas.Int.{ints}
 use Rattle.std.proofs.lemmas.Nat.{row_fits}

@@ -6,4 +6,4 @@ pub mod StackLaws
 pub mod JoinedRowLaws
 pub mod NullRowLaws
 pub mod AnswerLaws
-pub mod Worked
+mod Examples

@@ -7,7 +7,7 @@ use Rattle.std.proofs.lemmas.Nat.{row_fits, div-mul-add, mod-mul-add}
 use Rattle.awk_types.specs.Value.{Value, value_list}
 use Rattle.awk_lanes.specs.Column.{Column}
 use Rattle.awk_lanes.specs.Numbers.{nat_of}
-use Rattle.awk_lanes.specs.Places.{size_of, at, place_at, option_place, option_place_at, IsSpan, IsOptionalIndex}
+use Rattle.awk_lanes.specs.Places.{size_of, at, option_place, option_place_at, IsSpan, IsOptionalIndex}
 use Rattle.awk_lanes.specs.declared.kind.Kind.TheVariants.{I64}
 use Rattle.awk_layout.specs.Item.{run, at_option}
 use Rattle.awk_layout.specs.Layout.{Layout}

@@ -1,20 +1,19 @@
 -- Rows joined, where those with a null are null, and what the calls answer of them.
-use Rattle.std.proofs.Common.{◌≡◌, ◌∙◌, ◌+◌, ◌*◌, ◌<◌, ◌≤◌, [], ℕ, zero, suc, Bool, true, false, List, Option, Some, None, Result, Ok, Err, ap, ap₂, sym, subst, refl, map, length, get_or, arith}
-use Rattle.std.specs.Prelude.{if◌then◌else◌, is_some}
-use Rattle.std.specs.List.{flat_map, list_all, range_with_len}
+use Rattle.std.proofs.Common.{◌≡◌, ◌∙◌, ◌+◌, ◌*◌, ◌<◌, [], ℕ, zero, suc, Bool, true, false, List, Option, Some, None, Ok, ap, ap₂, sym, subst, refl, map, length, get_or, arith}
+use Rattle.std.specs.Prelude.{if◌then◌else◌}
+use Rattle.std.specs.List.{list_all, range_with_len}
 use Rattle.std.proofs.lemmas.List.Folds.{flat_map-map}
 use Rattle.std.proofs.lemmas.List.FromFn.{get_or-map-range_with_len, length-map-range_with_len}
 use Rattle.awk_types.proofs.RefusalLaws.{Told-same, refused_or-None, refused_or-Ok}
-use Rattle.awk_types.proofs.Trees.{value_list-from}
 use Rattle.awk_types.specs.DataType.{DataType, unknown, leaf, var, reg, rec, tup, opt, uni}
 use Rattle.awk_types.specs.Datum as shown
-use Rattle.awk_types.specs.Gives.{Told, refused_or}
+use Rattle.awk_types.specs.Gives.{Told}
 use Rattle.awk_types.specs.ItemLimit.{too_many}
 use Rattle.awk_types.specs.Simple.{present, is_option, simple_value, in_option}
 use Rattle.awk_types.specs.Value.{Value, null, list, values_from}
 use Rattle.awk_types.specs.declared.fault.Fault.{Fault}
 use Rattle.awk_lanes.specs.Column.{Column}
-use Rattle.awk_lanes.specs.Places.{size_of, option_place, option_place_at}
+use Rattle.awk_lanes.specs.Places.{size_of, option_place_at}
 use Rattle.awk_layout.specs.Item.{item, at_option}
 use Rattle.awk_layout.specs.Layout.{Layout, optional}
 use Rattle.awk_layout.specs.Typing.{layout_type, array_type, array_items, array_datum}
@@ -27,11 +26,11 @@ use Rattle.awk_axis.specs.Opened.{OpensLists, OpensOption}
 use Rattle.awk_axis.proofs.ArrayLaws.{simple_null, in_option_same, array_items-at}
 use Rattle.awk_merge.specs.Concatenate.{joined_row}
 use Rattle.awk_merge.specs.Operands.{stacked_row, stacked_rows, filled_row, filled_rows, rows_datum}
-use Rattle.awk_merge.specs.Operands.{list_place, values_by, type_by, list_between, is_whole, rows_lane}
+use Rattle.awk_merge.specs.Operands.{list_place, values_by, type_by, list_between, rows_lane}
 use Rattle.awk_merge.specs.Operands.{IsListIndex, IsRowsType}
 use Rattle.awk_merge.proofs.JoinedRowLaws.{row-whole}
 use Rattle.awk_merge.proofs.ListPlaceLaws.{ends_place, size-rows, option-rows, place_within}
-use Rattle.awk_merge.proofs.RangeLaws.{all-range, flat-range}
+use Rattle.awk_merge.proofs.RangeLaws.{flat-range}
 use Rattle.awk_merge.proofs.StackLaws.{map-at}
 
 -- ---- filled rows and rows with nulls

@@ -1,5 +1,5 @@
 -- Types of rows unify to a type of rows.
-use Rattle.std.proofs.Common.{◌≡◌, ◌∙◌, ◌+◌, ◌<◌, ◌∷◌, [], suc, Bool, true, false, List, Option, Some, None, ap, sym, subst, refl, map, length, arith}
+use Rattle.std.proofs.Common.{◌≡◌, ◌<◌, ◌∷◌, [], suc, Bool, true, false, List, Option, Some, None, ap, sym, subst, refl, map, length, arith}
 use Rattle.std.specs.List.{AllByRecursion}
 use Rattle.std.specs.Option.{option_map}
 use Rattle.awk_types.specs.DataType.{DataType, unknown, leaf, var, reg, rec, tup, opt, uni}
@@ -15,7 +15,7 @@ use Rattle.awk_unify.proofs.SimpleLaws.{equal_is}
 use Rattle.awk_merge.specs.Concatenate.{lists_type, rows_type, operand_type, operand_types}
 use Rattle.awk_merge.specs.Operands.{IsRowsType}
 use Rattle.awk_merge.specs.declared.operands.Axis.TheVariants.{Rows}
-use Rattle.awk_merge.proofs.OperandLaws.{IsBefore, before_is}
+use Rattle.awk_merge.proofs.OperandLaws.{before_is}
 
 -- ---- the two forms of such a type
 

@@ -1,21 +1,18 @@
 -- Columns of operands one after another, and their rows.
 use Rattle.std.proofs.Common.{◌≡◌, ◌∙◌, ◌+◌, ◌*◌, ◌<◌, ◌≤◌, ◌==◌, ◌&&◌, ◌∷◌, ◌++◌, [], ℕ, zero, suc, Bool, true, false, List, Some, ap, sym, subst, refl, map, drop, length, slice_get, get_or, arith}
 use Rattle.std.specs.Prelude.{None, nat_lt, if◌then◌else◌}
-use Rattle.std.specs.List.{flat_map, list_all, range_with_len}
-use Rattle.std.proofs.lemmas.Grind.{flat_map-append}
+use Rattle.std.specs.List.{range_with_len}
 use Rattle.std.proofs.lemmas.List.{append-nil, append_assoc, length-append, length-map, drop_all, get_or_append_left, get_or-append-add}
 use Rattle.awk_types.proofs.ListLaws.{drop-get}
 use Rattle.awk_types.specs.DataType.{DataType}
 use Rattle.awk_types.specs.ItemLimit.{item_limit, too_many}
 use Rattle.awk_types.specs.Value.{Value, null}
 use Rattle.awk_types.specs.declared.fault.Fault.TheVariants.{Size}
-use Rattle.awk_layout.specs.Layout.{Layout}
-use Rattle.awk_layout.specs.Typing.{array_type, array_items}
 use Rattle.awk_layout.specs.declared.datum.Datum.{Datum}
 use Rattle.awk_unify.specs.Carry.{Carry, carried}
 use Rattle.awk_merge.specs.Concatenate.{carried_columns, stacked, row_of, joined_row, joined_rows, row_count, are_long}
 use Rattle.awk_merge.specs.Operands.{array_in, column_in, AreCarriedOperands, stacked_row, stacked_rows}
-use Rattle.awk_merge.specs.Sides.{Side, merged_items, Carries, AreSides, with_side}
+use Rattle.awk_merge.specs.Sides.{Side, merged_items, AreSides, with_side}
 use Rattle.awk_merge.proofs.OperandLaws.{length-lifts}
 use Rattle.awk_merge.proofs.SideLaws.{merged_items-with_side, AreSides-with_side}
 
@@ -28,10 +25,6 @@ pub record AreTaken (ds : List Datum) (fs : List Carry) (t : DataType) (i : ℕ)
       ≡ stacked (carried_columns fs (map column_in ds))
   pub left : AreCarriedOperands (drop i ds) (drop i fs) t
   pub sides : AreSides t ss
-
-pub none_taken : (ds : List Datum) (fs : List Carry) (t : DataType) → AreCarriedOperands ds fs t
-    → AreTaken ds fs t 0 []
-none_taken ds fs t h = record { items = refl; left = h; sides = tt }
 
 pub one_taken : (ds : List Datum) (fs : List Carry) (t : DataType) (i : ℕ) (ss rs : List Side)
     (d : Datum) (f : Carry) → slice_get ds i ≡ Some d → slice_get fs i ≡ Some f

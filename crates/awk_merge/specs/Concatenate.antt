@@ -1,5 +1,5 @@
 -- Arrays joined one after another, or list by list within their rows.
-use Rattle.std.specs.Prelude.{◌==◌, ◌&&◌, ◌∷◌, [], ℕ, ℤ, pos, negsuc, Bool, not, if◌then◌else◌}
+use Rattle.std.specs.Prelude.{◌==◌, ◌∷◌, [], ℕ, ℤ, pos, negsuc, Bool, if◌then◌else◌}
 use Rattle.std.specs.Prelude.{List, length, map, get_or, Option, Some, None, option_map}
 use Rattle.std.specs.Prelude.{Result, Err}
 use Rattle.std.specs.List.{flat_map, list_all, range_with_len}
@@ -101,8 +101,9 @@ values_fault Rows vss =
 
 abbrev pub joined : Axis → UnificationList → List (List Value) → Result Datum Fault
 joined axis u vss =
-    refused_or (option_map limit_fault (limit u.typ) or values_fault axis (carried_columns u.lifts vss))
-    (arr u.typ (joined_values axis (carried_columns u.lifts vss)))
+    let columns = carried_columns u.lifts vss in
+    refused_or (option_map limit_fault (limit u.typ) or values_fault axis columns)
+    (arr u.typ (joined_values axis columns))
 
 abbrev pub joined_as : Axis → Option (List DataType) → List (List Value) → Result Datum Fault
 joined_as axis None vss = Err fault.Axis

@@ -1,4 +1,4 @@
-use Rattle.std.proofs.Common.{◌≡◌, ◌∙◌, ◌*◌, ◌<◌, ℕ, Err, None, ap, sym, subst, map, length, arith}
+use Rattle.std.proofs.Common.{◌≡◌, ◌∙◌, ◌*◌, Err, None, ap, sym, subst, map, length, arith}
 use Rattle.awk_types.proofs.RefusalLaws.{Gives-Err, refused_or-Ok}
 use Rattle.awk_types.specs.Faults.{fault_told}
 use Rattle.awk_types.specs.Gives.{Gives}

@@ -1,10 +1,8 @@
-use Rattle.std.proofs.Common.{◌≡◌, ◌∙◌, None, Some, true, false, ap, ap₂, sym, map, arith}
+use Rattle.std.proofs.Common.{◌∙◌, None, Some, ap, ap₂, sym, arith}
 use Rattle.std.specs.Prelude.{if◌then◌else◌}
 use Rattle.awk_types.specs.Gives.{refused_or, ◌or◌}
 use Rattle.awk_types.specs.ItemLimit.{too_many}
 use Rattle.awk_types.specs.declared.fault.Fault.TheVariants.{Lengths}
-use Rattle.awk_merge.specs.Concatenate.{are_long}
-use Rattle.awk_merge.specs.Operands.{column_in}
 use Rattle.awk_merge.proofs.StackLaws.{over_limit, within_limit}
 use Rattle.awk_merge.proofs.joining.judge_rows.Goals as goal
 

@@ -1,6 +1,6 @@
-use Rattle.std.proofs.Common.{◌≡◌, ◌∙◌, ◌+◌, ◌*◌, ◌%◌, ◌/◌, ◌<◌, ℕ, Some, ap, refl, sym, subst, arith}
+use Rattle.std.proofs.Common.{◌∙◌, ◌+◌, ◌*◌, ◌%◌, ◌/◌, ◌<◌, ℕ, Some, ap, refl, sym, arith}
 use Rattle.awk_lanes.specs.Places.{size_of}
-use Rattle.awk_merge.specs.Operands.{list_place, IndexHas}
+use Rattle.awk_merge.specs.Operands.{list_place}
 use Rattle.awk_merge.proofs.ListPlaceLaws.{cell, row_within, column_within, place_within, indexes_all, index_has}
 use Rattle.awk_merge.proofs.joining_rows.end_in_rows.Goals as goal
 

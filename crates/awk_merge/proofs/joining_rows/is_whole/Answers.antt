@@ -1,4 +1,4 @@
-use Rattle.std.proofs.Common.{◌≡◌, ◌∙◌, ◌+◌, ◌*◌, ℕ, Bool, ap, sym, subst, arith}
+use Rattle.std.proofs.Common.{◌≡◌, ◌∙◌, ◌+◌, ◌*◌, ap, sym, subst, arith}
 use Rattle.std.specs.Prelude.{true, not, is_some}
 use Rattle.std.specs.List.{list_all, range_with_len}
 use Rattle.awk_merge.specs.Operands.{list_place}

@@ -1,7 +1,6 @@
 use Rattle.std.proofs.Common.{◌≡◌, ◌*◌, ◌<◌, ℕ, None, sym, subst, arith}
 use Rattle.awk_types.specs.DataType.{var}
 use Rattle.awk_types.specs.ItemLimit.{item_limit}
-use Rattle.awk_lanes.specs.Column.{Column}
 use Rattle.awk_lanes.specs.Places.{size_of, IsOptionalIndex}
 use Rattle.awk_layout.specs.Typing.{array_type}
 use Rattle.awk_axis.specs.Joined.{IsJoined, JoinsLists, total}

@@ -1,10 +1,7 @@
-use Rattle.std.proofs.Common.{◌≡◌, ◌∙◌, ◌*◌, ◌<◌, ◌^◌, Ok, Err, ap, ap₂, sym, subst, length, arith}
+use Rattle.std.proofs.Common.{◌≡◌, ◌∙◌, Ok, Err, ap, ap₂, sym, subst, length, arith}
 use Rattle.awk_types.proofs.RefusalLaws.{Gives-Err}
-use Rattle.awk_types.specs.DataType.{DataType}
 use Rattle.awk_types.specs.Faults.{fault_told}
 use Rattle.awk_types.specs.Gives.{Told}
-use Rattle.awk_types.specs.Value.{Value}
-use Rattle.awk_types.specs.View.{typ_of}
 use Rattle.awk_layout.proofs.ArrayItems.{length-array_items}
 use Rattle.awk_layout.specs.Array.{IsArrayType}
 use Rattle.awk_layout.specs.Typing.{array_type, array_items, array_datum}

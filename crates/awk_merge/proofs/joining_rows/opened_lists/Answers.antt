@@ -1,4 +1,3 @@
-use Rattle.awk_axis.specs.Opened.{OpensLists}
 use Rattle.awk_merge.proofs.joining_rows.opened_lists.Goals as goal
 
 pub returns : goal.returns

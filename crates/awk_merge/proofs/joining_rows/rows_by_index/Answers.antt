@@ -1,4 +1,4 @@
-use Rattle.std.proofs.Common.{◌≡◌, ◌∙◌, ◌*◌, ◌<◌, ◌≤◌, ◌^◌, ℕ, List, Ok, Err, ap, sym, subst, refl, arith}
+use Rattle.std.proofs.Common.{◌≡◌, ◌∙◌, ◌*◌, ◌<◌, ◌^◌, ℕ, List, Ok, Err, ap, sym, subst, refl, arith}
 use Rattle.awk_types.proofs.RefusalLaws.{Gives-Err}
 use Rattle.awk_types.specs.DataType.{DataType, var}
 use Rattle.awk_types.specs.Faults.{fault_told}
