@@ -29,5 +29,5 @@ pub mod StackLaws
 pub mod JoinedRowLaws
 pub mod NullRowLaws
 pub mod AnswerLaws
-mod Worked
+mod Examples
 mod WorkedMerging

@@ -27,16 +27,6 @@ use Rattle.awk_merge.specs.declared.operands.Axis.TheVariants.{Arrays, Rows}
 abbrev pub IsLawful : DataType → Type 0
 IsLawful t = IsType t × IsSimple t
 
-lists_lawful : (t : DataType) → IsLawful t → IfSome (lists_type t) IsLawful
-lists_lawful unknown h = (tt, tt)
-lists_lawful (leaf p) h = tt
-lists_lawful (var t) h = h
-lists_lawful (reg n t) h = h
-lists_lawful (rec ns ts) h = tt
-lists_lawful (tup ts) h = tt
-lists_lawful (opt t) h = tt
-lists_lawful (uni ts) h = tt
-
 -- lists are of a type of lists
 lists_has : (t a : DataType) → lists_type t ≡ Some a → (v : Value) → Has t v → Has a v
 lists_has unknown a e v h = absurd h
@@ -186,26 +176,6 @@ types_last axis ds i ts all l h =
     ∙ sym (ap (λ xs. types_then ts (operand_types axis (map datum_of xs))) (drop_all i ds l)) ∙ h
 
 -- ---- that they are types
-
-optional_lawful : (t : DataType) → IsLawful t → IfSome (option_map opt (lists_type t)) IsLawful
-optional_lawful unknown h = (tt, (refl, tt))
-optional_lawful (leaf p) h = tt
-optional_lawful (var t) h = (h.0, (refl, h.1))
-optional_lawful (reg n t) h = (h.0, (refl, h.1))
-optional_lawful (rec ns ts) h = tt
-optional_lawful (tup ts) h = tt
-optional_lawful (opt t) h = tt
-optional_lawful (uni ts) h = tt
-
-pub rows_lawful : (t : DataType) → IsLawful t → IfSome (rows_type t) IsLawful
-rows_lawful (opt t) h = optional_lawful t (h.0, h.1.1)
-rows_lawful unknown h = lists_lawful unknown h
-rows_lawful (leaf p) h = lists_lawful (leaf p) h
-rows_lawful (var t) h = lists_lawful (var t) h
-rows_lawful (reg n t) h = lists_lawful (reg n t) h
-rows_lawful (rec ns ts) h = lists_lawful (rec ns ts) h
-rows_lawful (tup ts) h = lists_lawful (tup ts) h
-rows_lawful (uni ts) h = lists_lawful (uni ts) h
 
 simple_append : (ts us : List DataType) → AreSimple (types_from ts) → AreSimple (types_from us)
     → AreSimple (types_from (ts ++ us))

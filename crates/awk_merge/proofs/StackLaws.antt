@@ -26,10 +26,6 @@ pub record AreTaken (ds : List Datum) (fs : List Carry) (t : DataType) (i : ℕ)
   pub left : AreCarriedOperands (drop i ds) (drop i fs) t
   pub sides : AreSides t ss
 
-pub none_taken : (ds : List Datum) (fs : List Carry) (t : DataType) → AreCarriedOperands ds fs t
-    → AreTaken ds fs t 0 []
-none_taken ds fs t h = record { items = refl; left = h; sides = tt }
-
 pub one_taken : (ds : List Datum) (fs : List Carry) (t : DataType) (i : ℕ) (ss rs : List Side)
     (d : Datum) (f : Carry) → slice_get ds i ≡ Some d → slice_get fs i ≡ Some f
     → rs ≡ with_side ss (array_in d) f → AreTaken ds fs t i ss → AreTaken ds fs t (i + 1) rs

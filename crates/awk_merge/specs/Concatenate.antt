@@ -101,8 +101,9 @@ values_fault Rows vss =
 
 abbrev pub joined : Axis → UnificationList → List (List Value) → Result Datum Fault
 joined axis u vss =
-    refused_or (option_map limit_fault (limit u.typ) or values_fault axis (carried_columns u.lifts vss))
-    (arr u.typ (joined_values axis (carried_columns u.lifts vss)))
+    let columns = carried_columns u.lifts vss in
+    refused_or (option_map limit_fault (limit u.typ) or values_fault axis columns)
+    (arr u.typ (joined_values axis columns))
 
 abbrev pub joined_as : Axis → Option (List DataType) → List (List Value) → Result Datum Fault
 joined_as axis None vss = Err fault.Axis

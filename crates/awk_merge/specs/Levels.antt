@@ -139,7 +139,9 @@ pub record IsUnionLevel (ts : List DataType) (ss : List Side) (r : UnionLevel) :
   pub tags : (i : ℕ) → i < size_of r.tags
       → (pos 0 ≤ℤ at r.tags i) × (place_at r.tags i < length (groups_of r.groups))
   pub places : (i : ℕ) → i < size_of r.tags → (pos 0 ≤ℤ at r.index i)
-      × (place_at r.index i < length (merged_items (get_or (groups_of r.groups) (place_at r.tags i) [])))
+      × (place_at r.index i
+      < length (merged_items (get_or (groups_of r.groups) (place_at r.tags i) [])))
   pub items : (i : ℕ) → i < size_of r.tags → get_or (merged_items ss) i null
-      ≡ alt (place_at r.tags i) (item_in (groups_of r.groups) (place_at r.tags i) (place_at r.index i))
+      ≡ alt (place_at r.tags i)
+      (item_in (groups_of r.groups) (place_at r.tags i) (place_at r.index i))
   pub typed : AllByRecursion (Has (uni (types_from ts))) (merged_items ss)

@@ -1,5 +1,6 @@
 -- What operands that are joined are: their columns, and the lists of each row among those of all.
-use Rattle.std.specs.Prelude.{◌≡◌, ◌+◌, ◌-◌, ◌*◌, ◌/◌, ◌%◌, ◌<◌, ◌≤◌, ◌∷◌, [], ℕ, ℤ, pos, negsuc, Bool}
+use Rattle.std.specs.Prelude.{◌≡◌, ◌+◌, ◌-◌, ◌*◌, ◌/◌, ◌%◌, ◌<◌, ◌≤◌, ◌∷◌, [], ℕ}
+use Rattle.std.specs.Prelude.{ℤ, pos, negsuc, Bool}
 use Rattle.std.specs.Prelude.{if◌then◌else◌, List, length, map, get_or, Option, Some, None, is_some}
 use Rattle.std.specs.Prelude.{Result}
 use Rattle.std.specs.List.{list_all, range_with_len}

@@ -40,8 +40,8 @@ impl<'a> Groups<'a> {
     ) -> Result<(), NoMemory>
         requires within { j < length (groups_of self.old) }
         requires counted { AreCounted self.old }
-        ensures groups { let made = with_side_at j (groups_of self.old) column.entry (lift_of lift.now) in
-            OnOk result (groups_of self.new ≡ made) }
+        ensures groups { let old = groups_of self.old in
+            OnOk result (groups_of self.new ≡ with_side_at j old column.entry (lift_of lift.now)) }
         ensures counted { OnOk result (AreCounted self.new) }
     {
         self.groups[j].push(alloc, column, lift)

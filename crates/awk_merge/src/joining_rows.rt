@@ -252,7 +252,8 @@ fn rows_by_index<'a, L: Ledger>(
     requires lists { (class : Option ℕ) × AreLists class starts.now stops.now content.now }
     requires index { IsListIndex index.now (k * n) (size_of starts.now) }
     requires fits { k * n < 2 ^ 63 }
-    ensures { let vs = values_by index.now (k * n) (list_between starts.now stops.now content.now) in
+    ensures { let list = list_between starts.now stops.now content.now in
+        let vs = values_by index.now (k * n) list in
         let typ = type_by index.now (var (array_type content.now)) in
         Gives array_datum fault_told result (rows_datum typ (stacked_rows n k vs)) }
 {
@@ -266,7 +267,7 @@ fn rows_by_index<'a, L: Ledger>(
 
 /// Where the lists of a column lie, and what holds their items.
 #[derive(Drop)]
-struct OpenedLists<'a> {
+struct RowLists<'a> {
     starts: Lane<'a>,
     stops: Lane<'a>,
     content: Array<'a>,
@@ -278,7 +279,7 @@ fn opened_lists<'a, L: Ledger>(
     x: &Array<'a>,
     arena: &'a Arena,
     steps: &mut Steps<L>,
-) -> Result<OpenedLists<'a>, NoMemory>
+) -> Result<RowLists<'a>, NoMemory>
     requires lists { (u : DataType) × (array_type x.now ≡ var u) }
     ensures { IfOk result (λ r.
         (class : Option ℕ) × OpensLists class r.starts r.stops r.content x.now) }
@@ -289,7 +290,7 @@ fn opened_lists<'a, L: Ledger>(
             stops,
             content,
             ..
-        } => Ok(OpenedLists {
+        } => Ok(RowLists {
             starts,
             stops,
             content,

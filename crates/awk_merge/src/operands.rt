@@ -108,7 +108,8 @@ pub(crate) fn operand_sides<'a>(
     whole: &UnifiedAll,
 ) -> Result<Sides<'a>, NoMemory>
     requires { AreCarriedOperands xs.now (lifts_of whole.now.lifts) (typ_of whole.now.typ) }
-    ensures items { let columns = carried_columns (lifts_of whole.now.lifts) (map column_in xs.now) in
+    ensures items { let lifts = lifts_of whole.now.lifts in
+        let columns = carried_columns lifts (map column_in xs.now) in
         IfOk result (λ r. merged_items (sides_of r) ≡ stacked columns) }
     ensures sides { IfOk result (λ r. AreSides (typ_of whole.now.typ) (sides_of r)) }
     ensures counted { IfOk result IsCounted }

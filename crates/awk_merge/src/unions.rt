@@ -100,8 +100,8 @@ fn put_column<'a>(
     groups: &mut Groups<'a>,
 ) -> Result<(), NoMemory>
     requires counted { AreCounted groups.old }
-    ensures groups { let made = with_side_at tag (groups_of groups.old) column.now (lift_of lift.now) in
-        OnOk result (groups_of groups.new ≡ made) }
+    ensures groups { let old = groups_of groups.old in
+        OnOk result (groups_of groups.new ≡ with_side_at tag old column.now (lift_of lift.now)) }
     ensures counted { OnOk result (AreCounted groups.new) }
 {
     if tag >= groups.len() as u64 {
