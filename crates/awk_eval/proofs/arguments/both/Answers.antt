@@ -4,28 +4,23 @@ use Rattle.awk_eval.specs.OperandView.{shown_operands}
 use Rattle.awk_eval.proofs.OperandLaws.{operands-two, literal-first}
 use Rattle.awk_eval.proofs.arguments.both.Goals as goal
 
-pub returns-in-Of-get : goal.returns-in-Of-get
-returns-in-Of-get c =
+pub returns-in-Of-get-clause-both : goal.returns-in-Of-get-clause-both
+returns-in-Of-get-clause-both c =
     let two : length c.args.operands.now ≡ 2 = omega arith in
-    record {
-      both = sym (ap (λ os. both_in (shown_operands os))
-          (operands-two c.args.operands.now c.get.result.now c.get-in-Of.result.now two
-          c.get.ensures.item c.get-in-Of.ensures.item
-          ∙ ap₂ (λ o p. o ∷ p ∷ []) c.in-Of.is c.in-Of-get.is));
-    }
+    sym (ap (λ os. both_in (shown_operands os))
+    (operands-two c.args.operands.now c.get.result.now c.get-in-Of.result.now two
+    c.get.ensures.item c.get-in-Of.ensures.item
+    ∙ ap₂ (λ o p. o ∷ p ∷ []) c.in-Of.is c.in-Of-get.is))
 
-pub returns-in-Literal-get : goal.returns-in-Literal-get
-returns-in-Literal-get c =
+pub returns-in-Literal-get-clause-both : goal.returns-in-Literal-get-clause-both
+returns-in-Literal-get-clause-both c =
     let two : length c.args.operands.now ≡ 2 = omega arith in
-    record {
-      both = sym (ap (λ os. both_in (shown_operands os))
-          (operands-two c.args.operands.now c.get.result.now c.get-in-Of.result.now two
-          c.get.ensures.item c.get-in-Of.ensures.item
-          ∙ ap₂ (λ o p. o ∷ p ∷ []) c.in-Of.is c.in-Literal-get.is));
-    }
+    sym (ap (λ os. both_in (shown_operands os))
+    (operands-two c.args.operands.now c.get.result.now c.get-in-Of.result.now two
+    c.get.ensures.item c.get-in-Of.ensures.item
+    ∙ ap₂ (λ o p. o ∷ p ∷ []) c.in-Of.is c.in-Literal-get.is))
 
-pub returns-in-Literal : goal.returns-in-Literal
-returns-in-Literal c = record {
-  both = sym (literal-first c.args.operands.now c.get.result.now c.in-Literal.field-0
-      c.get.ensures.item c.in-Literal.is);
-}
+pub returns-in-Literal-clause-both : goal.returns-in-Literal-clause-both
+returns-in-Literal-clause-both c =
+    sym (literal-first c.args.operands.now c.get.result.now c.in-Literal.field-0
+    c.get.ensures.item c.in-Literal.is)
