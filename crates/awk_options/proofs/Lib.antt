@@ -8,3 +8,4 @@ pub mod DropLaws
 pub mod PadLaws
 pub mod PadGiven
 mod Worked
+mod WorkedFill

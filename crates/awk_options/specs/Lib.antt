@@ -5,3 +5,5 @@ pub mod Firsts
 pub mod Singletons
 pub mod PadNone
 pub mod PutMask
+pub mod FillNone
+pub mod Filled

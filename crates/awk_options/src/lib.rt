@@ -3,6 +3,7 @@
 #![tactic(auto)]
 
 mod dropping;
+mod filling;
 mod first_items;
 mod lengths;
 mod nulls;
@@ -11,6 +12,7 @@ mod presence;
 mod singles;
 
 pub use dropping::drop_none;
+pub use filling::fill_none;
 pub use first_items::firsts;
 pub use nulls::is_none;
 pub use padding::pad_none;

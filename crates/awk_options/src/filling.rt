@@ -1,0 +1,322 @@
+//! A value in the place of each null.
+ghost use Rattle.std.specs.Prelude.{◌≡◌, ◌<◌, ◌+◌, ◌^◌, true, None, IfOk, OnOk};
+ghost use Rattle.awk_types.specs.Faults.{fault_told};
+ghost use Rattle.awk_types.specs.Gives.{Gives};
+ghost use Rattle.awk_types.specs.Has.{least_number, greatest_number};
+ghost use Rattle.awk_types.specs.View.{typ_of};
+ghost use Rattle.awk_lanes.specs.Numbers.{int_of, IsOf};
+ghost use Rattle.awk_lanes.specs.Places.{size_of, IsOptionalIndex};
+ghost use Rattle.awk_layout.specs.Datum.{datum_of, IsDatum, IsOperand};
+ghost use Rattle.awk_layout.specs.Kinds.{kind_of};
+ghost use Rattle.awk_layout.specs.Typing.{array_type};
+ghost use Rattle.awk_options.specs.Filled.{IsValueArray, IsPair, places_or, IsFilled};
+ghost use Rattle.awk_options.specs.FillNone.{filler_of, is_filler, literal_primitive};
+ghost use Rattle.awk_options.specs.FillNone.{fits as fits_in, literal_refusal, filler_refusal};
+ghost use Rattle.awk_options.specs.FillNone.{filler_type, filled_type, fill_none_function};
+ghost use Rattle.awk_options.specs.FillNone.{fill_none_of};
+ghost use Rattle.awk_unify.specs.Unify.{unification};
+
+use crate::presence::is_optional;
+use awk_axis::{Joined, ListOp, Made, Opened, Refusal, Spoil, join_spans, lift_at, open_array};
+use awk_lanes::{Arena, Kind, Lane, LaneMaker, Num, Steps, number, option_place_in};
+use awk_layout::{Array, Datum, Node, Operand, kind_of};
+use awk_merge::{Sides, merge};
+use awk_types::{Fault, NoMemory, Prim, Typ, copy_type};
+use awk_unify::{Unified, unified, unify};
+use std::alloc::{AllocError, Global};
+use std::marker::Model;
+use std::sync::ledger::Ledger;
+
+/// The least number of a primitive.
+fn least(prim: Prim) -> i128
+    ensures { result ≡ least_number prim }
+{
+    match prim {
+        Prim::I8 => -0x80,
+        Prim::I16 => -0x8000,
+        Prim::I32 => -0x8000_0000,
+        Prim::I64 => -0x8000_0000_0000_0000,
+        _ => 0,
+    }
+}
+
+/// The greatest number of a primitive. Truth values are no numbers.
+fn greatest(prim: Prim) -> i128
+    ensures { result ≡ greatest_number prim }
+{
+    match prim {
+        Prim::Bool => -1,
+        Prim::I8 => 0x7f,
+        Prim::I16 => 0x7fff,
+        Prim::I32 => 0x7fff_ffff,
+        Prim::I64 => 0x7fff_ffff_ffff_ffff,
+        Prim::U8 => 0xff,
+        Prim::U16 => 0xffff,
+        Prim::U32 => 0xffff_ffff,
+        Prim::U64 => 0xffff_ffff_ffff_ffff,
+    }
+}
+
+fn fits(prim: Prim, z: i128) -> bool
+    ensures { result ≡ fits_in prim z }
+{
+    least(prim) <= z && z <= greatest(prim)
+}
+
+/// The type of a literal beside items of a type.
+fn literal_prim(item: &Typ) -> Prim
+    ensures { result ≡ literal_primitive (typ_of item.now) }
+{
+    match item {
+        Typ::Leaf(Prim::Bool) => Prim::I64,
+        Typ::Leaf(prim) => *prim,
+        _ => Prim::I64,
+    }
+}
+
+/// A literal is judged only where items are optional.
+fn literal_refusal(z: i128, item: &Typ) -> Option<Refusal>
+    ensures { result ≡ literal_refusal z (typ_of item.now) }
+{
+    match item {
+        Typ::Opt(present) => {
+            if fits(literal_prim(present), z) {
+                None
+            } else {
+                Some(Refusal::Overflow)
+            }
+        }
+        _ => None,
+    }
+}
+
+/// Whether nulls may be filled with it.
+fn is_filler(value: &Operand) -> bool
+    ensures { result ≡ is_filler (filler_of value.now) }
+{
+    match value {
+        Operand::Literal(_) => true,
+        Operand::Of(Datum::Arr(_)) => false,
+        Operand::Of(Datum::One(x)) => !is_optional(x.typ()),
+    }
+}
+
+/// Its type beside items of a type.
+fn filler_typ(alloc: Global, value: &Operand, item: &Typ) -> Result<Typ, NoMemory>
+    ensures { let f = filler_of value.now in
+        IfOk result (λ t. typ_of t ≡ filler_type f (typ_of item.now)) }
+{
+    match value {
+        Operand::Literal(_) => Ok(Typ::Leaf(literal_prim(item))),
+        Operand::Of(Datum::Arr(x) | Datum::One(x)) => copy_type(alloc, x.typ()),
+    }
+}
+
+/// A number of a kind.
+fn number_of(kind: Kind, z: i128) -> Num {
+    match kind {
+        Kind::U8 | Kind::U16 | Kind::U32 | Kind::U64 => Num::Nat(z as u64),
+        _ => Num::Int(z as i64),
+    }
+}
+
+/// The array of one number.
+fn only_number<'a, L: Ledger>(
+    prim: Prim,
+    z: i128,
+    arena: &'a Arena,
+    steps: &mut Steps<L>,
+) -> Result<Array<'a>, NoMemory> {
+    let kind = kind_of(prim);
+    let mut maker = LaneMaker::new(kind, 1, arena)?;
+    maker.push(number_of(kind, z));
+    let node = Node::numpy(maker.finish(), steps);
+    Ok(Array::with_type(node, Typ::Leaf(prim)))
+}
+
+/// The array of the value alone, beside items of a type.
+fn value_array<'a, L: Ledger>(
+    alloc: Global,
+    value: &Operand<'a>,
+    item: &Typ,
+    arena: &'a Arena,
+    steps: &mut Steps<L>,
+) -> Result<Array<'a>, NoMemory>
+    requires operand { IsOperand value.now }
+    requires filler { is_filler (filler_of value.now) ≡ true }
+    ensures { IfOk result (IsValueArray (filler_of value.now) (typ_of item.now)) }
+{
+    match value {
+        Operand::Literal(z) => only_number(literal_prim(item), *z, arena, steps),
+        Operand::Of(Datum::Arr(x) | Datum::One(x)) => x.copy(alloc),
+    }
+}
+
+/// Two columns one after another, as items of the type that theirs unify to. Types are judged
+/// before columns are made, so this passes no limit.
+fn pair<'a, L: Ledger>(
+    alloc: Global,
+    x: &Array<'a>,
+    y: &Array<'a>,
+    arena: &'a Arena,
+    steps: &mut Steps<L>,
+) -> Result<Node<'a>, NoMemory>
+    ensures { let u = unification (array_type x.now) (array_type y.now) in
+        IfOk result (IsPair u x.now y.now) }
+{
+    match unify(alloc, x.typ(), y.typ()) {
+        Ok(Unified { typ, left, right }) => {
+            let mut sides = Sides::new(alloc);
+            sides.push(alloc, x.copy(alloc)?, &left)?;
+            sides.push(alloc, y.copy(alloc)?, &right)?;
+            merge(alloc, &typ, &sides, arena, steps)
+        }
+        Err(_) => Err(AllocError),
+    }
+}
+
+/// Where the items of an option are, and a null at a place of its own.
+#[tactic(auto, using(awk_gather::proofs::MadeLanes::making))]
+fn places_or<'a, L: Ledger>(
+    place: u64,
+    index: &Lane,
+    arena: &'a Arena,
+    steps: &mut Steps<L>,
+) -> Result<Lane<'a>, NoMemory>
+    requires { IsOptionalIndex index.now place }
+    ensures { IfOk result (λ r. r ≡ places_or place index.now) }
+{
+    let mut maker = LaneMaker::new(Kind::I64, index.len(), arena)?;
+    for i in 0..index.len() {
+        let at = option_place_in(index, i, steps);
+        maker.push(number(at.unwrap_or(place)));
+    }
+    Ok(maker.finish())
+}
+
+/// The nulls of an array as the value. It stands behind the items that are present.
+fn filled<'a, L: Ledger>(
+    alloc: Global,
+    value: &Operand<'a>,
+    x: &Array<'a>,
+    arena: &'a Arena,
+    steps: &mut Steps<L>,
+) -> Result<Node<'a>, NoMemory>
+    requires operand { IsOperand value.now }
+    requires accepted { filler_refusal (filler_of value.now) (array_type x.now) ≡ None }
+    ensures { IfOk result (IsFilled (filler_of value.now) x.now) }
+{
+    match open_array(alloc, x, arena, steps)? {
+        Opened::Option { index, content } => {
+            let own = value_array(alloc, value, content.typ(), arena, steps)?;
+            let items = Box::new(alloc, pair(alloc, &content, &own, arena, steps)?)?;
+            let places = places_or(content.len(), &index, arena, steps)?;
+            Ok(Node::indexed(places, items, steps))
+        }
+        _ => x.node().copy(alloc),
+    }
+}
+
+/// The items of a list with the value in the place of each null.
+struct Filling<'o, 'a> {
+    value: &'o Operand<'a>,
+}
+
+impl<'o, 'a> Model for Filling<'o, 'a> {
+    ghost use Rattle.awk_layout.specs.declared.datum.Operand.{Operand};
+    ghost use Rattle.awk_layout.specs.DatumCode.{coded_operand};
+
+    ghost Value = { Operand };
+
+    ghost coded = { coded_operand };
+
+    ghost use Rattle.awk_layout.specs.Datum.{IsOperand};
+
+    ghost view = { λ f. f.value.now };
+
+    ghost invariant = { λ f. IsOperand f.value.now };
+}
+
+impl<'o, 'a> ListOp<'a> for Filling<'o, 'a> {
+    ghost function = { λ f. fill_none_function (filler_of f) };
+
+    fn refusal(&self, item: &Typ) -> Option<Refusal> {
+        match self.value {
+            Operand::Literal(z) => literal_refusal(*z, item),
+            _ if is_filler(self.value) => None,
+            _ => Some(Refusal::WrongType),
+        }
+    }
+
+    fn typ(&self, alloc: Global, item: &Typ) -> Result<Typ, NoMemory> {
+        match item {
+            Typ::Opt(present) => {
+                let own = filler_typ(alloc, self.value, present)?;
+                Ok(unified(alloc, present, &own)?.typ)
+            }
+            _ => copy_type(alloc, item),
+        }
+    }
+
+    fn gives_lists(&self) -> bool {
+        true
+    }
+
+    fn class(&self, class: Option<u64>) -> Option<u64> {
+        class
+    }
+
+    fn column<L: Ledger>(
+        &self,
+        alloc: Global,
+        class: Option<u64>,
+        starts: &Lane<'a>,
+        stops: &Lane<'a>,
+        content: &Array<'a>,
+        arena: &'a Arena,
+        steps: &mut Steps<L>,
+    ) -> Result<Made<'a>, NoMemory> {
+        match join_spans(alloc, class, starts, stops, content, arena, steps)? {
+            Joined::TooMany => Ok(Made::Spoiled(Spoil::Size)),
+            Joined::Lists { offsets, content } => {
+                let content = filled(alloc, self.value, &content, arena, steps)?;
+                Ok(Made::Lists { offsets, content })
+            }
+        }
+    }
+}
+
+/// What is no filler is told after an axis, where no list is reached too.
+fn refused<'a>(answer: Result<Datum<'a>, Fault>) -> Result<Datum<'a>, Fault> {
+    match answer {
+        Err(Fault::Axis) => Err(Fault::Axis),
+        Err(Fault::NoMemory) => Err(Fault::NoMemory),
+        _ => Err(Fault::WrongType),
+    }
+}
+
+/// Each null among the items of the lists at an axis as the value, a literal or a single value that
+/// is not optional. Where items are optional they become of the type that theirs without the option
+/// and the value's unify to; a literal is there of the items' type where that is a whole-number type,
+/// else of int64. Where no items are optional they stay, and a literal is not judged.
+pub fn fill_none<'a, L: Ledger>(
+    alloc: Global,
+    x: &Datum<'a>,
+    value: &Operand<'a>,
+    axis: i64,
+    arena: &'a Arena,
+    steps: &mut Steps<L>,
+) -> Result<Datum<'a>, Fault>
+    requires datum { IsDatum x.now }
+    requires operand { IsOperand value.now }
+    ensures answer { Gives datum_of fault_told result
+        (fill_none_of (datum_of x.now) (filler_of value.now) axis) }
+    ensures datum { IfOk result (λ made. IsDatum made) }
+{
+    let answer = lift_at(alloc, &Filling { value }, x, axis, arena, steps);
+    if is_filler(value) {
+        answer
+    } else {
+        refused(answer)
+    }
+}
