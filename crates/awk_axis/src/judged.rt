@@ -54,7 +54,12 @@ fn limited(why: TypeFault) -> Fault
 /// What types tell of the lists inside: why the type is refused, or the limit that the given type
 /// passes.
 #[tactic(auto, using(crate::proofs::JudgedTypes::judging))]
-pub(crate) fn judged<'a, F: ListOp<'a>>(alloc: Global, f: &F, k: Reach, t: &Typ) -> Result<(), Fault>
+pub(crate) fn judged<'a, F: ListOp<'a>>(
+    alloc: Global,
+    f: &F,
+    k: Reach,
+    t: &Typ,
+) -> Result<(), Fault>
     ensures { let giving = (F.function f.now).giving in
         let refusal = spec.refusal_at (F.function f.now) k (typ_of t.now) in
         IsJudged refusal (limit (simple (spec.lifted_type giving k (typ_of t.now)))) result }

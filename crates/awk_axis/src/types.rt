@@ -78,7 +78,12 @@ fn nested(alloc: Global, k: u64, t: Typ) -> Result<Typ, NoMemory>
 /// The type that is given, axis 0 being the lists directly inside.
 #[cycle(lifted)]
 #[tactic(auto, using(crate::proofs::Walks::walks))]
-pub fn lifted_type<'a, F: ListOp<'a>>(alloc: Global, f: &F, k: Reach, t: &Typ) -> Result<Typ, NoMemory>
+pub fn lifted_type<'a, F: ListOp<'a>>(
+    alloc: Global,
+    f: &F,
+    k: Reach,
+    t: &Typ,
+) -> Result<Typ, NoMemory>
     ensures { let giving = (F.function f.now).giving in
         IfOk result (λ u. typ_of u ≡ spec.lifted_type giving k (typ_of t.now)) }
 {
@@ -114,7 +119,12 @@ pub fn lifted_type<'a, F: ListOp<'a>>(alloc: Global, f: &F, k: Reach, t: &Typ) -
 
 #[cycle(lifted)]
 #[tactic(auto, using(crate::proofs::Walks::walks))]
-fn lifted_types<'a, F: ListOp<'a>>(alloc: Global, f: &F, k: Reach, ts: &Typs) -> Result<Typs, NoMemory>
+fn lifted_types<'a, F: ListOp<'a>>(
+    alloc: Global,
+    f: &F,
+    k: Reach,
+    ts: &Typs,
+) -> Result<Typs, NoMemory>
     ensures { let giving = (F.function f.now).giving in
         let types = types_from (typs_of ts.now) in
         IfOk result (λ us. typs_of us ≡ spec.lifted_types giving k types) }

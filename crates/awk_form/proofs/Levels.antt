@@ -20,11 +20,13 @@ levels-below n (d ∷ ds) h = omega (arith, h.0, levels-below n ds h.1)
 pub levels-contents_of : (d : Data) → levels (contents_of d) ≤ depth d
 levels-contents_of d = levels-below (depth d) (contents_of d) (contents_of-shallow d)
 
-pub levels-node : (d : Data) (said : Node) → node_at d ≡ Ok said → levels (contents said.head) ≤ depth d
+pub levels-node : (d : Data) (said : Node) → node_at d ≡ Ok said
+    → levels (contents said.head) ≤ depth d
 levels-node d said e = omega (arith, levels-contents_of d, ap (λ r. levels (contents_said r)) e)
 
 -- an item nests no deeper than the list
-pub levels-item : (vs : List Value) (i : ℕ) (v d : Value) → i < length vs → v ≡ get_or vs i d → suc (depth (view v)) ≤ levels (map view vs)
+pub levels-item : (vs : List Value) (i : ℕ) (v d : Value) → i < length vs → v ≡ get_or vs i d
+    → suc (depth (view v)) ≤ levels (map view vs)
 levels-item [] i v d h e = absurd (omega arith)
 levels-item (x ∷ xs) zero v d h e = omega (arith, ap (λ y. depth (view y)) e)
 levels-item (x ∷ xs) (suc i) v d h e = omega (arith, levels-item xs i v d (omega arith) e)

@@ -10,9 +10,13 @@ use Rattle.awk_form.specs.Reading.{limited}
 use Rattle.awk_form.specs.Told.{refusal_told, fault_of}
 
 -- a limit of the type is one of the form
-pub told_limit : {A : Type 0} (e : TypeFault) (t : DataType) (a : A) → Told (limit_told e) (within t) → Told (refusal_told (fault_of e)) (refused_or (option_map limited (limit t)) a)
-told_limit Depth t a h = ap (λ o. refused_or (option_map limited o) a) (refused_or-Err (limit t) t depth_limit h)
-told_limit Size t a h = ap (λ o. refused_or (option_map limited o) a) (refused_or-Err (limit t) t size_limit h)
+pub told_limit : {A : Type 0} (e : TypeFault) (t : DataType) (a : A)
+    → Told (limit_told e) (within t)
+    → Told (refusal_told (fault_of e)) (refused_or (option_map limited (limit t)) a)
+told_limit Depth t a h =
+    ap (λ o. refused_or (option_map limited o) a) (refused_or-Err (limit t) t depth_limit h)
+told_limit Size t a h =
+    ap (λ o. refused_or (option_map limited o) a) (refused_or-Err (limit t) t size_limit h)
 told_limit NoMemory t a h = tt
 
 -- a type within its limits refuses nothing

@@ -46,9 +46,18 @@ a_record_text = refl
 -- a form with a node of each class
 abbrev each_class : FormTree
 each_class =
-    union (Some (codes "a")) index.U32 (forms_from (list (Some (codes "b")) index.I32 index.I64 (indexed (Some (codes "c")) index.U32 (empty None)) ∷ row None None (forms_from [])
-    ∷ row None (Some (codes "x" ∷ [])) (forms_from (bit_masked (Some (codes "d")) true false (numpy (Some (codes "e")) Bool (2 ∷ (2 ^ 64 - 1) ∷ [])) ∷ []))
-    ∷ indexed_option (Some (codes "f")) index.I64 (regular (Some []) 3 (list_offset (Some (codes "g")) index.I32 (byte_masked (Some (codes "h")) false (unmasked None (empty None))))) ∷ []))
+    union (Some (codes "a")) index.U32
+    (forms_from
+    (list (Some (codes "b")) index.I32 index.I64
+    (indexed (Some (codes "c")) index.U32 (empty None)) ∷ row None None (forms_from [])
+    ∷ row None (Some (codes "x" ∷ []))
+    (forms_from
+    (bit_masked (Some (codes "d")) true false
+    (numpy (Some (codes "e")) Bool (2 ∷ (2 ^ 64 - 1) ∷ [])) ∷ []))
+    ∷ indexed_option (Some (codes "f")) index.I64
+    (regular (Some []) 3
+    (list_offset (Some (codes "g")) index.I32
+    (byte_masked (Some (codes "h")) false (unmasked None (empty None))))) ∷ []))
 
 -- its text reads as itself
 each_class_again : formed (form_text each_class) ≡ Some each_class

@@ -1,6 +1,8 @@
 -- The type of the items of a form.
-use Rattle.std.specs.Prelude.{ℕ, List, [], ◌∷◌}
+use Rattle.std.specs.Prelude.{◌≡◌, ℕ, List, [], ◌∷◌, Ok}
 use Rattle.awk_types.specs.DataType.{DataType, DataTypes, unknown, leaf, var, reg, opt, uni, no_types, type, row_type}
+use Rattle.awk_types.specs.Limit.{within}
+use Rattle.awk_types.specs.Simple.{simple}
 use Rattle.awk_form.specs.FormTree.{FormTree, empty, numpy, regular, list, list_offset, row, indexed, indexed_option, byte_masked, bit_masked, unmasked, union, FormTrees, no_forms, form}
 
 -- the regular lists of an inner shape
@@ -27,3 +29,7 @@ abbrev mutual
   pub types_of : FormTrees → DataTypes
   types_of no_forms = no_types
   types_of (form f fs) = type (type_of f) (types_of fs)
+
+-- the simple type of the items of a form, which passes no limit
+abbrev pub HasType : FormTree → DataType → Type 0
+HasType f t = within (simple (type_of f)) ≡ Ok t

@@ -17,6 +17,6 @@ pub use dims::Dims;
 pub use fault::{FormFault, FormWhy};
 pub use form::{Form, Forms, Shape};
 pub use kind::IndexKind;
-pub use read::read_form;
-pub use typing::type_of_form;
+pub use read::{read_form, read_typed_form};
+pub use typing::{TypedForm, type_of_form};
 pub use write::{write_form, write_names};

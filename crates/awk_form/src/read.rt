@@ -2,17 +2,20 @@
 ghost use Rattle.std.specs.Prelude.{◌≡◌, ◌+◌, [], ◌∷◌, Option, map, length, IfOk, OnOk};
 ghost use Rattle.awk_types.specs.DataType.{Name};
 ghost use Rattle.awk_types.specs.Gives.{Gives, refused_or};
+ghost use Rattle.awk_types.specs.View.{typ_of};
 ghost use Rattle.serde_json.specs.View.{view};
 ghost use Rattle.awk_form.specs.Told.{refusal_told};
+ghost use Rattle.awk_form.specs.FormType.{HasType};
 ghost use Rattle.awk_form.specs.NodeView.{head_of};
-ghost use Rattle.awk_form.specs.Reading.{nodes_of, nodes_of_all, nodes_below, first_break_from, form_with, form_of as form_said, reading};
+ghost use Rattle.awk_form.specs.Reading.{nodes_of, nodes_of_all, nodes_below, first_break_from};
+ghost use Rattle.awk_form.specs.Reading.{form_with, form_of as form_said, reading};
 ghost use Rattle.awk_form.specs.Lawful.{IsLawful};
 ghost use Rattle.awk_form.specs.View.{form_of, forms_of, keyed};
 
 use crate::fault::{FormFault, NodeFault};
 use crate::form::{Form, Forms, Shape};
 use crate::node::{Head, read_node};
-use crate::typing::type_of_form;
+use crate::typing::{TypedForm, type_of_form};
 use serde_json::Value;
 use std::alloc::Global;
 
@@ -21,10 +24,21 @@ pub fn read_form(alloc: Global, json: &Value) -> Result<Form, FormFault>
     ensures gives { Gives form_of refusal_told result (reading (view json.now)) }
     ensures lawful { IfOk result (λ form. IsLawful (form_of form)) }
 {
+    let typed = read_typed_form(alloc, json)?;
+    Ok(typed.form)
+}
+
+/// The form that a JSON value is, with the type that its limits are judged by.
+pub fn read_typed_form(alloc: Global, json: &Value) -> Result<TypedForm, FormFault>
+    ensures gives { Gives (λ typed. form_of typed.form) refusal_told result
+        (reading (view json.now)) }
+    ensures lawful { IfOk result (λ typed. IsLawful (form_of typed.form)) }
+    ensures typ { IfOk result (λ typed. HasType (form_of typed.form) (typ_of typed.typ)) }
+{
     let mut reader = Reader { alloc, next: 0 };
     let form = reader.form(json)?;
-    type_of_form(alloc, &form)?;
-    Ok(form)
+    let typ = type_of_form(alloc, &form)?;
+    Ok(TypedForm { form, typ })
 }
 
 /// Reads the nodes of a form in pre-order.

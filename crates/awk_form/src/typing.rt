@@ -15,6 +15,13 @@ use crate::form::{Form, Forms, Shape};
 use awk_types::{Fields, Names, NoMemory, Prim, Typ, TypeFault, Typs, simple_of};
 use std::alloc::Global;
 
+/// A form with the simple type of its items.
+#[derive(Debug, Drop)]
+pub struct TypedForm {
+    pub form: Form,
+    pub typ: Typ,
+}
+
 /// The simple type of the items of a form.
 pub fn type_of_form(alloc: Global, form: &Form) -> Result<Typ, TypeFault>
     requires { IsLawful (form_of form.now) }

@@ -10,11 +10,12 @@ ghost use Rattle.awk_session.specs.Load.{loaded};
 ghost use Rattle.awk_session.specs.Spending.{IsArrayWithin, IsLoaded};
 
 use crate::fault::Refused;
-use awk_form::read_form;
+use awk_form::{TypedForm, read_typed_form};
 use awk_kernels::Plain;
 use awk_lanes::{Arena, Steps};
 use awk_layout::Array;
 use awk_store::Store;
+use awk_valid::load_typed;
 use serde_json::{Map, Value};
 use std::alloc::Global;
 use std::sync::ledger::Ledger;
@@ -35,8 +36,8 @@ pub fn load<'a, L: Ledger>(
     ensures cost { let texts = texts_of (members_view buffers.now.entries) in
         IsLoaded (view form.now) (total_len texts) steps.old steps.new }
 {
-    let form = read_form(alloc, form)?;
+    let TypedForm { form, typ } = read_typed_form(alloc, form)?;
     let mut store = Store::new(alloc, buffers, arena);
-    let array = awk_valid::load(alloc, &form, length, &mut store, &Plain, arena, steps)?;
+    let array = load_typed(alloc, &form, typ, length, &mut store, &Plain, steps)?;
     Ok(array)
 }

@@ -19,4 +19,4 @@ pub use lift::{Lift, Lifts, copy_lift};
 pub use places::Places;
 pub use several::{UnifiedAll, unify_all};
 pub use unified::Unified;
-pub use unifying::{unified, unify};
+pub use unifying::{unified as unify_unlimited, unify};

@@ -14,5 +14,5 @@ mod own;
 mod parts;
 mod walk;
 
-pub use arrays::load;
+pub use arrays::{load, load_typed};
 pub use fault::{BufferFault, LoadFault, Rule};

@@ -18,7 +18,19 @@ returns-in_default c =
               other.not-ListOffsetArray,
               (
                 other.not-RecordArray,
-                (other.not-IndexedArray, (other.not-IndexedOptionArray, (other.not-ByteMaskedArray, (other.not-BitMaskedArray, (other.not-UnmaskedArray, (other.not-UnionArray, tt)))))),
+                (
+                  other.not-IndexedArray,
+                  (
+                    other.not-IndexedOptionArray,
+                    (
+                      other.not-ByteMaskedArray,
+                      (
+                        other.not-BitMaskedArray,
+                        (other.not-UnmaskedArray, (other.not-UnionArray, tt)),
+                      ),
+                    ),
+                  ),
+                ),
               ),
             ),
           ),

@@ -5,4 +5,5 @@ use Rattle.awk_form.proofs.names.texts.Given as goal
 
 -- the texts so far, and those of the rest
 abbrev pub invariant-loop-item : goal.invariant-loop-item
-invariant-loop-item l = texts_of (items_view l.item-items) ≡ option_map (λ ts. l.names ++ ts) (texts_of (items_view (drop l.item-index l.item-items)))
+invariant-loop-item l = texts_of (items_view l.item-items) ≡ option_map (λ ts. l.names ++ ts)
+    (texts_of (items_view (drop l.item-index l.item-items)))

@@ -20,13 +20,17 @@ item_type-returns-in_ok-item_types-in-Union t c =
 
 pub item_type-row-requires : goal.item_type-row-requires
 item_type-row-requires t c =
-    let lawful = lawful-Row c.args.form.now c.in-Row.names c.in-Row.contents c.in-Row.is c.requires in
+    let lawful = lawful-Row c.args.form.now c.in-Row.names c.in-Row.contents c.in-Row.is
+    c.requires in
     (search (rules, the_lemmas), (lawful.0, lawful.1))
 
 pub item_types-item_type-requires : goal.item_types-item_type-requires
 item_types-item_type-requires t c =
-    let items = c.deref-form-items.result.now in
-    (search (rules, the_lemmas), (lawful_left items c.loop-form.form-index c.form-item.result c.form-item.result (omega arith) c.form-item.is c.loop-form.invariant.lawful).0)
+    let items = c.deref-form-items.result.now in (
+      search (rules, the_lemmas),
+      (lawful_left items c.loop-form.form-index c.form-item.result c.form-item.result
+          (omega arith) c.form-item.is c.loop-form.invariant.lawful).0,
+    )
 
 pub item_types-loop-form-preserved : goal.item_types-loop-form-preserved
 item_types-loop-form-preserved t c =
@@ -40,16 +44,23 @@ item_types-loop-form-preserved t c =
           ap (λ ts. ts ++ map type_of more) c.in_ok-push.ensures.ok
           ∙ append_assoc done (typ_of c.in_ok-item_type.field-0 ∷ []) (map type_of more)
           ∙ ap (λ t. done ++ t ∷ map type_of more) c.in_ok-item_type.ensures
-          ∙ ap (λ fs. done ++ map type_of fs) (sym (map_left form_of items i item item (omega arith) c.form-item.is))
+          ∙ ap (λ fs. done ++ map type_of fs)
+          (sym (map_left form_of items i item item (omega arith) c.form-item.is))
           ∙ c.loop-form.invariant.types;
-      lawful = (lawful_left items i item item (omega arith) c.form-item.is c.loop-form.invariant.lawful).1;
+      lawful =
+          (lawful_left items i item item (omega arith) c.form-item.is
+          c.loop-form.invariant.lawful).1;
     }
 
 pub item_type-returns-in-Row : goal.item_type-returns-in-Row
 item_type-returns-in-Row t c =
-    subst (λ d. IfOk c.row.result (λ t. typ_of t ≡ d)) (sym (type-Row c.args.form.now c.in-Row.names c.in-Row.contents c.in-Row.is)) c.row.ensures
+    subst (λ d. IfOk c.row.result (λ t. typ_of t ≡ d))
+    (sym (type-Row c.args.form.now c.in-Row.names c.in-Row.contents c.in-Row.is)) c.row.ensures
 
 pub row-named-requires : goal.row-named-requires
 row-named-requires t c =
-    let named = subst (AreNamesOf (forms_from (forms_of c.args.contents.now))) c.in-Some.is c.requires.names in
-    named.1 ∙ count-from (forms_of c.args.contents.now) ∙ sym (length-map (forms_of c.args.contents.now) type_of) ∙ sym (ap length c.in_ok-item_types-in-Some.ensures)
+    let named = subst (AreNamesOf (forms_from (forms_of c.args.contents.now))) c.in-Some.is
+    c.requires.names in
+    named.1 ∙ count-from (forms_of c.args.contents.now)
+    ∙ sym (length-map (forms_of c.args.contents.now) type_of)
+    ∙ sym (ap length c.in_ok-item_types-in-Some.ensures)

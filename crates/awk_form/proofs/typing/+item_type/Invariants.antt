@@ -9,6 +9,7 @@ use Rattle.awk_form.proofs.typing.+item_type.Given as goal
 -- the types so far, and those of the rest
 abbrev pub invariant-item_types-loop-form : goal.invariant-item_types-loop-form
 invariant-item_types-loop-form l = record {
-  types : typs_of l.types ++ map type_of (map form_of (drop l.form-index l.form-items)) ≡ map type_of (forms_of l.forms);
+  types : typs_of l.types ++ map type_of (map form_of (drop l.form-index l.form-items))
+      ≡ map type_of (forms_of l.forms);
   lawful : AreLawful (forms_from (map form_of (drop l.form-index l.form-items)));
 }

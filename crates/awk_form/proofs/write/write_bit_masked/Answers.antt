@@ -5,14 +5,17 @@ use Rattle.awk_form.specs.FormText.{member, word}
 use Rattle.awk_form.proofs.write.write_bit_masked.Goals as goal
 
 pub returns-in_err-write_word-clause-bytes : goal.returns-in_err-write_word-clause-bytes
-returns-in_err-write_word-clause-bytes g c = stops_at _ (member (codes "mask") (word (codes "u8"))) _ c.in_err-write_word.ensures.bytes (grind arith)
+returns-in_err-write_word-clause-bytes g c = stops_at _ (member (codes "mask") (word (codes "u8")))
+    _ c.in_err-write_word.ensures.bytes (grind arith)
 
 pub returns-in_err-write_truth-clause-bytes : goal.returns-in_err-write_truth-clause-bytes
 returns-in_err-write_truth-clause-bytes g c =
     goes_to _ (member (codes "mask") (word (codes "u8"))) _ c.in_ok-write_word.ensures.bytes
-    (stops_at _ (member (codes "valid_when") (truth_text c.args.valid_when)) _ c.in_err-write_truth.ensures.bytes (grind arith))
+    (stops_at _ (member (codes "valid_when") (truth_text c.args.valid_when)) _
+    c.in_err-write_truth.ensures.bytes (grind arith))
 
 pub returns-clause-bytes : goal.returns-clause-bytes
 returns-clause-bytes g c =
     goes_to _ (member (codes "mask") (word (codes "u8"))) _ c.in_ok-write_word.ensures.bytes
-    (goes_to _ (member (codes "valid_when") (truth_text c.args.valid_when)) _ c.in_ok-write_truth.ensures.bytes c.write_truth-2.ensures.bytes)
+    (goes_to _ (member (codes "valid_when") (truth_text c.args.valid_when)) _
+    c.in_ok-write_truth.ensures.bytes c.write_truth-2.ensures.bytes)

@@ -4,7 +4,9 @@ use Rattle.awk_form.specs.FormText.{member, word}
 use Rattle.awk_form.proofs.write.write_union.Goals as goal
 
 pub returns-in_err-write_word-clause-bytes : goal.returns-in_err-write_word-clause-bytes
-returns-in_err-write_word-clause-bytes g c = stops_at _ (member (codes "tags") (word (codes "i8"))) _ c.in_err-write_word.ensures.bytes (grind arith)
+returns-in_err-write_word-clause-bytes g c = stops_at _ (member (codes "tags") (word (codes "i8")))
+    _ c.in_err-write_word.ensures.bytes (grind arith)
 
 pub returns-clause-bytes : goal.returns-clause-bytes
-returns-clause-bytes g c = goes_to _ (member (codes "tags") (word (codes "i8"))) _ c.in_ok-write_word.ensures.bytes c.write_kind.ensures.bytes
+returns-clause-bytes g c = goes_to _ (member (codes "tags") (word (codes "i8"))) _
+    c.in_ok-write_word.ensures.bytes c.write_kind.ensures.bytes

@@ -1,5 +1,5 @@
 -- A NumpyArray has no contents.
-use Rattle.std.proofs.Common.{arith, sym, ap, refl}
+use Rattle.std.proofs.Common.{sym, ap, refl}
 use Rattle.awk_types.proofs.RefusalLaws.{refused_or-Ok}
 use Rattle.awk_form.specs.FormTree.{numpy}
 use Rattle.awk_valid.specs.Broken.{node_break}

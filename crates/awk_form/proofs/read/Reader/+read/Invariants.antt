@@ -25,7 +25,8 @@ invariant-contents-loop-json l =
     let rest = map view (drop l.json-index l.contents) in
     let all = map view l.contents in
     record {
-      breaks : first_break_from l.fn.self.next (nodes_of_all all) ≡ first_break_from l.self.next (nodes_of_all rest);
+      breaks : first_break_from l.fn.self.next (nodes_of_all all) ≡ first_break_from l.self.next
+          (nodes_of_all rest);
       next : l.self.next + length (nodes_of_all rest) ≡ l.fn.self.next + length (nodes_of_all all);
       forms : forms_of l.forms ++ map form_of rest ≡ map form_of all;
     }

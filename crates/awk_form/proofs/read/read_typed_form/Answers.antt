@@ -10,7 +10,7 @@ use Rattle.awk_form.specs.Told.{refusal_told, fault_of}
 use Rattle.awk_form.specs.View.{form_of as made}
 use Rattle.awk_form.proofs.LawfulReads.{lawful-read}
 use Rattle.awk_form.proofs.Refusals.{told_limit, no_limit}
-use Rattle.awk_form.proofs.read.read_form.Goals as goal
+use Rattle.awk_form.proofs.read.read_typed_form.Goals as goal
 
 pub type_of_form-requires : goal.type_of_form-requires
 type_of_form-requires c =
@@ -22,19 +22,23 @@ returns-in_err-form-clause-gives c =
     let e = c.in_err-form.field-0.0 in
     let d = view c.args.json.now in
     let failed : c.from_residual.result ≡ Err e = grind arith in
-    Gives-Err _ _ _ e _ failed (Told-first (refusal_told e) (first_break d) (passed_limit (form_of d)) _ (form_of d) c.in_err-form.ensures.gives)
+    Gives-Err _ _ _ e _ failed
+    (Told-first (refusal_told e) (first_break d) (passed_limit (form_of d)) _ (form_of d)
+    c.in_err-form.ensures.gives)
 
-pub returns-in_err-type_of_form-clause-gives : goal.returns-in_err-type_of_form-clause-gives
-returns-in_err-type_of_form-clause-gives c =
-    let e = c.in_err-type_of_form.field-0.0 in
+pub returns-in_err-typ-clause-gives : goal.returns-in_err-typ-clause-gives
+returns-in_err-typ-clause-gives c =
+    let e = c.in_err-typ.field-0.0 in
     let d = view c.args.json.now in
     let f = made c.in_ok-form.form in
     let read = refused_or-Ok _ _ _ c.in_ok-form.ensures.gives in
-    let failed : c.from_residual-in_err-type_of_form.result ≡ Err (fault_of e) = grind arith in
-    let told = told_limit e (simple (type_of f)) f c.in_err-type_of_form.ensures in
+    let failed : c.from_residual-in_err-typ.result ≡ Err (fault_of e) = grind arith in
+    let told = told_limit e (simple (type_of f)) f c.in_err-typ.ensures in
     Gives-Err _ _ _ (fault_of e) _ failed
-    (Told-later (refusal_told (fault_of e)) (first_break d) (passed_limit (form_of d)) f (form_of d) read.0
-    (subst (λ g. Told (refusal_told (fault_of e)) (refused_or (passed_limit g) f)) (sym read.1) told))
+    (Told-later (refusal_told (fault_of e)) (first_break d) (passed_limit (form_of d)) f (form_of d)
+    read.0
+    (subst (λ g. Told (refusal_told (fault_of e)) (refused_or (passed_limit g) f)) (sym read.1)
+    told))
 
 pub returns-clause-gives : goal.returns-clause-gives
 returns-clause-gives c =
@@ -42,7 +46,8 @@ returns-clause-gives c =
     let f = made c.in_ok-form.form in
     let read = refused_or-Ok _ _ _ c.in_ok-form.ensures.gives in
     refused_or-None _ (form_of d) f
-    (or-None (first_break d) (passed_limit (form_of d)) read.0 ∙ ap passed_limit read.1 ∙ no_limit (simple (type_of f)) _ c.in_ok-type_of_form.ensures)
+    (or-None (first_break d) (passed_limit (form_of d)) read.0 ∙ ap passed_limit read.1
+    ∙ no_limit (simple (type_of f)) _ c.in_ok-typ.ensures)
     read.1
 
 pub returns-clause-lawful : goal.returns-clause-lawful
