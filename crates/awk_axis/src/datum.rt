@@ -22,7 +22,7 @@ use std::sync::ledger::Ledger;
 /// Faults come in this order: no list at the axis, a type that the function does not take, a
 /// literal that overflows; then a type of the result that is too deep or too large; then what
 /// values tell. What types tell is told before any column is made.
-pub fn lift_at<'a, F: ListOp<'a>, L: Ledger>(
+pub fn lift_at<'a, F: ListOp, L: Ledger>(
     alloc: Global,
     f: &F,
     x: &Datum<'a>,
@@ -45,7 +45,7 @@ pub fn lift_at<'a, F: ListOp<'a>, L: Ledger>(
 }
 
 /// The same of an array.
-fn at_axis_of<'a, F: ListOp<'a>, L: Ledger>(
+fn at_axis_of<'a, F: ListOp, L: Ledger>(
     alloc: Global,
     f: &F,
     x: &Array<'a>,
@@ -67,7 +67,7 @@ fn at_axis_of<'a, F: ListOp<'a>, L: Ledger>(
 /// The datum with each of its innermost lists by the function: those whose items, options dropped,
 /// are leaves or unknown. An array of such items is itself one. A record, a tuple or a union above
 /// them is a type fault, and a single leaf an axis fault. Faults come in the same order.
-pub fn lift_deep<'a, F: ListOp<'a>, L: Ledger>(
+pub fn lift_deep<'a, F: ListOp, L: Ledger>(
     alloc: Global,
     f: &F,
     x: &Datum<'a>,
@@ -86,7 +86,7 @@ pub fn lift_deep<'a, F: ListOp<'a>, L: Ledger>(
 }
 
 /// The same of an array.
-fn deep_in<'a, F: ListOp<'a>, L: Ledger>(
+fn deep_in<'a, F: ListOp, L: Ledger>(
     alloc: Global,
     f: &F,
     x: &Array<'a>,

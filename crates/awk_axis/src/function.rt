@@ -29,7 +29,7 @@ pub enum Made<'a> {
 }
 
 /// A function of one list.
-pub trait ListOp<'a> {
+pub trait ListOp {
     /// What it does.
     ghost function: { Self → ListFunction };
 
@@ -51,7 +51,7 @@ pub trait ListOp<'a> {
         ensures { result ≡ given_class (function self.now).giving class };
 
     /// What is made of all lists of a column at once.
-    fn column<L: Ledger>(
+    fn column<'a, L: Ledger>(
         &self,
         alloc: Global,
         class: Option<u64>,
@@ -78,7 +78,7 @@ fn list_typ(alloc: Global, class: Option<u64>, item: Typ) -> Result<Typ, NoMemor
 
 /// The type that is given for a list of a class.
 #[tactic(auto, using(crate::proofs::GivenTypes::given))]
-pub(crate) fn given_typ<'a, F: ListOp<'a>>(
+pub(crate) fn given_typ<F: ListOp>(
     alloc: Global,
     f: &F,
     class: Option<u64>,

@@ -43,7 +43,7 @@ fn first_of(many: Option<Spoil>, why: Spoil) -> Spoil
 }
 
 /// The array, each list inside its items that is reached by the function.
-pub(crate) fn on_items<'a, F: ListOp<'a>, L: Ledger>(
+pub(crate) fn on_items<'a, F: ListOp, L: Ledger>(
     alloc: Global,
     f: &F,
     k: Reach,
@@ -69,7 +69,7 @@ pub(crate) fn on_items<'a, F: ListOp<'a>, L: Ledger>(
 }
 
 /// The single value that is the item of an array, each list inside that is reached by the function.
-pub(crate) fn on_one<'a, F: ListOp<'a>, L: Ledger>(
+pub(crate) fn on_one<'a, F: ListOp, L: Ledger>(
     alloc: Global,
     f: &F,
     k: Reach,

@@ -54,12 +54,7 @@ fn limited(why: TypeFault) -> Fault
 /// What types tell of the lists inside: why the type is refused, or the limit that the given type
 /// passes.
 #[tactic(auto, using(crate::proofs::JudgedTypes::judging))]
-pub(crate) fn judged<'a, F: ListOp<'a>>(
-    alloc: Global,
-    f: &F,
-    k: Reach,
-    t: &Typ,
-) -> Result<(), Fault>
+pub(crate) fn judged<F: ListOp>(alloc: Global, f: &F, k: Reach, t: &Typ) -> Result<(), Fault>
     ensures { let giving = (F.function f.now).giving in
         let refusal = spec.refusal_at (F.function f.now) k (typ_of t.now) in
         IsJudged refusal (limit (simple (spec.lifted_type giving k (typ_of t.now)))) result }
@@ -76,7 +71,7 @@ pub(crate) fn judged<'a, F: ListOp<'a>>(
 
 /// The same of a whole array as one list.
 #[tactic(auto, using(crate::proofs::JudgedTypes::judging))]
-pub(crate) fn judged_whole<'a, F: ListOp<'a>>(alloc: Global, f: &F, t: &Typ) -> Result<(), Fault>
+pub(crate) fn judged_whole<F: ListOp>(alloc: Global, f: &F, t: &Typ) -> Result<(), Fault>
     ensures { let giving = (F.function f.now).giving in
         let refusal = (F.function f.now).refusal (typ_of t.now) in
         IsJudged refusal (limit (simple (made_type giving (typ_of t.now)))) result }

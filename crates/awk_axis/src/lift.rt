@@ -57,7 +57,7 @@ fn list_node<'a, L: Ledger>(
 }
 
 /// What the function makes of a column of lists, as one node.
-fn at_axis<'a, F: ListOp<'a>, L: Ledger>(
+fn at_axis<'a, F: ListOp, L: Ledger>(
     alloc: Global,
     f: &F,
     class: Option<u64>,
@@ -83,7 +83,7 @@ fn at_axis<'a, F: ListOp<'a>, L: Ledger>(
 
 /// An array without items, whose type is that of k lists of any length around what is given for
 /// lists of unknown.
-fn below_unknown<'a, F: ListOp<'a>, L: Ledger>(
+fn below_unknown<'a, F: ListOp, L: Ledger>(
     alloc: Global,
     f: &F,
     k: u64,
@@ -115,7 +115,7 @@ fn below_unknown<'a, F: ListOp<'a>, L: Ledger>(
 /// The array, each list that is reached by the function.
 #[cycle(lifted)]
 #[tactic(none)]
-pub fn lifted<'a, F: ListOp<'a>, L: Ledger>(
+pub fn lifted<'a, F: ListOp, L: Ledger>(
     alloc: Global,
     f: &F,
     k: Reach,
@@ -157,7 +157,7 @@ pub fn lifted<'a, F: ListOp<'a>, L: Ledger>(
 /// The same of lists: their items at the next axis, or each list itself.
 #[cycle(lifted)]
 #[tactic(none)]
-fn lifted_lists<'a, F: ListOp<'a>, L: Ledger>(
+fn lifted_lists<'a, F: ListOp, L: Ledger>(
     alloc: Global,
     f: &F,
     k: Reach,
@@ -193,7 +193,7 @@ fn lifted_lists<'a, F: ListOp<'a>, L: Ledger>(
 /// The same of an option.
 #[cycle(lifted)]
 #[tactic(none)]
-fn lifted_option<'a, F: ListOp<'a>, L: Ledger>(
+fn lifted_option<'a, F: ListOp, L: Ledger>(
     alloc: Global,
     f: &F,
     k: Reach,
@@ -219,7 +219,7 @@ fn lifted_option<'a, F: ListOp<'a>, L: Ledger>(
 /// The same of rows.
 #[cycle(lifted)]
 #[tactic(none)]
-fn lifted_row<'a, F: ListOp<'a>, L: Ledger>(
+fn lifted_row<'a, F: ListOp, L: Ledger>(
     alloc: Global,
     f: &F,
     k: Reach,
@@ -242,7 +242,7 @@ fn lifted_row<'a, F: ListOp<'a>, L: Ledger>(
 /// The same of a union.
 #[cycle(lifted)]
 #[tactic(none)]
-fn lifted_union<'a, F: ListOp<'a>, L: Ledger>(
+fn lifted_union<'a, F: ListOp, L: Ledger>(
     alloc: Global,
     f: &F,
     k: Reach,
@@ -286,7 +286,7 @@ fn taken<'a>(
 /// The same of arrays, one after another.
 #[cycle(lifted)]
 #[tactic(auto, using(crate::proofs::ArrayKinds::all))]
-fn lifted_all<'a, F: ListOp<'a>, L: Ledger>(
+fn lifted_all<'a, F: ListOp, L: Ledger>(
     alloc: Global,
     f: &F,
     k: Reach,

@@ -13,7 +13,7 @@ use std::alloc::Global;
 /// Why a type is refused, axis 0 being the lists directly inside.
 #[cycle(refusal)]
 #[tactic(auto, using(crate::proofs::Walks::walks))]
-pub fn refusal_at<'a, F: ListOp<'a>>(f: &F, k: Reach, t: &Typ) -> Option<Refusal>
+pub fn refusal_at<F: ListOp>(f: &F, k: Reach, t: &Typ) -> Option<Refusal>
     ensures { result ≡ spec.refusal_at (F.function f.now) k (typ_of t.now) }
 {
     match t {
@@ -39,7 +39,7 @@ pub fn refusal_at<'a, F: ListOp<'a>>(f: &F, k: Reach, t: &Typ) -> Option<Refusal
 
 #[cycle(refusal)]
 #[tactic(auto, using(crate::proofs::Walks::walks))]
-fn refusal_of_all<'a, F: ListOp<'a>>(f: &F, k: Reach, ts: &Typs) -> Option<Refusal>
+fn refusal_of_all<F: ListOp>(f: &F, k: Reach, ts: &Typs) -> Option<Refusal>
     ensures { result ≡ spec.refusal_among (F.function f.now) k (types_from (typs_of ts.now)) }
 {
     let mut first = None;
@@ -51,7 +51,7 @@ fn refusal_of_all<'a, F: ListOp<'a>>(f: &F, k: Reach, ts: &Typs) -> Option<Refus
 
 #[cycle(refusal)]
 #[tactic(auto, using(crate::proofs::Walks::walks))]
-fn refusal_of_fields<'a, F: ListOp<'a>>(f: &F, k: Reach, fields: &Fields) -> Option<Refusal>
+fn refusal_of_fields<F: ListOp>(f: &F, k: Reach, fields: &Fields) -> Option<Refusal>
     ensures { result ≡ spec.refusal_among (F.function f.now) k (types_of (fields_of fields.now)) }
 {
     let mut first = None;
@@ -78,12 +78,7 @@ fn nested(alloc: Global, k: u64, t: Typ) -> Result<Typ, NoMemory>
 /// The type that is given, axis 0 being the lists directly inside.
 #[cycle(lifted)]
 #[tactic(auto, using(crate::proofs::Walks::walks))]
-pub fn lifted_type<'a, F: ListOp<'a>>(
-    alloc: Global,
-    f: &F,
-    k: Reach,
-    t: &Typ,
-) -> Result<Typ, NoMemory>
+pub fn lifted_type<F: ListOp>(alloc: Global, f: &F, k: Reach, t: &Typ) -> Result<Typ, NoMemory>
     ensures { let giving = (F.function f.now).giving in
         IfOk result (λ u. typ_of u ≡ spec.lifted_type giving k (typ_of t.now)) }
 {
@@ -119,12 +114,7 @@ pub fn lifted_type<'a, F: ListOp<'a>>(
 
 #[cycle(lifted)]
 #[tactic(auto, using(crate::proofs::Walks::walks))]
-fn lifted_types<'a, F: ListOp<'a>>(
-    alloc: Global,
-    f: &F,
-    k: Reach,
-    ts: &Typs,
-) -> Result<Typs, NoMemory>
+fn lifted_types<F: ListOp>(alloc: Global, f: &F, k: Reach, ts: &Typs) -> Result<Typs, NoMemory>
     ensures { let giving = (F.function f.now).giving in
         let types = types_from (typs_of ts.now) in
         IfOk result (λ us. typs_of us ≡ spec.lifted_types giving k types) }
@@ -138,7 +128,7 @@ fn lifted_types<'a, F: ListOp<'a>>(
 
 #[cycle(lifted)]
 #[tactic(auto, using(crate::proofs::Walks::walks))]
-fn lifted_fields<'a, F: ListOp<'a>>(
+fn lifted_fields<F: ListOp>(
     alloc: Global,
     f: &F,
     k: Reach,

@@ -30,7 +30,7 @@ fn one_number<'a>(n: u64, arena: &'a Arena) -> Result<Lane<'a>, NoMemory>
 }
 
 /// What the function gives for the array as one list, settled.
-fn given_whole<'a, F: ListOp<'a>, L: Ledger>(
+fn given_whole<'a, F: ListOp, L: Ledger>(
     alloc: Global,
     f: &F,
     x: &Array<'a>,
@@ -57,7 +57,7 @@ fn given_whole<'a, F: ListOp<'a>, L: Ledger>(
 }
 
 /// The array as one list by the function, settled, or the first fault.
-pub(crate) fn on_whole<'a, F: ListOp<'a>, L: Ledger>(
+pub(crate) fn on_whole<'a, F: ListOp, L: Ledger>(
     alloc: Global,
     f: &F,
     x: &Array<'a>,

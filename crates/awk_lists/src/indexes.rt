@@ -79,7 +79,7 @@ fn places<'a, L: Ledger>(
 #[derive(Clone, Copy, Debug, PartialEq, Eq)]
 struct LocalIndex;
 
-impl<'a> ListOp<'a> for LocalIndex {
+impl ListOp for LocalIndex {
     ghost function = { λ f. local_index_function };
 
     fn refusal(&self, _item: &Typ) -> Option<Refusal> {
@@ -98,7 +98,7 @@ impl<'a> ListOp<'a> for LocalIndex {
         class
     }
 
-    fn column<L: Ledger>(
+    fn column<'a, L: Ledger>(
         &self,
         _alloc: Global,
         _class: Option<u64>,

@@ -154,7 +154,7 @@ fn held_rows<'a, L: Ledger>(
 #[derive(Clone, Copy, Debug, PartialEq, Eq)]
 struct JoinedLists;
 
-impl<'a> ListOp<'a> for JoinedLists {
+impl ListOp for JoinedLists {
     ghost function = { λ f. flatten_function };
 
     fn refusal(&self, item: &Typ) -> Option<Refusal> {
@@ -180,7 +180,7 @@ impl<'a> ListOp<'a> for JoinedLists {
         None
     }
 
-    fn column<L: Ledger>(
+    fn column<'a, L: Ledger>(
         &self,
         alloc: Global,
         class: Option<u64>,

@@ -51,7 +51,7 @@ fn lengths<'a, L: Ledger>(
 #[derive(Clone, Copy, Debug, PartialEq, Eq)]
 struct Length;
 
-impl<'a> ListOp<'a> for Length {
+impl ListOp for Length {
     ghost function = { λ f. length_function };
 
     fn refusal(&self, _item: &Typ) -> Option<Refusal> {
@@ -70,7 +70,7 @@ impl<'a> ListOp<'a> for Length {
         class
     }
 
-    fn column<L: Ledger>(
+    fn column<'a, L: Ledger>(
         &self,
         _alloc: Global,
         _class: Option<u64>,

@@ -153,7 +153,7 @@ fn all_runs<'a, L: Ledger>(
 #[derive(Clone, Copy, Debug, PartialEq, Eq)]
 struct RunLengths;
 
-impl<'a> ListOp<'a> for RunLengths {
+impl ListOp for RunLengths {
     ghost function = { λ f. run_lengths_function };
 
     fn refusal(&self, item: &Typ) -> Option<Refusal> {
@@ -176,7 +176,7 @@ impl<'a> ListOp<'a> for RunLengths {
         None
     }
 
-    fn column<L: Ledger>(
+    fn column<'a, L: Ledger>(
         &self,
         alloc: Global,
         class: Option<u64>,

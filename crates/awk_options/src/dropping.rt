@@ -105,7 +105,7 @@ fn present_lists<'a, L: Ledger>(
 #[derive(Clone, Copy, Debug, PartialEq, Eq)]
 struct PresentItems;
 
-impl<'a> ListOp<'a> for PresentItems {
+impl ListOp for PresentItems {
     ghost function = { λ f. drop_none_function };
 
     fn refusal(&self, _item: &Typ) -> Option<Refusal> {
@@ -124,7 +124,7 @@ impl<'a> ListOp<'a> for PresentItems {
         None
     }
 
-    fn column<L: Ledger>(
+    fn column<'a, L: Ledger>(
         &self,
         alloc: Global,
         class: Option<u64>,

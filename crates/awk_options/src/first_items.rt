@@ -56,7 +56,7 @@ fn first_places<'a, L: Ledger>(
 #[derive(Clone, Copy, Debug, PartialEq, Eq)]
 struct First;
 
-impl<'a> ListOp<'a> for First {
+impl ListOp for First {
     ghost function = { λ f. firsts_function };
 
     fn refusal(&self, _item: &Typ) -> Option<Refusal> {
@@ -75,7 +75,7 @@ impl<'a> ListOp<'a> for First {
         class
     }
 
-    fn column<L: Ledger>(
+    fn column<'a, L: Ledger>(
         &self,
         alloc: Global,
         _class: Option<u64>,

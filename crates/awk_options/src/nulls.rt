@@ -85,7 +85,7 @@ fn nulls_of<'a, L: Ledger>(
 #[derive(Clone, Copy, Debug, PartialEq, Eq)]
 struct NullTests;
 
-impl<'a> ListOp<'a> for NullTests {
+impl ListOp for NullTests {
     ghost function = { λ f. is_none_function };
 
     fn refusal(&self, _item: &Typ) -> Option<Refusal> {
@@ -104,7 +104,7 @@ impl<'a> ListOp<'a> for NullTests {
         class
     }
 
-    fn column<L: Ledger>(
+    fn column<'a, L: Ledger>(
         &self,
         alloc: Global,
         class: Option<u64>,

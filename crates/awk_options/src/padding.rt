@@ -122,7 +122,7 @@ fn padded_place<L: Ledger>(starts: &Lane, stops: &Lane, i: u64, k: u64, steps: &
     }
 }
 
-impl<'a> ListOp<'a> for Padding {
+impl ListOp for Padding {
     ghost function = { λ f. pad_none_function f.size f.clip };
 
     fn refusal(&self, _item: &Typ) -> Option<Refusal> {
@@ -141,7 +141,7 @@ impl<'a> ListOp<'a> for Padding {
         if self.clip { Some(self.size) } else { None }
     }
 
-    fn column<L: Ledger>(
+    fn column<'a, L: Ledger>(
         &self,
         alloc: Global,
         _class: Option<u64>,

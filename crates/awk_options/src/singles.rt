@@ -62,7 +62,7 @@ fn singles_of<'a, L: Ledger>(
 #[derive(Clone, Copy, Debug, PartialEq, Eq)]
 struct SingleLists;
 
-impl<'a> ListOp<'a> for SingleLists {
+impl ListOp for SingleLists {
     ghost function = { λ f. singletons_function };
 
     fn refusal(&self, _item: &Typ) -> Option<Refusal> {
@@ -81,7 +81,7 @@ impl<'a> ListOp<'a> for SingleLists {
         class
     }
 
-    fn column<L: Ledger>(
+    fn column<'a, L: Ledger>(
         &self,
         alloc: Global,
         class: Option<u64>,

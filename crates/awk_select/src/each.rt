@@ -158,7 +158,7 @@ struct ItemAt {
     place: i64,
 }
 
-impl<'a> ListOp<'a> for ItemAt {
+impl ListOp for ItemAt {
     ghost function = { λ f. each.item_at f.place };
 
     fn refusal(&self, _item: &Typ) -> Option<Refusal> {
@@ -177,7 +177,7 @@ impl<'a> ListOp<'a> for ItemAt {
         class
     }
 
-    fn column<L: Ledger>(
+    fn column<'a, L: Ledger>(
         &self,
         alloc: Global,
         _class: Option<u64>,
