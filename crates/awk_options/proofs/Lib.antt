@@ -7,5 +7,6 @@ pub mod SingleLaws
 pub mod DropLaws
 pub mod PadLaws
 pub mod PadGiven
+pub mod FillLaws
 mod Worked
 mod WorkedFill

@@ -7,3 +7,4 @@ pub mod PadNone
 pub mod PutMask
 pub mod FillNone
 pub mod Filled
+pub mod Moved

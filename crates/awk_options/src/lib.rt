@@ -6,6 +6,7 @@ mod dropping;
 mod filling;
 mod first_items;
 mod lengths;
+mod moving;
 mod nulls;
 mod padding;
 mod presence;
