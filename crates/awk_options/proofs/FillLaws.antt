@@ -3,12 +3,15 @@ use Rattle.std.specs.Prelude.{◌≡◌, ℕ, ◌+◌, ◌-◌, ◌<◌, ◌≤�
 use Rattle.std.specs.Prelude.{List, [], ◌∷◌, ◌++◌, map, length, get_or, ℤ, pos, ◌≤ℤ◌, ◌<ℤ◌, int_le}
 use Rattle.std.specs.Prelude.{Option, Some, None, Result, Ok, Err, if◌then◌else◌}
 use Rattle.std.specs.List.{AllByRecursion, range_with_len}
-use Rattle.std.proofs.Common.{arith, ap, sym, subst, ◌∙◌}
+use Rattle.std.proofs.Common.{arith, ap, ap₂, sym, subst, ◌∙◌}
 use Rattle.std.proofs.lemmas.Int.{ints}
 use Rattle.std.proofs.lemmas.List.{length-append, length-map, get_or_append_left}
 use Rattle.std.proofs.lemmas.List.{get_or-append-add}
 use Rattle.std.proofs.lemmas.Simd.{map-map}
 use Rattle.awk_types.specs.DataType.{DataType, unknown, leaf, var, reg, rec, tup, opt, uni}
+use Rattle.awk_types.specs.Gives.{refused_or}
+use Rattle.awk_types.specs.IsType.{IsType}
+use Rattle.awk_types.specs.Limit.{Limit, limit}
 use Rattle.awk_types.specs.Has.{Has, Holds, least_number, greatest_number}
 use Rattle.awk_types.specs.Simple.{IsSimple, is_option, simple, simple_value}
 use Rattle.awk_types.specs.Value.{Value, int, truth, null, list, row, alt, value_list}
@@ -20,7 +23,6 @@ use Rattle.awk_lanes.specs.Numbers.{nat_of}
 use Rattle.awk_lanes.specs.Places.{size_of, at, place_at, option_place, option_place_at}
 use Rattle.awk_lanes.specs.Places.{IsIndex, IsOptionalIndex}
 use Rattle.awk_lanes.specs.declared.kind.Kind.TheVariants.{I64}
-use Rattle.awk_layout.specs.Datum.{first_item}
 use Rattle.awk_layout.specs.Item.{at_option}
 use Rattle.awk_layout.specs.Layout.{Layout, indexed}
 use Rattle.awk_layout.specs.Typing.{layout_type, array_type, array_items}
@@ -38,7 +40,7 @@ use Rattle.awk_axis.proofs.ArrayLaws.{run_map, run_same}
 use Rattle.awk_axis.proofs.LiftLaws.{joined_even}
 use Rattle.awk_unify.specs.Carry.{Carry, carried}
 use Rattle.awk_unify.specs.Unification.{Unification}
-use Rattle.awk_unify.specs.Unifies.{IsCarriedInto}
+use Rattle.awk_unify.specs.Unifies.{IsCarriedInto, Unifies, within_type}
 use Rattle.awk_unify.specs.Unify.{unification}
 use Rattle.awk_merge.specs.Sides.{Side, merged_items, AreSides, IsMerged, with_side}
 use Rattle.awk_merge.proofs.SideLaws.{all-append, item_has, length-carried, get_or-carried}
@@ -97,6 +99,32 @@ module _ (u : Unification) (x y : Layout) (l : IsCarriedInto (array_type x) u.le
         has = rw (m.typ, items) has;
         items = items;
       }
+
+refused_none : {A F : Type 0} (o : Option F) (a b : A) → refused_or o a ≡ Ok b → a ≡ b
+refused_none None a b e = cc
+refused_none (Some f) a b e = cc
+
+-- two columns as they are made
+pub pair_given : (x y c d z : Layout) (a b t : DataType) (f g : Carry) (s0 s1 s2 : List Side)
+    → a ≡ array_type x → b ≡ array_type y → IsType (array_type x) → IsType (array_type y)
+    → within_type (unification a b) ≡ Ok (record { typ = t; left = f; right = g })
+    → Unifies a b (record { typ = t; left = f; right = g }) → s0 ≡ [] → c ≡ x
+    → s1 ≡ with_side s0 c f → d ≡ y → s2 ≡ with_side s1 d g → HasItems x → HasItems y → IsValid z
+    → IsMerged t s2 z → IsPair (unification (array_type x) (array_type y)) x y z
+pair_given x y c d z a b t f g s0 s1 s2 ea eb tx ty e laws e0 ec e1 ed e2 hx hy v m =
+    let r : Unification = record { typ = t; left = f; right = g } in
+    let same : r ≡ unification (array_type x) (array_type y) =
+    sym (refused_none (limit (unification a b).typ) (unification a b) r e) ∙ ap₂ unification ea eb in
+    let sides : s2 ≡ pair_sides r x y =
+    e2 ∙ ap₂ (λ ss w. with_side ss w g) (e1 ∙ ap₂ (λ ss w. with_side ss w f) e0 ec) ed in
+    let is_a : IsType a = subst IsType (sym ea) tx in
+    let is_b : IsType b = subst IsType (sym eb) ty in
+    let l : IsCarriedInto (array_type x) f t =
+    subst (λ s. IsCarriedInto s f t) ea (laws.left_values is_a is_b) in
+    let k : IsCarriedInto (array_type y) g t =
+    subst (λ s. IsCarriedInto s g t) eb (laws.right_values is_a is_b) in
+    subst (λ u. IsPair u x y z) same
+    (merged_pair r x y l k z hx hy v (subst (λ ss. IsMerged t ss z) sides m))
 
 -- ---- options
 
@@ -192,6 +220,35 @@ module _ (f : Filler) (j : Column) (x v z : Layout) (has : HasItems x)
         stays = λ i q. item_stays z p.has (place_at (places_or (len x) j) i)
             (index.places i (omega (arith, q, s))).1;
       }
+
+module _ (f : Filler) (j q : Column) (x v z b : Layout) (n : ℕ) (t : DataType)
+    (et : t ≡ array_type x) (has : HasItems x) (plain : is_option (array_type x) ≡ false)
+    (fit : size_of j < 2 ^ 63) (h : IsOptionalIndex j (len x))
+    (own : IsFirst (filler_type f t) (filler_value f) v)
+    (p : IsPair (unification (array_type x) (array_type v)) x v z) (eb : b ≡ z) (en : n ≡ len x)
+    (eq : q ≡ places_or n j) where
+  own_here : IsFirst (filler_type f (array_type x)) (filler_value f) v
+  own_here = subst (λ s. IsFirst (filler_type f s) (filler_value f) v) et own
+
+  index_is : q ≡ places_or (len x) j
+  index_is = eq ∙ ap (λ m. places_or m j) en
+
+  pub made_index : IsIndex q (len b)
+  made_index =
+      subst (λ c. IsIndex c (len b)) (sym index_is)
+      (subst (λ y. IsIndex (places_or (len x) j) (len y)) (sym eb)
+      (filled_index (unification (array_type x) (array_type v)) (filler_value f) x v z has plain
+      own_here.some own_here.first p j h))
+
+  pub made_fit : size_of q < 2 ^ 63
+  made_fit =
+      subst (λ c. size_of c < 2 ^ 63) (sym index_is)
+      (omega (arith, size-lane_of I64 (size_of j) (λ i. place_or (len x) (option_place_at j i)), fit))
+
+  pub made_option : (w : Layout) → w ≡ indexed q b → IsFilledOption f j x w
+  made_option w e =
+      subst (IsFilledOption f j x) (sym (e ∙ ap₂ indexed index_is eb))
+      (filled_option_is f j x v z has plain fit h own_here p)
 
 -- ---- arrays
 

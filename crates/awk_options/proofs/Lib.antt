@@ -8,5 +8,6 @@ pub mod DropLaws
 pub mod PadLaws
 pub mod PadGiven
 pub mod FillLaws
+pub mod MovedBits
 mod Worked
 mod WorkedFill

@@ -62,7 +62,7 @@ fn bits_in<'a, L: Ledger>(
     let n = bits.len() / 8 + 1;
     let mut copied = Vec::with_capacity(arena, n as usize)?;
     for k in 0..n {
-        copied.push_reserved(eight(bits, 8 * k, steps));
+        copied.push(eight(bits, 8 * k, steps))?;
     }
     Ok(Bits::new(into_bump_slice(copied), 0, bits.len(), false))
 }
