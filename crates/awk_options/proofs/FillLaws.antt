@@ -1,6 +1,6 @@
 -- A value in the place of each null.
 use Rattle.std.specs.Prelude.{◌≡◌, ℕ, ◌+◌, ◌-◌, ◌<◌, ◌≤◌, ◌^◌, ◌&&◌, refl, Bool, true, false, not}
-use Rattle.std.specs.Prelude.{List, [], ◌∷◌, ◌++◌, map, length, get_or, ℤ, pos, ◌≤ℤ◌, ◌<ℤ◌, int_le}
+use Rattle.std.specs.Prelude.{List, [], ◌∷◌, ◌++◌, map, length, get_or, ℤ, pos, negsuc, ◌≤ℤ◌, ◌<ℤ◌, int_le}
 use Rattle.std.specs.Prelude.{Option, Some, None, Result, Ok, Err, if◌then◌else◌}
 use Rattle.std.specs.List.{AllByRecursion, range_with_len}
 use Rattle.std.proofs.Common.{arith, ap, ap₂, sym, subst, ◌∙◌}
@@ -35,10 +35,11 @@ use Rattle.awk_axis.specs.ListFunction.{Class}
 use Rattle.awk_axis.specs.Mapped.{AreGiven}
 use Rattle.awk_axis.specs.Opened.{AreLists, OpensOption, items_at, all_items_at}
 use Rattle.awk_axis.specs.Spoils.{too_many}
+use Rattle.awk_axis.specs.declared.causes.Refusal.TheVariants as refused
 use Rattle.awk_axis.specs.declared.causes.Spoil.TheVariants.{Size}
 use Rattle.awk_axis.proofs.ArrayLaws.{run_map, run_same}
 use Rattle.awk_axis.proofs.LiftLaws.{joined_even}
-use Rattle.awk_unify.specs.Carry.{Carry, carried}
+use Rattle.awk_unify.specs.Carry.{Carry, keep, carried}
 use Rattle.awk_unify.specs.Unification.{Unification}
 use Rattle.awk_unify.specs.Unifies.{IsCarriedInto, Unifies, within_type}
 use Rattle.awk_unify.specs.Unify.{unification}
@@ -49,6 +50,7 @@ use Rattle.awk_options.specs.Filled.{IsFirst, IsPair, place_or, places_or, AreFi
 use Rattle.awk_options.specs.Filled.{IsFilledOption}
 use Rattle.awk_options.specs.FillNone.{Filler, filler_type, filler_value, filling, fill_value}
 use Rattle.awk_options.specs.FillNone.{filled, filled_type, fits, fill_none_function}
+use Rattle.awk_options.specs.FillNone.{literal_refusal, literal_primitive}
 use Rattle.awk_options.proofs.OptionNodes.{HasItems, item_stays}
 use Rattle.awk_options.proofs.Spans.{count_same, over_limit, within_limit}
 
@@ -63,8 +65,18 @@ fits_holds p z e = by (int_le (least_number p) z) (int_le z (greatest_number p))
     by : (l g : Bool) → int_le (least_number p) z ≡ l → int_le z (greatest_number p) ≡ g
         → (l && g) ≡ true → Holds p z
     by true true a b h = (in_order (least_number p) z a, in_order z (greatest_number p) b)
-    by true false a b h = absurd h
-    by false g a b h = absurd h
+    by true false a b h = cc
+    by false g a b h = cc
+
+-- a literal that is not refused fits
+pub literal_holds : (z : ℤ) (t : DataType) → literal_refusal z (opt t) ≡ None
+    → Holds (literal_primitive t) z
+literal_holds z t h = fits_holds (literal_primitive t) z (by (fits (literal_primitive t) z) refl h)
+  where
+    by : (b : Bool) → fits (literal_primitive t) z ≡ b
+        → (if b then None else Some refused.Overflow) ≡ None → fits (literal_primitive t) z ≡ true
+    by true e k = e
+    by false e k = cc
 
 -- ---- two columns
 
@@ -126,12 +138,36 @@ pair_given x y c d z a b t f g s0 s1 s2 ea eb tx ty e laws e0 ec e1 ed e2 hx hy 
     subst (λ u. IsPair u x y z) same
     (merged_pair r x y l k z hx hy v (subst (λ ss. IsMerged t ss z) sides m))
 
+-- a column twice as it is
+pub twice_first : (x c d z : Layout) (t : DataType) (s0 s1 s2 : List Side) → s0 ≡ [] → c ≡ x
+    → s1 ≡ with_side s0 c keep → d ≡ x → s2 ≡ with_side s1 d keep → t ≡ array_type x → 0 < len x
+    → IsMerged t s2 z → IsFirst (array_type x) (array_item x 0) z
+twice_first x c d z t s0 s1 s2 e0 ec e1 ed e2 et some m =
+    let vs : List Value = map (carried keep) (array_items x) in
+    let sides : s2 ≡ with_side (with_side [] x keep) x keep =
+    e2 ∙ ap₂ (λ ss w. with_side ss w keep) (e1 ∙ ap₂ (λ ss w. with_side ss w keep) e0 ec) ed in
+    let items : array_items z ≡ vs ++ vs =
+    m.items ∙ ap merged_items sides ∙ merged_items-with_side (with_side [] x keep) x keep
+    ∙ ap (λ us. us ++ vs) (merged_items-with_side [] x keep) in
+    let long : len z ≡ len x + len x =
+    sym (length-array_items z) ∙ ap length items ∙ length-append vs vs
+    ∙ omega (arith, length-carried x keep) in
+    record {
+      typ = m.typ ∙ et;
+      some = omega (arith, long, some);
+      first =
+          sym (get_or-array_items z 0 (omega (arith, long, some)))
+          ∙ ap (λ us. get_or us 0 null) items
+          ∙ get_or_append_left vs vs null 0 (omega (arith, some, length-carried x keep))
+          ∙ get_or-carried x keep 0 some;
+    }
+
 -- ---- options
 
 -- an item that is present is no null
 fill_present : (u : Unification) (w : Value) (t : DataType) (v : Value) → Has t v
     → is_option t ≡ false → fill_value u w v ≡ carried u.left v
-fill_present u w t null h n = absurd (sym (null_in_option t h) ∙ n)
+fill_present u w t null h n = let e : true ≡ false = sym (null_in_option t h) ∙ n in cc
 fill_present u w t (int z) h n = refl
 fill_present u w t (truth b) h n = refl
 fill_present u w t (list vs) h n = refl
@@ -153,7 +189,7 @@ module _ (u : Unification) (w : Value) (x v z : Layout) (has : HasItems x)
       let n : len x ≡ length xs + 0 = omega (arith, length-carried x u.left) in
       sym (get_or-array_items z (len x) (omega (arith, length-pair, some)))
       ∙ ap (λ vs. get_or vs (len x) null) p.items
-      ∙ ap (get_or (xs ++ map (carried u.right) (array_items v)) null) n
+      ∙ ap (λ i. get_or (xs ++ map (carried u.right) (array_items v)) i null) n
       ∙ get_or-append-add xs (map (carried u.right) (array_items v)) 0 null
       ∙ get_or-carried v u.right 0 some
       ∙ ap (carried u.right) first
@@ -206,7 +242,7 @@ module _ (f : Filler) (j : Column) (x v z : Layout) (has : HasItems x)
 
   pub filled_option_is : IsFilledOption f j x (indexed (places_or (len x) j) z)
   filled_option_is =
-      let g = λ i. place_or (len x) (option_place_at j i) in
+      let g : ℕ → ℤ = λ i. place_or (len x) (option_place_at j i) in
       let s = size-lane_of I64 (size_of j) g in
       let index = filled_index u (filler_value f) x v z has plain own.some own.first p j h in
       record {
@@ -279,7 +315,7 @@ plain_type f (var t) n = refl
 plain_type f (reg m t) n = refl
 plain_type f (rec ns ts) n = refl
 plain_type f (tup ts) n = refl
-plain_type f (opt t) n = absurd n
+plain_type f (opt t) n = let e : true ≡ false = n in cc
 plain_type f (uni ts) n = refl
 
 plain_value : (f : Filler) (t : DataType) (v : Value) → is_option t ≡ false → filled f t v ≡ v
@@ -289,7 +325,7 @@ plain_value f (var t) v n = refl
 plain_value f (reg m t) v n = refl
 plain_value f (rec ns ts) v n = refl
 plain_value f (tup ts) v n = refl
-plain_value f (opt t) v n = absurd n
+plain_value f (opt t) v n = let e : true ≡ false = n in cc
 plain_value f (uni ts) v n = refl
 
 -- items that are not optional stay
@@ -330,7 +366,7 @@ module _ (f : Filler) (class : Class) (s t : Column) (y : Layout) (o : Column) (
     lists = λ i p.
         let first = place_at o i in
         let n = place_at o (i + 1) - place_at o i in
-        let g = filled f (array_type y) in
+        let g : Value → Value = filled f (array_type y) in
         let within = j.offsets.within i p in
         ap value_list (run_same (array_item w) (λ k. simple_value typ (g (array_item x k))) first n
         (λ k _ q. made_item k (omega (arith, q, within))))

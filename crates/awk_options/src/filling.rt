@@ -28,7 +28,7 @@ use awk_lanes::{Arena, Kind, Lane, LaneMaker, Num, Steps, number, option_place_i
 use awk_layout::{Array, Datum, Node, Operand, kind_of};
 use awk_merge::{Sides, merge};
 use awk_types::{Fault, NoMemory, Prim, Typ, copy_type};
-use awk_unify::{Lift, Unified, unify, unify_unlimited};
+use awk_unify::{Lift, unify, unify_unlimited};
 use std::alloc::{AllocError, Global};
 use std::marker::Model;
 use std::sync::ledger::Ledger;
@@ -181,11 +181,11 @@ fn pair<'a, L: Ledger>(
     let _ = x.len();
     let _ = y.len();
     match unify(alloc, x.typ(), y.typ()) {
-        Ok(Unified { typ, left, right }) => {
+        Ok(made) => {
             let mut sides = Sides::new(alloc);
-            sides.push(alloc, x.copy(alloc)?, &left)?;
-            sides.push(alloc, y.copy(alloc)?, &right)?;
-            let node = merge(alloc, &typ, &sides, arena, steps)?;
+            sides.push(alloc, x.copy(alloc)?, &made.left)?;
+            sides.push(alloc, y.copy(alloc)?, &made.right)?;
+            let node = merge(alloc, &made.typ, &sides, arena, steps)?;
             let _ = node.len();
             Ok(node)
         }
@@ -233,7 +233,8 @@ fn filled_option<'a, L: Ledger>(
     steps: &mut Steps<L>,
 ) -> Result<Node<'a>, NoMemory>
     requires first { HasFirst value.now }
-    requires accepted { filler_refusal (filler_of value.now) (opt (array_type present.now)) ≡ None }
+    requires accepted { let f = filler_of value.now in
+        filler_refusal f (opt (array_type present.now)) ≡ None }
     requires fits { size_of index.now < 2 ^ 63 }
     requires index { IsOptionalIndex index.now (len present.now) }
     requires plain { is_option (array_type present.now) ≡ false }
@@ -333,8 +334,11 @@ impl<'o, 'b> ListOp for Filling<'o, 'b> {
         match join_spans(alloc, class, starts, stops, content, arena, steps)? {
             Joined::TooMany => Ok(Made::Spoiled(Spoil::Size)),
             Joined::Lists { offsets, content } => {
-                let content = filled(alloc, self.value, &content, arena, steps)?;
-                Ok(Made::Lists { offsets, content })
+                let items = filled(alloc, self.value, &content, arena, steps)?;
+                Ok(Made::Lists {
+                    offsets,
+                    content: items,
+                })
             }
         }
     }
@@ -357,8 +361,8 @@ fn twice<'a, L: Ledger>(
     Ok(Array::with_type(node, copy_type(alloc, x.typ())?))
 }
 
-/// The same to fill nulls with. A value that was picked from a long column lies in the lanes of that
-/// column; it is taken out of them once, and not for each column of lists.
+/// The same to fill nulls with. A value that was picked from a long column lies in the lanes of
+/// that column; it is taken out of them once, and not for each column of lists.
 fn compact<'a, L: Ledger>(
     alloc: Global,
     value: &Operand<'a>,
@@ -389,8 +393,8 @@ fn refused(answer: Result<Datum, Fault>) -> Fault
 
 /// Each null among the items of the lists at an axis as the value, a literal or a single value that
 /// is not optional. Where items are optional they become of the type that theirs without the option
-/// and the value's unify to; a literal is there of the items' type where that is a whole-number type,
-/// else of int64. Where no items are optional they stay, and a literal is not judged.
+/// and the value's unify to; a literal is there of the items' type where that is a whole-number
+/// type, else of int64. Where no items are optional they stay, and a literal is not judged.
 pub fn fill_none<'a, L: Ledger>(
     alloc: Global,
     x: &Datum<'a>,

@@ -59,12 +59,13 @@ fn bits_in<'a, L: Ledger>(
     requires { length bits.now < 2 ^ 63 }
     ensures { IfOk result (λ r. r ≡ bits.now) }
 {
-    let n = bits.len() / 8 + 1;
+    let length = bits.len();
+    let n = length / 8 + 1;
     let mut copied = Vec::with_capacity(arena, n as usize)?;
     for k in 0..n {
         copied.push(eight(bits, 8 * k, steps))?;
     }
-    Ok(Bits::new(into_bump_slice(copied), 0, bits.len(), false))
+    Ok(Bits::new(into_bump_slice(copied), 0, length, false))
 }
 
 /// The same node.
@@ -164,6 +165,7 @@ fn boxed_in<'a, L: Ledger>(
 
 /// The same nodes.
 #[cycle(moving)]
+#[tactic(auto, using(awk_layout::proofs::ContentTypes::contents))]
 fn nodes_in<'a, L: Ledger>(
     alloc: Global,
     xs: &Nodes,

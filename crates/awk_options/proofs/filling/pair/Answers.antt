@@ -8,7 +8,7 @@ pub returns-in_ok-node-in-Ok : goal.returns-in_ok-node-in-Ok
 returns-in_ok-node-in-Ok g c =
     pair_given c.args.x.now c.args.y.now c.in_ok-copy-in-Ok.field-0 c.in_ok-copy-in-Ok-2.field-0
     c.in_ok-node-in-Ok.node (typ_of c.typ.result.now) (typ_of c.typ-2.result.now)
-    (typ_of c.in-Ok.typ) (lift_of c.in-Ok.left) (lift_of c.in-Ok.right)
+    (typ_of c.in-Ok.made.typ) (lift_of c.in-Ok.made.left) (lift_of c.in-Ok.made.right)
     (sides_of c.new-sides.result) (sides_of c.push.new.self) (sides_of c.push-in-Ok.new.self)
     c.typ.ensures.typ c.typ-2.ensures.typ c.typ.ensures.lawful.is_type
     c.typ-2.ensures.lawful.is_type c.in-Ok.ensures.gives c.in-Ok.ensures.laws
