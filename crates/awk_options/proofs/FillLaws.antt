@@ -16,6 +16,11 @@ use Rattle.awk_types.specs.Has.{Has, Holds, least_number, greatest_number}
 use Rattle.awk_types.specs.Simple.{IsSimple, is_option, simple, simple_value}
 use Rattle.awk_types.specs.Value.{Value, int, truth, null, list, row, alt, value_list}
 use Rattle.awk_types.specs.ItemLimit.{item_limit}
+use Rattle.awk_types.specs.declared.fault.Fault.{Fault}
+use Rattle.awk_types.specs.declared.fault.Fault.TheVariants.{Unbound, NoField, Axis, WrongType}
+use Rattle.awk_types.specs.declared.fault.Fault.TheVariants.{Overflow, Zero, Depth, Size, Lengths}
+use Rattle.awk_types.specs.declared.fault.Fault.TheVariants.{Index, Unbuilt, NoMemory}
+use Rattle.awk_types.specs.declared.name.Name.{Name}
 use Rattle.awk_types.specs.declared.primitive.Primitive.{Primitive}
 use Rattle.awk_types.proofs.SimpleLaws.{simple_twice, simple_is_simple, has_each, null_in_option}
 use Rattle.awk_lanes.specs.Column.{Column}
@@ -23,6 +28,7 @@ use Rattle.awk_lanes.specs.Numbers.{nat_of}
 use Rattle.awk_lanes.specs.Places.{size_of, at, place_at, option_place, option_place_at}
 use Rattle.awk_lanes.specs.Places.{IsIndex, IsOptionalIndex}
 use Rattle.awk_lanes.specs.declared.kind.Kind.TheVariants.{I64}
+use Rattle.awk_layout.specs.declared.datum.Datum.{Datum as Array}
 use Rattle.awk_layout.specs.Item.{at_option}
 use Rattle.awk_layout.specs.Layout.{Layout, indexed}
 use Rattle.awk_layout.specs.Typing.{layout_type, array_type, array_items}
@@ -36,7 +42,7 @@ use Rattle.awk_axis.specs.Mapped.{AreGiven}
 use Rattle.awk_axis.specs.Opened.{AreLists, OpensOption, items_at, all_items_at}
 use Rattle.awk_axis.specs.Spoils.{too_many}
 use Rattle.awk_axis.specs.declared.causes.Refusal.TheVariants as refused
-use Rattle.awk_axis.specs.declared.causes.Spoil.TheVariants.{Size}
+use Rattle.awk_axis.specs.declared.causes.Spoil.TheVariants.{Size as TooLarge}
 use Rattle.awk_axis.proofs.ArrayLaws.{run_map, run_same}
 use Rattle.awk_axis.proofs.LiftLaws.{joined_even}
 use Rattle.awk_unify.specs.Carry.{Carry, keep, carried}
@@ -47,10 +53,10 @@ use Rattle.awk_merge.specs.Sides.{Side, merged_items, AreSides, IsMerged, with_s
 use Rattle.awk_merge.proofs.SideLaws.{all-append, item_has, length-carried, get_or-carried}
 use Rattle.awk_merge.proofs.SideLaws.{merged_items-with_side, AreSides-with_side}
 use Rattle.awk_options.specs.Filled.{IsFirst, IsPair, place_or, places_or, AreFilled, IsFilled}
-use Rattle.awk_options.specs.Filled.{IsFilledOption}
+use Rattle.awk_options.specs.Filled.{IsFilledOption, IsRefused}
 use Rattle.awk_options.specs.FillNone.{Filler, filler_type, filler_value, filling, fill_value}
 use Rattle.awk_options.specs.FillNone.{filled, filled_type, fits, fill_none_function}
-use Rattle.awk_options.specs.FillNone.{literal_refusal, literal_primitive}
+use Rattle.awk_options.specs.FillNone.{literal_refusal, literal_primitive, no_filler}
 use Rattle.awk_options.proofs.OptionNodes.{HasItems, item_stays}
 use Rattle.awk_options.proofs.Spans.{count_same, over_limit, within_limit}
 
@@ -376,7 +382,7 @@ module _ (f : Filler) (class : Class) (s t : Column) (y : Layout) (o : Column) (
   }
 
 pub filled_spoilt : (f : Filler) (s t : Column) (y : Layout) → item_limit < total s t y
-    → (fill_none_function f).spoil (array_type y) (all_items_at s t y) ≡ Some Size
+    → (fill_none_function f).spoil (array_type y) (all_items_at s t y) ≡ Some TooLarge
 filled_spoilt f s t y h =
     ap too_many (count_same (map (filled f (array_type y))) s t y
     (λ vs. length-map vs (filled f (array_type y)))) ∙ over_limit (total s t y) h
@@ -387,3 +393,48 @@ filled_fine f s t y h =
     ap too_many (count_same (map (filled f (array_type y))) s t y
     (λ vs. length-map vs (filled f (array_type y)))) ∙ within_limit (total s t y) h
 
+
+-- ---- what is no filler
+
+refused_ok : (d : Array) → IsRefused (Ok d) WrongType
+refused_ok d said e = ap no_filler e
+
+refused_axis : IsRefused (Err Axis) Axis
+refused_axis said e = ap no_filler e
+
+refused_memory : (r : Result Array Fault) → IsRefused r NoMemory
+refused_memory r said e = tt
+
+refused_unbound : (n : Name) → IsRefused (Err (Unbound n)) WrongType
+refused_unbound n said e = ap no_filler e
+
+refused_field : (n : Name) → IsRefused (Err (NoField n)) WrongType
+refused_field n said e = ap no_filler e
+
+refused_type : IsRefused (Err WrongType) WrongType
+refused_type said e = ap no_filler e
+
+refused_overflow : IsRefused (Err Overflow) WrongType
+refused_overflow said e = ap no_filler e
+
+refused_zero : IsRefused (Err Zero) WrongType
+refused_zero said e = ap no_filler e
+
+refused_depth : IsRefused (Err Depth) WrongType
+refused_depth said e = ap no_filler e
+
+refused_size : IsRefused (Err Size) WrongType
+refused_size said e = ap no_filler e
+
+refused_lengths : IsRefused (Err Lengths) WrongType
+refused_lengths said e = ap no_filler e
+
+refused_index : IsRefused (Err Index) WrongType
+refused_index said e = ap no_filler e
+
+refused_unbuilt : IsRefused (Err Unbuilt) WrongType
+refused_unbuilt said e = ap no_filler e
+
+pub ruleset refusing = (refused_ok, refused_axis, refused_memory, refused_unbound, refused_field,
+    refused_type, refused_overflow, refused_zero, refused_depth, refused_size, refused_lengths,
+    refused_index, refused_unbuilt)

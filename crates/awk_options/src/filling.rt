@@ -381,6 +381,7 @@ fn compact<'a, L: Ledger>(
 }
 
 /// What is no filler is told after an axis, where no list is reached too.
+#[tactic(auto, using(crate::proofs::FillLaws::refusing))]
 fn refused(answer: Result<Datum, Fault>) -> Fault
     ensures { IsRefused answer.entry result }
 {
