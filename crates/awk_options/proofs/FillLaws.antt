@@ -396,43 +396,43 @@ filled_fine f s t y h =
 
 -- ---- what is no filler
 
-refused_ok : (d : Array) → IsRefused (Ok d) WrongType
+pub refused_ok : (d : Array) → IsRefused (Ok d) WrongType
 refused_ok d said e = ap no_filler e
 
-refused_axis : IsRefused (Err Axis) Axis
+pub refused_axis : IsRefused (Err Axis) Axis
 refused_axis said e = ap no_filler e
 
-refused_memory : (r : Result Array Fault) → IsRefused r NoMemory
+pub refused_memory : (r : Result Array Fault) → IsRefused r NoMemory
 refused_memory r said e = tt
 
-refused_unbound : (n : Name) → IsRefused (Err (Unbound n)) WrongType
+pub refused_unbound : (n : Name) → IsRefused (Err (Unbound n)) WrongType
 refused_unbound n said e = ap no_filler e
 
-refused_field : (n : Name) → IsRefused (Err (NoField n)) WrongType
+pub refused_field : (n : Name) → IsRefused (Err (NoField n)) WrongType
 refused_field n said e = ap no_filler e
 
-refused_type : IsRefused (Err WrongType) WrongType
+pub refused_type : IsRefused (Err WrongType) WrongType
 refused_type said e = ap no_filler e
 
-refused_overflow : IsRefused (Err Overflow) WrongType
+pub refused_overflow : IsRefused (Err Overflow) WrongType
 refused_overflow said e = ap no_filler e
 
-refused_zero : IsRefused (Err Zero) WrongType
+pub refused_zero : IsRefused (Err Zero) WrongType
 refused_zero said e = ap no_filler e
 
-refused_depth : IsRefused (Err Depth) WrongType
+pub refused_depth : IsRefused (Err Depth) WrongType
 refused_depth said e = ap no_filler e
 
-refused_size : IsRefused (Err Size) WrongType
+pub refused_size : IsRefused (Err Size) WrongType
 refused_size said e = ap no_filler e
 
-refused_lengths : IsRefused (Err Lengths) WrongType
+pub refused_lengths : IsRefused (Err Lengths) WrongType
 refused_lengths said e = ap no_filler e
 
-refused_index : IsRefused (Err Index) WrongType
+pub refused_index : IsRefused (Err Index) WrongType
 refused_index said e = ap no_filler e
 
-refused_unbuilt : IsRefused (Err Unbuilt) WrongType
+pub refused_unbuilt : IsRefused (Err Unbuilt) WrongType
 refused_unbuilt said e = ap no_filler e
 
 pub ruleset refusing = (refused_ok, refused_axis, refused_memory, refused_unbound, refused_field,
