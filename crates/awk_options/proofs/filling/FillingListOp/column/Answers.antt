@@ -1,6 +1,7 @@
 use Rattle.std.proofs.Common.{◌≡◌, None, subst, sym, ◌∙◌}
 use Rattle.awk_axis.specs.Joined.{IsJoined}
 use Rattle.awk_axis.specs.declared.opening.Joined.TheVariants.{Lists}
+use Rattle.awk_layout.specs.Typing.{array_type}
 use Rattle.awk_options.specs.Filled.{IsFilled}
 use Rattle.awk_options.specs.FillNone.{filler_of, filler_refusal}
 use Rattle.awk_options.proofs.FillLaws.{filled_given, filled_spoilt, filled_fine}
@@ -17,7 +18,8 @@ filled-requires-clause-accepted g c =
     rw c.in-Lists.is at c.in_ok-join_spans.ensures in
     let h = subst (λ t. filler_refusal (filler_of c.args.self.now) t ≡ None) (sym (j.1).typ)
         c.requires.accepted in
-    subst (λ v. filler_refusal (filler_of v) _ ≡ None) (sym c.self.view_is) h
+    subst (λ v. filler_refusal (filler_of v) (array_type c.in-Lists.content) ≡ None)
+    (sym c.self.view_is) h
 
 pub returns-in_ok-items-in-Lists : goal.returns-in_ok-items-in-Lists
 returns-in_ok-items-in-Lists g c =
