@@ -25,4 +25,7 @@ pub mod MaskListColumns
 pub mod MaskOpened
 pub mod MaskFaults
 pub mod MaskMade
+pub mod FillLaws
+pub mod MovedBits
 mod Worked
+mod WorkedFill

@@ -10,3 +10,6 @@ pub mod MaskLeaves
 pub mod MaskNulls
 pub mod MaskLevels
 pub mod MaskTypes
+pub mod FillNone
+pub mod Filled
+pub mod Moved

@@ -3,6 +3,7 @@
 #![tactic(auto)]
 
 mod dropping;
+mod filling;
 mod first_items;
 mod lengths;
 mod mask_leaves;
@@ -11,12 +12,14 @@ mod mask_levels;
 mod mask_nulls;
 mod mask_types;
 mod masking;
+mod moving;
 mod nulls;
 mod padding;
 mod presence;
 mod singles;
 
 pub use dropping::drop_none;
+pub use filling::fill_none;
 pub use first_items::firsts;
 pub use masking::put_mask;
 pub use nulls::is_none;
