@@ -1,11 +1,13 @@
 -- The operands in code and those that they stand for.
-use Rattle.std.proofs.Common.{◌≡◌, List, [], ◌∷◌, length, slice_get, Some, None, ℤ, ap, ap₂, subst}
+use Rattle.std.proofs.Common.{◌≡◌, List, [], ◌∷◌, length, slice_get, Some, None, ℤ, ap, ap₂, ◌∙◌, refl, subst}
 use Rattle.std.proofs.Common.{arith}
 use Rattle.awk_layout.specs.declared.datum.Operand.{Operand}
 use Rattle.awk_layout.specs.declared.datum.Operand.TheVariants.{Of, Literal}
 use Rattle.awk_layout.specs.declared.datum.Datum.{Datum}
-use Rattle.awk_eval.specs.Operand.{both_in}
-use Rattle.awk_eval.specs.OperandView.{shown_operands}
+use Rattle.awk_layout.specs.Datum.{datum_of}
+use Rattle.awk_options.specs.FillNone.{filler_of}
+use Rattle.awk_eval.specs.Operand.{both_in, filled_in, filler}
+use Rattle.awk_eval.specs.OperandView.{shown_operand, shown_operands}
 use Rattle.awk_eval.specs.Views.{Size, IsWithin, AreWithin}
 
 -- of one operand, the only one is that at place 0
@@ -33,6 +35,27 @@ literal-first [] o z at is = absurd (cc)
 literal-first (p ∷ ps) o z at is =
     let same : p ≡ Literal z = cc in
     ap (λ x. both_in (shown_operands (x ∷ ps))) same
+
+-- what fills nulls is the same in code and in words
+filler-shown : (v : Operand) → filler (shown_operand v) ≡ filler_of v
+filler-shown (Of x) = refl
+filler-shown (Literal z) = refl
+
+pub filled-two : (os : List Operand) (o p : Operand) (d : Datum) → length os ≡ 2
+    → slice_get os 0 ≡ Some o → slice_get os 1 ≡ Some p → o ≡ Of d
+    → filled_in (shown_operands os) ≡ Some (datum_of d, filler_of p)
+filled-two os o p d two at next is =
+    let whole : os ≡ Of d ∷ p ∷ []
+    = operands-two os o p two at next ∙ ap (λ q. q ∷ p ∷ []) is in
+    ap (λ ps. filled_in (shown_operands ps)) whole
+    ∙ ap (λ v. Some (datum_of d, v)) (filler-shown p)
+
+pub filled-literal : (os : List Operand) (o : Operand) (z : ℤ) → slice_get os 0 ≡ Some o
+    → o ≡ Literal z → filled_in (shown_operands os) ≡ None
+filled-literal [] o z at is = absurd (cc)
+filled-literal (p ∷ ps) o z at is =
+    let same : p ≡ Literal z = cc in
+    ap (λ x. filled_in (shown_operands (x ∷ ps))) same
 
 -- what is so of all operands is so of the only one
 pub IsWithin-one : (s : Size) (os : List Operand) (x : Datum) → os ≡ Of x ∷ [] → AreWithin s os

@@ -27,12 +27,13 @@ use Rattle.awk_lists.specs.Unflatten.{unflatten_of}
 use Rattle.awk_lists.specs.WithoutField.{choice_of, without_field_of}
 use Rattle.awk_options.specs.DropNone.{drop_none_of}
 use Rattle.awk_merge.specs.Concatenate.{concatenate_of}
+use Rattle.awk_options.specs.FillNone.{Filler, fill_none_of}
 use Rattle.awk_options.specs.Firsts.{firsts_of}
 use Rattle.awk_options.specs.IsNone.{is_none_of}
 use Rattle.awk_options.specs.PadNone.{pad_none_of}
 use Rattle.awk_options.specs.PutMask.{put_mask_of}
 use Rattle.awk_options.specs.Singletons.{singletons_of}
-use Rattle.awk_eval.specs.Operand.{Operand, of, literal, only_in, both_in, data_in}
+use Rattle.awk_eval.specs.Operand.{Operand, of, literal, only_in, both_in, data_in, filled_in}
 use Rattle.awk_eval.specs.Operand.{takes_literal}
 use Rattle.awk_eval.specs.Fixed.{bounds_in, Stepped, stepped_in, place_in, text_in, texts_in}
 use Rattle.awk_eval.specs.Fixed.{padding_in, truth_in}
@@ -128,6 +129,10 @@ paired f None = Err Unbuilt
 abbrev pub padded_by : ℕ × ℤ × Bool → Datum → Result Datum Fault
 padded_by p d = pad_none_of p.0 p.1 p.2 d
 
+-- nulls at an axis filled
+abbrev pub filled_by : ℤ → Datum × Filler → Result Datum Fault
+filled_by axis p = fill_none_of p.0 p.1 axis
+
 -- an array where a mask over it is as asked, and null elsewhere
 abbrev pub masked_by : Bool → Datum × Datum → Result Datum Fault
 masked_by w p = put_mask_of p.0 p.1 w
@@ -139,6 +144,7 @@ optioned op.DropNone fixed operands = given drop_none_of (place_in fixed) (only_
 optioned op.Firsts fixed operands = given firsts_of (place_in fixed) (only_in operands)
 optioned op.Singletons fixed operands = given singletons_of (place_in fixed) (only_in operands)
 optioned op.PadNone fixed operands = given padded_by (padding_in fixed) (only_in operands)
+optioned op.FillNone fixed operands = given filled_by (place_in fixed) (filled_in operands)
 optioned op.PutMask fixed operands = given masked_by (truth_in fixed) (both_in operands)
 optioned _ fixed operands = Err Unbuilt
 

@@ -2,6 +2,8 @@
 use Rattle.std.specs.Prelude.{ℕ, ℤ, Bool, true, false, ◌==◌, List, [], ◌∷◌, Option, Some, None}
 use Rattle.std.specs.Prelude.{option_map, if◌then◌else◌}
 use Rattle.awk_types.specs.Datum.{Datum}
+use Rattle.awk_options.specs.FillNone as fill
+use Rattle.awk_options.specs.FillNone.{Filler}
 use Rattle.awk_query.specs.declared.op.Op.{Op}
 use Rattle.awk_query.specs.declared.op.Op.TheVariants as op
 
@@ -37,6 +39,16 @@ only_in _ = None
 abbrev pub both_in : List Operand → Option (Datum × Datum)
 both_in (of d ∷ of e ∷ []) = Some (d, e)
 both_in _ = None
+
+-- what fills nulls
+abbrev pub filler : Operand → Filler
+filler (of d) = fill.datum d
+filler (literal z) = fill.literal z
+
+-- the first operand, where it is a datum, and what fills its nulls
+abbrev pub filled_in : List Operand → Option (Datum × Filler)
+filled_in (of d ∷ v ∷ []) = Some (d, filler v)
+filled_in _ = None
 
 -- one datum more
 abbrev pub one_more : Operand → Option (List Datum) → Option (List Datum)

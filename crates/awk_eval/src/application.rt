@@ -18,13 +18,13 @@ ghost use Rattle.awk_eval.specs.Views.{Size, Takes, IsWithin, AreWithin, is_view
 ghost use Rattle.awk_eval.specs.Eval as meaning;
 
 use crate::arguments::{
-    both, bound_or, bounds, data, only, padding, place, text, texts, truth, with_step,
+    both, bound_or, bounds, data, filled, only, padding, place, text, texts, truth, with_step,
 };
 use awk_lanes::{Arena, Steps};
 use awk_layout::{Array, Datum, Operands};
 use awk_lists::{flatten, local_index, num, run_lengths, unflatten, without_field};
 use awk_merge::concatenate;
-use awk_options::{drop_none, firsts, is_none, pad_none, put_mask, singletons};
+use awk_options::{drop_none, fill_none, firsts, is_none, pad_none, put_mask, singletons};
 use awk_query::{Fixed, FixedArg, Op};
 use awk_select::{at, at_each, is_mask, mask, step_range, take};
 use awk_types::{Fault, Names, NoMemory, Typ};
@@ -152,6 +152,10 @@ fn optioned<'s, L: Ledger>(
         },
         Op::PadNone => match (padding(fixed), only(operands)) {
             (Some((n, axis, clip)), Some(x)) => pad_none(alloc, x, n, axis, clip, arena, steps),
+            _ => Err(Fault::Unbuilt),
+        },
+        Op::FillNone => match (place(fixed), filled(operands)) {
+            (Some(axis), Some((x, v))) => fill_none(alloc, x, v, axis, arena, steps),
             _ => Err(Fault::Unbuilt),
         },
         Op::PutMask => match (truth(fixed), both(operands)) {

@@ -1,9 +1,10 @@
 //! The arguments of a call, by what an operation takes.
 ghost use Rattle.std.specs.Prelude.{◌≡◌, ◌≢◌, ◌<◌, ◌≤◌, [], ◌∷◌, length, map, pos, IfOk, IfSome, option_map};
-ghost use Rattle.awk_layout.specs.Datum.{IsDatum, datum_of};
+ghost use Rattle.awk_layout.specs.Datum.{IsDatum, IsOperand, datum_of};
 ghost use Rattle.awk_layout.specs.declared.datum.Operand.TheVariants.{Of};
+ghost use Rattle.awk_options.specs.FillNone.{filler_of};
 ghost use Rattle.awk_eval.specs.Fixed as given;
-ghost use Rattle.awk_eval.specs.Operand.{only_in, both_in, data_in};
+ghost use Rattle.awk_eval.specs.Operand.{only_in, both_in, data_in, filled_in};
 ghost use Rattle.awk_eval.specs.OperandView.{shown_operands};
 ghost use Rattle.awk_eval.specs.SteppedView.{stepped_view};
 ghost use Rattle.awk_eval.specs.Ranges as ranges;
@@ -44,6 +45,21 @@ pub(crate) fn both<'o, 's>(operands: &'o Operands<'s>) -> Option<(&'o Datum<'s>,
             Operand::Of(y) => Some((x, y)),
             Operand::Literal(_) => None,
         },
+        Operand::Literal(_) => None,
+    }
+}
+
+/// A datum, and what fills its nulls.
+pub(crate) fn filled<'o, 's>(operands: &'o Operands<'s>) -> Option<(&'o Datum<'s>, &'o Operand<'s>)>
+    ensures filled { option_map (λ p. (datum_of p.0.now, filler_of p.1.now)) result
+        ≡ filled_in (shown_operands operands.now) }
+    ensures operands { IfSome result (λ p. IsDatum p.0.now × IsOperand p.1.now) }
+{
+    if operands.len() != 2 {
+        return None;
+    }
+    match operands.get(0) {
+        Operand::Of(x) => Some((x, operands.get(1))),
         Operand::Literal(_) => None,
     }
 }

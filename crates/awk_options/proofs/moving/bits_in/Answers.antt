@@ -11,8 +11,12 @@ loop-k-preserved g c =
 
 pub new-requires : goal.new-requires
 new-requires g c =
-    omega (arith, bytes_length c.args.bits.now c.into_bump_slice.result.now c.loop-k.k
-    (c.into_bump_slice.ensures ∙ c.loop-k.invariant), c.loop-k-test.false)
+    omega (
+      arith,
+      bytes_length c.args.bits.now c.into_bump_slice.result.now c.loop-k.k
+          (c.into_bump_slice.ensures ∙ c.loop-k.invariant),
+      c.loop-k-test.false,
+    )
 
 pub returns : goal.returns
 returns g c =

@@ -17,7 +17,7 @@ filled-requires-clause-accepted g c =
     (Lists c.in-Lists.offsets c.in-Lists.content) =
     rw c.in-Lists.is at c.in_ok-join_spans.ensures in
     let h = subst (λ t. filler_refusal (filler_of c.args.self.now) t ≡ None) (sym (j.1).typ)
-        c.requires.accepted in
+    c.requires.accepted in
     subst (λ v. filler_refusal (filler_of v) (array_type c.in-Lists.content) ≡ None)
     (sym c.self.view_is) h
 
