@@ -9,7 +9,9 @@ use Rattle.std.proofs.lemmas.List.{length-append, length-map, get_or_append_left
 use Rattle.std.proofs.lemmas.List.{get_or-append-add}
 use Rattle.std.proofs.lemmas.Simd.{map-map}
 use Rattle.awk_types.specs.DataType.{DataType, unknown, leaf, var, reg, rec, tup, opt, uni}
-use Rattle.awk_types.specs.Gives.{refused_or}
+use Rattle.awk_types.specs.Datum.{Datum}
+use Rattle.awk_types.specs.Faults.{fault_told}
+use Rattle.awk_types.specs.Gives.{Gives, Told, refused_or}
 use Rattle.awk_types.specs.IsType.{IsType}
 use Rattle.awk_types.specs.Limit.{Limit, limit}
 use Rattle.awk_types.specs.Has.{Has, Holds, least_number, greatest_number}
@@ -29,6 +31,7 @@ use Rattle.awk_lanes.specs.Places.{size_of, at, place_at, option_place, option_p
 use Rattle.awk_lanes.specs.Places.{IsIndex, IsOptionalIndex}
 use Rattle.awk_lanes.specs.declared.kind.Kind.TheVariants.{I64}
 use Rattle.awk_layout.specs.declared.datum.Datum.{Datum as Array}
+use Rattle.awk_layout.specs.Datum.{datum_of}
 use Rattle.awk_layout.specs.Item.{at_option}
 use Rattle.awk_layout.specs.Layout.{Layout, indexed}
 use Rattle.awk_layout.specs.Typing.{layout_type, array_type, array_items}
@@ -37,6 +40,7 @@ use Rattle.awk_layout.proofs.ArrayItems.{length-array_items, get_or-array_items}
 use Rattle.awk_gather.specs.Arrays.{array_item}
 use Rattle.awk_gather.proofs.MadeLanes.{at-lane_of, size-lane_of}
 use Rattle.awk_axis.specs.Joined.{JoinsLists, total}
+use Rattle.awk_axis.specs.Lifting.{lift}
 use Rattle.awk_axis.specs.ListFunction.{Class}
 use Rattle.awk_axis.specs.Mapped.{AreGiven}
 use Rattle.awk_axis.specs.Opened.{AreLists, OpensOption, items_at, all_items_at}
@@ -57,6 +61,7 @@ use Rattle.awk_options.specs.Filled.{IsFilledOption, IsRefused}
 use Rattle.awk_options.specs.FillNone.{Filler, filler_type, filler_value, filling, fill_value}
 use Rattle.awk_options.specs.FillNone.{filled, filled_type, fits, fill_none_function}
 use Rattle.awk_options.specs.FillNone.{literal_refusal, literal_primitive, no_filler}
+use Rattle.awk_options.specs.FillNone.{is_filler, fill_none_of}
 use Rattle.awk_options.proofs.OptionNodes.{HasItems, item_stays}
 use Rattle.awk_options.proofs.Spans.{count_same, over_limit, within_limit}
 
@@ -438,3 +443,23 @@ refused_unbuilt said e = ap no_filler e
 pub ruleset refusing = (refused_ok, refused_axis, refused_memory, refused_unbound, refused_field,
     refused_type, refused_overflow, refused_zero, refused_depth, refused_size, refused_lengths,
     refused_index, refused_unbuilt)
+
+-- ---- the call
+
+-- what may fill nulls: the lifted function's answer
+pub answer_filled : (r : Result Array Fault) (d : Datum) (f g : Filler) (axis : ℤ) → g ≡ f
+    → is_filler f ≡ true → Gives datum_of fault_told r (lift (fill_none_function g) axis d)
+    → Gives datum_of fault_told r (fill_none_of d f axis)
+answer_filled r d f g axis e b h =
+    let k : Gives datum_of fault_told r (lift (fill_none_function f) axis d) =
+    subst (λ u. Gives datum_of fault_told r (lift (fill_none_function u) axis d)) e h in
+    rw b k
+
+-- what may not: the fault told of that answer
+pub answer_refused : (r : Result Array Fault) (fault : Fault) (d : Datum) (f g : Filler) (axis : ℤ)
+    → g ≡ f → is_filler f ≡ false → Gives datum_of fault_told r (lift (fill_none_function g) axis d)
+    → IsRefused r fault → Told (fault_told fault) (fill_none_of d f axis)
+answer_refused r fault d f g axis e b h s =
+    let k : Gives datum_of fault_told r (lift (fill_none_function f) axis d) =
+    subst (λ u. Gives datum_of fault_told r (lift (fill_none_function u) axis d)) e h in
+    rw b (s (lift (fill_none_function f) axis d) k)
