@@ -9,7 +9,9 @@ use Rattle.std.proofs.lemmas.List.{length-append, length-map, get_or_append_left
 use Rattle.std.proofs.lemmas.List.{get_or-append-add}
 use Rattle.std.proofs.lemmas.Simd.{map-map}
 use Rattle.awk_types.specs.DataType.{DataType, unknown, leaf, var, reg, rec, tup, opt, uni}
-use Rattle.awk_types.specs.Gives.{refused_or}
+use Rattle.awk_types.specs.Datum.{Datum}
+use Rattle.awk_types.specs.Faults.{fault_told}
+use Rattle.awk_types.specs.Gives.{Gives, Told, refused_or}
 use Rattle.awk_types.specs.IsType.{IsType}
 use Rattle.awk_types.specs.Limit.{Limit, limit}
 use Rattle.awk_types.specs.Has.{Has, Holds, least_number, greatest_number}
@@ -29,6 +31,7 @@ use Rattle.awk_lanes.specs.Places.{size_of, at, place_at, option_place, option_p
 use Rattle.awk_lanes.specs.Places.{IsIndex, IsOptionalIndex}
 use Rattle.awk_lanes.specs.declared.kind.Kind.TheVariants.{I64}
 use Rattle.awk_layout.specs.declared.datum.Datum.{Datum as Array}
+use Rattle.awk_layout.specs.Datum.{datum_of}
 use Rattle.awk_layout.specs.Item.{at_option}
 use Rattle.awk_layout.specs.Layout.{Layout, indexed}
 use Rattle.awk_layout.specs.Typing.{layout_type, array_type, array_items}
@@ -37,6 +40,7 @@ use Rattle.awk_layout.proofs.ArrayItems.{length-array_items, get_or-array_items}
 use Rattle.awk_gather.specs.Arrays.{array_item}
 use Rattle.awk_gather.proofs.MadeLanes.{at-lane_of, size-lane_of}
 use Rattle.awk_axis.specs.Joined.{JoinsLists, total}
+use Rattle.awk_axis.specs.Lifting.{lift}
 use Rattle.awk_axis.specs.ListFunction.{Class}
 use Rattle.awk_axis.specs.Mapped.{AreGiven}
 use Rattle.awk_axis.specs.Opened.{AreLists, OpensOption, items_at, all_items_at}
@@ -57,6 +61,7 @@ use Rattle.awk_options.specs.Filled.{IsFilledOption, IsRefused}
 use Rattle.awk_options.specs.FillNone.{Filler, filler_type, filler_value, filling, fill_value}
 use Rattle.awk_options.specs.FillNone.{filled, filled_type, fits, fill_none_function}
 use Rattle.awk_options.specs.FillNone.{literal_refusal, literal_primitive, no_filler}
+use Rattle.awk_options.specs.FillNone.{is_filler, fill_none_of}
 use Rattle.awk_options.proofs.OptionNodes.{HasItems, item_stays}
 use Rattle.awk_options.proofs.Spans.{count_same, over_limit, within_limit}
 
@@ -68,7 +73,6 @@ fits_holds p z e = by (int_le (least_number p) z) (int_le z (greatest_number p))
   where
     in_order : (a b : ℤ) → int_le a b ≡ true → a ≤ℤ b
     in_order a b e = grind (arith, ints)
-
     by : (l g : Bool) → int_le (least_number p) z ≡ l → int_le z (greatest_number p) ≡ g
         → (l && g) ≡ true → Holds p z
     by true true a b h = (in_order (least_number p) z a, in_order z (greatest_number p) b)
@@ -109,9 +113,9 @@ module _ (u : Unification) (x y : Layout) (l : IsCarriedInto (array_type x) u.le
   merged_pair z hx hy v m =
       let items = m.items ∙ pair_items in
       let has = all-append (Has u.typ) (map (carried u.left) (array_items x))
-      (map (carried u.right) (array_items y))
-      (has_each (array_type x) u.typ (carried u.left) l.values (array_items x) hx)
-      (has_each (array_type y) u.typ (carried u.right) r.values (array_items y) hy) in
+          (map (carried u.right) (array_items y))
+          (has_each (array_type x) u.typ (carried u.left) l.values (array_items x) hx)
+          (has_each (array_type y) u.typ (carried u.right) r.values (array_items y) hy) in
       record {
         valid = v;
         typ = m.typ;
@@ -360,7 +364,7 @@ module _ (f : Filler) (class : Class) (s t : Column) (y : Layout) (o : Column) (
       → array_item w i ≡ simple_value typ (filled f (array_type y) (array_item x i))
   made_item i q =
       let e : array_item w i ≡ filled f (array_type y) (array_item x i) =
-      h.items i q ∙ ap (λ u. filled f u (array_item x i)) j.typ in
+          h.items i q ∙ ap (λ u. filled f u (array_item x i)) j.typ in
       sym (h.stays i q) ∙ ap (λ u. simple_value u (array_item w i)) made_typ
       ∙ ap (simple_value typ) e
 
@@ -393,6 +397,7 @@ pub filled_fine : (f : Filler) (s t : Column) (y : Layout) → total s t y ≤ i
 filled_fine f s t y h =
     ap too_many (count_same (map (filled f (array_type y))) s t y
     (λ vs. length-map vs (filled f (array_type y)))) ∙ within_limit (total s t y) h
+
 
 -- ---- what is no filler
 
@@ -435,18 +440,26 @@ refused_index said e = ap no_filler e
 pub refused_unbuilt : IsRefused (Err Unbuilt) WrongType
 refused_unbuilt said e = ap no_filler e
 
-pub ruleset refusing = (
-  refused_ok,
-  refused_axis,
-  refused_memory,
-  refused_unbound,
-  refused_field,
-  refused_type,
-  refused_overflow,
-  refused_zero,
-  refused_depth,
-  refused_size,
-  refused_lengths,
-  refused_index,
-  refused_unbuilt,
-)
+pub ruleset refusing = (refused_ok, refused_axis, refused_memory, refused_unbound, refused_field,
+    refused_type, refused_overflow, refused_zero, refused_depth, refused_size, refused_lengths,
+    refused_index, refused_unbuilt)
+
+-- ---- the call
+
+-- what may fill nulls: the lifted function's answer
+pub answer_filled : (r : Result Array Fault) (d : Datum) (f g : Filler) (axis : ℤ) → g ≡ f
+    → is_filler f ≡ true → Gives datum_of fault_told r (lift (fill_none_function g) axis d)
+    → Gives datum_of fault_told r (fill_none_of d f axis)
+answer_filled r d f g axis e b h =
+    let k : Gives datum_of fault_told r (lift (fill_none_function f) axis d) =
+    subst (λ u. Gives datum_of fault_told r (lift (fill_none_function u) axis d)) e h in
+    rw b k
+
+-- what may not: the fault told of that answer
+pub answer_refused : (r : Result Array Fault) (fault : Fault) (d : Datum) (f g : Filler) (axis : ℤ)
+    → g ≡ f → is_filler f ≡ false → Gives datum_of fault_told r (lift (fill_none_function g) axis d)
+    → IsRefused r fault → Told (fault_told fault) (fill_none_of d f axis)
+answer_refused r fault d f g axis e b h s =
+    let k : Gives datum_of fault_told r (lift (fill_none_function f) axis d) =
+    subst (λ u. Gives datum_of fault_told r (lift (fill_none_function u) axis d)) e h in
+    rw b (s (lift (fill_none_function f) axis d) k)
