@@ -20,7 +20,7 @@ NOT_YET = frozenset(
     []
     if IS_NAMED
     else """
-    zip tuple with_field fill_none
+    zip tuple with_field
     add sub mul floor_div rem eq ne lt le gt ge and or xor not neg abs where cast
     sum prod min max argmin argmax any all count count_nonzero
     cartesian argcartesian combinations argcombinations

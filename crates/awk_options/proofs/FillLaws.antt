@@ -73,6 +73,7 @@ fits_holds p z e = by (int_le (least_number p) z) (int_le z (greatest_number p))
   where
     in_order : (a b : ℤ) → int_le a b ≡ true → a ≤ℤ b
     in_order a b e = grind (arith, ints)
+
     by : (l g : Bool) → int_le (least_number p) z ≡ l → int_le z (greatest_number p) ≡ g
         → (l && g) ≡ true → Holds p z
     by true true a b h = (in_order (least_number p) z a, in_order z (greatest_number p) b)
@@ -113,9 +114,9 @@ module _ (u : Unification) (x y : Layout) (l : IsCarriedInto (array_type x) u.le
   merged_pair z hx hy v m =
       let items = m.items ∙ pair_items in
       let has = all-append (Has u.typ) (map (carried u.left) (array_items x))
-          (map (carried u.right) (array_items y))
-          (has_each (array_type x) u.typ (carried u.left) l.values (array_items x) hx)
-          (has_each (array_type y) u.typ (carried u.right) r.values (array_items y) hy) in
+      (map (carried u.right) (array_items y))
+      (has_each (array_type x) u.typ (carried u.left) l.values (array_items x) hx)
+      (has_each (array_type y) u.typ (carried u.right) r.values (array_items y) hy) in
       record {
         valid = v;
         typ = m.typ;
@@ -364,7 +365,7 @@ module _ (f : Filler) (class : Class) (s t : Column) (y : Layout) (o : Column) (
       → array_item w i ≡ simple_value typ (filled f (array_type y) (array_item x i))
   made_item i q =
       let e : array_item w i ≡ filled f (array_type y) (array_item x i) =
-          h.items i q ∙ ap (λ u. filled f u (array_item x i)) j.typ in
+      h.items i q ∙ ap (λ u. filled f u (array_item x i)) j.typ in
       sym (h.stays i q) ∙ ap (λ u. simple_value u (array_item w i)) made_typ
       ∙ ap (simple_value typ) e
 
@@ -397,7 +398,6 @@ pub filled_fine : (f : Filler) (s t : Column) (y : Layout) → total s t y ≤ i
 filled_fine f s t y h =
     ap too_many (count_same (map (filled f (array_type y))) s t y
     (λ vs. length-map vs (filled f (array_type y)))) ∙ within_limit (total s t y) h
-
 
 -- ---- what is no filler
 
@@ -440,9 +440,21 @@ refused_index said e = ap no_filler e
 pub refused_unbuilt : IsRefused (Err Unbuilt) WrongType
 refused_unbuilt said e = ap no_filler e
 
-pub ruleset refusing = (refused_ok, refused_axis, refused_memory, refused_unbound, refused_field,
-    refused_type, refused_overflow, refused_zero, refused_depth, refused_size, refused_lengths,
-    refused_index, refused_unbuilt)
+pub ruleset refusing = (
+  refused_ok,
+  refused_axis,
+  refused_memory,
+  refused_unbound,
+  refused_field,
+  refused_type,
+  refused_overflow,
+  refused_zero,
+  refused_depth,
+  refused_size,
+  refused_lengths,
+  refused_index,
+  refused_unbuilt,
+)
 
 -- ---- the call
 
