@@ -114,7 +114,9 @@ no_literal_condition = refl
 literal_choice : eval env (of op.Choose (m ∷ great ∷ missing ∷ []) []) ≡ Err (Unbound (codes "z"))
 literal_choice = refl
 
-literal_fills : eval env (of op.FillNone (m ∷ great ∷ []) (Place (pos 0) ∷ [])) ≡ Err Unbuilt
+-- and is not judged where no item is optional
+literal_fills : eval env (of op.FillNone (m ∷ great ∷ []) (Place (pos 0) ∷ []))
+    ≡ Ok (arr (leaf I64) (numbers (0 ∷ 1 ∷ 2 ∷ 3 ∷ 4 ∷ [])))
 literal_fills = refl
 
 -- what is not built yet says so after its arguments
