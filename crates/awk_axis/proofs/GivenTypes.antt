@@ -1,7 +1,8 @@
 -- The type that is given, from the type that is made.
 use Rattle.std.specs.Prelude.{◌≡◌, refl, true, false}
 use Rattle.awk_types.specs.DataType.{DataType}
-use Rattle.awk_axis.specs.ListFunction.{Class, Giving, lists, singles, list_type, made_type}
+use Rattle.awk_columns.specs.ListClass.{Class, list_type}
+use Rattle.awk_axis.specs.ListFunction.{Giving, lists, singles, made_type}
 use Rattle.awk_axis.specs.ListFunction.{given_type, given_class, gives_lists}
 
 pub given_list : (g : Giving) (c : Class) (t : DataType) → gives_lists g ≡ true

@@ -25,7 +25,7 @@ use Rattle.awk_axis.specs.ListFunction.{ListFunction}
 use Rattle.awk_axis.specs.Lift.{refusal_at, lifted_type, lifted_value}
 use Rattle.awk_axis.specs.Lifting.{spoil_fault, on_items, on_one}
 use Rattle.awk_axis.specs.Mapped.{IsMapped, IsLifted}
-use Rattle.awk_axis.proofs.ArrayLaws.{array_items-at, map-same}
+use Rattle.awk_columns.proofs.ArrayLaws.{array_items-at, map-same}
 use Rattle.awk_axis.proofs.CauseLaws.{first_spoil-none_after}
 use Rattle.awk_axis.proofs.JudgedTypes.{told_values}
 

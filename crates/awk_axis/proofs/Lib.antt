@@ -4,7 +4,6 @@ pub mod Walks
 pub mod TypeWalks
 pub mod LiftedLaws
 pub mod LiftLaws
-pub mod ArrayLaws
 pub mod ArrayKinds
 pub mod Falls
 pub mod KindLaws
@@ -15,5 +14,4 @@ pub mod GivenTypes
 mod Worked
 pub mod ItemAnswers
 pub mod WholeAnswers
-pub mod OpeningLaws
 pub mod LiftAnswers

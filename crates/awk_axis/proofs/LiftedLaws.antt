@@ -22,20 +22,23 @@ use Rattle.awk_axis.specs.declared.place.Reach.{Reach}
 use Rattle.awk_axis.specs.declared.place.Reach.TheVariants.{Axis}
 use Rattle.awk_axis.specs.Reach.{here, inner}
 use Rattle.awk_axis.specs.Causes.{first_spoil}
-use Rattle.awk_axis.specs.ListFunction.{Class, Giving, lists, singles, ListFunction, list_type}
+use Rattle.awk_columns.specs.ListClass.{Class, list_type}
+use Rattle.awk_axis.specs.ListFunction.{Giving, lists, singles, ListFunction}
 use Rattle.awk_axis.specs.ListFunction.{given_type, given_value, given_class}
 use Rattle.awk_axis.specs.Lift.{lifted_type, lifted_value, on_list}
 use Rattle.awk_axis.specs.Lift.{refusal_at, refusal_among, nested}
 use Rattle.awk_axis.specs.Spoils.{spoil_at}
-use Rattle.awk_axis.specs.Opened.{items_at, all_items_at, OpensLists, OpensOption, OpensRow}
-use Rattle.awk_axis.specs.Opened.{OpensUnion, OpensNothing}
+use Rattle.awk_columns.specs.Opened.{items_at, all_items_at, OpensLists, OpensOption, OpensRow}
+use Rattle.awk_columns.specs.Opened.{OpensUnion, OpensNothing}
 use Rattle.awk_gather.specs.Arrays.{array_item}
-use Rattle.awk_axis.specs.Joined.{AreOffsets, JoinsLists, total}
+use Rattle.awk_columns.specs.Joined.{AreOffsets, JoinsLists, total}
 use Rattle.awk_axis.specs.declared.lift.Mapped.{Mapped}
 use Rattle.awk_axis.specs.declared.lift.Mapped.TheVariants as mapped
-use Rattle.awk_axis.specs.Mapped.{GivesLists, AreEven, IsColumn, IsMapped, IsAtAxis, IsLifted}
-use Rattle.awk_axis.specs.Mapped.{list_layout, spoil_of_all, AreMapped}
-use Rattle.awk_axis.proofs.ArrayLaws.{lists-inner, lists-among}
+use Rattle.awk_axis.specs.Mapped.{GivesLists, IsColumn, IsMapped, IsAtAxis, IsLifted}
+use Rattle.awk_columns.specs.ListNode.{AreEven}
+use Rattle.awk_columns.specs.ListNode.{list_layout}
+use Rattle.awk_axis.specs.Mapped.{spoil_of_all, AreMapped}
+use Rattle.awk_columns.proofs.ArrayLaws.{lists-inner, lists-among}
 use Rattle.awk_axis.proofs.LiftLaws.{given_column, lifted_null, option_column, lists_column}
 use Rattle.awk_axis.proofs.LiftLaws.{row_column, union_column, spoil-list, spoil-list_here}
 use Rattle.awk_axis.proofs.LiftLaws.{type-list, type-list_here, value-list, value-list_here}

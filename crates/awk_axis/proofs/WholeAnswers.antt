@@ -23,12 +23,13 @@ use Rattle.awk_layout.proofs.Runs.{value_list-run}
 use Rattle.awk_gather.specs.Arrays.{array_item}
 use Rattle.awk_axis.specs.declared.causes.Spoil.{Spoil}
 use Rattle.awk_axis.specs.declared.function.Made.TheVariants as made
-use Rattle.awk_axis.specs.ListFunction.{Class, Giving, lists, singles, ListFunction, list_type}
+use Rattle.awk_columns.specs.ListClass.{Class, list_type}
+use Rattle.awk_axis.specs.ListFunction.{Giving, lists, singles, ListFunction}
 use Rattle.awk_axis.specs.ListFunction.{made_type, given_type, given_value}
 use Rattle.awk_axis.specs.Lifting.{spoil_fault, on_whole}
 use Rattle.awk_axis.specs.Mapped.{AreGiven, GivesLists, GivesSingles, IsMade}
-use Rattle.awk_axis.specs.Opened.{AreLists, items_at, all_items_at}
-use Rattle.awk_axis.proofs.ArrayLaws.{array_items-at}
+use Rattle.awk_columns.specs.Opened.{AreLists, items_at, all_items_at}
+use Rattle.awk_columns.proofs.ArrayLaws.{array_items-at}
 use Rattle.awk_axis.proofs.JudgedTypes.{told_values}
 
 -- a lane of one number

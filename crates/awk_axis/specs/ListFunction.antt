@@ -1,21 +1,10 @@
 -- A function of one list: what it does to the type and to the values, and why it refuses either.
-use Rattle.std.specs.Prelude.{ℕ, List, Option, Some, None, Bool, true, false}
-use Rattle.awk_types.specs.DataType.{DataType, var, reg}
+use Rattle.std.specs.Prelude.{List, Option, Bool, true, false}
+use Rattle.awk_types.specs.DataType.{DataType}
 use Rattle.awk_types.specs.Value.{Value, list, values_from}
 use Rattle.awk_axis.specs.declared.causes.Refusal.{Refusal}
 use Rattle.awk_axis.specs.declared.causes.Spoil.{Spoil}
-
--- the class of a list: of any length, or of one length
-abbrev pub Class : Type 0
-Class = Option ℕ
-
-abbrev pub list_type : Class → DataType → DataType
-list_type None t = var t
-list_type (Some n) t = reg n t
-
-abbrev pub class_of : DataType → Class
-class_of (reg n t) = Some n
-class_of t = None
+use Rattle.awk_columns.specs.ListClass.{Class, list_type}
 
 -- what is given for a list of some class whose items are of a type
 pub data Giving : Type 0 where

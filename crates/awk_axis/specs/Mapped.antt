@@ -13,13 +13,14 @@ use Rattle.awk_layout.specs.Typing.{array_type, array_items}
 use Rattle.awk_axis.specs.declared.causes.Spoil.{Spoil}
 use Rattle.awk_axis.specs.declared.place.Reach.{Reach}
 use Rattle.awk_axis.specs.Causes.{first_spoil}
-use Rattle.awk_axis.specs.ListFunction.{Class, Giving, lists, singles, ListFunction, given_type}
+use Rattle.awk_columns.specs.ListClass.{Class}
+use Rattle.awk_axis.specs.ListFunction.{Giving, lists, singles, ListFunction, given_type}
 use Rattle.awk_axis.specs.ListFunction.{given_value}
 use Rattle.awk_axis.specs.Lift.{lifted_type, lifted_value}
 use Rattle.awk_axis.specs.Spoils.{spoil_at}
-use Rattle.awk_axis.specs.Opened.{items_at, all_items_at}
+use Rattle.awk_columns.specs.Opened.{items_at, all_items_at}
 use Rattle.awk_gather.specs.Arrays.{array_item}
-use Rattle.awk_axis.specs.Joined.{AreOffsets}
+use Rattle.awk_columns.specs.Joined.{AreOffsets}
 use Rattle.awk_axis.specs.declared.function.Made.{Made}
 use Rattle.awk_axis.specs.declared.function.Made.TheVariants as made
 use Rattle.awk_axis.specs.declared.lift.Mapped.{Mapped}
@@ -40,11 +41,6 @@ IsMapped t g x y = IsColumn t (λ i. g (array_item x i)) (len x) y
 
 -- ---- one column of lists
 
--- offsets of a class: of a sized one each list has this length
-abbrev pub AreEven : Class → Column → ℕ → Type 0
-AreEven None o n = Unit {0}
-AreEven (Some m) o n = (i : ℕ) → i ≤ n → place_at o i ≡ i * m
-
 -- offsets and contents whose lists are given for the lists of a column
 pub record AreGiven (class : Class) (t : DataType) (items : List Value → List Value)
     (s e : Column) (y : Layout) (o : Column) (z : Layout) : Type 0 where
@@ -55,11 +51,6 @@ pub record AreGiven (class : Class) (t : DataType) (items : List Value → List 
   pub lists : (i : ℕ) → i < size_of s
       → value_list (run (array_item z) (place_at o i) (place_at o (i + 1) - place_at o i))
       ≡ map (simple_value t) (items (items_at s e y i))
-
--- the node of lists of a class
-abbrev pub list_layout : Class → ℕ → Column → Layout → Layout
-list_layout None n o z = offset_lists o z
-list_layout (Some m) n o z = regular m n z
 
 -- what a function makes of a column of lists
 abbrev pub GivesLists : Giving → Class → Column → Column → Layout → Column → Layout → Type 0

@@ -12,8 +12,8 @@ use Rattle.awk_axis.specs.declared.causes.Spoil.TheVariants.{Size}
 use Rattle.awk_axis.specs.declared.place.Reach.{Reach}
 use Rattle.awk_axis.specs.Reach.{here, inner}
 use Rattle.awk_axis.specs.Causes.{first_spoil}
-use Rattle.awk_axis.specs.Columns.{present_values, part_values, lists_among}
-use Rattle.awk_gather.specs.Columns.{joined_items, alternative_values}
+use Rattle.awk_columns.specs.Columns.{present_values, part_values, lists_among}
+use Rattle.awk_columns.specs.Columns.{joined_items, alternative_values}
 use Rattle.awk_axis.specs.ListFunction.{ListFunction}
 
 -- a column of n items

@@ -2,10 +2,11 @@
 ghost use Rattle.std.specs.Prelude.{◌≡◌, None, IfOk};
 ghost use Rattle.awk_types.specs.View.{typ_of};
 ghost use Rattle.awk_layout.specs.Typing.{array_type};
-ghost use Rattle.awk_axis.specs.Opened.{AreLists};
+ghost use Rattle.awk_columns.specs.Opened.{AreLists};
 ghost use Rattle.awk_axis.specs.Mapped.{IsMade};
 ghost use Rattle.awk_axis.specs.ListFunction.{ListFunction, made_type, given_type, given_class};
-ghost use Rattle.awk_axis.specs.ListFunction.{gives_lists, list_type};
+ghost use Rattle.awk_axis.specs.ListFunction.{gives_lists};
+ghost use Rattle.awk_columns.specs.ListClass.{list_type};
 
 use crate::causes::{Refusal, Spoil};
 use awk_lanes::{Arena, Lane, Steps};

@@ -2,10 +2,7 @@
 ghost use Rattle.std.specs.Prelude.{◌<◌, length};
 ghost use Rattle.awk_types.specs.View.{typs_of};
 
-use awk_types::{
-    Fields, Name, Names, NoMemory, Prim, Typ, TypeFault, Typs, copy_type, opt_of, promote, same,
-    uni_of,
-};
+use awk_types::{Fields, Name, Names, NoMemory, Prim, Typ, TypeFault, Typs, copy_type, opt_of, promote, same, uni_of};
 use std::alloc::Global;
 use std::process::Abort;
 use std::test::Fail;

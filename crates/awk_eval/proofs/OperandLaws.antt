@@ -5,7 +5,7 @@ use Rattle.awk_layout.specs.declared.datum.Operand.{Operand}
 use Rattle.awk_layout.specs.declared.datum.Operand.TheVariants.{Of, Literal}
 use Rattle.awk_layout.specs.declared.datum.Datum.{Datum}
 use Rattle.awk_layout.specs.Datum.{datum_of}
-use Rattle.awk_options.specs.FillNone.{filler_of}
+use Rattle.awk_fill.specs.FillNone.{filler_of}
 use Rattle.awk_eval.specs.Operand.{both_in, filled_in, filler}
 use Rattle.awk_eval.specs.OperandView.{shown_operand, shown_operands}
 use Rattle.awk_eval.specs.Views.{Size, IsWithin, AreWithin}

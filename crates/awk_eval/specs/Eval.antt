@@ -25,14 +25,14 @@ use Rattle.awk_lists.specs.Num.{num_of}
 use Rattle.awk_lists.specs.RunLengths.{run_lengths_of}
 use Rattle.awk_lists.specs.Unflatten.{unflatten_of}
 use Rattle.awk_lists.specs.WithoutField.{choice_of, without_field_of}
-use Rattle.awk_options.specs.DropNone.{drop_none_of}
+use Rattle.awk_nulls.specs.DropNone.{drop_none_of}
 use Rattle.awk_merge.specs.Concatenate.{concatenate_of}
-use Rattle.awk_options.specs.FillNone.{Filler, fill_none_of}
-use Rattle.awk_options.specs.Firsts.{firsts_of}
-use Rattle.awk_options.specs.IsNone.{is_none_of}
-use Rattle.awk_options.specs.PadNone.{pad_none_of}
-use Rattle.awk_options.specs.PutMask.{put_mask_of}
-use Rattle.awk_options.specs.Singletons.{singletons_of}
+use Rattle.awk_fill.specs.FillNone.{Filler, fill_none_of}
+use Rattle.awk_nulls.specs.Firsts.{firsts_of}
+use Rattle.awk_nulls.specs.IsNone.{is_none_of}
+use Rattle.awk_nulls.specs.PadNone.{pad_none_of}
+use Rattle.awk_mask.specs.PutMask.{put_mask_of}
+use Rattle.awk_nulls.specs.Singletons.{singletons_of}
 use Rattle.awk_eval.specs.Operand.{Operand, of, literal, only_in, both_in, data_in, filled_in}
 use Rattle.awk_eval.specs.Operand.{takes_literal}
 use Rattle.awk_eval.specs.Fixed.{bounds_in, Stepped, stepped_in, place_in, text_in, texts_in}

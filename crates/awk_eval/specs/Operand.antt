@@ -2,8 +2,8 @@
 use Rattle.std.specs.Prelude.{ℕ, ℤ, Bool, true, false, ◌==◌, List, [], ◌∷◌, Option, Some, None}
 use Rattle.std.specs.Prelude.{option_map, if◌then◌else◌}
 use Rattle.awk_types.specs.Datum.{Datum}
-use Rattle.awk_options.specs.FillNone as fill
-use Rattle.awk_options.specs.FillNone.{Filler}
+use Rattle.awk_fill.specs.FillNone as fill
+use Rattle.awk_fill.specs.FillNone.{Filler}
 use Rattle.awk_query.specs.declared.op.Op.{Op}
 use Rattle.awk_query.specs.declared.op.Op.TheVariants as op
 

@@ -2,7 +2,7 @@
 ghost use Rattle.std.specs.Prelude.{◌≡◌, ◌≢◌, ◌<◌, ◌≤◌, [], ◌∷◌, length, map, pos, IfOk, IfSome, option_map};
 ghost use Rattle.awk_layout.specs.Datum.{IsDatum, IsOperand, datum_of};
 ghost use Rattle.awk_layout.specs.declared.datum.Operand.TheVariants.{Of};
-ghost use Rattle.awk_options.specs.FillNone.{filler_of};
+ghost use Rattle.awk_fill.specs.FillNone.{filler_of};
 ghost use Rattle.awk_eval.specs.Fixed as given;
 ghost use Rattle.awk_eval.specs.Operand.{only_in, both_in, data_in, filled_in};
 ghost use Rattle.awk_eval.specs.OperandView.{shown_operands};

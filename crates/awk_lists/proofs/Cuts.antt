@@ -29,8 +29,8 @@ use Rattle.awk_layout.proofs.ArrayItems.{length-array_items, get_or-array_items}
 use Rattle.awk_gather.specs.Arrays.{array_item}
 use Rattle.awk_gather.specs.Lanes.{lane_of}
 use Rattle.awk_gather.proofs.MadeLanes.{size-lane_of, at-lane_of}
-use Rattle.awk_axis.specs.Joined.{AreOffsets}
-use Rattle.awk_axis.proofs.ArrayLaws.{array_items-at, map-same, run_in_list}
+use Rattle.awk_columns.specs.Joined.{AreOffsets}
+use Rattle.awk_columns.proofs.ArrayLaws.{array_items-at, map-same, run_in_list}
 use Rattle.awk_lists.specs.Numbers.{AreCounts}
 use Rattle.awk_lists.specs.Unflatten.{is_negative, count_of, counted_before, do_not_add_up, cut_by}
 use Rattle.awk_lists.specs.Unflatten.{lists_by, cut_items}

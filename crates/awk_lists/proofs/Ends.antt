@@ -25,19 +25,19 @@ use Rattle.awk_layout.specs.Valid.{len, IsValid}
 use Rattle.awk_layout.proofs.ArrayItems.{length-array_items, get_or-array_items}
 use Rattle.awk_layout.proofs.Runs.{length-run}
 use Rattle.awk_gather.specs.Arrays.{array_item}
-use Rattle.awk_gather.specs.Columns.{joined_items, list_items, is_present}
-use Rattle.awk_gather.specs.Counted.{first_of, present_at, present_place}
-use Rattle.awk_gather.specs.Counted.{offset_at}
-use Rattle.awk_gather.proofs.FirstPlaces.{length-first_of}
-use Rattle.awk_gather.proofs.ItemShapes.{present_item}
+use Rattle.awk_columns.specs.Columns.{joined_items, list_items, is_present}
+use Rattle.awk_columns.specs.Counted.{first_of, present_at, present_place}
+use Rattle.awk_columns.specs.Counted.{offset_at}
+use Rattle.awk_columns.proofs.FirstPlaces.{length-first_of}
+use Rattle.awk_open.proofs.ItemShapes.{present_item}
 use Rattle.awk_gather.proofs.MadeLanes.{size-lane_of, at-lane_of}
-use Rattle.awk_axis.specs.Columns.{present_values}
-use Rattle.awk_axis.specs.Joined.{AreOffsets, JoinsLists, IsJoined}
-use Rattle.awk_axis.specs.ListFunction.{Class, list_type}
-use Rattle.awk_axis.specs.Opened.{items_at, OpensLists, OpensOption, OpensNothing}
-use Rattle.awk_axis.specs.declared.opening.Joined.{Joined}
-use Rattle.awk_axis.specs.declared.opening.Joined.TheVariants.{TooMany, Lists}
-use Rattle.awk_axis.proofs.ArrayLaws.{lists-inner}
+use Rattle.awk_columns.specs.Columns.{present_values}
+use Rattle.awk_columns.specs.Joined.{AreOffsets, JoinsLists, IsJoined}
+use Rattle.awk_columns.specs.ListClass.{Class, list_type}
+use Rattle.awk_columns.specs.Opened.{items_at, OpensLists, OpensOption, OpensNothing}
+use Rattle.awk_columns.specs.declared.opening.Joined.{Joined}
+use Rattle.awk_columns.specs.declared.opening.Joined.TheVariants.{TooMany, Lists}
+use Rattle.awk_columns.proofs.ArrayLaws.{lists-inner}
 use Rattle.awk_lists.specs.Flatten.{is_list, item_type}
 use Rattle.awk_lists.specs.Listed.{items_before, present_lane, AreEnds}
 use Rattle.awk_lists.specs.Listed.{IsListed}

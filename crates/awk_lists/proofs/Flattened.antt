@@ -22,18 +22,18 @@ use Rattle.awk_layout.specs.Typing.{layout_type, array_type, array_items}
 use Rattle.awk_layout.specs.Valid.{len}
 use Rattle.awk_layout.proofs.ArrayItems.{length-array_items}
 use Rattle.awk_gather.specs.Arrays.{array_item}
-use Rattle.awk_gather.specs.Columns.{joined_items}
+use Rattle.awk_columns.specs.Columns.{joined_items}
 use Rattle.awk_gather.specs.Lanes.{picked}
 use Rattle.awk_gather.proofs.PickedLanes.{size-picked, at-picked}
-use Rattle.awk_axis.specs.Joined.{AreOffsets, JoinsLists}
+use Rattle.awk_columns.specs.Joined.{AreOffsets, JoinsLists}
 use Rattle.awk_axis.specs.Lifting.{lift}
-use Rattle.awk_axis.specs.ListFunction.{Class}
+use Rattle.awk_columns.specs.ListClass.{Class}
 use Rattle.awk_axis.specs.Mapped.{AreGiven}
-use Rattle.awk_axis.specs.Opened.{AreLists, items_at, all_items_at}
+use Rattle.awk_columns.specs.Opened.{AreLists, items_at, all_items_at}
 use Rattle.awk_axis.specs.Spoils.{too_many}
 use Rattle.awk_axis.specs.declared.causes.Refusal.TheVariants as refused
 use Rattle.awk_axis.specs.declared.causes.Spoil.TheVariants.{Size}
-use Rattle.awk_axis.specs.declared.opening.Joined.TheVariants.{TooMany}
+use Rattle.awk_columns.specs.declared.opening.Joined.TheVariants.{TooMany}
 use Rattle.awk_lists.specs.Flatten.{is_list, item_type, flatten_function, flatten_of}
 use Rattle.awk_lists.specs.Listed.{items_before, AreListed, IsListed}
 use Rattle.awk_lists.proofs.Ends.{rising_offsets, joined_at}

@@ -23,18 +23,18 @@ use Rattle.awk_layout.specs.Valid.{len, IsValid}
 use Rattle.awk_layout.proofs.ArrayItems.{length-array_items}
 use Rattle.awk_layout.proofs.Runs.{length-run}
 use Rattle.awk_gather.specs.Arrays.{array_item, IsGathered}
-use Rattle.awk_gather.specs.Columns.{joined_items, list_items}
-use Rattle.awk_gather.specs.Counted.{AreBelow, first_of, places_lane}
+use Rattle.awk_columns.specs.Columns.{joined_items, list_items}
+use Rattle.awk_columns.specs.Counted.{AreBelow, first_of, places_lane}
 use Rattle.awk_gather.specs.Lanes.{picked}
-use Rattle.awk_gather.specs.Reached.{IsReached}
-use Rattle.awk_gather.proofs.FirstPlaces.{length-first_of}
+use Rattle.awk_columns.specs.Reached.{IsReached}
+use Rattle.awk_columns.proofs.FirstPlaces.{length-first_of}
 use Rattle.awk_gather.proofs.MadeLanes.{size-lane_of, at-lane_of}
 use Rattle.awk_gather.proofs.PickedLanes.{size-picked, at-picked}
-use Rattle.awk_gather.proofs.ReachedContents.{below-first_of, places_index, reached_by}
-use Rattle.awk_axis.specs.Columns.{present_values}
-use Rattle.awk_axis.specs.ListFunction.{Class, list_type}
-use Rattle.awk_axis.specs.Opened.{OpensLists, OpensNothing, OpensOption}
-use Rattle.awk_axis.proofs.ArrayLaws.{array_items-at}
+use Rattle.awk_columns.proofs.ReachedContents.{below-first_of, places_index, reached_by}
+use Rattle.awk_columns.specs.Columns.{present_values}
+use Rattle.awk_columns.specs.ListClass.{Class, list_type}
+use Rattle.awk_columns.specs.Opened.{OpensLists, OpensNothing, OpensOption}
+use Rattle.awk_columns.proofs.ArrayLaws.{array_items-at}
 use Rattle.awk_lists.specs.Flatten.{is_list}
 use Rattle.awk_lists.specs.Held.{holds_item, held_lists, held_at, held_counts, AreLengths, AreHeld}
 use Rattle.awk_lists.specs.Listed.{present_lane}

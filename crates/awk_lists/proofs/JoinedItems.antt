@@ -17,8 +17,8 @@ use Rattle.awk_layout.specs.Typing.{array_items}
 use Rattle.awk_layout.specs.Valid.{len}
 use Rattle.awk_layout.proofs.Runs.{value_list-run}
 use Rattle.awk_gather.specs.Arrays.{array_item}
-use Rattle.awk_gather.specs.Columns.{joined_items, list_items}
-use Rattle.awk_axis.proofs.ArrayLaws.{array_items-at}
+use Rattle.awk_columns.specs.Columns.{joined_items, list_items}
+use Rattle.awk_columns.proofs.ArrayLaws.{array_items-at}
 use Rattle.awk_lists.specs.Listed.{items_before}
 
 -- ---- parts

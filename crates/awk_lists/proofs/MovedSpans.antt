@@ -17,13 +17,13 @@ use Rattle.awk_layout.specs.Item.{run}
 use Rattle.awk_layout.specs.Typing.{array_type}
 use Rattle.awk_layout.specs.Valid.{len}
 use Rattle.awk_gather.specs.Arrays.{array_item}
-use Rattle.awk_gather.specs.Columns.{joined_items}
+use Rattle.awk_columns.specs.Columns.{joined_items}
 use Rattle.awk_types.specs.ItemLimit.{item_limit}
 use Rattle.awk_gather.proofs.MadeLanes.{size-lane_of, at-lane_of}
-use Rattle.awk_axis.specs.Joined.{AreOffsets, total}
-use Rattle.awk_axis.specs.ListFunction.{Class}
+use Rattle.awk_columns.specs.Joined.{AreOffsets, total}
+use Rattle.awk_columns.specs.ListClass.{Class}
 use Rattle.awk_axis.specs.Mapped.{AreGiven, IsMade}
-use Rattle.awk_axis.specs.Opened.{AreLists, items_at, all_items_at}
+use Rattle.awk_columns.specs.Opened.{AreLists, items_at, all_items_at}
 use Rattle.awk_axis.specs.Spoils.{too_many}
 use Rattle.awk_axis.specs.declared.causes.Spoil.TheVariants.{Size}
 use Rattle.awk_axis.specs.declared.function.Made.{Made}

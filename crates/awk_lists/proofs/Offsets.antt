@@ -22,16 +22,17 @@ use Rattle.awk_lanes.specs.Numbers.{nat_of}
 use Rattle.awk_lanes.specs.Places.{size_of, at, place_at, IsSpan}
 use Rattle.awk_layout.specs.Layout.{Layout, flat}
 use Rattle.awk_layout.specs.Item.{run}
-use Rattle.awk_axis.specs.ListFunction.{Class}
+use Rattle.awk_columns.specs.ListClass.{Class}
 use Rattle.awk_lists.specs.Lanes.{span_length, before, offsets_lane, local_places, local_lane}
 use Rattle.awk_lists.specs.LocalIndex.{local_index_function}
 use Rattle.awk_axis.specs.declared.causes.Spoil.TheVariants.{Size}
 use Rattle.awk_layout.specs.Typing.{array_type}
-use Rattle.awk_axis.specs.Joined.{AreOffsets}
-use Rattle.awk_axis.specs.Opened.{AreOfClass, AreLists, items_at, all_items_at}
+use Rattle.awk_columns.specs.Joined.{AreOffsets}
+use Rattle.awk_columns.specs.Opened.{AreOfClass, AreLists, items_at, all_items_at}
 use Rattle.awk_gather.specs.Arrays.{array_item}
 use Rattle.awk_axis.specs.Spoils.{too_many}
-use Rattle.awk_axis.specs.Mapped.{AreEven, AreGiven}
+use Rattle.awk_columns.specs.ListNode.{AreEven}
+use Rattle.awk_axis.specs.Mapped.{AreGiven}
 use Rattle.awk_gather.proofs.MadeLanes.{size-lane_of, at-lane_of}
 use Rattle.awk_lists.proofs.Spans.{items_at-length, run_length}
 

@@ -27,19 +27,19 @@ use Rattle.awk_layout.specs.Layout.{Layout, flat}
 use Rattle.awk_layout.specs.Typing.{array_type, array_items}
 use Rattle.awk_layout.specs.Valid.{len}
 use Rattle.awk_gather.specs.Arrays.{array_item}
-use Rattle.awk_gather.specs.Counted.{first_of}
-use Rattle.awk_gather.proofs.FirstPlaces.{length-first_of}
+use Rattle.awk_columns.specs.Counted.{first_of}
+use Rattle.awk_columns.proofs.FirstPlaces.{length-first_of}
 use Rattle.awk_gather.proofs.MadeLanes.{size-lane_of, at-lane_of}
-use Rattle.awk_axis.specs.Joined.{AreOffsets, JoinsLists, total, IsJoined}
-use Rattle.awk_axis.specs.ListFunction.{Class}
+use Rattle.awk_columns.specs.Joined.{AreOffsets, JoinsLists, total, IsJoined}
+use Rattle.awk_columns.specs.ListClass.{Class}
 use Rattle.awk_axis.specs.Mapped.{AreGiven}
-use Rattle.awk_axis.specs.Opened.{AreLists, items_at, all_items_at}
+use Rattle.awk_columns.specs.Opened.{AreLists, items_at, all_items_at}
 use Rattle.awk_axis.specs.Reach.{is_leaf}
 use Rattle.awk_axis.specs.Spoils.{too_many}
 use Rattle.awk_axis.specs.declared.causes.Refusal.TheVariants as refused
 use Rattle.awk_axis.specs.declared.causes.Spoil.TheVariants.{Size}
-use Rattle.awk_axis.specs.declared.opening.Joined.TheVariants.{TooMany}
-use Rattle.awk_axis.proofs.ArrayLaws.{run_same, array_items-at}
+use Rattle.awk_columns.specs.declared.opening.Joined.TheVariants.{TooMany}
+use Rattle.awk_columns.proofs.ArrayLaws.{run_same, array_items-at}
 use Rattle.awk_lists.specs.Numbers.{AreNumbers}
 use Rattle.awk_lists.specs.RunLengths.{runs, run_lengths_function}
 use Rattle.awk_lists.specs.Runs.{runs_at, runs_before, run_offsets, run_lane}

@@ -12,10 +12,10 @@ use Rattle.awk_lanes.specs.Places.{size_of, at, place_at, IsSpan, AreSpans}
 use Rattle.awk_layout.specs.Layout.{Layout, flat}
 use Rattle.awk_layout.specs.Laws.{len-fits}
 use Rattle.awk_layout.specs.Valid.{len}
-use Rattle.awk_axis.specs.ListFunction.{Class}
+use Rattle.awk_columns.specs.ListClass.{Class}
 use Rattle.awk_layout.specs.Item.{run}
 use Rattle.awk_lists.specs.Lanes.{span_length, lengths_lane}
-use Rattle.awk_axis.specs.Opened.{AreLists, items_at}
+use Rattle.awk_columns.specs.Opened.{AreLists, items_at}
 use Rattle.awk_gather.specs.Arrays.{array_item}
 use Rattle.awk_axis.specs.Mapped.{IsColumn}
 use Rattle.awk_gather.proofs.MadeLanes.{size-lane_of, at-lane_of}

@@ -6,7 +6,7 @@ use Rattle.awk_types.specs.Datum.{Datum}
 use Rattle.awk_types.specs.Simple.{present}
 use Rattle.awk_types.specs.declared.fault.Fault.{Fault}
 use Rattle.awk_types.specs.declared.fault.Fault.TheVariants.{Axis}
-use Rattle.awk_gather.specs.Columns.{joined_items}
+use Rattle.awk_columns.specs.Columns.{joined_items}
 use Rattle.awk_axis.specs.Counted.{counted}
 use Rattle.awk_axis.specs.Lifting.{lift}
 use Rattle.awk_axis.specs.ListFunction.{ListFunction, lists}

@@ -10,8 +10,8 @@ use Rattle.awk_layout.specs.Layout.{Layout}
 use Rattle.awk_layout.specs.Valid.{len, IsValid}
 use Rattle.awk_layout.specs.Typing.{array_type, array_items}
 use Rattle.awk_gather.specs.Arrays.{array_item}
-use Rattle.awk_gather.specs.Columns.{list_items}
-use Rattle.awk_gather.specs.Counted.{first_of}
+use Rattle.awk_columns.specs.Columns.{list_items}
+use Rattle.awk_columns.specs.Counted.{first_of}
 use Rattle.awk_gather.specs.Lanes.{lane_of}
 use Rattle.awk_lists.specs.Lanes.{span_length}
 

@@ -1,7 +1,7 @@
 //! Lanes of counts, and of the numbers at places.
 ghost use Rattle.std.specs.Prelude.{◌≡◌, ◌<◌, ◌^◌, IfOk, length};
 ghost use Rattle.awk_lanes.specs.Places.{size_of, IsIndex, IsOptionKind};
-ghost use Rattle.awk_gather.specs.Counted.{present_at};
+ghost use Rattle.awk_columns.specs.Counted.{present_at};
 ghost use Rattle.awk_gather.specs.Lanes.{picked};
 ghost use Rattle.awk_lists.specs.Listed.{present_lane};
 

@@ -3,14 +3,14 @@ ghost use Rattle.std.specs.Prelude.{◌≡◌, ◌<◌, ◌^◌, true, IfOk, len
 ghost use Rattle.awk_types.specs.Simple.{present};
 ghost use Rattle.awk_lanes.specs.Places.{size_of, AreSpans};
 ghost use Rattle.awk_layout.specs.Typing.{array_type};
-ghost use Rattle.awk_gather.specs.Counted.{first_of, places_lane};
-ghost use Rattle.awk_axis.specs.Opened.{OpensNothing, OpensOption};
+ghost use Rattle.awk_columns.specs.Counted.{first_of, places_lane};
+ghost use Rattle.awk_columns.specs.Opened.{OpensNothing, OpensOption};
 ghost use Rattle.awk_lists.specs.Flatten.{is_list};
 ghost use Rattle.awk_lists.specs.Held.{held_at, held_counts, AreLengths, AreHeld};
 
 use crate::counting::{offsets_at, present_counts};
 use crate::length::length_at;
-use awk_axis::{Opened, open_array};
+use awk_columns::{Opened, open_array};
 use awk_gather::gather;
 use awk_lanes::{Arena, Kind, Lane, LaneMaker, Steps, number, place_in};
 use awk_layout::Array;

@@ -4,7 +4,7 @@ ghost use Rattle.awk_layout.specs.Typing.{array_type};
 ghost use Rattle.awk_axis.specs.Reach.{is_leaf};
 ghost use Rattle.awk_lists.specs.Numbers.{AreNumbers};
 
-use awk_gather::{Opened, opened};
+use awk_open::{Opened, opened};
 use awk_lanes::{Arena, Kind, Lane, LaneMaker, Steps};
 use awk_layout::Array;
 use awk_types::NoMemory;

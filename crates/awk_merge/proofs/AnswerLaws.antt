@@ -22,7 +22,7 @@ use Rattle.awk_layout.specs.Typing.{array_datum}
 use Rattle.awk_layout.specs.Valid.{len}
 use Rattle.awk_layout.specs.declared.datum.Datum.{Datum}
 use Rattle.awk_layout.proofs.ArrayItems.{length-array_items}
-use Rattle.awk_gather.specs.Columns.{joined_items}
+use Rattle.awk_columns.specs.Columns.{joined_items}
 use Rattle.awk_unify.specs.Carry.{Carry}
 use Rattle.awk_unify.specs.UnifyList.{UnificationList, UnifiesAll, unification_list, within_list}
 use Rattle.awk_merge.specs.Concatenate.{operand_types, operand_items, carried_columns, stacked, joined_rows, row_count, are_long, lengths_fault, values_fault, joined_values, joined, joined_as, concatenate_at}

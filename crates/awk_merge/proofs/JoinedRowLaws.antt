@@ -25,12 +25,12 @@ use Rattle.awk_layout.specs.Layout.{Layout, offset_lists}
 use Rattle.awk_layout.specs.Typing.{layout_type, array_type, array_items, array_datum}
 use Rattle.awk_layout.specs.Valid.{len}
 use Rattle.awk_gather.specs.Arrays.{array_item}
-use Rattle.awk_gather.specs.Columns.{is_present, list_items, joined_items}
-use Rattle.awk_gather.specs.Counted.{offset_at}
+use Rattle.awk_columns.specs.Columns.{is_present, list_items, joined_items}
+use Rattle.awk_columns.specs.Counted.{offset_at}
 use Rattle.awk_gather.proofs.MadeLanes.{size-lane_of, at-lane_of}
-use Rattle.awk_axis.specs.Joined.{JoinsLists, total}
-use Rattle.awk_axis.specs.Opened.{items_at}
-use Rattle.awk_axis.proofs.ArrayLaws.{array_items-at, run_in_list}
+use Rattle.awk_columns.specs.Joined.{JoinsLists, total}
+use Rattle.awk_columns.specs.Opened.{items_at}
+use Rattle.awk_columns.proofs.ArrayLaws.{array_items-at, run_in_list}
 use Rattle.awk_merge.specs.Operands.{stacked_row, filled_row, filled_rows, rows_datum, list_place}
 use Rattle.awk_merge.specs.Operands.{values_by, list_between, is_whole, rows_lane, ends_in_rows}
 use Rattle.awk_merge.specs.Operands.{offsets_of_rows, AreRising}

@@ -1,26 +1,3 @@
-pub mod AlternativeLaws
-pub mod CarriedLists
-pub mod CarryLaws
-pub mod GroupLaws
-pub mod LiftLaws
-pub mod ListLaws
-pub mod MadePlaces
-pub mod MergedLaws
-pub mod NumberLaws
-pub mod OpenedLists
-pub mod OptionLaws
-pub mod PartTypeLaws
-pub mod RegularLaws
-pub mod RowGroups
-pub mod RowLaws
-pub mod RowSides
-pub mod RowValues
-pub mod SideLaws
-pub mod TaggedLaws
-pub mod TargetLaws
-pub mod TypeParts
-pub mod UnionLaws
-pub mod UnionSides
 pub mod OperandLaws
 pub mod RowTypeLaws
 pub mod RangeLaws
@@ -30,4 +7,3 @@ pub mod JoinedRowLaws
 pub mod NullRowLaws
 pub mod AnswerLaws
 mod Examples
-mod WorkedMerging

@@ -20,10 +20,10 @@ use Rattle.awk_layout.specs.Typing.{layout_type, array_type, array_items, array_
 use Rattle.awk_layout.specs.Valid.{len}
 use Rattle.awk_layout.proofs.ArrayItems.{length-array_items, get_or-array_items}
 use Rattle.awk_gather.specs.Arrays.{array_item}
-use Rattle.awk_gather.specs.Columns.{is_present, list_items, joined_items}
-use Rattle.awk_axis.specs.ListFunction.{Class, list_type}
-use Rattle.awk_axis.specs.Opened.{OpensLists, OpensOption}
-use Rattle.awk_axis.proofs.ArrayLaws.{simple_null, in_option_same, array_items-at}
+use Rattle.awk_columns.specs.Columns.{is_present, list_items, joined_items}
+use Rattle.awk_columns.specs.ListClass.{Class, list_type}
+use Rattle.awk_columns.specs.Opened.{OpensLists, OpensOption}
+use Rattle.awk_columns.proofs.ArrayLaws.{simple_null, in_option_same, array_items-at}
 use Rattle.awk_merge.specs.Concatenate.{joined_row}
 use Rattle.awk_merge.specs.Operands.{stacked_row, stacked_rows, filled_row, filled_rows, rows_datum}
 use Rattle.awk_merge.specs.Operands.{list_place, values_by, type_by, list_between, rows_lane}

@@ -18,7 +18,7 @@ use Rattle.awk_unify.specs.Unifies.{IsCarriedInto}
 use Rattle.awk_unify.specs.UnifyList.{AreCarriedInto}
 use Rattle.awk_merge.specs.Concatenate.{lists_type, rows_type, operand_type, operand_types, type_before, operand_items}
 use Rattle.awk_merge.specs.Operands.{array_in, column_in, AreCarriedOperands, AreLawful}
-use Rattle.awk_merge.specs.Sides.{Carries}
+use Rattle.awk_merge_sides.specs.Sides.{Carries}
 use Rattle.awk_merge.specs.declared.operands.Axis.{Axis}
 use Rattle.awk_merge.specs.declared.operands.Axis.TheVariants.{Arrays, Rows}
 

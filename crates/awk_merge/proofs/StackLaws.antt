@@ -12,9 +12,9 @@ use Rattle.awk_layout.specs.declared.datum.Datum.{Datum}
 use Rattle.awk_unify.specs.Carry.{Carry, carried}
 use Rattle.awk_merge.specs.Concatenate.{carried_columns, stacked, row_of, joined_row, joined_rows, row_count, are_long}
 use Rattle.awk_merge.specs.Operands.{array_in, column_in, AreCarriedOperands, stacked_row, stacked_rows}
-use Rattle.awk_merge.specs.Sides.{Side, merged_items, AreSides, with_side}
+use Rattle.awk_merge_sides.specs.Sides.{Side, merged_items, AreSides, with_side}
 use Rattle.awk_merge.proofs.OperandLaws.{length-lifts}
-use Rattle.awk_merge.proofs.SideLaws.{merged_items-with_side, AreSides-with_side}
+use Rattle.awk_merge_sides.proofs.SideLaws.{merged_items-with_side, AreSides-with_side}
 
 -- ---- the columns one by one
 

@@ -12,7 +12,7 @@ use Rattle.awk_types.specs.Limit.{limit}
 use Rattle.awk_types.specs.Value.{Value, null, list, values_from}
 use Rattle.awk_types.specs.declared.fault.Fault.{Fault}
 use Rattle.awk_types.specs.declared.fault.Fault.TheVariants as fault
-use Rattle.awk_gather.specs.Columns.{is_present, joined_items}
+use Rattle.awk_columns.specs.Columns.{is_present, joined_items}
 use Rattle.awk_unify.specs.Carry.{Carry, carried}
 use Rattle.awk_unify.specs.UnifyList.{UnificationList, unification_list}
 use Rattle.awk_merge.specs.declared.operands.Axis.{Axis}

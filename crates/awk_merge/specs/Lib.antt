@@ -1,11 +1,2 @@
-pub mod Sides
-pub mod Lifts
-pub mod Leaves
-pub mod Present
-pub mod PartTypes
-pub mod Levels
-pub mod Parts
-pub mod Tagged
-pub mod Lists
 pub mod Concatenate
 pub mod Operands

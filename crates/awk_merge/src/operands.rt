@@ -8,9 +8,9 @@ ghost use Rattle.awk_unify.specs.View.{lifts_of};
 ghost use Rattle.awk_merge.specs.Concatenate as spec;
 ghost use Rattle.awk_merge.specs.Concatenate.{axis_of, operand_type, stacked, carried_columns};
 ghost use Rattle.awk_merge.specs.Operands.{array_in, column_in, AreCarriedOperands, AreLawful};
-ghost use Rattle.awk_merge.specs.Sides.{sides_of, merged_items, AreSides, IsCounted};
+ghost use Rattle.awk_merge_sides.specs.Sides.{sides_of, merged_items, AreSides, IsCounted};
 
-use crate::sides::Sides;
+use awk_merge_sides::Sides;
 use awk_layout::{Array, Datum, Datums};
 use awk_types::{NoMemory, Typ, Typs, copy_type};
 use awk_unify::UnifiedAll;

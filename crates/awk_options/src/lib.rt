@@ -1,27 +1,6 @@
-//! Operations on nulls: which items are null, and lists without them, padded by them, and of single
-//! items.
+//! Operations on nulls, arrays under a mask, and nulls filled by a value, handed out together.
 #![tactic(auto)]
 
-mod dropping;
-mod filling;
-mod first_items;
-mod lengths;
-mod mask_leaves;
-mod mask_lengths;
-mod mask_levels;
-mod mask_nulls;
-mod mask_types;
-mod masking;
-mod moving;
-mod nulls;
-mod padding;
-mod presence;
-mod singles;
-
-pub use dropping::drop_none;
-pub use filling::fill_none;
-pub use first_items::firsts;
-pub use masking::put_mask;
-pub use nulls::is_none;
-pub use padding::pad_none;
-pub use singles::singletons;
+pub use awk_fill::fill_none;
+pub use awk_mask::put_mask;
+pub use awk_nulls::{drop_none, firsts, is_none, pad_none, singletons};

@@ -12,13 +12,13 @@ use Rattle.awk_layout.specs.Kinds.{primitive_of}
 use Rattle.awk_layout.specs.Layout.{Layout}
 use Rattle.awk_layout.specs.Typing.{array_type, array_items}
 use Rattle.awk_layout.specs.Valid.{len}
-use Rattle.awk_gather.specs.Columns.{joined_items, offsets, is_present}
-use Rattle.awk_gather.specs.InOrder.{IsInOrder, AreParts, AreAlternatives}
-use Rattle.awk_gather.specs.Opened.{IsOpened}
-use Rattle.awk_gather.specs.declared.opening.Opened.{Opened}
-use Rattle.awk_gather.specs.Joined.{list_values}
-use Rattle.awk_gather.specs.declared.opening.Opened.TheVariants.{Leaf, Items, Row}
-use Rattle.awk_gather.specs.declared.opening.Opened.TheVariants.{Option as Optional, Union}
+use Rattle.awk_columns.specs.Columns.{joined_items, offsets, is_present}
+use Rattle.awk_columns.specs.InOrder.{IsInOrder, AreParts, AreAlternatives}
+use Rattle.awk_open.specs.Opened.{IsOpened}
+use Rattle.awk_open.specs.declared.opening.Opened.{Opened}
+use Rattle.awk_columns.specs.ListValues.{list_values}
+use Rattle.awk_open.specs.declared.opening.Opened.TheVariants.{Leaf, Items, Row}
+use Rattle.awk_open.specs.declared.opening.Opened.TheVariants.{Option as Optional, Union}
 use Rattle.awk_pack.specs.Columns.{placed, placed_fields, placed_alternatives, at_node}
 use Rattle.awk_pack.specs.Lanes.{lane_of, node_lanes}
 use Rattle.awk_pack.specs.Canon.{is_too_long, lanes_of}

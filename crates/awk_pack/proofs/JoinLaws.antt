@@ -9,8 +9,8 @@ use Rattle.awk_lanes.specs.Column.{Column}
 use Rattle.awk_layout.specs.Layout.{Layout}
 use Rattle.awk_layout.specs.Typing.{array_type, array_datum}
 use Rattle.awk_lanes.specs.declared.kind.Kind.TheVariants as kind
-use Rattle.awk_gather.specs.Columns.{joined_items, offsets}
-use Rattle.awk_gather.specs.Joined.{joined_datum}
+use Rattle.awk_columns.specs.Columns.{joined_items, offsets}
+use Rattle.awk_columns.specs.ListValues.{joined_datum}
 use Rattle.awk_pack.specs.Lanes.{lane_of}
 use Rattle.awk_pack.specs.Packing.{IsJoined}
 

@@ -10,9 +10,9 @@ use Rattle.awk_lanes.specs.Column.{Column}
 use Rattle.awk_layout.specs.Layout.{Layout}
 use Rattle.awk_layout.specs.Typing.{array_type, array_items}
 use Rattle.awk_layout.specs.Valid.{len}
-use Rattle.awk_gather.specs.Columns.{joined_items, is_present}
-use Rattle.awk_gather.specs.Joined.{list_values}
-use Rattle.awk_gather.specs.declared.opening.Opened.TheVariants.{Items}
+use Rattle.awk_columns.specs.Columns.{joined_items, is_present}
+use Rattle.awk_columns.specs.ListValues.{list_values}
+use Rattle.awk_open.specs.declared.opening.Opened.TheVariants.{Items}
 use Rattle.awk_layout.proofs.ArrayItems.{length-array_items}
 use Rattle.awk_pack.specs.Columns.{placed_fields, placed_alternatives}
 use Rattle.awk_pack.specs.Canon.{is_too_long, is_too_large}

@@ -3,7 +3,7 @@ use Rattle.std.specs.Prelude.{ℕ, suc, List, [], ◌∷◌, ◌++◌, map, filt
 use Rattle.awk_types.specs.DataType.{DataType, unknown, leaf, var, reg, rec, tup, opt, uni}
 use Rattle.awk_types.specs.DataType.{DataTypes, no_types, type}
 use Rattle.awk_types.specs.Value.{Value}
-use Rattle.awk_gather.specs.Columns.{joined_items, part_at, is_present, alternative_values}
+use Rattle.awk_columns.specs.Columns.{joined_items, part_at, is_present, alternative_values}
 
 -- a node of a type, and its column
 pub record Placed : Type 0 where

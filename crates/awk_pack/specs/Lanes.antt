@@ -6,7 +6,7 @@ use Rattle.awk_lanes.specs.declared.kind.Kind.{Kind}
 use Rattle.awk_lanes.specs.declared.kind.Kind.TheVariants as kind
 use Rattle.awk_lanes.specs.Column.{Column}
 use Rattle.awk_layout.specs.Kinds.{kind_of}
-use Rattle.awk_gather.specs.Columns.{offsets, option_index, tags, union_index}
+use Rattle.awk_columns.specs.Columns.{offsets, option_index, tags, union_index}
 use Rattle.awk_pack.specs.Columns.{Placed}
 
 abbrev pub lane_of : Kind → List ℤ → Column

@@ -2,13 +2,13 @@
 ghost use Rattle.std.specs.Prelude.{◌≡◌, ◌<◌, ◌^◌, true, length, nat_lt, IfOk};
 ghost use Rattle.awk_lanes.specs.Places.{size_of, AreSpans};
 ghost use Rattle.awk_layout.specs.Valid.{len};
-ghost use Rattle.awk_gather.specs.Columns.{joined_items};
-ghost use Rattle.awk_gather.specs.Joined.{list_values};
+ghost use Rattle.awk_columns.specs.Columns.{joined_items};
+ghost use Rattle.awk_columns.specs.ListValues.{list_values};
 ghost use Rattle.awk_types.specs.ItemLimit.{item_limit};
 ghost use Rattle.awk_pack.specs.Packing.{IsJoined, leaf_lane, IfSize, fault_of};
 
 use crate::packed::PackFault;
-use awk_gather::{Joined, join_lists};
+use awk_columns::{OffsetLists, join_lists};
 use awk_lanes::{Arena, Kind, Lane, LaneMaker, Steps};
 use awk_layout::Array;
 use awk_types::{Fault, NoMemory};
@@ -64,7 +64,7 @@ pub(crate) fn joined<'a, L: Ledger>(
     content: &Array<'a>,
     arena: &'a Arena,
     steps: &mut Steps<L>,
-) -> Result<Joined<'a>, PackFault>
+) -> Result<OffsetLists<'a>, PackFault>
     requires small { size_of starts.now < 2 ^ 63 }
     requires spans { AreSpans starts.now stops.now (len content.now) }
     ensures joined { let vs = list_values starts.now stops.now content.now in

@@ -6,13 +6,14 @@ ghost use Rattle.awk_types.specs.View.{typ_of};
 ghost use Rattle.awk_layout.specs.Layout.{lists};
 ghost use Rattle.awk_layout.specs.Typing.{array_type, array_items};
 ghost use Rattle.awk_layout.specs.Valid.{IsValid};
-ghost use Rattle.awk_gather.specs.declared.opening.Opened.TheVariants as Opened;
+ghost use Rattle.awk_open.specs.declared.opening.Opened.TheVariants as Opened;
 ghost use Rattle.awk_pack.specs.Canon.{is_too_large};
 ghost use Rattle.awk_pack.specs.Packing.{IsColumn, IsLeft, IfSize, is_regular as is_regular_type};
 
 use crate::column::{joined, leaf_lane};
 use crate::packed::PackFault;
-use awk_gather::{Opened, in_order};
+use awk_open::Opened;
+use awk_columns::in_order;
 use awk_lanes::{Arena, Lane, Lanes, Steps};
 use awk_layout::{Array, Arrays};
 use awk_types::{ITEM_LIMIT, NoMemory, Typ};

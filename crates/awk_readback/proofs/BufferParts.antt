@@ -11,7 +11,7 @@ use Rattle.awk_types.specs.ItemLimit.{item_limit}
 use Rattle.awk_lanes.specs.Column.{Column}
 use Rattle.awk_lanes.specs.declared.kind.Kind.{Kind}
 use Rattle.awk_lanes.specs.Numbers.{width, bytes_of}
-use Rattle.awk_gather.specs.Columns.{joined_items, part_at, is_present, alternative_values}
+use Rattle.awk_columns.specs.Columns.{joined_items, part_at, is_present, alternative_values}
 use Rattle.awk_pack.specs.Columns.{placed, placed_fields, placed_alternatives}
 use Rattle.awk_pack.specs.Lanes.{lanes_at}
 use Rattle.awk_pack.specs.Canon.{lanes_of}

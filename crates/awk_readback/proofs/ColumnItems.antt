@@ -9,7 +9,7 @@ use Rattle.awk_lanes.specs.Numbers.{nat_of}
 use Rattle.awk_lanes.specs.Places.{option_place}
 use Rattle.awk_layout.specs.Item.{run, at_option}
 use Rattle.awk_valid.specs.Denote.{between}
-use Rattle.awk_gather.specs.Columns.{list_items, joined_items, is_present, given_to, alternative_values, offsets, option_index, tags, one_more, union_index}
+use Rattle.awk_columns.specs.Columns.{list_items, joined_items, is_present, given_to, alternative_values, offsets, option_index, tags, one_more, union_index}
 use Rattle.awk_readback.proofs.IndexLanes.{offsets-head, IsAlternative}
 use Rattle.awk_readback.proofs.ValueLists.{Reads, get_or-seam, snoc, length-snoc, seam-below}
 

@@ -6,7 +6,7 @@ use Rattle.awk_types.specs.DataType.{DataType, unknown, var, reg, rec, tup, opt,
 use Rattle.awk_types.specs.Value.{Value, null, list, row, alt, values_from}
 use Rattle.awk_types.specs.Has.{Has, HasRow, HasAlternative}
 use Rattle.awk_types.proofs.Trees.{values_from-list}
-use Rattle.awk_gather.specs.Columns.{list_items, joined_items, row_parts, part_at, is_present, tag_of, given_to, alternative_values}
+use Rattle.awk_columns.specs.Columns.{list_items, joined_items, row_parts, part_at, is_present, tag_of, given_to, alternative_values}
 use Rattle.awk_readback.proofs.IndexLanes.{IsAlternative}
 use Rattle.awk_readback.proofs.ValueLists.{map-all, all-append}
 

@@ -9,7 +9,7 @@ use Rattle.awk_lanes.specs.declared.kind.Kind.TheVariants.{I8, I64}
 use Rattle.awk_lanes.specs.declared.kind.Num.TheVariants.{Int}
 use Rattle.awk_valid.specs.Broken.{list_rule, tag_rule}
 use Rattle.awk_valid.specs.declared.fault.Rule.TheVariants.{Order, Start, Tag, Negative}
-use Rattle.awk_gather.specs.Columns.{list_items, joined_items, is_present, tag_of, offsets, option_index, tags, one_more, union_index}
+use Rattle.awk_columns.specs.Columns.{list_items, joined_items, is_present, tag_of, offsets, option_index, tags, one_more, union_index}
 use Rattle.awk_readback.proofs.LaneBytes.{IsHeld}
 
 -- ---- numbers of int64 and int8

@@ -12,7 +12,7 @@ use Rattle.awk_form.specs.FormTree as form
 use Rattle.awk_form.specs.FormTree.{FormTree, FormTrees}
 use Rattle.awk_form.specs.Lawful.{count}
 use Rattle.awk_form.specs.declared.kind.IndexKind.TheVariants.{I64}
-use Rattle.awk_gather.specs.Columns.{list_items, joined_items, is_present, tag_of, alternative_values, offsets, option_index, tags, union_index, row_parts}
+use Rattle.awk_columns.specs.Columns.{list_items, joined_items, is_present, tag_of, alternative_values, offsets, option_index, tags, union_index, row_parts}
 use Rattle.awk_valid.specs.Container.{Container, index_num, int8_num}
 use Rattle.awk_valid.specs.Needs.{reach, behind, behind_at, content_length}
 use Rattle.awk_valid.specs.Broken.{size_break, list_rule, tag_rule, rule_break, all_broken_from}

@@ -11,7 +11,7 @@ use Rattle.awk_form.specs.FormTree as form
 use Rattle.awk_form.specs.FormTree.{FormTrees}
 use Rattle.awk_form.specs.Lawful.{count}
 use Rattle.awk_form.specs.declared.kind.IndexKind.TheVariants.{I64}
-use Rattle.awk_gather.specs.Columns.{joined_items, row_parts, part_at, is_present, tag_of, alternative_values}
+use Rattle.awk_columns.specs.Columns.{joined_items, row_parts, part_at, is_present, tag_of, alternative_values}
 use Rattle.awk_pack.specs.Columns.{Placed, placed, placed_fields, placed_alternatives}
 use Rattle.awk_pack.specs.PackedForm.{packed_form, packed_forms, node_key}
 use Rattle.awk_valid.specs.Container.{Container}

@@ -10,8 +10,8 @@ use Rattle.awk_layout.specs.Layout.{Layout, optional}
 use Rattle.awk_layout.specs.Valid.{len, IsValid}
 use Rattle.awk_layout.specs.Item.{leaf_value, at_option}
 use Rattle.awk_gather.specs.Arrays.{array_item}
-use Rattle.awk_gather.specs.Opened.{IsOpened, IsKindOf}
-use Rattle.awk_gather.specs.declared.opening.Opened.{Opened}
+use Rattle.awk_open.specs.Opened.{IsOpened, IsKindOf}
+use Rattle.awk_open.specs.declared.opening.Opened.{Opened}
 use Rattle.awk_select.specs.Cells.{is_leaf, IsBelow, AreCells}
 use Rattle.awk_select.specs.declared.cells.Cells.TheVariants.{Optional}
 

@@ -4,12 +4,12 @@ ghost use Rattle.awk_types.specs.Simple.{present};
 ghost use Rattle.awk_layout.specs.Layout.{Layout, optional};
 ghost use Rattle.awk_layout.specs.Typing.{array_type};
 ghost use Rattle.awk_layout.specs.Valid.{IsValid};
-ghost use Rattle.awk_gather.specs.Opened.{IsOpened};
-ghost use Rattle.awk_gather.specs.declared.opening.Opened.TheVariants as Opened;
+ghost use Rattle.awk_open.specs.Opened.{IsOpened};
+ghost use Rattle.awk_open.specs.declared.opening.Opened.TheVariants as Opened;
 ghost use Rattle.awk_select.specs.Cells.{is_leaf, cell_shown, cell_value, IsCell, AreCells};
 ghost use Rattle.awk_select.specs.declared.cells.Cells.TheVariants as Cells;
 
-use awk_gather::{Opened, opened};
+use awk_open::{Opened, opened};
 use awk_lanes::{Arena, Lane, Num, Steps, option_place_in};
 use awk_layout::Array;
 use awk_types::NoMemory;

@@ -5,7 +5,7 @@ ghost use Rattle.awk_types.specs.Gives.{Gives};
 ghost use Rattle.awk_layout.specs.Datum.{IsDatum, datum_of};
 ghost use Rattle.awk_layout.specs.Typing.{array_type, array_items};
 ghost use Rattle.awk_layout.specs.Valid.{len};
-ghost use Rattle.awk_gather.specs.Counted.{places_lane};
+ghost use Rattle.awk_columns.specs.Counted.{places_lane};
 ghost use Rattle.awk_select.specs.Picks.{items_at, step_range_of};
 ghost use Rattle.awk_select.specs.Places as places;
 
@@ -14,7 +14,7 @@ use awk_gather::gather;
 use awk_lanes::{Arena, Kind, Lane, LaneMaker, NoMemory, Steps, number};
 use awk_layout::{Array, Datum};
 use awk_types::Fault;
-use awk_view::range;
+use awk_range::range;
 use std::alloc::Global;
 use std::sync::ledger::Ledger;
 

@@ -15,7 +15,7 @@ use Rattle.awk_view.specs.Choice.{Choice, field, fields, without, row_names, pla
 use Rattle.awk_view.specs.Layouts.{IsChoice, AreAmong, IsFound, AreFound, row_of_choice, layout_of_choice, layouts_of_choice}
 use Rattle.awk_view.proofs.FirstItems.{weight-first_items, height-first_items, first_valid}
 use Rattle.awk_view.proofs.ChoiceLayouts.{layouts_from-list, get_reaches, get_valid, get_weight, get_height, length-row_names, beside_within, beside_reaches, place_within, rows_found, rows_named, rows_reach, rows_valid, len-layout_of_choice}
-use Rattle.awk_view.proofs.Weights.{weights-take_more, weights-take-le}
+use Rattle.awk_range.proofs.Weights.{weights-take_more, weights-take-le}
 use Rattle.awk_view.proofs.ChoiceNodes.{weights-beside, heights-beside, weights-apart, heights-apart, reach-apart, valid-apart, length-apart, distinct-apart}
 
 -- ---- nodes

@@ -6,13 +6,10 @@ pub mod ChoiceLayouts
 pub mod ChoiceItems
 pub mod ChoiceNodes
 pub mod ChosenNodes
-pub mod Weights
 pub mod Beside
 pub mod RowSteps
 pub mod FoundSteps
 pub mod ViewLaws
-pub mod RangeParts
-mod RangeWorked
 pub mod SettledItems
 pub mod Ends
 mod SettledWorked

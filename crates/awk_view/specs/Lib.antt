@@ -3,6 +3,5 @@ pub mod Layouts
 pub mod Asked
 pub mod Answer
 pub mod Examples
-pub mod Range
 pub mod Settled
 pub mod End

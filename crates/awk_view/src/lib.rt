@@ -5,10 +5,8 @@ mod choice;
 mod chosen;
 mod first;
 mod found;
-mod ranges;
 mod settling;
 mod view;
 
-pub use ranges::range;
 pub use settling::{item_at, settled};
 pub use view::{field, fields, without};

@@ -10,7 +10,7 @@ ghost use Rattle.awk_layout.specs.Valid.{len};
 ghost use Rattle.awk_view.specs.End.{IsEnd, IsItemOf, IsOneOf, IsArrOf, end_weight};
 ghost use Rattle.awk_view.specs.Settled.{kept};
 
-use crate::ranges::range;
+use awk_range::range;
 use awk_lanes::Steps;
 use awk_layout::{Array, Datum, Node, Place};
 use awk_types::{NoMemory, TypeFault};

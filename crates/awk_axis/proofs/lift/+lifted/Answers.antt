@@ -1,13 +1,14 @@
 use Rattle.std.proofs.Common.{◌+◌, arith, rules, ◌≡◌, sym, true, false, ap, ◌∙◌, map}
 use Rattle.awk_layout.specs.Typing.{array_type}
-use Rattle.awk_axis.specs.Opened.{IsOpened}
+use Rattle.awk_columns.specs.Opened.{IsOpened}
 use Rattle.awk_axis.proofs.KindLaws.{unknown_accepted, unknown_refused, leaf_refused}
 use Rattle.awk_axis.specs.Reach.{here, inner}
 use Rattle.awk_axis.specs.Lift.{refusal_at}
-use Rattle.awk_axis.specs.Joined.{IsJoined}
+use Rattle.awk_columns.specs.Joined.{IsJoined}
 use Rattle.awk_axis.specs.Mapped.{IsAtAxis, IsLifted, AreLifted}
 use Rattle.awk_axis.proofs.IfOk.{if_ok}
-use Rattle.awk_axis.proofs.LiftLaws.{refusal-list, refusal-list_here, joined_even, refusal-row}
+use Rattle.awk_axis.proofs.LiftLaws.{refusal-list, refusal-list_here, refusal-row}
+use Rattle.awk_columns.proofs.ListNodes.{joined_even}
 use Rattle.awk_axis.proofs.LiftLaws.{count_mapped, reach_mapped, refusal-union, union_mapped}
 use Rattle.awk_axis.proofs.LiftedLaws.{lists_here, lists_too_many, lists_spoiled, lists_above}
 use Rattle.awk_axis.proofs.LiftedLaws.{option_lifted, option_spoiled, row_lifted, row_spoiled}
@@ -17,8 +18,8 @@ use Rattle.awk_types.specs.DataType.{types_from, depth, depths, greatest}
 use Rattle.awk_axis.proofs.Falls.{falls_kind, falls_item, falls_all, falls_each}
 use Rattle.awk_layout.specs.Valid.{len}
 use Rattle.awk_axis.proofs.AllLaws.{so_far_taken}
-use Rattle.awk_axis.specs.declared.opening.Opened.TheVariants as opened
-use Rattle.awk_axis.specs.declared.opening.Joined.TheVariants as joined
+use Rattle.awk_columns.specs.declared.opening.Opened.TheVariants as opened
+use Rattle.awk_columns.specs.declared.opening.Joined.TheVariants as joined
 use Rattle.awk_axis.specs.declared.lift.Mapped.TheVariants as mapped
 use Rattle.awk_axis.specs.declared.lift.AllMapped.TheVariants as all_mapped
 use Rattle.awk_axis.proofs.lift.+lifted.Goals as goal

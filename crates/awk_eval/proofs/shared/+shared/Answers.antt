@@ -2,7 +2,7 @@
 use Rattle.std.proofs.Common.{◌+◌, ◌++◌, ◌∷◌, [], ap₂, sym, ◌∙◌, arith, rules}
 use Rattle.awk_types.proofs.ListLaws.{take-get}
 use Rattle.awk_layout.specs.Contents.{weight-get}
-use Rattle.awk_view.proofs.Weights.{weights-take_more, weights-take-le}
+use Rattle.awk_range.proofs.Weights.{weights-take_more, weights-take-le}
 use Rattle.awk_eval.proofs.shared.+shared.Goals as goal
 
 pub shared_all-shared-requires : goal.shared_all-shared-requires

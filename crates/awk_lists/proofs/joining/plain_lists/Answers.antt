@@ -1,5 +1,5 @@
-use Rattle.awk_axis.specs.Joined.{IsJoined}
-use Rattle.awk_axis.specs.Opened.{OpensLists}
+use Rattle.awk_columns.specs.Joined.{IsJoined}
+use Rattle.awk_columns.specs.Opened.{OpensLists}
 use Rattle.awk_axis.proofs.IfOk.{if_ok}
 use Rattle.awk_lists.specs.Listed.{IsListed}
 use Rattle.awk_lists.proofs.Ends.{lists_joined}

@@ -1,7 +1,7 @@
 use Rattle.std.proofs.Common.{◌∙◌, ap, arith}
 use Rattle.awk_types.specs.View.{typ_of}
 use Rattle.awk_unify.specs.View.{lift_of, lifts_of}
-use Rattle.awk_merge.specs.Sides.{sides_of, with_side}
+use Rattle.awk_merge_sides.specs.Sides.{sides_of, with_side}
 use Rattle.awk_merge.proofs.OperandLaws.{length-lifts}
 use Rattle.awk_merge.proofs.StackLaws.{one_taken, all_taken}
 use Rattle.awk_merge.proofs.operands.operand_sides.Goals as goal

@@ -1,6 +1,6 @@
 use Rattle.awk_types.specs.View.{typ_of}
 use Rattle.awk_unify.specs.View.{lifts_of}
-use Rattle.awk_merge.specs.Sides.{sides_of, IsCounted}
+use Rattle.awk_merge_sides.specs.Sides.{sides_of, IsCounted}
 use Rattle.awk_merge.proofs.StackLaws.{AreTaken}
 use Rattle.awk_merge.proofs.operands.operand_sides.Given as goal
 

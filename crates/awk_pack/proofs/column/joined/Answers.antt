@@ -1,4 +1,4 @@
-use Rattle.awk_gather.specs.Joined.{list_values}
+use Rattle.awk_columns.specs.ListValues.{list_values}
 use Rattle.awk_pack.proofs.JoinLaws.{joined-is}
 use Rattle.awk_pack.proofs.column.joined.Goals as goal
 

@@ -1,6 +1,6 @@
 use Rattle.std.proofs.Common.{IfOk, arith, sym, subst}
 use Rattle.awk_layout.specs.Typing.{array_type, array_items}
-use Rattle.awk_gather.specs.declared.opening.Opened.TheVariants as opened
+use Rattle.awk_open.specs.declared.opening.Opened.TheVariants as opened
 use Rattle.awk_pack.specs.Packing.{IsColumn, IsLeft}
 use Rattle.awk_pack.proofs.ContentLaws.{column-is, left_row, left_option, left_union}
 use Rattle.awk_pack.proofs.LargeLaws.{large_array}

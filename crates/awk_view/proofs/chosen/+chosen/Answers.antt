@@ -5,7 +5,7 @@ use Rattle.awk_view.specs.Asked.{choice_of}
 use Rattle.awk_view.specs.Layouts.{layout_of_choice}
 use Rattle.awk_view.proofs.Beside.{pushed_next}
 use Rattle.awk_view.proofs.ChoiceLayouts.{len-layout_of_choice}
-use Rattle.awk_view.proofs.Weights.{weights-take_more}
+use Rattle.awk_range.proofs.Weights.{weights-take_more}
 use Rattle.awk_view.proofs.RowSteps.{IfOk-map, found_in_rows, rows_chosen, union_valid, union_chosen}
 use Rattle.awk_view.proofs.chosen.+chosen.Goals as goal
 

@@ -1,0 +1,120 @@
+-- Items of arrays by place, and runs of them.
+use Rattle.std.specs.Prelude.{◌≡◌, ℕ, suc, zero, ◌+◌, ◌<◌, ◌≤◌, refl, List, [], ◌∷◌}
+use Rattle.std.specs.Prelude.{◌++◌, map, Option, ℤ, pos, negsuc, ◌<ℤ◌}
+use Rattle.std.proofs.Common.{arith, ap, sym, ◌∙◌}
+use Rattle.std.proofs.lemmas.Int.{ints}
+use Rattle.std.proofs.lemmas.Simd.{map-map}
+use Rattle.std.proofs.lemmas.List.Folds.{flat_map-map}
+use Rattle.std.proofs.lemmas.List.Concat.{flat_map_single}
+use Rattle.std.specs.List.{range_with_len, flat_map}
+use Rattle.awk_types.specs.DataType.{DataType, unknown, leaf, var, reg, rec, tup, opt, uni}
+use Rattle.awk_types.specs.Value.{Value, int, truth, null, list, row, alt, value}
+use Rattle.awk_types.specs.Value.{value_list, values_from}
+use Rattle.awk_types.specs.Simple.{simple_value, in_list, in_option}
+use Rattle.awk_types.proofs.Trees.{values_from-list, value_list-from}
+use Rattle.awk_lanes.specs.Column.{Column}
+use Rattle.awk_lanes.specs.Places.{option_place}
+use Rattle.awk_layout.specs.Layout.{Layout}
+use Rattle.awk_layout.specs.Valid.{len}
+use Rattle.awk_layout.specs.Item.{item, run, at_option}
+use Rattle.awk_layout.specs.Typing.{layout_type, array_items}
+use Rattle.awk_columns.specs.Columns.{lists_among, list_of}
+use Rattle.awk_columns.specs.Columns.{joined_items, list_items}
+use Rattle.awk_columns.specs.Opened.{items_at, OpensLists}
+use Rattle.awk_gather.specs.Arrays.{array_item}
+
+-- null stays null
+pub simple_null : (t : DataType) → simple_value t null ≡ null
+simple_null unknown = refl
+simple_null (leaf p) = refl
+simple_null (var t) = refl
+simple_null (reg n t) = refl
+simple_null (rec ns ts) = refl
+simple_null (tup ts) = refl
+simple_null (opt t) = refl
+simple_null (uni ts) = refl
+
+pub in_option_same : (f : Value → Value) → f null ≡ null → (v : Value) → in_option f v ≡ f v
+in_option_same f e (int z) = refl
+in_option_same f e (truth b) = refl
+in_option_same f e null = sym e
+in_option_same f e (list vs) = refl
+in_option_same f e (row vs) = refl
+in_option_same f e (alt k v) = refl
+
+pub array_items-at : (x : Layout) → array_items x ≡ map (array_item x) (range_with_len 0 (len x))
+array_items-at x = map-map (simple_value (layout_type x)) (item x) (range_with_len 0 (len x))
+
+-- what is the same at each place of a range is the same list
+pub map-same : {X : Type 0} (f g : ℕ → X) (a n : ℕ) → ((i : ℕ) → a ≤ i → i < a + n → f i ≡ g i)
+    → map f (range_with_len a n) ≡ map g (range_with_len a n)
+map-same f g a zero e = refl
+map-same {X} f g a (suc n) e =
+    let rest : map f (range_with_len (a + 1) n) ≡ map g (range_with_len (a + 1) n) =
+    map-same f g (a + 1) n (λ i p q. e i (omega (arith, p)) (omega (arith, q))) in
+    ap (λ (x : X). x ∷ map f (range_with_len (a + 1) n)) (e a (omega arith) (omega arith))
+    ∙ ap (λ xs. g a ∷ xs) rest
+
+-- ---- runs
+
+pub run_map : (f : Value → Value) (h : ℕ → Value) (a n : ℕ)
+    → map f (value_list (run h a n)) ≡ value_list (run (λ k. f (h k)) a n)
+run_map f h a zero = refl
+run_map f h a (suc n) = ap (λ vs. f (h a) ∷ vs) (run_map f h (suc a) n)
+
+pub run_in_list : (f : Value → Value) (h : ℕ → Value) (a n : ℕ)
+    → in_list f (list (run h a n)) ≡ list (run (λ k. f (h k)) a n)
+run_in_list f h a n = ap (λ vs. list (values_from vs)) (run_map f h a n)
+    ∙ ap list (values_from-list (run (λ k. f (h k)) a n))
+
+pub run_same : (f g : ℕ → Value) (a n : ℕ) → ((i : ℕ) → a ≤ i → i < a + n → f i ≡ g i)
+    → run f a n ≡ run g a n
+run_same f g a zero e = refl
+run_same f g a (suc n) e =
+    let rest : run f (suc a) n ≡ run g (suc a) n =
+    run_same f g (suc a) n (λ i p q. e i (omega (arith, p)) (omega (arith, q))) in
+    ap (λ v. value v (run f (suc a) n)) (e a (omega arith) (omega arith)) ∙ ap (value (g a)) rest
+
+-- ---- lists of an array
+
+lists_values : (class : Option ℕ) (s t : Column) (y x : Layout) → OpensLists class s t y x
+    → array_items x ≡ map (λ i. list (values_from (items_at s t y i))) (range_with_len 0 (len x))
+lists_values class s t y x o = array_items-at x
+    ∙ map-same (array_item x) (λ i. list (values_from (items_at s t y i))) 0 (len x)
+    (λ i p q. o.items i (omega (arith, q)) ∙ ap list (sym (values_from-list _)))
+
+pub lists-inner : (class : Option ℕ) (s t : Column) (y x : Layout) → OpensLists class s t y x
+    → joined_items (array_items x) ≡ flat_map (items_at s t y) (range_with_len 0 (len x))
+lists-inner class s t y x o =
+    ap joined_items (lists_values class s t y x o)
+    ∙ flat_map-map list_items (λ i. list (values_from (items_at s t y i)))
+    (range_with_len 0 (len x))
+    ∙ flat_map_same (λ i. value_list (values_from (items_at s t y i))) (items_at s t y)
+    (λ i. value_list-from (items_at s t y i)) (range_with_len 0 (len x))
+  where
+    flat_map_same : {X Y : Type 0} (f g : X → List Y) → ((x : X) → f x ≡ g x) → (xs : List X)
+        → flat_map f xs ≡ flat_map g xs
+    flat_map_same f g e [] = refl
+    flat_map_same f g e (x ∷ xs) = ap (λ ys. ys ++ flat_map f xs) (e x)
+        ∙ ap (λ ys. g x ++ ys) (flat_map_same f g e xs)
+
+pub lists-among : (class : Option ℕ) (s t : Column) (y x : Layout) → OpensLists class s t y x
+    → lists_among (array_items x) ≡ map (items_at s t y) (range_with_len 0 (len x))
+lists-among class s t y x o =
+    ap lists_among (lists_values class s t y x o)
+    ∙ flat_map-map list_of (λ i. list (values_from (items_at s t y i))) (range_with_len 0 (len x))
+    ∙ flat_map_single (λ i. value_list (values_from (items_at s t y i))) (range_with_len 0 (len x))
+    ∙ map-same (λ i. value_list (values_from (items_at s t y i))) (items_at s t y) 0 (len x)
+    (λ i p q. value_list-from (items_at s t y i))
+
+-- ---- options
+
+pub option_item : (z : ℤ) (n : ℕ) → z <ℤ pos n
+    → (sy : Value → Value) (it : ℕ → Value) (su g : Value → Value) (ac : ℕ → Value) → sy null ≡ null
+    → su null ≡ null → g null ≡ null → ((k : ℕ) → k < n → sy (it k) ≡ su (g (ac k)))
+    → in_option sy (at_option (option_place z) it) ≡ in_option su
+    (in_option g (at_option (option_place z) ac))
+option_item (pos k) n p sy it su g ac ny nu ng e =
+    in_option_same sy ny (it k) ∙ e k (omega (arith, ints, p))
+    ∙ sym (in_option_same su nu (in_option g (ac k)) ∙ ap su (in_option_same g ng (ac k)))
+option_item (negsuc k) n p sy it su g ac ny nu ng e = refl

@@ -1,0 +1,13 @@
+pub mod FirstPlaces
+pub mod PlaceLanes
+pub mod ReachedContents
+pub mod TaggedCounts
+pub mod SpanPlaces
+pub mod ResultLaws
+pub mod OrderedOptions
+pub mod OrderedUnions
+pub mod OrderedKinds
+pub mod JoinedLists
+pub mod ArrayLaws
+pub mod OpeningLaws
+pub mod ListNodes

@@ -1,0 +1,11 @@
+use Rattle.std.specs.Prelude.{◌++◌}
+use Rattle.std.specs.List.{range_with_len}
+use Rattle.awk_columns.specs.Counted.{first_of, span_at}
+use Rattle.awk_columns.proofs.PlaceLanes.{ArePlaces}
+use Rattle.awk_columns.proofs.spans.span_lane.Given as goal
+
+abbrev pub invariant-loop-i : goal.invariant-loop-i
+invariant-loop-i g l = ArePlaces l.n (first_of (span_at l.starts l.stops) l.i) l.maker
+
+abbrev pub invariant-loop-k : goal.invariant-loop-k
+invariant-loop-k g l = ArePlaces l.n (first_of (span_at l.starts l.stops) l.i ++ range_with_len l.span.start l.k) l.maker

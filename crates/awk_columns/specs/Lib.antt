@@ -1,0 +1,9 @@
+pub mod Columns
+pub mod Counted
+pub mod InOrder
+pub mod Reached
+pub mod ListValues
+pub mod Opened
+pub mod Joined
+pub mod ListClass
+pub mod ListNode

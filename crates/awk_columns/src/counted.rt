@@ -1,0 +1,90 @@
+//! Indexes of options that count up, and the places of the items that are present.
+ghost use Rattle.std.specs.Prelude.{◌≡◌, ◌<◌, ◌^◌, length, IfOk};
+ghost use Rattle.awk_lanes.specs.Numbers.{int_of, IsOf};
+ghost use Rattle.awk_lanes.specs.Places.{size_of, option_place_at, IsOptionKind};
+ghost use Rattle.awk_lanes.specs.declared.kind.Kind.TheVariants as Kind;
+ghost use Rattle.awk_columns.specs.Counted.{first_of, places_lane, present_place, present_at};
+ghost use Rattle.awk_columns.specs.Counted.{count_or_null, counted_lane};
+
+use awk_lanes::{Arena, Kind, Lane, LaneMaker, NoMemory, Num, Steps, number, option_place_in};
+use std::sync::ledger::Ledger;
+
+/// 1 where there is a place, else 0.
+pub(crate) fn one_if(place: Option<u64>) -> u64
+    ensures { result ≡ length (present_place place) }
+{
+    match place {
+        Some(_) => 1,
+        None => 0,
+    }
+}
+
+/// How many items the index of an option names.
+#[tactic(auto, using(crate::proofs::FirstPlaces::counting))]
+pub(crate) fn count_present<L: Ledger>(index: &Lane, steps: &mut Steps<L>) -> u64
+    requires kind { IsOptionKind index.now.kind }
+    ensures { result ≡ length (first_of (present_at index.now) (size_of index.now)) }
+{
+    let mut count = 0;
+    for i in 0..index.len() {
+        count += one_if(option_place_in(index, i, steps));
+    }
+    count
+}
+
+/// `next` where the index of an option names an item at place i, else -1.
+fn next_number<L: Ledger>(index: &Lane, i: u64, next: u64, steps: &mut Steps<L>) -> Num
+    requires kind { IsOptionKind index.now.kind }
+    requires within { i < size_of index.now }
+    requires small { next < 2 ^ 63 }
+    ensures number { int_of result ≡ count_or_null next (option_place_at index.now i) }
+    ensures kind { IsOf Kind.I64 result }
+{
+    match option_place_in(index, i, steps) {
+        Some(_) => Num::Int(next as i64),
+        None => Num::Int(-1),
+    }
+}
+
+/// The index of an option over the present items alone: it counts up, and is -1 for each null.
+#[tactic(auto, using(awk_gather::proofs::MadeLanes::making))]
+pub(crate) fn counted<'a, L: Ledger>(
+    index: &Lane,
+    arena: &'a Arena,
+    steps: &mut Steps<L>,
+) -> Result<Lane<'a>, NoMemory>
+    requires kind { IsOptionKind index.now.kind }
+    requires small { size_of index.now < 2 ^ 63 }
+    ensures lane { IfOk result (λ r. r ≡ counted_lane index.now) }
+{
+    let n = index.len();
+    let mut maker = LaneMaker::new(Kind::I64, n, arena)?;
+    let mut next = 0;
+    for i in 0..n {
+        let number = next_number(index, i, next, steps);
+        maker.push(number);
+        next += one_if(option_place_in(index, i, steps));
+    }
+    Ok(maker.finish())
+}
+
+/// The places of the items that the index of an option names, of which there are n.
+pub(crate) fn present_lane<'a, L: Ledger>(
+    index: &Lane,
+    n: u64,
+    arena: &'a Arena,
+    steps: &mut Steps<L>,
+) -> Result<Lane<'a>, NoMemory>
+    requires kind { IsOptionKind index.now.kind }
+    requires count { n ≡ length (first_of (present_at index.now) (size_of index.now)) }
+    ensures lane { let places = first_of (present_at index.now) (size_of index.now) in
+        IfOk result (λ r. r ≡ places_lane places) }
+{
+    let mut maker = LaneMaker::new(Kind::I64, n, arena)?;
+    for i in 0..index.len() {
+        if let Some(place) = option_place_in(index, i, steps) {
+            maker.push(number(place));
+        }
+    }
+    Ok(maker.finish())
+}

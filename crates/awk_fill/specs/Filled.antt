@@ -1,0 +1,80 @@
+-- Columns whose nulls are filled.
+use Rattle.std.specs.Prelude.{◌≡◌, ℕ, ◌<◌, ◌++◌, ℤ, pos, List, map, Option, Some, None}
+use Rattle.std.specs.Prelude.{Result}
+use Rattle.std.specs.List.{AllByRecursion}
+use Rattle.awk_types.specs.DataType.{DataType, opt}
+use Rattle.awk_types.specs.Datum as shown
+use Rattle.awk_types.specs.Faults.{fault_told}
+use Rattle.awk_types.specs.Gives.{Gives, Told}
+use Rattle.awk_types.specs.Has.{Has}
+use Rattle.awk_types.specs.Simple.{simple_value}
+use Rattle.awk_types.specs.Value.{Value}
+use Rattle.awk_types.specs.declared.fault.Fault.{Fault}
+use Rattle.awk_lanes.specs.Column.{Column}
+use Rattle.awk_lanes.specs.Places.{size_of, option_place_at}
+use Rattle.awk_lanes.specs.declared.kind.Kind.TheVariants.{I64}
+use Rattle.awk_layout.specs.Datum.{datum_of}
+use Rattle.awk_layout.specs.Item.{at_option}
+use Rattle.awk_layout.specs.Layout.{Layout}
+use Rattle.awk_layout.specs.Typing.{array_type, array_items}
+use Rattle.awk_layout.specs.Valid.{len, IsValid}
+use Rattle.awk_layout.specs.declared.datum.Datum.{Datum}
+use Rattle.awk_layout.specs.declared.datum.Datum.TheVariants.{One}
+use Rattle.awk_layout.specs.declared.datum.Operand.{Operand}
+use Rattle.awk_layout.specs.declared.datum.Operand.TheVariants.{Of}
+use Rattle.awk_gather.specs.Arrays.{array_item}
+use Rattle.awk_gather.specs.Lanes.{lane_of}
+use Rattle.awk_unify.specs.Carry.{carried}
+use Rattle.awk_unify.specs.Unification.{Unification}
+use Rattle.awk_fill.specs.FillNone.{Filler, filled, filled_type, no_filler}
+
+-- an array of a type whose first item is the value
+pub record IsFirst (t : DataType) (v : Value) (y : Layout) : Type 0 where
+  pub typ : array_type y ≡ t
+  pub some : 0 < len y
+  pub first : array_item y 0 ≡ v
+
+-- a single value is the first item of its array, if there is one
+abbrev pub HasFirst : Operand → Type 0
+HasFirst (Of (One x)) = 0 < len x
+HasFirst v = Unit {0}
+
+-- two columns one after another, as items of the type that theirs unify to
+pub record IsPair (u : Unification) (x y z : Layout) : Type 0 where
+  pub valid : IsValid z
+  pub typ : array_type z ≡ u.typ
+  pub has : AllByRecursion (Has (array_type z)) (array_items z)
+  pub items : array_items z
+      ≡ map (carried u.left) (array_items x) ++ map (carried u.right) (array_items y)
+
+-- where an item of an option is, and a place of its own for null
+abbrev pub place_or : ℕ → Option ℕ → ℤ
+place_or n None = pos n
+place_or n (Some k) = pos k
+
+abbrev pub places_or : ℕ → Column → Column
+places_or n j = lane_of I64 (size_of j) (λ i. place_or n (option_place_at j i))
+
+-- n items of a type, with the nulls filled of those that are given by place
+pub record AreFilled (f : Filler) (t : DataType) (n : ℕ) (value : ℕ → Value) (y : Layout) : Type 0 where
+  pub valid : IsValid y
+  pub size : len y ≡ n
+  pub typ : array_type y ≡ filled_type f t
+  pub items : (i : ℕ) → i < n → array_item y i ≡ filled f t (value i)
+  -- simplifying changes nothing
+  pub stays : (i : ℕ) → i < n → simple_value (array_type y) (array_item y i) ≡ array_item y i
+
+-- an array with its nulls filled
+abbrev pub IsFilled : Filler → Layout → Layout → Type 0
+IsFilled f x y = AreFilled f (array_type x) (len x) (array_item x) y
+
+-- the items of an option, by its index and what is present
+abbrev pub IsFilledOption : Filler → Column → Layout → Layout → Type 0
+IsFilledOption f j x y =
+    AreFilled f (opt (array_type x)) (size_of j) (λ i. at_option (option_place_at j i) (array_item x)) y
+
+-- the fault for an answer that was to fill nulls with what is no filler
+abbrev pub IsRefused : Result Datum Fault → Fault → Type 0
+IsRefused answer fault =
+    (said : Result shown.Datum Fault) → Gives datum_of fault_told answer said
+    → Told (fault_told fault) (no_filler said)

@@ -1,0 +1,3 @@
+pub mod FillNone
+pub mod Filled
+pub mod Moved

@@ -1,5 +1,0 @@
-use Rattle.awk_gather.proofs.MadeLanes.{so_far_pushed}
-use Rattle.awk_gather.proofs.unions.settle_tags.Goals as goal
-
-pub loop-i-preserved : goal.loop-i-preserved
-loop-i-preserved g c = so_far_pushed _ _ _ c.loop-i.i _ c.loop-i.maker c.push.new.self c.push.ensures c.next_tag-next.ensures.number c.loop-i.invariant

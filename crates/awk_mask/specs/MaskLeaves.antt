@@ -1,0 +1,33 @@
+-- Arrays where masks over them are, by place, and masks of single truth values.
+use Rattle.std.specs.Prelude.{◌≡◌, ℕ, ◌<◌, ◌^◌, Bool, true, false}
+use Rattle.awk_types.specs.DataType.{DataType, unknown, leaf}
+use Rattle.awk_types.specs.declared.primitive.Primitive.TheVariants.{Bool as Truths}
+use Rattle.awk_lanes.specs.Column.{Column}
+use Rattle.awk_lanes.specs.Places.{size_of, at}
+use Rattle.awk_lanes.specs.declared.kind.Kind.TheVariants as kinds
+use Rattle.awk_layout.specs.Item.{leaf_value}
+use Rattle.awk_layout.specs.Layout.{Layout}
+use Rattle.awk_layout.specs.Typing.{array_type}
+use Rattle.awk_layout.specs.Valid.{len}
+use Rattle.awk_gather.specs.Arrays.{array_item}
+use Rattle.awk_axis.specs.Mapped.{IsColumn}
+use Rattle.awk_mask.specs.PutMask.{masked_type, masked_value}
+
+-- a mask that is neither of lists nor optional
+abbrev pub is_innermost : DataType → Bool
+is_innermost unknown = true
+is_innermost (leaf Truths) = true
+is_innermost t = false
+
+-- the items of a mask as a lane
+pub record AreTruths (m : Layout) (c : Column) : Type 0 where
+  pub kind : c.kind ≡ kinds.Bool
+  pub size : size_of c ≡ len m
+  pub fits : size_of c < 2 ^ 63
+  pub items : (i : ℕ) → i < len m → array_item m i ≡ leaf_value c.kind (at c i)
+
+-- r has the items of x, each by the item of the mask at its place
+abbrev pub IsMasked : Layout → Layout → Bool → Layout → Type 0
+IsMasked x m keep r =
+    IsColumn (masked_type (array_type m) (array_type x))
+    (λ i. masked_value (array_type m) keep (array_item m i) (array_item x i)) (len x) r

@@ -1,0 +1,212 @@
+//! The outermost level of an array and of a mask over it.
+ghost use Rattle.std.specs.Prelude.{◌≡◌, true, IfOk};
+ghost use Rattle.awk_types.specs.Simple.{is_option};
+ghost use Rattle.awk_layout.specs.Typing.{array_type};
+ghost use Rattle.awk_mask.specs.MaskLevels.{AreInOrder, AreJoinedIn, IsUnder, IsLevel};
+ghost use Rattle.awk_mask.specs.MaskLists as lists;
+
+use crate::mask_lengths::{has_lists, is_list};
+use crate::mask_nulls::items_where;
+use awk_nulls::is_optional;
+use awk_columns::{Joined, Opened, join_spans, open_array};
+use awk_open::{Opened as Ordered};
+use awk_columns::in_order;
+use awk_lanes::{Arena, Lane, Steps};
+use awk_layout::Array;
+use awk_types::NoMemory;
+use std::alloc::Global;
+use std::sync::ledger::Ledger;
+
+/// What is over items.
+#[derive(Drop)]
+pub(crate) enum Over<'a> {
+    /// An index with nulls.
+    Nulls(Lane<'a>),
+    Lists {
+        class: Option<u64>,
+        n: u64,
+        offsets: Lane<'a>,
+    },
+}
+
+/// The outermost level of an array and of a mask over it.
+#[derive(Drop)]
+pub(crate) enum Level<'a> {
+    /// The mask is of single truth values.
+    Innermost,
+    /// The lists have too many items together.
+    TooMany,
+    /// What is over the items of both.
+    Within {
+        over: Over<'a>,
+        x: Array<'a>,
+        m: Array<'a>,
+    },
+}
+
+/// An index that counts the items that are present, and these.
+#[derive(Drop)]
+struct Present<'a> {
+    index: Lane<'a>,
+    content: Array<'a>,
+}
+
+/// The lists of an array one after another, where their items are not too many.
+#[derive(Drop)]
+enum Below<'a> {
+    TooMany,
+    Lists {
+        class: Option<u64>,
+        n: u64,
+        offsets: Lane<'a>,
+        content: Array<'a>,
+    },
+}
+
+/// The items of an option that are present.
+fn present_in<'a, L: Ledger>(
+    alloc: Global,
+    x: &Array<'a>,
+    arena: &'a Arena,
+    steps: &mut Steps<L>,
+) -> Result<Present<'a>, NoMemory>
+    requires { is_option (array_type x.now) ≡ true }
+    ensures { IfOk result (λ r. AreInOrder x.now r.index r.content) }
+{
+    match in_order(alloc, x, arena, steps)? {
+        Ordered::Option { index, content } => Ok(Present { index, content }),
+        _ => unreachable!(),
+    }
+}
+
+/// The items of lists.
+fn lists_in<'a, L: Ledger>(
+    alloc: Global,
+    x: &Array<'a>,
+    arena: &'a Arena,
+    steps: &mut Steps<L>,
+) -> Result<Below<'a>, NoMemory>
+    requires { lists.is_list (array_type x.now) ≡ true }
+    ensures { IfOk result (AreJoinedIn x.now) }
+{
+    match open_array(alloc, x, arena, steps)? {
+        Opened::Items {
+            class,
+            starts,
+            stops,
+            content,
+        } => match join_spans(alloc, class, &starts, &stops, &content, arena, steps)? {
+            Joined::TooMany => Ok(Below::TooMany),
+            Joined::Lists { offsets, content } => Ok(Below::Lists {
+                class,
+                n: starts.len(),
+                offsets,
+                content,
+            }),
+        },
+        _ => unreachable!(),
+    }
+}
+
+/// The level of a mask with nulls.
+fn nulls_of_mask<'a, L: Ledger>(
+    alloc: Global,
+    x: &Array<'a>,
+    m: &Array<'a>,
+    arena: &'a Arena,
+    steps: &mut Steps<L>,
+) -> Result<Level<'a>, NoMemory>
+    requires option { is_option (array_type m.now) ≡ true }
+    requires under { IsUnder m.now x.now }
+    ensures { IfOk result (IsLevel m.now x.now) }
+{
+    let mask = present_in(alloc, m, arena, steps)?;
+    let items = items_where(alloc, x, &mask.index, arena, steps)?;
+    Ok(Level::Within {
+        over: Over::Nulls(mask.index),
+        x: items,
+        m: mask.content,
+    })
+}
+
+/// The level of an array with nulls under a mask of lists.
+fn nulls_of_items<'a, L: Ledger>(
+    alloc: Global,
+    x: &Array<'a>,
+    m: &Array<'a>,
+    arena: &'a Arena,
+    steps: &mut Steps<L>,
+) -> Result<Level<'a>, NoMemory>
+    requires lists { lists.is_list (array_type m.now) ≡ true }
+    requires option { is_option (array_type x.now) ≡ true }
+    requires under { IsUnder m.now x.now }
+    ensures { IfOk result (IsLevel m.now x.now) }
+{
+    let items = present_in(alloc, x, arena, steps)?;
+    let mask = items_where(alloc, m, &items.index, arena, steps)?;
+    Ok(Level::Within {
+        over: Over::Nulls(items.index),
+        x: items.content,
+        m: mask,
+    })
+}
+
+/// The level of lists under a mask of lists.
+fn lists_of_both<'a, L: Ledger>(
+    alloc: Global,
+    x: &Array<'a>,
+    m: &Array<'a>,
+    arena: &'a Arena,
+    steps: &mut Steps<L>,
+) -> Result<Level<'a>, NoMemory>
+    requires mask { lists.is_list (array_type m.now) ≡ true }
+    requires items { lists.is_list (array_type x.now) ≡ true }
+    requires under { IsUnder m.now x.now }
+    ensures { IfOk result (IsLevel m.now x.now) }
+{
+    let _ = m.len();
+    let _ = x.len();
+    let mask = match lists_in(alloc, m, arena, steps)? {
+        Below::TooMany => return Ok(Level::TooMany),
+        Below::Lists { content, .. } => content,
+    };
+    match lists_in(alloc, x, arena, steps)? {
+        Below::TooMany => Ok(Level::TooMany),
+        Below::Lists {
+            class,
+            n,
+            offsets,
+            content,
+        } => {
+            let over = Over::Lists { class, n, offsets };
+            Ok(Level::Within {
+                over,
+                x: content,
+                m: mask,
+            })
+        }
+    }
+}
+
+/// The outermost level of an array and of a mask over it.
+pub(crate) fn level_of<'a, L: Ledger>(
+    alloc: Global,
+    x: &Array<'a>,
+    m: &Array<'a>,
+    arena: &'a Arena,
+    steps: &mut Steps<L>,
+) -> Result<Level<'a>, NoMemory>
+    requires { IsUnder m.now x.now }
+    ensures { IfOk result (IsLevel m.now x.now) }
+{
+    if is_optional(m.typ()) {
+        return nulls_of_mask(alloc, x, m, arena, steps);
+    }
+    if !is_list(m.typ()) {
+        return Ok(Level::Innermost);
+    }
+    if is_optional(x.typ()) {
+        return nulls_of_items(alloc, x, m, arena, steps);
+    }
+    lists_of_both(alloc, x, m, arena, steps)
+}

@@ -1,6 +1,0 @@
-use Rattle.awk_merge.specs.Sides.{sides_of}
-use Rattle.awk_merge.proofs.ListLaws.{IsListing}
-use Rattle.awk_merge.proofs.lists.list_level.Given as goal
-
-abbrev pub invariant-loop-i : goal.invariant-loop-i
-invariant-loop-i g l = IsListing (sides_of l.sides) l.i l.maker

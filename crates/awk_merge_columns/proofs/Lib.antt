@@ -1,0 +1,3 @@
+pub mod MergedLaws
+pub mod PartTypeLaws
+pub mod TypeParts

@@ -1,0 +1,220 @@
+//! Columns of lists: where each list lies, and the columns of their items.
+ghost use Rattle.std.specs.Prelude.{◌≡◌, ◌+◌, ◌<◌, ◌≤◌, ◌^◌, ℕ, length, IfOk, OnOk};
+ghost use Rattle.awk_types.specs.DataType.{DataType, var, reg};
+ghost use Rattle.awk_lanes.specs.Places.{size_of, place_at, IsIndexKind};
+ghost use Rattle.awk_lanes.specs.declared.kind.Kind.TheVariants as Kinds;
+ghost use Rattle.awk_layout.specs.Typing.{array_type};
+ghost use Rattle.awk_layout.specs.Valid.{len};
+ghost use Rattle.awk_unify.specs.View.{lift_of};
+ghost use Rattle.awk_merge_lists.specs.ListLevels.{IsListLevel, IsRegularLevel, AreListSides, AreRegularSides};
+ghost use Rattle.awk_merge_lists.specs.Lists.{IsListType, HoldsLists, HoldsItems, AreOfLength, HasRoom};
+ghost use Rattle.awk_merge_lists.specs.Lists.{PutsLists, moved_places, with_numbers};
+ghost use Rattle.awk_merge_sides.specs.Sides.{sides_of, AreSides, IsCounted};
+
+use awk_merge_sides::items_lift;
+use awk_merge_sides::{Side, Sides};
+use awk_columns::{Joined, Opened, join_spans, open_array};
+use awk_lanes::{Arena, Kind, Lane, LaneMaker, Steps, index_at, number, to_option_place};
+use awk_layout::Array;
+use awk_types::NoMemory;
+use std::alloc::{AllocError, Global};
+use std::sync::ledger::Ledger;
+
+/// Where lists lie among the items of all, and the columns of their items.
+#[derive(Drop)]
+pub(crate) struct ListLevel<'a> {
+    pub(crate) starts: Lane<'a>,
+    pub(crate) stops: Lane<'a>,
+    pub(crate) sides: Sides<'a>,
+}
+
+/// Lists over what holds their items: the items alone, or the whole content where the lists are
+/// together more than the limit of a column.
+#[derive(Drop)]
+struct Lists<'a> {
+    starts: Lane<'a>,
+    stops: Lane<'a>,
+    content: Array<'a>,
+}
+
+/// The lists of a column.
+fn lists_of<'a, L: Ledger>(
+    alloc: Global,
+    column: &Array<'a>,
+    arena: &'a Arena,
+    steps: &mut Steps<L>,
+) -> Result<Lists<'a>, NoMemory>
+    requires { IsListType (array_type column.now) }
+    ensures { IfOk result (λ r. HoldsLists column.now r.starts r.stops r.content) }
+{
+    match open_array(alloc, column, arena, steps)? {
+        Opened::Items {
+            class,
+            starts,
+            stops,
+            content,
+        } => match join_spans(alloc, class, &starts, &stops, &content, arena, steps)? {
+            Joined::TooMany => Ok(Lists {
+                starts,
+                stops,
+                content,
+            }),
+            Joined::Lists { offsets, content } => {
+                let n = starts.len();
+                Ok(Lists {
+                    starts: offsets.cut(0, n, steps),
+                    stops: offsets.cut(1, n + 1, steps),
+                    content,
+                })
+            }
+        },
+        _ => unreachable!(),
+    }
+}
+
+/// The number at a place of a lane as a place: 0 where it is negative, as an end of an empty list
+/// may be.
+fn end_at<L: Ledger>(lane: &Lane, i: u64, steps: &mut Steps<L>) -> u64
+    requires kind { IsIndexKind lane.now.kind }
+    requires within { i < size_of lane.now }
+    ensures { result ≡ place_at lane.now i }
+{
+    to_option_place(index_at(lane, i, steps)).unwrap_or(0)
+}
+
+/// Ends of lists of n items, so many further on. Those of an empty list may lie beyond.
+fn put_places<L: Ledger>(
+    ends: &Lane,
+    base: u64,
+    n: u64,
+    maker: &mut LaneMaker,
+    steps: &mut Steps<L>,
+)
+    requires kind { IsIndexKind ends.now.kind }
+    requires room { HasRoom (size_of ends.now) maker.old }
+    requires fits { base + n < 2 ^ 63 }
+    ensures { maker.new ≡ with_numbers maker.old (moved_places base n ends.now) }
+{
+    for i in 0..ends.len() {
+        let end = end_at(ends, i, steps).min(n);
+        maker.push(number(base + end));
+    }
+}
+
+/// A level of lists that is being made.
+#[derive(Drop)]
+struct ListMaker<'a> {
+    starts: LaneMaker<'a>,
+    stops: LaneMaker<'a>,
+    sides: Sides<'a>,
+}
+
+impl<'a> ListMaker<'a> {
+    /// Adds the lists of a column.
+    fn put<L: Ledger>(
+        &mut self,
+        alloc: Global,
+        side: &Side<'a>,
+        arena: &'a Arena,
+        steps: &mut Steps<L>,
+    ) -> Result<(), NoMemory>
+        requires lists { IsListType (array_type side.now.column) }
+        requires starts { HasRoom (len side.now.column) self.old.starts }
+        requires stops { HasRoom (len side.now.column) self.old.stops }
+        requires counted { IsCounted self.old.sides }
+        ensures { OnOk result
+            (PutsLists side.now.column (lift_of side.now.lift) self.old self.new) }
+    {
+        let Lists {
+            starts,
+            stops,
+            content,
+        } = lists_of(alloc, &side.column, arena, steps)?;
+        let base = self.sides.total();
+        let n = content.len();
+        self.sides
+            .push(alloc, content, &items_lift(alloc, &side.lift)?)?;
+        put_places(&starts, base, n, &mut self.starts, steps);
+        put_places(&stops, base, n, &mut self.stops, steps);
+        Ok(())
+    }
+}
+
+/// The lists of all columns.
+pub(crate) fn list_level<'a, L: Ledger>(
+    alloc: Global,
+    sides: &Sides<'a>,
+    arena: &'a Arena,
+    steps: &mut Steps<L>,
+) -> Result<ListLevel<'a>, NoMemory>
+    requires lists { AreListSides (sides_of sides.now) }
+    requires counted { IsCounted sides.now }
+    ensures { (u : DataType) → AreSides (var u) (sides_of sides.now) →
+        IfOk result (IsListLevel u (sides_of sides.now)) }
+{
+    let mut maker = ListMaker {
+        starts: LaneMaker::new(Kind::I64, sides.total(), arena)?,
+        stops: LaneMaker::new(Kind::I64, sides.total(), arena)?,
+        sides: Sides::new(alloc),
+    };
+    for i in 0..sides.len() {
+        let side = sides.get(i);
+        let _ = side.column.len();
+        maker.put(alloc, side, arena, steps)?;
+    }
+    Ok(ListLevel {
+        starts: maker.starts.finish(),
+        stops: maker.stops.finish(),
+        sides: maker.sides,
+    })
+}
+
+/// The items of a column of lists of one length, one after another. No memory holds more of them
+/// than the limit of a column.
+fn items_of<'a, L: Ledger>(
+    alloc: Global,
+    column: &Array<'a>,
+    arena: &'a Arena,
+    steps: &mut Steps<L>,
+) -> Result<Array<'a>, NoMemory>
+    requires { IsListType (array_type column.now) }
+    ensures { (n : ℕ) → AreOfLength n column.now → IfOk result (HoldsItems n column.now) }
+{
+    match open_array(alloc, column, arena, steps)? {
+        Opened::Items {
+            class,
+            starts,
+            stops,
+            content,
+        } => match join_spans(alloc, class, &starts, &stops, &content, arena, steps)? {
+            Joined::Lists {
+                offsets: _offsets,
+                content,
+            } => Ok(content),
+            Joined::TooMany => Err(AllocError),
+        },
+        _ => unreachable!(),
+    }
+}
+
+/// The columns of the items of lists of one length.
+pub(crate) fn regular_level<'a, L: Ledger>(
+    alloc: Global,
+    sides: &Sides<'a>,
+    arena: &'a Arena,
+    steps: &mut Steps<L>,
+) -> Result<Sides<'a>, NoMemory>
+    requires lists { AreRegularSides (sides_of sides.now) }
+    requires counted { IsCounted sides.now }
+    ensures { (n : ℕ) (u : DataType) → AreSides (reg n u) (sides_of sides.now) →
+        IfOk result (IsRegularLevel n u (sides_of sides.now)) }
+{
+    let mut items = Sides::new(alloc);
+    for i in 0..sides.len() {
+        let side = sides.get(i);
+        let _ = side.column.len();
+        let content = items_of(alloc, &side.column, arena, steps)?;
+        items.push(alloc, content, &items_lift(alloc, &side.lift)?)?;
+    }
+    Ok(items)
+}

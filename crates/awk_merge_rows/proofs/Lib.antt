@@ -1,0 +1,10 @@
+pub mod AlternativeLaws
+pub mod OptionLaws
+pub mod RowGroups
+pub mod RowLaws
+pub mod RowSides
+pub mod RowValues
+pub mod TaggedLaws
+pub mod TargetLaws
+pub mod UnionLaws
+pub mod UnionSides

@@ -1,0 +1,6 @@
+pub mod Present
+pub mod Parts
+pub mod Tagged
+pub mod OptionLevels
+pub mod RowLevels
+pub mod UnionLevels

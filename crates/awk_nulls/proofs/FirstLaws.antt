@@ -1,0 +1,107 @@
+-- The first items of lists.
+use Rattle.std.specs.Prelude.{◌≡◌, ◌≢◌, ℕ, zero, suc, ◌+◌, ◌-◌, ◌<◌, ◌≤◌, ◌^◌, ◌==◌, refl, false, ℤ}
+use Rattle.std.specs.Prelude.{pos, negsuc, ◌<ℤ◌, Some, if◌then◌else◌}
+use Rattle.std.proofs.Common.{arith, ap, sym, ◌∙◌, subst}
+use Rattle.std.proofs.lemmas.Int.{ints}
+use Rattle.awk_types.specs.DataType.{opt}
+use Rattle.awk_types.specs.Simple.{simple_value}
+use Rattle.awk_types.specs.Value.{Value, value_list}
+use Rattle.awk_lanes.specs.declared.kind.Kind.TheVariants as kinds
+use Rattle.awk_lanes.specs.Column.{Column}
+use Rattle.awk_lanes.specs.Numbers.{nat_of}
+use Rattle.awk_lanes.specs.Places.{size_of, at, place_at, option_place, IsSpan}
+use Rattle.awk_lanes.specs.Places.{IsOptionalIndex}
+use Rattle.awk_layout.specs.Layout.{Layout, optional}
+use Rattle.awk_layout.specs.Item.{run, at_option}
+use Rattle.awk_layout.specs.Typing.{array_type}
+use Rattle.awk_layout.specs.Valid.{len}
+use Rattle.awk_gather.specs.Arrays.{array_item}
+use Rattle.awk_gather.proofs.MadeLanes.{size-lane_of, at-lane_of}
+use Rattle.awk_columns.specs.ListClass.{Class}
+use Rattle.awk_axis.specs.Mapped.{IsColumn}
+use Rattle.awk_columns.specs.Opened.{AreLists, items_at}
+use Rattle.awk_nulls.specs.Firsts.{first_or_null}
+use Rattle.awk_nulls.specs.Lanes.{span_length, firsts_lane}
+use Rattle.awk_nulls.proofs.OptionNodes.{HasItems, optional_type-is, optional_item}
+
+-- a list with items begins at a place
+pub start_there : (m : ℕ) (a b : ℤ) → IsSpan m a b → 0 < nat_of b - nat_of a
+    → (a ≡ pos (nat_of a)) × (nat_of a + (nat_of b - nat_of a) ≤ m)
+start_there m (pos k) (pos l) h p =
+    let d : pos k ≢ pos l = λ e. let f : k ≡ l = ap nat_of e in omega (arith, f, p) in
+    (refl, omega (arith, ints, (h d).2, p))
+start_there m (negsuc k) (pos l) h p =
+    let d : negsuc k ≢ pos l = λ e. cc in
+    absurd (omega (arith, ints, (h d).0))
+start_there m (pos k) (negsuc l) h p = absurd (omega (arith, p))
+start_there m (negsuc k) (negsuc l) h p = absurd (omega (arith, p))
+
+abbrev first_number : ℕ → ℤ → ℤ
+first_number n a = if n == 0 then negsuc 0 else a
+
+first_some : (n : ℕ) (a : ℤ) → first_number (suc n) a ≡ a
+first_some n a =
+    let e : (suc n == 0) ≡ false = grind arith in
+    ap (λ b. if b then negsuc 0 else a) e
+
+first_shown : (f : ℕ → Value) (n : ℕ) (a : ℤ) → (0 < n → a ≡ pos (nat_of a))
+    → at_option (option_place (first_number n a)) f
+    ≡ first_or_null (value_list (run f (nat_of a) n))
+first_shown f zero a h = refl
+first_shown f (suc n) a h =
+    let e : a ≡ pos (nat_of a) = h (omega arith) in
+    ap (λ z. at_option (option_place z) f) (first_some n a ∙ e)
+
+first_below : (m n : ℕ) (a : ℤ) → (0 < n → (a ≡ pos (nat_of a)) × (nat_of a + n ≤ m))
+    → first_number n a <ℤ pos m
+first_below m zero a h = omega (arith, ints)
+first_below m (suc n) a h =
+    let both = h (omega arith) in
+    subst (λ z. z <ℤ pos m) (sym (first_some n a ∙ both.0)) (omega (arith, ints, both.1))
+
+pub place_below : (z : ℤ) (m k : ℕ) → z <ℤ pos m → option_place z ≡ Some k → k < m
+place_below (pos n) m k h e = let f : n ≡ k = cc in omega (arith, ints, h, f)
+place_below (negsuc n) m k h e = cc
+
+module _ (class : Class) (s t : Column) (y : Layout) (a : AreLists class s t y) where
+  abbrev number : ℕ → ℤ
+  number i = if span_length s t i == 0 then negsuc 0 else at s i
+
+  there : (i : ℕ) → i < size_of s → 0 < span_length s t i
+      → (at s i ≡ pos (place_at s i)) × (place_at s i + span_length s t i ≤ len y)
+  there i p q = start_there (len y) (at s i) (at t i) (a.spans.ordered i p) q
+
+  size-firsts : size_of (firsts_lane s t) ≡ size_of s
+  size-firsts = size-lane_of kinds.I64 (size_of s) (λ i. number i)
+
+  at-firsts : (i : ℕ) → i < size_of s → at (firsts_lane s t) i ≡ number i
+  at-firsts i p = at-lane_of kinds.I64 (size_of s) (λ k. number k) i p
+
+  pub firsts_index : IsOptionalIndex (firsts_lane s t) (len y)
+  firsts_index = record {
+    kind = tt;
+    below = λ i p.
+        let q : i < size_of s = omega (arith, p, size-firsts) in
+        subst (λ z. z <ℤ pos (len y)) (sym (at-firsts i q))
+        (first_below (len y) (span_length s t i) (at s i) (there i q));
+  }
+
+  pub firsts_fit : size_of (firsts_lane s t) < 2 ^ 63
+  firsts_fit = omega (arith, size-firsts, a.fits)
+
+  pub firsts_column : HasItems y
+      → IsColumn (opt (array_type y)) (λ i. first_or_null (items_at s t y i)) (size_of s)
+      (optional (firsts_lane s t) y)
+  firsts_column h = record {
+    valid = (firsts_fit, firsts_index, a.valid);
+    size = size-firsts;
+    typ = optional_type-is (firsts_lane s t) y;
+    items = λ i p.
+        let below : at (firsts_lane s t) i <ℤ pos (len y) =
+        firsts_index.below i (omega (arith, p, size-firsts)) in
+        optional_item (firsts_lane s t) y i h
+        (λ k e. place_below (at (firsts_lane s t) i) (len y) k below e)
+        ∙ ap (simple_value (opt (array_type y)))
+        (ap (λ z. at_option (option_place z) (array_item y)) (at-firsts i p)
+        ∙ first_shown (array_item y) (span_length s t i) (at s i) (λ q. (there i p q).0));
+  }

@@ -1,0 +1,65 @@
+-- An index over an array's items, with null where it is negative.
+use Rattle.std.specs.Prelude.{◌≡◌, ℕ, ◌+◌, ◌<◌, ◌≤◌, refl, map, get_or, Option, Some, None}
+use Rattle.std.specs.List.{AllByRecursion}
+use Rattle.std.proofs.Common.{arith, ap, sym, ◌∙◌}
+use Rattle.std.proofs.lemmas.List.{get_or-map}
+use Rattle.awk_types.specs.DataType.{DataType, opt}
+use Rattle.awk_types.specs.Has.{Has}
+use Rattle.awk_types.specs.Simple.{simple, simple_value, option_of}
+use Rattle.awk_types.specs.Value.{null, value_list}
+use Rattle.awk_types.proofs.SimpleLaws.{simple_twice, simple_is_simple, value_stays, each_stays}
+use Rattle.awk_types.proofs.SimpleLaws.{in_option_stays}
+use Rattle.awk_lanes.specs.Column.{Column}
+use Rattle.awk_lanes.specs.Places.{option_place_at}
+use Rattle.awk_layout.specs.Layout.{Layout, optional}
+use Rattle.awk_layout.specs.Item.{run, at_option}
+use Rattle.awk_layout.specs.Typing.{layout_type, array_type, array_items}
+use Rattle.awk_layout.specs.Valid.{len}
+use Rattle.awk_layout.proofs.ArrayItems.{length-array_items, get_or-array_items}
+use Rattle.awk_gather.specs.Arrays.{array_item}
+use Rattle.awk_gather.proofs.OptionItems.{item-optional}
+use Rattle.awk_columns.proofs.ArrayLaws.{run_map, run_same}
+
+-- an array whose items are of its type
+abbrev pub HasItems : Layout → Type 0
+HasItems y = AllByRecursion (Has (array_type y)) (array_items y)
+
+-- simplifying changes nothing in an array's items
+pub item_stays : (y : Layout) → HasItems y → (k : ℕ) → k < len y
+    → simple_value (array_type y) (array_item y k) ≡ array_item y k
+item_stays y h k p =
+    let t : DataType = array_type y in
+    let all : map (simple_value t) (array_items y) ≡ array_items y =
+    each_stays t (simple_value t) (λ v i. value_stays t v (simple_is_simple (layout_type y)) i)
+    (array_items y) h in
+    ap (simple_value t) (sym (get_or-array_items y k p))
+    ∙ sym (get_or-map (simple_value t) (array_items y) k null null
+    (omega (arith, p, length-array_items y)))
+    ∙ ap (λ vs. get_or vs k null) all
+    ∙ get_or-array_items y k p
+
+pub run_stays : (y : Layout) → HasItems y → (a n : ℕ) → a + n ≤ len y
+    → map (simple_value (array_type y)) (value_list (run (array_item y) a n))
+    ≡ value_list (run (array_item y) a n)
+run_stays y h a n p =
+    run_map (simple_value (array_type y)) (array_item y) a n
+    ∙ ap value_list (run_same (λ k. simple_value (array_type y) (array_item y k)) (array_item y) a n
+    (λ k _ q. item_stays y h k (omega (arith, q, p))))
+
+-- ---- with null where an index is negative
+
+pub optional_type-is : (j : Column) (y : Layout)
+    → array_type (optional j y) ≡ simple (opt (array_type y))
+optional_type-is j y = ap option_of (sym (simple_twice (layout_type y)))
+
+pub option_stays : (y : Layout) → HasItems y → (o : Option ℕ) → ((k : ℕ) → o ≡ Some k → k < len y)
+    → simple_value (opt (array_type y)) (at_option o (array_item y)) ≡ at_option o (array_item y)
+option_stays y h None b = refl
+option_stays y h (Some k) b =
+    in_option_stays (simple_value (array_type y)) (array_item y k) (item_stays y h k (b k refl))
+
+pub optional_item : (j : Column) (y : Layout) (i : ℕ) → HasItems y
+    → ((k : ℕ) → option_place_at j i ≡ Some k → k < len y)
+    → array_item (optional j y) i
+    ≡ simple_value (opt (array_type y)) (at_option (option_place_at j i) (array_item y))
+optional_item j y i h b = item-optional j y i ∙ sym (option_stays y h (option_place_at j i) b)

@@ -1,0 +1,174 @@
+-- Lists with nulls at their end, over the items that they have.
+use Rattle.std.specs.Prelude.{◌≡◌, ℕ, zero, suc, ◌+◌, ◌-◌, ◌*◌, ◌<◌, ◌≤◌, ◌^◌, nat_lt, refl}
+use Rattle.std.specs.Prelude.{true, false, Bool, List, length, map, get_or, sum, pos, negsuc}
+use Rattle.std.specs.Prelude.{◌<ℤ◌, Some, None, if◌then◌else◌}
+use Rattle.std.specs.List.{range_with_len}
+use Rattle.std.proofs.Common.{arith, ap, sym, ◌∙◌}
+use Rattle.std.proofs.lemmas.Int.{ints}
+use Rattle.std.proofs.lemmas.List.{get_or_past}
+use Rattle.std.proofs.lemmas.List.FromFn.{fill_by_all, length-map-range_with_len}
+use Rattle.std.proofs.lemmas.Simd.{map-map}
+use Rattle.awk_types.specs.DataType.{opt}
+use Rattle.awk_types.specs.Simple.{simple_value}
+use Rattle.awk_types.specs.Value.{Value, null, value_list}
+use Rattle.awk_types.specs.ItemLimit.{item_limit}
+use Rattle.awk_lanes.specs.Column.{Column}
+use Rattle.awk_lanes.specs.Places.{size_of, at, place_at, option_place}
+use Rattle.awk_lanes.specs.Places.{IsOptionalIndex}
+use Rattle.awk_layout.specs.Layout.{Layout, optional}
+use Rattle.awk_layout.specs.Item.{run, at_option}
+use Rattle.awk_layout.specs.Typing.{array_type}
+use Rattle.awk_layout.specs.Valid.{len}
+use Rattle.awk_layout.proofs.Runs.{length-run}
+use Rattle.awk_gather.specs.Arrays.{array_item}
+use Rattle.awk_columns.specs.ListClass.{Class}
+use Rattle.awk_columns.specs.ListNode.{AreEven}
+use Rattle.awk_axis.specs.Mapped.{AreGiven}
+use Rattle.awk_columns.specs.Opened.{AreLists, items_at, all_items_at}
+use Rattle.awk_axis.specs.Spoils.{too_many}
+use Rattle.awk_axis.specs.declared.causes.Spoil.TheVariants.{Size}
+use Rattle.awk_nulls.specs.PadNone.{padded, padded_length, padded_class, pad_none_function}
+use Rattle.awk_nulls.specs.Lanes.{span_length, padded_span, padded_place, padded_lane, before}
+use Rattle.awk_nulls.specs.Lanes.{offsets_by}
+use Rattle.awk_nulls.proofs.FirstLaws.{start_there, place_below}
+use Rattle.awk_nulls.proofs.OptionNodes.{HasItems, optional_type-is, optional_item}
+use Rattle.awk_nulls.proofs.PadLaws.{before-next, before_mono, place-offsets, are_offsets}
+use Rattle.awk_nulls.proofs.PadLaws.{sum-before, length-numbers, numbers-at, numbers-below}
+use Rattle.awk_nulls.proofs.Spans.{items_at-length, over_limit, within_limit}
+
+run_get : (h : ℕ → Value) (a n k : ℕ) → k < n → get_or (value_list (run h a n)) k null ≡ h (a + k)
+run_get h a zero k p = absurd (omega (arith, p))
+run_get h a (suc n) zero p = let e : a ≡ a + 0 = omega arith in ap h e
+run_get h a (suc n) (suc k) p =
+    let e : suc a + k ≡ a + suc k = omega arith in
+    run_get h (suc a) n k (omega (arith, p)) ∙ ap h e
+
+-- items by their place in the run
+run_by : (h f : ℕ → Value) (a n : ℕ) → ((j : ℕ) → j < n → h (a + j) ≡ f j)
+    → value_list (run h a n) ≡ map f (range_with_len 0 n)
+run_by h f a n e = fill_by_all f (value_list (run h a n)) n null (length-run h a n)
+    (λ k p. run_get h a n k p ∙ e k p)
+
+-- one item of a list of n items, or null past its end
+shown : (h : ℕ → Value) (start n k : ℕ) →
+    at_option (option_place (if nat_lt k n then pos (start + k) else negsuc 0)) h
+    ≡ get_or (value_list (run h start n)) k null
+shown h start n k = go (nat_lt k n) refl
+  where
+    go : (b : Bool) → nat_lt k n ≡ b
+        → at_option (option_place (if b then pos (start + k) else negsuc 0)) h
+        ≡ get_or (value_list (run h start n)) k null
+    go true e =
+        let p : k < n = grind (arith, e) in
+        sym (run_get h start n k p)
+    go false e =
+        let p : n ≤ k = grind (arith, e) in
+        sym (get_or_past (value_list (run h start n)) k null
+        (omega (arith, length-run h start n, p)))
+
+below_end : (start n k b : ℕ) → (0 < n → start + n ≤ b)
+    → (if nat_lt k n then pos (start + k) else negsuc 0) <ℤ pos b
+below_end start n k b h = go (nat_lt k n) refl
+  where
+    go : (c : Bool) → nat_lt k n ≡ c → (if c then pos (start + k) else negsuc 0) <ℤ pos b
+    go true e =
+        let p : k < n = grind (arith, e) in
+        let q = h (omega (arith, p)) in
+        omega (arith, ints, p, q)
+    go false e = omega (arith, ints)
+
+even_lists : (n : ℕ) (clip : Bool) (s t : Column) (k : ℕ)
+    → AreEven (padded_class n clip) (offsets_by (padded_span n clip s t) k) k
+even_lists n false s t k = tt
+even_lists n true s t k = λ i p. place-offsets (padded_span n true s t) k i p ∙ go i
+  where
+    go : (i : ℕ) → before (padded_span n true s t) i ≡ i * n
+    go zero = omega arith
+    go (suc i) =
+        let next : suc i * n ≡ i * n + n = grind arith in
+        omega (arith, go i, next)
+
+module _ (n : ℕ) (clip : Bool) (class : Class) (s t : Column) (y : Layout)
+    (a : AreLists class s t y) where
+  abbrev m : ℕ → ℕ
+  m = padded_span n clip s t
+
+  abbrev lane : Column
+  lane = padded_lane n clip s t
+
+  abbrev whole : ℕ
+  whole = before (padded_span n clip s t) (size_of s)
+
+  size-lane : size_of lane ≡ whole
+  size-lane = length-numbers m (padded_place s t) (size_of s)
+
+  pub padded_index : IsOptionalIndex lane (len y)
+  padded_index = record {
+    kind = tt;
+    below = λ i p. numbers-below m (padded_place s t) (pos (len y)) (size_of s)
+        (λ j k q _. below_end (place_at s j) (span_length s t j) k (len y)
+        (λ r. (start_there (len y) (at s j) (at t j) (a.spans.ordered j q) r).1)) i p;
+  }
+
+  pub padded_fits : whole ≤ item_limit → size_of lane < 2 ^ 63
+  padded_fits p = omega (arith, size-lane, p)
+
+  item_is : HasItems y → (i k : ℕ) → i < size_of s → k < m i
+      → array_item (optional lane y) (before m i + k)
+      ≡ simple_value (opt (array_type y)) (get_or (items_at s t y i) k null)
+  item_is has i k p q =
+      let z : at lane (before m i + k) ≡ padded_place s t i k =
+      numbers-at m (padded_place s t) i k (size_of s) p q in
+      let up = before_mono m (i + 1) (size_of s) (omega (arith, p)) in
+      let inside : before m i + k < size_of lane =
+      omega (arith, size-lane, up, before-next m i, q) in
+      optional_item lane y (before m i + k) has
+      (λ j e. place_below (at lane (before m i + k)) (len y) j
+      (padded_index.below (before m i + k) inside) e)
+      ∙ ap (simple_value (opt (array_type y)))
+      (ap (λ w. at_option (option_place w) (array_item y)) z
+      ∙ shown (array_item y) (place_at s i) (span_length s t i) k)
+
+  pub padded_given : HasItems y → whole ≤ item_limit
+      → AreGiven (padded_class n clip) (opt (array_type y)) (λ vs. padded n clip vs) s t y
+      (offsets_by (padded_span n clip s t) (size_of s)) (optional lane y)
+  padded_given has few = record {
+    valid = (padded_fits few, padded_index, a.valid);
+    offsets = rw size-lane (are_offsets m (size_of s) a.fits);
+    even = even_lists n clip s t (size_of s);
+    typ = optional_type-is lane y;
+    lists = λ i p.
+        let o : Column = offsets_by m (size_of s) in
+        let first : place_at o i ≡ before m i = place-offsets m (size_of s) i (omega (arith, p)) in
+        let next : place_at o (i + 1) ≡ before m i + m i =
+        place-offsets m (size_of s) (i + 1) (omega (arith, p)) ∙ before-next m i in
+        let size : place_at o (i + 1) - place_at o i ≡ m i = omega (arith, first, next) in
+        let f : ℕ → Value = λ k. get_or (items_at s t y i) k null in
+        ap (λ k. value_list (run (array_item (optional lane y)) (place_at o i) k)) size
+        ∙ ap (λ k. value_list (run (array_item (optional lane y)) k (m i))) first
+        ∙ run_by (array_item (optional lane y)) (λ k. simple_value (opt (array_type y)) (f k))
+        (before m i) (m i) (λ k q. item_is has i k p q)
+        ∙ sym (map-map (simple_value (opt (array_type y))) f (range_with_len 0 (m i)))
+        ∙ ap (λ k. map (simple_value (opt (array_type y)))
+        (map f (range_with_len 0 (padded_length n clip k)))) (sym (items_at-length s t y i));
+  }
+
+  length-padded : (i : ℕ) → length (padded n clip (items_at s t y i)) ≡ m i
+  length-padded i =
+      length-map-range_with_len (λ k. get_or (items_at s t y i) k null) 0
+      (padded_length n clip (length (items_at s t y i)))
+      ∙ ap (padded_length n clip) (items_at-length s t y i)
+
+  count_is : sum (map (λ l. length (padded n clip l)) (all_items_at s t y)) ≡ whole
+  count_is =
+      ap sum (map-map (λ (l : List Value). length (padded n clip l)) (items_at s t y)
+      (range_with_len 0 (size_of s)))
+      ∙ sum-before m (λ i. length (padded n clip (items_at s t y i))) length-padded (size_of s)
+
+  pub padded_spoilt : item_limit < whole
+      → (pad_none_function n clip).spoil (array_type y) (all_items_at s t y) ≡ Some Size
+  padded_spoilt p = ap too_many count_is ∙ over_limit whole p
+
+  pub padded_fine : whole ≤ item_limit
+      → (pad_none_function n clip).spoil (array_type y) (all_items_at s t y) ≡ None
+  padded_fine p = ap too_many count_is ∙ within_limit whole p

@@ -1,0 +1,33 @@
+use Rattle.std.proofs.Common.{◌≡◌, refl, ◌∙◌}
+use Rattle.awk_nulls.proofs.Spans.{lists_within}
+use Rattle.awk_nulls.proofs.FirstLaws.{firsts_index, firsts_fit, firsts_column}
+use Rattle.awk_nulls.proofs.first_items.FirstListOp.column.Goals as goal
+
+pub first_places-requires : goal.first_places-requires
+first_places-requires g c = record {
+  spans =
+      lists_within c.args._class c.args.starts.now c.args.stops.now c.args.content.now
+      c.requires.lists;
+}
+
+pub indexed_option-requires-clause-length : goal.indexed_option-requires-clause-length
+indexed_option-requires-clause-length g c = rw c.in_ok-places.ensures
+    (firsts_fit c.args._class c.args.starts.now c.args.stops.now c.args.content.now
+    c.requires.lists)
+
+pub indexed_option-requires-clause-valid : goal.indexed_option-requires-clause-valid
+indexed_option-requires-clause-valid g c =
+    let e : c.in_ok-items.items.value ≡ c.args.content.now =
+    c.in_ok-items.ensures.ok ∙ c.in_ok-copy.ensures ∙ c.node.ensures in
+    rw (e, c.in_ok-places.ensures) (firsts_index c.args._class c.args.starts.now c.args.stops.now
+    c.args.content.now c.requires.lists)
+
+pub returns : goal.returns
+returns g c =
+    let e : c.in_ok-items.items.value ≡ c.args.content.now =
+    c.in_ok-items.ensures.ok ∙ c.in_ok-copy.ensures ∙ c.node.ensures in (
+      refl,
+      rw (c.indexed_option.ensures.node, e, c.in_ok-places.ensures)
+          (firsts_column c.args._class c.args.starts.now c.args.stops.now c.args.content.now
+          c.requires.lists c.len.ensures.items),
+    )

@@ -1,0 +1,124 @@
+-- Lanes that are made of lists by their starts and stops, and of the indexes of options.
+use Rattle.std.specs.Prelude.{◌≡◌, ℕ, zero, suc, ◌+◌, ◌-◌, ◌==◌, ◌<◌, ◌≤◌, ◌≤ℤ◌, nat_lt, Bool, List}
+use Rattle.std.specs.Prelude.{[], ◌++◌, map, length, take, ℤ, pos, negsuc, Option, Some, None}
+use Rattle.std.specs.Prelude.{if◌then◌else◌}
+use Rattle.std.specs.List.{range_with_len}
+use Rattle.awk_types.specs.DataType.{var}
+use Rattle.awk_types.specs.Simple.{present}
+use Rattle.awk_types.specs.Value.{truth}
+use Rattle.awk_types.specs.ItemLimit.{item_limit}
+use Rattle.awk_lanes.specs.Column.{Column}
+use Rattle.awk_lanes.specs.Places.{size_of, at, place_at, option_place_at, IsIndexKind}
+use Rattle.awk_lanes.specs.declared.kind.Kind.TheVariants.{Bool as Truths, I64}
+use Rattle.awk_layout.specs.Layout.{Layout, flat}
+use Rattle.awk_layout.specs.Valid.{len, IsValid}
+use Rattle.awk_layout.specs.Typing.{array_type, array_items}
+use Rattle.awk_gather.specs.Arrays.{array_item}
+use Rattle.awk_columns.specs.Counted.{first_of, present_at}
+use Rattle.awk_gather.specs.Lanes.{lane_of}
+use Rattle.awk_columns.specs.Columns.{present_values}
+use Rattle.awk_nulls.specs.IsNone.{is_null}
+use Rattle.awk_nulls.specs.PadNone.{padded_length}
+use Rattle.awk_nulls.specs.Singletons.{single_list}
+
+-- how many items a list has
+abbrev pub span_length : Column → Column → ℕ → ℕ
+span_length s t i = place_at t i - place_at s i
+
+-- ---- nulls
+
+-- 1 for null, as a truth value lies in a lane
+abbrev pub null_number : Option ℕ → ℤ
+null_number None = pos 1
+null_number (Some k) = pos 0
+
+abbrev pub nulls_lane : Column → Column
+nulls_lane j = lane_of Truths (size_of j) (λ i. null_number (option_place_at j i))
+
+-- n times false
+abbrev pub falses_lane : ℕ → Column
+falses_lane n = lane_of Truths n (λ i. pos 0)
+
+-- a truth value for each item of an array: whether it is null
+pub record AreNulls (x : Layout) (c : Column) : Type 0 where
+  pub kind : c.kind ≡ Truths
+  pub size : size_of c ≡ len x
+  pub nulls : (i : ℕ) → i < len x → array_item (flat c) i ≡ truth (is_null (array_item x i))
+
+-- ---- first items
+
+-- where the first item of each list is, and -1 where it has none
+abbrev pub firsts_lane : Column → Column → Column
+firsts_lane s t =
+    lane_of I64 (size_of s) (λ i. if span_length s t i == 0 then negsuc 0 else at s i)
+
+-- ---- items that are present
+
+-- how many of the first items of an option are present
+abbrev pub present_lane : Column → Column
+present_lane j = lane_of I64 (size_of j + 1) (λ i. pos (length (first_of (present_at j) i)))
+
+-- the present items of an array, and how many of its first items are among them
+pub record ArePresent (x : Layout) (c : Column) (z : Layout) : Type 0 where
+  pub typ : array_type z ≡ present (array_type x)
+  pub valid : IsValid z
+  pub column : array_items z ≡ present_values (array_items x)
+  pub kind : IsIndexKind c.kind
+  pub size : size_of c ≡ len x + 1
+  pub counts : (i : ℕ) → i ≤ len x
+      → at c i ≡ pos (length (present_values (take i (array_items x))))
+
+-- a list of at most one for each item of an array
+pub record AreSingles (x w : Layout) : Type 0 where
+  pub valid : IsValid w
+  pub size : len w ≡ len x
+  pub typ : array_type w ≡ var (present (array_type x))
+  pub items : (i : ℕ) → i < len x → array_item w i ≡ single_list (array_item x i)
+
+-- ends of lists are places of a lane, where the lists have items
+pub record AreEnds (c s t ends : Column) : Type 0 where
+  pub kind : IsIndexKind ends.kind
+  pub size : size_of ends ≡ size_of s
+  pub places : (i : ℕ) → i < size_of s → 0 < span_length s t i
+      → (pos 0 ≤ℤ at ends i) × (place_at ends i < size_of c)
+
+-- the numbers of a lane at ends of lists, and 0 where a list has no items
+abbrev pub numbers_at_ends : Column → Column → Column → Column → Column
+numbers_at_ends c s t ends =
+    lane_of I64 (size_of s)
+    (λ i. if span_length s t i == 0 then pos 0 else at c (place_at ends i))
+
+-- ---- lists with nulls at their end
+
+-- how long list i becomes
+abbrev pub padded_span : ℕ → Bool → Column → Column → ℕ → ℕ
+padded_span n clip s t i = padded_length n clip (span_length s t i)
+
+-- how many items the first i lists have together, each by its length
+abbrev pub before : (ℕ → ℕ) → ℕ → ℕ
+before m zero = 0
+before m (suc i) = before m i + m i
+
+-- so many numbers for each of the first i lists, one list after another
+abbrev pub numbers_of_lists : (ℕ → ℕ) → (ℕ → ℕ → ℤ) → ℕ → List ℤ
+numbers_of_lists m h zero = []
+numbers_of_lists m h (suc i) = numbers_of_lists m h i ++ map (h i) (range_with_len 0 (m i))
+
+abbrev pub offsets_by : (ℕ → ℕ) → ℕ → Column
+offsets_by m n = lane_of I64 (n + 1) (λ i. pos (before m i))
+
+-- the place of item k of list i, and -1 past its end
+abbrev pub padded_place : Column → Column → ℕ → ℕ → ℤ
+padded_place s t i k = if nat_lt k (span_length s t i) then pos (place_at s i + k) else negsuc 0
+
+abbrev pub padded_lane : ℕ → Bool → Column → Column → Column
+padded_lane n clip s t = record {
+  kind = I64;
+  items =
+      numbers_of_lists (padded_span n clip s t) (padded_place s t) (size_of s);
+}
+
+-- the number of all items, or none where it is over the most items of a column
+abbrev pub IsTotal : ℕ → Option ℕ → Type 0
+IsTotal whole None = item_limit < whole
+IsTotal whole (Some n) = (n ≡ whole) × (n ≤ item_limit)

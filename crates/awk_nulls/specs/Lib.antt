@@ -1,0 +1,6 @@
+pub mod IsNone
+pub mod Lanes
+pub mod DropNone
+pub mod Firsts
+pub mod Singletons
+pub mod PadNone

@@ -1,0 +1,102 @@
+//! The items of an array that are not null.
+ghost use Rattle.std.specs.Prelude.{◌≡◌, ◌<◌, ◌+◌, ◌^◌, IfOk, length, pos};
+ghost use Rattle.awk_types.specs.Simple.{is_option};
+ghost use Rattle.awk_types.specs.View.{typ_of};
+ghost use Rattle.awk_lanes.specs.Places.{size_of, IsOptionKind};
+ghost use Rattle.awk_lanes.specs.declared.kind.Kind.TheVariants as Kinds;
+ghost use Rattle.awk_columns.specs.Counted.{present_at};
+ghost use Rattle.awk_gather.specs.Lanes.{lane_of};
+ghost use Rattle.awk_nulls.specs.Lanes.{present_lane, ArePresent};
+
+use awk_columns::{Opened, open_array};
+use awk_lanes::{Arena, Kind, Lane, LaneMaker, Steps, number, option_place_in};
+use awk_layout::Array;
+use awk_types::{NoMemory, Typ};
+use std::alloc::Global;
+use std::sync::ledger::Ledger;
+
+/// The items of an array that are not null.
+#[derive(Drop)]
+pub(crate) struct Present<'a> {
+    /// How many stand before each item of the array, and how many there are.
+    pub(crate) counts: Lane<'a>,
+    pub(crate) content: Array<'a>,
+}
+
+/// Whether a type is an option.
+pub(crate) fn is_optional(t: &Typ) -> bool
+    ensures { result ≡ is_option (typ_of t.now) }
+{
+    match t {
+        Typ::Opt(_) => true,
+        _ => false,
+    }
+}
+
+pub(crate) fn one_if_present<L: Ledger>(index: &Lane, i: u64, steps: &mut Steps<L>) -> u64
+    requires kind { IsOptionKind index.now.kind }
+    requires within { i < size_of index.now }
+    ensures { result ≡ length (present_at index.now i) }
+{
+    match option_place_in(index, i, steps) {
+        Some(_) => 1,
+        None => 0,
+    }
+}
+
+/// How many of the first items of an option are present: 0, then one more after each that is.
+fn present_counts<'a, L: Ledger>(
+    index: &Lane,
+    arena: &'a Arena,
+    steps: &mut Steps<L>,
+) -> Result<Lane<'a>, NoMemory>
+    requires kind { IsOptionKind index.now.kind }
+    requires fits { size_of index.now < 2 ^ 63 }
+    ensures { IfOk result (λ r. r ≡ present_lane index.now) }
+{
+    let mut maker = LaneMaker::new(Kind::I64, index.len() + 1, arena)?;
+    let mut count = 0;
+    maker.push(number(0));
+    for i in 0..index.len() {
+        count += one_if_present(index, i, steps);
+        maker.push(number(count));
+    }
+    Ok(maker.finish())
+}
+
+/// The numbers from 0 on.
+#[tactic(auto, using(awk_gather::proofs::MadeLanes::making))]
+pub(crate) fn numbers<'a>(n: u64, arena: &'a Arena) -> Result<Lane<'a>, NoMemory>
+    requires { n < 2 ^ 63 + 1 }
+    ensures { IfOk result (λ r. r ≡ lane_of Kinds.I64 n pos) }
+{
+    let mut maker = LaneMaker::new(Kind::I64, n, arena)?;
+    for i in 0..n {
+        maker.push(number(i));
+    }
+    Ok(maker.finish())
+}
+
+/// The items that are not null, in order.
+pub(crate) fn present_of<'a, L: Ledger>(
+    alloc: Global,
+    x: &Array<'a>,
+    arena: &'a Arena,
+    steps: &mut Steps<L>,
+) -> Result<Present<'a>, NoMemory>
+    ensures { IfOk result (λ r. ArePresent x.now r.counts r.content) }
+{
+    let n = x.len();
+    if !is_optional(x.typ()) {
+        let counts = numbers(n + 1, arena)?;
+        let content = x.copy(alloc)?;
+        return Ok(Present { counts, content });
+    }
+    match open_array(alloc, x, arena, steps)? {
+        Opened::Option { index, content } => {
+            let counts = present_counts(&index, arena, steps)?;
+            Ok(Present { counts, content })
+        }
+        _ => unreachable!(),
+    }
+}

@@ -1,0 +1,11 @@
+pub mod LayoutParts
+pub mod PartLimits
+pub mod UnionItems
+pub mod OpenedKinds
+pub mod OpenedArrays
+pub mod WholeLanes
+pub mod PlainNodes
+pub mod SpreadUnions
+pub mod ItemShapes
+pub mod SettledUnions
+pub mod OpenedContents

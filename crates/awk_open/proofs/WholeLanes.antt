@@ -1,0 +1,65 @@
+-- Arrays whose lanes are those of their outermost kind.
+use Rattle.std.proofs.Common.{◌≡◌, ℕ, ◌+◌, ◌-◌, ◌<◌, ◌≤◌, arith, refl, ap, sym, ◌∙◌, subst, get_or-take, get_or-drop, length-take, length-drop, drop}
+use Rattle.std.specs.Prelude.{pos, None}
+use Rattle.awk_types.specs.Limit.{limit}
+use Rattle.awk_lanes.specs.Column.{Column}
+use Rattle.awk_lanes.specs.Cut.{cut_of}
+use Rattle.awk_lanes.specs.Numbers.{element, nat_of}
+use Rattle.awk_lanes.specs.Places.{at, place_at, size_of, AreSpans, IsOffsets}
+use Rattle.awk_layout.specs.Layout.{Layout, flat, lists, offset_lists}
+use Rattle.awk_layout.specs.Valid.{len, IsValid}
+use Rattle.awk_layout.specs.Item.{run}
+use Rattle.awk_layout.specs.Typing.{array_type}
+use Rattle.awk_gather.specs.Arrays.{array_item}
+use Rattle.awk_open.specs.Opened.{IsOpened}
+use Rattle.awk_open.specs.declared.opening.Opened.TheVariants.{Leaf, Items}
+use Rattle.awk_open.proofs.OpenedKinds.{item-lists, item-offset_lists}
+use Rattle.awk_open.proofs.OpenedArrays.{lists_within, offsets_within}
+
+pub whole_leaf : (c : Column) (x : Layout) → flat c ≡ x → IsValid x → IsOpened x (Leaf c)
+whole_leaf c x e v = subst (λ (y : Layout). IsOpened y (Leaf c)) e (record { kind = refl; size = refl; valid = subst IsValid (sym e) v; columns = tt; items = λ i k. refl })
+
+pub whole_lists : (s t a b : Column) (x z : Layout) → IsValid (lists s t x) → z ≡ x → a ≡ s → b ≡ t → IsOpened (lists s t x) (Items a b z)
+whole_lists s t a b x z v e f h = rw (e, f, h) (record { kind = refl; size = refl; valid = v; columns = tt; items = λ i k. item-lists s t x i })
+
+-- ---- offsets as starts and stops
+
+size-cut : (c : Column) (lo hi : ℕ) → lo ≤ hi → hi ≤ size_of c → size_of (cut_of c lo hi) ≡ hi - lo
+size-cut c lo hi h l = omega (arith, length-take (hi - lo) (drop lo c.items), length-drop lo c.items)
+
+at-cut : (c : Column) (lo hi i : ℕ) → i < hi - lo → at (cut_of c lo hi) i ≡ at c (lo + i)
+at-cut c lo hi i h = ap (element c.kind) (get_or-take (hi - lo) (drop lo c.items) i (pos 0) h ∙ get_or-drop lo c.items i (pos 0))
+
+starts-at : (o : Column) (i : ℕ) → i + 1 < size_of o → at (cut_of o 0 (size_of o - 1)) i ≡ at o i
+starts-at o i h = let e : 0 + i ≡ i = omega arith in at-cut o 0 (size_of o - 1) i (omega arith) ∙ ap (at o) e
+
+stops-at : (o : Column) (i : ℕ) → i + 1 < size_of o → at (cut_of o 1 (size_of o)) i ≡ at o (i + 1)
+stops-at o i h = let e : 1 + i ≡ i + 1 = omega arith in at-cut o 1 (size_of o) i (omega arith) ∙ ap (at o) e
+
+spans-cut : (o : Column) (n : ℕ) → IsOffsets o n → AreSpans (cut_of o 0 (size_of o - 1)) (cut_of o 1 (size_of o)) n
+spans-cut o n v =
+    let some : 0 < size_of o = v.some in
+    let a : size_of (cut_of o 0 (size_of o - 1)) ≡ size_of o - 1 - 0 = size-cut o 0 (size_of o - 1) (omega arith) (omega arith) in
+    let b : size_of (cut_of o 1 (size_of o)) ≡ size_of o - 1 = size-cut o 1 (size_of o) (omega arith) (omega arith) in
+    record {
+      start_kind = v.kind;
+      stop_kind = v.kind;
+      same_size = omega (arith, a, b);
+      ordered = λ i k.
+          let l : i + 1 < size_of o = omega (arith, a) in
+          rw (starts-at o i l, stops-at o i l) (v.ordered i l);
+    }
+
+pub whole_offsets : (o a b : Column) (n : ℕ) (x z : Layout) → IsValid (offset_lists o x) → z ≡ x → n ≡ size_of o → a ≡ cut_of o 0 (n - 1) → b ≡ cut_of o 1 n → IsOpened (offset_lists o x) (Items a b z)
+whole_offsets o a b n x z v e m f h =
+    let some : 0 < size_of o = v.1.some in
+    let long : size_of (cut_of o 0 (size_of o - 1)) ≡ size_of o - 1 - 0 = size-cut o 0 (size_of o - 1) (omega arith) (omega arith) in
+    rw (e, f, h, m) (record {
+      kind = refl;
+      size = omega (arith, long);
+      valid = (omega (arith, long, v.0), spans-cut o (len x) v.1, v.2);
+      columns = tt;
+      items = λ i k.
+          let l : i + 1 < size_of o = omega arith in
+          rw (starts-at o i l, stops-at o i l) (item-offset_lists o x i);
+    })

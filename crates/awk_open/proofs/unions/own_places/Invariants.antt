@@ -1,0 +1,8 @@
+use Rattle.awk_lanes.specs.declared.kind.Kind.TheVariants as Kind
+use Rattle.awk_lanes.specs.Places.{size_of}
+use Rattle.awk_open.specs.Settled.{settled_index}
+use Rattle.awk_gather.proofs.MadeLanes.{IsSoFar}
+use Rattle.awk_open.proofs.unions.own_places.Given as goal
+
+abbrev pub invariant-loop-i : goal.invariant-loop-i
+invariant-loop-i g l = IsSoFar Kind.I64 (size_of l.index) (settled_index l.index) l.i l.maker

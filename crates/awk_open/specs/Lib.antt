@@ -1,0 +1,5 @@
+pub mod Plain
+pub mod Spread
+pub mod Opened
+pub mod Settled
+pub mod Inner

@@ -1,0 +1,87 @@
+//! The outermost kind of any array.
+ghost use Rattle.std.specs.Prelude.{◌≡◌, IfOk};
+ghost use Rattle.awk_types.specs.Simple.{is_union, present};
+ghost use Rattle.awk_types.specs.View.{typ_of};
+ghost use Rattle.awk_layout.specs.Typing.{array_type};
+ghost use Rattle.awk_open.specs.Inner.{IsInner, AreSized};
+ghost use Rattle.awk_open.specs.Opened.{IsOpened};
+
+use crate::opening::{Opened, is_optional, open_peeled};
+use crate::unions::{open_union, open_union_option};
+use crate::whole::opened_whole;
+use awk_lanes::{Arena, Steps};
+use awk_layout::Array;
+use awk_types::{NoMemory, Typ};
+use std::alloc::Global;
+use std::sync::ledger::Ledger;
+
+/// Whether a type is a union.
+fn is_united(t: &Typ) -> bool
+    ensures { result ≡ is_union (typ_of t.now) }
+{
+    match t {
+        Typ::Uni(_) => true,
+        _ => false,
+    }
+}
+
+/// Whether a type is a union or an option of one.
+fn has_alternatives(t: &Typ) -> bool
+    ensures { result ≡ is_union (present (typ_of t.now)) }
+{
+    match t {
+        Typ::Opt(inner) => is_united(inner),
+        _ => is_united(t),
+    }
+}
+
+/// The same of an array that is not opened as it lies.
+fn opened_other<'a, L: Ledger>(
+    alloc: Global,
+    x: &Array<'a>,
+    arena: &'a Arena,
+    steps: &mut Steps<L>,
+) -> Result<Opened<'a>, NoMemory>
+    ensures opened { IfOk result (IsOpened x.now) }
+{
+    if has_alternatives(x.typ()) {
+        if is_optional(x.typ()) {
+            open_union_option(alloc, x, arena, steps)
+        } else {
+            open_union(alloc, x, arena, steps)
+        }
+    } else {
+        open_peeled(alloc, x, arena, steps)
+    }
+}
+
+/// The same as `opened`, without what its contents are not.
+fn opened_any<'a, L: Ledger>(
+    alloc: Global,
+    x: &Array<'a>,
+    arena: &'a Arena,
+    steps: &mut Steps<L>,
+) -> Result<Opened<'a>, NoMemory>
+    ensures opened { IfOk result (IsOpened x.now) }
+{
+    match opened_whole(alloc, x, steps)? {
+        Some(kind) => Ok(kind),
+        None => opened_other(alloc, x, arena, steps),
+    }
+}
+
+/// The outermost kind of an array, with lanes and contents in which its items are.
+pub fn opened<'a, L: Ledger>(
+    alloc: Global,
+    x: &Array<'a>,
+    arena: &'a Arena,
+    steps: &mut Steps<L>,
+) -> Result<Opened<'a>, NoMemory>
+    ensures opened { IfOk result (IsOpened x.now) }
+    ensures inner { IfOk result IsInner }
+    ensures sizes { IfOk result (AreSized (array_type x.now)) }
+{
+    let _ = x.typ();
+    let _ = x.len();
+    opened_any(alloc, x, arena, steps)
+}
