@@ -10,7 +10,7 @@ use awk_lanes::{Arena, Kind, Lane, LaneMaker, NoMemory, Num, Steps, number, opti
 use std::sync::ledger::Ledger;
 
 /// 1 where there is a place, else 0.
-pub(crate) fn one_if(place: Option<u64>) -> u64
+pub fn one_if(place: Option<u64>) -> u64
     ensures { result ≡ length (present_place place) }
 {
     match place {
@@ -21,7 +21,7 @@ pub(crate) fn one_if(place: Option<u64>) -> u64
 
 /// How many items the index of an option names.
 #[tactic(auto, using(crate::proofs::FirstPlaces::counting))]
-pub(crate) fn count_present<L: Ledger>(index: &Lane, steps: &mut Steps<L>) -> u64
+pub fn count_present<L: Ledger>(index: &Lane, steps: &mut Steps<L>) -> u64
     requires kind { IsOptionKind index.now.kind }
     ensures { result ≡ length (first_of (present_at index.now) (size_of index.now)) }
 {
@@ -48,7 +48,7 @@ fn next_number<L: Ledger>(index: &Lane, i: u64, next: u64, steps: &mut Steps<L>)
 
 /// The index of an option over the present items alone: it counts up, and is -1 for each null.
 #[tactic(auto, using(awk_gather::proofs::MadeLanes::making))]
-pub(crate) fn counted<'a, L: Ledger>(
+pub fn counted<'a, L: Ledger>(
     index: &Lane,
     arena: &'a Arena,
     steps: &mut Steps<L>,
@@ -69,7 +69,7 @@ pub(crate) fn counted<'a, L: Ledger>(
 }
 
 /// The places of the items that the index of an option names, of which there are n.
-pub(crate) fn present_lane<'a, L: Ledger>(
+pub fn present_lane<'a, L: Ledger>(
     index: &Lane,
     n: u64,
     arena: &'a Arena,

@@ -40,7 +40,7 @@ fn span_of<L: Ledger>(starts: &Lane, stops: &Lane, i: u64, steps: &mut Steps<L>)
 }
 
 /// How many items lists have together, or none where they are more than a column has.
-pub(crate) fn total<L: Ledger>(starts: &Lane, stops: &Lane, steps: &mut Steps<L>) -> Option<u64>
+pub fn total<L: Ledger>(starts: &Lane, stops: &Lane, steps: &mut Steps<L>) -> Option<u64>
     requires spans { AreSpans starts.now stops.now (2 ^ 63 - 1) }
     ensures { IsTotal starts.now stops.now result }
 {
@@ -56,7 +56,7 @@ pub(crate) fn total<L: Ledger>(starts: &Lane, stops: &Lane, steps: &mut Steps<L>
 }
 
 /// Offsets of lists as long as these, one after another from 0 on.
-pub(crate) fn offsets<'a, L: Ledger>(
+pub fn offsets<'a, L: Ledger>(
     starts: &Lane,
     stops: &Lane,
     arena: &'a Arena,
@@ -80,7 +80,7 @@ pub(crate) fn offsets<'a, L: Ledger>(
 }
 
 /// The places of the items of lists, of which there are n.
-pub(crate) fn span_lane<'a, L: Ledger>(
+pub fn span_lane<'a, L: Ledger>(
     starts: &Lane,
     stops: &Lane,
     n: u64,
@@ -137,7 +137,7 @@ fn is_row<L: Ledger>(starts: &Lane, stops: &Lane, first: u64, steps: &mut Steps<
 }
 
 /// Where the items of lists begin, if they lie in a row among n items.
-pub(crate) fn row_start<L: Ledger>(
+pub fn row_start<L: Ledger>(
     starts: &Lane,
     stops: &Lane,
     total: u64,

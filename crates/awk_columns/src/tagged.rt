@@ -25,7 +25,7 @@ fn tagged<L: Ledger>(tags: &Lane, index: &Lane, a: u64, i: u64, steps: &mut Step
 }
 
 /// How many items are of alternative a.
-pub(crate) fn count_tagged<L: Ledger>(
+pub fn count_tagged<L: Ledger>(
     tags: &Lane,
     index: &Lane,
     a: u64,
@@ -42,7 +42,7 @@ pub(crate) fn count_tagged<L: Ledger>(
 }
 
 /// The places of the items of alternative a, of which there are n.
-pub(crate) fn tagged_lane<'a, L: Ledger>(
+pub fn tagged_lane<'a, L: Ledger>(
     tags: &Lane,
     index: &Lane,
     a: u64,
@@ -79,7 +79,7 @@ fn count_one(counts: &mut Vec<u64>, tag: usize) -> u64
 
 /// The index of a union over the items of each alternative alone: it counts up for each.
 #[tactic(auto, using(awk_gather::proofs::MadeLanes::making))]
-pub(crate) fn counted_union<'a, L: Ledger>(
+pub fn counted_union<'a, L: Ledger>(
     alloc: Global,
     tags: &Lane,
     index: &Lane,

@@ -59,7 +59,7 @@ fn run_start<L: Ledger>(places: &Lane, n: u64, steps: &mut Steps<L>) -> Option<u
 }
 
 /// The items of an array at places: cut from it where they lie in a row, gathered else.
-pub(crate) fn taken<'a, L: Ledger>(
+pub fn taken<'a, L: Ledger>(
     alloc: Global,
     x: &Array<'a>,
     places: &Lane<'a>,

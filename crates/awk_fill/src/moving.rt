@@ -182,7 +182,7 @@ fn nodes_in<'a, L: Ledger>(
 }
 
 /// The same array.
-pub(crate) fn array_in<'a, L: Ledger>(
+pub fn array_in<'a, L: Ledger>(
     alloc: Global,
     x: &Array,
     arena: &'a Arena,

@@ -10,7 +10,7 @@ ghost use Rattle.awk_layout.specs.Typing.{array_type, array_datum};
 ghost use Rattle.awk_layout.specs.Valid.{len};
 ghost use Rattle.awk_gather.specs.Arrays.{IsGathered, IsGatheredOpt, picked_or_null, index_over};
 
-use crate::peel::gather_opt_node;
+use crate::peeling::gather_opt_node;
 use crate::pick::gather_outer;
 use awk_lanes::{Arena, Lane, Steps};
 use awk_layout::{Array, Node};
@@ -20,7 +20,7 @@ use std::sync::ledger::Ledger;
 
 /// The array of a node whose type passes no limit.
 #[tactic(auto, using(crate::proofs::GatheredArrays::refusals))]
-pub(crate) fn array_within<'a>(alloc: Global, node: Node<'a>) -> Result<Array<'a>, NoMemory>
+pub fn array_within<'a>(alloc: Global, node: Node<'a>) -> Result<Array<'a>, NoMemory>
     requires { limit (array_type node) ≡ None }
     ensures { IfOk result (λ array. array ≡ node.entry) }
 {

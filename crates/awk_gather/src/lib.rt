@@ -5,11 +5,11 @@ mod arrays;
 mod follow;
 mod lanes_at;
 mod moved;
-mod peel;
+mod peeling;
 mod pick;
 mod rows;
 
 pub use arrays::{array_within, gather, gather_opt};
 pub use lanes_at::{gather_lane, next_lane};
-pub use peel::{Peeled, peel};
+pub use peeling::{Peeled, peel};
 pub use pick::gather_node;

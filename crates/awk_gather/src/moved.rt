@@ -39,7 +39,7 @@ fn groups_past<'a, const W: usize>(
 }
 
 /// The numbers of W bytes so far past those at places.
-pub(crate) fn move_past<'a, const W: usize, L: Ledger>(
+pub fn move_past<'a, const W: usize, L: Ledger>(
     lane: &Lane,
     places: &Lane,
     distance: usize,
@@ -81,7 +81,7 @@ fn narrow_groups<'a>(places: &[[u8; 8]], arena: &'a Arena) -> Result<&'a [[u8; 4
 }
 
 /// Places below 2^32 in 32 bits.
-pub(crate) fn narrowed<'a, L: Ledger>(
+pub fn narrowed<'a, L: Ledger>(
     places: &Lane,
     arena: &'a Arena,
     steps: &mut Steps<L>,

@@ -205,7 +205,7 @@ fn pick_union<'a, L: Ledger>(
 /// The items at places.
 #[cycle(gather_node)]
 #[tactic(auto, using(crate::proofs::PickedNodes::picks))]
-pub(crate) fn gather_node<'a, L: Ledger>(
+pub fn gather_node<'a, L: Ledger>(
     alloc: Global,
     x: &Node<'a>,
     places: &Lane<'a>,
@@ -272,7 +272,7 @@ fn is_record(x: &Node) -> bool
 }
 
 /// The items at places of a whole array's node: of a record by an index alone.
-pub(crate) fn gather_outer<'a, L: Ledger>(
+pub fn gather_outer<'a, L: Ledger>(
     alloc: Global,
     x: &Node<'a>,
     places: &Lane<'a>,

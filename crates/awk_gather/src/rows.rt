@@ -32,7 +32,7 @@ fn index_of_places<'a, L: Ledger>(
 }
 
 /// An index directly over a copy of the node.
-pub(crate) fn gather_rows<'a, L: Ledger>(
+pub fn gather_rows<'a, L: Ledger>(
     alloc: Global,
     x: &Node<'a>,
     places: &Lane<'a>,

@@ -67,7 +67,7 @@ fn bytes_of<'a, L: Ledger>(
 }
 
 /// The items of an array where a mask of single truth values is the one that is kept.
-pub(crate) fn masked_items<'a, L: Ledger>(
+pub fn masked_items<'a, L: Ledger>(
     alloc: Global,
     x: &Array<'a>,
     m: &Array<'a>,

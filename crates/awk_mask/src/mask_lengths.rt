@@ -28,7 +28,7 @@ struct Lists<'a> {
     content: Array<'a>,
 }
 
-pub(crate) fn is_list(t: &Typ) -> bool
+pub fn is_list(t: &Typ) -> bool
     ensures { result ≡ lists.is_list (typ_of t.now) }
 {
     match t {
@@ -38,7 +38,7 @@ pub(crate) fn is_list(t: &Typ) -> bool
 }
 
 /// Whether a type is of lists, optional or not.
-pub(crate) fn has_lists(t: &Typ) -> bool
+pub fn has_lists(t: &Typ) -> bool
     ensures { result ≡ lists.has_lists (typ_of t.now) }
 {
     match t {
@@ -122,7 +122,7 @@ fn items_in<'a, L: Ledger>(
 
 /// Whether a list of a mask and the list under it have unequal lengths at some level.
 #[cycle(unequal)]
-pub(crate) fn unequal<'a, L: Ledger>(
+pub fn unequal<'a, L: Ledger>(
     alloc: Global,
     x: &Array<'a>,
     m: &Array<'a>,

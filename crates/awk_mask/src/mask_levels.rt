@@ -19,7 +19,7 @@ use std::sync::ledger::Ledger;
 
 /// What is over items.
 #[derive(Drop)]
-pub(crate) enum Over<'a> {
+pub enum Over<'a> {
     /// An index with nulls.
     Nulls(Lane<'a>),
     Lists {
@@ -31,7 +31,7 @@ pub(crate) enum Over<'a> {
 
 /// The outermost level of an array and of a mask over it.
 #[derive(Drop)]
-pub(crate) enum Level<'a> {
+pub enum Level<'a> {
     /// The mask is of single truth values.
     Innermost,
     /// The lists have too many items together.
@@ -189,7 +189,7 @@ fn lists_of_both<'a, L: Ledger>(
 }
 
 /// The outermost level of an array and of a mask over it.
-pub(crate) fn level_of<'a, L: Ledger>(
+pub fn level_of<'a, L: Ledger>(
     alloc: Global,
     x: &Array<'a>,
     m: &Array<'a>,

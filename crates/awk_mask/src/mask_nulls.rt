@@ -36,7 +36,7 @@ fn stops_where<'a, L: Ledger>(
 }
 
 /// The items at the places where an index is not null.
-pub(crate) fn items_where<'a, L: Ledger>(
+pub fn items_where<'a, L: Ledger>(
     alloc: Global,
     x: &Array<'a>,
     index: &Lane,

@@ -17,7 +17,7 @@ fn is_unknown(t: &Typ) -> bool
 
 /// Whether items of type u are a mask over items of type t.
 #[cycle(masks)]
-pub(crate) fn masks(u: &Typ, t: &Typ) -> bool
+pub fn masks(u: &Typ, t: &Typ) -> bool
     ensures { result ≡ spec.masks (typ_of u.now) (typ_of t.now) }
 {
     match u {
@@ -52,7 +52,7 @@ fn masks_items(u: &Typ, t: &Typ) -> bool
 
 /// The type of items of type t where a mask of type u is over them.
 #[cycle(masked)]
-pub(crate) fn masked_type(alloc: Global, u: &Typ, t: &Typ) -> Result<Typ, NoMemory>
+pub fn masked_type(alloc: Global, u: &Typ, t: &Typ) -> Result<Typ, NoMemory>
     ensures { IfOk result (λ r. typ_of r ≡ spec.masked_type (typ_of u.now) (typ_of t.now)) }
 {
     match u {

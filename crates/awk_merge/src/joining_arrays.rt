@@ -17,7 +17,7 @@ use std::alloc::Global;
 use std::sync::ledger::Ledger;
 
 /// One array of a type, with the carried items of columns one after another.
-pub(crate) fn merged<'a, L: Ledger>(
+pub fn merged<'a, L: Ledger>(
     alloc: Global,
     typ: &Typ,
     sides: &Sides<'a>,
@@ -35,7 +35,7 @@ pub(crate) fn merged<'a, L: Ledger>(
 }
 
 /// The same, or `Size` where the items are too many.
-pub(crate) fn joined_arrays<'a, L: Ledger>(
+pub fn joined_arrays<'a, L: Ledger>(
     alloc: Global,
     typ: &Typ,
     sides: &Sides<'a>,

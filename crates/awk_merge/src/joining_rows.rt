@@ -368,7 +368,7 @@ fn rows_of<'a, L: Ledger>(
 
 /// The rows of k columns of n lists each, one column after another, joined. `Size` tells that their
 /// items are too many together.
-pub(crate) fn joined_rows<'a, L: Ledger>(
+pub fn joined_rows<'a, L: Ledger>(
     alloc: Global,
     typ: &Typ,
     n: u64,

@@ -24,7 +24,7 @@ pub enum Axis {
 }
 
 /// What a number is as an axis.
-pub(crate) fn axis_at(axis: i64) -> Option<Axis>
+pub fn axis_at(axis: i64) -> Option<Axis>
     ensures { result ≡ axis_of axis }
 {
     match axis {
@@ -77,7 +77,7 @@ fn operand_typ(alloc: Global, axis: Axis, x: &Datum) -> Result<Option<Typ>, NoMe
 }
 
 /// What the items of all operands are joined as, if they are.
-pub(crate) fn operand_typs(alloc: Global, axis: Axis, xs: &Datums) -> Result<Option<Typs>, NoMemory>
+pub fn operand_typs(alloc: Global, axis: Axis, xs: &Datums) -> Result<Option<Typs>, NoMemory>
     ensures types { let said = spec.operand_types axis (map datum_of xs.now) in
         IfOk result (λ ts. option_map typs_of ts ≡ said) }
     ensures lawful { IfOk result (λ ts. IfSome ts (λ us. AreLawful (typs_of us))) }
@@ -93,7 +93,7 @@ pub(crate) fn operand_typs(alloc: Global, axis: Axis, xs: &Datums) -> Result<Opt
 }
 
 /// The array of an operand.
-pub(crate) fn array_in<'a, 'b>(x: &'b Datum<'a>) -> &'b Array<'a>
+pub fn array_in<'a, 'b>(x: &'b Datum<'a>) -> &'b Array<'a>
     ensures { result.now ≡ array_in x.now }
 {
     match x {
@@ -102,7 +102,7 @@ pub(crate) fn array_in<'a, 'b>(x: &'b Datum<'a>) -> &'b Array<'a>
 }
 
 /// The columns of operands, each with its lift.
-pub(crate) fn operand_sides<'a>(
+pub fn operand_sides<'a>(
     alloc: Global,
     xs: &Datums<'a>,
     whole: &UnifiedAll,

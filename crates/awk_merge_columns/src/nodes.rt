@@ -17,7 +17,7 @@ use std::alloc::Global;
 use std::sync::ledger::Ledger;
 
 /// The only column, where its values are of the type and stay.
-pub(crate) fn only<'a>(
+pub fn only<'a>(
     alloc: Global,
     t: &Typ,
     sides: &Sides<'a>,
@@ -35,7 +35,7 @@ pub(crate) fn only<'a>(
 }
 
 /// A node without items, as no column has an item of unknown type.
-pub(crate) fn nothing<'a, L: Ledger>(sides: &Sides<'a>, steps: &mut Steps<L>) -> Node<'a>
+pub fn nothing<'a, L: Ledger>(sides: &Sides<'a>, steps: &mut Steps<L>) -> Node<'a>
     requires { AreSides unknown (sides_of sides.now) }
     ensures { IsMerged unknown (sides_of sides.now) result }
 {
@@ -47,7 +47,7 @@ pub(crate) fn nothing<'a, L: Ledger>(sides: &Sides<'a>, steps: &mut Steps<L>) ->
 }
 
 /// The items at an index, and null at each negative number of it.
-pub(crate) fn option_node<'a, L: Ledger>(
+pub fn option_node<'a, L: Ledger>(
     alloc: Global,
     index: Lane<'a>,
     content: Node<'a>,
@@ -62,7 +62,7 @@ pub(crate) fn option_node<'a, L: Ledger>(
 }
 
 /// Lists from their starts below their stops.
-pub(crate) fn list_node<'a, L: Ledger>(
+pub fn list_node<'a, L: Ledger>(
     alloc: Global,
     starts: Lane<'a>,
     stops: Lane<'a>,
@@ -78,7 +78,7 @@ pub(crate) fn list_node<'a, L: Ledger>(
 }
 
 /// So many lists of one length.
-pub(crate) fn regular_node<'a, L: Ledger>(
+pub fn regular_node<'a, L: Ledger>(
     alloc: Global,
     size: u64,
     n: u64,
@@ -94,7 +94,7 @@ pub(crate) fn regular_node<'a, L: Ledger>(
 }
 
 /// So many records or tuples of a type.
-pub(crate) fn row_node<'a, L: Ledger>(
+pub fn row_node<'a, L: Ledger>(
     alloc: Global,
     t: &Typ,
     n: u64,

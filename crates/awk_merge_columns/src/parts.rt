@@ -8,7 +8,7 @@ use awk_types::Typ;
 
 /// The type of the part or alternative at a place.
 #[tactic(auto, using(crate::proofs::PartTypeLaws::part_laws))]
-pub(crate) fn part_type(t: &Typ, j: usize) -> &Typ
+pub fn part_type(t: &Typ, j: usize) -> &Typ
     requires within { j < length (part_types (typ_of t.now)) }
     ensures item { slice_get (part_types (typ_of t.now)) j ≡ Some (typ_of result.now) }
     ensures below { size-Typ result.now < size-Typ t.now }

@@ -1,8 +1,8 @@
 //! Leaves and lists of columns that are merged.
 #![tactic(auto)]
 
+mod leaves;
 mod lists;
-mod numbers;
 
+pub use leaves::numbers;
 pub use lists::{list_level, regular_level};
-pub use numbers::numbers;

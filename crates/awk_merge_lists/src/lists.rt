@@ -11,21 +11,20 @@ ghost use Rattle.awk_merge_lists.specs.Lists.{IsListType, HoldsLists, HoldsItems
 ghost use Rattle.awk_merge_lists.specs.Lists.{PutsLists, moved_places, with_numbers};
 ghost use Rattle.awk_merge_sides.specs.Sides.{sides_of, AreSides, IsCounted};
 
-use awk_merge_sides::items_lift;
-use awk_merge_sides::{Side, Sides};
 use awk_columns::{Joined, Opened, join_spans, open_array};
 use awk_lanes::{Arena, Kind, Lane, LaneMaker, Steps, index_at, number, to_option_place};
 use awk_layout::Array;
+use awk_merge_sides::{Side, Sides, items_lift};
 use awk_types::NoMemory;
 use std::alloc::{AllocError, Global};
 use std::sync::ledger::Ledger;
 
 /// Where lists lie among the items of all, and the columns of their items.
 #[derive(Drop)]
-pub(crate) struct ListLevel<'a> {
-    pub(crate) starts: Lane<'a>,
-    pub(crate) stops: Lane<'a>,
-    pub(crate) sides: Sides<'a>,
+pub struct ListLevel<'a> {
+    pub starts: Lane<'a>,
+    pub stops: Lane<'a>,
+    pub sides: Sides<'a>,
 }
 
 /// Lists over what holds their items: the items alone, or the whole content where the lists are
@@ -141,7 +140,7 @@ impl<'a> ListMaker<'a> {
 }
 
 /// The lists of all columns.
-pub(crate) fn list_level<'a, L: Ledger>(
+pub fn list_level<'a, L: Ledger>(
     alloc: Global,
     sides: &Sides<'a>,
     arena: &'a Arena,
@@ -198,7 +197,7 @@ fn items_of<'a, L: Ledger>(
 }
 
 /// The columns of the items of lists of one length.
-pub(crate) fn regular_level<'a, L: Ledger>(
+pub fn regular_level<'a, L: Ledger>(
     alloc: Global,
     sides: &Sides<'a>,
     arena: &'a Arena,

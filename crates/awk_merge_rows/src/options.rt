@@ -21,9 +21,9 @@ use std::sync::ledger::Ledger;
 
 /// Where the present items of columns lie among those of all, and their columns.
 #[derive(Drop)]
-pub(crate) struct OptionLevel<'a> {
-    pub(crate) index: Lane<'a>,
-    pub(crate) sides: Sides<'a>,
+pub struct OptionLevel<'a> {
+    pub index: Lane<'a>,
+    pub sides: Sides<'a>,
 }
 
 /// So many places from a first one on.
@@ -135,7 +135,7 @@ fn put_side<'a, L: Ledger>(
 }
 
 /// The columns without their nulls, and an index into all their items.
-pub(crate) fn option_level<'a, L: Ledger>(
+pub fn option_level<'a, L: Ledger>(
     alloc: Global,
     sides: &Sides<'a>,
     arena: &'a Arena,

@@ -157,7 +157,7 @@ fn count(t: &Typ) -> usize
 }
 
 /// The columns of each part of rows of a type.
-pub(crate) fn row_level<'a, L: Ledger>(
+pub fn row_level<'a, L: Ledger>(
     alloc: Global,
     t: &Typ,
     sides: &Sides<'a>,

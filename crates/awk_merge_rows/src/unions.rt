@@ -35,10 +35,10 @@ use std::sync::ledger::Ledger;
 /// Of which alternative each item is and where it lies among the items of that, and the columns of
 /// each alternative.
 #[derive(Drop)]
-pub(crate) struct UnionLevel<'a> {
-    pub(crate) tags: Lane<'a>,
-    pub(crate) index: Lane<'a>,
-    pub(crate) groups: Groups<'a>,
+pub struct UnionLevel<'a> {
+    pub tags: Lane<'a>,
+    pub index: Lane<'a>,
+    pub groups: Groups<'a>,
 }
 
 /// The tags and the places that are made.
@@ -260,7 +260,7 @@ fn put_side<'a, L: Ledger>(
 }
 
 /// The items of all columns as those of a union of these alternatives.
-pub(crate) fn union_level<'a, L: Ledger>(
+pub fn union_level<'a, L: Ledger>(
     alloc: Global,
     alternatives: &Typs,
     sides: &Sides<'a>,

@@ -22,7 +22,7 @@ fn lift_at(alloc: Global, lifts: &Lifts, k: u64) -> Result<Lift, NoMemory>
 }
 
 /// How the items of a list are carried.
-pub(crate) fn items_lift(alloc: Global, f: &Lift) -> Result<Lift, NoMemory>
+pub fn items_lift(alloc: Global, f: &Lift) -> Result<Lift, NoMemory>
     ensures { IfOk result (λ g. lift_of g ≡ items_carry (lift_of f.now)) }
 {
     match f {
@@ -32,7 +32,7 @@ pub(crate) fn items_lift(alloc: Global, f: &Lift) -> Result<Lift, NoMemory>
 }
 
 /// The part of a row that goes to a place, if one does.
-pub(crate) fn part_source(f: &Lift, j: u64) -> Option<u64>
+pub fn part_source(f: &Lift, j: u64) -> Option<u64>
     ensures { result ≡ part_source (lift_of f.now) j }
 {
     match f {
@@ -54,7 +54,7 @@ fn source_at(places: &Places, parts: &Lifts, j: u64) -> Option<u64>
 }
 
 /// How a part of a row is carried.
-pub(crate) fn part_lift(alloc: Global, f: &Lift, k: u64) -> Result<Lift, NoMemory>
+pub fn part_lift(alloc: Global, f: &Lift, k: u64) -> Result<Lift, NoMemory>
     ensures { IfOk result (λ g. lift_of g ≡ part_carry (lift_of f.now) k) }
 {
     match f {
@@ -64,7 +64,7 @@ pub(crate) fn part_lift(alloc: Global, f: &Lift, k: u64) -> Result<Lift, NoMemor
 }
 
 /// The tag that an alternative gets.
-pub(crate) fn alternative_tag(f: &Lift, k: u64) -> u64
+pub fn alternative_tag(f: &Lift, k: u64) -> u64
     ensures { result ≡ alternative_tag (lift_of f.now) k }
 {
     match f {
@@ -74,7 +74,7 @@ pub(crate) fn alternative_tag(f: &Lift, k: u64) -> u64
 }
 
 /// How the values of an alternative are carried.
-pub(crate) fn alternative_lift(alloc: Global, f: &Lift, k: u64) -> Result<Lift, NoMemory>
+pub fn alternative_lift(alloc: Global, f: &Lift, k: u64) -> Result<Lift, NoMemory>
     ensures { IfOk result (λ g. lift_of g ≡ alternative_carry (lift_of f.now) k) }
 {
     match f {

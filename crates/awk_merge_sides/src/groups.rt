@@ -13,13 +13,13 @@ use std::alloc::Global;
 
 /// Groups of columns, in order.
 #[derive(Drop)]
-pub(crate) struct Groups<'a> {
+pub struct Groups<'a> {
     groups: Vec<Sides<'a>>,
 }
 
 impl<'a> Groups<'a> {
     /// So many groups without columns.
-    pub(crate) fn new(alloc: Global, n: usize) -> Result<Groups<'a>, NoMemory>
+    pub fn new(alloc: Global, n: usize) -> Result<Groups<'a>, NoMemory>
         ensures groups { IfOk result (λ g. groups_of g ≡ replicate n []) }
         ensures counted { IfOk result AreCounted }
     {
@@ -31,7 +31,7 @@ impl<'a> Groups<'a> {
     }
 
     /// Puts a column at the end of a group, unless it has no items.
-    pub(crate) fn push(
+    pub fn push(
         &mut self,
         alloc: Global,
         j: usize,
@@ -48,14 +48,14 @@ impl<'a> Groups<'a> {
     }
 
     /// How many groups there are.
-    pub(crate) fn len(&self) -> usize
+    pub fn len(&self) -> usize
         ensures { result ≡ length (groups_of self.now) }
     {
         self.groups.len()
     }
 
     /// The group at a place.
-    pub(crate) fn get(&self, j: usize) -> &Sides<'a>
+    pub fn get(&self, j: usize) -> &Sides<'a>
         requires within { j < length (groups_of self.now) }
         requires counted { AreCounted self.now }
         ensures group { slice_get (groups_of self.now) j ≡ Some (sides_of result.now) }

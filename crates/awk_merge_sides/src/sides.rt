@@ -11,8 +11,8 @@ use std::alloc::{AllocError, Global};
 /// A column, and how its values become values of another type.
 #[derive(Drop)]
 pub struct Side<'a> {
-    pub(crate) column: Array<'a>,
-    pub(crate) lift: Lift,
+    pub column: Array<'a>,
+    pub lift: Lift,
 }
 
 /// Columns in order, each with how its values become values of one type. A column without items is
@@ -58,21 +58,21 @@ impl<'a> Sides<'a> {
     }
 
     /// How many columns there are.
-    pub(crate) fn len(&self) -> usize
+    pub fn len(&self) -> usize
         ensures { result ≡ length (sides_of self.now) }
     {
         self.sides.len()
     }
 
     /// How many items they have together.
-    pub(crate) fn total(&self) -> u64
+    pub fn total(&self) -> u64
         ensures { result ≡ self.now.total }
     {
         self.total
     }
 
     /// The column at a place.
-    pub(crate) fn get(&self, i: usize) -> &Side<'a>
+    pub fn get(&self, i: usize) -> &Side<'a>
         requires { i < length (sides_of self.now) }
         ensures { slice_get (sides_of self.now) i ≡ Some (side_of result.now) }
     {

@@ -17,14 +17,14 @@ use std::sync::ledger::Ledger;
 
 /// The items of an array that are not null.
 #[derive(Drop)]
-pub(crate) struct Present<'a> {
+pub struct Present<'a> {
     /// How many stand before each item of the array, and how many there are.
-    pub(crate) counts: Lane<'a>,
-    pub(crate) content: Array<'a>,
+    pub counts: Lane<'a>,
+    pub content: Array<'a>,
 }
 
 /// Whether a type is an option.
-pub(crate) fn is_optional(t: &Typ) -> bool
+pub fn is_optional(t: &Typ) -> bool
     ensures { result ≡ is_option (typ_of t.now) }
 {
     match t {
@@ -33,7 +33,7 @@ pub(crate) fn is_optional(t: &Typ) -> bool
     }
 }
 
-pub(crate) fn one_if_present<L: Ledger>(index: &Lane, i: u64, steps: &mut Steps<L>) -> u64
+pub fn one_if_present<L: Ledger>(index: &Lane, i: u64, steps: &mut Steps<L>) -> u64
     requires kind { IsOptionKind index.now.kind }
     requires within { i < size_of index.now }
     ensures { result ≡ length (present_at index.now i) }
@@ -66,7 +66,7 @@ fn present_counts<'a, L: Ledger>(
 
 /// The numbers from 0 on.
 #[tactic(auto, using(awk_gather::proofs::MadeLanes::making))]
-pub(crate) fn numbers<'a>(n: u64, arena: &'a Arena) -> Result<Lane<'a>, NoMemory>
+pub fn numbers<'a>(n: u64, arena: &'a Arena) -> Result<Lane<'a>, NoMemory>
     requires { n < 2 ^ 63 + 1 }
     ensures { IfOk result (λ r. r ≡ lane_of Kinds.I64 n pos) }
 {
@@ -78,7 +78,7 @@ pub(crate) fn numbers<'a>(n: u64, arena: &'a Arena) -> Result<Lane<'a>, NoMemory
 }
 
 /// The items that are not null, in order.
-pub(crate) fn present_of<'a, L: Ledger>(
+pub fn present_of<'a, L: Ledger>(
     alloc: Global,
     x: &Array<'a>,
     arena: &'a Arena,

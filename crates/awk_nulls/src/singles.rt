@@ -21,7 +21,7 @@ use std::alloc::Global;
 use std::sync::ledger::Ledger;
 
 /// A type without its option.
-pub(crate) fn present_typ(alloc: Global, t: &Typ) -> Result<Typ, NoMemory>
+pub fn present_typ(alloc: Global, t: &Typ) -> Result<Typ, NoMemory>
     ensures { IfOk result (λ u. typ_of u ≡ present (typ_of t.now)) }
 {
     match t {

@@ -57,7 +57,7 @@ pub enum Opened<'a> {
 
 /// The first n places.
 #[tactic(auto, using(awk_gather::proofs::MadeLanes::making))]
-pub(crate) fn firsts<'a>(n: u64, arena: &'a Arena) -> Result<Lane<'a>, NoMemory>
+pub fn firsts<'a>(n: u64, arena: &'a Arena) -> Result<Lane<'a>, NoMemory>
     requires { n < 2 ^ 63 }
     ensures lane { IfOk result (λ r. r ≡ lane_of Kind.I64 n pos) }
 {
@@ -287,7 +287,7 @@ fn open_plain<'a, L: Ledger>(
 }
 
 /// Whether a type is an option.
-pub(crate) fn is_optional(t: &Typ) -> bool
+pub fn is_optional(t: &Typ) -> bool
     ensures { result ≡ is_option (typ_of t.now) }
 {
     match t {
@@ -297,7 +297,7 @@ pub(crate) fn is_optional(t: &Typ) -> bool
 }
 
 /// The outermost kind of an array whose type is no union and no option of one.
-pub(crate) fn open_peeled<'a, L: Ledger>(
+pub fn open_peeled<'a, L: Ledger>(
     alloc: Global,
     x: &Array<'a>,
     arena: &'a Arena,

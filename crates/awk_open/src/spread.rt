@@ -20,10 +20,10 @@ use std::sync::ledger::Ledger;
 
 /// Alternatives, and the tag and the place of each item. A null has a negative place.
 #[derive(Drop)]
-pub(crate) struct Spread<'a> {
-    pub(crate) tags: Lane<'a>,
-    pub(crate) index: Lane<'a>,
-    pub(crate) contents: Nodes<'a>,
+pub struct Spread<'a> {
+    pub tags: Lane<'a>,
+    pub index: Lane<'a>,
+    pub contents: Nodes<'a>,
 }
 
 /// A lane of one number again and again.
@@ -285,7 +285,7 @@ fn keep_one<'a>(
 
 /// The alternatives of a node, and where each item lies in them.
 #[cycle(spread)]
-pub(crate) fn alternatives<'a, L: Ledger>(
+pub fn alternatives<'a, L: Ledger>(
     alloc: Global,
     x: &Node<'a>,
     index: Lane<'a>,

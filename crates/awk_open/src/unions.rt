@@ -268,7 +268,7 @@ fn arrays_within<'a>(alloc: Global, xs: &Nodes<'a>) -> Result<Arrays<'a>, NoMemo
 }
 
 /// The tags, the places and the alternatives of an array whose type is a union.
-pub(crate) fn open_union<'a, L: Ledger>(
+pub fn open_union<'a, L: Ledger>(
     alloc: Global,
     x: &Array<'a>,
     arena: &'a Arena,
@@ -295,7 +295,7 @@ pub(crate) fn open_union<'a, L: Ledger>(
 }
 
 /// The index and the union of an array whose type is an option of a union.
-pub(crate) fn open_union_option<'a, L: Ledger>(
+pub fn open_union_option<'a, L: Ledger>(
     alloc: Global,
     x: &Array<'a>,
     arena: &'a Arena,

@@ -53,7 +53,7 @@ fn whole_offsets<'a, L: Ledger>(
 }
 
 /// The outermost kind of an array whose lanes are the kind's already.
-pub(crate) fn opened_whole<'a, L: Ledger>(
+pub fn opened_whole<'a, L: Ledger>(
     alloc: Global,
     x: &Array<'a>,
     steps: &mut Steps<L>,

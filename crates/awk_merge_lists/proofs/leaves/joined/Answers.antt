@@ -1,7 +1,7 @@
 use Rattle.std.proofs.Common.{◌+◌, take, subst, sym}
 use Rattle.awk_merge_sides.specs.Sides.{side_of, sides_of, merged_items}
 use Rattle.awk_merge_lists.proofs.NumberLaws.{AreBytesOf, bytes_next}
-use Rattle.awk_merge_lists.proofs.numbers.joined.Goals as goal
+use Rattle.awk_merge_lists.proofs.leaves.joined.Goals as goal
 
 pub loop-i-preserved : goal.loop-i-preserved
 loop-i-preserved g c =

@@ -2,7 +2,7 @@ use Rattle.std.proofs.Common.{subst, sym, ◌∙◌}
 use Rattle.awk_types.specs.DataType.{leaf}
 use Rattle.awk_merge_sides.specs.Sides.{sides_of, IsMerged}
 use Rattle.awk_merge_lists.proofs.NumberLaws.{numbers_merged}
-use Rattle.awk_merge_lists.proofs.numbers.numbers.Goals as goal
+use Rattle.awk_merge_lists.proofs.leaves.numbers.Goals as goal
 
 pub returns : goal.returns
 returns g c =

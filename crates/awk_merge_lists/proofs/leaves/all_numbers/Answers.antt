@@ -2,7 +2,7 @@ use Rattle.std.proofs.Common.{sym, ◌∙◌}
 use Rattle.std.proofs.lemmas.Result.{IfOk-weaker}
 use Rattle.awk_merge_sides.specs.Sides.{side_of, sides_of}
 use Rattle.awk_merge_lists.proofs.NumberLaws.{only_side}
-use Rattle.awk_merge_lists.proofs.numbers.all_numbers.Goals as goal
+use Rattle.awk_merge_lists.proofs.leaves.all_numbers.Goals as goal
 
 pub returns-then-len-eq1-clause-values : goal.returns-then-len-eq1-clause-values
 returns-then-len-eq1-clause-values g c =

@@ -1,7 +1,7 @@
 use Rattle.std.proofs.Common.{◌≡◌, arith, subst}
 use Rattle.awk_layout.specs.Kinds.{primitive_of}
 use Rattle.awk_merge_lists.proofs.NumberLaws.{AreConverted, read_of, converted_size, converted_step, converted_all}
-use Rattle.awk_merge_lists.proofs.numbers.converted.Goals as goal
+use Rattle.awk_merge_lists.proofs.leaves.converted.Goals as goal
 
 pub as_kind-requires : goal.as_kind-requires
 as_kind-requires g c = record {

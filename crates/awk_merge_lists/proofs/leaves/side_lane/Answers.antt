@@ -5,7 +5,7 @@ use Rattle.awk_layout.specs.Typing.{array_items}
 use Rattle.awk_columns.specs.InOrder.{IsInOrder}
 use Rattle.awk_merge_sides.specs.Sides.{side_of}
 use Rattle.awk_merge_lists.proofs.NumberLaws.{leaf_opened, side_leaves, side_of_kind}
-use Rattle.awk_merge_lists.proofs.numbers.side_lane.Goals as goal
+use Rattle.awk_merge_lists.proofs.leaves.side_lane.Goals as goal
 
 pub in_kind-requires : goal.in_kind-requires
 in_kind-requires g c = record {
