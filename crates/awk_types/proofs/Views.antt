@@ -56,4 +56,5 @@ pub fields_first : (fs : Fields) (x : Field) → 0 < length (out-Fields fs).item
     → fields_of fs ≡ field_of x ∷ map field_of (drop 1 (out-Fields fs).items.items)
 fields_first fs x within read =
     let items = (out-Fields fs).items.items in
-    fields_out fs ∙ ap (map field_of) (drop_more items 0 x within ∙ ap (λ y. y ∷ drop 1 items) (sym read))
+    fields_out fs
+    ∙ ap (map field_of) (drop_more items 0 x within ∙ ap (λ y. y ∷ drop 1 items) (sym read))

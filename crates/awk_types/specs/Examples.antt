@@ -190,7 +190,8 @@ promotions = refl
 
 -- ---- levels, and the axis that a negative one stands for
 
-levels_of_leaves : map levels (leaf I64 ∷ unknown ∷ opt (leaf Bool) ∷ []) ≡ Some 0 ∷ Some 0 ∷ Some 0 ∷ []
+levels_of_leaves : map levels (leaf I64 ∷ unknown ∷ opt (leaf Bool) ∷ [])
+    ≡ Some 0 ∷ Some 0 ∷ Some 0 ∷ []
 levels_of_leaves = refl
 
 levels_of_lists : levels (var (opt (reg 3 unknown))) ≡ Some 2
@@ -199,7 +200,8 @@ levels_of_lists = refl
 levels_of_rows : levels particles ≡ Some 1
 levels_of_rows = refl
 
-levels_of_alternatives : levels (union_type (var (leaf I64) ∷ opt (reg 2 (leaf Bool)) ∷ [])) ≡ Some 1
+levels_of_alternatives : levels (union_type (var (leaf I64) ∷ opt (reg 2 (leaf Bool)) ∷ []))
+    ≡ Some 1
 levels_of_alternatives = refl
 
 -- none where branches are unequally deep, also below others that are equally deep, and none of a
@@ -219,12 +221,12 @@ no_branches_beside_leaves : levels (tup (types_from (leaf I64 ∷ tup (types_fro
 no_branches_beside_leaves = refl
 
 -- the lists of an array of lists, the array itself, and no axis
-turned_in_array : map (turned (datum_levels (arr (var (leaf I64)) []))) (negsuc 0 ∷ negsuc 1 ∷ negsuc 2 ∷ [])
-    ≡ pos 1 ∷ pos 0 ∷ negsuc 0 ∷ []
+turned_in_array : map (turned (datum_levels (arr (var (leaf I64)) [])))
+    (negsuc 0 ∷ negsuc 1 ∷ negsuc 2 ∷ []) ≡ pos 1 ∷ pos 0 ∷ negsuc 0 ∷ []
 turned_in_array = refl
 
-turned_in_value : map (turned (datum_levels (one (var (leaf I64)) (list_value [])))) (negsuc 0 ∷ negsuc 1 ∷ [])
-    ≡ pos 0 ∷ negsuc 0 ∷ []
+turned_in_value : map (turned (datum_levels (one (var (leaf I64)) (list_value []))))
+    (negsuc 0 ∷ negsuc 1 ∷ []) ≡ pos 0 ∷ negsuc 0 ∷ []
 turned_in_value = refl
 
 turned_without_levels : map (turned None) (pos 2 ∷ negsuc 0 ∷ []) ≡ pos 2 ∷ negsuc 0 ∷ []
@@ -237,7 +239,8 @@ equally_deep : shared
     ≡ Some 1
 equally_deep = refl
 
-unequally_deep : shared (datum_levels (arr (leaf I64) []) ∷ datum_levels (arr particles []) ∷ []) ≡ None
+unequally_deep : shared (datum_levels (arr (leaf I64) []) ∷ datum_levels (arr particles []) ∷ [])
+    ≡ None
 unequally_deep = refl
 
 -- ---- tests of types and values, and of numbers
@@ -263,7 +266,8 @@ lists_or_unknown = refl
 unknowns : map is_unknown tested ≡ yes ∷ no ∷ no ∷ no ∷ no ∷ []
 unknowns = refl
 
-nulls : map is_null (null ∷ int (pos 0) ∷ truth false ∷ list_value [] ∷ []) ≡ yes ∷ no ∷ no ∷ no ∷ []
+nulls : map is_null (null ∷ int (pos 0) ∷ truth false ∷ list_value [] ∷ [])
+    ≡ yes ∷ no ∷ no ∷ no ∷ []
 nulls = refl
 
 fit : map (fits I8) (negsuc 128 ∷ negsuc 127 ∷ pos 127 ∷ pos 128 ∷ []) ≡ no ∷ yes ∷ yes ∷ no ∷ []
@@ -274,6 +278,6 @@ fit_truths : map (fits Bool) (negsuc 0 ∷ pos 0 ∷ pos 1 ∷ []) ≡ no ∷ no
 fit_truths = refl
 
 -- a literal beside truth values or lists is of int64
-fit_literals : map (λ t. literal_fits t (pos 9223372036854775808)) (leaf U64 ∷ leaf Bool ∷ var (leaf U64) ∷ [])
-    ≡ yes ∷ no ∷ no ∷ []
+fit_literals : map (λ t. literal_fits t (pos 9223372036854775808))
+    (leaf U64 ∷ leaf Bool ∷ var (leaf U64) ∷ []) ≡ yes ∷ no ∷ no ∷ []
 fit_literals = refl

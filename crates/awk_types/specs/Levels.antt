@@ -42,4 +42,4 @@ datum_levels (one t v) = levels t
 -- is no axis.
 abbrev pub turned : Option ℕ → ℤ → ℤ
 turned (Some n) (negsuc a) = pos n +ℤ negsuc a
-turned levels axis = axis
+turned o axis = axis
