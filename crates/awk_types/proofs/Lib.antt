@@ -13,3 +13,4 @@ pub mod PromotionLaws
 pub mod RefusalLaws
 pub mod SettleLaws
 pub mod SettleLimits
+pub mod RangeLaws

@@ -5,6 +5,7 @@ use Rattle.std.proofs.Math.Bool.{or-true}
 use Rattle.std.specs.List.{list_any, flat_map, AllByRecursion}
 use Rattle.awk_types.specs.DataType.{DataType, unknown, leaf, var, reg, rec, tup, opt, uni, DataTypes, no_types, type, types_from, type_list}
 use Rattle.awk_types.specs.Value.{Value, null, list, row, alt, Values, value_list, values_from}
+pub use Rattle.awk_types.specs.Predicates.{is_null}
 use Rattle.awk_types.specs.Has.{Has, HasRow, HasAlternative}
 use Rattle.awk_types.specs.Simple.{present, option_if, is_option, is_union, present_alternatives, alternatives, option_of, union_of, simple, simples, in_list, values_by, in_option, in_alternative, value_by, alternatives_before, value_after, union_value, simple_value, simple_values, IsSimple, AreSimple, ArePlain}
 use Rattle.awk_types.proofs.Trees.{types_from-list, type_list-from, values_from-list, value_list-from}
@@ -163,10 +164,6 @@ inner_tag v = 0
 abbrev pub inner_value : Value → Value
 inner_value (alt j v) = v
 inner_value v = v
-
-abbrev pub is_null : Value → Bool
-is_null null = true
-is_null v = false
 
 has_left : (ts us : List DataType) (k : ℕ) (v : Value) → HasAlternative (types_from ts) k v → HasAlternative (types_from (ts ++ us)) k v
 has_left [] us k v h = absurd h

@@ -1,6 +1,6 @@
 -- The equations of `typ_of` and its like.
-use Rattle.std.proofs.Common.{◌≡◌, ℕ, ◌<◌, List, map, arith, length, slice_get, Some, get_or, sym, ap, ◌∙◌}
-use Rattle.std.proofs.lemmas.List.{length-map}
+use Rattle.std.proofs.Common.{◌≡◌, ℕ, ◌<◌, List, ◌∷◌, map, drop, arith, length, slice_get, Some, get_or, sym, ap, ◌∙◌}
+use Rattle.std.proofs.lemmas.List.{length-map, drop_more}
 use Rattle.awk_types.specs.DataType.{Name, DataType, tup, uni, rec, types_from}
 use Rattle.awk_types.specs.View.{NamedType, names_of, types_of, typ_step, field_step, fields_step, typs_step, typ_of, field_of, fields_of, typs_of}
 use Rattle.awk_types.specs.declared.name.Name.{Name as FieldName}
@@ -49,3 +49,12 @@ typs_get ts i x within read = rw (typs_out ts) (slice_get_of_map typ_of ts.items
 
 pub fields_get : (fs : Fields) (i : ℕ) (x : Field) → i < length (fields_of fs) → x ≡ get_or (out-Fields fs).items.items i x → slice_get (fields_of fs) i ≡ Some (field_of x)
 fields_get fs i x within read = rw (fields_out fs) (slice_get_of_map field_of (out-Fields fs).items.items i x (omega (arith, ap length (fields_out fs), length-map (out-Fields fs).items.items field_of)) read)
+
+-- the first field, and those behind it
+pub fields_first : (fs : Fields) (x : Field) → 0 < length (out-Fields fs).items.items
+    → x ≡ get_or (out-Fields fs).items.items 0 x
+    → fields_of fs ≡ field_of x ∷ map field_of (drop 1 (out-Fields fs).items.items)
+fields_first fs x within read =
+    let items = (out-Fields fs).items.items in
+    fields_out fs
+    ∙ ap (map field_of) (drop_more items 0 x within ∙ ap (λ y. y ∷ drop 1 items) (sym read))

@@ -1,5 +1,5 @@
 -- The definitions at worked examples, each checked by computing.
-use Rattle.std.specs.Prelude.{◌≡◌, ℕ, zero, suc, true, false, List, [], ◌∷◌, map, pos, negsuc, codes, Option, Some, None, refl}
+use Rattle.std.specs.Prelude.{◌≡◌, ℕ, zero, suc, Bool as Truth, true, false, List, [], ◌∷◌, map, pos, negsuc, codes, Option, Some, None, refl}
 use Rattle.awk_types.specs.declared.primitive.Primitive.{Primitive}
 use Rattle.awk_types.specs.declared.primitive.Primitive.TheVariants.{Bool, I8, I16, I32, I64, U8, U16, U32, U64}
 use Rattle.awk_types.specs.DataType.{DataType, unknown, leaf, var, reg, rec, tup, opt, uni, types_from, depth, nodes}
@@ -11,6 +11,9 @@ use Rattle.awk_types.specs.Has.{Has}
 use Rattle.awk_types.specs.Simple.{simple, simple_value}
 use Rattle.awk_types.specs.Settle.{settle}
 use Rattle.awk_types.specs.Promotion.{promotion}
+use Rattle.awk_types.specs.Levels.{levels, shared, datum_levels, turned}
+use Rattle.awk_types.specs.Fits.{fits, literal_fits}
+use Rattle.awk_types.specs.Predicates.{is_leaf, is_list, is_list_or_unknown, is_unknown, is_null}
 use Rattle.awk_types.specs.Limit.{limit, width, depth_limit, size_limit}
 
 abbrev union_type : List DataType → DataType
@@ -184,3 +187,97 @@ promotions : map (λ p. map (promotion p) primitives) primitives
     ∷ (none ∷ none ∷ none ∷ none ∷ none ∷ to U64 ∷ to U64 ∷ to U64 ∷ to U64 ∷ [])
     ∷ []
 promotions = refl
+
+-- ---- levels, and the axis that a negative one stands for
+
+levels_of_leaves : map levels (leaf I64 ∷ unknown ∷ opt (leaf Bool) ∷ [])
+    ≡ Some 0 ∷ Some 0 ∷ Some 0 ∷ []
+levels_of_leaves = refl
+
+levels_of_lists : levels (var (opt (reg 3 unknown))) ≡ Some 2
+levels_of_lists = refl
+
+levels_of_rows : levels particles ≡ Some 1
+levels_of_rows = refl
+
+levels_of_alternatives : levels (union_type (var (leaf I64) ∷ opt (reg 2 (leaf Bool)) ∷ []))
+    ≡ Some 1
+levels_of_alternatives = refl
+
+-- none where branches are unequally deep, also below others that are equally deep, and none of a
+-- tuple without parts
+unequal_branches : levels (tup (types_from (leaf I64 ∷ var (leaf I64) ∷ []))) ≡ None
+unequal_branches = refl
+
+unequal_below : levels
+    (var (tup (types_from (var (leaf I8) ∷ tup (types_from (var (leaf I8) ∷ leaf I8 ∷ [])) ∷ []))))
+    ≡ None
+unequal_below = refl
+
+no_branches : levels (var (tup (types_from []))) ≡ None
+no_branches = refl
+
+no_branches_beside_leaves : levels (tup (types_from (leaf I64 ∷ tup (types_from []) ∷ []))) ≡ None
+no_branches_beside_leaves = refl
+
+-- the lists of an array of lists, the array itself, and no axis
+turned_in_array : map (turned (datum_levels (arr (var (leaf I64)) [])))
+    (negsuc 0 ∷ negsuc 1 ∷ negsuc 2 ∷ []) ≡ pos 1 ∷ pos 0 ∷ negsuc 0 ∷ []
+turned_in_array = refl
+
+turned_in_value : map (turned (datum_levels (one (var (leaf I64)) (list_value []))))
+    (negsuc 0 ∷ negsuc 1 ∷ []) ≡ pos 0 ∷ negsuc 0 ∷ []
+turned_in_value = refl
+
+turned_without_levels : map (turned None) (pos 2 ∷ negsuc 0 ∷ []) ≡ pos 2 ∷ negsuc 0 ∷ []
+turned_without_levels = refl
+
+-- operands at one axis: an array of numbers beside a single list is equally deep, beside an array
+-- of lists it is not
+equally_deep : shared
+    (datum_levels (arr (leaf I64) []) ∷ datum_levels (one (var (leaf I8)) (list_value [])) ∷ [])
+    ≡ Some 1
+equally_deep = refl
+
+unequally_deep : shared (datum_levels (arr (leaf I64) []) ∷ datum_levels (arr particles []) ∷ [])
+    ≡ None
+unequally_deep = refl
+
+-- ---- tests of types and values, and of numbers
+
+abbrev no : Truth
+no = false
+
+abbrev yes : Truth
+yes = true
+
+abbrev tested : List DataType
+tested = unknown ∷ leaf Bool ∷ var (leaf I64) ∷ reg 2 (leaf I64) ∷ opt (var unknown) ∷ []
+
+leaves : map is_leaf tested ≡ yes ∷ yes ∷ no ∷ no ∷ no ∷ []
+leaves = refl
+
+lists : map is_list tested ≡ no ∷ no ∷ yes ∷ yes ∷ no ∷ []
+lists = refl
+
+lists_or_unknown : map is_list_or_unknown tested ≡ yes ∷ no ∷ yes ∷ yes ∷ no ∷ []
+lists_or_unknown = refl
+
+unknowns : map is_unknown tested ≡ yes ∷ no ∷ no ∷ no ∷ no ∷ []
+unknowns = refl
+
+nulls : map is_null (null ∷ int (pos 0) ∷ truth false ∷ list_value [] ∷ [])
+    ≡ yes ∷ no ∷ no ∷ no ∷ []
+nulls = refl
+
+fit : map (fits I8) (negsuc 128 ∷ negsuc 127 ∷ pos 127 ∷ pos 128 ∷ []) ≡ no ∷ yes ∷ yes ∷ no ∷ []
+fit = refl
+
+-- no number is a truth value
+fit_truths : map (fits Bool) (negsuc 0 ∷ pos 0 ∷ pos 1 ∷ []) ≡ no ∷ no ∷ no ∷ []
+fit_truths = refl
+
+-- a literal beside truth values or lists is of int64
+fit_literals : map (λ t. literal_fits t (pos 9223372036854775808))
+    (leaf U64 ∷ leaf Bool ∷ var (leaf U64) ∷ []) ≡ yes ∷ no ∷ no ∷ []
+fit_literals = refl
