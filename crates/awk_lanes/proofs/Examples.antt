@@ -1,9 +1,11 @@
 -- The definitions at worked examples.
-use Rattle.std.proofs.Common.{◌≡◌, [], ◌∷◌, refl, true, false}
+use Rattle.std.proofs.Common.{◌≡◌, ℕ, zero, suc, ◌+◌, ◌*◌, [], ◌∷◌, refl, true, false}
 use Rattle.std.specs.Prelude.{pos, negsuc, Some, None}
 use Rattle.awk_lanes.specs.declared.kind.Kind.TheVariants.{Bool as Truths, I8, I16, I32, I64, U8, U16, U32, U64}
 use Rattle.awk_lanes.specs.Bits.{bits}
+use Rattle.awk_lanes.specs.Counted.{before, offsets_by, numbers_of_lists}
 use Rattle.awk_lanes.specs.Cut.{cut_of}
+use Rattle.awk_lanes.specs.Made.{lane_of}
 use Rattle.awk_lanes.specs.Numbers.{numbers, bytes_of}
 use Rattle.awk_lanes.specs.Places.{at, option_place_at}
 
@@ -74,3 +76,26 @@ from_most = refl
 -- four bits from the seventh on
 across_bytes : bits false (0x42 ∷ 0xA0 ∷ []) 6 4 ≡ true ∷ false ∷ true ∷ false ∷ []
 across_bytes = refl
+
+-- ---- made lanes
+
+squares : lane_of U8 4 (λ i. pos (i * i))
+    ≡ record { kind = U8; items = pos 0 ∷ pos 1 ∷ pos 4 ∷ pos 9 ∷ [] }
+squares = refl
+
+-- lists of 2, 0 and 3 items
+abbrev sizes : ℕ → ℕ
+sizes zero = 2
+sizes (suc zero) = 0
+sizes (suc (suc i)) = 3
+
+all_items : before sizes 3 ≡ 5
+all_items = refl
+
+three_lists : (offsets_by sizes 3).items ≡ pos 0 ∷ pos 2 ∷ pos 2 ∷ pos 5 ∷ []
+three_lists = refl
+
+-- the item k of list i as 10 * i + k
+tens : numbers_of_lists sizes (λ i k. pos (10 * i + k)) 3
+    ≡ pos 0 ∷ pos 1 ∷ pos 20 ∷ pos 21 ∷ pos 22 ∷ []
+tens = refl

@@ -3,9 +3,11 @@
 
 mod bits;
 mod bytes;
+mod counted;
 mod kind;
 mod lane;
 mod lanes;
+mod made;
 mod maker;
 mod memory;
 mod numbers;
@@ -13,9 +15,11 @@ mod readers;
 mod steps;
 
 pub use bits::Bits;
+pub use counted::{Items, Lengths, Offsets, items_of, offsets_of, offsets_within};
 pub use kind::{Kind, Num};
 pub use lane::Lane;
 pub use lanes::Lanes;
+pub use made::{Numbers, made_lane};
 pub use maker::LaneMaker;
 pub use memory::{Arena, NoMemory};
 pub use numbers::numbers_of;
