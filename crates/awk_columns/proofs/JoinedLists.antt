@@ -26,7 +26,7 @@ use Rattle.awk_columns.specs.Counted.{first_of, span_at, spans, places_lane, off
 use Rattle.awk_columns.specs.ListValues.{list_at, list_values, joined_datum, AreJoined}
 use Rattle.awk_columns.specs.Reached.{IsReached}
 use Rattle.awk_columns.proofs.FirstPlaces.{length-first_of, first_of-mono, first_of-room}
-use Rattle.awk_gather.proofs.MadeLanes.{size-lane_of, at-lane_of}
+use Rattle.awk_lanes.proofs.MadeLanes.{size-lane_of, at-lane_of}
 use Rattle.awk_layout.proofs.ArrayItems.{length-array_items}
 use Rattle.awk_gather.proofs.PickedNodes.{run_same}
 use Rattle.awk_columns.proofs.ReachedContents.{below-first_of, first_of-at, places_index, reached_by, reached-len, reached-item, run_picked}

@@ -33,7 +33,7 @@ use Rattle.awk_open.specs.Opened as gathers
 use Rattle.awk_open.specs.declared.opening.Opened.TheVariants as ordered
 use Rattle.awk_columns.proofs.FirstPlaces.{length-first_of, first_of-mono}
 use Rattle.awk_columns.proofs.JoinedLists.{offsets_lane-is}
-use Rattle.awk_gather.proofs.MadeLanes.{at-lane_of}
+use Rattle.awk_lanes.proofs.MadeLanes.{at-lane_of}
 use Rattle.awk_columns.specs.Joined.{IsJoined}
 use Rattle.awk_columns.specs.ListClass.{Class, list_type, class_of}
 use Rattle.awk_columns.specs.Opened.{items_at, across, item_among, AllOfLen, AreOfClass}

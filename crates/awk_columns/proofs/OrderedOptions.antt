@@ -24,7 +24,7 @@ use Rattle.awk_open.specs.Opened.{IsOpened}
 use Rattle.awk_columns.specs.Reached.{IsReached}
 use Rattle.awk_open.specs.declared.opening.Opened.TheVariants.{Option as Optional}
 use Rattle.awk_columns.proofs.FirstPlaces.{first_of-room}
-use Rattle.awk_gather.proofs.MadeLanes.{size-lane_of, at-lane_of}
+use Rattle.awk_lanes.proofs.MadeLanes.{size-lane_of, at-lane_of}
 use Rattle.awk_columns.proofs.ReachedContents.{below-first_of, first_of-at, reached-len, reached-item}
 use Rattle.awk_open.proofs.ItemShapes.{present_item}
 

@@ -26,7 +26,7 @@ use Rattle.awk_columns.specs.Reached.{IsReached, AreReached}
 use Rattle.awk_open.specs.declared.opening.Opened.TheVariants.{Union}
 use Rattle.awk_columns.proofs.FirstPlaces.{length-first_of, first_of-room}
 use Rattle.awk_open.proofs.LayoutParts.{len_of-get, len_of-nth}
-use Rattle.awk_gather.proofs.MadeLanes.{size-lane_of, at-lane_of}
+use Rattle.awk_lanes.proofs.MadeLanes.{size-lane_of, at-lane_of}
 use Rattle.awk_columns.proofs.OrderedOptions.{array_items-is, map-same}
 use Rattle.awk_columns.proofs.ReachedContents.{below-first_of, first_of-at, reached-len, reached-item}
 

@@ -7,7 +7,7 @@ use Rattle.awk_types.specs.ItemLimit.{item_limit}
 use Rattle.awk_lanes.specs.declared.kind.Kind.TheVariants.{I8, I64}
 use Rattle.awk_lanes.specs.Column.{Column}
 use Rattle.awk_lanes.specs.Places.{size_of, at, place_at, option_place_at, IsIndexKind}
-use Rattle.awk_gather.specs.Lanes.{lane_of}
+use Rattle.awk_lanes.specs.Made.{lane_of}
 
 -- what f gives at the first n places, one after another
 abbrev pub first_of : (ℕ → List ℕ) → ℕ → List ℕ

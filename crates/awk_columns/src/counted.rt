@@ -47,7 +47,7 @@ fn next_number<L: Ledger>(index: &Lane, i: u64, next: u64, steps: &mut Steps<L>)
 }
 
 /// The index of an option over the present items alone: it counts up, and is -1 for each null.
-#[tactic(auto, using(awk_gather::proofs::MadeLanes::making))]
+#[tactic(auto, using(awk_lanes::proofs::MadeLanes::making))]
 pub fn counted<'a, L: Ledger>(
     index: &Lane,
     arena: &'a Arena,

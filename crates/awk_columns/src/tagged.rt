@@ -78,7 +78,7 @@ fn count_one(counts: &mut Vec<u64>, tag: usize) -> u64
 }
 
 /// The index of a union over the items of each alternative alone: it counts up for each.
-#[tactic(auto, using(awk_gather::proofs::MadeLanes::making))]
+#[tactic(auto, using(awk_lanes::proofs::MadeLanes::making))]
 pub fn counted_union<'a, L: Ledger>(
     alloc: Global,
     tags: &Lane,

@@ -38,7 +38,7 @@ use Rattle.awk_layout.specs.Typing.{layout_type, array_type, array_items}
 use Rattle.awk_layout.specs.Valid.{len, IsValid}
 use Rattle.awk_layout.proofs.ArrayItems.{length-array_items, get_or-array_items}
 use Rattle.awk_gather.specs.Arrays.{array_item}
-use Rattle.awk_gather.proofs.MadeLanes.{at-lane_of, size-lane_of}
+use Rattle.awk_lanes.proofs.MadeLanes.{at-lane_of, size-lane_of}
 use Rattle.awk_columns.specs.Joined.{JoinsLists, total}
 use Rattle.awk_axis.specs.Lifting.{lift}
 use Rattle.awk_columns.specs.ListClass.{Class}

@@ -23,7 +23,7 @@ use Rattle.awk_layout.specs.declared.datum.Datum.TheVariants.{One}
 use Rattle.awk_layout.specs.declared.datum.Operand.{Operand}
 use Rattle.awk_layout.specs.declared.datum.Operand.TheVariants.{Of}
 use Rattle.awk_gather.specs.Arrays.{array_item}
-use Rattle.awk_gather.specs.Lanes.{lane_of}
+use Rattle.awk_lanes.specs.Made.{lane_of}
 use Rattle.awk_unify.specs.Carry.{carried}
 use Rattle.awk_unify.specs.Unification.{Unification}
 use Rattle.awk_fill.specs.FillNone.{Filler, filled, filled_type, no_filler}

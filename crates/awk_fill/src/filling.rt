@@ -206,7 +206,7 @@ fn place_or(place: u64, at: Option<u64>) -> u64
 }
 
 /// Where the items of an option are, and each null at a place of its own.
-#[tactic(auto, using(awk_gather::proofs::MadeLanes::making))]
+#[tactic(auto, using(awk_lanes::proofs::MadeLanes::making))]
 fn places_or<'a, L: Ledger>(
     place: u64,
     index: &Lane,

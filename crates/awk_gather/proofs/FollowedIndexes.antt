@@ -9,7 +9,7 @@ use Rattle.awk_lanes.specs.Numbers.{nat_of}
 use Rattle.awk_lanes.specs.Places.{at, size_of, option_place, option_place_at, IsOptionalIndex}
 use Rattle.awk_layout.specs.Item.{at_option}
 use Rattle.awk_gather.specs.Peeled.{through, followed, if_shown}
-use Rattle.awk_gather.proofs.MadeLanes.{size-lane_of, at-lane_of}
+use Rattle.awk_lanes.proofs.MadeLanes.{size-lane_of, at-lane_of}
 
 -- a place of an index is below what it indexes
 pub place_below : (z : ℤ) (k n : ℕ) → Some k ≡ option_place z → z <ℤ pos n → k < n

@@ -1,4 +1,3 @@
-pub mod MadeLanes
 pub mod MovedGroups
 pub mod PickedLanes
 pub mod FollowedIndexes

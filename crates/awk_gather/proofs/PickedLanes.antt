@@ -15,7 +15,7 @@ use Rattle.awk_lanes.proofs.PlaceLaws.{element-at}
 use Rattle.awk_layout.specs.Valid.{IsUnion}
 use Rattle.awk_layout.specs.Layout.{Layouts}
 use Rattle.awk_gather.specs.Lanes.{picked, nexts, block_at, blocks, AreBlocks}
-use Rattle.awk_gather.proofs.MadeLanes.{size-lane_of, at-lane_of}
+use Rattle.awk_lanes.proofs.MadeLanes.{size-lane_of, at-lane_of}
 
 pub size-picked : (c p : Column) → size_of (picked c p) ≡ size_of p
 size-picked c p = size-lane_of c.kind (size_of p) (λ i. at c (place_at p i))

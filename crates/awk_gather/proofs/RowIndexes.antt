@@ -8,7 +8,7 @@ use Rattle.awk_lanes.specs.declared.kind.Kind.TheVariants.{U32, I64}
 use Rattle.awk_lanes.specs.Column.{Column}
 use Rattle.awk_lanes.specs.Places.{at, size_of}
 use Rattle.awk_gather.specs.Arrays.{index_over}
-use Rattle.awk_gather.specs.Lanes.{lane_of}
+use Rattle.awk_lanes.specs.Made.{lane_of}
 use Rattle.awk_gather.proofs.GatheredArrays.{at-I64}
 
 -- places below 2^32 as the same numbers in 32 bits

@@ -6,7 +6,7 @@ use Rattle.awk_lanes.specs.declared.kind.Kind.TheVariants.{I64}
 use Rattle.awk_lanes.specs.Column.{Column}
 use Rattle.awk_lanes.specs.Numbers.{number, nat_of}
 use Rattle.awk_lanes.specs.Places.{size_of, at, place_at}
-use Rattle.awk_gather.specs.Lanes.{lane_of}
+use Rattle.awk_lanes.specs.Made.{lane_of}
 
 -- the numbers so far past those at places
 abbrev pub past : ℕ → Column → Column → Column

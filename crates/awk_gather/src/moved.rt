@@ -4,7 +4,7 @@ ghost use Rattle.std.specs.Int.{to_le_bytes, w32};
 ghost use Rattle.awk_lanes.specs.Numbers.{nat_of, width};
 ghost use Rattle.awk_lanes.specs.Places.{size_of, at, IsIndex};
 ghost use Rattle.awk_lanes.specs.declared.kind.Kind.TheVariants as Kind;
-ghost use Rattle.awk_gather.specs.Lanes.{lane_of};
+ghost use Rattle.awk_lanes.specs.Made.{lane_of};
 ghost use Rattle.awk_gather.specs.Moved.{past, eight, groups_past as groups_past_of, ArePlacesPast};
 ghost use Rattle.awk_gather.specs.Moved.{narrow_groups as narrow_groups_of};
 
@@ -21,7 +21,7 @@ fn place_of(bytes: [u8; 8]) -> usize
 }
 
 /// The groups so far past those at places.
-#[tactic(auto, using(crate::proofs::MadeLanes::making))]
+#[tactic(auto, using(awk_lanes::proofs::MadeLanes::making))]
 fn groups_past<'a, const W: usize>(
     groups: &[[u8; W]],
     places: &[[u8; 8]],

@@ -27,8 +27,8 @@ use Rattle.awk_layout.specs.Typing.{layout_type, array_type, array_items, array_
 use Rattle.awk_layout.specs.Valid.{len}
 use Rattle.awk_layout.proofs.ArrayItems.{length-array_items, get_or-array_items}
 use Rattle.awk_gather.specs.Arrays.{array_item}
-use Rattle.awk_gather.specs.Lanes.{lane_of}
-use Rattle.awk_gather.proofs.MadeLanes.{size-lane_of, at-lane_of}
+use Rattle.awk_lanes.specs.Made.{lane_of}
+use Rattle.awk_lanes.proofs.MadeLanes.{size-lane_of, at-lane_of}
 use Rattle.awk_columns.specs.Joined.{AreOffsets}
 use Rattle.awk_columns.proofs.ArrayLaws.{array_items-at, map-same, run_in_list}
 use Rattle.awk_lists.specs.Numbers.{AreCounts}

@@ -30,7 +30,7 @@ use Rattle.awk_columns.specs.Counted.{first_of, present_at, present_place}
 use Rattle.awk_columns.specs.Counted.{offset_at}
 use Rattle.awk_columns.proofs.FirstPlaces.{length-first_of}
 use Rattle.awk_open.proofs.ItemShapes.{present_item}
-use Rattle.awk_gather.proofs.MadeLanes.{size-lane_of, at-lane_of}
+use Rattle.awk_lanes.proofs.MadeLanes.{size-lane_of, at-lane_of}
 use Rattle.awk_columns.specs.Columns.{present_values}
 use Rattle.awk_columns.specs.Joined.{AreOffsets, JoinsLists, IsJoined}
 use Rattle.awk_columns.specs.ListClass.{Class, list_type}

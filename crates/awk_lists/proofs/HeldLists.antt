@@ -28,7 +28,7 @@ use Rattle.awk_columns.specs.Counted.{AreBelow, first_of, places_lane}
 use Rattle.awk_gather.specs.Lanes.{picked}
 use Rattle.awk_columns.specs.Reached.{IsReached}
 use Rattle.awk_columns.proofs.FirstPlaces.{length-first_of}
-use Rattle.awk_gather.proofs.MadeLanes.{size-lane_of, at-lane_of}
+use Rattle.awk_lanes.proofs.MadeLanes.{size-lane_of, at-lane_of}
 use Rattle.awk_gather.proofs.PickedLanes.{size-picked, at-picked}
 use Rattle.awk_columns.proofs.ReachedContents.{below-first_of, places_index, reached_by}
 use Rattle.awk_columns.specs.Columns.{present_values}

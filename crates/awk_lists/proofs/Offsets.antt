@@ -33,7 +33,7 @@ use Rattle.awk_gather.specs.Arrays.{array_item}
 use Rattle.awk_axis.specs.Spoils.{too_many}
 use Rattle.awk_columns.specs.ListNode.{AreEven}
 use Rattle.awk_axis.specs.Mapped.{AreGiven}
-use Rattle.awk_gather.proofs.MadeLanes.{size-lane_of, at-lane_of}
+use Rattle.awk_lanes.proofs.MadeLanes.{size-lane_of, at-lane_of}
 use Rattle.awk_lists.proofs.Spans.{items_at-length, run_length}
 
 pub before-next : (s t : Column) (i : ℕ) → before s t (i + 1) ≡ before s t i + span_length s t i

@@ -18,7 +18,7 @@ use Rattle.awk_lists.specs.Lanes.{span_length, lengths_lane}
 use Rattle.awk_columns.specs.Opened.{AreLists, items_at}
 use Rattle.awk_gather.specs.Arrays.{array_item}
 use Rattle.awk_axis.specs.Mapped.{IsColumn}
-use Rattle.awk_gather.proofs.MadeLanes.{size-lane_of, at-lane_of}
+use Rattle.awk_lanes.proofs.MadeLanes.{size-lane_of, at-lane_of}
 
 -- a span of a shorter list is one of a longer list
 span_wider : (m n : ℕ) (a b : ℤ) → m ≤ n → IsSpan m a b → IsSpan n a b

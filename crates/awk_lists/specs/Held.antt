@@ -12,7 +12,7 @@ use Rattle.awk_layout.specs.Typing.{array_type, array_items}
 use Rattle.awk_gather.specs.Arrays.{array_item}
 use Rattle.awk_columns.specs.Columns.{list_items}
 use Rattle.awk_columns.specs.Counted.{first_of}
-use Rattle.awk_gather.specs.Lanes.{lane_of}
+use Rattle.awk_lanes.specs.Made.{lane_of}
 use Rattle.awk_lists.specs.Lanes.{span_length}
 
 abbrev pub holds_item : Value → Bool

@@ -41,7 +41,7 @@ fn one_if_present<L: Ledger>(index: &Lane, i: u64, steps: &mut Steps<L>) -> u64
 }
 
 /// The offsets at places.
-#[tactic(auto, using(awk_gather::proofs::MadeLanes::making))]
+#[tactic(auto, using(awk_lanes::proofs::MadeLanes::making))]
 pub(crate) fn offsets_at<'a, L: Ledger>(
     offsets: &Lane,
     places: &Lane,

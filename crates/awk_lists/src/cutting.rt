@@ -16,7 +16,7 @@ ghost use Rattle.awk_layout.specs.Datum.{datum_of, IsDatum};
 ghost use Rattle.awk_layout.specs.Layout.{offset_lists};
 ghost use Rattle.awk_layout.specs.Typing.{array_type, array_items, array_datum};
 ghost use Rattle.awk_layout.specs.Valid.{len};
-ghost use Rattle.awk_gather.specs.Lanes.{lane_of};
+ghost use Rattle.awk_lanes.specs.Made.{lane_of};
 ghost use Rattle.awk_lists.specs.Numbers.{AreCounts};
 ghost use Rattle.awk_lists.specs.Unflatten as spec;
 ghost use Rattle.awk_lists.specs.Unflatten.{unflatten_of, count_of, counted_before, do_not_add_up};

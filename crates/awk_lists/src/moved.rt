@@ -36,7 +36,7 @@ fn number_at_end<L: Ledger>(
 }
 
 /// The numbers of a lane at ends of lists.
-#[tactic(auto, using(awk_gather::proofs::MadeLanes::making))]
+#[tactic(auto, using(awk_lanes::proofs::MadeLanes::making))]
 pub(crate) fn numbers_at_ends<'a, 'b, L: Ledger>(
     numbers: &Lane,
     starts: &Lane<'b>,

@@ -16,11 +16,11 @@ use Rattle.awk_layout.specs.Layout.{Layout, byte_masked}
 use Rattle.awk_layout.specs.Typing.{array_type}
 use Rattle.awk_layout.specs.Valid.{len, IsValid, IsByteMask}
 use Rattle.awk_gather.specs.Arrays.{array_item}
-use Rattle.awk_gather.specs.Lanes.{lane_of}
+use Rattle.awk_lanes.specs.Made.{lane_of}
 use Rattle.awk_open.specs.Opened.{IsOpened, IsKindOf, IsListOf}
 use Rattle.awk_open.specs.declared.opening.Opened.{Opened}
 use Rattle.awk_open.specs.declared.opening.Opened.TheVariants as opened
-use Rattle.awk_gather.proofs.MadeLanes.{size-lane_of, at-lane_of}
+use Rattle.awk_lanes.proofs.MadeLanes.{size-lane_of, at-lane_of}
 use Rattle.awk_gather.proofs.OptionItems.{item-byte_masked}
 use Rattle.awk_mask.specs.MaskLeaves.{is_innermost, AreTruths, IsMasked}
 use Rattle.awk_mask.specs.PutMask.{masked_type, masked_value, kept_where}

@@ -20,8 +20,8 @@ use Rattle.awk_layout.proofs.ArrayItems.{length-array_items, get_or-array_items}
 use Rattle.awk_layout.proofs.Runs.{value_list-run}
 use Rattle.awk_gather.specs.Arrays.{array_item}
 use Rattle.awk_columns.specs.ListValues.{list_at}
-use Rattle.awk_gather.specs.Lanes.{lane_of}
-use Rattle.awk_gather.proofs.MadeLanes.{size-lane_of, at-lane_of}
+use Rattle.awk_lanes.specs.Made.{lane_of}
+use Rattle.awk_lanes.proofs.MadeLanes.{size-lane_of, at-lane_of}
 use Rattle.awk_columns.specs.Opened.{OpensOption}
 use Rattle.awk_mask.specs.MaskLists.{is_list, IsItemType, AreListsOf, AreInside}
 

@@ -10,7 +10,7 @@ use Rattle.awk_layout.specs.Valid.{len}
 use Rattle.awk_gather.specs.Arrays.{array_item}
 use Rattle.awk_columns.specs.Columns.{is_present}
 use Rattle.awk_columns.specs.Counted.{present_at}
-use Rattle.awk_gather.specs.Lanes.{lane_of}
+use Rattle.awk_lanes.specs.Made.{lane_of}
 
 -- each item's place, and the next one where an index is not null
 abbrev pub stops_lane : Column → Column

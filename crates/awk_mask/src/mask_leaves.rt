@@ -5,7 +5,7 @@ ghost use Rattle.awk_lanes.specs.Places.{size_of, at};
 ghost use Rattle.awk_lanes.specs.declared.kind.Kind.TheVariants as Kinds;
 ghost use Rattle.awk_layout.specs.Typing.{array_type};
 ghost use Rattle.awk_layout.specs.Valid.{len};
-ghost use Rattle.awk_gather.specs.Lanes.{lane_of};
+ghost use Rattle.awk_lanes.specs.Made.{lane_of};
 ghost use Rattle.awk_mask.specs.MaskLeaves.{is_innermost, AreTruths, IsMasked};
 
 use awk_open::{Opened, opened};
@@ -48,7 +48,7 @@ fn byte_at<L: Ledger>(truths: &Lane, i: u64, steps: &mut Steps<L>) -> Num
 }
 
 /// Truth values as the bytes of a mask.
-#[tactic(auto, using(awk_gather::proofs::MadeLanes::making))]
+#[tactic(auto, using(awk_lanes::proofs::MadeLanes::making))]
 fn bytes_of<'a, L: Ledger>(
     truths: &Lane,
     arena: &'a Arena,

@@ -15,7 +15,7 @@ use std::alloc::Global;
 use std::sync::ledger::Ledger;
 
 /// The end of each item as a list by itself, which is empty where an index is null.
-#[tactic(auto, using(awk_gather::proofs::MadeLanes::making))]
+#[tactic(auto, using(awk_lanes::proofs::MadeLanes::making))]
 fn stops_where<'a, L: Ledger>(
     index: &Lane,
     arena: &'a Arena,

@@ -27,7 +27,7 @@ use Rattle.awk_layout.specs.Valid.{len}
 use Rattle.awk_gather.specs.Arrays.{array_item}
 use Rattle.awk_columns.specs.Columns.{is_present, list_items, joined_items}
 use Rattle.awk_columns.specs.Counted.{offset_at}
-use Rattle.awk_gather.proofs.MadeLanes.{size-lane_of, at-lane_of}
+use Rattle.awk_lanes.proofs.MadeLanes.{size-lane_of, at-lane_of}
 use Rattle.awk_columns.specs.Joined.{JoinsLists, total}
 use Rattle.awk_columns.specs.Opened.{items_at}
 use Rattle.awk_columns.proofs.ArrayLaws.{array_items-at, run_in_list}

@@ -24,7 +24,7 @@ use Rattle.awk_layout.specs.declared.datum.Datum.{Datum}
 use Rattle.awk_layout.specs.declared.datum.Datum.TheVariants.{Arr, One}
 use Rattle.awk_gather.specs.Arrays.{array_item}
 use Rattle.awk_columns.specs.Columns.{is_present, joined_items}
-use Rattle.awk_gather.specs.Lanes.{lane_of}
+use Rattle.awk_lanes.specs.Made.{lane_of}
 use Rattle.awk_unify.specs.Carry.{Carry}
 use Rattle.awk_merge.specs.Concatenate.{joined_row, are_long, values_fault, joined_values}
 use Rattle.awk_merge_sides.specs.Sides.{Carries}

@@ -72,7 +72,7 @@ fn row_or_null<L: Ledger>(index: &Option<Lane>, n: u64, k: u64, i: u64, steps: &
 }
 
 /// Each row without null by its place, and -1 for the others.
-#[tactic(auto, using(awk_gather::proofs::MadeLanes::making))]
+#[tactic(auto, using(awk_lanes::proofs::MadeLanes::making))]
 fn rows_lane<'a, L: Ledger>(
     index: &Option<Lane>,
     n: u64,
@@ -120,7 +120,7 @@ fn end_in_rows<L: Ledger>(
 }
 
 /// The ends of the lists of each row, row after row.
-#[tactic(auto, using(awk_gather::proofs::MadeLanes::making))]
+#[tactic(auto, using(awk_lanes::proofs::MadeLanes::making))]
 fn ends_in_rows<'a, L: Ledger>(
     index: &Option<Lane>,
     rows: &Lane,
@@ -145,7 +145,7 @@ fn ends_in_rows<'a, L: Ledger>(
 }
 
 /// Each k-th offset, up to that of place n.
-#[tactic(auto, using(awk_gather::proofs::MadeLanes::making))]
+#[tactic(auto, using(awk_lanes::proofs::MadeLanes::making))]
 fn offsets_of_rows<'a, L: Ledger>(
     offsets: &Lane,
     n: u64,

@@ -23,7 +23,7 @@ use std::alloc::Global;
 use std::sync::ledger::Ledger;
 
 /// So many nulls.
-#[tactic(auto, using(awk_gather::proofs::MadeLanes::making))]
+#[tactic(auto, using(awk_lanes::proofs::MadeLanes::making))]
 fn nulls<'a, L: Ledger>(
     alloc: Global,
     n: u64,

@@ -18,7 +18,7 @@ use Rattle.awk_layout.specs.Item.{run}
 use Rattle.awk_layout.specs.Typing.{layout_type, array_type}
 use Rattle.awk_layout.specs.Valid.{len}
 use Rattle.awk_gather.specs.Arrays.{array_item}
-use Rattle.awk_gather.proofs.MadeLanes.{size-lane_of, at-lane_of}
+use Rattle.awk_lanes.proofs.MadeLanes.{size-lane_of, at-lane_of}
 use Rattle.awk_columns.specs.Columns.{present_values}
 use Rattle.awk_axis.specs.DropNone.{drop_none_function}
 use Rattle.awk_columns.specs.Joined.{AreOffsets, JoinsLists, total}

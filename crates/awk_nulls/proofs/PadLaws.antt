@@ -13,7 +13,7 @@ use Rattle.awk_lanes.specs.Making.{Making, with_item}
 use Rattle.awk_lanes.specs.Numbers.{nat_of}
 use Rattle.awk_lanes.specs.Places.{size_of, at, place_at, IsSpan}
 use Rattle.awk_types.specs.ItemLimit.{item_limit}
-use Rattle.awk_gather.proofs.MadeLanes.{size-lane_of, at-lane_of}
+use Rattle.awk_lanes.proofs.MadeLanes.{size-lane_of, at-lane_of}
 use Rattle.awk_columns.specs.Joined.{AreOffsets}
 use Rattle.awk_nulls.specs.Lanes.{before, numbers_of_lists, offsets_by}
 

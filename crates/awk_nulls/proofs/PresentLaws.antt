@@ -28,10 +28,10 @@ use Rattle.awk_layout.proofs.Runs.{value_list-run}
 use Rattle.awk_gather.specs.Arrays.{array_item}
 use Rattle.awk_columns.specs.Columns.{is_present}
 use Rattle.awk_columns.specs.Counted.{first_of, present_at, present_place}
-use Rattle.awk_gather.specs.Lanes.{lane_of}
+use Rattle.awk_lanes.specs.Made.{lane_of}
 use Rattle.awk_columns.proofs.FirstPlaces.{length-first_of}
 use Rattle.awk_open.proofs.ItemShapes.{present_item}
-use Rattle.awk_gather.proofs.MadeLanes.{size-lane_of, at-lane_of}
+use Rattle.awk_lanes.proofs.MadeLanes.{size-lane_of, at-lane_of}
 use Rattle.awk_columns.specs.Columns.{present_values}
 use Rattle.awk_columns.specs.Opened.{OpensOption}
 use Rattle.awk_columns.proofs.ArrayLaws.{array_items-at}

@@ -15,7 +15,7 @@ use Rattle.awk_layout.specs.Valid.{len, IsValid}
 use Rattle.awk_layout.specs.Typing.{array_type, array_items}
 use Rattle.awk_gather.specs.Arrays.{array_item}
 use Rattle.awk_columns.specs.Counted.{first_of, present_at}
-use Rattle.awk_gather.specs.Lanes.{lane_of}
+use Rattle.awk_lanes.specs.Made.{lane_of}
 use Rattle.awk_columns.specs.Columns.{present_values}
 use Rattle.awk_nulls.specs.IsNone.{is_null}
 use Rattle.awk_nulls.specs.PadNone.{padded_length}

@@ -33,7 +33,7 @@ fn first_place<L: Ledger>(starts: &Lane, stops: &Lane, i: u64, steps: &mut Steps
 }
 
 /// Where the first item of each list is.
-#[tactic(auto, using(awk_gather::proofs::MadeLanes::making))]
+#[tactic(auto, using(awk_lanes::proofs::MadeLanes::making))]
 fn first_places<'a, L: Ledger>(
     starts: &Lane,
     stops: &Lane,

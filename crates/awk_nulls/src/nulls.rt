@@ -31,7 +31,7 @@ fn null_number(place: Option<u64>) -> Num
 }
 
 /// Whether each item of an option is null.
-#[tactic(auto, using(awk_gather::proofs::MadeLanes::making))]
+#[tactic(auto, using(awk_lanes::proofs::MadeLanes::making))]
 fn nulls<'a, L: Ledger>(
     index: &Lane,
     arena: &'a Arena,
@@ -49,7 +49,7 @@ fn nulls<'a, L: Ledger>(
 }
 
 /// False, n times.
-#[tactic(auto, using(awk_gather::proofs::MadeLanes::making))]
+#[tactic(auto, using(awk_lanes::proofs::MadeLanes::making))]
 fn falses<'a>(n: u64, arena: &'a Arena) -> Result<Lane<'a>, NoMemory>
     ensures { IfOk result (λ r. r ≡ falses_lane n) }
 {

@@ -5,7 +5,7 @@ ghost use Rattle.awk_types.specs.View.{typ_of};
 ghost use Rattle.awk_lanes.specs.Places.{size_of, IsOptionKind};
 ghost use Rattle.awk_lanes.specs.declared.kind.Kind.TheVariants as Kinds;
 ghost use Rattle.awk_columns.specs.Counted.{present_at};
-ghost use Rattle.awk_gather.specs.Lanes.{lane_of};
+ghost use Rattle.awk_lanes.specs.Made.{lane_of};
 ghost use Rattle.awk_nulls.specs.Lanes.{present_lane, ArePresent};
 
 use awk_columns::{Opened, open_array};
@@ -65,7 +65,7 @@ fn present_counts<'a, L: Ledger>(
 }
 
 /// The numbers from 0 on.
-#[tactic(auto, using(awk_gather::proofs::MadeLanes::making))]
+#[tactic(auto, using(awk_lanes::proofs::MadeLanes::making))]
 pub fn numbers<'a>(n: u64, arena: &'a Arena) -> Result<Lane<'a>, NoMemory>
     requires { n < 2 ^ 63 + 1 }
     ensures { IfOk result (λ r. r ≡ lane_of Kinds.I64 n pos) }

@@ -16,13 +16,13 @@ use Rattle.awk_layout.specs.Laws.{len-fits}
 use Rattle.awk_layout.specs.Item.{at_option}
 use Rattle.awk_layout.specs.Typing.{layout_types, array_type}
 use Rattle.awk_gather.specs.Arrays.{array_item}
-use Rattle.awk_gather.specs.Lanes.{lane_of}
+use Rattle.awk_lanes.specs.Made.{lane_of}
 use Rattle.awk_gather.specs.Peeled.{IsBare, IsPeeled}
 use Rattle.awk_open.specs.Plain.{IsPlain}
 use Rattle.awk_open.specs.Opened.{IsKindOf, IsOpened, IsOpenedAt, AreWithin, opened_layout, HasColumns}
 use Rattle.awk_open.specs.declared.opening.Opened.{Opened}
 use Rattle.awk_open.specs.declared.opening.Opened.TheVariants.{Option as Optional}
-use Rattle.awk_gather.proofs.MadeLanes.{size-lane_of, at-lane_of}
+use Rattle.awk_lanes.proofs.MadeLanes.{size-lane_of, at-lane_of}
 use Rattle.awk_gather.proofs.FollowedIndexes.{item_at_place}
 use Rattle.awk_open.proofs.PartLimits.{within_var, within_reg, within_row}
 use Rattle.awk_open.proofs.OpenedKinds.{opened_empty, type-rows}

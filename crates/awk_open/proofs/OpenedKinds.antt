@@ -18,7 +18,7 @@ use Rattle.awk_gather.specs.Lanes.{picked, nexts, multiples, AreBlocks}
 use Rattle.awk_gather.specs.Picked.{IsPicked}
 use Rattle.awk_open.specs.Opened.{IsListOf, IsOpenedAt, ArePicked, AreAllPlaces, AreWithin, AreLong}
 use Rattle.awk_open.specs.declared.opening.Opened.TheVariants.{Empty, Leaf, Items, Row}
-use Rattle.awk_gather.proofs.MadeLanes.{size-lane_of, at-lane_of}
+use Rattle.awk_lanes.proofs.MadeLanes.{size-lane_of, at-lane_of}
 use Rattle.awk_gather.proofs.PickedLanes.{size-picked, at-picked, at-nexts, places_le, spans_picked, spans_of_offsets, blocks_of_places}
 use Rattle.awk_open.proofs.UnionItems.{simples-types}
 

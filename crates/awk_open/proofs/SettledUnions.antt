@@ -20,13 +20,13 @@ use Rattle.awk_layout.specs.Laws.{len-fits}
 use Rattle.awk_layout.specs.Item.{at_option}
 use Rattle.awk_layout.specs.Typing.{array_type}
 use Rattle.awk_gather.specs.Arrays.{array_item}
-use Rattle.awk_gather.specs.Lanes.{lane_of}
+use Rattle.awk_lanes.specs.Made.{lane_of}
 use Rattle.awk_open.specs.Opened.{IsOpened, AreWithin}
 use Rattle.awk_open.specs.declared.opening.Opened.TheVariants.{Option as Optional, Union}
 use Rattle.awk_open.specs.Spread.{spread_at, spread_of, shift, wide, nth_of, chosen, Fits, IsSpread, or_else}
 use Rattle.awk_open.specs.Settled.{settled_tag, settled_place, settled_index, IsPresentAt, AreTags, CanUnite, IsSettled}
 use Rattle.awk_open.proofs.LayoutParts.{len_of-nth}
-use Rattle.awk_gather.proofs.MadeLanes.{size-lane_of, at-lane_of}
+use Rattle.awk_lanes.proofs.MadeLanes.{size-lane_of, at-lane_of}
 use Rattle.awk_open.proofs.PartLimits.{few_alternatives, within_uni, within_opt}
 use Rattle.awk_open.proofs.UnionItems.{simples-types, item-union}
 use Rattle.awk_open.proofs.OpenedArrays.{all_within, option_present}

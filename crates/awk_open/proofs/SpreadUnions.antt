@@ -16,11 +16,11 @@ use Rattle.awk_layout.specs.Valid.{len, len_of, IsValid, IsUnion}
 use Rattle.awk_layout.specs.Item.{at_option}
 use Rattle.awk_layout.specs.Typing.{array_type}
 use Rattle.awk_gather.specs.Arrays.{array_item}
-use Rattle.awk_gather.specs.Lanes.{lane_of}
+use Rattle.awk_lanes.specs.Made.{lane_of}
 use Rattle.awk_gather.specs.Peeled.{through, followed, IsPeeled}
 use Rattle.awk_open.specs.Spread.{spread_at, spread_of, shift, wide, wides, nth_of, chosen, Fits, AreChosen, IsSpread, alternative, or_else, joined_index, joined_tags}
 use Rattle.awk_open.proofs.LayoutParts.{len_of-get}
-use Rattle.awk_gather.proofs.MadeLanes.{size-lane_of, at-lane_of}
+use Rattle.awk_lanes.proofs.MadeLanes.{size-lane_of, at-lane_of}
 use Rattle.awk_gather.proofs.FollowedIndexes.{size-followed, at-followed, index_followed}
 use Rattle.awk_gather.proofs.PeeledNodes.{option_same}
 use Rattle.awk_open.proofs.UnionItems.{spread-union, alternatives-union, after_option}

@@ -10,7 +10,8 @@ ghost use Rattle.awk_layout.specs.Layout.{layouts_from, flat, lists, offset_list
 ghost use Rattle.awk_layout.specs.Layout.{regular as regular_lists, rows};
 ghost use Rattle.awk_layout.specs.Typing.{array_type};
 ghost use Rattle.awk_layout.specs.Valid.{len, IsValid};
-ghost use Rattle.awk_gather.specs.Lanes.{lane_of, picked, multiples, AreBlocks};
+ghost use Rattle.awk_lanes.specs.Made.{lane_of};
+ghost use Rattle.awk_gather.specs.Lanes.{picked, multiples, AreBlocks};
 ghost use Rattle.awk_open.specs.Opened.{IsOpened, IsOpenedAt, ArePicked, AreAllPlaces, AreWithin};
 ghost use Rattle.awk_open.specs.Plain.{IsPlain};
 
@@ -56,7 +57,7 @@ pub enum Opened<'a> {
 }
 
 /// The first n places.
-#[tactic(auto, using(awk_gather::proofs::MadeLanes::making))]
+#[tactic(auto, using(awk_lanes::proofs::MadeLanes::making))]
 pub fn firsts<'a>(n: u64, arena: &'a Arena) -> Result<Lane<'a>, NoMemory>
     requires { n < 2 ^ 63 }
     ensures lane { IfOk result (λ r. r ≡ lane_of Kind.I64 n pos) }
@@ -69,7 +70,7 @@ pub fn firsts<'a>(n: u64, arena: &'a Arena) -> Result<Lane<'a>, NoMemory>
 }
 
 /// So many places past the multiples of places.
-#[tactic(auto, using(awk_gather::proofs::MadeLanes::making))]
+#[tactic(auto, using(awk_lanes::proofs::MadeLanes::making))]
 fn multiple_lane<'a, L: Ledger>(
     size: u64,
     distance: u64,

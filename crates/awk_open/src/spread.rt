@@ -6,7 +6,7 @@ ghost use Rattle.awk_lanes.specs.Places.{size_of, at, place_at, option_place_at,
 ghost use Rattle.awk_lanes.specs.declared.kind.Kind.TheVariants as Kind;
 ghost use Rattle.awk_layout.specs.Layout.{layouts_from, union as united};
 ghost use Rattle.awk_layout.specs.Valid.{len, IsValid};
-ghost use Rattle.awk_gather.specs.Lanes.{lane_of};
+ghost use Rattle.awk_lanes.specs.Made.{lane_of};
 ghost use Rattle.awk_gather.specs.Peeled.{through, followed, IsBare};
 ghost use Rattle.awk_open.specs.Plain.{IsPlain};
 ghost use Rattle.awk_open.specs.Spread.{IsSpread, alternative, joined_index, joined_tags};
@@ -27,7 +27,7 @@ pub struct Spread<'a> {
 }
 
 /// A lane of one number again and again.
-#[tactic(auto, using(awk_gather::proofs::MadeLanes::making))]
+#[tactic(auto, using(awk_lanes::proofs::MadeLanes::making))]
 fn repeated<'a>(n: u64, x: Num, arena: &'a Arena) -> Result<Lane<'a>, NoMemory>
     requires { IsOf Kind.I64 x }
     ensures lane { IfOk result (λ r. r ≡ lane_of Kind.I64 n (λ i. int_of x)) }
@@ -102,7 +102,7 @@ fn next_of<L: Ledger>(
 }
 
 /// The places in an alternative of the items of an index into a union, and -1 for each other.
-#[tactic(auto, using(awk_gather::proofs::MadeLanes::making))]
+#[tactic(auto, using(awk_lanes::proofs::MadeLanes::making))]
 fn of_alternative<'a, L: Ledger>(
     tags: &Lane,
     index: &Lane,
@@ -187,7 +187,7 @@ fn joined_tag<L: Ledger>(
 }
 
 /// The new places where they are not negative, else the old ones.
-#[tactic(auto, using(awk_gather::proofs::MadeLanes::making))]
+#[tactic(auto, using(awk_lanes::proofs::MadeLanes::making))]
 fn join_index<'a, L: Ledger>(
     old: &Lane,
     new: &Lane,
@@ -210,7 +210,7 @@ fn join_index<'a, L: Ledger>(
 }
 
 /// The new tags after others where their places are not negative, else the old ones.
-#[tactic(auto, using(awk_gather::proofs::MadeLanes::making))]
+#[tactic(auto, using(awk_lanes::proofs::MadeLanes::making))]
 fn join_tags<'a, L: Ledger>(
     old: &Lane,
     tags: &Lane,

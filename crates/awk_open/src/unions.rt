@@ -10,7 +10,7 @@ ghost use Rattle.awk_lanes.specs.declared.kind.Kind.TheVariants as Kind;
 ghost use Rattle.awk_layout.specs.Layout.{layouts_from};
 ghost use Rattle.awk_layout.specs.Typing.{array_type};
 ghost use Rattle.awk_layout.specs.Valid.{AllValid};
-ghost use Rattle.awk_gather.specs.Lanes.{lane_of};
+ghost use Rattle.awk_lanes.specs.Made.{lane_of};
 ghost use Rattle.awk_open.specs.Opened.{IsOpened, AreWithin};
 ghost use Rattle.awk_open.specs.Settled.{settled_tag, settled_place, settled_index, IsPresentAt};
 ghost use Rattle.awk_open.specs.Settled.{AreTags, CanUnite, IsSettled};
@@ -66,7 +66,7 @@ fn next_tag<L: Ledger>(tags: &Lane, index: &Lane, other: u64, i: u64, steps: &mu
 }
 
 /// Tags as a union has them. A null gets another tag.
-#[tactic(auto, using(awk_gather::proofs::MadeLanes::making))]
+#[tactic(auto, using(awk_lanes::proofs::MadeLanes::making))]
 fn settle_tags<'a, L: Ledger>(
     tags: &Lane,
     index: &Lane,
@@ -110,7 +110,7 @@ fn next_place<L: Ledger>(index: &Lane, other: i64, i: u64, steps: &mut Steps<L>)
 }
 
 /// Places of a union. A null gets another place.
-#[tactic(auto, using(awk_gather::proofs::MadeLanes::making))]
+#[tactic(auto, using(awk_lanes::proofs::MadeLanes::making))]
 fn settle_places<'a, L: Ledger>(
     index: &Lane,
     other: i64,
@@ -142,7 +142,7 @@ fn own_place<L: Ledger>(index: &Lane, i: u64, steps: &mut Steps<L>) -> Num
 }
 
 /// The index of an option that is null where a place is negative.
-#[tactic(auto, using(awk_gather::proofs::MadeLanes::making))]
+#[tactic(auto, using(awk_lanes::proofs::MadeLanes::making))]
 fn own_places<'a, L: Ledger>(
     index: &Lane,
     arena: &'a Arena,

@@ -21,7 +21,7 @@ use Rattle.awk_layout.specs.Valid.{len}
 use Rattle.awk_layout.specs.Typing.{array_type, array_items, array_datum}
 use Rattle.awk_layout.proofs.ArrayItems.{length-array_items}
 use Rattle.awk_gather.specs.Arrays.{pick}
-use Rattle.awk_gather.specs.Lanes.{lane_of}
+use Rattle.awk_lanes.specs.Made.{lane_of}
 use Rattle.awk_select.specs.Cells.{places_lane, take_number}
 use Rattle.awk_select.specs.Picks.{picked, picked_type, limit_refused}
 use Rattle.awk_select.specs.Picks.{mask_places, alike}

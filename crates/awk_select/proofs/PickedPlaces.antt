@@ -25,7 +25,7 @@ use Rattle.awk_layout.specs.Valid.{len}
 use Rattle.awk_layout.specs.Item.{item, at_option}
 use Rattle.awk_layout.specs.Typing.{layout_type, array_items}
 use Rattle.awk_gather.specs.Arrays.{pick}
-use Rattle.awk_gather.specs.Lanes.{lane_of}
+use Rattle.awk_lanes.specs.Made.{lane_of}
 use Rattle.awk_layout.proofs.ArrayItems.{length-array_items, get_or-array_items}
 use Rattle.awk_select.specs.Cells.{is_leaf, IsBelow, place_number, places_lane, mask_numbers}
 use Rattle.awk_select.specs.Cells.{take_number}

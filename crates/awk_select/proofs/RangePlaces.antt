@@ -13,7 +13,7 @@ use Rattle.awk_lanes.specs.Column.{Column}
 use Rattle.awk_lanes.specs.Places.{IsIndex}
 use Rattle.awk_gather.specs.Arrays.{pick}
 use Rattle.awk_columns.specs.Counted.{places_lane, AreBelow}
-use Rattle.awk_gather.specs.Lanes.{lane_of}
+use Rattle.awk_lanes.specs.Made.{lane_of}
 use Rattle.awk_columns.proofs.ReachedContents.{places_index}
 use Rattle.awk_select.specs.Picks.{items_at}
 use Rattle.awk_select.specs.Places.{bound_up, bound_down, multiples_below, places_up, places_down}

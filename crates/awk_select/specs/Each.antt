@@ -10,7 +10,7 @@ use Rattle.awk_lanes.specs.Column.{Column}
 use Rattle.awk_lanes.specs.Places.{size_of, place_at}
 use Rattle.awk_lanes.specs.declared.kind.Kind.TheVariants.{I64}
 use Rattle.awk_layout.specs.Item.{at_option}
-use Rattle.awk_gather.specs.Lanes.{lane_of}
+use Rattle.awk_lanes.specs.Made.{lane_of}
 use Rattle.awk_axis.specs.ListFunction.{ListFunction, singles}
 use Rattle.awk_axis.specs.Lifting.{lift}
 use Rattle.awk_axis.specs.declared.causes.Spoil.TheVariants.{Index}

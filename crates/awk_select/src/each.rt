@@ -92,7 +92,7 @@ fn item_place<L: Ledger>(
 }
 
 // Where in the content the items of all lists lie, if each has one.
-#[tactic(auto, using(awk_gather::proofs::MadeLanes::making))]
+#[tactic(auto, using(awk_lanes::proofs::MadeLanes::making))]
 fn item_places<'a, L: Ledger>(
     starts: &Lane,
     stops: &Lane,

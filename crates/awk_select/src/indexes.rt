@@ -13,7 +13,7 @@ ghost use Rattle.awk_layout.specs.Datum.{IsDatum, datum_of};
 ghost use Rattle.awk_layout.specs.Typing.{array_type, array_items, array_datum};
 ghost use Rattle.awk_layout.specs.Valid.{len};
 ghost use Rattle.awk_gather.specs.Arrays.{array_item};
-ghost use Rattle.awk_gather.specs.Lanes.{lane_of};
+ghost use Rattle.awk_lanes.specs.Made.{lane_of};
 ghost use Rattle.awk_select.specs.Cells.{AreCells, number_value, take_number};
 ghost use Rattle.awk_select.specs.Picks as picks;
 ghost use Rattle.awk_select.specs.Picks.{take_of, take_places, is_outside, index_refused};
@@ -161,7 +161,7 @@ fn taken_number<L: Ledger>(ix: &Array, cells: &Cells, n: u64, i: u64, steps: &mu
 }
 
 // The places of n items that an index names, and -1 for each null.
-#[tactic(auto, using(awk_gather::proofs::MadeLanes::making))]
+#[tactic(auto, using(awk_lanes::proofs::MadeLanes::making))]
 fn take_lane<'a, L: Ledger>(
     ix: &Array,
     cells: &Cells,

@@ -176,7 +176,7 @@ fn count<L: Ledger>(m: &Array, cells: &Cells, steps: &mut Steps<L>) -> u64
 }
 
 // The places of the true items of a mask, and -1 for each null: n together.
-#[tactic(auto, using(awk_gather::proofs::MadeLanes::making))]
+#[tactic(auto, using(awk_lanes::proofs::MadeLanes::making))]
 fn mask_lane<'a, L: Ledger>(
     m: &Array,
     cells: &Cells,

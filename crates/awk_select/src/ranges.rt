@@ -115,7 +115,7 @@ fn multiples_below(distance: u64, step: u64) -> u64
     (distance + (step - 1)) / step
 }
 
-#[tactic(auto, using(awk_gather::proofs::MadeLanes::making))]
+#[tactic(auto, using(awk_lanes::proofs::MadeLanes::making))]
 fn lane_up<'a>(lo: u64, hi: u64, step: u64, arena: &'a Arena) -> Result<Lane<'a>, NoMemory>
     requires hi { hi < 2 ^ 63 }
     requires step { 0 < step }
@@ -139,7 +139,7 @@ fn place_up(lo: u64, hi: u64, step: u64, j: u64) -> u64
     lo + j * step
 }
 
-#[tactic(auto, using(awk_gather::proofs::MadeLanes::making))]
+#[tactic(auto, using(awk_lanes::proofs::MadeLanes::making))]
 fn lane_down<'a>(lo: u64, hi: u64, step: u64, arena: &'a Arena) -> Result<Lane<'a>, NoMemory>
     requires lo { lo < 2 ^ 63 }
     requires step { 0 < step }

@@ -3,7 +3,7 @@ use Rattle.awk_lanes.specs.Numbers.{int_of}
 use Rattle.awk_lanes.specs.Places.{option_place_at}
 use Rattle.awk_columns.specs.Counted.{count_or_null, present_place, present_at}
 use Rattle.awk_columns.proofs.FirstPlaces.{length-first_of, present-few}
-use Rattle.awk_gather.proofs.MadeLanes.{so_far_pushed}
+use Rattle.awk_lanes.proofs.MadeLanes.{so_far_pushed}
 use Rattle.awk_columns.proofs.counted.counted.Goals as goal
 
 pub loop-i-preserved : goal.loop-i-preserved

@@ -2,7 +2,7 @@ use Rattle.std.proofs.Common.{◌≡◌, length}
 use Rattle.awk_lanes.specs.declared.kind.Kind.TheVariants.{I64}
 use Rattle.awk_lanes.specs.Places.{size_of}
 use Rattle.awk_columns.specs.Counted.{first_of, present_at, counted_at}
-use Rattle.awk_gather.proofs.MadeLanes.{IsSoFar}
+use Rattle.awk_lanes.proofs.MadeLanes.{IsSoFar}
 use Rattle.awk_columns.proofs.counted.counted.Given as goal
 
 abbrev pub invariant-loop-i : goal.invariant-loop-i

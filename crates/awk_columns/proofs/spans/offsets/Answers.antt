@@ -4,7 +4,7 @@ use Rattle.awk_lanes.specs.declared.kind.Kind.TheVariants.{I64}
 use Rattle.awk_lanes.specs.Numbers.{int_of}
 use Rattle.awk_lanes.specs.Places.{size_of}
 use Rattle.awk_columns.specs.Counted.{first_of, span_at, offset_at}
-use Rattle.awk_gather.proofs.MadeLanes.{so_far_pushed, made_size}
+use Rattle.awk_lanes.proofs.MadeLanes.{so_far_pushed, made_size}
 use Rattle.awk_columns.proofs.SpanPlaces.{span-count, span-room}
 use Rattle.awk_columns.proofs.spans.offsets.Goals as goal
 

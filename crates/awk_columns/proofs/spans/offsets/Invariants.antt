@@ -2,7 +2,7 @@ use Rattle.std.specs.Prelude.{◌≡◌, ◌+◌, length}
 use Rattle.awk_lanes.specs.declared.kind.Kind.TheVariants.{I64}
 use Rattle.awk_lanes.specs.Places.{size_of}
 use Rattle.awk_columns.specs.Counted.{first_of, span_at, offset_at}
-use Rattle.awk_gather.proofs.MadeLanes.{IsSoFar}
+use Rattle.awk_lanes.proofs.MadeLanes.{IsSoFar}
 use Rattle.awk_columns.proofs.spans.offsets.Given as goal
 
 abbrev pub invariant-loop-i : goal.invariant-loop-i

@@ -2,7 +2,7 @@ use Rattle.std.proofs.Common.{◌+◌, ◌<◌, length, arith, refl, ap, sym, �
 use Rattle.std.proofs.lemmas.List.{length-set}
 use Rattle.awk_lanes.specs.Numbers.{int_of}
 use Rattle.awk_lanes.specs.Places.{size_of}
-use Rattle.awk_gather.proofs.MadeLanes.{so_far_pushed}
+use Rattle.awk_lanes.proofs.MadeLanes.{so_far_pushed}
 use Rattle.awk_columns.proofs.TaggedCounts.{AreCounts, counts_more, count_before}
 use Rattle.awk_columns.proofs.tagged.counted_union.Goals as goal
 

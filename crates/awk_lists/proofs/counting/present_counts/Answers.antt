@@ -5,7 +5,7 @@ use Rattle.awk_lanes.specs.Places.{size_of}
 use Rattle.awk_lanes.specs.declared.kind.Kind.TheVariants.{I64}
 use Rattle.awk_columns.specs.Counted.{first_of, present_at}
 use Rattle.awk_columns.proofs.FirstPlaces.{length-first_of, present-few}
-use Rattle.awk_gather.proofs.MadeLanes.{so_far_pushed, made_size}
+use Rattle.awk_lanes.proofs.MadeLanes.{so_far_pushed, made_size}
 use Rattle.awk_lists.proofs.counting.present_counts.Goals as goal
 
 pub overflow_add-count : goal.overflow_add-count

@@ -4,7 +4,7 @@ use Rattle.awk_lanes.specs.Numbers.{int_of, nat_of}
 use Rattle.awk_lanes.specs.declared.kind.Kind.TheVariants.{I64}
 use Rattle.awk_layout.specs.Typing.{array_items}
 use Rattle.awk_layout.specs.Valid.{len}
-use Rattle.awk_gather.proofs.MadeLanes.{so_far_pushed, made_size}
+use Rattle.awk_lanes.proofs.MadeLanes.{so_far_pushed, made_size}
 use Rattle.awk_lists.specs.Unflatten.{counted_before}
 use Rattle.awk_lists.proofs.Cuts.{counted_next, counted_few}
 use Rattle.awk_lists.proofs.cutting.offsets_by.Goals as goal

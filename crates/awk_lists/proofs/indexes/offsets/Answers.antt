@@ -3,7 +3,7 @@ use Rattle.std.specs.Prelude.{pos}
 use Rattle.awk_lanes.specs.declared.kind.Kind.TheVariants as Kind
 use Rattle.awk_lanes.specs.Places.{size_of}
 use Rattle.awk_lists.specs.Lanes.{before}
-use Rattle.awk_gather.proofs.MadeLanes.{so_far_pushed, made_size}
+use Rattle.awk_lanes.proofs.MadeLanes.{so_far_pushed, made_size}
 use Rattle.awk_lists.proofs.Offsets.{before-next, before_mono}
 use Rattle.awk_lists.proofs.indexes.offsets.Goals as goal
 

@@ -2,7 +2,7 @@ use Rattle.std.specs.Prelude.{◌≡◌, ◌+◌, pos}
 use Rattle.awk_lanes.specs.declared.kind.Kind.TheVariants as Kind
 use Rattle.awk_lanes.specs.Places.{size_of}
 use Rattle.awk_lists.specs.Lanes.{before}
-use Rattle.awk_gather.proofs.MadeLanes.{IsSoFar}
+use Rattle.awk_lanes.proofs.MadeLanes.{IsSoFar}
 use Rattle.awk_lists.proofs.indexes.offsets.Given as goal
 
 abbrev pub invariant-loop-i : goal.invariant-loop-i

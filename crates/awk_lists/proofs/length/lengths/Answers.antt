@@ -3,7 +3,7 @@ use Rattle.std.specs.Prelude.{pos}
 use Rattle.awk_lanes.specs.declared.kind.Kind.TheVariants as Kind
 use Rattle.awk_lanes.specs.Places.{size_of}
 use Rattle.awk_lists.specs.Lanes.{span_length}
-use Rattle.awk_gather.proofs.MadeLanes.{so_far_pushed, made_size}
+use Rattle.awk_lanes.proofs.MadeLanes.{so_far_pushed, made_size}
 use Rattle.awk_lists.proofs.length.lengths.Goals as goal
 
 pub push-requires-clause-room : goal.push-requires-clause-room

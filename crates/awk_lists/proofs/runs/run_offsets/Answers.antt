@@ -3,7 +3,7 @@ use Rattle.std.specs.Prelude.{pos}
 use Rattle.awk_lanes.specs.Numbers.{int_of}
 use Rattle.awk_lanes.specs.declared.kind.Kind.TheVariants.{I64}
 use Rattle.awk_columns.proofs.FirstPlaces.{length-first_of, first_of-mono}
-use Rattle.awk_gather.proofs.MadeLanes.{so_far_pushed, made_size}
+use Rattle.awk_lanes.proofs.MadeLanes.{so_far_pushed, made_size}
 use Rattle.awk_lists.specs.Runs.{runs_between, runs_at, runs_before}
 use Rattle.awk_lists.proofs.runs.run_offsets.Goals as goal
 

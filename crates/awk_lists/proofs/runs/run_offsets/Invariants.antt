@@ -1,6 +1,6 @@
 use Rattle.std.specs.Prelude.{◌≡◌, ◌+◌, pos}
 use Rattle.awk_lanes.specs.declared.kind.Kind.TheVariants as Kind
-use Rattle.awk_gather.proofs.MadeLanes.{IsSoFar}
+use Rattle.awk_lanes.proofs.MadeLanes.{IsSoFar}
 use Rattle.awk_lists.specs.Runs.{runs_before}
 use Rattle.awk_lists.proofs.runs.run_offsets.Given as goal
 

@@ -1,5 +1,5 @@
 use Rattle.awk_lanes.specs.Numbers.{int_of}
-use Rattle.awk_gather.proofs.MadeLanes.{so_far_pushed}
+use Rattle.awk_lanes.proofs.MadeLanes.{so_far_pushed}
 use Rattle.awk_mask.proofs.mask_leaves.bytes_of.Goals as goal
 
 pub loop-i-preserved : goal.loop-i-preserved

@@ -1,6 +1,6 @@
 use Rattle.awk_lanes.specs.declared.kind.Kind.TheVariants as Kinds
 use Rattle.awk_lanes.specs.Places.{size_of, at}
-use Rattle.awk_gather.proofs.MadeLanes.{IsSoFar}
+use Rattle.awk_lanes.proofs.MadeLanes.{IsSoFar}
 use Rattle.awk_mask.proofs.mask_leaves.bytes_of.Given as goal
 
 abbrev pub invariant-loop-i : goal.invariant-loop-i

@@ -5,7 +5,7 @@ use Rattle.awk_lanes.specs.Places.{size_of}
 use Rattle.awk_lanes.specs.declared.kind.Kind.TheVariants.{I64}
 use Rattle.awk_layout.specs.Valid.{len}
 use Rattle.awk_types.specs.ItemLimit.{item_limit}
-use Rattle.awk_gather.specs.Lanes.{lane_of}
+use Rattle.awk_lanes.specs.Made.{lane_of}
 use Rattle.awk_columns.specs.Joined.{IsJoined, total}
 use Rattle.awk_columns.specs.Opened.{items_at}
 use Rattle.awk_columns.specs.declared.opening.Joined.TheVariants.{TooMany, Lists}

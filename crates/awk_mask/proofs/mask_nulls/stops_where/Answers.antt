@@ -1,7 +1,7 @@
 use Rattle.std.specs.Prelude.{◌+◌, pos}
 use Rattle.std.proofs.Common.{arith, ap, ◌∙◌}
 use Rattle.awk_lanes.specs.Numbers.{int_of}
-use Rattle.awk_gather.proofs.MadeLanes.{so_far_pushed}
+use Rattle.awk_lanes.proofs.MadeLanes.{so_far_pushed}
 use Rattle.awk_mask.proofs.MaskNulls.{at_most_one}
 use Rattle.awk_mask.proofs.mask_nulls.stops_where.Goals as goal
 

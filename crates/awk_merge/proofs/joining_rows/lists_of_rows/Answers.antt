@@ -1,7 +1,7 @@
 use Rattle.std.proofs.Common.{◌+◌, ◌*◌, arith}
 use Rattle.awk_lanes.specs.Places.{at}
 use Rattle.awk_layout.specs.Valid.{len}
-use Rattle.awk_gather.proofs.MadeLanes.{size-lane_of}
+use Rattle.awk_lanes.proofs.MadeLanes.{size-lane_of}
 use Rattle.awk_merge.proofs.JoinedRowLaws.{rows-offsets}
 use Rattle.awk_merge.proofs.joining_rows.lists_of_rows.Goals as goal
 

@@ -1,6 +1,6 @@
 use Rattle.std.specs.Prelude.{◌+◌, ◌*◌}
 use Rattle.awk_lanes.specs.Places.{at}
-use Rattle.awk_gather.proofs.MadeLanes.{IsSoFar}
+use Rattle.awk_lanes.proofs.MadeLanes.{IsSoFar}
 use Rattle.awk_merge.proofs.joining_rows.offsets_of_rows.Given as goal
 
 abbrev pub invariant-loop-i : goal.invariant-loop-i

@@ -1,6 +1,6 @@
 use Rattle.awk_lanes.specs.Numbers.{int_of}
 use Rattle.awk_lanes.specs.declared.kind.Kind.TheVariants.{I64}
-use Rattle.awk_gather.proofs.MadeLanes.{so_far_pushed}
+use Rattle.awk_lanes.proofs.MadeLanes.{so_far_pushed}
 use Rattle.awk_merge.specs.Operands.{row_or_null}
 use Rattle.awk_merge.proofs.joining_rows.rows_lane.Goals as goal
 

@@ -1,5 +1,5 @@
 use Rattle.awk_lanes.specs.declared.kind.Kind.TheVariants.{I64}
-use Rattle.awk_gather.proofs.MadeLanes.{IsSoFar}
+use Rattle.awk_lanes.proofs.MadeLanes.{IsSoFar}
 use Rattle.awk_merge.specs.Operands.{row_or_null}
 use Rattle.awk_merge.proofs.joining_rows.rows_lane.Given as goal
 

@@ -3,7 +3,7 @@ use Rattle.std.specs.List.{range_with_len}
 use Rattle.std.specs.Prelude.{negsuc}
 use Rattle.awk_lanes.specs.Places.{IsOptionalIndex}
 use Rattle.awk_layout.specs.Valid.{len}
-use Rattle.awk_gather.proofs.MadeLanes.{so_far_pushed}
+use Rattle.awk_lanes.proofs.MadeLanes.{so_far_pushed}
 use Rattle.awk_merge_rows.proofs.RowSides.{null_index}
 use Rattle.awk_merge_rows.proofs.rows.nulls.Goals as goal
 

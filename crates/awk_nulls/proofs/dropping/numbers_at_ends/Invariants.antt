@@ -1,7 +1,7 @@
 use Rattle.std.specs.Prelude.{◌==◌, pos, if◌then◌else◌}
 use Rattle.awk_lanes.specs.declared.kind.Kind.TheVariants as Kinds
 use Rattle.awk_lanes.specs.Places.{size_of, at, place_at}
-use Rattle.awk_gather.proofs.MadeLanes.{IsSoFar}
+use Rattle.awk_lanes.proofs.MadeLanes.{IsSoFar}
 use Rattle.awk_nulls.specs.Lanes.{span_length}
 use Rattle.awk_nulls.proofs.dropping.numbers_at_ends.Given as goal
 

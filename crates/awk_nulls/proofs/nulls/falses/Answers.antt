@@ -1,6 +1,6 @@
 use Rattle.std.proofs.Common.{refl}
 use Rattle.std.specs.Prelude.{pos}
-use Rattle.awk_gather.proofs.MadeLanes.{so_far_pushed}
+use Rattle.awk_lanes.proofs.MadeLanes.{so_far_pushed}
 use Rattle.awk_nulls.proofs.nulls.falses.Goals as goal
 
 pub loop-i-preserved : goal.loop-i-preserved

@@ -1,6 +1,6 @@
 use Rattle.std.proofs.Common.{ap, ◌∙◌}
 use Rattle.awk_lanes.specs.Numbers.{int_of}
-use Rattle.awk_gather.proofs.MadeLanes.{so_far_pushed}
+use Rattle.awk_lanes.proofs.MadeLanes.{so_far_pushed}
 use Rattle.awk_nulls.specs.Lanes.{null_number}
 use Rattle.awk_nulls.proofs.nulls.nulls.Goals as goal
 

@@ -1,6 +1,6 @@
 use Rattle.awk_lanes.specs.declared.kind.Kind.TheVariants as Kinds
 use Rattle.awk_lanes.specs.Places.{size_of, option_place_at}
-use Rattle.awk_gather.proofs.MadeLanes.{IsSoFar}
+use Rattle.awk_lanes.proofs.MadeLanes.{IsSoFar}
 use Rattle.awk_nulls.specs.Lanes.{null_number}
 use Rattle.awk_nulls.proofs.nulls.nulls.Given as goal
 

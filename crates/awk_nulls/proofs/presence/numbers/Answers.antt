@@ -1,4 +1,4 @@
-use Rattle.awk_gather.proofs.MadeLanes.{so_far_pushed}
+use Rattle.awk_lanes.proofs.MadeLanes.{so_far_pushed}
 use Rattle.awk_nulls.proofs.presence.numbers.Goals as goal
 
 pub loop-i-preserved : goal.loop-i-preserved

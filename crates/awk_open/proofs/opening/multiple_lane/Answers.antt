@@ -1,6 +1,6 @@
 use Rattle.std.proofs.Common.{ℕ, ap, ◌∙◌, ◌+◌, ◌*◌}
 use Rattle.std.specs.Prelude.{pos}
-use Rattle.awk_gather.proofs.MadeLanes.{so_far_pushed}
+use Rattle.awk_lanes.proofs.MadeLanes.{so_far_pushed}
 use Rattle.awk_open.proofs.opening.multiple_lane.Goals as goal
 
 pub loop-i-preserved : goal.loop-i-preserved

@@ -7,7 +7,7 @@ use Rattle.awk_layout.specs.Laws.{len-fits}
 use Rattle.awk_layout.specs.Layout.{Layout}
 use Rattle.awk_layout.specs.Typing.{array_type}
 use Rattle.awk_layout.specs.Valid.{len}
-use Rattle.awk_gather.specs.Lanes.{lane_of}
+use Rattle.awk_lanes.specs.Made.{lane_of}
 use Rattle.awk_gather.specs.Peeled.{IsPeeled}
 use Rattle.awk_open.proofs.OpenedArrays.{all_optional, peeled_size, peeled_places, opened_option, opened_through}
 use Rattle.awk_open.proofs.opening.open_peeled.Goals as goal

@@ -1,5 +1,5 @@
 use Rattle.std.proofs.Common.{refl}
-use Rattle.awk_gather.proofs.MadeLanes.{so_far_pushed}
+use Rattle.awk_lanes.proofs.MadeLanes.{so_far_pushed}
 use Rattle.awk_open.proofs.spread.repeated.Goals as goal
 
 pub loop-i-preserved : goal.loop-i-preserved

@@ -1,6 +1,6 @@
 use Rattle.awk_lanes.specs.declared.kind.Kind.TheVariants as Kind
 use Rattle.awk_lanes.specs.Numbers.{int_of}
-use Rattle.awk_gather.proofs.MadeLanes.{IsSoFar}
+use Rattle.awk_lanes.proofs.MadeLanes.{IsSoFar}
 use Rattle.awk_open.proofs.spread.repeated.Given as goal
 
 abbrev pub invariant-loop-i : goal.invariant-loop-i

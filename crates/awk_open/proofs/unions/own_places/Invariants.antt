@@ -1,7 +1,7 @@
 use Rattle.awk_lanes.specs.declared.kind.Kind.TheVariants as Kind
 use Rattle.awk_lanes.specs.Places.{size_of}
 use Rattle.awk_open.specs.Settled.{settled_index}
-use Rattle.awk_gather.proofs.MadeLanes.{IsSoFar}
+use Rattle.awk_lanes.proofs.MadeLanes.{IsSoFar}
 use Rattle.awk_open.proofs.unions.own_places.Given as goal
 
 abbrev pub invariant-loop-i : goal.invariant-loop-i

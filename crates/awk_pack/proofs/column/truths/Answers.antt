@@ -1,6 +1,6 @@
 use Rattle.std.proofs.Common.{arith}
 use Rattle.awk_lanes.specs.Places.{at}
-use Rattle.awk_gather.proofs.MadeLanes.{so_far_pushed, made_size}
+use Rattle.awk_lanes.proofs.MadeLanes.{so_far_pushed, made_size}
 use Rattle.awk_pack.proofs.column.truths.Goals as goal
 
 pub loop-i-preserved : goal.loop-i-preserved

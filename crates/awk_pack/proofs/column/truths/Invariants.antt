@@ -1,5 +1,5 @@
 use Rattle.awk_lanes.specs.Places.{size_of, at}
-use Rattle.awk_gather.proofs.MadeLanes.{IsSoFar}
+use Rattle.awk_lanes.proofs.MadeLanes.{IsSoFar}
 use Rattle.awk_pack.proofs.column.truths.Given as goal
 
 abbrev pub invariant-loop-i : goal.invariant-loop-i

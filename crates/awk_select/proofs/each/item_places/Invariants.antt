@@ -1,5 +1,5 @@
 use Rattle.awk_lanes.specs.declared.kind.Kind.TheVariants.{I64}
-use Rattle.awk_gather.proofs.MadeLanes.{IsSoFar}
+use Rattle.awk_lanes.proofs.MadeLanes.{IsSoFar}
 use Rattle.awk_select.specs.Each.{item_number, AllHave}
 use Rattle.awk_select.proofs.each.item_places.Given as goal
 

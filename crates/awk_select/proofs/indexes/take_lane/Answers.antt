@@ -1,5 +1,5 @@
 use Rattle.awk_lanes.specs.Numbers.{int_of}
-use Rattle.awk_gather.proofs.MadeLanes.{so_far_pushed}
+use Rattle.awk_lanes.proofs.MadeLanes.{so_far_pushed}
 use Rattle.awk_select.proofs.indexes.take_lane.Goals as goal
 
 pub loop-i-preserved : goal.loop-i-preserved

@@ -1,5 +1,5 @@
 use Rattle.awk_lanes.specs.declared.kind.Kind.TheVariants.{I64}
-use Rattle.awk_gather.proofs.MadeLanes.{IsSoFar}
+use Rattle.awk_lanes.proofs.MadeLanes.{IsSoFar}
 use Rattle.awk_select.specs.Cells.{take_number}
 use Rattle.awk_select.proofs.indexes.take_lane.Given as goal
 

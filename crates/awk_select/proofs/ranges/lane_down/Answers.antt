@@ -1,7 +1,7 @@
 use Rattle.std.proofs.Common.{◌≡◌, ◌-◌, ◌*◌, suc, arith, ap, ◌∙◌}
 use Rattle.std.specs.Prelude.{pos}
 use Rattle.awk_lanes.specs.Numbers.{int_of}
-use Rattle.awk_gather.proofs.MadeLanes.{so_far_pushed}
+use Rattle.awk_lanes.proofs.MadeLanes.{so_far_pushed}
 use Rattle.awk_select.specs.Places.{multiples_below}
 use Rattle.awk_select.proofs.PickedPlaces.{lane-ext}
 use Rattle.awk_select.proofs.RangePlaces.{multiple-below, lane-down, end-is}

@@ -1,6 +1,6 @@
 use Rattle.std.specs.Prelude.{◌-◌, ◌*◌, suc, pos}
 use Rattle.awk_lanes.specs.declared.kind.Kind.TheVariants.{I64}
-use Rattle.awk_gather.proofs.MadeLanes.{IsSoFar}
+use Rattle.awk_lanes.proofs.MadeLanes.{IsSoFar}
 use Rattle.awk_select.proofs.ranges.lane_down.Given as goal
 
 abbrev pub invariant-loop-j : goal.invariant-loop-j

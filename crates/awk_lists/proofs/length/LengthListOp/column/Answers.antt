@@ -3,7 +3,7 @@ use Rattle.awk_lanes.specs.declared.kind.Kind.TheVariants as Kinds
 use Rattle.std.specs.Prelude.{pos}
 use Rattle.awk_lanes.specs.Places.{size_of}
 use Rattle.awk_lists.specs.Lanes.{span_length}
-use Rattle.awk_gather.proofs.MadeLanes.{size-lane_of}
+use Rattle.awk_lanes.proofs.MadeLanes.{size-lane_of}
 use Rattle.awk_lists.proofs.Spans.{lists_within, lengths_column}
 use Rattle.awk_lists.proofs.length.LengthListOp.column.Goals as goal
 

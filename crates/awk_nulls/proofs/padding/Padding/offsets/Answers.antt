@@ -2,7 +2,7 @@ use Rattle.std.proofs.Common.{◌≡◌, ◌+◌, ◌≤◌, length, ap, ◌∙�
 use Rattle.std.specs.Prelude.{ℕ, pos}
 use Rattle.awk_lanes.specs.declared.kind.Kind.TheVariants as Kind
 use Rattle.awk_lanes.specs.Places.{size_of}
-use Rattle.awk_gather.proofs.MadeLanes.{so_far_pushed, made_size}
+use Rattle.awk_lanes.proofs.MadeLanes.{so_far_pushed, made_size}
 use Rattle.awk_nulls.specs.Lanes.{before, padded_span}
 use Rattle.awk_nulls.proofs.PadLaws.{before-next, before_mono}
 use Rattle.awk_nulls.proofs.padding.Padding.offsets.Goals as goal
