@@ -169,7 +169,8 @@ module _ (m : ℕ → ℕ) where
     append_twice [] ys zs = refl
     append_twice (x ∷ xs) ys zs = ap (λ ws. x ∷ ws) (append_twice xs ys zs)
 
-    pub places_first : (kind : Kind) (n i : ℕ) (w : Making) → ArePlaces kind n i w → ArePlacesIn kind n i 0 w
+    pub places_first : (kind : Kind) (n i : ℕ) (w : Making) → ArePlaces kind n i w
+        → ArePlacesIn kind n i 0 w
     places_first kind n i w p = record {
       is_kind = p.is_kind;
       room = p.room;
@@ -177,8 +178,9 @@ module _ (m : ℕ → ℕ) where
           ∙ sym (append_nil (numbers i));
     }
 
-    pub places_more : (kind : Kind) (n i k : ℕ) (z : ℤ) (old new : Making) → new ≡ with_item old z → z ≡ h i k
-        → ArePlacesIn kind n i k old → ArePlacesIn kind n i (k + 1) new
+    pub places_more : (kind : Kind) (n i k : ℕ) (z : ℤ) (old new : Making)
+        → new ≡ with_item old z → z ≡ h i k → ArePlacesIn kind n i k old
+        → ArePlacesIn kind n i (k + 1) new
     places_more kind n i k z old new e g p = record {
       is_kind = ap (λ (w : Making). w.kind) e ∙ p.is_kind;
       room = ap (λ (w : Making). w.room) e ∙ p.room;
@@ -199,8 +201,8 @@ module _ (m : ℕ → ℕ) where
     }
 
     -- there is room for one more
-    pub places_room : (kind : Kind) (whole n i k : ℕ) (w : Making) → n ≡ before m whole → i < whole → k < m i
-        → ArePlacesIn kind n i k w → length w.items < w.room
+    pub places_room : (kind : Kind) (whole n i k : ℕ) (w : Making) → n ≡ before m whole
+        → i < whole → k < m i → ArePlacesIn kind n i k w → length w.items < w.room
     places_room kind whole n i k w e p q a =
         let l : length w.items ≡ length (numbers i) + k =
         ap length a.items ∙ length-append (numbers i) (map (h i) (range_with_len 0 k))
@@ -210,5 +212,5 @@ module _ (m : ℕ → ℕ) where
 
     pub places_done : (kind : Kind) (whole n i : ℕ) (w : Making) → n ≡ before m whole → i ≡ whole
         → ArePlaces kind n i w → length w.items ≡ w.room
-    places_done kind whole n i w e p a = ap length a.items ∙ length-numbers i ∙ ap (before m) p ∙ sym e
-        ∙ sym a.room
+    places_done kind whole n i w e p a =
+        ap length a.items ∙ length-numbers i ∙ ap (before m) p ∙ sym e ∙ sym a.room

@@ -1,5 +1,5 @@
 -- The definitions at worked examples.
-use Rattle.std.proofs.Common.{◌≡◌, ℕ, zero, suc, ◌+◌, ◌*◌, [], ◌∷◌, refl, true, false}
+use Rattle.std.proofs.Common.{◌≡◌, ℕ, zero, suc, ◌+◌, ◌-◌, ◌*◌, ◌^◌, [], ◌∷◌, refl, true, false}
 use Rattle.std.specs.Prelude.{pos, negsuc, Some, None}
 use Rattle.awk_lanes.specs.declared.kind.Kind.TheVariants.{Bool as Truths, I8, I16, I32, I64, U8, U16, U32, U64}
 use Rattle.awk_lanes.specs.Bits.{bits}
@@ -8,6 +8,7 @@ use Rattle.awk_lanes.specs.Cut.{cut_of}
 use Rattle.awk_lanes.specs.Made.{lane_of}
 use Rattle.awk_lanes.specs.Numbers.{numbers, bytes_of}
 use Rattle.awk_lanes.specs.Places.{at, option_place_at}
+use Rattle.awk_lanes.specs.Words.{integers, low_bytes, unsigned}
 
 -- ---- numbers
 
@@ -99,3 +100,15 @@ three_lists = refl
 tens : numbers_of_lists sizes (λ i k. pos (10 * i + k)) 3
     ≡ pos 0 ∷ pos 1 ∷ pos 20 ∷ pos 21 ∷ pos 22 ∷ []
 tens = refl
+
+-- ---- slices
+
+as_integers : integers (7 ∷ 255 ∷ []) ≡ pos 7 ∷ pos 255 ∷ []
+as_integers = refl
+
+as_unsigned : unsigned I16 (0x34 ∷ 0x12 ∷ []) ≡ 0x1234
+as_unsigned = refl
+
+-- the lowest two bytes of -2
+low_two : low_bytes 2 (2 ^ 64 - 2) ≡ 0xFE ∷ 0xFF ∷ []
+low_two = refl

@@ -3,6 +3,7 @@ ghost use Rattle.std.specs.Prelude.{◌≡◌, ◌≢◌, ◌+◌, ◌/◌, map,
 ghost use Rattle.std.specs.Simd.{first_chunks};
 ghost use Rattle.awk_lanes.specs.Numbers.{width, number};
 ghost use Rattle.awk_lanes.specs.Places.{size_of};
+ghost use Rattle.awk_lanes.specs.Words.{integers, unsigned, HasNats, IsByteKind};
 ghost use Rattle.awk_lanes.specs.declared.kind.Kind.TheVariants as Kind;
 
 use crate::kind::Kind;
@@ -61,4 +62,50 @@ fn numbers_in(alloc: Global, kind: Kind, bytes: &[u8]) -> Result<Vec<i64>, NoMem
             .collect(alloc),
         Kind::U64 => unreachable!(),
     }
+}
+
+/// The lane's numbers where none is negative, in one pass over its bytes. A truth value is given
+/// as its byte.
+pub fn nats_of<L: Ledger>(
+    alloc: Global,
+    lane: &Lane,
+    steps: &mut Steps<L>,
+) -> Result<Vec<u64>, NoMemory>
+    requires { HasNats lane.now.kind lane.now.items }
+    ensures numbers { IfOk result (λ v. integers v.items ≡ lane.now.items) }
+    ensures cost { steps.new ≡ steps.old + size_of lane.now }
+{
+    nats_in(alloc, lane.kind(), lane.bulk(steps))
+}
+
+/// The number of each group of as many bytes as the kind takes, unsigned.
+fn nats_in(alloc: Global, kind: Kind, bytes: &[u8]) -> Result<Vec<u64>, NoMemory>
+    ensures { let n = length bytes.now / width kind in
+        IfOk result (λ v. v.items ≡ map (unsigned kind) (first_chunks (width kind) n bytes.now)) }
+{
+    let (ones, _) = bytes.as_chunks::<1>();
+    let (twos, _) = bytes.as_chunks::<2>();
+    let (fours, _) = bytes.as_chunks::<4>();
+    let (eights, _) = bytes.as_chunks::<8>();
+    match kind {
+        Kind::Bool | Kind::I8 | Kind::U8 => ones.iter().map(|[b]| *b as u64).collect(alloc),
+        Kind::I16 | Kind::U16 => twos
+            .iter()
+            .map(|b| u16::from_le_bytes(*b) as u64)
+            .collect(alloc),
+        Kind::I32 | Kind::U32 => fours
+            .iter()
+            .map(|b| u32::from_le_bytes(*b) as u64)
+            .collect(alloc),
+        Kind::I64 | Kind::U64 => eights.iter().map(|b| u64::from_le_bytes(*b)).collect(alloc),
+    }
+}
+
+/// The numbers of a lane of one byte a number, as they lie there.
+pub fn byte_numbers<'a, L: Ledger>(lane: &Lane<'a>, steps: &mut Steps<L>) -> &'a [u8]
+    requires { IsByteKind lane.now.kind }
+    ensures numbers { integers result.now ≡ lane.now.items }
+    ensures cost { steps.new ≡ steps.old + size_of lane.now }
+{
+    lane.bulk(steps)
 }
