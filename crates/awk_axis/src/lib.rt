@@ -1,4 +1,9 @@
 //! Functions of one list, applied to all lists at an axis and to all innermost lists.
+//!
+//! A function is a value of `ListOp`: a refusal by the type, the type that it gives, and a maker of
+//! one column. `lift_at` applies it at an axis and `lift_deep` to the innermost lists; `Refusal`
+//! and `Spoil` are why types and values are refused. `made` makes an array of a node whose type is
+//! known to be within the limits.
 #![tactic(auto)]
 
 mod causes;

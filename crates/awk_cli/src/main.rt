@@ -1,4 +1,8 @@
-//! Reads a session of lines from standard input, and writes an answer for each to standard output.
+//! The program: reads a session of lines from standard input, and writes an answer for each to
+//! standard output.
+//!
+//! `main` begins the counter of steps and hands all else to `run_program`. Its stored run is the
+//! first example.
 #![tactic(auto)]
 
 ghost use Rattle.std.specs.Prelude.{◌≡◌, ◌<◌};

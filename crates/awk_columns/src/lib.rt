@@ -1,4 +1,8 @@
 //! Columns in order: what the outermost kind of an array holds, counted, tagged and joined.
+//!
+//! `in_order` opens an array so that contents hold exactly what is reached, in order; `open_array`
+//! says it with the class of lists, for operations; `join_lists` and `join_spans` put the items of
+//! lists one after another, with offsets.
 #![tactic(auto)]
 
 mod counted;

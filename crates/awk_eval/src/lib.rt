@@ -1,4 +1,7 @@
 //! The variables of a session, and what expressions over them are.
+//!
+//! `Env` holds names and data in the order of first binding; `eval` gives the datum of an
+//! expression, or its first fault.
 #![tactic(auto)]
 
 mod application;

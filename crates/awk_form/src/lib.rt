@@ -1,4 +1,8 @@
 //! Forms: read from JSON, with their first break, their types and their texts.
+//!
+//! `read_form` gives the form of a JSON tree or its first break, and `read_typed_form` its simple
+//! type too; `type_of_form` is that type, within the limits; `write_form` puts the text of a form,
+//! and `write_names` that of a list of names.
 #![tactic(auto)]
 
 mod class;

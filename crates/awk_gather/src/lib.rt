@@ -1,4 +1,9 @@
-//! Items of arrays at places, and the outermost kind of an array.
+//! Items of arrays at places.
+//!
+//! `gather` gives the items at places, and `gather_opt` also null at each negative number;
+//! `gather_node` does the same for a node alone, `gather_lane` and `next_lane` for a lane. `peel`
+//! takes options and indexes off a node, and `array_within` makes an array of a node whose type is
+//! known to be within the limits.
 #![tactic(auto)]
 
 mod arrays;

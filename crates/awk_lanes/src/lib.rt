@@ -1,4 +1,10 @@
-//! Lanes: little-endian numbers in borrowed bytes, each read through a counter of steps.
+//! Lanes: little-endian numbers in bytes, each read for one counted step (`Steps`).
+//!
+//! `Lane` and `Bits` are read by `at` and in ranges; `index_at`, `place_in`, `option_place_in`,
+//! `tag_in` and `is_set` read what a number stands for. A lane is made by `LaneMaker`, number by
+//! number, by `made_lane` from a rule of `Numbers`, by `offsets_of`, `offsets_within` and
+//! `items_of` from lengths, or by `lane_of_numbers` and `lane_of_nats` from a slice; `numbers_of`,
+//! `nats_of` and `byte_numbers` give the slice of a lane.
 #![tactic(auto)]
 
 mod bits;

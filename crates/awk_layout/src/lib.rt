@@ -1,4 +1,9 @@
-//! Layouts of nested, jagged columns: the twelve classes of nodes over borrowed lanes.
+//! Layouts of nested, jagged columns: the twelve classes of nodes over lanes.
+//!
+//! A `Node` is made by the constructor of its class, seen by `Node::class`, and asked for the item
+//! at a place by `Node::place`. An `Array` is a node with its simple type, a `Datum` an array or a
+//! single value, an `Operand` a datum or a literal. `prim_of` and `kind_of` go between primitives
+//! and the kinds of lanes.
 #![tactic(auto)]
 
 mod array;

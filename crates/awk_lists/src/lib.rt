@@ -1,4 +1,7 @@
 //! Operations on lists: their lengths, their places, and lists joined, cut and counted.
+//!
+//! The calls are `num`, `local_index`, `flatten`, `unflatten`, `run_lengths`, and `without_field`,
+//! which takes any datum.
 #![tactic(auto)]
 
 mod counting;

@@ -1,4 +1,7 @@
 //! Arrays under a mask.
+//!
+//! `put_mask` keeps the items where a mask over them, as deep as its lists go, is one truth value,
+//! and gives null elsewhere.
 #![tactic(auto)]
 
 mod mask_leaves;

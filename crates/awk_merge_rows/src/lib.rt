@@ -1,4 +1,7 @@
 //! Options, rows and unions of columns that are merged.
+//!
+//! `option_level`, `row_level` and `union_level` go one level down: to the columns without their
+//! nulls, to those of each part of the rows, and to those of each alternative.
 #![tactic(auto)]
 
 mod options;

@@ -1,4 +1,8 @@
 //! Columns beside one another, each with what carries its items to one type.
+//!
+//! `Sides` is a list of such columns, and `Groups` one such list for each part or alternative.
+//! `items_lift`, `part_source`, `part_lift`, `alternative_tag` and `alternative_lift` take a lift
+//! apart, one level down.
 #![tactic(auto)]
 
 mod carry;

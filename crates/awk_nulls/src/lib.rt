@@ -1,4 +1,7 @@
 //! Operations on nulls: which items are null, lists without them, padded by them, first items.
+//!
+//! The calls are `is_none`, `drop_none`, `firsts`, `singletons` and `pad_none`; `is_optional`,
+//! `numbers`, `one_if_present` and `length_at` are what masks and filling share with them.
 #![tactic(auto)]
 
 mod dropping;

@@ -1,4 +1,7 @@
 //! Operations on nulls, arrays under a mask, and nulls filled by a value, handed out together.
+//!
+//! It has no code of its own: `drop_none`, `firsts`, `is_none`, `pad_none`, `singletons`,
+//! `put_mask` and `fill_none` are those of the three crates below it.
 #![tactic(auto)]
 
 pub use awk_fill::fill_none;

@@ -1,5 +1,9 @@
 //! The run of a session: its lines come from a source, the answers go to a sink, and a status tells
 //! how it ended.
+//!
+//! `run_words` is that run over any source and any sink, and its contract is the headline.
+//! `run_program` is the run over the command line and the standard streams, by no contract of its
+//! own.
 #![tactic(auto)]
 
 mod program;

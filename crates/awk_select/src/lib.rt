@@ -1,5 +1,8 @@
 //! Picks: the item at a place, of an array and of each list, ranges of any step, and the items that
 //! a mask or an index names.
+//!
+//! The calls are `at`, `at_each`, `step_range`, `mask` and `take`; `is_mask` and `bound_up` are
+//! what the evaluation asks of a mask's type and of the bounds of a range.
 #![tactic(auto)]
 
 mod cells;

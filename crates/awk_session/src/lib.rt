@@ -1,4 +1,7 @@
 //! The engine of a session's lines: each line has at most one answer, and may bind a variable.
+//!
+//! `Engine::line` answers a line that is not blank and flushes; `is_blank` tells the lines that
+//! have no answer; `laws` has the law of what a session packs and loads.
 #![tactic(auto)]
 
 mod answer;

@@ -1,4 +1,8 @@
 //! The texts of values, of types and of faults.
+//!
+//! `write_item` and `write_array` put the text of items, `write_type` that of a datum's type,
+//! `write_fault` the answer to a fault, `write_packed` that of a packed array, and `write_base64`
+//! that of bytes.
 #![tactic(auto)]
 
 mod array;

@@ -1,4 +1,11 @@
-//! Types and values of nested, jagged columns, with their definitions.
+//! Types and values of nested, jagged columns, with their definitions, and the faults of
+//! operations.
+//!
+//! A type is simplified by `simple_of`, `opt_of` and `uni_of`, within the limits that `TypeFault`
+//! tells; `same` compares, `depth`, `nodes` and `levels` measure, `copy_type` copies. Of primitives
+//! there are `promote`, the range (`least`, `greatest`, `fits`) and what a literal fits
+//! (`literal_prim`, `literal_fits`). The predicates on types (`is_leaf`, `is_list`, ...) and the
+//! small lists `Names`, `Typs`, `Fields` and `Wholes` stand here for all crates above.
 #![tactic(auto)]
 
 mod copy;

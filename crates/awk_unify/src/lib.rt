@@ -1,4 +1,8 @@
 //! Types that several types unify to, and how values are carried into them.
+//!
+//! `unify` joins two types and `unify_all` several from the left, within the limits of a type;
+//! `unify_unlimited` leaves the limits to its caller. A `Lift` tells how the values of one of the
+//! types become values of the joined one.
 #![tactic(auto)]
 
 mod after;

@@ -1,5 +1,8 @@
 //! Loading: the array that a form, a length and a map of buffers give, or the first break of the
 //! walk over the nodes.
+//!
+//! `load` judges the limits of the type first; `load_typed` takes a form whose type is at hand.
+//! `LoadFault` tells the break, with the node, the rule and the place.
 #![tactic(auto)]
 
 mod arrays;
