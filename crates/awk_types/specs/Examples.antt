@@ -11,7 +11,7 @@ use Rattle.awk_types.specs.Has.{Has}
 use Rattle.awk_types.specs.Simple.{simple, simple_value}
 use Rattle.awk_types.specs.Settle.{settle}
 use Rattle.awk_types.specs.Promotion.{promotion}
-use Rattle.awk_types.specs.Levels.{levels, shared, datum_levels, turned}
+use Rattle.awk_types.specs.Levels.{levels, common_number, datum_levels, turned_axis}
 use Rattle.awk_types.specs.Fits.{fits, literal_fits}
 use Rattle.awk_types.specs.Predicates.{is_leaf, is_list, is_list_or_unknown, is_unknown, is_null}
 use Rattle.awk_types.specs.Limit.{limit, width, depth_limit, size_limit}
@@ -221,26 +221,26 @@ no_branches_beside_leaves : levels (tup (types_from (leaf I64 ∷ tup (types_fro
 no_branches_beside_leaves = refl
 
 -- the lists of an array of lists, the array itself, and no axis
-turned_in_array : map (turned (datum_levels (arr (var (leaf I64)) [])))
+turned_in_array : map (turned_axis (datum_levels (arr (var (leaf I64)) [])))
     (negsuc 0 ∷ negsuc 1 ∷ negsuc 2 ∷ []) ≡ pos 1 ∷ pos 0 ∷ negsuc 0 ∷ []
 turned_in_array = refl
 
-turned_in_value : map (turned (datum_levels (one (var (leaf I64)) (list_value []))))
+turned_in_value : map (turned_axis (datum_levels (one (var (leaf I64)) (list_value []))))
     (negsuc 0 ∷ negsuc 1 ∷ []) ≡ pos 0 ∷ negsuc 0 ∷ []
 turned_in_value = refl
 
-turned_without_levels : map (turned None) (pos 2 ∷ negsuc 0 ∷ []) ≡ pos 2 ∷ negsuc 0 ∷ []
+turned_without_levels : map (turned_axis None) (pos 2 ∷ negsuc 0 ∷ []) ≡ pos 2 ∷ negsuc 0 ∷ []
 turned_without_levels = refl
 
 -- operands at one axis: an array of numbers beside a single list is equally deep, beside an array
 -- of lists it is not
-equally_deep : shared
+equally_deep : common_number
     (datum_levels (arr (leaf I64) []) ∷ datum_levels (one (var (leaf I8)) (list_value [])) ∷ [])
     ≡ Some 1
 equally_deep = refl
 
-unequally_deep : shared (datum_levels (arr (leaf I64) []) ∷ datum_levels (arr particles []) ∷ [])
-    ≡ None
+unequally_deep : common_number
+    (datum_levels (arr (leaf I64) []) ∷ datum_levels (arr particles []) ∷ []) ≡ None
 unequally_deep = refl
 
 -- ---- tests of types and values, and of numbers
@@ -251,19 +251,19 @@ no = false
 abbrev yes : Truth
 yes = true
 
-abbrev tested : List DataType
-tested = unknown ∷ leaf Bool ∷ var (leaf I64) ∷ reg 2 (leaf I64) ∷ opt (var unknown) ∷ []
+abbrev some_types : List DataType
+some_types = unknown ∷ leaf Bool ∷ var (leaf I64) ∷ reg 2 (leaf I64) ∷ opt (var unknown) ∷ []
 
-leaves : map is_leaf tested ≡ yes ∷ yes ∷ no ∷ no ∷ no ∷ []
+leaves : map is_leaf some_types ≡ yes ∷ yes ∷ no ∷ no ∷ no ∷ []
 leaves = refl
 
-lists : map is_list tested ≡ no ∷ no ∷ yes ∷ yes ∷ no ∷ []
+lists : map is_list some_types ≡ no ∷ no ∷ yes ∷ yes ∷ no ∷ []
 lists = refl
 
-lists_or_unknown : map is_list_or_unknown tested ≡ yes ∷ no ∷ yes ∷ yes ∷ no ∷ []
+lists_or_unknown : map is_list_or_unknown some_types ≡ yes ∷ no ∷ yes ∷ yes ∷ no ∷ []
 lists_or_unknown = refl
 
-unknowns : map is_unknown tested ≡ yes ∷ no ∷ no ∷ no ∷ no ∷ []
+unknowns : map is_unknown some_types ≡ yes ∷ no ∷ no ∷ no ∷ no ∷ []
 unknowns = refl
 
 nulls : map is_null (null ∷ int (pos 0) ∷ truth false ∷ list_value [] ∷ [])

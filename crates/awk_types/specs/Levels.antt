@@ -13,10 +13,10 @@ is_number n None = false
 
 -- the one number that all have. There is none where they differ, where one has none, and of no
 -- parts.
-abbrev pub shared : List (Option ℕ) → Option ℕ
-shared [] = None
-shared (None ∷ ns) = None
-shared (Some n ∷ ns) = if list_all (is_number n) ns then Some n else None
+abbrev pub common_number : List (Option ℕ) → Option ℕ
+common_number [] = None
+common_number (None ∷ ns) = None
+common_number (Some n ∷ ns) = if list_all (is_number n) ns then Some n else None
 
 abbrev mutual
   pub levels : DataType → Option ℕ
@@ -24,10 +24,10 @@ abbrev mutual
   levels (leaf p) = Some 0
   levels (var t) = option_map suc (levels t)
   levels (reg n t) = option_map suc (levels t)
-  levels (rec ns ts) = shared (levels_each ts)
-  levels (tup ts) = shared (levels_each ts)
+  levels (rec ns ts) = common_number (levels_each ts)
+  levels (tup ts) = common_number (levels_each ts)
   levels (opt t) = levels t
-  levels (uni ts) = shared (levels_each ts)
+  levels (uni ts) = common_number (levels_each ts)
 
   pub levels_each : DataTypes → List (Option ℕ)
   levels_each no_types = []
@@ -40,6 +40,6 @@ datum_levels (one t v) = levels t
 
 -- the axis that an axis stands for where so many lists lie down to the leaves. What stays negative
 -- is no axis.
-abbrev pub turned : Option ℕ → ℤ → ℤ
-turned (Some n) (negsuc a) = pos n +ℤ negsuc a
-turned o axis = axis
+abbrev pub turned_axis : Option ℕ → ℤ → ℤ
+turned_axis (Some n) (negsuc a) = pos n +ℤ negsuc a
+turned_axis o axis = axis

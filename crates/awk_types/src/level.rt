@@ -1,13 +1,13 @@
 //! How many lists lie down to the leaves of a type.
 ghost use Rattle.std.specs.Prelude.{◌≡◌, ◌<◌, ◌≤◌, ◌^◌, None, IfSome};
 ghost use Rattle.awk_types.specs.DataType.{greatest, depth, depths, types_from};
-ghost use Rattle.awk_types.specs.Levels.{shared, levels as levels_of, levels_each, turned};
+ghost use Rattle.awk_types.specs.Levels.{common_number, levels as levels_of, levels_each, turned_axis as axis_of};
 ghost use Rattle.awk_types.specs.Limit.{limit};
 ghost use Rattle.awk_types.specs.View.{types_of, typ_of, field_of, fields_of, typs_of};
 
 use crate::typ::{Field, Fields, Typ, Typs};
 
-/// How many lists lie down to the leaves, where all branches are equally deep.
+/// The levels of a type that is not too deep.
 #[cycle(levels)]
 fn levels_within(t: &Typ) -> Option<u64>
     requires { depth (typ_of t.now) ≤ 60 }
@@ -29,7 +29,7 @@ fn levels_within(t: &Typ) -> Option<u64>
 #[cycle(levels)]
 fn levels_of_typs(ts: &Typs) -> Option<u64>
     requires { greatest (depths (types_from (typs_of ts.now))) < 60 }
-    ensures levels { result ≡ shared (levels_each (types_from (typs_of ts.now))) }
+    ensures levels { result ≡ common_number (levels_each (types_from (typs_of ts.now))) }
     ensures fewer { IfSome result (λ n. n ≤ greatest (depths (types_from (typs_of ts.now)))) }
 {
     if ts.items.is_empty() {
@@ -48,7 +48,7 @@ fn levels_of_typs(ts: &Typs) -> Option<u64>
 #[tactic(auto, using(crate::proofs::Views::fields_first))]
 fn levels_of_fields(fields: &Fields) -> Option<u64>
     requires { greatest (depths (types_of (fields_of fields.now))) < 60 }
-    ensures levels { result ≡ shared (levels_each (types_of (fields_of fields.now))) }
+    ensures levels { result ≡ common_number (levels_each (types_of (fields_of fields.now))) }
     ensures fewer { IfSome result (λ n. n ≤ greatest (depths (types_of (fields_of fields.now)))) }
 {
     if fields.items.is_empty() {
@@ -85,7 +85,7 @@ pub fn levels(t: &Typ) -> Option<u64>
 /// counts from the innermost lists. What stays negative is no axis.
 pub fn turned_axis(levels: Option<u64>, axis: i64) -> i64
     requires { IfSome levels (λ n. n < 2 ^ 63) }
-    ensures { result ≡ turned levels axis }
+    ensures { result ≡ axis_of levels axis }
 {
     match levels {
         Some(n) if axis < 0 => n as i64 + axis,
