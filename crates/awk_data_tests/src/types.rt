@@ -1,5 +1,5 @@
-// Types that no form gives: copies, names beside types, options and unions of types, promotion, levels
-// of types, and whole numbers in order.
+// Types that no form gives: copies, names beside types, options and unions of types, promotion,
+// levels of types, and whole numbers in order.
 ghost use Rattle.std.specs.Prelude.{◌<◌, length};
 ghost use Rattle.awk_types.specs.View.{typs_of};
 
