@@ -72,6 +72,7 @@ fn a_failing_read_ends_the_lines(rt: HostRuntime) -> Result<(), Fail> {
 }
 
 #[test]
+#[tactic(auto, unfolding(awk_edge::specs::Units::raw_limit))]
 fn raw_bytes_come_between_lines(rt: HostRuntime) -> Result<(), Fail> {
     let alloc = rt.alloc();
     for piece in PIECES {
@@ -90,6 +91,7 @@ fn raw_bytes_come_between_lines(rt: HostRuntime) -> Result<(), Fail> {
 }
 
 #[test]
+#[tactic(auto, unfolding(awk_edge::specs::Units::raw_limit))]
 fn raw_bytes_end_at_a_failing_read(rt: HostRuntime) -> Result<(), Fail> {
     let alloc = rt.alloc();
     let mut source = MemSource::new(alloc, b"a\nbcde", 2, &[2])?;
