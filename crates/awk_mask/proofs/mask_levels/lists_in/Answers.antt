@@ -1,6 +1,6 @@
 use Rattle.awk_columns.specs.Joined.{IsJoined}
 use Rattle.awk_columns.specs.Opened.{OpensLists}
-use Rattle.awk_columns.specs.declared.opening.Joined.TheVariants.{TooMany, Lists}
+use Rattle.awk_columns.specs.declared.lists.Joined.TheVariants.{TooMany, Lists}
 use Rattle.awk_mask.proofs.MaskOpened.{lists_too_many, lists_joined}
 use Rattle.awk_mask.proofs.mask_levels.lists_in.Goals as goal
 

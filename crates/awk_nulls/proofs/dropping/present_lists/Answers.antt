@@ -1,7 +1,7 @@
 use Rattle.std.proofs.Common.{◌≡◌, ◌<◌, ◌∙◌}
 use Rattle.awk_types.specs.ItemLimit.{item_limit}
 use Rattle.awk_columns.specs.Joined.{IsJoined, total}
-use Rattle.awk_columns.specs.declared.opening.Joined.TheVariants.{TooMany, Lists}
+use Rattle.awk_columns.specs.declared.lists.Joined.TheVariants.{TooMany, Lists}
 use Rattle.awk_nulls.specs.Lanes.{numbers_at_ends}
 use Rattle.awk_nulls.proofs.Spans.{lists_within}
 use Rattle.awk_nulls.proofs.DropLaws.{present_lists, present_spoilt, present_fine, present_given}

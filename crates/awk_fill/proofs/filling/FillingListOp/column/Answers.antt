@@ -1,6 +1,6 @@
 use Rattle.std.proofs.Common.{◌≡◌, None, subst, sym, ◌∙◌}
 use Rattle.awk_columns.specs.Joined.{IsJoined}
-use Rattle.awk_columns.specs.declared.opening.Joined.TheVariants.{Lists}
+use Rattle.awk_columns.specs.declared.lists.Joined.TheVariants.{Lists}
 use Rattle.awk_layout.specs.Typing.{array_type}
 use Rattle.awk_fill.specs.Filled.{IsFilled}
 use Rattle.awk_fill.specs.FillNone.{filler_of, filler_refusal}

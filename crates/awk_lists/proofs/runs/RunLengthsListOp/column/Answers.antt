@@ -8,7 +8,7 @@ use Rattle.awk_lanes.specs.declared.kind.Kind.TheVariants.{I64}
 use Rattle.awk_columns.specs.Counted.{first_of}
 use Rattle.awk_gather.proofs.MadeLanes.{at-lane_of}
 use Rattle.awk_columns.specs.Joined.{IsJoined}
-use Rattle.awk_columns.specs.declared.opening.Joined.TheVariants.{Lists}
+use Rattle.awk_columns.specs.declared.lists.Joined.TheVariants.{Lists}
 use Rattle.awk_lists.specs.Runs.{runs_at, runs_before}
 use Rattle.awk_lists.proofs.RunLists.{lists_rise, few_runs, runs_given, runs_spoilt, runs_fine}
 use Rattle.awk_lists.proofs.runs.RunLengthsListOp.column.Goals as goal

@@ -1,5 +1,5 @@
 use Rattle.awk_columns.specs.Joined.{IsJoined}
-use Rattle.awk_columns.specs.declared.opening.Joined.TheVariants.{Lists}
+use Rattle.awk_columns.specs.declared.lists.Joined.TheVariants.{Lists}
 use Rattle.awk_nulls.proofs.NullLaws.{nulls_given, nulls_spoilt, nulls_fine}
 use Rattle.awk_nulls.proofs.nulls.NullTestsListOp.column.Goals as goal
 

@@ -1,5 +1,5 @@
 use Rattle.awk_columns.specs.Joined.{IsJoined}
-use Rattle.awk_columns.specs.declared.opening.Joined.TheVariants.{Lists}
+use Rattle.awk_columns.specs.declared.lists.Joined.TheVariants.{Lists}
 use Rattle.awk_nulls.proofs.SingleLaws.{singles_given, singles_spoilt, singles_fine}
 use Rattle.awk_nulls.proofs.singles.SingleListsListOp.column.Goals as goal
 
