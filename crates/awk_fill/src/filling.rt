@@ -330,6 +330,7 @@ impl<'o, 'b> ListOp for Filling<'o, 'b> {
         arena: &'a Arena,
         steps: &mut Steps<L>,
     ) -> Result<Made<'a>, NoMemory> {
+        let _ = lists.content();
         match lists.joined(alloc, arena, steps)? {
             Joined::TooMany => Ok(Made::Spoiled(Spoil::Size)),
             Joined::Lists { offsets, content } => {

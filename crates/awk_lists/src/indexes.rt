@@ -107,11 +107,13 @@ impl ListOp for LocalIndex {
         steps: &mut Steps<L>,
     ) -> Result<Made<'a>, NoMemory> {
         let _ = lists.content();
-        match total(lists.starts(), lists.stops(), steps) {
+        let starts = lists.starts();
+        let stops = lists.stops();
+        match total(starts, stops, steps) {
             None => Ok(Made::Spoiled(Spoil::Size)),
             Some(n) => {
-                let offsets = offsets(lists.starts(), lists.stops(), arena, steps)?;
-                let places = places(lists.starts(), lists.stops(), n, arena, steps)?;
+                let offsets = offsets(starts, stops, arena, steps)?;
+                let places = places(starts, stops, n, arena, steps)?;
                 Ok(Made::Lists {
                     offsets,
                     content: Node::numpy(places, steps),

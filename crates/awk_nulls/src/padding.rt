@@ -150,12 +150,14 @@ impl ListOp for Padding {
         steps: &mut Steps<L>,
     ) -> Result<Made<'a>, NoMemory> {
         let content = lists.content();
+        let starts = lists.starts();
+        let stops = lists.stops();
         let _ = content.len();
-        match self.total(lists.starts(), lists.stops(), steps) {
+        match self.total(starts, stops, steps) {
             None => Ok(Made::Spoiled(Spoil::Size)),
             Some(n) => {
-                let offsets = self.offsets(lists.starts(), lists.stops(), arena, steps)?;
-                let places = self.places(lists.starts(), lists.stops(), n, arena, steps)?;
+                let offsets = self.offsets(starts, stops, arena, steps)?;
+                let places = self.places(starts, stops, n, arena, steps)?;
                 let items = Box::new(alloc, content.node().copy(alloc)?)?;
                 Ok(Made::Lists {
                     offsets,
