@@ -35,8 +35,8 @@ use Rattle.awk_columns.specs.Columns.{present_values}
 use Rattle.awk_columns.specs.Joined.{AreOffsets, JoinsLists, IsJoined}
 use Rattle.awk_columns.specs.ListClass.{Class, list_type}
 use Rattle.awk_columns.specs.Opened.{items_at, OpensLists, OpensOption, OpensNothing}
-use Rattle.awk_columns.specs.declared.opening.Joined.{Joined}
-use Rattle.awk_columns.specs.declared.opening.Joined.TheVariants.{TooMany, Lists}
+use Rattle.awk_columns.specs.declared.lists.Joined.{Joined}
+use Rattle.awk_columns.specs.declared.lists.Joined.TheVariants.{TooMany, Lists}
 use Rattle.awk_columns.proofs.ArrayLaws.{lists-inner}
 use Rattle.awk_lists.specs.Flatten.{is_list, item_type}
 use Rattle.awk_lists.specs.Listed.{items_before, present_lane, AreEnds}

@@ -21,7 +21,7 @@ use std::sync::ledger::Ledger;
 
 /// Lists, each at its place among others, or null where the index is negative.
 #[derive(Drop)]
-struct Lists<'a> {
+struct ListsAt<'a> {
     index: Lane<'a>,
     starts: Lane<'a>,
     stops: Lane<'a>,
@@ -54,22 +54,17 @@ fn lists_at<'a, L: Ledger>(
     index: Lane<'a>,
     arena: &'a Arena,
     steps: &mut Steps<L>,
-) -> Result<Lists<'a>, NoMemory>
+) -> Result<ListsAt<'a>, NoMemory>
     requires lists { lists.is_list (array_type x.now) ≡ true }
     ensures { IfOk result (λ r.
         AreInside x.now index.entry r.index r.starts r.stops r.content) }
 {
     match open_array(alloc, x, arena, steps)? {
-        Opened::Items {
-            starts,
-            stops,
-            content,
-            ..
-        } => Ok(Lists {
+        Opened::Items(lists) => Ok(ListsAt {
             index,
-            starts,
-            stops,
-            content,
+            starts: lists.starts().copy(),
+            stops: lists.stops().copy(),
+            content: lists.content().copy(alloc)?,
         }),
         _ => unreachable!(),
     }
@@ -81,7 +76,7 @@ fn lists_of<'a, L: Ledger>(
     x: &Array<'a>,
     arena: &'a Arena,
     steps: &mut Steps<L>,
-) -> Result<Lists<'a>, NoMemory>
+) -> Result<ListsAt<'a>, NoMemory>
     requires lists { lists.has_lists (array_type x.now) ≡ true }
     ensures { IfOk result (λ r. AreListsOf x.now r.index r.starts r.stops r.content) }
 {
@@ -154,8 +149,8 @@ pub fn unequal<'a, L: Ledger>(
 fn unequal_at<'a, L: Ledger>(
     alloc: Global,
     i: u64,
-    xs: &Lists<'a>,
-    ms: &Lists<'a>,
+    xs: &ListsAt<'a>,
+    ms: &ListsAt<'a>,
     arena: &'a Arena,
     steps: &mut Steps<L>,
 ) -> Result<bool, NoMemory>
