@@ -136,7 +136,15 @@ impl<'a> Lists<'a> {
     ) -> Result<Joined<'a>, NoMemory>
         ensures { IfOk result (IsJoined self.now.starts self.now.stops self.now.content) }
     {
-        join_spans(alloc, self.class, &self.starts, &self.stops, &self.content, arena, steps)
+        join_spans(
+            alloc,
+            self.class,
+            &self.starts,
+            &self.stops,
+            &self.content,
+            arena,
+            steps,
+        )
     }
 }
 

@@ -6,9 +6,9 @@ ghost use Rattle.awk_columns.specs.Opened.{IsOpened};
 
 use crate::lists::Lists;
 use crate::order::in_order;
-use awk_open::Opened as Ordered;
 use awk_lanes::{Arena, Lane, Steps};
 use awk_layout::{Array, Arrays};
+use awk_open::Opened as Ordered;
 use awk_types::{Names, NoMemory, Typ};
 use std::alloc::Global;
 use std::sync::ledger::Ledger;

@@ -17,17 +17,19 @@ ghost use Rattle.awk_eval.specs.Ranges.{range_items};
 ghost use Rattle.awk_eval.specs.Views.{Size, Takes, IsWithin, AreWithin, is_view_op};
 ghost use Rattle.awk_eval.specs.Eval as meaning;
 
-use crate::arguments::{both, bound_or, bounds, data, filled, only, padding, place, text, texts, truth, with_step};
+use crate::arguments::{
+    both, bound_or, bounds, data, filled, only, padding, place, text, texts, truth, with_step,
+};
 use awk_lanes::{Arena, Steps};
 use awk_layout::{Array, Datum, Operands};
 use awk_lists::{flatten, local_index, num, run_lengths, unflatten, without_field};
 use awk_merge::concatenate;
 use awk_options::{drop_none, fill_none, firsts, is_none, pad_none, put_mask, singletons};
 use awk_query::{Fixed, FixedArg, Op};
+use awk_range::range;
 use awk_select::{at, at_each, is_mask, mask, step_range, take};
 use awk_types::{Fault, Names, NoMemory, Typ};
 use awk_view::{field, fields, settled};
-use awk_range::range;
 use std::alloc::Global;
 use std::sync::ledger::Ledger;
 

@@ -22,13 +22,13 @@ ghost use Rattle.awk_fill.specs.FillNone.{filler_type, filler_value, fill_none_f
 ghost use Rattle.awk_fill.specs.FillNone.{fill_none_of};
 
 use crate::moving::array_in;
-use awk_nulls::is_optional;
-use awk_columns::{Joined, Lists, Opened, open_array};
 use awk_axis::{ListOp, Made, Refusal, Spoil, lift_at};
+use awk_columns::{Joined, Lists, Opened, open_array};
 use awk_lanes::{Arena, Kind, Lane, LaneMaker, Num, Steps, number, option_place_in};
 use awk_layout::{Array, Datum, Node, Operand, kind_of};
-use awk_merge_sides::Sides;
 use awk_merge_columns::merge;
+use awk_merge_sides::Sides;
+use awk_nulls::is_optional;
 use awk_types::{Fault, NoMemory, Prim, Typ, copy_type};
 use awk_unify::{Lift, unify, unify_unlimited};
 use std::alloc::{AllocError, Global};

@@ -13,8 +13,8 @@ ghost use Rattle.awk_lists.specs.Runs as spec;
 ghost use Rattle.awk_lists.specs.Runs.{runs_between, runs_before, run_lane, AreRising};
 
 use crate::numbers::numbers_of;
-use awk_columns::{Joined, Lists};
 use awk_axis::{ListOp, Made, Refusal, Spoil, lift_deep};
+use awk_columns::{Joined, Lists};
 use awk_lanes::{Arena, Kind, Lane, LaneMaker, Num, Steps, number, place_in};
 use awk_layout::{Datum, Node};
 use awk_types::{Fault, NoMemory, Prim, Typ};

@@ -9,13 +9,12 @@ ghost use Rattle.awk_mask.specs.MaskLists as lists;
 ghost use Rattle.awk_mask.specs.MaskLists.{AreListsOf, AreInside, items_differ, optional_items};
 ghost use Rattle.awk_mask.specs.PutMask.{masks, differs, lists_differ};
 
-use awk_nulls::length_at;
-use awk_nulls::{is_optional, numbers};
 use awk_columns::{Opened, open_array};
 use awk_lanes::{Arena, Lane, Steps, option_place_in, place_in};
 use awk_layout::Array;
-use awk_types::{NoMemory, Typ};
+use awk_nulls::{is_optional, length_at, numbers};
 use awk_range::range;
+use awk_types::{NoMemory, Typ};
 use std::alloc::Global;
 use std::sync::ledger::Ledger;
 

@@ -7,12 +7,11 @@ ghost use Rattle.awk_mask.specs.MaskLists as lists;
 
 use crate::mask_lengths::{has_lists, is_list};
 use crate::mask_nulls::items_where;
-use awk_nulls::is_optional;
-use awk_columns::{Joined, Opened, open_array};
-use awk_open::{Opened as Ordered};
-use awk_columns::in_order;
+use awk_columns::{Joined, Opened, in_order, open_array};
 use awk_lanes::{Arena, Lane, Steps};
 use awk_layout::Array;
+use awk_nulls::is_optional;
+use awk_open::Opened as Ordered;
 use awk_types::NoMemory;
 use std::alloc::Global;
 use std::sync::ledger::Ledger;

@@ -21,10 +21,10 @@ ghost use Rattle.awk_merge.specs.Operands.{IndexHas, IndexesAll, AreRising};
 ghost use Rattle.awk_merge_sides.specs.Sides.{sides_of, merged_items, AreSides, IsCounted};
 
 use crate::joining_arrays::merged;
-use awk_merge_sides::Sides;
 use awk_columns::{Joined, Lists, Opened, join_spans, open_array};
 use awk_lanes::{Arena, Kind, Lane, LaneMaker, Num, Steps, index_at, number, option_place_in};
 use awk_layout::{Array, Node};
+use awk_merge_sides::Sides;
 use awk_types::{Fault, NoMemory, Typ, copy_type};
 use std::alloc::Global;
 use std::sync::ledger::Ledger;

@@ -14,8 +14,8 @@ ghost use Rattle.awk_nulls.specs.Lanes.{span_length, numbers_at_ends, AreEnds, A
 use crate::lengths::length_at;
 use crate::presence::present_of;
 use crate::singles::present_typ;
-use awk_columns::{Joined, Lists, join_spans};
 use awk_axis::{ListOp, Made, Refusal, Spoil, lift_at};
+use awk_columns::{Joined, Lists, join_spans};
 use awk_lanes::{Arena, Kind, Lane, LaneMaker, Num, Steps, index_at, place_in};
 use awk_layout::{Array, Datum};
 use awk_types::{Fault, NoMemory, Typ};

@@ -10,11 +10,11 @@ ghost use Rattle.awk_nulls.specs.IsNone.{is_none_function, is_none_of};
 ghost use Rattle.awk_nulls.specs.Lanes.{null_number, nulls_lane, falses_lane, AreNulls};
 
 use crate::presence::is_optional;
-use awk_columns::{Joined, Lists};
 use awk_axis::{ListOp, Made, Refusal, Spoil, lift_at};
-use awk_open::{Opened, opened};
+use awk_columns::{Joined, Lists};
 use awk_lanes::{Arena, Kind, Lane, LaneMaker, Num, Steps, option_place_in};
 use awk_layout::{Array, Datum, Node};
+use awk_open::{Opened, opened};
 use awk_types::{Fault, NoMemory, Prim, Typ};
 use std::alloc::Global;
 use std::sync::ledger::Ledger;

@@ -38,7 +38,7 @@ numpy-requires g c =
 
 pub returns-in-None : goal.returns-in-None
 returns-in-None g c =
-    let t : IsTotal c.args.lists.now.starts c.args.lists.now.stops None = 
+    let t : IsTotal c.args.lists.now.starts c.args.lists.now.stops None =
     rw (c.in-None.is, c.starts-starts.ensures, c.stops-stops.ensures) at c.total.ensures in
     local_spoilt c.args.lists.now.starts c.args.lists.now.stops c.args.lists.now.content t
 
@@ -49,8 +49,13 @@ returns-in_ok-places-in-Some g c =
     let p : before c.args.lists.now.starts c.args.lists.now.stops (size_of c.args.lists.now.starts) ≤ item_limit =
     omega (arith, t.0, t.1) in (
       local_fine c.args.lists.now.starts c.args.lists.now.stops c.args.lists.now.content p,
-      rw (c.numpy.ensures.node, c.in_ok-places-in-Some.ensures, c.in_ok-offsets-in-Some.ensures,
-          c.starts-starts.ensures, c.stops-stops.ensures)
+      rw (
+        c.numpy.ensures.node,
+        c.in_ok-places-in-Some.ensures,
+        c.in_ok-offsets-in-Some.ensures,
+        c.starts-starts.ensures,
+        c.stops-stops.ensures,
+      )
           (local_given c.args.lists.now.class c.args.lists.now.starts c.args.lists.now.stops c.args.lists.now.content
           c.content.ensures.lists p),
     )

@@ -29,8 +29,13 @@ returns g c =
     c.in_ok-items.ensures.ok ∙ c.in_ok-copy.ensures ∙ c.node.ensures
     ∙ c.content-content.ensures.content in (
       refl,
-      rw (c.indexed_option.ensures.node, e, c.in_ok-places.ensures, c.starts.ensures,
-          c.stops.ensures)
+      rw (
+        c.indexed_option.ensures.node,
+        e,
+        c.in_ok-places.ensures,
+        c.starts.ensures,
+        c.stops.ensures,
+      )
           (firsts_column c.args.lists.now.class c.args.lists.now.starts c.args.lists.now.stops c.args.lists.now.content
           c.content-content.ensures.lists
           (rw c.content-content.ensures.content at c.len.ensures.items)),

@@ -30,7 +30,7 @@ pub indexed_option-requires-clause-length : goal.indexed_option-requires-clause-
 indexed_option-requires-clause-length g c =
     let whole : ℕ = before (padded_span c.args.self.now.size c.args.self.now.clip
     c.args.lists.now.starts c.args.lists.now.stops) (size_of c.args.lists.now.starts) in
-    let t : IsTotal whole (Some c.in-Some.n) = 
+    let t : IsTotal whole (Some c.in-Some.n) =
     rw (c.in-Some.is, c.starts-starts.ensures, c.stops-stops.ensures) at c.total.ensures in
     let few : whole ≤ item_limit = omega (arith, t.0, t.1) in
     rw (c.in_ok-places-in-Some.ensures, c.starts-starts.ensures, c.stops-stops.ensures) (padded_fits c.args.self.now.size c.args.self.now.clip
@@ -49,7 +49,7 @@ pub returns-in-None : goal.returns-in-None
 returns-in-None g c =
     let whole : ℕ = before (padded_span c.args.self.now.size c.args.self.now.clip
     c.args.lists.now.starts c.args.lists.now.stops) (size_of c.args.lists.now.starts) in
-    let t : IsTotal whole None = 
+    let t : IsTotal whole None =
     rw (c.in-None.is, c.starts-starts.ensures, c.stops-stops.ensures) at c.total.ensures in
     padded_spoilt c.args.self.now.size c.args.self.now.clip c.args.lists.now.class c.args.lists.now.starts
     c.args.lists.now.stops c.args.lists.now.content c.content-content.ensures.lists t
@@ -58,7 +58,7 @@ pub returns-in_ok-items-in-Some : goal.returns-in_ok-items-in-Some
 returns-in_ok-items-in-Some g c =
     let whole : ℕ = before (padded_span c.args.self.now.size c.args.self.now.clip
     c.args.lists.now.starts c.args.lists.now.stops) (size_of c.args.lists.now.starts) in
-    let t : IsTotal whole (Some c.in-Some.n) = 
+    let t : IsTotal whole (Some c.in-Some.n) =
     rw (c.in-Some.is, c.starts-starts.ensures, c.stops-stops.ensures) at c.total.ensures in
     let few : whole ≤ item_limit = omega (arith, t.0, t.1) in
     let e : c.in_ok-items-in-Some.items.value ≡ c.args.lists.now.content =
