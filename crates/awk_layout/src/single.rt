@@ -1,21 +1,23 @@
-//! Arrays of one number.
+//! Arrays of one number, and operands as data.
 ghost use Rattle.std.specs.Prelude.{◌≡◌, ◌+◌, ◌≤◌, IfOk};
 ghost use Rattle.awk_types.specs.DataType.{leaf};
 ghost use Rattle.awk_types.specs.Datum.{one};
 ghost use Rattle.awk_types.specs.Has.{Holds};
 ghost use Rattle.awk_types.specs.Value.{int};
 ghost use Rattle.awk_lanes.specs.Numbers.{int_of, IsOf};
-ghost use Rattle.awk_layout.specs.Datum.{datum_of, IsOperand};
+ghost use Rattle.awk_layout.specs.Datum.{datum_of, IsDatum, IsOperand};
 ghost use Rattle.awk_layout.specs.Kinds.{kind_of};
-ghost use Rattle.awk_layout.specs.Single.{only, own_primitive, literal_array};
+ghost use Rattle.awk_layout.specs.Single.{only, own_primitive, literal_array, own_datum};
 ghost use Rattle.awk_layout.specs.declared.datum.Datum.TheVariants.{One};
 ghost use Rattle.awk_layout.specs.declared.datum.Operand.TheVariants.{Literal};
 
 use crate::array::Array;
+use crate::datum::{Datum, Operand};
 use crate::node::Node;
 use crate::typing::{kind_of, prim_of};
 use awk_lanes::{Arena, Kind, LaneMaker, Num, Steps};
 use awk_types::{NoMemory, Prim, Typ};
+use std::alloc::Global;
 use std::sync::ledger::Ledger;
 
 /// A number as one of a primitive that holds it.
@@ -87,5 +89,25 @@ impl<'a> Array<'a> {
         ensures cost { steps.new ≤ steps.old + 1 }
     {
         Array::of_number(own_prim(z), z, arena, steps)
+    }
+}
+
+impl<'a> Operand<'a> {
+    /// The same datum over the same bytes, or the single value that a literal is by itself.
+    pub fn own_datum<L: Ledger>(
+        &self,
+        alloc: Global,
+        arena: &'a Arena,
+        steps: &mut Steps<L>,
+    ) -> Result<Datum<'a>, NoMemory>
+        requires operand { IsOperand self.now }
+        ensures answer { IfOk result (λ made. datum_of made ≡ own_datum self.now) }
+        ensures datum { IfOk result IsDatum }
+        ensures cost { steps.new ≤ steps.old + 1 }
+    {
+        match self {
+            Operand::Of(x) => x.copy(alloc),
+            Operand::Literal(z) => Ok(Datum::One(Array::of_literal(*z, arena, steps)?)),
+        }
     }
 }
