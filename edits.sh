@@ -111,7 +111,7 @@ all_apply() {
 prove() {
     local log=$room/log
     if ! (cd "crates/$1" && rt check) >"$log" 2>&1; then
-        grep -E ': error|^logic=' "$log" | tail -n 5 || tail -n 5 "$log"
+        grep -E ': error|^note: |^logic=' "$log" | tail -n 5 || tail -n 5 "$log"
         tell "$1: NOT TRIED: the crate is not proved, so nothing is known of its edits"
         return 1
     fi
