@@ -130,6 +130,7 @@ try_all() {
     cp -r --parents crates.txt HANDLES crates/*/{src,specs,proofs} "$room"
     for crate in "$@"; do
         edits=("edits/$crate"/*.edit)
+        tell "$crate: proved first, and then its ${#edits[@]} edits are tried"
         count=$((count + ${#edits[@]}))
         : >"$room/told"
         if ! prove "$crate" || ! try "$crate"; then
