@@ -195,11 +195,6 @@ module _ (s e : Column) (y : Layout) (rows : Column) (lists : Layout)
 
 -- ---- the axis
 
-pub axis_previous : (z : ℤ) → pos 1 ≤ℤ z → z -ℤ pos 1 ≡ pos (nat_of z - 1)
-axis_previous (pos zero) p = absurd (omega (arith, ints, p))
-axis_previous (pos (suc k)) p = omega (arith, ints)
-axis_previous (negsuc k) p = absurd (omega (arith, ints, p))
-
 pub flatten_at : (axis : ℤ) (d : Datum) → pos 1 ≤ℤ axis
     → lift flatten_function (pos (nat_of axis - 1)) d ≡ flatten_of axis d
 flatten_at (pos zero) d p = absurd (omega (arith, ints, p))

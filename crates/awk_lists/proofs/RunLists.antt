@@ -49,13 +49,6 @@ use Rattle.awk_lists.proofs.JoinedItems.{run-slice}
 use Rattle.awk_lists.proofs.Offsets.{over_limit, within_limit}
 use Rattle.awk_lists.proofs.RunLaws.{runs_between-few}
 
-pub are_leaves : (t : DataType) → run_lengths_function.refusal t ≡ None → is_leaf t ≡ true
-are_leaves t h = go (is_leaf t) h
-  where
-    go : (b : Bool) → (if b then None else Some refused.WrongType) ≡ None → b ≡ true
-    go true e = refl
-    go false e = cc
-
 -- ---- lists that lie one after another
 
 range_more : (a n k : ℕ)
