@@ -91,11 +91,6 @@ pub items_many : (f : ListFunction) (k : Reach) (x y : Layout) (many : Option Sp
 items_many f k x y many w a p n h =
     items_spoilt f k x many None w a p h.0 (first_spoil-none_after many ∙ n)
 
--- what is made is within the limits
-pub lifted_within : (f : ListFunction) (k : Reach) (x y : Layout) → IsAccepted f k x
-    → IsLifted f k x (mapped.Column y) → limit (array_type y) ≡ None
-lifted_within f k x y a h = ap limit h.1.typ ∙ a.1
-
 -- ---- a single value
 
 one-items : (x : Layout) → len x ≡ 1 → array_items x ≡ first_item x ∷ []

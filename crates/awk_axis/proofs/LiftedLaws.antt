@@ -243,62 +243,8 @@ gives_column (singles typ value) c s e o y z h = absurd h
 
 -- ---- unknown: there are no lists
 
-pub nested_first : (t : DataType) (v : ℕ → Value) (n : ℕ) (y : Layout) → n ≡ 0 → IsColumn t v n y
-    → IsColumn (nested 0 t) (λ i. null) 0 y
-nested_first t v n y e m = record {
-  valid = m.valid;
-  size = m.size ∙ e;
-  typ = m.typ;
-  items =
-      λ i p. absurd (omega (arith, p));
-}
-
-pub nested_next : (t : DataType) (i : ℕ) (o : Column) (y : Layout) → o.kind ≡ I64 → size_of o ≡ 1
-    → IsColumn (nested i t) (λ i. null) 0 y
-    → IsColumn (nested (i + 1) t) (λ i. null) 0 (offset_lists o y)
-nested_next t i o y k e m = record {
-  valid = (
-    omega (arith, e),
-    record {
-      kind = rw k tt;
-      some = omega (arith, e);
-      ordered =
-          λ j p. absurd (omega (arith, p, e));
-    },
-    m.valid,
-  );
-  size = omega (arith, e);
-  typ = rw add-one (ap var m.typ);
-  items = λ j p. absurd (omega (arith, p));
-}
-
 no_lists : (s e : Column) (x : Layout) → size_of s ≡ 0 → all_items_at s e x ≡ []
 no_lists s e x p = ap (λ n. map (items_at s e x) (range_with_len 0 n)) p
-
-pub unknown_spoiled : (f : ListFunction) (k : ℕ) (s e : Column) (x : Layout) (why : Spoil)
-    → OpensNothing x → size_of s ≡ 0 → f.spoil (array_type x) (all_items_at s e x) ≡ Some why
-    → IsLifted f (Axis k) x (mapped.Spoiled why)
-unknown_spoiled f k s e x why o p h = ap (λ u. spoil_at f (Axis k) u (array_items x)) o.typ
-    ∙ ap (f.spoil unknown) (sym (no_lists s e x p))
-    ∙ ap (λ u. f.spoil u (all_items_at s e x)) (sym o.typ) ∙ h
-
-pub unknown_lifted : (f : ListFunction) (k n : ℕ) (s e : Column) (x y : Layout) → n ≡ min k 61
-    → OpensNothing x → size_of s ≡ 0 → f.spoil (array_type x) (all_items_at s e x) ≡ None
-    → IsColumn (nested n (given_type f.giving None (array_type x))) (λ i. null) 0 y
-    → IsLifted f (Axis k) x (mapped.Column y)
-unknown_lifted f k n s e x y b o p h m = (
-  ap (λ u. spoil_at f (Axis k) u (array_items x)) o.typ
-      ∙ ap (f.spoil unknown) (sym (no_lists s e x p))
-      ∙ ap (λ u. f.spoil u (all_items_at s e x)) (sym o.typ) ∙ h,
-  record {
-    valid = m.valid;
-    size = m.size ∙ sym o.none;
-    typ = m.typ ∙ ap (λ i. simple (nested i (given_type f.giving None (array_type x)))) b
-        ∙ ap (λ u. simple (nested (min k 61) (given_type f.giving None u))) o.typ
-        ∙ ap (λ u. simple (lifted_type f.giving (Axis k) u)) (sym o.typ);
-    items = λ i q. absurd (omega (arith, q, o.none));
-  },
-)
 
 -- ---- refusals and depths of contents
 

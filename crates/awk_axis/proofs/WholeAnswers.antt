@@ -147,24 +147,6 @@ singles_datum (singles typ value) x z h =
     (sym (h.items 0 (omega arith)
     ∙ ap (λ vs. simple_value (typ (array_type x)) (value (array_type x) vs)) (whole_items x)))
 
-pub singles_within : (f : ListFunction) (x z : Layout) → IsTaken f x
-    → IsMade f None (single 0) (single (len x)) x (made.Singles z) → limit (array_type z) ≡ None
-singles_within f x z a h = ap limit (singles_type f.giving x z h.1) ∙ a.1
-  where
-    singles_type : (g : Giving) (x z : Layout) → GivesSingles g (single 0) (single (len x)) x z
-        → array_type z ≡ simple (made_type g (array_type x))
-    singles_type (lists class typ items) x z h = absurd h
-    singles_type (singles typ value) x z h = h.typ
-
-pub singles_size : (f : ListFunction) (x z : Layout)
-    → IsMade f None (single 0) (single (len x)) x (made.Singles z) → len z ≡ 1
-singles_size f x z h = size_of_singles f.giving x z h.1
-  where
-    size_of_singles : (g : Giving) (x z : Layout) → GivesSingles g (single 0) (single (len x)) x z
-        → len z ≡ 1
-    size_of_singles (lists class typ items) x z h = absurd h
-    size_of_singles (singles typ value) x z h = h.size
-
 pub whole_single : (f : ListFunction) (x z : Layout) (d : Datum) → IsTaken f x
     → IsMade f None (single 0) (single (len x)) x (made.Singles z)
     → d ≡ settle (array_type z) (first_item z)

@@ -2,15 +2,15 @@
 ghost use Rattle.std.specs.Prelude.{◌≡◌, None, IfOk};
 ghost use Rattle.awk_types.specs.View.{typ_of};
 ghost use Rattle.awk_layout.specs.Typing.{array_type};
-ghost use Rattle.awk_columns.specs.Opened.{AreLists};
 ghost use Rattle.awk_axis.specs.Mapped.{IsMade};
 ghost use Rattle.awk_axis.specs.ListFunction.{ListFunction, made_type, given_type, given_class};
 ghost use Rattle.awk_axis.specs.ListFunction.{gives_lists};
 ghost use Rattle.awk_columns.specs.ListClass.{list_type};
 
 use crate::causes::{Refusal, Spoil};
+use awk_columns::Lists;
 use awk_lanes::{Arena, Lane, Steps};
-use awk_layout::{Array, Node};
+use awk_layout::Node;
 use awk_types::{NoMemory, Typ};
 use std::alloc::Global;
 use std::sync::ledger::Ledger;
@@ -55,16 +55,13 @@ pub trait ListOp {
     fn column<'a, L: Ledger>(
         &self,
         alloc: Global,
-        class: Option<u64>,
-        starts: &Lane<'a>,
-        stops: &Lane<'a>,
-        content: &Array<'a>,
+        lists: &Lists<'a>,
         arena: &'a Arena,
         steps: &mut Steps<L>,
     ) -> Result<Made<'a>, NoMemory>
-        requires accepted { (function self.now).refusal (array_type content.now) ≡ None }
-        requires lists { AreLists class starts.now stops.now content.now }
-        ensures { IfOk result (IsMade (function self.now) class starts.now stops.now content.now) };
+        requires accepted { (function self.now).refusal (array_type lists.now.content) ≡ None }
+        ensures { IfOk result (IsMade (function self.now) lists.now.class lists.now.starts
+            lists.now.stops lists.now.content) };
 }
 
 /// The type of lists of a class.

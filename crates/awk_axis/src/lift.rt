@@ -5,7 +5,7 @@ ghost use Rattle.awk_layout.specs.Valid.{len};
 ghost use Rattle.awk_layout.specs.Typing.{array_type};
 ghost use Rattle.awk_axis.specs.Lift as spec;
 ghost use Rattle.awk_axis.specs.declared.place.Reach.TheVariants as Reach;
-ghost use Rattle.awk_columns.specs.Opened.{AreLists, OpensLists, OpensOption, OpensRow, OpensUnion};
+ghost use Rattle.awk_columns.specs.Opened.{OpensLists, OpensOption, OpensRow, OpensUnion};
 ghost use Rattle.awk_columns.specs.Opened.{OpensNothing};
 ghost use Rattle.awk_columns.specs.Joined.{AreOffsets};
 ghost use Rattle.awk_axis.specs.Taken.{IsTaken};
@@ -14,9 +14,9 @@ ghost use Rattle.awk_axis.specs.Mapped.{IsAtAxis, IsLifted, AreLifted};
 
 use crate::causes::{Spoil, sooner_spoil};
 use crate::function::{ListOp, Made};
-use awk_columns::{Joined, Opened, join_spans, open_array};
 use crate::place::Reach;
 use crate::types::MOST_LISTS;
+use awk_columns::{Joined, Lists, Opened, open_array};
 use awk_lanes::{Arena, Kind, Lane, LaneMaker, NoMemory, Num, Steps};
 use awk_layout::{Array, Arrays, Node, Nodes};
 use awk_types::Names;
@@ -61,22 +61,20 @@ fn list_node<'a, L: Ledger>(
 fn at_axis<'a, F: ListOp, L: Ledger>(
     alloc: Global,
     f: &F,
-    class: Option<u64>,
-    starts: &Lane<'a>,
-    stops: &Lane<'a>,
-    content: &Array<'a>,
+    lists: &Lists<'a>,
     arena: &'a Arena,
     steps: &mut Steps<L>,
 ) -> Result<Mapped<'a>, NoMemory>
-    requires accepted { (F.function f.now).refusal (array_type content.now) ≡ None }
-    requires lists { AreLists class starts.now stops.now content.now }
-    ensures { IfOk result (IsAtAxis (F.function f.now) class starts.now stops.now content.now) }
+    requires accepted { (F.function f.now).refusal (array_type lists.now.content) ≡ None }
+    ensures { IfOk result (IsAtAxis (F.function f.now) lists.now.class lists.now.starts
+        lists.now.stops lists.now.content) }
 {
-    match f.column(alloc, class, starts, stops, content, arena, steps)? {
+    match f.column(alloc, lists, arena, steps)? {
         Made::Spoiled(why) => Ok(Mapped::Spoiled(why)),
         Made::Singles(node) => Ok(Mapped::Column(node)),
         Made::Lists { offsets, content } => {
-            let node = list_node(alloc, f.class(class), starts.len(), offsets, content, steps)?;
+            let class = f.class(lists.class());
+            let node = list_node(alloc, class, lists.len(), offsets, content, steps)?;
             Ok(Mapped::Column(node))
         }
     }
@@ -99,7 +97,8 @@ fn below_unknown<'a, F: ListOp, L: Ledger>(
     let none = LaneMaker::new(Kind::I64, 0, arena)?.finish();
     let above = k.min(MOST_LISTS);
     let _ = x.len();
-    match at_axis(alloc, f, None, &none, &none, x, arena, steps)? {
+    let lists = Lists::new(None, none.copy(), none, x.copy(alloc)?);
+    match at_axis(alloc, f, &lists, arena, steps)? {
         Mapped::Spoiled(why) => Ok(Mapped::Spoiled(why)),
         Mapped::Column(node) => {
             let mut made = node;
@@ -133,14 +132,7 @@ pub fn lifted<'a, F: ListOp, L: Ledger>(
             Reach::Innermost => unreachable!(),
         },
         Opened::Leaf(_) => unreachable!(),
-        Opened::Items {
-            class,
-            starts,
-            stops,
-            content,
-        } => lifted_lists(
-            alloc, f, k, x, class, &starts, &stops, &content, arena, steps,
-        ),
+        Opened::Items(lists) => lifted_lists(alloc, f, k, x, &lists, arena, steps),
         Opened::Row { names, columns } => {
             lifted_row(alloc, f, k, x, names, columns, arena, steps)
         }
@@ -163,27 +155,26 @@ fn lifted_lists<'a, F: ListOp, L: Ledger>(
     f: &F,
     k: Reach,
     x: &Array<'a>,
-    class: Option<u64>,
-    starts: &Lane<'a>,
-    stops: &Lane<'a>,
-    content: &Array<'a>,
+    lists: &Lists<'a>,
     arena: &'a Arena,
     steps: &mut Steps<L>,
 ) -> Result<Mapped<'a>, NoMemory>
     requires accepted { spec.refusal_at (F.function f.now) k (array_type x.now) ≡ None }
-    requires opens { OpensLists class starts.now stops.now content.now x.now }
+    requires opens { OpensLists lists.now.class lists.now.starts lists.now.stops
+        lists.now.content x.now }
     ensures { IfOk result (IsLifted (F.function f.now) k x.now) }
 {
-    if k.is_here(content.typ()) {
-        return at_axis(alloc, f, class, starts, stops, content, arena, steps);
+    if k.is_here(lists.content().typ()) {
+        return at_axis(alloc, f, lists, arena, steps);
     }
-    match join_spans(alloc, class, starts, stops, content, arena, steps)? {
+    match lists.joined(alloc, arena, steps)? {
         Joined::TooMany => Ok(Mapped::Spoiled(Spoil::Size)),
         Joined::Lists { offsets, content } => {
             match lifted(alloc, f, k.inner(), &content, arena, steps)? {
                 Mapped::Spoiled(why) => Ok(Mapped::Spoiled(why)),
                 Mapped::Column(node) => {
-                    let node = list_node(alloc, class, starts.len(), offsets, node, steps)?;
+                    let n = lists.len();
+                    let node = list_node(alloc, lists.class(), n, offsets, node, steps)?;
                     Ok(Mapped::Column(node))
                 }
             }

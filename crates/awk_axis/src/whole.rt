@@ -9,9 +9,11 @@ ghost use Rattle.awk_layout.specs.Datum.{datum_of, IsDatum};
 ghost use Rattle.awk_layout.specs.Typing.{array_type, array_items};
 ghost use Rattle.awk_axis.specs.Lifting as spec;
 ghost use Rattle.awk_axis.specs.ListFunction.{made_type};
+ghost use Rattle.awk_axis.specs.OneList.{one_list};
 
 use crate::function::{ListOp, Made};
 use crate::judged::{judged_whole, made, spoilt};
+use awk_columns::Lists;
 use awk_lanes::{Arena, Kind, Lane, LaneMaker, NoMemory, Steps, number};
 use awk_layout::{Array, Datum};
 use awk_types::Fault;
@@ -27,6 +29,33 @@ fn one_number<'a>(n: u64, arena: &'a Arena) -> Result<Lane<'a>, NoMemory>
     let mut maker = LaneMaker::new(Kind::I64, 1, arena)?;
     maker.push(number(n));
     Ok(maker.finish())
+}
+
+/// What the function gives for one list, settled.
+fn given_one<'a, F: ListOp, L: Ledger>(
+    alloc: Global,
+    f: &F,
+    x: &Array<'a>,
+    lists: &Lists<'a>,
+    arena: &'a Arena,
+    steps: &mut Steps<L>,
+) -> Result<Datum<'a>, Fault>
+    requires accepted { (F.function f.now).refusal (array_type x.now) ≡ None }
+    requires limit { limit (simple
+        (made_type (F.function f.now).giving (array_type x.now))) ≡ None }
+    requires lists { lists.now ≡ one_list x.now }
+    ensures answer { Gives datum_of fault_told result
+        (spec.on_whole (F.function f.now) (array_type x.now) (array_items x.now)) }
+    ensures datum { IfOk result IsDatum }
+{
+    match f.column(alloc, lists, arena, steps)? {
+        Made::Spoiled(why) => Err(spoilt(why)),
+        Made::Lists { content, .. } => Ok(Datum::Arr(made(alloc, content)?)),
+        Made::Singles(node) => {
+            let one = made(alloc, node)?;
+            Ok(settled(alloc, &one, steps)?)
+        }
+    }
 }
 
 /// What the function gives for the array as one list, settled.
@@ -46,14 +75,8 @@ fn given_whole<'a, F: ListOp, L: Ledger>(
 {
     let starts = one_number(0, arena)?;
     let stops = one_number(x.len(), arena)?;
-    match f.column(alloc, None, &starts, &stops, x, arena, steps)? {
-        Made::Spoiled(why) => Err(spoilt(why)),
-        Made::Lists { content, .. } => Ok(Datum::Arr(made(alloc, content)?)),
-        Made::Singles(node) => {
-            let one = made(alloc, node)?;
-            Ok(settled(alloc, &one, steps)?)
-        }
-    }
+    let lists = Lists::new(None, starts, stops, x.copy(alloc)?);
+    given_one(alloc, f, x, &lists, arena, steps)
 }
 
 /// The array as one list by the function, settled, or the first fault.

@@ -39,7 +39,7 @@ use Rattle.awk_columns.specs.ListClass.{Class, list_type, class_of}
 use Rattle.awk_columns.specs.Opened.{items_at, across, item_among, AllOfLen, AreOfClass}
 use Rattle.awk_columns.specs.Opened.{OpensLists, OpensOption, OpensRow, OpensUnion, OpensLeaf}
 use Rattle.awk_columns.specs.Opened.{OpensNothing}
-use Rattle.awk_columns.specs.declared.opening.Joined.TheVariants as joined
+use Rattle.awk_columns.specs.declared.lists.Joined.TheVariants as joined
 
 -- ---- nothing and leaves
 

@@ -11,8 +11,8 @@ use Rattle.awk_columns.specs.Opened.{items_at}
 use Rattle.awk_gather.specs.Arrays.{array_item}
 use Rattle.awk_columns.specs.Counted.{offsets_lane}
 use Rattle.awk_types.specs.ItemLimit.{item_limit}
-use Rattle.awk_columns.specs.declared.opening.Joined.{Joined}
-use Rattle.awk_columns.specs.declared.opening.Joined.TheVariants.{TooMany, Lists}
+use Rattle.awk_columns.specs.declared.lists.Joined.{Joined}
+use Rattle.awk_columns.specs.declared.lists.Joined.TheVariants.{TooMany, Lists}
 
 -- offsets of n lists that fill a list of this length
 pub record AreOffsets (o : Column) (n whole : ℕ) : Type 0 where

@@ -7,3 +7,5 @@ pub mod Opened
 pub mod Joined
 pub mod ListClass
 pub mod ListNode
+pub mod Lists
+pub mod ListsCode

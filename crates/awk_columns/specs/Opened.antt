@@ -1,12 +1,11 @@
 -- What the outermost kind of an array tells: its lanes and contents, whose items are columns of
 -- those of the array.
 use Rattle.std.specs.Prelude.{◌≡◌, ℕ, zero, suc, ◌-◌, ◌<◌, ◌^◌, List, [], ◌∷◌}
-use Rattle.std.specs.Prelude.{map, Option, Some, None}
-use Rattle.std.specs.List.{range_with_len}
+use Rattle.std.specs.Prelude.{map, Option}
 use Rattle.awk_types.specs.DataType.{Name, unknown, leaf, opt, uni, types_from, row_type}
-use Rattle.awk_types.specs.Value.{Value, Values, null, list, row, alt, no_values, value, value_list}
+use Rattle.awk_types.specs.Value.{Value, Values, null, list, row, alt, no_values, value}
 use Rattle.awk_lanes.specs.Column.{Column}
-use Rattle.awk_lanes.specs.Places.{size_of, place_at, option_place_at, AreSpans, IsOptionalIndex}
+use Rattle.awk_lanes.specs.Places.{size_of, place_at, option_place_at, IsOptionalIndex}
 use Rattle.awk_layout.specs.Layout.{Layout, layouts_from, count}
 use Rattle.awk_layout.specs.Valid.{len, IsValid, AllValid, AreNames, IsUnion}
 use Rattle.awk_layout.specs.Item.{run, at_option}
@@ -16,28 +15,10 @@ use Rattle.awk_columns.specs.Columns.{present_values}
 use Rattle.awk_gather.specs.Arrays.{array_item}
 use Rattle.awk_columns.specs.InOrder.{AreParts, AreAlternatives}
 use Rattle.awk_columns.specs.ListClass.{Class, list_type}
+pub use Rattle.awk_columns.specs.Lists.{items_at, all_items_at, AreOfClass, AreLists}
 use Rattle.awk_columns.specs.declared.opening.Opened.{Opened}
 use Rattle.awk_columns.specs.declared.opening.Opened.TheVariants.{Unknown, Leaf, Items, Row}
 use Rattle.awk_columns.specs.declared.opening.Opened.TheVariants.{Option as Optional, Union}
-
--- the items from a start below a stop, as one list
-abbrev pub items_at : Column → Column → Layout → ℕ → List Value
-items_at s t y i = value_list (run (array_item y) (place_at s i) (place_at t i - place_at s i))
-
--- all these lists
-abbrev pub all_items_at : Column → Column → Layout → List (List Value)
-all_items_at s t y = map (items_at s t y) (range_with_len 0 (size_of s))
-
--- lists of one class: of a sized one each has this length
-abbrev pub AreOfClass : Class → Column → Column → Type 0
-AreOfClass None s t = Unit {0}
-AreOfClass (Some n) s t = (i : ℕ) → i < size_of s → place_at t i - place_at s i ≡ n
-
-pub record AreLists (class : Class) (s t : Column) (y : Layout) : Type 0 where
-  pub spans : AreSpans s t (len y)
-  pub fits : size_of s < 2 ^ 63
-  pub valid : IsValid y
-  pub same_class : AreOfClass class s t
 
 pub record OpensLists (class : Class) (s t : Column) (y x : Layout) : Type 0 where
   pub typ : array_type x ≡ list_type class (array_type y)
@@ -101,7 +82,7 @@ pub record OpensNothing (x : Layout) : Type 0 where
 abbrev pub IsOpened : Layout → Opened → Type 0
 IsOpened x Unknown = OpensNothing x
 IsOpened x (Leaf c) = OpensLeaf c x
-IsOpened x (Items class s t y) = OpensLists class s t y x
+IsOpened x (Items l) = OpensLists l.class l.starts l.stops l.content x
 IsOpened x (Row names ys) = OpensRow names ys x
 IsOpened x (Optional j y) = OpensOption j y x
 IsOpened x (Union t j ys) = OpensUnion t j ys x

@@ -12,12 +12,12 @@ ghost use Rattle.awk_columns.specs.Counted.{spans};
 ghost use Rattle.awk_columns.specs.ListValues.{list_values, joined_datum, AreJoined};
 ghost use Rattle.awk_columns.specs.Reached.{IsReached};
 
-use awk_gather::gather;
 use crate::spans::{offsets, row_start, span_lane, total};
+use awk_gather::gather;
 use awk_lanes::{Arena, Lane, Steps};
 use awk_layout::Array;
-use awk_types::{Fault, NoMemory};
 use awk_range::range;
+use awk_types::{Fault, NoMemory};
 use std::alloc::Global;
 use std::sync::ledger::Ledger;
 

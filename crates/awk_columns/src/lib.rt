@@ -7,6 +7,7 @@
 
 mod counted;
 mod joining;
+mod lists;
 mod opening;
 mod order;
 mod spans;
@@ -14,5 +15,6 @@ mod tagged;
 mod taken;
 
 pub use joining::{OffsetLists, join_lists};
-pub use opening::{Joined, Opened, join_spans, open_array};
+pub use lists::{Joined, Lists, join_spans};
+pub use opening::{Opened, open_array};
 pub use order::in_order;

@@ -1,17 +1,16 @@
-//! The outermost kind of an array, in order, and lists joined.
+//! The outermost kind of an array, in order.
 ghost use Rattle.std.specs.Prelude.{◌≡◌, IfOk};
 ghost use Rattle.awk_types.specs.View.{typ_of};
-ghost use Rattle.awk_columns.specs.Joined.{IsJoined};
 ghost use Rattle.awk_columns.specs.ListClass.{class_of};
-ghost use Rattle.awk_columns.specs.Opened.{IsOpened, AreLists};
+ghost use Rattle.awk_columns.specs.Opened.{IsOpened};
 
-use awk_open::{Opened as Ordered};
+use crate::lists::Lists;
 use crate::order::in_order;
-use crate::joining::join_lists;
 use awk_lanes::{Arena, Lane, Steps};
 use awk_layout::{Array, Arrays};
-use awk_types::{Fault, Names, NoMemory, Typ};
-use std::alloc::{AllocError, Global};
+use awk_open::Opened as Ordered;
+use awk_types::{Names, NoMemory, Typ};
+use std::alloc::Global;
 use std::sync::ledger::Ledger;
 
 /// The outermost kind of an array, with its lanes and contents. What the contents of an option or a
@@ -20,12 +19,7 @@ use std::sync::ledger::Ledger;
 pub enum Opened<'a> {
     Unknown,
     Leaf(Lane<'a>),
-    Items {
-        class: Option<u64>,
-        starts: Lane<'a>,
-        stops: Lane<'a>,
-        content: Array<'a>,
-    },
+    Items(Lists<'a>),
     Row {
         names: Option<Names>,
         columns: Arrays<'a>,
@@ -38,16 +32,6 @@ pub enum Opened<'a> {
         tags: Lane<'a>,
         index: Lane<'a>,
         contents: Arrays<'a>,
-    },
-}
-
-/// Lists whose items lie one after another.
-#[derive(Drop)]
-pub enum Joined<'a> {
-    TooMany,
-    Lists {
-        offsets: Lane<'a>,
-        content: Array<'a>,
     },
 }
 
@@ -79,12 +63,7 @@ pub fn open_array<'a, L: Ledger>(
             starts,
             stops,
             content,
-        } => Ok(Opened::Items {
-            class,
-            starts,
-            stops,
-            content,
-        }),
+        } => Ok(Opened::Items(Lists::new(class, starts, stops, content))),
         Ordered::Row { names, columns } => Ok(Opened::Row { names, columns }),
         Ordered::Option { index, content } => Ok(Opened::Option { index, content }),
         Ordered::Union {
@@ -96,28 +75,5 @@ pub fn open_array<'a, L: Ledger>(
             index,
             contents,
         }),
-    }
-}
-
-/// The items of lists one after another, or that they are too many.
-pub fn join_spans<'a, L: Ledger>(
-    alloc: Global,
-    class: Option<u64>,
-    starts: &Lane<'a>,
-    stops: &Lane<'a>,
-    content: &Array<'a>,
-    arena: &'a Arena,
-    steps: &mut Steps<L>,
-) -> Result<Joined<'a>, NoMemory>
-    requires { AreLists class starts.now stops.now content.now }
-    ensures { IfOk result (IsJoined starts.now stops.now content.now) }
-{
-    match join_lists(alloc, starts, stops, content, arena, steps) {
-        Ok(lists) => Ok(Joined::Lists {
-            offsets: lists.offsets,
-            content: lists.content,
-        }),
-        Err(Fault::Size) => Ok(Joined::TooMany),
-        Err(_) => Err(AllocError),
     }
 }

@@ -13,12 +13,11 @@ ghost use Rattle.awk_columns.specs.Reached.{IsReached, AreReached};
 ghost use Rattle.awk_open.specs.declared.opening.Opened.TheVariants as Opened;
 
 use crate::counted::{count_present, counted, present_lane};
-use awk_open::Opened;
-use awk_open::opened;
 use crate::tagged::{count_tagged, counted_union, tagged_lane};
 use crate::taken::taken;
 use awk_lanes::{Arena, Lane, Steps};
 use awk_layout::{Array, Arrays};
+use awk_open::{Opened, opened};
 use awk_types::NoMemory;
 use std::alloc::Global;
 use std::sync::ledger::Ledger;

@@ -25,12 +25,7 @@ fn tagged<L: Ledger>(tags: &Lane, index: &Lane, a: u64, i: u64, steps: &mut Step
 }
 
 /// How many items are of alternative a.
-pub fn count_tagged<L: Ledger>(
-    tags: &Lane,
-    index: &Lane,
-    a: u64,
-    steps: &mut Steps<L>,
-) -> u64
+pub fn count_tagged<L: Ledger>(tags: &Lane, index: &Lane, a: u64, steps: &mut Steps<L>) -> u64
     requires tagged { AreTagged tags.now index.now }
     ensures { result ≡ length (first_of (tagged_at tags.now index.now a) (size_of tags.now)) }
 {

@@ -1,8 +1,12 @@
-// Types that no form gives: copies, names beside types, options and unions of types, and promotion.
+// Types that no form gives: copies, names beside types, options and unions of types, promotion,
+// levels of types, and whole numbers in order.
 ghost use Rattle.std.specs.Prelude.{◌<◌, length};
 ghost use Rattle.awk_types.specs.View.{typs_of};
 
-use awk_types::{Fields, Name, Names, NoMemory, Prim, Typ, TypeFault, Typs, copy_type, opt_of, promote, same, uni_of};
+use awk_types::{
+    Fields, Name, Names, NoMemory, Prim, Typ, TypeFault, Typs, Wholes, copy_type, levels, opt_of,
+    promote, same, turned_axis, uni_of,
+};
 use std::alloc::Global;
 use std::process::Abort;
 use std::test::Fail;
@@ -66,4 +70,33 @@ fn numbers_are_promoted(rt: HostRuntime) {
     ] {
         assert!(rt; promote(a, b) == wanted);
     }
+}
+
+#[test]
+fn levels_are_of_equally_deep_branches(rt: HostRuntime) -> Result<(), Fail> {
+    let alloc = rt.alloc();
+    let numbers = Typ::Reg(3, Box::new(alloc, Typ::Leaf(Prim::I8))?);
+    let lists = opt_of(alloc, Typ::Var(Box::new(alloc, numbers)?))?;
+    let depth = levels(&lists);
+    assert!(rt; depth == Some(2));
+    assert!(rt; turned_axis(depth, -1) == 1);
+    assert!(rt; turned_axis(depth, -3) == -1);
+    let row = record(&rt, alloc, ["pt", "charge"])?;
+    assert!(rt; levels(&opt_of(alloc, row)?) == Some(0));
+    let mut parts = leaves(alloc, 1)?;
+    parts.push(Typ::Var(Box::new(alloc, Typ::Unknown)?))?;
+    let unequal = opt_of(alloc, Typ::Tup(parts))?;
+    assert!(rt; levels(&unequal).is_none());
+    Ok(())
+}
+
+#[test]
+fn whole_numbers_are_kept_in_order(rt: HostRuntime) -> Result<(), Fail> {
+    let mut edges = Wholes::new(rt.alloc());
+    edges.push(-9_223_372_036_854_775_808)?;
+    edges.push(18_446_744_073_709_551_615)?;
+    assert!(rt; edges.len() == 2);
+    assert!(rt; *edges.get(0) == -9_223_372_036_854_775_808);
+    assert!(rt; *edges.get(1) == 18_446_744_073_709_551_615);
+    Ok(())
 }

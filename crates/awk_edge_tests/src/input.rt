@@ -71,6 +71,38 @@ fn a_failing_read_ends_the_lines(rt: HostRuntime) -> Result<(), Fail> {
     Ok(())
 }
 
+#[test]
+#[tactic(auto, unfolding(awk_edge::specs::Units::raw_limit))]
+fn raw_bytes_come_between_lines(rt: HostRuntime) -> Result<(), Fail> {
+    let alloc = rt.alloc();
+    for piece in PIECES {
+        assert!(rt; piece > 0);
+        let mut source = MemSource::new(alloc, b"ab\n\n\nxcd\nlast", piece, &[])?;
+        let mut lines = Lines::new();
+        assert!(rt; lines.next(alloc, &mut source)? == Some(b"ab".to_vec(alloc)?));
+        assert!(rt; lines.raw(alloc, &mut source, 3)? == b"\n\nx".to_vec(alloc)?);
+        assert!(rt; lines.raw(alloc, &mut source, 0)?.is_empty());
+        assert!(rt; lines.next(alloc, &mut source)? == Some(b"cd".to_vec(alloc)?));
+        assert!(rt; lines.raw(alloc, &mut source, 9)? == b"last".to_vec(alloc)?);
+        assert!(rt; lines.raw(alloc, &mut source, 9)?.is_empty());
+        assert!(rt; lines.next(alloc, &mut source)?.is_none());
+    }
+    Ok(())
+}
+
+#[test]
+#[tactic(auto, unfolding(awk_edge::specs::Units::raw_limit))]
+fn raw_bytes_end_at_a_failing_read(rt: HostRuntime) -> Result<(), Fail> {
+    let alloc = rt.alloc();
+    let mut source = MemSource::new(alloc, b"a\nbcde", 2, &[2])?;
+    let mut lines = Lines::new();
+    assert!(rt; lines.next(alloc, &mut source)?.is_some());
+    assert!(rt; lines.raw(alloc, &mut source, 2)? == b"bc".to_vec(alloc)?);
+    assert!(rt; lines.raw(alloc, &mut source, 2) == Err(LineFault::Read));
+    assert!(rt; !lines.is_open());
+    Ok(())
+}
+
 // A byte many times, and then the end.
 #[derive(Drop)]
 struct Repeated {

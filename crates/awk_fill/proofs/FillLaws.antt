@@ -80,16 +80,6 @@ fits_holds p z e = by (int_le (least_number p) z) (int_le z (greatest_number p))
     by true false a b h = cc
     by false g a b h = cc
 
--- a literal that is not refused fits
-pub literal_holds : (z : ℤ) (t : DataType) → literal_refusal z (opt t) ≡ None
-    → Holds (literal_primitive t) z
-literal_holds z t h = fits_holds (literal_primitive t) z (by (fits (literal_primitive t) z) refl h)
-  where
-    by : (b : Bool) → fits (literal_primitive t) z ≡ b
-        → (if b then None else Some refused.Overflow) ≡ None → fits (literal_primitive t) z ≡ true
-    by true e k = e
-    by false e k = cc
-
 -- ---- two columns
 
 abbrev pub pair_sides : Unification → Layout → Layout → List Side

@@ -22,13 +22,13 @@ ghost use Rattle.awk_fill.specs.FillNone.{filler_type, filler_value, fill_none_f
 ghost use Rattle.awk_fill.specs.FillNone.{fill_none_of};
 
 use crate::moving::array_in;
-use awk_nulls::is_optional;
-use awk_columns::{Joined, Opened, join_spans, open_array};
 use awk_axis::{ListOp, Made, Refusal, Spoil, lift_at};
+use awk_columns::{Joined, Lists, Opened, open_array};
 use awk_lanes::{Arena, Kind, Lane, LaneMaker, Num, Steps, number, option_place_in};
 use awk_layout::{Array, Datum, Node, Operand, kind_of};
-use awk_merge_sides::Sides;
 use awk_merge_columns::merge;
+use awk_merge_sides::Sides;
+use awk_nulls::is_optional;
 use awk_types::{Fault, NoMemory, Prim, Typ, copy_type};
 use awk_unify::{Lift, unify, unify_unlimited};
 use std::alloc::{AllocError, Global};
@@ -326,14 +326,12 @@ impl<'o, 'b> ListOp for Filling<'o, 'b> {
     fn column<'a, L: Ledger>(
         &self,
         alloc: Global,
-        class: Option<u64>,
-        starts: &Lane<'a>,
-        stops: &Lane<'a>,
-        content: &Array<'a>,
+        lists: &Lists<'a>,
         arena: &'a Arena,
         steps: &mut Steps<L>,
     ) -> Result<Made<'a>, NoMemory> {
-        match join_spans(alloc, class, starts, stops, content, arena, steps)? {
+        let _ = lists.content();
+        match lists.joined(alloc, arena, steps)? {
             Joined::TooMany => Ok(Made::Spoiled(Spoil::Size)),
             Joined::Lists { offsets, content } => {
                 let items = filled(alloc, self.value, &content, arena, steps)?;

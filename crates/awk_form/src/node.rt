@@ -10,7 +10,10 @@ ghost use Rattle.awk_form.specs.declared.class.Class.TheVariants as class;
 use crate::class::{Class, class_named, has_buffers};
 use crate::dims::Dims;
 use crate::fault::{FormWhy, NodeFault};
-use crate::keys::{bit_kind_at, byte_kind_at, content_at, contents_at, form_key_at, index_kind_at, inner_shape_at, judge_parameters, number_at, option_index_kind_at, primitive_at, text_if_any, truth_at};
+use crate::keys::{
+    bit_kind_at, byte_kind_at, content_at, contents_at, form_key_at, index_kind_at, inner_shape_at,
+    judge_parameters, number_at, option_index_kind_at, primitive_at, text_if_any, truth_at,
+};
 use crate::kind::IndexKind;
 use crate::names::fields_at;
 use awk_types::{Name, Names, Prim};

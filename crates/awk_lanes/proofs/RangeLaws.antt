@@ -11,23 +11,23 @@ use Rattle.awk_lanes.specs.Numbers.{width, number, numbers, AreBytes}
 use Rattle.awk_lanes.specs.Ranges.{IsNumber, AreNumbers}
 use Rattle.awk_lanes.proofs.NumberParts.{AreBytes-drop, from_le_bytes-below}
 
-fits_8 : (z : ℤ) → SFits w8 z → IsNumber I8 z
+pub fits_8 : (z : ℤ) → SFits w8 z → IsNumber I8 z
 fits_8 (pos n) h = let f : n < 2 ^ 7 = h.sfits in (omega (arith, ints), omega (arith, ints))
 fits_8 (negsuc n) h = let f : n < 2 ^ 7 = h.sfits in (omega (arith, ints), omega (arith, ints))
 
-fits_16 : (z : ℤ) → SFits w16 z → IsNumber I16 z
+pub fits_16 : (z : ℤ) → SFits w16 z → IsNumber I16 z
 fits_16 (pos n) h = let f : n < 2 ^ 15 = h.sfits in (omega (arith, ints), omega (arith, ints))
 fits_16 (negsuc n) h = let f : n < 2 ^ 15 = h.sfits in (omega (arith, ints), omega (arith, ints))
 
-fits_32 : (z : ℤ) → SFits w32 z → IsNumber I32 z
+pub fits_32 : (z : ℤ) → SFits w32 z → IsNumber I32 z
 fits_32 (pos n) h = let f : n < 2 ^ 31 = h.sfits in (omega (arith, ints), omega (arith, ints))
 fits_32 (negsuc n) h = let f : n < 2 ^ 31 = h.sfits in (omega (arith, ints), omega (arith, ints))
 
-fits_64 : (z : ℤ) → SFits w64 z → IsNumber I64 z
+pub fits_64 : (z : ℤ) → SFits w64 z → IsNumber I64 z
 fits_64 (pos n) h = let f : n < 2 ^ 63 = h.sfits in (omega (arith, ints), omega (arith, ints))
 fits_64 (negsuc n) h = let f : n < 2 ^ 63 = h.sfits in (omega (arith, ints), omega (arith, ints))
 
-zero_number : (k : Kind) → IsNumber k (pos 0)
+pub zero_number : (k : Kind) → IsNumber k (pos 0)
 zero_number Truths = (omega (arith, ints), omega (arith, ints))
 zero_number I8 = (omega (arith, ints), omega (arith, ints))
 zero_number I16 = (omega (arith, ints), omega (arith, ints))

@@ -159,7 +159,7 @@ negative_low U16 n h = absurd (omega (arith, ints, h.0))
 negative_low U32 n h = absurd (omega (arith, ints, h.0))
 negative_low U64 n h = absurd (omega (arith, ints, h.0))
 
-number_low : (k : Kind) (z : ℤ) → IsNumber k z
+pub number_low : (k : Kind) (z : ℤ) → IsNumber k z
     → number k (low_bytes (width k) (cast_unsigned w64 z)) ≡ z
 number_low k (pos n) h = nat_low k n h
 number_low k (negsuc n) h = negative_low k n h
@@ -186,7 +186,7 @@ module _ {X : Type 0} (k : Kind) (f : X → ℕ) (z : X → ℤ) where
   abbrev group : X → List ℕ
   group x = low_bytes (width k) (f x)
 
-  numbers-flat_map : ((x : X) → IsNumber k (z x) → number k (group x) ≡ z x) → (xs : List X)
+  pub numbers-flat_map : ((x : X) → IsNumber k (z x) → number k (group x) ≡ z x) → (xs : List X)
       → ((i : ℕ) → IsNumber k (get_or (map z xs) i (pos 0)))
       → numbers k (length xs) (flat_map group xs) ≡ map z xs
   numbers-flat_map e [] h = refl

@@ -11,6 +11,7 @@ use std::alloc::AllocError;
 use std::marker::Model;
 
 /// Appends the bytes of a number, for which there is room.
+#[inline(always)]
 fn put<'a>(kind: Kind, x: Num, bytes: &mut Vec<u8, &'a Arena>)
     requires room { vec_len bytes.old + width kind ≤ vec_capacity bytes.old }
     requires kind { IsOf kind x }
@@ -79,6 +80,7 @@ impl<'a> LaneMaker<'a> {
     }
 
     /// Adds a number of the lane's kind.
+    #[inline(always)]
     pub fn push(&mut self, x: Num)
         requires room { length self.old.items < self.old.room }
         requires kind { IsOf self.old.kind x }

@@ -6,13 +6,13 @@ ghost use Rattle.awk_lanes.specs.Numbers.{width, numbers};
 ghost use Rattle.awk_lanes.specs.Ranges.{AreNumbers};
 ghost use Rattle.awk_lanes.specs.Words.{integers, column, low_bytes};
 
-use crate::kind::Kind;
+use crate::kind::{Kind, Num};
 use crate::lane::Lane;
 use crate::memory::{Arena, NoMemory};
 use bumpalo::collections::into_bump_slice;
 
 /// A number of eight bytes.
-trait Word {
+pub(crate) trait Word {
     ghost use Rattle.std.specs.Prelude.{ℕ};
 
     /// The number that its bytes are, unsigned.
@@ -41,8 +41,23 @@ impl Word for u64 {
     }
 }
 
+impl Word for Num {
+    ghost use Rattle.std.specs.Int.{cast_unsigned, w64};
+    ghost use Rattle.awk_lanes.specs.Numbers.{int_of};
+
+    ghost word = { λ x. cast_unsigned w64 (int_of x) };
+
+    fn bytes(&self) -> [u8; 8] {
+        match self {
+            Num::Int(z) => z.to_le_bytes(),
+            Num::Nat(n) => n.to_le_bytes(),
+            Num::Truth(b) => (*b as u64).to_le_bytes(),
+        }
+    }
+}
+
 /// The first W bytes of eight.
-fn first_bytes<const W: usize>(bytes: [u8; 8]) -> [u8; W]
+pub(crate) fn first_bytes<const W: usize>(bytes: [u8; 8]) -> [u8; W]
     requires some { 0 < W }
     requires fits { W ≤ 8 }
     ensures { result ≡ take W bytes }

@@ -3,3 +3,4 @@ pub mod LayoutTypes
 pub mod Runs
 pub mod TypedItems
 pub mod ArrayItems
+pub mod JudgedTypes

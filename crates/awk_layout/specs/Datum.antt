@@ -20,6 +20,11 @@ abbrev pub datum_of : Datum → shown.Datum
 datum_of (Arr x) = shown.arr (array_type x) (array_items x)
 datum_of (One x) = shown.one (array_type x) (first_item x)
 
+-- the array that a datum is kept as
+abbrev pub kept : Datum → Layout
+kept (Arr x) = x
+kept (One x) = x
+
 -- a single value is an array of one item
 abbrev pub IsDatum : Datum → Type 0
 IsDatum (Arr x) = Unit {0}

@@ -16,4 +16,7 @@ pub mod Typing
 pub mod Array
 pub mod Datum
 pub mod DatumCode
+pub mod Single
+pub mod Filler
 pub mod Worked
+pub mod WorkedSingles

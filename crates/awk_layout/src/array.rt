@@ -1,10 +1,10 @@
 //! Arrays: nodes with their simple types.
 ghost use Rattle.std.specs.Prelude.{◌≡◌, ◌<◌, ◌++◌, ◌∷◌, [], length, slice_get};
-ghost use Rattle.std.specs.Prelude.{Some, IfOk, OnOk, OnErr};
+ghost use Rattle.std.specs.Prelude.{Some, None, IfOk, OnOk, OnErr};
 ghost use Rattle.std.specs.List.{AllByRecursion};
 ghost use Rattle.awk_types.specs.Gives.{Gives};
 ghost use Rattle.awk_types.specs.Has.{Has};
-ghost use Rattle.awk_types.specs.Limit.{limit_told};
+ghost use Rattle.awk_types.specs.Limit.{limit, limit_told};
 ghost use Rattle.awk_types.specs.View.{typ_of};
 ghost use Rattle.awk_layout.specs.Array.{array_of, IsArrayType, IsTypeOf};
 ghost use Rattle.awk_layout.specs.Typing.{array_type, array_items};
@@ -13,7 +13,7 @@ ghost use Rattle.awk_layout.specs.Valid.{len, IsValid};
 use crate::node::Node;
 use crate::typing::type_of;
 use awk_types::{NoMemory, Typ, TypeFault, copy_type, simple_of};
-use std::alloc::Global;
+use std::alloc::{AllocError, Global};
 use std::marker::Model;
 
 /// A node with its type, which is simple and passes no limit.
@@ -55,6 +55,45 @@ impl<'a> Array<'a> {
         ensures { result ≡ node.entry }
     {
         Array { node, typ }
+    }
+
+    /// The array of a node whose type passes no limit. It makes the type anew.
+    #[tactic(auto, using(crate::proofs::JudgedTypes::judging))]
+    pub fn of_node(alloc: Global, node: Node<'a>) -> Result<Array<'a>, NoMemory>
+        requires { limit (array_type node) ≡ None }
+        ensures { IfOk result (λ array. array ≡ node.entry) }
+    {
+        match Array::new(alloc, node) {
+            Ok(array) => Ok(array),
+            Err(TypeFault::NoMemory) => Err(AllocError),
+            Err(TypeFault::Depth | TypeFault::Size) => unreachable!(),
+        }
+    }
+
+    /// The array of a node whose simple type is at hand, and was judged to pass no limit.
+    #[tactic(auto, using(crate::proofs::JudgedTypes::judging))]
+    pub fn within_limits(node: Node<'a>, typ: Typ) -> Array<'a>
+        requires typ { typ_of typ ≡ array_type node }
+        requires limit { limit (array_type node) ≡ None }
+        ensures { result ≡ node.entry }
+    {
+        let _ = node.len(); // the node is valid
+        Array { node, typ }
+    }
+
+    /// The node, taken out without a copy.
+    pub fn into_node(self) -> Node<'a>
+        ensures { result ≡ self.entry }
+    {
+        self.node
+    }
+
+    /// The node and the simple type, taken apart without a copy.
+    pub fn into_parts(self) -> (Node<'a>, Typ)
+        ensures node { result.0 ≡ self.entry }
+        ensures typ { IsTypeOf (typ_of result.1) self.entry }
+    {
+        (self.node, self.typ)
     }
 
     /// The node.

@@ -1,9 +1,12 @@
 //! Data and operands: what a variable holds, and what an operation takes.
-ghost use Rattle.std.specs.Prelude.{◌≡◌, ◌<◌, ◌++◌, ◌∷◌, [], length, slice_get, Some, OnOk, OnErr};
-ghost use Rattle.awk_layout.specs.Datum.{IsDatum, IsOperand};
+ghost use Rattle.std.specs.Prelude.{◌≡◌, ◌<◌, ◌++◌, ◌∷◌, [], length, slice_get, Some};
+ghost use Rattle.std.specs.Prelude.{IfOk, IfErr, OnOk, OnErr};
+ghost use Rattle.awk_types.specs.declared.fault.Fault.TheVariants.{WrongType};
+ghost use Rattle.awk_layout.specs.Datum.{kept, IsDatum, IsOperand};
+ghost use Rattle.awk_layout.specs.declared.datum.Datum.TheVariants.{Arr, One};
 
 use crate::array::Array;
-use awk_types::NoMemory;
+use awk_types::{Fault, NoMemory};
 use std::alloc::Global;
 use std::marker::Model;
 
@@ -67,6 +70,50 @@ impl<'a> Model for Operands<'a> {
     ghost view = { λ a. a.operands.items };
 
     ghost invariant = { λ a. AllByRecursion IsOperand a.operands.items };
+}
+
+impl<'a> Datum<'a> {
+    /// The same datum over the same bytes. It takes no step.
+    pub fn copy(&self, alloc: Global) -> Result<Datum<'a>, NoMemory>
+        ensures { IfOk result (λ copied. copied ≡ self.now) }
+    {
+        match self {
+            Datum::Arr(x) => Ok(Datum::Arr(x.copy(alloc)?)),
+            Datum::One(x) => Ok(Datum::One(x.copy(alloc)?)),
+        }
+    }
+
+    /// The array that the datum is kept as.
+    pub fn kept(&self) -> &Array<'a>
+        ensures { result.now ≡ kept self.now }
+    {
+        match self {
+            Datum::Arr(x) | Datum::One(x) => x,
+        }
+    }
+
+    /// The array, or a type fault where the datum is a single value.
+    pub fn array(&self) -> Result<&Array<'a>, Fault>
+        ensures array { IfOk result (λ x. self.now ≡ Arr x.now) }
+        ensures fault { IfErr result (λ e. (e ≡ WrongType) × (self.now ≡ One (kept self.now))) }
+    {
+        match self {
+            Datum::Arr(x) => Ok(x),
+            Datum::One(_) => Err(Fault::WrongType),
+        }
+    }
+}
+
+impl<'a> Operand<'a> {
+    /// The same operand over the same bytes. It takes no step.
+    pub fn copy(&self, alloc: Global) -> Result<Operand<'a>, NoMemory>
+        ensures { IfOk result (λ copied. copied ≡ self.now) }
+    {
+        match self {
+            Operand::Of(x) => Ok(Operand::Of(x.copy(alloc)?)),
+            Operand::Literal(z) => Ok(Operand::Literal(*z)),
+        }
+    }
 }
 
 impl<'a> Datums<'a> {

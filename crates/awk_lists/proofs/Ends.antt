@@ -35,8 +35,8 @@ use Rattle.awk_columns.specs.Columns.{present_values}
 use Rattle.awk_columns.specs.Joined.{AreOffsets, JoinsLists, IsJoined}
 use Rattle.awk_columns.specs.ListClass.{Class, list_type}
 use Rattle.awk_columns.specs.Opened.{items_at, OpensLists, OpensOption, OpensNothing}
-use Rattle.awk_columns.specs.declared.opening.Joined.{Joined}
-use Rattle.awk_columns.specs.declared.opening.Joined.TheVariants.{TooMany, Lists}
+use Rattle.awk_columns.specs.declared.lists.Joined.{Joined}
+use Rattle.awk_columns.specs.declared.lists.Joined.TheVariants.{TooMany, Lists}
 use Rattle.awk_columns.proofs.ArrayLaws.{lists-inner}
 use Rattle.awk_lists.specs.Flatten.{is_list, item_type}
 use Rattle.awk_lists.specs.Listed.{items_before, present_lane, AreEnds}
@@ -158,27 +158,6 @@ empty_list (v ∷ vs) e = absurd (omega (arith, e))
 
 pub no_items : (x : Layout) → len x ≡ 0 → array_items x ≡ []
 no_items x e = empty_list (array_items x) (length-array_items x ∙ e)
-
-no_ends : (o : Column) → o ≡ record { kind = I64; items = pos 0 ∷ [] } → AreEnds o []
-no_ends o e = rw e (record { kind = tt; size = refl; ends = λ i p. only i p })
-  where
-    only : (i : ℕ) → i ≤ 0
-        → at (record { kind = I64; items = pos 0 ∷ [] }) i ≡ pos (items_before [] i)
-    only zero p = refl
-    only (suc i) p = absurd (omega (arith, p))
-
-pub nothing_listed : (x : Layout) (o : Column) → IsValid x → OpensNothing x
-    → o ≡ record { kind = I64; items = pos 0 ∷ [] } → IsListed x (Lists o x)
-nothing_listed x o v n e =
-    let none : array_items x ≡ [] = no_items x n.none in (
-      rw none (omega arith),
-      record {
-        typ = n.typ ∙ sym (ap (λ u. item_type (present u)) n.typ);
-        valid = v;
-        ends = rw none (no_ends o e);
-        column = none ∙ sym (ap joined_items none);
-      },
-    )
 
 -- ---- options
 

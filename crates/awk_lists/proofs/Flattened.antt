@@ -33,7 +33,7 @@ use Rattle.awk_columns.specs.Opened.{AreLists, items_at, all_items_at}
 use Rattle.awk_axis.specs.Spoils.{too_many}
 use Rattle.awk_axis.specs.declared.causes.Refusal.TheVariants as refused
 use Rattle.awk_axis.specs.declared.causes.Spoil.TheVariants.{Size}
-use Rattle.awk_columns.specs.declared.opening.Joined.TheVariants.{TooMany}
+use Rattle.awk_columns.specs.declared.lists.Joined.TheVariants.{TooMany}
 use Rattle.awk_lists.specs.Flatten.{is_list, item_type, flatten_function, flatten_of}
 use Rattle.awk_lists.specs.Listed.{items_before, AreListed, IsListed}
 use Rattle.awk_lists.proofs.Ends.{rising_offsets, joined_at}
@@ -194,11 +194,6 @@ module _ (s e : Column) (y : Layout) (rows : Column) (lists : Layout)
       (within_limit (length (joined_items (array_items lists))) h)
 
 -- ---- the axis
-
-pub axis_previous : (z : ℤ) → pos 1 ≤ℤ z → z -ℤ pos 1 ≡ pos (nat_of z - 1)
-axis_previous (pos zero) p = absurd (omega (arith, ints, p))
-axis_previous (pos (suc k)) p = omega (arith, ints)
-axis_previous (negsuc k) p = absurd (omega (arith, ints, p))
 
 pub flatten_at : (axis : ℤ) (d : Datum) → pos 1 ≤ℤ axis
     → lift flatten_function (pos (nat_of axis - 1)) d ≡ flatten_of axis d

@@ -307,23 +307,6 @@ pub opens_lists : (class : Class) (s t : Column) (y x : Layout) → OpensLists c
     → is_list (array_type x) ≡ true
 opens_lists class s t y x op = ap is_list op.typ ∙ list_typ_is class (array_type y)
 
-pub nothing_held : (x : Layout) (o : Column) → IsValid x → OpensNothing x
-    → o ≡ record { kind = I64; items = pos 0 ∷ [] } → AreHeld x o x
-nothing_held x o v n e =
-    let none : array_items x ≡ [] = no_items x n.none in
-    record {
-      typ = n.typ ∙ sym (ap present n.typ);
-      valid = v;
-      column = none ∙ sym (ap held_lists none);
-      kind = rw e tt;
-      size = rw (e, n.none) refl;
-      counts = only;
-    }
-  where
-    only : (i : ℕ) → i ≤ len x → at o i ≡ pos (length (held_lists (take i (array_items x))))
-    only zero p = rw e refl
-    only (suc i) p = absurd (omega (arith, p, n.none))
-
 -- ---- options
 
 take_held : (vs : List Value) (i : ℕ)

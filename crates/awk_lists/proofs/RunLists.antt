@@ -38,7 +38,7 @@ use Rattle.awk_axis.specs.Reach.{is_leaf}
 use Rattle.awk_axis.specs.Spoils.{too_many}
 use Rattle.awk_axis.specs.declared.causes.Refusal.TheVariants as refused
 use Rattle.awk_axis.specs.declared.causes.Spoil.TheVariants.{Size}
-use Rattle.awk_columns.specs.declared.opening.Joined.TheVariants.{TooMany}
+use Rattle.awk_columns.specs.declared.lists.Joined.TheVariants.{TooMany}
 use Rattle.awk_columns.proofs.ArrayLaws.{run_same, array_items-at}
 use Rattle.awk_lists.specs.Numbers.{AreNumbers}
 use Rattle.awk_lists.specs.RunLengths.{runs, run_lengths_function}
@@ -48,13 +48,6 @@ use Rattle.awk_lists.proofs.Ends.{rising_offsets, joined_at}
 use Rattle.awk_lists.proofs.JoinedItems.{run-slice}
 use Rattle.awk_lists.proofs.Offsets.{over_limit, within_limit}
 use Rattle.awk_lists.proofs.RunLaws.{runs_between-few}
-
-pub are_leaves : (t : DataType) → run_lengths_function.refusal t ≡ None → is_leaf t ≡ true
-are_leaves t h = go (is_leaf t) h
-  where
-    go : (b : Bool) → (if b then None else Some refused.WrongType) ≡ None → b ≡ true
-    go true e = refl
-    go false e = cc
 
 -- ---- lists that lie one after another
 

@@ -12,8 +12,8 @@ use Rattle.awk_layout.specs.Typing.{array_type, array_items}
 use Rattle.awk_columns.specs.Columns.{joined_items}
 use Rattle.awk_columns.specs.Counted.{first_of, present_at}
 use Rattle.awk_lanes.specs.Made.{lane_of}
-use Rattle.awk_columns.specs.declared.opening.Joined.{Joined}
-use Rattle.awk_columns.specs.declared.opening.Joined.TheVariants.{TooMany, Lists}
+use Rattle.awk_columns.specs.declared.lists.Joined.{Joined}
+use Rattle.awk_columns.specs.declared.lists.Joined.TheVariants.{TooMany, Lists}
 use Rattle.awk_lists.specs.Flatten.{item_type}
 
 -- how many items the first i lists have together

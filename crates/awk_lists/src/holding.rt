@@ -130,12 +130,9 @@ fn plain_held<'a, L: Ledger>(
 {
     match open_array(alloc, x, arena, steps)? {
         Opened::Unknown => none_held(alloc, x, arena),
-        Opened::Items {
-            class: _class,
-            starts,
-            stops,
-            content: _lists,
-        } => held_among(alloc, x, &starts, &stops, arena, steps),
+        Opened::Items(lists) => {
+            held_among(alloc, x, lists.starts(), lists.stops(), arena, steps)
+        }
         _ => unreachable!(),
     }
 }
@@ -174,12 +171,9 @@ pub(crate) fn held_of<'a, L: Ledger>(
 {
     match open_array(alloc, x, arena, steps)? {
         Opened::Unknown => none_held(alloc, x, arena),
-        Opened::Items {
-            class: _class,
-            starts,
-            stops,
-            content: _lists,
-        } => held_among(alloc, x, &starts, &stops, arena, steps),
+        Opened::Items(lists) => {
+            held_among(alloc, x, lists.starts(), lists.stops(), arena, steps)
+        }
         Opened::Option { index, content } => {
             optional_held(alloc, x, &index, &content, arena, steps)
         }

@@ -10,8 +10,9 @@ ghost use Rattle.awk_lists.specs.LocalIndex.{local_index_function, local_index_o
 
 use crate::length::length_at;
 use awk_axis::{ListOp, Made, Refusal, Spoil, lift_at};
+use awk_columns::Lists;
 use awk_lanes::{Arena, Kind, Lane, LaneMaker, Steps, number};
-use awk_layout::{Array, Datum, Node};
+use awk_layout::{Datum, Node};
 use awk_types::{Fault, ITEM_LIMIT, NoMemory, Prim, Typ};
 use std::alloc::Global;
 use std::sync::ledger::Ledger;
@@ -101,13 +102,13 @@ impl ListOp for LocalIndex {
     fn column<'a, L: Ledger>(
         &self,
         _alloc: Global,
-        _class: Option<u64>,
-        starts: &Lane<'a>,
-        stops: &Lane<'a>,
-        _content: &Array<'a>,
+        lists: &Lists<'a>,
         arena: &'a Arena,
         steps: &mut Steps<L>,
     ) -> Result<Made<'a>, NoMemory> {
+        let _ = lists.content();
+        let starts = lists.starts();
+        let stops = lists.stops();
         match total(starts, stops, steps) {
             None => Ok(Made::Spoiled(Spoil::Size)),
             Some(n) => {

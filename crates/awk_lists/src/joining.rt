@@ -17,10 +17,10 @@ ghost use Rattle.awk_lists.specs.Held.{AreHeld};
 ghost use Rattle.awk_lists.specs.Listed.{IsListed};
 
 use crate::counting::offsets_at;
-use crate::holding::{Held, held_of};
+use crate::holding::held_of;
 use crate::moved::numbers_at_ends;
-use awk_columns::{Joined, Opened, join_spans, open_array};
 use awk_axis::{ListOp, Made, Refusal, Spoil, lift_at};
+use awk_columns::{Joined, Lists, Opened, join_spans, open_array};
 use awk_lanes::{Arena, Kind, Lane, LaneMaker, Steps, number};
 use awk_layout::{Array, Datum};
 use awk_types::{Fault, NoMemory, Typ, copy_type};
@@ -80,12 +80,7 @@ fn plain_lists<'a, L: Ledger>(
 {
     match open_array(alloc, x, arena, steps)? {
         Opened::Unknown => no_lists(alloc, x, arena),
-        Opened::Items {
-            class,
-            starts,
-            stops,
-            content,
-        } => join_spans(alloc, class, &starts, &stops, &content, arena, steps),
+        Opened::Items(lists) => lists.joined(alloc, arena, steps),
         _ => unreachable!(),
     }
 }
@@ -124,29 +119,29 @@ fn joined_rows<'a, L: Ledger>(
 /// at least so many items.
 fn held_rows<'a, L: Ledger>(
     alloc: Global,
-    class: Option<u64>,
-    starts: &Lane<'a>,
-    stops: &Lane<'a>,
-    content: &Array<'a>,
+    lists: &Lists<'a>,
     counts: &Lane<'a>,
-    lists: &Array<'a>,
+    held: &Array<'a>,
     arena: &'a Arena,
     steps: &mut Steps<L>,
 ) -> Result<Made<'a>, NoMemory>
-    requires accepted { flatten_function.refusal (array_type content.now) ≡ None }
-    requires spans { AreLists class starts.now stops.now content.now }
-    requires lists { AreHeld content.now counts.now lists.now }
-    ensures { IfOk result (IsMade flatten_function class starts.now stops.now content.now) }
+    requires accepted { flatten_function.refusal (array_type lists.now.content) ≡ None }
+    requires lists { AreHeld lists.now.content counts.now held.now }
+    ensures { IfOk result (IsMade flatten_function lists.now.class lists.now.starts
+        lists.now.stops lists.now.content) }
 {
+    let _ = lists.content();
+    let starts = lists.starts();
+    let stops = lists.stops();
     let firsts = numbers_at_ends(counts, starts, stops, starts, arena, steps)?;
     let ends = numbers_at_ends(counts, starts, stops, stops, arena, steps)?;
-    match join_spans(alloc, None, &firsts, &ends, lists, arena, steps)? {
+    match join_spans(alloc, None, &firsts, &ends, held, arena, steps)? {
         Joined::TooMany => Ok(Made::Spoiled(Spoil::Size)),
         Joined::Lists {
             offsets,
             content: rows,
         } => joined_rows(
-            alloc, None, &firsts, &ends, lists, &offsets, &rows, arena, steps,
+            alloc, None, &firsts, &ends, held, &offsets, &rows, arena, steps,
         ),
     }
 }
@@ -184,17 +179,12 @@ impl ListOp for JoinedLists {
     fn column<'a, L: Ledger>(
         &self,
         alloc: Global,
-        class: Option<u64>,
-        starts: &Lane<'a>,
-        stops: &Lane<'a>,
-        content: &Array<'a>,
+        lists: &Lists<'a>,
         arena: &'a Arena,
         steps: &mut Steps<L>,
     ) -> Result<Made<'a>, NoMemory> {
-        let Held { counts, lists } = held_of(alloc, content, arena, steps)?;
-        held_rows(
-            alloc, class, starts, stops, content, &counts, &lists, arena, steps,
-        )
+        let held = held_of(alloc, lists.content(), arena, steps)?;
+        held_rows(alloc, lists, &held.counts, &held.lists, arena, steps)
     }
 }
 

@@ -8,8 +8,9 @@ ghost use Rattle.awk_lists.specs.Lanes.{span_length, lengths_lane};
 ghost use Rattle.awk_lists.specs.Num.{length_function, num_of};
 
 use awk_axis::{ListOp, Made, Refusal, lift_at};
+use awk_columns::Lists;
 use awk_lanes::{Arena, Kind, Lane, LaneMaker, Steps, index_at, number};
-use awk_layout::{Array, Datum, Node};
+use awk_layout::{Datum, Node};
 use awk_types::{Fault, NoMemory, Prim, Typ};
 use std::alloc::Global;
 use std::sync::ledger::Ledger;
@@ -73,14 +74,13 @@ impl ListOp for Length {
     fn column<'a, L: Ledger>(
         &self,
         _alloc: Global,
-        _class: Option<u64>,
-        starts: &Lane<'a>,
-        stops: &Lane<'a>,
-        _content: &Array<'a>,
+        lists: &Lists<'a>,
         arena: &'a Arena,
         steps: &mut Steps<L>,
     ) -> Result<Made<'a>, NoMemory> {
-        Ok(Made::Singles(Node::numpy(lengths(starts, stops, arena, steps)?, steps)))
+        let _ = lists.content();
+        let lengths = lengths(lists.starts(), lists.stops(), arena, steps)?;
+        Ok(Made::Singles(Node::numpy(lengths, steps)))
     }
 }
 

@@ -4,9 +4,9 @@ ghost use Rattle.awk_layout.specs.Typing.{array_type};
 ghost use Rattle.awk_axis.specs.Reach.{is_leaf};
 ghost use Rattle.awk_lists.specs.Numbers.{AreNumbers};
 
-use awk_open::{Opened, opened};
 use awk_lanes::{Arena, Kind, Lane, LaneMaker, Steps};
 use awk_layout::Array;
+use awk_open::{Opened, opened};
 use awk_types::NoMemory;
 use std::alloc::Global;
 use std::sync::ledger::Ledger;

@@ -13,10 +13,10 @@ ghost use Rattle.awk_lists.specs.Runs as spec;
 ghost use Rattle.awk_lists.specs.Runs.{runs_between, runs_before, run_lane, AreRising};
 
 use crate::numbers::numbers_of;
-use awk_columns::{Joined, join_spans};
 use awk_axis::{ListOp, Made, Refusal, Spoil, lift_deep};
+use awk_columns::{Joined, Lists};
 use awk_lanes::{Arena, Kind, Lane, LaneMaker, Num, Steps, number, place_in};
-use awk_layout::{Array, Datum, Node};
+use awk_layout::{Datum, Node};
 use awk_types::{Fault, NoMemory, Prim, Typ};
 use std::alloc::Global;
 use std::sync::ledger::Ledger;
@@ -180,18 +180,16 @@ impl ListOp for RunLengths {
     fn column<'a, L: Ledger>(
         &self,
         alloc: Global,
-        class: Option<u64>,
-        starts: &Lane<'a>,
-        stops: &Lane<'a>,
-        content: &Array<'a>,
+        lists: &Lists<'a>,
         arena: &'a Arena,
         steps: &mut Steps<L>,
     ) -> Result<Made<'a>, NoMemory> {
-        match join_spans(alloc, class, starts, stops, content, arena, steps)? {
+        let _ = lists.content();
+        match lists.joined(alloc, arena, steps)? {
             Joined::TooMany => Ok(Made::Spoiled(Spoil::Size)),
             Joined::Lists { offsets, content } => {
                 let items = numbers_of(alloc, &content, arena, steps)?;
-                let n = starts.len();
+                let n = lists.len();
                 let ends = run_offsets(&items, &offsets, n, arena, steps)?;
                 let count = place_in(&ends, n, steps);
                 let runs = all_runs(&items, &offsets, n, count, arena, steps)?;

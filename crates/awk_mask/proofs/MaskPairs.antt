@@ -22,45 +22,6 @@ use Rattle.awk_mask.specs.PutMask.{any_pair, lists_differ}
 
 -- ---- types
 
-of_items_list : (f : DataType → Bool) (t : DataType) → of_items f t ≡ true → is_list t ≡ true
-of_items_list f (var t) h = refl
-of_items_list f (reg n t) h = refl
-of_items_list f unknown h = absurd cc
-of_items_list f (leaf k) h = absurd cc
-of_items_list f (rec ns ts) h = absurd cc
-of_items_list f (tup ts) h = absurd cc
-of_items_list f (opt t) h = absurd cc
-of_items_list f (uni ts) h = absurd cc
-
-has_items_lists : (f : DataType → Bool) (t : DataType) → has_items f t ≡ true
-    → has_lists t ≡ true
-has_items_lists f (opt t) h = of_items_list f t h
-has_items_lists f (var t) h = refl
-has_items_lists f (reg n t) h = refl
-has_items_lists f unknown h = absurd cc
-has_items_lists f (leaf k) h = absurd cc
-has_items_lists f (rec ns ts) h = absurd cc
-has_items_lists f (tup ts) h = absurd cc
-has_items_lists f (uni ts) h = absurd cc
-
--- what a mask of lists is over has lists too
-pub lists_under : (u t : DataType) → has_lists u ≡ true → masks u t ≡ true → has_lists t ≡ true
-lists_under (var u) t l h = has_items_lists (masks u) t h
-lists_under (reg n u) t l h = has_items_lists (masks u) t h
-lists_under (opt (var u)) t l h = has_items_lists (masks u) t h
-lists_under (opt (reg n u)) t l h = has_items_lists (masks u) t h
-lists_under unknown t l h = absurd cc
-lists_under (leaf k) t l h = absurd cc
-lists_under (rec ns ts) t l h = absurd cc
-lists_under (tup ts) t l h = absurd cc
-lists_under (uni ts) t l h = absurd cc
-lists_under (opt unknown) t l h = absurd cc
-lists_under (opt (leaf k)) t l h = absurd cc
-lists_under (opt (rec ns ts)) t l h = absurd cc
-lists_under (opt (tup ts)) t l h = absurd cc
-lists_under (opt (uni ts)) t l h = absurd cc
-lists_under (opt (opt u)) t l h = absurd cc
-
 has_items_of : (f : DataType → Bool) (t t' : DataType) → IsItemType t t' → has_items f t ≡ f t'
 has_items_of f (var t) t' e = ap f e
 has_items_of f (reg n t) t' e = ap f e

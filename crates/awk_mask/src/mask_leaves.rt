@@ -8,9 +8,9 @@ ghost use Rattle.awk_layout.specs.Valid.{len};
 ghost use Rattle.awk_lanes.specs.Made.{lane_of};
 ghost use Rattle.awk_mask.specs.MaskLeaves.{is_innermost, AreTruths, IsMasked};
 
-use awk_open::{Opened, opened};
 use awk_lanes::{Arena, Kind, Lane, LaneMaker, Num, Steps};
 use awk_layout::{Array, Node};
+use awk_open::{Opened, opened};
 use awk_types::NoMemory;
 use std::alloc::Global;
 use std::sync::ledger::Ledger;

@@ -9,19 +9,18 @@ ghost use Rattle.awk_mask.specs.MaskLists as lists;
 ghost use Rattle.awk_mask.specs.MaskLists.{AreListsOf, AreInside, items_differ, optional_items};
 ghost use Rattle.awk_mask.specs.PutMask.{masks, differs, lists_differ};
 
-use awk_nulls::length_at;
-use awk_nulls::{is_optional, numbers};
 use awk_columns::{Opened, open_array};
 use awk_lanes::{Arena, Lane, Steps, option_place_in, place_in};
 use awk_layout::Array;
-use awk_types::{NoMemory, Typ};
+use awk_nulls::{is_optional, length_at, numbers};
 use awk_range::range;
+use awk_types::{NoMemory, Typ};
 use std::alloc::Global;
 use std::sync::ledger::Ledger;
 
 /// Lists, each at its place among others, or null where the index is negative.
 #[derive(Drop)]
-struct Lists<'a> {
+struct ListsAt<'a> {
     index: Lane<'a>,
     starts: Lane<'a>,
     stops: Lane<'a>,
@@ -54,22 +53,17 @@ fn lists_at<'a, L: Ledger>(
     index: Lane<'a>,
     arena: &'a Arena,
     steps: &mut Steps<L>,
-) -> Result<Lists<'a>, NoMemory>
+) -> Result<ListsAt<'a>, NoMemory>
     requires lists { lists.is_list (array_type x.now) ≡ true }
     ensures { IfOk result (λ r.
         AreInside x.now index.entry r.index r.starts r.stops r.content) }
 {
     match open_array(alloc, x, arena, steps)? {
-        Opened::Items {
-            starts,
-            stops,
-            content,
-            ..
-        } => Ok(Lists {
+        Opened::Items(lists) => Ok(ListsAt {
             index,
-            starts,
-            stops,
-            content,
+            starts: lists.starts().copy(),
+            stops: lists.stops().copy(),
+            content: lists.content().copy(alloc)?,
         }),
         _ => unreachable!(),
     }
@@ -81,7 +75,7 @@ fn lists_of<'a, L: Ledger>(
     x: &Array<'a>,
     arena: &'a Arena,
     steps: &mut Steps<L>,
-) -> Result<Lists<'a>, NoMemory>
+) -> Result<ListsAt<'a>, NoMemory>
     requires lists { lists.has_lists (array_type x.now) ≡ true }
     ensures { IfOk result (λ r. AreListsOf x.now r.index r.starts r.stops r.content) }
 {
@@ -154,8 +148,8 @@ pub fn unequal<'a, L: Ledger>(
 fn unequal_at<'a, L: Ledger>(
     alloc: Global,
     i: u64,
-    xs: &Lists<'a>,
-    ms: &Lists<'a>,
+    xs: &ListsAt<'a>,
+    ms: &ListsAt<'a>,
     arena: &'a Arena,
     steps: &mut Steps<L>,
 ) -> Result<bool, NoMemory>

@@ -7,12 +7,11 @@ ghost use Rattle.awk_mask.specs.MaskLists as lists;
 
 use crate::mask_lengths::{has_lists, is_list};
 use crate::mask_nulls::items_where;
-use awk_nulls::is_optional;
-use awk_columns::{Joined, Opened, join_spans, open_array};
-use awk_open::{Opened as Ordered};
-use awk_columns::in_order;
+use awk_columns::{Joined, Opened, in_order, open_array};
 use awk_lanes::{Arena, Lane, Steps};
 use awk_layout::Array;
+use awk_nulls::is_optional;
+use awk_open::Opened as Ordered;
 use awk_types::NoMemory;
 use std::alloc::Global;
 use std::sync::ledger::Ledger;
@@ -90,16 +89,11 @@ fn lists_in<'a, L: Ledger>(
     ensures { IfOk result (AreJoinedIn x.now) }
 {
     match open_array(alloc, x, arena, steps)? {
-        Opened::Items {
-            class,
-            starts,
-            stops,
-            content,
-        } => match join_spans(alloc, class, &starts, &stops, &content, arena, steps)? {
+        Opened::Items(lists) => match lists.joined(alloc, arena, steps)? {
             Joined::TooMany => Ok(Below::TooMany),
             Joined::Lists { offsets, content } => Ok(Below::Lists {
-                class,
-                n: starts.len(),
+                class: lists.class(),
+                n: lists.len(),
                 offsets,
                 content,
             }),

@@ -6,10 +6,10 @@ ghost use Rattle.awk_layout.specs.Typing.{array_type, array_items};
 ghost use Rattle.awk_layout.specs.Valid.{len};
 ghost use Rattle.awk_mask.specs.MaskNulls.{stops_lane, items_where};
 
-use awk_nulls::{numbers, one_if_present};
 use awk_columns::{Joined, join_spans};
 use awk_lanes::{Arena, Kind, Lane, LaneMaker, Steps, number};
 use awk_layout::Array;
+use awk_nulls::{numbers, one_if_present};
 use awk_types::NoMemory;
 use std::alloc::Global;
 use std::sync::ledger::Ledger;

@@ -8,10 +8,10 @@ ghost use Rattle.awk_layout.specs.Typing.{array_datum};
 ghost use Rattle.awk_merge.specs.Operands.{stacked_datum};
 ghost use Rattle.awk_merge_sides.specs.Sides.{sides_of, merged_items, AreSides, IsCounted, IsMerged};
 
-use awk_merge_columns::merge;
-use awk_merge_sides::Sides;
 use awk_lanes::{Arena, Steps};
 use awk_layout::Array;
+use awk_merge_columns::merge;
+use awk_merge_sides::Sides;
 use awk_types::{Fault, ITEM_LIMIT, NoMemory, Typ, copy_type};
 use std::alloc::Global;
 use std::sync::ledger::Ledger;

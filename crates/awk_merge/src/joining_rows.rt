@@ -21,10 +21,10 @@ ghost use Rattle.awk_merge.specs.Operands.{IndexHas, IndexesAll, AreRising};
 ghost use Rattle.awk_merge_sides.specs.Sides.{sides_of, merged_items, AreSides, IsCounted};
 
 use crate::joining_arrays::merged;
-use awk_merge_sides::Sides;
-use awk_columns::{Joined, Opened, join_spans, open_array};
+use awk_columns::{Joined, Lists, Opened, join_spans, open_array};
 use awk_lanes::{Arena, Kind, Lane, LaneMaker, Num, Steps, index_at, number, option_place_in};
 use awk_layout::{Array, Node};
+use awk_merge_sides::Sides;
 use awk_types::{Fault, NoMemory, Typ, copy_type};
 use std::alloc::Global;
 use std::sync::ledger::Ledger;
@@ -265,36 +265,19 @@ fn rows_by_index<'a, L: Ledger>(
     }
 }
 
-/// Where the lists of a column lie, and what holds their items.
-#[derive(Drop)]
-struct RowLists<'a> {
-    starts: Lane<'a>,
-    stops: Lane<'a>,
-    content: Array<'a>,
-}
-
 /// The lists of a column.
 fn opened_lists<'a, L: Ledger>(
     alloc: Global,
     x: &Array<'a>,
     arena: &'a Arena,
     steps: &mut Steps<L>,
-) -> Result<RowLists<'a>, NoMemory>
+) -> Result<Lists<'a>, NoMemory>
     requires lists { (u : DataType) × (array_type x.now ≡ var u) }
     ensures { IfOk result (λ r.
         (class : Option ℕ) × OpensLists class r.starts r.stops r.content x.now) }
 {
     match open_array(alloc, x, arena, steps)? {
-        Opened::Items {
-            starts,
-            stops,
-            content,
-            ..
-        } => Ok(RowLists {
-            starts,
-            stops,
-            content,
-        }),
+        Opened::Items(lists) => Ok(lists),
         _ => unreachable!(),
     }
 }
@@ -323,9 +306,9 @@ fn plain_rows<'a, L: Ledger>(
         index,
         n,
         k,
-        &opened.starts,
-        &opened.stops,
-        &opened.content,
+        opened.starts(),
+        opened.stops(),
+        opened.content(),
         arena,
         steps,
     )

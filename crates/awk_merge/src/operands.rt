@@ -10,8 +10,8 @@ ghost use Rattle.awk_merge.specs.Concatenate.{axis_of, operand_type, stacked, ca
 ghost use Rattle.awk_merge.specs.Operands.{array_in, column_in, AreCarriedOperands, AreLawful};
 ghost use Rattle.awk_merge_sides.specs.Sides.{sides_of, merged_items, AreSides, IsCounted};
 
-use awk_merge_sides::Sides;
 use awk_layout::{Array, Datum, Datums};
+use awk_merge_sides::Sides;
 use awk_types::{NoMemory, Typ, Typs, copy_type};
 use awk_unify::UnifiedAll;
 use std::alloc::Global;

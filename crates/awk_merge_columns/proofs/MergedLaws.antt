@@ -54,10 +54,6 @@ none_unknown ss i s e h k =
     let side : IsSide unknown s = IsSide-get unknown ss i s e h in
     side.values (simple_value (layout_type s.column) (item s.column 0)) (item_has s.column 0 k side.some)
 
-pub nothing_merged : (ss : List Side) → length ss ≡ 0 → IsMerged unknown ss empty
-nothing_merged [] n = record { typ = refl; items = refl }
-nothing_merged (s ∷ ss) n = absurd (omega (arith, n))
-
 -- ---- rows by their type
 
 row_type_is : (t : DataType) → IsRowType t → row_type (row_names t) (types_from (row_parts t)) ≡ t

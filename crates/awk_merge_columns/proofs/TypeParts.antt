@@ -12,13 +12,6 @@ use Rattle.awk_layout.specs.Array.{IsArrayType}
 use Rattle.awk_open.proofs.PartLimits.{few_alternatives, within_opt, within_reg, within_row, within_uni, within_var}
 use Rattle.awk_merge_sides.specs.Groups.{AreArrayTypes}
 
-pub present_lawful : (u : DataType) → IsArrayType (opt u) → IsArrayType u
-present_lawful u h = record {
-  is_type = h.is_type;
-  is_simple = h.is_simple.1;
-  within_limits = within_opt u h.within_limits;
-}
-
 pub present_plain : (u : DataType) → IsArrayType (opt u) → is_option u ≡ false
 present_plain u h = h.is_simple.0
 
@@ -60,9 +53,6 @@ alternatives_lawful ts h =
 pub alternatives_plain : (ts : List DataType) → IsArrayType (uni (types_from ts))
     → ArePlain (types_from ts)
 alternatives_plain ts h = h.is_simple
-
-pub alternatives_few : (ts : List DataType) → IsArrayType (uni (types_from ts)) → length ts ≤ 127
-alternatives_few ts h = few_alternatives ts h.within_limits
 
 -- a record has distinct names, one for each field
 pub names_lawful : (names : List Name) (ts : List DataType) → IsArrayType (rec names (types_from ts))

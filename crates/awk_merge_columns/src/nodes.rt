@@ -8,20 +8,16 @@ ghost use Rattle.awk_layout.specs.Valid.{len, AllReach, AreNames};
 ghost use Rattle.awk_merge_rows.specs.RowLevels.{row_names};
 ghost use Rattle.awk_merge_sides.specs.Sides.{sides_of, AreSides, IsMerged};
 
-use awk_merge_sides::Sides;
 use awk_lanes::{Lane, Steps};
 use awk_layout::{Node, Nodes};
+use awk_merge_sides::Sides;
 use awk_types::{NoMemory, Typ, same};
 use awk_unify::{Lift, field_names};
 use std::alloc::Global;
 use std::sync::ledger::Ledger;
 
 /// The only column, where its values are of the type and stay.
-pub fn only<'a>(
-    alloc: Global,
-    t: &Typ,
-    sides: &Sides<'a>,
-) -> Result<Option<Node<'a>>, NoMemory>
+pub fn only<'a>(alloc: Global, t: &Typ, sides: &Sides<'a>) -> Result<Option<Node<'a>>, NoMemory>
     ensures { IfOk result (λ found. IfSome found (IsMerged (typ_of t.now) (sides_of sides.now))) }
 {
     if sides.len() != 1 {

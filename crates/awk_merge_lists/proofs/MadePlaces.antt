@@ -11,9 +11,6 @@ use Rattle.awk_merge_lists.specs.Lists.{with_numbers, HasRoom}
 pub record ArePut (f : ℕ → ℤ) (i : ℕ) (before now : Making) : Type 0 where
   pub put : now ≡ with_numbers before (map f (range_with_len 0 i))
 
-pub put_none : (f : ℕ → ℤ) (m : Making) → ArePut f 0 m m
-put_none f m = record { put = ap (λ zs. record { kind = m.kind; room = m.room; items = zs }) (sym (append-nil m.items)) }
-
 pub put_next : (f : ℕ → ℤ) (i : ℕ) (z : ℤ) (before old now : Making) → now ≡ with_item old z
     → z ≡ f i → ArePut f i before old → ArePut f (i + 1) before now
 put_next f i z before old now e g h = record {

@@ -28,20 +28,6 @@ use Rattle.awk_merge_lists.specs.Lists.{IsListType, AreListsOver, HoldsLists, Ho
 
 -- ---- kinds
 
-no_row : (names : Option (List Name)) (ts : DataTypes) → IsListType (row_type names ts) → ⊥
-no_row None ts h = h
-no_row (Some ns) ts h = h
-
--- a column of lists opens as lists
-pub opens_as_lists : (x : Layout) (o : Opened) → IsListType (array_type x) → IsOpened x o
-    → ((class : Class) (s t : Column) (y : Layout) → o ≡ opened.Items class s t y → ⊥) → ⊥
-opens_as_lists x opened.Unknown l h n = subst IsListType h.typ l
-opens_as_lists x (opened.Leaf c) l h n = subst IsListType h.typ l
-opens_as_lists x (opened.Items class s t y) l h n = n class s t y refl
-opens_as_lists x (opened.Row names ys) l h n = no_row names _ (subst IsListType h.typ l)
-opens_as_lists x (opened.Option j y) l h n = subst IsListType h.typ l
-opens_as_lists x (opened.Union t j ys) l h n = subst IsListType h.typ l
-
 -- ---- lists as they lie
 
 -- lists of m items each, n of them

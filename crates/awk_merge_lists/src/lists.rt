@@ -11,7 +11,7 @@ ghost use Rattle.awk_merge_lists.specs.Lists.{IsListType, HoldsLists, HoldsItems
 ghost use Rattle.awk_merge_lists.specs.Lists.{PutsLists, moved_places, with_numbers};
 ghost use Rattle.awk_merge_sides.specs.Sides.{sides_of, AreSides, IsCounted};
 
-use awk_columns::{Joined, Opened, join_spans, open_array};
+use awk_columns::{Joined, Opened, open_array};
 use awk_lanes::{Arena, Kind, Lane, LaneMaker, Steps, index_at, number, to_option_place};
 use awk_layout::Array;
 use awk_merge_sides::{Side, Sides, items_lift};
@@ -30,7 +30,7 @@ pub struct ListLevel<'a> {
 /// Lists over what holds their items: the items alone, or the whole content where the lists are
 /// together more than the limit of a column.
 #[derive(Drop)]
-struct Lists<'a> {
+struct SideLists<'a> {
     starts: Lane<'a>,
     stops: Lane<'a>,
     content: Array<'a>,
@@ -42,25 +42,20 @@ fn lists_of<'a, L: Ledger>(
     column: &Array<'a>,
     arena: &'a Arena,
     steps: &mut Steps<L>,
-) -> Result<Lists<'a>, NoMemory>
+) -> Result<SideLists<'a>, NoMemory>
     requires { IsListType (array_type column.now) }
     ensures { IfOk result (λ r. HoldsLists column.now r.starts r.stops r.content) }
 {
     match open_array(alloc, column, arena, steps)? {
-        Opened::Items {
-            class,
-            starts,
-            stops,
-            content,
-        } => match join_spans(alloc, class, &starts, &stops, &content, arena, steps)? {
-            Joined::TooMany => Ok(Lists {
-                starts,
-                stops,
-                content,
+        Opened::Items(lists) => match lists.joined(alloc, arena, steps)? {
+            Joined::TooMany => Ok(SideLists {
+                starts: lists.starts().copy(),
+                stops: lists.stops().copy(),
+                content: lists.content().copy(alloc)?,
             }),
             Joined::Lists { offsets, content } => {
-                let n = starts.len();
-                Ok(Lists {
+                let n = lists.len();
+                Ok(SideLists {
                     starts: offsets.cut(0, n, steps),
                     stops: offsets.cut(1, n + 1, steps),
                     content,
@@ -124,7 +119,7 @@ impl<'a> ListMaker<'a> {
         ensures { OnOk result
             (PutsLists side.now.column (lift_of side.now.lift) self.old self.new) }
     {
-        let Lists {
+        let SideLists {
             starts,
             stops,
             content,
@@ -180,12 +175,7 @@ fn items_of<'a, L: Ledger>(
     ensures { (n : ℕ) → AreOfLength n column.now → IfOk result (HoldsItems n column.now) }
 {
     match open_array(alloc, column, arena, steps)? {
-        Opened::Items {
-            class,
-            starts,
-            stops,
-            content,
-        } => match join_spans(alloc, class, &starts, &stops, &content, arena, steps)? {
+        Opened::Items(lists) => match lists.joined(alloc, arena, steps)? {
             Joined::Lists {
                 offsets: _offsets,
                 content,

@@ -56,10 +56,6 @@ found_after : (f : Carry) (fs : List Carry) (v : Value) (vs : List Value) (o : O
 found_after f fs v vs None = refl
 found_after f fs v vs (Some k) = refl
 
-placed_none : (j : ℕ) (ps : List ℕ) → at_place j ps [] ≡ null
-placed_none j [] = refl
-placed_none j (p ∷ ps) = refl
-
 placed_one : (b : Bool) (f : Carry) (fs : List Carry) (v : Value) (vs : List Value) (w : Value)
     (o : Option ℕ) → w ≡ value_from (carry_at fs) vs o
     → (if b then carried f v else w)

@@ -27,10 +27,6 @@ use Rattle.awk_merge_rows.specs.declared.unions.Target.{Target}
 abbrev numbers : ℕ → (ℕ → ℕ) → List ℤ
 numbers n f = map (λ i. pos (f i)) (range_with_len 0 n)
 
-pub numbers-none : (m : Making) (f : ℕ → ℕ) → m ≡ with_numbers m 0 f
-numbers-none m f =
-    ap (λ zs. record { kind = m.kind; room = m.room; items = zs }) (sym (append-nil m.items))
-
 pub numbers-next : (old m new : Making) (i : ℕ) (f : ℕ → ℕ) (z : ℕ) → m ≡ with_numbers old i f
     → z ≡ f i → new ≡ with_item m (pos z) → new ≡ with_numbers old (i + 1) f
 numbers-next old m new i f z d h e =

@@ -11,10 +11,10 @@ ghost use Rattle.awk_merge_rows.specs.OptionLevels.{IsOptionLevel};
 ghost use Rattle.awk_merge_rows.specs.Present.{with_items, places_on, moved, index_on, IsPresentPut};
 ghost use Rattle.awk_merge_sides.specs.Sides.{side_of, sides_of, IsCounted};
 
-use awk_merge_sides::{Side, Sides};
 use awk_columns::{Opened, open_array};
 use awk_lanes::{Arena, Kind, Lane, LaneMaker, Num, Steps, number, option_place_in};
 use awk_layout::Array;
+use awk_merge_sides::{Side, Sides};
 use awk_types::NoMemory;
 use std::alloc::Global;
 use std::sync::ledger::Ledger;

@@ -11,12 +11,10 @@ ghost use Rattle.awk_merge_rows.specs.Parts.{null_column, or_nulls, part_side, A
 ghost use Rattle.awk_merge_rows.specs.Parts.{OpensAsRow, AreRowParts};
 ghost use Rattle.awk_merge_sides.specs.Sides.{Side as Lifted, side_of, sides_of, IsSide, AreSides, IsCounted};
 
-use awk_merge_sides::{part_lift, part_source};
-use awk_merge_sides::Groups;
-use awk_merge_sides::{Side, Sides};
 use awk_columns::{Opened, open_array};
 use awk_lanes::{Arena, Kind, LaneMaker, Num, Steps};
 use awk_layout::{Array, Arrays, Node};
+use awk_merge_sides::{Groups, Side, Sides, part_lift, part_source};
 use awk_types::{NoMemory, Typ};
 use awk_unify::Lift;
 use std::alloc::Global;

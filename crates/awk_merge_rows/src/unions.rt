@@ -21,12 +21,10 @@ ghost use Rattle.awk_merge_rows.specs.Tagged.{target_in as target_in_groups, wit
 ghost use Rattle.awk_merge_rows.specs.Tagged.{with_alternatives, targets_of, item_tag, item_place};
 ghost use Rattle.awk_merge_rows.specs.Tagged.{AreTargeted, IsReady, with_numbers, PutsSide};
 
-use awk_merge_sides::{alternative_lift, alternative_tag};
-use awk_merge_sides::Groups;
-use awk_merge_sides::{Side, Sides};
 use awk_columns::{Opened, open_array};
 use awk_lanes::{Arena, Kind, Lane, LaneMaker, Num, Steps, number, place_in, tag_in};
 use awk_layout::{Array, Arrays};
+use awk_merge_sides::{Groups, Side, Sides, alternative_lift, alternative_tag};
 use awk_types::{NoMemory, Typs};
 use awk_unify::Lift;
 use std::alloc::Global;

@@ -8,15 +8,14 @@ ghost use Rattle.awk_lanes.specs.declared.kind.Kind.TheVariants as Kinds;
 ghost use Rattle.awk_lanes.specs.Places.{size_of, at, place_at, AreSpans, IsIndexKind};
 ghost use Rattle.awk_axis.specs.DropNone.{drop_none_function};
 ghost use Rattle.awk_axis.specs.Mapped.{IsMade};
-ghost use Rattle.awk_columns.specs.Opened.{AreLists};
 ghost use Rattle.awk_nulls.specs.DropNone.{drop_none_of};
 ghost use Rattle.awk_nulls.specs.Lanes.{span_length, numbers_at_ends, AreEnds, ArePresent};
 
 use crate::lengths::length_at;
 use crate::presence::present_of;
 use crate::singles::present_typ;
-use awk_columns::{Joined, join_spans};
 use awk_axis::{ListOp, Made, Refusal, Spoil, lift_at};
+use awk_columns::{Joined, Lists, join_spans};
 use awk_lanes::{Arena, Kind, Lane, LaneMaker, Num, Steps, index_at, place_in};
 use awk_layout::{Array, Datum};
 use awk_types::{Fault, NoMemory, Typ};
@@ -75,19 +74,19 @@ fn numbers_at_ends<'a, L: Ledger>(
 /// The lists among the items that are present, one after another.
 fn present_lists<'a, L: Ledger>(
     alloc: Global,
-    class: Option<u64>,
-    starts: &Lane<'a>,
-    stops: &Lane<'a>,
-    content: &Array<'a>,
+    lists: &Lists<'a>,
     counts: &Lane<'a>,
     items: &Array<'a>,
     arena: &'a Arena,
     steps: &mut Steps<L>,
 ) -> Result<Made<'a>, NoMemory>
-    requires lists { AreLists class starts.now stops.now content.now }
-    requires items { ArePresent content.now counts.now items.now }
-    ensures { IfOk result (IsMade drop_none_function class starts.now stops.now content.now) }
+    requires items { ArePresent lists.now.content counts.now items.now }
+    ensures { IfOk result (IsMade drop_none_function lists.now.class lists.now.starts
+        lists.now.stops lists.now.content) }
 {
+    let _ = lists.content();
+    let starts = lists.starts();
+    let stops = lists.stops();
     let firsts = numbers_at_ends(counts, starts, stops, starts, arena, steps)?;
     let ends = numbers_at_ends(counts, starts, stops, stops, arena, steps)?;
     match join_spans(alloc, None, &firsts, &ends, items, arena, steps)? {
@@ -128,25 +127,12 @@ impl ListOp for PresentItems {
     fn column<'a, L: Ledger>(
         &self,
         alloc: Global,
-        class: Option<u64>,
-        starts: &Lane<'a>,
-        stops: &Lane<'a>,
-        content: &Array<'a>,
+        lists: &Lists<'a>,
         arena: &'a Arena,
         steps: &mut Steps<L>,
     ) -> Result<Made<'a>, NoMemory> {
-        let items = present_of(alloc, content, arena, steps)?;
-        present_lists(
-            alloc,
-            class,
-            starts,
-            stops,
-            content,
-            &items.counts,
-            &items.content,
-            arena,
-            steps,
-        )
+        let items = present_of(alloc, lists.content(), arena, steps)?;
+        present_lists(alloc, lists, &items.counts, &items.content, arena, steps)
     }
 }
 

@@ -11,8 +11,9 @@ ghost use Rattle.awk_nulls.specs.Lanes.{span_length, firsts_lane};
 
 use crate::lengths::length_at;
 use awk_axis::{ListOp, Made, Refusal, lift_at};
+use awk_columns::Lists;
 use awk_lanes::{Arena, Kind, Lane, LaneMaker, Num, Steps, index_at};
-use awk_layout::{Array, Datum, Node};
+use awk_layout::{Datum, Node};
 use awk_types::{Fault, NoMemory, Typ, copy_type};
 use std::alloc::Global;
 use std::sync::ledger::Ledger;
@@ -78,15 +79,13 @@ impl ListOp for First {
     fn column<'a, L: Ledger>(
         &self,
         alloc: Global,
-        _class: Option<u64>,
-        starts: &Lane<'a>,
-        stops: &Lane<'a>,
-        content: &Array<'a>,
+        lists: &Lists<'a>,
         arena: &'a Arena,
         steps: &mut Steps<L>,
     ) -> Result<Made<'a>, NoMemory> {
+        let content = lists.content();
         let _ = content.len();
-        let places = first_places(starts, stops, arena, steps)?;
+        let places = first_places(lists.starts(), lists.stops(), arena, steps)?;
         let items = Box::new(alloc, content.node().copy(alloc)?)?;
         Ok(Made::Singles(Node::indexed_option(places, items, steps)))
     }

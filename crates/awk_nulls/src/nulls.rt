@@ -10,11 +10,11 @@ ghost use Rattle.awk_nulls.specs.IsNone.{is_none_function, is_none_of};
 ghost use Rattle.awk_nulls.specs.Lanes.{null_number, nulls_lane, falses_lane, AreNulls};
 
 use crate::presence::is_optional;
-use awk_columns::{Joined, join_spans};
 use awk_axis::{ListOp, Made, Refusal, Spoil, lift_at};
-use awk_open::{Opened, opened};
+use awk_columns::{Joined, Lists};
 use awk_lanes::{Arena, Kind, Lane, LaneMaker, Num, Steps, option_place_in};
 use awk_layout::{Array, Datum, Node};
+use awk_open::{Opened, opened};
 use awk_types::{Fault, NoMemory, Prim, Typ};
 use std::alloc::Global;
 use std::sync::ledger::Ledger;
@@ -108,14 +108,12 @@ impl ListOp for NullTests {
     fn column<'a, L: Ledger>(
         &self,
         alloc: Global,
-        class: Option<u64>,
-        starts: &Lane<'a>,
-        stops: &Lane<'a>,
-        content: &Array<'a>,
+        lists: &Lists<'a>,
         arena: &'a Arena,
         steps: &mut Steps<L>,
     ) -> Result<Made<'a>, NoMemory> {
-        match join_spans(alloc, class, starts, stops, content, arena, steps)? {
+        let _ = lists.content();
+        match lists.joined(alloc, arena, steps)? {
             Joined::TooMany => Ok(Made::Spoiled(Spoil::Size)),
             Joined::Lists { offsets, content } => {
                 let _ = content.len();

@@ -13,8 +13,9 @@ ghost use Rattle.awk_nulls.specs.PadNone.{pad_none_function, pad_none_of};
 
 use crate::lengths::length_at;
 use awk_axis::{ListOp, Made, Refusal, Spoil, lift_at};
+use awk_columns::Lists;
 use awk_lanes::{Arena, Kind, Lane, LaneMaker, Num, Steps, number, place_in};
-use awk_layout::{Array, Datum, Node};
+use awk_layout::{Datum, Node};
 use awk_types::{Fault, ITEM_LIMIT, NoMemory, Typ, copy_type};
 use std::alloc::Global;
 use std::sync::ledger::Ledger;
@@ -144,13 +145,13 @@ impl ListOp for Padding {
     fn column<'a, L: Ledger>(
         &self,
         alloc: Global,
-        _class: Option<u64>,
-        starts: &Lane<'a>,
-        stops: &Lane<'a>,
-        content: &Array<'a>,
+        lists: &Lists<'a>,
         arena: &'a Arena,
         steps: &mut Steps<L>,
     ) -> Result<Made<'a>, NoMemory> {
+        let content = lists.content();
+        let starts = lists.starts();
+        let stops = lists.stops();
         let _ = content.len();
         match self.total(starts, stops, steps) {
             None => Ok(Made::Spoiled(Spoil::Size)),

@@ -12,8 +12,8 @@ ghost use Rattle.awk_nulls.specs.Lanes.{AreSingles};
 ghost use Rattle.awk_nulls.specs.Singletons.{singletons_function, singletons_of};
 
 use crate::presence::present_of;
-use awk_columns::{Joined, join_spans};
 use awk_axis::{ListOp, Made, Refusal, Spoil, lift_at};
+use awk_columns::{Joined, Lists};
 use awk_lanes::{Arena, Lane, Steps};
 use awk_layout::{Array, Datum, Node};
 use awk_types::{Fault, NoMemory, Typ, copy_type};
@@ -85,14 +85,12 @@ impl ListOp for SingleLists {
     fn column<'a, L: Ledger>(
         &self,
         alloc: Global,
-        class: Option<u64>,
-        starts: &Lane<'a>,
-        stops: &Lane<'a>,
-        content: &Array<'a>,
+        lists: &Lists<'a>,
         arena: &'a Arena,
         steps: &mut Steps<L>,
     ) -> Result<Made<'a>, NoMemory> {
-        match join_spans(alloc, class, starts, stops, content, arena, steps)? {
+        let _ = lists.content();
+        match lists.joined(alloc, arena, steps)? {
             Joined::TooMany => Ok(Made::Spoiled(Spoil::Size)),
             Joined::Lists { offsets, content } => {
                 let _ = content.len();

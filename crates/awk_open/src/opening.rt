@@ -15,10 +15,7 @@ ghost use Rattle.awk_gather.specs.Lanes.{picked, multiples, AreBlocks};
 ghost use Rattle.awk_open.specs.Opened.{IsOpened, IsOpenedAt, ArePicked, AreAllPlaces, AreWithin};
 ghost use Rattle.awk_open.specs.Plain.{IsPlain};
 
-use awk_gather::array_within;
-use awk_gather::{gather_lane, next_lane};
-use awk_gather::{Peeled, peel};
-use awk_gather::gather_node;
+use awk_gather::{Peeled, array_within, gather_lane, gather_node, next_lane, peel};
 use awk_lanes::{Arena, Kind, Lane, LaneMaker, Steps, number, place_in};
 use awk_layout::{Array, Arrays, Class, Node, Nodes};
 use awk_types::{Names, NoMemory, Typ, copy_names};

@@ -13,7 +13,9 @@ ghost use Rattle.awk_open.specs.Spread.{IsSpread, alternative, joined_index, joi
 ghost use Rattle.awk_open.specs.Spread.{or_else as or_else_of};
 
 use awk_gather::{Peeled, peel};
-use awk_lanes::{Arena, Kind, Lane, LaneMaker, NoMemory, Num, Steps, index_at, option_place_in, tag_in, to_place};
+use awk_lanes::{
+    Arena, Kind, Lane, LaneMaker, NoMemory, Num, Steps, index_at, option_place_in, tag_in, to_place,
+};
 use awk_layout::{Class, Node, Nodes};
 use std::alloc::{AllocError, Global};
 use std::sync::ledger::Ledger;

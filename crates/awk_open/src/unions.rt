@@ -16,9 +16,9 @@ ghost use Rattle.awk_open.specs.Settled.{settled_tag, settled_place, settled_ind
 ghost use Rattle.awk_open.specs.Settled.{AreTags, CanUnite, IsSettled};
 ghost use Rattle.awk_open.specs.Spread.{or_else as or_else_of};
 
-use awk_gather::array_within;
 use crate::opening::{Opened, firsts};
 use crate::spread::{Spread, alternatives};
+use awk_gather::array_within;
 use awk_lanes::{Arena, Kind, Lane, LaneMaker, NoMemory, Num, Steps, index_at, place_in};
 use awk_layout::{Array, Arrays, Node, Nodes};
 use std::alloc::Global;

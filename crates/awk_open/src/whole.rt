@@ -6,8 +6,8 @@ ghost use Rattle.awk_layout.specs.Typing.{array_type};
 ghost use Rattle.awk_layout.specs.Valid.{IsValid};
 ghost use Rattle.awk_open.specs.Opened.{IsOpened};
 
-use awk_gather::array_within;
 use crate::opening::Opened;
+use awk_gather::array_within;
 use awk_lanes::{Arena, Lane, Steps};
 use awk_layout::{Array, Class, Node};
 use awk_types::NoMemory;

@@ -12,10 +12,10 @@ ghost use Rattle.awk_pack.specs.Packing.{IsColumn, IsLeft, IfSize, is_regular as
 
 use crate::column::{joined, leaf_lane};
 use crate::packed::PackFault;
-use awk_open::Opened;
 use awk_columns::in_order;
 use awk_lanes::{Arena, Lane, Lanes, Steps};
 use awk_layout::{Array, Arrays};
+use awk_open::Opened;
 use awk_types::{ITEM_LIMIT, NoMemory, Typ};
 use std::alloc::Global;
 use std::sync::ledger::Ledger;

@@ -38,17 +38,6 @@ loaded-back p texts r g t vs a h e b =
 abbrev round : Pack → Datum → Pack → Round
 round first array again = record { first = first; array = array; again = again }
 
-round-whole : (t : DataType) (vs : List Value) (p : Pack) → canon t vs ≡ Ok p
-    → there_and_back t vs ≡ Ok (round p (arr t vs) p)
-round-whole t vs p e = by (is_too_large t vs) e
-  where
-    by : (b : Bool) → cond b (Err Size) (Ok (packed t vs)) ≡ Ok p
-        → ◌≡◌ {A = Result Round Unback} (cond b (Err size)
-        (Ok (round (packed t vs) (arr t vs) (packed t vs)))) (Ok (round p (arr t vs) p))
-    by true e = absurd (cc)
-    by false e =
-        let same : packed t vs ≡ p = cc in ap (λ q. Ok (round q (arr t vs) q)) same
-
 round-large : (t : DataType) (vs : List Value) → canon t vs ≡ Err Size
     → there_and_back t vs ≡ Err size
 round-large t vs e = by (is_too_large t vs) e
@@ -111,18 +100,3 @@ module _ (t : DataType) (vs : List Value) (texts : ByKey) (a : IsArrayType t)
   again-fails p array e c is back k held =
       fails r (fault.Pack e) (there_and_back t vs) is
       (again_told e p _ (canon-again p array c back held) k)
-
--- all three calls answer
-pub comes-back : (t : DataType) (vs : List Value) (texts : ByKey) (b : Back) → IsArrayType t
-    → AllByRecursion (Has t) vs → canon t vs ≡ Ok (packed_of b.first)
-    → GivesBack (packed_of b.first) texts (Ok b.array)
-    → canon (array_type b.array) (array_items b.array) ≡ Ok (packed_of b.again)
-    → HoldsPacked texts t vs → Gives round_of back_told (Ok b) (there_and_back t vs)
-comes-back t vs texts b a h c back k held =
-    let p = packed_of b.first in
-    let datum : Ok (arr t vs) ≡ Ok (array_datum b.array) = back t vs a h c (held p c) in
-    let array : arr t vs ≡ array_datum b.array = cc in
-    let twice : Ok p ≡ Ok (packed_of b.again) =
-    sym (canon-again t vs texts a h (Ok b) p b.array c back held) ∙ k in
-    let again : p ≡ packed_of b.again = cc in
-    round-whole t vs p c ∙ ap₂ (λ x q. Ok (round p x q)) array again

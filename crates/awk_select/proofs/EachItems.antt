@@ -41,20 +41,6 @@ use Rattle.awk_select.proofs.PickedPlaces.{has-at, place_in-below}
 abbrev length_of : Column → Column → ℕ → ℕ
 length_of s t j = place_at t j - place_at s j
 
--- where the list begins matters only if it has items
-pub item_place-of : (i : ℤ) (s t : Column) (j n a : ℕ) (o p : Option ℕ) → n ≡ length_of s t j
-    → (0 < n → a ≡ place_at s j) → o ≡ place_in n i → o ≡ p
-    → item_place i s t j ≡ option_map (λ k. a + k) p
-item_place-of i s t j n a o p e f h g =
-    ap (λ m. option_map (λ k. place_at s j + k) (place_in m i)) (sym e)
-    ∙ ap (option_map (λ k. place_at s j + k)) (sym h ∙ g)
-    ∙ from p (subst (IsBelow n) (sym h ∙ g) (place_in-below n i))
-  where
-    from : (p : Option ℕ) → IsBelow n p
-        → option_map (λ k. place_at s j + k) p ≡ option_map (λ k. a + k) p
-    from None b = refl
-    from (Some k) b = let c : 0 < n = omega (arith, b) in ap (λ m. Some (m + k)) (sym (f c))
-
 is_none-map : (f : ℕ → ℕ) (o : Option ℕ) → is_none (option_map f o) ≡ is_none o
 is_none-map f None = refl
 is_none-map f (Some k) = refl

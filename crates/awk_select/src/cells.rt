@@ -9,9 +9,9 @@ ghost use Rattle.awk_open.specs.declared.opening.Opened.TheVariants as Opened;
 ghost use Rattle.awk_select.specs.Cells.{is_leaf, cell_shown, cell_value, IsCell, AreCells};
 ghost use Rattle.awk_select.specs.declared.cells.Cells.TheVariants as Cells;
 
-use awk_open::{Opened, opened};
 use awk_lanes::{Arena, Lane, Num, Steps, option_place_in};
 use awk_layout::Array;
+use awk_open::{Opened, opened};
 use awk_types::NoMemory;
 use std::alloc::Global;
 use std::sync::ledger::Ledger;

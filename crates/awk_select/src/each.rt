@@ -13,6 +13,7 @@ ghost use Rattle.awk_select.specs.Each.{item_place, AreItemPlaces};
 
 use crate::places::place_in;
 use awk_axis::{ListOp, Made, Refusal, Spoil, lift_at};
+use awk_columns::Lists;
 use awk_gather::gather;
 use awk_lanes::{Arena, Kind, Lane, LaneMaker, NoMemory, Steps, index_at, number, to_place};
 use awk_layout::{Array, Datum, Node};
@@ -135,18 +136,17 @@ fn items_at<'a, L: Ledger>(
 // The item of each list at place i, or that some list has none.
 fn items_of<'a, L: Ledger>(
     alloc: Global,
-    starts: &Lane<'a>,
-    stops: &Lane<'a>,
-    content: &Array<'a>,
+    lists: &Lists<'a>,
     i: i64,
     arena: &'a Arena,
     steps: &mut Steps<L>,
 ) -> Result<Made<'a>, NoMemory>
-    requires spans { AreSpans starts.now stops.now (len content.now) }
-    ensures { IfOk result (IsMade (each.item_at i) None starts.now stops.now content.now) }
+    ensures { IfOk result (IsMade (each.item_at i) lists.now.class lists.now.starts
+        lists.now.stops lists.now.content) }
 {
+    let content = lists.content();
     let _ = content.len();
-    match item_places(starts, stops, i, arena, steps)? {
+    match item_places(lists.starts(), lists.stops(), i, arena, steps)? {
         None => Ok(Made::Spoiled(Spoil::Index)),
         Some(places) => Ok(Made::Singles(items_at(alloc, content, &places, arena, steps)?)),
     }
@@ -180,13 +180,10 @@ impl ListOp for ItemAt {
     fn column<'a, L: Ledger>(
         &self,
         alloc: Global,
-        _class: Option<u64>,
-        starts: &Lane<'a>,
-        stops: &Lane<'a>,
-        content: &Array<'a>,
+        lists: &Lists<'a>,
         arena: &'a Arena,
         steps: &mut Steps<L>,
     ) -> Result<Made<'a>, NoMemory> {
-        items_of(alloc, starts, stops, content, self.place, arena, steps)
+        items_of(alloc, lists, self.place, arena, steps)
     }
 }

@@ -13,8 +13,8 @@ use crate::places::{bound_down, bound_up};
 use awk_gather::gather;
 use awk_lanes::{Arena, Kind, Lane, LaneMaker, NoMemory, Steps, number};
 use awk_layout::{Array, Datum};
-use awk_types::Fault;
 use awk_range::range;
+use awk_types::Fault;
 use std::alloc::Global;
 use std::sync::ledger::Ledger;
 

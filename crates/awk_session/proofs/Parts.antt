@@ -8,11 +8,6 @@ three_parts held a b c = simp append_assoc
 pub first_part : (held a b c : List ℕ) → held ++ ((a ++ b) ++ c) ≡ (held ++ a) ++ (b ++ c)
 first_part held a b c = simp append_assoc
 
--- a line end behind a brace
-pub brace_then_end : (head text : List ℕ)
-    → (head ++ text ++ codes "}") ++ 10 ∷ [] ≡ head ++ text ++ (125 ∷ 10 ∷ [])
-brace_then_end head text = append_assoc (head ++ text) (codes "}") (10 ∷ [])
-
 -- a place and its end, behind a node and a rule
 pub node_then_place : (held head node member rule place tail : List ℕ)
     → tail ≡ (member ++ rule) ++ codes "\""

@@ -40,15 +40,6 @@ shows_fault variables view (Ok a) none =
     (λ v. none_at_most (shown_size a) (size_in variables v) none)
 shows_fault variables view (Err e) none = tt
 
--- and binds nothing
-pub binds_fault : {E : Type 0} (n : Name) (Fact : Datum → Type 0) (variables : Variables)
-    (f : AnswerFault) (result : Result code.Answer E)
-    → IfOk result (λ a. answer_view a ≡ fault f)
-    → IfOk result (λ a. IsBoundUnless (is_fault (answer_view a)) n Fact variables variables)
-binds_fault n Fact variables f (Ok a) told =
-    subst (λ b. IsBoundUnless b n Fact variables variables) (sym (ap is_fault told)) refl
-binds_fault n Fact variables f (Err e) told = tt
-
 -- a name that was bound to what a view made
 pub binds_made : (n copied : Name) (view : Option View) (old new : Variables)
     (steps0 steps1 : ℕ) (made : Datum) → copied ≡ n → new ≡ bindings.bind copied made old

@@ -75,7 +75,8 @@ pub fn send<K: Sink, L: Ledger>(
         (out.old.held ++ (answer_text (answer_view answer.now) ++ 10 ∷ [])) result }
     ensures empty { OnOk result (out.new.held ≡ []) }
     ensures flushed { OnOk result (IsTrue (K.flushed sink.new)) }
-    ensures flushes { K.flushes sink.new ≡ flushes_after (K.flushes sink.old) result }
+    ensures flushes { K.flushes sink.new ≡
+        flushes_after (K.flushes sink.old) (K.written sink.new) result }
     ensures cause { HasCause (K.faults sink.old) (K.faults sink.new) result }
     ensures cost { steps.new ≤ steps.old + sent_cost answer.now }
 {

@@ -97,7 +97,8 @@ impl<'a> Engine<'a> {
 
         // An answer that was put is flushed.
         ensures flushed { OnOk result (IsTrue (K.flushed sink.new)) }
-        ensures flushes { K.flushes sink.new ≡ flushes_after (K.flushes sink.old) result }
+        ensures flushes { K.flushes sink.new ≡
+            flushes_after (K.flushes sink.old) (K.written sink.new) result }
 
         // It fails to write only where the sink's count rose.
         ensures later { K.faults sink.old ≤ K.faults sink.new }

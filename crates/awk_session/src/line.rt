@@ -48,7 +48,8 @@ pub fn answer_line<'a, K: Sink, L: Ledger>(
     ensures same { result ≡ Err LineEnd.NoMemory → env.new ≡ env.old }
     ensures untouched { result ≡ Err LineEnd.NoMemory → sink.new ≡ sink.old }
     ensures flushed { OnOk result (IsTrue (K.flushed sink.new)) }
-    ensures flushes { K.flushes sink.new ≡ flushes_after (K.flushes sink.old) result }
+    ensures flushes { K.flushes sink.new ≡
+        flushes_after (K.flushes sink.old) (K.written sink.new) result }
     ensures later { K.faults sink.old ≤ K.faults sink.new }
     ensures write { IfErr result (λ end. end ≡ LineEnd.Write →
         Rose (K.faults sink.old) (K.faults sink.new)) }
@@ -94,7 +95,8 @@ fn answer<'a, K: Sink, L: Ledger>(
     ensures same { result ≡ Err LineEnd.NoMemory → env.new ≡ env.old }
     ensures untouched { result ≡ Err LineEnd.NoMemory → sink.new ≡ sink.old }
     ensures flushed { OnOk result (IsTrue (K.flushed sink.new)) }
-    ensures flushes { K.flushes sink.new ≡ flushes_after (K.flushes sink.old) result }
+    ensures flushes { K.flushes sink.new ≡
+        flushes_after (K.flushes sink.old) (K.written sink.new) result }
     ensures later { K.faults sink.old ≤ K.faults sink.new }
     ensures write { IfErr result (λ end. end ≡ LineEnd.Write →
         Rose (K.faults sink.old) (K.faults sink.new)) }

@@ -3,7 +3,7 @@ ghost use Rattle.std.specs.Prelude.{◌≡◌, [], IfOk};
 ghost use Rattle.awk_layout.specs.Datum.{datum_of};
 ghost use Rattle.awk_text.specs.TypeText.{datum_type_text};
 
-use awk_edge::{Failed, Out, Sink};
+use awk_edge::{Failed, History, Out, Sink};
 use awk_layout::Datum;
 use awk_text::write_type;
 use std::alloc::{AllocError, Global};
@@ -29,7 +29,7 @@ struct TextSink {
     bytes: Vec<u8>,
     faults: u64,
     is_flushed: bool,
-    flushes: u64,
+    flushes: History<Vec<u8>>,
 }
 
 impl TextSink {
@@ -40,13 +40,13 @@ impl TextSink {
             bytes: Vec::new(alloc),
             faults: 0,
             is_flushed: true,
-            flushes: 0,
+            flushes: History::new(),
         }
     }
 }
 
 impl Sink for TextSink {
-    ghost use Rattle.std.specs.Prelude.{Some};
+    ghost use Rattle.std.specs.Prelude.{Some, map};
 
     ghost written = { λ s. Some s.bytes.items };
 
@@ -54,7 +54,7 @@ impl Sink for TextSink {
 
     ghost flushed = { λ s. s.is_flushed };
 
-    ghost flushes = { λ s. s.flushes };
+    ghost flushes = { λ s. map (λ v. Some v.items) s.flushes.items };
 
     fn write(&mut self, from: &[u8]) -> Result<usize, Failed> {
         if self.bytes.extend_from_slice(from).is_err() {
@@ -67,7 +67,7 @@ impl Sink for TextSink {
 
     fn flush(&mut self) -> Result<(), Failed> {
         self.is_flushed = true;
-        self.flushes = self.flushes.saturating_add(1);
+        self.flushes = self.flushes.with(&self.bytes);
         Ok(())
     }
 }

@@ -187,11 +187,6 @@ mutual
   type_texts-unbroken no_types = tt
   type_texts-unbroken (type t ts) = (type_text-unbroken t, type_texts-unbroken ts)
 
-pub datum_type_text-unbroken : (d : Datum) → Unbroken (datum_type_text d)
-datum_type_text-unbroken (arr t vs) = Unbroken-append (size_text (length vs)) (type_text t)
-    (size_text-unbroken (length vs)) (type_text-unbroken t)
-datum_type_text-unbroken (one t v) = type_text-unbroken t
-
 -- ---- faults
 
 -- a name behind a head that is written out, and a brace

@@ -10,9 +10,9 @@ ghost use Rattle.awk_layout.specs.Valid.{len};
 ghost use Rattle.awk_view.specs.End.{IsEnd, IsItemOf, IsOneOf, IsArrOf, end_weight};
 ghost use Rattle.awk_view.specs.Settled.{kept};
 
-use awk_range::range;
 use awk_lanes::Steps;
 use awk_layout::{Array, Datum, Node, Place};
+use awk_range::range;
 use awk_types::{NoMemory, TypeFault};
 use std::alloc::{AllocError, Global};
 use std::sync::ledger::Ledger;

@@ -19,7 +19,7 @@ use Rattle.awk_axis.proofs.Falls.{falls_kind, falls_item, falls_all, falls_each}
 use Rattle.awk_layout.specs.Valid.{len}
 use Rattle.awk_axis.proofs.AllLaws.{so_far_taken}
 use Rattle.awk_columns.specs.declared.opening.Opened.TheVariants as opened
-use Rattle.awk_columns.specs.declared.opening.Joined.TheVariants as joined
+use Rattle.awk_columns.specs.declared.lists.Joined.TheVariants as joined
 use Rattle.awk_axis.specs.declared.lift.Mapped.TheVariants as mapped
 use Rattle.awk_axis.specs.declared.lift.AllMapped.TheVariants as all_mapped
 use Rattle.awk_axis.proofs.lift.+lifted.Goals as goal
@@ -74,58 +74,54 @@ lifted-returns-in-Option g t c = c.lifted_option.ensures
 pub lifted-returns-in-Union : goal.lifted-returns-in-Union
 lifted-returns-in-Union g t c = c.lifted_union.ensures
 
-pub lifted_lists-at_axis-requires-clause-accepted :
-    goal.lifted_lists-at_axis-requires-clause-accepted
-lifted_lists-at_axis-requires-clause-accepted g t c =
+pub lifted_lists-at_axis-requires :
+    goal.lifted_lists-at_axis-requires
+lifted_lists-at_axis-requires g t c =
     let f = g.F.ListOp.function c.args.f.now in
-    let e : here c.args.k (array_type c.args.content.now) ≡ true =
-    ap (here c.args.k) (sym c.typ.ensures.typ) ∙ sym c.is_here.ensures ∙ c.if-is_here.true in
-    sym (refusal-list_here f c.args.k c.args.class (array_type c.args.content.now) e)
-    ∙ ap (refusal_at f c.args.k) (sym c.requires.opens.typ) ∙ c.requires.accepted
-
-pub lifted_lists-at_axis-requires-clause-lists : goal.lifted_lists-at_axis-requires-clause-lists
-lifted_lists-at_axis-requires-clause-lists g t c = c.requires.opens.lists
+    let e : here c.args.k (array_type c.args.lists.now.content) ≡ true =
+    ap (here c.args.k) (sym (c.typ.ensures.typ ∙ ap array_type c.content.ensures.content)) ∙ sym c.is_here.ensures ∙ c.if-is_here.true in
+    record {
+      accepted = sym (refusal-list_here f c.args.k c.args.lists.now.class (array_type c.args.lists.now.content) e)
+          ∙ ap (refusal_at f c.args.k) (sym c.requires.opens.typ) ∙ c.requires.accepted;
+    }
 
 pub lifted_lists-returns-then-is_here : goal.lifted_lists-returns-then-is_here
 lifted_lists-returns-then-is_here g t c =
     let f = g.F.ListOp.function c.args.f.now in
-    let e : here c.args.k (array_type c.args.content.now) ≡ true =
-    ap (here c.args.k) (sym c.typ.ensures.typ) ∙ sym c.is_here.ensures ∙ c.if-is_here.true in
-    if_ok (IsAtAxis f c.args.class c.args.starts.now c.args.stops.now c.args.content.now)
+    let e : here c.args.k (array_type c.args.lists.now.content) ≡ true =
+    ap (here c.args.k) (sym (c.typ.ensures.typ ∙ ap array_type c.content.ensures.content)) ∙ sym c.is_here.ensures ∙ c.if-is_here.true in
+    if_ok (IsAtAxis f c.args.lists.now.class c.args.lists.now.starts c.args.lists.now.stops c.args.lists.now.content)
     (IsLifted f c.args.k c.args.x.now) c.at_axis.result
-    (λ m. lists_here f c.args.k c.args.class c.args.starts.now c.args.stops.now c.args.content.now
+    (λ m. lists_here f c.args.k c.args.lists.now.class c.args.lists.now.starts c.args.lists.now.stops c.args.lists.now.content
     c.args.x.now m e c.requires.opens) c.at_axis.ensures
 
-pub lifted_lists-join_spans-requires : goal.lifted_lists-join_spans-requires
-lifted_lists-join_spans-requires g t c = c.requires.opens.lists
-
-pub lifted_lists-returns-in_err-join_spans : goal.lifted_lists-returns-in_err-join_spans
-lifted_lists-returns-in_err-join_spans g t c = search rules
+pub lifted_lists-returns-in_err-joined : goal.lifted_lists-returns-in_err-joined
+lifted_lists-returns-in_err-joined g t c = search rules
 
 pub lifted_lists-returns-in-TooMany : goal.lifted_lists-returns-in-TooMany
 lifted_lists-returns-in-TooMany g t c =
     let f = g.F.ListOp.function c.args.f.now in
-    let e : here c.args.k (array_type c.args.content.now) ≡ false =
-    ap (here c.args.k) (sym c.typ.ensures.typ) ∙ sym c.is_here.ensures ∙ c.if-is_here.false in
-    let j : IsJoined c.args.starts.now c.args.stops.now c.args.content.now joined.TooMany =
-    rw c.in-TooMany.is at c.in_ok-join_spans.ensures in
-    lists_too_many f c.args.k c.args.class c.args.starts.now c.args.stops.now c.args.content.now
+    let e : here c.args.k (array_type c.args.lists.now.content) ≡ false =
+    ap (here c.args.k) (sym (c.typ.ensures.typ ∙ ap array_type c.content.ensures.content)) ∙ sym c.is_here.ensures ∙ c.if-is_here.false in
+    let j : IsJoined c.args.lists.now.starts c.args.lists.now.stops c.args.lists.now.content joined.TooMany =
+    rw c.in-TooMany.is at c.in_ok-joined.ensures in
+    lists_too_many f c.args.k c.args.lists.now.class c.args.lists.now.starts c.args.lists.now.stops c.args.lists.now.content
     c.args.x.now e c.requires.opens j
 
 pub lifted_lists-lifted-requires : goal.lifted_lists-lifted-requires
 lifted_lists-lifted-requires g t c κs within =
     let f = g.F.ListOp.function c.args.f.now in
-    let e : here c.args.k (array_type c.args.content.now) ≡ false =
-    ap (here c.args.k) (sym c.typ.ensures.typ) ∙ sym c.is_here.ensures ∙ c.if-is_here.false in
-    let j : IsJoined c.args.starts.now c.args.stops.now c.args.content.now
+    let e : here c.args.k (array_type c.args.lists.now.content) ≡ false =
+    ap (here c.args.k) (sym (c.typ.ensures.typ ∙ ap array_type c.content.ensures.content)) ∙ sym c.is_here.ensures ∙ c.if-is_here.false in
+    let j : IsJoined c.args.lists.now.starts c.args.lists.now.stops c.args.lists.now.content
     (joined.Lists c.in-Lists.offsets c.in-Lists.content) =
-    rw c.in-Lists.is at c.in_ok-join_spans.ensures in
-    let r : refusal_at f (inner c.args.k) (array_type c.args.content.now) ≡ refusal_at f c.args.k
+    rw c.in-Lists.is at c.in_ok-joined.ensures in
+    let r : refusal_at f (inner c.args.k) (array_type c.args.lists.now.content) ≡ refusal_at f c.args.k
     (array_type c.args.x.now) =
-    sym (refusal-list f c.args.k c.args.class (array_type c.args.content.now) e)
+    sym (refusal-list f c.args.k c.args.lists.now.class (array_type c.args.lists.now.content) e)
     ∙ ap (refusal_at f c.args.k) (sym c.requires.opens.typ) in
     let d : depth (array_type c.args.x.now) ≡ depth (array_type c.in-Lists.content) + 1 =
-    ap depth c.requires.opens.typ ∙ depth-list c.args.class (array_type c.args.content.now)
+    ap depth c.requires.opens.typ ∙ depth-list c.args.lists.now.class (array_type c.args.lists.now.content)
     ∙ ap (λ u. depth u + 1) (sym j.1.typ) in (
       omega (
         arith,
@@ -149,35 +145,35 @@ lifted_lists-returns-in_err-why-in-Lists g t c = search rules
 pub lifted_lists-returns-in-Spoiled : goal.lifted_lists-returns-in-Spoiled
 lifted_lists-returns-in-Spoiled g t c =
     let f = g.F.ListOp.function c.args.f.now in
-    let e : here c.args.k (array_type c.args.content.now) ≡ false =
-    ap (here c.args.k) (sym c.typ.ensures.typ) ∙ sym c.is_here.ensures ∙ c.if-is_here.false in
-    let j : IsJoined c.args.starts.now c.args.stops.now c.args.content.now
+    let e : here c.args.k (array_type c.args.lists.now.content) ≡ false =
+    ap (here c.args.k) (sym (c.typ.ensures.typ ∙ ap array_type c.content.ensures.content)) ∙ sym c.is_here.ensures ∙ c.if-is_here.false in
+    let j : IsJoined c.args.lists.now.starts c.args.lists.now.stops c.args.lists.now.content
     (joined.Lists c.in-Lists.offsets c.in-Lists.content) =
-    rw c.in-Lists.is at c.in_ok-join_spans.ensures in
+    rw c.in-Lists.is at c.in_ok-joined.ensures in
     let h : IsLifted f (inner c.args.k) c.in-Lists.content (mapped.Spoiled c.in-Spoiled.why) =
     rw (c.inner.ensures, c.in-Spoiled.is) at c.in_ok-why-in-Lists.ensures in
-    lists_spoiled f c.args.k c.args.class c.args.starts.now c.args.stops.now c.in-Lists.offsets
-    c.args.content.now c.in-Lists.content c.args.x.now c.in-Spoiled.why e c.requires.opens j.0
+    lists_spoiled f c.args.k c.args.lists.now.class c.args.lists.now.starts c.args.lists.now.stops c.in-Lists.offsets
+    c.args.lists.now.content c.in-Lists.content c.args.x.now c.in-Spoiled.why e c.requires.opens j.0
     j.1 h
 
 pub lifted_lists-list_node-requires-clause-offsets :
     goal.lifted_lists-list_node-requires-clause-offsets
 lifted_lists-list_node-requires-clause-offsets g t c =
     let f = g.F.ListOp.function c.args.f.now in
-    let j : IsJoined c.args.starts.now c.args.stops.now c.args.content.now
+    let j : IsJoined c.args.lists.now.starts c.args.lists.now.stops c.args.lists.now.content
     (joined.Lists c.in-Lists.offsets c.in-Lists.content) =
-    rw c.in-Lists.is at c.in_ok-join_spans.ensures in
+    rw c.in-Lists.is at c.in_ok-joined.ensures in
     let h : IsLifted f (inner c.args.k) c.in-Lists.content (mapped.Column c.in-Column.node) =
     rw (c.inner.ensures, c.in-Column.is) at c.in_ok-why-in-Lists.ensures in
-    rw (c.len.ensures.len, h.1.size) j.1.offsets
+    rw (c.len-n.ensures.len, h.1.size) j.1.offsets
 
 pub lifted_lists-list_node-requires-clause-even : goal.lifted_lists-list_node-requires-clause-even
 lifted_lists-list_node-requires-clause-even g t c =
-    let j : IsJoined c.args.starts.now c.args.stops.now c.args.content.now
+    let j : IsJoined c.args.lists.now.starts c.args.lists.now.stops c.args.lists.now.content
     (joined.Lists c.in-Lists.offsets c.in-Lists.content) =
-    rw c.in-Lists.is at c.in_ok-join_spans.ensures in
-    rw c.len.ensures.len (joined_even c.args.class c.args.starts.now c.args.stops.now
-    c.args.content.now c.in-Lists.offsets c.in-Lists.content c.requires.opens.lists.same_class
+    rw c.in-Lists.is at c.in_ok-joined.ensures in
+    rw (c.class.ensures, c.len-n.ensures.len) (joined_even c.args.lists.now.class c.args.lists.now.starts c.args.lists.now.stops
+    c.args.lists.now.content c.in-Lists.offsets c.in-Lists.content c.requires.opens.lists.same_class
     j.1)
 
 pub lifted_lists-returns-in_err-node-in-Column : goal.lifted_lists-returns-in_err-node-in-Column
@@ -186,16 +182,16 @@ lifted_lists-returns-in_err-node-in-Column g t c = search rules
 pub lifted_lists-returns : goal.lifted_lists-returns
 lifted_lists-returns g t c =
     let f = g.F.ListOp.function c.args.f.now in
-    let e : here c.args.k (array_type c.args.content.now) ≡ false =
-    ap (here c.args.k) (sym c.typ.ensures.typ) ∙ sym c.is_here.ensures ∙ c.if-is_here.false in
-    let j : IsJoined c.args.starts.now c.args.stops.now c.args.content.now
+    let e : here c.args.k (array_type c.args.lists.now.content) ≡ false =
+    ap (here c.args.k) (sym (c.typ.ensures.typ ∙ ap array_type c.content.ensures.content)) ∙ sym c.is_here.ensures ∙ c.if-is_here.false in
+    let j : IsJoined c.args.lists.now.starts c.args.lists.now.stops c.args.lists.now.content
     (joined.Lists c.in-Lists.offsets c.in-Lists.content) =
-    rw c.in-Lists.is at c.in_ok-join_spans.ensures in
+    rw c.in-Lists.is at c.in_ok-joined.ensures in
     let h : IsLifted f (inner c.args.k) c.in-Lists.content (mapped.Column c.in-Column.node) =
     rw (c.inner.ensures, c.in-Column.is) at c.in_ok-why-in-Lists.ensures in
-    rw (c.in_ok-node-in-Column.ensures, c.len.ensures.len)
-    (lists_above f c.args.k c.args.class c.args.starts.now c.args.stops.now c.in-Lists.offsets
-    c.args.content.now c.in-Lists.content c.args.x.now c.in-Column.node e c.requires.opens j.0
+    rw (c.in_ok-node-in-Column.ensures, c.class.ensures, c.len-n.ensures.len)
+    (lists_above f c.args.k c.args.lists.now.class c.args.lists.now.starts c.args.lists.now.stops c.in-Lists.offsets
+    c.args.lists.now.content c.in-Lists.content c.args.x.now c.in-Column.node e c.requires.opens j.0
     j.1 h)
 
 pub lifted_option-lifted-requires : goal.lifted_option-lifted-requires

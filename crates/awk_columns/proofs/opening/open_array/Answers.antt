@@ -14,11 +14,11 @@ returns-in-Leaf g c = opens_leaf c.args.x.now c.in-Leaf.lane
 
 pub returns-in-Items : goal.returns-in-Items
 returns-in-Items g c =
-    opens_lists c.args.x.now c.in-Items.content c.in-Items.starts c.in-Items.stops
+    rw c.new.ensures (opens_lists c.args.x.now c.in-Items.content c.in-Items.starts c.in-Items.stops
     c.class_of-class.result
     (c.class_of-class.ensures ∙ ap class_of c.typ.ensures.typ)
     (rw c.in-Items.is at c.in_ok-in_order.ensures.opened)
-    (rw c.in-Items.is at c.in_ok-in_order.ensures.sizes)
+    (rw c.in-Items.is at c.in_ok-in_order.ensures.sizes))
 
 pub returns-in-Row : goal.returns-in-Row
 returns-in-Row g c =

@@ -3,7 +3,7 @@ use Rattle.awk_lanes.specs.Column.{Column}
 use Rattle.awk_types.specs.ItemLimit.{item_limit}
 use Rattle.awk_columns.specs.Joined.{IsJoined, total}
 use Rattle.awk_axis.specs.Mapped.{IsMade}
-use Rattle.awk_columns.specs.declared.opening.Joined.TheVariants.{TooMany}
+use Rattle.awk_columns.specs.declared.lists.Joined.TheVariants.{TooMany}
 use Rattle.awk_axis.proofs.IfOk.{if_ok}
 use Rattle.awk_lists.specs.Flatten.{flatten_function}
 use Rattle.awk_lists.specs.Lanes.{numbers_at_ends}
@@ -14,65 +14,69 @@ use Rattle.awk_lists.proofs.joining.held_rows.Goals as goal
 
 pub numbers_at_ends-requires-clause-spans : goal.numbers_at_ends-requires-clause-spans
 numbers_at_ends-requires-clause-spans g c =
-    lists_within c.args.class c.args.starts.now c.args.stops.now c.args.content.now
-    c.requires.spans
+    rw (c.starts-starts.ensures, c.stops-stops.ensures)
+    (lists_within c.args.lists.now.class c.args.lists.now.starts c.args.lists.now.stops
+    c.args.lists.now.content c.content.ensures.lists)
 
 pub numbers_at_ends-requires-clause-ends : goal.numbers_at_ends-requires-clause-ends
 numbers_at_ends-requires-clause-ends g c =
-    starts_are c.args.class c.args.starts.now c.args.stops.now c.args.content.now
-    c.requires.spans c.args.counts.now c.args.lists.now c.requires.lists
+    rw (c.starts-starts.ensures, c.stops-stops.ensures)
+    (starts_are c.args.lists.now.class c.args.lists.now.starts c.args.lists.now.stops c.args.lists.now.content
+    c.content.ensures.lists c.args.counts.now c.args.held.now c.requires.lists)
 
 pub numbers_at_ends-requires-2-clause-spans : goal.numbers_at_ends-requires-2-clause-spans
 numbers_at_ends-requires-2-clause-spans g c =
-    lists_within c.args.class c.args.starts.now c.args.stops.now c.args.content.now
-    c.requires.spans
+    rw (c.starts-starts.ensures, c.stops-stops.ensures)
+    (lists_within c.args.lists.now.class c.args.lists.now.starts c.args.lists.now.stops
+    c.args.lists.now.content c.content.ensures.lists)
 
 pub numbers_at_ends-requires-2-clause-ends : goal.numbers_at_ends-requires-2-clause-ends
 numbers_at_ends-requires-2-clause-ends g c =
-    stops_are c.args.class c.args.starts.now c.args.stops.now c.args.content.now
-    c.requires.spans c.args.counts.now c.args.lists.now c.requires.lists
+    rw (c.starts-starts.ensures, c.stops-stops.ensures)
+    (stops_are c.args.lists.now.class c.args.lists.now.starts c.args.lists.now.stops c.args.lists.now.content
+    c.content.ensures.lists c.args.counts.now c.args.held.now c.requires.lists)
 
 pub join_spans-requires : goal.join_spans-requires
 join_spans-requires g c =
-    rw (c.in_ok-firsts.ensures, c.in_ok-ends.ensures)
-    (moved_spans c.args.class c.args.starts.now c.args.stops.now c.args.content.now
-    c.requires.spans c.args.counts.now c.args.lists.now c.requires.lists)
+    rw (c.in_ok-firsts.ensures, c.in_ok-ends.ensures, c.starts-starts.ensures, c.stops-stops.ensures)
+    (moved_spans c.args.lists.now.class c.args.lists.now.starts c.args.lists.now.stops c.args.lists.now.content
+    c.content.ensures.lists c.args.counts.now c.args.held.now c.requires.lists)
 
 pub joined_rows-requires-clause-lists : goal.joined_rows-requires-clause-lists
 joined_rows-requires-clause-lists g c =
-    held_typ c.args.class c.args.starts.now c.args.stops.now c.args.content.now
-    c.requires.spans c.args.counts.now c.args.lists.now c.requires.lists c.requires.accepted
+    held_typ c.args.lists.now.class c.args.lists.now.starts c.args.lists.now.stops c.args.lists.now.content
+    c.content.ensures.lists c.args.counts.now c.args.held.now c.requires.lists c.requires.accepted
 
 pub joined_rows-requires-clause-spans : goal.joined_rows-requires-clause-spans
 joined_rows-requires-clause-spans g c =
-    rw (c.in_ok-firsts.ensures, c.in_ok-ends.ensures)
-    (moved_spans c.args.class c.args.starts.now c.args.stops.now c.args.content.now
-    c.requires.spans c.args.counts.now c.args.lists.now c.requires.lists)
+    rw (c.in_ok-firsts.ensures, c.in_ok-ends.ensures, c.starts-starts.ensures, c.stops-stops.ensures)
+    (moved_spans c.args.lists.now.class c.args.lists.now.starts c.args.lists.now.stops c.args.lists.now.content
+    c.content.ensures.lists c.args.counts.now c.args.held.now c.requires.lists)
 
 pub returns-in-TooMany : goal.returns-in-TooMany
 returns-in-TooMany g c =
-    let j : IsJoined c.in_ok-firsts.firsts c.in_ok-ends.ends c.args.lists.now TooMany =
+    let j : IsJoined c.in_ok-firsts.firsts c.in_ok-ends.ends c.args.held.now TooMany =
     rw c.in-TooMany.is at c.in_ok-join_spans.ensures in
     let k : item_limit < total
-    (numbers_at_ends c.args.counts.now c.args.starts.now c.args.stops.now c.args.starts.now)
-    (numbers_at_ends c.args.counts.now c.args.starts.now c.args.stops.now c.args.stops.now)
-    c.args.lists.now =
-    rw (c.in_ok-firsts.ensures, c.in_ok-ends.ensures) at j in
-    moved_spoilt c.args.class c.args.starts.now c.args.stops.now c.args.content.now
-    c.requires.spans c.args.counts.now c.args.lists.now c.requires.lists k
+    (numbers_at_ends c.args.counts.now c.args.lists.now.starts c.args.lists.now.stops c.args.lists.now.starts)
+    (numbers_at_ends c.args.counts.now c.args.lists.now.starts c.args.lists.now.stops c.args.lists.now.stops)
+    c.args.held.now =
+    rw (c.in_ok-firsts.ensures, c.in_ok-ends.ensures, c.starts-starts.ensures, c.stops-stops.ensures) at j in
+    moved_spoilt c.args.lists.now.class c.args.lists.now.starts c.args.lists.now.stops c.args.lists.now.content
+    c.content.ensures.lists c.args.counts.now c.args.held.now c.requires.lists k
 
 pub returns-in-Lists : goal.returns-in-Lists
 returns-in-Lists g c =
     let firsts : Column =
-    numbers_at_ends c.args.counts.now c.args.starts.now c.args.stops.now c.args.starts.now in
+    numbers_at_ends c.args.counts.now c.args.lists.now.starts c.args.lists.now.stops c.args.lists.now.starts in
     let ends : Column =
-    numbers_at_ends c.args.counts.now c.args.starts.now c.args.stops.now c.args.stops.now in
+    numbers_at_ends c.args.counts.now c.args.lists.now.starts c.args.lists.now.stops c.args.lists.now.stops in
     let made : IfOk c.joined_rows.result
-    (IsMade flatten_function None firsts ends c.args.lists.now) =
-    rw (c.in_ok-firsts.ensures, c.in_ok-ends.ensures) at c.joined_rows.ensures in
-    if_ok (IsMade flatten_function None firsts ends c.args.lists.now)
-    (IsMade flatten_function c.args.class c.args.starts.now c.args.stops.now c.args.content.now)
+    (IsMade flatten_function None firsts ends c.args.held.now) =
+    rw (c.in_ok-firsts.ensures, c.in_ok-ends.ensures, c.starts-starts.ensures, c.stops-stops.ensures) at c.joined_rows.ensures in
+    if_ok (IsMade flatten_function None firsts ends c.args.held.now)
+    (IsMade flatten_function c.args.lists.now.class c.args.lists.now.starts c.args.lists.now.stops c.args.lists.now.content)
     c.joined_rows.result
-    (moved_made c.args.class c.args.starts.now c.args.stops.now c.args.content.now
-    c.requires.spans c.args.counts.now c.args.lists.now c.requires.lists c.requires.accepted)
+    (moved_made c.args.lists.now.class c.args.lists.now.starts c.args.lists.now.stops c.args.lists.now.content
+    c.content.ensures.lists c.args.counts.now c.args.held.now c.requires.lists c.requires.accepted)
     made

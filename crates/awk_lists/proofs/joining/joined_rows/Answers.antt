@@ -1,5 +1,5 @@
 use Rattle.std.proofs.Common.{ap, ◌∙◌}
-use Rattle.awk_columns.specs.declared.opening.Joined.TheVariants.{Lists}
+use Rattle.awk_columns.specs.declared.lists.Joined.TheVariants.{Lists}
 use Rattle.awk_lists.specs.Flatten.{is_list}
 use Rattle.awk_lists.specs.Listed.{IsListed}
 use Rattle.awk_lists.proofs.Flattened.{rows_index, are_given, too_many_joined, few_joined}

@@ -8,7 +8,7 @@ use Rattle.awk_types.specs.ItemLimit.{item_limit}
 use Rattle.awk_lanes.specs.Made.{lane_of}
 use Rattle.awk_columns.specs.Joined.{IsJoined, total}
 use Rattle.awk_columns.specs.Opened.{items_at}
-use Rattle.awk_columns.specs.declared.opening.Joined.TheVariants.{TooMany, Lists}
+use Rattle.awk_columns.specs.declared.lists.Joined.TheVariants.{TooMany, Lists}
 use Rattle.awk_mask.specs.MaskNulls.{stops_lane}
 use Rattle.awk_mask.proofs.MaskNulls.{single_lists, single_items, single_total}
 use Rattle.awk_mask.proofs.mask_nulls.items_where.Goals as goal

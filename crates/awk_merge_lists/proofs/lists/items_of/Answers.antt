@@ -1,15 +1,15 @@
 use Rattle.awk_columns.specs.Joined.{IsJoined}
 use Rattle.awk_columns.specs.Opened.{OpensLists}
-use Rattle.awk_columns.specs.declared.opening.Joined.TheVariants as joined
+use Rattle.awk_columns.specs.declared.lists.Joined.TheVariants as joined
 use Rattle.awk_merge_lists.proofs.OpenedLists.{holds_even}
 use Rattle.awk_merge_lists.proofs.lists.items_of.Goals as goal
 
 pub returns-in-Lists : goal.returns-in-Lists
 returns-in-Lists g c =
-    let o : OpensLists c.in-Items.class c.in-Items.starts c.in-Items.stops c.in-Items.content
-    c.args.column.now = rw c.in-Items.is at c.in_ok-class.ensures in
-    let j : IsJoined c.in-Items.starts c.in-Items.stops c.in-Items.content
+    let o : OpensLists c.in-Items.lists.class c.in-Items.lists.starts c.in-Items.lists.stops c.in-Items.lists.content
+    c.args.column.now = rw c.in-Items.is at c.in_ok-lists.ensures in
+    let j : IsJoined c.in-Items.lists.starts c.in-Items.lists.stops c.in-Items.lists.content
     (joined.Lists c.in-Lists._offsets c.in-Lists.content) =
     rw c.in-Lists.is at c.in_ok-_offsets-in-Items.ensures in
-    holds_even c.in-Items.class c.in-Items.starts c.in-Items.stops c.in-Items.content
+    holds_even c.in-Items.lists.class c.in-Items.lists.starts c.in-Items.lists.stops c.in-Items.lists.content
     c.args.column.now c.in-Lists._offsets c.in-Lists.content o j.1

@@ -9,21 +9,22 @@ use Rattle.awk_lists.proofs.length.LengthListOp.column.Goals as goal
 
 pub lengths-requires : goal.lengths-requires
 lengths-requires g c = record {
-  spans =
-      lists_within c.args._class c.args.starts.now c.args.stops.now c.args._content.now
-      c.requires.lists;
+  spans = rw (c.starts.ensures, c.stops.ensures) (lists_within c.args.lists.now.class c.args.lists.now.starts c.args.lists.now.stops c.args.lists.now.content
+      c.content.ensures.lists);
 }
 
 pub numpy-requires : goal.numpy-requires
 numpy-requires g c = rw (
   c.in_ok-lengths.ensures,
-  size-lane_of Kinds.I64 (size_of c.args.starts.now)
-      (λ i. pos (span_length c.args.starts.now c.args.stops.now i)),
-) c.requires.lists.fits
+  c.starts.ensures,
+  c.stops.ensures,
+  size-lane_of Kinds.I64 (size_of c.args.lists.now.starts)
+      (λ i. pos (span_length c.args.lists.now.starts c.args.lists.now.stops i)),
+) c.content.ensures.lists.fits
 
 pub returns : goal.returns
 returns g c = (
   refl,
-  rw (c.numpy.ensures.node, c.in_ok-lengths.ensures)
-      (lengths_column c.args.starts.now c.args.stops.now c.args._content.now c.requires.lists.fits),
+  rw (c.numpy.ensures.node, c.in_ok-lengths.ensures, c.starts.ensures, c.stops.ensures)
+      (lengths_column c.args.lists.now.starts c.args.lists.now.stops c.args.lists.now.content c.content.ensures.lists.fits),
 )

@@ -9,63 +9,72 @@ use Rattle.awk_nulls.proofs.padding.PaddingListOp.column.Goals as goal
 
 pub total-requires : goal.total-requires
 total-requires g c = record {
-  spans =
-      lists_within c.args._class c.args.starts.now c.args.stops.now c.args.content.now
-      c.requires.lists;
+  spans = rw (c.starts-starts.ensures, c.stops-stops.ensures)
+      (lists_within c.args.lists.now.class c.args.lists.now.starts c.args.lists.now.stops c.args.lists.now.content
+      c.content-content.ensures.lists);
 }
 
 pub offsets-requires-clause-spans : goal.offsets-requires-clause-spans
 offsets-requires-clause-spans g c =
-    lists_within c.args._class c.args.starts.now c.args.stops.now c.args.content.now
-    c.requires.lists
+    rw (c.starts-starts.ensures, c.stops-stops.ensures)
+    (lists_within c.args.lists.now.class c.args.lists.now.starts c.args.lists.now.stops c.args.lists.now.content
+    c.content-content.ensures.lists)
 
 pub places-requires-clause-spans : goal.places-requires-clause-spans
 places-requires-clause-spans g c =
-    lists_within c.args._class c.args.starts.now c.args.stops.now c.args.content.now
-    c.requires.lists
+    rw (c.starts-starts.ensures, c.stops-stops.ensures)
+    (lists_within c.args.lists.now.class c.args.lists.now.starts c.args.lists.now.stops c.args.lists.now.content
+    c.content-content.ensures.lists)
 
 pub indexed_option-requires-clause-length : goal.indexed_option-requires-clause-length
 indexed_option-requires-clause-length g c =
     let whole : ℕ = before (padded_span c.args.self.now.size c.args.self.now.clip
-    c.args.starts.now c.args.stops.now) (size_of c.args.starts.now) in
-    let t : IsTotal whole (Some c.in-Some.n) = rw c.in-Some.is at c.total.ensures in
+    c.args.lists.now.starts c.args.lists.now.stops) (size_of c.args.lists.now.starts) in
+    let t : IsTotal whole (Some c.in-Some.n) =
+    rw (c.in-Some.is, c.starts-starts.ensures, c.stops-stops.ensures) at c.total.ensures in
     let few : whole ≤ item_limit = omega (arith, t.0, t.1) in
-    rw c.in_ok-places-in-Some.ensures (padded_fits c.args.self.now.size c.args.self.now.clip
-    c.args._class c.args.starts.now c.args.stops.now c.args.content.now c.requires.lists few)
+    rw (c.in_ok-places-in-Some.ensures, c.starts-starts.ensures, c.stops-stops.ensures) (padded_fits c.args.self.now.size c.args.self.now.clip
+    c.args.lists.now.class c.args.lists.now.starts c.args.lists.now.stops c.args.lists.now.content c.content-content.ensures.lists few)
 
 pub indexed_option-requires-clause-valid : goal.indexed_option-requires-clause-valid
 indexed_option-requires-clause-valid g c =
-    let e : c.in_ok-items-in-Some.items.value ≡ c.args.content.now =
-    c.in_ok-items-in-Some.ensures.ok ∙ c.in_ok-copy-in-Some.ensures ∙ c.node.ensures in
-    rw (e, c.in_ok-places-in-Some.ensures) (padded_index c.args.self.now.size
-    c.args.self.now.clip c.args._class c.args.starts.now c.args.stops.now c.args.content.now
-    c.requires.lists)
+    let e : c.in_ok-items-in-Some.items.value ≡ c.args.lists.now.content =
+    c.in_ok-items-in-Some.ensures.ok ∙ c.in_ok-copy-in-Some.ensures ∙ c.node.ensures
+    ∙ c.content-content.ensures.content in
+    rw (e, c.in_ok-places-in-Some.ensures, c.starts-starts.ensures, c.stops-stops.ensures) (padded_index c.args.self.now.size
+    c.args.self.now.clip c.args.lists.now.class c.args.lists.now.starts c.args.lists.now.stops c.args.lists.now.content
+    c.content-content.ensures.lists)
 
 pub returns-in-None : goal.returns-in-None
 returns-in-None g c =
     let whole : ℕ = before (padded_span c.args.self.now.size c.args.self.now.clip
-    c.args.starts.now c.args.stops.now) (size_of c.args.starts.now) in
-    let t : IsTotal whole None = rw c.in-None.is at c.total.ensures in
-    padded_spoilt c.args.self.now.size c.args.self.now.clip c.args._class c.args.starts.now
-    c.args.stops.now c.args.content.now c.requires.lists t
+    c.args.lists.now.starts c.args.lists.now.stops) (size_of c.args.lists.now.starts) in
+    let t : IsTotal whole None =
+    rw (c.in-None.is, c.starts-starts.ensures, c.stops-stops.ensures) at c.total.ensures in
+    padded_spoilt c.args.self.now.size c.args.self.now.clip c.args.lists.now.class c.args.lists.now.starts
+    c.args.lists.now.stops c.args.lists.now.content c.content-content.ensures.lists t
 
 pub returns-in_ok-items-in-Some : goal.returns-in_ok-items-in-Some
 returns-in_ok-items-in-Some g c =
     let whole : ℕ = before (padded_span c.args.self.now.size c.args.self.now.clip
-    c.args.starts.now c.args.stops.now) (size_of c.args.starts.now) in
-    let t : IsTotal whole (Some c.in-Some.n) = rw c.in-Some.is at c.total.ensures in
+    c.args.lists.now.starts c.args.lists.now.stops) (size_of c.args.lists.now.starts) in
+    let t : IsTotal whole (Some c.in-Some.n) =
+    rw (c.in-Some.is, c.starts-starts.ensures, c.stops-stops.ensures) at c.total.ensures in
     let few : whole ≤ item_limit = omega (arith, t.0, t.1) in
-    let e : c.in_ok-items-in-Some.items.value ≡ c.args.content.now =
-    c.in_ok-items-in-Some.ensures.ok ∙ c.in_ok-copy-in-Some.ensures ∙ c.node.ensures in (
-      padded_fine c.args.self.now.size c.args.self.now.clip c.args._class c.args.starts.now
-          c.args.stops.now c.args.content.now c.requires.lists few,
+    let e : c.in_ok-items-in-Some.items.value ≡ c.args.lists.now.content =
+    c.in_ok-items-in-Some.ensures.ok ∙ c.in_ok-copy-in-Some.ensures ∙ c.node.ensures
+    ∙ c.content-content.ensures.content in (
+      padded_fine c.args.self.now.size c.args.self.now.clip c.args.lists.now.class c.args.lists.now.starts
+          c.args.lists.now.stops c.args.lists.now.content c.content-content.ensures.lists few,
       rw (
         c.indexed_option.ensures.node,
         e,
         c.in_ok-places-in-Some.ensures,
         c.in_ok-offsets-in-Some.ensures,
+        c.starts-starts.ensures,
+        c.stops-stops.ensures,
       )
-          (padded_given c.args.self.now.size c.args.self.now.clip c.args._class
-          c.args.starts.now c.args.stops.now c.args.content.now c.requires.lists
-          c.len.ensures.items few),
+          (padded_given c.args.self.now.size c.args.self.now.clip c.args.lists.now.class
+          c.args.lists.now.starts c.args.lists.now.stops c.args.lists.now.content c.content-content.ensures.lists
+          (rw c.content-content.ensures.content at c.len.ensures.items) few),
     )

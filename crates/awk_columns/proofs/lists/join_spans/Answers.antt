@@ -1,5 +1,5 @@
 use Rattle.awk_columns.proofs.OpeningLaws.{join_given, join_refused}
-use Rattle.awk_columns.proofs.opening.join_spans.Goals as goal
+use Rattle.awk_columns.proofs.lists.join_spans.Goals as goal
 
 pub returns-in-Ok : goal.returns-in-Ok
 returns-in-Ok g c =

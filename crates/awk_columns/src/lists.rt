@@ -1,0 +1,172 @@
+//! Lists of one class, as one value.
+ghost use Rattle.std.specs.Prelude.{◌≡◌, ◌<◌, ◌^◌, IfOk};
+ghost use Rattle.awk_lanes.specs.Places.{size_of};
+ghost use Rattle.awk_columns.specs.Joined.{IsJoined};
+ghost use Rattle.awk_columns.specs.Lists.{AreLists, span_length};
+
+use crate::joining::join_lists;
+use awk_lanes::{Arena, Lane, Steps, index_at};
+use awk_layout::Array;
+use awk_types::{Fault, NoMemory};
+use std::alloc::{AllocError, Global};
+use std::marker::Model;
+use std::sync::ledger::Ledger;
+
+/// Lists of one class. List i has the content's items from start i below stop i; the lists of a
+/// sized class have this length.
+#[derive(Drop)]
+pub struct Lists<'a> {
+    class: Option<u64>,
+    starts: Lane<'a>,
+    stops: Lane<'a>,
+    content: Array<'a>,
+}
+
+/// Lists whose items lie one after another.
+#[derive(Drop)]
+pub enum Joined<'a> {
+    TooMany,
+    Lists {
+        offsets: Lane<'a>,
+        content: Array<'a>,
+    },
+}
+
+impl<'a> Model for Lists<'a> {
+    ghost use Rattle.awk_columns.specs.Lists.{Listed, AreLists};
+    ghost use Rattle.awk_columns.specs.ListsCode.{coded_listed};
+
+    ghost Value = { Listed };
+
+    ghost coded = { coded_listed };
+
+    ghost view = { λ x. record {
+      class = x.class;
+      starts = x.starts;
+      stops = x.stops;
+      content = x.content;
+    } };
+
+    ghost invariant = { λ x. AreLists x.class x.starts x.stops x.content };
+}
+
+impl<'a> Lists<'a> {
+    /// Lists of a class over a content.
+    pub fn new(
+        class: Option<u64>,
+        starts: Lane<'a>,
+        stops: Lane<'a>,
+        content: Array<'a>,
+    ) -> Lists<'a>
+        requires { AreLists class starts stops content }
+        ensures { result ≡ record {
+          class = class;
+          starts = starts.entry;
+          stops = stops.entry;
+          content = content.entry;
+        } }
+    {
+        Lists {
+            class,
+            starts,
+            stops,
+            content,
+        }
+    }
+
+    /// How many lists there are.
+    pub fn len(&self) -> u64
+        ensures len { result ≡ size_of self.now.starts }
+        ensures fits { result < 2 ^ 63 }
+    {
+        self.starts.len()
+    }
+
+    /// Their class.
+    pub fn class(&self) -> Option<u64>
+        ensures { result ≡ self.now.class }
+    {
+        self.class
+    }
+
+    /// Where each begins.
+    pub fn starts(&self) -> &Lane<'a>
+        ensures { result.now ≡ self.now.starts }
+    {
+        &self.starts
+    }
+
+    /// Where each ends.
+    pub fn stops(&self) -> &Lane<'a>
+        ensures { result.now ≡ self.now.stops }
+    {
+        &self.stops
+    }
+
+    /// What holds their items.
+    pub fn content(&self) -> &Array<'a>
+        ensures content { result.now ≡ self.now.content }
+        ensures lists { AreLists self.now.class self.now.starts self.now.stops self.now.content }
+    {
+        &self.content
+    }
+
+    /// How many items list i has.
+    pub fn length_at<L: Ledger>(&self, i: u64, steps: &mut Steps<L>) -> u64
+        requires within { i < size_of self.now.starts }
+        ensures length { result ≡ span_length self.now.starts self.now.stops i }
+        ensures fits { result < 2 ^ 63 }
+    {
+        let _ = self.content.len();
+        let start = index_at(&self.starts, i, steps);
+        let stop = index_at(&self.stops, i, steps);
+        if start == stop {
+            0
+        } else {
+            (stop - start) as u64
+        }
+    }
+
+    /// Their items one after another, or that they are too many.
+    pub fn joined<L: Ledger>(
+        &self,
+        alloc: Global,
+        arena: &'a Arena,
+        steps: &mut Steps<L>,
+    ) -> Result<Joined<'a>, NoMemory>
+        ensures { IfOk result (IsJoined self.now.starts self.now.stops self.now.content) }
+    {
+        join_spans(
+            alloc,
+            self.class,
+            &self.starts,
+            &self.stops,
+            &self.content,
+            arena,
+            steps,
+        )
+    }
+}
+
+/// The items of lists one after another, or that they are too many.
+pub fn join_spans<'a, L: Ledger>(
+    alloc: Global,
+    class: Option<u64>,
+    starts: &Lane<'a>,
+    stops: &Lane<'a>,
+    content: &Array<'a>,
+    arena: &'a Arena,
+    steps: &mut Steps<L>,
+) -> Result<Joined<'a>, NoMemory>
+    requires { AreLists class starts.now stops.now content.now }
+    ensures { IfOk result (IsJoined starts.now stops.now content.now) }
+{
+    match join_lists(alloc, starts, stops, content, arena, steps) {
+        Ok(lists) => Ok(Joined::Lists {
+            offsets: lists.offsets,
+            content: lists.content,
+        }),
+        Err(Fault::Size) => Ok(Joined::TooMany),
+        Err(_) => Err(AllocError),
+    }
+}
