@@ -18,6 +18,16 @@ fn datum_levels(x: &Datum) -> Option<u64>
     }
 }
 
+/// Whether a datum has so many levels.
+fn has_levels(x: &Datum, n: u64) -> bool
+    ensures { result ≡ deep.is_number n (deep.datum_levels (datum_of x.now)) }
+{
+    match datum_levels(x) {
+        Some(m) => m == n,
+        None => false,
+    }
+}
+
 /// How many lists lie down to the leaves of each, where all are equally deep.
 fn common_levels(xs: &Datums) -> Option<u64>
     ensures levels { result ≡ deep.common_number (map deep.datum_levels (map datum_of xs.now)) }
@@ -28,7 +38,7 @@ fn common_levels(xs: &Datums) -> Option<u64>
     }
     let first = datum_levels(xs.get(0))?;
     for k in 1..xs.len() {
-        if datum_levels(xs.get(k)) != Some(first) {
+        if !has_levels(xs.get(k), first) {
             return None;
         }
     }
