@@ -111,7 +111,7 @@ all_apply() {
 prove() {
     local log=$room/log
     if ! (cd "crates/$1" && rt check) >"$log" 2>&1; then
-        grep -E ': error|^logic=' "$log" | tail -n 5 || tail -n 5 "$log"
+        grep -E ': error|^note: |^logic=' "$log" | tail -n 5 || tail -n 5 "$log"
         tell "$1: NOT TRIED: the crate is not proved, so nothing is known of its edits"
         return 1
     fi
@@ -130,6 +130,7 @@ try_all() {
     cp -r --parents crates.txt HANDLES crates/*/{src,specs,proofs} "$room"
     for crate in "$@"; do
         edits=("edits/$crate"/*.edit)
+        tell "$crate: proved first, and then its ${#edits[@]} edits are tried"
         count=$((count + ${#edits[@]}))
         : >"$room/told"
         if ! prove "$crate" || ! try "$crate"; then

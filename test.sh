@@ -1,5 +1,6 @@
 #!/bin/sh
-# The gate: each proof, each edit that must fail, each test and each program, and the Python client.
+# The gate: each proof, the edits that everybody should see refused, each test and each program, and the
+# Python client.
 set -eu
 
 cd -- "$(dirname -- "$0")"

@@ -68,8 +68,8 @@ class EngineCase(unittest.TestCase):
     def setUpClass(cls) -> None:
         if not IS_NAMED and not BUILT_PROGRAM.is_file():
             raise AssertionError(
-                "there is no program to try: `./run.sh </dev/null` builds it (a quarter of an"
-                f" hour), or {PROGRAM_VARIABLE} names one"
+                "there is no program to try: `./run.sh </dev/null` builds it (up to an hour on"
+                f" four processors), or {PROGRAM_VARIABLE} names one"
             )
 
     def setUp(self) -> None:

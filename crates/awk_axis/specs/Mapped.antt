@@ -14,6 +14,7 @@ use Rattle.awk_axis.specs.declared.causes.Spoil.{Spoil}
 use Rattle.awk_axis.specs.declared.place.Reach.{Reach}
 use Rattle.awk_axis.specs.Causes.{first_spoil}
 use Rattle.awk_columns.specs.ListClass.{Class}
+use Rattle.awk_columns.specs.ListNode.{AreEven}
 use Rattle.awk_axis.specs.ListFunction.{Giving, lists, singles, ListFunction, given_type}
 use Rattle.awk_axis.specs.ListFunction.{given_value}
 use Rattle.awk_axis.specs.Lift.{lifted_type, lifted_value}

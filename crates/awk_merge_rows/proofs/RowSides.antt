@@ -27,6 +27,7 @@ use Rattle.awk_lanes.specs.Made.{lane_of}
 use Rattle.awk_gather.proofs.MovedGroups.{lane_is}
 use Rattle.awk_lanes.proofs.MadeLanes.{at-lane_of, size-lane_of}
 use Rattle.awk_gather.proofs.OptionItems.{item-optional}
+use Rattle.awk_columns.specs.ListClass.{Class, list_type}
 use Rattle.awk_columns.specs.Opened.{IsOpened, OpensRow, AllOfLen}
 use Rattle.awk_columns.specs.Opened as opening
 use Rattle.awk_columns.specs.declared.opening.Opened.{Opened}
@@ -227,6 +228,10 @@ tup_row : (ts : DataTypes) (v : Value) → Has (tup ts) v → IsRow v
 tup_row ts (row vs) h = tt
 tup_row ts v h = absurd h
 
+not_row : (c : Class) (t : DataType) → IsRowKind (list_type c t) → ⊥
+not_row None t h = h
+not_row (Some n) t h = h
+
 pub row_opened : (s : Side) (r : Opened) → IsRowSide s → HasItems s.column → IsOpened s.column r
     → ((names : Option (List Name)) (ys : List Layout) → r ≡ Row names ys → ⊥) → ⊥
 row_opened s r h k o n =
@@ -238,8 +243,8 @@ row_opened s r h k o n =
         → ((names : Option (List Name)) (ys : List Layout) → r ≡ Row names ys → ⊥) → ⊥
     by_kind Unknown l o n = subst IsRowKind o.typ l
     by_kind (Leaf c) l o n = subst IsRowKind o.typ l
-    by_kind (Items None b e y) l o n = subst IsRowKind o.typ l
-    by_kind (Items (Some m) b e y) l o n = subst IsRowKind o.typ l
+    by_kind (Items ls) l o n =
+        not_row ls.class (array_type ls.content) (subst IsRowKind o.typ l)
     by_kind (Row names ys) l o n = n names ys refl
     by_kind (Optional j y) l o n = subst IsRowKind o.typ l
     by_kind (Union t j ys) l o n = subst IsRowKind o.typ l

@@ -7,13 +7,15 @@ use Rattle.awk_merge.proofs.joining_rows.plain_rows.Goals as goal
 
 pub rows_by_index-requires-clause-lists : goal.rows_by_index-requires-clause-lists
 rows_by_index-requires-clause-lists g c =
+    rw (c.starts.ensures, c.stops.ensures, c.content.ensures.content)
     (c.in_ok-opened.ensures.0, c.in_ok-opened.ensures.1.lists)
 
 pub rows_by_index-requires-clause-index : goal.rows_by_index-requires-clause-index
 rows_by_index-requires-clause-index g c =
-    lists_index c.args.index.now c.args.n c.args.k c.in_ok-opened.ensures.0
+    rw c.starts.ensures
+    (lists_index c.args.index.now c.args.n c.args.k c.in_ok-opened.ensures.0
     c.in_ok-opened.opened.starts c.in_ok-opened.opened.stops c.in_ok-opened.opened.content
-    c.args.lists.now c.in_ok-opened.ensures.1 c.requires.index
+    c.args.lists.now c.in_ok-opened.ensures.1 c.requires.index)
 
 pub returns : goal.returns
 returns g c =
@@ -21,4 +23,5 @@ returns g c =
     (lists_gives c.args.index.now c.args.n c.args.k c.in_ok-opened.ensures.0
     c.in_ok-opened.opened.starts c.in_ok-opened.opened.stops c.in_ok-opened.opened.content
     c.args.lists.now c.in_ok-opened.ensures.1 c.requires.index c.requires.lists.0
-    c.requires.lists.1) c.rows_by_index.ensures
+    c.requires.lists.1)
+    (rw (c.starts.ensures, c.stops.ensures, c.content.ensures.content) at c.rows_by_index.ensures)
