@@ -386,7 +386,7 @@ class Builder:
     A variable whose name is an operation's, begins with `_`, or is no name in Python is written
     `e["num"]`. Each call takes its arguments in the order of a session's line; operands may also be
     names, numbers, truth values and the lists that are calls in a line. `and`, `or` and `not` are
-    words of Python, so their calls end in `_`.
+    words of Python, so their calls end in `_`. A negative axis counts from the innermost lists.
     """
 
     __slots__ = ()

@@ -113,6 +113,8 @@ class Faults(EngineCase):
     def test_axis(self) -> None:
         with built("num"):
             self.fails(AxisFault(), self.session.show, e.num(e.a, 2))
+            self.fails(AxisFault(), self.session.show, e.num(e.a, -3))
+            self.fails(AxisFault(), self.session.show, e.num(e.r, -1))
 
     def test_type(self) -> None:
         with built("add"):

@@ -1,12 +1,12 @@
 -- Worked expressions, each computed.
-use Rattle.std.specs.Prelude.{◌≡◌, ℕ, pos, negsuc, true, List, [], ◌∷◌, map, codes, Some, None, Ok}
-use Rattle.std.specs.Prelude.{Err, refl}
+use Rattle.std.specs.Prelude.{◌≡◌, ℕ, ℤ, pos, negsuc, true, List, [], ◌∷◌, map, codes, Some, None}
+use Rattle.std.specs.Prelude.{Ok, Err, refl}
 use Rattle.awk_types.specs.DataType.{Name, DataType, leaf, var, rec, opt, types_from}
 use Rattle.awk_types.specs.Value.{Value, int, truth, null, list, row, values_from}
 use Rattle.awk_types.specs.Datum.{arr, one}
 use Rattle.awk_types.specs.declared.primitive.Primitive.TheVariants.{Bool, I64}
 use Rattle.awk_types.specs.declared.fault.Fault.TheVariants.{Unbound, NoField, WrongType, Overflow}
-use Rattle.awk_types.specs.declared.fault.Fault.TheVariants.{Index, Unbuilt}
+use Rattle.awk_types.specs.declared.fault.Fault.TheVariants.{Axis, Index, Unbuilt}
 use Rattle.awk_query.specs.ExprTree as tree
 use Rattle.awk_query.specs.ExprTree.{ExprTree, exprs_from}
 use Rattle.awk_query.specs.declared.op.Op.{Op}
@@ -209,6 +209,52 @@ picked_by_a_value = refl
 
 picked_by_lists : eval env (of op.Pick (m ∷ field a y ∷ []) []) ≡ Err Unbuilt
 picked_by_lists = refl
+
+-- ---- axes
+
+-- [[1,2],[]]
+abbrev lists : ExprTree
+lists = field a y
+
+-- {"y":[1,2]} alone
+abbrev single : ExprTree
+single = of op.Fields (b ∷ []) (Texts (y ∷ []) ∷ [])
+
+abbrev num : ExprTree → ℤ → ExprTree
+num e axis = of op.Num (e ∷ []) (Place axis ∷ [])
+
+-- a negative axis counts from the innermost lists up to the array itself
+innermost_lists : eval env (num lists (negsuc 0)) ≡ Ok (arr (leaf I64) (numbers (2 ∷ 0 ∷ [])))
+innermost_lists = refl
+
+array_itself : eval env (num lists (negsuc 1)) ≡ Ok (one (leaf I64) (n 2))
+array_itself = refl
+
+outside_the_array : eval env (num lists (negsuc 2)) ≡ Err Axis
+outside_the_array = refl
+
+-- in a single value to the lists directly inside
+in_a_value : eval env (num single (negsuc 0))
+    ≡ Ok (one (rec (y ∷ []) (types_from (leaf I64 ∷ []))) (row (values_from (n 2 ∷ []))))
+in_a_value = refl
+
+outside_the_value : eval env (num single (negsuc 1)) ≡ Err Axis
+outside_the_value = refl
+
+-- and not where branches are unequally deep
+unequal_branches : eval env (num a (negsuc 0)) ≡ Err Axis
+unequal_branches = refl
+
+abbrev joined : List ExprTree → ℤ → ExprTree
+joined es axis = of op.Concatenate es (Place axis ∷ [])
+
+same_axis : eval env (joined (lists ∷ lists ∷ []) (negsuc 0))
+    ≡ Ok (arr (var (leaf I64))
+    (map (λ ks. list (values_from (numbers ks))) ((1 ∷ 2 ∷ 1 ∷ 2 ∷ []) ∷ [] ∷ [])))
+same_axis = refl
+
+other_axis : eval env (joined (m ∷ lists ∷ []) (negsuc 0)) ≡ Err Axis
+other_axis = refl
 
 -- ---- names
 

@@ -15,6 +15,7 @@ use Rattle.awk_query.specs.declared.op.Op.{Op}
 use Rattle.awk_query.specs.declared.op.Op.TheVariants as op
 use Rattle.awk_query.specs.declared.fixed.FixedArg.{FixedArg}
 use Rattle.awk_view.specs.Choice.{field, fields}
+use Rattle.awk_eval.specs.Axes.{axis_in, at_axis, at_common_axis}
 use Rattle.awk_eval.specs.Bindings.{look_up}
 use Rattle.awk_eval.specs.Variables.{Environment}
 use Rattle.awk_select.specs.Each.{at_each_of}
@@ -127,11 +128,11 @@ paired f None = Err Unbuilt
 
 -- lists padded by nulls to so many items, at an axis, cut or not
 abbrev pub padded_by : ℕ × ℤ × Bool → Datum → Result Datum Fault
-padded_by p d = pad_none_of p.0 p.1 p.2 d
+padded_by p d = pad_none_of p.0 (axis_in d p.1) p.2 d
 
 -- nulls at an axis filled
 abbrev pub filled_by : ℤ → Datum × Filler → Result Datum Fault
-filled_by axis p = fill_none_of p.0 p.1 axis
+filled_by axis p = fill_none_of p.0 p.1 (axis_in p.0 axis)
 
 -- an array where a mask over it is as asked, and null elsewhere
 abbrev pub masked_by : Bool → Datum × Datum → Result Datum Fault
@@ -139,10 +140,12 @@ masked_by w p = put_mask_of p.0 p.1 w
 
 -- an operation on null items on its operands; those that are not built yet answer so
 abbrev pub optioned : Op → List FixedArg → List Operand → Result Datum Fault
-optioned op.IsNone fixed operands = given is_none_of (place_in fixed) (only_in operands)
-optioned op.DropNone fixed operands = given drop_none_of (place_in fixed) (only_in operands)
-optioned op.Firsts fixed operands = given firsts_of (place_in fixed) (only_in operands)
-optioned op.Singletons fixed operands = given singletons_of (place_in fixed) (only_in operands)
+optioned op.IsNone fixed operands = given (at_axis is_none_of) (place_in fixed) (only_in operands)
+optioned op.DropNone fixed operands =
+    given (at_axis drop_none_of) (place_in fixed) (only_in operands)
+optioned op.Firsts fixed operands = given (at_axis firsts_of) (place_in fixed) (only_in operands)
+optioned op.Singletons fixed operands =
+    given (at_axis singletons_of) (place_in fixed) (only_in operands)
 optioned op.PadNone fixed operands = given padded_by (padding_in fixed) (only_in operands)
 optioned op.FillNone fixed operands = given filled_by (place_in fixed) (filled_in operands)
 optioned op.PutMask fixed operands = given masked_by (truth_in fixed) (both_in operands)
@@ -150,13 +153,14 @@ optioned _ fixed operands = Err Unbuilt
 
 -- an operation on lists on its operands
 abbrev pub listed : Op → List FixedArg → List Operand → Result Datum Fault
-listed op.Num fixed operands = given num_of (place_in fixed) (only_in operands)
-listed op.Flatten fixed operands = given flatten_of (place_in fixed) (only_in operands)
-listed op.LocalIndex fixed operands = given local_index_of (place_in fixed) (only_in operands)
+listed op.Num fixed operands = given (at_axis num_of) (place_in fixed) (only_in operands)
+listed op.Flatten fixed operands = given (at_axis flatten_of) (place_in fixed) (only_in operands)
+listed op.LocalIndex fixed operands =
+    given (at_axis local_index_of) (place_in fixed) (only_in operands)
 listed op.Unflatten fixed operands = paired unflatten_of (both_in operands)
 listed op.RunLengths fixed operands = alone run_lengths_of (only_in operands)
 listed op.Concatenate fixed operands =
-    given concatenate_of (place_in fixed) (data_in operands)
+    given (at_common_axis concatenate_of) (place_in fixed) (data_in operands)
 listed o fixed operands = optioned o fixed operands
 
 -- an operation on its operands

@@ -6,5 +6,6 @@ pub mod Ranges
 pub mod Fixed
 pub mod OperandView
 pub mod SteppedView
+pub mod Axes
 pub mod Eval
 pub mod Views

@@ -20,6 +20,7 @@ ghost use Rattle.awk_eval.specs.Eval as meaning;
 use crate::arguments::{
     both, bound_or, bounds, data, filled, only, padding, place, text, texts, truth, with_step,
 };
+use crate::axis::{axis_among, axis_in};
 use awk_lanes::{Arena, Steps};
 use awk_layout::{Array, Datum, Operands};
 use awk_lists::{flatten, local_index, num, run_lengths, unflatten, without_field};
@@ -94,15 +95,15 @@ fn listed<'s, L: Ledger>(
 {
     match op {
         Op::Num => match (place(fixed), only(operands)) {
-            (Some(axis), Some(x)) => num(alloc, x, axis, arena, steps),
+            (Some(axis), Some(x)) => num(alloc, x, axis_in(x, axis), arena, steps),
             _ => Err(Fault::Unbuilt),
         },
         Op::Flatten => match (place(fixed), only(operands)) {
-            (Some(axis), Some(x)) => flatten(alloc, x, axis, arena, steps),
+            (Some(axis), Some(x)) => flatten(alloc, x, axis_in(x, axis), arena, steps),
             _ => Err(Fault::Unbuilt),
         },
         Op::LocalIndex => match (place(fixed), only(operands)) {
-            (Some(axis), Some(x)) => local_index(alloc, x, axis, arena, steps),
+            (Some(axis), Some(x)) => local_index(alloc, x, axis_in(x, axis), arena, steps),
             _ => Err(Fault::Unbuilt),
         },
         Op::Unflatten => match both(operands) {
@@ -114,7 +115,9 @@ fn listed<'s, L: Ledger>(
             None => Err(Fault::Unbuilt),
         },
         Op::Concatenate => match (place(fixed), data(alloc, operands)?) {
-            (Some(axis), Some(xs)) => concatenate(alloc, axis, &xs, arena, steps),
+            (Some(axis), Some(xs)) => {
+                concatenate(alloc, axis_among(&xs, axis), &xs, arena, steps)
+            }
             _ => Err(Fault::Unbuilt),
         },
         _ => optioned(alloc, op, fixed, operands, arena, steps),
@@ -136,27 +139,29 @@ fn optioned<'s, L: Ledger>(
 {
     match op {
         Op::IsNone => match (place(fixed), only(operands)) {
-            (Some(axis), Some(x)) => is_none(alloc, x, axis, arena, steps),
+            (Some(axis), Some(x)) => is_none(alloc, x, axis_in(x, axis), arena, steps),
             _ => Err(Fault::Unbuilt),
         },
         Op::DropNone => match (place(fixed), only(operands)) {
-            (Some(axis), Some(x)) => drop_none(alloc, x, axis, arena, steps),
+            (Some(axis), Some(x)) => drop_none(alloc, x, axis_in(x, axis), arena, steps),
             _ => Err(Fault::Unbuilt),
         },
         Op::Firsts => match (place(fixed), only(operands)) {
-            (Some(axis), Some(x)) => firsts(alloc, x, axis, arena, steps),
+            (Some(axis), Some(x)) => firsts(alloc, x, axis_in(x, axis), arena, steps),
             _ => Err(Fault::Unbuilt),
         },
         Op::Singletons => match (place(fixed), only(operands)) {
-            (Some(axis), Some(x)) => singletons(alloc, x, axis, arena, steps),
+            (Some(axis), Some(x)) => singletons(alloc, x, axis_in(x, axis), arena, steps),
             _ => Err(Fault::Unbuilt),
         },
         Op::PadNone => match (padding(fixed), only(operands)) {
-            (Some((n, axis, clip)), Some(x)) => pad_none(alloc, x, n, axis, clip, arena, steps),
+            (Some((n, axis, clip)), Some(x)) => {
+                pad_none(alloc, x, n, axis_in(x, axis), clip, arena, steps)
+            }
             _ => Err(Fault::Unbuilt),
         },
         Op::FillNone => match (place(fixed), filled(operands)) {
-            (Some(axis), Some((x, v))) => fill_none(alloc, x, v, axis, arena, steps),
+            (Some(axis), Some((x, v))) => { fill_none(alloc, x, v, axis_in(x, axis), arena, steps) }
             _ => Err(Fault::Unbuilt),
         },
         Op::PutMask => match (truth(fixed), both(operands)) {

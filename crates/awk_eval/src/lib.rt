@@ -1,11 +1,12 @@
 //! The variables of a session, and what expressions over them are.
 //!
 //! `Env` holds names and data in the order of first binding; `eval` gives the datum of an
-//! expression, or its first fault.
+//! expression, or its first fault. A negative axis is turned before an operation is called.
 #![tactic(auto)]
 
 mod application;
 mod arguments;
+mod axis;
 mod env;
 mod evaluation;
 mod shared;
