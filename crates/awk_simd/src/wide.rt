@@ -2,8 +2,8 @@
 use crate::{choices, counts, outside, sums};
 use awk_kernels::{Arith, Broken, Compare, Kernels, Plain};
 
-/// The kernels, eight numbers at a time where a pass over vectors gains, and one at a time for the
-/// rest of a slice. It answers what `Plain` answers.
+/// The kernels: the first number outside, sums of two numbers, choices and counts by vectors with a
+/// plain loop for the rest of a slice, and all others by plain loops. It answers what `Plain` does.
 #[derive(Clone, Copy, Debug, Default)]
 pub struct Wide;
 
