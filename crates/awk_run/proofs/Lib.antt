@@ -1,3 +1,4 @@
+pub mod Notes
 pub mod Counts
 pub mod Progress
 pub mod Ends

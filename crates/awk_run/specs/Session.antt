@@ -1,11 +1,12 @@
 -- What a run over a session gives.
-use Rattle.std.specs.Prelude.{◌≡◌, ◌⊎◌, ℕ, ◌-◌, Bool, true, false, List, [], ◌++◌, Option}
+use Rattle.std.specs.Prelude.{◌≡◌, ◌⊎◌, ◌≤◌, ℕ, ◌+◌, Bool, true, false, List, [], ◌∷◌, ◌++◌, Option, IsTrue}
 use Rattle.std.specs.Io.KnownBytes.{Consumes, Appends, IsAtEnd}
 use Rattle.awk_edge.specs.Lines.{lines, ended}
 use Rattle.awk_edge.specs.Limits.{HasLongLine, HasTooManyLines, IsWithinLimits}
 use Rattle.awk_session.specs.Runs.{line_ends}
-use Rattle.awk_session.specs.Replies.{answers, has_fault, answer_count}
-use Rattle.awk_run.specs.Flushes.{risen}
+use Rattle.awk_session.specs.Replies.{is_blank, answers, has_fault, answer_count}
+use Rattle.awk_session.specs.Cost.{are_plain, cost}
+use Rattle.awk_run.specs.Flushes.{fronts, Flushes}
 use Rattle.awk_run.specs.declared.run.Status.{Status}
 use Rattle.awk_run.specs.declared.run.Status.TheVariants.{Fine, Faults, Words, Read, Write, Memory, LineTooLong, TooManyLines}
 
@@ -29,58 +30,81 @@ IsComplete status = (status ≡ Fine) ⊎ (status ≡ Faults)
 abbrev pub MayBeAnswered : Option (List ℕ) → List ℕ → List (List ℕ) → Type 0
 MayBeAnswered left given ls = (ls ≡ ended given) ⊎ ((ls ≡ lines given) × IsAtEnd left)
 
--- the source has nothing left, and the answers to all lines were written
-pub record IsWhole (left : Option (List ℕ)) (given written : List ℕ)
+-- The answers to some lines were written: they have a line end for each line that is not blank, and
+-- the sink was flushed at each.
+pub record AreAnswered (ls : List (List ℕ)) (written : List ℕ) (flushed : List (List ℕ))
+    : Type 0 where
+  pub answers : written ≡ answers ls
+  pub count : line_ends written ≡ answer_count ls
+  pub flushes : flushed ≡ fronts written
+
+-- the source has nothing left, and all lines were answered
+pub record IsWhole (left : Option (List ℕ)) (given written : List ℕ) (flushed : List (List ℕ))
     (some_fault : Bool) : Type 0 where
   pub at_end : IsAtEnd left
-  pub answers : written ≡ answers (lines given)
+  pub within : IsWithinLimits given
+  pub answers : AreAnswered (lines given) written flushed
   pub faults : has_fault (lines given) ≡ some_fault
 
--- the answers to the first lines were written, whole, and as many as there are line ends in them
-pub record HasFirstAnswers (left : Option (List ℕ)) (given written : List ℕ) : Type 0 where
+-- the first lines were answered
+pub record HasFirstAnswers (left : Option (List ℕ)) (given written : List ℕ)
+    (flushed : List (List ℕ)) : Type 0 where
   pub front : List (List ℕ)
   pub rest : List (List ℕ)
   pub lines : MayBeAnswered left given (front ++ rest)
-  pub answers : written ≡ answers front
-  pub count : line_ends written ≡ answer_count front
+  pub answers : AreAnswered front written flushed
 
--- what was written is the start of the answers
-pub record IsStart (left : Option (List ℕ)) (given written : List ℕ) : Type 0 where
-  pub session : List (List ℕ)
-  pub rest : List ℕ
-  pub lines : MayBeAnswered left given session
-  pub answers : answers session ≡ written ++ rest
+-- The first lines were answered, and of the next answer a part was written, or all of it. It was
+-- not flushed.
+pub record IsCut (left : Option (List ℕ)) (given written : List ℕ) (flushed : List (List ℕ))
+    : Type 0 where
+  pub front : List (List ℕ)
+  pub line : List ℕ
+  pub rest : List (List ℕ)
+  pub lines : MayBeAnswered left given (front ++ line ∷ rest)
+  pub some : is_blank line ≡ false
+  pub whole : List ℕ
+  pub part : List ℕ
+  pub after : List ℕ
+  pub first : AreAnswered front whole flushed
+  pub bytes : written ≡ whole ++ part
+  pub next : answers (front ++ line ∷ []) ≡ written ++ after
 
--- what each status says of the bytes that the source gave and those that were written
-abbrev pub Says : Status → Option (List ℕ) → List ℕ → List ℕ → Type 0
-Says Fine left given written = IsWhole left given written false
-Says Faults left given written = IsWhole left given written true
-Says Words left given written = (given ≡ []) × (written ≡ [])
-Says Read left given written = written ≡ answers (ended given)
-Says Write left given written = IsStart left given written
-Says Memory left given written = HasFirstAnswers left given written
-Says LineTooLong left given written = (written ≡ answers (ended given)) × HasLongLine given
-Says TooManyLines left given written = (written ≡ answers (ended given)) × HasTooManyLines given
+-- what each status says of the bytes that the source gave, those that were written, and what of
+-- these had been written at each flush
+abbrev pub Says : Status → Option (List ℕ) → List ℕ → List ℕ → List (List ℕ) → Type 0
+Says Fine left given written flushed = IsWhole left given written flushed false
+Says Faults left given written flushed = IsWhole left given written flushed true
+Says Words left given written flushed = (given ≡ []) × (written ≡ []) × (flushed ≡ [])
+Says Read left given written flushed = AreAnswered (ended given) written flushed
+Says Write left given written flushed = IsCut left given written flushed
+Says Memory left given written flushed = HasFirstAnswers left given written flushed
+Says LineTooLong left given written flushed =
+    AreAnswered (ended given) written flushed × HasLongLine given
+Says TooManyLines left given written flushed =
+    AreAnswered (ended given) written flushed × HasTooManyLines given
 
--- The sink was flushed once for each answer that was written whole. Where it failed, the flush of
--- the last may be missing.
-abbrev pub FlushesEach : Status → ℕ → ℕ → ℕ → Type 0
-FlushesEach status flushes0 flushes1 answered =
-    (flushes1 ≡ risen answered flushes0)
-    ⊎ ((status ≡ Write) × (flushes1 ≡ risen (answered - 1) flushes0))
-
--- The bytes that the source gave and those that were written, and what the status says of them.
-pub record Session (left0 left1 written0 written1 : Option (List ℕ)) (flushes0 flushes1 : ℕ)
-    (status : Status) : Type 0 where
+-- The bytes that the source gave, those that were written and what of these had been written at
+-- each flush, and what the status says of them.
+pub record Session (left0 left1 written0 written1 : Option (List ℕ))
+    (flushes0 flushes1 : List (Option (List ℕ))) (steps0 steps1 : ℕ) (status : Status)
+    : Type 0 where
   pub given : List ℕ
   pub written : List ℕ
+  pub flushed : List (List ℕ)
   pub reads : Consumes left0 left1 given
   pub writes : Appends written0 written1 written
-  pub says : Says status left1 given written
+  pub flushes : Flushes written0 flushes0 flushes1 flushed
+  pub says : Says status left1 given written flushed
   -- a passed limit is told, unless memory was wanting or the sink failed before
   pub long : HasLongLine given → (status ≡ LineTooLong) ⊎ (status ≡ Memory) ⊎ (status ≡ Write)
   pub many : HasTooManyLines given → (status ≡ TooManyLines) ⊎ (status ≡ Memory) ⊎ (status ≡ Write)
-  pub flushes : FlushesEach status flushes0 flushes1 (line_ends written)
+  -- Where the source has nothing left and all lines were answered, the run is complete, unless
+  -- memory was wanting or reading failed.
+  pub whole : IsAtEnd left1 → IsWithinLimits given → AreAnswered (lines given) written flushed
+      → IsComplete status ⊎ (status ≡ Read) ⊎ (status ≡ Memory) ⊎ (status ≡ Words)
+  -- where each line of these bytes has a cost, the run takes no more than they cost together
+  pub cost : IsTrue (are_plain (lines given)) → steps1 ≤ steps0 + cost (lines given)
 
 -- where the bytes given are within the limits, the answers to all their lines were written
 pub record Completes (left0 left1 written0 written1 : Option (List ℕ))

@@ -1,14 +1,14 @@
 //! A session, answered line by line.
-ghost use Rattle.std.specs.Prelude.{◌||◌, ◌++◌, List, ℕ, Some, Err, ◌≡◌, ◌≢◌, ◌↔◌, ◌⊎◌, ◌≤◌, ◌+◌, ◌∷◌, [], IsTrue, IfErr, OnErr, OnOk, length};
+ghost use Rattle.std.specs.Prelude.{◌||◌, ◌++◌, List, ℕ, Some, Err, ◌≡◌, ◌≢◌, ◌↔◌, ◌⊎◌, ◌≤◌, ◌+◌, ◌∷◌, [], IsTrue, IsFalse, IfErr, OnErr, OnOk, length, if◌then◌else◌};
 ghost use Rattle.awk_edge.specs.Causes.{Rose};
 ghost use Rattle.awk_edge.specs.Limits.{IsWithinLimits};
 ghost use Rattle.awk_edge.specs.Lines.{lines};
 ghost use Rattle.awk_eval.specs.Variables.{denoted};
 ghost use Rattle.awk_session.specs.Cost.{are_plain, cost, line_in};
-ghost use Rattle.awk_session.specs.Replies.{answers, answer_count, step};
+ghost use Rattle.awk_session.specs.Replies.{answers, step};
+ghost use Rattle.awk_session.specs.Replies as replies;
 ghost use Rattle.awk_session.specs.Spending.{Binds, TakesCost};
 ghost use Rattle.awk_run.specs.Answering.{Answers};
-ghost use Rattle.awk_run.specs.Flushes.{risen};
 ghost use Rattle.awk_run.specs.Session.{Session, Completes, IsComplete, number_of};
 ghost use Rattle.awk_run.specs.Words.{IsRun};
 
@@ -59,8 +59,8 @@ impl Status {
 }
 
 /// Answers the session that the source gives, where the words are the one word `run`.
-/// The sink is flushed once for each answer that was written whole; where it failed, the last flush
-/// may be missing.
+/// The sink is flushed at the end of each answer, and at no other time. The answer that it fails in
+/// is not flushed.
 pub fn run_words<S: Source, K: Sink, L: Ledger>(
     alloc: Global,
     words: &[String],
@@ -79,9 +79,10 @@ pub fn run_words<S: Source, K: Sink, L: Ledger>(
         K.written sink.new ≡ Some (before ++ answers (lines bytes)) }
 
     // What each status says of the bytes that the source gave, of those that were written, and of
-    // the flushes.
+    // what had been written at each flush; and what these bytes cost at most.
     ensures session { Session (S.left source.old) (S.left source.new)
-        (K.written sink.old) (K.written sink.new) (K.flushes sink.old) (K.flushes sink.new) result }
+        (K.written sink.old) (K.written sink.new) (K.flushes sink.old) (K.flushes sink.new)
+        steps.old steps.new result }
 
     // Unless the sink failed, nothing that was written is left unflushed.
     ensures flushed { result ≢ Status.Write → IsTrue (K.flushed sink.new) ⊎ (sink.new ≡ sink.old) }
@@ -131,7 +132,8 @@ fn run<S: Source, K: Sink, L: Ledger>(
 ) -> Status
     ensures not_words { result ≢ Status.Words }
     ensures session { Session (S.left source.old) (S.left source.new)
-        (K.written sink.old) (K.written sink.new) (K.flushes sink.old) (K.flushes sink.new) result }
+        (K.written sink.old) (K.written sink.new) (K.flushes sink.old) (K.flushes sink.new)
+        steps.old steps.new result }
     ensures flushed { result ≢ Status.Write → IsTrue (K.flushed sink.new) ⊎ (sink.new ≡ sink.old) }
     ensures read { result ≡ Status.Read → Rose (S.faults source.old) (S.faults source.new) }
     ensures write { result ≡ Status.Write → Rose (K.faults sink.old) (K.faults sink.new) }
@@ -183,10 +185,12 @@ fn answer<K: Sink, L: Ledger>(
     requires empty { out.old.held ≡ [] }
     ensures answers { Answers (K.written sink.old) (K.written sink.new) out.new
         (denoted engine.old) (denoted engine.new) line.now result }
-    ensures flushes { OnOk result
-        (K.flushes sink.new ≡ risen (answer_count (line.now ∷ [])) (K.flushes sink.old)) }
+    ensures flushes { OnOk result (K.flushes sink.new ≡
+        (if replies.is_blank line.now then K.flushes sink.old
+        else K.flushes sink.old ++ K.written sink.new ∷ [])) }
     ensures unflushed { OnErr result (K.flushes sink.new ≡ K.flushes sink.old) }
     ensures flushed { OnOk result (IsTrue (K.flushed sink.new) ⊎ (sink.new ≡ sink.old)) }
+    ensures some { OnErr result (IsFalse (replies.is_blank line.now)) }
     ensures untouched { result ≡ Err LineEnd.NoMemory → sink.new ≡ sink.old }
     ensures later { K.faults sink.old ≤ K.faults sink.new }
     ensures write { IfErr result (λ end. end ≡ LineEnd.Write →

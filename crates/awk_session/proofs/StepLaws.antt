@@ -29,6 +29,23 @@ step-line variables line e =
     (let s : Step Environment = record { answer = None; is_fault = false; after = variables } in s)
     (step_of (reply variables (line_said line)))) e
 
+-- bytes with a line end behind them, and none within
+pub record IsOneLine (bytes : List ℕ) : Type 0 where
+  pub text : List ℕ
+  pub all : bytes ≡ text ++ 10 ∷ []
+  pub unbroken : Unbroken text
+
+-- the answer to a line that is not blank is such a line
+pub step-answer : (variables : Environment) (line : List ℕ) → is_blank line ≡ false
+    → IsOneLine (answer_bytes (step variables line).answer)
+step-answer variables line e =
+    let said = (reply variables (line_said line)).answer in
+    record {
+      text = answer_text said;
+      all = ap (λ (s : Step Environment). answer_bytes s.answer) (step-line variables line e);
+      unbroken = answer_text-unbroken said;
+    }
+
 -- ---- the line ends written count the answers
 
 pub line_ends-append : (xs ys : List ℕ) → line_ends (xs ++ ys) ≡ line_ends xs + line_ends ys

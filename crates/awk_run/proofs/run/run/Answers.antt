@@ -12,40 +12,40 @@ returns-in-Err-Read-clause-session g c =
     let s = c.loop-line.invariant.so_far in
     let n = rw c.in-Err-Read.field-0-is at c.in-Err-Read.ensures.line in
     let open_still : c.loop-line.lines.is_ended ≡ false = false_from_ne_true _ (λ e. let z = (c.in-Err-Read.ensures.ended e).0 in absurd (cc)) in
-    ends_read n.given s.lines s.answers open_still n.answer n.consumes
+    ends_read n.given s.lines s.answers open_still n.answer n.consumes s.spent
 
 pub returns-in-Err-NoMemory-clause-session : goal.returns-in-Err-NoMemory-clause-session
 returns-in-Err-NoMemory-clause-session g c =
     let s = c.loop-line.invariant.so_far in
     let n = c.in-Err-NoMemory.ensures.line in
     let open_still : c.loop-line.lines.is_ended ≡ false = false_from_ne_true _ (λ e. let z = (c.in-Err-NoMemory.ensures.ended e).0 in absurd (cc)) in
-    ends_memory n.given s.lines s.answers open_still n.consumes
+    ends_memory n.given s.lines s.answers open_still n.consumes s.spent
 
 pub returns-in-Err-LineTooLong-clause-session : goal.returns-in-Err-LineTooLong-clause-session
 returns-in-Err-LineTooLong-clause-session g c =
     let s = c.loop-line.invariant.so_far in
     let n = rw c.in-Err-LineTooLong.field-0-is at c.in-Err-LineTooLong.ensures.line in
     let open_still : c.loop-line.lines.is_ended ≡ false = false_from_ne_true _ (λ e. let z = (c.in-Err-LineTooLong.ensures.ended e).0 in absurd (cc)) in
-    ends_long n.given s.lines s.answers open_still n.answer n.consumes
+    ends_long n.given s.lines s.answers open_still n.answer n.consumes s.spent
 
 pub returns-in-Err-TooManyLines-clause-session : goal.returns-in-Err-TooManyLines-clause-session
 returns-in-Err-TooManyLines-clause-session g c =
     let s = c.loop-line.invariant.so_far in
     let n = rw c.in-Err-TooManyLines.field-0-is at c.in-Err-TooManyLines.ensures.line in
     let open_still : c.loop-line.lines.is_ended ≡ false = false_from_ne_true _ (λ e. let z = (c.in-Err-TooManyLines.ensures.ended e).0 in absurd (cc)) in
-    ends_many n.given s.lines s.answers open_still n.answer n.consumes
+    ends_many n.given s.lines s.answers open_still n.answer n.consumes s.spent
 
 pub returns-then-any_fault-clause-session : goal.returns-then-any_fault-clause-session
 returns-then-any_fault-clause-session g c =
     let s = c.loop-line.invariant.so_far in
     let n = rw c.in-Ok-None.field-0-is at c.in-Ok-None.ensures.line in
-    ends_faults s.lines s.answers (none_left s.lines n.answer n.consumes (λ e. ap g.S.Source.left (c.in-Ok-None.ensures.ended e).1) _ refl) c.if-any_fault.true
+    ends_faults s.lines s.answers (none_left s.lines n.answer n.consumes (λ e. ap g.S.Source.left (c.in-Ok-None.ensures.ended e).1) _ refl) c.if-any_fault.true s.spent
 
 pub returns-in-Ok-None-clause-session : goal.returns-in-Ok-None-clause-session
 returns-in-Ok-None-clause-session g c =
     let s = c.loop-line.invariant.so_far in
     let n = rw c.in-Ok-None.field-0-is at c.in-Ok-None.ensures.line in
-    ends_fine s.lines s.answers (none_left s.lines n.answer n.consumes (λ e. ap g.S.Source.left (c.in-Ok-None.ensures.ended e).1) _ refl) c.if-any_fault.false
+    ends_fine s.lines s.answers (none_left s.lines n.answer n.consumes (λ e. ap g.S.Source.left (c.in-Ok-None.ensures.ended e).1) _ refl) c.if-any_fault.false s.spent
 
 pub returns-in-Err-Write-clause-session : goal.returns-in-Err-Write-clause-session
 returns-in-Err-Write-clause-session g c =
@@ -53,7 +53,7 @@ returns-in-Err-Write-clause-session g c =
     let n = rw c.in-Ok-Some.field-0-is at c.in-Ok-Some.ensures.line in
     let open_still : c.loop-line.lines.is_ended ≡ false = false_from_ne_true _ (λ e. let z = (c.in-Ok-Some.ensures.ended e).0 in absurd (cc)) in
     let b = rw (c.in-Err-Write.field-0-is, c.deref.ensures.value) at c.in-Err-Write.ensures.answers in
-    ends_broken c.in-Ok-Some.line.items (take_line s.lines open_still n.answer n.consumes) s.answers b c.in-Err-Write.ensures.unflushed
+    ends_broken c.in-Ok-Some.line.items (take_line s.lines open_still n.answer n.consumes) s.answers b c.in-Err-Write.ensures.unflushed (rw c.deref.ensures.value at c.in-Err-Write.ensures.some) s.spent (rw c.deref.ensures.value at c.answer.ensures.cost)
 
 pub returns-in-Err-NoMemory-answer-clause-session : goal.returns-in-Err-NoMemory-answer-clause-session
 returns-in-Err-NoMemory-answer-clause-session g c =
@@ -61,7 +61,7 @@ returns-in-Err-NoMemory-answer-clause-session g c =
     let n = rw c.in-Ok-Some.field-0-is at c.in-Ok-Some.ensures.line in
     let open_still : c.loop-line.lines.is_ended ≡ false = false_from_ne_true _ (λ e. let z = (c.in-Ok-Some.ensures.ended e).0 in absurd (cc)) in
     let b = rw c.in-Err-NoMemory-answer.field-0-is at c.in-Err-NoMemory-answer.ensures.answers in
-    ends_unanswered c.in-Ok-Some.line.items (take_line s.lines open_still n.answer n.consumes) s.answers b c.in-Err-NoMemory-answer.ensures.unflushed
+    ends_unanswered c.in-Ok-Some.line.items (take_line s.lines open_still n.answer n.consumes) s.answers b c.in-Err-NoMemory-answer.ensures.unflushed s.spent (rw c.deref.ensures.value at c.answer.ensures.cost)
 
 pub returns-in-Err-Read-clause-cost : goal.returns-in-Err-Read-clause-cost
 returns-in-Err-Read-clause-cost g c =
