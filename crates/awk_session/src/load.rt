@@ -11,9 +11,9 @@ ghost use Rattle.awk_session.specs.Spending.{IsArrayWithin, IsLoaded};
 
 use crate::fault::Refused;
 use awk_form::{TypedForm, read_typed_form};
-use awk_kernels::Plain;
 use awk_lanes::{Arena, Steps};
 use awk_layout::Array;
+use awk_simd::Wide;
 use awk_store::Store;
 use awk_valid::load_typed;
 use serde_json::{Map, Value};
@@ -38,6 +38,6 @@ pub fn load<'a, L: Ledger>(
 {
     let TypedForm { form, typ } = read_typed_form(alloc, form)?;
     let mut store = Store::new(alloc, buffers, arena);
-    let array = load_typed(alloc, &form, typ, length, &mut store, &Plain, steps)?;
+    let array = load_typed(alloc, &form, typ, length, &mut store, &Wide, steps)?;
     Ok(array)
 }

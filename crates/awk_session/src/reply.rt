@@ -28,11 +28,11 @@ use crate::line::Read;
 use crate::load::load;
 use crate::type_text::type_text;
 use awk_eval::{Env, eval};
-use awk_kernels::Plain;
 use awk_lanes::{Arena, Steps};
 use awk_layout::Datum;
 use awk_pack::{PackFault, pack};
 use awk_query::{Expr, Line};
+use awk_simd::Wide;
 use awk_types::{Fault, Name, Names};
 use serde_json::{Map, Value};
 use std::alloc::{AllocError, Global};
@@ -156,7 +156,7 @@ fn bind_made<'v, 's, 'a: 's, L: Ledger>(
     ensures shows { IfOk result ShowsNone }
     ensures cost { IsViewTaken env.old (view_of (expr_of e.now)) steps.old steps.new }
 {
-    match eval(alloc, env, e, &Plain, kept, steps) {
+    match eval(alloc, env, e, &Wide, kept, steps) {
         Ok(datum) => {
             env.bind(name.copy(alloc)?, datum)?;
             Ok(Answer::Bound(name.as_str()))
@@ -180,7 +180,7 @@ fn show<'v, 's, 'a: 's, L: Ledger>(
     ensures shows { IfOk result (ShowsView env.now (view_of (expr_of e.now))) }
     ensures cost { IsViewTaken env.now (view_of (expr_of e.now)) steps.old steps.new }
 {
-    match eval(alloc, env, e, &Plain, arena, steps) {
+    match eval(alloc, env, e, &Wide, arena, steps) {
         Ok(datum) => Ok(Answer::Value(datum)),
         Err(fault) => refused(fault),
     }
@@ -201,7 +201,7 @@ fn show_type<'v, 's, 'a: 's, L: Ledger>(
     ensures shows { IfOk result ShowsNone }
     ensures cost { IsViewTaken env.now (view_of (expr_of e.now)) steps.old steps.new }
 {
-    match eval(alloc, env, e, &Plain, arena, steps) {
+    match eval(alloc, env, e, &Wide, arena, steps) {
         Ok(datum) => Ok(Answer::Type(type_text(alloc, &datum)?)),
         Err(fault) => refused(fault),
     }
@@ -220,7 +220,7 @@ fn show_packed<'v, 's, 'a: 's, L: Ledger>(
         replies.pack_shown (meaning.eval (denoted env.now) (expr_of e.now))) }
     ensures answer { IfOk result IsAnswer }
 {
-    match eval(alloc, env, e, &Plain, arena, steps) {
+    match eval(alloc, env, e, &Wide, arena, steps) {
         Ok(datum) => packed(alloc, &datum, arena, steps),
         Err(fault) => refused(fault),
     }
