@@ -1,5 +1,5 @@
--- View expressions: a variable, and ranges of step 1 and choices of fields of it. They read no
--- item, so what they take goes by the number of nodes of the variable's array.
+-- View expressions: a variable, and ranges of step 1 and choices of fields of it. What they take
+-- goes by the number of nodes of the variable's array, and not by its items.
 use Rattle.std.specs.Prelude.{◌≤◌, ℕ, ◌+◌, ◌*◌, Bool, true, false, Option, Some, None, option_map}
 use Rattle.std.specs.Prelude.{is_some, Result, IfOk, List, [], ◌∷◌, if◌then◌else◌}
 use Rattle.std.specs.List.{AllByRecursion}
@@ -62,7 +62,7 @@ pub record View : Type 0 where
   pub name : Name
   pub count : ℕ
 
--- whether an operation cuts or chooses, and reads no item
+-- whether an operation is a range of step 1 or a choice of fields
 abbrev pub is_view_op : Op → List FixedArg → Bool
 is_view_op op.Range fixed = is_some (bounds_in fixed)
 is_view_op op.Field fixed = true

@@ -33,9 +33,11 @@ pub fn array_within<'a>(alloc: Global, node: Node<'a>) -> Result<Array<'a>, NoMe
 
 /// The items of an array at places, in the order of the places, which may repeat.
 ///
-/// Numbers, starts and stops, masks and indexes are moved, and contents are borrowed. A record
-/// moves nothing: the places become an index over it, in 32 bits where it has at most 2^32 items.
-/// No other array is put behind a further index.
+/// The places become an index over records, in 32 bits where there are at most 2^32 of them. No
+/// other array is put behind a further index.
+///
+/// How it works, which no clause says: numbers, starts and stops, masks and indexes are moved, and
+/// contents stay, but for that of a regular array, which is gathered.
 pub fn gather<'a, L: Ledger>(
     alloc: Global,
     x: &Array<'a>,

@@ -200,7 +200,9 @@ fn cut<'a, L: Ledger>(
 /// `WrongType` tells that one of the two is a single value, or that the counts are neither whole
 /// numbers nor unknown, and `Depth` or `Size` the limit that the type of the lists passes.
 /// `Lengths` tells a negative count, or counts that are not the number of items together, and
-/// `Size` also more than 1,073,741,824 counts. No item is touched.
+/// `Size` also more than 1,073,741,824 counts.
+///
+/// How it works, which no clause says: the items stay as they are, behind new offsets.
 pub fn unflatten<'a, L: Ledger>(
     alloc: Global,
     x: &Datum<'a>,

@@ -200,7 +200,8 @@ fn axis_before(axis: i64) -> i64
 /// is at least 1, and there the items are lists, optional lists or unknown, else `Axis`. Each list
 /// that is given may have any length.
 ///
-/// Lists that lie in order without gaps cut their content, and others gather from it.
+/// How it works, which no clause says: lists that lie in order without gaps cut their content, and
+/// others gather from it.
 pub fn flatten<'a, L: Ledger>(
     alloc: Global,
     x: &Datum<'a>,

@@ -12,8 +12,9 @@ use awk_types::{NoMemory, copy_names, copy_type};
 use std::alloc::Global;
 use std::sync::ledger::Ledger;
 
-/// The items from place `lo` below place `hi`, over the same bytes: lanes and bits are cut, and no
-/// item is read.
+/// The items from place `lo` below place `hi`. At most four steps are taken for each node.
+///
+/// How it works, which no clause says: lanes and bits are cut, over the same bytes.
 pub fn range<'a, L: Ledger>(
     alloc: Global,
     x: &Array<'a>,

@@ -22,7 +22,7 @@ use std::sync::ledger::Ledger;
 /// negative one counts from the end, and both are kept within the array. `WrongType` tells that it
 /// is a single value.
 ///
-/// By step 1 the array is cut, else its items are gathered.
+/// How it works, which no clause says: by step 1 the array is cut, else its items are gathered.
 pub fn step_range<'a, L: Ledger>(
     alloc: Global,
     x: &Datum<'a>,

@@ -28,8 +28,10 @@ use awk_types::Typ;
 use std::alloc::Global;
 use std::sync::ledger::Ledger;
 
-/// The array of n items that a form and the buffers of a store give. Its lanes are the store's
-/// bytes, cut and not copied. The arena is that of the store; nothing more is made in it.
+/// The array of n items that a form and the buffers of a store give.
+///
+/// How it works, which no clause says: its lanes are the store's bytes, cut and not copied, and
+/// nothing more is made in the arena, which is that of the store.
 pub fn load<'a, N: Kernels, L: Ledger>(
     alloc: Global,
     form: &Form,
