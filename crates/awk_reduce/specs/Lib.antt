@@ -1,0 +1,5 @@
+pub mod Reducers
+pub mod Reduce
+pub mod Lists
+pub mod Totals
+pub mod Extremes

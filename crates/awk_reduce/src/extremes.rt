@@ -1,0 +1,116 @@
+//! The least and the greatest items, and their places.
+ghost use Rattle.std.specs.Prelude.{◌≡◌, ◌<◌, ◌^◌, IfOk};
+ghost use Rattle.awk_lanes.specs.Made.{lane_of};
+ghost use Rattle.awk_lanes.specs.Places.{size_of};
+ghost use Rattle.awk_lanes.specs.declared.kind.Kind.TheVariants as Kind;
+ghost use Rattle.awk_layout.specs.Layout.{flat, optional};
+ghost use Rattle.awk_numbers.specs.Folds.{lane_numbers};
+ghost use Rattle.awk_parts.specs.Lanes.{extreme_lane, present_at, AreLocal};
+ghost use Rattle.awk_reduce.specs.Extremes.{place_lane};
+ghost use Rattle.awk_reduce.specs.Lists.{AreReady, AreReduced};
+ghost use Rattle.awk_reduce.specs.Totals.{item_reducer, place_reducer};
+
+use crate::joined::JoinedItems;
+use awk_axis::Made;
+use awk_kernels::Kernels;
+use awk_lanes::{Arena, Lane, Steps, numbers_of};
+use awk_layout::Node;
+use awk_numbers::{Extreme, keys_of};
+use awk_parts::{extreme_places, found, locals, numbers_at, present};
+use awk_types::NoMemory;
+use std::alloc::Global;
+use std::sync::ledger::Ledger;
+
+/// Where among all numbers the least or the greatest of each list stands.
+fn places_of<'a, N: Kernels, L: Ledger>(
+    alloc: Global,
+    how: Extreme,
+    x: &JoinedItems<'_, 'a>,
+    kernels: &N,
+    arena: &'a Arena,
+    steps: &mut Steps<L>,
+) -> Result<Lane<'a>, NoMemory>
+    requires { AreReady x.now.items.now x.now.offsets.now x.now.count x.now.present.now }
+    ensures { let numbers = lane_numbers x.now.present.now.lane in
+        IfOk result (λ r. r ≡ extreme_lane how numbers x.now.present.now.offsets x.now.count) }
+{
+    let keys = keys_of(alloc, &x.present.lane, steps)?;
+    extreme_places(how, &keys, &x.present.offsets, x.count, kernels, arena, steps)
+}
+
+/// Numbers, and null where there is no place.
+fn optional_node<'a, L: Ledger>(
+    alloc: Global,
+    places: &Lane<'a>,
+    numbers: Lane<'a>,
+    arena: &'a Arena,
+    steps: &mut Steps<L>,
+) -> Result<Node<'a>, NoMemory>
+    requires kind { places.now.kind ≡ Kind.I64 }
+    requires size { size_of numbers ≡ size_of places.now }
+    requires fits { size_of places.now < 2 ^ 63 }
+    ensures { let index = lane_of Kind.I64 (size_of places.now) (present_at places.now) in
+        IfOk result (λ y. y ≡ optional index (flat numbers.entry)) }
+{
+    let index = present(places, arena, steps)?;
+    let content = Box::new(alloc, Node::numpy(numbers, steps))?;
+    Ok(Node::indexed_option(index, content, steps))
+}
+
+/// The least or the greatest item of each list.
+pub(crate) fn extremes<'a, N: Kernels, L: Ledger>(
+    alloc: Global,
+    how: Extreme,
+    x: &JoinedItems<'_, 'a>,
+    kernels: &N,
+    arena: &'a Arena,
+    steps: &mut Steps<L>,
+) -> Result<Made<'a>, NoMemory>
+    requires { AreReady x.now.items.now x.now.offsets.now x.now.count x.now.present.now }
+    ensures { IfOk result (AreReduced (item_reducer how) x.now.items.now x.now.offsets.now
+        x.now.count) }
+{
+    let places = places_of(alloc, how, x, kernels, arena, steps)?;
+    let numbers = numbers_at(&x.present.lane, &places, arena, steps)?;
+    Ok(Made::Singles(optional_node(alloc, &places, numbers, arena, steps)?))
+}
+
+/// The places in their lists of items that are numbers at places.
+fn places_in<'a, L: Ledger>(
+    alloc: Global,
+    x: &JoinedItems<'_, 'a>,
+    places: &Lane<'a>,
+    arena: &'a Arena,
+    steps: &mut Steps<L>,
+) -> Result<Lane<'a>, NoMemory>
+    requires ready { AreReady x.now.items.now x.now.offsets.now x.now.count x.now.present.now }
+    requires places { AreLocal x.now.present.now.offsets places.now }
+    requires count { size_of places.now ≡ x.now.count }
+    ensures { IfOk result (λ r. r ≡ place_lane x.now.offsets.now x.now.present.now places.now) }
+{
+    match &x.present.index {
+        None => locals(&x.present.offsets, places, arena, steps),
+        Some(index) => {
+            let numbers = numbers_of(alloc, index, steps)?;
+            found(&numbers, x.offsets, places, arena, steps)
+        }
+    }
+}
+
+/// The place of the least or of the greatest item of each list.
+pub(crate) fn extreme_indexes<'a, N: Kernels, L: Ledger>(
+    alloc: Global,
+    how: Extreme,
+    x: &JoinedItems<'_, 'a>,
+    kernels: &N,
+    arena: &'a Arena,
+    steps: &mut Steps<L>,
+) -> Result<Made<'a>, NoMemory>
+    requires { AreReady x.now.items.now x.now.offsets.now x.now.count x.now.present.now }
+    ensures { IfOk result (AreReduced (place_reducer how) x.now.items.now x.now.offsets.now
+        x.now.count) }
+{
+    let places = places_of(alloc, how, x, kernels, arena, steps)?;
+    let numbers = places_in(alloc, x, &places, arena, steps)?;
+    Ok(Made::Singles(optional_node(alloc, &places, numbers, arena, steps)?))
+}

@@ -1,0 +1,14 @@
+//! Lists whose items lie one after another.
+use awk_lanes::Lane;
+use awk_layout::Array;
+use awk_present::Present;
+
+/// The items of lists one after another, with their offsets, those that are not null, and how many
+/// lists there are.
+#[derive(Drop)]
+pub(crate) struct JoinedItems<'b, 'a> {
+    pub items: &'b Array<'a>,
+    pub offsets: &'b Lane<'a>,
+    pub present: &'b Present<'a>,
+    pub count: u64,
+}

@@ -1,0 +1,64 @@
+//! Sums, products, counts and truth.
+ghost use Rattle.std.specs.Prelude.{◌≡◌, IfOk};
+ghost use Rattle.awk_reduce.specs.Lists.{AreReady, AreReduced};
+ghost use Rattle.awk_reduce.specs.Totals.{fold_reducer, tally_reducer};
+
+use crate::joined::JoinedItems;
+use crate::types::{leaf_of, wide};
+use awk_axis::{Made, Spoil};
+use awk_kernels::Kernels;
+use awk_lanes::{Arena, Steps};
+use awk_layout::Node;
+use awk_numbers::{Fold, Tally, whole_of};
+use awk_parts::{Parts, fold_parts, tally_parts};
+use awk_types::NoMemory;
+use std::alloc::Global;
+use std::sync::ledger::Ledger;
+
+/// The sum or product of each list, or that one does not fit its type.
+pub(crate) fn folds<'a, N: Kernels, L: Ledger>(
+    alloc: Global,
+    how: Fold,
+    x: &JoinedItems<'_, 'a>,
+    kernels: &N,
+    arena: &'a Arena,
+    steps: &mut Steps<L>,
+) -> Result<Made<'a>, NoMemory>
+    requires { AreReady x.now.items.now x.now.offsets.now x.now.count x.now.present.now }
+    ensures { IfOk result (AreReduced (fold_reducer how) x.now.items.now x.now.offsets.now
+        x.now.count) }
+{
+    let numbers = whole_of(alloc, &x.present.lane, steps)?;
+    let parts = Parts {
+        numbers: &numbers,
+        offsets: &x.present.offsets,
+        count: x.count,
+    };
+    let prim = wide(leaf_of(x.items.typ()));
+    match fold_parts(how, prim, &parts, kernels, arena, steps)? {
+        Some(lane) => Ok(Made::Singles(Node::numpy(lane, steps))),
+        None => Ok(Made::Spoiled(Spoil::Overflow)),
+    }
+}
+
+/// A count of each list, or whether some or all of its items are true or not 0.
+pub(crate) fn tallies<'a, L: Ledger>(
+    alloc: Global,
+    how: Tally,
+    x: &JoinedItems<'_, 'a>,
+    arena: &'a Arena,
+    steps: &mut Steps<L>,
+) -> Result<Made<'a>, NoMemory>
+    requires { AreReady x.now.items.now x.now.offsets.now x.now.count x.now.present.now }
+    ensures { IfOk result (AreReduced (tally_reducer how) x.now.items.now x.now.offsets.now
+        x.now.count) }
+{
+    let numbers = whole_of(alloc, &x.present.lane, steps)?;
+    let parts = Parts {
+        numbers: &numbers,
+        offsets: &x.present.offsets,
+        count: x.count,
+    };
+    let lane = tally_parts(how, &parts, arena, steps)?;
+    Ok(Made::Singles(Node::numpy(lane, steps)))
+}
