@@ -29,9 +29,16 @@ fn arith<K: Kernels>(
     Ok(quickest!(
         rt,
         _i,
-        kernels.arith_i64(
-            black_box(op), a, b, black_box(i64::MIN), black_box(i64::MAX), out,
-        ).is_none()
+        kernels
+            .arith_i64(
+                black_box(op),
+                a,
+                b,
+                black_box(i64::MIN),
+                black_box(i64::MAX),
+                out,
+            )
+            .is_none()
     ))
 }
 
@@ -49,7 +56,9 @@ fn arith_nat<K: Kernels>(
     Ok(quickest!(
         rt,
         _i,
-        kernels.arith_u64(black_box(op), a, b, black_box(u64::MAX), out).is_none()
+        kernels
+            .arith_u64(black_box(op), a, b, black_box(u64::MAX), out)
+            .is_none()
     ))
 }
 

@@ -29,8 +29,7 @@ mod totals;
 use awk_kernels::{Kernels, Plain};
 use awk_simd::Wide;
 use data::Lanes;
-use std::env;
-use std::io;
+use std::{env, io};
 
 fn time<K: Kernels>(
     rt: &HostRuntime,

@@ -96,8 +96,18 @@ fn time_comparison<K: Kernels>(
         return Ok(());
     }
     report(rt, name, method[0], compare(rt, kernels, how, a, b, flags)?)?;
-    report(rt, name, method[1], compare_nat(rt, kernels, how, nat_a, nat_b, flags)?)?;
-    report(rt, name, method[2], compare_mixed(rt, kernels, how, a, nat_b, flags)?)
+    report(
+        rt,
+        name,
+        method[1],
+        compare_nat(rt, kernels, how, nat_a, nat_b, flags)?,
+    )?;
+    report(
+        rt,
+        name,
+        method[2],
+        compare_mixed(rt, kernels, how, a, nat_b, flags)?,
+    )
 }
 
 fn time_choice<K: Kernels>(
@@ -111,7 +121,12 @@ fn time_choice<K: Kernels>(
     if a.len() != mask.len() || b.len() != mask.len() || out.len() != mask.len() {
         return Ok(());
     }
-    report(rt, name, "select_i64", choose(rt, kernels, mask, a, b, out)?)
+    report(
+        rt,
+        name,
+        "select_i64",
+        choose(rt, kernels, mask, a, b, out)?,
+    )
 }
 
 fn time_choice_nat<K: Kernels>(
@@ -125,7 +140,12 @@ fn time_choice_nat<K: Kernels>(
     if a.len() != mask.len() || b.len() != mask.len() || out.len() != mask.len() {
         return Ok(());
     }
-    report(rt, name, "select_u64", choose_nat(rt, kernels, mask, a, b, out)?)
+    report(
+        rt,
+        name,
+        "select_u64",
+        choose_nat(rt, kernels, mask, a, b, out)?,
+    )
 }
 
 pub(crate) fn time<K: Kernels>(

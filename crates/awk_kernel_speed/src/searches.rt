@@ -11,13 +11,23 @@ fn in_order<K: Kernels>(rt: &HostRuntime, kernels: &K, xs: &[i64], ys: &[i64]) -
     requires { 8 ≤ length xs.now }
     requires { length ys.now ≡ length xs.now }
 {
-    Ok(quickest!(rt, i, kernels.first_out_of_order(&xs[i % 8..], &ys[i % 8..]).is_none()))
+    Ok(quickest!(
+        rt,
+        i,
+        kernels
+            .first_out_of_order(&xs[i % 8..], &ys[i % 8..])
+            .is_none()
+    ))
 }
 
 fn outside<K: Kernels>(rt: &HostRuntime, kernels: &K, xs: &[i64]) -> io::Result<u128>
     requires { 8 ≤ length xs.now }
 {
-    Ok(quickest!(rt, i, kernels.first_outside(&xs[i % 8..], 0, i64::MAX).is_none()))
+    Ok(quickest!(
+        rt,
+        i,
+        kernels.first_outside(&xs[i % 8..], 0, i64::MAX).is_none()
+    ))
 }
 
 fn greatest<K: Kernels>(rt: &HostRuntime, kernels: &K, xs: &[i64]) -> io::Result<u128>
@@ -48,7 +58,12 @@ pub(crate) fn time<K: Kernels>(
     if xs.len() < 8 || ys.len() < 8 || stops.len() != xs.len() {
         return Ok(());
     }
-    report(rt, name, "first_out_of_order", in_order(rt, kernels, xs, stops)?)?;
+    report(
+        rt,
+        name,
+        "first_out_of_order",
+        in_order(rt, kernels, xs, stops)?,
+    )?;
     report(rt, name, "first_outside", outside(rt, kernels, xs)?)?;
     report(rt, name, "greatest", greatest(rt, kernels, xs)?)?;
     report(rt, name, "first_greatest", first_greatest(rt, kernels, xs)?)?;

@@ -27,12 +27,7 @@ fn sum_nat<K: Kernels>(rt: &HostRuntime, kernels: &K, xs: &[u64]) -> io::Result<
     Ok(quickest!(rt, i, kernels.sum_u64(&xs[i % 8..])))
 }
 
-fn sums<K: Kernels>(
-    rt: &HostRuntime,
-    kernels: &K,
-    xs: &[u64],
-    out: &mut [u64],
-) -> io::Result<u128>
+fn sums<K: Kernels>(rt: &HostRuntime, kernels: &K, xs: &[u64], out: &mut [u64]) -> io::Result<u128>
     requires { length out.old ≡ length xs.now + 1 }
 {
     Ok(quickest!(rt, _i, kernels.prefix_sums(xs, out).is_none()))
@@ -54,5 +49,10 @@ pub(crate) fn time<K: Kernels>(
     report(rt, name, "count_true", count(rt, kernels, &lanes.mask)?)?;
     report(rt, name, "sum_i64", sum(rt, kernels, &lanes.a)?)?;
     report(rt, name, "sum_u64", sum_nat(rt, kernels, &lanes.nat_a)?)?;
-    report(rt, name, "prefix_sums", sums(rt, kernels, &lanes.nat_a, &mut lanes.sums)?)
+    report(
+        rt,
+        name,
+        "prefix_sums",
+        sums(rt, kernels, &lanes.nat_a, &mut lanes.sums)?,
+    )
 }

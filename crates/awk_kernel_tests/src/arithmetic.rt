@@ -23,14 +23,7 @@ const PAIRS: [(i64, i64); 6] = [
     (i64::MIN, -1),
 ];
 
-fn same_arith(
-    rt: &impl Abort,
-    op: Arith,
-    a: &[i64],
-    b: &[i64],
-    wide: &mut [i64],
-    plain: &mut [i64],
-)
+fn same_arith(rt: &impl Abort, op: Arith, a: &[i64], b: &[i64], wide: &mut [i64], plain: &mut [i64])
     requires b { length b.now ≡ length a.now }
     requires wide { length wide.old ≡ length a.now }
     requires plain { length plain.old ≡ length a.now }

@@ -56,7 +56,7 @@ module _ (mask : List ℕ) (at : ℕ) (rm : at + 8 ≤ length mask) (k : ℕ) (p
       → at + 8 ≤ length out
       → FitsSigned w64 (get_or xs k (pos 0)) → FitsSigned w64 (get_or ys k (pos 0))
       → get_or (put_chunk at out (map (to_z w64) (by_mask at mask (loaded at xs) (loaded at ys)))) k (pos 0)
-          ≡ cond (get_or mask k 0 == 0) (get_or ys k (pos 0)) (get_or xs k (pos 0))
+      ≡ cond (get_or mask k 0 == 0) (get_or ys k (pos 0)) (get_or xs k (pos 0))
   choice_stored xs ys out rx ry ro fx fy =
       let m = get_or mask k 0 == 0 in
       let us = loaded at xs in
@@ -73,7 +73,7 @@ module _ (mask : List ℕ) (at : ℕ) (rm : at + 8 ≤ length mask) (k : ℕ) (p
   pub choice_stored-nat : (xs ys out : List ℕ) → at + 8 ≤ length xs → at + 8 ≤ length ys
       → at + 8 ≤ length out
       → get_or (put_chunk at out (by_mask at mask (chunk at 8 xs) (chunk at 8 ys))) k 0
-          ≡ cond (get_or mask k 0 == 0) (get_or ys k 0) (get_or xs k 0)
+      ≡ cond (get_or mask k 0 == 0) (get_or ys k 0) (get_or xs k 0)
   choice_stored-nat xs ys out rx ry ro =
       let us = chunk at 8 xs in
       let vs = chunk at 8 ys in

@@ -50,9 +50,9 @@ raised_fits (negsuc n) f =
 
 flag_is : (z : ℤ) (y l e g : ℕ) → FitsSigned w64 z
     → cond (below (of_z w64 z) 0) l
-        (cond (nat_lt (size_of (cond (below (of_z w64 z) 0) 0 (of_z w64 z))) y) l
-            (cond (nat_eq (size_of (cond (below (of_z w64 z) 0) 0 (of_z w64 z))) y) e g))
-        ≡ flag l e g z (pos y)
+    (cond (nat_lt (size_of (cond (below (of_z w64 z) 0) 0 (of_z w64 z))) y) l
+    (cond (nat_eq (size_of (cond (below (of_z w64 z) 0) 0 (of_z w64 z))) y) e g))
+    ≡ flag l e g z (pos y)
 flag_is (pos n) y l e g f =
     ap (λ b. cond b l (cond (nat_lt (size_of (cond b 0 n)) y) l (cond (nat_eq (size_of (cond b 0 n)) y) e g)))
     (is_plus n f)
@@ -85,8 +85,10 @@ sizes_fit xs at room known = Each1-from_get_or IsSize (raised us) 0 each
   where
     us : List ℕ
     us = loaded at xs
+
     lu : length us ≡ 8
     lu = length-loaded at xs room
+
     each : (i : ℕ) → i < length (raised us) → IsSize (get_or (raised us) i 0)
     each i l =
         let m : i < 8 = omega (arith, l, length-raised us lu) in
@@ -101,7 +103,7 @@ pub flags_stored-mixed : (l e g at : ℕ) (out : List ℕ) (xs : List ℤ) (ys :
     → at + 8 ≤ length out → at + 8 ≤ length xs → at + 8 ≤ length ys → at ≤ k → k < at + 8
     → FitsSigned w64 (get_or xs k (pos 0))
     → get_or (put_chunk at out (map (λ u. u) (mixed_flags (loaded at xs) (chunk at 8 ys) l e g))) k 0
-        ≡ flag l e g (get_or xs k (pos 0)) (pos (get_or ys k 0))
+    ≡ flag l e g (get_or xs k (pos 0)) (pos (get_or ys k 0))
 flags_stored-mixed l e g at out xs ys k ro rx ry p q f =
     let us = loaded at xs in
     let vs = chunk at 8 ys in

@@ -31,6 +31,7 @@ all_made all out new n d l e h r =
     append_none : {A : Type 0} (xs : List A) → xs ++ [] ≡ xs
     append_none [] = refl
     append_none (x ∷ xs) = ap (λ l. x ∷ l) (append_none xs)
+
     first : take n out ≡ take n all
     first =
         ext_get_or d (take n out) (take n all) (omega (arith, length-take n out, length-take n all, e))
@@ -53,6 +54,7 @@ all_made_by g all out new n d l e h r =
     append_none : {A : Type 0} (xs : List A) → xs ++ [] ≡ xs
     append_none [] = refl
     append_none (x ∷ xs) = ap (λ l. x ∷ l) (append_none xs)
+
     first : map g (take n out) ≡ take n all
     first =
         ext_get_or (g d) (map g (take n out)) (take n all)
@@ -175,6 +177,7 @@ position_later p xs n d l h =
   where
     both : (m k : ℕ) → nat_lt (n + m) (n + k) ≡ nat_lt m k
     both m k = grind arith
+
     pushed : (m : ℕ) (b : Bool)
         → cond b (Some (n + m)) None ≡ option_map (λ i. n + i) (cond b (Some m) None)
     pushed m true = refl

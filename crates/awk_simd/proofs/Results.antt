@@ -48,11 +48,12 @@ lane_within : (lo hi : ℤ) (s : List ℕ) (j : ℕ) → FitsSigned w64 lo → F
 lane_within lo hi s j fl fh e l m n =
     let z = to_z w64 (get_or s j 0) in
     let low = get_or-replicate 8 j (of_z w64 lo) 0 l in
-    let high = get_or-replicate 8 j (of_z w64 hi) 0 l in
-    (ap (int_lt z) (sym (to_z-of_z w64 lo fl) ∙ ap (to_z w64) (sym low))
-    ∙ no_mark below s (replicate 8 (of_z w64 lo)) j e (length-replicate 8 (of_z w64 lo)) l m,
-    ap (λ h. int_lt h z) (sym (to_z-of_z w64 hi fh) ∙ ap (to_z w64) (sym high))
-    ∙ no_mark below (replicate 8 (of_z w64 hi)) s j (length-replicate 8 (of_z w64 hi)) e l n)
+    let high = get_or-replicate 8 j (of_z w64 hi) 0 l in (
+      ap (int_lt z) (sym (to_z-of_z w64 lo fl) ∙ ap (to_z w64) (sym low))
+          ∙ no_mark below s (replicate 8 (of_z w64 lo)) j e (length-replicate 8 (of_z w64 lo)) l m,
+      ap (λ h. int_lt h z) (sym (to_z-of_z w64 hi fh) ∙ ap (to_z w64) (sym high))
+          ∙ no_mark below (replicate 8 (of_z w64 hi)) s j (length-replicate 8 (of_z w64 hi)) e l n,
+    )
 
 module _ (xs ys : List ℤ) (at : ℕ) (rx : at + 8 ≤ length xs) (ry : at + 8 ≤ length ys)
     (lo hi : ℤ) (fl : FitsSigned w64 lo) (fh : FitsSigned w64 hi) (k : ℕ) (p : at ≤ k)
@@ -83,11 +84,11 @@ module _ (xs ys : List ℤ) (at : ℕ) (rx : at + 8 ≤ length xs) (ry : at + 8 
 
   pub sum_made :
       mask below (zip2 wrapped_sum (loaded at xs) (loaded at ys)) (loaded at xs)
-          ≡ mask below (loaded at ys) (replicate 8 0)
+      ≡ mask below (loaded at ys) (replicate 8 0)
       → mask below (zip2 wrapped_sum (loaded at xs) (loaded at ys)) (replicate 8 (of_z w64 lo)) ≡ 0
       → mask below (replicate 8 (of_z w64 hi)) (zip2 wrapped_sum (loaded at xs) (loaded at ys)) ≡ 0
       → leaf Add lo hi (get_or xs k (pos 0)) (get_or ys k (pos 0))
-          ≡ Ok (to_z w64 (get_or (zip2 wrapped_sum (loaded at xs) (loaded at ys)) (k - at) 0))
+      ≡ Ok (to_z w64 (get_or (zip2 wrapped_sum (loaded at xs) (loaded at ys)) (k - at) 0))
   sum_made e m n =
       let x = get_or xs k (pos 0) in
       let y = get_or ys k (pos 0) in
@@ -104,13 +105,13 @@ module _ (xs ys : List ℤ) (at : ℕ) (rx : at + 8 ≤ length xs) (ry : at + 8 
 
   pub difference_made :
       mask below (loaded at xs) (zip2 wrapped_difference (loaded at xs) (loaded at ys))
-          ≡ mask below (loaded at ys) (replicate 8 0)
+      ≡ mask below (loaded at ys) (replicate 8 0)
       → mask below (zip2 wrapped_difference (loaded at xs) (loaded at ys))
-          (replicate 8 (of_z w64 lo)) ≡ 0
+      (replicate 8 (of_z w64 lo)) ≡ 0
       → mask below (replicate 8 (of_z w64 hi))
-          (zip2 wrapped_difference (loaded at xs) (loaded at ys)) ≡ 0
+      (zip2 wrapped_difference (loaded at xs) (loaded at ys)) ≡ 0
       → leaf Sub lo hi (get_or xs k (pos 0)) (get_or ys k (pos 0))
-          ≡ Ok (to_z w64 (get_or (zip2 wrapped_difference (loaded at xs) (loaded at ys)) (k - at) 0))
+      ≡ Ok (to_z w64 (get_or (zip2 wrapped_difference (loaded at xs) (loaded at ys)) (k - at) 0))
   difference_made e m n =
       let x = get_or xs k (pos 0) in
       let y = get_or ys k (pos 0) in
@@ -164,7 +165,7 @@ module _ (xs ys : List ℕ) (at : ℕ) (rx : at + 8 ≤ length xs) (ry : at + 8 
   pub sum_made-nat : mask nat_lt (zip2 wrapped_sum (chunk at 8 xs) (chunk at 8 ys)) (chunk at 8 xs) ≡ 0
       → mask nat_lt (replicate 8 hi) (zip2 wrapped_sum (chunk at 8 xs) (chunk at 8 ys)) ≡ 0
       → leaf Add (pos 0) (pos hi) (pos (get_or xs k 0)) (pos (get_or ys k 0))
-          ≡ Ok (pos (get_or (zip2 wrapped_sum (chunk at 8 xs) (chunk at 8 ys)) (k - at) 0))
+      ≡ Ok (pos (get_or (zip2 wrapped_sum (chunk at 8 xs) (chunk at 8 ys)) (k - at) 0))
   sum_made-nat m n =
       let x = get_or xs k 0 in
       let y = get_or ys k 0 in
@@ -180,7 +181,7 @@ module _ (xs ys : List ℕ) (at : ℕ) (rx : at + 8 ≤ length xs) (ry : at + 8 
   pub difference_made-nat : mask nat_lt (chunk at 8 xs) (chunk at 8 ys) ≡ 0
       → mask nat_lt (replicate 8 hi) (zip2 wrapped_difference (chunk at 8 xs) (chunk at 8 ys)) ≡ 0
       → leaf Sub (pos 0) (pos hi) (pos (get_or xs k 0)) (pos (get_or ys k 0))
-          ≡ Ok (pos (get_or (zip2 wrapped_difference (chunk at 8 xs) (chunk at 8 ys)) (k - at) 0))
+      ≡ Ok (pos (get_or (zip2 wrapped_difference (chunk at 8 xs) (chunk at 8 ys)) (k - at) 0))
   difference_made-nat m n =
       let x = get_or xs k 0 in
       let y = get_or ys k 0 in

@@ -23,7 +23,7 @@ fn add_block(a: &[i64], b: &[i64], at: usize, lo: i64, hi: i64, out: &mut [i64])
     ensures below { (k : ℕ) → k < at → get_or out.new k (pos 0) ≡ get_or out.old k (pos 0) }
     ensures made { IsTrue result → (k : ℕ) → at ≤ k → k < at + 8
         → leaf Add lo hi (get_or a.now k (pos 0)) (get_or b.now k (pos 0))
-            ≡ Ok (get_or out.new k (pos 0)) }
+        ≡ Ok (get_or out.new k (pos 0)) }
 {
     let x = i64x8::from_slice(&a[at..]);
     let y = i64x8::from_slice(&b[at..]);
@@ -49,7 +49,7 @@ fn subtract_block(a: &[i64], b: &[i64], at: usize, lo: i64, hi: i64, out: &mut [
     ensures below { (k : ℕ) → k < at → get_or out.new k (pos 0) ≡ get_or out.old k (pos 0) }
     ensures made { IsTrue result → (k : ℕ) → at ≤ k → k < at + 8
         → leaf Sub lo hi (get_or a.now k (pos 0)) (get_or b.now k (pos 0))
-            ≡ Ok (get_or out.new k (pos 0)) }
+        ≡ Ok (get_or out.new k (pos 0)) }
 {
     let x = i64x8::from_slice(&a[at..]);
     let y = i64x8::from_slice(&b[at..]);
@@ -71,7 +71,7 @@ fn arith_blocks(op: Arith, a: &[i64], b: &[i64], lo: i64, hi: i64, out: &mut [i6
     ensures within { result ≤ length a.now }
     ensures made { (k : ℕ) → k < result
         → leaf op lo hi (get_or a.now k (pos 0)) (get_or b.now k (pos 0))
-            ≡ Ok (get_or out.new k (pos 0)) }
+        ≡ Ok (get_or out.new k (pos 0)) }
 {
     known(a);
     known(b);
@@ -116,7 +116,7 @@ fn add_nat_block(a: &[u64], b: &[u64], at: usize, hi: u64, out: &mut [u64]) -> b
     ensures below { (k : ℕ) → k < at → get_or out.new k 0 ≡ get_or out.old k 0 }
     ensures made { IsTrue result → (k : ℕ) → at ≤ k → k < at + 8
         → leaf Add (pos 0) (pos hi) (pos (get_or a.now k 0)) (pos (get_or b.now k 0))
-            ≡ Ok (pos (get_or out.new k 0)) }
+        ≡ Ok (pos (get_or out.new k 0)) }
 {
     let x = u64x8::from_slice(&a[at..]);
     let z = x + u64x8::from_slice(&b[at..]);
@@ -136,7 +136,7 @@ fn subtract_nat_block(a: &[u64], b: &[u64], at: usize, hi: u64, out: &mut [u64])
     ensures below { (k : ℕ) → k < at → get_or out.new k 0 ≡ get_or out.old k 0 }
     ensures made { IsTrue result → (k : ℕ) → at ≤ k → k < at + 8
         → leaf Sub (pos 0) (pos hi) (pos (get_or a.now k 0)) (pos (get_or b.now k 0))
-            ≡ Ok (pos (get_or out.new k 0)) }
+        ≡ Ok (pos (get_or out.new k 0)) }
 {
     let x = u64x8::from_slice(&a[at..]);
     let y = u64x8::from_slice(&b[at..]);
@@ -155,7 +155,7 @@ fn arith_nat_blocks(op: Arith, a: &[u64], b: &[u64], hi: u64, out: &mut [u64]) -
     ensures within { result ≤ length a.now }
     ensures made { (k : ℕ) → k < result
         → leaf op (pos 0) (pos hi) (pos (get_or a.now k 0)) (pos (get_or b.now k 0))
-            ≡ Ok (pos (get_or out.new k 0)) }
+        ≡ Ok (pos (get_or out.new k 0)) }
 {
     for n in 0..a.len() / 8 {
         let made = match op {

@@ -53,7 +53,10 @@ pub(crate) fn arith(
     ensures written { IsNone result → map Ok out.new ≡ leaves op lo hi a.now b.now }
 {
     match Plain.arith_i64(op, &a[made..], &b[made..], lo, hi, &mut out[made..]) {
-        Some(broken) => Some(Broken { place: made + broken.place, why: broken.why }),
+        Some(broken) => Some(Broken {
+            place: made + broken.place,
+            why: broken.why,
+        }),
         None => None,
     }
 }
@@ -77,7 +80,10 @@ pub(crate) fn arith_nat(
         → map (λ z. Ok (pos z)) out.new ≡ nat_leaves op hi a.now b.now }
 {
     match Plain.arith_u64(op, &a[made..], &b[made..], hi, &mut out[made..]) {
-        Some(broken) => Some(Broken { place: made + broken.place, why: broken.why }),
+        Some(broken) => Some(Broken {
+            place: made + broken.place,
+            why: broken.why,
+        }),
         None => None,
     }
 }

@@ -6,4 +6,4 @@ use Rattle.awk_simd.proofs.arithmetic.arith_blocks.Given as goal
 abbrev pub invariant-loop-n : goal.invariant-loop-n
 invariant-loop-n l = (k : ℕ) → k < l.n * 8
     → leaf l.fn.op l.fn.lo l.fn.hi (get_or l.a k (pos 0)) (get_or l.b k (pos 0))
-        ≡ Ok (get_or l.out k (pos 0))
+    ≡ Ok (get_or l.out k (pos 0))
