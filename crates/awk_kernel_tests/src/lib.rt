@@ -1,5 +1,5 @@
-//! The kernels over vectors beside the plain ones, at each length around the widths of vectors, with
-//! one place that is unlike all others at each place in turn, and with none.
+//! The kernels over vectors beside the plain ones, at each length around the widths of vectors,
+//! with one place that is unlike all others at each place in turn, and with none.
 #![tactic(auto)]
 
 #[cfg(test)]

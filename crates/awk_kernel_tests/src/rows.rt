@@ -1,4 +1,5 @@
-// Seventy numbers, of which the one at a place is unlike all others: past the last place it is none.
+// Seventy numbers, of which the one at a place is unlike all others: past the last place it is
+// none.
 
 pub(crate) fn numbers(place: usize, all: i64, one: i64) -> [i64; 70] {
     let mut xs = [all; 70];

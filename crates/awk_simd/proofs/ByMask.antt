@@ -55,7 +55,8 @@ module _ (mask : List ℕ) (at : ℕ) (rm : at + 8 ≤ length mask) (k : ℕ) (p
   pub choice_stored : (xs ys out : List ℤ) → at + 8 ≤ length xs → at + 8 ≤ length ys
       → at + 8 ≤ length out
       → FitsSigned w64 (get_or xs k (pos 0)) → FitsSigned w64 (get_or ys k (pos 0))
-      → get_or (put_chunk at out (map (to_z w64) (by_mask at mask (loaded at xs) (loaded at ys)))) k (pos 0)
+      → get_or (put_chunk at out
+      (map (to_z w64) (by_mask at mask (loaded at xs) (loaded at ys)))) k (pos 0)
       ≡ cond (get_or mask k 0 == 0) (get_or ys k (pos 0)) (get_or xs k (pos 0))
   choice_stored xs ys out rx ry ro fx fy =
       let m = get_or mask k 0 == 0 in
@@ -68,7 +69,8 @@ module _ (mask : List ℕ) (at : ℕ) (rm : at + 8 ≤ length mask) (k : ℕ) (p
       ∙ ap (to_z w64) (choice_at mask us vs at rm lu lv k p q
       ∙ ap₂ (cond m) (lane_at ys at k ry p q) (lane_at xs at k rx p q))
       ∙ pushed (to_z w64) m (of_z w64 (get_or ys k (pos 0))) (of_z w64 (get_or xs k (pos 0)))
-      ∙ ap₂ (cond m) (to_z-of_z w64 (get_or ys k (pos 0)) fy) (to_z-of_z w64 (get_or xs k (pos 0)) fx)
+      ∙ ap₂ (cond m) (to_z-of_z w64 (get_or ys k (pos 0)) fy)
+      (to_z-of_z w64 (get_or xs k (pos 0)) fx)
 
   pub choice_stored-nat : (xs ys out : List ℕ) → at + 8 ≤ length xs → at + 8 ≤ length ys
       → at + 8 ≤ length out

@@ -26,7 +26,8 @@ size_of a = nat_abs (to_z w64 a)
 
 abbrev pub mixed_flags : List ℕ → List ℕ → ℕ → ℕ → ℕ → List ℕ
 mixed_flags us vs l e g =
-    picked below us (replicate 8 0) (replicate 8 l) (flags nat_lt (map size_of (raised us)) vs l e g)
+    picked below us (replicate 8 0) (replicate 8 l)
+    (flags nat_lt (map size_of (raised us)) vs l e g)
 
 -- a lane that a cast to u64 takes
 abbrev pub IsSize : ℕ → Type 0
@@ -54,14 +55,16 @@ flag_is : (z : ℤ) (y l e g : ℕ) → FitsSigned w64 z
     (cond (nat_eq (size_of (cond (below (of_z w64 z) 0) 0 (of_z w64 z))) y) e g))
     ≡ flag l e g z (pos y)
 flag_is (pos n) y l e g f =
-    ap (λ b. cond b l (cond (nat_lt (size_of (cond b 0 n)) y) l (cond (nat_eq (size_of (cond b 0 n)) y) e g)))
+    ap (λ b. cond b l
+    (cond (nat_lt (size_of (cond b 0 n)) y) l (cond (nat_eq (size_of (cond b 0 n)) y) e g)))
     (is_plus n f)
     ∙ ap (λ i. cond (nat_lt (nat_abs i) y) l (cond (nat_eq (nat_abs i) y) e g))
     (to_z-of_z w64 (pos n) f)
     ∙ ap (λ b. cond (nat_lt n y) l (cond b e g)) (same_sizes n y)
 flag_is (negsuc n) y l e g f =
     let u = of_z w64 (negsuc n) in
-    ap (λ b. cond b l (cond (nat_lt (size_of (cond b 0 u)) y) l (cond (nat_eq (size_of (cond b 0 u)) y) e g)))
+    ap (λ b. cond b l
+    (cond (nat_lt (size_of (cond b 0 u)) y) l (cond (nat_eq (size_of (cond b 0 u)) y) e g)))
     (is_minus n f)
 
 eight : (p : ℕ) → length {A = ℕ} (replicate 8 p) ≡ 8
@@ -69,7 +72,8 @@ eight p = length-replicate {A = ℕ} 8 p
 
 module _ (us : List ℕ) (lu : length us ≡ 8) where
   length-raised : length (raised us) ≡ 8
-  length-raised = length-picked below us (replicate 8 0) (replicate 8 0) us lu (eight 0) (eight 0) lu
+  length-raised = length-picked below us (replicate 8 0) (replicate 8 0) us lu (eight 0)
+      (eight 0) lu
 
   raised_at : (j : ℕ) → j < 8
       → get_or (raised us) j 0 ≡ cond (below (get_or us j 0) 0) 0 (get_or us j 0)
@@ -95,14 +99,16 @@ sizes_fit xs at room known = Each1-from_get_or IsSize (raised us) 0 each
         let back : at + i - at ≡ i = omega arith in
         let x = get_or xs (at + i) (pos 0) in
         let lane : get_or us i 0 ≡ of_z w64 x =
-        ap (λ j. get_or us j 0) (sym back) ∙ lane_at xs at (at + i) room (omega arith) (omega arith) in
+        ap (λ j. get_or us j 0) (sym back) ∙ lane_at xs at (at + i) room (omega arith)
+        (omega arith) in
         subst IsSize (sym (raised_at us lu i m ∙ ap (λ u. cond (below u 0) 0 u) lane))
         (raised_fits x (known (at + i) (omega (arith, room))))
 
 pub flags_stored-mixed : (l e g at : ℕ) (out : List ℕ) (xs : List ℤ) (ys : List ℕ) (k : ℕ)
     → at + 8 ≤ length out → at + 8 ≤ length xs → at + 8 ≤ length ys → at ≤ k → k < at + 8
     → FitsSigned w64 (get_or xs k (pos 0))
-    → get_or (put_chunk at out (map (λ u. u) (mixed_flags (loaded at xs) (chunk at 8 ys) l e g))) k 0
+    → get_or (put_chunk at out
+    (map (λ u. u) (mixed_flags (loaded at xs) (chunk at 8 ys) l e g))) k 0
     ≡ flag l e g (get_or xs k (pos 0)) (pos (get_or ys k 0))
 flags_stored-mixed l e g at out xs ys k ro rx ry p q f =
     let us = loaded at xs in

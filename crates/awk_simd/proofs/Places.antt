@@ -42,16 +42,19 @@ pub first_least_next : (xs : List ℤ) (i place : ℕ) → i < length xs
     → IsFirstLeast xs i place → IsFirstLeast xs (i + 1) i
 first_least_next xs i place l t h = record {
   inside = l;
-  before = λ k q. less_than (get_or xs i (pos 0)) (get_or xs place (pos 0)) (get_or xs k (pos 0)) t (h.bound k q);
+  before = λ k q. less_than (get_or xs i (pos 0)) (get_or xs place (pos 0))
+      (get_or xs k (pos 0)) t (h.bound k q);
   bound = λ k q. at k q (cases_lt k i);
 }
   where
     at : (k : ℕ) → k < i + 1 → (k < i) ⊎ (i ≤ k)
         → int_lt (get_or xs k (pos 0)) (get_or xs i (pos 0)) ≡ false
-    at k q (inl m) = not_less (get_or xs i (pos 0)) (get_or xs place (pos 0)) (get_or xs k (pos 0)) t (h.bound k m)
+    at k q (inl m) = not_less (get_or xs i (pos 0)) (get_or xs place (pos 0))
+        (get_or xs k (pos 0)) t (h.bound k m)
     at k q (inr m) =
         let e : k ≡ i = omega arith in
-        ap (λ j. int_lt (get_or xs j (pos 0)) (get_or xs i (pos 0))) e ∙ itself (get_or xs i (pos 0))
+        ap (λ j. int_lt (get_or xs j (pos 0)) (get_or xs i (pos 0))) e ∙ itself
+        (get_or xs i (pos 0))
 
 -- none of the numbers from n to m is less
 pub first_least_past : (xs : List ℤ) (n m place : ℕ)
@@ -73,7 +76,8 @@ pub first_least_kept : (xs : List ℤ) (i place : ℕ)
     → IsFirstLeast xs i place → IsFirstLeast xs (i + 1) place
 first_least_kept xs i place t h =
     first_least_past xs i (i + 1) place
-    (λ k p q. let e : k ≡ i = omega arith in ap (λ j. int_lt (get_or xs j (pos 0)) (get_or xs place (pos 0))) e ∙ t)
+    (λ k p q. let e : k ≡ i = omega arith in ap
+    (λ j. int_lt (get_or xs j (pos 0)) (get_or xs place (pos 0))) e ∙ t)
     h
 
 below_from : (x y : ℤ) → int_lt x y ≡ true → x <ℤ y
@@ -106,16 +110,19 @@ pub first_greatest_next : (xs : List ℤ) (i place : ℕ) → i < length xs
     → IsFirstGreatest xs i place → IsFirstGreatest xs (i + 1) i
 first_greatest_next xs i place l t h = record {
   inside = l;
-  before = λ k q. more_than (get_or xs i (pos 0)) (get_or xs place (pos 0)) (get_or xs k (pos 0)) t (h.bound k q);
+  before = λ k q. more_than (get_or xs i (pos 0)) (get_or xs place (pos 0))
+      (get_or xs k (pos 0)) t (h.bound k q);
   bound = λ k q. at k q (cases_lt k i);
 }
   where
     at : (k : ℕ) → k < i + 1 → (k < i) ⊎ (i ≤ k)
         → int_lt (get_or xs i (pos 0)) (get_or xs k (pos 0)) ≡ false
-    at k q (inl m) = not_more (get_or xs i (pos 0)) (get_or xs place (pos 0)) (get_or xs k (pos 0)) t (h.bound k m)
+    at k q (inl m) = not_more (get_or xs i (pos 0)) (get_or xs place (pos 0))
+        (get_or xs k (pos 0)) t (h.bound k m)
     at k q (inr m) =
         let e : k ≡ i = omega arith in
-        ap (λ j. int_lt (get_or xs i (pos 0)) (get_or xs j (pos 0))) e ∙ itself (get_or xs i (pos 0))
+        ap (λ j. int_lt (get_or xs i (pos 0)) (get_or xs j (pos 0))) e ∙ itself
+        (get_or xs i (pos 0))
 
 pub first_greatest_past : (xs : List ℤ) (n m place : ℕ)
     → ((k : ℕ) → n ≤ k → k < m → int_lt (get_or xs place (pos 0)) (get_or xs k (pos 0)) ≡ false)
@@ -136,7 +143,8 @@ pub first_greatest_kept : (xs : List ℤ) (i place : ℕ)
     → IsFirstGreatest xs i place → IsFirstGreatest xs (i + 1) place
 first_greatest_kept xs i place t h =
     first_greatest_past xs i (i + 1) place
-    (λ k p q. let e : k ≡ i = omega arith in ap (λ j. int_lt (get_or xs place (pos 0)) (get_or xs j (pos 0))) e ∙ t)
+    (λ k p q. let e : k ≡ i = omega arith in ap
+    (λ j. int_lt (get_or xs place (pos 0)) (get_or xs j (pos 0))) e ∙ t)
     h
 
 pub first_greatest_is : (xs : List ℤ) (place : ℕ) → IsFirstGreatest xs (length xs) place

@@ -34,9 +34,11 @@ all_made all out new n d l e h r =
 
     first : take n out ≡ take n all
     first =
-        ext_get_or d (take n out) (take n all) (omega (arith, length-take n out, length-take n all, e))
+        ext_get_or d (take n out) (take n all)
+        (omega (arith, length-take n out, length-take n all, e))
         (λ k m.
-        get_or-take n out k d (omega (arith, length-take n out)) ∙ h k (omega (arith, length-take n out))
+        get_or-take n out k d (omega (arith, length-take n out)) ∙ h k
+        (omega (arith, length-take n out))
         ∙ sym (get_or-take n all k d (omega (arith, length-take n out))))
 
 -- the same, of what is shown of each place
@@ -102,7 +104,8 @@ chosen-drop (suc n) [] (x ∷ xs) ys e f = absurd (omega arith)
 chosen-drop (suc n) [] [] (y ∷ ys) e f = absurd (omega arith)
 chosen-drop (suc n) (m ∷ mask) [] ys e f = absurd (omega arith)
 chosen-drop (suc n) (m ∷ mask) (x ∷ xs) [] e f = absurd (omega arith)
-chosen-drop (suc n) (m ∷ mask) (x ∷ xs) (y ∷ ys) e f = chosen-drop n mask xs ys (omega arith) (omega arith)
+chosen-drop (suc n) (m ∷ mask) (x ∷ xs) (y ∷ ys) e f = chosen-drop n mask xs ys (omega arith)
+    (omega arith)
 
 -- a place that is counted from n on
 abbrev pub counted_on : ℕ → Broken → Broken

@@ -69,7 +69,8 @@ module _ (xs ys : List ℤ) (at : ℕ) (rx : at + 8 ≤ length xs) (ry : at + 8 
 
   long : (f : ℕ → ℕ → ℕ) → length (zip2 f (loaded at xs) (loaded at ys)) ≡ 8
   long f =
-      length-results f (loaded at xs) (loaded at ys) (length-loaded at xs rx) (length-loaded at ys ry)
+      length-results f (loaded at xs) (loaded at ys) (length-loaded at xs rx)
+      (length-loaded at ys ry)
 
   -- the second number is below 0, as its lane tells
   minus : below (get_or (loaded at ys) (k - at) 0) (get_or (replicate 8 0) (k - at) 0)
@@ -162,7 +163,8 @@ module _ (xs ys : List ℕ) (at : ℕ) (rx : at + 8 ≤ length xs) (ry : at + 8 
       ap (λ h. nat_lt h (get_or s (k - at) 0)) (sym (get_or-replicate 8 (k - at) hi 0 j))
       ∙ no_mark nat_lt (replicate 8 hi) s (k - at) (length-replicate 8 hi) e j n
 
-  pub sum_made-nat : mask nat_lt (zip2 wrapped_sum (chunk at 8 xs) (chunk at 8 ys)) (chunk at 8 xs) ≡ 0
+  pub sum_made-nat : mask nat_lt (zip2 wrapped_sum (chunk at 8 xs) (chunk at 8 ys))
+      (chunk at 8 xs) ≡ 0
       → mask nat_lt (replicate 8 hi) (zip2 wrapped_sum (chunk at 8 xs) (chunk at 8 ys)) ≡ 0
       → leaf Add (pos 0) (pos hi) (pos (get_or xs k 0)) (pos (get_or ys k 0))
       ≡ Ok (pos (get_or (zip2 wrapped_sum (chunk at 8 xs) (chunk at 8 ys)) (k - at) 0))

@@ -21,8 +21,10 @@ returns-clause-made c = λ t k p q.
     let ra = c.requires.room in
     let rb : at + 8 ≤ length b = omega (arith, ra, c.requires.b) in
     let s = zip2 wrapped_sum (chunk at 8 a) (chunk at 8 b) in
-    let long = length-results wrapped_sum (chunk at 8 a) (chunk at 8 b) (length-chunk at 8 a ra) (length-chunk at 8 b rb) in
+    let long = length-results wrapped_sum (chunk at 8 a) (chunk at 8 b) (length-chunk at 8 a ra)
+    (length-chunk at 8 b rb) in
     let fa = c.type_inv.a k in
     let fb = c.type_inv.b k in
     sum_made-nat a b at ra rb c.args.hi k p q fa.fits fb.fits c.if-z-x-ne0.false (zero_mask _ t)
-    ∙ ap (λ z. Ok (pos z)) (sym (stored 0 c.args.out.now s at k long (omega (arith, ra, c.requires.out)) p q))
+    ∙ ap (λ z. Ok (pos z))
+    (sym (stored 0 c.args.out.now s at k long (omega (arith, ra, c.requires.out)) p q))

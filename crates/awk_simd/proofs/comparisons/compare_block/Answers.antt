@@ -9,7 +9,8 @@ pub overflow_cast-out : goal.overflow_cast-out
 overflow_cast-out c =
     let f = c.args.flags in
     let h = c.requires.fits in
-    flags_fit below (loaded c.args.at c.args.a.now) (loaded c.args.at c.args.b.now) f.less f.equal f.greater
+    flags_fit below (loaded c.args.at c.args.a.now)
+    (loaded c.args.at c.args.b.now) f.less f.equal f.greater
     h.0 h.1 h.2
 
 pub returns-clause-below : goal.returns-clause-below
@@ -24,4 +25,5 @@ returns-clause-made c = λ k p q.
     let rb : at + 8 ≤ length b = omega (arith, c.requires.room, c.requires.b) in
     flags_stored f.less f.equal f.greater at c.args.out.now
     (omega (arith, c.requires.room, c.requires.out)) k p q a b c.requires.room rb
-    (c.requires.known_a k (omega (arith, c.requires.room))) (c.requires.known_b k (omega (arith, rb)))
+    (c.requires.known_a k (omega (arith, c.requires.room)))
+    (c.requires.known_b k (omega (arith, rb)))

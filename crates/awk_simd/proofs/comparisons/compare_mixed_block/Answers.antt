@@ -14,7 +14,8 @@ pub overflow_cast-out : goal.overflow_cast-out
 overflow_cast-out c =
     let f = c.args.flags in
     let h = c.requires.fits in
-    mixed_fit (loaded c.args.at c.args.a.now) (chunk c.args.at 8 c.args.b.now) f.less f.equal f.greater
+    mixed_fit (loaded c.args.at c.args.a.now)
+    (chunk c.args.at 8 c.args.b.now) f.less f.equal f.greater
     h.0 h.1 h.2
 
 pub returns-clause-below : goal.returns-clause-below

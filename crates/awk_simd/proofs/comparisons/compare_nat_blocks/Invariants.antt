@@ -5,4 +5,5 @@ use Rattle.awk_simd.proofs.comparisons.compare_nat_blocks.Given as goal
 
 abbrev pub invariant-loop-n : goal.invariant-loop-n
 invariant-loop-n l = (k : ℕ) → k < l.n * 8
-    → get_or l.out k 0 ≡ flag l.flags.less l.flags.equal l.flags.greater (pos (get_or l.a k 0)) (pos (get_or l.b k 0))
+    → get_or l.out k 0 ≡ flag l.flags.less l.flags.equal l.flags.greater (pos (get_or l.a k 0))
+    (pos (get_or l.b k 0))

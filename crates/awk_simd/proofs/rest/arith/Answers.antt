@@ -17,9 +17,12 @@ overflow_add-result c =
     let b = c.args.b.now in
     let n = c.args.made in
     let all = leaves c.args.op c.args.lo c.args.hi a b in
-    let e = rw (to_z-of_z w64 c.args.lo c.ranges.lo, to_z-of_z w64 c.args.hi c.ranges.hi) at c.arith_i64.ensures.broken in
+    let e = rw
+    (to_z-of_z w64 c.args.lo c.ranges.lo, to_z-of_z w64 c.args.hi c.ranges.hi)
+    at c.arith_i64.ensures.broken in
     let found = sym c.in-Some.is ∙ e
-    ∙ ap₂ (λ s t. first_broken (leaves c.args.op c.args.lo c.args.hi s t)) (rest_is n a) (rest_is n b)
+    ∙ ap₂ (λ s t. first_broken (leaves c.args.op c.args.lo c.args.hi s t)) (rest_is n a)
+    (rest_is n b)
     ∙ ap first_broken (zip2-drop (leaf c.args.op c.args.lo c.args.hi) n a b c.requires.b) in
     let within = broken_within (drop n all) c.in-Some.broken found in
     let long : Fits w64 (length a) = search rules in
@@ -32,10 +35,13 @@ returns-in-Some-clause-broken c =
     let b = c.args.b.now in
     let n = c.args.made in
     let all = leaves c.args.op c.args.lo c.args.hi a b in
-    let e = rw (to_z-of_z w64 c.args.lo c.ranges.lo, to_z-of_z w64 c.args.hi c.ranges.hi) at c.arith_i64.ensures.broken in
+    let e = rw
+    (to_z-of_z w64 c.args.lo c.ranges.lo, to_z-of_z w64 c.args.hi c.ranges.hi)
+    at c.arith_i64.ensures.broken in
     ap (option_map (counted_on n))
     (sym c.in-Some.is ∙ e
-    ∙ ap₂ (λ s t. first_broken (leaves c.args.op c.args.lo c.args.hi s t)) (rest_is n a) (rest_is n b)
+    ∙ ap₂ (λ s t. first_broken (leaves c.args.op c.args.lo c.args.hi s t)) (rest_is n a)
+    (rest_is n b)
     ∙ ap first_broken (zip2-drop (leaf c.args.op c.args.lo c.args.hi) n a b c.requires.b))
     ∙ sym (broken_later all n (pos 0)
     (omega (arith, length-leaves c.args.op c.args.lo c.args.hi a b c.requires.b, c.requires.within))
@@ -47,10 +53,13 @@ returns-in-None-clause-broken c =
     let b = c.args.b.now in
     let n = c.args.made in
     let all = leaves c.args.op c.args.lo c.args.hi a b in
-    let e = rw (to_z-of_z w64 c.args.lo c.ranges.lo, to_z-of_z w64 c.args.hi c.ranges.hi) at c.arith_i64.ensures.broken in
+    let e = rw
+    (to_z-of_z w64 c.args.lo c.ranges.lo, to_z-of_z w64 c.args.hi c.ranges.hi)
+    at c.arith_i64.ensures.broken in
     ap (option_map (counted_on n))
     (sym c.in-None.is ∙ e
-    ∙ ap₂ (λ s t. first_broken (leaves c.args.op c.args.lo c.args.hi s t)) (rest_is n a) (rest_is n b)
+    ∙ ap₂ (λ s t. first_broken (leaves c.args.op c.args.lo c.args.hi s t)) (rest_is n a)
+    (rest_is n b)
     ∙ ap first_broken (zip2-drop (leaf c.args.op c.args.lo c.args.hi) n a b c.requires.b))
     ∙ sym (broken_later all n (pos 0)
     (omega (arith, length-leaves c.args.op c.args.lo c.args.hi a b c.requires.b, c.requires.within))
@@ -63,7 +72,9 @@ returns-in-None-clause-written c = λ none.
     let n = c.args.made in
     let all = leaves c.args.op c.args.lo c.args.hi a b in
     let size = length-leaves c.args.op c.args.lo c.args.hi a b c.requires.b in
-    let e = rw (to_z-of_z w64 c.args.lo c.ranges.lo, to_z-of_z w64 c.args.hi c.ranges.hi) at c.in-None.ensures.written in
+    let e = rw
+    (to_z-of_z w64 c.args.lo c.ranges.lo, to_z-of_z w64 c.args.hi c.ranges.hi)
+    at c.in-None.ensures.written in
     all_made_by (λ z. Ok z) all c.args.out.now c.arith_i64.new.out n (pos 0)
     (omega (arith, size, c.requires.within)) (omega (arith, size, c.requires.out)) c.requires.made
     (e none ∙ ap₂ (leaves c.args.op c.args.lo c.args.hi) (rest_is n a) (rest_is n b)

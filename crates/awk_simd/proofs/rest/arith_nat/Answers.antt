@@ -21,7 +21,8 @@ overflow_add-result c =
     let same = length-map b pos ∙ c.requires.b ∙ sym (length-map a pos) in
     let found = sym c.in-Some.is ∙ c.arith_u64.ensures.broken
     ∙ ap₂ (λ s t. first_broken (nat_leaves op hi s t)) (rest_is n a) (rest_is n b)
-    ∙ ap₂ (λ s t. first_broken (leaves op (pos 0) (pos hi) s t)) (sym (drop-map pos n a)) (sym (drop-map pos n b))
+    ∙ ap₂ (λ s t. first_broken (leaves op (pos 0) (pos hi) s t)) (sym (drop-map pos n a))
+    (sym (drop-map pos n b))
     ∙ ap first_broken (zip2-drop (leaf op (pos 0) (pos hi)) n (map pos a) (map pos b) same) in
     let within = broken_within (drop n all) c.in-Some.broken found in
     let long : Fits w64 (length a) = search rules in
@@ -41,7 +42,8 @@ returns-in-Some-clause-broken c =
     ap (option_map (counted_on n))
     (sym c.in-Some.is ∙ c.arith_u64.ensures.broken
     ∙ ap₂ (λ s t. first_broken (nat_leaves op hi s t)) (rest_is n a) (rest_is n b)
-    ∙ ap₂ (λ s t. first_broken (leaves op (pos 0) (pos hi) s t)) (sym (drop-map pos n a)) (sym (drop-map pos n b))
+    ∙ ap₂ (λ s t. first_broken (leaves op (pos 0) (pos hi) s t)) (sym (drop-map pos n a))
+    (sym (drop-map pos n b))
     ∙ ap first_broken (zip2-drop (leaf op (pos 0) (pos hi)) n (map pos a) (map pos b) same))
     ∙ sym (broken_later all n (pos 0) (omega (arith, size, c.requires.within))
     (λ k l. (pos (get_or c.args.out.now k 0), c.requires.made k l)))
@@ -59,7 +61,8 @@ returns-in-None-clause-broken c =
     ap (option_map (counted_on n))
     (sym c.in-None.is ∙ c.arith_u64.ensures.broken
     ∙ ap₂ (λ s t. first_broken (nat_leaves op hi s t)) (rest_is n a) (rest_is n b)
-    ∙ ap₂ (λ s t. first_broken (leaves op (pos 0) (pos hi) s t)) (sym (drop-map pos n a)) (sym (drop-map pos n b))
+    ∙ ap₂ (λ s t. first_broken (leaves op (pos 0) (pos hi) s t)) (sym (drop-map pos n a))
+    (sym (drop-map pos n b))
     ∙ ap first_broken (zip2-drop (leaf op (pos 0) (pos hi)) n (map pos a) (map pos b) same))
     ∙ sym (broken_later all n (pos 0) (omega (arith, size, c.requires.within))
     (λ k l. (pos (get_or c.args.out.now k 0), c.requires.made k l)))
@@ -78,5 +81,6 @@ returns-in-None-clause-written c = λ none.
     (omega (arith, size, c.requires.within)) (omega (arith, size, c.requires.out)) c.requires.made
     (c.in-None.ensures.written none
     ∙ ap₂ (λ s t. (nat_leaves op hi s t)) (rest_is n a) (rest_is n b)
-    ∙ ap₂ (λ s t. (leaves op (pos 0) (pos hi) s t)) (sym (drop-map pos n a)) (sym (drop-map pos n b))
+    ∙ ap₂ (λ s t. (leaves op (pos 0) (pos hi) s t)) (sym (drop-map pos n a))
+    (sym (drop-map pos n b))
     ∙ (zip2-drop (leaf op (pos 0) (pos hi)) n (map pos a) (map pos b) same))

@@ -13,7 +13,8 @@ returns c =
     let size = length-chosen m a b c.requires.a c.requires.b in
     all_made (chosen m a b) c.args.out.now c.select_u64.new.out n 0
     (omega (arith, size, c.requires.within)) (omega (arith, size, c.requires.out)) c.requires.made
-    (c.select_u64.ensures ∙ ap (λ s. chosen s (take (length a - n) (drop n a)) (take (length b - n) (drop n b)))
+    (c.select_u64.ensures ∙ ap
+    (λ s. chosen s (take (length a - n) (drop n a)) (take (length b - n) (drop n b)))
     (rest_is n m)
     ∙ ap₂ (chosen (drop n m)) (rest_is n a) (rest_is n b)
     ∙ chosen-drop n m a b c.requires.a c.requires.b)

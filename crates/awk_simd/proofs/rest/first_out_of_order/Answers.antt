@@ -1,9 +1,11 @@
-use Rattle.std.proofs.Common.{◌≡◌, ◌+◌, ◌<◌, length, drop, sym, ap, ap₂, ◌∙◌, arith, rules, Fits, w64}
+use Rattle.std.proofs.Common.{◌≡◌, ◌+◌, ◌<◌, length, drop, sym, ap, ap₂, ◌∙◌, arith, rules, Fits}
+use Rattle.std.proofs.Common.{w64}
 use Rattle.std.specs.Prelude.{pos, position, zip}
 use Rattle.std.specs.Option.{option_map}
 use Rattle.std.proofs.lemmas.List.{length-drop}
 use Rattle.awk_kernels.specs.Kernels.{is_out_of_order}
-use Rattle.awk_simd.proofs.Rests.{rest_is, position_later, position_within, zip-drop, zip_at, length-zip}
+use Rattle.awk_simd.proofs.Rests.{rest_is, position_later, position_within, zip-drop, zip_at}
+use Rattle.awk_simd.proofs.Rests.{length-zip}
 use Rattle.awk_simd.proofs.rest.first_out_of_order.Goals as goal
 
 pub overflow_add-result : goal.overflow_add-result
@@ -17,7 +19,10 @@ overflow_add-result c =
     let within = position_within is_out_of_order (drop n (zip a b)) c.in-Some.i found in
     let long : Fits w64 (length a) = search rules in
     let size = length-zip a b c.requires.stops in
-    record { fits = omega (arith, within, length-drop n (zip a b), size, c.requires.within, long.fits) }
+    record {
+      fits = omega
+          (arith, within, length-drop n (zip a b), size, c.requires.within, long.fits);
+    }
 
 pub returns-in-Some : goal.returns-in-Some
 returns-in-Some c =
@@ -30,7 +35,9 @@ returns-in-Some c =
     ∙ ap (position is_out_of_order) (zip-drop n a b c.requires.stops))
     ∙ sym (position_later is_out_of_order (zip a b) n (pos 0, pos 0)
     (omega (arith, length-zip a b c.requires.stops, c.requires.within))
-    (λ k l. ap is_out_of_order (zip_at (pos 0) (pos 0) a b k (omega (arith, l, c.requires.within)) c.requires.stops) ∙ c.requires.passed k l))
+    (λ k l. ap is_out_of_order
+    (zip_at (pos 0) (pos 0) a b k (omega (arith, l, c.requires.within)) c.requires.stops)
+    ∙ c.requires.passed k l))
 
 pub returns-in-None : goal.returns-in-None
 returns-in-None c =
@@ -43,4 +50,6 @@ returns-in-None c =
     ∙ ap (position is_out_of_order) (zip-drop n a b c.requires.stops))
     ∙ sym (position_later is_out_of_order (zip a b) n (pos 0, pos 0)
     (omega (arith, length-zip a b c.requires.stops, c.requires.within))
-    (λ k l. ap is_out_of_order (zip_at (pos 0) (pos 0) a b k (omega (arith, l, c.requires.within)) c.requires.stops) ∙ c.requires.passed k l))
+    (λ k l. ap is_out_of_order
+    (zip_at (pos 0) (pos 0) a b k (omega (arith, l, c.requires.within)) c.requires.stops)
+    ∙ c.requires.passed k l))

@@ -11,7 +11,9 @@ returns-in-Some c =
     let xs = c.args.xs.now in
     let n = c.args.passed in
     let test = is_outside c.args.lo c.args.hi in
-    let e = rw (to_z-of_z w64 c.args.lo c.ranges.lo, to_z-of_z w64 c.args.hi c.ranges.hi) at c.first_outside.ensures in
+    let e = rw
+    (to_z-of_z w64 c.args.lo c.ranges.lo, to_z-of_z w64 c.args.hi c.ranges.hi)
+    at c.first_outside.ensures in
     ap (option_map (λ i. n + i)) (sym c.in-Some.is ∙ e ∙ ap (position test) (rest_is n xs))
     ∙ sym (position_later test xs n (pos 0) c.requires.within c.requires.passed)
 
@@ -20,6 +22,8 @@ returns-in-None c =
     let xs = c.args.xs.now in
     let n = c.args.passed in
     let test = is_outside c.args.lo c.args.hi in
-    let e = rw (to_z-of_z w64 c.args.lo c.ranges.lo, to_z-of_z w64 c.args.hi c.ranges.hi) at c.first_outside.ensures in
+    let e = rw
+    (to_z-of_z w64 c.args.lo c.ranges.lo, to_z-of_z w64 c.args.hi c.ranges.hi)
+    at c.first_outside.ensures in
     ap (option_map (λ i. n + i)) (sym c.in-None.is ∙ e ∙ ap (position test) (rest_is n xs))
     ∙ sym (position_later test xs n (pos 0) c.requires.within c.requires.passed)
