@@ -139,7 +139,14 @@ impl<'a> Lists<'a> {
         ensures { let places = spans self.now.starts self.now.stops in
             IfOk result (IsReached self.now.content places) }
     {
-        all_items(alloc, &self.starts, &self.stops, &self.content, arena, steps)
+        all_items(
+            alloc,
+            &self.starts,
+            &self.stops,
+            &self.content,
+            arena,
+            steps,
+        )
     }
 
     /// Their items one after another, or that they are too many.

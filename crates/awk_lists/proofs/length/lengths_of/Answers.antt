@@ -11,9 +11,13 @@ pub numpy-requires : goal.numpy-requires
 numpy-requires g c =
     let fits : size_of c.args.lists.now.starts < 2 ^ 63 =
     omega (arith, c.len.ensures.len, c.len.ensures.fits) in
-    rw (c.in_ok-lengths.ensures.lane, c.len.ensures.len, size-lane_of Kinds.I64
-    (size_of c.args.lists.now.starts)
-    (λ i. pos (span_length c.args.lists.now.starts c.args.lists.now.stops i))) fits
+    rw (
+      c.in_ok-lengths.ensures.lane,
+      c.len.ensures.len,
+      size-lane_of Kinds.I64
+          (size_of c.args.lists.now.starts)
+          (λ i. pos (span_length c.args.lists.now.starts c.args.lists.now.stops i)),
+    ) fits
 
 pub returns : goal.returns
 returns g c =
