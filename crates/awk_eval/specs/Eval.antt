@@ -28,6 +28,9 @@ use Rattle.awk_lists.specs.Unflatten.{unflatten_of}
 use Rattle.awk_lists.specs.WithoutField.{choice_of, without_field_of}
 use Rattle.awk_nulls.specs.DropNone.{drop_none_of}
 use Rattle.awk_merge.specs.Concatenate.{concatenate_of}
+use Rattle.awk_reduce.specs.Reduce.{reduce_of}
+use Rattle.awk_reduce.specs.declared.reducer.Reducer.{Reducer}
+use Rattle.awk_reduce.specs.declared.reducer.Reducer.TheVariants as reducer
 use Rattle.awk_fill.specs.FillNone.{Filler, fill_none_of}
 use Rattle.awk_nulls.specs.Firsts.{firsts_of}
 use Rattle.awk_nulls.specs.IsNone.{is_none_of}
@@ -138,7 +141,25 @@ filled_by axis p = fill_none_of p.0 p.1 (axis_in p.0 axis)
 abbrev pub masked_by : Bool → Datum × Datum → Result Datum Fault
 masked_by w p = put_mask_of p.0 p.1 w
 
--- an operation on null items on its operands; those that are not built yet answer so
+-- what the operation of a reducer reduces lists by
+abbrev pub reducer_of : Op → Option Reducer
+reducer_of op.Sum = Some reducer.Sum
+reducer_of op.Prod = Some reducer.Prod
+reducer_of op.Min = Some reducer.Min
+reducer_of op.Max = Some reducer.Max
+reducer_of op.Argmin = Some reducer.Argmin
+reducer_of op.Argmax = Some reducer.Argmax
+reducer_of op.Any = Some reducer.Any
+reducer_of op.All = Some reducer.All
+reducer_of op.Count = Some reducer.Count
+reducer_of op.CountNonzero = Some reducer.CountNonzero
+reducer_of _ = None
+
+-- a reducer on its operand; operations that are not built yet answer so
+abbrev pub reducing : Op → List Operand → Result Datum Fault
+reducing o operands = given reduce_of (reducer_of o) (only_in operands)
+
+-- an operation on null items on its operands
 abbrev pub optioned : Op → List FixedArg → List Operand → Result Datum Fault
 optioned op.IsNone fixed operands = given (at_axis is_none_of) (place_in fixed) (only_in operands)
 optioned op.DropNone fixed operands =
@@ -149,7 +170,7 @@ optioned op.Singletons fixed operands =
 optioned op.PadNone fixed operands = given padded_by (padding_in fixed) (only_in operands)
 optioned op.FillNone fixed operands = given filled_by (place_in fixed) (filled_in operands)
 optioned op.PutMask fixed operands = given masked_by (truth_in fixed) (both_in operands)
-optioned _ fixed operands = Err Unbuilt
+optioned o fixed operands = reducing o operands
 
 -- an operation on lists on its operands
 abbrev pub listed : Op → List FixedArg → List Operand → Result Datum Fault

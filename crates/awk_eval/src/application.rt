@@ -21,6 +21,7 @@ use crate::arguments::{
     both, bound_or, bounds, data, filled, only, padding, place, text, texts, truth, with_step,
 };
 use crate::axis::{axis_among, axis_in};
+use awk_kernels::Kernels;
 use awk_lanes::{Arena, Steps};
 use awk_layout::{Array, Datum, Operands};
 use awk_lists::{flatten, local_index, num, run_lengths, unflatten, without_field};
@@ -28,6 +29,7 @@ use awk_merge::concatenate;
 use awk_options::{drop_none, fill_none, firsts, is_none, pad_none, put_mask, singletons};
 use awk_query::{Fixed, FixedArg, Op};
 use awk_range::range;
+use awk_reduce::{Reducer, reduce};
 use awk_select::{at, at_each, is_mask, mask, step_range, take};
 use awk_types::{Fault, Names, NoMemory, Typ};
 use awk_view::{field, fields, settled};
@@ -35,11 +37,12 @@ use std::alloc::Global;
 use std::sync::ledger::Ledger;
 
 /// An operation on its operands. One that is not built yet answers so.
-pub(crate) fn apply<'s, L: Ledger>(
+pub(crate) fn apply<'s, N: Kernels, L: Ledger>(
     alloc: Global,
     op: Op,
     fixed: &Fixed,
     operands: &Operands<'s>,
+    kernels: &N,
     arena: &'s Arena,
     steps: &mut Steps<L>,
 ) -> Result<Datum<'s>, Fault>
@@ -76,16 +79,17 @@ pub(crate) fn apply<'s, L: Ledger>(
             Some((e, x)) => pick_of(alloc, e, x, arena, steps),
             None => Err(Fault::Unbuilt),
         },
-        _ => listed(alloc, op, fixed, operands, arena, steps),
+        _ => listed(alloc, op, fixed, operands, kernels, arena, steps),
     }
 }
 
 // An operation on lists on its operands.
-fn listed<'s, L: Ledger>(
+fn listed<'s, N: Kernels, L: Ledger>(
     alloc: Global,
     op: Op,
     fixed: &Fixed,
     operands: &Operands<'s>,
+    kernels: &N,
     arena: &'s Arena,
     steps: &mut Steps<L>,
 ) -> Result<Datum<'s>, Fault>
@@ -120,16 +124,17 @@ fn listed<'s, L: Ledger>(
             }
             _ => Err(Fault::Unbuilt),
         },
-        _ => optioned(alloc, op, fixed, operands, arena, steps),
+        _ => optioned(alloc, op, fixed, operands, kernels, arena, steps),
     }
 }
 
-// An operation on null items on its operands. One that is not built yet answers so.
-fn optioned<'s, L: Ledger>(
+// An operation on null items on its operands.
+fn optioned<'s, N: Kernels, L: Ledger>(
     alloc: Global,
     op: Op,
     fixed: &Fixed,
     operands: &Operands<'s>,
+    kernels: &N,
     arena: &'s Arena,
     steps: &mut Steps<L>,
 ) -> Result<Datum<'s>, Fault>
@@ -168,9 +173,48 @@ fn optioned<'s, L: Ledger>(
             (Some(w), Some((x, mask))) => put_mask(alloc, x, mask, w, arena, steps),
             _ => Err(Fault::Unbuilt),
         },
+        _ => reducing(alloc, op, operands, kernels, arena, steps),
+    }
+}
+
+// A reducer on its operand. An operation that is not built yet answers so.
+fn reducing<'s, N: Kernels, L: Ledger>(
+    alloc: Global,
+    op: Op,
+    operands: &Operands<'s>,
+    kernels: &N,
+    arena: &'s Arena,
+    steps: &mut Steps<L>,
+) -> Result<Datum<'s>, Fault>
+    ensures answer { Gives datum_of fault_told result
+        (meaning.reducing op (shown_operands operands.now)) }
+    ensures datum { IfOk result (λ made. IsDatum made) }
+{
+    match (reducer_of(op), only(operands)) {
+        (Some(how), Some(x)) => reduce(alloc, how, x, kernels, arena, steps),
         _ => Err(Fault::Unbuilt),
     }
 }
+
+// What the operation of a reducer reduces lists by.
+fn reducer_of(op: Op) -> Option<Reducer>
+    ensures { result ≡ meaning.reducer_of op }
+{
+    match op {
+        Op::Sum => Some(Reducer::Sum),
+        Op::Prod => Some(Reducer::Prod),
+        Op::Min => Some(Reducer::Min),
+        Op::Max => Some(Reducer::Max),
+        Op::Argmin => Some(Reducer::Argmin),
+        Op::Argmax => Some(Reducer::Argmax),
+        Op::Any => Some(Reducer::Any),
+        Op::All => Some(Reducer::All),
+        Op::Count => Some(Reducer::Count),
+        Op::CountNonzero => Some(Reducer::CountNonzero),
+        _ => None,
+    }
+}
+
 
 // A range, of step 1 or of another.
 fn ranged<'s, L: Ledger>(

@@ -51,7 +51,7 @@ pub fn eval<'s, 'a: 's, N: Kernels, L: Ledger>(
         Expr::Truth(b) => Ok(bool_of(*b, arena, steps)?),
         Expr::Call { op, args, fixed } => {
             let operands = operands(alloc, env, *op, args, kernels, arena, steps)?;
-            apply(alloc, *op, fixed, &operands, arena, steps)
+            apply(alloc, *op, fixed, &operands, kernels, arena, steps)
         }
     }
 }

@@ -1,5 +1,6 @@
 -- Numbers that are in the same order have their extremes at the same places.
-use Rattle.std.proofs.Common.{◌≡◌, ℕ, List, [], ◌∷◌, map, refl, ap, ap₂, sym, ◌∙◌, arith, length, inl, inr}
+use Rattle.std.proofs.Common.{◌≡◌, ℕ, List, [], ◌∷◌, map, refl, ap, ap₂, sym, ◌∙◌, arith, length}
+use Rattle.std.proofs.Common.{inl, inr}
 use Rattle.std.specs.Prelude.{ℤ, Bool, true, false, not, cond, position, Option, Some, None}
 use Rattle.std.specs.Prelude.{nat_lt, ◌+◌, ◌⊎◌}
 use Rattle.std.specs.Int.{int_min, int_max}

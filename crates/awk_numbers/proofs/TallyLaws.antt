@@ -1,5 +1,6 @@
 -- What a count of numbers that are not 0 tells of some and of all.
-use Rattle.std.proofs.Common.{◌≡◌, ℕ, suc, ◌+◌, ◌≤◌, List, [], ◌∷◌, length, refl, ap, ap₂, ◌∙◌, arith}
+use Rattle.std.proofs.Common.{◌≡◌, ℕ, suc, ◌+◌, ◌≤◌, List, [], ◌∷◌, length, refl, ap, ap₂, ◌∙◌}
+use Rattle.std.proofs.Common.{arith}
 use Rattle.std.specs.Prelude.{ℤ, Bool, true, false, cond, nat_lt, ◌==◌, ◌||◌, ◌&&◌}
 use Rattle.std.specs.List.{count_by, list_any, list_all}
 use Rattle.std.proofs.lemmas.List.Sums.{sum_by-cons, count_by-le-length}
@@ -32,6 +33,7 @@ all_counted (z ∷ zs) =
         ≡ (b && list_all is_nonzero zs)
     go true h l = same ∙ h
       where
-        same : ((1 + count_by is_nonzero zs) == suc (length zs)) ≡ (count_by is_nonzero zs == length zs)
+        same : ((1 + count_by is_nonzero zs) == suc (length zs))
+            ≡ (count_by is_nonzero zs == length zs)
         same = grind arith
     go false h l = grind (arith, l)

@@ -1,8 +1,8 @@
 //! Whole numbers of lanes, and what parts of them come to.
 //!
 //! `Whole` is all numbers of a lane, seen once. `folded` is the exact sum or product of a part of
-//! them, `tally_of` a count of it or whether some or all are not 0, and `extreme_of` the first place of
-//! its least or greatest.
+//! them, `tally_of` a count of it or whether some or all are not 0, and `extreme_of` the first
+//! place of its least or greatest.
 #![tactic(auto)]
 
 mod extremes;

@@ -1,5 +1,6 @@
 -- A number for each part: what it comes to, and where its extreme stands.
-use Rattle.std.specs.Prelude.{◌≡◌, ℕ, ◌+◌, ◌-◌, ◌<◌, ◌≤◌, ◌^◌, ◌≤ℤ◌, ℤ, pos, negsuc, Option, Some, None, List, position}
+use Rattle.std.specs.Prelude.{◌≡◌, ℕ, ◌+◌, ◌-◌, ◌<◌, ◌≤◌, ◌^◌, ◌≤ℤ◌, ℤ, pos, negsuc, Option, Some}
+use Rattle.std.specs.Prelude.{None, List, position}
 use Rattle.std.specs.List.{slice_range}
 use Rattle.std.specs.Ordering.{int_eq}
 use Rattle.awk_lanes.specs.Column.{Column}

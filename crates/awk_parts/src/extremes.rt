@@ -38,14 +38,20 @@ impl<'b, 'a, N: Kernels> Numbers for ExtremePlaces<'b, 'a, N> {
     ghost use Rattle.awk_parts.specs.Parts.{AreParts};
 
     ghost kind = { λ _. Kind.I64 };
+
     ghost at = { λ f. extreme_at f.how f.keys.now f.offsets.now };
+
     ghost size = { λ f. f.count };
+
     ghost IsReady = { λ f. AreParts f.keys.now f.offsets.now f.count };
 
     fn number<L: Ledger>(&self, i: u64, steps: &mut Steps<L>) -> Num {
         let start = place_in(self.offsets, i, steps);
         let stop = place_in(self.offsets, i + 1, steps);
-        number_of_place(start, extreme_of(self.how, self.keys, start, stop, self.kernels))
+        number_of_place(
+            start,
+            extreme_of(self.how, self.keys, start, stop, self.kernels),
+        )
     }
 }
 

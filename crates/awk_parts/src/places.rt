@@ -10,8 +10,9 @@ ghost use Rattle.awk_parts.specs.Lanes.{present_at, number_at, local_at, place_o
 ghost use Rattle.awk_parts.specs.Lanes.{ArePlaces, ArePlacesIn, AreLocal};
 ghost use Rattle.awk_parts.specs.Parts.{AreParts};
 
-use awk_lanes::{Arena, Kind, Lane, NoMemory, Num, Numbers, Steps};
-use awk_lanes::{made_lane, number, option_place_in, place_in};
+use awk_lanes::{
+    Arena, Kind, Lane, NoMemory, Num, Numbers, Steps, made_lane, number, option_place_in, place_in,
+};
 use std::sync::ledger::Ledger;
 
 /// The index of the places that are there.
@@ -27,8 +28,11 @@ impl<'b, 'a> Numbers for PresentIndex<'b, 'a> {
     ghost use Rattle.awk_parts.specs.Lanes.{present_at};
 
     ghost kind = { λ _. Kind.I64 };
+
     ghost at = { λ f. present_at f.places.now };
+
     ghost size = { λ f. size_of f.places.now };
+
     ghost IsReady = { λ f. (f.places.now.kind ≡ Kind.I64) × (size_of f.places.now < 2 ^ 63) };
 
     fn number<L: Ledger>(&self, i: u64, steps: &mut Steps<L>) -> Num {
@@ -49,7 +53,13 @@ pub fn present<'a, L: Ledger>(
     requires fits { size_of places.now < 2 ^ 63 }
     ensures { IfOk result (λ r. r ≡ lane_of Kind.I64 (size_of places.now) (present_at places.now)) }
 {
-    made_lane(Kind::I64, places.len(), &PresentIndex { places }, arena, steps)
+    made_lane(
+        Kind::I64,
+        places.len(),
+        &PresentIndex { places },
+        arena,
+        steps,
+    )
 }
 
 /// The numbers of a lane at places.
@@ -64,8 +74,11 @@ impl<'b, 'a> Numbers for NumbersAt<'b, 'a> {
     ghost use Rattle.awk_parts.specs.Lanes.{number_at, ArePlacesIn};
 
     ghost kind = { λ f. f.lane.now.kind };
+
     ghost at = { λ f. number_at f.lane.now f.places.now };
+
     ghost size = { λ f. size_of f.places.now };
+
     ghost IsReady = { λ f. ArePlacesIn f.places.now (size_of f.lane.now) };
 
     fn number<L: Ledger>(&self, i: u64, steps: &mut Steps<L>) -> Num {
@@ -99,7 +112,13 @@ pub fn numbers_at<'a, L: Ledger>(
     ensures { IfOk result (λ r. r ≡ lane_of lane.now.kind (size_of places.now)
         (number_at lane.now places.now)) }
 {
-    made_lane(lane.kind(), places.len(), &NumbersAt { lane, places }, arena, steps)
+    made_lane(
+        lane.kind(),
+        places.len(),
+        &NumbersAt { lane, places },
+        arena,
+        steps,
+    )
 }
 
 /// Places counted from the starts of parts.
@@ -115,8 +134,11 @@ impl<'b, 'a> Numbers for LocalPlaces<'b, 'a> {
     ghost use Rattle.awk_parts.specs.Lanes.{local_at, AreLocal};
 
     ghost kind = { λ _. Kind.I64 };
+
     ghost at = { λ f. local_at f.offsets.now f.places.now };
+
     ghost size = { λ f. size_of f.places.now };
+
     ghost IsReady = { λ f. AreLocal f.offsets.now f.places.now };
 
     fn number<L: Ledger>(&self, i: u64, steps: &mut Steps<L>) -> Num {
@@ -148,7 +170,13 @@ pub fn locals<'a, L: Ledger>(
     ensures { IfOk result (λ r. r ≡ lane_of Kind.I64 (size_of places.now)
         (local_at offsets.now places.now)) }
 {
-    made_lane(Kind::I64, places.len(), &LocalPlaces { offsets, places }, arena, steps)
+    made_lane(
+        Kind::I64,
+        places.len(),
+        &LocalPlaces { offsets, places },
+        arena,
+        steps,
+    )
 }
 
 /// Where numbers stand in parts of others.
@@ -167,8 +195,11 @@ impl<'b, 'a> Numbers for FoundPlaces<'b, 'a> {
     ghost use Rattle.awk_parts.specs.Parts.{AreParts};
 
     ghost kind = { λ _. Kind.I64 };
+
     ghost at = { λ f. found_at f.others.now f.offsets.now f.places.now };
+
     ghost size = { λ f. size_of f.places.now };
+
     ghost IsReady = { λ f. ArePlaces f.places.now
         × AreParts f.others.now f.offsets.now (size_of f.places.now) };
 

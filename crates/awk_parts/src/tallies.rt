@@ -34,8 +34,11 @@ impl<'b, 'a> Numbers for TalliedParts<'b, 'a> {
     ghost use Rattle.awk_parts.specs.Parts.{AreParts};
 
     ghost kind = { λ f. tally_kind f.how };
+
     ghost at = { λ f. tallied_at f.how (whole_numbers f.numbers.now) f.offsets.now };
+
     ghost size = { λ f. f.count };
+
     ghost IsReady = { λ f. AreParts (whole_numbers f.numbers.now) f.offsets.now f.count };
 
     fn number<L: Ledger>(&self, i: u64, steps: &mut Steps<L>) -> Num {

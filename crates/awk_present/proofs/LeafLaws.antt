@@ -1,5 +1,6 @@
 -- Lanes of leaves, and which kinds of arrays have one.
-use Rattle.std.proofs.Common.{◌≡◌, ℕ, zero, suc, refl, ap, sym, ◌∙◌, subst, true≢false, map, [], List}
+use Rattle.std.proofs.Common.{◌≡◌, ℕ, zero, suc, refl, ap, sym, ◌∙◌, subst, true≢false, map, []}
+use Rattle.std.proofs.Common.{List}
 use Rattle.std.specs.Prelude.{ℤ, pos, negsuc, true, false, Bool, Option, Some, None, if◌then◌else◌}
 use Rattle.std.specs.List.{range_with_len}
 use Rattle.awk_types.specs.DataType.{DataType, Name, unknown, leaf, var, reg, rec, tup, opt, uni}

@@ -1,7 +1,9 @@
 -- Numbers of the items that are present, list by list.
-use Rattle.std.proofs.Common.{◌≡◌, ℕ, zero, suc, ◌+◌, ◌-◌, ◌≤◌, ◌<◌, ◌^◌, List, [], ◌∷◌, length, take}
+use Rattle.std.proofs.Common.{◌≡◌, ℕ, zero, suc, ◌+◌, ◌-◌, ◌≤◌, ◌<◌, ◌^◌, List, [], ◌∷◌, length}
+use Rattle.std.proofs.Common.{take}
 use Rattle.std.proofs.Common.{drop, map, get_or, refl, ap, ap₂, sym, ◌∙◌, subst, arith, add-one}
-use Rattle.std.specs.Prelude.{ℤ, pos, ◌≤ℤ◌, int_le, Bool, true, cond, ◌&&◌, position, Option, Some, None, filter}
+use Rattle.std.specs.Prelude.{ℤ, pos, ◌≤ℤ◌, int_le, Bool, true, cond, ◌&&◌, position, Option, Some}
+use Rattle.std.specs.Prelude.{None, filter}
 use Rattle.std.specs.List.{slice_range, range_with_len}
 use Rattle.std.specs.Option.{option_map}
 use Rattle.std.specs.Ordering.{int_eq}
@@ -220,7 +222,8 @@ module _ (x y : Layout) (j c o p : Column) (n : ℕ) (t : array_type x ≡ opt (
           back.0,
           back.1,
           ap (λ m. position (int_eq (pos (m + k)))
-              (slice_range j.items (place_at o i) (place_at o (i + 1)))) (start i (omega (arith, l)))
+              (slice_range j.items (place_at o i) (place_at o (i + 1))))
+              (start i (omega (arith, l)))
               ∙ ap (λ js. position (int_eq (pos (present_before vs o i + k)))
               (slice_range js (place_at o i) (place_at o (i + 1))))
               (ap (λ (c : Column). c.items) index)

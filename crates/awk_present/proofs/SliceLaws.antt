@@ -1,6 +1,7 @@
 -- Parts of lists of which some items are left out, and lists by their places.
 use Rattle.std.proofs.Common.{◌≡◌, ℕ, zero, suc, ◌+◌, ◌-◌, ◌≤◌, ◌<◌, List, [], ◌∷◌, ◌++◌, length}
-use Rattle.std.proofs.Common.{take, drop, map, get_or, filter, refl, ap, ap₂, sym, ◌∙◌, subst, arith}
+use Rattle.std.proofs.Common.{take, drop, map, get_or, filter, refl, ap, ap₂, sym, ◌∙◌, subst}
+use Rattle.std.proofs.Common.{arith}
 use Rattle.std.proofs.Common.{length-append, append_assoc}
 use Rattle.std.specs.Prelude.{Bool, true, false, not, cond, position, Option, Some, None, nat_lt}
 use Rattle.std.specs.List.{slice_range, range_with_len, prefix_len}

@@ -1,5 +1,6 @@
 -- The items of lists that are not null, as numbers.
-use Rattle.std.specs.Prelude.{◌≡◌, ℕ, ◌+◌, ◌<◌, ◌≤◌, ℤ, pos, int_le, List, length, map, take, position}
+use Rattle.std.specs.Prelude.{◌≡◌, ℕ, ◌+◌, ◌<◌, ◌≤◌, ℤ, pos, int_le, List, length, map, take}
+use Rattle.std.specs.Prelude.{position}
 use Rattle.std.specs.Prelude.{Option, Some, None}
 use Rattle.std.specs.List.{slice_range, count_by, range_with_len}
 use Rattle.std.specs.Ordering.{int_eq}

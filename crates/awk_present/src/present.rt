@@ -1,6 +1,6 @@
 //! Items that are not null, list by list.
-ghost use Rattle.std.specs.Prelude.{◌≡◌, ◌+◌, ◌<◌, ◌≤◌, ◌^◌, pos, int_le, cond, length, true, IfOk, List};
-
+ghost use Rattle.std.specs.Prelude.{◌≡◌, ◌+◌, ◌<◌, ◌≤◌, ◌^◌, pos, int_le, cond, length, true, IfOk};
+ghost use Rattle.std.specs.Prelude.{List};
 ghost use Rattle.awk_types.specs.Predicates.{is_leaf};
 ghost use Rattle.awk_types.specs.Simple.{present, is_option};
 ghost use Rattle.awk_types.specs.Value.{Value};
@@ -62,7 +62,9 @@ impl<'b, 'a> Lengths for PresentCounts<'b, 'a> {
     ghost use Rattle.awk_present.specs.Present.{present_in};
 
     ghost length = { λ f. present_in f.index.now f.offsets.now };
+
     ghost size = { λ f. f.count };
+
     ghost IsReady = { λ f. AreRising f.offsets.now f.count (length f.index.now) };
 
     fn length<L: Ledger>(&self, i: u64, steps: &mut Steps<L>) -> u64 {

@@ -35,7 +35,7 @@ use Rattle.awk_axis.specs.Mapped.{IsMade, IsColumn}
 use Rattle.awk_axis.specs.Reach.{is_leaf}
 use Rattle.awk_axis.specs.declared.causes.Refusal.TheVariants as refused
 use Rattle.awk_axis.specs.declared.causes.Spoil.{Spoil}
-use Rattle.awk_axis.specs.declared.causes.Spoil.TheVariants.{Size, Overflow}
+use Rattle.awk_axis.specs.declared.causes.Spoil.TheVariants.{Index, Size, Overflow}
 use Rattle.awk_axis.specs.declared.function.Made.{Made}
 use Rattle.awk_axis.specs.declared.function.Made.TheVariants as made
 use Rattle.awk_parts.specs.Parts.{AreRising}
@@ -106,6 +106,19 @@ reduced_overflow how s e y i h l f =
     (omega (arith, l, length-map-range_with_len (items_at s e y) 0 (size_of s)))
     (ap (overflows how (array_type y))
     (get_or-map-range_with_len (items_at s e y) 0 (size_of s) i i [] l (omega arith)) ∙ f))
+
+-- no list is refused for a place
+pub reduced-never : (how : Reducer) (t : DataType) (ls : List (List Value))
+    → reduced_spoil how t ls ≡ Some Index → ⊥
+reduced-never how t ls h =
+    go (nat_lt item_limit (sum (map (λ (l : List Value). length l) ls)))
+    (list_any (overflows how t) ls) h
+  where
+    go : (b c : Bool) → (if b then Some Size else if c then Some Overflow else None) ≡ Some Index
+        → ⊥
+    go true c e = cc
+    go false true e = cc
+    go false false e = cc
 
 -- ---- leaves
 

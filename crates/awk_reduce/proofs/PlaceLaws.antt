@@ -1,5 +1,6 @@
 -- What is made of lists whose items lie one after another: extremes and their places.
-use Rattle.std.proofs.Common.{◌≡◌, ℕ, ◌+◌, ◌-◌, ◌<◌, ◌≤◌, ◌^◌, length, get_or, map, List, [], ◌∷◌, arith, refl}
+use Rattle.std.proofs.Common.{◌≡◌, ℕ, ◌+◌, ◌-◌, ◌<◌, ◌≤◌, ◌^◌, length, get_or, map, List, [], ◌∷◌}
+use Rattle.std.proofs.Common.{arith, refl}
 use Rattle.std.proofs.Common.{ap, ap₂, sym, ◌∙◌, subst}
 use Rattle.std.specs.Prelude.{ℤ, pos, Bool, true, false, position, Option, Some, None}
 use Rattle.std.specs.List.{slice_range, range_with_len}
@@ -193,7 +194,8 @@ module _ (z : Layout) (o : Column) (n : ℕ) (p : Present) (r : AreReady z o n p
 
   item_at : (i : ℕ) → i < n → (f : Option ℕ) → first_extreme how (zs i) ≡ f
       → at_option (further (start i) f)
-      (λ q. leaf_value p.lane.kind (element p.lane.kind (number_or_zero p.lane (further (start i) f))))
+      (λ q. leaf_value p.lane.kind
+      (element p.lane.kind (number_or_zero p.lane (further (start i) f))))
       ≡ item_or_null (leaf_of t) (extreme_of how (zs i))
   item_at i l None h = sym (ap (item_or_null (leaf_of t)) (extreme_none how (zs i) h))
   item_at i l (Some q) h =
@@ -225,7 +227,8 @@ module _ (z : Layout) (o : Column) (n : ℕ) (p : Present) (r : AreReady z o n p
   extremes_made y c ce ye =
       let value : ℕ → Value = λ i. reduced (item_reducer how) t (vs i) in
       let same : y
-      ≡ optional (lane_of I64 n (present_at e)) (flat (lane_of p.lane.kind n (number_at p.lane e))) =
+      ≡ optional (lane_of I64 n (present_at e))
+      (flat (lane_of p.lane.kind n (number_at p.lane e))) =
       ye ∙ ap (λ c. optional (lane_of I64 (size_of e) (present_at e)) (flat c)) ce
       ∙ ap (λ m. optional (lane_of I64 m (present_at e))
       (flat (lane_of p.lane.kind m (number_at p.lane e)))) places-count in (

@@ -1,6 +1,8 @@
 -- What is made of lists whose items lie one after another: totals and counts.
-use Rattle.std.proofs.Common.{◌≡◌, ℕ, ◌<◌, ◌≤◌, ◌^◌, length, map, arith, refl, ap, ap₂, sym, ◌∙◌, subst}
-use Rattle.std.specs.Prelude.{ℤ, pos, Bool, true, false, not, if◌then◌else◌, List, Option, Some, None}
+use Rattle.std.proofs.Common.{◌≡◌, ℕ, ◌<◌, ◌≤◌, ◌^◌, length, map, arith, refl, ap, ap₂, sym, ◌∙◌}
+use Rattle.std.proofs.Common.{subst}
+use Rattle.std.specs.Prelude.{ℤ, pos, Bool, true, false, not, if◌then◌else◌, List, Option, Some}
+use Rattle.std.specs.Prelude.{None}
 use Rattle.std.proofs.lemmas.List.{length-map}
 use Rattle.awk_types.specs.DataType.{DataType, leaf}
 use Rattle.awk_types.specs.Value.{Value, int, truth}
@@ -134,7 +136,8 @@ module _ (z : Layout) (o : Column) (n : ℕ) (p : Present) (r : AreReady z o n p
         λ i l.
             fold_overflows how t (list_at (array_items z) o i) true
             (ap (fits (wide (leaf_of t))) (sym (fold_same how i l)) ∙ fit.0 i l),
-        subst (λ u. IsColumn u (λ i. reduced (fold_reducer how) t (list_at (array_items z) o i)) n y)
+        subst
+        (λ u. IsColumn u (λ i. reduced (fold_reducer how) t (list_at (array_items z) o i)) n y)
         (fold_type how t)
         (subst (IsColumn (leaf (primitive_of (kind_of (wide (leaf_of t)))))
         (λ i. reduced (fold_reducer how) t (list_at (array_items z) o i)) n)

@@ -111,6 +111,10 @@ impl<'k, N: Kernels> ListOp for Reducing<'k, N> {
         class
     }
 
+    fn tells_index(&self) -> bool {
+        false
+    }
+
     fn column<'a, L: Ledger>(
         &self,
         alloc: Global,

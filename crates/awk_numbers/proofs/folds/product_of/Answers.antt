@@ -29,10 +29,12 @@ loop-i-preserved c =
     let f : FitsSigned w128 c.at.result = search rules in
     let t : to_z w128 (of_z w128 c.in-Some.next) ≡ c.in-Some.next =
     to_z-of_z w128 c.in-Some.next
-    (fits_signed_from_abs w128 c.in-Some.next (omega (arith, c.near.ensures.small c.in-Some.next c.in-Some.is))) in
+    (fits_signed_from_abs w128 c.in-Some.next
+    (omega (arith, c.near.ensures.small c.in-Some.next c.in-Some.is))) in
     record {
       product = t ∙ c.in-Some.ensures.near
-          ∙ ap₂ (λ a b. a *ℤ b) c.loop-i.invariant.product (to_z-of_z w128 c.at.result f ∙ c.at.ensures)
+          ∙ ap₂ (λ a b. a *ℤ b) c.loop-i.invariant.product
+          (to_z-of_z w128 c.at.result f ∙ c.at.ensures)
           ∙ sym (product_more zs c.args.start c.loop-i.i c.loop-i.auto.i
           (omega (arith, c.loop-i-test.true, c.requires.within)));
       small = rw t (c.near.ensures.small c.in-Some.next c.in-Some.is);

@@ -11,7 +11,8 @@ returns-in-Nats-clause-count c =
     c.nonzero_nats.ensures
     ∙ ap (λ ns. count_by (λ n. is_nonzero (pos n)) (slice_range ns c.args.start c.args.stop))
     c.deref-in-Nats.ensures.value
-    ∙ sym (count_by-map is_nonzero pos (slice_range c.in-Nats.numbers.items c.args.start c.args.stop))
+    ∙ sym (count_by-map is_nonzero pos
+    (slice_range c.in-Nats.numbers.items c.args.start c.args.stop))
     ∙ sym (ap (count_by is_nonzero)
     (ap (λ w. slice_range (whole_numbers w) c.args.start c.args.stop) c.in-Nats.is
     ∙ slice_range-map pos c.in-Nats.numbers.items c.args.start c.args.stop))
