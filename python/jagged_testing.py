@@ -22,7 +22,6 @@ NOT_YET = frozenset(
     else """
     zip tuple with_field
     add sub mul floor_div rem eq ne lt le gt ge and or xor not neg abs where cast
-    sum prod min max argmin argmax any all count count_nonzero
     cartesian argcartesian combinations argcombinations
     """.split()
 )

@@ -215,7 +215,6 @@ fn reducer_of(op: Op) -> Option<Reducer>
     }
 }
 
-
 // A range, of step 1 or of another.
 fn ranged<'s, L: Ledger>(
     alloc: Global,

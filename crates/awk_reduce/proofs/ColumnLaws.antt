@@ -8,7 +8,7 @@ use Rattle.awk_types.specs.Value.{Value}
 use Rattle.awk_lanes.specs.Column.{Column}
 use Rattle.awk_lanes.specs.Made.{lane_of}
 use Rattle.awk_lanes.specs.Numbers.{element, is_nonzero}
-use Rattle.awk_lanes.specs.Places.{size_of, at, option_place, IsOptionalIndex}
+use Rattle.awk_lanes.specs.Places.{size_of, at, option_place, option_place_at, IsOptionalIndex}
 use Rattle.awk_lanes.specs.declared.kind.Kind.{Kind}
 use Rattle.awk_lanes.specs.declared.kind.Kind.TheVariants as kind
 use Rattle.awk_lanes.proofs.MadeLanes.{size-lane_of, at-lane_of}
@@ -16,16 +16,16 @@ use Rattle.awk_layout.specs.Item.{leaf_value, at_option, item}
 use Rattle.awk_layout.specs.Kinds.{primitive_of}
 use Rattle.awk_layout.specs.Layout.{Layout, flat, optional}
 use Rattle.awk_axis.specs.Mapped.{IsColumn}
-use Rattle.awk_parts.specs.Lanes.{index_or_null}
+use Rattle.awk_parts.specs.Lanes.{index_or_null, present_at}
 
 -- what is read of a number is read so again
 truth_twice : (b : Bool)
-    → (if is_nonzero (pos (if b then 1 else 0)) then 1 else 0) ≡ (if b then 1 else 0)
+    → pos (if is_nonzero (pos (if b then 1 else 0)) then 1 else 0) ≡ pos (if b then 1 else 0)
 truth_twice true = refl
 truth_twice false = refl
 
 pub element-twice : (k : Kind) (z : ℤ) → element k (element k z) ≡ element k z
-element-twice kind.Bool z = ap (λ n. pos n) (truth_twice (is_nonzero z))
+element-twice kind.Bool z = truth_twice (is_nonzero z)
 element-twice kind.I8 z = refl
 element-twice kind.I16 z = refl
 element-twice kind.I32 z = refl
@@ -54,6 +54,17 @@ there : (i : ℕ) (o : Option ℕ) (h : ℕ → Value)
 there i None h = refl
 there i (Some k) h = refl
 
+-- the index of places, over as many numbers
+pub present_valid : (e c : Column) → size_of c ≡ size_of e
+    → IsOptionalIndex (lane_of kind.I64 (size_of e) (present_at e)) (size_of c)
+present_valid e c h = record {
+  kind = tt;
+  below = λ i l.
+      let l' : i < size_of e = omega (arith, l, size-lane_of kind.I64 (size_of e) (present_at e)) in
+      rw (at-lane_of kind.I64 (size_of e) (present_at e) i l')
+      (index_below i (size_of c) (option_place_at e i) (omega (arith, l', h)));
+}
+
 module _ (k : Kind) (n : ℕ) (g : ℕ → Option ℕ) (f : ℕ → ℤ) (value : ℕ → Value)
     (small : n < 2 ^ 63)
     (h : (i : ℕ) → i < n → at_option (g i) (λ q. leaf_value k (element k (f i))) ≡ value i) where
@@ -66,8 +77,8 @@ module _ (k : Kind) (n : ℕ) (g : ℕ → Option ℕ) (f : ℕ → ℤ) (value 
     below = λ i l.
         let l' : i < n = omega (arith, l, size-lane_of kind.I64 n chosen) in
         rw (at-lane_of kind.I64 n chosen i l')
-            (index_below i (size_of (lane_of k n f)) (g i)
-            (omega (arith, l', size-lane_of k n f)));
+        (index_below i (size_of (lane_of k n f)) (g i)
+        (omega (arith, l', size-lane_of k n f)));
   }
 
   here : (i : ℕ) → i < n → (o : Option ℕ) → at_option o (λ q. item (flat (lane_of k n f)) i)

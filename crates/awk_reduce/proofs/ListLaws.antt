@@ -11,8 +11,9 @@ use Rattle.std.proofs.lemmas.List.FromFn.{get_or-map-range_with_len, length-map-
 use Rattle.std.proofs.lemmas.List.FromFn.{take-map-range_with_len}
 use Rattle.std.proofs.lemmas.List.Sums.{sum-map}
 use Rattle.std.proofs.lemmas.Simd.{map-map}
-use Rattle.awk_types.specs.DataType.{DataType}
+use Rattle.awk_types.specs.DataType.{DataType, unknown, leaf, var, reg, rec, tup, opt, uni}
 use Rattle.awk_types.specs.ItemLimit.{item_limit}
+use Rattle.awk_types.specs.Predicates.{is_leaf}
 use Rattle.awk_types.specs.Simple.{present, simple_value}
 use Rattle.awk_types.specs.Value.{Value, value_list}
 use Rattle.awk_lanes.specs.Column.{Column}
@@ -32,16 +33,15 @@ use Rattle.awk_columns.specs.Opened.{AreLists, items_at, all_items_at}
 use Rattle.awk_columns.specs.declared.lists.Joined.TheVariants.{TooMany}
 use Rattle.awk_columns.proofs.ArrayLaws.{array_items-at}
 use Rattle.awk_axis.specs.Mapped.{IsMade, IsColumn}
-use Rattle.awk_axis.specs.Reach.{is_leaf}
+use Rattle.awk_axis.specs.Reach as axis
 use Rattle.awk_axis.specs.declared.causes.Refusal.TheVariants as refused
 use Rattle.awk_axis.specs.declared.causes.Spoil.{Spoil}
 use Rattle.awk_axis.specs.declared.causes.Spoil.TheVariants.{Index, Size, Overflow}
 use Rattle.awk_axis.specs.declared.function.Made.{Made}
 use Rattle.awk_axis.specs.declared.function.Made.TheVariants as made
 use Rattle.awk_parts.specs.Parts.{AreRising}
-use Rattle.awk_present.specs.Present.{ArePresent, list_at}
-use Rattle.awk_present.specs.declared.present.Present.{Present}
-use Rattle.awk_reduce.specs.Lists.{AreReady, AreReduced}
+use Rattle.awk_present.specs.Present.{list_at}
+use Rattle.awk_reduce.specs.Lists.{AreItems, AreReduced}
 use Rattle.awk_reduce.specs.Reduce.{overflows, overflow_spoil, reduced_spoil, reducer_function}
 use Rattle.awk_reduce.specs.Reducers.{reduced, reduced_type}
 use Rattle.awk_reduce.specs.declared.reducer.Reducer.{Reducer}
@@ -122,9 +122,19 @@ reduced-never how t ls h =
 
 -- ---- leaves
 
+leaf_same : (t : DataType) → is_leaf t ≡ axis.is_leaf t
+leaf_same unknown = refl
+leaf_same (leaf p) = refl
+leaf_same (var t) = refl
+leaf_same (reg n t) = refl
+leaf_same (rec ns ts) = refl
+leaf_same (tup ts) = refl
+leaf_same (opt t) = refl
+leaf_same (uni ts) = refl
+
 pub leaves_taken : (how : Reducer) (t : DataType) → (reducer_function how).refusal t ≡ None
-    → is_leaf (present t) ≡ true
-leaves_taken how t h = go (is_leaf (present t)) h
+    → axis.is_leaf (present t) ≡ true
+leaves_taken how t h = go (axis.is_leaf (present t)) h
   where
     go : (b : Bool) → (if b then None else Some refused.WrongType) ≡ None → b ≡ true
     go true e = refl
@@ -136,8 +146,11 @@ leaves_taken how t h = go (is_leaf (present t)) h
 drop-range : (f : ℕ → Value) (a k n : ℕ)
     → drop k (map f (range_with_len a n)) ≡ map f (range_with_len (a + k) (n - k))
 drop-range f a zero n =
-    let e : a ≡ a + 0 = omega arith in ap (λ b. map f (range_with_len b n)) e
-drop-range f a (suc k) zero = let e : 0 ≡ 0 - suc k = omega arith in
+    let e : a ≡ a + 0 = omega arith in
+    let m : n ≡ n - 0 = omega arith in
+    ap₂ (λ b c. map f (range_with_len b c)) e m
+drop-range f a (suc k) zero =
+    let e : 0 ≡ 0 - suc k = omega arith in
     ap (λ m. map f (range_with_len (a + suc k) m)) e
 drop-range f a (suc k) (suc n) =
     let e : a + 1 + k ≡ a + suc k = omega arith in
@@ -191,11 +204,12 @@ module _ (s e : Column) (y : Layout) (o : Column) (z : Layout) (j : JoinsLists s
       ∙ part-range (array_item z) (len z) (place_at o i) (place_at o (i + 1)) (omega (arith, up))
       (below (i + 1) (omega (arith, p))))
 
-  pub ready : (n : ℕ) (p : Present) → n ≡ size_of s → total s e y ≤ item_limit
-      → size_of s < 2 ^ 63 → ArePresent z o n p → AreReady z o n p
-  ready n p ne few fits h = record {
-    present = h;
+  pub are_items : (n : ℕ) → n ≡ size_of s → total s e y ≤ item_limit → size_of s < 2 ^ 63
+      → axis.is_leaf (present (array_type y)) ≡ true → AreItems z o n
+  are_items n ne few fits leaves = record {
+    leaves = ap (λ t. is_leaf (present t)) j.typ ∙ leaf_same (present (array_type y)) ∙ leaves;
     rising = subst (λ m. AreRising o m (length (array_items z))) (sym ne) lists_rise;
+    first = j.offsets.first;
     few = few_items few;
     fits = omega (arith, ne, fits);
   }
@@ -210,7 +224,7 @@ module _ (s e : Column) (y : Layout) (o : Column) (z : Layout) (j : JoinsLists s
   made_of_lists how class (made.Lists q w) few h = absurd h
   made_of_lists how class (made.Singles w) few h = (
     reduced_fine how s e y few
-    (λ i l. ap₂ (overflows how) (sym j.typ) (list_same i l) ∙ h.0 i l),
+        (λ i l. ap₂ (overflows how) (sym j.typ) (list_same i l) ∙ h.0 i l),
     column,
   )
     where

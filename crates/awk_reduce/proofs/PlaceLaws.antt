@@ -234,9 +234,9 @@ module _ (z : Layout) (o : Column) (n : ℕ) (p : Present) (r : AreReady z o n p
       (flat (lane_of p.lane.kind m (number_at p.lane e)))) places-count in (
         λ i l. item_fits how t (vs i),
         subst (λ u. IsColumn u value n y) (ap opt leaf_type ∙ item_type how t)
-        (subst (IsColumn (opt (leaf (primitive_of p.lane.kind))) value n) (sym same)
-        (optional_column p.lane.kind n (option_place_at e) (number_at p.lane e) value r.fits
-        item_here)),
+            (subst (IsColumn (opt (leaf (primitive_of p.lane.kind))) value n) (sym same)
+            (optional_column p.lane.kind n (option_place_at e) (number_at p.lane e) value r.fits
+            item_here)),
       )
 
   -- ---- their places
@@ -250,8 +250,9 @@ module _ (z : Layout) (o : Column) (n : ℕ) (p : Present) (r : AreReady z o n p
       ap (λ k. int (place_or_zero (start i) k)) h ∙ ap (λ k. int (pos k)) less
       ∙ sym (ap place_or_null b)
   place_found i q w l (Some j) b h =
+      let whole : b.0 - 0 ≡ b.0 = omega arith in
       ap (λ k. int (found_in j.items (place_at o i) (place_at o (i + 1)) k)) h
-      ∙ ap (λ k. int (place_or_zero 0 k)) b.2
+      ∙ ap (λ k. int (place_or_zero 0 k)) b.2 ∙ ap (λ k. int (pos k)) whole
       ∙ sym (ap place_or_null b.1)
 
   index_at : (i : ℕ) → i < n → (f : Option ℕ) → first_extreme how (zs i) ≡ f
@@ -291,7 +292,7 @@ module _ (z : Layout) (o : Column) (n : ℕ) (p : Present) (r : AreReady z o n p
       (flat (lane_of I64 m (place_by o p.offsets e p.index)))) places-count in (
         λ i l. place_fits how t (vs i),
         subst (λ u. IsColumn u value n y) (place_type how t)
-        (subst (IsColumn (opt (leaf primitive.I64)) value n) (sym same)
-        (optional_column I64 n (option_place_at e) (place_by o p.offsets e p.index) value r.fits
-        index_here)),
+            (subst (IsColumn (opt (leaf primitive.I64)) value n) (sym same)
+            (optional_column I64 n (option_place_at e) (place_by o p.offsets e p.index) value r.fits
+            index_here)),
       )

@@ -131,22 +131,21 @@ module _ (z : Layout) (o : Column) (n : ℕ) (p : Present) (r : AreReady z o n p
   folds_made how q c y qe f ye =
       let g : ℕ → ℤ = folded_at how all p.offsets in
       let fit : AreFitting (wide (leaf_of t)) g n (Some c) =
-      subst (λ q. AreFitting q g n (Some c)) qe f in
-      (
+      subst (λ q. AreFitting q g n (Some c)) qe f in (
         λ i l.
             fold_overflows how t (list_at (array_items z) o i) true
             (ap (fits (wide (leaf_of t))) (sym (fold_same how i l)) ∙ fit.0 i l),
         subst
-        (λ u. IsColumn u (λ i. reduced (fold_reducer how) t (list_at (array_items z) o i)) n y)
-        (fold_type how t)
-        (subst (IsColumn (leaf (primitive_of (kind_of (wide (leaf_of t)))))
-        (λ i. reduced (fold_reducer how) t (list_at (array_items z) o i)) n)
-        (sym (ye ∙ ap flat fit.1))
-        (flat_column (kind_of (wide (leaf_of t))) n g
-        (λ i. reduced (fold_reducer how) t (list_at (array_items z) o i)) r.fits
-        (λ i l.
-        wide_value (leaf_of t) (g i) ∙ ap (λ z. int z) (fold_same how i l)
-        ∙ fold_value how t (list_at (array_items z) o i)))),
+            (λ u. IsColumn u (λ i. reduced (fold_reducer how) t (list_at (array_items z) o i)) n y)
+            (fold_type how t)
+            (subst (IsColumn (leaf (primitive_of (kind_of (wide (leaf_of t)))))
+            (λ i. reduced (fold_reducer how) t (list_at (array_items z) o i)) n)
+            (sym (ye ∙ ap flat fit.1))
+            (flat_column (kind_of (wide (leaf_of t))) n g
+            (λ i. reduced (fold_reducer how) t (list_at (array_items z) o i)) r.fits
+            (λ i l.
+            wide_value (leaf_of t) (g i) ∙ ap (λ z. int z) (fold_same how i l)
+            ∙ fold_value how t (list_at (array_items z) o i)))),
       )
 
   pub tallies_made : (how : Tally) (c : Column) (y : Layout)
@@ -155,14 +154,14 @@ module _ (z : Layout) (o : Column) (n : ℕ) (p : Present) (r : AreReady z o n p
   tallies_made how c y ce ye = (
     λ i l. tally_fits how t (list_at (array_items z) o i),
     subst (λ u. IsColumn u (λ i. reduced (tally_reducer how) t (list_at (array_items z) o i)) n y)
-    (tally_type how t)
-    (subst (IsColumn (leaf (primitive_of (tally_kind how)))
-    (λ i. reduced (tally_reducer how) t (list_at (array_items z) o i)) n)
-    (sym (ye ∙ ap flat ce))
-    (flat_column (tally_kind how) n (tallied_at how all p.offsets)
-    (λ i. reduced (tally_reducer how) t (list_at (array_items z) o i)) r.fits
-    (λ i l.
-    ap (λ zs. leaf_value (tally_kind how) (element (tally_kind how) (tallied how zs)))
-    (r.present.parts i l)
-    ∙ tally_value how t (list_at (array_items z) o i)))),
+        (tally_type how t)
+        (subst (IsColumn (leaf (primitive_of (tally_kind how)))
+        (λ i. reduced (tally_reducer how) t (list_at (array_items z) o i)) n)
+        (sym (ye ∙ ap flat ce))
+        (flat_column (tally_kind how) n (tallied_at how all p.offsets)
+        (λ i. reduced (tally_reducer how) t (list_at (array_items z) o i)) r.fits
+        (λ i l.
+        ap (λ zs. leaf_value (tally_kind how) (element (tally_kind how) (tallied how zs)))
+        (r.present.parts i l)
+        ∙ tally_value how t (list_at (array_items z) o i)))),
   )

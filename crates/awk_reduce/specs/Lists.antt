@@ -2,8 +2,11 @@
 use Rattle.std.specs.Prelude.{◌≡◌, ℕ, ◌<◌, ◌≤◌, ◌^◌, true, false, List, length}
 use Rattle.awk_types.specs.DataType.{DataType}
 use Rattle.awk_types.specs.ItemLimit.{item_limit}
+use Rattle.awk_types.specs.Predicates.{is_leaf}
+use Rattle.awk_types.specs.Simple.{present}
 use Rattle.awk_types.specs.Value.{Value}
 use Rattle.awk_lanes.specs.Column.{Column}
+use Rattle.awk_lanes.specs.Places.{place_at}
 use Rattle.awk_layout.specs.Layout.{Layout}
 use Rattle.awk_layout.specs.Typing.{array_type, array_items}
 use Rattle.awk_axis.specs.Mapped.{IsColumn}
@@ -16,6 +19,14 @@ use Rattle.awk_present.specs.declared.present.Present.{Present}
 use Rattle.awk_reduce.specs.Reduce.{overflows}
 use Rattle.awk_reduce.specs.Reducers.{reduced_type, reduced}
 use Rattle.awk_reduce.specs.declared.reducer.Reducer.{Reducer}
+
+-- items of n lists one after another, which are leaves
+pub record AreItems (z : Layout) (o : Column) (n : ℕ) : Type 0 where
+  pub leaves : is_leaf (present (array_type z)) ≡ true
+  pub rising : AreRising o n (length (array_items z))
+  pub first : place_at o 0 ≡ 0
+  pub few : length (array_items z) ≤ item_limit
+  pub fits : n < 2 ^ 63
 
 -- items of n lists one after another, and those that are present as numbers
 pub record AreReady (z : Layout) (o : Column) (n : ℕ) (p : Present) : Type 0 where

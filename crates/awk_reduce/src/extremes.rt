@@ -1,7 +1,7 @@
 //! The least and the greatest items, and their places.
 ghost use Rattle.std.specs.Prelude.{◌≡◌, ◌<◌, ◌^◌, IfOk};
 ghost use Rattle.awk_lanes.specs.Made.{lane_of};
-ghost use Rattle.awk_lanes.specs.Places.{size_of};
+ghost use Rattle.awk_lanes.specs.Places.{size_of, IsOptionalIndex};
 ghost use Rattle.awk_lanes.specs.declared.kind.Kind.TheVariants as Kind;
 ghost use Rattle.awk_layout.specs.Layout.{flat, optional};
 ghost use Rattle.awk_numbers.specs.Folds.{lane_numbers};
@@ -35,7 +35,31 @@ fn places_of<'a, N: Kernels, L: Ledger>(
         IfOk result (λ r. r ≡ extreme_lane how numbers x.now.present.now.offsets x.now.count) }
 {
     let keys = keys_of(alloc, &x.present.lane, steps)?;
-    extreme_places(how, &keys, &x.present.offsets, x.count, kernels, arena, steps)
+    extreme_places(
+        how,
+        &keys,
+        &x.present.offsets,
+        x.count,
+        kernels,
+        arena,
+        steps,
+    )
+}
+
+/// Numbers, and null where an index names none.
+fn indexed<'a, L: Ledger>(
+    alloc: Global,
+    index: Lane<'a>,
+    numbers: Lane<'a>,
+    steps: &mut Steps<L>,
+) -> Result<Node<'a>, NoMemory>
+    requires length { size_of index < 2 ^ 63 }
+    requires size { size_of numbers < 2 ^ 63 }
+    requires valid { IsOptionalIndex index (size_of numbers) }
+    ensures { IfOk result (λ y. y ≡ optional index.entry (flat numbers.entry)) }
+{
+    let content = Box::new(alloc, Node::numpy(numbers, steps))?;
+    Ok(Node::indexed_option(index, content, steps))
 }
 
 /// Numbers, and null where there is no place.
@@ -53,8 +77,7 @@ fn optional_node<'a, L: Ledger>(
         IfOk result (λ y. y ≡ optional index (flat numbers.entry)) }
 {
     let index = present(places, arena, steps)?;
-    let content = Box::new(alloc, Node::numpy(numbers, steps))?;
-    Ok(Node::indexed_option(index, content, steps))
+    indexed(alloc, index, numbers, steps)
 }
 
 /// The least or the greatest item of each list.

@@ -3,6 +3,14 @@ use awk_lanes::Lane;
 use awk_layout::Array;
 use awk_present::Present;
 
+/// The items of lists one after another, with their offsets, and how many lists there are.
+#[derive(Drop)]
+pub(crate) struct ItemLists<'b, 'a> {
+    pub items: &'b Array<'a>,
+    pub offsets: &'b Lane<'a>,
+    pub count: u64,
+}
+
 /// The items of lists one after another, with their offsets, those that are not null, and how many
 /// lists there are.
 #[derive(Drop)]

@@ -7,11 +7,11 @@ ghost use Rattle.awk_layout.specs.Datum.{datum_of, IsDatum};
 ghost use Rattle.awk_layout.specs.Typing.{array_type};
 ghost use Rattle.awk_axis.specs.Mapped.{IsMade};
 ghost use Rattle.awk_axis.specs.Reach.{is_leaf};
-ghost use Rattle.awk_reduce.specs.Lists.{AreReady, AreReduced};
+ghost use Rattle.awk_reduce.specs.Lists.{AreItems, AreReady, AreReduced};
 ghost use Rattle.awk_reduce.specs.Reduce.{reducer_function, reduce_of};
 
 use crate::extremes::{extreme_indexes, extremes};
-use crate::joined::JoinedItems;
+use crate::joined::{ItemLists, JoinedItems};
 use crate::reducer::Reducer;
 use crate::totals::{folds, tallies};
 use crate::types::{are_leaves, reduced_typ};
@@ -52,6 +52,28 @@ fn reduced<'a, N: Kernels, L: Ledger>(
     }
 }
 
+/// What is made of lists, by their items one after another.
+fn reduced_items<'a, N: Kernels, L: Ledger>(
+    alloc: Global,
+    how: Reducer,
+    x: &ItemLists<'_, 'a>,
+    kernels: &N,
+    arena: &'a Arena,
+    steps: &mut Steps<L>,
+) -> Result<Made<'a>, NoMemory>
+    requires { AreItems x.now.items.now x.now.offsets.now x.now.count }
+    ensures { IfOk result (AreReduced how x.now.items.now x.now.offsets.now x.now.count) }
+{
+    let present = present_of(alloc, x.items, x.offsets, x.count, arena, steps)?;
+    let x = JoinedItems {
+        items: x.items,
+        offsets: x.offsets,
+        present: &present,
+        count: x.count,
+    };
+    reduced(alloc, how, &x, kernels, arena, steps)
+}
+
 /// What is made of lists.
 fn reduced_lists<'a, N: Kernels, L: Ledger>(
     alloc: Global,
@@ -65,18 +87,16 @@ fn reduced_lists<'a, N: Kernels, L: Ledger>(
     ensures { IfOk result (IsMade (reducer_function how) lists.now.class lists.now.starts
         lists.now.stops lists.now.content) }
 {
+    let count = lists.len();
     match lists.joined(alloc, arena, steps)? {
         Joined::TooMany => Ok(Made::Spoiled(Spoil::Size)),
         Joined::Lists { offsets, content } => {
-            let count = lists.len();
-            let present = present_of(alloc, &content, &offsets, count, arena, steps)?;
-            let x = JoinedItems {
+            let x = ItemLists {
                 items: &content,
                 offsets: &offsets,
-                present: &present,
                 count,
             };
-            reduced(alloc, how, &x, kernels, arena, steps)
+            reduced_items(alloc, how, &x, kernels, arena, steps)
         }
     }
 }

@@ -1,0 +1,48 @@
+use Rattle.std.proofs.Common.{◌≡◌, ap, ◌∙◌, arith, subst}
+use Rattle.std.specs.Prelude.{ℕ, ℤ, Option, Some}
+use Rattle.awk_types.specs.declared.primitive.Primitive.{Primitive}
+use Rattle.awk_lanes.specs.Column.{Column}
+use Rattle.awk_lanes.specs.Places.{size_of}
+use Rattle.awk_lanes.proofs.MadeLanes.{size-lane_of}
+use Rattle.awk_layout.specs.Kinds.{kind_of}
+use Rattle.awk_layout.specs.Typing.{array_type}
+use Rattle.awk_numbers.specs.Folds.{whole_numbers}
+use Rattle.awk_parts.specs.Fits.{AreFitting}
+use Rattle.awk_parts.specs.Lanes.{folded_at}
+use Rattle.awk_present.specs.Numbers.{leaf_of}
+use Rattle.awk_reduce.specs.Reducers.{wide}
+use Rattle.awk_reduce.proofs.ReadyLaws.{folds_made}
+use Rattle.awk_reduce.proofs.totals.folds.Goals as goal
+
+-- what was folded fits
+some_fits : (q : Primitive) (f : ℕ → ℤ) (n : ℕ) (o : Option Column) (c : Column) → o ≡ Some c
+    → AreFitting q f n o → AreFitting q f n (Some c)
+some_fits q f n o c e h = subst (AreFitting q f n) e h
+
+pub numpy-requires : goal.numpy-requires
+numpy-requires g c =
+    let x = c.args.x.now in
+    let fit = some_fits c.wide-prim.result
+    (folded_at c.args.how (whole_numbers c.in_ok-numbers.numbers) x.present.now.offsets) x.count
+    c.in_ok-lane.field-0 c.in-Some.lane c.in-Some.is c.in_ok-lane.ensures in
+    omega (
+      arith,
+      ap size_of fit.1,
+      size-lane_of (kind_of c.wide-prim.result) x.count
+          (folded_at c.args.how (whole_numbers c.in_ok-numbers.numbers) x.present.now.offsets),
+      c.requires.fits,
+    )
+
+pub returns-in-Some : goal.returns-in-Some
+returns-in-Some g c =
+    let x = c.args.x.now in
+    let prim : c.wide-prim.result ≡ wide (leaf_of (array_type x.items.now)) =
+    c.wide-prim.ensures ∙ ap wide (c.leaf_of.ensures ∙ ap leaf_of c.typ.ensures.typ) in
+    folds_made x.items.now x.offsets.now x.count x.present.now c.requires c.args.how
+    c.wide-prim.result c.in-Some.lane c.numpy.result prim
+    (subst (λ zs. AreFitting c.wide-prim.result (folded_at c.args.how zs x.present.now.offsets)
+    x.count (Some c.in-Some.lane)) c.in_ok-numbers.ensures.numbers
+    (some_fits c.wide-prim.result
+    (folded_at c.args.how (whole_numbers c.in_ok-numbers.numbers) x.present.now.offsets) x.count
+    c.in_ok-lane.field-0 c.in-Some.lane c.in-Some.is c.in_ok-lane.ensures))
+    c.numpy.ensures.node
