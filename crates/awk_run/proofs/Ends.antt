@@ -1,5 +1,5 @@
 -- How a session ends.
-use Rattle.std.proofs.Common.{◌≡◌, ◌≢◌, ◌≤◌, ◌<◌, inl, inr, ℕ, ◌+◌, ◌-◌, Bool, true, false, List, [], ◌∷◌, ◌++◌, map, length, get_or, refl, ap, sym, ◌∙◌, subst, arith, Option, append_assoc, append-nil, length-append}
+use Rattle.std.proofs.Common.{◌≡◌, ◌≢◌, ◌≤◌, ◌<◌, inl, inr, ℕ, ◌+◌, ◌-◌, Bool, true, false, List, [], ◌∷◌, ◌++◌, length, get_or, refl, ap, sym, ◌∙◌, subst, arith, Option, append_assoc, append-nil, length-append}
 use Rattle.std.specs.Io.KnownBytes.{Consumes, Appends}
 use Rattle.std.specs.List.{AllByRecursion}
 use Rattle.awk_edge.specs.Lines.{Unbroken, lines, ended, ended_lines, within, unlines, AreLines, line_limit, lines_limit}
@@ -7,7 +7,7 @@ use Rattle.awk_edge.specs.Limits.{HasLongLine, HasTooManyLines, IsWithinLimits}
 use Rattle.awk_edge.specs.Reading.{Reading}
 use Rattle.awk_edge.specs.Pending.{Pending}
 use Rattle.awk_edge.specs.Next.{FailsToRead, IsTooLong}
-use Rattle.awk_edge.proofs.Known.{Consumes-both, Appends-both, Consumes-none, Appends-none}
+use Rattle.awk_edge.proofs.Known.{Consumes-both, Appends-both}
 use Rattle.awk_edge.proofs.LineLaws.{lines-unlines, lines-nil, lines-last, lines_some, first_length, ended-unlines, ended-unbroken, ended-long, ended-full}
 use Rattle.awk_edge.proofs.LimitLaws.{get_or_behind, IsWithinLimits-short, IsWithinLimits-few}
 use Rattle.awk_session.specs.Runs.{state_after, answer_bytes}

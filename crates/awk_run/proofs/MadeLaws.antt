@@ -1,18 +1,18 @@
 -- A made session, whose bytes a source gave that never fails.
-use Rattle.std.proofs.Common.{◌≡◌, ◌≢◌, ◌≤◌, ◌<◌, inl, inr, ℕ, ◌+◌, ◌-◌, Bool, List, [], ◌∷◌, ◌++◌, length, refl, ap, sym, ◌∙◌, subst, arith, Option, Some, None, append_assoc, append-nil, IsTrue, decimal, String}
+use Rattle.std.proofs.Common.{◌≡◌, ◌≢◌, ◌≤◌, inl, inr, ℕ, ◌+◌, ◌-◌, Bool, List, [], ◌∷◌, ◌++◌, length, refl, ap, sym, ◌∙◌, subst, arith, Option, Some, None, append_assoc, append-nil, IsTrue, decimal, String}
 use Rattle.std.specs.declared.alloc.Global.{Global}
-use Rattle.std.specs.Io.KnownBytes.{Consumes, Appends, IsAtEnd}
+use Rattle.std.specs.Io.KnownBytes.{Appends}
 use Rattle.std.proofs.lemmas.Fmt.{decimal_injective}
 use Rattle.awk_edge.specs.Causes.{Rose}
 use Rattle.awk_edge.specs.Lines.{lines, ended, ended_lines, within, unlines, line_limit, lines_limit}
 use Rattle.awk_edge.specs.Limits.{IsWithinLimits}
 use Rattle.awk_edge.proofs.Known.{Appends-none}
 use Rattle.awk_edge.proofs.LineLaws.{ended-unlines}
-use Rattle.awk_edge.proofs.LimitLaws.{IsParted, part, ended-parted, IsWithinLimits-front_short, IsWithinLimits-front_few}
+use Rattle.awk_edge.proofs.LimitLaws.{part, ended-parted, IsWithinLimits-front_short, IsWithinLimits-front_few}
 use Rattle.awk_made.specs.Session.{session_of}
 use Rattle.awk_session.specs.Cost.{are_plain, cost}
 use Rattle.awk_session.specs.Replies.{answers}
-use Rattle.awk_run.specs.Flushes.{fronts, Flushes}
+use Rattle.awk_run.specs.Flushes.{fronts}
 use Rattle.awk_run.specs.Words.{IsMake}
 use Rattle.awk_run.specs.Session.{Session, Says, MadeSession, IsMadeEnd, IsWhole, IsCut, HasFirstAnswers, AreAnswered, MayBeAnswered, IsComplete}
 use Rattle.awk_run.specs.declared.run.Status.{Status}

@@ -1,6 +1,5 @@
-use Rattle.std.proofs.Common.{◌≡◌, ap, subst, ◌∙◌}
 use Rattle.awk_run.proofs.Complete.{completes, completes_told, whole_known}
-use Rattle.awk_run.proofs.MadeLaws.{same_made, made_as, made_known, complete_made}
+use Rattle.awk_run.proofs.MadeLaws.{same_made, made_as, made_known}
 use Rattle.awk_run.proofs.run.run_words.Goals as goal
 
 pub returns-in-Some-Run-clause-complete : goal.returns-in-Some-Run-clause-complete
