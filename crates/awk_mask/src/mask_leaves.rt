@@ -73,8 +73,11 @@ impl<'b, 'a> Numbers for Kept<'b, 'a> {
     ghost use Rattle.awk_mask.specs.MaskLeaves.{kept_place};
 
     ghost kind = { λ _. Kinds.I64 };
+
     ghost at = { λ f. kept_place f.truths.now f.keep };
+
     ghost size = { λ f. size_of f.truths.now };
+
     ghost IsReady = { λ f. (f.truths.now.kind ≡ Kinds.Bool) × (size_of f.truths.now < 2 ^ 63) };
 
     fn number<L: Ledger>(&self, i: u64, steps: &mut Steps<L>) -> Num {
@@ -93,7 +96,13 @@ fn kept_places<'a, L: Ledger>(
     requires fits { size_of truths.now < 2 ^ 63 }
     ensures { IfOk result (λ r. r ≡ kept_lane truths.now keep) }
 {
-    made_lane(Kind::I64, truths.len(), &Kept { truths, keep }, arena, steps)
+    made_lane(
+        Kind::I64,
+        truths.len(),
+        &Kept { truths, keep },
+        arena,
+        steps,
+    )
 }
 
 /// The items of an array where a mask of single truth values is the one that is kept.

@@ -15,7 +15,7 @@ items_where-requires-clause-fits g c =
 pub returns : goal.returns
 returns g c = (
   ap (λ (c : Column). c.kind) c.in_ok-items.ensures.order,
-      below_item_nulls c.args.m.now c.args.x.now c.in_ok-items.items.index c.in_ok-mask.mask
+  below_item_nulls c.args.m.now c.args.x.now c.in_ok-items.items.index c.in_ok-mask.mask
       c.in_ok-items.items.content c.requires.lists c.requires.under c.in_ok-items.ensures
       c.in_ok-mask.ensures.typ c.in_ok-mask.ensures.items,
 )

@@ -11,7 +11,7 @@ items_where-requires-clause-size g c =
 pub returns : goal.returns
 returns g c = (
   ap (λ (c : Column). c.kind) c.in_ok-mask.ensures.order,
-      below_mask_nulls c.args.m.now c.args.x.now c.in_ok-mask.mask.index c.in_ok-mask.mask.content
+  below_mask_nulls c.args.m.now c.args.x.now c.in_ok-mask.mask.index c.in_ok-mask.mask.content
       c.in_ok-items.items c.requires.under c.in_ok-mask.ensures c.in_ok-items.ensures.typ
       c.in_ok-items.ensures.items,
 )

@@ -29,7 +29,7 @@ returns g c =
       c.starts.ensures,
       c.stops.ensures,
     )
-        at c.in_ok-items.ensures.items in (
+    at c.in_ok-items.ensures.items in (
       refl,
       firsts_given c.args.lists.now.class c.args.lists.now.starts c.args.lists.now.stops
           c.args.lists.now.content c.content-content.ensures.lists

@@ -59,7 +59,7 @@ returns-in_ok-padded-in-Some g c =
       c.starts-starts.ensures,
       c.stops-stops.ensures,
     )
-        at c.in_ok-padded-in-Some.ensures.items in (
+    at c.in_ok-padded-in-Some.ensures.items in (
       padded_fine c.args.self.now.size c.args.self.now.clip c.args.lists.now.class
           c.args.lists.now.starts c.args.lists.now.stops c.args.lists.now.content
           c.content-content.ensures.lists few,
