@@ -4,7 +4,7 @@ use Rattle.awk_readback.proofs.BackLaws.{first-fails, load-fails, again-fails, c
 use Rattle.awk_readback.proofs.back.rounded.Goals as goal
 
 pub load_packed-requires : goal.load_packed-requires
-load_packed-requires g c = record { lawful = c.in_ok-first.ensures.lawful; }
+load_packed-requires g c = record { lawful = c.in_ok-first.ensures.lawful }
 
 pub returns-in_err-first-clause-round : goal.returns-in_err-first-clause-round
 returns-in_err-first-clause-round g c =
