@@ -104,12 +104,9 @@ more_onward done u [] y s z x h = onward_end done u.lifts u.typ h
 more_onward done u (b ∷ bs) y s z x h =
     let r : IsCarried u.typ b (unification u.typ b) = unify_carries u.typ b y z.0 s x.0 in
     let next : AllCarry (done ++ b ∷ []) (one_further u b).lifts (one_further u b).typ =
-    carried_one done _ b _ _
-    (carried_further done u.lifts u.typ (unification u.typ b).typ (unification u.typ b).left
-    r.in_place r.to_left h) r.to_right in
+    carried_one done _ b _ _ (carried_further done u.lifts u.typ (unification u.typ b).typ (unification u.typ b).left r.in_place r.to_left h) r.to_right in
     onward_step done u.lifts u.typ b bs (unification_more u (b ∷ bs)).lifts r.in_place r.to_left h
-    (more_onward (done ++ b ∷ []) (one_further u b) bs (unify_type u.typ b y z.0)
-    (unify_simple u.typ b s x.0) z.1 x.1 next)
+    (more_onward (done ++ b ∷ []) (one_further u b) bs (unify_type u.typ b y z.0) (unify_simple u.typ b s x.0) z.1 x.1 next)
 
 pub list_simple : (ts : List DataType) → AreSimple (types_from ts) → IsSimple (unification_list ts).typ
 list_simple ts x = more_simple _ ts tt x
