@@ -7,6 +7,7 @@ pub mod LiftLaws
 pub mod ArrayKinds
 pub mod Falls
 pub mod KindLaws
+pub mod IndexLaws
 pub mod IfOk
 pub mod AllLaws
 pub mod JudgedTypes

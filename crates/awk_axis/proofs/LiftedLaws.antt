@@ -14,7 +14,8 @@ use Rattle.awk_lanes.specs.Places.{size_of}
 use Rattle.awk_layout.specs.Layout.{Layout, layouts_from, rows, optional, union, offset_lists}
 use Rattle.awk_layout.specs.Valid.{len}
 use Rattle.awk_lanes.specs.declared.kind.Kind.TheVariants.{I64}
-use Rattle.awk_axis.proofs.CauseLaws.{sooner-both, first_spoil-assoc}
+use Rattle.awk_axis.proofs.CauseLaws.{sooner-both, first_spoil-assoc, first_spoil-none}
+use Rattle.awk_axis.proofs.IndexLaws.{spoil_at-never, first_spoil-size}
 use Rattle.awk_layout.specs.Typing.{array_type, array_items}
 use Rattle.awk_axis.specs.declared.causes.Spoil.{Spoil}
 use Rattle.awk_axis.specs.declared.causes.Spoil.TheVariants.{Size}
@@ -23,11 +24,12 @@ use Rattle.awk_axis.specs.declared.place.Reach.TheVariants.{Axis}
 use Rattle.awk_axis.specs.Reach.{here, inner}
 use Rattle.awk_axis.specs.Causes.{first_spoil}
 use Rattle.awk_columns.specs.ListClass.{Class, list_type}
-use Rattle.awk_axis.specs.ListFunction.{Giving, lists, singles, ListFunction}
+use Rattle.awk_axis.specs.ListFunction.{Giving, lists, singles, ListFunction, NeverIndex}
 use Rattle.awk_axis.specs.ListFunction.{given_type, given_value, given_class}
 use Rattle.awk_axis.specs.Lift.{lifted_type, lifted_value, on_list}
 use Rattle.awk_axis.specs.Lift.{refusal_at, refusal_among, nested}
-use Rattle.awk_axis.specs.Spoils.{spoil_at}
+use Rattle.awk_axis.specs.Spoils.{spoil_at, too_many}
+use Rattle.awk_axis.specs.Taken.{told}
 use Rattle.awk_columns.specs.Opened.{items_at, all_items_at, OpensLists, OpensOption, OpensRow}
 use Rattle.awk_columns.specs.Opened.{OpensUnion, OpensNothing}
 use Rattle.awk_gather.specs.Arrays.{array_item}
@@ -38,7 +40,10 @@ use Rattle.awk_axis.specs.Mapped.{GivesLists, IsColumn, IsMapped, IsAtAxis, IsLi
 use Rattle.awk_columns.specs.ListNode.{AreEven}
 use Rattle.awk_columns.specs.ListNode.{list_layout}
 use Rattle.awk_axis.specs.Mapped.{spoil_of_all, AreMapped}
+use Rattle.awk_columns.specs.Counted.{spans}
+use Rattle.awk_columns.specs.Reached.{IsReached}
 use Rattle.awk_columns.proofs.ArrayLaws.{lists-inner, lists-among}
+use Rattle.awk_columns.proofs.OpeningLaws.{reached-items}
 use Rattle.awk_axis.proofs.LiftLaws.{given_column, lifted_null, option_column, lists_column}
 use Rattle.awk_axis.proofs.LiftLaws.{row_column, union_column, spoil-list, spoil-list_here}
 use Rattle.awk_axis.proofs.LiftLaws.{type-list, type-list_here, value-list, value-list_here}
@@ -108,21 +113,51 @@ lists_here f k class s t c x (mapped.Column y) e o h = (
 above_spoil : (f : ListFunction) (k : Reach) (class : Class) (s t : Column) (c x : Layout)
     → here k (array_type c) ≡ false → OpensLists class s t c x →
     spoil_at f k (array_type x) (array_items x)
-    ≡ (if nat_lt item_limit (total s t c) then Some Size else spoil_at f (inner k)
-    (array_type c) (flat_map (items_at s t c) (range_with_len 0 (size_of s))))
+    ≡ first_spoil (too_many (total s t c)) (spoil_at f (inner k) (array_type c)
+    (flat_map (items_at s t c) (range_with_len 0 (size_of s))))
 above_spoil f k class s t c x e o =
     ap (λ u. spoil_at f k u (array_items x)) o.typ
     ∙ spoil-list f k class (array_type c) (array_items x) e
-    ∙ ap (λ vs. if nat_lt item_limit (length vs) then Some Size else spoil_at f (inner k)
-    (array_type c) vs) (lists-inner class s t c x o
+    ∙ ap (λ vs. first_spoil (too_many (length vs)) (spoil_at f (inner k) (array_type c) vs))
+    (lists-inner class s t c x o
     ∙ ap (λ n. flat_map (items_at s t c) (range_with_len 0 n)) (sym o.size))
 
-pub lists_too_many : (f : ListFunction) (k : Reach) (class : Class) (s t : Column) (c x : Layout)
+-- where the lists have too many items together
+many_spoil : (f : ListFunction) (k : Reach) (class : Class) (s t : Column) (c x : Layout)
     → here k (array_type c) ≡ false → OpensLists class s t c x → item_limit < total s t c
-    → IsLifted f k x (mapped.Spoiled Size)
-lists_too_many f k class s t c x e o p =
+    → spoil_at f k (array_type x) (array_items x)
+    ≡ first_spoil (Some Size) (spoil_at f (inner k) (array_type c)
+    (flat_map (items_at s t c) (range_with_len 0 (size_of s))))
+many_spoil f k class s t c x e o p =
     let q : nat_lt item_limit (total s t c) ≡ true = over item_limit (total s t c) p in
-    above_spoil f k class s t c x e o ∙ rw q refl
+    above_spoil f k class s t c x e o
+    ∙ ap (λ b. first_spoil (if b then Some Size else None) (spoil_at f (inner k) (array_type c)
+    (flat_map (items_at s t c) (range_with_len 0 (size_of s))))) q
+
+-- they are refused for their size where no place is told inside
+pub lists_too_many : (f : ListFunction) (k : Reach) (class : Class) (s t : Column) (c x : Layout)
+    → NeverIndex f → here k (array_type c) ≡ false → OpensLists class s t c x
+    → item_limit < total s t c → IsLifted f k x (mapped.Spoiled Size)
+lists_too_many f k class s t c x n e o p =
+    many_spoil f k class s t c x e o p
+    ∙ first_spoil-size _ (spoil_at-never f n (inner k) (array_type c) _)
+
+told-is : (f : ListFunction) (k : Reach) (x : Layout) (m : Mapped) → IsLifted f k x m
+    → spoil_at f k (array_type x) (array_items x) ≡ told m
+told-is f k x (mapped.Spoiled why) h = h
+told-is f k x (mapped.Column y) h = h.0
+
+-- else for what is told inside, if that is told before a size
+pub lists_many_told : (f : ListFunction) (k : Reach) (class : Class) (s t : Column) (c x z : Layout)
+    (m : Mapped) (why : Spoil) → here k (array_type c) ≡ false → OpensLists class s t c x
+    → item_limit < total s t c → IsReached c (spans s t) z → IsLifted f (inner k) z m
+    → Some why ≡ first_spoil (Some Size) (told m) → IsLifted f k x (mapped.Spoiled why)
+lists_many_told f k class s t c x z m why e o p r h w =
+    many_spoil f k class s t c x e o p
+    ∙ ap (λ vs. first_spoil (Some Size) (spoil_at f (inner k) (array_type c) vs))
+    (sym (reached-items s t c z r))
+    ∙ ap (λ u. first_spoil (Some Size) (spoil_at f (inner k) u (array_items z))) (sym r.typ)
+    ∙ ap (first_spoil (Some Size)) (told-is f (inner k) z m h) ∙ sym w
 
 within_spoil : (f : ListFunction) (k : Reach) (class : Class) (s t o : Column) (c z x : Layout)
     → here k (array_type c) ≡ false → OpensLists class s t c x → total s t c ≤ item_limit
@@ -132,8 +167,9 @@ within_spoil : (f : ListFunction) (k : Reach) (class : Class) (s t o : Column) (
 within_spoil f k class s t o c z x e opens p joins =
     let q : nat_lt item_limit (total s t c) ≡ false = not_over item_limit (total s t c) p in
     above_spoil f k class s t c x e opens
-    ∙ ap (λ b. if b then Some Size else spoil_at f (inner k) (array_type c)
-    (flat_map (items_at s t c) (range_with_len 0 (size_of s)))) q
+    ∙ ap (λ b. first_spoil (if b then Some Size else None) (spoil_at f (inner k) (array_type c)
+    (flat_map (items_at s t c) (range_with_len 0 (size_of s))))) q
+    ∙ first_spoil-none _
     ∙ ap (spoil_at f (inner k) (array_type c)) (sym joins.column)
     ∙ ap (λ u. spoil_at f (inner k) u (array_items z)) (sym joins.typ)
 

@@ -1,9 +1,10 @@
 -- A function of one list: what it does to the type and to the values, and why it refuses either.
-use Rattle.std.specs.Prelude.{List, Option, Bool, true, false}
+use Rattle.std.specs.Prelude.{◌≡◌, List, Option, Some, Bool, true, false}
 use Rattle.awk_types.specs.DataType.{DataType}
 use Rattle.awk_types.specs.Value.{Value, list, values_from}
 use Rattle.awk_axis.specs.declared.causes.Refusal.{Refusal}
 use Rattle.awk_axis.specs.declared.causes.Spoil.{Spoil}
+use Rattle.awk_axis.specs.declared.causes.Spoil.TheVariants.{Index}
 use Rattle.awk_columns.specs.ListClass.{Class, list_type}
 
 -- what is given for a list of some class whose items are of a type
@@ -19,6 +20,10 @@ pub record ListFunction : Type 0 where
   pub giving : Giving
   -- why the lists of one column, whose items are of the type, are refused
   pub spoil : DataType → List (List Value) → Option Spoil
+
+-- no lists are refused for a place
+abbrev pub NeverIndex : ListFunction → Type 0
+NeverIndex f = (t : DataType) (ls : List (List Value)) → f.spoil t ls ≡ Some Index → ⊥
 
 -- the type of the items of a list that is given, or that of a single value
 abbrev pub made_type : Giving → DataType → DataType

@@ -30,10 +30,9 @@ abbrev pub spoil_among : List (List Value → Option Spoil) → ℕ → List Val
 spoil_among [] k vs = None
 spoil_among (h ∷ hs) k vs = first_spoil (h (alternative_values k vs)) (spoil_among hs (suc k) vs)
 
--- the lists above the axis, and then what is inside
+-- the lists above the axis and what is inside: a place inside is told before their size
 abbrev pub spoil_inside : (List Value → Option Spoil) → List Value → Option Spoil
-spoil_inside h vs =
-    if nat_lt item_limit (length (joined_items vs)) then Some Size else h (joined_items vs)
+spoil_inside h vs = first_spoil (too_many (length (joined_items vs))) (h (joined_items vs))
 
 abbrev mutual
   pub spoil_at : ListFunction → Reach → DataType → List Value → Option Spoil

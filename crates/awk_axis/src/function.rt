@@ -1,10 +1,10 @@
 //! Functions of one list, over columns of lists.
-ghost use Rattle.std.specs.Prelude.{◌≡◌, None, IfOk};
+ghost use Rattle.std.specs.Prelude.{◌≡◌, None, false, IfOk};
 ghost use Rattle.awk_types.specs.View.{typ_of};
 ghost use Rattle.awk_layout.specs.Typing.{array_type};
 ghost use Rattle.awk_axis.specs.Mapped.{IsMade};
 ghost use Rattle.awk_axis.specs.ListFunction.{ListFunction, made_type, given_type, given_class};
-ghost use Rattle.awk_axis.specs.ListFunction.{gives_lists};
+ghost use Rattle.awk_axis.specs.ListFunction.{gives_lists, NeverIndex};
 ghost use Rattle.awk_columns.specs.ListClass.{list_type};
 
 use crate::causes::{Refusal, Spoil};
@@ -50,6 +50,14 @@ pub trait ListOp {
     /// The class of a list that is given for one of this class.
     fn class(&self, class: Option<u64>) -> Option<u64>
         ensures { result ≡ given_class (function self.now).giving class };
+
+    /// Whether lists may be refused for a place. Where they are not, lists above the axis that have
+    /// too many items together are refused without a look inside.
+    fn tells_index(&self) -> bool
+        ensures { result ≡ false → NeverIndex (function self.now) }
+    {
+        true
+    }
 
     /// What is made of all lists of a column at once.
     fn column<'a, L: Ledger>(

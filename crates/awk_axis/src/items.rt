@@ -1,15 +1,14 @@
 //! A function of one list, applied to the lists inside the items of an array.
-ghost use Rattle.std.specs.Prelude.{◌≡◌, Some, IfOk};
+ghost use Rattle.std.specs.Prelude.{◌≡◌, IfOk};
 ghost use Rattle.awk_types.specs.Faults.{fault_told};
 ghost use Rattle.awk_types.specs.Gives.{Gives};
 ghost use Rattle.awk_layout.specs.Datum.{datum_of, first_item, IsDatum};
 ghost use Rattle.awk_layout.specs.Typing.{array_type, array_items};
 ghost use Rattle.awk_layout.specs.Valid.{len};
-ghost use Rattle.awk_axis.specs.Causes.{first_spoil};
 ghost use Rattle.awk_axis.specs.Lifting as spec;
 ghost use Rattle.awk_axis.specs.Spoils.{too_many};
 
-use crate::causes::{Spoil, sooner_spoil};
+use crate::causes::{Spoil, first_of};
 use crate::function::ListOp;
 use crate::judged::{judged, made, spoilt};
 use crate::lift::{Mapped, lifted};
@@ -28,17 +27,6 @@ fn too_many(n: u64) -> Option<Spoil>
         Some(Spoil::Size)
     } else {
         None
-    }
-}
-
-/// The one of two that is told first.
-#[tactic(auto, using(crate::proofs::JudgedTypes::first_some))]
-fn first_of(many: Option<Spoil>, why: Spoil) -> Spoil
-    ensures { first_spoil many (Some why) ≡ Some result }
-{
-    match sooner_spoil(many, Some(why)) {
-        Some(first) => first,
-        None => why,
     }
 }
 

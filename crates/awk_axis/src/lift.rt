@@ -1,18 +1,22 @@
 //! A function of one list, applied to each list of an array at an axis.
-ghost use Rattle.std.specs.Prelude.{◌≡◌, None, map, IfOk};
+ghost use Rattle.std.specs.Prelude.{◌≡◌, ◌<◌, Some, None, false, map, IfOk};
 ghost use Rattle.awk_types.specs.DataType.{types_from};
+ghost use Rattle.awk_types.specs.ItemLimit.{item_limit};
 ghost use Rattle.awk_layout.specs.Valid.{len};
 ghost use Rattle.awk_layout.specs.Typing.{array_type};
 ghost use Rattle.awk_axis.specs.Lift as spec;
 ghost use Rattle.awk_axis.specs.declared.place.Reach.TheVariants as Reach;
 ghost use Rattle.awk_columns.specs.Opened.{OpensLists, OpensOption, OpensRow, OpensUnion};
 ghost use Rattle.awk_columns.specs.Opened.{OpensNothing};
-ghost use Rattle.awk_columns.specs.Joined.{AreOffsets};
-ghost use Rattle.awk_axis.specs.Taken.{IsTaken};
+ghost use Rattle.awk_columns.specs.Joined.{AreOffsets, total};
+ghost use Rattle.awk_axis.specs.Causes.{first_spoil};
+ghost use Rattle.awk_axis.specs.Reach.{here};
+ghost use Rattle.awk_axis.specs.Taken.{told, IsTaken};
+ghost use Rattle.awk_axis.specs.declared.causes.Spoil.TheVariants as Spoil;
 ghost use Rattle.awk_columns.specs.ListNode.{AreEven, list_layout};
 ghost use Rattle.awk_axis.specs.Mapped.{IsAtAxis, IsLifted, AreLifted};
 
-use crate::causes::{Spoil, sooner_spoil};
+use crate::causes::{Spoil, first_of, sooner_spoil};
 use crate::function::{ListOp, Made};
 use crate::place::Reach;
 use crate::types::MOST_LISTS;
@@ -168,7 +172,7 @@ fn lifted_lists<'a, F: ListOp, L: Ledger>(
         return at_axis(alloc, f, lists, arena, steps);
     }
     match lists.joined(alloc, arena, steps)? {
-        Joined::TooMany => Ok(Mapped::Spoiled(Spoil::Size)),
+        Joined::TooMany => lifted_many(alloc, f, k, x, lists, arena, steps),
         Joined::Lists { offsets, content } => {
             match lifted(alloc, f, k.inner(), &content, arena, steps)? {
                 Mapped::Spoiled(why) => Ok(Mapped::Spoiled(why)),
@@ -179,6 +183,46 @@ fn lifted_lists<'a, F: ListOp, L: Ledger>(
                 }
             }
         }
+    }
+}
+
+/// What is told of lists that have too many items together: what is told inside where that comes
+/// before a size.
+fn told_of_many(inside: Mapped) -> Spoil
+    ensures { Some result ≡ first_spoil (Some Spoil.Size) (told inside.entry) }
+{
+    match inside {
+        Mapped::Spoiled(why) => first_of(Some(Spoil::Size), why),
+        Mapped::Column(_) => Spoil::Size,
+    }
+}
+
+/// The same of lists above the axis that have too many items together. These are looked at where
+/// they may be refused for a place, which is told before their size.
+#[cycle(lifted)]
+#[tactic(none)]
+fn lifted_many<'a, F: ListOp, L: Ledger>(
+    alloc: Global,
+    f: &F,
+    k: Reach,
+    x: &Array<'a>,
+    lists: &Lists<'a>,
+    arena: &'a Arena,
+    steps: &mut Steps<L>,
+) -> Result<Mapped<'a>, NoMemory>
+    requires accepted { spec.refusal_at (F.function f.now) k (array_type x.now) ≡ None }
+    requires opens { OpensLists lists.now.class lists.now.starts lists.now.stops
+        lists.now.content x.now }
+    requires above { here k (array_type lists.now.content) ≡ false }
+    requires many { item_limit < total lists.now.starts lists.now.stops lists.now.content }
+    ensures { IfOk result (IsLifted (F.function f.now) k x.now) }
+{
+    if f.tells_index() {
+        let content = lists.items(alloc, arena, steps)?;
+        let inside = lifted(alloc, f, k.inner(), &content, arena, steps)?;
+        Ok(Mapped::Spoiled(told_of_many(inside)))
+    } else {
+        Ok(Mapped::Spoiled(Spoil::Size))
     }
 }
 

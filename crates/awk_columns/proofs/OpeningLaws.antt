@@ -24,7 +24,7 @@ use Rattle.awk_layout.specs.Valid.{len}
 use Rattle.awk_layout.specs.Typing.{array_type, array_items, array_datum}
 use Rattle.awk_gather.specs.Arrays.{array_item}
 use Rattle.awk_columns.specs.Columns.{joined_items, list_items, offsets}
-use Rattle.awk_columns.specs.Counted.{first_of, span_at, offset_at, offsets_lane}
+use Rattle.awk_columns.specs.Counted.{first_of, span_at, spans, offset_at, offsets_lane}
 use Rattle.awk_columns.specs.InOrder.{IsInOrder}
 use Rattle.awk_open.specs.Inner.{AreSized}
 use Rattle.awk_columns.specs.ListValues as gathered
@@ -32,9 +32,10 @@ use Rattle.awk_open.specs.Opened.{IsListOf, AreLong, opened_item}
 use Rattle.awk_open.specs.Opened as gathers
 use Rattle.awk_open.specs.declared.opening.Opened.TheVariants as ordered
 use Rattle.awk_columns.proofs.FirstPlaces.{length-first_of, first_of-mono}
-use Rattle.awk_columns.proofs.JoinedLists.{offsets_lane-is}
+use Rattle.awk_columns.proofs.JoinedLists.{offsets_lane-is, joined_items-is}
 use Rattle.awk_lanes.proofs.MadeLanes.{at-lane_of}
 use Rattle.awk_columns.specs.Joined.{IsJoined}
+use Rattle.awk_columns.specs.Reached.{IsReached}
 use Rattle.awk_columns.specs.ListClass.{Class, list_type, class_of}
 use Rattle.awk_columns.specs.Opened.{items_at, across, item_among, AllOfLen, AreOfClass}
 use Rattle.awk_columns.specs.Opened.{OpensLists, OpensOption, OpensRow, OpensUnion, OpensLeaf}
@@ -151,6 +152,11 @@ joined-total : (s t : Column) (y : Layout)
     → joined_items (gathered.list_values s t y) ≡ flat_map (items_at s t y)
     (range_with_len 0 (size_of s))
 joined-total s t y = flat_map-map list_items (gathered.list_at s t y) (range_with_len 0 (size_of s))
+
+-- what holds the items of all lists holds them one list after another
+pub reached-items : (s t : Column) (y z : Layout) → IsReached y (spans s t) z
+    → array_items z ≡ flat_map (items_at s t y) (range_with_len 0 (size_of s))
+reached-items s t y z h = h.items ∙ sym (joined_items-is s t y) ∙ joined-total s t y
 
 limit_passed : (n : ℕ) → too_many n ≡ Some Size → item_limit < n
 limit_passed n h = grind arith

@@ -3,7 +3,6 @@
 use Rattle.std.specs.Prelude.{◌≡◌, ℕ, ◌+◌, ◌<◌, ◌≤◌, ◌≤ℤ◌, ◌-◌, ◌^◌, ◌==◌, List, [], ◌∷◌, length}
 use Rattle.std.specs.Prelude.{map, ℤ, pos, negsuc, Option, Some, None, if◌then◌else◌}
 use Rattle.std.specs.List.{range_with_len, flat_map}
-use Rattle.awk_types.specs.ItemLimit.{item_limit}
 use Rattle.awk_lanes.specs.declared.kind.Kind.TheVariants.{I8, I64}
 use Rattle.awk_lanes.specs.Column.{Column}
 use Rattle.awk_lanes.specs.Places.{size_of, at, place_at, option_place_at, IsIndexKind}
@@ -79,10 +78,10 @@ span_at s t i = range_with_len (place_at s i) (place_at t i - place_at s i)
 abbrev pub spans : Column → Column → List ℕ
 spans s t = first_of (span_at s t) (size_of s)
 
--- how many items lists have together, or none where they are too many
-abbrev pub IsTotal : Column → Column → Option ℕ → Type 0
-IsTotal s t None = item_limit < length (spans s t)
-IsTotal s t (Some n) = (n ≡ length (spans s t)) × (n ≤ item_limit)
+-- how many items lists have together, or none where they are more than a limit
+abbrev pub IsTotal : ℕ → Column → Column → Option ℕ → Type 0
+IsTotal limit s t None = limit < length (spans s t)
+IsTotal limit s t (Some n) = (n ≡ length (spans s t)) × (n ≤ limit)
 
 -- where list i begins, if the lists lie one after another from 0 on
 abbrev pub offset_at : Column → Column → ℕ → ℤ

@@ -2,7 +2,6 @@
 ghost use Rattle.std.specs.Prelude.{◌≡◌, ◌-◌, ◌<◌, ◌≤◌, ◌^◌, length, IfOk};
 ghost use Rattle.awk_types.specs.Faults.{fault_told};
 ghost use Rattle.awk_types.specs.Gives.{Gives};
-ghost use Rattle.awk_types.specs.ItemLimit.{item_limit};
 ghost use Rattle.awk_lanes.specs.Places.{size_of, AreSpans};
 ghost use Rattle.awk_lanes.specs.declared.kind.Kind.TheVariants as Kind;
 ghost use Rattle.awk_layout.specs.Typing.{array_type, array_datum};
@@ -17,8 +16,8 @@ use awk_gather::gather;
 use awk_lanes::{Arena, Lane, Steps};
 use awk_layout::Array;
 use awk_range::range;
-use awk_types::{Fault, NoMemory};
-use std::alloc::Global;
+use awk_types::{Fault, ITEM_LIMIT, NoMemory};
+use std::alloc::{AllocError, Global};
 use std::sync::ledger::Ledger;
 
 /// Lists whose items lie one after another. List i has the content's items from offset i below
@@ -42,7 +41,7 @@ fn joined_items<'a, L: Ledger>(
 ) -> Result<Array<'a>, NoMemory>
     requires spans { AreSpans starts.now stops.now (len content.now) }
     requires total { n ≡ length (spans starts.now stops.now) }
-    requires few { n ≤ item_limit }
+    requires small { n < 2 ^ 63 }
     ensures reached { IfOk result (IsReached content.now (spans starts.now stops.now)) }
 {
     match row_start(starts, stops, n, content.len(), steps) {
@@ -75,7 +74,7 @@ pub fn join_lists<'a, L: Ledger>(
         IfOk result (λ j. joins j.offsets j.content) }
 {
     let _ = content.len();
-    let Some(n) = total(starts, stops, steps) else {
+    let Some(n) = total(ITEM_LIMIT, starts, stops, steps) else {
         return Err(Fault::Size);
     };
     let offsets = offsets(starts, stops, arena, steps)?;
@@ -85,4 +84,23 @@ pub fn join_lists<'a, L: Ledger>(
         offsets,
         content: items,
     })
+}
+
+/// The items of lists, one after another, however many they are.
+pub fn all_items<'a, L: Ledger>(
+    alloc: Global,
+    starts: &Lane<'a>,
+    stops: &Lane<'a>,
+    content: &Array<'a>,
+    arena: &'a Arena,
+    steps: &mut Steps<L>,
+) -> Result<Array<'a>, NoMemory>
+    requires spans { AreSpans starts.now stops.now (len content.now) }
+    ensures reached { IfOk result (IsReached content.now (spans starts.now stops.now)) }
+{
+    let _ = content.len();
+    match total(i64::MAX as u64, starts, stops, steps) {
+        Some(n) => joined_items(alloc, starts, stops, n, content, arena, steps),
+        None => Err(AllocError),
+    }
 }

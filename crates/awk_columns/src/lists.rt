@@ -1,11 +1,13 @@
 //! Lists of one class, as one value.
 ghost use Rattle.std.specs.Prelude.{◌≡◌, ◌<◌, ◌^◌, IfOk};
 ghost use Rattle.awk_lanes.specs.Places.{size_of};
+ghost use Rattle.awk_columns.specs.Counted.{spans};
 ghost use Rattle.awk_columns.specs.Joined.{IsJoined};
 ghost use Rattle.awk_columns.specs.Lists.{AreLists, span_length};
+ghost use Rattle.awk_columns.specs.Reached.{IsReached};
 
-use crate::joining::join_lists;
-use awk_lanes::{Arena, Lane, Steps, index_at};
+use crate::joining::{all_items, join_lists};
+use awk_lanes::{Arena, Lane, Lengths, Steps, index_at};
 use awk_layout::Array;
 use awk_types::{Fault, NoMemory};
 use std::alloc::{AllocError, Global};
@@ -127,6 +129,26 @@ impl<'a> Lists<'a> {
         }
     }
 
+    /// Their items one after another, however many they are.
+    pub fn items<L: Ledger>(
+        &self,
+        alloc: Global,
+        arena: &'a Arena,
+        steps: &mut Steps<L>,
+    ) -> Result<Array<'a>, NoMemory>
+        ensures { let places = spans self.now.starts self.now.stops in
+            IfOk result (IsReached self.now.content places) }
+    {
+        all_items(
+            alloc,
+            &self.starts,
+            &self.stops,
+            &self.content,
+            arena,
+            steps,
+        )
+    }
+
     /// Their items one after another, or that they are too many.
     pub fn joined<L: Ledger>(
         &self,
@@ -148,7 +170,21 @@ impl<'a> Lists<'a> {
     }
 }
 
-/// The items of lists one after another, or that they are too many.
+impl<'a> Lengths for Lists<'a> {
+    ghost use Rattle.awk_lanes.specs.Places.{size_of};
+    ghost use Rattle.awk_columns.specs.Lists.{span_length};
+
+    ghost length = { λ x. span_length x.starts x.stops };
+
+    ghost size = { λ x. size_of x.starts };
+
+    fn length<L: Ledger>(&self, i: u64, steps: &mut Steps<L>) -> u64 {
+        self.length_at(i, steps)
+    }
+}
+
+/// The items of lists one after another, or that they are too many: for who holds the lanes of
+/// lists and needs no `Lists` of them.
 pub fn join_spans<'a, L: Ledger>(
     alloc: Global,
     class: Option<u64>,

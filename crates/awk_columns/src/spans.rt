@@ -7,7 +7,6 @@ ghost use Rattle.awk_types.specs.ItemLimit.{item_limit};
 ghost use Rattle.awk_columns.specs.Counted.{offsets_lane, IsRow};
 
 use awk_lanes::{Arena, Kind, Lane, LaneMaker, NoMemory, Steps, index_at, number, to_place};
-use awk_types::ITEM_LIMIT;
 use std::sync::ledger::Ledger;
 
 /// Where a list begins, and how many items it has.
@@ -39,15 +38,20 @@ fn span_of<L: Ledger>(starts: &Lane, stops: &Lane, i: u64, steps: &mut Steps<L>)
     }
 }
 
-/// How many items lists have together, or none where they are more than a column has.
-pub fn total<L: Ledger>(starts: &Lane, stops: &Lane, steps: &mut Steps<L>) -> Option<u64>
+/// How many items lists have together, or none where they are more than the limit.
+pub fn total<L: Ledger>(
+    limit: u64,
+    starts: &Lane,
+    stops: &Lane,
+    steps: &mut Steps<L>,
+) -> Option<u64>
     requires spans { AreSpans starts.now stops.now (2 ^ 63 - 1) }
-    ensures { IsTotal starts.now stops.now result }
+    ensures { IsTotal limit starts.now stops.now result }
 {
     let mut sum = 0;
     for i in 0..starts.len() {
         let span = span_of(starts, stops, i, steps);
-        if span.length > ITEM_LIMIT - sum {
+        if span.length > limit - sum {
             return None;
         }
         sum += span.length;
@@ -118,7 +122,7 @@ fn first_start<L: Ledger>(starts: &Lane, stops: &Lane, steps: &mut Steps<L>) -> 
 /// Whether each list that is not empty begins where the one before ends, from a first start on.
 fn is_row<L: Ledger>(starts: &Lane, stops: &Lane, first: u64, steps: &mut Steps<L>) -> bool
     requires spans { AreSpans starts.now stops.now (2 ^ 63 - 1) }
-    requires total { length (spans starts.now stops.now) ≤ item_limit }
+    requires total { length (spans starts.now stops.now) < 2 ^ 63 }
     requires first { first < 2 ^ 63 }
     ensures { let places = spans starts.now stops.now in
         IsTrue result → places ≡ range_with_len first (length places) }
@@ -146,7 +150,7 @@ pub fn row_start<L: Ledger>(
 ) -> Option<u64>
     requires spans { AreSpans starts.now stops.now (2 ^ 63 - 1) }
     requires total { total ≡ length (spans starts.now stops.now) }
-    requires few { total ≤ item_limit }
+    requires small { total < 2 ^ 63 }
     ensures { IfSome result (IsRow starts.now stops.now n) }
 {
     let first = first_start(starts, stops, steps);

@@ -109,6 +109,7 @@ struct Repeated {
     byte: u8,
     left: usize,
     gave: usize,
+    is_ended: bool,
 }
 
 impl Source for Repeated {
@@ -118,11 +119,16 @@ impl Source for Repeated {
 
     ghost gave = { λ s. s.gave };
 
+    ghost is_ended = { λ s. s.is_ended };
+
     fn read(&mut self, into: &mut [u8]) -> Result<usize, Failed> {
         let count = into.len().min(self.left);
         into[..count].fill(self.byte);
         self.left -= count;
         self.gave = count;
+        if !into.is_empty() {
+            self.is_ended = count == 0;
+        }
         Ok(count)
     }
 }
@@ -134,6 +140,7 @@ fn a_line_too_many_is_told(rt: HostRuntime) {
             byte: b'\n',
             left: bytes,
             gave: 0,
+            is_ended: false,
         };
         let (count, fault) = count_lines(rt.alloc(), &mut source);
         assert!(rt; count == LIMIT, "{bytes} line ends");

@@ -323,6 +323,10 @@ impl<'o, 'b> ListOp for Filling<'o, 'b> {
         class
     }
 
+    fn tells_index(&self) -> bool {
+        false
+    }
+
     fn column<'a, L: Ledger>(
         &self,
         alloc: Global,

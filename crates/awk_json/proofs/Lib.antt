@@ -1,3 +1,4 @@
+pub mod Base64
 pub mod Escapes
 pub mod Joins
 pub mod Lines

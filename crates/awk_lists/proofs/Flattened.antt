@@ -39,7 +39,7 @@ use Rattle.awk_lists.specs.Listed.{items_before, AreListed, IsListed}
 use Rattle.awk_lists.proofs.Ends.{rising_offsets, joined_at}
 use Rattle.awk_lists.proofs.JoinedItems.{items_before-add, items_before-mono, items_before-all}
 use Rattle.awk_lists.proofs.JoinedItems.{slice-joined, run-slice, count-joined}
-use Rattle.awk_lists.proofs.Offsets.{over_limit, within_limit}
+use Rattle.awk_lists.proofs.Spans.{over_limit, within_limit}
 
 -- what is accepted are lists
 pub are_lists : (t : DataType) → flatten_function.refusal t ≡ None → is_list (present t) ≡ true

@@ -1,5 +1,6 @@
 pub mod Spans
-pub mod Offsets
+pub mod OffsetLaws
+pub mod LocalLaws
 pub mod Singles
 pub mod JoinedItems
 pub mod Ends

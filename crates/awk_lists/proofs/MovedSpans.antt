@@ -36,7 +36,7 @@ use Rattle.awk_lists.proofs.Flattened.{are_lists}
 use Rattle.awk_lists.proofs.HeldLists.{joined-held, held-few, at-count, counts_up, counts_within}
 use Rattle.awk_lists.proofs.HeldLists.{held_run}
 use Rattle.awk_lists.proofs.JoinedItems.{count-joined}
-use Rattle.awk_lists.proofs.Offsets.{over_limit}
+use Rattle.awk_lists.proofs.Spans.{over_limit}
 
 -- ---- many lists
 

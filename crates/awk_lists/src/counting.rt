@@ -1,11 +1,10 @@
-//! Lanes of counts, and of the numbers at places.
+//! Lanes of counts.
 ghost use Rattle.std.specs.Prelude.{◌≡◌, ◌<◌, ◌^◌, IfOk, length};
-ghost use Rattle.awk_lanes.specs.Places.{size_of, IsIndex, IsOptionKind};
+ghost use Rattle.awk_lanes.specs.Places.{size_of, IsOptionKind};
 ghost use Rattle.awk_columns.specs.Counted.{present_at};
-ghost use Rattle.awk_gather.specs.Lanes.{picked};
 ghost use Rattle.awk_lists.specs.Listed.{present_lane};
 
-use awk_lanes::{Arena, Kind, Lane, LaneMaker, Steps, number, option_place_in, place_in};
+use awk_lanes::{Arena, Kind, Lane, LaneMaker, Steps, number, option_place_in};
 use awk_types::NoMemory;
 use std::sync::ledger::Ledger;
 
@@ -38,24 +37,4 @@ fn one_if_present<L: Ledger>(index: &Lane, i: u64, steps: &mut Steps<L>) -> u64
         Some(_) => 1,
         None => 0,
     }
-}
-
-/// The offsets at places.
-#[tactic(auto, using(awk_lanes::proofs::MadeLanes::making))]
-pub(crate) fn offsets_at<'a, L: Ledger>(
-    offsets: &Lane,
-    places: &Lane,
-    arena: &'a Arena,
-    steps: &mut Steps<L>,
-) -> Result<Lane<'a>, NoMemory>
-    requires { IsIndex places.now (size_of offsets.now) }
-    ensures { IfOk result (λ r. r ≡ picked offsets.now places.now) }
-{
-    let n = places.len();
-    let mut maker = LaneMaker::new(offsets.kind(), n, arena)?;
-    for i in 0..n {
-        let place = place_in(places, i, steps);
-        maker.push(offsets.at(place, steps));
-    }
-    Ok(maker.finish())
 }

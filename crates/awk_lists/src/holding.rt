@@ -8,10 +8,10 @@ ghost use Rattle.awk_columns.specs.Opened.{OpensNothing, OpensOption};
 ghost use Rattle.awk_lists.specs.Flatten.{is_list};
 ghost use Rattle.awk_lists.specs.Held.{held_at, held_counts, AreLengths, AreHeld};
 
-use crate::counting::{offsets_at, present_counts};
+use crate::counting::present_counts;
 use crate::length::length_at;
 use awk_columns::{Opened, open_array};
-use awk_gather::gather;
+use awk_gather::{gather, gather_lane};
 use awk_lanes::{Arena, Kind, Lane, LaneMaker, Steps, number, place_in};
 use awk_layout::Array;
 use awk_types::NoMemory;
@@ -152,7 +152,7 @@ fn optional_held<'a, L: Ledger>(
 {
     let held = plain_held(alloc, content, arena, steps)?;
     let places = present_counts(index, arena, steps)?;
-    let counts = offsets_at(&held.counts, &places, arena, steps)?;
+    let counts = gather_lane(&held.counts, &places, arena, steps)?;
     Ok(Held {
         counts,
         lists: held.lists,

@@ -2,78 +2,73 @@
 ghost use Rattle.std.specs.Prelude.{◌≡◌, ◌<◌, ◌≤◌, ◌^◌, IfOk};
 ghost use Rattle.awk_types.specs.Faults.{fault_told};
 ghost use Rattle.awk_types.specs.Gives.{Gives};
-ghost use Rattle.awk_types.specs.ItemLimit.{item_limit};
-ghost use Rattle.awk_lanes.specs.Places.{size_of, AreSpans};
+ghost use Rattle.awk_axis.specs.Mapped.{IsMade};
 ghost use Rattle.awk_layout.specs.Datum.{datum_of, IsDatum};
-ghost use Rattle.awk_lists.specs.Lanes.{before, offsets_lane, local_lane, IsTotal};
 ghost use Rattle.awk_lists.specs.LocalIndex.{local_index_function, local_index_of};
 
-use crate::length::length_at;
 use awk_axis::{ListOp, Made, Refusal, Spoil, lift_at};
 use awk_columns::Lists;
-use awk_lanes::{Arena, Kind, Lane, LaneMaker, Steps, number};
+use awk_lanes::{Arena, Items, Kind, Lengths, Num, Steps, items_of, number, offsets_within};
 use awk_layout::{Datum, Node};
 use awk_types::{Fault, ITEM_LIMIT, NoMemory, Prim, Typ};
 use std::alloc::Global;
 use std::sync::ledger::Ledger;
 
-/// How many items lists have together, or none where they are too many.
-fn total<L: Ledger>(starts: &Lane, stops: &Lane, steps: &mut Steps<L>) -> Option<u64>
-    requires spans { AreSpans starts.now stops.now 9223372036854775807 }
-    ensures { IsTotal starts.now stops.now result }
-{
-    let mut sum = 0;
-    for i in 0..starts.len() {
-        let length = length_at(starts, stops, i, steps);
-        if length > ITEM_LIMIT - sum {
-            return None;
-        }
-        sum += length;
-    }
-    Some(sum)
+/// The places of the items of lists.
+#[derive(Drop)]
+struct LocalPlaces<'b, 'a> {
+    lists: &'b Lists<'a>,
 }
 
-/// The offsets of lists one after another.
-fn offsets<'a, L: Ledger>(
-    starts: &Lane,
-    stops: &Lane,
-    arena: &'a Arena,
-    steps: &mut Steps<L>,
-) -> Result<Lane<'a>, NoMemory>
-    requires spans { AreSpans starts.now stops.now 9223372036854775807 }
-    requires fits { size_of starts.now < 2 ^ 63 }
-    requires total { before starts.now stops.now (size_of starts.now) ≤ item_limit }
-    ensures { IfOk result (λ r. r ≡ offsets_lane starts.now stops.now) }
-{
-    let mut maker = LaneMaker::new(Kind::I64, starts.len() + 1, arena)?;
-    maker.push(number(0));
-    let mut end = 0;
-    for i in 0..starts.len() {
-        end += length_at(starts, stops, i, steps);
-        maker.push(number(end));
+impl<'b, 'a> Lengths for LocalPlaces<'b, 'a> {
+    ghost use Rattle.awk_lanes.specs.Places.{size_of};
+    ghost use Rattle.awk_columns.specs.Lists.{span_length};
+
+    ghost length = { λ f. span_length f.lists.now.starts f.lists.now.stops };
+
+    ghost size = { λ f. size_of f.lists.now.starts };
+
+    fn length<L: Ledger>(&self, i: u64, steps: &mut Steps<L>) -> u64 {
+        self.lists.length_at(i, steps)
     }
-    Ok(maker.finish())
 }
 
-/// The places of all items.
-fn places<'a, L: Ledger>(
-    starts: &Lane,
-    stops: &Lane,
-    n: u64,
+impl<'b, 'a> Items for LocalPlaces<'b, 'a> {
+    ghost use Rattle.std.specs.Prelude.{pos};
+    ghost use Rattle.awk_lanes.specs.declared.kind.Kind.TheVariants as Kind;
+
+    ghost kind = { λ _. Kind.I64 };
+
+    ghost at = { λ _ i k. pos k };
+
+    fn item<L: Ledger>(&self, i: u64, k: u64, steps: &mut Steps<L>) -> Num {
+        let _ = self.lists.length_at(i, steps);
+        number(k)
+    }
+}
+
+/// The places of the items of lists, as lists of the same lengths.
+fn places_of<'a, L: Ledger>(
+    lists: &Lists<'a>,
     arena: &'a Arena,
     steps: &mut Steps<L>,
-) -> Result<Lane<'a>, NoMemory>
-    requires spans { AreSpans starts.now stops.now 9223372036854775807 }
-    requires total { n ≡ before starts.now stops.now (size_of starts.now) }
-    ensures { IfOk result (λ r. r ≡ local_lane starts.now stops.now) }
+) -> Result<Made<'a>, NoMemory>
+    ensures { IfOk result (IsMade local_index_function lists.now.class lists.now.starts
+        lists.now.stops lists.now.content) }
 {
-    let mut maker = LaneMaker::new(Kind::I64, n, arena)?;
-    for i in 0..starts.len() {
-        for k in 0..length_at(starts, stops, i, steps) {
-            maker.push(number(k));
+    let n = lists.len();
+    let _ = lists.content();
+    let places = LocalPlaces { lists };
+    match offsets_within(ITEM_LIMIT, n, &places, arena, steps)? {
+        None => Ok(Made::Spoiled(Spoil::Size)),
+        Some(offsets) => {
+            let items = items_of(Kind::I64, n, offsets.total, &places, arena, steps)?;
+            Ok(Made::Lists {
+                offsets: offsets.lane,
+                content: Node::numpy(items, steps),
+            })
         }
     }
-    Ok(maker.finish())
 }
 
 /// The places of a list's items.
@@ -99,6 +94,10 @@ impl ListOp for LocalIndex {
         class
     }
 
+    fn tells_index(&self) -> bool {
+        false
+    }
+
     fn column<'a, L: Ledger>(
         &self,
         _alloc: Global,
@@ -106,20 +105,7 @@ impl ListOp for LocalIndex {
         arena: &'a Arena,
         steps: &mut Steps<L>,
     ) -> Result<Made<'a>, NoMemory> {
-        let _ = lists.content();
-        let starts = lists.starts();
-        let stops = lists.stops();
-        match total(starts, stops, steps) {
-            None => Ok(Made::Spoiled(Spoil::Size)),
-            Some(n) => {
-                let offsets = offsets(starts, stops, arena, steps)?;
-                let places = places(starts, stops, n, arena, steps)?;
-                Ok(Made::Lists {
-                    offsets,
-                    content: Node::numpy(places, steps),
-                })
-            }
-        }
+        places_of(lists, arena, steps)
     }
 }
 

@@ -16,11 +16,11 @@ ghost use Rattle.awk_lists.specs.Flatten.{flatten_function, flatten_of};
 ghost use Rattle.awk_lists.specs.Held.{AreHeld};
 ghost use Rattle.awk_lists.specs.Listed.{IsListed};
 
-use crate::counting::offsets_at;
 use crate::holding::held_of;
 use crate::moved::numbers_at_ends;
 use awk_axis::{ListOp, Made, Refusal, Spoil, lift_at};
 use awk_columns::{Joined, Lists, Opened, join_spans, open_array};
+use awk_gather::gather_lane;
 use awk_lanes::{Arena, Kind, Lane, LaneMaker, Steps, number};
 use awk_layout::{Array, Datum};
 use awk_types::{Fault, NoMemory, Typ, copy_type};
@@ -106,7 +106,7 @@ fn joined_rows<'a, L: Ledger>(
         Joined::TooMany => Ok(Made::Spoiled(Spoil::Size)),
         Joined::Lists { offsets, content } => {
             let _ = content.len();
-            let offsets = offsets_at(&offsets, rows, arena, steps)?;
+            let offsets = gather_lane(&offsets, rows, arena, steps)?;
             Ok(Made::Lists {
                 offsets,
                 content: content.node().copy(alloc)?,
@@ -174,6 +174,10 @@ impl ListOp for JoinedLists {
 
     fn class(&self, _class: Option<u64>) -> Option<u64> {
         None
+    }
+
+    fn tells_index(&self) -> bool {
+        false
     }
 
     fn column<'a, L: Ledger>(

@@ -4,12 +4,13 @@ ghost use Rattle.awk_types.specs.Faults.{fault_told};
 ghost use Rattle.awk_types.specs.Gives.{Gives};
 ghost use Rattle.awk_lanes.specs.Places.{size_of, AreSpans};
 ghost use Rattle.awk_layout.specs.Datum.{datum_of, IsDatum};
-ghost use Rattle.awk_lists.specs.Lanes.{span_length, lengths_lane};
+ghost use Rattle.awk_axis.specs.Mapped.{IsMade};
+ghost use Rattle.awk_lists.specs.Lanes.{span_length};
 ghost use Rattle.awk_lists.specs.Num.{length_function, num_of};
 
 use awk_axis::{ListOp, Made, Refusal, lift_at};
 use awk_columns::Lists;
-use awk_lanes::{Arena, Kind, Lane, LaneMaker, Steps, index_at, number};
+use awk_lanes::{Arena, Kind, Lane, Num, Numbers, Steps, index_at, made_lane, number};
 use awk_layout::{Datum, Node};
 use awk_types::{Fault, NoMemory, Prim, Typ};
 use std::alloc::Global;
@@ -32,20 +33,39 @@ pub(crate) fn length_at<L: Ledger>(starts: &Lane, stops: &Lane, i: u64, steps: &
 }
 
 /// The lengths of lists.
-fn lengths<'a, L: Ledger>(
-    starts: &Lane,
-    stops: &Lane,
+#[derive(Drop)]
+struct ListLengths<'b, 'a> {
+    lists: &'b Lists<'a>,
+}
+
+impl<'b, 'a> Numbers for ListLengths<'b, 'a> {
+    ghost use Rattle.std.specs.Prelude.{pos};
+    ghost use Rattle.awk_lanes.specs.Places.{size_of};
+    ghost use Rattle.awk_lanes.specs.declared.kind.Kind.TheVariants as Kind;
+    ghost use Rattle.awk_columns.specs.Lists.{span_length};
+
+    ghost kind = { λ _. Kind.I64 };
+
+    ghost at = { λ f i. pos (span_length f.lists.now.starts f.lists.now.stops i) };
+
+    ghost size = { λ f. size_of f.lists.now.starts };
+
+    fn number<L: Ledger>(&self, i: u64, steps: &mut Steps<L>) -> Num {
+        number(self.lists.length_at(i, steps))
+    }
+}
+
+/// The lengths of lists as single values.
+fn lengths_of<'a, L: Ledger>(
+    lists: &Lists<'a>,
     arena: &'a Arena,
     steps: &mut Steps<L>,
-) -> Result<Lane<'a>, NoMemory>
-    requires spans { AreSpans starts.now stops.now 9223372036854775807 }
-    ensures { IfOk result (λ r. r ≡ lengths_lane starts.now stops.now) }
+) -> Result<Made<'a>, NoMemory>
+    ensures { IfOk result (IsMade length_function lists.now.class lists.now.starts
+        lists.now.stops lists.now.content) }
 {
-    let mut maker = LaneMaker::new(Kind::I64, starts.len(), arena)?;
-    for i in 0..starts.len() {
-        maker.push(number(length_at(starts, stops, i, steps)));
-    }
-    Ok(maker.finish())
+    let lengths = made_lane(Kind::I64, lists.len(), &ListLengths { lists }, arena, steps)?;
+    Ok(Made::Singles(Node::numpy(lengths, steps)))
 }
 
 /// The number of items of a list.
@@ -71,6 +91,10 @@ impl ListOp for Length {
         class
     }
 
+    fn tells_index(&self) -> bool {
+        false
+    }
+
     fn column<'a, L: Ledger>(
         &self,
         _alloc: Global,
@@ -78,9 +102,7 @@ impl ListOp for Length {
         arena: &'a Arena,
         steps: &mut Steps<L>,
     ) -> Result<Made<'a>, NoMemory> {
-        let _ = lists.content();
-        let lengths = lengths(lists.starts(), lists.stops(), arena, steps)?;
-        Ok(Made::Singles(Node::numpy(lengths, steps)))
+        lengths_of(lists, arena, steps)
     }
 }
 

@@ -1,47 +1,55 @@
 //! Ends of lists moved to other places.
-ghost use Rattle.std.specs.Prelude.{◌≡◌, ◌==◌, ◌<◌, pos, IfOk, if◌then◌else◌};
-ghost use Rattle.awk_lanes.specs.Numbers.{int_of, IsOf};
-ghost use Rattle.awk_lanes.specs.declared.kind.Kind.TheVariants as Kinds;
-ghost use Rattle.awk_lanes.specs.Places.{size_of, at, place_at, AreSpans, IsIndexKind};
-ghost use Rattle.awk_lists.specs.Lanes.{span_length, numbers_at_ends, AreListEnds};
+ghost use Rattle.std.specs.Prelude.{◌≡◌, IfOk};
+ghost use Rattle.awk_lanes.specs.Places.{AreSpans, IsIndexKind};
+ghost use Rattle.awk_lists.specs.Lanes.{numbers_at_ends, AreListEnds};
 
 use crate::length::length_at;
-use awk_lanes::{Arena, Kind, Lane, LaneMaker, Num, Steps, index_at, place_in};
+use awk_lanes::{Arena, Kind, Lane, Num, Numbers, Steps, index_at, made_lane, place_in};
 use awk_types::NoMemory;
 use std::sync::ledger::Ledger;
 
-/// The number of a lane at an end of the list at a place, and 0 where the list has no items.
-fn number_at_end<L: Ledger>(
-    numbers: &Lane,
-    starts: &Lane,
-    stops: &Lane,
-    ends: &Lane,
-    i: u64,
-    steps: &mut Steps<L>,
-) -> Num
-    requires kind { IsIndexKind numbers.now.kind }
-    requires within { i < size_of starts.now }
-    requires spans { AreSpans starts.now stops.now 9223372036854775807 }
-    requires ends { AreListEnds numbers.now starts.now stops.now ends.now }
-    ensures number { int_of result ≡ (if span_length starts.now stops.now i == 0 then pos 0
-        else at numbers.now (place_at ends.now i)) }
-    ensures kind { IsOf Kinds.I64 result }
-{
-    if length_at(starts, stops, i, steps) == 0 {
-        Num::Int(0)
-    } else {
-        let place = place_in(ends, i, steps);
-        Num::Int(index_at(numbers, place, steps))
+/// The number of a lane at an end of each list, and 0 where a list has no items.
+#[derive(Drop)]
+struct EndNumbers<'b, 'a> {
+    numbers: &'b Lane<'a>,
+    starts: &'b Lane<'a>,
+    stops: &'b Lane<'a>,
+    ends: &'b Lane<'a>,
+}
+
+impl<'b, 'a> Numbers for EndNumbers<'b, 'a> {
+    ghost use Rattle.std.specs.Prelude.{◌==◌, pos, if◌then◌else◌};
+    ghost use Rattle.awk_lanes.specs.declared.kind.Kind.TheVariants as Kinds;
+    ghost use Rattle.awk_lanes.specs.Places.{size_of, at, place_at, AreSpans, IsIndexKind};
+    ghost use Rattle.awk_lists.specs.Lanes.{span_length, AreListEnds};
+
+    ghost kind = { λ _. Kinds.I64 };
+
+    ghost at = { λ f i. if span_length f.starts.now f.stops.now i == 0 then pos 0
+        else at f.numbers.now (place_at f.ends.now i) };
+
+    ghost size = { λ f. size_of f.starts.now };
+
+    ghost IsReady = { λ f. IsIndexKind f.numbers.now.kind
+        × AreSpans f.starts.now f.stops.now 9223372036854775807
+        × AreListEnds f.numbers.now f.starts.now f.stops.now f.ends.now };
+
+    fn number<L: Ledger>(&self, i: u64, steps: &mut Steps<L>) -> Num {
+        if length_at(self.starts, self.stops, i, steps) == 0 {
+            Num::Int(0)
+        } else {
+            let place = place_in(self.ends, i, steps);
+            Num::Int(index_at(self.numbers, place, steps))
+        }
     }
 }
 
 /// The numbers of a lane at ends of lists.
-#[tactic(auto, using(awk_lanes::proofs::MadeLanes::making))]
-pub(crate) fn numbers_at_ends<'a, 'b, L: Ledger>(
-    numbers: &Lane,
-    starts: &Lane<'b>,
-    stops: &Lane<'b>,
-    ends: &Lane<'b>,
+pub(crate) fn numbers_at_ends<'a, L: Ledger>(
+    numbers: &Lane<'a>,
+    starts: &Lane<'a>,
+    stops: &Lane<'a>,
+    ends: &Lane<'a>,
     arena: &'a Arena,
     steps: &mut Steps<L>,
 ) -> Result<Lane<'a>, NoMemory>
@@ -50,11 +58,11 @@ pub(crate) fn numbers_at_ends<'a, 'b, L: Ledger>(
     requires ends { AreListEnds numbers.now starts.now stops.now ends.now }
     ensures { IfOk result (λ r. r ≡ numbers_at_ends numbers.now starts.now stops.now ends.now) }
 {
-    let n = starts.len();
-    let mut maker = LaneMaker::new(Kind::I64, n, arena)?;
-    for i in 0..n {
-        let number = number_at_end(numbers, starts, stops, ends, i, steps);
-        maker.push(number);
-    }
-    Ok(maker.finish())
+    let numbers = EndNumbers {
+        numbers,
+        starts,
+        stops,
+        ends,
+    };
+    made_lane(Kind::I64, starts.len(), &numbers, arena, steps)
 }

@@ -177,6 +177,10 @@ impl ListOp for RunLengths {
         None
     }
 
+    fn tells_index(&self) -> bool {
+        false
+    }
+
     fn column<'a, L: Ledger>(
         &self,
         alloc: Global,

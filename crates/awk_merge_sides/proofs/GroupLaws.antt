@@ -55,6 +55,14 @@ with_side_at-set (t ∷ ss) zero s new x f h r e =
 with_side_at-set (t ∷ ss) (suc j) s new x f h r e =
     ap (λ gs. sides_of t ∷ gs) (with_side_at-set ss j s new x f (omega (arith, h)) r e)
 
+-- a group that is written as it was changes none
+pub groups-same : (ss : List Sides) (j : ℕ) (s new : Sides) → j < length ss → s ≡ get_or ss j s
+    → sides_of new ≡ sides_of s → map sides_of (set ss j new) ≡ map sides_of ss
+groups-same [] j s new h r e = absurd (omega (arith, h))
+groups-same (t ∷ ss) zero s new h r e = ap (λ g. g ∷ map sides_of ss) (e ∙ ap sides_of r)
+groups-same (t ∷ ss) (suc j) s new h r e =
+    ap (λ gs. sides_of t ∷ gs) (groups-same ss j s new (omega (arith, h)) r e)
+
 pub counted-set : (ss : List Sides) (j : ℕ) (new : Sides) → AllByRecursion IsCounted ss
     → IsCounted new → AllByRecursion IsCounted (set ss j new)
 counted-set [] j new h k = tt

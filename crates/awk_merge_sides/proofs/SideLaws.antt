@@ -1,8 +1,9 @@
 -- Columns one after another: their items, one column more, and the steps of loops over them.
-use Rattle.std.proofs.Common.{◌≡◌, ◌==◌, ◌+◌, ◌<◌, ◌≤◌, ◌∷◌, ◌++◌, ◌^◌, [], ℕ, suc, zero, List, Bool, true, false, length, map, take, get_or, slice_get, Some, if◌then◌else◌, refl, ap, sym, subst, ◌∙◌, arith}
+use Rattle.std.proofs.Common.{◌≡◌, ◌==◌, ◌+◌, ◌<◌, ◌≤◌, ◌∷◌, ◌++◌, ◌^◌, [], ℕ, suc, zero, List, Bool, true, false, length, map, take, get_or, slice_get, Some, Result, Ok, Err, if◌then◌else◌, refl, ap, sym, subst, ◌∙◌, arith}
 use Rattle.std.proofs.lemmas.Grind.{flat_map-append}
 use Rattle.std.proofs.lemmas.List.{append-nil, length-append, length-map, map-append, get_or-map, get_or_append_left, get_or-append-add, take_all}
 use Rattle.std.specs.List.{AllByRecursion}
+use Rattle.std.specs.Prelude.{OnErr}
 use Rattle.awk_types.proofs.ListLaws.{take-get}
 use Rattle.awk_types.proofs.SimpleLaws.{has_each}
 use Rattle.awk_types.specs.DataType.{DataType}
@@ -44,6 +45,11 @@ all-take P [] zero h = tt
 all-take P [] (suc i) h = tt
 all-take P (x ∷ xs) zero h = tt
 all-take P (x ∷ xs) (suc i) h = (h.0, all-take P xs i h.1)
+
+-- what holds anyway
+pub on_err-anyway : {A E : Type 0} (r : Result A E) (P : Type 0) → P → OnErr r P
+on_err-anyway (Ok a) P p = tt
+on_err-anyway (Err e) P p = p
 
 none-of : {X : Type 0} (xs : List X) → length xs ≡ 0 → xs ≡ []
 none-of [] e = refl

@@ -1,5 +1,5 @@
 //! Columns in groups, one for each part of a row or alternative of a union.
-ghost use Rattle.std.specs.Prelude.{◌≡◌, ◌<◌, [], IfOk, OnOk, length, map, replicate, Some, slice_get};
+ghost use Rattle.std.specs.Prelude.{◌≡◌, ◌<◌, [], IfOk, OnOk, OnErr, length, map, replicate, Some, slice_get};
 ghost use Rattle.std.specs.List.{AllByRecursion};
 ghost use Rattle.awk_unify.specs.View.{lift_of};
 ghost use Rattle.awk_merge_sides.specs.Sides.{sides_of, IsCounted};
@@ -43,6 +43,7 @@ impl<'a> Groups<'a> {
         ensures groups { let old = groups_of self.old in
             OnOk result (groups_of self.new ≡ with_side_at j old column.entry (lift_of lift.now)) }
         ensures counted { OnOk result (AreCounted self.new) }
+        ensures err { OnErr result (groups_of self.new ≡ groups_of self.old) }
     {
         self.groups[j].push(alloc, column, lift)
     }

@@ -1,5 +1,5 @@
 //! Columns whose values become values of one type.
-ghost use Rattle.std.specs.Prelude.{◌≡◌, ◌<◌, [], Some, IfOk, OnOk, length, slice_get};
+ghost use Rattle.std.specs.Prelude.{◌≡◌, ◌<◌, [], Some, IfOk, OnOk, OnErr, length, slice_get};
 ghost use Rattle.awk_unify.specs.View.{lift_of};
 ghost use Rattle.awk_merge_sides.specs.Sides.{side_of, sides_of, with_side, IsCounted};
 
@@ -42,6 +42,8 @@ impl<'a> Sides<'a> {
         ensures sides { OnOk result
             (sides_of self.new ≡ with_side (sides_of self.old) column.entry (lift_of lift.now)) }
         ensures counted { OnOk result (IsCounted self.new) }
+        ensures err { OnErr result (sides_of self.new ≡ sides_of self.old) }
+        ensures total { OnErr result (self.new.total ≡ self.old.total) }
     {
         let n = column.len();
         if n == 0 {

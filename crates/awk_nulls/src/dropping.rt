@@ -124,6 +124,10 @@ impl ListOp for PresentItems {
         None
     }
 
+    fn tells_index(&self) -> bool {
+        false
+    }
+
     fn column<'a, L: Ledger>(
         &self,
         alloc: Global,

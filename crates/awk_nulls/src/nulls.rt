@@ -105,6 +105,10 @@ impl ListOp for NullTests {
         class
     }
 
+    fn tells_index(&self) -> bool {
+        false
+    }
+
     fn column<'a, L: Ledger>(
         &self,
         alloc: Global,

@@ -142,6 +142,10 @@ impl ListOp for Padding {
         if self.clip { Some(self.size) } else { None }
     }
 
+    fn tells_index(&self) -> bool {
+        false
+    }
+
     fn column<'a, L: Ledger>(
         &self,
         alloc: Global,

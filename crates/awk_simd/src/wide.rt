@@ -1,23 +1,23 @@
 //! The kernels, each by the pass over vectors that it has, or by plain loops.
-use crate::{choices, counts, outside, sums};
+use crate::{arithmetic, choices, comparisons, counts, extremes, searches};
 use awk_kernels::{Arith, Broken, Compare, Kernels, Plain};
 
-/// The kernels: the first number outside, sums of two numbers, choices and counts by vectors with a
-/// plain loop for the rest of a slice, and all others by plain loops. It answers what `Plain` does.
+/// The kernels by vectors, with the plain kernels for the rest of a slice. Gathers, running sums,
+/// sums, products, quotients and remainders are the plain kernels. It answers what `Plain` does.
 #[derive(Clone, Copy, Debug, Default)]
 pub struct Wide;
 
 impl Kernels for Wide {
     fn first_out_of_order(&self, starts: &[i64], stops: &[i64]) -> Option<usize> {
-        Plain.first_out_of_order(starts, stops)
+        searches::first_out_of_order(starts, stops)
     }
 
     fn first_outside(&self, xs: &[i64], lo: i64, hi: i64) -> Option<usize> {
-        outside::first_outside(xs, lo, hi)
+        searches::first_outside(xs, lo, hi)
     }
 
     fn greatest(&self, xs: &[i64]) -> Option<i64> {
-        Plain.greatest(xs)
+        extremes::greatest(xs)
     }
 
     fn prefix_sums(&self, xs: &[u64], out: &mut [u64]) -> Option<usize> {
@@ -37,10 +37,7 @@ impl Kernels for Wide {
         hi: i64,
         out: &mut [i64],
     ) -> Option<Broken> {
-        match op {
-            Arith::Add => sums::add(a, b, lo, hi, out),
-            _ => Plain.arith_i64(op, a, b, lo, hi, out),
-        }
+        arithmetic::arith(op, a, b, lo, hi, out)
     }
 
     fn arith_u64(
@@ -51,19 +48,19 @@ impl Kernels for Wide {
         hi: u64,
         out: &mut [u64],
     ) -> Option<Broken> {
-        Plain.arith_u64(op, a, b, hi, out)
+        arithmetic::arith_nat(op, a, b, hi, out)
     }
 
     fn compare_i64(&self, how: Compare, a: &[i64], b: &[i64], out: &mut [u8]) {
-        Plain.compare_i64(how, a, b, out)
+        comparisons::compare(how, a, b, out)
     }
 
     fn compare_u64(&self, how: Compare, a: &[u64], b: &[u64], out: &mut [u8]) {
-        Plain.compare_u64(how, a, b, out)
+        comparisons::compare_nat(how, a, b, out)
     }
 
     fn compare_mixed(&self, how: Compare, a: &[i64], b: &[u64], out: &mut [u8]) {
-        Plain.compare_mixed(how, a, b, out)
+        comparisons::compare_mixed(how, a, b, out)
     }
 
     fn select_i64(&self, mask: &[u8], a: &[i64], b: &[i64], out: &mut [i64]) {
@@ -71,7 +68,7 @@ impl Kernels for Wide {
     }
 
     fn select_u64(&self, mask: &[u8], a: &[u64], b: &[u64], out: &mut [u64]) {
-        Plain.select_u64(mask, a, b, out)
+        choices::choose_nat(mask, a, b, out)
     }
 
     fn count_true(&self, xs: &[u8]) -> u64 {
@@ -87,10 +84,10 @@ impl Kernels for Wide {
     }
 
     fn first_least(&self, xs: &[i64]) -> Option<usize> {
-        Plain.first_least(xs)
+        extremes::first_least(xs)
     }
 
     fn first_greatest(&self, xs: &[i64]) -> Option<usize> {
-        Plain.first_greatest(xs)
+        extremes::first_greatest(xs)
     }
 }

@@ -1,15 +1,15 @@
 -- No text of a form or of a packed array holds a byte that ends a line.
-use Rattle.std.proofs.Common.{◌≢◌, ℕ, zero, suc, Bool, List, [], ◌∷◌, ◌++◌, map, length, replicate, slice_index, Option, None, Some, refl, codes, decimal}
+use Rattle.std.proofs.Common.{ℕ, Bool, List, [], ◌∷◌, ◌++◌, map, length, Option, None, Some, refl, codes, decimal}
 use Rattle.std.specs.List.{AllByRecursion}
 use Rattle.base64.specs.Engines.{standard}
 use Rattle.base64.specs.GeneralPurpose.{encode_of}
-use Rattle.base64.specs.Rfc4648.{encode_group, encode_symbols, padding_len}
 use Rattle.awk_types.specs.DataType.{Name}
 use Rattle.awk_types.specs.declared.primitive.Primitive.{Primitive}
 use Rattle.awk_types.specs.declared.primitive.Primitive.TheVariants as primitive
 use Rattle.awk_edge.specs.Lines.{Unbroken}
 use Rattle.awk_edge.proofs.LineLaws.{Unbroken-append}
 use Rattle.awk_json.specs.Text.{quoted, list_text, comma_joined, truth_text}
+use Rattle.awk_json.proofs.Base64.{encode_of-unbroken}
 use Rattle.awk_json.proofs.Lines.{literal-unbroken, quoted-unbroken, list_text-unbroken, comma_joined-unbroken, decimal-unbroken, truth_text-unbroken}
 use Rattle.awk_form.specs.FormText.{kind_text, primitive_text, fields_text, key_text, member, word, key_of, class_text, members_text, class_member, end_text, node_text, contents_text, form_texts, form_text}
 use Rattle.awk_form.specs.FormTree.{FormTree, FormTrees, empty, numpy, regular, list, list_offset, row, indexed, indexed_option, byte_masked, bit_masked, unmasked, union, no_forms, form}
@@ -18,37 +18,6 @@ use Rattle.awk_form.specs.declared.kind.IndexKind.TheVariants as index
 use Rattle.awk_pack.specs.Canon.{Pack}
 use Rattle.awk_text.specs.Buffers.{buffer_text}
 use Rattle.awk_text.specs.PackedText.{buffers, buffers_text, packed_text}
-
--- ---- base64
-
--- a symbol, or what is read past the last
-symbol-unbroken : (t : List ℕ) → Unbroken t → (i : ℕ) → slice_index t i ≢ 10
-symbol-unbroken [] u i = λ e. absurd (cc)
-symbol-unbroken (x ∷ t) u zero = u.0
-symbol-unbroken (x ∷ t) u (suc i) = symbol-unbroken t u.1 i
-
-symbols-unbroken : (t : List ℕ) → Unbroken t → (m : List ℕ) → Unbroken (encode_symbols t m)
-unfolding encode_symbols
-symbols-unbroken t u [] = tt
-symbols-unbroken t u (a ∷ []) = (symbol-unbroken t u _, (symbol-unbroken t u _, tt))
-symbols-unbroken t u (a ∷ b ∷ []) =
-    (symbol-unbroken t u _, (symbol-unbroken t u _, (symbol-unbroken t u _, tt)))
-symbols-unbroken t u (a ∷ b ∷ c ∷ rest) =
-    Unbroken-append (encode_group t a b c) (encode_symbols t rest) (
-      symbol-unbroken t u _,
-      (symbol-unbroken t u _, (symbol-unbroken t u _, (symbol-unbroken t u _, tt))),
-    )
-    (symbols-unbroken t u rest)
-
-padding-unbroken : (n : ℕ) → Unbroken (replicate n 61)
-padding-unbroken zero = tt
-padding-unbroken (suc n) = ((λ e. absurd (cc)), padding-unbroken n)
-
-encode_of-unbroken : (m : List ℕ) → Unbroken (encode_of standard m)
-encode_of-unbroken m =
-    Unbroken-append (encode_symbols standard.encode_table m) (replicate (padding_len (length m)) 61)
-    (symbols-unbroken standard.encode_table (literal-unbroken standard.encode_table refl) m)
-    (padding-unbroken (padding_len (length m)))
 
 -- ---- forms
 

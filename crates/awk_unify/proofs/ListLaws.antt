@@ -3,16 +3,18 @@ use Rattle.std.proofs.Common.{◌≡◌, ◌∙◌, ◌+◌, ◌≤◌, ◌∷�
 use Rattle.std.proofs.lemmas.List.{append-nil, drop_all}
 use Rattle.awk_types.proofs.ListLaws.{drop-get}
 use Rattle.awk_types.proofs.RefusalLaws.{refused_or-None}
-use Rattle.awk_types.specs.DataType.{DataType, types_from}
+use Rattle.awk_types.specs.DataType.{DataType, types_from, unknown}
 use Rattle.awk_types.specs.Gives.{Told}
+use Rattle.awk_types.specs.Has.{Has}
 use Rattle.awk_types.specs.IsType.{AreTypes, IsType}
 use Rattle.awk_types.specs.Limit.{Limit, limit, within}
 use Rattle.awk_types.specs.Simple.{AreSimple, IsSimple, simple}
+use Rattle.awk_types.specs.Value.{Value}
 use Rattle.awk_unify.specs.After.{after}
-use Rattle.awk_unify.specs.Carry.{Carry}
+use Rattle.awk_unify.specs.Carry.{Carry, carried}
 use Rattle.awk_unify.specs.Unify.{unification}
-use Rattle.awk_unify.specs.UnifyList.{AreCarriedInto, UnificationList, UnifiesAll, one_further, unification_list, unification_more, within_list}
-use Rattle.awk_unify.proofs.AfterLaws.{InPlace}
+use Rattle.awk_unify.specs.UnifyList.{AreCarriedInto, AreCarriedOn, carried_on, UnificationList, UnifiesAll, one_further, unification_list, unification_more, within_list}
+use Rattle.awk_unify.proofs.AfterLaws.{InPlace, after_carries}
 use Rattle.awk_unify.proofs.CarriedLaws.{IsCarried, Takes, then_carries}
 use Rattle.awk_unify.proofs.LimitLaws.{within_is, within_none, within_told}
 use Rattle.awk_unify.proofs.SimpleLaws.{unify_simple}
@@ -59,6 +61,53 @@ all_carried [] (f ∷ fs) t h = absurd h
 all_carried (a ∷ firsts) [] t h = absurd h
 all_carried (a ∷ firsts) (f ∷ fs) t h = (carried_into a f t h.0, all_carried firsts fs t h.1)
 
+-- ---- step after step
+
+-- the values of the first types are carried on, and those of the others too
+abbrev AreOnward : List DataType → List Carry → DataType → List DataType → List Carry → Type 0
+AreOnward [] [] t bs hs = AreCarriedOn t bs hs
+AreOnward (a ∷ firsts) (f ∷ fs) t bs (h ∷ hs) =
+    ((v : Value) → Has a v → carried h v ≡ carried_on t bs (carried f v))
+    × AreOnward firsts fs t bs hs
+AreOnward firsts fs t bs hs = ⊥
+
+onward_end : (firsts : List DataType) (fs : List Carry) (t : DataType) → AllCarry firsts fs t
+    → AreOnward firsts fs t [] fs
+onward_end [] [] t h = tt
+onward_end [] (f ∷ fs) t h = absurd h
+onward_end (a ∷ firsts) [] t h = absurd h
+onward_end (a ∷ firsts) (f ∷ fs) t h = (λ v k. refl, onward_end firsts fs t h.1)
+
+onward_step : (firsts : List DataType) (fs : List Carry) (m b : DataType) (bs : List DataType)
+    (hs : List Carry) → InPlace (unification m b).left
+    → Takes m (unification m b).left (unification m b).typ → AllCarry firsts fs m
+    → AreOnward (firsts ++ b ∷ [])
+    (map (after (unification m b).left) fs ++ (unification m b).right ∷ [])
+    (unification m b).typ bs hs → AreOnward firsts fs m (b ∷ bs) hs
+onward_step [] [] m b bs [] p c h x = absurd x
+onward_step [] [] m b bs (k ∷ hs) p c h x = x
+onward_step [] (f ∷ fs) m b bs hs p c h x = absurd h
+onward_step (a ∷ firsts) [] m b bs hs p c h x = absurd h
+onward_step (a ∷ firsts) (f ∷ fs) m b bs [] p c h x = absurd x
+onward_step (a ∷ firsts) (f ∷ fs) m b bs (k ∷ hs) p c h x =
+    let g = (unification m b).left in (
+      λ v l. x.0 v l ∙ ap (carried_on (unification m b).typ bs)
+          (after_carries g f v p (h.0 v l).0 (c (carried f v) (h.0 v l).1).0).1,
+      onward_step firsts fs m b bs hs p c h.1 x.1,
+    )
+
+more_onward : (done : List DataType) (u : UnificationList) (bs : List DataType) → IsType u.typ
+    → IsSimple u.typ → AreTypes (types_from bs) → AreSimple (types_from bs)
+    → AllCarry done u.lifts u.typ
+    → AreOnward done u.lifts u.typ bs (unification_more u bs).lifts
+more_onward done u [] y s z x h = onward_end done u.lifts u.typ h
+more_onward done u (b ∷ bs) y s z x h =
+    let r : IsCarried u.typ b (unification u.typ b) = unify_carries u.typ b y z.0 s x.0 in
+    let next : AllCarry (done ++ b ∷ []) (one_further u b).lifts (one_further u b).typ =
+    carried_one done _ b _ _ (carried_further done u.lifts u.typ (unification u.typ b).typ (unification u.typ b).left r.in_place r.to_left h) r.to_right in
+    onward_step done u.lifts u.typ b bs (unification_more u (b ∷ bs)).lifts r.in_place r.to_left h
+    (more_onward (done ++ b ∷ []) (one_further u b) bs (unify_type u.typ b y z.0) (unify_simple u.typ b s x.0) z.1 x.1 next)
+
 pub list_simple : (ts : List DataType) → AreSimple (types_from ts) → IsSimple (unification_list ts).typ
 list_simple ts x = more_simple _ ts tt x
 
@@ -68,6 +117,7 @@ unifies_list ts = record {
   is_type = λ z. more_type _ ts tt z;
   is_simple = λ x. list_simple ts x;
   values = λ z x. all_carried ts _ _ (more_carries [] _ ts tt tt z x tt);
+  steps = λ z x. more_onward [] (record { typ = unknown; lifts = [] }) ts tt tt z x tt;
 }
 
 -- the laws

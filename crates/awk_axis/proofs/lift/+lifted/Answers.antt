@@ -10,7 +10,8 @@ use Rattle.awk_axis.proofs.IfOk.{if_ok}
 use Rattle.awk_axis.proofs.LiftLaws.{refusal-list, refusal-list_here, refusal-row}
 use Rattle.awk_columns.proofs.ListNodes.{joined_even}
 use Rattle.awk_axis.proofs.LiftLaws.{count_mapped, reach_mapped, refusal-union, union_mapped}
-use Rattle.awk_axis.proofs.LiftedLaws.{lists_here, lists_too_many, lists_spoiled, lists_above}
+use Rattle.awk_axis.proofs.LiftedLaws.{lists_here, lists_too_many, lists_many_told}
+use Rattle.awk_axis.proofs.LiftedLaws.{lists_spoiled, lists_above}
 use Rattle.awk_axis.proofs.LiftedLaws.{option_lifted, option_spoiled, row_lifted, row_spoiled}
 use Rattle.awk_axis.proofs.LiftedLaws.{union_lifted, union_spoiled, refusal-get, depth-get}
 use Rattle.awk_axis.proofs.LiftedLaws.{depth-list, depth-row, depth-option, depth-union}
@@ -98,15 +99,78 @@ lifted_lists-returns-then-is_here g t c =
 pub lifted_lists-returns-in_err-joined : goal.lifted_lists-returns-in_err-joined
 lifted_lists-returns-in_err-joined g t c = search rules
 
-pub lifted_lists-returns-in-TooMany : goal.lifted_lists-returns-in-TooMany
-lifted_lists-returns-in-TooMany g t c =
-    let f = g.F.ListOp.function c.args.f.now in
+pub lifted_lists-lifted_many-requires : goal.lifted_lists-lifted_many-requires
+lifted_lists-lifted_many-requires g t c κs within =
     let e : here c.args.k (array_type c.args.lists.now.content) ≡ false =
-    ap (here c.args.k) (sym (c.typ.ensures.typ ∙ ap array_type c.content.ensures.content)) ∙ sym c.is_here.ensures ∙ c.if-is_here.false in
-    let j : IsJoined c.args.lists.now.starts c.args.lists.now.stops c.args.lists.now.content joined.TooMany =
-    rw c.in-TooMany.is at c.in_ok-joined.ensures in
-    lists_too_many f c.args.k c.args.lists.now.class c.args.lists.now.starts c.args.lists.now.stops c.args.lists.now.content
-    c.args.x.now e c.requires.opens j
+    ap (here c.args.k) (sym (c.typ.ensures.typ ∙ ap array_type c.content.ensures.content))
+    ∙ sym c.is_here.ensures ∙ c.if-is_here.false in
+    let j : IsJoined c.args.lists.now.starts c.args.lists.now.stops c.args.lists.now.content
+    joined.TooMany = rw c.in-TooMany.is at c.in_ok-joined.ensures in
+    let d : depth (array_type c.args.x.now)
+    ≡ depth (array_type c.args.lists.now.content) + 1 =
+    ap depth c.requires.opens.typ
+    ∙ depth-list c.args.lists.now.class (array_type c.args.lists.now.content) in (
+      omega (
+        arith,
+        falls_all (depth (array_type c.args.x.now))
+            (depth (array_type c.args.lists.now.content)) d,
+        c.decreases,
+      ),
+      (
+        within.0,
+        (within.1, (c.requires.accepted, (c.requires.opens, (e, j)))),
+      ),
+    )
+
+pub lifted_many-returns-in_err-content : goal.lifted_many-returns-in_err-content
+lifted_many-returns-in_err-content g t c = search rules
+
+pub lifted_many-lifted-requires : goal.lifted_many-lifted-requires
+lifted_many-lifted-requires g t c κs within =
+    let f = g.F.ListOp.function c.args.f.now in
+    let u : array_type c.in_ok-content.content ≡ array_type c.args.lists.now.content =
+    c.in_ok-content.ensures.typ in (
+      omega (
+        arith,
+        falls_each (depth (array_type c.in_ok-content.content))
+            (depth (array_type c.args.lists.now.content)) (omega (arith, ap depth u)),
+        c.decreases,
+      ),
+      (
+        within.0,
+        (
+          within.1,
+          ap (λ k. refusal_at f k (array_type c.in_ok-content.content)) c.inner.ensures
+              ∙ ap (refusal_at f (inner c.args.k)) u
+              ∙ sym (refusal-list f c.args.k c.args.lists.now.class
+              (array_type c.args.lists.now.content) c.requires.above)
+              ∙ ap (refusal_at f c.args.k) (sym c.requires.opens.typ) ∙ c.requires.accepted,
+        ),
+      ),
+    )
+
+pub lifted_many-returns-in_err-inside : goal.lifted_many-returns-in_err-inside
+lifted_many-returns-in_err-inside g t c = search rules
+
+pub lifted_many-returns-in_ok-inside : goal.lifted_many-returns-in_ok-inside
+lifted_many-returns-in_ok-inside g t c =
+    let f = g.F.ListOp.function c.args.f.now in
+    let l = c.args.lists.now in
+    lists_many_told f c.args.k l.class l.starts l.stops l.content c.args.x.now
+    c.in_ok-content.content c.in_ok-inside.inside c.told_of_many.result c.requires.above
+    c.requires.opens c.requires.many c.in_ok-content.ensures
+    (rw c.inner.ensures at c.in_ok-inside.ensures) c.told_of_many.ensures
+
+pub lifted_many-returns-else-tells_index : goal.lifted_many-returns-else-tells_index
+lifted_many-returns-else-tells_index g t c =
+    let f = g.F.ListOp.function c.args.f.now in
+    let l = c.args.lists.now in
+    lists_too_many f c.args.k l.class l.starts l.stops l.content c.args.x.now
+    (c.tells_index.ensures c.if-tells_index.false) c.requires.above c.requires.opens
+    c.requires.many
+
+pub lifted_lists-returns-in-TooMany : goal.lifted_lists-returns-in-TooMany
+lifted_lists-returns-in-TooMany g t c = c.lifted_many.ensures
 
 pub lifted_lists-lifted-requires : goal.lifted_lists-lifted-requires
 lifted_lists-lifted-requires g t c κs within =

@@ -1,4 +1,5 @@
 use Rattle.std.proofs.Common.{arith, ◌∙◌, subst}
+use Rattle.awk_types.specs.ItemLimit.{item_limit}
 use Rattle.awk_layout.specs.Laws.{len-fits}
 use Rattle.awk_layout.specs.Valid.{len}
 use Rattle.awk_columns.specs.Counted.{IsTotal}
@@ -14,7 +15,7 @@ total-requires g c = record {
 pub returns-in_default-clause-answer : goal.returns-in_default-clause-answer
 returns-in_default-clause-answer g c =
     let none = none_left c.total.result (λ k e. c.in_default.not-Some k e) in
-    joined_refused c.args.starts.now c.args.stops.now c.args.content.now (subst (IsTotal c.args.starts.now c.args.stops.now) none c.total.ensures)
+    joined_refused c.args.starts.now c.args.stops.now c.args.content.now (subst (IsTotal item_limit c.args.starts.now c.args.stops.now) none c.total.ensures)
 
 pub offsets-requires-clause-spans : goal.offsets-requires-clause-spans
 offsets-requires-clause-spans g c =
@@ -22,7 +23,7 @@ offsets-requires-clause-spans g c =
 
 pub returns-clause-answer : goal.returns-clause-answer
 returns-clause-answer g c =
-    let t = subst (IsTotal c.args.starts.now c.args.stops.now) c.in-Some.is c.total.ensures in
+    let t = subst (IsTotal item_limit c.args.starts.now c.args.stops.now) c.in-Some.is c.total.ensures in
     joined_given c.args.starts.now c.args.stops.now c.args.content.now c.in_ok-items.items (omega (arith, t.0, t.1)) c.in_ok-items.ensures.reached
 
 pub returns-clause-offsets : goal.returns-clause-offsets

@@ -1,10 +1,9 @@
 use Rattle.std.specs.Prelude.{◌≡◌, ◌≤◌, length}
 use Rattle.awk_columns.specs.Counted.{first_of, span_at}
-use Rattle.awk_types.specs.ItemLimit.{item_limit}
 use Rattle.awk_columns.proofs.spans.total.Given as goal
 
 abbrev pub invariant-loop-i : goal.invariant-loop-i
 invariant-loop-i g l = record {
   total : l.sum ≡ length (first_of (span_at l.starts l.stops) l.i);
-  few : l.sum ≤ item_limit;
+  few : l.sum ≤ l.limit;
 }

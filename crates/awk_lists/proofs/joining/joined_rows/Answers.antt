@@ -13,8 +13,8 @@ returns-in-TooMany g c =
     too_many_joined c.args.starts.now c.args.stops.now c.args.content.now c.args.rows.now
     c.args.lists.now c.requires.rows (rw c.in-TooMany.is at c.in_ok-plain_lists.ensures)
 
-pub offsets_at-requires : goal.offsets_at-requires
-offsets_at-requires g c =
+pub gather_lane-requires : goal.gather_lane-requires
+gather_lane-requires g c =
     let h : IsListed c.args.lists.now (Lists c.in-Lists.offsets c.in-Lists.content) =
     rw c.in-Lists.is at c.in_ok-plain_lists.ensures in
     rows_index c.args.starts.now c.args.stops.now c.args.content.now c.args.rows.now
@@ -25,7 +25,7 @@ pub returns-in_ok-copy-in-Lists : goal.returns-in_ok-copy-in-Lists
 returns-in_ok-copy-in-Lists g c =
     let h : IsListed c.args.lists.now (Lists c.in-Lists.offsets c.in-Lists.content) =
     rw c.in-Lists.is at c.in_ok-plain_lists.ensures in
-    rw (c.in_ok-copy-in-Lists.ensures, c.node.ensures, c.in_ok-offsets-in-Lists.ensures) (
+    rw (c.in_ok-copy-in-Lists.ensures, c.node.ensures, c.in_ok-offsets-in-Lists.ensures.lane) (
       few_joined c.args.starts.now c.args.stops.now c.args.content.now c.args.rows.now
           c.args.lists.now c.requires.rows h.0,
       are_given c.args.starts.now c.args.stops.now c.args.content.now c.args.rows.now

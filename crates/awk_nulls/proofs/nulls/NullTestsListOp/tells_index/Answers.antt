@@ -1,0 +1,5 @@
+use Rattle.awk_axis.proofs.IndexLaws.{too_many-never}
+use Rattle.awk_nulls.proofs.nulls.NullTestsListOp.tells_index.Goals as goal
+
+pub returns : goal.returns
+returns c e t ls h = too_many-never _ h

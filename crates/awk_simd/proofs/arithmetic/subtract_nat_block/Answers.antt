@@ -1,0 +1,31 @@
+use Rattle.std.proofs.Common.{◌≡◌, ℕ, ◌+◌, ◌≤◌, length, arith, ap, sym, ◌∙◌}
+use Rattle.std.specs.Prelude.{pos, Ok, IsTrue, nat_eq}
+use Rattle.std.specs.Simd.Lanes.{chunk, zip2}
+use Rattle.std.proofs.lemmas.Simd.{get_or-put_chunk_below, length-chunk}
+use Rattle.awk_simd.proofs.Lanes.{length-results}
+use Rattle.awk_simd.proofs.Chosen.{stored}
+use Rattle.awk_simd.proofs.Results.{wrapped_difference, difference_made-nat, zero_mask}
+use Rattle.awk_simd.proofs.arithmetic.subtract_nat_block.Goals as goal
+
+pub returns-then-x-y-ne0-clause-below : goal.returns-then-x-y-ne0-clause-below
+returns-then-x-y-ne0-clause-below c = λ k l. get_or-put_chunk_below c.args.at c.args.out.now _ k 0 l
+
+pub returns-clause-below : goal.returns-clause-below
+returns-clause-below c = λ k l. get_or-put_chunk_below c.args.at c.args.out.now _ k 0 l
+
+pub returns-clause-made : goal.returns-clause-made
+returns-clause-made c = λ t k p q.
+    let a = c.args.a.now in
+    let b = c.args.b.now in
+    let at = c.args.at in
+    let ra = c.requires.room in
+    let rb : at + 8 ≤ length b = omega (arith, ra, c.requires.b) in
+    let s = zip2 wrapped_difference (chunk at 8 a) (chunk at 8 b) in
+    let long = length-results wrapped_difference (chunk at 8 a) (chunk at 8 b)
+    (length-chunk at 8 a ra) (length-chunk at 8 b rb) in
+    let fa = c.type_inv.a k in
+    let fb = c.type_inv.b k in
+    difference_made-nat a b at ra rb c.args.hi k p q fa.fits fb.fits c.if-x-y-ne0.false
+    (zero_mask _ t)
+    ∙ ap (λ z. Ok (pos z))
+    (sym (stored 0 c.args.out.now s at k long (omega (arith, ra, c.requires.out)) p q))

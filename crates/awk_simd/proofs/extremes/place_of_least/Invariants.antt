@@ -1,0 +1,6 @@
+use Rattle.std.proofs.Common.{◌*◌}
+use Rattle.awk_simd.specs.Firsts.{IsFirstLeast}
+use Rattle.awk_simd.proofs.extremes.place_of_least.Given as goal
+
+abbrev pub invariant-loop-n : goal.invariant-loop-n
+invariant-loop-n l = IsFirstLeast l.xs (l.n * 8) l.place
