@@ -1,0 +1,4 @@
+pub mod ProductLaws
+pub mod PartLaws
+pub mod KeyLaws
+pub mod TallyLaws

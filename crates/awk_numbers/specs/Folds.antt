@@ -1,0 +1,61 @@
+-- What whole numbers come to: a sum, a product, a count, the place of the least or the greatest.
+use Rattle.std.specs.Prelude.{◌≡◌, ℕ, ◌<◌, ◌≤◌, ℤ, pos, ◌*ℤ◌, unsigned_abs, Bool, if◌then◌else◌}
+use Rattle.std.specs.Prelude.{List, length, map, Option, Some, None}
+use Rattle.std.specs.List.{fold, list_any, list_all, count_by}
+use Rattle.awk_lanes.specs.Column.{Column}
+use Rattle.awk_lanes.specs.Numbers.{element, is_nonzero}
+use Rattle.awk_lanes.specs.Words.{integers}
+use Rattle.awk_lanes.specs.declared.kind.Kind.{Kind}
+use Rattle.awk_lanes.specs.declared.kind.Kind.TheVariants as kind
+use Rattle.awk_kernels.specs.Kernels.{total, first_least, first_greatest}
+use Rattle.awk_numbers.specs.declared.folds.Fold.{Fold}
+use Rattle.awk_numbers.specs.declared.folds.Fold.TheVariants.{Sum, Product}
+use Rattle.awk_numbers.specs.declared.tallies.Tally.{Tally}
+use Rattle.awk_numbers.specs.declared.tallies.Tally.TheVariants as tally
+use Rattle.awk_numbers.specs.declared.extremes.Extreme.{Extreme}
+use Rattle.awk_numbers.specs.declared.extremes.Extreme.TheVariants.{Least, Greatest}
+use Rattle.awk_numbers.specs.declared.whole.Whole.{Whole}
+use Rattle.awk_numbers.specs.declared.whole.Whole.TheVariants.{Ints, Nats}
+
+abbrev pub whole_numbers : Whole → List ℤ
+whole_numbers (Ints v) = v.items
+whole_numbers (Nats v) = integers v.items
+
+-- the numbers of a lane, a truth value as 0 or 1
+abbrev pub lane_numbers : Column → List ℤ
+lane_numbers c = map (element c.kind) c.items
+
+-- ---- sums and products
+
+abbrev pub product : List ℤ → ℤ
+product zs = fold (λ so_far z. so_far *ℤ z) (pos 1) zs
+
+abbrev pub folded : Fold → List ℤ → ℤ
+folded Sum zs = total zs
+folded Product zs = product zs
+
+-- a number, or none where no number of 64 bits is so far from 0
+abbrev pub IsNear : ℤ → Option ℤ → Type 0
+IsNear z None = 18446744073709551616 ≤ unsigned_abs z
+IsNear z (Some n) = n ≡ z
+
+-- ---- counts and truth
+
+abbrev pub tallied : Tally → List ℤ → ℤ
+tallied tally.Items zs = pos (length zs)
+tallied tally.Nonzero zs = pos (count_by is_nonzero zs)
+tallied tally.Any zs = pos (if list_any is_nonzero zs then 1 else 0)
+tallied tally.All zs = pos (if list_all is_nonzero zs then 1 else 0)
+
+abbrev pub tally_kind : Tally → Kind
+tally_kind tally.Items = kind.I64
+tally_kind tally.Nonzero = kind.I64
+tally_kind tally.Any = kind.Bool
+tally_kind tally.All = kind.Bool
+
+-- ---- extremes
+
+-- the first place of the least or of the greatest number, or none of none
+abbrev pub first_extreme : Extreme → List ℤ → Option ℕ
+first_extreme Least zs = first_least zs
+first_extreme Greatest zs = first_greatest zs

@@ -1,0 +1,4 @@
+pub mod LeafLaws
+pub mod SliceLaws
+pub mod IndexLaws
+pub mod PresentLaws

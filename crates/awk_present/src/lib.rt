@@ -1,0 +1,10 @@
+//! The items of lists that are not null, as numbers.
+//!
+//! `present_of` is the numbers of those items in one lane, with offsets of each list's, and an
+//! index that leads from a number back to its item where some may be null.
+#![tactic(auto)]
+
+mod leaves;
+mod present;
+
+pub use present::{Present, present_of};
