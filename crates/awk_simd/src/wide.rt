@@ -2,9 +2,9 @@
 use crate::{arithmetic, comparisons, counts, extremes, searches};
 use awk_kernels::{Arith, Broken, Compare, Kernels, Plain};
 
-/// The kernels by vectors, with the plain kernels for the rest of a slice. Choices, gathers, running
-/// sums, sums, products, quotients and remainders are the plain kernels. It answers what `Plain`
-/// does.
+/// The kernels by vectors, with the plain kernels for the rest of a slice. The greatest number,
+/// choices, gathers, running sums, sums, products, quotients and remainders are the plain kernels.
+/// It answers what `Plain` does.
 #[derive(Clone, Copy, Debug, Default)]
 pub struct Wide;
 
@@ -18,7 +18,7 @@ impl Kernels for Wide {
     }
 
     fn greatest(&self, xs: &[i64]) -> Option<i64> {
-        extremes::greatest(xs)
+        Plain.greatest(xs)
     }
 
     fn prefix_sums(&self, xs: &[u64], out: &mut [u64]) -> Option<usize> {
