@@ -55,7 +55,7 @@ pub(crate) fn apply<'s, N: Kernels, L: Ledger>(
 {
     match op {
         Op::At => match (place(fixed), only(operands)) {
-            (Some(i), Some(x)) => at(alloc, x, i, steps),
+            (Some(i), Some(x)) => at(alloc, x, i, arena, steps),
             _ => Err(Fault::Unbuilt),
         },
         Op::Range => ranged(alloc, fixed, operands, arena, steps),

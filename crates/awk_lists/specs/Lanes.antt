@@ -1,13 +1,10 @@
 -- Lanes that are made of lists by their starts and stops.
-use Rattle.std.specs.Prelude.{◌≡◌, ℕ, ◌-◌, ◌==◌, ◌<◌, pos, ◌≤ℤ◌, if◌then◌else◌}
+use Rattle.std.specs.Prelude.{◌≡◌, ℕ, ◌==◌, ◌<◌, pos, ◌≤ℤ◌, if◌then◌else◌}
 use Rattle.awk_lanes.specs.declared.kind.Kind.TheVariants.{I64}
 use Rattle.awk_lanes.specs.Column.{Column}
 use Rattle.awk_lanes.specs.Places.{size_of, at, place_at, IsIndexKind}
 use Rattle.awk_lanes.specs.Made.{lane_of}
-
--- how many items a list has
-abbrev pub span_length : Column → Column → ℕ → ℕ
-span_length s t i = place_at t i - place_at s i
+pub use Rattle.awk_columns.specs.Lists.{span_length}
 
 -- ends of lists are places of a lane, where the lists have items
 pub record AreListEnds (c s t ends : Column) : Type 0 where

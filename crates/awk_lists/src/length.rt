@@ -5,7 +5,7 @@ ghost use Rattle.awk_types.specs.Gives.{Gives};
 ghost use Rattle.awk_lanes.specs.Places.{size_of, AreSpans};
 ghost use Rattle.awk_layout.specs.Datum.{datum_of, IsDatum};
 ghost use Rattle.awk_axis.specs.Mapped.{IsMade};
-ghost use Rattle.awk_lists.specs.Lanes.{span_length};
+ghost use Rattle.awk_columns.specs.Lists.{span_length};
 ghost use Rattle.awk_lists.specs.Num.{length_function, num_of};
 
 use awk_axis::{ListOp, Made, Refusal, lift_at};

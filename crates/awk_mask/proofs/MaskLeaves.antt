@@ -1,28 +1,28 @@
--- Masks of single truth values: their kinds, and the node of bytes over an array.
-use Rattle.std.specs.Prelude.{◌≡◌, ℕ, ◌<◌, ◌^◌, refl, Bool, true, false, Some, None}
+-- Masks of single truth values: their kinds, and the places that they keep.
+use Rattle.std.specs.Prelude.{◌≡◌, ℕ, ◌<◌, ◌<ℤ◌, pos, refl, Bool, true, false, Some, None}
 use Rattle.std.specs.Prelude.{if◌then◌else◌}
-use Rattle.std.proofs.Common.{arith, ap, sym, ◌∙◌}
+use Rattle.std.proofs.Common.{arith, ap, sym, ◌∙◌, subst}
 use Rattle.awk_types.specs.DataType.{DataType, unknown, leaf, var, reg, rec, tup, opt, uni}
 use Rattle.awk_types.specs.Simple.{simple, simple_value}
 use Rattle.awk_types.specs.Value.{Value, null, truth}
 use Rattle.awk_lanes.specs.Column.{Column}
 use Rattle.awk_lanes.specs.Numbers.{is_nonzero}
-use Rattle.awk_lanes.specs.Places.{size_of, at}
+use Rattle.awk_lanes.specs.Places.{size_of, at, option_place, IsOptionalIndex}
 use Rattle.awk_lanes.specs.declared.kind.Kind.{Kind}
 use Rattle.awk_lanes.specs.declared.kind.Kind.TheVariants as kinds
-use Rattle.awk_layout.specs.Item.{leaf_value, agrees, byte_shows}
+use Rattle.awk_layout.specs.Item.{leaf_value, agrees, at_option}
 use Rattle.awk_layout.specs.Kinds.{primitive_of}
-use Rattle.awk_layout.specs.Layout.{Layout, byte_masked}
+use Rattle.awk_layout.specs.Layout.{Layout}
 use Rattle.awk_layout.specs.Typing.{array_type}
-use Rattle.awk_layout.specs.Valid.{len, IsValid, IsByteMask}
+use Rattle.awk_layout.specs.Valid.{len, IsValid}
 use Rattle.awk_gather.specs.Arrays.{array_item}
-use Rattle.awk_lanes.specs.Made.{lane_of}
+use Rattle.awk_gather.specs.Peeled.{IsPickedOpt}
 use Rattle.awk_open.specs.Opened.{IsOpened, IsKindOf, IsListOf}
 use Rattle.awk_open.specs.declared.opening.Opened.{Opened}
 use Rattle.awk_open.specs.declared.opening.Opened.TheVariants as opened
 use Rattle.awk_lanes.proofs.MadeLanes.{size-lane_of, at-lane_of}
-use Rattle.awk_gather.proofs.OptionItems.{item-byte_masked}
-use Rattle.awk_mask.specs.MaskLeaves.{is_innermost, AreTruths, IsMasked}
+use Rattle.awk_gather.proofs.FollowedIndexes.{item_if_shown, below_if_shown}
+use Rattle.awk_mask.specs.MaskLeaves.{is_innermost, kept_place, kept_lane, AreTruths, IsMasked}
 use Rattle.awk_mask.specs.PutMask.{masked_type, masked_value, kept_where}
 use Rattle.awk_nulls.proofs.OptionNodes.{HasItems, optional_type-is, option_stays}
 
@@ -72,19 +72,24 @@ leaf_truths m c h o = record {
   items = o.items;
 }
 
--- ---- the bytes over an array
+-- ---- the places that are kept
 
-abbrev pub byte_lane : Column → Column
-byte_lane c = lane_of kinds.I8 (size_of c) (at c)
+size-kept : (c : Column) (keep : Bool) → size_of (kept_lane c keep) ≡ size_of c
+size-kept c keep = size-lane_of kinds.I64 (size_of c) (kept_place c keep)
 
-pub bytes_fit : (m : Layout) (c : Column) → AreTruths m c → size_of (byte_lane c) < 2 ^ 63
-bytes_fit m c t = omega (arith, size-lane_of kinds.I8 (size_of c) (at c), t.fits)
+at-kept : (c : Column) (keep : Bool) (i : ℕ) → i < size_of c
+    → at (kept_lane c keep) i ≡ kept_place c keep i
+at-kept c keep i p = at-lane_of kinds.I64 (size_of c) (kept_place c keep) i p
 
-pub bytes_valid : (x m : Layout) (c : Column) → AreTruths m c → len m ≡ len x
-    → IsByteMask (byte_lane c) (len x)
-bytes_valid x m c t e = record {
-  kind = refl;
-  reach = omega (arith, size-lane_of kinds.I8 (size_of c) (at c), t.size, e);
+pub kept_index : (x m : Layout) (keep : Bool) (c : Column) → AreTruths m c → len m ≡ len x
+    → IsOptionalIndex (kept_lane c keep) (len x)
+kept_index x m keep c t e = record {
+  kind = tt;
+  below = λ i p.
+      let q : i < size_of c = omega (arith, p, size-kept c keep) in
+      subst (λ z. z <ℤ pos (len x)) (sym (at-kept c keep i q))
+      (below_if_shown (agrees keep (is_nonzero (at c i))) i (size_of c) (len x) q
+      (omega (arith, t.size, e)));
 }
 
 innermost_type : (u t : DataType) → is_innermost u ≡ true → masked_type u t ≡ opt t
@@ -121,20 +126,21 @@ truth_item : (m : Layout) (c : Column) → AreTruths m c → (i : ℕ) → i < l
     → array_item m i ≡ truth (is_nonzero (at c i))
 truth_item m c t i p = t.items i p ∙ ap (λ k. leaf_value k (at c i)) t.kind
 
-pub bytes_mask : (x m : Layout) (keep : Bool) (c : Column) → IsValid x → HasItems x
+pub kept_mask : (x m r : Layout) (keep : Bool) (c : Column) → IsValid r → HasItems x
     → is_innermost (array_type m) ≡ true → len m ≡ len x → AreTruths m c
-    → IsMasked x m keep (byte_masked (byte_lane c) keep x)
-bytes_mask x m keep c v h u e t = record {
-  valid = (bytes_fit m c t, bytes_valid x m c t e, v);
-  size = size-lane_of kinds.I8 (size_of c) (at c) ∙ t.size ∙ e;
-  typ = optional_type-is c x ∙ ap simple (sym (innermost_type (array_type m) (array_type x) u));
+    → IsPickedOpt x (kept_lane c keep) r → IsMasked x m keep r
+kept_mask x m r keep c v h u e t k = record {
+  valid = v;
+  size = k.size ∙ size-kept c keep ∙ t.size ∙ e;
+  typ = k.typ ∙ optional_type-is (kept_lane c keep) x
+      ∙ ap simple (sym (innermost_type (array_type m) (array_type x) u));
   items = λ i p.
       let q : i < size_of c = omega (arith, p, e, t.size) in
-      let shown : byte_shows (byte_lane c) keep i ≡ agrees keep (is_nonzero (at c i)) =
-      ap (λ z. agrees keep (is_nonzero z)) (at-lane_of kinds.I8 (size_of c) (at c) i q) in
-      item-byte_masked (byte_lane c) keep x i
-      ∙ shown_stays x h (byte_shows (byte_lane c) keep i) i p
-      ∙ ap (λ b. simple_value (opt (array_type x)) (if b then array_item x i else null)) shown
+      let shown : Bool = agrees keep (is_nonzero (at c i)) in
+      k.items i (omega (arith, q, size-kept c keep))
+      ∙ ap (λ z. at_option (option_place z) (array_item x)) (at-kept c keep i q)
+      ∙ item_if_shown shown i (array_item x)
+      ∙ shown_stays x h shown i p
       ∙ ap (λ w. simple_value (opt (array_type x)) (kept_where keep w (array_item x i)))
       (sym (truth_item m c t i (omega (arith, p, e))))
       ∙ ap (simple_value (opt (array_type x)))

@@ -16,10 +16,12 @@ use Rattle.awk_layout.specs.Layout.{Layout, optional}
 use Rattle.awk_layout.specs.Typing.{array_type, array_items}
 use Rattle.awk_layout.specs.Valid.{len, IsValid}
 use Rattle.awk_gather.specs.Arrays.{array_item}
+use Rattle.awk_gather.specs.Peeled.{IsPickedOpt}
 use Rattle.awk_columns.specs.Columns.{is_present, joined_items, option_index}
 use Rattle.awk_columns.specs.Joined.{AreOffsets}
 use Rattle.awk_columns.specs.ListClass.{Class, list_type}
 use Rattle.awk_columns.specs.ListNode.{AreEven, list_layout}
+use Rattle.awk_nulls.specs.Composed.{IsComposed}
 use Rattle.awk_mask.specs.MaskLeaves.{is_innermost}
 use Rattle.awk_mask.specs.PutMask.{masks, masked_type, masked_value, in_pairs, lists_differ}
 use Rattle.awk_mask.specs.PutMask.{differs, levels_refused}
@@ -107,16 +109,27 @@ abbrev pub over_layout : Over → Layout → Layout
 over_layout (over.Nulls j) r = optional j r
 over_layout (over.Lists class n o) r = list_layout class n o r
 
+-- an index with nulls is of i64
+abbrev pub IsPlaced : Over → Type 0
+IsPlaced (over.Nulls j) = j.kind ≡ I64
+IsPlaced (over.Lists class n o) = Unit {0}
+
 abbrev pub IsLevel : Layout → Layout → Level → Type 0
 IsLevel m x level.Innermost = (is_innermost (array_type m) ≡ true) × (len m ≡ len x)
 IsLevel m x level.TooMany = (keep : Bool) → below_refused keep m x ≡ Some Size
-IsLevel m x (level.Within o x' m') = IsBelow m x m' x' (over_layout o)
+IsLevel m x (level.Within o x' m') = IsPlaced o × IsBelow m x m' x' (over_layout o)
 
 abbrev pub CanHold : Over → Masked → Type 0
 CanHold o masked.TooMany = Unit {0}
-CanHold o (masked.Column r) = IsValid (over_layout o r)
+CanHold o (masked.Column r) = IsPlaced o × IsValid (over_layout o r)
+
+-- r has these items with what is over them; an index with nulls is composed with those of the items
+abbrev pub IsPutOver : Over → Layout → Layout → Type 0
+IsPutOver (over.Nulls j) y r = IsValid r × IsPickedOpt y j r × IsComposed r
+IsPutOver (over.Lists class n o) y r = r ≡ list_layout class n o y
 
 -- what is made with what is over it
 abbrev pub IsOver : Over → Masked → Masked → Type 0
 IsOver o masked.TooMany made = made ≡ masked.TooMany
-IsOver o (masked.Column r) made = made ≡ masked.Column (over_layout o r)
+IsOver o (masked.Column y) masked.TooMany = ⊥
+IsOver o (masked.Column y) (masked.Column r) = IsPutOver o y r

@@ -1,15 +1,17 @@
 //! An array where a mask of single truth values is over it.
-ghost use Rattle.std.specs.Prelude.{◌≡◌, ◌<◌, true, IfOk};
+ghost use Rattle.std.specs.Prelude.{◌≡◌, ◌<◌, ◌^◌, true, IfOk};
 ghost use Rattle.awk_lanes.specs.Numbers.{int_of, IsOf};
-ghost use Rattle.awk_lanes.specs.Places.{size_of, at};
+ghost use Rattle.awk_lanes.specs.Places.{size_of};
 ghost use Rattle.awk_lanes.specs.declared.kind.Kind.TheVariants as Kinds;
 ghost use Rattle.awk_layout.specs.Typing.{array_type};
 ghost use Rattle.awk_layout.specs.Valid.{len};
-ghost use Rattle.awk_lanes.specs.Made.{lane_of};
-ghost use Rattle.awk_mask.specs.MaskLeaves.{is_innermost, AreTruths, IsMasked};
+ghost use Rattle.awk_gather.specs.Peeled.{if_shown};
+ghost use Rattle.awk_nulls.specs.Composed.{IsComposed};
+ghost use Rattle.awk_mask.specs.MaskLeaves.{is_innermost, kept_lane, kept_place, AreTruths, IsMasked};
 
-use awk_lanes::{Arena, Kind, Lane, LaneMaker, Num, Steps};
+use awk_lanes::{Arena, Kind, Lane, LaneMaker, Num, Numbers, Steps, made_lane, number};
 use awk_layout::{Array, Node};
+use awk_nulls::option_over;
 use awk_open::{Opened, opened};
 use awk_types::NoMemory;
 use std::alloc::Global;
@@ -33,37 +35,74 @@ fn truths_of<'a, L: Ledger>(
     }
 }
 
-/// A truth value as a byte of a mask.
-fn byte_at<L: Ledger>(truths: &Lane, i: u64, steps: &mut Steps<L>) -> Num
+/// A place, or -1 as that of null.
+fn place_if(shown: bool, place: u64) -> Num
+    requires fits { place < 2 ^ 63 }
+    ensures number { int_of result ≡ if_shown shown place }
+    ensures kind { IsOf Kinds.I64 result }
+{
+    if shown { number(place) } else { Num::Int(-1) }
+}
+
+/// Its own place where a truth value is the one that is kept, else -1.
+fn kept_place<L: Ledger>(truths: &Lane, keep: bool, i: u64, steps: &mut Steps<L>) -> Num
     requires kind { truths.now.kind ≡ Kinds.Bool }
     requires within { i < size_of truths.now }
-    ensures number { int_of result ≡ at truths.now i }
-    ensures kind { IsOf Kinds.I8 result }
+    requires fits { i < 2 ^ 63 }
+    ensures number { int_of result ≡ kept_place truths.now keep i }
+    ensures kind { IsOf Kinds.I64 result }
 {
     match truths.at(i, steps) {
-        Num::Truth(true) => Num::Int(1),
-        Num::Truth(false) => Num::Int(0),
+        Num::Truth(true) => place_if(keep, i),
+        Num::Truth(false) => place_if(!keep, i),
         Num::Int(_) | Num::Nat(_) => unreachable!(),
     }
 }
 
-/// Truth values as the bytes of a mask.
-#[tactic(auto, using(awk_lanes::proofs::MadeLanes::making))]
-fn bytes_of<'a, L: Ledger>(
+/// The places of the truth values that are kept.
+#[derive(Drop)]
+struct Kept<'b, 'a> {
+    truths: &'b Lane<'a>,
+    keep: bool,
+}
+
+impl<'b, 'a> Numbers for Kept<'b, 'a> {
+    ghost use Rattle.std.specs.Prelude.{◌≡◌, ◌<◌, ◌^◌};
+    ghost use Rattle.awk_lanes.specs.declared.kind.Kind.TheVariants as Kinds;
+    ghost use Rattle.awk_lanes.specs.Places.{size_of};
+    ghost use Rattle.awk_mask.specs.MaskLeaves.{kept_place};
+
+    ghost kind = { λ _. Kinds.I64 };
+
+    ghost at = { λ f. kept_place f.truths.now f.keep };
+
+    ghost size = { λ f. size_of f.truths.now };
+
+    ghost IsReady = { λ f. (f.truths.now.kind ≡ Kinds.Bool) × (size_of f.truths.now < 2 ^ 63) };
+
+    fn number<L: Ledger>(&self, i: u64, steps: &mut Steps<L>) -> Num {
+        kept_place(self.truths, self.keep, i, steps)
+    }
+}
+
+/// Truth values as an index: each place whose value is the one that is kept, and -1 elsewhere.
+fn kept_places<'a, L: Ledger>(
     truths: &Lane,
+    keep: bool,
     arena: &'a Arena,
     steps: &mut Steps<L>,
 ) -> Result<Lane<'a>, NoMemory>
     requires kind { truths.now.kind ≡ Kinds.Bool }
-    ensures { IfOk result (λ r. r ≡ lane_of Kinds.I8 (size_of truths.now) (at truths.now)) }
+    requires fits { size_of truths.now < 2 ^ 63 }
+    ensures { IfOk result (λ r. r ≡ kept_lane truths.now keep) }
 {
-    let n = truths.len();
-    let mut maker = LaneMaker::new(Kind::I8, n, arena)?;
-    for i in 0..n {
-        let byte = byte_at(truths, i, steps);
-        maker.push(byte);
-    }
-    Ok(maker.finish())
+    made_lane(
+        Kind::I64,
+        truths.len(),
+        &Kept { truths, keep },
+        arena,
+        steps,
+    )
 }
 
 /// The items of an array where a mask of single truth values is the one that is kept.
@@ -77,11 +116,13 @@ pub fn masked_items<'a, L: Ledger>(
 ) -> Result<Node<'a>, NoMemory>
     requires mask { is_innermost (array_type m.now) ≡ true }
     requires lengths { len m.now ≡ len x.now }
-    ensures { IfOk result (IsMasked x.now m.now keep) }
+    ensures items { IfOk result (IsMasked x.now m.now keep) }
+    ensures composed { IfOk result IsComposed }
 {
     let _ = x.len();
     let truths = truths_of(alloc, m, arena, steps)?;
-    let bytes = bytes_of(&truths, arena, steps)?;
-    let items = Box::new(alloc, x.node().copy(alloc)?)?;
-    Ok(Node::byte_masked(bytes, keep, items, steps))
+    let places = kept_places(&truths, keep, arena, steps)?;
+    let node = option_over(alloc, x.node(), &places, arena, steps)?;
+    let _ = node.len();
+    Ok(node)
 }

@@ -19,6 +19,7 @@ use crate::mask_types::{masked_type, masks};
 use awk_axis::made;
 use awk_lanes::{Arena, Lane, Steps};
 use awk_layout::{Array, Datum, Node};
+use awk_nulls::option_over;
 use awk_types::{Fault, ITEM_LIMIT, NoMemory, Typ, simple_of};
 use std::alloc::Global;
 use std::sync::ledger::Ledger;
@@ -54,6 +55,7 @@ fn put_over<'a, L: Ledger>(
     alloc: Global,
     over: &Over<'a>,
     made: Masked<'a>,
+    arena: &'a Arena,
     steps: &mut Steps<L>,
 ) -> Result<Masked<'a>, NoMemory>
     requires { CanHold over.now made }
@@ -63,9 +65,9 @@ fn put_over<'a, L: Ledger>(
         Masked::TooMany => Ok(Masked::TooMany),
         Masked::Column(node) => match over {
             Over::Nulls(index) => {
-                let content = Box::new(alloc, node)?;
-                let node = Node::indexed_option(index.copy(), content, steps);
-                Ok(Masked::Column(node))
+                let composed = option_over(alloc, &node, index, arena, steps)?;
+                let _ = composed.len();
+                Ok(Masked::Column(composed))
             }
             Over::Lists { class, n, offsets } => {
                 let node = list_node(alloc, *class, *n, offsets.copy(), node, steps)?;
@@ -136,7 +138,7 @@ fn masked_level<'a, L: Ledger>(
             m: mask,
         } => {
             let made = masked_array(alloc, items, mask, keep, arena, steps)?;
-            put_over(alloc, over, made, steps)
+            put_over(alloc, over, made, arena, steps)
         }
     }
 }

@@ -4,3 +4,4 @@ pub mod MadePlaces
 pub mod NumberLaws
 pub mod OpenedLists
 pub mod RegularLaws
+pub mod PartedLaws

@@ -6,6 +6,7 @@
 
 mod leaves;
 mod lists;
+mod parts;
 
 pub use leaves::numbers;
 pub use lists::{list_level, regular_level};

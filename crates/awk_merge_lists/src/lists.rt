@@ -11,6 +11,7 @@ ghost use Rattle.awk_merge_lists.specs.Lists.{IsListType, HoldsLists, HoldsItems
 ghost use Rattle.awk_merge_lists.specs.Lists.{PutsLists, moved_places, with_numbers};
 ghost use Rattle.awk_merge_sides.specs.Sides.{sides_of, AreSides, IsCounted};
 
+use crate::parts::parted;
 use awk_columns::{Joined, Opened, open_array};
 use awk_lanes::{Arena, Kind, Lane, LaneMaker, Steps, index_at, number, to_option_place};
 use awk_layout::Array;
@@ -163,8 +164,8 @@ pub fn list_level<'a, L: Ledger>(
     })
 }
 
-/// The items of a column of lists of one length, one after another. No memory holds more of them
-/// than the limit of a column.
+/// The items of a column of lists of one length, one after another, which are no more than the
+/// limit of a column.
 fn items_of<'a, L: Ledger>(
     alloc: Global,
     column: &Array<'a>,
@@ -186,8 +187,8 @@ fn items_of<'a, L: Ledger>(
     }
 }
 
-/// The columns of the items of lists of one length.
-pub fn regular_level<'a, L: Ledger>(
+/// The columns of the items of lists of one length, where those of each column are few.
+fn part_level<'a, L: Ledger>(
     alloc: Global,
     sides: &Sides<'a>,
     arena: &'a Arena,
@@ -206,4 +207,21 @@ pub fn regular_level<'a, L: Ledger>(
         items.push(alloc, content, &items_lift(alloc, &side.lift)?)?;
     }
     Ok(items)
+}
+
+/// The columns of the items of lists of one length. Where a column's lists lie over one another and
+/// have more items together than a column may have, it becomes several.
+pub fn regular_level<'a, L: Ledger>(
+    alloc: Global,
+    sides: &Sides<'a>,
+    arena: &'a Arena,
+    steps: &mut Steps<L>,
+) -> Result<Sides<'a>, NoMemory>
+    requires lists { AreRegularSides (sides_of sides.now) }
+    requires counted { IsCounted sides.now }
+    ensures { (n : ℕ) (u : DataType) → AreSides (reg n u) (sides_of sides.now) →
+        IfOk result (IsRegularLevel n u (sides_of sides.now)) }
+{
+    let parts = parted(alloc, sides, steps)?;
+    part_level(alloc, &parts, arena, steps)
 }

@@ -4,17 +4,19 @@ use Rattle.std.specs.List.{range_with_len}
 use Rattle.std.proofs.lemmas.Bool.{cases_lt}
 use Rattle.std.proofs.lemmas.List.{length-map, get_or-map, ext_get_or, get_or_append_left, get_or-append-add}
 use Rattle.std.proofs.lemmas.List.FromFn.{fill_by_all}
-use Rattle.awk_types.specs.DataType.{DataType, unknown, tup, types_from}
-use Rattle.awk_types.specs.Value.{Value, null, row, values_from}
+use Rattle.awk_types.specs.DataType.{DataType, no_types, unknown, tup, types_from}
+use Rattle.awk_types.specs.Has.{Has}
+use Rattle.awk_types.specs.Value.{Value, null, row, no_values, value, values_from}
 use Rattle.awk_types.proofs.ListLaws.{take-get}
 use Rattle.awk_layout.specs.Layout.{Layout}
 use Rattle.awk_layout.specs.Valid.{len}
-use Rattle.awk_unify.specs.Carry.{Carry}
+use Rattle.awk_gather.specs.Arrays.{array_item}
+use Rattle.awk_unify.specs.Carry.{Carry, carried}
 use Rattle.awk_merge_rows.specs.RowLevels.{across, AreEachLong}
 use Rattle.awk_merge_sides.specs.Groups.{AreGroups, with_side_at}
 use Rattle.awk_merge_rows.specs.Parts.{part_side, ArePut, OpensAsRow, AreRowParts}
 use Rattle.awk_merge_sides.specs.Sides.{Side, side_items, merged_items, with_side, IsSide, AreSides}
-use Rattle.awk_merge_sides.proofs.SideLaws.{merged_items-side, total-with_side, get_or-before, get_or-added, AreSides-with_side, get_or-side_items, length-side_items}
+use Rattle.awk_merge_sides.proofs.SideLaws.{merged_items-side, total-with_side, get_or-before, get_or-added, AreSides-with_side, get_or-side_items, length-side_items, item_has}
 use Rattle.awk_merge_sides.proofs.GroupLaws.{length-groups, AreGroups-none, length-with_side_at, get_or-with_side_at, get_or-with_side_at-other}
 use Rattle.awk_merge_rows.proofs.RowValues.{part_value}
 use Rattle.awk_merge_rows.proofs.RowSides.{row_at, HasItems, carried_row, part_carries, part_item, part_len}
@@ -152,6 +154,54 @@ rows_put ts ss x f ys old new side typed opens p h =
         ∙ ap (λ vs. row (values_from vs))
         (sym (rows_stay (part_side (len x) f ys) old new m i p h.long q))
     item_at i l (inr q) = follows i (i - m) (omega (arith, q)) (omega (arith, l, q))
+
+-- ---- rows without parts
+
+-- they have one value
+only_row : (v : Value) → Has (tup no_types) v → v ≡ row no_values
+only_row (row no_values) h = refl
+only_row (row (value v vs)) h = absurd h
+only_row v h = absurd h
+
+alike_items : (ss : List Side) (s : Side) → IsSide (tup no_types) s → HasItems s.column
+    → ((i : ℕ) → i < length (merged_items ss) → get_or (merged_items ss) i null ≡ row no_values)
+    → (i : ℕ) → i < length (merged_items (ss ++ s ∷ []))
+    → get_or (merged_items (ss ++ s ∷ [])) i null ≡ row no_values
+alike_items ss s side typed h i l = item_at (cases_lt i m)
+  where
+    m : ℕ
+    m = length (merged_items ss)
+
+    total : length (merged_items (ss ++ s ∷ [])) ≡ m + len s.column
+    total = ap length (merged_items-side ss s) ∙ length-append (merged_items ss) (side_items s)
+        ∙ ap (λ n. m + n) (length-side_items s)
+
+    follows : (k : ℕ) → i ≡ m + k → k < len s.column
+        → get_or (merged_items (ss ++ s ∷ [])) i null ≡ row no_values
+    follows k e q =
+        ap₂ (λ vs i. get_or vs i null) (merged_items-side ss s) e
+        ∙ get_or-append-add (merged_items ss) (side_items s) k null
+        ∙ get_or-side_items s k q
+        ∙ only_row (carried s.carry (array_item s.column k))
+        (side.values (array_item s.column k) (item_has s.column k typed q))
+
+    item_at : (i < m) ⊎ (m ≤ i) → get_or (merged_items (ss ++ s ∷ [])) i null ≡ row no_values
+    item_at (inl q) =
+        ap (λ vs. get_or vs i null) (merged_items-side ss s)
+        ∙ get_or_append_left (merged_items ss) (side_items s) null i q
+        ∙ h i q
+    item_at (inr q) = follows (i - m) (omega (arith, q)) (omega (arith, l, total, q))
+
+pub rows_alike : (ts : List DataType) (ss : List Side) (s : Side) (gs : List (List Side))
+    → length gs ≡ 0 → IsSide (tup (types_from ts)) s → HasItems s.column → AreRowParts ts ss gs
+    → AreRowParts ts (ss ++ s ∷ []) gs
+rows_alike [] ss s [] e side typed h = record {
+  groups = tt;
+  long = tt;
+  items = alike_items ss s side typed h.items;
+}
+rows_alike (t ∷ ts) ss s [] e side typed h = absurd h.groups
+rows_alike ts ss s (g ∷ gs) e side typed h = absurd (omega (arith, e))
 
 -- ---- loops
 

@@ -138,6 +138,10 @@ fn put_side<'a, L: Ledger>(
         OnOk result (AreRowParts ts (ss ++ side_of side.now ∷ []) (groups_of groups.new)) }
 {
     let _ = side.column.len();
+    // Rows without parts are alike. To open them takes a number for each, and they may be many.
+    if groups.len() == 0 {
+        return Ok(());
+    }
     let columns = columns_of(alloc, side, arena, steps)?;
     put_parts(alloc, side, &columns, groups, arena, steps)
 }

@@ -14,15 +14,16 @@ use Rattle.awk_lanes.specs.Places.{IsOptionalIndex}
 use Rattle.awk_layout.specs.Layout.{Layout, optional}
 use Rattle.awk_layout.specs.Item.{run, at_option}
 use Rattle.awk_layout.specs.Typing.{array_type}
-use Rattle.awk_layout.specs.Valid.{len}
+use Rattle.awk_layout.specs.Valid.{len, IsValid}
 use Rattle.awk_gather.specs.Arrays.{array_item}
+use Rattle.awk_gather.specs.Peeled.{IsPickedOpt}
 use Rattle.awk_lanes.proofs.MadeLanes.{size-lane_of, at-lane_of}
 use Rattle.awk_columns.specs.ListClass.{Class}
 use Rattle.awk_axis.specs.Mapped.{IsColumn}
 use Rattle.awk_columns.specs.Opened.{AreLists, items_at}
 use Rattle.awk_nulls.specs.Firsts.{first_or_null}
 use Rattle.awk_nulls.specs.Lanes.{span_length, firsts_lane}
-use Rattle.awk_nulls.proofs.OptionNodes.{HasItems, optional_type-is, optional_item}
+use Rattle.awk_nulls.proofs.OptionNodes.{HasItems, optional_type-is, optional_item, picked_column}
 
 -- a list with items begins at a place
 pub start_there : (m : ℕ) (a b : ℤ) → IsSpan m a b → 0 < nat_of b - nat_of a
@@ -86,10 +87,10 @@ module _ (class : Class) (s t : Column) (y : Layout) (a : AreLists class s t y) 
         (first_below (len y) (span_length s t i) (at s i) (there i q));
   }
 
-  pub firsts_fit : size_of (firsts_lane s t) < 2 ^ 63
+  firsts_fit : size_of (firsts_lane s t) < 2 ^ 63
   firsts_fit = omega (arith, size-firsts, a.fits)
 
-  pub firsts_column : HasItems y
+  firsts_column : HasItems y
       → IsColumn (opt (array_type y)) (λ i. first_or_null (items_at s t y i)) (size_of s)
       (optional (firsts_lane s t) y)
   firsts_column h = record {
@@ -105,3 +106,10 @@ module _ (class : Class) (s t : Column) (y : Layout) (a : AreLists class s t y) 
         (ap (λ z. at_option (option_place z) (array_item y)) (at-firsts i p)
         ∙ first_shown (array_item y) (span_length s t i) (at s i) (λ q. (there i p q).0));
   }
+
+  -- the same of the node that the index is composed with
+  pub firsts_given : HasItems y → (r : Layout) → IsValid r → IsPickedOpt y (firsts_lane s t) r
+      → IsColumn (opt (array_type y)) (λ i. first_or_null (items_at s t y i)) (size_of s) r
+  firsts_given h r v p =
+      picked_column (opt (array_type y)) (λ i. first_or_null (items_at s t y i)) (size_of s) y r
+      (firsts_lane s t) v p (firsts_column h)

@@ -1,24 +1,29 @@
--- An index over an array's items, with null where it is negative.
-use Rattle.std.specs.Prelude.{◌≡◌, ℕ, ◌+◌, ◌<◌, ◌≤◌, refl, map, get_or, Option, Some, None}
+-- An index over an array's items, with null where it is negative, and the same composed.
+use Rattle.std.specs.Prelude.{◌≡◌, ℕ, ◌+◌, ◌-◌, ◌<◌, ◌≤◌, refl, List, length, map, get_or}
+use Rattle.std.specs.Prelude.{Option, Some, None}
 use Rattle.std.specs.List.{AllByRecursion}
-use Rattle.std.proofs.Common.{arith, ap, sym, ◌∙◌}
-use Rattle.std.proofs.lemmas.List.{get_or-map}
+use Rattle.std.proofs.Common.{arith, ap, sym, ◌∙◌, subst}
+use Rattle.std.proofs.lemmas.List.{get_or-map, ext_get_or}
 use Rattle.awk_types.specs.DataType.{DataType, opt}
 use Rattle.awk_types.specs.Has.{Has}
 use Rattle.awk_types.specs.Simple.{simple, simple_value, option_of}
-use Rattle.awk_types.specs.Value.{null, value_list}
+use Rattle.awk_types.specs.Value.{Value, null, value_list}
 use Rattle.awk_types.proofs.SimpleLaws.{simple_twice, simple_is_simple, value_stays, each_stays}
 use Rattle.awk_types.proofs.SimpleLaws.{in_option_stays}
 use Rattle.awk_lanes.specs.Column.{Column}
-use Rattle.awk_lanes.specs.Places.{option_place_at}
+use Rattle.awk_lanes.specs.Places.{size_of, place_at, option_place_at}
 use Rattle.awk_layout.specs.Layout.{Layout, optional}
 use Rattle.awk_layout.specs.Item.{run, at_option}
 use Rattle.awk_layout.specs.Typing.{layout_type, array_type, array_items}
-use Rattle.awk_layout.specs.Valid.{len}
+use Rattle.awk_layout.specs.Valid.{len, IsValid}
 use Rattle.awk_layout.proofs.ArrayItems.{length-array_items, get_or-array_items}
 use Rattle.awk_gather.specs.Arrays.{array_item}
+use Rattle.awk_gather.specs.Peeled.{IsPickedOpt}
 use Rattle.awk_gather.proofs.OptionItems.{item-optional}
+use Rattle.awk_columns.specs.Joined.{AreOffsets}
+use Rattle.awk_columns.specs.ListClass.{Class}
 use Rattle.awk_columns.proofs.ArrayLaws.{run_map, run_same}
+use Rattle.awk_axis.specs.Mapped.{IsColumn, AreGiven}
 
 -- an array whose items are of its type
 abbrev pub HasItems : Layout → Type 0
@@ -63,3 +68,45 @@ pub optional_item : (j : Column) (y : Layout) (i : ℕ) → HasItems y
     → array_item (optional j y) i
     ≡ simple_value (opt (array_type y)) (at_option (option_place_at j i) (array_item y))
 optional_item j y i h b = item-optional j y i ∙ sym (option_stays y h (option_place_at j i) b)
+
+-- ---- items that are picked, and null elsewhere, are those of an index over the array
+
+pub picked_item : (y r : Layout) (p : Column) → IsPickedOpt y p r → (i : ℕ) → i < size_of p
+    → array_item r i ≡ array_item (optional p y) i
+picked_item y r p h i q = h.items i q ∙ sym (item-optional p y i)
+
+pub picked_items : (y r : Layout) (p : Column) → IsPickedOpt y p r
+    → array_items r ≡ array_items (optional p y)
+picked_items y r p h =
+    let n : length (array_items r) ≡ size_of p = length-array_items r ∙ h.size in
+    ext_get_or null (array_items r) (array_items (optional p y))
+    (n ∙ sym (length-array_items (optional p y)))
+    (λ i q.
+    let within : i < size_of p = omega (arith, q, n) in
+    get_or-array_items r i (omega (arith, within, h.size))
+    ∙ picked_item y r p h i within
+    ∙ sym (get_or-array_items (optional p y) i within))
+
+pub picked_column : (t : DataType) (value : ℕ → Value) (n : ℕ) (y r : Layout) (p : Column)
+    → IsValid r → IsPickedOpt y p r → IsColumn t value n (optional p y) → IsColumn t value n r
+picked_column t value n y r p v h c = record {
+  valid = v;
+  size = h.size ∙ c.size;
+  typ = h.typ ∙ c.typ;
+  items = λ i q. picked_item y r p h i (omega (arith, q, c.size)) ∙ c.items i q;
+}
+
+pub picked_lists : (class : Class) (t : DataType) (items : List Value → List Value)
+    (s e : Column) (y w r : Layout) (o p : Column) → IsValid r → IsPickedOpt w p r
+    → AreGiven class t items s e y o (optional p w) → AreGiven class t items s e y o r
+picked_lists class t items s e y w r o p v h g = record {
+  valid = v;
+  offsets = subst (AreOffsets o (size_of s)) (sym h.size) g.offsets;
+  even = g.even;
+  typ = h.typ ∙ g.typ;
+  lists = λ i q.
+      let size : ℕ = place_at o (i + 1) - place_at o i in
+      ap value_list (run_same (array_item r) (array_item (optional p w)) (place_at o i) size
+      (λ k _ high. picked_item w r p h k (omega (arith, high, g.offsets.within i q))))
+      ∙ g.lists i q;
+}

@@ -18,9 +18,10 @@ use Rattle.awk_lanes.specs.Places.{IsOptionalIndex}
 use Rattle.awk_layout.specs.Layout.{Layout, optional}
 use Rattle.awk_layout.specs.Item.{run, at_option}
 use Rattle.awk_layout.specs.Typing.{array_type}
-use Rattle.awk_layout.specs.Valid.{len}
+use Rattle.awk_layout.specs.Valid.{len, IsValid}
 use Rattle.awk_layout.proofs.Runs.{length-run}
 use Rattle.awk_gather.specs.Arrays.{array_item}
+use Rattle.awk_gather.specs.Peeled.{IsPickedOpt}
 use Rattle.awk_columns.specs.ListClass.{Class}
 use Rattle.awk_columns.specs.ListNode.{AreEven}
 use Rattle.awk_axis.specs.Mapped.{AreGiven}
@@ -31,7 +32,7 @@ use Rattle.awk_nulls.specs.PadNone.{padded, padded_length, padded_class, pad_non
 use Rattle.awk_nulls.specs.Lanes.{span_length, padded_span, padded_place, padded_lane, before}
 use Rattle.awk_nulls.specs.Lanes.{offsets_by}
 use Rattle.awk_nulls.proofs.FirstLaws.{start_there, place_below}
-use Rattle.awk_nulls.proofs.OptionNodes.{HasItems, optional_type-is, optional_item}
+use Rattle.awk_nulls.proofs.OptionNodes.{HasItems, optional_type-is, optional_item, picked_lists}
 use Rattle.awk_nulls.proofs.PadLaws.{before-next, before_mono, place-offsets, are_offsets}
 use Rattle.awk_nulls.proofs.PadLaws.{sum-before, length-numbers, numbers-at, numbers-below}
 use Rattle.awk_nulls.proofs.Spans.{items_at-length, over_limit, within_limit}
@@ -110,7 +111,7 @@ module _ (n : ℕ) (clip : Bool) (class : Class) (s t : Column) (y : Layout)
         (λ r. (start_there (len y) (at s j) (at t j) (a.spans.ordered j q) r).1)) i p;
   }
 
-  pub padded_fits : whole ≤ item_limit → size_of lane < 2 ^ 63
+  padded_fits : whole ≤ item_limit → size_of lane < 2 ^ 63
   padded_fits p = omega (arith, size-lane, p)
 
   item_is : HasItems y → (i k : ℕ) → i < size_of s → k < m i
@@ -129,7 +130,7 @@ module _ (n : ℕ) (clip : Bool) (class : Class) (s t : Column) (y : Layout)
       (ap (λ w. at_option (option_place w) (array_item y)) z
       ∙ shown (array_item y) (place_at s i) (span_length s t i) k)
 
-  pub padded_given : HasItems y → whole ≤ item_limit
+  padded_given : HasItems y → whole ≤ item_limit
       → AreGiven (padded_class n clip) (opt (array_type y)) (λ vs. padded n clip vs) s t y
       (offsets_by (padded_span n clip s t) (size_of s)) (optional lane y)
   padded_given has few = record {
@@ -152,6 +153,15 @@ module _ (n : ℕ) (clip : Bool) (class : Class) (s t : Column) (y : Layout)
         ∙ ap (λ k. map (simple_value (opt (array_type y)))
         (map f (range_with_len 0 (padded_length n clip k)))) (sym (items_at-length s t y i));
   }
+
+  -- the same of the node that the index is composed with
+  pub padded_over : HasItems y → whole ≤ item_limit → (r : Layout) → IsValid r
+      → IsPickedOpt y lane r
+      → AreGiven (padded_class n clip) (opt (array_type y)) (λ vs. padded n clip vs) s t y
+      (offsets_by (padded_span n clip s t) (size_of s)) r
+  padded_over h few r v p =
+      picked_lists (padded_class n clip) (opt (array_type y)) (λ vs. padded n clip vs) s t y y r
+      (offsets_by (padded_span n clip s t) (size_of s)) lane v p (padded_given h few)
 
   length-padded : (i : ℕ) → length (padded n clip (items_at s t y i)) ≡ m i
   length-padded i =

@@ -9,11 +9,12 @@ ghost use Rattle.awk_layout.specs.Datum.{datum_of, IsDatum};
 ghost use Rattle.awk_nulls.specs.Firsts.{firsts_function, firsts_of};
 ghost use Rattle.awk_nulls.specs.Lanes.{span_length, firsts_lane};
 
+use crate::composing::option_over;
 use crate::lengths::length_at;
 use awk_axis::{ListOp, Made, Refusal, lift_at};
 use awk_columns::Lists;
 use awk_lanes::{Arena, Kind, Lane, LaneMaker, Num, Steps, index_at};
-use awk_layout::{Datum, Node};
+use awk_layout::Datum;
 use awk_types::{Fault, NoMemory, Typ, copy_type};
 use std::alloc::Global;
 use std::sync::ledger::Ledger;
@@ -90,8 +91,9 @@ impl ListOp for First {
         let content = lists.content();
         let _ = content.len();
         let places = first_places(lists.starts(), lists.stops(), arena, steps)?;
-        let items = Box::new(alloc, content.node().copy(alloc)?)?;
-        Ok(Made::Singles(Node::indexed_option(places, items, steps)))
+        let items = option_over(alloc, content.node(), &places, arena, steps)?;
+        let _ = items.len();
+        Ok(Made::Singles(items))
     }
 }
 

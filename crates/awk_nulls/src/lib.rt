@@ -1,9 +1,11 @@
 //! Operations on nulls: which items are null, lists without them, padded by them, first items.
 //!
 //! The calls are `is_none`, `drop_none`, `firsts`, `singletons` and `pad_none`; `is_optional`,
-//! `numbers`, `one_if_present` and `length_at` are what masks and filling share with them.
+//! `numbers`, `one_if_present` and `length_at` are what masks and filling share with them, and
+//! `option_over` puts the index of an option over a node.
 #![tactic(auto)]
 
+mod composing;
 mod dropping;
 mod first_items;
 mod lengths;
@@ -12,6 +14,7 @@ mod padding;
 mod presence;
 mod singles;
 
+pub use composing::option_over;
 pub use dropping::drop_none;
 pub use first_items::firsts;
 pub use lengths::length_at;

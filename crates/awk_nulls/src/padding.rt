@@ -11,11 +11,12 @@ ghost use Rattle.awk_nulls.specs.Lanes.{padded_span, before, offsets_by, padded_
 ghost use Rattle.awk_nulls.specs.Lanes.{padded_lane, IsTotal};
 ghost use Rattle.awk_nulls.specs.PadNone.{pad_none_function, pad_none_of};
 
+use crate::composing::option_over;
 use crate::lengths::length_at;
 use awk_axis::{ListOp, Made, Refusal, Spoil, lift_at};
 use awk_columns::Lists;
 use awk_lanes::{Arena, Kind, Lane, LaneMaker, Num, Steps, number, place_in};
-use awk_layout::{Datum, Node};
+use awk_layout::Datum;
 use awk_types::{Fault, ITEM_LIMIT, NoMemory, Typ, copy_type};
 use std::alloc::Global;
 use std::sync::ledger::Ledger;
@@ -162,10 +163,11 @@ impl ListOp for Padding {
             Some(n) => {
                 let offsets = self.offsets(starts, stops, arena, steps)?;
                 let places = self.places(starts, stops, n, arena, steps)?;
-                let items = Box::new(alloc, content.node().copy(alloc)?)?;
+                let padded = option_over(alloc, content.node(), &places, arena, steps)?;
+                let _ = padded.len();
                 Ok(Made::Lists {
                     offsets,
-                    content: Node::indexed_option(places, items, steps),
+                    content: padded,
                 })
             }
         }

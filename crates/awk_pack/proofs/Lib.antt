@@ -6,4 +6,5 @@ pub mod LeftLaws
 pub mod LargeLaws
 pub mod ContentLaws
 pub mod CanonLaws
+pub mod LawfulForms
 pub mod Worked

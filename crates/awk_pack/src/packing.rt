@@ -1,6 +1,8 @@
 //! Packing: the form of the type, and the lanes of one node after another.
 ghost use Rattle.std.specs.Prelude.{◌≡◌, true, IfOk};
 ghost use Rattle.awk_types.specs.Gives.{Gives};
+ghost use Rattle.awk_form.specs.Lawful.{IsLawful};
+ghost use Rattle.awk_form.specs.View.{form_of};
 ghost use Rattle.awk_layout.specs.Typing.{array_type, array_items};
 ghost use Rattle.awk_pack.specs.Canon.{canon, pack_told, is_too_large};
 ghost use Rattle.awk_pack.specs.Packing.{IsPut, IfSize};
@@ -42,7 +44,9 @@ pub fn pack<'a, L: Ledger>(
     arena: &'a Arena,
     steps: &mut Steps<L>,
 ) -> Result<Packed<'a>, PackFault>
-    ensures { Gives packed_of pack_told result (canon (array_type x.now) (array_items x.now)) }
+    ensures packed { let said = canon (array_type x.now) (array_items x.now) in
+        Gives packed_of pack_told result said }
+    ensures lawful { IfOk result (λ p. IsLawful (form_of p.form)) }
 {
     let form = packed_form(alloc, x.typ())?;
     let mut lanes = Lanes::new(alloc);

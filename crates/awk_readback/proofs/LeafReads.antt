@@ -64,7 +64,7 @@ leaf-held primitive.U32 (int (negsuc n)) h = absurd (omega (arith, ints, h.0, h.
 leaf-held primitive.U64 (int (negsuc n)) h = absurd (omega (arith, ints, h.0, h.1))
 leaf-held p v h = absurd h
 
-leaves-held : (p : Primitive) (vs : List Value) → AllByRecursion (Has (leaf p)) vs
+pub leaves-held : (p : Primitive) (vs : List Value) → AllByRecursion (Has (leaf p)) vs
     → AllByRecursion (IsHeld (kind_of p)) (map number_of vs)
 leaves-held p [] h = tt
 leaves-held p (v ∷ vs) h = (leaf-held p v h.0, leaves-held p vs h.1)

@@ -12,5 +12,6 @@ pub mod PackedReads
 pub mod PackedForms
 pub mod KeyLaws
 pub mod HeldLaws
+pub mod LaneTexts
 pub mod ReadBack
 pub mod BackLaws

@@ -14,6 +14,7 @@ use Rattle.awk_form.specs.declared.kind.IndexKind.TheVariants.{I64}
 use Rattle.awk_columns.specs.Columns.{joined_items, row_parts, part_at, is_present, tag_of, alternative_values}
 use Rattle.awk_pack.specs.Columns.{Placed, placed, placed_fields, placed_alternatives}
 use Rattle.awk_pack.specs.PackedForm.{packed_form, packed_forms, node_key}
+use Rattle.awk_pack.proofs.LawfulForms.{count-packed_forms, length-widths}
 use Rattle.awk_valid.specs.Container.{Container}
 use Rattle.awk_valid.specs.Needs.{content_length}
 use Rattle.awk_valid.specs.Denote.{items_across, item_of}
@@ -44,16 +45,7 @@ fits (tup ts) vs h = h.0
 fits (opt t) vs h = h.0
 fits (uni ts) vs h = h.0
 
--- ---- as many contents as types
-
-pub count-packed_forms : (k : ℕ) (ts : DataTypes)
-    → count (packed_forms k ts) ≡ length (type_list ts)
-count-packed_forms k no_types = refl
-count-packed_forms k (type t ts) = ap suc (count-packed_forms (k + nodes t) ts)
-
-pub length-widths : (ts : DataTypes) → length (widths ts) ≡ length (type_list ts)
-length-widths no_types = refl
-length-widths (type t ts) = ap suc (length-widths ts)
+-- ---- tags
 
 tags-within : (k : ℕ) (ts : DataTypes) (vs : List Value) → AllByRecursion (Has (uni ts)) vs
     → AllByRecursion (λ v. tag_of v < count (packed_forms k ts)) vs

@@ -18,6 +18,7 @@ use Rattle.awk_pack.specs.Columns.{Placed, placed}
 use Rattle.awk_pack.specs.PackedForm.{packed_form}
 use Rattle.awk_pack.specs.Canon.{Pack, is_too_long, lanes_of, packed, canon}
 use Rattle.awk_pack.specs.declared.packed.PackFault.TheVariants.{Size}
+use Rattle.awk_pack.proofs.LawfulForms.{few-alternatives, lawful-packed_form}
 use Rattle.awk_text.specs.Buffers.{buffer_keys}
 use Rattle.awk_text.specs.PackedText.{buffers}
 use Rattle.awk_valid.specs.Container.{Container}
@@ -28,8 +29,9 @@ use Rattle.awk_readback.specs.ReadBack.{HasBuffers, IsReadBack, PackedReadsBack,
 use Rattle.awk_readback.proofs.ValueLists.{Reads, all-at, reads-all}
 use Rattle.awk_readback.proofs.BufferParts.{as-many, neither}
 use Rattle.awk_readback.proofs.HeldLaws.{distinct-held}
+use Rattle.awk_readback.proofs.LaneTexts.{packed-lanes, texts-held}
 use Rattle.awk_readback.proofs.KeyLaws.{packed-keys-distinct}
-use Rattle.awk_readback.proofs.PackedForms.{type-packed_form, lawful-packed_form}
+use Rattle.awk_readback.proofs.PackedForms.{type-packed_form}
 use Rattle.awk_readback.proofs.PackedReads.{AllFit, packed-reads}
 
 -- ---- what is known where packing is not refused
@@ -57,17 +59,6 @@ packed-whole t vs p e = by (list_any is_too_long (placed t vs)) refl e
     by false f g = (cc, all-fit (placed t vs) f)
 
 -- ---- what is known of a type within the limits
-
-pub few-alternatives : (t : DataType) → limit t ≡ None → width t ≤ 127
-few-alternatives t e =
-    by (nat_lt 60 (depth t)) (nat_lt 65536 (nodes t)) (nat_lt 127 (width t)) refl e
-  where
-    by : (d n w : Bool) → nat_lt 127 (width t) ≡ w
-        → cond d (Some depth_limit) (cond (n || w) (Some size_limit) None) ≡ None → width t ≤ 127
-    by true n w f g = absurd (cc)
-    by false true w f g = absurd (cc)
-    by false false true f g = absurd (cc)
-    by false false false f g = grind (arith, nat_tests)
 
 pub few-nodes : (t : DataType) → limit t ≡ None → nodes t ≤ 65536
 few-nodes t e = by (nat_lt 60 (depth t)) (nat_lt 65536 (nodes t)) (nat_lt 127 (width t)) refl e
@@ -139,15 +130,19 @@ packed_is_lawful t vs p h l e =
     subst (λ q. IsLawful q.form) (packed-whole t vs p e).0
     (lawful-packed_form 0 t h (few-alternatives t l))
 
-packed-held : (t : DataType) (vs : List Value) → nodes t ≤ 65536 → IsHeld (packed t vs)
-packed-held t vs few =
+packed-held : (t : DataType) (vs : List Value) → nodes t ≤ 65536 → AllByRecursion (Has t) vs
+    → IsHeld (packed t vs)
+packed-held t vs few h =
     let distinct = packed-keys-distinct t (omega (arith, few)) in
     record {
       lanes = as-many 0 t vs;
       distinct = distinct;
       held = distinct-held (buffer_keys (packed_form 0 t)) (lanes_of (placed t vs)) distinct;
+      texts =
+          texts-held (buffer_keys (packed_form 0 t)) (lanes_of (placed t vs)) distinct
+          (packed-lanes t vs h);
     }
 
 pub packed_is_held : PackedIsHeld
-packed_is_held t vs p l e =
-    subst IsHeld (packed-whole t vs p e).0 (packed-held t vs (few-nodes t l))
+packed_is_held t vs p l h e =
+    subst IsHeld (packed-whole t vs p e).0 (packed-held t vs (few-nodes t l) h)

@@ -1,15 +1,15 @@
 -- There and back: an array packed, loaded from a store that has its buffers, and packed again.
-use Rattle.std.specs.Prelude.{◌≡◌, List, Option, Some, None, option_map, Result, Ok, Err, if◌then◌else◌}
+use Rattle.std.specs.Prelude.{◌≡◌, List, [], ◌∷◌, Option, Some, None, option_map, Result, Ok, Err}
+use Rattle.std.specs.Prelude.{if◌then◌else◌}
 use Rattle.std.specs.List.{AllByRecursion}
 use Rattle.awk_types.specs.DataType.{DataType}
-use Rattle.awk_types.specs.Datum.{Datum, arr}
+use Rattle.awk_types.specs.Datum.{Datum, arr, one}
 use Rattle.awk_types.specs.Gives.{Gives}
 use Rattle.awk_types.specs.Has.{Has}
 use Rattle.awk_types.specs.Value.{Value}
 use Rattle.awk_layout.specs.Array.{IsArrayType}
 use Rattle.awk_layout.specs.Layout.{Layout}
-use Rattle.awk_layout.specs.Typing.{array_type, array_items, array_datum}
-use Rattle.awk_form.specs.View.{form_of}
+use Rattle.awk_layout.specs.Typing.{array_datum}
 use Rattle.awk_store.specs.Buffers.{ByKey}
 use Rattle.awk_pack.specs.Canon.{Pack, is_too_large, packed, canon}
 use Rattle.awk_pack.specs.Shown.{packed_of}
@@ -37,13 +37,6 @@ abbrev pub HoldsPacked : ByKey → DataType → List Value → Type 0
 HoldsPacked texts t vs =
     (p : Pack) → canon t vs ≡ Ok p → HasBuffers (container_of texts) (buffers p)
 
--- the three calls in a row: the array is packed, what that denotes is loaded, and that is packed
-pub record IsRound (x : Layout) (texts : ByKey) (b : Back) : Type 0 where
-  pub first : canon (array_type x) (array_items x) ≡ Ok (packed_of b.first)
-  pub array : denoting (form_of b.first.form) b.first.length (container_of texts)
-      ≡ Ok (array_datum b.array)
-  pub again : canon (array_type b.array) (array_items b.array) ≡ Ok (packed_of b.again)
-
 -- a packed array, the array that was loaded of it, and that packed
 pub record Round : Type 0 where
   pub first : Pack
@@ -59,7 +52,27 @@ pub data Unback : Type 0 where
   size : Unback
   unloaded : Refusal → Unback
 
--- what there and back gives: the same array, and the same packed array
+-- what was loaded of a packed array, packed
+abbrev pub packed_again : Pack → DataType → List Value → Result Round Unback
+packed_again p u ws =
+    if is_too_large u ws then Err size
+    else Ok (record { first = p; array = arr u ws; again = packed u ws })
+
+-- a packed array and what it denotes, or why it denotes none
+abbrev pub round_from : Pack → Result Datum Refusal → Result Round Unback
+round_from p (Err refusal) = Err (unloaded refusal)
+round_from p (Ok (arr u ws)) = packed_again p u ws
+round_from p (Ok (one u w)) = packed_again p u (w ∷ [])
+
+-- what there and back gives over a store: the array is packed, what that denotes is loaded, and
+-- that is packed
+abbrev pub back_over : ByKey → DataType → List Value → Result Round Unback
+back_over texts t vs =
+    if is_too_large t vs then Err size
+    else let p = packed t vs in
+    round_from p (denoting p.form p.length (container_of texts))
+
+-- over a store that has the buffers: the same array, and the same packed array
 abbrev pub there_and_back : DataType → List Value → Result Round Unback
 there_and_back t vs =
     if is_too_large t vs then Err size

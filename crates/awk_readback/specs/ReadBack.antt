@@ -1,10 +1,12 @@
 -- What is packed is read back: in every container that holds the buffers of a packed array, its
 -- form and length are valid, and they denote the type and the values that were packed.
-use Rattle.std.specs.Prelude.{◌≡◌, ℕ, List, None, Ok}
+use Rattle.std.specs.Prelude.{◌≡◌, ℕ, List, map, None, Ok}
 use Rattle.std.specs.List.{AllByRecursion}
 use Rattle.std.specs.Map.{lookup}
 use Rattle.std.specs.Option.{ok_or}
 use Rattle.std.specs.Str.{bytes_eq}
+use Rattle.base64.specs.Engines.{standard}
+use Rattle.base64.specs.GeneralPurpose.{encode_of}
 use Rattle.awk_types.specs.DataType.{Name, DataType}
 use Rattle.awk_types.specs.Datum.{arr}
 use Rattle.awk_types.specs.Has.{Has}
@@ -13,12 +15,13 @@ use Rattle.awk_types.specs.Limit.{limit}
 use Rattle.awk_types.specs.Names.{AreDistinct}
 use Rattle.awk_types.specs.Simple.{IsSimple}
 use Rattle.awk_types.specs.Value.{Value}
+use Rattle.awk_store.specs.Buffers.{ByKey}
 use Rattle.awk_store.specs.declared.fault.BufferWhy.TheVariants.{Absent}
 use Rattle.awk_form.specs.Lawful.{IsLawful}
 use Rattle.awk_pack.specs.Canon.{Pack, canon}
 use Rattle.awk_text.specs.Buffers.{buffer_keys}
 use Rattle.awk_text.specs.PackedText.{HasLanes, buffers}
-use Rattle.awk_valid.specs.Container.{Container}
+use Rattle.awk_valid.specs.Container.{Container, container_of}
 use Rattle.awk_valid.specs.Broken.{broken}
 use Rattle.awk_valid.specs.Denote.{denote, denoting}
 
@@ -29,6 +32,14 @@ HasBuffers c buffers = AllByRecursion (λ b. c b.0 ≡ Ok b.1) buffers
 -- the container of these buffers and no others
 abbrev pub holding : List (Name × List ℕ) → Container
 holding buffers key = ok_or (lookup (bytes_eq key) buffers) Absent
+
+-- a buffer's key with the base64 of its bytes
+abbrev pub text_buffer : Name × List ℕ → Name × List ℕ
+text_buffer b = (b.0, encode_of standard b.1)
+
+-- the texts of a packed array: the base64 of each lane under its key
+abbrev pub texts_of : Pack → ByKey
+texts_of p = map text_buffer (buffers p)
 
 -- what the form and the length of a packed array are in a container
 pub record IsReadBack (t : DataType) (vs : List Value) (p : Pack) (c : Container) : Type 0 where
@@ -59,12 +70,14 @@ PackedIsLawful =
     (t : DataType) (vs : List Value) (p : Pack) → IsType t → limit t ≡ None → canon t vs ≡ Ok p
     → IsLawful p.form
 
--- there is such a container: each lane is a buffer, and no two have the same key
+-- there is such a container, and one of texts: each lane is a buffer, and no two have the same key
 pub record IsHeld (p : Pack) : Type 0 where
   pub lanes : HasLanes p
   pub distinct : AreDistinct (buffer_keys p.form)
   pub held : HasBuffers (holding (buffers p)) (buffers p)
+  pub texts : HasBuffers (container_of (texts_of p)) (buffers p)
 
 abbrev pub PackedIsHeld : Type 0
 PackedIsHeld =
-    (t : DataType) (vs : List Value) (p : Pack) → limit t ≡ None → canon t vs ≡ Ok p → IsHeld p
+    (t : DataType) (vs : List Value) (p : Pack) → limit t ≡ None → AllByRecursion (Has t) vs
+    → canon t vs ≡ Ok p → IsHeld p

@@ -1,5 +1,5 @@
 //! There and back: packing, loading what was packed, and packing that again.
-ghost use Rattle.std.specs.Prelude.{◌≡◌, IfOk};
+ghost use Rattle.std.specs.Prelude.{◌≡◌};
 ghost use Rattle.awk_types.specs.Gives.{Gives};
 ghost use Rattle.awk_layout.specs.Typing.{array_type, array_items, array_datum};
 ghost use Rattle.awk_form.specs.Lawful.{IsLawful};
@@ -8,8 +8,8 @@ ghost use Rattle.awk_pack.specs.Shown.{packed_of};
 ghost use Rattle.awk_valid.specs.Container.{container_of};
 ghost use Rattle.awk_valid.specs.Denote.{denoting};
 ghost use Rattle.awk_valid.specs.Loading.{told};
-ghost use Rattle.awk_readback.specs.Back.{GivesBack, HoldsPacked, round_of, there_and_back};
-ghost use Rattle.awk_readback.specs.Back.{IsRound, back_told};
+ghost use Rattle.awk_readback.specs.Back.{GivesBack, HoldsPacked, round_of, back_over};
+ghost use Rattle.awk_readback.specs.Back.{there_and_back, back_told};
 
 use awk_kernels::Kernels;
 use awk_lanes::{Arena, Steps};
@@ -84,6 +84,29 @@ pub fn load_packed<'a, N: Kernels, L: Ledger>(
     )
 }
 
+/// Packs an array, loads what was packed, and packs that again.
+fn rounded<'a, N: Kernels, L: Ledger>(
+    alloc: Global,
+    x: &Array<'a>,
+    store: &mut Store<'_, 'a>,
+    kernels: &N,
+    arena: &'a Arena,
+    steps: &mut Steps<L>,
+) -> Result<Back<'a>, BackFault>
+    ensures round { let said = back_over store.old.texts (array_type x.now) (array_items x.now) in
+        Gives round_of back_told result said }
+    ensures texts { store.new.texts ≡ store.old.texts }
+{
+    let first = pack(alloc, x, arena, steps)?;
+    let array = load_packed(alloc, &first, store, kernels, arena, steps)?;
+    let again = pack(alloc, &array, arena, steps)?;
+    Ok(Back {
+        first,
+        array,
+        again,
+    })
+}
+
 /// Packs an array, loads what was packed from a store, and packs that again.
 pub fn there_and_back<'a, N: Kernels, L: Ledger>(
     alloc: Global,
@@ -93,8 +116,10 @@ pub fn there_and_back<'a, N: Kernels, L: Ledger>(
     arena: &'a Arena,
     steps: &mut Steps<L>,
 ) -> Result<Back<'a>, BackFault>
-    // What the calls give.
-    ensures round { IfOk result (IsRound x.now store.old.texts) }
+    // Over every store: why the array is not packed, or not loaded, or the packed array, what it
+    // denotes over the store, and that packed.
+    ensures round { let said = back_over store.old.texts (array_type x.now) (array_items x.now) in
+        Gives round_of back_told result said }
     // Over a store whose texts decode to the buffers, the array that is loaded has the same type
     // and items, and packing that gives the same form, length and lanes.
     ensures back { HoldsPacked store.old.texts (array_type x.now) (array_items x.now) → Gives
@@ -104,12 +129,5 @@ pub fn there_and_back<'a, N: Kernels, L: Ledger>(
     // the type is lawful, and the items are of it
     let _typ = x.typ();
     let _len = x.len();
-    let first = pack(alloc, x, arena, steps)?;
-    let array = load_packed(alloc, &first, store, kernels, arena, steps)?;
-    let again = pack(alloc, &array, arena, steps)?;
-    Ok(Back {
-        first,
-        array,
-        again,
-    })
+    rounded(alloc, x, store, kernels, arena, steps)
 }

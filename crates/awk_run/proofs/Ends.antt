@@ -1,5 +1,5 @@
 -- How a session ends.
-use Rattle.std.proofs.Common.{◌≡◌, ◌≢◌, ◌≤◌, ◌<◌, inl, inr, ℕ, ◌+◌, ◌-◌, Bool, true, false, List, [], ◌∷◌, ◌++◌, map, length, get_or, refl, ap, sym, ◌∙◌, subst, arith, Option, append_assoc, append-nil, length-append}
+use Rattle.std.proofs.Common.{◌≡◌, ◌≢◌, ◌≤◌, ◌<◌, inl, inr, ℕ, ◌+◌, ◌-◌, Bool, true, false, List, [], ◌∷◌, ◌++◌, length, get_or, refl, ap, sym, ◌∙◌, subst, arith, Option, append_assoc, append-nil, length-append}
 use Rattle.std.specs.Io.KnownBytes.{Consumes, Appends}
 use Rattle.std.specs.List.{AllByRecursion}
 use Rattle.awk_edge.specs.Lines.{Unbroken, lines, ended, ended_lines, within, unlines, AreLines, line_limit, lines_limit}
@@ -7,7 +7,7 @@ use Rattle.awk_edge.specs.Limits.{HasLongLine, HasTooManyLines, IsWithinLimits}
 use Rattle.awk_edge.specs.Reading.{Reading}
 use Rattle.awk_edge.specs.Pending.{Pending}
 use Rattle.awk_edge.specs.Next.{FailsToRead, IsTooLong}
-use Rattle.awk_edge.proofs.Known.{Consumes-both, Appends-both, Consumes-none, Appends-none}
+use Rattle.awk_edge.proofs.Known.{Consumes-both, Appends-both}
 use Rattle.awk_edge.proofs.LineLaws.{lines-unlines, lines-nil, lines-last, lines_some, first_length, ended-unlines, ended-unbroken, ended-long, ended-full}
 use Rattle.awk_edge.proofs.LimitLaws.{get_or_behind, IsWithinLimits-short, IsWithinLimits-few}
 use Rattle.awk_session.specs.Runs.{state_after, answer_bytes}
@@ -18,7 +18,7 @@ use Rattle.awk_session.proofs.Runs.{texts_push}
 use Rattle.awk_session.proofs.SpendLaws.{MaySpend, LineTakes, spends, spends_in}
 use Rattle.awk_run.specs.Flushes.{fronts, Flushes}
 use Rattle.awk_run.specs.Session.{Session, MayBeAnswered, IsWhole}
-use Rattle.awk_run.specs.declared.run.Status.TheVariants.{Fine, Faults, Words, Read, Write, Memory, LineTooLong, TooManyLines}
+use Rattle.awk_run.specs.declared.run.Status.TheVariants.{Fine, Faults, Read, Write, Memory, LineTooLong, TooManyLines}
 use Rattle.awk_run.proofs.Counts.{answered, answered_as, not_all}
 use Rattle.awk_run.proofs.Progress.{Taken, Answered, IsDone, regroup}
 use Rattle.awk_run.proofs.Spends.{given_first}
@@ -169,7 +169,7 @@ ends_memory {reading = reading} {taken = taken} given t a o consumes spent =
       long = λ h. inr (inl refl);
       many = λ h. inr (inl refl);
       flushes = a.flushed;
-      whole = λ _ _ _. inr (inr (inl refl));
+      whole = λ _ _ _. inr (inr refl);
       cost = λ plain. spends taken (lines (reading.held ++ given)) (lines (t.given ++ given)) spent ls plain;
     }
 
@@ -199,7 +199,7 @@ ends_unanswered {left = left} {written0 = written0} {written2 = written2} {flush
       long = λ h. inr (inl refl);
       many = λ h. inr (inl refl);
       flushes = subst (λ z. Flushes written0 flushes0 z (fronts (answers taken))) (sym same) a.flushed;
-      whole = λ _ _ _. inr (inr (inl refl));
+      whole = λ _ _ _. inr (inr refl);
       cost = λ plain. spends_in taken line g.more (lines t.given) spent takes g.all plain;
     }
 
@@ -235,27 +235,3 @@ ends_broken {left = left} {written0 = written0} {flushes0 = flushes0} {variables
       whole = λ _ _ h. absurd (not_all taken line g.more (lines t.given) (answers taken ++ b.gone) some g.all h);
       cost = λ plain. spends_in taken line g.more (lines t.given) spent takes g.all plain;
     }
-
--- the words are not `run`
-pub ends_words : (left written : Option (List ℕ)) (flushes : List (Option (List ℕ))) (steps : ℕ) → Session left left written written flushes flushes steps steps Words
-ends_words left written flushes steps =
-    let within_limits = is_within [] [] lines-nil tt (omega arith) in
-    record {
-      given = [];
-      written = [];
-      flushed = [];
-      reads = Consumes-none left;
-      writes = Appends-none written;
-      flushes = record { notes = []; all = sym (append-nil flushes); are_notes = tt };
-      says = (refl, refl, refl);
-      long = λ h. absurd (IsWithinLimits-short [] within_limits h);
-      many = λ h. absurd (IsWithinLimits-few [] within_limits h);
-      whole = λ _ _ _. inr (inr (inr refl));
-      cost = λ plain. omega arith;
-    }
-
--- one word
-pub one_word : {X : Type 0} (f : X → List ℕ) (words : List X) (word : X) → 1 ≤ length words → length words < 2 → word ≡ get_or words 0 word → map f words ≡ f word ∷ []
-one_word f [] word h l e = absurd (omega arith)
-one_word f (x ∷ []) word h l e = ap (λ z. f z ∷ []) (sym e)
-one_word f (x ∷ y ∷ words) word h l e = absurd (omega arith)

@@ -4,3 +4,5 @@ pub mod Progress
 pub mod Ends
 pub mod Complete
 pub mod Spends
+pub mod Lists
+pub mod MadeLaws

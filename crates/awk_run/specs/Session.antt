@@ -1,5 +1,5 @@
 -- What a run over a session gives.
-use Rattle.std.specs.Prelude.{◌≡◌, ◌⊎◌, ◌≤◌, ℕ, ◌+◌, Bool, true, false, List, [], ◌∷◌, ◌++◌, Option, IsTrue}
+use Rattle.std.specs.Prelude.{◌≡◌, ◌⊎◌, ◌≤◌, ℕ, ◌+◌, Bool, true, false, List, [], ◌∷◌, ◌++◌, Option, Some, IsTrue}
 use Rattle.std.specs.Io.KnownBytes.{Consumes, Appends, IsAtEnd}
 use Rattle.awk_edge.specs.Lines.{lines, ended}
 use Rattle.awk_edge.specs.Limits.{HasLongLine, HasTooManyLines, IsWithinLimits}
@@ -75,7 +75,7 @@ pub record IsCut (left : Option (List ℕ)) (given written : List ℕ) (flushed 
 abbrev pub Says : Status → Option (List ℕ) → List ℕ → List ℕ → List (List ℕ) → Type 0
 Says Fine left given written flushed = IsWhole left given written flushed false
 Says Faults left given written flushed = IsWhole left given written flushed true
-Says Words left given written flushed = (given ≡ []) × (written ≡ []) × (flushed ≡ [])
+Says Words left given written flushed = ⊥
 Says Read left given written flushed = AreAnswered (ended given) written flushed
 Says Write left given written flushed = IsCut left given written flushed
 Says Memory left given written flushed = HasFirstAnswers left given written flushed
@@ -102,7 +102,7 @@ pub record Session (left0 left1 written0 written1 : Option (List ℕ))
   -- Where the source has nothing left and all lines were answered, the run is complete, unless
   -- memory was wanting or reading failed.
   pub whole : IsAtEnd left1 → IsWithinLimits given → AreAnswered (lines given) written flushed
-      → IsComplete status ⊎ (status ≡ Read) ⊎ (status ≡ Memory) ⊎ (status ≡ Words)
+      → IsComplete status ⊎ (status ≡ Read) ⊎ (status ≡ Memory)
   -- where each line of these bytes has a cost, the run takes no more than they cost together
   pub cost : IsTrue (are_plain (lines given)) → steps1 ≤ steps0 + cost (lines given)
 
@@ -115,3 +115,30 @@ pub record Completes (left0 left1 written0 written1 : Option (List ℕ))
   pub writes : Appends written0 written1 written
   pub done : IsWithinLimits given → IsComplete status
   pub answers : IsWithinLimits given → written ≡ answers (lines given)
+
+-- a made session ends only so
+abbrev pub IsMadeEnd : Status → Type 0
+IsMadeEnd Fine = Unit {0}
+IsMadeEnd Faults = Unit {0}
+IsMadeEnd Words = ⊥
+IsMadeEnd Read = ⊥
+IsMadeEnd Write = Unit {0}
+IsMadeEnd Memory = Unit {0}
+IsMadeEnd LineTooLong = ⊥
+IsMadeEnd TooManyLines = ⊥
+
+-- What was written of the answers to a made session and what of it had been written at each flush,
+-- and what the status says of them: its bytes are at hand, so that nothing is left of them to read.
+pub record MadeSession (made : List ℕ) (written0 written1 : Option (List ℕ))
+    (flushes0 flushes1 : List (Option (List ℕ))) (steps0 steps1 : ℕ) (status : Status)
+    : Type 0 where
+  pub written : List ℕ
+  pub flushed : List (List ℕ)
+  pub writes : Appends written0 written1 written
+  pub flushes : Flushes written0 flushes0 flushes1 flushed
+  pub says : Says status (Some []) made written flushed
+  pub ends : IsMadeEnd status
+  -- where all lines were answered, the run is complete, unless memory was wanting
+  pub whole : AreAnswered (lines made) written flushed → IsComplete status ⊎ (status ≡ Memory)
+  -- where each of its lines has a cost, the run takes no more than they cost together
+  pub cost : IsTrue (are_plain (lines made)) → steps1 ≤ steps0 + cost (lines made)

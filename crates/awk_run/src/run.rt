@@ -3,17 +3,21 @@ ghost use Rattle.std.specs.Prelude.{◌||◌, ◌++◌, List, ℕ, Some, Err, �
 ghost use Rattle.awk_edge.specs.Causes.{Rose};
 ghost use Rattle.awk_edge.specs.Limits.{IsWithinLimits};
 ghost use Rattle.awk_edge.specs.Lines.{lines};
+ghost use Rattle.awk_made.specs.Session.{session_of};
 ghost use Rattle.awk_eval.specs.Variables.{denoted};
 ghost use Rattle.awk_session.specs.Cost.{are_plain, cost, line_in};
 ghost use Rattle.awk_session.specs.Replies.{answers, step};
 ghost use Rattle.awk_session.specs.Replies as replies;
 ghost use Rattle.awk_session.specs.Spending.{Binds, TakesCost};
 ghost use Rattle.awk_run.specs.Answering.{Answers};
-ghost use Rattle.awk_run.specs.Session.{Session, Completes, IsComplete, number_of};
-ghost use Rattle.awk_run.specs.Words.{IsRun};
+ghost use Rattle.awk_run.specs.Session.{Session, MadeSession, Completes, IsComplete, number_of};
+ghost use Rattle.awk_run.specs.Words.{IsRun, IsMake, AreWrong};
 
+use crate::made::MadeSource;
+use crate::words::{Task, task_in};
 use awk_edge::{LineFault, Lines, Out, Sink, Source};
 use awk_lanes::Steps;
+use awk_made::session_of;
 use awk_session::{Answered, Engine, LineEnd, is_blank};
 use bumpalo::Bump;
 use std::alloc::Global;
@@ -58,7 +62,8 @@ impl Status {
     }
 }
 
-/// Answers the session that the source gives, where the words are the one word `run`.
+/// Answers a session: the one that the source gives where the words are the one word `run`, the
+/// made one of a seed and a number of events where they are `make` and these two numbers.
 /// The sink is flushed at the end of each answer, and at no other time. The answer that it fails in
 /// is not flushed.
 pub fn run_words<S: Source, K: Sink, L: Ledger>(
@@ -68,21 +73,31 @@ pub fn run_words<S: Source, K: Sink, L: Ledger>(
     sink: &mut K,
     steps: &mut Steps<L>,
 ) -> Status
-    // The words are wrong exactly where they are not the one word `run`, and then nothing is read
-    // or written.
-    ensures words { (result ≡ Status.Words) ↔ (IsRun words.now → ⊥) }
+    // The words are wrong exactly where they are of neither form, and then nothing is read or
+    // written.
+    ensures words { (result ≡ Status.Words) ↔ AreWrong words.now }
     ensures untouched { result ≡ Status.Words → (source.new ≡ source.old) × (sink.new ≡ sink.old) }
 
-    // A complete run wrote the answers to all the lines of the source.
-    ensures answers { (bytes before : List ℕ) → S.left source.old ≡ Some bytes →
+    // A complete run wrote the answers to all the lines of the source, or of the made session.
+    ensures answers { IsRun words.now → (bytes before : List ℕ) → S.left source.old ≡ Some bytes →
         K.written sink.old ≡ Some before → IsComplete result →
         K.written sink.new ≡ Some (before ++ answers (lines bytes)) }
+    ensures answers_made { (seed events : ℕ) → IsMake words.now seed events → (before : List ℕ) →
+        K.written sink.old ≡ Some before → IsComplete result →
+        K.written sink.new ≡ Some (before ++ answers (lines (session_of seed events))) }
 
     // What each status says of the bytes that the source gave, of those that were written, and of
     // what had been written at each flush; and what these bytes cost at most.
-    ensures session { Session (S.left source.old) (S.left source.new)
+    ensures session { IsRun words.now → Session (S.left source.old) (S.left source.new)
         (K.written sink.old) (K.written sink.new) (K.flushes sink.old) (K.flushes sink.new)
         steps.old steps.new result }
+
+    // The same of a made session, for which nothing is read.
+    ensures made { (seed events : ℕ) → IsMake words.now seed events →
+        MadeSession (session_of seed events)
+        (K.written sink.old) (K.written sink.new) (K.flushes sink.old) (K.flushes sink.new)
+        steps.old steps.new result }
+    ensures unread { (IsRun words.now → ⊥) → source.new ≡ source.old }
 
     // Unless the sink failed, nothing that was written is left unflushed.
     ensures flushed { result ≢ Status.Write → IsTrue (K.flushed sink.new) ⊎ (sink.new ≡ sink.old) }
@@ -90,6 +105,10 @@ pub fn run_words<S: Source, K: Sink, L: Ledger>(
     // A run fails to read or to write only where the source or the sink failed in it.
     ensures read { result ≡ Status.Read → Rose (S.faults source.old) (S.faults source.new) }
     ensures write { result ≡ Status.Write → Rose (K.faults sink.old) (K.faults sink.new) }
+
+    // A complete run was told the end, and one that fails to read was not.
+    ensures ended { IsRun words.now → IsComplete result → IsTrue (S.is_ended source.new) }
+    ensures failed { result ≡ Status.Read → IsFalse (S.is_ended source.new) }
 
     // Where neither failed, memory was not wanting and no limit is passed, the run is complete.
     ensures complete { IsRun words.now → (Rose (S.faults source.old) (S.faults source.new) → ⊥) →
@@ -101,26 +120,42 @@ pub fn run_words<S: Source, K: Sink, L: Ledger>(
         (Rose (S.faults source.old) (S.faults source.new) → ⊥) →
         (Rose (K.faults sink.old) (K.faults sink.new) → ⊥) → result ≢ Status.Memory →
         IsComplete result }
+    ensures complete_made { (seed events : ℕ) → IsMake words.now seed events →
+        (Rose (K.faults sink.old) (K.faults sink.new) → ⊥) → result ≢ Status.Memory →
+        IsComplete result }
 
     // A session of lines that each have a cost takes at most what they cost together.
-    ensures cost { (bytes : List ℕ) → S.left source.old ≡ Some bytes →
+    ensures cost { IsRun words.now → (bytes : List ℕ) → S.left source.old ≡ Some bytes →
         IsTrue (are_plain (lines bytes)) → steps.new ≤ steps.old + cost (lines bytes) }
 {
-    if is_run(words) {
-        run(alloc, source, sink, steps)
-    } else {
-        Status::Words
+    match task_in(words) {
+        Some(Task::Run) => run(alloc, source, sink, steps),
+        Some(Task::Make { seed, events }) => make(alloc, seed, events, sink, steps),
+        None => Status::Words,
     }
 }
 
-// Whether the words are the one word `run`.
-fn is_run(words: &[String]) -> bool
-    ensures { IsTrue result ↔ IsRun words.now }
+// Answers the made session of a seed and so many events.
+fn make<K: Sink, L: Ledger>(
+    alloc: Global,
+    seed: u32,
+    events: u32,
+    sink: &mut K,
+    steps: &mut Steps<L>,
+) -> Status
+    requires seed { (1 ≤ seed) × (seed ≤ 2147483646) }
+    requires events { events ≤ 1000000 }
+    ensures made { MadeSession (session_of seed events)
+        (K.written sink.old) (K.written sink.new) (K.flushes sink.old) (K.flushes sink.new)
+        steps.old steps.new result }
+    ensures flushed { result ≢ Status.Write → IsTrue (K.flushed sink.new) ⊎ (sink.new ≡ sink.old) }
+    ensures write { result ≡ Status.Write → Rose (K.faults sink.old) (K.faults sink.new) }
 {
-    match words {
-        [word] => word.as_str() == "run",
-        _ => false,
-    }
+    let Ok(text) = session_of(alloc, seed, events) else {
+        return Status::Memory;
+    };
+    let mut source = MadeSource::new(&text);
+    run(alloc, &mut source, sink, steps)
 }
 
 // Answers a session.
@@ -137,6 +172,8 @@ fn run<S: Source, K: Sink, L: Ledger>(
     ensures flushed { result ≢ Status.Write → IsTrue (K.flushed sink.new) ⊎ (sink.new ≡ sink.old) }
     ensures read { result ≡ Status.Read → Rose (S.faults source.old) (S.faults source.new) }
     ensures write { result ≡ Status.Write → Rose (K.faults sink.old) (K.faults sink.new) }
+    ensures ended { IsComplete result → IsTrue (S.is_ended source.new) }
+    ensures failed { result ≡ Status.Read → IsFalse (S.is_ended source.new) }
     ensures cost { (bytes : List ℕ) → S.left source.old ≡ Some bytes →
         IsTrue (are_plain (lines bytes)) → steps.new ≤ steps.old + cost (lines bytes) }
 {

@@ -202,7 +202,22 @@ fn streams_come_in_pieces_and_fail(rt: HostRuntime) -> Result<(), Fail> {
 #[test]
 fn other_words_touch_nothing(rt: HostRuntime) -> Result<(), Fail> {
     let alloc = rt.alloc();
-    let cases: [&[&str]; 4] = [&[], &["x"], &["run", "x"], &["run", "run"]];
+    let cases: [&[&str]; 14] = [
+        &[],
+        &["x"],
+        &[""],
+        &["run", "x"],
+        &["run", ""],
+        &["run", "run"],
+        &["make"],
+        &["make", "1"],
+        &["make", "0", "1"],
+        &["make", "1", "01"],
+        &["make", "+1", "1"],
+        &["make", "1", "1000001"],
+        &["make", "2147483647", "1"],
+        &["make", "1", "1", "1"],
+    ];
     for words in cases {
         let mut source = MemSource::new(alloc, UNBOUND, 4096, &[])?;
         let mut sink = MemSink::new(alloc, 1000, 4096, &[])?;
@@ -233,5 +248,35 @@ fn a_long_line_ends_the_run(rt: HostRuntime) -> Result<(), Fail> {
     let mut sink = MemSink::new(alloc, 100, 4096, &[])?;
     let status = run(&rt, &words_of(alloc, &["run"])?, &mut source, &mut sink);
     assert!(rt; status == Status::LineTooLong && sink.written().is_empty());
+    Ok(())
+}
+
+// Answers a made session. The source would fail.
+fn make(host: &HostRuntime, seed: &str, sink: &mut MemSink) -> Result<Status, NoMemory> {
+    let mut source = MemSource::new(host.alloc(), UNBOUND, 4096, &[0])?;
+    let words = words_of(host.alloc(), &["make", seed, "100000"])?;
+    Ok(run(host, &words, &mut source, sink))
+}
+
+#[test]
+fn a_session_is_made_twice(rt: HostRuntime) -> Result<(), Fail> {
+    let mut first = MemSink::new(rt.alloc(), 10_000, 4096, &[])?;
+    let mut second = MemSink::new(rt.alloc(), 10_000, 4096, &[])?;
+    let status = make(&rt, "7", &mut first)?;
+    assert!(rt; status == make(&rt, "7", &mut second)?);
+    assert!(rt; status == Status::Fine || status == Status::Faults);
+    assert!(rt; first.written() == second.written());
+    assert!(rt; first.written().starts_with(b"{\"bound\":\"muons\"}\n"));
+    let ends = first.written().iter().filter(|b| **b == b'\n').count();
+    assert!(rt; ends == 8);
+    Ok(())
+}
+
+// The sink fails at the first answer.
+#[test]
+fn a_made_session_is_cut(rt: HostRuntime) -> Result<(), Fail> {
+    let mut sink = MemSink::new(rt.alloc(), 10_000, 4096, &[0])?;
+    let status = make(&rt, "2147483646", &mut sink)?;
+    assert!(rt; status == Status::Write && sink.written().is_empty());
     Ok(())
 }

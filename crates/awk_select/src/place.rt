@@ -7,7 +7,7 @@ ghost use Rattle.awk_layout.specs.Typing.{array_datum};
 ghost use Rattle.awk_select.specs.Picks.{at_of};
 
 use crate::places::place_in;
-use awk_lanes::Steps;
+use awk_lanes::{Arena, Steps};
 use awk_layout::{Array, Datum};
 use awk_types::Fault;
 use awk_view::item_at;
@@ -15,11 +15,13 @@ use std::alloc::Global;
 use std::sync::ledger::Ledger;
 
 /// The item of an array at a place, settled. A negative place counts from the end. `WrongType`
-/// tells that it is a single value, and `Index` that the array has no such place.
+/// tells that it is a single value, and `Index` that the array has no such place. It makes no lane, and
+/// takes the arena as every operation does.
 pub fn at<'a, L: Ledger>(
     alloc: Global,
     x: &Datum<'a>,
     i: i64,
+    _arena: &'a Arena,
     steps: &mut Steps<L>,
 ) -> Result<Datum<'a>, Fault>
     ensures answer { Gives datum_of fault_told result (at_of i (datum_of x.now)) }

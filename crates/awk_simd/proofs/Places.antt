@@ -1,14 +1,10 @@
 -- The first least and the first greatest of the first numbers, number by number.
 use Rattle.std.proofs.Common.{◌≡◌, ℕ, zero, ◌+◌, ◌<◌, ◌≤◌, ◌⊎◌, inl, inr, List, length, get_or}
 use Rattle.std.proofs.Common.{Bool, true, false, refl, sym, ap, subst, ◌∙◌, arith}
-use Rattle.std.specs.Prelude.{ℤ, pos, int_lt, ◌<ℤ◌, ◌≤ℤ◌, Option, Some, None, position}
-use Rattle.std.specs.Ordering.{int_eq}
-use Rattle.std.specs.Option.{option_and_then}
+use Rattle.std.specs.Prelude.{ℤ, pos, int_lt, ◌<ℤ◌, ◌≤ℤ◌, Some}
 use Rattle.std.proofs.lemmas.Int.{ints}
 use Rattle.std.proofs.lemmas.Bool.{cases_lt}
-use Rattle.std.proofs.lemmas.Bool.Decides.{Decides-int_eq}
-use Rattle.std.proofs.lemmas.List.Quantifiers.{position-Some}
-use Rattle.awk_kernels.specs.Kernels.{first_least, first_greatest, greatest}
+use Rattle.awk_kernels.specs.Kernels.{first_least, first_greatest}
 use Rattle.awk_kernels.proofs.FoldLaws.{least_found, greatest_found}
 use Rattle.awk_simd.specs.Firsts.{IsFirstLeast, IsFirstGreatest}
 
@@ -158,19 +154,3 @@ first_greatest_is xs place h =
       before = λ k q. below_from (get_or xs k (pos 0)) x (h.before k q);
       bound = λ k q. within_from (get_or xs k (pos 0)) x (h.bound k q);
     })
-
-abbrev has_some : {A : Type 0} → Option A → ℕ
-has_some None = 0
-has_some (Some a) = 1
-
-number_at : (r : Option ℤ) (xs : List ℤ) (place : ℕ)
-    → Some place ≡ option_and_then (λ y. position (int_eq y) xs) r
-    → Some (get_or xs place (pos 0)) ≡ r
-number_at None xs place e = absurd (omega (arith, ap has_some e))
-number_at (Some y) xs place e =
-    let found = position-Some (int_eq y) xs place (pos 0) (sym e) in
-    ap (λ z. Some z) (sym ((Decides-int_eq y (get_or xs place (pos 0))).0 found.1))
-
-pub greatest_is : (xs : List ℤ) (place : ℕ) → IsFirstGreatest xs (length xs) place
-    → Some (get_or xs place (pos 0)) ≡ greatest xs
-greatest_is xs place h = number_at (greatest xs) xs place (first_greatest_is xs place h)

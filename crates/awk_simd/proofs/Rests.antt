@@ -11,7 +11,7 @@ use Rattle.std.proofs.lemmas.List.{length-map, map-append, get_or-map}
 use Rattle.std.proofs.lemmas.List.{ext_get_or, take-append-drop}
 use Rattle.awk_kernels.specs.declared.operation.Why.{Why}
 use Rattle.awk_kernels.specs.declared.operation.Broken.{Broken}
-use Rattle.awk_kernels.specs.Kernels.{first_broken, first_broken_from, chosen}
+use Rattle.awk_kernels.specs.Kernels.{first_broken, first_broken_from}
 use borrow.Rule.Slice.PartMut.{put_mid, post_of}
 
 -- the slice from n on, as a borrow of it shows
@@ -94,18 +94,6 @@ zip_at c d [] ys k l e = absurd (omega arith)
 zip_at c d (x ∷ xs) [] k l e = absurd (omega arith)
 zip_at c d (x ∷ xs) (y ∷ ys) zero l e = refl
 zip_at c d (x ∷ xs) (y ∷ ys) (suc k) l e = zip_at c d xs ys k (omega arith) (omega arith)
-
-pub chosen-drop : {A : Type 0} (n : ℕ) (mask : List ℕ) (xs ys : List A) → length xs ≡ length mask
-    → length ys ≡ length mask
-    → chosen (drop n mask) (drop n xs) (drop n ys) ≡ drop n (chosen mask xs ys)
-chosen-drop zero mask xs ys e f = refl
-chosen-drop (suc n) [] [] [] e f = refl
-chosen-drop (suc n) [] (x ∷ xs) ys e f = absurd (omega arith)
-chosen-drop (suc n) [] [] (y ∷ ys) e f = absurd (omega arith)
-chosen-drop (suc n) (m ∷ mask) [] ys e f = absurd (omega arith)
-chosen-drop (suc n) (m ∷ mask) (x ∷ xs) [] e f = absurd (omega arith)
-chosen-drop (suc n) (m ∷ mask) (x ∷ xs) (y ∷ ys) e f = chosen-drop n mask xs ys (omega arith)
-    (omega arith)
 
 -- a place that is counted from n on
 abbrev pub counted_on : ℕ → Broken → Broken

@@ -1,6 +1,6 @@
-//! The least and the greatest number.
+//! The first least and the first greatest number.
 ghost use Rattle.std.specs.Prelude.{◌≡◌, ◌<◌, ◌≤◌, length, get_or, pos};
-ghost use Rattle.awk_kernels.specs.Kernels.{first_least, first_greatest, greatest};
+ghost use Rattle.awk_kernels.specs.Kernels.{first_least, first_greatest};
 ghost use Rattle.awk_simd.specs.Firsts.{IsFirstLeast, IsFirstGreatest};
 
 use crate::blocks::{LANES, known, some_above, some_below};
@@ -85,13 +85,4 @@ pub(crate) fn first_greatest(xs: &[i64]) -> Option<usize>
         return None;
     }
     Some(place_of_greatest(xs))
-}
-
-pub(crate) fn greatest(xs: &[i64]) -> Option<i64>
-    ensures { result ≡ greatest xs.now }
-{
-    if xs.is_empty() {
-        return None;
-    }
-    Some(xs[place_of_greatest(xs)])
 }

@@ -3,7 +3,7 @@ ghost use Rattle.std.specs.Prelude.{◌≡◌, ℕ, ◌<◌, ◌≤◌, length, 
 ghost use Rattle.std.specs.Prelude.{IsNone, Ok};
 ghost use Rattle.awk_kernels.specs.Kernels.{is_out_of_order, first_out_of_order};
 ghost use Rattle.awk_kernels.specs.Kernels.{is_outside, first_outside};
-ghost use Rattle.awk_kernels.specs.Kernels.{first_broken, leaves, nat_leaves, compared, chosen};
+ghost use Rattle.awk_kernels.specs.Kernels.{first_broken, leaves, nat_leaves, compared};
 
 use awk_kernels::{Arith, Broken, Compare, Kernels, Plain};
 
@@ -122,30 +122,4 @@ pub(crate) fn compare_mixed(how: Compare, a: &[i64], b: &[u64], made: usize, out
     ensures { out.new ≡ compared how a.now (map pos b.now) }
 {
     Plain.compare_mixed(how, &a[made..], &b[made..], &mut out[made..]);
-}
-
-/// All choices, where the first `made` places have theirs.
-pub(crate) fn choose(mask: &[u8], a: &[i64], b: &[i64], made: usize, out: &mut [i64])
-    requires within { made ≤ length mask.now }
-    requires a { length a.now ≡ length mask.now }
-    requires b { length b.now ≡ length mask.now }
-    requires out { length out.old ≡ length mask.now }
-    requires made { (k : ℕ) → k < made
-        → get_or out.old k (pos 0) ≡ get_or (chosen mask.now a.now b.now) k (pos 0) }
-    ensures { out.new ≡ chosen mask.now a.now b.now }
-{
-    Plain.select_i64(&mask[made..], &a[made..], &b[made..], &mut out[made..]);
-}
-
-/// The same, of numbers that are not below 0.
-pub(crate) fn choose_nat(mask: &[u8], a: &[u64], b: &[u64], made: usize, out: &mut [u64])
-    requires within { made ≤ length mask.now }
-    requires a { length a.now ≡ length mask.now }
-    requires b { length b.now ≡ length mask.now }
-    requires out { length out.old ≡ length mask.now }
-    requires made { (k : ℕ) → k < made
-        → get_or out.old k 0 ≡ get_or (chosen mask.now a.now b.now) k 0 }
-    ensures { out.new ≡ chosen mask.now a.now b.now }
-{
-    Plain.select_u64(&mask[made..], &a[made..], &b[made..], &mut out[made..]);
 }

@@ -1,9 +1,10 @@
 //! The kernels, each by the pass over vectors that it has, or by plain loops.
-use crate::{arithmetic, choices, comparisons, counts, extremes, searches};
+use crate::{arithmetic, comparisons, counts, extremes, searches};
 use awk_kernels::{Arith, Broken, Compare, Kernels, Plain};
 
-/// The kernels by vectors, with the plain kernels for the rest of a slice. Gathers, running sums,
-/// sums, products, quotients and remainders are the plain kernels. It answers what `Plain` does.
+/// The kernels by vectors, with the plain kernels for the rest of a slice. The greatest number,
+/// choices, gathers, running sums, sums, products, quotients and remainders are the plain kernels.
+/// It answers what `Plain` does.
 #[derive(Clone, Copy, Debug, Default)]
 pub struct Wide;
 
@@ -17,7 +18,7 @@ impl Kernels for Wide {
     }
 
     fn greatest(&self, xs: &[i64]) -> Option<i64> {
-        extremes::greatest(xs)
+        Plain.greatest(xs)
     }
 
     fn prefix_sums(&self, xs: &[u64], out: &mut [u64]) -> Option<usize> {
@@ -64,11 +65,11 @@ impl Kernels for Wide {
     }
 
     fn select_i64(&self, mask: &[u8], a: &[i64], b: &[i64], out: &mut [i64]) {
-        choices::choose(mask, a, b, out)
+        Plain.select_i64(mask, a, b, out)
     }
 
     fn select_u64(&self, mask: &[u8], a: &[u64], b: &[u64], out: &mut [u64]) {
-        choices::choose_nat(mask, a, b, out)
+        Plain.select_u64(mask, a, b, out)
     }
 
     fn count_true(&self, xs: &[u8]) -> u64 {

@@ -17,9 +17,11 @@ pub gather_lane-requires : goal.gather_lane-requires
 gather_lane-requires g c =
     let h : IsListed c.args.lists.now (Lists c.in-Lists.offsets c.in-Lists.content) =
     rw c.in-Lists.is at c.in_ok-plain_lists.ensures in
-    rows_index c.args.starts.now c.args.stops.now c.args.content.now c.args.rows.now
-    c.args.lists.now c.in-Lists.offsets c.in-Lists.content c.args.class c.requires.spans
-    c.requires.rows h.1
+    record {
+      places = rows_index c.args.starts.now c.args.stops.now c.args.content.now c.args.rows.now
+          c.args.lists.now c.in-Lists.offsets c.in-Lists.content c.args.class c.requires.spans
+          c.requires.rows h.1;
+    }
 
 pub returns-in_ok-copy-in-Lists : goal.returns-in_ok-copy-in-Lists
 returns-in_ok-copy-in-Lists g c =

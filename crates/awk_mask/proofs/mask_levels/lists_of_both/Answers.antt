@@ -26,7 +26,9 @@ returns g c =
     let am : AreListsIn c.args.m.now c.in-Lists.class c.in-Lists.n c.in-Lists.offsets
     c.in-Lists.content = rw c.in-Lists.is at c.in_ok-lists_in.ensures in
     let ax : AreListsIn c.args.x.now c.in-Lists-2.class c.in-Lists-2.n c.in-Lists-2.offsets
-    c.in-Lists-2.content = rw c.in-Lists-2.is at c.in_ok-lists_in-2.ensures in
-    below_lists c.args.m.now c.args.x.now c.in-Lists.class c.in-Lists.n c.in-Lists.offsets
-    c.in-Lists.content c.in-Lists-2.class c.in-Lists-2.n c.in-Lists-2.offsets
-    c.in-Lists-2.content c.requires.under am ax c.len.ensures.items c.len-2.ensures.items
+    c.in-Lists-2.content = rw c.in-Lists-2.is at c.in_ok-lists_in-2.ensures in (
+      tt,
+      below_lists c.args.m.now c.args.x.now c.in-Lists.class c.in-Lists.n c.in-Lists.offsets
+          c.in-Lists.content c.in-Lists-2.class c.in-Lists-2.n c.in-Lists-2.offsets
+          c.in-Lists-2.content c.requires.under am ax c.len.ensures.items c.len-2.ensures.items,
+    )

@@ -1,4 +1,5 @@
-use Rattle.std.proofs.Common.{◌∙◌}
+use Rattle.std.proofs.Common.{ap, ◌∙◌}
+use Rattle.awk_lanes.specs.Column.{Column}
 use Rattle.awk_mask.proofs.MaskNullLevels.{below_mask_nulls}
 use Rattle.awk_mask.proofs.MaskUnder.{under_len}
 use Rattle.awk_mask.proofs.mask_levels.nulls_of_mask.Goals as goal
@@ -8,7 +9,9 @@ items_where-requires-clause-size g c =
     c.in_ok-mask.ensures.size ∙ under_len c.args.m.now c.args.x.now c.requires.under
 
 pub returns : goal.returns
-returns g c =
-    below_mask_nulls c.args.m.now c.args.x.now c.in_ok-mask.mask.index c.in_ok-mask.mask.content
-    c.in_ok-items.items c.requires.under c.in_ok-mask.ensures c.in_ok-items.ensures.typ
-    c.in_ok-items.ensures.items
+returns g c = (
+  ap (λ (c : Column). c.kind) c.in_ok-mask.ensures.order,
+  below_mask_nulls c.args.m.now c.args.x.now c.in_ok-mask.mask.index c.in_ok-mask.mask.content
+      c.in_ok-items.items c.requires.under c.in_ok-mask.ensures c.in_ok-items.ensures.typ
+      c.in_ok-items.ensures.items,
+)

@@ -1,6 +1,6 @@
 use Rattle.std.proofs.Common.{arith, rules}
 use Rattle.awk_axis.proofs.IfOk.{if_ok}
-use Rattle.awk_mask.specs.MaskLevels.{IsBelow, IsLevel, over_layout}
+use Rattle.awk_mask.specs.MaskLevels.{IsBelow, IsLevel, IsPlaced, over_layout}
 use Rattle.awk_mask.specs.declared.mask_levels.Level.TheVariants.{Innermost, TooMany}
 use Rattle.awk_mask.proofs.MaskMade.{can_hold, over_made}
 use Rattle.awk_mask.proofs.masking.+masked_array.Goals as goal
@@ -32,19 +32,19 @@ masked_level-innermost-requires-clause-mask g t c =
 
 pub masked_level-masked_array-requires : goal.masked_level-masked_array-requires
 masked_level-masked_array-requires g t c κs within =
-    let b : IsBelow c.args.m.now c.args.x.now c.in-Within.mask c.in-Within.items
-    (over_layout c.in-Within.over) = rw c.in-Within.is at c.requires.level in
-    (omega (arith, b.less, c.decreases), (within, b.under))
+    let b : IsPlaced c.in-Within.over × IsBelow c.args.m.now c.args.x.now c.in-Within.mask
+    c.in-Within.items (over_layout c.in-Within.over) = rw c.in-Within.is at c.requires.level in
+    (omega (arith, b.1.less, c.decreases), (within, b.1.under))
 
 pub masked_level-returns-in_err-made-in-Within : goal.masked_level-returns-in_err-made-in-Within
 masked_level-returns-in_err-made-in-Within g t c = search rules
 
 pub masked_level-put_over-requires : goal.masked_level-put_over-requires
 masked_level-put_over-requires g t c =
-    let b : IsBelow c.args.m.now c.args.x.now c.in-Within.mask c.in-Within.items
-    (over_layout c.in-Within.over) = rw c.in-Within.is at c.requires.level in
+    let b : IsPlaced c.in-Within.over × IsBelow c.args.m.now c.args.x.now c.in-Within.mask
+    c.in-Within.items (over_layout c.in-Within.over) = rw c.in-Within.is at c.requires.level in
     can_hold c.args.keep c.args.m.now c.args.x.now c.in-Within.mask c.in-Within.items
-    c.in-Within.over b c.in_ok-made-in-Within.made c.in_ok-made-in-Within.ensures
+    c.in-Within.over b.0 b.1 c.in_ok-made-in-Within.made c.in_ok-made-in-Within.ensures
 
 pub masked_level-returns-in-TooMany : goal.masked_level-returns-in-TooMany
 masked_level-returns-in-TooMany g t c =
@@ -57,9 +57,9 @@ masked_level-returns-in-Innermost g t c = c.innermost.ensures
 
 pub masked_level-returns-in_ok-made-in-Within : goal.masked_level-returns-in_ok-made-in-Within
 masked_level-returns-in_ok-made-in-Within g t c =
-    let b : IsBelow c.args.m.now c.args.x.now c.in-Within.mask c.in-Within.items
-    (over_layout c.in-Within.over) = rw c.in-Within.is at c.requires.level in
+    let b : IsPlaced c.in-Within.over × IsBelow c.args.m.now c.args.x.now c.in-Within.mask
+    c.in-Within.items (over_layout c.in-Within.over) = rw c.in-Within.is at c.requires.level in
     if_ok _ _ c.put_over.result
     (λ r h. over_made c.args.keep c.args.m.now c.args.x.now c.in-Within.mask
-    c.in-Within.items c.in-Within.over b c.in_ok-made-in-Within.made
+    c.in-Within.items c.in-Within.over b.0 b.1 c.in_ok-made-in-Within.made
     c.in_ok-made-in-Within.ensures r h) c.put_over.ensures

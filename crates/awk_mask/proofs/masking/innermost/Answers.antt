@@ -9,4 +9,4 @@ masked_items-requires-clause-lengths g c =
 pub returns : goal.returns
 returns g c =
     innermost_made c.args.keep c.args.m.now c.args.x.now c.in_ok-node.node c.requires.under
-    c.requires.mask c.in_ok-node.ensures
+    c.requires.mask c.in_ok-node.ensures.items

@@ -1,7 +1,7 @@
 use Rattle.std.proofs.Common.{◌≡◌, false, refl, ap, arith, [], ◌∷◌, ◌++◌, IsTrue, inr}
 use Rattle.std.proofs.lemmas.Bool.{false_from_ne_true}
 use Rattle.awk_run.proofs.Progress.{at_start, take_line, none_left, answer_line}
-use Rattle.awk_run.proofs.Counts.{still_flushed}
+use Rattle.awk_run.proofs.Counts.{still_flushed, still_told}
 use Rattle.awk_run.proofs.Ends.{ends_fine, ends_faults, ends_read, ends_long, ends_many, ends_memory, ends_unanswered, ends_broken}
 use Rattle.awk_run.proofs.Spends.{spends_between, spends_within}
 use Rattle.awk_session.proofs.SpendLaws.{spend_more}
@@ -121,6 +121,7 @@ loop-line-preserved g c =
         spent = spend_more s.taken c.in-Ok-Some.line.items s.spent (rw c.deref.ensures.value at c.answer.ensures.cost) (rw c.deref.ensures.value at c.in-Ok.ensures.binds) i.variables;
       };
       flushed = still_flushed (λ sink. IsTrue (g.K.Sink.flushed sink)) c.in-Ok.ensures.flushed c.loop-line.invariant.flushed;
+      told = still_told g.S.Source.is_ended c.loop-line.lines.is_ended c.in-Ok-Some.ensures.told (λ e. (c.in-Ok-Some.ensures.ended e).1) c.loop-line.invariant.told;
       read_later = omega (arith, c.loop-line.invariant.read_later, c.in-Ok-Some.ensures.later);
       write_later = omega (arith, c.loop-line.invariant.write_later, c.in-Ok.ensures.later);
     }
@@ -129,6 +130,17 @@ pub loop-line-init : goal.loop-line-init
 loop-line-init g c = record {
   so_far = rw (c.new-lines.ensures, c.new-out.ensures, c.new-engine.ensures) (at_start _ _ _ _);
   flushed = inr refl;
+  told = rw c.new-lines.ensures (λ e. absurd (cc));
   read_later = omega arith;
   write_later = omega arith;
 }
+
+pub returns-then-any_fault-clause-ended : goal.returns-then-any_fault-clause-ended
+returns-then-any_fault-clause-ended g c = λ complete.
+    let n = rw c.in-Ok-None.field-0-is at c.in-Ok-None.ensures.line in
+    still_told g.S.Source.is_ended c.loop-line.lines.is_ended c.in-Ok-None.ensures.told (λ e. (c.in-Ok-None.ensures.ended e).1) c.loop-line.invariant.told n.answer.is_ended
+
+pub returns-in-Ok-None-clause-ended : goal.returns-in-Ok-None-clause-ended
+returns-in-Ok-None-clause-ended g c = λ complete.
+    let n = rw c.in-Ok-None.field-0-is at c.in-Ok-None.ensures.line in
+    still_told g.S.Source.is_ended c.loop-line.lines.is_ended c.in-Ok-None.ensures.told (λ e. (c.in-Ok-None.ensures.ended e).1) c.loop-line.invariant.told n.answer.is_ended

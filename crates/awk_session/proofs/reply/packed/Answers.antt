@@ -5,4 +5,4 @@ use Rattle.awk_session.proofs.reply.packed.Goals as goal
 
 pub returns-in-Ok-clause-answer : goal.returns-in-Ok-clause-answer
 returns-in-Ok-clause-answer g c = HasLanes-canon (array_type c.in-Arr.array)
-    (array_items c.in-Arr.array) (packed_of c.in-Ok.p) c.in-Ok.ensures
+    (array_items c.in-Arr.array) (packed_of c.in-Ok.p) c.in-Ok.ensures.packed

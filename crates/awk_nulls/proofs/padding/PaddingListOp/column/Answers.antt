@@ -1,9 +1,10 @@
 use Rattle.std.proofs.Common.{◌≡◌, ◌≤◌, ℕ, None, Some, ◌∙◌, arith}
 use Rattle.awk_lanes.specs.Places.{size_of}
 use Rattle.awk_types.specs.ItemLimit.{item_limit}
-use Rattle.awk_nulls.specs.Lanes.{padded_span, before, IsTotal}
+use Rattle.awk_gather.specs.Peeled.{IsPickedOpt}
+use Rattle.awk_nulls.specs.Lanes.{padded_span, padded_lane, before, IsTotal}
 use Rattle.awk_nulls.proofs.Spans.{lists_within}
-use Rattle.awk_nulls.proofs.PadGiven.{padded_index, padded_fits, padded_given, padded_spoilt}
+use Rattle.awk_nulls.proofs.PadGiven.{padded_index, padded_over, padded_spoilt}
 use Rattle.awk_nulls.proofs.PadGiven.{padded_fine}
 use Rattle.awk_nulls.proofs.padding.PaddingListOp.column.Goals as goal
 
@@ -26,22 +27,9 @@ places-requires-clause-spans g c =
     (lists_within c.args.lists.now.class c.args.lists.now.starts c.args.lists.now.stops c.args.lists.now.content
     c.content-content.ensures.lists)
 
-pub indexed_option-requires-clause-length : goal.indexed_option-requires-clause-length
-indexed_option-requires-clause-length g c =
-    let whole : ℕ = before (padded_span c.args.self.now.size c.args.self.now.clip
-    c.args.lists.now.starts c.args.lists.now.stops) (size_of c.args.lists.now.starts) in
-    let t : IsTotal whole (Some c.in-Some.n) =
-    rw (c.in-Some.is, c.starts-starts.ensures, c.stops-stops.ensures) at c.total.ensures in
-    let few : whole ≤ item_limit = omega (arith, t.0, t.1) in
-    rw (c.in_ok-places-in-Some.ensures, c.starts-starts.ensures, c.stops-stops.ensures) (padded_fits c.args.self.now.size c.args.self.now.clip
-    c.args.lists.now.class c.args.lists.now.starts c.args.lists.now.stops c.args.lists.now.content c.content-content.ensures.lists few)
-
-pub indexed_option-requires-clause-valid : goal.indexed_option-requires-clause-valid
-indexed_option-requires-clause-valid g c =
-    let e : c.in_ok-items-in-Some.items.value ≡ c.args.lists.now.content =
-    c.in_ok-items-in-Some.ensures.ok ∙ c.in_ok-copy-in-Some.ensures ∙ c.node.ensures
-    ∙ c.content-content.ensures.content in
-    rw (e, c.in_ok-places-in-Some.ensures, c.starts-starts.ensures, c.stops-stops.ensures) (padded_index c.args.self.now.size
+pub option_over-requires-clause-places : goal.option_over-requires-clause-places
+option_over-requires-clause-places g c =
+    rw (c.in_ok-places-in-Some.ensures, c.node.ensures, c.content-content.ensures.content, c.starts-starts.ensures, c.stops-stops.ensures) (padded_index c.args.self.now.size
     c.args.self.now.clip c.args.lists.now.class c.args.lists.now.starts c.args.lists.now.stops c.args.lists.now.content
     c.content-content.ensures.lists)
 
@@ -54,27 +42,31 @@ returns-in-None g c =
     padded_spoilt c.args.self.now.size c.args.self.now.clip c.args.lists.now.class c.args.lists.now.starts
     c.args.lists.now.stops c.args.lists.now.content c.content-content.ensures.lists t
 
-pub returns-in_ok-items-in-Some : goal.returns-in_ok-items-in-Some
-returns-in_ok-items-in-Some g c =
+pub returns-in_ok-padded-in-Some : goal.returns-in_ok-padded-in-Some
+returns-in_ok-padded-in-Some g c =
     let whole : ℕ = before (padded_span c.args.self.now.size c.args.self.now.clip
     c.args.lists.now.starts c.args.lists.now.stops) (size_of c.args.lists.now.starts) in
     let t : IsTotal whole (Some c.in-Some.n) =
     rw (c.in-Some.is, c.starts-starts.ensures, c.stops-stops.ensures) at c.total.ensures in
     let few : whole ≤ item_limit = omega (arith, t.0, t.1) in
-    let e : c.in_ok-items-in-Some.items.value ≡ c.args.lists.now.content =
-    c.in_ok-items-in-Some.ensures.ok ∙ c.in_ok-copy-in-Some.ensures ∙ c.node.ensures
-    ∙ c.content-content.ensures.content in (
-      padded_fine c.args.self.now.size c.args.self.now.clip c.args.lists.now.class c.args.lists.now.starts
-          c.args.lists.now.stops c.args.lists.now.content c.content-content.ensures.lists few,
-      rw (
-        c.indexed_option.ensures.node,
-        e,
-        c.in_ok-places-in-Some.ensures,
-        c.in_ok-offsets-in-Some.ensures,
-        c.starts-starts.ensures,
-        c.stops-stops.ensures,
-      )
-          (padded_given c.args.self.now.size c.args.self.now.clip c.args.lists.now.class
-          c.args.lists.now.starts c.args.lists.now.stops c.args.lists.now.content c.content-content.ensures.lists
-          (rw c.content-content.ensures.content at c.len.ensures.items) few),
+    let picked : IsPickedOpt c.args.lists.now.content
+    (padded_lane c.args.self.now.size c.args.self.now.clip c.args.lists.now.starts
+    c.args.lists.now.stops) c.in_ok-padded-in-Some.padded =
+    rw (
+      c.in_ok-places-in-Some.ensures,
+      c.node.ensures,
+      c.content-content.ensures.content,
+      c.starts-starts.ensures,
+      c.stops-stops.ensures,
+    )
+    at c.in_ok-padded-in-Some.ensures.items in (
+      padded_fine c.args.self.now.size c.args.self.now.clip c.args.lists.now.class
+          c.args.lists.now.starts c.args.lists.now.stops c.args.lists.now.content
+          c.content-content.ensures.lists few,
+      rw (c.in_ok-offsets-in-Some.ensures, c.starts-starts.ensures, c.stops-stops.ensures)
+          (padded_over c.args.self.now.size c.args.self.now.clip c.args.lists.now.class
+          c.args.lists.now.starts c.args.lists.now.stops c.args.lists.now.content
+          c.content-content.ensures.lists
+          (rw c.content-content.ensures.content at c.len.ensures.items) few
+          c.in_ok-padded-in-Some.padded c.len-in-Some.ensures.valid picked),
     )

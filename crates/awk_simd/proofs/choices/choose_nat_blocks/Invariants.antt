@@ -1,7 +1,0 @@
-use Rattle.std.proofs.Common.{◌≡◌, ◌*◌, ◌<◌, ℕ, get_or}
-use Rattle.std.specs.Prelude.{cond, ◌==◌}
-use Rattle.awk_simd.proofs.choices.choose_nat_blocks.Given as goal
-
-abbrev pub invariant-loop-n : goal.invariant-loop-n
-invariant-loop-n l = (k : ℕ) → k < l.n * 8 → get_or l.out k 0
-    ≡ cond (get_or l.mask k 0 == 0) (get_or l.b k 0) (get_or l.a k 0)
