@@ -252,18 +252,19 @@ fn a_long_line_ends_the_run(rt: HostRuntime) -> Result<(), Fail> {
 }
 
 // Answers a made session. The source would fail.
-fn make(host: &HostRuntime, seed: &str, sink: &mut MemSink) -> Result<Status, NoMemory> {
+fn make(host: &HostRuntime, words: &[&str], sink: &mut MemSink) -> Result<Status, NoMemory> {
     let mut source = MemSource::new(host.alloc(), UNBOUND, 4096, &[0])?;
-    let words = words_of(host.alloc(), &["make", seed, "100000"])?;
+    let words = words_of(host.alloc(), words)?;
     Ok(run(host, &words, &mut source, sink))
 }
 
 #[test]
 fn a_session_is_made_twice(rt: HostRuntime) -> Result<(), Fail> {
+    let words = ["make", "7", "100000"];
     let mut first = MemSink::new(rt.alloc(), 10_000, 4096, &[])?;
     let mut second = MemSink::new(rt.alloc(), 10_000, 4096, &[])?;
-    let status = make(&rt, "7", &mut first)?;
-    assert!(rt; status == make(&rt, "7", &mut second)?);
+    let status = make(&rt, &words, &mut first)?;
+    assert!(rt; status == make(&rt, &words, &mut second)?);
     assert!(rt; status == Status::Fine || status == Status::Faults);
     assert!(rt; first.written() == second.written());
     assert!(rt; first.written().starts_with(b"{\"bound\":\"muons\"}\n"));
@@ -276,7 +277,7 @@ fn a_session_is_made_twice(rt: HostRuntime) -> Result<(), Fail> {
 #[test]
 fn a_made_session_is_cut(rt: HostRuntime) -> Result<(), Fail> {
     let mut sink = MemSink::new(rt.alloc(), 10_000, 4096, &[0])?;
-    let status = make(&rt, "2147483646", &mut sink)?;
+    let status = make(&rt, &["make", "2147483646", "2"], &mut sink)?;
     assert!(rt; status == Status::Write && sink.written().is_empty());
     Ok(())
 }
