@@ -18,7 +18,7 @@ use std::sync::ledger::Ledger;
 
 /// The values of an array.
 #[derive(Drop)]
-pub(crate) enum Cells<'a> {
+pub enum Cells<'a> {
     /// Each is null, where there is one.
     Nulls,
     /// The numbers of a lane.
@@ -29,7 +29,7 @@ pub(crate) enum Cells<'a> {
 
 impl<'a> Cells<'a> {
     /// The number or truth value at a place, or none for null.
-    pub(crate) fn at<L: Ledger>(&self, i: u64, steps: &mut Steps<L>) -> Option<Num>
+    pub fn at<L: Ledger>(&self, i: u64, steps: &mut Steps<L>) -> Option<Num>
         requires { IsCell self.now i }
         ensures { cell_shown result ≡ cell_value self.now i }
     {
@@ -53,7 +53,7 @@ fn number_in<L: Ledger>(index: &Lane, lane: &Lane, i: u64, steps: &mut Steps<L>)
 }
 
 /// The values of an array of numbers, of truth values or of unknown, optional or not.
-pub(crate) fn cells_of<'a, L: Ledger>(
+pub fn cells_of<'a, L: Ledger>(
     alloc: Global,
     x: &Array<'a>,
     arena: &'a Arena,

@@ -2,7 +2,8 @@
 //! a mask or an index names.
 //!
 //! The calls are `at`, `at_each`, `step_range`, `mask` and `take`; `is_mask` and `bound_up` are
-//! what the evaluation asks of a mask's type and of the bounds of a range.
+//! what the evaluation asks of a mask's type and of the bounds of a range; `Cells`, `cells_of` and
+//! `place_of` read the values of a mask or an index, for picks row by row.
 #![tactic(auto)]
 
 mod cells;
@@ -14,9 +15,10 @@ mod place;
 mod places;
 mod ranges;
 
+pub use cells::{Cells, cells_of};
 pub use each::at_each;
 pub use indexes::take;
 pub use masks::{is_mask, mask};
 pub use place::at;
-pub use places::bound_up;
+pub use places::{bound_up, place_of};
 pub use ranges::step_range;

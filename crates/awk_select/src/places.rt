@@ -25,7 +25,7 @@ fn below(n: u64, k: u64) -> Option<u64>
 }
 
 /// The place of n items that a number of an index names.
-pub(crate) fn place_of(n: u64, x: Num) -> Option<u64>
+pub fn place_of(n: u64, x: Num) -> Option<u64>
     ensures { result ≡ take_place n (number_value x) }
 {
     match x {

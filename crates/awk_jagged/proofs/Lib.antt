@@ -1,0 +1,19 @@
+mod Worked
+pub mod Results
+pub mod TypeLaws
+pub mod FlatPlaces
+pub mod PairLaws
+pub mod RowLaws
+pub mod SpanLaws
+pub mod LevelLaws
+pub mod PickedTypes
+pub mod FlatItems
+pub mod OverLaws
+pub mod LeafTypes
+pub mod LeafLaws
+pub mod PickLaws
+pub mod ToldLaws
+pub mod FinalLaws
+pub mod EndLaws
+pub mod AloneLaws
+pub mod MaskLaws

@@ -1,0 +1,12 @@
+pub mod Jagged
+pub mod Judged
+pub mod Pairs
+pub mod RowLists
+pub mod Rows
+pub mod Levels
+pub mod Leaves
+pub mod Kept
+pub mod PickedAt
+pub mod Outcomes
+pub mod Over
+pub mod Alone
