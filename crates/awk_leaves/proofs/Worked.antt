@@ -1,6 +1,6 @@
 -- Worked examples of the leaf table.
-use Rattle.std.specs.Prelude.{◌≡◌, refl, ℤ, pos, negsuc, true, false, List, [], ◌∷◌, Option}
-use Rattle.std.specs.Prelude.{Some, None, Result, Ok, Err}
+use Rattle.std.specs.Prelude.{◌≡◌, refl, pos, negsuc, true, false, List, [], ◌∷◌}
+use Rattle.std.specs.Prelude.{Ok, Err}
 use Rattle.awk_types.specs.declared.primitive.Primitive.TheVariants.{I8, I64, U8, U64}
 use Rattle.awk_types.specs.declared.primitive.Primitive.TheVariants.{Bool as Truths}
 use Rattle.awk_types.specs.declared.fault.Fault.TheVariants.{Overflow, Zero, WrongType}
@@ -11,7 +11,7 @@ use Rattle.awk_leaves.specs.declared.leaf_type.LeafType.TheVariants.{Of, Unknown
 use Rattle.awk_leaves.specs.declared.operation.Binary.TheVariants.{Calculate, Test, Join}
 use Rattle.awk_leaves.specs.declared.operation.Logic.TheVariants.{And}
 use Rattle.awk_leaves.specs.declared.operation.Unary.TheVariants.{Not, Negate, Absolute, Cast}
-use Rattle.awk_leaves.specs.Table.{binary_judged, unary_judged, choice_judged}
+use Rattle.awk_leaves.specs.Table.{binary_judged, choice_judged}
 use Rattle.awk_leaves.specs.Values.{binary_values, unary_values, choice_values}
 
 abbrev optional_numbers : List Value
@@ -134,5 +134,6 @@ two_is_true : unary_values (Cast Truths) (Of I64) (int (pos 2) ∷ []) ≡ Ok (t
 two_is_true = refl
 
 chosen_or_zero : choice_values (Of Truths) (Of I64) (Literal (pos 0)) truths optional_numbers
-    (int (pos 0) ∷ int (pos 0) ∷ int (pos 0) ∷ []) ≡ Ok (int (pos 1) ∷ int (pos 0) ∷ int (pos 3) ∷ [])
+    (int (pos 0) ∷ int (pos 0) ∷ int (pos 0) ∷ [])
+    ≡ Ok (int (pos 1) ∷ int (pos 0) ∷ int (pos 3) ∷ [])
 chosen_or_zero = refl

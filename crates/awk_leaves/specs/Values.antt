@@ -1,5 +1,5 @@
 -- What each operation gives at one leaf, and at leaves in order.
-use Rattle.std.specs.Prelude.{ℤ, pos, neg_ℤ, unsigned_abs, Bool, true, false, not, ◌&&◌, ◌||◌}
+use Rattle.std.specs.Prelude.{ℤ, pos, neg_ℤ, unsigned_abs, Bool, not, ◌&&◌, ◌||◌}
 use Rattle.std.specs.Prelude.{if◌then◌else◌, List, [], ◌∷◌, map, Result, Ok, Err}
 use Rattle.std.specs.Bool.{xor}
 use Rattle.std.specs.Ordering.{int_eq}
@@ -80,7 +80,8 @@ chosen_at c x y = if is_true c then x else y
 -- ---- at leaves in order
 
 -- all values, or the first fault
-abbrev pub first_fault_or : Result Value Fault → Result (List Value) Fault → Result (List Value) Fault
+abbrev pub first_fault_or : Result Value Fault → Result (List Value) Fault
+    → Result (List Value) Fault
 first_fault_or (Ok v) (Ok vs) = Ok (v ∷ vs)
 first_fault_or (Ok v) (Err f) = Err f
 first_fault_or (Err f) rest = Err f
