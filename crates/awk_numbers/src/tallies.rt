@@ -83,13 +83,7 @@ fn count_nonzero<N: Kernels>(numbers: &Whole, start: u64, stop: u64, kernels: &N
 }
 
 /// What is told of the numbers from a start below a stop.
-pub fn tally_of<N: Kernels>(
-    how: Tally,
-    numbers: &Whole,
-    start: u64,
-    stop: u64,
-    kernels: &N,
-) -> Num
+pub fn tally_of<N: Kernels>(how: Tally, numbers: &Whole, start: u64, stop: u64, kernels: &N) -> Num
     requires order { start ≤ stop }
     requires within { stop ≤ length (whole_numbers numbers.now) }
     requires few { stop - start ≤ 1073741824 }
