@@ -1,6 +1,6 @@
 -- What a count of numbers that are not 0 tells of some and of all.
-use Rattle.std.proofs.Common.{◌≡◌, ℕ, zero, suc, ◌+◌, ◌≤◌, List, [], ◌∷◌, length, map, refl, ap, ap₂}
-use Rattle.std.proofs.Common.{sym, ◌∙◌, arith}
+use Rattle.std.proofs.Common.{◌≡◌, ℕ, zero, suc, ◌+◌, ◌≤◌, List, [], ◌∷◌, length, map, refl}
+use Rattle.std.proofs.Common.{ap, ap₂, sym, ◌∙◌, arith}
 use Rattle.std.specs.Prelude.{ℤ, pos, Bool, true, false, not, cond, nat_lt, ◌==◌, ◌||◌, ◌&&◌}
 use Rattle.std.specs.List.{count_by, list_any, list_all}
 use Rattle.std.proofs.lemmas.List.Sums.{sum_by-cons, count_by-le-length}

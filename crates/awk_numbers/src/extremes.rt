@@ -63,7 +63,8 @@ pub fn extreme_of(how: Extreme, numbers: &Whole, start: u64, stop: u64) -> Optio
     requires order { start ≤ stop }
     requires within { stop ≤ length (whole_numbers numbers.now) }
     requires few { stop - start ≤ 1073741824 }
-    ensures place { result ≡ first_extreme how (slice_range (whole_numbers numbers.now) start stop) }
+    ensures place { result
+        ≡ first_extreme how (slice_range (whole_numbers numbers.now) start stop) }
     ensures inside { IfSome result (λ k. k < stop - start) }
 {
     numbers.told(&how, start, stop)

@@ -53,7 +53,8 @@ impl<'b, 'a> Numbers for ExtremePlaces<'b, 'a> {
     }
 }
 
-/// Where among all numbers the least or the greatest of each part stands, and -1 for a part of none.
+/// Where among all numbers the least or the greatest of each part stands, and -1 for a part of
+/// none.
 pub fn extreme_places<'a, L: Ledger>(
     how: Extreme,
     parts: &Parts,

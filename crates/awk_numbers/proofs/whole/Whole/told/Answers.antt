@@ -12,7 +12,8 @@ returns-in-Truths g c =
     let bytes = c.in-Truths.bytes.now in
     let part = slice_range bytes c.args.start c.args.stop in
     subst (λ zs. g.P.Pass.tells c.args.pass.now zs c.over.result)
-    (ap (map (λ b. element kind.Bool (number kind.Bool b))) (c.new.ensures ∙ c.as_chunks.ensures.front)
+    (ap (map (λ b. element kind.Bool (number kind.Bool b)))
+    (c.new.ensures ∙ c.as_chunks.ensures.front)
     ∙ truth_cells part
     ∙ sym (slice_range-map (λ n. element kind.Bool (pos n)) bytes c.args.start c.args.stop)
     ∙ sym (ap (λ w. slice_range (whole_numbers w) c.args.start c.args.stop) c.in-Truths.is))
