@@ -1,0 +1,7 @@
+mod WorkedPlaces
+pub mod RisingLaws
+pub mod Paths
+pub mod Levels
+pub mod FlatLaws
+pub mod BegunLaws
+pub mod SlotLaws
