@@ -5,3 +5,4 @@ pub mod Levels
 pub mod FlatLaws
 pub mod BegunLaws
 pub mod SlotLaws
+pub mod LevelSteps

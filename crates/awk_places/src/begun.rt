@@ -148,7 +148,14 @@ fn following_lane<'a, L: Ledger>(
     begun: &Begun<'a>,
     arena: &'a Arena,
     steps: &mut Steps<L>,
-) -> Result<Lane<'a>, NoMemory> {
+) -> Result<Lane<'a>, NoMemory>
+    requires begun { AreBegun begun.now.leasts begun.now.stops }
+    requires total { total ≡ before
+        (spec.follow_at replacement left begun.now.leasts begun.now.stops)
+        (size_of begun.now.leasts) }
+    ensures { IfOk result (λ r. r
+        ≡ spec.follow_lane gives replacement left begun.now.leasts begun.now.stops) }
+{
     let source = Following {
         leasts: &begun.leasts,
         stops: &begun.stops,
@@ -166,7 +173,15 @@ pub(crate) fn longer<'a, L: Ledger>(
     begun: &Begun<'a>,
     arena: &'a Arena,
     steps: &mut Steps<L>,
-) -> Result<Begun<'a>, NoMemory> {
+) -> Result<Begun<'a>, NoMemory>
+    requires begun { AreBegun begun.now.leasts begun.now.stops }
+    requires few { before (spec.follow_at replacement left begun.now.leasts begun.now.stops)
+        (size_of begun.now.leasts) < 2 ^ 63 }
+    ensures leasts { IfOk result (λ r. r.leasts
+        ≡ spec.follow_lane Shown.Least replacement left begun.now.leasts begun.now.stops) }
+    ensures stops { IfOk result (λ r. r.stops
+        ≡ spec.follow_lane Shown.Stop replacement left begun.now.leasts begun.now.stops) }
+{
     let source = Following {
         leasts: &begun.leasts,
         stops: &begun.stops,
@@ -186,7 +201,13 @@ pub(crate) fn last_slot<'a, L: Ledger>(
     begun: &Begun<'a>,
     arena: &'a Arena,
     steps: &mut Steps<L>,
-) -> Result<Lane<'a>, NoMemory> {
+) -> Result<Lane<'a>, NoMemory>
+    requires begun { AreBegun begun.now.leasts begun.now.stops }
+    requires total { total ≡ before (spec.follow_at true 0 begun.now.leasts begun.now.stops)
+        (size_of begun.now.leasts) }
+    ensures { IfOk result (λ r. r
+        ≡ spec.follow_lane Shown.Place true 0 begun.now.leasts begun.now.stops) }
+{
     following_lane(Gives::Place, true, 0, total, begun, arena, steps)
 }
 
@@ -198,7 +219,16 @@ pub(crate) fn slot_of<'a, L: Ledger>(
     begun: &Begun<'a>,
     arena: &'a Arena,
     steps: &mut Steps<L>,
-) -> Result<Lane<'a>, NoMemory> {
+) -> Result<Lane<'a>, NoMemory>
+    requires begun { AreBegun begun.now.leasts begun.now.stops }
+    requires few { (i : ℕ) → i < size_of begun.now.leasts
+        → spec.rest_at replacement left begun.now.leasts begun.now.stops i ≤ item_limit }
+    requires total { total ≡ before
+        (spec.rest_at replacement left begun.now.leasts begun.now.stops)
+        (size_of begun.now.leasts) }
+    ensures { IfOk result (λ r. r
+        ≡ spec.rest_lane replacement left begun.now.leasts begun.now.stops) }
+{
     let source = Continued {
         leasts: &begun.leasts,
         stops: &begun.stops,

@@ -7,10 +7,10 @@ pub overflow_add-total : goal.overflow_add-total
 overflow_add-total g c =
     omega (
       arith,
-      before-next (g.S.length c.args.source.now) c.loop-i.i,
-      before_mono (g.S.length c.args.source.now) (c.loop-i.i + 1) c.args.n
-      (omega (arith, c.loop-i-test.true)),
+      before-next (g.S.Lengths.length c.args.source.now) c.loop-i.i,
+      before_mono (g.S.Lengths.length c.args.source.now) (c.loop-i.i + 1) c.args.n
+          (omega (arith, c.loop-i-test.true)),
       c.loop-i.invariant,
-      c.length.ensures.length,
+      c.length-total.ensures.length,
       c.requires.small,
     )

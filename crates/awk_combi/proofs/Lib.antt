@@ -1,0 +1,5 @@
+mod WorkedTuples
+pub mod OffsetLaws
+pub mod TypeLaws
+pub mod SpanLaws
+pub mod TupleLaws
