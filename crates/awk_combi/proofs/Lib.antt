@@ -1,4 +1,4 @@
-mod WorkedTuples
+mod Worked
 pub mod OffsetLaws
 pub mod TypeLaws
 pub mod SpanLaws

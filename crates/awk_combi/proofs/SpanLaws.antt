@@ -150,9 +150,10 @@ module _ (rep : Bool) (n m : ℕ) where
 all_range : (P : ℕ → Type 0) (a n : ℕ) → ((k : ℕ) → a ≤ k → k < a + n → P k)
     → AllByRecursion P (range_with_len a n)
 all_range P a zero h = tt
-all_range P a (suc n) h =
-    (h a (omega arith) (omega arith),
-    all_range P (a + 1) n (λ k p q. h k (omega (arith, p)) (omega (arith, q))))
+all_range P a (suc n) h = (
+  h a (omega arith) (omega arith),
+  all_range P (a + 1) n (λ k p q. h k (omega (arith, p)) (omega (arith, q))),
+)
 
 -- what holds of each number
 numbers-all : (P : ℤ → Type 0) (m : ℕ → ℕ) (h : ℕ → ℕ → ℤ) (n : ℕ)
@@ -196,15 +197,17 @@ is_slot_lane places rep n class s t y h few j q = record {
   few = omega (arith, size-slot places rep n s t j, few);
   kind = refl;
   within = λ e. record {
-      kind = tt;
-      places = λ i p. all-at (λ z. (pos 0 ≤ℤ z) × (nat_of z < len y)) (pos 0)
-          (slot_lane places rep n s t j).items i p
-          (numbers-all (λ z. (pos 0 ≤ℤ z) × (nat_of z < len y)) (count_at rep n s t)
-          (place_in places rep n s t j) (size_of s)
-          (λ i k r u. (omega (arith, ints),
+    kind = tt;
+    places = λ i p. all-at (λ z. (pos 0 ≤ℤ z) × (nat_of z < len y)) (pos 0)
+        (slot_lane places rep n s t j).items i p
+        (numbers-all (λ z. (pos 0 ≤ℤ z) × (nat_of z < len y)) (count_at rep n s t)
+        (place_in places rep n s t j) (size_of s)
+        (λ i k r u. (
+          omega (arith, ints),
           below e i (get_or (get_or (tuples_at rep n s t i) k []) j 0) r
-          (tuple_below rep n (span_length s t i) k j u q))));
-    };
+              (tuple_below rep n (span_length s t i) k j u q),
+        )));
+  };
 }
   where
     below : places ≡ false → (i x : ℕ) → i < size_of s → x < span_length s t i

@@ -7,7 +7,7 @@ use Rattle.awk_lanes.specs.declared.kind.Kind.TheVariants.{I64}
 use Rattle.awk_lanes.specs.Column.{Column}
 use Rattle.awk_lanes.specs.Counted.{before, offsets_by}
 use Rattle.awk_lanes.specs.Places.{size_of, place_at, IsIndex}
-use Rattle.awk_layout.specs.Layout.{Layout, empty, rows, layouts_from}
+use Rattle.awk_layout.specs.Layout.{Layout, empty, layouts_from, rows as rows_of}
 use Rattle.awk_layout.specs.Valid.{len, IsValid}
 use Rattle.awk_layout.specs.Typing.{array_type}
 use Rattle.awk_gather.specs.Arrays.{array_item}
@@ -54,10 +54,12 @@ ArePlaced places rep n s t (Some p) =
     × (p.lanes ≡ slot_lanes places rep n s t)
 
 -- tuples whose slots stand beside one another
-abbrev pub AreTuples : Bool → Layout → ℕ → List Column → Layout → Type 0
-AreTuples places y total cs z =
-    Σ (List Layout) (λ zs. AreSlots places y cs (length cs) zs
-    × (z ≡ rows None total (layouts_from zs)) × IsValid z)
+pub record AreTuples (places : Bool) (y : Layout) (total : ℕ) (cs : List Column) (z : Layout)
+    : Type 0 where
+  pub nodes : List Layout
+  pub slots : AreSlots places y cs (length cs) nodes
+  pub rows : z ≡ rows_of None total (layouts_from nodes)
+  pub valid : IsValid z
 
 -- each lane has so many places
 abbrev pub AreOfSize : ℕ → List Column → Type 0
