@@ -3,3 +3,4 @@ pub mod OffsetLaws
 pub mod TypeLaws
 pub mod SpanLaws
 pub mod TupleLaws
+pub mod SlotNodes

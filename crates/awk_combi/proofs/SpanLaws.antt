@@ -196,6 +196,9 @@ pub is_slot_lane : (places rep : Bool) (n : ℕ) (class : Class) (s t : Column) 
 is_slot_lane places rep n class s t y h few j q = record {
   few = omega (arith, size-slot places rep n s t j, few);
   kind = refl;
+  positive = λ i p. all-at (λ z. pos 0 ≤ℤ z) (pos 0) (slot_lane places rep n s t j).items i p
+      (numbers-all (λ z. pos 0 ≤ℤ z) (count_at rep n s t) (place_in places rep n s t j) (size_of s)
+      (λ i k r u. omega (arith, ints)));
   within = λ e. record {
     kind = tt;
     places = λ i p. all-at (λ z. (pos 0 ≤ℤ z) × (nat_of z < len y)) (pos 0)
@@ -216,3 +219,24 @@ is_slot_lane places rep n class s t y h few j q = record {
         let f : first_place places s t i ≡ place_at s i =
         ap (λ b. first_place b s t i) e ∙ first-full s t i (omega (arith, l)) in
         omega (arith, f, within s t (len y) i h.spans r (omega (arith, l)), l)
+
+-- ---- the same of lanes that are made
+
+module _ (places rep : Bool) (n : ℕ) (s t f e : Column) (p : f ≡ first_lane places s t)
+    (q : e ≡ end_lane places s t) where
+  pub made_places : of_lanes.ArePlaces f e
+  made_places = rw (p, q) (are_places places s t)
+
+  pub made_size : size_of f ≡ size_of s
+  made_size = ap size_of p ∙ size-first places s t
+
+  pub made_counts : before (of_lanes.tuple_count rep n f e) (size_of f)
+      ≡ before (count_at rep n s t) (size_of s)
+  made_counts = rw (p, q) (counts places s t rep n)
+
+  pub made_offsets : offsets_by (of_lanes.tuple_count rep n f e) (size_of f)
+      ≡ offsets_by (count_at rep n s t) (size_of s)
+  made_offsets = rw (p, q) (same_offsets places s t rep n)
+
+  pub made_slots : of_lanes.slot_lanes rep n f e ≡ slot_lanes places rep n s t
+  made_slots = rw (p, q) (same_slots places s t rep n)

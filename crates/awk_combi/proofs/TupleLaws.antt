@@ -36,7 +36,7 @@ use Rattle.awk_places.specs.Places.{rising_places}
 use Rattle.awk_places.proofs.FlatLaws.{map-in_place, map-same-all, all-at}
 use Rattle.awk_combi.specs.Combinations.{slot_type, slots, tuple_type, slot_value, tuple_at, tuples}
 use Rattle.awk_combi.specs.Combinations.{combinations_function}
-use Rattle.awk_combi.specs.Slots.{slot_item, IsSlot, no_places, AreSlots}
+use Rattle.awk_combi.specs.Slots.{slot_item, IsSlot, no_places, AreSlots, AreOfSize, AreTuples}
 use Rattle.awk_combi.specs.Spans.{first_place, tuples_at, count_at, place_in, slot_lane, slot_lanes}
 use Rattle.awk_combi.proofs.OffsetLaws.{are_offsets, offset-length, items_at-length, count_given}
 use Rattle.awk_combi.proofs.OffsetLaws.{over_limit, within_limit}
@@ -66,7 +66,7 @@ slot_types places y cs zs n h =
 
 -- ---- rows of slots
 
-pub all_reach : (n : ℕ) (zs : List Layout)
+all_reach : (n : ℕ) (zs : List Layout)
     → ((j : ℕ) → j < length zs → n ≤ len (get_or zs j empty)) → AllReach n (layouts_from zs)
 all_reach n [] h = tt
 all_reach n (z ∷ zs) h = (h 0 (omega arith), all_reach n zs (λ j p. h (suc j) (omega (arith, p))))
@@ -282,3 +282,29 @@ module _ (places rep : Bool) (most : ℕ) (class : Class) (s t : Column) (y : La
   pub fine : total ≤ item_limit
       → (combinations_function most rep places).spoil (array_type y) (all_items_at s t y) ≡ None
   fine p = ap too_many all_given ∙ within_limit total p
+
+-- ---- the node of tuples
+
+pub reach_slots : (places : Bool) (y : Layout) (total : ℕ) (cs : List Column) (zs : List Layout)
+    → AreOfSize total cs → AreSlots places y cs (length cs) zs
+    → AllReach total (layouts_from zs)
+reach_slots places y total cs zs sizes h =
+    all_reach total zs
+    (λ j p.
+      let q : j < length cs = subst (λ k. j < k) h.count p in
+      omega (arith, (h.each j q).size, sizes j q))
+
+pub are_tuples : (places : Bool) (y : Layout) (total : ℕ) (cs : List Column) (zs : List Layout)
+    (z : Layout) → total < 2 ^ 63 → AreOfSize total cs → AreSlots places y cs (length cs) zs
+    → z ≡ rows None total (layouts_from zs) → AreTuples places y total cs z
+are_tuples places y total cs zs z few sizes h e = record {
+  nodes = zs;
+  slots = h;
+  rows = e;
+  valid = rw e (
+    few,
+    tt,
+    reach_slots places y total cs zs sizes h,
+    all_valid zs (λ j p. (h.each j (subst (λ k. j < k) h.count p)).valid),
+  );
+}

@@ -1,12 +1,12 @@
 -- Arrays of what stands in the slots of tuples, and where the tuples of lists lie.
-use Rattle.std.specs.Prelude.{◌≡◌, ℕ, ◌<◌, ◌≤◌, ◌^◌, Bool, false, if◌then◌else◌, List, [], length, get_or, pos}
+use Rattle.std.specs.Prelude.{◌≡◌, ℕ, ◌<◌, ◌≤◌, ◌^◌, Bool, false, if◌then◌else◌, List, [], length, get_or, pos, ◌≤ℤ◌}
 use Rattle.std.specs.Prelude.{Option, Some, None}
 use Rattle.awk_types.specs.ItemLimit.{item_limit}
 use Rattle.awk_types.specs.Value.{Value, int}
 use Rattle.awk_lanes.specs.declared.kind.Kind.TheVariants.{I64}
 use Rattle.awk_lanes.specs.Column.{Column}
 use Rattle.awk_lanes.specs.Counted.{before, offsets_by}
-use Rattle.awk_lanes.specs.Places.{size_of, place_at, IsIndex}
+use Rattle.awk_lanes.specs.Places.{size_of, at, place_at, IsIndex}
 use Rattle.awk_layout.specs.Layout.{Layout, empty, layouts_from, rows as rows_of}
 use Rattle.awk_layout.specs.Valid.{len, IsValid}
 use Rattle.awk_layout.specs.Typing.{array_type}
@@ -22,6 +22,7 @@ no_places = record { kind = I64; items = [] }
 pub record IsSlotLane (places : Bool) (n : ℕ) (c : Column) : Type 0 where
   pub few : size_of c < 2 ^ 63
   pub kind : c.kind ≡ I64
+  pub positive : (i : ℕ) → i < size_of c → pos 0 ≤ℤ at c i
   pub within : places ≡ false → IsIndex c n
 
 abbrev pub AreSlotLanes : Bool → ℕ → List Column → Type 0

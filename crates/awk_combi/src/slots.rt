@@ -23,7 +23,7 @@ pub(crate) struct Placed<'a> {
 
 /// The places of all tuples of lists, in the content or in each list by itself. None where the
 /// tuples are more than the limit of a column, and then no tuple is made.
-pub(crate) fn placed<'a, L: Ledger>(
+pub(crate) fn tuple_places<'a, L: Ledger>(
     alloc: Global,
     places: bool,
     rising: Rising,

@@ -5,7 +5,7 @@ ghost use Rattle.awk_axis.specs.Mapped.{IsMade};
 ghost use Rattle.awk_combi.specs.Combinations.{combinations_function};
 ghost use Rattle.awk_combi.specs.Slots.{AreTuples, AreOfSize, AreSlotLanes};
 
-use crate::slots::{Placed, placed, slot_nodes};
+use crate::slots::{Placed, slot_nodes, tuple_places};
 use crate::typing::slots_made;
 use awk_axis::{Made, Spoil};
 use awk_columns::Lists;
@@ -61,7 +61,7 @@ pub(crate) fn tuples_of<'a, L: Ledger>(
         replacement: tuples.replacement,
         slots,
     };
-    match placed(alloc, tuples.places, rising, lists, arena, steps)? {
+    match tuple_places(alloc, tuples.places, rising, lists, arena, steps)? {
         None => Ok(Made::Spoiled(Spoil::Size)),
         Some(made) => {
             let content = tuple_node(alloc, tuples.places, content, &made, arena, steps)?;

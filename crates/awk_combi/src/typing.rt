@@ -1,6 +1,6 @@
 //! The type of tuples of items of a type.
-ghost use Rattle.std.specs.Prelude.{◌≡◌, ◌+◌, ◌/◌, ◌<◌, ◌≤◌, IfOk};
-ghost use Rattle.awk_types.specs.View.{typ_of};
+ghost use Rattle.std.specs.Prelude.{◌≡◌, replicate, IfOk};
+ghost use Rattle.awk_types.specs.View.{typ_of, typs_of};
 ghost use Rattle.awk_combi.specs.Combinations as spec;
 
 use awk_types::{NoMemory, Prim, Typ, Typs, copy_type, nodes};
@@ -35,14 +35,22 @@ pub(crate) fn slots_made(n: u64, places: bool, item: &Typ) -> u64
     }
 }
 
+/// The types of n slots, or of as many as are made.
+fn slot_typs(alloc: Global, n: u64, slot: &Typ) -> Result<Typs, NoMemory>
+    ensures { let t = typ_of slot.now in
+        IfOk result (λ ts. typs_of ts ≡ replicate (spec.slots n t) t) }
+{
+    let mut parts = Typs::new(alloc);
+    for i in 0..slots_of(n, slot) {
+        parts.push(copy_type(alloc, slot)?)?;
+    }
+    Ok(parts)
+}
+
 /// The type of a tuple of n slots.
 pub(crate) fn tuple_typ(alloc: Global, places: bool, n: u64, item: &Typ) -> Result<Typ, NoMemory>
     ensures { IfOk result (λ t. typ_of t ≡ spec.tuple_type places n (typ_of item.now)) }
 {
     let slot = slot_typ(alloc, places, item)?;
-    let mut parts = Typs::new(alloc);
-    for i in 0..slots_of(n, &slot) {
-        parts.push(copy_type(alloc, &slot)?)?;
-    }
-    Ok(Typ::Tup(parts))
+    Ok(Typ::Tup(slot_typs(alloc, n, &slot)?))
 }
