@@ -36,11 +36,13 @@ use Rattle.awk_places.specs.Places.{rising_places}
 use Rattle.awk_places.proofs.FlatLaws.{map-in_place, map-same-all, all-at}
 use Rattle.awk_combi.specs.Combinations.{slot_type, slots, tuple_type, slot_value, tuple_at, tuples}
 use Rattle.awk_combi.specs.Combinations.{combinations_function}
+use Rattle.awk_combi.specs.Slots.{IsSlotLane, AreSlotLanes}
 use Rattle.awk_combi.specs.Slots.{slot_item, IsSlot, no_places, AreSlots, AreOfSize, AreTuples}
 use Rattle.awk_combi.specs.Spans.{first_place, tuples_at, count_at, place_in, slot_lane, slot_lanes}
 use Rattle.awk_combi.proofs.OffsetLaws.{are_offsets, offset-length, items_at-length, count_given}
 use Rattle.awk_combi.proofs.OffsetLaws.{over_limit, within_limit}
-use Rattle.awk_combi.proofs.SpanLaws.{size-slot, tuple_long, tuple_below, first-full}
+use Rattle.awk_combi.proofs.SpanLaws.{size-slot, tuple_long, tuple_below, first-full, within}
+use Rattle.awk_combi.proofs.SpanLaws.{is_slot_lane}
 use Rattle.awk_combi.proofs.TypeLaws.{simple-tuple, value-tuple}
 
 -- ---- the type of a slot
@@ -291,8 +293,8 @@ pub reach_slots : (places : Bool) (y : Layout) (total : ℕ) (cs : List Column) 
 reach_slots places y total cs zs sizes h =
     all_reach total zs
     (λ j p.
-      let q : j < length cs = subst (λ k. j < k) h.count p in
-      omega (arith, (h.each j q).size, sizes j q))
+    let q : j < length cs = subst (λ k. j < k) h.count p in
+    omega (arith, (h.each j q).size, sizes j q))
 
 pub are_tuples : (places : Bool) (y : Layout) (total : ℕ) (cs : List Column) (zs : List Layout)
     (z : Layout) → total < 2 ^ 63 → AreOfSize total cs → AreSlots places y cs (length cs) zs
@@ -308,3 +310,24 @@ are_tuples places y total cs zs z few sizes h e = record {
     all_valid zs (λ j p. (h.each j (subst (λ k. j < k) h.count p)).valid),
   );
 }
+
+-- ---- the lanes of the slots
+
+module _ (places rep : Bool) (n : ℕ) (class : Class) (s t : Column) (y : Layout)
+    (a : AreLists class s t y) where
+  slots_there : (j : ℕ) → j < length (slot_lanes places rep n s t) → j < n
+  slots_there j p =
+      omega (arith, p, length-map-range_with_len (slot_lane places rep n s t) 0 n)
+
+  pub lanes_ready : before (count_at rep n s t) (size_of s) ≤ item_limit
+      → AreSlotLanes places (len y) (slot_lanes places rep n s t)
+  lanes_ready few j p =
+      let q : j < n = slots_there j p in
+      subst (IsSlotLane places (len y)) (sym (lane-at places rep n s t y j q))
+      (is_slot_lane places rep n class s t y a few j q)
+
+  pub lanes_sized : AreOfSize (before (count_at rep n s t) (size_of s))
+      (slot_lanes places rep n s t)
+  lanes_sized j p =
+      ap size_of (lane-at places rep n s t y j (slots_there j p))
+      ∙ size-slot places rep n s t j

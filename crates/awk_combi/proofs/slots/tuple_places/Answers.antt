@@ -18,8 +18,8 @@ rising_offsets-requires-clause-fits g c =
     omega (
       arith,
       made_size c.args.places c.args.rising.replacement c.args.rising.slots
-      c.args.lists.now.starts c.args.lists.now.stops c.in_ok-firsts.firsts c.in_ok-ends.ends
-      c.in_ok-firsts.ensures c.in_ok-ends.ensures,
+          c.args.lists.now.starts c.args.lists.now.stops c.in_ok-firsts.firsts c.in_ok-ends.ends
+          c.in_ok-firsts.ensures c.in_ok-ends.ensures,
       c.len.ensures.len,
       c.len.ensures.fits,
     )
