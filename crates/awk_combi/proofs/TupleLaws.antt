@@ -36,7 +36,8 @@ use Rattle.awk_places.specs.Places.{rising_places}
 use Rattle.awk_places.proofs.FlatLaws.{map-in_place, map-same-all, all-at}
 use Rattle.awk_combi.specs.Combinations.{slot_type, slots, tuple_type, slot_value, tuple_at, tuples}
 use Rattle.awk_combi.specs.Combinations.{combinations_function}
-use Rattle.awk_combi.specs.Slots.{IsSlotLane, AreSlotLanes}
+use Rattle.awk_combi.specs.Slots.{IsSlotLane, AreSlotLanes, ArePlaced}
+use Rattle.awk_combi.specs.declared.slots.Placed.{Placed}
 use Rattle.awk_combi.specs.Slots.{slot_item, IsSlot, no_places, AreSlots, AreOfSize, AreTuples}
 use Rattle.awk_combi.specs.Spans.{first_place, tuples_at, count_at, place_in, slot_lane, slot_lanes}
 use Rattle.awk_combi.proofs.OffsetLaws.{are_offsets, offset-length, items_at-length, count_given}
@@ -331,3 +332,57 @@ module _ (places rep : Bool) (n : ℕ) (class : Class) (s t : Column) (y : Layou
   lanes_sized j p =
       ap size_of (lane-at places rep n s t y j (slots_there j p))
       ∙ size-slot places rep n s t j
+
+-- ---- what is made, from lanes of places
+
+module _ (places rep : Bool) (most : ℕ) (class : Class) (s t : Column) (y : Layout)
+    (a : AreLists class s t y) (has : AllByRecursion (Has (array_type y)) (array_items y)) where
+  abbrev asked : ℕ
+  asked = slots most (slot_type places (array_type y))
+
+  pub placed_lanes : (k : ℕ) (p : Placed) → ArePlaced places rep k s t (Some p)
+      → AreSlotLanes places (len y) p.lanes
+  placed_lanes k p h =
+      subst (AreSlotLanes places (len y)) (sym h.3)
+      (lanes_ready places rep k class s t y a (omega (arith, h.0, h.1)))
+
+  pub placed_sized : (k : ℕ) (p : Placed) → ArePlaced places rep k s t (Some p)
+      → AreOfSize p.total p.lanes
+  placed_sized k p h =
+      subst (AreOfSize p.total) (sym h.3)
+      (subst (λ m. AreOfSize m (slot_lanes places rep k s t)) (sym h.0)
+      (lanes_sized places rep k class s t y a))
+
+  pub placed_none : (k : ℕ) → k ≡ asked → ArePlaced places rep k s t None
+      → (combinations_function most rep places).spoil (array_type y) (all_items_at s t y) ≡ Some Size
+  placed_none k e h =
+      spoilt places rep most class s t y a has
+      (subst (λ m. item_limit < before (count_at rep m s t) (size_of s)) e h)
+
+  pub placed_given : (k : ℕ) → k ≡ asked → (p : Placed) → ArePlaced places rep k s t (Some p)
+      → (z : Layout) → AreTuples places y p.total p.lanes z
+      → ((combinations_function most rep places).spoil (array_type y) (all_items_at s t y) ≡ None)
+      × AreGiven None (tuple_type places most (array_type y))
+      (tuples rep places most (array_type y)) s t y p.offsets z
+  placed_given k e p h z d =
+      let q : ArePlaced places rep asked s t (Some p) =
+      subst (λ m. ArePlaced places rep m s t (Some p)) e h in
+      let total : ℕ = before (count_at rep asked s t) (size_of s) in
+      let few : total ≤ item_limit = omega (arith, q.0, q.1) in
+      let zs : List Layout = d.nodes in
+      let lanes : List Column = slot_lanes places rep asked s t in
+      let many : length lanes ≡ asked =
+      length-map-range_with_len (slot_lane places rep asked s t) 0 asked in
+      let ready : AreSlots places y lanes asked zs =
+      subst (λ m. AreSlots places y lanes m zs) many
+      (subst (λ cs. AreSlots places y cs (length cs) zs) q.3 d.slots) in
+      let whole : z ≡ rows None total (layouts_from zs) =
+      d.rows ∙ ap (λ m. rows None m (layouts_from zs)) q.0 in
+      let made = given places rep most class s t y a has zs ready few (subst IsValid whole d.valid) in (
+        fine places rep most class s t y a has few,
+        subst (λ o. AreGiven None (tuple_type places most (array_type y))
+            (tuples rep places most (array_type y)) s t y o z) (sym q.2)
+            (subst (λ w. AreGiven None (tuple_type places most (array_type y))
+            (tuples rep places most (array_type y)) s t y
+            (offsets_by (count_at rep asked s t) (size_of s)) w) (sym whole) made),
+      )

@@ -7,8 +7,8 @@ row-requires-clause-valid g c =
     reach_slots c.args.places c.args.content.now c.args.made.now.total c.args.made.now.lanes
     c.in_ok-nodes.nodes c.requires.sizes c.in_ok-nodes.ensures
 
-pub returns-in_ok-nodes : goal.returns-in_ok-nodes
-returns-in_ok-nodes g c =
+pub returns : goal.returns
+returns g c =
     are_tuples c.args.places c.args.content.now c.args.made.now.total c.args.made.now.lanes
     c.in_ok-nodes.nodes c.row.result c.requires.few c.requires.sizes c.in_ok-nodes.ensures
     c.row.ensures.node
