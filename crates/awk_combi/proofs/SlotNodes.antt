@@ -1,5 +1,6 @@
 -- Arrays of what stands in a slot.
-use Rattle.std.specs.Prelude.{◌≡◌, refl, ℕ, ◌+◌, ◌<◌, Bool, true, false, List, [], ◌∷◌, ◌++◌, length}
+use Rattle.std.specs.Prelude.{◌≡◌, refl, ℕ, ◌+◌, ◌<◌, Bool}
+use Rattle.std.specs.Prelude.{true, false, List, [], ◌∷◌, ◌++◌, length}
 use Rattle.std.specs.Prelude.{get_or, nat_lt, ℤ, pos, negsuc, ◌≤ℤ◌}
 use Rattle.std.proofs.Common.{arith, ap, sym, ◌∙◌, subst, ltb-true}
 use Rattle.std.proofs.lemmas.Bool.{ltb-false}
@@ -21,7 +22,8 @@ place_slot y n c h = record {
   valid = h.few;
   size = refl;
   typ = ap (λ k. leaf (primitive_of k)) h.kind;
-  items = λ k p. ap (λ kind. leaf_value kind (at c k)) h.kind ∙ ap int (kept (at c k) (h.positive k p));
+  items = λ k p. ap (λ kind. leaf_value kind (at c k)) h.kind
+      ∙ ap int (kept (at c k) (h.positive k p));
 }
   where
     kept : (z : ℤ) → pos 0 ≤ℤ z → z ≡ pos (nat_of z)
@@ -29,7 +31,8 @@ place_slot y n c h = record {
     kept (negsuc n) p = absurd (omega (arith, ints, p))
 
 -- one slot more
-pub one_more : (places : Bool) (y : Layout) (cs : List Column) (j : ℕ) (zs : List Layout) (z : Layout)
+pub one_more : (places : Bool) (y : Layout) (cs : List Column) (j : ℕ) (zs : List Layout)
+    (z : Layout)
     → AreSlots places y cs j zs → IsSlot places y (get_or cs j no_places) z
     → AreSlots places y cs (j + 1) (zs ++ z ∷ [])
 one_more places y cs j zs z h s = record {

@@ -1,6 +1,7 @@
 -- The tuples of lists: their types, and the items of each list that is made.
 use Rattle.std.specs.Prelude.{◌≡◌, refl, ℕ, zero, suc, ◌+◌, ◌-◌, ◌<◌, ◌≤◌, ◌^◌, Bool, true, false}
-use Rattle.std.specs.Prelude.{List, [], ◌∷◌, map, length, get_or, replicate, ℤ, pos, Some, None, sum}
+use Rattle.std.specs.Prelude.{List, [], ◌∷◌, map, length, get_or}
+use Rattle.std.specs.Prelude.{replicate, ℤ, pos, Some, None, sum}
 use Rattle.std.specs.List.{range_with_len, AllByRecursion}
 use Rattle.std.proofs.Common.{arith, ap, ap₂, sym, ◌∙◌, subst}
 use Rattle.std.proofs.lemmas.List.{length-map}
@@ -61,7 +62,8 @@ slot_types places y cs zs n h =
     ∙ ap (λ k. replicate k (slot_type places (array_type y))) h.count
   where
     go : (zs : List Layout)
-        → ((j : ℕ) → j < length zs → array_type (get_or zs j empty) ≡ slot_type places (array_type y))
+        → ((j : ℕ) → j < length zs
+        → array_type (get_or zs j empty) ≡ slot_type places (array_type y))
         → map array_type zs ≡ replicate (length zs) (slot_type places (array_type y))
     go [] e = refl
     go (z ∷ zs) e =
@@ -200,7 +202,8 @@ module _ (places rep : Bool) (most : ℕ) (class : Class) (s t : Column) (y : La
       ≡ slot_value places (items_at s t y i) x
   slot_stays i x p q = go places
     where
-      go : (b : Bool) → simple_value (slot_type b (array_type y)) (slot_value b (items_at s t y i) x)
+      go : (b : Bool)
+          → simple_value (slot_type b (array_type y)) (slot_value b (items_at s t y i) x)
           ≡ slot_value b (items_at s t y i) x
       go true = refl
       go false =
@@ -245,7 +248,8 @@ module _ (places rep : Bool) (most : ℕ) (class : Class) (s t : Column) (y : La
       let f : List ℕ → Value =
       λ ks. simple_value (tuple_type places most (array_type y)) (tuple_at places vs ks) in
       let ts : List (List ℕ) = tuples_at rep n s t i in
-      ap (λ k. value_list (run (array_item z) (place_at o i) k)) (offset-length count (size_of s) i p)
+      ap (λ k. value_list (run (array_item z) (place_at o i) k))
+      (offset-length count (size_of s) i p)
       ∙ ap (λ k. value_list (run (array_item z) k (count i)))
       (place-offsets count (size_of s) i (omega (arith, p)))
       ∙ run_by (array_item z) (λ k. f (get_or ts k [])) (before count i) (count i)
@@ -279,7 +283,8 @@ module _ (places rep : Bool) (most : ℕ) (class : Class) (s t : Column) (y : La
       ∙ ap (λ d. length (rising_places rep n d)) (items_at-length s t y i))
 
   pub spoilt : item_limit < total
-      → (combinations_function most rep places).spoil (array_type y) (all_items_at s t y) ≡ Some Size
+      → (combinations_function most rep places).spoil (array_type y) (all_items_at s t y)
+      ≡ Some Size
   spoilt p = ap too_many all_given ∙ over_limit total p
 
   pub fine : total ≤ item_limit
@@ -354,7 +359,8 @@ module _ (places rep : Bool) (most : ℕ) (class : Class) (s t : Column) (y : La
       (lanes_sized places rep k class s t y a))
 
   pub placed_none : (k : ℕ) → k ≡ asked → ArePlaced places rep k s t None
-      → (combinations_function most rep places).spoil (array_type y) (all_items_at s t y) ≡ Some Size
+      → (combinations_function most rep places).spoil (array_type y) (all_items_at s t y)
+      ≡ Some Size
   placed_none k e h =
       spoilt places rep most class s t y a has
       (subst (λ m. item_limit < before (count_at rep m s t) (size_of s)) e h)
@@ -378,7 +384,8 @@ module _ (places rep : Bool) (most : ℕ) (class : Class) (s t : Column) (y : La
       (subst (λ cs. AreSlots places y cs (length cs) zs) q.3 d.slots) in
       let whole : z ≡ rows None total (layouts_from zs) =
       d.rows ∙ ap (λ m. rows None m (layouts_from zs)) q.0 in
-      let made = given places rep most class s t y a has zs ready few (subst IsValid whole d.valid) in (
+      let made = given places rep most class s t y a has zs ready few
+      (subst IsValid whole d.valid) in (
         fine places rep most class s t y a has few,
         subst (λ o. AreGiven None (tuple_type places most (array_type y))
             (tuples rep places most (array_type y)) s t y o z) (sym q.2)

@@ -1,5 +1,6 @@
 -- Arrays of what stands in the slots of tuples, and where the tuples of lists lie.
-use Rattle.std.specs.Prelude.{◌≡◌, ℕ, ◌<◌, ◌≤◌, ◌^◌, Bool, false, if◌then◌else◌, List, [], length, get_or, pos, ◌≤ℤ◌}
+use Rattle.std.specs.Prelude.{◌≡◌, ℕ, ◌<◌, ◌≤◌, ◌^◌, Bool, false}
+use Rattle.std.specs.Prelude.{if◌then◌else◌, List, [], length, get_or, pos, ◌≤ℤ◌}
 use Rattle.std.specs.Prelude.{Option, Some, None}
 use Rattle.awk_types.specs.ItemLimit.{item_limit}
 use Rattle.awk_types.specs.Value.{Value, int}

@@ -18,5 +18,6 @@ loop-j-preserved g c =
     (one_more c.args.places c.args.content.now c.args.lanes.now c.loop-j.j c.loop-j.nodes _
     c.loop-j.invariant
     (subst (λ d. IsSlot c.args.places c.args.content.now d c.in_ok-slot_node.field-0)
-    (sym (get_or_from_slice_get c.args.lanes.now c.loop-j.j c.get.result.now no_places c.get.ensures))
+    (sym (get_or_from_slice_get c.args.lanes.now c.loop-j.j c.get.result.now no_places
+    c.get.ensures))
     c.in_ok-slot_node.ensures))
