@@ -91,7 +91,8 @@ abbrev mutual
   AreAllowed no_exprs = Unit {0}
   AreAllowed (expr e es) = IsAllowed e × AreAllowed es
 
--- the buffers of a load line are texts, or bytes under distinct keys, and the expression of another line is allowed
+-- the buffers of a load line are texts, or bytes under distinct keys, and the expression of another
+-- line is allowed
 abbrev pub IsAllowedLine : lines.Line → Type 0
 IsAllowedLine (lines.load name form length big (lines.texts ms)) = lines.are_texts ms ≡ true
 IsAllowedLine (lines.load name form length big (lines.parts ps)) =

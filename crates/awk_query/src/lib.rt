@@ -1,7 +1,7 @@
 //! Lines of a session and their expressions, read from bytes.
 //!
-//! `read_line` gives the `Line` that the bytes are, by its `Reading`, with its `Expr`. Each operation (`Op`) stands
-//! once in one table: its name, and what its arguments are.
+//! `read_line` gives the `Line` that the bytes are, by its `Reading`, with its `Expr`. Each
+//! operation (`Op`) stands once in one table: its name, and what its arguments are.
 #![tactic(auto)]
 
 mod arguments;
