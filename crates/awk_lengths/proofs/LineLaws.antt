@@ -8,8 +8,8 @@ use Rattle.serde_json.specs.Data.{Data, null, boolean, number, string, array, ob
 use Rattle.serde_json.specs.Events.{members_len}
 use Rattle.serde_json.specs.Find.{get_member, as_object, as_str}
 use Rattle.serde_json.specs.Read.{read}
-use Rattle.awk_types.specs.DataType.{Name}
 use Rattle.awk_store.specs.Buffers.{texts_of, total_len}
+use Rattle.awk_query.specs.Arguments.{u64_in}
 use Rattle.awk_query.specs.ExprTree.{ExprTree}
 use Rattle.awk_query.specs.Reading.{expr_said}
 use Rattle.awk_query.specs.Told.{or_query}
@@ -82,7 +82,7 @@ buffers_within ms (Some d) = texts_in_within ms
 
 -- ---- loads
 
-load_of_within : (n : ℕ) (name : Option Name) (form : Option Data) (count : Option ℕ)
+load_of_within : (n : ℕ) (name : Option (List ℕ)) (form : Option Data) (count : Option ℕ)
     (big : Option Bool) (buffers : Option Buffers) → AtMost text_len n buffers
     → IsWithin n (load_of name form count big buffers)
 load_of_within n None form count big buffers h = tt
@@ -108,13 +108,13 @@ version_2_within Two n o h = h
 
 -- ---- other lines
 
-bind_within : (n : ℕ) (name : Option Name) (e : Option ExprTree)
+bind_within : (n : ℕ) (name : Option (List ℕ)) (e : Option ExprTree)
     → IsWithin n (bind_of name e)
 bind_within n None e = tt
 bind_within n (Some name) None = tt
 bind_within n (Some name) (Some e) = tt
 
-values_within : (n : ℕ) (name : Option Name) (list : Option Data)
+values_within : (n : ℕ) (name : Option (List ℕ)) (list : Option Data)
     → IsWithin n (values_with name list)
 values_within n None list = tt
 values_within n (Some name) None = tt
@@ -170,7 +170,7 @@ then_within n f h (Some a) = h a
 first_within : (n : ℕ) (ms : Members) (o : Option Data)
     → IsWithin n (option_map_or session_from o (single_in ms))
 first_within n ms None = single_within n ms
-first_within n ms (Some d) = then_within n if_two (two_within n) _
+first_within n ms (Some d) = then_within n if_two (two_within n) (u64_in d)
 
 alone_within : (reading : Reading) (n : ℕ) (ms : Members) → IsWithin n (alone_in reading ms)
 alone_within First n ms = first_within n ms (get_member (codes "session") ms)
