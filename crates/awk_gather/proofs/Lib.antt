@@ -2,6 +2,7 @@ pub mod MovedGroups
 pub mod PickedLanes
 pub mod FollowedIndexes
 pub mod PickedNodes
+pub mod AlikeNodes
 pub mod OptionItems
 pub mod PeeledNodes
 pub mod ArrayAnswers

@@ -6,6 +6,7 @@
 //! known to be within the limits.
 #![tactic(auto)]
 
+mod alike;
 mod arrays;
 mod follow;
 mod lanes_at;

@@ -10,6 +10,7 @@ ghost use Rattle.awk_layout.specs.Valid.{len, IsValid};
 ghost use Rattle.awk_gather.specs.Arrays.{index_over};
 ghost use Rattle.awk_gather.specs.Picked.{IsPicked};
 
+use crate::alike::pick_alike;
 use crate::follow::{follow_bits, follow_bytes};
 use crate::lanes_at::{block_lane, gather_lane, next_lane};
 use crate::rows::gather_rows;
@@ -254,6 +255,9 @@ pub fn gather_node<'a, L: Ledger>(
             contents,
         } => pick_union(alloc, tags, index, contents, places, arena, steps),
         Class::Regular { size, content } => {
+            if let Some(alike) = pick_alike(alloc, size, x.len(), content, places, steps)? {
+                return Ok(alike);
+            }
             let inner = block_lane(size, places, arena, steps)?;
             let part = Box::new(alloc, gather_node(alloc, content, &inner, arena, steps)?)?;
             Ok(Node::regular(size, places.len(), part, steps))

@@ -13,9 +13,9 @@ gather_node-requires g t c κs within =
 
 pub regular-requires-clause-valid : goal.regular-requires-clause-valid
 regular-requires-clause-valid g t c =
-    regular_reach c.in-Regular.size c.len-in-Regular.result c.in-Regular.content.now c.in_ok-gather_node-in-Regular.field-0 c.in_ok-part-in-Regular.part.value c.args.places.now c.in_ok-inner-in-Regular.inner c.in_ok-part-in-Regular.ensures.ok c.len-in-Regular.ensures.len c.in_ok-inner-in-Regular.ensures.lane c.in_ok-gather_node-in-Regular.ensures.node
+    regular_reach c.in-Regular.size c.len-in-Regular-2.result c.in-Regular.content.now c.in_ok-gather_node-in-Regular.field-0 c.in_ok-part-in-Regular.part.value c.args.places.now c.in_ok-inner-in-Regular.inner c.in_ok-part-in-Regular.ensures.ok c.len-in-Regular-2.ensures.len c.in_ok-inner-in-Regular.ensures.lane c.in_ok-gather_node-in-Regular.ensures.node
 
 pub returns-in_ok-part-in-Regular : goal.returns-in_ok-part-in-Regular
 returns-in_ok-part-in-Regular g t c = record {
-  node = regular_of c.in-Regular.size (len c.args.x.now) c.len-in-Regular.result c.args.x.now c.in-Regular.content.now c.in_ok-gather_node-in-Regular.field-0 c.in_ok-part-in-Regular.part.value c.regular.result c.args.places.now c.in_ok-inner-in-Regular.inner c.in-Regular.ensures.class c.regular.ensures.node c.in_ok-part-in-Regular.ensures.ok c.len-in-Regular.ensures.len c.in_ok-inner-in-Regular.ensures.lane c.in_ok-gather_node-in-Regular.ensures.node;
+  node = regular_of c.in-Regular.size (len c.args.x.now) c.len-in-Regular-2.result c.args.x.now c.in-Regular.content.now c.in_ok-gather_node-in-Regular.field-0 c.in_ok-part-in-Regular.part.value c.regular.result c.args.places.now c.in_ok-inner-in-Regular.inner c.in-Regular.ensures.class c.regular.ensures.node c.in_ok-part-in-Regular.ensures.ok c.len-in-Regular-2.ensures.len c.in_ok-inner-in-Regular.ensures.lane c.in_ok-gather_node-in-Regular.ensures.node;
 }

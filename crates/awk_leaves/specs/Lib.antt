@@ -1,0 +1,3 @@
+pub mod LeafTypes
+pub mod Table
+pub mod Values
