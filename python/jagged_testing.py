@@ -22,7 +22,7 @@ NOT_YET = frozenset(
     else """
     zip tuple with_field
     add sub mul floor_div rem eq ne lt le gt ge and or xor not neg abs where cast
-    cartesian argcartesian combinations argcombinations
+    cartesian argcartesian
     """.split()
 )
 

@@ -17,6 +17,7 @@ use Rattle.awk_view.specs.Choice.{field, fields}
 use Rattle.awk_eval.specs.Axes.{axis_in, at_axis, at_common_axis}
 use Rattle.awk_eval.specs.Bindings.{look_up}
 use Rattle.awk_eval.specs.Variables.{Environment}
+use Rattle.awk_combi.specs.Combinations.{combinations_of}
 use Rattle.awk_select.specs.Each.{at_each_of}
 use Rattle.awk_jagged.specs.Jagged.{is_jagged, jagged_of}
 use Rattle.awk_select.specs.Picks.{at_of, step_range_of, is_mask, mask_of, take_of}
@@ -40,7 +41,7 @@ use Rattle.awk_nulls.specs.Singletons.{singletons_of}
 use Rattle.awk_eval.specs.Operand.{Operand, of, literal, only_in, both_in, data_in, filled_in}
 use Rattle.awk_eval.specs.Operand.{takes_literal}
 use Rattle.awk_eval.specs.Fixed.{bounds_in, Stepped, stepped_in, place_in, text_in, texts_in}
-use Rattle.awk_eval.specs.Fixed.{padding_in, truth_in}
+use Rattle.awk_eval.specs.Fixed.{padding_in, truth_in, tuples_in}
 use Rattle.awk_eval.specs.Ranges.{range_items}
 
 -- ---- results: the first fault wins
@@ -154,6 +155,18 @@ reducer_of _ = None
 abbrev pub reducing : Op → List Operand → Result Datum Fault
 reducing o operands = given reduce_of (reducer_of o) (only_in operands)
 
+-- tuples of the items of lists at an axis, or of their places
+abbrev pub combined_by : Bool → ℕ × Bool × ℤ → Datum → Result Datum Fault
+combined_by places p d = combinations_of p.0 p.1 (axis_in d p.2) places d
+
+-- an operation that makes tuples on its operands
+abbrev pub tupled : Op → List FixedArg → List Operand → Result Datum Fault
+tupled op.Combinations fixed operands =
+    given (combined_by false) (tuples_in fixed) (only_in operands)
+tupled op.Argcombinations fixed operands =
+    given (combined_by true) (tuples_in fixed) (only_in operands)
+tupled o fixed operands = reducing o operands
+
 -- an operation on null items on its operands
 abbrev pub optioned : Op → List FixedArg → List Operand → Result Datum Fault
 optioned op.IsNone fixed operands = given (at_axis is_none_of) (place_in fixed) (only_in operands)
@@ -165,7 +178,7 @@ optioned op.Singletons fixed operands =
 optioned op.PadNone fixed operands = given padded_by (padding_in fixed) (only_in operands)
 optioned op.FillNone fixed operands = given filled_by (place_in fixed) (filled_in operands)
 optioned op.PutMask fixed operands = given masked_by (truth_in fixed) (both_in operands)
-optioned o fixed operands = reducing o operands
+optioned o fixed operands = tupled o fixed operands
 
 -- an operation on lists on its operands
 abbrev pub listed : Op → List FixedArg → List Operand → Result Datum Fault

@@ -60,3 +60,8 @@ truth_in _ = None
 abbrev pub padding_in : List FixedArg → Option (ℕ × ℤ × Bool)
 padding_in (Count n ∷ Place axis ∷ Truth clip ∷ []) = Some (n, axis, clip)
 padding_in _ = None
+
+-- how many places a tuple has, whether they may repeat, and at which axis lists are taken
+abbrev pub tuples_in : List FixedArg → Option (ℕ × Bool × ℤ)
+tuples_in (Count n ∷ Truth replacement ∷ Place axis ∷ []) = Some (n, replacement, axis)
+tuples_in _ = None

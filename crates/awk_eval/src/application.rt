@@ -9,7 +9,7 @@ ghost use Rattle.awk_layout.specs.Layout.{weight, height};
 ghost use Rattle.awk_layout.specs.Typing.{array_type, array_items};
 ghost use Rattle.awk_lists.specs.WithoutField.{without_field_of};
 ghost use Rattle.awk_query.specs.Allowed.{HasArguments};
-ghost use Rattle.awk_eval.specs.Fixed.{bounds_in, text_in, texts_in};
+ghost use Rattle.awk_eval.specs.Fixed.{bounds_in, text_in, texts_in, tuples_in};
 ghost use Rattle.awk_eval.specs.Operand.{only_in};
 ghost use Rattle.awk_eval.specs.OperandView.{shown_operands};
 ghost use Rattle.awk_eval.specs.Ranges.{range_items};
@@ -17,9 +17,11 @@ ghost use Rattle.awk_eval.specs.Views.{Size, Takes, IsWithin, AreWithin, is_view
 ghost use Rattle.awk_eval.specs.Eval as meaning;
 
 use crate::arguments::{
-    both, bound_or, bounds, data, filled, only, padding, place, text, texts, truth, with_step,
+    both, bound_or, bounds, data, filled, only, padding, place, text, texts, truth, tuples,
+    with_step,
 };
 use crate::axis::{axis_among, axis_in};
+use awk_combi::combinations;
 use awk_jagged::{is_jagged, jagged};
 use awk_kernels::Kernels;
 use awk_lanes::{Arena, Steps};
@@ -173,7 +175,51 @@ fn optioned<'s, N: Kernels, L: Ledger>(
             (Some(w), Some((x, mask))) => put_mask(alloc, x, mask, w, arena, steps),
             _ => Err(Fault::Unbuilt),
         },
+        _ => tupled(alloc, op, fixed, operands, kernels, arena, steps),
+    }
+}
+
+// An operation that makes tuples on its operands.
+fn tupled<'s, N: Kernels, L: Ledger>(
+    alloc: Global,
+    op: Op,
+    fixed: &Fixed,
+    operands: &Operands<'s>,
+    kernels: &N,
+    arena: &'s Arena,
+    steps: &mut Steps<L>,
+) -> Result<Datum<'s>, Fault>
+    ensures answer { Gives datum_of fault_told result
+        (meaning.tupled op fixed.now (shown_operands operands.now)) }
+    ensures datum { IfOk result (λ made. IsDatum made) }
+{
+    match op {
+        Op::Combinations => combined(alloc, fixed, operands, false, arena, steps),
+        Op::Argcombinations => combined(alloc, fixed, operands, true, arena, steps),
         _ => reducing(alloc, op, operands, kernels, arena, steps),
+    }
+}
+
+// Tuples of the items of lists at an axis, or of their places.
+fn combined<'s, L: Ledger>(
+    alloc: Global,
+    fixed: &Fixed,
+    operands: &Operands<'s>,
+    places: bool,
+    arena: &'s Arena,
+    steps: &mut Steps<L>,
+) -> Result<Datum<'s>, Fault>
+    ensures answer { let f = meaning.combined_by places in
+        Gives datum_of fault_told result
+        (meaning.given f (tuples_in fixed.now) (only_in (shown_operands operands.now))) }
+    ensures datum { IfOk result (λ made. IsDatum made) }
+{
+    match (tuples(fixed), only(operands)) {
+        (Some((n, replacement, axis)), Some(x)) => {
+            let axis = axis_in(x, axis);
+            combinations(alloc, n, replacement, axis, x, places, arena, steps)
+        }
+        _ => Err(Fault::Unbuilt),
     }
 }
 

@@ -220,6 +220,21 @@ pub(crate) fn padding(fixed: &Fixed) -> Option<(u64, i64, bool)>
     }
 }
 
+/// How many places a tuple has, whether they may repeat, and at which axis lists are taken.
+pub(crate) fn tuples(fixed: &Fixed) -> Option<(u64, bool, i64)>
+    ensures { result ≡ given.tuples_in fixed.now }
+{
+    if fixed.len() != 3 {
+        return None;
+    }
+    match (fixed.get(0), fixed.get(1), fixed.get(2)) {
+        (FixedArg::Count(n), FixedArg::Truth(replacement), FixedArg::Place(axis)) => {
+            Some((*n, *replacement, *axis))
+        }
+        _ => None,
+    }
+}
+
 /// A bound of a range over n items, or what stands for one that is not given.
 pub(crate) fn bound_or(n: u64, other: u64, bound: &FixedArg) -> u64
     requires { other ≤ n }

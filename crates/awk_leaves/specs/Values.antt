@@ -10,6 +10,7 @@ use Rattle.awk_types.specs.declared.fault.Fault.{Fault}
 use Rattle.awk_types.specs.declared.fault.Fault.TheVariants as fault
 use Rattle.awk_types.specs.Value.{Value, int, truth, null}
 use Rattle.awk_types.specs.Has.{least_number, greatest_number}
+use Rattle.awk_types.specs.Predicates.{is_null}
 use Rattle.awk_kernels.specs.declared.operation.Why.{Why}
 use Rattle.awk_kernels.specs.declared.operation.Why.TheVariants as why
 use Rattle.awk_kernels.specs.Operations.{within, leaf, holds}
@@ -27,9 +28,6 @@ abbrev pub number_of : Value → ℤ
 number_of (int z) = z
 number_of (truth b) = pos (if b then 1 else 0)
 number_of v = pos 0
-
-abbrev pub is_true : Value → Bool
-is_true v = not (int_eq (number_of v) (pos 0))
 
 -- a number as a value of a primitive
 abbrev pub value_in : Primitive → ℤ → Value
@@ -54,28 +52,37 @@ joined And a b = a && b
 joined Or a b = a || b
 joined Xor a b = xor a b
 
+-- ---- of numbers, a truth value as 0 or 1
+
+abbrev pub is_nonzero : ℤ → Bool
+is_nonzero z = not (int_eq z (pos 0))
+
+-- of two numbers, in a primitive
+abbrev pub binary_on : Binary → Primitive → ℤ → ℤ → Result Value Fault
+binary_on (Calculate op) p a b = number_or_fault (leaf op (least_number p) (greatest_number p) a b)
+binary_on (Test how) p a b = Ok (truth (holds how a b))
+binary_on (Join op) p a b = Ok (truth (joined op (is_nonzero a) (is_nonzero b)))
+
+-- of one number
+abbrev pub unary_on : Unary → Primitive → ℤ → Result Value Fault
+unary_on Not p a = Ok (truth (not (is_nonzero a)))
+unary_on Negate p a = held_by p (neg_ℤ a)
+unary_on Absolute p a = held_by p (pos (unsigned_abs a))
+unary_on (Cast Truths) p a = Ok (truth (is_nonzero a))
+unary_on (Cast to) p a = held_by to a
+
 -- ---- at one leaf; a null gives null
 
 abbrev pub binary_at : Binary → Primitive → Value → Value → Result Value Fault
-binary_at op p null y = Ok null
-binary_at op p x null = Ok null
-binary_at (Calculate op) p x y =
-    number_or_fault (leaf op (least_number p) (greatest_number p) (number_of x) (number_of y))
-binary_at (Test how) p x y = Ok (truth (holds how (number_of x) (number_of y)))
-binary_at (Join op) p x y = Ok (truth (joined op (is_true x) (is_true y)))
+binary_at op p x y =
+    if is_null x || is_null y then Ok null else binary_on op p (number_of x) (number_of y)
 
 abbrev pub unary_at : Unary → Primitive → Value → Result Value Fault
-unary_at op p null = Ok null
-unary_at Not p x = Ok (truth (not (is_true x)))
-unary_at Negate p x = held_by p (neg_ℤ (number_of x))
-unary_at Absolute p x = held_by p (pos (unsigned_abs (number_of x)))
-unary_at (Cast Truths) p x = Ok (truth (is_true x))
-unary_at (Cast to) p x = held_by to (number_of x)
+unary_at op p x = if is_null x then Ok null else unary_on op p (number_of x)
 
 -- what is chosen, null or not; a condition that is null gives null
 abbrev pub chosen_at : Value → Value → Value → Value
-chosen_at null x y = null
-chosen_at c x y = if is_true c then x else y
+chosen_at c x y = if is_null c then null else if is_nonzero (number_of c) then x else y
 
 -- ---- at leaves in order
 

@@ -1,4 +1,5 @@
 pub mod ProductLaws
 pub mod PartLaws
-pub mod KeyLaws
 pub mod TallyLaws
+pub mod ExtremeLaws
+pub mod SumLaws

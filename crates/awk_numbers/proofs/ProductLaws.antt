@@ -4,17 +4,13 @@ use Rattle.std.proofs.Common.{get_or}
 use Rattle.std.proofs.Common.{arith, refl, ap, sym, ◌∙◌, subst}
 use Rattle.std.specs.Prelude.{ℤ, pos, negsuc, ◌*ℤ◌, unsigned_abs, Bool, true, false, ◌||◌}
 use Rattle.std.specs.List.{fold, list_any, slice_range}
-use Rattle.std.specs.Ordering.{int_eq}
 use Rattle.std.proofs.lemmas.Int.{ints, unsigned_abs-mul}
 use Rattle.std.proofs.Math.Nat.{le-mul_of_pos_right}
 use Rattle.std.proofs.lemmas.List.Edits.{between_more, length-between, get_or-between}
 use Rattle.std.proofs.lemmas.List.Folds.{list_any-append, list_any_at}
 use Rattle.std.proofs.lemmas.List.Sums.{fold-append}
-use Rattle.awk_numbers.specs.Folds.{product}
+use Rattle.awk_numbers.specs.Folds.{product, is_zero}
 use Rattle.awk_numbers.proofs.PartLaws.{slice_range-split}
-
-abbrev pub is_zero : ℤ → Bool
-is_zero z = int_eq z (pos 0)
 
 abbrev times : ℤ → List ℤ → ℤ
 times a zs = fold (λ so_far z. so_far *ℤ z) a zs

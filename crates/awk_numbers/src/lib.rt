@@ -1,16 +1,17 @@
 //! Whole numbers of lanes, and what parts of them come to.
 //!
-//! `Whole` is all numbers of a lane, seen once. `folded` is the exact sum or product of a part of
-//! them, `tally_of` a count of it or whether some or all are not 0, and `extreme_of` the first
-//! place of its least or greatest.
+//! `Whole` is all numbers of a lane where they lie: nothing is copied. `folded` is the exact sum or
+//! product of a part of them, `tally_of` a count of it or whether some or all are not 0, and
+//! `extreme_of` the first place of its least or greatest.
 #![tactic(auto)]
 
 mod extremes;
 mod folds;
+mod row;
 mod tallies;
 mod whole;
 
-pub use extremes::{Extreme, extreme_of, keys_of};
+pub use extremes::{Extreme, extreme_of};
 pub use folds::{Fold, folded};
 pub use tallies::{Tally, tally_of};
 pub use whole::{Whole, whole_of};

@@ -1,71 +1,81 @@
 //! The numbers of a lane, each exact.
-ghost use Rattle.std.specs.Prelude.{◌≡◌, ◌<◌, pos, get_or, length, map, IfOk};
-ghost use Rattle.awk_lanes.specs.Numbers.{element};
-ghost use Rattle.awk_lanes.specs.declared.kind.Kind.TheVariants as Kind;
+ghost use Rattle.std.specs.Prelude.{◌≡◌, ◌-◌, ◌≤◌, length};
+ghost use Rattle.std.specs.List.{slice_range};
 ghost use Rattle.awk_numbers.specs.Folds.{whole_numbers, lane_numbers};
 
-use awk_lanes::{Kind, Lane, NoMemory, Steps, byte_numbers, nats_of, numbers_of};
-use std::alloc::Global;
+use crate::row::{Cells, Row};
+use awk_lanes::{Kind, Lane, Steps, byte_numbers};
 use std::sync::ledger::Ledger;
 
-/// Numbers, none of which needs more than 64 bits.
-#[derive(Drop)]
-pub enum Whole {
-    /// Of either sign.
-    Ints(Vec<i64>),
-    /// None is negative.
-    Nats(Vec<u64>),
+/// Numbers as they lie in a lane, of which none needs more than 64 bits.
+#[derive(Clone, Copy)]
+pub enum Whole<'a> {
+    /// Truth values, each as its byte.
+    Truths(&'a [u8]),
+    I8(&'a [[u8; 1]]),
+    I16(&'a [[u8; 2]]),
+    I32(&'a [[u8; 4]]),
+    I64(&'a [[u8; 8]]),
+    U8(&'a [[u8; 1]]),
+    U16(&'a [[u8; 2]]),
+    U32(&'a [[u8; 4]]),
+    U64(&'a [[u8; 8]]),
 }
 
-/// 1 where a byte is not 0, else 0.
-fn one_if(byte: u8) -> i64
-    ensures { result ≡ element Kind.Bool (pos byte) }
-{
-    if byte == 0 { 0 } else { 1 }
+/// What one pass over numbers tells of them.
+pub(crate) trait Pass {
+    ghost use Rattle.std.specs.Prelude.{ℤ, List};
+
+    type Told;
+
+    /// What is told of numbers.
+    ghost tells: { Self → List ℤ → Self.Told → Type 0 };
+
+    /// What is told of the numbers of a row.
+    fn over<R: Row>(&self, row: &R) -> Self::Told
+        requires few { length (R.numbers row.now) ≤ 1073741824 }
+        ensures { tells self.now (R.numbers row.now) result };
 }
 
-/// Each byte as 1 where it is not 0, else 0.
-fn ones(alloc: Global, bytes: &[u8]) -> Result<Vec<i64>, NoMemory>
-    ensures { IfOk result (λ v. v.items ≡ map (λ b. element Kind.Bool (pos b)) bytes.now) }
+/// The numbers of a lane, where they lie; a truth value counts as 0 or 1.
+pub fn whole_of<'a, L: Ledger>(lane: &Lane<'a>, steps: &mut Steps<L>) -> Whole<'a>
+    ensures numbers { whole_numbers result ≡ lane_numbers lane.now }
 {
-    bytes.iter().map(|b| one_if(*b)).collect(alloc)
-}
-
-/// The numbers of a lane, a truth value as 0 or 1, in one pass.
-pub fn whole_of<L: Ledger>(
-    alloc: Global,
-    lane: &Lane,
-    steps: &mut Steps<L>,
-) -> Result<Whole, NoMemory>
-    ensures numbers { IfOk result (λ w. whole_numbers w ≡ lane_numbers lane.now) }
-{
+    let bytes = lane.bulk(steps);
     match lane.kind() {
-        Kind::U64 => Ok(Whole::Nats(nats_of(alloc, lane, steps)?)),
-        Kind::Bool => Ok(Whole::Ints(ones(alloc, byte_numbers(lane, steps))?)),
-        _ => Ok(Whole::Ints(numbers_of(alloc, lane, steps)?)),
+        Kind::Bool => Whole::Truths(bytes),
+        Kind::I8 => Whole::I8(bytes.as_chunks::<1>().0),
+        Kind::I16 => Whole::I16(bytes.as_chunks::<2>().0),
+        Kind::I32 => Whole::I32(bytes.as_chunks::<4>().0),
+        Kind::I64 => Whole::I64(bytes.as_chunks::<8>().0),
+        Kind::U8 => Whole::U8(bytes.as_chunks::<1>().0),
+        Kind::U16 => Whole::U16(bytes.as_chunks::<2>().0),
+        Kind::U32 => Whole::U32(bytes.as_chunks::<4>().0),
+        Kind::U64 => Whole::U64(bytes.as_chunks::<8>().0),
     }
 }
 
-impl Whole {
-    /// How many there are.
-    pub fn len(&self) -> u64
-        ensures { result ≡ length (whole_numbers self.now) }
+impl<'a> Whole<'a> {
+    /// What a pass tells of the numbers from a start below a stop.
+    pub(crate) fn told<P: Pass>(&self, pass: &P, start: u64, stop: u64) -> P::Told
+        requires order { start ≤ stop }
+        requires within { stop ≤ length (whole_numbers self.now) }
+        requires few { stop - start ≤ 1073741824 }
+        ensures { P.tells pass.now (slice_range (whole_numbers self.now) start stop) result }
     {
+        let part = start as usize..stop as usize;
         match self {
-            Whole::Ints(numbers) => numbers.len() as u64,
-            Whole::Nats(numbers) => numbers.len() as u64,
-        }
-    }
-
-    /// The number at a place.
-    #[inline(always)]
-    pub fn at(&self, i: u64) -> i128
-        requires { i < length (whole_numbers self.now) }
-        ensures { result ≡ get_or (whole_numbers self.now) i (pos 0) }
-    {
-        match self {
-            Whole::Ints(numbers) => i128::from(numbers[i as usize]),
-            Whole::Nats(numbers) => i128::from(numbers[i as usize]),
+            Whole::Truths(bytes) => {
+                pass.over(&Cells::<1, bool>::new(bytes[part].as_chunks::<1>().0))
+            }
+            Whole::I8(groups) => pass.over(&Cells::<1, i8>::new(&groups[part])),
+            Whole::I16(groups) => pass.over(&Cells::<2, i16>::new(&groups[part])),
+            Whole::I32(groups) => pass.over(&Cells::<4, i32>::new(&groups[part])),
+            Whole::I64(groups) => pass.over(&Cells::<8, i64>::new(&groups[part])),
+            Whole::U8(groups) => pass.over(&Cells::<1, u8>::new(&groups[part])),
+            Whole::U16(groups) => pass.over(&Cells::<2, u16>::new(&groups[part])),
+            Whole::U32(groups) => pass.over(&Cells::<4, u32>::new(&groups[part])),
+            Whole::U64(groups) => pass.over(&Cells::<8, u64>::new(&groups[part])),
         }
     }
 }

@@ -7,7 +7,6 @@ ghost use Rattle.awk_parts.specs.Parts.{AreParts};
 
 use crate::fits::fitting;
 use crate::parts::Parts;
-use awk_kernels::Kernels;
 use awk_lanes::{Arena, Lane, LaneMaker, NoMemory, Num, Steps, place_in};
 use awk_layout::kind_of;
 use awk_numbers::{Fold, folded};
@@ -15,12 +14,11 @@ use awk_types::Prim;
 use std::sync::ledger::Ledger;
 
 /// The sum or product of part i as a number of a primitive, if it is one.
-fn fold_at<N: Kernels, L: Ledger>(
+fn fold_at<L: Ledger>(
     how: Fold,
     prim: Prim,
     parts: &Parts,
     i: u64,
-    kernels: &N,
     steps: &mut Steps<L>,
 ) -> Option<Num>
     requires parts { AreParts (whole_numbers parts.now.numbers.now) parts.now.offsets.now
@@ -31,7 +29,7 @@ fn fold_at<N: Kernels, L: Ledger>(
 {
     let start = place_in(parts.offsets, i, steps);
     let stop = place_in(parts.offsets, i + 1, steps);
-    match folded(how, parts.numbers, start, stop, kernels) {
+    match folded(how, parts.numbers, start, stop) {
         Some(z) => fitting(prim, z),
         None => None,
     }
@@ -39,11 +37,10 @@ fn fold_at<N: Kernels, L: Ledger>(
 
 /// The sums or products of parts as numbers of a primitive, or none where one does not fit.
 #[tactic(auto, using(awk_lanes::proofs::MadeLanes::making))]
-pub fn fold_parts<'a, N: Kernels, L: Ledger>(
+pub fn fold_parts<'a, L: Ledger>(
     how: Fold,
     prim: Prim,
     parts: &Parts,
-    kernels: &N,
     arena: &'a Arena,
     steps: &mut Steps<L>,
 ) -> Result<Option<Lane<'a>>, NoMemory>
@@ -55,7 +52,7 @@ pub fn fold_parts<'a, N: Kernels, L: Ledger>(
     let n = parts.count;
     let mut maker = LaneMaker::new(kind_of(prim), n, arena)?;
     for i in 0..n {
-        match fold_at(how, prim, parts, i, kernels, steps) {
+        match fold_at(how, prim, parts, i, steps) {
             Some(number) => maker.push(number),
             None => return Ok(None),
         }

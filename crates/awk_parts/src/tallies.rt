@@ -6,6 +6,7 @@ ghost use Rattle.awk_parts.specs.Lanes.{tallied_at};
 ghost use Rattle.awk_parts.specs.Parts.{AreParts};
 
 use crate::parts::Parts;
+use awk_kernels::Kernels;
 use awk_lanes::{Arena, Kind, Lane, NoMemory, Num, Numbers, Steps, made_lane, place_in};
 use awk_numbers::{Tally, Whole, tally_of};
 use std::sync::ledger::Ledger;
@@ -21,14 +22,15 @@ fn kind_of_tally(how: Tally) -> Kind
 
 /// What is told of each part.
 #[derive(Drop)]
-struct TalliedParts<'b, 'a> {
+struct TalliedParts<'b, 'a, N: Kernels> {
     how: Tally,
-    numbers: &'b Whole,
+    numbers: &'b Whole<'a>,
     offsets: &'b Lane<'a>,
     count: u64,
+    kernels: &'b N,
 }
 
-impl<'b, 'a> Numbers for TalliedParts<'b, 'a> {
+impl<'b, 'a, N: Kernels> Numbers for TalliedParts<'b, 'a, N> {
     ghost use Rattle.awk_numbers.specs.Folds.{whole_numbers, tally_kind};
     ghost use Rattle.awk_parts.specs.Lanes.{tallied_at};
     ghost use Rattle.awk_parts.specs.Parts.{AreParts};
@@ -44,14 +46,15 @@ impl<'b, 'a> Numbers for TalliedParts<'b, 'a> {
     fn number<L: Ledger>(&self, i: u64, steps: &mut Steps<L>) -> Num {
         let start = place_in(self.offsets, i, steps);
         let stop = place_in(self.offsets, i + 1, steps);
-        tally_of(self.how, self.numbers, start, stop)
+        tally_of(self.how, self.numbers, start, stop, self.kernels)
     }
 }
 
 /// What is told of each part, as a lane.
-pub fn tally_parts<'a, L: Ledger>(
+pub fn tally_parts<'a, N: Kernels, L: Ledger>(
     how: Tally,
     parts: &Parts,
+    kernels: &N,
     arena: &'a Arena,
     steps: &mut Steps<L>,
 ) -> Result<Lane<'a>, NoMemory>
@@ -65,6 +68,7 @@ pub fn tally_parts<'a, L: Ledger>(
         numbers: parts.numbers,
         offsets: parts.offsets,
         count: parts.count,
+        kernels,
     };
     made_lane(kind_of_tally(how), parts.count, &tallied, arena, steps)
 }

@@ -1,5 +1,5 @@
 -- Columns of leaves, and of leaves and nulls, by their places.
-use Rattle.std.proofs.Common.{◌≡◌, ℕ, ◌<◌, ◌^◌, arith, refl, ap, sym, ◌∙◌, subst}
+use Rattle.std.proofs.Common.{◌≡◌, ℕ, ◌<◌, ◌^◌, arith, refl, ap, ◌∙◌}
 use Rattle.std.specs.Prelude.{ℤ, pos, ◌<ℤ◌, Bool, true, false, if◌then◌else◌, Option, Some, None}
 use Rattle.std.proofs.lemmas.Int.{ints}
 use Rattle.awk_types.specs.DataType.{leaf, opt}
@@ -8,13 +8,13 @@ use Rattle.awk_types.specs.Value.{Value}
 use Rattle.awk_lanes.specs.Column.{Column}
 use Rattle.awk_lanes.specs.Made.{lane_of}
 use Rattle.awk_lanes.specs.Numbers.{element, is_nonzero}
-use Rattle.awk_lanes.specs.Places.{size_of, at, option_place, option_place_at, IsOptionalIndex}
+use Rattle.awk_lanes.specs.Places.{size_of, option_place, option_place_at, IsOptionalIndex}
 use Rattle.awk_lanes.specs.declared.kind.Kind.{Kind}
 use Rattle.awk_lanes.specs.declared.kind.Kind.TheVariants as kind
 use Rattle.awk_lanes.proofs.MadeLanes.{size-lane_of, at-lane_of}
 use Rattle.awk_layout.specs.Item.{leaf_value, at_option, item}
 use Rattle.awk_layout.specs.Kinds.{primitive_of}
-use Rattle.awk_layout.specs.Layout.{Layout, flat, optional}
+use Rattle.awk_layout.specs.Layout.{flat, optional}
 use Rattle.awk_axis.specs.Mapped.{IsColumn}
 use Rattle.awk_parts.specs.Lanes.{index_or_null, present_at}
 

@@ -1,8 +1,8 @@
 -- What is made of lists, by their items one after another.
 use Rattle.std.specs.Prelude.{◌≡◌, ℕ, zero, suc, ◌+◌, ◌-◌, ◌<◌, ◌≤◌, ◌^◌, refl, true, false, Bool}
-use Rattle.std.specs.Prelude.{not, ◌||◌, nat_lt, List, [], ◌∷◌, length, map, sum, ℤ, pos}
+use Rattle.std.specs.Prelude.{◌||◌, nat_lt, List, [], length, map, sum, pos}
 use Rattle.std.specs.Prelude.{Option, Some, None, if◌then◌else◌, take, drop}
-use Rattle.std.specs.List.{range_with_len, flat_map, list_any, slice_range}
+use Rattle.std.specs.List.{range_with_len, list_any, slice_range}
 use Rattle.std.proofs.Common.{arith, ap, ap₂, sym, ◌∙◌, subst}
 use Rattle.std.proofs.lemmas.Int.{ints}
 use Rattle.std.proofs.lemmas.List.Concat.{length-flat_map}
@@ -29,7 +29,7 @@ use Rattle.awk_gather.specs.Arrays.{array_item}
 use Rattle.awk_columns.specs.Counted.{offset_at}
 use Rattle.awk_columns.specs.Joined.{JoinsLists, total, IsJoined}
 use Rattle.awk_columns.specs.ListClass.{Class}
-use Rattle.awk_columns.specs.Opened.{AreLists, items_at, all_items_at}
+use Rattle.awk_columns.specs.Opened.{items_at, all_items_at}
 use Rattle.awk_columns.specs.declared.lists.Joined.TheVariants.{TooMany}
 use Rattle.awk_columns.proofs.ArrayLaws.{array_items-at}
 use Rattle.awk_axis.specs.Mapped.{IsMade, IsColumn}

@@ -1,39 +1,32 @@
 -- What is made of lists whose items lie one after another: extremes and their places.
-use Rattle.std.proofs.Common.{◌≡◌, ℕ, ◌+◌, ◌-◌, ◌<◌, ◌≤◌, ◌^◌, length, get_or, map, List, [], ◌∷◌}
+use Rattle.std.proofs.Common.{◌≡◌, ℕ, ◌+◌, ◌-◌, ◌<◌, ◌≤◌, length, get_or, List}
 use Rattle.std.proofs.Common.{arith, refl}
-use Rattle.std.proofs.Common.{ap, ap₂, sym, ◌∙◌, subst}
-use Rattle.std.specs.Prelude.{ℤ, pos, Bool, true, false, position, Option, Some, None}
-use Rattle.std.specs.List.{slice_range, range_with_len}
+use Rattle.std.proofs.Common.{ap, sym, ◌∙◌, subst}
+use Rattle.std.specs.Prelude.{ℤ, pos, false, Option, Some, None}
 use Rattle.std.specs.Option.{option_and_then}
-use Rattle.std.specs.Ordering.{int_eq}
-use Rattle.std.proofs.lemmas.Int.{ints}
 use Rattle.std.proofs.lemmas.List.{get_or-map}
 use Rattle.std.proofs.lemmas.List.Edits.{length-between, get_or-between}
 use Rattle.awk_types.specs.DataType.{DataType, leaf, opt}
 use Rattle.awk_types.specs.Value.{Value, int}
-use Rattle.awk_types.specs.declared.primitive.Primitive.{Primitive}
 use Rattle.awk_types.specs.declared.primitive.Primitive.TheVariants as primitive
 use Rattle.awk_lanes.specs.Column.{Column}
 use Rattle.awk_lanes.specs.Made.{lane_of}
-use Rattle.awk_lanes.specs.Numbers.{element, nat_of}
+use Rattle.awk_lanes.specs.Numbers.{element}
 use Rattle.awk_lanes.specs.Places.{size_of, at, place_at, option_place, option_place_at}
-use Rattle.awk_lanes.specs.declared.kind.Kind.{Kind}
 use Rattle.awk_lanes.specs.declared.kind.Kind.TheVariants.{I64}
 use Rattle.awk_lanes.proofs.MadeLanes.{size-lane_of, at-lane_of}
 use Rattle.awk_layout.specs.Item.{leaf_value, at_option}
-use Rattle.awk_layout.specs.Kinds.{kind_of, primitive_of, primitive_of-kind_of}
+use Rattle.awk_layout.specs.Kinds.{primitive_of, primitive_of-kind_of}
 use Rattle.awk_layout.specs.Layout.{Layout, flat, optional}
 use Rattle.awk_layout.specs.Typing.{array_type, array_items}
 use Rattle.awk_axis.specs.Mapped.{IsColumn}
 use Rattle.awk_axis.specs.declared.function.Made.TheVariants as made
 use Rattle.awk_numbers.specs.Folds.{lane_numbers, first_extreme}
-use Rattle.awk_numbers.specs.Keys.{AreKeys}
 use Rattle.awk_numbers.specs.declared.extremes.Extreme.{Extreme}
 use Rattle.awk_numbers.specs.declared.extremes.Extreme.TheVariants.{Least, Greatest}
-use Rattle.awk_numbers.proofs.KeyLaws.{same_extreme}
 use Rattle.awk_parts.specs.Lanes.{place_number, extreme_at, extreme_lane, present_at, number_at}
 use Rattle.awk_parts.specs.Lanes.{number_or_zero, place_or_zero, found_in}
-use Rattle.awk_parts.specs.Lanes.{ArePlaces, ArePlacesIn, AreLocal}
+use Rattle.awk_parts.specs.Lanes.{ArePlacesIn, AreLocal}
 use Rattle.awk_parts.specs.Parts.{part_at}
 use Rattle.awk_present.specs.Numbers.{leaf_of, numbers, number_place, extreme_of, extreme_place}
 use Rattle.awk_present.specs.Present.{list_at, LeadsBack}
@@ -94,23 +87,6 @@ further_is : (start k : ℕ) (o : Option ℕ) → further start o ≡ Some k
     → (q : ℕ) × (o ≡ Some q) × (start + q ≡ k)
 further_is start k None e = cc
 further_is start k (Some q) e = (q, refl, cc)
-
--- the extremes of keys stand where those of the numbers do
-pub extreme_lane-keys : (how : Extreme) (zs keys : List ℤ) (o : Column) (n : ℕ) → AreKeys zs keys
-    → extreme_lane how keys o n ≡ extreme_lane how zs o n
-extreme_lane-keys how zs keys o n h =
-    map-lane (λ i. ap (place_number (place_at o i))
-    (same_extreme how zs keys (place_at o i) (place_at o (i + 1)) h))
-  where
-    map-same : (f g : ℕ → ℤ) → ((i : ℕ) → f i ≡ g i) → (is : List ℕ) → map f is ≡ map g is
-    map-same f g e [] = refl
-    map-same f g e (i ∷ is) = ap₂ (λ z zs. z ∷ zs) (e i) (map-same f g e is)
-
-    map-lane : ((i : ℕ) → extreme_at how keys o i ≡ extreme_at how zs o i)
-        → extreme_lane how keys o n ≡ extreme_lane how zs o n
-    map-lane e =
-        ap (λ zs. record { kind = I64; items = zs })
-        (map-same (extreme_at how keys o) (extreme_at how zs o) e (range_with_len 0 n))
 
 module _ (z : Layout) (o : Column) (n : ℕ) (p : Present) (r : AreReady z o n p) (how : Extreme)
     (e : Column) (ee : e ≡ extreme_lane how (lane_numbers p.lane) p.offsets n) where

@@ -1,8 +1,7 @@
 -- What is made of lists whose items lie one after another: totals and counts.
-use Rattle.std.proofs.Common.{◌≡◌, ℕ, ◌<◌, ◌≤◌, ◌^◌, length, map, arith, refl, ap, ap₂, sym, ◌∙◌}
+use Rattle.std.proofs.Common.{◌≡◌, ℕ, ◌<◌, length, arith, refl, ap, sym, ◌∙◌}
 use Rattle.std.proofs.Common.{subst}
-use Rattle.std.specs.Prelude.{ℤ, pos, Bool, true, false, not, if◌then◌else◌, List, Option, Some}
-use Rattle.std.specs.Prelude.{None}
+use Rattle.std.specs.Prelude.{ℤ, pos, Bool, true, false, not, if◌then◌else◌, List, Some}
 use Rattle.std.proofs.lemmas.List.{length-map}
 use Rattle.awk_types.specs.DataType.{DataType, leaf}
 use Rattle.awk_types.specs.Value.{Value, int, truth}
@@ -13,13 +12,11 @@ use Rattle.awk_lanes.specs.Made.{lane_of}
 use Rattle.awk_lanes.specs.Numbers.{element}
 use Rattle.awk_lanes.specs.Places.{size_of}
 use Rattle.awk_lanes.specs.declared.kind.Kind.TheVariants as kind
-use Rattle.awk_lanes.proofs.MadeLanes.{size-lane_of}
 use Rattle.awk_layout.specs.Item.{leaf_value}
 use Rattle.awk_layout.specs.Kinds.{kind_of, primitive_of, primitive_of-kind_of}
 use Rattle.awk_layout.specs.Layout.{Layout, flat}
 use Rattle.awk_layout.specs.Typing.{array_type, array_items}
 use Rattle.awk_axis.specs.Mapped.{IsColumn}
-use Rattle.awk_axis.specs.declared.causes.Spoil.TheVariants.{Overflow}
 use Rattle.awk_axis.specs.declared.function.Made.TheVariants as made
 use Rattle.awk_numbers.specs.Folds.{lane_numbers, folded, tallied, tally_kind}
 use Rattle.awk_numbers.specs.declared.folds.Fold.{Fold}
@@ -28,7 +25,7 @@ use Rattle.awk_numbers.specs.declared.tallies.Tally.{Tally}
 use Rattle.awk_numbers.specs.declared.tallies.Tally.TheVariants as tally
 use Rattle.awk_parts.specs.Fits.{fits, AreFitting}
 use Rattle.awk_parts.specs.Lanes.{folded_at, tallied_at}
-use Rattle.awk_parts.specs.Parts.{AreRising, AreParts, part_at}
+use Rattle.awk_parts.specs.Parts.{AreRising, AreParts}
 use Rattle.awk_present.specs.Numbers.{leaf_of, numbers}
 use Rattle.awk_present.specs.Present.{list_at}
 use Rattle.awk_present.specs.declared.present.Present.{Present}

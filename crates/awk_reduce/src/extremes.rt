@@ -12,21 +12,18 @@ ghost use Rattle.awk_reduce.specs.Totals.{item_reducer, place_reducer};
 
 use crate::joined::JoinedItems;
 use awk_axis::Made;
-use awk_kernels::Kernels;
 use awk_lanes::{Arena, Lane, Steps, numbers_of};
 use awk_layout::Node;
-use awk_numbers::{Extreme, keys_of};
-use awk_parts::{extreme_places, found, locals, numbers_at, present};
+use awk_numbers::{Extreme, whole_of};
+use awk_parts::{Parts, extreme_places, found, locals, numbers_at, present};
 use awk_types::NoMemory;
 use std::alloc::Global;
 use std::sync::ledger::Ledger;
 
 /// Where among all numbers the least or the greatest of each list stands.
-fn places_of<'a, N: Kernels, L: Ledger>(
-    alloc: Global,
+fn places_of<'a, L: Ledger>(
     how: Extreme,
     x: &JoinedItems<'_, 'a>,
-    kernels: &N,
     arena: &'a Arena,
     steps: &mut Steps<L>,
 ) -> Result<Lane<'a>, NoMemory>
@@ -34,16 +31,13 @@ fn places_of<'a, N: Kernels, L: Ledger>(
     ensures { let numbers = lane_numbers x.now.present.now.lane in
         IfOk result (λ r. r ≡ extreme_lane how numbers x.now.present.now.offsets x.now.count) }
 {
-    let keys = keys_of(alloc, &x.present.lane, steps)?;
-    extreme_places(
-        how,
-        &keys,
-        &x.present.offsets,
-        x.count,
-        kernels,
-        arena,
-        steps,
-    )
+    let numbers = whole_of(&x.present.lane, steps);
+    let parts = Parts {
+        numbers: &numbers,
+        offsets: &x.present.offsets,
+        count: x.count,
+    };
+    extreme_places(how, &parts, arena, steps)
 }
 
 /// Numbers, and null where an index names none.
@@ -81,11 +75,10 @@ fn optional_node<'a, L: Ledger>(
 }
 
 /// The least or the greatest item of each list.
-pub(crate) fn extremes<'a, N: Kernels, L: Ledger>(
+pub(crate) fn extremes<'a, L: Ledger>(
     alloc: Global,
     how: Extreme,
     x: &JoinedItems<'_, 'a>,
-    kernels: &N,
     arena: &'a Arena,
     steps: &mut Steps<L>,
 ) -> Result<Made<'a>, NoMemory>
@@ -93,7 +86,7 @@ pub(crate) fn extremes<'a, N: Kernels, L: Ledger>(
     ensures { IfOk result (AreReduced (item_reducer how) x.now.items.now x.now.offsets.now
         x.now.count) }
 {
-    let places = places_of(alloc, how, x, kernels, arena, steps)?;
+    let places = places_of(how, x, arena, steps)?;
     let numbers = numbers_at(&x.present.lane, &places, arena, steps)?;
     Ok(Made::Singles(optional_node(alloc, &places, numbers, arena, steps)?))
 }
@@ -121,11 +114,10 @@ fn places_in<'a, L: Ledger>(
 }
 
 /// The place of the least or of the greatest item of each list.
-pub(crate) fn extreme_indexes<'a, N: Kernels, L: Ledger>(
+pub(crate) fn extreme_indexes<'a, L: Ledger>(
     alloc: Global,
     how: Extreme,
     x: &JoinedItems<'_, 'a>,
-    kernels: &N,
     arena: &'a Arena,
     steps: &mut Steps<L>,
 ) -> Result<Made<'a>, NoMemory>
@@ -133,7 +125,7 @@ pub(crate) fn extreme_indexes<'a, N: Kernels, L: Ledger>(
     ensures { IfOk result (AreReduced (place_reducer how) x.now.items.now x.now.offsets.now
         x.now.count) }
 {
-    let places = places_of(alloc, how, x, kernels, arena, steps)?;
+    let places = places_of(how, x, arena, steps)?;
     let numbers = places_in(alloc, x, &places, arena, steps)?;
     Ok(Made::Singles(optional_node(alloc, &places, numbers, arena, steps)?))
 }

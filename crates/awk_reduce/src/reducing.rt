@@ -39,16 +39,16 @@ fn reduced<'a, N: Kernels, L: Ledger>(
     ensures { IfOk result (AreReduced how x.now.items.now x.now.offsets.now x.now.count) }
 {
     match how {
-        Reducer::Sum => folds(alloc, Fold::Sum, x, kernels, arena, steps),
-        Reducer::Prod => folds(alloc, Fold::Product, x, kernels, arena, steps),
-        Reducer::Min => extremes(alloc, Extreme::Least, x, kernels, arena, steps),
-        Reducer::Max => extremes(alloc, Extreme::Greatest, x, kernels, arena, steps),
-        Reducer::Argmin => extreme_indexes(alloc, Extreme::Least, x, kernels, arena, steps),
-        Reducer::Argmax => extreme_indexes(alloc, Extreme::Greatest, x, kernels, arena, steps),
-        Reducer::Any => tallies(alloc, Tally::Any, x, arena, steps),
-        Reducer::All => tallies(alloc, Tally::All, x, arena, steps),
-        Reducer::Count => tallies(alloc, Tally::Items, x, arena, steps),
-        Reducer::CountNonzero => tallies(alloc, Tally::Nonzero, x, arena, steps),
+        Reducer::Sum => folds(Fold::Sum, x, arena, steps),
+        Reducer::Prod => folds(Fold::Product, x, arena, steps),
+        Reducer::Min => extremes(alloc, Extreme::Least, x, arena, steps),
+        Reducer::Max => extremes(alloc, Extreme::Greatest, x, arena, steps),
+        Reducer::Argmin => extreme_indexes(alloc, Extreme::Least, x, arena, steps),
+        Reducer::Argmax => extreme_indexes(alloc, Extreme::Greatest, x, arena, steps),
+        Reducer::Any => tallies(Tally::Any, x, kernels, arena, steps),
+        Reducer::All => tallies(Tally::All, x, kernels, arena, steps),
+        Reducer::Count => tallies(Tally::Items, x, kernels, arena, steps),
+        Reducer::CountNonzero => tallies(Tally::Nonzero, x, kernels, arena, steps),
     }
 }
 

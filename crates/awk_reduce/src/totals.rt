@@ -12,15 +12,12 @@ use awk_layout::Node;
 use awk_numbers::{Fold, Tally, whole_of};
 use awk_parts::{Parts, fold_parts, tally_parts};
 use awk_types::NoMemory;
-use std::alloc::Global;
 use std::sync::ledger::Ledger;
 
 /// The sum or product of each list, or that one does not fit its type.
-pub(crate) fn folds<'a, N: Kernels, L: Ledger>(
-    alloc: Global,
+pub(crate) fn folds<'a, L: Ledger>(
     how: Fold,
     x: &JoinedItems<'_, 'a>,
-    kernels: &N,
     arena: &'a Arena,
     steps: &mut Steps<L>,
 ) -> Result<Made<'a>, NoMemory>
@@ -28,24 +25,24 @@ pub(crate) fn folds<'a, N: Kernels, L: Ledger>(
     ensures { IfOk result (AreReduced (fold_reducer how) x.now.items.now x.now.offsets.now
         x.now.count) }
 {
-    let numbers = whole_of(alloc, &x.present.lane, steps)?;
+    let numbers = whole_of(&x.present.lane, steps);
     let parts = Parts {
         numbers: &numbers,
         offsets: &x.present.offsets,
         count: x.count,
     };
     let prim = wide(leaf_of(x.items.typ()));
-    match fold_parts(how, prim, &parts, kernels, arena, steps)? {
+    match fold_parts(how, prim, &parts, arena, steps)? {
         Some(lane) => Ok(Made::Singles(Node::numpy(lane, steps))),
         None => Ok(Made::Spoiled(Spoil::Overflow)),
     }
 }
 
 /// A count of each list, or whether some or all of its items are true or not 0.
-pub(crate) fn tallies<'a, L: Ledger>(
-    alloc: Global,
+pub(crate) fn tallies<'a, N: Kernels, L: Ledger>(
     how: Tally,
     x: &JoinedItems<'_, 'a>,
+    kernels: &N,
     arena: &'a Arena,
     steps: &mut Steps<L>,
 ) -> Result<Made<'a>, NoMemory>
@@ -53,12 +50,12 @@ pub(crate) fn tallies<'a, L: Ledger>(
     ensures { IfOk result (AreReduced (tally_reducer how) x.now.items.now x.now.offsets.now
         x.now.count) }
 {
-    let numbers = whole_of(alloc, &x.present.lane, steps)?;
+    let numbers = whole_of(&x.present.lane, steps);
     let parts = Parts {
         numbers: &numbers,
         offsets: &x.present.offsets,
         count: x.count,
     };
-    let lane = tally_parts(how, &parts, arena, steps)?;
+    let lane = tally_parts(how, &parts, kernels, arena, steps)?;
     Ok(Made::Singles(Node::numpy(lane, steps)))
 }

@@ -1,4 +1,4 @@
-use Rattle.std.proofs.Common.{◌≡◌, arith, rules, ap, sym, ◌∙◌, to_z, of_z, w64}
+use Rattle.std.proofs.Common.{arith, ap, sym, ◌∙◌, w64}
 use Rattle.std.specs.Prelude.{pos, position, FitsSigned}
 use Rattle.std.specs.List.{slice_range}
 use Rattle.std.specs.Ordering.{int_eq}

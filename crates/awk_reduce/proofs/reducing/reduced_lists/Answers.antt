@@ -1,10 +1,10 @@
-use Rattle.std.proofs.Common.{◌≡◌, sym, subst, arith}
+use Rattle.std.proofs.Common.{subst, arith}
 use Rattle.std.specs.Prelude.{◌<◌, ◌^◌}
 use Rattle.std.proofs.lemmas.Result.{IfOk-weaker}
 use Rattle.awk_lanes.specs.Places.{size_of}
 use Rattle.awk_axis.specs.Mapped.{IsMade}
 use Rattle.awk_columns.specs.Joined.{IsJoined}
-use Rattle.awk_columns.specs.declared.lists.Joined.TheVariants.{TooMany, Lists}
+use Rattle.awk_columns.specs.declared.lists.Joined.TheVariants.{Lists}
 use Rattle.awk_reduce.specs.Lists.{AreReduced}
 use Rattle.awk_reduce.specs.Reduce.{reducer_function}
 use Rattle.awk_reduce.proofs.ListLaws.{reduced_spoilt, are_items, made_of_lists}

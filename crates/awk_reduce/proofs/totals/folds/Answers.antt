@@ -23,13 +23,13 @@ pub numpy-requires : goal.numpy-requires
 numpy-requires g c =
     let x = c.args.x.now in
     let fit = some_fits c.wide-prim.result
-    (folded_at c.args.how (whole_numbers c.in_ok-numbers.numbers) x.present.now.offsets) x.count
+    (folded_at c.args.how (whole_numbers c.whole_of-numbers.result) x.present.now.offsets) x.count
     c.in_ok-lane.field-0 c.in-Some.lane c.in-Some.is c.in_ok-lane.ensures in
     omega (
       arith,
       ap size_of fit.1,
       size-lane_of (kind_of c.wide-prim.result) x.count
-          (folded_at c.args.how (whole_numbers c.in_ok-numbers.numbers) x.present.now.offsets),
+          (folded_at c.args.how (whole_numbers c.whole_of-numbers.result) x.present.now.offsets),
       c.requires.fits,
     )
 
@@ -41,8 +41,8 @@ returns-in-Some g c =
     folds_made x.items.now x.offsets.now x.count x.present.now c.requires c.args.how
     c.wide-prim.result c.in-Some.lane c.numpy.result prim
     (subst (λ zs. AreFitting c.wide-prim.result (folded_at c.args.how zs x.present.now.offsets)
-    x.count (Some c.in-Some.lane)) c.in_ok-numbers.ensures.numbers
+    x.count (Some c.in-Some.lane)) c.whole_of-numbers.ensures.numbers
     (some_fits c.wide-prim.result
-    (folded_at c.args.how (whole_numbers c.in_ok-numbers.numbers) x.present.now.offsets) x.count
+    (folded_at c.args.how (whole_numbers c.whole_of-numbers.result) x.present.now.offsets) x.count
     c.in_ok-lane.field-0 c.in-Some.lane c.in-Some.is c.in_ok-lane.ensures))
     c.numpy.ensures.node

@@ -14,7 +14,7 @@ numpy-requires g c =
       arith,
       ap size_of c.in_ok-lane.ensures,
       size-lane_of (tally_kind c.args.how) x.count
-          (tallied_at c.args.how (whole_numbers c.in_ok-numbers.numbers) x.present.now.offsets),
+          (tallied_at c.args.how (whole_numbers c.whole_of-numbers.result) x.present.now.offsets),
       c.requires.fits,
     )
 
@@ -25,5 +25,5 @@ returns g c =
     c.in_ok-lane.lane c.numpy.result
     (c.in_ok-lane.ensures
     ∙ ap (λ zs. lane_of (tally_kind c.args.how) x.count
-    (tallied_at c.args.how zs x.present.now.offsets)) c.in_ok-numbers.ensures.numbers)
+    (tallied_at c.args.how zs x.present.now.offsets)) c.whole_of-numbers.ensures.numbers)
     c.numpy.ensures.node

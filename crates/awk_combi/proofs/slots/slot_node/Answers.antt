@@ -1,0 +1,13 @@
+use Rattle.std.proofs.Common.{◌≡◌, sym, ap, ◌∙◌, subst}
+use Rattle.awk_layout.specs.Layout.{flat}
+use Rattle.awk_layout.specs.Valid.{len}
+use Rattle.awk_combi.specs.Slots.{IsSlot, IsSlotLane}
+use Rattle.awk_combi.proofs.SlotNodes.{place_slot}
+use Rattle.awk_combi.proofs.slots.slot_node.Goals as goal
+
+pub returns-then-places : goal.returns-then-places
+returns-then-places g c =
+    let h = subst (λ b. IsSlotLane b (len c.args.content.now) c.args.lane.now) c.if-places.true
+    c.requires in
+    rw (c.if-places.true, c.numpy.ensures.node, c.copy.ensures)
+    (place_slot c.args.content.now (len c.args.content.now) c.args.lane.now h)

@@ -1,0 +1,12 @@
+//! Tuples of the items of lists at places that go up.
+//!
+//! `combinations` gives, for each list at an axis, the tuples of its items or of their places.
+#![tactic(auto)]
+
+mod combining;
+mod slots;
+mod spans;
+mod tuples;
+mod typing;
+
+pub use combining::combinations;

@@ -1,0 +1,91 @@
+//! Lanes of places and arrays of what stands there, one a slot.
+ghost use Rattle.std.specs.Prelude.{◌≡◌, ◌<◌, ◌≤◌, ◌^◌, length, IfOk};
+ghost use Rattle.awk_layout.specs.Valid.{len};
+ghost use Rattle.awk_combi.specs.Slots.{IsSlot, IsSlotLane, AreSlots, AreSlotLanes, ArePlaced};
+
+use crate::spans::{end_lane, first_lane};
+use awk_columns::Lists;
+use awk_gather::gather;
+use awk_lanes::{Arena, Lane, Lanes, Steps};
+use awk_layout::{Array, Node, Nodes};
+use awk_places::{Rising, rising_lanes, rising_offsets};
+use awk_types::NoMemory;
+use std::alloc::Global;
+use std::sync::ledger::Ledger;
+
+/// Where the tuples of lists lie, and the places in each slot of all of them.
+#[derive(Drop)]
+pub(crate) struct Placed<'a> {
+    pub(crate) total: u64,
+    pub(crate) offsets: Lane<'a>,
+    pub(crate) lanes: Lanes<'a>,
+}
+
+/// The places of all tuples of lists, in the content or in each list by itself. None where the
+/// tuples are more than the limit of a column, and then no tuple is made.
+pub(crate) fn tuple_places<'a, L: Ledger>(
+    alloc: Global,
+    places: bool,
+    rising: Rising,
+    lists: &Lists<'a>,
+    arena: &'a Arena,
+    steps: &mut Steps<L>,
+) -> Result<Option<Placed<'a>>, NoMemory>
+    ensures { IfOk result (ArePlaced places rising.replacement rising.slots lists.now.starts
+        lists.now.stops) }
+{
+    let firsts = first_lane(places, lists, arena, steps)?;
+    let ends = end_lane(places, lists, arena, steps)?;
+    let _ = lists.len();
+    match rising_offsets(rising, &firsts, &ends, arena, steps)? {
+        None => Ok(None),
+        Some(offsets) => {
+            let total = offsets.total;
+            let lanes = rising_lanes(alloc, rising, total, &firsts, &ends, arena, steps)?;
+            Ok(Some(Placed {
+                total,
+                offsets: offsets.lane,
+                lanes,
+            }))
+        }
+    }
+}
+
+/// What stands in a slot, by its places.
+fn slot_node<'a, L: Ledger>(
+    alloc: Global,
+    places: bool,
+    content: &Array<'a>,
+    lane: &Lane<'a>,
+    arena: &'a Arena,
+    steps: &mut Steps<L>,
+) -> Result<Node<'a>, NoMemory>
+    requires { IsSlotLane places (len content.now) lane.now }
+    ensures { IfOk result (IsSlot places content.now lane.now) }
+{
+    if places {
+        return Ok(Node::numpy(lane.copy(), steps));
+    }
+    let items = gather(alloc, content, lane, arena, steps)?;
+    let _ = items.len();
+    Ok(items.into_node())
+}
+
+/// What stands in each slot.
+pub(crate) fn slot_nodes<'a, L: Ledger>(
+    alloc: Global,
+    places: bool,
+    content: &Array<'a>,
+    lanes: &Lanes<'a>,
+    arena: &'a Arena,
+    steps: &mut Steps<L>,
+) -> Result<Nodes<'a>, NoMemory>
+    requires { AreSlotLanes places (len content.now) lanes.now }
+    ensures { IfOk result (AreSlots places content.now lanes.now (length lanes.now)) }
+{
+    let mut nodes = Nodes::new(alloc);
+    for j in 0..lanes.len() {
+        nodes.push(slot_node(alloc, places, content, lanes.get(j), arena, steps)?)?;
+    }
+    Ok(nodes)
+}

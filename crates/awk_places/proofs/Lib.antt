@@ -1,0 +1,8 @@
+mod WorkedPlaces
+pub mod RisingLaws
+pub mod Paths
+pub mod Levels
+pub mod FlatLaws
+pub mod BegunLaws
+pub mod SlotLaws
+pub mod LevelSteps

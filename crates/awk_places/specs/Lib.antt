@@ -1,0 +1,4 @@
+pub mod Places
+pub mod Paths
+pub mod Slots
+pub mod Begun

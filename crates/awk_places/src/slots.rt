@@ -1,0 +1,130 @@
+//! Lanes of the places of tuples, one a slot.
+ghost use Rattle.std.specs.Prelude.{◌≡◌, ◌<◌, ◌≤◌, ◌^◌, [], IfOk};
+ghost use Rattle.awk_types.specs.ItemLimit.{item_limit};
+ghost use Rattle.awk_lanes.specs.Counted.{before, AreOffsetsBy};
+ghost use Rattle.awk_lanes.specs.Places.{size_of};
+ghost use Rattle.awk_places.specs.Places.{IsCounted};
+ghost use Rattle.awk_places.specs.Slots.{ArePlaces, tuple_count, slot_lanes};
+
+use crate::begun::{Begun, last_slot, longer, slot_of};
+use crate::counts::count_rising;
+use crate::reading::place_of;
+use awk_lanes::{Arena, Kind, Lane, LaneMaker, Lanes, Offsets, Steps, number};
+use awk_types::{ITEM_LIMIT, NoMemory};
+use std::alloc::Global;
+use std::sync::ledger::Ledger;
+
+/// Tuples whose places go up: so many in a tuple, and whether they may repeat.
+#[derive(Clone, Copy, Debug, PartialEq, Eq)]
+pub struct Rising {
+    pub replacement: bool,
+    pub slots: u64,
+}
+
+/// How many tuples list i has, or none where they are more than the limit of a column.
+fn count_at<L: Ledger>(
+    rising: Rising,
+    firsts: &Lane,
+    ends: &Lane,
+    i: u64,
+    steps: &mut Steps<L>,
+) -> Option<u64>
+    requires places { ArePlaces firsts.now ends.now }
+    requires within { i < size_of firsts.now }
+    ensures { IsCounted
+        (tuple_count rising.replacement rising.slots firsts.now ends.now i) result }
+{
+    let first = place_of(firsts, i, steps);
+    let end = place_of(ends, i, steps);
+    count_rising(rising.replacement, rising.slots, end.saturating_sub(first))
+}
+
+/// Where the tuples of each list lie among those of all lists, or none where they are more than the
+/// limit of a column. The places of list i are those from the i-th of `firsts` below the i-th of
+/// `ends`. No tuple is made.
+pub fn rising_offsets<'a, L: Ledger>(
+    rising: Rising,
+    firsts: &Lane,
+    ends: &Lane,
+    arena: &'a Arena,
+    steps: &mut Steps<L>,
+) -> Result<Option<Offsets<'a>>, NoMemory>
+    requires places { ArePlaces firsts.now ends.now }
+    requires fits { size_of firsts.now < 2 ^ 63 }
+    ensures { IfOk result (AreOffsetsBy item_limit
+        (tuple_count rising.replacement rising.slots firsts.now ends.now) (size_of firsts.now)) }
+{
+    let n = firsts.len();
+    let mut maker = LaneMaker::new(Kind::I64, n + 1, arena)?;
+    maker.push(number(0));
+    let mut total = 0;
+    for i in 0..n {
+        let Some(count) = count_at(rising, firsts, ends, i, steps) else {
+            return Ok(None);
+        };
+        if count > ITEM_LIMIT - total {
+            return Ok(None);
+        }
+        total += count;
+        maker.push(number(total));
+    }
+    Ok(Some(Offsets {
+        lane: maker.finish(),
+        total,
+    }))
+}
+
+/// The places of all tuples of all lists, in lexicographic order: a lane for each slot.
+pub fn rising_lanes<'a, L: Ledger>(
+    alloc: Global,
+    rising: Rising,
+    total: u64,
+    firsts: &Lane<'a>,
+    ends: &Lane<'a>,
+    arena: &'a Arena,
+    steps: &mut Steps<L>,
+) -> Result<Lanes<'a>, NoMemory>
+    requires places { ArePlaces firsts.now ends.now }
+    requires total { total ≡ before
+        (tuple_count rising.replacement rising.slots firsts.now ends.now) (size_of firsts.now) }
+    requires few { total ≤ item_limit }
+    ensures { IfOk result (λ r.
+        r ≡ slot_lanes rising.replacement rising.slots firsts.now ends.now) }
+{
+    if rising.slots == 0 {
+        return Ok(Lanes::new(alloc));
+    }
+    some_lanes(alloc, rising, total, firsts, ends, arena, steps)
+}
+
+/// The same, where a tuple has a slot.
+fn some_lanes<'a, L: Ledger>(
+    alloc: Global,
+    rising: Rising,
+    total: u64,
+    firsts: &Lane<'a>,
+    ends: &Lane<'a>,
+    arena: &'a Arena,
+    steps: &mut Steps<L>,
+) -> Result<Lanes<'a>, NoMemory>
+    requires some { 0 < rising.slots }
+    requires places { ArePlaces firsts.now ends.now }
+    requires total { total ≡ before
+        (tuple_count rising.replacement rising.slots firsts.now ends.now) (size_of firsts.now) }
+    requires few { total ≤ item_limit }
+    ensures { IfOk result (λ r.
+        r ≡ slot_lanes rising.replacement rising.slots firsts.now ends.now) }
+{
+    let mut lanes = Lanes::new(alloc);
+    let mut begun = Begun {
+        leasts: firsts.copy(),
+        stops: ends.copy(),
+    };
+    for slot in 0..rising.slots - 1 {
+        let left = rising.slots - 1 - slot;
+        begun = longer(rising.replacement, left, &begun, arena, steps)?;
+        lanes.push(slot_of(rising.replacement, left, total, &begun, arena, steps)?)?;
+    }
+    lanes.push(last_slot(total, &begun, arena, steps)?)?;
+    Ok(lanes)
+}
