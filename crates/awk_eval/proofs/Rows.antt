@@ -14,7 +14,7 @@ use Rattle.awk_query.specs.declared.kind.ArgKind.{ArgKind}
 use Rattle.awk_query.specs.declared.kind.ArgKind.TheVariants as kind
 use Rattle.awk_query.specs.declared.fixed.FixedArg.{FixedArg}
 use Rattle.awk_query.specs.declared.fixed.FixedArg.TheVariants.{Place, Count, Missing, Truth, Text}
-use Rattle.awk_query.specs.declared.fixed.FixedArg.TheVariants.{Texts}
+use Rattle.awk_query.specs.declared.fixed.FixedArg.TheVariants.{Texts, Wholes}
 use Rattle.awk_eval.specs.Fixed.{texts_in}
 
 -- ---- what is so of each row is so of the one that is found
@@ -64,6 +64,7 @@ distinct_texts (Count n) ns h e = absurd (cc)
 distinct_texts Missing ns h e = absurd (cc)
 distinct_texts (Truth b) ns h e = absurd (cc)
 distinct_texts (Text n) ns h e = absurd (cc)
+distinct_texts (Wholes zs) ns h e = absurd (cc)
 
 distinct_given : (ks : List ArgKind) (n : ℕ) (fixed : List FixedArg) (ns : List Name)
     → takes_texts op.Fields ks ≡ true → AreArguments ks n fixed → texts_in fixed ≡ Some ns

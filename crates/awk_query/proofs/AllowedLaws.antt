@@ -1,20 +1,24 @@
 -- What is read is allowed.
 use Rattle.std.proofs.Common.{◌≡◌, ℕ, zero, suc, ℤ, pos, negsuc, Bool, true, false, cond, List, [], ◌∷◌, map, length, length-append, Option, Some, None, option_map, option_and_then, is_some, refl, sym, ap, ◌∙◌, subst, arith}
+use Rattle.std.specs.Prelude.{◌&&◌}
+use Rattle.std.specs.List.{list_all}
 use Rattle.std.proofs.lemmas.List.{length-map}
-use Rattle.serde_json.specs.Data.{Data, null, boolean, number, string, array, object, depth}
-use Rattle.serde_json.specs.Find.{as_str, as_bool, as_integer}
+use Rattle.serde_json.specs.Data.{Data, Num, null, boolean, number, string, array, object, depth}
+use Rattle.serde_json.specs.Find.{as_str, as_bool, as_number, as_integer}
 use Rattle.awk_types.specs.DataType.{Name}
 use Rattle.awk_types.specs.Names.{is_among, are_distinct}
 use Rattle.awk_query.specs.Allowed.{is_of_kind, IsFixed, IsArgument, AreArguments, HasArguments, IsAllowed, AreAllowed}
-use Rattle.awk_query.specs.Arguments.{Args, both, of_fixed, i64_in, u64_in, items_in, item_list, not_zero, some_count, step_in, some_count_in, primitives, primitive_name, primitive_in, bound_in, all_of, if_distinct, texts_in, pair_in, some_exprs, names_and_exprs, named_exprs, fixed_of, part_of, args_of}
+use Rattle.awk_query.specs.Arguments.{Args, both, of_fixed, i64_in, u64_in, items_in, item_list, not_zero, some_count, step_in, some_count_in, primitives, primitive_name, primitive_in, bound_in, all_of, edges_in, if_distinct, texts_in, pair_in, some_exprs, names_and_exprs, named_exprs, fixed_of, part_of, args_of}
 use Rattle.awk_query.specs.ExprTree as tree
 use Rattle.awk_query.specs.ExprTree.{ExprTree, exprs_from, expr_list}
 use Rattle.awk_query.specs.Operations.{Found, row_of}
-use Rattle.awk_query.specs.Reading.{is_whole, if_whole, whole_in, Head, var, whole, truth, call, call_head, list_head, head_of, expr_with, expr_down, expr_said}
+use Rattle.awk_query.specs.WholeNumbers.{is_whole, if_whole, whole_in, whole_of, are_edges}
+use Rattle.awk_query.specs.WholeNumbers.{if_edges}
+use Rattle.awk_query.specs.Reading.{Head, var, whole, truth, call, call_head, list_head, head_of, expr_with, expr_down, expr_said}
 use Rattle.awk_query.specs.declared.kind.ArgKind.{ArgKind}
 use Rattle.awk_query.specs.declared.kind.ArgKind.TheVariants as kind
 use Rattle.awk_query.specs.declared.fixed.FixedArg.{FixedArg}
-use Rattle.awk_query.specs.declared.fixed.FixedArg.TheVariants.{Place, Count, Truth, Text, Texts}
+use Rattle.awk_query.specs.declared.fixed.FixedArg.TheVariants.{Place, Count, Truth, Text, Texts, Wholes}
 
 -- what is there is so
 abbrev pub May : {A : Type 0} → (A → Type 0) → Option A → Type 0
@@ -75,6 +79,39 @@ primitive-is : (name : Name) → May (λ n. is_among n primitives ≡ true) (pri
 primitive-is name =
     may-if (λ n. is_among n primitives ≡ true) name (is_among name primitives) (λ e. e)
 
+whole-is : (z : ℤ) → May (λ y. is_whole y ≡ true) (if_whole z)
+whole-is z = may-if (λ y. is_whole y ≡ true) z (is_whole z) (λ e. e)
+
+whole_in-is : (n : Num) → May (λ z. is_whole z ≡ true) (whole_in n)
+whole_in-is n = may-then (λ z. is_whole z ≡ true) if_whole whole-is (as_integer n)
+
+whole_of-is : (d : Data) → May (λ z. is_whole z ≡ true) (whole_of d)
+whole_of-is d = may-then (λ z. is_whole z ≡ true) whole_in whole_in-is (as_number d)
+
+abbrev AreWhole : List ℤ → Type 0
+AreWhole zs = list_all is_whole zs ≡ true
+
+wholes-are : (ds : List Data) → May AreWhole (all_of whole_of ds)
+wholes-are [] = refl
+wholes-are (d ∷ ds) =
+    may-then-of (λ z. is_whole z ≡ true) AreWhole
+    (λ z. option_map (λ zs. z ∷ zs) (all_of whole_of ds)) (λ z h.
+    may-map-of AreWhole AreWhole (λ zs. z ∷ zs) (λ zs k. rw (h, k) refl) (all_of whole_of ds)
+    (wholes-are ds))
+    (whole_of d) (whole_of-is d)
+
+abbrev AreGiven : List ℤ → Type 0
+AreGiven zs = (are_edges zs && list_all is_whole zs) ≡ true
+
+edges-are : (zs : List ℤ) → AreWhole zs → May AreGiven (if_edges zs)
+edges-are zs h = may-if AreGiven zs (are_edges zs) (λ e. rw (e, h) refl)
+
+edges_in-are : (d : Data) → May AreGiven (edges_in d)
+edges_in-are d =
+    may-then-of AreWhole AreGiven if_edges edges-are
+    (option_and_then (all_of whole_of) (items_in d))
+    (may-then AreWhole (all_of whole_of) wholes-are (items_in d))
+
 fixed-is : (k : ArgKind) (d : Data) → May (IsKind k) (fixed_of k d)
 fixed-is kind.Place d = may-map (IsKind kind.Place) Place (λ z. refl) (i64_in d)
 fixed-is kind.Bound d = bound-is d
@@ -96,6 +133,8 @@ fixed-is kind.Primitive d =
     may-map-of (λ n. is_among n primitives ≡ true) (IsKind kind.Primitive) Text (λ n h. h)
     (primitive_in d)
     (may-then (λ n. is_among n primitives ≡ true) primitive_name primitive-is (as_str d))
+fixed-is kind.Edges d =
+    may-map-of AreGiven (IsKind kind.Edges) Wholes (λ zs h. h) (edges_in d) (edges_in-are d)
 fixed-is kind.Expr d = tt
 fixed-is kind.Exprs d = tt
 fixed-is kind.NamedExprs d = tt
@@ -150,6 +189,7 @@ part-is kind.Truth d = fixed-part kind.Truth d
 part-is kind.Text d = fixed-part kind.Text d
 part-is kind.Texts d = fixed-part kind.Texts d
 part-is kind.Primitive d = fixed-part kind.Primitive d
+part-is kind.Edges d = fixed-part kind.Edges d
 
 abbrev Are : List ArgKind → Args → Type 0
 Are ks a = AreArguments ks (length a.exprs) a.fixed
@@ -198,15 +238,12 @@ list-is (d ∷ ds) = by (as_str d)
     by None = tt
     by (Some name) = row-is name (length ds) ds (row_of name (length ds)) refl
 
-whole-is : (z : ℤ) → May (λ y. is_whole y ≡ true) (if_whole z)
-whole-is z = may-if (λ y. is_whole y ≡ true) z (is_whole z) (λ e. e)
-
 head-is : (d : Data) → May IsHead (head_of d)
 head-is null = tt
 head-is (boolean b) = tt
 head-is (number n) =
     may-map-of (λ z. is_whole z ≡ true) IsHead whole (λ z h. h) (whole_in n)
-    (may-then (λ z. is_whole z ≡ true) if_whole whole-is (as_integer n))
+    (whole_in-is n)
 head-is (string s) = tt
 head-is (array ds) = list-is (item_list ds)
 head-is (object ms) = tt

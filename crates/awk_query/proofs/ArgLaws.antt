@@ -105,6 +105,7 @@ part-fixed kind.Truth d p q r = refl
 part-fixed kind.Text d p q r = refl
 part-fixed kind.Texts d p q r = refl
 part-fixed kind.Primitive d p q r = refl
+part-fixed kind.Edges d p q r = refl
 
 pub fixed-done : (exprs : List Data) (fixed new : List FixedArg) (o : Option FixedArg)
     (a : FixedArg) → or_query o ≡ Ok a → new ≡ fixed ++ a ∷ []

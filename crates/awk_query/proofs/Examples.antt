@@ -10,7 +10,8 @@ use Rattle.awk_query.specs.Operations.{row_of}
 use Rattle.awk_query.specs.Reading.{expr_said}
 use Rattle.awk_query.specs.declared.op.Op.TheVariants as op
 use Rattle.awk_query.specs.declared.fixed.FixedArg.{FixedArg}
-use Rattle.awk_query.specs.declared.fixed.FixedArg.TheVariants.{Place, Count, Missing, Truth, Text, Texts}
+use Rattle.awk_query.specs.declared.fixed.FixedArg.TheVariants.{Place, Count, Missing, Truth, Text}
+use Rattle.awk_query.specs.declared.fixed.FixedArg.TheVariants.{Texts, Wholes}
 
 -- ---- arguments
 
@@ -97,6 +98,20 @@ a_primitive =
           text (codes "int") ∷ text (codes "float64") ∷ nat 8 ∷ [];
     }
 
+-- at least two that rise, each kept as u64 or i64
+abbrev some_edges : Sample
+some_edges = record {
+  good = list_of (minus (negsuc 0) ∷ nat 0 ∷ nat 18446744073709551615 ∷ []);
+  bad =
+      list_of []
+      ∷ list_of (nat 1 ∷ [])
+      ∷ list_of (nat 1 ∷ nat 1 ∷ [])
+      ∷ list_of (nat 1 ∷ nat 3 ∷ nat 2 ∷ [])
+      ∷ list_of (nat 1 ∷ null ∷ [])
+      ∷ nat 1
+      ∷ [];
+}
+
 -- ---- calls
 
 abbrev goods : List Sample → List Data
@@ -160,6 +175,9 @@ y_and_x = Texts (codes "y" ∷ codes "x" ∷ [])
 
 abbrev int8 : FixedArg
 int8 = Text (codes "int8")
+
+abbrev edges : FixedArg
+edges = Wholes (negsuc 0 ∷ pos 0 ∷ pos 18446744073709551615 ∷ [])
 
 abbrev examples : List Example
 examples =
@@ -228,6 +246,10 @@ examples =
       a_number ∷ a_truth ∷ a_place ∷ an_expr ∷ [],
       call op.Argcombinations x1 (first ∷ yes ∷ one ∷ []),
     ) ∷
+    (codes "sort", an_expr ∷ a_truth ∷ [], call op.Sort x1 (yes ∷ [])) ∷
+    (codes "argsort", an_expr ∷ a_truth ∷ [], call op.Argsort x1 (yes ∷ [])) ∷
+    (codes "hist", an_expr ∷ some_edges ∷ [], call op.Hist x1 (edges ∷ [])) ∷
+    (codes "hist_each", an_expr ∷ some_edges ∷ [], call op.HistEach x1 (edges ∷ [])) ∷
     []
 
 pub are_read : map (λ e. said e.0 (goods e.1)) examples ≡ map (λ e. Some e.2) examples

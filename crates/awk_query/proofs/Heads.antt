@@ -10,7 +10,8 @@ use Rattle.serde_json.specs.declared.value.Value.TheVariants as value
 use Rattle.awk_query.specs.Arguments.{Args, all_of}
 use Rattle.awk_query.specs.ExprTree as tree
 use Rattle.awk_query.specs.ExprTree.{ExprTree, exprs_from}
-use Rattle.awk_query.specs.Reading.{Head, whole, call, list_head, head_of, expr_with, expr_said, whole_in, whole_said}
+use Rattle.awk_query.specs.Reading.{Head, whole, call, list_head, head_of, expr_with, expr_said, whole_said}
+use Rattle.awk_query.specs.WholeNumbers.{whole_in}
 use Rattle.awk_query.specs.View.{expr_of, exprs_of}
 use Rattle.awk_query.specs.declared.op.Op.{Op}
 use Rattle.awk_query.specs.declared.fixed.Fixed.{Fixed}

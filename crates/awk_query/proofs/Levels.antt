@@ -12,7 +12,8 @@ use Rattle.awk_query.specs.declared.fixed.FixedArg.TheVariants.{Texts}
 use Rattle.awk_query.specs.Arguments.{Args, both, of_fixed, item_list, items_in, all_of, pair_in, some_exprs, names_and_exprs, named_exprs, if_distinct, fixed_of, part_of, args_of}
 use Rattle.awk_query.specs.ExprTree as tree
 use Rattle.awk_query.specs.ExprTree.{ExprTree}
-use Rattle.awk_query.specs.Reading.{Head, var, whole, truth, call, call_head, list_head, head_of, expr_with, expr_down, expr_said, whole_in}
+use Rattle.awk_query.specs.Reading.{Head, var, whole, truth, call, call_head, list_head, head_of, expr_with, expr_down, expr_said}
+use Rattle.awk_query.specs.WholeNumbers.{whole_in}
 
 -- one more than the greatest depth, or 0
 abbrev pub levels : List Data → ℕ
@@ -132,6 +133,7 @@ part-shallow kind.Truth d = fixed-shallow _ (fixed_of kind.Truth d)
 part-shallow kind.Text d = fixed-shallow _ (fixed_of kind.Text d)
 part-shallow kind.Texts d = fixed-shallow _ (fixed_of kind.Texts d)
 part-shallow kind.Primitive d = fixed-shallow _ (fixed_of kind.Primitive d)
+part-shallow kind.Edges d = fixed-shallow _ (fixed_of kind.Edges d)
 
 join : (n m k : ℕ) (o p : Option Args) → Shallow n o → Shallow m p → n ≤ k → m ≤ k
     → Shallow k (option_and_then (λ a. option_map (both a) p) o)

@@ -1,5 +1,6 @@
 pub mod Views
 pub mod Lists
+pub mod Rising
 pub mod Levels
 pub mod Heads
 pub mod ArgLaws

@@ -1,25 +1,32 @@
 -- Worked lines, computed from their bytes.
-use Rattle.std.proofs.Common.{◌≡◌, ℕ, pos, negsuc, true, List, [], ◌∷◌, map, codes, Result, Ok, Err, refl}
-use Rattle.serde_json.specs.Data.{string, null, no_members, member}
+use Rattle.std.proofs.Common.{◌≡◌, ℕ, pos, negsuc, true, false, List, [], ◌∷◌, map, codes, Result, Ok, Err, refl}
+use Rattle.serde_json.specs.Data.{string, number, null, array, item, no_items}
+use Rattle.serde_json.specs.Data.{no_members, member, unsigned}
 use Rattle.serde_json.specs.Read.{read}
 use Rattle.serde_json.proofs.OnLiterals.{serde_json_on_literals}
 use Rattle.awk_query.specs.ExprTree.{ExprTree, var, whole, truth, call, no_exprs, expr}
-use Rattle.awk_query.specs.Line.{Line, load, bind, show, type_of, pack, names, or_json, line_or_unread}
+use Rattle.awk_query.specs.Line.{Line, load, texts, parts, session, bind, values, show, type_of}
+use Rattle.awk_query.specs.Line.{pack, names, or_json, line_or_unread}
 use Rattle.awk_query.specs.Operations.{row_of}
 use Rattle.awk_query.specs.Reading.{expr_said}
 use Rattle.awk_query.specs.Told.{Unread, json, query}
 use Rattle.awk_query.specs.declared.op.Op.TheVariants as op
+use Rattle.awk_query.specs.declared.reading.Reading.{Reading}
+use Rattle.awk_query.specs.declared.reading.Reading.TheVariants.{First, One, Two}
 use Rattle.awk_query.specs.declared.fixed.FixedArg.TheVariants.{Place, Text}
 
 abbrev x : ExprTree
 x = var (codes "x")
 
 -- what a line of UTF-8 is read as
+abbrev read_as : Reading → List ℕ → Result Line Unread
+read_as reading text = line_or_unread reading (or_json (read text))
+
 abbrev line_in : List ℕ → Result Line Unread
-line_in text = line_or_unread (or_json (read text))
+line_in = read_as One
 
 abbrev said : List (List ℕ) → List (Result Line Unread)
-said texts = map line_in texts
+said = map line_in
 
 -- ---- numbers
 
@@ -95,7 +102,8 @@ lines = refl
 
 pub loads :
     line_in (codes "{\"buffers\":{\"k\":\"AA==\"},\"form\":null,\"load\":\"x\",\"length\":3}")
-    ≡ Ok (load (codes "x") null 3 (member (codes "k") (string (codes "AA==")) no_members))
+    ≡ Ok (load (codes "x") null 3 false
+    (texts (member (codes "k") (string (codes "AA==")) no_members)))
 unfolding serde_json_on_literals row_of expr_said
 loads = refl
 
@@ -119,6 +127,53 @@ pub no_lines :
     ∷ Err query ∷ Err query ∷ Err query ∷ Err query ∷ Err query ∷ Err query ∷ []
 unfolding serde_json_on_literals row_of expr_said
 no_lines = refl
+
+-- ---- readings
+
+abbrev version_2 : List ℕ
+version_2 = codes "{\"session\":2}"
+
+-- the line that begins version 2 stands first
+pub session_lines :
+    read_as First version_2 ∷ read_as One version_2 ∷ read_as Two version_2
+    ∷ read_as First (codes "{\"session\":1}") ∷ []
+    ≡ Ok session ∷ Err query ∷ Err query ∷ Err query ∷ []
+unfolding serde_json_on_literals row_of expr_said
+session_lines = refl
+
+abbrev raw_load : List ℕ
+raw_load =
+    codes "{\"load\":\"x\",\"form\":null,\"length\":1,\"byteorder\":\">\",\"raw\":[[\"k\",16]]}"
+
+pub raw_loads :
+    read_as Two raw_load ∷ read_as One raw_load ∷ []
+    ≡ Ok (load (codes "x") null 1 true (parts (record { key = codes "k"; count = 16 } ∷ [])))
+    ∷ Err query ∷ []
+unfolding serde_json_on_literals row_of expr_said
+raw_loads = refl
+
+-- a key twice, a count below 0, an order that is none, bytes without an order
+pub no_raw_loads :
+    map (read_as Two) (
+    codes "{\"load\":\"x\",\"form\":1,\"length\":1,\"byteorder\":\"<\",\"raw\":[[\"k\",1],[\"k\",2]]}"
+    ∷ codes "{\"load\":\"x\",\"form\":1,\"length\":1,\"byteorder\":\"<\",\"raw\":[[\"k\",-1]]}"
+    ∷ codes "{\"load\":\"x\",\"form\":1,\"length\":1,\"byteorder\":\"=\",\"raw\":[]}"
+    ∷ codes "{\"load\":\"x\",\"form\":1,\"length\":1,\"raw\":[]}"
+    ∷ [])
+    ≡ Err query ∷ Err query ∷ Err query ∷ Err query ∷ []
+unfolding serde_json_on_literals row_of expr_said
+no_raw_loads = refl
+
+pub values_lines :
+    said (
+    codes "{\"from\":[1],\"values\":\"x\"}"
+    ∷ codes "{\"values\":\"x\",\"from\":3}"
+    ∷ codes "{\"values\":\"\",\"from\":[]}"
+    ∷ [])
+    ≡ Ok (values (codes "x") (array (item (number (unsigned 1)) no_items)))
+    ∷ Err query ∷ Err query ∷ []
+unfolding serde_json_on_literals row_of expr_said
+values_lines = refl
 
 pub no_json :
     said ([] ∷ codes "{" ∷ codes "{\"show\":1} 2" ∷ [])

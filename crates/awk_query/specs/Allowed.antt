@@ -1,18 +1,21 @@
 -- Which expressions evaluation takes: each call has the arguments of its operation within their
 -- bounds, and each whole number fits i64 or u64.
-use Rattle.std.specs.Prelude.{◌≡◌, ◌<◌, ℕ, ◌+◌, Bool, true, false, List, [], ◌∷◌, ◌++◌, length, Some, is_some}
+use Rattle.std.specs.Prelude.{◌≡◌, ◌<◌, ℕ, ◌+◌, Bool, true, false, ◌&&◌, List, [], ◌∷◌, ◌++◌}
+use Rattle.std.specs.Prelude.{length, Some, is_some}
+use Rattle.std.specs.List.{list_all}
 use Rattle.awk_types.specs.DataType.{Name}
 use Rattle.awk_types.specs.Names.{is_among, are_distinct}
 use Rattle.awk_query.specs.Arguments.{not_zero, some_count, primitives}
 use Rattle.awk_query.specs.ExprTree.{ExprTree, ExprTrees, var, whole, truth, call, no_exprs, expr, expr_list}
 use Rattle.awk_query.specs.Line as lines
 use Rattle.awk_query.specs.Operations.{row_of}
-use Rattle.awk_query.specs.Reading.{is_whole}
+use Rattle.awk_query.specs.WholeNumbers.{is_whole, are_edges}
 use Rattle.awk_query.specs.declared.op.Op.{Op}
 use Rattle.awk_query.specs.declared.kind.ArgKind.{ArgKind}
 use Rattle.awk_query.specs.declared.kind.ArgKind.TheVariants as kind
 use Rattle.awk_query.specs.declared.fixed.FixedArg.{FixedArg}
-use Rattle.awk_query.specs.declared.fixed.FixedArg.TheVariants.{Place, Count, Missing, Truth, Text, Texts}
+use Rattle.awk_query.specs.declared.fixed.FixedArg.TheVariants.{Place, Count, Missing, Truth, Text}
+use Rattle.awk_query.specs.declared.fixed.FixedArg.TheVariants.{Texts, Wholes}
 
 -- whether an argument that is no expression is one of this kind
 abbrev pub is_of_kind : ArgKind → FixedArg → Bool
@@ -26,6 +29,7 @@ is_of_kind kind.Truth (Truth b) = true
 is_of_kind kind.Text (Text name) = true
 is_of_kind kind.Texts (Texts names) = are_distinct names
 is_of_kind kind.Primitive (Text name) = is_among name primitives
+is_of_kind kind.Edges (Wholes zs) = are_edges zs && list_all is_whole zs
 is_of_kind _ _ = false
 
 -- one argument that is no expression
@@ -87,10 +91,15 @@ abbrev mutual
   AreAllowed no_exprs = Unit {0}
   AreAllowed (expr e es) = IsAllowed e × AreAllowed es
 
--- the buffers of a load line are texts, and the expression of another line is allowed
+-- the buffers of a load line are texts, or bytes under distinct keys, and the expression of another
+-- line is allowed
 abbrev pub IsAllowedLine : lines.Line → Type 0
-IsAllowedLine (lines.load name form length buffers) = lines.are_texts buffers ≡ true
+IsAllowedLine (lines.load name form length big (lines.texts ms)) = lines.are_texts ms ≡ true
+IsAllowedLine (lines.load name form length big (lines.parts ps)) =
+    are_distinct (lines.keys_of ps) ≡ true
+IsAllowedLine lines.session = Unit {0}
 IsAllowedLine (lines.bind name e) = IsAllowed e
+IsAllowedLine (lines.values name list) = Unit {0}
 IsAllowedLine (lines.show e) = IsAllowed e
 IsAllowedLine (lines.type_of e) = IsAllowed e
 IsAllowedLine (lines.pack e) = IsAllowed e

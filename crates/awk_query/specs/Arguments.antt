@@ -4,10 +4,12 @@ use Rattle.serde_json.specs.Data.{Data, null, Items, no_items, item}
 use Rattle.serde_json.specs.Find.{as_bool, as_number, as_str, as_array, as_u64, as_i64}
 use Rattle.awk_types.specs.DataType.{Name}
 use Rattle.awk_types.specs.Names.{is_among, are_distinct}
+use Rattle.awk_query.specs.WholeNumbers.{whole_of, if_edges}
 use Rattle.awk_query.specs.declared.kind.ArgKind.{ArgKind}
 use Rattle.awk_query.specs.declared.kind.ArgKind.TheVariants as kind
 use Rattle.awk_query.specs.declared.fixed.FixedArg.{FixedArg}
-use Rattle.awk_query.specs.declared.fixed.FixedArg.TheVariants.{Place, Count, Missing, Truth, Text, Texts}
+use Rattle.awk_query.specs.declared.fixed.FixedArg.TheVariants.{Place, Count, Missing, Truth, Text}
+use Rattle.awk_query.specs.declared.fixed.FixedArg.TheVariants.{Texts, Wholes}
 
 pub record Args : Type 0 where
   pub exprs : List Data
@@ -94,6 +96,10 @@ if_distinct ns = if are_distinct ns then Some ns else None
 abbrev pub texts_in : Data → Option (List Name)
 texts_in d = option_and_then if_distinct (option_and_then (all_of as_str) (items_in d))
 
+-- at least two whole numbers, each greater than the one before
+abbrev pub edges_in : Data → Option (List ℤ)
+edges_in d = option_and_then if_edges (option_and_then (all_of whole_of) (items_in d))
+
 -- a name, and the value of its expression
 abbrev pub pair_of : List Data → Option (Name × Data)
 pair_of (n ∷ d ∷ []) = option_map (λ s. (s, d)) (as_str n)
@@ -138,6 +144,7 @@ fixed_of kind.Truth d = option_map Truth (as_bool d)
 fixed_of kind.Text d = option_map Text (as_str d)
 fixed_of kind.Texts d = option_map Texts (texts_in d)
 fixed_of kind.Primitive d = option_map Text (primitive_in d)
+fixed_of kind.Edges d = option_map Wholes (edges_in d)
 fixed_of kind.Expr d = None
 fixed_of kind.Exprs d = None
 fixed_of kind.NamedExprs d = None

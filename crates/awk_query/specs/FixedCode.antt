@@ -3,10 +3,11 @@ use Rattle.std.specs.Prelude.{◌≡◌, ◌⊎◌, ℕ, ℤ, Bool, List, refl}
 use Rattle.std.specs.Coded.{Coded, code_by, coded⊎, coded_ℕ, coded_ℤ, coded_list, coded_bool}
 use mathlib.Core.Logic.{inl, inr}
 use Rattle.awk_query.specs.declared.fixed.FixedArg.{FixedArg}
-use Rattle.awk_query.specs.declared.fixed.FixedArg.TheVariants.{Place, Count, Missing, Truth, Text, Texts}
+use Rattle.awk_query.specs.declared.fixed.FixedArg.TheVariants.{Place, Count, Missing, Truth, Text}
+use Rattle.awk_query.specs.declared.fixed.FixedArg.TheVariants.{Texts, Wholes}
 
 abbrev Tree : Type 0
-Tree = ℤ ⊎ ℕ ⊎ Bool ⊎ List ℕ ⊎ List (List ℕ) ⊎ ℕ
+Tree = ℤ ⊎ ℕ ⊎ Bool ⊎ List ℕ ⊎ List (List ℕ) ⊎ List ℤ ⊎ ℕ
 
 abbrev to : FixedArg → Tree
 to (Place z) = inl z
@@ -14,7 +15,8 @@ to (Count n) = inr (inl n)
 to (Truth b) = inr (inr (inl b))
 to (Text t) = inr (inr (inr (inl t)))
 to (Texts ts) = inr (inr (inr (inr (inl ts))))
-to Missing = inr (inr (inr (inr (inr 0))))
+to (Wholes zs) = inr (inr (inr (inr (inr (inl zs)))))
+to Missing = inr (inr (inr (inr (inr (inr 0)))))
 
 abbrev from : Tree → FixedArg
 from (inl z) = Place z
@@ -22,7 +24,8 @@ from (inr (inl n)) = Count n
 from (inr (inr (inl b))) = Truth b
 from (inr (inr (inr (inl t)))) = Text t
 from (inr (inr (inr (inr (inl ts))))) = Texts ts
-from (inr (inr (inr (inr (inr n))))) = Missing
+from (inr (inr (inr (inr (inr (inl zs)))))) = Wholes zs
+from (inr (inr (inr (inr (inr (inr n)))))) = Missing
 
 pub same : (a : FixedArg) → from (to a) ≡ a
 same (Place z) = refl
@@ -31,6 +34,7 @@ same Missing = refl
 same (Truth b) = refl
 same (Text t) = refl
 same (Texts ts) = refl
+same (Wholes zs) = refl
 
 abbrev pub coded_fixed : Coded FixedArg
 coded_fixed =
@@ -38,4 +42,5 @@ coded_fixed =
     (coded⊎ coded_ℤ
     (coded⊎ coded_ℕ
     (coded⊎ coded_bool
-    (coded⊎ (coded_list coded_ℕ) (coded⊎ (coded_list (coded_list coded_ℕ)) coded_ℕ))))) to from same
+    (coded⊎ (coded_list coded_ℕ)
+    (coded⊎ (coded_list (coded_list coded_ℕ)) (coded⊎ (coded_list coded_ℤ) coded_ℕ)))))) to from same

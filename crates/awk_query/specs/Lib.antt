@@ -2,6 +2,7 @@ pub mod Operations
 pub mod FixedCode
 pub mod ExprTree
 pub mod View
+pub mod WholeNumbers
 pub mod Arguments
 pub mod ArgsView
 pub mod Reading

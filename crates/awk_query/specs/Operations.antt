@@ -6,7 +6,7 @@ use Rattle.awk_types.specs.Names.{same_name}
 use Rattle.awk_query.specs.declared.op.Op.{Op}
 use Rattle.awk_query.specs.declared.op.Op.TheVariants as op
 use Rattle.awk_query.specs.declared.kind.ArgKind.{ArgKind}
-use Rattle.awk_query.specs.declared.kind.ArgKind.TheVariants.{Expr, Exprs, NamedExprs, Place, Bound, Step, Count, SomeCount, Truth, Text, Texts, Primitive}
+use Rattle.awk_query.specs.declared.kind.ArgKind.TheVariants.{Expr, Exprs, NamedExprs, Place, Bound, Step, Count, SomeCount, Truth, Text, Texts, Primitive, Edges}
 
 -- a name, its operation, and what the arguments are
 abbrev pub Row : Type 0
@@ -71,7 +71,11 @@ operations =
     (codes "cartesian", op.Cartesian, Place ∷ Exprs ∷ []) ∷
     (codes "argcartesian", op.Argcartesian, Place ∷ Exprs ∷ []) ∷
     (codes "combinations", op.Combinations, SomeCount ∷ Truth ∷ Place ∷ Expr ∷ []) ∷
-    (codes "argcombinations", op.Argcombinations, SomeCount ∷ Truth ∷ Place ∷ Expr ∷ []) ∷ []
+    (codes "argcombinations", op.Argcombinations, SomeCount ∷ Truth ∷ Place ∷ Expr ∷ []) ∷
+    (codes "sort", op.Sort, Expr ∷ Truth ∷ []) ∷
+    (codes "argsort", op.Argsort, Expr ∷ Truth ∷ []) ∷
+    (codes "hist", op.Hist, Expr ∷ Edges ∷ []) ∷
+    (codes "hist_each", op.HistEach, Expr ∷ Edges ∷ []) ∷ []
 
 -- an operation, and what its arguments are
 abbrev pub Found : Type 0

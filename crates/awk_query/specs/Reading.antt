@@ -1,25 +1,15 @@
 -- The expression that a JSON value is.
-use Rattle.std.specs.Prelude.{ℕ, zero, suc, ◌^◌, ℤ, pos, negsuc, nat_lt, Bool, List, [], ◌∷◌, length, Option, Some, None, option_map, option_and_then, if◌then◌else◌}
-use Rattle.serde_json.specs.Data.{Data, Num, null, boolean, number, string, array, object, depth}
-use Rattle.serde_json.specs.Find.{as_str, as_number, as_integer}
+use Rattle.std.specs.Prelude.{ℕ, zero, suc, ℤ, Bool, List, [], ◌∷◌, length, Option, Some, None}
+use Rattle.std.specs.Prelude.{option_map, option_and_then}
+use Rattle.serde_json.specs.Data.{Data, null, boolean, number, string, array, object, depth}
+use Rattle.serde_json.specs.Find.{as_str}
 use Rattle.awk_types.specs.DataType.{Name}
 use Rattle.awk_query.specs.Operations.{Found, row_of}
 use Rattle.awk_query.specs.Arguments.{Args, args_of, item_list, all_of}
 use Rattle.awk_query.specs.ExprTree as tree
 use Rattle.awk_query.specs.ExprTree.{ExprTree, exprs_from}
+use Rattle.awk_query.specs.WholeNumbers.{whole_in, whole_of}
 use Rattle.awk_query.specs.declared.op.Op.{Op}
-
--- whether a number fits u64 or i64
-abbrev pub is_whole : ℤ → Bool
-is_whole (pos n) = nat_lt n (2 ^ 64)
-is_whole (negsuc n) = nat_lt n (2 ^ 63)
-
-abbrev pub if_whole : ℤ → Option ℤ
-if_whole z = if is_whole z then Some z else None
-
--- a whole number that is kept as u64 or i64
-abbrev pub whole_in : Num → Option ℤ
-whole_in n = option_and_then if_whole (as_integer n)
 
 -- an expression whose parts are not read yet
 pub data Head : Type 0 where
@@ -66,4 +56,4 @@ abbrev pub call_said : List Data → Option ExprTree
 call_said ds = option_and_then (expr_with expr_said) (list_head ds)
 
 abbrev pub whole_said : Data → Option ExprTree
-whole_said d = option_map tree.whole (option_and_then whole_in (as_number d))
+whole_said d = option_map tree.whole (whole_of d)

@@ -1,7 +1,7 @@
 //! The arguments of a call that are no expressions.
 ghost use Rattle.std.specs.Prelude.{◌≡◌, ◌<◌, ◌++◌, ◌∷◌, [], length, slice_get, Some, OnOk, OnErr};
 
-use awk_types::{Name, Names, NoMemory};
+use awk_types::{Name, Names, NoMemory, Wholes};
 use std::alloc::Global;
 use std::marker::Model;
 
@@ -20,6 +20,8 @@ pub enum FixedArg {
     Text(Name),
     /// Names, none of which comes twice.
     Texts(Names),
+    /// Edges: at least two numbers, each greater than the one before.
+    Wholes(Wholes),
 }
 
 /// Such arguments in order.

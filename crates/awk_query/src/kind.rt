@@ -27,4 +27,6 @@ pub enum ArgKind {
     Texts,
     /// The name of a leaf type.
     Primitive,
+    /// A list of at least two whole numbers, each greater than the one before.
+    Edges,
 }

@@ -1,7 +1,7 @@
 //! Lines of a session and their expressions, read from bytes.
 //!
-//! `read_line` gives the `Line` that the bytes are, with its `Expr`. Each operation (`Op`) stands
-//! once in one table: its name, and what its arguments are.
+//! `read_line` gives the `Line` that the bytes are, by its `Reading`, with its `Expr`. Each
+//! operation (`Op`) stands once in one table: its name, and what its arguments are.
 #![tactic(auto)]
 
 mod arguments;
@@ -12,7 +12,9 @@ mod kind;
 mod line;
 mod op;
 mod operations;
+mod parts;
 mod read;
+mod reading;
 mod values;
 
 pub use expr::{Expr, Exprs};
@@ -20,3 +22,4 @@ pub use fault::QueryFault;
 pub use fixed::{Fixed, FixedArg};
 pub use line::{Line, read_line};
 pub use op::Op;
+pub use reading::{RawPart, RawParts, Reading};

@@ -59,4 +59,8 @@ pub enum Op {
     Argcartesian,
     Combinations,
     Argcombinations,
+    Sort,
+    Argsort,
+    Hist,
+    HistEach,
 }

@@ -4,12 +4,13 @@ ghost use Rattle.awk_query.specs.Operations.{rows_of, row_of, row_among, found_o
 
 use crate::kind::ArgKind;
 use crate::kind::ArgKind::{
-    Bound, Count, Expr, Exprs, NamedExprs, Place, Primitive, SomeCount, Step, Text, Texts, Truth,
+    Bound, Count, Edges, Expr, Exprs, NamedExprs, Place, Primitive, SomeCount, Step, Text, Texts,
+    Truth,
 };
 use crate::op::Op;
 
 // Each name, its operation, and what the arguments are. A name stands once for each number of them.
-const OPERATIONS: [(&str, Op, &[ArgKind]); 57] = [
+const OPERATIONS: [(&str, Op, &[ArgKind]); 61] = [
     ("at", Op::At, &[Expr, Place]),
     ("range", Op::Range, &[Expr, Bound, Bound]),
     ("range", Op::Range, &[Expr, Bound, Bound, Step]),
@@ -75,6 +76,10 @@ const OPERATIONS: [(&str, Op, &[ArgKind]); 57] = [
         Op::Argcombinations,
         &[SomeCount, Truth, Place, Expr],
     ),
+    ("sort", Op::Sort, &[Expr, Truth]),
+    ("argsort", Op::Argsort, &[Expr, Truth]),
+    ("hist", Op::Hist, &[Expr, Edges]),
+    ("hist_each", Op::HistEach, &[Expr, Edges]),
 ];
 
 /// The operation of a name that takes so many arguments, and what each of them is.

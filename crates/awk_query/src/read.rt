@@ -16,6 +16,7 @@ use crate::fault::QueryFault;
 use crate::fixed::Fixed;
 use crate::op::Op;
 use crate::operations::operation;
+use crate::values::whole_number;
 use awk_types::Name;
 use serde_json::Value;
 use std::alloc::Global;
@@ -86,13 +87,8 @@ fn variable(alloc: Global, name: &str) -> Result<Expr, QueryFault>
 fn whole(value: &Value) -> Result<Expr, QueryFault>
     ensures { Reads expr_of result (whole_said (view value.now)) }
 {
-    if let Some(n) = value.as_u64() {
-        return Ok(made_whole(i128::from(n)));
-    }
-    match value.as_i64() {
-        Some(z) => Ok(made_whole(i128::from(z))),
-        None => Err(QueryFault::Query),
-    }
+    let z = whole_number(value)?;
+    Ok(made_whole(z))
 }
 
 fn made_whole(z: i128) -> Expr

@@ -5,12 +5,15 @@ ghost use Rattle.serde_json.specs.View.{view};
 ghost use Rattle.awk_types.specs.Names.{is_among};
 ghost use Rattle.awk_query.specs.Arguments.{fixed_of, items_in, i64_in, u64_in, step_in};
 ghost use Rattle.awk_query.specs.Arguments.{some_count_in, primitive_in, primitives, texts_in};
+ghost use Rattle.awk_query.specs.Arguments.{all_of, edges_in};
 ghost use Rattle.awk_query.specs.Told.{Reads};
+ghost use Rattle.awk_query.specs.WholeNumbers as numbers;
+ghost use Rattle.awk_query.specs.WholeNumbers.{whole_of};
 
 use crate::fault::QueryFault;
 use crate::fixed::FixedArg;
 use crate::kind::ArgKind;
-use awk_types::{Name, Names};
+use awk_types::{Name, Names, Wholes};
 use serde_json::Value;
 use std::alloc::Global;
 
@@ -36,6 +39,7 @@ pub fn fixed_arg(alloc: Global, kind: ArgKind, value: &Value) -> Result<FixedArg
         ArgKind::Text => Ok(FixedArg::Text(name(alloc, value)?)),
         ArgKind::Texts => Ok(FixedArg::Texts(texts(alloc, value)?)),
         ArgKind::Primitive => Ok(FixedArg::Text(primitive(alloc, value)?)),
+        ArgKind::Edges => Ok(FixedArg::Wholes(edges(alloc, value)?)),
         ArgKind::Expr | ArgKind::Exprs | ArgKind::NamedExprs => Err(QueryFault::Query),
     }
 }
@@ -132,4 +136,59 @@ fn texts(alloc: Global, value: &Value) -> Result<Names, QueryFault>
         return Err(QueryFault::Query);
     }
     Ok(names)
+}
+
+// At least two whole numbers, each greater than the one before.
+fn edges(alloc: Global, value: &Value) -> Result<Wholes, QueryFault>
+    ensures { Reads (λ edges. edges) result (edges_in (view value.now)) }
+{
+    let values = items(value)?;
+    let edges = whole_numbers(alloc, values)?;
+    if !are_edges(&edges) {
+        return Err(QueryFault::Query);
+    }
+    Ok(edges)
+}
+
+fn whole_numbers(alloc: Global, values: &[Value]) -> Result<Wholes, QueryFault>
+    ensures { Reads (λ made. made) result (all_of whole_of (map view values.now)) }
+{
+    let mut made = Wholes::new(alloc);
+    for value in values {
+        let z = whole_number(value)?;
+        made.push(z)?;
+    }
+    Ok(made)
+}
+
+/// A whole number that is kept as u64 or i64.
+pub fn whole_number(value: &Value) -> Result<i128, QueryFault>
+    ensures { Reads (λ z. z) result (whole_of (view value.now)) }
+{
+    if let Some(n) = value.as_u64() {
+        return Ok(i128::from(n));
+    }
+    match value.as_i64() {
+        Some(z) => Ok(i128::from(z)),
+        None => Err(QueryFault::Query),
+    }
+}
+
+fn are_edges(edges: &Wholes) -> bool
+    ensures { result ≡ numbers.are_edges edges.now }
+{
+    edges.len() >= 2 && are_rising(edges)
+}
+
+// Whether each is greater than the one before.
+fn are_rising(edges: &Wholes) -> bool
+    ensures { result ≡ numbers.are_rising edges.now }
+{
+    let pairs = edges.len().saturating_sub(1);
+    for i in 0..pairs {
+        if *edges.get(i + 1) <= *edges.get(i) {
+            return false;
+        }
+    }
+    true
 }

@@ -2,9 +2,10 @@
 use Rattle.std.proofs.Common.{◌≡◌, ◌≤◌, ℕ, ◌+◌, ◌*◌, true, false, List, ◌++◌, length, length-append, Option, Some, None, Result, Ok, Err, refl, ap, ◌∙◌, arith}
 use Rattle.std.specs.Prelude.{IfOk, IfSome, is_some}
 use Rattle.std.specs.Result.{result_ok}
-use Rattle.awk_store.specs.Buffers.{texts_of, total_len}
-use Rattle.awk_lengths.specs.LineBytes.{HasBytes}
-use Rattle.awk_query.specs.Line.{Line, load, bind, show, type_of, pack, names, line_said}
+use Rattle.awk_lengths.specs.LineBytes.{text_len, HasBytes}
+use Rattle.awk_query.specs.Line.{Line, load, session, bind, values, show, type_of, pack, names}
+use Rattle.awk_query.specs.Line.{line_said}
+use Rattle.awk_query.specs.declared.reading.Reading.TheVariants.{One}
 use Rattle.awk_eval.specs.Variables.{Variables}
 use Rattle.awk_eval.specs.Views.{Size, View, view_of, sizes_of, size_in, size_or_none}
 use Rattle.awk_session.specs.Answer.{answer_text}
@@ -62,10 +63,12 @@ sent_view variables (Some v) a shows plain array =
 made : (variables : Variables) (l : Line) (n steps0 steps1 : ℕ)
     → TakesBy variables l steps0 steps1 → HasBytes n l → has_cost l ≡ true → IsOfArrays variables l
     → steps1 ≤ steps0 + made_cost (sizes_of variables) n l
-made variables (load m form count buffers) n steps0 steps1 taken bytes plain arrays =
-    omega (arith, taken, load_cost-bytes (form_size form) (total_len (texts_of buffers)) n bytes)
+made variables (load m form count big buffers) n steps0 steps1 taken bytes plain arrays =
+    omega (arith, taken, load_cost-bytes (form_size form) (text_len buffers) n bytes)
+made variables session n steps0 steps1 taken bytes plain arrays = omega (arith, taken)
 made variables (bind m e) n steps0 steps1 taken bytes plain arrays =
     made_view variables (view_of e) steps0 steps1 taken plain arrays
+made variables (values m list) n steps0 steps1 taken bytes plain arrays = absurd (cc)
 made variables (show e) n steps0 steps1 taken bytes plain arrays =
     made_view variables (view_of e) steps0 steps1 taken plain arrays
 made variables (type_of e) n steps0 steps1 taken bytes plain arrays =
@@ -76,8 +79,11 @@ made variables names n steps0 steps1 taken bytes plain arrays = omega (arith, ta
 sent : (variables : Variables) (l : Line) (a : code.Answer) → ShowsBy variables l a
     → has_cost l ≡ true → IsOfArrays variables l
     → sent_cost a ≤ shown_cost (sizes_of variables) (length (answer_text (answer_view a))) l
-sent variables (load m form count buffers) a shows plain arrays = omega (arith, none_sent a shows)
+sent variables (load m form count big buffers) a shows plain arrays =
+    omega (arith, none_sent a shows)
+sent variables session a shows plain arrays = omega (arith, none_sent a shows)
 sent variables (bind m e) a shows plain arrays = omega (arith, none_sent a shows)
+sent variables (values m list) a shows plain arrays = absurd (cc)
 sent variables (show e) a shows plain arrays = sent_view variables (view_of e) a shows plain arrays
 sent variables (type_of e) a shows plain arrays = omega (arith, none_sent a shows)
 sent variables (pack e) a shows plain arrays = absurd (cc)
@@ -120,6 +126,6 @@ unfolding line_in
 line_in-blank line e = rw e refl
 
 pub line_in-said : (line : List ℕ) → is_blank line ≡ false
-    → line_in line ≡ result_ok (line_said line)
+    → line_in line ≡ result_ok (line_said One line)
 unfolding line_in
 line_in-said line e = rw e refl

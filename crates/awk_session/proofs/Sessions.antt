@@ -11,6 +11,7 @@ use Rattle.base64.proofs.OnLiterals.{base64_on_literals}
 use Rattle.awk_form.specs.Node.{node_at}
 use Rattle.awk_form.specs.Reading.{nodes_of, form_of}
 use Rattle.awk_query.specs.Line.{or_json, line_or_unread}
+use Rattle.awk_query.specs.declared.reading.Reading.TheVariants.{One}
 use Rattle.awk_query.specs.Reading.{expr_said}
 use Rattle.awk_eval.specs.Variables.{Environment}
 use Rattle.awk_session.specs.Runs.{Step}
@@ -18,7 +19,7 @@ use Rattle.awk_session.specs.Replies.{step, step_of, reply, is_blank, answers}
 
 -- the step of a line of UTF-8, by what it is read as
 abbrev pub read_as : Environment → List ℕ → Step Environment
-read_as variables line = step_of (reply variables (line_or_unread (or_json (read line))))
+read_as variables line = step_of (reply variables (line_or_unread One (or_json (read line))))
 
 -- a line that is not blank is answered by what is read from it
 pub step-read : (variables : Environment) (line : List ℕ) → is_blank line ≡ false → IsUtf8 line

@@ -7,7 +7,7 @@ use Rattle.std.proofs.lemmas.Slice.Eq.{bytes_eq-Decides}
 use Rattle.awk_types.specs.DataType.{Name}
 use Rattle.awk_layout.specs.declared.datum.Datum.{Datum}
 use Rattle.awk_layout.specs.declared.datum.Datum.TheVariants.{Arr, One}
-use Rattle.awk_query.specs.Line.{Line, load, bind, show, type_of, pack, names}
+use Rattle.awk_query.specs.Line.{Line, load, session, bind, values, show, type_of, pack, names}
 use Rattle.awk_eval.specs.Bindings as bindings
 use Rattle.awk_eval.specs.Bindings.{Bindings, look_up}
 use Rattle.awk_eval.specs.Variables.{Variables}
@@ -52,10 +52,12 @@ bound_elsewhere n m Fact false old new other b =
 
 keeps_by : (n : Name) (line : Line) (is_fault : Bool) (old new : Variables)
     → name_by line ≢ Some n → BindsBy line is_fault old new → look_up n new ≡ look_up n old
-keeps_by n (load m form count buffers) is_fault old new other b =
+keeps_by n session is_fault old new other b = ap (look_up n) b
+keeps_by n (load m form count big buffers) is_fault old new other b =
     bound_elsewhere n m _ is_fault old new (λ e. other (ap Some (sym e))) b
 keeps_by n (bind m e) is_fault old new other b =
     bound_elsewhere n m _ is_fault old new (λ e. other (ap Some (sym e))) b
+keeps_by n (values m list) is_fault old new other b = ap (look_up n) b
 keeps_by n (show e) is_fault old new other b = ap (look_up n) b
 keeps_by n (type_of e) is_fault old new other b = ap (look_up n) b
 keeps_by n (pack e) is_fault old new other b = ap (look_up n) b
@@ -137,8 +139,10 @@ view-within None ss vs h = tt
 view-within (Some v) ss vs h = array-within v.name ss vs h
 
 of_arrays : (l : Line) (ss : Sizes) (vs : Variables) → AreWithin ss vs → IsOfArrays vs l
-of_arrays (load n form count buffers) ss vs h = tt
+of_arrays (load n form count big buffers) ss vs h = tt
+of_arrays session ss vs h = tt
 of_arrays (bind n e) ss vs h = view-within (view_of e) ss vs h
+of_arrays (values n list) ss vs h = tt
 of_arrays (show e) ss vs h = view-within (view_of e) ss vs h
 of_arrays (type_of e) ss vs h = view-within (view_of e) ss vs h
 of_arrays (pack e) ss vs h = tt
@@ -189,11 +193,13 @@ view_fits (Some v) ss vs d plain h fits =
 sizes_by-within : (l : Line) (is_fault : Bool) (ss : Sizes) (old new : Variables)
     → has_cost l ≡ true → AreWithin ss old → BindsBy l is_fault old new
     → AreWithin (sizes_by l is_fault ss) new
-sizes_by-within (load n form count buffers) is_fault ss old new plain h b =
+sizes_by-within session is_fault ss old new plain h b = subst (AreWithin ss) (sym b) h
+sizes_by-within (load n form count big buffers) is_fault ss old new plain h b =
     bound-within n _ (form_size form) is_fault ss old new (λ d fact. fact) h b
 sizes_by-within (bind n e) is_fault ss old new plain h b =
     bound-within n _ (view_size ss (view_of e)) is_fault ss old new
     (λ d fact. view_fits (view_of e) ss old d plain h fact) h b
+sizes_by-within (values n list) is_fault ss old new plain h b = absurd (cc)
 sizes_by-within (show e) is_fault ss old new plain h b = subst (AreWithin ss) (sym b) h
 sizes_by-within (type_of e) is_fault ss old new plain h b = subst (AreWithin ss) (sym b) h
 sizes_by-within (pack e) is_fault ss old new plain h b = subst (AreWithin ss) (sym b) h

@@ -1,7 +1,7 @@
 -- Lines take no more steps than their session costs.
 use Rattle.std.proofs.Common.{◌≡◌, ◌≤◌, ℕ, ◌+◌, ◌*◌, Bool, true, false, ◌&&◌, List, [], ◌∷◌, ◌++◌, length, Option, Some, None, refl, sym, ap, ◌∙◌, subst, arith}
 use Rattle.std.specs.Option.{option_map_or}
-use Rattle.awk_query.specs.Line.{Line, load, bind, show, type_of, pack, names}
+use Rattle.awk_query.specs.Line.{Line, load, session, bind, values, show, type_of, pack, names}
 use Rattle.awk_eval.specs.Variables.{Variables, denoted}
 use Rattle.awk_eval.specs.Views.{Sizes, View, view_of, sizes_of, size_at}
 use Rattle.awk_session.specs.Replies.{step}
@@ -21,8 +21,10 @@ view_cost-within (Some v) ss vs h =
 
 made_cost-within : (bytes : ℕ) (l : Line) (ss : Sizes) (vs : Variables) → AreWithin ss vs
     → made_cost (sizes_of vs) bytes l ≤ made_cost ss bytes l
-made_cost-within bytes (load n form count buffers) ss vs h = omega arith
+made_cost-within bytes (load n form count big buffers) ss vs h = omega arith
+made_cost-within bytes session ss vs h = omega arith
 made_cost-within bytes (bind n e) ss vs h = view_cost-within (view_of e) ss vs h
+made_cost-within bytes (values n list) ss vs h = omega arith
 made_cost-within bytes (show e) ss vs h = view_cost-within (view_of e) ss vs h
 made_cost-within bytes (type_of e) ss vs h = view_cost-within (view_of e) ss vs h
 made_cost-within bytes (pack e) ss vs h = omega arith
@@ -30,8 +32,10 @@ made_cost-within bytes names ss vs h = omega arith
 
 shown_cost-within : (answered : ℕ) (l : Line) (ss : Sizes) (vs : Variables) → AreWithin ss vs
     → shown_cost (sizes_of vs) answered l ≤ shown_cost ss answered l
-shown_cost-within answered (load n form count buffers) ss vs h = omega arith
+shown_cost-within answered (load n form count big buffers) ss vs h = omega arith
+shown_cost-within answered session ss vs h = omega arith
 shown_cost-within answered (bind n e) ss vs h = omega arith
+shown_cost-within answered (values n list) ss vs h = omega arith
 shown_cost-within answered (show e) ss vs h =
     text_cost-more (view_size (sizes_of vs) (view_of e)) (view_size ss (view_of e)) answered
     answered (view_size-within (view_of e) ss vs h) (omega arith)

@@ -7,6 +7,7 @@ use Rattle.awk_eval.specs.Variables.{Environment}
 use Rattle.awk_session.specs.Answer.{answer_text}
 use Rattle.awk_session.specs.Replies.{is_blank, step, step_of, reply, answers, answer_count}
 use Rattle.awk_query.specs.Line.{line_said}
+use Rattle.awk_query.specs.declared.reading.Reading.TheVariants.{One}
 use Rattle.awk_session.proofs.LineEnds.{answer_text-unbroken}
 
 -- a blank line has no answer, and changes nothing
@@ -17,17 +18,17 @@ step-blank variables line e =
     ap
     (λ b. cond b
     (let s : Step Environment = record { answer = None; is_fault = false; after = variables } in s)
-    (step_of (reply variables (line_said line)))) e
+    (step_of (reply variables (line_said One line)))) e
 
 -- another line is answered by the line that its JSON is
 pub step-line : (variables : Environment) (line : List ℕ) → is_blank line ≡ false
-    → step variables line ≡ step_of (reply variables (line_said line))
+    → step variables line ≡ step_of (reply variables (line_said One line))
 unfolding step
 step-line variables line e =
     ap
     (λ b. cond b
     (let s : Step Environment = record { answer = None; is_fault = false; after = variables } in s)
-    (step_of (reply variables (line_said line)))) e
+    (step_of (reply variables (line_said One line)))) e
 
 -- bytes with a line end behind them, and none within
 pub record IsOneLine (bytes : List ℕ) : Type 0 where
@@ -39,7 +40,7 @@ pub record IsOneLine (bytes : List ℕ) : Type 0 where
 pub step-answer : (variables : Environment) (line : List ℕ) → is_blank line ≡ false
     → IsOneLine (answer_bytes (step variables line).answer)
 step-answer variables line e =
-    let said = (reply variables (line_said line)).answer in
+    let said = (reply variables (line_said One line)).answer in
     record {
       text = answer_text said;
       all = ap (λ (s : Step Environment). answer_bytes s.answer) (step-line variables line e);
@@ -67,7 +68,7 @@ line_ends-step variables line = by (is_blank line) refl
         → line_ends (answer_bytes (step variables line).answer) ≡ cond (not b) 1 0
     by true e = rw (step-blank variables line e) refl
     by false e =
-        let said = (reply variables (line_said line)).answer in
+        let said = (reply variables (line_said One line)).answer in
         rw (
           step-line variables line e,
           line_ends-append (answer_text said) (10 ∷ []),

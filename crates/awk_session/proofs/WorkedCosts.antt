@@ -11,6 +11,7 @@ use Rattle.base64.proofs.OnLiterals.{base64_on_literals}
 use Rattle.awk_form.specs.Node.{node_at}
 use Rattle.awk_form.specs.Reading.{nodes_of, form_of}
 use Rattle.awk_query.specs.Line.{Line, or_json, line_or_unread}
+use Rattle.awk_query.specs.declared.reading.Reading.TheVariants.{One}
 use Rattle.awk_query.specs.Operations.{row_of}
 use Rattle.awk_query.specs.Reading.{expr_said}
 use Rattle.awk_eval.specs.Variables.{Environment}
@@ -20,7 +21,7 @@ use Rattle.awk_session.proofs.Sessions.{read_as, step-read, load_lists, load_lis
 
 -- the line that a text of UTF-8 is
 abbrev line_as : List ℕ → Option Line
-line_as line = result_ok (line_or_unread (or_json (read line)))
+line_as line = result_ok (line_or_unread One (or_json (read line)))
 
 line_in-read : (line : List ℕ) → is_blank line ≡ false → IsUtf8 line → line_in line ≡ line_as line
 unfolding line_in

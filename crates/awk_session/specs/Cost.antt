@@ -8,7 +8,9 @@ use Rattle.awk_types.specs.DataType.{Name}
 use Rattle.awk_form.specs.FormTree.{FormTree}
 use Rattle.awk_form.specs.Measures as form
 use Rattle.awk_form.specs.Reading.{Refusal, reading}
-use Rattle.awk_query.specs.Line.{Line, load, bind, show, type_of, pack, names, line_said}
+use Rattle.awk_query.specs.Line.{Line, load, session, bind, values, show, type_of, pack, names}
+use Rattle.awk_query.specs.Line.{line_said}
+use Rattle.awk_query.specs.declared.reading.Reading.TheVariants.{One}
 use Rattle.awk_eval.specs.Bindings as bindings
 use Rattle.awk_eval.specs.Variables.{Environment}
 use Rattle.awk_eval.specs.Views.{Size, Sizes, size_or_none, size_at, View, view_of}
@@ -47,8 +49,10 @@ text_cost s bytes = 8 * (s.width + s.height * bytes)
 
 -- whether a line has a cost
 abbrev pub has_cost : Line → Bool
-has_cost (load n form count buffers) = true
+has_cost (load n form count big buffers) = true
+has_cost session = true
 has_cost (bind n e) = is_some (view_of e)
+has_cost (values n list) = false
 has_cost (show e) = is_some (view_of e)
 has_cost (type_of e) = is_some (view_of e)
 has_cost (pack e) = false
@@ -56,8 +60,10 @@ has_cost names = true
 
 -- what a line of so many bytes costs before its answer is put
 abbrev pub made_cost : Sizes → ℕ → Line → ℕ
-made_cost sizes bytes (load n form count buffers) = load_cost (form_size form) bytes
+made_cost sizes bytes (load n form count big buffers) = load_cost (form_size form) bytes
+made_cost sizes bytes session = 0
 made_cost sizes bytes (bind n e) = view_cost sizes (view_of e)
+made_cost sizes bytes (values n list) = 0
 made_cost sizes bytes (show e) = view_cost sizes (view_of e)
 made_cost sizes bytes (type_of e) = view_cost sizes (view_of e)
 made_cost sizes bytes (pack e) = 0
@@ -73,7 +79,7 @@ line_cost sizes bytes answered line = made_cost sizes bytes line + shown_cost si
 
 -- the line that bytes are read as, where they are not blank and are one
 unfoldable pub line_in : List ℕ → Option Line
-line_in bytes = if is_blank bytes then None else result_ok (line_said bytes)
+line_in bytes = if is_blank bytes then None else result_ok (line_said One bytes)
 
 -- what is blank, no JSON or no line has a cost too, which is nothing
 abbrev pub is_plain : List ℕ → Bool
@@ -96,7 +102,7 @@ sized_unless is_fault n s sizes = if is_fault then sizes else bindings.bind n s 
 
 -- A load gives its name the size of its form, and a let that of its view's variable.
 abbrev pub sizes_by : Line → Bool → Sizes → Sizes
-sizes_by (load n form count buffers) is_fault sizes =
+sizes_by (load n form count big buffers) is_fault sizes =
     sized_unless is_fault n (form_size form) sizes
 sizes_by (bind n e) is_fault sizes =
     sized_unless is_fault n (view_size sizes (view_of e)) sizes

@@ -1,15 +1,17 @@
 -- What the engine answers to a line, and to the lines of a session.
 use Rattle.std.specs.Prelude.{ℕ, Bool, false, ◌||◌, ◌==◌, not, List, [], count_by, Some, None, Result, Ok, Err, if◌then◌else◌}
 use Rattle.std.specs.List.{list_all}
+use Rattle.serde_json.specs.Data.{Data}
 use Rattle.awk_types.specs.DataType.{Name}
 use Rattle.awk_types.specs.Datum.{Datum, arr, one}
 use Rattle.awk_types.specs.declared.fault.Fault.{Fault}
-use Rattle.awk_types.specs.declared.fault.Fault.TheVariants.{Size, WrongType}
+use Rattle.awk_types.specs.declared.fault.Fault.TheVariants.{Size, WrongType, Unbuilt}
 use Rattle.awk_pack.specs.Canon.{Pack, canon}
 use Rattle.awk_pack.specs.declared.packed.PackFault.{PackFault}
 use Rattle.awk_text.specs.TypeText.{datum_type_text}
 use Rattle.awk_query.specs.Line as lines
-use Rattle.awk_query.specs.Line.{Line, line_said}
+use Rattle.awk_query.specs.Line.{Line, Buffers, line_said}
+use Rattle.awk_query.specs.declared.reading.Reading.TheVariants.{One}
 use Rattle.awk_query.specs.Told.{Unread, json, query}
 use Rattle.awk_eval.specs.Bindings as bindings
 use Rattle.awk_eval.specs.Bindings.{bind}
@@ -63,9 +65,23 @@ abbrev pub pack_shown : Datum → Answer
 pack_shown (arr t vs) = packing (canon t vs)
 pack_shown (one t v) = fault (Evaluation WrongType)
 
+-- what is no line here
+abbrev pub no_line : Environment → Reply
+no_line variables = answering variables (fault Query)
+
+-- A load has the texts of its buffers, the least significant byte of a number first. Another order
+-- and bytes that follow a line are of version 2.
+abbrev pub reply_load : Environment → Name → Data → ℕ → Bool → Buffers → Reply
+reply_load variables n form length big (lines.texts buffers) =
+    if big then no_line variables else reply_bind variables n (loaded form length buffers)
+reply_load variables n form length big (lines.parts ps) = no_line variables
+
+-- the line that begins version 2 is none here, and arrays of JSON lists are not built yet
 abbrev pub reply_line : Environment → Line → Reply
-reply_line variables (lines.load n form length buffers) =
-    reply_bind variables n (loaded form length buffers)
+reply_line variables (lines.load n form length big buffers) =
+    reply_load variables n form length big buffers
+reply_line variables lines.session = no_line variables
+reply_line variables (lines.values n list) = answering variables (fault (Evaluation Unbuilt))
 reply_line variables (lines.bind n e) = reply_bind variables n (evaluated (eval variables e))
 reply_line variables (lines.show e) = answering variables (telling value (eval variables e))
 reply_line variables (lines.type_of e) =
@@ -76,7 +92,7 @@ reply_line variables lines.names = answering variables (names (bindings.names va
 abbrev pub reply : Environment → Result Line Unread → Reply
 reply variables (Ok line) = reply_line variables line
 reply variables (Err json) = answering variables (fault Json)
-reply variables (Err query) = answering variables (fault Query)
+reply variables (Err query) = no_line variables
 
 abbrev pub step_of : Reply → Step Environment
 step_of r = record {
@@ -89,7 +105,7 @@ step_of r = record {
 unfoldable pub step : Environment → List ℕ → Step Environment
 step variables line =
     if is_blank line then record { answer = None; is_fault = false; after = variables }
-    else step_of (reply variables (line_said line))
+    else step_of (reply variables (line_said One line))
 
 -- the answers to a session's lines, each with its line end
 abbrev pub answers : List (List ℕ) → List ℕ

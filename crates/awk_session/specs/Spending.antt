@@ -6,8 +6,8 @@ use Rattle.awk_types.specs.DataType.{Name}
 use Rattle.awk_layout.specs.Layout.{Layout}
 use Rattle.awk_layout.specs.declared.datum.Datum.{Datum}
 use Rattle.awk_layout.specs.declared.datum.Datum.TheVariants.{Arr}
-use Rattle.awk_store.specs.Buffers.{texts_of, total_len}
-use Rattle.awk_query.specs.Line.{Line, load, bind, show, type_of, pack, names}
+use Rattle.awk_query.specs.Line.{Line, load, session, bind, values, show, type_of, pack, names}
+use Rattle.awk_lengths.specs.LineBytes.{text_len}
 use Rattle.awk_eval.specs.Bindings as bindings
 use Rattle.awk_eval.specs.Bindings.{look_up}
 use Rattle.awk_eval.specs.Variables.{Variables}
@@ -67,7 +67,7 @@ IsViewWithin variables view d = OfView variables view (λ v. IsWithin (size_in v
 -- A load binds an array no greater than its form, and a let of a view of an array one no greater
 -- than that. Another line binds nothing.
 abbrev pub BindsBy : Line → Bool → Variables → Variables → Type 0
-BindsBy (load n form count buffers) is_fault old new =
+BindsBy (load n form count big buffers) is_fault old new =
     IsBoundUnless is_fault n (IsWithin (form_size form)) old new
 BindsBy (bind n e) is_fault old new =
     IsBoundUnless is_fault n (IsViewWithin old (view_of e)) old new
@@ -84,7 +84,7 @@ Unless (Err NoMemory) Fact = Unit {0}
 
 -- the name that a line binds, where its answer is no fault
 abbrev pub name_by : Line → Option Name
-name_by (load n form count buffers) = Some n
+name_by (load n form count big buffers) = Some n
 name_by (bind n e) = Some n
 name_by _ = None
 
@@ -104,9 +104,11 @@ IsLoaded form bytes steps0 steps1 = steps1 ≤ steps0 + load_cost (form_size for
 
 -- what a line takes before its answer is put
 abbrev pub TakesBy : Variables → Line → ℕ → ℕ → Type 0
-TakesBy variables (load n form count buffers) steps0 steps1 =
-    IsLoaded form (total_len (texts_of buffers)) steps0 steps1
+TakesBy variables (load n form count big buffers) steps0 steps1 =
+    IsLoaded form (text_len buffers) steps0 steps1
+TakesBy variables session steps0 steps1 = steps1 ≡ steps0
 TakesBy variables (bind n e) steps0 steps1 = IsViewTaken variables (view_of e) steps0 steps1
+TakesBy variables (values n list) steps0 steps1 = steps1 ≡ steps0
 TakesBy variables (show e) steps0 steps1 = IsViewTaken variables (view_of e) steps0 steps1
 TakesBy variables (type_of e) steps0 steps1 = IsViewTaken variables (view_of e) steps0 steps1
 TakesBy variables (pack e) steps0 steps1 = Unit {0}

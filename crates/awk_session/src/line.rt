@@ -5,6 +5,7 @@ ghost use Rattle.awk_edge.specs.Causes.{Rose, flushes_after};
 ghost use Rattle.awk_query.specs.Allowed.{IsAllowedLine};
 ghost use Rattle.awk_lengths.specs.LineBytes.{HasBytes};
 ghost use Rattle.awk_query.specs.Line.{line_said};
+ghost use Rattle.awk_query.specs.declared.reading.Reading.TheVariants.{One};
 ghost use Rattle.awk_eval.specs.Variables.{denoted};
 ghost use Rattle.awk_session.specs.Cost.{line_in};
 ghost use Rattle.awk_session.specs.Leaves.{Leaves};
@@ -18,7 +19,7 @@ use crate::reply::reply;
 use awk_edge::{Out, Sink};
 use awk_eval::Env;
 use awk_lanes::{Arena, Steps};
-use awk_query::{Line, QueryFault, read_line};
+use awk_query::{Line, QueryFault, Reading, read_line};
 use bumpalo::Bump;
 use std::alloc::{AllocError, Global};
 use std::sync::ledger::Ledger;
@@ -64,12 +65,12 @@ pub fn answer_line<'a, K: Sink, L: Ledger>(
     }
 }
 
-// What a line is read as.
+// What a line is read as: a line of version 1.
 fn read_as(alloc: Global, bytes: &[u8]) -> Result<Read, AllocError>
-    ensures said { IfOk result (λ read. read_view read ≡ line_said bytes.now) }
+    ensures said { IfOk result (λ read. read_view read ≡ line_said One bytes.now) }
     ensures allowed { IfOk result (λ read. IfOk (read_view read) IsAllowedLine) }
 {
-    match read_line(alloc, bytes) {
+    match read_line(alloc, bytes, Reading::One) {
         Ok(line) => Ok(Read::Line(line)),
         Err(QueryFault::Json) => Ok(Read::Json),
         Err(QueryFault::Query) => Ok(Read::Query),

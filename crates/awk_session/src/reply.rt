@@ -91,9 +91,18 @@ fn reply_line<'v, 's, 'a: 's, L: Ledger>(
             name,
             form,
             length,
+            big,
             buffers,
-        } => bind_loaded(alloc, env, name, form, *length, buffers, kept, steps),
+        } => {
+            if *big {
+                return Ok(Answer::Fault(AnswerFault::Query));
+            }
+            bind_loaded(alloc, env, name, form, *length, buffers, kept, steps)
+        }
+        Line::LoadRaw { .. } => Ok(Answer::Fault(AnswerFault::Query)),
+        Line::Session => Ok(Answer::Fault(AnswerFault::Query)),
         Line::Let { name, be } => bind_made(alloc, env, name, be, kept, steps),
+        Line::Values { .. } => Ok(Answer::Fault(AnswerFault::Evaluation(Fault::Unbuilt))),
         Line::Show(e) => show(alloc, env, e, arena, steps),
         Line::TypeOf(e) => show_type(alloc, env, e, arena, steps),
         Line::Pack(e) => show_packed(alloc, env, e, arena, steps),

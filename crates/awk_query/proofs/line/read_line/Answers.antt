@@ -4,4 +4,4 @@ use Rattle.awk_query.proofs.line.read_line.Goals as goal
 
 pub returns-clause-allowed : goal.returns-clause-allowed
 returns-clause-allowed c =
-    read-allowed (view c.in_ok-value.value) c.line_in.result c.line_in.ensures
+    read-allowed c.args.reading (view c.in_ok-value.value) c.line_in.result c.line_in.ensures
