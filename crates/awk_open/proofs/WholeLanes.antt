@@ -1,20 +1,21 @@
 -- Arrays whose lanes are those of their outermost kind.
-use Rattle.std.proofs.Common.{◌≡◌, ℕ, ◌+◌, ◌-◌, ◌<◌, ◌≤◌, arith, refl, ap, sym, ◌∙◌, subst, get_or-take, get_or-drop, length-take, length-drop, drop}
-use Rattle.std.specs.Prelude.{pos, None}
+use Rattle.std.proofs.Common.{◌≡◌, ℕ, ◌+◌, ◌-◌, ◌<◌, ◌≤◌, arith, refl, ap, sym, ◌∙◌, subst, get_or-take, get_or-drop, length-take, length-drop, drop, take, suc, zero, add-one, slice_get, Some, List, [], ◌∷◌}
+use Rattle.std.specs.Prelude.{pos, None, Option}
+use Rattle.awk_types.specs.DataType.{Name}
 use Rattle.awk_types.specs.Limit.{limit}
 use Rattle.awk_lanes.specs.Column.{Column}
 use Rattle.awk_lanes.specs.Cut.{cut_of}
 use Rattle.awk_lanes.specs.Numbers.{element, nat_of}
 use Rattle.awk_lanes.specs.Places.{at, place_at, size_of, AreSpans, IsOffsets}
-use Rattle.awk_layout.specs.Layout.{Layout, flat, lists, offset_lists}
+use Rattle.awk_layout.specs.Layout.{Layout, layouts_from, flat, lists, offset_lists, rows}
 use Rattle.awk_layout.specs.Valid.{len, IsValid}
 use Rattle.awk_layout.specs.Item.{run}
 use Rattle.awk_layout.specs.Typing.{array_type}
 use Rattle.awk_gather.specs.Arrays.{array_item}
-use Rattle.awk_open.specs.Opened.{IsOpened}
-use Rattle.awk_open.specs.declared.opening.Opened.TheVariants.{Leaf, Items}
-use Rattle.awk_open.proofs.OpenedKinds.{item-lists, item-offset_lists}
-use Rattle.awk_open.proofs.OpenedArrays.{lists_within, offsets_within}
+use Rattle.awk_open.specs.Opened.{IsOpened, AreLong}
+use Rattle.awk_open.specs.declared.opening.Opened.TheVariants.{Leaf, Items, Row}
+use Rattle.awk_open.proofs.OpenedKinds.{item-lists, item-offset_lists, item-rows, type-rows, within_at}
+use Rattle.awk_open.proofs.OpenedArrays.{lists_within, offsets_within, rows_within}
 
 pub whole_leaf : (c : Column) (x : Layout) → flat c ≡ x → IsValid x → IsOpened x (Leaf c)
 whole_leaf c x e v = subst (λ (y : Layout). IsOpened y (Leaf c)) e (record { kind = refl; size = refl; valid = subst IsValid (sym e) v; columns = tt; items = λ i k. refl })
@@ -63,3 +64,24 @@ whole_offsets o a b n x z v e m f h =
           let l : i + 1 < size_of o = omega arith in
           rw (starts-at o i l, stops-at o i l) (item-offset_lists o x i);
     })
+
+-- ---- rows
+
+pub whole_rows : (names others : Option (List Name)) (n : ℕ) (xs ys : List Layout) → IsValid (rows names n (layouts_from xs)) → AreLong n xs → others ≡ names → ys ≡ xs → IsOpened (rows names n (layouts_from xs)) (Row others ys)
+whole_rows names others n xs ys v h e f = rw (e, f) (record {
+  kind = type-rows names n xs;
+  size = refl;
+  valid = v;
+  columns = h;
+  items = λ i k. item-rows names n xs i;
+})
+
+long_suc : (n : ℕ) (xs : List Layout) (i : ℕ) (y : Layout) → slice_get xs i ≡ Some y → AreLong n (take i xs) → len y ≡ n → AreLong n (take (suc i) xs)
+long_suc n [] i y e h p = cc
+long_suc n (x ∷ xs) zero y e h p = let f : x ≡ y = cc in (rw f p, tt)
+long_suc n (x ∷ xs) (suc i) y e h p = (h.0, long_suc n xs i y e h.1 p)
+
+pub AreLong-push : (n : ℕ) (xs : List Layout) (i : ℕ) (y : Layout) → slice_get xs i ≡ Some y → AreLong n (take i xs) → len y ≡ n → AreLong n (take (i + 1) xs)
+AreLong-push n xs i y e h p = rw add-one (long_suc n xs i y e h p)
+
+pub ruleset whole = (whole_leaf, whole_rows, AreLong-push, within_at, rows_within)

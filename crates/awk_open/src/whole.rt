@@ -1,16 +1,16 @@
-//! Arrays of numbers and of lists that are opened as they lie.
-ghost use Rattle.std.specs.Prelude.{◌≡◌, None, IfOk, IfSome};
+//! Arrays of numbers, lists and rows that are opened as they lie.
+ghost use Rattle.std.specs.Prelude.{◌≡◌, None, IfOk, IfSome, IsTrue, option_map};
 ghost use Rattle.awk_types.specs.Limit.{limit};
-ghost use Rattle.awk_layout.specs.Layout.{lists, offset_lists};
+ghost use Rattle.awk_layout.specs.Layout.{layouts_from, lists, offset_lists, rows};
 ghost use Rattle.awk_layout.specs.Typing.{array_type};
 ghost use Rattle.awk_layout.specs.Valid.{IsValid};
-ghost use Rattle.awk_open.specs.Opened.{IsOpened};
+ghost use Rattle.awk_open.specs.Opened.{IsOpened, AreLong, AreWithin};
 
 use crate::opening::Opened;
 use awk_gather::array_within;
 use awk_lanes::{Arena, Lane, Steps};
-use awk_layout::{Array, Class, Node};
-use awk_types::NoMemory;
+use awk_layout::{Array, Arrays, Class, Node, Nodes};
+use awk_types::{Names, NoMemory, copy_names};
 use std::alloc::Global;
 use std::sync::ledger::Ledger;
 
@@ -52,7 +52,58 @@ fn whole_offsets<'a, L: Ledger>(
     })
 }
 
+/// Whether each of these has n items.
+#[tactic(auto, using(crate::proofs::WholeLanes::whole))]
+fn are_long(xs: &Nodes, n: u64) -> bool
+    ensures { IsTrue result → AreLong n xs.now }
+{
+    for i in 0..xs.len() {
+        if xs.get(i).len() != n {
+            return false;
+        }
+    }
+    true
+}
+
+/// The arrays of nodes.
+#[tactic(auto, using(crate::proofs::WholeLanes::whole, awk_layout::proofs::ContentTypes::contents))]
+fn arrays_of<'a>(alloc: Global, xs: &Nodes<'a>) -> Result<Arrays<'a>, NoMemory>
+    requires limits { AreWithin xs.now }
+    ensures { IfOk result (λ ys. ys ≡ xs.now) }
+{
+    let mut arrays = Arrays::new(alloc);
+    for i in 0..xs.len() {
+        let array = array_within(alloc, xs.get(i).copy(alloc)?)?;
+        arrays.push(array)?;
+    }
+    Ok(arrays)
+}
+
+/// Rows, if each column has an item for each and no more: no column is moved.
+#[tactic(auto, using(crate::proofs::WholeLanes::whole))]
+fn whole_rows<'a>(
+    alloc: Global,
+    names: Option<&Names>,
+    n: u64,
+    contents: &Nodes<'a>,
+) -> Result<Option<Opened<'a>>, NoMemory>
+    requires valid { let fields = option_map (λ m. m.now) names in
+        IsValid (rows fields n (layouts_from contents.now)) }
+    requires limits { AreWithin contents.now }
+    ensures opened { let fields = option_map (λ m. m.now) names.entry in
+        let x = rows fields n (layouts_from contents.now) in
+        IfOk result (λ o. IfSome o (IsOpened x)) }
+{
+    if are_long(contents, n) {
+        let names = copy_names(alloc, names)?;
+        let columns = arrays_of(alloc, contents)?;
+        return Ok(Some(Opened::Row { names, columns }));
+    }
+    Ok(None)
+}
+
 /// The outermost kind of an array whose lanes are the kind's already.
+#[tactic(auto, using(crate::proofs::WholeLanes::whole))]
 pub fn opened_whole<'a, L: Ledger>(
     alloc: Global,
     x: &Array<'a>,
@@ -71,6 +122,7 @@ pub fn opened_whole<'a, L: Ledger>(
         Class::ListOffset { offsets, content } => {
             Ok(Some(whole_offsets(alloc, offsets, content, steps)?))
         }
+        Class::Row { names, contents } => whole_rows(alloc, names, x.len(), contents),
         _ => Ok(None),
     }
 }
