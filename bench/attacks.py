@@ -3,10 +3,11 @@
 
     python3 bench/attacks.py [--only WORD] [--seconds N] [PROGRAM ..]
 
-PROGRAM is crates/awk_cli/out/awk_cli where none is given; several are run beside one another. Each
-row is a session of a few lines, and its last answer is printed with the exit status, the seconds and
-the greatest memory. No row may end with status 5 where a value or a fault is defined. All figures
-are of this run, which is made by hand and is no part of the gate.
+PROGRAM is crates/awk_cli/out/awk_cli where none is given; several are run one after another. Each
+row is a session of a few lines, and its last answer is printed with the exit status and the
+seconds; `late` is a session that took longer than N seconds, 60 where none are given. No row should
+end with status 5 where a value or a fault is defined. All figures are of this run, which is made by
+hand and is no part of the gate.
 """
 
 import argparse
@@ -78,7 +79,8 @@ def rows() -> list[tuple[str, list[str]]]:
     for name, start in [("two", TWO), ("named", NAMED), ("nulls", NULLS), ("deep", DEEP)]:
         found += [
             (f"{name} concatenate 0", [start, typed(["concatenate", 0, ["g", "g"]])]),
-            (f"{name} concatenate 0 num", [start, show(["num", ["concatenate", 0, ["g", "g"]], 1])]),
+            (f"{name} concatenate 0 num",
+             [start, show(["num", ["concatenate", 0, ["g", "g"]], 1])]),
             (f"{name} fill_none 0", [start, typed(["fill_none", "g", 7, 0])]),
             (f"{name} drop_none 0", [start, show(["num", ["drop_none", "g", 0], 1])]),
             (f"{name} pick", [start, typed(["pick", "g", ["local_index", "g", 0]])]),
@@ -113,7 +115,8 @@ def rows() -> list[tuple[str, list[str]]]:
         ("many pad_none 0 clip", [MANY, show(["num", ["pad_none", g, 1, 0, True], 0])]),
     ]
     x = nested(500)
-    for operation in ["num", "flatten", "is_none", "local_index", "drop_none", "singletons", "firsts"]:
+    plain = ["num", "flatten", "is_none", "local_index", "drop_none", "singletons", "firsts"]
+    for operation in plain:
         for axis in [2, 3, 4]:
             found.append((f"nested {operation} {axis}", [x, typed([operation, "x", axis])]))
     for axis in [2, 3, 4]:
