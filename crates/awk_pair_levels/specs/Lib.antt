@@ -1,6 +1,0 @@
-pub mod Levels
-pub mod Sides
-pub mod Rows
-pub mod Shares
-pub mod Presence
-pub mod Single
