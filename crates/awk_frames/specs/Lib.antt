@@ -1,0 +1,4 @@
+pub mod Shape
+pub mod View
+pub mod Sizes
+pub mod Framed

@@ -1,0 +1,242 @@
+-- What each share gives to the rows below.
+use Rattle.std.proofs.Common.{◌≡◌, ℕ, zero, suc, ◌+◌, ◌<◌, ◌≤◌, refl, ap, arith, sym, subst}
+use Rattle.std.proofs.Common.{◌∙◌}
+use Rattle.std.specs.Prelude.{List, [], ◌∷◌, ◌++◌, map, length, get_or, pos}
+use Rattle.std.specs.Prelude.{slice_get, Some}
+use Rattle.std.specs.List.{range_with_len, flat_map, list_all}
+use Rattle.std.proofs.Common.{take, drop, true, false}
+use Rattle.std.proofs.lemmas.List.{take_all}
+use Rattle.std.proofs.lemmas.List.FromFn.{get_or-range_with_len}
+use Rattle.awk_types.proofs.ListLaws.{drop-get, take-get}
+use Rattle.awk_types.specs.ItemLimit.{item_limit}
+use Rattle.awk_types.specs.Value.{Value, null, value_list}
+use Rattle.awk_lanes.specs.Column.{Column}
+use Rattle.awk_lanes.specs.Counted.{before, items_lane, numbers_of_lists, offsets_by}
+use Rattle.awk_lanes.specs.Numbers.{nat_of}
+use Rattle.awk_lanes.specs.Places.{size_of, place_at, IsIndex}
+use Rattle.awk_lanes.specs.declared.kind.Kind.TheVariants.{I64}
+use Rattle.awk_lanes.proofs.CountedLanes.{numbers-at, length-numbers}
+use Rattle.awk_layout.specs.Item.{run}
+use Rattle.awk_layout.specs.Layout.{Layout}
+use Rattle.awk_layout.specs.Valid.{len}
+use Rattle.awk_gather.specs.Arrays.{array_item, IsGathered}
+use Rattle.awk_columns.specs.Counted.{first_of, span_at, spans, AreBelow}
+use Rattle.awk_columns.specs.Reached.{IsReached}
+use Rattle.awk_columns.specs.ListClass.{Class}
+use Rattle.awk_columns.specs.Lists.{Listed}
+use Rattle.awk_columns.proofs.FirstPlaces.{first_of-more}
+use Rattle.awk_columns.proofs.ReachedContents.{below-first_of, places_index, first_of-at}
+use Rattle.awk_columns.proofs.ReachedContents.{reached-len, reached-item}
+use Rattle.awk_pair_levels.specs.Levels.{common_class}
+use Rattle.awk_pair_levels.specs.Shares.{length_of, length_at, share_class, IsEven, AreEven}
+use Rattle.awk_pair_levels.specs.Shares.{any_differ, IsAmong, IsNext, AreNext, AreSharedRows}
+use Rattle.awk_pair_levels.specs.Shares.{is_lists, IsAsLong, IsCounted, IsLaid, IsRepeated}
+use Rattle.awk_pair_levels.specs.Shares.{AreRepeats}
+use Rattle.awk_pair_levels.specs.declared.shares.Share.{Share}
+use Rattle.awk_pair_levels.specs.declared.shares.Share.TheVariants.{Lists, Items}
+use Rattle.awk_pair_levels.proofs.RangeLaws.{map-append, map-map, length-flat, length-range}
+use Rattle.awk_pair_levels.proofs.RangeLaws.{before-same, before-room, map-in}
+use Rattle.awk_pair_levels.proofs.EvenLaws.{length_at-among, none_differ, even_by}
+
+-- ---- runs of items
+
+pub get-run : (f : ℕ → Value) (a n k : ℕ) → k < n
+    → get_or (value_list (run f a n)) k null ≡ f (a + k)
+get-run f a zero k h = absurd (omega arith)
+get-run f a (suc n) zero h = let e : a ≡ a + zero = omega arith in ap f e
+get-run f a (suc n) (suc k) h =
+    let e : suc a + k ≡ a + suc k = omega arith in
+    get-run f (suc a) n k (omega arith) ∙ ap f e
+
+-- ---- lists
+
+-- how many items the first lists have together
+pub spans-before : (l : Listed) (i : ℕ)
+    → length (first_of (span_at l.starts l.stops) i) ≡ before (length_of l) i
+spans-before l i =
+    length-flat (span_at l.starts l.stops) i
+    ∙ before-same (λ j. length (span_at l.starts l.stops j)) (length_of l) i
+    (λ j h. length-range (place_at l.starts j) (length_of l j))
+
+pub next_lists : (n : ℕ) (m : ℕ → ℕ) (l : Listed) (z : Layout) → size_of l.starts ≡ n
+    → IsEven m n (Lists l) → IsReached l.content (spans l.starts l.stops) z → IsNext m n (Lists l) z
+next_lists n m l z e v r =
+    let f : ℕ → List ℕ = span_at l.starts l.stops in
+    let b : (i : ℕ) → i ≤ n → length (first_of f i) ≡ before m i =
+    λ i h. spans-before l i ∙ before-same (length_of l) m i (λ j q. v j (omega (arith, h, q))) in
+    let all : length (spans l.starts l.stops) ≡ before m n =
+    ap (λ k. length (first_of f k)) e ∙ b n (omega arith) in
+    record {
+      size = reached-len l.content z (spans l.starts l.stops) r ∙ all;
+      typ = r.typ;
+      items = λ i k h q.
+          let s : k < length (f i) =
+          omega (arith, length-range (place_at l.starts i) (length_of l i), v i h, q) in
+          let w : before m i + k < length (spans l.starts l.stops) =
+          omega (arith, all, before-room m n i k h q) in
+          reached-item l.content z (spans l.starts l.stops) (before m i + k) r w
+          ∙ ap (array_item l.content)
+          (ap (λ c. get_or (first_of f (size_of l.starts)) (c + k) 0) (sym (b i (omega (arith, h))))
+          ∙ first_of-at f i (size_of l.starts) k 0 (omega (arith, h, e)) s
+          ∙ get_or-range_with_len (place_at l.starts i) (length_of l i) k 0
+          (omega (arith, v i h, q)));
+    }
+
+-- ---- items repeated
+
+-- numbers that are places, one list after another
+pub place-numbers : (m : ℕ → ℕ) (g : ℕ → ℕ → ℕ) (n : ℕ) → numbers_of_lists m (λ i k. pos (g i k)) n
+    ≡ map (λ k. pos k) (first_of (λ i. map (g i) (range_with_len 0 (m i))) n)
+place-numbers m g zero = refl
+place-numbers m g (suc n) =
+    let f : ℕ → List ℕ = λ i. map (g i) (range_with_len 0 (m i)) in
+    let e : suc n ≡ n + 1 = omega arith in
+    ap (λ zs. zs ++ map (λ k. pos (g n k)) (range_with_len 0 (m n))) (place-numbers m g n)
+    ∙ ap (λ zs. map (λ k. pos k) (first_of f n) ++ zs)
+    (sym (map-map (λ k. pos k) (g n) (range_with_len 0 (m n))))
+    ∙ sym (ap (λ k. map (λ k. pos k) (first_of f k)) e
+    ∙ ap (map (λ k. pos k)) (first_of-more f n)
+    ∙ map-append (λ k. pos k) (first_of f n) (f n))
+
+same-below : (n i a m : ℕ) → i < n → AreBelow n (map (λ k. i) (range_with_len a m))
+same-below n i a zero h = tt
+same-below n i a (suc m) h = (h, same-below n i (a + 1) m h)
+
+abbrev pub places_of : (ℕ → ℕ) → ℕ → Column
+places_of m n = items_lane I64 m (λ i k. pos i) n
+
+-- each is a place
+pub repeats_index : (m : ℕ → ℕ) (n : ℕ) → IsIndex (places_of m n) n
+repeats_index m n =
+    subst (λ zs. IsIndex (record { kind = I64; items = zs }) n)
+    (sym (place-numbers m (λ i k. i) n))
+    (places_index n (first_of (λ i. map (λ k. i) (range_with_len 0 (m i))) n)
+    (below-first_of n (λ i. map (λ k. i) (range_with_len 0 (m i))) n
+    (λ i h. same-below n i 0 (m i) h)))
+
+pub size-places_of : (m : ℕ → ℕ) (n : ℕ) → size_of (places_of m n) ≡ before m n
+size-places_of m n = length-numbers m (λ i k. pos i) n
+
+pub place-places_of : (m : ℕ → ℕ) (n i k : ℕ) → i < n → k < m i
+    → place_at (places_of m n) (before m i + k) ≡ i
+place-places_of m n i k h l = ap nat_of (numbers-at m (λ j q. pos j) i k n h l)
+
+pub next_items : (n : ℕ) (m : ℕ → ℕ) (p : Column) (y z : Layout) → p ≡ places_of m n
+    → IsGathered y p z → IsNext m n (Items y) z
+next_items n m p y z e g = record {
+  size = g.size ∙ ap size_of e ∙ size-places_of m n;
+  typ = g.typ;
+  items = λ i k h l.
+      let q : before m i + k < size_of p =
+      omega (arith, ap size_of e, size-places_of m n, before-room m n i k h l) in
+      g.each (before m i + k) q
+      ∙ ap (λ c. array_item y (place_at c (before m i + k))) e
+      ∙ ap (array_item y) (place-places_of m n i k h l);
+}
+
+-- ---- what a share is made of
+
+module _ (m : ℕ → ℕ) (n : ℕ) (ks : Column) where
+  pub no_repeats : (ps : List Share) → list_all is_lists ps ≡ true → AreRepeats m n ks ps
+  no_repeats [] e = tt
+  no_repeats (Lists l ∷ ps) e = (tt, no_repeats ps e)
+  no_repeats (Items y ∷ ps) e = cc
+
+  pub all_repeats : (ps : List Share) → ks ≡ places_of m n → AreRepeats m n ks ps
+  all_repeats [] e = tt
+  all_repeats (Lists l ∷ ps) e = (tt, all_repeats ps e)
+  all_repeats (Items y ∷ ps) e = (e, all_repeats ps e)
+
+  pub repeat_get : (ps : List Share) (i : ℕ) (p : Share) → slice_get ps i ≡ Some p
+      → AreRepeats m n ks (drop i ps) → IsRepeated m n ks p × AreRepeats m n ks (drop (i + 1) ps)
+  repeat_get ps i p e h = subst (AreRepeats m n ks) (drop-get ps i p e) h
+
+  pub counted_share : (c : ℕ) (p : Share) → c ≡ before m n → IsAsLong n p → IsEven m n p
+      → IsRepeated m n ks p → IsCounted c ks p
+  counted_share c (Lists l) e a v r =
+      e ∙ sym (before-same (length_of l) m n v) ∙ ap (before (length_of l)) (sym a)
+  counted_share c (Items y) e a v r = (
+    ap (λ k. k.kind) r,
+    subst (λ k. IsIndex k (len y)) (sym r)
+        (subst (IsIndex (places_of m n)) (sym a) (repeats_index m n)),
+  )
+
+  pub laid_next : (p : Share) (z : Layout) → IsAsLong n p → IsEven m n p → IsRepeated m n ks p
+      → IsLaid ks p z → IsNext m n p z
+  laid_next (Lists l) z a v r h = next_lists n m l z a v h
+  laid_next (Items y) z a v r h = next_items n m ks y z r h
+
+-- ---- one share after another
+
+pub next_append : (m : ℕ → ℕ) (n : ℕ) (ps : List Share) (zs : List Layout) (p : Share) (z : Layout)
+    → AreNext m n ps zs → IsNext m n p z → AreNext m n (ps ++ p ∷ []) (zs ++ z ∷ [])
+next_append m n [] [] p z h g = (g, tt)
+next_append m n (q ∷ ps) (y ∷ zs) p z h g = (h.0, next_append m n ps zs p z h.1 g)
+next_append m n [] (y ∷ zs) p z h g = absurd h
+next_append m n (q ∷ ps) [] p z h g = absurd h
+
+next-one : (m k : ℕ → ℕ) (n : ℕ) (p : Share) (z : Layout) → ((i : ℕ) → i < n → m i ≡ k i)
+    → IsNext m n p z → IsNext k n p z
+next-one m k n p z e h = record {
+  size = h.size ∙ before-same m k n e;
+  typ = h.typ;
+  items = λ i j a b.
+      ap (λ q. array_item z (q + j)) (sym (before-same m k i (λ c r. e c (omega arith))))
+      ∙ h.items i j a (omega (arith, e i a));
+}
+
+pub next_by : (m k : ℕ → ℕ) (n : ℕ) (ps : List Share) (zs : List Layout)
+    → ((i : ℕ) → i < n → m i ≡ k i) → AreNext m n ps zs → AreNext k n ps zs
+next_by m k n [] [] e h = tt
+next_by m k n (p ∷ ps) (z ∷ zs) e h = (next-one m k n p z e h.0, next_by m k n ps zs e h.1)
+next_by m k n [] (z ∷ zs) e h = absurd h
+next_by m k n (p ∷ ps) [] e h = absurd h
+
+pub next_push : (m : ℕ → ℕ) (n : ℕ) (ps : List Share) (zs ws : List Layout) (i : ℕ) (p : Share)
+    (z : Layout) → slice_get ps i ≡ Some p → ws ≡ zs ++ z ∷ [] → AreNext m n (take i ps) zs
+    → IsNext m n p z → AreNext m n (take (i + 1) ps) ws
+next_push m n ps zs ws i p z e f h g =
+    subst (λ w. AreNext m n (take (i + 1) ps) w) (sym f)
+    (subst (λ w. AreNext m n w (zs ++ z ∷ [])) (sym (take-get ps i p e))
+    (next_append m n (take i ps) zs p z h g))
+
+pub next_all : (m : ℕ → ℕ) (n : ℕ) (ps : List Share) (zs : List Layout) (i : ℕ) → length ps ≤ i
+    → AreNext m n (take i ps) zs → AreNext m n ps zs
+next_all m n ps zs i l h = subst (λ w. AreNext m n w zs) (take_all i ps l) h
+
+-- ---- by the lists of one operand
+
+offsets-same : (m k : ℕ → ℕ) (n : ℕ) → ((i : ℕ) → i < n → m i ≡ k i)
+    → offsets_by m n ≡ offsets_by k n
+offsets-same m k n h =
+    ap (λ zs. record { kind = I64; items = zs })
+    (map-in (λ i. pos (before m i)) (λ i. pos (before k i)) 0 (n + 1)
+    (λ i l. ap (λ b. pos b) (before-same m k i (λ j q. h j (omega (arith, l, q))))))
+
+module _ (l : Listed) (n : ℕ) (ps : List Share) where
+  abbrev ByLead : Type 0
+  ByLead = IsAmong l ps × AreEven (length_of l) n ps
+
+  lead-same : ByLead → (i : ℕ) → i < n → length_of l i ≡ length_at ps i
+  lead-same g i h = sym (length_at-among l n i ps h g.0 g.1)
+
+  pub rows_large : ByLead → item_limit < before (length_of l) n
+      → (any_differ ps n ≡ false) × (item_limit < before (length_at ps) n)
+  rows_large g h = (
+    none_differ (length_of l) n ps g.1,
+    omega (arith, h, before-same (length_of l) (length_at ps) n (lead-same g)),
+  )
+
+  pub rows_given : (c : Class) (o : Column) (m : ℕ) (zs : List Layout) → ByLead
+      → c ≡ common_class (flat_map share_class ps) → o ≡ offsets_by (length_of l) n
+      → m ≡ before (length_of l) n → before (length_of l) n ≤ item_limit
+      → AreNext (length_of l) n ps zs → AreSharedRows n ps c o m zs
+  rows_given c o m zs g e f k h a = record {
+    even = none_differ (length_of l) n ps g.1;
+    alike = even_by (length_of l) (length_at ps) n ps (lead-same g) g.1;
+    few = omega (arith, k, h);
+    class = e;
+    offsets = f ∙ offsets-same (length_of l) (length_at ps) n (lead-same g);
+    count = k ∙ before-same (length_of l) (length_at ps) n (lead-same g);
+    next = next_by (length_of l) (length_at ps) n ps zs (lead-same g) a;
+  }

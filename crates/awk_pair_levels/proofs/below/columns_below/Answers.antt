@@ -1,0 +1,50 @@
+use Rattle.std.proofs.Common.{arith, refl, length}
+use Rattle.std.proofs.lemmas.Option.{slice_get_read}
+use Rattle.awk_lanes.specs.Places.{size_of}
+use Rattle.awk_pair_levels.specs.Shares.{length_of}
+use Rattle.awk_pair_levels.proofs.EvenLaws.{as_long_get, even_get}
+use Rattle.awk_pair_levels.proofs.NextLaws.{next_push, next_all, repeat_get, counted_share}
+use Rattle.awk_pair_levels.proofs.NextLaws.{laid_next}
+use Rattle.awk_pair_levels.proofs.below.columns_below.Goals as goal
+
+pub column_below-requires : goal.column_below-requires
+column_below-requires g c =
+    let m = length_of c.args.lead.now in
+    let n = size_of c.args.lead.now.starts in
+    let read = slice_get_read c.args.shares.now (length c.args.shares.now) c.loop-i.i
+    c.index-shares-i.result refl (omega arith) c.index-shares-i.is in
+    counted_share m n c.in_ok-places.places c.args.count c.index-shares-i.result c.requires.count
+    (as_long_get n c.args.shares.now c.loop-i.i c.index-shares-i.result read
+    c.loop-i.invariant.long).0
+    (even_get m n c.args.shares.now c.loop-i.i c.index-shares-i.result read
+    c.loop-i.invariant.even).0
+    (repeat_get m n c.in_ok-places.places c.args.shares.now c.loop-i.i c.index-shares-i.result read
+    c.loop-i.invariant.repeats).0
+
+pub loop-i-preserved : goal.loop-i-preserved
+loop-i-preserved g c =
+    let m = length_of c.args.lead.now in
+    let n = size_of c.args.lead.now.starts in
+    let read = slice_get_read c.args.shares.now (length c.args.shares.now) c.loop-i.i
+    c.index-shares-i.result refl (omega arith) c.index-shares-i.is in
+    let a = as_long_get n c.args.shares.now c.loop-i.i c.index-shares-i.result read
+    c.loop-i.invariant.long in
+    let v = even_get m n c.args.shares.now c.loop-i.i c.index-shares-i.result read
+    c.loop-i.invariant.even in
+    let r = repeat_get m n c.in_ok-places.places c.args.shares.now c.loop-i.i
+    c.index-shares-i.result read c.loop-i.invariant.repeats in
+    record {
+      long = a.1;
+      even = v.1;
+      repeats = r.1;
+      made = next_push m n c.args.shares.now c.loop-i.columns c.push.new.self c.loop-i.i
+          c.index-shares-i.result c.in_ok-column.column read c.in_ok-push.ensures.ok
+          c.loop-i.invariant.made
+          (laid_next m n c.in_ok-places.places c.index-shares-i.result c.in_ok-column.column
+          a.0 v.0 r.0 c.in_ok-column.ensures);
+    }
+
+pub returns : goal.returns
+returns g c =
+    next_all (length_of c.args.lead.now) (size_of c.args.lead.now.starts) c.args.shares.now
+    c.loop-i.columns c.loop-i.i (omega (arith, c.loop-i-test.false)) c.loop-i.invariant.made
