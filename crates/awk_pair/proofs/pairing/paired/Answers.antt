@@ -26,7 +26,7 @@ returns-then-count-gt-ITEM_LIMIT-clause-answer g c =
     said_large_first c.args.keep c.args.depth (all_data c.args.xs.now)
     (reach c.args.depth) c.levels_below-d.result c.in-Rows.count c.in-Rows.arrays h
     (sym c.in_ok-any_unequal_row-in-Rows.ensures
-    ∙ c.if-branch-2.false) (omega (arith, c.if-count-gt-ITEM_LIMIT.true))
+    ∙ c.if-branch.false) (omega (arith, c.if-count-gt-ITEM_LIMIT.true))
 
 pub returns-in-TooMany-clause-answer : goal.returns-in-TooMany-clause-answer
 returns-in-TooMany-clause-answer g c =
@@ -143,8 +143,8 @@ returns-in-Unequal-clause-answer g c =
     (sym c.has_wrong_end.ensures ∙ c.if-has_wrong_end.false)
     (uneven_arrays c.args.keep c.args.depth (all_data c.args.xs.now) e)
 
-pub returns-then-branch-2-clause-answer : goal.returns-then-branch-2-clause-answer
-returns-then-branch-2-clause-answer g c =
+pub returns-then-branch-clause-answer : goal.returns-then-branch-clause-answer
+returns-then-branch-clause-answer g c =
     let f : AreFirstRows (all_data c.args.xs.now) c.in-Rows.single c.in-Rows.count
     c.in-Rows.arrays = rw c.in-Rows.is at c.in_ok-first_rows.ensures in
     let h : AtHand c.args.depth (all_data c.args.xs.now) (reach c.args.depth)
@@ -154,7 +154,7 @@ returns-then-branch-2-clause-answer g c =
     refl c.levels_below-d.ensures (sym c.has_wrong_end.ensures ∙ c.if-has_wrong_end.false) f in
     said_unequal c.args.keep c.args.depth (all_data c.args.xs.now) (reach c.args.depth)
     c.levels_below-d.result c.in-Rows.count c.in-Rows.arrays h
-    (sym c.in_ok-any_unequal_row-in-Rows.ensures ∙ c.if-branch-2.true)
+    (sym c.in_ok-any_unequal_row-in-Rows.ensures ∙ c.if-branch.true)
 
 pub returns-in-Unequal-2-clause-answer : goal.returns-in-Unequal-2-clause-answer
 returns-in-Unequal-2-clause-answer g c =
