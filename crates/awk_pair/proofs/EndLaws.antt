@@ -1,12 +1,10 @@
 -- The ends of a pairing: the operands' columns as they stand.
-use Rattle.std.proofs.Common.{◌≡◌, ℕ, zero, suc, ◌+◌, ◌-◌, ◌<◌, Bool, true, false, not, ◌&&◌, ◌||◌}
+use Rattle.std.proofs.Common.{◌≡◌, ℕ, suc, ◌+◌, Bool, false, ◌&&◌}
 use Rattle.std.proofs.Common.{refl, ap, arith, sym, subst, ◌∙◌}
-use Rattle.std.specs.Prelude.{List, [], ◌∷◌, ◌++◌, map, filter, length, if◌then◌else◌, get_or}
-use Rattle.std.specs.Prelude.{Option, Some, None}
-use Rattle.std.specs.List.{list_any, flat_map, range_with_len}
+use Rattle.std.specs.Prelude.{List, [], ◌∷◌, map, length, get_or}
+use Rattle.std.specs.List.{list_any, range_with_len}
 use Rattle.awk_types.specs.DataType.{DataType, tup, types_from}
-use Rattle.awk_types.specs.Simple.{present}
-use Rattle.awk_types.specs.Value.{Value, null, row, value_list, values_from}
+use Rattle.awk_types.specs.Value.{Value, null, row, values_from}
 use Rattle.awk_layout.specs.Layout.{Layout}
 use Rattle.awk_layout.specs.Valid.{len}
 use Rattle.awk_layout.specs.Item.{item}
@@ -20,17 +18,16 @@ use Rattle.awk_gather.specs.Arrays.{array_item}
 use Rattle.awk_pair.proofs.LevelLaws.{paired_value-level, paired_type-level, types_at_ends-level}
 use Rattle.awk_pair.proofs.LevelLaws.{is_uneven-level}
 use Rattle.awk_pair.proofs.RowLaws.{value_list-from, map-by, any-by}
-use Rattle.awk_pair.specs.Outcomes.{ArePaired, ArePairs}
+use Rattle.awk_pair.specs.Outcomes.{ArePairs}
 use Rattle.awk_pair.specs.Paired.{Reach, to_leaves, to_depth, end_type, end_types, paired_type}
 use Rattle.awk_pair.specs.Paired.{types_at_ends, end_value, is_uneven, paired_value, is_to_leaves}
-use Rattle.awk_pair.specs.Paired.{takes_nulls, values_of_rows, any_uneven}
+use Rattle.awk_pair.specs.Paired.{values_of_rows, any_uneven}
 use Rattle.awk_frames.specs.Sizes.{levels_refused}
-use Rattle.awk_frames.specs.Shape.{Shape, leaves, shape, ends}
+use Rattle.awk_frames.specs.Shape.{leaves, shape, ends}
 use Rattle.awk_pair_levels.proofs.LevelTypes.{presents-bare}
 use Rattle.awk_pair_levels.proofs.RangeLaws.{length-map, length-range}
 use Rattle.awk_pair_levels.specs.Levels.{some_option, goes_on}
 use Rattle.awk_pair_levels.specs.Rows.{row_at, rows_at}
-use Rattle.awk_pair_levels.specs.Sides.{misses}
 
 module _ (keep : Bool) where
   -- a row of a row's items

@@ -1,11 +1,10 @@
 -- The first rows of arrays and single values.
 use Rattle.std.proofs.Common.{◌≡◌, ℕ, zero, suc, ◌+◌, ◌<◌, ◌≤◌, ◌==◌, Bool, true, false, not, ◌&&◌}
-use Rattle.std.proofs.Common.{◌||◌}
 use Rattle.std.proofs.Common.{refl, ap, arith, sym, subst, ◌∙◌, drop, take}
-use Rattle.std.specs.Prelude.{List, [], ◌∷◌, ◌++◌, map, length, slice_get, Option, Some, None, pos}
-use Rattle.std.specs.Prelude.{if◌then◌else◌, ◌≤ℤ◌, unwrap_or, is_some}
+use Rattle.std.specs.Prelude.{List, [], ◌∷◌, ◌++◌, map, length, slice_get, Option, Some, pos}
+use Rattle.std.specs.Prelude.{unwrap_or, is_some}
 use Rattle.std.proofs.lemmas.Int.{ints}
-use Rattle.std.specs.List.{list_any, list_all, flat_map, range_with_len, AllByRecursion}
+use Rattle.std.specs.List.{list_all, flat_map, range_with_len, AllByRecursion}
 use Rattle.std.proofs.lemmas.List.{drop_all, take_all}
 use Rattle.awk_types.proofs.ListLaws.{drop-get, take-get}
 use Rattle.awk_types.specs.DataType.{DataType}
@@ -17,10 +16,10 @@ use Rattle.awk_lanes.specs.Made.{lane_of}
 use Rattle.awk_lanes.specs.Numbers.{nat_of}
 use Rattle.awk_lanes.specs.declared.kind.Kind.TheVariants.{I64}
 use Rattle.awk_lanes.proofs.MadeLanes.{size-lane_of, at-lane_of}
-use Rattle.awk_layout.specs.Datum.{datum_of, first_item, IsDatum}
+use Rattle.awk_layout.specs.Datum.{datum_of, IsDatum}
 use Rattle.awk_layout.specs.Layout.{Layout}
 use Rattle.awk_layout.specs.Single.{own_datum}
-use Rattle.awk_layout.specs.Typing.{array_type, array_items}
+use Rattle.awk_layout.specs.Typing.{array_type}
 use Rattle.awk_layout.specs.Valid.{len}
 use Rattle.awk_layout.specs.declared.datum.Datum.{Datum as Kept}
 use Rattle.awk_layout.specs.declared.datum.Datum.TheVariants.{Arr, One}
@@ -35,10 +34,10 @@ use Rattle.awk_pair.specs.Pairs.{is_array, item_type, datum_side, single_value, 
 use Rattle.awk_pair.specs.Pairs.{first_rows}
 use Rattle.awk_pair.specs.Typed.{IsTyped}
 use Rattle.awk_pair_levels.specs.Rows.{row_at, rows_at}
-use Rattle.awk_pair_levels.specs.Sides.{Side, side_at, side_lengths, all_same, first_or_zero}
+use Rattle.awk_pair_levels.specs.Sides.{side_at, side_lengths, all_same, first_or_zero}
 use Rattle.awk_pair_levels.specs.Sides.{equally_long, each}
 use Rattle.awk_pair_levels.proofs.TestLaws.{and_both}
-use Rattle.awk_pair_levels.proofs.RangeLaws.{map-in, flat-map, map-map}
+use Rattle.awk_pair_levels.proofs.RangeLaws.{map-in, flat-map}
 
 -- ---- columns
 

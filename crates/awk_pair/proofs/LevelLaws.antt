@@ -1,13 +1,13 @@
 -- The definitions of pairing, a level at a time.
-use Rattle.std.proofs.Common.{◌≡◌, ℕ, zero, suc, ◌+◌, ◌-◌, Bool, true, false, not, ◌&&◌, ◌||◌, refl}
+use Rattle.std.proofs.Common.{◌≡◌, ℕ, zero, suc, ◌-◌, Bool, true, false, not, ◌||◌, refl}
 use Rattle.std.proofs.Common.{ap, arith, sym, ◌∙◌}
-use Rattle.std.specs.Prelude.{List, [], ◌∷◌, ◌++◌, map, filter, length, if◌then◌else◌, nat_lt}
+use Rattle.std.specs.Prelude.{List, map, filter, if◌then◌else◌, nat_lt}
 use Rattle.std.specs.List.{list_any, flat_map}
 use Rattle.awk_types.specs.DataType.{DataType}
 use Rattle.awk_types.specs.Simple.{option_if}
-use Rattle.awk_types.specs.DataType.{unknown, leaf, var, reg, rec, tup, opt, uni, types_from}
-use Rattle.awk_types.specs.Simple.{is_option, present}
-use Rattle.awk_types.specs.Value.{Value, null, list, row, values_from}
+use Rattle.awk_types.specs.DataType.{opt}
+use Rattle.awk_types.specs.Simple.{present}
+use Rattle.awk_types.specs.Value.{Value, null, list, values_from}
 use Rattle.awk_columns.specs.ListClass.{list_type}
 use Rattle.awk_columns.specs.Columns.{is_present}
 use Rattle.awk_pair.proofs.RowLaws.{or_null, list_by, any-kept, any-below, map-by, any-by}

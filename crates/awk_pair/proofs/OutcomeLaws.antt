@@ -1,10 +1,10 @@
 -- What pairing comes to at a level, from what it comes to below.
-use Rattle.std.proofs.Common.{◌≡◌, ℕ, zero, suc, ◌-◌, ◌<◌, ◌≤◌, Bool, true, false, not, ◌&&◌, ◌||◌}
-use Rattle.std.proofs.Common.{refl, ap, arith, sym, subst, ◌∙◌, ◌+◌}
-use Rattle.std.specs.Prelude.{List, [], ◌∷◌, ◌++◌, map, filter, length, if◌then◌else◌, nat_lt}
-use Rattle.std.specs.Prelude.{Option, Some, None, ℤ, pos}
+use Rattle.std.proofs.Common.{◌≡◌, ℕ, ◌-◌, ◌<◌, ◌≤◌, Bool, true, false, ◌||◌}
+use Rattle.std.proofs.Common.{refl, ap, sym, subst, ◌∙◌}
+use Rattle.std.specs.Prelude.{List, map, filter, length}
+use Rattle.std.specs.Prelude.{Option, Some, None}
 use Rattle.std.specs.List.{list_any, flat_map, range_with_len}
-use Rattle.awk_types.specs.DataType.{DataType, var, reg, opt}
+use Rattle.awk_types.specs.DataType.{DataType}
 use Rattle.awk_types.specs.Gives.{◌or◌}
 use Rattle.awk_types.specs.ItemLimit.{item_limit, too_many}
 use Rattle.awk_types.specs.Simple.{present}
@@ -14,20 +14,19 @@ use Rattle.awk_types.specs.declared.fault.Fault.TheVariants.{Size}
 use Rattle.awk_lanes.specs.Column.{Column}
 use Rattle.awk_lanes.specs.declared.kind.Kind.TheVariants.{I64}
 use Rattle.awk_layout.specs.Layout.{Layout}
-use Rattle.awk_columns.specs.Columns.{joined_items, is_present, offsets, option_index}
+use Rattle.awk_columns.specs.Columns.{joined_items, is_present, offsets}
 use Rattle.awk_columns.specs.ListClass.{Class, list_type}
 use Rattle.awk_columns.specs.InOrder.{AreParts}
 use Rattle.awk_pair.proofs.LevelLaws.{type-nulls, values-nulls, unevens-nulls, ends-nulls}
 use Rattle.awk_pair.proofs.LevelLaws.{value-present, type-lists, values-lists, unevens-lists}
 use Rattle.awk_pair.proofs.LevelLaws.{ends-lists}
-use Rattle.awk_pair.proofs.RowLaws.{or_null, list_by, index-rows, present-rows, joined-rows}
+use Rattle.awk_pair.proofs.RowLaws.{or_null, index-rows, present-rows, joined-rows}
 use Rattle.awk_pair.proofs.RowLaws.{offsets-rows, map-by, too_few, too_large}
-use Rattle.awk_pair.specs.Outcomes.{ArePaired, ArePairs, AreTooMany}
+use Rattle.awk_pair.specs.Outcomes.{ArePairs, AreTooMany}
 use Rattle.awk_pair.specs.Paired.{Reach, paired_type, paired_value, takes_nulls, values_of_rows}
 use Rattle.awk_pair.specs.Paired.{any_uneven}
 use Rattle.awk_frames.specs.Sizes.{levels_refused}
-use Rattle.awk_frames.specs.Shape.{Shape, leaves, items, missing, shape, ends, offsets_column}
-use Rattle.awk_frames.specs.Shape.{index_column}
+use Rattle.awk_frames.specs.Shape.{Shape, items, missing, shape, ends, offsets_column}
 use Rattle.awk_pair_levels.proofs.RangeLaws.{length-map}
 use Rattle.awk_pair_levels.specs.Levels.{level_class, item_types, some_option, goes_on}
 use Rattle.awk_pair_levels.specs.Rows.{flags_index, lengths_offsets}

@@ -1,32 +1,29 @@
 -- What a pairing answers, from what its rows come to.
-use Rattle.std.proofs.Common.{◌≡◌, ℕ, ◌-◌, ◌≤◌, ◌<◌, Bool, true, false, not, ◌&&◌, ◌||◌, refl, ap}
-use Rattle.std.proofs.Common.{arith, sym, subst, ◌∙◌}
-use Rattle.std.specs.Prelude.{List, map, length, Option, Some, None, nat_lt, if◌then◌else◌, Result}
+use Rattle.std.proofs.Common.{◌≡◌, ℕ, ◌≤◌, ◌<◌, Bool, true, false, not, refl, ap}
+use Rattle.std.proofs.Common.{sym, subst, ◌∙◌}
+use Rattle.std.specs.Prelude.{List, map, length, Option, Some, None}
 use Rattle.std.specs.Prelude.{Ok, Err}
-use Rattle.std.specs.List.{list_any, range_with_len}
 use Rattle.awk_types.specs.DataType.{DataType}
 use Rattle.awk_types.specs.Datum.{Datum}
 use Rattle.awk_types.specs.Gives.{◌or◌, refused_or}
 use Rattle.awk_types.specs.ItemLimit.{item_limit, too_many}
 use Rattle.awk_types.specs.Value.{Value}
-use Rattle.awk_types.specs.declared.fault.Fault.{Fault}
 use Rattle.awk_types.specs.declared.fault.Fault.TheVariants.{WrongType, Lengths, Size}
 use Rattle.awk_layout.specs.Layout.{Layout}
 use Rattle.awk_layout.specs.Typing.{array_type}
-use Rattle.awk_columns.specs.InOrder.{AreParts}
 use Rattle.awk_pair.proofs.RowLaws.{too_few, too_large}
 use Rattle.awk_pair.proofs.RecursionLaws.{length-rows_at}
-use Rattle.awk_pair.specs.Answer.{single_or_fault, shared_shape, shared_ends}
+use Rattle.awk_pair.specs.Answer.{single_or_fault}
 use Rattle.awk_pair.specs.First.{AreFirstRows}
-use Rattle.awk_pair.specs.Outcomes.{reach_of, ArePairs, AreTooMany}
-use Rattle.awk_pair.specs.Paired.{Reach, to_leaves, to_depth, paired_type, is_wrong}
-use Rattle.awk_pair.specs.Paired.{values_of_rows, any_uneven, is_uneven, paired_value}
+use Rattle.awk_pair.specs.Outcomes.{ArePairs, AreTooMany}
+use Rattle.awk_pair.specs.Paired.{Reach}
+use Rattle.awk_pair.specs.Paired.{any_uneven, paired_value}
 use Rattle.awk_pair.specs.Pairs.{reach, below, typs, first_rows, some_array, datum_side}
-use Rattle.awk_pair.specs.Pairs.{pair_type, pair_values, are_uneven, type_refused}
+use Rattle.awk_pair.specs.Pairs.{pair_type, pair_values, are_uneven}
 use Rattle.awk_pair.specs.Pairs.{lengths_refused, pair_refused}
 use Rattle.awk_frames.specs.Sizes.{levels_refused, sizes_refused}
-use Rattle.awk_pair.specs.Pairs.{leaf_types, has_wrong_end}
-use Rattle.awk_frames.specs.Shape.{Shape, shape, ends}
+use Rattle.awk_pair.specs.Pairs.{has_wrong_end}
+use Rattle.awk_frames.specs.Shape.{Shape}
 use Rattle.awk_pair_levels.proofs.RangeLaws.{length-map}
 use Rattle.awk_pair_levels.specs.Rows.{rows_at}
 use Rattle.awk_pair_levels.specs.Sides.{equally_long}

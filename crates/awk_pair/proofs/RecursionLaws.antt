@@ -1,5 +1,5 @@
 -- What the recursion over levels needs of its tests.
-use Rattle.std.proofs.Common.{◌≡◌, ℕ, ◌<◌, ◌≤◌, Bool, true, false, ◌&&◌, ◌||◌, refl, subst, sym}
+use Rattle.std.proofs.Common.{◌≡◌, ℕ, ◌<◌, ◌≤◌, Bool, true, false, ◌&&◌, refl, subst, sym}
 use Rattle.std.proofs.Common.{◌∙◌}
 use Rattle.std.specs.Prelude.{List, map, length}
 use Rattle.std.specs.List.{range_with_len, list_any, flat_map}
@@ -9,7 +9,7 @@ use Rattle.awk_layout.specs.Layout.{Layout}
 use Rattle.awk_layout.specs.Typing.{array_type}
 use Rattle.awk_pair.specs.Paired.{Reach, to_leaves, to_depth, is_to_leaves, takes_nulls}
 use Rattle.awk_pair_levels.proofs.RangeLaws.{length-range, length-map}
-use Rattle.awk_pair_levels.specs.Levels.{some_option, goes_on}
+use Rattle.awk_pair_levels.specs.Levels.{some_option}
 use Rattle.awk_pair_levels.specs.Rows.{row_at, rows_at}
 use Rattle.awk_pair_levels.specs.Sides.{differ, inner_rows}
 

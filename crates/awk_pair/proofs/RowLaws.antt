@@ -1,10 +1,10 @@
 -- What is made of the rows of a level: nulls, lists and their lanes.
-use Rattle.std.proofs.Common.{◌≡◌, ℕ, zero, suc, ◌+◌, ◌<◌, ◌≤◌, Bool, true, false, not, ◌&&◌, ◌||◌}
-use Rattle.std.proofs.Common.{refl, ap, arith, sym, ◌∙◌}
-use Rattle.std.specs.Prelude.{List, [], ◌∷◌, ◌++◌, map, filter, length, if◌then◌else◌, ℤ, pos}
+use Rattle.std.proofs.Common.{◌≡◌, ℕ, suc, ◌+◌, ◌<◌, ◌≤◌, Bool, true, false, not, ◌||◌}
+use Rattle.std.proofs.Common.{refl, ap, arith, ◌∙◌}
+use Rattle.std.specs.Prelude.{List, [], ◌∷◌, ◌++◌, map, filter, length, if◌then◌else◌, pos}
 use Rattle.std.specs.Prelude.{negsuc, cond, nat_lt, Some, None}
 use Rattle.std.specs.List.{list_any, flat_map}
-use Rattle.awk_types.specs.Value.{Value, int, truth, null, list, row, alt, Values, no_values, value}
+use Rattle.awk_types.specs.Value.{Value, int, truth, null, list, row, alt}
 use Rattle.awk_types.specs.Value.{value_list, values_from}
 use Rattle.awk_columns.specs.Columns.{list_items, joined_items, is_present, offsets, option_index}
 use Rattle.awk_types.specs.ItemLimit.{item_limit, too_many}

@@ -1,14 +1,14 @@
 -- The types of operands so many levels down, and the ends of a pairing by them.
-use Rattle.std.proofs.Common.{◌≡◌, ℕ, zero, suc, ◌+◌, ◌-◌, ◌<◌, ◌≤◌, Bool, true, false, not, ◌&&◌}
-use Rattle.std.proofs.Common.{◌||◌}
-use Rattle.std.proofs.Common.{refl, ap, arith, sym, subst, ◌∙◌, drop, take}
-use Rattle.std.specs.Prelude.{List, [], ◌∷◌, ◌++◌, map, length, slice_get, Some, None, Option}
+use Rattle.std.proofs.Common.{◌≡◌, ℕ, zero, suc, ◌+◌, ◌-◌, ◌<◌, ◌≤◌, Bool, true, false, not}
+use Rattle.std.proofs.Common.{refl, ap, arith, sym, subst, ◌∙◌, drop, nat_cmp}
+use Rattle.std.specs.Prelude.{List, map, length, slice_get, Some, None, Option}
 use Rattle.std.specs.Prelude.{ℤ, max, min, nat_lt, if◌then◌else◌}
 use Rattle.std.specs.List.{list_any, list_all}
-use Rattle.std.proofs.lemmas.List.{drop_all, take_all}
-use Rattle.awk_types.proofs.ListLaws.{drop-get, take-get}
-use Rattle.awk_types.specs.DataType.{DataType, unknown, leaf, var, reg, rec, tup, opt, uni}
-use Rattle.awk_types.specs.DataType.{greatest, depth}
+use Rattle.std.specs.Ordering.{ord_max}
+use Rattle.std.proofs.lemmas.List.{drop_all}
+use Rattle.awk_types.proofs.ListLaws.{drop-get}
+use Rattle.awk_types.specs.DataType.{DataType, leaf}
+use Rattle.awk_types.specs.DataType.{depth}
 use Rattle.awk_types.specs.Limit.{Limit, depth_limit, limit}
 use Rattle.awk_types.specs.Predicates.{is_leaf, is_list}
 use Rattle.awk_types.specs.Simple.{present}
@@ -140,6 +140,10 @@ depths_next xs i x g d m e f h =
     ≡ max (depth (operand_type x)) (all_levels (map operand_type (drop (i + 1) xs))) =
     ap (λ ys. all_levels (map operand_type ys)) (drop-get xs i x e) in
     omega (arith, s, f, h)
+
+-- `max` of code is the greater
+pub ord_max-nat : (a b : ℕ) → ord_max nat_cmp a b ≡ max a b
+ord_max-nat a b = grind arith
 
 pub depths_end : (xs : List Operand) (i g m : ℕ) → length xs ≤ i → depths_from g xs i ≡ m → g ≡ m
 depths_end xs i g m l h =

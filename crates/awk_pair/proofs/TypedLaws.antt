@@ -15,21 +15,19 @@ use Rattle.awk_types.specs.declared.fault.Fault.{Fault}
 use Rattle.awk_columns.specs.Columns.{is_present}
 use Rattle.awk_columns.specs.ListClass.{Class, list_type}
 use Rattle.awk_frames.specs.Framed.{IsFrame}
-use Rattle.awk_frames.specs.Shape.{shape, ends}
 use Rattle.awk_frames.specs.Sizes.{sizes_refused}
 use Rattle.awk_frames.proofs.FrameLaws.{sized_frame}
 use Rattle.awk_pair.proofs.RowLaws.{value_list-from}
 use Rattle.awk_pair.specs.Answer.{single_or_fault, shared_shape, shared_ends}
 use Rattle.awk_pair.specs.Paired.{Reach, to_leaves, to_depth, end_type, end_value, paired_type}
-use Rattle.awk_pair.specs.Paired.{paired_value, is_uneven, any_uneven, values_of_rows}
+use Rattle.awk_pair.specs.Paired.{paired_value, is_uneven, any_uneven}
 use Rattle.awk_pair.specs.Pairs.{datum_side, single_value, typs, some_array, first_rows, reach}
 use Rattle.awk_pair.specs.Pairs.{below}
 use Rattle.awk_pair.specs.Pairs.{pair_type, pair_values, are_uneven, lengths_refused, type_refused}
-use Rattle.awk_pair.specs.Pairs.{has_wrong_end}
 use Rattle.awk_pair.specs.Typed.{IsTyped, HasEach}
 use Rattle.awk_pair_levels.proofs.LevelTypes.{presents-bare}
 use Rattle.awk_pair_levels.proofs.TestLaws.{and_both, or_none}
-use Rattle.awk_pair_levels.specs.Levels.{listed, stretched, repeated, Role, role, roles_by, roles}
+use Rattle.awk_pair_levels.specs.Levels.{listed, stretched, role, roles_by, roles}
 use Rattle.awk_pair_levels.specs.Levels.{unless, stretches, item_of, item_types, opens, some_option}
 use Rattle.awk_pair_levels.specs.Levels.{role_class, is_class, common_class, level_class}
 use Rattle.awk_pair_levels.specs.Sides.{Side, each, always, side, sides, side_at, side_lengths}

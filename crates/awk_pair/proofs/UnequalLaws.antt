@@ -1,10 +1,11 @@
 -- Whether lists differ in length, row by row.
-use Rattle.std.proofs.Common.{◌≡◌, ℕ, zero, suc, ◌+◌, ◌-◌, ◌<◌, ◌≤◌, Bool, true, false, ◌&&◌, ◌||◌}
+use Rattle.std.proofs.Common.{◌≡◌, ℕ, ◌+◌, ◌-◌, ◌<◌, ◌≤◌, Bool, true, false, ◌&&◌, ◌||◌}
 use Rattle.std.proofs.Common.{refl, ap}
 use Rattle.std.proofs.Common.{arith, sym, subst, ◌∙◌}
 use Rattle.std.proofs.Common.{take}
 use Rattle.std.specs.Prelude.{List, [], ◌∷◌, ◌++◌, map, filter, nat_lt, slice_get, slice_range}
-use Rattle.std.specs.Prelude.{Some}
+use Rattle.std.specs.Prelude.{Some, length}
+use Rattle.std.proofs.lemmas.List.{take_all}
 use Rattle.std.specs.List.{list_any, flat_map, range_with_len}
 use Rattle.awk_types.proofs.ListLaws.{take-get}
 use Rattle.awk_types.specs.DataType.{DataType}
@@ -168,6 +169,10 @@ alone_push i xs zs ws j x z e f h g =
     subst (λ w. AreAlone i (take (j + 1) xs) w) (sym f)
     (subst (λ w. AreAlone i w (zs ++ z ∷ [])) (sym (take-get xs j x e))
     (alone-append i (take j xs) zs x z h g))
+
+pub alone_all : (i : ℕ) (xs zs : List Layout) (j : ℕ) → length xs ≤ j
+    → AreAlone i (take j xs) zs → AreAlone i xs zs
+alone_all i xs zs j l h = subst (λ w. AreAlone i w zs) (take_all j xs l) h
 
 pub alone_is : (x r : Layout) (i : ℕ) → i < len x → array_type r ≡ array_type x
     → array_items r ≡ slice_range (array_items x) i (i + 1) → IsAlone i x r

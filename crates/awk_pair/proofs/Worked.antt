@@ -1,9 +1,9 @@
 -- Worked examples of pairing, each checked by computing.
-use Rattle.std.specs.Prelude.{◌≡◌, ℕ, List, [], ◌∷◌, map, pos, negsuc, ℤ, Option, Some, None, Ok}
+use Rattle.std.specs.Prelude.{◌≡◌, ℕ, List, [], ◌∷◌, pos, negsuc, ℤ, Some, None, Ok}
 use Rattle.std.specs.Prelude.{Err}
 use Rattle.std.specs.Prelude.{true, false, refl}
 use Rattle.awk_types.specs.declared.primitive.Primitive.TheVariants.{Bool, I64, U64}
-use Rattle.awk_types.specs.DataType.{DataType, unknown, leaf, var, reg, tup, opt, uni, types_from}
+use Rattle.awk_types.specs.DataType.{DataType, unknown, leaf, var, reg, tup, opt, types_from}
 use Rattle.awk_types.specs.Value.{Value, int, truth, null, list, row, values_from}
 use Rattle.awk_types.specs.Datum.{Datum, arr, one}
 use Rattle.awk_types.specs.declared.fault.Fault.TheVariants.{WrongType, Lengths}

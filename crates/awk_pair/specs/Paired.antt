@@ -1,5 +1,5 @@
 -- Operands paired, through at most so many levels: a part on types and a part on one row of values.
-use Rattle.std.specs.Prelude.{ℕ, zero, suc, Bool, true, false, ◌||◌, not, List, [], ◌∷◌, map}
+use Rattle.std.specs.Prelude.{ℕ, zero, suc, Bool, true, false, ◌||◌, not, List, map}
 use Rattle.std.specs.Prelude.{if◌then◌else◌}
 use Rattle.std.specs.List.{list_any, list_all}
 use Rattle.awk_types.specs.DataType.{DataType, tup, types_from, greatest, depth}

@@ -10,7 +10,7 @@ use Rattle.awk_types.specs.Value.{Value, null}
 use Rattle.awk_types.specs.declared.fault.Fault.{Fault}
 use Rattle.awk_types.specs.declared.fault.Fault.TheVariants.{WrongType, Lengths}
 use Rattle.awk_pair_levels.specs.Sides.{Side, each, always, rows_of, equally_long}
-use Rattle.awk_pair.specs.Paired.{Reach, to_leaves, to_depth, is_wrong, paired_type, paired_value}
+use Rattle.awk_pair.specs.Paired.{Reach, to_leaves, to_depth, is_wrong, paired_type}
 use Rattle.awk_pair.specs.Paired.{types_at_ends, all_levels, values_of_rows, any_uneven}
 
 -- ---- the first level, of the arrays

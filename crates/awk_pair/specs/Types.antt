@@ -1,5 +1,5 @@
 -- The types of operands, so many levels down.
-use Rattle.std.specs.Prelude.{ℕ, zero, suc, Bool, List, map}
+use Rattle.std.specs.Prelude.{ℕ, zero, suc, Bool, List}
 use Rattle.std.specs.List.{list_any, list_all}
 use Rattle.awk_types.specs.DataType.{DataType}
 use Rattle.awk_types.specs.Predicates.{is_leaf, is_list}

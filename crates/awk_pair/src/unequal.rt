@@ -14,8 +14,8 @@ ghost use Rattle.awk_pair_levels.specs.Shares.{AreAsLong, AreEven};
 use awk_lanes::{Arena, NoMemory, Steps};
 use awk_layout::Arrays;
 use awk_pair_levels::{
-    Below, PresentRows, Share, goes_on, lead_of, opens_below, present_rows, row_below, rows_below,
-    shares_of, some_option,
+    Below, Share, goes_on, lead_of, opens_below, present_rows, row_below, rows_below, shares_of,
+    some_option,
 };
 use awk_range::range;
 use std::alloc::Global;
@@ -41,9 +41,9 @@ pub(crate) fn any_unequal<'a, L: Ledger>(
         return Ok(false);
     }
     if some_option(xs) {
-        let PresentRows { count, arrays, .. } = present_rows(alloc, n, xs, arena, steps)?;
-        let unequal = unequal_lists(alloc, keep, d, count, &arrays, arena, steps)?;
-        return Ok(unequal);
+        let rows = present_rows(alloc, n, xs, arena, steps)?;
+        let among = unequal_lists(alloc, keep, d, rows.count, &rows.arrays, arena, steps)?;
+        return Ok(among);
     }
     let unequal = unequal_lists(alloc, keep, d, n, xs, arena, steps)?;
     Ok(unequal)
@@ -70,8 +70,8 @@ fn unequal_lists<'a, L: Ledger>(
     match rows_below(alloc, keep, n, xs, arena, steps)? {
         Below::Unequal => Ok(true),
         Below::Rows { count, arrays, .. } => {
-            let unequal = any_unequal(alloc, keep, d - 1, count, &arrays, arena, steps)?;
-            Ok(unequal)
+            let below = any_unequal(alloc, keep, d - 1, count, &arrays, arena, steps)?;
+            Ok(below)
         }
         Below::TooMany => {
             let shares = shares_of(alloc, keep, n, xs, arena, steps)?;
@@ -111,7 +111,8 @@ fn unequal_shares<'a, L: Ledger>(
         return Ok(false);
     }
     for i in 0..n {
-        if unequal_row(alloc, keep, d, i, shares, arena, steps)? {
+        let unequal = unequal_row(alloc, keep, d, i, shares, arena, steps)?;
+        if unequal {
             return Ok(true);
         }
     }
@@ -135,10 +136,12 @@ fn unequal_row<'a, L: Ledger>(
     ensures { let rows = share_rows shares.now i in
         IfOk result (λ b. b ≡ any_uneven keep (d - 1) (share_types shares.now) rows) }
 {
-    let length = lead_of(shares).length_at(i, steps);
+    let lead = lead_of(shares);
+    let length = lead.length_at(i, steps);
     for k in 0..length {
         let row = row_below(alloc, shares, i, k, steps)?;
-        if any_unequal(alloc, keep, d - 1, 1, &row, arena, steps)? {
+        let unequal = any_unequal(alloc, keep, d - 1, 1, &row, arena, steps)?;
+        if unequal {
             return Ok(true);
         }
     }
@@ -187,7 +190,8 @@ pub(crate) fn any_unequal_row<'a, L: Ledger>(
     }
     for i in 0..n {
         let row = row_alone(alloc, n, xs, i, steps)?;
-        if any_unequal(alloc, keep, d, 1, &row, arena, steps)? {
+        let unequal = any_unequal(alloc, keep, d, 1, &row, arena, steps)?;
+        if unequal {
             return Ok(true);
         }
     }

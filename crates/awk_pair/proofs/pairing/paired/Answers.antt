@@ -1,8 +1,6 @@
 use Rattle.std.proofs.Common.{◌≡◌, ◌∙◌, sym, subst, arith, map, length, refl, false}
-use Rattle.awk_layout.specs.Typing.{array_type}
 use Rattle.awk_pair.specs.First.{all_data, AreFirstRows}
-use Rattle.awk_pair.specs.Outcomes.{reach_of, ArePairs}
-use Rattle.awk_pair.specs.Paired.{Reach}
+use Rattle.awk_pair.specs.Outcomes.{reach_of}
 use Rattle.awk_pair.specs.Pairs.{reach, datum_side}
 use Rattle.awk_pair_levels.specs.Sides.{equally_long}
 use Rattle.awk_frames.specs.View.{shape_of}

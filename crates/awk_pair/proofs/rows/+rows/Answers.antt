@@ -1,6 +1,6 @@
-use Rattle.std.proofs.Common.{◌≡◌, ◌-◌, ◌∙◌, ap, sym, subst, map, true, false}
+use Rattle.std.proofs.Common.{◌∙◌, sym, subst, map}
 use Rattle.awk_layout.specs.Typing.{array_type}
-use Rattle.awk_pair.specs.Outcomes.{reach_of, ArePairs, AreTooMany}
+use Rattle.awk_pair.specs.Outcomes.{reach_of, ArePairs}
 use Rattle.awk_pair_levels.specs.Rows.{rows_at, AreInner, ArePresent}
 use Rattle.awk_pair.specs.Paired.{takes_nulls}
 use Rattle.awk_pair_levels.specs.Levels.{some_option}

@@ -15,9 +15,9 @@ abbrev pub decreases-unequal_row : goal.decreases-unequal_row
 decreases-unequal_row g l = 4 * l.d
 
 abbrev pub invariant-unequal_shares-loop-i : goal.invariant-unequal_shares-loop-i
-invariant-unequal_shares-loop-i g t l =
+invariant-unequal_shares-loop-i g l =
     (k : ℕ) → k < l.i → rows_uneven l.keep (l.d - 1) l.shares k ≡ false
 
 abbrev pub invariant-unequal_row-loop-k : goal.invariant-unequal_row-loop-k
-invariant-unequal_row-loop-k g t l =
+invariant-unequal_row-loop-k g l =
     (j : ℕ) → j < l.k → row_uneven l.keep (l.d - 1) l.shares l.i j ≡ false

@@ -1,6 +1,6 @@
-use Rattle.std.proofs.Common.{sym, subst, arith}
+use Rattle.std.proofs.Common.{arith}
 use Rattle.awk_pair_levels.proofs.ShareLaws.{long_get}
-use Rattle.awk_pair.proofs.UnequalLaws.{alone_is, alone_push}
+use Rattle.awk_pair.proofs.UnequalLaws.{alone_is, alone_push, alone_all}
 use Rattle.awk_pair.proofs.unequal.row_alone.Goals as goal
 
 pub range-requires-clause-within : goal.range-requires-clause-within
@@ -25,3 +25,8 @@ loop-j-preserved g c =
           (omega (arith, l.0, c.requires.within)) c.in_ok-item.ensures.typ
           c.in_ok-item.ensures.items);
     }
+
+pub returns : goal.returns
+returns g c =
+    alone_all c.args.i c.args.xs.now c.loop-j.row c.loop-j.j
+    (omega (arith, c.loop-j-test.false, c.len-j-end.ensures)) c.loop-j.invariant.made
