@@ -146,3 +146,20 @@ number_of-leaf_value kind.U8 z = refl
 number_of-leaf_value kind.U16 z = refl
 number_of-leaf_value kind.U32 z = refl
 number_of-leaf_value kind.U64 z = refl
+
+-- what is read of a number is read so again
+truth_twice : (b : Bool)
+    → pos (if is_nonzero (pos (if b then 1 else 0)) then 1 else 0) ≡ pos (if b then 1 else 0)
+truth_twice true = refl
+truth_twice false = refl
+
+pub element-twice : (k : Kind) (z : ℤ) → element k (element k z) ≡ element k z
+element-twice kind.Bool z = truth_twice (is_nonzero z)
+element-twice kind.I8 z = refl
+element-twice kind.I16 z = refl
+element-twice kind.I32 z = refl
+element-twice kind.I64 z = refl
+element-twice kind.U8 z = refl
+element-twice kind.U16 z = refl
+element-twice kind.U32 z = refl
+element-twice kind.U64 z = refl

@@ -210,6 +210,9 @@ module _ (s e : Column) (y : Layout) (o : Column) (z : Layout) (j : JoinsLists s
     leaves = ap (λ t. is_leaf (present t)) j.typ ∙ leaf_same (present (array_type y)) ∙ leaves;
     rising = subst (λ m. AreRising o m (length (array_items z))) (sym ne) lists_rise;
     first = j.offsets.first;
+    last =
+        subst (λ m. place_at o m ≡ length (array_items z)) (sym ne)
+        (j.offsets.last ∙ sym items-count);
     few = few_items few;
     fits = omega (arith, ne, fits);
   }
