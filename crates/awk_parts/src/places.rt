@@ -28,8 +28,8 @@ impl<'b, 'a> Numbers for PresentIndex<'b, 'a> {
     ghost use Rattle.awk_lanes.specs.Places.{size_of};
     ghost use Rattle.awk_lanes.specs.declared.kind.Kind.TheVariants as Kind;
     ghost use Rattle.awk_numbers.specs.Folds.{whole_numbers};
-ghost use Rattle.awk_numbers.specs.Places as spec;
-ghost use Rattle.awk_parts.specs.Lanes.{present_at};
+    ghost use Rattle.awk_numbers.specs.Places as spec;
+    ghost use Rattle.awk_parts.specs.Lanes.{present_at};
 
     ghost kind = { λ _. Kind.I64 };
 

@@ -7,6 +7,7 @@ use Rattle.std.specs.Option.{option_map}
 use Rattle.std.specs.Ordering.{int_eq}
 use Rattle.std.proofs.lemmas.Int.{ints}
 use Rattle.std.proofs.lemmas.List.{length-map, take_all}
+use Rattle.std.proofs.lemmas.List.Edits.{length-between}
 use Rattle.std.proofs.lemmas.List.FromFn.{length-map-range_with_len, get_or-map-range_with_len}
 use Rattle.std.proofs.lemmas.List.Sums.{length-filter, count_by-le-length}
 use Rattle.awk_types.specs.Predicates.{is_leaf}
@@ -120,6 +121,21 @@ module _ (c : Column) where
       }
 
 -- ---- offsets of those that are present
+
+-- they are no more than there are items
+pub counts_small : (js : List ℤ) (o : Column) (n i : ℕ) → AreRising o n (length js) → i ≤ n
+    → before (present_in js o) i ≤ place_at o i
+counts_small js o n zero r l = omega arith
+counts_small js o n (suc i) r l =
+    let one : i + 1 ≡ suc i = omega arith in
+    let up = r.ordered i (omega (arith, l)) in
+    let here = counts_small js o n i r (omega (arith, l)) in
+    let part = part_at js o i in
+    let few : present_in js o i ≤ length part = count_by-le-length is_place part in
+    let long = length-between js (place_at o i) (place_at o (i + 1))
+    (r.within (i + 1) (omega (arith, l))) in
+    subst (λ k. before (present_in js o) i + present_in js o i ≤ place_at o k) one
+    (omega (arith, up, here, few, long))
 
 counts_before : (js : List ℤ) (vs : List Value) (o : Column) (n i : ℕ) → IsFlagged js vs
     → AreRising o n (length vs) → place_at o 0 ≡ 0 → i ≤ n
@@ -279,7 +295,7 @@ module _ (j c : Column) where
         within = λ i l. omega (arith, start i l, kept-few is_present vs (place_at o i), count);
       }
 
-      pub option_present : is_leaf (array_type y) ≡ true
+      option_present : is_leaf (array_type y) ≡ true
           → ArePresent x o n
           (record { lane = taken_lane c places; offsets = offsets_by m n; index = Some j })
       option_present leaves = record {
@@ -293,3 +309,8 @@ module _ (j c : Column) where
             (part_flagged js vs (place_at o i) (place_at o (i + 1)) flagged)
             (sym (ap (position (int_eq z)) (numbers_part i l)) ∙ e);
       }
+
+      pub options_are : (l q : Column) → l ≡ taken_lane c places → q ≡ offsets_by m n
+          → is_leaf (array_type y) ≡ true
+          → ArePresent x o n (record { lane = l; offsets = q; index = Some j })
+      options_are l q e f leaves = rw (e, f) (option_present leaves)
