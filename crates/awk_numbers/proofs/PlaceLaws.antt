@@ -65,7 +65,8 @@ left_found before left zs i l e n h =
 -- none is left
 pub left_none : (before left : ℕ) (zs : List ℤ) (i : ℕ) → length zs ≤ i → IsLeft before left zs i
     → None ≡ nth_place before zs
-left_none before left zs i l h = sym (h ∙ ap (λ ys. further i (nth_place left ys)) (drop_all i zs l))
+left_none before left zs i l h =
+    sym (h ∙ ap (λ ys. further i (nth_place left ys)) (drop_all i zs l))
 
 later : (n k : ℕ) (o : Option ℕ) → option_map suc o ≡ Some k → ((m : ℕ) → o ≡ Some m → m < n)
     → k < suc n

@@ -2,8 +2,8 @@
 //!
 //! `Whole` is all numbers of a lane where they lie: nothing is copied. `folded` is the exact sum or
 //! product of a part of them, `tally_of` a count of it or whether some or all are not 0, and
-//! `extreme_of` the first place of its least or greatest. Where they are places, of which a negative
-//! number is none, `count_places` and `nth_place` count and find those of a part.
+//! `extreme_of` the first place of its least or greatest. Where numbers are places, and a negative
+//! one is none, `count_places` and `nth_place` count and find those of a part.
 #![tactic(auto)]
 
 mod extremes;

@@ -201,7 +201,8 @@ module _ (j c : Column) where
 
     content-count : len y ≡ size_of c
     content-count =
-        sym (length-map-range_with_len (array_item y) 0 (len y)) ∙ sym (ap length (array_items-at y))
+        sym (length-map-range_with_len (array_item y) 0 (len y))
+        ∙ sym (ap length (array_items-at y))
         ∙ leaves-count c y h
 
     pub index_into : IsOptionalIndex j (size_of c)
@@ -299,7 +300,9 @@ module _ (j c : Column) where
           → ArePresent x o n
           (record { lane = taken_lane c places; offsets = offsets_by m n; index = Some j })
       option_present leaves = record {
-        kind = h.kind ∙ ap kind_of (sym (ap leaf_of opens.kind ∙ leaf_of-opt (array_type y) leaves));
+        kind =
+            h.kind
+            ∙ ap kind_of (sym (ap leaf_of opens.kind ∙ leaf_of-opt (array_type y) leaves));
         rising = rises;
         few = omega (arith, count, length-filter is_present vs, count_by-le-length is_present vs);
         parts = numbers_part;
