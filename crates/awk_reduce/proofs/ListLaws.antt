@@ -48,10 +48,10 @@ use Rattle.awk_reduce.specs.declared.reducer.Reducer.{Reducer}
 
 -- ---- counts
 
-over_limit : (n : ℕ) → item_limit < n → nat_lt item_limit n ≡ true
+pub over_limit : (n : ℕ) → item_limit < n → nat_lt item_limit n ≡ true
 over_limit n p = grind arith
 
-within_limit : (n : ℕ) → n ≤ item_limit → nat_lt item_limit n ≡ false
+pub within_limit : (n : ℕ) → n ≤ item_limit → nat_lt item_limit n ≡ false
 within_limit n p = grind arith
 
 counted_total : (s e : Column) (y : Layout)
