@@ -110,7 +110,7 @@ module _ (class : Class) (s e : Column) (y : Layout) (lists : AreLists class s e
 
   by_count : reduced_spoil Count (array_type y) (all_items_at s e y)
       ≡ (if nat_lt item_limit whole then Some Size else
-          overflow_spoil Count (array_type y) (all_items_at s e y))
+      overflow_spoil Count (array_type y) (all_items_at s e y))
   by_count =
       ap (λ n. if nat_lt item_limit n then Some Size else
       overflow_spoil Count (array_type y) (all_items_at s e y)) counted
