@@ -1,5 +1,5 @@
 -- Which items are present, by an index whose numbers are negative for nulls.
-use Rattle.std.proofs.Common.{◌≡◌, ℕ, zero, suc, ◌+◌, ◌-◌, List, [], ◌∷◌, length}
+use Rattle.std.proofs.Common.{◌≡◌, ℕ, suc, ◌+◌, ◌-◌, List, [], ◌∷◌, length}
 use Rattle.std.proofs.Common.{map, refl, ap, ap₂, sym, subst, ◌∙◌, arith}
 use Rattle.std.specs.Prelude.{ℤ, Bool, true, false, cond, ◌&&◌, ◌==◌, position}
 use Rattle.std.specs.Prelude.{Option, Some, None, if◌then◌else◌}

@@ -1,6 +1,6 @@
 -- Counts of lists of which no item is null: their lengths.
-use Rattle.std.proofs.Common.{◌≡◌, ℕ, zero, suc, ◌+◌, ◌-◌, ◌<◌, ◌≤◌, refl, ap, sym, ◌∙◌, arith}
-use Rattle.std.specs.Prelude.{ℤ, pos, negsuc, Bool, true, false, cond, nat_lt, List, [], ◌∷◌}
+use Rattle.std.proofs.Common.{◌≡◌, ℕ, zero, suc, ◌+◌, ◌<◌, ◌≤◌, refl, ap, sym, ◌∙◌, arith}
+use Rattle.std.specs.Prelude.{ℤ, pos, negsuc, true, false, cond, nat_lt, List, [], ◌∷◌}
 use Rattle.std.specs.Prelude.{length, map, sum, Some, None, if◌then◌else◌}
 use Rattle.std.specs.List.{range_with_len, list_any}
 use Rattle.std.proofs.lemmas.Int.{ints}
@@ -104,7 +104,8 @@ module _ (class : Class) (s e : Column) (y : Layout) (lists : AreLists class s e
 
   counted : sum (map (λ (l : List Value). length l) (all_items_at s e y)) ≡ whole
   counted =
-      ap sum (map-map (λ (l : List Value). length l) (items_at s e y) (range_with_len 0 (size_of s)))
+      ap sum
+      (map-map (λ (l : List Value). length l) (items_at s e y) (range_with_len 0 (size_of s)))
       ∙ sum-before lengths (λ i. length (items_at s e y i))
       (λ i. length-run (array_item y) (place_at s i) (lengths i)) (size_of s)
 

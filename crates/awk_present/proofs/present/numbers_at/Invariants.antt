@@ -1,4 +1,3 @@
-use Rattle.awk_lanes.specs.Places.{size_of}
 use Rattle.awk_columns.specs.Counted.{first_of, present_at}
 use Rattle.awk_present.proofs.TakenLanes.{AreTaken}
 use Rattle.awk_present.proofs.present.numbers_at.Given as goal
