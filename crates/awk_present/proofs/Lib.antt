@@ -1,4 +1,5 @@
 pub mod LeafLaws
 pub mod SliceLaws
-pub mod IndexLaws
+pub mod FlagLaws
+pub mod TakenLanes
 pub mod PresentLaws

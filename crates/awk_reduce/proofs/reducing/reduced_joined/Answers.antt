@@ -8,7 +8,7 @@ use Rattle.awk_columns.specs.declared.lists.Joined.TheVariants.{Lists}
 use Rattle.awk_reduce.specs.Lists.{AreReduced}
 use Rattle.awk_reduce.specs.Reduce.{reducer_function}
 use Rattle.awk_reduce.proofs.ListLaws.{reduced_spoilt, are_items, made_of_lists}
-use Rattle.awk_reduce.proofs.reducing.reduced_lists.Goals as goal
+use Rattle.awk_reduce.proofs.reducing.reduced_joined.Goals as goal
 
 pub returns-in-TooMany : goal.returns-in-TooMany
 returns-in-TooMany g c =
