@@ -59,31 +59,31 @@ first_of-same f g n h = go 0 n (λ i l. h i (omega (arith, l)))
 
 module _ (j : Column) (b : List ℕ) (kind : j.kind ≡ I64)
     (size : length b ≡ size_of j * width j.kind) (same : numbers j.kind (size_of j) b ≡ j.items)
-    where
-  abbrev ps : List (List ℕ)
-  ps = first_chunks 8 (length b / 8) b
+  where
+    abbrev ps : List (List ℕ)
+    ps = first_chunks 8 (length b / 8) b
 
-  pub places-count : length ps ≡ size_of j
-  places-count =
-      ap (λ k. length (first_chunks (width k) (length b / width k) b)) (sym kind)
-      ∙ length-groups j b size same
+    pub places-count : length ps ≡ size_of j
+    places-count =
+        ap (λ k. length (first_chunks (width k) (length b / width k) b)) (sym kind)
+        ∙ length-groups j b size same
 
-  eight_at : (i : ℕ) → i < size_of j → eight (get_or ps i []) ≡ at j i
-  eight_at i l =
-      ap (λ k. number k (get_or (first_chunks (width k) (length b / width k) b) i [])) (sym kind)
-      ∙ number-group j b size same i l
-      ∙ ap (λ k. element k (get_or j.items i (pos 0))) (sym kind)
+    eight_at : (i : ℕ) → i < size_of j → eight (get_or ps i []) ≡ at j i
+    eight_at i l =
+        ap (λ k. number k (get_or (first_chunks (width k) (length b / width k) b) i [])) (sym kind)
+        ∙ number-group j b size same i l
+        ∙ ap (λ k. element k (get_or j.items i (pos 0))) (sym kind)
 
-  pub named_same : named_places ps ≡ first_of (present_at j) (size_of j)
-  named_same =
-      ap (first_of (place_group ps)) places-count
-      ∙ first_of-same (place_group ps) (present_at j) (size_of j)
-      (λ i l. ap (λ z. present_place (option_place z)) (eight_at i l))
+    pub named_same : named_places ps ≡ first_of (present_at j) (size_of j)
+    named_same =
+        ap (first_of (place_group ps)) places-count
+        ∙ first_of-same (place_group ps) (present_at j) (size_of j)
+        (λ i l. ap (λ z. present_place (option_place z)) (eight_at i l))
 
-  pub places_within : (n : ℕ) → IsOptionalIndex j n → ArePlacesOf n ps
-  places_within n h i k l e =
-      let l' : i < size_of j = omega (arith, l, places-count) in
-      named_within j n i k h l' (ap option_place (sym (eight_at i l')) ∙ e)
+    pub places_within : (n : ℕ) → IsOptionalIndex j n → ArePlacesOf n ps
+    places_within n h i k l e =
+        let l' : i < size_of j = omega (arith, l, places-count) in
+        named_within j n i k h l' (ap option_place (sym (eight_at i l')) ∙ e)
 
 -- ---- the numbers
 

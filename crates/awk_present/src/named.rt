@@ -39,7 +39,11 @@ fn place_of(bytes: [u8; 8]) -> Option<usize>
     ensures { result ≡ option_place (eight bytes) }
 {
     let place = i64::from_le_bytes(bytes);
-    if place < 0 { None } else { Some(place as usize) }
+    if place < 0 {
+        None
+    } else {
+        Some(place as usize)
+    }
 }
 
 /// The groups of bytes at the n places that are not negative.
