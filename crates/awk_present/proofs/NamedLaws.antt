@@ -1,23 +1,22 @@
 -- The numbers of groups of bytes at the places that an index names.
 use Rattle.std.proofs.Common.{◌≡◌, ◌≢◌, ℕ, suc, zero, ◌+◌, ◌*◌, ◌/◌, ◌<◌, ◌≤◌, List, [], ◌∷◌, ◌++◌}
-use Rattle.std.proofs.Common.{length, drop, get_or, map, refl, ap, ap₂, sym, subst, ◌∙◌, arith}
+use Rattle.std.proofs.Common.{length, drop, get_or, map, refl, ap, ap₂, sym, ◌∙◌, arith}
 use Rattle.std.proofs.Common.{length-take, length-drop}
 use Rattle.std.specs.Prelude.{ℤ, pos, Some}
 use Rattle.std.specs.List.{range_with_len, flat_map}
 use Rattle.std.specs.Simd.{first_chunks}
-use Rattle.std.proofs.lemmas.List.{length-map, map-append, append-nil}
+use Rattle.std.proofs.lemmas.List.{map-append, append-nil}
 use Rattle.awk_lanes.specs.declared.kind.Kind.{Kind}
 use Rattle.awk_lanes.specs.declared.kind.Kind.TheVariants.{Bool as Truths, I8, I16, I32, I64}
 use Rattle.awk_lanes.specs.declared.kind.Kind.TheVariants.{U8, U16, U32, U64}
 use Rattle.awk_lanes.specs.Column.{Column}
 use Rattle.awk_lanes.specs.Numbers.{width, number, numbers, element}
-use Rattle.awk_lanes.specs.Places.{size_of, at, option_place, option_place_at, IsOptionalIndex}
+use Rattle.awk_lanes.specs.Places.{size_of, at, option_place, IsOptionalIndex}
 use Rattle.awk_gather.specs.Moved.{eight}
 use Rattle.awk_gather.proofs.MovedGroups.{number-group, length-groups, numbers-flat}
 use Rattle.awk_columns.specs.Counted.{first_of, present_place, present_at, AreBelow}
 use Rattle.awk_columns.proofs.FirstPlaces.{first_of-more}
-use Rattle.awk_columns.proofs.OrderedOptions.{option_below}
-use Rattle.awk_present.specs.Named.{place_group, named_places, named_groups, ArePlacesOf}
+use Rattle.awk_present.specs.Named.{place_group, named_places, ArePlacesOf}
 use Rattle.awk_present.proofs.SliceLaws.{map-places}
 use Rattle.awk_present.proofs.TakenLanes.{named_within}
 

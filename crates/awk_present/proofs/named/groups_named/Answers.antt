@@ -1,4 +1,4 @@
-use Rattle.std.proofs.Common.{◌≡◌, ◌<◌, length, [], get_or, refl, ap, sym, ◌∙◌, arith}
+use Rattle.std.proofs.Common.{◌≡◌, length, [], get_or, refl, ap, sym, ◌∙◌, arith}
 use Rattle.std.specs.Prelude.{Some}
 use Rattle.std.proofs.lemmas.List.{get_or_read}
 use Rattle.awk_lanes.specs.Places.{option_place}
@@ -7,7 +7,7 @@ use Rattle.awk_columns.specs.Counted.{present_place}
 use Rattle.awk_columns.proofs.FirstPlaces.{first_of-room, length-first_of}
 use Rattle.awk_columns.proofs.PlaceLanes.{none_left}
 use Rattle.awk_present.specs.Named.{place_group}
-use Rattle.awk_present.proofs.NamedLaws.{named_more, places_same, so_far}
+use Rattle.awk_present.proofs.NamedLaws.{named_more, places_same}
 use Rattle.awk_present.proofs.named.groups_named.Goals as goal
 use Rattle.awk_present.proofs.named.groups_named.Goals.{in-Some, in_default}
 

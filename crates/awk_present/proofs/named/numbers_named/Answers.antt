@@ -3,7 +3,6 @@ use Rattle.std.specs.Prelude.{◌/◌}
 use Rattle.std.specs.Simd.{first_chunks}
 use Rattle.awk_lanes.specs.Numbers.{width, numbers}
 use Rattle.awk_lanes.specs.Places.{size_of}
-use Rattle.awk_lanes.specs.declared.kind.Kind.TheVariants as Kind
 use Rattle.awk_gather.proofs.MovedGroups.{width-small, lane_is}
 use Rattle.awk_columns.specs.Counted.{first_of, present_at}
 use Rattle.awk_columns.proofs.OrderedOptions.{option_below}
