@@ -1,8 +1,8 @@
 -- A text decodes to the bytes that the engine gives, and is refused where the engine refuses it.
 use Rattle.std.proofs.Common.{◌∙◌, ap, Some, Ok, sym}
 use Rattle.awk_store.specs.Buffers.{decoding}
-use Rattle.awk_store.proofs.Texts.{decoding-Ok, decoding-Err}
-use Rattle.awk_store.proofs.store.decode.Goals as goal
+use Rattle.awk_store.proofs.ByKeyLaws.{decoding-Ok, decoding-Err}
+use Rattle.awk_store.proofs.texts.decode.Goals as goal
 
 pub returns-in-Ok-clause-answer : goal.returns-in-Ok-clause-answer
 returns-in-Ok-clause-answer c =

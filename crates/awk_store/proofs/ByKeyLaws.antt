@@ -26,7 +26,8 @@ use Rattle.serde_json.specs.Find.{as_str, get_member}
 use Rattle.serde_json.specs.View.{view, members_view}
 use Rattle.serde_json.specs.declared.value.Value.{Value}
 use Rattle.serde_json.proofs.Views.{view-lookup}
-use Rattle.awk_store.specs.Buffers.{ByKey, HoldsTexts, texts_of, Buffers, text_of, total_len, is_decoded, undecoded_len, decoding, why_told}
+use Rattle.awk_store.specs.Buffers.{ByKey, Held, HoldsTexts, texts_of, Given, Buffers, at_key, total_len, held_len}
+use Rattle.awk_store.specs.Buffers.{is_fetched, unfetched_len, unread_len, buffer, decoding, text_or_raw, why_told}
 use Rattle.awk_types.specs.Gives.{Told}
 use Rattle.awk_store.specs.declared.fault.StoreFault.{StoreFault}
 use Rattle.awk_store.specs.declared.fault.StoreFault.TheVariants.{Bad}
@@ -46,10 +47,10 @@ picked_text Equal here later text h e = is_own (as_str here) h
 picked_text Greater here later text h e = e
 
 -- the text of a key is that of its member
-pub text_of-texts_of : (key : List ℕ) (members : Members) → HoldsTexts members → option_and_then as_str (get_member key members) ≡ text_of (texts_of members) key
-text_of-texts_of key no_members h = refl
-text_of-texts_of key (member l here later) h =
-    picked_text (slice_cmp nat_cmp key l) here (get_member key later) _ h.0 (text_of-texts_of key later h.1)
+pub at_key-texts_of : (key : List ℕ) (members : Members) → HoldsTexts members → option_and_then as_str (get_member key members) ≡ at_key (texts_of members) key
+at_key-texts_of key no_members h = refl
+at_key-texts_of key (member l here later) h =
+    picked_text (slice_cmp nat_cmp key l) here (get_member key later) _ h.0 (at_key-texts_of key later h.1)
     ∙ rw is_eq-slice_cmp
 
 -- what a look-up of the map finds, as the text of the key
@@ -57,10 +58,10 @@ and_then-map : (o : Option Value) → option_and_then as_str (option_map view o)
 and_then-map None = refl
 and_then-map (Some v) = refl
 
-pub text_of-entries : (key : List ℕ) (entries : List (String Global × Value)) → HoldsTexts (members_view entries)
-    → option_and_then (λ v. as_str (view v)) (lookup (is_at (λ k. slice_cmp nat_cmp key (string_bytes k))) entries) ≡ text_of (texts_of (members_view entries)) key
-text_of-entries key entries h =
-    sym (and_then-map _) ∙ ap (option_and_then as_str) (view-lookup key entries) ∙ text_of-texts_of key (members_view entries) h
+pub at_key-entries : (key : List ℕ) (entries : List (String Global × Value)) → HoldsTexts (members_view entries)
+    → option_and_then (λ v. as_str (view v)) (lookup (is_at (λ k. slice_cmp nat_cmp key (string_bytes k))) entries) ≡ at_key (texts_of (members_view entries)) key
+at_key-entries key entries h =
+    sym (and_then-map _) ∙ ap (option_and_then as_str) (view-lookup key entries) ∙ at_key-texts_of key (members_view entries) h
 
 -- keys that compare as equal are the same
 pub same_key : (key name : List ℕ) → slice_cmp nat_cmp key name ≡ Equal → name ≡ key
@@ -86,30 +87,55 @@ undecodable text fault said is bytes h e =
     let decodes : decoding (Some text) ≡ Ok bytes = ap decoding e ∙ decoding-encode_of bytes h in
     cc
 
+-- the same of what a key finds
+pub undecodable-new : (texts entries : ByKey) (key text : List ℕ) → texts ≡ entries → (fault : StoreFault) → Some text ≡ at_key texts key → Told (why_told fault) (decoding (Some text)) → fault ≡ Bad Base64
+    → (bytes : List ℕ) → IsBytes bytes → at_key entries key ≢ Some (encode_of standard bytes)
+undecodable-new texts entries key text same fault found said is bytes h e = undecodable text fault said is bytes h (found ∙ ap (λ r. at_key r key) same ∙ e)
+
 -- no text is longer than all of them together
 len_step : (b : Bool) (here : List ℕ) (later : Option (List ℕ)) (rest : ℕ) → length (unwrap_or later []) ≤ rest → length (unwrap_or (cond b (Some here) later) []) ≤ length here + rest
 len_step true here later rest h = omega arith
 len_step false here later rest h = omega arith
 
-text_len-≤ : (texts : ByKey) (key : List ℕ) → length (unwrap_or (text_of texts key) []) ≤ total_len texts
-text_len-≤ [] key = omega arith
-text_len-≤ (e ∷ texts) key = rw sum_by-cons (len_step (bytes_eq key e.0) e.1 (text_of texts key) (total_len texts) (text_len-≤ texts key))
+at_key_len-≤ : (entries : ByKey) (key : List ℕ) → length (unwrap_or (at_key entries key) []) ≤ total_len entries
+at_key_len-≤ [] key = omega arith
+at_key_len-≤ (e ∷ entries) key = rw sum_by-cons (len_step (bytes_eq key e.0) e.1 (at_key entries key) (total_len entries) (at_key_len-≤ entries key))
 
-pub undecoded_len-≤ : (s : Buffers) (key : List ℕ) → undecoded_len s key ≤ total_len s.texts
-undecoded_len-≤ s key = undecoded_step (is_decoded s key) _ _ (text_len-≤ s.texts key)
+unfetched_len-≤ : (s : Given) (key : List ℕ) → unfetched_len s key ≤ total_len s.entries
+unfetched_len-≤ s key = unfetched_step (is_fetched s key) _ _ (at_key_len-≤ s.entries key)
   where
-    undecoded_step : (b : Bool) (n total : ℕ) → n ≤ total → cond b 0 n ≤ total
-    undecoded_step true n total h = omega arith
-    undecoded_step false n total h = h
+    unfetched_step : (b : Bool) (n total : ℕ) → n ≤ total → cond b 0 n ≤ total
+    unfetched_step true n total h = omega arith
+    unfetched_step false n total h = h
+
+pub unread_len-≤ : (s : Buffers) (key : List ℕ) → unread_len s key ≤ held_len s.held
+unread_len-≤ s key =
+    omega (
+      arith,
+      unfetched_len-≤ (record { entries = s.held.texts; fetched = s.decoded }) key,
+      unfetched_len-≤ (record { entries = s.held.raws; fetched = s.copied }) key,
+    )
 
 -- a text is no shorter than the bytes that it encodes
 encode_of-length : (bytes : List ℕ) → length bytes ≤ length (encode_of standard bytes)
 encode_of-length bytes =
     omega (arith, length-append (encode_symbols standard.encode_table bytes) (replicate (padding_len (length bytes)) 61), length-encode_symbols standard.encode_table bytes)
 
--- the bytes of a key are no more than those of all texts
-pub bytes_len-≤ : (texts : ByKey) (key bytes : List ℕ) → text_of texts key ≡ Some (encode_of standard bytes) → length bytes ≤ total_len texts
-bytes_len-≤ texts key bytes e =
-    let most = text_len-≤ texts key in
-    let here = rw e at most in
-    omega (arith, encode_of-length bytes, here)
+-- the bytes of a key are no more than those of all texts and buffers
+pub bytes_len-≤ : (held : Held) (key bytes : List ℕ) → buffer held key ≡ Ok bytes
+    → ((text : List ℕ) → at_key held.texts key ≡ Some text → text ≡ encode_of standard bytes)
+    → length bytes ≤ held_len held
+bytes_len-≤ held key bytes is encoded = by (at_key held.texts key) (at_key held.raws key) refl refl is
+  where
+    by : (text raw : Option (List ℕ)) → at_key held.texts key ≡ text → at_key held.raws key ≡ raw
+        → text_or_raw text raw ≡ Ok bytes → length bytes ≤ held_len held
+    by (Some text) raw e f k =
+        let most = at_key_len-≤ held.texts key in
+        let here = rw (e, encoded text e) at most in
+        omega (arith, encode_of-length bytes, here)
+    by None (Some raw) e f k =
+        let most = at_key_len-≤ held.raws key in
+        let same : raw ≡ bytes = cc in
+        let here = rw (f, same) at most in
+        omega (arith, here)
+    by None None e f k = cc
