@@ -162,7 +162,8 @@ masks (opt u) l m =
     masks-opt u (subst MasksBy (sym (mask-leaf u l (sym (plain_mask u l) ∙ m))) masks-truths)
 masks (uni us) l m = absurd cc
 
-pub plain-leaf : (u : DataType) → is_leaf (present u) ≡ true → is_option u ≡ false → is_leaf u ≡ true
+pub plain-leaf : (u : DataType) → is_leaf (present u) ≡ true → is_option u ≡ false
+    → is_leaf u ≡ true
 plain-leaf unknown l o = refl
 plain-leaf (leaf p) l o = refl
 plain-leaf (var u) l o = absurd cc

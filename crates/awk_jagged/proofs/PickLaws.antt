@@ -37,7 +37,8 @@ use Rattle.awk_jagged.specs.declared.leaves.Outcome.TheVariants as outcome
 use Rattle.awk_jagged.specs.declared.leaves.Places.{Places}
 use Rattle.awk_jagged_rows.proofs.FlatPlaces.{before_same}
 use Rattle.awk_jagged.proofs.FlatLists.{each_same, length-each, offsets_same}
-use Rattle.awk_jagged.proofs.LeafLaws.{take-picks, mask-picks, take-has, take-lacks, map_each, at_number}
+use Rattle.awk_jagged.proofs.LeafLaws.{take-picks, mask-picks, take-has, take-lacks, map_each}
+use Rattle.awk_jagged.proofs.LeafLaws.{at_number}
 use Rattle.awk_jagged.proofs.LeafTypes.{TakesBy, MasksBy, takes, masks}
 use Rattle.awk_jagged.proofs.PairLaws.{Unrolls, unrolls, rows_by-map}
 use Rattle.awk_jagged.proofs.PickedTypes.{leaf_typ, rows-index}

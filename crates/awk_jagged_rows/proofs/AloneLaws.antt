@@ -13,7 +13,8 @@ use Rattle.awk_columns.specs.Lists.{Listed}
 use Rattle.awk_jagged_rows.specs.Alone.{IsBetween, IsOnly, IsWhole}
 use Rattle.awk_jagged_rows.specs.Rows.{length_by}
 
-pub whole : (x : Layout) (n m : ℕ) (l : Listed) → n ≡ 0 → m ≡ len x → IsBetween x n m l → IsWhole x l
+pub whole : (x : Layout) (n m : ℕ) (l : Listed) → n ≡ 0 → m ≡ len x → IsBetween x n m l
+    → IsWhole x l
 whole x n m l e f h = record {
   size = h.size;
   content = h.content;

@@ -11,7 +11,6 @@ use Rattle.awk_lanes.specs.Counted.{before, offsets_by}
 use Rattle.awk_lanes.specs.declared.kind.Kind.TheVariants.{I64}
 use Rattle.awk_lanes.proofs.CountedLanes.{before-next, before_mono}
 
-
 -- the same for what maps give
 pub map_same : {Y : Type 0} (f g : ℕ → Y) (a n : ℕ) → ((i : ℕ) → a ≤ i → i < a + n → f i ≡ g i)
     → map f (range_with_len a n) ≡ map g (range_with_len a n)
