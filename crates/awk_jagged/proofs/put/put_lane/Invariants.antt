@@ -1,7 +1,6 @@
-use Rattle.awk_jagged.specs.Leaves.{mask_numbers}
-use Rattle.awk_jagged.proofs.MaskLaws.{AreMade}
-use Rattle.awk_jagged.proofs.masks.Kept.lane.Given as goal
+use Rattle.awk_jagged.proofs.PutLaws.{AreMade}
+use Rattle.awk_jagged.proofs.put.put_lane.Given as goal
 
--- what the lists before this one give is made
+-- the lists before this one are put
 abbrev pub invariant-loop-i : goal.invariant-loop-i
-invariant-loop-i g l = AreMade (mask_numbers l.self.xs.now l.self.ws.now) l.total l.i l.maker
+invariant-loop-i g l = AreMade (g.S.NumberLists.numbers l.source) l.total l.i l.maker

@@ -1,6 +1,6 @@
 use Rattle.awk_jagged.specs.Kept.{Puts}
 use Rattle.awk_jagged.specs.Leaves.{mask_first}
-use Rattle.awk_jagged.proofs.masks.Kept.put_list.Given as goal
+use Rattle.awk_jagged.proofs.masks.KeptNumberLists.put_list.Given as goal
 
 -- what the items before this one give is put
 abbrev pub invariant-loop-k : goal.invariant-loop-k
