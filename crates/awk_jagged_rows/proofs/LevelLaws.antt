@@ -77,7 +77,7 @@ pub pair-small : (second : Bool) (xs ws : Listed) (x w : RowLists) → row_count
     → IsSmallIndex (pair_lane second xs ws x w)
 pair-small second xs ws x w few = (tt, omega (arith, few, pair-size second xs ws x w))
 
-pair-place : (second : Bool) (xs ws : Listed) (x w : RowLists) (i k : ℕ) → i < size_of ws.starts
+pub pair-place : (second : Bool) (xs ws : Listed) (x w : RowLists) (i k : ℕ) → i < size_of ws.starts
     → k < length_by ws i
     → option_place_at (pair_lane second xs ws x w) (rows_before ws i + k)
     ≡ option_place (pair_at second xs ws x w i k)

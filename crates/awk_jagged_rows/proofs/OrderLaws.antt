@@ -34,10 +34,17 @@ use Rattle.awk_jagged_rows.proofs.LevelLaws.{pair-size, pair-place, rows-made}
 
 -- the first i lists lie in order
 pub record AreInOrder (l : Listed) (i first count : ℕ) : Type 0 where
-  pub count : count ≡ before (length_by l) i
+  pub counted : count ≡ before (length_by l) i
   pub within : first + count ≤ len l.content
   pub order : (k : ℕ) → k < i → 0 < length_by l k
       → place_at l.starts k ≡ first + before (length_by l) k
+
+pub order-begun : (l : Listed) → AreInOrder l 0 0 0
+order-begun l = record {
+  counted = refl;
+  within = omega arith;
+  order = λ k p z. absurd (omega (arith, p));
+}
 
 -- nothing lies before a place where nothing is counted
 none_before : (m : ℕ → ℕ) (i k : ℕ) → before m i ≡ 0 → k < i → m k ≡ 0
@@ -59,7 +66,7 @@ order_more l i P h e k q z = go (nat_lt k i) refl
 pub order-none : (l : Listed) (i first count : ℕ) → AreInOrder l i first count
     → length_by l i ≡ 0 → AreInOrder l (i + 1) first count
 order-none l i first count h e = record {
-  count = omega (arith, h.count, before-next (length_by l) i, e);
+  counted = omega (arith, h.counted, before-next (length_by l) i, e);
   within = h.within;
   order = order_more l i (λ k b. place_at l.starts k ≡ first + b) h.order
       (λ z. absurd (omega (arith, z, e)));
@@ -70,24 +77,36 @@ pub order-some : (l : Listed) (i first count begin start length : ℕ)
     → start ≡ place_at l.starts i → length ≡ length_by l i → start ≡ begin + count
     → start + length ≤ len l.content → AreInOrder l (i + 1) begin (count + length)
 order-some l i first count begin start length h none some s n e w = record {
-  count = omega (arith, h.count, before-next (length_by l) i, n);
+  counted = omega (arith, h.counted, before-next (length_by l) i, n);
   within = omega (arith, e, w);
   order = order_more l i (λ k b. place_at l.starts k ≡ begin + b) (earlier count refl)
-      (λ z. omega (arith, s, e, h.count));
+      (λ z. omega (arith, s, e, h.counted));
 }
   where
     earlier : (c : ℕ) → c ≡ count → (k : ℕ) → k < i → 0 < length_by l k
         → place_at l.starts k ≡ begin + before (length_by l) k
     earlier zero f k p z =
-        let b : before (length_by l) i ≡ 0 = omega (arith, f, h.count) in
+        let b : before (length_by l) i ≡ 0 = omega (arith, f, h.counted) in
         absurd (omega (arith, z, none_before (length_by l) i k b p))
     earlier (suc c) f k p z =
         omega (arith, h.order k p z, some (omega (arith, f)))
 
+pub some-length : (n : ℕ) → (n ≡ 0 → ⊥) → 0 < n
+some-length zero h = absurd (h refl)
+some-length (suc n) h = omega arith
+
+-- where nothing is counted the list's start fits, and else what is counted does
+pub begin-fits : (count begin first start n : ℕ) → (count ≡ 0 → begin ≡ start)
+    → (0 < count → begin ≡ first) → start < 2 ^ 63 → first + count ≤ n → n < 2 ^ 63
+    → begin + count < 2 ^ 64
+begin-fits zero begin first start n none some s h f = omega (arith, none refl, s)
+begin-fits (suc c) begin first start n none some s h f =
+    omega (arith, some (omega arith), h, f)
+
 pub order-whole : (l : Listed) (i first count : ℕ) → i ≡ size_of l.starts
     → AreInOrder l i first count → IsFirst l first
 order-whole l i first count e h = record {
-  within = omega (arith, h.within, h.count, ap (before (length_by l)) e);
+  within = omega (arith, h.within, h.counted, ap (before (length_by l)) e);
   order = λ k p z. h.order k (omega (arith, p, e)) z;
 }
 

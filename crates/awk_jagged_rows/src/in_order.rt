@@ -104,6 +104,8 @@ pub fn rows_in_order<'a, L: Ledger>(
 ) -> Result<Rows<'a>, NoMemory>
     requires x_spans { AreSpans x.now.starts x.now.stops (len x.now.content) }
     requires w_spans { AreSpans w.now.starts w.now.stops (len w.now.content) }
+    requires x_valid { IsValid x.now.content }
+    requires w_valid { IsValid w.now.content }
     requires x_within { firsts.x + offsets.now.total ≤ size_of x.now.starts }
     requires w_within { firsts.w + offsets.now.total ≤ size_of w.now.starts }
     requires x_small { size_of x.now.starts < 2 ^ 63 }
