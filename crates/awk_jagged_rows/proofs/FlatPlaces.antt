@@ -1,14 +1,10 @@
 -- Places of lists one after another.
 use Rattle.std.specs.Prelude.{◌≡◌, ℕ, zero, suc, ◌+◌, ◌-◌, ◌<◌, ◌≤◌, nat_lt, Bool, true, false}
 use Rattle.std.specs.Prelude.{refl}
-use Rattle.std.specs.Prelude.{List, ◌∷◌, ◌++◌, length, map, pos}
-use Rattle.std.specs.List.{range_with_len, flat_map}
-use Rattle.std.proofs.Common.{arith, ap, ap₂, sym, ◌∙◌, subst}
-use Rattle.std.proofs.lemmas.Grind.{flat_map-append}
-use Rattle.std.proofs.lemmas.List.{length-append}
-use Rattle.std.proofs.lemmas.List.Folds.{flat_map-map}
-use Rattle.awk_lanes.specs.Counted.{before, offsets_by}
-use Rattle.awk_lanes.specs.declared.kind.Kind.TheVariants.{I64}
+use Rattle.std.specs.Prelude.{List, ◌∷◌, ◌++◌, map}
+use Rattle.std.specs.List.{range_with_len}
+use Rattle.std.proofs.Common.{arith, ap, ap₂, ◌∙◌, subst}
+use Rattle.awk_lanes.specs.Counted.{before}
 use Rattle.awk_lanes.proofs.CountedLanes.{before-next, before_mono}
 
 -- the same for what maps give

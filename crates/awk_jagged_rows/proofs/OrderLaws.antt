@@ -1,7 +1,7 @@
 -- Lists in pairs whose rows lie in order.
 use Rattle.std.specs.Prelude.{◌≡◌, ℕ, zero, suc, ◌+◌, ◌-◌, ◌<◌, ◌≤◌, ◌^◌, refl, pos, nat_lt}
-use Rattle.std.specs.Prelude.{Bool, true, false, Option, Some, None}
-use Rattle.std.specs.Prelude.{get_or, take, drop, length}
+use Rattle.std.specs.Prelude.{Bool, true, false, Some, None}
+use Rattle.std.specs.Prelude.{drop, length}
 use Rattle.std.proofs.Common.{arith, ap, ap₂, sym, ◌∙◌, subst}
 use Rattle.std.proofs.Common.{get_or-take, get_or-drop, length-take, length-drop}
 use Rattle.awk_types.specs.ItemLimit.{item_limit}

@@ -1,10 +1,12 @@
 use Rattle.std.specs.Prelude.{◌+◌}
 use Rattle.std.proofs.Common.{arith, sym, subst}
+use Rattle.awk_layout.specs.Typing.{array_type}
 use Rattle.awk_jagged_rows.specs.Levels.{AreRows, AreUnlike}
 use Rattle.awk_jagged.specs.Outcomes.{IsTold}
 use Rattle.awk_jagged.specs.declared.picking.Told.TheVariants as told
 use Rattle.awk_jagged.proofs.OverLaws.{can-hold, outcome-over}
 use Rattle.awk_jagged.proofs.PickLaws.{unlike-rows}
+use Rattle.awk_jagged.proofs.PickedTypes.{rows-picked, rows-index}
 use Rattle.awk_jagged_rows.proofs.Results.{if_ok}
 use Rattle.awk_jagged.proofs.ToldLaws.{AreToldTo, told-outside, told-nothing, told-many, one-told}
 use Rattle.awk_jagged.proofs.picking.+picked.Goals as goal
@@ -55,6 +57,15 @@ picked_level-returns-in_ok-below-in-Rows g t c =
     if_ok _ _ c.put_over.result
     (λ r q. outcome-over c.args.xs.now c.args.ws.now c.in-Rows.rows h c.requires.rows
     c.in_ok-below-in-Rows.below r c.in_ok-below-in-Rows.ensures q) c.put_over.ensures
+
+pub told_of-rows_of_one-requires-clause-rows : goal.told_of-rows_of_one-requires-clause-rows
+told_of-rows_of_one-requires-clause-rows g t c =
+    rows-picked (array_type c.args.ws.now.content) (array_type c.args.xs.now.content)
+    c.requires.rows c.requires.types
+
+pub told_of-rows_of_one-requires-clause-index : goal.told_of-rows_of_one-requires-clause-index
+told_of-rows_of_one-requires-clause-index g t c =
+    rows-index (array_type c.args.ws.now.content) c.requires.rows
 
 pub told_of-returns : goal.told_of-returns
 told_of-returns g t c =

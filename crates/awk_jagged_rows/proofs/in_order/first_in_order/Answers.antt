@@ -1,4 +1,3 @@
-use Rattle.std.specs.Prelude.{◌<◌}
 use Rattle.std.proofs.Common.{arith, sym, ◌∙◌}
 use Rattle.awk_layout.specs.Laws.{len-fits}
 use Rattle.awk_layout.specs.Valid.{len}
