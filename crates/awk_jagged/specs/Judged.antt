@@ -1,7 +1,7 @@
 -- What types tell of picks row by row.
 use Rattle.std.specs.Prelude.{◌≡◌, Bool, true, Option, Some, None, option_map, is_some, Result, Err}
 use Rattle.std.specs.Prelude.{if◌then◌else◌}
-use Rattle.awk_types.specs.DataType.{DataType, unknown, var, reg}
+use Rattle.awk_types.specs.DataType.{DataType, var}
 use Rattle.awk_types.specs.Gives.{refused_or}
 use Rattle.awk_types.specs.Simple.{simple}
 use Rattle.awk_types.specs.declared.fault.Fault.{Fault}

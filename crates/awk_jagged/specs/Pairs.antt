@@ -1,8 +1,8 @@
 -- Lists in pairs by their places: what is picked from one by the other, and what is told of it.
-use Rattle.std.specs.Prelude.{◌≡◌, ℕ, ◌<◌, Bool, true, false, List, [], length}
+use Rattle.std.specs.Prelude.{◌≡◌, ℕ, ◌<◌, true, false, List, length}
 use Rattle.std.specs.List.{range_with_len, flat_map}
 use Rattle.awk_types.specs.DataType.{DataType}
-use Rattle.awk_types.specs.Value.{Value, list, value_list}
+use Rattle.awk_types.specs.Value.{Value}
 use Rattle.awk_jagged_rows.specs.Sides.{ListsBy}
 use Rattle.awk_jagged.specs.Jagged.{are_uneven, lacks_places, picked_items}
 

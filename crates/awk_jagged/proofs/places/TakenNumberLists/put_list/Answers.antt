@@ -1,9 +1,7 @@
-use Rattle.std.specs.Prelude.{◌+◌}
-use Rattle.std.proofs.Common.{◌≡◌, arith, sym, ◌∙◌, subst}
+use Rattle.std.proofs.Common.{◌≡◌, arith}
 use Rattle.awk_lanes.specs.Numbers.{int_of}
-use Rattle.awk_jagged.specs.Kept.{Puts}
 use Rattle.awk_jagged.specs.Leaves.{take_at}
-use Rattle.awk_jagged.proofs.PutLaws.{first_numbers, puts-next, next-room}
+use Rattle.awk_jagged.proofs.PutLaws.{puts-next, next-room}
 use Rattle.awk_jagged_rows.specs.Rows.{length_by}
 use Rattle.awk_jagged.proofs.places.TakenNumberLists.put_list.Goals as goal
 
