@@ -3,7 +3,6 @@ ghost use Rattle.std.specs.Prelude.{◌≡◌, ◌+◌, ◌*◌, ◌≤◌, true
 ghost use Rattle.awk_types.specs.Gives.{Gives};
 ghost use Rattle.awk_types.specs.Faults.{fault_told};
 ghost use Rattle.awk_types.specs.Names.{AreDistinct};
-ghost use Rattle.awk_types.specs.Simple.{present};
 ghost use Rattle.awk_types.specs.View.{typ_of};
 ghost use Rattle.awk_layout.specs.Datum.{IsDatum, datum_of};
 ghost use Rattle.awk_layout.specs.Layout.{weight, height};
@@ -23,6 +22,7 @@ use crate::arguments::{
 };
 use crate::axis::{axis_among, axis_in};
 use awk_combi::combinations;
+use awk_jagged::{is_jagged, jagged};
 use awk_kernels::Kernels;
 use awk_lanes::{Arena, Steps};
 use awk_layout::{Array, Datum, Operands};
@@ -285,21 +285,7 @@ fn ranged<'s, L: Ledger>(
     }
 }
 
-// Whether items of a type are lists, optional or not.
-fn is_list(t: &Typ) -> bool
-    ensures { result ≡ meaning.is_list (present (typ_of t.now)) }
-{
-    match t {
-        Typ::Var(_) | Typ::Reg(_, _) => true,
-        Typ::Opt(inner) => match &**inner {
-            Typ::Var(_) | Typ::Reg(_, _) => true,
-            _ => false,
-        },
-        _ => false,
-    }
-}
-
-// The items of an array that another names, by a mask or by an index.
+// The items of an array that another names, by a mask or an index, or row by row.
 fn pick_of<'s, L: Ledger>(
     alloc: Global,
     e: &Datum<'s>,
@@ -333,8 +319,8 @@ fn picked<'s, L: Ledger>(
         (meaning.pick_by (typ_of u.now) (datum_of e.now) (datum_of x.now)) }
     ensures datum { IfOk result (λ made. IsDatum made) }
 {
-    if is_list(u) {
-        Err(Fault::Unbuilt)
+    if is_jagged(u) {
+        jagged(alloc, e, x, arena, steps)
     } else if is_mask(u) {
         mask(alloc, e, x, arena, steps)
     } else {
