@@ -6,6 +6,7 @@
 
 mod leaves;
 mod named;
+mod opening;
 mod present;
 
 pub use present::{Present, present_of};

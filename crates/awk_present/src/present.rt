@@ -13,10 +13,11 @@ ghost use Rattle.awk_present.specs.Present.{present_in, taken_lane, ArePresent};
 
 use crate::leaves::leaves_of;
 use crate::named::numbers_at;
+use crate::opening::opened_option;
 use awk_lanes::{Arena, Lane, Lengths, NoMemory, Offsets, Steps, offsets_of, place_in};
 use awk_layout::Array;
 use awk_numbers::{Whole, count_places, whole_of};
-use awk_open::{Opened, opened};
+use awk_open::Opened;
 use awk_types::is_optional;
 use std::alloc::Global;
 use std::sync::ledger::Ledger;
@@ -96,7 +97,7 @@ fn present_options<'a, L: Ledger>(
     requires few { length (array_items items.now) ≤ item_limit }
     ensures { IfOk result (ArePresent items.now offsets.now count) }
 {
-    match opened(alloc, items, arena, steps)? {
+    match opened_option(alloc, items, arena, steps)? {
         Opened::Option { index, content } => {
             let leaves = leaves_of(alloc, &content, arena, steps)?;
             let whole = whole_of(&index, steps);

@@ -16,7 +16,7 @@ pub present_offsets-requires-clause-parts : goal.present_offsets-requires-clause
 present_offsets-requires-clause-parts g c =
     let x = c.args.items.now in
     let opens : IsOpened x (opened.Option c.in-Option.index c.in-Option.content) =
-    subst (IsOpened x) c.in-Option.is c.in_ok-index.ensures.opened in
+    subst (IsOpened x) c.in-Option.is c.in_ok-index.ensures in
     let count : length (whole_numbers c.whole_of-whole.result) ≡ length (array_items x) =
     ap length c.whole_of-whole.ensures.numbers
     ∙ index-count c.in-Option.index c.in_ok-leaves-in-Option.leaves x c.in-Option.content opens
@@ -30,7 +30,7 @@ pub numbers_at-requires-clause-index : goal.numbers_at-requires-clause-index
 numbers_at-requires-clause-index g c =
     let x = c.args.items.now in
     let opens : IsOpened x (opened.Option c.in-Option.index c.in-Option.content) =
-    subst (IsOpened x) c.in-Option.is c.in_ok-index.ensures.opened in
+    subst (IsOpened x) c.in-Option.is c.in_ok-index.ensures in
     index_into c.in-Option.index c.in_ok-leaves-in-Option.leaves x c.in-Option.content opens
     c.in_ok-leaves-in-Option.ensures
 
@@ -38,7 +38,7 @@ pub numbers_at-requires-clause-count : goal.numbers_at-requires-clause-count
 numbers_at-requires-clause-count g c =
     let x = c.args.items.now in
     let opens : IsOpened x (opened.Option c.in-Option.index c.in-Option.content) =
-    subst (IsOpened x) c.in-Option.is c.in_ok-index.ensures.opened in
+    subst (IsOpened x) c.in-Option.is c.in_ok-index.ensures in
     c.in_ok-starts-in-Option.ensures.0
     ∙ ap (λ js. before (present_in js c.args.offsets.now) c.args.count)
     c.whole_of-whole.ensures.numbers
@@ -50,7 +50,7 @@ pub returns : goal.returns
 returns g c =
     let x = c.args.items.now in
     let opens : IsOpened x (opened.Option c.in-Option.index c.in-Option.content) =
-    subst (IsOpened x) c.in-Option.is c.in_ok-index.ensures.opened in
+    subst (IsOpened x) c.in-Option.is c.in_ok-index.ensures in
     let leaves : is_leaf (array_type c.in-Option.content) ≡ true =
     sym (ap (λ t. is_leaf (present t)) opens.kind) ∙ c.requires.leaves in
     options_are c.in-Option.index c.in_ok-leaves-in-Option.leaves x c.in-Option.content opens
