@@ -2,7 +2,6 @@
 use Rattle.std.proofs.Common.{◌≡◌, ◌<◌, Bool, true, false, not, ap, sym, subst, ◌∙◌, arith}
 use Rattle.std.specs.Prelude.{List, [], ◌∷◌, map, length, slice_get, Option, Some, None}
 use Rattle.std.specs.Prelude.{Result, Ok, Err, if◌then◌else◌}
-use Rattle.std.proofs.lemmas.List.{length-map}
 use Rattle.awk_types.specs.DataType.{DataType}
 use Rattle.awk_types.specs.Datum.{Datum}
 use Rattle.awk_types.specs.Faults.{fault_told}
@@ -10,7 +9,6 @@ use Rattle.awk_types.specs.Gives.{Told, refused_or}
 use Rattle.awk_types.specs.Predicates.{is_leaf}
 use Rattle.awk_types.specs.Value.{Value}
 use Rattle.awk_types.specs.declared.fault.Fault.{Fault}
-use Rattle.awk_types.specs.declared.fault.Fault.TheVariants.{WrongType}
 use Rattle.awk_types.specs.declared.primitive.Primitive.{Primitive}
 use Rattle.awk_types.proofs.RefusalLaws.{refused_or-Ok}
 use Rattle.awk_columns.specs.Columns.{part_at}
@@ -18,7 +16,6 @@ use Rattle.awk_columns.specs.InOrder.{AreParts}
 use Rattle.awk_lanes.specs.Column.{Column}
 use Rattle.awk_layout.specs.Datum.{datum_of}
 use Rattle.awk_layout.specs.Layout.{Layout, flat}
-use Rattle.awk_layout.specs.Single.{own_datum}
 use Rattle.awk_layout.specs.Typing.{array_type, array_items}
 use Rattle.awk_layout.specs.Valid.{len}
 use Rattle.awk_layout.specs.declared.datum.Datum.TheVariants.{Arr, One}
@@ -32,10 +29,10 @@ use Rattle.awk_pair.specs.Pairs.{has_wrong_end, leaf_types, pair_refused, some_a
 use Rattle.awk_pointwise.specs.Sides.{lane_values}
 use Rattle.awk_arith.specs.AtLeaves.{leaf_in, at_leaves, in_primitive, result_type, limit_refused}
 use Rattle.awk_arith.specs.AtLeaves.{row_values, value_or_null, first_fault}
-use Rattle.awk_arith.specs.Sides.{column_at}
-use Rattle.awk_arith.specs.Unary.{unary_row, judged_unary, unary_of}
+use Rattle.awk_arith.specs.Unary.{unary_row, judged_unary}
 use Rattle.awk_arith.proofs.AnswerLaws.{told_type, told_pair, told_leaves, IsResult, made}
-use Rattle.awk_arith.proofs.ColumnLaws.{map-map, AreEnds, ends-count, ends-long, ends-leaf, parts-at}
+use Rattle.awk_arith.proofs.ColumnLaws.{map-map, AreEnds, ends-count, ends-long, ends-leaf}
+use Rattle.awk_arith.proofs.ColumnLaws.{parts-at}
 use Rattle.awk_arith.proofs.ResultLaws.{Told-fault, all_values-is}
 use Rattle.awk_arith.proofs.SideLaws.{column_is, leaves-at}
 use Rattle.awk_arith.proofs.UnderLaws.{result_is, no_fault, lane_items, lane_size}

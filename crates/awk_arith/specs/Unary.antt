@@ -1,5 +1,5 @@
 -- Operations on one datum, leaf by leaf.
-use Rattle.std.specs.Prelude.{List, [], ◌∷◌, Result, Err, None, if◌then◌else◌}
+use Rattle.std.specs.Prelude.{[], ◌∷◌, Result, Err, None, if◌then◌else◌}
 use Rattle.awk_types.specs.Datum.{Datum}
 use Rattle.awk_types.specs.Value.{Value}
 use Rattle.awk_types.specs.declared.fault.Fault.{Fault}
