@@ -1,0 +1,11 @@
+pub mod ResultLaws
+pub mod LeafLaws
+pub mod EmptyLaws
+pub mod ColumnLaws
+pub mod SideLaws
+pub mod AnswerLaws
+pub mod UnderLaws
+pub mod BinaryLaws
+pub mod PairedLaws
+pub mod LiteralLaws
+mod Worked

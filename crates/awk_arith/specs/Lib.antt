@@ -1,0 +1,3 @@
+pub mod AtLeaves
+pub mod Binary
+pub mod Sides

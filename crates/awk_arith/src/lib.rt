@@ -1,0 +1,12 @@
+//! Arithmetic, comparisons and logic, leaf by leaf, over operands that are paired to their leaves.
+//!
+//! `binary`, `compare` and `logical` take two operands. A literal is no operand of the pairing: it
+//! takes its type from the other operand's leaves, and stands beside each of them. Their result
+//! has the lists and nulls that the operands share.
+#![tactic(auto)]
+
+mod operands;
+mod result;
+mod sides;
+
+pub use operands::{binary, compare, logical};
