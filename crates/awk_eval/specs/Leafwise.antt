@@ -6,6 +6,8 @@ use Rattle.awk_leaves.specs.declared.operation.Binary.{Binary}
 use Rattle.awk_leaves.specs.declared.operation.Binary.TheVariants.{Calculate, Test, Join}
 use Rattle.awk_leaves.specs.declared.operation.Logic.{Logic}
 use Rattle.awk_leaves.specs.declared.operation.Logic.TheVariants as logic
+use Rattle.awk_leaves.specs.declared.operation.Unary.{Unary}
+use Rattle.awk_leaves.specs.declared.operation.Unary.TheVariants as unary
 use Rattle.awk_query.specs.declared.op.Op.{Op}
 use Rattle.awk_query.specs.declared.op.Op.TheVariants as op
 
@@ -31,7 +33,20 @@ logic_operation op.Or = Some logic.Or
 logic_operation op.Xor = Some logic.Xor
 logic_operation _ = None
 
+-- of one operand
+abbrev pub single_operation : Op → Option Unary
+single_operation op.Not = Some unary.Not
+single_operation op.Neg = Some unary.Negate
+single_operation op.Abs = Some unary.Absolute
+single_operation _ = None
+
 abbrev pub IsNumberOperation : Binary → Type 0
 IsNumberOperation (Calculate o) = Unit {0}
 IsNumberOperation (Test how) = Unit {0}
 IsNumberOperation (Join o) = ⊥
+
+abbrev pub IsSingleOperation : Unary → Type 0
+IsSingleOperation unary.Not = Unit {0}
+IsSingleOperation unary.Negate = Unit {0}
+IsSingleOperation unary.Absolute = Unit {0}
+IsSingleOperation (unary.Cast to) = ⊥

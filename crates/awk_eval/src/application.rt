@@ -3,7 +3,6 @@ ghost use Rattle.std.specs.Prelude.{◌≡◌, ◌+◌, ◌*◌, ◌≤◌, true
 ghost use Rattle.awk_types.specs.Gives.{Gives};
 ghost use Rattle.awk_types.specs.Faults.{fault_told};
 ghost use Rattle.awk_types.specs.Names.{AreDistinct};
-ghost use Rattle.awk_types.specs.Simple.{present};
 ghost use Rattle.awk_types.specs.View.{typ_of};
 ghost use Rattle.awk_layout.specs.Datum.{IsDatum, datum_of};
 ghost use Rattle.awk_layout.specs.Layout.{weight, height};
@@ -12,7 +11,8 @@ ghost use Rattle.awk_lists.specs.WithoutField.{without_field_of};
 ghost use Rattle.awk_query.specs.Allowed.{HasArguments};
 ghost use Rattle.awk_eval.specs.Fixed.{bounds_in, text_in, texts_in, tuples_in};
 ghost use Rattle.awk_eval.specs.Operand.{only_in, both_in, two_in};
-ghost use Rattle.awk_eval.specs.Leafwise.{IsNumberOperation};
+ghost use Rattle.awk_eval.specs.Leafwise.{IsNumberOperation, IsSingleOperation};
+ghost use Rattle.awk_arith.specs.Unary.{unary_of};
 ghost use Rattle.awk_eval.specs.OperandView.{shown_operands};
 ghost use Rattle.awk_eval.specs.Ranges.{range_items};
 ghost use Rattle.awk_eval.specs.Views.{Size, Takes, IsWithin, AreWithin, is_view_op};
@@ -23,13 +23,14 @@ use crate::arguments::{
     with_step,
 };
 use crate::axis::{axis_among, axis_in};
-use crate::leafwise::{logic_operation, number_operation};
-use awk_arith::{binary, compare, logical};
+use crate::leafwise::{logic_operation, number_operation, single_operation};
+use awk_arith::{abs, binary, compare, logical, neg, not};
 use awk_combi::combinations;
+use awk_jagged::{is_jagged, jagged};
 use awk_kernels::Kernels;
 use awk_lanes::{Arena, Steps};
 use awk_layout::{Array, Datum, Operands};
-use awk_leaves::{Binary, Logic};
+use awk_leaves::{Binary, Logic, Unary};
 use awk_lists::{flatten, local_index, num, run_lengths, unflatten, without_field};
 use awk_merge::concatenate;
 use awk_options::{drop_none, fill_none, firsts, is_none, pad_none, put_mask, singletons};
@@ -246,6 +247,9 @@ fn leafwise<'s, N: Kernels, L: Ledger>(
     if let Some(op) = logic_operation(op) {
         return joined(alloc, op, operands, kernels, arena, steps);
     }
+    if let Some(op) = single_operation(op) {
+        return on_leaves(alloc, op, operands, kernels, arena, steps);
+    }
     reducing(alloc, op, operands, kernels, arena, steps)
 }
 
@@ -289,6 +293,31 @@ fn joined<'s, N: Kernels, L: Ledger>(
     match both(operands) {
         Some((x, y)) => logical(alloc, op, x, y, kernels, arena, steps),
         None => Err(Fault::Unbuilt),
+    }
+}
+
+// An operation of one operand on it.
+fn on_leaves<'s, N: Kernels, L: Ledger>(
+    alloc: Global,
+    op: Unary,
+    operands: &Operands<'s>,
+    kernels: &N,
+    arena: &'s Arena,
+    steps: &mut Steps<L>,
+) -> Result<Datum<'s>, Fault>
+    requires { IsSingleOperation op }
+    ensures answer { Gives datum_of fault_told result
+        (meaning.given unary_of (Some op) (only_in (shown_operands operands.now))) }
+    ensures datum { IfOk result (λ made. IsDatum made) }
+{
+    let Some(x) = only(operands) else {
+        return Err(Fault::Unbuilt);
+    };
+    match op {
+        Unary::Not => not(alloc, x, kernels, arena, steps),
+        Unary::Negate => neg(alloc, x, kernels, arena, steps),
+        Unary::Absolute => abs(alloc, x, kernels, arena, steps),
+        Unary::Cast(_) => unreachable!(),
     }
 }
 
@@ -354,21 +383,7 @@ fn ranged<'s, L: Ledger>(
     }
 }
 
-// Whether items of a type are lists, optional or not.
-fn is_list(t: &Typ) -> bool
-    ensures { result ≡ meaning.is_list (present (typ_of t.now)) }
-{
-    match t {
-        Typ::Var(_) | Typ::Reg(_, _) => true,
-        Typ::Opt(inner) => match &**inner {
-            Typ::Var(_) | Typ::Reg(_, _) => true,
-            _ => false,
-        },
-        _ => false,
-    }
-}
-
-// The items of an array that another names, by a mask or by an index.
+// The items of an array that another names, by a mask or an index, or row by row.
 fn pick_of<'s, L: Ledger>(
     alloc: Global,
     e: &Datum<'s>,
@@ -402,8 +417,8 @@ fn picked<'s, L: Ledger>(
         (meaning.pick_by (typ_of u.now) (datum_of e.now) (datum_of x.now)) }
     ensures datum { IfOk result (λ made. IsDatum made) }
 {
-    if is_list(u) {
-        Err(Fault::Unbuilt)
+    if is_jagged(u) {
+        jagged(alloc, e, x, arena, steps)
     } else if is_mask(u) {
         mask(alloc, e, x, arena, steps)
     } else {

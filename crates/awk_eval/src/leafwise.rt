@@ -1,10 +1,10 @@
 //! Which operations go leaf by leaf.
 ghost use Rattle.std.specs.Prelude.{◌≡◌, IfSome};
 ghost use Rattle.awk_eval.specs.Leafwise as spec;
-ghost use Rattle.awk_eval.specs.Leafwise.{IsNumberOperation};
+ghost use Rattle.awk_eval.specs.Leafwise.{IsNumberOperation, IsSingleOperation};
 
 use awk_kernels::{Arith, Compare};
-use awk_leaves::{Binary, Logic};
+use awk_leaves::{Binary, Logic, Unary};
 use awk_query::Op;
 
 /// Arithmetic or a comparison.
@@ -36,6 +36,19 @@ pub(crate) fn logic_operation(op: Op) -> Option<Logic>
         Op::And => Some(Logic::And),
         Op::Or => Some(Logic::Or),
         Op::Xor => Some(Logic::Xor),
+        _ => None,
+    }
+}
+
+/// An operation of one operand.
+pub(crate) fn single_operation(op: Op) -> Option<Unary>
+    ensures operation { result ≡ spec.single_operation op }
+    ensures kind { IfSome result IsSingleOperation }
+{
+    match op {
+        Op::Not => Some(Unary::Not),
+        Op::Neg => Some(Unary::Negate),
+        Op::Abs => Some(Unary::Absolute),
         _ => None,
     }
 }

@@ -79,7 +79,7 @@ abbrev pub int_values : Result (List ℤ) Fault → Result (List Value) Fault
 int_values (Ok zs) = Ok (map int zs)
 int_values (Err f) = Err f
 
-more_int : (r : Result ℤ Why) (rest : Result (List ℤ) Fault)
+pub more_int : (r : Result ℤ Why) (rest : Result (List ℤ) Fault)
     → first_fault_or (number_or_fault r) (int_values rest) ≡ int_values (with_number r rest)
 more_int (Ok z) (Ok zs) = refl
 more_int (Ok z) (Err f) = refl
@@ -122,7 +122,7 @@ calculated_lane op p xs ys c w k e =
     ∙ ap (λ vs. Ok vs) (sym (int_lane p c.items w)
     ∙ ap (λ k. lane_values (column k c.items)) (sym k))
 
-told_values : (f : Option Fault) (said : Result (List ℤ) Fault) → Told f said
+pub told_values : (f : Option Fault) (said : Result (List ℤ) Fault) → Told f said
     → Told f (int_values said)
 told_values None said h = tt
 told_values (Some f) said h = ap int_values h
@@ -137,7 +137,7 @@ calculated_told op p xs ys f h =
 
 -- ---- truth values
 
-read_truth : (b : Bool)
+pub read_truth : (b : Bool)
     → leaf_value Truths (lanes.element Truths (pos (from_bool b))) ≡ truth b
 read_truth true = refl
 read_truth false = refl

@@ -3,4 +3,5 @@ pub mod WordLaws
 pub mod CalculatedLaws
 pub mod RangeLaws
 pub mod ReadyLaws
+pub mod SingleLaws
 mod Worked

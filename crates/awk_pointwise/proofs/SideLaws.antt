@@ -30,12 +30,12 @@ all_at : {X : Type 0} (P : X → Type 0) (d : X) (xs : List X) → ((i : ℕ) �
 all_at P d [] h = tt
 all_at P d (x ∷ xs) h = (h 0, all_at P d xs (λ i. h (suc i)))
 
-all-map : {X Y : Type 0} (P : X → Type 0) (Q : Y → Type 0) (f : X → Y) (xs : List X)
+pub all-map : {X Y : Type 0} (P : X → Type 0) (Q : Y → Type 0) (f : X → Y) (xs : List X)
     → ((x : X) → P x → Q (f x)) → AllByRecursion P xs → AllByRecursion Q (map f xs)
 all-map P Q f [] h a = tt
 all-map P Q f (x ∷ xs) h a = (h x a.0, all-map P Q f xs h a.1)
 
-all-replicate : {X : Type 0} (P : X → Type 0) (n : ℕ) (x : X) → P x
+pub all-replicate : {X : Type 0} (P : X → Type 0) (n : ℕ) (x : X) → P x
     → AllByRecursion P (replicate n x)
 all-replicate P zero x h = tt
 all-replicate P (suc n) x h = (h, all-replicate P n x h)

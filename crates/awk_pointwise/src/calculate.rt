@@ -150,7 +150,7 @@ pub(crate) fn calculate_nats<N: Kernels>(
 }
 
 /// Arithmetic in a primitive whose numbers all fit an i64.
-fn calculated_ints<'a, N: Kernels>(
+pub(crate) fn calculated_ints<'a, N: Kernels>(
     alloc: Global,
     op: Arith,
     prim: Prim,

@@ -1,5 +1,7 @@
 //! Numbers of eight bytes each, as the kernels take them.
-ghost use Rattle.std.specs.Prelude.{◌≡◌, ◌≤ℤ◌, pos, map, replicate, length, IfOk};
+ghost use Rattle.std.specs.Prelude.{◌≡◌, ℕ, ◌<◌, ◌≤ℤ◌, pos, map, replicate};
+ghost use Rattle.std.specs.Prelude.{length, get_or, IfOk, FitsSigned};
+ghost use Rattle.std.specs.Int.{w64};
 ghost use Rattle.std.specs.List.{AllByRecursion};
 ghost use Rattle.awk_lanes.specs.Numbers.{element, nat_of};
 ghost use Rattle.awk_lanes.specs.Words.{integers};
@@ -68,6 +70,17 @@ pub(crate) fn repeated(alloc: Global, z: i128, n: u64) -> Result<Words, NoMemory
         Ok(Words::Ints(vec![in alloc; z as i64; n as usize]?))
     } else {
         Ok(Words::Nats(vec![in alloc; nat_of_wide(z); n as usize]?))
+    }
+}
+
+/// Each number fits an i64, which a proof learns from reading it. Nothing is left of this when
+/// built.
+#[inline(always)]
+pub(crate) fn known(items: &[i64])
+    ensures { (k : ℕ) → k < length items.now → FitsSigned w64 (get_or items.now k (pos 0)) }
+{
+    for i in 0..items.len() {
+        let _ = items[i] == 0;
     }
 }
 

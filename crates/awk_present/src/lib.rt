@@ -5,6 +5,7 @@
 #![tactic(auto)]
 
 mod leaves;
+mod named;
 mod present;
 
 pub use present::{Present, present_of};

@@ -12,10 +12,8 @@ ghost use Rattle.awk_parts.specs.Parts.{AreRising, AreParts};
 ghost use Rattle.awk_present.specs.Present.{present_in, taken_lane, ArePresent};
 
 use crate::leaves::leaves_of;
-use awk_lanes::{
-    Arena, Lane, LaneMaker, Lengths, NoMemory, Offsets, Steps, offsets_of, option_place_in,
-    place_in,
-};
+use crate::named::numbers_at;
+use awk_lanes::{Arena, Lane, Lengths, NoMemory, Offsets, Steps, offsets_of, place_in};
 use awk_layout::Array;
 use awk_numbers::{Whole, count_places, whole_of};
 use awk_open::{Opened, opened};
@@ -78,28 +76,6 @@ fn present_offsets<'a, L: Ledger>(
         count,
     };
     offsets_of(count, &counts, arena, steps)
-}
-
-/// The numbers of a lane at the n places that the index of an option names.
-fn numbers_at<'a, L: Ledger>(
-    index: &Lane,
-    lane: &Lane,
-    n: u64,
-    arena: &'a Arena,
-    steps: &mut Steps<L>,
-) -> Result<Lane<'a>, NoMemory>
-    requires index { IsOptionalIndex index.now (size_of lane.now) }
-    requires count { n ≡ length (first_of (present_at index.now) (size_of index.now)) }
-    ensures { let places = first_of (present_at index.now) (size_of index.now) in
-        IfOk result (λ r. r ≡ taken_lane lane.now places) }
-{
-    let mut maker = LaneMaker::new(lane.kind(), n, arena)?;
-    for i in 0..index.len() {
-        if let Some(place) = option_place_in(index, i, steps) {
-            maker.push(lane.at(place, steps));
-        }
-    }
-    Ok(maker.finish())
 }
 
 /// The items that are not null, of items that may be.

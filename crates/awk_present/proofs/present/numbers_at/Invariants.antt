@@ -1,6 +1,0 @@
-use Rattle.awk_columns.specs.Counted.{first_of, present_at}
-use Rattle.awk_present.proofs.TakenLanes.{AreTaken}
-use Rattle.awk_present.proofs.present.numbers_at.Given as goal
-
-abbrev pub invariant-loop-i : goal.invariant-loop-i
-invariant-loop-i g l = AreTaken l.lane l.n (first_of (present_at l.index) l.i) l.maker
