@@ -60,7 +60,7 @@ parts-long es k (y ∷ ys) h e =
       parts-long es (suc k) ys h.1 split.1,
     )
 
-parts-at : (es : List Value) (j : ℕ) (ys : List Layout) (k : ℕ) → AreParts j es ys
+pub parts-at : (es : List Value) (j : ℕ) (ys : List Layout) (k : ℕ) → AreParts j es ys
     → k < length ys → array_items (column_at ys k) ≡ map (part_at (j + k)) es
 parts-at es j [] k h l = absurd (omega (arith, l))
 parts-at es j (y ∷ ys) zero h l =
@@ -81,14 +81,14 @@ ends-count ds es ys h =
     sym (length-map ys array_type) ∙ ap length h.types ∙ length-leaf_types ds
 
 -- the leaves of a column are those of the datum
-ends-leaf : (ds : List Datum) (es : List Value) (ys : List Layout) (k : ℕ) → AreEnds ds es ys
+pub ends-leaf : (ds : List Datum) (es : List Value) (ys : List Layout) (k : ℕ) → AreEnds ds es ys
     → leaf_in (array_type (column_at ys k)) ≡ get_or (map leaf_in (typs ds)) k Unknown
 ends-leaf ds es ys k h =
     sym (get-map (λ y. leaf_in (array_type y)) ys k empty)
     ∙ ap (λ ts. get_or ts k Unknown) (sym (map-map leaf_in array_type ys)
     ∙ ap (map leaf_in) h.types ∙ leaf_types-leaves ds)
 
-ends-long : (ds : List Datum) (es : List Value) (ys : List Layout) → AreEnds ds es ys
+pub ends-long : (ds : List Datum) (es : List Value) (ys : List Layout) → AreEnds ds es ys
     → has_wrong_end None ds ≡ false → AreLeaves (length es) ys
 ends-long ds es ys h e =
     parts-long es 0 ys h.parts (ap (list_all is_leaf) h.types ∙ leaf_types-all ds e)

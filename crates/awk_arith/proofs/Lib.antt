@@ -8,4 +8,5 @@ pub mod UnderLaws
 pub mod BinaryLaws
 pub mod PairedLaws
 pub mod LiteralLaws
+pub mod UnaryLaws
 mod Worked

@@ -49,7 +49,7 @@ pub lane_sized : (y : Layout) (c : Column) (n : ℕ) → array_items y ≡ lane_
 lane_sized y c n e h =
     sym (length-lane_values c) ∙ sym (ap length e) ∙ length-array_items y ∙ h
 
-leaves-at : (n : ℕ) (ys : List Layout) (k : ℕ) → AreLeaves n ys → k < length ys
+pub leaves-at : (n : ℕ) (ys : List Layout) (k : ℕ) → AreLeaves n ys → k < length ys
     → (len (column_at ys k) ≡ n) × (is_leaf (array_type (column_at ys k)) ≡ true)
 leaves-at n [] k h l = absurd (omega (arith, l))
 leaves-at n (y ∷ ys) zero h l = (h.0, h.1)

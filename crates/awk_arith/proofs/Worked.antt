@@ -1,4 +1,4 @@
--- Worked examples of operations on two operands, each checked by computing.
+-- Worked examples of operations on one and two operands, each checked by computing.
 use Rattle.std.specs.Prelude.{◌≡◌, refl, ℕ, List, [], ◌∷◌, pos, negsuc, true, false, Ok, Err}
 use Rattle.awk_types.specs.DataType.{DataType, leaf, var, reg, tup, opt, types_from}
 use Rattle.awk_types.specs.Datum.{Datum, arr, one}
@@ -10,7 +10,9 @@ use Rattle.awk_kernels.specs.declared.operation.Compare.TheVariants.{Lt}
 use Rattle.awk_layout.specs.Filler.{literal, datum}
 use Rattle.awk_leaves.specs.declared.operation.Binary.TheVariants.{Calculate, Test, Join}
 use Rattle.awk_leaves.specs.declared.operation.Logic.TheVariants.{And}
+use Rattle.awk_leaves.specs.declared.operation.Unary.TheVariants.{Not, Negate}
 use Rattle.awk_arith.specs.Binary.{binary_of}
+use Rattle.awk_arith.specs.Unary.{unary_of}
 
 abbrev int64 : DataType
 int64 = leaf I64
@@ -109,3 +111,21 @@ stretched : binary_of (Calculate Add) (datum (arr (reg 1 int64) (lists (n 10 ∷
     (datum (arr (var int64) (lists (n 1 ∷ n 2 ∷ []) ∷ [])))
     ≡ Ok (arr (var int64) (lists (n 11 ∷ n 12 ∷ []) ∷ []))
 stretched = refl
+
+-- ---- one operand
+
+negated : unary_of Negate optional
+    ≡ Ok (arr (opt int64) (int (negsuc 0) ∷ null ∷ int (negsuc 2) ∷ []))
+negated = refl
+
+-- lists keep their class, and a single value is one
+negated_lists : unary_of Negate (one (reg 2 int64) (lists (n 1 ∷ n 2 ∷ [])))
+    ≡ Ok (one (reg 2 int64) (lists (int (negsuc 0) ∷ int (negsuc 1) ∷ [])))
+negated_lists = refl
+
+denied : unary_of Not truths
+    ≡ Ok (arr (leaf Bool) (truth false ∷ truth true ∷ truth false ∷ []))
+denied = refl
+
+denied_number : unary_of Not optional ≡ Err WrongType
+denied_number = refl

@@ -26,7 +26,7 @@ use std::alloc::Global;
 use std::sync::ledger::Ledger;
 
 /// What the leaves of a type are of, through lists and options.
-fn leaf_in(t: &Typ) -> LeafType
+pub(crate) fn leaf_in(t: &Typ) -> LeafType
     ensures { result ≡ leaf_in (typ_of t.now) }
 {
     match t {

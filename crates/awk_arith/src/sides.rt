@@ -7,22 +7,23 @@ ghost use Rattle.awk_types.specs.declared.primitive.Primitive.{Primitive};
 ghost use Rattle.awk_layout.specs.Datum.{IsOperand};
 ghost use Rattle.awk_layout.specs.Kinds.{kind_of};
 ghost use Rattle.awk_layout.specs.Layout.{Layout};
-ghost use Rattle.awk_layout.specs.Typing.{array_type};
+ghost use Rattle.awk_layout.specs.Typing.{array_type, array_items};
 ghost use Rattle.awk_layout.specs.Valid.{len};
-ghost use Rattle.awk_leaves.specs.Table.{binary_judged};
-ghost use Rattle.awk_leaves.specs.Values.{binary_values};
+ghost use Rattle.awk_leaves.specs.Table.{binary_judged, unary_judged};
+ghost use Rattle.awk_leaves.specs.Values.{binary_values, unary_values};
 ghost use Rattle.awk_pointwise.specs.Sides.{lane_values};
 ghost use Rattle.awk_arith.specs.Sides.{leaf_at, values_at, data_before, ends_of};
 ghost use Rattle.awk_arith.specs.Sides.{AreLeaves, IsAmong, IsLaneOf, IsLaneAt, IsSideAt};
 ghost use Rattle.awk_arith.specs.Sides.{IsColumnSide};
+ghost use Rattle.awk_arith.specs.AtLeaves.{leaf_in};
 
 use awk_columns::in_order;
 use awk_kernels::Kernels;
 use awk_lanes::{Arena, Lane, NoMemory, Steps};
 use awk_layout::{Array, Arrays, Operand};
-use awk_leaves::Binary;
+use awk_leaves::{Binary, Unary};
 use awk_open::Opened;
-use awk_pointwise::{Side, binary_leaves};
+use awk_pointwise::{Side, binary_leaves, unary_leaves};
 use awk_types::Fault;
 use std::alloc::Global;
 use std::sync::ledger::Ledger;
@@ -129,4 +130,25 @@ pub(crate) fn row_leaves<'a, N: Kernels, L: Ledger>(
     let second = operand_lane(alloc, y, data_before(x), leaves, n, arena, steps)?;
     let sides = (&side_of(x, &first), &side_of(y, &second));
     binary_leaves(alloc, op, sides, n, kernels, arena, steps)
+}
+
+/// The lane of what an operation gives of each leaf of a column, or the fault of the first leaf
+/// that has one.
+pub(crate) fn leaf_results<'a, N: Kernels, L: Ledger>(
+    alloc: Global,
+    op: Unary,
+    leaf: &Array<'a>,
+    kernels: &N,
+    arena: &'a Arena,
+    steps: &mut Steps<L>,
+) -> Result<Lane<'a>, Fault>
+    requires { is_leaf (array_type leaf.now) ≡ true }
+    ensures answer { Gives lane_values fault_told result
+        (unary_values op (leaf_in (array_type leaf.now)) (array_items leaf.now)) }
+    ensures kind { (p : Primitive) → unary_judged op (leaf_in (array_type leaf.now)) ≡ Ok p
+        → IfOk result (λ r. r.kind ≡ kind_of p) }
+{
+    let n = leaf.len();
+    let lane = leaf_lane(alloc, leaf, arena, steps)?;
+    unary_leaves(alloc, op, &column_side(&lane), n, kernels, arena, steps)
 }
