@@ -51,9 +51,7 @@ pub(crate) fn both<'o, 's>(operands: &'o Operands<'s>) -> Option<(&'o Datum<'s>,
 }
 
 /// The two operands.
-pub(crate) fn two<'o, 's>(
-    operands: &'o Operands<'s>,
-) -> Option<(&'o Operand<'s>, &'o Operand<'s>)>
+pub(crate) fn two<'o, 's>(operands: &'o Operands<'s>) -> Option<(&'o Operand<'s>, &'o Operand<'s>)>
     ensures two { option_map (λ p. (term_of p.0.now, term_of p.1.now)) result
         ≡ two_in (shown_operands operands.now) }
     ensures operands { IfSome result (λ p. IsOperand p.0.now × IsOperand p.1.now) }
