@@ -4,4 +4,5 @@ pub mod CalculatedLaws
 pub mod RangeLaws
 pub mod ReadyLaws
 pub mod SingleLaws
+pub mod BlockLaws
 mod Worked

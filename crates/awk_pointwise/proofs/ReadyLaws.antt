@@ -1,12 +1,10 @@
 -- What the judged types of an operation tell of the numbers of its sides.
-use Rattle.std.proofs.Common.{◌≡◌, List, refl, ap, ap₂, sym, subst, ◌∙◌}
+use Rattle.std.proofs.Common.{◌≡◌, List, refl, ap₂, sym, subst, ◌∙◌}
 use Rattle.std.proofs.Common.{arith, inl, inr}
 use Rattle.std.specs.Prelude.{ℤ, Bool, true, false, ◌||◌, Option, Some, None}
 use Rattle.std.specs.Prelude.{Result, Ok, if◌then◌else◌}
 use Rattle.std.specs.List.{AllByRecursion}
-use Rattle.std.specs.Simd.Lanes.{zip2}
 use Rattle.std.proofs.lemmas.Int.{ints}
-use Rattle.awk_types.specs.Value.{Value}
 use Rattle.awk_types.specs.declared.fault.Fault.{Fault}
 use Rattle.awk_types.specs.declared.primitive.Primitive.{Primitive}
 use Rattle.awk_types.specs.declared.primitive.Primitive.TheVariants as prim
@@ -14,17 +12,13 @@ use Rattle.awk_leaves.specs.LeafTypes.{overflows, number_type, comparison_type, 
 use Rattle.awk_leaves.specs.LeafTypes.{are_alike, type_beside}
 use Rattle.awk_leaves.specs.Table.{judged, one_overflows, binary_judged, joined_type}
 use Rattle.awk_leaves.specs.Table.{literal_overflows}
-use Rattle.awk_leaves.specs.Values.{binary_at, binary_on, binary_values, all_values}
-use Rattle.awk_leaves.specs.Values.{in_judged}
 use Rattle.awk_leaves.specs.declared.leaf_type.LeafType.{LeafType}
 use Rattle.awk_leaves.specs.declared.leaf_type.LeafType.TheVariants.{Of, Unknown, Literal}
 use Rattle.awk_leaves.specs.declared.operation.Binary.{Binary}
 use Rattle.awk_leaves.specs.declared.operation.Binary.TheVariants.{Calculate, Test, Join}
-use Rattle.awk_pointwise.specs.Numbers.{word_numbers, AreNumbersOf, IsTyped, AreTyped, AreReady}
+use Rattle.awk_pointwise.specs.Numbers.{IsTyped, AreTyped, AreReady}
 use Rattle.awk_pointwise.specs.Numbers.{IsInt64}
 use Rattle.awk_pointwise.specs.Sides.{IsLeafNumber}
-use Rattle.awk_pointwise.specs.declared.words.Words.{Words}
-use Rattle.awk_pointwise.proofs.CalculatedLaws.{present_values}
 use Rattle.awk_pointwise.proofs.RangeLaws.{all-weaker, first_holds, second_holds, result_whole}
 
 -- ---- what was judged
@@ -112,13 +106,3 @@ are_ready (Test how) t u p xs ys e a b =
 are_ready (Join op) t u p xs ys e a b =
     let j = judged_ok (joined_type t u) false p e in
     joined_ready t u p xs ys (truth_type t) refl j.typed a b
-
--- the values of an operation are those of the numbers of its sides
-pub binary_is : (op : Binary) (t u : LeafType) (p : Primitive) (xs ys : List Value) (a b : Words)
-    → binary_judged op t u ≡ Ok p → AreNumbersOf t xs a → AreNumbersOf u ys b
-    → binary_values op t u xs ys
-    ≡ all_values (zip2 (binary_on op p) (word_numbers a) (word_numbers b))
-binary_is op t u p xs ys a b e h k =
-    ap (λ j. in_judged j (λ p. all_values (zip2 (binary_at op p) xs ys))) e
-    ∙ ap all_values (present_values op p xs ys h.present k.present
-    ∙ ap₂ (zip2 (binary_on op p)) (sym h.numbers) (sym k.numbers))

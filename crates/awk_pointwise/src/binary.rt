@@ -10,13 +10,15 @@ ghost use Rattle.awk_leaves.specs.Values.{binary_on, binary_values, all_values};
 ghost use Rattle.awk_pointwise.specs.Numbers.{word_numbers, AreReady};
 ghost use Rattle.awk_pointwise.specs.Sides.{side_values, leaf_type, lane_values, IsSide};
 
+use crate::blocks::{Blocks, lane_by_blocks};
 use crate::calculate::calculated;
-use crate::see::see;
+use crate::see::see_part;
 use crate::sides::Side;
 use crate::truths::{joined_lane, tested};
 use crate::words::Words;
 use awk_kernels::Kernels;
 use awk_lanes::{Arena, Lane, Steps};
+use awk_layout::kind_of;
 use awk_leaves::{Binary, binary_prim};
 use awk_types::{Fault, Prim};
 use std::alloc::Global;
@@ -44,6 +46,42 @@ fn of_numbers<'a, N: Kernels>(
     }
 }
 
+/// An operation on two sides of n places, in the primitive of its result.
+#[derive(Drop)]
+struct Pair<'s, 'b, 'a, N: Kernels> {
+    alloc: Global,
+    op: Binary,
+    prim: Prim,
+    x: &'s Side<'b, 'a>,
+    y: &'s Side<'b, 'a>,
+    n: u64,
+    kernels: &'s N,
+}
+
+impl<'s, 'b, 'a, N: Kernels> Blocks for Pair<'s, 'b, 'a, N> {
+    ghost use Rattle.awk_leaves.specs.Values.{binary_at};
+    ghost use Rattle.awk_pointwise.specs.Blocks.{IsPair};
+
+    ghost kind = { λ p. kind_of p.prim };
+
+    ghost results = { λ p.
+        zip2 (binary_at p.op p.prim) (side_values p.n p.x.now) (side_values p.n p.y.now) };
+
+    ghost IsReady = { λ p. IsPair p.op p.prim p.n p.x.now p.y.now };
+
+    fn block<'r, L: Ledger>(
+        &self,
+        lo: u64,
+        hi: u64,
+        arena: &'r Arena,
+        steps: &mut Steps<L>,
+    ) -> Result<Lane<'r>, Fault> {
+        let a = see_part(self.alloc, self.x, lo, hi, steps)?;
+        let b = see_part(self.alloc, self.y, lo, hi, steps)?;
+        of_numbers(self.alloc, self.op, self.prim, (a, b), self.kernels, arena)
+    }
+}
+
 /// The lane of what an operation gives at each of n places of two sides, or the fault of the first
 /// place that has one.
 pub fn binary_leaves<'a, N: Kernels, L: Ledger>(
@@ -66,7 +104,14 @@ pub fn binary_leaves<'a, N: Kernels, L: Ledger>(
 {
     let (x, y) = sides;
     let prim = binary_prim(op, x.leaf_type(), y.leaf_type())?;
-    let a = see(alloc, x, n, steps)?;
-    let b = see(alloc, y, n, steps)?;
-    of_numbers(alloc, op, prim, (a, b), kernels, arena)
+    let pair = Pair {
+        alloc,
+        op,
+        prim,
+        x,
+        y,
+        n,
+        kernels,
+    };
+    lane_by_blocks(alloc, kind_of(prim), n, &pair, arena, steps)
 }

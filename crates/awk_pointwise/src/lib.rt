@@ -7,6 +7,7 @@
 #![tactic(auto)]
 
 mod binary;
+mod blocks;
 mod calculate;
 mod see;
 mod sides;

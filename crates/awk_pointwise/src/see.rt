@@ -1,11 +1,13 @@
 //! The numbers of a side at each place.
-ghost use Rattle.std.specs.Prelude.{◌≡◌, replicate, IfOk};
+ghost use Rattle.std.specs.Prelude.{◌≡◌, ◌≤◌, replicate, slice_range, IfOk};
+ghost use Rattle.awk_lanes.specs.Places.{size_of};
 ghost use Rattle.awk_types.specs.Value.{int, null};
 ghost use Rattle.awk_layout.specs.Kinds.{primitive_of};
 ghost use Rattle.awk_leaves.specs.Values.{value_in};
 ghost use Rattle.awk_leaves.specs.declared.leaf_type.LeafType.TheVariants.{Of, Unknown, Literal};
 ghost use Rattle.awk_pointwise.specs.Numbers.{AreNumbersOf};
 ghost use Rattle.awk_pointwise.specs.Sides.{side_values, leaf_type, lane_values};
+ghost use Rattle.awk_pointwise.specs.Blocks.{IsSidePast, side_part};
 ghost use Rattle.awk_pointwise.specs.Sides.{IsSide, IsLeafNumber, IsNumber64};
 
 use crate::sides::Side;
@@ -45,6 +47,43 @@ fn see_missing(alloc: Global, n: u64) -> Result<Words, NoMemory>
     ensures { IfOk result (AreNumbersOf Unknown (replicate n null)) }
 {
     Ok(Words::Ints(Vec::new(alloc)))
+}
+
+/// The numbers of a lane from place lo below place hi.
+fn see_cut<L: Ledger>(
+    alloc: Global,
+    lane: &Lane,
+    lo: u64,
+    hi: u64,
+    steps: &mut Steps<L>,
+) -> Result<Words, NoMemory>
+    requires order { lo ≤ hi }
+    requires within { hi ≤ size_of lane.now }
+    ensures { IfOk result (AreNumbersOf (Of (primitive_of lane.now.kind))
+        (slice_range (lane_values lane.now) lo hi)) }
+{
+    let part = lane.cut(lo, hi, steps);
+    see_lane(alloc, &part, steps)
+}
+
+/// The numbers of a side from place lo below place hi of n places.
+pub(crate) fn see_part<L: Ledger>(
+    alloc: Global,
+    side: &Side,
+    lo: u64,
+    hi: u64,
+    steps: &mut Steps<L>,
+) -> Result<Words, NoMemory>
+    requires order { lo ≤ hi }
+    requires side { IsSidePast hi side.now }
+    ensures { IfOk result (AreNumbersOf (leaf_type side.now) (side_part lo hi side.now)) }
+{
+    match side {
+        Side::Column(lane) => see_cut(alloc, lane, lo, hi, steps),
+        Side::Missing => see_missing(alloc, hi - lo),
+        Side::Number(prim, z) => see_one(alloc, *prim, *z, hi - lo),
+        Side::Literal(z) => see_literal(alloc, *z, hi - lo),
+    }
 }
 
 /// The numbers of a side at n places.

@@ -1,36 +1,29 @@
 use Rattle.std.proofs.Common.{◌≡◌, sym, subst}
 use Rattle.std.specs.Prelude.{Ok}
+use Rattle.std.specs.Simd.Lanes.{zip2}
 use Rattle.awk_types.specs.Faults.{fault_told}
 use Rattle.awk_types.specs.Gives.{Gives}
 use Rattle.awk_leaves.specs.Table.{binary_judged}
-use Rattle.awk_pointwise.specs.Numbers.{word_numbers}
+use Rattle.awk_leaves.specs.Values.{binary_at, all_values, in_judged}
 use Rattle.awk_pointwise.specs.Sides.{leaf_type, side_values, lane_values}
-use Rattle.awk_pointwise.proofs.ReadyLaws.{are_ready, binary_is, judged_same}
+use Rattle.awk_pointwise.proofs.BlockLaws.{length-pair}
+use Rattle.awk_pointwise.proofs.ReadyLaws.{judged_same}
 use Rattle.awk_pointwise.proofs.binary.binary_leaves.Goals as goal
 
-pub of_numbers-requires-clause-ready : goal.of_numbers-requires-clause-ready
-of_numbers-requires-clause-ready g c =
-    let op = c.args.op in
-    let t = leaf_type c.args.sides.0.now in
-    let u = leaf_type c.args.sides.1.now in
-    let same : binary_judged op t u ≡ Ok c.in_ok-prim.prim =
-    judged_same op c.leaf_type.result c.leaf_type-2.result t u
-    c.binary_prim.result c.in_ok-prim.prim c.leaf_type.ensures c.leaf_type-2.ensures
-    c.binary_prim.ensures c.in_ok-prim.was in
-    are_ready op t u c.in_ok-prim.prim (word_numbers c.in_ok-a.a) (word_numbers c.in_ok-b.b) same
-    c.in_ok-a.ensures.typed c.in_ok-b.ensures.typed
+pub lane_by_blocks-requires-clause-size : goal.lane_by_blocks-requires-clause-size
+lane_by_blocks-requires-clause-size g c =
+    length-pair (binary_at c.args.op c.in_ok-prim.prim) c.args.n c.args.sides.0.now
+    c.args.sides.1.now c.requires.first c.requires.second
 
 pub returns-clause-answer : goal.returns-clause-answer
 returns-clause-answer g c =
     let op = c.args.op in
-    let n = c.args.n in
     let x = c.args.sides.0.now in
     let y = c.args.sides.1.now in
     let same : binary_judged op (leaf_type x) (leaf_type y) ≡ Ok c.in_ok-prim.prim =
     judged_same op c.leaf_type.result c.leaf_type-2.result (leaf_type x) (leaf_type y)
     c.binary_prim.result c.in_ok-prim.prim c.leaf_type.ensures c.leaf_type-2.ensures
     c.binary_prim.ensures c.in_ok-prim.was in
-    subst (Gives lane_values fault_told c.of_numbers.result)
-    (sym (binary_is op (leaf_type x) (leaf_type y) c.in_ok-prim.prim (side_values n x)
-    (side_values n y) c.in_ok-a.a c.in_ok-b.b same c.in_ok-a.ensures c.in_ok-b.ensures))
-    c.of_numbers.ensures.answer
+    subst (λ j. Gives lane_values fault_told c.lane_by_blocks.result (in_judged j
+    (λ p. all_values (zip2 (binary_at op p) (side_values c.args.n x) (side_values c.args.n y)))))
+    (sym same) c.lane_by_blocks.ensures.answer
