@@ -1,5 +1,7 @@
 // Bytes that were added by key, loaded in both byte orders and packed.
 ghost use Rattle.std.specs.Prelude.{◌≡◌, ◌<◌};
+ghost use Rattle.awk_form.specs.Lawful.{IsLawful};
+ghost use Rattle.awk_form.specs.View.{form_of};
 
 use awk_form::{Form, read_form};
 use awk_kernels::Plain;
@@ -14,42 +16,32 @@ use std::process::Abort;
 use std::sync::ledger::{Blank, Ledger};
 use std::test::Fail;
 
-// Lists of int16.
-const FORM: &str = r#"{"class":"ListOffsetArray","offsets":"i32","content":
-{"class":"NumpyArray","primitive":"int16","form_key":"d"},"form_key":"l"}"#;
+const FORM: &str = r#"{"class":"NumpyArray","primitive":"int16","form_key":"d"}"#;
 
-// What is added under the keys, least or most significant bytes first: the lists 5, -1 and 258.
-const LITTLE: [&[u8]; 2] = [
-    &[0, 0, 0, 0, 2, 0, 0, 0, 3, 0, 0, 0],
-    &[5, 0, 255, 255, 2, 1],
-];
+// The numbers 5, -1 and 258 of int16, least or most significant byte first. The last byte of the
+// second is not needed.
+const LITTLE: [u8; 6] = [5, 0, 255, 255, 2, 1];
 
-const BIG: [&[u8]; 2] = [
-    &[0, 0, 0, 0, 0, 0, 0, 2, 0, 0, 0, 3],
-    &[0, 5, 255, 255, 1, 2, 9],
-];
-
-// The lanes that are packed of them.
-const OFFSETS: [u8; 24] = [
-    0, 0, 0, 0, 0, 0, 0, 0, 2, 0, 0, 0, 0, 0, 0, 0, 3, 0, 0, 0, 0, 0, 0, 0,
-];
+const BIG: [u8; 7] = [0, 5, 255, 255, 1, 2, 9];
 
 fn try_order<L: Ledger>(
     rt: &impl Abort,
     alloc: Global,
     form: &Form,
     big: bool,
-    buffers: [&[u8]; 2],
+    bytes: &[u8],
     steps: &mut Steps<L>,
-) -> Result<(), Fail> {
+) -> Result<(), Fail>
+    requires lawful { IsLawful (form_of form.now) }
+{
     let arena = Arena::new(alloc);
     let mut store = Store::empty(alloc, &arena);
-    store.add("l-offsets", buffers[0])?;
-    store.add("d-data", buffers[1])?;
-    let array = load(alloc, form, 2, big, &mut store, &Plain, &arena, steps)?;
+    store.add("d-data", bytes)?;
+    let array = load(alloc, form, 3, big, &mut store, &Plain, &arena, steps)?;
     let packed = pack(alloc, &array, &arena, steps)?;
-    assert!(rt; packed.lanes.get(0).bulk(steps) == OFFSETS.as_slice());
-    assert!(rt; packed.lanes.get(1).bulk(steps) == LITTLE[1]);
+    assert!(rt; packed.lanes.len() == 1);
+    let lane = packed.lanes.get(0);
+    assert!(rt; lane.bulk(steps) == LITTLE.as_slice());
     Ok(())
 }
 
@@ -61,8 +53,8 @@ fn try_orders<L: Ledger>(rt: &impl Abort, host: &HostRuntime, blank: Blank) -> R
     let alloc = host.alloc();
     let steps = &mut Steps::<L>::new(host, blank);
     let form = read_form(alloc, &Value::from_str(alloc, FORM)?)?;
-    try_order(rt, alloc, &form, false, LITTLE, steps)?;
-    try_order(rt, alloc, &form, true, BIG, steps)?;
+    try_order(rt, alloc, &form, false, &LITTLE, steps)?;
+    try_order(rt, alloc, &form, true, &BIG, steps)?;
     Ok(())
 }
 
