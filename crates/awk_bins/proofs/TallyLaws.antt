@@ -43,8 +43,12 @@ tallies-more es zs i p l e = same_number_lists new (tallies es (take (i + 1) zs)
 
     size : length new ≡ length (tallies es (take (i + 1) zs))
     size =
-        grind (arith, common_steps, length-tallies es (take i zs),
-        length-tallies es (take (i + 1) zs))
+        grind (
+          arith,
+          common_steps,
+          length-tallies es (take i zs),
+          length-tallies es (take (i + 1) zs),
+        )
 
     each : (j : ℕ) → j < length new → get_or new j 0 ≡ get_or (tallies es (take (i + 1) zs)) j 0
     each j m =
