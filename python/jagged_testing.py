@@ -20,9 +20,7 @@ NOT_YET = frozenset(
     []
     if IS_NAMED
     else """
-    zip tuple with_field
-    add sub mul floor_div rem eq ne lt le gt ge and or xor not neg abs where cast
-    cartesian argcartesian
+    zip tuple with_field where cast cartesian argcartesian
     """.split()
 )
 

@@ -137,6 +137,23 @@ fn try_store<L: Ledger>(
     Ok(())
 }
 
+/// Bytes that were added are fetched as they are.
+fn try_added<L: Ledger>(
+    rt: &impl Abort,
+    alloc: Global,
+    steps: &mut Steps<L>,
+) -> Result<(), NoMemory> {
+    let arena = Arena::new(alloc);
+    let bytes = [7, 255];
+    let mut store = Store::empty(alloc, &arena);
+    store.add("a", &bytes)?;
+    for _ in 0..2 {
+        assert!(rt; store.fetch("a", steps) == Ok(bytes.as_slice()));
+        assert!(rt; store.fetch("b", steps) == Err(StoreFault::Bad(BufferWhy::Absent)));
+    }
+    Ok(())
+}
+
 fn try_counted<L: Ledger>(rt: &impl Abort, host: &HostRuntime, blank: Blank) -> Result<(), Fail>
     requires name { blank.name ≡ L.name }
     requires parts { blank.parts ≡ L.parts }
@@ -146,6 +163,7 @@ fn try_counted<L: Ledger>(rt: &impl Abort, host: &HostRuntime, blank: Blank) -> 
     try_lanes(rt, host.alloc(), &SAMPLES, steps)?;
     try_bits(rt, steps);
     try_store(rt, host.alloc(), steps)?;
+    try_added(rt, host.alloc(), steps)?;
     Ok(())
 }
 

@@ -6,7 +6,8 @@ use Rattle.awk_layout.specs.declared.datum.Operand.TheVariants.{Of, Literal}
 use Rattle.awk_layout.specs.declared.datum.Datum.{Datum}
 use Rattle.awk_layout.specs.Datum.{datum_of}
 use Rattle.awk_fill.specs.FillNone.{filler_of}
-use Rattle.awk_eval.specs.Operand.{both_in, filled_in, filler}
+use Rattle.awk_layout.specs.Filler as layout
+use Rattle.awk_eval.specs.Operand.{both_in, filled_in, filler, term, two_in}
 use Rattle.awk_eval.specs.OperandView.{shown_operand, shown_operands}
 use Rattle.awk_eval.specs.Views.{Size, IsWithin, AreWithin}
 
@@ -56,6 +57,18 @@ filled-literal [] o z at is = absurd (cc)
 filled-literal (p ∷ ps) o z at is =
     let same : p ≡ Literal z = cc in
     ap (λ x. filled_in (shown_operands (x ∷ ps))) same
+
+-- a term is the same in code and in words
+term-shown : (x : Operand) → term (shown_operand x) ≡ layout.filler_of x
+term-shown (Of x) = refl
+term-shown (Literal z) = refl
+
+pub two-shown : (os : List Operand) (o p : Operand) → length os ≡ 2 → slice_get os 0 ≡ Some o
+    → slice_get os 1 ≡ Some p
+    → two_in (shown_operands os) ≡ Some (layout.filler_of o, layout.filler_of p)
+two-shown os o p two at next =
+    ap (λ ps. two_in (shown_operands ps)) (operands-two os o p two at next)
+    ∙ ap₂ (λ a b. Some (a, b)) (term-shown o) (term-shown p)
 
 -- what is so of all operands is so of the only one
 pub IsWithin-one : (s : Size) (os : List Operand) (x : Datum) → os ≡ Of x ∷ [] → AreWithin s os

@@ -207,7 +207,7 @@ picked_back = refl
 picked_by_a_value : eval env (of op.Pick (m ∷ b ∷ []) []) ≡ Err WrongType
 picked_by_a_value = refl
 
-picked_by_lists : eval env (of op.Pick (m ∷ field a y ∷ []) []) ≡ Err Unbuilt
+picked_by_lists : eval env (of op.Pick (m ∷ field a y ∷ []) []) ≡ Err WrongType
 picked_by_lists = refl
 
 -- ---- axes

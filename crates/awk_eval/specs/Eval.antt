@@ -5,7 +5,6 @@ use Rattle.awk_types.specs.DataType.{DataType, Name, leaf, var, reg}
 use Rattle.awk_types.specs.Value.{int, truth}
 use Rattle.awk_types.specs.Datum.{Datum, arr, one}
 use Rattle.awk_types.specs.Settle.{settle}
-use Rattle.awk_types.specs.Simple.{present}
 use Rattle.awk_types.specs.declared.primitive.Primitive.TheVariants as primitive
 use Rattle.awk_types.specs.declared.fault.Fault.{Fault}
 use Rattle.awk_types.specs.declared.fault.Fault.TheVariants.{Unbound, WrongType, Overflow, Unbuilt}
@@ -18,8 +17,11 @@ use Rattle.awk_view.specs.Choice.{field, fields}
 use Rattle.awk_eval.specs.Axes.{axis_in, at_axis, at_common_axis}
 use Rattle.awk_eval.specs.Bindings.{look_up}
 use Rattle.awk_eval.specs.Variables.{Environment}
+use Rattle.awk_arith.specs.Binary.{binary_of}
+use Rattle.awk_arith.specs.Unary.{unary_of}
 use Rattle.awk_combi.specs.Combinations.{combinations_of}
 use Rattle.awk_select.specs.Each.{at_each_of}
+use Rattle.awk_jagged.specs.Jagged.{is_jagged, jagged_of}
 use Rattle.awk_select.specs.Picks.{at_of, step_range_of, is_mask, mask_of, take_of}
 use Rattle.awk_lists.specs.Flatten.{flatten_of}
 use Rattle.awk_lists.specs.LocalIndex.{local_index_of}
@@ -33,13 +35,18 @@ use Rattle.awk_reduce.specs.Reduce.{reduce_of}
 use Rattle.awk_reduce.specs.declared.reducer.Reducer.{Reducer}
 use Rattle.awk_reduce.specs.declared.reducer.Reducer.TheVariants as reducer
 use Rattle.awk_fill.specs.FillNone.{Filler, fill_none_of}
+use Rattle.awk_layout.specs.Filler as layout
+use Rattle.awk_leaves.specs.declared.operation.Binary.{Binary}
+use Rattle.awk_leaves.specs.declared.operation.Binary.TheVariants.{Join}
+use Rattle.awk_leaves.specs.declared.operation.Logic.{Logic}
 use Rattle.awk_nulls.specs.Firsts.{firsts_of}
 use Rattle.awk_nulls.specs.IsNone.{is_none_of}
 use Rattle.awk_nulls.specs.PadNone.{pad_none_of}
 use Rattle.awk_mask.specs.PutMask.{put_mask_of}
 use Rattle.awk_nulls.specs.Singletons.{singletons_of}
 use Rattle.awk_eval.specs.Operand.{Operand, of, literal, only_in, both_in, data_in, filled_in}
-use Rattle.awk_eval.specs.Operand.{takes_literal}
+use Rattle.awk_eval.specs.Operand.{takes_literal, two_in}
+use Rattle.awk_eval.specs.Leafwise.{number_operation, logic_operation, single_operation}
 use Rattle.awk_eval.specs.Fixed.{bounds_in, Stepped, stepped_in, place_in, text_in, texts_in}
 use Rattle.awk_eval.specs.Fixed.{padding_in, truth_in, tuples_in}
 use Rattle.awk_eval.specs.Ranges.{range_items}
@@ -109,16 +116,11 @@ abbrev pub ranged : Option (FixedArg × FixedArg) → List FixedArg → Option D
 ranged (Some bounds) fixed d = given range_of (Some bounds) d
 ranged None fixed d = given stepped_of (stepped_in fixed) d
 
-abbrev pub is_list : DataType → Bool
-is_list (var t) = true
-is_list (reg n t) = true
-is_list t = false
-
--- the items of e that items x of type u name: a mask where these are truth values, else an index;
--- lists of these are not built yet
+-- the items of e that items x of type u name: row by row where these are lists, by a mask where they
+-- are truth values, else by an index
 abbrev pub pick_by : DataType → Datum → Datum → Result Datum Fault
 pick_by u e x =
-    if is_list (present u) then Err Unbuilt else if is_mask u then mask_of e x else take_of e x
+    if is_jagged u then jagged_of e x else if is_mask u then mask_of e x else take_of e x
 
 abbrev pub pick_of : Datum → Datum → Result Datum Fault
 pick_of (arr t vs) (arr u ws) = pick_by u (arr t vs) (arr u ws)
@@ -160,6 +162,26 @@ reducer_of _ = None
 abbrev pub reducing : Op → List Operand → Result Datum Fault
 reducing o operands = given reduce_of (reducer_of o) (only_in operands)
 
+-- an operation on two operands, leaf by leaf
+abbrev pub calculated_by : Binary → layout.Filler × layout.Filler → Result Datum Fault
+calculated_by o p = binary_of o p.0 p.1
+
+abbrev pub joined_by : Logic → Datum × Datum → Result Datum Fault
+joined_by o p = binary_of (Join o) (layout.datum p.0) (layout.datum p.1)
+
+-- an operation of a kind on what it takes, if the operation is of the kind
+abbrev pub of_kind : {A B : Type 0} → (A → B → Result Datum Fault) → Option A → Option B
+    → Result Datum Fault → Result Datum Fault
+of_kind f (Some a) found later = given f (Some a) found
+of_kind f None found later = later
+
+-- an operation that goes leaf by leaf on its operands
+abbrev pub leafwise : Op → List Operand → Result Datum Fault
+leafwise o operands =
+    of_kind calculated_by (number_operation o) (two_in operands)
+    (of_kind joined_by (logic_operation o) (both_in operands)
+    (of_kind unary_of (single_operation o) (only_in operands) (reducing o operands)))
+
 -- tuples of the items of lists at an axis, or of their places
 abbrev pub combined_by : Bool → ℕ × Bool × ℤ → Datum → Result Datum Fault
 combined_by places p d = combinations_of p.0 p.1 (axis_in d p.2) places d
@@ -170,7 +192,7 @@ tupled op.Combinations fixed operands =
     given (combined_by false) (tuples_in fixed) (only_in operands)
 tupled op.Argcombinations fixed operands =
     given (combined_by true) (tuples_in fixed) (only_in operands)
-tupled o fixed operands = reducing o operands
+tupled o fixed operands = leafwise o operands
 
 -- an operation on null items on its operands
 abbrev pub optioned : Op → List FixedArg → List Operand → Result Datum Fault

@@ -9,3 +9,4 @@ pub mod SteppedView
 pub mod Axes
 pub mod Eval
 pub mod Views
+pub mod Leafwise

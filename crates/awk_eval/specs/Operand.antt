@@ -4,6 +4,7 @@ use Rattle.std.specs.Prelude.{option_map, if◌then◌else◌}
 use Rattle.awk_types.specs.Datum.{Datum}
 use Rattle.awk_fill.specs.FillNone as fill
 use Rattle.awk_fill.specs.FillNone.{Filler}
+use Rattle.awk_layout.specs.Filler as layout
 use Rattle.awk_query.specs.declared.op.Op.{Op}
 use Rattle.awk_query.specs.declared.op.Op.TheVariants as op
 
@@ -49,6 +50,16 @@ filler (literal z) = fill.literal z
 abbrev pub filled_in : List Operand → Option (Datum × Filler)
 filled_in (of d ∷ v ∷ []) = Some (d, filler v)
 filled_in _ = None
+
+-- an operand of arithmetic, of a comparison or of a choice
+abbrev pub term : Operand → layout.Filler
+term (of d) = layout.datum d
+term (literal z) = layout.literal z
+
+-- the two operands
+abbrev pub two_in : List Operand → Option (layout.Filler × layout.Filler)
+two_in (x ∷ y ∷ []) = Some (term x, term y)
+two_in _ = None
 
 -- one datum more
 abbrev pub one_more : Operand → Option (List Datum) → Option (List Datum)

@@ -1,9 +1,8 @@
 //! Operations on their operands.
-ghost use Rattle.std.specs.Prelude.{◌≡◌, ◌+◌, ◌*◌, ◌≤◌, true, length, is_some, IfOk};
+ghost use Rattle.std.specs.Prelude.{◌≡◌, ◌+◌, ◌*◌, ◌≤◌, true, length, is_some, Some, IfOk};
 ghost use Rattle.awk_types.specs.Gives.{Gives};
 ghost use Rattle.awk_types.specs.Faults.{fault_told};
 ghost use Rattle.awk_types.specs.Names.{AreDistinct};
-ghost use Rattle.awk_types.specs.Simple.{present};
 ghost use Rattle.awk_types.specs.View.{typ_of};
 ghost use Rattle.awk_layout.specs.Datum.{IsDatum, datum_of};
 ghost use Rattle.awk_layout.specs.Layout.{weight, height};
@@ -11,21 +10,27 @@ ghost use Rattle.awk_layout.specs.Typing.{array_type, array_items};
 ghost use Rattle.awk_lists.specs.WithoutField.{without_field_of};
 ghost use Rattle.awk_query.specs.Allowed.{HasArguments};
 ghost use Rattle.awk_eval.specs.Fixed.{bounds_in, text_in, texts_in, tuples_in};
-ghost use Rattle.awk_eval.specs.Operand.{only_in};
+ghost use Rattle.awk_eval.specs.Operand.{only_in, both_in, two_in};
+ghost use Rattle.awk_eval.specs.Leafwise.{IsNumberOperation, IsSingleOperation};
+ghost use Rattle.awk_arith.specs.Unary.{unary_of};
 ghost use Rattle.awk_eval.specs.OperandView.{shown_operands};
 ghost use Rattle.awk_eval.specs.Ranges.{range_items};
 ghost use Rattle.awk_eval.specs.Views.{Size, Takes, IsWithin, AreWithin, is_view_op};
 ghost use Rattle.awk_eval.specs.Eval as meaning;
 
 use crate::arguments::{
-    both, bound_or, bounds, data, filled, only, padding, place, text, texts, truth, tuples,
+    both, bound_or, bounds, data, filled, only, padding, place, text, texts, truth, tuples, two,
     with_step,
 };
 use crate::axis::{axis_among, axis_in};
+use crate::leafwise::{logic_operation, number_operation, single_operation};
+use awk_arith::{abs, binary, compare, logical, neg, not};
 use awk_combi::combinations;
+use awk_jagged::{is_jagged, jagged};
 use awk_kernels::Kernels;
 use awk_lanes::{Arena, Steps};
 use awk_layout::{Array, Datum, Operands};
+use awk_leaves::{Binary, Logic, Unary};
 use awk_lists::{flatten, local_index, num, run_lengths, unflatten, without_field};
 use awk_merge::concatenate;
 use awk_options::{drop_none, fill_none, firsts, is_none, pad_none, put_mask, singletons};
@@ -196,7 +201,7 @@ fn tupled<'s, N: Kernels, L: Ledger>(
     match op {
         Op::Combinations => combined(alloc, fixed, operands, false, arena, steps),
         Op::Argcombinations => combined(alloc, fixed, operands, true, arena, steps),
-        _ => reducing(alloc, op, operands, kernels, arena, steps),
+        _ => leafwise(alloc, op, operands, kernels, arena, steps),
     }
 }
 
@@ -220,6 +225,99 @@ fn combined<'s, L: Ledger>(
             combinations(alloc, n, replacement, axis, x, places, arena, steps)
         }
         _ => Err(Fault::Unbuilt),
+    }
+}
+
+// An operation that goes leaf by leaf on its operands.
+fn leafwise<'s, N: Kernels, L: Ledger>(
+    alloc: Global,
+    op: Op,
+    operands: &Operands<'s>,
+    kernels: &N,
+    arena: &'s Arena,
+    steps: &mut Steps<L>,
+) -> Result<Datum<'s>, Fault>
+    ensures answer { Gives datum_of fault_told result
+        (meaning.leafwise op (shown_operands operands.now)) }
+    ensures datum { IfOk result (λ made. IsDatum made) }
+{
+    if let Some(op) = number_operation(op) {
+        return calculated(alloc, op, operands, kernels, arena, steps);
+    }
+    if let Some(op) = logic_operation(op) {
+        return joined(alloc, op, operands, kernels, arena, steps);
+    }
+    if let Some(op) = single_operation(op) {
+        return on_leaves(alloc, op, operands, kernels, arena, steps);
+    }
+    reducing(alloc, op, operands, kernels, arena, steps)
+}
+
+// Arithmetic or a comparison on its operands.
+fn calculated<'s, N: Kernels, L: Ledger>(
+    alloc: Global,
+    op: Binary,
+    operands: &Operands<'s>,
+    kernels: &N,
+    arena: &'s Arena,
+    steps: &mut Steps<L>,
+) -> Result<Datum<'s>, Fault>
+    requires { IsNumberOperation op }
+    ensures answer { Gives datum_of fault_told result (meaning.given meaning.calculated_by
+        (Some op) (two_in (shown_operands operands.now))) }
+    ensures datum { IfOk result (λ made. IsDatum made) }
+{
+    let Some((x, y)) = two(operands) else {
+        return Err(Fault::Unbuilt);
+    };
+    match op {
+        Binary::Calculate(op) => binary(alloc, op, x, y, kernels, arena, steps),
+        Binary::Test(how) => compare(alloc, how, x, y, kernels, arena, steps),
+        Binary::Join(_) => unreachable!(),
+    }
+}
+
+// An operation of two truth values on its operands.
+fn joined<'s, N: Kernels, L: Ledger>(
+    alloc: Global,
+    op: Logic,
+    operands: &Operands<'s>,
+    kernels: &N,
+    arena: &'s Arena,
+    steps: &mut Steps<L>,
+) -> Result<Datum<'s>, Fault>
+    ensures answer { Gives datum_of fault_told result (meaning.given meaning.joined_by
+        (Some op) (both_in (shown_operands operands.now))) }
+    ensures datum { IfOk result (λ made. IsDatum made) }
+{
+    match both(operands) {
+        Some((x, y)) => logical(alloc, op, x, y, kernels, arena, steps),
+        None => Err(Fault::Unbuilt),
+    }
+}
+
+// An operation of one operand on it.
+fn on_leaves<'s, N: Kernels, L: Ledger>(
+    alloc: Global,
+    op: Unary,
+    operands: &Operands<'s>,
+    kernels: &N,
+    arena: &'s Arena,
+    steps: &mut Steps<L>,
+) -> Result<Datum<'s>, Fault>
+    requires { IsSingleOperation op }
+    ensures answer { Gives datum_of fault_told result
+        (meaning.given unary_of (Some op) (only_in (shown_operands operands.now))) }
+    ensures datum { IfOk result (λ made. IsDatum made) }
+{
+    let Some(x) = only(operands) else {
+        return Err(Fault::Unbuilt);
+    };
+    match op {
+        Unary::Not => not(alloc, x, kernels, arena, steps),
+        Unary::Negate => neg(alloc, x, kernels, arena, steps),
+        Unary::Absolute => abs(alloc, x, kernels, arena, steps),
+        Unary::Cast(_) => unreachable!(),
     }
 }
 
@@ -285,21 +383,7 @@ fn ranged<'s, L: Ledger>(
     }
 }
 
-// Whether items of a type are lists, optional or not.
-fn is_list(t: &Typ) -> bool
-    ensures { result ≡ meaning.is_list (present (typ_of t.now)) }
-{
-    match t {
-        Typ::Var(_) | Typ::Reg(_, _) => true,
-        Typ::Opt(inner) => match &**inner {
-            Typ::Var(_) | Typ::Reg(_, _) => true,
-            _ => false,
-        },
-        _ => false,
-    }
-}
-
-// The items of an array that another names, by a mask or by an index.
+// The items of an array that another names, by a mask or an index, or row by row.
 fn pick_of<'s, L: Ledger>(
     alloc: Global,
     e: &Datum<'s>,
@@ -333,8 +417,8 @@ fn picked<'s, L: Ledger>(
         (meaning.pick_by (typ_of u.now) (datum_of e.now) (datum_of x.now)) }
     ensures datum { IfOk result (λ made. IsDatum made) }
 {
-    if is_list(u) {
-        Err(Fault::Unbuilt)
+    if is_jagged(u) {
+        jagged(alloc, e, x, arena, steps)
     } else if is_mask(u) {
         mask(alloc, e, x, arena, steps)
     } else {

@@ -1,10 +1,11 @@
 //! The arguments of a call, by what an operation takes.
 ghost use Rattle.std.specs.Prelude.{◌≡◌, ◌≢◌, ◌<◌, ◌≤◌, [], ◌∷◌, length, map, pos, IfOk, IfSome, option_map};
 ghost use Rattle.awk_layout.specs.Datum.{IsDatum, IsOperand, datum_of};
+ghost use Rattle.awk_layout.specs.Filler.{filler_of as term_of};
 ghost use Rattle.awk_layout.specs.declared.datum.Operand.TheVariants.{Of};
 ghost use Rattle.awk_fill.specs.FillNone.{filler_of};
 ghost use Rattle.awk_eval.specs.Fixed as given;
-ghost use Rattle.awk_eval.specs.Operand.{only_in, both_in, data_in, filled_in};
+ghost use Rattle.awk_eval.specs.Operand.{only_in, both_in, data_in, filled_in, two_in};
 ghost use Rattle.awk_eval.specs.OperandView.{shown_operands};
 ghost use Rattle.awk_eval.specs.SteppedView.{stepped_view};
 ghost use Rattle.awk_eval.specs.Ranges as ranges;
@@ -47,6 +48,18 @@ pub(crate) fn both<'o, 's>(operands: &'o Operands<'s>) -> Option<(&'o Datum<'s>,
         },
         Operand::Literal(_) => None,
     }
+}
+
+/// The two operands.
+pub(crate) fn two<'o, 's>(operands: &'o Operands<'s>) -> Option<(&'o Operand<'s>, &'o Operand<'s>)>
+    ensures two { option_map (λ p. (term_of p.0.now, term_of p.1.now)) result
+        ≡ two_in (shown_operands operands.now) }
+    ensures operands { IfSome result (λ p. IsOperand p.0.now × IsOperand p.1.now) }
+{
+    if operands.len() != 2 {
+        return None;
+    }
+    Some((operands.get(0), operands.get(1)))
 }
 
 /// A datum, and what fills its nulls.

@@ -9,6 +9,7 @@ mod arguments;
 mod axis;
 mod env;
 mod evaluation;
+mod leafwise;
 mod shared;
 mod single;
 

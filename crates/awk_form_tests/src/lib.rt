@@ -1,8 +1,10 @@
 //! Tests of forms and of what is loaded by them, which no session of a program reaches: the texts of
-//! forms, and an array packed, loaded and packed again.
+//! forms, an array packed, loaded and packed again, and bytes of both orders loaded.
 #![tactic(auto)]
 
 #[cfg(test)]
 mod back;
+#[cfg(test)]
+mod orders;
 #[cfg(test)]
 mod texts;

@@ -9,7 +9,7 @@ use Rattle.awk_kernels.specs.declared.operation.Arith.TheVariants.{Add, FloorDiv
 use Rattle.awk_kernels.specs.declared.operation.Compare.TheVariants.{Lt}
 use Rattle.awk_leaves.specs.declared.leaf_type.LeafType.TheVariants.{Of, Unknown, Literal}
 use Rattle.awk_leaves.specs.declared.operation.Binary.TheVariants.{Calculate, Test, Join}
-use Rattle.awk_leaves.specs.declared.operation.Logic.TheVariants.{And}
+use Rattle.awk_leaves.specs.declared.operation.Logic.TheVariants.{And, Xor}
 use Rattle.awk_leaves.specs.declared.operation.Unary.TheVariants.{Not, Negate, Absolute, Cast}
 use Rattle.awk_leaves.specs.Table.{binary_judged, choice_judged}
 use Rattle.awk_leaves.specs.Values.{binary_values, unary_values, choice_values}
@@ -114,6 +114,11 @@ and_not : binary_values (Join And) (Of Truths) (Of Truths) truths
     (truth false ∷ truth true ∷ truth false ∷ [])
     ≡ Ok (truth false ∷ truth false ∷ truth false ∷ [])
 and_not = refl
+
+one_of_two : binary_values (Join Xor) (Of Truths) (Of Truths) truths
+    (truth false ∷ truth false ∷ truth true ∷ [])
+    ≡ Ok (truth true ∷ truth false ∷ truth false ∷ [])
+one_of_two = refl
 
 denied : unary_values Not (Of Truths) truths ≡ Ok (truth false ∷ truth true ∷ truth false ∷ [])
 denied = refl

@@ -1,7 +1,6 @@
 -- What each operation gives at one leaf, and at leaves in order.
 use Rattle.std.specs.Prelude.{ℤ, pos, neg_ℤ, unsigned_abs, Bool, not, ◌&&◌, ◌||◌}
 use Rattle.std.specs.Prelude.{if◌then◌else◌, List, [], ◌∷◌, map, Result, Ok, Err}
-use Rattle.std.specs.Bool.{xor}
 use Rattle.std.specs.Ordering.{int_eq}
 use Rattle.std.specs.Simd.Lanes.{zip2}
 use Rattle.awk_types.specs.declared.primitive.Primitive.{Primitive}
@@ -50,7 +49,7 @@ held_by p z = number_or_fault (within (least_number p) (greatest_number p) z)
 abbrev pub joined : Logic → Bool → Bool → Bool
 joined And a b = a && b
 joined Or a b = a || b
-joined Xor a b = xor a b
+joined Xor a b = if a then not b else b
 
 -- ---- of numbers, a truth value as 0 or 1
 

@@ -3,3 +3,4 @@ pub mod PartLaws
 pub mod TallyLaws
 pub mod ExtremeLaws
 pub mod SumLaws
+pub mod PlaceLaws

@@ -1,13 +1,13 @@
 -- A number for each part: what it comes to, and where its extreme stands.
 use Rattle.std.specs.Prelude.{◌≡◌, ℕ, ◌+◌, ◌-◌, ◌<◌, ◌≤◌, ◌^◌, ◌≤ℤ◌, ℤ, pos, negsuc, Option, Some}
-use Rattle.std.specs.Prelude.{None, List, position}
+use Rattle.std.specs.Prelude.{None, List}
 use Rattle.std.specs.List.{slice_range}
-use Rattle.std.specs.Ordering.{int_eq}
 use Rattle.awk_lanes.specs.Column.{Column}
 use Rattle.awk_lanes.specs.Made.{lane_of}
 use Rattle.awk_lanes.specs.Places.{size_of, at, place_at, option_place_at, IsIndexKind}
 use Rattle.awk_lanes.specs.declared.kind.Kind.TheVariants.{I64}
 use Rattle.awk_numbers.specs.Folds.{folded, tallied, first_extreme}
+use Rattle.awk_numbers.specs.Places.{nth_place}
 use Rattle.awk_numbers.specs.declared.extremes.Extreme.{Extreme}
 use Rattle.awk_numbers.specs.declared.folds.Fold.{Fold}
 use Rattle.awk_numbers.specs.declared.tallies.Tally.{Tally}
@@ -77,12 +77,14 @@ place_or_zero start (Some k) = pos (k - start)
 abbrev pub local_at : Column → Column → ℕ → ℤ
 local_at o p i = place_or_zero (place_at o i) (option_place_at p i)
 
--- where a number stands among those from a start below a stop, or 0
-abbrev pub found_in : List ℤ → ℕ → ℕ → Option ℕ → ℤ
-found_in js start stop None = pos 0
-found_in js start stop (Some k) =
-    place_or_zero 0 (position (int_eq (pos k)) (slice_range js start stop))
+-- where the item stands in a part of an index that is number k of all, of which those of the part
+-- begin at a first one; or 0
+abbrev pub found_in : List ℤ → ℕ → ℕ → ℕ → Option ℕ → ℤ
+found_in js start stop first None = pos 0
+found_in js start stop first (Some k) =
+    place_or_zero 0 (nth_place (k - first) (slice_range js start stop))
 
--- where in part i of others the number stands that stands at i, or 0
-abbrev pub found_at : List ℤ → Column → Column → ℕ → ℤ
-found_at js o p i = found_in js (place_at o i) (place_at o (i + 1)) (option_place_at p i)
+-- where in part i of an index the item stands whose number stands at i, or 0
+abbrev pub found_at : List ℤ → Column → Column → Column → ℕ → ℤ
+found_at js o p e i =
+    found_in js (place_at o i) (place_at o (i + 1)) (place_at p i) (option_place_at e i)

@@ -1,11 +1,12 @@
 //! What stands at places, and where.
-ghost use Rattle.std.specs.Prelude.{◌≡◌, ◌<◌, ◌≤◌, ◌^◌, pos, length, position, IfOk, IfSome};
+ghost use Rattle.std.specs.Prelude.{◌≡◌, ◌<◌, ◌≤◌, ◌^◌, pos, length, IfOk, IfSome};
 ghost use Rattle.std.specs.List.{slice_range};
-ghost use Rattle.std.specs.Ordering.{int_eq};
 ghost use Rattle.awk_lanes.specs.Made.{lane_of};
 ghost use Rattle.awk_lanes.specs.Numbers.{int_of, IsOf};
 ghost use Rattle.awk_lanes.specs.Places.{size_of};
 ghost use Rattle.awk_lanes.specs.declared.kind.Kind.TheVariants as Kind;
+ghost use Rattle.awk_numbers.specs.Folds.{whole_numbers};
+ghost use Rattle.awk_numbers.specs.Places as spec;
 ghost use Rattle.awk_parts.specs.Lanes.{present_at, number_at, local_at, place_or_zero, found_at};
 ghost use Rattle.awk_parts.specs.Lanes.{ArePlaces, ArePlacesIn, AreLocal};
 ghost use Rattle.awk_parts.specs.Parts.{AreParts};
@@ -13,6 +14,7 @@ ghost use Rattle.awk_parts.specs.Parts.{AreParts};
 use awk_lanes::{
     Arena, Kind, Lane, NoMemory, Num, Numbers, Steps, made_lane, number, option_place_in, place_in,
 };
+use awk_numbers::{Whole, nth_place};
 use std::sync::ledger::Ledger;
 
 /// The index of the places that are there.
@@ -25,6 +27,8 @@ impl<'b, 'a> Numbers for PresentIndex<'b, 'a> {
     ghost use Rattle.std.specs.Prelude.{◌≡◌, ◌<◌, ◌^◌};
     ghost use Rattle.awk_lanes.specs.Places.{size_of};
     ghost use Rattle.awk_lanes.specs.declared.kind.Kind.TheVariants as Kind;
+    ghost use Rattle.awk_numbers.specs.Folds.{whole_numbers};
+    ghost use Rattle.awk_numbers.specs.Places as spec;
     ghost use Rattle.awk_parts.specs.Lanes.{present_at};
 
     ghost kind = { λ _. Kind.I64 };
@@ -179,79 +183,79 @@ pub fn locals<'a, L: Ledger>(
     )
 }
 
-/// Where numbers stand in parts of others.
+/// Where items stand in their lists that are numbers at places.
 #[derive(Drop)]
 struct FoundPlaces<'b, 'a> {
-    others: &'b [i64],
+    index: &'b Whole<'a>,
     offsets: &'b Lane<'a>,
+    firsts: &'b Lane<'a>,
     places: &'b Lane<'a>,
 }
 
 impl<'b, 'a> Numbers for FoundPlaces<'b, 'a> {
-    ghost use Rattle.std.specs.Prelude.{◌<◌, ◌^◌, length};
     ghost use Rattle.awk_lanes.specs.Places.{size_of};
     ghost use Rattle.awk_lanes.specs.declared.kind.Kind.TheVariants as Kind;
-    ghost use Rattle.awk_parts.specs.Lanes.{found_at, ArePlaces};
+    ghost use Rattle.awk_numbers.specs.Folds.{whole_numbers};
+    ghost use Rattle.awk_parts.specs.Lanes.{found_at, AreLocal};
     ghost use Rattle.awk_parts.specs.Parts.{AreParts};
 
     ghost kind = { λ _. Kind.I64 };
 
-    ghost at = { λ f. found_at f.others.now f.offsets.now f.places.now };
+    ghost at = { λ f.
+        found_at (whole_numbers f.index.now) f.offsets.now f.firsts.now f.places.now };
 
     ghost size = { λ f. size_of f.places.now };
 
-    ghost IsReady = { λ f. ArePlaces f.places.now
-        × AreParts f.others.now f.offsets.now (size_of f.places.now) };
+    ghost IsReady = { λ f. AreLocal f.firsts.now f.places.now
+        × AreParts (whole_numbers f.index.now) f.offsets.now (size_of f.places.now) };
 
     fn number<L: Ledger>(&self, i: u64, steps: &mut Steps<L>) -> Num {
         let start = place_in(self.offsets, i, steps);
         let stop = place_in(self.offsets, i + 1, steps);
+        let first = place_in(self.firsts, i, steps);
         match option_place_in(self.places, i, steps) {
-            Some(k) => local_number(0, found_between(self.others, start, stop, k)),
+            Some(k) => number_of_nth(self.index, start, stop, k - first),
             None => number(0),
         }
     }
 }
 
-/// Where a number stands first.
-fn first_place(numbers: &[i64], wanted: i64) -> Option<usize>
-    ensures { result ≡ position (int_eq wanted) numbers.now }
-{
-    numbers.iter().position(|&z| wanted == z)
-}
-
-/// Where a number stands among those from a start below a stop, counted from the start.
-fn found_between(others: &[i64], start: u64, stop: u64, k: u64) -> Option<u64>
+/// Where the item stands among those from a start below a stop that so many others stand before,
+/// and 0 for none.
+fn number_of_nth(index: &Whole, start: u64, stop: u64, before: u64) -> Num
     requires order { start ≤ stop }
-    requires within { stop ≤ length others.now }
-    requires few { length others.now ≤ 1073741824 }
-    requires small { k < 2 ^ 63 }
-    ensures place { result ≡ position (int_eq (pos k)) (slice_range others.now start stop) }
-    ensures inside { IfSome result (λ q. (0 ≤ q) × (q < 2 ^ 63)) }
+    requires within { stop ≤ length (whole_numbers index.now) }
+    requires few { length (whole_numbers index.now) ≤ 1073741824 }
+    ensures number { int_of result ≡ place_or_zero 0 (spec.nth_place before
+        (slice_range (whole_numbers index.now) start stop)) }
+    ensures kind { IsOf Kind.I64 result }
 {
-    match first_place(&others[start as usize..stop as usize], k as i64) {
-        Some(q) => Some(q as u64),
-        None => None,
+    match nth_place(index, start, stop, before) {
+        Some(k) => number(k),
+        None => number(0),
     }
 }
 
-/// Where in part i of others the number stands that stands at place i, and 0 where it is negative
-/// or stands nowhere.
+/// Where in list i, nulls counted, the item stands whose number stands at place i among those of
+/// the items that are not null, and 0 for none. The index of the items is negative for a null, and
+/// the numbers of list i begin at `firsts` i.
 pub fn found<'a, L: Ledger>(
-    others: &[i64],
+    index: &Whole,
     offsets: &Lane,
+    firsts: &Lane,
     places: &Lane,
     arena: &'a Arena,
     steps: &mut Steps<L>,
 ) -> Result<Lane<'a>, NoMemory>
-    requires places { ArePlaces places.now }
-    requires parts { AreParts others.now offsets.now (size_of places.now) }
+    requires places { AreLocal firsts.now places.now }
+    requires parts { AreParts (whole_numbers index.now) offsets.now (size_of places.now) }
     ensures { IfOk result (λ r. r ≡ lane_of Kind.I64 (size_of places.now)
-        (found_at others.now offsets.now places.now)) }
+        (found_at (whole_numbers index.now) offsets.now firsts.now places.now)) }
 {
     let found = FoundPlaces {
-        others,
+        index,
         offsets,
+        firsts,
         places,
     };
     made_lane(Kind::I64, places.len(), &found, arena, steps)

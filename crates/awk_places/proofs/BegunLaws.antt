@@ -1,24 +1,23 @@
 -- Tuples of places that are begun and what they are continued with.
-use Rattle.std.specs.Prelude.{◌≡◌, refl, ℕ, zero, suc, ◌+◌, ◌-◌, ◌*◌, ◌<◌, ◌≤◌, Bool, true, false}
-use Rattle.std.specs.Prelude.{if◌then◌else◌, nat_lt, List, [], ◌∷◌, ◌++◌, map, length, get_or, ℤ, pos}
+use Rattle.std.specs.Prelude.{◌≡◌, refl, ℕ, zero, suc, ◌+◌, ◌-◌, ◌<◌, ◌≤◌, Bool, true, false}
+use Rattle.std.specs.Prelude.{replicate, nat_lt, List, [], ◌∷◌, ◌++◌, map, length, get_or}
 use Rattle.std.specs.List.{range_with_len, flat_map, AllByRecursion}
 use Rattle.std.proofs.Common.{arith, ap, ap₂, sym, ◌∙◌, subst, ltb-true}
 use Rattle.std.proofs.lemmas.Bool.{ltb-false}
-use Rattle.std.proofs.lemmas.List.{length-append, length-map, map-append}
-use Rattle.std.proofs.lemmas.List.Concat.{flat_map_single}
 use Rattle.std.proofs.lemmas.List.Folds.{flat_map-map}
+use Rattle.std.proofs.lemmas.List.FromFn.{map-range_with_len_more}
 use Rattle.std.proofs.lemmas.Simd.{map-map}
-use Rattle.awk_places.specs.Begun.{Begun, reserved, longer, rest_count, last_place, begun_by}
-use Rattle.awk_places.specs.Paths.{paths}
+use Rattle.awk_places.specs.Begun.{reserved, longer, rest_count, last_place, begun_by, again}
+use Rattle.awk_places.specs.Begun.{places_of, Fits, IsSmall}
+use Rattle.awk_places.specs.declared.begun.Begun.{Begun}
 use Rattle.awk_places.specs.Places.{before_each, next_place, rising_places, after_each, next_after}
 use Rattle.awk_places.specs.Places.{places_from, rising_from}
 use Rattle.awk_places.proofs.FlatLaws.{append-none, flat-flat, map-flat, flat-same, map-same}
-use Rattle.awk_places.proofs.FlatLaws.{flat-same-all, all-map, all-append, all-flat}
+use Rattle.awk_places.proofs.FlatLaws.{flat-same-all, all-map, all-append, all-flat, range-more}
 use Rattle.awk_places.proofs.Levels.{rising_from-more, room_after}
 use Rattle.awk_places.proofs.Paths.{with_replacement, without_replacement, none_chosen}
 use Rattle.awk_places.proofs.Paths.{paths-further}
 use Rattle.awk_places.proofs.RisingLaws.{rising_count, length-rising_from, length-rising_places}
-use Rattle.awk_places.proofs.RisingLaws.{rising_places-from}
 
 -- ---- no room
 
@@ -179,9 +178,11 @@ IsLong n ks = length ks ≡ n
 pub all_long : (rep : Bool) (n a m : ℕ) → AllByRecursion (IsLong n) (rising_from rep n a m)
 all_long rep zero a m = (refl, tt)
 all_long rep (suc n) a m =
-    all-flat (IsLong (suc n)) (λ k. before_each k (rising_from rep n (next_place rep k) m)) a (m - a)
+    all-flat (IsLong (suc n)) (λ k. before_each k (rising_from rep n (next_place rep k) m)) a
+    (m - a)
     (λ k p q. all-map (IsLong (suc n)) (λ ks. k ∷ ks) (rising_from rep n (next_place rep k) m)
-    (longer_by_one k (rising_from rep n (next_place rep k) m) (all_long rep n (next_place rep k) m)))
+    (longer_by_one k (rising_from rep n (next_place rep k) m)
+    (all_long rep n (next_place rep k) m)))
   where
     longer_by_one : (k : ℕ) (kss : List (List ℕ)) → AllByRecursion (IsLong n) kss
         → AllByRecursion (λ ks. IsLong (suc n) (k ∷ ks)) kss
@@ -273,33 +274,27 @@ pub rest-length : (rep : Bool) (left a m : ℕ)
     → length (rising_from rep left a m) ≡ rest_count rep left a m
 rest-length rep left a m = count-from rep left a m ∙ sym (length-rising_places rep left (m - a))
 
-module _ {X Y : Type 0} (y : Y) where
-  map-always : (a : ℕ) (xs : List X)
-      → map (λ x. y) xs ≡ map (λ (k : ℕ). y) (range_with_len a (length xs))
-  map-always a [] = refl
-  map-always a (x ∷ xs) = ap (λ ys. y ∷ ys) (map-always (a + 1) xs)
+map-always : {X Y : Type 0} (y : Y) (xs : List X) → map (λ x. y) xs ≡ replicate (length xs) y
+map-always y [] = refl
+map-always y (x ∷ xs) = ap (λ ys. y ∷ ys) (map-always y xs)
 
 -- the places in a slot, by the first places of tuples of one list
 pub slot-one : (rep : Bool) (left j a m : ℕ)
-    → flat_map (λ (b : Begun). map (λ (k : ℕ). pos (last_place rep b.least))
-    (range_with_len 0 (rest_count rep left b.least b.stop)))
+    → flat_map (again rep left)
     (map (begun_by rep a m) (rising_from rep (suc j) a (m - reserved rep left)))
-    ≡ map (λ ks. pos (get_or ks j 0)) (rising_from rep (suc j + left) a m)
+    ≡ map (λ ks. get_or ks j 0) (rising_from rep (suc j + left) a m)
 slot-one rep left j a m =
     let kss : List (List ℕ) = rising_from rep (suc j) a (m - reserved rep left) in
-    let f : Begun → List ℤ = λ b. map (λ (k : ℕ). pos (last_place rep b.least))
-    (range_with_len 0 (rest_count rep left b.least b.stop)) in
-    let g : List ℕ → ℤ = λ ks. pos (get_or ks j 0) in
-    flat_map-map f (begun_by rep a m) kss
-    ∙ flat-same-all (EndsAt rep a j) (λ ks. f (begun_by rep a m ks))
+    let g : List ℕ → ℕ = λ ks. get_or ks j 0 in
+    flat_map-map (again rep left) (begun_by rep a m) kss
+    ∙ flat-same-all (EndsAt rep a j) (λ ks. again rep left (begun_by rep a m ks))
     (λ ks. map g (rests rep left a m ks))
     (λ ks h.
     let rs : List (List ℕ) = rising_from rep left (next_after rep a ks) m in
-    let z : ℤ = pos (last_place rep (next_after rep a ks)) in
-    ap (λ n. map (λ (k : ℕ). z) (range_with_len 0 n))
-    (sym (rest-length rep left (next_after rep a ks) m))
-    ∙ sym (map-always z 0 rs)
-    ∙ map-same (λ r. z) (λ r. g (ks ++ r)) (λ r. ap (λ n. pos n) (sym (h r))) rs
+    let z : ℕ = last_place rep (next_after rep a ks) in
+    ap (λ n. replicate n z) (sym (rest-length rep left (next_after rep a ks) m))
+    ∙ sym (map-always z rs)
+    ∙ map-same (λ r. z) (λ r. g (ks ++ r)) (λ r. sym (h r)) rs
     ∙ sym (map-map g (λ (r : List ℕ). ks ++ r) rs))
     kss (all_end rep j a (m - reserved rep left))
     ∙ sym (map-flat g (rests rep left a m) kss)
@@ -311,34 +306,25 @@ range-shift c a (suc n) =
     let e : c + (a + 1) ≡ c + a + 1 = omega arith in
     ap (λ ks. (c + a) ∷ ks) (range-shift c (a + 1) n ∙ ap (λ b. range_with_len b n) e)
 
-range-from : (c n : ℕ) → map (λ k. pos (c + k)) (range_with_len 0 n) ≡ map (λ k. pos k) (range_with_len c n)
-range-from c n =
-    let e : c + 0 ≡ c = omega arith in
-    sym (map-map (λ (k : ℕ). pos k) (λ (k : ℕ). c + k) (range_with_len 0 n))
-    ∙ ap (map (λ (k : ℕ). pos k)) (range-shift c 0 n ∙ ap (λ b. range_with_len b n) e)
+map-self : (f : ℕ → ℕ) → ((k : ℕ) → f k ≡ k) → (ks : List ℕ) → map f ks ≡ ks
+map-self f e [] = refl
+map-self f e (k ∷ ks) = ap₂ (λ j js. j ∷ js) (e k) (map-self f e ks)
 
 -- the places in the last slot
 pub last-one : (rep : Bool) (j a m : ℕ)
-    → flat_map (λ (b : Begun). map (λ (k : ℕ). pos (b.least + k))
-    (range_with_len 0 (b.stop - 0 - b.least)))
+    → flat_map places_of
     (map (begun_by rep a m) (rising_from rep j a (m - reserved rep 1)))
-    ≡ map (λ ks. pos (get_or ks j 0)) (rising_from rep (suc j) a m)
+    ≡ map (λ ks. get_or ks j 0) (rising_from rep (suc j) a m)
 last-one rep j a m =
     let kss : List (List ℕ) = rising_from rep j a (m - reserved rep 1) in
-    let f : Begun → List ℤ = λ b. map (λ (k : ℕ). pos (b.least + k))
-    (range_with_len 0 (b.stop - 0 - b.least)) in
-    let g : List ℕ → ℤ = λ ks. pos (get_or ks j 0) in
-    flat_map-map f (begun_by rep a m) kss
-    ∙ flat-same-all (IsLong j) (λ ks. f (begun_by rep a m ks))
+    let g : List ℕ → ℕ = λ ks. get_or ks j 0 in
+    flat_map-map places_of (begun_by rep a m) kss
+    ∙ flat-same-all (IsLong j) (λ ks. places_of (begun_by rep a m ks))
     (λ ks. map g (after_each ks (places_from (next_after rep a ks) m)))
     (λ ks l.
-    let b : ℕ = next_after rep a ks in
-    let e : m - 0 - b ≡ m - b = omega arith in
-    ap (λ d. map (λ (k : ℕ). pos (b + k)) (range_with_len 0 d)) e
-    ∙ range-from b (m - b)
-    ∙ map-same (λ k. pos k) (λ k. g (ks ++ k ∷ []))
-    (λ k. ap (λ n. pos n) (sym (get-behind ks [] k j l))) (places_from b m)
-    ∙ sym (map-map g (λ (k : ℕ). ks ++ k ∷ []) (places_from b m)))
+    let ps : List ℕ = places_from (next_after rep a ks) m in
+    sym (map-self (λ k. g (ks ++ k ∷ [])) (λ k. get-behind ks [] k j l) ps)
+    ∙ sym (map-map g (λ (k : ℕ). ks ++ k ∷ []) ps))
     kss (all_long rep j a (m - reserved rep 1))
     ∙ sym (map-flat g (λ ks. after_each ks (places_from (next_after rep a ks) m)) kss)
     ∙ sym (ap (map g) (rising_from-more rep j a m))
@@ -363,7 +349,8 @@ rising_from-shift rep c (suc n) a m =
     ∙ flat-same (λ k. f (c + k)) (λ k. map (map (λ k. c + k)) (g k))
     (λ k. ap (λ b. before_each (c + k) (rising_from rep n b (c + m))) (next_place-shift rep c k)
     ∙ ap (before_each (c + k)) (rising_from-shift rep c n (next_place rep k) m)
-    ∙ map-map (λ (ks : List ℕ). (c + k) ∷ ks) (map (λ k. c + k)) (rising_from rep n (next_place rep k) m)
+    ∙ map-map (λ (ks : List ℕ). (c + k) ∷ ks) (map (λ k. c + k))
+    (rising_from rep n (next_place rep k) m)
     ∙ sym (map-map (map (λ k. c + k)) (λ (ks : List ℕ). k ∷ ks)
     (rising_from rep n (next_place rep k) m))) (range_with_len a (m - a))
     ∙ sym (map-flat (map (λ k. c + k)) g (range_with_len a (m - a)))
@@ -409,3 +396,79 @@ begun-few rep j left a m =
     let q = length-rising_places rep (suc j + left) (m - a) in
     let r = count-begun rep j left (m - a) in
     omega (arith, p, q, r)
+
+-- ---- places that fit a lane
+
+-- what is begun, with a place more
+abbrev pub next_begun : Bool → ℕ → ℕ → Begun
+next_begun rep stop k = record { least = next_place rep k; stop = stop }
+
+all_above : (P : ℕ → Type 0) (a n : ℕ) → ((k : ℕ) → a ≤ k → k < a + n → P k)
+    → AllByRecursion P (range_with_len a n)
+all_above P a zero h = tt
+all_above P a (suc n) h = (
+  h a (omega arith) (omega arith),
+  all_above P (a + 1) n (λ k p q. h k (omega (arith, p)) (omega (arith, q))),
+)
+
+next_place-within : (rep : Bool) (k stop : ℕ) → k < stop → next_place rep k ≤ stop
+next_place-within true k stop p = omega (arith, p)
+next_place-within false k stop p = omega (arith, p)
+
+pub fits_longer : (rep : Bool) (left : ℕ) (bs : List Begun) → AllByRecursion Fits bs
+    → AllByRecursion Fits (flat_map (longer rep left) bs)
+fits_longer rep left bs h =
+    all-each Fits Fits (longer rep left)
+    (λ b f. all-map Fits (λ k. record { least = next_place rep k; stop = b.stop })
+    (places_from b.least (b.stop - reserved rep left))
+    (all_above (λ k. Fits (record { least = next_place rep k; stop = b.stop })) b.least
+    (b.stop - reserved rep left - b.least)
+    (λ k p q. (next_place-within rep k b.stop (omega (arith, p, q)), f.1)))) bs h
+
+pub small_places : (bs : List Begun) → AllByRecursion Fits bs
+    → AllByRecursion IsSmall (flat_map places_of bs)
+small_places bs h =
+    all-each Fits IsSmall places_of
+    (λ b f. all_above IsSmall b.least (b.stop - b.least)
+    (λ k p q. omega (arith, p, q, f.1))) bs h
+
+all_times : (P : ℕ → Type 0) (n k : ℕ) → P k → AllByRecursion P (replicate n k)
+all_times P zero k p = tt
+all_times P (suc n) k p = (p, all_times P n k p)
+
+pub small_again : (rep : Bool) (left : ℕ) (bs : List Begun) → AllByRecursion Fits bs
+    → AllByRecursion IsSmall (flat_map (again rep left) bs)
+small_again rep left bs h =
+    all-each Fits IsSmall (again rep left)
+    (λ b f. all_times IsSmall (rest_count rep left b.least b.stop) (last_place rep b.least)
+    (omega (arith, f.0, f.1))) bs h
+
+-- ---- what is made so far
+
+append-by : {X : Type 0} (xs ys zs : List X) → (xs ++ ys) ++ zs ≡ xs ++ (ys ++ zs)
+append-by [] ys zs = refl
+append-by (x ∷ xs) ys zs = ap (λ ws. x ∷ ws) (append-by xs ys zs)
+
+-- one more behind what is made of the places from one on
+pub map_put : {X : Type 0} (f : ℕ → X) (a k : ℕ) (xs ys zs : List X) (x : X) → a ≤ k
+    → ys ≡ xs ++ map f (range_with_len a (k - a)) → zs ≡ ys ++ x ∷ [] → x ≡ f k
+    → zs ≡ xs ++ map f (range_with_len a (k + 1 - a))
+map_put f a k xs ys zs x o e p q =
+    let m : k - a + 1 ≡ k + 1 - a = omega (arith, o) in
+    let b : a + (k - a) ≡ k = omega (arith, o) in
+    p ∙ ap₂ (λ us v. us ++ v ∷ []) e q
+    ∙ append-by xs (map f (range_with_len a (k - a))) (f k ∷ [])
+    ∙ ap (λ us. xs ++ us) (sym (map-range_with_len_more f a (k - a) k b))
+    ∙ ap (λ n. xs ++ map f (range_with_len a n)) m
+
+pub range_put : (a k : ℕ) (xs ys zs : List ℕ) → a ≤ k
+    → ys ≡ xs ++ range_with_len a (k - a) → zs ≡ ys ++ k ∷ []
+    → zs ≡ xs ++ range_with_len a (k + 1 - a)
+range_put a k xs ys zs o e p =
+    let m : suc (k - a) ≡ k + 1 - a = omega (arith, o) in
+    let b : a + (k - a) ≡ k = omega (arith, o) in
+    p ∙ ap (λ us. us ++ k ∷ []) e
+    ∙ append-by xs (range_with_len a (k - a)) (k ∷ [])
+    ∙ ap (λ j. xs ++ (range_with_len a (k - a) ++ j ∷ [])) (sym b)
+    ∙ ap (λ us. xs ++ us) (sym (range-more a (k - a)))
+    ∙ ap (λ n. xs ++ range_with_len a n) m

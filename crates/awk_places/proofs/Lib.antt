@@ -5,4 +5,3 @@ pub mod Levels
 pub mod FlatLaws
 pub mod BegunLaws
 pub mod SlotLaws
-pub mod LevelSteps

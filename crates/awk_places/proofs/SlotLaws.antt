@@ -1,140 +1,35 @@
--- Lanes of tuples that are begun, and the lanes of the slots that they make.
-use Rattle.std.specs.Prelude.{◌≡◌, refl, ℕ, zero, suc, ◌+◌, ◌-◌, ◌*◌, ◌<◌, ◌≤◌, ◌^◌, Bool, List, []}
-use Rattle.std.specs.Prelude.{true, ◌∷◌, ◌++◌, map, length, get_or, ℤ, pos, negsuc, ◌≤ℤ◌}
+-- Tuples of lists that are begun, and the lanes of the slots that they make.
+use Rattle.std.specs.Prelude.{◌≡◌, refl, ℕ, zero, suc, ◌+◌, ◌-◌, ◌<◌, ◌≤◌, Bool, List, [], ◌∷◌}
+use Rattle.std.specs.Prelude.{◌++◌, map, length, get_or, ℤ, pos, negsuc, ◌≤ℤ◌}
 use Rattle.std.specs.List.{range_with_len, flat_map, AllByRecursion}
 use Rattle.std.proofs.Common.{arith, ap, ap₂, sym, ◌∙◌, subst}
 use Rattle.std.proofs.lemmas.Int.{ints}
-use Rattle.std.proofs.lemmas.List.{length-append, length-map, get_or-map, map-id}
+use Rattle.std.proofs.lemmas.List.{length-append, length-map, get_or-map, length-replicate}
 use Rattle.std.proofs.lemmas.List.Concat.{flat_map_single}
-use Rattle.std.proofs.lemmas.List.FromFn.{length-map-range_with_len}
 use Rattle.std.proofs.lemmas.Simd.{map-map}
+use Rattle.awk_types.specs.ItemLimit.{item_limit}
 use Rattle.awk_lanes.specs.declared.kind.Kind.TheVariants.{I64}
 use Rattle.awk_lanes.specs.Column.{Column}
-use Rattle.awk_lanes.specs.Counted.{before, numbers_of_lists, items_lane}
-use Rattle.awk_lanes.specs.Numbers.{element, nat_of}
+use Rattle.awk_lanes.specs.Counted.{before}
+use Rattle.awk_lanes.specs.Numbers.{nat_of}
 use Rattle.awk_lanes.specs.Places.{size_of, at, place_at}
+use Rattle.awk_lanes.specs.Ranges.{AreNumbers}
+use Rattle.awk_lanes.specs.Words.{integers, column}
 use Rattle.awk_lanes.proofs.CountedLanes.{length-numbers, before_mono, before-next}
-use Rattle.awk_places.specs.Begun.{Begun, least_lane, stop_lane, reserved, longer, rest_count}
-use Rattle.awk_places.specs.Begun.{last_place, given_of, AreBegun, begun_by, begun_of, all_begun}
-use Rattle.awk_places.specs.Begun.{follow_count, follow_at, follow_lane, rest_at, rest_lane}
-use Rattle.awk_places.specs.Places.{next_place, next_after, places_from, rising_from}
-use Rattle.awk_places.specs.Places.{rising_places}
-use Rattle.awk_places.specs.Slots.{ArePlaces, tuples_of, tuple_count, slot_place, slot_lane}
-use Rattle.awk_places.specs.declared.begun.Gives.{Gives}
-use Rattle.awk_places.specs.declared.begun.Gives.TheVariants.{Place, Least, Stop}
+use Rattle.awk_places.specs.Begun.{longer, again, places_of, begun_of, all_begun, first_begun}
+use Rattle.awk_places.specs.Begun.{IsFew}
+use Rattle.awk_places.specs.Begun.{rest_count, last_place, IsSmall}
+use Rattle.awk_places.specs.Places.{rising_from, rising_places}
+use Rattle.awk_places.specs.Slots.{ArePlaces, tuple_count, slot_place, slot_lane}
+use Rattle.awk_places.specs.declared.begun.Begun.{Begun}
 use Rattle.awk_places.proofs.BegunLaws.{longer-one, IsLong, all_long, slot-one, last-one}
-use Rattle.awk_places.proofs.BegunLaws.{rising_from-shift, begun-few}
-use Rattle.awk_places.proofs.FlatLaws.{flat-flat, map-flat, flat-same, map-same, map-same-all}
-use Rattle.awk_places.proofs.FlatLaws.{map-in_place, numbers-each, numbers-flat, flat-same-range}
+use Rattle.awk_places.proofs.BegunLaws.{rising_from-shift}
+use Rattle.awk_places.proofs.FlatLaws.{flat-flat, map-flat, flat-same, map-same-all}
+use Rattle.awk_places.proofs.FlatLaws.{map-in_place, numbers-flat, flat-same-range}
 use Rattle.awk_places.proofs.RisingLaws.{rising_places-from}
-
-nothing : Begun
-nothing = record { least = 0; stop = 0 }
-
--- ---- lanes by what is begun
-
-place-least : (bs : List Begun) (i : ℕ) → i < length bs
-    → place_at (least_lane bs) i ≡ (get_or bs i nothing).least
-place-least bs i p = ap nat_of (get_or-map (λ (b : Begun). pos b.least) bs i nothing (pos 0) p)
-
-place-stop : (bs : List Begun) (i : ℕ) → i < length bs
-    → place_at (stop_lane bs) i ≡ (get_or bs i nothing).stop
-place-stop bs i p = ap nat_of (get_or-map (λ (b : Begun). pos b.stop) bs i nothing (pos 0) p)
-
-pub size-least : (bs : List Begun) → size_of (least_lane bs) ≡ length bs
-size-least bs = length-map bs (λ (b : Begun). pos b.least)
-
-pub are_begun : (bs : List Begun) → AreBegun (least_lane bs) (stop_lane bs)
-are_begun bs = record {
-  least_kind = refl;
-  stop_kind = refl;
-  same_size = size-least bs ∙ sym (length-map bs (λ (b : Begun). pos b.stop));
-  positive = λ i p.
-      let q : i < length bs = subst (λ n. i < n) (size-least bs) p in (
-        subst (λ z. pos 0 ≤ℤ z)
-            (sym (get_or-map (λ (b : Begun). pos b.least) bs i nothing (pos 0) q)) (omega (arith, ints)),
-        subst (λ z. pos 0 ≤ℤ z)
-            (sym (get_or-map (λ (b : Begun). pos b.stop) bs i nothing (pos 0) q)) (omega (arith, ints)),
-      );
-}
-
--- the numbers that places that may follow give
-follow_numbers : (gives : Gives) (rep : Bool) (left : ℕ) (bs : List Begun)
-    → numbers_of_lists (follow_at rep left (least_lane bs) (stop_lane bs))
-    (λ i k. given_of gives rep (place_at (least_lane bs) i) (place_at (stop_lane bs) i) k)
-    (length bs)
-    ≡ flat_map (λ (b : Begun). map (given_of gives rep b.least b.stop)
-    (range_with_len 0 (follow_count rep left b.least b.stop))) bs
-follow_numbers gives rep left bs =
-    numbers-each nothing (follow_at rep left (least_lane bs) (stop_lane bs))
-    (λ i k. given_of gives rep (place_at (least_lane bs) i) (place_at (stop_lane bs) i) k)
-    (λ (b : Begun). follow_count rep left b.least b.stop)
-    (λ (b : Begun) k. given_of gives rep b.least b.stop k) bs
-    (λ i p. ap₂ (follow_count rep left) (place-least bs i p) (place-stop bs i p))
-    (λ i k p. ap₂ (λ l s. given_of gives rep l s k) (place-least bs i p) (place-stop bs i p))
-
-follow_given : (gives : Gives) (rep : Bool) (left : ℕ) (bs : List Begun)
-    → (follow_lane gives rep left (least_lane bs) (stop_lane bs)).items
-    ≡ flat_map (λ (b : Begun). map (given_of gives rep b.least b.stop)
-    (range_with_len 0 (follow_count rep left b.least b.stop))) bs
-follow_given gives rep left bs =
-    ap (numbers_of_lists (follow_at rep left (least_lane bs) (stop_lane bs))
-    (λ i k. given_of gives rep (place_at (least_lane bs) i) (place_at (stop_lane bs) i) k))
-    (size-least bs)
-    ∙ follow_numbers gives rep left bs
-
-range-added : (a n : ℕ) → range_with_len a n ≡ map (λ k. a + k) (range_with_len 0 n)
-range-added a n = go a 0 n (omega arith)
-  where
-    go : (c b n : ℕ) → c ≡ a + b → range_with_len c n ≡ map (λ k. a + k) (range_with_len b n)
-    go c b zero e = refl
-    go c b (suc n) e =
-        ap₂ (λ k ks. k ∷ ks) e (go (c + 1) (b + 1) n (omega (arith, e)))
-
-longer-least : (rep : Bool) (left : ℕ) (b : Begun)
-    → map (given_of Least rep b.least b.stop)
-    (range_with_len 0 (follow_count rep left b.least b.stop))
-    ≡ map (λ (c : Begun). pos c.least) (longer rep left b)
-longer-least rep left b =
-    let n : ℕ = b.stop - reserved rep left - b.least in
-    sym (map-map (λ (k : ℕ). pos (next_place rep k)) (λ (k : ℕ). b.least + k) (range_with_len 0 n))
-    ∙ ap (map (λ (k : ℕ). pos (next_place rep k))) (sym (range-added b.least n))
-    ∙ sym (map-map (λ (c : Begun). pos c.least)
-    (λ (k : ℕ). record { least = next_place rep k; stop = b.stop }) (range_with_len b.least n))
-
-longer-stop : (rep : Bool) (left : ℕ) (b : Begun)
-    → map (given_of Stop rep b.least b.stop)
-    (range_with_len 0 (follow_count rep left b.least b.stop))
-    ≡ map (λ (c : Begun). pos c.stop) (longer rep left b)
-longer-stop rep left b =
-    let n : ℕ = b.stop - reserved rep left - b.least in
-    sym (map-map (λ (k : ℕ). pos b.stop) (λ (k : ℕ). b.least + k) (range_with_len 0 n))
-    ∙ ap (map (λ (k : ℕ). pos b.stop)) (sym (range-added b.least n))
-    ∙ sym (map-map (λ (c : Begun). pos c.stop)
-    (λ (k : ℕ). record { least = next_place rep k; stop = b.stop }) (range_with_len b.least n))
-
--- the lanes of what is begun, each with a place that may follow
-pub longer_leasts : (rep : Bool) (left : ℕ) (bs : List Begun)
-    → follow_lane Least rep left (least_lane bs) (stop_lane bs)
-    ≡ least_lane (flat_map (longer rep left) bs)
-longer_leasts rep left bs =
-    ap (λ zs. record { kind = I64; items = zs })
-    (follow_given Least rep left bs
-    ∙ flat-same (λ (b : Begun). map (given_of Least rep b.least b.stop)
-    (range_with_len 0 (follow_count rep left b.least b.stop)))
-    (λ b. map (λ (c : Begun). pos c.least) (longer rep left b)) (longer-least rep left) bs
-    ∙ sym (map-flat (λ (c : Begun). pos c.least) (longer rep left) bs))
-
-pub longer_stops : (rep : Bool) (left : ℕ) (bs : List Begun)
-    → follow_lane Stop rep left (least_lane bs) (stop_lane bs)
-    ≡ stop_lane (flat_map (longer rep left) bs)
-longer_stops rep left bs =
-    ap (λ zs. record { kind = I64; items = zs })
-    (follow_given Stop rep left bs
-    ∙ flat-same (λ (b : Begun). map (given_of Stop rep b.least b.stop)
-    (range_with_len 0 (follow_count rep left b.least b.stop)))
-    (λ b. map (λ (c : Begun). pos c.stop) (longer rep left b)) (longer-stop rep left) bs
-    ∙ sym (map-flat (λ (c : Begun). pos c.stop) (longer rep left) bs))
+use Rattle.awk_places.proofs.BegunLaws.{fits_longer, small_places, small_again}
+use Rattle.std.proofs.lemmas.List.FromFn.{map-range_with_len_more}
+use Rattle.awk_places.specs.Begun.{Fits}
 
 pub longer-all : (rep : Bool) (j left : ℕ) (s e : Column)
     → flat_map (longer rep left) (all_begun rep j (suc left) s e) ≡ all_begun rep (suc j) left s e
@@ -170,7 +65,7 @@ slot_by rep n j s e i p o =
     ∙ sym (map-in_place [] (slot_place rep n s e j i) (λ ks. pos (a + get_or ks j 0))
     (rising_places rep n d) (λ k q. refl))
 
-ordered-places : (s e : Column) → ArePlaces s e → (i : ℕ) → i < size_of s
+pub ordered-places : (s e : Column) → ArePlaces s e → (i : ℕ) → i < size_of s
     → place_at s i ≤ place_at e i
 ordered-places s e h i p = go (at s i) (at e i) (h.ordered i p)
   where
@@ -178,20 +73,6 @@ ordered-places s e h i p = go (at s i) (at e i) (h.ordered i p)
     go (pos a) (pos b) o = omega (arith, ints, o.1)
     go (pos a) (negsuc b) o = absurd (omega (arith, ints, o.0, o.1))
     go (negsuc a) y o = absurd (omega (arith, ints, o.0))
-
-rest_numbers : (rep : Bool) (left : ℕ) (bs : List Begun)
-    → (rest_lane rep left (least_lane bs) (stop_lane bs)).items
-    ≡ flat_map (λ (b : Begun). map (λ (k : ℕ). pos (last_place rep b.least))
-    (range_with_len 0 (rest_count rep left b.least b.stop))) bs
-rest_numbers rep left bs =
-    ap (numbers_of_lists (rest_at rep left (least_lane bs) (stop_lane bs))
-    (λ i k. pos (last_place rep (place_at (least_lane bs) i)))) (size-least bs)
-    ∙ numbers-each nothing (rest_at rep left (least_lane bs) (stop_lane bs))
-    (λ i k. pos (last_place rep (place_at (least_lane bs) i)))
-    (λ (b : Begun). rest_count rep left b.least b.stop)
-    (λ (b : Begun) k. pos (last_place rep b.least)) bs
-    (λ i p. ap₂ (rest_count rep left) (place-least bs i p) (place-stop bs i p))
-    (λ i k p. ap (λ l. pos (last_place rep l)) (place-least bs i p))
 
 slot_numbers : (rep : Bool) (n j : ℕ) (s e : Column) → ArePlaces s e → j < n
     → flat_map (λ i. map (λ ks. pos (get_or ks j 0))
@@ -204,133 +85,67 @@ slot_numbers rep n j s e h p =
     (λ i q r. slot_by rep n j s e i p (ordered-places s e h i (omega (arith, r))))
     ∙ sym (numbers-flat (tuple_count rep n s e) (slot_place rep n s e j) (size_of s))
 
+-- what is begun, by its places in a slot, list by list
+slot-each : (rep : Bool) (n j a b : ℕ) (s e : Column) (f : Begun → List ℕ) → ArePlaces s e → j < n
+    → ((i : ℕ) → flat_map f (begun_of rep a b s e i)
+    ≡ map (λ ks. get_or ks j 0) (rising_from rep n (place_at s i) (place_at e i)))
+    → integers (flat_map f (all_begun rep a b s e)) ≡ (slot_lane rep n s e j).items
+slot-each rep n j a b s e f h p q =
+    ap integers (flat-flat f (begun_of rep a b s e) (range_with_len 0 (size_of s)))
+    ∙ map-flat (λ (k : ℕ). pos k) (λ i. flat_map f (begun_of rep a b s e i))
+    (range_with_len 0 (size_of s))
+    ∙ flat-same (λ i. integers (flat_map f (begun_of rep a b s e i)))
+    (λ i. map (λ ks. pos (get_or ks j 0)) (rising_from rep n (place_at s i) (place_at e i)))
+    (λ i. ap integers (q i)
+    ∙ map-map (λ (k : ℕ). pos k) (λ (ks : List ℕ). get_or ks j 0)
+    (rising_from rep n (place_at s i) (place_at e i))) (range_with_len 0 (size_of s))
+    ∙ slot_numbers rep n j s e h p
+
 -- the last places of what is begun, each as often as it is continued, are those of a slot
 pub slot-rests : (rep : Bool) (n j left : ℕ) (s e : Column) → ArePlaces s e → n ≡ suc j + left
-    → rest_lane rep left (least_lane (all_begun rep (suc j) left s e))
-    (stop_lane (all_begun rep (suc j) left s e)) ≡ slot_lane rep n s e j
+    → integers (flat_map (again rep left) (all_begun rep (suc j) left s e))
+    ≡ (slot_lane rep n s e j).items
 slot-rests rep n j left s e h q =
-    let f : Begun → List ℤ = λ b. map (λ (k : ℕ). pos (last_place rep b.least))
-    (range_with_len 0 (rest_count rep left b.least b.stop)) in
-    ap (λ zs. record { kind = I64; items = zs })
-    (rest_numbers rep left (all_begun rep (suc j) left s e)
-    ∙ flat-flat f (begun_of rep (suc j) left s e) (range_with_len 0 (size_of s))
-    ∙ flat-same (λ i. flat_map f (begun_of rep (suc j) left s e i))
-    (λ i. map (λ ks. pos (get_or ks j 0)) (rising_from rep n (place_at s i) (place_at e i)))
+    slot-each rep n j (suc j) left s e (again rep left) h (omega (arith, q))
     (λ i. slot-one rep left j (place_at s i) (place_at e i)
-    ∙ ap (λ k. map (λ ks. pos (get_or ks j 0)) (rising_from rep k (place_at s i) (place_at e i)))
-    (sym q)) (range_with_len 0 (size_of s))
-    ∙ slot_numbers rep n j s e h (omega (arith, q)))
+    ∙ ap (λ k. map (λ ks. get_or ks j 0) (rising_from rep k (place_at s i) (place_at e i))) (sym q))
 
 -- the places that may follow last are those of the last slot
-pub slot-last : (rep : Bool) (j : ℕ) (s e : Column) → ArePlaces s e
-    → follow_lane Place true 0 (least_lane (all_begun rep j 1 s e))
-    (stop_lane (all_begun rep j 1 s e)) ≡ slot_lane rep (suc j) s e j
-slot-last rep j s e h =
-    let f : Begun → List ℤ = λ b. map (λ (k : ℕ). pos (b.least + k))
-    (range_with_len 0 (b.stop - 0 - b.least)) in
-    ap (λ zs. record { kind = I64; items = zs })
-    (follow_given Place true 0 (all_begun rep j 1 s e)
-    ∙ flat-flat f (begun_of rep j 1 s e) (range_with_len 0 (size_of s))
-    ∙ flat-same (λ i. flat_map f (begun_of rep j 1 s e i))
-    (λ i. map (λ ks. pos (get_or ks j 0))
-    (rising_from rep (suc j) (place_at s i) (place_at e i)))
-    (λ i. last-one rep j (place_at s i) (place_at e i)) (range_with_len 0 (size_of s))
-    ∙ slot_numbers rep (suc j) j s e h (omega arith))
+pub slot-last : (rep : Bool) (n j : ℕ) (s e : Column) → ArePlaces s e → n ≡ suc j
+    → integers (flat_map places_of (all_begun rep j 1 s e)) ≡ (slot_lane rep n s e j).items
+slot-last rep n j s e h q =
+    slot-each rep n j j 1 s e places_of h (omega (arith, q))
+    (λ i. last-one rep j (place_at s i) (place_at e i)
+    ∙ ap (λ k. map (λ ks. get_or ks j 0) (rising_from rep k (place_at s i) (place_at e i))) (sym q))
 
--- ---- how many numbers the lanes have
+-- ---- no part is more than all
 
-size-slot : (rep : Bool) (n j : ℕ) (s e : Column)
-    → size_of (slot_lane rep n s e j) ≡ before (tuple_count rep n s e) (size_of s)
-size-slot rep n j s e = length-numbers (tuple_count rep n s e) (slot_place rep n s e j) (size_of s)
+module _ {X Y : Type 0} (f : X → List Y) where
+  all_parts : (most : ℕ) (xs : List X) → length (flat_map f xs) ≤ most
+      → AllByRecursion (λ x. length (f x) ≤ most) xs
+  all_parts most [] p = tt
+  all_parts most (x ∷ xs) p =
+      let l = length-append (f x) (flat_map f xs) in
+      (omega (arith, p, l), all_parts most xs (omega (arith, p, l)))
 
-pub total-rests : (rep : Bool) (n j left : ℕ) (s e : Column) → ArePlaces s e → n ≡ suc j + left
-    → before (rest_at rep left (least_lane (all_begun rep (suc j) left s e))
-    (stop_lane (all_begun rep (suc j) left s e)))
-    (size_of (least_lane (all_begun rep (suc j) left s e)))
-    ≡ before (tuple_count rep n s e) (size_of s)
-total-rests rep n j left s e h q =
+pub few-rests : (rep : Bool) (n j left : ℕ) (s e : Column) → ArePlaces s e → n ≡ suc j + left
+    → before (tuple_count rep n s e) (size_of s) ≤ item_limit
+    → AllByRecursion (IsFew rep left) (all_begun rep (suc j) left s e)
+few-rests rep n j left s e h q few =
     let bs : List Begun = all_begun rep (suc j) left s e in
-    sym (length-numbers (rest_at rep left (least_lane bs) (stop_lane bs))
-    (λ i k. pos (last_place rep (place_at (least_lane bs) i))) (size_of (least_lane bs)))
-    ∙ ap size_of (slot-rests rep n j left s e h q) ∙ size-slot rep n j s e
-
-pub total-last : (rep : Bool) (j : ℕ) (s e : Column) → ArePlaces s e
-    → before (follow_at true 0 (least_lane (all_begun rep j 1 s e))
-    (stop_lane (all_begun rep j 1 s e))) (size_of (least_lane (all_begun rep j 1 s e)))
-    ≡ before (tuple_count rep (suc j) s e) (size_of s)
-total-last rep j s e h =
-    let bs : List Begun = all_begun rep j 1 s e in
-    sym (length-numbers (follow_at true 0 (least_lane bs) (stop_lane bs))
-    (λ i k. given_of Place true (place_at (least_lane bs) i) (place_at (stop_lane bs) i) k)
-    (size_of (least_lane bs)))
-    ∙ ap size_of (slot-last rep j s e h) ∙ size-slot rep (suc j) j s e
-
--- the lengths of lists joined
-length-flat : {X : Type 0} (g : ℕ → List X) (m : ℕ → ℕ) → ((i : ℕ) → length (g i) ≡ m i)
-    → (n : ℕ) → length (flat_map g (range_with_len 0 n)) ≡ before m n
-length-flat g m h n =
-    unit_length n
-    ∙ ap length (sym (numbers-flat m (λ i k. pos 0) n))
-    ∙ length-numbers m (λ i k. pos 0) n
+    let l : length (flat_map (again rep left) bs)
+    ≡ before (tuple_count rep n s e) (size_of s) =
+    sym (length-map (flat_map (again rep left) bs) (λ (k : ℕ). pos k))
+    ∙ ap length (slot-rests rep n j left s e h q)
+    ∙ length-numbers (tuple_count rep n s e) (slot_place rep n s e j) (size_of s) in
+    fewer bs (all_parts (again rep left) item_limit bs (omega (arith, l, few)))
   where
-    same : (a n : ℕ) → length (flat_map g (range_with_len a n))
-        ≡ length (flat_map (λ i. map (λ (k : ℕ). pos 0) (range_with_len 0 (m i)))
-        (range_with_len a n))
-    same a zero = refl
-    same a (suc n) =
-        length-append (g a) (flat_map g (range_with_len (a + 1) n))
-        ∙ ap₂ (λ x y. x + y) (h a ∙ sym (long (m a))) (same (a + 1) n)
-        ∙ sym (length-append (map (λ (k : ℕ). pos 0) (range_with_len 0 (m a)))
-        (flat_map (λ i. map (λ (k : ℕ). pos 0) (range_with_len 0 (m i)))
-        (range_with_len (a + 1) n)))
-      where
-        long : (k : ℕ) → length (map (λ (k : ℕ). pos 0) (range_with_len 0 k)) ≡ k
-        long k = length-map-range_with_len (λ (k : ℕ). pos 0) 0 k
-
-    unit_length : (n : ℕ) → length (flat_map g (range_with_len 0 n))
-        ≡ length (flat_map (λ i. map (λ (k : ℕ). pos 0) (range_with_len 0 (m i)))
-        (range_with_len 0 n))
-    unit_length n = same 0 n
-
-before-rises : (f g : ℕ → ℕ) (n : ℕ) → ((i : ℕ) → i < n → f i ≤ g i) → before f n ≤ before g n
-before-rises f g zero h = omega arith
-before-rises f g (suc n) h =
-    omega (
-      arith,
-      before-rises f g n (λ i p. h i (omega (arith, p))),
-      h n (omega arith),
-    )
-
--- what is begun is no more than the tuples
-pub few_begun : (rep : Bool) (n j left : ℕ) (s e : Column) → n ≡ suc j + left
-    → length (all_begun rep (suc j) left s e) ≤ before (tuple_count rep n s e) (size_of s)
-few_begun rep n j left s e q =
-    let m : ℕ → ℕ = λ i. length (begun_of rep (suc j) left s e i) in
-    let a = length-flat (begun_of rep (suc j) left s e) m (λ i. refl) (size_of s) in
-    let b = before-rises m (tuple_count rep n s e) (size_of s)
-    (λ i p. subst (λ k. m i ≤ length (rising_places rep k (place_at e i - place_at s i))) (sym q)
-    (subst (λ k. k ≤ length (rising_places rep (suc j + left) (place_at e i - place_at s i)))
-    (sym (length-map (rising_from rep (suc j) (place_at s i) (place_at e i - reserved rep left))
-    (begun_by rep (place_at s i) (place_at e i))))
-    (begun-few rep j left (place_at s i) (place_at e i)))) in
-    omega (arith, a, b)
-
--- the same, by what may follow one place less
-pub few_longer : (rep : Bool) (n j left : ℕ) (s e : Column) → n ≡ suc j + left
-    → before (follow_at rep left (least_lane (all_begun rep j (suc left) s e))
-    (stop_lane (all_begun rep j (suc left) s e)))
-    (size_of (least_lane (all_begun rep j (suc left) s e)))
-    ≤ before (tuple_count rep n s e) (size_of s)
-few_longer rep n j left s e q =
-    let bs : List Begun = all_begun rep j (suc left) s e in
-    let l = length-numbers (follow_at rep left (least_lane bs) (stop_lane bs))
-    (λ i k. given_of Least rep (place_at (least_lane bs) i) (place_at (stop_lane bs) i) k)
-    (size_of (least_lane bs)) in
-    let t : size_of (follow_lane Least rep left (least_lane bs) (stop_lane bs))
-    ≡ length (all_begun rep (suc j) left s e) =
-    ap size_of (longer_leasts rep left bs ∙ ap least_lane (longer-all rep j left s e))
-    ∙ size-least (all_begun rep (suc j) left s e) in
-    omega (arith, l, t, few_begun rep n j left s e q)
+    fewer : (bs : List Begun) → AllByRecursion (λ b. length (again rep left b) ≤ item_limit) bs
+        → AllByRecursion (IsFew rep left) bs
+    fewer [] h = tt
+    fewer (b ∷ bs) h =
+        let l = length-replicate (rest_count rep left b.least b.stop) (last_place rep b.least) in
+        (omega (arith, l, h.0), fewer bs h.1)
 
 -- none has more than all
 pub one_within : (m : ℕ → ℕ) (n i : ℕ) → i < n → m i ≤ before m n
@@ -339,41 +154,88 @@ one_within m n i p =
 
 -- ---- where nothing is begun yet
 
-as_places : (c : Column) → c.kind ≡ I64 → ((i : ℕ) → i < size_of c → pos 0 ≤ℤ at c i)
-    → record { kind = I64; items = map (λ i. pos (place_at c i)) (range_with_len 0 (size_of c)) } ≡ c
-as_places c k h =
-    ap₂ (λ kind zs. record { kind = kind; items = zs }) (sym k)
-    (map-in_place (pos 0) (λ i. pos (place_at c i)) (λ z. z) c.items
-    (λ i p. kept (at c i) (h i p)
-    ∙ ap (λ kind. element kind (get_or c.items i (pos 0))) k)
-    ∙ map-id c.items)
+pub all_first : (rep : Bool) (n : ℕ) (s e : Column)
+    → map (first_begun s e) (range_with_len 0 (size_of s)) ≡ all_begun rep 0 n s e
+all_first rep n s e = sym (flat_map_single (first_begun s e) (range_with_len 0 (size_of s)))
+
+-- ---- places as a lane
+
+pub are_numbers : (ns : List ℕ) → AllByRecursion IsSmall ns → AreNumbers (column I64 (integers ns))
+are_numbers ns h i = go ns i h
   where
-    kept : (z : ℤ) → pos 0 ≤ℤ z → pos (nat_of z) ≡ z
-    kept (pos n) p = refl
-    kept (negsuc n) p = absurd (omega (arith, ints, p))
+    go : (ns : List ℕ) (i : ℕ) → AllByRecursion IsSmall ns
+        → (negsuc 9223372036854775807 ≤ℤ get_or (integers ns) i (pos 0))
+        × (get_or (integers ns) i (pos 0) ≤ℤ pos 9223372036854775807)
+    go [] i h = (omega (arith, ints), omega (arith, ints))
+    go (n ∷ ns) zero h = (omega (arith, ints), omega (arith, ints, h.0))
+    go (n ∷ ns) (suc i) h = go ns i h.1
 
-pub first_leasts : (rep : Bool) (n : ℕ) (s e : Column) → ArePlaces s e
-    → least_lane (all_begun rep 0 n s e) ≡ s
-first_leasts rep n s e h =
-    ap (λ bs. least_lane bs)
-    (flat_map_single (λ i. record { least = place_at s i; stop = place_at e i })
-    (range_with_len 0 (size_of s)))
-    ∙ ap (λ zs. record { kind = I64; items = zs })
-    (map-map (λ (b : Begun). pos b.least)
-    (λ (i : ℕ). record { least = place_at s i; stop = place_at e i })
-    (range_with_len 0 (size_of s)))
-    ∙ as_places s h.first_kind (λ i p. (h.ordered i p).0)
+-- ---- slot after slot
 
-pub first_stops : (rep : Bool) (n : ℕ) (s e : Column) → ArePlaces s e
-    → stop_lane (all_begun rep 0 n s e) ≡ e
-first_stops rep n s e h =
-    ap (λ bs. stop_lane bs)
-    (flat_map_single (λ i. record { least = place_at s i; stop = place_at e i })
-    (range_with_len 0 (size_of s)))
-    ∙ ap (λ zs. record { kind = I64; items = zs })
-    (map-map (λ (b : Begun). pos b.stop)
-    (λ (i : ℕ). record { least = place_at s i; stop = place_at e i })
-    (range_with_len 0 (size_of s))
-    ∙ ap (λ n. map (λ i. pos (place_at e i)) (range_with_len 0 n)) h.same_size)
-    ∙ as_places e h.end_kind
-    (λ i p. omega (arith, ints, h.ordered i (omega (arith, p, h.same_size))))
+module _ (rep : Bool) (n j : ℕ) (s e : Column) where
+  pub step_begun : (bs cs : List Begun) → j < n - 1 → bs ≡ all_begun rep j (n - j) s e
+      → cs ≡ flat_map (longer rep (n - 1 - j)) bs → cs ≡ all_begun rep (j + 1) (n - (j + 1)) s e
+  step_begun bs cs l p q =
+      let left : ℕ = n - 1 - j in
+      let a : n - j ≡ suc left = omega (arith, l) in
+      let b : left ≡ n - (j + 1) = omega (arith, l) in
+      let c : suc j ≡ j + 1 = omega arith in
+      q ∙ ap (flat_map (longer rep left)) (p ∙ ap (λ k. all_begun rep j k s e) a)
+      ∙ longer-all rep j left s e
+      ∙ ap₂ (λ i k. all_begun rep i k s e) c b
+
+  abbrev IsAfter : List Begun → Type 0
+  IsAfter cs = cs ≡ all_begun rep (j + 1) (n - (j + 1)) s e
+
+  after_is : (cs : List Begun) → j < n - 1 → IsAfter cs
+      → cs ≡ all_begun rep (suc j) (n - 1 - j) s e
+  after_is cs l p =
+      let b : n - (j + 1) ≡ n - 1 - j = omega (arith, l) in
+      let c : j + 1 ≡ suc j = omega arith in
+      p ∙ ap₂ (λ i k. all_begun rep i k s e) c b
+
+  pub rests_few : (cs : List Begun) → ArePlaces s e → j < n - 1 → IsAfter cs
+      → before (tuple_count rep n s e) (size_of s) ≤ item_limit
+      → AllByRecursion (IsFew rep (n - 1 - j)) cs
+  rests_few cs h l p f =
+      subst (AllByRecursion (IsFew rep (n - 1 - j))) (sym (after_is cs l p))
+      (few-rests rep n j (n - 1 - j) s e h (omega (arith, l)) f)
+
+  pub rests_lane : (cs : List Begun) (ks : List ℕ) → ArePlaces s e → j < n - 1 → IsAfter cs
+      → ks ≡ flat_map (again rep (n - 1 - j)) cs
+      → column I64 (integers ks) ≡ slot_lane rep n s e j
+  rests_lane cs ks h l p q =
+      ap (λ xs. column I64 (integers xs))
+      (q ∙ ap (flat_map (again rep (n - 1 - j))) (after_is cs l p))
+      ∙ ap (column I64) (slot-rests rep n j (n - 1 - j) s e h (omega (arith, l)))
+
+  pub last_lane : (bs : List Begun) (ks : List ℕ) → ArePlaces s e → n ≡ j + 1
+      → bs ≡ all_begun rep j (n - j) s e → ks ≡ flat_map places_of bs
+      → column I64 (integers ks) ≡ slot_lane rep n s e j
+  last_lane bs ks h l p q =
+      let a : n - j ≡ 1 = omega (arith, l) in
+      ap (λ xs. column I64 (integers xs))
+      (q ∙ ap (flat_map places_of) (p ∙ ap (λ k. all_begun rep j k s e) a))
+      ∙ ap (column I64) (slot-last rep n j s e h (omega (arith, l)))
+
+  -- one lane more
+  pub lanes_more : (xs ys : List Column) (x : Column)
+      → xs ≡ map (slot_lane rep n s e) (range_with_len 0 j) → x ≡ slot_lane rep n s e j
+      → ys ≡ xs ++ x ∷ [] → ys ≡ map (slot_lane rep n s e) (range_with_len 0 (j + 1))
+  lanes_more xs ys x p q r =
+      let z : 0 + j ≡ j = omega arith in
+      r ∙ ap₂ (λ us u. us ++ u ∷ []) p q
+      ∙ sym (map-range_with_len_more (slot_lane rep n s e) 0 j j z)
+
+pub fits_after : (rep : Bool) (left : ℕ) (bs cs : List Begun) → AllByRecursion Fits bs
+    → cs ≡ flat_map (longer rep left) bs → AllByRecursion Fits cs
+fits_after rep left bs cs h p = subst (AllByRecursion Fits) (sym p) (fits_longer rep left bs h)
+
+pub rests_small : (rep : Bool) (left : ℕ) (cs : List Begun) (ks : List ℕ)
+    → AllByRecursion Fits cs → ks ≡ flat_map (again rep left) cs → AllByRecursion IsSmall ks
+rests_small rep left cs ks h p =
+    subst (AllByRecursion IsSmall) (sym p) (small_again rep left cs h)
+
+pub last_small : (bs : List Begun) (ks : List ℕ) → AllByRecursion Fits bs
+    → ks ≡ flat_map places_of bs → AllByRecursion IsSmall ks
+last_small bs ks h p = subst (AllByRecursion IsSmall) (sym p) (small_places bs h)

@@ -1,6 +1,6 @@
 -- Lists of places: one of each of several lists, and those of one list that go up.
 use Rattle.std.specs.Prelude.{◌≡◌, ℕ, zero, suc, ◌+◌, ◌-◌, ◌*◌, ◌<◌, ◌≤◌, Option, Some, None, Bool}
-use Rattle.std.specs.Prelude.{true, false, ◌&&◌, nat_le, if◌then◌else◌}
+use Rattle.std.specs.Prelude.{true, ◌&&◌, nat_le, if◌then◌else◌}
 use Rattle.std.specs.Prelude.{List, [], ◌∷◌, ◌++◌, map, filter}
 use Rattle.std.specs.List.{range_with_len, flat_map}
 use Rattle.awk_types.specs.ItemLimit.{item_limit}

@@ -1,10 +1,9 @@
-//! Places read from lanes, and items counted.
-ghost use Rattle.std.specs.Prelude.{◌≡◌, ◌<◌, ◌≤◌, ◌^◌, ◌≤ℤ◌, pos};
-ghost use Rattle.awk_lanes.specs.Counted.{before};
+//! Places read from lanes.
+ghost use Rattle.std.specs.Prelude.{◌≡◌, ◌<◌, ◌^◌, ◌≤ℤ◌, pos};
 ghost use Rattle.awk_lanes.specs.Places.{size_of, at, place_at};
 ghost use Rattle.awk_lanes.specs.declared.kind.Kind.TheVariants as Kinds;
 
-use awk_lanes::{Lane, Lengths, Steps, index_at};
+use awk_lanes::{Lane, Steps, index_at};
 use std::sync::ledger::Ledger;
 
 /// The place at place i of a lane.
@@ -16,18 +15,4 @@ pub(crate) fn place_of<L: Ledger>(lane: &Lane, i: u64, steps: &mut Steps<L>) -> 
     ensures fits { result < 2 ^ 63 }
 {
     index_at(lane, i, steps) as u64
-}
-
-/// How many items the first n lists have together.
-pub(crate) fn count_items<S: Lengths, L: Ledger>(n: u64, source: &S, steps: &mut Steps<L>) -> u64
-    requires ready { S.IsReady source.now }
-    requires within { n ≤ S.size source.now }
-    requires small { before (S.length source.now) n < 2 ^ 63 }
-    ensures { result ≡ before (S.length source.now) n }
-{
-    let mut total = 0;
-    for i in 0..n {
-        total += source.length(i, steps);
-    }
-    total
 }

@@ -1,15 +1,19 @@
 //! Lanes of the places of tuples, one a slot.
 ghost use Rattle.std.specs.Prelude.{◌≡◌, ◌<◌, ◌≤◌, ◌^◌, [], IfOk};
+ghost use Rattle.std.specs.List.{AllByRecursion};
 ghost use Rattle.awk_types.specs.ItemLimit.{item_limit};
 ghost use Rattle.awk_lanes.specs.Counted.{before, AreOffsetsBy};
 ghost use Rattle.awk_lanes.specs.Places.{size_of};
+ghost use Rattle.awk_lanes.specs.Words.{column, integers};
+ghost use Rattle.awk_lanes.specs.declared.kind.Kind.TheVariants as Kinds;
+ghost use Rattle.awk_places.specs.Begun.{IsSmall};
 ghost use Rattle.awk_places.specs.Places.{IsCounted};
 ghost use Rattle.awk_places.specs.Slots.{ArePlaces, tuple_count, slot_lanes};
 
-use crate::begun::{Begun, last_slot, longer, slot_of};
+use crate::begun::{first_begun, last_slot, longer, slot_of};
 use crate::counts::count_rising;
 use crate::reading::place_of;
-use awk_lanes::{Arena, Kind, Lane, LaneMaker, Lanes, Offsets, Steps, number};
+use awk_lanes::{Arena, Kind, Lane, LaneMaker, Lanes, Offsets, Steps, lane_of_nats, number};
 use awk_types::{ITEM_LIMIT, NoMemory};
 use std::alloc::Global;
 use std::sync::ledger::Ledger;
@@ -97,6 +101,14 @@ pub fn rising_lanes<'a, L: Ledger>(
     some_lanes(alloc, rising, total, firsts, ends, arena, steps)
 }
 
+/// Places as a lane.
+fn lane_of_places<'a>(places: &[u64], arena: &'a Arena) -> Result<Lane<'a>, NoMemory>
+    requires { AllByRecursion IsSmall places.now }
+    ensures { IfOk result (λ r. r ≡ column Kinds.I64 (integers places.now)) }
+{
+    lane_of_nats(Kind::I64, places, arena)
+}
+
 /// The same, where a tuple has a slot.
 fn some_lanes<'a, L: Ledger>(
     alloc: Global,
@@ -116,15 +128,14 @@ fn some_lanes<'a, L: Ledger>(
         r ≡ slot_lanes rising.replacement rising.slots firsts.now ends.now) }
 {
     let mut lanes = Lanes::new(alloc);
-    let mut begun = Begun {
-        leasts: firsts.copy(),
-        stops: ends.copy(),
-    };
+    let mut begun = first_begun(alloc, firsts, ends, steps)?;
     for slot in 0..rising.slots - 1 {
         let left = rising.slots - 1 - slot;
-        begun = longer(rising.replacement, left, &begun, arena, steps)?;
-        lanes.push(slot_of(rising.replacement, left, total, &begun, arena, steps)?)?;
+        begun = longer(alloc, rising.replacement, left, &begun)?;
+        let places = slot_of(alloc, rising.replacement, left, total, &begun)?;
+        lanes.push(lane_of_places(&places, arena)?)?;
     }
-    lanes.push(last_slot(total, &begun, arena, steps)?)?;
+    let places = last_slot(alloc, total, &begun)?;
+    lanes.push(lane_of_places(&places, arena)?)?;
     Ok(lanes)
 }

@@ -1,12 +1,12 @@
 -- Lanes of leaves, and which kinds of arrays have one.
-use Rattle.std.proofs.Common.{◌≡◌, ℕ, zero, suc, refl, ap, sym, ◌∙◌, subst, true≢false, map, []}
+use Rattle.std.proofs.Common.{◌≡◌, refl, ap, sym, ◌∙◌, true≢false, map, []}
 use Rattle.std.proofs.Common.{List}
-use Rattle.std.specs.Prelude.{ℤ, pos, negsuc, true, false, Bool, Option, Some, None, if◌then◌else◌}
+use Rattle.std.specs.Prelude.{ℤ, pos, true, false, Bool, Option, Some, None, if◌then◌else◌}
 use Rattle.std.specs.List.{range_with_len}
 use Rattle.awk_types.specs.DataType.{DataType, Name, unknown, leaf, var, reg, rec, tup, opt, uni}
 use Rattle.awk_types.specs.Predicates.{is_leaf}
 use Rattle.awk_types.specs.Simple.{present, is_option}
-use Rattle.awk_types.specs.Value.{Value, int, truth}
+use Rattle.awk_types.specs.Value.{truth}
 use Rattle.awk_lanes.specs.Column.{Column}
 use Rattle.awk_lanes.specs.Numbers.{element, is_nonzero}
 use Rattle.awk_lanes.specs.Places.{size_of, at}
@@ -146,3 +146,20 @@ number_of-leaf_value kind.U8 z = refl
 number_of-leaf_value kind.U16 z = refl
 number_of-leaf_value kind.U32 z = refl
 number_of-leaf_value kind.U64 z = refl
+
+-- what is read of a number is read so again
+truth_twice : (b : Bool)
+    → pos (if is_nonzero (pos (if b then 1 else 0)) then 1 else 0) ≡ pos (if b then 1 else 0)
+truth_twice true = refl
+truth_twice false = refl
+
+pub element-twice : (k : Kind) (z : ℤ) → element k (element k z) ≡ element k z
+element-twice kind.Bool z = truth_twice (is_nonzero z)
+element-twice kind.I8 z = refl
+element-twice kind.I16 z = refl
+element-twice kind.I32 z = refl
+element-twice kind.I64 z = refl
+element-twice kind.U8 z = refl
+element-twice kind.U16 z = refl
+element-twice kind.U32 z = refl
+element-twice kind.U64 z = refl

@@ -1,4 +1,6 @@
 pub mod LeafLaws
 pub mod SliceLaws
-pub mod IndexLaws
+pub mod FlagLaws
+pub mod TakenLanes
+pub mod NamedLaws
 pub mod PresentLaws

@@ -1,42 +1,47 @@
 -- Numbers of the items that are present, list by list.
-use Rattle.std.proofs.Common.{◌≡◌, ℕ, zero, suc, ◌+◌, ◌-◌, ◌≤◌, ◌<◌, ◌^◌, List, [], ◌∷◌, length}
-use Rattle.std.proofs.Common.{take}
-use Rattle.std.proofs.Common.{drop, map, get_or, refl, ap, ap₂, sym, ◌∙◌, subst, arith, add-one}
-use Rattle.std.specs.Prelude.{ℤ, pos, ◌≤ℤ◌, int_le, Bool, true, cond, ◌&&◌, position, Option, Some}
-use Rattle.std.specs.Prelude.{None, filter}
-use Rattle.std.specs.List.{slice_range, range_with_len}
+use Rattle.std.proofs.Common.{◌≡◌, ℕ, zero, suc, ◌+◌, ◌≤◌, ◌<◌, List, [], ◌∷◌, ◌++◌, length, take}
+use Rattle.std.proofs.Common.{map, get_or, refl, ap, ap₂, sym, ◌∙◌, subst, arith}
+use Rattle.std.specs.Prelude.{ℤ, pos, negsuc, ◌<ℤ◌, true, cond, ◌&&◌, position, Option, Some, None}
+use Rattle.std.specs.List.{slice_range, range_with_len, flat_map}
 use Rattle.std.specs.Option.{option_map}
 use Rattle.std.specs.Ordering.{int_eq}
 use Rattle.std.proofs.lemmas.Int.{ints}
-use Rattle.std.proofs.lemmas.List.{length-map}
-use Rattle.std.proofs.lemmas.List.FromFn.{length-map-range_with_len}
+use Rattle.std.proofs.lemmas.List.{length-map, take_all}
 use Rattle.std.proofs.lemmas.List.Edits.{length-between}
+use Rattle.std.proofs.lemmas.List.FromFn.{length-map-range_with_len, get_or-map-range_with_len}
 use Rattle.std.proofs.lemmas.List.Sums.{length-filter, count_by-le-length}
-use Rattle.awk_types.specs.DataType.{leaf, opt}
 use Rattle.awk_types.specs.Predicates.{is_leaf}
-use Rattle.awk_types.specs.Value.{Value}
+use Rattle.awk_types.specs.Value.{Value, null}
 use Rattle.awk_lanes.specs.Column.{Column}
 use Rattle.awk_lanes.specs.Counted.{before, offsets_by}
-use Rattle.awk_lanes.specs.Numbers.{element, nat_of}
-use Rattle.awk_lanes.specs.Places.{size_of, at, place_at, IsIndexKind}
-use Rattle.awk_lanes.specs.declared.kind.Kind.{Kind}
+use Rattle.awk_lanes.specs.Numbers.{element}
+use Rattle.awk_lanes.specs.Places.{size_of, at, place_at, option_place, option_place_at}
+use Rattle.awk_lanes.specs.Places.{IsOptionalIndex}
 use Rattle.awk_lanes.specs.declared.kind.Kind.TheVariants.{I64}
+use Rattle.awk_lanes.proofs.CountedLanes.{place-offsets}
 use Rattle.awk_lanes.proofs.MadeLanes.{at-lane_of, size-lane_of}
-use Rattle.awk_layout.specs.Item.{leaf_value}
+use Rattle.awk_layout.specs.Item.{leaf_value, at_option}
 use Rattle.awk_layout.specs.Kinds.{kind_of}
 use Rattle.awk_layout.specs.Layout.{Layout}
 use Rattle.awk_layout.specs.Typing.{array_type, array_items}
-use Rattle.awk_columns.specs.Columns.{is_present, present_values, option_index}
+use Rattle.awk_layout.specs.Valid.{len}
+use Rattle.awk_gather.specs.Arrays.{array_item}
+use Rattle.awk_open.specs.Opened.{IsOpened}
+use Rattle.awk_open.specs.declared.opening.Opened.TheVariants as opened
+use Rattle.awk_columns.specs.Columns.{is_present, present_values}
+use Rattle.awk_columns.specs.Counted.{first_of, present_place, present_at}
+use Rattle.awk_columns.proofs.ArrayLaws.{array_items-at}
+use Rattle.awk_columns.proofs.OrderedOptions.{map-same}
 use Rattle.awk_numbers.specs.Folds.{lane_numbers}
+use Rattle.awk_numbers.specs.Places.{is_place}
 use Rattle.awk_numbers.proofs.PartLaws.{slice_range-map}
 use Rattle.awk_parts.specs.Parts.{AreRising, part_at}
 use Rattle.awk_present.specs.Numbers.{leaf_of, number_of, numbers, number_place}
-use Rattle.awk_present.specs.Present.{AreLeaves, list_at, present_in, present_before, count_present}
-use Rattle.awk_present.specs.Present.{ArePresentOffsets, LeadsBack, ArePresent}
-use Rattle.awk_present.specs.declared.present.Present.{Present}
-use Rattle.awk_present.proofs.IndexLaws.{counted_part, part_index, leads_back}
-use Rattle.awk_present.proofs.IndexLaws.{length-option_index}
-use Rattle.awk_present.proofs.LeafLaws.{present-leaf_value, number_of-leaf_value}
+use Rattle.awk_present.specs.Present.{AreLeaves, list_at, present_in, present_before, taken_lane}
+use Rattle.awk_present.specs.Present.{ArePresent}
+use Rattle.awk_present.proofs.FlagLaws.{IsFlagged, part_flagged, count_flagged, length_flagged}
+use Rattle.awk_present.proofs.FlagLaws.{leads_to}
+use Rattle.awk_present.proofs.LeafLaws.{present-leaf_value, number_of-leaf_value, element-twice}
 use Rattle.awk_present.proofs.LeafLaws.{leaf_of-opt}
 use Rattle.awk_present.proofs.SliceLaws.{slice-filter, kept-more, kept-few}
 use Rattle.awk_present.proofs.SliceLaws.{map-places, position-cons}
@@ -125,110 +130,190 @@ counts_small js o n (suc i) r l =
     let one : i + 1 ≡ suc i = omega arith in
     let up = r.ordered i (omega (arith, l)) in
     let here = counts_small js o n i r (omega (arith, l)) in
-    let part = slice_range js (place_at o i) (place_at o (i + 1)) in
-    let few : count_present part ≤ length part = count_by-le-length (λ j. int_le (pos 0) j) part in
+    let part = part_at js o i in
+    let few : present_in js o i ≤ length part = count_by-le-length is_place part in
     let long = length-between js (place_at o i) (place_at o (i + 1))
     (r.within (i + 1) (omega (arith, l))) in
     subst (λ k. before (present_in js o) i + present_in js o i ≤ place_at o k) one
     (omega (arith, up, here, few, long))
 
-counts_before : (vs : List Value) (o : Column) (n i : ℕ) → AreRising o n (length vs)
-    → place_at o 0 ≡ 0 → i ≤ n
-    → before (present_in (option_index 0 vs) o) i ≡ present_before vs o i
-counts_before vs o n zero r f l = sym (ap (λ k. length (present_values (take k vs))) f)
-counts_before vs o n (suc i) r f l =
+counts_before : (js : List ℤ) (vs : List Value) (o : Column) (n i : ℕ) → IsFlagged js vs
+    → AreRising o n (length vs) → place_at o 0 ≡ 0 → i ≤ n
+    → before (present_in js o) i ≡ present_before vs o i
+counts_before js vs o n zero h r f l = sym (ap (λ k. length (present_values (take k vs))) f)
+counts_before js vs o n (suc i) h r f l =
     let one : i + 1 ≡ suc i = omega arith in
-    let m = present_in (option_index 0 vs) o in
+    let m = present_in js o in
+    let part = part_flagged js vs (place_at o i) (place_at o (i + 1)) h in
     subst (λ k. before m i + m i ≡ present_before vs o k) one
-    (ap₂ (λ a b. a + b) (counts_before vs o n i r f (omega (arith, l)))
-    (counted_part vs (place_at o i) (place_at o (i + 1)))
+    (ap₂ (λ a b. a + b) (counts_before js vs o n i h r f (omega (arith, l)))
+    (count_flagged (part_at js o i) (list_at vs o i) part)
     ∙ sym (kept-more is_present vs (place_at o i) (place_at o (i + 1))
     (r.ordered i (omega (arith, l)))))
 
-pub present_offsets-are : (vs : List Value) (js : List ℤ) (o : Column) (n : ℕ) (p : Column)
-    → js ≡ option_index 0 vs → AreRising o n (length js) → place_at o 0 ≡ 0
-    → p ≡ offsets_by (present_in js o) n → ArePresentOffsets vs o n p
-present_offsets-are vs js o n p e r f h =
-    let long : length js ≡ length vs = ap length e ∙ length-option_index 0 vs in
-    let places : ℕ → ℤ = λ i. pos (before (present_in js o) i) in
-    record {
-      kind = ap (λ (c : Column). c.kind) h;
-      size = ap size_of h ∙ size-lane_of I64 (n + 1) places;
-      places = λ i l.
-          ap (λ c. at c i) h ∙ at-lane_of I64 (n + 1) places i l
-          ∙ ap (λ ks. pos (before (present_in ks o) i)) e
-          ∙ ap (λ k. pos k) (counts_before vs o n i (subst (AreRising o n) long r) f
-          (omega (arith, l)));
-    }
-
 -- ---- items some of which may be null
 
-module _ (x y : Layout) (j c o p : Column) (n : ℕ) (t : array_type x ≡ opt (array_type y))
-    (leaves : is_leaf (array_type y) ≡ true)
-    (index : j ≡ record { kind = I64; items = option_index 0 (array_items x) })
-    (content : array_items y ≡ filter is_present (array_items x)) (h : AreLeaves y c)
-    (r : AreRising o n (length (array_items x))) (q : ArePresentOffsets (array_items x) o n p) where
-  abbrev vs : List Value
-  vs = array_items x
+module _ (j c : Column) where
+  -- the item of an option whose content is a lane
+  abbrev there : ℕ → Value
+  there i = at_option (option_place_at j i) (leaf_at c)
 
-  start : (i : ℕ) → i < n + 1 → place_at p i ≡ present_before vs o i
-  start i l = ap nat_of (q.places i l)
+  flag : (z : ℤ) → is_place z ≡ is_present (at_option (option_place z) (leaf_at c))
+  flag (pos k) =
+      let yes : is_place (pos k) ≡ true = grind (arith, ints) in
+      yes ∙ sym (present-leaf_value c.kind (at c k))
+  flag (negsuc k) = refl
 
-  numbers_all : lane_numbers c ≡ numbers vs
-  numbers_all = sym (all_numbers c y h) ∙ ap (map number_of) content
+  flags : (is : List ℕ) → IsFlagged (map (at j) is) (map there is)
+  flags [] = refl
+  flags (i ∷ is) = ap₂ (λ b bs. b ∷ bs) (flag (at j i)) (flags is)
 
-  numbers_part : (i : ℕ) → i < n → part_at (lane_numbers c) p i ≡ numbers (list_at vs o i)
-  numbers_part i l =
-      ap₂ (slice_range (lane_numbers c)) (start i (omega (arith, l)))
-      (start (i + 1) (omega (arith, l)))
-      ∙ ap (λ zs. slice_range zs (present_before vs o i) (present_before vs o (i + 1))) numbers_all
-      ∙ slice_range-map number_of (present_values vs) (present_before vs o i)
-      (present_before vs o (i + 1))
-      ∙ ap (map number_of) (sym (slice-filter is_present vs (place_at o i) (place_at o (i + 1))
-      (r.ordered i l)))
+  numbers_first : (o : Option ℕ) (vs : List Value) (ks : List ℕ) → numbers vs ≡ map (at c) ks
+      → numbers (at_option o (leaf_at c) ∷ vs) ≡ map (at c) (present_place o ++ ks)
+  numbers_first None vs ks h = h
+  numbers_first (Some k) vs ks h =
+      ap (λ b. map number_of (cond b (leaf_at c k ∷ present_values vs) (present_values vs)))
+      (present-leaf_value c.kind (at c k))
+      ∙ ap₂ (λ z zs. z ∷ zs) (number_of-leaf_value c.kind (get_or c.items k (pos 0))) h
 
-  count : size_of c ≡ length (present_values vs)
-  count = sym (leaves-count c y h) ∙ ap length content
+  numbers_there : (is : List ℕ) → numbers (map there is) ≡ map (at c) (flat_map (present_at j) is)
+  numbers_there [] = refl
+  numbers_there (i ∷ is) =
+      numbers_first (option_place_at j i) (map there is) (flat_map (present_at j) is)
+      (numbers_there is)
 
-  rises : AreRising p n (size_of c)
-  rises = record {
-    kind = subst (λ k. IsIndexKind k) (sym q.kind) tt;
-    size = q.size;
-    positive = λ i l. rw (q.places i (omega (arith, l))) (omega (arith, ints));
-    ordered = λ i l.
-        omega (
-          arith,
-          start i (omega (arith, l)),
-          start (i + 1) (omega (arith, l)),
-          kept-more is_present vs (place_at o i) (place_at o (i + 1)) (r.ordered i l),
-        );
-    within = λ i l.
-        omega (arith, start i (omega (arith, l)), kept-few is_present vs (place_at o i), count);
-  }
+  twice : (ks : List ℕ) → map (element c.kind) (map (at c) ks) ≡ map (at c) ks
+  twice [] = refl
+  twice (k ∷ ks) =
+      ap₂ (λ z zs. z ∷ zs) (element-twice c.kind (get_or c.items k (pos 0))) (twice ks)
 
-  pub option_present : ArePresent x o n (record { lane = c; offsets = p; index = Some j })
-  option_present = record {
-    kind = h.kind ∙ ap kind_of (sym (ap leaf_of t ∙ leaf_of-opt (array_type y) leaves));
-    rising = rises;
-    few = omega (arith, count, length-filter is_present vs, count_by-le-length is_present vs);
-    parts = numbers_part;
-    index = (
-      ap (λ (c : Column). c.kind) index,
-      ap size_of index ∙ length-option_index 0 vs,
-    );
-    places = λ i k z l e.
-        let back = leads_back (list_at vs o i) z (present_before vs o i) k
-        (sym (ap (position (int_eq z)) (numbers_part i l)) ∙ e) in (
-          back.0,
-          back.1,
-          ap (λ m. position (int_eq (pos (m + k)))
-              (slice_range j.items (place_at o i) (place_at o (i + 1))))
-              (start i (omega (arith, l)))
-              ∙ ap (λ js. position (int_eq (pos (present_before vs o i + k)))
-              (slice_range js (place_at o i) (place_at o (i + 1))))
-              (ap (λ (c : Column). c.items) index)
-              ∙ ap (position (int_eq (pos (present_before vs o i + k))))
-              (part_index vs (place_at o i) (place_at o (i + 1)))
-              ∙ back.2,
-        );
-  }
+  abbrev places : List ℕ
+  places = first_of (present_at j) (size_of j)
+
+  -- ---- of an array that is such an option
+
+  module _ (x y : Layout) (opens : IsOpened x (opened.Option j y)) (h : AreLeaves y c) where
+    abbrev vs : List Value
+    vs = array_items x
+
+    abbrev js : List ℤ
+    js = lane_numbers j
+
+    content-count : len y ≡ size_of c
+    content-count =
+        sym (length-map-range_with_len (array_item y) 0 (len y))
+        ∙ sym (ap length (array_items-at y))
+        ∙ leaves-count c y h
+
+    pub index_into : IsOptionalIndex j (size_of c)
+    index_into = subst (IsOptionalIndex j) content-count opens.valid.1
+
+    content_at : (k : ℕ) → k < len y → array_item y k ≡ leaf_at c k
+    content_at k l =
+        sym (get_or-map-range_with_len (array_item y) 0 (len y) k k null l (omega arith))
+        ∙ ap (λ ws. get_or ws k null) (sym (array_items-at y) ∙ h.items)
+        ∙ get_or-map-range_with_len (leaf_at c) 0 (size_of c) k k null
+        (omega (arith, l, content-count)) (omega arith)
+
+    item_by : (z : ℤ) → z <ℤ pos (len y)
+        → at_option (option_place z) (array_item y) ≡ at_option (option_place z) (leaf_at c)
+    item_by (pos k) l = content_at k (omega (arith, ints, l))
+    item_by (negsuc k) l = refl
+
+    item_there : (i : ℕ) → i < len x → array_item x i ≡ there i
+    item_there i l =
+        opens.items i l ∙ item_by (at j i) (opens.valid.1.below i (omega (arith, l, opens.size)))
+
+    values : vs ≡ map there (range_with_len 0 (size_of j))
+    values =
+        array_items-at x
+        ∙ map-same (array_item x) there 0 (len x) (λ i l. item_there i (omega (arith, l)))
+        ∙ ap (λ m. map there (range_with_len 0 m)) (sym opens.size)
+
+    flagged : IsFlagged js vs
+    flagged =
+        ap (map is_place) (lane_numbers-at j) ∙ flags (range_with_len 0 (size_of j))
+        ∙ sym (ap (map is_present) values)
+
+    pub index-count : length js ≡ length vs
+    index-count = length_flagged js vs flagged
+
+    numbers_at : numbers vs ≡ map (at c) places
+    numbers_at = ap numbers values ∙ numbers_there (range_with_len 0 (size_of j))
+
+    numbers_all : lane_numbers (taken_lane c places) ≡ numbers vs
+    numbers_all = twice places ∙ sym numbers_at
+
+    places-count : length places ≡ length (present_values vs)
+    places-count =
+        sym (length-map places (at c)) ∙ sym (ap length numbers_at)
+        ∙ length-map (present_values vs) number_of
+
+    count : size_of (taken_lane c places) ≡ length (present_values vs)
+    count = length-map places (at c) ∙ places-count
+
+    module _ (o : Column) (n : ℕ) (r : AreRising o n (length vs)) (first : place_at o 0 ≡ 0) where
+      abbrev m : ℕ → ℕ
+      m = present_in js o
+
+      pub total : place_at o n ≡ length vs → before m n ≡ length places
+      total last =
+          counts_before js vs o n n flagged r first (omega arith)
+          ∙ ap (λ k. length (present_values (take k vs))) last
+          ∙ ap (λ ws. length (present_values ws)) (take_all (length vs) vs (omega arith))
+          ∙ sym places-count
+
+      start : (i : ℕ) → i ≤ n → place_at (offsets_by m n) i ≡ present_before vs o i
+      start i l = place-offsets m n i l ∙ counts_before js vs o n i flagged r first l
+
+      numbers_part : (i : ℕ) → i < n
+          → part_at (lane_numbers (taken_lane c places)) (offsets_by m n) i
+          ≡ numbers (list_at vs o i)
+      numbers_part i l =
+          ap₂ (slice_range (lane_numbers (taken_lane c places))) (start i (omega (arith, l)))
+          (start (i + 1) (omega (arith, l)))
+          ∙ ap (λ zs. slice_range zs (present_before vs o i) (present_before vs o (i + 1)))
+          numbers_all
+          ∙ slice_range-map number_of (present_values vs) (present_before vs o i)
+          (present_before vs o (i + 1))
+          ∙ ap (map number_of) (sym (slice-filter is_present vs (place_at o i) (place_at o (i + 1))
+          (r.ordered i l)))
+
+      rises : AreRising (offsets_by m n) n (size_of (taken_lane c places))
+      rises = record {
+        kind = tt;
+        size = size-lane_of I64 (n + 1) (λ i. pos (before m i));
+        positive = λ i l.
+            rw (at-lane_of I64 (n + 1) (λ i. pos (before m i)) i (omega (arith, l)))
+            (omega (arith, ints));
+        ordered = λ i l.
+            omega (
+              arith,
+              start i (omega (arith, l)),
+              start (i + 1) (omega (arith, l)),
+              kept-more is_present vs (place_at o i) (place_at o (i + 1)) (r.ordered i l),
+            );
+        within = λ i l. omega (arith, start i l, kept-few is_present vs (place_at o i), count);
+      }
+
+      option_present : is_leaf (array_type y) ≡ true
+          → ArePresent x o n
+          (record { lane = taken_lane c places; offsets = offsets_by m n; index = Some j })
+      option_present leaves = record {
+        kind =
+            h.kind
+            ∙ ap kind_of (sym (ap leaf_of opens.kind ∙ leaf_of-opt (array_type y) leaves));
+        rising = rises;
+        few = omega (arith, count, length-filter is_present vs, count_by-le-length is_present vs);
+        parts = numbers_part;
+        index = sym (length-map j.items (element j.kind)) ∙ index-count;
+        places = λ i q z l e.
+            leads_to (part_at js o i) (list_at vs o i) z q
+            (part_flagged js vs (place_at o i) (place_at o (i + 1)) flagged)
+            (sym (ap (position (int_eq z)) (numbers_part i l)) ∙ e);
+      }
+
+      pub options_are : (l q : Column) → l ≡ taken_lane c places → q ≡ offsets_by m n
+          → is_leaf (array_type y) ≡ true
+          → ArePresent x o n (record { lane = l; offsets = q; index = Some j })
+      options_are l q e f leaves = rw (e, f) (option_present leaves)

@@ -5,6 +5,8 @@
 #![tactic(auto)]
 
 mod leaves;
+mod named;
+mod opening;
 mod present;
 
 pub use present::{Present, present_of};

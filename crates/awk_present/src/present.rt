@@ -1,19 +1,22 @@
 //! Items that are not null, list by list.
-ghost use Rattle.std.specs.Prelude.{◌≡◌, ◌+◌, ◌<◌, ◌≤◌, ◌^◌, pos, int_le, cond, length, true, IfOk};
-ghost use Rattle.std.specs.Prelude.{List};
+ghost use Rattle.std.specs.Prelude.{◌≡◌, ◌<◌, ◌≤◌, ◌^◌, length, true, IfOk};
+ghost use Rattle.awk_types.specs.ItemLimit.{item_limit};
 ghost use Rattle.awk_types.specs.Predicates.{is_leaf};
 ghost use Rattle.awk_types.specs.Simple.{present, is_option};
-ghost use Rattle.awk_types.specs.Value.{Value};
-ghost use Rattle.awk_lanes.specs.Places.{place_at};
+ghost use Rattle.awk_lanes.specs.Counted.{AreOffsetsOf};
+ghost use Rattle.awk_lanes.specs.Places.{size_of, place_at, IsOptionalIndex};
 ghost use Rattle.awk_layout.specs.Typing.{array_type, array_items};
-ghost use Rattle.awk_columns.specs.Columns.{option_index};
-ghost use Rattle.awk_parts.specs.Parts.{AreRising};
-ghost use Rattle.awk_present.specs.Present.{count_present, ArePresentOffsets, ArePresent};
+ghost use Rattle.awk_columns.specs.Counted.{first_of, present_at};
+ghost use Rattle.awk_numbers.specs.Folds.{whole_numbers};
+ghost use Rattle.awk_parts.specs.Parts.{AreRising, AreParts};
+ghost use Rattle.awk_present.specs.Present.{present_in, taken_lane, ArePresent};
 
 use crate::leaves::leaves_of;
-use awk_columns::in_order;
-use awk_lanes::{Arena, Lane, Lengths, NoMemory, Steps, numbers_of, offsets_of, place_in};
+use crate::named::numbers_at;
+use crate::opening::opened_option;
+use awk_lanes::{Arena, Lane, Lengths, NoMemory, Offsets, Steps, offsets_of, place_in};
 use awk_layout::Array;
+use awk_numbers::{Whole, count_places, whole_of};
 use awk_open::Opened;
 use awk_types::is_optional;
 use std::alloc::Global;
@@ -26,75 +29,54 @@ pub struct Present<'a> {
     pub lane: Lane<'a>,
     /// Where those of each list begin, and where the last ones end.
     pub offsets: Lane<'a>,
-    /// Where items may be null: which of the numbers each item is, or -1.
+    /// Where items may be null: a number for each item, negative for a null.
     pub index: Option<Lane<'a>>,
-}
-
-/// 1 for a number that is not negative, else 0.
-fn one_if_place(j: i64) -> u64
-    ensures { result ≡ cond (int_le (pos 0) j) 1 0 }
-{
-    if j >= 0 { 1 } else { 0 }
-}
-
-/// How many numbers are not negative.
-fn places_in(js: &[i64]) -> u64
-    ensures { result ≡ count_present js.now }
-{
-    let mut count: u64 = 0;
-    for j in js {
-        count += one_if_place(*j);
-    }
-    count
 }
 
 /// How many items of each list are present.
 #[derive(Drop)]
 struct PresentCounts<'b, 'a> {
-    index: &'b [i64],
+    index: &'b Whole<'a>,
     offsets: &'b Lane<'a>,
     count: u64,
 }
 
 impl<'b, 'a> Lengths for PresentCounts<'b, 'a> {
-    ghost use Rattle.std.specs.Prelude.{length};
-    ghost use Rattle.awk_parts.specs.Parts.{AreRising};
+    ghost use Rattle.awk_numbers.specs.Folds.{whole_numbers};
+    ghost use Rattle.awk_parts.specs.Parts.{AreParts};
     ghost use Rattle.awk_present.specs.Present.{present_in};
 
-    ghost length = { λ f. present_in f.index.now f.offsets.now };
+    ghost length = { λ f. present_in (whole_numbers f.index.now) f.offsets.now };
 
     ghost size = { λ f. f.count };
 
-    ghost IsReady = { λ f. AreRising f.offsets.now f.count (length f.index.now) };
+    ghost IsReady = { λ f. AreParts (whole_numbers f.index.now) f.offsets.now f.count };
 
     fn length<L: Ledger>(&self, i: u64, steps: &mut Steps<L>) -> u64 {
         let start = place_in(self.offsets, i, steps);
         let stop = place_in(self.offsets, i + 1, steps);
-        places_in(&self.index[start as usize..stop as usize])
+        count_places(self.index, start, stop)
     }
 }
 
-/// The offsets of the items that are present.
+/// The offsets of the items that are present, and how many there are.
 fn present_offsets<'a, L: Ledger>(
-    index: &[i64],
+    index: &Whole,
     offsets: &Lane,
     count: u64,
     arena: &'a Arena,
     steps: &mut Steps<L>,
-) -> Result<Lane<'a>, NoMemory>
-    requires rising { AreRising offsets.now count (length index.now) }
-    requires first { place_at offsets.now 0 ≡ 0 }
+) -> Result<Offsets<'a>, NoMemory>
+    requires parts { AreParts (whole_numbers index.now) offsets.now count }
     requires fits { count < 2 ^ 63 }
-    requires few { length index.now < 2 ^ 63 }
-    ensures { (vs : List Value) → index.now ≡ option_index 0 vs →
-        IfOk result (ArePresentOffsets vs offsets.now count) }
+    ensures { IfOk result (AreOffsetsOf (present_in (whole_numbers index.now) offsets.now) count) }
 {
     let counts = PresentCounts {
         index,
         offsets,
         count,
     };
-    Ok(offsets_of(count, &counts, arena, steps)?.lane)
+    offsets_of(count, &counts, arena, steps)
 }
 
 /// The items that are not null, of items that may be.
@@ -110,18 +92,20 @@ fn present_options<'a, L: Ledger>(
     requires leaves { is_leaf (present (array_type items.now)) ≡ true }
     requires rising { AreRising offsets.now count (length (array_items items.now)) }
     requires first { place_at offsets.now 0 ≡ 0 }
+    requires last { place_at offsets.now count ≡ length (array_items items.now) }
     requires fits { count < 2 ^ 63 }
-    requires few { length (array_items items.now) < 2 ^ 63 }
+    requires few { length (array_items items.now) ≤ item_limit }
     ensures { IfOk result (ArePresent items.now offsets.now count) }
 {
-    match in_order(alloc, items, arena, steps)? {
+    match opened_option(alloc, items, arena, steps)? {
         Opened::Option { index, content } => {
-            let lane = leaves_of(alloc, &content, arena, steps)?;
-            let numbers = numbers_of(alloc, &index, steps)?;
-            let offsets = present_offsets(&numbers, offsets, count, arena, steps)?;
+            let leaves = leaves_of(alloc, &content, arena, steps)?;
+            let whole = whole_of(&index, steps);
+            let starts = present_offsets(&whole, offsets, count, arena, steps)?;
+            let lane = numbers_at(&index, &leaves, starts.total, arena, steps)?;
             Ok(Present {
                 lane,
-                offsets,
+                offsets: starts.lane,
                 index: Some(index),
             })
         }
@@ -129,7 +113,7 @@ fn present_options<'a, L: Ledger>(
     }
 }
 
-/// The items of lists that are not null, of which there are `count`, by offsets from 0 on.
+/// The items of lists that are not null, of which there are `count`, by offsets from 0 to the end.
 pub fn present_of<'a, L: Ledger>(
     alloc: Global,
     items: &Array<'a>,
@@ -141,8 +125,9 @@ pub fn present_of<'a, L: Ledger>(
     requires leaves { is_leaf (present (array_type items.now)) ≡ true }
     requires rising { AreRising offsets.now count (length (array_items items.now)) }
     requires first { place_at offsets.now 0 ≡ 0 }
+    requires last { place_at offsets.now count ≡ length (array_items items.now) }
     requires fits { count < 2 ^ 63 }
-    requires few { length (array_items items.now) < 2 ^ 63 }
+    requires few { length (array_items items.now) ≤ item_limit }
     ensures { IfOk result (ArePresent items.now offsets.now count) }
 {
     if is_optional(items.typ()) {

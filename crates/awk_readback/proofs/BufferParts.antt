@@ -1,5 +1,5 @@
 -- Buffers under their keys: those of contents side by side, and the numbers of one buffer.
-use Rattle.std.proofs.Common.{◌≡◌, ◌<◌, ◌≤◌, ℕ, suc, ◌+◌, ◌*◌, false, List, [], ◌∷◌, ◌++◌, length, map, get_or, None, Ok, Option, refl, ap, subst, ◌∙◌, arith, length-append, ℤ, pos}
+use Rattle.std.proofs.Common.{◌≡◌, ◌<◌, ◌≤◌, ℕ, suc, ◌+◌, ◌*◌, false, List, [], ◌∷◌, ◌++◌, length, map, get_or, None, Ok, Option, refl, ap, ap₂, subst, ◌∙◌, arith, length-append, ℤ, pos}
 use Rattle.std.specs.Prelude.{filter, nat_lt}
 use Rattle.std.specs.List.{flat_map, AllByRecursion}
 use Rattle.std.proofs.lemmas.Grind.{flat_map-append}
@@ -131,14 +131,15 @@ has-alternatives c k j t ts vs h =
 
 -- the container has a lane of these numbers under a node's key
 abbrev pub HasLane : Container → Option Name → List ℕ → Kind → List ℤ → Type 0
-HasLane c key attribute k zs = c (buffer_key key attribute) ≡ Ok (flat_map (bytes_of k) zs)
+HasLane c key attribute k zs =
+    (c.big ≡ false) × (c.bytes (buffer_key key attribute) ≡ Ok (flat_map (bytes_of k) zs))
 
 -- the number that is read at each place
 pub num-read : (c : Container) (key : Option Name) (attribute : List ℕ) (k : Kind) (zs : List ℤ)
     (i : ℕ) → HasLane c key attribute k zs → AllByRecursion (IsHeld k) zs → i < length zs
-    → num k (bytes_at c key attribute) i ≡ get_or zs i (pos 0)
+    → num c.big k (bytes_at c key attribute) i ≡ get_or zs i (pos 0)
 num-read c key attribute k zs i e h l =
-    ap (λ r. num k (bytes_or_none r) i) e ∙ num-lane_bytes k zs i h l
+    ap₂ (λ b r. num b k (bytes_or_none r) i) e.0 e.1 ∙ num-lane_bytes k zs i h l
 
 nat_lt-none : (a b : ℕ) → b ≤ a → nat_lt a b ≡ false
 nat_lt-none a b h = grind (arith, nat_tests)
@@ -146,11 +147,11 @@ nat_lt-none a b h = grind (arith, nat_tests)
 -- there are as many bytes as are needed
 pub bytes-well : (c : Container) (key : Option Name) (attribute : List ℕ) (k : Kind) (n : ℕ)
     (zs : List ℤ) → HasLane c key attribute k zs → n ≡ length zs * width k
-    → bytes_break (buffer_key key attribute) n (c (buffer_key key attribute)) ≡ None
+    → bytes_break (buffer_key key attribute) n (c.bytes (buffer_key key attribute)) ≡ None
 bytes-well c key attribute k n zs e l =
     let bytes = flat_map (bytes_of k) zs in
     let size = length-lane_bytes k zs in
-    ap (bytes_break (buffer_key key attribute) n) e
+    ap (bytes_break (buffer_key key attribute) n) e.1
     ∙ rw (nat_lt-none (length bytes) n (omega (arith, size))) refl
 
 -- ---- nothing breaks

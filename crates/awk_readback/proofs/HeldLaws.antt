@@ -1,5 +1,5 @@
 -- Buffers under distinct keys lie in a container: the one that has these and no others.
-use Rattle.std.proofs.Common.{◌≡◌, ℕ, false, cond, List, [], ◌∷◌, Some, ap, ◌∙◌}
+use Rattle.std.proofs.Common.{◌≡◌, ℕ, false, cond, List, [], ◌∷◌, Some, refl, ap, ◌∙◌}
 use Rattle.std.specs.Map.{lookup}
 use Rattle.std.specs.Option.{ok_or}
 use Rattle.std.specs.Str.{bytes_eq}
@@ -20,7 +20,10 @@ held-later n bytes all [] cs e h = tt
 held-later n bytes all (k ∷ ks) [] e h = tt
 held-later n bytes all (k ∷ ks) (x ∷ cs) e h =
     let apart = or_parts (same_name k n) (is_among n ks) e in (
-      ap (λ b. ok_or (cond b (Some bytes) (lookup (bytes_eq k) all)) Absent) apart.0 ∙ h.0,
+      (
+        refl,
+        ap (λ b. ok_or (cond b (Some bytes) (lookup (bytes_eq k) all)) Absent) apart.0 ∙ h.0.1,
+      ),
       held-later n bytes all ks cs apart.1 h.1,
     )
 
@@ -29,7 +32,10 @@ pub distinct-held : (ks : List Name) (cs : List Column) → AreDistinct ks
 distinct-held [] cs d = tt
 distinct-held (k ∷ ks) [] d = tt
 distinct-held (k ∷ ks) (x ∷ cs) d = (
-  ap (λ b. ok_or (cond b (Some (lane_bytes x)) (lookup (bytes_eq k) (keyed_bytes ks cs))) Absent)
-      (same_name-refl k),
+  (
+    refl,
+    ap (λ b. ok_or (cond b (Some (lane_bytes x)) (lookup (bytes_eq k) (keyed_bytes ks cs))) Absent)
+        (same_name-refl k),
+  ),
   held-later k (lane_bytes x) (keyed_bytes ks cs) ks cs d.0 (distinct-held ks cs d.1),
 )

@@ -1,5 +1,5 @@
 -- The bytes of a lane, read as numbers, are the lane.
-use Rattle.std.proofs.Common.{◌≡◌, ℕ, ◌*◌, ◌<◌, List, [], ◌∷◌, ◌++◌, length, take, drop, get_or, refl, ap, sym, ◌∙◌, arith, length-append, ℤ, pos}
+use Rattle.std.proofs.Common.{◌≡◌, ℕ, ◌*◌, ◌<◌, List, [], ◌∷◌, ◌++◌, length, take, drop, get_or, refl, ap, sym, ◌∙◌, arith, length-append, ℤ, pos, false}
 use Rattle.std.specs.List.{flat_map, AllByRecursion}
 use Rattle.std.proofs.lemmas.List.{take_all, take-append-le}
 use Rattle.awk_lanes.specs.declared.kind.Kind.{Kind}
@@ -68,7 +68,7 @@ numbers-lane_bytes k (z ∷ zs) h =
 
 -- the number at each place
 pub num-lane_bytes : (k : Kind) (zs : List ℤ) (i : ℕ) → AllByRecursion (IsHeld k) zs → i < length zs
-    → num k (flat_map (bytes_of k) zs) i ≡ get_or zs i (pos 0)
+    → num false k (flat_map (bytes_of k) zs) i ≡ get_or zs i (pos 0)
 num-lane_bytes k zs i h l =
     sym (get_or-numbers k (length zs) (flat_map (bytes_of k) zs) i l)
     ∙ ap (λ ys. get_or ys i (pos 0)) (numbers-lane_bytes k zs h)

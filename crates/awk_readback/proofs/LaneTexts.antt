@@ -1,5 +1,5 @@
 -- The lanes of a packed array lie in bytes, so that each buffer has a text, the base64 of these.
-use Rattle.std.proofs.Common.{◌≡◌, ◌<◌, ◌%◌, ◌/◌, ◌^◌, ℕ, zero, suc, List, [], ◌∷◌, ◌++◌, map, true, false, cond, Some, ap, ◌∙◌, subst, arith, ℤ, pos}
+use Rattle.std.proofs.Common.{◌≡◌, ◌<◌, ◌%◌, ◌/◌, ◌^◌, ℕ, zero, suc, List, [], ◌∷◌, ◌++◌, map, true, false, cond, Some, None, refl, ap, ◌∙◌, subst, arith, ℤ}
 use Rattle.std.specs.Prelude.{filter}
 use Rattle.std.specs.Int.{byte_at, byte_len, bytes_low_first, cast_unsigned, w8, w16, w32, w64}
 use Rattle.std.specs.List.{flat_map, AllByRecursion}
@@ -20,8 +20,8 @@ use Rattle.awk_lanes.specs.declared.kind.Kind.{Kind}
 use Rattle.awk_lanes.specs.declared.kind.Kind.TheVariants.{Bool as Truths, I8, I16, I32, I64, U8, U16, U32, U64}
 use Rattle.awk_lanes.specs.declared.kind.Num.TheVariants.{Nat, Truth}
 use Rattle.awk_layout.specs.Kinds.{kind_of}
-use Rattle.awk_store.specs.Buffers.{ByKey, decoding}
-use Rattle.awk_store.proofs.Texts.{decoding-encode_of}
+use Rattle.awk_store.specs.Buffers.{ByKey, only_texts, text_or_raw}
+use Rattle.awk_store.proofs.ByKeyLaws.{decoding-encode_of}
 use Rattle.awk_columns.specs.Columns.{joined_items, part_at, is_present, alternative_values, offsets}
 use Rattle.awk_columns.specs.Columns.{option_index, tags, union_index}
 use Rattle.awk_pack.specs.Columns.{placed, placed_fields, placed_alternatives}
@@ -150,24 +150,33 @@ mutual
 
 -- a further text under another key hides none of them
 texts-later : (n : Name) (text : List ℕ) (texts : ByKey) (ks : List Name) (cs : List Column)
-    → is_among n ks ≡ false → HasBuffers (container_of texts) (keyed_bytes ks cs)
-    → HasBuffers (container_of ((n, text) ∷ texts)) (keyed_bytes ks cs)
+    → is_among n ks ≡ false → HasBuffers (container_of false (only_texts texts)) (keyed_bytes ks cs)
+    → HasBuffers (container_of false (only_texts ((n, text) ∷ texts))) (keyed_bytes ks cs)
 texts-later n text texts [] cs e h = tt
 texts-later n text texts (k ∷ ks) [] e h = tt
 texts-later n text texts (k ∷ ks) (x ∷ cs) e h =
     let apart = or_parts (same_name k n) (is_among n ks) e in (
-      ap (λ b. decoding (cond b (Some text) (lookup (bytes_eq k) texts))) apart.0 ∙ h.0,
+      (
+        refl,
+        ap (λ b. text_or_raw (cond b (Some text) (lookup (bytes_eq k) texts)) None) apart.0
+            ∙ h.0.1,
+      ),
       texts-later n text texts ks cs apart.1 h.1,
     )
 
 pub texts-held : (ks : List Name) (cs : List Column) → AreDistinct ks → AreByteLanes cs
-    → HasBuffers (container_of (map text_buffer (keyed_bytes ks cs))) (keyed_bytes ks cs)
+    → HasBuffers (container_of false (only_texts (map text_buffer (keyed_bytes ks cs))))
+    (keyed_bytes ks cs)
 texts-held [] cs d a = tt
 texts-held (k ∷ ks) [] d a = tt
 texts-held (k ∷ ks) (x ∷ cs) d a =
     let own = encode_of standard (lane_bytes x) in
     let others = map text_buffer (keyed_bytes ks cs) in (
-      ap (λ b. decoding (cond b (Some own) (lookup (bytes_eq k) others))) (same_name-refl k)
-          ∙ decoding-encode_of (lane_bytes x) (is-bytes (lane_bytes x) a.0),
+      (
+        refl,
+        ap (λ b. text_or_raw (cond b (Some own) (lookup (bytes_eq k) others)) None)
+            (same_name-refl k)
+            ∙ decoding-encode_of (lane_bytes x) (is-bytes (lane_bytes x) a.0),
+      ),
       texts-later k own others ks cs d.0 (texts-held ks cs d.1 a.1),
     )

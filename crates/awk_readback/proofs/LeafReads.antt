@@ -1,5 +1,5 @@
 -- What it is that a form is read as values; an EmptyArray and numbers are.
-use Rattle.std.proofs.Common.{◌≡◌, ◌<◌, ◌≤◌, ℕ, zero, suc, ◌*◌, true, false, List, [], ◌∷◌, length, get_or, map, None, Option, refl, ap, sym, subst, ◌∙◌, arith, codes, pos, negsuc, ℤ, ◌≤ℤ◌}
+use Rattle.std.proofs.Common.{◌≡◌, ◌<◌, ◌≤◌, ℕ, zero, suc, ◌*◌, Bool, true, false, List, [], ◌∷◌, length, get_or, map, None, Option, refl, ap, sym, subst, ◌∙◌, arith, codes, pos, negsuc, ℤ, ◌≤ℤ◌}
 use Rattle.std.specs.List.{AllByRecursion}
 use Rattle.std.proofs.lemmas.Int.{ints}
 use Rattle.std.proofs.lemmas.List.{length-map}
@@ -74,17 +74,17 @@ abbrev value_of : Primitive → ℤ → Value
 value_of primitive.Bool z = truth (is_nonzero z)
 value_of p z = int z
 
-element-value : (p : Primitive) (b : List ℕ) (i : ℕ) (z : ℤ)
-    → num (kind_of p) b i ≡ z → element p b i ≡ value_of p z
-element-value primitive.Bool b i z e = ap (λ y. truth (is_nonzero y)) e
-element-value primitive.I8 b i z e = ap int e
-element-value primitive.I16 b i z e = ap int e
-element-value primitive.I32 b i z e = ap int e
-element-value primitive.I64 b i z e = ap int e
-element-value primitive.U8 b i z e = ap int e
-element-value primitive.U16 b i z e = ap int e
-element-value primitive.U32 b i z e = ap int e
-element-value primitive.U64 b i z e = ap int e
+element-value : (big : Bool) (p : Primitive) (b : List ℕ) (i : ℕ) (z : ℤ)
+    → num big (kind_of p) b i ≡ z → element big p b i ≡ value_of p z
+element-value big primitive.Bool b i z e = ap (λ y. truth (is_nonzero y)) e
+element-value big primitive.I8 b i z e = ap int e
+element-value big primitive.I16 b i z e = ap int e
+element-value big primitive.I32 b i z e = ap int e
+element-value big primitive.I64 b i z e = ap int e
+element-value big primitive.U8 b i z e = ap int e
+element-value big primitive.U16 b i z e = ap int e
+element-value big primitive.U32 b i z e = ap int e
+element-value big primitive.U64 b i z e = ap int e
 
 no-bool : (z : ℤ) → (pos 0 ≤ℤ z) × (z ≤ℤ negsuc 0) → ⊥
 no-bool z h = omega (arith, ints)
@@ -115,7 +115,7 @@ leaves-node key p vs c h small e =
     let bytes = bytes-well c key (codes "data") (kind_of p) _ zs e needs in (
       λ m. neither (size_break (length vs)) _ (size-well (length vs) small)
           (neither _ None (neither _ None bytes refl) refl),
-      λ i l. element-value p (bytes_at c key (codes "data")) i _
+      λ i l. element-value c.big p (bytes_at c key (codes "data")) i _
           (num-read c key (codes "data") (kind_of p) zs i e (leaves-held p vs h)
           (omega (arith, size)))
           ∙ number-at p vs i h l,

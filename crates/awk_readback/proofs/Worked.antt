@@ -29,7 +29,7 @@ packed_lists = packed (var (leaf primitive.I16)) lists
 
 lists-held : HasBuffers (container_of packed_lists) (buffers packed_lists)
 unfolding digits
-lists-held = (refl, (refl, tt))
+lists-held = ((refl, refl), ((refl, refl), tt))
 
 lists-valid : broken packed_lists.form packed_lists.length (container_of packed_lists) ≡ None
 unfolding digits
@@ -62,7 +62,19 @@ packed_rows = packed row_type rows
 
 rows-held : HasBuffers (container_of packed_rows) (buffers packed_rows)
 unfolding digits
-rows-held = (refl, (refl, (refl, (refl, (refl, (refl, tt))))))
+rows-held = (
+  (refl, refl),
+  (
+    (refl, refl),
+    (
+      (refl, refl),
+      (
+        (refl, refl),
+        ((refl, refl), ((refl, refl), tt)),
+      ),
+    ),
+  ),
+)
 
 rows-valid : broken packed_rows.form packed_rows.length (container_of packed_rows) ≡ None
 unfolding digits

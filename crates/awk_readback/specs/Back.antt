@@ -1,5 +1,5 @@
 -- There and back: an array packed, loaded from a store that has its buffers, and packed again.
-use Rattle.std.specs.Prelude.{◌≡◌, List, [], ◌∷◌, Option, Some, None, option_map, Result, Ok, Err}
+use Rattle.std.specs.Prelude.{◌≡◌, List, [], ◌∷◌, Option, Some, None, option_map, Result, Ok, Err, false}
 use Rattle.std.specs.Prelude.{if◌then◌else◌}
 use Rattle.std.specs.List.{AllByRecursion}
 use Rattle.awk_types.specs.DataType.{DataType}
@@ -10,7 +10,7 @@ use Rattle.awk_types.specs.Value.{Value}
 use Rattle.awk_layout.specs.Array.{IsArrayType}
 use Rattle.awk_layout.specs.Layout.{Layout}
 use Rattle.awk_layout.specs.Typing.{array_datum}
-use Rattle.awk_store.specs.Buffers.{ByKey}
+use Rattle.awk_store.specs.Buffers.{Held}
 use Rattle.awk_pack.specs.Canon.{Pack, is_too_large, packed, canon}
 use Rattle.awk_pack.specs.Shown.{packed_of}
 use Rattle.awk_pack.specs.declared.packed.PackFault.TheVariants as pack
@@ -25,17 +25,17 @@ use Rattle.awk_readback.specs.declared.back.Back.{Back}
 use Rattle.awk_readback.specs.declared.back.BackFault.{BackFault}
 use Rattle.awk_readback.specs.declared.back.BackFault.TheVariants as fault
 
--- whatever was packed is loaded from a store whose texts decode to the buffers
-abbrev pub GivesBack : Pack → ByKey → Result Layout LoadFault → Type 0
-GivesBack p texts result =
+-- whatever was packed is loaded from a store that has the buffers, as bytes or as texts
+abbrev pub GivesBack : Pack → Held → Result Layout LoadFault → Type 0
+GivesBack p given result =
     (t : DataType) (vs : List Value) → IsArrayType t → AllByRecursion (Has t) vs → canon t vs ≡ Ok p
-    → HasBuffers (container_of texts) (buffers p)
+    → HasBuffers (container_of false given) (buffers p)
     → Gives array_datum told result (Ok (arr t vs))
 
--- the texts decode to the buffers of the values' packed array, where they have one
-abbrev pub HoldsPacked : ByKey → DataType → List Value → Type 0
-HoldsPacked texts t vs =
-    (p : Pack) → canon t vs ≡ Ok p → HasBuffers (container_of texts) (buffers p)
+-- the store has the buffers of the values' packed array, where they have one
+abbrev pub HoldsPacked : Held → DataType → List Value → Type 0
+HoldsPacked given t vs =
+    (p : Pack) → canon t vs ≡ Ok p → HasBuffers (container_of false given) (buffers p)
 
 -- a packed array, the array that was loaded of it, and that packed
 pub record Round : Type 0 where
@@ -66,11 +66,11 @@ round_from p (Ok (one u w)) = packed_again p u (w ∷ [])
 
 -- what there and back gives over a store: the array is packed, what that denotes is loaded, and
 -- that is packed
-abbrev pub back_over : ByKey → DataType → List Value → Result Round Unback
-back_over texts t vs =
+abbrev pub back_over : Held → DataType → List Value → Result Round Unback
+back_over given t vs =
     if is_too_large t vs then Err size
     else let p = packed t vs in
-    round_from p (denoting p.form p.length (container_of texts))
+    round_from p (denoting p.form p.length (container_of false given))
 
 -- over a store that has the buffers: the same array, and the same packed array
 abbrev pub there_and_back : DataType → List Value → Result Round Unback

@@ -1,10 +1,7 @@
 -- What is packed is read back: in every container that holds the buffers of a packed array, its
 -- form and length are valid, and they denote the type and the values that were packed.
-use Rattle.std.specs.Prelude.{◌≡◌, ℕ, List, map, None, Ok}
+use Rattle.std.specs.Prelude.{◌≡◌, ℕ, List, [], map, None, Ok, false}
 use Rattle.std.specs.List.{AllByRecursion}
-use Rattle.std.specs.Map.{lookup}
-use Rattle.std.specs.Option.{ok_or}
-use Rattle.std.specs.Str.{bytes_eq}
 use Rattle.base64.specs.Engines.{standard}
 use Rattle.base64.specs.GeneralPurpose.{encode_of}
 use Rattle.awk_types.specs.DataType.{Name, DataType}
@@ -15,8 +12,7 @@ use Rattle.awk_types.specs.Limit.{limit}
 use Rattle.awk_types.specs.Names.{AreDistinct}
 use Rattle.awk_types.specs.Simple.{IsSimple}
 use Rattle.awk_types.specs.Value.{Value}
-use Rattle.awk_store.specs.Buffers.{ByKey}
-use Rattle.awk_store.specs.declared.fault.BufferWhy.TheVariants.{Absent}
+use Rattle.awk_store.specs.Buffers.{ByKey, only_texts}
 use Rattle.awk_form.specs.Lawful.{IsLawful}
 use Rattle.awk_pack.specs.Canon.{Pack, canon}
 use Rattle.awk_text.specs.Buffers.{buffer_keys}
@@ -25,13 +21,14 @@ use Rattle.awk_valid.specs.Container.{Container, container_of}
 use Rattle.awk_valid.specs.Broken.{broken}
 use Rattle.awk_valid.specs.Denote.{denote, denoting}
 
--- what is under each key decodes to the bytes beside it
+-- under each key are the bytes beside it, as they are or as what a text decodes to, and the least
+-- significant byte of a number comes first
 abbrev pub HasBuffers : Container → List (Name × List ℕ) → Type 0
-HasBuffers c buffers = AllByRecursion (λ b. c b.0 ≡ Ok b.1) buffers
+HasBuffers c buffers = AllByRecursion (λ b. (c.big ≡ false) × (c.bytes b.0 ≡ Ok b.1)) buffers
 
--- the container of these buffers and no others
+-- the container of these bytes and no others
 abbrev pub holding : List (Name × List ℕ) → Container
-holding buffers key = ok_or (lookup (bytes_eq key) buffers) Absent
+holding buffers = container_of false (record { texts = []; raws = buffers })
 
 -- a buffer's key with the base64 of its bytes
 abbrev pub text_buffer : Name × List ℕ → Name × List ℕ
@@ -70,12 +67,13 @@ PackedIsLawful =
     (t : DataType) (vs : List Value) (p : Pack) → IsType t → limit t ≡ None → canon t vs ≡ Ok p
     → IsLawful p.form
 
--- there is such a container, and one of texts: each lane is a buffer, and no two have the same key
+-- there is such a container of bytes, and one of texts: each lane is a buffer, and no two have the
+-- same key
 pub record IsHeld (p : Pack) : Type 0 where
   pub lanes : HasLanes p
   pub distinct : AreDistinct (buffer_keys p.form)
   pub held : HasBuffers (holding (buffers p)) (buffers p)
-  pub texts : HasBuffers (container_of (texts_of p)) (buffers p)
+  pub texts : HasBuffers (container_of false (only_texts (texts_of p))) (buffers p)
 
 abbrev pub PackedIsHeld : Type 0
 PackedIsHeld =

@@ -1,5 +1,5 @@
 //! There and back: packing, loading what was packed, and packing that again.
-ghost use Rattle.std.specs.Prelude.{◌≡◌};
+ghost use Rattle.std.specs.Prelude.{◌≡◌, false};
 ghost use Rattle.awk_types.specs.Gives.{Gives};
 ghost use Rattle.awk_layout.specs.Typing.{array_type, array_items, array_datum};
 ghost use Rattle.awk_form.specs.Lawful.{IsLawful};
@@ -68,15 +68,16 @@ pub fn load_packed<'a, N: Kernels, L: Ledger>(
 ) -> Result<Array<'a>, LoadFault>
     requires lawful { IsLawful (form_of packed.now.form) }
     ensures denoted { Gives array_datum told result (denoting (form_of packed.now.form)
-        packed.now.length (container_of store.old.texts)) }
+        packed.now.length (container_of false store.old.held)) }
     // What was packed comes back.
-    ensures back { GivesBack (packed_of packed.now) store.old.texts result }
-    ensures texts { store.new.texts ≡ store.old.texts }
+    ensures back { GivesBack (packed_of packed.now) store.old.held result }
+    ensures held { store.new.held ≡ store.old.held }
 {
     load(
         alloc,
         &packed.form,
         packed.length,
+        false,
         store,
         kernels,
         arena,
@@ -93,9 +94,9 @@ fn rounded<'a, N: Kernels, L: Ledger>(
     arena: &'a Arena,
     steps: &mut Steps<L>,
 ) -> Result<Back<'a>, BackFault>
-    ensures round { let said = back_over store.old.texts (array_type x.now) (array_items x.now) in
+    ensures round { let said = back_over store.old.held (array_type x.now) (array_items x.now) in
         Gives round_of back_told result said }
-    ensures texts { store.new.texts ≡ store.old.texts }
+    ensures held { store.new.held ≡ store.old.held }
 {
     let first = pack(alloc, x, arena, steps)?;
     let array = load_packed(alloc, &first, store, kernels, arena, steps)?;
@@ -118,13 +119,13 @@ pub fn there_and_back<'a, N: Kernels, L: Ledger>(
 ) -> Result<Back<'a>, BackFault>
     // Over every store: why the array is not packed, or not loaded, or the packed array, what it
     // denotes over the store, and that packed.
-    ensures round { let said = back_over store.old.texts (array_type x.now) (array_items x.now) in
+    ensures round { let said = back_over store.old.held (array_type x.now) (array_items x.now) in
         Gives round_of back_told result said }
-    // Over a store whose texts decode to the buffers, the array that is loaded has the same type
-    // and items, and packing that gives the same form, length and lanes.
-    ensures back { HoldsPacked store.old.texts (array_type x.now) (array_items x.now) → Gives
+    // Over a store that has the buffers, as bytes or as texts, the array that is loaded has the
+    // same type and items, and packing that gives the same form, length and lanes.
+    ensures back { HoldsPacked store.old.held (array_type x.now) (array_items x.now) → Gives
         round_of back_told result (there_and_back (array_type x.now) (array_items x.now)) }
-    ensures texts { store.new.texts ≡ store.old.texts }
+    ensures held { store.new.held ≡ store.old.held }
 {
     // the type is lawful, and the items are of it
     let _typ = x.typ();

@@ -1,13 +1,13 @@
 -- Columns of leaves, and of leaves and nulls, by their places.
 use Rattle.std.proofs.Common.{◌≡◌, ℕ, ◌<◌, ◌^◌, arith, refl, ap, ◌∙◌}
-use Rattle.std.specs.Prelude.{ℤ, pos, ◌<ℤ◌, Bool, true, false, if◌then◌else◌, Option, Some, None}
+use Rattle.std.specs.Prelude.{ℤ, pos, ◌<ℤ◌, Option, Some, None}
 use Rattle.std.proofs.lemmas.Int.{ints}
 use Rattle.awk_types.specs.DataType.{leaf, opt}
 use Rattle.awk_types.specs.Simple.{simple_value}
 use Rattle.awk_types.specs.Value.{Value}
 use Rattle.awk_lanes.specs.Column.{Column}
 use Rattle.awk_lanes.specs.Made.{lane_of}
-use Rattle.awk_lanes.specs.Numbers.{element, is_nonzero}
+use Rattle.awk_lanes.specs.Numbers.{element}
 use Rattle.awk_lanes.specs.Places.{size_of, option_place, option_place_at, IsOptionalIndex}
 use Rattle.awk_lanes.specs.declared.kind.Kind.{Kind}
 use Rattle.awk_lanes.specs.declared.kind.Kind.TheVariants as kind
@@ -17,23 +17,6 @@ use Rattle.awk_layout.specs.Kinds.{primitive_of}
 use Rattle.awk_layout.specs.Layout.{flat, optional}
 use Rattle.awk_axis.specs.Mapped.{IsColumn}
 use Rattle.awk_parts.specs.Lanes.{index_or_null, present_at}
-
--- what is read of a number is read so again
-truth_twice : (b : Bool)
-    → pos (if is_nonzero (pos (if b then 1 else 0)) then 1 else 0) ≡ pos (if b then 1 else 0)
-truth_twice true = refl
-truth_twice false = refl
-
-pub element-twice : (k : Kind) (z : ℤ) → element k (element k z) ≡ element k z
-element-twice kind.Bool z = truth_twice (is_nonzero z)
-element-twice kind.I8 z = refl
-element-twice kind.I16 z = refl
-element-twice kind.I32 z = refl
-element-twice kind.I64 z = refl
-element-twice kind.U8 z = refl
-element-twice kind.U16 z = refl
-element-twice kind.U32 z = refl
-element-twice kind.U64 z = refl
 
 pub flat_column : (k : Kind) (n : ℕ) (f : ℕ → ℤ) (value : ℕ → Value) → n < 2 ^ 63
     → ((i : ℕ) → i < n → leaf_value k (element k (f i)) ≡ value i)

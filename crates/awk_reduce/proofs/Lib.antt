@@ -4,3 +4,4 @@ pub mod ColumnLaws
 pub mod ReadyLaws
 pub mod PlaceLaws
 pub mod ListLaws
+pub mod LengthLaws

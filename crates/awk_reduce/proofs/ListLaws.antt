@@ -48,10 +48,10 @@ use Rattle.awk_reduce.specs.declared.reducer.Reducer.{Reducer}
 
 -- ---- counts
 
-over_limit : (n : ℕ) → item_limit < n → nat_lt item_limit n ≡ true
+pub over_limit : (n : ℕ) → item_limit < n → nat_lt item_limit n ≡ true
 over_limit n p = grind arith
 
-within_limit : (n : ℕ) → n ≤ item_limit → nat_lt item_limit n ≡ false
+pub within_limit : (n : ℕ) → n ≤ item_limit → nat_lt item_limit n ≡ false
 within_limit n p = grind arith
 
 counted_total : (s e : Column) (y : Layout)
@@ -210,6 +210,9 @@ module _ (s e : Column) (y : Layout) (o : Column) (z : Layout) (j : JoinsLists s
     leaves = ap (λ t. is_leaf (present t)) j.typ ∙ leaf_same (present (array_type y)) ∙ leaves;
     rising = subst (λ m. AreRising o m (length (array_items z))) (sym ne) lists_rise;
     first = j.offsets.first;
+    last =
+        subst (λ m. place_at o m ≡ length (array_items z)) (sym ne)
+        (j.offsets.last ∙ sym items-count);
     few = few_items few;
     fits = omega (arith, ne, fits);
   }

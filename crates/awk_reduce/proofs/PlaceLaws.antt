@@ -22,6 +22,7 @@ use Rattle.awk_layout.specs.Typing.{array_type, array_items}
 use Rattle.awk_axis.specs.Mapped.{IsColumn}
 use Rattle.awk_axis.specs.declared.function.Made.TheVariants as made
 use Rattle.awk_numbers.specs.Folds.{lane_numbers, first_extreme}
+use Rattle.awk_numbers.specs.Places.{nth_place}
 use Rattle.awk_numbers.specs.declared.extremes.Extreme.{Extreme}
 use Rattle.awk_numbers.specs.declared.extremes.Extreme.TheVariants.{Least, Greatest}
 use Rattle.awk_parts.specs.Lanes.{place_number, extreme_at, extreme_lane, present_at, number_at}
@@ -31,12 +32,13 @@ use Rattle.awk_parts.specs.Parts.{part_at}
 use Rattle.awk_present.specs.Numbers.{leaf_of, numbers, number_place, extreme_of, extreme_place}
 use Rattle.awk_present.specs.Present.{list_at, LeadsBack}
 use Rattle.awk_present.specs.declared.present.Present.{Present}
+use Rattle.awk_present.proofs.LeafLaws.{element-twice}
 use Rattle.awk_reduce.specs.Extremes.{place_by, place_lane}
 use Rattle.awk_reduce.specs.Lists.{AreReady, AreReduced}
 use Rattle.awk_reduce.specs.Reduce.{overflows}
 use Rattle.awk_reduce.specs.Reducers.{reduced, reduced_type, item_or_null, place_or_null}
 use Rattle.awk_reduce.specs.Totals.{item_reducer, place_reducer}
-use Rattle.awk_reduce.proofs.ColumnLaws.{element-twice, optional_column}
+use Rattle.awk_reduce.proofs.ColumnLaws.{optional_column}
 use Rattle.awk_reduce.proofs.ExtremeLaws.{extreme_found, extreme_none}
 use Rattle.awk_reduce.proofs.ReadyLaws.{numbers-count}
 
@@ -218,7 +220,7 @@ module _ (z : Layout) (o : Column) (n : ℕ) (p : Present) (r : AreReady z o n p
   -- ---- their places
 
   place_found : (i q : ℕ) (w : ℤ) → i < n → (j : Option Column)
-      → LeadsBack (array_items z) o all p.offsets j i w q
+      → LeadsBack (array_items z) o j i w q
       → option_place_at e i ≡ Some (start i + q)
       → int (place_by o p.offsets e j i) ≡ place_or_null (number_place (vs i) w)
   place_found i q w l None b h =
@@ -226,8 +228,10 @@ module _ (z : Layout) (o : Column) (n : ℕ) (p : Present) (r : AreReady z o n p
       ap (λ k. int (place_or_zero (start i) k)) h ∙ ap (λ k. int (pos k)) less
       ∙ sym (ap place_or_null b)
   place_found i q w l (Some j) b h =
+      let less : start i + q - start i ≡ q = omega arith in
       let whole : b.0 - 0 ≡ b.0 = omega arith in
-      ap (λ k. int (found_in j.items (place_at o i) (place_at o (i + 1)) k)) h
+      ap (λ k. int (found_in (lane_numbers j) (place_at o i) (place_at o (i + 1)) (start i) k)) h
+      ∙ ap (λ m. int (place_or_zero 0 (nth_place m (part_at (lane_numbers j) o i)))) less
       ∙ ap (λ k. int (place_or_zero 0 k)) b.2 ∙ ap (λ k. int (pos k)) whole
       ∙ sym (ap place_or_null b.1)
 

@@ -1,5 +1,5 @@
 -- What is made of the lists of a column, by their items one after another.
-use Rattle.std.specs.Prelude.{◌≡◌, ℕ, ◌<◌, ◌≤◌, ◌^◌, true, false, List, length}
+use Rattle.std.specs.Prelude.{◌≡◌, ℕ, ◌<◌, ◌≤◌, ◌^◌, Bool, true, false, List, length}
 use Rattle.awk_types.specs.DataType.{DataType}
 use Rattle.awk_types.specs.ItemLimit.{item_limit}
 use Rattle.awk_types.specs.Predicates.{is_leaf}
@@ -25,6 +25,7 @@ pub record AreItems (z : Layout) (o : Column) (n : ℕ) : Type 0 where
   pub leaves : is_leaf (present (array_type z)) ≡ true
   pub rising : AreRising o n (length (array_items z))
   pub first : place_at o 0 ≡ 0
+  pub last : place_at o n ≡ length (array_items z)
   pub few : length (array_items z) ≤ item_limit
   pub fits : n < 2 ^ 63
 
@@ -47,3 +48,8 @@ IsReduced how t ls n (made.Singles z) =
 -- of the items of lists one after another
 abbrev pub AreReduced : Reducer → Layout → Column → ℕ → Made → Type 0
 AreReduced how z o n m = IsReduced how (array_type z) (list_at (array_items z) o) n m
+
+-- whether n items are no more than the limit
+abbrev pub IsWithin : Bool → ℕ → Type 0
+IsWithin true n = n ≤ item_limit
+IsWithin false n = item_limit < n

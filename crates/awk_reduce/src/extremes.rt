@@ -12,7 +12,7 @@ ghost use Rattle.awk_reduce.specs.Totals.{item_reducer, place_reducer};
 
 use crate::joined::JoinedItems;
 use awk_axis::Made;
-use awk_lanes::{Arena, Lane, Steps, numbers_of};
+use awk_lanes::{Arena, Lane, Steps};
 use awk_layout::Node;
 use awk_numbers::{Extreme, whole_of};
 use awk_parts::{Parts, extreme_places, found, locals, numbers_at, present};
@@ -93,7 +93,6 @@ pub(crate) fn extremes<'a, L: Ledger>(
 
 /// The places in their lists of items that are numbers at places.
 fn places_in<'a, L: Ledger>(
-    alloc: Global,
     x: &JoinedItems<'_, 'a>,
     places: &Lane<'a>,
     arena: &'a Arena,
@@ -104,11 +103,12 @@ fn places_in<'a, L: Ledger>(
     requires count { size_of places.now ≡ x.now.count }
     ensures { IfOk result (λ r. r ≡ place_lane x.now.offsets.now x.now.present.now places.now) }
 {
+    let firsts = &x.present.offsets;
     match &x.present.index {
-        None => locals(&x.present.offsets, places, arena, steps),
+        None => locals(firsts, places, arena, steps),
         Some(index) => {
-            let numbers = numbers_of(alloc, index, steps)?;
-            found(&numbers, x.offsets, places, arena, steps)
+            let index = whole_of(index, steps);
+            found(&index, x.offsets, firsts, places, arena, steps)
         }
     }
 }
@@ -126,6 +126,6 @@ pub(crate) fn extreme_indexes<'a, L: Ledger>(
         x.now.count) }
 {
     let places = places_of(how, x, arena, steps)?;
-    let numbers = places_in(alloc, x, &places, arena, steps)?;
+    let numbers = places_in(x, &places, arena, steps)?;
     Ok(Made::Singles(optional_node(alloc, &places, numbers, arena, steps)?))
 }

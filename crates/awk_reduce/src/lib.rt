@@ -5,6 +5,7 @@
 
 mod extremes;
 mod joined;
+mod lengths;
 mod reducer;
 mod reducing;
 mod totals;

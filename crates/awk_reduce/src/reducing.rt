@@ -12,6 +12,7 @@ ghost use Rattle.awk_reduce.specs.Reduce.{reducer_function, reduce_of};
 
 use crate::extremes::{extreme_indexes, extremes};
 use crate::joined::{ItemLists, JoinedItems};
+use crate::lengths::{counts_all, lengths};
 use crate::reducer::Reducer;
 use crate::totals::{folds, tallies};
 use crate::types::{are_leaves, reduced_typ};
@@ -74,8 +75,8 @@ fn reduced_items<'a, N: Kernels, L: Ledger>(
     reduced(alloc, how, &x, kernels, arena, steps)
 }
 
-/// What is made of lists.
-fn reduced_lists<'a, N: Kernels, L: Ledger>(
+/// What is made of lists, by all their items.
+fn reduced_joined<'a, N: Kernels, L: Ledger>(
     alloc: Global,
     how: Reducer,
     lists: &Lists<'a>,
@@ -98,6 +99,26 @@ fn reduced_lists<'a, N: Kernels, L: Ledger>(
             };
             reduced_items(alloc, how, &x, kernels, arena, steps)
         }
+    }
+}
+
+/// What is made of lists.
+fn reduced_lists<'a, N: Kernels, L: Ledger>(
+    alloc: Global,
+    how: Reducer,
+    lists: &Lists<'a>,
+    kernels: &N,
+    arena: &'a Arena,
+    steps: &mut Steps<L>,
+) -> Result<Made<'a>, NoMemory>
+    requires leaves { is_leaf (present (array_type lists.now.content)) ≡ true }
+    ensures { IfOk result (IsMade (reducer_function how) lists.now.class lists.now.starts
+        lists.now.stops lists.now.content) }
+{
+    if counts_all(how, lists.content().typ()) {
+        lengths(lists, arena, steps)
+    } else {
+        reduced_joined(alloc, how, lists, kernels, arena, steps)
     }
 }
 

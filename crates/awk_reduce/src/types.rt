@@ -10,7 +10,8 @@ use crate::reducer::Reducer;
 use awk_types::{NoMemory, Prim, Typ};
 use std::alloc::Global;
 
-fn is_leaf(t: &Typ) -> bool
+/// Whether a type is a leaf, which is not optional.
+pub(crate) fn is_leaf(t: &Typ) -> bool
     ensures { result ≡ reach.is_leaf (typ_of t.now) }
 {
     matches!(t, Typ::Unknown | Typ::Leaf(_))

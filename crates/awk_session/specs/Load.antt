@@ -1,10 +1,10 @@
 -- What a load line loads.
-use Rattle.std.specs.Prelude.{ℕ, Result, Ok, Err}
+use Rattle.std.specs.Prelude.{ℕ, Bool, Result, Ok, Err}
 use Rattle.serde_json.specs.Data.{Data, Members}
 use Rattle.awk_types.specs.Datum.{Datum}
 use Rattle.awk_types.specs.Limit.{depth_limit, size_limit}
 use Rattle.awk_types.specs.declared.fault.Fault.TheVariants.{Depth, Size}
-use Rattle.awk_store.specs.Buffers.{texts_of}
+use Rattle.awk_store.specs.Buffers.{texts_of, only_texts}
 use Rattle.awk_form.specs.FormTree.{FormTree}
 use Rattle.awk_form.specs.Reading as forms
 use Rattle.awk_form.specs.Reading.{reading}
@@ -31,11 +31,13 @@ abbrev pub walked : Result Datum walk.Refusal → Result Datum AnswerFault
 walked (Ok datum) = Ok datum
 walked (Err refusal) = Err (walk_fault refusal)
 
-abbrev pub loaded_from : Result FormTree forms.Refusal → ℕ → Members → Result Datum AnswerFault
-loaded_from (Ok f) n buffers = walked (denoting f n (container_of (texts_of buffers)))
-loaded_from (Err refusal) n buffers = Err (form_fault refusal)
+abbrev pub loaded_from : Result FormTree forms.Refusal → ℕ → Bool → Members
+    → Result Datum AnswerFault
+loaded_from (Ok f) n big buffers =
+    walked (denoting f n (container_of big (only_texts (texts_of buffers))))
+loaded_from (Err refusal) n big buffers = Err (form_fault refusal)
 
--- the array that a form, a length and buffers denote, or the fault that refuses them: the form is
--- judged first
-abbrev pub loaded : Data → ℕ → Members → Result Datum AnswerFault
-loaded d n buffers = loaded_from (reading d) n buffers
+-- the array that a form, a length, an order of bytes and buffers denote, or the fault that refuses
+-- them: the form is judged first
+abbrev pub loaded : Data → ℕ → Bool → Members → Result Datum AnswerFault
+loaded d n big buffers = loaded_from (reading d) n big buffers

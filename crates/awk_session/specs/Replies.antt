@@ -69,11 +69,10 @@ pack_shown (one t v) = fault (Evaluation WrongType)
 abbrev pub no_line : Environment → Reply
 no_line variables = answering variables (fault Query)
 
--- A load has the texts of its buffers, the least significant byte of a number first. Another order
--- and bytes that follow a line are of version 2.
+-- A load has the texts of its buffers. Bytes that follow a line are of version 2.
 abbrev pub reply_load : Environment → Name → Data → ℕ → Bool → Buffers → Reply
 reply_load variables n form length big (lines.texts buffers) =
-    if big then no_line variables else reply_bind variables n (loaded form length buffers)
+    reply_bind variables n (loaded form length big buffers)
 reply_load variables n form length big (lines.parts ps) = no_line variables
 
 -- the line that begins version 2 is none here, and arrays of JSON lists are not built yet

@@ -93,12 +93,7 @@ fn reply_line<'v, 's, 'a: 's, L: Ledger>(
             length,
             big,
             buffers,
-        } => {
-            if *big {
-                return Ok(Answer::Fault(AnswerFault::Query));
-            }
-            bind_loaded(alloc, env, name, form, *length, buffers, kept, steps)
-        }
+        } => bind_loaded(alloc, env, name, form, *length, *big, buffers, kept, steps),
         Line::LoadRaw { .. } => Ok(Answer::Fault(AnswerFault::Query)),
         Line::Session => Ok(Answer::Fault(AnswerFault::Query)),
         Line::Let { name, be } => bind_made(alloc, env, name, be, kept, steps),
@@ -117,6 +112,7 @@ fn bind_loaded<'v, 's, 'a: 's, L: Ledger>(
     name: &'v Name,
     form: &Value,
     length: u64,
+    big: bool,
     buffers: &Map<String, Value>,
     kept: &'a Arena,
     steps: &mut Steps<L>,
@@ -124,7 +120,7 @@ fn bind_loaded<'v, 's, 'a: 's, L: Ledger>(
     requires texts { HoldsTexts (members_view buffers.now.entries) }
     ensures reply { IfOk result (λ answer.
         replies.reply_bind (denoted env.old) name.now
-        (loaded (view form.now) length (members_view buffers.now.entries))
+        (loaded (view form.now) length big (members_view buffers.now.entries))
         ≡ record { answer = answer_view answer; after = denoted env.new }) }
     ensures answer { IfOk result IsAnswer }
     ensures same { OnErr result (env.new ≡ env.old) }
@@ -134,7 +130,7 @@ fn bind_loaded<'v, 's, 'a: 's, L: Ledger>(
     ensures cost { let texts = texts_of (members_view buffers.now.entries) in
         IsLoaded (view form.now) (total_len texts) steps.old steps.new }
 {
-    match load(alloc, form, length, buffers, kept, steps) {
+    match load(alloc, form, length, big, buffers, kept, steps) {
         Ok(array) => {
             env.bind(name.copy(alloc)?, Datum::Arr(array))?;
             Ok(Answer::Bound(name.as_str()))

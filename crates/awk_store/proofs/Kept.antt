@@ -1,9 +1,8 @@
--- What a store keeps: the keys whose texts are decoded, with their bytes.
-use Rattle.std.proofs.Common.{◌≡◌, ◌≢◌, ℕ, Bool, true, false, cond, List, [], ◌∷◌, ◌++◌, length, Option, Some, None, suc, refl, ap, sym, ◌∙◌, subst, arith}
-use Rattle.std.specs.Prelude.{map, is_some, All}
+-- What is kept: keys with the bytes that lie in the arena.
+use Rattle.std.proofs.Common.{◌≡◌, ℕ, Bool, true, false, cond, List, [], ◌∷◌, ◌++◌, length, Option, Some, None, suc, refl, ap, sym, ◌∙◌, subst, arith}
+use Rattle.std.specs.Prelude.{is_some, All}
 use Rattle.std.specs.Borrow.{Bor}
 use Rattle.std.specs.Map.{lookup, keys_of}
-use Rattle.std.specs.Map.Iter.{deref_pair}
 use Rattle.std.specs.Option.{option_copied}
 use Rattle.std.specs.Str.{bytes_eq}
 use Rattle.std.specs.Cmp.Lexicographic.{bytes_decides}
@@ -12,28 +11,7 @@ use Rattle.std.proofs.lemmas.List.Elements.{All-push}
 use Rattle.std.proofs.lemmas.Map.Made.{is_some-lookup}
 use Rattle.indexmap.specs.IndexMap.{insert_entry}
 use Rattle.indexmap.proofs.MapLemmas.{insert_entry-absent, absent_from_lookup}
-use Rattle.base64.specs.Engines.{standard}
-use Rattle.base64.specs.GeneralPurpose.{encode_of, IsBytes}
-use Rattle.awk_types.specs.Gives.{Told}
-use Rattle.awk_store.specs.declared.fault.BufferWhy.TheVariants.{Base64}
-use Rattle.awk_store.specs.declared.fault.StoreFault.{StoreFault}
-use Rattle.awk_store.specs.declared.fault.StoreFault.TheVariants.{Bad}
-use Rattle.awk_store.specs.Buffers.{ByKey, Buffers, HoldsBuffers, IsBuffer, text_of, decoding, why_told, is_decoded, with_decoded, undecoded_len}
-use Rattle.awk_store.proofs.Texts.{undecodable}
-
--- a kept key with its bytes, both behind references
-abbrev pub Kept : Type 0
-Kept = Bor (List ℕ) × Bor (List ℕ)
-
--- what is looked up behind references is what they show
-copied_step : (b : Bool) (here : Bor (List ℕ)) (later : Option (Bor (List ℕ))) (shown : Option (List ℕ)) → option_copied later ≡ shown
-    → option_copied (cond b (Some here) later) ≡ cond b (Some here.now) shown
-copied_step true here later shown e = refl
-copied_step false here later shown e = e
-
-pub lookup-deref : (key : List ℕ) (kept : List Kept) → option_copied (lookup (λ k. bytes_eq key k.now) kept) ≡ lookup (bytes_eq key) (map deref_pair kept)
-lookup-deref key [] = refl
-lookup-deref key (e ∷ kept) = copied_step (bytes_eq key e.0.now) e.1 _ _ (lookup-deref key kept)
+use Rattle.awk_store.specs.Buffers.{ByKey, Given, at_key, shown_by, AreCopied, is_fetched, with_fetched, unfetched_len}
 
 -- what holds of each kept key and its bytes, holds of those that are found
 found_step : (P : List ℕ → List ℕ → Type 0) (key : List ℕ) (here : List ℕ × List ℕ) (later : Option (List ℕ)) (bytes : List ℕ) → P here.0 here.1
@@ -44,61 +22,101 @@ found_step P key here later bytes holds others true same is =
     subst (P key) found (subst (λ k. P k here.1) (sym ((bytes_decides key here.0).0 same)) holds)
 found_step P key here later bytes holds others false same is = others is
 
-found_holds : (P : List ℕ → List ℕ → Type 0) (key : List ℕ) (known : ByKey) (bytes : List ℕ) → All (λ e. P e.0 e.1) known → lookup (bytes_eq key) known ≡ Some bytes → P key bytes
+pub found_holds : (P : List ℕ → List ℕ → Type 0) (key : List ℕ) (known : ByKey) (bytes : List ℕ) → All (λ e. P e.0 e.1) known → at_key known key ≡ Some bytes → P key bytes
 found_holds P key [] bytes h is = cc
 found_holds P key (e ∷ known) bytes h is =
-    found_step P key e (lookup (bytes_eq key) known) bytes (h 0 e (omega arith))
+    found_step P key e (at_key known key) bytes (h 0 e (omega arith))
     (found_holds P key known bytes (λ k d lt. h (suc k) d (omega arith)))
     (bytes_eq key e.0) refl is
 
--- a new key is kept last
-pub insert_entry-new : (kept : List Kept) (key : List ℕ) (name bytes : Bor (List ℕ)) → None ≡ lookup (λ k. bytes_eq key k.now) kept → name.now ≡ key
-    → insert_entry (λ x y. bytes_eq x.now y.now) kept name bytes ≡ kept ++ (name, bytes) ∷ []
-insert_entry-new kept key name bytes e same =
-    insert_entry-absent (λ x y. bytes_eq x.now y.now) name bytes kept
-    (absent_from_lookup (λ k. bytes_eq name.now k.now) kept (ap (λ t. lookup (λ k. bytes_eq t k.now) kept) same ∙ sym e))
+-- ---- keys that are shown by their bytes
 
--- the keys and the kept bytes after one more
-pub map-deref_pair-push : (kept : List Kept) (name bytes : Bor (List ℕ)) → map deref_pair (kept ++ (name, bytes) ∷ []) ≡ map deref_pair kept ++ (name.now, bytes.now) ∷ []
-map-deref_pair-push kept name bytes = map-append deref_pair kept ((name, bytes) ∷ [])
+module _ {K : Type 0} (name : K → List ℕ) where
+  -- what is looked up behind references is what they show
+  copied_step : (b : Bool) (here : Bor (List ℕ)) (later : Option (Bor (List ℕ))) (shown : Option (List ℕ)) → option_copied later ≡ shown
+      → option_copied (cond b (Some here) later) ≡ cond b (Some here.now) shown
+  copied_step true here later shown e = refl
+  copied_step false here later shown e = e
 
-pub HoldsBuffers-push : (texts : ByKey) (kept : List Kept) (name bytes : Bor (List ℕ)) → HoldsBuffers texts (map deref_pair kept) → IsBuffer texts name.now bytes.now
-    → HoldsBuffers texts (map deref_pair (kept ++ (name, bytes) ∷ []))
-HoldsBuffers-push texts kept name bytes h new = rw map-deref_pair-push (All-push (λ e. IsBuffer texts e.0 e.1) (map deref_pair kept) (name.now, bytes.now) h new)
+  pub lookup-shown : (key : List ℕ) (kept : List (K × Bor (List ℕ))) → option_copied (lookup (λ k. bytes_eq key (name k)) kept) ≡ at_key (shown_by name kept) key
+  lookup-shown key [] = refl
+  lookup-shown key (e ∷ kept) = copied_step (bytes_eq key (name e.0)) e.1 _ _ (lookup-shown key kept)
 
--- ---- the store s, which is seen as these texts and these kept keys, at a key
+  -- what is looked up among the entries
+  pub at_key-shown : (entries : ByKey) (kept : List (K × Bor (List ℕ))) → shown_by name kept ≡ entries
+      → (key : List ℕ) (found : Option (Bor (List ℕ))) → found ≡ lookup (λ k. bytes_eq key (name k)) kept
+      → option_copied found ≡ at_key entries key
+  at_key-shown entries kept shown key found e = ap option_copied e ∙ lookup-shown key kept ∙ ap (λ r. at_key r key) shown
 
-module _ (s : Buffers) (texts : ByKey) (kept : List Kept) (shown : record { texts = texts; decoded = keys_of (map deref_pair kept) } ≡ s) (key : List ℕ) where
-  is_decoded-lookup : (found : Option (Bor (List ℕ))) → found ≡ lookup (λ k. bytes_eq key k.now) kept → is_decoded s key ≡ is_some (option_copied found)
-  is_decoded-lookup found e =
-      ap (λ r. is_decoded r key) (sym shown) ∙ sym (is_some-lookup (bytes_eq key) (map deref_pair kept))
-      ∙ ap is_some (sym (lookup-deref key kept)) ∙ ap (λ o. is_some (option_copied o)) (sym e)
+  -- where nothing is found, no key is there
+  pub lookup-none : (entries : ByKey) (kept : List (K × Bor (List ℕ))) → shown_by name kept ≡ entries
+      → (key : List ℕ) → at_key entries key ≡ None → None ≡ lookup (λ k. bytes_eq key (name k)) kept
+  lookup-none entries kept shown key none = by _ (at_key-shown entries kept shown key _ refl ∙ none)
+    where
+      by : (found : Option (Bor (List ℕ))) → option_copied found ≡ None → None ≡ found
+      by None e = refl
+      by (Some x) e = absurd (cc)
 
-  -- where the key is found
-  pub IsBuffer-known : (bytes : Bor (List ℕ)) → HoldsBuffers texts (map deref_pair kept) → Some bytes ≡ lookup (λ k. bytes_eq key k.now) kept → IsBuffer s.texts key bytes.now
-  IsBuffer-known bytes h e =
-      subst (λ r. IsBuffer r.texts key bytes.now) shown
-      (found_holds (IsBuffer texts) key (map deref_pair kept) bytes.now h (sym (lookup-deref key kept) ∙ ap option_copied (sym e)))
+  -- a new key is kept last
+  pub insert_entry-new : (kept : List (K × Bor (List ℕ))) (key : List ℕ) (own : K) (bytes : Bor (List ℕ)) → None ≡ lookup (λ k. bytes_eq key (name k)) kept → name own ≡ key
+      → insert_entry (λ x y. bytes_eq (name x) (name y)) kept own bytes ≡ kept ++ (own, bytes) ∷ []
+  insert_entry-new kept key own bytes e same =
+      insert_entry-absent (λ x y. bytes_eq (name x) (name y)) own bytes kept
+      (absent_from_lookup (λ k. bytes_eq (name own) (name k)) kept (ap (λ t. lookup (λ k. bytes_eq t (name k)) kept) same ∙ sym e))
 
-  pub with_decoded-known : (bytes : Bor (List ℕ)) → Some bytes ≡ lookup (λ k. bytes_eq key k.now) kept → s ≡ with_decoded s key
-  with_decoded-known bytes e = rw (is_decoded-lookup (Some bytes) e)
+  -- the keys and the kept bytes after one more
+  pub shown_by-push : (kept : List (K × Bor (List ℕ))) (own : K) (bytes : Bor (List ℕ)) → shown_by name (kept ++ (own, bytes) ∷ []) ≡ shown_by name kept ++ (name own, bytes.now) ∷ []
+  shown_by-push kept own bytes = map-append (λ (e : K × Bor (List ℕ)). let shown : List ℕ × List ℕ = (name e.0, e.1.now) in shown) kept ((own, bytes) ∷ [])
 
-  -- where it is not
-  pub is_decoded-new : None ≡ lookup (λ k. bytes_eq key k.now) kept → is_decoded s key ≡ false
-  is_decoded-new e = is_decoded-lookup None e
+  -- ---- what is seen as these entries and these kept keys, at a key
 
-  pub with_decoded-new : (name bytes : Bor (List ℕ)) → None ≡ lookup (λ k. bytes_eq key k.now) kept → name.now ≡ key
-      → record { texts = texts; decoded = keys_of (map deref_pair (kept ++ (name, bytes) ∷ [])) } ≡ with_decoded s key
-  with_decoded-new name bytes e same =
-      let texts_same : texts ≡ s.texts = ap (λ r. r.texts) shown in
-      let keys_more : keys_of (map deref_pair (kept ++ (name, bytes) ∷ [])) ≡ s.decoded ++ key ∷ [] =
-      ap keys_of (map-deref_pair-push kept name bytes) ∙ map-append (λ e. e.0) (map deref_pair kept) ((name.now, bytes.now) ∷ [])
-      ∙ ap (λ r. r.decoded ++ name.now ∷ []) shown ∙ ap (λ k. s.decoded ++ k ∷ []) same in
-      rw (is_decoded-new e, texts_same, keys_more)
+  module _ (s : Given) (entries : ByKey) (kept : List (K × Bor (List ℕ))) (shown : record { entries = entries; fetched = keys_of (shown_by name kept) } ≡ s) (key : List ℕ) where
+    is_fetched-lookup : (found : Option (Bor (List ℕ))) → found ≡ lookup (λ k. bytes_eq key (name k)) kept → is_fetched s key ≡ is_some (option_copied found)
+    is_fetched-lookup found e =
+        ap (λ r. is_fetched r key) (sym shown) ∙ sym (is_some-lookup (bytes_eq key) (shown_by name kept))
+        ∙ ap is_some (sym (lookup-shown key kept)) ∙ ap (λ o. is_some (option_copied o)) (sym e)
 
-  pub undecoded_len-new : (text : List ℕ) → None ≡ lookup (λ k. bytes_eq key k.now) kept → Some text ≡ text_of texts key → undecoded_len s key ≡ length text
-  undecoded_len-new text e found = rw (is_decoded-new e, ← shown, ← found)
+    -- where the key is found
+    pub holds-known : (P : ByKey → List ℕ → List ℕ → Type 0) (bytes : Bor (List ℕ)) → All (λ e. P entries e.0 e.1) (shown_by name kept) → Some bytes ≡ lookup (λ k. bytes_eq key (name k)) kept → P s.entries key bytes.now
+    holds-known P bytes h e =
+        subst (λ r. P r.entries key bytes.now) shown
+        (found_holds (P entries) key (shown_by name kept) bytes.now h (sym (lookup-shown key kept) ∙ ap option_copied (sym e)))
 
-  pub undecodable-new : (text : List ℕ) (fault : StoreFault) → Some text ≡ text_of texts key → Told (why_told fault) (decoding (Some text)) → fault ≡ Bad Base64
-      → (bytes : List ℕ) → IsBytes bytes → text_of s.texts key ≢ Some (encode_of standard bytes)
-  undecodable-new text fault found said is bytes h e = undecodable text fault said is bytes h (found ∙ ap (λ r. text_of r.texts key) shown ∙ e)
+    pub with_fetched-known : (bytes : Bor (List ℕ)) → Some bytes ≡ lookup (λ k. bytes_eq key (name k)) kept → s ≡ with_fetched s key
+    with_fetched-known bytes e = rw (is_fetched-lookup (Some bytes) e)
+
+    -- where it is not
+    pub is_fetched-new : None ≡ lookup (λ k. bytes_eq key (name k)) kept → is_fetched s key ≡ false
+    is_fetched-new e = is_fetched-lookup None e
+
+    pub with_fetched-new : (own : K) (bytes : Bor (List ℕ)) → None ≡ lookup (λ k. bytes_eq key (name k)) kept → name own ≡ key
+        → record { entries = entries; fetched = keys_of (shown_by name (kept ++ (own, bytes) ∷ [])) } ≡ with_fetched s key
+    with_fetched-new own bytes e same =
+        let entries_same : entries ≡ s.entries = ap (λ r. r.entries) shown in
+        let keys_more : keys_of (shown_by name (kept ++ (own, bytes) ∷ [])) ≡ s.fetched ++ key ∷ [] =
+        ap keys_of (shown_by-push kept own bytes) ∙ map-append (λ e. e.0) (shown_by name kept) ((name own, bytes.now) ∷ [])
+        ∙ ap (λ r. r.fetched ++ name own ∷ []) shown ∙ ap (λ k. s.fetched ++ k ∷ []) same in
+        rw (is_fetched-new e, entries_same, keys_more)
+
+    pub unfetched_len-new : (found : List ℕ) → None ≡ lookup (λ k. bytes_eq key (name k)) kept → Some found ≡ at_key entries key → unfetched_len s key ≡ length found
+    unfetched_len-new found e is = rw (is_fetched-new e, ← shown, ← is)
+
+-- an entry is found though others come behind it
+at_key-append : (entries more : ByKey) (key bytes : List ℕ) → at_key entries key ≡ Some bytes
+    → at_key (entries ++ more) key ≡ Some bytes
+at_key-append [] more key bytes is = absurd (cc)
+at_key-append (e ∷ entries) more key bytes is =
+    by (bytes_eq key e.0) (at_key-append entries more key bytes) is
+  where
+    by : (b : Bool) → (at_key entries key ≡ Some bytes → at_key (entries ++ more) key ≡ Some bytes)
+        → cond b (Some e.1) (at_key entries key) ≡ Some bytes → cond b (Some e.1) (at_key (entries ++ more) key) ≡ Some bytes
+    by true later is = is
+    by false later is = later is
+
+pub AreCopied-append : (entries more known : ByKey) → AreCopied entries known → AreCopied (entries ++ more) known
+AreCopied-append entries more known h k d lt = at_key-append entries more _ _ (h k d lt)
+
+-- what holds of all that is kept, and of one more
+pub holds-push : {K : Type 0} (name : K → List ℕ) (P : List ℕ → List ℕ → Type 0) (kept : List (K × Bor (List ℕ))) (own : K) (bytes : Bor (List ℕ)) → All (λ e. P e.0 e.1) (shown_by name kept) → P (name own) bytes.now
+    → All (λ e. P e.0 e.1) (shown_by name (kept ++ (own, bytes) ∷ []))
+holds-push name P kept own bytes h new = rw (shown_by-push name kept own bytes) (All-push (λ e. P e.0 e.1) (shown_by name kept) (name own, bytes.now) h new)

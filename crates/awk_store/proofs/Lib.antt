@@ -1,3 +1,3 @@
-pub mod Texts
+pub mod ByKeyLaws
 pub mod Kept
 mod Examples

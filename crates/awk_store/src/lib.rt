@@ -1,11 +1,14 @@
-//! Buffers by key: the bytes that a map's texts encode, each decoded once into an arena.
+//! Buffers by key: the bytes that a map's texts encode, and bytes that were added, each put into an
+//! arena once.
 //!
 //! `Store::fetch` gives the bytes of a key, or tells that it is absent or that its text is no
 //! base64.
 #![tactic(auto)]
 
 mod fault;
+mod raws;
 mod store;
+mod texts;
 
 pub use fault::{BufferWhy, StoreFault};
 pub use store::Store;

@@ -3,7 +3,6 @@ use Rattle.std.proofs.Common.{◌≡◌, ◌<◌, ℕ, ◌+◌, List, Option, sy
 use Rattle.awk_types.specs.DataType.{Name}
 use Rattle.awk_lanes.specs.declared.kind.Kind.TheVariants as kind
 use Rattle.awk_lanes.specs.Places.{at, IsIndexKind}
-use Rattle.awk_lanes.proofs.NumberParts.{get_or-numbers}
 use Rattle.awk_lanes.proofs.PlaceLaws.{at-index}
 use Rattle.awk_form.specs.declared.kind.IndexKind.{IndexKind}
 use Rattle.awk_form.specs.declared.kind.IndexKind.TheVariants.{I32, U32, I64}
@@ -11,6 +10,7 @@ use Rattle.awk_valid.specs.Container.{Container, bytes_at, kind_of_index, index_
 use Rattle.awk_valid.specs.Needs.{reach, behind, behind_at, lists_length, index_length, tag_length}
 use Rattle.awk_valid.specs.Broken.{rule_break, list_rule, index_rule, tag_rule}
 use Rattle.awk_valid.proofs.LengthLaws.{greatest_below-same, rule_break-same}
+use Rattle.awk_valid.proofs.OrderLaws.{get_or-numbers_by}
 
 -- ---- numbers by place
 
@@ -22,11 +22,11 @@ index_kind I64 = tt
 pub index-num : (c : Container) (key : Option Name) (attribute : List ℕ) (k : IndexKind) (n i : ℕ)
     → i < n → at (index_at c key attribute k n) i ≡ index_num c key attribute k i
 index-num c key attribute k n i h = at-index (index_at c key attribute k n) i (index_kind k)
-    ∙ get_or-numbers (kind_of_index k) n (bytes_at c key attribute) i h
+    ∙ get_or-numbers_by c.big (kind_of_index k) n (bytes_at c key attribute) i h
 
 pub int8-num : (c : Container) (key : Option Name) (attribute : List ℕ) (n i : ℕ) → i < n
     → at (int8s_at c key attribute n) i ≡ int8_num c key attribute i
-int8-num c key attribute n i h = get_or-numbers kind.I8 n (bytes_at c key attribute) i h
+int8-num c key attribute n i h = get_or-numbers_by c.big kind.I8 n (bytes_at c key attribute) i h
 
 -- ---- of nodes of a form key
 

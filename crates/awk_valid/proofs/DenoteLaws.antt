@@ -16,7 +16,6 @@ use Rattle.awk_lanes.specs.declared.kind.Kind.TheVariants as kind
 use Rattle.awk_lanes.specs.Bits.{bit, bits}
 use Rattle.awk_lanes.specs.Numbers.{is_nonzero, nat_of, element as read_as}
 use Rattle.awk_lanes.specs.Places.{at, option_place, IsSpan}
-use Rattle.awk_lanes.proofs.NumberParts.{get_or-numbers, length-numbers}
 use Rattle.awk_lanes.proofs.BitParts.{get_or-bits, length-bits}
 use Rattle.awk_layout.specs.Layout.{Layout}
 use Rattle.awk_layout.specs.Item as layout_item
@@ -38,6 +37,7 @@ use Rattle.awk_valid.proofs.ShapeLaws.{content-len}
 use Rattle.awk_valid.proofs.TypeLaws.{layout_type-layout_of}
 use Rattle.awk_valid.proofs.ValidLaws.{size_of-index_at, size_of-int8s_at, own, walked, no-items}
 use Rattle.awk_valid.proofs.ByteLaws.{index-num, int8-num}
+use Rattle.awk_valid.proofs.OrderLaws.{length-numbers_by, get_or-numbers_by}
 
 -- ---- numbers by place
 
@@ -49,18 +49,18 @@ truth-read (pos zero) = refl
 truth-read (pos (suc n)) = refl
 truth-read (negsuc n) = refl
 
-leaf-element : (p : Primitive) (b : List ℕ) (n i : ℕ) → i < n
-    → leaf_value (kind_of p) (at (column_at (kind_of p) n b) i) ≡ element p b i
-leaf-element primitive.Bool b n i h =
-    ap truth (truth-read _ ∙ ap is_nonzero (get_or-numbers kind.Bool n b i h))
-leaf-element primitive.I8 b n i h = ap int (get_or-numbers kind.I8 n b i h)
-leaf-element primitive.I16 b n i h = ap int (get_or-numbers kind.I16 n b i h)
-leaf-element primitive.I32 b n i h = ap int (get_or-numbers kind.I32 n b i h)
-leaf-element primitive.I64 b n i h = ap int (get_or-numbers kind.I64 n b i h)
-leaf-element primitive.U8 b n i h = ap int (get_or-numbers kind.U8 n b i h)
-leaf-element primitive.U16 b n i h = ap int (get_or-numbers kind.U16 n b i h)
-leaf-element primitive.U32 b n i h = ap int (get_or-numbers kind.U32 n b i h)
-leaf-element primitive.U64 b n i h = ap int (get_or-numbers kind.U64 n b i h)
+leaf-element : (big : Bool) (p : Primitive) (b : List ℕ) (n i : ℕ) → i < n
+    → leaf_value (kind_of p) (at (column_at big (kind_of p) n b) i) ≡ element big p b i
+leaf-element big primitive.Bool b n i h =
+    ap truth (truth-read _ ∙ ap is_nonzero (get_or-numbers_by big kind.Bool n b i h))
+leaf-element big primitive.I8 b n i h = ap int (get_or-numbers_by big kind.I8 n b i h)
+leaf-element big primitive.I16 b n i h = ap int (get_or-numbers_by big kind.I16 n b i h)
+leaf-element big primitive.I32 b n i h = ap int (get_or-numbers_by big kind.I32 n b i h)
+leaf-element big primitive.I64 b n i h = ap int (get_or-numbers_by big kind.I64 n b i h)
+leaf-element big primitive.U8 b n i h = ap int (get_or-numbers_by big kind.U8 n b i h)
+leaf-element big primitive.U16 b n i h = ap int (get_or-numbers_by big kind.U16 n b i h)
+leaf-element big primitive.U32 b n i h = ap int (get_or-numbers_by big kind.U32 n b i h)
+leaf-element big primitive.U64 b n i h = ap int (get_or-numbers_by big kind.U64 n b i h)
 
 -- ---- items at places in a row
 
@@ -121,8 +121,8 @@ mutual
       → i < n → layout_item.item (layout_of f n c) i ≡ item f c i
   item-denoted (empty key) m n c h i l = refl
   item-denoted (numpy key prim inner) m n c h i l =
-      shaped-same inner n _ (element prim (bytes_at c key (codes "data")))
-      (leaf-element prim (bytes_at c key (codes "data")) (n * product inner)) i l
+      shaped-same inner n _ (element c.big prim (bytes_at c key (codes "data")))
+      (leaf-element c.big prim (bytes_at c key (codes "data")) (n * product inner)) i l
   item-denoted (regular key size f) m n c h i l =
       let p = walked (regular key size f) m n c _ h in
       ap list
@@ -234,7 +234,7 @@ pub len-layout_of : (f : FormTree) (m n : ℕ) (c : Container) → broken_from f
 len-layout_of (empty key) m n c h = no-items m n (own (empty key) m n c h).1
 len-layout_of (numpy key prim inner) m n c h =
     content-len n inner _ _ _ refl refl
-    (length-numbers (kind_of prim) (n * product inner) (bytes_at c key (codes "data")))
+    (length-numbers_by c.big (kind_of prim) (n * product inner) (bytes_at c key (codes "data")))
 len-layout_of (regular key size f) m n c h = refl
 len-layout_of (list_array key j k f) m n c h = size_of-index_at c key (codes "starts") j n
 len-layout_of (list_offset key k f) m n c h =

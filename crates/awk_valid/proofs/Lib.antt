@@ -1,6 +1,8 @@
 pub mod Worked
+mod WorkedOrders
 pub mod TypeLaws
 pub mod Places
+pub mod OrderLaws
 pub mod ByteLaws
 pub mod ValidLaws
 pub mod LaneLaws

@@ -9,18 +9,17 @@ use Rattle.awk_types.specs.Gives.{Told, refused_or, ◌or◌}
 use Rattle.awk_lanes.specs.Column.{Column}
 use Rattle.awk_lanes.specs.Numbers.{width}
 use Rattle.awk_lanes.specs.Places.{size_of, at, IsIndexKind}
-use Rattle.awk_store.specs.Buffers.{ByKey}
 use Rattle.awk_form.specs.FormTree.{FormTree, list, list_offset, indexed, indexed_option, union, FormTrees}
 use Rattle.awk_form.specs.FormText.{key_of}
 use Rattle.awk_form.specs.Lawful.{count}
 use Rattle.awk_form.specs.Measures.{inner_shape}
 use Rattle.awk_form.specs.declared.kind.IndexKind.{IndexKind}
-use Rattle.awk_valid.specs.Container.{Container, container_of, kind_of_index, buffer_key, index_at, int8s_at}
+use Rattle.awk_valid.specs.Container.{Container, kind_of_index, buffer_key, index_at, int8s_at}
 use Rattle.awk_valid.specs.Needs.{buffer_needs, lists_length, index_length, tag_length, content_length}
 use Rattle.awk_valid.specs.Broken.{Refusal, size_break, shape_break, bytes_break, buffers_break, places_break, node_break, rule_break, list_rule, index_rule, tag_rule}
 use Rattle.awk_valid.specs.Loading.{told}
 use Rattle.awk_valid.specs.Parts.{lengths_of, own_of}
-use Rattle.awk_valid.specs.Walked.{product_break, own_break, own_said, GivesOwn}
+use Rattle.awk_valid.specs.Walked.{Given, container_in, product_break, own_break, own_said, GivesOwn}
 use Rattle.awk_valid.specs.declared.fault.LoadFault.{LoadFault}
 use Rattle.awk_valid.specs.declared.own.Own.{Own}
 use Rattle.awk_valid.proofs.ValidLaws.{size_of-index_at, size_of-int8s_at}
@@ -35,44 +34,44 @@ same_lengths n a (suc count) = ap (λ l. n ∷ l) (same_lengths n (a + 1) count)
 -- ---- a node of any class
 
 -- a part that fails tells a fault of the node
-pub part-fails : (f : FormTree) (m n : ℕ) (t : ByKey) (r : Result (Own × Vec ℕ) LoadFault)
+pub part-fails : (f : FormTree) (m n : ℕ) (t : Given) (r : Result (Own × Vec ℕ) LoadFault)
     (e : LoadFault) → IsErrAnd r (λ x. x ≡ e) → Told (told e) (own_said f m n t)
     → GivesOwn f m n t r
 unfolding own_said
 part-fails f m n t r e is h =
     Gives-fails {Y = Own × List ℕ} (λ x. (x.0, x.1.items)) r e
-    (refused_or (own_break f m n (container_of t))
-    (own_of f n (container_of t), lengths_of f n (container_of t))) is h
+    (refused_or (own_break f m n (container_in t))
+    (own_of f n (container_in t), lengths_of f n (container_in t))) is h
 
 -- a part that is made, where its node has no break
-pub part-made : (f : FormTree) (m n : ℕ) (t : ByKey) (own : Own) (lengths : Vec ℕ)
-    → own_break f m n (container_of t) ≡ None → own_of f n (container_of t) ≡ own
-    → lengths_of f n (container_of t) ≡ lengths.items → GivesOwn f m n t (Ok (own, lengths))
+pub part-made : (f : FormTree) (m n : ℕ) (t : Given) (own : Own) (lengths : Vec ℕ)
+    → own_break f m n (container_in t) ≡ None → own_of f n (container_in t) ≡ own
+    → lengths_of f n (container_in t) ≡ lengths.items → GivesOwn f m n t (Ok (own, lengths))
 part-made f m n t own lengths none is long =
-    refused_or-None (own_break f m n (container_of t))
-    (own_of f n (container_of t), lengths_of f n (container_of t)) (own, lengths.items) none
+    refused_or-None (own_break f m n (container_in t))
+    (own_of f n (container_in t), lengths_of f n (container_in t)) (own, lengths.items) none
     (ap₂ (λ x ls. (x, ls)) is long)
 
 -- what breaks the node itself is told
-pub told-node : {A : Type 0} (o : Option Refusal) (f : FormTree) (m n : ℕ) (t : ByKey) (x : A)
-    → Told o (refused_or (node_break f m n (container_of t)) x) → Told o (own_said f m n t)
+pub told-node : {A : Type 0} (o : Option Refusal) (f : FormTree) (m n : ℕ) (t : Given) (x : A)
+    → Told o (refused_or (node_break f m n (container_in t)) x) → Told o (own_said f m n t)
 unfolding own_said
 told-node o f m n t x h =
-    Told-first o (node_break f m n (container_of t)) (product_break f n) x
-    (own_of f n (container_of t), lengths_of f n (container_of t)) h
+    Told-first o (node_break f m n (container_in t)) (product_break f n) x
+    (own_of f n (container_in t), lengths_of f n (container_in t)) h
 
 -- what breaks its buffers is told where its sizes are right
-pub told-buffers : {A : Type 0} (o : Option Refusal) (f : FormTree) (m n : ℕ) (t : ByKey) (x : A)
+pub told-buffers : {A : Type 0} (o : Option Refusal) (f : FormTree) (m n : ℕ) (t : Given) (x : A)
     → shape_break n (inner_shape f) ≡ None
-    → Told o (refused_or (buffers_break (container_of t) (key_of f) (buffer_needs f n)) x)
+    → Told o (refused_or (buffers_break (container_in t) (key_of f) (buffer_needs f n)) x)
     → Told o (own_said f m n t)
 told-buffers o f m n t x small h =
     told-node o f m n t x
     (Told-later o (shape_break n (inner_shape f))
-    (buffers_break (container_of t) (key_of f) (buffer_needs f n)
-    or places_break f m n (container_of t)) x x small
-    (Told-first o (buffers_break (container_of t) (key_of f) (buffer_needs f n))
-    (places_break f m n (container_of t)) x x h))
+    (buffers_break (container_in t) (key_of f) (buffer_needs f n)
+    or places_break f m n (container_in t)) x x small
+    (Told-first o (buffers_break (container_in t) (key_of f) (buffer_needs f n))
+    (places_break f m n (container_in t)) x x h))
 
 -- the second of two is told behind the first
 pub told-second : {A : Type 0} (o a b : Option Refusal) (x : A) → a ≡ None
@@ -80,13 +79,13 @@ pub told-second : {A : Type 0} (o a b : Option Refusal) (x : A) → a ≡ None
 told-second o a b x first h = Told-later o a (b or None) x x first (Told-first o b None x x h)
 
 -- what breaks the places of the node is told where nothing else breaks it
-pub told-places : {A : Type 0} (o : Option Refusal) (f : FormTree) (m n : ℕ) (t : ByKey)
-    (b : Option Refusal) (x : A) → own_break f m n (container_of t) ≡ b
+pub told-places : {A : Type 0} (o : Option Refusal) (f : FormTree) (m n : ℕ) (t : Given)
+    (b : Option Refusal) (x : A) → own_break f m n (container_in t) ≡ b
     → Told o (refused_or b x) → Told o (own_said f m n t)
 unfolding own_said
 told-places o f m n t b x is h =
-    Told-same o (own_break f m n (container_of t)) b x
-    (own_of f n (container_of t), lengths_of f n (container_of t)) is h
+    Told-same o (own_break f m n (container_in t)) b x
+    (own_of f n (container_in t), lengths_of f n (container_in t)) is h
 
 -- a node breaks at its places alone, where its sizes and its buffers are right
 pub own-places : (f : FormTree) (m n : ℕ) (c : Container) → shape_break n (inner_shape f) ≡ None
@@ -115,50 +114,50 @@ own-none f m n c none product = both_none (node_break f m n c) (product_break f 
 abbrev pub index_break : Container → Option Name → List ℕ → IndexKind → ℕ → Option Refusal
 index_break c key attribute k n =
     bytes_break (buffer_key key attribute) (n * width (kind_of_index k))
-    (c (buffer_key key attribute))
+    (c.bytes (buffer_key key attribute))
 
 -- and of n tags, or bytes of a mask
 abbrev pub int8s_break : Container → Option Name → List ℕ → ℕ → Option Refusal
 int8s_break c key attribute n =
-    bytes_break (buffer_key key attribute) n (c (buffer_key key attribute))
+    bytes_break (buffer_key key attribute) n (c.bytes (buffer_key key attribute))
 
 -- the lane that was made of a buffer
-pub index_fetched : (t u : ByKey) (key : Option Name) (attribute : List ℕ) (k : IndexKind) (n : ℕ)
+pub index_fetched : (t u : Given) (key : Option Name) (attribute : List ℕ) (k : IndexKind) (n : ℕ)
     (lane : Column) → u ≡ t
-    → refused_or (index_break (container_of u) key attribute k n)
-    (index_at (container_of u) key attribute k n) ≡ Ok lane
-    → (index_break (container_of t) key attribute k n ≡ None)
-    × (index_at (container_of t) key attribute k n ≡ lane) × (size_of lane ≡ n)
+    → refused_or (index_break (container_in u) key attribute k n)
+    (index_at (container_in u) key attribute k n) ≡ Ok lane
+    → (index_break (container_in t) key attribute k n ≡ None)
+    × (index_at (container_in t) key attribute k n ≡ lane) × (size_of lane ≡ n)
     × IsIndexKind lane.kind
 index_fetched t u key attribute k n lane same h =
     let p =
-    refused_or-Ok (index_break (container_of u) key attribute k n)
-    (index_at (container_of u) key attribute k n) lane h in
-    let is = subst (λ v. index_at (container_of v) key attribute k n ≡ lane) same p.1 in (
-      subst (λ v. index_break (container_of v) key attribute k n ≡ None) same p.0,
+    refused_or-Ok (index_break (container_in u) key attribute k n)
+    (index_at (container_in u) key attribute k n) lane h in
+    let is = subst (λ v. index_at (container_in v) key attribute k n ≡ lane) same p.1 in (
+      subst (λ v. index_break (container_in v) key attribute k n ≡ None) same p.0,
       is,
-      ap size_of (sym is) ∙ size_of-index_at (container_of t) key attribute k n,
+      ap size_of (sym is) ∙ size_of-index_at (container_in t) key attribute k n,
       subst (λ l. IsIndexKind l.kind) is (index_kind k),
     )
 
-pub int8s_fetched : (t : ByKey) (key : Option Name) (attribute : List ℕ) (n : ℕ) (lane : Column)
-    → refused_or (int8s_break (container_of t) key attribute n)
-    (int8s_at (container_of t) key attribute n) ≡ Ok lane
-    → (int8s_break (container_of t) key attribute n ≡ None)
-    × (int8s_at (container_of t) key attribute n ≡ lane) × (size_of lane ≡ n)
+pub int8s_fetched : (t : Given) (key : Option Name) (attribute : List ℕ) (n : ℕ) (lane : Column)
+    → refused_or (int8s_break (container_in t) key attribute n)
+    (int8s_at (container_in t) key attribute n) ≡ Ok lane
+    → (int8s_break (container_in t) key attribute n ≡ None)
+    × (int8s_at (container_in t) key attribute n ≡ lane) × (size_of lane ≡ n)
 int8s_fetched t key attribute n lane h =
     let p =
-    refused_or-Ok (int8s_break (container_of t) key attribute n)
-    (int8s_at (container_of t) key attribute n) lane h in
-    (p.0, p.1, ap size_of (sym p.1) ∙ size_of-int8s_at (container_of t) key attribute n)
+    refused_or-Ok (int8s_break (container_in t) key attribute n)
+    (int8s_at (container_in t) key attribute n) lane h in
+    (p.0, p.1, ap size_of (sym p.1) ∙ size_of-int8s_at (container_in t) key attribute n)
 
--- a break of an index is told of the same texts
-pub index_told : {A : Type 0} (o : Option Refusal) (t u : ByKey) (key : Option Name)
+-- a break of an index is told of the same buffers
+pub index_told : {A : Type 0} (o : Option Refusal) (t u : Given) (key : Option Name)
     (attribute : List ℕ) (k : IndexKind) (n : ℕ) (x : A) → u ≡ t
-    → Told o (refused_or (index_break (container_of u) key attribute k n) x)
-    → Told o (refused_or (index_break (container_of t) key attribute k n) x)
+    → Told o (refused_or (index_break (container_in u) key attribute k n) x)
+    → Told o (refused_or (index_break (container_in t) key attribute k n) x)
 index_told o t u key attribute k n x same h =
-    subst (λ v. Told o (refused_or (index_break (container_of v) key attribute k n) x)) same h
+    subst (λ v. Told o (refused_or (index_break (container_in v) key attribute k n) x)) same h
 
 -- ---- the rule of a node is judged over the lanes that were made
 

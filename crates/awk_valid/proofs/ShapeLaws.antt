@@ -1,5 +1,5 @@
 -- The sizes of an inner shape, from a place on.
-use Rattle.std.proofs.Common.{◌≡◌, ◌≤◌, ℕ, ◌+◌, ◌*◌, List, [], ◌∷◌, drop, Some, None, Option, Ok, refl, sym, ap, ◌∙◌, arith, false}
+use Rattle.std.proofs.Common.{◌≡◌, ◌≤◌, ℕ, ◌+◌, ◌*◌, List, [], ◌∷◌, drop, Some, None, Option, Ok, refl, sym, ap, ◌∙◌, arith, Bool, false}
 use Rattle.std.specs.Prelude.{nat_lt}
 use Rattle.std.specs.List.{slice_get}
 use Rattle.std.proofs.Math.Nat.{mul_assoc}
@@ -12,13 +12,13 @@ use Rattle.awk_types.specs.ItemLimit.{item_limit}
 use Rattle.awk_lanes.specs.declared.kind.Kind.{Kind}
 use Rattle.awk_lanes.specs.Column.{Column}
 use Rattle.awk_lanes.specs.Places.{size_of}
-use Rattle.awk_lanes.proofs.NumberParts.{length-numbers}
 use Rattle.awk_layout.specs.Layout.{Layout, regular}
 use Rattle.awk_layout.specs.Valid.{len}
 use Rattle.awk_valid.specs.Broken.{Refusal, size_break, shape_break}
 use Rattle.awk_valid.specs.Container.{column_at}
 use Rattle.awk_valid.specs.Loaded.{shaped}
 use Rattle.awk_valid.specs.Needs.{product}
+use Rattle.awk_valid.proofs.OrderLaws.{length-numbers_by}
 use Rattle.awk_valid.proofs.Places.{size_break-none}
 
 -- the numbers from a place on begin with the one there
@@ -31,10 +31,12 @@ left inner i m at =
 -- ---- judging
 
 -- a lane that was read has so many numbers
-pub read-size : (b : Option Refusal) (k : Kind) (n : ℕ) (bytes : List ℕ) (lane : Column)
-    → refused_or b (column_at k n bytes) ≡ Ok lane → size_of lane ≡ n
-read-size b k n bytes lane h =
-    ap size_of (sym (refused_or-Ok b (column_at k n bytes) lane h).1) ∙ length-numbers k n bytes
+pub read-size : (b : Option Refusal) (big : Bool) (k : Kind) (n : ℕ) (bytes : List ℕ)
+    (lane : Column)
+    → refused_or b (column_at big k n bytes) ≡ Ok lane → size_of lane ≡ n
+read-size b big k n bytes lane h =
+    ap size_of (sym (refused_or-Ok b (column_at big k n bytes) lane h).1)
+    ∙ length-numbers_by big k n bytes
 
 size_break-small : (n : ℕ) → n ≤ item_limit → size_break n ≡ None
 size_break-small n h =

@@ -6,7 +6,6 @@ use Rattle.awk_types.specs.DataType.{Name}
 use Rattle.awk_types.specs.ItemLimit.{item_limit}
 use Rattle.awk_lanes.specs.declared.kind.Kind.{Kind}
 use Rattle.awk_lanes.specs.Places.{size_of, at, place_at, IsOptionKind, AreSpans, IsOffsets, IsIndex, IsOptionalIndex}
-use Rattle.awk_lanes.proofs.NumberParts.{length-numbers}
 use Rattle.awk_lanes.proofs.BitParts.{length-bits}
 use Rattle.awk_layout.specs.Layout as made
 use Rattle.awk_layout.specs.Layout.{Layout, Layouts}
@@ -24,6 +23,7 @@ use Rattle.awk_valid.specs.Loaded.{shaped, layout_of, layouts_of}
 use Rattle.awk_form.specs.FormText.{key_of}
 use Rattle.awk_valid.specs.Broken.{Refusal, buffers_break, places_break, node_break, size_break, shape_break, rule_break, list_rule, index_rule, tag_rule, broken_from, all_broken_from, broken}
 use Rattle.awk_valid.specs.declared.fault.Rule.TheVariants.{Empty}
+use Rattle.awk_valid.proofs.OrderLaws.{length-numbers_by}
 use Rattle.awk_valid.proofs.Places.{size_break-none, rule_break-none, greatest_below-at, list_rule-none, index_rule-none, below-behind, tag_rule-none, behind_at-own}
 use Rattle.awk_valid.proofs.ByteLaws.{index_kind, spans-rule, spans-length, offsets-rule, offsets-length, index-rule, index-length, tags-rule, tags-length}
 
@@ -36,11 +36,13 @@ option_kind I64 h = tt
 
 pub size_of-index_at : (c : Container) (key : Option Name) (attribute : List ℕ) (k : IndexKind)
     (n : ℕ) → size_of (index_at c key attribute k n) ≡ n
-size_of-index_at c key attribute k n = length-numbers (kind_of_index k) n (bytes_at c key attribute)
+size_of-index_at c key attribute k n =
+    length-numbers_by c.big (kind_of_index k) n (bytes_at c key attribute)
 
 pub size_of-int8s_at : (c : Container) (key : Option Name) (attribute : List ℕ) (n : ℕ)
     → size_of (int8s_at c key attribute n) ≡ n
-size_of-int8s_at c key attribute n = length-numbers Kind.I8 n (bytes_at c key attribute)
+size_of-int8s_at c key attribute n =
+    length-numbers_by c.big Kind.I8 n (bytes_at c key attribute)
 
 -- ---- the classes
 
@@ -242,9 +244,11 @@ mutual
   layout_of-valid (empty key) m n c w h = (tt, no-items m n (own (empty key) m n c h).1)
   layout_of-valid (numpy key prim inner) m n c w h =
       let shape = (own (numpy key prim inner) m n c h).0 in
-      let l = length-numbers (kind_of prim) (n * product inner) (bytes_at c key (codes "data")) in
+      let l =
+      length-numbers_by c.big (kind_of prim) (n * product inner) (bytes_at c key (codes "data")) in
       shaped-valid inner n
-      (made.flat (column_at (kind_of prim) (n * product inner) (bytes_at c key (codes "data"))))
+      (made.flat
+      (column_at c.big (kind_of prim) (n * product inner) (bytes_at c key (codes "data"))))
       shape l (omega (arith, l, shape-small inner n shape))
   layout_of-valid (regular key size f) m n c w h =
       let p = walked (regular key size f) m n c _ h in

@@ -6,7 +6,7 @@ use Rattle.std.proofs.lemmas.Option.{slice_get_within, get_or_from_slice_get}
 use Rattle.std.specs.Global.{Vec}
 use Rattle.awk_types.proofs.RefusalLaws.{Told-first, refused_or-Ok, or-None, or-last, or-assoc}
 use Rattle.awk_types.specs.Gives.{Gives, Told, refused_or, ◌or◌}
-use Rattle.awk_store.specs.Buffers.{ByKey, total_len}
+use Rattle.awk_store.specs.Buffers.{held_len}
 use Rattle.awk_layout.specs.Layout as made
 use Rattle.awk_layout.specs.Layout.{Layout, Layouts, layouts_from}
 use Rattle.awk_layout.specs.Valid.{IsValid}
@@ -15,14 +15,14 @@ use Rattle.awk_form.specs.FormText.{key_of}
 use Rattle.awk_form.specs.Lawful.{count, IsLawful, AreLawful}
 use Rattle.awk_form.specs.Measures.{inner_shape, nodes, nodes_of}
 use Rattle.awk_form.specs.Induction.{width-contents}
-use Rattle.awk_valid.specs.Container.{Container, container_of, index_at, int8s_at}
+use Rattle.awk_valid.specs.Container.{Container, index_at, int8s_at}
 use Rattle.awk_valid.specs.Needs.{buffer_needs, content_length}
 use Rattle.awk_valid.specs.Loaded.{layout_of, layouts_of}
 use Rattle.awk_valid.specs.Broken.{Refusal, size_break, shape_break, buffers_break, places_break, node_break, broken_from, all_broken_from}
 use Rattle.awk_form.specs.FormTree.{contents_of}
 use Rattle.awk_valid.specs.Parts.{lengths_of, own_of, over, layout_list}
 use Rattle.awk_form.specs.Measures.{width, width_of}
-use Rattle.awk_valid.specs.Walked.{node_said, product_break, own_break, own_said, GivesOwn, rest, left_said, budget}
+use Rattle.awk_valid.specs.Walked.{Given, container_in, node_said, product_break, own_break, own_said, GivesOwn, rest, left_said, budget}
 use Rattle.awk_valid.specs.Loading.{told}
 use Rattle.awk_valid.specs.declared.fault.LoadFault.{LoadFault}
 use Rattle.awk_valid.specs.declared.own.Own.{Own}
@@ -31,12 +31,12 @@ use Rattle.awk_valid.proofs.ValidLaws.{layout_of-valid}
 -- ---- steps
 
 -- a node takes the steps of its own part, of its contents, and two more
-budget-node : (own w : ℕ) (t : ByKey)
-    → 4 * total_len t + own + 3 + budget w t ≤ budget (own + 1 + w) t
+budget-node : (own w : ℕ) (t : Given)
+    → 4 * held_len t.held + own + 3 + budget w t ≤ budget (own + 1 + w) t
 unfolding budget
 budget-node own w t = omega arith
 
-budget-sum : (v w : ℕ) (t : ByKey) → budget (v + w) t ≡ budget v t + budget w t
+budget-sum : (v w : ℕ) (t : Given) → budget (v + w) t ≡ budget v t + budget w t
 unfolding budget
 budget-sum v w t = omega arith
 
@@ -45,8 +45,8 @@ width-split : (f : FormTree) → width f ≡ length (inner_shape f) + 1 + width_
 width-split f = omega (arith, width-contents f)
 
 -- the steps of its own part leave enough for its contents
-pub steps-own : (f : FormTree) (t : ByKey) (first now : ℕ)
-    → now ≤ first + 4 * total_len t + length (inner_shape f) + 1
+pub steps-own : (f : FormTree) (t : Given) (first now : ℕ)
+    → now ≤ first + 4 * held_len t.held + length (inner_shape f) + 1
     → now + 2 + budget (width_of (contents_of f)) t ≤ first + budget (width f) t
 steps-own f t first now h =
     omega (
@@ -186,18 +186,18 @@ own-over f m n c =
 
 -- ---- what is told
 
-pub own-said : (g f : FormTree) (m n : ℕ) (t : ByKey) (r : Result (Own × Vec ℕ) LoadFault) → g ≡ f
+pub own-said : (g f : FormTree) (m n : ℕ) (t : Given) (r : Result (Own × Vec ℕ) LoadFault) → g ≡ f
     → GivesOwn f m n t r
     → Gives {Y = Own × List ℕ} (λ x. (x.0, x.1.items)) told r (own_said g m n t)
 unfolding own_said
 own-said g f m n t r e h = subst (λ k. GivesOwn k m n t r) (sym e) h
 
 -- a node is told with its own break first
-pub told-own : (o : Option Refusal) (f : FormTree) (m n : ℕ) (t : ByKey) → Told o (own_said f m n t)
+pub told-own : (o : Option Refusal) (f : FormTree) (m n : ℕ) (t : Given) → Told o (own_said f m n t)
     → Told o (node_said f m n t)
 unfolding node_said own_said
 told-own o f m n t h =
-    let c = container_of t in
+    let c = container_in t in
     subst (λ b. Told o (refused_or b (layout_of f n c))) (sym (own-over f m n c))
     (Told-first o (own_break f m n c)
     (all_broken_from (contents_of f) (m + 1) (content_length f n c) c)
@@ -227,36 +227,36 @@ said-over f m n c none =
     (all_broken_from (contents_of f) (m + 1) (content_length f n c) c) none) (layout-over f n c)
 
 -- where there is none, all its contents are left
-pub left-all : (f : FormTree) (m n : ℕ) (t : ByKey) (own : Own) (lengths : List ℕ)
+pub left-all : (f : FormTree) (m n : ℕ) (t : Given) (own : Own) (lengths : List ℕ)
     → own_said f m n t ≡ Ok (own, lengths)
     → (node_said f m n t ≡ left_said f n 0 (m + 1) [] t)
-    × (own_of f n (container_of t) ≡ own) × (lengths_of f n (container_of t) ≡ lengths)
+    × (own_of f n (container_in t) ≡ own) × (lengths_of f n (container_in t) ≡ lengths)
 unfolding node_said own_said left_said over_said
 left-all f m n t own lengths h =
     let said =
-    refused_or-Ok (own_break f m n (container_of t))
-    (own_of f n (container_of t), lengths_of f n (container_of t)) (own, lengths) h in
+    refused_or-Ok (own_break f m n (container_in t))
+    (own_of f n (container_in t), lengths_of f n (container_in t)) (own, lengths) h in
     let from_zero : (k : ℕ) → k ≡ 0 + k = λ k. omega arith in (
-      said-over f m n (container_of t) said.0
-          ∙ (λ p. over_said n (own_of f n (container_of t)) [] (sym (rest-all f) p) (m + 1)
-          (λ k. content_length f n (container_of t) (from_zero k p)) (container_of t)),
+      said-over f m n (container_in t) said.0
+          ∙ (λ p. over_said n (own_of f n (container_in t)) [] (sym (rest-all f) p) (m + 1)
+          (λ k. content_length f n (container_in t) (from_zero k p)) (container_in t)),
       ap (λ q. q.0) said.1,
       ap (λ q. q.1) said.1,
     )
 
 -- there are as many lengths as contents
-pub own-count : (f : FormTree) (m n : ℕ) (t : ByKey) (own : Own) (lengths : List ℕ)
+pub own-count : (f : FormTree) (m n : ℕ) (t : Given) (own : Own) (lengths : List ℕ)
     → own_said f m n t ≡ Ok (own, lengths) → length lengths ≡ count (contents_of f)
 own-count f m n t own lengths h =
     ap length (sym (left-all f m n t own lengths h).2)
-    ∙ length-map-range_with_len (content_length f n (container_of t)) 0 (count (contents_of f))
+    ∙ length-map-range_with_len (content_length f n (container_in t)) 0 (count (contents_of f))
 
 -- and that of a content is the one that is told of it
-pub own-length : (f : FormTree) (m n : ℕ) (t : ByKey) (own : Own) (lengths : List ℕ) (i size : ℕ)
+pub own-length : (f : FormTree) (m n : ℕ) (t : Given) (own : Own) (lengths : List ℕ) (i size : ℕ)
     → own_said f m n t ≡ Ok (own, lengths) → i < count (contents_of f)
-    → size ≡ get_or lengths i size → size ≡ content_length f n (container_of t) i
+    → size ≡ get_or lengths i size → size ≡ content_length f n (container_in t) i
 own-length f m n t own lengths i size h within read =
-    let told = content_length f n (container_of t) in
+    let told = content_length f n (container_in t) in
     let counted = own-count f m n t own lengths h in
     read ∙ get_or_default lengths i size 0 (omega (arith, counted, within))
     ∙ ap (λ ls. get_or ls i 0) (sym (left-all f m n t own lengths h).2)
@@ -279,7 +279,7 @@ pub rest-nodes : (f g : FormTree) (i : ℕ) → slice_get (form_list (contents_o
     → nodes_of (rest f i) ≡ nodes g + nodes_of (rest f (i + 1))
 rest-nodes f g i at = ap nodes_of (rest-first f g i at)
 
-rest-budget : (f g : FormTree) (i : ℕ) (t : ByKey)
+rest-budget : (f g : FormTree) (i : ℕ) (t : Given)
     → slice_get (form_list (contents_of f)) i ≡ Some g
     → budget (width_of (rest f i)) t ≡ budget (width g) t + budget (width_of (rest f (i + 1))) t
 rest-budget f g i t at =
@@ -287,7 +287,7 @@ rest-budget f g i t at =
     ∙ budget-sum (width g) (width_of (rest f (i + 1))) t
 
 -- the steps of that content leave enough for those behind it
-pub steps-next : (f g : FormTree) (i : ℕ) (t u : ByKey) (all now later : ℕ)
+pub steps-next : (f g : FormTree) (i : ℕ) (t u : Given) (all now later : ℕ)
     → slice_get (form_list (contents_of f)) i ≡ Some g → u ≡ t
     → now + 2 + budget (width_of (rest f i)) t ≤ all → later ≤ now + budget (width g) u
     → later + 2 + budget (width_of (rest f (i + 1))) t ≤ all
@@ -295,8 +295,8 @@ steps-next f g i t u all now later at same h l =
     omega (arith, h, l, ap (budget (width g)) same, rest-budget f g i t at)
 
 -- at first the steps of all contents are left
-pub steps-first : (f : FormTree) (t : ByKey) (first now : ℕ)
-    → now ≤ first + 4 * total_len t + length (inner_shape f) + 1
+pub steps-first : (f : FormTree) (t : Given) (first now : ℕ)
+    → now ≤ first + 4 * held_len t.held + length (inner_shape f) + 1
     → now + 2 + budget (width_of (rest f 0)) t ≤ first + budget (width f) t
 steps-first f t first now h =
     omega (arith, steps-own f t first now h, ap (λ gs. budget (width_of gs) t) (rest-all f))
@@ -345,68 +345,68 @@ unfolding over_said
 over-none n own xs j lengths c = ap (λ ys. Ok (over n own ys)) (append-nil xs)
 
 -- what is left of a node, as what is told of these forms
-left-rest : (f : FormTree) (gs : FormTrees) (n i j : ℕ) (xs : List Layout) (t : ByKey)
+left-rest : (f : FormTree) (gs : FormTrees) (n i j : ℕ) (xs : List Layout) (t : Given)
     → rest f i ≡ gs
     → left_said f n i j xs t
-    ≡ over_said n (own_of f n (container_of t)) xs gs j
-    (λ k. content_length f n (container_of t) (i + k)) (container_of t)
+    ≡ over_said n (own_of f n (container_in t)) xs gs j
+    (λ k. content_length f n (container_in t) (i + k)) (container_in t)
 unfolding left_said over_said
 left-rest f gs n i j xs t is =
     ap
-    (λ hs. over_said n (own_of f n (container_of t)) xs hs j
-    (λ k. content_length f n (container_of t) (i + k)) (container_of t)) is
+    (λ hs. over_said n (own_of f n (container_in t)) xs hs j
+    (λ k. content_length f n (container_in t) (i + k)) (container_in t)) is
 
 -- a node of the length that is told of a place
-said-at : (f g : FormTree) (n i j size : ℕ) (t u : ByKey)
-    → size ≡ content_length f n (container_of t) i → u ≡ t
-    → node_said g j size u ≡ node_said g j (content_length f n (container_of t) (i + 0)) t
+said-at : (f g : FormTree) (n i j size : ℕ) (t u : Given)
+    → size ≡ content_length f n (container_in t) i → u ≡ t
+    → node_said g j size u ≡ node_said g j (content_length f n (container_in t) (i + 0)) t
 said-at f g n i j size t u long same =
     let here : i ≡ i + 0 = omega arith in
-    ap₂ (λ s v. node_said g j s v) (long ∙ ap (content_length f n (container_of t)) here) same
+    ap₂ (λ s v. node_said g j s v) (long ∙ ap (content_length f n (container_in t)) here) same
 
 -- a fault of that content
 pub left-told : (o : Option Refusal) (f g : FormTree) (n i j size : ℕ) (xs : List Layout)
-    (t u : ByKey) → slice_get (form_list (contents_of f)) i ≡ Some g
-    → size ≡ content_length f n (container_of t) i → u ≡ t → Told o (node_said g j size u)
+    (t u : Given) → slice_get (form_list (contents_of f)) i ≡ Some g
+    → size ≡ content_length f n (container_in t) i → u ≡ t → Told o (node_said g j size u)
     → Told o (left_said f n i j xs t)
 unfolding node_said
 left-told o f g n i j size xs t u at long same h =
     subst (Told o) (sym (left-rest f (form g (rest f (i + 1))) n i j xs t (rest-first f g i at)))
-    (over-told o n (own_of f n (container_of t)) xs g (rest f (i + 1)) j
-    (λ k. content_length f n (container_of t) (i + k)) (container_of t)
+    (over-told o n (own_of f n (container_in t)) xs g (rest f (i + 1)) j
+    (λ k. content_length f n (container_in t) (i + k)) (container_in t)
     (subst (Told o) (said-at f g n i j size t u long same) h))
 
 -- that content is there
-pub left-next : (f g : FormTree) (n i j k size : ℕ) (xs ys : List Layout) (x : Layout) (t u : ByKey)
+pub left-next : (f g : FormTree) (n i j k size : ℕ) (xs ys : List Layout) (x : Layout) (t u : Given)
     → slice_get (form_list (contents_of f)) i ≡ Some g
-    → size ≡ content_length f n (container_of t) i → u ≡ t
+    → size ≡ content_length f n (container_in t) i → u ≡ t
     → node_said g j size u ≡ Ok x → k ≡ j + nodes g → ys ≡ xs ++ x ∷ []
     → left_said f n i j xs t ≡ left_said f n (i + 1) k ys t
 unfolding node_said
 left-next f g n i j k size xs ys x t u at long same h next pushed =
     let later : (l : ℕ) → i + suc l ≡ i + 1 + l = λ l. omega arith in
     left-rest f (form g (rest f (i + 1))) n i j xs t (rest-first f g i at)
-    ∙ over-next n (own_of f n (container_of t)) xs g (rest f (i + 1)) j
-    (λ l. content_length f n (container_of t) (i + l)) (container_of t) x
+    ∙ over-next n (own_of f n (container_in t)) xs g (rest f (i + 1)) j
+    (λ l. content_length f n (container_in t) (i + l)) (container_in t) x
     (sym (said-at f g n i j size t u long same) ∙ h)
-    ∙ (λ p. over_said n (own_of f n (container_of t)) (sym pushed p) (rest f (i + 1)) (sym next p)
-    (λ l. content_length f n (container_of t) (later l p)) (container_of t))
+    ∙ (λ p. over_said n (own_of f n (container_in t)) (sym pushed p) (rest f (i + 1)) (sym next p)
+    (λ l. content_length f n (container_in t) (later l p)) (container_in t))
     ∙ sym (left-rest f (rest f (i + 1)) n (i + 1) k ys t refl)
 
 -- all contents are there
-pub left-none : (f : FormTree) (n i j : ℕ) (xs : List Layout) (t : ByKey)
+pub left-none : (f : FormTree) (n i j : ℕ) (xs : List Layout) (t : Given)
     → length (form_list (contents_of f)) ≤ i
-    → left_said f n i j xs t ≡ Ok (over n (own_of f n (container_of t)) xs)
+    → left_said f n i j xs t ≡ Ok (over n (own_of f n (container_in t)) xs)
 left-none f n i j xs t past =
     left-rest f no_forms n i j xs t (rest-none f i past)
-    ∙ over-none n (own_of f n (container_of t)) xs j
-    (λ k. content_length f n (container_of t) (i + k)) (container_of t)
+    ∙ over-none n (own_of f n (container_in t)) xs j
+    (λ k. content_length f n (container_in t) (i + k)) (container_in t)
 
 -- a node that is told is valid
-pub said-valid : (f : FormTree) (m n : ℕ) (t : ByKey) (x : Layout) → IsLawful f
+pub said-valid : (f : FormTree) (m n : ℕ) (t : Given) (x : Layout) → IsLawful f
     → node_said f m n t ≡ Ok x → IsValid x
 unfolding node_said
 said-valid f m n t x w h =
     let said =
-    refused_or-Ok (broken_from f m n (container_of t)) (layout_of f n (container_of t)) x h in
-    subst IsValid said.1 (layout_of-valid f m n (container_of t) w said.0).0
+    refused_or-Ok (broken_from f m n (container_in t)) (layout_of f n (container_in t)) x h in
+    subst IsValid said.1 (layout_of-valid f m n (container_in t) w said.0).0

@@ -1,5 +1,5 @@
 -- The definitions on worked containers: the first break, or the items and the type.
-use Rattle.std.specs.Prelude.{◌≡◌, ℕ, List, [], ◌∷◌, ◌++◌, take, Option, Some, None, Result, Ok, Err, true, false, refl, ℤ, pos, negsuc, codes}
+use Rattle.std.specs.Prelude.{◌≡◌, ℕ, Bool, List, [], ◌∷◌, ◌++◌, take, Option, Some, None, Result, Ok, Err, true, false, refl, ℤ, pos, negsuc, codes}
 use Rattle.std.specs.List.{flat_map}
 use Rattle.std.specs.Map.{lookup}
 use Rattle.std.specs.Str.{bytes_eq}
@@ -26,15 +26,20 @@ use Rattle.awk_valid.specs.declared.fault.Rule.TheVariants.{Empty, Order, Start,
 -- ---- containers, and values in short
 
 -- what there is of each key
-abbrev Entries : Type 0
+abbrev pub Entries : Type 0
 Entries = List (List ℕ × Result (List ℕ) BufferWhy)
 
-abbrev or_absent : Option (Result (List ℕ) BufferWhy) → Result (List ℕ) BufferWhy
+abbrev pub or_absent : Option (Result (List ℕ) BufferWhy) → Result (List ℕ) BufferWhy
 or_absent None = Err Absent
 or_absent (Some r) = r
 
+abbrev pub holding_by : Bool → Entries → Container
+holding_by big entries =
+    record { big = big; bytes = λ key. or_absent (lookup (bytes_eq key) entries) }
+
+-- least significant bytes first
 abbrev holding : Entries → Container
-holding entries key = or_absent (lookup (bytes_eq key) entries)
+holding entries = holding_by false entries
 
 abbrev int64s : List ℤ → List ℕ
 int64s zs = flat_map (bytes_of kind.I64) zs
@@ -45,7 +50,7 @@ int_values (z ∷ zs) = value (int z) (int_values zs)
 
 -- ---- lists between offsets
 
-abbrev jagged : FormTree
+abbrev pub jagged : FormTree
 jagged =
     form.list_offset (Some (codes "node0")) I64 (form.numpy (Some (codes "node1")) primitive.I64 [])
 
@@ -55,7 +60,7 @@ offsets zs others = (codes "node0-offsets", Ok (int64s zs)) ∷ others
 abbrev numbers_in : List ℕ → Entries
 numbers_in bytes = (codes "node1-data", Ok bytes) ∷ []
 
-abbrev three_lists : Container
+abbrev pub three_lists : Container
 three_lists =
     holding
     (offsets (pos 0 ∷ pos 2 ∷ pos 2 ∷ pos 3 ∷ [])

@@ -51,7 +51,7 @@ bytes_break key n (Err w) = Some (buffer key (fault_of w))
 abbrev pub buffers_break : Container → Option Name → List Need → Option Refusal
 buffers_break c key [] = None
 buffers_break c key (need ∷ needs) =
-    bytes_break (buffer_key key need.attribute) need.bytes (c (buffer_key key need.attribute))
+    bytes_break (buffer_key key need.attribute) need.bytes (c.bytes (buffer_key key need.attribute))
     or buffers_break c key needs
 
 -- ---- places

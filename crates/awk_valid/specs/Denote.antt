@@ -1,7 +1,7 @@
 -- What a form, a length and a container denote: values, place by place, over the bytes of the
 -- buffers, with no columns in between. A buffer without bytes counts as empty, and a number behind
 -- the last byte is 0.
-use Rattle.std.specs.Prelude.{ℕ, zero, suc, ◌+◌, ◌-◌, ◌*◌, List, [], ◌∷◌, map, codes, ℤ, if◌then◌else◌, Result}
+use Rattle.std.specs.Prelude.{ℕ, zero, suc, ◌+◌, ◌-◌, ◌*◌, Bool, List, [], ◌∷◌, map, codes, ℤ, if◌then◌else◌, Result}
 use Rattle.std.specs.List.{range_with_len}
 use Rattle.awk_types.specs.Gives.{refused_or}
 use Rattle.awk_types.specs.Value.{Value, Values, int, truth, null, list, row, alt, no_values, value}
@@ -22,17 +22,17 @@ use Rattle.awk_valid.specs.Loading.{refusal}
 
 -- ---- numbers in bytes
 
--- the element of a primitive there; of bool whether the byte is not 0
-abbrev pub element : Primitive → List ℕ → ℕ → Value
-element primitive.Bool b i = truth (is_nonzero (num kind.Bool b i))
-element primitive.I8 b i = int (num kind.I8 b i)
-element primitive.I16 b i = int (num kind.I16 b i)
-element primitive.I32 b i = int (num kind.I32 b i)
-element primitive.I64 b i = int (num kind.I64 b i)
-element primitive.U8 b i = int (num kind.U8 b i)
-element primitive.U16 b i = int (num kind.U16 b i)
-element primitive.U32 b i = int (num kind.U32 b i)
-element primitive.U64 b i = int (num kind.U64 b i)
+-- the element of a primitive there, in the order of its bytes; of bool whether the byte is not 0
+abbrev pub element : Bool → Primitive → List ℕ → ℕ → Value
+element big primitive.Bool b i = truth (is_nonzero (num big kind.Bool b i))
+element big primitive.I8 b i = int (num big kind.I8 b i)
+element big primitive.I16 b i = int (num big kind.I16 b i)
+element big primitive.I32 b i = int (num big kind.I32 b i)
+element big primitive.I64 b i = int (num big kind.I64 b i)
+element big primitive.U8 b i = int (num big kind.U8 b i)
+element big primitive.U16 b i = int (num big kind.U16 b i)
+element big primitive.U32 b i = int (num big kind.U32 b i)
+element big primitive.U64 b i = int (num big kind.U64 b i)
 
 -- ---- items
 
@@ -50,7 +50,7 @@ abbrev mutual
   pub item : FormTree → Container → ℕ → Value
   item (empty key) c i = null
   item (numpy key prim inner) c i =
-      shaped_item inner (element prim (bytes_at c key (codes "data"))) i
+      shaped_item inner (element c.big prim (bytes_at c key (codes "data"))) i
   item (regular key size f) c i = list (run (item f c) (i * size) size)
   item (list_array key starts stops f) c i =
       list

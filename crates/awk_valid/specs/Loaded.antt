@@ -19,7 +19,8 @@ abbrev mutual
   layout_of (empty key) n c = made.empty
   layout_of (numpy key prim inner) n c =
       shaped inner n
-      (made.flat (column_at (kind_of prim) (n * product inner) (bytes_at c key (codes "data"))))
+      (made.flat
+      (column_at c.big (kind_of prim) (n * product inner) (bytes_at c key (codes "data"))))
   layout_of (regular key size f) n c =
       made.regular size n (layout_of f (content_length (regular key size f) n c 0) c)
   layout_of (list key starts stops f) n c =

@@ -41,8 +41,9 @@ abbrev pub loading : FormTree → ℕ → Container → Result Layout Refusal
 loading f n c = refused_or (refusal f n c) (layout_of f n c)
 
 -- the first n numbers of what there is of a key
-abbrev pub lane_said : Name → Kind → ℕ → Result (List ℕ) BufferWhy → Result Column Refusal
-lane_said key k n r = refused_or (bytes_break key (n * width k) r) (column_at k n (bytes_or_none r))
+abbrev pub lane_said : Bool → Name → Kind → ℕ → Result (List ℕ) BufferWhy → Result Column Refusal
+lane_said big key k n r =
+    refused_or (bytes_break key (n * width k) r) (column_at big k n (bytes_or_none r))
 
 -- the first n bits of what there is of a key
 abbrev pub bits_said : Name → Bool → ℕ → Result (List ℕ) BufferWhy → Result (List Bool) Refusal

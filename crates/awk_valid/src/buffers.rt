@@ -4,7 +4,7 @@ ghost use Rattle.awk_types.specs.Gives.{Gives, refused_or};
 ghost use Rattle.awk_types.specs.ItemLimit.{item_limit};
 ghost use Rattle.awk_lanes.specs.Bits.{bits};
 ghost use Rattle.awk_lanes.specs.Numbers.{width};
-ghost use Rattle.awk_store.specs.Buffers.{total_len};
+ghost use Rattle.awk_store.specs.Buffers.{buffer, held_len};
 ghost use Rattle.awk_valid.specs.Container as container;
 ghost use Rattle.awk_valid.specs.Container.{container_of, bytes_at, index_at, int8s_at, kind_of_index};
 ghost use Rattle.awk_valid.specs.Broken.{size_break, bytes_break};
@@ -12,12 +12,11 @@ ghost use Rattle.awk_valid.specs.Loading.{told, judged, unit};
 
 use crate::fault::LoadFault;
 use crate::keys::buffer_key;
-use crate::lanes::{bits_at, lane_at};
+use crate::lanes::{Reader, bits_at, lane_at};
 use awk_form::IndexKind;
 use awk_lanes::{Bits, Kind, Lane, Steps};
 use awk_store::Store;
 use awk_types::{ITEM_LIMIT, Name};
-use std::alloc::Global;
 use std::sync::ledger::Ledger;
 
 /// Refuses a node of too many items.
@@ -43,7 +42,7 @@ fn kind_of_index(kind: IndexKind) -> Kind
 
 /// n numbers of an index, of starts, stops or offsets.
 pub(crate) fn index_lane<'a, L: Ledger>(
-    alloc: Global,
+    reader: &Reader<'a>,
     store: &mut Store<'_, 'a>,
     key: &Option<Name>,
     attribute: &str,
@@ -54,19 +53,19 @@ pub(crate) fn index_lane<'a, L: Ledger>(
     requires few { n ≤ item_limit + 1 }
     ensures answer { Gives (λ lane. lane) told result (refused_or
         (bytes_break (container.buffer_key key.now attribute.now) (n * width (kind_of_index kind))
-        (container_of store.old.texts (container.buffer_key key.now attribute.now)))
-        (index_at (container_of store.old.texts) key.now attribute.now kind n)) }
-    ensures short { IfOk result (λ _. n ≤ total_len store.old.texts) }
-    ensures texts { store.new.texts ≡ store.old.texts }
-    ensures cost { steps.new ≤ steps.old + total_len store.old.texts }
+        (buffer store.old.held (container.buffer_key key.now attribute.now)))
+        (index_at (container_of reader.now.big store.old.held) key.now attribute.now kind n)) }
+    ensures short { IfOk result (λ _. n ≤ held_len store.old.held) }
+    ensures held { store.new.held ≡ store.old.held }
+    ensures cost { steps.new ≤ steps.old + held_len store.old.held }
 {
-    let key = buffer_key(alloc, key, attribute)?;
-    lane_at(alloc, store, &key, kind_of_index(kind), n, steps)
+    let key = buffer_key(reader.alloc, key, attribute)?;
+    lane_at(reader, store, &key, kind_of_index(kind), n, steps)
 }
 
 /// n tags, or n bytes of a mask.
 pub(crate) fn int8_lane<'a, L: Ledger>(
-    alloc: Global,
+    reader: &Reader<'a>,
     store: &mut Store<'_, 'a>,
     key: &Option<Name>,
     attribute: &str,
@@ -76,19 +75,19 @@ pub(crate) fn int8_lane<'a, L: Ledger>(
     requires few { n ≤ item_limit }
     ensures answer { Gives (λ lane. lane) told result (refused_or
         (bytes_break (container.buffer_key key.now attribute.now) n
-        (container_of store.old.texts (container.buffer_key key.now attribute.now)))
-        (int8s_at (container_of store.old.texts) key.now attribute.now n)) }
-    ensures short { IfOk result (λ _. n ≤ total_len store.old.texts) }
-    ensures texts { store.new.texts ≡ store.old.texts }
-    ensures cost { steps.new ≤ steps.old + total_len store.old.texts }
+        (buffer store.old.held (container.buffer_key key.now attribute.now)))
+        (int8s_at (container_of reader.now.big store.old.held) key.now attribute.now n)) }
+    ensures short { IfOk result (λ _. n ≤ held_len store.old.held) }
+    ensures held { store.new.held ≡ store.old.held }
+    ensures cost { steps.new ≤ steps.old + held_len store.old.held }
 {
-    let key = buffer_key(alloc, key, attribute)?;
-    lane_at(alloc, store, &key, Kind::I8, n, steps)
+    let key = buffer_key(reader.alloc, key, attribute)?;
+    lane_at(reader, store, &key, Kind::I8, n, steps)
 }
 
 /// n bits of a mask.
 pub(crate) fn mask_bits<'a, L: Ledger>(
-    alloc: Global,
+    reader: &Reader<'a>,
     store: &mut Store<'_, 'a>,
     key: &Option<Name>,
     attribute: &str,
@@ -99,11 +98,12 @@ pub(crate) fn mask_bits<'a, L: Ledger>(
     requires few { n ≤ item_limit }
     ensures answer { Gives (λ mask. mask) told result (refused_or
         (bytes_break (container.buffer_key key.now attribute.now) ((n + 7) / 8)
-        (container_of store.old.texts (container.buffer_key key.now attribute.now)))
-        (bits lsb_order (bytes_at (container_of store.old.texts) key.now attribute.now) 0 n)) }
-    ensures texts { store.new.texts ≡ store.old.texts }
-    ensures cost { steps.new ≤ steps.old + total_len store.old.texts }
+        (buffer store.old.held (container.buffer_key key.now attribute.now)))
+        (bits lsb_order
+        (bytes_at (container_of reader.now.big store.old.held) key.now attribute.now) 0 n)) }
+    ensures held { store.new.held ≡ store.old.held }
+    ensures cost { steps.new ≤ steps.old + held_len store.old.held }
 {
-    let key = buffer_key(alloc, key, attribute)?;
-    bits_at(alloc, store, &key, lsb_order, n, steps)
+    let key = buffer_key(reader.alloc, key, attribute)?;
+    bits_at(reader.alloc, store, &key, lsb_order, n, steps)
 }

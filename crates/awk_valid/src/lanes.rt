@@ -1,35 +1,63 @@
 //! The lanes of a node, from the buffers under its keys.
-ghost use Rattle.std.specs.Prelude.{◌≡◌, ◌+◌, ◌*◌, ◌/◌, ◌≤◌, nat_le, length, Some, None, if◌then◌else◌, IfOk};
+ghost use Rattle.std.specs.Prelude.{◌≡◌, ◌+◌, ◌*◌, ◌/◌, ◌%◌, ◌≤◌, nat_le, length, Some, None};
+ghost use Rattle.std.specs.Prelude.{if◌then◌else◌, IfOk};
 ghost use Rattle.awk_types.specs.Gives.{Gives};
 ghost use Rattle.awk_types.specs.ItemLimit.{item_limit};
 ghost use Rattle.awk_lanes.specs.Numbers.{width};
 ghost use Rattle.awk_lanes.specs.Bits.{bits};
-ghost use Rattle.awk_store.specs.Buffers.{buffer, total_len, undecoded_len};
+ghost use Rattle.awk_store.specs.Buffers.{buffer, held_len, unread_len};
 ghost use Rattle.awk_valid.specs.Container.{column_at};
 ghost use Rattle.awk_valid.specs.Loading.{told, lane_said, bits_said};
 
 use crate::fault::{BufferFault, LoadFault, buffer_fault};
-use awk_lanes::{Bits, Kind, Lane, Steps};
+use crate::order::turned;
+use awk_lanes::{Arena, Bits, Kind, Lane, NoMemory, Steps};
 use awk_store::{BufferWhy, Store, StoreFault};
 use std::alloc::Global;
 use std::sync::ledger::Ledger;
 
+/// How lanes are read: whether the most significant byte of each number comes first, and the arena
+/// that such numbers are turned round into.
+#[derive(Drop)]
+pub struct Reader<'a> {
+    pub alloc: Global,
+    pub big: bool,
+    pub arena: &'a Arena,
+}
+
+/// The numbers that the bytes are.
+fn numbers_in<'a>(reader: &Reader<'a>, bytes: &'a [u8], kind: Kind) -> Result<Lane<'a>, NoMemory>
+    requires { length bytes.now % width kind ≡ 0 }
+    ensures { IfOk result (λ lane. lane ≡
+        column_at reader.now.big kind (length bytes.now / width kind) bytes.now) }
+{
+    if reader.big {
+        return Ok(Lane::new(kind, turned(bytes, kind, reader.arena)?));
+    }
+    Ok(Lane::new(kind, bytes))
+}
+
 /// The first n numbers that the bytes are, if there are as many.
-fn first_numbers(bytes: &[u8], kind: Kind, n: u64) -> Option<Lane<'_>>
+fn first_numbers<'a>(
+    reader: &Reader<'a>,
+    bytes: &'a [u8],
+    kind: Kind,
+    n: u64,
+) -> Result<Option<Lane<'a>>, NoMemory>
     requires few { n ≤ item_limit + 1 }
-    ensures { result ≡ (if nat_le (n * width kind) (length bytes.now) then Some (column_at kind n
-        bytes.now) else None) }
+    ensures { IfOk result (λ lane. lane ≡ (if nat_le (n * width kind) (length bytes.now) then Some
+        (column_at reader.now.big kind n bytes.now) else None)) }
 {
     let size = n as usize * kind.width();
     if bytes.len() < size {
-        return None;
+        return Ok(None);
     }
-    Some(Lane::new(kind, &bytes[..size]))
+    Ok(Some(numbers_in(reader, &bytes[..size], kind)?))
 }
 
 /// The first n numbers of a kind in the buffer under a key. Further bytes are not looked at.
 pub(crate) fn lane_at<'a, L: Ledger>(
-    alloc: Global,
+    reader: &Reader<'a>,
     store: &mut Store<'_, 'a>,
     key: &str,
     kind: Kind,
@@ -38,25 +66,25 @@ pub(crate) fn lane_at<'a, L: Ledger>(
 ) -> Result<Lane<'a>, LoadFault>
     requires few { n ≤ item_limit + 1 }
     // The numbers, or exactly what is wrong with the buffer, or want of memory.
-    ensures answer { Gives (λ lane. lane) told result (lane_said key.now kind n (buffer
-        store.old.texts key.now)) }
+    ensures answer { Gives (λ lane. lane) told result (lane_said reader.now.big
+        key.now kind n (buffer store.old.held key.now)) }
     // A number has a byte at least, and a text is no shorter than the bytes that it encodes.
-    ensures short { IfOk result (λ _. n ≤ total_len store.old.texts) }
-    ensures texts { store.new.texts ≡ store.old.texts }
-    ensures cost { steps.new ≤ steps.old + undecoded_len store.old key.now }
+    ensures short { IfOk result (λ _. n ≤ held_len store.old.held) }
+    ensures held { store.new.held ≡ store.old.held }
+    ensures cost { steps.new ≤ steps.old + unread_len store.old key.now }
 {
     match store.fetch(key, steps) {
-        Ok(bytes) => match first_numbers(bytes, kind, n) {
+        Ok(bytes) => match first_numbers(reader, bytes, kind, n)? {
             Some(lane) => Ok(lane),
-            None => Err(buffer_fault(alloc, key, BufferFault::Short)),
+            None => Err(buffer_fault(reader.alloc, key, BufferFault::Short)),
         },
         Err(StoreFault::Bad(BufferWhy::Absent)) => Err(buffer_fault(
-            alloc,
+            reader.alloc,
             key,
             BufferFault::Absent,
         )),
         Err(StoreFault::Bad(BufferWhy::Base64)) => Err(buffer_fault(
-            alloc,
+            reader.alloc,
             key,
             BufferFault::Base64,
         )),
@@ -88,9 +116,9 @@ pub(crate) fn bits_at<'a, L: Ledger>(
     requires few { n ≤ item_limit }
     // The bits, or exactly what is wrong with the buffer, or want of memory.
     ensures answer { Gives (λ mask. mask) told result (bits_said key.now lsb_order n (buffer
-        store.old.texts key.now)) }
-    ensures texts { store.new.texts ≡ store.old.texts }
-    ensures cost { steps.new ≤ steps.old + undecoded_len store.old key.now }
+        store.old.held key.now)) }
+    ensures held { store.new.held ≡ store.old.held }
+    ensures cost { steps.new ≤ steps.old + unread_len store.old key.now }
 {
     match store.fetch(key, steps) {
         Ok(bytes) => match first_bits(bytes, lsb_order, n) {

@@ -4,7 +4,7 @@ ghost use Rattle.awk_types.specs.Gives.{Gives, refused_or};
 ghost use Rattle.awk_types.specs.ItemLimit.{item_limit};
 ghost use Rattle.awk_lanes.specs.Places.{size_of};
 ghost use Rattle.awk_layout.specs.Layout.{flat};
-ghost use Rattle.awk_store.specs.Buffers.{total_len};
+ghost use Rattle.awk_store.specs.Buffers.{held_len};
 ghost use Rattle.awk_form.specs.FormTree.{numpy};
 ghost use Rattle.awk_layout.specs.Kinds.{kind_of};
 ghost use Rattle.awk_valid.specs.Container.{container_of};
@@ -16,7 +16,7 @@ ghost use Rattle.awk_valid.specs.Needs.{product};
 use crate::buffers::judged_size;
 use crate::fault::LoadFault;
 use crate::keys::buffer_key;
-use crate::lanes::lane_at;
+use crate::lanes::{Reader, lane_at};
 use awk_form::Dims;
 use awk_lanes::{Lane, Steps};
 use awk_layout::{Node, kind_of};
@@ -79,7 +79,7 @@ fn shaped_node<'a, L: Ledger>(
 
 /// n items of an inner shape, with the numbers of the buffer under the form key.
 pub(crate) fn numbers_node<'a, L: Ledger>(
-    alloc: Global,
+    reader: &Reader<'a>,
     store: &mut Store<'_, 'a>,
     key: &Option<Name>,
     prim: Prim,
@@ -89,13 +89,14 @@ pub(crate) fn numbers_node<'a, L: Ledger>(
 ) -> Result<Node<'a>, LoadFault>
     // The number of the node is told by no break of such a node.
     ensures answer { (node : ℕ) → Gives (λ x. x) told result (refused_or
-        (node_break (numpy key.now prim inner.now) node n (container_of store.old.texts))
-        (layout_of (numpy key.now prim inner.now) n (container_of store.old.texts))) }
-    ensures texts { store.new.texts ≡ store.old.texts }
-    ensures cost { steps.new ≤ steps.old + total_len store.old.texts + length inner.now + 1 }
+        (node_break (numpy key.now prim inner.now) node n
+        (container_of reader.now.big store.old.held))
+        (layout_of (numpy key.now prim inner.now) n (container_of reader.now.big store.old.held))) }
+    ensures held { store.new.held ≡ store.old.held }
+    ensures cost { steps.new ≤ steps.old + held_len store.old.held + length inner.now + 1 }
 {
     let items = judged_shape(inner, n)?;
-    let key = buffer_key(alloc, key, "data")?;
-    let lane = lane_at(alloc, store, &key, kind_of(prim), items, steps)?;
-    Ok(shaped_node(alloc, inner, 0, n, lane, steps)?)
+    let key = buffer_key(reader.alloc, key, "data")?;
+    let lane = lane_at(reader, store, &key, kind_of(prim), items, steps)?;
+    Ok(shaped_node(reader.alloc, inner, 0, n, lane, steps)?)
 }

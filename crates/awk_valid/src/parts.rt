@@ -2,7 +2,7 @@
 ghost use Rattle.std.specs.Prelude.{◌≡◌, ℕ, ◌+◌, ◌*◌, ◌≤◌, ◌∷◌, [], Bool, List, Option, length, IfOk};
 ghost use Rattle.awk_types.specs.DataType.{Name};
 ghost use Rattle.awk_types.specs.Gives.{Gives};
-ghost use Rattle.awk_store.specs.Buffers.{ByKey, total_len};
+ghost use Rattle.awk_store.specs.Buffers.{held_len};
 ghost use Rattle.awk_form.specs.FormTree as tree;
 ghost use Rattle.awk_form.specs.FormTree.{FormTree, FormTrees, forms_from};
 ghost use Rattle.awk_form.specs.Lawful.{count, IsLawful};
@@ -10,10 +10,11 @@ ghost use Rattle.awk_form.specs.View.{form_of};
 ghost use Rattle.awk_form.specs.Measures.{inner_shape};
 ghost use Rattle.awk_valid.specs.Loading.{told};
 ghost use Rattle.awk_valid.specs.declared.own.Own.{Own};
-ghost use Rattle.awk_valid.specs.Walked.{GivesOwn, own_said};
+ghost use Rattle.awk_valid.specs.Walked.{Given, given, GivesOwn, own_said};
 
 use crate::buffers::{index_lane, int8_lane, judged_size, mask_bits};
 use crate::fault::{LoadFault, Rule};
+use crate::lanes::Reader;
 use crate::lengths::{judged_index, judged_lists, judged_offsets, judged_union, optional_length};
 use crate::numbers::{items_of, numbers_node};
 use crate::own::{One, Own};
@@ -28,8 +29,8 @@ use std::sync::ledger::Ledger;
 
 /// What stays the same from node to node.
 #[derive(Drop)]
-pub(crate) struct Walk<'w, N> {
-    pub alloc: Global,
+pub(crate) struct Walk<'w, 'a, N> {
+    pub reader: &'w Reader<'a>,
     pub kernels: &'w N,
 }
 
@@ -53,8 +54,8 @@ fn empty<'a, L: Ledger>(
     spot: Spot,
     steps: &mut Steps<L>,
 ) -> Result<(Own<'a>, Vec<u64>), LoadFault>
-    ensures answer { (key : Option Name) (texts : ByKey) → GivesOwn (tree.empty key) spot.node
-        spot.n texts result }
+    ensures answer { (key : Option Name) (g : Given) → GivesOwn (tree.empty key) spot.node
+        spot.n g result }
     ensures cost { steps.new ≤ steps.old + 1 }
 {
     judged_size(spot.n)?;
@@ -70,8 +71,8 @@ fn empty<'a, L: Ledger>(
 
 /// A RegularArray.
 fn regular<'a>(alloc: Global, size: u64, spot: Spot) -> Result<(Own<'a>, Vec<u64>), LoadFault>
-    ensures { (key : Option Name) (f : FormTree) (texts : ByKey) → GivesOwn (tree.regular key size
-        f) spot.node spot.n texts result }
+    ensures { (key : Option Name) (f : FormTree) (g : Given) → GivesOwn (tree.regular key size
+        f) spot.node spot.n g result }
 {
     judged_size(spot.n)?;
     let lengths = one_length(alloc, items_of(spot.n, size)?)?;
@@ -80,7 +81,7 @@ fn regular<'a>(alloc: Global, size: u64, spot: Spot) -> Result<(Own<'a>, Vec<u64
 
 /// The starts and stops of lists.
 fn list<'a, N: Kernels, L: Ledger>(
-    walk: &Walk<'_, N>,
+    walk: &Walk<'_, 'a, N>,
     key: &Option<Name>,
     start_kind: IndexKind,
     stop_kind: IndexKind,
@@ -89,21 +90,28 @@ fn list<'a, N: Kernels, L: Ledger>(
     steps: &mut Steps<L>,
 ) -> Result<(Own<'a>, Vec<u64>), LoadFault>
     ensures answer { (f : FormTree) → GivesOwn (tree.list key.now start_kind stop_kind f) spot.node
-        spot.n store.old.texts result }
-    ensures texts { store.new.texts ≡ store.old.texts }
-    ensures cost { steps.new ≤ steps.old + 4 * total_len store.old.texts }
+        spot.n (given walk.now.reader.now.big store.old.held) result }
+    ensures held { store.new.held ≡ store.old.held }
+    ensures cost { steps.new ≤ steps.old + 4 * held_len store.old.held }
 {
     judged_size(spot.n)?;
-    let starts = index_lane(walk.alloc, store, key, "starts", start_kind, spot.n, steps)?;
-    let stops = index_lane(walk.alloc, store, key, "stops", stop_kind, spot.n, steps)?;
-    let length = judged_lists(walk.alloc, walk.kernels, spot.node, &starts, &stops, steps)?;
-    let lengths = one_length(walk.alloc, length)?;
+    let starts = index_lane(walk.reader, store, key, "starts", start_kind, spot.n, steps)?;
+    let stops = index_lane(walk.reader, store, key, "stops", stop_kind, spot.n, steps)?;
+    let length = judged_lists(
+        walk.reader.alloc,
+        walk.kernels,
+        spot.node,
+        &starts,
+        &stops,
+        steps,
+    )?;
+    let lengths = one_length(walk.reader.alloc, length)?;
     Ok((Own::Over(One::Lists(starts, stops)), lengths))
 }
 
 /// The offsets of lists.
 fn list_offset<'a, N: Kernels, L: Ledger>(
-    walk: &Walk<'_, N>,
+    walk: &Walk<'_, 'a, N>,
     key: &Option<Name>,
     kind: IndexKind,
     spot: Spot,
@@ -111,14 +119,14 @@ fn list_offset<'a, N: Kernels, L: Ledger>(
     steps: &mut Steps<L>,
 ) -> Result<(Own<'a>, Vec<u64>), LoadFault>
     ensures answer { (f : FormTree) → GivesOwn (tree.list_offset key.now kind f) spot.node spot.n
-        store.old.texts result }
-    ensures texts { store.new.texts ≡ store.old.texts }
-    ensures cost { steps.new ≤ steps.old + 4 * total_len store.old.texts }
+        (given walk.now.reader.now.big store.old.held) result }
+    ensures held { store.new.held ≡ store.old.held }
+    ensures cost { steps.new ≤ steps.old + 4 * held_len store.old.held }
 {
     judged_size(spot.n)?;
-    let offsets = index_lane(walk.alloc, store, key, "offsets", kind, spot.n + 1, steps)?;
-    let length = judged_offsets(walk.alloc, walk.kernels, spot.node, &offsets, steps)?;
-    let lengths = one_length(walk.alloc, length)?;
+    let offsets = index_lane(walk.reader, store, key, "offsets", kind, spot.n + 1, steps)?;
+    let length = judged_offsets(walk.reader.alloc, walk.kernels, spot.node, &offsets, steps)?;
+    let lengths = one_length(walk.reader.alloc, length)?;
     Ok((Own::Over(One::OffsetLists(offsets)), lengths))
 }
 
@@ -129,8 +137,8 @@ fn row<'a>(
     contents: usize,
     spot: Spot,
 ) -> Result<(Own<'a>, Vec<u64>), LoadFault>
-    ensures { (key : Option Name) (fs : FormTrees) (texts : ByKey) → count fs ≡ contents → GivesOwn
-        (tree.row key names.now fs) spot.node spot.n texts result }
+    ensures { (key : Option Name) (fs : FormTrees) (g : Given) → count fs ≡ contents → GivesOwn
+        (tree.row key names.now fs) spot.node spot.n g result }
 {
     judged_size(spot.n)?;
     let lengths = vec![in alloc; spot.n; contents]?;
@@ -149,7 +157,7 @@ fn copied(alloc: Global, names: &Option<Names>) -> Result<Option<Names>, NoMemor
 
 /// The index of items, none of which is missing.
 fn indexed<'a, N: Kernels, L: Ledger>(
-    walk: &Walk<'_, N>,
+    walk: &Walk<'_, 'a, N>,
     key: &Option<Name>,
     kind: IndexKind,
     spot: Spot,
@@ -157,20 +165,20 @@ fn indexed<'a, N: Kernels, L: Ledger>(
     steps: &mut Steps<L>,
 ) -> Result<(Own<'a>, Vec<u64>), LoadFault>
     ensures answer { (f : FormTree) → GivesOwn (tree.indexed key.now kind f) spot.node spot.n
-        store.old.texts result }
-    ensures texts { store.new.texts ≡ store.old.texts }
-    ensures cost { steps.new ≤ steps.old + 4 * total_len store.old.texts }
+        (given walk.now.reader.now.big store.old.held) result }
+    ensures held { store.new.held ≡ store.old.held }
+    ensures cost { steps.new ≤ steps.old + 4 * held_len store.old.held }
 {
     judged_size(spot.n)?;
-    let index = index_lane(walk.alloc, store, key, "index", kind, spot.n, steps)?;
-    let length = judged_index(walk.alloc, walk.kernels, spot.node, &index, steps)?;
-    let lengths = one_length(walk.alloc, length)?;
+    let index = index_lane(walk.reader, store, key, "index", kind, spot.n, steps)?;
+    let length = judged_index(walk.reader.alloc, walk.kernels, spot.node, &index, steps)?;
+    let lengths = one_length(walk.reader.alloc, length)?;
     Ok((Own::Over(One::Indexed(index)), lengths))
 }
 
 /// The index of items, of which any may be missing.
 fn indexed_option<'a, N: Kernels, L: Ledger>(
-    walk: &Walk<'_, N>,
+    walk: &Walk<'_, 'a, N>,
     key: &Option<Name>,
     kind: IndexKind,
     spot: Spot,
@@ -178,20 +186,20 @@ fn indexed_option<'a, N: Kernels, L: Ledger>(
     steps: &mut Steps<L>,
 ) -> Result<(Own<'a>, Vec<u64>), LoadFault>
     ensures answer { (f : FormTree) → GivesOwn (tree.indexed_option key.now kind f) spot.node
-        spot.n store.old.texts result }
-    ensures texts { store.new.texts ≡ store.old.texts }
-    ensures cost { steps.new ≤ steps.old + 4 * total_len store.old.texts }
+        spot.n (given walk.now.reader.now.big store.old.held) result }
+    ensures held { store.new.held ≡ store.old.held }
+    ensures cost { steps.new ≤ steps.old + 4 * held_len store.old.held }
 {
     judged_size(spot.n)?;
-    let index = index_lane(walk.alloc, store, key, "index", kind, spot.n, steps)?;
-    let length = optional_length(walk.alloc, walk.kernels, &index, steps)?;
-    let lengths = one_length(walk.alloc, length)?;
+    let index = index_lane(walk.reader, store, key, "index", kind, spot.n, steps)?;
+    let length = optional_length(walk.reader.alloc, walk.kernels, &index, steps)?;
+    let lengths = one_length(walk.reader.alloc, length)?;
     Ok((Own::Over(One::Optional(index)), lengths))
 }
 
 /// The bytes of a mask.
 fn byte_masked<'a, L: Ledger>(
-    alloc: Global,
+    reader: &Reader<'a>,
     key: &Option<Name>,
     valid_when: bool,
     spot: Spot,
@@ -199,19 +207,19 @@ fn byte_masked<'a, L: Ledger>(
     steps: &mut Steps<L>,
 ) -> Result<(Own<'a>, Vec<u64>), LoadFault>
     ensures answer { (f : FormTree) → GivesOwn (tree.byte_masked key.now valid_when f) spot.node
-        spot.n store.old.texts result }
-    ensures texts { store.new.texts ≡ store.old.texts }
-    ensures cost { steps.new ≤ steps.old + total_len store.old.texts }
+        spot.n (given reader.now.big store.old.held) result }
+    ensures held { store.new.held ≡ store.old.held }
+    ensures cost { steps.new ≤ steps.old + held_len store.old.held }
 {
     judged_size(spot.n)?;
-    let mask = int8_lane(alloc, store, key, "mask", spot.n, steps)?;
-    let lengths = one_length(alloc, spot.n)?;
+    let mask = int8_lane(reader, store, key, "mask", spot.n, steps)?;
+    let lengths = one_length(reader.alloc, spot.n)?;
     Ok((Own::Over(One::ByteMasked(mask, valid_when)), lengths))
 }
 
 /// The bits of a mask.
 fn bit_masked<'a, L: Ledger>(
-    alloc: Global,
+    reader: &Reader<'a>,
     key: &Option<Name>,
     valid_when: bool,
     lsb_order: bool,
@@ -220,20 +228,20 @@ fn bit_masked<'a, L: Ledger>(
     steps: &mut Steps<L>,
 ) -> Result<(Own<'a>, Vec<u64>), LoadFault>
     ensures answer { (f : FormTree) → GivesOwn (tree.bit_masked key.now valid_when lsb_order f)
-        spot.node spot.n store.old.texts result }
-    ensures texts { store.new.texts ≡ store.old.texts }
-    ensures cost { steps.new ≤ steps.old + total_len store.old.texts }
+        spot.node spot.n (given reader.now.big store.old.held) result }
+    ensures held { store.new.held ≡ store.old.held }
+    ensures cost { steps.new ≤ steps.old + held_len store.old.held }
 {
     judged_size(spot.n)?;
-    let mask = mask_bits(alloc, store, key, "mask", lsb_order, spot.n, steps)?;
-    let lengths = one_length(alloc, spot.n)?;
+    let mask = mask_bits(reader, store, key, "mask", lsb_order, spot.n, steps)?;
+    let lengths = one_length(reader.alloc, spot.n)?;
     Ok((Own::Over(One::BitMasked(mask, valid_when)), lengths))
 }
 
 /// An UnmaskedArray.
 fn unmasked<'a>(alloc: Global, spot: Spot) -> Result<(Own<'a>, Vec<u64>), LoadFault>
-    ensures { (key : Option Name) (f : FormTree) (texts : ByKey) → GivesOwn (tree.unmasked key f)
-        spot.node spot.n texts result }
+    ensures { (key : Option Name) (f : FormTree) (g : Given) → GivesOwn (tree.unmasked key f)
+        spot.node spot.n g result }
 {
     judged_size(spot.n)?;
     let lengths = one_length(alloc, spot.n)?;
@@ -242,7 +250,7 @@ fn unmasked<'a>(alloc: Global, spot: Spot) -> Result<(Own<'a>, Vec<u64>), LoadFa
 
 /// The tags and the index of items, and how many items each alternative needs.
 fn union<'a, L: Ledger>(
-    alloc: Global,
+    reader: &Reader<'a>,
     key: &Option<Name>,
     kind: IndexKind,
     alternatives: u64,
@@ -252,20 +260,20 @@ fn union<'a, L: Ledger>(
 ) -> Result<(Own<'a>, Vec<u64>), LoadFault>
     requires few { alternatives ≤ 127 }
     ensures answer { (fs : FormTrees) → count fs ≡ alternatives → GivesOwn (tree.union key.now kind
-        fs) spot.node spot.n store.old.texts result }
-    ensures texts { store.new.texts ≡ store.old.texts }
-    ensures cost { steps.new ≤ steps.old + 4 * total_len store.old.texts }
+        fs) spot.node spot.n (given reader.now.big store.old.held) result }
+    ensures held { store.new.held ≡ store.old.held }
+    ensures cost { steps.new ≤ steps.old + 4 * held_len store.old.held }
 {
     judged_size(spot.n)?;
-    let tags = int8_lane(alloc, store, key, "tags", spot.n, steps)?;
-    let index = index_lane(alloc, store, key, "index", kind, spot.n, steps)?;
-    let lengths = judged_union(alloc, spot.node, alternatives, &tags, &index, steps)?;
+    let tags = int8_lane(reader, store, key, "tags", spot.n, steps)?;
+    let index = index_lane(reader, store, key, "index", kind, spot.n, steps)?;
+    let lengths = judged_union(reader.alloc, spot.node, alternatives, &tags, &index, steps)?;
     Ok((Own::Union(tags, index), lengths))
 }
 
 /// A NumpyArray.
 fn numbers<'a, L: Ledger>(
-    alloc: Global,
+    reader: &Reader<'a>,
     key: &Option<Name>,
     prim: Prim,
     inner: &Dims,
@@ -274,17 +282,17 @@ fn numbers<'a, L: Ledger>(
     steps: &mut Steps<L>,
 ) -> Result<(Own<'a>, Vec<u64>), LoadFault>
     ensures answer { (node : ℕ) → GivesOwn (tree.numpy key.now prim inner.now) node n
-        store.old.texts result }
-    ensures texts { store.new.texts ≡ store.old.texts }
-    ensures cost { steps.new ≤ steps.old + total_len store.old.texts + length inner.now + 1 }
+        (given reader.now.big store.old.held) result }
+    ensures held { store.new.held ≡ store.old.held }
+    ensures cost { steps.new ≤ steps.old + held_len store.old.held + length inner.now + 1 }
 {
-    let node = numbers_node(alloc, store, key, prim, inner, n, steps)?;
-    Ok((Own::Whole(node), Vec::new(alloc)))
+    let node = numbers_node(reader, store, key, prim, inner, n, steps)?;
+    Ok((Own::Whole(node), Vec::new(reader.alloc)))
 }
 
 /// What a node of a form holds beside its contents, and the lengths of those.
 pub(crate) fn own_part<'a, N: Kernels, L: Ledger>(
-    walk: &Walk<'_, N>,
+    walk: &Walk<'_, 'a, N>,
     form: &Form,
     spot: Spot,
     store: &mut Store<'_, 'a>,
@@ -292,34 +300,34 @@ pub(crate) fn own_part<'a, N: Kernels, L: Ledger>(
 ) -> Result<(Own<'a>, Vec<u64>), LoadFault>
     requires lawful { IsLawful (form_of form.now) }
     ensures answer { Gives {Y = Own × List ℕ} (λ x. (x.0, x.1.items)) told result (own_said
-        (form_of form.now) spot.node spot.n store.old.texts) }
-    ensures texts { store.new.texts ≡ store.old.texts }
-    ensures cost { steps.new ≤ steps.old + 4 * total_len store.old.texts + length (inner_shape
+        (form_of form.now) spot.node spot.n (given walk.now.reader.now.big store.old.held)) }
+    ensures held { store.new.held ≡ store.old.held }
+    ensures cost { steps.new ≤ steps.old + 4 * held_len store.old.held + length (inner_shape
         (form_of form.now)) + 1 }
 {
-    let alloc = walk.alloc;
+    let reader = walk.reader;
     let key = &form.key;
     match &form.shape {
-        Shape::Empty => empty(alloc, spot, steps),
-        Shape::Numpy { prim, inner } => numbers(alloc, key, *prim, inner, spot.n, store, steps),
-        Shape::Regular { size, .. } => regular(alloc, *size, spot),
+        Shape::Empty => empty(reader.alloc, spot, steps),
+        Shape::Numpy { prim, inner } => numbers(reader, key, *prim, inner, spot.n, store, steps),
+        Shape::Regular { size, .. } => regular(reader.alloc, *size, spot),
         Shape::List { starts, stops, .. } => list(walk, key, *starts, *stops, spot, store, steps),
         Shape::ListOffset { offsets, .. } => list_offset(walk, key, *offsets, spot, store, steps),
-        Shape::Row { names, contents } => row(alloc, names, contents.len(), spot),
+        Shape::Row { names, contents } => row(reader.alloc, names, contents.len(), spot),
         Shape::Indexed { index, .. } => indexed(walk, key, *index, spot, store, steps),
         Shape::IndexedOption { index, .. } => indexed_option(walk, key, *index, spot, store, steps),
         Shape::ByteMasked { valid_when, .. } => {
-            byte_masked(alloc, key, *valid_when, spot, store, steps)
+            byte_masked(reader, key, *valid_when, spot, store, steps)
         }
         Shape::BitMasked {
             valid_when,
             lsb_order,
             ..
-        } => bit_masked(alloc, key, *valid_when, *lsb_order, spot, store, steps),
-        Shape::Unmasked { .. } => unmasked(alloc, spot),
+        } => bit_masked(reader, key, *valid_when, *lsb_order, spot, store, steps),
+        Shape::Unmasked { .. } => unmasked(reader.alloc, spot),
         Shape::Union { index, contents } => {
             union(
-                alloc,
+                reader,
                 key,
                 *index,
                 contents.len() as u64,

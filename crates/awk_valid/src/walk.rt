@@ -9,7 +9,7 @@ ghost use Rattle.awk_form.specs.Measures.{nodes};
 ghost use Rattle.awk_valid.specs.Loading.{told};
 ghost use Rattle.awk_form.specs.FormTree.{contents_of};
 ghost use Rattle.awk_form.specs.Measures as extent;
-ghost use Rattle.awk_valid.specs.Walked.{node_said, budget};
+ghost use Rattle.awk_valid.specs.Walked.{given, node_said, budget};
 
 use crate::fault::LoadFault;
 use crate::own::over;
@@ -48,7 +48,7 @@ fn content_at(form: &Form, place: usize) -> &Form
 /// The node of n items that a form gives: its own part, then its contents in order, then the node
 /// over them.
 pub(crate) fn node<'a, N: Kernels, L: Ledger>(
-    walk: &Walk<'_, N>,
+    walk: &Walk<'_, 'a, N>,
     form: &Form,
     n: u64,
     next: &mut u64,
@@ -57,20 +57,20 @@ pub(crate) fn node<'a, N: Kernels, L: Ledger>(
 ) -> Result<Node<'a>, LoadFault>
     requires lawful { IsLawful (form_of form.now) }
     ensures answer { Gives (λ x. x) told result (node_said (form_of form.now) next.old n
-        store.old.texts) }
+        (given walk.now.reader.now.big store.old.held)) }
     ensures next { OnOk result (next.new ≡ next.old + nodes (form_of form.now)) }
-    ensures texts { store.new.texts ≡ store.old.texts }
-    ensures cost { steps.new ≤
-        steps.old + budget (extent.width (form_of form.now)) store.old.texts }
+    ensures held { store.new.held ≡ store.old.held }
+    ensures cost { steps.new ≤ steps.old + budget (extent.width (form_of form.now))
+        (given walk.now.reader.now.big store.old.held) }
 {
     let spot = Spot { node: *next, n };
     // There are fewer nodes than 2^64 in any memory.
     *next = spot.node.checked_add(1).ok_or(LoadFault::NoMemory)?;
     let (own, lengths) = own_part(walk, form, spot, store, steps)?;
-    let mut contents = Vec::new(walk.alloc);
+    let mut contents = Vec::new(walk.reader.alloc);
     for i in 0..lengths.len() {
         let content = node(walk, content_at(form, i), lengths[i], next, store, steps)?;
         contents.push(content)?;
     }
-    Ok(over(walk.alloc, n, own, contents, steps)?)
+    Ok(over(walk.reader.alloc, n, own, contents, steps)?)
 }

@@ -1,5 +1,4 @@
-use Rattle.std.proofs.Common.{◌≡◌, ◌≤◌, length, arith, subst, sym, ◌∙◌, ap}
-use Rattle.awk_types.specs.ItemLimit.{item_limit}
+use Rattle.std.proofs.Common.{length, arith, subst, sym, ◌∙◌, ap}
 use Rattle.awk_places.specs.Places.{rising_places, IsCounted}
 use Rattle.awk_places.proofs.Paths.{count_with, count_without, count_none}
 use Rattle.awk_places.proofs.counts.count_rising.Goals as goal

@@ -1,45 +1,63 @@
-use Rattle.std.proofs.Common.{◌≡◌, ap, sym, ◌∙◌, subst, length}
+use Rattle.std.proofs.Common.{◌≡◌, ap, sym, ◌∙◌, subst, length, arith}
 use Rattle.std.specs.Prelude.{true}
-use Rattle.awk_types.specs.DataType.{opt}
 use Rattle.awk_types.specs.Predicates.{is_leaf}
 use Rattle.awk_types.specs.Simple.{present}
-use Rattle.awk_lanes.specs.Column.{Column}
+use Rattle.awk_lanes.specs.Counted.{before, offsets_by}
 use Rattle.awk_layout.specs.Typing.{array_type, array_items}
 use Rattle.awk_open.specs.Opened.{IsOpened}
 use Rattle.awk_open.specs.declared.opening.Opened.TheVariants as opened
-use Rattle.awk_columns.specs.Columns.{option_index}
-use Rattle.awk_columns.specs.InOrder.{IsInOrder}
+use Rattle.awk_numbers.specs.Folds.{whole_numbers}
 use Rattle.awk_parts.specs.Parts.{AreRising}
-use Rattle.awk_present.proofs.IndexLaws.{length-option_index}
-use Rattle.awk_present.proofs.PresentLaws.{option_present}
+use Rattle.awk_present.specs.Present.{present_in}
+use Rattle.awk_present.proofs.PresentLaws.{index_into, index-count, total, options_are}
 use Rattle.awk_present.proofs.present.present_options.Goals as goal
 
-pub present_offsets-requires-clause-rising : goal.present_offsets-requires-clause-rising
-present_offsets-requires-clause-rising g c =
-    let order : IsInOrder (array_items c.args.items.now)
-    (opened.Option c.in-Option.index c.in-Option.content) =
-    subst (IsInOrder (array_items c.args.items.now)) c.in-Option.is c.in_ok-index.ensures.order in
-    subst (AreRising c.args.offsets.now c.args.count)
-    (sym (ap length (c.deref.ensures.value ∙ c.in_ok-numbers-in-Option.ensures.numbers
-    ∙ ap (λ (j : Column). j.items) order.0)
-    ∙ length-option_index 0 (array_items c.args.items.now)))
-    c.requires.rising
+pub present_offsets-requires-clause-parts : goal.present_offsets-requires-clause-parts
+present_offsets-requires-clause-parts g c =
+    let x = c.args.items.now in
+    let opens : IsOpened x (opened.Option c.in-Option.index c.in-Option.content) =
+    subst (IsOpened x) c.in-Option.is c.in_ok-index.ensures in
+    let count : length (whole_numbers c.whole_of-whole.result) ≡ length (array_items x) =
+    ap length c.whole_of-whole.ensures.numbers
+    ∙ index-count c.in-Option.index c.in_ok-leaves-in-Option.leaves x c.in-Option.content opens
+    c.in_ok-leaves-in-Option.ensures in
+    record {
+      rising = subst (AreRising c.args.offsets.now c.args.count) (sym count) c.requires.rising;
+      few = omega (arith, count, c.requires.few);
+    }
+
+pub numbers_at-requires-clause-index : goal.numbers_at-requires-clause-index
+numbers_at-requires-clause-index g c =
+    let x = c.args.items.now in
+    let opens : IsOpened x (opened.Option c.in-Option.index c.in-Option.content) =
+    subst (IsOpened x) c.in-Option.is c.in_ok-index.ensures in
+    index_into c.in-Option.index c.in_ok-leaves-in-Option.leaves x c.in-Option.content opens
+    c.in_ok-leaves-in-Option.ensures
+
+pub numbers_at-requires-clause-count : goal.numbers_at-requires-clause-count
+numbers_at-requires-clause-count g c =
+    let x = c.args.items.now in
+    let opens : IsOpened x (opened.Option c.in-Option.index c.in-Option.content) =
+    subst (IsOpened x) c.in-Option.is c.in_ok-index.ensures in
+    c.in_ok-starts-in-Option.ensures.0
+    ∙ ap (λ js. before (present_in js c.args.offsets.now) c.args.count)
+    c.whole_of-whole.ensures.numbers
+    ∙ total c.in-Option.index c.in_ok-leaves-in-Option.leaves x c.in-Option.content opens
+    c.in_ok-leaves-in-Option.ensures c.args.offsets.now c.args.count c.requires.rising
+    c.requires.first c.requires.last
 
 pub returns : goal.returns
 returns g c =
     let x = c.args.items.now in
-    let y = c.in-Option.content in
-    let j = c.in-Option.index in
-    let order : IsInOrder (array_items x) (opened.Option j y) =
-    subst (IsInOrder (array_items x)) c.in-Option.is c.in_ok-index.ensures.order in
-    let opens : IsOpened x (opened.Option j y) =
-    subst (IsOpened x) c.in-Option.is c.in_ok-index.ensures.opened in
-    let leaves : is_leaf (array_type y) ≡ true =
+    let opens : IsOpened x (opened.Option c.in-Option.index c.in-Option.content) =
+    subst (IsOpened x) c.in-Option.is c.in_ok-index.ensures in
+    let leaves : is_leaf (array_type c.in-Option.content) ≡ true =
     sym (ap (λ t. is_leaf (present t)) opens.kind) ∙ c.requires.leaves in
-    let index : c.deref.result.now ≡ option_index 0 (array_items x) =
-    c.deref.ensures.value ∙ c.in_ok-numbers-in-Option.ensures.numbers
-    ∙ ap (λ (j : Column). j.items) order.0 in
-    option_present x y j c.in_ok-lane-in-Option.lane c.args.offsets.now
-    c.in_ok-offsets-in-Option.offsets c.args.count opens.kind leaves order.0 order.1
-    c.in_ok-lane-in-Option.ensures c.requires.rising
-    (c.in_ok-offsets-in-Option.ensures (array_items x) index)
+    options_are c.in-Option.index c.in_ok-leaves-in-Option.leaves x c.in-Option.content opens
+    c.in_ok-leaves-in-Option.ensures c.args.offsets.now c.args.count c.requires.rising
+    c.requires.first c.in_ok-lane-in-Option.lane c.in_ok-starts-in-Option.starts.lane
+    c.in_ok-lane-in-Option.ensures
+    (c.in_ok-starts-in-Option.ensures.1
+    ∙ ap (λ js. offsets_by (present_in js c.args.offsets.now) c.args.count)
+    c.whole_of-whole.ensures.numbers)
+    leaves

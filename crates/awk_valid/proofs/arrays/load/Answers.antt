@@ -14,7 +14,7 @@ pub returns-in_err-typ-clause-answer : goal.returns-in_err-typ-clause-answer
 returns-in_err-typ-clause-answer g c =
     let e = c.in_err-typ.field-0.0 in
     let f = form_of c.args.form.now in
-    let b = container_of c.args.store.now.texts in
+    let b = container_of c.args.big c.args.store.now.held in
     Gives-fails (λ x. x) c.from_residual.result (fault_of e) (loading f c.args.n b)
     c.from_residual.ensures.1
     (load_type e f c.args.n b (layout_of f c.args.n b) c.in_err-typ.ensures)
@@ -23,7 +23,7 @@ pub returns-in_err-typ-clause-denoted : goal.returns-in_err-typ-clause-denoted
 returns-in_err-typ-clause-denoted g c =
     let e = c.in_err-typ.field-0.0 in
     let f = form_of c.args.form.now in
-    let b = container_of c.args.store.now.texts in
+    let b = container_of c.args.big c.args.store.now.held in
     Gives-fails (λ x. arr (array_type x) (array_items x)) c.from_residual.result (fault_of e)
     (denoting f c.args.n b) c.from_residual.ensures.1
     (load_type e f c.args.n b (denote f c.args.n b) c.in_err-typ.ensures)

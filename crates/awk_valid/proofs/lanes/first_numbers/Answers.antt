@@ -5,6 +5,8 @@ use Rattle.awk_valid.proofs.lanes.first_numbers.Goals as goal
 
 pub returns : goal.returns
 returns c =
-    first_numbers-some c.args.kind c.args.n c.args.bytes.now c.new.result
-    (omega (arith, c.width.ensures.value)) (rw c.width.ensures.value at c.if-bytes-size.false)
-    c.new.ensures.kind (rw c.width.ensures.value at c.new.ensures.items)
+    first_numbers-some c.args.reader.now.big c.args.kind c.args.n c.args.bytes.now
+    c.in_ok-numbers_in.field-0
+    (omega (arith, c.width.ensures.value, c.width.ensures.positive))
+    (rw c.width.ensures.value at c.if-bytes-size.false)
+    (rw c.width.ensures.value at c.in_ok-numbers_in.ensures)

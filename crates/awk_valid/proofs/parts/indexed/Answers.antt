@@ -4,7 +4,7 @@ use Rattle.awk_types.proofs.RefusalLaws.{refused_or-Ok}
 use Rattle.awk_lanes.specs.Places.{size_of, at}
 use Rattle.awk_form.specs.FormTree.{indexed}
 use Rattle.awk_valid.specs.Broken.{size_break, rule_break, index_rule}
-use Rattle.awk_valid.specs.Container.{container_of}
+use Rattle.awk_valid.specs.Walked.{given, container_in}
 use Rattle.awk_valid.specs.Loading.{told}
 use Rattle.awk_valid.specs.Needs.{index_length}
 use Rattle.awk_valid.specs.declared.own.One.TheVariants.{Indexed}
@@ -15,14 +15,14 @@ use Rattle.awk_valid.proofs.parts.indexed.Goals as goal
 pub returns-in_err-length-clause-answer : goal.returns-in_err-length-clause-answer
 returns-in_err-length-clause-answer g c f =
     let e = c.in_err-length.field-0.0 in
-    let t = c.args.store.now.texts in
+    let t = given c.args.walk.now.reader.now.big c.args.store.now.held in
     let small =
     (refused_or-Ok (size_break c.args.spot.n) tt tt c.in_ok-judged_size.ensures).0 in
     let lane =
     index_fetched t t c.args.key.now (codes "index") c.args.kind c.args.spot.n
     c.in_ok-index.index refl c.in_ok-index.ensures.answer in
     let own =
-    indexed-own (container_of t) c.args.key.now c.args.kind f c.args.spot.node c.args.spot.n
+    indexed-own (container_in t) c.args.key.now c.args.kind f c.args.spot.node c.args.spot.n
     c.in_ok-index.index small lane.0 lane.1 lane.2 in
     part-fails (indexed c.args.key.now c.args.kind f) c.args.spot.node c.args.spot.n t
     c.from_residual-in_err-length.result e c.from_residual-in_err-length.ensures.1
@@ -34,7 +34,7 @@ returns-in_err-length-clause-answer g c f =
 
 pub returns-in_err-length-clause-cost : goal.returns-in_err-length-clause-cost
 returns-in_err-length-clause-cost g c =
-    let t = c.args.store.now.texts in
+    let t = given c.args.walk.now.reader.now.big c.args.store.now.held in
     let lane =
     index_fetched t t c.args.key.now (codes "index") c.args.kind c.args.spot.n
     c.in_ok-index.index refl c.in_ok-index.ensures.answer in
@@ -48,14 +48,14 @@ returns-in_err-length-clause-cost g c =
 
 pub returns-clause-answer : goal.returns-clause-answer
 returns-clause-answer g c f =
-    let t = c.args.store.now.texts in
+    let t = given c.args.walk.now.reader.now.big c.args.store.now.held in
     let small =
     (refused_or-Ok (size_break c.args.spot.n) tt tt c.in_ok-judged_size.ensures).0 in
     let lane =
     index_fetched t t c.args.key.now (codes "index") c.args.kind c.args.spot.n
     c.in_ok-index.index refl c.in_ok-index.ensures.answer in
     let own =
-    indexed-own (container_of t) c.args.key.now c.args.kind f c.args.spot.node c.args.spot.n
+    indexed-own (container_in t) c.args.key.now c.args.kind f c.args.spot.node c.args.spot.n
     c.in_ok-index.index small lane.0 lane.1 lane.2 in
     let rule =
     refused_or-Ok
@@ -70,7 +70,7 @@ returns-clause-answer g c f =
 
 pub returns-clause-cost : goal.returns-clause-cost
 returns-clause-cost g c =
-    let t = c.args.store.now.texts in
+    let t = given c.args.walk.now.reader.now.big c.args.store.now.held in
     let lane =
     index_fetched t t c.args.key.now (codes "index") c.args.kind c.args.spot.n
     c.in_ok-index.index refl c.in_ok-index.ensures.answer in
@@ -84,7 +84,7 @@ returns-clause-cost g c =
 
 pub returns-in_err-lengths-clause-cost : goal.returns-in_err-lengths-clause-cost
 returns-in_err-lengths-clause-cost g c =
-    let t = c.args.store.now.texts in
+    let t = given c.args.walk.now.reader.now.big c.args.store.now.held in
     let lane =
     index_fetched t t c.args.key.now (codes "index") c.args.kind c.args.spot.n
     c.in_ok-index.index refl c.in_ok-index.ensures.answer in

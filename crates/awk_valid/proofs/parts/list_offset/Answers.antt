@@ -4,7 +4,8 @@ use Rattle.awk_types.proofs.RefusalLaws.{Told-first, refused_or-Ok}
 use Rattle.awk_lanes.specs.Places.{size_of, at}
 use Rattle.awk_form.specs.FormTree.{list_offset}
 use Rattle.awk_valid.specs.Broken.{size_break, rule_break, list_rule}
-use Rattle.awk_valid.specs.Container.{container_of, index_at}
+use Rattle.awk_valid.specs.Container.{index_at}
+use Rattle.awk_valid.specs.Walked.{given, container_in}
 use Rattle.awk_valid.specs.Loading.{told}
 use Rattle.awk_valid.specs.Needs.{lists_length}
 use Rattle.awk_valid.specs.declared.own.One.TheVariants.{OffsetLists}
@@ -15,29 +16,29 @@ use Rattle.awk_valid.proofs.parts.list_offset.Goals as goal
 pub returns-in_err-offsets-clause-answer : goal.returns-in_err-offsets-clause-answer
 returns-in_err-offsets-clause-answer g c f =
     let e = c.in_err-offsets.field-0.0 in
-    let t = c.args.store.now.texts in
+    let t = given c.args.walk.now.reader.now.big c.args.store.now.held in
     let n = c.args.spot.n in
-    let made = index_at (container_of t) c.args.key.now (codes "offsets") c.args.kind (n + 1) in
+    let made = index_at (container_in t) c.args.key.now (codes "offsets") c.args.kind (n + 1) in
     let small = (refused_or-Ok (size_break n) tt tt c.in_ok-judged_size.ensures).0 in
     part-fails (list_offset c.args.key.now c.args.kind f) c.args.spot.node n t
     c.from_residual-in_err-offsets.result e c.from_residual-in_err-offsets.ensures.1
     (told-buffers (told e)
     (list_offset c.args.key.now c.args.kind f) c.args.spot.node n t made small
     (Told-first (told e)
-    (index_break (container_of t) c.args.key.now (codes "offsets") c.args.kind (n + 1)) None made
+    (index_break (container_in t) c.args.key.now (codes "offsets") c.args.kind (n + 1)) None made
     made c.in_err-offsets.ensures.answer))
 
 pub returns-in_err-length-clause-answer : goal.returns-in_err-length-clause-answer
 returns-in_err-length-clause-answer g c f =
     let e = c.in_err-length.field-0.0 in
-    let t = c.args.store.now.texts in
+    let t = given c.args.walk.now.reader.now.big c.args.store.now.held in
     let small =
     (refused_or-Ok (size_break c.args.spot.n) tt tt c.in_ok-judged_size.ensures).0 in
     let lane =
     index_fetched t t c.args.key.now (codes "offsets") c.args.kind (c.args.spot.n + 1)
     c.in_ok-offsets.offsets refl c.in_ok-offsets.ensures.answer in
     let own =
-    offsets-own (container_of t) c.args.key.now c.args.kind f c.args.spot.node c.args.spot.n
+    offsets-own (container_in t) c.args.key.now c.args.kind f c.args.spot.node c.args.spot.n
     c.in_ok-offsets.offsets small lane.0 lane.1 lane.2 in
     part-fails (list_offset c.args.key.now c.args.kind f) c.args.spot.node c.args.spot.n t
     c.from_residual-in_err-length.result e c.from_residual-in_err-length.ensures.1
@@ -50,7 +51,7 @@ returns-in_err-length-clause-answer g c f =
 
 pub returns-in_err-length-clause-cost : goal.returns-in_err-length-clause-cost
 returns-in_err-length-clause-cost g c =
-    let t = c.args.store.now.texts in
+    let t = given c.args.walk.now.reader.now.big c.args.store.now.held in
     let lane =
     index_fetched t t c.args.key.now (codes "offsets") c.args.kind (c.args.spot.n + 1)
     c.in_ok-offsets.offsets refl c.in_ok-offsets.ensures.answer in
@@ -64,14 +65,14 @@ returns-in_err-length-clause-cost g c =
 
 pub returns-clause-answer : goal.returns-clause-answer
 returns-clause-answer g c f =
-    let t = c.args.store.now.texts in
+    let t = given c.args.walk.now.reader.now.big c.args.store.now.held in
     let small =
     (refused_or-Ok (size_break c.args.spot.n) tt tt c.in_ok-judged_size.ensures).0 in
     let lane =
     index_fetched t t c.args.key.now (codes "offsets") c.args.kind (c.args.spot.n + 1)
     c.in_ok-offsets.offsets refl c.in_ok-offsets.ensures.answer in
     let own =
-    offsets-own (container_of t) c.args.key.now c.args.kind f c.args.spot.node c.args.spot.n
+    offsets-own (container_in t) c.args.key.now c.args.kind f c.args.spot.node c.args.spot.n
     c.in_ok-offsets.offsets small lane.0 lane.1 lane.2 in
     let rule =
     refused_or-Ok
@@ -87,7 +88,7 @@ returns-clause-answer g c f =
 
 pub returns-clause-cost : goal.returns-clause-cost
 returns-clause-cost g c =
-    let t = c.args.store.now.texts in
+    let t = given c.args.walk.now.reader.now.big c.args.store.now.held in
     let lane =
     index_fetched t t c.args.key.now (codes "offsets") c.args.kind (c.args.spot.n + 1)
     c.in_ok-offsets.offsets refl c.in_ok-offsets.ensures.answer in
@@ -101,7 +102,7 @@ returns-clause-cost g c =
 
 pub returns-in_err-lengths-clause-cost : goal.returns-in_err-lengths-clause-cost
 returns-in_err-lengths-clause-cost g c =
-    let t = c.args.store.now.texts in
+    let t = given c.args.walk.now.reader.now.big c.args.store.now.held in
     let lane =
     index_fetched t t c.args.key.now (codes "offsets") c.args.kind (c.args.spot.n + 1)
     c.in_ok-offsets.offsets refl c.in_ok-offsets.ensures.answer in

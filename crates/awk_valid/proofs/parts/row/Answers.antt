@@ -4,7 +4,7 @@ use Rattle.awk_types.proofs.RefusalLaws.{refused_or-Ok}
 use Rattle.awk_form.specs.FormTree.{row}
 use Rattle.awk_form.specs.Lawful.{count}
 use Rattle.awk_valid.specs.Broken.{size_break}
-use Rattle.awk_valid.specs.Container.{container_of}
+use Rattle.awk_valid.specs.Walked.{container_in}
 use Rattle.awk_valid.specs.declared.own.Own.TheVariants.{Rows}
 use Rattle.awk_valid.proofs.PartLaws.{same_lengths, part-made, own-places}
 use Rattle.awk_valid.proofs.parts.row.Goals as goal
@@ -17,6 +17,6 @@ returns c key fs t counted =
     first_of (cc, grind arith) in
     part-made (row key c.args.names.now fs) c.args.spot.node n t (Rows c.in_ok-copied.field-0)
     c.in_ok-lengths.lengths
-    (own-places (row key c.args.names.now fs) c.args.spot.node n (container_of t) small refl refl)
+    (own-places (row key c.args.names.now fs) c.args.spot.node n (container_in t) small refl refl)
     (ap Rows (sym c.in_ok-copied.ensures))
     (same_lengths n 0 (count fs) ∙ ap (λ k. replicate k n) counted ∙ sym long)

@@ -10,9 +10,8 @@ use Rattle.awk_form.specs.Measures.{nodes_of}
 use Rattle.awk_form.specs.View.{form_of}
 use Rattle.awk_form.specs.declared.form.Shape.{the_lemmas}
 use Rattle.awk_valid.specs.Loading.{told}
-use Rattle.awk_valid.specs.Container.{container_of}
 use Rattle.awk_valid.specs.Parts.{own_of, over}
-use Rattle.awk_valid.specs.Walked.{node_said, left_said}
+use Rattle.awk_valid.specs.Walked.{given, container_in, node_said, left_said}
 use Rattle.awk_valid.proofs.FaultLaws.{Gives-fails}
 use Rattle.awk_valid.proofs.WalkLaws.{steps-own, steps-within, steps-first, steps-next, told-own, left-all, own-count, own-length, rest-all, rest-none, rest-lawful, rest-nodes, lawful-over, left-told, left-next, left-none, said-valid}
 use Rattle.awk_valid.proofs.walk.+node.Goals as goal
@@ -21,7 +20,7 @@ pub returns-in_err-own-clause-answer : goal.returns-in_err-own-clause-answer
 returns-in_err-own-clause-answer g t' c =
     let e = c.in_err-own.field-0.0 in
     let f = form_of c.args.form.now in
-    let t = c.args.store.now.texts in
+    let t = given c.args.walk.now.reader.now.big c.args.store.now.held in
     Gives-fails (λ x. x) c.from_residual-in_err-own.result e
     (node_said f c.args.next.now c.args.n t)
     c.from_residual-in_err-own.ensures.1
@@ -30,13 +29,13 @@ returns-in_err-own-clause-answer g t' c =
 pub returns-in_err-own-clause-cost : goal.returns-in_err-own-clause-cost
 returns-in_err-own-clause-cost g t' c =
     let f = form_of c.args.form.now in
-    let t = c.args.store.now.texts in
+    let t = given c.args.walk.now.reader.now.big c.args.store.now.held in
     steps-within _ _ _ (steps-own f t _ _ c.in_err-own.ensures.cost)
 
 pub loop-i-init : goal.loop-i-init
 loop-i-init g t' c =
     let f = form_of c.args.form.now in
-    let t = c.args.store.now.texts in
+    let t = given c.args.walk.now.reader.now.big c.args.store.now.held in
     let n = c.args.n in
     let own =
     left-all f c.args.next.now n t c.in_ok-own.own c.in_ok-own.lengths.items
@@ -49,14 +48,14 @@ loop-i-init g t' c =
           own.0
           ∙ ap₂ (λ j xs. left_said f n 0 j xs t) (sym next) (sym c.new-contents.ensures.items);
       next = omega (arith, next, ap nodes_of (rest-all f), nodes-contents f);
-      texts = c.in_ok-own.ensures.texts;
+      held = c.in_ok-own.ensures.held;
       cost = steps-first f t _ _ c.in_ok-own.ensures.cost;
     }
 
 pub content_at-requires : goal.content_at-requires
 content_at-requires g t' c =
     let f = form_of c.args.form.now in
-    let t = c.args.store.now.texts in
+    let t = given c.args.walk.now.reader.now.big c.args.store.now.held in
     let n = c.args.n in
     let counted =
     own-count f c.args.next.now n t c.in_ok-own.own c.in_ok-own.lengths.items
@@ -77,7 +76,7 @@ pub returns-in_err-content-clause-answer : goal.returns-in_err-content-clause-an
 returns-in_err-content-clause-answer g t' c =
     let e = c.in_err-content.field-0.0 in
     let f = form_of c.args.form.now in
-    let t = c.args.store.now.texts in
+    let t = given c.args.walk.now.reader.now.big c.args.store.now.held in
     let n = c.args.n in
     let counted =
     own-count f c.args.next.now n t c.in_ok-own.own c.in_ok-own.lengths.items
@@ -91,33 +90,39 @@ returns-in_err-content-clause-answer g t' c =
     c.from_residual-in_err-content.ensures.1
     (subst (Told (told e)) (sym c.loop-i.invariant.said)
     (left-told (told e) f (form_of c.content_at.result.now) n c.loop-i.i c.loop-i.next
-    c.index.result.now c.loop-i.contents.items t c.loop-i.store.texts c.content_at.ensures.item
-    size c.loop-i.invariant.texts c.in_err-content.ensures.answer))
+    c.index.result.now c.loop-i.contents.items t (given c.args.walk.now.reader.now.big
+    c.loop-i.store.held) c.content_at.ensures.item
+    size (ap (given c.args.walk.now.reader.now.big) c.loop-i.invariant.held)
+    c.in_err-content.ensures.answer))
 
 pub returns-in_err-content-clause-cost : goal.returns-in_err-content-clause-cost
 returns-in_err-content-clause-cost g t' c =
     let f = form_of c.args.form.now in
-    let t = c.args.store.now.texts in
+    let t = given c.args.walk.now.reader.now.big c.args.store.now.held in
     let later =
-    steps-next f (form_of c.content_at.result.now) c.loop-i.i t c.loop-i.store.texts _ _ _
-    c.content_at.ensures.item c.loop-i.invariant.texts c.loop-i.invariant.cost
+    steps-next f (form_of c.content_at.result.now) c.loop-i.i t
+    (given c.args.walk.now.reader.now.big c.loop-i.store.held) _ _ _
+    c.content_at.ensures.item (ap (given c.args.walk.now.reader.now.big) c.loop-i.invariant.held)
+    c.loop-i.invariant.cost
     c.in_err-content.ensures.cost in
     steps-within _ _ _ later
 
 pub returns-in_err-push-clause-cost : goal.returns-in_err-push-clause-cost
 returns-in_err-push-clause-cost g t' c =
     let f = form_of c.args.form.now in
-    let t = c.args.store.now.texts in
+    let t = given c.args.walk.now.reader.now.big c.args.store.now.held in
     let later =
-    steps-next f (form_of c.content_at.result.now) c.loop-i.i t c.loop-i.store.texts _ _ _
-    c.content_at.ensures.item c.loop-i.invariant.texts c.loop-i.invariant.cost
+    steps-next f (form_of c.content_at.result.now) c.loop-i.i t
+    (given c.args.walk.now.reader.now.big c.loop-i.store.held) _ _ _
+    c.content_at.ensures.item (ap (given c.args.walk.now.reader.now.big) c.loop-i.invariant.held)
+    c.loop-i.invariant.cost
     c.in_ok-content.ensures.cost in
     steps-within _ _ _ later
 
 pub loop-i-preserved : goal.loop-i-preserved
 loop-i-preserved g t' c =
     let f = form_of c.args.form.now in
-    let t = c.args.store.now.texts in
+    let t = given c.args.walk.now.reader.now.big c.args.store.now.held in
     let n = c.args.n in
     let counted =
     own-count f c.args.next.now n t c.in_ok-own.own c.in_ok-own.lengths.items
@@ -139,7 +144,9 @@ loop-i-preserved g t' c =
           c.loop-i.invariant.said
           ∙ left-next f x n i c.loop-i.next c.node.new.next c.index.result.now
           c.loop-i.contents.items c.push.new.self.items c.in_ok-content.content t
-          c.loop-i.store.texts at size c.loop-i.invariant.texts c.in_ok-content.ensures.answer
+          (given c.args.walk.now.reader.now.big c.loop-i.store.held) at size
+          (ap (given c.args.walk.now.reader.now.big) c.loop-i.invariant.held)
+          c.in_ok-content.ensures.answer
           c.in_ok-content.ensures.next pushed;
       next =
           omega (
@@ -148,16 +155,17 @@ loop-i-preserved g t' c =
             c.in_ok-content.ensures.next,
             c.loop-i.invariant.next,
           );
-      texts = c.in_ok-content.ensures.texts ∙ c.loop-i.invariant.texts;
+      held = c.in_ok-content.ensures.held ∙ c.loop-i.invariant.held;
       cost =
-          steps-next f x i t c.loop-i.store.texts _ _ _ at c.loop-i.invariant.texts
+          steps-next f x i t (given c.args.walk.now.reader.now.big c.loop-i.store.held) _ _ _ at
+          (ap (given c.args.walk.now.reader.now.big) c.loop-i.invariant.held)
           c.loop-i.invariant.cost c.in_ok-content.ensures.cost;
     }
 
 pub over-requires : goal.over-requires
 over-requires g t' c =
     let f = form_of c.args.form.now in
-    let t = c.args.store.now.texts in
+    let t = given c.args.walk.now.reader.now.big c.args.store.now.held in
     let n = c.args.n in
     let counted =
     own-count f c.args.next.now n t c.in_ok-own.own c.in_ok-own.lengths.items
@@ -171,13 +179,13 @@ over-requires g t' c =
       valid =
           subst (λ q. IsValid (over n q c.loop-i.contents.items)) c.loop-i.invariant.own
           (said-valid f c.args.next.now n t
-          (over n (own_of f n (container_of t)) c.loop-i.contents.items) c.requires.lawful said);
+          (over n (own_of f n (container_in t)) c.loop-i.contents.items) c.requires.lawful said);
     }
 
 pub returns-clause-answer : goal.returns-clause-answer
 returns-clause-answer g t' c =
     let f = form_of c.args.form.now in
-    let t = c.args.store.now.texts in
+    let t = given c.args.walk.now.reader.now.big c.args.store.now.held in
     let n = c.args.n in
     let counted =
     own-count f c.args.next.now n t c.in_ok-own.own c.in_ok-own.lengths.items
@@ -192,7 +200,7 @@ returns-clause-answer g t' c =
 pub returns-clause-next : goal.returns-clause-next
 returns-clause-next g t' c =
     let f = form_of c.args.form.now in
-    let t = c.args.store.now.texts in
+    let t = given c.args.walk.now.reader.now.big c.args.store.now.held in
     let n = c.args.n in
     let counted =
     own-count f c.args.next.now n t c.in_ok-own.own c.in_ok-own.lengths.items

@@ -1,0 +1,119 @@
+-- What an operation at the leaves answers, by its parts.
+use Rattle.std.proofs.Common.{◌≡◌, Bool, true, false, not, refl, ap, ap₂, sym, ◌∙◌}
+use Rattle.std.specs.Prelude.{List, [], ◌∷◌, map, length, get_or, Option, None}
+use Rattle.std.specs.Prelude.{Result, Ok, if◌then◌else◌}
+use Rattle.std.specs.List.{range_with_len}
+use Rattle.std.proofs.lemmas.List.{length-map}
+use Rattle.awk_types.specs.Datum.{Datum, arr, one}
+use Rattle.awk_types.specs.Gives.{Told, refused_or, ◌or◌}
+use Rattle.awk_types.specs.Simple.{simple_value}
+use Rattle.awk_types.specs.Value.{Value, null}
+use Rattle.awk_types.specs.declared.fault.Fault.{Fault}
+use Rattle.awk_types.specs.declared.primitive.Primitive.{Primitive}
+use Rattle.awk_types.proofs.RefusalLaws.{Told-first, Told-later, Told-other, or-None}
+use Rattle.awk_types.proofs.RefusalLaws.{refused_or-None}
+use Rattle.awk_layout.specs.Datum.{datum_of, first_item, IsDatum}
+use Rattle.awk_layout.specs.Item.{item}
+use Rattle.awk_layout.specs.Layout.{Layout}
+use Rattle.awk_layout.specs.Typing.{layout_type, array_type, array_items}
+use Rattle.awk_layout.specs.Valid.{len}
+use Rattle.awk_layout.specs.declared.datum.Datum.TheVariants.{Arr, One}
+use Rattle.awk_layout.proofs.ArrayItems.{length-array_items}
+use Rattle.awk_frames.specs.Framed.{over}
+use Rattle.awk_pair.specs.Answer.{single_or_fault, shared_ends}
+use Rattle.awk_pair.specs.Pairs.{pair_refused, pair_type, pair_values, some_array, datum_from}
+use Rattle.awk_arith.specs.AtLeaves.{result_type, limit_refused, first_fault, value_or_null}
+use Rattle.awk_arith.specs.AtLeaves.{row_values, leaves_refused, at_leaves}
+
+-- an array of one item has its first alone
+pub items-one : (x : Layout) → len x ≡ 1 → array_items x ≡ first_item x ∷ []
+items-one x single =
+    ap (λ n. map (simple_value (layout_type x)) (map (item x) (range_with_len 0 n))) single
+
+-- single values are paired to one
+values-one : (ds : List Datum) → some_array ds ≡ false → length (pair_values false None ds) ≡ 1
+values-one ds e = rw e refl
+
+module _ (p : Primitive) (f : Value → Result Value Fault) (ds : List Datum) where
+  -- ---- faults
+
+  pub told_type : (o : Option Fault)
+      → Told o (refused_or (limit_refused (result_type p ds)) (result_type p ds))
+      → Told o (at_leaves p f ds)
+  told_type o h =
+      Told-first o (limit_refused (result_type p ds))
+      (pair_refused false None ds or first_fault (map f (shared_ends false None ds)))
+      (datum_from (some_array ds) (result_type p ds) (row_values f ds)) (datum_from (some_array ds)
+      (result_type p ds) (row_values f ds))
+      (Told-other o (limit_refused (result_type p ds)) (result_type p ds)
+      (datum_from (some_array ds) (result_type p ds) (row_values f ds)) h)
+
+  pub told_pair : (o : Option Fault) → limit_refused (result_type p ds) ≡ None
+      → Told o (single_or_fault false None ds) → Told o (at_leaves p f ds)
+  told_pair o e h =
+      let made = datum_from (some_array ds) (result_type p ds) (row_values f ds) in
+      let rest = first_fault (map f (shared_ends false None ds)) in
+      Told-later o (limit_refused (result_type p ds)) (pair_refused false None ds or rest) made made
+      e (Told-first o (pair_refused false None ds) rest made made
+      (Told-other o (pair_refused false None ds) (not (some_array ds)) made h))
+
+  pub told_leaves : (o : Option Fault) (vs : List Value)
+      → limit_refused (result_type p ds) ≡ None → pair_refused false None ds ≡ None
+      → Told o (refused_or (first_fault (map f (shared_ends false None ds))) vs)
+      → Told o (at_leaves p f ds)
+  told_leaves o vs e k h =
+      let made = datum_from (some_array ds) (result_type p ds) (row_values f ds) in
+      let rest = first_fault (map f (shared_ends false None ds)) in
+      Told-later o (limit_refused (result_type p ds)) (pair_refused false None ds or rest) made made
+      e (Told-later o (pair_refused false None ds) rest made made k
+      (Told-other o rest vs made h))
+
+  -- ---- the result
+
+  pub record IsResult (single : Bool) (y : Layout) : Type 0 where
+    pub limit : limit_refused (result_type p ds) ≡ None
+    pub paired : pair_refused false None ds ≡ None
+    pub leaves : first_fault (map f (shared_ends false None ds)) ≡ None
+    pub is_single : not (some_array ds) ≡ single
+    pub typ : array_type y ≡ result_type p ds
+    pub items : array_items y ≡ row_values f ds
+
+  size-one : (single : Bool) (y : Layout) → IsResult single y → some_array ds ≡ false → len y ≡ 1
+  size-one single y h e =
+      sym (length-array_items y) ∙ ap length h.items
+      ∙ length-map (pair_values false None ds)
+      (over (pair_type false None ds) (λ v. value_or_null (f v)))
+      ∙ values-one ds e
+
+  pub datum_made : (single : Bool) (y : Layout) → IsResult single y
+      → IsDatum (if single then One y else Arr y)
+  datum_made single y h = by (some_array ds) refl single h.is_single
+    where
+      by : (b : Bool) → some_array ds ≡ b → (s : Bool) → not b ≡ s
+          → IsDatum (if s then One y else Arr y)
+      by true e true k = absurd cc
+      by true e false k = tt
+      by false e true k = size-one single y h e
+      by false e false k = absurd cc
+
+  pub made : (single : Bool) (y : Layout) → IsResult single y
+      → at_leaves p f ds ≡ Ok (datum_of (if single then One y else Arr y))
+  made single y h =
+      refused_or-None (leaves_refused p f ds)
+      (datum_from (some_array ds) (result_type p ds) (row_values f ds))
+      (datum_of (if single then One y else Arr y))
+      (or-None (limit_refused (result_type p ds))
+      (pair_refused false None ds or first_fault (map f (shared_ends false None ds))) h.limit
+      ∙ or-None (pair_refused false None ds)
+      (first_fault (map f (shared_ends false None ds))) h.paired ∙ h.leaves)
+      (sym (by (some_array ds) refl single h.is_single))
+    where
+      by : (b : Bool) → some_array ds ≡ b → (s : Bool) → not b ≡ s
+          → datum_of (if s then One y else Arr y)
+          ≡ datum_from b (result_type p ds) (row_values f ds)
+      by true e true k = absurd cc
+      by true e false k = ap₂ arr h.typ h.items
+      by false e true k =
+          ap₂ one h.typ (ap (λ vs. get_or vs 0 null)
+          (sym (items-one y (size-one single y h e)) ∙ h.items))
+      by false e false k = absurd cc

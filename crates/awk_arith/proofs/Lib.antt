@@ -1,0 +1,12 @@
+pub mod ResultLaws
+pub mod LeafLaws
+pub mod EmptyLaws
+pub mod ColumnLaws
+pub mod SideLaws
+pub mod AnswerLaws
+pub mod UnderLaws
+pub mod BinaryLaws
+pub mod PairedLaws
+pub mod LiteralLaws
+pub mod UnaryLaws
+mod Worked

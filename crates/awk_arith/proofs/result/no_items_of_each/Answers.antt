@@ -1,0 +1,14 @@
+use Rattle.std.proofs.Common.{arith}
+use Rattle.awk_arith.proofs.EmptyLaws.{emptied_push, emptied_all}
+use Rattle.awk_arith.proofs.result.no_items_of_each.Goals as goal
+
+pub loop-i-preserved : goal.loop-i-preserved
+loop-i-preserved g c =
+    emptied_push c.args.xs.now c.loop-i.none c.push.new.self c.loop-i.i c.get.result.now
+    c.in_ok-emptied.emptied c.get.ensures.item c.in_ok-push.ensures.ok
+    c.in_ok-emptied.ensures.datum c.loop-i.invariant
+
+pub returns : goal.returns
+returns g c =
+    emptied_all c.args.xs.now c.loop-i.none c.loop-i.i
+    (omega (arith, c.loop-i-test.false, c.len-i-end.ensures)) c.loop-i.invariant

@@ -1,0 +1,70 @@
+-- An operation at the leaves of data that are paired: a part on types, a part on values, and the
+-- first fault.
+use Rattle.std.specs.Prelude.{List, [], ◌∷◌, map, Option, Some, None, option_map, Result, Ok, Err}
+use Rattle.std.specs.Prelude.{false}
+use Rattle.awk_types.specs.DataType.{DataType, leaf, var, reg, opt}
+use Rattle.awk_types.specs.Datum.{Datum}
+use Rattle.awk_types.specs.Faults.{limit_fault}
+use Rattle.awk_types.specs.Gives.{refused_or, ◌or◌}
+use Rattle.awk_types.specs.Limit.{limit}
+use Rattle.awk_types.specs.Value.{Value, null}
+use Rattle.awk_types.specs.declared.fault.Fault.{Fault}
+use Rattle.awk_types.specs.declared.primitive.Primitive.{Primitive}
+use Rattle.awk_leaves.specs.declared.leaf_type.LeafType.{LeafType}
+use Rattle.awk_leaves.specs.declared.leaf_type.LeafType.TheVariants.{Of, Unknown}
+use Rattle.awk_frames.specs.Framed.{over, over_type}
+use Rattle.awk_pair.specs.Answer.{shared_ends}
+use Rattle.awk_pair.specs.Pairs.{pair_refused, pair_type, pair_values, some_array, datum_from}
+
+-- what the leaves of a type are of, through lists and options. A pairing to leaves is refused
+-- where it ends at anything else.
+abbrev pub leaf_in : DataType → LeafType
+leaf_in (leaf p) = Of p
+leaf_in (var t) = leaf_in t
+leaf_in (reg n t) = leaf_in t
+leaf_in (opt t) = leaf_in t
+leaf_in t = Unknown
+
+abbrev pub limit_refused : DataType → Option Fault
+limit_refused t = option_map limit_fault (limit t)
+
+-- ---- results of which some may be faults
+
+abbrev pub value_or_null : Result Value Fault → Value
+value_or_null (Ok v) = v
+value_or_null (Err f) = null
+
+abbrev pub first_fault : List (Result Value Fault) → Option Fault
+first_fault [] = None
+first_fault (Ok v ∷ rs) = first_fault rs
+first_fault (Err f ∷ rs) = Some f
+
+-- ---- leaves of a primitive in the place of each row of leaves
+
+-- the lists and options that the data share, over the primitive
+abbrev pub result_type : Primitive → List Datum → DataType
+result_type p ds = over_type (pair_type false None ds) (leaf p)
+
+-- the first fault: a limit that the type passes, lists that are unequally long or too large, and
+-- the first row, in order, whose result is a fault
+abbrev pub leaves_refused : Primitive → (Value → Result Value Fault) → List Datum → Option Fault
+leaves_refused p f ds =
+    limit_refused (result_type p ds)
+    or (pair_refused false None ds or first_fault (map f (shared_ends false None ds)))
+
+-- what a function gives of each row of leaves
+abbrev pub row_values : (Value → Result Value Fault) → List Datum → List Value
+row_values f ds =
+    map (over (pair_type false None ds) (λ v. value_or_null (f v))) (pair_values false None ds)
+
+abbrev pub at_leaves : Primitive → (Value → Result Value Fault) → List Datum
+    → Result Datum Fault
+at_leaves p f ds =
+    refused_or (leaves_refused p f ds)
+    (datum_from (some_array ds) (result_type p ds) (row_values f ds))
+
+-- the same in the primitive that types are judged to give
+abbrev pub in_primitive : Result Primitive Fault → (Primitive → Result Datum Fault)
+    → Result Datum Fault
+in_primitive (Ok p) in_it = in_it p
+in_primitive (Err f) in_it = Err f

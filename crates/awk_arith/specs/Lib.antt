@@ -1,0 +1,4 @@
+pub mod AtLeaves
+pub mod Binary
+pub mod Unary
+pub mod Sides

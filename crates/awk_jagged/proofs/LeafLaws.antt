@@ -1,0 +1,400 @@
+-- The innermost picks: the places in a content, and the items there.
+use Rattle.std.specs.Prelude.{◌≡◌, ℕ, zero, suc, ◌+◌, ◌<◌, ◌≤◌, refl, Bool, true, false}
+use Rattle.std.specs.Prelude.{◌||◌, List, [], ◌∷◌, ◌++◌, length, map, get_or, ℤ}
+use Rattle.std.specs.Prelude.{Option, Some, None, option_map}
+use Rattle.std.specs.List.{range_with_len, flat_map, list_any, AllByRecursion}
+use Rattle.std.proofs.Common.{arith, ap, ap₂, sym, ◌∙◌, subst}
+use Rattle.std.proofs.lemmas.List.{map-append}
+use Rattle.std.proofs.lemmas.List.FromFn.{length-map-range_with_len, get_or-map-range_with_len}
+use Rattle.awk_types.specs.DataType.{DataType, leaf}
+use Rattle.awk_types.specs.Has.{Has}
+use Rattle.awk_types.specs.ItemLimit.{item_limit}
+use Rattle.awk_types.specs.Simple.{present, is_option}
+use Rattle.awk_types.specs.Value.{Value, int, truth, null, list, row, alt}
+use Rattle.awk_types.specs.declared.primitive.Primitive.TheVariants.{Bool as Truths}
+use Rattle.awk_lanes.specs.Column.{Column}
+use Rattle.awk_lanes.specs.Counted.{before, offsets_by}
+use Rattle.awk_lanes.specs.Places.{size_of, place_at, option_place, AreSpans}
+use Rattle.awk_lanes.specs.declared.kind.Kind.TheVariants as kinds
+use Rattle.awk_layout.proofs.ArrayItems.{get_or-array_items, length-array_items}
+use Rattle.awk_layout.specs.Item.{at_option}
+use Rattle.awk_layout.specs.Typing.{array_type, array_items}
+use Rattle.awk_layout.specs.Valid.{len}
+use Rattle.awk_gather.specs.Arrays.{pick}
+use Rattle.awk_columns.specs.Lists.{Listed}
+use Rattle.awk_select.proofs.Lists.{each_of, each_of-more, map-map}
+use Rattle.awk_select.proofs.PickedPlaces.{IsThere, optional-lane, index-lane, take_place-below}
+use Rattle.awk_select.proofs.PickedPlaces.{take_places-there, has-at}
+use Rattle.awk_select.specs.Cells.{is_leaf, IsBelow, place_number, places_lane}
+use Rattle.awk_select.specs.Picks.{picked, is_mask, mask_place, mask_places, take_place}
+use Rattle.awk_select.specs.Picks.{take_places, is_outside}
+use Rattle.awk_jagged.specs.Leaves.{take_in, take_at, take_numbers, is_outside_at, mask_at}
+use Rattle.awk_jagged.specs.Leaves.{mask_numbers}
+use Rattle.awk_jagged.specs.Leaves.{AreTested, ArePlaces, ArePlacesOr}
+use Rattle.awk_jagged.specs.declared.leaves.Places.{Places}
+use Rattle.awk_jagged_rows.specs.Levels.{row_at}
+use Rattle.awk_jagged.specs.PickedAt.{AreWithin, AreWithinOr}
+use Rattle.awk_jagged_rows.specs.Rows.{lists_by, length_by, place_by, AreAlike}
+use Rattle.awk_jagged_rows.proofs.FlatPlaces.{map_same, before_same}
+use Rattle.awk_jagged.proofs.FlatLists.{each_same, offsets_same}
+use Rattle.awk_jagged.proofs.LeafTypes.{mask-leaf, plain-leaf, leaf-index}
+use Rattle.awk_jagged_rows.proofs.SpanLaws.{item_in, list-items, length-list}
+
+-- ---- lists
+
+pub map_each : {X Y : Type 0} (p : X → Y) (f : ℕ → List X) (n : ℕ)
+    → map p (each_of f n) ≡ each_of (λ i. map p (f i)) n
+map_each p f zero = refl
+map_each {X} {Y} p f (suc n) =
+    let e : suc n ≡ n + 1 = omega arith in
+    ap (λ j. map p (each_of f j)) e
+    ∙ ap (map p) (each_of-more f n)
+    ∙ map-append p (each_of f n) (f n)
+    ∙ ap (λ (ys : List Y). ys ++ map p (f n)) (map_each p f n)
+    ∙ sym (each_of-more (λ i. map p (f i)) n)
+    ∙ ap (each_of (λ i. map p (f i))) (sym e)
+
+all-append : {X : Type 0} (P : X → Type 0) (xs ys : List X) → AllByRecursion P xs
+    → AllByRecursion P ys → AllByRecursion P (xs ++ ys)
+all-append P [] ys h g = g
+all-append P (x ∷ xs) ys h g = (h.0, all-append P xs ys h.1 g)
+
+all-range : {X : Type 0} (P : X → Type 0) (f : ℕ → List X) (a m : ℕ)
+    → ((i : ℕ) → i < a + m → AllByRecursion P (f i))
+    → AllByRecursion P (flat_map f (range_with_len a m))
+all-range P f a zero h = tt
+all-range P f a (suc m) h =
+    all-append P (f a) (flat_map f (range_with_len (a + 1) m)) (h a (omega arith))
+    (all-range P f (a + 1) m (λ i l. h i (omega (arith, l))))
+
+all-map : {X : Type 0} (P : X → Type 0) (f : ℕ → X) (a m : ℕ) → ((i : ℕ) → i < a + m → P (f i))
+    → AllByRecursion P (map f (range_with_len a m))
+all-map P f a zero h = tt
+all-map P f a (suc m) h =
+    (h a (omega arith), all-map P f (a + 1) m (λ i l. h i (omega (arith, l))))
+
+all-each : {X : Type 0} (P : X → Type 0) (f : ℕ → List X) (n : ℕ)
+    → ((i : ℕ) → i < n → AllByRecursion P (f i)) → AllByRecursion P (each_of f n)
+all-each P f n h = all-range P f 0 n (λ i l. h i (omega (arith, l)))
+
+-- ---- items at places
+
+-- the item at a place of a lane, and null at a negative one
+abbrev pub at_number : List Value → ℤ → Value
+at_number vs z = at_option (option_place z) (λ k. get_or vs k null)
+
+-- the item at a place, and null at none
+abbrev pub at_place : List Value → Option ℕ → Value
+at_place vs o = at_option o (λ k. get_or vs k null)
+
+pub pick_in : (l : Listed) (i k : ℕ) → AreSpans l.starts l.stops (len l.content)
+    → i < size_of l.starts → k < length_by l i
+    → get_or (array_items l.content) (place_by l i k) null ≡ get_or (lists_by l i) k null
+pick_in l i k s p q =
+    get_or-array_items l.content (place_by l i k) (item_in l i k s p q).1
+    ∙ sym (ap (λ vs. get_or vs k null) (list-items l i)
+    ∙ get_or-map-range_with_len (row_at l i) 0 (length_by l i) k k null q (omega arith))
+
+-- ---- places of an index
+
+moved_place : (vs ws : List Value) (a n : ℕ) (o : Option ℕ)
+    → ((k : ℕ) → k < n → get_or ws (a + k) null ≡ get_or vs k null) → IsBelow n o
+    → at_number ws (place_number (option_map (λ p. a + p) o)) ≡ at_place vs o
+moved_place vs ws a n None e b = refl
+moved_place vs ws a n (Some k) e b = e k b
+
+pub take-picks : (xs ws : Listed) (i : ℕ) → AreSpans xs.starts xs.stops (len xs.content)
+    → i < size_of xs.starts
+    → pick (array_items xs.content) (take_numbers xs ws i)
+    ≡ picked (lists_by xs i) (take_places (length (lists_by xs i)) (lists_by ws i))
+take-picks xs ws i s p =
+    map-map (at_number (array_items xs.content)) (λ k. place_number (take_in xs ws i k))
+    (range_with_len 0 (length_by ws i))
+    ∙ map_same _ _ 0 (length_by ws i)
+    (λ k l q. moved_place (lists_by xs i) (array_items xs.content) (place_at xs.starts i)
+    (length_by xs i) (take_place (length_by xs i) (row_at ws i k))
+    (λ j r. pick_in xs i j s p r) (take_place-below (length_by xs i) (row_at ws i k)))
+    ∙ sym (ap (λ n. picked (lists_by xs i) (take_places n (lists_by ws i))) (length-list xs i)
+    ∙ ap (λ us. picked (lists_by xs i) (take_places (length_by xs i) us)) (list-items ws i)
+    ∙ ap (map (at_place (lists_by xs i)))
+    (map-map (take_place (length_by xs i)) (row_at ws i) (range_with_len 0 (length_by ws i)))
+    ∙ map-map (at_place (lists_by xs i)) (λ k. take_place (length_by xs i) (row_at ws i k))
+    (range_with_len 0 (length_by ws i)))
+
+-- ---- places of a mask
+
+masked_place : (vs ws : List Value) (a k : ℕ) (w : Value)
+    → get_or ws a null ≡ get_or vs k null
+    → map (at_number ws) (map place_number (mask_place a w)) ≡ map (at_place vs) (mask_place k w)
+masked_place vs ws a k (truth true) e = ap (λ v. v ∷ []) e
+masked_place vs ws a k (truth false) e = refl
+masked_place vs ws a k null e = refl
+masked_place vs ws a k (int z) e = refl
+masked_place vs ws a k (list us) e = refl
+masked_place vs ws a k (row us) e = refl
+masked_place vs ws a k (alt j v) e = refl
+
+pub mask-picks : (xs ws : Listed) (i : ℕ) → AreSpans xs.starts xs.stops (len xs.content)
+    → i < size_of xs.starts → length_by xs i ≡ length_by ws i
+    → pick (array_items xs.content) (mask_numbers xs ws i)
+    ≡ picked (lists_by xs i) (mask_places (lists_by ws i))
+mask-picks xs ws i s p e =
+    map_each (at_number (array_items xs.content)) (mask_at xs ws i) (length_by ws i)
+    ∙ each_same _ _ (length_by ws i) (λ k q.
+    masked_place (lists_by xs i) (array_items xs.content) (place_by xs i k) k (row_at ws i k)
+    (pick_in xs i k s p (omega (arith, q, e)))
+    ∙ ap (λ w. map (at_place (lists_by xs i)) (mask_place k w)) (sym (item k q)))
+    ∙ sym (map_each (at_place (lists_by xs i)) (λ k. mask_place k (get_or (lists_by ws i) k null))
+    (length_by ws i))
+    ∙ ap (λ n. map (at_place (lists_by xs i))
+    (each_of (λ k. mask_place k (get_or (lists_by ws i) k null)) n)) (sym (length-list ws i))
+  where
+    item : (k : ℕ) → k < length_by ws i → get_or (lists_by ws i) k null ≡ row_at ws i k
+    item k q = ap (λ vs. get_or vs k null) (list-items ws i)
+        ∙ get_or-map-range_with_len (row_at ws i) 0 (length_by ws i) k k null q (omega arith)
+
+-- ---- these are places of the content
+
+-- the item of an index has the type of its items
+item_has : (ws : Listed) (P : Value → Type 0) (i k : ℕ)
+    → AreSpans ws.starts ws.stops (len ws.content) → i < size_of ws.starts → k < length_by ws i
+    → AllByRecursion P (array_items ws.content) → P (row_at ws i k)
+item_has ws P i k s p q h =
+    let w : place_by ws i k < len ws.content = (item_in ws i k s p q).1 in
+    subst P (get_or-array_items ws.content (place_by ws i k) w)
+    (has-at P (array_items ws.content) (place_by ws i k) h
+    (omega (arith, w, length-array_items ws.content)))
+
+moved_below : (a n m : ℕ) (o : Option ℕ) → ((k : ℕ) → k < n → a + k < m) → IsBelow n o
+    → IsBelow m (option_map (λ p. a + p) o)
+moved_below a n m None f b = tt
+moved_below a n m (Some k) f b = f k b
+
+moved_there : (a n m : ℕ) (o : Option ℕ) → ((k : ℕ) → k < n → a + k < m) → IsThere n o
+    → IsThere m (option_map (λ p. a + p) o)
+moved_there a n m None f b = b
+moved_there a n m (Some k) f b = f k b
+
+or_none : (b : Bool) → b ≡ false → (b || false) ≡ false
+or_none true e = e
+or_none false e = refl
+
+take_one : (n : ℕ) (u : DataType) (w : Value) → is_leaf (present u) ≡ true → is_mask u ≡ false
+    → is_option u ≡ false → Has u w → is_outside n w ≡ false → IsThere n (take_place n w)
+take_one n u w l m o h e =
+    (take_places-there n u (w ∷ []) (leaf-index u (plain-leaf u l o) m) o (h, tt)
+    (or_none (is_outside n w) e)).0
+
+mask_below : (n a : ℕ) (w : Value) → a < n → AllByRecursion (IsBelow n) (mask_place a w)
+mask_below n a (truth true) h = (h, tt)
+mask_below n a (truth false) h = tt
+mask_below n a null h = (tt, tt)
+mask_below n a (int z) h = tt
+mask_below n a (list vs) h = tt
+mask_below n a (row vs) h = tt
+mask_below n a (alt j v) h = tt
+
+mask_there : (n a : ℕ) (w : Value) → Has (leaf Truths) w → a < n
+    → AllByRecursion (IsThere n) (mask_place a w)
+mask_there n a (truth true) t h = (h, tt)
+mask_there n a (truth false) t h = tt
+mask_there n a null t h = absurd t
+mask_there n a (int z) t h = tt
+mask_there n a (list vs) t h = tt
+mask_there n a (row vs) t h = tt
+mask_there n a (alt j v) t h = tt
+
+-- a lane of places, list by list
+lane_of_places : (os : ℕ → List (Option ℕ)) (n : ℕ) (p : Column)
+    → p ≡ record { kind = kinds.I64; items = each_of (λ i. map place_number (os i)) n }
+    → p ≡ places_lane (each_of os n)
+lane_of_places os n p e =
+    e ∙ ap (λ zs. record { kind = kinds.I64; items = zs }) (sym (map_each place_number os n))
+
+within : (b : Bool) (m n : ℕ) (os : ℕ → List (Option ℕ)) (p : Column)
+    → p ≡ record { kind = kinds.I64; items = each_of (λ i. map place_number (os i)) n }
+    → ((i : ℕ) → i < n → AllByRecursion (IsBelow m) (os i))
+    → (b ≡ false → (i : ℕ) → i < n → AllByRecursion (IsThere m) (os i))
+    → AreWithin b m p
+within b m n os p e f g = record {
+  kind = ap (λ (c : Column). c.kind) e;
+  places = optional-lane m (each_of os n) p (lane_of_places os n p e)
+      (all-each (IsBelow m) os n f);
+  present = λ q. index-lane m (each_of os n) p (lane_of_places os n p e)
+      (all-each (IsThere m) os n (g q));
+}
+
+-- the numbers of a list as places
+abbrev take_list : Listed → Listed → ℕ → List (Option ℕ)
+take_list xs ws i = map (take_in xs ws i) (range_with_len 0 (length_by ws i))
+
+pub take-within : (xs ws : Listed) (p : Column) → size_of xs.starts ≡ size_of ws.starts
+    → AreSpans xs.starts xs.stops (len xs.content)
+    → AreSpans ws.starts ws.stops (len ws.content)
+    → is_leaf (present (array_type ws.content)) ≡ true
+    → is_mask (array_type ws.content) ≡ false
+    → AllByRecursion (Has (array_type ws.content)) (array_items ws.content)
+    → ((i k : ℕ) → i < size_of ws.starts → k < length_by ws i → is_outside_at xs ws i k ≡ false)
+    → p ≡ record { kind = kinds.I64; items = each_of (take_numbers xs ws) (size_of ws.starts) }
+    → AreWithin (is_option (array_type ws.content)) (len xs.content) p
+take-within xs ws p pairs sx sw l m has inside e =
+    within (is_option (array_type ws.content)) (len xs.content) (size_of ws.starts)
+    (take_list xs ws) p
+    (e ∙ ap (λ zs. record { kind = kinds.I64; items = zs }) (each_same _ _ (size_of ws.starts)
+    (λ i q. sym (map-map place_number (take_in xs ws i) (range_with_len 0 (length_by ws i))))))
+    (λ i q. all-map (IsBelow (len xs.content)) (take_in xs ws i) 0 (length_by ws i)
+    (λ k r. moved_below (place_at xs.starts i) (length_by xs i) (len xs.content)
+    (take_place (length_by xs i) (row_at ws i k))
+    (λ j t. (item_in xs i j sx (omega (arith, q, pairs)) t).1)
+    (take_place-below (length_by xs i) (row_at ws i k))))
+    (λ o i q. all-map (IsThere (len xs.content)) (take_in xs ws i) 0 (length_by ws i)
+    (λ k r.
+    let r' : k < length_by ws i = omega (arith, r) in
+    moved_there (place_at xs.starts i) (length_by xs i) (len xs.content)
+    (take_place (length_by xs i) (row_at ws i k))
+    (λ j t. (item_in xs i j sx (omega (arith, q, pairs)) t).1)
+    (take_one (length_by xs i) (array_type ws.content) (row_at ws i k) l m o
+    (item_has ws (Has (array_type ws.content)) i k sw q r' has) (inside i k q r'))))
+
+abbrev mask_list : Listed → Listed → ℕ → List (Option ℕ)
+mask_list xs ws i =
+    flat_map (λ k. mask_place (place_by xs i k) (row_at ws i k)) (range_with_len 0 (length_by ws i))
+
+pub mask-within : (xs ws : Listed) (p : Column) → size_of xs.starts ≡ size_of ws.starts
+    → AreAlike xs ws → AreSpans xs.starts xs.stops (len xs.content)
+    → AreSpans ws.starts ws.stops (len ws.content)
+    → is_leaf (present (array_type ws.content)) ≡ true
+    → is_mask (array_type ws.content) ≡ true
+    → AllByRecursion (Has (array_type ws.content)) (array_items ws.content)
+    → p ≡ record { kind = kinds.I64; items = each_of (mask_numbers xs ws) (size_of ws.starts) }
+    → AreWithin (is_option (array_type ws.content)) (len xs.content) p
+mask-within xs ws p pairs alike sx sw l m has e =
+    within (is_option (array_type ws.content)) (len xs.content) (size_of ws.starts)
+    (mask_list xs ws) p
+    (e ∙ ap (λ zs. record { kind = kinds.I64; items = zs }) (each_same _ _ (size_of ws.starts)
+    (λ i q. sym (map_each place_number (λ k. mask_place (place_by xs i k) (row_at ws i k))
+    (length_by ws i)))))
+    (λ i q. all-range (IsBelow (len xs.content))
+    (λ k. mask_place (place_by xs i k) (row_at ws i k)) 0 (length_by ws i)
+    (λ k r. mask_below (len xs.content) (place_by xs i k) (row_at ws i k) (at i k q r)))
+    (λ o i q. all-range (IsThere (len xs.content))
+    (λ k. mask_place (place_by xs i k) (row_at ws i k)) 0 (length_by ws i)
+    (λ k r.
+    let t : array_type ws.content ≡ leaf Truths =
+    mask-leaf (array_type ws.content) (plain-leaf (array_type ws.content) l o) m in
+    mask_there (len xs.content) (place_by xs i k) (row_at ws i k)
+    (subst (λ u. Has u (row_at ws i k)) t
+    (item_has ws (Has (array_type ws.content)) i k sw q (omega (arith, r)) has)) (at i k q r)))
+  where
+    at : (i k : ℕ) → i < size_of ws.starts → k < 0 + length_by ws i
+        → place_by xs i k < len xs.content
+    at i k q r = (item_in xs i k sx (omega (arith, q, pairs)) (omega (arith, r, alike i q))).1
+
+-- ---- what is told
+
+any_outside : (n : ℕ) (g : ℕ → Value) (a m : ℕ)
+    → ((k : ℕ) → k < a + m → is_outside n (g k) ≡ false)
+    → list_any (is_outside n) (map g (range_with_len a m)) ≡ false
+any_outside n g a zero f = refl
+any_outside n g a (suc m) f = ap₂ (λ b c. b || c) (f a (omega arith))
+    (any_outside n g (a + 1) m (λ k l. f k (omega (arith, l))))
+
+or_right : (b : Bool) → (b || true) ≡ true
+or_right true = refl
+or_right false = refl
+
+one_outside : (n : ℕ) (g : ℕ → Value) (a m k : ℕ) → k < m → is_outside n (g (a + k)) ≡ true
+    → list_any (is_outside n) (map g (range_with_len a m)) ≡ true
+one_outside n g a zero k p e = absurd (omega (arith, p))
+one_outside n g a (suc m) zero p e =
+    let z : a + zero ≡ a = omega arith in
+    ap (λ b. b || list_any (is_outside n) (map g (range_with_len (a + 1) m)))
+    (subst (λ j. is_outside n (g j) ≡ true) z e)
+one_outside n g a (suc m) (suc k) p e =
+    let z : a + suc k ≡ a + 1 + k = omega arith in
+    ap (λ b. is_outside n (g a) || b)
+    (one_outside n g (a + 1) m k (omega (arith, p))
+    (subst (λ j. is_outside n (g j) ≡ true) z e))
+    ∙ or_right (is_outside n (g a))
+
+lacks_by : (xs ws : Listed) (i : ℕ)
+    → list_any (is_outside (length (lists_by xs i))) (lists_by ws i)
+    ≡ list_any (is_outside (length_by xs i)) (map (row_at ws i) (range_with_len 0 (length_by ws i)))
+lacks_by xs ws i = ap₂ (λ n vs. list_any (is_outside n) vs) (length-list xs i) (list-items ws i)
+
+pub take-has : (xs ws : Listed) (i : ℕ)
+    → ((k : ℕ) → k < length_by ws i → is_outside_at xs ws i k ≡ false)
+    → list_any (is_outside (length (lists_by xs i))) (lists_by ws i) ≡ false
+take-has xs ws i f =
+    lacks_by xs ws i
+    ∙ any_outside (length_by xs i) (row_at ws i) 0 (length_by ws i) (λ k l. f k (omega (arith, l)))
+
+pub take-lacks : (xs ws : Listed) (i k : ℕ) → k < length_by ws i
+    → is_outside_at xs ws i k ≡ true
+    → list_any (is_outside (length (lists_by xs i))) (lists_by ws i) ≡ true
+take-lacks xs ws i k p e =
+    let z : k ≡ 0 + k = omega arith in
+    lacks_by xs ws i
+    ∙ one_outside (length_by xs i) (row_at ws i) 0 (length_by ws i) k p
+    (subst (λ j. is_outside (length_by xs i) (row_at ws i j) ≡ true) z e)
+
+-- ---- places that are made
+
+pub takes-within : (xs ws : Listed) → size_of xs.starts ≡ size_of ws.starts
+    → AreSpans xs.starts xs.stops (len xs.content)
+    → AreSpans ws.starts ws.stops (len ws.content)
+    → is_leaf (present (array_type ws.content)) ≡ true
+    → is_mask (array_type ws.content) ≡ false
+    → AllByRecursion (Has (array_type ws.content)) (array_items ws.content)
+    → AreTested xs ws false → (places : Option Places)
+    → ArePlacesOr (take_numbers xs ws) (size_of ws.starts) places
+    → AreWithinOr (is_option (array_type ws.content)) (len xs.content) places
+takes-within xs ws pairs sx sw l m has inside None h = tt
+takes-within xs ws pairs sx sw l m has inside (Some p) h =
+    take-within xs ws p.lane pairs sx sw l m has (λ i k q r. inside i q k r) h.lane
+
+pub masks-within : (xs ws : Listed) → size_of xs.starts ≡ size_of ws.starts → AreAlike xs ws
+    → AreSpans xs.starts xs.stops (len xs.content)
+    → AreSpans ws.starts ws.stops (len ws.content)
+    → is_leaf (present (array_type ws.content)) ≡ true
+    → is_mask (array_type ws.content) ≡ true
+    → AllByRecursion (Has (array_type ws.content)) (array_items ws.content)
+    → (places : Option Places) → ArePlacesOr (mask_numbers xs ws) (size_of ws.starts) places
+    → AreWithinOr (is_option (array_type ws.content)) (len xs.content) places
+masks-within xs ws pairs alike sx sw l m has None h = tt
+masks-within xs ws pairs alike sx sw l m has (Some p) h =
+    mask-within xs ws p.lane pairs alike sx sw l m has h.lane
+
+-- places of an index, from its lengths
+pub takes-made : (xs ws : Listed) (n : ℕ) (o lane : Column) (p : Places)
+    → before (length_by ws) n ≤ item_limit → o ≡ offsets_by (length_by ws) n
+    → lane ≡ record { kind = kinds.I64; items = each_of (take_numbers xs ws) n }
+    → p ≡ record { offsets = o; lane = lane } → ArePlaces (take_numbers xs ws) n p
+takes-made xs ws n o lane p few eo el ep =
+    let same : (i : ℕ) → i < n → length_by ws i ≡ length (take_numbers xs ws i) =
+    λ i q. sym (length-map-range_with_len (take_at xs ws i) 0 (length_by ws i)) in
+    rw ep (record {
+      few = omega (
+        arith,
+        few,
+        before_same (length_by ws) (λ i. length (take_numbers xs ws i)) n same,
+      );
+      offsets = eo
+          ∙ offsets_same (length_by ws) (λ i. length (take_numbers xs ws i)) n same;
+      lane = el;
+    })
+
+pub takes-many : (xs ws : Listed) (n : ℕ) → item_limit < before (length_by ws) n
+    → item_limit < before (λ i. length (take_numbers xs ws i)) n
+takes-many xs ws n h =
+    let e : before (length_by ws) n ≡ before (λ i. length (take_numbers xs ws i)) n =
+    before_same (length_by ws) (λ i. length (take_numbers xs ws i)) n
+    (λ i q. sym (length-map-range_with_len (take_at xs ws i) 0 (length_by ws i))) in
+    omega (arith, h, e)
+
+-- how many places an index names
+pub takes-total : (xs ws : Listed) (n : ℕ)
+    → before (length_by ws) n ≡ before (λ i. length (take_numbers xs ws i)) n
+takes-total xs ws n =
+    before_same (length_by ws) (λ i. length (take_numbers xs ws i)) n
+    (λ i q. sym (length-map-range_with_len (take_at xs ws i) 0 (length_by ws i)))

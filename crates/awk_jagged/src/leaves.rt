@@ -1,0 +1,218 @@
+//! The innermost picks: by masks and by places, in pairs of lists.
+ghost use Rattle.std.specs.Prelude.{◌≡◌, ◌<◌, ◌^◌, true, false, IfOk};
+ghost use Rattle.awk_types.specs.Simple.{present};
+ghost use Rattle.awk_lanes.specs.Places.{size_of, IsIndex, IsOptionalIndex};
+ghost use Rattle.awk_lanes.specs.declared.kind.Kind.TheVariants as Kinds;
+ghost use Rattle.awk_layout.specs.Typing.{array_type};
+ghost use Rattle.awk_layout.specs.Valid.{len};
+ghost use Rattle.awk_select.specs.Cells.{is_leaf, AreCells};
+ghost use Rattle.awk_select.specs.Picks as picks;
+ghost use Rattle.awk_jagged.specs.Leaves.{AreLeaves, take_numbers, mask_numbers};
+ghost use Rattle.awk_jagged.specs.Leaves.{ArePlacesOr, ArePicked};
+ghost use Rattle.awk_jagged.specs.Outcomes.{IsOutcomeOf};
+ghost use Rattle.awk_jagged.specs.PickedAt.{AreWithinOr, IsPickedAt};
+ghost use Rattle.awk_jagged_rows.specs.Rows.{AreAlike};
+
+use crate::masks::Kept;
+use crate::places::Taken;
+use crate::put::put_lane;
+use awk_columns::Lists;
+use awk_gather::{gather, gather_opt};
+use awk_jagged_rows::lengths_differ;
+use awk_lanes::{Arena, Lane, Steps, offsets_within};
+use awk_layout::{Array, Node};
+use awk_select::{Cells, cells_of, is_mask};
+use awk_types::{ITEM_LIMIT, NoMemory, is_optional};
+use std::alloc::{AllocError, Global};
+use std::sync::ledger::Ledger;
+
+/// What is picked from lists by those of an index.
+#[derive(Drop)]
+pub enum Outcome<'a> {
+    /// A list of a mask, or of rows, is not as long as what is picked from.
+    Uneven,
+    /// A place is not in its list.
+    Outside,
+    /// A column of the result has too many items.
+    TooMany,
+    Lists {
+        offsets: Lane<'a>,
+        content: Node<'a>,
+    },
+}
+
+/// Where picks lie in a content, list by list.
+#[derive(Drop)]
+struct Places<'a> {
+    offsets: Lane<'a>,
+    lane: Lane<'a>,
+}
+
+/// The places that an index names, unless they are too many.
+fn taken<'a, L: Ledger>(
+    picks: &Taken<'_, 'a>,
+    n: u64,
+    arena: &'a Arena,
+    steps: &mut Steps<L>,
+) -> Result<Option<Places<'a>>, NoMemory>
+    requires leaves { AreLeaves picks.now.xs.now picks.now.ws.now picks.now.cells.now }
+    requires lists { n ≡ size_of picks.now.ws.now.starts }
+    requires fits { n < 2 ^ 63 }
+    ensures { IfOk result (ArePlacesOr (take_numbers picks.now.xs.now picks.now.ws.now) n) }
+{
+    match offsets_within(ITEM_LIMIT, n, picks.ws, arena, steps)? {
+        None => Ok(None),
+        Some(offsets) => {
+            let lane = put_lane(n, offsets.total, picks, arena, steps)?;
+            Ok(Some(Places {
+                offsets: offsets.lane,
+                lane,
+            }))
+        }
+    }
+}
+
+/// The places where a mask is true, unless they are too many.
+fn kept<'a, L: Ledger>(
+    picks: &Kept<'_, 'a>,
+    n: u64,
+    arena: &'a Arena,
+    steps: &mut Steps<L>,
+) -> Result<Option<Places<'a>>, NoMemory>
+    requires leaves { AreLeaves picks.now.xs.now picks.now.ws.now picks.now.cells.now }
+    requires alike { AreAlike picks.now.xs.now picks.now.ws.now }
+    requires lists { n ≡ size_of picks.now.ws.now.starts }
+    requires fits { n < 2 ^ 63 }
+    ensures { IfOk result (ArePlacesOr (mask_numbers picks.now.xs.now picks.now.ws.now) n) }
+{
+    match offsets_within(ITEM_LIMIT, n, picks, arena, steps)? {
+        None => Ok(None),
+        Some(offsets) => {
+            let lane = put_lane(n, offsets.total, picks, arena, steps)?;
+            Ok(Some(Places {
+                offsets: offsets.lane,
+                lane,
+            }))
+        }
+    }
+}
+
+/// The items of an array at places, and null at each negative number.
+fn items_at<'a, L: Ledger>(
+    alloc: Global,
+    x: &Array<'a>,
+    places: &Lane<'a>,
+    optional: bool,
+    arena: &'a Arena,
+    steps: &mut Steps<L>,
+) -> Result<Node<'a>, NoMemory>
+    requires kind { places.now.kind ≡ Kinds.I64 }
+    requires places { IsOptionalIndex places.now (len x.now) }
+    requires present { optional ≡ false → IsIndex places.now (len x.now) }
+    ensures { IfOk result (ArePicked optional x.now places.now) }
+{
+    if !optional {
+        return gather(alloc, x, places, arena, steps)?.node().copy(alloc);
+    }
+    match gather_opt(alloc, x, places, arena, steps) {
+        Ok(items) => items.node().copy(alloc),
+        // The type is within the limits, so memory alone is wanting.
+        Err(_) => Err(AllocError),
+    }
+}
+
+/// What is picked from a content at places, unless these are too many.
+fn picked_at<'a, L: Ledger>(
+    alloc: Global,
+    x: &Array<'a>,
+    places: Option<Places<'a>>,
+    optional: bool,
+    arena: &'a Arena,
+    steps: &mut Steps<L>,
+) -> Result<Outcome<'a>, NoMemory>
+    requires places { AreWithinOr optional (len x.now) places }
+    ensures { IfOk result (IsPickedAt optional x.now places.entry) }
+{
+    match places {
+        None => Ok(Outcome::TooMany),
+        Some(places) => Ok(Outcome::Lists {
+            content: items_at(alloc, x, &places.lane, optional, arena, steps)?,
+            offsets: places.offsets,
+        }),
+    }
+}
+
+/// What is picked from lists by those of a mask.
+fn by_masks<'a, L: Ledger>(
+    alloc: Global,
+    xs: &Lists<'a>,
+    ws: &Lists<'a>,
+    cells: &Cells<'a>,
+    arena: &'a Arena,
+    steps: &mut Steps<L>,
+) -> Result<Outcome<'a>, NoMemory>
+    requires pairs { size_of xs.now.starts ≡ size_of ws.now.starts }
+    requires leaf { is_leaf (present (array_type ws.now.content)) ≡ true }
+    requires mask { picks.is_mask (array_type ws.now.content) ≡ true }
+    requires cells { AreCells ws.now.content cells.now }
+    ensures { IfOk result (IsOutcomeOf xs.now ws.now) }
+{
+    let content = xs.content();
+    let index = ws.content();
+    let _ = index.len();
+    if lengths_differ(xs, ws, steps) {
+        return Ok(Outcome::Uneven);
+    }
+    let optional = is_optional(index.typ());
+    let picks = Kept { xs, ws, cells };
+    let places = kept(&picks, ws.len(), arena, steps)?;
+    picked_at(alloc, content, places, optional, arena, steps)
+}
+
+/// What is picked from lists by those of an index of places.
+fn by_places<'a, L: Ledger>(
+    alloc: Global,
+    xs: &Lists<'a>,
+    ws: &Lists<'a>,
+    cells: &Cells<'a>,
+    arena: &'a Arena,
+    steps: &mut Steps<L>,
+) -> Result<Outcome<'a>, NoMemory>
+    requires pairs { size_of xs.now.starts ≡ size_of ws.now.starts }
+    requires leaf { is_leaf (present (array_type ws.now.content)) ≡ true }
+    requires mask { picks.is_mask (array_type ws.now.content) ≡ false }
+    requires cells { AreCells ws.now.content cells.now }
+    ensures { IfOk result (IsOutcomeOf xs.now ws.now) }
+{
+    let content = xs.content();
+    let index = ws.content();
+    let _ = index.len();
+    let optional = is_optional(index.typ());
+    let picks = Taken { xs, ws, cells };
+    if picks.has_outside(steps) {
+        return Ok(Outcome::Outside);
+    }
+    let places = taken(&picks, ws.len(), arena, steps)?;
+    picked_at(alloc, content, places, optional, arena, steps)
+}
+
+/// What is picked from lists by those of a mask or of places.
+pub fn picked_leaves<'a, L: Ledger>(
+    alloc: Global,
+    xs: &Lists<'a>,
+    ws: &Lists<'a>,
+    arena: &'a Arena,
+    steps: &mut Steps<L>,
+) -> Result<Outcome<'a>, NoMemory>
+    requires pairs { size_of xs.now.starts ≡ size_of ws.now.starts }
+    requires leaf { is_leaf (present (array_type ws.now.content)) ≡ true }
+    ensures { IfOk result (IsOutcomeOf xs.now ws.now) }
+{
+    let index = ws.content();
+    let cells = cells_of(alloc, index, arena, steps)?;
+    if is_mask(index.typ()) {
+        by_masks(alloc, xs, ws, &cells, arena, steps)
+    } else {
+        by_places(alloc, xs, ws, &cells, arena, steps)
+    }
+}

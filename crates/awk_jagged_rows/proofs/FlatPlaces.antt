@@ -1,0 +1,102 @@
+-- Places of lists one after another.
+use Rattle.std.specs.Prelude.{◌≡◌, ℕ, zero, suc, ◌+◌, ◌-◌, ◌<◌, ◌≤◌, nat_lt, Bool, true, false}
+use Rattle.std.specs.Prelude.{refl}
+use Rattle.std.specs.Prelude.{List, ◌∷◌, ◌++◌, map}
+use Rattle.std.specs.List.{range_with_len}
+use Rattle.std.proofs.Common.{arith, ap, ap₂, ◌∙◌, subst}
+use Rattle.awk_lanes.specs.Counted.{before}
+use Rattle.awk_lanes.proofs.CountedLanes.{before-next, before_mono}
+
+-- the same for what maps give
+pub map_same : {Y : Type 0} (f g : ℕ → Y) (a n : ℕ) → ((i : ℕ) → a ≤ i → i < a + n → f i ≡ g i)
+    → map f (range_with_len a n) ≡ map g (range_with_len a n)
+map_same f g a zero e = refl
+map_same {Y} f g a (suc n) e = ap₂ (λ (y : Y) (ys : List Y). y ∷ ys)
+    (e a (omega arith) (omega arith))
+    (map_same f g (a + 1) n (λ i p q. e i (omega (arith, p)) (omega (arith, q))))
+
+-- a map from a place on
+pub map_from : {Y : Type 0} (f : ℕ → Y) (a n : ℕ)
+    → map f (range_with_len a n) ≡ map (λ k. f (a + k)) (range_with_len 0 n)
+map_from {Y} f a n =
+    let z : a + 0 ≡ a = omega arith in
+    subst (λ b. map f (range_with_len b n) ≡ map (λ k. f (a + k)) (range_with_len 0 n)) z (go 0 n)
+  where
+    go : (c m : ℕ) → map f (range_with_len (a + c) m) ≡ map (λ k. f (a + k)) (range_with_len c m)
+    go c zero = refl
+    go c (suc m) =
+        let e : a + c + 1 ≡ a + (c + 1) = omega arith in
+        ap (λ (ys : List Y). f (a + c) ∷ ys)
+        (ap (λ b. map f (range_with_len b m)) e ∙ go (c + 1) m)
+
+-- a range in two parts
+pub map_parts : {Y : Type 0} (f : ℕ → Y) (a m k : ℕ)
+    → map f (range_with_len a (m + k))
+    ≡ map f (range_with_len a m) ++ map f (range_with_len (a + m) k)
+map_parts f a zero k =
+    let e : zero + k ≡ k = omega arith in
+    let g : a ≡ a + zero = omega arith in
+    ap (λ j. map f (range_with_len a j)) e ∙ ap (λ b. map f (range_with_len b k)) g
+map_parts {Y} f a (suc m) k =
+    let e : suc m + k ≡ suc (m + k) = omega arith in
+    let g : a + 1 + m ≡ a + suc m = omega arith in
+    ap (λ j. map f (range_with_len a j)) e
+    ∙ ap (λ (ys : List Y). f a ∷ ys)
+    (map_parts f (a + 1) m k
+    ∙ ap (λ b. map f (range_with_len (a + 1) m) ++ map f (range_with_len b k)) g)
+
+module _ (m : ℕ → ℕ) where
+  -- a place of all is one of some list
+  pub record IsIn (n t : ℕ) : Type 0 where
+    pub list : ℕ
+    pub item : ℕ
+    pub within : list < n
+    pub below : item < m list
+    pub place : t ≡ before m list + item
+
+  pub find : (n t : ℕ) → t < before m n → IsIn n t
+  find zero t h = absurd (omega (arith, h))
+  find (suc n) t h = go (nat_lt t (before m n)) refl (λ l. find n t l)
+    where
+      go : (b : Bool) → nat_lt t (before m n) ≡ b → (t < before m n → IsIn n t) → IsIn (suc n) t
+      go true e before_here =
+          let l : t < before m n = grind (arith, e) in
+          let f : IsIn n t = before_here l in
+          record {
+            list = f.list;
+            item = f.item;
+            within = omega (arith, f.within);
+            below = f.below;
+            place = f.place;
+          }
+      go false e before_here =
+          let l : before m n ≤ t = grind (arith, e) in
+          record {
+            list = n;
+            item = t - before m n;
+            within = omega arith;
+            below = omega (arith, l, h);
+            place = omega (arith, l);
+          }
+
+  -- item k of list i is within all
+  pub flat_within : (n i k : ℕ) → i < n → k < m i → before m i + k < before m n
+  flat_within n i k p q =
+      omega (arith, p, q, before-next m i, before_mono m (i + 1) n (omega (arith, p)))
+
+-- the same lengths are the same places
+pub before_same : (f g : ℕ → ℕ) (n : ℕ) → ((i : ℕ) → i < n → f i ≡ g i) → before f n ≡ before g n
+before_same f g zero e = refl
+before_same f g (suc n) e =
+    ap₂ (λ a b. a + b) (before_same f g n (λ i p. e i (omega (arith, p)))) (e n (omega arith))
+
+-- one place more
+pub one_more : (P : ℕ → Type 0) (n : ℕ) → ((i : ℕ) → i < n → P i) → P n → (i : ℕ) → i < n + 1
+    → P i
+one_more P n h e i q = go (nat_lt i n) refl
+  where
+    go : (b : Bool) → nat_lt i n ≡ b → P i
+    go true f = h i (grind (arith, f))
+    go false f =
+        let s : n ≡ i = grind (arith, f, q) in
+        subst P s e

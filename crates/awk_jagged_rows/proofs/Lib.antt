@@ -1,0 +1,8 @@
+pub mod Results
+pub mod FlatPlaces
+pub mod RowLaws
+pub mod SpanLaws
+pub mod LevelLaws
+pub mod EndLaws
+pub mod AloneLaws
+pub mod OrderLaws

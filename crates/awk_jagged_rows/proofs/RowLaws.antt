@@ -1,0 +1,224 @@
+-- Rows of arrays as lists, by the outermost kind of the array.
+use Rattle.std.specs.Prelude.{◌≡◌, ℕ, ◌<◌, Bool, true, false, refl, List}
+use Rattle.std.specs.Prelude.{Option, Some, None, is_some, ℤ, pos, negsuc, ◌<ℤ◌}
+use Rattle.std.proofs.Common.{arith, ap, sym, ◌∙◌, true≢false}
+use Rattle.std.proofs.lemmas.Int.{ints}
+use Rattle.awk_types.specs.DataType.{DataType, Name, unknown, leaf, var, reg, rec, tup, opt, uni}
+use Rattle.awk_types.specs.Predicates.{is_list_or_unknown}
+use Rattle.awk_types.specs.Simple.{is_option}
+use Rattle.awk_types.specs.Value.{Value}
+use Rattle.awk_lanes.specs.Column.{Column}
+use Rattle.awk_lanes.specs.Places.{size_of, at, option_place, option_place_at}
+use Rattle.awk_lanes.specs.declared.kind.Kind.TheVariants.{I64}
+use Rattle.awk_layout.specs.Item.{at_option}
+use Rattle.awk_layout.specs.Laws.{len-fits}
+use Rattle.awk_layout.specs.Layout.{Layout}
+use Rattle.awk_layout.specs.Typing.{array_type}
+use Rattle.awk_layout.specs.Valid.{len, IsValid}
+use Rattle.awk_gather.specs.Arrays.{array_item}
+use Rattle.awk_columns.specs.ListValues.{list_at}
+use Rattle.awk_open.specs.Opened.{IsOpened, IsKindOf, IsListOf}
+use Rattle.awk_open.specs.declared.opening.Opened.{Opened}
+use Rattle.awk_jagged_rows.specs.RowTypes.{rows_of}
+use Rattle.awk_jagged_rows.specs.RowTypes.{list_rows}
+use Rattle.awk_jagged_rows.specs.RowLists.{list_place, AreListsAt, AreRowsOf}
+use Rattle.awk_jagged_rows.specs.declared.row_lists.RowLists.{RowLists}
+
+-- ---- types
+
+list_rows-list : (t u : DataType) → IsListOf t u → list_rows t ≡ Some u
+list_rows-list (var t) u e = ap (λ (v : DataType). Some v) e
+list_rows-list (reg n t) u e = ap (λ (v : DataType). Some v) e
+list_rows-list unknown u e = absurd e
+list_rows-list (leaf p) u e = absurd e
+list_rows-list (rec ns ts) u e = absurd e
+list_rows-list (tup ts) u e = absurd e
+list_rows-list (opt t) u e = absurd e
+list_rows-list (uni ts) u e = absurd e
+
+abbrev with_flag : Bool → Option DataType → Option (Bool × DataType)
+with_flag b None = None
+with_flag b (Some t) = Some (b, t)
+
+rows_of-list : (t : DataType) → is_option t ≡ false → rows_of t ≡ with_flag false (list_rows t)
+rows_of-list unknown o = refl
+rows_of-list (leaf p) o = refl
+rows_of-list (var t) o = refl
+rows_of-list (reg n t) o = refl
+rows_of-list (rec ns ts) o = refl
+rows_of-list (tup ts) o = refl
+rows_of-list (opt t) o = absurd cc
+rows_of-list (uni ts) o = refl
+
+rows_of-option : (t : DataType) → rows_of (opt t) ≡ with_flag true (list_rows t)
+rows_of-option unknown = refl
+rows_of-option (leaf p) = refl
+rows_of-option (var t) = refl
+rows_of-option (reg n t) = refl
+rows_of-option (rec ns ts) = refl
+rows_of-option (tup ts) = refl
+rows_of-option (opt t) = refl
+rows_of-option (uni ts) = refl
+
+pub outer_lists : (t : DataType) → is_option t ≡ false → is_some (rows_of t) ≡ true
+    → is_list_or_unknown t ≡ true
+outer_lists unknown o h = refl
+outer_lists (leaf p) o h = absurd cc
+outer_lists (var t) o h = refl
+outer_lists (reg n t) o h = refl
+outer_lists (rec ns ts) o h = absurd cc
+outer_lists (tup ts) o h = absurd cc
+outer_lists (opt t) o h = absurd cc
+outer_lists (uni ts) o h = absurd cc
+
+inner_lists : (t : DataType) → is_some (rows_of (opt t)) ≡ true → is_list_or_unknown t ≡ true
+inner_lists unknown h = refl
+inner_lists (leaf p) h = absurd cc
+inner_lists (var t) h = refl
+inner_lists (reg n t) h = refl
+inner_lists (rec ns ts) h = absurd cc
+inner_lists (tup ts) h = absurd cc
+inner_lists (opt t) h = absurd cc
+inner_lists (uni ts) h = absurd cc
+
+pub option_lists : (t u : DataType) → t ≡ opt u → is_some (rows_of t) ≡ true
+    → is_list_or_unknown u ≡ true
+option_lists t u e h = inner_lists u (ap (λ v. is_some (rows_of v)) (sym e) ∙ h)
+
+-- ---- no other kinds are of lists
+
+not_leaf : (t : DataType) (c : Column) → IsKindOf t (Opened.Leaf c) → is_list_or_unknown t ≡ true
+    → ⊥
+not_leaf t c k h = true≢false (sym h ∙ ap is_list_or_unknown k)
+
+not_row : (t : DataType) (names : Option (List Name)) (ys : List Layout)
+    → IsKindOf t (Opened.Row names ys) → is_list_or_unknown t ≡ true → ⊥
+not_row t None ys k h = true≢false (sym h ∙ ap is_list_or_unknown k)
+not_row t (Some names) ys k h = true≢false (sym h ∙ ap is_list_or_unknown k)
+
+not_option : (t : DataType) (j : Column) (y : Layout) → IsKindOf t (Opened.Option j y)
+    → is_list_or_unknown t ≡ true → ⊥
+not_option t j y k h = true≢false (sym h ∙ ap is_list_or_unknown k)
+
+not_union : (t : DataType) (g j : Column) (ys : List Layout) → IsKindOf t (Opened.Union g j ys)
+    → is_list_or_unknown t ≡ true → ⊥
+not_union t g j ys k h = true≢false (sym h ∙ ap is_list_or_unknown k)
+
+pub only_lists : (t : DataType) (r : Opened) → IsKindOf t r → is_list_or_unknown t ≡ true
+    → (r ≡ Opened.Empty → ⊥) → ((s e : Column) (y : Layout) → r ≡ Opened.Items s e y → ⊥) → ⊥
+only_lists t Opened.Empty k h e l = e refl
+only_lists t (Opened.Leaf c) k h e l = not_leaf t c k h
+only_lists t (Opened.Items s f y) k h e l = l s f y refl
+only_lists t (Opened.Row names ys) k h e l = not_row t names ys k h
+only_lists t (Opened.Option j y) k h e l = not_option t j y k h
+only_lists t (Opened.Union g j ys) k h e l = not_union t g j ys k h
+
+not_plain : (t : DataType) → is_option t ≡ true → (k : DataType) → is_option k ≡ false → t ≡ k → ⊥
+not_plain t o k p e = true≢false (sym o ∙ ap is_option e ∙ p)
+
+not_listed : (t u : DataType) → is_option t ≡ true → IsListOf t u → ⊥
+not_listed (var t) u o e = true≢false (sym o)
+not_listed (reg n t) u o e = true≢false (sym o)
+not_listed unknown u o e = e
+not_listed (leaf p) u o e = e
+not_listed (rec ns ts) u o e = e
+not_listed (tup ts) u o e = e
+not_listed (opt t) u o e = e
+not_listed (uni ts) u o e = e
+
+not_rows : (t : DataType) (names : Option (List Name)) (ys : List Layout) → is_option t ≡ true
+    → IsKindOf t (Opened.Row names ys) → ⊥
+not_rows t None ys o k = true≢false (sym o ∙ ap is_option k)
+not_rows t (Some names) ys o k = true≢false (sym o ∙ ap is_option k)
+
+-- an optional array is opened as an option
+pub only_option : (t : DataType) (r : Opened) → IsKindOf t r → is_option t ≡ true
+    → ((j : Column) (y : Layout) → r ≡ Opened.Option j y → ⊥) → ⊥
+only_option t Opened.Empty k o l = true≢false (sym o ∙ ap is_option k)
+only_option t (Opened.Leaf c) k o l = true≢false (sym o ∙ ap is_option k)
+only_option t (Opened.Items s f y) k o l = not_listed t (array_type y) o k
+only_option t (Opened.Row names ys) k o l = not_rows t names ys o k
+only_option t (Opened.Option j y) k o l = l j y refl
+only_option t (Opened.Union g j ys) k o l = true≢false (sym o ∙ ap is_option k)
+
+-- ---- lists as they lie
+
+pub lists-at : (x : Layout) (given : Option Column) (s e : Column) (y : Layout) (r : RowLists)
+    → IsOpened x (Opened.Items s e y)
+    → r ≡ record { index = given; starts = s; stops = e; content = y }
+    → AreListsAt x given r
+lists-at x given s e y r o is = rw is (record {
+  index = refl;
+  typ = list_rows-list (array_type x) (array_type y) o.kind;
+  spans = o.valid.1;
+  valid = o.valid.2;
+  size = o.size;
+  items = o.items;
+})
+
+pub lists-none : (x : Layout) (given : Option Column) (r : RowLists) → IsOpened x Opened.Empty
+    → IsValid x → r.index ≡ given → r.content ≡ x → r.starts.kind ≡ I64 → r.stops.kind ≡ I64
+    → size_of r.starts ≡ 0 → size_of r.stops ≡ 0 → AreListsAt x given r
+lists-none x given r o v i c a b s t = record {
+  index = i;
+  typ = ap list_rows o.kind
+      ∙ ap (λ (u : DataType). Some u) (sym o.kind ∙ sym (ap array_type c));
+  spans = record {
+    start_kind = rw a tt;
+    stop_kind = rw b tt;
+    same_size = s ∙ sym t;
+    ordered = λ i p. absurd (omega (arith, p, s));
+  };
+  valid = rw c v;
+  size = s ∙ o.size;
+  items = λ i p. absurd (omega (arith, p, o.size));
+}
+
+pub rows-whole : (x : Layout) (r : RowLists) → IsValid x → is_option (array_type x) ≡ false
+    → AreListsAt x None r → AreRowsOf x r
+rows-whole x r v o h = record {
+  typ = rows_of-list (array_type x) o ∙ ap (with_flag false) h.typ
+      ∙ ap (λ j. with_flag (is_some j) (Some (array_type r.content))) (sym h.index);
+  spans = h.spans;
+  valid = h.valid;
+  small = omega (arith, h.size, len-fits x v);
+  there = λ i p. rw h.index tt;
+  places = λ i k p e.
+      let e' : Some i ≡ Some k = ap (λ j. list_place j i) (sym h.index) ∙ e in
+      same_below i k (size_of r.starts) e' (omega (arith, p, h.size));
+  items = λ i p. rw h.index (h.items i p);
+}
+  where
+    same_below : (i k n : ℕ) → Some i ≡ Some k → i < n → k < n
+    same_below i k n e p = grind (arith)
+
+option_at : (z : ℤ) (n k : ℕ) → z <ℤ pos n → option_place z ≡ Some k → k < n
+option_at (pos m) n k l e = grind (arith, ints)
+option_at (negsuc m) n k l e = absurd cc
+
+same_at : (o : Option ℕ) (n : ℕ) (f g : ℕ → Value) → ((k : ℕ) → o ≡ Some k → k < n)
+    → ((k : ℕ) → k < n → f k ≡ g k) → at_option o f ≡ at_option o g
+same_at None n f g b e = refl
+same_at (Some k) n f g b e = e k (b k refl)
+
+pub rows-option : (x y : Layout) (j : Column) (r : RowLists) → IsOpened x (Opened.Option j y)
+    → AreListsAt y (Some j) r → AreRowsOf x r
+rows-option x y j r o h =
+    let size : size_of j ≡ len x = o.size in
+    let below : (i k : ℕ) → i < len x → option_place_at j i ≡ Some k → k < len y =
+    λ i k p e. option_at (at j i) (len y) k (o.valid.1.below i (omega (arith, p, size))) e in
+    record {
+      typ = ap rows_of o.kind ∙ rows_of-option (array_type y) ∙ ap (with_flag true) h.typ
+          ∙ ap (λ q. with_flag (is_some q) (Some (array_type r.content))) (sym h.index);
+      spans = h.spans;
+      valid = h.valid;
+      small = omega (arith, h.size, len-fits y o.valid.2);
+      there = λ i p. rw h.index (o.valid.1.kind, omega (arith, p, size));
+      places = λ i k p e.
+          let e' : option_place_at j i ≡ Some k = ap (λ q. list_place q i) (sym h.index) ∙ e in
+          omega (arith, below i k p e', h.size);
+      items = λ i p. rw h.index (o.items i p
+          ∙ same_at (option_place_at j i) (len y) (array_item y)
+          (list_at r.starts r.stops r.content)
+          (λ k e. below i k p e) h.items);
+    }

@@ -1,0 +1,7 @@
+pub mod SideLaws
+pub mod WordLaws
+pub mod CalculatedLaws
+pub mod RangeLaws
+pub mod ReadyLaws
+pub mod SingleLaws
+mod Worked

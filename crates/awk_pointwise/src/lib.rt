@@ -1,0 +1,19 @@
+//! Operations on columns of leaves, place by place.
+//!
+//! A `Side` is what one operand gives at each place: the numbers of a lane, or one number for all
+//! places, of which no lane is made. `binary_leaves` is the lane of what an operation gives at each
+//! place of two sides, or the fault of the first place that has one, and `unary_leaves` that of one
+//! side. No leaf is null: who pairs operands takes nulls out first.
+#![tactic(auto)]
+
+mod binary;
+mod calculate;
+mod see;
+mod sides;
+mod truths;
+mod unary;
+mod words;
+
+pub use binary::binary_leaves;
+pub use sides::Side;
+pub use unary::unary_leaves;
