@@ -1,0 +1,137 @@
+-- What tallies are of intervals.
+use Rattle.std.proofs.Common.{◌≡◌, ℕ, zero, suc, ◌+◌, ◌-◌, ◌*◌, ◌<◌, ◌≤◌, List, [], ◌∷◌, length}
+use Rattle.std.proofs.Common.{get_or, map, refl, ap, ap₂, sym, ◌∙◌, arith}
+use Rattle.std.specs.Prelude.{ℤ, pos, Bool, true, false, cond}
+use Rattle.std.specs.Prelude.{not, nat_lt, nat_le, ◌==◌, ◌&&◌, int_le, int_lt}
+use Rattle.std.specs.List.{count_by, range_with_len}
+use Rattle.std.proofs.lemmas.Bool.{and_parts, leb-true}
+use Rattle.std.proofs.lemmas.Int.{ints}
+use Rattle.std.proofs.lemmas.List.Sums.{sum_by-cons, count_by-le-length}
+use Rattle.awk_lanes.specs.Counted.{items_lane}
+use Rattle.awk_lanes.specs.Made.{lane_of}
+use Rattle.awk_lanes.specs.declared.kind.Kind.TheVariants.{I64}
+use Rattle.awk_bins.specs.Bins.{intervals, count_in, count_under, count_over, AreBinned, AreColumns}
+use Rattle.awk_bins.specs.declared.bins.Binned.{Binned}
+use Rattle.awk_bins.specs.Edges.{are_edges, are_rising, edge_at, lies_in}
+use Rattle.awk_bins.specs.Table.{cell}
+use Rattle.awk_bins.specs.Tallies.{edges_up_to, tally, part_rows}
+use Rattle.awk_bins.proofs.EdgeLaws.{edge_reached}
+use Rattle.awk_bins.proofs.TableLaws.{cell-part_rows, range-same, numbers-same}
+
+-- tests that agree count alike
+pub count_by-same : {X : Type 0} (p q : X → Bool) → ((x : X) → p x ≡ q x) → (xs : List X)
+    → count_by p xs ≡ count_by q xs
+count_by-same p q h [] = refl
+count_by-same p q h (x ∷ xs) =
+    sum_by-cons (λ x. cond (p x) 1 0) x xs
+    ∙ ap₂ (λ b n. cond b 1 0 + n) (h x) (count_by-same p q h xs)
+    ∙ sym (sum_by-cons (λ x. cond (q x) 1 0) x xs)
+
+turned : (e z : ℤ) → int_lt z e ≡ not (int_le e z)
+turned e z = grind (arith, ints)
+
+between : (c i : ℕ) → (c == i + 1) ≡ (nat_lt i c && not (nat_lt (i + 1) c))
+between c i = grind arith
+
+not_any : (c : ℕ) → (c == 0) ≡ not (nat_lt 0 c)
+not_any c = grind arith
+
+all_of : (c n : ℕ) → c ≤ n → 1 ≤ n → (c == n) ≡ nat_lt (n - 1) c
+all_of c n l m = grind (arith, l, m)
+
+module _ (es : List ℤ) (h : are_edges es ≡ true) where
+  many : 2 ≤ length es
+  many = leb-true 2 (length es) (and_parts (nat_le 2 (length es)) (are_rising es) h).0
+
+  pub rising : are_rising es ≡ true
+  rising = (and_parts (nat_le 2 (length es)) (are_rising es) h).1
+
+  most : (z : ℤ) → edges_up_to es z ≤ length es
+  most z = count_by-le-length (λ e. int_le e z) es
+
+  reached : (z : ℤ) (k : ℕ) → k < length es
+      → int_le (edge_at es k) z ≡ nat_lt k (edges_up_to es z)
+  reached z k l = edge_reached es z rising k (pos 0) l
+
+  in_interval : (i : ℕ) → i < intervals es → (z : ℤ)
+      → (edges_up_to es z == i + 1) ≡ lies_in es i z
+  in_interval i l z =
+      between (edges_up_to es z) i
+      ∙ ap₂ (λ a b. a && not b) (sym (reached z i (omega (arith, l))))
+      (sym (reached z (i + 1) (omega (arith, l))))
+      ∙ ap (λ b. int_le (edge_at es i) z && b) (sym (turned (edge_at es (i + 1)) z))
+
+  below_first : (z : ℤ) → (edges_up_to es z == 0) ≡ int_lt z (edge_at es 0)
+  below_first z =
+      not_any (edges_up_to es z) ∙ ap not (sym (reached z 0 (omega (arith, many))))
+      ∙ sym (turned (edge_at es 0) z)
+
+  from_last : (z : ℤ) → (edges_up_to es z == length es) ≡ int_le (edge_at es (intervals es)) z
+  from_last z =
+      all_of (edges_up_to es z) (length es) (most z) (omega (arith, many))
+      ∙ sym (reached z (intervals es) (omega (arith, many)))
+
+  pub tally_in : (zs : List ℤ) (i : ℕ) → i < intervals es → tally es zs (i + 1) ≡ count_in es zs i
+  tally_in zs i l =
+      count_by-same (λ z. edges_up_to es z == i + 1) (lies_in es i) (in_interval i l) zs
+
+  pub tally_under : (zs : List ℤ) → tally es zs 0 ≡ count_under es zs
+  tally_under zs =
+      count_by-same (λ z. edges_up_to es z == 0) (λ z. int_lt z (edge_at es 0)) below_first zs
+
+  pub tally_over : (zs : List ℤ) → tally es zs (length es) ≡ count_over es zs
+  tally_over zs =
+      count_by-same (λ z. edges_up_to es z == length es)
+      (λ z. int_le (edge_at es (intervals es)) z) from_last zs
+
+-- ---- lanes
+
+module _ (es : List ℤ) (h : are_edges es ≡ true) (part : ℕ → List ℤ) (n : ℕ) (b : Binned)
+    (c : AreColumns (part_rows es part n) (length es + 1) n b) where
+  at : (i j : ℕ) → i < n → j < length es + 1
+      → pos (cell (part_rows es part n) (length es + 1) i j) ≡ pos (tally es (part i) j)
+  at i j l m = ap pos (cell-part_rows es part n i j l m)
+
+  counts_at : (i k : ℕ) → i < n → k < length es + 1 - 2
+      → pos (cell (part_rows es part n) (length es + 1) i (k + 1)) ≡ pos (count_in es (part i) k)
+  counts_at i k l m =
+      at i (k + 1) l (omega (arith, m)) ∙ ap pos (tally_in es h (part i) k (omega (arith, m)))
+
+  lane : (f g : ℕ → ℤ) → ((i : ℕ) → i < n → f i ≡ g i) → lane_of I64 n f ≡ lane_of I64 n g
+  lane f g e =
+      ap (λ ns. record { kind = I64; items = ns })
+      (range-same f g 0 n (λ i p q. e i (omega (arith, q))))
+
+  under_at : (i : ℕ) → i < n
+      → pos (cell (part_rows es part n) (length es + 1) i 0) ≡ pos (count_under es (part i))
+  under_at i l = at i 0 l (omega arith) ∙ ap pos (tally_under es h (part i))
+
+  over_at : (i : ℕ) → i < n
+      → pos (cell (part_rows es part n) (length es + 1) i (length es + 1 - 1))
+      ≡ pos (count_over es (part i))
+  over_at i l =
+      let last : length es + 1 - 1 ≡ length es = omega arith in
+      at i (length es + 1 - 1) l (omega arith) ∙ ap (λ j. pos (tally es (part i) j)) last
+      ∙ ap pos (tally_over es h (part i))
+
+  counts_same : items_lane I64 (λ i. length es + 1 - 2)
+      (λ i k. pos (cell (part_rows es part n) (length es + 1) i (k + 1))) n
+      ≡ items_lane I64 (λ i. intervals es) (λ i k. pos (count_in es (part i) k)) n
+  counts_same =
+      let width : length es + 1 - 2 ≡ intervals es = omega arith in
+      ap (λ ns. record { kind = I64; items = ns })
+      (numbers-same (length es + 1 - 2)
+      (λ i k. pos (cell (part_rows es part n) (length es + 1) i (k + 1)))
+      (λ i k. pos (count_in es (part i) k)) n counts_at)
+      ∙ ap (λ m. items_lane I64 (λ i. m) (λ i k. pos (count_in es (part i) k)) n) width
+
+  pub columns_binned : AreBinned es part n b
+  columns_binned = record {
+    counts = c.counts ∙ counts_same;
+    under = c.under
+        ∙ lane (λ i. pos (cell (part_rows es part n) (length es + 1) i 0))
+        (λ i. pos (count_under es (part i))) under_at;
+    over = c.over
+        ∙ lane (λ i. pos (cell (part_rows es part n) (length es + 1) i (length es + 1 - 1)))
+        (λ i. pos (count_over es (part i))) over_at;
+  }

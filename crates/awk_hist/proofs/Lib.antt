@@ -1,0 +1,5 @@
+pub mod InnermostLaws
+pub mod RowLaws
+pub mod ListLaws
+pub mod WholeLaws
+mod Worked

@@ -1,0 +1,5 @@
+pub mod Bins
+pub mod Hist
+pub mod HistEach
+pub mod Lists
+pub mod Rows
