@@ -120,10 +120,10 @@ literal_fills : eval env (of op.FillNone (m ∷ great ∷ []) (Place (pos 0) ∷
 literal_fills = refl
 
 -- what is not built yet says so after its arguments
-not_built : eval env (of op.Neg (m ∷ []) []) ≡ Err Unbuilt
+not_built : eval env (of op.Sort (m ∷ []) []) ≡ Err Unbuilt
 not_built = refl
 
-not_built_of_nothing : eval env (of op.Neg (missing ∷ []) []) ≡ Err (Unbound (codes "z"))
+not_built_of_nothing : eval env (of op.Sort (missing ∷ []) []) ≡ Err (Unbound (codes "z"))
 not_built_of_nothing = refl
 
 -- ---- ranges
