@@ -1,13 +1,12 @@
 -- What the lists of a column come to, level by level.
 use Rattle.std.proofs.Common.{◌≡◌, ℕ, ◌+◌, ◌*◌, ◌<◌, ◌≤◌, List}
-use Rattle.std.proofs.Common.{[], ◌∷◌, ◌++◌, length, map, refl, ap}
-use Rattle.std.proofs.Common.{ap₂, sym, ◌∙◌, arith, subst}
-use Rattle.std.specs.Prelude.{Bool, true, false, cond, not, nat_lt, filter, Option, Some, None}
+use Rattle.std.proofs.Common.{[], ◌∷◌, ◌++◌, length, refl, ap}
+use Rattle.std.proofs.Common.{ap₂, sym, ◌∙◌, arith}
+use Rattle.std.specs.Prelude.{Bool, true, false, cond, nat_lt, Option, Some, None}
 use Rattle.std.specs.Prelude.{if◌then◌else◌}
 use Rattle.std.specs.List.{count_by, flat_map, range_with_len}
 use Rattle.std.proofs.lemmas.List.Concat.{flat_map-append, flat_map-cons}
 use Rattle.std.proofs.lemmas.List.Sums.{sum_by-cons, sum_by-append}
-use Rattle.std.proofs.lemmas.List.FromFn.{length-range_with_len}
 use Rattle.awk_types.specs.DataType.{DataType, unknown, leaf, var, reg, rec, tup, opt, uni, depth}
 use Rattle.awk_types.specs.Gives.{◌or◌}
 use Rattle.awk_types.specs.ItemLimit.{item_limit, too_many}
@@ -21,16 +20,15 @@ use Rattle.awk_lanes.specs.Column.{Column}
 use Rattle.awk_lanes.specs.Places.{size_of}
 use Rattle.awk_layout.specs.Layout.{Layout}
 use Rattle.awk_layout.specs.Typing.{array_type, array_items}
-use Rattle.awk_layout.specs.Valid.{len}
 use Rattle.awk_columns.specs.Columns.{list_items, joined_items, present_values}
-use Rattle.awk_columns.specs.Joined.{IsJoined, JoinsLists, total}
+use Rattle.awk_columns.specs.Joined.{IsJoined, total}
 use Rattle.awk_columns.specs.ListClass.{Class, list_type}
 use Rattle.awk_columns.specs.Lists.{items_at}
 use Rattle.awk_columns.specs.Opened.{OpensLists, OpensOption}
 use Rattle.awk_columns.specs.declared.lists.Joined.TheVariants as joined
 use Rattle.awk_columns.proofs.ArrayLaws.{lists-inner}
 use Rattle.awk_hist.specs.Hist.{leaves, has_numbers, lists_refused}
-use Rattle.awk_hist.specs.Lists.{ComeTo, IsInnermost}
+use Rattle.awk_hist.specs.Lists.{IsInnermost}
 use Rattle.awk_hist.specs.declared.innermost.Innermost.{Innermost}
 use Rattle.awk_hist.specs.declared.innermost.Innermost.TheVariants as innermost
 

@@ -3,3 +3,4 @@ pub mod RowLaws
 pub mod ListLaws
 pub mod WholeLaws
 mod Worked
+pub mod TotalLaws

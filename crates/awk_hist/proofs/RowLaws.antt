@@ -1,5 +1,5 @@
 -- Rows of histograms, by their lanes.
-use Rattle.std.proofs.Common.{◌≡◌, ℕ, ◌+◌, ◌-◌, ◌*◌, ◌<◌, ◌≤◌, List, [], ◌∷◌, length, map, get_or}
+use Rattle.std.proofs.Common.{◌≡◌, ℕ, ◌+◌, ◌-◌, ◌*◌, ◌<◌, List, [], ◌∷◌, length, map, get_or}
 use Rattle.std.proofs.Common.{refl, ap, ap₂, sym, ◌∙◌, arith, subst}
 use Rattle.std.specs.Prelude.{ℤ, pos, Some, ◌^◌, true, ◌≢◌}
 use Rattle.std.specs.List.{range_with_len}
@@ -9,10 +9,9 @@ use Rattle.std.proofs.lemmas.List.Edits.{length-between}
 use Rattle.std.proofs.lemmas.List.FromFn.{fill_by_all, get_or-map-range_with_len}
 use Rattle.std.proofs.lemmas.Simd.{map-map}
 use Rattle.awk_types.specs.DataType.{DataType, unknown, leaf, var, reg, rec, tup, opt, uni}
-use Rattle.awk_types.specs.ItemLimit.{item_limit}
 use Rattle.awk_types.specs.Predicates.{is_leaf}
 use Rattle.awk_types.specs.Simple.{present, simple_value}
-use Rattle.awk_types.specs.Value.{Value, Values, null, list, row, value_list, values_from}
+use Rattle.awk_types.specs.Value.{Value, null, list, row, value_list, values_from}
 use Rattle.awk_types.specs.WholeNumbers.{is_numbers}
 use Rattle.awk_types.specs.declared.primitive.Primitive.{Primitive}
 use Rattle.awk_types.specs.declared.primitive.Primitive.TheVariants as primitive
@@ -37,7 +36,7 @@ use Rattle.awk_layout.proofs.Runs.{length-run, value_list-run}
 use Rattle.awk_axis.specs.Mapped.{IsColumn}
 use Rattle.awk_numbers.specs.Folds.{lane_numbers}
 use Rattle.awk_parts.specs.Parts.{AreRising, AreParts, part_at}
-use Rattle.awk_present.specs.Numbers.{leaf_of, numbers, number_of}
+use Rattle.awk_present.specs.Numbers.{leaf_of, number_of}
 use Rattle.awk_present.specs.Present.{ArePresent, list_at}
 use Rattle.awk_present.specs.declared.present.Present.{Present}
 use Rattle.awk_columns.specs.Columns.{present_values}

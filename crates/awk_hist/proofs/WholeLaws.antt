@@ -1,13 +1,13 @@
 -- The histogram of all leaves, by the column that lists come to.
 use Rattle.std.proofs.Common.{◌≡◌, ℕ, zero, suc, ◌+◌, ◌<◌, ◌≤◌, List, [], ◌∷◌, length, map, map-id}
-use Rattle.std.proofs.Common.{refl, ap, ap₂, sym, ◌∙◌, arith, subst}
+use Rattle.std.proofs.Common.{refl, ap, ap₂, sym, ◌∙◌, arith}
 use Rattle.std.specs.Prelude.{ℤ, pos, Bool, true, false, cond, ◌&&◌, int_lt, int_le, ◌≤ℤ◌}
 use Rattle.std.specs.List.{count_by, range_with_len, slice_range}
 use Rattle.std.proofs.lemmas.Grind.{common_steps}
 use Rattle.std.proofs.lemmas.Int.{ints}
 use Rattle.std.proofs.lemmas.List.Concat.{flat_map-cons}
 use Rattle.std.proofs.lemmas.List.Sums.{sum_by-cons}
-use Rattle.std.specs.Prelude.{◌*◌, ◌^◌, ◌||◌, nat_lt, Option, Some, None, Ok, Err, Result}
+use Rattle.std.specs.Prelude.{◌*◌, ◌^◌, ◌||◌, nat_lt, Some, None, Ok, Err, Result}
 use Rattle.std.specs.Prelude.{if◌then◌else◌}
 use Rattle.std.specs.List.{flat_map}
 use Rattle.std.proofs.lemmas.Bool.{ltb-false}
@@ -32,7 +32,7 @@ use Rattle.awk_layout.specs.Valid.{len}
 use Rattle.awk_gather.specs.Arrays.{array_item}
 use Rattle.awk_columns.proofs.ArrayLaws.{array_items-at}
 use Rattle.awk_layout.specs.Typing.{array_type, array_items}
-use Rattle.awk_columns.specs.Columns.{is_present, present_values}
+use Rattle.awk_columns.specs.Columns.{is_present}
 use Rattle.awk_numbers.proofs.PartLaws.{whole_range}
 use Rattle.awk_present.specs.Numbers.{numbers, number_of}
 use Rattle.awk_present.specs.Present.{list_at}

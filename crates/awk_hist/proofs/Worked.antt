@@ -1,6 +1,6 @@
 -- Worked histograms, each checked by computing.
 use Rattle.std.specs.Prelude.{◌≡◌, refl, [], ◌∷◌, true, false, pos, negsuc, List, ℤ, map, Ok, Err}
-use Rattle.awk_types.specs.DataType.{DataType, leaf, var, opt}
+use Rattle.awk_types.specs.DataType.{leaf, var, opt}
 use Rattle.awk_types.specs.Datum.{Datum, arr, one}
 use Rattle.awk_types.specs.Value.{Value, int, truth, null, list, row, values_from}
 use Rattle.awk_types.specs.declared.primitive.Primitive.TheVariants.{Bool, I64}

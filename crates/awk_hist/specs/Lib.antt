@@ -3,3 +3,4 @@ pub mod Hist
 pub mod HistEach
 pub mod Lists
 pub mod Rows
+pub mod Totals

@@ -1,5 +1,5 @@
 -- Lists whose items lie one after another.
-use Rattle.std.specs.Prelude.{◌≡◌, ◌≢◌, ℕ, ◌+◌, ◌-◌, ◌*◌, ◌<◌}
+use Rattle.std.specs.Prelude.{◌≡◌, ℕ, ◌+◌, ◌-◌, ◌*◌, ◌<◌}
 use Rattle.std.specs.Prelude.{◌≤◌, ◌^◌, true, Bool, List, length, cond}
 use Rattle.std.specs.Prelude.{Some, None, pos}
 use Rattle.std.specs.List.{count_by, flat_map}

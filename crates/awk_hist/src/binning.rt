@@ -16,6 +16,7 @@ ghost use Rattle.awk_hist.specs.Bins.{bins_and, bins_type};
 ghost use Rattle.awk_hist.specs.Hist.{has_numbers, hist_of, hist_of_array};
 ghost use Rattle.awk_hist.specs.HistEach.{bins_function, histogram};
 ghost use Rattle.awk_hist.specs.Lists.{IsInnermost};
+ghost use Rattle.awk_hist.specs.Totals.{CountsAll};
 
 use crate::edges::edge_list;
 use crate::innermost::{Innermost, innermost_of};
@@ -254,6 +255,7 @@ pub fn hist<'a, L: Ledger>(
     requires edges { are_edges edges.now ≡ true }
     ensures answer { Gives datum_of fault_told result (histogram edges.now each (datum_of x.now)) }
     ensures datum { IfOk result (λ made. IsDatum made) }
+    ensures counted { IfOk result (λ made. CountsAll each (datum_of x.now) (datum_of made)) }
 {
     let edges = edge_list(alloc, edges)?;
     if each {

@@ -1,6 +1,5 @@
-use Rattle.std.proofs.Common.{◌≡◌, ◌*◌, ◌<◌, ◌≤◌, arith, ap, sym, ◌∙◌, subst}
-use Rattle.std.specs.Prelude.{◌^◌, nat_le, true, false}
-use Rattle.std.proofs.lemmas.Bool.{leb-true, leb-false}
+use Rattle.std.proofs.Common.{◌*◌, ◌<◌, ◌≤◌, arith, subst}
+use Rattle.std.specs.Prelude.{◌^◌}
 use Rattle.awk_types.specs.ItemLimit.{item_limit}
 use Rattle.awk_lanes.specs.Places.{size_of}
 use Rattle.awk_columns.specs.Joined.{IsJoined}

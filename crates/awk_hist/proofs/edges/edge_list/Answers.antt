@@ -1,4 +1,4 @@
-use Rattle.std.proofs.Common.{ap, ap₂, sym, ◌∙◌, ◌∷◌, ◌++◌, [], ◌<◌, length, arith, rules}
+use Rattle.std.proofs.Common.{ap₂, sym, ◌∙◌, ◌∷◌, ◌++◌, [], ◌<◌, length, arith, rules}
 use Rattle.std.specs.Prelude.{pos}
 use Rattle.std.specs.Int.{w128}
 use Rattle.std.proofs.lemmas.Int.{to_z-of_z}

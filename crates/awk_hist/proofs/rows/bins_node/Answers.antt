@@ -1,5 +1,3 @@
-use Rattle.std.proofs.Common.{arith, ap, sym, ◌∙◌, subst}
-use Rattle.awk_lanes.specs.Places.{size_of}
 use Rattle.awk_hist.proofs.RowLaws.{are_leaves, kind_numbers, number_parts, nulls_ready}
 use Rattle.awk_hist.proofs.RowLaws.{of_sizes, binned_column}
 use Rattle.awk_hist.proofs.rows.bins_node.Goals as goal

@@ -1,6 +1,6 @@
 use Rattle.std.proofs.Common.{◌≡◌, ◌+◌, arith, ap, sym, ◌∙◌, subst}
 use Rattle.std.specs.Prelude.{pos}
-use Rattle.awk_lanes.specs.Counted.{before, offsets_by}
+use Rattle.awk_lanes.specs.Counted.{before}
 use Rattle.awk_lanes.specs.Places.{size_of, IsOffsets}
 use Rattle.awk_lanes.specs.declared.kind.Kind.TheVariants.{I64}
 use Rattle.awk_lanes.proofs.MadeLanes.{size-lane_of}

@@ -1,4 +1,4 @@
-use Rattle.std.proofs.Common.{ap₂, ap, ◌∙◌}
+use Rattle.std.proofs.Common.{ap₂, ◌∙◌}
 use Rattle.awk_types.specs.DataType.{rec, types_from}
 use Rattle.awk_types.proofs.Views.{typ_of-Rec}
 use Rattle.awk_hist.proofs.types.bins_typ.Goals as goal
