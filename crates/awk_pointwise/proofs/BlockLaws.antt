@@ -98,11 +98,11 @@ lane-after k xs ys =
     ap (map (leaf_value k)) (map-after (element k) xs ys)
     ∙ map-after (leaf_value k) (map (element k) xs) (map (element k) ys)
 
-length-map : {X Y : Type 0} (f : X → Y) (xs : List X) → length (map f xs) ≡ length xs
+pub length-map : {X Y : Type 0} (f : X → Y) (xs : List X) → length (map f xs) ≡ length xs
 length-map f [] = refl
 length-map f (x ∷ xs) = ap suc (length-map f xs)
 
-length-lane : (c : Column) → length (lane_values c) ≡ size_of c
+pub length-lane : (c : Column) → length (lane_values c) ≡ size_of c
 length-lane c =
     length-map (leaf_value c.kind) (map (element c.kind) c.items)
     ∙ length-map (element c.kind) c.items
@@ -278,7 +278,7 @@ past n side.Missing hi q h = omega (arith, q, h)
 past n (side.Number k z) hi q h = h
 past n (side.Literal z) hi q h = h
 
-length-replicate : {X : Type 0} (n : ℕ) (x : X) → length (replicate n x) ≡ n
+pub length-replicate : {X : Type 0} (n : ℕ) (x : X) → length (replicate n x) ≡ n
 length-replicate zero x = refl
 length-replicate (suc n) x = ap suc (length-replicate n x)
 

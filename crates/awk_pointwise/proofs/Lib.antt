@@ -5,4 +5,6 @@ pub mod RangeLaws
 pub mod ReadyLaws
 pub mod SingleLaws
 pub mod BlockLaws
+pub mod ChoiceLaws
+pub mod ChoiceTyped
 mod Worked

@@ -85,7 +85,7 @@ beside_holds Unknown u z w o h = absurd h
 beside_holds (Literal y) u z w o h = subst (Holds (type_beside (Literal y) u)) (sym h)
     (literal_holds (type_beside (Literal y) u) y o)
 
-both_whole : (p q r : Primitive) → promotion p q ≡ Some r
+pub both_whole : (p q r : Primitive) → promotion p q ≡ Some r
     → (is_whole p ≡ true) × (is_whole q ≡ true)
 both_whole p q r e = go (is_whole p) (is_whole q) e
   where

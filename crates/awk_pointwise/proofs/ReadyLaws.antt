@@ -33,7 +33,7 @@ judged_ok None past p e = absurd (cc)
 judged_ok (Some q) true p e = absurd (cc)
 judged_ok (Some q) false p e = record { typed = cc; fits = refl }
 
-neither : (a b : Bool) → a || b ≡ false → (a ≡ false) × (b ≡ false)
+pub neither : (a b : Bool) → a || b ≡ false → (a ≡ false) × (b ≡ false)
 neither true b e = absurd (cc)
 neither false b e = (refl, e)
 

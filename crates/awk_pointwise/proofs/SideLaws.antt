@@ -47,7 +47,7 @@ map-replicate f (suc n) x = ap (λ ys. f x ∷ ys) (map-replicate f n x)
 
 -- ---- leaves of lanes
 
-not_null : (k : Kind) (z : ℤ) → is_null (leaf_value k z) ≡ false
+pub not_null : (k : Kind) (z : ℤ) → is_null (leaf_value k z) ≡ false
 not_null Truths z = refl
 not_null I8 z = refl
 not_null I16 z = refl
@@ -63,7 +63,7 @@ truth_number : (b : Bool) → number_of (truth (is_nonzero (pos (if b then 1 els
 truth_number true = refl
 truth_number false = refl
 
-leaf_number : (k : Kind) (z : ℤ) → number_of (leaf_value k (element k z)) ≡ element k z
+pub leaf_number : (k : Kind) (z : ℤ) → number_of (leaf_value k (element k z)) ≡ element k z
 leaf_number Truths z = truth_number (is_nonzero z)
 leaf_number I8 z = refl
 leaf_number I16 z = refl
@@ -87,7 +87,7 @@ truth_typed : (b : Bool) → IsLeafNumber prim.Bool (pos (if b then 1 else 0))
 truth_typed true = inr refl
 truth_typed false = inl refl
 
-number_typed : (k : Kind) (z : ℤ) → IsNumber k z → IsTyped (Of (primitive_of k)) (element k z)
+pub number_typed : (k : Kind) (z : ℤ) → IsNumber k z → IsTyped (Of (primitive_of k)) (element k z)
 number_typed Truths z h = truth_typed (is_nonzero z)
 number_typed I8 z h = h
 number_typed I16 z h = h
@@ -110,7 +110,7 @@ lane_seen c w h e = record {
 
 -- ---- one number at all places
 
-one_number : (p : Primitive) (z : ℤ) → IsLeafNumber p z → number_of (value_in p z) ≡ z
+pub one_number : (p : Primitive) (z : ℤ) → IsLeafNumber p z → number_of (value_in p z) ≡ z
 one_number prim.Bool z (inl e) = subst (λ z. number_of (value_in prim.Bool z) ≡ z) (sym e) refl
 one_number prim.Bool z (inr e) = subst (λ z. number_of (value_in prim.Bool z) ≡ z) (sym e) refl
 one_number prim.I8 z h = refl
@@ -122,7 +122,7 @@ one_number prim.U16 z h = refl
 one_number prim.U32 z h = refl
 one_number prim.U64 z h = refl
 
-one_present : (p : Primitive) (z : ℤ) → is_null (value_in p z) ≡ false
+pub one_present : (p : Primitive) (z : ℤ) → is_null (value_in p z) ≡ false
 one_present prim.Bool z = refl
 one_present prim.I8 z = refl
 one_present prim.I16 z = refl

@@ -202,7 +202,7 @@ pub held_numbers : (p : Primitive) (xs zs : List ℤ)
 held_numbers p xs zs e =
     results_numbers Add p xs (zeros_beside xs) zs (ap all_numbers (added_zeros p xs) ∙ e)
 
-zero_held : (p : Primitive) → is_whole p ≡ true → Holds p (pos 0)
+pub zero_held : (p : Primitive) → is_whole p ≡ true → Holds p (pos 0)
 zero_held prim.Bool w = absurd (cc)
 zero_held prim.I8 w = grind (arith, ints)
 zero_held prim.I16 w = grind (arith, ints)

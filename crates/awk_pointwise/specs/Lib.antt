@@ -2,3 +2,5 @@ pub mod Sides
 pub mod Numbers
 pub mod Single
 pub mod Blocks
+pub mod Optional
+pub mod Choice

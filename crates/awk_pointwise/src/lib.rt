@@ -9,6 +9,8 @@
 mod binary;
 mod blocks;
 mod calculate;
+mod choice;
+mod optional;
 mod see;
 mod sides;
 mod truths;
@@ -16,5 +18,7 @@ mod unary;
 mod words;
 
 pub use binary::binary_leaves;
+pub use choice::{Chosen, choice_leaves};
+pub use optional::Optional;
 pub use sides::Side;
 pub use unary::unary_leaves;
