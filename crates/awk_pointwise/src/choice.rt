@@ -5,6 +5,7 @@ ghost use Rattle.awk_types.specs.Gives.{Gives};
 ghost use Rattle.awk_types.specs.declared.primitive.Primitive.{Primitive};
 ghost use Rattle.awk_lanes.specs.Numbers.{int_of, IsOf};
 ghost use Rattle.awk_lanes.specs.Places.{size_of};
+ghost use Rattle.awk_lanes.specs.declared.kind.Kind.TheVariants as Kind;
 ghost use Rattle.awk_layout.specs.Kinds.{kind_of};
 ghost use Rattle.awk_leaves.specs.Table.{choice_judged};
 ghost use Rattle.awk_leaves.specs.Values.{choice_values};
@@ -22,7 +23,7 @@ use std::sync::ledger::Ledger;
 /// The numbers that were chosen, and where there is none.
 #[derive(Drop)]
 pub struct Chosen<'a> {
-    /// 1 where it is null, else 0.
+    /// 1 where it is null, else 0: a mask of bytes.
     pub nulls: Lane<'a>,
     pub lane: Lane<'a>,
 }
@@ -139,7 +140,9 @@ pub fn choice_leaves<'a, L: Ledger>(
     ensures kind { (p : Primitive) → choice_judged (optional_type condition.now)
         (optional_type sides.entry.0.now) (optional_type sides.entry.1.now) ≡ Ok p
         → IfOk result (λ r. r.lane.kind ≡ kind_of p) }
-    ensures size { IfOk result (λ r. size_of r.nulls ≡ n) }
+    ensures size { IfOk result (λ r. size_of r.lane ≡ n) }
+    ensures nulls { IfOk result (λ r. size_of r.nulls ≡ n) }
+    ensures mask { IfOk result (λ r. r.nulls.kind ≡ Kind.I8) }
 {
     let (x, y) = sides;
     let prim = choice_prim(condition.leaf_type(), x.leaf_type(), y.leaf_type())?;

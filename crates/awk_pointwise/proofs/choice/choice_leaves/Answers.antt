@@ -57,5 +57,15 @@ pub returns-clause-size : goal.returns-clause-size
 returns-clause-size g c =
     let s : Choice =
     record { condition = c.args.condition; x = c.args.sides.0; y = c.args.sides.1 } in
+    ap size_of c.in_ok-lane.ensures.lane
+    ∙ size-lane_of c.kind_of.result c.args.n (λ i. number_of (chosen_value s i))
+
+pub returns-clause-nulls : goal.returns-clause-nulls
+returns-clause-nulls g c =
+    let s : Choice =
+    record { condition = c.args.condition; x = c.args.sides.0; y = c.args.sides.1 } in
     ap size_of c.in_ok-nulls.ensures.lane
     ∙ size-lane_of I8 c.args.n (λ i. null_number (chosen_value s i))
+
+pub returns-clause-mask : goal.returns-clause-mask
+returns-clause-mask g c = ap (λ r. r.kind) c.in_ok-nulls.ensures.lane
