@@ -1,0 +1,3 @@
+pub mod Cast
+pub mod Levels
+pub mod Casting
