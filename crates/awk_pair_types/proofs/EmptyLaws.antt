@@ -1,6 +1,6 @@
 -- A pairing of data without items: it has the type of one with items, and no fault.
-use Rattle.std.proofs.Common.{◌≡◌, ℕ, ◌==◌, ◌<◌, ◌≤◌, ◌+◌, Bool, true, false, not, refl, ap, ap₂}
-use Rattle.std.proofs.Common.{sym, ◌∙◌, arith, take, subst}
+use Rattle.std.proofs.Common.{◌≡◌, ℕ, suc, ◌==◌, ◌<◌, ◌≤◌, ◌+◌, Bool, true, false, not, refl}
+use Rattle.std.proofs.Common.{ap, ap₂, sym, ◌∙◌, arith, take}
 use Rattle.std.specs.Prelude.{List, [], ◌∷◌, ◌++◌, map, length, slice_get, slice_range}
 use Rattle.std.specs.Prelude.{None, Some, Option, Result, Ok}
 use Rattle.std.specs.List.{list_all, flat_map}
@@ -11,6 +11,7 @@ use Rattle.awk_types.specs.Gives.{Told, refused_or}
 use Rattle.awk_types.specs.Value.{Value}
 use Rattle.awk_types.specs.declared.fault.Fault.{Fault}
 use Rattle.awk_types.proofs.ListLaws.{map-take-get}
+use Rattle.awk_layout.proofs.ArrayItems.{length-array_items}
 use Rattle.awk_layout.specs.Datum.{datum_of, kept}
 use Rattle.awk_layout.specs.Layout.{Layout}
 use Rattle.awk_layout.specs.Single.{own_datum}
@@ -19,7 +20,9 @@ use Rattle.awk_layout.specs.declared.datum.Datum as code
 use Rattle.awk_layout.specs.declared.datum.Datum.TheVariants.{Arr, One}
 use Rattle.awk_layout.specs.declared.datum.Operand.{Operand}
 use Rattle.awk_layout.specs.declared.datum.Operand.TheVariants as operand
-use Rattle.awk_frames.specs.Framed.{IsFrame}
+use Rattle.awk_columns.specs.Columns.{part_at}
+use Rattle.awk_columns.specs.InOrder.{AreParts}
+use Rattle.awk_open.specs.Opened.{AreLong}
 use Rattle.awk_frames.specs.Shape.{Shape, ends, shape}
 use Rattle.awk_frames.specs.Sizes.{levels_refused}
 use Rattle.awk_pair.specs.Answer.{shared_ends, shared_shape, single_or_fault}
@@ -111,6 +114,15 @@ module _ (keep : Bool) (d : Option ℕ) (xs ys : List Operand)
 
   pub no_rows : shared_ends keep d (all_data ys) ≡ []
   no_rows = ap (shared_ends keep d) none ∙ ends-emptied keep d (all_data xs) some
+
+-- columns of the parts of no rows
+pub no_columns : (k : ℕ) (vs : List Value) (xs : List Layout) → AreParts k vs xs → vs ≡ []
+    → AreLong 0 xs
+no_columns k vs [] h e = tt
+no_columns k vs (x ∷ xs) h e = (
+  sym (length-array_items x) ∙ ap length (h.0 ∙ ap (map (part_at k)) e),
+  no_columns (suc k) vs xs h.1 e,
+)
 
 -- ---- operands without items
 

@@ -6,7 +6,8 @@ use Rattle.std.specs.Prelude.{if◌then◌else◌, Result, Ok, Err, IfOk}
 use Rattle.std.specs.List.{flat_map, range_with_len}
 use Rattle.std.proofs.lemmas.List.{drop_all}
 use Rattle.awk_types.proofs.ListLaws.{drop-get}
-use Rattle.awk_types.specs.DataType.{Name, DataType, DataTypes, depth, depths, greatest, opt, uni}
+use Rattle.awk_types.specs.DataType.{Name, DataType, unknown, leaf, var, reg, rec, tup, opt, uni}
+use Rattle.awk_types.specs.DataType.{DataTypes, no_types, type, depth, depths, greatest}
 use Rattle.awk_types.specs.DataType.{row_type, types_from}
 use Rattle.awk_types.specs.Gives.{◌or◌}
 use Rattle.awk_types.specs.ItemLimit.{item_limit, too_many}
@@ -17,6 +18,7 @@ use Rattle.awk_lanes.specs.Places.{size_of}
 use Rattle.awk_layout.specs.Layout.{Layout}
 use Rattle.awk_layout.specs.Typing.{array_type, array_items}
 use Rattle.awk_columns.proofs.ArrayLaws.{lists-inner}
+use Rattle.awk_columns.specs.Columns.{part_values, present_values, alternative_values}
 use Rattle.awk_columns.specs.InOrder.{AreParts, AreAlternatives}
 use Rattle.awk_columns.specs.Joined.{JoinsLists, total}
 use Rattle.awk_columns.specs.ListClass.{Class, list_type}
@@ -25,6 +27,33 @@ use Rattle.awk_columns.specs.Opened.{OpensLeaf, OpensNothing}
 use Rattle.awk_zip.specs.Counted.{lists_refused, each_refused, all_refused, size_if, across, among}
 use Rattle.awk_zip.specs.Counted.{inside}
 use Rattle.awk_zip.proofs.SizeLaws.{list-refused}
+
+-- ---- no levels
+
+mutual
+  pub none-refused : (t : DataType) (vs : List Value) → lists_refused 0 t vs ≡ None
+  none-refused unknown vs = refl
+  none-refused (leaf p) vs = refl
+  none-refused (var t) vs = refl
+  none-refused (reg n t) vs = refl
+  none-refused (rec ns ts) vs = none-across ts 0 vs
+  none-refused (tup ts) vs = none-across ts 0 vs
+  none-refused (opt t) vs = none-refused t (present_values vs)
+  none-refused (uni ts) vs = none-among ts 0 vs
+
+  none-across : (ts : DataTypes) (j : ℕ) (vs : List Value)
+      → across (each_refused 0 ts) j vs ≡ None
+  none-across no_types j vs = refl
+  none-across (type t ts) j vs =
+      ap (λ f. f or across (each_refused 0 ts) (suc j) vs) (none-refused t (part_values j vs))
+      ∙ none-across ts (suc j) vs
+
+  none-among : (ts : DataTypes) (j : ℕ) (vs : List Value)
+      → among (each_refused 0 ts) j vs ≡ None
+  none-among no_types j vs = refl
+  none-among (type t ts) j vs =
+      ap (λ f. f or among (each_refused 0 ts) (suc j) vs) (none-refused t (alternative_values j vs))
+      ∙ none-among ts (suc j) vs
 
 -- ---- columns
 
@@ -97,13 +126,6 @@ opened-refused k c s t y x o =
     too_many (length vs) or lists_refused (k - 1) (array_type y) vs)
     (lists-inner c s t y x o
     ∙ ap (λ n. flat_map (items_at s t y) (range_with_len 0 n)) (sym o.size))
-
-pub none_counted : (k : ℕ) (c : Class) (s t : Column) (y x : Layout) → OpensLists c s t y x
-    → (k == 0) ≡ true → lists_refused k (array_type x) (array_items x) ≡ None
-none_counted k c s t y x o e =
-    opened-refused k c s t y x o
-    ∙ ap (λ b. if b then None else
-    too_many (total s t y) or lists_refused (k - 1) (array_type y) (all_items s t y)) e
 
 pub many_counted : (k : ℕ) (c : Class) (s t : Column) (y x : Layout) → OpensLists c s t y x
     → (k == 0) ≡ false → item_limit < total s t y

@@ -119,11 +119,11 @@ module _ (d : ℕ) (names : Option (List Name)) (ds : List Datum) where
     pub typ : array_type y ≡ zip_type d names ds
     pub items : array_items y ≡ zip_values d ds
 
-  pub is_zipped : (single : Bool) (t : DataType) (y : Layout)
+  pub is_zipped : (single : Bool) (t : DataType) (y node : Layout) → y ≡ node
       → refused_or (limit_refused (zip_type d names ds)) (zip_type d names ds) ≡ Ok t
-      → single_or_fault false (Some d) ds ≡ Ok single → array_type y ≡ zip_type d names ds
-      → array_items y ≡ zip_values d ds → IsZipped single y
-  is_zipped single t y limit_said pair_said typ_is items_are =
+      → single_or_fault false (Some d) ds ≡ Ok single → array_type node ≡ zip_type d names ds
+      → array_items node ≡ zip_values d ds → IsZipped single y
+  is_zipped single t y node is limit_said pair_said typ_is items_are =
       let l = refused_or-Ok (limit_refused (zip_type d names ds)) (zip_type d names ds) t
       limit_said in
       let p = refused_or-Ok (pair_refused false (Some d) ds) (not (some_array ds)) single
@@ -132,8 +132,8 @@ module _ (d : ℕ) (names : Option (List Name)) (ds : List Datum) where
         limit = l.0;
         paired = p.0;
         is_single = p.1;
-        typ = typ_is;
-        items = items_are;
+        typ = ap array_type is ∙ typ_is;
+        items = ap array_items is ∙ items_are;
       }
 
   refused : (single : Bool) (y : Layout) → IsZipped single y

@@ -1,5 +1,5 @@
 //! Whether the lists of a column's first levels have too many items together.
-ghost use Rattle.std.specs.Prelude.{◌≡◌, ◌==◌, IfOk};
+ghost use Rattle.std.specs.Prelude.{◌≡◌, ◌<◌, IfOk};
 ghost use Rattle.awk_layout.specs.Typing.{array_type, array_items};
 ghost use Rattle.awk_columns.specs.Opened.{IsOpened, OpensLists};
 ghost use Rattle.awk_zip.specs.Counted.{lists_refused, all_refused, size_if};
@@ -22,6 +22,9 @@ pub(crate) fn is_large<'a, L: Ledger>(
 ) -> Result<bool, NoMemory>
     ensures { IfOk result (λ b. lists_refused k (array_type x.now) (array_items x.now) ≡ size_if b) }
 {
+    if k == 0 {
+        return Ok(false); // nothing is opened where nothing is counted
+    }
     let opened = open_array(alloc, x, arena, steps)?;
     let large = opened_large(alloc, k, x, &opened, arena, steps)?;
     Ok(large)
@@ -38,6 +41,7 @@ fn opened_large<'a, L: Ledger>(
     steps: &mut Steps<L>,
 ) -> Result<bool, NoMemory>
     requires opens { IsOpened x.now opened.now }
+    requires levels { 0 < k }
     ensures { IfOk result (λ b. lists_refused k (array_type x.now) (array_items x.now) ≡ size_if b) }
 {
     match opened {
@@ -62,11 +66,9 @@ fn lists_large<'a, L: Ledger>(
 ) -> Result<bool, NoMemory>
     requires opens { OpensLists lists.now.class lists.now.starts lists.now.stops
         lists.now.content x.now }
+    requires levels { 0 < k }
     ensures { IfOk result (λ b. lists_refused k (array_type x.now) (array_items x.now) ≡ size_if b) }
 {
-    if k == 0 {
-        return Ok(false);
-    }
     match lists.joined(alloc, arena, steps)? {
         Joined::TooMany => Ok(true),
         Joined::Lists { content, .. } => {

@@ -11,6 +11,6 @@ returns-then-some_array c =
 
 pub returns : goal.returns
 returns c =
-    depth_of_single c.args.depth _ (all_data c.args.xs.now)
+    depth_of_single c.args.depth c.saturating_add.result (all_data c.args.xs.now)
     (data_some c.args.xs.now c.requires.some) (sym c.some_array.ensures ∙ c.if-some_array.false)
-    c.requires.heights (omega (arith, c.ranges.depth)) ?
+    c.requires.heights (omega (arith, c.ranges.depth)) c.saturating_add.ensures

@@ -8,22 +8,27 @@ use Rattle.awk_columns.specs.declared.lists.Joined.TheVariants as joined
 use Rattle.awk_columns.specs.declared.opening.Opened.TheVariants as opened
 use Rattle.awk_zip.specs.Counted.{lists_refused, all_refused, size_if}
 use Rattle.awk_zip.proofs.CountLaws.{row_counted, union_counted, option_counted, leaf_counted}
-use Rattle.awk_zip.proofs.CountLaws.{nothing_counted, none_counted, many_counted, lists_counted}
+use Rattle.awk_zip.proofs.CountLaws.{nothing_counted, none-refused, many_counted, lists_counted}
 use Rattle.awk_zip.proofs.CountLaws.{all_next, all_found, all_end, depth-list, depth-row, depth-get}
 use Rattle.awk_zip.proofs.CountLaws.{depth-option, depth-union, if_ok}
 use Rattle.awk_zip.proofs.counted.+counted.Goals as goal
 
+pub is_large-returns-then-k-eq0 : goal.is_large-returns-then-k-eq0
+is_large-returns-then-k-eq0 g t c =
+    let e : c.args.k ≡ 0 = grind (arith, c.if-k-eq0.true) in
+    ap (λ k. lists_refused k (array_type c.args.x.now) (array_items c.args.x.now)) e
+    ∙ none-refused (array_type c.args.x.now) (array_items c.args.x.now)
+
 pub is_large-opened_large-requires : goal.is_large-opened_large-requires
-is_large-opened_large-requires g t c κs within =
-    (omega (arith, c.decreases), (within, c.in_ok-opened.ensures))
+is_large-opened_large-requires g t c κs within = (
+  omega (arith, c.decreases),
+  (
+    within,
+    (c.in_ok-opened.ensures, omega (arith, c.if-k-eq0.false)),
+  ),
+)
 
 -- ---- lists
-
-pub lists_large-returns-then-k-eq0 : goal.lists_large-returns-then-k-eq0
-lists_large-returns-then-k-eq0 g t c =
-    let e : (c.args.k == 0) ≡ true = grind (arith, c.if-k-eq0.true) in
-    none_counted c.args.k c.args.lists.now.class c.args.lists.now.starts c.args.lists.now.stops
-    c.args.lists.now.content c.args.x.now c.requires.opens e
 
 pub lists_large-is_large-requires : goal.lists_large-is_large-requires
 lists_large-is_large-requires g t c κs within =
@@ -37,7 +42,7 @@ lists_large-is_large-requires g t c κs within =
 
 pub lists_large-returns-in-TooMany : goal.lists_large-returns-in-TooMany
 lists_large-returns-in-TooMany g t c =
-    let e : (c.args.k == 0) ≡ false = grind (arith, c.if-k-eq0.false) in
+    let e : (c.args.k == 0) ≡ false = grind (arith, c.requires.levels) in
     let j : IsJoined c.args.lists.now.starts c.args.lists.now.stops c.args.lists.now.content
     joined.TooMany = rw c.in-TooMany.is at c.in_ok-joined.ensures in
     many_counted c.args.k c.args.lists.now.class c.args.lists.now.starts c.args.lists.now.stops
@@ -45,7 +50,7 @@ lists_large-returns-in-TooMany g t c =
 
 pub lists_large-returns-in_ok-large-in-Lists : goal.lists_large-returns-in_ok-large-in-Lists
 lists_large-returns-in_ok-large-in-Lists g t c =
-    let e : (c.args.k == 0) ≡ false = grind (arith, c.if-k-eq0.false) in
+    let e : (c.args.k == 0) ≡ false = grind (arith, c.requires.levels) in
     let j : IsJoined c.args.lists.now.starts c.args.lists.now.stops c.args.lists.now.content
     (joined.Lists c.in-Lists.offsets c.in-Lists.content) =
     rw c.in-Lists.is at c.in_ok-joined.ensures in
@@ -59,7 +64,7 @@ pub opened_large-lists_large-requires : goal.opened_large-lists_large-requires
 opened_large-lists_large-requires g t c κs within =
     let h : IsOpened c.args.x.now (opened.Items c.in-Items.lists) =
     rw c.in-Items.is at c.requires.opens in
-    (omega (arith, c.decreases), (within, h))
+    (omega (arith, c.decreases), (within, (h, c.requires.levels)))
 
 pub opened_large-any_large-requires : goal.opened_large-any_large-requires
 opened_large-any_large-requires g t c κs within =
