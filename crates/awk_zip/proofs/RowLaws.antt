@@ -230,7 +230,8 @@ reach_long n (y ∷ ys) h = (omega (arith, h.0), reach_long n ys h.1)
 -- the rows at the ends are of their type
 pub ends_typed : (d : ℕ) (ds : List Datum)
     → AllByRecursion (Has (pair_type false (Some d) ds)) (pair_values false (Some d) ds)
-    → AllByRecursion (Has (tup (types_from (leaf_types (Some d) ds)))) (shared_ends false (Some d) ds)
+    → AllByRecursion (Has (tup (types_from (leaf_types (Some d) ds))))
+    (shared_ends false (Some d) ds)
 ends_typed d ds h =
     subst (λ t. AllByRecursion (Has t) (shared_ends false (Some d) ds))
     (end_of_pairs false (below (Some d) ds) (typs ds))

@@ -45,10 +45,13 @@ abbrev mutual
 
 -- ---- by columns
 
+abbrev pub column_refused : ℕ → Layout → Option Fault
+column_refused k y = lists_refused k (array_type y) (array_items y)
+
 -- the first of columns that is refused
 abbrev pub all_refused : ℕ → List Layout → Option Fault
 all_refused k [] = None
-all_refused k (y ∷ ys) = lists_refused k (array_type y) (array_items y) or all_refused k ys
+all_refused k (y ∷ ys) = column_refused k y or all_refused k ys
 
 abbrev pub size_if : Bool → Option Fault
 size_if true = Some Size

@@ -1,8 +1,7 @@
 //! Whether the lists of a column's first levels have too many items together.
 ghost use Rattle.std.specs.Prelude.{◌≡◌, ◌<◌, IfOk};
-ghost use Rattle.awk_layout.specs.Typing.{array_type, array_items};
 ghost use Rattle.awk_columns.specs.Opened.{IsOpened, OpensLists};
-ghost use Rattle.awk_zip.specs.Counted.{lists_refused, all_refused, size_if};
+ghost use Rattle.awk_zip.specs.Counted.{column_refused, all_refused, size_if};
 
 use awk_columns::{Joined, Lists, Opened, open_array};
 use awk_lanes::{Arena, NoMemory, Steps};
@@ -20,7 +19,7 @@ pub(crate) fn is_large<'a, L: Ledger>(
     arena: &'a Arena,
     steps: &mut Steps<L>,
 ) -> Result<bool, NoMemory>
-    ensures { IfOk result (λ b. lists_refused k (array_type x.now) (array_items x.now) ≡ size_if b) }
+    ensures { IfOk result (λ b. column_refused k x.now ≡ size_if b) }
 {
     if k == 0 {
         return Ok(false); // nothing is opened where nothing is counted
@@ -42,7 +41,7 @@ fn opened_large<'a, L: Ledger>(
 ) -> Result<bool, NoMemory>
     requires opens { IsOpened x.now opened.now }
     requires levels { 0 < k }
-    ensures { IfOk result (λ b. lists_refused k (array_type x.now) (array_items x.now) ≡ size_if b) }
+    ensures { IfOk result (λ b. column_refused k x.now ≡ size_if b) }
 {
     match opened {
         Opened::Unknown => Ok(false),
@@ -67,7 +66,7 @@ fn lists_large<'a, L: Ledger>(
     requires opens { OpensLists lists.now.class lists.now.starts lists.now.stops
         lists.now.content x.now }
     requires levels { 0 < k }
-    ensures { IfOk result (λ b. lists_refused k (array_type x.now) (array_items x.now) ≡ size_if b) }
+    ensures { IfOk result (λ b. column_refused k x.now ≡ size_if b) }
 {
     match lists.joined(alloc, arena, steps)? {
         Joined::TooMany => Ok(true),
