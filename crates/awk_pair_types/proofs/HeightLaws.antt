@@ -1,10 +1,10 @@
 -- Beyond as many levels as types have, more levels change nothing.
 use Rattle.std.proofs.Common.{◌≡◌, ℕ, zero, suc, ◌-◌, ◌≤◌, Bool, true, false, refl, ap}
 use Rattle.std.proofs.Common.{arith}
-use Rattle.std.specs.Prelude.{List, [], ◌∷◌, map, if◌then◌else◌}
+use Rattle.std.specs.Prelude.{List, [], ◌∷◌, if◌then◌else◌}
 use Rattle.std.specs.Prelude.{◌++◌, nat_lt, Option, Some, None}
 use Rattle.awk_types.specs.DataType.{DataType, unknown, leaf, var, reg, rec, tup, opt, uni}
-use Rattle.awk_types.specs.DataType.{depth, greatest}
+use Rattle.awk_types.specs.DataType.{depth}
 use Rattle.awk_types.specs.Limit.{Limit, depth_limit, limit}
 use Rattle.awk_types.specs.Simple.{present, option_if}
 use Rattle.awk_columns.specs.ListClass.{list_type}

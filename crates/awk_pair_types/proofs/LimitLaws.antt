@@ -1,6 +1,6 @@
 -- The fault of a type that passes a limit, and faults that are want of memory.
 use Rattle.std.proofs.Common.{◌≡◌, refl, ap, sym, ◌∙◌}
-use Rattle.std.specs.Prelude.{None, Some, Ok, option_map}
+use Rattle.std.specs.Prelude.{None, Ok, option_map}
 use Rattle.awk_types.specs.DataType.{DataType}
 use Rattle.awk_types.specs.Faults.{fault_of, fault_told, limit_fault}
 use Rattle.awk_types.specs.Gives.{Told, refused_or}

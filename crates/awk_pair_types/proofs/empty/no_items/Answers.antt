@@ -1,7 +1,4 @@
-use Rattle.std.proofs.Common.{◌≡◌, ap, sym, subst, ◌∙◌, ◌≤◌}
-use Rattle.awk_types.specs.Limit.{limit}
-use Rattle.awk_layout.specs.Single.{own_datum}
-use Rattle.awk_pair.specs.Pairs.{item_type}
+use Rattle.std.proofs.Common.{subst, ◌≤◌}
 use Rattle.awk_pair_types.specs.Emptied.{height}
 use Rattle.awk_pair_types.proofs.EmptyLaws.{emptied_is, kept_type}
 use Rattle.awk_pair_types.proofs.HeightLaws.{height_limit}

@@ -1,4 +1,4 @@
-use Rattle.std.proofs.Common.{refl, arith}
+use Rattle.std.proofs.Common.{arith}
 use Rattle.awk_pair_types.proofs.EmptyLaws.{emptied_push, emptied_all, shallow_push, shallow_all}
 use Rattle.awk_pair_types.proofs.empty.no_items_of_each.Goals as goal
 

@@ -1,6 +1,5 @@
-use Rattle.std.proofs.Common.{◌≡◌, ◌∙◌, ap, subst, arith}
-use Rattle.std.specs.Prelude.{Err, None}
-use Rattle.awk_types.specs.Limit.{limit}
+use Rattle.std.proofs.Common.{◌≡◌, ◌∙◌, ap, arith}
+use Rattle.std.specs.Prelude.{Err}
 use Rattle.awk_types.specs.Faults.{fault_of, fault_told}
 use Rattle.awk_types.specs.Gives.{refused_or}
 use Rattle.awk_types.specs.View.{typ_of}
