@@ -25,7 +25,6 @@ use Rattle.awk_columns.specs.ListClass.{Class, list_type}
 use Rattle.awk_columns.specs.Opened.{items_at, OpensLists, OpensOption, OpensRow, OpensUnion}
 use Rattle.awk_columns.specs.Opened.{OpensLeaf, OpensNothing}
 use Rattle.awk_zip.specs.Counted.{lists_refused, each_refused, all_refused, size_if, across, among}
-use Rattle.awk_zip.specs.Counted.{inside}
 use Rattle.awk_zip.proofs.SizeLaws.{list-refused}
 
 -- ---- no levels

@@ -1,5 +1,5 @@
 -- Data as operands.
-use Rattle.std.proofs.Common.{◌≡◌, ℕ, ◌<◌, ◌≤◌, ◌+◌, arith, ap, sym, ◌∙◌, take}
+use Rattle.std.proofs.Common.{◌≡◌, ℕ, ◌≤◌, ◌+◌, ap, sym, ◌∙◌, take}
 use Rattle.std.specs.Prelude.{List, [], ◌∷◌, ◌++◌, map, length, slice_get, Some}
 use Rattle.std.proofs.lemmas.List.{length-map, map-append, take_all}
 use Rattle.awk_types.proofs.ListLaws.{map-take-get}

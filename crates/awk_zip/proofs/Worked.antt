@@ -1,7 +1,7 @@
 -- Worked examples of records made of columns, each checked by computing.
 use Rattle.std.specs.Prelude.{◌≡◌, ℕ, List, [], ◌∷◌, pos, Some, None, Ok, Err, true, false, refl}
 use Rattle.awk_types.specs.declared.primitive.Primitive.TheVariants.{Bool, I64}
-use Rattle.awk_types.specs.DataType.{Name, DataType, DataTypes, unknown, leaf, var, reg, rec, tup}
+use Rattle.awk_types.specs.DataType.{Name, DataType, DataTypes, leaf, var, reg, rec, tup}
 use Rattle.awk_types.specs.DataType.{opt, types_from}
 use Rattle.awk_types.specs.Value.{Value, int, truth, null, list, row, values_from}
 use Rattle.awk_types.specs.Datum.{Datum, arr, one}

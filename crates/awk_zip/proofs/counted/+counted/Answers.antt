@@ -1,4 +1,4 @@
-use Rattle.std.proofs.Common.{◌≡◌, ◌+◌, ◌==◌, ◌∙◌, true, false, ap, sym, arith, map}
+use Rattle.std.proofs.Common.{◌≡◌, ◌+◌, ◌==◌, ◌∙◌, false, ap, sym, arith, map}
 use Rattle.awk_types.specs.DataType.{depth, depths, greatest, types_from}
 use Rattle.awk_layout.specs.Typing.{array_type, array_items}
 use Rattle.awk_columns.specs.Joined.{IsJoined}

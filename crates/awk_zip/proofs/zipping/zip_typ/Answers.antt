@@ -1,4 +1,4 @@
-use Rattle.std.proofs.Common.{◌≡◌, ◌∙◌, ap, ap₂, sym, subst, arith, false, length, map, Some}
+use Rattle.std.proofs.Common.{◌≡◌, ◌∙◌, ap, sym, subst, arith, false, Some}
 use Rattle.std.specs.Prelude.{option_map, []}
 use Rattle.awk_types.specs.DataType.{row_type, types_from}
 use Rattle.awk_types.specs.Faults.{fault_told}
