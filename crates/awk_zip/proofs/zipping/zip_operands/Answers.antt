@@ -8,9 +8,19 @@ use Rattle.awk_pair.specs.First.{all_data}
 use Rattle.awk_pair_types.specs.Limits.{limit_refused}
 use Rattle.awk_zip.specs.Counted.{size_if}
 use Rattle.awk_zip.specs.Zip.{zip_of, zip_type}
-use Rattle.awk_zip.proofs.ZipLaws.{told_pair, told_large, made, datum_made}
-use Rattle.awk_zip.proofs.ZipLaws.{is_zipped}
+use Rattle.awk_zip.proofs.ZipLaws.{told_type, told_pair, told_large, made}
+use Rattle.awk_zip.proofs.ZipLaws.{datum_made, is_zipped}
 use Rattle.awk_zip.proofs.zipping.zip_operands.Goals as goal
+
+pub returns-in_err-typ-clause-answer : goal.returns-in_err-typ-clause-answer
+returns-in_err-typ-clause-answer g c =
+    let d = c.args.depth in
+    let named = option_map (λ names. names.now) c.args.names in
+    let ds = all_data c.args.xs.now in
+    let e = c.in_err-typ.field-0.0 in
+    let failed : c.from_residual.result ≡ Err e = grind arith in
+    Gives-Err datum_of fault_told c.from_residual.result e (zip_of d named ds) failed
+    (told_type d named ds (fault_told e) c.in_err-typ.ensures.answer)
 
 pub returns-in_err-single-clause-answer : goal.returns-in_err-single-clause-answer
 returns-in_err-single-clause-answer g c =
