@@ -1,0 +1,4 @@
+pub mod HeightLaws
+pub mod EmptyLaws
+pub mod DepthLaws
+pub mod LimitLaws

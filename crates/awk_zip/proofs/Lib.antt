@@ -1,0 +1,7 @@
+mod Worked
+mod OverLaws
+mod RowLaws
+mod CountLaws
+mod SizeLaws
+mod ZipLaws
+mod DataLaws
