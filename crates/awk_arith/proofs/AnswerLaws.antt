@@ -1,38 +1,26 @@
 -- What an operation at the leaves answers, by its parts.
-use Rattle.std.proofs.Common.{◌≡◌, Bool, true, false, not, refl, ap, ap₂, sym, ◌∙◌}
-use Rattle.std.specs.Prelude.{List, [], ◌∷◌, map, length, get_or, Option, None}
-use Rattle.std.specs.Prelude.{Result, Ok, if◌then◌else◌}
-use Rattle.std.specs.List.{range_with_len}
+use Rattle.std.proofs.Common.{◌≡◌, Bool, false, not, sym, ◌∙◌}
+use Rattle.std.specs.Prelude.{List, map, Option, None, Result, Ok, if◌then◌else◌}
 use Rattle.std.proofs.lemmas.List.{length-map}
-use Rattle.awk_types.specs.Datum.{Datum, arr, one}
+use Rattle.awk_types.specs.Datum.{Datum}
 use Rattle.awk_types.specs.Gives.{Told, refused_or, ◌or◌}
-use Rattle.awk_types.specs.Simple.{simple_value}
-use Rattle.awk_types.specs.Value.{Value, null}
+use Rattle.awk_types.specs.Value.{Value}
 use Rattle.awk_types.specs.declared.fault.Fault.{Fault}
 use Rattle.awk_types.specs.declared.primitive.Primitive.{Primitive}
 use Rattle.awk_types.proofs.RefusalLaws.{Told-first, Told-later, Told-other, or-None}
 use Rattle.awk_types.proofs.RefusalLaws.{refused_or-None}
-use Rattle.awk_layout.specs.Datum.{datum_of, first_item, IsDatum}
-use Rattle.awk_layout.specs.Item.{item}
+use Rattle.awk_layout.specs.Datum.{datum_of, IsDatum}
 use Rattle.awk_layout.specs.Layout.{Layout}
-use Rattle.awk_layout.specs.Typing.{layout_type, array_type, array_items}
-use Rattle.awk_layout.specs.Valid.{len}
+use Rattle.awk_layout.specs.Typing.{array_type, array_items}
 use Rattle.awk_layout.specs.declared.datum.Datum.TheVariants.{Arr, One}
-use Rattle.awk_layout.proofs.ArrayItems.{length-array_items}
 use Rattle.awk_frames.specs.Framed.{over}
 use Rattle.awk_pair.specs.Answer.{single_or_fault, shared_ends}
 use Rattle.awk_pair.specs.Pairs.{pair_refused, pair_type, pair_values, some_array, datum_from}
-use Rattle.awk_arith.specs.AtLeaves.{result_type, limit_refused, first_fault, value_or_null}
+use Rattle.awk_pair_types.specs.Limits.{limit_refused}
+use Rattle.awk_arith.specs.AtLeaves.{result_type, first_fault, value_or_null}
 use Rattle.awk_arith.specs.AtLeaves.{row_values, leaves_refused, at_leaves}
-
--- an array of one item has its first alone
-pub items-one : (x : Layout) → len x ≡ 1 → array_items x ≡ first_item x ∷ []
-items-one x single =
-    ap (λ n. map (simple_value (layout_type x)) (map (item x) (range_with_len 0 n))) single
-
--- single values are paired to one
-values-one : (ds : List Datum) → some_array ds ≡ false → length (pair_values false None ds) ≡ 1
-values-one ds e = rw e refl
+use Rattle.awk_arith.proofs.DatumLaws.{IsMade, values-one, datum_shown}
+use Rattle.awk_arith.proofs.DatumLaws.{datum_made as single_made}
 
 module _ (p : Primitive) (f : Value → Result Value Fault) (ds : List Datum) where
   -- ---- faults
@@ -78,23 +66,20 @@ module _ (p : Primitive) (f : Value → Result Value Fault) (ds : List Datum) wh
     pub typ : array_type y ≡ result_type p ds
     pub items : array_items y ≡ row_values f ds
 
-  size-one : (single : Bool) (y : Layout) → IsResult single y → some_array ds ≡ false → len y ≡ 1
-  size-one single y h e =
-      sym (length-array_items y) ∙ ap length h.items
-      ∙ length-map (pair_values false None ds)
-      (over (pair_type false None ds) (λ v. value_or_null (f v)))
-      ∙ values-one ds e
+  made_so : (single : Bool) (y : Layout) → IsResult single y
+      → IsMade (result_type p ds) (row_values f ds) ds single y
+  made_so single y h = record {
+    is_single = h.is_single;
+    one_value = λ e. length-map (pair_values false None ds)
+        (over (pair_type false None ds) (λ v. value_or_null (f v))) ∙ values-one None ds e;
+    typ = h.typ;
+    items = h.items;
+  }
 
   pub datum_made : (single : Bool) (y : Layout) → IsResult single y
       → IsDatum (if single then One y else Arr y)
-  datum_made single y h = by (some_array ds) refl single h.is_single
-    where
-      by : (b : Bool) → some_array ds ≡ b → (s : Bool) → not b ≡ s
-          → IsDatum (if s then One y else Arr y)
-      by true e true k = absurd cc
-      by true e false k = tt
-      by false e true k = size-one single y h e
-      by false e false k = absurd cc
+  datum_made single y h =
+      single_made (result_type p ds) (row_values f ds) ds single y (made_so single y h)
 
   pub made : (single : Bool) (y : Layout) → IsResult single y
       → at_leaves p f ds ≡ Ok (datum_of (if single then One y else Arr y))
@@ -106,14 +91,4 @@ module _ (p : Primitive) (f : Value → Result Value Fault) (ds : List Datum) wh
       (pair_refused false None ds or first_fault (map f (shared_ends false None ds))) h.limit
       ∙ or-None (pair_refused false None ds)
       (first_fault (map f (shared_ends false None ds))) h.paired ∙ h.leaves)
-      (sym (by (some_array ds) refl single h.is_single))
-    where
-      by : (b : Bool) → some_array ds ≡ b → (s : Bool) → not b ≡ s
-          → datum_of (if s then One y else Arr y)
-          ≡ datum_from b (result_type p ds) (row_values f ds)
-      by true e true k = absurd cc
-      by true e false k = ap₂ arr h.typ h.items
-      by false e true k =
-          ap₂ one h.typ (ap (λ vs. get_or vs 0 null)
-          (sym (items-one y (size-one single y h e)) ∙ h.items))
-      by false e false k = absurd cc
+      (sym (datum_shown (result_type p ds) (row_values f ds) ds single y (made_so single y h)))

@@ -1,7 +1,7 @@
 -- The columns at the ends of a pairing: their types, their sizes and their values.
 use Rattle.std.proofs.Common.{◌≡◌, ℕ, zero, suc, ◌+◌, ◌<◌, Bool, true, false, ◌&&◌, refl, ap, sym}
 use Rattle.std.proofs.Common.{subst, ◌∙◌, arith}
-use Rattle.std.specs.Prelude.{List, [], ◌∷◌, map, length, get_or, replicate, None}
+use Rattle.std.specs.Prelude.{List, [], ◌∷◌, map, length, get_or, replicate, Option, None}
 use Rattle.std.specs.List.{list_all}
 use Rattle.std.proofs.lemmas.List.{length-map}
 use Rattle.awk_types.specs.Datum.{Datum}
@@ -33,13 +33,14 @@ pub map-map : {A B C : Type 0} (f : B → C) (g : A → B) (xs : List A)
 map-map f g [] = refl
 map-map f g (x ∷ xs) = ap (λ ys. f (g x) ∷ ys) (map-map f g xs)
 
-get-map : {A B : Type 0} (f : A → B) (xs : List A) (k : ℕ) (d : A)
+pub get-map : {A B : Type 0} (f : A → B) (xs : List A) (k : ℕ) (d : A)
     → get_or (map f xs) k (f d) ≡ f (get_or xs k d)
 get-map f [] k d = refl
 get-map f (x ∷ xs) zero d = refl
 get-map f (x ∷ xs) (suc k) d = get-map f xs k d
 
-same-at : (es : List Value) (z : Value) (n : ℕ) → n ≡ length es → replicate n z ≡ map (λ v. z) es
+pub same-at : (es : List Value) (z : Value) (n : ℕ) → n ≡ length es
+    → replicate n z ≡ map (λ v. z) es
 same-at es z n e = ap (λ m. replicate m z) e ∙ all es
   where
     all : (vs : List Value) → replicate (length vs) z ≡ map (λ v. z) vs
@@ -69,31 +70,33 @@ parts-at es j (y ∷ ys) (suc k) h l =
     let e : suc j + k ≡ j + suc k = omega arith in
     parts-at es (suc j) ys k h.1 (omega (arith, l)) ∙ ap (λ i. map (part_at i) es) e
 
--- ---- the columns of data that are paired to their leaves
+-- ---- the columns of data that are paired, to their leaves or to a depth
 
-pub record AreEnds (ds : List Datum) (es : List Value) (ys : List Layout) : Type 0 where
+pub record AreEnds (d : Option ℕ) (ds : List Datum) (es : List Value) (ys : List Layout)
+    : Type 0 where
   pub parts : AreParts 0 es ys
-  pub types : map array_type ys ≡ leaf_types None ds
+  pub types : map array_type ys ≡ leaf_types d ds
 
-pub ends-count : (ds : List Datum) (es : List Value) (ys : List Layout) → AreEnds ds es ys
-    → length ys ≡ length ds
-ends-count ds es ys h =
-    sym (length-map ys array_type) ∙ ap length h.types ∙ length-leaf_types ds
+pub ends-count : (d : Option ℕ) (ds : List Datum) (es : List Value) (ys : List Layout)
+    → AreEnds d ds es ys → length ys ≡ length ds
+ends-count d ds es ys h =
+    sym (length-map ys array_type) ∙ ap length h.types ∙ length-leaf_types d ds
 
 -- the leaves of a column are those of the datum
-pub ends-leaf : (ds : List Datum) (es : List Value) (ys : List Layout) (k : ℕ) → AreEnds ds es ys
+pub ends-leaf : (d : Option ℕ) (ds : List Datum) (es : List Value) (ys : List Layout) (k : ℕ)
+    → AreEnds d ds es ys
     → leaf_in (array_type (column_at ys k)) ≡ get_or (map leaf_in (typs ds)) k Unknown
-ends-leaf ds es ys k h =
+ends-leaf d ds es ys k h =
     sym (get-map (λ y. leaf_in (array_type y)) ys k empty)
     ∙ ap (λ ts. get_or ts k Unknown) (sym (map-map leaf_in array_type ys)
-    ∙ ap (map leaf_in) h.types ∙ leaf_types-leaves ds)
+    ∙ ap (map leaf_in) h.types ∙ leaf_types-leaves d ds)
 
-pub ends-long : (ds : List Datum) (es : List Value) (ys : List Layout) → AreEnds ds es ys
+pub ends-long : (ds : List Datum) (es : List Value) (ys : List Layout) → AreEnds None ds es ys
     → has_wrong_end None ds ≡ false → AreLeaves (length es) ys
 ends-long ds es ys h e =
     parts-long es 0 ys h.parts (ap (list_all is_leaf) h.types ∙ leaf_types-all ds e)
 
-first-long : (n : ℕ) (ys : List Layout) → AreLeaves n ys → 0 < length ys → ends_of ys ≡ n
+pub first-long : (n : ℕ) (ys : List Layout) → AreLeaves n ys → 0 < length ys → ends_of ys ≡ n
 first-long n [] h l = absurd (omega (arith, l))
 first-long n (y ∷ ys) h l = h.0
 
@@ -112,12 +115,12 @@ pub record AreSides (x y : Operand) (es : List Value) (ys : List Layout) : Type 
       ≡ map (at_end (filler_of y) (length (data_in (filler_of x)))) es
 
 module _ (es : List Value) (ys : List Layout) where
-  pub sides : (x y : Operand) → AreEnds (both_data (filler_of x) (filler_of y)) es ys
+  pub sides : (x y : Operand) → AreEnds None (both_data (filler_of x) (filler_of y)) es ys
       → has_wrong_end None (both_data (filler_of x) (filler_of y)) ≡ false → 0 < length ys
       → AreSides x y es ys
   sides (operand.Of d) (operand.Of e) h w l =
       let ds = datum_of d ∷ datum_of e ∷ [] in
-      let n : length ys ≡ 2 = ends-count ds es ys h in
+      let n : length ys ≡ 2 = ends-count None ds es ys h in
       let long : AreLeaves (length es) ys = ends-long ds es ys h w in
       let count : ends_of ys ≡ length es = first-long (length es) ys long l in
       record {
@@ -126,8 +129,8 @@ module _ (es : List Value) (ys : List Layout) where
         count = count;
         first_among = l;
         second_among = omega (arith, n);
-        first_leaf = ends-leaf ds es ys 0 h;
-        second_leaf = ends-leaf ds es ys 1 h;
+        first_leaf = ends-leaf None ds es ys 0 h;
+        second_leaf = ends-leaf None ds es ys 1 h;
         first_values = parts-at es 0 ys 0 h.parts l;
         second_values = parts-at es 0 ys 1 h.parts (omega (arith, n));
       }
@@ -141,7 +144,7 @@ module _ (es : List Value) (ys : List Layout) where
         count = count;
         first_among = l;
         second_among = tt;
-        first_leaf = ends-leaf ds es ys 0 h;
+        first_leaf = ends-leaf None ds es ys 0 h;
         second_leaf = refl;
         first_values = parts-at es 0 ys 0 h.parts l;
         second_values = same-at es (int z) (ends_of ys) count;
@@ -157,9 +160,9 @@ module _ (es : List Value) (ys : List Layout) where
         first_among = tt;
         second_among = l;
         first_leaf = refl;
-        second_leaf = ends-leaf ds es ys 0 h;
+        second_leaf = ends-leaf None ds es ys 0 h;
         first_values = same-at es (int z) (ends_of ys) count;
         second_values = parts-at es 0 ys 0 h.parts l;
       }
   sides (operand.Literal z) (operand.Literal w) h w' l =
-      let n : length ys ≡ 0 = ends-count [] es ys h in absurd (omega (arith, n, l))
+      let n : length ys ≡ 0 = ends-count None [] es ys h in absurd (omega (arith, n, l))

@@ -1,14 +1,14 @@
--- The leaves of types, and the types at the ends of a pairing to the leaves.
+-- The leaves of types, and the types at the ends of a pairing.
 use Rattle.std.proofs.Common.{◌≡◌, ℕ, zero, suc, Bool, true, false, not, refl, ap, ◌∙◌}
-use Rattle.std.specs.Prelude.{List, [], ◌∷◌, map, length, if◌then◌else◌, None}
+use Rattle.std.specs.Prelude.{List, [], ◌∷◌, map, length, if◌then◌else◌, Option, None}
 use Rattle.std.specs.List.{list_all}
 use Rattle.awk_types.specs.DataType.{DataType, unknown, leaf, var, reg, rec, tup, opt, uni}
 use Rattle.awk_types.specs.Datum.{Datum}
 use Rattle.awk_types.specs.Predicates.{is_leaf}
 use Rattle.awk_types.specs.Simple.{present}
-use Rattle.awk_pair.specs.Paired.{to_leaves, types_at_ends, is_wrong, is_wrong_end, end_types}
-use Rattle.awk_pair.specs.Paired.{all_levels}
-use Rattle.awk_pair.specs.Pairs.{has_wrong_end, leaf_types, typs, item_type}
+use Rattle.awk_pair.specs.Paired.{Reach, to_leaves, to_depth, types_at_ends, is_wrong, is_wrong_end}
+use Rattle.awk_pair.specs.Paired.{end_types, all_levels}
+use Rattle.awk_pair.specs.Pairs.{has_wrong_end, leaf_types, typs, item_type, reach, below}
 use Rattle.awk_pair_levels.specs.Levels.{opens, item_of, item_types}
 use Rattle.awk_arith.specs.AtLeaves.{leaf_in}
 
@@ -47,17 +47,21 @@ leaves-items (t ∷ ts) =
 leaves-below : (ts : List DataType) → map leaf_in (item_types ts) ≡ map leaf_in ts
 leaves-below ts = leaves-items (map present ts) ∙ leaves-present ts
 
+leaves-end : (r : Reach) (ts : List DataType) → map leaf_in (end_types r ts) ≡ map leaf_in ts
+leaves-end to_leaves ts = leaves-present ts
+leaves-end to_depth ts = refl
+
 -- the leaves of what stands at the ends are those of the whole types
-pub leaves-ends : (d : ℕ) (ts : List DataType)
-    → map leaf_in (types_at_ends to_leaves d ts) ≡ map leaf_in ts
-leaves-ends zero ts = leaves-present ts
-leaves-ends (suc d) ts =
-    level (opens ts) (leaves-ends d (item_types ts) ∙ leaves-below ts) (leaves-present ts)
+pub leaves-ends : (r : Reach) (d : ℕ) (ts : List DataType)
+    → map leaf_in (types_at_ends r d ts) ≡ map leaf_in ts
+leaves-ends r zero ts = leaves-end r ts
+leaves-ends r (suc d) ts =
+    level (opens ts) (leaves-ends r d (item_types ts) ∙ leaves-below ts) (leaves-end r ts)
   where
-    level : (b : Bool) → map leaf_in (types_at_ends to_leaves d (item_types ts)) ≡ map leaf_in ts
-        → map leaf_in (map present ts) ≡ map leaf_in ts
-        → map leaf_in (if b then types_at_ends to_leaves d (item_types ts)
-        else end_types to_leaves ts) ≡ map leaf_in ts
+    level : (b : Bool) → map leaf_in (types_at_ends r d (item_types ts)) ≡ map leaf_in ts
+        → map leaf_in (end_types r ts) ≡ map leaf_in ts
+        → map leaf_in (if b then types_at_ends r d (item_types ts) else end_types r ts)
+        ≡ map leaf_in ts
     level true e f = e
     level false e f = f
 
@@ -85,29 +89,34 @@ length-map : {A B : Type 0} (f : A → B) (xs : List A) → length (map f xs) �
 length-map f [] = refl
 length-map f (x ∷ xs) = ap suc (length-map f xs)
 
-length-ends : (d : ℕ) (ts : List DataType) → length (types_at_ends to_leaves d ts) ≡ length ts
-length-ends zero ts = length-map present ts
-length-ends (suc d) ts =
-    level (opens ts) (length-ends d (item_types ts) ∙ length-map item_of (map present ts)
-    ∙ length-map present ts) (length-map present ts)
+length-end : (r : Reach) (ts : List DataType) → length (end_types r ts) ≡ length ts
+length-end to_leaves ts = length-map present ts
+length-end to_depth ts = refl
+
+length-ends : (r : Reach) (d : ℕ) (ts : List DataType)
+    → length (types_at_ends r d ts) ≡ length ts
+length-ends r zero ts = length-end r ts
+length-ends r (suc d) ts =
+    level (opens ts) (length-ends r d (item_types ts) ∙ length-map item_of (map present ts)
+    ∙ length-map present ts) (length-end r ts)
   where
-    level : (b : Bool) → length (types_at_ends to_leaves d (item_types ts)) ≡ length ts
-        → length (map present ts) ≡ length ts
-        → length (if b then types_at_ends to_leaves d (item_types ts)
-        else end_types to_leaves ts) ≡ length ts
+    level : (b : Bool) → length (types_at_ends r d (item_types ts)) ≡ length ts
+        → length (end_types r ts) ≡ length ts
+        → length (if b then types_at_ends r d (item_types ts) else end_types r ts) ≡ length ts
     level true e f = e
     level false e f = f
 
 -- ---- the same of data
 
-pub leaf_types-leaves : (ds : List Datum)
-    → map leaf_in (leaf_types None ds) ≡ map leaf_in (typs ds)
-leaf_types-leaves ds = leaves-ends (all_levels (typs ds)) (typs ds)
+pub leaf_types-leaves : (d : Option ℕ) (ds : List Datum)
+    → map leaf_in (leaf_types d ds) ≡ map leaf_in (typs ds)
+leaf_types-leaves d ds = leaves-ends (reach d) (below d ds) (typs ds)
 
 pub leaf_types-all : (ds : List Datum) → has_wrong_end None ds ≡ false
     → list_all is_leaf (leaf_types None ds) ≡ true
 leaf_types-all ds e = ends_leaves (all_levels (typs ds)) (typs ds) e
 
-pub length-leaf_types : (ds : List Datum) → length (leaf_types None ds) ≡ length ds
-length-leaf_types ds =
-    length-ends (all_levels (typs ds)) (typs ds) ∙ length-map item_type ds
+pub length-leaf_types : (d : Option ℕ) (ds : List Datum)
+    → length (leaf_types d ds) ≡ length ds
+length-leaf_types d ds =
+    length-ends (reach d) (below d ds) (typs ds) ∙ length-map item_type ds

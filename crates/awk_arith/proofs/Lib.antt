@@ -1,8 +1,8 @@
 pub mod ResultLaws
 pub mod LeafLaws
-pub mod EmptyLaws
 pub mod ColumnLaws
 pub mod SideLaws
+pub mod DatumLaws
 pub mod AnswerLaws
 pub mod UnderLaws
 pub mod BinaryLaws

@@ -23,7 +23,7 @@ use Rattle.awk_leaves.specs.declared.operation.Binary.{Binary}
 use Rattle.awk_pointwise.specs.Sides.{lane_values}
 use Rattle.awk_arith.specs.AtLeaves.{at_leaves, in_primitive, first_fault, value_or_null}
 use Rattle.awk_arith.specs.Binary.{binary_row, judged_binary}
-use Rattle.awk_arith.proofs.AnswerLaws.{items-one}
+use Rattle.awk_arith.proofs.DatumLaws.{items-one}
 use Rattle.awk_arith.proofs.UnderLaws.{flat-items, flat-type}
 
 -- one result

@@ -25,7 +25,8 @@ use Rattle.awk_pair.specs.Answer.{single_or_fault, shared_ends}
 use Rattle.awk_pair.specs.First.{all_data}
 use Rattle.awk_pair.specs.Pairs.{has_wrong_end, leaf_types, pair_refused, some_array}
 use Rattle.awk_pointwise.specs.Sides.{lane_values}
-use Rattle.awk_arith.specs.AtLeaves.{result_type, limit_refused, row_values, value_or_null}
+use Rattle.awk_pair_types.specs.Limits.{limit_refused}
+use Rattle.awk_arith.specs.AtLeaves.{result_type, row_values, value_or_null}
 use Rattle.awk_arith.specs.AtLeaves.{first_fault}
 use Rattle.awk_arith.specs.Binary.{leaf_of, both_data, binary_row, judged_binary}
 use Rattle.awk_arith.specs.Sides.{leaf_at, values_at, data_before, ends_of}
@@ -72,7 +73,7 @@ module _ (op : Binary) (x y : Operand) (xs : List Operand) (p : Primitive)
       → map array_type ys ≡ leaf_types None (all_data xs) → 0 < length xs
       → has_wrong_end None (all_data xs) ≡ false → AreSides x y rows_ends ys
   columns ys parts types some right =
-      let ends : AreEnds (both_data (filler_of x) (filler_of y)) rows_ends ys = record {
+      let ends : AreEnds None (both_data (filler_of x) (filler_of y)) rows_ends ys = record {
         parts = parts;
         types = types ∙ ap (leaf_types None) given;
       } in
@@ -82,7 +83,7 @@ module _ (op : Binary) (x y : Operand) (xs : List Operand) (p : Primitive)
         some,
         length-map xs own_datum,
         ap length given,
-        ends-count (both_data (filler_of x) (filler_of y)) rows_ends ys ends,
+        ends-count None (both_data (filler_of x) (filler_of y)) rows_ends ys ends,
       ))
 
   pub columns_judged : (ys : List Layout) → AreSides x y rows_ends ys

@@ -27,7 +27,8 @@ use Rattle.awk_pair.specs.Answer.{single_or_fault, shared_ends}
 use Rattle.awk_pair.specs.First.{all_data}
 use Rattle.awk_pair.specs.Pairs.{has_wrong_end, leaf_types, pair_refused, some_array, item_type}
 use Rattle.awk_pointwise.specs.Sides.{lane_values}
-use Rattle.awk_arith.specs.AtLeaves.{leaf_in, at_leaves, in_primitive, result_type, limit_refused}
+use Rattle.awk_pair_types.specs.Limits.{limit_refused}
+use Rattle.awk_arith.specs.AtLeaves.{leaf_in, at_leaves, in_primitive, result_type}
 use Rattle.awk_arith.specs.AtLeaves.{row_values, value_or_null, first_fault}
 use Rattle.awk_arith.specs.Unary.{unary_row, judged_unary}
 use Rattle.awk_arith.proofs.AnswerLaws.{told_type, told_pair, told_leaves, IsResult, made}
@@ -102,7 +103,7 @@ module _ (op : Unary) (d : Datum) (xs : List Operand) (p : Primitive)
       limit).0 h)
 
   columns : (ys : List Layout) → AreParts 0 rows_ends ys
-      → map array_type ys ≡ leaf_types None (all_data xs) → AreEnds (d ∷ []) rows_ends ys
+      → map array_type ys ≡ leaf_types None (all_data xs) → AreEnds None (d ∷ []) rows_ends ys
   columns ys parts types = record {
     parts = parts;
     types = types ∙ ap (leaf_types None) given;
@@ -111,19 +112,19 @@ module _ (op : Unary) (d : Datum) (xs : List Operand) (p : Primitive)
   pub some_column : (ys : List Layout) → AreParts 0 rows_ends ys
       → map array_type ys ≡ leaf_types None (all_data xs) → 0 < length ys
   some_column ys parts types =
-      omega (arith, ends-count (d ∷ []) rows_ends ys (columns ys parts types))
+      omega (arith, ends-count None (d ∷ []) rows_ends ys (columns ys parts types))
 
   pub column : (ys : List Layout) (y : Layout) → AreParts 0 rows_ends ys
       → map array_type ys ≡ leaf_types None (all_data xs)
       → has_wrong_end None (all_data xs) ≡ false → slice_get ys 0 ≡ Some y
       → IsSingle d rows_ends y
   column ys y parts types right at =
-      let ends : AreEnds (d ∷ []) rows_ends ys = columns ys parts types in
+      let ends : AreEnds None (d ∷ []) rows_ends ys = columns ys parts types in
       subst (IsSingle d rows_ends) (column_is ys 0 y at) (record {
         leaf = (leaves-at (length rows_ends) ys 0
             (ends-long (d ∷ []) rows_ends ys ends (sym (ap (has_wrong_end None) given) ∙ right))
             (some_column ys parts types)).1;
-        typ = ends-leaf (d ∷ []) rows_ends ys 0 ends;
+        typ = ends-leaf None (d ∷ []) rows_ends ys 0 ends;
         items = parts-at rows_ends 0 ys 0 ends.parts (some_column ys parts types);
       })
 

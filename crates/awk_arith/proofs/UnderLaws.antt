@@ -24,7 +24,8 @@ use Rattle.awk_frames.specs.Shape.{Shape, leaves, items, missing}
 use Rattle.awk_pair.specs.Answer.{single_or_fault, shared_ends}
 use Rattle.awk_pair.specs.Pairs.{pair_refused, some_array}
 use Rattle.awk_pointwise.specs.Sides.{lane_values}
-use Rattle.awk_arith.specs.AtLeaves.{result_type, limit_refused, first_fault, value_or_null}
+use Rattle.awk_pair_types.specs.Limits.{limit_refused}
+use Rattle.awk_arith.specs.AtLeaves.{result_type, first_fault, value_or_null}
 use Rattle.awk_arith.specs.AtLeaves.{row_values}
 use Rattle.awk_arith.proofs.AnswerLaws.{IsResult}
 use Rattle.awk_arith.proofs.ColumnLaws.{map-map}

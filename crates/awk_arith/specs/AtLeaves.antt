@@ -1,12 +1,10 @@
 -- An operation at the leaves of data that are paired: a part on types, a part on values, and the
 -- first fault.
-use Rattle.std.specs.Prelude.{List, [], ◌∷◌, map, Option, Some, None, option_map, Result, Ok, Err}
+use Rattle.std.specs.Prelude.{List, [], ◌∷◌, map, Option, Some, None, Result, Ok, Err}
 use Rattle.std.specs.Prelude.{false}
 use Rattle.awk_types.specs.DataType.{DataType, leaf, var, reg, opt}
 use Rattle.awk_types.specs.Datum.{Datum}
-use Rattle.awk_types.specs.Faults.{limit_fault}
 use Rattle.awk_types.specs.Gives.{refused_or, ◌or◌}
-use Rattle.awk_types.specs.Limit.{limit}
 use Rattle.awk_types.specs.Value.{Value, null}
 use Rattle.awk_types.specs.declared.fault.Fault.{Fault}
 use Rattle.awk_types.specs.declared.primitive.Primitive.{Primitive}
@@ -15,6 +13,7 @@ use Rattle.awk_leaves.specs.declared.leaf_type.LeafType.TheVariants.{Of, Unknown
 use Rattle.awk_frames.specs.Framed.{over, over_type}
 use Rattle.awk_pair.specs.Answer.{shared_ends}
 use Rattle.awk_pair.specs.Pairs.{pair_refused, pair_type, pair_values, some_array, datum_from}
+use Rattle.awk_pair_types.specs.Limits.{limit_refused}
 
 -- what the leaves of a type are of, through lists and options. A pairing to leaves is refused
 -- where it ends at anything else.
@@ -24,9 +23,6 @@ leaf_in (var t) = leaf_in t
 leaf_in (reg n t) = leaf_in t
 leaf_in (opt t) = leaf_in t
 leaf_in t = Unknown
-
-abbrev pub limit_refused : DataType → Option Fault
-limit_refused t = option_map limit_fault (limit t)
 
 -- ---- results of which some may be faults
 

@@ -2,21 +2,17 @@
 use Rattle.std.specs.Prelude.{◌≡◌, ℕ, ◌<◌, List, [], ◌∷◌, length, get_or, replicate}
 use Rattle.std.specs.Prelude.{Option, Some, None, true}
 use Rattle.awk_types.specs.DataType.{unknown, leaf}
-use Rattle.awk_types.specs.Datum.{Datum, arr}
 use Rattle.awk_types.specs.Predicates.{is_leaf}
 use Rattle.awk_types.specs.Value.{Value, int}
 use Rattle.awk_lanes.specs.Column.{Column}
-use Rattle.awk_layout.specs.Datum as code
 use Rattle.awk_layout.specs.Kinds.{primitive_of}
 use Rattle.awk_layout.specs.Layout.{Layout, empty}
-use Rattle.awk_layout.specs.Single.{own_datum}
 use Rattle.awk_layout.specs.Typing.{array_type, array_items}
 use Rattle.awk_layout.specs.Valid.{len}
 use Rattle.awk_layout.specs.declared.datum.Operand.{Operand}
 use Rattle.awk_layout.specs.declared.datum.Operand.TheVariants as operand
 use Rattle.awk_leaves.specs.declared.leaf_type.LeafType.{LeafType}
 use Rattle.awk_leaves.specs.declared.leaf_type.LeafType.TheVariants as of
-use Rattle.awk_pair.specs.Pairs.{item_type}
 use Rattle.awk_pointwise.specs.Sides.{lane_values, side_values, leaf_type, IsSide}
 use Rattle.awk_pointwise.specs.declared.sides.Side.{Side}
 use Rattle.awk_arith.specs.AtLeaves.{leaf_in}
@@ -77,12 +73,3 @@ pub record IsSideAt (n : ℕ) (x : Operand) (k : ℕ) (ys : List Layout) (s : Si
   pub typ : leaf_type s ≡ leaf_at x k ys
   pub values : side_values n s ≡ values_at n x k ys
   pub side : IsSide n s
-
--- ---- data without items
-
-abbrev pub emptied : Datum → Datum
-emptied d = arr (item_type d) []
-
-pub record IsEmptied (x y : Operand) : Type 0 where
-  pub datum : own_datum y ≡ emptied (own_datum x)
-  pub operand : code.IsOperand y

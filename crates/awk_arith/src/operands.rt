@@ -26,7 +26,7 @@ use std::alloc::Global;
 use std::sync::ledger::Ledger;
 
 /// What the leaves of a type are of, through lists and options.
-pub(crate) fn leaf_in(t: &Typ) -> LeafType
+pub fn leaf_in(t: &Typ) -> LeafType
     ensures { result ≡ leaf_in (typ_of t.now) }
 {
     match t {
@@ -37,7 +37,7 @@ pub(crate) fn leaf_in(t: &Typ) -> LeafType
 }
 
 /// What the leaves of an operand are of.
-fn leaf_type(x: &Operand) -> LeafType
+pub fn leaf_type(x: &Operand) -> LeafType
     ensures { result ≡ leaf_of (filler_of x.now) }
 {
     match x {
@@ -46,8 +46,8 @@ fn leaf_type(x: &Operand) -> LeafType
     }
 }
 
-/// Puts an operand that is a datum at the end.
-fn push_datum<'a>(alloc: Global, x: &Operand<'a>, xs: &mut Operands<'a>) -> Result<(), NoMemory>
+/// Puts an operand that is a datum at the end. A literal is not put there.
+pub fn push_datum<'a>(alloc: Global, x: &Operand<'a>, xs: &mut Operands<'a>) -> Result<(), NoMemory>
     requires { IsOperand x.now }
     ensures { OnOk result (all_data xs.new ≡ all_data xs.old ++ data_in (filler_of x.now)) }
 {

@@ -29,7 +29,7 @@ use std::alloc::Global;
 use std::sync::ledger::Ledger;
 
 /// The lane of an array of leaves. Unknown has none.
-fn leaf_lane<'a, L: Ledger>(
+pub fn leaf_lane<'a, L: Ledger>(
     alloc: Global,
     leaf: &Array<'a>,
     arena: &'a Arena,
@@ -89,7 +89,7 @@ fn side_of<'b, 'a>(x: &Operand, lane: &'b Option<Lane<'a>>) -> Side<'b, 'a>
 }
 
 /// How many data there are before the second of two operands.
-pub(crate) fn data_before(x: &Operand) -> usize
+pub fn data_before(x: &Operand) -> usize
     ensures { result ≡ data_before x.now }
 {
     match x {

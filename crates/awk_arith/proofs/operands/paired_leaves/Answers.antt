@@ -16,7 +16,8 @@ use Rattle.awk_frames.specs.View.{shape_of}
 use Rattle.awk_pair.specs.Answer.{shared_ends}
 use Rattle.awk_pair.specs.First.{all_data}
 use Rattle.awk_pair.specs.Pairs.{pair_type, pair_values}
-use Rattle.awk_arith.specs.AtLeaves.{result_type, limit_refused, row_values, value_or_null}
+use Rattle.awk_pair_types.specs.Limits.{limit_refused}
+use Rattle.awk_arith.specs.AtLeaves.{result_type, row_values, value_or_null}
 use Rattle.awk_arith.specs.Binary.{leaf_of, binary_row, judged_binary}
 use Rattle.awk_arith.proofs.AnswerLaws.{IsResult, datum_made}
 use Rattle.awk_arith.proofs.BinaryLaws.{told_primitive}

@@ -15,7 +15,8 @@ use Rattle.awk_frames.specs.View.{shape_of}
 use Rattle.awk_pair.specs.Answer.{shared_ends}
 use Rattle.awk_pair.specs.First.{all_data}
 use Rattle.awk_pair.specs.Pairs.{pair_type, pair_values, item_type}
-use Rattle.awk_arith.specs.AtLeaves.{leaf_in, result_type, limit_refused, row_values}
+use Rattle.awk_pair_types.specs.Limits.{limit_refused}
+use Rattle.awk_arith.specs.AtLeaves.{leaf_in, result_type, row_values}
 use Rattle.awk_arith.specs.AtLeaves.{value_or_null}
 use Rattle.awk_arith.specs.Unary.{unary_row, judged_unary}
 use Rattle.awk_arith.proofs.AnswerLaws.{IsResult, datum_made}
