@@ -1,0 +1,2 @@
+mod WorkedOrder
+mod WorkedSorts

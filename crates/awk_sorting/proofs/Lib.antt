@@ -1,0 +1,3 @@
+pub mod InsertLaws
+pub mod UniqueLaws
+pub mod PartLaws

@@ -1,0 +1,3 @@
+pub mod Compare
+pub mod Order
+pub mod Parts

@@ -1,0 +1,5 @@
+//! Numbers in order, list by list, without layouts.
+#![tactic(auto)]
+
+mod number;
+mod parts;
