@@ -1,3 +1,4 @@
 pub mod InsertLaws
 pub mod UniqueLaws
 pub mod PartLaws
+pub mod LaneLaws

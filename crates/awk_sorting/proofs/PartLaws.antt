@@ -1,6 +1,7 @@
 -- Parts of a list brought in order: by std's sort, turned round where they fall, one after another.
 use Rattle.std.proofs.Common.{◌≡◌, ℕ, zero, suc, ◌+◌, ◌-◌, ◌<◌, ◌≤◌, refl, ap, ap₂, sym, ◌∙◌, subst}
 use Rattle.std.proofs.Common.{List, [], ◌∷◌, ◌++◌, map, length, get_or, reverse, arith, add-one, take, drop}
+use Rattle.std.proofs.Common.{drop_of_length-le, append-nil, take_all}
 use Rattle.std.proofs.Common.{◌⊎◌, inl, inr, Ordering, eq-or-lt_of_le, rules}
 use Rattle.std.specs.Prelude.{ℤ, int_lt, Bool, true, false}
 use Rattle.std.specs.List.{slice_range}
@@ -170,3 +171,11 @@ pub part_before : (o : Column) (n m i : ℕ) → AreRising o n m → i ≤ n →
 part_before o n m i r l j k =
     let e : j + suc (i - j - 1) ≡ i = omega (arith, k) in
     omega (arith, parts_apart o n m j (i - j - 1) r (omega (arith, k, l)), ap (place_at o) e)
+
+-- ---- what a slice of all items is written back as
+
+pub written_back : {X : Type 0} (xs ys : List X) (n : ℕ) → length ys ≡ length xs
+    → length xs ≡ n → take n (ys ++ drop (length ys) xs) ≡ ys
+written_back xs ys n e l =
+    ap (λ zs. take n (ys ++ zs)) (drop_of_length-le xs (omega (arith, e)))
+    ∙ ap (take n) (append-nil ys) ∙ take_all n ys (omega (arith, e, l))

@@ -1,3 +1,4 @@
 pub mod Compare
 pub mod Order
+pub mod Lanes
 pub mod Parts

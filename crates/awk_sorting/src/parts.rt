@@ -29,8 +29,8 @@ fn sort_part<N: Number>(numbers: &mut [N], start: usize, stop: usize, up: bool)
     sort_slice(&mut numbers[start..stop], up);
 }
 
-/// Each of n parts brought in order, by their offsets.
-pub(crate) fn sort_parts<N: Number, L: Ledger>(
+/// Each of n parts of a slice brought in order.
+fn sort_slice_parts<N: Number, L: Ledger>(
     numbers: &mut [N],
     offsets: &Lane,
     n: u64,
@@ -45,4 +45,18 @@ pub(crate) fn sort_parts<N: Number, L: Ledger>(
         let stop = place_in(offsets, i + 1, steps) as usize;
         sort_part(numbers, start, stop, up);
     }
+}
+
+/// Each of n parts brought in order, by their offsets.
+pub(crate) fn sort_parts<N: Number, L: Ledger>(
+    numbers: &mut Vec<N>,
+    offsets: &Lane,
+    n: u64,
+    up: bool,
+    steps: &mut Steps<L>,
+)
+    requires rising { AreRising offsets.now n (length numbers.old.items) }
+    ensures { SortsParts N.number up offsets.now n numbers.old.items numbers.new.items }
+{
+    sort_slice_parts(numbers, offsets, n, up, steps);
 }

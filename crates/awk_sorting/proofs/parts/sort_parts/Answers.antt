@@ -1,18 +1,15 @@
-use Rattle.std.proofs.Common.{◌≡◌, ◌≤◌, ◌<◌, ◌+◌, arith, subst, sym, length}
-use Rattle.awk_lanes.specs.Places.{place_at}
-use Rattle.awk_sorting.specs.Parts.{SortsPart}
-use Rattle.awk_sorting.proofs.PartLaws.{sorts_more, part_before}
+use Rattle.std.proofs.Common.{◌≡◌, ◌∙◌, sym, ap, subst, length, take, drop, List}
+use Rattle.std.proofs.lemmas.List.Sorted.{length_permutation}
+use Rattle.awk_sorting.specs.Parts.{SortsParts}
+use Rattle.awk_sorting.proofs.PartLaws.{written_back}
 use Rattle.awk_sorting.proofs.parts.sort_parts.Goals as goal
 
-pub loop-i-preserved : goal.loop-i-preserved
-loop-i-preserved g c =
-    let next = c.requires.rising.ordered c.loop-i.i (omega arith) in
-    let done : SortsPart g.N.Number.number c.args.up
-    (place_at c.args.offsets.now c.loop-i.i) (place_at c.args.offsets.now (c.loop-i.i + 1))
-    c.loop-i.numbers c.sort_part.new.numbers =
-    rw (sym c.place_in-start.ensures.value, sym c.place_in-stop.ensures.value) c.sort_part.ensures in
-    sorts_more g.N.Number.number c.args.up c.args.offsets.now c.loop-i.i c.args.numbers.now
-    c.loop-i.numbers c.sort_part.new.numbers
-    (part_before c.args.offsets.now c.args.n (length c.args.numbers.now) c.loop-i.i
-    c.requires.rising (omega arith))
-    next c.loop-i.invariant done
+pub returns : goal.returns
+returns g c =
+    let was = c.args.numbers.now.items in
+    let now = c.sort_slice_parts.new.numbers in
+    let done : SortsParts g.N.Number.number c.args.up c.args.offsets.now c.args.n was now =
+    subst (λ l. SortsParts g.N.Number.number c.args.up c.args.offsets.now c.args.n l now)
+    c.deref_mut.ensures.value c.sort_slice_parts.ensures in
+    rw (written_back was now c.args.numbers.now.len (length_permutation was now done.same)
+    (ap length (sym c.deref_mut.ensures.value) ∙ c.deref_mut.ensures.len)) done

@@ -1,6 +1,6 @@
 use Rattle.std.proofs.Common.{◌≡◌, ◌≤◌, length, map, ℕ, ◌+◌, ◌-◌, ◌*◌, ◌<◌}
 use Rattle.awk_sorting.specs.Parts.{SortsParts}
-use Rattle.awk_sorting.proofs.parts.sort_parts.Given as goal
+use Rattle.awk_sorting.proofs.parts.sort_slice_parts.Given as goal
 
 abbrev pub invariant-loop-i : goal.invariant-loop-i
 invariant-loop-i g l =
