@@ -2,3 +2,4 @@ pub mod InsertLaws
 pub mod UniqueLaws
 pub mod PartLaws
 pub mod LaneLaws
+pub mod KeyLaws

@@ -1,4 +1,5 @@
 pub mod Compare
+pub mod Cells
 pub mod Order
 pub mod Lanes
 pub mod Parts

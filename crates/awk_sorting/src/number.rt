@@ -20,12 +20,13 @@ impl Number for i64 {
     ghost compares = { int_cmp-first };
 }
 
-impl Number for i128 {
-    ghost use Rattle.awk_sorting.specs.Compare.{int_cmp-first};
+impl Number for u128 {
+    ghost use Rattle.std.specs.Prelude.{pos};
+    ghost use Rattle.awk_sorting.specs.Compare.{nat_cmp-first};
 
-    ghost number = { λ z. z };
+    ghost number = { λ n. pos n };
 
-    ghost compares = { int_cmp-first };
+    ghost compares = { nat_cmp-first };
 }
 
 impl Number for u64 {
