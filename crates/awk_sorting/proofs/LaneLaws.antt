@@ -122,7 +122,7 @@ read_permuted k zs ys p =
 
 -- ---- lanes
 
-part-map : {X : Type 0} (f : X → ℤ) (xs : List X) (a b : ℕ)
+pub part-map : {X : Type 0} (f : X → ℤ) (xs : List X) (a b : ℕ)
     → slice_range (map f xs) a b ≡ map f (slice_range xs a b)
 part-map f xs a b = ap (take (b - a)) (drop-map f a xs) ∙ take-map f (b - a) (drop a xs)
 

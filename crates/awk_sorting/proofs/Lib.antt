@@ -3,3 +3,4 @@ pub mod UniqueLaws
 pub mod PartLaws
 pub mod LaneLaws
 pub mod KeyLaws
+pub mod CellLaws

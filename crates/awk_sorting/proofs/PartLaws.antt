@@ -22,7 +22,7 @@ use Rattle.awk_sorting.specs.Parts.{SortsPart, SortsParts, numbers_at}
 use Rattle.awk_sorting.proofs.UniqueLaws.{AreInOrder, NoneBefore, in_order_by_neighbours}
 use Rattle.awk_sorting.proofs.UniqueLaws.{sorted_is, in_order_appended, AllPassed}
 
-less_or_last : (j i : ℕ) → j ≤ i → (j < i) ⊎ (j ≡ i)
+pub less_or_last : (j i : ℕ) → j ≤ i → (j < i) ⊎ (j ≡ i)
 less_or_last j i l = search (rules, eq-or-lt_of_le)
 
 -- ---- turned round
@@ -48,7 +48,7 @@ turned_in_order (x ∷ xs) h =
 -- ---- a slice
 
 module _ {X : Type 0} (number : X → ℤ) where
-  map-get : (xs : List X) (k : ℕ) (d : X) → get_or (map number xs) k (number d) ≡ number (get_or xs k d)
+  pub map-get : (xs : List X) (k : ℕ) (d : X) → get_or (map number xs) k (number d) ≡ number (get_or xs k d)
   map-get [] k d = refl
   map-get (x ∷ xs) zero d = refl
   map-get (x ∷ xs) (suc k) d = map-get xs k d
