@@ -59,7 +59,7 @@ keys_first r s p q l m = grind arith
 low_part : (r p : ℕ) → p < 4294967296 → (r * 4294967296 + p) % 4294967296 ≡ p
 low_part r p l = mod-mul-add r 4294967296 p l
 
-later_first : (a b : Bool) (p q : ℕ) → q < p → (a || (not b && nat_lt p q)) ≡ a
+pub later_first : (a b : Bool) (p q : ℕ) → q < p → (a || (not b && nat_lt p q)) ≡ a
 later_first true b p q l = refl
 later_first false true p q l = refl
 later_first false false p q l = grind arith

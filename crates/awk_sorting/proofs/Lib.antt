@@ -4,3 +4,4 @@ pub mod PartLaws
 pub mod LaneLaws
 pub mod KeyLaws
 pub mod CellLaws
+pub mod NullLaws
