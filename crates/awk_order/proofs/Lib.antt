@@ -1,2 +1,5 @@
 mod WorkedOrder
 mod WorkedSorts
+pub mod ValueLaws
+pub mod ListLaws
+pub mod NodeLaws

@@ -3,13 +3,13 @@ use Rattle.std.specs.Prelude.{ℕ, pos, Bool, List, length, map, sum, Some, None
 use Rattle.std.specs.Prelude.{if◌then◌else◌}
 use Rattle.awk_types.specs.DataType.{DataType, leaf}
 use Rattle.awk_types.specs.Datum.{Datum}
+use Rattle.awk_types.specs.Predicates.{is_leaf}
 use Rattle.awk_types.specs.Simple.{present}
 use Rattle.awk_types.specs.Value.{Value, int}
 use Rattle.awk_types.specs.declared.fault.Fault.{Fault}
 use Rattle.awk_types.specs.declared.primitive.Primitive.TheVariants.{I64}
 use Rattle.awk_axis.specs.Lifting.{deep}
 use Rattle.awk_axis.specs.ListFunction.{ListFunction, lists}
-use Rattle.awk_axis.specs.Reach.{is_leaf}
 use Rattle.awk_axis.specs.Spoils.{too_many}
 use Rattle.awk_axis.specs.declared.causes.Refusal.TheVariants as refused
 use Rattle.awk_order.specs.Order.{item_order, items_in_order}

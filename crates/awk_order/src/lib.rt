@@ -3,6 +3,12 @@
 //! `sort` and `argsort` are the public calls.
 #![tactic(auto)]
 
+mod cells;
+mod lists;
+mod nulls;
+mod places;
 mod sorting;
+mod types;
+mod values;
 
 pub use sorting::{argsort, sort};

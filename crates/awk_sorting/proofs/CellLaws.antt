@@ -1,8 +1,8 @@
 -- Keys of parts of cells, and the places that they tell when they are in order.
-use Rattle.std.proofs.Common.{◌≡◌, ℕ, zero, suc, ◌+◌, ◌-◌, ◌*◌, ◌%◌, ◌<◌, ◌≤◌, ◌^◌, refl, ap, ap₂}
+use Rattle.std.proofs.Common.{◌≡◌, ℕ, zero, suc, ◌+◌, ◌-◌, ◌*◌, ◌%◌, ◌<◌, ◌≤◌, refl, ap, ap₂}
 use Rattle.std.proofs.Common.{sym, ◌∙◌, subst, arith, List, [], ◌∷◌, ◌++◌, map, length, get_or}
 use Rattle.std.proofs.Common.{length-append, take, drop, append_assoc, take_all, ◌⊎◌, inl, inr}
-use Rattle.std.specs.Prelude.{ℤ, pos, negsuc, ◌≤ℤ◌, Bool, true, false, Option, Some, None}
+use Rattle.std.specs.Prelude.{ℤ, pos, Bool, true, false, Option, Some, None}
 use Rattle.std.specs.Prelude.{if◌then◌else◌, option_map}
 use Rattle.std.specs.List.{range_with_len, slice_range}
 use Rattle.std.proofs.lemmas.Int.{ints}
@@ -15,18 +15,17 @@ use Rattle.std.proofs.lemmas.Slice.{between_is}
 use Rattle.awk_lanes.specs.Column.{Column}
 use Rattle.awk_lanes.specs.Made.{lane_of}
 use Rattle.awk_lanes.specs.Numbers.{element, is_nonzero}
-use Rattle.awk_lanes.specs.Places.{size_of, at, place_at, option_place_at}
+use Rattle.awk_lanes.specs.Places.{at, place_at, option_place_at}
 use Rattle.awk_lanes.specs.Ranges.{IsNumber, AreNumbers}
 use Rattle.awk_lanes.specs.declared.kind.Kind.{Kind}
 use Rattle.awk_lanes.specs.declared.kind.Kind.TheVariants as kind
-use Rattle.awk_numbers.specs.Folds.{lane_numbers}
-use Rattle.awk_parts.specs.Parts.{AreRising, part_at}
-use Rattle.awk_sorting.specs.Cells.{cell_at, cells_from, cells_of_part, rank, key, keys_from}
+use Rattle.awk_numbers.proofs.PartLaws.{slice_range-map}
+use Rattle.awk_parts.specs.Parts.{part_at}
+use Rattle.awk_sorting.specs.Cells.{cell_at, cells_from, rank, key, keys_from}
 use Rattle.awk_sorting.specs.Cells.{AreKeys, AreReady, OrdersLane}
 use Rattle.awk_sorting.specs.Order.{order, sort_numbers}
-use Rattle.awk_sorting.specs.Parts.{SortsParts, numbers_at}
+use Rattle.awk_sorting.specs.Parts.{SortsParts}
 use Rattle.awk_sorting.proofs.KeyLaws.{IsNear, order_by_keys}
-use Rattle.awk_sorting.proofs.LaneLaws.{part-map}
 use Rattle.awk_sorting.proofs.PartLaws.{less_or_last, map-get}
 
 -- ---- one key after another
@@ -184,7 +183,7 @@ orders_lane up c j o n ks ys r h d k s e =
       parts = λ i l.
           ap (λ zs. part_at zs o i)
           (map-map (element kind.I64) at_place (range_with_len 0 (length ys)) ∙ all_at ys told)
-          ∙ part-map told ys (place_at o i) (place_at o (i + 1))
+          ∙ slice_range-map told ys (place_at o i) (place_at o (i + 1))
           ∙ places_of_part up c j (place_at o i) (place_at o (i + 1) - place_at o i)
           (slice_range ys (place_at o i) (place_at o (i + 1))) h
           (omega (arith, d.few, d.rising.within (i + 1) (omega (arith, l))))

@@ -1,7 +1,7 @@
 -- Keys stand in the order of cells, and tell their places.
-use Rattle.std.proofs.Common.{◌≡◌, ℕ, zero, suc, ◌+◌, ◌-◌, ◌*◌, ◌%◌, ◌<◌, ◌≤◌, ◌^◌, refl, ap, ap₂}
-use Rattle.std.proofs.Common.{sym, ◌∙◌, subst, arith, List, [], ◌∷◌, map, length, get_or}
-use Rattle.std.specs.Prelude.{ℤ, pos, negsuc, ◌+ℤ◌, ◌-ℤ◌, ◌≤ℤ◌, ◌<ℤ◌, int_lt, nat_lt, Bool, true, false}
+use Rattle.std.proofs.Common.{◌≡◌, ℕ, ◌+◌, ◌*◌, ◌%◌, ◌<◌, refl, ap, ap₂}
+use Rattle.std.proofs.Common.{sym, ◌∙◌, arith, List, [], ◌∷◌, map, length, get_or}
+use Rattle.std.specs.Prelude.{ℤ, pos, negsuc, ◌+ℤ◌, ◌-ℤ◌, ◌≤ℤ◌, nat_lt, Bool, true, false}
 use Rattle.std.specs.Prelude.{not, ◌&&◌, ◌||◌, Option, Some, None}
 use Rattle.std.specs.List.{range_with_len}
 use Rattle.std.proofs.lemmas.Int.{ints}
@@ -9,7 +9,7 @@ use Rattle.std.proofs.lemmas.Nat.{mod-mul-add}
 use Rattle.std.proofs.lemmas.Simd.{map-map}
 use Rattle.awk_lanes.specs.Numbers.{nat_of}
 use Rattle.awk_sorting.specs.Cells.{rank, key}
-use Rattle.awk_sorting.specs.Order.{number_first, comes_first, stands_first, order, sort_by}
+use Rattle.awk_sorting.specs.Order.{number_first, comes_first, stands_first, order}
 use Rattle.awk_sorting.specs.Order.{sort_numbers}
 use Rattle.awk_sorting.proofs.InsertLaws.{AllBelow, places_below, map-sort}
 

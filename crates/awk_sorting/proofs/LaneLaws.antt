@@ -1,26 +1,26 @@
 -- Lanes of numbers in order.
-use Rattle.std.proofs.Common.{◌≡◌, ℕ, zero, suc, ◌+◌, ◌-◌, ◌<◌, ◌≤◌, refl, ap, ap₂, sym, ◌∙◌, subst}
-use Rattle.std.proofs.Common.{List, [], ◌∷◌, map, length, get_or, arith, take, drop}
+use Rattle.std.proofs.Common.{◌≡◌, ℕ, zero, suc, ◌+◌, refl, ap, ap₂, sym, ◌∙◌, subst}
+use Rattle.std.proofs.Common.{List, [], ◌∷◌, map, get_or, arith}
 use Rattle.std.specs.Prelude.{ℤ, pos, Bool, true, false, Result, Ok, Err, IfOk, if◌then◌else◌}
-use Rattle.std.specs.List.{All, slice_range}
+use Rattle.std.specs.List.{All}
 use Rattle.std.specs.List.Sorted.{IsPermutation}
 use Rattle.std.proofs.lemmas.Int.{ints}
-use Rattle.std.proofs.lemmas.List.{length-map, take-map, drop-map, get_or_past}
-use Rattle.std.proofs.lemmas.List.Elements.{All-from_get_or, All-get_or}
+use Rattle.std.proofs.lemmas.List.{length-map}
+use Rattle.std.proofs.lemmas.List.Elements.{All-from_get_or}
 use Rattle.std.proofs.lemmas.List.Sorted.{All-permutation, IsPermutation-map, length_permutation}
-use Rattle.std.proofs.lemmas.Simd.{map-map}
 use Rattle.awk_lanes.specs.Column.{Column}
 use Rattle.awk_lanes.specs.Numbers.{element, is_nonzero}
-use Rattle.awk_lanes.specs.Places.{size_of, place_at}
+use Rattle.awk_lanes.specs.Places.{place_at}
 use Rattle.awk_lanes.specs.Ranges.{IsNumber, AreNumbers}
 use Rattle.awk_lanes.specs.Words.{column, integers}
 use Rattle.awk_lanes.specs.declared.kind.Kind.{Kind}
 use Rattle.awk_lanes.specs.declared.kind.Kind.TheVariants as kind
 use Rattle.awk_numbers.specs.Folds.{lane_numbers}
+use Rattle.awk_numbers.proofs.PartLaws.{slice_range-map}
 use Rattle.awk_parts.specs.Parts.{part_at}
 use Rattle.awk_sorting.specs.Lanes.{SortsLane}
 use Rattle.awk_sorting.specs.Order.{sort_numbers}
-use Rattle.awk_sorting.specs.Parts.{SortsParts, numbers_at}
+use Rattle.awk_sorting.specs.Parts.{SortsParts}
 
 -- ---- numbers of a kind
 
@@ -122,10 +122,6 @@ read_permuted k zs ys p =
 
 -- ---- lanes
 
-pub part-map : {X : Type 0} (f : X → ℤ) (xs : List X) (a b : ℕ)
-    → slice_range (map f xs) a b ≡ map f (slice_range xs a b)
-part-map f xs a b = ap (take (b - a)) (drop-map f a xs) ∙ take-map f (b - a) (drop a xs)
-
 module _ {X : Type 0} (number : X → ℤ) (up : Bool) (o : Column) (n : ℕ) (c : Column) (xs ys : List X)
     (e : map number xs ≡ lane_numbers c) (h : SortsParts number up o n xs ys) where
   same : IsPermutation (lane_numbers c) (map number ys)
@@ -142,8 +138,8 @@ module _ {X : Type 0} (number : X → ℤ) (up : Bool) (o : Column) (n : ℕ) (c
     size = length_permutation (lane_numbers c) (map number ys) same ∙ length-map c.items (element c.kind);
     parts = λ i l.
         ap (λ zs. part_at zs o i) (read_permuted c.kind c.items (map number ys) same)
-        ∙ part-map number ys (place_at o i) (place_at o (i + 1)) ∙ h.parts i l
-        ∙ ap (sort_numbers up) (sym (part-map number xs (place_at o i) (place_at o (i + 1)))
+        ∙ slice_range-map number ys (place_at o i) (place_at o (i + 1)) ∙ h.parts i l
+        ∙ ap (sort_numbers up) (sym (slice_range-map number xs (place_at o i) (place_at o (i + 1)))
         ∙ ap (λ zs. part_at zs o i) e);
   }
 

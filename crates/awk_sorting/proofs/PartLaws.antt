@@ -7,7 +7,6 @@ use Rattle.std.specs.Prelude.{ℤ, int_lt, Bool, true, false}
 use Rattle.std.specs.List.{slice_range}
 use Rattle.std.specs.List.Sorted.{IsPermutation, IsSorted}
 use Rattle.std.specs.Ordering.{is_lt}
-use Rattle.std.proofs.lemmas.Int.{ints}
 use Rattle.std.proofs.lemmas.List.Sorted.{IsPermutation-trans, IsPermutation-map}
 use Rattle.std.proofs.lemmas.List.Sorted.{IsPermutation-reverse, IsPermutation-put_mid}
 use Rattle.std.proofs.lemmas.List.Sorted.{length_permutation, IsPermutation-refl}
@@ -163,8 +162,12 @@ parts_apart o n m j zero r l =
     omega (arith, ap (place_at o) e)
 parts_apart o n m j (suc d) r l =
     let e : j + suc d + 1 ≡ j + suc (suc d) = omega arith in
-    omega (arith, parts_apart o n m j d r (omega (arith, l)),
-    r.ordered (j + suc d) (omega (arith, l)), ap (place_at o) e)
+    omega (
+      arith,
+      parts_apart o n m j d r (omega (arith, l)),
+      r.ordered (j + suc d) (omega (arith, l)),
+      ap (place_at o) e,
+    )
 
 pub part_before : (o : Column) (n m i : ℕ) → AreRising o n m → i ≤ n → (j : ℕ) → j < i
     → place_at o (j + 1) ≤ place_at o i

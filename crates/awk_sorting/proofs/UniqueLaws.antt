@@ -1,16 +1,16 @@
 -- Numbers in order: a list in order is the only one of its numbers.
-use Rattle.std.proofs.Common.{◌≡◌, ℕ, zero, suc, ◌+◌, ◌<◌, ◌≤◌, refl, ap, ap₂, sym, ◌∙◌, subst, arith}
-use Rattle.std.proofs.Common.{List, [], ◌∷◌, ◌++◌, map, length, get_or, reverse, sum_by}
-use Rattle.std.specs.Prelude.{ℤ, int_lt, Bool, true, false, cond, if◌then◌else◌}
+use Rattle.std.proofs.Common.{◌≡◌, ℕ, suc, ◌+◌, ◌<◌, refl, ap, ap₂, sym, ◌∙◌, subst, arith}
+use Rattle.std.proofs.Common.{List, [], ◌∷◌, ◌++◌, length, get_or, sum_by}
+use Rattle.std.specs.Prelude.{ℤ, Bool, true, false, cond, if◌then◌else◌}
 use Rattle.std.specs.List.{fold}
 use Rattle.std.specs.List.Sorted.{IsPermutation}
 use Rattle.std.specs.Ordering.{int_eq}
 use Rattle.std.proofs.lemmas.Bool.Decides.{Decides-int_eq}
 use Rattle.std.proofs.lemmas.Int.{ints}
 use Rattle.std.proofs.lemmas.List.Sorted.{IsPermutation-sym, IsPermutation-trans}
-use Rattle.std.proofs.lemmas.List.Sorted.{IsPermutation-reverse, sum_by-IsPermutation}
+use Rattle.std.proofs.lemmas.List.Sorted.{sum_by-IsPermutation}
 use Rattle.std.proofs.lemmas.List.Sums.{sum_by-cons}
-use Rattle.awk_sorting.specs.Order.{insert_by, sort_by, number_first, sort_numbers}
+use Rattle.awk_sorting.specs.Order.{insert_by, number_first, sort_numbers}
 use Rattle.awk_sorting.proofs.InsertLaws.{sort_permutes}
 
 -- ---- which number comes first
@@ -155,10 +155,10 @@ in_order_same up (x ∷ xs) (y ∷ ys) h k s =
     let e : x ≡ y = first_same up x y a b in
     let rest : SameTimes xs ys =
     λ z.
-        let p = times-cons z x xs in
-        let q = times-cons z y ys in
-        let r = ap (hit z) e in
-        omega (arith, s z, p, q, r) in
+    let p = times-cons z x xs in
+    let q = times-cons z y ys in
+    let r = ap (hit z) e in
+    omega (arith, s z, p, q, r) in
     ap₂ (λ v vs. v ∷ vs) e (in_order_same up xs ys h.1 k.1 rest)
 
 permuted_times : (xs ys : List ℤ) → IsPermutation xs ys → SameTimes xs ys

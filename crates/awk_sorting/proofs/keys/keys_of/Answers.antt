@@ -1,4 +1,4 @@
-use Rattle.std.proofs.Common.{◌≡◌, ◌∙◌, sym, ap, ◌+◌, ◌-◌, arith, option_map}
+use Rattle.std.proofs.Common.{arith, option_map}
 use Rattle.awk_lanes.specs.Places.{place_at}
 use Rattle.awk_sorting.proofs.CellLaws.{keys_more}
 use Rattle.awk_sorting.proofs.PartLaws.{part_before}

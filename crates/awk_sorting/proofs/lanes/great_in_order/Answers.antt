@@ -1,7 +1,5 @@
-use Rattle.std.proofs.Common.{◌≡◌, ◌∙◌, sym, ap, subst, pos, List, ℕ, map}
-use Rattle.awk_lanes.specs.Ranges.{AreNumbers}
+use Rattle.std.proofs.Common.{pos, ℕ}
 use Rattle.awk_lanes.specs.Words.{integers, column}
-use Rattle.awk_numbers.specs.Folds.{lane_numbers}
 use Rattle.awk_sorting.specs.Lanes.{SortsLane}
 use Rattle.awk_sorting.proofs.LaneLaws.{sorted_fit, sorts_lane, nats_as_read, IfOk-same}
 use Rattle.awk_sorting.proofs.lanes.great_in_order.Goals as goal

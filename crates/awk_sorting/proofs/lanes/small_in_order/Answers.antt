@@ -1,4 +1,4 @@
-use Rattle.std.proofs.Common.{◌≡◌, ◌∙◌, sym, ap, subst, List, ℤ, map, map-id}
+use Rattle.std.proofs.Common.{◌∙◌, ℤ}
 use Rattle.awk_lanes.specs.Words.{column}
 use Rattle.awk_sorting.specs.Lanes.{SortsLane}
 use Rattle.awk_sorting.proofs.LaneLaws.{sorted_fit, sorts_lane, same_numbers, IfOk-same}

@@ -1,4 +1,4 @@
-use Rattle.std.proofs.Common.{◌≡◌, ◌∙◌, sym}
+use Rattle.std.proofs.Common.{◌≡◌, ◌∙◌}
 use Rattle.awk_numbers.specs.Folds.{lane_numbers}
 use Rattle.awk_sorting.proofs.LaneLaws.{plain_numbers, IfOk-more}
 use Rattle.awk_sorting.proofs.lanes.small_numbers.Goals as goal

@@ -1,4 +1,4 @@
-use Rattle.std.proofs.Common.{◌≡◌, ◌∙◌, sym, ap, subst, length, take, drop, List}
+use Rattle.std.proofs.Common.{◌∙◌, sym, ap, subst, length}
 use Rattle.std.proofs.lemmas.List.Sorted.{length_permutation}
 use Rattle.awk_sorting.specs.Parts.{SortsParts}
 use Rattle.awk_sorting.proofs.PartLaws.{written_back}

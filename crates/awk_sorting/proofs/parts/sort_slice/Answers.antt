@@ -1,7 +1,4 @@
-use Rattle.std.proofs.Common.{rules, ◌≡◌, map, subst, sym, ap, ◌∙◌}
-use Rattle.std.specs.Prelude.{Bool, true, false}
 use Rattle.std.proofs.lemmas.List.Sorted.{IsPermutation-trans}
-use Rattle.awk_sorting.specs.Order.{sort_numbers}
 use Rattle.awk_sorting.proofs.PartLaws.{sorted_up, sorted_down}
 use Rattle.awk_sorting.proofs.parts.sort_slice.Goals as goal
 

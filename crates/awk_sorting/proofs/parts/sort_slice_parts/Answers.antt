@@ -1,4 +1,4 @@
-use Rattle.std.proofs.Common.{◌≡◌, ◌≤◌, ◌<◌, ◌+◌, arith, subst, length}
+use Rattle.std.proofs.Common.{◌+◌, arith, length}
 use Rattle.awk_lanes.specs.Places.{place_at}
 use Rattle.awk_sorting.specs.Parts.{SortsPart}
 use Rattle.awk_sorting.proofs.PartLaws.{sorts_more, part_before}

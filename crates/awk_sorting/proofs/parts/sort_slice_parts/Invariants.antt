@@ -1,4 +1,3 @@
-use Rattle.std.proofs.Common.{◌≡◌, ◌≤◌, length, map, ℕ, ◌+◌, ◌-◌, ◌*◌, ◌<◌}
 use Rattle.awk_sorting.specs.Parts.{SortsParts}
 use Rattle.awk_sorting.proofs.parts.sort_slice_parts.Given as goal
 
