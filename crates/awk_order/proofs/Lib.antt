@@ -3,3 +3,4 @@ mod WorkedSorts
 pub mod ValueLaws
 pub mod ListLaws
 pub mod NodeLaws
+pub mod NullLaws

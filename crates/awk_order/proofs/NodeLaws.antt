@@ -24,7 +24,7 @@ use Rattle.awk_layout.specs.Item.{leaf_value, run}
 use Rattle.awk_layout.specs.Kinds.{kind_of, primitive_of, kind_of-primitive_of}
 use Rattle.awk_layout.specs.Layout.{Layout, flat}
 use Rattle.awk_layout.specs.Typing.{array_type, array_items}
-use Rattle.awk_layout.specs.Valid.{len}
+use Rattle.awk_layout.specs.Valid.{len, IsValid}
 use Rattle.awk_layout.proofs.Runs.{value_list-run}
 use Rattle.awk_gather.specs.Arrays.{array_item}
 use Rattle.awk_columns.proofs.ArrayLaws.{array_items-at, map-same}
@@ -66,7 +66,7 @@ part_by_place c o i p q =
     ap (λ zs. part_at zs o i) (numbers_at_places c)
     ∙ part-range (at c) (size_of c) (place_at o i) (place_at o (i + 1)) p q
 
-shifted : {X : Type 0} (f : ℕ → X) (a n : ℕ)
+pub shifted : {X : Type 0} (f : ℕ → X) (a n : ℕ)
     → map f (range_with_len a n) ≡ map (λ k. f (a + k)) (range_with_len 0 n)
 shifted f a n = go f a 0 n a (omega arith)
   where
@@ -104,7 +104,7 @@ module _ (z : Layout) (o : Column) (n : ℕ) (a : AreItems z o n) where
   within : (i : ℕ) → i < n → place_at o (i + 1) ≤ len z
   within i l = a.rising.within (i + 1) (omega (arith, l))
 
-  list_by_place : (i : ℕ) → i < n
+  pub list_by_place : (i : ℕ) → i < n
       → list_at (array_items z) o i ≡ map (array_item z) (range_with_len (start i) (count i))
   list_by_place i l =
       ap (λ vs. list_at vs o i) (array_items-at z)
@@ -213,3 +213,32 @@ module _ (z : Layout) (o : Column) (n : ℕ) (a : AreItems z o n) where
 
         no_nulls : (i : ℕ) → i < n → nones (map option_number (list_at (array_items z) o i)) ≡ 0
         no_nulls i l = ap nones (cells i l) ∙ nones_none (part_at (lane_numbers c) o i)
+
+    -- ---- items that are all null
+
+    map_none : (k : Kind) (m : ℕ) → map (value_of k) (replicate m None) ≡ replicate m null
+    map_none k zero = refl
+    map_none k (suc m) = ap (λ vs. null ∷ vs) (map_none k m)
+
+    stays : (up : Bool) → is_unknown (present (array_type z)) ≡ true → (i : ℕ)
+        → list_at (array_items z) o i ≡ items_in_order up (list_at (array_items z) o i)
+    stays up unknown_type i =
+        let vs : List Value = list_at (array_items z) o i in
+        let none = no_numbers (array_type z) vs unknown_type (list_has i) in
+        all_numbers (array_type z) vs a.leaves (list_has i)
+        ∙ ap (map (value_of leaf_kind)) none ∙ map_none leaf_kind (length vs)
+        ∙ sym (list_in_order up i
+        ∙ ap (λ os. map (leaf_value leaf_kind) (sort_numbers up (somes os))
+        ++ replicate (nones os) null) none
+        ∙ ap₂ (λ zs m. map (leaf_value leaf_kind) (sort_numbers up zs) ++ replicate m null)
+        (somes_none (length vs)) (nones_all (length vs)))
+
+    pub unknown_made : (up : Bool) → IsValid z → is_unknown (present (array_type z)) ≡ true
+        → AreMade (array_type z) (items_in_order up) z o n z
+    unknown_made up v u = record {
+      valid = v;
+      size = refl;
+      typ = refl;
+      lists = λ i l.
+          value_list-run (array_item z) (start i) (count i) ∙ sym (list_by_place i l) ∙ stays up u i;
+    }

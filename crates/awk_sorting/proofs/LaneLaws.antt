@@ -1,7 +1,7 @@
 -- Lanes of numbers in order.
 use Rattle.std.proofs.Common.{◌≡◌, ℕ, zero, suc, ◌+◌, refl, ap, ap₂, sym, ◌∙◌, subst}
 use Rattle.std.proofs.Common.{List, [], ◌∷◌, map, get_or, arith}
-use Rattle.std.specs.Prelude.{ℤ, pos, Bool, true, false, Result, Ok, Err, IfOk, if◌then◌else◌}
+use Rattle.std.specs.Prelude.{ℤ, pos, Bool, true, false, if◌then◌else◌}
 use Rattle.std.specs.List.{All}
 use Rattle.std.specs.List.Sorted.{IsPermutation}
 use Rattle.std.proofs.lemmas.Int.{ints}
@@ -154,11 +154,6 @@ pub same_numbers : (zs : List ℤ) → map (λ (z : ℤ). z) zs ≡ zs
 same_numbers [] = refl
 same_numbers (z ∷ zs) = ap (λ ys. z ∷ ys) (same_numbers zs)
 
-pub IfOk-same : {T E : Type 0} (r : Result T E) (a : T) (P : T → Type 0)
-    → IfOk r (λ x. x ≡ a) → P a → IfOk r P
-IfOk-same (Ok x) a P e p = subst P (sym e) p
-IfOk-same (Err x) a P e p = tt
-
 read_as_is : (k : Kind) (z : ℤ) → (k ≡ kind.Bool → ⊥) → element k z ≡ z
 read_as_is kind.Bool z h = absurd (h refl)
 read_as_is kind.I8 z h = refl
@@ -173,8 +168,3 @@ read_as_is kind.U64 z h = refl
 -- numbers that are no truth values are read as they are
 pub plain_numbers : (c : Column) → (c.kind ≡ kind.Bool → ⊥) → c.items ≡ lane_numbers c
 plain_numbers c h = sym (as_they_are c.kind c.items (λ j d l. read_as_is c.kind _ h))
-
-pub IfOk-more : {T E : Type 0} (P Q : T → Type 0) (r : Result T E) → ((x : T) → P x → Q x)
-    → IfOk r P → IfOk r Q
-IfOk-more P Q (Ok x) f h = f x h
-IfOk-more P Q (Err e) f h = tt
