@@ -4,3 +4,4 @@ pub mod ValueLaws
 pub mod ListLaws
 pub mod NodeLaws
 pub mod NullLaws
+pub mod CellLaws

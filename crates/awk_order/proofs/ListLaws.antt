@@ -1,7 +1,8 @@
 -- What is made of lists, by their items one after another.
-use Rattle.std.specs.Prelude.{◌≡◌, ℕ, zero, suc, ◌+◌, ◌-◌, ◌*◌, ◌<◌, ◌≤◌, ◌^◌, refl, true, false, Bool}
+use Rattle.std.specs.Prelude.{◌≡◌, ℕ, zero, suc, ◌+◌, ◌-◌, ◌*◌, ◌<◌, ◌≤◌, ◌^◌, refl}
+use Rattle.std.specs.Prelude.{true, false, Bool}
 use Rattle.std.specs.Prelude.{nat_lt, List, [], ◌∷◌, length, map, sum, pos}
-use Rattle.std.specs.Prelude.{Option, Some, None, if◌then◌else◌, take, drop}
+use Rattle.std.specs.Prelude.{Some, None, if◌then◌else◌, take, drop}
 use Rattle.std.specs.List.{range_with_len, slice_range}
 use Rattle.std.proofs.Common.{arith, ap, ap₂, sym, ◌∙◌, subst}
 use Rattle.std.proofs.lemmas.Int.{ints}
@@ -35,7 +36,6 @@ use Rattle.awk_columns.proofs.ArrayLaws.{array_items-at}
 use Rattle.awk_axis.specs.Mapped.{IsMade}
 use Rattle.awk_axis.specs.Spoils.{too_many}
 use Rattle.awk_axis.specs.declared.causes.Refusal.TheVariants as refused
-use Rattle.awk_axis.specs.declared.causes.Spoil.{Spoil}
 use Rattle.awk_axis.specs.declared.causes.Spoil.TheVariants.{Index, Size}
 use Rattle.awk_axis.specs.declared.function.Made.TheVariants as made
 use Rattle.awk_parts.specs.Parts.{AreRising}

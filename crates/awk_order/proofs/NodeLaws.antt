@@ -1,18 +1,16 @@
 -- Lanes in order as nodes.
-use Rattle.std.specs.Prelude.{◌≡◌, ℕ, zero, suc, ◌+◌, ◌-◌, ◌<◌, ◌≤◌, ◌^◌, refl, true, false, Bool}
+use Rattle.std.specs.Prelude.{◌≡◌, ℕ, zero, suc, ◌+◌, ◌-◌, ◌<◌, ◌≤◌, ◌^◌, refl, true, Bool}
 use Rattle.std.specs.Prelude.{List, [], ◌∷◌, ◌++◌, length, map, get_or, replicate, ℤ, pos}
 use Rattle.std.specs.Prelude.{Option, Some, None}
-use Rattle.std.specs.List.{range_with_len, slice_range, AllByRecursion}
-use Rattle.std.proofs.Common.{arith, ap, ap₂, sym, ◌∙◌, subst, append-nil, true≢false}
+use Rattle.std.specs.List.{range_with_len, AllByRecursion}
+use Rattle.std.proofs.Common.{arith, ap, ap₂, sym, ◌∙◌, subst, append-nil}
 use Rattle.std.proofs.lemmas.List.{length-map}
-use Rattle.std.proofs.lemmas.List.FromFn.{fill_by_all, length-map-range_with_len}
-use Rattle.std.proofs.lemmas.List.FromFn.{get_or-map-range_with_len}
+use Rattle.std.proofs.lemmas.List.FromFn.{fill_by_all}
 use Rattle.std.proofs.lemmas.Simd.{map-map}
-use Rattle.awk_types.specs.DataType.{DataType, unknown, leaf, opt}
+use Rattle.awk_types.specs.DataType.{unknown, leaf}
 use Rattle.awk_types.specs.Has.{Has}
-use Rattle.awk_types.specs.ItemLimit.{item_limit}
-use Rattle.awk_types.specs.Predicates.{is_leaf, is_unknown}
-use Rattle.awk_types.specs.Simple.{present, is_option}
+use Rattle.awk_types.specs.Predicates.{is_unknown}
+use Rattle.awk_types.specs.Simple.{present}
 use Rattle.awk_types.specs.Value.{Value, int, null, value_list}
 use Rattle.awk_types.specs.declared.primitive.Primitive.TheVariants as primitive
 use Rattle.awk_lanes.specs.Column.{Column}
@@ -29,20 +27,19 @@ use Rattle.awk_layout.proofs.Runs.{value_list-run}
 use Rattle.awk_gather.specs.Arrays.{array_item}
 use Rattle.awk_columns.proofs.ArrayLaws.{array_items-at, map-same}
 use Rattle.awk_numbers.specs.Folds.{lane_numbers}
-use Rattle.awk_numbers.proofs.PartLaws.{slice_range-map}
 use Rattle.awk_parts.specs.Parts.{AreRising, part_at}
-use Rattle.awk_present.specs.Numbers.{leaf_of, numbers}
+use Rattle.awk_present.specs.Numbers.{leaf_of}
 use Rattle.awk_present.specs.Present.{list_at}
-use Rattle.awk_sorting.specs.Cells.{cell_at, cells_from, cells_of_part, OrdersLane}
+use Rattle.awk_sorting.specs.Cells.{cell_at, cells_of_part, AreCells, AreReady, OrdersLane}
 use Rattle.awk_sorting.specs.Lanes.{SortsLane}
 use Rattle.awk_sorting.specs.Nulls.{somes, nones}
 use Rattle.awk_sorting.specs.Order.{order, sort_numbers}
 use Rattle.awk_order.specs.Cells.{AreItemCells, AreNumbers}
 use Rattle.awk_order.specs.Lists.{AreItems, AreMade}
-use Rattle.awk_order.specs.Order.{option_number, item_order, items_in_order}
+use Rattle.awk_order.specs.Order.{option_number, items_in_order}
 use Rattle.awk_order.specs.Sort.{place_items}
 use Rattle.awk_order.proofs.ListLaws.{part-range}
-use Rattle.awk_order.proofs.ValueLaws.{value_of, all_numbers, no_numbers, somes_numbers, slice_has}
+use Rattle.awk_order.proofs.ValueLaws.{value_of, all_numbers, no_numbers, slice_has}
 use Rattle.awk_order.proofs.ValueLaws.{in_order_values}
 
 -- ---- parts of a lane
@@ -130,10 +127,19 @@ module _ (z : Layout) (o : Column) (n : ℕ) (a : AreItems z o n) where
       ∙ ap (map (leaf_value r.kind))
       (sym (part_by_place r o i (a.rising.ordered i l) (omega (arith, e, within i l))))
 
-  fits_flat : (m : ℕ) → m ≡ len z → m < 2 ^ 63
+  pub fits_flat : (m : ℕ) → m ≡ len z → m < 2 ^ 63
   fits_flat m e = omega (arith, e, a.few)
 
   -- ---- places
+
+  pub cells_ready : (c : Column) (j : Option Column) → AreItemCells z c j → AreReady c j o n
+  cells_ready c j h = record {
+    cells = subst (AreCells c j) (sym a.last) h.cells;
+    rising = subst (AreRising o n) (sym a.last) a.rising;
+    first = a.first;
+    few = omega (arith, a.last, a.few);
+    fits = a.fits;
+  }
 
   pub places_made : (up : Bool) (c : Column) (j : Option Column) (r : Column) → AreItemCells z c j
       → OrdersLane up c j o n r → AreMade (leaf primitive.I64) (place_items up) z o n (flat r)
@@ -240,5 +246,6 @@ module _ (z : Layout) (o : Column) (n : ℕ) (a : AreItems z o n) where
       size = refl;
       typ = refl;
       lists = λ i l.
-          value_list-run (array_item z) (start i) (count i) ∙ sym (list_by_place i l) ∙ stays up u i;
+          value_list-run (array_item z) (start i) (count i) ∙ sym (list_by_place i l)
+          ∙ stays up u i;
     }

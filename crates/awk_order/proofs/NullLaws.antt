@@ -1,9 +1,9 @@
 -- Lists whose nulls come last, as a node.
-use Rattle.std.specs.Prelude.{◌≡◌, ℕ, zero, suc, ◌+◌, ◌-◌, ◌<◌, ◌≤◌, ◌^◌, refl, true, false, Bool}
+use Rattle.std.specs.Prelude.{◌≡◌, ℕ, zero, suc, ◌+◌, ◌<◌, ◌≤◌, refl, true, false, Bool}
 use Rattle.std.specs.Prelude.{List, [], ◌∷◌, ◌++◌, length, map, get_or, replicate, ℤ, pos, negsuc}
-use Rattle.std.specs.Prelude.{◌<ℤ◌, nat_lt, if◌then◌else◌, Option, Some, None}
+use Rattle.std.specs.Prelude.{◌<ℤ◌, nat_lt, if◌then◌else◌, Option}
 use Rattle.std.specs.List.{range_with_len, AllByRecursion}
-use Rattle.std.proofs.Common.{arith, ap, ap₂, sym, ◌∙◌, subst, true≢false, length-append}
+use Rattle.std.proofs.Common.{arith, ap, ap₂, sym, ◌∙◌, true≢false, length-append}
 use Rattle.std.proofs.lemmas.Int.{ints}
 use Rattle.std.proofs.lemmas.List.{length-map}
 use Rattle.std.proofs.lemmas.List.FromFn.{fill_by_all, length-map-range_with_len}
@@ -14,14 +14,12 @@ use Rattle.awk_types.specs.Has.{Has}
 use Rattle.awk_types.specs.ItemLimit.{item_limit}
 use Rattle.awk_types.specs.Predicates.{is_leaf, is_unknown}
 use Rattle.awk_types.specs.Simple.{present, is_option}
-use Rattle.awk_types.specs.Value.{Value, null, value_list}
+use Rattle.awk_types.specs.Value.{Value, null}
 use Rattle.awk_lanes.specs.Column.{Column}
 use Rattle.awk_lanes.specs.Counted.{before, numbers_of_lists}
 use Rattle.awk_lanes.specs.Places.{size_of, at, place_at, option_place, IsOptionalIndex}
-use Rattle.awk_lanes.specs.declared.kind.Kind.{Kind}
-use Rattle.awk_lanes.specs.declared.kind.Kind.TheVariants as kind
 use Rattle.awk_lanes.proofs.CountedLanes.{length-numbers, numbers-at}
-use Rattle.awk_layout.specs.Item.{leaf_value, at_option, run}
+use Rattle.awk_layout.specs.Item.{leaf_value, at_option}
 use Rattle.awk_layout.specs.Kinds.{kind_of, primitive_of, primitive_of-kind_of}
 use Rattle.awk_layout.specs.Layout.{Layout, flat, optional}
 use Rattle.awk_layout.specs.Typing.{array_type, array_items}
@@ -32,7 +30,7 @@ use Rattle.awk_gather.specs.Arrays.{array_item}
 use Rattle.awk_columns.proofs.ArrayLaws.{map-same}
 use Rattle.awk_numbers.specs.Folds.{lane_numbers}
 use Rattle.awk_parts.specs.Parts.{AreRising, part_at}
-use Rattle.awk_present.specs.Numbers.{leaf_of, numbers}
+use Rattle.awk_present.specs.Numbers.{leaf_of}
 use Rattle.awk_present.specs.Present.{list_at, ArePresent}
 use Rattle.awk_present.specs.declared.present.Present.{Present}
 use Rattle.awk_sorting.specs.Lanes.{SortsLane}
@@ -179,7 +177,8 @@ module _ (z : Layout) (o : Column) (n : ℕ) (a : AreItems z o n)
 
   pub index-size : size_of index ≡ len z
   index-size =
-      length-numbers (length_at o) (place_or_null p.offsets) n ∙ sym (starts n (omega arith)) ∙ a.last
+      length-numbers (length_at o) (place_or_null p.offsets) n ∙ sym (starts n (omega arith))
+      ∙ a.last
 
   part_end : (i : ℕ) → i < n → place_at p.offsets (i + 1) ≤ size_of r
   part_end i l = omega (arith, h.rising.within (i + 1) (omega (arith, l)), d.size)
@@ -248,13 +247,17 @@ module _ (z : Layout) (o : Column) (n : ℕ) (a : AreItems z o n)
   whole-length : (i : ℕ) → i < n → length (whole i) ≡ length_at o i
   whole-length i l =
       length-append (sorted i) (replicate (nones (cells i)) null)
-      ∙ omega (arith, replicate-length (nones (cells i)), somes_nones (cells i),
-      length-map (list_at (array_items z) o i) option_number,
-      ap length (list_by_place z o n a i l),
-      length-map-range_with_len (array_item z) (place_at o i) (length_at o i),
-      length-map (part_at (lane_numbers r) p.offsets i) (leaf_value r.kind),
-      ap length (same_numbers i l),
-      length-sort (number_first up) (somes (cells i)))
+      ∙ omega (
+        arith,
+        replicate-length (nones (cells i)),
+        somes_nones (cells i),
+        length-map (list_at (array_items z) o i) option_number,
+        ap length (list_by_place z o n a i l),
+        length-map-range_with_len (array_item z) (place_at o i) (length_at o i),
+        length-map (part_at (lane_numbers r) p.offsets i) (leaf_value r.kind),
+        ap length (same_numbers i l),
+        length-sort (number_first up) (somes (cells i)),
+      )
 
   item_is : (i k : ℕ) → i < n → k < length_at o i
       → array_item y (place_at o i + k) ≡ get_or (whole i) k null

@@ -1,8 +1,8 @@
 -- Items of leaves by their numbers.
-use Rattle.std.proofs.Common.{◌≡◌, ℕ, zero, suc, ◌+◌, ◌-◌, ◌<◌, ◌≤◌, refl, ap, ap₂, sym, ◌∙◌, arith}
+use Rattle.std.proofs.Common.{◌≡◌, ℕ, zero, suc, ◌-◌, refl, ap, ap₂, sym, ◌∙◌, arith}
 use Rattle.std.proofs.Common.{List, [], ◌∷◌, ◌++◌, map, length, get_or, replicate, true≢false, take}
 use Rattle.std.proofs.Common.{drop}
-use Rattle.std.specs.Prelude.{ℤ, pos, negsuc, ◌≤ℤ◌, Bool, true, false, Option, Some, None}
+use Rattle.std.specs.Prelude.{ℤ, pos, Bool, true, false, Option, Some, None}
 use Rattle.std.specs.Prelude.{if◌then◌else◌}
 use Rattle.std.specs.List.{AllByRecursion, slice_range}
 use Rattle.std.proofs.lemmas.Int.{ints}
@@ -20,8 +20,8 @@ use Rattle.awk_layout.specs.Kinds.{kind_of}
 use Rattle.awk_present.specs.Numbers.{leaf_of, numbers}
 use Rattle.awk_sorting.specs.Nulls.{somes, nones}
 use Rattle.awk_sorting.specs.Order.{order, sort_numbers}
-use Rattle.awk_sorting.proofs.NullLaws.{cells_in_order, somes_nones}
-use Rattle.awk_order.specs.Order.{option_number, item_order, items_in_order}
+use Rattle.awk_sorting.proofs.NullLaws.{cells_in_order}
+use Rattle.awk_order.specs.Order.{option_number, items_in_order}
 
 -- the value that a cell of a kind is
 abbrev pub value_of : Kind → Option ℤ → Value
@@ -54,7 +54,8 @@ leaf_truth primitive.U16 b h = absurd h
 leaf_truth primitive.U32 b h = absurd h
 leaf_truth primitive.U64 b h = absurd h
 
-leaf_item : (p : Primitive) (v : Value) → Has (leaf p) v → v ≡ value_of (kind_of p) (option_number v)
+leaf_item : (p : Primitive) (v : Value) → Has (leaf p) v
+    → v ≡ value_of (kind_of p) (option_number v)
 leaf_item p (int z) h = leaf_int p z h
 leaf_item p (truth b) h = leaf_truth p b h
 leaf_item p null h = refl

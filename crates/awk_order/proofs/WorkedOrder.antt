@@ -11,7 +11,8 @@ sevens = int (pos 7) ∷ int (pos 7) ∷ int (pos 5) ∷ int (pos 7) ∷ []
 abbrev with_null : List Value
 with_null = int (pos 1) ∷ null ∷ int (pos 3) ∷ []
 
-down : items_in_order false (int (pos 1) ∷ int (pos 2) ∷ int (pos 3) ∷ []) ≡ int (pos 3) ∷ int (pos 2) ∷ int (pos 1) ∷ []
+down : items_in_order false (int (pos 1) ∷ int (pos 2) ∷ int (pos 3) ∷ [])
+    ≡ int (pos 3) ∷ int (pos 2) ∷ int (pos 1) ∷ []
 down = refl
 
 nulls_last_going_down : items_in_order false with_null ≡ int (pos 3) ∷ int (pos 1) ∷ null ∷ []

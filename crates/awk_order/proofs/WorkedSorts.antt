@@ -28,8 +28,10 @@ abbrev c : Datum
 c = arr int64 (ints (pos 7 ∷ pos 7 ∷ pos 5 ∷ pos 7 ∷ []))
 
 lists_down : sort_of false
-    (arr (var int64) (items (pos 1 ∷ pos 2 ∷ pos 3 ∷ []) ∷ items [] ∷ items (pos 4 ∷ pos 5 ∷ []) ∷ []))
-    ≡ Ok (arr (var int64) (items (pos 3 ∷ pos 2 ∷ pos 1 ∷ []) ∷ items [] ∷ items (pos 5 ∷ pos 4 ∷ []) ∷ []))
+    (arr (var int64)
+    (items (pos 1 ∷ pos 2 ∷ pos 3 ∷ []) ∷ items [] ∷ items (pos 4 ∷ pos 5 ∷ []) ∷ []))
+    ≡ Ok (arr (var int64)
+    (items (pos 3 ∷ pos 2 ∷ pos 1 ∷ []) ∷ items [] ∷ items (pos 5 ∷ pos 4 ∷ []) ∷ []))
 lists_down = refl
 
 whole_down : sort_of false o ≡ Ok (arr (opt int64) (int (pos 3) ∷ int (pos 1) ∷ null ∷ []))
@@ -64,7 +66,9 @@ of_a_single_value = refl
 
 places_of_lists : argsort_of true
     (arr (var int64)
-    (items (pos 50 ∷ pos 40 ∷ []) ∷ items [] ∷ items (pos 30 ∷ pos 20 ∷ pos 10 ∷ []) ∷ items (pos 60 ∷ []) ∷ []))
+    (items (pos 50 ∷ pos 40 ∷ []) ∷ items [] ∷ items (pos 30 ∷ pos 20 ∷ pos 10 ∷ [])
+    ∷ items (pos 60 ∷ []) ∷ []))
     ≡ Ok (arr (var int64)
-    (items (pos 1 ∷ pos 0 ∷ []) ∷ items [] ∷ items (pos 2 ∷ pos 1 ∷ pos 0 ∷ []) ∷ items (pos 0 ∷ []) ∷ []))
+    (items (pos 1 ∷ pos 0 ∷ []) ∷ items [] ∷ items (pos 2 ∷ pos 1 ∷ pos 0 ∷ [])
+    ∷ items (pos 0 ∷ []) ∷ []))
 places_of_lists = refl

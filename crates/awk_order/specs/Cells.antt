@@ -1,7 +1,6 @@
 -- Arrays of leaves as cells.
 use Rattle.std.specs.Prelude.{◌≡◌, ℕ, ◌<◌, Option, None}
 use Rattle.awk_types.specs.DataType.{unknown, leaf}
-use Rattle.awk_types.specs.Predicates.{is_unknown}
 use Rattle.awk_lanes.specs.Column.{Column}
 use Rattle.awk_layout.specs.Kinds.{primitive_of}
 use Rattle.awk_layout.specs.Layout.{Layout}

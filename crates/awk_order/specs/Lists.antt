@@ -1,5 +1,5 @@
 -- What is made of the lists of a column, by their items one after another.
-use Rattle.std.specs.Prelude.{◌≡◌, ℕ, ◌+◌, ◌-◌, ◌<◌, ◌≤◌, ◌^◌, true, List, length}
+use Rattle.std.specs.Prelude.{◌≡◌, ℕ, ◌+◌, ◌-◌, ◌<◌, ◌≤◌, ◌^◌, true, List}
 use Rattle.awk_types.specs.DataType.{DataType}
 use Rattle.awk_types.specs.ItemLimit.{item_limit}
 use Rattle.awk_types.specs.Predicates.{is_leaf}

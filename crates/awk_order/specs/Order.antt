@@ -1,4 +1,5 @@
--- The order of the items of a list: numbers that rise or fall, nulls last, equal ones as they stand.
+-- The order of the items of a list: numbers that rise or fall, nulls last, equal ones as they
+-- stand.
 use Rattle.std.specs.Prelude.{ℕ, ℤ, Bool, List, map, get_or, Option, Some, None, if◌then◌else◌}
 use Rattle.awk_types.specs.Predicates.{is_null}
 use Rattle.awk_types.specs.Value.{Value, null}

@@ -3,7 +3,9 @@ ghost use Rattle.std.specs.Prelude.{◌≡◌, ◌<◌, ◌≤◌, ◌^◌, IfOk
 ghost use Rattle.awk_lanes.specs.Places.{place_at};
 ghost use Rattle.awk_order.specs.Nulls.{nulls_last, AreNullsReady};
 
-use awk_lanes::{Arena, Items, Kind, Lane, Lengths, NoMemory, Num, Steps, items_of, number, place_in};
+use awk_lanes::{
+    Arena, Items, Kind, Lane, Lengths, NoMemory, Num, Steps, items_of, number, place_in,
+};
 use std::sync::ledger::Ledger;
 
 /// Lists of so many items of which so many are present, by offsets of both.

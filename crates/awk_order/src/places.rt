@@ -1,7 +1,7 @@
 //! The places of the items of lists of leaves, in the order of the items.
 ghost use Rattle.std.specs.Prelude.{◌≡◌, IfOk};
 ghost use Rattle.awk_types.specs.DataType.{leaf};
-ghost use Rattle.awk_types.specs.declared.primitive.Primitive.TheVariants as Prim;
+ghost use Rattle.awk_types.specs.declared.primitive.Primitive.TheVariants as primitive;
 ghost use Rattle.awk_order.specs.Lists.{AreItems, AreMade};
 ghost use Rattle.awk_order.specs.Sort.{place_items};
 
@@ -23,7 +23,7 @@ pub(crate) fn item_places<'a, L: Ledger>(
     steps: &mut Steps<L>,
 ) -> Result<Node<'a>, NoMemory>
     requires items { AreItems x.now.items.now x.now.offsets.now x.now.count }
-    ensures { IfOk result (AreMade (leaf Prim.I64) (place_items up) x.now.items.now
+    ensures { IfOk result (AreMade (leaf primitive.I64) (place_items up) x.now.items.now
         x.now.offsets.now x.now.count) }
 {
     let found = cells_of(alloc, x.items, arena, steps)?;

@@ -91,11 +91,11 @@ fn leaves_alone(item: &Typ) -> Option<Refusal>
 
 /// The items of a list in order.
 #[derive(Clone, Copy, Debug, PartialEq, Eq)]
-struct Sort {
+struct Sorting {
     up: bool,
 }
 
-impl ListOp for Sort {
+impl ListOp for Sorting {
     ghost function = { λ f. sort_function f.up };
 
     fn refusal(&self, item: &Typ) -> Option<Refusal> {
@@ -131,11 +131,11 @@ impl ListOp for Sort {
 
 /// The places of a list's items in order.
 #[derive(Clone, Copy, Debug, PartialEq, Eq)]
-struct Argsort {
+struct Placing {
     up: bool,
 }
 
-impl ListOp for Argsort {
+impl ListOp for Placing {
     ghost function = { λ f. argsort_function f.up };
 
     fn refusal(&self, item: &Typ) -> Option<Refusal> {
@@ -185,7 +185,7 @@ pub fn sort<'a, L: Ledger>(
     ensures answer { Gives datum_of fault_told result (sort_of up (datum_of x.now)) }
     ensures datum { IfOk result (λ made. IsDatum made) }
 {
-    lift_deep(alloc, &Sort { up }, x, arena, steps)
+    lift_deep(alloc, &Sorting { up }, x, arena, steps)
 }
 
 /// The places of the items of each innermost list, in the order in which `sort` brings the items;
@@ -203,5 +203,5 @@ pub fn argsort<'a, L: Ledger>(
     ensures answer { Gives datum_of fault_told result (argsort_of up (datum_of x.now)) }
     ensures datum { IfOk result (λ made. IsDatum made) }
 {
-    lift_deep(alloc, &Argsort { up }, x, arena, steps)
+    lift_deep(alloc, &Placing { up }, x, arena, steps)
 }

@@ -33,6 +33,7 @@ fn plain_in_order<'a, L: Ledger>(
         IfOk result (AreMade t (spec.items_in_order up) x.now.items.now x.now.offsets.now
         x.now.count) }
 {
+    let _ = x.items.len();
     let lane = numbers_of(alloc, x.items, arena, steps)?;
     let sorted = lane_in_order(alloc, &lane, x.offsets, x.count, up, arena, steps)?;
     Ok(Node::numpy(sorted, steps))
@@ -53,6 +54,7 @@ fn optional_in_order<'a, L: Ledger>(
         IfOk result (AreMade t (spec.items_in_order up) x.now.items.now x.now.offsets.now
         x.now.count) }
 {
+    let _ = x.items.len();
     let present = present_of(alloc, x.items, x.offsets, x.count, arena, steps)?;
     let lane = lane_in_order(
         alloc,
@@ -81,6 +83,7 @@ pub(crate) fn items_in_order<'a, L: Ledger>(
         IfOk result (AreMade t (spec.items_in_order up) x.now.items.now x.now.offsets.now
         x.now.count) }
 {
+    let _ = x.items.len();
     if are_unknown(x.items.typ()) {
         x.items.node().copy(alloc)
     } else if is_optional(x.items.typ()) {

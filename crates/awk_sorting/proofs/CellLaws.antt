@@ -39,8 +39,9 @@ more_keys up c j start m was k e =
     ∙ ap (λ x. was ++ (keys_from up c j start m ++ x ∷ [])) e
     ∙ ap (λ xs. was ++ xs) (sym (map-range_with_len_more at_place 0 m m (omega arith)))
 
-pub key_pushed : (up : Bool) (c : Column) (j : Option Column) (start i : ℕ) (was before now : List ℕ)
-    (r p : ℕ) (x : Option ℤ) → start ≤ i → before ≡ was ++ keys_from up c j start (i - start)
+pub key_pushed : (up : Bool) (c : Column) (j : Option Column) (start i : ℕ)
+    (was before now : List ℕ) (r p : ℕ) (x : Option ℤ) → start ≤ i
+    → before ≡ was ++ keys_from up c j start (i - start)
     → now ≡ before ++ (r * 4294967296 + p) ∷ [] → r ≡ rank up x → x ≡ cell_at c j i → p ≡ i - start
     → now ≡ was ++ keys_from up c j start (i + 1 - start)
 key_pushed up c j start i was before now r p x l b e re xe pe =
@@ -179,7 +180,9 @@ pub orders_lane : (up : Bool) (c : Column) (j : Option Column) (o : Column) (n :
 orders_lane up c j o n ks ys r h d k s e =
     subst (OrdersLane up c j o n) (sym e) (record {
       kind = refl;
-      size = length-map-range_with_len at_place 0 (length ys) ∙ length_permutation ks ys s.same ∙ k.size;
+      size =
+          length-map-range_with_len at_place 0 (length ys) ∙ length_permutation ks ys s.same
+          ∙ k.size;
       parts = λ i l.
           ap (λ zs. part_at zs o i)
           (map-map (element kind.I64) at_place (range_with_len 0 (length ys)) ∙ all_at ys told)

@@ -104,5 +104,6 @@ module _ {Y : Type 0} (first : ℕ → ℕ → Bool) (lt : Y → Y → Bool) (f 
 
     -- places sorted, and what stands there sorted: of an earlier place and a later one the first
     -- test tells what the second one tells of what stands there
-    pub map-sort : map f (sort_by first (range_with_len 0 n)) ≡ sort_by lt (map f (range_with_len 0 n))
+    pub map-sort : map f (sort_by first (range_with_len 0 n))
+        ≡ sort_by lt (map f (range_with_len 0 n))
     map-sort = map-inserted 0 n [] (omega arith) tt

@@ -106,7 +106,8 @@ as_they_are k (z ∷ zs) h =
 
 elements_again : (k : Kind) (zs : List ℤ) → ReadAsIs k (map (element k) zs)
 elements_again k zs =
-    All-from_get_or (λ z. element k z ≡ z) (map (element k) zs) (element k (pos 0)) (λ i l. again zs i)
+    All-from_get_or (λ z. element k z ≡ z) (map (element k) zs) (element k (pos 0))
+    (λ i l. again zs i)
   where
     again : (ys : List ℤ) (i : ℕ) → element k (get_or (map (element k) ys) i (element k (pos 0)))
         ≡ get_or (map (element k) ys) i (element k (pos 0))
@@ -122,8 +123,8 @@ read_permuted k zs ys p =
 
 -- ---- lanes
 
-module _ {X : Type 0} (number : X → ℤ) (up : Bool) (o : Column) (n : ℕ) (c : Column) (xs ys : List X)
-    (e : map number xs ≡ lane_numbers c) (h : SortsParts number up o n xs ys) where
+module _ {X : Type 0} (number : X → ℤ) (up : Bool) (o : Column) (n : ℕ) (c : Column)
+    (xs ys : List X) (e : map number xs ≡ lane_numbers c) (h : SortsParts number up o n xs ys) where
   same : IsPermutation (lane_numbers c) (map number ys)
   same =
       subst (λ l. IsPermutation l (map number ys)) e (IsPermutation-map number xs ys h.same)
@@ -135,7 +136,9 @@ module _ {X : Type 0} (number : X → ℤ) (up : Bool) (o : Column) (n : ℕ) (c
   pub sorts_lane : SortsLane up o n c (column c.kind (map number ys))
   sorts_lane = record {
     kind = refl;
-    size = length_permutation (lane_numbers c) (map number ys) same ∙ length-map c.items (element c.kind);
+    size =
+        length_permutation (lane_numbers c) (map number ys) same
+        ∙ length-map c.items (element c.kind);
     parts = λ i l.
         ap (λ zs. part_at zs o i) (read_permuted c.kind c.items (map number ys) same)
         ∙ slice_range-map number ys (place_at o i) (place_at o (i + 1)) ∙ h.parts i l

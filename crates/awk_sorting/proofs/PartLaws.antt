@@ -1,6 +1,7 @@
 -- Parts of a list brought in order: by std's sort, turned round where they fall, one after another.
 use Rattle.std.proofs.Common.{◌≡◌, ℕ, zero, suc, ◌+◌, ◌-◌, ◌<◌, ◌≤◌, refl, ap, ap₂, sym, ◌∙◌, subst}
-use Rattle.std.proofs.Common.{List, [], ◌∷◌, ◌++◌, map, length, get_or, reverse, arith, add-one, take, drop}
+use Rattle.std.proofs.Common.{List, [], ◌∷◌, ◌++◌, map, length, get_or, reverse}
+use Rattle.std.proofs.Common.{arith, add-one, take, drop}
 use Rattle.std.proofs.Common.{drop_of_length-le, append-nil, take_all}
 use Rattle.std.proofs.Common.{◌⊎◌, inl, inr, Ordering, eq-or-lt_of_le, rules}
 use Rattle.std.specs.Prelude.{ℤ, int_lt, Bool, true, false}
@@ -47,7 +48,8 @@ turned_in_order (x ∷ xs) h =
 -- ---- a slice
 
 module _ {X : Type 0} (number : X → ℤ) where
-  pub map-get : (xs : List X) (k : ℕ) (d : X) → get_or (map number xs) k (number d) ≡ number (get_or xs k d)
+  pub map-get : (xs : List X) (k : ℕ) (d : X)
+      → get_or (map number xs) k (number d) ≡ number (get_or xs k d)
   map-get [] k d = refl
   map-get (x ∷ xs) zero d = refl
   map-get (x ∷ xs) (suc k) d = map-get xs k d
@@ -118,7 +120,8 @@ module _ {X : Type 0} (number : X → ℤ) where
             ap (take (b - a)) (drop-put_mid start (stop - start) xs ys a (omega (arith, l, q))
             (omega (arith, l, m)) long);
         part =
-            ap (map number) (between-put_mid start (stop - start) xs ys stop (omega (arith, l, m)) long)
+            ap (map number) (between-put_mid start (stop - start) xs ys stop (omega (arith, l, m))
+            long)
             ∙ e;
       }
 

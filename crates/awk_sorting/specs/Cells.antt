@@ -1,6 +1,7 @@
 -- Numbers of a lane, or at the places of it that an index names, and keys in whose order they
 -- stand.
-use Rattle.std.specs.Prelude.{◌≡◌, ℕ, ◌+◌, ◌-◌, ◌*◌, ◌<◌, ◌≤◌, ◌^◌, ℤ, pos, ◌+ℤ◌, ◌-ℤ◌, Bool, true, false}
+use Rattle.std.specs.Prelude.{◌≡◌, ℕ, ◌+◌, ◌-◌, ◌*◌, ◌<◌, ◌≤◌, ◌^◌, ℤ, pos}
+use Rattle.std.specs.Prelude.{◌+ℤ◌, ◌-ℤ◌, Bool, true, false}
 use Rattle.std.specs.Prelude.{List, length, map, Option, Some, None, option_map}
 use Rattle.std.specs.List.{range_with_len, slice_range}
 use Rattle.awk_lanes.specs.Column.{Column}

@@ -23,5 +23,6 @@ numbers_at number o xs i = map number (slice_range xs (place_at o i) (place_at o
 pub record SortsParts {X : Type 0} (number : X → ℤ) (up : Bool) (o : Column) (n : ℕ)
     (xs ys : List X) : Type 0 where
   pub same : IsPermutation xs ys
-  pub parts : (i : ℕ) → i < n → numbers_at number o ys i ≡ sort_numbers up (numbers_at number o xs i)
+  pub parts : (i : ℕ) → i < n
+      → numbers_at number o ys i ≡ sort_numbers up (numbers_at number o xs i)
   pub rest : (a b : ℕ) → place_at o n ≤ a → slice_range ys a b ≡ slice_range xs a b

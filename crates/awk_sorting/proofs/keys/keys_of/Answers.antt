@@ -11,4 +11,5 @@ loop-i-preserved g c =
     (part_before c.args.offsets.now c.args.n (place_at c.args.offsets.now c.args.n) c.loop-i.i
     c.requires.rising (omega arith))
     (c.requires.rising.ordered c.loop-i.i (omega arith)) c.loop-i.invariant
-    (rw (← c.place_in-start.ensures.value, ← c.place_in-stop.ensures.value) c.in_ok-push_keys.ensures)
+    (rw (← c.place_in-start.ensures.value, ← c.place_in-stop.ensures.value)
+    c.in_ok-push_keys.ensures)

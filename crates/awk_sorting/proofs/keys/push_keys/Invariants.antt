@@ -6,4 +6,5 @@ abbrev pub invariant-loop-i : goal.invariant-loop-i
 invariant-loop-i g l =
     l.keys.items
     ≡ l.fn.keys.items
-    ++ keys_from l.up l.cells.lane.now (option_map (λ j. j.now) l.cells.index) l.start (l.i - l.start)
+    ++ keys_from l.up l.cells.lane.now (option_map (λ j. j.now) l.cells.index)
+    l.start (l.i - l.start)

@@ -12,7 +12,8 @@ returns g c =
     let index = option_map (λ j. j.now) c.args.cells.now.index in
     let keys = c.sort_parts.new.numbers.items in
     IfOk-weaker c.made_lane.result
-    (λ r. r ≡ lane_of Kind.I64 c.len-2.result (λ i. pos (get_or c.deref.result.now i 0 % 4294967296)))
+    (λ r. r
+    ≡ lane_of Kind.I64 c.len-2.result (λ i. pos (get_or c.deref.result.now i 0 % 4294967296)))
     (OrdersLane c.args.up c.args.cells.now.lane.now index c.args.offsets.now c.args.n)
     (λ r e. orders_lane c.args.up c.args.cells.now.lane.now index c.args.offsets.now c.args.n
     c.in_ok-keys.keys.items keys r c.len.ensures.fits c.requires.ready c.in_ok-keys.ensures

@@ -1,7 +1,7 @@
 use Rattle.awk_layout.specs.Typing.{array_type}
 use Rattle.awk_order.specs.Order.{items_in_order}
 use Rattle.awk_order.proofs.ListLaws.{leaves_taken}
-use Rattle.awk_order.proofs.sorting.SortListOp.column.Goals as goal
+use Rattle.awk_order.proofs.sorting.SortingListOp.column.Goals as goal
 
 pub sorted_lists-requires : goal.sorted_lists-requires
 sorted_lists-requires g c = record {
