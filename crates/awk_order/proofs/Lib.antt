@@ -1,0 +1,7 @@
+mod WorkedOrder
+mod WorkedSorts
+pub mod ValueLaws
+pub mod ListLaws
+pub mod NodeLaws
+pub mod NullLaws
+pub mod CellLaws

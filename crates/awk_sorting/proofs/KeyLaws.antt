@@ -1,0 +1,105 @@
+-- Keys stand in the order of cells, and tell their places.
+use Rattle.std.proofs.Common.{◌≡◌, ℕ, ◌+◌, ◌*◌, ◌%◌, ◌<◌, refl, ap, ap₂}
+use Rattle.std.proofs.Common.{sym, ◌∙◌, arith, List, [], ◌∷◌, map, length, get_or}
+use Rattle.std.specs.Prelude.{ℤ, pos, negsuc, ◌+ℤ◌, ◌-ℤ◌, ◌≤ℤ◌, nat_lt, Bool, true, false}
+use Rattle.std.specs.Prelude.{not, ◌&&◌, ◌||◌, Option, Some, None}
+use Rattle.std.specs.List.{range_with_len}
+use Rattle.std.proofs.lemmas.Int.{ints}
+use Rattle.std.proofs.lemmas.Nat.{mod-mul-add}
+use Rattle.std.proofs.lemmas.Simd.{map-map}
+use Rattle.awk_lanes.specs.Numbers.{nat_of}
+use Rattle.awk_sorting.specs.Cells.{rank, key}
+use Rattle.awk_sorting.specs.Order.{number_first, comes_first, stands_first, order}
+use Rattle.awk_sorting.specs.Order.{sort_numbers}
+use Rattle.awk_sorting.proofs.InsertLaws.{AllBelow, places_below, map-sort}
+
+-- a number of 64 bits, or none
+abbrev pub IsNear : Option ℤ → Type 0
+IsNear None = Unit {0}
+IsNear (Some z) = (negsuc 9223372036854775807 ≤ℤ z) × (z ≤ℤ pos 18446744073709551615)
+
+nat_of_pos : (w : ℤ) → pos 0 ≤ℤ w → pos (nat_of w) ≡ w
+nat_of_pos (pos n) h = refl
+nat_of_pos (negsuc n) h = absurd (omega (arith, ints, h))
+
+rank_rising : (z : ℤ) → IsNear (Some z)
+    → pos (rank true (Some z)) ≡ pos 36893488147419103232 +ℤ z
+rank_rising z h = nat_of_pos (pos 36893488147419103232 +ℤ z) (omega (arith, ints, h.0))
+
+rank_falling : (z : ℤ) → IsNear (Some z)
+    → pos (rank false (Some z)) ≡ pos 36893488147419103232 -ℤ z
+rank_falling z h = nat_of_pos (pos 36893488147419103232 -ℤ z) (omega (arith, ints, h.1))
+
+rank_some : (up : Bool) (z : ℤ) → IsNear (Some z) → rank up (Some z) < 73786976294838206464
+rank_some true z h = omega (arith, ints, rank_rising z h, h.0, h.1)
+rank_some false z h = omega (arith, ints, rank_falling z h, h.0, h.1)
+
+ranks_first : (up : Bool) (a b : Option ℤ) → IsNear a → IsNear b
+    → comes_first up a b ≡ nat_lt (rank up a) (rank up b)
+ranks_first up None None h k = refl
+ranks_first up None (Some z) h k =
+    let l = rank_some up z k in
+    grind arith
+ranks_first up (Some y) None h k =
+    let l = rank_some up y h in
+    grind arith
+ranks_first true (Some y) (Some z) h k =
+    let p = rank_rising y h in
+    let q = rank_rising z k in
+    grind (arith, ints)
+ranks_first false (Some y) (Some z) h k =
+    let p = rank_falling y h in
+    let q = rank_falling z k in
+    grind (arith, ints)
+
+keys_first : (r s p q : ℕ) → q < p → p < 4294967296
+    → nat_lt (r * 4294967296 + p) (s * 4294967296 + q) ≡ nat_lt r s
+keys_first r s p q l m = grind arith
+
+low_part : (r p : ℕ) → p < 4294967296 → (r * 4294967296 + p) % 4294967296 ≡ p
+low_part r p l = mod-mul-add r 4294967296 p l
+
+pub later_first : (a b : Bool) (p q : ℕ) → q < p → (a || (not b && nat_lt p q)) ≡ a
+later_first true b p q l = refl
+later_first false true p q l = refl
+later_first false false p q l = grind arith
+
+-- ---- the order of a list of cells
+
+module _ (up : Bool) (os : List (Option ℤ)) (few : length os < 4294967296)
+    (near : (p : ℕ) → IsNear (get_or os p None)) where
+  abbrev key_at : ℕ → ℤ
+  key_at p = pos (key up (get_or os p None) p)
+
+  keys_by_place : (p q : ℕ) → q < p → p < length os
+      → stands_first up os p q ≡ number_first true (key_at p) (key_at q)
+  keys_by_place p q l m =
+      later_first (comes_first up (get_or os p None) (get_or os q None))
+      (comes_first up (get_or os q None) (get_or os p None)) p q l
+      ∙ ranks_first up (get_or os p None) (get_or os q None) (near p) (near q)
+      ∙ sym (keys_first (rank up (get_or os p None)) (rank up (get_or os q None)) p q l
+      (omega (arith, few, m)))
+
+  keys_sorted : map key_at (order up os)
+      ≡ sort_numbers true (map key_at (range_with_len 0 (length os)))
+  keys_sorted = map-sort (stands_first up os) (number_first true) key_at (length os) keys_by_place
+
+  abbrev place_of : ℤ → ℤ
+  place_of z = pos (nat_of z % 4294967296)
+
+  place_again : (p : ℕ) → p < length os → place_of (key_at p) ≡ pos p
+  place_again p l = ap pos (low_part (rank up (get_or os p None)) p (omega (arith, few, l)))
+
+  places_again : (ps : List ℕ) → AllBelow (length os) ps
+      → map place_of (map key_at ps) ≡ map pos ps
+  places_again [] h = refl
+  places_again (p ∷ ps) h = ap₂ (λ z zs. z ∷ zs) (place_again p h.0) (places_again ps h.1)
+
+  -- keys in order tell the places in order
+  pub order_by_keys : (ks ys : List ℕ) → map pos ks ≡ map key_at (range_with_len 0 (length os))
+      → map pos ys ≡ sort_numbers true (map pos ks)
+      → map (λ y. pos (y % 4294967296)) ys ≡ map pos (order up os)
+  order_by_keys ks ys e s =
+      sym (map-map place_of pos ys)
+      ∙ ap (map place_of) (s ∙ ap (sort_numbers true) e ∙ sym keys_sorted)
+      ∙ places_again (order up os) (places_below (stands_first up os) (length os))

@@ -1,0 +1,6 @@
+pub mod Compare
+pub mod Cells
+pub mod Order
+pub mod Lanes
+pub mod Nulls
+pub mod Parts
