@@ -1,0 +1,5 @@
+mod MaskLaws
+mod ColumnLaws
+mod EndLaws
+mod ChosenLaws
+mod Worked
