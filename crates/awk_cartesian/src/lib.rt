@@ -1,0 +1,8 @@
+//! Tuples of one item of each of several lists: of arrays, or of the lists of each row.
+//!
+//! `cartesian` gives all of them, of items or of their places, the last varying fastest.
+#![tactic(auto)]
+
+mod crossing;
+
+pub use crossing::cartesian;
