@@ -1,6 +1,6 @@
 -- Lanes of the slots of tuples of one place of each of several lists, slot after slot.
-use Rattle.std.specs.Prelude.{◌≡◌, refl, ℕ, zero, suc, ◌+◌, ◌-◌, ◌*◌, ◌<◌, ◌≤◌, ◌^◌, pos, negsuc, ℤ}
-use Rattle.std.specs.Prelude.{List, [], ◌∷◌, ◌++◌, length, map, get_or, replicate, ◌≤ℤ◌}
+use Rattle.std.specs.Prelude.{◌≡◌, refl, ℕ, zero, suc, ◌+◌, ◌<◌, ◌^◌, pos}
+use Rattle.std.specs.Prelude.{List, [], ◌∷◌, ◌++◌, length, map, get_or, replicate}
 use Rattle.std.specs.List.{range_with_len, flat_map, AllByRecursion}
 use Rattle.std.proofs.Common.{arith, ap, ap₂, sym, ◌∙◌, subst}
 use Rattle.std.proofs.lemmas.Int.{ints}
@@ -11,12 +11,12 @@ use Rattle.awk_lanes.specs.declared.kind.Kind.TheVariants.{I64}
 use Rattle.awk_lanes.specs.Column.{Column}
 use Rattle.awk_lanes.specs.Made.{lane_of}
 use Rattle.awk_lanes.specs.Numbers.{nat_of}
-use Rattle.awk_lanes.specs.Places.{size_of, at, place_at}
+use Rattle.awk_lanes.specs.Places.{place_at}
 use Rattle.awk_lanes.specs.Words.{column, integers}
 use Rattle.awk_lanes.proofs.MadeLanes.{size-lane_of, at-lane_of}
 use Rattle.awk_places.specs.Begun.{IsSmall}
 use Rattle.awk_places.specs.Places.{place_lists, place_count}
-use Rattle.awk_places.specs.Products.{AreCounts, AreSpansOf, no_lane, lengths_at, product_count}
+use Rattle.awk_places.specs.Products.{AreCounts, no_lane, lengths_at, product_count}
 use Rattle.awk_places.specs.Products.{product_place, product_lane, each_times, times, share}
 use Rattle.awk_places.specs.Products.{counts_lane, shares_lane}
 use Rattle.awk_places.specs.Runs.{row_runs, slot_runs, IsSlotOf}

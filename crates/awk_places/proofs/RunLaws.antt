@@ -6,7 +6,6 @@ use Rattle.std.specs.List.{range_with_len, flat_map}
 use Rattle.std.proofs.Common.{arith, ap, ap₂, sym, ◌∙◌, append_assoc}
 use Rattle.std.proofs.Math.Nat.{mul_assoc, mul-div_cancel}
 use Rattle.std.proofs.lemmas.Grind.{flat_map-append}
-use Rattle.std.proofs.lemmas.List.{length-map}
 use Rattle.std.proofs.lemmas.Simd.{map-map}
 use Rattle.awk_places.specs.Places.{before_each, place_lists, place_count}
 use Rattle.awk_places.specs.Products.{each_times, times, share}

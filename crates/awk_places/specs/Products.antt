@@ -1,6 +1,6 @@
 -- One place of each of several lists, by lanes of their lengths, the last varying fastest. The
 -- places of list i begin at the i-th number of a lane of first places.
-use Rattle.std.specs.Prelude.{◌≡◌, ◌==◌, ℕ, zero, suc, ◌+◌, ◌/◌, ◌<◌, ◌≤◌, ◌^◌, if◌then◌else◌}
+use Rattle.std.specs.Prelude.{◌≡◌, ◌==◌, ℕ, zero, suc, ◌+◌, ◌/◌, ◌<◌, ◌^◌, if◌then◌else◌}
 use Rattle.std.specs.Prelude.{List, [], ◌++◌, length, map, get_or, replicate, ℤ, pos, ◌≤ℤ◌}
 use Rattle.std.specs.List.{range_with_len, flat_map}
 use Rattle.awk_lanes.specs.declared.kind.Kind.TheVariants.{I64}

@@ -44,12 +44,7 @@ fn some_empty<L: Ledger>(n: u64, lengths: &Lanes, i: u64, steps: &mut Steps<L>) 
 
 /// How many tuples there are of one place of list i of each lane, or none where they are more than
 /// the limit of a column.
-fn count_product<L: Ledger>(
-    n: u64,
-    lengths: &Lanes,
-    i: u64,
-    steps: &mut Steps<L>,
-) -> Option<u64>
+fn count_product<L: Ledger>(n: u64, lengths: &Lanes, i: u64, steps: &mut Steps<L>) -> Option<u64>
     requires all { AllByRecursion (AreCounts n) lengths.now }
     requires list { i < n }
     ensures { IsCounted (place_count (lengths_at lengths.now i)) result }

@@ -1,11 +1,10 @@
-use Rattle.std.proofs.Common.{◌≡◌, ◌+◌, ◌<◌, refl, sym, ap, ◌∙◌, subst, arith, length, get_or}
+use Rattle.std.proofs.Common.{◌≡◌, ◌<◌, refl, sym, ap, ◌∙◌, subst, arith, length, get_or}
 use Rattle.std.proofs.lemmas.Option.{get_or_from_slice_get}
-use Rattle.awk_lanes.specs.Column.{Column}
 use Rattle.awk_lanes.specs.Places.{place_at}
 use Rattle.awk_places.specs.Products.{AreCounts, AreSpansOf, no_lane, product_count, share}
 use Rattle.awk_places.specs.Products.{product_lane, shares_lane}
 use Rattle.awk_places.proofs.ProductLaws.{counts_made, rests_first, rests_next, slot-by_shares}
-use Rattle.awk_places.proofs.ProductLaws.{first_lanes, lanes_more}
+use Rattle.awk_places.proofs.ProductLaws.{lanes_more}
 use Rattle.awk_places.proofs.products.product_lanes.Goals as goal
 
 pub loop-j-init : goal.loop-j-init
