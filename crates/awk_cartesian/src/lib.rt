@@ -4,5 +4,10 @@
 #![tactic(auto)]
 
 mod crossing;
+mod opening;
+mod rows;
+mod sources;
+mod tuples;
+mod typing;
 
 pub use crossing::cartesian;

@@ -46,7 +46,8 @@ length-at ls i j p = get_or-map (λ s. place_at s i) ls j no_lane 0 p
 
 -- ---- places that fit a lane
 
-small_times : (n : ℕ) (xs : List ℕ) → AllByRecursion IsSmall xs → AllByRecursion IsSmall (times n xs)
+small_times : (n : ℕ) (xs : List ℕ) → AllByRecursion IsSmall xs
+    → AllByRecursion IsSmall (times n xs)
 small_times zero xs h = tt
 small_times (suc n) xs h = all-append IsSmall xs (times n xs) h (small_times n xs h)
 

@@ -194,7 +194,7 @@ rest_next ms j r l h = record {
       after-share ms j r l o h ∙ ap (λ k. place_count (drop k ms)) e;
 }
 
-none_there : (ms : List ℕ) → place_count ms ≡ 0 → place_lists ms ≡ []
+pub none_there : (ms : List ℕ) → place_count ms ≡ 0 → place_lists ms ≡ []
 none_there ms e = go (place_lists ms) (length-place_lists ms ∙ e)
   where
     go : (kss : List (List ℕ)) → length kss ≡ 0 → kss ≡ []
