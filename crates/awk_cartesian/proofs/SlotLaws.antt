@@ -46,6 +46,13 @@ all-by_place P d [] h = tt
 all-by_place P d (x ∷ xs) h =
     (h 0 (omega arith), all-by_place P d xs (λ j p. h (suc j) (omega (arith, p))))
 
+pub replicate-more : {X : Type 0} (x : X) (n : ℕ) → replicate (n + 1) x ≡ replicate n x ++ x ∷ []
+replicate-more x n = (let e : n + 1 ≡ suc n = omega arith in ap (λ k. replicate k x) e) ∙ go n
+  where
+    go : (n : ℕ) → replicate (suc n) x ≡ replicate n x ++ x ∷ []
+    go zero = refl
+    go (suc n) = ap (λ xs. x ∷ xs) (go n)
+
 -- ---- lengths and first places
 
 module _ (n : ℕ) (x : Sources) (h : AreSources n x) where
@@ -83,6 +90,13 @@ module _ (n : ℕ) (x : Sources) (h : AreSources n x) where
         lengths = s.lengths;
         fits = λ i q. omega (arith, count-at n (λ i. 0) i q, s.fits i q);
       })
+
+  pub lanes_zero : (k : ℕ) (fs : List Column) → k ≡ length x.firsts → fs ≡ replicate k (zeros n)
+      → (j : ℕ) → j < length x.lengths
+      → AreSpansOf n (get_or fs j no_lane) (get_or x.lengths j no_lane)
+  lanes_zero k fs e f j p =
+      subst (λ gs. AreSpansOf n (get_or gs j no_lane) (get_or x.lengths j no_lane))
+      (sym (f ∙ ap (λ k. replicate k (zeros n)) e)) (zeros_there j p)
 
   -- ---- the lane of a slot
 
@@ -215,6 +229,18 @@ module _ (n : ℕ) (x : Sources) (h : AreSources n x) where
         ))
         ∙ ap (slot_item places (get_or x.contents j empty)) (place-in j i k q r)
         ∙ shown places refl j i k p q r
+
+module _ (n : ℕ) (x : Sources) (h : AreSources n x) (places : Bool) (cs : List Column)
+    (e : cs ≡ product_lanes n (slot_firsts places n x.firsts) x.lengths) where
+  pub lanes_long : length cs ≡ length x.contents
+  lanes_long = ap length e ∙ lanes-count n x h places
+
+  pub are_lanes : IsFew n x → AreSlotLanes places x.contents cs
+  are_lanes few j p =
+      let l : j < length x.contents = omega (arith, p, lanes_long) in
+      subst (IsSlotLane places (len (get_or x.contents j empty)))
+      (sym (ap (λ cs. get_or cs j no_lane) e ∙ lane-at n x h places j l))
+      (is_lane n x h places few j l)
 
 -- ---- slot after slot
 

@@ -136,19 +136,21 @@ module _ (places : Bool) (n : ℕ) (x : Sources) (h : AreSources n x) (cs : List
   size-slot : (j : ℕ) → j < length zs → len (get_or zs j empty) ≡ before count n
   size-slot j p =
       let l : j < length x.contents = omega (arith, p, slot-count) in
-      let c : get_or cs j no_lane
-      ≡ record { kind = _; items = _ } = ap (λ cs. get_or cs j no_lane) e ∙ lane-at n x h places j l in
-      (s.each j (omega (arith, p, s.count))).size ∙ ap size_of c
+      (s.each j (omega (arith, p, s.count))).size
+      ∙ ap size_of (ap (λ cs. get_or cs j no_lane) e ∙ lane-at n x h places j l)
       ∙ length-numbers count
       (product_place (get_or (slot_firsts places n x.firsts) j no_lane) x.lengths j) n
 
-  pub slots_reach : AllReach (before count n) (layouts_from zs)
+  slots_reach : AllReach (before count n) (layouts_from zs)
   slots_reach = all_reach (before count n) zs (λ j p. omega (arith, size-slot j p))
+
+  pub reach : (m : ℕ) → m ≡ before count n → AllReach m (layouts_from zs)
+  reach m w = subst (λ m. AllReach m (layouts_from zs)) (sym w) slots_reach
 
   slots_valid : AllValid (layouts_from zs)
   slots_valid = all_valid zs (λ j p. (s.each j (omega (arith, p, s.count))).valid)
 
-  pub are_tuples : (t : Tuples) → before count n ≤ item_limit → t.offsets ≡ offsets_by count n
+  are_tuples : (t : Tuples) → before count n ≤ item_limit → t.offsets ≡ offsets_by count n
       → t.node ≡ rows None (before count n) (layouts_from zs) → AreTuplesOf places n x t
   are_tuples t few o w = record {
     few = few;
@@ -159,3 +161,9 @@ module _ (places : Bool) (n : ℕ) (x : Sources) (h : AreSources n x) (cs : List
     tuples = λ i p. ap (λ z. value_list (run (array_item z) (before count i) (count i))) w
         ∙ tuples-at (before count n) i p;
   }
+
+  pub tuples_made : (t : Tuples) (m : ℕ) → m ≡ before count n → before count n ≤ item_limit
+      → t.offsets ≡ offsets_by count n → t.node ≡ rows None m (layouts_from zs)
+      → AreTuplesOf places n x t
+  tuples_made t m e few o w =
+      are_tuples t few o (w ∙ ap (λ m. rows None m (layouts_from zs)) e)

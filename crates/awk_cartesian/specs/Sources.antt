@@ -119,11 +119,11 @@ abbrev pub present_place : Bool → ℕ → Option ℕ
 present_place b i = if b then Some i else None
 
 -- an index of the rows that are null by neither of two
-pub record AreBoth (n : ℕ) (rows index both : Option Column) : Type 0 where
+pub record AreBoth (n : ℕ) (r s both : Option Column) : Type 0 where
   pub index : IndexesAll both n
-  pub places : (i : ℕ) → i < n → (b : Bool) → list_place rows i ≡ present_place b i
-      → list_place both i ≡ present_place (b && is_some (list_place index i)) i
-  pub optional : is_some both ≡ (is_some rows || is_some index)
+  pub places : (i : ℕ) → i < n → (b : Bool) → list_place r i ≡ present_place b i
+      → list_place both i ≡ present_place (b && is_some (list_place s i)) i
+  pub optional : is_some both ≡ (is_some r || is_some s)
 
 -- one source more
 abbrev pub pushed : Sources → Source → Sources

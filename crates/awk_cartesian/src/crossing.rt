@@ -113,7 +113,7 @@ fn counted<'a, L: Ledger>(
         option_map (product_type axis places ds) (item_types axis ds) ≡ Some (typ_of typ) }
     requires limit { limit (typ_of typ) ≡ None }
     ensures { Gives array_datum fault_told result
-        (counted_product axis places (typ_of typ.entry) (map column_in xs.now)) }
+        (counted_product axis places (typ_of typ) (map column_in xs.now)) }
 {
     let rows = opened_rows(alloc, axis, n, xs, arena, steps)?;
     match tuples_of(alloc, places, n, &rows.sources, arena, steps)? {

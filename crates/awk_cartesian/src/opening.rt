@@ -39,19 +39,19 @@ pub(crate) fn list_place<L: Ledger>(index: &Option<Lane>, i: u64, steps: &mut St
 
 /// Rows that are lists by an index, or null.
 #[derive(Drop)]
-struct Indexed<'b, 'a> {
+struct Indexed<'b, 'c, 'a> {
     n: u64,
     index: &'b Option<Lane<'a>>,
-    lists: &'b Lists<'a>,
+    lists: &'c Lists<'a>,
 }
 
 /// The first places of rows.
 #[derive(Drop)]
-struct Firsts<'b, 'a> {
-    rows: Indexed<'b, 'a>,
+struct Firsts<'b, 'c, 'a> {
+    rows: Indexed<'b, 'c, 'a>,
 }
 
-impl<'b, 'a> Numbers for Firsts<'b, 'a> {
+impl<'b, 'c, 'a> Numbers for Firsts<'b, 'c, 'a> {
     ghost use Rattle.std.specs.Prelude.{pos};
     ghost use Rattle.awk_lanes.specs.Places.{size_of};
     ghost use Rattle.awk_lanes.specs.declared.kind.Kind.TheVariants as Kinds;
@@ -86,11 +86,11 @@ impl<'b, 'a> Numbers for Firsts<'b, 'a> {
 
 /// The lengths of rows.
 #[derive(Drop)]
-struct RowLengths<'b, 'a> {
-    rows: Indexed<'b, 'a>,
+struct RowLengths<'b, 'c, 'a> {
+    rows: Indexed<'b, 'c, 'a>,
 }
 
-impl<'b, 'a> Numbers for RowLengths<'b, 'a> {
+impl<'b, 'c, 'a> Numbers for RowLengths<'b, 'c, 'a> {
     ghost use Rattle.std.specs.Prelude.{pos};
     ghost use Rattle.awk_lanes.specs.Places.{size_of};
     ghost use Rattle.awk_lanes.specs.declared.kind.Kind.TheVariants as Kinds;
@@ -117,9 +117,9 @@ impl<'b, 'a> Numbers for RowLengths<'b, 'a> {
 
 /// The first place of each row, as a lane.
 fn first_lane<'a, L: Ledger>(
-    index: &Option<Lane>,
+    index: &Option<Lane<'a>>,
     n: u64,
-    lists: &Lists,
+    lists: &Lists<'a>,
     arena: &'a Arena,
     steps: &mut Steps<L>,
 ) -> Result<Lane<'a>, NoMemory>
@@ -133,9 +133,9 @@ fn first_lane<'a, L: Ledger>(
 
 /// The length of each row, as a lane.
 fn length_lane<'a, L: Ledger>(
-    index: &Option<Lane>,
+    index: &Option<Lane<'a>>,
     n: u64,
-    lists: &Lists,
+    lists: &Lists<'a>,
     arena: &'a Arena,
     steps: &mut Steps<L>,
 ) -> Result<Lane<'a>, NoMemory>

@@ -22,13 +22,13 @@ pub(crate) struct Rows<'a> {
 
 /// The rows that are null by neither of two indexes, by their places, and -1 for the others.
 #[derive(Drop)]
-struct Both<'b, 'a> {
+struct BothRows<'b, 'a> {
     n: u64,
     rows: &'b Option<Lane<'a>>,
     index: &'b Option<Lane<'a>>,
 }
 
-impl<'b, 'a> Numbers for Both<'b, 'a> {
+impl<'b, 'a> Numbers for BothRows<'b, 'a> {
     ghost use Rattle.std.specs.Prelude.{◌<◌, ◌^◌};
     ghost use Rattle.awk_lanes.specs.declared.kind.Kind.TheVariants as Kinds;
     ghost use Rattle.awk_merge.specs.Operands.{list_place, IndexesAll};
@@ -70,7 +70,7 @@ fn both<'a, L: Ledger>(
     match index {
         None => Ok(rows),
         Some(_) => {
-            let source = Both {
+            let source = BothRows {
                 n,
                 rows: &rows,
                 index: &index,

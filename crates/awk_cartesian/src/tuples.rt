@@ -24,12 +24,12 @@ pub(crate) struct Tuples<'a> {
 
 /// The same number at each place.
 #[derive(Drop)]
-struct Repeated {
+struct Constant {
     n: u64,
     value: u64,
 }
 
-impl Numbers for Repeated {
+impl Numbers for Constant {
     ghost use Rattle.std.specs.Prelude.{pos, ◌<◌, ◌^◌};
     ghost use Rattle.awk_lanes.specs.declared.kind.Kind.TheVariants as Kinds;
 
@@ -56,7 +56,7 @@ pub(crate) fn repeated<'a, L: Ledger>(
     requires { value < 2 ^ 63 }
     ensures { IfOk result (λ r. r ≡ repeated n value) }
 {
-    made_lane(Kind::I64, n, &Repeated { n, value }, arena, steps)
+    made_lane(Kind::I64, n, &Constant { n, value }, arena, steps)
 }
 
 /// So many lanes of n zeros.

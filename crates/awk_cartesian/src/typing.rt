@@ -28,8 +28,8 @@ pub(crate) fn axis_at(axis: i64) -> Option<Axis>
 
 /// What lists of a type are of. Unknown counts as lists of unknown.
 fn list_item(t: &Typ) -> Option<&Typ>
-    ensures { option_map (λ u. typ_of u.now) result ≡ spec.list_item (typ_of t.now) }
-    ensures { IsSimple (typ_of t.now) → IfSome result (λ u. IsSimple (typ_of u.now)) }
+    ensures typ { option_map (λ u. typ_of u.now) result ≡ spec.list_item (typ_of t.now) }
+    ensures simple { IsSimple (typ_of t.now) → IfSome result (λ u. IsSimple (typ_of u.now)) }
 {
     match t {
         Typ::Unknown => Some(t),
@@ -40,8 +40,8 @@ fn list_item(t: &Typ) -> Option<&Typ>
 
 /// The same of lists that may be null.
 fn rows_item(t: &Typ) -> Option<&Typ>
-    ensures { option_map (λ u. typ_of u.now) result ≡ spec.rows_item (typ_of t.now) }
-    ensures { IsSimple (typ_of t.now) → IfSome result (λ u. IsSimple (typ_of u.now)) }
+    ensures typ { option_map (λ u. typ_of u.now) result ≡ spec.rows_item (typ_of t.now) }
+    ensures simple { IsSimple (typ_of t.now) → IfSome result (λ u. IsSimple (typ_of u.now)) }
 {
     match t {
         Typ::Opt(lists) => list_item(lists),
@@ -50,7 +50,7 @@ fn rows_item(t: &Typ) -> Option<&Typ>
 }
 
 /// What the lists of an operand are of, if they are any.
-fn operand_item(axis: Axis, x: &Datum) -> Option<&Typ>
+fn operand_item<'b, 'a>(axis: Axis, x: &'b Datum<'a>) -> Option<&'b Typ>
     ensures typ { let said = spec.operand_item axis (datum_of x.now) in
         option_map (λ u. typ_of u.now) result ≡ said }
     ensures simple { IfSome result (λ u. IsSimple (typ_of u.now)) }
@@ -119,7 +119,7 @@ fn some_may_be_null(xs: &Datums) -> bool
 }
 
 /// The type of tuples with these slots: at axis 1 of lists of them, which may be null.
-fn product_typ(
+pub(crate) fn product_typ(
     alloc: Global,
     axis: Axis,
     places: bool,
