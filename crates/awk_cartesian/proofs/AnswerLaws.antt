@@ -46,6 +46,7 @@ use Rattle.awk_cartesian.specs.Products.{IsIndexOf}
 use Rattle.awk_cartesian.specs.Sources.{lists_in, rows_in, may_be_null, present_place}
 use Rattle.awk_cartesian.specs.Sources.{AreTuplesOf, AreProducts, AreRows}
 use Rattle.awk_cartesian.specs.declared.rows.Rows.{Rows}
+use Rattle.awk_cartesian.specs.declared.sources.Sources.{Sources}
 use Rattle.awk_cartesian.specs.declared.tuples.Tuples.{Tuples}
 use Rattle.awk_cartesian.proofs.SlotLaws.{lengths-of}
 use Rattle.awk_cartesian.proofs.CountLaws.{length-tuples, count-rows}
@@ -220,6 +221,23 @@ pub counted : (axis : Axis) (places : Bool) (n : ℕ) (ds : List Datum) (r : Row
 counted Arrays places n ds r p l h = ap too_many (array_count places n ds r (one_row n ds p l) h)
 counted ByRows places n ds r p l h =
     ap too_many (rows_counted places n ds r (rows_count n ds p l) h)
+
+-- ---- the offsets of rows
+
+module _ (places : Bool) (n : ℕ) (x : Sources) (t : Tuples) (s : AreTuplesOf places n x t)
+    (f : n < 2 ^ 63) where
+  pub offsets_fit : IsOffsets t.offsets (len t.node)
+  offsets_fit =
+      rw (s.offsets, s.size) (are_offsets (product_count x.lengths) n f).offsets
+
+  pub offsets_few : size_of t.offsets ≤ 2 ^ 63
+  offsets_few =
+      omega (
+        arith,
+        ap size_of s.offsets
+            ∙ size-lane_of I64 (n + 1) (λ i. pos (before (product_count x.lengths) i)),
+        f,
+      )
 
 -- ---- the index of rows
 

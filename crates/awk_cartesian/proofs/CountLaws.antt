@@ -10,7 +10,7 @@ use Rattle.awk_types.proofs.Trees.{value_list-from}
 use Rattle.awk_lanes.specs.Counted.{before}
 use Rattle.awk_columns.specs.Columns.{is_present, list_items, joined_items}
 use Rattle.awk_places.specs.Places.{place_lists, place_count}
-use Rattle.awk_places.proofs.FlatLaws.{append-none, first-more}
+use Rattle.awk_places.proofs.FlatLaws.{append-none, range-more}
 use Rattle.awk_places.proofs.Levels.{length-place_lists}
 use Rattle.awk_places.proofs.RunLaws.{none_there}
 use Rattle.awk_merge.specs.Concatenate.{row_of, row_count}
@@ -36,16 +36,18 @@ no_count (alt k w) vs e = absurd (cc)
 none_counted : (vs : List Value) → list_all is_present vs ≡ false
     → place_count (map length (map list_items vs)) ≡ 0
 none_counted [] e = absurd (cc)
-none_counted (v ∷ vs) e = go (is_present v) refl
+none_counted (v ∷ vs) e = go (is_present v) refl (λ g. none_counted vs g)
   where
-    go : (b : Bool) → is_present v ≡ b → place_count (map length (map list_items (v ∷ vs))) ≡ 0
-    go false f = no_count v vs f
-    go true f =
+    go : (b : Bool) → is_present v ≡ b
+        → (list_all is_present vs ≡ false → place_count (map length (map list_items vs)) ≡ 0)
+        → place_count (map length (map list_items (v ∷ vs))) ≡ 0
+    go false f h = no_count v vs f
+    go true f h =
         let g : list_all is_present vs ≡ false =
         sym (ap (λ b. b && list_all is_present vs) f) ∙ e in
         let m : ℕ = length (list_items v) in
         let z : m * 0 ≡ 0 = omega arith in
-        ap (λ c. m * c) (none_counted vs g) ∙ z
+        ap (λ c. m * c) (h g) ∙ z
 
 pub row-items : (places : Bool) (vs : List Value)
     → list_items (row_tuples places vs) ≡ tuples_of places (map list_items vs)
@@ -64,6 +66,11 @@ row-items places vs = go (list_all is_present vs) refl
         else null)) e
         ∙ sym (ap (map (tuple_of places (map list_items vs)))
         (none_there (map length (map list_items vs)) (none_counted vs e)))
+
+first-more : (n : ℕ) → range_with_len 0 (suc n) ≡ range_with_len 0 n ++ n ∷ []
+first-more n =
+    let e : 0 + n ≡ n = omega arith in
+    range-more 0 n ∙ ap (λ k. range_with_len 0 n ++ k ∷ []) e
 
 -- how many items lists have together
 length-joined : (g : ℕ → Value) (m : ℕ → ℕ) (n : ℕ)

@@ -1,11 +1,14 @@
 -- Operands as lists of rows.
 use Rattle.std.specs.Prelude.{◌≡◌, ◌==◌, refl, ℕ, zero, suc, ◌+◌, ◌-◌, ◌<◌, ◌≤◌, ◌^◌, Bool, true, false}
 use Rattle.std.specs.Prelude.{if◌then◌else◌, List, [], ◌∷◌, length, map, get_or}
-use Rattle.std.specs.Prelude.{Option, Some, None, is_some, pos}
-use Rattle.std.specs.List.{range_with_len}
+use Rattle.std.specs.Prelude.{Option, Some, None, is_some, pos, Result, Ok, Err, IfOk}
+use Rattle.std.specs.List.{range_with_len, AllByRecursion}
 use Rattle.std.proofs.Common.{arith, ap, ap₂, sym, ◌∙◌, subst}
 use Rattle.std.proofs.lemmas.List.FromFn.{get_or-map-range_with_len, length-map-range_with_len}
-use Rattle.awk_types.specs.DataType.{DataType, unknown, leaf, var, reg, rec, tup, opt, uni}
+use Rattle.awk_types.specs.DataType.{DataType, Name, unknown, leaf, var, reg, rec, tup, opt, uni}
+use Rattle.awk_types.specs.DataType.{types_from, row_type}
+use Rattle.awk_types.specs.Has.{Has}
+use Rattle.awk_types.specs.Predicates.{is_unknown}
 use Rattle.awk_types.specs.Simple.{is_option}
 use Rattle.awk_types.specs.Value.{Value, null, list, value_list, values_from}
 use Rattle.awk_types.proofs.Trees.{value_list-from}
@@ -16,12 +19,16 @@ use Rattle.awk_layout.specs.Laws.{len-fits}
 use Rattle.awk_layout.specs.Layout.{Layout}
 use Rattle.awk_layout.specs.Typing.{array_type, array_items}
 use Rattle.awk_layout.specs.Valid.{len, IsValid}
+use Rattle.awk_layout.proofs.ArrayItems.{length-array_items}
 use Rattle.awk_layout.proofs.Runs.{value_list-run}
 use Rattle.awk_gather.specs.Arrays.{array_item}
 use Rattle.awk_columns.specs.Columns.{is_present, list_items}
 use Rattle.awk_columns.specs.ListClass.{Class, list_type}
 use Rattle.awk_columns.specs.Lists.{span_length}
-use Rattle.awk_columns.specs.Opened.{OpensLists, OpensOption, OpensNothing}
+use Rattle.awk_columns.specs.Lists.{Listed}
+use Rattle.awk_columns.specs.Opened.{OpensLists, OpensOption, OpensNothing, IsOpened as Opens}
+use Rattle.awk_columns.specs.declared.opening.Opened.{Opened}
+use Rattle.awk_columns.specs.declared.opening.Opened.TheVariants as opened
 use Rattle.awk_columns.proofs.ArrayLaws.{array_items-at, map-same}
 use Rattle.awk_places.specs.Products.{AreSpansOf}
 use Rattle.awk_places.proofs.ProductLaws.{are_counts, count-at}
@@ -30,6 +37,7 @@ use Rattle.awk_merge.specs.Operands.{list_place, values_by, IsListIndex}
 use Rattle.awk_merge.proofs.ListPlaceLaws.{place_within, indexes_all}
 use Rattle.awk_cartesian.specs.Cartesian.{list_item, rows_item}
 use Rattle.awk_cartesian.specs.Sources.{IsSource, IsOpened, source_list, repeated, zeros}
+use Rattle.awk_cartesian.specs.Sources.{IsLists, IsOfLists, IsOfNone}
 use Rattle.awk_cartesian.specs.Spans.{first_of, length_of, first_lane, length_lane}
 use Rattle.awk_cartesian.specs.declared.sources.Source.{Source}
 
@@ -149,12 +157,12 @@ module _ (index : Option Column) (n : ℕ) (class : Class) (s t : Column) (y x :
   pub lists_item : list_item (array_type x) ≡ Some (array_type y)
   lists_item = ap list_item o.typ ∙ class_item class (array_type y)
 
-  pub lists_opened : (r : Source) → r.index ≡ index → r.first ≡ first_lane index s t n
-      → r.length ≡ length_lane index s t n → r.content ≡ y
+  pub lists_opened : (r : Source)
+      → IsOfLists index n (record { class = class; starts = s; stops = t; content = y }) r
       → IsOpened (values_by index n (array_item x)) (list_item (array_type x)) (is_some index) r
-  lists_opened r a b c d =
+  lists_opened r a =
       let m : length (values_by index n (array_item x)) ≡ n = length-rows index n x g in
-      rw (a, b, c, d) (record {
+      rw (a.index, a.first, a.long, a.content) (record {
         source = subst (λ k. IsSource k (first_lane index s t n) (length_lane index s t n) y)
             (sym m) lists_source;
         lists = λ i p. lists_rows i (omega (arith, p, m));
@@ -194,12 +202,11 @@ module _ (index : Option Column) (n : ℕ) (x : Layout) (o : OpensNothing x)
     within = λ i p. omega (arith, count-at n (λ i. 0) i p);
   }
 
-  pub none_opened : (r : Source) → r.index ≡ index → r.first ≡ zeros n → r.length ≡ zeros n
-      → r.content ≡ x
+  pub none_opened : (r : Source) → IsOfNone index n x r
       → IsOpened (values_by index n (array_item x)) (list_item (array_type x)) (is_some index) r
-  none_opened r a b c d =
+  none_opened r a =
       let m : length (values_by index n (array_item x)) ≡ n = length-rows index n x g in
-      rw (a, b, c, d) (record {
+      rw (a.index, a.first, a.long, a.content) (record {
         source = subst (λ k. IsSource k (zeros n) (zeros n) x) (sym m) none_source;
         lists = λ i p. none_rows i (omega (arith, p, m));
         typ = ap list_item o.typ ∙ ap Some (sym o.typ);
@@ -283,3 +290,85 @@ whole_opened x r v a b c d = rw (a, b, c, d) (record {
       ap (λ i. is_present (get_or (list (values_from (array_items x)) ∷ []) i null)) (sym z);
   optional = refl;
 })
+
+-- ---- what can be opened
+
+no_row : (names : Option (List Name)) (ts : List DataType) → IsLists (row_type names (types_from ts))
+    → ⊥
+no_row None ts h = h
+no_row (Some names) ts h = h
+
+pub only_lists : (x : Layout) (o : Opened) → Opens x o → IsLists (array_type x)
+    → ((l : Listed) → o ≡ opened.Items l → ⊥) → ⊥
+only_lists x opened.Unknown k h n = subst IsLists k.typ h
+only_lists x (opened.Leaf c) k h n = subst IsLists k.typ h
+only_lists x (opened.Items l) k h n = n l refl
+only_lists x (opened.Row names ys) k h n =
+    no_row names (map array_type ys) (subst IsLists k.typ h)
+only_lists x (opened.Option j y) k h n = subst IsLists k.typ h
+only_lists x (opened.Union t j ys) k h n = subst IsLists k.typ h
+
+lists_no_option : (class : Class) (u : DataType) → is_option (list_type class u) ≡ false
+lists_no_option None u = refl
+lists_no_option (Some n) u = refl
+
+row_no_option : (names : Option (List Name)) (ts : List DataType)
+    → is_option (row_type names (types_from ts)) ≡ false
+row_no_option None ts = refl
+row_no_option (Some names) ts = refl
+
+both_ways : (t u : DataType) → t ≡ u → is_option u ≡ false → is_option t ≡ true → ⊥
+both_ways t u e f g = go (sym g ∙ ap is_option e ∙ f)
+  where
+    go : true ≡ false → ⊥
+    go h = cc
+
+pub only_option : (x : Layout) (o : Opened) → Opens x o → is_option (array_type x) ≡ true
+    → ((j : Column) (y : Layout) → o ≡ opened.Option j y → ⊥) → ⊥
+only_option x opened.Unknown k h n = both_ways (array_type x) _ k.typ refl h
+only_option x (opened.Leaf c) k h n = both_ways (array_type x) _ k.typ refl h
+only_option x (opened.Items l) k h n =
+    both_ways (array_type x) _ k.typ (lists_no_option l.class (array_type l.content)) h
+only_option x (opened.Row names ys) k h n =
+    both_ways (array_type x) _ k.typ (row_no_option names (map array_type ys)) h
+only_option x (opened.Option j y) k h n = n j y refl
+only_option x (opened.Union t j ys) k h n = both_ways (array_type x) _ k.typ refl h
+
+pub some_lists : (t : DataType) → is_some (list_item t) ≡ true → is_unknown t ≡ false → IsLists t
+some_lists (var t) h e = tt
+some_lists (reg n t) h e = tt
+some_lists unknown h e = absurd (cc)
+some_lists (leaf p) h e = absurd (cc)
+some_lists (rec ns ts) h e = absurd (cc)
+some_lists (tup ts) h e = absurd (cc)
+some_lists (opt t) h e = absurd (cc)
+some_lists (uni ts) h e = absurd (cc)
+
+unknown_is : (t : DataType) → is_unknown t ≡ true → t ≡ unknown
+unknown_is unknown e = refl
+unknown_is (leaf p) e = absurd (cc)
+unknown_is (var t) e = absurd (cc)
+unknown_is (reg n t) e = absurd (cc)
+unknown_is (rec ns ts) e = absurd (cc)
+unknown_is (tup ts) e = absurd (cc)
+unknown_is (opt t) e = absurd (cc)
+unknown_is (uni ts) e = absurd (cc)
+
+-- of unknown there are no items
+pub nothing : (x : Layout) → is_unknown (array_type x) ≡ true
+    → AllByRecursion (Has (array_type x)) (array_items x) → OpensNothing x
+nothing x e h = record {
+  typ = unknown_is (array_type x) e;
+  none = sym (length-array_items x) ∙ go (array_items x)
+      (subst (λ t. AllByRecursion (Has t) (array_items x)) (unknown_is (array_type x) e) h);
+}
+  where
+    go : (ws : List Value) → AllByRecursion (Has unknown) ws → length ws ≡ 0
+    go [] h = refl
+    go (w ∷ ws) h = absurd h.0
+
+-- what holds of a value that is made
+pub mapped : {A E : Type 0} (P Q : A → Type 0) (r : Result A E) → ((x : A) → P x → Q x)
+    → IfOk r P → IfOk r Q
+mapped P Q (Ok x) f h = f x h
+mapped P Q (Err e) f h = h

@@ -1,18 +1,21 @@
 -- The rows of operands, one operand after another.
-use Rattle.std.specs.Prelude.{◌≡◌, refl, ℕ, zero, suc, ◌+◌, ◌<◌, Bool, true, false, ◌&&◌, ◌||◌}
+use Rattle.std.specs.Prelude.{◌≡◌, refl, ℕ, zero, suc, ◌+◌, ◌<◌, ◌≤◌, Bool, true, false, ◌&&◌, ◌||◌}
 use Rattle.std.specs.Prelude.{nat_lt, List, [], ◌∷◌, ◌++◌, length, map, get_or, Option, Some, None}
-use Rattle.std.specs.Prelude.{is_some, take}
+use Rattle.std.specs.Prelude.{is_some, take, ℤ}
 use Rattle.std.specs.List.{range_with_len, list_all, list_any, AllByRecursion, slice_get}
 use Rattle.std.proofs.Common.{arith, ap, ap₂, sym, ◌∙◌, subst, ltb-true}
 use Rattle.std.proofs.lemmas.Bool.{ltb-false}
-use Rattle.std.proofs.lemmas.List.{length-append, map-append, get_or_append_left, get_or_push}
+use Rattle.std.proofs.lemmas.List.{take_all, length-append, map-append, get_or_append_left, get_or_push}
 use Rattle.std.proofs.lemmas.List.Folds.{list_all-append, list_any-append}
 use Rattle.std.proofs.lemmas.List.FromFn.{map-range_with_len_more}
 use Rattle.awk_types.specs.DataType.{DataType}
 use Rattle.awk_types.specs.Datum as shown
 use Rattle.awk_types.specs.Value.{Value, null}
 use Rattle.awk_types.proofs.ListLaws.{take-get}
+use Rattle.awk_lanes.specs.declared.kind.Kind.TheVariants.{I64}
 use Rattle.awk_lanes.specs.Column.{Column}
+use Rattle.awk_lanes.specs.Places.{option_place}
+use Rattle.awk_lanes.proofs.MadeLanes.{size-lane_of, at-lane_of}
 use Rattle.awk_layout.specs.Datum.{datum_of}
 use Rattle.awk_layout.specs.Layout.{Layout, empty}
 use Rattle.awk_layout.specs.Typing.{array_type}
@@ -27,6 +30,7 @@ use Rattle.awk_cartesian.specs.Cartesian.{operand_item, item_types}
 use Rattle.awk_cartesian.specs.Sources.{IsSource, AreSources, list_in, lists_in, source_list}
 use Rattle.awk_cartesian.specs.Sources.{rows_in, may_be_null, IsOpened, present_place}
 use Rattle.awk_cartesian.specs.Sources.{AreBoth, AreRows, pushed}
+use Rattle.awk_cartesian.specs.Spans.{place_in_both, both_lane}
 use Rattle.awk_cartesian.specs.declared.sources.Source.{Source}
 use Rattle.awk_cartesian.specs.declared.sources.Sources.{Sources}
 use Rattle.awk_cartesian.specs.declared.rows.Rows.{Rows}
@@ -114,17 +118,19 @@ types-more axis [] d ts t e f =
     ap (λ o. type_before o (Some [])) f ∙ ap (λ us. Some (us ++ t ∷ [])) (sym no)
 types-more axis (c ∷ ds) d ts t e f =
     go (operand_item axis c) (item_types axis ds) refl refl e
+    (λ us g. types-more axis ds d us t g f)
   where
     go : (o : Option DataType) (os : Option (List DataType)) → operand_item axis c ≡ o
         → item_types axis ds ≡ os → type_before o os ≡ Some ts
+        → ((us : List DataType) → item_types axis ds ≡ Some us
+        → item_types axis (ds ++ d ∷ []) ≡ Some (us ++ t ∷ []))
         → type_before (operand_item axis c) (item_types axis (ds ++ d ∷ []))
         ≡ Some (ts ++ t ∷ [])
-    go None os a b g = absurd (cc)
-    go (Some u) None a b g = absurd (cc)
-    go (Some u) (Some us) a b g =
+    go None os a b g h = absurd (cc)
+    go (Some u) None a b g h = absurd (cc)
+    go (Some u) (Some us) a b g h =
         let w : u ∷ us ≡ ts = cc in
-        ap₂ type_before a (types-more axis ds d us t b f)
-        ∙ ap (λ vs. Some (vs ++ t ∷ [])) w
+        ap₂ type_before a (h us b) ∙ ap (λ vs. Some (vs ++ t ∷ [])) w
 
 -- ---- the rows of operands
 
@@ -153,12 +159,45 @@ or_false : (b : Bool) → (b || false) ≡ b
 or_false true = refl
 or_false false = refl
 
+or_true : (b : Bool) → (b || true) ≡ true
+or_true true = refl
+or_true false = refl
+
+-- ---- rows that are null by neither of two indexes
+
+pub none_both : (n : ℕ) (r : Option Column) → IndexesAll r n → AreBoth n r None r
+none_both n r h = record {
+  index = h;
+  places = λ i p b e. e ∙ ap (λ c. present_place c i) (sym (and_true b));
+  optional = sym (or_false (is_some r));
+}
+
+pub some_both : (n : ℕ) (r : Option Column) (j c : Column) → c ≡ both_lane r (Some j) n
+    → AreBoth n r (Some j) (Some c)
+some_both n r j c e = rw e (record {
+  index = (tt, size-lane_of I64 n f);
+  places = λ i p b g.
+      ap option_place (at-lane_of I64 n f i p)
+      ∙ ap (λ o. option_place (place_in_both i o (list_place (Some j) i))) g
+      ∙ go b i (list_place (Some j) i);
+  optional = sym (or_true (is_some r));
+})
+  where
+    f : ℕ → ℤ
+    f i = place_in_both i (list_place r i) (list_place (Some j) i)
+
+    go : (b : Bool) (i : ℕ) (o : Option ℕ)
+        → option_place (place_in_both i (present_place b i) o) ≡ present_place (b && is_some o) i
+    go true i None = refl
+    go true i (Some q) = refl
+    go false i o = refl
+
 module _ (axis : Axis) (n : ℕ) (ds : List Datum) (d : Datum) (r q : Rows) (s : Source)
     (h : AreRows axis n ds r)
     (o : IsOpened (rows_in axis d) (operand_item axis (datum_of d)) (may_be_null axis d) s)
     (m : length (rows_in axis d) ≡ n) (e : q.sources ≡ pushed r.sources s)
     (b : AreBoth n r.index s.index q.index) where
-  row : ℕ → Value
+  abbrev row : ℕ → Value
   row i = get_or (rows_in axis d) i null
 
   rows-present : (i : ℕ) → i < n → list_place q.index i
@@ -202,6 +241,10 @@ module _ (axis : Axis) (n : ℕ) (ds : List Datum) (d : Datum) (r q : Rows) (s :
   }
 
 -- ---- what holds of an operand
+
+pub all_of_no_more : (axis : Axis) (n : ℕ) (ds : List Datum) (j : ℕ) (r : Rows) → length ds ≤ j
+    → AreRows axis n (take j ds) r → AreRows axis n ds r
+all_of_no_more axis n ds j r l h = subst (λ xs. AreRows axis n xs r) (take_all j ds l) h
 
 pub one_of : {X : Type 0} (P : X → Type 0) (xs : List X) (i : ℕ) (x : X) → slice_get xs i ≡ Some x
     → AllByRecursion P xs → P x

@@ -1,8 +1,8 @@
 -- The types of operands one by one, and what operands are of which there are types.
-use Rattle.std.specs.Prelude.{◌≡◌, refl, ℕ, suc, ◌+◌, ◌<◌, ◌≤◌, Bool, true, false}
+use Rattle.std.specs.Prelude.{◌≡◌, refl, ℕ, suc, ◌+◌, ◌<◌, ◌≤◌, Bool, true, false, ◌||◌}
 use Rattle.std.specs.Prelude.{List, [], ◌∷◌, ◌++◌, length, map, drop}
 use Rattle.std.specs.Prelude.{Option, Some, None, is_some, option_map}
-use Rattle.std.specs.List.{AllByRecursion, slice_get}
+use Rattle.std.specs.List.{AllByRecursion, slice_get, list_any}
 use Rattle.std.proofs.Common.{arith, ap, ap₂, sym, ◌∙◌, subst, append_assoc}
 use Rattle.std.proofs.lemmas.List.{append-nil, drop_all}
 use Rattle.awk_types.specs.DataType.{DataType, tup, var, opt, types_from}
@@ -15,7 +15,7 @@ use Rattle.awk_combi.specs.Combinations.{slot_type}
 use Rattle.awk_merge.specs.Concatenate.{type_before, operand_items}
 use Rattle.awk_merge.specs.Operands.{column_in}
 use Rattle.awk_merge.specs.declared.operands.Axis.{Axis}
-use Rattle.awk_cartesian.specs.Cartesian.{operand_item, item_types}
+use Rattle.awk_cartesian.specs.Cartesian.{operand_item, item_types, has_null_rows}
 use Rattle.awk_cartesian.specs.Sources.{IsListed}
 
 -- ---- the types one by one
@@ -80,6 +80,28 @@ pub simple_more : (places : Bool) (t : DataType) (us ws : List DataType)
 simple_more places t us ws e h k =
     subst (λ ts. AreSimple (types_from ts)) (sym e)
     (simple_append us (slot_type places t ∷ []) k (slot_simple places t h, tt))
+
+-- ---- whether rows may be null, one operand after another
+
+pub nulls_next : (ds : List Datum) (j : ℕ) (d : Datum) (all : Bool) → slice_get ds j ≡ Some d
+    → has_null_rows (datum_of d) ≡ false
+    → list_any has_null_rows (map datum_of (drop j ds)) ≡ all
+    → list_any has_null_rows (map datum_of (drop (j + 1) ds)) ≡ all
+nulls_next ds j d all e f h =
+    sym (ap (λ xs. list_any has_null_rows (map datum_of xs)) (drop-get ds j d e)
+    ∙ ap (λ b. b || list_any has_null_rows (map datum_of (drop (j + 1) ds))) f) ∙ h
+
+pub nulls_found : (ds : List Datum) (j : ℕ) (d : Datum) (all : Bool) → slice_get ds j ≡ Some d
+    → has_null_rows (datum_of d) ≡ true
+    → list_any has_null_rows (map datum_of (drop j ds)) ≡ all → true ≡ all
+nulls_found ds j d all e f h =
+    sym (ap (λ xs. list_any has_null_rows (map datum_of xs)) (drop-get ds j d e)
+    ∙ ap (λ b. b || list_any has_null_rows (map datum_of (drop (j + 1) ds))) f) ∙ h
+
+pub nulls_last : (ds : List Datum) (j : ℕ) (all : Bool) → length ds ≤ j
+    → list_any has_null_rows (map datum_of (drop j ds)) ≡ all → false ≡ all
+nulls_last ds j all l h =
+    sym (ap (λ xs. list_any has_null_rows (map datum_of xs)) (drop_all j ds l)) ∙ h
 
 -- ---- where all have types
 

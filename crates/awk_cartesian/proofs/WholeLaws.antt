@@ -2,7 +2,7 @@
 use Rattle.std.specs.Prelude.{◌≡◌, ◌==◌, refl, ℕ, suc, ◌+◌, ◌<◌, ◌≤◌, ◌^◌, Bool, true, false}
 use Rattle.std.specs.Prelude.{◌&&◌, nat_lt, if◌then◌else◌, List, [], ◌∷◌, length, map}
 use Rattle.std.specs.Prelude.{Option, Some, None, option_map, Result, Ok, Err, IsErrAnd}
-use Rattle.std.specs.List.{list_all, AllByRecursion}
+use Rattle.std.specs.List.{list_all, AllByRecursion, slice_get}
 use Rattle.std.proofs.Common.{arith, ap, ap₂, sym, ◌∙◌, subst}
 use Rattle.awk_types.specs.DataType.{DataType}
 use Rattle.awk_types.specs.Datum as shown
@@ -16,22 +16,25 @@ use Rattle.awk_types.specs.declared.fault.Fault.{Fault}
 use Rattle.awk_types.specs.declared.fault.Fault.TheVariants as fault
 use Rattle.awk_types.specs.declared.limit.TypeFault.{TypeFault}
 use Rattle.awk_types.specs.declared.limit.TypeFault.TheVariants as refused
-use Rattle.awk_types.proofs.RefusalLaws.{Told-first, refused_or-Ok, refused_or-Err, or-assoc}
+use Rattle.awk_types.proofs.RefusalLaws.{Told-first, Told-same, refused_or-Ok, refused_or-Err, or-assoc}
 use Rattle.awk_types.proofs.RefusalLaws.{or-both}
 use Rattle.awk_types.proofs.SimpleLaws.{simple_stays}
-use Rattle.awk_layout.specs.Datum.{datum_of}
+use Rattle.awk_layout.specs.Datum.{datum_of, kept}
+use Rattle.awk_layout.specs.Valid.{len}
+use Rattle.awk_layout.proofs.ArrayItems.{length-array_items}
+use Rattle.awk_layout.specs.declared.datum.Datum.TheVariants.{Arr, One}
 use Rattle.awk_layout.specs.Layout.{Layout}
 use Rattle.awk_layout.specs.Typing.{array_datum}
 use Rattle.awk_layout.specs.declared.datum.Datum.{Datum}
 use Rattle.awk_merge.specs.Concatenate.{are_long, row_count, lengths_fault}
-use Rattle.awk_merge.specs.Operands.{column_in}
+use Rattle.awk_merge.specs.Operands.{array_in, column_in, rows_refused}
 use Rattle.awk_merge.specs.declared.operands.Axis.{Axis}
 use Rattle.awk_merge.specs.declared.operands.Axis.TheVariants.{Arrays, Rows}
 use Rattle.awk_cartesian.specs.Cartesian.{item_types, product_type, product, product_by}
 use Rattle.awk_cartesian.specs.Cartesian.{product_fault, product_values, cartesian_at}
 use Rattle.awk_cartesian.specs.Products.{count_of, rows_fault, tuples_fault, counted_product}
-use Rattle.awk_cartesian.specs.Sources.{rows_in}
-use Rattle.awk_cartesian.proofs.TypeLaws.{operand_columns}
+use Rattle.awk_cartesian.specs.Sources.{rows_in, IsListed}
+use Rattle.awk_cartesian.proofs.TypeLaws.{operand_columns, all_listed}
 
 -- ---- what is told, in order
 
@@ -121,6 +124,52 @@ none_at axis places ds e = go (item_types axis (map datum_of ds)) refl e
     go None f g = ap (product_by axis places (map datum_of ds)) f
     go (Some ts) f g = absurd (cc)
 
+-- ---- columns of operands
+
+kept_in : (d : Datum) → kept d ≡ array_in d
+kept_in (Arr x) = refl
+kept_in (One x) = refl
+
+pub length-kept : (d : Datum) → length (column_in d) ≡ len (kept d)
+length-kept d = length-array_items (array_in d) ∙ ap len (sym (kept_in d))
+
+-- the first operand has as many items as all must have
+pub first_count : (ds : List Datum) (d : Datum) → slice_get ds 0 ≡ Some d
+    → row_count (map column_in ds) ≡ len (kept d)
+first_count [] d e = absurd (cc)
+first_count (x ∷ ds) d e =
+    let f : x ≡ d = cc in length-kept x ∙ ap (λ y. len (kept y)) f
+
+-- what the rows are refused for
+pub rows_judged : (axis : Axis) (ds : List Datum) (d : Datum) (n : ℕ) → axis ≡ Rows
+    → slice_get ds 0 ≡ Some d → n ≡ len (kept d) → (o : Option Fault)
+    → Told o (refused_or (rows_refused n (map column_in ds)) (tt {0}))
+    → Told o (refused_or (rows_fault axis (map column_in ds)) (count_of axis (map column_in ds)))
+rows_judged axis ds d n a e m o h =
+    let vss : List (List Value) = map column_in ds in
+    Told-same o (rows_fault axis vss) (rows_refused n vss) (tt {0}) (count_of axis vss)
+    (ap (λ a. rows_fault a vss) a
+    ∙ ap (λ k. rows_refused k vss) (first_count ds d e ∙ sym m)) h
+
+-- the type within the limits
+pub type_fine : (u t : DataType) → IsSimple u → within (simple u) ≡ Ok t
+    → (limit t ≡ None) × (u ≡ t)
+type_fine u t s e =
+    let both = refused_or-Ok (limit (simple u)) (simple u) t e in
+    (ap limit (sym both.1) ∙ both.0, sym (simple_stays u s) ∙ both.1)
+
+pub listed_by : (axis : Axis) (places : Bool) (ds : List Datum) (u : DataType)
+    → Some u ≡ option_map (product_type axis places (map datum_of ds))
+    (item_types axis (map datum_of ds))
+    → AllByRecursion (IsListed axis) ds
+listed_by axis places ds u e = go (item_types axis (map datum_of ds)) refl e
+  where
+    go : (o : Option (List DataType)) → item_types axis (map datum_of ds) ≡ o
+        → Some u ≡ option_map (product_type axis places (map datum_of ds)) o
+        → AllByRecursion (IsListed axis) ds
+    go None f g = absurd (cc)
+    go (Some ts) f g = all_listed axis ds ts f
+
 -- ---- rows that are not refused
 
 few_items : (n : ℕ) → too_many n ≡ None → n ≤ item_limit
@@ -139,12 +188,14 @@ is_long false e = absurd (cc)
 each_long : (n : ℕ) (ds : List Datum) → are_long n (map column_in ds) ≡ true
     → AllByRecursion (λ d. length (rows_in Rows d) ≡ n) ds
 each_long n [] e = tt
-each_long n (d ∷ ds) e = go (length (column_in d) == n) refl e
+each_long n (d ∷ ds) e = go (length (column_in d) == n) refl e (λ g. each_long n ds g)
   where
     go : (b : Bool) → (length (column_in d) == n) ≡ b → (b && are_long n (map column_in ds)) ≡ true
+        → (are_long n (map column_in ds) ≡ true
+        → AllByRecursion (λ d. length (rows_in Rows d) ≡ n) ds)
         → AllByRecursion (λ d. length (rows_in Rows d) ≡ n) (d ∷ ds)
-    go true f g = (grind (arith, f), each_long n ds g)
-    go false f g = absurd (cc)
+    go true f g h = (grind (arith, f), h g)
+    go false f g h = absurd (cc)
 
 each_one : (ds : List Datum) → AllByRecursion (λ d. length (rows_in Arrays d) ≡ 1) ds
 each_one [] = tt

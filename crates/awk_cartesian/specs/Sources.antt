@@ -3,7 +3,7 @@ use Rattle.std.specs.Prelude.{◌≡◌, ℕ, ◌+◌, ◌<◌, ◌≤◌, Bool,
 use Rattle.std.specs.Prelude.{if◌then◌else◌, List, [], ◌∷◌, ◌++◌}
 use Rattle.std.specs.Prelude.{length, map, get_or, replicate, Option, Some, None, is_some, pos}
 use Rattle.std.specs.List.{range_with_len, list_all, list_any}
-use Rattle.awk_types.specs.DataType.{DataType}
+use Rattle.awk_types.specs.DataType.{DataType, var, reg}
 use Rattle.awk_types.specs.Datum as shown
 use Rattle.awk_types.specs.ItemLimit.{item_limit}
 use Rattle.awk_types.specs.Value.{Value, null, list, value_list, values_from}
@@ -20,7 +20,7 @@ use Rattle.awk_layout.specs.Datum.{datum_of}
 use Rattle.awk_layout.specs.declared.datum.Datum.{Datum}
 use Rattle.awk_gather.specs.Arrays.{array_item}
 use Rattle.awk_columns.specs.Columns.{is_present, list_items}
-use Rattle.awk_columns.specs.Lists.{span_length}
+use Rattle.awk_columns.specs.Lists.{Listed}
 use Rattle.awk_places.specs.Products.{AreSpansOf, no_lane, product_count}
 use Rattle.awk_merge.specs.Concatenate.{row_of}
 use Rattle.awk_merge.specs.Operands.{column_in, list_place, IndexesAll}
@@ -28,6 +28,7 @@ use Rattle.awk_merge.specs.declared.operands.Axis.{Axis}
 use Rattle.awk_merge.specs.declared.operands.Axis.TheVariants.{Arrays, Rows as ByRows}
 use Rattle.awk_cartesian.specs.Cartesian.{has_null_rows, operand_item, item_types}
 use Rattle.awk_cartesian.specs.Cartesian.{tuple_type, tuples_of}
+use Rattle.awk_cartesian.specs.Spans.{first_lane, length_lane}
 use Rattle.awk_cartesian.specs.declared.sources.Source.{Source}
 use Rattle.awk_cartesian.specs.declared.sources.Sources.{Sources}
 use Rattle.awk_cartesian.specs.declared.rows.Rows.{Rows}
@@ -101,6 +102,26 @@ rows_in ByRows d = column_in d
 abbrev pub may_be_null : Axis → Datum → Bool
 may_be_null Arrays d = false
 may_be_null ByRows d = has_null_rows (datum_of d)
+
+-- lists of any length, or of one
+abbrev pub IsLists : DataType → Type 0
+IsLists (var t) = Unit {0}
+IsLists (reg n t) = Unit {0}
+IsLists t = ⊥
+
+-- n rows that are lists by an index
+pub record IsOfLists (j : Option Column) (n : ℕ) (l : Listed) (x : Source) : Type 0 where
+  pub index : x.index ≡ j
+  pub first : x.first ≡ first_lane j l.starts l.stops n
+  pub long : x.length ≡ length_lane j l.starts l.stops n
+  pub content : x.content ≡ l.content
+
+-- n rows of no lists
+pub record IsOfNone (j : Option Column) (n : ℕ) (y : Layout) (x : Source) : Type 0 where
+  pub index : x.index ≡ j
+  pub first : x.first ≡ zeros n
+  pub long : x.length ≡ zeros n
+  pub content : x.content ≡ y
 
 -- rows of a type of lists as a source, with an index where they may be null
 pub record IsOpened (vs : List Value) (item : Option DataType) (nulls : Bool) (x : Source)

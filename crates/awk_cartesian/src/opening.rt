@@ -1,5 +1,5 @@
 //! Operands as lists of rows.
-ghost use Rattle.std.specs.Prelude.{◌≡◌, ◌<◌, ◌^◌, ◌∷◌, [], ℕ, true, false, Some, IfOk, is_some};
+ghost use Rattle.std.specs.Prelude.{◌≡◌, ◌∷◌, [], true, false, Some, IfOk, is_some};
 ghost use Rattle.awk_types.specs.Simple.{is_option};
 ghost use Rattle.awk_types.specs.Value.{list, values_from};
 ghost use Rattle.awk_types.specs.View.{typ_of};
@@ -12,7 +12,9 @@ ghost use Rattle.awk_merge.specs.Operands as spec;
 ghost use Rattle.awk_merge.specs.Operands.{values_by, IndexHas, IsListIndex};
 ghost use Rattle.awk_cartesian.specs.Cartesian.{list_item, rows_item, operand_item};
 ghost use Rattle.awk_cartesian.specs.Sources.{rows_in, may_be_null, IsOpened};
+ghost use Rattle.awk_cartesian.specs.Sources.{IsLists, IsOfLists, IsOfNone};
 ghost use Rattle.awk_cartesian.specs.Spans as spans;
+ghost use Rattle.awk_columns.specs.Opened.{OpensLists, OpensOption};
 
 use crate::sources::Source;
 use crate::tuples::repeated;
@@ -22,7 +24,7 @@ use awk_lanes::{
 };
 use awk_layout::{Array, Datum};
 use awk_merge::Axis;
-use awk_types::{NoMemory, Typ};
+use awk_types::{NoMemory, Typ, is_unknown};
 use std::alloc::Global;
 use std::sync::ledger::Ledger;
 
@@ -147,6 +149,90 @@ fn length_lane<'a, L: Ledger>(
     made_lane(Kind::I64, n, &RowLengths { rows }, arena, steps)
 }
 
+/// The lists of an array of lists.
+fn opened_lists<'a, L: Ledger>(
+    alloc: Global,
+    x: &Array<'a>,
+    arena: &'a Arena,
+    steps: &mut Steps<L>,
+) -> Result<Lists<'a>, NoMemory>
+    requires { IsLists (array_type x.now) }
+    ensures { IfOk result (λ r. OpensLists r.class r.starts r.stops r.content x.now) }
+{
+    match open_array(alloc, x, arena, steps)? {
+        Opened::Items(lists) => Ok(lists),
+        _ => unreachable!(),
+    }
+}
+
+/// Items that may be null: where each is in a content.
+#[derive(Drop)]
+struct Nullable<'a> {
+    index: Lane<'a>,
+    content: Array<'a>,
+}
+
+/// The items of an array that may be null.
+fn opened_option<'a, L: Ledger>(
+    alloc: Global,
+    x: &Array<'a>,
+    arena: &'a Arena,
+    steps: &mut Steps<L>,
+) -> Result<Nullable<'a>, NoMemory>
+    requires { is_option (array_type x.now) ≡ true }
+    ensures { IfOk result (λ r. OpensOption r.index r.content x.now) }
+{
+    match open_array(alloc, x, arena, steps)? {
+        Opened::Option { index, content } => Ok(Nullable { index, content }),
+        _ => unreachable!(),
+    }
+}
+
+/// Rows that are lists by an index.
+fn lists_source<'a, L: Ledger>(
+    alloc: Global,
+    index: Option<Lane<'a>>,
+    n: u64,
+    lists: &Lists<'a>,
+    arena: &'a Arena,
+    steps: &mut Steps<L>,
+) -> Result<Source<'a>, NoMemory>
+    requires { IsListIndex index n (size_of lists.now.starts) }
+    ensures { IfOk result (IsOfLists index.entry n lists.now) }
+{
+    let first = first_lane(&index, n, lists, arena, steps)?;
+    let length = length_lane(&index, n, lists, arena, steps)?;
+    let content = lists.content().copy(alloc)?;
+    Ok(Source {
+        index,
+        first,
+        length,
+        content,
+    })
+}
+
+/// Rows of no lists.
+fn empty_source<'a, L: Ledger>(
+    alloc: Global,
+    index: Option<Lane<'a>>,
+    n: u64,
+    x: &Array<'a>,
+    arena: &'a Arena,
+    steps: &mut Steps<L>,
+) -> Result<Source<'a>, NoMemory>
+    ensures { IfOk result (IsOfNone index.entry n x.now) }
+{
+    let first = repeated(n, 0, arena, steps)?;
+    let length = repeated(n, 0, arena, steps)?;
+    let content = x.copy(alloc)?;
+    Ok(Source {
+        index,
+        first,
+        length,
+        content,
+    })
+}
+
 /// Rows that are the lists of an array, by an index.
 fn indexed_source<'a, L: Ledger>(
     alloc: Global,
@@ -158,32 +244,16 @@ fn indexed_source<'a, L: Ledger>(
 ) -> Result<Source<'a>, NoMemory>
     requires lists { is_some (list_item (array_type x.now)) ≡ true }
     requires index { IsListIndex index n (len x.now) }
-    requires fits { n < 2 ^ 63 }
     ensures { let vs = values_by index.entry n (array_item x.now) in
         let item = list_item (array_type x.now) in
         IfOk result (IsOpened vs item (is_some index.entry)) }
 {
     let _ = x.len();
-    match open_array(alloc, x, arena, steps)? {
-        Opened::Items(lists) => {
-            let first = first_lane(&index, n, &lists, arena, steps)?;
-            let length = length_lane(&index, n, &lists, arena, steps)?;
-            let content = lists.content().copy(alloc)?;
-            Ok(Source {
-                index,
-                first,
-                length,
-                content,
-            })
-        }
-        Opened::Unknown => Ok(Source {
-            index,
-            first: repeated(n, 0, arena, steps)?,
-            length: repeated(n, 0, arena, steps)?,
-            content: x.copy(alloc)?,
-        }),
-        _ => unreachable!(),
+    if is_unknown(x.typ()) {
+        return empty_source(alloc, index, n, x, arena, steps);
     }
+    let lists = opened_lists(alloc, x, arena, steps)?;
+    lists_source(alloc, index, n, &lists, arena, steps)
 }
 
 /// Whether the items of a type may be null.
@@ -208,12 +278,8 @@ fn rows_source<'a, L: Ledger>(
     if !is_option(x.typ()) {
         return indexed_source(alloc, None, n, x, arena, steps);
     }
-    match open_array(alloc, x, arena, steps)? {
-        Opened::Option { index, content } => {
-            indexed_source(alloc, Some(index), n, &content, arena, steps)
-        }
-        _ => unreachable!(),
-    }
+    let rows = opened_option(alloc, x, arena, steps)?;
+    indexed_source(alloc, Some(rows.index), n, &rows.content, arena, steps)
 }
 
 /// An array as one row.
@@ -226,11 +292,14 @@ fn whole_source<'a, L: Ledger>(
     ensures { let vs = list (values_from (array_items x.now)) ∷ [] in
         IfOk result (IsOpened vs (Some (array_type x.now)) false) }
 {
+    let first = repeated(1, 0, arena, steps)?;
+    let length = repeated(1, x.len(), arena, steps)?;
+    let content = x.copy(alloc)?;
     Ok(Source {
         index: None,
-        first: repeated(1, 0, arena, steps)?,
-        length: repeated(1, x.len(), arena, steps)?,
-        content: x.copy(alloc)?,
+        first,
+        length,
+        content,
     })
 }
 

@@ -44,13 +44,13 @@ impl<'b, 'a> Numbers for BothRows<'b, 'a> {
         × (f.n < 2 ^ 63) };
 
     fn number<L: Ledger>(&self, i: u64, steps: &mut Steps<L>) -> Num {
-        if list_place(self.rows, i, steps).is_none() {
-            return Num::Int(-1);
+        match list_place(self.rows, i, steps) {
+            None => Num::Int(-1),
+            Some(_) => match list_place(self.index, i, steps) {
+                None => Num::Int(-1),
+                Some(_) => number(i),
+            },
         }
-        if list_place(self.index, i, steps).is_none() {
-            return Num::Int(-1);
-        }
-        number(i)
     }
 }
 
