@@ -1,21 +1,21 @@
 -- What the tuples of operands are as an array, and what is told of them.
-use Rattle.std.specs.Prelude.{◌≡◌, refl, ℕ, zero, suc, ◌+◌, ◌-◌, ◌<◌, ◌≤◌, ◌^◌, Bool, true, false}
+use Rattle.std.specs.Prelude.{◌≡◌, refl, ℕ, ◌+◌, ◌-◌, ◌<◌, ◌≤◌, ◌^◌, Bool, true, false}
 use Rattle.std.specs.Prelude.{◌||◌, if◌then◌else◌, List, [], ◌∷◌, length, map, get_or}
-use Rattle.std.specs.Prelude.{ℤ, pos, negsuc, ◌<ℤ◌, Option, Some, None, is_some, option_map, Result, Ok, Err}
+use Rattle.std.specs.Prelude.{ℤ, pos, negsuc, ◌<ℤ◌, Option, Some, None, is_some, option_map, Ok, Err}
 use Rattle.std.specs.List.{range_with_len, list_all, list_any, AllByRecursion}
-use Rattle.std.proofs.Common.{arith, ap, ap₂, sym, ◌∙◌, subst}
+use Rattle.std.proofs.Common.{arith, ap, ap₂, sym, ◌∙◌}
 use Rattle.std.proofs.lemmas.Int.{ints}
 use Rattle.awk_types.specs.DataType.{DataType, var, opt}
 use Rattle.awk_types.specs.Datum as shown
-use Rattle.awk_types.specs.Gives.{refused_or, ◌or◌}
-use Rattle.awk_types.specs.ItemLimit.{item_limit, too_many}
-use Rattle.awk_types.specs.Simple.{option_if, present, simple_value, in_option}
+use Rattle.awk_types.specs.Gives.{refused_or}
+use Rattle.awk_types.specs.ItemLimit.{too_many}
+use Rattle.awk_types.specs.Simple.{option_if, simple_value, in_option}
 use Rattle.awk_types.specs.Value.{Value, null, list, value_list, values_from}
 use Rattle.awk_types.specs.declared.fault.Fault.TheVariants.{Size}
 use Rattle.awk_types.proofs.RefusalLaws.{refused_or-None}
 use Rattle.awk_types.proofs.Trees.{value_list-from, values_from-list}
 use Rattle.awk_lanes.specs.Column.{Column}
-use Rattle.awk_lanes.specs.Counted.{before, offsets_by}
+use Rattle.awk_lanes.specs.Counted.{before}
 use Rattle.awk_lanes.specs.declared.kind.Kind.TheVariants.{I64}
 use Rattle.awk_lanes.specs.Places.{size_of, at, place_at, option_place, IsOffsets}
 use Rattle.awk_lanes.proofs.MadeLanes.{size-lane_of}
@@ -32,7 +32,7 @@ use Rattle.awk_open.proofs.OpenedKinds.{item-offset_lists}
 use Rattle.awk_columns.specs.Columns.{is_present, list_items, joined_items}
 use Rattle.awk_columns.proofs.ArrayLaws.{array_items-at, map-same, simple_null, in_option_same}
 use Rattle.awk_places.specs.Places.{place_count}
-use Rattle.awk_places.specs.Products.{lengths_at, product_count}
+use Rattle.awk_places.specs.Products.{product_count}
 use Rattle.awk_combi.proofs.OffsetLaws.{are_offsets, offset-length}
 use Rattle.awk_merge.specs.Concatenate.{row_of, row_count}
 use Rattle.awk_merge.specs.Operands.{column_in, list_place, IndexesAll}
@@ -43,7 +43,7 @@ use Rattle.awk_cartesian.specs.Cartesian.{has_null_rows, item_types, tuple_type,
 use Rattle.awk_cartesian.specs.Cartesian.{tuples_of, row_tuples, rows_tuples, product_values}
 use Rattle.awk_cartesian.specs.Products.{row_node, product_node, tuples_fault, counted_product}
 use Rattle.awk_cartesian.specs.Products.{IsIndexOf}
-use Rattle.awk_cartesian.specs.Sources.{lists_in, rows_in, may_be_null, present_place}
+use Rattle.awk_cartesian.specs.Sources.{rows_in, may_be_null, present_place}
 use Rattle.awk_cartesian.specs.Sources.{AreTuplesOf, AreProducts, AreRows}
 use Rattle.awk_cartesian.specs.declared.rows.Rows.{Rows}
 use Rattle.awk_cartesian.specs.declared.sources.Sources.{Sources}

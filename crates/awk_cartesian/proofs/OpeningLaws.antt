@@ -1,8 +1,8 @@
 -- Operands as lists of rows.
-use Rattle.std.specs.Prelude.{◌≡◌, ◌==◌, refl, ℕ, zero, suc, ◌+◌, ◌-◌, ◌<◌, ◌≤◌, ◌^◌, Bool, true, false}
+use Rattle.std.specs.Prelude.{◌≡◌, ◌==◌, refl, ℕ, zero, suc, ◌+◌, ◌<◌, ◌≤◌, true, false}
 use Rattle.std.specs.Prelude.{if◌then◌else◌, List, [], ◌∷◌, length, map, get_or}
-use Rattle.std.specs.Prelude.{Option, Some, None, is_some, pos, Result, Ok, Err, IfOk}
-use Rattle.std.specs.List.{range_with_len, AllByRecursion}
+use Rattle.std.specs.Prelude.{Option, Some, None, is_some, Result, Ok, Err, IfOk}
+use Rattle.std.specs.List.{AllByRecursion}
 use Rattle.std.proofs.Common.{arith, ap, ap₂, sym, ◌∙◌, subst}
 use Rattle.std.proofs.lemmas.List.FromFn.{get_or-map-range_with_len, length-map-range_with_len}
 use Rattle.awk_types.specs.DataType.{DataType, Name, unknown, leaf, var, reg, rec, tup, opt, uni}
@@ -30,7 +30,6 @@ use Rattle.awk_columns.specs.Opened.{OpensLists, OpensOption, OpensNothing, IsOp
 use Rattle.awk_columns.specs.declared.opening.Opened.{Opened}
 use Rattle.awk_columns.specs.declared.opening.Opened.TheVariants as opened
 use Rattle.awk_columns.proofs.ArrayLaws.{array_items-at, map-same}
-use Rattle.awk_places.specs.Products.{AreSpansOf}
 use Rattle.awk_places.proofs.ProductLaws.{are_counts, count-at}
 use Rattle.awk_combi.proofs.SpanLaws.{within}
 use Rattle.awk_merge.specs.Operands.{list_place, values_by, IsListIndex}

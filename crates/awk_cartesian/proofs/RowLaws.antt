@@ -2,7 +2,7 @@
 use Rattle.std.specs.Prelude.{◌≡◌, refl, ℕ, zero, suc, ◌+◌, ◌<◌, ◌≤◌, Bool, true, false, ◌&&◌, ◌||◌}
 use Rattle.std.specs.Prelude.{nat_lt, List, [], ◌∷◌, ◌++◌, length, map, get_or, Option, Some, None}
 use Rattle.std.specs.Prelude.{is_some, take, ℤ}
-use Rattle.std.specs.List.{range_with_len, list_all, list_any, AllByRecursion, slice_get}
+use Rattle.std.specs.List.{range_with_len, list_all, AllByRecursion, slice_get}
 use Rattle.std.proofs.Common.{arith, ap, ap₂, sym, ◌∙◌, subst, ltb-true}
 use Rattle.std.proofs.lemmas.Bool.{ltb-false}
 use Rattle.std.proofs.lemmas.List.{take_all, length-append, map-append, get_or_append_left, get_or_push}
@@ -11,13 +11,12 @@ use Rattle.std.proofs.lemmas.List.FromFn.{map-range_with_len_more}
 use Rattle.awk_types.specs.DataType.{DataType}
 use Rattle.awk_types.specs.Datum as shown
 use Rattle.awk_types.specs.Value.{Value, null}
-use Rattle.awk_types.proofs.ListLaws.{take-get}
 use Rattle.awk_lanes.specs.declared.kind.Kind.TheVariants.{I64}
 use Rattle.awk_lanes.specs.Column.{Column}
 use Rattle.awk_lanes.specs.Places.{option_place}
 use Rattle.awk_lanes.proofs.MadeLanes.{size-lane_of, at-lane_of}
 use Rattle.awk_layout.specs.Datum.{datum_of}
-use Rattle.awk_layout.specs.Layout.{Layout, empty}
+use Rattle.awk_layout.specs.Layout.{empty}
 use Rattle.awk_layout.specs.Typing.{array_type}
 use Rattle.awk_layout.specs.declared.datum.Datum.{Datum}
 use Rattle.awk_columns.specs.Columns.{is_present, list_items}

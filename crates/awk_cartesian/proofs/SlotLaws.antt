@@ -1,24 +1,21 @@
 -- The places in the slots of tuples, and what stands there.
-use Rattle.std.specs.Prelude.{◌≡◌, refl, ℕ, zero, suc, ◌+◌, ◌<◌, ◌≤◌, ◌^◌, Bool, true, false}
-use Rattle.std.specs.Prelude.{List, [], ◌∷◌, ◌++◌, length, map, get_or, replicate, ℤ, pos, ◌≤ℤ◌}
+use Rattle.std.specs.Prelude.{◌≡◌, refl, ℕ, zero, suc, ◌+◌, ◌<◌, Bool, true, false}
+use Rattle.std.specs.Prelude.{List, [], ◌∷◌, ◌++◌, length, map, get_or, replicate, pos, ◌≤ℤ◌}
 use Rattle.std.specs.Prelude.{nat_lt}
 use Rattle.std.specs.List.{range_with_len, AllByRecursion}
-use Rattle.std.proofs.Common.{arith, ap, ap₂, sym, ◌∙◌, subst, ltb-true}
+use Rattle.std.proofs.Common.{arith, ap, sym, ◌∙◌, subst, ltb-true}
 use Rattle.std.proofs.lemmas.Bool.{ltb-false}
 use Rattle.std.proofs.lemmas.Int.{ints}
-use Rattle.std.proofs.lemmas.List.{get_or-replicate, length-replicate, length-append}
+use Rattle.std.proofs.lemmas.List.{get_or-replicate, length-append}
 use Rattle.std.proofs.lemmas.List.{get_or_append_left, get_or_push}
 use Rattle.std.proofs.lemmas.List.FromFn.{get_or-map-range_with_len, length-map-range_with_len}
 use Rattle.std.proofs.lemmas.Simd.{map-map}
-use Rattle.awk_types.specs.ItemLimit.{item_limit}
-use Rattle.awk_types.specs.Value.{Value, int, null, value_list}
-use Rattle.awk_lanes.specs.declared.kind.Kind.TheVariants.{I64}
+use Rattle.awk_types.specs.Value.{int}
 use Rattle.awk_lanes.specs.Column.{Column}
-use Rattle.awk_lanes.specs.Counted.{before, numbers_of_lists}
+use Rattle.awk_lanes.specs.Counted.{before}
 use Rattle.awk_lanes.specs.Numbers.{nat_of}
-use Rattle.awk_lanes.specs.Places.{size_of, at, place_at, IsIndex}
+use Rattle.awk_lanes.specs.Places.{place_at}
 use Rattle.awk_lanes.proofs.CountedLanes.{length-numbers, numbers-at, before_mono, before-next}
-use Rattle.awk_layout.specs.Item.{run}
 use Rattle.awk_layout.specs.Layout.{Layout, empty}
 use Rattle.awk_layout.specs.Valid.{len}
 use Rattle.awk_layout.proofs.Runs.{length-run}
@@ -35,7 +32,7 @@ use Rattle.awk_combi.specs.Slots.{IsSlotLane, IsSlot, slot_item}
 use Rattle.awk_combi.proofs.SpanLaws.{numbers-all}
 use Rattle.awk_combi.proofs.TupleLaws.{run_get}
 use Rattle.awk_cartesian.specs.Slots.{AreSlotLanes, AreSlots, IsFew}
-use Rattle.awk_cartesian.specs.Sources.{IsSource, AreSources, list_in, lists_in, source_list}
+use Rattle.awk_cartesian.specs.Sources.{AreSources, list_in, lists_in}
 use Rattle.awk_cartesian.specs.Sources.{zeros, slot_firsts}
 use Rattle.awk_cartesian.specs.declared.sources.Sources.{Sources}
 

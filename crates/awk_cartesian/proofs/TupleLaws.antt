@@ -1,35 +1,33 @@
 -- Tuples whose slots stand beside one another, as the tuples of lists.
-use Rattle.std.specs.Prelude.{◌≡◌, refl, ℕ, zero, suc, ◌+◌, ◌<◌, ◌≤◌, ◌^◌, Bool, true, false}
-use Rattle.std.specs.Prelude.{List, [], ◌∷◌, length, map, get_or, None, Some}
+use Rattle.std.specs.Prelude.{◌≡◌, refl, ℕ, suc, ◌+◌, ◌<◌, ◌≤◌, Bool}
+use Rattle.std.specs.Prelude.{List, [], ◌∷◌, length, map, get_or, None}
 use Rattle.std.specs.List.{range_with_len}
 use Rattle.std.proofs.Common.{arith, ap, ap₂, sym, ◌∙◌, subst}
 use Rattle.std.proofs.lemmas.List.{length-map}
 use Rattle.std.proofs.lemmas.List.FromFn.{get_or-map-range_with_len, length-map-range_with_len}
-use Rattle.awk_types.specs.DataType.{DataType, tup, types_from}
+use Rattle.awk_types.specs.DataType.{tup, types_from}
 use Rattle.awk_types.specs.ItemLimit.{item_limit}
-use Rattle.awk_types.specs.Value.{Value, null, row, value_list, values_from}
+use Rattle.awk_types.specs.Value.{Value, row, value_list, values_from}
 use Rattle.awk_lanes.specs.Column.{Column}
 use Rattle.awk_lanes.specs.Counted.{before, offsets_by}
-use Rattle.awk_lanes.specs.Places.{size_of, place_at}
+use Rattle.awk_lanes.specs.Places.{size_of}
 use Rattle.awk_lanes.proofs.CountedLanes.{length-numbers}
 use Rattle.awk_layout.specs.Item.{run}
 use Rattle.awk_layout.specs.Layout.{Layout, empty, rows, layouts_from}
 use Rattle.awk_layout.specs.Typing.{array_type}
-use Rattle.awk_layout.specs.Valid.{len, IsValid, AllReach, AllValid}
+use Rattle.awk_layout.specs.Valid.{len, AllReach, AllValid}
 use Rattle.awk_gather.specs.Arrays.{array_item}
 use Rattle.awk_open.proofs.OpenedKinds.{item-rows, type-rows}
-use Rattle.awk_columns.proofs.ArrayLaws.{map-same}
-use Rattle.awk_places.specs.Places.{place_lists, place_count}
+use Rattle.awk_places.specs.Places.{place_lists}
 use Rattle.awk_places.specs.Products.{no_lane, lengths_at, product_count, product_place}
 use Rattle.awk_places.specs.Products.{product_lanes}
 use Rattle.awk_places.proofs.FlatLaws.{map-in_place}
 use Rattle.awk_places.proofs.Levels.{length-place_lists}
 use Rattle.awk_places.proofs.PlaceLists.{tuple-at}
 use Rattle.awk_combi.specs.Combinations.{slot_type, slot_value}
-use Rattle.awk_combi.specs.Slots.{IsSlot}
 use Rattle.awk_combi.proofs.TupleLaws.{run_by, all_reach, all_valid}
 use Rattle.awk_cartesian.specs.Cartesian.{slot_values, tuple_of, tuples_of, tuple_type}
-use Rattle.awk_cartesian.specs.Slots.{AreSlots, IsFew}
+use Rattle.awk_cartesian.specs.Slots.{AreSlots}
 use Rattle.awk_cartesian.specs.Sources.{AreSources, AreTuplesOf, list_in, lists_in, slot_firsts}
 use Rattle.awk_cartesian.specs.declared.sources.Sources.{Sources}
 use Rattle.awk_cartesian.specs.declared.tuples.Tuples.{Tuples}

@@ -1,11 +1,11 @@
 -- The types of operands one by one, and what operands are of which there are types.
-use Rattle.std.specs.Prelude.{◌≡◌, refl, ℕ, suc, ◌+◌, ◌<◌, ◌≤◌, Bool, true, false, ◌||◌}
+use Rattle.std.specs.Prelude.{◌≡◌, refl, ℕ, ◌+◌, ◌≤◌, Bool, true, false, ◌||◌}
 use Rattle.std.specs.Prelude.{List, [], ◌∷◌, ◌++◌, length, map, drop}
 use Rattle.std.specs.Prelude.{Option, Some, None, is_some, option_map}
 use Rattle.std.specs.List.{AllByRecursion, slice_get, list_any}
-use Rattle.std.proofs.Common.{arith, ap, ap₂, sym, ◌∙◌, subst, append_assoc}
+use Rattle.std.proofs.Common.{ap, ap₂, sym, ◌∙◌, subst, append_assoc}
 use Rattle.std.proofs.lemmas.List.{append-nil, drop_all}
-use Rattle.awk_types.specs.DataType.{DataType, tup, var, opt, types_from}
+use Rattle.awk_types.specs.DataType.{DataType, types_from}
 use Rattle.awk_types.specs.Simple.{IsSimple, AreSimple}
 use Rattle.awk_types.proofs.ListLaws.{drop-get}
 use Rattle.awk_layout.specs.Datum.{datum_of}

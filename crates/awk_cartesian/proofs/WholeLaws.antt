@@ -1,8 +1,8 @@
 -- The parts of a call as parts of its definition.
-use Rattle.std.specs.Prelude.{◌≡◌, ◌==◌, refl, ℕ, suc, ◌+◌, ◌<◌, ◌≤◌, ◌^◌, Bool, true, false}
+use Rattle.std.specs.Prelude.{◌≡◌, ◌==◌, refl, ℕ, ◌<◌, ◌≤◌, ◌^◌, Bool, true, false}
 use Rattle.std.specs.Prelude.{◌&&◌, nat_lt, if◌then◌else◌, List, [], ◌∷◌, length, map}
 use Rattle.std.specs.Prelude.{Option, Some, None, option_map, Result, Ok, Err, IsErrAnd}
-use Rattle.std.specs.List.{list_all, AllByRecursion, slice_get}
+use Rattle.std.specs.List.{AllByRecursion, slice_get}
 use Rattle.std.proofs.Common.{arith, ap, ap₂, sym, ◌∙◌, subst}
 use Rattle.awk_types.specs.DataType.{DataType}
 use Rattle.awk_types.specs.Datum as shown
@@ -49,68 +49,68 @@ fault_parts Rows places vss =
 module _ (axis : Axis) (places : Bool) (ds : List Datum) (u : DataType)
     (e : Some u
     ≡ option_map (product_type axis places (map datum_of ds)) (item_types axis (map datum_of ds)))
-    where
-  abbrev vss : List (List Value)
-  vss = map column_in ds
+  where
+    abbrev vss : List (List Value)
+    vss = map column_in ds
 
-  whole : (o : Option (List DataType)) → item_types axis (map datum_of ds) ≡ o
-      → Some u ≡ option_map (product_type axis places (map datum_of ds)) o
-      → cartesian_at (Some axis) places (map datum_of ds) ≡ product axis places u vss
-  whole None f g = absurd (cc)
-  whole (Some ts) f g =
-      let t : product_type axis places (map datum_of ds) ts ≡ u = cc in
-      ap (product_by axis places (map datum_of ds)) f
-      ∙ ap₂ (product axis places) t (operand_columns axis ds ts f)
+    whole : (o : Option (List DataType)) → item_types axis (map datum_of ds) ≡ o
+        → Some u ≡ option_map (product_type axis places (map datum_of ds)) o
+        → cartesian_at (Some axis) places (map datum_of ds) ≡ product axis places u vss
+    whole None f g = absurd (cc)
+    whole (Some ts) f g =
+        let t : product_type axis places (map datum_of ds) ts ≡ u = cc in
+        ap (product_by axis places (map datum_of ds)) f
+        ∙ ap₂ (product axis places) t (operand_columns axis ds ts f)
 
-  pub whole_is : cartesian_at (Some axis) places (map datum_of ds) ≡ product axis places u vss
-  whole_is = whole (item_types axis (map datum_of ds)) refl e
+    pub whole_is : cartesian_at (Some axis) places (map datum_of ds) ≡ product axis places u vss
+    whole_is = whole (item_types axis (map datum_of ds)) refl e
 
-  -- what the type passes is told first
-  limit_first : (l : Option Limit) (rest : Option Fault) (f : TypeFault) (d : shown.Datum)
-      → Told (limit_told f) (refused_or l u)
-      → Told (fault_told (fault_of f)) (refused_or (option_map limit_fault l or rest) d)
-  limit_first l rest refused.NoMemory d h = tt
-  limit_first l rest refused.Depth d h =
-      ap (λ m. refused_or (option_map limit_fault m or rest) d) (refused_or-Err l u depth_limit h)
-  limit_first l rest refused.Size d h =
-      ap (λ m. refused_or (option_map limit_fault m or rest) d) (refused_or-Err l u size_limit h)
+    -- what the type passes is told first
+    limit_first : (l : Option Limit) (rest : Option Fault) (f : TypeFault) (d : shown.Datum)
+        → Told (limit_told f) (refused_or l u)
+        → Told (fault_told (fault_of f)) (refused_or (option_map limit_fault l or rest) d)
+    limit_first l rest refused.NoMemory d h = tt
+    limit_first l rest refused.Depth d h =
+        ap (λ m. refused_or (option_map limit_fault m or rest) d) (refused_or-Err l u depth_limit h)
+    limit_first l rest refused.Size d h =
+        ap (λ m. refused_or (option_map limit_fault m or rest) d) (refused_or-Err l u size_limit h)
 
-  pub limit_gives : IsSimple u → (f : TypeFault) (r : Result Layout Fault)
-      → IsErrAnd r (λ x. x ≡ fault_of f) → Told (limit_told f) (within (simple u))
-      → Gives array_datum fault_told r (cartesian_at (Some axis) places (map datum_of ds))
-  limit_gives s f (Ok y) h k = absurd h
-  limit_gives s f (Err x) h k =
-      subst (λ z. Told (fault_told z) (cartesian_at (Some axis) places (map datum_of ds))) (sym h)
-      (subst (Told (fault_told (fault_of f))) (sym whole_is)
-      (limit_first (limit u) (product_fault axis places vss) f
-      (shown.arr u (product_values axis places vss))
-      (subst (λ t. Told (limit_told f) (within t)) (simple_stays u s) k)))
-
-  module _ (fine : limit u ≡ None) where
-    after_limit : product axis places u vss
-        ≡ refused_or (rows_fault axis vss or tuples_fault axis places vss)
+    pub limit_gives : IsSimple u → (f : TypeFault) (r : Result Layout Fault)
+        → IsErrAnd r (λ x. x ≡ fault_of f) → Told (limit_told f) (within (simple u))
+        → Gives array_datum fault_told r (cartesian_at (Some axis) places (map datum_of ds))
+    limit_gives s f (Ok y) h k = absurd h
+    limit_gives s f (Err x) h k =
+        subst (λ z. Told (fault_told z) (cartesian_at (Some axis) places (map datum_of ds))) (sym h)
+        (subst (Told (fault_told (fault_of f))) (sym whole_is)
+        (limit_first (limit u) (product_fault axis places vss) f
         (shown.arr u (product_values axis places vss))
-    after_limit =
-        ap (λ l. refused_or (option_map limit_fault l or product_fault axis places vss)
-        (shown.arr u (product_values axis places vss))) fine
-        ∙ ap (λ f. refused_or f (shown.arr u (product_values axis places vss)))
-        (fault_parts axis places vss)
+        (subst (λ t. Told (limit_told f) (within t)) (simple_stays u s) k)))
 
-    -- then what the rows are refused for
-    pub rows_told : (o : Option Fault) → Told o (refused_or (rows_fault axis vss) (count_of axis vss))
-        → Told o (cartesian_at (Some axis) places (map datum_of ds))
-    rows_told o h =
-        subst (Told o) (sym (whole_is ∙ after_limit))
-        (Told-first o (rows_fault axis vss) (tuples_fault axis places vss) (count_of axis vss)
-        (shown.arr u (product_values axis places vss)) h)
+    module _ (fine : limit u ≡ None) where
+      after_limit : product axis places u vss
+          ≡ refused_or (rows_fault axis vss or tuples_fault axis places vss)
+          (shown.arr u (product_values axis places vss))
+      after_limit =
+          ap (λ l. refused_or (option_map limit_fault l or product_fault axis places vss)
+          (shown.arr u (product_values axis places vss))) fine
+          ∙ ap (λ f. refused_or f (shown.arr u (product_values axis places vss)))
+          (fault_parts axis places vss)
 
-    -- then how many tuples there are
-    pub counted_is : rows_fault axis vss ≡ None
-        → counted_product axis places u vss ≡ cartesian_at (Some axis) places (map datum_of ds)
-    counted_is n =
-        sym (whole_is ∙ after_limit
-        ∙ ap (λ f. refused_or (f or tuples_fault axis places vss)
-        (shown.arr u (product_values axis places vss))) n)
+      -- then what the rows are refused for
+      pub rows_told : (o : Option Fault) → Told o (refused_or (rows_fault axis vss) (count_of axis vss))
+          → Told o (cartesian_at (Some axis) places (map datum_of ds))
+      rows_told o h =
+          subst (Told o) (sym (whole_is ∙ after_limit))
+          (Told-first o (rows_fault axis vss) (tuples_fault axis places vss) (count_of axis vss)
+          (shown.arr u (product_values axis places vss)) h)
+
+      -- then how many tuples there are
+      pub counted_is : rows_fault axis vss ≡ None
+          → counted_product axis places u vss ≡ cartesian_at (Some axis) places (map datum_of ds)
+      counted_is n =
+          sym (whole_is ∙ after_limit
+          ∙ ap (λ f. refused_or (f or tuples_fault axis places vss)
+          (shown.arr u (product_values axis places vss))) n)
 
 pub none_at : (axis : Axis) (places : Bool) (ds : List Datum)
     → None ≡ option_map (product_type axis places (map datum_of ds))

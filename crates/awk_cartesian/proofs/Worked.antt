@@ -1,9 +1,9 @@
 -- Worked cartesian products, each checked by computing.
-use Rattle.std.specs.Prelude.{◌≡◌, refl, List, [], ◌∷◌, map, pos, negsuc, ℤ, Ok, Err, true, false}
+use Rattle.std.specs.Prelude.{◌≡◌, refl, List, [], ◌∷◌, map, pos, ℤ, Ok, Err, true, false}
 use Rattle.awk_types.specs.declared.primitive.Primitive.TheVariants.{I64}
 use Rattle.awk_types.specs.DataType.{DataType, unknown, leaf, var, reg, opt, tup, types_from}
 use Rattle.awk_types.specs.Value.{Value, int, null, list, row, values_from}
-use Rattle.awk_types.specs.Datum.{Datum, arr, one}
+use Rattle.awk_types.specs.Datum.{arr, one}
 use Rattle.awk_types.specs.declared.fault.Fault.TheVariants.{Axis, Lengths}
 use Rattle.awk_cartesian.specs.Cartesian.{cartesian_of}
 

@@ -4,7 +4,6 @@ use Rattle.std.specs.Prelude.{if◌then◌else◌, List, [], ◌∷◌, ◌++◌
 use Rattle.std.specs.Prelude.{length, map, get_or, replicate, Option, Some, None, is_some, pos}
 use Rattle.std.specs.List.{range_with_len, list_all, list_any}
 use Rattle.awk_types.specs.DataType.{DataType, var, reg}
-use Rattle.awk_types.specs.Datum as shown
 use Rattle.awk_types.specs.ItemLimit.{item_limit}
 use Rattle.awk_types.specs.Value.{Value, null, list, value_list, values_from}
 use Rattle.awk_lanes.specs.declared.kind.Kind.TheVariants.{I64}

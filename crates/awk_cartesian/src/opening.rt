@@ -29,7 +29,11 @@ use std::alloc::Global;
 use std::sync::ledger::Ledger;
 
 /// Which list a row is: the one of its place, or by the index of an option.
-pub(crate) fn list_place<L: Ledger>(index: &Option<Lane>, i: u64, steps: &mut Steps<L>) -> Option<u64>
+pub(crate) fn list_place<L: Ledger>(
+    index: &Option<Lane>,
+    i: u64,
+    steps: &mut Steps<L>,
+) -> Option<u64>
     requires { IndexHas index.now i }
     ensures { result ≡ spec.list_place index.now i }
 {

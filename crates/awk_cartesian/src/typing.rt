@@ -76,12 +76,7 @@ fn slot_typ(alloc: Global, places: bool, item: &Typ) -> Result<Typ, NoMemory>
 }
 
 /// The types of the slots of tuples, if all operands are lists.
-fn slot_typs(
-    alloc: Global,
-    axis: Axis,
-    places: bool,
-    xs: &Datums,
-) -> Result<Option<Typs>, NoMemory>
+fn slot_typs(alloc: Global, axis: Axis, places: bool, xs: &Datums) -> Result<Option<Typs>, NoMemory>
     ensures types { let said = spec.item_types axis (map datum_of xs.now) in
         IfOk result (λ ts. option_map typs_of ts ≡ option_map (map (slot_type places)) said) }
     ensures simple { IfOk result (λ ts. IfSome ts (λ us. AreSimple (types_from (typs_of us)))) }
@@ -127,7 +122,7 @@ pub(crate) fn product_typ(
 ) -> Result<Option<Typ>, NoMemory>
     ensures typ { let said = spec.item_types axis (map datum_of xs.now) in
         IfOk result (λ t. option_map typ_of t
-            ≡ option_map (spec.product_type axis places (map datum_of xs.now)) said) }
+        ≡ option_map (spec.product_type axis places (map datum_of xs.now)) said) }
     ensures simple { IfOk result (λ t. IfSome t (λ u. IsSimple (typ_of u))) }
 {
     let Some(slots) = slot_typs(alloc, axis, places, xs)? else {

@@ -1,7 +1,6 @@
-use Rattle.std.proofs.Common.{◌≡◌, false, true, ap, sym, ◌∙◌, subst}
+use Rattle.std.proofs.Common.{◌≡◌, true, ap, sym, ◌∙◌, subst}
 use Rattle.std.specs.Prelude.{is_some}
 use Rattle.awk_types.specs.Predicates.{is_unknown}
-use Rattle.awk_lanes.specs.Places.{size_of}
 use Rattle.awk_layout.specs.Typing.{array_type}
 use Rattle.awk_gather.specs.Arrays.{array_item}
 use Rattle.awk_merge.specs.Operands.{values_by, IsListIndex}

@@ -1,4 +1,4 @@
-use Rattle.std.proofs.Common.{◌≡◌, refl, ap, ◌∙◌, arith}
+use Rattle.std.proofs.Common.{refl, ap, ◌∙◌, arith}
 use Rattle.awk_layout.specs.Laws.{len-fits}
 use Rattle.awk_cartesian.specs.Sources.{repeated}
 use Rattle.awk_cartesian.proofs.OpeningLaws.{whole_opened}

@@ -1,4 +1,4 @@
-use Rattle.std.proofs.Common.{None, Some, ap, ◌∙◌, subst, sym}
+use Rattle.std.proofs.Common.{Some, ap, ◌∙◌, subst, sym}
 use Rattle.awk_cartesian.specs.Sources.{AreBoth}
 use Rattle.awk_cartesian.specs.Spans.{both_lane}
 use Rattle.awk_cartesian.proofs.RowLaws.{none_both, some_both}

@@ -1,4 +1,4 @@
-use Rattle.std.proofs.Common.{◌≡◌, ◌+◌, refl, sym, ap, ◌∙◌, subst, arith, length, take}
+use Rattle.std.proofs.Common.{◌≡◌, refl, sym, subst, arith, length, take}
 use Rattle.awk_types.proofs.ListLaws.{take-get}
 use Rattle.awk_merge.specs.Operands.{IndexesAll}
 use Rattle.awk_cartesian.specs.Sources.{rows_in, IsListed, AreRows}

@@ -1,6 +1,4 @@
-use Rattle.std.proofs.Common.{◌<◌, length, get_or, sym, subst}
-use Rattle.awk_places.specs.Products.{AreSpansOf, no_lane}
-use Rattle.awk_cartesian.proofs.SlotLaws.{all_counts, zeros_there, lanes_zero}
+use Rattle.awk_cartesian.proofs.SlotLaws.{all_counts, lanes_zero}
 use Rattle.awk_cartesian.proofs.tuples.slot_lanes.Goals as goal
 
 pub product_lanes-requires-clause-lengths : goal.product_lanes-requires-clause-lengths

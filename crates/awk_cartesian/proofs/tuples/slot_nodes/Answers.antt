@@ -1,4 +1,4 @@
-use Rattle.std.proofs.Common.{◌≡◌, ◌+◌, ◌<◌, sym, ap, ◌∙◌, subst, arith, length, get_or}
+use Rattle.std.proofs.Common.{◌≡◌, ◌+◌, sym, subst, arith, get_or}
 use Rattle.std.proofs.lemmas.Option.{get_or_from_slice_get}
 use Rattle.awk_lanes.specs.Column.{Column}
 use Rattle.awk_layout.specs.Layout.{Layout, empty}
