@@ -158,7 +158,7 @@ all_range P a (suc n) h = (
 )
 
 -- what holds of each number
-numbers-all : (P : ℤ → Type 0) (m : ℕ → ℕ) (h : ℕ → ℕ → ℤ) (n : ℕ)
+pub numbers-all : (P : ℤ → Type 0) (m : ℕ → ℕ) (h : ℕ → ℕ → ℤ) (n : ℕ)
     → ((i k : ℕ) → i < n → k < m i → P (h i k)) → AllByRecursion P (numbers_of_lists m h n)
 numbers-all P m h n f =
     subst (AllByRecursion P) (sym (numbers-flat m h n))

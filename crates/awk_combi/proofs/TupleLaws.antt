@@ -71,24 +71,24 @@ slot_types places y cs zs n h =
 
 -- ---- rows of slots
 
-all_reach : (n : ℕ) (zs : List Layout)
+pub all_reach : (n : ℕ) (zs : List Layout)
     → ((j : ℕ) → j < length zs → n ≤ len (get_or zs j empty)) → AllReach n (layouts_from zs)
 all_reach n [] h = tt
 all_reach n (z ∷ zs) h = (h 0 (omega arith), all_reach n zs (λ j p. h (suc j) (omega (arith, p))))
 
-all_valid : (zs : List Layout) → ((j : ℕ) → j < length zs → IsValid (get_or zs j empty))
+pub all_valid : (zs : List Layout) → ((j : ℕ) → j < length zs → IsValid (get_or zs j empty))
     → AllValid (layouts_from zs)
 all_valid [] h = tt
 all_valid (z ∷ zs) h = (h 0 (omega arith), all_valid zs (λ j p. h (suc j) (omega (arith, p))))
 
 -- ---- what stands in the slots of a tuple
 
-run_get : (h : ℕ → Value) (a n k : ℕ) → k < n → get_or (value_list (run h a n)) k null ≡ h (a + k)
+pub run_get : (h : ℕ → Value) (a n k : ℕ) → k < n → get_or (value_list (run h a n)) k null ≡ h (a + k)
 run_get h a n k p =
     ap (λ xs. get_or xs k null) (value_list-run h a n)
     ∙ get_or-map-range_with_len h a n k (a + k) null p refl
 
-run_by : (h f : ℕ → Value) (a n : ℕ) → ((j : ℕ) → j < n → h (a + j) ≡ f j)
+pub run_by : (h f : ℕ → Value) (a n : ℕ) → ((j : ℕ) → j < n → h (a + j) ≡ f j)
     → value_list (run h a n) ≡ map f (range_with_len 0 n)
 run_by h f a n e =
     fill_by_all f (value_list (run h a n)) n null (length-run h a n)

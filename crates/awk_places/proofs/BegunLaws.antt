@@ -274,7 +274,7 @@ pub rest-length : (rep : Bool) (left a m : ℕ)
     → length (rising_from rep left a m) ≡ rest_count rep left a m
 rest-length rep left a m = count-from rep left a m ∙ sym (length-rising_places rep left (m - a))
 
-map-always : {X Y : Type 0} (y : Y) (xs : List X) → map (λ x. y) xs ≡ replicate (length xs) y
+pub map-always : {X Y : Type 0} (y : Y) (xs : List X) → map (λ x. y) xs ≡ replicate (length xs) y
 map-always y [] = refl
 map-always y (x ∷ xs) = ap (λ ys. y ∷ ys) (map-always y xs)
 
@@ -432,7 +432,7 @@ small_places bs h =
     (λ b f. all_above IsSmall b.least (b.stop - b.least)
     (λ k p q. omega (arith, p, q, f.1))) bs h
 
-all_times : (P : ℕ → Type 0) (n k : ℕ) → P k → AllByRecursion P (replicate n k)
+pub all_times : (P : ℕ → Type 0) (n k : ℕ) → P k → AllByRecursion P (replicate n k)
 all_times P zero k p = tt
 all_times P (suc n) k p = (p, all_times P n k p)
 

@@ -108,7 +108,7 @@ module _ {X : Type 0} (P : X → Type 0) where
   all-at d (x ∷ xs) zero p a = a.0
   all-at d (x ∷ xs) (suc i) p a = all-at d xs i (omega (arith, p)) a.1
 
-all-more : {X : Type 0} (P Q : X → Type 0) → ((x : X) → P x → Q x) → (xs : List X)
+pub all-more : {X : Type 0} (P Q : X → Type 0) → ((x : X) → P x → Q x) → (xs : List X)
     → AllByRecursion P xs → AllByRecursion Q xs
 all-more P Q h [] a = tt
 all-more P Q h (x ∷ xs) a = (h x a.0, all-more P Q h xs a.1)

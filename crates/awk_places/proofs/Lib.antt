@@ -5,3 +5,6 @@ pub mod Levels
 pub mod FlatLaws
 pub mod BegunLaws
 pub mod SlotLaws
+pub mod PlaceLists
+pub mod RunLaws
+pub mod ProductLaws

@@ -2,3 +2,5 @@ pub mod Places
 pub mod Paths
 pub mod Slots
 pub mod Begun
+pub mod Products
+pub mod Runs

@@ -110,7 +110,7 @@ fn put_places(made: &mut Vec<u64>, first: u64, end: u64) -> Result<(), NoMemory>
 }
 
 /// Adds a place so many times.
-fn put_times(made: &mut Vec<u64>, place: u64, n: u64) -> Result<(), NoMemory>
+pub(crate) fn put_times(made: &mut Vec<u64>, place: u64, n: u64) -> Result<(), NoMemory>
     ensures { IfOk result (λ _. made.new.items ≡ made.old.items ++ replicate n place) }
 {
     for i in 0..n {

@@ -7,14 +7,14 @@ ghost use Rattle.awk_lanes.specs.Places.{size_of};
 ghost use Rattle.awk_lanes.specs.Words.{column, integers};
 ghost use Rattle.awk_lanes.specs.declared.kind.Kind.TheVariants as Kinds;
 ghost use Rattle.awk_places.specs.Begun.{IsSmall};
-ghost use Rattle.awk_places.specs.Places.{IsCounted};
 ghost use Rattle.awk_places.specs.Slots.{ArePlaces, tuple_count, slot_lanes};
 
 use crate::begun::{first_begun, last_slot, longer, slot_of};
 use crate::counts::count_rising;
+use crate::offsets::{TupleCounts, tuple_offsets};
 use crate::reading::place_of;
-use awk_lanes::{Arena, Kind, Lane, LaneMaker, Lanes, Offsets, Steps, lane_of_nats, number};
-use awk_types::{ITEM_LIMIT, NoMemory};
+use awk_lanes::{Arena, Kind, Lane, Lanes, Offsets, Steps, lane_of_nats};
+use awk_types::NoMemory;
 use std::alloc::Global;
 use std::sync::ledger::Ledger;
 
@@ -25,22 +25,33 @@ pub struct Rising {
     pub slots: u64,
 }
 
-/// How many tuples list i has, or none where they are more than the limit of a column.
-fn count_at<L: Ledger>(
+/// Lists with the tuples of their places that go up.
+#[derive(Drop)]
+struct RisingCounts<'b, 'a> {
     rising: Rising,
-    firsts: &Lane,
-    ends: &Lane,
-    i: u64,
-    steps: &mut Steps<L>,
-) -> Option<u64>
-    requires places { ArePlaces firsts.now ends.now }
-    requires within { i < size_of firsts.now }
-    ensures { IsCounted
-        (tuple_count rising.replacement rising.slots firsts.now ends.now i) result }
-{
-    let first = place_of(firsts, i, steps);
-    let end = place_of(ends, i, steps);
-    count_rising(rising.replacement, rising.slots, end.saturating_sub(first))
+    firsts: &'b Lane<'a>,
+    ends: &'b Lane<'a>,
+}
+
+impl<'b, 'a> TupleCounts for RisingCounts<'b, 'a> {
+    ghost use Rattle.awk_lanes.specs.Places.{size_of};
+    ghost use Rattle.awk_places.specs.Slots.{ArePlaces, tuple_count};
+
+    ghost count = { λ f. tuple_count f.rising.replacement f.rising.slots f.firsts.now f.ends.now };
+
+    ghost size = { λ f. size_of f.firsts.now };
+
+    ghost IsReady = { λ f. ArePlaces f.firsts.now f.ends.now };
+
+    fn count<L: Ledger>(&self, i: u64, steps: &mut Steps<L>) -> Option<u64> {
+        let first = place_of(self.firsts, i, steps);
+        let end = place_of(self.ends, i, steps);
+        count_rising(
+            self.rising.replacement,
+            self.rising.slots,
+            end.saturating_sub(first),
+        )
+    }
 }
 
 /// Where the tuples of each list lie among those of all lists, or none where they are more than the
@@ -58,24 +69,12 @@ pub fn rising_offsets<'a, L: Ledger>(
     ensures { IfOk result (AreOffsetsBy item_limit
         (tuple_count rising.replacement rising.slots firsts.now ends.now) (size_of firsts.now)) }
 {
-    let n = firsts.len();
-    let mut maker = LaneMaker::new(Kind::I64, n + 1, arena)?;
-    maker.push(number(0));
-    let mut total = 0;
-    for i in 0..n {
-        let Some(count) = count_at(rising, firsts, ends, i, steps) else {
-            return Ok(None);
-        };
-        if count > ITEM_LIMIT - total {
-            return Ok(None);
-        }
-        total += count;
-        maker.push(number(total));
-    }
-    Ok(Some(Offsets {
-        lane: maker.finish(),
-        total,
-    }))
+    let source = RisingCounts {
+        rising,
+        firsts,
+        ends,
+    };
+    tuple_offsets(firsts.len(), &source, arena, steps)
 }
 
 /// The places of all tuples of all lists, in lexicographic order: a lane for each slot.
@@ -102,7 +101,7 @@ pub fn rising_lanes<'a, L: Ledger>(
 }
 
 /// Places as a lane.
-fn lane_of_places<'a>(places: &[u64], arena: &'a Arena) -> Result<Lane<'a>, NoMemory>
+pub(crate) fn lane_of_places<'a>(places: &[u64], arena: &'a Arena) -> Result<Lane<'a>, NoMemory>
     requires { AllByRecursion IsSmall places.now }
     ensures { IfOk result (λ r. r ≡ column Kinds.I64 (integers places.now)) }
 {

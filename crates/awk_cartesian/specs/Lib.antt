@@ -1,0 +1,5 @@
+pub mod Cartesian
+pub mod Sources
+pub mod Slots
+pub mod Spans
+pub mod Products
