@@ -5,8 +5,10 @@ use Rattle.std.proofs.lemmas.List.Sums.{sum_by-cons}
 use Rattle.std.specs.Io.KnownBytes.{Appends}
 use Rattle.awk_edge.specs.Lines.{Unbroken}
 use Rattle.awk_eval.specs.Variables.{Environment}
+use Rattle.awk_session.specs.Framing.{is_blank}
+use Rattle.awk_session.specs.Replies.{step}
 use Rattle.awk_session.specs.Runs.{answer_bytes, line_ends}
-use Rattle.awk_session.specs.Replies.{is_blank, step}
+use Rattle.awk_session.specs.State.{State}
 use Rattle.awk_session.proofs.StepLaws.{IsOneLine, step-blank, step-answer}
 use Rattle.awk_run.specs.Flushes.{fronts, AreNotes, Flushes}
 
@@ -73,9 +75,9 @@ noted {written0 = written0} written2 {flushes0 = flushes0} before bytes h line w
       are_notes = subst (AreNotes written0 (h.notes ++ written2 ∷ [])) (sym more) (AreNotes_push written0 h.notes written2 (fronts before) (before ++ bytes) h.are_notes w);
     }
 
--- the answer to a line was written and flushed, if it has one
-pub line_noted : {written0 : Option (List ℕ)} (written2 : Option (List ℕ)) {flushes0 flushes1 flushes2 : List (Option (List ℕ))} (variables : Environment) (line before : List ℕ) → Flushes written0 flushes0 flushes1 (fronts before) → Appends written0 written2 (before ++ answer_bytes (step variables line).answer) → (b : Bool) → is_blank line ≡ b → flushes2 ≡ cond b flushes1 (flushes1 ++ written2 ∷ []) → Flushes written0 flushes0 flushes2 (fronts (before ++ answer_bytes (step variables line).answer))
-line_noted {written0 = written0} written2 {flushes0 = flushes0} {flushes1 = flushes1} variables line before h w true e f =
-    let none : before ++ answer_bytes (step variables line).answer ≡ before = ap (λ s. before ++ answer_bytes s.answer) (step-blank variables line e) ∙ append-nil before in
-    subst (λ z. Flushes written0 flushes0 z (fronts (before ++ answer_bytes (step variables line).answer))) (sym f) (subst (λ z. Flushes written0 flushes0 flushes1 (fronts z)) (sym none) h)
-line_noted written2 variables line before h w false e f = noted written2 before (answer_bytes (step variables line).answer) h (step-answer variables line e) w f
+-- the answer to a unit was written and flushed, if it has one
+pub unit_noted : {written0 : Option (List ℕ)} (written2 : Option (List ℕ)) {flushes0 flushes1 flushes2 : List (Option (List ℕ))} (state : State Environment) (line raw before : List ℕ) → Flushes written0 flushes0 flushes1 (fronts before) → Appends written0 written2 (before ++ answer_bytes (step state line raw).answer) → (b : Bool) → is_blank line ≡ b → flushes2 ≡ cond b flushes1 (flushes1 ++ written2 ∷ []) → Flushes written0 flushes0 flushes2 (fronts (before ++ answer_bytes (step state line raw).answer))
+unit_noted {written0 = written0} written2 {flushes0 = flushes0} {flushes1 = flushes1} state line raw before h w true e f =
+    let none : before ++ answer_bytes (step state line raw).answer ≡ before = ap (λ s. before ++ answer_bytes s.answer) (step-blank state line raw e) ∙ append-nil before in
+    subst (λ z. Flushes written0 flushes0 z (fronts (before ++ answer_bytes (step state line raw).answer))) (sym f) (subst (λ z. Flushes written0 flushes0 flushes1 (fronts z)) (sym none) h)
+unit_noted written2 state line raw before h w false e f = noted written2 before (answer_bytes (step state line raw).answer) h (step-answer state line raw e) w f

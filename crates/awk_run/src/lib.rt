@@ -1,4 +1,5 @@
-//! The run of a session: its lines come from a source or are made of two numbers, the answers go
+//! The run of a session: its units, lines and the raw bytes behind some, come from a
+//! source or are made of two numbers, the answers go
 //! to a sink, and a status tells how it ended.
 //!
 //! `run_words` is that run over any source and any sink, and its contract is the headline. Its
@@ -9,6 +10,7 @@
 mod made;
 mod program;
 mod run;
+mod unit;
 mod words;
 
 pub use program::run_program;
