@@ -1,8 +1,8 @@
 //! What a line binds, and its answer.
 ghost use Rattle.std.specs.Prelude.{◌≡◌, IfOk, OnOk, OnErr, length};
 ghost use Rattle.std.specs.Result.{result_ok};
-ghost use Rattle.serde_json.specs.View.{view};
-ghost use Rattle.awk_store.specs.Buffers.{held_len};
+ghost use Rattle.serde_json.specs.View.{view, members_view};
+ghost use Rattle.awk_store.specs.Buffers.{HoldsTexts, held_len, only_texts, texts_of, total_len};
 ghost use Rattle.awk_layout.specs.Datum.{datum_of, IsDatum};
 ghost use Rattle.awk_types.specs.Names.{AreDistinct};
 ghost use Rattle.awk_query.specs.Allowed.{IsAllowed, IsAllowedLine};
@@ -38,6 +38,7 @@ use awk_query::{Expr, Line, RawParts};
 use awk_simd::Wide;
 use awk_store::Store;
 use awk_types::{Fault, Name, Names};
+use serde_json::{Map, Value};
 use std::alloc::{AllocError, Global};
 use std::sync::ledger::Ledger;
 
@@ -100,14 +101,13 @@ fn reply_line<'v, 's, 'a: 's, L: Ledger>(
             big,
             buffers,
         } => {
-            let mut store = Store::new(alloc, buffers, kept);
             let head = Head {
                 name,
                 form,
                 length: *length,
                 big: *big,
             };
-            bind_loaded(alloc, env, &head, &mut store, kept, steps)
+            bind_texts(alloc, env, &head, buffers, kept, steps)
         }
         Line::LoadRaw {
             name,
@@ -163,6 +163,32 @@ fn bind_loaded<'v, 's, 'a: 's, L: Ledger>(
         Err(Refused::Told(fault)) => Ok(Answer::Fault(fault)),
         Err(Refused::NoMemory) => Err(AllocError),
     }
+}
+
+// The same of a load line whose buffers are given as texts.
+fn bind_texts<'v, 's, 'a: 's, L: Ledger>(
+    alloc: Global,
+    env: &mut Env<'a>,
+    head: &Head<'v>,
+    buffers: &Map<String, Value>,
+    kept: &'a Arena,
+    steps: &mut Steps<L>,
+) -> Result<Answer<'v, 's>, AllocError>
+    requires texts { HoldsTexts (members_view buffers.now.entries) }
+    ensures reply { let texts = texts_of (members_view buffers.now.entries) in
+        IfOk result (λ answer. replies.reply_bind (denoted env.old) head.now.name.now
+        (loaded (view head.now.form.now) head.now.length head.now.big (only_texts texts))
+        ≡ record { answer = answer_view answer; after = denoted env.new }) }
+    ensures answer { IfOk result IsAnswer }
+    ensures same { OnErr result (env.new ≡ env.old) }
+    ensures binds { IfOk result (λ a. IsBoundUnless (answers.is_fault (answer_view a))
+        head.now.name.now (IsWithin (form_size (view head.now.form.now))) env.old env.new) }
+    ensures shows { IfOk result ShowsNone }
+    ensures cost { let texts = texts_of (members_view buffers.now.entries) in
+        IsLoaded (view head.now.form.now) (total_len texts) steps.old steps.new }
+{
+    let mut store = Store::new(alloc, buffers, kept);
+    bind_loaded(alloc, env, head, &mut store, kept, steps)
 }
 
 // The same of a load line whose buffers are the raw bytes behind it, if they are all there.
