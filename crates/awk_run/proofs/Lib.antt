@@ -2,6 +2,7 @@ pub mod Notes
 pub mod Counts
 pub mod UnitProgress
 pub mod UnitsTaken
+pub mod UnitsStop
 pub mod UnitEnds
 pub mod Progress
 pub mod Ends

@@ -1,5 +1,6 @@
 -- The units of the made session are its lines, all whole and within the limits.
-use Rattle.std.proofs.Common.{◌≡◌, ◌≤◌, ◌&&◌, ℕ, zero, suc, Bool, true, false, List, [], ◌∷◌, length, refl, ap, sym, ◌∙◌, arith}
+use Rattle.std.proofs.Common.{◌≡◌, ◌≤◌, ◌&&◌, ℕ, zero, suc, Bool, true, false, List, [], ◌∷◌}
+use Rattle.std.proofs.Common.{length, refl, ap, sym, ◌∙◌, arith}
 use Rattle.std.specs.Char.{encode_utf8}
 use Rattle.std.specs.List.{AllByRecursion}
 use Rattle.std.specs.Str.{IsUtf8}
@@ -13,7 +14,8 @@ use Rattle.awk_edge.specs.Units.{raw_limit, Framed, is_whole, is_small, whole_un
 use Rattle.awk_edge.proofs.PlainUnits.{plain_unit, plain_units, AskForNone, units-plain}
 use Rattle.awk_edge.proofs.UnitLaws.{whole_units-nil}
 use Rattle.awk_made.specs.Draws.{events}
-use Rattle.awk_made.specs.Session.{load_line, pairs_line, opposite_line, total_line, type_line, count_line, sum_line, max_line, session_lines, session_of}
+use Rattle.awk_made.specs.Session.{load_line, pairs_line, opposite_line, total_line, type_line}
+use Rattle.awk_made.specs.Session.{count_line, sum_line, max_line, session_lines, session_of}
 use Rattle.awk_made.proofs.SessionLaws.{session_lines-within}
 use Rattle.awk_query.specs.Line.{json_said, or_json}
 use Rattle.awk_query.specs.declared.reading.Reading.{Reading}

@@ -1,5 +1,6 @@
 -- What a run over a session gives.
-use Rattle.std.specs.Prelude.{◌≡◌, ◌⊎◌, ◌≤◌, ℕ, ◌+◌, Bool, true, false, List, [], ◌∷◌, ◌++◌, Option, Some, IsTrue}
+use Rattle.std.specs.Prelude.{◌≡◌, ◌⊎◌, ◌≤◌, ℕ, ◌+◌, Bool, true, false, List, [], ◌∷◌, ◌++◌, Option}
+use Rattle.std.specs.Prelude.{Some, IsTrue}
 use Rattle.std.specs.Io.KnownBytes.{Consumes, Appends, IsAtEnd}
 use Rattle.awk_edge.specs.UnitLimits.{HasLargeUnit, IsLargeForGood, HasTooManyUnits, IsWithinUnits}
 use Rattle.awk_edge.specs.Units.{Framed}
@@ -10,7 +11,8 @@ use Rattle.awk_session.specs.Runs.{line_ends}
 use Rattle.awk_session.specs.Cost.{are_plain, cost}
 use Rattle.awk_run.specs.Flushes.{fronts, Flushes}
 use Rattle.awk_run.specs.declared.run.Status.{Status}
-use Rattle.awk_run.specs.declared.run.Status.TheVariants.{Fine, Faults, Words, Read, Write, Memory, LineTooLong, TooManyLines}
+use Rattle.awk_run.specs.declared.run.Status.TheVariants.{Fine, Faults, Words, Read, Write, Memory}
+use Rattle.awk_run.specs.declared.run.Status.TheVariants.{LineTooLong, TooManyLines}
 
 -- the number that the program ends with
 abbrev pub number_of : Status → ℕ

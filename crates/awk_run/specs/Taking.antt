@@ -1,5 +1,6 @@
 -- What taking the next unit of a session gives.
-use Rattle.std.specs.Prelude.{◌≡◌, ◌≢◌, ◌⊎◌, ◌<◌, ◌≤◌, ℕ, true, false, List, [], ◌++◌, length, Option, Some, None, Result, Ok, Err}
+use Rattle.std.specs.Prelude.{◌≡◌, ◌≢◌, ◌⊎◌, ◌<◌, ◌≤◌, ℕ, true, false, List, [], ◌++◌, length}
+use Rattle.std.specs.Prelude.{Option, Some, None, Result, Ok, Err}
 use Rattle.std.specs.Io.KnownBytes.{Consumes}
 use Rattle.awk_edge.specs.Lines.{lines_limit}
 use Rattle.awk_edge.specs.Next.{TakesLine, HasNone, FailsToRead, IsTooLong}
@@ -7,11 +8,12 @@ use Rattle.awk_edge.specs.Raw.{TakesBytes}
 use Rattle.awk_edge.specs.Reading.{Reading}
 use Rattle.awk_edge.specs.Units.{raw_limit, Framing}
 use Rattle.awk_edge.specs.declared.lines.LineFault.{LineFault}
-use Rattle.awk_edge.specs.declared.lines.LineFault.TheVariants.{Read, NoMemory, LineTooLong, TooManyLines}
+use Rattle.awk_edge.specs.declared.lines.LineFault.TheVariants.{Read, NoMemory, LineTooLong}
+use Rattle.awk_edge.specs.declared.lines.LineFault.TheVariants.{TooManyLines}
 use Rattle.awk_run.specs.declared.unit.SessionUnit.{SessionUnit}
 
--- A line was taken, and behind it as many raw bytes as it asks for, or all that are left. Nothing is
--- read behind a last line without its end.
+-- A line was taken, and behind it as many raw bytes as it asks for, or all that are left. Nothing
+-- is read behind a last line without its end.
 pub record TakesUnit {R : Type 0} (p : Framing R) (r : R) (left0 left1 : Option (List ℕ))
     (old new : Reading) (given line raw : List ℕ) : Type 0 where
   pub between : Option (List ℕ)

@@ -9,7 +9,8 @@ ghost use Rattle.awk_session.specs.Replies.{answers, step};
 ghost use Rattle.awk_session.specs.Spending.{Binds, TakesCost};
 ghost use Rattle.awk_session.specs.State.{denoted_state};
 ghost use Rattle.awk_run.specs.Answering.{Answers};
-ghost use Rattle.awk_run.specs.Session.{Session, MadeSession, Completes, IsComplete, IsWithin, number_of};
+ghost use Rattle.awk_run.specs.Session.{Session, MadeSession, Completes, IsComplete};
+ghost use Rattle.awk_run.specs.Session.{IsWithin, number_of};
 ghost use Rattle.awk_run.specs.Words.{IsRun, IsMake, AreWrong};
 
 use crate::made::MadeSource;

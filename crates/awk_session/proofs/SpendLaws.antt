@@ -108,8 +108,8 @@ plain-push xs x e =
 
 -- ---- what the loop of a run keeps
 
--- the state is where the session stands, each variable an array within its size, and the steps since
--- are within what its units cost
+-- the state is where the session stands, each variable an array within its size, and the steps
+-- since are within what its units cost
 pub record IsSpent (steps0 steps1 : ℕ) (state : State Variables) (taken : List Framed)
     : Type 0 where
   pub shown : (standing_after at_start taken).state ≡ denoted_state state
@@ -150,7 +150,7 @@ here {steps0} {steps1} {steps2} {s} taken u h takes plain =
     let arrays = IsOfArrays-within line t.sizes s.variables h.within in
     let greater = cost-within (unit_bytes u) answered line t.sizes s.variables h.within in
     let same : cost_of t.sizes line (unit_bytes u) (unit_step (denoted_state s) u).answer
-        ≡ unit_cost t u =
+    ≡ unit_cost t u =
     ap (λ (z : State Environment). cost_of t.sizes (line_in z.reading u.line) (unit_bytes u)
     (unit_step z u).answer) (sym h.shown) in
     omega (arith, h.steps, takes plain arrays, greater, same, costs-push at_start taken u)
@@ -173,7 +173,7 @@ spend_more {steps0} {steps1} {steps2} {old} {new} taken u h takes binds shows pl
     (unit_step (denoted_state old) u).is_fault s.sizes old.variables new.variables plain_now
     so.within binds in
     let moved : sizes_after s.sizes (line_in old.reading u.line)
-        (unit_step (denoted_state old) u).is_fault ≡ (next s u).sizes =
+    (unit_step (denoted_state old) u).is_fault ≡ (next s u).sizes =
     ap (λ (z : State Environment). sizes_after s.sizes (line_in z.reading u.line)
     (unit_step z u).is_fault) (sym so.shown) in
     record {
@@ -203,5 +203,8 @@ spends_in {steps0} {steps1} {steps2} taken u more all h takes e plain =
     let p = plain-push taken u front.0 in
     let so = h p.0 in
     subst (λ us. steps2 ≤ steps0 + cost us) (sym e)
-    (omega (arith, here taken u so takes (plain_here u so p.1),
-    cost-first (taken ++ u ∷ []) more))
+    (omega (
+      arith,
+      here taken u so takes (plain_here u so p.1),
+      cost-first (taken ++ u ∷ []) more,
+    ))

@@ -98,8 +98,8 @@ impl<'a> Engine<'a> {
         &self.state.env
     }
 
-    /// How the next line is read: `First` before the first answer, and then by its line, `Two` where
-    /// that began version 2 and else `One`.
+    /// How the next line is read: `First` before the first answer, and then by its line, `Two`
+    /// where that began version 2 and else `One`.
     pub fn reading(&self) -> Reading
         ensures { result ≡ self.now.reading }
     {
@@ -122,9 +122,9 @@ impl<'a> Engine<'a> {
         }
     }
 
-    /// Answers a line that is not blank with the raw bytes behind it, and flushes. All its memory is
-    /// taken before the first byte of the answer is put. Of a line that is no raw load the raw bytes
-    /// are not looked at.
+    /// Answers a line that is not blank with the raw bytes behind it, and flushes. All its memory
+    /// is taken before the first byte of the answer is put. Of a line that is no raw load the raw
+    /// bytes are not looked at.
     pub fn line_raw<K: Sink, L: Ledger>(
         &mut self,
         alloc: Global,
@@ -137,8 +137,8 @@ impl<'a> Engine<'a> {
         requires open { IsTrue out.old.is_open }
         requires not_blank { IsFalse (framing.is_blank bytes.now) }
 
-        // The answer, the variables and how the next line is read are those of the step, and after a
-        // write fault the output is closed. Want of memory leaves all as it was.
+        // The answer, the variables and how the next line is read are those of the step, and after
+        // a write fault the output is closed. Want of memory leaves all as it was.
         ensures leaves { Leaves (K.written sink.old) (K.written sink.new) out.old out.new
             (denoted_state self.old) (denoted_state self.new)
             (step (denoted_state self.old) bytes.now raw.now) result }

@@ -2,8 +2,8 @@
 //!
 //! `Engine::line_raw` answers a line that is not blank, with the raw bytes behind it, and flushes;
 //! `Engine::line` does this for a line without raw bytes. `Engine::raw_need` tells how many raw
-//! bytes a line asks for, and `is_blank` the lines that have no answer. `laws` has the law of what a
-//! session packs and loads.
+//! bytes a line asks for, and `is_blank` the lines that have no answer. `laws` has the law of what
+//! a session packs and loads.
 #![tactic(auto)]
 
 mod answer;

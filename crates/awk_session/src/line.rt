@@ -41,8 +41,8 @@ pub struct RawLine<'v> {
     pub raw: &'v [u8],
 }
 
-/// Answers a line that is not blank with its raw bytes, and flushes. What it binds lies in the arena
-/// that is kept.
+/// Answers a line that is not blank with its raw bytes, and flushes. What it binds lies in the
+/// arena that is kept.
 pub fn answer_line<'a, K: Sink, L: Ledger>(
     alloc: Global,
     state: &mut SessionState<'a>,

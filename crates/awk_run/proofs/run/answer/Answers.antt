@@ -8,7 +8,8 @@ use Rattle.awk_run.proofs.run.answer.Goals as goal
 pub returns-then-is_blank-clause-answers : goal.returns-then-is_blank-clause-answers
 returns-then-is_blank-clause-answers g c =
     let blank = rw c.deref.ensures.value at c.if-is_blank.ensures in
-    let e = step-blank (denoted_state c.args.engine.now) c.args.unit.now.line.items c.args.unit.now.raw.items (sym blank) in
+    let e = step-blank (denoted_state c.args.engine.now) c.args.unit.now.line.items
+    c.args.unit.now.raw.items (sym blank) in
     record {
       appends = rw e (Appends-none _);
       held = c.requires.empty;
@@ -25,4 +26,5 @@ returns-then-is_blank-clause-binds g c =
 pub returns-then-is_blank-clause-cost : goal.returns-then-is_blank-clause-cost
 returns-then-is_blank-clause-cost g c =
     let blank = rw c.deref.ensures.value at c.if-is_blank.ensures in
-    rw (line_in-blank c.args.engine.now.reading c.args.unit.now.line.items (sym blank)) (λ plain arrays. omega arith)
+    rw (line_in-blank c.args.engine.now.reading c.args.unit.now.line.items (sym blank))
+    (λ plain arrays. omega arith)
