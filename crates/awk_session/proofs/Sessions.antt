@@ -20,15 +20,22 @@ use Rattle.awk_session.specs.Replies.{step, step_read, answers}
 use Rattle.awk_session.specs.Runs.{Step}
 use Rattle.awk_session.specs.State.{State}
 
--- the step of a line of UTF-8, by what it is read as
+-- the step of a line of UTF-8 with its raw bytes, by what it is read as
+abbrev pub read_with : State Environment → List ℕ → List ℕ → Step (State Environment)
+read_with s line raw = step_read s (line_or_unread s.reading (or_json (read line))) raw
+
 abbrev pub read_as : State Environment → List ℕ → Step (State Environment)
-read_as s line = step_read s (line_or_unread s.reading (or_json (read line))) []
+read_as s line = read_with s line []
 
 -- a line that is not blank is answered by what is read from it
+pub step-with : (s : State Environment) (line raw : List ℕ) → is_blank line ≡ false
+    → IsUtf8 line → step s line raw ≡ read_with s line raw
+unfolding step
+step-with s line raw some text = rw (some, is_utf8-from_IsUtf8 line text) refl
+
 pub step-read : (s : State Environment) (line : List ℕ) → is_blank line ≡ false → IsUtf8 line
     → step s line [] ≡ read_as s line
-unfolding step
-step-read s line some text = rw (some, is_utf8-from_IsUtf8 line text) refl
+step-read s line some text = step-with s line [] some text
 
 -- each text stands in a line
 abbrev lines_of : List (List ℕ) → List ℕ
@@ -156,12 +163,9 @@ abbrev load_raw : List ℕ
 load_raw = codes "{\"load\":\"x\",\"form\":{\"class\":\"NumpyArray\",\"primitive\":\"uint16\",\"form_key\":\"n\"},\"length\":1,\"byteorder\":\">\",\"raw\":[[\"n-data\",2]]}"
 
 load_raw-read : (s : State Environment) (raw : List ℕ)
-    → step s load_raw raw ≡ step_read s (line_or_unread s.reading (or_json (read load_raw))) raw
-unfolding step encode_utf8
-load_raw-read s raw =
-    let text : IsUtf8 load_raw = (load_raw, (refl, refl)) in
-    let some : is_blank load_raw ≡ false = refl in
-    rw (some, is_utf8-from_IsUtf8 load_raw text) refl
+    → step s load_raw raw ≡ read_with s load_raw raw
+unfolding encode_utf8
+load_raw-read s raw = step-with s load_raw raw refl (load_raw, (refl, refl))
 
 pub raw_is_shown :
     answers (plain_units (session_line ∷ []) ++ raw_unit load_raw (1 ∷ 2 ∷ [])

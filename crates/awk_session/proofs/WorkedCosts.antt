@@ -53,14 +53,10 @@ show_x-line : (r : Reading) → line_in r show_x ≡ line_as r show_x
 unfolding encode_utf8
 show_x-line r = line_in-read r show_x refl (show_x, (refl, refl))
 
-show_x-behind : (r : Reading) → read_behind r show_x ≡ read_as_behind r show_x
-unfolding encode_utf8
-show_x-behind r = read_behind-read r show_x refl (show_x, (refl, refl))
-
 pub lists_are_plain : are_plain (plain_units (load_lists ∷ show_x ∷ [])) ≡ true
 unfolding expr_said serde_json_on_literals base64_on_literals digits node_at nodes_of form_of
 lists_are_plain =
-    simp (load_lists-line, show_x-line, load_lists-behind, show_x-behind) refl
+    simp (load_lists-line, show_x-line, load_lists-behind) refl
 
 -- 8 * 3 * 289 for the load, and 4 * 2 + 8 * (2 + 2 * 25) for the show
 pub lists_cost : cost (plain_units (load_lists ∷ show_x ∷ [])) ≡ 7360
@@ -96,14 +92,10 @@ show_range-line : (r : Reading) → line_in r show_range ≡ line_as r show_rang
 unfolding encode_utf8
 show_range-line r = line_in-read r show_range refl (show_range, (refl, refl))
 
-show_range-behind : (r : Reading) → read_behind r show_range ≡ read_as_behind r show_range
-unfolding encode_utf8
-show_range-behind r = read_behind-read r show_range refl (show_range, (refl, refl))
-
 pub masked_is_plain : are_plain (plain_units (load_masked ∷ show_range ∷ [])) ≡ true
 unfolding expr_said row_of serde_json_on_literals base64_on_literals digits node_at nodes_of form_of
 masked_is_plain =
-    simp (load_masked-line, show_range-line, load_masked-behind, show_range-behind) refl
+    simp (load_masked-line, show_range-line, load_masked-behind) refl
 
 -- 8 * 3 * 246 for the load, and 4 * 2 * 2 + 8 * (2 + 2 * 31) for the show
 pub masked_cost : cost (plain_units (load_masked ∷ show_range ∷ [])) ≡ 6432
