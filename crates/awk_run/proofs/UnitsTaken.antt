@@ -98,7 +98,7 @@ module _ {R : Type 0} (p : Framing R) (r0 : R) where
   }
 
   -- what was read up to a line and its end, and what is held behind it
-  through_line : {left0 left1 left2 : Option (List ℕ)} {old mid : Reading} {line given : List ℕ}
+  pub through_line : {left0 left1 left2 : Option (List ℕ)} {old mid : Reading} {line given : List ℕ}
       {taken : List Framed} → (t : Taken p r0 left0 left1 old taken) → old.is_ended ≡ false
       → TakesLine left2 old mid given line → mid.is_ended ≡ false
       → t.given ++ given ≡ joined_units taken ++ (line ++ 10 ∷ mid.held)
@@ -324,7 +324,7 @@ module _ {R : Type 0} (p : Framing R) (r0 : R) where
       not_all line raw m h = rw (not_equal (length raw) m h) refl
 
   -- a line is too long
-  pub long_line : {left0 left1 : Option (List ℕ)} {old : Reading} {taken : List Framed}
+  unfoldable pub long_line : {left0 left1 : Option (List ℕ)} {old : Reading} {taken : List Framed}
       → (given : List ℕ) (t : Taken p r0 left0 left1 old taken) → old.is_ended ≡ false
       → IsTooLong old (old.held ++ given) → HasLargeUnit p r0 (t.given ++ given)
   long_line {old = old} {taken = taken} given t o f = record {
@@ -347,7 +347,7 @@ module _ {R : Type 0} (p : Framing R) (r0 : R) where
       longer start rest u = first_longest start rest u
 
   -- a line asks for too many raw bytes
-  pub large_raw : {left0 left1 left2 : Option (List ℕ)} {old mid : Reading} {line given : List ℕ}
+  unfoldable pub large_raw : {left0 left1 left2 : Option (List ℕ)} {old mid : Reading} {line given : List ℕ}
       {taken : List Framed} → (t : Taken p r0 left0 left1 old taken) → old.is_ended ≡ false
       → TakesLine left2 old mid given line → mid.is_ended ≡ false
       → raw_limit < p.asked (read_after p r0 taken) line → HasLargeUnit p r0 (t.given ++ given)
@@ -366,7 +366,7 @@ module _ {R : Type 0} (p : Framing R) (r0 : R) where
       some_end (b ∷ line) rest e = absurd (cc)
 
   -- there are too many lines
-  pub many_lines : {left0 left1 : Option (List ℕ)} {old : Reading} {taken : List Framed}
+  unfoldable pub many_lines : {left0 left1 : Option (List ℕ)} {old : Reading} {taken : List Framed}
       → (given : List ℕ) (t : Taken p r0 left0 left1 old taken) → old.is_ended ≡ false
       → (old.taken ≡ lines_limit) × (old.held ++ given ≢ [])
       → HasTooManyUnits p r0 (t.given ++ given)
