@@ -1,15 +1,15 @@
 #!/bin/sh
 # Joins the example sessions into the stored session of awk_examples, and their answers into its
-# answers, so that each example is written once.
+# answers, so that each example is written once. That of raw/ is the stored session of
+# awk_raw_examples: a session of version 2 begins with its own line, and ends where bytes are cut.
 #
-#   examples/join.sh            writes crates/awk_examples/stdin and stdout
+#   examples/join.sh            writes stdin and stdout of these crates
 #   examples/join.sh --check    tells whether they are as it would write them: the status is 0 then,
 #                               and 1 where one is not
 set -eu
 export LC_ALL=C
 
 cd -- "$(dirname -- "$0")"
-crate=crates/awk_examples
 joined=$(mktemp -d)
 trap 'rm -rf "$joined"' EXIT
 
@@ -37,17 +37,38 @@ with_all_names() {
         { print }'
 }
 
+# The bytes of a session, where a line `= 00 0a ff` stands for these bytes and for no line.
+with_raw_bytes() {
+    printf %b "$(awk '
+        function digit(c) { return index("0123456789abcdef", c) - 1 }
+        /^= / {
+            for (i = 2; i <= NF; i++)
+                printf "\\0%03o", 16 * digit(substr($i, 1, 1)) + digit(substr($i, 2, 1))
+            next
+        }
+        { gsub(/\\/, "\\\\"); printf "%s\\n", $0 }')"
+}
+
+# Puts the stored session and the answers of a crate in their places, or compares them.
+store() {
+    for file in stdin stdout; do
+        if [ "$2" != --check ]; then
+            cp "$joined/$file" "../crates/$1/$file"
+        elif ! cmp -s "$joined/$file" "../crates/$1/$file"; then
+            echo "examples/join.sh: crates/$1/$file is not what the examples give;" \
+                "run examples/join.sh" >&2
+            exit 1
+        fi
+    done
+}
+
 for session in $(sessions); do
     cat "$session.jsonl" >>"$joined/stdin"
     cat "$session.answers.jsonl" >>"$joined/answers"
 done
 with_all_names <"$joined/answers" >"$joined/stdout"
+store awk_examples "${1-}"
 
-for file in stdin stdout; do
-    if [ "${1-}" != --check ]; then
-        cp "$joined/$file" "../$crate/$file"
-    elif ! cmp -s "$joined/$file" "../$crate/$file"; then
-        echo "examples/join.sh: $crate/$file is not what the examples give; run examples/join.sh" >&2
-        exit 1
-    fi
-done
+with_raw_bytes <raw/version_2.txt >"$joined/stdin"
+cp raw/version_2.answers.jsonl "$joined/stdout"
+store awk_raw_examples "${1-}"

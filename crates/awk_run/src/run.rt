@@ -1,19 +1,20 @@
-//! A session, answered line by line.
+//! A session, answered unit by unit.
 ghost use Rattle.std.specs.Prelude.{◌||◌, ◌++◌, List, ℕ, Some, Err, ◌≡◌, ◌≢◌, ◌↔◌, ◌⊎◌, ◌≤◌, ◌+◌, ◌∷◌, [], IsTrue, IsFalse, IfErr, OnErr, OnOk, length, if◌then◌else◌};
 ghost use Rattle.awk_edge.specs.Causes.{Rose};
-ghost use Rattle.awk_edge.specs.Limits.{IsWithinLimits};
-ghost use Rattle.awk_edge.specs.Lines.{lines};
 ghost use Rattle.awk_made.specs.Session.{session_of};
-ghost use Rattle.awk_eval.specs.Variables.{denoted};
 ghost use Rattle.awk_session.specs.Cost.{are_plain, cost, line_in};
+ghost use Rattle.awk_session.specs.Framing as framing;
+ghost use Rattle.awk_session.specs.Framing.{session_units};
 ghost use Rattle.awk_session.specs.Replies.{answers, step};
-ghost use Rattle.awk_session.specs.Replies as replies;
 ghost use Rattle.awk_session.specs.Spending.{Binds, TakesCost};
+ghost use Rattle.awk_session.specs.State.{denoted_state};
 ghost use Rattle.awk_run.specs.Answering.{Answers};
-ghost use Rattle.awk_run.specs.Session.{Session, MadeSession, Completes, IsComplete, number_of};
+ghost use Rattle.awk_run.specs.Session.{Session, MadeSession, Completes, IsComplete};
+ghost use Rattle.awk_run.specs.Session.{IsWithin, number_of};
 ghost use Rattle.awk_run.specs.Words.{IsRun, IsMake, AreWrong};
 
 use crate::made::MadeSource;
+use crate::unit::{SessionUnit, next_unit};
 use crate::words::{Task, task_in};
 use awk_edge::{LineFault, Lines, Out, Sink, Source};
 use awk_lanes::Steps;
@@ -26,9 +27,9 @@ use std::sync::ledger::Ledger;
 /// How a run ended.
 #[derive(Clone, Copy, Debug, PartialEq, Eq)]
 pub enum Status {
-    /// Each line was answered, and no answer is a fault.
+    /// Each unit was answered, and no answer is a fault.
     Fine,
-    /// Each line was answered, and some answer is a fault.
+    /// Each unit was answered, and some answer is a fault.
     Faults,
     /// The words of the command line are not known.
     Words,
@@ -38,7 +39,7 @@ pub enum Status {
     Write,
     /// Memory was wanting.
     Memory,
-    /// A line has more bytes than a line may have.
+    /// A line has more bytes than a line may have, or asks for more raw bytes.
     LineTooLong,
     /// There are more lines than there may be.
     TooManyLines,
@@ -78,13 +79,13 @@ pub fn run_words<S: Source, K: Sink, L: Ledger>(
     ensures words { (result ≡ Status.Words) ↔ AreWrong words.now }
     ensures untouched { result ≡ Status.Words → (source.new ≡ source.old) × (sink.new ≡ sink.old) }
 
-    // A complete run wrote the answers to all the lines of the source, or of the made session.
+    // A complete run wrote the answers to all the units of the source, or of the made session.
     ensures answers { IsRun words.now → (bytes before : List ℕ) → S.left source.old ≡ Some bytes →
         K.written sink.old ≡ Some before → IsComplete result →
-        K.written sink.new ≡ Some (before ++ answers (lines bytes)) }
+        K.written sink.new ≡ Some (before ++ answers (session_units bytes)) }
     ensures answers_made { (seed events : ℕ) → IsMake words.now seed events → (before : List ℕ) →
         K.written sink.old ≡ Some before → IsComplete result →
-        K.written sink.new ≡ Some (before ++ answers (lines (session_of seed events))) }
+        K.written sink.new ≡ Some (before ++ answers (session_units (session_of seed events))) }
 
     // What each status says of the bytes that the source gave, of those that were written, and of
     // what had been written at each flush; and what these bytes cost at most.
@@ -116,7 +117,7 @@ pub fn run_words<S: Source, K: Sink, L: Ledger>(
         Completes (S.left source.old) (S.left source.new)
         (K.written sink.old) (K.written sink.new) result }
     ensures complete_told { (bytes : List ℕ) → S.left source.old ≡ Some bytes →
-        IsWithinLimits bytes → IsRun words.now →
+        IsWithin bytes → IsRun words.now →
         (Rose (S.faults source.old) (S.faults source.new) → ⊥) →
         (Rose (K.faults sink.old) (K.faults sink.new) → ⊥) → result ≢ Status.Memory →
         IsComplete result }
@@ -124,9 +125,10 @@ pub fn run_words<S: Source, K: Sink, L: Ledger>(
         (Rose (K.faults sink.old) (K.faults sink.new) → ⊥) → result ≢ Status.Memory →
         IsComplete result }
 
-    // A session of lines that each have a cost takes at most what they cost together.
+    // A session of units that each have a cost takes at most what they cost together.
     ensures cost { IsRun words.now → (bytes : List ℕ) → S.left source.old ≡ Some bytes →
-        IsTrue (are_plain (lines bytes)) → steps.new ≤ steps.old + cost (lines bytes) }
+        IsTrue (are_plain (session_units bytes)) →
+        steps.new ≤ steps.old + cost (session_units bytes) }
 {
     match task_in(words) {
         Some(Task::Run) => run(alloc, source, sink, steps),
@@ -175,7 +177,8 @@ fn run<S: Source, K: Sink, L: Ledger>(
     ensures ended { IsComplete result → IsTrue (S.is_ended source.new) }
     ensures failed { result ≡ Status.Read → IsFalse (S.is_ended source.new) }
     ensures cost { (bytes : List ℕ) → S.left source.old ≡ Some bytes →
-        IsTrue (are_plain (lines bytes)) → steps.new ≤ steps.old + cost (lines bytes) }
+        IsTrue (are_plain (session_units bytes)) →
+        steps.new ≤ steps.old + cost (session_units bytes) }
 {
     let mut lines = Lines::new();
     let mut out = Out::new();
@@ -183,8 +186,8 @@ fn run<S: Source, K: Sink, L: Ledger>(
     let mut engine = Engine::new(alloc, &arena);
     let mut any_fault = false;
     loop {
-        match lines.next(alloc, source) {
-            Ok(Some(line)) => match answer(alloc, &mut engine, &line, &mut out, sink, steps) {
+        match next_unit(alloc, &engine, &mut lines, source) {
+            Ok(Some(unit)) => match answer(alloc, &mut engine, &unit, &mut out, sink, steps) {
                 Ok(is_fault) => any_fault = either(any_fault, is_fault),
                 Err(LineEnd::Write) => return Status::Write,
                 Err(LineEnd::NoMemory) => return Status::Memory,
@@ -209,11 +212,11 @@ fn either(a: bool, b: bool) -> bool
     a || b
 }
 
-// Answers a line, if it is not blank. It tells whether the answer is a fault.
+// Answers a unit, if its line is not blank. It tells whether the answer is a fault.
 fn answer<K: Sink, L: Ledger>(
     alloc: Global,
     engine: &mut Engine<'_>,
-    line: &[u8],
+    unit: &SessionUnit,
     out: &mut Out,
     sink: &mut K,
     steps: &mut Steps<L>,
@@ -221,26 +224,30 @@ fn answer<K: Sink, L: Ledger>(
     requires open { IsTrue out.old.is_open }
     requires empty { out.old.held ≡ [] }
     ensures answers { Answers (K.written sink.old) (K.written sink.new) out.new
-        (denoted engine.old) (denoted engine.new) line.now result }
+        (denoted_state engine.old) (denoted_state engine.new) unit.now.line.items
+        unit.now.raw.items result }
     ensures flushes { OnOk result (K.flushes sink.new ≡
-        (if replies.is_blank line.now then K.flushes sink.old
+        (if framing.is_blank unit.now.line.items then K.flushes sink.old
         else K.flushes sink.old ++ K.written sink.new ∷ [])) }
     ensures unflushed { OnErr result (K.flushes sink.new ≡ K.flushes sink.old) }
     ensures flushed { OnOk result (IsTrue (K.flushed sink.new) ⊎ (sink.new ≡ sink.old)) }
-    ensures some { OnErr result (IsFalse (replies.is_blank line.now)) }
+    ensures some { OnErr result (IsFalse (framing.is_blank unit.now.line.items)) }
     ensures untouched { result ≡ Err LineEnd.NoMemory → sink.new ≡ sink.old }
     ensures later { K.faults sink.old ≤ K.faults sink.new }
     ensures write { IfErr result (λ end. end ≡ LineEnd.Write →
         Rose (K.faults sink.old) (K.faults sink.new)) }
-    ensures binds { OnOk result (Binds (line_in line.now)
-        (step (denoted engine.old) line.now).is_fault engine.old engine.new) }
-    ensures cost { TakesCost engine.old (line_in line.now) (length line.now)
-        (step (denoted engine.old) line.now).answer steps.old steps.new }
+    ensures binds { OnOk result (Binds (line_in engine.old.reading unit.now.line.items)
+        (step (denoted_state engine.old) unit.now.line.items unit.now.raw.items).is_fault
+        engine.old.variables engine.new.variables) }
+    ensures cost { TakesCost engine.old.variables (line_in engine.old.reading unit.now.line.items)
+        (length unit.now.line.items + length unit.now.raw.items)
+        (step (denoted_state engine.old) unit.now.line.items unit.now.raw.items).answer
+        steps.old steps.new }
 {
-    if is_blank(line) {
+    if is_blank(&unit.line) {
         return Ok(false);
     }
-    match engine.line(alloc, line, out, sink, steps) {
+    match engine.line_raw(alloc, &unit.line, &unit.raw, out, sink, steps) {
         Ok(Answered::Fine) => Ok(false),
         Ok(Answered::Fault) => Ok(true),
         Err(end) => Err(end),

@@ -29,7 +29,10 @@ const UNBOUND: &[u8] = b"{\"show\":\"q\"}\n{\"show\":\"q\"}\n";
 
 const FIRST: &[u8] = b"{\"fault\":\"name\",\"name\":\"q\"}\n";
 
-const CASES: [Case<'static>; 10] = [
+const VERSION_1: &[u8] =
+    b"{\"load\":\"x\",\"form\":0,\"length\":0,\"byteorder\":\"<\",\"raw\":[]}\n.{\"show\":1}";
+
+const CASES: [Case<'static>; 12] = [
     // No byte, no answer.
     Case {
         session: b"",
@@ -50,6 +53,28 @@ const CASES: [Case<'static>; 10] = [
         room: 1000,
         failing_writes: &[],
         answers: b"{\"fault\":\"json\"}\n{\"fault\":\"name\",\"name\":\"\"}\n{\"names\":[]}\n",
+        status: Status::Faults,
+    },
+    // Blank lines stand before the line that begins version 2. Behind it, it is no line.
+    Case {
+        session: b" \n\n{\"session\":2}\n{\"session\":2}\n",
+        gives: 7,
+        failing_reads: &[],
+        takes: 5,
+        room: 1000,
+        failing_writes: &[],
+        answers: b"{\"session\":2}\n{\"fault\":\"query\"}\n",
+        status: Status::Faults,
+    },
+    // In version 1 a raw load is no line, and what follows it are lines.
+    Case {
+        session: VERSION_1,
+        gives: 7,
+        failing_reads: &[],
+        takes: 5,
+        room: 1000,
+        failing_writes: &[],
+        answers: b"{\"fault\":\"query\"}\n{\"fault\":\"json\"}\n",
         status: Status::Faults,
     },
     // The first read fails.
@@ -142,6 +167,99 @@ const CASES: [Case<'static>; 10] = [
     },
 ];
 
+// A session of version 2 whose second line is a raw load. `parts` ends that line, and what follows
+// it stands behind.
+struct RawCase<'r> {
+    parts: &'r [u8],
+    gives: usize,
+    failing_reads: &'r [u64],
+    answers: &'r [u8],
+    status: Status,
+}
+
+const RAW_START: &[u8] = b"{\"session\":2}\n{\"load\":\"x\",\"form\":{\"class\":\"x\"},";
+
+const RAW_ORDER: &[u8] = b"\"length\":0,\"byteorder\":\"<\",\"raw\":";
+
+const BEGUN: &[u8] = b"{\"session\":2}\n";
+
+const NO_CLASS: &[u8] = b"{\"fault\":\"form\",\"node\":0,\"why\":\"class\"}\n{\"value\":1}\n";
+
+const RAW_CASES: [RawCase<'static>; 9] = [
+    // Of no bytes the first key has none.
+    RawCase {
+        parts: b"[[\"a\",2],[\"b\",0],[\"c\",1]]}\n",
+        gives: 7,
+        failing_reads: &[],
+        answers: b"{\"fault\":\"buffer\",\"key\":\"a\",\"why\":\"cut\"}\n",
+        status: Status::Faults,
+    },
+    // One byte of the first key is there.
+    RawCase {
+        parts: b"[[\"a\",2],[\"b\",0],[\"c\",1]]}\n.",
+        gives: 7,
+        failing_reads: &[],
+        answers: b"{\"fault\":\"buffer\",\"key\":\"a\",\"why\":\"cut\"}\n",
+        status: Status::Faults,
+    },
+    // The last key lacks a byte; the one before it asks for none.
+    RawCase {
+        parts: b"[[\"a\",2],[\"b\",0],[\"c\",1]]}\n..",
+        gives: 7,
+        failing_reads: &[],
+        answers: b"{\"fault\":\"buffer\",\"key\":\"c\",\"why\":\"cut\"}\n",
+        status: Status::Faults,
+    },
+    // Behind a last line without its end there are no raw bytes.
+    RawCase {
+        parts: b"[[\"a\",2],[\"b\",0],[\"c\",1]]}",
+        gives: 7,
+        failing_reads: &[],
+        answers: b"{\"fault\":\"buffer\",\"key\":\"a\",\"why\":\"cut\"}\n",
+        status: Status::Faults,
+    },
+    // All bytes are there, and the next line begins directly behind them.
+    RawCase {
+        parts: b"[[\"a\",2],[\"b\",0],[\"c\",1]]}\n\n\n\n{\"show\":1}",
+        gives: 7,
+        failing_reads: &[],
+        answers: NO_CLASS,
+        status: Status::Faults,
+    },
+    // As many bytes are asked for as there may be.
+    RawCase {
+        parts: b"[[\"a\",268435456]]}\n..",
+        gives: 4096,
+        failing_reads: &[],
+        answers: b"{\"fault\":\"buffer\",\"key\":\"a\",\"why\":\"cut\"}\n",
+        status: Status::Faults,
+    },
+    // One byte more is asked for than there may be.
+    RawCase {
+        parts: b"[[\"a\",268435456],[\"b\",1]]}\n..",
+        gives: 4096,
+        failing_reads: &[],
+        answers: b"",
+        status: Status::LineTooLong,
+    },
+    // The same by a last line without its end.
+    RawCase {
+        parts: b"[[\"a\",18446744073709551615],[\"b\",1]]}",
+        gives: 4096,
+        failing_reads: &[],
+        answers: b"",
+        status: Status::LineTooLong,
+    },
+    // Reading fails before the raw bytes are all there.
+    RawCase {
+        parts: b"[[\"a\",2],[\"b\",0],[\"c\",1]]}\n..",
+        gives: 4096,
+        failing_reads: &[1],
+        answers: b"",
+        status: Status::Read,
+    },
+];
+
 // A run whose steps nobody reads.
 fn run<S: Source, K: Sink>(
     host: &HostRuntime,
@@ -196,6 +314,39 @@ fn check_cases(rt: &impl Abort, host: &HostRuntime, cases: &[Case<'_>]) -> Resul
 #[test]
 fn streams_come_in_pieces_and_fail(rt: HostRuntime) -> Result<(), Fail> {
     check_cases(&rt, &rt, &CASES)?;
+    Ok(())
+}
+
+fn joined(alloc: Global, parts: &[&[u8]]) -> Result<Vec<u8>, NoMemory> {
+    let mut all = Vec::new(alloc);
+    for part in parts {
+        all.extend_from_slice(*part)?;
+    }
+    Ok(all)
+}
+
+fn check_raw_case(rt: &impl Abort, host: &HostRuntime, case: &RawCase<'_>) -> Result<(), NoMemory> {
+    let alloc = host.alloc();
+    let session = joined(alloc, &[RAW_START, RAW_ORDER, case.parts])?;
+    let answers = joined(alloc, &[BEGUN, case.answers])?;
+    let case = Case {
+        session: &session,
+        gives: case.gives,
+        failing_reads: case.failing_reads,
+        takes: 4096,
+        room: 1000,
+        failing_writes: &[],
+        answers: &answers,
+        status: case.status,
+    };
+    check_case(rt, host, &case)
+}
+
+#[test]
+fn raw_bytes_are_taken(rt: HostRuntime) -> Result<(), Fail> {
+    for case in &RAW_CASES {
+        check_raw_case(&rt, &rt, case)?;
+    }
     Ok(())
 }
 

@@ -5,13 +5,13 @@ use Rattle.std.specs.Result.{result_ok}
 use Rattle.awk_lengths.specs.LineBytes.{text_len, HasBytes}
 use Rattle.awk_query.specs.Line.{Line, load, session, bind, values, show, type_of, pack, names}
 use Rattle.awk_query.specs.Line.{line_said}
-use Rattle.awk_query.specs.declared.reading.Reading.TheVariants.{One}
+use Rattle.awk_query.specs.declared.reading.Reading.{Reading}
 use Rattle.awk_eval.specs.Variables.{Variables}
 use Rattle.awk_eval.specs.Views.{Size, View, view_of, sizes_of, size_in, size_or_none}
 use Rattle.awk_session.specs.Answer.{answer_text}
 use Rattle.awk_session.specs.AnswerView.{answer_view}
 use Rattle.awk_session.specs.Cost.{form_size, view_size, load_cost, view_cost, text_cost, has_cost, made_cost, shown_cost, line_in}
-use Rattle.awk_session.specs.Replies.{is_blank}
+use Rattle.awk_session.specs.Framing.{is_blank}
 use Rattle.awk_session.specs.Spending.{IsAtMost, IsOfArray, IsOfArrays, IsViewTaken, TakesBy, Takes, TakesCost, shown_size, sent_cost, ShowsNone, ShowsView, ShowsBy, Shows}
 use Rattle.awk_session.specs.declared.answer.Answer as code
 
@@ -60,21 +60,23 @@ sent_view variables None a shows plain array = absurd (cc)
 sent_view variables (Some v) a shows plain array =
     text_cost-more (shown_size a) (size_in variables v) _ _ (shows array) (omega arith)
 
-made : (variables : Variables) (l : Line) (n steps0 steps1 : ℕ)
-    → TakesBy variables l steps0 steps1 → HasBytes n l → has_cost l ≡ true → IsOfArrays variables l
-    → steps1 ≤ steps0 + made_cost (sizes_of variables) n l
-made variables (load m form count big buffers) n steps0 steps1 taken bytes plain arrays =
-    omega (arith, taken, load_cost-bytes (form_size form) (text_len buffers) n bytes)
-made variables session n steps0 steps1 taken bytes plain arrays = omega (arith, taken)
-made variables (bind m e) n steps0 steps1 taken bytes plain arrays =
+-- of n bytes, and r raw bytes behind them
+made : (variables : Variables) (l : Line) (n r steps0 steps1 : ℕ)
+    → TakesBy variables l r steps0 steps1 → HasBytes n l → has_cost l ≡ true
+    → IsOfArrays variables l → steps1 ≤ steps0 + made_cost (sizes_of variables) (n + r) l
+made variables (load m form count big buffers) n r steps0 steps1 taken bytes plain arrays =
+    let more : text_len buffers + r ≤ n + r = omega (arith, bytes) in
+    omega (arith, taken, load_cost-bytes (form_size form) (text_len buffers + r) (n + r) more)
+made variables session n r steps0 steps1 taken bytes plain arrays = omega (arith, taken)
+made variables (bind m e) n r steps0 steps1 taken bytes plain arrays =
     made_view variables (view_of e) steps0 steps1 taken plain arrays
-made variables (values m list) n steps0 steps1 taken bytes plain arrays = absurd (cc)
-made variables (show e) n steps0 steps1 taken bytes plain arrays =
+made variables (values m list) n r steps0 steps1 taken bytes plain arrays = absurd (cc)
+made variables (show e) n r steps0 steps1 taken bytes plain arrays =
     made_view variables (view_of e) steps0 steps1 taken plain arrays
-made variables (type_of e) n steps0 steps1 taken bytes plain arrays =
+made variables (type_of e) n r steps0 steps1 taken bytes plain arrays =
     made_view variables (view_of e) steps0 steps1 taken plain arrays
-made variables (pack e) n steps0 steps1 taken bytes plain arrays = absurd (cc)
-made variables names n steps0 steps1 taken bytes plain arrays = omega (arith, taken)
+made variables (pack e) n r steps0 steps1 taken bytes plain arrays = absurd (cc)
+made variables names n r steps0 steps1 taken bytes plain arrays = omega (arith, taken)
 
 sent : (variables : Variables) (l : Line) (a : code.Answer) → ShowsBy variables l a
     → has_cost l ≡ true → IsOfArrays variables l
@@ -96,36 +98,36 @@ read-bytes n (Ok l) h = h
 read-bytes n (Err e) h = tt
 
 -- where its answer was put
-pub Takes-answered : (variables : Variables) (line : Option Line) (n : ℕ) (a : code.Answer)
-    (steps0 steps1 steps2 : ℕ) → Takes variables line steps0 steps1 → Shows variables line a
+pub Takes-answered : (variables : Variables) (line : Option Line) (n r : ℕ) (a : code.Answer)
+    (steps0 steps1 steps2 : ℕ) → Takes variables line r steps0 steps1 → Shows variables line a
     → steps2 ≤ steps1 + sent_cost a → IfSome line (HasBytes n)
-    → TakesCost variables line n (Some (answer_text (answer_view a))) steps0 steps2
-Takes-answered variables None n a steps0 steps1 steps2 takes shows puts bytes plain arrays =
+    → TakesCost variables line (n + r) (Some (answer_text (answer_view a))) steps0 steps2
+Takes-answered variables None n r a steps0 steps1 steps2 takes shows puts bytes plain arrays =
     omega (arith, takes, puts, none_sent a shows)
-Takes-answered variables (Some l) n a steps0 steps1 steps2 takes shows puts bytes plain arrays =
+Takes-answered variables (Some l) n r a steps0 steps1 steps2 takes shows puts bytes plain arrays =
     omega (
       arith,
       puts,
-      made variables l n steps0 steps1 takes bytes plain arrays,
+      made variables l n r steps0 steps1 takes bytes plain arrays,
       sent variables l a shows plain arrays,
     )
 
 -- where memory was wanting before
-pub Takes-unanswered : (variables : Variables) (line : Option Line) (n : ℕ)
-    (answer : Option (List ℕ)) (steps0 steps1 : ℕ) → Takes variables line steps0 steps1
-    → IfSome line (HasBytes n) → TakesCost variables line n answer steps0 steps1
-Takes-unanswered variables None n answer steps0 steps1 takes bytes plain arrays =
+pub Takes-unanswered : (variables : Variables) (line : Option Line) (n r : ℕ)
+    (answer : Option (List ℕ)) (steps0 steps1 : ℕ) → Takes variables line r steps0 steps1
+    → IfSome line (HasBytes n) → TakesCost variables line (n + r) answer steps0 steps1
+Takes-unanswered variables None n r answer steps0 steps1 takes bytes plain arrays =
     omega (arith, takes)
-Takes-unanswered variables (Some l) n answer steps0 steps1 takes bytes plain arrays =
-    omega (arith, made variables l n steps0 steps1 takes bytes plain arrays)
+Takes-unanswered variables (Some l) n r answer steps0 steps1 takes bytes plain arrays =
+    omega (arith, made variables l n r steps0 steps1 takes bytes plain arrays)
 
 -- ---- what a line is read as
 
-pub line_in-blank : (line : List ℕ) → is_blank line ≡ true → line_in line ≡ None
+pub line_in-blank : (r : Reading) (line : List ℕ) → is_blank line ≡ true → line_in r line ≡ None
 unfolding line_in
-line_in-blank line e = rw e refl
+line_in-blank r line e = rw e refl
 
-pub line_in-said : (line : List ℕ) → is_blank line ≡ false
-    → line_in line ≡ result_ok (line_said One line)
+pub line_in-said : (r : Reading) (line : List ℕ) → is_blank line ≡ false
+    → line_in r line ≡ result_ok (line_said r line)
 unfolding line_in
-line_in-said line e = rw e refl
+line_in-said r line e = rw e refl

@@ -2,6 +2,9 @@ pub mod Sessions
 pub mod LineEnds
 pub mod Runs
 pub mod StepLaws
+pub mod Readings
+pub mod Asked
+pub mod RawLaws
 pub mod DenotedLaws
 pub mod Parts
 pub mod ReadLaws

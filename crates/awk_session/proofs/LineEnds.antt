@@ -19,7 +19,7 @@ use Rattle.awk_text.proofs.LineEnds.{value_text-unbroken, values_text-unbroken}
 use Rattle.awk_session.specs.declared.fault.AnswerFault.{AnswerFault}
 use Rattle.awk_session.specs.declared.fault.AnswerFault.TheVariants as faults
 use Rattle.awk_session.specs.FaultText.{why_text, buffer_text, rule_text, fault_text}
-use Rattle.awk_session.specs.Answer.{Answer, bound, value, typ, packed, names, fault, answer_text, datum_text}
+use Rattle.awk_session.specs.Answer.{Answer, begun, bound, value, typ, packed, names, fault, answer_text, datum_text}
 
 -- three texts, one after another
 between : (head text tail : List ℕ) → Unbroken head → Unbroken text → Unbroken tail
@@ -79,6 +79,11 @@ fault_text-unbroken (faults.Buffer key cause) =
     (quoted-unbroken key)
     (literal-unbroken middle refl) (buffer_text-unbroken cause)
     (literal-unbroken (codes "\"}") refl)
+fault_text-unbroken (faults.Cut key) =
+    let head = codes "{\"fault\":\"buffer\",\"key\":" in
+    let tail = codes ",\"why\":\"cut\"}" in
+    between head (quoted key) tail (literal-unbroken head refl) (quoted-unbroken key)
+    (literal-unbroken tail refl)
 fault_text-unbroken (faults.Invalid node rule place) =
     let head = codes "{\"fault\":\"invalid\",\"node\":" in
     let middle = codes ",\"rule\":\"" in
@@ -101,6 +106,7 @@ quoted_texts-unbroken [] = tt
 quoted_texts-unbroken (n ∷ ns) = (quoted-unbroken n, quoted_texts-unbroken ns)
 
 pub answer_text-unbroken : (a : Answer) → Unbroken (answer_text a)
+answer_text-unbroken begun = literal-unbroken (codes "{\"session\":2}") refl
 answer_text-unbroken (bound n) = member-unbroken (codes "{\"bound\":") (quoted n)
     (literal-unbroken (codes "{\"bound\":") refl) (quoted-unbroken n)
 answer_text-unbroken (value d) = member-unbroken (codes "{\"value\":") (datum_text d)

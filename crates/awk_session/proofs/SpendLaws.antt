@@ -1,14 +1,21 @@
--- Lines take no more steps than their session costs.
-use Rattle.std.proofs.Common.{◌≡◌, ◌≤◌, ℕ, ◌+◌, ◌*◌, Bool, true, false, ◌&&◌, List, [], ◌∷◌, ◌++◌, length, Option, Some, None, refl, sym, ap, ◌∙◌, subst, arith}
+-- Units take no more steps than their session costs.
+use Rattle.std.proofs.Common.{◌≡◌, ◌≤◌, ℕ, ◌+◌, ◌*◌, Bool, true, false, ◌&&◌, List, [], ◌∷◌, ◌++◌, Option, Some, None, refl, sym, ap, ◌∙◌, subst, arith}
 use Rattle.std.specs.Option.{option_map_or}
+use Rattle.awk_edge.specs.Units.{Framed, read_after}
 use Rattle.awk_query.specs.Line.{Line, load, session, bind, values, show, type_of, pack, names}
-use Rattle.awk_eval.specs.Variables.{Variables, denoted}
+use Rattle.awk_query.specs.declared.reading.Reading.{Reading}
+use Rattle.awk_query.specs.declared.reading.Reading.TheVariants.{First}
+use Rattle.awk_eval.specs.Variables.{Environment, Variables}
 use Rattle.awk_eval.specs.Views.{Sizes, View, view_of, sizes_of, size_at}
-use Rattle.awk_session.specs.Replies.{step}
-use Rattle.awk_session.specs.Cost.{Standing, at_start, next, standing_after, costs, cost, cost_of, is_plain, are_plain, line_in, line_cost, made_cost, shown_cost, view_cost, view_size, answer_length, sizes_after}
+use Rattle.awk_session.specs.Cost.{Standing, at_start, next, standing_after, costs, cost, cost_of, unit_bytes, unit_cost}
+use Rattle.awk_session.specs.Cost.{is_plain, plain_from, are_plain, line_in, line_cost, made_cost, shown_cost, view_cost, view_size, answer_length, sizes_after}
+use Rattle.awk_session.specs.Framing.{read_behind, session_framing}
+use Rattle.awk_session.specs.Replies.{unit_step}
 use Rattle.awk_session.specs.Spending.{Binds, TakesCost}
-use Rattle.awk_session.proofs.SizeLaws.{AreWithin, size_at-within, view_size-within, IsOfArrays-within, sizes-within}
+use Rattle.awk_session.specs.State.{State, denoted_state}
 use Rattle.awk_session.proofs.CostLaws.{times, text_cost-more}
+use Rattle.awk_session.proofs.Readings.{reading-step}
+use Rattle.awk_session.proofs.SizeLaws.{AreWithin, size_at-within, view_size-within, IsOfArrays-within, sizes-within}
 
 -- ---- a line costs no more where sizes are greater
 
@@ -50,27 +57,32 @@ cost-within bytes answered None ss vs h = omega arith
 cost-within bytes answered (Some l) ss vs h =
     omega (arith, made_cost-within bytes l ss vs h, shown_cost-within answered l ss vs h)
 
--- ---- sessions, one line more
+-- ---- sessions, one unit more
 
-standing_after-push : (s : Standing) (xs : List (List ℕ)) (x : List ℕ)
+standing_after-push : (s : Standing) (xs : List Framed) (x : Framed)
     → standing_after s (xs ++ x ∷ []) ≡ next (standing_after s xs) x
 standing_after-push s [] x = refl
 standing_after-push s (y ∷ xs) x = standing_after-push (next s y) xs x
 
-abbrev cost_at : Standing → List ℕ → ℕ
-cost_at s line = cost_of s.sizes line (step s.variables line).answer
+-- the next line is read as the units before it say
+standing-reading : (s : Standing) (us : List Framed)
+    → (standing_after s us).state.reading ≡ read_after session_framing s.state.reading us
+standing-reading s [] = refl
+standing-reading s (u ∷ us) =
+    standing-reading (next s u) us
+    ∙ ap (λ r. read_after session_framing r us) (reading-step s.state u)
 
-costs-append : (s : Standing) (xs ys : List (List ℕ))
+costs-append : (s : Standing) (xs ys : List Framed)
     → costs s (xs ++ ys) ≡ costs s xs + costs (standing_after s xs) ys
 costs-append s [] ys = omega arith
 costs-append s (x ∷ xs) ys = omega (arith, costs-append (next s x) xs ys)
 
-costs-push : (s : Standing) (xs : List (List ℕ)) (x : List ℕ)
-    → costs s (xs ++ x ∷ []) ≡ costs s xs + cost_at (standing_after s xs) x
+costs-push : (s : Standing) (xs : List Framed) (x : Framed)
+    → costs s (xs ++ x ∷ []) ≡ costs s xs + unit_cost (standing_after s xs) x
 costs-push s xs x = omega (arith, costs-append s xs (x ∷ []))
 
--- the first lines cost no more than all
-pub cost-first : (xs ys : List (List ℕ)) → cost xs ≤ cost (xs ++ ys)
+-- the first units cost no more than all
+pub cost-first : (xs ys : List Framed) → cost xs ≤ cost (xs ++ ys)
 cost-first xs ys = omega (arith, costs-append at_start xs ys)
 
 and-both : (a b : Bool) → (a && b) ≡ true → (a ≡ true) × (b ≡ true)
@@ -78,96 +90,121 @@ and-both true true e = (refl, refl)
 and-both true false e = absurd (cc)
 and-both false b e = absurd (cc)
 
-pub plain-append : (xs ys : List (List ℕ)) → are_plain (xs ++ ys) ≡ true
-    → (are_plain xs ≡ true) × (are_plain ys ≡ true)
-plain-append [] ys e = (refl, e)
-plain-append (x ∷ xs) ys e =
-    let both = and-both (is_plain x) (are_plain (xs ++ ys)) e in
-    let rest = plain-append xs ys both.1 in
-    (ap (λ b. b && are_plain xs) both.0 ∙ rest.0, rest.1)
+plain-append : (r : Reading) (xs ys : List Framed) → plain_from r (xs ++ ys) ≡ true
+    → (plain_from r xs ≡ true) × (plain_from (read_after session_framing r xs) ys ≡ true)
+plain-append r [] ys e = (refl, e)
+plain-append r (x ∷ xs) ys e =
+    let later = read_behind r x.line in
+    let both = and-both (is_plain r x.line) (plain_from later (xs ++ ys)) e in
+    let rest = plain-append later xs ys both.1 in
+    (ap (λ b. b && plain_from later xs) both.0 ∙ rest.0, rest.1)
 
-plain-push : (xs : List (List ℕ)) (x : List ℕ) → are_plain (xs ++ x ∷ []) ≡ true
-    → (are_plain xs ≡ true) × (is_plain x ≡ true)
+plain-push : (xs : List Framed) (x : Framed) → are_plain (xs ++ x ∷ []) ≡ true
+    → (are_plain xs ≡ true) × (is_plain (standing_after at_start xs).state.reading x.line ≡ true)
 plain-push xs x e =
-    let p = plain-append xs (x ∷ []) e in (p.0, (and-both (is_plain x) true p.1).0)
+    let p = plain-append First xs (x ∷ []) e in
+    let here = (and-both (is_plain (read_after session_framing First xs) x.line) true p.1).0 in
+    (p.0, ap (λ r. is_plain r x.line) (standing-reading at_start xs) ∙ here)
 
 -- ---- what the loop of a run keeps
 
--- the variables are where the session stands, each an array within its size, and the steps since
--- are within what its lines cost
-pub record IsSpent (steps0 steps1 : ℕ) (variables : Variables) (taken : List (List ℕ))
+-- the state is where the session stands, each variable an array within its size, and the steps
+-- since are within what its units cost
+pub record IsSpent (steps0 steps1 : ℕ) (state : State Variables) (taken : List Framed)
     : Type 0 where
-  pub shown : (standing_after at_start taken).variables ≡ denoted variables
-  pub within : AreWithin (standing_after at_start taken).sizes variables
+  pub shown : (standing_after at_start taken).state ≡ denoted_state state
+  pub within : AreWithin (standing_after at_start taken).sizes state.variables
   pub steps : steps1 ≤ steps0 + cost taken
 
--- so it is after lines that each have a cost
-abbrev pub MaySpend : ℕ → ℕ → Variables → List (List ℕ) → Type 0
-MaySpend steps0 steps1 variables taken =
-    are_plain taken ≡ true → IsSpent steps0 steps1 variables taken
+-- so it is after units that each have a cost
+abbrev pub MaySpend : ℕ → ℕ → State Variables → List Framed → Type 0
+MaySpend steps0 steps1 state taken = are_plain taken ≡ true → IsSpent steps0 steps1 state taken
 
--- what a line takes, and what it binds
-abbrev pub LineTakes : Variables → List ℕ → ℕ → ℕ → Type 0
-LineTakes variables line steps0 steps1 =
-    TakesCost variables (line_in line) (length line) (step (denoted variables) line).answer steps0
-    steps1
+-- what a unit takes, and what it binds
+abbrev pub UnitTakes : State Variables → Framed → ℕ → ℕ → Type 0
+UnitTakes s u steps0 steps1 =
+    TakesCost s.variables (line_in s.reading u.line) (unit_bytes u)
+    (unit_step (denoted_state s) u).answer steps0 steps1
 
-abbrev pub LineBinds : Variables → Variables → List ℕ → Type 0
-LineBinds old new line = Binds (line_in line) (step (denoted old) line).is_fault old new
+abbrev pub UnitBinds : State Variables → State Variables → Framed → Type 0
+UnitBinds old new u =
+    Binds (line_in old.reading u.line) (unit_step (denoted_state old) u).is_fault old.variables
+    new.variables
 
--- what a session costs with a line more, by the sizes that the variables have
-here : {steps0 steps1 steps2 : ℕ} {variables : Variables} (taken : List (List ℕ)) (line : List ℕ)
-    → IsSpent steps0 steps1 variables taken → LineTakes variables line steps1 steps2
-    → is_plain line ≡ true → steps2 ≤ steps0 + cost (taken ++ line ∷ [])
-here {steps0} {steps1} {steps2} {variables} taken line h takes plain =
-    let s = standing_after at_start taken in
-    let answered = answer_length (step (denoted variables) line).answer in
-    let arrays = IsOfArrays-within (line_in line) s.sizes variables h.within in
-    let greater = cost-within (length line) answered (line_in line) s.sizes variables h.within in
-    let same : cost_of s.sizes line (step (denoted variables) line).answer ≡ cost_at s line =
-    ap (λ vs. cost_of s.sizes line (step vs line).answer) (sym h.shown) in
-    omega (arith, h.steps, takes plain arrays, greater, same, costs-push at_start taken line)
+-- a unit has a cost as it is read where the session stands
+plain_here : {steps0 steps1 : ℕ} {s : State Variables} {taken : List Framed} (u : Framed)
+    → IsSpent steps0 steps1 s taken
+    → is_plain (standing_after at_start taken).state.reading u.line ≡ true
+    → is_plain s.reading u.line ≡ true
+plain_here u h e =
+    sym (ap (λ (t : State Environment). is_plain t.reading u.line) h.shown) ∙ e
 
-pub spend_start : (steps : ℕ) → MaySpend steps steps [] []
+-- what a session costs with a unit more, by the sizes that the variables have
+here : {steps0 steps1 steps2 : ℕ} {s : State Variables} (taken : List Framed) (u : Framed)
+    → IsSpent steps0 steps1 s taken → UnitTakes s u steps1 steps2
+    → is_plain s.reading u.line ≡ true → steps2 ≤ steps0 + cost (taken ++ u ∷ [])
+here {steps0} {steps1} {steps2} {s} taken u h takes plain =
+    let t = standing_after at_start taken in
+    let line = line_in s.reading u.line in
+    let answered = answer_length (unit_step (denoted_state s) u).answer in
+    let arrays = IsOfArrays-within line t.sizes s.variables h.within in
+    let greater = cost-within (unit_bytes u) answered line t.sizes s.variables h.within in
+    let same : cost_of t.sizes line (unit_bytes u) (unit_step (denoted_state s) u).answer
+    ≡ unit_cost t u =
+    ap (λ (z : State Environment). cost_of t.sizes (line_in z.reading u.line) (unit_bytes u)
+    (unit_step z u).answer) (sym h.shown) in
+    omega (arith, h.steps, takes plain arrays, greater, same, costs-push at_start taken u)
+
+pub spend_start : (steps : ℕ)
+    → MaySpend steps steps (record { reading = First; variables = [] }) []
 spend_start steps plain = record { shown = refl; within = tt; steps = omega arith }
 
-pub spend_more : {steps0 steps1 steps2 : ℕ} {old new : Variables} (taken : List (List ℕ))
-    (line : List ℕ) → MaySpend steps0 steps1 old taken → LineTakes old line steps1 steps2
-    → LineBinds old new line → denoted new ≡ (step (denoted old) line).after
-    → MaySpend steps0 steps2 new (taken ++ line ∷ [])
-spend_more {steps0} {steps1} {steps2} {old} {new} taken line h takes binds shows plain =
-    let p = plain-push taken line plain in
+pub spend_more : {steps0 steps1 steps2 : ℕ} {old new : State Variables} (taken : List Framed)
+    (u : Framed) → MaySpend steps0 steps1 old taken → UnitTakes old u steps1 steps2
+    → UnitBinds old new u → denoted_state new ≡ (unit_step (denoted_state old) u).after
+    → MaySpend steps0 steps2 new (taken ++ u ∷ [])
+spend_more {steps0} {steps1} {steps2} {old} {new} taken u h takes binds shows plain =
+    let p = plain-push taken u plain in
     let so = h p.0 in
+    let plain_now = plain_here u so p.1 in
     let s = standing_after at_start taken in
-    let after = standing_after-push at_start taken line in
-    let flag : (step (denoted old) line).is_fault ≡ (step s.variables line).is_fault =
-    ap (λ vs. (step vs line).is_fault) (sym so.shown) in
-    let sizes = sizes-within (line_in line) (step (denoted old) line).is_fault s.sizes old new p.1
+    let after = standing_after-push at_start taken u in
+    let sizes = sizes-within (line_in old.reading u.line)
+    (unit_step (denoted_state old) u).is_fault s.sizes old.variables new.variables plain_now
     so.within binds in
+    let moved : sizes_after s.sizes (line_in old.reading u.line)
+    (unit_step (denoted_state old) u).is_fault ≡ (next s u).sizes =
+    ap (λ (z : State Environment). sizes_after s.sizes (line_in z.reading u.line)
+    (unit_step z u).is_fault) (sym so.shown) in
     record {
-      shown = ap (λ (t : Standing). t.variables) after
-          ∙ ap (λ vs. (step vs line).after) so.shown ∙ sym shows;
-      within = subst (λ (t : Standing). AreWithin t.sizes new) (sym after)
-          (subst (λ f. AreWithin (sizes_after s.sizes line f) new) flag sizes);
-      steps = here taken line so takes p.1;
+      shown = ap (λ (t : Standing). t.state) after
+          ∙ ap (λ z. (unit_step z u).after) so.shown ∙ sym shows;
+      within = subst (λ (t : Standing). AreWithin t.sizes new.variables) (sym after)
+          (subst (λ z. AreWithin z new.variables) moved sizes);
+      steps = here taken u so takes plain_now;
     }
 
--- the run ends between two lines
-pub spends : {steps0 steps1 : ℕ} {variables : Variables} (taken more all : List (List ℕ))
-    → MaySpend steps0 steps1 variables taken → all ≡ taken ++ more → are_plain all ≡ true
+-- the run ends between two units
+pub spends : {steps0 steps1 : ℕ} {state : State Variables} (taken more all : List Framed)
+    → MaySpend steps0 steps1 state taken → all ≡ taken ++ more → are_plain all ≡ true
     → steps1 ≤ steps0 + cost all
 spends {steps0} {steps1} taken more all h e plain =
-    let front = plain-append taken more (sym (ap are_plain e) ∙ plain) in
-    subst (λ ls. steps1 ≤ steps0 + cost ls) (sym e)
+    let front = plain-append First taken more (sym (ap are_plain e) ∙ plain) in
+    subst (λ us. steps1 ≤ steps0 + cost us) (sym e)
     (omega (arith, (h front.0).steps, cost-first taken more))
 
--- the run ends in a line
-pub spends_in : {steps0 steps1 steps2 : ℕ} {variables : Variables} (taken : List (List ℕ))
-    (line : List ℕ) (more all : List (List ℕ)) → MaySpend steps0 steps1 variables taken
-    → LineTakes variables line steps1 steps2 → all ≡ (taken ++ line ∷ []) ++ more
+-- the run ends in a unit
+pub spends_in : {steps0 steps1 steps2 : ℕ} {state : State Variables} (taken : List Framed)
+    (u : Framed) (more all : List Framed) → MaySpend steps0 steps1 state taken
+    → UnitTakes state u steps1 steps2 → all ≡ (taken ++ u ∷ []) ++ more
     → are_plain all ≡ true → steps2 ≤ steps0 + cost all
-spends_in {steps0} {steps1} {steps2} taken line more all h takes e plain =
-    let front = plain-append (taken ++ line ∷ []) more (sym (ap are_plain e) ∙ plain) in
-    let p = plain-push taken line front.0 in
-    subst (λ ls. steps2 ≤ steps0 + cost ls) (sym e)
-    (omega (arith, here taken line (h p.0) takes p.1, cost-first (taken ++ line ∷ []) more))
+spends_in {steps0} {steps1} {steps2} taken u more all h takes e plain =
+    let front = plain-append First (taken ++ u ∷ []) more (sym (ap are_plain e) ∙ plain) in
+    let p = plain-push taken u front.0 in
+    let so = h p.0 in
+    subst (λ us. steps2 ≤ steps0 + cost us) (sym e)
+    (omega (
+      arith,
+      here taken u so takes (plain_here u so p.1),
+      cost-first (taken ++ u ∷ []) more,
+    ))

@@ -2,33 +2,32 @@
 use Rattle.std.proofs.Common.{◌≡◌, ◌≢◌, ℕ, ◌+◌, ◌==◌, Bool, true, false, not, cond, List, [], ◌∷◌, ◌++◌, None, refl, sym, ap, ◌∙◌, arith}
 use Rattle.std.proofs.lemmas.List.Sums.{sum_by-append, sum_by-cons}
 use Rattle.awk_edge.specs.Lines.{Unbroken}
-use Rattle.awk_session.specs.Runs.{Step, answer_bytes, texts, line_ends}
+use Rattle.awk_edge.specs.Units.{Framed}
 use Rattle.awk_eval.specs.Variables.{Environment}
-use Rattle.awk_session.specs.Answer.{answer_text}
-use Rattle.awk_session.specs.Replies.{is_blank, step, step_of, reply, answers, answer_count}
 use Rattle.awk_query.specs.Line.{line_said}
-use Rattle.awk_query.specs.declared.reading.Reading.TheVariants.{One}
+use Rattle.awk_session.specs.Answer.{answer_text}
+use Rattle.awk_session.specs.Framing.{is_blank}
+use Rattle.awk_session.specs.Replies.{step, step_read, unit_step, reply, answers, answer_count}
+use Rattle.awk_session.specs.Runs.{Step, answer_bytes, texts, line_ends}
+use Rattle.awk_session.specs.State.{State, at_start}
 use Rattle.awk_session.proofs.LineEnds.{answer_text-unbroken}
 
+abbrev unanswered : State Environment → Step (State Environment)
+unanswered s = record { answer = None; is_fault = false; after = s }
+
 -- a blank line has no answer, and changes nothing
-pub step-blank : (variables : Environment) (line : List ℕ) → is_blank line ≡ true
-    → step variables line ≡ record { answer = None; is_fault = false; after = variables }
+pub step-blank : (s : State Environment) (line raw : List ℕ) → is_blank line ≡ true
+    → step s line raw ≡ record { answer = None; is_fault = false; after = s }
 unfolding step
-step-blank variables line e =
-    ap
-    (λ b. cond b
-    (let s : Step Environment = record { answer = None; is_fault = false; after = variables } in s)
-    (step_of (reply variables (line_said One line)))) e
+step-blank s line raw e =
+    ap (λ b. cond b (unanswered s) (step_read s (line_said s.reading line) raw)) e
 
 -- another line is answered by the line that its JSON is
-pub step-line : (variables : Environment) (line : List ℕ) → is_blank line ≡ false
-    → step variables line ≡ step_of (reply variables (line_said One line))
+pub step-line : (s : State Environment) (line raw : List ℕ) → is_blank line ≡ false
+    → step s line raw ≡ step_read s (line_said s.reading line) raw
 unfolding step
-step-line variables line e =
-    ap
-    (λ b. cond b
-    (let s : Step Environment = record { answer = None; is_fault = false; after = variables } in s)
-    (step_of (reply variables (line_said One line)))) e
+step-line s line raw e =
+    ap (λ b. cond b (unanswered s) (step_read s (line_said s.reading line) raw)) e
 
 -- bytes with a line end behind them, and none within
 pub record IsOneLine (bytes : List ℕ) : Type 0 where
@@ -37,13 +36,13 @@ pub record IsOneLine (bytes : List ℕ) : Type 0 where
   pub unbroken : Unbroken text
 
 -- the answer to a line that is not blank is such a line
-pub step-answer : (variables : Environment) (line : List ℕ) → is_blank line ≡ false
-    → IsOneLine (answer_bytes (step variables line).answer)
-step-answer variables line e =
-    let said = (reply variables (line_said One line)).answer in
+pub step-answer : (s : State Environment) (line raw : List ℕ) → is_blank line ≡ false
+    → IsOneLine (answer_bytes (step s line raw).answer)
+step-answer s line raw e =
+    let said = (reply s.variables (line_said s.reading line) raw).answer in
     record {
       text = answer_text said;
-      all = ap (λ (s : Step Environment). answer_bytes s.answer) (step-line variables line e);
+      all = ap (λ (t : Step (State Environment)). answer_bytes t.answer) (step-line s line raw e);
       unbroken = answer_text-unbroken said;
     }
 
@@ -60,30 +59,30 @@ line_ends-unbroken [] h = refl
 line_ends-unbroken (b ∷ bs) h = rw (not_10 b h.0) (line_ends-unbroken bs h.1)
 
 -- an answer has one line end, behind it
-line_ends-step : (variables : Environment) (line : List ℕ)
-    → line_ends (answer_bytes (step variables line).answer) ≡ cond (not (is_blank line)) 1 0
-line_ends-step variables line = by (is_blank line) refl
+line_ends-step : (s : State Environment) (line raw : List ℕ)
+    → line_ends (answer_bytes (step s line raw).answer) ≡ cond (not (is_blank line)) 1 0
+line_ends-step s line raw = by (is_blank line) refl
   where
     by : (b : Bool) → is_blank line ≡ b
-        → line_ends (answer_bytes (step variables line).answer) ≡ cond (not b) 1 0
-    by true e = rw (step-blank variables line e) refl
+        → line_ends (answer_bytes (step s line raw).answer) ≡ cond (not b) 1 0
+    by true e = rw (step-blank s line raw e) refl
     by false e =
-        let said = (reply variables (line_said One line)).answer in
+        let said = (reply s.variables (line_said s.reading line) raw).answer in
         rw (
-          step-line variables line e,
+          step-line s line raw e,
           line_ends-append (answer_text said) (10 ∷ []),
           line_ends-unbroken (answer_text said) (answer_text-unbroken said),
         ) refl
 
-line_ends-texts : (variables : Environment) (lines : List (List ℕ))
-    → line_ends (texts step variables lines) ≡ answer_count lines
-line_ends-texts variables [] = refl
-line_ends-texts variables (line ∷ lines) =
-    line_ends-append (answer_bytes (step variables line).answer)
-    (texts step (step variables line).after lines)
-    ∙ rw (line_ends-step variables line, line_ends-texts (step variables line).after lines)
-    (sym (sum_by-cons (λ (l : List ℕ). cond (not (is_blank l)) 1 0) line lines))
+line_ends-texts : (s : State Environment) (us : List Framed)
+    → line_ends (texts unit_step s us) ≡ answer_count us
+line_ends-texts s [] = refl
+line_ends-texts s (u ∷ us) =
+    line_ends-append (answer_bytes (unit_step s u).answer)
+    (texts unit_step (unit_step s u).after us)
+    ∙ rw (line_ends-step s u.line u.raw, line_ends-texts (unit_step s u).after us)
+    (sym (sum_by-cons (λ (v : Framed). cond (not (is_blank v.line)) 1 0) u us))
 
--- the line ends of the answers to lines count those that have one
-pub line_ends-answers : (lines : List (List ℕ)) → line_ends (answers lines) ≡ answer_count lines
-line_ends-answers lines = line_ends-texts [] lines
+-- the line ends of the answers to units count those that have one
+pub line_ends-answers : (us : List Framed) → line_ends (answers us) ≡ answer_count us
+line_ends-answers us = line_ends-texts at_start us

@@ -9,9 +9,10 @@ use Rattle.awk_text.specs.ValueText.{value_text}
 use Rattle.awk_session.specs.declared.fault.AnswerFault.{AnswerFault}
 use Rattle.awk_session.specs.FaultText.{fault_text}
 
--- a name was bound, a value, the text of a type or packed buffers are shown, names are listed, or a
--- fault is told
+-- version 2 was begun, a name was bound, a value, the text of a type or packed buffers are shown,
+-- names are listed, or a fault is told
 pub data Answer : Type 0 where
+  begun : Answer
   bound : Name → Answer
   value : Datum → Answer
   typ : List ℕ → Answer
@@ -20,6 +21,7 @@ pub data Answer : Type 0 where
   fault : AnswerFault → Answer
 
 abbrev pub is_fault : Answer → Bool
+is_fault begun = false
 is_fault (bound n) = false
 is_fault (value d) = false
 is_fault (typ text) = false
@@ -33,6 +35,7 @@ datum_text (arr t vs) = list_text (map (value_text t) vs)
 datum_text (one t v) = value_text t v
 
 abbrev pub answer_text : Answer → List ℕ
+answer_text begun = codes "{\"session\":2}"
 answer_text (bound n) = codes "{\"bound\":" ++ quoted n ++ codes "}"
 answer_text (value d) = codes "{\"value\":" ++ datum_text d ++ codes "}"
 answer_text (typ text) = codes "{\"type\":" ++ quoted text ++ codes "}"

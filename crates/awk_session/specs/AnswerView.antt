@@ -10,9 +10,10 @@ use Rattle.awk_session.specs.declared.answer.Answered.{Answered}
 use Rattle.awk_session.specs.declared.answer.Answered.TheVariants.{Fine, Fault}
 use Rattle.awk_session.specs.declared.fault.AnswerFault.{AnswerFault}
 use Rattle.awk_session.specs.declared.fault.AnswerFault.TheVariants.{Evaluation}
-use Rattle.awk_session.specs.Answer.{Answer, bound, value, typ, packed, names, fault}
+use Rattle.awk_session.specs.Answer.{Answer, begun, bound, value, typ, packed, names, fault}
 
 abbrev pub answer_view : code.Answer → Answer
+answer_view variant.Session = begun
 answer_view (variant.Bound n) = bound n.now
 answer_view (variant.Value d) = value (datum_of d)
 answer_view (variant.Type text) = typ text.items

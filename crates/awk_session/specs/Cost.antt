@@ -1,21 +1,25 @@
--- What the lines of a session of loads and views cost, in steps.
-use Rattle.std.specs.Prelude.{ℕ, ◌+◌, ◌*◌, Bool, true, false, List, [], ◌∷◌, length, Option, Some, None, is_some, Result, Ok, Err, if◌then◌else◌}
+-- What the units of a session of loads and views cost, in steps.
+use Rattle.std.specs.Prelude.{ℕ, ◌+◌, ◌*◌, ◌&&◌, Bool, true, false, List, [], ◌∷◌, length, Option, Some, None, is_some, Result, Ok, Err, if◌then◌else◌}
 use Rattle.std.specs.Option.{option_map_or}
 use Rattle.std.specs.Result.{result_ok}
-use Rattle.std.specs.List.{list_all}
 use Rattle.serde_json.specs.Data.{Data}
 use Rattle.awk_types.specs.DataType.{Name}
+use Rattle.awk_edge.specs.Units.{Framed}
 use Rattle.awk_form.specs.FormTree.{FormTree}
 use Rattle.awk_form.specs.Measures as form
 use Rattle.awk_form.specs.Reading.{Refusal, reading}
 use Rattle.awk_query.specs.Line.{Line, load, session, bind, values, show, type_of, pack, names}
 use Rattle.awk_query.specs.Line.{line_said}
-use Rattle.awk_query.specs.declared.reading.Reading.TheVariants.{One}
+use Rattle.awk_query.specs.declared.reading.Reading.{Reading}
+use Rattle.awk_query.specs.declared.reading.Reading.TheVariants.{First}
 use Rattle.awk_eval.specs.Bindings as bindings
 use Rattle.awk_eval.specs.Variables.{Environment}
 use Rattle.awk_eval.specs.Views.{Size, Sizes, size_or_none, size_at, View, view_of}
+use Rattle.awk_session.specs.Framing.{is_blank, read_behind}
+use Rattle.awk_session.specs.Replies.{unit_step}
 use Rattle.awk_session.specs.Runs.{Step}
-use Rattle.awk_session.specs.Replies.{is_blank, step}
+use Rattle.awk_session.specs.State as states
+use Rattle.awk_session.specs.State.{State}
 
 -- ---- sizes
 
@@ -58,7 +62,7 @@ has_cost (type_of e) = is_some (view_of e)
 has_cost (pack e) = false
 has_cost names = true
 
--- what a line of so many bytes costs before its answer is put
+-- what a line costs before its answer is put, where it has so many bytes with those behind it
 abbrev pub made_cost : Sizes → ℕ → Line → ℕ
 made_cost sizes bytes (load n form count big buffers) = load_cost (form_size form) bytes
 made_cost sizes bytes session = 0
@@ -78,21 +82,25 @@ abbrev pub line_cost : Sizes → ℕ → ℕ → Line → ℕ
 line_cost sizes bytes answered line = made_cost sizes bytes line + shown_cost sizes answered line
 
 -- the line that bytes are read as, where they are not blank and are one
-unfoldable pub line_in : List ℕ → Option Line
-line_in bytes = if is_blank bytes then None else result_ok (line_said One bytes)
+unfoldable pub line_in : Reading → List ℕ → Option Line
+line_in r bytes = if is_blank bytes then None else result_ok (line_said r bytes)
 
 -- what is blank, no JSON or no line has a cost too, which is nothing
-abbrev pub is_plain : List ℕ → Bool
-is_plain bytes = option_map_or has_cost (line_in bytes) true
+abbrev pub is_plain : Reading → List ℕ → Bool
+is_plain r bytes = option_map_or has_cost (line_in r bytes) true
 
 abbrev pub answer_length : Option (List ℕ) → ℕ
 answer_length None = 0
 answer_length (Some text) = length text
 
--- the cost of a line, by the sizes of the variables and its answer
-abbrev pub cost_of : Sizes → List ℕ → Option (List ℕ) → ℕ
-cost_of sizes bytes answer =
-    option_map_or (line_cost sizes (length bytes) (answer_length answer)) (line_in bytes) 0
+-- the cost of a line, by the sizes of the variables, its bytes with those behind it, and its answer
+abbrev pub cost_of : Sizes → Option Line → ℕ → Option (List ℕ) → ℕ
+cost_of sizes line bytes answer =
+    option_map_or (line_cost sizes bytes (answer_length answer)) line 0
+
+-- the bytes of a line and those behind it
+abbrev pub unit_bytes : Framed → ℕ
+unit_bytes u = length u.line + length u.raw
 
 -- ---- sessions
 
@@ -108,41 +116,47 @@ sizes_by (bind n e) is_fault sizes =
     sized_unless is_fault n (view_size sizes (view_of e)) sizes
 sizes_by _ is_fault sizes = sizes
 
-abbrev pub sizes_after : Sizes → List ℕ → Bool → Sizes
-sizes_after sizes bytes is_fault =
-    option_map_or (λ line. sizes_by line is_fault sizes) (line_in bytes) sizes
+abbrev pub sizes_after : Sizes → Option Line → Bool → Sizes
+sizes_after sizes line is_fault = option_map_or (λ l. sizes_by l is_fault sizes) line sizes
 
--- where a session stands: its variables, and the sizes that its costs count with
+-- where a session stands, with the sizes that its costs count with
 pub record Standing : Type 0 where
-  pub variables : Environment
+  pub state : State Environment
   pub sizes : Sizes
 
 abbrev pub at_start : Standing
-at_start = record { variables = []; sizes = [] }
+at_start = record { state = states.at_start; sizes = [] }
 
-abbrev pub moved : Standing → List ℕ → Step Environment → Standing
-moved s bytes t = record {
-  variables = t.after;
-  sizes = sizes_after s.sizes bytes t.is_fault;
-}
+-- the line of a unit where the session stands
+abbrev pub line_at : Standing → Framed → Option Line
+line_at s u = line_in s.state.reading u.line
 
--- a line later
-abbrev pub next : Standing → List ℕ → Standing
-next s bytes = moved s bytes (step s.variables bytes)
+abbrev pub moved : Standing → Option Line → Step (State Environment) → Standing
+moved s line t = record { state = t.after; sizes = sizes_after s.sizes line t.is_fault }
 
-abbrev pub standing_after : Standing → List (List ℕ) → Standing
+-- a unit later
+abbrev pub next : Standing → Framed → Standing
+next s u = moved s (line_at s u) (unit_step s.state u)
+
+abbrev pub standing_after : Standing → List Framed → Standing
 standing_after s [] = s
-standing_after s (line ∷ lines) = standing_after (next s line) lines
+standing_after s (u ∷ us) = standing_after (next s u) us
 
-abbrev pub costs : Standing → List (List ℕ) → ℕ
+abbrev pub unit_cost : Standing → Framed → ℕ
+unit_cost s u = cost_of s.sizes (line_at s u) (unit_bytes u) (unit_step s.state u).answer
+
+abbrev pub costs : Standing → List Framed → ℕ
 costs s [] = 0
-costs s (line ∷ lines) =
-    cost_of s.sizes line (step s.variables line).answer + costs (next s line) lines
+costs s (u ∷ us) = unit_cost s u + costs (next s u) us
 
--- the cost of a session: that of its lines together
-abbrev pub cost : List (List ℕ) → ℕ
-cost lines = costs at_start lines
+-- the cost of a session: that of its units together
+abbrev pub cost : List Framed → ℕ
+cost us = costs at_start us
 
--- whether each line has a cost
-abbrev pub are_plain : List (List ℕ) → Bool
-are_plain lines = list_all is_plain lines
+-- whether each unit has a cost, where the first line is read so
+abbrev pub plain_from : Reading → List Framed → Bool
+plain_from r [] = true
+plain_from r (u ∷ us) = is_plain r u.line && plain_from (read_behind r u.line) us
+
+abbrev pub are_plain : List Framed → Bool
+are_plain us = plain_from First us

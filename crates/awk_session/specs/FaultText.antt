@@ -46,6 +46,8 @@ fault_text (fault.Form node cause) =
 fault_text (fault.Buffer key cause) =
     codes "{\"fault\":\"buffer\",\"key\":" ++ quoted key
     ++ codes ",\"why\":\"" ++ buffer_text cause ++ codes "\"}"
+fault_text (fault.Cut key) =
+    codes "{\"fault\":\"buffer\",\"key\":" ++ quoted key ++ codes ",\"why\":\"cut\"}"
 fault_text (fault.Invalid node rule place) =
     codes "{\"fault\":\"invalid\",\"node\":" ++ decimal node
     ++ codes ",\"rule\":\"" ++ rule_text rule

@@ -1,4 +1,9 @@
 pub mod Runs
+pub mod Framing
+pub mod State
+pub mod StateView
+pub mod Parts
+pub mod Needs
 pub mod FaultText
 pub mod Answer
 pub mod Load

@@ -1,31 +1,29 @@
--- What the engine answers to a line, and to the lines of a session.
-use Rattle.std.specs.Prelude.{ℕ, Bool, false, ◌||◌, ◌==◌, not, List, [], count_by, Some, None, Result, Ok, Err, if◌then◌else◌}
-use Rattle.std.specs.List.{list_all}
+-- What the engine answers to a line, and to the units of a session.
+use Rattle.std.specs.Prelude.{ℕ, Bool, false, not, List, count_by, Some, None, Result, Ok, Err, if◌then◌else◌}
 use Rattle.serde_json.specs.Data.{Data}
 use Rattle.awk_types.specs.DataType.{Name}
 use Rattle.awk_types.specs.Datum.{Datum, arr, one}
 use Rattle.awk_types.specs.declared.fault.Fault.{Fault}
 use Rattle.awk_types.specs.declared.fault.Fault.TheVariants.{Size, WrongType, Unbuilt}
+use Rattle.awk_edge.specs.Units.{Framed}
 use Rattle.awk_pack.specs.Canon.{Pack, canon}
 use Rattle.awk_pack.specs.declared.packed.PackFault.{PackFault}
 use Rattle.awk_text.specs.TypeText.{datum_type_text}
 use Rattle.awk_query.specs.Line as lines
-use Rattle.awk_query.specs.Line.{Line, Buffers, line_said}
-use Rattle.awk_query.specs.declared.reading.Reading.TheVariants.{One}
+use Rattle.awk_query.specs.Line.{Line, line_said}
+use Rattle.awk_query.specs.declared.reading.Reading.{Reading}
 use Rattle.awk_query.specs.Told.{Unread, json, query}
 use Rattle.awk_eval.specs.Bindings as bindings
 use Rattle.awk_eval.specs.Bindings.{bind}
 use Rattle.awk_eval.specs.Variables.{Environment}
 use Rattle.awk_eval.specs.Eval.{eval}
+use Rattle.awk_session.specs.Framing.{is_blank, reading_behind}
+use Rattle.awk_session.specs.Load.{line_loaded}
 use Rattle.awk_session.specs.Runs.{Step, texts, any_fault}
-use Rattle.awk_session.specs.Load.{loaded}
+use Rattle.awk_session.specs.State.{State, at_start}
 use Rattle.awk_session.specs.declared.fault.AnswerFault.{AnswerFault}
 use Rattle.awk_session.specs.declared.fault.AnswerFault.TheVariants.{Json, Query, Evaluation}
-use Rattle.awk_session.specs.Answer.{Answer, bound, value, typ, packed, names, fault, is_fault, answer_text}
-
--- only spaces, tabs and carriage returns
-abbrev pub is_blank : List ℕ → Bool
-is_blank line = list_all (λ b. b == 32 || b == 9 || b == 13) line
+use Rattle.awk_session.specs.Answer.{Answer, begun, bound, value, typ, packed, names, fault, is_fault, answer_text}
 
 -- an answer, and the variables afterwards
 pub record Reply : Type 0 where
@@ -65,55 +63,55 @@ abbrev pub pack_shown : Datum → Answer
 pack_shown (arr t vs) = packing (canon t vs)
 pack_shown (one t v) = fault (Evaluation WrongType)
 
--- what is no line here
-abbrev pub no_line : Environment → Reply
-no_line variables = answering variables (fault Query)
-
--- A load has the texts of its buffers. Bytes that follow a line are of version 2.
-abbrev pub reply_load : Environment → Name → Data → ℕ → Bool → Buffers → Reply
-reply_load variables n form length big (lines.texts buffers) =
-    reply_bind variables n (loaded form length big buffers)
-reply_load variables n form length big (lines.parts ps) = no_line variables
-
--- the line that begins version 2 is none here, and arrays of JSON lists are not built yet
-abbrev pub reply_line : Environment → Line → Reply
-reply_line variables (lines.load n form length big buffers) =
-    reply_load variables n form length big buffers
-reply_line variables lines.session = no_line variables
-reply_line variables (lines.values n list) = answering variables (fault (Evaluation Unbuilt))
-reply_line variables (lines.bind n e) = reply_bind variables n (evaluated (eval variables e))
-reply_line variables (lines.show e) = answering variables (telling value (eval variables e))
-reply_line variables (lines.type_of e) =
+-- The line that begins version 2 answers itself, and arrays of JSON lists are not built yet. A load
+-- line may have raw bytes behind it.
+abbrev pub reply_line : Environment → Line → List ℕ → Reply
+reply_line variables (lines.load n form length big buffers) raw =
+    reply_bind variables n (line_loaded form length big buffers raw)
+reply_line variables lines.session raw = answering variables begun
+reply_line variables (lines.values n list) raw = answering variables (fault (Evaluation Unbuilt))
+reply_line variables (lines.bind n e) raw = reply_bind variables n (evaluated (eval variables e))
+reply_line variables (lines.show e) raw = answering variables (telling value (eval variables e))
+reply_line variables (lines.type_of e) raw =
     answering variables (telling type_shown (eval variables e))
-reply_line variables (lines.pack e) = answering variables (telling pack_shown (eval variables e))
-reply_line variables lines.names = answering variables (names (bindings.names variables))
+reply_line variables (lines.pack e) raw =
+    answering variables (telling pack_shown (eval variables e))
+reply_line variables lines.names raw = answering variables (names (bindings.names variables))
 
-abbrev pub reply : Environment → Result Line Unread → Reply
-reply variables (Ok line) = reply_line variables line
-reply variables (Err json) = answering variables (fault Json)
-reply variables (Err query) = no_line variables
+abbrev pub reply : Environment → Result Line Unread → List ℕ → Reply
+reply variables (Ok line) raw = reply_line variables line raw
+reply variables (Err json) raw = answering variables (fault Json)
+reply variables (Err query) raw = answering variables (fault Query)
 
-abbrev pub step_of : Reply → Step Environment
-step_of r = record {
-  answer = Some (answer_text r.answer);
-  is_fault = is_fault r.answer;
-  after = r.after;
+-- the answer of a reply, and the next line is read so
+abbrev pub step_of : Reading → Reply → Step (State Environment)
+step_of r reply = record {
+  answer = Some (answer_text reply.answer);
+  is_fault = is_fault reply.answer;
+  after = record { reading = r; variables = reply.after };
 }
 
--- a blank line has no answer and changes nothing
-unfoldable pub step : Environment → List ℕ → Step Environment
-step variables line =
-    if is_blank line then record { answer = None; is_fault = false; after = variables }
-    else step_of (reply variables (line_said One line))
+-- a line, as it is read where the session stands, is answered with its raw bytes
+abbrev pub step_read : State Environment → Result Line Unread → List ℕ → Step (State Environment)
+step_read s said raw = step_of (reading_behind s.reading said) (reply s.variables said raw)
 
--- the answers to a session's lines, each with its line end
-abbrev pub answers : List (List ℕ) → List ℕ
-answers lines = texts step [] lines
+-- The answer to a line with its raw bytes. A blank line has no answer and changes nothing.
+unfoldable pub step : State Environment → List ℕ → List ℕ → Step (State Environment)
+step s line raw =
+    if is_blank line then record { answer = None; is_fault = false; after = s }
+    else step_read s (line_said s.reading line) raw
+
+abbrev pub unit_step : State Environment → Framed → Step (State Environment)
+unit_step s u = step s u.line u.raw
+
+-- the answers to a session's units, each with its line end
+abbrev pub answers : List Framed → List ℕ
+answers us = texts unit_step at_start us
 
 -- whether some answer is a fault
-abbrev pub has_fault : List (List ℕ) → Bool
-has_fault lines = any_fault step [] lines
+abbrev pub has_fault : List Framed → Bool
+has_fault us = any_fault unit_step at_start us
 
--- how many lines have an answer
-abbrev pub answer_count : List (List ℕ) → ℕ
-answer_count lines = count_by (λ line. not (is_blank line)) lines
+-- how many units have an answer
+abbrev pub answer_count : List Framed → ℕ
+answer_count us = count_by (λ (u : Framed). not (is_blank u.line)) us

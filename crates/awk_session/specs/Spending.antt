@@ -6,6 +6,7 @@ use Rattle.awk_types.specs.DataType.{Name}
 use Rattle.awk_layout.specs.Layout.{Layout}
 use Rattle.awk_layout.specs.declared.datum.Datum.{Datum}
 use Rattle.awk_layout.specs.declared.datum.Datum.TheVariants.{Arr}
+use Rattle.awk_query.specs.declared.reading.Reading.{Reading}
 use Rattle.awk_query.specs.Line.{Line, load, session, bind, values, show, type_of, pack, names}
 use Rattle.awk_lengths.specs.LineBytes.{text_len}
 use Rattle.awk_eval.specs.Bindings as bindings
@@ -37,7 +38,7 @@ IsOfArrays variables (show e) = IsOfArray variables (view_of e)
 IsOfArrays variables (type_of e) = IsOfArray variables (view_of e)
 IsOfArrays variables _ = Unit {0}
 
--- a line of n bytes that has a cost, of arrays alone, takes at most that
+-- a line that has a cost, of n bytes with those behind it, of arrays alone, takes at most that
 abbrev pub TakesCost : Variables → Option Line → ℕ → Option (List ℕ) → ℕ → ℕ → Type 0
 TakesCost variables line n answer steps0 steps1 =
     IsTrue (option_map_or has_cost line true) → IfSome line (IsOfArrays variables) → steps1
@@ -88,8 +89,8 @@ name_by (load n form count big buffers) = Some n
 name_by (bind n e) = Some n
 name_by _ = None
 
-abbrev pub name_in : List ℕ → Option Name
-name_in bytes = option_and_then name_by (line_in bytes)
+abbrev pub name_in : Reading → List ℕ → Option Name
+name_in r bytes = option_and_then name_by (line_in r bytes)
 
 -- ---- what the parts of an answer take
 
@@ -98,26 +99,26 @@ abbrev pub IsViewTaken : Variables → Option View → ℕ → ℕ → Type 0
 IsViewTaken variables view steps0 steps1 =
     OfView variables view (λ v. IsTaken (size_in variables v) v.count steps0 steps1)
 
--- what a load takes, by its form and the texts of its buffers
+-- what a load takes, by its form and the bytes of its buffers, or of their texts
 abbrev pub IsLoaded : Data → ℕ → ℕ → ℕ → Type 0
 IsLoaded form bytes steps0 steps1 = steps1 ≤ steps0 + load_cost (form_size form) bytes
 
--- what a line takes before its answer is put
-abbrev pub TakesBy : Variables → Line → ℕ → ℕ → Type 0
-TakesBy variables (load n form count big buffers) steps0 steps1 =
-    IsLoaded form (text_len buffers) steps0 steps1
-TakesBy variables session steps0 steps1 = steps1 ≡ steps0
-TakesBy variables (bind n e) steps0 steps1 = IsViewTaken variables (view_of e) steps0 steps1
-TakesBy variables (values n list) steps0 steps1 = steps1 ≡ steps0
-TakesBy variables (show e) steps0 steps1 = IsViewTaken variables (view_of e) steps0 steps1
-TakesBy variables (type_of e) steps0 steps1 = IsViewTaken variables (view_of e) steps0 steps1
-TakesBy variables (pack e) steps0 steps1 = Unit {0}
-TakesBy variables names steps0 steps1 = steps1 ≡ steps0
+-- what a line with so many raw bytes behind it takes before its answer is put
+abbrev pub TakesBy : Variables → Line → ℕ → ℕ → ℕ → Type 0
+TakesBy variables (load n form count big buffers) raw steps0 steps1 =
+    IsLoaded form (text_len buffers + raw) steps0 steps1
+TakesBy variables session raw steps0 steps1 = steps1 ≡ steps0
+TakesBy variables (bind n e) raw steps0 steps1 = IsViewTaken variables (view_of e) steps0 steps1
+TakesBy variables (values n list) raw steps0 steps1 = steps1 ≡ steps0
+TakesBy variables (show e) raw steps0 steps1 = IsViewTaken variables (view_of e) steps0 steps1
+TakesBy variables (type_of e) raw steps0 steps1 = IsViewTaken variables (view_of e) steps0 steps1
+TakesBy variables (pack e) raw steps0 steps1 = Unit {0}
+TakesBy variables names raw steps0 steps1 = steps1 ≡ steps0
 
 -- what is no line takes nothing
-abbrev pub Takes : Variables → Option Line → ℕ → ℕ → Type 0
-Takes variables line steps0 steps1 =
-    MatchOption line (steps1 ≡ steps0) (λ l. TakesBy variables l steps0 steps1)
+abbrev pub Takes : Variables → Option Line → ℕ → ℕ → ℕ → Type 0
+Takes variables line raw steps0 steps1 =
+    MatchOption line (steps1 ≡ steps0) (λ l. TakesBy variables l raw steps0 steps1)
 
 -- packed buffers are as wide as they have numbers
 abbrev pub packed_size : Packed → Size

@@ -34,6 +34,8 @@ pub enum Answered {
 /// The answer to a line.
 #[derive(Drop)]
 pub enum Answer<'v, 'a> {
+    /// Version 2 of the session begins.
+    Session,
     /// The name is bound now.
     Bound(&'v str),
     /// The value that is shown.
@@ -53,7 +55,8 @@ pub fn kind_of(answer: &Answer<'_, '_>) -> Answered
     ensures { kind_is_fault result ≡ is_fault (answer_view answer.now) }
 {
     match answer {
-        Answer::Bound(_)
+        Answer::Session
+        | Answer::Bound(_)
         | Answer::Value(_)
         | Answer::Type(_)
         | Answer::Packed(_)
@@ -102,6 +105,7 @@ fn write_answer<K: Sink, L: Ledger>(
     ensures cost { steps.new ≤ steps.old + sent_cost answer.now }
 {
     match answer {
+        Answer::Session => out.put(sink, b"{\"session\":2}\n"),
         Answer::Bound(name) => {
             write_quoted_between(b"{\"bound\":", name.as_bytes(), b"}\n", out, sink)
         }

@@ -1,21 +1,30 @@
 //! The engine: a session's variables, and the answers to its lines.
-ghost use Rattle.std.specs.Prelude.{◌≡◌, ◌≢◌, ◌≤◌, ◌+◌, [], Some, Err, IsTrue, IsFalse, IfErr};
-ghost use Rattle.std.specs.Prelude.{OnOk, IfSome};
+ghost use Rattle.std.specs.Prelude.{◌≡◌, ◌≢◌, ◌≤◌, ◌+◌, [], Some, Ok, Err, IsTrue, IsFalse, IfErr};
+ghost use Rattle.std.specs.Prelude.{OnOk, IfSome, length};
 ghost use Rattle.awk_types.specs.DataType as types;
 ghost use Rattle.awk_edge.specs.Causes.{Rose, flushes_after};
 ghost use Rattle.awk_eval.specs.Bindings.{look_up};
-ghost use Rattle.awk_eval.specs.Variables.{denoted};
 ghost use Rattle.awk_eval.specs.Views.{sizes_of};
+ghost use Rattle.awk_query.specs.Line.{line_said};
+ghost use Rattle.awk_query.specs.LineView.{line_view};
+ghost use Rattle.awk_query.specs.declared.reading.Reading.TheVariants.{First, Two};
 ghost use Rattle.awk_session.specs.Cost.{line_in, is_plain, cost_of};
+ghost use Rattle.awk_session.specs.Framing as framing;
 ghost use Rattle.awk_session.specs.Leaves.{Leaves};
-ghost use Rattle.awk_session.specs.Replies as replies;
+ghost use Rattle.awk_session.specs.Needs.{Needs};
+ghost use Rattle.awk_session.specs.ReadView.{read_view};
+ghost use Rattle.awk_session.specs.Replies.{step};
 ghost use Rattle.awk_session.specs.Spending.{Binds, IsOfArrays, Unless, name_in};
+ghost use Rattle.awk_session.specs.State.{denoted_state};
 
 use crate::answer::Answered;
-use crate::line::answer_line;
+use crate::line::{RawLine, Read, answer_line, read_as};
+use crate::raw::total_of;
+use crate::state::SessionState;
 use awk_edge::{Out, Sink};
 use awk_eval::Env;
 use awk_lanes::{Arena, Steps};
+use awk_query::{Line, Reading};
 use std::alloc::Global;
 use std::marker::Model;
 use std::sync::ledger::Ledger;
@@ -30,68 +39,109 @@ pub enum LineEnd {
     NoMemory,
 }
 
-/// The variables that lines have bound, in the order of first binding.
-/// Their buffers lie in the arena.
+/// Why the raw bytes of a line are not to be had.
+#[derive(Clone, Copy, Debug, PartialEq, Eq, Error)]
+pub enum RawEnd {
+    #[error("a line asks for more than 268435456 raw bytes")]
+    TooMany,
+    #[error("memory is wanting")]
+    NoMemory,
+}
+
+/// The variables that lines have bound, in the order of first binding, and how the next line is
+/// read. The buffers of the variables lie in the arena.
 #[derive(Drop)]
 pub struct Engine<'a> {
-    env: Env<'a>,
+    state: SessionState<'a>,
     arena: &'a Arena,
 }
 
 impl<'a> Model for Engine<'a> {
-    ghost use Rattle.awk_eval.specs.Variables.{Variables, coded_variables};
+    ghost use Rattle.awk_eval.specs.Variables.{Variables};
+    ghost use Rattle.awk_session.specs.State.{State, coded_state};
 
-    ghost Value = { Variables };
+    ghost Value = { State Variables };
 
-    ghost coded = { coded_variables };
+    ghost coded = { coded_state };
 
-    ghost view = { λ s. s.env };
+    ghost use Rattle.awk_session.specs.StateView.{shown};
+
+    ghost view = { λ s. shown s.state };
 }
 
 /// Whether a line has no answer: it holds only spaces, tabs and carriage returns.
 pub fn is_blank(line: &[u8]) -> bool
-    ensures { result ≡ replies.is_blank line.now }
+    ensures { result ≡ framing.is_blank line.now }
 {
     line.iter()
         .all(|b| *b == b' ' || *b == b'\t' || *b == b'\r')
 }
 
 impl<'a> Engine<'a> {
-    /// An engine without variables.
+    /// An engine without variables, before the first line.
     pub fn new(alloc: Global, arena: &'a Arena) -> Engine<'a>
-        ensures { result ≡ [] }
+        ensures { result ≡ record { reading = First; variables = [] } }
     {
         Engine {
-            env: Env::new(alloc),
+            state: SessionState {
+                env: Env::new(alloc),
+                reading: Reading::First,
+            },
             arena,
         }
     }
 
     /// The variables.
     pub fn env(&self) -> &Env<'a>
-        ensures { result.now ≡ self.now }
+        ensures { result.now ≡ self.now.variables }
     {
-        &self.env
+        &self.state.env
     }
 
-    /// Answers a line that is not blank, and flushes. All its memory is taken before the first byte
-    /// of the answer is put.
-    pub fn line<K: Sink, L: Ledger>(
+    /// How the next line is read: `First` before the first answer, and then by its line, `Two`
+    /// where that began version 2 and else `One`.
+    pub fn reading(&self) -> Reading
+        ensures { result ≡ self.now.reading }
+    {
+        self.state.reading
+    }
+
+    /// How many raw bytes a line that is not blank asks for: none but a raw load does.
+    ///
+    /// Only in version 2 is the line read for that.
+    pub fn raw_need(&self, alloc: Global, bytes: &[u8]) -> Result<u64, RawEnd>
+        requires not_blank { IsFalse (framing.is_blank bytes.now) }
+
+        // It is the sum of the counts, and `TooMany` comes exactly where that is more than may be.
+        ensures { Needs (framing.raw_asked self.now.reading bytes.now) result }
+    {
+        match self.state.reading {
+            Reading::First => Ok(0),
+            Reading::One => Ok(0),
+            Reading::Two => need_of_two(alloc, bytes),
+        }
+    }
+
+    /// Answers a line that is not blank with the raw bytes behind it, and flushes. All its memory
+    /// is taken before the first byte of the answer is put. Of a line that is no raw load the raw
+    /// bytes are not looked at.
+    pub fn line_raw<K: Sink, L: Ledger>(
         &mut self,
         alloc: Global,
         bytes: &[u8],
+        raw: &[u8],
         out: &mut Out,
         sink: &mut K,
         steps: &mut Steps<L>,
     ) -> Result<Answered, LineEnd>
         requires open { IsTrue out.old.is_open }
-        requires not_blank { IsFalse (replies.is_blank bytes.now) }
+        requires not_blank { IsFalse (framing.is_blank bytes.now) }
 
-        // The answer and the variables are those of the step, and after a write fault the output is
-        // closed. Want of memory leaves all as it was.
+        // The answer, the variables and how the next line is read are those of the step, and after
+        // a write fault the output is closed. Want of memory leaves all as it was.
         ensures leaves { Leaves (K.written sink.old) (K.written sink.new) out.old out.new
-            (denoted self.old) (denoted self.new) (replies.step (denoted self.old) bytes.now)
-            result }
+            (denoted_state self.old) (denoted_state self.new)
+            (step (denoted_state self.old) bytes.now raw.now) result }
         ensures same { result ≡ Err LineEnd.NoMemory → self.new ≡ self.old }
         ensures untouched { result ≡ Err LineEnd.NoMemory → sink.new ≡ sink.old }
 
@@ -107,17 +157,98 @@ impl<'a> Engine<'a> {
 
         // A load binds an array no greater than its form, and a let of a view of an array one no
         // greater than that. What the line does not bind stays the same datum.
-        ensures binds { Unless result (Binds (line_in bytes.now)
-            (replies.step (denoted self.old) bytes.now).is_fault self.old self.new) }
-        ensures keeps { (n : types.Name) → name_in bytes.now ≢ Some n →
-            look_up n self.new ≡ look_up n self.old }
+        ensures binds { Unless result (Binds (line_in self.old.reading bytes.now)
+            (step (denoted_state self.old) bytes.now raw.now).is_fault
+            self.old.variables self.new.variables) }
+        ensures keeps { (n : types.Name) → name_in self.old.reading bytes.now ≢ Some n →
+            look_up n self.new.variables ≡ look_up n self.old.variables }
 
         // A line that has a cost, and whose view is of an array, takes at most that.
-        ensures cost { IsTrue (is_plain bytes.now) →
-            IfSome (line_in bytes.now) (IsOfArrays self.old) →
-            steps.new ≤ steps.old + cost_of (sizes_of self.old) bytes.now
-            (replies.step (denoted self.old) bytes.now).answer }
+        ensures cost { IsTrue (is_plain self.old.reading bytes.now) →
+            IfSome (line_in self.old.reading bytes.now) (IsOfArrays self.old.variables) →
+            steps.new ≤ steps.old + cost_of (sizes_of self.old.variables)
+            (line_in self.old.reading bytes.now) (length bytes.now + length raw.now)
+            (step (denoted_state self.old) bytes.now raw.now).answer }
     {
-        answer_line(alloc, &mut self.env, bytes, self.arena, out, sink, steps)
+        let unit = RawLine { line: bytes, raw };
+        answer_line(alloc, &mut self.state, &unit, self.arena, out, sink, steps)
+    }
+
+    /// Answers a line that is not blank, without raw bytes, and flushes.
+    pub fn line<K: Sink, L: Ledger>(
+        &mut self,
+        alloc: Global,
+        bytes: &[u8],
+        out: &mut Out,
+        sink: &mut K,
+        steps: &mut Steps<L>,
+    ) -> Result<Answered, LineEnd>
+        requires open { IsTrue out.old.is_open }
+        requires not_blank { IsFalse (framing.is_blank bytes.now) }
+
+        // As for a line with no raw bytes behind it.
+        ensures leaves { Leaves (K.written sink.old) (K.written sink.new) out.old out.new
+            (denoted_state self.old) (denoted_state self.new)
+            (step (denoted_state self.old) bytes.now []) result }
+        ensures same { result ≡ Err LineEnd.NoMemory → self.new ≡ self.old }
+        ensures untouched { result ≡ Err LineEnd.NoMemory → sink.new ≡ sink.old }
+        ensures flushed { OnOk result (IsTrue (K.flushed sink.new)) }
+        ensures flushes { K.flushes sink.new ≡
+            flushes_after (K.flushes sink.old) (K.written sink.new) result }
+        ensures later { K.faults sink.old ≤ K.faults sink.new }
+        ensures write { IfErr result (λ end. end ≡ LineEnd.Write →
+            Rose (K.faults sink.old) (K.faults sink.new)) }
+        ensures binds { Unless result (Binds (line_in self.old.reading bytes.now)
+            (step (denoted_state self.old) bytes.now []).is_fault
+            self.old.variables self.new.variables) }
+        ensures keeps { (n : types.Name) → name_in self.old.reading bytes.now ≢ Some n →
+            look_up n self.new.variables ≡ look_up n self.old.variables }
+        ensures cost { IsTrue (is_plain self.old.reading bytes.now) →
+            IfSome (line_in self.old.reading bytes.now) (IsOfArrays self.old.variables) →
+            steps.new ≤ steps.old + cost_of (sizes_of self.old.variables)
+            (line_in self.old.reading bytes.now) (length bytes.now)
+            (step (denoted_state self.old) bytes.now []).answer }
+    {
+        self.line_raw(alloc, bytes, &[], out, sink, steps)
+    }
+}
+
+// How many raw bytes a line of version 2 asks for.
+fn need_of_two(alloc: Global, bytes: &[u8]) -> Result<u64, RawEnd>
+    ensures { Needs (framing.asked_by (line_said Two bytes.now)) result }
+{
+    match read_as(alloc, bytes, Reading::Two) {
+        Ok(read) => need_of(&read),
+        Err(_) => Err(RawEnd::NoMemory),
+    }
+}
+
+// How many raw bytes what was read asks for.
+fn need_of(read: &Read) -> Result<u64, RawEnd>
+    ensures { Needs (framing.asked_by (read_view read.now)) result }
+{
+    match read {
+        Read::Line(line) => need_of_line(line),
+        Read::Json => Ok(0),
+        Read::Query => Ok(0),
+    }
+}
+
+fn need_of_line(line: &Line) -> Result<u64, RawEnd>
+    ensures { Needs (framing.asked_by (Ok (line_view line.now))) result }
+{
+    match line {
+        Line::LoadRaw { parts, .. } => match total_of(parts) {
+            Some(total) => Ok(total),
+            None => Err(RawEnd::TooMany),
+        },
+        Line::Load { .. }
+        | Line::Session
+        | Line::Let { .. }
+        | Line::Values { .. }
+        | Line::Show(_)
+        | Line::TypeOf(_)
+        | Line::Pack(_)
+        | Line::Names => Ok(0),
     }
 }

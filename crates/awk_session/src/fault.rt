@@ -15,6 +15,8 @@ pub enum AnswerFault {
     Form { node: u64, why: FormWhy },
     /// The buffer of a key, and the cause against it.
     Buffer { key: Name, why: BufferFault },
+    /// The first key of a raw load whose bytes are not all there.
+    Cut { key: Name },
     /// A place of a node, which is told by its number in pre-order, and the rule that it breaks.
     Invalid { node: u64, rule: Rule, place: u64 },
     /// A variable is not bound, a limit is passed, or an operation has no result. It is never want

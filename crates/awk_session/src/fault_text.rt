@@ -44,6 +44,11 @@ pub fn write_fault<K: Sink>(
                 sink,
             )
         }
+        AnswerFault::Cut { key } => {
+            let head = b"{\"fault\":\"buffer\",\"key\":";
+            let tail = b",\"why\":\"cut\"}\n";
+            write_quoted_between(head, key.as_str().as_bytes(), tail, out, sink)
+        }
         AnswerFault::Invalid { node, rule, place } => {
             write_invalid(*node, *rule, *place, out, sink)
         }

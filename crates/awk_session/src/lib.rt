@@ -1,7 +1,9 @@
 //! The engine of a session's lines: each line has at most one answer, and may bind a variable.
 //!
-//! `Engine::line` answers a line that is not blank and flushes; `is_blank` tells the lines that
-//! have no answer; `laws` has the law of what a session packs and loads.
+//! `Engine::line_raw` answers a line that is not blank, with the raw bytes behind it, and flushes;
+//! `Engine::line` does this for a line without raw bytes. `Engine::raw_need` tells how many raw
+//! bytes a line asks for, and `is_blank` the lines that have no answer. `laws` has the law of what
+//! a session packs and loads.
 #![tactic(auto)]
 
 mod answer;
@@ -12,8 +14,10 @@ pub mod laws;
 mod line;
 mod load;
 mod pieces;
+mod raw;
 mod reply;
+mod state;
 mod type_text;
 
 pub use answer::Answered;
-pub use engine::{Engine, LineEnd, is_blank};
+pub use engine::{Engine, LineEnd, RawEnd, is_blank};

@@ -1,23 +1,25 @@
 //! A line: what it is read as, and how it is answered.
-ghost use Rattle.std.specs.Prelude.{◌≡◌, ◌≤◌, Err, IsTrue, IsFalse, IfOk, IfErr, OnOk, ℕ, length};
+ghost use Rattle.std.specs.Prelude.{◌≡◌, ◌≤◌, ◌+◌, Ok, Err, IsTrue, IsFalse, IfOk, IfErr, OnOk, ℕ, length};
 ghost use Rattle.std.specs.Result.{result_ok};
 ghost use Rattle.awk_edge.specs.Causes.{Rose, flushes_after};
 ghost use Rattle.awk_query.specs.Allowed.{IsAllowedLine};
 ghost use Rattle.awk_lengths.specs.LineBytes.{HasBytes};
 ghost use Rattle.awk_query.specs.Line.{line_said};
-ghost use Rattle.awk_query.specs.declared.reading.Reading.TheVariants.{One};
-ghost use Rattle.awk_eval.specs.Variables.{denoted};
+ghost use Rattle.awk_query.specs.LineView.{line_view};
+ghost use Rattle.awk_query.specs.declared.reading.Reading.TheVariants.{First};
 ghost use Rattle.awk_session.specs.Cost.{line_in};
+ghost use Rattle.awk_session.specs.Framing.{is_blank, reading_behind};
 ghost use Rattle.awk_session.specs.Leaves.{Leaves};
 ghost use Rattle.awk_session.specs.ReadView.{read_view};
-ghost use Rattle.awk_session.specs.Replies as replies;
+ghost use Rattle.awk_session.specs.Replies.{step, step_read};
 ghost use Rattle.awk_session.specs.Spending.{Binds, TakesCost, Unless};
+ghost use Rattle.awk_session.specs.StateView.{shown, stands};
 
 use crate::answer::{Answered, kind_of, send};
 use crate::engine::LineEnd;
 use crate::reply::reply;
+use crate::state::SessionState;
 use awk_edge::{Out, Sink};
-use awk_eval::Env;
 use awk_lanes::{Arena, Steps};
 use awk_query::{Line, QueryFault, Reading, read_line};
 use bumpalo::Bump;
@@ -32,21 +34,30 @@ pub enum Read {
     Query,
 }
 
-/// Answers a line that is not blank, and flushes. What it binds lies in the arena that is kept.
+/// A line, and the raw bytes behind it.
+#[derive(Drop)]
+pub struct RawLine<'v> {
+    pub line: &'v [u8],
+    pub raw: &'v [u8],
+}
+
+/// Answers a line that is not blank with its raw bytes, and flushes. What it binds lies in the
+/// arena that is kept.
 pub fn answer_line<'a, K: Sink, L: Ledger>(
     alloc: Global,
-    env: &mut Env<'a>,
-    bytes: &[u8],
+    state: &mut SessionState<'a>,
+    unit: &RawLine<'_>,
     kept: &'a Arena,
     out: &mut Out,
     sink: &mut K,
     steps: &mut Steps<L>,
 ) -> Result<Answered, LineEnd>
     requires open { IsTrue out.old.is_open }
-    requires not_blank { IsFalse (replies.is_blank bytes.now) }
+    requires not_blank { IsFalse (is_blank unit.now.line.now) }
     ensures leaves { Leaves (K.written sink.old) (K.written sink.new) out.old out.new
-        (denoted env.old) (denoted env.new) (replies.step (denoted env.old) bytes.now) result }
-    ensures same { result ≡ Err LineEnd.NoMemory → env.new ≡ env.old }
+        (stands state.old) (stands state.new)
+        (step (stands state.old) unit.now.line.now unit.now.raw.now) result }
+    ensures same { result ≡ Err LineEnd.NoMemory → shown state.new ≡ shown state.old }
     ensures untouched { result ≡ Err LineEnd.NoMemory → sink.new ≡ sink.old }
     ensures flushed { OnOk result (IsTrue (K.flushed sink.new)) }
     ensures flushes { K.flushes sink.new ≡
@@ -54,23 +65,26 @@ pub fn answer_line<'a, K: Sink, L: Ledger>(
     ensures later { K.faults sink.old ≤ K.faults sink.new }
     ensures write { IfErr result (λ end. end ≡ LineEnd.Write →
         Rose (K.faults sink.old) (K.faults sink.new)) }
-    ensures binds { Unless result (Binds (line_in bytes.now)
-        (replies.step (denoted env.old) bytes.now).is_fault env.old env.new) }
-    ensures cost { TakesCost env.old (line_in bytes.now) (length bytes.now)
-        (replies.step (denoted env.old) bytes.now).answer steps.old steps.new }
+    ensures binds { Unless result (Binds (line_in state.old.reading unit.now.line.now)
+        (step (stands state.old) unit.now.line.now unit.now.raw.now).is_fault
+        state.old.env state.new.env) }
+    ensures cost { TakesCost state.old.env (line_in state.old.reading unit.now.line.now)
+        (length unit.now.line.now + length unit.now.raw.now)
+        (step (stands state.old) unit.now.line.now unit.now.raw.now).answer
+        steps.old steps.new }
 {
-    match read_as(alloc, bytes) {
-        Ok(read) => answer(alloc, env, &read, kept, out, sink, steps),
+    match read_as(alloc, unit.line, state.reading) {
+        Ok(read) => answer(alloc, state, &read, unit.raw, kept, out, sink, steps),
         Err(_) => Err(LineEnd::NoMemory),
     }
 }
 
-// What a line is read as: a line of version 1.
-fn read_as(alloc: Global, bytes: &[u8]) -> Result<Read, AllocError>
-    ensures said { IfOk result (λ read. read_view read ≡ line_said One bytes.now) }
+/// What a line is read as.
+pub fn read_as(alloc: Global, bytes: &[u8], reading: Reading) -> Result<Read, AllocError>
+    ensures said { IfOk result (λ read. read_view read ≡ line_said reading bytes.now) }
     ensures allowed { IfOk result (λ read. IfOk (read_view read) IsAllowedLine) }
 {
-    match read_line(alloc, bytes, Reading::One) {
+    match read_line(alloc, bytes, reading) {
         Ok(line) => Ok(Read::Line(line)),
         Err(QueryFault::Json) => Ok(Read::Json),
         Err(QueryFault::Query) => Ok(Read::Query),
@@ -78,11 +92,50 @@ fn read_as(alloc: Global, bytes: &[u8]) -> Result<Read, AllocError>
     }
 }
 
+// How the next line is read behind one that is not blank.
+fn behind(reading: Reading, read: &Read) -> Reading
+    ensures { result ≡ reading_behind reading (read_view read.now) }
+{
+    match reading {
+        Reading::First => behind_first(read),
+        Reading::One => Reading::One,
+        Reading::Two => Reading::Two,
+    }
+}
+
+// The same behind the first such line.
+fn behind_first(read: &Read) -> Reading
+    ensures { result ≡ reading_behind First (read_view read.now) }
+{
+    match read {
+        Read::Line(line) => behind_line(line),
+        Read::Json => Reading::One,
+        Read::Query => Reading::One,
+    }
+}
+
+fn behind_line(line: &Line) -> Reading
+    ensures { result ≡ reading_behind First (Ok (line_view line.now)) }
+{
+    match line {
+        Line::Session => Reading::Two,
+        Line::Load { .. }
+        | Line::LoadRaw { .. }
+        | Line::Let { .. }
+        | Line::Values { .. }
+        | Line::Show(_)
+        | Line::TypeOf(_)
+        | Line::Pack(_)
+        | Line::Names => Reading::One,
+    }
+}
+
 // Answers a line by what was read from it. What is only shown lies in an arena of the line's own.
 fn answer<'a, K: Sink, L: Ledger>(
     alloc: Global,
-    env: &mut Env<'a>,
+    state: &mut SessionState<'a>,
     read: &Read,
+    raw: &[u8],
     kept: &'a Arena,
     out: &mut Out,
     sink: &mut K,
@@ -91,9 +144,9 @@ fn answer<'a, K: Sink, L: Ledger>(
     requires open { IsTrue out.old.is_open }
     requires allowed { IfOk (read_view read.now) IsAllowedLine }
     ensures leaves { Leaves (K.written sink.old) (K.written sink.new) out.old out.new
-        (denoted env.old) (denoted env.new)
-        (replies.step_of (replies.reply (denoted env.old) (read_view read.now))) result }
-    ensures same { result ≡ Err LineEnd.NoMemory → env.new ≡ env.old }
+        (stands state.old) (stands state.new)
+        (step_read (stands state.old) (read_view read.now) raw.now) result }
+    ensures same { result ≡ Err LineEnd.NoMemory → shown state.new ≡ shown state.old }
     ensures untouched { result ≡ Err LineEnd.NoMemory → sink.new ≡ sink.old }
     ensures flushed { OnOk result (IsTrue (K.flushed sink.new)) }
     ensures flushes { K.flushes sink.new ≡
@@ -101,20 +154,23 @@ fn answer<'a, K: Sink, L: Ledger>(
     ensures later { K.faults sink.old ≤ K.faults sink.new }
     ensures write { IfErr result (λ end. end ≡ LineEnd.Write →
         Rose (K.faults sink.old) (K.faults sink.new)) }
-    ensures binds { let reply = replies.reply (denoted env.old) (read_view read.now) in
-        Unless result (Binds (result_ok (read_view read.now)) (replies.step_of reply).is_fault
-        env.old env.new) }
+    ensures binds { Unless result (Binds (result_ok (read_view read.now))
+        (step_read (stands state.old) (read_view read.now) raw.now).is_fault
+        state.old.env state.new.env) }
     ensures cost { (n : ℕ) → IfOk (read_view read.now) (HasBytes n) →
-        let reply = replies.reply (denoted env.old) (read_view read.now) in
-        TakesCost env.old (result_ok (read_view read.now)) n (replies.step_of reply).answer
+        TakesCost state.old.env (result_ok (read_view read.now)) (n + length raw.now)
+        (step_read (stands state.old) (read_view read.now) raw.now).answer
         steps.old steps.new }
 {
     let arena = Bump::new(alloc);
-    match reply(alloc, env, read, kept, &arena, steps) {
-        Ok(answer) => match send(&answer, out, sink, steps) {
-            Ok(()) => Ok(kind_of(&answer)),
-            Err(_) => Err(LineEnd::Write),
-        },
+    match reply(alloc, &mut state.env, read, raw, kept, &arena, steps) {
+        Ok(answer) => {
+            state.reading = behind(state.reading, read);
+            match send(&answer, out, sink, steps) {
+                Ok(()) => Ok(kind_of(&answer)),
+                Err(_) => Err(LineEnd::Write),
+            }
+        }
         Err(_) => Err(LineEnd::NoMemory),
     }
 }

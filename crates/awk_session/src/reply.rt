@@ -1,10 +1,12 @@
 //! What a line binds, and its answer.
-ghost use Rattle.std.specs.Prelude.{◌≡◌, IfOk, OnOk, OnErr};
+ghost use Rattle.std.specs.Prelude.{◌≡◌, IfOk, OnOk, OnErr, length};
 ghost use Rattle.std.specs.Result.{result_ok};
 ghost use Rattle.serde_json.specs.View.{view, members_view};
-ghost use Rattle.awk_store.specs.Buffers.{HoldsTexts, texts_of, total_len};
+ghost use Rattle.awk_store.specs.Buffers.{HoldsTexts, held_len, only_texts, texts_of, total_len};
 ghost use Rattle.awk_layout.specs.Datum.{datum_of, IsDatum};
+ghost use Rattle.awk_types.specs.Names.{AreDistinct};
 ghost use Rattle.awk_query.specs.Allowed.{IsAllowed, IsAllowedLine};
+ghost use Rattle.awk_query.specs.Line as lines;
 ghost use Rattle.awk_query.specs.LineView.{line_view};
 ghost use Rattle.awk_query.specs.View.{expr_of};
 ghost use Rattle.awk_eval.specs.Bindings as bindings;
@@ -14,7 +16,7 @@ ghost use Rattle.awk_eval.specs.Views.{IsWithin, view_of};
 ghost use Rattle.awk_session.specs.Answer as answers;
 ghost use Rattle.awk_session.specs.AnswerView.{answer_view, IsAnswer};
 ghost use Rattle.awk_session.specs.Cost.{form_size};
-ghost use Rattle.awk_session.specs.Load.{loaded};
+ghost use Rattle.awk_session.specs.Load.{loaded, line_loaded};
 ghost use Rattle.awk_session.specs.ReadView.{read_view};
 ghost use Rattle.awk_session.specs.Replies as replies;
 ghost use Rattle.awk_session.specs.Spending.{Binds, BindsBy, IsBoundUnless, IsViewWithin};
@@ -25,42 +27,46 @@ ghost use Rattle.awk_session.specs.declared.fault.AnswerFault.TheVariants.{Evalu
 use crate::answer::Answer;
 use crate::fault::{AnswerFault, Refused};
 use crate::line::Read;
-use crate::load::load;
+use crate::load::{Head, load};
+use crate::raw::{cut_in, raw_store};
 use crate::type_text::type_text;
 use awk_eval::{Env, eval};
 use awk_lanes::{Arena, Steps};
 use awk_layout::Datum;
 use awk_pack::{PackFault, pack};
-use awk_query::{Expr, Line};
+use awk_query::{Expr, Line, RawParts};
 use awk_simd::Wide;
+use awk_store::Store;
 use awk_types::{Fault, Name, Names};
 use serde_json::{Map, Value};
 use std::alloc::{AllocError, Global};
 use std::sync::ledger::Ledger;
 
-/// Binds what a line binds, in the arena that is kept, and gives its answer, which it does not put
-/// out. What is only shown lies in the other arena.
+/// Binds what a line with its raw bytes binds, in the arena that is kept, and gives its answer,
+/// which it does not put out. What is only shown lies in the other arena.
 pub fn reply<'v, 's, 'a: 's, L: Ledger>(
     alloc: Global,
     env: &mut Env<'a>,
     read: &'v Read,
+    raw: &[u8],
     kept: &'a Arena,
     arena: &'s Arena,
     steps: &mut Steps<L>,
 ) -> Result<Answer<'v, 's>, AllocError>
     requires allowed { IfOk (read_view read.now) IsAllowedLine }
     ensures reply { IfOk result (λ answer.
-        replies.reply (denoted env.old) (read_view read.now)
+        replies.reply (denoted env.old) (read_view read.now) raw.now
         ≡ record { answer = answer_view answer; after = denoted env.new }) }
     ensures answer { IfOk result IsAnswer }
     ensures same { OnErr result (env.new ≡ env.old) }
     ensures binds { IfOk result (λ a. Binds (result_ok (read_view read.now))
         (answers.is_fault (answer_view a)) env.old env.new) }
     ensures shows { IfOk result (Shows env.old (result_ok (read_view read.now))) }
-    ensures cost { Takes env.old (result_ok (read_view read.now)) steps.old steps.new }
+    ensures cost { Takes env.old (result_ok (read_view read.now)) (length raw.now)
+        steps.old steps.new }
 {
     match read {
-        Read::Line(line) => reply_line(alloc, env, line, kept, arena, steps),
+        Read::Line(line) => reply_line(alloc, env, line, raw, kept, arena, steps),
         Read::Json => Ok(Answer::Fault(AnswerFault::Json)),
         Read::Query => Ok(Answer::Fault(AnswerFault::Query)),
     }
@@ -71,20 +77,21 @@ fn reply_line<'v, 's, 'a: 's, L: Ledger>(
     alloc: Global,
     env: &mut Env<'a>,
     line: &'v Line,
+    raw: &[u8],
     kept: &'a Arena,
     arena: &'s Arena,
     steps: &mut Steps<L>,
 ) -> Result<Answer<'v, 's>, AllocError>
     requires allowed { IsAllowedLine (line_view line.now) }
     ensures reply { IfOk result (λ answer.
-        replies.reply_line (denoted env.old) (line_view line.now)
+        replies.reply_line (denoted env.old) (line_view line.now) raw.now
         ≡ record { answer = answer_view answer; after = denoted env.new }) }
     ensures answer { IfOk result IsAnswer }
     ensures same { OnErr result (env.new ≡ env.old) }
     ensures binds { IfOk result (λ a. BindsBy (line_view line.now)
         (answers.is_fault (answer_view a)) env.old env.new) }
     ensures shows { IfOk result (ShowsBy env.old (line_view line.now)) }
-    ensures cost { TakesBy env.old (line_view line.now) steps.old steps.new }
+    ensures cost { TakesBy env.old (line_view line.now) (length raw.now) steps.old steps.new }
 {
     match line {
         Line::Load {
@@ -93,9 +100,31 @@ fn reply_line<'v, 's, 'a: 's, L: Ledger>(
             length,
             big,
             buffers,
-        } => bind_loaded(alloc, env, name, form, *length, *big, buffers, kept, steps),
-        Line::LoadRaw { .. } => Ok(Answer::Fault(AnswerFault::Query)),
-        Line::Session => Ok(Answer::Fault(AnswerFault::Query)),
+        } => {
+            let head = Head {
+                name,
+                form,
+                length: *length,
+                big: *big,
+            };
+            bind_texts(alloc, env, &head, buffers, kept, steps)
+        }
+        Line::LoadRaw {
+            name,
+            form,
+            length,
+            big,
+            parts,
+        } => {
+            let head = Head {
+                name,
+                form,
+                length: *length,
+                big: *big,
+            };
+            bind_raw(alloc, env, &head, parts, raw, kept, steps)
+        }
+        Line::Session => Ok(Answer::Session),
         Line::Let { name, be } => bind_made(alloc, env, name, be, kept, steps),
         Line::Values { .. } => Ok(Answer::Fault(AnswerFault::Evaluation(Fault::Unbuilt))),
         Line::Show(e) => show(alloc, env, e, arena, steps),
@@ -105,32 +134,28 @@ fn reply_line<'v, 's, 'a: 's, L: Ledger>(
     }
 }
 
-// Binds a name to what a load line loads, if it loads.
+// Binds a name to what a load line loads, if it loads. Its buffers are those of the store.
 fn bind_loaded<'v, 's, 'a: 's, L: Ledger>(
     alloc: Global,
     env: &mut Env<'a>,
-    name: &'v Name,
-    form: &Value,
-    length: u64,
-    big: bool,
-    buffers: &Map<String, Value>,
+    head: &Head<'v>,
+    store: &mut Store<'_, 'a>,
     kept: &'a Arena,
     steps: &mut Steps<L>,
 ) -> Result<Answer<'v, 's>, AllocError>
-    requires texts { HoldsTexts (members_view buffers.now.entries) }
     ensures reply { IfOk result (λ answer.
-        replies.reply_bind (denoted env.old) name.now
-        (loaded (view form.now) length big (members_view buffers.now.entries))
+        replies.reply_bind (denoted env.old) head.now.name.now
+        (loaded (view head.now.form.now) head.now.length head.now.big store.old.held)
         ≡ record { answer = answer_view answer; after = denoted env.new }) }
     ensures answer { IfOk result IsAnswer }
     ensures same { OnErr result (env.new ≡ env.old) }
-    ensures binds { IfOk result (λ a. IsBoundUnless (answers.is_fault (answer_view a)) name.now
-        (IsWithin (form_size (view form.now))) env.old env.new) }
+    ensures binds { IfOk result (λ a. IsBoundUnless (answers.is_fault (answer_view a))
+        head.now.name.now (IsWithin (form_size (view head.now.form.now))) env.old env.new) }
     ensures shows { IfOk result ShowsNone }
-    ensures cost { let texts = texts_of (members_view buffers.now.entries) in
-        IsLoaded (view form.now) (total_len texts) steps.old steps.new }
+    ensures cost { IsLoaded (view head.now.form.now) (held_len store.old.held) steps.old steps.new }
 {
-    match load(alloc, form, length, big, buffers, kept, steps) {
+    let name = head.name;
+    match load(alloc, head, store, kept, steps) {
         Ok(array) => {
             env.bind(name.copy(alloc)?, Datum::Arr(array))?;
             Ok(Answer::Bound(name.as_str()))
@@ -138,6 +163,62 @@ fn bind_loaded<'v, 's, 'a: 's, L: Ledger>(
         Err(Refused::Told(fault)) => Ok(Answer::Fault(fault)),
         Err(Refused::NoMemory) => Err(AllocError),
     }
+}
+
+// The same of a load line whose buffers are given as texts.
+fn bind_texts<'v, 's, 'a: 's, L: Ledger>(
+    alloc: Global,
+    env: &mut Env<'a>,
+    head: &Head<'v>,
+    buffers: &Map<String, Value>,
+    kept: &'a Arena,
+    steps: &mut Steps<L>,
+) -> Result<Answer<'v, 's>, AllocError>
+    requires texts { HoldsTexts (members_view buffers.now.entries) }
+    ensures reply { let texts = texts_of (members_view buffers.now.entries) in
+        IfOk result (λ answer. replies.reply_bind (denoted env.old) head.now.name.now
+        (loaded (view head.now.form.now) head.now.length head.now.big (only_texts texts))
+        ≡ record { answer = answer_view answer; after = denoted env.new }) }
+    ensures answer { IfOk result IsAnswer }
+    ensures same { OnErr result (env.new ≡ env.old) }
+    ensures binds { IfOk result (λ a. IsBoundUnless (answers.is_fault (answer_view a))
+        head.now.name.now (IsWithin (form_size (view head.now.form.now))) env.old env.new) }
+    ensures shows { IfOk result ShowsNone }
+    ensures cost { let texts = texts_of (members_view buffers.now.entries) in
+        IsLoaded (view head.now.form.now) (total_len texts) steps.old steps.new }
+{
+    let mut store = Store::new(alloc, buffers, kept);
+    bind_loaded(alloc, env, head, &mut store, kept, steps)
+}
+
+// The same of a load line whose buffers are the raw bytes behind it, if they are all there.
+fn bind_raw<'v, 's, 'a: 's, L: Ledger>(
+    alloc: Global,
+    env: &mut Env<'a>,
+    head: &Head<'v>,
+    parts: &RawParts,
+    raw: &[u8],
+    kept: &'a Arena,
+    steps: &mut Steps<L>,
+) -> Result<Answer<'v, 's>, AllocError>
+    requires apart { AreDistinct (lines.keys_of parts.now) }
+    ensures reply { IfOk result (λ answer.
+        replies.reply_bind (denoted env.old) head.now.name.now (line_loaded
+        (view head.now.form.now) head.now.length head.now.big (lines.parts parts.now) raw.now)
+        ≡ record { answer = answer_view answer; after = denoted env.new }) }
+    ensures answer { IfOk result IsAnswer }
+    ensures same { OnErr result (env.new ≡ env.old) }
+    ensures binds { IfOk result (λ a. IsBoundUnless (answers.is_fault (answer_view a))
+        head.now.name.now (IsWithin (form_size (view head.now.form.now))) env.old env.new) }
+    ensures shows { IfOk result ShowsNone }
+    ensures cost { IsLoaded (view head.now.form.now) (length raw.now) steps.old steps.new }
+{
+    if let Some(key) = cut_in(parts, raw) {
+        let key = Name::new(alloc, key)?;
+        return Ok(Answer::Fault(AnswerFault::Cut { key }));
+    }
+    let mut store = raw_store(alloc, parts, raw, kept)?;
+    bind_loaded(alloc, env, head, &mut store, kept, steps)
 }
 
 // Binds a name to what an expression is, if it is something.
