@@ -14,7 +14,7 @@ use Rattle.awk_query.specs.declared.op.Op.{Op}
 use Rattle.awk_query.specs.declared.op.Op.TheVariants as op
 use Rattle.awk_query.specs.declared.fixed.FixedArg.{FixedArg}
 use Rattle.awk_view.specs.Choice.{field, fields}
-use Rattle.awk_eval.specs.Axes.{axis_in, at_axis, at_common_axis}
+use Rattle.awk_eval.specs.Axes.{axis_in, axis_among, at_axis, at_common_axis}
 use Rattle.awk_eval.specs.Bindings.{look_up}
 use Rattle.awk_eval.specs.Variables.{Environment}
 use Rattle.awk_arith.specs.Binary.{binary_of}
@@ -22,6 +22,7 @@ use Rattle.awk_choose.specs.Choice.{choose_of}
 use Rattle.awk_arith.specs.Unary.{unary_of}
 use Rattle.awk_cast.specs.Cast.{cast_of}
 use Rattle.awk_combi.specs.Combinations.{combinations_of}
+use Rattle.awk_cartesian.specs.Cartesian.{cartesian_of}
 use Rattle.awk_select.specs.Each.{at_each_of}
 use Rattle.awk_jagged.specs.Jagged.{is_jagged, jagged_of}
 use Rattle.awk_select.specs.Picks.{at_of, step_range_of, is_mask, mask_of, take_of}
@@ -196,6 +197,10 @@ choice_by p = choose_of p.0 p.1 p.2
 abbrev pub combined_by : Bool → ℕ × Bool × ℤ → Datum → Result Datum Fault
 combined_by places p d = combinations_of p.0 p.1 (axis_in d p.2) places d
 
+-- tuples of one item of each of several lists at an axis, or of their places
+abbrev pub product_by : Bool → ℤ → List Datum → Result Datum Fault
+product_by places axis ds = cartesian_of (axis_among ds axis) places ds
+
 -- records of the items of several data, by names
 abbrev pub zip_by : ℕ × List Name → List Datum → Result Datum Fault
 zip_by p ds = zip_of p.0 (Some p.1) ds
@@ -214,6 +219,10 @@ tupled op.Combinations fixed operands =
     given (combined_by false) (tuples_in fixed) (only_in operands)
 tupled op.Argcombinations fixed operands =
     given (combined_by true) (tuples_in fixed) (only_in operands)
+tupled op.Cartesian fixed operands =
+    given (product_by false) (place_in fixed) (data_in operands)
+tupled op.Argcartesian fixed operands =
+    given (product_by true) (place_in fixed) (data_in operands)
 tupled op.Tuple fixed operands = given tuple_by (depth_in fixed) (data_in operands)
 tupled o fixed operands = leafwise o operands
 

@@ -18,7 +18,7 @@ use crate::choices::choice_of;
 use crate::histograms::histogram_of;
 use crate::leafwise::{logic_operation, number_operation, single_operation};
 use crate::records::{rows_of, tuples_of};
-use crate::tuples::combinations_of;
+use crate::tuples::{combinations_of, product_of};
 use crate::views::{field_of, fields_of, pick_of, ranged, without_of};
 use awk_arith::{abs, binary, compare, logical, neg, not};
 use awk_kernels::Kernels;
@@ -207,6 +207,8 @@ fn tupled<'s, N: Kernels, L: Ledger>(
     match op {
         Op::Combinations => combinations_of(alloc, fixed, operands, false, arena, steps),
         Op::Argcombinations => combinations_of(alloc, fixed, operands, true, arena, steps),
+        Op::Cartesian => product_of(alloc, fixed, operands, false, arena, steps),
+        Op::Argcartesian => product_of(alloc, fixed, operands, true, arena, steps),
         Op::Tuple => tuples_of(alloc, fixed, operands, arena, steps),
         _ => leafwise(alloc, op, operands, kernels, arena, steps),
     }
