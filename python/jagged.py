@@ -641,6 +641,26 @@ class Builder:
         """As `combinations`, but the items' places."""
         return _call("argcombinations", n, replacement, axis, x)
 
+    # Order and histograms
+
+    def sort(self, x: Operand, up: bool) -> Expression:
+        """Each innermost list in rising or falling order, missing items last."""
+        return _call("sort", x, up)
+
+    def argsort(self, x: Operand, up: bool) -> Expression:
+        """As `sort`, but the items' places; equal items stand as they did."""
+        return _call("argsort", x, up)
+
+    def hist(self, x: Operand, edges: Iterable[int]) -> Expression:
+        """How many of all leaves lie from each edge to before the next, below, above, and are
+        missing.
+        """
+        return _call("hist", x, [*edges])
+
+    def hist_each(self, x: Operand, edges: Iterable[int]) -> Expression:
+        """As `hist`, for each innermost list."""
+        return _call("hist_each", x, [*edges])
+
 
 e = Builder()
 

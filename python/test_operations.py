@@ -14,6 +14,10 @@ def pair(x: Any, y: Any) -> dict[str, Any]:
     return {"0": x, "1": y}
 
 
+def bins(counts: list[int], under: int, over: int, nulls: int) -> dict[str, Any]:
+    return {"counts": counts, "under": under, "over": over, "nulls": nulls}
+
+
 # Of the arrays of `load_examples`: an expression, its JSON, and its value.
 EXAMPLES: list[tuple[Expression, Any, Any]] = [
     (e.at(e.o, 1), ["at", "o", 1], None),
@@ -137,6 +141,16 @@ EXAMPLES: list[tuple[Expression, Any, Any]] = [
         e.argcombinations(2, False, 1, e.a),
         ["argcombinations", 2, False, 1, "a"],
         [[pair(0, 1), pair(0, 2), pair(1, 2)], [], [pair(0, 1)]],
+    ),
+    (e.sort(e.a, False), ["sort", "a", False], [[3, 2, 1], [], [5, 4]]),
+    (e.sort("o", True), ["sort", "o", True], [1, 3, None]),
+    (e.argsort(e.c, True), ["argsort", "c", True], [2, 0, 1, 3]),
+    (e.argsort(e.c, False), ["argsort", "c", False], [0, 1, 3, 2]),
+    (e.hist(e.l, range(0, 4, 2)), ["hist", "l", [0, 2]], bins([1], 0, 1, 2)),
+    (
+        e.hist_each(e.l, [0, 2, 2**64 - 1]),
+        ["hist_each", "l", [0, 2, 2**64 - 1]],
+        [bins([1, 0], 0, 0, 1), None, bins([0, 1], 0, 0, 0)],
     ),
 ]
 

@@ -119,12 +119,12 @@ literal_fills : eval env (of op.FillNone (m ∷ great ∷ []) (Place (pos 0) ∷
     ≡ Ok (arr (leaf I64) (numbers (0 ∷ 1 ∷ 2 ∷ 3 ∷ 4 ∷ [])))
 literal_fills = refl
 
--- what is not built yet says so after its arguments
-not_built : eval env (of op.Sort (m ∷ []) []) ≡ Err Unbuilt
-not_built = refl
+-- with other arguments than its own an operation says so after its operands
+other_arguments : eval env (of op.Sort (m ∷ []) []) ≡ Err Unbuilt
+other_arguments = refl
 
-not_built_of_nothing : eval env (of op.Sort (missing ∷ []) []) ≡ Err (Unbound (codes "z"))
-not_built_of_nothing = refl
+other_arguments_of_nothing : eval env (of op.Sort (missing ∷ []) []) ≡ Err (Unbound (codes "z"))
+other_arguments_of_nothing = refl
 
 -- ---- ranges
 

@@ -1,7 +1,7 @@
 -- What an expression is over an environment: a datum, or the first fault.
 use Rattle.std.specs.Prelude.{ℕ, suc, ℤ, pos, negsuc, int_le, Bool, true, false, ◌&&◌, List, []}
 use Rattle.std.specs.Prelude.{◌∷◌, Option, Some, None, Result, Ok, Err, if◌then◌else◌}
-use Rattle.awk_types.specs.DataType.{DataType, Name, leaf, var, reg}
+use Rattle.awk_types.specs.DataType.{DataType, Name, leaf}
 use Rattle.awk_types.specs.Value.{int, truth}
 use Rattle.awk_types.specs.Datum.{Datum, arr, one}
 use Rattle.awk_types.specs.Settle.{settle}
@@ -14,12 +14,15 @@ use Rattle.awk_query.specs.declared.op.Op.{Op}
 use Rattle.awk_query.specs.declared.op.Op.TheVariants as op
 use Rattle.awk_query.specs.declared.fixed.FixedArg.{FixedArg}
 use Rattle.awk_view.specs.Choice.{field, fields}
-use Rattle.awk_eval.specs.Axes.{axis_in, at_axis, at_common_axis}
+use Rattle.awk_eval.specs.Axes.{axis_in, axis_among, at_axis, at_common_axis}
 use Rattle.awk_eval.specs.Bindings.{look_up}
 use Rattle.awk_eval.specs.Variables.{Environment}
 use Rattle.awk_arith.specs.Binary.{binary_of}
+use Rattle.awk_choose.specs.Choice.{choose_of}
 use Rattle.awk_arith.specs.Unary.{unary_of}
+use Rattle.awk_cast.specs.Cast.{cast_of}
 use Rattle.awk_combi.specs.Combinations.{combinations_of}
+use Rattle.awk_cartesian.specs.Cartesian.{cartesian_of}
 use Rattle.awk_select.specs.Each.{at_each_of}
 use Rattle.awk_jagged.specs.Jagged.{is_jagged, jagged_of}
 use Rattle.awk_select.specs.Picks.{at_of, step_range_of, is_mask, mask_of, take_of}
@@ -27,10 +30,13 @@ use Rattle.awk_lists.specs.Flatten.{flatten_of}
 use Rattle.awk_lists.specs.LocalIndex.{local_index_of}
 use Rattle.awk_lists.specs.Num.{num_of}
 use Rattle.awk_lists.specs.RunLengths.{run_lengths_of}
+use Rattle.awk_order.specs.Sort.{sort_of, argsort_of}
 use Rattle.awk_lists.specs.Unflatten.{unflatten_of}
+use Rattle.awk_zip.specs.Zip.{zip_of}
 use Rattle.awk_lists.specs.WithoutField.{choice_of, without_field_of}
 use Rattle.awk_nulls.specs.DropNone.{drop_none_of}
 use Rattle.awk_merge.specs.Concatenate.{concatenate_of}
+use Rattle.awk_hist.specs.HistEach.{histogram}
 use Rattle.awk_reduce.specs.Reduce.{reduce_of}
 use Rattle.awk_reduce.specs.declared.reducer.Reducer.{Reducer}
 use Rattle.awk_reduce.specs.declared.reducer.Reducer.TheVariants as reducer
@@ -45,10 +51,11 @@ use Rattle.awk_nulls.specs.PadNone.{pad_none_of}
 use Rattle.awk_mask.specs.PutMask.{put_mask_of}
 use Rattle.awk_nulls.specs.Singletons.{singletons_of}
 use Rattle.awk_eval.specs.Operand.{Operand, of, literal, only_in, both_in, data_in, filled_in}
-use Rattle.awk_eval.specs.Operand.{takes_literal, two_in}
+use Rattle.awk_eval.specs.Operand.{takes_literal, two_in, three_in}
 use Rattle.awk_eval.specs.Leafwise.{number_operation, logic_operation, single_operation}
 use Rattle.awk_eval.specs.Fixed.{bounds_in, Stepped, stepped_in, place_in, text_in, texts_in}
-use Rattle.awk_eval.specs.Fixed.{padding_in, truth_in, tuples_in}
+use Rattle.awk_eval.specs.Fixed.{padding_in, truth_in, tuples_in, depth_in, named_in, edges_in}
+use Rattle.awk_eval.specs.Primitives.{primitive_in}
 use Rattle.awk_eval.specs.Ranges.{range_items}
 
 -- ---- results: the first fault wins
@@ -102,8 +109,8 @@ given f (Some a) (Some d) = f a d
 given f (Some a) None = Err Unbuilt
 given f None d = Err Unbuilt
 
--- an operation on one datum alone
-abbrev pub alone : (Datum → Result Datum Fault) → Option Datum → Result Datum Fault
+-- an operation on its operands alone
+abbrev pub alone : {A : Type 0} → (A → Result Datum Fault) → Option A → Result Datum Fault
 alone f (Some d) = f d
 alone f None = Err Unbuilt
 
@@ -158,7 +165,7 @@ reducer_of op.Count = Some reducer.Count
 reducer_of op.CountNonzero = Some reducer.CountNonzero
 reducer_of _ = None
 
--- a reducer on its operand; operations that are not built yet answer so
+-- a reducer on its operand
 abbrev pub reducing : Op → List Operand → Result Datum Fault
 reducing o operands = given reduce_of (reducer_of o) (only_in operands)
 
@@ -182,16 +189,41 @@ leafwise o operands =
     (of_kind joined_by (logic_operation o) (both_in operands)
     (of_kind unary_of (single_operation o) (only_in operands) (reducing o operands)))
 
+-- the items of two operands, as a third has it
+abbrev pub choice_by : Datum × layout.Filler × layout.Filler → Result Datum Fault
+choice_by p = choose_of p.0 p.1 p.2
+
 -- tuples of the items of lists at an axis, or of their places
 abbrev pub combined_by : Bool → ℕ × Bool × ℤ → Datum → Result Datum Fault
 combined_by places p d = combinations_of p.0 p.1 (axis_in d p.2) places d
 
--- an operation that makes tuples on its operands
+-- tuples of one item of each of several lists at an axis, or of their places
+abbrev pub product_by : Bool → ℤ → List Datum → Result Datum Fault
+product_by places axis ds = cartesian_of (axis_among ds axis) places ds
+
+-- records of the items of several data, by names
+abbrev pub zip_by : ℕ × List Name → List Datum → Result Datum Fault
+zip_by p ds = zip_of p.0 (Some p.1) ds
+
+-- and tuples
+abbrev pub tuple_by : ℕ → List Datum → Result Datum Fault
+tuple_by depth ds = zip_of depth None ds
+
+-- a histogram of all leaves, or of each innermost list
+abbrev pub histogram_by : Bool → List ℤ → Datum → Result Datum Fault
+histogram_by each edges d = histogram edges each d
+
+-- an operation that makes rows on its operands
 abbrev pub tupled : Op → List FixedArg → List Operand → Result Datum Fault
 tupled op.Combinations fixed operands =
     given (combined_by false) (tuples_in fixed) (only_in operands)
 tupled op.Argcombinations fixed operands =
     given (combined_by true) (tuples_in fixed) (only_in operands)
+tupled op.Cartesian fixed operands =
+    given (product_by false) (place_in fixed) (data_in operands)
+tupled op.Argcartesian fixed operands =
+    given (product_by true) (place_in fixed) (data_in operands)
+tupled op.Tuple fixed operands = given tuple_by (depth_in fixed) (data_in operands)
 tupled o fixed operands = leafwise o operands
 
 -- an operation on null items on its operands
@@ -215,6 +247,8 @@ listed op.LocalIndex fixed operands =
     given (at_axis local_index_of) (place_in fixed) (only_in operands)
 listed op.Unflatten fixed operands = paired unflatten_of (both_in operands)
 listed op.RunLengths fixed operands = alone run_lengths_of (only_in operands)
+listed op.Sort fixed operands = given sort_of (truth_in fixed) (only_in operands)
+listed op.Argsort fixed operands = given argsort_of (truth_in fixed) (only_in operands)
 listed op.Concatenate fixed operands =
     given (at_common_axis concatenate_of) (place_in fixed) (data_in operands)
 listed o fixed operands = optioned o fixed operands
@@ -228,6 +262,11 @@ apply op.Fields fixed operands = given fields_of (texts_in fixed) (only_in opera
 apply op.WithoutField fixed operands = given without_field_of (text_in fixed) (only_in operands)
 apply op.AtEach fixed operands = given at_each_of (place_in fixed) (only_in operands)
 apply op.Pick fixed operands = paired pick_of (both_in operands)
+apply op.Zip fixed operands = given zip_by (named_in fixed) (data_in operands)
+apply op.Choose fixed operands = alone choice_by (three_in operands)
+apply op.Cast fixed operands = given cast_of (primitive_in fixed) (only_in operands)
+apply op.Hist fixed operands = given (histogram_by false) (edges_in fixed) (only_in operands)
+apply op.HistEach fixed operands = given (histogram_by true) (edges_in fixed) (only_in operands)
 apply o fixed operands = listed o fixed operands
 
 -- ---- expressions

@@ -2,9 +2,10 @@
 use Rattle.std.specs.Prelude.{ℕ, zero, suc, ℤ, pos, Bool, true, false, List, [], ◌∷◌, Option, Some}
 use Rattle.std.specs.Prelude.{None, option_map, if◌then◌else◌}
 use Rattle.awk_types.specs.DataType.{Name}
-use Rattle.awk_query.specs.Arguments.{not_zero}
+use Rattle.awk_query.specs.Arguments.{not_zero, some_count}
 use Rattle.awk_query.specs.declared.fixed.FixedArg.{FixedArg}
 use Rattle.awk_query.specs.declared.fixed.FixedArg.TheVariants.{Place, Count, Truth, Text, Texts}
+use Rattle.awk_query.specs.declared.fixed.FixedArg.TheVariants.{Wholes}
 
 -- whether a step is 1
 abbrev pub is_one : FixedArg → Bool
@@ -65,3 +66,23 @@ padding_in _ = None
 abbrev pub tuples_in : List FixedArg → Option (ℕ × Bool × ℤ)
 tuples_in (Count n ∷ Truth replacement ∷ Place axis ∷ []) = Some (n, replacement, axis)
 tuples_in _ = None
+
+-- a depth of at least 1
+abbrev pub depth_of : FixedArg → Option ℕ
+depth_of (Count d) = some_count d
+depth_of _ = None
+
+-- the only argument, where it is such a depth
+abbrev pub depth_in : List FixedArg → Option ℕ
+depth_in (depth ∷ []) = depth_of depth
+depth_in _ = None
+
+-- such a depth, and names
+abbrev pub named_in : List FixedArg → Option (ℕ × List Name)
+named_in (depth ∷ Texts ns ∷ []) = option_map (λ d. (d, ns)) (depth_of depth)
+named_in _ = None
+
+-- the only argument, where it is edges
+abbrev pub edges_in : List FixedArg → Option (List ℤ)
+edges_in (Wholes zs ∷ []) = Some zs
+edges_in _ = None

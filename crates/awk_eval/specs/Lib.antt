@@ -4,6 +4,7 @@ pub mod Entries
 pub mod Operand
 pub mod Ranges
 pub mod Fixed
+pub mod Primitives
 pub mod OperandView
 pub mod SteppedView
 pub mod Axes

@@ -61,6 +61,11 @@ abbrev pub two_in : List Operand → Option (layout.Filler × layout.Filler)
 two_in (x ∷ y ∷ []) = Some (term x, term y)
 two_in _ = None
 
+-- the three operands, where the first is a datum
+abbrev pub three_in : List Operand → Option (Datum × layout.Filler × layout.Filler)
+three_in (of c ∷ x ∷ y ∷ []) = Some (c, term x, term y)
+three_in _ = None
+
 -- one datum more
 abbrev pub one_more : Operand → Option (List Datum) → Option (List Datum)
 one_more (of d) found = option_map (λ ds. d ∷ ds) found

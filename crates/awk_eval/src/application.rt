@@ -1,45 +1,38 @@
 //! Operations on their operands.
-ghost use Rattle.std.specs.Prelude.{◌≡◌, ◌+◌, ◌*◌, ◌≤◌, true, length, is_some, Some, IfOk};
+ghost use Rattle.std.specs.Prelude.{◌≡◌, true, length, Some, IfOk};
 ghost use Rattle.awk_types.specs.Gives.{Gives};
 ghost use Rattle.awk_types.specs.Faults.{fault_told};
-ghost use Rattle.awk_types.specs.Names.{AreDistinct};
-ghost use Rattle.awk_types.specs.View.{typ_of};
 ghost use Rattle.awk_layout.specs.Datum.{IsDatum, datum_of};
-ghost use Rattle.awk_layout.specs.Layout.{weight, height};
-ghost use Rattle.awk_layout.specs.Typing.{array_type, array_items};
-ghost use Rattle.awk_lists.specs.WithoutField.{without_field_of};
 ghost use Rattle.awk_query.specs.Allowed.{HasArguments};
-ghost use Rattle.awk_eval.specs.Fixed.{bounds_in, text_in, texts_in, tuples_in};
 ghost use Rattle.awk_eval.specs.Operand.{only_in, both_in, two_in};
 ghost use Rattle.awk_eval.specs.Leafwise.{IsNumberOperation, IsSingleOperation};
 ghost use Rattle.awk_arith.specs.Unary.{unary_of};
 ghost use Rattle.awk_eval.specs.OperandView.{shown_operands};
-ghost use Rattle.awk_eval.specs.Ranges.{range_items};
-ghost use Rattle.awk_eval.specs.Views.{Size, Takes, IsWithin, AreWithin, is_view_op};
+ghost use Rattle.awk_eval.specs.Views.{Size, Takes, AreWithin, is_view_op};
 ghost use Rattle.awk_eval.specs.Eval as meaning;
 
-use crate::arguments::{
-    both, bound_or, bounds, data, filled, only, padding, place, text, texts, truth, tuples, two,
-    with_step,
-};
+use crate::arguments::{both, data, filled, only, padding, place, text, texts, truth, two};
 use crate::axis::{axis_among, axis_in};
+use crate::casts::cast_of;
+use crate::choices::choice_of;
+use crate::histograms::histogram_of;
 use crate::leafwise::{logic_operation, number_operation, single_operation};
+use crate::records::{rows_of, tuples_of};
+use crate::tuples::{combinations_of, product_of};
+use crate::views::{field_of, fields_of, pick_of, ranged, without_of};
 use awk_arith::{abs, binary, compare, logical, neg, not};
-use awk_combi::combinations;
-use awk_jagged::{is_jagged, jagged};
 use awk_kernels::Kernels;
 use awk_lanes::{Arena, Steps};
-use awk_layout::{Array, Datum, Operands};
+use awk_layout::{Datum, Operands};
 use awk_leaves::{Binary, Logic, Unary};
-use awk_lists::{flatten, local_index, num, run_lengths, unflatten, without_field};
+use awk_lists::{flatten, local_index, num, run_lengths, unflatten};
 use awk_merge::concatenate;
 use awk_options::{drop_none, fill_none, firsts, is_none, pad_none, put_mask, singletons};
-use awk_query::{Fixed, FixedArg, Op};
-use awk_range::range;
+use awk_order::{argsort, sort};
+use awk_query::{Fixed, Op};
 use awk_reduce::{Reducer, reduce};
-use awk_select::{at, at_each, is_mask, mask, step_range, take};
-use awk_types::{Fault, Names, NoMemory, Typ};
-use awk_view::{field, fields, settled};
+use awk_select::{at, at_each};
+use awk_types::Fault;
 use std::alloc::Global;
 use std::sync::ledger::Ledger;
 
@@ -86,6 +79,11 @@ pub(crate) fn apply<'s, N: Kernels, L: Ledger>(
             Some((e, x)) => pick_of(alloc, e, x, arena, steps),
             None => Err(Fault::Unbuilt),
         },
+        Op::Zip => rows_of(alloc, fixed, operands, arena, steps),
+        Op::Choose => choice_of(alloc, operands, kernels, arena, steps),
+        Op::Cast => cast_of(alloc, fixed, operands, kernels, arena, steps),
+        Op::Hist => histogram_of(alloc, fixed, operands, false, arena, steps),
+        Op::HistEach => histogram_of(alloc, fixed, operands, true, arena, steps),
         _ => listed(alloc, op, fixed, operands, kernels, arena, steps),
     }
 }
@@ -124,6 +122,14 @@ fn listed<'s, N: Kernels, L: Ledger>(
         Op::RunLengths => match only(operands) {
             Some(x) => run_lengths(alloc, x, arena, steps),
             None => Err(Fault::Unbuilt),
+        },
+        Op::Sort => match (truth(fixed), only(operands)) {
+            (Some(up), Some(x)) => sort(alloc, x, up, arena, steps),
+            _ => Err(Fault::Unbuilt),
+        },
+        Op::Argsort => match (truth(fixed), only(operands)) {
+            (Some(up), Some(x)) => argsort(alloc, x, up, arena, steps),
+            _ => Err(Fault::Unbuilt),
         },
         Op::Concatenate => match (place(fixed), data(alloc, operands)?) {
             (Some(axis), Some(xs)) => {
@@ -184,7 +190,7 @@ fn optioned<'s, N: Kernels, L: Ledger>(
     }
 }
 
-// An operation that makes tuples on its operands.
+// An operation that makes rows on its operands.
 fn tupled<'s, N: Kernels, L: Ledger>(
     alloc: Global,
     op: Op,
@@ -199,35 +205,14 @@ fn tupled<'s, N: Kernels, L: Ledger>(
     ensures datum { IfOk result (λ made. IsDatum made) }
 {
     match op {
-        Op::Combinations => combined(alloc, fixed, operands, false, arena, steps),
-        Op::Argcombinations => combined(alloc, fixed, operands, true, arena, steps),
+        Op::Combinations => combinations_of(alloc, fixed, operands, false, arena, steps),
+        Op::Argcombinations => combinations_of(alloc, fixed, operands, true, arena, steps),
+        Op::Cartesian => product_of(alloc, fixed, operands, false, arena, steps),
+        Op::Argcartesian => product_of(alloc, fixed, operands, true, arena, steps),
+        Op::Tuple => tuples_of(alloc, fixed, operands, arena, steps),
         _ => leafwise(alloc, op, operands, kernels, arena, steps),
     }
 }
-
-// Tuples of the items of lists at an axis, or of their places.
-fn combined<'s, L: Ledger>(
-    alloc: Global,
-    fixed: &Fixed,
-    operands: &Operands<'s>,
-    places: bool,
-    arena: &'s Arena,
-    steps: &mut Steps<L>,
-) -> Result<Datum<'s>, Fault>
-    ensures answer { let f = meaning.combined_by places in
-        Gives datum_of fault_told result
-        (meaning.given f (tuples_in fixed.now) (only_in (shown_operands operands.now))) }
-    ensures datum { IfOk result (λ made. IsDatum made) }
-{
-    match (tuples(fixed), only(operands)) {
-        (Some((n, replacement, axis)), Some(x)) => {
-            let axis = axis_in(x, axis);
-            combinations(alloc, n, replacement, axis, x, places, arena, steps)
-        }
-        _ => Err(Fault::Unbuilt),
-    }
-}
-
 // An operation that goes leaf by leaf on its operands.
 fn leafwise<'s, N: Kernels, L: Ledger>(
     alloc: Global,
@@ -320,8 +305,7 @@ fn on_leaves<'s, N: Kernels, L: Ledger>(
         Unary::Cast(_) => unreachable!(),
     }
 }
-
-// A reducer on its operand. An operation that is not built yet answers so.
+// A reducer on its operand.
 fn reducing<'s, N: Kernels, L: Ledger>(
     alloc: Global,
     op: Op,
@@ -357,168 +341,4 @@ fn reducer_of(op: Op) -> Option<Reducer>
         Op::CountNonzero => Some(Reducer::CountNonzero),
         _ => None,
     }
-}
-
-// A range, of step 1 or of another.
-fn ranged<'s, L: Ledger>(
-    alloc: Global,
-    fixed: &Fixed,
-    operands: &Operands<'s>,
-    arena: &'s Arena,
-    steps: &mut Steps<L>,
-) -> Result<Datum<'s>, Fault>
-    ensures answer { let only = only_in (shown_operands operands.now) in
-        Gives datum_of fault_told result (meaning.ranged (bounds_in fixed.now) fixed.now only) }
-    ensures datum { IfOk result (λ made. IsDatum made) }
-    ensures cost { (s : Size) → is_some (bounds_in fixed.now) ≡ true → AreWithin s operands.now
-        → Takes s 1 steps.old steps.new result }
-{
-    let Some(x) = only(operands) else {
-        return Err(Fault::Unbuilt);
-    };
-    match (bounds(fixed), with_step(fixed)) {
-        (Some((lo, hi)), _) => range_of(alloc, x, lo, hi, steps),
-        (None, Some(s)) => step_range(alloc, x, s.lo, s.hi, s.step, arena, steps),
-        (None, None) => Err(Fault::Unbuilt),
-    }
-}
-
-// The items of an array that another names, by a mask or an index, or row by row.
-fn pick_of<'s, L: Ledger>(
-    alloc: Global,
-    e: &Datum<'s>,
-    x: &Datum<'s>,
-    arena: &'s Arena,
-    steps: &mut Steps<L>,
-) -> Result<Datum<'s>, Fault>
-    ensures answer { Gives datum_of fault_told result
-        (meaning.pick_of (datum_of e.now) (datum_of x.now)) }
-    ensures datum { IfOk result (λ made. IsDatum made) }
-{
-    match e {
-        Datum::Arr(_) => match x {
-            Datum::Arr(items) => picked(alloc, e, x, items.typ(), arena, steps),
-            Datum::One(_) => Err(Fault::WrongType),
-        },
-        Datum::One(_) => Err(Fault::WrongType),
-    }
-}
-
-// The same, where the items that name others are of a type.
-fn picked<'s, L: Ledger>(
-    alloc: Global,
-    e: &Datum<'s>,
-    x: &Datum<'s>,
-    u: &Typ,
-    arena: &'s Arena,
-    steps: &mut Steps<L>,
-) -> Result<Datum<'s>, Fault>
-    ensures answer { Gives datum_of fault_told result
-        (meaning.pick_by (typ_of u.now) (datum_of e.now) (datum_of x.now)) }
-    ensures datum { IfOk result (λ made. IsDatum made) }
-{
-    if is_jagged(u) {
-        jagged(alloc, e, x, arena, steps)
-    } else if is_mask(u) {
-        mask(alloc, e, x, arena, steps)
-    } else {
-        take(alloc, e, x, arena, steps)
-    }
-}
-
-// The items from one bound below another. A single value has none.
-fn range_of<'s, L: Ledger>(
-    alloc: Global,
-    x: &Datum<'s>,
-    lo: &FixedArg,
-    hi: &FixedArg,
-    steps: &mut Steps<L>,
-) -> Result<Datum<'s>, Fault>
-    ensures answer { Gives datum_of fault_told result
-        (meaning.range_of (lo.now, hi.now) (datum_of x.now)) }
-    ensures datum { IfOk result (λ made. IsDatum made) }
-    ensures cost { (s : Size) → IsWithin s x.now → Takes s 1 steps.old steps.new result }
-{
-    match x {
-        Datum::Arr(x) => Ok(Datum::Arr(between(alloc, x, lo, hi, steps)?)),
-        Datum::One(_) => Err(Fault::WrongType),
-    }
-}
-
-fn between<'s, L: Ledger>(
-    alloc: Global,
-    x: &Array<'s>,
-    lo: &FixedArg,
-    hi: &FixedArg,
-    steps: &mut Steps<L>,
-) -> Result<Array<'s>, NoMemory>
-    ensures typ { IfOk result (λ made. array_type made ≡ array_type x.now) }
-    ensures items { IfOk result (λ made.
-        array_items made ≡ range_items lo.now hi.now (array_items x.now)) }
-    ensures cost { steps.new ≤ steps.old + 4 * weight x.now }
-    ensures nodes { IfOk result (λ made. weight made ≤ weight x.now) }
-    ensures height { IfOk result (λ made. height made ≤ height x.now) }
-{
-    let n = x.len();
-    let from = bound_or(n, 0, lo);
-    let to = bound_or(n, n, hi).max(from);
-    range(alloc, x, from, to, steps)
-}
-
-// The field of a single value is settled.
-fn field_of<'s, L: Ledger>(
-    alloc: Global,
-    x: &Datum<'s>,
-    name: &str,
-    steps: &mut Steps<L>,
-) -> Result<Datum<'s>, Fault>
-    requires { IsDatum x.now }
-    ensures answer { Gives datum_of fault_told result
-        (meaning.field_of name.now (datum_of x.now)) }
-    ensures datum { IfOk result (λ made. IsDatum made) }
-    ensures cost { (s : Size) → IsWithin s x.now → Takes s 1 steps.old steps.new result }
-{
-    match x {
-        Datum::Arr(x) => Ok(Datum::Arr(field(alloc, x, name, steps)?)),
-        Datum::One(x) => {
-            let made = field(alloc, x, name, steps)?;
-            Ok(settled(alloc, &made, steps)?)
-        }
-    }
-}
-
-fn fields_of<'s, L: Ledger>(
-    alloc: Global,
-    x: &Datum<'s>,
-    names: &Names,
-    steps: &mut Steps<L>,
-) -> Result<Datum<'s>, Fault>
-    requires datum { IsDatum x.now }
-    requires distinct { AreDistinct names.now }
-    ensures answer { Gives datum_of fault_told result
-        (meaning.fields_of names.now (datum_of x.now)) }
-    ensures datum { IfOk result (λ made. IsDatum made) }
-    ensures cost { (s : Size) → IsWithin s x.now → Takes s 1 steps.old steps.new result }
-{
-    match x {
-        Datum::Arr(x) => Ok(Datum::Arr(fields(alloc, x, names, steps)?)),
-        Datum::One(x) => Ok(Datum::One(fields(alloc, x, names, steps)?)),
-    }
-}
-
-// It takes as a view does, and gives an array where it is given one.
-fn without_of<'s, L: Ledger>(
-    alloc: Global,
-    x: &Datum<'s>,
-    name: &str,
-    arena: &'s Arena,
-    steps: &mut Steps<L>,
-) -> Result<Datum<'s>, Fault>
-    requires { IsDatum x.now }
-    ensures answer { Gives datum_of fault_told result
-        (without_field_of name.now (datum_of x.now)) }
-    ensures datum { IfOk result (λ made. IsDatum made) }
-    ensures cost { (s : Size) → IsWithin s x.now → Takes s 1 steps.old steps.new result }
-{
-    without_field(alloc, x, name, arena, steps)
 }

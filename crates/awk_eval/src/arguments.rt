@@ -6,6 +6,7 @@ ghost use Rattle.awk_layout.specs.declared.datum.Operand.TheVariants.{Of};
 ghost use Rattle.awk_fill.specs.FillNone.{filler_of};
 ghost use Rattle.awk_eval.specs.Fixed as given;
 ghost use Rattle.awk_eval.specs.Operand.{only_in, both_in, data_in, filled_in, two_in};
+ghost use Rattle.awk_eval.specs.Operand.{three_in};
 ghost use Rattle.awk_eval.specs.OperandView.{shown_operands};
 ghost use Rattle.awk_eval.specs.SteppedView.{stepped_view};
 ghost use Rattle.awk_eval.specs.Ranges as ranges;
@@ -13,7 +14,7 @@ ghost use Rattle.awk_eval.specs.Ranges as ranges;
 use awk_layout::{Datum, Datums, Operand, Operands};
 use awk_query::{Fixed, FixedArg};
 use awk_select::bound_up;
-use awk_types::{Name, Names, NoMemory};
+use awk_types::{Name, Names, NoMemory, Wholes};
 use std::alloc::Global;
 
 /// The only operand, where it is a datum.
@@ -62,6 +63,24 @@ pub(crate) fn two<'o, 's>(operands: &'o Operands<'s>) -> Option<(&'o Operand<'s>
     Some((operands.get(0), operands.get(1)))
 }
 
+/// The three operands, where the first is a datum.
+pub(crate) fn three<'o, 's>(
+    operands: &'o Operands<'s>,
+) -> Option<(&'o Datum<'s>, &'o Operand<'s>, &'o Operand<'s>)>
+    ensures three { option_map (λ p. (datum_of p.0.now, term_of p.1.now, term_of p.2.now)) result
+        ≡ three_in (shown_operands operands.now) }
+    ensures operands { IfSome result (λ p.
+        IsDatum p.0.now × IsOperand p.1.now × IsOperand p.2.now) }
+{
+    if operands.len() != 3 {
+        return None;
+    }
+    match operands.get(0) {
+        Operand::Of(c) => Some((c, operands.get(1), operands.get(2))),
+        Operand::Literal(_) => None,
+    }
+}
+
 /// A datum, and what fills its nulls.
 pub(crate) fn filled<'o, 's>(operands: &'o Operands<'s>) -> Option<(&'o Datum<'s>, &'o Operand<'s>)>
     ensures filled { option_map (λ p. (datum_of p.0.now, filler_of p.1.now)) result
@@ -95,6 +114,7 @@ pub(crate) fn data<'s>(
     ensures data { IfOk result (λ found. option_map (map datum_of) found
         ≡ data_in (shown_operands operands.now)) }
     ensures some { IfOk result (λ found. IfSome found (λ xs. 0 < length xs)) }
+    ensures count { IfOk result (λ found. IfSome found (λ xs. length xs ≡ length operands.now)) }
 {
     if operands.len() == 0 {
         return Ok(None);
@@ -244,6 +264,56 @@ pub(crate) fn tuples(fixed: &Fixed) -> Option<(u64, bool, i64)>
         (FixedArg::Count(n), FixedArg::Truth(replacement), FixedArg::Place(axis)) => {
             Some((*n, *replacement, *axis))
         }
+        _ => None,
+    }
+}
+
+/// The only argument, where it is a depth of at least 1.
+pub(crate) fn depth(fixed: &Fixed) -> Option<u64>
+    ensures depth { result ≡ given.depth_in fixed.now }
+    ensures some { IfSome result (λ d. 0 < d) }
+{
+    if fixed.len() != 1 {
+        return None;
+    }
+    some_depth(fixed.get(0))
+}
+
+// A depth of at least 1.
+fn some_depth(arg: &FixedArg) -> Option<u64>
+    ensures depth { result ≡ given.depth_of arg.now }
+    ensures some { IfSome result (λ d. 0 < d) }
+{
+    match arg {
+        FixedArg::Count(0) => None,
+        FixedArg::Count(depth) => Some(*depth),
+        _ => None,
+    }
+}
+
+/// A depth of at least 1, and names.
+pub(crate) fn named(fixed: &Fixed) -> Option<(u64, &Names)>
+    ensures named { option_map (λ p. (p.0, p.1.now)) result ≡ given.named_in fixed.now }
+    ensures some { IfSome result (λ p. 0 < p.0) }
+{
+    if fixed.len() != 2 {
+        return None;
+    }
+    match (some_depth(fixed.get(0)), fixed.get(1)) {
+        (Some(depth), FixedArg::Texts(names)) => Some((depth, names)),
+        _ => None,
+    }
+}
+
+/// The only argument, where it is edges.
+pub(crate) fn edges(fixed: &Fixed) -> Option<&Wholes>
+    ensures { option_map (λ zs. zs.now) result ≡ given.edges_in fixed.now }
+{
+    if fixed.len() != 1 {
+        return None;
+    }
+    match fixed.get(0) {
+        FixedArg::Wholes(edges) => Some(edges),
         _ => None,
     }
 }

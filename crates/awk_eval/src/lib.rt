@@ -7,11 +7,18 @@
 mod application;
 mod arguments;
 mod axis;
+mod casts;
+mod choices;
 mod env;
 mod evaluation;
+mod histograms;
 mod leafwise;
+mod primitives;
+mod records;
 mod shared;
 mod single;
+mod tuples;
+mod views;
 
 pub use env::Env;
 pub use evaluation::eval;
