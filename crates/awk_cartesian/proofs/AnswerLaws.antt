@@ -1,7 +1,8 @@
 -- What the tuples of operands are as an array, and what is told of them.
 use Rattle.std.specs.Prelude.{◌≡◌, refl, ℕ, ◌+◌, ◌-◌, ◌<◌, ◌≤◌, ◌^◌, Bool, true, false}
 use Rattle.std.specs.Prelude.{◌||◌, if◌then◌else◌, List, [], ◌∷◌, length, map, get_or}
-use Rattle.std.specs.Prelude.{ℤ, pos, negsuc, ◌<ℤ◌, Option, Some, None, is_some, option_map, Ok, Err}
+use Rattle.std.specs.Prelude.{ℤ, pos, negsuc, ◌<ℤ◌, Option, Some, None, is_some, option_map}
+use Rattle.std.specs.Prelude.{Ok, Err}
 use Rattle.std.specs.List.{range_with_len, list_all, list_any, AllByRecursion}
 use Rattle.std.proofs.Common.{arith, ap, ap₂, sym, ◌∙◌}
 use Rattle.std.proofs.lemmas.Int.{ints}
@@ -259,8 +260,8 @@ rows_index axis places n ds r t h s = go r.index refl h.index
       record {
         kind = g.0;
         below = λ i p.
-            below_all (at j i) (list_all is_present (row_of (map (rows_in axis) ds) i)) i (size_of j)
-            p (ap (λ x. list_place x i) (sym e) ∙ h.present i (omega (arith, p, g.1)));
+            below_all (at j i) (list_all is_present (row_of (map (rows_in axis) ds) i)) i
+            (size_of j) p (ap (λ x. list_place x i) (sym e) ∙ h.present i (omega (arith, p, g.1)));
       },
     )
 

@@ -292,8 +292,8 @@ whole_opened x r v a b c d = rw (a, b, c, d) (record {
 
 -- ---- what can be opened
 
-no_row : (names : Option (List Name)) (ts : List DataType) → IsLists (row_type names (types_from ts))
-    → ⊥
+no_row : (names : Option (List Name)) (ts : List DataType)
+    → IsLists (row_type names (types_from ts)) → ⊥
 no_row None ts h = h
 no_row (Some names) ts h = h
 

@@ -5,7 +5,8 @@ use Rattle.std.specs.Prelude.{is_some, take, ℤ}
 use Rattle.std.specs.List.{range_with_len, list_all, AllByRecursion, slice_get}
 use Rattle.std.proofs.Common.{arith, ap, ap₂, sym, ◌∙◌, subst, ltb-true}
 use Rattle.std.proofs.lemmas.Bool.{ltb-false}
-use Rattle.std.proofs.lemmas.List.{take_all, length-append, map-append, get_or_append_left, get_or_push}
+use Rattle.std.proofs.lemmas.List.{take_all, length-append, map-append, get_or_append_left}
+use Rattle.std.proofs.lemmas.List.{get_or_push}
 use Rattle.std.proofs.lemmas.List.Folds.{list_all-append, list_any-append}
 use Rattle.std.proofs.lemmas.List.FromFn.{map-range_with_len_more}
 use Rattle.awk_types.specs.DataType.{DataType}

@@ -184,7 +184,8 @@ module _ (n : ℕ) (x : Sources) (h : AreSources n x) where
     -- ---- what stands in it
 
     pub place-in : (j i k : ℕ) → i < n → k < count i
-        → place_at (lane j) (before count i + k) ≡ place_at (get_or firsts j no_lane) i + place j i k
+        → place_at (lane j) (before count i + k)
+        ≡ place_at (get_or firsts j no_lane) i + place j i k
     place-in j i k p q =
         ap nat_of
         (numbers-at count (product_place (get_or firsts j no_lane) x.lengths j) i k n p q)

@@ -16,7 +16,8 @@ use Rattle.awk_types.specs.declared.fault.Fault.{Fault}
 use Rattle.awk_types.specs.declared.fault.Fault.TheVariants as fault
 use Rattle.awk_types.specs.declared.limit.TypeFault.{TypeFault}
 use Rattle.awk_types.specs.declared.limit.TypeFault.TheVariants as refused
-use Rattle.awk_types.proofs.RefusalLaws.{Told-first, Told-same, refused_or-Ok, refused_or-Err, or-assoc}
+use Rattle.awk_types.proofs.RefusalLaws.{Told-first, Told-same, refused_or-Ok, refused_or-Err}
+use Rattle.awk_types.proofs.RefusalLaws.{or-assoc}
 use Rattle.awk_types.proofs.RefusalLaws.{or-both}
 use Rattle.awk_types.proofs.SimpleLaws.{simple_stays}
 use Rattle.awk_layout.specs.Datum.{datum_of, kept}
@@ -97,7 +98,8 @@ module _ (axis : Axis) (places : Bool) (ds : List Datum) (u : DataType)
           (fault_parts axis places vss)
 
       -- then what the rows are refused for
-      pub rows_told : (o : Option Fault) → Told o (refused_or (rows_fault axis vss) (count_of axis vss))
+      pub rows_told : (o : Option Fault)
+          → Told o (refused_or (rows_fault axis vss) (count_of axis vss))
           → Told o (cartesian_at (Some axis) places (map datum_of ds))
       rows_told o h =
           subst (Told o) (sym (whole_is ∙ after_limit))
@@ -210,7 +212,8 @@ module _ (n : ℕ) (ds : List Datum) where
   rows_long Rows e f =
       let vss : List (List Value) = map column_in ds in
       let both = or-both (lengths_fault vss) (too_many (row_count vss)) e in
-      each_long n ds (sym (ap (λ m. are_long m vss) f) ∙ is_long (are_long (row_count vss) vss) both.0)
+      each_long n ds
+      (sym (ap (λ m. are_long m vss) f) ∙ is_long (are_long (row_count vss) vss) both.0)
 
   pub rows_few : (axis : Axis) → rows_fault axis (map column_in ds) ≡ None
       → count_of axis (map column_in ds) ≡ n → n < 2 ^ 63

@@ -4,7 +4,8 @@ ghost use Rattle.awk_layout.specs.Valid.{len};
 ghost use Rattle.awk_combi.specs.Slots.{IsSlot, IsSlotLane};
 ghost use Rattle.awk_places.specs.Products.{product_lanes};
 ghost use Rattle.awk_cartesian.specs.Slots.{AreSlots, AreSlotLanes, IsFew};
-ghost use Rattle.awk_cartesian.specs.Sources.{AreSources, AreProducts, repeated, zeros, slot_firsts};
+ghost use Rattle.awk_cartesian.specs.Sources.{AreSources, AreProducts};
+ghost use Rattle.awk_cartesian.specs.Sources.{repeated, zeros, slot_firsts};
 
 use crate::sources::Sources;
 use awk_gather::gather;

@@ -26,7 +26,8 @@ returns-then-not-is_option g c =
     let x = c.args.x.now in
     let e : is_option (array_type x) ≡ false =
     ap is_option (sym c.typ.ensures.typ) ∙ sym c.is_option.ensures ∙ c.if-not-is_option.true in
-    mapped (IsOpened (values_by None c.len-n.result (array_item x)) (list_item (array_type x)) false)
+    mapped
+    (IsOpened (values_by None c.len-n.result (array_item x)) (list_item (array_type x)) false)
     (IsOpened (array_items x) (rows_item (array_type x)) (is_option (array_type x)))
     c.indexed_source.result
     (λ r a. plain_opened x r e
