@@ -1,7 +1,0 @@
-use Rattle.awk_eval.proofs.OperandLaws.{IsWithin-one}
-use Rattle.awk_eval.proofs.application.ranged.Goals as goal
-
-pub returns-in-Some-default-clause-cost : goal.returns-in-Some-default-clause-cost
-returns-in-Some-default-clause-cost g c s cuts are =
-    c.range_of.ensures.cost s
-    (IsWithin-one s c.args.operands.now c.in-Some.x.now c.in-Some.ensures.alone are)
