@@ -14,6 +14,7 @@ use std::test::Fail;
 // A session over a source that gives so many bytes at a time and a sink that takes so many, and has
 // room for no more than it says. The calls of these numbers fail, counted from 0; each answer is a
 // call to write, if it fits, and one to flush.
+#[derive(Drop)]
 struct Case<'r> {
     session: &'r [u8],
     gives: usize,
