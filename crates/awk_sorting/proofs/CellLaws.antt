@@ -1,9 +1,9 @@
 -- Keys of parts of cells, and the places that they tell when they are in order.
-use Rattle.std.proofs.Common.{◌≡◌, ℕ, zero, suc, ◌+◌, ◌-◌, ◌*◌, ◌%◌, ◌<◌, ◌≤◌, refl, ap, ap₂}
+use Rattle.std.proofs.Common.{◌≡◌, ℕ, zero, suc, ◌+◌, ◌-◌, ◌*◌, ◌<◌, ◌≤◌, refl, ap, ap₂}
 use Rattle.std.proofs.Common.{sym, ◌∙◌, subst, arith, List, [], ◌∷◌, ◌++◌, map, length, get_or}
 use Rattle.std.proofs.Common.{length-append, take, drop, append_assoc, take_all, ◌⊎◌, inl, inr}
 use Rattle.std.specs.Prelude.{ℤ, pos, Bool, true, false, Option, Some, None}
-use Rattle.std.specs.Prelude.{if◌then◌else◌, option_map}
+use Rattle.std.specs.Prelude.{if◌then◌else◌, option_map, min, max}
 use Rattle.std.specs.List.{range_with_len, slice_range}
 use Rattle.std.proofs.lemmas.Int.{ints}
 use Rattle.std.proofs.lemmas.List.{length-map, take-append-le, drop_at}
@@ -21,90 +21,108 @@ use Rattle.awk_lanes.specs.declared.kind.Kind.{Kind}
 use Rattle.awk_lanes.specs.declared.kind.Kind.TheVariants as kind
 use Rattle.awk_numbers.proofs.PartLaws.{slice_range-map}
 use Rattle.awk_parts.specs.Parts.{part_at}
-use Rattle.awk_sorting.specs.Cells.{cell_at, cells_from, rank, key, keys_from}
+use Rattle.awk_sorting.specs.Cells.{cell_at, cells_from, rank, key, keys_from, place_of, AreRanked}
 use Rattle.awk_sorting.specs.Cells.{AreKeys, AreReady, OrdersLane}
 use Rattle.awk_sorting.specs.Order.{order, sort_numbers}
 use Rattle.awk_sorting.specs.Parts.{SortsParts}
 use Rattle.awk_sorting.proofs.KeyLaws.{IsNear, order_by_keys}
-use Rattle.awk_sorting.proofs.PartLaws.{less_or_last, map-get}
+use Rattle.awk_sorting.proofs.PartLaws.{less_or_last, map-get, map-append}
 
 -- ---- one key after another
 
-more_keys : (up : Bool) (c : Column) (j : Option Column) (start m : ℕ) (was : List ℕ) (k : ℕ)
-    → k ≡ key up (cell_at c j (start + m)) m
-    → (was ++ keys_from up c j start m) ++ k ∷ [] ≡ was ++ keys_from up c j start (m + 1)
-more_keys up c j start m was k e =
-    let at_place : ℕ → ℕ = λ i. key up (cell_at c j (start + i)) i in
-    append_assoc was (keys_from up c j start m) (k ∷ [])
-    ∙ ap (λ x. was ++ (keys_from up c j start m ++ x ∷ [])) e
-    ∙ ap (λ xs. was ++ xs) (sym (map-range_with_len_more at_place 0 m m (omega arith)))
-
-pub key_pushed : (up : Bool) (c : Column) (j : Option Column) (start i : ℕ)
-    (was before now : List ℕ) (r p : ℕ) (x : Option ℤ) → start ≤ i
-    → before ≡ was ++ keys_from up c j start (i - start)
-    → now ≡ before ++ (r * 4294967296 + p) ∷ [] → r ≡ rank up x → x ≡ cell_at c j i → p ≡ i - start
-    → now ≡ was ++ keys_from up c j start (i + 1 - start)
-key_pushed up c j start i was before now r p x l b e re xe pe =
-    let there : start + (i - start) ≡ i = omega (arith, l) in
-    let next : i - start + 1 ≡ i + 1 - start = omega (arith, l) in
-    e ∙ ap (λ zs. zs ++ (r * 4294967296 + p) ∷ []) b
-    ∙ more_keys up c j start (i - start) was (r * 4294967296 + p)
-    (ap₂ (λ r p. r * 4294967296 + p) re pe
-    ∙ ap (λ x. key up x (i - start)) (xe ∙ ap (cell_at c j) (sym there)))
-    ∙ ap (λ m. was ++ keys_from up c j start m) next
-
--- ---- one part after another
-
-pub no_keys : (up : Bool) (c : Column) (j : Option Column) (o : Column) → place_at o 0 ≡ 0
-    → AreKeys up c j o 0 []
-no_keys up c j o h = record {
-  size = sym h;
-  parts = λ i l. absurd (omega (arith, l));
-}
-
-slice_before : (xs ys : List ℕ) (a b : ℕ) → b ≤ length xs
+slice_before : {X : Type 0} (xs ys : List X) (a b : ℕ) → b ≤ length xs
     → slice_range (xs ++ ys) a b ≡ slice_range xs a b
 slice_before xs ys a b l =
     between_is (xs ++ ys) a b ∙ ap (drop a) (take-append-le b xs ys l) ∙ sym (between_is xs a b)
 
-slice_after : (xs ys : List ℕ) (a b : ℕ) → a ≡ length xs → b ≡ length xs + length ys
-    → slice_range (xs ++ ys) a b ≡ ys
+slice_after : {X : Type 0} (xs ys : List X) (a b : ℕ) → a ≡ length xs
+    → b ≡ length xs + length ys → slice_range (xs ++ ys) a b ≡ ys
 slice_after xs ys a b e f =
     ap (take (b - a)) (drop_at xs ys a (sym e))
     ∙ take_all (b - a) ys (omega (arith, e, f))
 
-pub keys_more : (up : Bool) (c : Column) (j : Option Column) (o : Column) (i : ℕ) (was now : List ℕ)
-    → ((k : ℕ) → k < i → place_at o (k + 1) ≤ place_at o i) → place_at o i ≤ place_at o (i + 1)
-    → AreKeys up c j o i was
-    → now ≡ was ++ keys_from up c j (place_at o i) (place_at o (i + 1) - place_at o i)
-    → AreKeys up c j o (i + 1) now
-keys_more up c j o i was now before next h e =
-    record {
-      size = ap length e ∙ length-append was more ∙ omega (arith, many, h.size, next);
-      parts = λ k l. by_place k (less_or_last k i (omega (arith, l)));
-    }
+module _ (up : Bool) (least : ℕ) (c : Column) (j : Option Column) where
+  more_keys : (start m : ℕ) (was : List ℤ)
+      → (was ++ keys_from up least c j start m) ++ key up least (cell_at c j (start + m)) m ∷ []
+      ≡ was ++ keys_from up least c j start (m + 1)
+  more_keys start m was =
+      let at_place : ℕ → ℤ = λ i. key up least (cell_at c j (start + i)) i in
+      append_assoc was (keys_from up least c j start m) (at_place m ∷ [])
+      ∙ ap (λ zs. was ++ zs) (sym (map-range_with_len_more at_place 0 m m (omega arith)))
+
+  pub key_pushed : {X : Type 0} (number : X → ℤ) (start i : ℕ) (was before now : List X) (k : X)
+      (r : ℕ) → start ≤ i
+      → map number before ≡ map number was ++ keys_from up least c j start (i - start)
+      → now ≡ before ++ k ∷ [] → number k ≡ pos ((r - least) * 4294967296 + (i - start))
+      → r ≡ rank up (cell_at c j i)
+      → map number now ≡ map number was ++ keys_from up least c j start (i + 1 - start)
+  key_pushed number start i was before now k r l b e ke re =
+      let there : start + (i - start) ≡ i = omega (arith, l) in
+      let next : i - start + 1 ≡ i + 1 - start = omega (arith, l) in
+      ap (map number) e ∙ map-append number before (k ∷ [])
+      ∙ ap₂ (λ zs z. zs ++ z ∷ []) b
+      (ke ∙ ap (λ n. pos ((n - least) * 4294967296 + (i - start)))
+      (re ∙ ap (λ q. rank up (cell_at c j q)) (sym there)))
+      ∙ more_keys start (i - start) (map number was)
+      ∙ ap (λ m. map number was ++ keys_from up least c j start m) next
+
+  -- ---- one part after another
+
+  pub no_keys : (o : Column) → place_at o 0 ≡ 0 → AreKeys up least c j o 0 []
+  no_keys o h = record {
+    size = sym h;
+    parts = λ i l. absurd (omega (arith, l));
+  }
+
+  pub keys_more : (o : Column) (i : ℕ) (was now : List ℤ)
+      → ((k : ℕ) → k < i → place_at o (k + 1) ≤ place_at o i) → place_at o i ≤ place_at o (i + 1)
+      → AreKeys up least c j o i was
+      → now ≡ was ++ keys_from up least c j (place_at o i) (place_at o (i + 1) - place_at o i)
+      → AreKeys up least c j o (i + 1) now
+  keys_more o i was now before next h e = record {
+    size = ap length e ∙ length-append was more ∙ omega (arith, many, h.size, next);
+    parts = λ k l. by_place k (less_or_last k i (omega (arith, l)));
+  }
+    where
+      more : List ℤ
+      more = keys_from up least c j (place_at o i) (place_at o (i + 1) - place_at o i)
+
+      many : length more ≡ place_at o (i + 1) - place_at o i
+      many = length-map-range_with_len (λ k. key up least (cell_at c j (place_at o i + k)) k) 0
+          (place_at o (i + 1) - place_at o i)
+
+      by_place : (k : ℕ) → (k < i) ⊎ (k ≡ i)
+          → slice_range now (place_at o k) (place_at o (k + 1))
+          ≡ keys_from up least c j (place_at o k) (place_at o (k + 1) - place_at o k)
+      by_place k (inl l) =
+          ap (λ xs. slice_range xs (place_at o k) (place_at o (k + 1))) e
+          ∙ slice_before was more (place_at o k) (place_at o (k + 1))
+          (omega (arith, before k l, h.size))
+          ∙ h.parts k l
+      by_place k (inr q) =
+          subst (λ k. slice_range now (place_at o k) (place_at o (k + 1))
+          ≡ keys_from up least c j (place_at o k) (place_at o (k + 1) - place_at o k)) (sym q)
+          (ap (λ xs. slice_range xs (place_at o i) (place_at o (i + 1))) e
+          ∙ slice_after was more (place_at o i) (place_at o (i + 1)) (sym h.size)
+          (omega (arith, many, h.size, next)))
+
+-- ---- ranks
+
+pub ranked_more : (up : Bool) (c : Column) (j : Option Column) (i a b x : ℕ)
+    → AreRanked up c j i a b → x ≡ rank up (cell_at c j i)
+    → AreRanked up c j (i + 1) (min a x) (max b x)
+ranked_more up c j i a b x h e = record {
+  above = λ k l. low k (less_or_last k i (omega (arith, l)));
+  below = λ k l. high k (less_or_last k i (omega (arith, l)));
+}
   where
-    more : List ℕ
-    more = keys_from up c j (place_at o i) (place_at o (i + 1) - place_at o i)
+    low : (k : ℕ) → (k < i) ⊎ (k ≡ i) → min a x ≤ rank up (cell_at c j k)
+    low k (inl l) = omega (arith, h.above k l)
+    low k (inr q) = omega (arith, e, ap (λ k. rank up (cell_at c j k)) q)
 
-    many : length more ≡ place_at o (i + 1) - place_at o i
-    many = length-map-range_with_len (λ k. key up (cell_at c j (place_at o i + k)) k) 0
-        (place_at o (i + 1) - place_at o i)
-
-    by_place : (k : ℕ) → (k < i) ⊎ (k ≡ i)
-        → slice_range now (place_at o k) (place_at o (k + 1))
-        ≡ keys_from up c j (place_at o k) (place_at o (k + 1) - place_at o k)
-    by_place k (inl l) =
-        ap (λ xs. slice_range xs (place_at o k) (place_at o (k + 1))) e
-        ∙ slice_before was more (place_at o k) (place_at o (k + 1))
-        (omega (arith, before k l, h.size))
-        ∙ h.parts k l
-    by_place k (inr q) =
-        subst (λ k. slice_range now (place_at o k) (place_at o (k + 1))
-        ≡ keys_from up c j (place_at o k) (place_at o (k + 1) - place_at o k)) (sym q)
-        (ap (λ xs. slice_range xs (place_at o i) (place_at o (i + 1))) e
-        ∙ slice_after was more (place_at o i) (place_at o (i + 1)) (sym h.size)
-        (omega (arith, many, h.size, next)))
+    high : (k : ℕ) → (k < i) ⊎ (k ≡ i) → rank up (cell_at c j k) ≤ max b x
+    high k (inl l) = omega (arith, h.below k l)
+    high k (inr q) = omega (arith, e, ap (λ k. rank up (cell_at c j k)) q)
 
 -- ---- cells of 64 bits
 
@@ -131,11 +149,11 @@ near_cell : (c : Column) (j : Option Column) (i : ℕ) → AreNumbers c → IsNe
 near_cell c None i h = near_element c.kind (get_or c.items i (pos 0)) (h i)
 near_cell c (Some j) i h = near_place c h (option_place_at j i)
 
-near_all : (os : List (Option ℤ)) (f : ℕ → Option ℤ) (a n : ℕ) → ((i : ℕ) → IsNear (f i))
+near_all : (f : ℕ → Option ℤ) (a n : ℕ) → ((i : ℕ) → IsNear (f i))
     → (p : ℕ) → IsNear (get_or (map f (range_with_len a n)) p None)
-near_all os f a zero h p = tt
-near_all os f a (suc n) h zero = h a
-near_all os f a (suc n) h (suc p) = near_all os f (a + 1) n h p
+near_all f a zero h p = tt
+near_all f a (suc n) h zero = h a
+near_all f a (suc n) h (suc p) = near_all f (a + 1) n h p
 
 -- ---- the places of a part
 
@@ -146,55 +164,64 @@ range_same f g a (suc n) h =
     ap₂ (λ x xs. x ∷ xs) (h a (omega arith) (omega arith))
     (range_same f g (a + 1) n (λ i l m. h i (omega (arith, l)) (omega (arith, m))))
 
-places_of_part : (up : Bool) (c : Column) (j : Option Column) (start m : ℕ) (ys : List ℕ)
-    → AreNumbers c → m < 4294967296
-    → map pos ys ≡ sort_numbers true (map pos (keys_from up c j start m))
-    → map (λ y. pos (y % 4294967296)) ys ≡ map pos (order up (cells_from c j start m))
-places_of_part up c j start m ys h few s =
+places_of_part : (up : Bool) (least : ℕ) (c : Column) (j : Option Column) (start m : ℕ)
+    (zs : List ℤ) → AreNumbers c → m < 4294967296
+    → ((k : ℕ) → k < m → least ≤ rank up (cell_at c j (start + k)))
+    → zs ≡ sort_numbers true (keys_from up least c j start m)
+    → map place_of zs ≡ map pos (order up (cells_from c j start m))
+places_of_part up least c j start m zs h few above s =
     let cell : ℕ → Option ℤ = λ k. cell_at c j (start + k) in
     let os : List (Option ℤ) = cells_from c j start m in
     let long : length os ≡ m = length-map-range_with_len cell 0 m in
-    order_by_keys up os (omega (arith, long, few))
-    (near_all os cell 0 m (λ k. near_cell c j (start + k) h)) (keys_from up c j start m) ys
-    (map-map pos (λ k. key up (cell k) k) (range_with_len 0 m)
-    ∙ range_same (λ k. pos (key up (cell k) k)) (λ p. pos (key up (get_or os p None) p)) 0 m
-    (λ k l r. ap (λ x. pos (key up x k))
-    (sym (get_or-map-range_with_len cell 0 m k k None (omega (arith, r)) (omega arith))))
-    ∙ ap (λ n. map (λ p. pos (key up (get_or os p None) p)) (range_with_len 0 n)) (sym long)) s
+    let there : (k : ℕ) → k < m → cell k ≡ get_or os k None =
+    λ k l. sym (get_or-map-range_with_len cell 0 m k k None l (omega arith)) in
+    order_by_keys up least os (omega (arith, long, few))
+    (near_all cell 0 m (λ k. near_cell c j (start + k) h))
+    (λ p l. subst (λ x. least ≤ rank up x) (there p (omega (arith, l, long)))
+    (above p (omega (arith, l, long)))) zs
+    (s
+    ∙ ap (sort_numbers true)
+    (range_same (λ k. key up least (cell k) k) (λ p. key up least (get_or os p None) p) 0 m
+    (λ k l r. ap (λ x. key up least x k) (there k (omega (arith, r))))
+    ∙ ap (λ n. map (λ p. key up least (get_or os p None) p) (range_with_len 0 n)) (sym long)))
 
 -- ---- the lane of all places
 
-all_at : (ys : List ℕ) (g : ℕ → ℤ)
-    → map (λ i. g (get_or ys i 0)) (range_with_len 0 (length ys)) ≡ map g ys
-all_at ys g =
-    range_same (λ i. g (get_or ys i 0)) (λ i. get_or (map g ys) i (g 0)) 0 (length ys)
-    (λ i l m. sym (map-get g ys i 0))
-    ∙ sym (fill_by_all (λ i. get_or (map g ys) i (g 0)) (map g ys) (length ys) (g 0)
-    (length-map ys g) (λ k l. refl))
+all_at : (zs : List ℤ) (g : ℤ → ℤ)
+    → map (λ i. g (get_or zs i (pos 0))) (range_with_len 0 (length zs)) ≡ map g zs
+all_at zs g =
+    range_same (λ i. g (get_or zs i (pos 0))) (λ i. get_or (map g zs) i (g (pos 0))) 0 (length zs)
+    (λ i l m. sym (map-get g zs i (pos 0)))
+    ∙ sym (fill_by_all (λ i. get_or (map g zs) i (g (pos 0))) (map g zs) (length zs) (g (pos 0))
+    (length-map zs g) (λ k l. refl))
 
-pub orders_lane : (up : Bool) (c : Column) (j : Option Column) (o : Column) (n : ℕ)
-    (ks ys : List ℕ) (r : Column) → AreNumbers c → AreReady c j o n → AreKeys up c j o n ks
-    → SortsParts (λ (k : ℕ). pos k) true o n ks ys
-    → r ≡ lane_of kind.I64 (length ys) (λ i. pos (get_or ys i 0 % 4294967296))
+pub orders_lane : {X : Type 0} (number : X → ℤ) (up : Bool) (least most : ℕ) (c : Column)
+    (j : Option Column) (o : Column) (n : ℕ) (ks ys : List X) (r : Column) → AreNumbers c
+    → AreReady c j o n → AreRanked up c j (place_at o n) least most
+    → AreKeys up least c j o n (map number ks) → SortsParts number true o n ks ys
+    → r ≡ lane_of kind.I64 (length ys) (λ i. place_of (get_or (map number ys) i (pos 0)))
     → OrdersLane up c j o n r
-orders_lane up c j o n ks ys r h d k s e =
+orders_lane number up least most c j o n ks ys r h d a k s e =
     subst (OrdersLane up c j o n) (sym e) (record {
       kind = refl;
       size =
           length-map-range_with_len at_place 0 (length ys) ∙ length_permutation ks ys s.same
-          ∙ k.size;
+          ∙ sym (length-map ks number) ∙ k.size;
       parts = λ i l.
+          let start : ℕ = place_at o i in
+          let stop : ℕ = place_at o (i + 1) in
+          let within = d.rising.within (i + 1) (omega (arith, l)) in
           ap (λ zs. part_at zs o i)
-          (map-map (element kind.I64) at_place (range_with_len 0 (length ys)) ∙ all_at ys told)
-          ∙ slice_range-map told ys (place_at o i) (place_at o (i + 1))
-          ∙ places_of_part up c j (place_at o i) (place_at o (i + 1) - place_at o i)
-          (slice_range ys (place_at o i) (place_at o (i + 1))) h
-          (omega (arith, d.few, d.rising.within (i + 1) (omega (arith, l))))
-          (s.parts i l ∙ ap (λ zs. sort_numbers true (map pos zs)) (k.parts i l));
+          (map-map (element kind.I64) at_place (range_with_len 0 (length ys))
+          ∙ ap (λ m. map at_place (range_with_len 0 m)) (sym (length-map ys number))
+          ∙ all_at (map number ys) place_of)
+          ∙ slice_range-map place_of (map number ys) start stop
+          ∙ places_of_part up least c j start (stop - start)
+          (slice_range (map number ys) start stop) h (omega (arith, d.few, within))
+          (λ q m. a.above (start + q) (omega (arith, m, within)))
+          (slice_range-map number ys start stop ∙ s.parts i l
+          ∙ ap (sort_numbers true) (sym (slice_range-map number ks start stop) ∙ k.parts i l));
     })
   where
-    told : ℕ → ℤ
-    told y = pos (y % 4294967296)
-
     at_place : ℕ → ℤ
-    at_place i = pos (get_or ys i 0 % 4294967296)
+    at_place i = place_of (get_or (map number ys) i (pos 0))

@@ -1,14 +1,13 @@
 -- Keys stand in the order of cells, and tell their places.
-use Rattle.std.proofs.Common.{◌≡◌, ℕ, ◌+◌, ◌*◌, ◌%◌, ◌<◌, refl, ap, ap₂}
+use Rattle.std.proofs.Common.{◌≡◌, ℕ, ◌+◌, ◌-◌, ◌*◌, ◌%◌, ◌<◌, ◌≤◌, refl, ap, ap₂}
 use Rattle.std.proofs.Common.{sym, ◌∙◌, arith, List, [], ◌∷◌, map, length, get_or}
 use Rattle.std.specs.Prelude.{ℤ, pos, negsuc, ◌+ℤ◌, ◌-ℤ◌, ◌≤ℤ◌, nat_lt, Bool, true, false}
 use Rattle.std.specs.Prelude.{not, ◌&&◌, ◌||◌, Option, Some, None}
 use Rattle.std.specs.List.{range_with_len}
 use Rattle.std.proofs.lemmas.Int.{ints}
 use Rattle.std.proofs.lemmas.Nat.{mod-mul-add}
-use Rattle.std.proofs.lemmas.Simd.{map-map}
 use Rattle.awk_lanes.specs.Numbers.{nat_of}
-use Rattle.awk_sorting.specs.Cells.{rank, key}
+use Rattle.awk_sorting.specs.Cells.{rank, key, place_of}
 use Rattle.awk_sorting.specs.Order.{number_first, comes_first, stands_first, order}
 use Rattle.awk_sorting.specs.Order.{sort_numbers}
 use Rattle.awk_sorting.proofs.InsertLaws.{AllBelow, places_below, map-sort}
@@ -52,9 +51,12 @@ ranks_first false (Some y) (Some z) h k =
     let q = rank_falling z k in
     grind (arith, ints)
 
-keys_first : (r s p q : ℕ) → q < p → p < 4294967296
+parted_first : (r s p q : ℕ) → q < p → p < 4294967296
     → nat_lt (r * 4294967296 + p) (s * 4294967296 + q) ≡ nat_lt r s
-keys_first r s p q l m = grind arith
+parted_first r s p q l m = grind arith
+
+above_first : (r s b : ℕ) → b ≤ r → b ≤ s → nat_lt (r - b) (s - b) ≡ nat_lt r s
+above_first r s b l m = grind arith
 
 low_part : (r p : ℕ) → p < 4294967296 → (r * 4294967296 + p) % 4294967296 ≡ p
 low_part r p l = mod-mul-add r 4294967296 p l
@@ -66,29 +68,29 @@ later_first false false p q l = grind arith
 
 -- ---- the order of a list of cells
 
-module _ (up : Bool) (os : List (Option ℤ)) (few : length os < 4294967296)
-    (near : (p : ℕ) → IsNear (get_or os p None)) where
+module _ (up : Bool) (b : ℕ) (os : List (Option ℤ)) (few : length os < 4294967296)
+    (near : (p : ℕ) → IsNear (get_or os p None))
+    (above : (p : ℕ) → p < length os → b ≤ rank up (get_or os p None)) where
   abbrev key_at : ℕ → ℤ
-  key_at p = pos (key up (get_or os p None) p)
+  key_at p = key up b (get_or os p None) p
 
   keys_by_place : (p q : ℕ) → q < p → p < length os
       → stands_first up os p q ≡ number_first true (key_at p) (key_at q)
   keys_by_place p q l m =
+      let r : ℕ = rank up (get_or os p None) in
+      let s : ℕ = rank up (get_or os q None) in
       later_first (comes_first up (get_or os p None) (get_or os q None))
       (comes_first up (get_or os q None) (get_or os p None)) p q l
       ∙ ranks_first up (get_or os p None) (get_or os q None) (near p) (near q)
-      ∙ sym (keys_first (rank up (get_or os p None)) (rank up (get_or os q None)) p q l
-      (omega (arith, few, m)))
+      ∙ sym (parted_first (r - b) (s - b) p q l (omega (arith, few, m))
+      ∙ above_first r s b (above p m) (above q (omega (arith, l, m))))
 
   keys_sorted : map key_at (order up os)
       ≡ sort_numbers true (map key_at (range_with_len 0 (length os)))
   keys_sorted = map-sort (stands_first up os) (number_first true) key_at (length os) keys_by_place
 
-  abbrev place_of : ℤ → ℤ
-  place_of z = pos (nat_of z % 4294967296)
-
   place_again : (p : ℕ) → p < length os → place_of (key_at p) ≡ pos p
-  place_again p l = ap pos (low_part (rank up (get_or os p None)) p (omega (arith, few, l)))
+  place_again p l = ap pos (low_part (rank up (get_or os p None) - b) p (omega (arith, few, l)))
 
   places_again : (ps : List ℕ) → AllBelow (length os) ps
       → map place_of (map key_at ps) ≡ map pos ps
@@ -96,10 +98,9 @@ module _ (up : Bool) (os : List (Option ℤ)) (few : length os < 4294967296)
   places_again (p ∷ ps) h = ap₂ (λ z zs. z ∷ zs) (place_again p h.0) (places_again ps h.1)
 
   -- keys in order tell the places in order
-  pub order_by_keys : (ks ys : List ℕ) → map pos ks ≡ map key_at (range_with_len 0 (length os))
-      → map pos ys ≡ sort_numbers true (map pos ks)
-      → map (λ y. pos (y % 4294967296)) ys ≡ map pos (order up os)
-  order_by_keys ks ys e s =
-      sym (map-map place_of pos ys)
-      ∙ ap (map place_of) (s ∙ ap (sort_numbers true) e ∙ sym keys_sorted)
+  pub order_by_keys : (zs : List ℤ)
+      → zs ≡ sort_numbers true (map key_at (range_with_len 0 (length os)))
+      → map place_of zs ≡ map pos (order up os)
+  order_by_keys zs e =
+      ap (map place_of) (e ∙ sym keys_sorted)
       ∙ places_again (order up os) (places_below (stands_first up os) (length os))

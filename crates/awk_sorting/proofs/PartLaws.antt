@@ -58,7 +58,7 @@ module _ {X : Type 0} (number : X → ℤ) where
   map-length [] = refl
   map-length (x ∷ xs) = ap suc (map-length xs)
 
-  map-append : (xs ys : List X) → map number (xs ++ ys) ≡ map number xs ++ map number ys
+  pub map-append : (xs ys : List X) → map number (xs ++ ys) ≡ map number xs ++ map number ys
   map-append [] ys = refl
   map-append (x ∷ xs) ys = ap (λ l. number x ∷ l) (map-append xs ys)
 

@@ -1,6 +1,6 @@
 -- Numbers of a lane, or at the places of it that an index names, and keys in whose order they
 -- stand.
-use Rattle.std.specs.Prelude.{◌≡◌, ℕ, ◌+◌, ◌-◌, ◌*◌, ◌<◌, ◌≤◌, ◌^◌, ℤ, pos}
+use Rattle.std.specs.Prelude.{◌≡◌, ℕ, ◌+◌, ◌-◌, ◌*◌, ◌%◌, ◌<◌, ◌≤◌, ◌^◌, ℤ, pos}
 use Rattle.std.specs.Prelude.{◌+ℤ◌, ◌-ℤ◌, Bool, true, false}
 use Rattle.std.specs.Prelude.{List, length, map, Option, Some, None, option_map}
 use Rattle.std.specs.List.{range_with_len, slice_range}
@@ -38,20 +38,31 @@ rank up None = 73786976294838206464
 rank true (Some z) = nat_of (pos 36893488147419103232 +ℤ z)
 rank false (Some z) = nat_of (pos 36893488147419103232 -ℤ z)
 
--- of a cell at a place, below 2 ^ 32
-abbrev pub key : Bool → Option ℤ → ℕ → ℕ
-key up o p = rank up o * 4294967296 + p
+-- no cell of the first n has a lower rank than the least or a higher one than the most
+pub record AreRanked (up : Bool) (c : Column) (j : Option Column) (n least most : ℕ)
+    : Type 0 where
+  pub above : (i : ℕ) → i < n → least ≤ rank up (cell_at c j i)
+  pub below : (i : ℕ) → i < n → rank up (cell_at c j i) ≤ most
+
+-- of a cell at a place below 2 ^ 32, by how far its rank is above one that is no higher
+abbrev pub key : Bool → ℕ → Option ℤ → ℕ → ℤ
+key up least o p = pos ((rank up o - least) * 4294967296 + p)
 
 -- of n cells from a start on, each with its place among them
-abbrev pub keys_from : Bool → Column → Option Column → ℕ → ℕ → List ℕ
-keys_from up c j start n = map (λ k. key up (cell_at c j (start + k)) k) (range_with_len 0 n)
+abbrev pub keys_from : Bool → ℕ → Column → Option Column → ℕ → ℕ → List ℤ
+keys_from up least c j start n =
+    map (λ k. key up least (cell_at c j (start + k)) k) (range_with_len 0 n)
 
 -- the keys of parts, one after another
-pub record AreKeys (up : Bool) (c : Column) (j : Option Column) (o : Column) (n : ℕ)
-    (keys : List ℕ) : Type 0 where
-  pub size : length keys ≡ place_at o n
-  pub parts : (i : ℕ) → i < n → slice_range keys (place_at o i) (place_at o (i + 1))
-      ≡ keys_from up c j (place_at o i) (place_at o (i + 1) - place_at o i)
+pub record AreKeys (up : Bool) (least : ℕ) (c : Column) (j : Option Column) (o : Column) (n : ℕ)
+    (zs : List ℤ) : Type 0 where
+  pub size : length zs ≡ place_at o n
+  pub parts : (i : ℕ) → i < n → slice_range zs (place_at o i) (place_at o (i + 1))
+      ≡ keys_from up least c j (place_at o i) (place_at o (i + 1) - place_at o i)
+
+-- the place that a key tells
+abbrev pub place_of : ℤ → ℤ
+place_of z = pos (nat_of z % 4294967296)
 
 -- cells in n parts, one after another from the first on
 pub record AreReady (c : Column) (j : Option Column) (o : Column) (n : ℕ) : Type 0 where

@@ -4,12 +4,13 @@
 //! places of each part, in the order of what stands there (`Cells`).
 #![tactic(auto)]
 
+mod cells;
 mod keys;
 mod lanes;
 mod number;
 mod parts;
 mod places;
 
-pub use keys::Cells;
+pub use cells::Cells;
 pub use lanes::lane_in_order;
 pub use places::places_in_order;

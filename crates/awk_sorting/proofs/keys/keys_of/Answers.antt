@@ -1,4 +1,4 @@
-use Rattle.std.proofs.Common.{arith, option_map}
+use Rattle.std.proofs.Common.{option_map, map, arith}
 use Rattle.awk_lanes.specs.Places.{place_at}
 use Rattle.awk_sorting.proofs.CellLaws.{keys_more}
 use Rattle.awk_sorting.proofs.PartLaws.{part_before}
@@ -6,10 +6,12 @@ use Rattle.awk_sorting.proofs.keys.keys_of.Goals as goal
 
 pub loop-i-preserved : goal.loop-i-preserved
 loop-i-preserved g c =
-    keys_more c.args.up c.args.cells.now.lane.now (option_map (λ j. j.now) c.args.cells.now.index)
-    c.args.offsets.now c.loop-i.i c.loop-i.keys.items c.push_keys.new.keys.items
-    (part_before c.args.offsets.now c.args.n (place_at c.args.offsets.now c.args.n) c.loop-i.i
-    c.requires.rising (omega arith))
-    (c.requires.rising.ordered c.loop-i.i (omega arith)) c.loop-i.invariant
+    let r = c.args.ranks.now in
+    let o = c.args.offsets.now in
+    keys_more r.up r.least r.cells.now.lane.now (option_map (λ j. j.now) r.cells.now.index) o
+    c.loop-i.i (map g.K.Number.number c.loop-i.keys.items)
+    (map g.K.Number.number c.push_keys.new.keys.items)
+    (part_before o c.args.n (place_at o c.args.n) c.loop-i.i c.requires.ready.rising (omega arith))
+    (c.requires.ready.rising.ordered c.loop-i.i (omega arith)) c.loop-i.invariant
     (rw (← c.place_in-start.ensures.value, ← c.place_in-stop.ensures.value)
     c.in_ok-push_keys.ensures)
