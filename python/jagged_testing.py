@@ -16,7 +16,7 @@ IS_NAMED = bool(os.environ.get(PROGRAM_VARIABLE))
 # The lines and operations that the built program answers by the fault `unbuilt`; `step_range` is a
 # range of another step than 1. Take out what is built: a test fails that says so. A program that
 # the environment names is held to everything.
-NOT_YET = frozenset([] if IS_NAMED else "with_field".split())
+NOT_YET = frozenset([] if IS_NAMED else "".split())
 
 # The words of NOT_YET that were answered.
 _answered: set[str] = set()

@@ -34,6 +34,7 @@ use Rattle.awk_order.specs.Sort.{sort_of, argsort_of}
 use Rattle.awk_lists.specs.Unflatten.{unflatten_of}
 use Rattle.awk_zip.specs.Zip.{zip_of}
 use Rattle.awk_lists.specs.WithoutField.{choice_of, without_field_of}
+use Rattle.awk_with_field.specs.WithField.{with_field_of}
 use Rattle.awk_nulls.specs.DropNone.{drop_none_of}
 use Rattle.awk_merge.specs.Concatenate.{concatenate_of}
 use Rattle.awk_hist.specs.HistEach.{histogram}
@@ -209,6 +210,10 @@ zip_by p ds = zip_of p.0 (Some p.1) ds
 abbrev pub tuple_by : ℕ → List Datum → Result Datum Fault
 tuple_by depth ds = zip_of depth None ds
 
+-- a datum whose records have one field more, or another one in its place
+abbrev pub put_by : Name → Datum × Datum → Result Datum Fault
+put_by n p = with_field_of n p.0 p.1
+
 -- a histogram of all leaves, or of each innermost list
 abbrev pub histogram_by : Bool → List ℤ → Datum → Result Datum Fault
 histogram_by each edges d = histogram edges each d
@@ -224,6 +229,7 @@ tupled op.Cartesian fixed operands =
 tupled op.Argcartesian fixed operands =
     given (product_by true) (place_in fixed) (data_in operands)
 tupled op.Tuple fixed operands = given tuple_by (depth_in fixed) (data_in operands)
+tupled op.WithField fixed operands = given put_by (text_in fixed) (both_in operands)
 tupled o fixed operands = leafwise o operands
 
 -- an operation on null items on its operands

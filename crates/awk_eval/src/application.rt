@@ -15,6 +15,7 @@ use crate::arguments::{both, data, filled, only, padding, place, text, texts, tr
 use crate::axis::{axis_among, axis_in};
 use crate::casts::cast_of;
 use crate::choices::choice_of;
+use crate::fields::put_field;
 use crate::histograms::histogram_of;
 use crate::leafwise::{logic_operation, number_operation, single_operation};
 use crate::records::{rows_of, tuples_of};
@@ -210,6 +211,7 @@ fn tupled<'s, N: Kernels, L: Ledger>(
         Op::Cartesian => product_of(alloc, fixed, operands, false, arena, steps),
         Op::Argcartesian => product_of(alloc, fixed, operands, true, arena, steps),
         Op::Tuple => tuples_of(alloc, fixed, operands, arena, steps),
+        Op::WithField => put_field(alloc, fixed, operands, arena, steps),
         _ => leafwise(alloc, op, operands, kernels, arena, steps),
     }
 }

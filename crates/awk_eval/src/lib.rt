@@ -11,6 +11,7 @@ mod casts;
 mod choices;
 mod env;
 mod evaluation;
+mod fields;
 mod histograms;
 mod leafwise;
 mod primitives;
