@@ -1,0 +1,12 @@
+mod Worked
+mod PutLaws
+mod ThereLaws
+mod OptionLaws
+mod RowLaws
+mod OneLaws
+mod LevelLaws
+mod EndLaws
+mod DepthLaws
+mod LimitLaws
+mod AnswerLaws
+mod RefusedLaws
