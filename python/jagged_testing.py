@@ -13,10 +13,9 @@ from jagged import BUILT_PROGRAM, PROGRAM_VARIABLE, Session, UnbuiltFault
 
 IS_NAMED = bool(os.environ.get(PROGRAM_VARIABLE))
 
-# The lines and operations that the built program answers by the fault `unbuilt`; `step_range` is a
-# range of another step than 1. Take out what is built: a test fails that says so. A program that
-# the environment names is held to everything.
-NOT_YET = frozenset([] if IS_NAMED else "".split())
+# The operations that the built program answers by the fault `unbuilt`: none now. One that is shown
+# before it is built has its name here, and a test fails once it is built.
+NOT_YET: frozenset[str] = frozenset()
 
 # The words of NOT_YET that were answered.
 _answered: set[str] = set()
