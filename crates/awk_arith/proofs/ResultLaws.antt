@@ -29,7 +29,6 @@ Told-fault fault.Size said h = h
 Told-fault fault.Lengths said h = h
 Told-fault fault.Index said h = h
 Told-fault fault.NoMemory said h = tt
-Told-fault fault.Unbuilt said h = h
 
 with_value : (v : Value) (f : Option Fault) (vs : List Value)
     → first_fault_or (Ok v) (refused_or f vs) ≡ refused_or f (v ∷ vs)

@@ -206,7 +206,6 @@ numbers_told p x c f l h = go f h
     go fault.Size e = past fault.Size e
     go fault.Lengths e = past fault.Lengths e
     go fault.Index e = past fault.Index e
-    go fault.Unbuilt e = past fault.Unbuilt e
 
 -- ---- leaves of the primitive itself
 

@@ -6,7 +6,7 @@ use Rattle.awk_types.specs.Value.{Value, int, truth, null, list, row, values_fro
 use Rattle.awk_types.specs.Datum.{arr, one}
 use Rattle.awk_types.specs.declared.primitive.Primitive.TheVariants.{Bool, I64}
 use Rattle.awk_types.specs.declared.fault.Fault.TheVariants.{Unbound, NoField, WrongType, Overflow}
-use Rattle.awk_types.specs.declared.fault.Fault.TheVariants.{Axis, Index, Unbuilt}
+use Rattle.awk_types.specs.declared.fault.Fault.TheVariants.{Axis, Index, WrongType}
 use Rattle.awk_query.specs.ExprTree as tree
 use Rattle.awk_query.specs.ExprTree.{ExprTree, exprs_from}
 use Rattle.awk_query.specs.declared.op.Op.{Op}
@@ -120,7 +120,7 @@ literal_fills : eval env (of op.FillNone (m ∷ great ∷ []) (Place (pos 0) ∷
 literal_fills = refl
 
 -- with other arguments than its own an operation says so after its operands
-other_arguments : eval env (of op.Sort (m ∷ []) []) ≡ Err Unbuilt
+other_arguments : eval env (of op.Sort (m ∷ []) []) ≡ Err WrongType
 other_arguments = refl
 
 other_arguments_of_nothing : eval env (of op.Sort (missing ∷ []) []) ≡ Err (Unbound (codes "z"))

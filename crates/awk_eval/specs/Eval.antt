@@ -7,7 +7,7 @@ use Rattle.awk_types.specs.Datum.{Datum, arr, one}
 use Rattle.awk_types.specs.Settle.{settle}
 use Rattle.awk_types.specs.declared.primitive.Primitive.TheVariants as primitive
 use Rattle.awk_types.specs.declared.fault.Fault.{Fault}
-use Rattle.awk_types.specs.declared.fault.Fault.TheVariants.{Unbound, WrongType, Overflow, Unbuilt}
+use Rattle.awk_types.specs.declared.fault.Fault.TheVariants.{Unbound, WrongType, Overflow}
 use Rattle.awk_query.specs.ExprTree as tree
 use Rattle.awk_query.specs.ExprTree.{ExprTree, ExprTrees, no_exprs, expr}
 use Rattle.awk_query.specs.declared.op.Op.{Op}
@@ -107,13 +107,13 @@ fields_of ns d = choice_of (fields ns) d
 abbrev pub given : {A B : Type 0} → (A → B → Result Datum Fault)
     → Option A → Option B → Result Datum Fault
 given f (Some a) (Some d) = f a d
-given f (Some a) None = Err Unbuilt
-given f None d = Err Unbuilt
+given f (Some a) None = Err WrongType
+given f None d = Err WrongType
 
 -- an operation on its operands alone
 abbrev pub alone : {A : Type 0} → (A → Result Datum Fault) → Option A → Result Datum Fault
 alone f (Some d) = f d
-alone f None = Err Unbuilt
+alone f None = Err WrongType
 
 -- a range of an array, by step 1 or by another
 abbrev pub stepped_of : Stepped → Datum → Result Datum Fault
@@ -138,7 +138,7 @@ pick_of e x = Err WrongType
 abbrev pub paired : (Datum → Datum → Result Datum Fault) → Option (Datum × Datum)
     → Result Datum Fault
 paired f (Some p) = f p.0 p.1
-paired f None = Err Unbuilt
+paired f None = Err WrongType
 
 -- lists padded by nulls to so many items, at an axis, cut or not
 abbrev pub padded_by : ℕ × ℤ × Bool → Datum → Result Datum Fault

@@ -57,28 +57,28 @@ pub(crate) fn apply<'s, N: Kernels, L: Ledger>(
     match op {
         Op::At => match (place(fixed), only(operands)) {
             (Some(i), Some(x)) => at(alloc, x, i, arena, steps),
-            _ => Err(Fault::Unbuilt),
+            _ => Err(Fault::WrongType),
         },
         Op::Range => ranged(alloc, fixed, operands, arena, steps),
         Op::Field => match (text(fixed), only(operands)) {
             (Some(name), Some(x)) => field_of(alloc, x, name.as_str(), steps),
-            _ => Err(Fault::Unbuilt),
+            _ => Err(Fault::WrongType),
         },
         Op::Fields => match (texts(fixed), only(operands)) {
             (Some(names), Some(x)) => fields_of(alloc, x, names, steps),
-            _ => Err(Fault::Unbuilt),
+            _ => Err(Fault::WrongType),
         },
         Op::WithoutField => match (text(fixed), only(operands)) {
             (Some(name), Some(x)) => without_of(alloc, x, name.as_str(), arena, steps),
-            _ => Err(Fault::Unbuilt),
+            _ => Err(Fault::WrongType),
         },
         Op::AtEach => match (place(fixed), only(operands)) {
             (Some(i), Some(x)) => at_each(alloc, x, i, arena, steps),
-            _ => Err(Fault::Unbuilt),
+            _ => Err(Fault::WrongType),
         },
         Op::Pick => match both(operands) {
             Some((e, x)) => pick_of(alloc, e, x, arena, steps),
-            None => Err(Fault::Unbuilt),
+            None => Err(Fault::WrongType),
         },
         Op::Zip => rows_of(alloc, fixed, operands, arena, steps),
         Op::Choose => choice_of(alloc, operands, kernels, arena, steps),
@@ -106,37 +106,37 @@ fn listed<'s, N: Kernels, L: Ledger>(
     match op {
         Op::Num => match (place(fixed), only(operands)) {
             (Some(axis), Some(x)) => num(alloc, x, axis_in(x, axis), arena, steps),
-            _ => Err(Fault::Unbuilt),
+            _ => Err(Fault::WrongType),
         },
         Op::Flatten => match (place(fixed), only(operands)) {
             (Some(axis), Some(x)) => flatten(alloc, x, axis_in(x, axis), arena, steps),
-            _ => Err(Fault::Unbuilt),
+            _ => Err(Fault::WrongType),
         },
         Op::LocalIndex => match (place(fixed), only(operands)) {
             (Some(axis), Some(x)) => local_index(alloc, x, axis_in(x, axis), arena, steps),
-            _ => Err(Fault::Unbuilt),
+            _ => Err(Fault::WrongType),
         },
         Op::Unflatten => match both(operands) {
             Some((x, counts)) => unflatten(alloc, x, counts, arena, steps),
-            None => Err(Fault::Unbuilt),
+            None => Err(Fault::WrongType),
         },
         Op::RunLengths => match only(operands) {
             Some(x) => run_lengths(alloc, x, arena, steps),
-            None => Err(Fault::Unbuilt),
+            None => Err(Fault::WrongType),
         },
         Op::Sort => match (truth(fixed), only(operands)) {
             (Some(up), Some(x)) => sort(alloc, x, up, arena, steps),
-            _ => Err(Fault::Unbuilt),
+            _ => Err(Fault::WrongType),
         },
         Op::Argsort => match (truth(fixed), only(operands)) {
             (Some(up), Some(x)) => argsort(alloc, x, up, arena, steps),
-            _ => Err(Fault::Unbuilt),
+            _ => Err(Fault::WrongType),
         },
         Op::Concatenate => match (place(fixed), data(alloc, operands)?) {
             (Some(axis), Some(xs)) => {
                 concatenate(alloc, axis_among(&xs, axis), &xs, arena, steps)
             }
-            _ => Err(Fault::Unbuilt),
+            _ => Err(Fault::WrongType),
         },
         _ => optioned(alloc, op, fixed, operands, kernels, arena, steps),
     }
@@ -159,33 +159,33 @@ fn optioned<'s, N: Kernels, L: Ledger>(
     match op {
         Op::IsNone => match (place(fixed), only(operands)) {
             (Some(axis), Some(x)) => is_none(alloc, x, axis_in(x, axis), arena, steps),
-            _ => Err(Fault::Unbuilt),
+            _ => Err(Fault::WrongType),
         },
         Op::DropNone => match (place(fixed), only(operands)) {
             (Some(axis), Some(x)) => drop_none(alloc, x, axis_in(x, axis), arena, steps),
-            _ => Err(Fault::Unbuilt),
+            _ => Err(Fault::WrongType),
         },
         Op::Firsts => match (place(fixed), only(operands)) {
             (Some(axis), Some(x)) => firsts(alloc, x, axis_in(x, axis), arena, steps),
-            _ => Err(Fault::Unbuilt),
+            _ => Err(Fault::WrongType),
         },
         Op::Singletons => match (place(fixed), only(operands)) {
             (Some(axis), Some(x)) => singletons(alloc, x, axis_in(x, axis), arena, steps),
-            _ => Err(Fault::Unbuilt),
+            _ => Err(Fault::WrongType),
         },
         Op::PadNone => match (padding(fixed), only(operands)) {
             (Some((n, axis, clip)), Some(x)) => {
                 pad_none(alloc, x, n, axis_in(x, axis), clip, arena, steps)
             }
-            _ => Err(Fault::Unbuilt),
+            _ => Err(Fault::WrongType),
         },
         Op::FillNone => match (place(fixed), filled(operands)) {
             (Some(axis), Some((x, v))) => { fill_none(alloc, x, v, axis_in(x, axis), arena, steps) }
-            _ => Err(Fault::Unbuilt),
+            _ => Err(Fault::WrongType),
         },
         Op::PutMask => match (truth(fixed), both(operands)) {
             (Some(w), Some((x, mask))) => put_mask(alloc, x, mask, w, arena, steps),
-            _ => Err(Fault::Unbuilt),
+            _ => Err(Fault::WrongType),
         },
         _ => tupled(alloc, op, fixed, operands, kernels, arena, steps),
     }
@@ -255,7 +255,7 @@ fn calculated<'s, N: Kernels, L: Ledger>(
     ensures datum { IfOk result (λ made. IsDatum made) }
 {
     let Some((x, y)) = two(operands) else {
-        return Err(Fault::Unbuilt);
+        return Err(Fault::WrongType);
     };
     match op {
         Binary::Calculate(op) => binary(alloc, op, x, y, kernels, arena, steps),
@@ -279,7 +279,7 @@ fn joined<'s, N: Kernels, L: Ledger>(
 {
     match both(operands) {
         Some((x, y)) => logical(alloc, op, x, y, kernels, arena, steps),
-        None => Err(Fault::Unbuilt),
+        None => Err(Fault::WrongType),
     }
 }
 
@@ -298,7 +298,7 @@ fn on_leaves<'s, N: Kernels, L: Ledger>(
     ensures datum { IfOk result (λ made. IsDatum made) }
 {
     let Some(x) = only(operands) else {
-        return Err(Fault::Unbuilt);
+        return Err(Fault::WrongType);
     };
     match op {
         Unary::Not => not(alloc, x, kernels, arena, steps),
@@ -322,7 +322,7 @@ fn reducing<'s, N: Kernels, L: Ledger>(
 {
     match (reducer_of(op), only(operands)) {
         (Some(how), Some(x)) => reduce(alloc, how, x, kernels, arena, steps),
-        _ => Err(Fault::Unbuilt),
+        _ => Err(Fault::WrongType),
     }
 }
 

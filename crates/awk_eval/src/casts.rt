@@ -36,6 +36,6 @@ pub(crate) fn cast_of<'s, N: Kernels, L: Ledger>(
 {
     match (primitive(fixed), only(operands)) {
         (Some(to), Some(x)) => cast(alloc, x, to, kernels, arena, steps),
-        _ => Err(Fault::Unbuilt),
+        _ => Err(Fault::WrongType),
     }
 }

@@ -30,6 +30,6 @@ pub(crate) fn choice_of<'s, N: Kernels, L: Ledger>(
 {
     match three(operands) {
         Some((c, x, y)) => choose(alloc, c, x, y, kernels, arena, steps),
-        None => Err(Fault::Unbuilt),
+        None => Err(Fault::WrongType),
     }
 }

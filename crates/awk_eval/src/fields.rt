@@ -32,6 +32,6 @@ pub(crate) fn put_field<'s, L: Ledger>(
 {
     match (text(fixed), both(operands)) {
         (Some(name), Some((x, v))) => with_field(alloc, x, name.as_str(), v, arena, steps),
-        _ => Err(Fault::Unbuilt),
+        _ => Err(Fault::WrongType),
     }
 }

@@ -35,6 +35,6 @@ pub(crate) fn histogram_of<'s, L: Ledger>(
 {
     match (edges(fixed), only(operands)) {
         (Some(edges), Some(x)) => hist(alloc, x, edges, each, arena, steps),
-        _ => Err(Fault::Unbuilt),
+        _ => Err(Fault::WrongType),
     }
 }

@@ -33,7 +33,7 @@ pub(crate) fn rows_of<'s, L: Ledger>(
 {
     match (named(fixed), data(alloc, operands)?) {
         (Some((depth, names)), Some(xs)) => zip(alloc, depth, Some(names), &xs, arena, steps),
-        _ => Err(Fault::Unbuilt),
+        _ => Err(Fault::WrongType),
     }
 }
 
@@ -52,6 +52,6 @@ pub(crate) fn tuples_of<'s, L: Ledger>(
 {
     match (depth(fixed), data(alloc, operands)?) {
         (Some(depth), Some(xs)) => zip(alloc, depth, None, &xs, arena, steps),
-        _ => Err(Fault::Unbuilt),
+        _ => Err(Fault::WrongType),
     }
 }

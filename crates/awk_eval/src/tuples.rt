@@ -38,7 +38,7 @@ pub(crate) fn combinations_of<'s, L: Ledger>(
             let axis = axis_in(x, axis);
             combinations(alloc, n, replacement, axis, x, places, arena, steps)
         }
-        _ => Err(Fault::Unbuilt),
+        _ => Err(Fault::WrongType),
     }
 }
 
@@ -60,6 +60,6 @@ pub(crate) fn product_of<'s, L: Ledger>(
         (Some(axis), Some(xs)) => {
             cartesian(alloc, axis_among(&xs, axis), &xs, places, arena, steps)
         }
-        _ => Err(Fault::Unbuilt),
+        _ => Err(Fault::WrongType),
     }
 }

@@ -43,12 +43,12 @@ pub(crate) fn ranged<'s, L: Ledger>(
         → Takes s 1 steps.old steps.new result }
 {
     let Some(x) = only(operands) else {
-        return Err(Fault::Unbuilt);
+        return Err(Fault::WrongType);
     };
     match (bounds(fixed), with_step(fixed)) {
         (Some((lo, hi)), _) => range_of(alloc, x, lo, hi, steps),
         (None, Some(s)) => step_range(alloc, x, s.lo, s.hi, s.step, arena, steps),
-        (None, None) => Err(Fault::Unbuilt),
+        (None, None) => Err(Fault::WrongType),
     }
 }
 

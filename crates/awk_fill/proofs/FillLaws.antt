@@ -21,7 +21,7 @@ use Rattle.awk_types.specs.ItemLimit.{item_limit}
 use Rattle.awk_types.specs.declared.fault.Fault.{Fault}
 use Rattle.awk_types.specs.declared.fault.Fault.TheVariants.{Unbound, NoField, Axis, WrongType}
 use Rattle.awk_types.specs.declared.fault.Fault.TheVariants.{Overflow, Zero, Depth, Size, Lengths}
-use Rattle.awk_types.specs.declared.fault.Fault.TheVariants.{Index, Unbuilt, NoMemory}
+use Rattle.awk_types.specs.declared.fault.Fault.TheVariants.{Index, NoMemory}
 use Rattle.awk_types.specs.declared.name.Name.{Name}
 use Rattle.awk_types.specs.declared.primitive.Primitive.{Primitive}
 use Rattle.awk_types.proofs.SimpleLaws.{simple_twice, simple_is_simple, has_each, null_in_option}
@@ -427,9 +427,6 @@ refused_lengths said e = ap no_filler e
 pub refused_index : IsRefused (Err Index) WrongType
 refused_index said e = ap no_filler e
 
-pub refused_unbuilt : IsRefused (Err Unbuilt) WrongType
-refused_unbuilt said e = ap no_filler e
-
 pub ruleset refusing = (
   refused_ok,
   refused_axis,
@@ -443,7 +440,6 @@ pub ruleset refusing = (
   refused_size,
   refused_lengths,
   refused_index,
-  refused_unbuilt,
 )
 
 -- ---- the call

@@ -44,4 +44,3 @@ only_memory fault.Size h = cc
 only_memory fault.Lengths h = cc
 only_memory fault.Index h = cc
 only_memory fault.NoMemory h = refl
-only_memory fault.Unbuilt h = cc

@@ -4,7 +4,7 @@ use Rattle.serde_json.specs.Data.{Data}
 use Rattle.awk_types.specs.DataType.{Name}
 use Rattle.awk_types.specs.Datum.{Datum, arr, one}
 use Rattle.awk_types.specs.declared.fault.Fault.{Fault}
-use Rattle.awk_types.specs.declared.fault.Fault.TheVariants.{Size, WrongType, Unbuilt}
+use Rattle.awk_types.specs.declared.fault.Fault.TheVariants.{Size, WrongType}
 use Rattle.awk_edge.specs.Units.{Framed}
 use Rattle.awk_pack.specs.Canon.{Pack, canon}
 use Rattle.awk_pack.specs.declared.packed.PackFault.{PackFault}
@@ -69,7 +69,7 @@ abbrev pub reply_line : Environment → Line → List ℕ → Reply
 reply_line variables (lines.load n form length big buffers) raw =
     reply_bind variables n (line_loaded form length big buffers raw)
 reply_line variables lines.session raw = answering variables begun
-reply_line variables (lines.values n list) raw = answering variables (fault (Evaluation Unbuilt))
+reply_line variables (lines.values n list) raw = answering variables (fault (Evaluation WrongType))
 reply_line variables (lines.bind n e) raw = reply_bind variables n (evaluated (eval variables e))
 reply_line variables (lines.show e) raw = answering variables (telling value (eval variables e))
 reply_line variables (lines.type_of e) raw =

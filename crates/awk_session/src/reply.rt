@@ -126,7 +126,7 @@ fn reply_line<'v, 's, 'a: 's, L: Ledger>(
         }
         Line::Session => Ok(Answer::Session),
         Line::Let { name, be } => bind_made(alloc, env, name, be, kept, steps),
-        Line::Values { .. } => Ok(Answer::Fault(AnswerFault::Evaluation(Fault::Unbuilt))),
+        Line::Values { .. } => Ok(Answer::Fault(AnswerFault::Evaluation(Fault::WrongType))),
         Line::Show(e) => show(alloc, env, e, arena, steps),
         Line::TypeOf(e) => show_type(alloc, env, e, arena, steps),
         Line::Pack(e) => show_packed(alloc, env, e, arena, steps),

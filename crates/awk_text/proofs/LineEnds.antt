@@ -208,5 +208,4 @@ fault_text-unbroken fault.Depth = literal-unbroken (codes "{\"fault\":\"depth\"}
 fault_text-unbroken fault.Size = literal-unbroken (codes "{\"fault\":\"size\"}") refl
 fault_text-unbroken fault.Lengths = literal-unbroken (codes "{\"fault\":\"lengths\"}") refl
 fault_text-unbroken fault.Index = literal-unbroken (codes "{\"fault\":\"index\"}") refl
-fault_text-unbroken fault.Unbuilt = literal-unbroken (codes "{\"fault\":\"unbuilt\"}") refl
 fault_text-unbroken fault.NoMemory = tt

@@ -17,5 +17,4 @@ fault_text fault.Depth = codes "{\"fault\":\"depth\"}"
 fault_text fault.Size = codes "{\"fault\":\"size\"}"
 fault_text fault.Lengths = codes "{\"fault\":\"lengths\"}"
 fault_text fault.Index = codes "{\"fault\":\"index\"}"
-fault_text fault.Unbuilt = codes "{\"fault\":\"unbuilt\"}"
 fault_text fault.NoMemory = []

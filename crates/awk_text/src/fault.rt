@@ -29,7 +29,6 @@ pub fn write_fault<K: Sink>(fault: &Fault, out: &mut Out, sink: &mut K) -> Resul
         Fault::Size => out.put(sink, b"{\"fault\":\"size\"}"),
         Fault::Lengths => out.put(sink, b"{\"fault\":\"lengths\"}"),
         Fault::Index => out.put(sink, b"{\"fault\":\"index\"}"),
-        Fault::Unbuilt => out.put(sink, b"{\"fault\":\"unbuilt\"}"),
         Fault::NoMemory => unreachable!(),
     }
 }

@@ -26,8 +26,6 @@ pub enum Fault {
     Lengths,
     /// A place is out of range.
     Index,
-    /// The operation is not built yet.
-    Unbuilt,
     /// Memory is wanting.
     NoMemory,
 }

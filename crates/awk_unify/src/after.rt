@@ -13,7 +13,7 @@ use std::alloc::Global;
 /// What f does, and then g.
 #[cycle(after)]
 #[tactic(auto, using(crate::proofs::Afters::afters_laws))]
-pub(crate) fn after(alloc: Global, g: &Lift, f: &Lift) -> Result<Lift, NoMemory>
+pub fn after(alloc: Global, g: &Lift, f: &Lift) -> Result<Lift, NoMemory>
     ensures { IfOk result (λ h. lift_of h ≡ then (lift_of g.now) (lift_of f.now)) }
 {
     match g {

@@ -2,7 +2,7 @@
 //!
 //! `unify` joins two types and `unify_all` several from the left, within the limits of a type;
 //! `unify_unlimited` leaves the limits to its caller. A `Lift` tells how the values of one of the
-//! types become values of the joined one.
+//! types become values of the joined one, and `lift_after` what two do one after another.
 #![tactic(auto)]
 
 mod after;
@@ -18,6 +18,7 @@ mod several;
 mod unified;
 mod unifying;
 
+pub use after::after as lift_after;
 pub use fields::field_names;
 pub use lift::{Lift, Lifts, copy_lift};
 pub use places::Places;
