@@ -6,6 +6,7 @@ ghost use Rattle.awk_layout.specs.Typing.{array_datum};
 ghost use Rattle.awk_plain.specs.Plain as spec;
 ghost use Rattle.serde_json.specs.View.{view};
 
+use crate::values::items_array;
 use awk_lanes::{Arena, Steps};
 use awk_layout::Array;
 use awk_plain::plain_type;
@@ -29,5 +30,8 @@ pub fn from_values<'a, L: Ledger>(
     ensures { Gives array_datum fault_told result (spec.from_values (view v.now)) }
 {
     let _ = plain_type(alloc, v)?;
-    Err(Fault::NoMemory)
+    match v {
+        Value::Array(items) => Ok(items_array(alloc, items, arena, steps)?),
+        _ => unreachable!(),
+    }
 }

@@ -4,5 +4,9 @@
 #![tactic(auto)]
 
 mod building;
+mod joining;
+mod lifts;
+mod single;
+mod values;
 
 pub use building::from_values;

@@ -3,3 +3,4 @@ pub mod ItemLaws
 pub mod TypedLaws
 pub mod TypeLaws
 pub mod TypeSteps
+pub mod JudgedLaws

@@ -3,38 +3,19 @@ use Rattle.std.proofs.Common.{◌≡◌, suc, List, [], ◌∷◌, ◌++◌, len
 use Rattle.std.specs.List.{AllByRecursion}
 use Rattle.serde_json.specs.Data.{Data, null, boolean, number, string, array, object, Items, no_items, item, Members, no_members, member}
 use Rattle.awk_types.specs.DataType.{DataType, unknown, type_list, types_from}
-use Rattle.awk_types.specs.Has.{Has, HasRow, Holds}
+use Rattle.awk_types.specs.Has.{Has, HasRow}
 use Rattle.awk_types.specs.IsType.{IsType, AreTypes}
-use Rattle.awk_types.specs.Names.{AreDistinct}
 use Rattle.awk_types.specs.Simple.{IsSimple, AreSimple}
 use Rattle.awk_types.specs.Value.{Value, value_list, values_from}
-use Rattle.awk_types.specs.declared.primitive.Primitive.TheVariants.{I64}
 use Rattle.awk_unify.specs.Carry.{Carry, carried}
 use Rattle.awk_unify.specs.Unify.{unification}
 use Rattle.awk_unify.proofs.CarriedLaws.{IsCarried, Takes}
 use Rattle.awk_unify.proofs.SimpleLaws.{unify_simple}
 use Rattle.awk_unify.proofs.TypeLaws.{unify_type}
 use Rattle.awk_unify.proofs.TypingLaws.{unify_carries}
-use Rattle.awk_plain.specs.Plain.{plain_type, plain_value, items_type, items_values, names_in, member_types, member_values, number_in}
+use Rattle.awk_plain.specs.Plain.{plain_type, plain_value, items_type, items_values, names_in, member_types, member_values}
+use Rattle.awk_plain.specs.IsPlain.{IsPlain, ArePlain, HavePlain}
 use Rattle.awk_plain.proofs.ItemLaws.{AreTyped}
-
--- no text, whole numbers that fit int64, and objects with each name once
-abbrev mutual
-  pub IsPlain : Data → Type 0
-  IsPlain null = Unit {0}
-  IsPlain (boolean b) = Unit {0}
-  IsPlain (number n) = Holds I64 (number_in n)
-  IsPlain (string s) = ⊥
-  IsPlain (array ds) = ArePlain ds
-  IsPlain (object ms) = AreDistinct (names_in ms) × HasPlain ms
-
-  pub ArePlain : Items → Type 0
-  ArePlain no_items = Unit {0}
-  ArePlain (item d ds) = IsPlain d × ArePlain ds
-
-  pub HasPlain : Members → Type 0
-  HasPlain no_members = Unit {0}
-  HasPlain (member key d ms) = IsPlain d × HasPlain ms
 
 list_again : (vs : List Value) → value_list (values_from vs) ≡ vs
 list_again [] = refl
@@ -80,7 +61,7 @@ mutual
       items_typed r.typ (map (carried r.left) vs ++ carried r.right (plain_value d) ∷ []) ds (unify_type t b y one.0) (unify_simple t b s one.1)
       (all_push r.typ (map (carried r.left) vs) (carried r.right (plain_value d)) (all_carried t r.typ r.left vs c.to_left a) (c.to_right (plain_value d) one.2).1) p.1
 
-  pub members_typed : (ms : Members) → HasPlain ms → AreTypes (types_from (member_types ms)) × AreSimple (types_from (member_types ms)) × HasRow (types_from (member_types ms)) (member_values ms)
+  pub members_typed : (ms : Members) → HavePlain ms → AreTypes (types_from (member_types ms)) × AreSimple (types_from (member_types ms)) × HasRow (types_from (member_types ms)) (member_values ms)
   members_typed no_members p = (tt, tt, tt)
   members_typed (member key d ms) p =
       let one = plain_typed d p.0 in

@@ -1,3 +1,4 @@
 pub mod Plain
+pub mod IsPlain
 pub mod Judged
 pub mod Types
