@@ -15,7 +15,7 @@ use Rattle.awk_layout.specs.declared.datum.Operand.{Operand}
 use Rattle.awk_leaves.specs.Table.{binary_judged}
 use Rattle.awk_leaves.specs.Values.{binary_values}
 use Rattle.awk_leaves.specs.declared.operation.Binary.{Binary}
-use Rattle.awk_pair.specs.Pairs.{has_wrong_end}
+use Rattle.awk_pair_operands.specs.Pairs.{has_wrong_end}
 use Rattle.awk_arith.specs.AtLeaves.{at_leaves, in_primitive, first_fault, value_or_null}
 use Rattle.awk_arith.specs.Binary.{data_in, leaf_of, at_end, both_data, binary_row, judged_binary}
 use Rattle.awk_arith.specs.Binary.{binary_of}

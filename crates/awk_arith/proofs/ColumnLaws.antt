@@ -17,7 +17,7 @@ use Rattle.awk_layout.specs.declared.datum.Operand.{Operand}
 use Rattle.awk_layout.specs.declared.datum.Operand.TheVariants as operand
 use Rattle.awk_layout.proofs.ArrayItems.{length-array_items}
 use Rattle.awk_leaves.specs.declared.leaf_type.LeafType.TheVariants.{Unknown}
-use Rattle.awk_pair.specs.Pairs.{leaf_types, typs, has_wrong_end}
+use Rattle.awk_pair_operands.specs.Pairs.{leaf_types, typs, has_wrong_end}
 use Rattle.awk_arith.specs.AtLeaves.{leaf_in}
 use Rattle.awk_arith.specs.Binary.{data_in, both_data, leaf_of, at_end}
 use Rattle.awk_arith.specs.Sides.{AreLeaves, IsAmong, data_before, column_at, leaf_at, values_at}

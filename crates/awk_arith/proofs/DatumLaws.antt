@@ -13,7 +13,7 @@ use Rattle.awk_layout.specs.Typing.{layout_type, array_type, array_items}
 use Rattle.awk_layout.specs.Valid.{len}
 use Rattle.awk_layout.specs.declared.datum.Datum.TheVariants.{Arr, One}
 use Rattle.awk_layout.proofs.ArrayItems.{length-array_items}
-use Rattle.awk_pair.specs.Pairs.{pair_values, some_array, datum_from}
+use Rattle.awk_pair_operands.specs.Pairs.{pair_values, some_array, datum_from}
 
 -- an array of one item has its first alone
 pub items-one : (x : Layout) → len x ≡ 1 → array_items x ≡ first_item x ∷ []

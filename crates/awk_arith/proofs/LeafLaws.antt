@@ -6,10 +6,11 @@ use Rattle.awk_types.specs.DataType.{DataType, unknown, leaf, var, reg, rec, tup
 use Rattle.awk_types.specs.Datum.{Datum}
 use Rattle.awk_types.specs.Predicates.{is_leaf}
 use Rattle.awk_types.specs.Simple.{present}
-use Rattle.awk_pair.specs.Paired.{Reach, to_leaves, to_depth, types_at_ends, is_wrong, is_wrong_end}
-use Rattle.awk_pair.specs.Paired.{end_types, all_levels}
-use Rattle.awk_pair.specs.Pairs.{has_wrong_end, leaf_types, typs, item_type, reach, below}
-use Rattle.awk_pair_levels.specs.Levels.{opens, item_of, item_types}
+use Rattle.awk_pair_operands.specs.Paired.{Reach, to_leaves, to_depth, types_at_ends, is_wrong}
+use Rattle.awk_pair_operands.specs.Paired.{is_wrong_end}
+use Rattle.awk_pair_operands.specs.Paired.{end_types, all_levels}
+use Rattle.awk_pair_operands.specs.Pairs.{has_wrong_end, leaf_types, typs, item_type, reach, below}
+use Rattle.awk_pair_sides.specs.Levels.{opens, item_of, item_types}
 use Rattle.awk_arith.specs.AtLeaves.{leaf_in}
 
 leaf_in-present : (t : DataType) → leaf_in (present t) ≡ leaf_in t

@@ -21,9 +21,9 @@ use Rattle.awk_layout.specs.declared.datum.Operand.{Operand}
 use Rattle.awk_leaves.specs.Table.{binary_judged}
 use Rattle.awk_leaves.specs.Values.{binary_values}
 use Rattle.awk_leaves.specs.declared.operation.Binary.{Binary}
-use Rattle.awk_pair.specs.Answer.{single_or_fault, shared_ends}
-use Rattle.awk_pair.specs.First.{all_data}
-use Rattle.awk_pair.specs.Pairs.{has_wrong_end, leaf_types, pair_refused, some_array}
+use Rattle.awk_pair_operands.specs.Answer.{single_or_fault, shared_ends}
+use Rattle.awk_pair_operands.specs.First.{all_data}
+use Rattle.awk_pair_operands.specs.Pairs.{has_wrong_end, leaf_types, pair_refused, some_array}
 use Rattle.awk_pointwise.specs.Sides.{lane_values}
 use Rattle.awk_pair_types.specs.Limits.{limit_refused}
 use Rattle.awk_arith.specs.AtLeaves.{result_type, row_values, value_or_null}

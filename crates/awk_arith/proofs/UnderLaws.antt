@@ -21,8 +21,8 @@ use Rattle.awk_layout.specs.Valid.{len}
 use Rattle.awk_layout.proofs.ArrayItems.{length-array_items}
 use Rattle.awk_frames.specs.Framed.{IsFrame}
 use Rattle.awk_frames.specs.Shape.{Shape, leaves, items, missing}
-use Rattle.awk_pair.specs.Answer.{single_or_fault, shared_ends}
-use Rattle.awk_pair.specs.Pairs.{pair_refused, some_array}
+use Rattle.awk_pair_operands.specs.Answer.{single_or_fault, shared_ends}
+use Rattle.awk_pair_operands.specs.Pairs.{pair_refused, some_array}
 use Rattle.awk_pointwise.specs.Sides.{lane_values}
 use Rattle.awk_pair_types.specs.Limits.{limit_refused}
 use Rattle.awk_arith.specs.AtLeaves.{result_type, first_fault, value_or_null}

@@ -11,8 +11,9 @@ use Rattle.awk_types.specs.declared.primitive.Primitive.{Primitive}
 use Rattle.awk_leaves.specs.declared.leaf_type.LeafType.{LeafType}
 use Rattle.awk_leaves.specs.declared.leaf_type.LeafType.TheVariants.{Of, Unknown}
 use Rattle.awk_frames.specs.Framed.{over, over_type}
-use Rattle.awk_pair.specs.Answer.{shared_ends}
-use Rattle.awk_pair.specs.Pairs.{pair_refused, pair_type, pair_values, some_array, datum_from}
+use Rattle.awk_pair_operands.specs.Answer.{shared_ends}
+use Rattle.awk_pair_operands.specs.Pairs.{pair_refused, pair_type, pair_values, some_array}
+use Rattle.awk_pair_operands.specs.Pairs.{datum_from}
 use Rattle.awk_pair_types.specs.Limits.{limit_refused}
 
 -- what the leaves of a type are of, through lists and options. A pairing to leaves is refused

@@ -13,7 +13,7 @@ use Rattle.awk_leaves.specs.Values.{binary_at}
 use Rattle.awk_leaves.specs.declared.leaf_type.LeafType.{LeafType}
 use Rattle.awk_leaves.specs.declared.leaf_type.LeafType.TheVariants.{Literal}
 use Rattle.awk_leaves.specs.declared.operation.Binary.{Binary}
-use Rattle.awk_pair.specs.Pairs.{has_wrong_end, item_type}
+use Rattle.awk_pair_operands.specs.Pairs.{has_wrong_end, item_type}
 use Rattle.awk_arith.specs.AtLeaves.{leaf_in, at_leaves, in_primitive}
 
 -- ---- operands: a literal is no datum, and stands at each end of what the data share

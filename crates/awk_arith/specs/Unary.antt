@@ -9,7 +9,7 @@ use Rattle.awk_columns.specs.Columns.{part_at}
 use Rattle.awk_leaves.specs.Table.{unary_judged}
 use Rattle.awk_leaves.specs.Values.{unary_at}
 use Rattle.awk_leaves.specs.declared.operation.Unary.{Unary}
-use Rattle.awk_pair.specs.Pairs.{has_wrong_end, item_type}
+use Rattle.awk_pair_operands.specs.Pairs.{has_wrong_end, item_type}
 use Rattle.awk_arith.specs.AtLeaves.{leaf_in, at_leaves, in_primitive}
 
 abbrev pub unary_row : Unary → Primitive → Value → Result Value Fault

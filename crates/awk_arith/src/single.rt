@@ -4,8 +4,8 @@ ghost use Rattle.awk_types.specs.Faults.{fault_told};
 ghost use Rattle.awk_types.specs.Gives.{Gives};
 ghost use Rattle.awk_layout.specs.Datum.{datum_of, IsDatum};
 ghost use Rattle.awk_leaves.specs.declared.operation.Unary.TheVariants.{Not, Negate, Absolute};
-ghost use Rattle.awk_pair.specs.First.{all_data};
-ghost use Rattle.awk_pair.specs.Pairs.{has_wrong_end, item_type};
+ghost use Rattle.awk_pair_operands.specs.First.{all_data};
+ghost use Rattle.awk_pair_operands.specs.Pairs.{has_wrong_end, item_type};
 ghost use Rattle.awk_arith.specs.AtLeaves.{leaf_in};
 ghost use Rattle.awk_arith.specs.Unary.{judged_unary, unary_of};
 

@@ -26,9 +26,9 @@ use Rattle.awk_leaves.specs.Table.{choice_judged}
 use Rattle.awk_leaves.specs.Values.{chosen_at, chosen_values, choice_values, in_judged}
 use Rattle.awk_leaves.specs.declared.leaf_type.LeafType.{LeafType}
 use Rattle.awk_leaves.specs.declared.leaf_type.LeafType.TheVariants.{Unknown}
-use Rattle.awk_pair.specs.Pairs.{typs, item_type, leaf_types}
-use Rattle.awk_pair_levels.specs.Levels.{some_option}
-use Rattle.awk_pair_levels.proofs.TestLaws.{and_both, or_none}
+use Rattle.awk_pair_operands.specs.Pairs.{typs, item_type, leaf_types}
+use Rattle.awk_pair_sides.specs.Levels.{some_option}
+use Rattle.awk_pair_sides.proofs.TestLaws.{and_both, or_none}
 use Rattle.awk_arith.specs.AtLeaves.{leaf_in}
 use Rattle.awk_arith.specs.Binary.{data_in, leaf_of, at_end}
 use Rattle.awk_arith.specs.Sides.{IsAmong, data_before, column_at, ends_of, leaf_at, values_at}

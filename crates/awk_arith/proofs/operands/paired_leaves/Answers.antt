@@ -13,9 +13,9 @@ use Rattle.awk_layout.specs.declared.datum.Datum.TheVariants.{Arr, One}
 use Rattle.awk_leaves.specs.Table.{binary_judged}
 use Rattle.awk_frames.specs.Framed.{IsFrame, over_type}
 use Rattle.awk_frames.specs.View.{shape_of}
-use Rattle.awk_pair.specs.Answer.{shared_ends}
-use Rattle.awk_pair.specs.First.{all_data}
-use Rattle.awk_pair.specs.Pairs.{pair_type, pair_values}
+use Rattle.awk_pair_operands.specs.Answer.{shared_ends}
+use Rattle.awk_pair_operands.specs.First.{all_data}
+use Rattle.awk_pair_operands.specs.Pairs.{pair_type, pair_values}
 use Rattle.awk_pair_types.specs.Limits.{limit_refused}
 use Rattle.awk_arith.specs.AtLeaves.{result_type, row_values, value_or_null}
 use Rattle.awk_arith.specs.Binary.{leaf_of, binary_row, judged_binary}
