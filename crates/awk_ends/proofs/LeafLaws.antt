@@ -10,7 +10,7 @@ use Rattle.awk_pair.specs.Paired.{Reach, to_leaves, to_depth, types_at_ends, is_
 use Rattle.awk_pair.specs.Paired.{end_types, all_levels}
 use Rattle.awk_pair.specs.Pairs.{has_wrong_end, leaf_types, typs, item_type, reach, below}
 use Rattle.awk_pair_levels.specs.Levels.{opens, item_of, item_types}
-use Rattle.awk_arith.specs.AtLeaves.{leaf_in}
+use Rattle.awk_ends.specs.Operands.{leaf_in}
 
 leaf_in-present : (t : DataType) → leaf_in (present t) ≡ leaf_in t
 leaf_in-present unknown = refl
