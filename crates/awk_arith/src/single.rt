@@ -6,12 +6,12 @@ ghost use Rattle.awk_layout.specs.Datum.{datum_of, IsDatum};
 ghost use Rattle.awk_leaves.specs.declared.operation.Unary.TheVariants.{Not, Negate, Absolute};
 ghost use Rattle.awk_pair_operands.specs.First.{all_data};
 ghost use Rattle.awk_pair_operands.specs.Pairs.{has_wrong_end, item_type};
-ghost use Rattle.awk_arith.specs.AtLeaves.{leaf_in};
+ghost use Rattle.awk_ends.specs.Operands.{leaf_in};
 ghost use Rattle.awk_arith.specs.Unary.{judged_unary, unary_of};
 
-use crate::operands::leaf_in;
-use crate::result::{datum_from, result_typ};
+use crate::result::result_typ;
 use crate::sides::leaf_results;
+use awk_ends::{datum_from, leaf_in};
 use awk_frames::framed;
 use awk_kernels::Kernels;
 use awk_lanes::{Arena, NoMemory, Steps};

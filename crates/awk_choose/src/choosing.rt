@@ -14,14 +14,14 @@ ghost use Rattle.awk_frames.specs.View.{shape_of};
 ghost use Rattle.awk_pair_operands.specs.First.{all_data};
 ghost use Rattle.awk_pair_operands.specs.Pairs.{leaf_types, pair_type, item_type};
 ghost use Rattle.awk_pair_sides.specs.Levels.{some_option};
-ghost use Rattle.awk_arith.specs.AtLeaves.{leaf_in};
-ghost use Rattle.awk_arith.specs.Sides.{IsAmong, data_before};
+ghost use Rattle.awk_ends.specs.Operands.{leaf_in};
+ghost use Rattle.awk_ends.specs.Columns.{IsAmong, data_before};
 ghost use Rattle.awk_choose.specs.Choice.{far, choice_data, are_leaves, judged_choice, choose_of};
 ghost use Rattle.awk_choose.specs.Ends.{AreLeafColumns, columns_judged, columns_said};
 
 use crate::ends::{chosen_leaves, column_end, operand_end};
 use crate::types::{are_leaves, chosen_node, result_typ};
-use awk_arith::{data_before, datum_from, leaf_in, leaf_type, push_datum};
+use awk_ends::{data_before, datum_from, leaf_in, leaf_type, push_datum};
 use awk_frames::framed;
 use awk_kernels::Kernels;
 use awk_lanes::{Arena, NoMemory, Steps};

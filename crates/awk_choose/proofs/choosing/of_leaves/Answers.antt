@@ -14,7 +14,7 @@ use Rattle.awk_pair_operands.specs.Answer.{shared_ends}
 use Rattle.awk_pair_operands.specs.First.{all_data}
 use Rattle.awk_pair_operands.specs.Pairs.{pair_type, pair_values}
 use Rattle.awk_pair_types.specs.Limits.{limit_refused}
-use Rattle.awk_arith.proofs.DatumLaws.{IsMade, datum_made}
+use Rattle.awk_ends.proofs.DatumLaws.{IsMade, datum_made}
 use Rattle.awk_choose.specs.Choice.{far, choice_row, result_type, result_values, judged_choice}
 use Rattle.awk_choose.proofs.ChosenLaws.{IsJudged, is_judged, told_paired, columns, told_ends}
 use Rattle.awk_choose.proofs.ChosenLaws.{items, long, type_is, is_made, answer}

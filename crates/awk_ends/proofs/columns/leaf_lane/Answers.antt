@@ -3,8 +3,8 @@ use Rattle.awk_layout.specs.Typing.{array_items}
 use Rattle.awk_open.specs.Opened.{IsOpened}
 use Rattle.awk_open.specs.declared.opening.Opened.TheVariants as opened
 use Rattle.awk_columns.specs.InOrder.{IsInOrder}
-use Rattle.awk_arith.proofs.SideLaws.{lane_values-at}
-use Rattle.awk_arith.proofs.sides.leaf_lane.Goals as goal
+use Rattle.awk_ends.proofs.LaneLaws.{lane_values-at}
+use Rattle.awk_ends.proofs.columns.leaf_lane.Goals as goal
 
 pub returns-in-Leaf : goal.returns-in-Leaf
 returns-in-Leaf g c =

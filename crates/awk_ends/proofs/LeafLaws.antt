@@ -11,7 +11,7 @@ use Rattle.awk_pair_operands.specs.Paired.{is_wrong_end}
 use Rattle.awk_pair_operands.specs.Paired.{end_types, all_levels}
 use Rattle.awk_pair_operands.specs.Pairs.{has_wrong_end, leaf_types, typs, item_type, reach, below}
 use Rattle.awk_pair_sides.specs.Levels.{opens, item_of, item_types}
-use Rattle.awk_arith.specs.AtLeaves.{leaf_in}
+use Rattle.awk_ends.specs.Operands.{leaf_in}
 
 leaf_in-present : (t : DataType) → leaf_in (present t) ≡ leaf_in t
 leaf_in-present unknown = refl
