@@ -1,4 +1,4 @@
-"""The examples of docs/python.md, and those in Python of the README, with the pictures they make."""
+"""The examples in Python of docs/python.md and of the README, with the pictures they make."""
 
 from __future__ import annotations
 
