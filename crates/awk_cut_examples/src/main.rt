@@ -14,11 +14,10 @@ use std::process::ExitCode;
 use std::sync::ledger::{Blank, Ledger};
 
 // One list of two int8 at offsets 0 and 2. The key between the others has no bytes.
-const START: &[u8] =
-    b"{\"session\":2}\n{\"load\":\"x\",\"form\":{\"class\":\"ListOffsetArray\",\"offsets\":\"i32\",";
+const START: &[u8] = b"{\"session\":2}\n{\"load\":\"x\",\"form\":{\"class\":\"ListOffsetArray\",";
 
 const CONTENT: &[u8] =
-    b"\"content\":{\"class\":\"NumpyArray\",\"primitive\":\"int8\",\"form_key\":\"node1\"},";
+    b"\"offsets\":\"i32\",\"content\":{\"class\":\"NumpyArray\",\"primitive\":\"int8\",\"form_key\":\"node1\"},";
 
 const ORDER: &[u8] = b"\"form_key\":\"node0\"},\"length\":1,\"byteorder\":\">\",";
 
