@@ -16,8 +16,9 @@ use std::sync::ledger::{Blank, Ledger};
 // One list of two int8 at offsets 0 and 2. The key between the others has no bytes.
 const START: &[u8] = b"{\"session\":2}\n{\"load\":\"x\",\"form\":{\"class\":\"ListOffsetArray\",";
 
-const CONTENT: &[u8] =
-    b"\"offsets\":\"i32\",\"content\":{\"class\":\"NumpyArray\",\"primitive\":\"int8\",\"form_key\":\"node1\"},";
+const OFFSETS: &[u8] = b"\"offsets\":\"i32\",\"content\":{\"class\":\"NumpyArray\",";
+
+const CONTENT: &[u8] = b"\"primitive\":\"int8\",\"form_key\":\"node1\"},";
 
 const ORDER: &[u8] = b"\"form_key\":\"node0\"},\"length\":1,\"byteorder\":\">\",";
 
@@ -62,6 +63,7 @@ fn words(alloc: Global) -> Result<Vec<String>, NoMemory> {
 fn source(alloc: Global, raw: &[u8]) -> Result<MemSource, NoMemory> {
     let mut session = Vec::new(alloc);
     session.extend_from_slice(START)?;
+    session.extend_from_slice(OFFSETS)?;
     session.extend_from_slice(CONTENT)?;
     session.extend_from_slice(ORDER)?;
     session.extend_from_slice(PARTS)?;
