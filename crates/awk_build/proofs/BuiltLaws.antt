@@ -79,7 +79,8 @@ items_made ds xs x h e f =
           ∙ sym (list_carried ds (are_typed ds plain));
     }
 
-pub list_made : (ds : Items) (x y : Layout) → IsArrayOfItems ds x → array_type y ≡ var (array_type x)
+pub list_made : (ds : Items) (x y : Layout) → IsArrayOfItems ds x → array_type y
+    ≡ var (array_type x)
     → array_items y ≡ list (values_from (array_items x)) ∷ [] → IsArrayOf (array ds) y
 list_made ds x y h e f = record {
   plain = h.plain;

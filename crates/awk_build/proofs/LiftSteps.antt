@@ -23,7 +23,8 @@ use Rattle.awk_build.specs.Suffix.{carriers, last_type, steps_from}
 -- the steps so far, and those of the arrays that are left; their types are as arrays have them
 pub record AreSteps (xs : List Layout) (rs : List Unification) (t : DataType) (i : ℕ)
     : Type 0 where
-  pub steps : steps_from unknown (map array_type xs) ≡ rs ++ steps_from t (drop i (map array_type xs))
+  pub steps : steps_from unknown (map array_type xs)
+      ≡ rs ++ steps_from t (drop i (map array_type xs))
   pub last : joined_type xs ≡ last_type t (drop i (map array_type xs))
   pub lawful : AllByRecursion IsArrayType (drop i (map array_type xs))
       → AllByRecursion IsArrayType (map array_type xs)

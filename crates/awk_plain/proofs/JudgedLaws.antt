@@ -1,6 +1,7 @@
 -- What is known of each part of a value that makes no fault, and of the names of an object.
 use Rattle.std.proofs.Common.{◌≡◌, List, [], ◌∷◌, Bool, true, false, Option, Some, None, option_map}
-use Rattle.std.proofs.Common.{String, Global, Less, string_bytes, string_cmp, nat_cmp, is_eq, bytes_eq}
+use Rattle.std.proofs.Common.{String, Global, Less, string_bytes, string_cmp, nat_cmp, is_eq}
+use Rattle.std.proofs.Common.{bytes_eq}
 use Rattle.std.proofs.Common.{refl, ap, sym, ◌∙◌}
 use Rattle.std.specs.Prelude.{◌&&◌}
 use Rattle.std.specs.List.{AllByRecursion}

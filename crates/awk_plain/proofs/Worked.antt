@@ -1,6 +1,7 @@
 -- Arrays of plain JSON values, worked by hand.
 use Rattle.std.specs.Prelude.{◌≡◌, ◌^◌, ℕ, pos, true, [], ◌∷◌, Ok, Err, codes, refl}
-use Rattle.serde_json.specs.Data.{Data, null, boolean, number, string, array, object, Items, no_items, item, no_members, member, unsigned}
+use Rattle.serde_json.specs.Data.{Data, null, boolean, number, string, array, object, Items}
+use Rattle.serde_json.specs.Data.{no_items, item, no_members, member, unsigned}
 use Rattle.awk_types.specs.DataType.{DataType, unknown, leaf, var, rec, opt, uni, no_types, type}
 use Rattle.awk_types.specs.Datum.{arr}
 use Rattle.awk_types.specs.Value as values

@@ -1,6 +1,9 @@
 -- The type and the value of a plain JSON value.
-use Rattle.std.specs.Prelude.{◌^◌, nat_lt, ℤ, pos, ◌&&◌, Bool, true, false, List, [], ◌∷◌, ◌++◌, map, Option, Some, None, option_map, Result, if◌then◌else◌}
-use Rattle.serde_json.specs.Data.{Data, Num, null, boolean, number, string, array, object, Items, no_items, item, Members, no_members, member, unsigned, negative, float}
+use Rattle.std.specs.Prelude.{◌^◌, nat_lt, ℤ, pos, ◌&&◌, Bool, true, false, List, [], ◌∷◌, ◌++◌}
+use Rattle.std.specs.Prelude.{map, Option, Some, None, option_map, Result, if◌then◌else◌}
+use Rattle.serde_json.specs.Data.{Data, Num, null, boolean, number, string, array, object, Items}
+use Rattle.serde_json.specs.Data.{no_items, item, Members, no_members, member, unsigned, negative}
+use Rattle.serde_json.specs.Data.{float}
 use Rattle.awk_types.specs.DataType.{DataType, Name, unknown, leaf, var, rec, opt, types_from}
 use Rattle.awk_types.specs.Datum.{Datum, arr}
 use Rattle.awk_types.specs.Faults.{limit_fault}

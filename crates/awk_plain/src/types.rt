@@ -27,7 +27,8 @@ fn judged_type(alloc: Global, t: Typ) -> Result<Typ, TypeFault>
 #[cycle(typ)]
 pub(crate) fn type_of(alloc: Global, value: &Value) -> Result<Typ, TypeFault>
     ensures { let d = view value.now in
-        Gives typ_of limit_told result (refused_or (first_limit (types_made d)) (spec.plain_type d)) }
+        Gives typ_of limit_told result
+        (refused_or (first_limit (types_made d)) (spec.plain_type d)) }
 {
     match value {
         Value::Null => Ok(Typ::Opt(Box::new(alloc, Typ::Unknown)?)),

@@ -33,7 +33,8 @@ type_of-returns-in_err-item-in-Array t c =
     let e = c.in_err-item-in-Array.field-0.0 in
     let failed : c.from_residual-in_err-item-in-Array.result ≡ Err e = grind arith in
     Gives-Err typ_of limit_told c.from_residual-in_err-item-in-Array.result e
-    (refused_or (first_limit (types_made (view c.args.value.now))) (plain_type (view c.args.value.now)))
+    (refused_or (first_limit (types_made (view c.args.value.now)))
+    (plain_type (view c.args.value.now)))
     failed
     (subst (λ d. Told (limit_told e) (refused_or (first_limit (types_made d)) (plain_type d)))
     (sym viewed) (array_told (limit_told e) ds c.in_err-item-in-Array.ensures))
@@ -69,7 +70,8 @@ type_of-returns-in_err-fields-in-Object t c =
     let e = c.in_err-fields-in-Object.field-0.0 in
     let failed : c.from_residual-in_err-fields-in-Object.result ≡ Err e = grind arith in
     Gives-Err typ_of limit_told c.from_residual-in_err-fields-in-Object.result e
-    (refused_or (first_limit (types_made (view c.args.value.now))) (plain_type (view c.args.value.now)))
+    (refused_or (first_limit (types_made (view c.args.value.now)))
+    (plain_type (view c.args.value.now)))
     failed
     (subst (λ d. Told (limit_told e) (refused_or (first_limit (types_made d)) (plain_type d)))
     (sym viewed) (object_told (limit_told e) ms c.in_err-fields-in-Object.ensures))
