@@ -7,13 +7,13 @@ use Rattle.awk_parts.specs.Parts.{part_at}
 use Rattle.awk_bins.specs.Tallies.{tallies}
 use Rattle.awk_bins.proofs.TallyLaws.{length-tallies}
 use Rattle.awk_bins.proofs.TableLaws.{rows-more}
-use Rattle.awk_bins.proofs.bins.part_tallies.Goals as goal
+use Rattle.awk_bins.proofs.bins.row_tallies.Goals as goal
 
 pub loop-i-preserved : goal.loop-i-preserved
 loop-i-preserved g c =
-    let es = c.args.edges.now in
+    let es = c.args.edges.now.all.now in
     let xs = c.args.numbers.now in
-    let f = g.N.Wide.number in
+    let f = g.N.Number.number in
     let o = c.args.offsets.now in
     let i = c.loop-i.i in
     let part : ℕ → List ℤ = part_at (map f xs) o in
