@@ -1,4 +1,4 @@
-use Rattle.awk_eval.proofs.OperandLaws.{IsWithin-one}
+use Rattle.awk_eval.proofs.WithinLaws.{IsWithin-one}
 use Rattle.awk_eval.proofs.views.ranged.Goals as goal
 
 pub returns-in-Some-default-clause-cost : goal.returns-in-Some-default-clause-cost
