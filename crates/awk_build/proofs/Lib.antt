@@ -1,0 +1,5 @@
+pub mod SuffixLaws
+pub mod LiftSteps
+pub mod SideLaws
+pub mod SingleLaws
+pub mod BuiltLaws
