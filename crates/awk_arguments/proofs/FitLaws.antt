@@ -1,6 +1,6 @@
 -- The arguments of an allowed call are its operation's own.
-use Rattle.std.proofs.Common.{◌≡◌, ◌<◌, ◌+◌, ℕ, zero, suc, Bool, true, false, ◌&&◌, List, [], ◌∷◌}
-use Rattle.std.proofs.Common.{◌++◌, length, Option, Some, None, option_map, refl, sym, ◌∙◌, subst}
+use Rattle.std.proofs.Common.{◌≡◌, ◌<◌, ◌+◌, ℕ, suc, Bool, true, false, ◌&&◌, List, [], ◌∷◌}
+use Rattle.std.proofs.Common.{◌++◌, length, Option, Some, None, option_map, refl, ◌∙◌, subst}
 use Rattle.std.proofs.Common.{arith}
 use Rattle.std.specs.List.{list_all}
 use Rattle.std.proofs.lemmas.Bool.{and_parts}
@@ -356,9 +356,11 @@ module _ (operands : List Operand) (n : ℕ) (fixed : List FixedArg) (long : len
       (long ∙ one-count ks n fixed h a) are
   operands_row (op.Reduce how) h are = only-given (takes_literal (op.Reduce how)) operands refl
       (long ∙ one-count ks n fixed h a) are
-  operands_row (op.Cartesian to) h are = data-given (takes_literal (op.Cartesian to)) operands (λ j. refl)
+  operands_row (op.Cartesian to) h are =
+      data-given (takes_literal (op.Cartesian to)) operands (λ j. refl)
       (some_long n (length operands) long (some-count ks n fixed h a)) are
-  operands_row (op.Combinations to) h are = only-given (takes_literal (op.Combinations to)) operands refl
+  operands_row (op.Combinations to) h are =
+      only-given (takes_literal (op.Combinations to)) operands refl
       (long ∙ one-count ks n fixed h a) are
   operands_row (op.Sort to) h are = only-given (takes_literal (op.Sort to)) operands refl
       (long ∙ one-count ks n fixed h a) are

@@ -1,23 +1,21 @@
 -- Which argument one of a kind is, and what is read of arguments of the kinds of a row.
 use Rattle.std.proofs.Common.{◌≡◌, ℕ, ℤ, Bool, true, false, cond, List, [], ◌∷◌, map, Option, Some, None}
-use Rattle.std.proofs.Common.{option_map, is_some, refl, sym, ap, ◌∙◌, subst}
+use Rattle.std.proofs.Common.{option_map, refl, sym, ap, ◌∙◌, subst}
 use Rattle.std.specs.Prelude.{◌||◌}
-use Rattle.std.specs.List.{list_any}
 use Rattle.awk_types.specs.DataType.{Name}
-use Rattle.awk_types.specs.Names.{same_name, is_among, are_distinct}
+use Rattle.awk_types.specs.Names.{same_name, is_among}
 use Rattle.awk_types.specs.declared.primitive.Primitive.{Primitive}
 use Rattle.awk_query.specs.Allowed.{is_of_kind}
 use Rattle.awk_query.specs.Arguments as query
 use Rattle.awk_query.specs.Arguments.{not_zero, some_count}
-use Rattle.awk_query.specs.declared.kind.ArgKind.{ArgKind}
 use Rattle.awk_query.specs.declared.kind.ArgKind.TheVariants as kind
 use Rattle.awk_query.specs.declared.fixed.FixedArg.{FixedArg}
 use Rattle.awk_query.specs.declared.fixed.FixedArg.TheVariants.{Place, Count, Missing, Truth, Text}
 use Rattle.awk_query.specs.declared.fixed.FixedArg.TheVariants.{Texts, Wholes}
 use Rattle.awk_arguments.specs.Fit.{IsGiven, IsRange}
-use Rattle.awk_arguments.specs.Fixed.{bounds_in, stepped_in, stepped_by, place_in, text_in, texts_in}
+use Rattle.awk_arguments.specs.Fixed.{stepped_in, stepped_by, place_in, text_in, texts_in}
 use Rattle.awk_arguments.specs.Fixed.{truth_in, padding_in, tuples_in, depth_in, named_in, edges_in}
-use Rattle.awk_arguments.specs.Primitives.{primitives, named_among, primitive_named, primitive_in}
+use Rattle.awk_arguments.specs.Primitives.{primitives, named_among, primitive_in}
 use Rattle.awk_arguments.proofs.KindLaws.{AreOfKinds}
 
 -- ---- one argument

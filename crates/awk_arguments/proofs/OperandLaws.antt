@@ -1,5 +1,5 @@
 -- The operands in code and those that they stand for.
-use Rattle.std.proofs.Common.{◌≡◌, ◌<◌, List, [], ◌∷◌, length, slice_get, Some, None, ℤ, ap, ap₂, ◌∙◌}
+use Rattle.std.proofs.Common.{◌≡◌, ◌<◌, List, [], ◌∷◌, length, slice_get, Some, ℤ, ap, ap₂, ◌∙◌}
 use Rattle.std.proofs.Common.{refl, subst, arith}
 use Rattle.awk_layout.specs.declared.datum.Operand.{Operand}
 use Rattle.awk_layout.specs.declared.datum.Operand.TheVariants.{Of, Literal}

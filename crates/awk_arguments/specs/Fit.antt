@@ -1,5 +1,5 @@
 -- Which arguments are an operation's own.
-use Rattle.std.specs.Prelude.{◌≡◌, true, List, Option, Some, None, is_some}
+use Rattle.std.specs.Prelude.{◌≡◌, true, List, Option, None, is_some}
 use Rattle.awk_query.specs.declared.op.Op.{Op}
 use Rattle.awk_query.specs.declared.op.Op.TheVariants as op
 use Rattle.awk_query.specs.declared.fixed.FixedArg.{FixedArg}

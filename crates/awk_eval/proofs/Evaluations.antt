@@ -137,8 +137,8 @@ pub AreTaken-operands : (o : Op) (old new : List code.Operand) (i : ℕ) (x : co
 AreTaken-operands o old new i x b pushed counted place are is =
     let shown : shown_operands new ≡ shown_operands old ++ filler_of x ∷ [] =
     ap shown_operands pushed ∙ map-append filler_of old (x ∷ []) in
-    let long : i ≡ 0 + length (shown_operands old) =
-    sym counted ∙ sym (length-map filler_of old) in
+    let same : length (shown_operands old) ≡ length old = length-map old filler_of in
+    let long : i ≡ 0 + length (shown_operands old) = omega (arith, counted, same) in
     subst (AreTaken (takes_literal o) 0) (sym shown)
     (AreTaken-push (takes_literal o) 0 (shown_operands old) (filler_of x) i long are
     (subst (λ c. IsTakenAs c (filler_of x)) place is))

@@ -102,14 +102,16 @@ a_truth_value = refl
 -- ---- arguments
 
 -- the first fault from the left is told
-left_first : eval env (of (op.Pair pair_op.Pick) (missing ∷ great ∷ []) []) ≡ Err (Unbound (codes "z"))
+left_first : eval env (of (op.Pair pair_op.Pick) (missing ∷ great ∷ []) [])
+    ≡ Err (Unbound (codes "z"))
 left_first = refl
 
 left_first_too : eval env (of (op.Pair pair_op.Pick) (great ∷ missing ∷ []) []) ≡ Err Overflow
 left_first_too = refl
 
 -- a number is a literal where the operation takes one, and else an int64
-literal_operand : eval env (of (op.Calculate arith.Add) (great ∷ missing ∷ []) []) ≡ Err (Unbound (codes "z"))
+literal_operand : eval env (of (op.Calculate arith.Add) (great ∷ missing ∷ []) [])
+    ≡ Err (Unbound (codes "z"))
 literal_operand = refl
 
 no_literal_operand : eval env (of (op.Single single_op.Neg) (great ∷ []) []) ≡ Err Overflow
@@ -130,7 +132,8 @@ literal_fills = refl
 other_arguments : eval env (of (op.Sort target.Items) (m ∷ []) []) ≡ Err WrongType
 other_arguments = refl
 
-other_arguments_of_nothing : eval env (of (op.Sort target.Items) (missing ∷ []) []) ≡ Err (Unbound (codes "z"))
+other_arguments_of_nothing : eval env (of (op.Sort target.Items) (missing ∷ []) [])
+    ≡ Err (Unbound (codes "z"))
 other_arguments_of_nothing = refl
 
 -- ---- ranges
@@ -199,7 +202,8 @@ no_field = refl
 
 -- ---- picks
 
-last_item : eval env (of (op.Place place_op.At) (m ∷ []) (Place (negsuc 0) ∷ [])) ≡ Ok (one (leaf I64) (n 4))
+last_item : eval env (of (op.Place place_op.At) (m ∷ []) (Place (negsuc 0) ∷ []))
+    ≡ Ok (one (leaf I64) (n 4))
 last_item = refl
 
 no_item : eval env (of (op.Place place_op.At) (m ∷ []) (Place (pos 5) ∷ [])) ≡ Err Index

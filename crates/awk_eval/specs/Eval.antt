@@ -145,8 +145,8 @@ abbrev pub ranged : Option (FixedArg × FixedArg) → List FixedArg → Datum �
 ranged (Some bounds) fixed d = range_of bounds d
 ranged None fixed d = alone (stepped_of d) (stepped_in fixed)
 
--- the items of e that items x of type u name: row by row where these are lists, by a mask where they
--- are truth values, else by an index
+-- the items of e that items x of type u name: row by row where these are lists, by a mask where
+-- they are truth values, else by an index
 abbrev pub pick_by : DataType → Datum → Datum → Result Datum Fault
 pick_by u e x =
     if is_jagged u then jagged_of e x else if is_mask u then mask_of e x else take_of e x

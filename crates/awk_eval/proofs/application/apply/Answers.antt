@@ -1,9 +1,7 @@
-use Rattle.std.proofs.Common.{◌≡◌, true, length, sym, subst}
+use Rattle.std.proofs.Common.{◌≡◌, true, length, subst}
 use Rattle.awk_query.specs.Allowed.{HasArguments}
 use Rattle.awk_arguments.proofs.Rows.{AreDistinct-fields}
 use Rattle.awk_arguments.proofs.ZipArguments.{AreNamed-zip}
-use Rattle.awk_arguments.specs.Fit.{FitsFixed, FitsOperands}
-use Rattle.awk_arguments.specs.OperandView.{shown_operands}
 use Rattle.awk_eval.specs.Views.{is_view_op}
 use Rattle.awk_eval.proofs.EdgeArguments.{AreRising-hist}
 use Rattle.awk_eval.proofs.WithinLaws.{IsWithin-one}
@@ -35,7 +33,7 @@ returns-in-Range-clause-cost g c s cuts are =
 pub returns-in-Field-clause-cost : goal.returns-in-Field-clause-cost
 returns-in-Field-clause-cost g c s cuts are =
     c.field_of.ensures.cost s
-    (IsWithin-one s c.args.operands.now c.only-in-Field.result.now c.only-in-Field.ensures.alone are)
+    (IsWithin-one s c.args.operands.now c.only.result.now c.only.ensures.alone are)
 
 pub returns-in-Fields-clause-cost : goal.returns-in-Fields-clause-cost
 returns-in-Fields-clause-cost g c s cuts are =

@@ -36,7 +36,7 @@ eval-apply-requires-clause-operands g t c =
     (shown_operands c.in_ok-operands-in-Call.operands)
     (HasArguments-call c.args.e.now c.in-Call.op c.in-Call.args c.in-Call.fixed c.in-Call.is
     c.requires)
-    (length-map filler_of c.in_ok-operands-in-Call.operands
+    (length-map c.in_ok-operands-in-Call.operands filler_of
     ∙ c.in_ok-operands-in-Call.ensures.count)
     c.in_ok-operands-in-Call.ensures.taken
 
