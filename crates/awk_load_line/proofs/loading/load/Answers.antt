@@ -19,7 +19,7 @@ use Rattle.awk_answer.specs.Refusals.{walk_fault}
 use Rattle.awk_load_line.specs.Load.{walked, loaded_from, loaded}
 use Rattle.awk_answer.specs.Told.{refused_told}
 use Rattle.awk_answer.specs.declared.fault.Refused.{Refused}
-use Rattle.awk_load_line.proofs.load.load.Goals as goal
+use Rattle.awk_load_line.proofs.loading.load.Goals as goal
 
 told-walked : (why : Option Refusal) (said : Result Datum Refusal) → Told why said
     → Told (option_map walk_fault why) (walked said)
