@@ -1,0 +1,5 @@
+mod Worked
+pub mod ItemLaws
+pub mod TypedLaws
+pub mod TypeLaws
+pub mod TypeSteps
