@@ -5,6 +5,7 @@ ghost use Rattle.awk_query.specs.Line.{line_said};
 ghost use Rattle.awk_query.specs.LineView.{line_view};
 ghost use Rattle.awk_query.specs.declared.reading.Reading.TheVariants.{First};
 ghost use Rattle.awk_framing.specs.Framing as framing;
+ghost use Rattle.awk_framing.specs.Listed.{IsListed};
 ghost use Rattle.awk_framing.specs.ReadView.{read_view};
 
 use awk_query::{Line, QueryFault, Reading, read_line};
@@ -22,6 +23,9 @@ pub enum Read {
 pub fn read_as(alloc: Global, bytes: &[u8], reading: Reading) -> Result<Read, AllocError>
     ensures said { IfOk result (λ read. read_view read ≡ line_said reading bytes.now) }
     ensures allowed { IfOk result (λ read. IfOk (read_view read) IsAllowedLine) }
+
+    // What a values line gives is a list.
+    ensures listed { IfOk result (λ read. IfOk (read_view read) IsListed) }
 {
     match read_line(alloc, bytes, reading) {
         Ok(line) => Ok(Read::Line(line)),
