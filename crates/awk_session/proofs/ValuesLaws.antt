@@ -1,5 +1,5 @@
 -- What a values line binds.
-use Rattle.std.proofs.Common.{◌≡◌, Bool, true, Some, refl, ap, ◌∙◌}
+use Rattle.std.proofs.Common.{◌≡◌, true, Some, refl, ap, ◌∙◌}
 use Rattle.serde_json.specs.Data.{Data, null, boolean, number, string, array, object}
 use Rattle.awk_types.specs.DataType.{Name}
 use Rattle.awk_layout.specs.Layout.{Layout}

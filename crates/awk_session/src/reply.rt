@@ -277,7 +277,7 @@ fn bind_values<'v, 's, 'a: 's, L: Ledger>(
             env.bind(name.copy(alloc)?, Datum::Arr(array))?;
             Ok(Answer::Bound(name.as_str()))
         }
-        Err(why) => refused(why),
+        Err(fault) => refused(fault),
     }
 }
 
