@@ -1,54 +1,16 @@
-"""What the tests share: the program that they try, what it does not build yet, and arrays."""
+"""What the tests share: the program that they try, stand-ins for it, and arrays."""
 
 from __future__ import annotations
 
 import os
 import unittest
 from array import array
-from collections.abc import Iterator
-from contextlib import contextmanager
 from typing import Any
 
-from jagged import BUILT_PROGRAM, PROGRAM_VARIABLE, Session, UnbuiltFault
+from jagged import Session
+from jagged.program import BUILT_PROGRAM, PROGRAM_VARIABLE
 
 IS_NAMED = bool(os.environ.get(PROGRAM_VARIABLE))
-
-# The operations that the built program answers by the fault `unbuilt`: none now. One that is shown
-# before it is built has its name here, and a test fails once it is built.
-NOT_YET: frozenset[str] = frozenset()
-
-# The words of NOT_YET that were answered.
-_answered: set[str] = set()
-
-
-@contextmanager
-def built(*words: str) -> Iterator[None]:
-    """Lets the fault `unbuilt` pass in a block that needs these words, if one is not built yet."""
-    try:
-        yield
-    except UnbuiltFault:
-        if NOT_YET.isdisjoint(words):
-            raise
-    else:
-        _answered.update(NOT_YET.intersection(words))
-
-
-def tell_what_is_built() -> None:
-    """Fails where NOT_YET has words that were answered; each module of tests ends with it."""
-    if _answered:
-        raise AssertionError(f"built by now, so take out of NOT_YET: {' '.join(sorted(_answered))}")
-
-
-def words_of(expression: Any) -> list[str]:
-    """The texts at the heads of the lists in an expression's JSON, the operations among them."""
-    if not isinstance(expression, list):
-        return []
-    inner = [word for part in expression for word in words_of(part)]
-    return [_word_of(expression), *inner] if isinstance(expression[0], str) else inner
-
-
-def _word_of(call: list[Any]) -> str:
-    return "step_range" if call[0] == "range" and call[4:] not in ([], [1]) else call[0]
 
 
 class EngineCase(unittest.TestCase):

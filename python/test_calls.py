@@ -4,29 +4,35 @@ from __future__ import annotations
 
 import ctypes
 import json
+import subprocess
 import sys
 import tracemalloc
 import unittest
 from array import array
 from typing import Any
+from unittest import mock
 
-from jagged_testing import Columns, EngineCase, built, load_examples, tell_what_is_built
-from jagged import LINE_LIMIT, Session, e
+from jagged_testing import Columns, EngineCase, load_examples
+from jagged import LINE_LIMIT, Histogram, QueryFault, Session, e, load_line, loading, session
+from jagged.program import command_of
 
 NUMBERS = {"class": "NumpyArray", "primitive": "int64", "form_key": "node0"}
-NUMBERS_PACKED = {**NUMBERS, "inner_shape": [], "parameters": {}}
+NUMBERS_PACKED: Any = {**NUMBERS, "inner_shape": [], "parameters": {}}
 
-# Reads lines without keeping them, and answers each; it writes a megabyte before it reads.
+# Answers the first line by itself, and a load by a megabyte before it reads what is loaded.
 SWALLOWS = """
 import os
+os.write(1, os.read(0, len('{"session": 2}') + 1))
 os.write(1, b'{"bound":"x","more":"' + bytes([97]) * 2**20 + b'"}' + bytes([10]))
 while os.read(0, 65536):
     pass
 """
 
 
-def tearDownModule() -> None:
-    tell_what_is_built()
+def in_order(order: str, kind: Any, values: list[int]) -> Any:
+    """A buffer of numbers of this kind, in the order that its format tells."""
+    kind = kind.__ctype_be__ if order == ">" else kind.__ctype_le__
+    return (kind * len(values))(*values)
 
 
 class Calls(EngineCase):
@@ -60,54 +66,73 @@ class Calls(EngineCase):
             make = Columns()
             x = self.session.load("x", make.numbers(values, primitive, code), 2, make.container)
             self.assertEqual(self.session.show(x), values)
-        with built("literal"):
-            self.assertEqual(self.session.show(2**63 - 1), 2**63 - 1)
-        with built("literal"):
-            self.assertIs(self.session.show(True), True)
+        self.assertEqual(self.session.show(2**63 - 1), 2**63 - 1)
+        self.assertIs(self.session.show(True), True)
 
     def test_let(self) -> None:
         load_examples(self.session)
-        with built("let"):
-            copy = self.session.let("copy", e.a)
-            self.assertEqual(self.session.show(copy), [[1, 2, 3], [], [4, 5]])
+        copy = self.session.let("copy", e.a)
+        self.assertEqual(self.session.show(copy), [[1, 2, 3], [], [4, 5]])
 
     def test_type(self) -> None:
         load_examples(self.session)
-        with built("type"):
-            self.assertEqual(self.session.type("a"), "3 * var * int64")
-            self.assertEqual(self.session.type(e.l), "3 * option[var * ?int64]")
+        self.assertEqual(self.session.type("a"), "3 * var * int64")
+        self.assertEqual(self.session.type(e.l), "3 * option[var * ?int64]")
 
     def test_names(self) -> None:
         load_examples(self.session)
-        with built("names"):
-            self.assertEqual(self.session.names(), ["a", "o", "l", "r", "b", "c"])
+        self.assertEqual(self.session.names(), ["a", "o", "l", "r", "b", "c"])
 
     def test_pack(self) -> None:
         make = Columns()
         form = make.lists([2, 4, 4, 5], make.numbers([0, 0, 5, -1, 7]))
         self.session.load("x", form, 3, make.container)
-        with built("pack"):
-            form, length, container = self.session.pack(e.x)
-            self.assertEqual(
-                form,
-                {
-                    "class": "ListOffsetArray",
-                    "offsets": "i64",
-                    "content": {**NUMBERS_PACKED, "form_key": "node1"},
-                    "parameters": {},
-                    "form_key": "node0",
-                },
-            )
-            self.assertEqual(length, 3)
-            self.assertEqual(
-                container,
-                {
-                    "node0-offsets": array("q", [0, 2, 2, 3]).tobytes(),
-                    "node1-data": array("q", [5, -1, 7]).tobytes(),
-                },
-            )
-            again = self.session.load("again", form, length, container)
-            self.assertEqual(self.session.pack(again), (form, length, container))
+        form, length, container = self.session.pack(e.x)
+        self.assertEqual(
+            form,
+            {
+                "class": "ListOffsetArray",
+                "offsets": "i64",
+                "content": {**NUMBERS_PACKED, "form_key": "node1"},
+                "parameters": {},
+                "form_key": "node0",
+            },
+        )
+        self.assertEqual(length, 3)
+        self.assertEqual(
+            container,
+            {
+                "node0-offsets": array("q", [0, 2, 2, 3]).tobytes(),
+                "node1-data": array("q", [5, -1, 7]).tobytes(),
+            },
+        )
+        again = self.session.load("again", form, length, container)
+        self.assertEqual(self.session.pack(again), (form, length, container))
+
+    def test_hist(self) -> None:
+        load_examples(self.session)
+        found = self.session.hist(e.o, range(0, 4, 2))
+        self.assertEqual(found, Histogram((0, 2), (1,), under=0, over=1, nulls=1))
+        self.assertEqual(self.session.hist("o", [0, 2]), found)
+        with self.assertRaises(QueryFault):
+            self.session.hist("o", [2, 0])
+
+    def test_hist_each(self) -> None:
+        load_examples(self.session)
+        found = self.session.hist_each(e.l, [0, 2])
+        one, other = Histogram((0, 2), (1,), nulls=1), Histogram((0, 2), (0,), over=1)
+        self.assertEqual(found, [one, None, other])
+        self.assertEqual(self.session.hist_each("c", [0, 6]), Histogram((0, 6), (1,), over=3))
+
+    def test_load_line(self) -> None:
+        """The line as it stands in a file, which a program then answers."""
+        line = load_line("x", NUMBERS, 2, {"node0-data": array("q", [5, -1])})
+        show = b'{"show":"x"}\n'
+        given = b"".join([b'{"session":2}\n', *line, show])
+        self.assertEqual(len(given), len(line) + len(show) + 14)
+        done = subprocess.run(command_of(None), input=given, capture_output=True, check=True)
+        answers = b'{"session":2}\n{"bound":"x"}\n{"value":[5,-1]}\n'
+        self.assertEqual(done.stdout, answers)
 
     def test_names_of_any_text(self) -> None:
         name = 'μ "pt"\n\\ \x7f \U0001f600'
@@ -155,10 +180,19 @@ class Arguments(EngineCase):
             self.session.load("x", NUMBERS, 2, {"node0-data": "AAAA"})
         with self.assertRaises(ValueError):
             self.session.load("x", NUMBERS, 2**64, {"node0-data": b""})
-        with self.assertRaisesRegex(ValueError, "268,435,456"):
-            self.session.load("x", NUMBERS, 2, {"node0-data": bytes(LINE_LIMIT * 3 // 4)})
         x = self.session.load("x", NUMBERS, 1, {"node0-data": array("q", [1])})
         self.assertEqual(self.session.show(x), [1])
+
+    def test_what_is_too_long(self) -> None:
+        with self.assertRaisesRegex(ValueError, "container has 268,435,457"):
+            self.session.load("x", NUMBERS, 2, {"node0-data": bytes(LINE_LIMIT), "more": b"1"})
+        with mock.patch.object(loading, "LINE_LIMIT", 200):
+            with self.assertRaisesRegex(ValueError, "line has 3.. bytes"):
+                self.session.load("x", NUMBERS, 2, {"a" * 200: b""})
+        with mock.patch.object(session, "LINE_LIMIT", 200):
+            with self.assertRaisesRegex(ValueError, "line has 211 bytes"):
+                self.session.show("a" * 200)
+        self.assertEqual(self.session.names(), [])
 
     def test_numpy(self) -> None:
         try:
@@ -171,9 +205,44 @@ class Arguments(EngineCase):
             self.assertEqual(self.session.show(x), [5, -1])
         x = self.session.load("x", NUMBERS, 0, {"node0-data": numpy.zeros(0, "i8")})
         self.assertEqual(self.session.show(x), [])
-        with built("add"):
-            self.session.load("x", NUMBERS, 2, {"node0-data": numbers[::2]})
-            self.assertEqual(self.session.show(numpy.int64(1) + e.x), [6, 0])
+        for order in [">i8", "<i8"]:
+            for values in [numbers[::2].astype(order), numbers.astype(order)[::2]]:
+                self.session.load("x", NUMBERS, 2, {"node0-data": values})
+                self.assertEqual(self.session.show(numpy.int64(1) + e.x), [6, 0])
+        make = Columns()
+        form = make.lists([], make.numbers([], "uint16", "H"))
+        data, offsets = numpy.array([5, 65535], ">u2"), numpy.array([0, 1, 2])
+        for offsets in [offsets, offsets.astype(">i8")]:
+            x = self.session.load("x", form, 2, dict(zip(make.container, [data, offsets])))
+            self.assertEqual(self.session.show(x), [[5], [65535]])
+
+    def test_byte_orders(self) -> None:
+        make = Columns()
+        form = make.lists([], make.numbers([], "int32", "i"))
+        for first in "<>":
+            for second in "<>":
+                numbers = in_order(first, ctypes.c_int32, [5, -1])
+                offsets = in_order(second, ctypes.c_int64, [0, 1, 2])
+                container = dict(zip(make.container, [numbers, offsets]))
+                x = self.session.load("x", form, 2, container)
+                self.assertEqual(self.session.show(x), [[5], [-1]])
+
+    def test_bytes_in_an_order(self) -> None:
+        for order in "<>":
+            numbers = memoryview(in_order(order, ctypes.c_int64, [5, -1])).tobytes()
+            x = self.session.load("x", NUMBERS, 2, {"node0-data": numbers}, byteorder=order)
+            self.assertEqual(self.session.show(x), [5, -1])
+        with self.assertRaisesRegex(ValueError, "byte order"):
+            self.session.load("x", NUMBERS, 2, {"node0-data": numbers}, byteorder="big")
+
+    def test_truth_values_have_no_order(self) -> None:
+        make = Columns()
+        contents = [make.numbers([], "bool", "b"), make.numbers([])]
+        form = {"class": "RecordArray", "fields": ["b", "n"], "contents": contents}
+        for truths in [array("b", [1, 0]), bytes([1, 0])]:
+            buffers = truths, in_order(">", ctypes.c_int64, [5, -1])
+            x = self.session.load("x", form, 2, dict(zip(make.container, buffers)))
+            self.assertEqual(self.session.show(x), [{"b": True, "n": 5}, {"b": False, "n": -1}])
 
     def test_awkward(self) -> None:
         try:
@@ -183,8 +252,7 @@ class Arguments(EngineCase):
         values = [[{"pt": 5, "charge": 1}], [], [{"pt": 7, "charge": None}]]
         x = self.session.load("x", *awkward.to_buffers(awkward.Array(values)))
         self.assertEqual(self.session.show(x), values)
-        with built("pack"):
-            self.assertEqual(awkward.from_buffers(*self.session.pack(x)).to_list(), values)
+        self.assertEqual(awkward.from_buffers(*self.session.pack(x)).to_list(), values)
 
 
 class Large(EngineCase):
@@ -196,18 +264,17 @@ class Large(EngineCase):
             NUMBERS,
             len(values),
             {"node0-data": values},
-            progress=lambda *bytes_sent: told.append(bytes_sent),
+            progress=lambda sent, total: told.append((sent, total)),
         )
         sent = [it for it, _ in told]
         self.assertEqual(sent, sorted({*sent}))
         self.assertGreater(len(sent), 10)
         self.assertEqual({it for _, it in told}, {sent[-1]})
-        self.assertGreater(sent[-1], len(values.tobytes()) * 4 // 3)
+        self.assertGreater(sent[-1], len(values.tobytes()))
         self.assertEqual(self.session.show(x), values.tolist())
-        with built("pack"):
-            form, length, container = self.session.pack(x)
-            self.assertEqual((form, length), (NUMBERS_PACKED, len(values)))
-            self.assertEqual(container, {"node0-data": values.tobytes()})
+        form, length, container = self.session.pack(x)
+        self.assertEqual((form, length), (NUMBERS_PACKED, len(values)))
+        self.assertEqual(container, {"node0-data": values.tobytes()})
 
 
 class Streaming(unittest.TestCase):

@@ -1,14 +1,16 @@
-"""The examples of docs/python.md, and those in Python of the README."""
+"""The examples in Python of docs/python.md and of the README, with the pictures they make."""
 
 from __future__ import annotations
 
 import doctest
+import os
 import re
+import tempfile
 from pathlib import Path
 from typing import Any
 
-from jagged_testing import NOT_YET, EngineCase
-from jagged import REPOSITORY, UnbuiltFault
+from jagged_testing import EngineCase
+from jagged.program import REPOSITORY
 
 PARSER = doctest.DocTestParser()
 
@@ -21,7 +23,21 @@ class Documents(EngineCase):
         self.check(REPOSITORY / "README.md")
 
     def check(self, document: Path) -> None:
-        """Runs a document's examples, block by block, all with the same names."""
+        """Runs a document's examples in a folder of their own; each file that they make there is
+        one that stands in docs/.
+        """
+        before = os.getcwd()
+        self.addCleanup(os.chdir, before)
+        with tempfile.TemporaryDirectory() as folder:
+            os.chdir(folder)
+            self.run_examples(document)
+            for made in Path(folder).iterdir():
+                kept = REPOSITORY / "docs" / made.name
+                self.assertEqual(made.read_text(), kept.read_text(), f"{kept} is another picture")
+            os.chdir(before)
+
+    def run_examples(self, document: Path) -> None:
+        """Runs the examples of a document, block by block, all with the same names."""
         blocks = re.findall(
             r"^```pycon\n(.*?)^```$", document.read_text(), re.DOTALL | re.MULTILINE
         )
@@ -36,8 +52,5 @@ class Documents(EngineCase):
                     f"{failure.example.source}gave {failure.got}, and not {failure.example.want}"
                 )
             except doctest.UnexpectedException as failure:
-                # (What follows in the block may rest on it.)
-                raised = failure.exc_info[1]
-                if not NOT_YET or not isinstance(raised, UnbuiltFault):
-                    raise raised from None
+                raise failure.exc_info[1] from None
             names = examples.globs

@@ -11,17 +11,18 @@ from pathlib import Path
 from typing import Any
 from unittest import mock
 
-import jagged
 from jagged_testing import EngineCase
-from jagged import PROGRAM_VARIABLE, RUN_SCRIPT, NameFault, Session, SessionEnded
+from jagged import NameFault, Session, SessionEnded, program
+from jagged.program import PROGRAM_VARIABLE, RUN_SCRIPT, command_of
 
 NUMBERS = {"class": "NumpyArray", "primitive": "int64", "form_key": "node0"}
 
-# Reads so many bytes, or a whole line where that is 0, and ends with the status, or by the signal
-# where that is below 0.
+# Answers the first line by itself, reads so many bytes, or a whole line where that is 0, and ends
+# with the status, or by the signal where that is below 0.
 ENDS = """
 import os, sys
 count, status = map(int, sys.argv[1:])
+os.write(1, os.read(0, len('{"session": 2}') + 1))
 sys.stdin.buffer.raw.read(count) if count else sys.stdin.buffer.readline()
 os.kill(os.getpid(), -status) if status < 0 else os._exit(status)
 """
@@ -39,10 +40,10 @@ def ends(count: int, status: int) -> Session:
     return Session([sys.executable, "-c", ENDS, str(count), str(status)])
 
 
-def command_of(program: Any, built: Path) -> list[str]:
+def command_with(built: Path, given: Any = None) -> list[str]:
     """The words that start a program where this file is to be the built one."""
-    with mock.patch.object(jagged, "BUILT_PROGRAM", built):
-        return jagged._command(program)
+    with mock.patch.object(program, "BUILT_PROGRAM", built):
+        return command_of(given)
 
 
 def process_of(session: Session) -> int:
@@ -53,14 +54,17 @@ class Programs(unittest.TestCase):
     def test_which_program(self) -> None:
         built, absent = Path(__file__), Path("/nowhere")
         with mock.patch.dict(os.environ, {PROGRAM_VARIABLE: "named"}):
-            self.assertEqual(command_of(None, built), ["named", "run"])
-            self.assertEqual(command_of("given", built), ["given", "run"])
-            self.assertEqual(command_of(Path("given"), built), ["given", "run"])
-            self.assertEqual(command_of(["a", "command"], built), ["a", "command"])
+            self.assertEqual(command_with(built), ["named", "run"])
+            self.assertEqual(command_with(built, "given"), ["given", "run"])
+            self.assertEqual(command_with(built, Path("given")), ["given", "run"])
+            self.assertEqual(command_with(built, ["a", "command"]), ["a", "command"])
         with mock.patch.dict(os.environ):
             os.environ.pop(PROGRAM_VARIABLE, None)
-            self.assertEqual(command_of(None, built), [__file__, "run"])
-            self.assertEqual(command_of(None, absent), [str(RUN_SCRIPT)])
+            self.assertEqual(command_with(built), [__file__, "run"])
+            self.assertEqual(command_with(absent), [str(RUN_SCRIPT)])
+            with mock.patch.object(program, "RUN_SCRIPT", absent):
+                with self.assertRaisesRegex(FileNotFoundError, PROGRAM_VARIABLE):
+                    command_with(absent)
 
     def test_no_program(self) -> None:
         with self.assertRaises(OSError):
@@ -112,7 +116,7 @@ class Ends(unittest.TestCase):
 
     def test_no_end_at_close(self) -> None:
         session = Session([sys.executable, "-c", HANGS])
-        with mock.patch.object(jagged, "GRACE", 0.2), self.assertRaises(SessionEnded) as caught:
+        with mock.patch.object(program, "GRACE", 0.2), self.assertRaises(SessionEnded) as caught:
             session.close()
         self.assertEqual(caught.exception.status, -signal.SIGKILL)
         self.assert_gone(process_of(session))

@@ -9,7 +9,7 @@ from collections.abc import Callable
 from typing import Any
 
 import jagged
-from jagged_testing import Columns, EngineCase, built, load_examples, tell_what_is_built
+from jagged_testing import Columns, EngineCase, load_examples
 from jagged import (
     AxisFault,
     BufferFault,
@@ -29,20 +29,22 @@ from jagged import (
     Session,
     SizeFault,
     TypeFault,
-    UnbuiltFault,
     ZeroFault,
     e,
 )
 
 
-def tearDownModule() -> None:
-    tell_what_is_built()
+# Answers the first line by the first word, and each further line by the second.
+ANSWERS = """
+import sys
+for place, _ in enumerate(sys.stdin):
+    print(sys.argv[1 if place == 0 else 2], flush=True)
+"""
 
 
-def answers(line: str) -> Session:
-    """A session with a program that answers each line by this one."""
-    code = "import sys\nfor _ in sys.stdin: print(sys.argv[1], flush=True)"
-    return Session([sys.executable, "-c", code, line])
+def answers(line: str, first: str = '{"session":2}') -> Session:
+    """A session with a program that answers each line but the first by this one."""
+    return Session([sys.executable, "-c", ANSWERS, first, line])
 
 
 class Faults(EngineCase):
@@ -101,52 +103,37 @@ class Faults(EngineCase):
 
     def test_name(self) -> None:
         self.fails(NameFault("x"), self.session.show, e.x)
-        with built("let"):
-            self.fails(NameFault("x"), self.session.let, "y", e.x)
-        with built("type"):
-            self.fails(NameFault("x"), self.session.type, "x")
+        self.fails(NameFault("x"), self.session.let, "y", e.x)
+        self.fails(NameFault("x"), self.session.type, "x")
 
     def test_field(self) -> None:
-        with built("field"):
-            self.fails(FieldFault("w"), self.session.show, e.r["w"])
+        self.fails(FieldFault("w"), self.session.show, e.r["w"])
 
     def test_axis(self) -> None:
-        with built("num"):
-            self.fails(AxisFault(), self.session.show, e.num(e.a, 2))
-            self.fails(AxisFault(), self.session.show, e.num(e.a, -3))
-            self.fails(AxisFault(), self.session.show, e.num(e.r, -1))
+        self.fails(AxisFault(), self.session.show, e.num(e.a, 2))
+        self.fails(AxisFault(), self.session.show, e.num(e.a, -3))
+        self.fails(AxisFault(), self.session.show, e.num(e.r, -1))
 
     def test_type(self) -> None:
-        with built("add"):
-            self.fails(TypeFault(), self.session.show, e.o + e.b)
-        with built("pack", "literal"):
-            self.fails(TypeFault(), self.session.pack, 5)
+        self.fails(TypeFault(), self.session.show, e.o + e.b)
+        self.fails(TypeFault(), self.session.pack, 5)
 
     def test_overflow(self) -> None:
-        with built("literal"):
-            self.fails(OverflowFault(), self.session.show, 2**63)
-        with built("add"):
-            self.fails(OverflowFault(), self.session.show, e.c + (2**63 - 1))
+        self.fails(OverflowFault(), self.session.show, 2**63)
+        self.fails(OverflowFault(), self.session.show, e.c + (2**63 - 1))
 
     def test_zero(self) -> None:
-        with built("rem"):
-            self.fails(ZeroFault(), self.session.show, e.c % 0)
+        self.fails(ZeroFault(), self.session.show, e.c % 0)
 
     def test_lengths(self) -> None:
-        with built("add"):
-            self.fails(LengthsFault(), self.session.show, e.a + e.l)
+        self.fails(LengthsFault(), self.session.show, e.a + e.l)
 
     def test_index(self) -> None:
-        with built("at"):
-            self.fails(IndexFault(), self.session.show, e.c[4])
+        self.fails(IndexFault(), self.session.show, e.c[4])
 
 
 class Answers(unittest.TestCase):
-    """What a program may answer that the engine does not, or no longer."""
-
-    def test_unbuilt(self) -> None:
-        with answers('{"fault":"unbuilt"}') as session, self.assertRaises(UnbuiltFault):
-            session.show("x")
+    """What a program may answer that the engine does not."""
 
     def test_no_answers(self) -> None:
         for line in ["no JSON", "[]", '{"type":"int64"}', '{"fault":"new"}', '{"fault":"name"}']:
@@ -155,11 +142,16 @@ class Answers(unittest.TestCase):
         with answers('{"bound":"y"}') as session, self.assertRaises(NoAnswer):
             session.let("x", "x")
 
+    def test_no_session_of_version_2(self) -> None:
+        for first in ["no JSON", '{"session":1}', '{"fault":"query"}']:
+            with answers('{"value":1}', first) as session, self.assertRaises(NoAnswer):
+                session.show("x")
+
 
 class Family(unittest.TestCase):
     def test_each_fault_has_a_test(self) -> None:
         words = {it.word for it in EngineFault.__subclasses__()}
-        tests = {*vars(Faults), *vars(Answers)}
+        tests = {*vars(Faults)}
         self.assertEqual({it for it in words if f"test_{it}" not in tests}, set())
 
     def test_texts(self) -> None:

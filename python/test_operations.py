@@ -6,7 +6,7 @@ import pickle
 import unittest
 from typing import Any
 
-from jagged_testing import EngineCase, built, load_examples, tell_what_is_built, words_of
+from jagged_testing import EngineCase, load_examples
 from jagged import Builder, Expression, e
 
 
@@ -182,15 +182,11 @@ SAME: list[tuple[Expression, Expression]] = [
 ]
 
 
-def tearDownModule() -> None:
-    tell_what_is_built()
-
-
 class Operations(EngineCase):
     def test_values(self) -> None:
         load_examples(self.session)
         for expression, json, value in EXAMPLES:
-            with self.subTest(json=json), built(*words_of(json)):
+            with self.subTest(json=json):
                 self.assertEqual(self.session.show(expression), value)
                 self.assertEqual(self.session.show(json), value)
 
@@ -242,5 +238,5 @@ class Expressions(unittest.TestCase):
         with self.assertRaises(AttributeError):
             e.x = 3
         with self.assertRaises(TypeError):
-            e[3]
+            e[3]  # type: ignore[index]
         self.assertEqual(pickle.loads(pickle.dumps(e.x + 1)).json, ["add", "x", 1])
