@@ -195,7 +195,7 @@ def short_calls(program: Program) -> str:
             count += 1
     came = program.run(MUONS, piece=1)
     expect("reads of one byte", came == (0, program.answers), came)
-    return f"{count} calls moved one byte, and all reads one byte: status 0, all answers"
+    return f"{count} runs in which a call moved one byte, if there is one: status 0, all answers"
 
 
 def limits_on_memory(program: Program) -> str:
@@ -203,9 +203,9 @@ def limits_on_memory(program: Program) -> str:
     for kilobytes in [*range(1_500, 9_000, 100), *range(10_000, 400_000, 10_000)]:
         status, output = program.run(MUONS, memory=kilobytes * 1024)
         seen[status] += 1
-        # (Below some megabytes the system does not start it at all.)
-        is_right = status == 5 or status == 0 and output == program.answers
-        if output or status in (0, 5):
+        # (Below some megabytes its libraries do not fit, and the system ends it before it begins.)
+        if output or not {0, 5}.isdisjoint(seen):
+            is_right = status == 5 or status == 0 and output == program.answers
             is_right = is_right and is_whole(output, program.answers)
             expect(f"{kilobytes} KB", is_right, (status, output))
     return f"{seen.total()} limits on memory, statuses {dict(seen)}: whole answers"
