@@ -9,9 +9,9 @@ mod fault;
 mod fault_text;
 mod packing;
 mod pieces;
-mod type_text;
+mod sinks;
 
 pub use answer::{Answer, Answered, kind_of, send};
 pub use fault::{AnswerFault, Refused};
 pub use packing::packed;
-pub use type_text::type_text;
+pub use sinks::type_text;

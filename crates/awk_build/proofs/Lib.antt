@@ -3,3 +3,4 @@ pub mod LiftSteps
 pub mod SideLaws
 pub mod SingleLaws
 pub mod BuiltLaws
+pub mod NumberLaws

@@ -86,7 +86,7 @@ twice t m u f g (v ∷ vs) p c e a =
     let both = after_carries g f v p one.0 (e (carried f v) one.1).0 in
     ap₂ (λ w ws. w ∷ ws) (sym both.1) (twice t m u f g vs p c e a.1)
 
-kept : (vs : List Value) → vs ≡ map (carried keep) vs
+pub kept : (vs : List Value) → vs ≡ map (carried keep) vs
 kept [] = refl
 kept (v ∷ vs) = ap (λ ws. v ∷ ws) (kept vs)
 

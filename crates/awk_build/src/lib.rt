@@ -6,6 +6,7 @@
 mod building;
 mod joining;
 mod lifts;
+mod numbers;
 mod single;
 mod values;
 

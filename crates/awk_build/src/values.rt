@@ -10,6 +10,7 @@ ghost use Rattle.awk_plain.specs.Plain.{items_type, names_in};
 ghost use Rattle.awk_build.specs.Built.{IsArrayOf, IsArrayOfItems, AreArraysOf, AreFieldsOf};
 
 use crate::joining::joined;
+use crate::numbers::{numbers_array, numbers_of};
 use crate::single::{list_array, null_array, number_array, row_array, truth_array};
 use awk_lanes::{Arena, Steps};
 use awk_layout::{Array, Arrays, Nodes};
@@ -70,6 +71,9 @@ pub(crate) fn items_array<'a, L: Ledger>(
     requires limit { limit (items_type unknown (items_view items.now.items)) ≡ None }
     ensures { IfOk result (IsArrayOfItems (items_view items.now.items)) }
 {
+    if let Some(numbers) = numbers_of(alloc, items)? {
+        return numbers_array(&numbers, arena, steps);
+    }
     let mut arrays = Arrays::new(alloc);
     for item in items {
         arrays.push(array_of(alloc, item, arena, steps)?)?;

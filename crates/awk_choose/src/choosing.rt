@@ -65,11 +65,12 @@ fn data_of<'a>(
 
 /// What is chosen at each end, of columns of which the first is the condition's and the others are
 /// those of the operands that are data.
-fn chosen_ends<'a, L: Ledger>(
+fn chosen_ends<'a, N: Kernels, L: Ledger>(
     alloc: Global,
     a: &Operand,
     b: &Operand,
     columns: &Arrays<'a>,
+    kernels: &N,
     arena: &'a Arena,
     steps: &mut Steps<L>,
 ) -> Result<Node<'a>, Fault>
@@ -89,19 +90,20 @@ fn chosen_ends<'a, L: Ledger>(
     let condition = column_end(alloc, first, arena, steps)?;
     let x = operand_end(alloc, a, 1, columns, arena, steps)?;
     let y = operand_end(alloc, b, 1 + data_before(a), columns, arena, steps)?;
-    let chosen = chosen_leaves(&condition, &x, &y, n, arena, steps)?;
+    let chosen = chosen_leaves(alloc, &condition, &x, &y, n, kernels, arena, steps)?;
     let node = chosen_node(alloc, some_option(columns), &chosen, steps)?;
     Ok(node)
 }
 
 /// The choice among operands whose ends are leaves, optional or not.
-fn of_leaves<'a, L: Ledger>(
+fn of_leaves<'a, N: Kernels, L: Ledger>(
     alloc: Global,
     c: &Datum<'a>,
     a: &Operand<'a>,
     b: &Operand<'a>,
     xs: &Operands<'a>,
     none: &Paired<'a>,
+    kernels: &N,
     arena: &'a Arena,
     steps: &mut Steps<L>,
 ) -> Result<Datum<'a>, Fault>
@@ -122,13 +124,13 @@ fn of_leaves<'a, L: Ledger>(
     let optional = some_option(&none.leaves);
     let typ = result_typ(alloc, prim, optional, &none.shape, arena, steps)?;
     let paired = pair(alloc, xs, Some(64), arena, steps)?;
-    let ends = chosen_ends(alloc, a, b, &paired.leaves, arena, steps)?;
+    let ends = chosen_ends(alloc, a, b, &paired.leaves, kernels, arena, steps)?;
     let node = framed(alloc, &paired.shape, ends, steps)?;
     Ok(datum_from(paired.single, Array::within_limits(node, typ)))
 }
 
 /// At each end of what a condition and two operands share, a's item where the condition is true,
-/// b's where it is not, and null where it is null. No kernel is called.
+/// b's where it is not, and null where it is null.
 ///
 /// Faults come in this order: `WrongType` where an end of the three is a record, a tuple or a
 /// union, where the condition is not of truth values, or where the leaves of a and b neither
@@ -139,7 +141,7 @@ pub fn choose<'a, N: Kernels, L: Ledger>(
     c: &Datum<'a>,
     a: &Operand<'a>,
     b: &Operand<'a>,
-    _kernels: &N,
+    kernels: &N,
     arena: &'a Arena,
     steps: &mut Steps<L>,
 ) -> Result<Datum<'a>, Fault>
@@ -155,5 +157,5 @@ pub fn choose<'a, N: Kernels, L: Ledger>(
     if !are_leaves(&none.leaves) {
         return Err(Fault::WrongType);
     }
-    of_leaves(alloc, c, a, b, &xs, &none, arena, steps)
+    of_leaves(alloc, c, a, b, &xs, &none, kernels, arena, steps)
 }

@@ -24,6 +24,7 @@ ghost use Rattle.awk_choose.specs.Ends.{AreLeafColumns, IsEndAt};
 
 use awk_columns::in_order;
 use awk_ends::leaf_lane;
+use awk_kernels::Kernels;
 use awk_lanes::{Arena, Lane, NoMemory, Steps};
 use awk_layout::{Array, Arrays, Operand};
 use awk_open::Opened;
@@ -128,11 +129,13 @@ fn optional_of<'b, 'a>(end: &'b End<'a>, side: &'b Side<'b, 'a>) -> Optional<'b,
 }
 
 /// What a condition chooses at each of n ends, of what two operands give there.
-pub(crate) fn chosen_leaves<'a, L: Ledger>(
+pub(crate) fn chosen_leaves<'a, N: Kernels, L: Ledger>(
+    alloc: Global,
     condition: &End,
     x: &End,
     y: &End,
     n: u64,
+    kernels: &N,
     arena: &'a Arena,
     steps: &mut Steps<L>,
 ) -> Result<Chosen<'a>, Fault>
@@ -155,5 +158,5 @@ pub(crate) fn chosen_leaves<'a, L: Ledger>(
     let x = optional_of(x, &whole);
     let whole = side_of(y);
     let y = optional_of(y, &whole);
-    choice_leaves(&condition, (&x, &y), n, arena, steps)
+    choice_leaves(alloc, &condition, (&x, &y), n, kernels, arena, steps)
 }

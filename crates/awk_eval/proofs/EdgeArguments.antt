@@ -9,6 +9,7 @@ use Rattle.awk_query.specs.Allowed.{is_of_kind, AreArguments, HasArguments}
 use Rattle.awk_query.specs.Operations.{operations}
 use Rattle.awk_query.specs.WholeNumbers as query
 use Rattle.awk_query.specs.WholeNumbers.{is_whole}
+use Rattle.awk_query.specs.declared.op.Extent.{Extent}
 use Rattle.awk_query.specs.declared.op.Op.{Op}
 use Rattle.awk_query.specs.declared.op.Op.TheVariants as op
 use Rattle.awk_query.specs.declared.kind.ArgKind.{ArgKind}
@@ -16,8 +17,8 @@ use Rattle.awk_query.specs.declared.kind.ArgKind.TheVariants as kind
 use Rattle.awk_query.specs.declared.fixed.FixedArg.{FixedArg}
 use Rattle.awk_query.specs.declared.fixed.FixedArg.TheVariants.{Place, Count, Missing, Truth, Text}
 use Rattle.awk_query.specs.declared.fixed.FixedArg.TheVariants.{Texts, Wholes}
-use Rattle.awk_eval.specs.Fixed.{edges_in}
-use Rattle.awk_eval.proofs.Rows.{row_of-all}
+use Rattle.awk_arguments.specs.Fixed.{edges_in}
+use Rattle.awk_arguments.proofs.Rows.{row_of-all}
 
 -- an expression and edges
 abbrev has_edges : List ArgKind → Bool
@@ -25,8 +26,7 @@ has_edges (kind.Expr ∷ kind.Edges ∷ []) = true
 has_edges _ = false
 
 abbrev takes_edges : Op → List ArgKind → Bool
-takes_edges op.Hist ks = has_edges ks
-takes_edges op.HistEach ks = has_edges ks
+takes_edges (op.Hist of) ks = has_edges ks
 takes_edges _ ks = true
 
 each_hist : list_all (λ r. takes_edges r.1 r.2) operations ≡ true
@@ -67,14 +67,8 @@ rising_given (kind.Expr ∷ kind.Edges ∷ []) n fixed h a =
     subst AreRising (sym one) (rising_edges edges.is.arg edges.is.of_kind)
 rising_given _ n fixed h a = absurd (cc)
 
-pub AreRising-hist : (n : ℕ) (fixed : List FixedArg) → HasArguments op.Hist n fixed
-    → AreRising fixed
-AreRising-hist n fixed has =
+pub AreRising-hist : (of : Extent) (n : ℕ) (fixed : List FixedArg)
+    → HasArguments (op.Hist of) n fixed → AreRising fixed
+AreRising-hist of n fixed has =
     rising_given has.kinds n fixed
-    (row_of-all takes_edges has.name has.count op.Hist has.kinds each_hist has.row) has.are
-
-pub AreRising-hist_each : (n : ℕ) (fixed : List FixedArg) → HasArguments op.HistEach n fixed
-    → AreRising fixed
-AreRising-hist_each n fixed has =
-    rising_given has.kinds n fixed
-    (row_of-all takes_edges has.name has.count op.HistEach has.kinds each_hist has.row) has.are
+    (row_of-all takes_edges has.name has.count (op.Hist of) has.kinds each_hist has.row) has.are

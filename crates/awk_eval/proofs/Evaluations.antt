@@ -4,12 +4,13 @@ use Rattle.std.proofs.Common.{◌++◌, drop, length, slice_get, Option, Some, N
 use Rattle.std.proofs.Common.{Ok, Err, refl, sym, ap, ap₂, ◌∙◌, subst, add-one, append_assoc, arith}
 use Rattle.std.specs.Prelude.{IfOk}
 use Rattle.std.specs.Str.{bytes_eq}
-use Rattle.std.proofs.lemmas.List.{map-append}
+use Rattle.std.proofs.lemmas.List.{map-append, length-map}
 use Rattle.awk_types.specs.DataType.{Name}
 use Rattle.awk_types.specs.Gives.{Told}
 use Rattle.awk_types.proofs.ListLaws.{drop-get}
 use Rattle.awk_types.specs.declared.fault.Fault.{Fault}
 use Rattle.awk_layout.specs.Datum.{datum_of}
+use Rattle.awk_layout.specs.Filler.{filler_of}
 use Rattle.awk_layout.specs.Layout.{Layout}
 use Rattle.awk_layout.specs.declared.datum.Datum.{Datum}
 use Rattle.awk_layout.specs.declared.datum.Datum.TheVariants.{Arr, One}
@@ -25,8 +26,9 @@ use Rattle.awk_query.proofs.Views.{expr_of-Call}
 use Rattle.awk_view.proofs.RowSteps.{IfOk-map}
 use Rattle.awk_eval.specs.Bindings.{Bindings, look_up, each}
 use Rattle.awk_eval.specs.Variables.{Variables, Environment, denoted}
-use Rattle.awk_eval.specs.Operand.{Operand, takes_literal}
-use Rattle.awk_eval.specs.OperandView.{shown_operand, shown_operands}
+use Rattle.awk_arguments.specs.Operand.{Operand, takes_literal, IsTakenAs, AreTaken}
+use Rattle.awk_arguments.specs.OperandView.{shown_operands}
+use Rattle.awk_arguments.proofs.FitLaws.{AreTaken-push}
 use Rattle.awk_eval.specs.Views.{IsArray, IsWithin, Takes, size_of, size_or_none, size_at, sizes_of}
 use Rattle.awk_eval.specs.Eval.{eval, operands, operand_of, joined, mapped, found}
 
@@ -109,12 +111,12 @@ module _ (env : Environment) (o : Op) (es : List ExprTree) (old : List code.Oper
 
   -- with one operand more
   pub operands-push : (new : List code.Operand) (x : code.Operand) → new ≡ old ++ x ∷ []
-      → here ≡ Ok (shown_operand x)
+      → here ≡ Ok (filler_of x)
       → operands env o 0 (exprs_from es) ≡ behind (shown_operands new) (later (i + 1))
   operands-push new x pushed h =
-      next ∙ one_more (shown_operands old) (shown_operand x) here (later (i + 1)) h
+      next ∙ one_more (shown_operands old) (filler_of x) here (later (i + 1)) h
       ∙ ap (λ made. behind made (later (i + 1)))
-      (sym (ap shown_operands pushed ∙ map-append shown_operand old (x ∷ [])))
+      (sym (ap shown_operands pushed ∙ map-append filler_of old (x ∷ [])))
 
   one_told : (made : List Operand) (t : Option Fault) (r : Result Operand Fault)
       (rs : Result (List Operand) Fault) → Told t r → Told t (behind made (joined r rs))
@@ -126,6 +128,20 @@ module _ (env : Environment) (o : Op) (es : List ExprTree) (old : List code.Oper
   pub operands-told : (t : Option Fault) → Told t here → Told t (operands env o 0 (exprs_from es))
   operands-told t h =
       subst (Told t) (sym next) (one_told (shown_operands old) t here (later (i + 1)) h)
+
+-- a literal more stands only where it may
+pub AreTaken-operands : (o : Op) (old new : List code.Operand) (i : ℕ) (x : code.Operand) (b : Bool)
+    → new ≡ old ++ x ∷ [] → length old ≡ i → b ≡ takes_literal o i
+    → AreTaken (takes_literal o) 0 (shown_operands old) → IsTakenAs b (filler_of x)
+    → AreTaken (takes_literal o) 0 (shown_operands new)
+AreTaken-operands o old new i x b pushed counted place are is =
+    let shown : shown_operands new ≡ shown_operands old ++ filler_of x ∷ [] =
+    ap shown_operands pushed ∙ map-append filler_of old (x ∷ []) in
+    let same : length (shown_operands old) ≡ length old = length-map old filler_of in
+    let long : i ≡ 0 + length (shown_operands old) = omega (arith, counted, same) in
+    subst (AreTaken (takes_literal o) 0) (sym shown)
+    (AreTaken-push (takes_literal o) 0 (shown_operands old) (filler_of x) i long are
+    (subst (λ c. IsTakenAs c (filler_of x)) place is))
 
 -- ---- what is allowed
 

@@ -6,11 +6,18 @@ use Rattle.awk_types.specs.Value.{Value, int, truth, null, list, row, values_fro
 use Rattle.awk_types.specs.Datum.{arr, one}
 use Rattle.awk_types.specs.declared.primitive.Primitive.TheVariants.{Bool, I64}
 use Rattle.awk_types.specs.declared.fault.Fault.TheVariants.{Unbound, NoField, WrongType, Overflow}
-use Rattle.awk_types.specs.declared.fault.Fault.TheVariants.{Axis, Index, WrongType}
+use Rattle.awk_types.specs.declared.fault.Fault.TheVariants.{Axis, Index}
 use Rattle.awk_query.specs.ExprTree as tree
 use Rattle.awk_query.specs.ExprTree.{ExprTree, exprs_from}
 use Rattle.awk_query.specs.declared.op.Op.{Op}
 use Rattle.awk_query.specs.declared.op.Op.TheVariants as op
+use Rattle.awk_kernels.specs.declared.operation.Arith.TheVariants as arith
+use Rattle.awk_query.specs.declared.op.PlaceOp.TheVariants as place_op
+use Rattle.awk_query.specs.declared.op.PairOp.TheVariants as pair_op
+use Rattle.awk_query.specs.declared.op.ReduceOp.TheVariants as reduce_op
+use Rattle.awk_query.specs.declared.op.SingleOp.TheVariants as single_op
+use Rattle.awk_query.specs.declared.op.Target.TheVariants as target
+use Rattle.awk_query.specs.declared.op.AxisOp.TheVariants as axis_op
 use Rattle.awk_query.specs.declared.fixed.FixedArg.{FixedArg}
 use Rattle.awk_query.specs.declared.fixed.FixedArg.TheVariants.{Place, Missing, Text, Texts}
 use Rattle.awk_eval.specs.Bindings.{Bindings, names, bind}
@@ -95,17 +102,19 @@ a_truth_value = refl
 -- ---- arguments
 
 -- the first fault from the left is told
-left_first : eval env (of op.Pick (missing ∷ great ∷ []) []) ≡ Err (Unbound (codes "z"))
+left_first : eval env (of (op.Pair pair_op.Pick) (missing ∷ great ∷ []) [])
+    ≡ Err (Unbound (codes "z"))
 left_first = refl
 
-left_first_too : eval env (of op.Pick (great ∷ missing ∷ []) []) ≡ Err Overflow
+left_first_too : eval env (of (op.Pair pair_op.Pick) (great ∷ missing ∷ []) []) ≡ Err Overflow
 left_first_too = refl
 
 -- a number is a literal where the operation takes one, and else an int64
-literal_operand : eval env (of op.Add (great ∷ missing ∷ []) []) ≡ Err (Unbound (codes "z"))
+literal_operand : eval env (of (op.Calculate arith.Add) (great ∷ missing ∷ []) [])
+    ≡ Err (Unbound (codes "z"))
 literal_operand = refl
 
-no_literal_operand : eval env (of op.Neg (great ∷ []) []) ≡ Err Overflow
+no_literal_operand : eval env (of (op.Single single_op.Neg) (great ∷ []) []) ≡ Err Overflow
 no_literal_operand = refl
 
 no_literal_condition : eval env (of op.Choose (great ∷ m ∷ m ∷ []) []) ≡ Err Overflow
@@ -120,10 +129,11 @@ literal_fills : eval env (of op.FillNone (m ∷ great ∷ []) (Place (pos 0) ∷
 literal_fills = refl
 
 -- with other arguments than its own an operation says so after its operands
-other_arguments : eval env (of op.Sort (m ∷ []) []) ≡ Err WrongType
+other_arguments : eval env (of (op.Sort target.Items) (m ∷ []) []) ≡ Err WrongType
 other_arguments = refl
 
-other_arguments_of_nothing : eval env (of op.Sort (missing ∷ []) []) ≡ Err (Unbound (codes "z"))
+other_arguments_of_nothing : eval env (of (op.Sort target.Items) (missing ∷ []) [])
+    ≡ Err (Unbound (codes "z"))
 other_arguments_of_nothing = refl
 
 -- ---- ranges
@@ -192,22 +202,23 @@ no_field = refl
 
 -- ---- picks
 
-last_item : eval env (of op.At (m ∷ []) (Place (negsuc 0) ∷ [])) ≡ Ok (one (leaf I64) (n 4))
+last_item : eval env (of (op.Place place_op.At) (m ∷ []) (Place (negsuc 0) ∷ []))
+    ≡ Ok (one (leaf I64) (n 4))
 last_item = refl
 
-no_item : eval env (of op.At (m ∷ []) (Place (pos 5) ∷ [])) ≡ Err Index
+no_item : eval env (of (op.Place place_op.At) (m ∷ []) (Place (pos 5) ∷ [])) ≡ Err Index
 no_item = refl
 
 -- the numbers picked by their own, backwards
-picked_back : eval env (of op.Pick (m ∷ of op.Range (m ∷ [])
+picked_back : eval env (of (op.Pair pair_op.Pick) (m ∷ of op.Range (m ∷ [])
     (Missing ∷ Missing ∷ Place (negsuc 1) ∷ []) ∷ []) [])
     ≡ Ok (arr (leaf I64) (numbers (4 ∷ 2 ∷ 0 ∷ [])))
 picked_back = refl
 
-picked_by_a_value : eval env (of op.Pick (m ∷ b ∷ []) []) ≡ Err WrongType
+picked_by_a_value : eval env (of (op.Pair pair_op.Pick) (m ∷ b ∷ []) []) ≡ Err WrongType
 picked_by_a_value = refl
 
-picked_by_lists : eval env (of op.Pick (m ∷ field a y ∷ []) []) ≡ Err WrongType
+picked_by_lists : eval env (of (op.Pair pair_op.Pick) (m ∷ field a y ∷ []) []) ≡ Err WrongType
 picked_by_lists = refl
 
 -- ---- axes
@@ -221,7 +232,7 @@ abbrev single : ExprTree
 single = of op.Fields (b ∷ []) (Texts (y ∷ []) ∷ [])
 
 abbrev num : ExprTree → ℤ → ExprTree
-num e axis = of op.Num (e ∷ []) (Place axis ∷ [])
+num e axis = of (op.Axis axis_op.Num) (e ∷ []) (Place axis ∷ [])
 
 -- a negative axis counts from the innermost lists up to the array itself
 innermost_lists : eval env (num lists (negsuc 0)) ≡ Ok (arr (leaf I64) (numbers (2 ∷ 0 ∷ [])))
@@ -277,5 +288,5 @@ three_times = refl
 no_view : view_of (of op.Range (a ∷ []) (Missing ∷ Missing ∷ Place (pos 2) ∷ [])) ≡ None
 no_view = refl
 
-no_view_of_a_sum : view_of (of op.Sum (a ∷ []) []) ≡ None
+no_view_of_a_sum : view_of (of (op.Reduce reduce_op.Sum) (a ∷ []) []) ≡ None
 no_view_of_a_sum = refl

@@ -12,9 +12,30 @@ use Rattle.awk_query.specs.ExprTree as tree
 use Rattle.awk_query.specs.ExprTree.{ExprTree, ExprTrees, no_exprs, expr}
 use Rattle.awk_query.specs.declared.op.Op.{Op}
 use Rattle.awk_query.specs.declared.op.Op.TheVariants as op
+use Rattle.awk_query.specs.declared.op.PlaceOp.{PlaceOp}
+use Rattle.awk_query.specs.declared.op.PlaceOp.TheVariants as place_op
+use Rattle.awk_query.specs.declared.op.PairOp.{PairOp}
+use Rattle.awk_query.specs.declared.op.PairOp.TheVariants as pair_op
+use Rattle.awk_query.specs.declared.op.AxisOp.{AxisOp}
+use Rattle.awk_query.specs.declared.op.AxisOp.TheVariants as axis_op
+use Rattle.awk_query.specs.declared.op.LogicOp.{LogicOp}
+use Rattle.awk_query.specs.declared.op.LogicOp.TheVariants as logic_op
+use Rattle.awk_query.specs.declared.op.SingleOp.{SingleOp}
+use Rattle.awk_query.specs.declared.op.SingleOp.TheVariants as single_op
+use Rattle.awk_query.specs.declared.op.ReduceOp.{ReduceOp}
+use Rattle.awk_query.specs.declared.op.ReduceOp.TheVariants as reduce_op
+use Rattle.awk_query.specs.declared.op.Target.{Target}
+use Rattle.awk_query.specs.declared.op.Target.TheVariants as target
+use Rattle.awk_query.specs.declared.op.Extent.{Extent}
+use Rattle.awk_query.specs.declared.op.Extent.TheVariants as extent
 use Rattle.awk_query.specs.declared.fixed.FixedArg.{FixedArg}
 use Rattle.awk_view.specs.Choice.{field, fields}
-use Rattle.awk_eval.specs.Axes.{axis_in, axis_among, at_axis, at_common_axis}
+use Rattle.awk_arguments.specs.Axes.{axis_in, axis_among, at_axis, at_common_axis}
+use Rattle.awk_arguments.specs.Fixed.{bounds_in, Stepped, stepped_in, place_in, text_in, texts_in}
+use Rattle.awk_arguments.specs.Fixed.{padding_in, truth_in, tuples_in, depth_in, named_in, edges_in}
+use Rattle.awk_arguments.specs.Operand.{Operand, takes_literal, only_in, both_in, first_in, two_in}
+use Rattle.awk_arguments.specs.Operand.{three_in, data_in}
+use Rattle.awk_arguments.specs.Primitives.{primitive_in}
 use Rattle.awk_eval.specs.Bindings.{look_up}
 use Rattle.awk_eval.specs.Variables.{Environment}
 use Rattle.awk_arith.specs.Binary.{binary_of}
@@ -41,22 +62,20 @@ use Rattle.awk_hist.specs.HistEach.{histogram}
 use Rattle.awk_reduce.specs.Reduce.{reduce_of}
 use Rattle.awk_reduce.specs.declared.reducer.Reducer.{Reducer}
 use Rattle.awk_reduce.specs.declared.reducer.Reducer.TheVariants as reducer
+use Rattle.awk_fill.specs.FillNone as fill
 use Rattle.awk_fill.specs.FillNone.{Filler, fill_none_of}
-use Rattle.awk_layout.specs.Filler as layout
+use Rattle.awk_layout.specs.Filler.{literal, datum}
 use Rattle.awk_leaves.specs.declared.operation.Binary.{Binary}
-use Rattle.awk_leaves.specs.declared.operation.Binary.TheVariants.{Join}
+use Rattle.awk_leaves.specs.declared.operation.Binary.TheVariants.{Calculate, Test, Join}
 use Rattle.awk_leaves.specs.declared.operation.Logic.{Logic}
+use Rattle.awk_leaves.specs.declared.operation.Logic.TheVariants as logic
+use Rattle.awk_leaves.specs.declared.operation.Unary.{Unary}
+use Rattle.awk_leaves.specs.declared.operation.Unary.TheVariants as unary
 use Rattle.awk_nulls.specs.Firsts.{firsts_of}
 use Rattle.awk_nulls.specs.IsNone.{is_none_of}
 use Rattle.awk_nulls.specs.PadNone.{pad_none_of}
 use Rattle.awk_mask.specs.PutMask.{put_mask_of}
 use Rattle.awk_nulls.specs.Singletons.{singletons_of}
-use Rattle.awk_eval.specs.Operand.{Operand, of, literal, only_in, both_in, data_in, filled_in}
-use Rattle.awk_eval.specs.Operand.{takes_literal, two_in, three_in}
-use Rattle.awk_eval.specs.Leafwise.{number_operation, logic_operation, single_operation}
-use Rattle.awk_eval.specs.Fixed.{bounds_in, Stepped, stepped_in, place_in, text_in, texts_in}
-use Rattle.awk_eval.specs.Fixed.{padding_in, truth_in, tuples_in, depth_in, named_in, edges_in}
-use Rattle.awk_eval.specs.Primitives.{primitive_in}
 use Rattle.awk_eval.specs.Ranges.{range_items}
 
 -- ---- results: the first fault wins
@@ -103,29 +122,31 @@ field_of n d = mapped settled (choice_of (field n) d)
 abbrev pub fields_of : List Name → Datum → Result Datum Fault
 fields_of ns d = choice_of (fields ns) d
 
--- an operation on what it is given, with another argument
+-- An argument that is the operation's own. With others than its own, which no line that is read
+-- has, an operation answers a type fault.
+abbrev pub own : {A : Type 0} → Option A → Result A Fault
+own (Some a) = Ok a
+own None = Err WrongType
+
+-- an operation on what it takes, with another argument
 abbrev pub given : {A B : Type 0} → (A → B → Result Datum Fault)
     → Option A → Option B → Result Datum Fault
-given f (Some a) (Some d) = f a d
-given f (Some a) None = Err WrongType
-given f None d = Err WrongType
+given f a b = and_then (λ a. and_then (f a) (own b)) (own a)
 
--- an operation on its operands alone
+-- and without another
 abbrev pub alone : {A : Type 0} → (A → Result Datum Fault) → Option A → Result Datum Fault
-alone f (Some d) = f d
-alone f None = Err WrongType
+alone f a = and_then f (own a)
 
 -- a range of an array, by step 1 or by another
-abbrev pub stepped_of : Stepped → Datum → Result Datum Fault
-stepped_of s d = step_range_of s.lo s.hi s.step d
+abbrev pub stepped_of : Datum → Stepped → Result Datum Fault
+stepped_of d s = step_range_of s.lo s.hi s.step d
 
-abbrev pub ranged : Option (FixedArg × FixedArg) → List FixedArg → Option Datum
-    → Result Datum Fault
-ranged (Some bounds) fixed d = given range_of (Some bounds) d
-ranged None fixed d = given stepped_of (stepped_in fixed) d
+abbrev pub ranged : Option (FixedArg × FixedArg) → List FixedArg → Datum → Result Datum Fault
+ranged (Some bounds) fixed d = range_of bounds d
+ranged None fixed d = alone (stepped_of d) (stepped_in fixed)
 
--- the items of e that items x of type u name: row by row where these are lists, by a mask where they
--- are truth values, else by an index
+-- the items of e that items x of type u name: row by row where these are lists, by a mask where
+-- they are truth values, else by an index
 abbrev pub pick_by : DataType → Datum → Datum → Result Datum Fault
 pick_by u e x =
     if is_jagged u then jagged_of e x else if is_mask u then mask_of e x else take_of e x
@@ -134,64 +155,96 @@ abbrev pub pick_of : Datum → Datum → Result Datum Fault
 pick_of (arr t vs) (arr u ws) = pick_by u (arr t vs) (arr u ws)
 pick_of e x = Err WrongType
 
--- an operation on two data
-abbrev pub paired : (Datum → Datum → Result Datum Fault) → Option (Datum × Datum)
-    → Result Datum Fault
-paired f (Some p) = f p.0 p.1
-paired f None = Err WrongType
+-- ---- operations of one shape
+
+-- at a place
+abbrev pub place_function : PlaceOp → ℤ → Datum → Result Datum Fault
+place_function place_op.At = at_of
+place_function place_op.AtEach = at_each_of
+
+-- on two data
+abbrev pub pair_function : PairOp → Datum × Datum → Result Datum Fault
+pair_function pair_op.Pick p = pick_of p.0 p.1
+pair_function pair_op.Unflatten p = unflatten_of p.0 p.1
+
+-- at an axis
+abbrev pub axis_function : AxisOp → ℤ → Datum → Result Datum Fault
+axis_function axis_op.Num = num_of
+axis_function axis_op.Flatten = flatten_of
+axis_function axis_op.LocalIndex = local_index_of
+axis_function axis_op.IsNone = is_none_of
+axis_function axis_op.DropNone = drop_none_of
+axis_function axis_op.Firsts = firsts_of
+axis_function axis_op.Singletons = singletons_of
+
+-- on two truth values
+abbrev pub logic_of : LogicOp → Logic
+logic_of logic_op.And = logic.And
+logic_of logic_op.Or = logic.Or
+logic_of logic_op.Xor = logic.Xor
+
+-- on one leaf
+abbrev pub unary_by : SingleOp → Unary
+unary_by single_op.Not = unary.Not
+unary_by single_op.Neg = unary.Negate
+unary_by single_op.Abs = unary.Absolute
+
+-- what innermost lists are reduced by
+abbrev pub reducer_of : ReduceOp → Reducer
+reducer_of reduce_op.Sum = reducer.Sum
+reducer_of reduce_op.Prod = reducer.Prod
+reducer_of reduce_op.Min = reducer.Min
+reducer_of reduce_op.Max = reducer.Max
+reducer_of reduce_op.Argmin = reducer.Argmin
+reducer_of reduce_op.Argmax = reducer.Argmax
+reducer_of reduce_op.Any = reducer.Any
+reducer_of reduce_op.All = reducer.All
+reducer_of reduce_op.Count = reducer.Count
+reducer_of reduce_op.CountNonzero = reducer.CountNonzero
+
+-- whether places are given for items
+abbrev pub are_places : Target → Bool
+are_places target.Items = false
+are_places target.Places = true
+
+-- the items of innermost lists in order, or their places
+abbrev pub sort_function : Target → Bool → Datum → Result Datum Fault
+sort_function target.Items = sort_of
+sort_function target.Places = argsort_of
+
+-- whether each innermost list is counted by itself
+abbrev pub is_each : Extent → Bool
+is_each extent.Whole = false
+is_each extent.Each = true
+
+-- ---- other arguments beside them
 
 -- lists padded by nulls to so many items, at an axis, cut or not
 abbrev pub padded_by : ℕ × ℤ × Bool → Datum → Result Datum Fault
 padded_by p d = pad_none_of p.0 (axis_in d p.1) p.2 d
 
+-- what fills nulls
+abbrev pub filler : Operand → Filler
+filler (datum d) = fill.datum d
+filler (literal z) = fill.literal z
+
 -- nulls at an axis filled
-abbrev pub filled_by : ℤ → Datum × Filler → Result Datum Fault
-filled_by axis p = fill_none_of p.0 p.1 (axis_in p.0 axis)
+abbrev pub filled_by : ℤ → Datum × Operand → Result Datum Fault
+filled_by axis p = fill_none_of p.0 (filler p.1) (axis_in p.0 axis)
 
 -- an array where a mask over it is as asked, and null elsewhere
 abbrev pub masked_by : Bool → Datum × Datum → Result Datum Fault
 masked_by w p = put_mask_of p.0 p.1 w
 
--- what the operation of a reducer reduces lists by
-abbrev pub reducer_of : Op → Option Reducer
-reducer_of op.Sum = Some reducer.Sum
-reducer_of op.Prod = Some reducer.Prod
-reducer_of op.Min = Some reducer.Min
-reducer_of op.Max = Some reducer.Max
-reducer_of op.Argmin = Some reducer.Argmin
-reducer_of op.Argmax = Some reducer.Argmax
-reducer_of op.Any = Some reducer.Any
-reducer_of op.All = Some reducer.All
-reducer_of op.Count = Some reducer.Count
-reducer_of op.CountNonzero = Some reducer.CountNonzero
-reducer_of _ = None
-
--- a reducer on its operand
-abbrev pub reducing : Op → List Operand → Result Datum Fault
-reducing o operands = given reduce_of (reducer_of o) (only_in operands)
-
 -- an operation on two operands, leaf by leaf
-abbrev pub calculated_by : Binary → layout.Filler × layout.Filler → Result Datum Fault
+abbrev pub calculated_by : Binary → Operand × Operand → Result Datum Fault
 calculated_by o p = binary_of o p.0 p.1
 
 abbrev pub joined_by : Logic → Datum × Datum → Result Datum Fault
-joined_by o p = binary_of (Join o) (layout.datum p.0) (layout.datum p.1)
-
--- an operation of a kind on what it takes, if the operation is of the kind
-abbrev pub of_kind : {A B : Type 0} → (A → B → Result Datum Fault) → Option A → Option B
-    → Result Datum Fault → Result Datum Fault
-of_kind f (Some a) found later = given f (Some a) found
-of_kind f None found later = later
-
--- an operation that goes leaf by leaf on its operands
-abbrev pub leafwise : Op → List Operand → Result Datum Fault
-leafwise o operands =
-    of_kind calculated_by (number_operation o) (two_in operands)
-    (of_kind joined_by (logic_operation o) (both_in operands)
-    (of_kind unary_of (single_operation o) (only_in operands) (reducing o operands)))
+joined_by o p = binary_of (Join o) (datum p.0) (datum p.1)
 
 -- the items of two operands, as a third has it
-abbrev pub choice_by : Datum × layout.Filler × layout.Filler → Result Datum Fault
+abbrev pub choice_by : Datum × Operand × Operand → Result Datum Fault
 choice_by p = choose_of p.0 p.1 p.2
 
 -- tuples of the items of lists at an axis, or of their places
@@ -218,69 +271,48 @@ put_by n p = with_field_of n p.0 p.1
 abbrev pub histogram_by : Bool → List ℤ → Datum → Result Datum Fault
 histogram_by each edges d = histogram edges each d
 
--- an operation that makes rows on its operands
-abbrev pub tupled : Op → List FixedArg → List Operand → Result Datum Fault
-tupled op.Combinations fixed operands =
-    given (combined_by false) (tuples_in fixed) (only_in operands)
-tupled op.Argcombinations fixed operands =
-    given (combined_by true) (tuples_in fixed) (only_in operands)
-tupled op.Cartesian fixed operands =
-    given (product_by false) (place_in fixed) (data_in operands)
-tupled op.Argcartesian fixed operands =
-    given (product_by true) (place_in fixed) (data_in operands)
-tupled op.Tuple fixed operands = given tuple_by (depth_in fixed) (data_in operands)
-tupled op.WithField fixed operands = given put_by (text_in fixed) (both_in operands)
-tupled o fixed operands = leafwise o operands
-
--- an operation on null items on its operands
-abbrev pub optioned : Op → List FixedArg → List Operand → Result Datum Fault
-optioned op.IsNone fixed operands = given (at_axis is_none_of) (place_in fixed) (only_in operands)
-optioned op.DropNone fixed operands =
-    given (at_axis drop_none_of) (place_in fixed) (only_in operands)
-optioned op.Firsts fixed operands = given (at_axis firsts_of) (place_in fixed) (only_in operands)
-optioned op.Singletons fixed operands =
-    given (at_axis singletons_of) (place_in fixed) (only_in operands)
-optioned op.PadNone fixed operands = given padded_by (padding_in fixed) (only_in operands)
-optioned op.FillNone fixed operands = given filled_by (place_in fixed) (filled_in operands)
-optioned op.PutMask fixed operands = given masked_by (truth_in fixed) (both_in operands)
-optioned o fixed operands = tupled o fixed operands
-
--- an operation on lists on its operands
-abbrev pub listed : Op → List FixedArg → List Operand → Result Datum Fault
-listed op.Num fixed operands = given (at_axis num_of) (place_in fixed) (only_in operands)
-listed op.Flatten fixed operands = given (at_axis flatten_of) (place_in fixed) (only_in operands)
-listed op.LocalIndex fixed operands =
-    given (at_axis local_index_of) (place_in fixed) (only_in operands)
-listed op.Unflatten fixed operands = paired unflatten_of (both_in operands)
-listed op.RunLengths fixed operands = alone run_lengths_of (only_in operands)
-listed op.Sort fixed operands = given sort_of (truth_in fixed) (only_in operands)
-listed op.Argsort fixed operands = given argsort_of (truth_in fixed) (only_in operands)
-listed op.Concatenate fixed operands =
-    given (at_common_axis concatenate_of) (place_in fixed) (data_in operands)
-listed o fixed operands = optioned o fixed operands
+-- ---- the table
 
 -- an operation on its operands
 abbrev pub apply : Op → List FixedArg → List Operand → Result Datum Fault
-apply op.At fixed operands = given at_of (place_in fixed) (only_in operands)
-apply op.Range fixed operands = ranged (bounds_in fixed) fixed (only_in operands)
+apply (op.Place o) fixed operands = given (place_function o) (place_in fixed) (only_in operands)
+apply op.Range fixed operands = alone (ranged (bounds_in fixed) fixed) (only_in operands)
 apply op.Field fixed operands = given field_of (text_in fixed) (only_in operands)
 apply op.Fields fixed operands = given fields_of (texts_in fixed) (only_in operands)
 apply op.WithoutField fixed operands = given without_field_of (text_in fixed) (only_in operands)
-apply op.AtEach fixed operands = given at_each_of (place_in fixed) (only_in operands)
-apply op.Pick fixed operands = paired pick_of (both_in operands)
+apply (op.Pair o) fixed operands = alone (pair_function o) (both_in operands)
+apply (op.Axis o) fixed operands =
+    given (at_axis (axis_function o)) (place_in fixed) (only_in operands)
+apply op.RunLengths fixed operands = alone run_lengths_of (only_in operands)
 apply op.Zip fixed operands = given zip_by (named_in fixed) (data_in operands)
+apply op.Tuple fixed operands = given tuple_by (depth_in fixed) (data_in operands)
+apply op.WithField fixed operands = given put_by (text_in fixed) (both_in operands)
+apply op.FillNone fixed operands = given filled_by (place_in fixed) (first_in operands)
+apply op.PadNone fixed operands = given padded_by (padding_in fixed) (only_in operands)
+apply op.PutMask fixed operands = given masked_by (truth_in fixed) (both_in operands)
+apply op.Concatenate fixed operands =
+    given (at_common_axis concatenate_of) (place_in fixed) (data_in operands)
+apply (op.Calculate o) fixed operands = alone (calculated_by (Calculate o)) (two_in operands)
+apply (op.Test how) fixed operands = alone (calculated_by (Test how)) (two_in operands)
+apply (op.Join o) fixed operands = alone (joined_by (logic_of o)) (both_in operands)
+apply (op.Single o) fixed operands = alone (unary_of (unary_by o)) (only_in operands)
 apply op.Choose fixed operands = alone choice_by (three_in operands)
 apply op.Cast fixed operands = given cast_of (primitive_in fixed) (only_in operands)
-apply op.Hist fixed operands = given (histogram_by false) (edges_in fixed) (only_in operands)
-apply op.HistEach fixed operands = given (histogram_by true) (edges_in fixed) (only_in operands)
-apply o fixed operands = listed o fixed operands
+apply (op.Reduce how) fixed operands = alone (reduce_of (reducer_of how)) (only_in operands)
+apply (op.Cartesian to) fixed operands =
+    given (product_by (are_places to)) (place_in fixed) (data_in operands)
+apply (op.Combinations to) fixed operands =
+    given (combined_by (are_places to)) (tuples_in fixed) (only_in operands)
+apply (op.Sort to) fixed operands = given (sort_function to) (truth_in fixed) (only_in operands)
+apply (op.Hist of) fixed operands =
+    given (histogram_by (is_each of)) (edges_in fixed) (only_in operands)
 
 -- ---- expressions
 
 -- a whole number is a literal where the operation takes one
 abbrev pub operand_of : Bool → ExprTree → Result Datum Fault → Result Operand Fault
 operand_of true (tree.whole z) evaluated = Ok (literal z)
-operand_of _ e evaluated = mapped of evaluated
+operand_of _ e evaluated = mapped datum evaluated
 
 abbrev pub joined : Result Operand Fault → Result (List Operand) Fault
     → Result (List Operand) Fault

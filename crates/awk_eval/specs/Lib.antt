@@ -1,13 +1,6 @@
 pub mod Bindings
 pub mod Variables
 pub mod Entries
-pub mod Operand
 pub mod Ranges
-pub mod Fixed
-pub mod Primitives
-pub mod OperandView
-pub mod SteppedView
-pub mod Axes
 pub mod Eval
 pub mod Views
-pub mod Leafwise

@@ -3,7 +3,7 @@ use Rattle.std.specs.Prelude.{ℕ, List, length}
 use Rattle.std.specs.List.{slice_range}
 use Rattle.awk_query.specs.declared.fixed.FixedArg.{FixedArg}
 use Rattle.awk_select.specs.Places.{bound_up}
-use Rattle.awk_eval.specs.Fixed.{bound_in}
+use Rattle.awk_arguments.specs.Fixed.{bound_in}
 
 -- a bound over n items, or what stands for one that is not given
 abbrev pub bound_or : ℕ → ℕ → FixedArg → ℕ

@@ -15,7 +15,7 @@ use Rattle.awk_query.specs.declared.op.Op.{Op}
 use Rattle.awk_query.specs.declared.op.Op.TheVariants as op
 use Rattle.awk_query.specs.declared.fixed.FixedArg.{FixedArg}
 use Rattle.awk_eval.specs.Bindings.{Bindings, look_up, each}
-use Rattle.awk_eval.specs.Fixed.{bounds_in}
+use Rattle.awk_arguments.specs.Fixed.{bounds_in}
 use Rattle.awk_eval.specs.Variables.{Variables}
 
 -- ---- sizes

@@ -3,13 +3,16 @@ ghost use Rattle.std.specs.Prelude.{◌≡◌, length, IfOk};
 ghost use Rattle.awk_types.specs.Gives.{Gives};
 ghost use Rattle.awk_types.specs.Faults.{fault_told};
 ghost use Rattle.awk_layout.specs.Datum.{IsDatum, IsOperand, datum_of};
+ghost use Rattle.awk_layout.specs.Filler as filler;
+ghost use Rattle.awk_layout.specs.Filler.{filler_of};
 ghost use Rattle.awk_query.specs.Allowed.{IsAllowed, AreAllowed};
 ghost use Rattle.awk_query.specs.ExprTree.{exprs_from};
 ghost use Rattle.awk_query.specs.View.{expr_of, exprs_of};
 ghost use Rattle.awk_eval.specs.Bindings.{look_up};
 ghost use Rattle.awk_eval.specs.Variables.{denoted};
-ghost use Rattle.awk_eval.specs.Operand as operand;
-ghost use Rattle.awk_eval.specs.OperandView.{shown_operand, shown_operands};
+ghost use Rattle.awk_arguments.specs.Operand as operand;
+ghost use Rattle.awk_arguments.specs.Operand.{AreTaken, IsTakenAs};
+ghost use Rattle.awk_arguments.specs.OperandView.{shown_operands};
 ghost use Rattle.awk_eval.specs.Views.{IsTaken, Takes, TakesView, OfView, IsArray, AreWithin};
 ghost use Rattle.awk_eval.specs.Views.{IsOperandWithin, size_at, sizes_of, size_in};
 ghost use Rattle.awk_eval.specs.Views.{view_of, only_view};
@@ -71,6 +74,8 @@ fn operands<'s, 'a: 's, N: Kernels, L: Ledger>(
     ensures answer { Gives shown_operands fault_told result
         (meaning.operands (denoted env.now) op 0 (exprs_from (exprs_of args.now))) }
     ensures count { IfOk result (λ made. length made ≡ length (exprs_of args.now)) }
+    ensures taken { IfOk result (λ made.
+        AreTaken (operand.takes_literal op) 0 (shown_operands made)) }
     ensures cost { OfView env.now (only_view (exprs_of args.now)) (λ v.
         IsTaken (size_in env.now v) v.count steps.old steps.new) }
     ensures within { OfView env.now (only_view (exprs_of args.now)) (λ v.
@@ -104,9 +109,10 @@ fn operand<'s, 'a: 's, N: Kernels, L: Ledger>(
     steps: &mut Steps<L>,
 ) -> Result<Operand<'s>, Fault>
     requires { IsAllowed (expr_of e.now) }
-    ensures answer { let tree = expr_of e.now in Gives shown_operand fault_told result
+    ensures answer { let tree = expr_of e.now in Gives filler_of fault_told result
         (meaning.operand_of is_literal tree (meaning.eval (denoted env.now) tree)) }
     ensures operand { IfOk result (λ made. IsOperand made) }
+    ensures taken { IfOk result (λ made. IsTakenAs is_literal (filler_of made)) }
     ensures cost { OfView env.now (view_of (expr_of e.now)) (λ v.
         IsTaken (size_in env.now v) v.count steps.old steps.new) }
     ensures within { OfView env.now (view_of (expr_of e.now)) (λ v.
@@ -121,7 +127,7 @@ fn operand<'s, 'a: 's, N: Kernels, L: Ledger>(
 }
 
 fn literal<'s>(z: i128) -> Operand<'s>
-    ensures { shown_operand result ≡ operand.literal z }
+    ensures { filler_of result ≡ filler.literal z }
 {
     Operand::Literal(z)
 }
@@ -131,8 +137,7 @@ fn takes_literal(op: Op, k: usize) -> bool
     ensures { result ≡ operand.takes_literal op k }
 {
     match op {
-        Op::Add | Op::Sub | Op::Mul | Op::FloorDiv | Op::Rem => true,
-        Op::Eq | Op::Ne | Op::Lt | Op::Le | Op::Gt | Op::Ge => true,
+        Op::Calculate(_) | Op::Test(_) => true,
         Op::Choose => k != 0,
         Op::FillNone => k == 1,
         _ => false,

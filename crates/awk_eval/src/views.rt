@@ -1,29 +1,29 @@
-//! Views of an array, and its items that another array names.
+//! Views of an array: ranges and choices of fields.
 ghost use Rattle.std.specs.Prelude.{◌≡◌, ◌+◌, ◌*◌, ◌≤◌, true, is_some, IfOk};
 ghost use Rattle.awk_types.specs.Gives.{Gives};
 ghost use Rattle.awk_types.specs.Faults.{fault_told};
 ghost use Rattle.awk_types.specs.Names.{AreDistinct};
-ghost use Rattle.awk_types.specs.View.{typ_of};
 ghost use Rattle.awk_layout.specs.Datum.{IsDatum, datum_of};
 ghost use Rattle.awk_layout.specs.Layout.{weight, height};
 ghost use Rattle.awk_layout.specs.Typing.{array_type, array_items};
 ghost use Rattle.awk_lists.specs.WithoutField.{without_field_of};
-ghost use Rattle.awk_eval.specs.Fixed.{bounds_in};
-ghost use Rattle.awk_eval.specs.Operand.{only_in};
-ghost use Rattle.awk_eval.specs.OperandView.{shown_operands};
+ghost use Rattle.awk_arguments.specs.Fit.{IsGiven, IsRange};
+ghost use Rattle.awk_arguments.specs.Fixed.{bounds_in};
+ghost use Rattle.awk_arguments.specs.Operand.{only_in};
+ghost use Rattle.awk_arguments.specs.OperandView.{shown_operands};
+ghost use Rattle.awk_eval.specs.Ranges as ranges;
 ghost use Rattle.awk_eval.specs.Ranges.{range_items};
 ghost use Rattle.awk_eval.specs.Views.{Size, Takes, IsWithin, AreWithin};
 ghost use Rattle.awk_eval.specs.Eval as meaning;
 
-use crate::arguments::{bound_or, bounds, only, with_step};
-use awk_jagged::{is_jagged, jagged};
+use awk_arguments::{bound_of, bounds, only, with_step};
 use awk_lanes::{Arena, Steps};
 use awk_layout::{Array, Datum, Operands};
 use awk_lists::without_field;
 use awk_query::{Fixed, FixedArg};
 use awk_range::range;
-use awk_select::{is_mask, mask, step_range, take};
-use awk_types::{Fault, Names, NoMemory, Typ};
+use awk_select::{bound_up, step_range};
+use awk_types::{Fault, Names, NoMemory};
 use awk_view::{field, fields, settled};
 use std::alloc::Global;
 use std::sync::ledger::Ledger;
@@ -36,62 +36,22 @@ pub(crate) fn ranged<'s, L: Ledger>(
     arena: &'s Arena,
     steps: &mut Steps<L>,
 ) -> Result<Datum<'s>, Fault>
-    ensures answer { let only = only_in (shown_operands operands.now) in
-        Gives datum_of fault_told result (meaning.ranged (bounds_in fixed.now) fixed.now only) }
+    requires range { IsRange fixed.now }
+    requires operand { IsGiven (only_in (shown_operands operands.now)) }
+    ensures answer { Gives datum_of fault_told result
+        (meaning.alone (meaning.ranged (bounds_in fixed.now) fixed.now)
+        (only_in (shown_operands operands.now))) }
     ensures datum { IfOk result (λ made. IsDatum made) }
     ensures cost { (s : Size) → is_some (bounds_in fixed.now) ≡ true → AreWithin s operands.now
         → Takes s 1 steps.old steps.new result }
 {
-    let Some(x) = only(operands) else {
-        return Err(Fault::WrongType);
-    };
-    match (bounds(fixed), with_step(fixed)) {
-        (Some((lo, hi)), _) => range_of(alloc, x, lo, hi, steps),
-        (None, Some(s)) => step_range(alloc, x, s.lo, s.hi, s.step, arena, steps),
-        (None, None) => Err(Fault::WrongType),
-    }
-}
-
-/// The items of an array that another names, by a mask or an index, or row by row.
-pub(crate) fn pick_of<'s, L: Ledger>(
-    alloc: Global,
-    e: &Datum<'s>,
-    x: &Datum<'s>,
-    arena: &'s Arena,
-    steps: &mut Steps<L>,
-) -> Result<Datum<'s>, Fault>
-    ensures answer { Gives datum_of fault_told result
-        (meaning.pick_of (datum_of e.now) (datum_of x.now)) }
-    ensures datum { IfOk result (λ made. IsDatum made) }
-{
-    match e {
-        Datum::Arr(_) => match x {
-            Datum::Arr(items) => picked(alloc, e, x, items.typ(), arena, steps),
-            Datum::One(_) => Err(Fault::WrongType),
-        },
-        Datum::One(_) => Err(Fault::WrongType),
-    }
-}
-
-// The same, where the items that name others are of a type.
-fn picked<'s, L: Ledger>(
-    alloc: Global,
-    e: &Datum<'s>,
-    x: &Datum<'s>,
-    u: &Typ,
-    arena: &'s Arena,
-    steps: &mut Steps<L>,
-) -> Result<Datum<'s>, Fault>
-    ensures answer { Gives datum_of fault_told result
-        (meaning.pick_by (typ_of u.now) (datum_of e.now) (datum_of x.now)) }
-    ensures datum { IfOk result (λ made. IsDatum made) }
-{
-    if is_jagged(u) {
-        jagged(alloc, e, x, arena, steps)
-    } else if is_mask(u) {
-        mask(alloc, e, x, arena, steps)
-    } else {
-        take(alloc, e, x, arena, steps)
+    let x = only(operands);
+    match bounds(fixed) {
+        Some((lo, hi)) => range_of(alloc, x, lo, hi, steps),
+        None => {
+            let s = with_step(fixed);
+            step_range(alloc, x, s.lo, s.hi, s.step, arena, steps)
+        }
     }
 }
 
@@ -191,4 +151,13 @@ pub(crate) fn without_of<'s, L: Ledger>(
     ensures cost { (s : Size) → IsWithin s x.now → Takes s 1 steps.old steps.new result }
 {
     without_field(alloc, x, name, arena, steps)
+}
+
+// A bound of a range over n items, or what stands for one that is not given.
+fn bound_or(n: u64, other: u64, bound: &FixedArg) -> u64
+    requires { other ≤ n }
+    ensures bound { result ≡ ranges.bound_or n other bound.now }
+    ensures within { result ≤ n }
+{
+    bound_up(n, other, bound_of(bound))
 }

@@ -4,8 +4,8 @@
 //! against them. `cut_in` and `raw_store` part the raw bytes by the keys of the line.
 #![tactic(auto)]
 
-mod load;
+mod loading;
 mod raw;
 
-pub use load::{Head, load};
+pub use loading::{Head, load};
 pub use raw::{cut_in, raw_store};

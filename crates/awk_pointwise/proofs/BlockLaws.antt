@@ -122,7 +122,7 @@ take-part (x ∷ xs) (suc lo) (suc hi) h =
     ap (λ ys. x ∷ ys) (take-part xs lo hi (omega (arith, h))
     ∙ ap (λ i. take lo xs ++ take i (drop lo xs)) (omega arith))
 
-length-part : {X : Type 0} (xs : List X) (lo hi : ℕ) → lo ≤ hi → hi ≤ length xs
+pub length-part : {X : Type 0} (xs : List X) (lo hi : ℕ) → lo ≤ hi → hi ≤ length xs
     → length (slice_range xs lo hi) ≡ hi - lo
 length-part xs lo hi p q =
     omega (arith, p, q, length-take (hi - lo) (drop lo xs), length-drop lo xs)
@@ -225,7 +225,7 @@ all_so_far rs k n b r so e same items =
 
 -- ---- sides in parts
 
-part-map : {X Y : Type 0} (f : X → Y) (xs : List X) (lo hi : ℕ)
+pub part-map : {X Y : Type 0} (f : X → Y) (xs : List X) (lo hi : ℕ)
     → map f (slice_range xs lo hi) ≡ slice_range (map f xs) lo hi
 part-map f xs lo hi =
     sym (take-map f (hi - lo) (drop lo xs)) ∙ ap (take (hi - lo)) (sym (drop-map f lo xs))

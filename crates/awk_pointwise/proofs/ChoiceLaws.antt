@@ -143,7 +143,7 @@ are_within n s a b c = λ i q. record {
 
 -- ---- lists of choices
 
-chosen_length : (cs xs ys : List Value) → length xs ≡ length cs → length ys ≡ length cs
+pub chosen_length : (cs xs ys : List Value) → length xs ≡ length cs → length ys ≡ length cs
     → length (chosen_values cs xs ys) ≡ length cs
 chosen_length [] xs ys p q = refl
 chosen_length (c ∷ cs) [] ys p q = absurd (omega (arith, p))

@@ -33,12 +33,13 @@ use Rattle.awk_pointwise.specs.declared.optional.Optional.{Optional}
 use Rattle.awk_pointwise.specs.declared.optional.Optional.TheVariants as optional
 use Rattle.awk_pointwise.specs.declared.sides.Side.{Side}
 use Rattle.awk_pointwise.specs.declared.sides.Side.TheVariants as side
-use Rattle.awk_pointwise.proofs.SideLaws.{leaf_number, number_typed, one_number}
+use Rattle.awk_pointwise.proofs.SideLaws.{leaf_number, number_typed, one_number, all-replicate}
 use Rattle.awk_pointwise.specs.Numbers.{IsTyped}
-use Rattle.awk_pointwise.specs.Sides.{lane_values, leaf_type, IsSide, IsLeafNumber}
+use Rattle.awk_pointwise.specs.Sides.{lane_values, leaf_type, side_values, IsSide, IsLeafNumber}
 use Rattle.awk_pointwise.proofs.ChoiceLaws.{FitsIn}
 use Rattle.awk_pointwise.proofs.RangeLaws.{both_whole, first_holds, second_holds, result_whole}
-use Rattle.awk_pointwise.proofs.ReadyLaws.{judged_ok, neither}
+use Rattle.awk_pointwise.proofs.RangeLaws.{all-weaker}
+use Rattle.awk_pointwise.proofs.ReadyLaws.{IsJudged, judged_ok, neither}
 use Rattle.awk_pointwise.proofs.SingleLaws.{zero_held}
 
 -- ---- null, or a leaf of a type
@@ -278,3 +279,39 @@ choices_fit n s p e a b k l i q =
     choice_fits (optional_type s.condition.now) (optional_type s.x.now) (optional_type s.y.now) p
     (optional_at i s.condition.now) (optional_at i s.x.now) (optional_at i s.y.now) e
     (optional_leaf n s.x.now i a k) (optional_leaf n s.y.now i b l)
+
+-- ---- all leaves of a side
+
+side_leaves : (n : ℕ) (s : Side) → IsSide n s → AreKnownSide s
+    → AllByRecursion (IsLeafAt (leaf_type s)) (side_values n s)
+side_leaves n (side.Column lane) h k = leaves_at lane.now.kind lane.now.items k
+side_leaves n side.Missing h k = all-replicate (IsLeafAt Unknown) n null (inl refl)
+side_leaves n (side.Number p z) h k =
+    all-replicate (IsLeafAt (Of p)) n (value_in p z)
+    (inr (
+      subst (IsLeafNumber p) (sym (one_number p z h)) h,
+      ap (value_in p) (sym (one_number p z h)),
+    ))
+side_leaves n (side.Literal z) h k = all-replicate (IsLeafAt (Literal z)) n (int z) (inr refl)
+
+module _ (s t u : LeafType) (p : Primitive) (e : choice_judged s t u ≡ Ok p) where
+  both_judged : IsJudged (choice_type t u) (one_overflows t u) p
+  both_judged = judged_ok (choice_type t u) (one_overflows t u) p
+      (choice_ok (truth_type s) t u p e)
+
+  neither_past : (overflows t u ≡ false) × (overflows u t ≡ false)
+  neither_past = neither (overflows t u) (overflows u t) both_judged.fits
+
+  pub first_fits : (n : ℕ) (x : Side) → leaf_type x ≡ t → IsSide n x → AreKnownSide x
+      → AllByRecursion (FitsIn p) (side_values n x)
+  first_fits n x i h k =
+      all-weaker (IsLeafAt t) (FitsIn p) (side_values n x)
+      (λ v l. first_leaf t u p v both_judged.typed neither_past.0 l)
+      (subst (λ t. AllByRecursion (IsLeafAt t) (side_values n x)) i (side_leaves n x h k))
+
+  pub second_fits : (n : ℕ) (y : Side) → leaf_type y ≡ u → IsSide n y → AreKnownSide y
+      → AllByRecursion (FitsIn p) (side_values n y)
+  second_fits n y i h k =
+      all-weaker (IsLeafAt u) (FitsIn p) (side_values n y)
+      (λ v l. second_leaf t u p v both_judged.typed neither_past.1 l)
+      (subst (λ t. AllByRecursion (IsLeafAt t) (side_values n y)) i (side_leaves n y h k))

@@ -7,4 +7,5 @@ pub mod SingleLaws
 pub mod BlockLaws
 pub mod ChoiceLaws
 pub mod ChoiceTyped
+mod SelectLaws
 mod Worked

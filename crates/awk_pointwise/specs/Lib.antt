@@ -4,3 +4,4 @@ pub mod Single
 pub mod Blocks
 pub mod Optional
 pub mod Choice
+pub mod Selection

@@ -8,16 +8,20 @@ ghost use Rattle.awk_lanes.specs.Places.{size_of};
 ghost use Rattle.awk_lanes.specs.declared.kind.Kind.TheVariants as Kind;
 ghost use Rattle.awk_layout.specs.Kinds.{kind_of};
 ghost use Rattle.awk_leaves.specs.Table.{choice_judged};
-ghost use Rattle.awk_leaves.specs.Values.{choice_values};
+ghost use Rattle.awk_leaves.specs.Values.{choice_values, chosen_values};
 ghost use Rattle.awk_pointwise.specs.Choice.{chosen_items, chosen_value, HasPlaces};
 ghost use Rattle.awk_pointwise.specs.Optional.{optional_type, optional_values, IsOptional, shown};
+ghost use Rattle.awk_pointwise.specs.Optional.{AreKnown};
 ghost use Rattle.awk_pointwise.specs.Sides.{IsLeafNumber};
 
 use crate::optional::{Optional, know, optional_number};
-use awk_lanes::{Arena, Kind, Lane, Num, Numbers, Steps, made_lane};
+use crate::selection::{whole_choice, whole_parts};
+use awk_kernels::Kernels;
+use awk_lanes::{Arena, Kind, Lane, NoMemory, Num, Numbers, Steps, made_lane};
 use awk_layout::kind_of;
 use awk_leaves::choice_prim;
 use awk_types::{Fault, Prim};
+use std::alloc::Global;
 use std::sync::ledger::Ledger;
 
 /// The numbers that were chosen, and where there is none.
@@ -121,12 +125,49 @@ impl<'s, 'b, 'a> Numbers for ChosenNulls<'s, 'b, 'a> {
     }
 }
 
+/// The same, of sides of which some places may be null.
+fn optional_choice<'a, L: Ledger>(
+    prim: Prim,
+    choice: &Choice,
+    n: u64,
+    arena: &'a Arena,
+    steps: &mut Steps<L>,
+) -> Result<Chosen<'a>, NoMemory>
+    requires condition { IsOptional n choice.now.condition.now }
+    requires first { IsOptional n choice.now.x.now }
+    requires second { IsOptional n choice.now.y.now }
+    requires first_known { AreKnown choice.now.x.now }
+    requires second_known { AreKnown choice.now.y.now }
+    requires judged { choice_judged (optional_type choice.now.condition.now)
+        (optional_type choice.now.x.now) (optional_type choice.now.y.now) ≡ Ok prim }
+    ensures items { IfOk result (λ r. chosen_items r ≡ chosen_values
+        (optional_values n choice.now.condition.now) (optional_values n choice.now.x.now)
+        (optional_values n choice.now.y.now)) }
+    ensures kind { IfOk result (λ r. r.lane.kind ≡ kind_of prim) }
+    ensures size { IfOk result (λ r. size_of r.lane ≡ n) }
+    ensures nulls { IfOk result (λ r. size_of r.nulls ≡ n) }
+    ensures mask { IfOk result (λ r. r.nulls.kind ≡ Kind.I8) }
+{
+    let choice = *choice;
+    let lane = made_lane(
+        kind_of(prim),
+        n,
+        &ChosenNumbers { choice, prim, n },
+        arena,
+        steps,
+    )?;
+    let nulls = made_lane(Kind::I8, n, &ChosenNulls { choice, n }, arena, steps)?;
+    Ok(Chosen { nulls, lane })
+}
+
 /// What a condition chooses at each of n places: x's item where it is true, y's where it is not,
 /// and null where it is null.
-pub fn choice_leaves<'a, L: Ledger>(
+pub fn choice_leaves<'a, N: Kernels, L: Ledger>(
+    alloc: Global,
     condition: &Optional,
     sides: (&Optional, &Optional),
     n: u64,
+    kernels: &N,
     arena: &'a Arena,
     steps: &mut Steps<L>,
 ) -> Result<Chosen<'a>, Fault>
@@ -148,14 +189,11 @@ pub fn choice_leaves<'a, L: Ledger>(
     let prim = choice_prim(condition.leaf_type(), x.leaf_type(), y.leaf_type())?;
     know(x);
     know(y);
-    let choice = Choice { condition, x, y };
-    let lane = made_lane(
-        kind_of(prim),
-        n,
-        &ChosenNumbers { choice, prim, n },
-        arena,
-        steps,
-    )?;
-    let nulls = made_lane(Kind::I8, n, &ChosenNulls { choice, n }, arena, steps)?;
-    Ok(Chosen { nulls, lane })
+    match whole_parts(condition, x, y) {
+        Some(whole) => whole_choice(alloc, prim, whole, n, kernels, arena, steps),
+        None => {
+            let choice = Choice { condition, x, y };
+            Ok(optional_choice(prim, &choice, n, arena, steps)?)
+        }
+    }
 }

@@ -3,7 +3,10 @@
 //! A `Side` is what one operand gives at each place: the numbers of a lane, or one number for all
 //! places, of which no lane is made. `binary_leaves` is the lane of what an operation gives at each
 //! place of two sides, or the fault of the first place that has one, and `unary_leaves` that of one
-//! side. No leaf is null: who pairs operands takes nulls out first.
+//! side. No leaf is null there: who pairs operands takes nulls out first.
+//!
+//! An `Optional` may be null at some places. `choice_leaves` gives at each place the item of one of
+//! two of them, by a third.
 #![tactic(auto)]
 
 mod binary;
@@ -12,6 +15,7 @@ mod calculate;
 mod choice;
 mod optional;
 mod see;
+mod selection;
 mod sides;
 mod truths;
 mod unary;

@@ -9,6 +9,16 @@ use Rattle.awk_query.specs.ExprTree.{ExprTree, ExprTrees, var, whole, call, expr
 use Rattle.awk_query.specs.Operations.{row_of}
 use Rattle.awk_query.specs.Reading.{expr_said}
 use Rattle.awk_query.specs.declared.op.Op.TheVariants as op
+use Rattle.awk_query.specs.declared.op.PlaceOp.TheVariants as place_op
+use Rattle.awk_query.specs.declared.op.PairOp.TheVariants as pair_op
+use Rattle.awk_query.specs.declared.op.AxisOp.TheVariants as axis_op
+use Rattle.awk_query.specs.declared.op.LogicOp.TheVariants as logic_op
+use Rattle.awk_query.specs.declared.op.SingleOp.TheVariants as single_op
+use Rattle.awk_query.specs.declared.op.ReduceOp.TheVariants as reduce_op
+use Rattle.awk_query.specs.declared.op.Target.TheVariants as target
+use Rattle.awk_query.specs.declared.op.Extent.TheVariants as extent
+use Rattle.awk_kernels.specs.declared.operation.Arith.TheVariants as arith
+use Rattle.awk_kernels.specs.declared.operation.Compare.TheVariants as compare
 use Rattle.awk_query.specs.declared.fixed.FixedArg.{FixedArg}
 use Rattle.awk_query.specs.declared.fixed.FixedArg.TheVariants.{Place, Count, Missing, Truth, Text}
 use Rattle.awk_query.specs.declared.fixed.FixedArg.TheVariants.{Texts, Wholes}
@@ -181,75 +191,75 @@ edges = Wholes (negsuc 0 ∷ pos 0 ∷ pos 18446744073709551615 ∷ [])
 
 abbrev examples : List Example
 examples =
-    (codes "at", an_expr ∷ a_place ∷ [], call op.At x1 (one ∷ [])) ∷
+    (codes "at", an_expr ∷ a_place ∷ [], call (op.Place place_op.At) x1 (one ∷ [])) ∷
     (codes "range", an_expr ∷ a_bound ∷ a_bound ∷ [], call op.Range x1 (Missing ∷ Missing ∷ [])) ∷
     (codes "field", an_expr ∷ a_name ∷ [], call op.Field x1 (y ∷ [])) ∷
     (codes "fields", an_expr ∷ names ∷ [], call op.Fields x1 (y_and_x ∷ [])) ∷
     (codes "without_field", an_expr ∷ a_name ∷ [], call op.WithoutField x1 (y ∷ [])) ∷
-    (codes "at_each", an_expr ∷ a_place ∷ [], call op.AtEach x1 (one ∷ [])) ∷
-    (codes "pick", an_expr ∷ an_expr ∷ [], call op.Pick x2 []) ∷
-    (codes "num", an_expr ∷ a_place ∷ [], call op.Num x1 (one ∷ [])) ∷
-    (codes "flatten", an_expr ∷ a_place ∷ [], call op.Flatten x1 (one ∷ [])) ∷
-    (codes "local_index", an_expr ∷ a_place ∷ [], call op.LocalIndex x1 (one ∷ [])) ∷
-    (codes "unflatten", an_expr ∷ an_expr ∷ [], call op.Unflatten x2 []) ∷
+    (codes "at_each", an_expr ∷ a_place ∷ [], call (op.Place place_op.AtEach) x1 (one ∷ [])) ∷
+    (codes "pick", an_expr ∷ an_expr ∷ [], call (op.Pair pair_op.Pick) x2 []) ∷
+    (codes "num", an_expr ∷ a_place ∷ [], call (op.Axis axis_op.Num) x1 (one ∷ [])) ∷
+    (codes "flatten", an_expr ∷ a_place ∷ [], call (op.Axis axis_op.Flatten) x1 (one ∷ [])) ∷
+    (codes "local_index", an_expr ∷ a_place ∷ [], call (op.Axis axis_op.LocalIndex) x1 (one ∷ [])) ∷
+    (codes "unflatten", an_expr ∷ an_expr ∷ [], call (op.Pair pair_op.Unflatten) x2 []) ∷
     (codes "run_lengths", an_expr ∷ [], call op.RunLengths x1 []) ∷
     (codes "zip", a_number ∷ named_exprs ∷ [], call op.Zip both (first ∷ y_and_x ∷ [])) ∷
     (codes "tuple", a_number ∷ exprs ∷ [], call op.Tuple both (first ∷ [])) ∷
     (codes "with_field", an_expr ∷ a_name ∷ an_expr ∷ [], call op.WithField x2 (y ∷ [])) ∷
-    (codes "is_none", an_expr ∷ a_place ∷ [], call op.IsNone x1 (one ∷ [])) ∷
+    (codes "is_none", an_expr ∷ a_place ∷ [], call (op.Axis axis_op.IsNone) x1 (one ∷ [])) ∷
     (codes "fill_none", an_expr ∷ an_expr ∷ a_place ∷ [], call op.FillNone x2 (one ∷ [])) ∷
-    (codes "drop_none", an_expr ∷ a_place ∷ [], call op.DropNone x1 (one ∷ [])) ∷
-    (codes "firsts", an_expr ∷ a_place ∷ [], call op.Firsts x1 (one ∷ [])) ∷
-    (codes "singletons", an_expr ∷ a_place ∷ [], call op.Singletons x1 (one ∷ [])) ∷ (
+    (codes "drop_none", an_expr ∷ a_place ∷ [], call (op.Axis axis_op.DropNone) x1 (one ∷ [])) ∷
+    (codes "firsts", an_expr ∷ a_place ∷ [], call (op.Axis axis_op.Firsts) x1 (one ∷ [])) ∷
+    (codes "singletons", an_expr ∷ a_place ∷ [], call (op.Axis axis_op.Singletons) x1 (one ∷ [])) ∷ (
       codes "pad_none",
       an_expr ∷ a_count ∷ a_place ∷ a_truth ∷ [],
       call op.PadNone x1 (none ∷ one ∷ yes ∷ []),
     ) ∷
     (codes "put_mask", an_expr ∷ an_expr ∷ a_truth ∷ [], call op.PutMask x2 (yes ∷ [])) ∷
     (codes "concatenate", a_place ∷ exprs ∷ [], call op.Concatenate both (one ∷ [])) ∷
-    (codes "add", an_expr ∷ an_expr ∷ [], call op.Add x2 []) ∷
-    (codes "sub", an_expr ∷ an_expr ∷ [], call op.Sub x2 []) ∷
-    (codes "mul", an_expr ∷ an_expr ∷ [], call op.Mul x2 []) ∷
-    (codes "floor_div", an_expr ∷ an_expr ∷ [], call op.FloorDiv x2 []) ∷
-    (codes "rem", an_expr ∷ an_expr ∷ [], call op.Rem x2 []) ∷
-    (codes "eq", an_expr ∷ an_expr ∷ [], call op.Eq x2 []) ∷
-    (codes "ne", an_expr ∷ an_expr ∷ [], call op.Ne x2 []) ∷
-    (codes "lt", an_expr ∷ an_expr ∷ [], call op.Lt x2 []) ∷
-    (codes "le", an_expr ∷ an_expr ∷ [], call op.Le x2 []) ∷
-    (codes "gt", an_expr ∷ an_expr ∷ [], call op.Gt x2 []) ∷
-    (codes "ge", an_expr ∷ an_expr ∷ [], call op.Ge x2 []) ∷
-    (codes "and", an_expr ∷ an_expr ∷ [], call op.And x2 []) ∷
-    (codes "or", an_expr ∷ an_expr ∷ [], call op.Or x2 []) ∷
-    (codes "xor", an_expr ∷ an_expr ∷ [], call op.Xor x2 []) ∷
-    (codes "not", an_expr ∷ [], call op.Not x1 []) ∷
-    (codes "neg", an_expr ∷ [], call op.Neg x1 []) ∷
-    (codes "abs", an_expr ∷ [], call op.Abs x1 []) ∷
+    (codes "add", an_expr ∷ an_expr ∷ [], call (op.Calculate arith.Add) x2 []) ∷
+    (codes "sub", an_expr ∷ an_expr ∷ [], call (op.Calculate arith.Sub) x2 []) ∷
+    (codes "mul", an_expr ∷ an_expr ∷ [], call (op.Calculate arith.Mul) x2 []) ∷
+    (codes "floor_div", an_expr ∷ an_expr ∷ [], call (op.Calculate arith.FloorDiv) x2 []) ∷
+    (codes "rem", an_expr ∷ an_expr ∷ [], call (op.Calculate arith.Rem) x2 []) ∷
+    (codes "eq", an_expr ∷ an_expr ∷ [], call (op.Test compare.Eq) x2 []) ∷
+    (codes "ne", an_expr ∷ an_expr ∷ [], call (op.Test compare.Ne) x2 []) ∷
+    (codes "lt", an_expr ∷ an_expr ∷ [], call (op.Test compare.Lt) x2 []) ∷
+    (codes "le", an_expr ∷ an_expr ∷ [], call (op.Test compare.Le) x2 []) ∷
+    (codes "gt", an_expr ∷ an_expr ∷ [], call (op.Test compare.Gt) x2 []) ∷
+    (codes "ge", an_expr ∷ an_expr ∷ [], call (op.Test compare.Ge) x2 []) ∷
+    (codes "and", an_expr ∷ an_expr ∷ [], call (op.Join logic_op.And) x2 []) ∷
+    (codes "or", an_expr ∷ an_expr ∷ [], call (op.Join logic_op.Or) x2 []) ∷
+    (codes "xor", an_expr ∷ an_expr ∷ [], call (op.Join logic_op.Xor) x2 []) ∷
+    (codes "not", an_expr ∷ [], call (op.Single single_op.Not) x1 []) ∷
+    (codes "neg", an_expr ∷ [], call (op.Single single_op.Neg) x1 []) ∷
+    (codes "abs", an_expr ∷ [], call (op.Single single_op.Abs) x1 []) ∷
     (codes "where", an_expr ∷ an_expr ∷ an_expr ∷ [], call op.Choose x3 []) ∷
     (codes "cast", an_expr ∷ a_primitive ∷ [], call op.Cast x1 (int8 ∷ [])) ∷
-    (codes "sum", an_expr ∷ [], call op.Sum x1 []) ∷
-    (codes "prod", an_expr ∷ [], call op.Prod x1 []) ∷
-    (codes "min", an_expr ∷ [], call op.Min x1 []) ∷
-    (codes "max", an_expr ∷ [], call op.Max x1 []) ∷
-    (codes "argmin", an_expr ∷ [], call op.Argmin x1 []) ∷
-    (codes "argmax", an_expr ∷ [], call op.Argmax x1 []) ∷
-    (codes "any", an_expr ∷ [], call op.Any x1 []) ∷
-    (codes "all", an_expr ∷ [], call op.All x1 []) ∷
-    (codes "count", an_expr ∷ [], call op.Count x1 []) ∷
-    (codes "count_nonzero", an_expr ∷ [], call op.CountNonzero x1 []) ∷
-    (codes "cartesian", a_place ∷ exprs ∷ [], call op.Cartesian both (one ∷ [])) ∷
-    (codes "argcartesian", a_place ∷ exprs ∷ [], call op.Argcartesian both (one ∷ [])) ∷ (
+    (codes "sum", an_expr ∷ [], call (op.Reduce reduce_op.Sum) x1 []) ∷
+    (codes "prod", an_expr ∷ [], call (op.Reduce reduce_op.Prod) x1 []) ∷
+    (codes "min", an_expr ∷ [], call (op.Reduce reduce_op.Min) x1 []) ∷
+    (codes "max", an_expr ∷ [], call (op.Reduce reduce_op.Max) x1 []) ∷
+    (codes "argmin", an_expr ∷ [], call (op.Reduce reduce_op.Argmin) x1 []) ∷
+    (codes "argmax", an_expr ∷ [], call (op.Reduce reduce_op.Argmax) x1 []) ∷
+    (codes "any", an_expr ∷ [], call (op.Reduce reduce_op.Any) x1 []) ∷
+    (codes "all", an_expr ∷ [], call (op.Reduce reduce_op.All) x1 []) ∷
+    (codes "count", an_expr ∷ [], call (op.Reduce reduce_op.Count) x1 []) ∷
+    (codes "count_nonzero", an_expr ∷ [], call (op.Reduce reduce_op.CountNonzero) x1 []) ∷
+    (codes "cartesian", a_place ∷ exprs ∷ [], call (op.Cartesian target.Items) both (one ∷ [])) ∷
+    (codes "argcartesian", a_place ∷ exprs ∷ [], call (op.Cartesian target.Places) both (one ∷ [])) ∷ (
       codes "combinations",
       a_number ∷ a_truth ∷ a_place ∷ an_expr ∷ [],
-      call op.Combinations x1 (first ∷ yes ∷ one ∷ []),
+      call (op.Combinations target.Items) x1 (first ∷ yes ∷ one ∷ []),
     ) ∷ (
       codes "argcombinations",
       a_number ∷ a_truth ∷ a_place ∷ an_expr ∷ [],
-      call op.Argcombinations x1 (first ∷ yes ∷ one ∷ []),
+      call (op.Combinations target.Places) x1 (first ∷ yes ∷ one ∷ []),
     ) ∷
-    (codes "sort", an_expr ∷ a_truth ∷ [], call op.Sort x1 (yes ∷ [])) ∷
-    (codes "argsort", an_expr ∷ a_truth ∷ [], call op.Argsort x1 (yes ∷ [])) ∷
-    (codes "hist", an_expr ∷ some_edges ∷ [], call op.Hist x1 (edges ∷ [])) ∷
-    (codes "hist_each", an_expr ∷ some_edges ∷ [], call op.HistEach x1 (edges ∷ [])) ∷
+    (codes "sort", an_expr ∷ a_truth ∷ [], call (op.Sort target.Items) x1 (yes ∷ [])) ∷
+    (codes "argsort", an_expr ∷ a_truth ∷ [], call (op.Sort target.Places) x1 (yes ∷ [])) ∷
+    (codes "hist", an_expr ∷ some_edges ∷ [], call (op.Hist extent.Whole) x1 (edges ∷ [])) ∷
+    (codes "hist_each", an_expr ∷ some_edges ∷ [], call (op.Hist extent.Each) x1 (edges ∷ [])) ∷
     []
 
 pub are_read : map (λ e. said e.0 (goods e.1)) examples ≡ map (λ e. Some e.2) examples

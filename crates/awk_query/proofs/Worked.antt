@@ -11,6 +11,7 @@ use Rattle.awk_query.specs.Operations.{row_of}
 use Rattle.awk_query.specs.Reading.{expr_said}
 use Rattle.awk_query.specs.Told.{Unread, json, query}
 use Rattle.awk_query.specs.declared.op.Op.TheVariants as op
+use Rattle.awk_query.specs.declared.op.PlaceOp.TheVariants as place_op
 use Rattle.awk_query.specs.declared.reading.Reading.{Reading}
 use Rattle.awk_query.specs.declared.reading.Reading.TheVariants.{First, One, Two}
 use Rattle.awk_query.specs.declared.fixed.FixedArg.TheVariants.{Place, Text}
@@ -62,7 +63,7 @@ no_numbers = refl
 pub nested :
     line_in (codes "{\"type\":[\"field\",[\"at\",\"x\",-1],\"0\"]}")
     ≡ Ok (type_of
-    (call op.Field (expr (call op.At (expr x no_exprs) (Place (negsuc 0) ∷ [])) no_exprs)
+    (call op.Field (expr (call (op.Place place_op.At) (expr x no_exprs) (Place (negsuc 0) ∷ [])) no_exprs)
     (Text (codes "0") ∷ [])))
 unfolding serde_json_on_literals row_of expr_said
 nested = refl

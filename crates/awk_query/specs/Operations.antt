@@ -1,81 +1,20 @@
 -- The operations: their names and what they take.
-use Rattle.std.specs.Prelude.{ℕ, ◌==◌, ◌&&◌, List, [], ◌∷◌, length, map, Option, Some, None, codes, if◌then◌else◌}
+use Rattle.std.specs.Prelude.{ℕ, ◌==◌, ◌&&◌, List, [], ◌∷◌, length, map, Option, Some}
+use Rattle.std.specs.Prelude.{None, if◌then◌else◌}
 use Rattle.std.specs.Borrow.{Bor}
 use Rattle.awk_types.specs.DataType.{Name}
 use Rattle.awk_types.specs.Names.{same_name}
 use Rattle.awk_query.specs.declared.op.Op.{Op}
-use Rattle.awk_query.specs.declared.op.Op.TheVariants as op
 use Rattle.awk_query.specs.declared.kind.ArgKind.{ArgKind}
-use Rattle.awk_query.specs.declared.kind.ArgKind.TheVariants.{Expr, Exprs, NamedExprs, Place, Bound, Step, Count, SomeCount, Truth, Text, Texts, Primitive, Edges}
+use Rattle.awk_query.specs.declared.operations.TheConstants.{OPERATIONS}
 
 -- a name, its operation, and what the arguments are
 abbrev pub Row : Type 0
 Row = Name × Op × List ArgKind
 
--- a name stands once for each number of arguments
+-- those of the table in code: a name stands once for each number of arguments
 abbrev pub operations : List Row
-operations =
-    (codes "at", op.At, Expr ∷ Place ∷ []) ∷
-    (codes "range", op.Range, Expr ∷ Bound ∷ Bound ∷ []) ∷
-    (codes "range", op.Range, Expr ∷ Bound ∷ Bound ∷ Step ∷ []) ∷
-    (codes "field", op.Field, Expr ∷ Text ∷ []) ∷
-    (codes "fields", op.Fields, Expr ∷ Texts ∷ []) ∷
-    (codes "without_field", op.WithoutField, Expr ∷ Text ∷ []) ∷
-    (codes "at_each", op.AtEach, Expr ∷ Place ∷ []) ∷
-    (codes "pick", op.Pick, Expr ∷ Expr ∷ []) ∷
-    (codes "num", op.Num, Expr ∷ Place ∷ []) ∷
-    (codes "flatten", op.Flatten, Expr ∷ Place ∷ []) ∷
-    (codes "local_index", op.LocalIndex, Expr ∷ Place ∷ []) ∷
-    (codes "unflatten", op.Unflatten, Expr ∷ Expr ∷ []) ∷
-    (codes "run_lengths", op.RunLengths, Expr ∷ []) ∷
-    (codes "zip", op.Zip, SomeCount ∷ NamedExprs ∷ []) ∷
-    (codes "tuple", op.Tuple, SomeCount ∷ Exprs ∷ []) ∷
-    (codes "with_field", op.WithField, Expr ∷ Text ∷ Expr ∷ []) ∷
-    (codes "is_none", op.IsNone, Expr ∷ Place ∷ []) ∷
-    (codes "fill_none", op.FillNone, Expr ∷ Expr ∷ Place ∷ []) ∷
-    (codes "drop_none", op.DropNone, Expr ∷ Place ∷ []) ∷
-    (codes "firsts", op.Firsts, Expr ∷ Place ∷ []) ∷
-    (codes "singletons", op.Singletons, Expr ∷ Place ∷ []) ∷
-    (codes "pad_none", op.PadNone, Expr ∷ Count ∷ Place ∷ Truth ∷ []) ∷
-    (codes "put_mask", op.PutMask, Expr ∷ Expr ∷ Truth ∷ []) ∷
-    (codes "concatenate", op.Concatenate, Place ∷ Exprs ∷ []) ∷
-    (codes "add", op.Add, Expr ∷ Expr ∷ []) ∷
-    (codes "sub", op.Sub, Expr ∷ Expr ∷ []) ∷
-    (codes "mul", op.Mul, Expr ∷ Expr ∷ []) ∷
-    (codes "floor_div", op.FloorDiv, Expr ∷ Expr ∷ []) ∷
-    (codes "rem", op.Rem, Expr ∷ Expr ∷ []) ∷
-    (codes "eq", op.Eq, Expr ∷ Expr ∷ []) ∷
-    (codes "ne", op.Ne, Expr ∷ Expr ∷ []) ∷
-    (codes "lt", op.Lt, Expr ∷ Expr ∷ []) ∷
-    (codes "le", op.Le, Expr ∷ Expr ∷ []) ∷
-    (codes "gt", op.Gt, Expr ∷ Expr ∷ []) ∷
-    (codes "ge", op.Ge, Expr ∷ Expr ∷ []) ∷
-    (codes "and", op.And, Expr ∷ Expr ∷ []) ∷
-    (codes "or", op.Or, Expr ∷ Expr ∷ []) ∷
-    (codes "xor", op.Xor, Expr ∷ Expr ∷ []) ∷
-    (codes "not", op.Not, Expr ∷ []) ∷
-    (codes "neg", op.Neg, Expr ∷ []) ∷
-    (codes "abs", op.Abs, Expr ∷ []) ∷
-    (codes "where", op.Choose, Expr ∷ Expr ∷ Expr ∷ []) ∷
-    (codes "cast", op.Cast, Expr ∷ Primitive ∷ []) ∷
-    (codes "sum", op.Sum, Expr ∷ []) ∷
-    (codes "prod", op.Prod, Expr ∷ []) ∷
-    (codes "min", op.Min, Expr ∷ []) ∷
-    (codes "max", op.Max, Expr ∷ []) ∷
-    (codes "argmin", op.Argmin, Expr ∷ []) ∷
-    (codes "argmax", op.Argmax, Expr ∷ []) ∷
-    (codes "any", op.Any, Expr ∷ []) ∷
-    (codes "all", op.All, Expr ∷ []) ∷
-    (codes "count", op.Count, Expr ∷ []) ∷
-    (codes "count_nonzero", op.CountNonzero, Expr ∷ []) ∷
-    (codes "cartesian", op.Cartesian, Place ∷ Exprs ∷ []) ∷
-    (codes "argcartesian", op.Argcartesian, Place ∷ Exprs ∷ []) ∷
-    (codes "combinations", op.Combinations, SomeCount ∷ Truth ∷ Place ∷ Expr ∷ []) ∷
-    (codes "argcombinations", op.Argcombinations, SomeCount ∷ Truth ∷ Place ∷ Expr ∷ []) ∷
-    (codes "sort", op.Sort, Expr ∷ Truth ∷ []) ∷
-    (codes "argsort", op.Argsort, Expr ∷ Truth ∷ []) ∷
-    (codes "hist", op.Hist, Expr ∷ Edges ∷ []) ∷
-    (codes "hist_each", op.HistEach, Expr ∷ Edges ∷ []) ∷ []
+operations = map (λ r. (r.0.now, r.1, r.2.now)) OPERATIONS
 
 -- an operation, and what its arguments are
 abbrev pub Found : Type 0

@@ -21,5 +21,5 @@ pub use expr::{Expr, Exprs};
 pub use fault::QueryFault;
 pub use fixed::{Fixed, FixedArg};
 pub use line::{Line, read_line};
-pub use op::Op;
+pub use op::{AxisOp, Extent, LogicOp, Op, PairOp, PlaceOp, ReduceOp, SingleOp, Target};
 pub use reading::{RawPart, RawParts, Reading};

@@ -48,7 +48,8 @@ sent_view : (variables : Variables) (view : Option View) (a : code.Answer)
     ≤ text_cost (view_size (sizes_of variables) view) (length (answer_text (answer_view a)))
 sent_view variables None a shows plain array = absurd (cc)
 sent_view variables (Some v) a shows plain array =
-    text_cost-more (shown_size a) (size_in variables v) _ _ (shows array) (omega arith)
+    let n = length (answer_text (answer_view a)) in
+    text_cost-more (shown_size a) (size_in variables v) n n (shows array) (omega arith)
 
 -- of n bytes, and r raw bytes behind them
 made : (variables : Variables) (l : Line) (n r steps0 steps1 : ℕ)

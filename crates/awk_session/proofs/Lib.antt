@@ -5,3 +5,4 @@ pub mod SizeLaws
 pub mod CostLaws
 pub mod SpendLaws
 pub mod ViewLaws
+pub mod ValuesLaws

@@ -57,7 +57,8 @@ keeps_by n (load m form count big buffers) is_fault old new other b =
     bound_elsewhere n m _ is_fault old new (λ e. other (ap Some (sym e))) b
 keeps_by n (bind m e) is_fault old new other b =
     bound_elsewhere n m _ is_fault old new (λ e. other (ap Some (sym e))) b
-keeps_by n (values m list) is_fault old new other b = ap (look_up n) b
+keeps_by n (values m list) is_fault old new other b =
+    bound_elsewhere n m _ is_fault old new (λ e. other (ap Some (sym e))) b
 keeps_by n (show e) is_fault old new other b = ap (look_up n) b
 keeps_by n (type_of e) is_fault old new other b = ap (look_up n) b
 keeps_by n (pack e) is_fault old new other b = ap (look_up n) b

@@ -3,8 +3,8 @@ use Rattle.std.specs.Prelude.{ℕ, Bool, false, not, List, count_by, Some, None,
 use Rattle.awk_types.specs.DataType.{Name}
 use Rattle.awk_types.specs.Datum.{Datum}
 use Rattle.awk_types.specs.declared.fault.Fault.{Fault}
-use Rattle.awk_types.specs.declared.fault.Fault.TheVariants.{WrongType}
 use Rattle.awk_edge.specs.Units.{Framed}
+use Rattle.awk_plain.specs.Plain.{from_values}
 use Rattle.awk_query.specs.Line as lines
 use Rattle.awk_query.specs.Line.{Line, line_said}
 use Rattle.awk_query.specs.declared.reading.Reading.{Reading}
@@ -36,7 +36,7 @@ abbrev pub reply_bind : Environment → Name → Result Datum AnswerFault → Re
 reply_bind variables n (Ok datum) = record { answer = bound n; after = bind n datum variables }
 reply_bind variables n (Err f) = answering variables (fault f)
 
--- what an expression is, where its faults are told as answers
+-- what an operation gives, where its faults are told as answers
 abbrev pub evaluated : Result Datum Fault → Result Datum AnswerFault
 evaluated (Ok datum) = Ok datum
 evaluated (Err f) = Err (Evaluation f)
@@ -46,13 +46,14 @@ abbrev pub telling : (Datum → Answer) → Result Datum Fault → Answer
 telling tell (Ok datum) = tell datum
 telling tell (Err f) = fault (Evaluation f)
 
--- The line that begins version 2 answers itself, and arrays of JSON lists are not built yet. A load
--- line may have raw bytes behind it.
+-- The line that begins version 2 answers itself. A load line may have raw bytes behind it, and a
+-- values line binds the array of its list.
 abbrev pub reply_line : Environment → Line → List ℕ → Reply
 reply_line variables (lines.load n form length big buffers) raw =
     reply_bind variables n (line_loaded form length big buffers raw)
 reply_line variables lines.session raw = answering variables begun
-reply_line variables (lines.values n list) raw = answering variables (fault (Evaluation WrongType))
+reply_line variables (lines.values n list) raw =
+    reply_bind variables n (evaluated (from_values list))
 reply_line variables (lines.bind n e) raw = reply_bind variables n (evaluated (eval variables e))
 reply_line variables (lines.show e) raw = answering variables (telling value (eval variables e))
 reply_line variables (lines.type_of e) raw =

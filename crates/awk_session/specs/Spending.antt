@@ -55,11 +55,13 @@ IsBoundUnless true n Fact old new = new ≡ old
 abbrev pub IsViewWithin : Variables → Option View → Datum → Type 0
 IsViewWithin variables view d = OfView variables view (λ v. IsWithin (size_in variables v) d)
 
--- A load binds an array no greater than its form, and a let of a view of an array one no greater
--- than that. Another line binds nothing.
+-- A load binds an array no greater than its form, a values line an array, and a let of a view of
+-- an array one no greater than that. Another line binds nothing.
 abbrev pub BindsBy : Line → Bool → Variables → Variables → Type 0
 BindsBy (load n form count big buffers) is_fault old new =
     IsBoundUnless is_fault n (IsWithin (form_size form)) old new
+BindsBy (values n list) is_fault old new =
+    IsBoundUnless is_fault n (λ d. IsArray (Some d)) old new
 BindsBy (bind n e) is_fault old new =
     IsBoundUnless is_fault n (IsViewWithin old (view_of e)) old new
 BindsBy _ is_fault old new = new ≡ old
@@ -77,6 +79,7 @@ Unless (Err NoMemory) Fact = Unit {0}
 abbrev pub name_by : Line → Option Name
 name_by (load n form count big buffers) = Some n
 name_by (bind n e) = Some n
+name_by (values n list) = Some n
 name_by _ = None
 
 abbrev pub name_in : Reading → List ℕ → Option Name
@@ -95,7 +98,7 @@ TakesBy variables (load n form count big buffers) raw steps0 steps1 =
     IsLoaded form (text_len buffers + raw) steps0 steps1
 TakesBy variables session raw steps0 steps1 = steps1 ≡ steps0
 TakesBy variables (bind n e) raw steps0 steps1 = IsViewTaken variables (view_of e) steps0 steps1
-TakesBy variables (values n list) raw steps0 steps1 = steps1 ≡ steps0
+TakesBy variables (values n list) raw steps0 steps1 = Unit {0}
 TakesBy variables (show e) raw steps0 steps1 = IsViewTaken variables (view_of e) steps0 steps1
 TakesBy variables (type_of e) raw steps0 steps1 = IsViewTaken variables (view_of e) steps0 steps1
 TakesBy variables (pack e) raw steps0 steps1 = Unit {0}

@@ -131,8 +131,9 @@ impl<'a> Engine<'a> {
         ensures write { IfErr result (λ end. end ≡ LineEnd.Write →
             Rose (K.faults sink.old) (K.faults sink.new)) }
 
-        // A load binds an array no greater than its form, and a let of a view of an array one no
-        // greater than that. What the line does not bind stays the same datum.
+        // A load binds an array no greater than its form, a values line an array, and a let of a
+        // view of an array one no greater than that. What the line does not bind stays the same
+        // datum.
         ensures binds { Unless result (Binds (line_in self.old.reading bytes.now)
             (step (denoted_state self.old) bytes.now raw.now).is_fault
             self.old.variables self.new.variables) }

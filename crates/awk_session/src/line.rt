@@ -7,6 +7,7 @@ ghost use Rattle.awk_lengths.specs.LineBytes.{HasBytes};
 ghost use Rattle.awk_session.specs.Cost.{line_in};
 ghost use Rattle.awk_framing.specs.Framing.{is_blank};
 ghost use Rattle.awk_session.specs.Leaves.{Leaves};
+ghost use Rattle.awk_framing.specs.Listed.{IsListed};
 ghost use Rattle.awk_framing.specs.ReadView.{read_view};
 ghost use Rattle.awk_session.specs.Replies.{step, step_read};
 ghost use Rattle.awk_session.specs.Spending.{Binds, TakesCost, Unless};
@@ -81,6 +82,7 @@ fn answer<'a, K: Sink, L: Ledger>(
 ) -> Result<Answered, LineEnd>
     requires open { IsTrue out.old.is_open }
     requires allowed { IfOk (read_view read.now) IsAllowedLine }
+    requires listed { IfOk (read_view read.now) IsListed }
     ensures leaves { Leaves (K.written sink.old) (K.written sink.new) out.old out.new
         (stands state.old) (stands state.new)
         (step_read (stands state.old) (read_view read.now) raw.now) result }

@@ -1,5 +1,5 @@
 //! What a line binds, and its answer.
-ghost use Rattle.std.specs.Prelude.{◌≡◌, IfOk, OnErr, length};
+ghost use Rattle.std.specs.Prelude.{◌≡◌, Some, IfOk, OnErr, length};
 ghost use Rattle.std.specs.Result.{result_ok};
 ghost use Rattle.serde_json.specs.View.{view, members_view};
 ghost use Rattle.awk_store.specs.Buffers.{HoldsTexts, held_len, only_texts, texts_of, total_len};
@@ -11,14 +11,16 @@ ghost use Rattle.awk_query.specs.View.{expr_of};
 ghost use Rattle.awk_eval.specs.Bindings as bindings;
 ghost use Rattle.awk_eval.specs.Eval as meaning;
 ghost use Rattle.awk_eval.specs.Variables.{denoted};
-ghost use Rattle.awk_eval.specs.Views.{IsWithin, view_of};
+ghost use Rattle.awk_eval.specs.Views.{IsArray, IsWithin, view_of};
 ghost use Rattle.awk_answer.specs.Answer as answers;
 ghost use Rattle.awk_answer.specs.Shown as shown;
 ghost use Rattle.awk_answer.specs.AnswerView.{answer_view, IsAnswer};
 ghost use Rattle.awk_session.specs.Cost.{form_size};
 ghost use Rattle.awk_load_line.specs.Load.{loaded, line_loaded};
 ghost use Rattle.awk_load_line.specs.LoadCost.{IsLoaded};
+ghost use Rattle.awk_framing.specs.Listed.{IsListed};
 ghost use Rattle.awk_framing.specs.ReadView.{read_view};
+ghost use Rattle.awk_plain.specs.Plain as plain;
 ghost use Rattle.awk_session.specs.Replies as replies;
 ghost use Rattle.awk_session.specs.Spending.{Binds, BindsBy, IsBoundUnless, IsViewWithin};
 ghost use Rattle.awk_session.specs.Spending.{Takes, TakesBy, IsViewTaken};
@@ -26,6 +28,7 @@ ghost use Rattle.awk_session.specs.Spending.{Shows, ShowsBy, ShowsNone, ShowsVie
 ghost use Rattle.awk_answer.specs.declared.fault.AnswerFault.TheVariants.{Evaluation};
 
 use awk_answer::{Answer, AnswerFault, Refused, packed, type_text};
+use awk_build::from_values;
 use awk_eval::{Env, eval};
 use awk_framing::Read;
 use awk_lanes::{Arena, Steps};
@@ -51,6 +54,7 @@ pub fn reply<'v, 's, 'a: 's, L: Ledger>(
     steps: &mut Steps<L>,
 ) -> Result<Answer<'v, 's>, AllocError>
     requires allowed { IfOk (read_view read.now) IsAllowedLine }
+    requires listed { IfOk (read_view read.now) IsListed }
     ensures reply { IfOk result (λ answer.
         replies.reply (denoted env.old) (read_view read.now) raw.now
         ≡ record { answer = answer_view answer; after = denoted env.new }) }
@@ -80,6 +84,7 @@ fn reply_line<'v, 's, 'a: 's, L: Ledger>(
     steps: &mut Steps<L>,
 ) -> Result<Answer<'v, 's>, AllocError>
     requires allowed { IsAllowedLine (line_view line.now) }
+    requires listed { IsListed (line_view line.now) }
     ensures reply { IfOk result (λ answer.
         replies.reply_line (denoted env.old) (line_view line.now) raw.now
         ≡ record { answer = answer_view answer; after = denoted env.new }) }
@@ -123,7 +128,7 @@ fn reply_line<'v, 's, 'a: 's, L: Ledger>(
         }
         Line::Session => Ok(Answer::Session),
         Line::Let { name, be } => bind_made(alloc, env, name, be, kept, steps),
-        Line::Values { .. } => Ok(Answer::Fault(AnswerFault::Evaluation(Fault::WrongType))),
+        Line::Values { name, from } => bind_values(alloc, env, name, from, kept, steps),
         Line::Show(e) => show(alloc, env, e, arena, steps),
         Line::TypeOf(e) => show_type(alloc, env, e, arena, steps),
         Line::Pack(e) => show_packed(alloc, env, e, arena, steps),
@@ -245,6 +250,34 @@ fn bind_made<'v, 's, 'a: 's, L: Ledger>(
             Ok(Answer::Bound(name.as_str()))
         }
         Err(why) => refused(why),
+    }
+}
+
+// Binds a name to the array of a JSON list, if it has one.
+fn bind_values<'v, 's, 'a: 's, L: Ledger>(
+    alloc: Global,
+    env: &mut Env<'a>,
+    name: &'v Name,
+    list: &Value,
+    kept: &'a Arena,
+    steps: &mut Steps<L>,
+) -> Result<Answer<'v, 's>, AllocError>
+    requires listed { lines.if_list (view list.now) ≡ Some (view list.now) }
+    ensures reply { IfOk result (λ answer. replies.reply_bind (denoted env.old) name.now
+        (replies.evaluated (plain.from_values (view list.now)))
+        ≡ record { answer = answer_view answer; after = denoted env.new }) }
+    ensures answer { IfOk result IsAnswer }
+    ensures same { OnErr result (env.new ≡ env.old) }
+    ensures binds { IfOk result (λ a. IsBoundUnless (answers.is_fault (answer_view a)) name.now
+        (λ d. IsArray (Some d)) env.old env.new) }
+    ensures shows { IfOk result ShowsNone }
+{
+    match from_values(alloc, list, kept, steps) {
+        Ok(array) => {
+            env.bind(name.copy(alloc)?, Datum::Arr(array))?;
+            Ok(Answer::Bound(name.as_str()))
+        }
+        Err(fault) => refused(fault),
     }
 }
 

@@ -8,25 +8,22 @@ use Rattle.std.specs.List.{range_with_len, slice_range}
 use Rattle.std.proofs.lemmas.Int.{ints}
 use Rattle.std.proofs.lemmas.List.{length-map, take-append-le, drop_at}
 use Rattle.std.proofs.lemmas.List.FromFn.{length-map-range_with_len, get_or-map-range_with_len}
-use Rattle.std.proofs.lemmas.List.FromFn.{map-range_with_len_more, fill_by_all}
-use Rattle.std.proofs.lemmas.List.Sorted.{length_permutation}
-use Rattle.std.proofs.lemmas.Simd.{map-map}
+use Rattle.std.proofs.lemmas.List.FromFn.{map-range_with_len_more, length-range_with_len}
 use Rattle.std.proofs.lemmas.Slice.{between_is}
 use Rattle.awk_lanes.specs.Column.{Column}
-use Rattle.awk_lanes.specs.Made.{lane_of}
 use Rattle.awk_lanes.specs.Numbers.{element, is_nonzero}
 use Rattle.awk_lanes.specs.Places.{at, place_at, option_place_at}
 use Rattle.awk_lanes.specs.Ranges.{IsNumber, AreNumbers}
 use Rattle.awk_lanes.specs.declared.kind.Kind.{Kind}
 use Rattle.awk_lanes.specs.declared.kind.Kind.TheVariants as kind
-use Rattle.awk_numbers.proofs.PartLaws.{slice_range-map}
 use Rattle.awk_parts.specs.Parts.{part_at}
-use Rattle.awk_sorting.specs.Cells.{cell_at, cells_from, rank, key, keys_from, place_of, AreRanked}
-use Rattle.awk_sorting.specs.Cells.{AreKeys, AreReady, OrdersLane}
-use Rattle.awk_sorting.specs.Order.{order, sort_numbers}
-use Rattle.awk_sorting.specs.Parts.{SortsParts}
+use Rattle.awk_sorting.specs.Cells.{cell_at, cells_from, cells_of_part, rank, key, keys_from}
+use Rattle.awk_sorting.specs.Cells.{place_of, AreRanked, OrdersLane}
+use Rattle.awk_sorting.specs.Order.{number_first, stands_first, order, sort_numbers}
+use Rattle.awk_sorting.proofs.InsertLaws.{length-sort}
 use Rattle.awk_sorting.proofs.KeyLaws.{IsNear, order_by_keys}
-use Rattle.awk_sorting.proofs.PartLaws.{less_or_last, map-get, map-append}
+use Rattle.awk_sorting.proofs.LaneLaws.{same_numbers}
+use Rattle.awk_sorting.proofs.PartLaws.{less_or_last, map-append}
 
 -- ---- one key after another
 
@@ -66,45 +63,83 @@ module _ (up : Bool) (least : ℕ) (c : Column) (j : Option Column) where
       ∙ more_keys start (i - start) (map number was)
       ∙ ap (λ m. map number was ++ keys_from up least c j start m) next
 
-  -- ---- one part after another
+-- ---- the places of one part after another
 
-  pub no_keys : (o : Column) → place_at o 0 ≡ 0 → AreKeys up least c j o 0 []
-  no_keys o h = record {
-    size = sym h;
-    parts = λ i l. absurd (omega (arith, l));
-  }
+take_more : {X : Type 0} (xs : List X) (i : ℕ) (d : X) → i < length xs
+    → take (suc i) xs ≡ take i xs ++ get_or xs i d ∷ []
+take_more [] i d l = absurd (omega (arith, l))
+take_more (x ∷ xs) zero d l = refl
+take_more (x ∷ xs) (suc i) d l = ap (λ ys. x ∷ ys) (take_more xs i d (omega (arith, l)))
 
-  pub keys_more : (o : Column) (i : ℕ) (was now : List ℤ)
-      → ((k : ℕ) → k < i → place_at o (k + 1) ≤ place_at o i) → place_at o i ≤ place_at o (i + 1)
-      → AreKeys up least c j o i was
-      → now ≡ was ++ keys_from up least c j (place_at o i) (place_at o (i + 1) - place_at o i)
-      → AreKeys up least c j o (i + 1) now
-  keys_more o i was now before next h e = record {
-    size = ap length e ∙ length-append was more ∙ omega (arith, many, h.size, next);
-    parts = λ k l. by_place k (less_or_last k i (omega (arith, l)));
-  }
-    where
-      more : List ℤ
-      more = keys_from up least c j (place_at o i) (place_at o (i + 1) - place_at o i)
+pub place_pushed : {X : Type 0} (number : X → ℤ) (ks : List X) (i : ℕ) (d : X)
+    (was before now : List ℤ) (p : ℤ) → i < length ks
+    → before ≡ was ++ map place_of (map number (take i ks)) → now ≡ before ++ p ∷ []
+    → p ≡ place_of (number (get_or ks i d))
+    → now ≡ was ++ map place_of (map number (take (i + 1) ks))
+place_pushed number ks i d was before now p l b e f =
+    let next : i + 1 ≡ suc i = omega arith in
+    let k = get_or ks i d in
+    let places : List ℤ = map place_of (map number (take i ks)) in
+    let more : map place_of (map number (take (i + 1) ks)) ≡ places ++ place_of (number k) ∷ [] =
+    ap (λ m. map place_of (map number (take m ks))) next
+    ∙ ap (λ xs. map place_of (map number xs)) (take_more ks i d l)
+    ∙ ap (map place_of) (map-append number (take i ks) (k ∷ []))
+    ∙ map-append place_of (map number (take i ks)) (number k ∷ []) in
+    e ∙ ap₂ (λ zs z. zs ++ z ∷ []) b f ∙ append_assoc was places (place_of (number k) ∷ [])
+    ∙ ap (λ zs. was ++ zs) (sym more)
 
-      many : length more ≡ place_at o (i + 1) - place_at o i
-      many = length-map-range_with_len (λ k. key up least (cell_at c j (place_at o i + k)) k) 0
-          (place_at o (i + 1) - place_at o i)
+-- the places of each of n parts in the order of its cells, one part after another
+pub record AreOrdered (up : Bool) (c : Column) (j : Option Column) (o : Column) (n : ℕ)
+    (zs : List ℤ) : Type 0 where
+  pub size : length zs ≡ place_at o n
+  pub parts : (i : ℕ) → i < n → slice_range zs (place_at o i) (place_at o (i + 1))
+      ≡ map pos (order up (cells_of_part c j o i))
 
-      by_place : (k : ℕ) → (k < i) ⊎ (k ≡ i)
-          → slice_range now (place_at o k) (place_at o (k + 1))
-          ≡ keys_from up least c j (place_at o k) (place_at o (k + 1) - place_at o k)
-      by_place k (inl l) =
-          ap (λ xs. slice_range xs (place_at o k) (place_at o (k + 1))) e
-          ∙ slice_before was more (place_at o k) (place_at o (k + 1))
-          (omega (arith, before k l, h.size))
-          ∙ h.parts k l
-      by_place k (inr q) =
-          subst (λ k. slice_range now (place_at o k) (place_at o (k + 1))
-          ≡ keys_from up least c j (place_at o k) (place_at o (k + 1) - place_at o k)) (sym q)
-          (ap (λ xs. slice_range xs (place_at o i) (place_at o (i + 1))) e
-          ∙ slice_after was more (place_at o i) (place_at o (i + 1)) (sym h.size)
-          (omega (arith, many, h.size, next)))
+pub none_ordered : (up : Bool) (c : Column) (j : Option Column) (o : Column) → place_at o 0 ≡ 0
+    → AreOrdered up c j o 0 []
+none_ordered up c j o h = record {
+  size = sym h;
+  parts = λ i l. absurd (omega (arith, l));
+}
+
+length-places : (up : Bool) (c : Column) (j : Option Column) (start m : ℕ)
+    → length (map pos (order up (cells_from c j start m))) ≡ m
+length-places up c j start m =
+    let os : List (Option ℤ) = cells_from c j start m in
+    length-map (order up os) pos ∙ length-sort (stands_first up os) (range_with_len 0 (length os))
+    ∙ length-range_with_len 0 (length os)
+    ∙ length-map-range_with_len (λ k. cell_at c j (start + k)) 0 m
+
+pub ordered_more : (up : Bool) (c : Column) (j : Option Column) (o : Column) (i : ℕ)
+    (was now : List ℤ) → ((k : ℕ) → k < i → place_at o (k + 1) ≤ place_at o i)
+    → place_at o i ≤ place_at o (i + 1) → AreOrdered up c j o i was
+    → now ≡ was ++ map pos (order up (cells_of_part c j o i))
+    → AreOrdered up c j o (i + 1) now
+ordered_more up c j o i was now before next h e = record {
+  size = ap length e ∙ length-append was more ∙ omega (arith, many, h.size, next);
+  parts = λ k l. by_place k (less_or_last k i (omega (arith, l)));
+}
+  where
+    more : List ℤ
+    more = map pos (order up (cells_of_part c j o i))
+
+    many : length more ≡ place_at o (i + 1) - place_at o i
+    many = length-places up c j (place_at o i) (place_at o (i + 1) - place_at o i)
+
+    by_place : (k : ℕ) → (k < i) ⊎ (k ≡ i)
+        → slice_range now (place_at o k) (place_at o (k + 1))
+        ≡ map pos (order up (cells_of_part c j o k))
+    by_place k (inl l) =
+        ap (λ xs. slice_range xs (place_at o k) (place_at o (k + 1))) e
+        ∙ slice_before was more (place_at o k) (place_at o (k + 1))
+        (omega (arith, before k l, h.size))
+        ∙ h.parts k l
+    by_place k (inr q) =
+        subst (λ k. slice_range now (place_at o k) (place_at o (k + 1))
+        ≡ map pos (order up (cells_of_part c j o k))) (sym q)
+        (ap (λ xs. slice_range xs (place_at o i) (place_at o (i + 1))) e
+        ∙ slice_after was more (place_at o i) (place_at o (i + 1)) (sym h.size)
+        (omega (arith, many, h.size, next)))
 
 -- ---- ranks
 
@@ -185,43 +220,39 @@ places_of_part up least c j start m zs h few above s =
     (λ k l r. ap (λ x. key up least x k) (there k (omega (arith, r))))
     ∙ ap (λ n. map (λ p. key up least (get_or os p None) p) (range_with_len 0 n)) (sym long)))
 
+-- sorted keys tell the places of a part
+pub order_told : {X : Type 0} (number : X → ℤ) (up : Bool) (least most : ℕ) (c : Column)
+    (j : Option Column) (n start stop : ℕ) (ks ys : List X) (was now : List ℤ) → AreNumbers c
+    → AreRanked up c j n least most → start ≤ stop → stop ≤ n → n ≤ 1073741824
+    → map number ks ≡ keys_from up least c j start (stop - start)
+    → map number ys ≡ sort_numbers true (map number ks)
+    → now ≡ was ++ map place_of (map number ys)
+    → now ≡ was ++ map pos (order up (cells_from c j start (stop - start)))
+order_told number up least most c j n start stop ks ys was now h a l m few k s e =
+    e
+    ∙ ap (λ zs. was ++ zs)
+    (places_of_part up least c j start (stop - start) (map number ys) h (omega (arith, few, m))
+    (λ q r. a.above (start + q) (omega (arith, r, l, m)))
+    (s ∙ ap (sort_numbers true) k))
+
+-- there are as many as cells
+pub keys_many : {X : Type 0} (number : X → ℤ) (up : Bool) (least : ℕ) (c : Column)
+    (j : Option Column) (start m : ℕ) (ks ys : List X)
+    → map number ks ≡ keys_from up least c j start m
+    → map number ys ≡ sort_numbers true (map number ks) → length ys ≡ m
+keys_many number up least c j start m ks ys k s =
+    sym (length-map ys number) ∙ ap length s ∙ length-sort (number_first true) (map number ks)
+    ∙ ap length k
+    ∙ length-map-range_with_len (λ i. key up least (cell_at c j (start + i)) i) 0 m
+
 -- ---- the lane of all places
 
-all_at : (zs : List ℤ) (g : ℤ → ℤ)
-    → map (λ i. g (get_or zs i (pos 0))) (range_with_len 0 (length zs)) ≡ map g zs
-all_at zs g =
-    range_same (λ i. g (get_or zs i (pos 0))) (λ i. get_or (map g zs) i (g (pos 0))) 0 (length zs)
-    (λ i l m. sym (map-get g zs i (pos 0)))
-    ∙ sym (fill_by_all (λ i. get_or (map g zs) i (g (pos 0))) (map g zs) (length zs) (g (pos 0))
-    (length-map zs g) (λ k l. refl))
-
-pub orders_lane : {X : Type 0} (number : X → ℤ) (up : Bool) (least most : ℕ) (c : Column)
-    (j : Option Column) (o : Column) (n : ℕ) (ks ys : List X) (r : Column) → AreNumbers c
-    → AreReady c j o n → AreRanked up c j (place_at o n) least most
-    → AreKeys up least c j o n (map number ks) → SortsParts number true o n ks ys
-    → r ≡ lane_of kind.I64 (length ys) (λ i. place_of (get_or (map number ys) i (pos 0)))
-    → OrdersLane up c j o n r
-orders_lane number up least most c j o n ks ys r h d a k s e =
-    subst (OrdersLane up c j o n) (sym e) (record {
-      kind = refl;
-      size =
-          length-map-range_with_len at_place 0 (length ys) ∙ length_permutation ks ys s.same
-          ∙ sym (length-map ks number) ∙ k.size;
-      parts = λ i l.
-          let start : ℕ = place_at o i in
-          let stop : ℕ = place_at o (i + 1) in
-          let within = d.rising.within (i + 1) (omega (arith, l)) in
-          ap (λ zs. part_at zs o i)
-          (map-map (element kind.I64) at_place (range_with_len 0 (length ys))
-          ∙ ap (λ m. map at_place (range_with_len 0 m)) (sym (length-map ys number))
-          ∙ all_at (map number ys) place_of)
-          ∙ slice_range-map place_of (map number ys) start stop
-          ∙ places_of_part up least c j start (stop - start)
-          (slice_range (map number ys) start stop) h (omega (arith, d.few, within))
-          (λ q m. a.above (start + q) (omega (arith, m, within)))
-          (slice_range-map number ys start stop ∙ s.parts i l
-          ∙ ap (sort_numbers true) (sym (slice_range-map number ks start stop) ∙ k.parts i l));
-    })
-  where
-    at_place : ℕ → ℤ
-    at_place i = place_of (get_or (map number ys) i (pos 0))
+pub ordered_lane : (up : Bool) (c : Column) (j : Option Column) (o : Column) (n : ℕ) (r : Column)
+    → r.kind ≡ kind.I64 → AreOrdered up c j o n r.items → OrdersLane up c j o n r
+ordered_lane up c j o n r k h = record {
+  kind = k;
+  size = h.size;
+  parts = λ i l.
+      ap (λ zs. part_at zs o i)
+      (ap (λ q. map (element q) r.items) k ∙ same_numbers r.items) ∙ h.parts i l;
+}

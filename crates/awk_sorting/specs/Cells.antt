@@ -2,8 +2,8 @@
 -- stand.
 use Rattle.std.specs.Prelude.{◌≡◌, ℕ, ◌+◌, ◌-◌, ◌*◌, ◌%◌, ◌<◌, ◌≤◌, ◌^◌, ℤ, pos}
 use Rattle.std.specs.Prelude.{◌+ℤ◌, ◌-ℤ◌, Bool, true, false}
-use Rattle.std.specs.Prelude.{List, length, map, Option, Some, None, option_map}
-use Rattle.std.specs.List.{range_with_len, slice_range}
+use Rattle.std.specs.Prelude.{List, map, Option, Some, None, option_map}
+use Rattle.std.specs.List.{range_with_len}
 use Rattle.awk_lanes.specs.Column.{Column}
 use Rattle.awk_lanes.specs.Numbers.{nat_of}
 use Rattle.awk_lanes.specs.Places.{size_of, at, place_at, option_place_at, IsOptionalIndex}
@@ -52,13 +52,6 @@ key up least o p = pos ((rank up o - least) * 4294967296 + p)
 abbrev pub keys_from : Bool → ℕ → Column → Option Column → ℕ → ℕ → List ℤ
 keys_from up least c j start n =
     map (λ k. key up least (cell_at c j (start + k)) k) (range_with_len 0 n)
-
--- the keys of parts, one after another
-pub record AreKeys (up : Bool) (least : ℕ) (c : Column) (j : Option Column) (o : Column) (n : ℕ)
-    (zs : List ℤ) : Type 0 where
-  pub size : length zs ≡ place_at o n
-  pub parts : (i : ℕ) → i < n → slice_range zs (place_at o i) (place_at o (i + 1))
-      ≡ keys_from up least c j (place_at o i) (place_at o (i + 1) - place_at o i)
 
 -- the place that a key tells
 abbrev pub place_of : ℤ → ℤ

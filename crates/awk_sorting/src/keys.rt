@@ -1,13 +1,12 @@
 //! Keys that stand in the order of cells: by rank, and where two are equal by place.
 ghost use Rattle.std.specs.Prelude.{◌≡◌, ◌+◌, ◌-◌, ◌*◌, ◌%◌, ◌<◌, ◌≤◌, ◌++◌, pos, map};
-ghost use Rattle.std.specs.Prelude.{option_map, IfOk};
-ghost use Rattle.awk_lanes.specs.Places.{place_at};
-ghost use Rattle.awk_sorting.specs.Cells.{keys_from, AreCells, AreKeys, AreRanked, AreReady};
+ghost use Rattle.std.specs.Prelude.{option_map, true, IfOk};
+ghost use Rattle.awk_sorting.specs.Cells.{keys_from, AreCells, AreRanked};
+ghost use Rattle.awk_sorting.specs.Order.{sort_numbers};
 
 use crate::cells::Cells;
 use crate::number::Number;
-use awk_lanes::{Lane, NoMemory, Steps, place_in};
-use std::alloc::Global;
+use awk_lanes::{NoMemory, Steps};
 use std::sync::ledger::Ledger;
 
 /// More than there are places.
@@ -68,7 +67,7 @@ pub(crate) struct Ranks<'c, 'b, 'a> {
 
 /// The keys of the cells from a start below a stop, each with its place among them, put behind
 /// others.
-fn push_keys<K: Key, L: Ledger>(
+pub(crate) fn push_keys<K: Key, L: Ledger>(
     keys: &mut Vec<K>,
     ranks: &Ranks,
     start: u64,
@@ -97,30 +96,9 @@ fn push_keys<K: Key, L: Ledger>(
     Ok(())
 }
 
-/// The keys of cells in n parts, one part after another.
-pub(crate) fn keys_of<K: Key, L: Ledger>(
-    alloc: Global,
-    ranks: &Ranks,
-    offsets: &Lane,
-    n: u64,
-    steps: &mut Steps<L>,
-) -> Result<Vec<K>, NoMemory>
-    requires ready { let index = option_map (λ j. j.now) ranks.now.cells.now.index in
-        AreReady ranks.now.cells.now.lane.now index offsets.now n }
-    requires count { ranks.now.count ≡ place_at offsets.now n }
-    requires ranked { let index = option_map (λ j. j.now) ranks.now.cells.now.index in
-        AreRanked ranks.now.up ranks.now.cells.now.lane.now index ranks.now.count ranks.now.least
-        ranks.now.greatest }
-    requires room { ranks.now.greatest - ranks.now.least < K.room }
-    ensures { let index = option_map (λ j. j.now) ranks.now.cells.now.index in
-        IfOk result (λ v. AreKeys ranks.now.up ranks.now.least ranks.now.cells.now.lane.now index
-        offsets.now n (map K.number v.items)) }
+/// Keys brought in order.
+pub(crate) fn sort_keys<K: Key>(keys: &mut Vec<K>)
+    ensures { map K.number keys.new.items ≡ sort_numbers true (map K.number keys.old.items) }
 {
-    let mut keys = Vec::with_capacity(alloc, ranks.count as usize)?;
-    for i in 0..n {
-        let start = place_in(offsets, i, steps);
-        let stop = place_in(offsets, i + 1, steps);
-        push_keys(&mut keys, ranks, start, stop, steps)?;
-    }
-    Ok(keys)
+    keys.sort_unstable();
 }

@@ -1,35 +1,65 @@
 //! The places of numbers in order.
-ghost use Rattle.std.specs.Prelude.{◌≡◌, ◌-◌, ◌<◌, option_map, IfOk};
+ghost use Rattle.std.specs.Prelude.{◌≡◌, ◌+◌, ◌-◌, ◌<◌, ◌≤◌, ◌++◌, length, map, pos, option_map};
+ghost use Rattle.std.specs.Prelude.{IfOk};
 ghost use Rattle.awk_lanes.specs.Places.{place_at};
-ghost use Rattle.awk_sorting.specs.Cells.{AreRanked, AreReady, OrdersLane};
+ghost use Rattle.awk_lanes.specs.declared.kind.Kind.TheVariants as Kind;
+ghost use Rattle.awk_sorting.specs.Cells.{cells_from, place_of};
+ghost use Rattle.awk_sorting.specs.Cells.{AreCells, AreRanked, AreReady, OrdersLane};
+ghost use Rattle.awk_sorting.specs.Order as spec;
 
 use crate::cells::Cells;
-use crate::keys::{Key, PLACES, Ranks, keys_of};
-use crate::parts::sort_parts;
-use awk_lanes::{Arena, Kind, Lane, NoMemory, Num, Numbers, Steps, made_lane, number, place_in};
+use crate::keys::{Key, PLACES, Ranks, push_keys, sort_keys};
+use awk_lanes::{Arena, Kind, Lane, LaneMaker, NoMemory, Steps, number, place_in};
 use std::alloc::Global;
 use std::sync::ledger::Ledger;
 
-/// The places that keys tell.
-#[derive(Drop)]
-struct KeyPlaces<'k, K: Key> {
-    keys: &'k [K],
+/// The places that keys tell, put behind others.
+fn push_places<K: Key>(keys: &[K], maker: &mut LaneMaker)
+    requires kind { maker.old.kind ≡ Kind.I64 }
+    requires room { length maker.old.items + length keys.now ≤ maker.old.room }
+    ensures kind { maker.new.kind ≡ Kind.I64 }
+    ensures room { maker.new.room ≡ maker.old.room }
+    ensures items { maker.new.items
+        ≡ maker.old.items ++ map place_of (map K.number keys.now) }
+{
+    for i in 0..keys.len() {
+        maker.push(number(keys[i].place()));
+    }
 }
 
-impl<'k, K: Key> Numbers for KeyPlaces<'k, K> {
-    ghost use Rattle.std.specs.Prelude.{pos, get_or, length, map};
-    ghost use Rattle.awk_lanes.specs.declared.kind.Kind.TheVariants as Kind;
-    ghost use Rattle.awk_sorting.specs.Cells.{place_of};
-
-    ghost kind = { λ _. Kind.I64 };
-
-    ghost at = { λ f i. place_of (get_or (map K.number f.keys.now) i (pos 0)) };
-
-    ghost size = { λ f. length f.keys.now };
-
-    fn number<L: Ledger>(&self, i: u64, _steps: &mut Steps<L>) -> Num {
-        number(self.keys[i as usize].place())
-    }
+/// The places of the cells from a start below a stop in order, put behind others. Their keys are
+/// sorted in place of others.
+fn push_order<K: Key, L: Ledger>(
+    keys: &mut Vec<K>,
+    ranks: &Ranks,
+    start: u64,
+    stop: u64,
+    maker: &mut LaneMaker,
+    steps: &mut Steps<L>,
+) -> Result<(), NoMemory>
+    requires cells { let index = option_map (λ j. j.now) ranks.now.cells.now.index in
+        AreCells ranks.now.cells.now.lane.now index ranks.now.count }
+    requires ranked { let index = option_map (λ j. j.now) ranks.now.cells.now.index in
+        AreRanked ranks.now.up ranks.now.cells.now.lane.now index ranks.now.count ranks.now.least
+        ranks.now.greatest }
+    requires room { ranks.now.greatest - ranks.now.least < K.room }
+    requires order { start ≤ stop }
+    requires within { stop ≤ ranks.now.count }
+    requires few { ranks.now.count ≤ 1073741824 }
+    requires kind { maker.old.kind ≡ Kind.I64 }
+    requires fits { length maker.old.items + (stop - start) ≤ maker.old.room }
+    ensures kind { IfOk result (λ _. maker.new.kind ≡ Kind.I64) }
+    ensures room { IfOk result (λ _. maker.new.room ≡ maker.old.room) }
+    ensures items { let index = option_map (λ j. j.now) ranks.now.cells.now.index in
+        IfOk result (λ _. maker.new.items ≡ maker.old.items ++ map pos (spec.order ranks.now.up
+        (cells_from ranks.now.cells.now.lane.now index start (stop - start)))) }
+{
+    let _ = ranks.cells.lane.len();
+    keys.clear();
+    push_keys(keys, ranks, start, stop, steps)?;
+    sort_keys(keys);
+    push_places(keys, maker);
+    Ok(())
 }
 
 /// The places of each of n parts in the order of its cells, by keys of one width.
@@ -51,11 +81,14 @@ fn places_by<'a, K: Key, L: Ledger>(
     ensures { let index = option_map (λ j. j.now) ranks.now.cells.now.index in
         IfOk result (OrdersLane ranks.now.up ranks.now.cells.now.lane.now index offsets.now n) }
 {
-    let _ = ranks.cells.lane.len();
-    let mut keys: Vec<K> = keys_of(alloc, ranks, offsets, n, steps)?;
-    sort_parts(&mut keys, offsets, n, true, steps);
-    let places = KeyPlaces { keys: &keys };
-    made_lane(Kind::I64, keys.len() as u64, &places, arena, steps)
+    let mut maker = LaneMaker::new(Kind::I64, ranks.count, arena)?;
+    let mut keys: Vec<K> = Vec::new(alloc);
+    for i in 0..n {
+        let start = place_in(offsets, i, steps);
+        let stop = place_in(offsets, i + 1, steps);
+        push_order(&mut keys, ranks, start, stop, &mut maker, steps)?;
+    }
+    Ok(maker.finish())
 }
 
 /// A lane with the places of each of n parts in the order of its cells: rising or falling, nulls

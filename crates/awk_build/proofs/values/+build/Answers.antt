@@ -1,19 +1,24 @@
 use Rattle.std.proofs.Common.{◌≡◌, ◌∙◌, ◌+◌, ◌++◌, ◌∷◌, [], ap, arith, drop, map, subst, sym}
-use Rattle.std.specs.Prelude.{IfOk, string_bytes}
+use Rattle.std.specs.Prelude.{IfOk, IfSome, string_bytes}
+use Rattle.std.specs.List.{AllByRecursion}
 use Rattle.std.proofs.lemmas.List.{drop_all}
 use Rattle.serde_json.proofs.Views.{view-Object}
 use Rattle.serde_json.specs.Data.{item, member, no_items, object}
 use Rattle.serde_json.specs.View.{items_view, members_view, view}
-use Rattle.awk_types.specs.DataType.{rec, types_from}
-use Rattle.awk_types.specs.Value.{row, values_from}
+use Rattle.awk_types.specs.DataType.{leaf, rec, types_from}
+use Rattle.awk_types.specs.Has.{Holds}
+use Rattle.awk_types.specs.Value.{int, row, values_from}
+use Rattle.awk_types.specs.declared.primitive.Primitive.TheVariants.{I64}
 use Rattle.awk_layout.specs.Typing.{array_items, array_type}
 use Rattle.awk_gather.specs.Arrays.{array_item}
 use Rattle.awk_plain.specs.IsPlain.{AreJudged, HaveJudged, IsJudged}
 use Rattle.awk_plain.proofs.TypeSteps.{item_next}
 use Rattle.awk_build.specs.Built.{AreArraysOf, AreFieldsOf, IsArrayOf, IsArrayOfItems}
+use Rattle.awk_build.specs.Numbers.{HasNumbers}
 use Rattle.awk_build.specs.Joined.{joined_items, joined_type}
 use Rattle.awk_build.proofs.BuiltLaws.{arrays_more, both_given, fields_more, fields_named}
 use Rattle.awk_build.proofs.BuiltLaws.{fields_reach, items_made, items_within, row_made, row_within}
+use Rattle.awk_build.proofs.NumberLaws.{numbers_hold, numbers_made}
 use Rattle.awk_build.proofs.values.+build.Goals as goal
 
 -- ---- objects
@@ -70,6 +75,30 @@ field_nodes-loop-key-preserved g t c =
           (fields_more ms xs key d rest c.in_ok-array_of.field-0 left.0 c.in_ok-array_of.ensures),
       left.1.1,
     )
+
+-- ---- lists of numbers
+
+pub items_array-numbers_array-requires : goal.items_array-numbers_array-requires
+items_array-numbers_array-requires g t c =
+    let ds = items_view c.deref.result.now in
+    let zs = c.in-Some.numbers.items in
+    let h : HasNumbers ds zs =
+    subst (λ o. IfSome o (λ ys. HasNumbers ds ys.items)) c.in-Some.is c.in_ok-numbers.ensures in
+    subst (AllByRecursion (Holds I64)) (sym c.deref-in-Some.ensures.value)
+    (numbers_hold ds zs h.all)
+
+pub items_array-returns-in-Some : goal.items_array-returns-in-Some
+items_array-returns-in-Some g t c =
+    let ds = items_view c.args.items.now.items in
+    let zs = c.in-Some.numbers.items in
+    let h : HasNumbers ds zs =
+    subst (λ vs. HasNumbers (items_view vs) zs) c.deref.ensures.value
+    (subst (λ o. IfSome o (λ ys. HasNumbers (items_view c.deref.result.now) ys.items)) c.in-Some.is
+    c.in_ok-numbers.ensures) in
+    both_given c.numbers_array.result (λ y. array_type y ≡ leaf I64)
+    (λ y. array_items y ≡ map int c.deref-in-Some.result.now) (IsArrayOfItems ds)
+    (λ y e f. numbers_made ds zs y h e (f ∙ ap (map int) c.deref-in-Some.ensures.value))
+    c.numbers_array.ensures.typ c.numbers_array.ensures.items
 
 -- ---- lists
 

@@ -1,52 +1,48 @@
-use Rattle.std.proofs.Common.{◌≡◌, true, length, sym, subst}
+use Rattle.std.proofs.Common.{◌≡◌, true, length, subst}
 use Rattle.awk_query.specs.Allowed.{HasArguments}
+use Rattle.awk_arguments.proofs.Rows.{AreDistinct-fields}
+use Rattle.awk_arguments.proofs.ZipArguments.{AreNamed-zip}
 use Rattle.awk_eval.specs.Views.{is_view_op}
-use Rattle.awk_eval.proofs.OperandLaws.{IsWithin-one}
-use Rattle.awk_eval.proofs.Rows.{AreDistinct-fields}
-use Rattle.awk_eval.proofs.ZipArguments.{AreNamed-zip}
-use Rattle.awk_eval.proofs.EdgeArguments.{AreRising-hist, AreRising-hist_each}
+use Rattle.awk_eval.proofs.EdgeArguments.{AreRising-hist}
+use Rattle.awk_eval.proofs.WithinLaws.{IsWithin-one}
 use Rattle.awk_eval.proofs.application.apply.Goals as goal
 
 pub fields_of-requires-clause-distinct : goal.fields_of-requires-clause-distinct
 fields_of-requires-clause-distinct g c =
-    AreDistinct-fields (length c.args.operands.now) c.args.fixed.now c.in-Some-Some-3.names.now
+    AreDistinct-fields (length c.args.operands.now) c.args.fixed.now c.texts.result.now
     (subst (λ o. HasArguments o (length c.args.operands.now) c.args.fixed.now) c.in-Fields.is
-    c.requires) (sym c.in-Some-Some-3.ensures)
+    c.requires.arguments) c.texts.ensures
 
-pub rows_of-requires : goal.rows_of-requires
-rows_of-requires g c =
+pub rows_of-requires-clause-names : goal.rows_of-requires-clause-names
+rows_of-requires-clause-names g c =
     AreNamed-zip (length c.args.operands.now) c.args.fixed.now
     (subst (λ o. HasArguments o (length c.args.operands.now) c.args.fixed.now) c.in-Zip.is
-    c.requires)
+    c.requires.arguments)
 
-pub histogram_of-requires : goal.histogram_of-requires
-histogram_of-requires g c =
-    AreRising-hist (length c.args.operands.now) c.args.fixed.now
+pub histogram_of-requires-clause-rising : goal.histogram_of-requires-clause-rising
+histogram_of-requires-clause-rising g c =
+    AreRising-hist c.in-Hist.of (length c.args.operands.now) c.args.fixed.now
     (subst (λ o. HasArguments o (length c.args.operands.now) c.args.fixed.now) c.in-Hist.is
-    c.requires)
-
-pub histogram_of-requires-in-HistEach : goal.histogram_of-requires-in-HistEach
-histogram_of-requires-in-HistEach g c =
-    AreRising-hist_each (length c.args.operands.now) c.args.fixed.now
-    (subst (λ o. HasArguments o (length c.args.operands.now) c.args.fixed.now) c.in-HistEach.is
-    c.requires)
+    c.requires.arguments)
 
 pub returns-in-Range-clause-cost : goal.returns-in-Range-clause-cost
 returns-in-Range-clause-cost g c s cuts are =
     c.ranged.ensures.cost s
     (subst (λ o. is_view_op o c.args.fixed.now ≡ true) c.in-Range.is cuts) are
 
-pub returns-in-Some-Some-2-clause-cost : goal.returns-in-Some-Some-2-clause-cost
-returns-in-Some-Some-2-clause-cost g c s cuts are =
+pub returns-in-Field-clause-cost : goal.returns-in-Field-clause-cost
+returns-in-Field-clause-cost g c s cuts are =
     c.field_of.ensures.cost s
-    (IsWithin-one s c.args.operands.now c.in-Some-Some-2.x.now c.in-Some-Some-2.ensures'.alone are)
+    (IsWithin-one s c.args.operands.now c.only.result.now c.only.ensures.alone are)
 
-pub returns-in-Some-Some-3-clause-cost : goal.returns-in-Some-Some-3-clause-cost
-returns-in-Some-Some-3-clause-cost g c s cuts are =
+pub returns-in-Fields-clause-cost : goal.returns-in-Fields-clause-cost
+returns-in-Fields-clause-cost g c s cuts are =
     c.fields_of.ensures.cost s
-    (IsWithin-one s c.args.operands.now c.in-Some-Some-3.x.now c.in-Some-Some-3.ensures'.alone are)
+    (IsWithin-one s c.args.operands.now c.only-in-Fields.result.now c.only-in-Fields.ensures.alone
+    are)
 
-pub returns-in-Some-Some-4-clause-cost : goal.returns-in-Some-Some-4-clause-cost
-returns-in-Some-Some-4-clause-cost g c s cuts are =
+pub returns-in-WithoutField-clause-cost : goal.returns-in-WithoutField-clause-cost
+returns-in-WithoutField-clause-cost g c s cuts are =
     c.without_of.ensures.cost s
-    (IsWithin-one s c.args.operands.now c.in-Some-Some-4.x.now c.in-Some-Some-4.ensures'.alone are)
+    (IsWithin-one s c.args.operands.now c.only-in-WithoutField.result.now
+    c.only-in-WithoutField.ensures.alone are)

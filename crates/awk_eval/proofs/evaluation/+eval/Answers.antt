@@ -6,18 +6,39 @@ use Rattle.awk_query.specs.Allowed.{HasArguments}
 use Rattle.awk_query.specs.View.{expr_of, exprs_of}
 use Rattle.awk_eval.specs.Variables.{denoted}
 use Rattle.awk_eval.proofs.Evaluations.{operands-push, operands-told, AreAllowed-get}
-use Rattle.awk_eval.proofs.Evaluations.{HasArguments-call}
+use Rattle.awk_eval.proofs.Evaluations.{HasArguments-call, AreTaken-operands}
+use Rattle.awk_arguments.proofs.FitLaws.{FitsFixed-call, FitsOperands-call}
+use Rattle.awk_arguments.specs.Operand.{takes_literal, AreTaken}
+use Rattle.awk_arguments.specs.OperandView.{shown_operands}
+use Rattle.awk_layout.specs.Filler.{filler_of}
+use Rattle.std.proofs.lemmas.List.{length-map}
 use Rattle.awk_eval.specs.Views.{view_of, only_view, size_in, AreWithin, IsOperandWithin}
 use Rattle.awk_eval.proofs.ViewSteps.{OfView-all, Taken-get, within-get, TakesView-steps}
 use Rattle.awk_eval.proofs.ViewSteps.{TakesView-within, TakesView-fault, TakesView-call, IfOk-IsErr}
 use Rattle.awk_eval.proofs.evaluation.+eval.Goals as goal
 
-pub eval-apply-requires : goal.eval-apply-requires
-eval-apply-requires g t c =
+pub eval-apply-requires-clause-arguments : goal.eval-apply-requires-clause-arguments
+eval-apply-requires-clause-arguments g t c =
     subst (λ n. HasArguments c.in-Call.op n c.in-Call.fixed)
     (sym c.in_ok-operands-in-Call.ensures.count)
     (HasArguments-call c.args.e.now c.in-Call.op c.in-Call.args c.in-Call.fixed c.in-Call.is
     c.requires)
+
+pub eval-apply-requires-clause-others : goal.eval-apply-requires-clause-others
+eval-apply-requires-clause-others g t c =
+    FitsFixed-call c.in-Call.op (length (exprs_of c.in-Call.args)) c.in-Call.fixed
+    (HasArguments-call c.args.e.now c.in-Call.op c.in-Call.args c.in-Call.fixed c.in-Call.is
+    c.requires)
+
+pub eval-apply-requires-clause-operands : goal.eval-apply-requires-clause-operands
+eval-apply-requires-clause-operands g t c =
+    FitsOperands-call c.in-Call.op (length (exprs_of c.in-Call.args)) c.in-Call.fixed
+    (shown_operands c.in_ok-operands-in-Call.operands)
+    (HasArguments-call c.args.e.now c.in-Call.op c.in-Call.args c.in-Call.fixed c.in-Call.is
+    c.requires)
+    (length-map c.in_ok-operands-in-Call.operands filler_of
+    ∙ c.in_ok-operands-in-Call.ensures.count)
+    c.in_ok-operands-in-Call.ensures.taken
 
 pub operands-operand-requires : goal.operands-operand-requires
 operands-operand-requires g t c κs within =
@@ -44,6 +65,9 @@ operands-loop-k-preserved g t c = record {
   count = ap length c.in_ok-push.ensures.ok
       ∙ length-append c.loop-k.made (c.in_ok-x.x ∷ [])
       ∙ ap (λ n. n + 1) c.loop-k.invariant.count;
+  taken = AreTaken-operands c.args.op c.loop-k.made c.push.new.self c.loop-k.k c.in_ok-x.x
+      c.takes_literal.result c.in_ok-push.ensures.ok c.loop-k.invariant.count
+      c.takes_literal.ensures c.loop-k.invariant.taken c.in_ok-x.ensures.taken;
   first = λ at_first. absurd (omega arith);
   cost = Taken-get c.args.env.now (exprs_of c.args.args.now) c.loop-k.k (expr_of c.get.result.now)
       c.args.steps.now c.loop-k.steps c.operand.new.steps c.get.ensures.item c.loop-k.invariant.first
@@ -57,6 +81,8 @@ pub operands-loop-k-init : goal.operands-loop-k-init
 operands-loop-k-init g t c = record {
   made = search rules;
   count = ap length c.new-made.ensures;
+  taken = subst (λ made. AreTaken (takes_literal c.args.op) 0 (shown_operands made))
+      (sym c.new-made.ensures) tt;
   first = λ at_first. omega arith;
   cost = OfView-all c.args.env.now (only_view (exprs_of c.args.args.now)) _ (λ v. omega arith);
   within = OfView-all c.args.env.now (only_view (exprs_of c.args.args.now)) _

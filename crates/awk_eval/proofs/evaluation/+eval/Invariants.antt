@@ -2,7 +2,8 @@ use Rattle.std.proofs.Common.{◌≡◌, ◌+◌, ◌*◌, ◌≤◌, ◌++◌, 
 use Rattle.awk_query.specs.ExprTree.{exprs_from}
 use Rattle.awk_query.specs.View.{exprs_of}
 use Rattle.awk_eval.specs.Variables.{denoted}
-use Rattle.awk_eval.specs.OperandView.{shown_operands}
+use Rattle.awk_arguments.specs.Operand.{takes_literal, AreTaken}
+use Rattle.awk_arguments.specs.OperandView.{shown_operands}
 use Rattle.awk_eval.specs.Views.{OfView, IsTaken, AreWithin, only_view, size_in}
 use Rattle.awk_eval.specs.Eval.{mapped, operands}
 use Rattle.awk_eval.proofs.evaluation.+eval.Given as goal
@@ -24,6 +25,7 @@ invariant-operands-loop-k g l = record {
       ≡ mapped (λ xs. shown_operands l.made ++ xs)
       (operands (denoted l.env) l.op l.k (exprs_from (drop l.k (exprs_of l.args))));
   count : length l.made ≡ l.k;
+  taken : AreTaken (takes_literal l.op) 0 (shown_operands l.made);
   first : l.k ≡ 0 → l.steps ≤ l.initial.steps;
   cost : OfView l.env (only_view (exprs_of l.args)) (λ v.
       IsTaken (size_in l.env v) v.count l.initial.steps l.steps);

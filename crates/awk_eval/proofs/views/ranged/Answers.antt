@@ -1,7 +1,7 @@
-use Rattle.awk_eval.proofs.OperandLaws.{IsWithin-one}
+use Rattle.awk_eval.proofs.WithinLaws.{IsWithin-one}
 use Rattle.awk_eval.proofs.views.ranged.Goals as goal
 
-pub returns-in-Some-default-clause-cost : goal.returns-in-Some-default-clause-cost
-returns-in-Some-default-clause-cost g c s cuts are =
+pub returns-in-Some-clause-cost : goal.returns-in-Some-clause-cost
+returns-in-Some-clause-cost g c s cuts are =
     c.range_of.ensures.cost s
-    (IsWithin-one s c.args.operands.now c.in-Some.x.now c.in-Some.ensures.alone are)
+    (IsWithin-one s c.args.operands.now c.only-x.result.now c.only-x.ensures.alone are)

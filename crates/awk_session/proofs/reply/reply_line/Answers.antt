@@ -1,4 +1,4 @@
--- The buffers of a load line are texts, or bytes under distinct keys.
+-- The buffers of a load line are texts, or bytes under distinct keys, and a values line has a list.
 use Rattle.std.proofs.Common.{◌+◌, length, subst, arith}
 use Rattle.serde_json.specs.View.{view, members_view}
 use Rattle.awk_lengths.specs.LineBytes.{text_len}
@@ -9,6 +9,7 @@ use Rattle.awk_types.proofs.DistinctLaws.{AreDistinct-true}
 use Rattle.awk_load_line.specs.LoadCost.{form_width}
 use Rattle.awk_load_line.proofs.LoadLaws.{load_cost-bytes}
 use Rattle.awk_load_line.proofs.ReadLaws.{are_texts-holds}
+use Rattle.awk_framing.specs.Listed.{IsListed}
 use Rattle.awk_session.proofs.reply.reply_line.Goals as goal
 
 pub bind_texts-requires : goal.bind_texts-requires
@@ -21,6 +22,11 @@ pub bind_raw-requires : goal.bind_raw-requires
 bind_raw-requires g c = record {
   apart = AreDistinct-true (keys_of c.in-LoadRaw.parts)
       (subst (λ l. IsAllowedLine (line_view l)) c.in-LoadRaw.is c.requires.allowed);
+}
+
+pub bind_values-requires : goal.bind_values-requires
+bind_values-requires g c = record {
+  listed = subst (λ l. IsListed (line_view l)) c.in-Values.is c.requires.listed;
 }
 
 pub returns-in-Load-clause-cost : goal.returns-in-Load-clause-cost

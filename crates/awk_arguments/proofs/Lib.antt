@@ -1,0 +1,9 @@
+pub mod OperandLaws
+pub mod DataLaws
+pub mod PrimitiveNames
+pub mod Rows
+pub mod ZipArguments
+pub mod AxisLaws
+pub mod KindLaws
+pub mod FixedLaws
+pub mod FitLaws
