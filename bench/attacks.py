@@ -1,11 +1,12 @@
 #!/usr/bin/env python3
-"""Runs short sessions that name far more items than they hold, in 2 GB of address space.
+"""Runs sessions that name far more than they hold, in 2 GB of address space.
 
     python3 bench/attacks.py [--only WORD] [--seconds N] [PROGRAM ..]
 
 PROGRAM is crates/awk_cli/out/awk_cli where none is given; several are run one after another. Each
-row is a session of a few lines, and its last answer is printed with the exit status and the
-seconds; `late` is a session that took longer than N seconds, 60 where none are given. No row should
+row is a session, and its last answer is printed with the exit status and the processor seconds.
+Those that end in x1 and x10 are the same at a size and at ten times that; `late` is a session that
+took longer than N seconds by the clock, 60 where none are given. No row should
 end with status 5 where a value or a fault is defined. All figures are of this run, which is made by
 hand and is no part of the gate.
 """
@@ -15,7 +16,6 @@ import json
 import os
 import resource
 import subprocess
-import time
 from base64 import b64encode
 from struct import pack
 
@@ -74,8 +74,57 @@ def nested(m: int) -> str:
     return load("x", form, m, **buffers)
 
 
+def let(name: str, what: object) -> str:
+    return json.dumps({"let": name, "be": what})
+
+
+def overlapping(lists: int, places: int) -> str:
+    """So many lists that all lie over the same places."""
+    form = node("ListArray", "l", starts="i64", stops="i64",
+                content=node("NumpyArray", "d", primitive="int64"))
+    return load("o", form, lists, l_starts=lane("q", *([0] * lists)),
+                l_stops=lane("q", *([places] * lists)), d_data=lane("q", *range(places)))
+
+
+def wide(fields: int) -> str:
+    """Records of so many fields."""
+    names = [f"f{it}" for it in range(fields)]
+    return load("w", {"class": "RecordArray", "fields": names, "contents": [EMPTY] * fields}, 0)
+
+
+def sizes(scale: int) -> list[tuple[str, list[str]]]:
+    """Sessions of a size, and of ten times that where the scale is 10."""
+    o, w, last = overlapping(100 * scale, 1000), wide(5_000 * scale), f"f{5_000 * scale - 1}"
+    one = load("n", node("NumpyArray", "d", primitive="int64"), 1, d_data=lane("q", 7))
+    found = [
+        (f"overlap {operation}", [o, typed([operation, "o"])])
+        for operation in ["sum", "min", "argmax", "count", "run_lengths", "neg"]
+    ]
+    found += [
+        ("overlap sort", [o, typed(["sort", "o", True])]),
+        ("overlap flatten", [o, typed(["flatten", "o", 1])]),
+        ("overlap add", [o, typed(["add", "o", "o"])]),
+        ("overlap hist", [o, show(["hist", "o", [0, 500, 1000]])]),
+        ("overlap concatenate 1", [o, typed(["concatenate", 1, ["o", "o"]])]),
+        ("overlap pack", [o, let("s", ["sum", "o"]), show(["count", "s"])]),
+        ("fields field", [w, typed(["field", "w", last])]),
+        ("fields fields", [w, typed(["num", ["fields", "w", [last, "f0"]], 0])]),
+        ("fields without_field", [w, let("v", ["without_field", "w", last])]),
+        ("fields with_field", [w, let("v", ["with_field", "w", "new", ["field", "w", "f0"]])]),
+        ("fields concatenate", [w, let("v", ["concatenate", 0, ["w", "w"]])]),
+        ("variables", [one, *[let(f"v{it}", 1) for it in range(10_000 * scale)],
+                       show(f"v{10_000 * scale - 1}")]),
+        ("views", [one, *[let("n", ["range", "n", 0, None]) for _ in range(10_000 * scale)],
+                   show("n")]),
+        ("concatenate of many", [one, show(["num", ["concatenate", 0, ["n"] * (100 * scale)], 0])]),
+        ("places of a tuple", [one, typed(["combinations", 6_553 * scale, True, 0, "n"])]),
+        ("pad_none to 2^63", [one, show(["num", ["pad_none", "n", 2**63, 0, False], 0])]),
+    ]
+    return [(f"{name} x{scale}", lines) for name, lines in found]
+
+
 def rows() -> list[tuple[str, list[str]]]:
-    found = []
+    found = sizes(1) + sizes(10)
     for name, start in [("two", TWO), ("named", NAMED), ("nulls", NULLS), ("deep", DEEP)]:
         found += [
             (f"{name} concatenate 0", [start, typed(["concatenate", 0, ["g", "g"]])]),
@@ -131,9 +180,15 @@ def space() -> None:
     resource.setrlimit(resource.RLIMIT_AS, (SPACE, SPACE))
 
 
+def spent() -> float:
+    """The processor seconds of all programs so far."""
+    used = resource.getrusage(resource.RUSAGE_CHILDREN)
+    return used.ru_utime + used.ru_stime
+
+
 def run(program: str, lines: list[str], seconds: float) -> str:
     text = "\n".join(lines + [""]).encode()
-    began = time.perf_counter()
+    began = spent()
     child = subprocess.Popen([program, "run"], stdin=subprocess.PIPE, stdout=subprocess.PIPE,
                              stderr=subprocess.DEVNULL, preexec_fn=space)
     try:
@@ -143,7 +198,7 @@ def run(program: str, lines: list[str], seconds: float) -> str:
         child.kill()
         answers, _ = child.communicate()
         status = "late"
-    took = time.perf_counter() - began
+    took = spent() - began
     last = (answers.decode().splitlines() or [""])[-1]
     return f"status {status:4} {took:6.2f} s  {last[:60]}"
 
