@@ -14,13 +14,13 @@ use Rattle.awk_layout.specs.Layout.{Layout}
 use Rattle.awk_layout.specs.Typing.{array_type, array_items}
 use Rattle.awk_layout.specs.declared.datum.Datum.TheVariants.{Arr, One}
 use Rattle.awk_frames.specs.Framed.{over}
-use Rattle.awk_pair.specs.Answer.{single_or_fault, shared_ends}
-use Rattle.awk_pair.specs.Pairs.{pair_refused, pair_type, pair_values, some_array, datum_from}
+use Rattle.awk_pair_operands.specs.Answer.{single_or_fault, shared_ends}
+use Rattle.awk_pair_operands.specs.Pairs.{pair_refused, pair_type, pair_values, some_array}
+use Rattle.awk_pair_operands.specs.Pairs.{datum_from}
 use Rattle.awk_pair_types.specs.Limits.{limit_refused}
-use Rattle.awk_arith.specs.AtLeaves.{result_type, first_fault, value_or_null}
-use Rattle.awk_arith.specs.AtLeaves.{row_values, leaves_refused, at_leaves}
-use Rattle.awk_arith.proofs.DatumLaws.{IsMade, values-one, datum_shown}
-use Rattle.awk_arith.proofs.DatumLaws.{datum_made as single_made}
+use Rattle.awk_ends.proofs.DatumLaws.{IsMade, values-one, datum_shown, datum_made as single_made}
+use Rattle.awk_arith.specs.AtLeaves.{result_type, first_fault, value_or_null, row_values}
+use Rattle.awk_arith.specs.AtLeaves.{leaves_refused, at_leaves}
 
 module _ (p : Primitive) (f : Value → Result Value Fault) (ds : List Datum) where
   -- ---- faults

@@ -1,7 +1,6 @@
 -- What an operation on two operands answers, by its parts.
 use Rattle.std.proofs.Common.{◌≡◌, true, false, ap, sym, ◌∙◌}
-use Rattle.std.specs.Prelude.{List, map, length, None, Result, Ok, Err}
-use Rattle.std.specs.Prelude.{if◌then◌else◌}
+use Rattle.std.specs.Prelude.{List, map, length, None, Result, Ok, Err, if◌then◌else◌}
 use Rattle.awk_types.specs.Datum.{Datum}
 use Rattle.awk_types.specs.Faults.{fault_told}
 use Rattle.awk_types.specs.Gives.{Told, refused_or}
@@ -15,11 +14,11 @@ use Rattle.awk_layout.specs.declared.datum.Operand.{Operand}
 use Rattle.awk_leaves.specs.Table.{binary_judged}
 use Rattle.awk_leaves.specs.Values.{binary_values}
 use Rattle.awk_leaves.specs.declared.operation.Binary.{Binary}
-use Rattle.awk_pair.specs.Pairs.{has_wrong_end}
-use Rattle.awk_arith.specs.AtLeaves.{at_leaves, in_primitive, first_fault, value_or_null}
-use Rattle.awk_arith.specs.Binary.{data_in, leaf_of, at_end, both_data, binary_row, judged_binary}
-use Rattle.awk_arith.specs.Binary.{binary_of}
-use Rattle.awk_arith.specs.Sides.{leaf_at, values_at, data_before, ends_of}
+use Rattle.awk_pair_operands.specs.Pairs.{has_wrong_end}
+use Rattle.awk_ends.specs.Operands.{in_primitive, data_in, leaf_of, at_end, both_data}
+use Rattle.awk_ends.specs.Columns.{leaf_at, values_at, data_before, ends_of}
+use Rattle.awk_arith.specs.AtLeaves.{at_leaves, first_fault, value_or_null}
+use Rattle.awk_arith.specs.Binary.{binary_row, judged_binary, binary_of}
 use Rattle.awk_arith.proofs.ColumnLaws.{AreSides}
 use Rattle.awk_arith.proofs.ResultLaws.{Told-fault, binary_values-rows}
 

@@ -1,8 +1,6 @@
 pub mod ResultLaws
-pub mod LeafLaws
 pub mod ColumnLaws
 pub mod SideLaws
-pub mod DatumLaws
 pub mod AnswerLaws
 pub mod UnderLaws
 pub mod BinaryLaws

@@ -21,10 +21,11 @@ use Rattle.awk_leaves.specs.Values.{binary_at, binary_values, all_values, in_jud
 use Rattle.awk_leaves.specs.declared.leaf_type.LeafType.TheVariants.{Literal}
 use Rattle.awk_leaves.specs.declared.operation.Binary.{Binary}
 use Rattle.awk_pointwise.specs.Sides.{lane_values}
-use Rattle.awk_arith.specs.AtLeaves.{at_leaves, in_primitive, first_fault, value_or_null}
+use Rattle.awk_ends.specs.Operands.{in_primitive}
+use Rattle.awk_ends.proofs.DatumLaws.{items-one}
+use Rattle.awk_ends.proofs.LaneLaws.{flat-items, flat-type}
+use Rattle.awk_arith.specs.AtLeaves.{at_leaves, first_fault, value_or_null}
 use Rattle.awk_arith.specs.Binary.{binary_row, judged_binary}
-use Rattle.awk_arith.proofs.DatumLaws.{items-one}
-use Rattle.awk_arith.proofs.UnderLaws.{flat-items, flat-type}
 
 -- one result
 result_told : (o : Option Fault) (p : Primitive) (r : Result Value Fault)

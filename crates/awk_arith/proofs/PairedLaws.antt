@@ -21,18 +21,19 @@ use Rattle.awk_layout.specs.declared.datum.Operand.{Operand}
 use Rattle.awk_leaves.specs.Table.{binary_judged}
 use Rattle.awk_leaves.specs.Values.{binary_values}
 use Rattle.awk_leaves.specs.declared.operation.Binary.{Binary}
-use Rattle.awk_pair.specs.Answer.{single_or_fault, shared_ends}
-use Rattle.awk_pair.specs.First.{all_data}
-use Rattle.awk_pair.specs.Pairs.{has_wrong_end, leaf_types, pair_refused, some_array}
+use Rattle.awk_pair_operands.specs.Answer.{single_or_fault, shared_ends}
+use Rattle.awk_pair_operands.specs.First.{all_data}
+use Rattle.awk_pair_operands.specs.Pairs.{has_wrong_end, leaf_types, pair_refused, some_array}
 use Rattle.awk_pointwise.specs.Sides.{lane_values}
 use Rattle.awk_pair_types.specs.Limits.{limit_refused}
-use Rattle.awk_arith.specs.AtLeaves.{result_type, row_values, value_or_null}
-use Rattle.awk_arith.specs.AtLeaves.{first_fault}
-use Rattle.awk_arith.specs.Binary.{leaf_of, both_data, binary_row, judged_binary}
-use Rattle.awk_arith.specs.Sides.{leaf_at, values_at, data_before, ends_of}
+use Rattle.awk_ends.specs.Operands.{leaf_of, both_data}
+use Rattle.awk_ends.specs.Columns.{leaf_at, values_at, data_before, ends_of}
+use Rattle.awk_ends.proofs.ColumnLaws.{AreEnds, ends-count}
+use Rattle.awk_arith.specs.AtLeaves.{result_type, row_values, value_or_null, first_fault}
+use Rattle.awk_arith.specs.Binary.{binary_row, judged_binary}
 use Rattle.awk_arith.proofs.AnswerLaws.{told_type, told_pair, told_leaves, IsResult, made}
 use Rattle.awk_arith.proofs.BinaryLaws.{judged-is, rows_said, sides_judged}
-use Rattle.awk_arith.proofs.ColumnLaws.{AreSides, AreEnds, sides, ends-count}
+use Rattle.awk_arith.proofs.ColumnLaws.{AreSides, sides}
 use Rattle.awk_arith.proofs.UnderLaws.{result_is, no_fault, lane_items, lane_size}
 
 module _ (op : Binary) (x y : Operand) (xs : List Operand) (p : Primitive)

@@ -1,7 +1,7 @@
 -- What an operation on one datum answers, where all its ends are leaves.
 use Rattle.std.proofs.Common.{◌≡◌, ◌<◌, Bool, true, false, not, ap, sym, subst, ◌∙◌, arith}
-use Rattle.std.specs.Prelude.{List, [], ◌∷◌, map, length, slice_get, Option, Some, None}
-use Rattle.std.specs.Prelude.{Result, Ok, Err, if◌then◌else◌}
+use Rattle.std.specs.Prelude.{List, [], ◌∷◌, map, length, slice_get, Option, Some, None, Result, Ok}
+use Rattle.std.specs.Prelude.{Err, if◌then◌else◌}
 use Rattle.awk_types.specs.DataType.{DataType}
 use Rattle.awk_types.specs.Datum.{Datum}
 use Rattle.awk_types.specs.Faults.{fault_told}
@@ -23,19 +23,21 @@ use Rattle.awk_layout.specs.declared.datum.Operand.{Operand}
 use Rattle.awk_leaves.specs.Table.{unary_judged}
 use Rattle.awk_leaves.specs.Values.{unary_at, unary_values, all_values, in_judged}
 use Rattle.awk_leaves.specs.declared.operation.Unary.{Unary}
-use Rattle.awk_pair.specs.Answer.{single_or_fault, shared_ends}
-use Rattle.awk_pair.specs.First.{all_data}
-use Rattle.awk_pair.specs.Pairs.{has_wrong_end, leaf_types, pair_refused, some_array, item_type}
+use Rattle.awk_pair_operands.specs.Answer.{single_or_fault, shared_ends}
+use Rattle.awk_pair_operands.specs.First.{all_data}
+use Rattle.awk_pair_operands.specs.Pairs.{has_wrong_end, leaf_types, pair_refused, some_array}
+use Rattle.awk_pair_operands.specs.Pairs.{item_type}
 use Rattle.awk_pointwise.specs.Sides.{lane_values}
 use Rattle.awk_pair_types.specs.Limits.{limit_refused}
-use Rattle.awk_arith.specs.AtLeaves.{leaf_in, at_leaves, in_primitive, result_type}
-use Rattle.awk_arith.specs.AtLeaves.{row_values, value_or_null, first_fault}
+use Rattle.awk_ends.specs.Operands.{leaf_in, in_primitive}
+use Rattle.awk_ends.proofs.ColumnLaws.{map-map, AreEnds, ends-count, ends-leaf, parts-at}
+use Rattle.awk_ends.proofs.LaneLaws.{column_is}
+use Rattle.awk_arith.specs.AtLeaves.{at_leaves, result_type, row_values, value_or_null, first_fault}
 use Rattle.awk_arith.specs.Unary.{unary_row, judged_unary}
 use Rattle.awk_arith.proofs.AnswerLaws.{told_type, told_pair, told_leaves, IsResult, made}
-use Rattle.awk_arith.proofs.ColumnLaws.{map-map, AreEnds, ends-count, ends-long, ends-leaf}
-use Rattle.awk_arith.proofs.ColumnLaws.{parts-at}
+use Rattle.awk_arith.proofs.ColumnLaws.{ends-long}
 use Rattle.awk_arith.proofs.ResultLaws.{Told-fault, all_values-is}
-use Rattle.awk_arith.proofs.SideLaws.{column_is, leaves-at}
+use Rattle.awk_arith.proofs.SideLaws.{leaves-at}
 use Rattle.awk_arith.proofs.UnderLaws.{result_is, no_fault, lane_items, lane_size}
 
 module _ (op : Unary) (d : Datum) where

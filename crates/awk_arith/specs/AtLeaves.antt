@@ -1,28 +1,17 @@
 -- An operation at the leaves of data that are paired: a part on types, a part on values, and the
 -- first fault.
-use Rattle.std.specs.Prelude.{List, [], ◌∷◌, map, Option, Some, None, Result, Ok, Err}
-use Rattle.std.specs.Prelude.{false}
-use Rattle.awk_types.specs.DataType.{DataType, leaf, var, reg, opt}
+use Rattle.std.specs.Prelude.{List, [], ◌∷◌, map, Option, Some, None, Result, Ok, Err, false}
+use Rattle.awk_types.specs.DataType.{DataType, leaf}
 use Rattle.awk_types.specs.Datum.{Datum}
 use Rattle.awk_types.specs.Gives.{refused_or, ◌or◌}
 use Rattle.awk_types.specs.Value.{Value, null}
 use Rattle.awk_types.specs.declared.fault.Fault.{Fault}
 use Rattle.awk_types.specs.declared.primitive.Primitive.{Primitive}
-use Rattle.awk_leaves.specs.declared.leaf_type.LeafType.{LeafType}
-use Rattle.awk_leaves.specs.declared.leaf_type.LeafType.TheVariants.{Of, Unknown}
 use Rattle.awk_frames.specs.Framed.{over, over_type}
-use Rattle.awk_pair.specs.Answer.{shared_ends}
-use Rattle.awk_pair.specs.Pairs.{pair_refused, pair_type, pair_values, some_array, datum_from}
+use Rattle.awk_pair_operands.specs.Answer.{shared_ends}
+use Rattle.awk_pair_operands.specs.Pairs.{pair_refused, pair_type, pair_values, some_array}
+use Rattle.awk_pair_operands.specs.Pairs.{datum_from}
 use Rattle.awk_pair_types.specs.Limits.{limit_refused}
-
--- what the leaves of a type are of, through lists and options. A pairing to leaves is refused
--- where it ends at anything else.
-abbrev pub leaf_in : DataType → LeafType
-leaf_in (leaf p) = Of p
-leaf_in (var t) = leaf_in t
-leaf_in (reg n t) = leaf_in t
-leaf_in (opt t) = leaf_in t
-leaf_in t = Unknown
 
 -- ---- results of which some may be faults
 
@@ -58,9 +47,3 @@ abbrev pub at_leaves : Primitive → (Value → Result Value Fault) → List Dat
 at_leaves p f ds =
     refused_or (leaves_refused p f ds)
     (datum_from (some_array ds) (result_type p ds) (row_values f ds))
-
--- the same in the primitive that types are judged to give
-abbrev pub in_primitive : Result Primitive Fault → (Primitive → Result Datum Fault)
-    → Result Datum Fault
-in_primitive (Ok p) in_it = in_it p
-in_primitive (Err f) in_it = Err f

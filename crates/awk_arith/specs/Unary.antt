@@ -9,8 +9,9 @@ use Rattle.awk_columns.specs.Columns.{part_at}
 use Rattle.awk_leaves.specs.Table.{unary_judged}
 use Rattle.awk_leaves.specs.Values.{unary_at}
 use Rattle.awk_leaves.specs.declared.operation.Unary.{Unary}
-use Rattle.awk_pair.specs.Pairs.{has_wrong_end, item_type}
-use Rattle.awk_arith.specs.AtLeaves.{leaf_in, at_leaves, in_primitive}
+use Rattle.awk_pair_operands.specs.Pairs.{has_wrong_end, item_type}
+use Rattle.awk_ends.specs.Operands.{leaf_in, in_primitive}
+use Rattle.awk_arith.specs.AtLeaves.{at_leaves}
 
 abbrev pub unary_row : Unary → Primitive → Value → Result Value Fault
 unary_row op p = λ v. unary_at op p (part_at 0 v)

@@ -3,9 +3,6 @@
 //! `binary`, `compare` and `logical` take two operands. A literal is no operand of the pairing: it
 //! takes its type from the other operand's leaves, and stands beside each of them. Their result
 //! has the lists and nulls that the operands share. `not`, `neg` and `abs` take one operand.
-//!
-//! What other operations on leaves need is handed out too: what the leaves of operands are of, the
-//! operands that are data, the lane of a column of leaves, and a result as a datum.
 #![tactic(auto)]
 
 mod operands;
@@ -13,7 +10,5 @@ mod result;
 mod sides;
 mod single;
 
-pub use operands::{binary, compare, leaf_in, leaf_type, logical, push_datum};
-pub use result::datum_from;
-pub use sides::{data_before, leaf_lane};
+pub use operands::{binary, compare, logical};
 pub use single::{abs, neg, not};

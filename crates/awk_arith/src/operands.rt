@@ -1,61 +1,29 @@
 //! Operations on two operands.
-ghost use Rattle.std.specs.Prelude.{◌≡◌, ◌<◌, ◌++◌, length, false, None, IfOk, OnOk};
+ghost use Rattle.std.specs.Prelude.{◌≡◌, ◌<◌, length, false, None, IfOk};
 ghost use Rattle.awk_types.specs.Faults.{fault_told};
 ghost use Rattle.awk_types.specs.Gives.{Gives};
-ghost use Rattle.awk_types.specs.View.{typ_of};
 ghost use Rattle.awk_layout.specs.Datum.{datum_of, IsDatum, IsOperand};
 ghost use Rattle.awk_layout.specs.Filler.{filler_of, literal, datum};
 ghost use Rattle.awk_leaves.specs.declared.operation.Binary.TheVariants.{Calculate, Test, Join};
-ghost use Rattle.awk_pair.specs.First.{all_data};
-ghost use Rattle.awk_pair.specs.Pairs.{has_wrong_end};
+ghost use Rattle.awk_pair_operands.specs.First.{all_data};
+ghost use Rattle.awk_pair_operands.specs.Pairs.{has_wrong_end};
 ghost use Rattle.awk_pointwise.specs.Sides.{IsNumber64};
-ghost use Rattle.awk_arith.specs.AtLeaves.{leaf_in};
-ghost use Rattle.awk_arith.specs.Binary.{data_in, leaf_of, both_data, judged_binary, binary_of};
+ghost use Rattle.awk_ends.specs.Operands.{both_data};
+ghost use Rattle.awk_arith.specs.Binary.{judged_binary, binary_of};
 
-use crate::result::{datum_from, result_typ};
+use crate::result::result_typ;
 use crate::sides::row_leaves;
+use awk_ends::{datum_from, leaf_type, push_datum};
 use awk_frames::framed;
 use awk_kernels::{Arith, Compare, Kernels};
 use awk_lanes::{Arena, NoMemory, Steps};
 use awk_layout::{Array, Datum, Node, Operand, Operands};
-use awk_leaves::{Binary, LeafType, Logic, binary_prim};
+use awk_leaves::{Binary, Logic, binary_prim};
 use awk_pair::{has_wrong_end, pair};
 use awk_pointwise::{Side, binary_leaves};
-use awk_types::{Fault, Typ};
+use awk_types::Fault;
 use std::alloc::Global;
 use std::sync::ledger::Ledger;
-
-/// What the leaves of a type are of, through lists and options.
-pub fn leaf_in(t: &Typ) -> LeafType
-    ensures { result ≡ leaf_in (typ_of t.now) }
-{
-    match t {
-        Typ::Leaf(prim) => LeafType::Of(*prim),
-        Typ::Var(inner) | Typ::Reg(_, inner) | Typ::Opt(inner) => leaf_in(inner),
-        _ => LeafType::Unknown,
-    }
-}
-
-/// What the leaves of an operand are of.
-pub fn leaf_type(x: &Operand) -> LeafType
-    ensures { result ≡ leaf_of (filler_of x.now) }
-{
-    match x {
-        Operand::Literal(z) => LeafType::Literal(*z),
-        Operand::Of(datum) => leaf_in(datum.kept().typ()),
-    }
-}
-
-/// Puts an operand that is a datum at the end. A literal is not put there.
-pub fn push_datum<'a>(alloc: Global, x: &Operand<'a>, xs: &mut Operands<'a>) -> Result<(), NoMemory>
-    requires { IsOperand x.now }
-    ensures { OnOk result (all_data xs.new ≡ all_data xs.old ++ data_in (filler_of x.now)) }
-{
-    match x {
-        Operand::Literal(_) => Ok(()),
-        Operand::Of(_) => xs.push(x.copy(alloc)?),
-    }
-}
 
 /// The operands that are data.
 fn data_of<'a>(alloc: Global, x: &Operand<'a>, y: &Operand<'a>) -> Result<Operands<'a>, NoMemory>

@@ -1,20 +1,18 @@
-//! The type of a result, and the result of leaves under what data share.
+//! The type of a result.
 ghost use Rattle.std.specs.Prelude.{◌≡◌, ◌<◌, length, false, None, IfOk};
-ghost use Rattle.std.specs.Prelude.{if◌then◌else◌};
-ghost use Rattle.awk_layout.specs.declared.datum.Datum.TheVariants.{Arr, One};
 ghost use Rattle.awk_types.specs.Faults.{fault_told};
 ghost use Rattle.awk_types.specs.Gives.{Gives, refused_or};
 ghost use Rattle.awk_types.specs.View.{typ_of};
 ghost use Rattle.awk_layout.specs.Array.{IsArrayType};
 ghost use Rattle.awk_layout.specs.Typing.{array_type};
-ghost use Rattle.awk_pair.specs.First.{all_data};
-ghost use Rattle.awk_pair.specs.Pairs.{has_wrong_end};
+ghost use Rattle.awk_pair_operands.specs.First.{all_data};
+ghost use Rattle.awk_pair_operands.specs.Pairs.{has_wrong_end};
 ghost use Rattle.awk_pair_types.specs.Limits.{limit_refused};
 ghost use Rattle.awk_arith.specs.AtLeaves.{result_type};
 
 use awk_frames::framed;
 use awk_lanes::{Arena, LaneMaker, NoMemory, Steps};
-use awk_layout::{Array, Datum, Node, Operands, kind_of};
+use awk_layout::{Node, Operands, kind_of};
 use awk_pair_types::{pair_types, typ_within};
 use awk_types::{Fault, Prim, Typ};
 use std::alloc::Global;
@@ -54,15 +52,4 @@ pub(crate) fn result_typ<'a, L: Ledger>(
 {
     let none = no_result(alloc, prim, xs, arena, steps)?;
     typ_within(alloc, none)
-}
-
-/// An array, or a single value as one.
-pub fn datum_from<'a>(single: bool, made: Array<'a>) -> Datum<'a>
-    ensures { result ≡ (if single then One made.entry else Arr made.entry) }
-{
-    if single {
-        Datum::One(made)
-    } else {
-        Datum::Arr(made)
-    }
 }

@@ -12,39 +12,20 @@ ghost use Rattle.awk_layout.specs.Valid.{len};
 ghost use Rattle.awk_leaves.specs.Table.{binary_judged, unary_judged};
 ghost use Rattle.awk_leaves.specs.Values.{binary_values, unary_values};
 ghost use Rattle.awk_pointwise.specs.Sides.{lane_values};
-ghost use Rattle.awk_arith.specs.Sides.{leaf_at, values_at, data_before, ends_of};
-ghost use Rattle.awk_arith.specs.Sides.{AreLeaves, IsAmong, IsLaneOf, IsLaneAt, IsSideAt};
-ghost use Rattle.awk_arith.specs.Sides.{IsColumnSide};
-ghost use Rattle.awk_arith.specs.AtLeaves.{leaf_in};
+ghost use Rattle.awk_ends.specs.Columns.{leaf_at, values_at, data_before, ends_of, IsAmong};
+ghost use Rattle.awk_ends.specs.Columns.{IsLaneOf};
+ghost use Rattle.awk_ends.specs.Operands.{leaf_in};
+ghost use Rattle.awk_arith.specs.Sides.{AreLeaves, IsLaneAt, IsSideAt, IsColumnSide};
 
-use awk_columns::in_order;
+use awk_ends::{data_before, leaf_lane};
 use awk_kernels::Kernels;
 use awk_lanes::{Arena, Lane, NoMemory, Steps};
 use awk_layout::{Array, Arrays, Operand};
 use awk_leaves::{Binary, Unary};
-use awk_open::Opened;
 use awk_pointwise::{Side, binary_leaves, unary_leaves};
 use awk_types::Fault;
 use std::alloc::Global;
 use std::sync::ledger::Ledger;
-
-/// The lane of an array of leaves. Unknown has none.
-pub fn leaf_lane<'a, L: Ledger>(
-    alloc: Global,
-    leaf: &Array<'a>,
-    arena: &'a Arena,
-    steps: &mut Steps<L>,
-) -> Result<Option<Lane<'a>>, NoMemory>
-    requires { is_leaf (array_type leaf.now) ≡ true }
-    ensures { IfOk result (IsLaneOf leaf.now) }
-{
-    match in_order(alloc, leaf, arena, steps)? {
-        Opened::Empty => Ok(None),
-        Opened::Leaf(lane) => Ok(Some(lane)),
-        Opened::Items { .. } | Opened::Row { .. } => unreachable!(),
-        Opened::Option { .. } | Opened::Union { .. } => unreachable!(),
-    }
-}
 
 /// The lane of an operand, where it is the k-th of those that are data. A literal has none.
 fn operand_lane<'a, L: Ledger>(
@@ -85,16 +66,6 @@ fn side_of<'b, 'a>(x: &Operand, lane: &'b Option<Lane<'a>>) -> Side<'b, 'a>
     match x {
         Operand::Literal(z) => Side::Literal(*z),
         Operand::Of(_) => column_side(lane),
-    }
-}
-
-/// How many data there are before the second of two operands.
-pub fn data_before(x: &Operand) -> usize
-    ensures { result ≡ data_before x.now }
-{
-    match x {
-        Operand::Literal(_) => 0,
-        Operand::Of(_) => 1,
     }
 }
 

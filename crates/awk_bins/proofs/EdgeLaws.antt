@@ -1,13 +1,11 @@
 -- Where a number stands among edges that rise.
-use Rattle.std.proofs.Common.{◌≡◌, ℕ, zero, suc, ◌+◌, ◌<◌, ◌≤◌, List, [], ◌∷◌, length, get_or}
-use Rattle.std.proofs.Common.{refl, ap, sym, ◌∙◌, arith, inl, inr, ◌⊎◌}
-use Rattle.std.specs.Prelude.{ℤ, pos, Bool, true, false, cond, nat_lt, ◌==◌, ◌&&◌, int_le, int_lt}
-use Rattle.std.specs.List.{count_by}
-use Rattle.std.specs.List.Sorted.{IsPartitionedBy, IsPartitionPoint}
-use Rattle.std.proofs.lemmas.Bool.{and_parts, cases_order}
+use Rattle.std.proofs.Common.{◌≡◌, ℕ, zero, suc, ◌+◌, ◌<◌, List, [], ◌∷◌, length, get_or}
+use Rattle.std.proofs.Common.{refl, ap, ◌∙◌, arith}
+use Rattle.std.specs.Prelude.{ℤ, Bool, true, false, cond, nat_lt, int_le, int_lt}
+use Rattle.std.proofs.lemmas.Bool.{and_parts}
 use Rattle.std.proofs.lemmas.Int.{ints}
-use Rattle.std.proofs.lemmas.List.Sums.{sum_by-cons, count_by-le-length}
-use Rattle.awk_bins.specs.Edges.{rise_above, are_rising, edge_at, lies_in}
+use Rattle.std.proofs.lemmas.List.Sums.{sum_by-cons}
+use Rattle.awk_bins.specs.Edges.{rise_above, are_rising}
 use Rattle.awk_bins.specs.Tallies.{edges_up_to}
 
 pub up_to_first : (e : ℤ) (es : List ℤ) (z : ℤ)
@@ -68,32 +66,3 @@ edge_reached (e ∷ es) z h k d l =
         ∙ ap (λ n. 0 + n) (none e es z h f) in
         let r = above e es z h f k d (omega (arith, m)) in
         grind (arith, r, n)
-
--- no edge that is greater comes before one that is not
-pub edges_parted : (es : List ℤ) (z : ℤ) → are_rising es ≡ true
-    → IsPartitionedBy (λ e. int_le e z) es
-edges_parted es z h i j d l m up =
-    let there = edge_reached es z h j d m in
-    let here = edge_reached es z h i d (omega (arith, l, m)) in
-    grind (arith, there, here, up, l)
-
--- that place is how many edges are no greater
-pub edges_counted : (es : List ℤ) (z : ℤ) (i : ℕ) → are_rising es ≡ true → i ≤ length es
-    → IsPartitionPoint (λ e. int_le e z ≡ true) (λ e. int_le e z ≡ false) es i
-    → i ≡ edges_up_to es z
-edges_counted es z i h l p = by (cases_order i (edges_up_to es z))
-  where
-    most : edges_up_to es z ≤ length es
-    most = count_by-le-length (λ e. int_le e z) es
-
-    by : (i ≡ edges_up_to es z) ⊎ ((i < edges_up_to es z) ⊎ (edges_up_to es z < i))
-        → i ≡ edges_up_to es z
-    by (inl e) = e
-    by (inr (inl b)) =
-        let no = p.1 i (pos 0) (omega arith) (omega (arith, b, most)) in
-        let yes = edge_reached es z h i (pos 0) (omega (arith, b, most)) in
-        absurd (grind (arith, no, yes, b))
-    by (inr (inr b)) =
-        let yes = p.0 (edges_up_to es z) (pos 0) (omega arith) b in
-        let no = edge_reached es z h (edges_up_to es z) (pos 0) (omega (arith, b, l)) in
-        absurd (grind (arith, no, yes))

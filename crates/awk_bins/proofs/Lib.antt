@@ -1,4 +1,5 @@
 pub mod EdgeLaws
+pub mod NearLaws
 pub mod TallyLaws
 pub mod TableLaws
 pub mod BinLaws

@@ -1,6 +1,6 @@
 -- How many numbers lie in each interval between edges, below the first edge, and from the last on.
-use Rattle.std.specs.Prelude.{◌≡◌, ℕ, ◌+◌, ◌-◌, ◌*◌, ◌<◌, ◌^◌, ℤ, pos, int_le, int_lt}
-use Rattle.std.specs.Prelude.{List, length, map, get_or}
+use Rattle.std.specs.Prelude.{◌≡◌, ℕ, ◌+◌, ◌-◌, ℤ, pos, int_le, int_lt}
+use Rattle.std.specs.Prelude.{List, length, map}
 use Rattle.std.specs.List.{count_by, range_with_len}
 use Rattle.awk_lanes.specs.Counted.{items_lane}
 use Rattle.awk_lanes.specs.Made.{lane_of}

@@ -1,5 +1,5 @@
 -- Edges of intervals: at least two whole numbers that rise.
-use Rattle.std.specs.Prelude.{◌≡◌, ℕ, ◌+◌, ℤ, pos, int_lt, int_le, nat_le, Bool, true, ◌&&◌}
+use Rattle.std.specs.Prelude.{ℕ, ◌+◌, ℤ, pos, int_lt, int_le, nat_le, Bool, true, ◌&&◌}
 use Rattle.std.specs.Prelude.{List, [], ◌∷◌, length, get_or}
 
 -- whether each number is greater than the one before, the first than a given one

@@ -1,4 +1,5 @@
 pub mod Edges
 pub mod Tallies
+pub mod Near
 pub mod Table
 pub mod Bins

@@ -5,12 +5,14 @@ ghost use Rattle.awk_numbers.specs.Folds.{lane_numbers};
 ghost use Rattle.awk_parts.specs.Parts.{AreParts, part_at};
 ghost use Rattle.awk_bins.specs.Bins.{AreBinned, AreColumns};
 ghost use Rattle.awk_bins.specs.Edges.{are_edges, are_rising};
+ghost use Rattle.awk_bins.specs.Near.{AreNear};
 ghost use Rattle.awk_bins.specs.Table.{IsTable};
 ghost use Rattle.awk_bins.specs.Tallies.{part_rows};
 
+use crate::edges::{Edges, near_edges};
+use crate::number::Number;
 use crate::table::{Table, column_lane, middle_lane};
 use crate::tallies::tally_row;
-use crate::wide::Wide;
 use awk_lanes::{Arena, Kind, Lane, NoMemory, Steps, nats_of, numbers_of, place_in};
 use std::alloc::Global;
 use std::sync::ledger::Ledger;
@@ -25,7 +27,34 @@ pub struct Binned<'a> {
 }
 
 /// The tallies of each part, one part after another, each made in a row of so many.
-fn part_tallies<N: Wide, L: Ledger>(
+fn row_tallies<N: Number, L: Ledger>(
+    alloc: Global,
+    numbers: &[N],
+    offsets: &Lane,
+    n: u64,
+    edges: &Edges<N>,
+    row: &mut [u64],
+    steps: &mut Steps<L>,
+) -> Result<Vec<u64>, NoMemory>
+    requires parts { AreParts (map N.number numbers.now) offsets.now n }
+    requires edges { AreNear N.least N.greatest edges.now.all.now
+        (map N.number edges.now.near.now) }
+    requires size { length row.old ≡ length edges.now.all.now + 1 }
+    ensures { let part = part_at (map N.number numbers.now) offsets.now in
+        IfOk result (λ v. v.items ≡ part_rows edges.now.all.now part n) }
+{
+    let mut made = Vec::with_capacity(alloc, (n as usize).saturating_mul(row.len()))?;
+    for i in 0..n {
+        let start = place_in(offsets, i, steps) as usize;
+        let stop = place_in(offsets, i + 1, steps) as usize;
+        tally_row(&numbers[start..stop], edges, row);
+        made.extend_from_slice(row)?;
+    }
+    Ok(made)
+}
+
+/// The same, of edges as they are.
+fn part_tallies<N: Number, L: Ledger>(
     alloc: Global,
     numbers: &[N],
     offsets: &Lane,
@@ -40,14 +69,12 @@ fn part_tallies<N: Wide, L: Ledger>(
     ensures { let part = part_at (map N.number numbers.now) offsets.now in
         IfOk result (λ v. v.items ≡ part_rows edges.now part n) }
 {
-    let mut made = Vec::new(alloc);
-    for i in 0..n {
-        let start = place_in(offsets, i, steps) as usize;
-        let stop = place_in(offsets, i + 1, steps) as usize;
-        tally_row(&numbers[start..stop], edges, row);
-        made.extend_from_slice(row)?;
-    }
-    Ok(made)
+    let near = near_edges(alloc, edges)?;
+    let edges = Edges {
+        all: edges,
+        near: &near,
+    };
+    row_tallies(alloc, numbers, offsets, n, &edges, row, steps)
 }
 
 /// The same of the numbers of a lane.

@@ -5,8 +5,8 @@
 
 mod bins;
 mod edges;
+mod number;
 mod table;
 mod tallies;
-mod wide;
 
 pub use bins::{Binned, bins_of};

@@ -1,7 +1,6 @@
 -- What a choice answers in a primitive, where all ends are leaves.
 use Rattle.std.proofs.Common.{◌≡◌, Bool, true, false, not, refl, ap, ap₂, sym, subst, ◌∙◌}
-use Rattle.std.specs.Prelude.{List, map, length, Option, Some, None, Result, Ok, Err}
-use Rattle.std.specs.Prelude.{if◌then◌else◌}
+use Rattle.std.specs.Prelude.{List, map, length, Option, Some, None, Result, Ok, Err, if◌then◌else◌}
 use Rattle.std.proofs.lemmas.List.{length-map}
 use Rattle.awk_types.specs.DataType.{DataType, leaf}
 use Rattle.awk_types.specs.Datum.{Datum}
@@ -10,8 +9,8 @@ use Rattle.awk_types.specs.Simple.{option_if}
 use Rattle.awk_types.specs.Value.{Value}
 use Rattle.awk_types.specs.declared.fault.Fault.{Fault}
 use Rattle.awk_types.specs.declared.primitive.Primitive.{Primitive}
-use Rattle.awk_types.proofs.RefusalLaws.{Told-later, Told-other, refused_or-Ok}
-use Rattle.awk_types.proofs.RefusalLaws.{refused_or-None, or-None}
+use Rattle.awk_types.proofs.RefusalLaws.{Told-later, Told-other, refused_or-Ok, refused_or-None}
+use Rattle.awk_types.proofs.RefusalLaws.{or-None}
 use Rattle.awk_columns.specs.InOrder.{AreParts}
 use Rattle.awk_layout.specs.Datum.{datum_of}
 use Rattle.awk_layout.specs.Filler.{filler_of}
@@ -24,14 +23,14 @@ use Rattle.awk_layout.proofs.ArrayItems.{length-array_items}
 use Rattle.awk_leaves.specs.Table.{choice_judged}
 use Rattle.awk_leaves.specs.declared.leaf_type.LeafType.{LeafType}
 use Rattle.awk_frames.specs.Framed.{over, over_type}
-use Rattle.awk_pair.specs.Answer.{single_or_fault, shared_ends}
-use Rattle.awk_pair.specs.Pairs.{pair_refused, pair_type, pair_values, some_array, datum_from}
-use Rattle.awk_pair.specs.Pairs.{leaf_types, item_type}
-use Rattle.awk_pair_levels.specs.Levels.{some_option}
+use Rattle.awk_pair_operands.specs.Answer.{single_or_fault, shared_ends}
+use Rattle.awk_pair_operands.specs.Pairs.{pair_refused, pair_type, pair_values, some_array}
+use Rattle.awk_pair_operands.specs.Pairs.{datum_from}
+use Rattle.awk_pair_operands.specs.Pairs.{leaf_types, item_type}
+use Rattle.awk_pair_sides.specs.Levels.{some_option}
 use Rattle.awk_pair_types.specs.Limits.{limit_refused}
-use Rattle.awk_arith.specs.AtLeaves.{leaf_in, in_primitive}
-use Rattle.awk_arith.specs.Binary.{leaf_of}
-use Rattle.awk_arith.proofs.DatumLaws.{IsMade, values-one, datum_shown}
+use Rattle.awk_ends.specs.Operands.{leaf_in, in_primitive, leaf_of}
+use Rattle.awk_ends.proofs.DatumLaws.{IsMade, values-one, datum_shown}
 use Rattle.awk_choose.specs.Choice.{far, choice_data, are_leaves, choice_row, end_type, result_type}
 use Rattle.awk_choose.specs.Choice.{result_values, chosen_in, judged_choice}
 use Rattle.awk_choose.specs.Ends.{columns_judged, columns_said}

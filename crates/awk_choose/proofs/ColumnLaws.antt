@@ -20,8 +20,8 @@ use Rattle.awk_columns.specs.Columns.{is_present, option_index}
 use Rattle.awk_columns.specs.InOrder.{IsInOrder}
 use Rattle.awk_pointwise.specs.Optional.{item_at}
 use Rattle.awk_pointwise.specs.Sides.{lane_values}
-use Rattle.awk_arith.specs.AtLeaves.{leaf_in}
-use Rattle.awk_arith.proofs.SideLaws.{lane_sized}
+use Rattle.awk_ends.specs.Operands.{leaf_in}
+use Rattle.awk_ends.proofs.LaneLaws.{lane_sized}
 use Rattle.awk_choose.specs.Ends.{IsColumnEnd, ArePresent}
 use Rattle.awk_choose.specs.declared.ends.End.TheVariants as end
 

@@ -1,8 +1,7 @@
 -- What a condition and two operands give at the ends that they are paired to.
-use Rattle.std.proofs.Common.{◌≡◌, ℕ, zero, suc, ◌+◌, ◌<◌, true, false, refl}
-use Rattle.std.proofs.Common.{ap, ap₂, sym, subst, ◌∙◌, arith}
-use Rattle.std.specs.Prelude.{List, [], ◌∷◌, map, length, get_or, slice_get, Some, Result}
-use Rattle.std.specs.Prelude.{Ok, Err}
+use Rattle.std.proofs.Common.{◌≡◌, ℕ, zero, suc, ◌+◌, ◌<◌, true, false, refl, ap, ap₂, sym, subst}
+use Rattle.std.proofs.Common.{◌∙◌, arith}
+use Rattle.std.specs.Prelude.{List, [], ◌∷◌, map, length, get_or, slice_get, Some, Result, Ok, Err}
 use Rattle.std.specs.List.{AllByRecursion, list_all}
 use Rattle.std.proofs.lemmas.List.{length-map}
 use Rattle.std.proofs.lemmas.Option.{slice_get_within}
@@ -26,13 +25,12 @@ use Rattle.awk_leaves.specs.Table.{choice_judged}
 use Rattle.awk_leaves.specs.Values.{chosen_at, chosen_values, choice_values, in_judged}
 use Rattle.awk_leaves.specs.declared.leaf_type.LeafType.{LeafType}
 use Rattle.awk_leaves.specs.declared.leaf_type.LeafType.TheVariants.{Unknown}
-use Rattle.awk_pair.specs.Pairs.{typs, item_type, leaf_types}
-use Rattle.awk_pair_levels.specs.Levels.{some_option}
-use Rattle.awk_pair_levels.proofs.TestLaws.{and_both, or_none}
-use Rattle.awk_arith.specs.AtLeaves.{leaf_in}
-use Rattle.awk_arith.specs.Binary.{data_in, leaf_of, at_end}
-use Rattle.awk_arith.specs.Sides.{IsAmong, data_before, column_at, ends_of, leaf_at, values_at}
-use Rattle.awk_arith.proofs.ColumnLaws.{AreEnds, ends-count, ends-leaf, parts-at, same-at}
+use Rattle.awk_pair_operands.specs.Pairs.{typs, item_type, leaf_types}
+use Rattle.awk_pair_sides.specs.Levels.{some_option}
+use Rattle.awk_pair_sides.proofs.TestLaws.{and_both, or_none}
+use Rattle.awk_ends.specs.Operands.{leaf_in, data_in, leaf_of, at_end}
+use Rattle.awk_ends.specs.Columns.{IsAmong, data_before, column_at, ends_of, leaf_at, values_at}
+use Rattle.awk_ends.proofs.ColumnLaws.{AreEnds, ends-count, ends-leaf, parts-at, same-at}
 use Rattle.awk_choose.specs.Choice.{far, choice_data, choice_row, are_leaves}
 use Rattle.awk_choose.specs.Ends.{IsLeafColumn, AreLeafColumns, is_optional_at, ArePresent}
 use Rattle.awk_choose.specs.Ends.{end_leaf, end_values, AreEndsAt, columns_judged, columns_said}

@@ -19,13 +19,11 @@ use Rattle.awk_layout.specs.Item.{item, leaf_value}
 use Rattle.awk_layout.specs.Kinds.{primitive_of}
 use Rattle.awk_layout.specs.Layout.{flat, byte_masked}
 use Rattle.awk_layout.specs.Typing.{array_items}
-use Rattle.awk_leaves.specs.Values.{chosen_at, chosen_values, number_of}
-use Rattle.awk_leaves.specs.Values.{is_nonzero as is_true}
+use Rattle.awk_leaves.specs.Values.{chosen_at, chosen_values, number_of, is_nonzero as is_true}
 use Rattle.awk_pointwise.specs.Optional.{unless_null, masked_values}
 use Rattle.awk_pointwise.specs.Sides.{lane_values}
-use Rattle.awk_arith.proofs.ColumnLaws.{map-map}
-use Rattle.awk_arith.proofs.SideLaws.{lane_values-at, length-lane_values}
-use Rattle.awk_arith.proofs.UnderLaws.{flat-items}
+use Rattle.awk_ends.proofs.ColumnLaws.{map-map}
+use Rattle.awk_ends.proofs.LaneLaws.{lane_values-at, length-lane_values, flat-items}
 use Rattle.awk_choose.specs.Ends.{ArePresent}
 
 -- ---- a lane under a mask

@@ -16,12 +16,12 @@ use Rattle.awk_layout.specs.Filler.{Filler}
 use Rattle.awk_leaves.specs.Table.{choice_judged}
 use Rattle.awk_leaves.specs.Values.{chosen_at}
 use Rattle.awk_frames.specs.Framed.{over, over_type}
-use Rattle.awk_pair.specs.Pairs.{pair_refused, pair_type, pair_values, some_array, datum_from}
-use Rattle.awk_pair.specs.Pairs.{leaf_types, item_type}
-use Rattle.awk_pair_levels.specs.Levels.{some_option}
+use Rattle.awk_pair_operands.specs.Pairs.{pair_refused, pair_type, pair_values, some_array}
+use Rattle.awk_pair_operands.specs.Pairs.{datum_from}
+use Rattle.awk_pair_operands.specs.Pairs.{leaf_types, item_type}
+use Rattle.awk_pair_sides.specs.Levels.{some_option}
 use Rattle.awk_pair_types.specs.Limits.{limit_refused}
-use Rattle.awk_arith.specs.AtLeaves.{leaf_in, in_primitive}
-use Rattle.awk_arith.specs.Binary.{data_in, leaf_of, at_end, both_data}
+use Rattle.awk_ends.specs.Operands.{leaf_in, in_primitive, data_in, leaf_of, at_end, both_data}
 
 -- deeper than lists of any type go, so that the pairing ends at what is no list
 abbrev pub far : Option ℕ

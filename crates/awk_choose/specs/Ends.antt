@@ -20,8 +20,8 @@ use Rattle.awk_leaves.specs.declared.leaf_type.LeafType.TheVariants as of
 use Rattle.awk_pointwise.specs.Optional.{item_at}
 use Rattle.awk_pointwise.specs.Sides.{lane_values, leaf_type, side_values, IsSide, IsNumber64}
 use Rattle.awk_pointwise.specs.declared.sides.Side.{Side}
-use Rattle.awk_arith.specs.AtLeaves.{leaf_in}
-use Rattle.awk_arith.specs.Sides.{column_at, data_before, ends_of, leaf_at, values_at}
+use Rattle.awk_ends.specs.Operands.{leaf_in}
+use Rattle.awk_ends.specs.Columns.{column_at, data_before, ends_of, leaf_at, values_at}
 use Rattle.awk_choose.specs.declared.ends.End.{End}
 use Rattle.awk_choose.specs.declared.ends.End.TheVariants as end
 

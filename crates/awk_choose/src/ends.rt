@@ -18,12 +18,12 @@ ghost use Rattle.awk_open.specs.declared.opening.Opened.TheVariants as Opened;
 ghost use Rattle.awk_columns.specs.InOrder.{IsInOrder};
 ghost use Rattle.awk_pointwise.specs.Choice.{chosen_items};
 ghost use Rattle.awk_pointwise.specs.Optional.{optional_type, optional_values, IsOptional};
-ghost use Rattle.awk_arith.specs.Sides.{IsAmong};
+ghost use Rattle.awk_ends.specs.Columns.{IsAmong};
 ghost use Rattle.awk_choose.specs.Ends.{end_leaf, end_values, IsEnd, IsSideOf, IsColumnEnd};
 ghost use Rattle.awk_choose.specs.Ends.{AreLeafColumns, IsEndAt};
 
-use awk_arith::leaf_lane;
 use awk_columns::in_order;
+use awk_ends::leaf_lane;
 use awk_lanes::{Arena, Lane, NoMemory, Steps};
 use awk_layout::{Array, Arrays, Operand};
 use awk_open::Opened;

@@ -23,7 +23,7 @@ ghost use Rattle.awk_choose.specs.Ends.{ArePresent};
 use awk_frames::{Frame, framed};
 use awk_lanes::{Arena, Kind, Lane, LaneMaker, NoMemory, Steps};
 use awk_layout::{Arrays, Node, kind_of};
-use awk_pair_levels::present_type;
+use awk_pair_sides::present_type;
 use awk_pair_types::typ_within;
 use awk_pointwise::Chosen;
 use awk_types::{Fault, Prim, Typ, is_leaf};

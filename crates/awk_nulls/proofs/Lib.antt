@@ -5,6 +5,8 @@ pub mod FirstLaws
 pub mod PresentLaws
 pub mod SingleLaws
 pub mod DropLaws
-pub mod PadLaws
+pub mod KeptLaws
+pub mod OffsetLaws
 pub mod PadGiven
+pub mod NoneLaws
 mod Worked

@@ -51,7 +51,7 @@ is_null-present (list vs) h = refl
 is_null-present (row vs) h = refl
 is_null-present (alt k v) h = refl
 
-no_null : (y : Layout) (k : ℕ) → IsValid y → is_option (array_type y) ≡ false → k < len y
+pub no_null : (y : Layout) (k : ℕ) → IsValid y → is_option (array_type y) ≡ false → k < len y
     → is_null (array_item y k) ≡ false
 no_null y k v n p = is_null-present (array_item y k) (present_item y k v p n)
 

@@ -13,8 +13,11 @@ use Rattle.awk_types.specs.Simple.{simple_value}
 use Rattle.awk_types.specs.Value.{Value, null, value_list}
 use Rattle.awk_types.specs.ItemLimit.{item_limit}
 use Rattle.awk_lanes.specs.Column.{Column}
+use Rattle.awk_lanes.specs.Counted.{before, offsets_by}
 use Rattle.awk_lanes.specs.Places.{size_of, at, place_at, option_place}
 use Rattle.awk_lanes.specs.Places.{IsOptionalIndex}
+use Rattle.awk_lanes.proofs.CountedLanes.{before-next, before_mono, place-offsets, sum-before}
+use Rattle.awk_lanes.proofs.CountedLanes.{length-numbers, numbers-at, numbers-below}
 use Rattle.awk_layout.specs.Layout.{Layout, optional}
 use Rattle.awk_layout.specs.Item.{run, at_option}
 use Rattle.awk_layout.specs.Typing.{array_type}
@@ -29,12 +32,10 @@ use Rattle.awk_columns.specs.Opened.{AreLists, items_at, all_items_at}
 use Rattle.awk_axis.specs.Spoils.{too_many}
 use Rattle.awk_axis.specs.declared.causes.Spoil.TheVariants.{Size}
 use Rattle.awk_nulls.specs.PadNone.{padded, padded_length, padded_class, pad_none_function}
-use Rattle.awk_nulls.specs.Lanes.{span_length, padded_span, padded_place, padded_lane, before}
-use Rattle.awk_nulls.specs.Lanes.{offsets_by}
+use Rattle.awk_nulls.specs.Lanes.{span_length, padded_span, padded_place, padded_lane}
 use Rattle.awk_nulls.proofs.FirstLaws.{start_there, place_below}
 use Rattle.awk_nulls.proofs.OptionNodes.{HasItems, optional_type-is, optional_item, picked_lists}
-use Rattle.awk_nulls.proofs.PadLaws.{before-next, before_mono, place-offsets, are_offsets}
-use Rattle.awk_nulls.proofs.PadLaws.{sum-before, length-numbers, numbers-at, numbers-below}
+use Rattle.awk_nulls.proofs.OffsetLaws.{are_offsets}
 use Rattle.awk_nulls.proofs.Spans.{items_at-length, over_limit, within_limit}
 
 run_get : (h : ℕ → Value) (a n k : ℕ) → k < n → get_or (value_list (run h a n)) k null ≡ h (a + k)

@@ -1,12 +1,10 @@
 -- Lanes that are made of lists by their starts and stops, and of the indexes of options.
-use Rattle.std.specs.Prelude.{◌≡◌, ℕ, zero, suc, ◌+◌, ◌-◌, ◌==◌, ◌<◌, ◌≤◌, ◌≤ℤ◌, nat_lt, Bool, List}
-use Rattle.std.specs.Prelude.{[], ◌++◌, map, length, take, ℤ, pos, negsuc, Option, Some, None}
+use Rattle.std.specs.Prelude.{◌≡◌, ℕ, ◌+◌, ◌-◌, ◌==◌, ◌<◌, ◌≤◌, ◌≤ℤ◌, nat_lt, Bool}
+use Rattle.std.specs.Prelude.{length, take, ℤ, pos, negsuc, Option, Some, None}
 use Rattle.std.specs.Prelude.{if◌then◌else◌}
-use Rattle.std.specs.List.{range_with_len}
 use Rattle.awk_types.specs.DataType.{var}
 use Rattle.awk_types.specs.Simple.{present}
 use Rattle.awk_types.specs.Value.{truth}
-use Rattle.awk_types.specs.ItemLimit.{item_limit}
 use Rattle.awk_lanes.specs.Column.{Column}
 use Rattle.awk_lanes.specs.Places.{size_of, at, place_at, option_place_at, IsIndexKind}
 use Rattle.awk_lanes.specs.declared.kind.Kind.TheVariants.{Bool as Truths, I64}
@@ -15,6 +13,7 @@ use Rattle.awk_layout.specs.Valid.{len, IsValid}
 use Rattle.awk_layout.specs.Typing.{array_type, array_items}
 use Rattle.awk_gather.specs.Arrays.{array_item}
 use Rattle.awk_columns.specs.Counted.{first_of, present_at}
+use Rattle.awk_lanes.specs.Counted.{items_lane}
 use Rattle.awk_lanes.specs.Made.{lane_of}
 use Rattle.awk_columns.specs.Columns.{present_values}
 use Rattle.awk_nulls.specs.IsNone.{is_null}
@@ -94,31 +93,10 @@ numbers_at_ends c s t ends =
 abbrev pub padded_span : ℕ → Bool → Column → Column → ℕ → ℕ
 padded_span n clip s t i = padded_length n clip (span_length s t i)
 
--- how many items the first i lists have together, each by its length
-abbrev pub before : (ℕ → ℕ) → ℕ → ℕ
-before m zero = 0
-before m (suc i) = before m i + m i
-
--- so many numbers for each of the first i lists, one list after another
-abbrev pub numbers_of_lists : (ℕ → ℕ) → (ℕ → ℕ → ℤ) → ℕ → List ℤ
-numbers_of_lists m h zero = []
-numbers_of_lists m h (suc i) = numbers_of_lists m h i ++ map (h i) (range_with_len 0 (m i))
-
-abbrev pub offsets_by : (ℕ → ℕ) → ℕ → Column
-offsets_by m n = lane_of I64 (n + 1) (λ i. pos (before m i))
-
 -- the place of item k of list i, and -1 past its end
 abbrev pub padded_place : Column → Column → ℕ → ℕ → ℤ
 padded_place s t i k = if nat_lt k (span_length s t i) then pos (place_at s i + k) else negsuc 0
 
 abbrev pub padded_lane : ℕ → Bool → Column → Column → Column
-padded_lane n clip s t = record {
-  kind = I64;
-  items =
-      numbers_of_lists (padded_span n clip s t) (padded_place s t) (size_of s);
-}
-
--- the number of all items, or none where it is over the most items of a column
-abbrev pub IsTotal : ℕ → Option ℕ → Type 0
-IsTotal whole None = item_limit < whole
-IsTotal whole (Some n) = (n ≡ whole) × (n ≤ item_limit)
+padded_lane n clip s t =
+    items_lane I64 (padded_span n clip s t) (padded_place s t) (size_of s)

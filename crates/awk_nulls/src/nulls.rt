@@ -1,21 +1,26 @@
 //! Whether items are null.
-ghost use Rattle.std.specs.Prelude.{◌≡◌, IfOk};
+ghost use Rattle.std.specs.Prelude.{◌≡◌, false, IfOk};
 ghost use Rattle.awk_types.specs.Faults.{fault_told};
 ghost use Rattle.awk_types.specs.Gives.{Gives};
+ghost use Rattle.awk_types.specs.Simple.{is_option};
 ghost use Rattle.awk_lanes.specs.Numbers.{int_of, IsOf};
 ghost use Rattle.awk_lanes.specs.Places.{IsOptionKind};
 ghost use Rattle.awk_lanes.specs.declared.kind.Kind.TheVariants as Kinds;
 ghost use Rattle.awk_layout.specs.Datum.{datum_of, IsDatum};
+ghost use Rattle.awk_layout.specs.Typing.{array_type};
+ghost use Rattle.awk_axis.specs.Mapped.{IsMade};
 ghost use Rattle.awk_nulls.specs.IsNone.{is_none_function, is_none_of};
 ghost use Rattle.awk_nulls.specs.Lanes.{null_number, nulls_lane, falses_lane, AreNulls};
 
-use crate::presence::is_optional;
+use crate::presence::{has_options, is_optional};
 use awk_axis::{ListOp, Made, Refusal, Spoil, lift_at};
 use awk_columns::{Joined, Lists};
-use awk_lanes::{Arena, Kind, Lane, LaneMaker, Num, Steps, option_place_in};
+use awk_lanes::{
+    Arena, Kind, Lane, Num, Numbers, Steps, made_lane, offsets_within, option_place_in,
+};
 use awk_layout::{Array, Datum, Node};
 use awk_open::{Opened, opened};
-use awk_types::{Fault, NoMemory, Prim, Typ};
+use awk_types::{Fault, ITEM_LIMIT, NoMemory, Prim, Typ};
 use std::alloc::Global;
 use std::sync::ledger::Ledger;
 
@@ -31,33 +36,77 @@ fn null_number(place: Option<u64>) -> Num
 }
 
 /// Whether each item of an option is null.
-#[tactic(auto, using(awk_lanes::proofs::MadeLanes::making))]
+#[derive(Drop)]
+struct NullNumbers<'b, 'a> {
+    index: &'b Lane<'a>,
+}
+
+impl<'b, 'a> Numbers for NullNumbers<'b, 'a> {
+    ghost use Rattle.awk_lanes.specs.Places.{size_of, option_place_at, IsOptionKind};
+    ghost use Rattle.awk_lanes.specs.declared.kind.Kind.TheVariants as Kinds;
+    ghost use Rattle.awk_nulls.specs.Lanes.{null_number};
+
+    ghost kind = { λ _. Kinds.Bool };
+
+    ghost at = { λ f i. null_number (option_place_at f.index.now i) };
+
+    ghost size = { λ f. size_of f.index.now };
+
+    ghost IsReady = { λ f. IsOptionKind f.index.now.kind };
+
+    fn number<L: Ledger>(&self, i: u64, steps: &mut Steps<L>) -> Num {
+        null_number(option_place_in(self.index, i, steps))
+    }
+}
+
+/// The same as a lane.
 fn nulls<'a, L: Ledger>(
-    index: &Lane,
+    index: &Lane<'a>,
     arena: &'a Arena,
     steps: &mut Steps<L>,
 ) -> Result<Lane<'a>, NoMemory>
     requires kind { IsOptionKind index.now.kind }
     ensures { IfOk result (λ r. r ≡ nulls_lane index.now) }
 {
-    let n = index.len();
-    let mut maker = LaneMaker::new(Kind::Bool, n, arena)?;
-    for i in 0..n {
-        maker.push(null_number(option_place_in(index, i, steps)));
+    made_lane(
+        Kind::Bool,
+        index.len(),
+        &NullNumbers { index },
+        arena,
+        steps,
+    )
+}
+
+/// False at each place.
+#[derive(Drop)]
+struct NoNulls {
+    n: u64,
+}
+
+impl Numbers for NoNulls {
+    ghost use Rattle.std.specs.Prelude.{pos};
+    ghost use Rattle.awk_lanes.specs.declared.kind.Kind.TheVariants as Kinds;
+
+    ghost kind = { λ _. Kinds.Bool };
+
+    ghost at = { λ _ i. pos 0 };
+
+    ghost size = { λ f. f.n };
+
+    fn number<L: Ledger>(&self, _i: u64, _steps: &mut Steps<L>) -> Num {
+        Num::Truth(false)
     }
-    Ok(maker.finish())
 }
 
 /// False, n times.
-#[tactic(auto, using(awk_lanes::proofs::MadeLanes::making))]
-fn falses<'a>(n: u64, arena: &'a Arena) -> Result<Lane<'a>, NoMemory>
+fn falses<'a, L: Ledger>(
+    n: u64,
+    arena: &'a Arena,
+    steps: &mut Steps<L>,
+) -> Result<Lane<'a>, NoMemory>
     ensures { IfOk result (λ r. r ≡ falses_lane n) }
 {
-    let mut maker = LaneMaker::new(Kind::Bool, n, arena)?;
-    for i in 0..n {
-        maker.push(Num::Truth(false));
-    }
-    Ok(maker.finish())
+    made_lane(Kind::Bool, n, &NoNulls { n }, arena, steps)
 }
 
 /// Whether each item of an array is null.
@@ -71,7 +120,7 @@ fn nulls_of<'a, L: Ledger>(
 {
     let n = x.len();
     if !is_optional(x.typ()) {
-        return falses(n, arena);
+        return falses(n, arena, steps);
     }
     match opened(alloc, x, arena, steps)? {
         Opened::Option {
@@ -79,6 +128,31 @@ fn nulls_of<'a, L: Ledger>(
             content: _content,
         } => nulls(&index, arena, steps),
         _ => unreachable!(),
+    }
+}
+
+/// False for each item of lists whose items are of a type that is no option. They are counted, and
+/// none is looked at.
+fn none_null<'a, L: Ledger>(
+    lists: &Lists<'a>,
+    arena: &'a Arena,
+    steps: &mut Steps<L>,
+) -> Result<Made<'a>, NoMemory>
+    requires plain { is_option (array_type lists.now.content) ≡ false }
+    ensures { IfOk result (IsMade is_none_function lists.now.class lists.now.starts
+        lists.now.stops lists.now.content) }
+{
+    let n = lists.len();
+    let _ = lists.content();
+    match offsets_within(ITEM_LIMIT, n, lists, arena, steps)? {
+        None => Ok(Made::Spoiled(Spoil::Size)),
+        Some(offsets) => {
+            let nulls = falses(offsets.total, arena, steps)?;
+            Ok(Made::Lists {
+                offsets: offsets.lane,
+                content: Node::numpy(nulls, steps),
+            })
+        }
     }
 }
 
@@ -117,6 +191,9 @@ impl ListOp for NullTests {
         steps: &mut Steps<L>,
     ) -> Result<Made<'a>, NoMemory> {
         let _ = lists.content();
+        if !has_options(lists) {
+            return none_null(lists, arena, steps);
+        }
         match lists.joined(alloc, arena, steps)? {
             Joined::TooMany => Ok(Made::Spoiled(Spoil::Size)),
             Joined::Lists { offsets, content } => {

@@ -4,11 +4,12 @@ ghost use Rattle.awk_types.specs.Simple.{is_option};
 ghost use Rattle.awk_types.specs.View.{typ_of};
 ghost use Rattle.awk_lanes.specs.Places.{size_of, IsOptionKind};
 ghost use Rattle.awk_lanes.specs.declared.kind.Kind.TheVariants as Kinds;
+ghost use Rattle.awk_layout.specs.Typing.{array_type};
 ghost use Rattle.awk_columns.specs.Counted.{present_at};
 ghost use Rattle.awk_lanes.specs.Made.{lane_of};
 ghost use Rattle.awk_nulls.specs.Lanes.{present_lane, ArePresent};
 
-use awk_columns::{Opened, open_array};
+use awk_columns::{Lists, Opened, open_array};
 use awk_lanes::{Arena, Kind, Lane, LaneMaker, Steps, number, option_place_in};
 use awk_layout::Array;
 use awk_types::{NoMemory, Typ};
@@ -31,6 +32,13 @@ pub fn is_optional(t: &Typ) -> bool
         Typ::Opt(_) => true,
         _ => false,
     }
+}
+
+/// Whether the items of lists are optional.
+pub(crate) fn has_options(lists: &Lists) -> bool
+    ensures { result ≡ is_option (array_type lists.now.content) }
+{
+    is_optional(lists.content().typ())
 }
 
 pub fn one_if_present<L: Ledger>(index: &Lane, i: u64, steps: &mut Steps<L>) -> u64

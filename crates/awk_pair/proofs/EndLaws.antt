@@ -15,19 +15,22 @@ use Rattle.awk_columns.specs.Columns.{part_at}
 use Rattle.awk_columns.specs.InOrder.{AreParts}
 use Rattle.awk_open.specs.Opened.{AreLong}
 use Rattle.awk_gather.specs.Arrays.{array_item}
-use Rattle.awk_pair.proofs.LevelLaws.{paired_value-level, paired_type-level, types_at_ends-level}
-use Rattle.awk_pair.proofs.LevelLaws.{is_uneven-level}
-use Rattle.awk_pair.proofs.RowLaws.{value_list-from, map-by, any-by}
+use Rattle.awk_pair_operands.proofs.LevelLaws.{paired_value-level, paired_type-level}
+use Rattle.awk_pair_operands.proofs.LevelLaws.{types_at_ends-level}
+use Rattle.awk_pair_operands.proofs.LevelLaws.{is_uneven-level}
+use Rattle.awk_pair_operands.proofs.RowLaws.{value_list-from, map-by, any-by}
 use Rattle.awk_pair.specs.Outcomes.{ArePairs}
-use Rattle.awk_pair.specs.Paired.{Reach, to_leaves, to_depth, end_type, end_types, paired_type}
-use Rattle.awk_pair.specs.Paired.{types_at_ends, end_value, is_uneven, paired_value, is_to_leaves}
-use Rattle.awk_pair.specs.Paired.{values_of_rows, any_uneven}
+use Rattle.awk_pair_operands.specs.Paired.{Reach, to_leaves, to_depth, end_type, end_types}
+use Rattle.awk_pair_operands.specs.Paired.{paired_type}
+use Rattle.awk_pair_operands.specs.Paired.{types_at_ends, end_value, is_uneven, paired_value}
+use Rattle.awk_pair_operands.specs.Paired.{is_to_leaves}
+use Rattle.awk_pair_operands.specs.Paired.{values_of_rows, any_uneven}
 use Rattle.awk_frames.specs.Sizes.{levels_refused}
 use Rattle.awk_frames.specs.Shape.{leaves, shape, ends}
-use Rattle.awk_pair_levels.proofs.LevelTypes.{presents-bare}
-use Rattle.awk_pair_levels.proofs.RangeLaws.{length-map, length-range}
-use Rattle.awk_pair_levels.specs.Levels.{some_option, goes_on}
-use Rattle.awk_pair_levels.specs.Rows.{row_at, rows_at}
+use Rattle.awk_pair_sides.proofs.LevelTypes.{presents-bare}
+use Rattle.awk_pair_sides.proofs.RangeLaws.{length-map, length-range}
+use Rattle.awk_pair_sides.specs.Levels.{some_option, goes_on}
+use Rattle.awk_pair_sides.specs.Rows.{row_at, rows_at}
 
 module _ (keep : Bool) where
   -- a row of a row's items

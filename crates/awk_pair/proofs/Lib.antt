@@ -1,11 +1,5 @@
-mod Worked
-mod RowLaws
-mod LevelLaws
 mod OutcomeLaws
 mod EndLaws
 mod RecursionLaws
 mod PairLaws
-mod FirstLaws
-mod TypeLaws
 mod UnequalLaws
-mod TypedLaws

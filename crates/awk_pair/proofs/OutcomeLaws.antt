@@ -17,22 +17,24 @@ use Rattle.awk_layout.specs.Layout.{Layout}
 use Rattle.awk_columns.specs.Columns.{joined_items, is_present, offsets}
 use Rattle.awk_columns.specs.ListClass.{Class, list_type}
 use Rattle.awk_columns.specs.InOrder.{AreParts}
-use Rattle.awk_pair.proofs.LevelLaws.{type-nulls, values-nulls, unevens-nulls, ends-nulls}
-use Rattle.awk_pair.proofs.LevelLaws.{value-present, type-lists, values-lists, unevens-lists}
-use Rattle.awk_pair.proofs.LevelLaws.{ends-lists}
-use Rattle.awk_pair.proofs.RowLaws.{or_null, index-rows, present-rows, joined-rows}
-use Rattle.awk_pair.proofs.RowLaws.{offsets-rows, map-by, too_few, too_large}
+use Rattle.awk_pair_operands.proofs.LevelLaws.{type-nulls, values-nulls, unevens-nulls, ends-nulls}
+use Rattle.awk_pair_operands.proofs.LevelLaws.{value-present, type-lists, values-lists}
+use Rattle.awk_pair_operands.proofs.LevelLaws.{unevens-lists}
+use Rattle.awk_pair_operands.proofs.LevelLaws.{ends-lists}
+use Rattle.awk_pair_operands.proofs.RowLaws.{or_null, index-rows, present-rows, joined-rows}
+use Rattle.awk_pair_operands.proofs.RowLaws.{offsets-rows, map-by, too_few, too_large}
 use Rattle.awk_pair.specs.Outcomes.{ArePairs, AreTooMany}
-use Rattle.awk_pair.specs.Paired.{Reach, paired_type, paired_value, takes_nulls, values_of_rows}
-use Rattle.awk_pair.specs.Paired.{any_uneven}
+use Rattle.awk_pair_operands.specs.Paired.{Reach, paired_type, paired_value, takes_nulls}
+use Rattle.awk_pair_operands.specs.Paired.{values_of_rows}
+use Rattle.awk_pair_operands.specs.Paired.{any_uneven}
 use Rattle.awk_frames.specs.Sizes.{levels_refused}
 use Rattle.awk_frames.specs.Shape.{Shape, items, missing, shape, ends, offsets_column}
-use Rattle.awk_pair_levels.proofs.RangeLaws.{length-map}
-use Rattle.awk_pair_levels.specs.Levels.{level_class, item_types, some_option, goes_on}
-use Rattle.awk_pair_levels.specs.Rows.{flags_index, lengths_offsets}
-use Rattle.awk_pair_levels.proofs.RangeLaws.{length-range}
-use Rattle.awk_pair_levels.specs.Sides.{is_whole, side_at, level_sides, common_length, inner_rows}
-use Rattle.awk_pair_levels.specs.Sides.{inner_length, differ}
+use Rattle.awk_pair_sides.proofs.RangeLaws.{length-map}
+use Rattle.awk_pair_sides.specs.Levels.{level_class, item_types, some_option, goes_on}
+use Rattle.awk_pair_sides.specs.Rows.{flags_index, lengths_offsets}
+use Rattle.awk_pair_sides.proofs.RangeLaws.{length-range}
+use Rattle.awk_pair_sides.specs.Sides.{is_whole, side_at, level_sides, common_length, inner_rows}
+use Rattle.awk_pair_sides.specs.Sides.{inner_length, differ}
 
 module _ (keep : Bool) where
   -- ---- nulls

@@ -11,22 +11,22 @@ use Rattle.awk_types.specs.Value.{Value}
 use Rattle.awk_types.specs.declared.fault.Fault.TheVariants.{WrongType, Lengths, Size}
 use Rattle.awk_layout.specs.Layout.{Layout}
 use Rattle.awk_layout.specs.Typing.{array_type}
-use Rattle.awk_pair.proofs.RowLaws.{too_few, too_large}
+use Rattle.awk_pair_operands.proofs.RowLaws.{too_few, too_large}
 use Rattle.awk_pair.proofs.RecursionLaws.{length-rows_at}
-use Rattle.awk_pair.specs.Answer.{single_or_fault}
-use Rattle.awk_pair.specs.First.{AreFirstRows}
+use Rattle.awk_pair_operands.specs.Answer.{single_or_fault}
+use Rattle.awk_pair_operands.specs.First.{AreFirstRows}
 use Rattle.awk_pair.specs.Outcomes.{ArePairs, AreTooMany}
-use Rattle.awk_pair.specs.Paired.{Reach}
-use Rattle.awk_pair.specs.Paired.{any_uneven, paired_value}
-use Rattle.awk_pair.specs.Pairs.{reach, below, typs, first_rows, some_array, datum_side}
-use Rattle.awk_pair.specs.Pairs.{pair_type, pair_values, are_uneven}
-use Rattle.awk_pair.specs.Pairs.{lengths_refused, pair_refused}
+use Rattle.awk_pair_operands.specs.Paired.{Reach}
+use Rattle.awk_pair_operands.specs.Paired.{any_uneven, paired_value}
+use Rattle.awk_pair_operands.specs.Pairs.{reach, below, typs, first_rows, some_array, datum_side}
+use Rattle.awk_pair_operands.specs.Pairs.{pair_type, pair_values, are_uneven}
+use Rattle.awk_pair_operands.specs.Pairs.{lengths_refused, pair_refused}
 use Rattle.awk_frames.specs.Sizes.{levels_refused, sizes_refused}
-use Rattle.awk_pair.specs.Pairs.{has_wrong_end}
+use Rattle.awk_pair_operands.specs.Pairs.{has_wrong_end}
 use Rattle.awk_frames.specs.Shape.{Shape}
-use Rattle.awk_pair_levels.proofs.RangeLaws.{length-map}
-use Rattle.awk_pair_levels.specs.Rows.{rows_at}
-use Rattle.awk_pair_levels.specs.Sides.{equally_long}
+use Rattle.awk_pair_sides.proofs.RangeLaws.{length-map}
+use Rattle.awk_pair_sides.specs.Rows.{rows_at}
+use Rattle.awk_pair_sides.specs.Sides.{equally_long}
 
 -- what is at hand after the tests of types: the data, how far, the first rows
 pub record AtHand (d : Option ℕ) (ds : List Datum) (r : Reach) (k : ℕ) (n : ℕ)

@@ -7,11 +7,11 @@ use Rattle.awk_types.specs.DataType.{DataType}
 use Rattle.awk_types.specs.ItemLimit.{item_limit}
 use Rattle.awk_layout.specs.Layout.{Layout}
 use Rattle.awk_layout.specs.Typing.{array_type}
-use Rattle.awk_pair.specs.Paired.{Reach, to_leaves, to_depth, is_to_leaves, takes_nulls}
-use Rattle.awk_pair_levels.proofs.RangeLaws.{length-range, length-map}
-use Rattle.awk_pair_levels.specs.Levels.{some_option}
-use Rattle.awk_pair_levels.specs.Rows.{row_at, rows_at}
-use Rattle.awk_pair_levels.specs.Sides.{differ, inner_rows}
+use Rattle.awk_pair_operands.specs.Paired.{Reach, to_leaves, to_depth, is_to_leaves, takes_nulls}
+use Rattle.awk_pair_sides.proofs.RangeLaws.{length-range, length-map}
+use Rattle.awk_pair_sides.specs.Levels.{some_option}
+use Rattle.awk_pair_sides.specs.Rows.{row_at, rows_at}
+use Rattle.awk_pair_sides.specs.Sides.{differ, inner_rows}
 
 -- both hold
 pub both : (a b : Bool) → a && b ≡ true → (a ≡ true) × (b ≡ true)

@@ -16,24 +16,24 @@ use Rattle.awk_layout.specs.Typing.{array_type, array_items}
 use Rattle.awk_layout.specs.Valid.{len}
 use Rattle.awk_gather.specs.Arrays.{array_item}
 use Rattle.awk_open.specs.Opened.{AreLong}
-use Rattle.awk_pair.specs.Paired.{any_uneven, is_uneven}
+use Rattle.awk_pair_operands.specs.Paired.{any_uneven, is_uneven}
 use Rattle.awk_pair.specs.Unequal.{IsAlone, AreAlone, IsRow}
-use Rattle.awk_pair_levels.specs.Levels.{goes_on, opens, some_option, item_types}
-use Rattle.awk_pair_levels.proofs.LevelTypes.{presents-bare}
+use Rattle.awk_pair_sides.specs.Levels.{goes_on, opens, some_option, item_types}
+use Rattle.awk_pair_sides.proofs.LevelTypes.{presents-bare}
 use Rattle.awk_types.specs.Predicates.{is_list}
-use Rattle.awk_pair_levels.specs.Rows.{row_at, rows_at}
+use Rattle.awk_pair_sides.specs.Rows.{row_at, rows_at}
 use Rattle.awk_pair_levels.specs.Shares.{length_at, share_types, share_row, share_rows}
 use Rattle.awk_pair_levels.specs.Shares.{AreAsLong, AreEven}
 use Rattle.awk_pair_levels.specs.declared.shares.Share.{Share}
 use Rattle.awk_pair_levels.proofs.EvenLaws.{among_long, among_even}
 use Rattle.awk_pair_levels.proofs.ItemLaws.{all_inside, items_row, items_types}
 use Rattle.awk_pair_levels.proofs.ItemLaws.{alone-size, alone-item}
-use Rattle.awk_pair_levels.proofs.RangeLaws.{no_place, place_fails}
-use Rattle.awk_pair_levels.proofs.TestLaws.{any-map, and_both}
-use Rattle.awk_pair_levels.specs.Sides.{is_whole, differ, inner_rows}
+use Rattle.awk_pair_sides.proofs.RangeLaws.{no_place, place_fails}
+use Rattle.awk_pair_sides.proofs.TestLaws.{any-map, and_both}
+use Rattle.awk_pair_sides.specs.Sides.{is_whole, differ, inner_rows}
 use Rattle.awk_pair_levels.specs.Single.{AreItems}
 use Rattle.awk_pair.proofs.EndLaws.{end_even}
-use Rattle.awk_pair.proofs.LevelLaws.{unevens-nulls, unevens-lists}
+use Rattle.awk_pair_operands.proofs.LevelLaws.{unevens-nulls, unevens-lists}
 
 -- ---- tests of places
 

@@ -4,13 +4,11 @@
 //! stretch those of the first operand. `has_wrong_end` tells their type fault alone.
 #![tactic(auto)]
 
-mod first;
 mod outcome;
 mod pairing;
 mod rows;
-mod types;
 mod unequal;
 
+pub use awk_pair_operands::has_wrong_end;
 pub use outcome::Paired;
 pub use pairing::{pair, pair_keeping};
-pub use types::has_wrong_end;

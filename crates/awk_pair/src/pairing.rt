@@ -6,22 +6,29 @@ ghost use Rattle.awk_types.specs.Gives.{Gives};
 ghost use Rattle.awk_types.specs.Has.{Has};
 ghost use Rattle.awk_columns.specs.InOrder.{AreParts};
 ghost use Rattle.awk_layout.specs.Typing.{array_type};
-ghost use Rattle.awk_pair.specs.Answer.{single_or_fault, shared_shape, shared_ends};
-ghost use Rattle.awk_pair.specs.First.{all_data};
-ghost use Rattle.awk_pair.specs.Pairs.{leaf_types, pair_type, pair_values};
+ghost use Rattle.awk_pair_operands.specs.Answer.{single_or_fault, shared_shape, shared_ends};
+ghost use Rattle.awk_pair_operands.specs.First.{all_data};
+ghost use Rattle.awk_pair_operands.specs.Pairs.{leaf_types, pair_type, pair_values, reach};
+ghost use Rattle.awk_pair.specs.Outcomes.{reach_of};
 ghost use Rattle.awk_frames.specs.Framed.{IsFrame};
 ghost use Rattle.awk_frames.specs.View.{shape_of};
 
-use crate::first::{First, columns_of, first_rows};
 use crate::outcome::{Outcome, Paired};
 use crate::rows::{Rule, pair_rows};
-use crate::types::{has_wrong_end, is_to_leaves, levels_below};
 use crate::unequal::any_unequal_row;
 use awk_lanes::{Arena, Steps};
 use awk_layout::Operands;
+use awk_pair_operands::{First, columns_of, first_rows, has_wrong_end, levels_below};
 use awk_types::{Fault, ITEM_LIMIT};
 use std::alloc::Global;
 use std::sync::ledger::Ledger;
+
+/// Whether leaves are asked for.
+fn is_to_leaves(depth: Option<u64>) -> bool
+    ensures { reach_of result ≡ reach depth }
+{
+    depth.is_none()
+}
 
 /// Operands paired, where no list of the first one is stretched, or any may be.
 fn paired<'a, L: Ledger>(

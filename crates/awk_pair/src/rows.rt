@@ -4,15 +4,17 @@ ghost use Rattle.awk_types.specs.ItemLimit.{item_limit};
 ghost use Rattle.awk_layout.specs.Typing.{array_type};
 ghost use Rattle.awk_open.specs.Opened.{AreLong};
 ghost use Rattle.awk_pair.specs.Outcomes.{reach_of, PairsRows};
-ghost use Rattle.awk_pair.specs.Paired.{takes_nulls};
-ghost use Rattle.awk_pair_levels.specs.Levels.{goes_on, some_option};
+ghost use Rattle.awk_pair_operands.specs.Paired.{takes_nulls};
+ghost use Rattle.awk_pair_sides.specs.Levels.{goes_on, some_option};
 
 use crate::outcome::Outcome;
 use crate::unequal::any_unequal;
 use awk_frames::Frame;
 use awk_lanes::{Arena, NoMemory, Steps};
 use awk_layout::Arrays;
-use awk_pair_levels::{Below, PresentRows, goes_on, present_rows, rows_below, some_option};
+use awk_pair_levels::{Below, rows_below};
+use awk_pair_present::{PresentRows, present_rows};
+use awk_pair_sides::{goes_on, some_option};
 use std::alloc::Global;
 use std::sync::ledger::Ledger;
 

@@ -4,19 +4,18 @@ ghost use Rattle.std.specs.List.{list_any, flat_map, range_with_len};
 ghost use Rattle.awk_types.specs.ItemLimit.{item_limit};
 ghost use Rattle.awk_layout.specs.Typing.{array_type};
 ghost use Rattle.awk_open.specs.Opened.{AreLong};
-ghost use Rattle.awk_pair.specs.Paired.{any_uneven};
+ghost use Rattle.awk_pair_operands.specs.Paired.{any_uneven};
 ghost use Rattle.awk_pair.specs.Unequal.{AreAlone, IsRow};
-ghost use Rattle.awk_pair_levels.specs.Levels.{goes_on, some_option};
-ghost use Rattle.awk_pair_levels.specs.Rows.{rows_at};
+ghost use Rattle.awk_pair_sides.specs.Levels.{goes_on, some_option};
+ghost use Rattle.awk_pair_sides.specs.Rows.{rows_at};
 ghost use Rattle.awk_pair_levels.specs.Shares.{length_at, share_types, share_rows, is_lists};
 ghost use Rattle.awk_pair_levels.specs.Shares.{AreAsLong, AreEven};
 
 use awk_lanes::{Arena, NoMemory, Steps};
 use awk_layout::Arrays;
-use awk_pair_levels::{
-    Below, Share, goes_on, lead_of, opens_below, present_rows, row_below, rows_below, shares_of,
-    some_option,
-};
+use awk_pair_levels::{Below, Share, lead_of, opens_below, row_below, rows_below, shares_of};
+use awk_pair_present::present_rows;
+use awk_pair_sides::{goes_on, some_option};
 use awk_range::range;
 use std::alloc::Global;
 use std::sync::ledger::Ledger;

@@ -10,12 +10,12 @@ use Rattle.awk_columns.specs.Lists.{Listed}
 use Rattle.awk_pair_levels.specs.Shares.{length_of, share_lengths, lengths_at, length_at}
 use Rattle.awk_pair_levels.specs.Shares.{any_differ, is_alike, IsEven, AreEven, IsAmong}
 use Rattle.awk_pair_levels.specs.Shares.{IsAsLong, AreAsLong}
-use Rattle.awk_pair_levels.specs.Sides.{all_same, first_or_zero}
+use Rattle.awk_pair_sides.specs.Sides.{all_same, first_or_zero}
 use Rattle.awk_pair_levels.specs.declared.shares.Share.{Share}
 use Rattle.awk_pair_levels.specs.declared.shares.Share.TheVariants.{Lists, Items}
-use Rattle.awk_pair_levels.proofs.RangeLaws.{all_places, no_place, place_holds, place_fails}
-use Rattle.awk_pair_levels.proofs.RangeLaws.{fails}
-use Rattle.awk_pair_levels.proofs.TestLaws.{and_both}
+use Rattle.awk_pair_sides.proofs.RangeLaws.{all_places, no_place, place_holds, place_fails}
+use Rattle.awk_pair_sides.proofs.RangeLaws.{fails}
+use Rattle.awk_pair_sides.proofs.TestLaws.{and_both}
 
 abbrev AllAre : ℕ → List ℕ → Type 0
 AllAre c [] = Unit {0}

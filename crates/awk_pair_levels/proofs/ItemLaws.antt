@@ -21,9 +21,9 @@ use Rattle.awk_layout.proofs.ArrayItems.{length-array_items, get_or-array_items}
 use Rattle.awk_gather.specs.Arrays.{array_item}
 use Rattle.awk_open.specs.Opened.{AreLong}
 use Rattle.awk_columns.specs.Lists.{Listed, AreLists}
-use Rattle.awk_pair_levels.specs.Levels.{opens}
-use Rattle.awk_pair_levels.proofs.TestLaws.{any-map}
-use Rattle.awk_pair_levels.specs.Rows.{row_at}
+use Rattle.awk_pair_sides.specs.Levels.{opens}
+use Rattle.awk_pair_sides.proofs.TestLaws.{any-map}
+use Rattle.awk_pair_sides.specs.Rows.{row_at}
 use Rattle.awk_pair_levels.specs.Shares.{share_at, share_row, share_types, share_column}
 use Rattle.awk_pair_levels.specs.Shares.{AreAsLong, AreEven}
 use Rattle.awk_pair_levels.specs.Single.{IsInside, AllInside, IsItem, AreItems}

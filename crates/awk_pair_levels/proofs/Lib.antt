@@ -1,11 +1,7 @@
-pub mod TestLaws
-pub mod RangeLaws
-pub mod LevelTypes
 pub mod EvenLaws
 mod NextLaws
 pub mod SharedRows
 mod ClassLaws
-pub mod ShareLaws
+mod ShareLaws
 pub mod ItemLaws
-mod PresenceLaws
 mod WholeLaws

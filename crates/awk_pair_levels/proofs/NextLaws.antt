@@ -1,52 +1,36 @@
 -- What each share gives to the rows below.
-use Rattle.std.proofs.Common.{◌≡◌, ℕ, zero, suc, ◌+◌, ◌<◌, ◌≤◌, refl, ap, arith, sym, subst}
-use Rattle.std.proofs.Common.{◌∙◌}
-use Rattle.std.specs.Prelude.{List, [], ◌∷◌, ◌++◌, map, length, get_or, pos}
-use Rattle.std.specs.Prelude.{slice_get, Some}
-use Rattle.std.specs.List.{range_with_len, flat_map, list_all}
+use Rattle.std.proofs.Common.{◌≡◌, ℕ, ◌+◌, ◌<◌, ◌≤◌, ap, arith, sym, subst, ◌∙◌}
 use Rattle.std.proofs.Common.{take, drop, true, false}
+use Rattle.std.specs.Prelude.{List, [], ◌∷◌, ◌++◌, length, get_or, pos, slice_get, Some}
+use Rattle.std.specs.List.{flat_map, list_all}
 use Rattle.std.proofs.lemmas.List.{take_all}
 use Rattle.std.proofs.lemmas.List.FromFn.{get_or-range_with_len}
 use Rattle.awk_types.proofs.ListLaws.{drop-get, take-get}
 use Rattle.awk_types.specs.ItemLimit.{item_limit}
-use Rattle.awk_types.specs.Value.{Value, null, value_list}
 use Rattle.awk_lanes.specs.Column.{Column}
-use Rattle.awk_lanes.specs.Counted.{before, items_lane, numbers_of_lists, offsets_by}
-use Rattle.awk_lanes.specs.Numbers.{nat_of}
+use Rattle.awk_lanes.specs.Counted.{before, offsets_by}
 use Rattle.awk_lanes.specs.Places.{size_of, place_at, IsIndex}
 use Rattle.awk_lanes.specs.declared.kind.Kind.TheVariants.{I64}
-use Rattle.awk_lanes.proofs.CountedLanes.{numbers-at, length-numbers}
-use Rattle.awk_layout.specs.Item.{run}
 use Rattle.awk_layout.specs.Layout.{Layout}
 use Rattle.awk_layout.specs.Valid.{len}
 use Rattle.awk_gather.specs.Arrays.{array_item, IsGathered}
-use Rattle.awk_columns.specs.Counted.{first_of, span_at, spans, AreBelow}
+use Rattle.awk_columns.specs.Counted.{first_of, span_at, spans}
 use Rattle.awk_columns.specs.Reached.{IsReached}
 use Rattle.awk_columns.specs.ListClass.{Class}
 use Rattle.awk_columns.specs.Lists.{Listed}
-use Rattle.awk_columns.proofs.FirstPlaces.{first_of-more}
-use Rattle.awk_columns.proofs.ReachedContents.{below-first_of, places_index, first_of-at}
-use Rattle.awk_columns.proofs.ReachedContents.{reached-len, reached-item}
-use Rattle.awk_pair_levels.specs.Levels.{common_class}
+use Rattle.awk_columns.proofs.ReachedContents.{first_of-at, reached-len, reached-item}
+use Rattle.awk_pair_sides.specs.Levels.{common_class}
+use Rattle.awk_pair_sides.proofs.PlaceLaws.{places_of, repeats_index, size-places_of}
+use Rattle.awk_pair_sides.proofs.PlaceLaws.{place-places_of}
+use Rattle.awk_pair_sides.proofs.RangeLaws.{length-flat, length-range, before-same, before-room}
+use Rattle.awk_pair_sides.proofs.RangeLaws.{map-in}
 use Rattle.awk_pair_levels.specs.Shares.{length_of, length_at, share_class, IsEven, AreEven}
 use Rattle.awk_pair_levels.specs.Shares.{any_differ, IsAmong, IsNext, AreNext, AreSharedRows}
 use Rattle.awk_pair_levels.specs.Shares.{is_lists, IsAsLong, IsCounted, IsLaid, IsRepeated}
 use Rattle.awk_pair_levels.specs.Shares.{AreRepeats}
 use Rattle.awk_pair_levels.specs.declared.shares.Share.{Share}
 use Rattle.awk_pair_levels.specs.declared.shares.Share.TheVariants.{Lists, Items}
-use Rattle.awk_pair_levels.proofs.RangeLaws.{map-append, map-map, length-flat, length-range}
-use Rattle.awk_pair_levels.proofs.RangeLaws.{before-same, before-room, map-in}
 use Rattle.awk_pair_levels.proofs.EvenLaws.{length_at-among, none_differ, even_by}
-
--- ---- runs of items
-
-pub get-run : (f : ℕ → Value) (a n k : ℕ) → k < n
-    → get_or (value_list (run f a n)) k null ≡ f (a + k)
-get-run f a zero k h = absurd (omega arith)
-get-run f a (suc n) zero h = let e : a ≡ a + zero = omega arith in ap f e
-get-run f a (suc n) (suc k) h =
-    let e : suc a + k ≡ a + suc k = omega arith in
-    get-run f (suc a) n k (omega arith) ∙ ap f e
 
 -- ---- lists
 
@@ -83,43 +67,6 @@ next_lists n m l z e v r =
     }
 
 -- ---- items repeated
-
--- numbers that are places, one list after another
-pub place-numbers : (m : ℕ → ℕ) (g : ℕ → ℕ → ℕ) (n : ℕ) → numbers_of_lists m (λ i k. pos (g i k)) n
-    ≡ map (λ k. pos k) (first_of (λ i. map (g i) (range_with_len 0 (m i))) n)
-place-numbers m g zero = refl
-place-numbers m g (suc n) =
-    let f : ℕ → List ℕ = λ i. map (g i) (range_with_len 0 (m i)) in
-    let e : suc n ≡ n + 1 = omega arith in
-    ap (λ zs. zs ++ map (λ k. pos (g n k)) (range_with_len 0 (m n))) (place-numbers m g n)
-    ∙ ap (λ zs. map (λ k. pos k) (first_of f n) ++ zs)
-    (sym (map-map (λ k. pos k) (g n) (range_with_len 0 (m n))))
-    ∙ sym (ap (λ k. map (λ k. pos k) (first_of f k)) e
-    ∙ ap (map (λ k. pos k)) (first_of-more f n)
-    ∙ map-append (λ k. pos k) (first_of f n) (f n))
-
-same-below : (n i a m : ℕ) → i < n → AreBelow n (map (λ k. i) (range_with_len a m))
-same-below n i a zero h = tt
-same-below n i a (suc m) h = (h, same-below n i (a + 1) m h)
-
-abbrev pub places_of : (ℕ → ℕ) → ℕ → Column
-places_of m n = items_lane I64 m (λ i k. pos i) n
-
--- each is a place
-pub repeats_index : (m : ℕ → ℕ) (n : ℕ) → IsIndex (places_of m n) n
-repeats_index m n =
-    subst (λ zs. IsIndex (record { kind = I64; items = zs }) n)
-    (sym (place-numbers m (λ i k. i) n))
-    (places_index n (first_of (λ i. map (λ k. i) (range_with_len 0 (m i))) n)
-    (below-first_of n (λ i. map (λ k. i) (range_with_len 0 (m i))) n
-    (λ i h. same-below n i 0 (m i) h)))
-
-pub size-places_of : (m : ℕ → ℕ) (n : ℕ) → size_of (places_of m n) ≡ before m n
-size-places_of m n = length-numbers m (λ i k. pos i) n
-
-pub place-places_of : (m : ℕ → ℕ) (n i k : ℕ) → i < n → k < m i
-    → place_at (places_of m n) (before m i + k) ≡ i
-place-places_of m n i k h l = ap nat_of (numbers-at m (λ j q. pos j) i k n h l)
 
 pub next_items : (n : ℕ) (m : ℕ → ℕ) (p : Column) (y z : Layout) → p ≡ places_of m n
     → IsGathered y p z → IsNext m n (Items y) z

@@ -1,10 +1,10 @@
 -- What an operand gives to a level, and one operand after another.
 use Rattle.std.proofs.Common.{◌≡◌, ℕ, zero, suc, ◌+◌, ◌<◌, ◌≤◌, ◌==◌, Bool, true, false, ◌&&◌}
-use Rattle.std.proofs.Common.{refl, ap, arith, sym, subst, ◌∙◌, drop, take}
+use Rattle.std.proofs.Common.{refl, ap, arith, sym, subst, ◌∙◌, take}
 use Rattle.std.specs.Prelude.{List, [], ◌∷◌, ◌++◌, length, slice_get, Some, None, get_or}
 use Rattle.std.proofs.lemmas.List.{take_all, length-take}
 use Rattle.std.proofs.lemmas.Option.{slice_get_within}
-use Rattle.awk_types.proofs.ListLaws.{drop-get, take-get}
+use Rattle.awk_types.proofs.ListLaws.{take-get}
 use Rattle.awk_types.specs.DataType.{DataType, unknown, leaf, var, reg, rec, tup, opt, uni}
 use Rattle.awk_types.specs.Predicates.{is_list_or_unknown}
 use Rattle.awk_types.specs.Value.{null}
@@ -14,20 +14,19 @@ use Rattle.awk_layout.specs.Layout.{Layout}
 use Rattle.awk_layout.specs.Typing.{array_type}
 use Rattle.awk_layout.specs.Valid.{len}
 use Rattle.awk_gather.specs.Arrays.{array_item}
-use Rattle.awk_open.specs.Opened.{AreLong}
 use Rattle.awk_columns.specs.Columns.{list_items}
 use Rattle.awk_columns.specs.ListClass.{Class, list_type}
 use Rattle.awk_columns.specs.Lists.{Listed, AreLists, AreOfClass}
 use Rattle.awk_columns.specs.Opened.{OpensLists}
-use Rattle.awk_pair_levels.specs.Levels.{Role, listed, stretched, repeated, role, unless, kept_at}
-use Rattle.awk_pair_levels.specs.Levels.{is_single, item_of}
+use Rattle.awk_pair_sides.specs.Levels.{Role, listed, stretched, repeated, role, unless, kept_at}
+use Rattle.awk_pair_sides.specs.Levels.{is_single, item_of}
 use Rattle.awk_pair_levels.specs.Shares.{length_of, AreListsOf, AreItemsOf, IsShare, AreShares}
 use Rattle.awk_pair_levels.specs.Shares.{HasOnes, IsNext}
-use Rattle.awk_pair_levels.specs.Sides.{always}
+use Rattle.awk_pair_sides.specs.Sides.{always}
 use Rattle.awk_pair_levels.specs.declared.shares.Share.{Share}
 use Rattle.awk_pair_levels.specs.declared.shares.Share.TheVariants.{Lists}
-use Rattle.awk_pair_levels.proofs.NextLaws.{get-run}
-use Rattle.awk_pair_levels.proofs.RangeLaws.{before-same}
+use Rattle.awk_pair_sides.proofs.PlaceLaws.{get-run}
+use Rattle.awk_pair_sides.proofs.RangeLaws.{before-same}
 
 -- ---- lists
 
@@ -174,10 +173,6 @@ items_other s x z e f =
     })
 
 -- ---- one operand after another
-
-pub long_get : (n : ℕ) (xs : List Layout) (i : ℕ) (x : Layout) → slice_get xs i ≡ Some x
-    → AreLong n (drop i xs) → (len x ≡ n) × AreLong n (drop (i + 1) xs)
-long_get n xs i x e h = subst (AreLong n) (drop-get xs i x e) h
 
 kept-none : (k : ℕ) → kept_at k false ≡ false
 kept-none k = refl

@@ -16,10 +16,11 @@ use Rattle.awk_gather.specs.Arrays.{array_item}
 use Rattle.awk_open.specs.Opened.{AreLong}
 use Rattle.awk_columns.specs.Columns.{list_items}
 use Rattle.awk_columns.specs.ListClass.{Class}
-use Rattle.awk_pair_levels.specs.Levels.{Role, listed, role, roles_by, role_class, unless}
-use Rattle.awk_pair_levels.specs.Levels.{roles, stretches, stretched, repeated, some_option}
-use Rattle.awk_pair_levels.specs.Levels.{item_of, item_types, common_class}
-use Rattle.awk_pair_levels.specs.Rows.{row_at, rows_at, lengths_offsets, AreInner, IsBelow}
+use Rattle.awk_pair_sides.specs.Levels.{Role, listed, role, roles_by, role_class, unless}
+use Rattle.awk_pair_sides.specs.Levels.{roles, stretches, stretched, repeated, some_option}
+use Rattle.awk_pair_sides.specs.Levels.{item_of, item_types, common_class}
+use Rattle.awk_pair_sides.specs.Rows.{row_at, rows_at, lengths_offsets}
+use Rattle.awk_pair_levels.specs.Inner.{AreInner, IsBelow}
 use Rattle.awk_pair_levels.specs.Shares.{length_of, share_lengths, lengths_at, length_at}
 use Rattle.awk_pair_levels.specs.Shares.{share_class, share_at, any_differ, IsShare, AreShares}
 use Rattle.awk_pair_levels.specs.Shares.{IsEven, AreEven, IsNext, AreNext, AreSharedRows, IsAsLong}
@@ -28,15 +29,15 @@ use Rattle.awk_pair_levels.specs.Shares.{share_rows, share_types}
 use Rattle.awk_pair_levels.proofs.EvenLaws.{even_of_none}
 use Rattle.awk_pair_levels.specs.declared.below.Below.{Below}
 use Rattle.awk_pair_levels.specs.declared.below.Below.TheVariants as below
-use Rattle.awk_pair_levels.specs.Sides.{side, sides, side_at, side_lengths, all_same}
-use Rattle.awk_pair_levels.specs.Sides.{first_or_zero, differ, inner_rows, inner_length}
+use Rattle.awk_pair_sides.specs.Sides.{side, sides, side_at, side_lengths, all_same}
+use Rattle.awk_pair_sides.specs.Sides.{first_or_zero, differ, inner_rows, inner_length}
 use Rattle.awk_pair_levels.specs.declared.shares.Share.{Share}
 use Rattle.awk_pair_levels.specs.declared.shares.Share.TheVariants.{Lists, Items}
-use Rattle.awk_pair_levels.proofs.LevelTypes.{presents-bare, roles-bare, is_listed}
-use Rattle.awk_pair_levels.proofs.NextLaws.{get-run}
-use Rattle.awk_pair_levels.proofs.RangeLaws.{length-map, length-range, map-in, flat-in, any-in}
-use Rattle.awk_pair_levels.proofs.RangeLaws.{map-map, flat-map, length-flat, pieces, before-same}
-use Rattle.awk_pair_levels.proofs.TestLaws.{any-map}
+use Rattle.awk_pair_sides.proofs.LevelTypes.{presents-bare, roles-bare, is_listed}
+use Rattle.awk_pair_sides.proofs.PlaceLaws.{get-run}
+use Rattle.awk_pair_sides.proofs.RangeLaws.{length-map, length-range, map-in, flat-in, any-in}
+use Rattle.awk_pair_sides.proofs.RangeLaws.{map-map, flat-map, length-flat, pieces, before-same}
+use Rattle.awk_pair_sides.proofs.TestLaws.{any-map}
 
 -- ---- one operand
 

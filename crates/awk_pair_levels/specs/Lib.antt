@@ -1,6 +1,3 @@
-pub mod Levels
-pub mod Sides
-pub mod Rows
+pub mod Inner
 pub mod Shares
-pub mod Presence
 pub mod Single

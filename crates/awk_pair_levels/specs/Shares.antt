@@ -18,9 +18,9 @@ use Rattle.awk_columns.specs.Counted.{spans}
 use Rattle.awk_columns.specs.ListClass.{Class}
 use Rattle.awk_columns.specs.Lists.{Listed, span_length}
 use Rattle.awk_columns.specs.Reached.{IsReached}
-use Rattle.awk_pair_levels.specs.Levels.{Role, listed, role, role_class, unless, item_of}
-use Rattle.awk_pair_levels.specs.Levels.{common_class}
-use Rattle.awk_pair_levels.specs.Sides.{side, always, first_or_zero, all_same}
+use Rattle.awk_pair_sides.specs.Levels.{Role, listed, role, role_class, unless, item_of}
+use Rattle.awk_pair_sides.specs.Levels.{common_class}
+use Rattle.awk_pair_sides.specs.Sides.{side, always, first_or_zero, all_same}
 use Rattle.awk_pair_levels.specs.declared.below.Below.{Below}
 use Rattle.awk_pair_levels.specs.declared.below.Below.TheVariants as below
 use Rattle.awk_pair_levels.specs.declared.shares.Share.{Share}

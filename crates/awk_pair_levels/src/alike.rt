@@ -2,7 +2,7 @@
 ghost use Rattle.std.specs.Prelude.{◌≡◌, ◌==◌, true};
 ghost use Rattle.std.specs.List.{list_any, list_all, flat_map, range_with_len};
 ghost use Rattle.awk_lanes.specs.Places.{size_of};
-ghost use Rattle.awk_pair_levels.specs.Levels.{common_class};
+ghost use Rattle.awk_pair_sides.specs.Levels.{common_class};
 ghost use Rattle.awk_pair_levels.specs.Shares.{length_of, is_lists, is_alike as is_alike_to};
 ghost use Rattle.awk_pair_levels.specs.Shares.{share_class, class_list};
 ghost use Rattle.awk_pair_levels.specs.Shares.{IsAsLong, AreAsLong, IsAmong};

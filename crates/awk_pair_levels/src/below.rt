@@ -5,8 +5,8 @@ ghost use Rattle.awk_lanes.specs.Counted.{before};
 ghost use Rattle.awk_lanes.specs.Places.{size_of};
 ghost use Rattle.awk_layout.specs.Typing.{array_type};
 ghost use Rattle.awk_open.specs.Opened.{AreLong};
-ghost use Rattle.awk_pair_levels.specs.Levels as spec;
-ghost use Rattle.awk_pair_levels.specs.Rows.{IsBelow};
+ghost use Rattle.awk_pair_sides.specs.Levels as spec;
+ghost use Rattle.awk_pair_levels.specs.Inner.{IsBelow};
 ghost use Rattle.awk_pair_levels.specs.Shares.{length_of, is_lists, AreEven, AreAsLong, IsAmong};
 ghost use Rattle.awk_pair_levels.specs.Shares.{AreRepeats, IsCounted, IsLaid, AreNext, IsShared};
 

@@ -2,14 +2,14 @@
 ghost use Rattle.std.specs.Prelude.{◌≡◌, map, IfOk};
 ghost use Rattle.awk_types.specs.View.{typ_of};
 ghost use Rattle.awk_layout.specs.Typing.{array_type};
-ghost use Rattle.awk_pair_levels.specs.Levels as spec;
+ghost use Rattle.awk_pair_sides.specs.Levels as spec;
 ghost use Rattle.awk_pair_levels.specs.Shares.{share_types, share_column};
 ghost use Rattle.awk_pair_levels.specs.Single.{IsInside, AllInside, IsItem, AreItems};
 
-use crate::levels::present_type;
 use crate::shares::Share;
 use awk_lanes::{NoMemory, Steps, place_in};
 use awk_layout::{Array, Arrays};
+use awk_pair_sides::present_type;
 use awk_range::range;
 use awk_types::is_list;
 use std::alloc::Global;

@@ -1,7 +1,5 @@
-//! One level of a pairing: what operands give to it by their types, the rows without nulls, and the
-//! rows below.
+//! One level of a pairing: what operands give to it, and the rows below.
 //!
-//! `present_rows` leaves out the rows in which some operand is null, with an index over the others;
 //! `rows_below` pairs the lists of rows, where what is no list stands at every place and lists of
 //! size 1 are stretched. `shares_of` and `Share` show what each operand gives, and `row_below`
 //! makes one row of it alone.
@@ -10,15 +8,10 @@
 mod alike;
 mod below;
 mod items;
-mod levels;
-mod presence;
-mod present;
 mod shares;
 mod whole;
 
 pub use alike::lead_of;
 pub use below::{Below, rows_below};
 pub use items::{opens_below, row_below};
-pub use levels::{goes_on, opens, present_type, some_option};
-pub use present::{PresentRows, present_rows};
 pub use shares::{Share, shares_of};

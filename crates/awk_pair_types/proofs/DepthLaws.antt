@@ -5,10 +5,10 @@ use Rattle.std.specs.Prelude.{List, [], ◌∷◌, map, length, min, Some, None}
 use Rattle.std.specs.Prelude.{if◌then◌else◌}
 use Rattle.awk_types.specs.DataType.{DataType}
 use Rattle.awk_types.specs.Datum.{Datum}
-use Rattle.awk_pair.specs.Paired.{to_leaves, to_depth, all_levels, is_wrong, paired_type}
-use Rattle.awk_pair.specs.Paired.{types_at_ends}
-use Rattle.awk_pair.specs.Pairs.{below, has_wrong_end, some_array, typs}
-use Rattle.awk_pair_levels.specs.Levels.{opens, item_types}
+use Rattle.awk_pair_operands.specs.Paired.{to_leaves, to_depth, all_levels, is_wrong, paired_type}
+use Rattle.awk_pair_operands.specs.Paired.{types_at_ends}
+use Rattle.awk_pair_operands.specs.Pairs.{below, has_wrong_end, some_array, typs}
+use Rattle.awk_pair_sides.specs.Levels.{opens, item_types}
 use Rattle.awk_pair_types.specs.Emptied.{emptied, heights, HasTypes}
 use Rattle.awk_pair_types.proofs.EmptyLaws.{typs-emptied}
 use Rattle.awk_pair_types.proofs.HeightLaws.{type_stable, ends_stable}

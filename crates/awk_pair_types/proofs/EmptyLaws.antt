@@ -25,11 +25,11 @@ use Rattle.awk_columns.specs.InOrder.{AreParts}
 use Rattle.awk_open.specs.Opened.{AreLong}
 use Rattle.awk_frames.specs.Shape.{Shape, ends, shape}
 use Rattle.awk_frames.specs.Sizes.{levels_refused}
-use Rattle.awk_pair.specs.Answer.{shared_ends, shared_shape, single_or_fault}
-use Rattle.awk_pair.specs.First.{all_data}
-use Rattle.awk_pair.specs.Pairs.{typs, pair_type, pair_values, pair_refused, has_wrong_end}
-use Rattle.awk_pair.specs.Pairs.{first_rows, datum_side, item_type, some_array}
-use Rattle.awk_pair_levels.specs.Sides.{equally_long, side_lengths}
+use Rattle.awk_pair_operands.specs.Answer.{shared_ends, shared_shape, single_or_fault}
+use Rattle.awk_pair_operands.specs.First.{all_data}
+use Rattle.awk_pair_operands.specs.Pairs.{typs, pair_type, pair_values, pair_refused, has_wrong_end}
+use Rattle.awk_pair_operands.specs.Pairs.{first_rows, datum_side, item_type, some_array}
+use Rattle.awk_pair_sides.specs.Sides.{equally_long, side_lengths}
 use Rattle.awk_pair_types.specs.Emptied.{emptied, heights, height}
 use Rattle.awk_pair_types.proofs.HeightLaws.{heights_push}
 

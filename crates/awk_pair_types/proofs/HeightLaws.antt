@@ -8,9 +8,9 @@ use Rattle.awk_types.specs.DataType.{depth}
 use Rattle.awk_types.specs.Limit.{Limit, depth_limit, limit}
 use Rattle.awk_types.specs.Simple.{present, option_if}
 use Rattle.awk_columns.specs.ListClass.{list_type}
-use Rattle.awk_pair.specs.Paired.{Reach, end_type, end_types, paired_type, types_at_ends}
+use Rattle.awk_pair_operands.specs.Paired.{Reach, end_type, end_types, paired_type, types_at_ends}
 use Rattle.awk_pair_types.specs.Emptied.{height, heights}
-use Rattle.awk_pair_levels.specs.Levels.{opens, some_option, item_of, item_types, level_class}
+use Rattle.awk_pair_sides.specs.Levels.{opens, some_option, item_of, item_types, level_class}
 
 item-height : (t : DataType) → height (item_of (present t)) ≤ height t - 1
 item-height unknown = omega arith

@@ -5,7 +5,7 @@ use Rattle.awk_types.specs.Datum.{Datum, arr}
 use Rattle.awk_layout.specs.Datum.{IsOperand}
 use Rattle.awk_layout.specs.Single.{own_datum}
 use Rattle.awk_layout.specs.declared.datum.Operand.{Operand}
-use Rattle.awk_pair.specs.Pairs.{item_type, pair_type, leaf_types, has_wrong_end}
+use Rattle.awk_pair_operands.specs.Pairs.{item_type, pair_type, leaf_types, has_wrong_end}
 
 -- no items of the type of a datum
 abbrev pub emptied : Datum → Datum

@@ -2,8 +2,8 @@
 ghost use Rattle.std.specs.Prelude.{◌≡◌, ◌≤◌, map, IfOk};
 ghost use Rattle.awk_layout.specs.Datum.{IsOperand};
 ghost use Rattle.awk_layout.specs.Single.{own_datum};
-ghost use Rattle.awk_pair.specs.First.{all_data};
-ghost use Rattle.awk_pair.specs.Pairs.{typs};
+ghost use Rattle.awk_pair_operands.specs.First.{all_data};
+ghost use Rattle.awk_pair_operands.specs.Pairs.{typs};
 ghost use Rattle.awk_pair_types.specs.Emptied.{emptied, heights, IsEmptied};
 
 use awk_lanes::{Arena, NoMemory, Steps};

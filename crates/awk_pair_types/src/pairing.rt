@@ -9,10 +9,10 @@ ghost use Rattle.awk_frames.specs.Framed.{IsFrame};
 ghost use Rattle.awk_frames.specs.Shape.{shape as shape_by};
 ghost use Rattle.awk_frames.specs.View.{shape_of};
 ghost use Rattle.awk_layout.specs.Single.{own_datum};
-ghost use Rattle.awk_pair.specs.Answer.{single_or_fault, shared_shape, shared_ends};
-ghost use Rattle.awk_pair.specs.First.{all_data};
-ghost use Rattle.awk_pair.specs.Pairs.{has_wrong_end, leaf_types, pair_type, typs};
-ghost use Rattle.awk_pair.specs.Pairs.{is_array, some_array};
+ghost use Rattle.awk_pair_operands.specs.Answer.{single_or_fault, shared_shape, shared_ends};
+ghost use Rattle.awk_pair_operands.specs.First.{all_data};
+ghost use Rattle.awk_pair_operands.specs.Pairs.{has_wrong_end, leaf_types, pair_type, typs};
+ghost use Rattle.awk_pair_operands.specs.Pairs.{is_array, some_array};
 ghost use Rattle.awk_pair_types.specs.Emptied.{heights, HasTypes};
 
 use crate::empty::no_items_of_each;

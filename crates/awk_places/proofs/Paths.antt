@@ -1,5 +1,6 @@
 -- How many lists of places go up, as a product that is built factor by factor.
-use Rattle.std.specs.Prelude.{◌≡◌, refl, ℕ, zero, suc, ◌+◌, ◌-◌, ◌*◌, ◌/◌, ◌<◌, ◌≤◌, true, false, length}
+use Rattle.std.specs.Prelude.{◌≡◌, refl, ℕ, zero, suc, ◌+◌, ◌-◌, ◌*◌, ◌/◌, ◌<◌, ◌≤◌, Bool, true}
+use Rattle.std.specs.Prelude.{false, length}
 use Rattle.std.proofs.Common.{arith, ap, ap₂, sym, ◌∙◌, subst}
 use Rattle.std.proofs.Math.Nat.{mul-add, mul-div_cancel}
 use Rattle.awk_places.specs.Paths.{paths}
@@ -114,3 +115,20 @@ count_without n m l =
 
 pub count_none : (n m : ℕ) → m < n → 0 ≡ length (rising_places false n m)
 count_none n m l = sym (length-rising_places false n m ∙ none_chosen n m l)
+
+-- ---- one place
+
+paths-one : (a : ℕ) → paths a 1 ≡ suc a
+paths-one zero = refl
+paths-one (suc a) = omega (arith, paths-one a)
+
+-- each place alone goes up
+pub one_place : (rep : Bool) (m : ℕ) → length (rising_places rep 1 m) ≡ m
+one_place true zero = refl
+one_place false zero = refl
+one_place true (suc m) =
+    let e : suc m - 1 ≡ m = omega arith in
+    sym (count_with 1 (suc m) (omega arith)) ∙ ap (λ a. paths a 1) e ∙ paths-one m
+one_place false (suc m) =
+    let e : suc m - 1 ≡ m = omega arith in
+    sym (count_without 1 (suc m) (omega arith)) ∙ ap (λ a. paths a 1) e ∙ paths-one m

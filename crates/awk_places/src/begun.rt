@@ -135,7 +135,11 @@ fn rest_count(replacement: bool, left: u64, begun: Begun) -> u64
     requires { IsFew replacement left begun }
     ensures { result ≡ spec.rest_count replacement left begun.least begun.stop }
 {
-    match count_rising(replacement, left, begun.stop.saturating_sub(begun.least)) {
+    let room = begun.stop.saturating_sub(begun.least);
+    if left == 1 {
+        return room;
+    }
+    match count_rising(replacement, left, room) {
         Some(count) => count,
         None => unreachable!(),
     }

@@ -1,16 +1,32 @@
 //! How many tuples there are, before any is made.
-ghost use Rattle.std.specs.Prelude.{◌≡◌, ◌+◌, ◌*◌, ◌/◌, ◌≤◌, length};
+ghost use Rattle.std.specs.Prelude.{◌≡◌, ◌+◌, ◌*◌, ◌/◌, ◌<◌, ◌≤◌, ◌^◌, length};
 ghost use Rattle.awk_types.specs.ItemLimit.{item_limit};
 ghost use Rattle.awk_places.specs.Places.{rising_places, IsCounted};
 ghost use Rattle.awk_places.specs.Paths.{paths};
 
 use awk_types::ITEM_LIMIT;
 
+/// The next number of a row of paths, where 64 bits hold what is divided.
+fn small_next(count: u64, a: u64, j: u64) -> u64
+    requires few { count ≤ item_limit }
+    requires width { a < 2 ^ 32 }
+    requires turn { j < 2 ^ 32 }
+    ensures { result ≡ count * (a + j + 1) / (j + 1) }
+{
+    let product = count * (a + j + 1);
+    product / (j + 1)
+}
+
 /// The next number of a row of paths.
 fn next_count(count: u64, a: u64, j: u64) -> u128
     requires { count ≤ item_limit }
     ensures { result ≡ count * (a + j + 1) / (j + 1) }
 {
+    if a <= u64::from(u32::MAX) {
+        if j <= u64::from(u32::MAX) {
+            return u128::from(small_next(count, a, j));
+        }
+    }
     u128::from(count) * (u128::from(a) + u128::from(j) + 1) / (u128::from(j) + 1)
 }
 

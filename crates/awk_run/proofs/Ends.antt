@@ -9,28 +9,28 @@ use Rattle.awk_edge.specs.Pending.{Pending}
 use Rattle.awk_edge.specs.Next.{HasNone, FailsToRead, IsTooLong}
 use Rattle.awk_edge.specs.Units.{Framed, units, whole_units, read_after}
 use Rattle.awk_edge.proofs.Known.{Consumes-both, Appends-both}
-use Rattle.awk_edge.proofs.UnitLimitLaws.{IsWithinUnits-large, IsWithinUnits-many, ended-many}
+use Rattle.awk_edge.proofs.UnitLimitLaws.{IsWithinUnits-large, IsWithinUnits-many}
 use Rattle.awk_query.specs.declared.reading.Reading as query
 use Rattle.awk_query.specs.declared.reading.Reading.TheVariants.{First}
 use Rattle.awk_eval.specs.Variables.{Environment, Variables}
-use Rattle.awk_session.specs.Framing.{is_blank, session_framing, session_units, ended_session}
+use Rattle.awk_framing.specs.Framing.{is_blank, session_framing, session_units, ended_session}
 use Rattle.awk_session.specs.Leaves.{Breaks}
 use Rattle.awk_session.specs.Replies.{unit_step, answers, has_fault}
-use Rattle.awk_session.specs.Runs.{state_after, answer_bytes}
+use Rattle.awk_units.specs.Runs.{state_after, answer_bytes}
 use Rattle.awk_session.specs.State.{State, at_start}
-use Rattle.awk_session.proofs.Runs.{texts_push}
+use Rattle.awk_units.proofs.Runs.{texts_push}
 use Rattle.awk_session.proofs.SpendLaws.{MaySpend, UnitTakes, spends, spends_in}
 use Rattle.awk_run.specs.Flushes.{fronts, Flushes}
 use Rattle.awk_run.specs.Session.{Session, MayBeAnswered, IsWhole, IsWithin}
-use Rattle.awk_run.specs.Taking.{CutsRaw, AsksTooMuch}
+use Rattle.awk_units.specs.Taking.{CutsRaw, AsksTooMuch}
 use Rattle.awk_run.specs.declared.run.Status.TheVariants.{Fine, Faults, Read, Write, Memory}
 use Rattle.awk_run.specs.declared.run.Status.TheVariants.{LineTooLong, TooManyLines}
 use Rattle.awk_run.proofs.Counts.{answered, answered_as, not_all}
 use Rattle.awk_run.proofs.Progress.{AreTaken, Answered}
 use Rattle.awk_run.proofs.Spends.{given_first}
-use Rattle.awk_run.proofs.UnitProgress.{IsDone}
-use Rattle.awk_run.proofs.UnitsStop as stops
-use Rattle.awk_run.proofs.UnitsTaken as reads
+use Rattle.awk_units.proofs.UnitProgress.{IsDone}
+use Rattle.awk_units.proofs.UnitsStop as stops
+use Rattle.awk_units.proofs.UnitsTaken as reads
 
 -- the source has nothing left, and all its units were taken
 pub record IsTakenAll (left0 left : Option (List ℕ)) (taken : List Framed) : Type 0 where

@@ -1,14 +1,9 @@
 pub mod Notes
 pub mod Counts
-pub mod UnitProgress
-pub mod UnitsTaken
-pub mod UnitsStop
-pub mod UnitEnds
 pub mod Progress
 pub mod Ends
 pub mod Complete
 pub mod Spends
 pub mod Lists
 pub mod MadeLaws
-pub mod UnitParts
 pub mod MadeUnits

@@ -1,31 +1,28 @@
 -- A made session, whose bytes a source gave that never fails.
 use Rattle.std.proofs.Common.{◌≡◌, ◌≢◌, ◌≤◌, inl, inr, ℕ, ◌+◌, ◌-◌, Bool, List, [], ◌∷◌, ◌++◌}
-use Rattle.std.proofs.Common.{length, refl, ap, sym, ◌∙◌, subst, arith, Option, Some, None}
+use Rattle.std.proofs.Common.{refl, ap, sym, ◌∙◌, subst, arith, Option, Some, None}
 use Rattle.std.proofs.Common.{append_assoc, append-nil, IsTrue, decimal, String}
 use Rattle.std.specs.declared.alloc.Global.{Global}
 use Rattle.std.specs.Io.KnownBytes.{Appends}
 use Rattle.std.proofs.lemmas.Fmt.{decimal_injective}
 use Rattle.awk_edge.specs.Causes.{Rose}
-use Rattle.awk_edge.specs.Units.{Framed, units, joined_units, whole_units, ended_units, read_after}
-use Rattle.awk_edge.specs.Lines.{lines_limit}
-use Rattle.awk_edge.specs.UnitLimits.{IsLargeForGood}
+use Rattle.awk_edge.specs.Units.{Framed, units}
 use Rattle.awk_edge.proofs.Known.{Appends-none}
 use Rattle.awk_query.specs.declared.reading.Reading.TheVariants.{First}
 use Rattle.awk_made.specs.Session.{session_of}
 use Rattle.awk_session.specs.Cost.{are_plain, cost}
-use Rattle.awk_session.specs.Framing.{session_framing, session_units, ended_session}
+use Rattle.awk_framing.specs.Framing.{session_framing, session_units, ended_session}
 use Rattle.awk_session.specs.Replies.{answers}
 use Rattle.awk_run.specs.Flushes.{fronts}
 use Rattle.awk_run.specs.Words.{IsMake}
 use Rattle.awk_run.specs.Session.{Session, Says, MadeSession, IsMadeEnd, IsWhole, IsCut}
 use Rattle.awk_run.specs.Session.{HasFirstAnswers, AreAnswered, MayBeAnswered, IsComplete, IsWithin}
-use Rattle.awk_run.specs.Session.{HasLarge}
 use Rattle.awk_run.specs.declared.run.Status.{Status}
 use Rattle.awk_run.specs.declared.run.Status.TheVariants.{Fine, Faults, Words, Read, Write, Memory}
 use Rattle.awk_run.specs.declared.run.Status.TheVariants.{LineTooLong, TooManyLines}
 use Rattle.awk_run.proofs.Complete.{large_in_front, many_in_front}
 use Rattle.awk_run.proofs.Counts.{answered, not_all}
-use Rattle.awk_run.proofs.UnitEnds.{EndsMore, ended-front}
+use Rattle.awk_units.proofs.UnitEnds.{ended-front}
 
 -- what may be answered of what was given is the front of what may be answered of all
 record MayMore (made : List ℕ) (ls : List Framed) : Type 0 where

@@ -1,5 +1,5 @@
 -- The units of the made session are its lines, all whole and within the limits.
-use Rattle.std.proofs.Common.{◌≡◌, ◌≤◌, ◌&&◌, ℕ, zero, suc, Bool, true, false, List, [], ◌∷◌}
+use Rattle.std.proofs.Common.{◌≡◌, ◌≤◌, ◌&&◌, ℕ, zero, suc, true, false, List, [], ◌∷◌}
 use Rattle.std.proofs.Common.{length, refl, ap, sym, ◌∙◌, arith}
 use Rattle.std.specs.Char.{encode_utf8}
 use Rattle.std.specs.List.{AllByRecursion}
@@ -10,20 +10,20 @@ use Rattle.serde_json.specs.Read.{read}
 use Rattle.serde_json.proofs.OnLiterals.{serde_json_on_literals}
 use Rattle.awk_edge.specs.Lines.{AreLines, line_limit, lines_limit}
 use Rattle.awk_edge.specs.UnitLimits.{IsSmall}
-use Rattle.awk_edge.specs.Units.{raw_limit, Framed, is_whole, is_small, whole_units}
+use Rattle.awk_edge.specs.Units.{raw_limit, is_whole, is_small, whole_units}
 use Rattle.awk_edge.proofs.PlainUnits.{plain_unit, plain_units, AskForNone, units-plain}
 use Rattle.awk_edge.proofs.UnitLaws.{whole_units-nil}
 use Rattle.awk_made.specs.Draws.{events}
 use Rattle.awk_made.specs.Session.{load_line, pairs_line, opposite_line, total_line, type_line}
 use Rattle.awk_made.specs.Session.{count_line, sum_line, max_line, session_lines, session_of}
 use Rattle.awk_made.proofs.SessionLaws.{session_lines-within}
-use Rattle.awk_query.specs.Line.{json_said, or_json}
+use Rattle.awk_query.specs.Line.{or_json}
 use Rattle.awk_query.specs.declared.reading.Reading.{Reading}
 use Rattle.awk_query.specs.declared.reading.Reading.TheVariants.{First}
-use Rattle.awk_session.specs.Framing.{raw_asked, session_framing, session_units, ended_session}
-use Rattle.awk_session.proofs.Asked.{has_five, raw_asked-first, raw_asked-few}
+use Rattle.awk_framing.specs.Framing.{raw_asked, session_framing, session_units, ended_session}
+use Rattle.awk_framing.proofs.Asked.{has_five, raw_asked-first, raw_asked-few}
 use Rattle.awk_run.specs.Session.{IsWithin}
-use Rattle.awk_run.proofs.UnitEnds.{whole_units-cons}
+use Rattle.awk_units.proofs.UnitEnds.{whole_units-cons}
 
 -- ---- no line of it asks for raw bytes
 

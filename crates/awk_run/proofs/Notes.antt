@@ -7,9 +7,9 @@ use Rattle.std.proofs.lemmas.List.Sums.{sum_by-cons}
 use Rattle.std.specs.Io.KnownBytes.{Appends}
 use Rattle.awk_edge.specs.Lines.{Unbroken}
 use Rattle.awk_eval.specs.Variables.{Environment}
-use Rattle.awk_session.specs.Framing.{is_blank}
+use Rattle.awk_framing.specs.Framing.{is_blank}
 use Rattle.awk_session.specs.Replies.{step}
-use Rattle.awk_session.specs.Runs.{answer_bytes, line_ends}
+use Rattle.awk_units.specs.Runs.{answer_bytes, line_ends}
 use Rattle.awk_session.specs.State.{State}
 use Rattle.awk_session.proofs.StepLaws.{IsOneLine, step-blank, step-answer}
 use Rattle.awk_run.specs.Flushes.{fronts, AreNotes, Flushes}

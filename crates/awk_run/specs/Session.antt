@@ -5,9 +5,9 @@ use Rattle.std.specs.Io.KnownBytes.{Consumes, Appends, IsAtEnd}
 use Rattle.awk_edge.specs.UnitLimits.{HasLargeUnit, IsLargeForGood, HasTooManyUnits, IsWithinUnits}
 use Rattle.awk_edge.specs.Units.{Framed}
 use Rattle.awk_query.specs.declared.reading.Reading.TheVariants.{First}
-use Rattle.awk_session.specs.Framing.{is_blank, session_framing, session_units, ended_session}
+use Rattle.awk_framing.specs.Framing.{is_blank, session_framing, session_units, ended_session}
 use Rattle.awk_session.specs.Replies.{answers, has_fault, answer_count}
-use Rattle.awk_session.specs.Runs.{line_ends}
+use Rattle.awk_units.specs.Runs.{line_ends}
 use Rattle.awk_session.specs.Cost.{are_plain, cost}
 use Rattle.awk_run.specs.Flushes.{fronts, Flushes}
 use Rattle.awk_run.specs.declared.run.Status.{Status}

@@ -3,8 +3,8 @@ ghost use Rattle.std.specs.Prelude.{◌||◌, ◌++◌, List, ℕ, Some, Err, �
 ghost use Rattle.awk_edge.specs.Causes.{Rose};
 ghost use Rattle.awk_made.specs.Session.{session_of};
 ghost use Rattle.awk_session.specs.Cost.{are_plain, cost, line_in};
-ghost use Rattle.awk_session.specs.Framing as framing;
-ghost use Rattle.awk_session.specs.Framing.{session_units};
+ghost use Rattle.awk_framing.specs.Framing as framing;
+ghost use Rattle.awk_framing.specs.Framing.{session_units};
 ghost use Rattle.awk_session.specs.Replies.{answers, step};
 ghost use Rattle.awk_session.specs.Spending.{Binds, TakesCost};
 ghost use Rattle.awk_session.specs.State.{denoted_state};
@@ -14,12 +14,13 @@ ghost use Rattle.awk_run.specs.Session.{IsWithin, number_of};
 ghost use Rattle.awk_run.specs.Words.{IsRun, IsMake, AreWrong};
 
 use crate::made::MadeSource;
-use crate::unit::{SessionUnit, next_unit};
+use crate::unit::next_unit;
 use crate::words::{Task, task_in};
 use awk_edge::{LineFault, Lines, Out, Sink, Source};
 use awk_lanes::Steps;
 use awk_made::session_of;
 use awk_session::{Answered, Engine, LineEnd, is_blank};
+use awk_units::UnitBytes;
 use bumpalo::Bump;
 use std::alloc::Global;
 use std::sync::ledger::Ledger;
@@ -216,7 +217,7 @@ fn either(a: bool, b: bool) -> bool
 fn answer<K: Sink, L: Ledger>(
     alloc: Global,
     engine: &mut Engine<'_>,
-    unit: &SessionUnit,
+    unit: &UnitBytes,
     out: &mut Out,
     sink: &mut K,
     steps: &mut Steps<L>,

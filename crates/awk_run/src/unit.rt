@@ -1,19 +1,13 @@
 //! The units of a session: a line, and the raw bytes that it asks for.
-ghost use Rattle.std.specs.Prelude.{◌≡◌, ◌⊎◌, ◌≤◌, ◌<◌, ℕ, Ok, None, Err, IsTrue, IsFalse, IfErr, OnOk, Result};
+ghost use Rattle.std.specs.Prelude.{◌≡◌, ◌⊎◌, ◌≤◌, ◌<◌, Ok, None, Err, IsTrue, IsFalse, IfErr, OnOk, Result};
 ghost use Rattle.awk_edge.specs.Causes.{Rose};
-ghost use Rattle.awk_session.specs.Framing.{session_framing, raw_asked};
-ghost use Rattle.awk_run.specs.Taking.{NextUnit, NeedsAtMost};
+ghost use Rattle.awk_framing.specs.Framing.{session_framing, raw_asked};
+ghost use Rattle.awk_units.specs.Taking.{NextUnit, NeedsAtMost};
 
 use awk_edge::{LineFault, Lines, Source};
 use awk_session::{Engine, RawEnd, is_blank};
+use awk_units::UnitBytes;
 use std::alloc::Global;
-
-/// A line, and the raw bytes behind it.
-#[derive(Drop)]
-pub struct SessionUnit {
-    pub line: Vec<u8>,
-    pub raw: Vec<u8>,
-}
 
 /// The next unit, or `None` at the end. A line that asks for more raw bytes than there may be is
 /// too long.
@@ -22,7 +16,7 @@ pub fn next_unit<S: Source>(
     engine: &Engine<'_>,
     lines: &mut Lines,
     source: &mut S,
-) -> Result<Option<SessionUnit>, LineFault>
+) -> Result<Option<UnitBytes>, LineFault>
     requires open { IsTrue lines.old.is_open }
 
     // The answer is told by the bytes held and those that the source gave.
@@ -50,7 +44,7 @@ pub fn next_unit<S: Source>(
         Err(fault) => return Err(fault),
     };
     match lines.raw(alloc, source, count) {
-        Ok(raw) => Ok(Some(SessionUnit { line, raw })),
+        Ok(raw) => Ok(Some(UnitBytes { line, raw })),
         Err(fault) => Err(fault),
     }
 }

@@ -1,5 +1,5 @@
 -- A line takes at most its cost, by what its parts take.
-use Rattle.std.proofs.Common.{◌≡◌, ◌≤◌, ℕ, ◌+◌, ◌*◌, true, false, List, ◌++◌, length, length-append, Option, Some, None, Result, Ok, Err, refl, ap, ◌∙◌, arith}
+use Rattle.std.proofs.Common.{◌≡◌, ◌≤◌, ℕ, ◌+◌, true, false, List, length, Option, Some, None, Result, Ok, Err, refl, ap, ◌∙◌, arith}
 use Rattle.std.specs.Prelude.{IfOk, IfSome, is_some}
 use Rattle.std.specs.Result.{result_ok}
 use Rattle.awk_lengths.specs.LineBytes.{text_len, HasBytes}
@@ -8,33 +8,23 @@ use Rattle.awk_query.specs.Line.{line_said}
 use Rattle.awk_query.specs.declared.reading.Reading.{Reading}
 use Rattle.awk_eval.specs.Variables.{Variables}
 use Rattle.awk_eval.specs.Views.{Size, View, view_of, sizes_of, size_in, size_or_none}
-use Rattle.awk_session.specs.Answer.{answer_text}
-use Rattle.awk_session.specs.AnswerView.{answer_view}
-use Rattle.awk_session.specs.Cost.{form_size, view_size, load_cost, view_cost, text_cost, has_cost, made_cost, shown_cost, line_in}
-use Rattle.awk_session.specs.Framing.{is_blank}
-use Rattle.awk_session.specs.Spending.{IsAtMost, IsOfArray, IsOfArrays, IsViewTaken, TakesBy, Takes, TakesCost, shown_size, sent_cost, ShowsNone, ShowsView, ShowsBy, Shows}
-use Rattle.awk_session.specs.declared.answer.Answer as code
+use Rattle.awk_answer.specs.Answer.{answer_text}
+use Rattle.awk_answer.specs.AnswerView.{answer_view}
+use Rattle.awk_answer.specs.Sending.{sent_cost}
+use Rattle.awk_answer.proofs.SendingLaws.{times}
+use Rattle.awk_load_line.specs.LoadCost.{form_width}
+use Rattle.awk_load_line.proofs.LoadLaws.{load_cost-bytes}
+use Rattle.awk_session.specs.Cost.{view_size, view_cost, text_cost, has_cost, made_cost, shown_cost, line_in}
+use Rattle.awk_framing.specs.Framing.{is_blank}
+use Rattle.awk_session.specs.Spending.{IsAtMost, IsOfArray, IsOfArrays, IsViewTaken, TakesBy, Takes, TakesCost, shown_size, ShowsNone, ShowsView, ShowsBy, Shows}
+use Rattle.awk_answer.specs.declared.answer.Answer as code
 
--- ---- products
-
-pub times : (a b c d : ℕ) → a ≤ c → b ≤ d → a * b ≤ c * d
-times a b c d h k = grind arith
-
-pub load_cost-bytes : (s : Size) (m n : ℕ) → m ≤ n → load_cost s m ≤ load_cost s n
-load_cost-bytes s m n h =
-    times (8 * (s.width + 1)) (m + 1) (8 * (s.width + 1)) (n + 1) (omega arith) (omega arith)
+-- ---- texts
 
 -- a greater text of a greater array costs more
 pub text_cost-more : (s t : Size) (m n : ℕ) → IsAtMost s t → m ≤ n → text_cost s m ≤ text_cost t n
 text_cost-more s t m n h le =
     let product = times s.height m t.height n h.1 le in omega (arith, h.0, product)
-
--- a text within another costs no more
-pub text_cost-around : (s : Size) (head text tail : List ℕ)
-    → text_cost s (length text) ≤ text_cost s (length (head ++ text ++ tail))
-text_cost-around s head text tail =
-    text_cost-more s s (length text) (length (head ++ text ++ tail)) (omega arith, omega arith)
-    (omega (arith, length-append (head ++ text) tail, length-append head text))
 
 none_costs : (n : ℕ) → text_cost (size_or_none None) n ≡ 0
 none_costs n = grind arith
@@ -66,7 +56,7 @@ made : (variables : Variables) (l : Line) (n r steps0 steps1 : ℕ)
     → IsOfArrays variables l → steps1 ≤ steps0 + made_cost (sizes_of variables) (n + r) l
 made variables (load m form count big buffers) n r steps0 steps1 taken bytes plain arrays =
     let more : text_len buffers + r ≤ n + r = omega (arith, bytes) in
-    omega (arith, taken, load_cost-bytes (form_size form) (text_len buffers + r) (n + r) more)
+    omega (arith, taken, load_cost-bytes (form_width form) (text_len buffers + r) (n + r) more)
 made variables session n r steps0 steps1 taken bytes plain arrays = omega (arith, taken)
 made variables (bind m e) n r steps0 steps1 taken bytes plain arrays =
     made_view variables (view_of e) steps0 steps1 taken plain arrays

@@ -7,9 +7,9 @@ use Rattle.awk_layout.specs.Datum.{datum_of}
 use Rattle.awk_layout.specs.declared.datum.Datum.{Datum}
 use Rattle.awk_eval.specs.Bindings.{Bindings, bind, names, each}
 use Rattle.awk_eval.specs.Variables.{Variables, denoted}
-use Rattle.awk_session.specs.Answer.{bound}
+use Rattle.awk_answer.specs.Answer.{bound}
 use Rattle.awk_session.specs.Replies.{reply_bind}
-use Rattle.awk_session.specs.declared.fault.AnswerFault.{AnswerFault}
+use Rattle.awk_answer.specs.declared.fault.AnswerFault.{AnswerFault}
 
 module _ {A B : Type 0} (f : A → B) where
   each-cond : (b : Bool) (xs ys : Bindings A)

@@ -1,16 +1,7 @@
-pub mod Sessions
-pub mod LineEnds
-pub mod Runs
 pub mod StepLaws
 pub mod Readings
-pub mod Asked
-pub mod RawLaws
 pub mod DenotedLaws
-pub mod Parts
-pub mod ReadLaws
 pub mod SizeLaws
 pub mod CostLaws
 pub mod SpendLaws
-pub mod WorkedCosts
-pub mod PackLaws
 pub mod ViewLaws

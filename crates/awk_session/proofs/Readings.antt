@@ -2,33 +2,12 @@
 use Rattle.std.proofs.Common.{◌≡◌, ℕ, Bool, true, false, List, [], ◌∷◌, refl, ap, sym, ◌∙◌}
 use Rattle.awk_edge.specs.Units.{Framed, read_after}
 use Rattle.awk_eval.specs.Variables.{Environment}
-use Rattle.awk_query.specs.Line.{line_said}
-use Rattle.awk_query.specs.declared.reading.Reading.{Reading}
-use Rattle.awk_session.specs.Framing.{is_blank, asked_by, reading_behind, raw_asked, read_behind}
-use Rattle.awk_session.specs.Framing.{session_framing}
+use Rattle.awk_framing.specs.Framing.{is_blank, read_behind, session_framing}
+use Rattle.awk_framing.proofs.FramingLaws.{read_behind-blank, read_behind-line}
 use Rattle.awk_session.specs.Replies.{step, unit_step}
-use Rattle.awk_session.specs.Runs.{state_after}
+use Rattle.awk_units.specs.Runs.{state_after}
 use Rattle.awk_session.specs.State.{State}
 use Rattle.awk_session.proofs.StepLaws.{step-blank, step-line}
-
--- a blank line asks for nothing, and changes nothing
-pub raw_asked-blank : (r : Reading) (line : List ℕ) → is_blank line ≡ true → raw_asked r line ≡ 0
-unfolding raw_asked
-raw_asked-blank r line e = rw e refl
-
-pub raw_asked-line : (r : Reading) (line : List ℕ) → is_blank line ≡ false
-    → raw_asked r line ≡ asked_by (line_said r line)
-unfolding raw_asked
-raw_asked-line r line e = rw e refl
-
-read_behind-blank : (r : Reading) (line : List ℕ) → is_blank line ≡ true → read_behind r line ≡ r
-unfolding read_behind
-read_behind-blank r line e = rw e refl
-
-read_behind-line : (r : Reading) (line : List ℕ) → is_blank line ≡ false
-    → read_behind r line ≡ reading_behind r (line_said r line)
-unfolding read_behind
-read_behind-line r line e = rw e refl
 
 by_blank : (s : State Environment) (line raw : List ℕ) (b : Bool) → is_blank line ≡ b
     → (step s line raw).after.reading ≡ read_behind s.reading line

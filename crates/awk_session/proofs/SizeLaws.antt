@@ -14,7 +14,7 @@ use Rattle.awk_eval.specs.Variables.{Variables}
 use Rattle.awk_eval.specs.Views.{Size, Sizes, View, view_of, size_of, sizes_of, size_at, size_in, size_or_none, IsWithin, IsArray}
 use Rattle.awk_session.specs.Cost.{form_size, view_size, has_cost, sized_unless, sizes_by}
 use Rattle.awk_session.specs.Spending.{IsAtMost, IsOfArray, IsOfArrays, IsBoundUnless, IsViewWithin, BindsBy, Binds, Unless, name_by}
-use Rattle.awk_session.specs.declared.answer.Answered.{Answered}
+use Rattle.awk_answer.specs.declared.answer.Answered.{Answered}
 use Rattle.awk_session.specs.declared.engine.LineEnd.{LineEnd}
 use Rattle.awk_session.specs.declared.engine.LineEnd.TheVariants.{Write, NoMemory}
 

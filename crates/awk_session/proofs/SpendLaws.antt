@@ -9,11 +9,12 @@ use Rattle.awk_eval.specs.Variables.{Environment, Variables}
 use Rattle.awk_eval.specs.Views.{Sizes, View, view_of, sizes_of, size_at}
 use Rattle.awk_session.specs.Cost.{Standing, at_start, next, standing_after, costs, cost, cost_of, unit_bytes, unit_cost}
 use Rattle.awk_session.specs.Cost.{is_plain, plain_from, are_plain, line_in, line_cost, made_cost, shown_cost, view_cost, view_size, answer_length, sizes_after}
-use Rattle.awk_session.specs.Framing.{read_behind, session_framing}
+use Rattle.awk_framing.specs.Framing.{read_behind, session_framing}
 use Rattle.awk_session.specs.Replies.{unit_step}
 use Rattle.awk_session.specs.Spending.{Binds, TakesCost}
 use Rattle.awk_session.specs.State.{State, denoted_state}
-use Rattle.awk_session.proofs.CostLaws.{times, text_cost-more}
+use Rattle.awk_answer.proofs.SendingLaws.{times}
+use Rattle.awk_session.proofs.CostLaws.{text_cost-more}
 use Rattle.awk_session.proofs.Readings.{reading-step}
 use Rattle.awk_session.proofs.SizeLaws.{AreWithin, size_at-within, view_size-within, IsOfArrays-within, sizes-within}
 

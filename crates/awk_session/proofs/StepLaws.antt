@@ -5,12 +5,12 @@ use Rattle.awk_edge.specs.Lines.{Unbroken}
 use Rattle.awk_edge.specs.Units.{Framed}
 use Rattle.awk_eval.specs.Variables.{Environment}
 use Rattle.awk_query.specs.Line.{line_said}
-use Rattle.awk_session.specs.Answer.{answer_text}
-use Rattle.awk_session.specs.Framing.{is_blank}
+use Rattle.awk_answer.specs.Answer.{answer_text}
+use Rattle.awk_framing.specs.Framing.{is_blank}
 use Rattle.awk_session.specs.Replies.{step, step_read, unit_step, reply, answers, answer_count}
-use Rattle.awk_session.specs.Runs.{Step, answer_bytes, texts, line_ends}
+use Rattle.awk_units.specs.Runs.{Step, answer_bytes, texts, line_ends}
 use Rattle.awk_session.specs.State.{State, at_start}
-use Rattle.awk_session.proofs.LineEnds.{answer_text-unbroken}
+use Rattle.awk_answer.proofs.LineEnds.{answer_text-unbroken}
 
 abbrev unanswered : State Environment → Step (State Environment)
 unanswered s = record { answer = None; is_fault = false; after = s }

@@ -1,19 +1,23 @@
 -- What a view of an array leaves, as an answer and bound to a name.
-use Rattle.std.proofs.Common.{◌≡◌, ℕ, Option, None, Result, Ok, Err, refl, sym, ap, ◌∙◌, subst, arith}
+use Rattle.std.proofs.Common.{◌≡◌, ℕ, Option, None, Result, Ok, Err, sym, ap, ◌∙◌, subst, arith}
 use Rattle.std.specs.Prelude.{IfOk}
 use Rattle.awk_types.specs.DataType.{Name}
 use Rattle.awk_layout.specs.declared.datum.Datum.{Datum}
+use Rattle.awk_layout.specs.declared.datum.Datum.TheVariants.{Arr, One}
 use Rattle.awk_eval.specs.Bindings as bindings
 use Rattle.awk_eval.specs.Variables.{Variables}
 use Rattle.awk_eval.specs.Views.{Size, View, size_of, size_in, size_or_none, IsWithin, TakesView}
 use Rattle.awk_eval.proofs.ViewSteps.{OfView-all, OfView-both, TakesView-within}
-use Rattle.awk_session.specs.Answer.{fault, is_fault}
-use Rattle.awk_session.specs.AnswerView.{answer_view}
-use Rattle.awk_session.specs.Spending.{IsAtMost, IsBound, IsBoundUnless, IsViewWithin, ShowsNone, ShowsView, shown_size}
-use Rattle.awk_session.specs.declared.answer.Answer as code
-use Rattle.awk_session.specs.declared.answer.Answer.TheVariants as variant
-use Rattle.awk_session.specs.declared.fault.AnswerFault.{AnswerFault}
+use Rattle.awk_session.specs.Spending.{IsAtMost, IsBound, IsViewWithin, ShowsNone, ShowsView, shown_size}
+use Rattle.awk_answer.specs.declared.answer.Answer as code
+use Rattle.awk_answer.specs.declared.answer.Answer.TheVariants as variant
 use Rattle.awk_session.proofs.SizeLaws.{size_of-within}
+
+-- what an answer shows of a datum is its size
+shown-within : (d : Datum) (s : Size) → IsAtMost (size_of d) s
+    → IsAtMost (shown_size (variant.Value d)) s
+shown-within (Arr x) s h = h
+shown-within (One x) s h = h
 
 -- it shows no more than its variable has
 pub shows_value : (variables : Variables) (view : Option View) (steps0 steps1 : ℕ) (made : Datum)
@@ -23,8 +27,9 @@ shows_value variables view steps0 steps1 made h =
     let within = TakesView-within variables view steps0 steps1 made h in
     OfView-both variables view (λ v. IsWithin (size_in variables v) made)
     (λ v. IsWithin (size_in variables v) made)
-    (λ v. IsAtMost (size_of made) (size_in variables v))
-    (λ v fits _. size_of-within made (size_in variables v) fits) within within
+    (λ v. IsAtMost (shown_size (variant.Value made)) (size_in variables v))
+    (λ v fits _. shown-within made (size_in variables v)
+    (size_of-within made (size_in variables v) fits)) within within
 
 none_at_most : (s t : Size) → s ≡ size_or_none None → IsAtMost s t
 none_at_most s t e =

@@ -1,13 +1,10 @@
 -- What the units of a session of loads and views cost, in steps.
-use Rattle.std.specs.Prelude.{ℕ, ◌+◌, ◌*◌, ◌&&◌, Bool, true, false, List, [], ◌∷◌, length, Option, Some, None, is_some, Result, Ok, Err, if◌then◌else◌}
+use Rattle.std.specs.Prelude.{ℕ, ◌+◌, ◌*◌, ◌&&◌, Bool, true, false, List, [], ◌∷◌, length, Option, Some, None, is_some, if◌then◌else◌}
 use Rattle.std.specs.Option.{option_map_or}
 use Rattle.std.specs.Result.{result_ok}
 use Rattle.serde_json.specs.Data.{Data}
 use Rattle.awk_types.specs.DataType.{Name}
 use Rattle.awk_edge.specs.Units.{Framed}
-use Rattle.awk_form.specs.FormTree.{FormTree}
-use Rattle.awk_form.specs.Measures as form
-use Rattle.awk_form.specs.Reading.{Refusal, reading}
 use Rattle.awk_query.specs.Line.{Line, load, session, bind, values, show, type_of, pack, names}
 use Rattle.awk_query.specs.Line.{line_said}
 use Rattle.awk_query.specs.declared.reading.Reading.{Reading}
@@ -15,21 +12,19 @@ use Rattle.awk_query.specs.declared.reading.Reading.TheVariants.{First}
 use Rattle.awk_eval.specs.Bindings as bindings
 use Rattle.awk_eval.specs.Variables.{Environment}
 use Rattle.awk_eval.specs.Views.{Size, Sizes, size_or_none, size_at, View, view_of}
-use Rattle.awk_session.specs.Framing.{is_blank, read_behind}
+use Rattle.awk_answer.specs.Sending as sending
+use Rattle.awk_load_line.specs.LoadCost.{form_width, form_height, load_cost}
+use Rattle.awk_framing.specs.Framing.{is_blank, read_behind}
 use Rattle.awk_session.specs.Replies.{unit_step}
-use Rattle.awk_session.specs.Runs.{Step}
+use Rattle.awk_units.specs.Runs.{Step}
 use Rattle.awk_session.specs.State as states
 use Rattle.awk_session.specs.State.{State}
 
 -- ---- sizes
 
--- the size of a form that is read: its nodes and inner numbers, and those on its longest path
-abbrev pub read_size : Result FormTree Refusal → Size
-read_size (Ok f) = record { width = form.width f; height = form.height f }
-read_size (Err refusal) = size_or_none None
-
+-- the size of a form: its nodes and inner numbers, and those on its longest path
 abbrev pub form_size : Data → Size
-form_size d = read_size (reading d)
+form_size d = record { width = form_width d; height = form_height d }
 
 -- the size of the variable of a view
 abbrev pub view_size : Sizes → Option View → Size
@@ -38,10 +33,6 @@ view_size sizes (Some v) = size_at sizes v.name
 
 -- ---- lines
 
--- a load, of so many bytes
-abbrev pub load_cost : Size → ℕ → ℕ
-load_cost s bytes = 8 * (s.width + 1) * (bytes + 1)
-
 -- four for each node of its variable, each time that a view takes it
 abbrev pub view_cost : Sizes → Option View → ℕ
 view_cost sizes None = 0
@@ -49,7 +40,7 @@ view_cost sizes (Some v) = 4 * (size_at sizes v.name).width * v.count
 
 -- an answer of so many bytes, that shows an array
 abbrev pub text_cost : Size → ℕ → ℕ
-text_cost s bytes = 8 * (s.width + s.height * bytes)
+text_cost s bytes = sending.text_cost s.width s.height bytes
 
 -- whether a line has a cost
 abbrev pub has_cost : Line → Bool
@@ -64,7 +55,7 @@ has_cost names = true
 
 -- what a line costs before its answer is put, where it has so many bytes with those behind it
 abbrev pub made_cost : Sizes → ℕ → Line → ℕ
-made_cost sizes bytes (load n form count big buffers) = load_cost (form_size form) bytes
+made_cost sizes bytes (load n form count big buffers) = load_cost (form_width form) bytes
 made_cost sizes bytes session = 0
 made_cost sizes bytes (bind n e) = view_cost sizes (view_of e)
 made_cost sizes bytes (values n list) = 0

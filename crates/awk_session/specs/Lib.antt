@@ -1,15 +1,5 @@
-pub mod Runs
-pub mod Framing
 pub mod State
 pub mod StateView
-pub mod Parts
-pub mod Needs
-pub mod FaultText
-pub mod Answer
-pub mod Load
-pub mod ReadView
-pub mod Told
-pub mod AnswerView
 pub mod Replies
 pub mod Leaves
 pub mod Cost

@@ -1,14 +1,10 @@
 -- What the engine answers to a line, and to the units of a session.
 use Rattle.std.specs.Prelude.{ℕ, Bool, false, not, List, count_by, Some, None, Result, Ok, Err, if◌then◌else◌}
-use Rattle.serde_json.specs.Data.{Data}
 use Rattle.awk_types.specs.DataType.{Name}
-use Rattle.awk_types.specs.Datum.{Datum, arr, one}
+use Rattle.awk_types.specs.Datum.{Datum}
 use Rattle.awk_types.specs.declared.fault.Fault.{Fault}
-use Rattle.awk_types.specs.declared.fault.Fault.TheVariants.{Size, WrongType}
+use Rattle.awk_types.specs.declared.fault.Fault.TheVariants.{WrongType}
 use Rattle.awk_edge.specs.Units.{Framed}
-use Rattle.awk_pack.specs.Canon.{Pack, canon}
-use Rattle.awk_pack.specs.declared.packed.PackFault.{PackFault}
-use Rattle.awk_text.specs.TypeText.{datum_type_text}
 use Rattle.awk_query.specs.Line as lines
 use Rattle.awk_query.specs.Line.{Line, line_said}
 use Rattle.awk_query.specs.declared.reading.Reading.{Reading}
@@ -17,13 +13,14 @@ use Rattle.awk_eval.specs.Bindings as bindings
 use Rattle.awk_eval.specs.Bindings.{bind}
 use Rattle.awk_eval.specs.Variables.{Environment}
 use Rattle.awk_eval.specs.Eval.{eval}
-use Rattle.awk_session.specs.Framing.{is_blank, reading_behind}
-use Rattle.awk_session.specs.Load.{line_loaded}
-use Rattle.awk_session.specs.Runs.{Step, texts, any_fault}
+use Rattle.awk_framing.specs.Framing.{is_blank, reading_behind}
+use Rattle.awk_load_line.specs.Load.{line_loaded}
+use Rattle.awk_units.specs.Runs.{Step, texts, any_fault}
 use Rattle.awk_session.specs.State.{State, at_start}
-use Rattle.awk_session.specs.declared.fault.AnswerFault.{AnswerFault}
-use Rattle.awk_session.specs.declared.fault.AnswerFault.TheVariants.{Json, Query, Evaluation}
-use Rattle.awk_session.specs.Answer.{Answer, begun, bound, value, typ, packed, names, fault, is_fault, answer_text}
+use Rattle.awk_answer.specs.declared.fault.AnswerFault.{AnswerFault}
+use Rattle.awk_answer.specs.declared.fault.AnswerFault.TheVariants.{Json, Query, Evaluation}
+use Rattle.awk_answer.specs.Answer.{Answer, begun, bound, value, names, fault, is_fault, answer_text}
+use Rattle.awk_answer.specs.Shown.{type_shown, pack_shown}
 
 -- an answer, and the variables afterwards
 pub record Reply : Type 0 where
@@ -48,20 +45,6 @@ evaluated (Err f) = Err (Evaluation f)
 abbrev pub telling : (Datum → Answer) → Result Datum Fault → Answer
 telling tell (Ok datum) = tell datum
 telling tell (Err f) = fault (Evaluation f)
-
--- the text of a datum's type
-abbrev pub type_shown : Datum → Answer
-type_shown datum = typ (datum_type_text datum)
-
--- the one fault of packing is a column that is too large
-abbrev pub packing : Result Pack PackFault → Answer
-packing (Ok p) = packed p
-packing (Err f) = fault (Evaluation Size)
-
--- the packed buffers of an array; a single value has none
-abbrev pub pack_shown : Datum → Answer
-pack_shown (arr t vs) = packing (canon t vs)
-pack_shown (one t v) = fault (Evaluation WrongType)
 
 -- The line that begins version 2 answers itself, and arrays of JSON lists are not built yet. A load
 -- line may have raw bytes behind it.

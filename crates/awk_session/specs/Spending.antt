@@ -1,26 +1,20 @@
 -- What lines take and bind, by the sizes of the variables.
-use Rattle.std.specs.Prelude.{◌≡◌, ◌≤◌, ◌+◌, ℕ, Bool, true, false, List, length, Option, Some, None, option_and_then, Result, Ok, Err, MatchOption, IfSome, IsTrue}
+use Rattle.std.specs.Prelude.{◌≡◌, ◌≤◌, ◌+◌, ℕ, Bool, true, false, List, Option, Some, None, option_and_then, Result, Ok, Err, MatchOption, IfSome, IsTrue}
 use Rattle.std.specs.Option.{option_map_or}
-use Rattle.serde_json.specs.Data.{Data}
 use Rattle.awk_types.specs.DataType.{Name}
-use Rattle.awk_layout.specs.Layout.{Layout}
 use Rattle.awk_layout.specs.declared.datum.Datum.{Datum}
-use Rattle.awk_layout.specs.declared.datum.Datum.TheVariants.{Arr}
 use Rattle.awk_query.specs.declared.reading.Reading.{Reading}
 use Rattle.awk_query.specs.Line.{Line, load, session, bind, values, show, type_of, pack, names}
 use Rattle.awk_lengths.specs.LineBytes.{text_len}
 use Rattle.awk_eval.specs.Bindings as bindings
 use Rattle.awk_eval.specs.Bindings.{look_up}
 use Rattle.awk_eval.specs.Variables.{Variables}
-use Rattle.awk_eval.specs.Views.{Size, View, view_of, IsWithin, IsArray, IsTaken, OfView, size_of, sizes_of, size_in, size_or_none}
-use Rattle.awk_pack.specs.declared.packed.Packed.{Packed}
-use Rattle.awk_text.specs.Buffers.{numbers_in}
-use Rattle.awk_session.specs.Cost.{form_size, load_cost, text_cost, has_cost, line_cost, line_in, answer_length}
-use Rattle.awk_session.specs.AnswerView.{answer_view}
-use Rattle.awk_session.specs.Answer.{answer_text}
-use Rattle.awk_session.specs.declared.answer.Answer as code
-use Rattle.awk_session.specs.declared.answer.Answer.TheVariants as variant
-use Rattle.awk_session.specs.declared.answer.Answered.{Answered}
+use Rattle.awk_eval.specs.Views.{Size, View, view_of, IsWithin, IsArray, IsTaken, OfView, sizes_of, size_in, size_or_none}
+use Rattle.awk_session.specs.Cost.{form_size, has_cost, line_cost, line_in, answer_length}
+use Rattle.awk_answer.specs.Sending.{shown_width, shown_height}
+use Rattle.awk_load_line.specs.LoadCost.{IsLoaded}
+use Rattle.awk_answer.specs.declared.answer.Answer as code
+use Rattle.awk_answer.specs.declared.answer.Answered.{Answered}
 use Rattle.awk_session.specs.declared.engine.LineEnd.{LineEnd}
 use Rattle.awk_session.specs.declared.engine.LineEnd.TheVariants.{Write, NoMemory}
 
@@ -56,10 +50,6 @@ pub record IsBound (n : Name) (Fact : Datum → Type 0) (old new : Variables) : 
 abbrev pub IsBoundUnless : Bool → Name → (Datum → Type 0) → Variables → Variables → Type 0
 IsBoundUnless false n Fact old new = IsBound n Fact old new
 IsBoundUnless true n Fact old new = new ≡ old
-
--- an array is of no more nodes, and no higher
-abbrev pub IsArrayWithin : Size → Layout → Type 0
-IsArrayWithin s x = IsWithin s (Arr x)
 
 -- an array no greater than that of a view's variable
 abbrev pub IsViewWithin : Variables → Option View → Datum → Type 0
@@ -99,10 +89,6 @@ abbrev pub IsViewTaken : Variables → Option View → ℕ → ℕ → Type 0
 IsViewTaken variables view steps0 steps1 =
     OfView variables view (λ v. IsTaken (size_in variables v) v.count steps0 steps1)
 
--- what a load takes, by its form and the bytes of its buffers, or of their texts
-abbrev pub IsLoaded : Data → ℕ → ℕ → ℕ → Type 0
-IsLoaded form bytes steps0 steps1 = steps1 ≤ steps0 + load_cost (form_size form) bytes
-
 -- what a line with so many raw bytes behind it takes before its answer is put
 abbrev pub TakesBy : Variables → Line → ℕ → ℕ → ℕ → Type 0
 TakesBy variables (load n form count big buffers) raw steps0 steps1 =
@@ -120,19 +106,9 @@ abbrev pub Takes : Variables → Option Line → ℕ → ℕ → ℕ → Type 0
 Takes variables line raw steps0 steps1 =
     MatchOption line (steps1 ≡ steps0) (λ l. TakesBy variables l raw steps0 steps1)
 
--- packed buffers are as wide as they have numbers
-abbrev pub packed_size : Packed → Size
-packed_size p = record { width = numbers_in p.lanes; height = 0 }
-
 -- the size of what an answer shows, and 0 where it shows nothing
 abbrev pub shown_size : code.Answer → Size
-shown_size (variant.Value d) = size_of d
-shown_size (variant.Packed p) = packed_size p
-shown_size _ = size_or_none None
-
--- what putting an answer takes
-abbrev pub sent_cost : code.Answer → ℕ
-sent_cost a = text_cost (shown_size a) (length (answer_text (answer_view a)))
+shown_size a = record { width = shown_width a; height = shown_height a }
 
 -- no greater in width and height
 abbrev pub IsAtMost : Size → Size → Type 0

@@ -1,30 +1,27 @@
 //! The engine: a session's variables, and the answers to its lines.
-ghost use Rattle.std.specs.Prelude.{◌≡◌, ◌≢◌, ◌≤◌, ◌+◌, [], Some, Ok, Err, IsTrue, IsFalse, IfErr};
+ghost use Rattle.std.specs.Prelude.{◌≡◌, ◌≢◌, ◌≤◌, ◌+◌, [], Some, Err, IsTrue, IsFalse, IfErr};
 ghost use Rattle.std.specs.Prelude.{OnOk, IfSome, length};
 ghost use Rattle.awk_types.specs.DataType as types;
 ghost use Rattle.awk_edge.specs.Causes.{Rose, flushes_after};
 ghost use Rattle.awk_eval.specs.Bindings.{look_up};
 ghost use Rattle.awk_eval.specs.Views.{sizes_of};
-ghost use Rattle.awk_query.specs.Line.{line_said};
-ghost use Rattle.awk_query.specs.LineView.{line_view};
-ghost use Rattle.awk_query.specs.declared.reading.Reading.TheVariants.{First, Two};
+ghost use Rattle.awk_query.specs.declared.reading.Reading.TheVariants.{First};
 ghost use Rattle.awk_session.specs.Cost.{line_in, is_plain, cost_of};
-ghost use Rattle.awk_session.specs.Framing as framing;
+ghost use Rattle.awk_framing.specs.Framing as framing;
 ghost use Rattle.awk_session.specs.Leaves.{Leaves};
-ghost use Rattle.awk_session.specs.Needs.{Needs};
-ghost use Rattle.awk_session.specs.ReadView.{read_view};
+ghost use Rattle.awk_framing.specs.Needs.{Needs};
 ghost use Rattle.awk_session.specs.Replies.{step};
 ghost use Rattle.awk_session.specs.Spending.{Binds, IsOfArrays, Unless, name_in};
 ghost use Rattle.awk_session.specs.State.{denoted_state};
 
-use crate::answer::Answered;
-use crate::line::{RawLine, Read, answer_line, read_as};
-use crate::raw::total_of;
+use crate::line::{RawLine, answer_line};
 use crate::state::SessionState;
+use awk_answer::Answered;
 use awk_edge::{Out, Sink};
 use awk_eval::Env;
+use awk_framing::{RawEnd, raw_need};
 use awk_lanes::{Arena, Steps};
-use awk_query::{Line, Reading};
+use awk_query::Reading;
 use std::alloc::Global;
 use std::marker::Model;
 use std::sync::ledger::Ledger;
@@ -35,15 +32,6 @@ use thiserror::Error;
 pub enum LineEnd {
     #[error("the sink failed")]
     Write,
-    #[error("memory is wanting")]
-    NoMemory,
-}
-
-/// Why the raw bytes of a line are not to be had.
-#[derive(Clone, Copy, Debug, PartialEq, Eq, Error)]
-pub enum RawEnd {
-    #[error("a line asks for more than 268435456 raw bytes")]
-    TooMany,
     #[error("memory is wanting")]
     NoMemory,
 }
@@ -67,14 +55,6 @@ impl<'a> Model for Engine<'a> {
     ghost use Rattle.awk_session.specs.StateView.{shown};
 
     ghost view = { λ s. shown s.state };
-}
-
-/// Whether a line has no answer: it holds only spaces, tabs and carriage returns.
-pub fn is_blank(line: &[u8]) -> bool
-    ensures { result ≡ framing.is_blank line.now }
-{
-    line.iter()
-        .all(|b| *b == b' ' || *b == b'\t' || *b == b'\r')
 }
 
 impl<'a> Engine<'a> {
@@ -115,11 +95,7 @@ impl<'a> Engine<'a> {
         // It is the sum of the counts, and `TooMany` comes exactly where that is more than may be.
         ensures { Needs (framing.raw_asked self.now.reading bytes.now) result }
     {
-        match self.state.reading {
-            Reading::First => Ok(0),
-            Reading::One => Ok(0),
-            Reading::Two => need_of_two(alloc, bytes),
-        }
+        raw_need(alloc, self.state.reading, bytes)
     }
 
     /// Answers a line that is not blank with the raw bytes behind it, and flushes. All its memory
@@ -210,45 +186,5 @@ impl<'a> Engine<'a> {
             (step (denoted_state self.old) bytes.now []).answer }
     {
         self.line_raw(alloc, bytes, &[], out, sink, steps)
-    }
-}
-
-// How many raw bytes a line of version 2 asks for.
-fn need_of_two(alloc: Global, bytes: &[u8]) -> Result<u64, RawEnd>
-    ensures { Needs (framing.asked_by (line_said Two bytes.now)) result }
-{
-    match read_as(alloc, bytes, Reading::Two) {
-        Ok(read) => need_of(&read),
-        Err(_) => Err(RawEnd::NoMemory),
-    }
-}
-
-// How many raw bytes what was read asks for.
-fn need_of(read: &Read) -> Result<u64, RawEnd>
-    ensures { Needs (framing.asked_by (read_view read.now)) result }
-{
-    match read {
-        Read::Line(line) => need_of_line(line),
-        Read::Json => Ok(0),
-        Read::Query => Ok(0),
-    }
-}
-
-fn need_of_line(line: &Line) -> Result<u64, RawEnd>
-    ensures { Needs (framing.asked_by (Ok (line_view line.now))) result }
-{
-    match line {
-        Line::LoadRaw { parts, .. } => match total_of(parts) {
-            Some(total) => Ok(total),
-            None => Err(RawEnd::TooMany),
-        },
-        Line::Load { .. }
-        | Line::Session
-        | Line::Let { .. }
-        | Line::Values { .. }
-        | Line::Show(_)
-        | Line::TypeOf(_)
-        | Line::Pack(_)
-        | Line::Names => Ok(0),
     }
 }

@@ -6,18 +6,12 @@
 //! a session packs and loads.
 #![tactic(auto)]
 
-mod answer;
 mod engine;
-mod fault;
-mod fault_text;
 pub mod laws;
 mod line;
-mod load;
-mod pieces;
-mod raw;
 mod reply;
 mod state;
-mod type_text;
 
-pub use answer::Answered;
-pub use engine::{Engine, LineEnd, RawEnd, is_blank};
+pub use awk_answer::Answered;
+pub use awk_framing::{RawEnd, is_blank};
+pub use engine::{Engine, LineEnd};

@@ -1,38 +1,27 @@
-//! A line: what it is read as, and how it is answered.
-ghost use Rattle.std.specs.Prelude.{◌≡◌, ◌≤◌, ◌+◌, Ok, Err, IsTrue, IsFalse, IfOk, IfErr, OnOk, ℕ, length};
+//! How a line is answered by what it is read as.
+ghost use Rattle.std.specs.Prelude.{◌≡◌, ◌≤◌, ◌+◌, Err, IsTrue, IsFalse, IfOk, IfErr, OnOk, ℕ, length};
 ghost use Rattle.std.specs.Result.{result_ok};
 ghost use Rattle.awk_edge.specs.Causes.{Rose, flushes_after};
 ghost use Rattle.awk_query.specs.Allowed.{IsAllowedLine};
 ghost use Rattle.awk_lengths.specs.LineBytes.{HasBytes};
-ghost use Rattle.awk_query.specs.Line.{line_said};
-ghost use Rattle.awk_query.specs.LineView.{line_view};
-ghost use Rattle.awk_query.specs.declared.reading.Reading.TheVariants.{First};
 ghost use Rattle.awk_session.specs.Cost.{line_in};
-ghost use Rattle.awk_session.specs.Framing.{is_blank, reading_behind};
+ghost use Rattle.awk_framing.specs.Framing.{is_blank};
 ghost use Rattle.awk_session.specs.Leaves.{Leaves};
-ghost use Rattle.awk_session.specs.ReadView.{read_view};
+ghost use Rattle.awk_framing.specs.ReadView.{read_view};
 ghost use Rattle.awk_session.specs.Replies.{step, step_read};
 ghost use Rattle.awk_session.specs.Spending.{Binds, TakesCost, Unless};
 ghost use Rattle.awk_session.specs.StateView.{shown, stands};
 
-use crate::answer::{Answered, kind_of, send};
 use crate::engine::LineEnd;
 use crate::reply::reply;
 use crate::state::SessionState;
+use awk_answer::{Answered, kind_of, send};
 use awk_edge::{Out, Sink};
+use awk_framing::{Read, read_as, reading_behind};
 use awk_lanes::{Arena, Steps};
-use awk_query::{Line, QueryFault, Reading, read_line};
 use bumpalo::Bump;
-use std::alloc::{AllocError, Global};
+use std::alloc::Global;
 use std::sync::ledger::Ledger;
-
-/// What a line is read as: a line of a session, no JSON, or no line.
-#[derive(Drop)]
-pub enum Read {
-    Line(Line),
-    Json,
-    Query,
-}
 
 /// A line, and the raw bytes behind it.
 #[derive(Drop)]
@@ -79,57 +68,6 @@ pub fn answer_line<'a, K: Sink, L: Ledger>(
     }
 }
 
-/// What a line is read as.
-pub fn read_as(alloc: Global, bytes: &[u8], reading: Reading) -> Result<Read, AllocError>
-    ensures said { IfOk result (λ read. read_view read ≡ line_said reading bytes.now) }
-    ensures allowed { IfOk result (λ read. IfOk (read_view read) IsAllowedLine) }
-{
-    match read_line(alloc, bytes, reading) {
-        Ok(line) => Ok(Read::Line(line)),
-        Err(QueryFault::Json) => Ok(Read::Json),
-        Err(QueryFault::Query) => Ok(Read::Query),
-        Err(QueryFault::NoMemory) => Err(AllocError),
-    }
-}
-
-// How the next line is read behind one that is not blank.
-fn behind(reading: Reading, read: &Read) -> Reading
-    ensures { result ≡ reading_behind reading (read_view read.now) }
-{
-    match reading {
-        Reading::First => behind_first(read),
-        Reading::One => Reading::One,
-        Reading::Two => Reading::Two,
-    }
-}
-
-// The same behind the first such line.
-fn behind_first(read: &Read) -> Reading
-    ensures { result ≡ reading_behind First (read_view read.now) }
-{
-    match read {
-        Read::Line(line) => behind_line(line),
-        Read::Json => Reading::One,
-        Read::Query => Reading::One,
-    }
-}
-
-fn behind_line(line: &Line) -> Reading
-    ensures { result ≡ reading_behind First (Ok (line_view line.now)) }
-{
-    match line {
-        Line::Session => Reading::Two,
-        Line::Load { .. }
-        | Line::LoadRaw { .. }
-        | Line::Let { .. }
-        | Line::Values { .. }
-        | Line::Show(_)
-        | Line::TypeOf(_)
-        | Line::Pack(_)
-        | Line::Names => Reading::One,
-    }
-}
-
 // Answers a line by what was read from it. What is only shown lies in an arena of the line's own.
 fn answer<'a, K: Sink, L: Ledger>(
     alloc: Global,
@@ -165,7 +103,7 @@ fn answer<'a, K: Sink, L: Ledger>(
     let arena = Bump::new(alloc);
     match reply(alloc, &mut state.env, read, raw, kept, &arena, steps) {
         Ok(answer) => {
-            state.reading = behind(state.reading, read);
+            state.reading = reading_behind(state.reading, read);
             match send(&answer, out, sink, steps) {
                 Ok(()) => Ok(kind_of(&answer)),
                 Err(_) => Err(LineEnd::Write),

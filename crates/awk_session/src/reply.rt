@@ -1,9 +1,8 @@
 //! What a line binds, and its answer.
-ghost use Rattle.std.specs.Prelude.{◌≡◌, IfOk, OnOk, OnErr, length};
+ghost use Rattle.std.specs.Prelude.{◌≡◌, IfOk, OnErr, length};
 ghost use Rattle.std.specs.Result.{result_ok};
 ghost use Rattle.serde_json.specs.View.{view, members_view};
 ghost use Rattle.awk_store.specs.Buffers.{HoldsTexts, held_len, only_texts, texts_of, total_len};
-ghost use Rattle.awk_layout.specs.Datum.{datum_of, IsDatum};
 ghost use Rattle.awk_types.specs.Names.{AreDistinct};
 ghost use Rattle.awk_query.specs.Allowed.{IsAllowed, IsAllowedLine};
 ghost use Rattle.awk_query.specs.Line as lines;
@@ -13,27 +12,25 @@ ghost use Rattle.awk_eval.specs.Bindings as bindings;
 ghost use Rattle.awk_eval.specs.Eval as meaning;
 ghost use Rattle.awk_eval.specs.Variables.{denoted};
 ghost use Rattle.awk_eval.specs.Views.{IsWithin, view_of};
-ghost use Rattle.awk_session.specs.Answer as answers;
-ghost use Rattle.awk_session.specs.AnswerView.{answer_view, IsAnswer};
+ghost use Rattle.awk_answer.specs.Answer as answers;
+ghost use Rattle.awk_answer.specs.Shown as shown;
+ghost use Rattle.awk_answer.specs.AnswerView.{answer_view, IsAnswer};
 ghost use Rattle.awk_session.specs.Cost.{form_size};
-ghost use Rattle.awk_session.specs.Load.{loaded, line_loaded};
-ghost use Rattle.awk_session.specs.ReadView.{read_view};
+ghost use Rattle.awk_load_line.specs.Load.{loaded, line_loaded};
+ghost use Rattle.awk_load_line.specs.LoadCost.{IsLoaded};
+ghost use Rattle.awk_framing.specs.ReadView.{read_view};
 ghost use Rattle.awk_session.specs.Replies as replies;
 ghost use Rattle.awk_session.specs.Spending.{Binds, BindsBy, IsBoundUnless, IsViewWithin};
-ghost use Rattle.awk_session.specs.Spending.{Takes, TakesBy, IsLoaded, IsViewTaken};
+ghost use Rattle.awk_session.specs.Spending.{Takes, TakesBy, IsViewTaken};
 ghost use Rattle.awk_session.specs.Spending.{Shows, ShowsBy, ShowsNone, ShowsView};
-ghost use Rattle.awk_session.specs.declared.fault.AnswerFault.TheVariants.{Evaluation};
+ghost use Rattle.awk_answer.specs.declared.fault.AnswerFault.TheVariants.{Evaluation};
 
-use crate::answer::Answer;
-use crate::fault::{AnswerFault, Refused};
-use crate::line::Read;
-use crate::load::{Head, load};
-use crate::raw::{cut_in, raw_store};
-use crate::type_text::type_text;
+use awk_answer::{Answer, AnswerFault, Refused, packed, type_text};
 use awk_eval::{Env, eval};
+use awk_framing::Read;
 use awk_lanes::{Arena, Steps};
 use awk_layout::Datum;
-use awk_pack::{PackFault, pack};
+use awk_load_line::{Head, cut_in, load, raw_store};
 use awk_query::{Expr, Line, RawParts};
 use awk_simd::Wide;
 use awk_store::Store;
@@ -282,7 +279,7 @@ fn show_type<'v, 's, 'a: 's, L: Ledger>(
 ) -> Result<Answer<'v, 's>, AllocError>
     requires allowed { IsAllowed (expr_of e.now) }
     ensures shown { IfOk result (λ answer. answer_view answer ≡ replies.telling
-        replies.type_shown (meaning.eval (denoted env.now) (expr_of e.now))) }
+        shown.type_shown (meaning.eval (denoted env.now) (expr_of e.now))) }
     ensures answer { IfOk result IsAnswer }
     ensures shows { IfOk result ShowsNone }
     ensures cost { IsViewTaken env.now (view_of (expr_of e.now)) steps.old steps.new }
@@ -303,33 +300,12 @@ fn show_packed<'v, 's, 'a: 's, L: Ledger>(
 ) -> Result<Answer<'v, 's>, AllocError>
     requires allowed { IsAllowed (expr_of e.now) }
     ensures shown { IfOk result (λ answer. answer_view answer ≡ replies.telling
-        replies.pack_shown (meaning.eval (denoted env.now) (expr_of e.now))) }
+        shown.pack_shown (meaning.eval (denoted env.now) (expr_of e.now))) }
     ensures answer { IfOk result IsAnswer }
 {
     match eval(alloc, env, e, &Wide, arena, steps) {
         Ok(datum) => packed(alloc, &datum, arena, steps),
         Err(fault) => refused(fault),
-    }
-}
-
-// The packed buffers of an array. A single value has none.
-fn packed<'v, 's, L: Ledger>(
-    alloc: Global,
-    datum: &Datum<'s>,
-    arena: &'s Arena,
-    steps: &mut Steps<L>,
-) -> Result<Answer<'v, 's>, AllocError>
-    ensures shown { IfOk result (λ answer.
-        answer_view answer ≡ replies.pack_shown (datum_of datum.now)) }
-    ensures answer { IfOk result IsAnswer }
-{
-    let Datum::Arr(array) = datum else {
-        return Ok(Answer::Fault(AnswerFault::Evaluation(Fault::WrongType)));
-    };
-    match pack(alloc, array, arena, steps) {
-        Ok(p) => Ok(Answer::Packed(p)),
-        Err(PackFault::Size) => Ok(Answer::Fault(AnswerFault::Evaluation(Fault::Size))),
-        Err(PackFault::NoMemory) => Err(AllocError),
     }
 }
 

@@ -21,8 +21,9 @@ use Rattle.awk_layout.specs.Valid.{len}
 use Rattle.awk_layout.specs.declared.datum.Datum.TheVariants.{Arr, One}
 use Rattle.awk_layout.proofs.ArrayItems.{length-array_items}
 use Rattle.awk_frames.specs.Framed.{over}
-use Rattle.awk_pair.specs.Answer.{single_or_fault}
-use Rattle.awk_pair.specs.Pairs.{pair_refused, pair_type, pair_values, some_array, datum_from}
+use Rattle.awk_pair_operands.specs.Answer.{single_or_fault}
+use Rattle.awk_pair_operands.specs.Pairs.{pair_refused, pair_type, pair_values, some_array}
+use Rattle.awk_pair_operands.specs.Pairs.{datum_from}
 use Rattle.awk_pair_types.specs.Limits.{limit_refused}
 use Rattle.awk_with_field.specs.Field.{names_in, end_value}
 use Rattle.awk_with_field.specs.WithField.{end_of, is_wrong, with_type, with_values}

@@ -13,8 +13,8 @@ use Rattle.awk_types.specs.Names.{same_name}
 use Rattle.awk_types.specs.Simple.{is_option, present, option_if, IsSimple}
 use Rattle.awk_columns.specs.ListClass.{Class, list_type}
 use Rattle.awk_frames.specs.Framed.{over_type}
-use Rattle.awk_pair.specs.Paired.{to_depth, paired_type, types_at_ends}
-use Rattle.awk_pair_levels.specs.Levels.{item_of, level_class}
+use Rattle.awk_pair_operands.specs.Paired.{to_depth, paired_type, types_at_ends}
+use Rattle.awk_pair_sides.specs.Levels.{item_of, level_class}
 use Rattle.awk_with_field.specs.Depths.{one_if, depth_over}
 use Rattle.awk_with_field.specs.Ends.{ends_at_records, lists_down}
 use Rattle.awk_with_field.specs.Field.{put, named, field_type}

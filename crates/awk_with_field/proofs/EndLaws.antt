@@ -22,10 +22,10 @@ use Rattle.awk_open.specs.Opened.{AreLong}
 use Rattle.awk_columns.specs.Columns.{part_at}
 use Rattle.awk_columns.specs.InOrder.{AreParts}
 use Rattle.awk_frames.specs.Framed.{over_type}
-use Rattle.awk_pair.specs.First.{all_data}
-use Rattle.awk_pair.specs.Pairs.{below, item_type, leaf_types, pair_type, typs}
-use Rattle.awk_pair.specs.Paired.{to_depth, types_at_ends}
-use Rattle.awk_pair_levels.specs.Levels.{opens, item_of, item_types}
+use Rattle.awk_pair_operands.specs.First.{all_data}
+use Rattle.awk_pair_operands.specs.Pairs.{below, item_type, leaf_types, pair_type, typs}
+use Rattle.awk_pair_operands.specs.Paired.{to_depth, types_at_ends}
+use Rattle.awk_pair_sides.specs.Levels.{opens, item_of, item_types}
 use Rattle.awk_types.specs.Simple.{present}
 use Rattle.awk_pair_types.specs.Limits.{limit_refused}
 use Rattle.awk_with_field.specs.Field.{is_record, names_in, field_type, end_value, field_value}

@@ -25,8 +25,8 @@ use Rattle.awk_layout.specs.Valid.{len}
 use Rattle.awk_layout.specs.declared.datum.Datum as code
 use Rattle.awk_layout.specs.declared.datum.Datum.TheVariants.{Arr, One}
 use Rattle.awk_layout.specs.declared.datum.Operand.{Operand}
-use Rattle.awk_pair.specs.First.{all_data}
-use Rattle.awk_pair.specs.Pairs.{item_type, pair_refused, datum_from, some_array}
+use Rattle.awk_pair_operands.specs.First.{all_data}
+use Rattle.awk_pair_operands.specs.Pairs.{item_type, pair_refused, datum_from, some_array}
 use Rattle.awk_with_field.specs.Depths.{depth_over, list_told}
 use Rattle.awk_with_field.specs.Ends.{ends_at_records}
 use Rattle.awk_with_field.specs.Refused.{IsListFault}

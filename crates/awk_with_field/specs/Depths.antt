@@ -7,7 +7,7 @@ use Rattle.awk_types.specs.declared.fault.Fault.{Fault}
 use Rattle.awk_types.specs.declared.fault.Fault.TheVariants as fault
 use Rattle.awk_types.specs.declared.limit.TypeFault.{TypeFault}
 use Rattle.awk_types.specs.declared.limit.TypeFault.TheVariants as refused
-use Rattle.awk_pair_levels.specs.Levels.{item_of}
+use Rattle.awk_pair_sides.specs.Levels.{item_of}
 use Rattle.awk_with_field.specs.Field.{put}
 
 abbrev pub one_if : Bool → ℕ

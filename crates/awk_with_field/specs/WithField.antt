@@ -9,8 +9,8 @@ use Rattle.awk_types.specs.Value.{Value, list, values_from}
 use Rattle.awk_types.specs.declared.fault.Fault.{Fault}
 use Rattle.awk_types.specs.declared.fault.Fault.TheVariants.{WrongType}
 use Rattle.awk_frames.specs.Framed.{over, over_type}
-use Rattle.awk_pair.specs.Pairs.{datum_from, leaf_types, pair_refused, pair_type}
-use Rattle.awk_pair.specs.Pairs.{pair_values, some_array}
+use Rattle.awk_pair_operands.specs.Pairs.{datum_from, leaf_types, pair_refused, pair_type}
+use Rattle.awk_pair_operands.specs.Pairs.{pair_values, some_array}
 use Rattle.awk_pair_types.specs.Limits.{limit_refused}
 use Rattle.awk_with_field.specs.Ends.{lists_down}
 use Rattle.awk_with_field.specs.Field.{is_record, names_in, field_type, end_value}

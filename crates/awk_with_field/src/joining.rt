@@ -6,7 +6,7 @@ ghost use Rattle.awk_types.specs.View.{typ_of};
 ghost use Rattle.awk_layout.specs.Array.{IsArrayType};
 ghost use Rattle.awk_layout.specs.Datum.{datum_of, IsDatum};
 ghost use Rattle.awk_layout.specs.declared.datum.Datum.TheVariants.{Arr, One};
-ghost use Rattle.awk_pair.specs.First.{all_data};
+ghost use Rattle.awk_pair_operands.specs.First.{all_data};
 ghost use Rattle.awk_pair_types.specs.Limits.{limit_refused};
 ghost use Rattle.awk_with_field.specs.WithField.{is_wrong, with_type, with_field_at};
 

@@ -5,13 +5,13 @@ ghost use Rattle.awk_types.specs.DataType.{depth as depth_of, depths, greatest, 
 ghost use Rattle.awk_types.specs.Faults.{fault_told};
 ghost use Rattle.awk_types.specs.Simple.{present};
 ghost use Rattle.awk_types.specs.View.{typ_of, fields_of, names_of, types_of};
-ghost use Rattle.awk_pair_levels.specs.Levels.{item_of};
+ghost use Rattle.awk_pair_sides.specs.Levels.{item_of};
 ghost use Rattle.awk_with_field.specs.Depths.{depth_over as depth_joined, one_if as one_where};
 ghost use Rattle.awk_with_field.specs.Depths.{list_told};
 ghost use Rattle.awk_with_field.specs.Field.{put};
 ghost use Rattle.awk_with_field.specs.Places.{place_of};
 
-use awk_pair_levels::present_type;
+use awk_pair_sides::present_type;
 use awk_types::{Fault, Fields, Typ, TypeFault, depth, is_optional};
 
 /// The place of a field, or the number of fields where there is none of the name.

@@ -8,7 +8,7 @@ use Rattle.awk_layout.specs.Single.{own_datum}
 use Rattle.awk_layout.specs.declared.datum.Datum.{Datum}
 use Rattle.awk_layout.specs.declared.datum.Operand.{Operand}
 use Rattle.awk_layout.specs.declared.datum.Operand.TheVariants as operand
-use Rattle.awk_pair.specs.First.{all_data}
+use Rattle.awk_pair_operands.specs.First.{all_data}
 
 pub data_push : (xs : List Datum) (ys zs : List Operand) (i : ℕ) (x y : Datum)
     → slice_get xs i ≡ Some x → zs ≡ ys ++ operand.Of y ∷ [] → y ≡ x

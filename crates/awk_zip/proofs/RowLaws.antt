@@ -27,12 +27,13 @@ use Rattle.awk_open.specs.Opened.{AreLong}
 use Rattle.awk_frames.proofs.FramedItems.{items-have, present-have}
 use Rattle.awk_frames.specs.Framed.{IsFrame}
 use Rattle.awk_frames.specs.Shape.{Shape, leaves, items, missing, ends}
-use Rattle.awk_pair.specs.Answer.{shared_ends}
-use Rattle.awk_pair.specs.First.{all_data}
-use Rattle.awk_pair.specs.Pairs.{below, item_type, leaf_types, pair_type, pair_values, typs}
-use Rattle.awk_pair.specs.Paired.{to_depth, end_type, paired_type, types_at_ends}
-use Rattle.awk_pair_levels.proofs.RangeLaws.{length-map}
-use Rattle.awk_pair_levels.specs.Levels.{opens, some_option, item_of, item_types, level_class}
+use Rattle.awk_pair_operands.specs.Answer.{shared_ends}
+use Rattle.awk_pair_operands.specs.First.{all_data}
+use Rattle.awk_pair_operands.specs.Pairs.{below, item_type, leaf_types, pair_type, pair_values}
+use Rattle.awk_pair_operands.specs.Pairs.{typs}
+use Rattle.awk_pair_operands.specs.Paired.{to_depth, end_type, paired_type, types_at_ends}
+use Rattle.awk_pair_sides.proofs.RangeLaws.{length-map}
+use Rattle.awk_pair_sides.specs.Levels.{opens, some_option, item_of, item_types, level_class}
 use Rattle.awk_zip.proofs.OverLaws.{values-list, list-values}
 
 -- ---- the parts of one row

@@ -13,8 +13,8 @@ use Rattle.awk_columns.specs.Columns.{joined_items, is_present}
 use Rattle.awk_columns.specs.ListClass.{Class, list_type}
 use Rattle.awk_frames.specs.Framed.{over_type}
 use Rattle.awk_frames.specs.Sizes.{levels_refused}
-use Rattle.awk_pair.specs.Paired.{to_depth, end_type, paired_type}
-use Rattle.awk_pair_levels.specs.Levels.{opens, some_option, item_types, level_class}
+use Rattle.awk_pair_operands.specs.Paired.{to_depth, end_type, paired_type}
+use Rattle.awk_pair_sides.specs.Levels.{opens, some_option, item_types, level_class}
 use Rattle.awk_zip.specs.Counted.{lists_refused, inside}
 
 pub list-refused : (k : ℕ) (c : Class) (t : DataType) (vs : List Value)

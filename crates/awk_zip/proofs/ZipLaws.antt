@@ -23,9 +23,10 @@ use Rattle.awk_layout.specs.declared.datum.Datum.TheVariants.{Arr, One}
 use Rattle.awk_layout.proofs.ArrayItems.{length-array_items}
 use Rattle.awk_columns.specs.Columns.{joined_items, is_present}
 use Rattle.awk_frames.specs.Sizes.{levels_refused, sizes_refused}
-use Rattle.awk_pair.specs.Answer.{single_or_fault}
-use Rattle.awk_pair.specs.Pairs.{below, datum_from, leaf_types, lengths_refused, pair_refused}
-use Rattle.awk_pair.specs.Pairs.{pair_type, some_array, type_refused, typs}
+use Rattle.awk_pair_operands.specs.Answer.{single_or_fault}
+use Rattle.awk_pair_operands.specs.Pairs.{below, datum_from, leaf_types, lengths_refused}
+use Rattle.awk_pair_operands.specs.Pairs.{pair_refused}
+use Rattle.awk_pair_operands.specs.Pairs.{pair_type, some_array, type_refused, typs}
 use Rattle.awk_pair_types.specs.Limits.{limit_refused}
 use Rattle.awk_pair_types.proofs.DepthLaws.{never_wrong}
 use Rattle.awk_zip.specs.Counted.{lists_refused}

@@ -7,8 +7,8 @@ use Rattle.awk_types.specs.ItemLimit.{too_many}
 use Rattle.awk_types.specs.Value.{Value}
 use Rattle.awk_types.specs.declared.fault.Fault.{Fault}
 use Rattle.awk_frames.specs.Framed.{over_type}
-use Rattle.awk_pair.specs.Pairs.{below, datum_from, leaf_types, lengths_refused, pair_type}
-use Rattle.awk_pair.specs.Pairs.{pair_values, some_array}
+use Rattle.awk_pair_operands.specs.Pairs.{below, datum_from, leaf_types, lengths_refused, pair_type}
+use Rattle.awk_pair_operands.specs.Pairs.{pair_values, some_array}
 use Rattle.awk_pair_types.specs.Limits.{limit_refused}
 use Rattle.awk_zip.specs.Counted.{lists_refused}
 

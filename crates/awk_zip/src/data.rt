@@ -2,7 +2,7 @@
 ghost use Rattle.std.specs.Prelude.{◌≡◌, map, IfOk, if◌then◌else◌};
 ghost use Rattle.awk_layout.specs.Datum.{datum_of};
 ghost use Rattle.awk_layout.specs.declared.datum.Datum.TheVariants.{Arr, One};
-ghost use Rattle.awk_pair.specs.First.{all_data};
+ghost use Rattle.awk_pair_operands.specs.First.{all_data};
 
 use awk_lanes::NoMemory;
 use awk_layout::{Array, Datum, Datums, Operand, Operands};

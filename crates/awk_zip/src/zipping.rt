@@ -8,8 +8,8 @@ ghost use Rattle.awk_layout.specs.Array.{IsArrayType};
 ghost use Rattle.awk_layout.specs.Datum.{datum_of, IsDatum};
 ghost use Rattle.awk_layout.specs.Typing.{array_type, array_items};
 ghost use Rattle.awk_layout.specs.Valid.{AreNames};
-ghost use Rattle.awk_pair.specs.Answer.{single_or_fault};
-ghost use Rattle.awk_pair.specs.First.{all_data};
+ghost use Rattle.awk_pair_operands.specs.Answer.{single_or_fault};
+ghost use Rattle.awk_pair_operands.specs.First.{all_data};
 ghost use Rattle.awk_pair_types.specs.Limits.{limit_refused};
 ghost use Rattle.awk_zip.specs.Zip.{zip_of, zip_type, zip_values};
 

@@ -13,18 +13,20 @@ use Rattle.awk_layout.specs.declared.datum.Datum.TheVariants.{Arr, One}
 use Rattle.awk_leaves.specs.Table.{binary_judged}
 use Rattle.awk_frames.specs.Framed.{IsFrame, over_type}
 use Rattle.awk_frames.specs.View.{shape_of}
-use Rattle.awk_pair.specs.Answer.{shared_ends}
-use Rattle.awk_pair.specs.First.{all_data}
-use Rattle.awk_pair.specs.Pairs.{pair_type, pair_values}
+use Rattle.awk_pair_operands.specs.Answer.{shared_ends}
+use Rattle.awk_pair_operands.specs.First.{all_data}
+use Rattle.awk_pair_operands.specs.Pairs.{pair_type, pair_values}
 use Rattle.awk_pair_types.specs.Limits.{limit_refused}
+use Rattle.awk_ends.specs.Operands.{leaf_of}
+use Rattle.awk_ends.proofs.LaneLaws.{flat-type}
 use Rattle.awk_arith.specs.AtLeaves.{result_type, row_values, value_or_null}
-use Rattle.awk_arith.specs.Binary.{leaf_of, binary_row, judged_binary}
+use Rattle.awk_arith.specs.Binary.{binary_row, judged_binary}
 use Rattle.awk_arith.proofs.AnswerLaws.{IsResult, datum_made}
 use Rattle.awk_arith.proofs.BinaryLaws.{told_primitive}
 use Rattle.awk_arith.proofs.ColumnLaws.{AreSides}
 use Rattle.awk_arith.proofs.PairedLaws.{told_limit, told_paired, told_rows, columns, columns_judged}
 use Rattle.awk_arith.proofs.PairedLaws.{lane_is, lane_long, result, answer}
-use Rattle.awk_arith.proofs.UnderLaws.{flat-type, frame_small}
+use Rattle.awk_arith.proofs.UnderLaws.{frame_small}
 use Rattle.awk_arith.proofs.operands.paired_leaves.Goals as goal
 
 pub returns-in_err-prim-clause-answer : goal.returns-in_err-prim-clause-answer

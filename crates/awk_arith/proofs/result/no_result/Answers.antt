@@ -5,9 +5,9 @@ use Rattle.awk_layout.specs.Typing.{array_type}
 use Rattle.awk_layout.specs.Valid.{len}
 use Rattle.awk_frames.specs.Framed.{IsFrame, over_type}
 use Rattle.awk_frames.specs.View.{shape_of}
-use Rattle.awk_pair.specs.First.{all_data}
-use Rattle.awk_pair.specs.Pairs.{pair_type}
-use Rattle.awk_arith.proofs.UnderLaws.{flat-type}
+use Rattle.awk_pair_operands.specs.First.{all_data}
+use Rattle.awk_pair_operands.specs.Pairs.{pair_type}
+use Rattle.awk_ends.proofs.LaneLaws.{flat-type}
 use Rattle.awk_arith.proofs.result.no_result.Goals as goal
 
 pub framed-requires : goal.framed-requires

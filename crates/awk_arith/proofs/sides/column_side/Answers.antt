@@ -1,8 +1,8 @@
 use Rattle.std.proofs.Common.{ap, sym}
 use Rattle.std.specs.Prelude.{Some}
-use Rattle.awk_arith.specs.AtLeaves.{leaf_in}
-use Rattle.awk_arith.specs.Sides.{IsLaneOf}
-use Rattle.awk_arith.proofs.SideLaws.{lane_sized}
+use Rattle.awk_ends.specs.Operands.{leaf_in}
+use Rattle.awk_ends.specs.Columns.{IsLaneOf}
+use Rattle.awk_ends.proofs.LaneLaws.{lane_sized}
 use Rattle.awk_arith.proofs.sides.column_side.Goals as goal
 
 pub returns-in-Some : goal.returns-in-Some

@@ -3,8 +3,10 @@ use Rattle.std.proofs.lemmas.Result.{IfOk-weaker}
 use Rattle.std.specs.Prelude.{IfOk}
 use Rattle.awk_layout.specs.Valid.{len}
 use Rattle.awk_layout.specs.declared.datum.Operand.TheVariants as operand
-use Rattle.awk_arith.specs.Sides.{IsLaneAt, IsLaneOf, column_at}
-use Rattle.awk_arith.proofs.SideLaws.{column_is, column_leaves}
+use Rattle.awk_ends.specs.Columns.{IsLaneOf, column_at}
+use Rattle.awk_ends.proofs.LaneLaws.{column_is}
+use Rattle.awk_arith.specs.Sides.{IsLaneAt}
+use Rattle.awk_arith.proofs.SideLaws.{column_leaves}
 use Rattle.awk_arith.proofs.sides.operand_lane.Goals as goal
 
 pub leaf_lane-requires : goal.leaf_lane-requires

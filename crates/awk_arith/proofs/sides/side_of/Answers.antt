@@ -1,6 +1,7 @@
 use Rattle.std.proofs.Common.{sym, subst}
 use Rattle.awk_layout.specs.declared.datum.Operand.TheVariants as operand
-use Rattle.awk_arith.specs.Sides.{IsLaneAt, IsSideAt, column_at}
+use Rattle.awk_ends.specs.Columns.{column_at}
+use Rattle.awk_arith.specs.Sides.{IsLaneAt, IsSideAt}
 use Rattle.awk_arith.proofs.sides.side_of.Goals as goal
 
 pub returns-in-Of : goal.returns-in-Of

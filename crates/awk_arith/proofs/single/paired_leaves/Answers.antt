@@ -12,18 +12,19 @@ use Rattle.awk_layout.specs.declared.datum.Datum.TheVariants.{Arr, One}
 use Rattle.awk_leaves.specs.Table.{unary_judged}
 use Rattle.awk_frames.specs.Framed.{IsFrame, over_type}
 use Rattle.awk_frames.specs.View.{shape_of}
-use Rattle.awk_pair.specs.Answer.{shared_ends}
-use Rattle.awk_pair.specs.First.{all_data}
-use Rattle.awk_pair.specs.Pairs.{pair_type, pair_values, item_type}
+use Rattle.awk_pair_operands.specs.Answer.{shared_ends}
+use Rattle.awk_pair_operands.specs.First.{all_data}
+use Rattle.awk_pair_operands.specs.Pairs.{pair_type, pair_values, item_type}
 use Rattle.awk_pair_types.specs.Limits.{limit_refused}
-use Rattle.awk_arith.specs.AtLeaves.{leaf_in, result_type, row_values}
-use Rattle.awk_arith.specs.AtLeaves.{value_or_null}
+use Rattle.awk_ends.specs.Operands.{leaf_in}
+use Rattle.awk_ends.proofs.LaneLaws.{flat-type}
+use Rattle.awk_arith.specs.AtLeaves.{result_type, row_values, value_or_null}
 use Rattle.awk_arith.specs.Unary.{unary_row, judged_unary}
 use Rattle.awk_arith.proofs.AnswerLaws.{IsResult, datum_made}
 use Rattle.awk_arith.proofs.UnaryLaws.{told_primitive, IsSingle, told_limit, told_paired, told_rows}
 use Rattle.awk_arith.proofs.UnaryLaws.{some_column, column, column_judged, lane_is, lane_long}
 use Rattle.awk_arith.proofs.UnaryLaws.{result, answer}
-use Rattle.awk_arith.proofs.UnderLaws.{flat-type, frame_small}
+use Rattle.awk_arith.proofs.UnderLaws.{frame_small}
 use Rattle.awk_arith.proofs.single.paired_leaves.Goals as goal
 
 pub returns-in_err-prim-clause-answer : goal.returns-in_err-prim-clause-answer

@@ -1,10 +1,8 @@
 use Rattle.std.proofs.Common.{◌≡◌, ◌+◌, ◌<◌, ◌≤◌, List, map}
 use Rattle.std.proofs.Common.{take, length, get_or, set, ap, sym, ◌∙◌}
-use Rattle.std.proofs.Common.{arith, rules}
+use Rattle.std.proofs.Common.{arith}
 use Rattle.std.specs.Prelude.{ℤ, pos}
-use Rattle.std.specs.Int.{w128}
 use Rattle.std.proofs.lemmas.Grind.{common_steps}
-use Rattle.std.proofs.lemmas.Int.{to_z-of_z}
 use Rattle.std.proofs.lemmas.List.{take-map, get_or-map}
 use Rattle.awk_bins.specs.Tallies.{edges_up_to, tallies}
 use Rattle.awk_bins.proofs.TallyLaws.{tallies_none, tallies_few, tallies-more}
@@ -13,24 +11,25 @@ use Rattle.awk_bins.proofs.tallies.tally_row.Goals as goal
 pub loop-i-init : goal.loop-i-init
 loop-i-init g c = record {
   made = c.clear.ensures
-      ∙ tallies_none c.args.edges.now (length c.args.tallies.now) c.requires.size;
+      ∙ tallies_none c.args.edges.now.all.now (length c.args.tallies.now) c.requires.size;
 }
 
 pub overflow_add-tallies : goal.overflow_add-tallies
 overflow_add-tallies g c =
-    let zs : List ℤ = map g.N.Wide.number (take c.loop-i.i c.args.row.now) in
+    let es = c.args.edges.now.all.now in
+    let zs : List ℤ = map g.N.Number.number (take c.loop-i.i c.args.row.now) in
     let p = c.edges_up_to.result in
-    let few = tallies_few c.args.edges.now zs p (omega (arith, c.edges_up_to.ensures.bound)) in
+    let few = tallies_few es zs p (omega (arith, c.edges_up_to.ensures.bound)) in
     let count : length zs ≤ length c.args.row.now = grind (arith, common_steps) in
-    let same : get_or c.loop-i.tallies p 0 ≡ get_or (tallies c.args.edges.now zs) p 0 =
+    let same : get_or c.loop-i.tallies p 0 ≡ get_or (tallies es zs) p 0 =
     ap (λ ts. get_or ts p 0) c.loop-i.invariant.made in
     omega (arith, few, count, same, c.requires.few)
 
 pub loop-i-preserved : goal.loop-i-preserved
 loop-i-preserved g c =
-    let es = c.args.edges.now in
+    let es = c.args.edges.now.all.now in
     let xs = c.args.row.now in
-    let f = g.N.Wide.number in
+    let f = g.N.Number.number in
     let i = c.loop-i.i in
     let p = c.edges_up_to.result in
     let zs : List ℤ = map f xs in
@@ -38,9 +37,8 @@ loop-i-preserved g c =
     let z : get_or zs i (pos 0) ≡ f c.index-row-i.result =
     get_or-map f xs i c.index-row-i.result (pos 0) c.loop-i-test.true
     ∙ ap f (sym c.index-row-i.is) in
-    let whole = to_z-of_z w128 c.wide.result (search rules) in
     let place : p ≡ edges_up_to es (get_or zs i (pos 0)) =
-    c.edges_up_to.ensures.count ∙ ap (edges_up_to es) (whole ∙ c.wide.ensures ∙ sym z) in
+    c.edges_up_to.ensures.count ∙ ap (edges_up_to es) (sym z) in
     let was : c.loop-i.tallies ≡ tallies es (take i zs) =
     c.loop-i.invariant.made ∙ ap (tallies es) (sym (take-map f i xs)) in
     record {

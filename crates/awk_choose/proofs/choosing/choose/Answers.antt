@@ -1,4 +1,4 @@
-use Rattle.awk_pair.specs.First.{all_data}
+use Rattle.awk_pair_operands.specs.First.{all_data}
 use Rattle.awk_pair_types.proofs.DepthLaws.{never_wrong}
 use Rattle.awk_choose.proofs.choosing.choose.Goals as goal
 

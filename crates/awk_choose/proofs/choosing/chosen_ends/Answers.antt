@@ -8,10 +8,10 @@ use Rattle.awk_types.proofs.RefusalLaws.{Gives-Err}
 use Rattle.awk_layout.specs.Kinds.{primitive_of, primitive_of-kind_of}
 use Rattle.awk_layout.specs.Typing.{array_type, array_items}
 use Rattle.awk_layout.specs.Valid.{len}
-use Rattle.awk_pair_levels.specs.Levels.{some_option}
+use Rattle.awk_pair_sides.specs.Levels.{some_option}
 use Rattle.awk_pointwise.specs.Choice.{chosen_items}
-use Rattle.awk_arith.specs.Sides.{data_before, ends_of}
-use Rattle.awk_arith.proofs.SideLaws.{column_is}
+use Rattle.awk_ends.specs.Columns.{data_before, ends_of}
+use Rattle.awk_ends.proofs.LaneLaws.{column_is}
 use Rattle.awk_choose.specs.Ends.{IsColumnEnd, IsEndAt, AreEndsAt, columns_said}
 use Rattle.awk_choose.proofs.EndLaws.{ends-said, ends-judged, ends-present}
 use Rattle.awk_choose.proofs.choosing.chosen_ends.Goals as goal

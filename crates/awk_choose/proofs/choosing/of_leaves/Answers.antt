@@ -10,11 +10,11 @@ use Rattle.awk_layout.specs.Typing.{array_type, array_items}
 use Rattle.awk_layout.specs.declared.datum.Datum.TheVariants.{Arr, One}
 use Rattle.awk_frames.specs.Framed.{IsFrame, over_type}
 use Rattle.awk_frames.specs.View.{shape_of}
-use Rattle.awk_pair.specs.Answer.{shared_ends}
-use Rattle.awk_pair.specs.First.{all_data}
-use Rattle.awk_pair.specs.Pairs.{pair_type, pair_values}
+use Rattle.awk_pair_operands.specs.Answer.{shared_ends}
+use Rattle.awk_pair_operands.specs.First.{all_data}
+use Rattle.awk_pair_operands.specs.Pairs.{pair_type, pair_values}
 use Rattle.awk_pair_types.specs.Limits.{limit_refused}
-use Rattle.awk_arith.proofs.DatumLaws.{IsMade, datum_made}
+use Rattle.awk_ends.proofs.DatumLaws.{IsMade, datum_made}
 use Rattle.awk_choose.specs.Choice.{far, choice_row, result_type, result_values, judged_choice}
 use Rattle.awk_choose.proofs.ChosenLaws.{IsJudged, is_judged, told_paired, columns, told_ends}
 use Rattle.awk_choose.proofs.ChosenLaws.{items, long, type_is, is_made, answer}

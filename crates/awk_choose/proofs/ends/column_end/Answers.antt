@@ -3,7 +3,7 @@ use Rattle.awk_layout.specs.Typing.{array_items}
 use Rattle.awk_open.specs.Opened.{IsOpened}
 use Rattle.awk_open.specs.declared.opening.Opened.TheVariants as opened
 use Rattle.awk_columns.specs.InOrder.{IsInOrder}
-use Rattle.awk_arith.proofs.SideLaws.{lane_values-at}
+use Rattle.awk_ends.proofs.LaneLaws.{lane_values-at}
 use Rattle.awk_choose.proofs.ColumnLaws.{leaves_end}
 use Rattle.awk_choose.proofs.ends.column_end.Goals as goal
 

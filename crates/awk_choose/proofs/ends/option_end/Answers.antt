@@ -1,6 +1,6 @@
 use Rattle.std.proofs.Common.{sym, subst}
 use Rattle.std.specs.Prelude.{Some, None}
-use Rattle.awk_arith.specs.Sides.{IsLaneOf}
+use Rattle.awk_ends.specs.Columns.{IsLaneOf}
 use Rattle.awk_choose.specs.Ends.{IsColumnEnd}
 use Rattle.awk_choose.specs.declared.ends.End.TheVariants as end
 use Rattle.awk_choose.proofs.ColumnLaws.{nulls_end, indexed_end}

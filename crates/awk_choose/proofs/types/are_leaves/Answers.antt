@@ -2,7 +2,7 @@ use Rattle.std.proofs.Common.{◌∙◌, ap, sym, arith, map}
 use Rattle.awk_types.specs.Predicates.{is_leaf}
 use Rattle.awk_types.specs.Simple.{present}
 use Rattle.awk_layout.specs.Typing.{array_type}
-use Rattle.awk_pair_levels.proofs.TestLaws.{all-map, all_next, all_not, all_end}
+use Rattle.awk_pair_sides.proofs.TestLaws.{all-map, all_next, all_not, all_end}
 use Rattle.awk_choose.proofs.types.are_leaves.Goals as goal
 
 pub loop-i-init : goal.loop-i-init

@@ -1,14 +1,14 @@
 use Rattle.std.proofs.Common.{◌≡◌, ◌∙◌, sym, subst, arith, map, length, refl, false}
-use Rattle.awk_pair.specs.First.{all_data, AreFirstRows}
+use Rattle.awk_pair_operands.specs.First.{all_data, AreFirstRows}
 use Rattle.awk_pair.specs.Outcomes.{reach_of}
-use Rattle.awk_pair.specs.Pairs.{reach, datum_side}
-use Rattle.awk_pair_levels.specs.Sides.{equally_long}
+use Rattle.awk_pair_operands.specs.Pairs.{reach, datum_side}
+use Rattle.awk_pair_sides.specs.Sides.{equally_long}
 use Rattle.awk_frames.specs.View.{shape_of}
 use Rattle.awk_pair.proofs.PairLaws.{AtHand, at_hand, said_unequal, said_large_first, said_large}
 use Rattle.awk_pair.proofs.PairLaws.{said_pairs, paired_of, wrong_type, uneven, uneven_arrays}
 use Rattle.awk_frames.specs.Framed.{IsFrame}
-use Rattle.awk_pair.specs.Answer.{shared_ends}
-use Rattle.awk_pair.proofs.TypedLaws.{pairs_typed, pairs_frame}
+use Rattle.awk_pair_operands.specs.Answer.{shared_ends}
+use Rattle.awk_pair_operands.proofs.TypedLaws.{pairs_typed, pairs_frame}
 use Rattle.awk_pair.proofs.pairing.paired.Goals as goal
 
 pub returns-then-count-gt-ITEM_LIMIT-clause-answer :

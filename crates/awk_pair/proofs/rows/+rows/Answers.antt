@@ -1,9 +1,11 @@
 use Rattle.std.proofs.Common.{◌∙◌, sym, subst, map}
 use Rattle.awk_layout.specs.Typing.{array_type}
 use Rattle.awk_pair.specs.Outcomes.{reach_of, ArePairs}
-use Rattle.awk_pair_levels.specs.Rows.{rows_at, AreInner, ArePresent}
-use Rattle.awk_pair.specs.Paired.{takes_nulls}
-use Rattle.awk_pair_levels.specs.Levels.{some_option}
+use Rattle.awk_pair_sides.specs.Rows.{rows_at}
+use Rattle.awk_pair_levels.specs.Inner.{AreInner}
+use Rattle.awk_pair_present.specs.Present.{ArePresent}
+use Rattle.awk_pair_operands.specs.Paired.{takes_nulls}
+use Rattle.awk_pair_sides.specs.Levels.{some_option}
 use Rattle.awk_frames.specs.Shape.{leaves, items, missing}
 use Rattle.awk_frames.specs.View.{shape_of}
 use Rattle.awk_pair.proofs.EndLaws.{end_pairs}

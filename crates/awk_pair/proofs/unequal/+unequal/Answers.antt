@@ -4,16 +4,17 @@ use Rattle.std.specs.List.{list_any, flat_map, range_with_len}
 use Rattle.awk_types.specs.Predicates.{is_list}
 use Rattle.awk_layout.specs.Typing.{array_type}
 use Rattle.awk_types.specs.ItemLimit.{item_limit}
-use Rattle.awk_pair_levels.specs.Levels.{stretches}
-use Rattle.awk_pair_levels.specs.Sides.{differ, inner_rows}
-use Rattle.awk_pair_levels.specs.Rows.{rows_at, AreInner}
+use Rattle.awk_pair_sides.specs.Levels.{stretches}
+use Rattle.awk_pair_sides.specs.Sides.{differ, inner_rows}
+use Rattle.awk_pair_sides.specs.Rows.{rows_at}
+use Rattle.awk_pair_levels.specs.Inner.{AreInner}
 use Rattle.awk_pair_levels.specs.Shares.{share_types, share_rows, length_at, is_lists, AreAsLong}
 use Rattle.awk_pair_levels.specs.Shares.{AreEven}
 use Rattle.awk_pair_levels.proofs.ItemLaws.{items_long}
-use Rattle.awk_pair_levels.proofs.LevelTypes.{presents-bare, some_listed}
+use Rattle.awk_pair_sides.proofs.LevelTypes.{presents-bare, some_listed}
 use Rattle.awk_pair_levels.proofs.SharedRows.{shares_long, shares_lists, even_shares}
 use Rattle.awk_pair_levels.proofs.SharedRows.{types_alone, rows_alone}
-use Rattle.awk_pair.specs.Paired.{any_uneven}
+use Rattle.awk_pair_operands.specs.Paired.{any_uneven}
 use Rattle.awk_pair.proofs.OutcomeLaws.{lists_unequal}
 use Rattle.awk_pair.proofs.UnequalLaws.{no_level, goes_same, some_levels, some_opens, nulls_same}
 use Rattle.awk_pair.proofs.UnequalLaws.{lists_same}

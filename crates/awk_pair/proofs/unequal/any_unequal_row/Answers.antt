@@ -1,6 +1,6 @@
 use Rattle.std.proofs.Common.{sym, refl, map, arith, ◌∙◌}
 use Rattle.awk_layout.specs.Typing.{array_type}
-use Rattle.awk_pair_levels.specs.Rows.{rows_at}
+use Rattle.awk_pair_sides.specs.Rows.{rows_at}
 use Rattle.awk_pair.proofs.UnequalLaws.{no_level, alone_long, alone_uneven, place_uneven}
 use Rattle.awk_pair.proofs.UnequalLaws.{places-of-all, some_place, none_next, none_all}
 use Rattle.awk_pair.proofs.unequal.any_unequal_row.Goals as goal

@@ -1,5 +1,5 @@
 use Rattle.std.proofs.Common.{arith}
-use Rattle.awk_pair_levels.proofs.ShareLaws.{long_get}
+use Rattle.awk_pair_sides.proofs.PlaceLaws.{long_get}
 use Rattle.awk_pair.proofs.UnequalLaws.{alone_is, alone_push, alone_all}
 use Rattle.awk_pair.proofs.unequal.row_alone.Goals as goal
 

@@ -1,7 +1,7 @@
 use Rattle.std.proofs.Common.{◌∙◌, arith, refl, sym, length}
 use Rattle.std.proofs.lemmas.Option.{slice_get_read}
 use Rattle.awk_pair_levels.specs.Shares.{is_lists}
-use Rattle.awk_pair_levels.proofs.TestLaws.{all_next, all_not, all_end}
+use Rattle.awk_pair_sides.proofs.TestLaws.{all_next, all_not, all_end}
 use Rattle.awk_pair_levels.proofs.alike.all_lists.Goals as goal
 
 pub returns-then-not-gives_lists : goal.returns-then-not-gives_lists

@@ -2,7 +2,7 @@ use Rattle.std.proofs.Common.{◌∙◌, arith, refl, sym, length}
 use Rattle.std.proofs.lemmas.Option.{slice_get_read}
 use Rattle.awk_pair_levels.specs.Shares.{length_of, is_alike}
 use Rattle.awk_pair_levels.proofs.EvenLaws.{as_long_get}
-use Rattle.awk_pair_levels.proofs.TestLaws.{all_next, all_not, all_end}
+use Rattle.awk_pair_sides.proofs.TestLaws.{all_next, all_not, all_end}
 use Rattle.awk_pair_levels.proofs.alike.are_alike.Goals as goal
 
 pub is_alike-requires-clause-long : goal.is_alike-requires-clause-long

@@ -2,7 +2,7 @@ use Rattle.std.proofs.Common.{arith, refl, ap, length, true}
 use Rattle.std.proofs.lemmas.Option.{slice_get_read}
 use Rattle.awk_pair_levels.specs.Shares.{is_lists}
 use Rattle.awk_pair_levels.proofs.EvenLaws.{among_get}
-use Rattle.awk_pair_levels.proofs.TestLaws.{any_next}
+use Rattle.awk_pair_sides.proofs.TestLaws.{any_next}
 use Rattle.awk_pair_levels.proofs.alike.lead_of.Goals as goal
 
 pub returns-in-Lists : goal.returns-in-Lists

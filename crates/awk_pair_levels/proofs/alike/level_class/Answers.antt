@@ -1,7 +1,7 @@
 use Rattle.std.proofs.Common.{◌≡◌, ◌∙◌, ap, sym, subst, arith, refl, ◌∷◌, [], length}
 use Rattle.std.specs.List.{flat_map}
 use Rattle.std.proofs.lemmas.Option.{slice_get_read}
-use Rattle.awk_pair_levels.specs.Levels.{common_class}
+use Rattle.awk_pair_sides.specs.Levels.{common_class}
 use Rattle.awk_pair_levels.specs.Shares.{share_class, class_list}
 use Rattle.awk_pair_levels.proofs.ClassLaws.{class_from, class_begun, class_same, class_differs}
 use Rattle.awk_pair_levels.proofs.ClassLaws.{class_any}

@@ -2,9 +2,9 @@ use Rattle.std.proofs.Common.{ap, sym, refl, map, ◌∙◌, subst}
 use Rattle.std.specs.List.{list_any}
 use Rattle.awk_types.specs.Predicates.{is_list}
 use Rattle.awk_layout.specs.Typing.{array_type}
-use Rattle.awk_pair_levels.specs.Levels.{stretches}
+use Rattle.awk_pair_sides.specs.Levels.{stretches}
 use Rattle.awk_pair_levels.specs.Shares.{is_lists, AreAsLong, IsShared}
-use Rattle.awk_pair_levels.proofs.LevelTypes.{presents-bare, some_listed}
+use Rattle.awk_pair_sides.proofs.LevelTypes.{presents-bare, some_listed}
 use Rattle.awk_pair_levels.proofs.SharedRows.{shares_long, shares_lists, below_is}
 use Rattle.awk_pair_levels.proofs.below.rows_below.Goals as goal
 

@@ -5,7 +5,7 @@ use Rattle.awk_types.specs.Simple.{present}
 use Rattle.awk_layout.specs.Typing.{array_type}
 use Rattle.awk_pair_levels.specs.Shares.{share_column}
 use Rattle.awk_pair_levels.proofs.ItemLaws.{opens_first}
-use Rattle.awk_pair_levels.proofs.TestLaws.{any_next, any_found, any_end}
+use Rattle.awk_pair_sides.proofs.TestLaws.{any_next, any_found, any_end}
 use Rattle.awk_pair_levels.proofs.items.opens_below.Goals as goal
 
 pub loop-i-init : goal.loop-i-init

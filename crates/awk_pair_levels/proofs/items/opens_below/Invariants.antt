@@ -3,7 +3,7 @@ use Rattle.std.specs.List.{list_any}
 use Rattle.awk_types.specs.Predicates.{is_list}
 use Rattle.awk_types.specs.Simple.{present}
 use Rattle.awk_layout.specs.Typing.{array_type}
-use Rattle.awk_pair_levels.specs.Levels.{opens}
+use Rattle.awk_pair_sides.specs.Levels.{opens}
 use Rattle.awk_pair_levels.specs.Shares.{share_types, share_column}
 use Rattle.awk_pair_levels.proofs.items.opens_below.Given as goal
 

@@ -1,9 +1,9 @@
 use Rattle.std.proofs.Common.{◌&&◌, ap, sym, ◌∙◌}
 use Rattle.awk_types.specs.Predicates.{is_list_or_unknown}
 use Rattle.awk_layout.specs.Typing.{array_type}
-use Rattle.awk_pair_levels.specs.Levels.{is_single}
+use Rattle.awk_pair_sides.specs.Levels.{is_single}
 use Rattle.awk_pair_levels.proofs.ShareLaws.{items_stretched, items_other, role_listed}
-use Rattle.awk_pair_levels.proofs.TestLaws.{second}
+use Rattle.awk_pair_sides.proofs.TestLaws.{second}
 use Rattle.awk_pair_levels.proofs.shares.share_of.Goals as goal
 
 pub single_items-requires : goal.single_items-requires

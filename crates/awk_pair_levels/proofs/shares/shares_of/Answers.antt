@@ -1,8 +1,9 @@
 use Rattle.std.proofs.Common.{subst, arith}
 use Rattle.awk_layout.specs.Typing.{array_type}
-use Rattle.awk_pair_levels.specs.Levels.{role}
+use Rattle.awk_pair_sides.specs.Levels.{role}
 use Rattle.awk_pair_levels.specs.Shares.{IsShare, AreShares}
-use Rattle.awk_pair_levels.proofs.ShareLaws.{long_get, share_push, share_all}
+use Rattle.awk_pair_sides.proofs.PlaceLaws.{long_get}
+use Rattle.awk_pair_levels.proofs.ShareLaws.{share_push, share_all}
 use Rattle.awk_pair_levels.proofs.shares.shares_of.Goals as goal
 
 pub loop-i-preserved : goal.loop-i-preserved

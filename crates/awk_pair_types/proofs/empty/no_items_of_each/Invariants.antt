@@ -1,6 +1,6 @@
 use Rattle.std.proofs.Common.{◌≡◌, ◌≤◌, take, map}
-use Rattle.awk_pair.specs.First.{all_data}
-use Rattle.awk_pair.specs.Pairs.{typs}
+use Rattle.awk_pair_operands.specs.First.{all_data}
+use Rattle.awk_pair_operands.specs.Pairs.{typs}
 use Rattle.awk_pair_types.specs.Emptied.{emptied, heights}
 use Rattle.awk_pair_types.proofs.empty.no_items_of_each.Given as goal
 

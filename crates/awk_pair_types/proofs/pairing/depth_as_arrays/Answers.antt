@@ -1,5 +1,5 @@
 use Rattle.std.proofs.Common.{◌∙◌, sym, arith}
-use Rattle.awk_pair.specs.First.{all_data}
+use Rattle.awk_pair_operands.specs.First.{all_data}
 use Rattle.awk_pair_types.proofs.DepthLaws.{depth_of_arrays, depth_of_single}
 use Rattle.awk_pair_types.proofs.EmptyLaws.{data_some}
 use Rattle.awk_pair_types.proofs.pairing.depth_as_arrays.Goals as goal

@@ -6,9 +6,9 @@ use Rattle.awk_columns.specs.InOrder.{AreParts}
 use Rattle.awk_frames.specs.Framed.{IsFrame}
 use Rattle.awk_frames.specs.Shape.{shape}
 use Rattle.awk_frames.specs.View.{shape_of}
-use Rattle.awk_pair.specs.Answer.{shared_ends, shared_shape, single_or_fault}
-use Rattle.awk_pair.specs.First.{all_data}
-use Rattle.awk_pair.specs.Pairs.{has_wrong_end}
+use Rattle.awk_pair_operands.specs.Answer.{shared_ends, shared_shape, single_or_fault}
+use Rattle.awk_pair_operands.specs.First.{all_data}
+use Rattle.awk_pair_operands.specs.Pairs.{has_wrong_end}
 use Rattle.awk_pair_types.specs.Emptied.{emptied}
 use Rattle.awk_pair_types.proofs.EmptyLaws.{data_some, emptied_some, no_columns, no_fault}
 use Rattle.awk_pair_types.proofs.EmptyLaws.{no_rows, no_shape}

@@ -1,6 +1,6 @@
 use Rattle.std.proofs.Common.{sym, subst}
 use Rattle.std.specs.Prelude.{Some, None}
-use Rattle.awk_pair.specs.First.{all_data}
+use Rattle.awk_pair_operands.specs.First.{all_data}
 use Rattle.awk_pair_types.specs.Emptied.{HasTypes}
 use Rattle.awk_pair_types.proofs.DepthLaws.{all_depths}
 use Rattle.awk_pair_types.proofs.pairing.reach_as_arrays.Goals as goal

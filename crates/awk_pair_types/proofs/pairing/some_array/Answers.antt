@@ -1,7 +1,7 @@
 use Rattle.std.proofs.Common.{◌∙◌, sym, arith}
 use Rattle.awk_layout.specs.Single.{own_datum}
-use Rattle.awk_pair.specs.Pairs.{is_array}
-use Rattle.awk_pair_levels.proofs.TestLaws.{any-map, any_next, any_found, any_end}
+use Rattle.awk_pair_operands.specs.Pairs.{is_array}
+use Rattle.awk_pair_sides.proofs.TestLaws.{any-map, any_next, any_found, any_end}
 use Rattle.awk_pair_types.proofs.pairing.some_array.Goals as goal
 
 pub loop-i-init : goal.loop-i-init

@@ -1,4 +1,4 @@
-use Rattle.std.proofs.Common.{refl, sym, ap, ◌∙◌, arith}
+use Rattle.std.proofs.Common.{refl, sym, arith}
 use Rattle.awk_edge.proofs.Known.{Appends-none}
 use Rattle.awk_session.specs.State.{denoted_state}
 use Rattle.awk_session.proofs.CostLaws.{line_in-blank}

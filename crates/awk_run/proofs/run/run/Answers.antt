@@ -1,14 +1,14 @@
-use Rattle.std.proofs.Common.{◌≡◌, false, not, refl, ap, arith, [], ◌∷◌, ◌++◌, IsTrue, inr}
+use Rattle.std.proofs.Common.{◌≡◌, false, refl, ap, arith, [], ◌∷◌, ◌++◌, IsTrue, inr}
 use Rattle.std.proofs.lemmas.Bool.{false_from_ne_true}
 use Rattle.awk_query.specs.declared.reading.Reading.TheVariants.{First}
-use Rattle.awk_session.specs.Framing.{session_framing, raw_asked}
+use Rattle.awk_framing.specs.Framing.{session_framing, raw_asked}
 use Rattle.awk_session.proofs.SpendLaws.{spend_more}
 use Rattle.awk_run.proofs.Progress.{at_start, reading_now, answer_unit}
 use Rattle.awk_run.proofs.Counts.{still_flushed, still_told}
 use Rattle.awk_run.proofs.Ends.{none_left, ends_fine, ends_faults, ends_read, ends_large, ends_many}
 use Rattle.awk_run.proofs.Ends.{ends_memory, ends_unanswered, ends_broken}
 use Rattle.awk_run.proofs.Spends.{spends_between, spends_within}
-use Rattle.awk_run.proofs.UnitsTaken.{take_next, unit_from}
+use Rattle.awk_units.proofs.UnitsTaken.{take_next, unit_from}
 use Rattle.awk_run.proofs.run.run.Goals as goal
 
 pub returns-in-Err-Read-clause-session : goal.returns-in-Err-Read-clause-session

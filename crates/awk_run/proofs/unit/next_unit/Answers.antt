@@ -1,6 +1,5 @@
-use Rattle.std.proofs.Common.{◌≡◌, true, sym, ◌∙◌}
-use Rattle.awk_session.specs.Framing.{session_framing}
-use Rattle.awk_run.proofs.UnitParts.{takes_both, takes_line_alone}
+use Rattle.awk_framing.specs.Framing.{session_framing}
+use Rattle.awk_units.proofs.UnitParts.{takes_both, takes_line_alone}
 use Rattle.awk_run.proofs.unit.next_unit.Goals as goal
 
 pub returns-in-Ok-raw-clause-unit : goal.returns-in-Ok-raw-clause-unit

@@ -1,5 +1,5 @@
 use Rattle.std.proofs.Common.{sym, arith}
-use Rattle.awk_session.proofs.Readings.{raw_asked-blank}
+use Rattle.awk_framing.proofs.FramingLaws.{raw_asked-blank}
 use Rattle.awk_run.proofs.unit.raw_count.Goals as goal
 
 pub returns-then-is_blank : goal.returns-then-is_blank

@@ -1,9 +1,9 @@
 use Rattle.std.proofs.Common.{◌+◌, ◌++◌, [], ◌∷◌, length, ap, sym, ◌∙◌, subst}
 use Rattle.std.specs.Result.{result_ok}
-use Rattle.awk_eval.specs.Variables.{Environment, denoted}
-use Rattle.awk_session.specs.Answer.{answer_text}
-use Rattle.awk_session.specs.Framing.{reading_behind}
-use Rattle.awk_session.specs.ReadView.{read_view}
+use Rattle.awk_eval.specs.Variables.{Environment}
+use Rattle.awk_answer.specs.Answer.{answer_text}
+use Rattle.awk_framing.specs.Framing.{reading_behind}
+use Rattle.awk_framing.specs.ReadView.{read_view}
 use Rattle.awk_session.specs.Replies.{Reply, reply, step_of, step_read}
 use Rattle.awk_session.specs.Spending.{TakesCost}
 use Rattle.awk_session.specs.State.{State}

@@ -6,9 +6,9 @@ use Rattle.awk_query.specs.Allowed.{IsAllowedLine}
 use Rattle.awk_query.specs.Line.{keys_of, texts, parts}
 use Rattle.awk_query.specs.LineView.{line_view}
 use Rattle.awk_types.proofs.DistinctLaws.{AreDistinct-true}
-use Rattle.awk_session.specs.Cost.{form_size}
-use Rattle.awk_session.proofs.CostLaws.{load_cost-bytes}
-use Rattle.awk_session.proofs.ReadLaws.{are_texts-holds}
+use Rattle.awk_load_line.specs.LoadCost.{form_width}
+use Rattle.awk_load_line.proofs.LoadLaws.{load_cost-bytes}
+use Rattle.awk_load_line.proofs.ReadLaws.{are_texts-holds}
 use Rattle.awk_session.proofs.reply.reply_line.Goals as goal
 
 pub bind_texts-requires : goal.bind_texts-requires
@@ -26,13 +26,13 @@ bind_raw-requires g c = record {
 pub returns-in-Load-clause-cost : goal.returns-in-Load-clause-cost
 returns-in-Load-clause-cost g c =
     let here = text_len (texts (members_view c.in-Load.buffers.entries)) in
-    let more = load_cost-bytes (form_size (view c.in-Load.form)) here
+    let more = load_cost-bytes (form_width (view c.in-Load.form)) here
     (here + length c.args.raw.now) (omega arith) in
     rw c.in-Load.is (omega (arith, c.bind_texts.ensures.cost, more))
 
 pub returns-in-LoadRaw-clause-cost : goal.returns-in-LoadRaw-clause-cost
 returns-in-LoadRaw-clause-cost g c =
     let all = length c.args.raw.now in
-    let more = load_cost-bytes (form_size (view c.in-LoadRaw.form)) all
+    let more = load_cost-bytes (form_width (view c.in-LoadRaw.form)) all
     (text_len (parts c.in-LoadRaw.parts) + all) (omega arith) in
     rw c.in-LoadRaw.is (omega (arith, c.bind_raw.ensures.cost, more))

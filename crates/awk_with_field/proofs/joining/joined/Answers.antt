@@ -10,9 +10,10 @@ use Rattle.awk_layout.specs.Typing.{array_type, array_items}
 use Rattle.awk_layout.specs.declared.datum.Datum.TheVariants.{Arr, One}
 use Rattle.awk_frames.specs.Framed.{IsFrame, over_type}
 use Rattle.awk_frames.specs.View.{shape_of}
-use Rattle.awk_pair.specs.Answer.{shared_ends}
-use Rattle.awk_pair.specs.First.{all_data}
-use Rattle.awk_pair.specs.Pairs.{leaf_types, pair_refused, pair_type, pair_values, some_array}
+use Rattle.awk_pair_operands.specs.Answer.{shared_ends}
+use Rattle.awk_pair_operands.specs.First.{all_data}
+use Rattle.awk_pair_operands.specs.Pairs.{leaf_types, pair_refused, pair_type, pair_values}
+use Rattle.awk_pair_operands.specs.Pairs.{some_array}
 use Rattle.awk_with_field.specs.Field.{names_in, end_value}
 use Rattle.awk_with_field.specs.WithField.{end_of, with_type, with_field_at}
 use Rattle.awk_with_field.proofs.AnswerLaws.{told_type, told_pair, IsResult, datum_made, made}

@@ -6,8 +6,8 @@ use Rattle.awk_types.specs.View.{typ_of}
 use Rattle.awk_layout.specs.Typing.{array_type}
 use Rattle.awk_frames.specs.Framed.{IsFrame, over_type}
 use Rattle.awk_frames.specs.View.{shape_of}
-use Rattle.awk_pair.specs.First.{all_data}
-use Rattle.awk_pair.specs.Pairs.{leaf_types, pair_type}
+use Rattle.awk_pair_operands.specs.First.{all_data}
+use Rattle.awk_pair_operands.specs.Pairs.{leaf_types, pair_type}
 use Rattle.awk_pair_types.proofs.DepthLaws.{never_wrong}
 use Rattle.awk_pair_types.specs.Limits.{limit_refused}
 use Rattle.awk_with_field.specs.WithField.{with_type}

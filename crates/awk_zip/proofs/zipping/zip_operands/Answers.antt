@@ -4,7 +4,7 @@ use Rattle.awk_types.specs.Faults.{fault_told}
 use Rattle.awk_types.specs.View.{typ_of}
 use Rattle.awk_types.proofs.RefusalLaws.{Gives-Err, refused_or-Ok}
 use Rattle.awk_layout.specs.Datum.{datum_of, IsDatum}
-use Rattle.awk_pair.specs.First.{all_data}
+use Rattle.awk_pair_operands.specs.First.{all_data}
 use Rattle.awk_pair_types.specs.Limits.{limit_refused}
 use Rattle.awk_zip.specs.Counted.{size_if}
 use Rattle.awk_zip.specs.Zip.{zip_of, zip_type}

@@ -7,9 +7,9 @@ use Rattle.awk_frames.specs.Framed.{IsFrame, over_type}
 use Rattle.awk_frames.specs.View.{shape_of}
 use Rattle.awk_open.proofs.OpenedKinds.{type-rows}
 use Rattle.awk_open.specs.Opened.{AreLong}
-use Rattle.awk_pair.specs.Answer.{shared_ends}
-use Rattle.awk_pair.specs.First.{all_data}
-use Rattle.awk_pair.specs.Pairs.{leaf_types, pair_type, pair_values}
+use Rattle.awk_pair_operands.specs.Answer.{shared_ends}
+use Rattle.awk_pair_operands.specs.First.{all_data}
+use Rattle.awk_pair_operands.specs.Pairs.{leaf_types, pair_type, pair_values}
 use Rattle.awk_zip.proofs.OverLaws.{map-id, overs-same}
 use Rattle.awk_zip.proofs.RowLaws.{columns_length, types_length, first_long, columns_long}
 use Rattle.awk_zip.proofs.RowLaws.{rows_items, ends_typed}

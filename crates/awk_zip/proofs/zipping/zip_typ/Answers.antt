@@ -9,8 +9,8 @@ use Rattle.awk_layout.specs.Valid.{len, AreNames}
 use Rattle.awk_frames.specs.Framed.{IsFrame, over_type}
 use Rattle.awk_frames.specs.View.{shape_of}
 use Rattle.awk_open.proofs.OpenedKinds.{type-rows}
-use Rattle.awk_pair.specs.First.{all_data}
-use Rattle.awk_pair.specs.Pairs.{pair_type}
+use Rattle.awk_pair_operands.specs.First.{all_data}
+use Rattle.awk_pair_operands.specs.Pairs.{pair_type}
 use Rattle.awk_pair_types.specs.Limits.{limit_refused}
 use Rattle.awk_pair_types.proofs.DepthLaws.{never_wrong}
 use Rattle.awk_zip.proofs.RowLaws.{columns_length}

@@ -1,4 +1,4 @@
-use Rattle.std.proofs.Common.{◌≡◌, refl, ◌∙◌}
+use Rattle.std.proofs.Common.{refl}
 use Rattle.awk_gather.specs.Peeled.{IsPickedOpt}
 use Rattle.awk_nulls.specs.Lanes.{firsts_lane}
 use Rattle.awk_nulls.proofs.Spans.{lists_within}

@@ -1,0 +1,4 @@
+pub mod LineEnds
+pub mod Parts
+pub mod PackLaws
+pub mod SendingLaws

@@ -1,0 +1,6 @@
+pub mod SuffixLaws
+pub mod LiftSteps
+pub mod SideLaws
+pub mod SingleLaws
+pub mod BuiltLaws
+pub mod NumberLaws

@@ -1,0 +1,4 @@
+pub mod Suffix
+pub mod Joined
+pub mod Built
+pub mod Numbers

@@ -1,0 +1,4 @@
+pub mod LeafLaws
+pub mod ColumnLaws
+pub mod LaneLaws
+pub mod DatumLaws

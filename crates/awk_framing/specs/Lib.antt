@@ -1,0 +1,4 @@
+pub mod Framing
+pub mod Needs
+pub mod ReadView
+pub mod Listed

@@ -1,0 +1,3 @@
+pub mod RawLaws
+pub mod LoadLaws
+pub mod ReadLaws

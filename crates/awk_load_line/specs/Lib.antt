@@ -1,0 +1,3 @@
+pub mod Parts
+pub mod Load
+pub mod LoadCost

@@ -1,0 +1,99 @@
+-- Lists whose items are of a type that is no option: none of them is null.
+use Rattle.std.specs.Prelude.{◌≡◌, ℕ, zero, suc, ◌+◌, ◌-◌, ◌<◌, ◌≤◌, refl, false, List, ◌∷◌, map}
+use Rattle.std.specs.Prelude.{sum, length}
+use Rattle.std.specs.Prelude.{Some, None}
+use Rattle.std.proofs.Common.{arith, ap, sym, ◌∙◌, subst}
+use Rattle.awk_types.specs.DataType.{DataType}
+use Rattle.awk_types.specs.Simple.{present, simple, simple_value, is_option}
+use Rattle.awk_types.specs.Value.{Value, null, int, truth, list, row, alt, value_list}
+use Rattle.awk_types.specs.ItemLimit.{item_limit}
+use Rattle.awk_types.proofs.SimpleLaws.{simple_twice, present_stays}
+use Rattle.awk_lanes.specs.Column.{Column}
+use Rattle.awk_lanes.specs.Places.{size_of, at, place_at}
+use Rattle.awk_layout.specs.Layout.{Layout}
+use Rattle.awk_layout.specs.Item.{run}
+use Rattle.awk_layout.specs.Typing.{layout_type, array_type}
+use Rattle.awk_layout.specs.Valid.{len}
+use Rattle.awk_gather.specs.Arrays.{array_item}
+use Rattle.awk_columns.specs.Columns.{present_values}
+use Rattle.awk_columns.specs.Joined.{JoinsLists, total}
+use Rattle.awk_columns.specs.ListClass.{Class}
+use Rattle.awk_columns.specs.Opened.{AreLists, items_at, all_items_at}
+use Rattle.awk_axis.specs.DropNone.{drop_none_function}
+use Rattle.awk_axis.specs.Mapped.{AreGiven}
+use Rattle.awk_axis.specs.Spoils.{too_many}
+use Rattle.awk_axis.specs.declared.causes.Spoil.TheVariants.{Size}
+use Rattle.awk_nulls.specs.IsNone.{is_null}
+use Rattle.awk_nulls.specs.Lanes.{span_length}
+use Rattle.awk_nulls.proofs.FirstLaws.{start_there}
+use Rattle.awk_nulls.proofs.NullLaws.{no_null}
+use Rattle.awk_nulls.proofs.OptionNodes.{HasItems, run_stays}
+use Rattle.awk_nulls.proofs.Spans.{count_lists, over_limit, within_limit}
+
+shown_first : (v : Value) (vs : List Value) → is_null v ≡ false
+    → present_values (v ∷ vs) ≡ v ∷ present_values vs
+shown_first null vs h = cc
+shown_first (int z) vs h = refl
+shown_first (truth b) vs h = refl
+shown_first (list ws) vs h = refl
+shown_first (row ws) vs h = refl
+shown_first (alt k v) vs h = refl
+
+run_shown : (f : ℕ → Value) (a n : ℕ) → ((k : ℕ) → k < n → is_null (f (a + k)) ≡ false)
+    → present_values (value_list (run f a n)) ≡ value_list (run f a n)
+run_shown f a zero h = refl
+run_shown f a (suc n) h =
+    let z : a + 0 ≡ a = omega arith in
+    shown_first (f a) (value_list (run f (suc a) n))
+    (subst (λ m. is_null (f m) ≡ false) z (h 0 (omega arith)))
+    ∙ ap (λ ws. f a ∷ ws) (run_shown f (suc a) n (λ k p.
+    subst (λ m. is_null (f m) ≡ false) (more a k) (h (suc k) (omega (arith, p)))))
+  where
+    more : (a k : ℕ) → a + suc k ≡ suc a + k
+    more a k = omega arith
+
+module _ (class : Class) (s t : Column) (y : Layout) (a : AreLists class s t y)
+    (plain : is_option (array_type y) ≡ false) where
+  kept : (i : ℕ) → i < size_of s → present_values (items_at s t y i) ≡ items_at s t y i
+  kept i p = run_shown (array_item y) (place_at s i) (span_length s t i) (λ k q.
+      let b = start_there (len y) (at s i) (at t i) (a.spans.ordered i p) (omega (arith, q)) in
+      no_null y (place_at s i + k) a.valid plain (omega (arith, q, b.1)))
+
+  count_is : sum (map (λ l. length (present_values l)) (all_items_at s t y)) ≡ total s t y
+  count_is =
+      count_lists (λ vs. present_values vs) s t y (items_at s t y) (λ i p. ap length (kept i p))
+
+  pub kept_spoilt : item_limit < total s t y
+      → drop_none_function.spoil (array_type y) (all_items_at s t y) ≡ Some Size
+  kept_spoilt q = ap too_many count_is ∙ over_limit (total s t y) q
+
+  pub kept_fine : total s t y ≤ item_limit
+      → drop_none_function.spoil (array_type y) (all_items_at s t y) ≡ None
+  kept_fine q = ap too_many count_is ∙ within_limit (total s t y) q
+
+  module _ (o : Column) (w : Layout) (j : JoinsLists s t y o w) (has : HasItems w) where
+    abbrev typ : DataType
+    typ = present (array_type y)
+
+    made_typ : array_type w ≡ typ
+    made_typ = j.typ ∙ sym (present_stays (array_type y) plain)
+
+    list_made : (i : ℕ) → i < size_of s
+        → value_list (run (array_item w) (place_at o i) (place_at o (i + 1) - place_at o i))
+        ≡ present_values (items_at s t y i)
+    list_made i p = ap value_list (sym (j.lists i p)) ∙ sym (kept i p)
+
+    pub kept_given : AreGiven None typ (λ vs. present_values vs) s t y o w
+    kept_given = record {
+      valid = j.valid;
+      offsets = j.offsets;
+      even = tt;
+      typ = sym (simple_twice (layout_type w)) ∙ ap simple made_typ;
+      lists = λ i p.
+          let within = j.offsets.within i p in
+          list_made i p
+          ∙ sym (ap (λ u. map (simple_value u) (present_values (items_at s t y i))) (sym made_typ)
+          ∙ ap (map (simple_value (array_type w))) (sym (list_made i p))
+          ∙ run_stays w has (place_at o i) (place_at o (i + 1) - place_at o i) within
+          ∙ list_made i p);
+    }

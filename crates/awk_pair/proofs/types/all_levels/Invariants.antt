@@ -1,8 +1,0 @@
-use Rattle.std.proofs.Common.{◌≡◌, map}
-use Rattle.awk_pair.specs.Paired.{all_levels}
-use Rattle.awk_pair.specs.Types.{operand_type}
-use Rattle.awk_pair.proofs.TypeLaws.{depths_from}
-use Rattle.awk_pair.proofs.types.all_levels.Given as goal
-
-abbrev pub invariant-loop-i : goal.invariant-loop-i
-invariant-loop-i l = depths_from l.greatest l.xs l.i ≡ all_levels (map operand_type l.xs)

@@ -1,8 +1,0 @@
-use Rattle.std.proofs.Common.{◌≡◌, map}
-use Rattle.awk_pair.specs.Paired.{is_wrong, to_leaves}
-use Rattle.awk_pair.specs.Types.{operand_type}
-use Rattle.awk_pair.proofs.TypeLaws.{wrong_from}
-use Rattle.awk_pair.proofs.types.is_wrong.Given as goal
-
-abbrev pub invariant-loop-k : goal.invariant-loop-k
-invariant-loop-k l = wrong_from l.xs l.d l.k ≡ is_wrong to_leaves l.d (map operand_type l.xs)

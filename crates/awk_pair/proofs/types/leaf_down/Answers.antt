@@ -1,5 +1,0 @@
-use Rattle.awk_pair.proofs.TypeLaws.{literal_leaf}
-use Rattle.awk_pair.proofs.types.leaf_down.Goals as goal
-
-pub returns-in-Literal : goal.returns-in-Literal
-returns-in-Literal c = literal_leaf c.args.k c.args.x.now c.in-Literal.field-0 c.in-Literal.is

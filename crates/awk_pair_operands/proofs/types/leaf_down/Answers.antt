@@ -1,0 +1,5 @@
+use Rattle.awk_pair_operands.proofs.TypeLaws.{literal_leaf}
+use Rattle.awk_pair_operands.proofs.types.leaf_down.Goals as goal
+
+pub returns-in-Literal : goal.returns-in-Literal
+returns-in-Literal c = literal_leaf c.args.k c.args.x.now c.in-Literal.field-0 c.in-Literal.is

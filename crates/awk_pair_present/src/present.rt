@@ -1,0 +1,143 @@
+//! The rows of operands that have no null.
+ghost use Rattle.std.specs.Prelude.{◌≡◌, ◌≤◌, IfOk};
+ghost use Rattle.awk_types.specs.ItemLimit.{item_limit};
+ghost use Rattle.awk_open.specs.Opened.{AreLong};
+ghost use Rattle.awk_layout.specs.Layout.{Layout};
+ghost use Rattle.std.specs.Prelude.{List};
+ghost use Rattle.awk_pair_present.specs.Presence.{AreAsLong, ArePresences};
+ghost use Rattle.awk_pair_present.specs.Present.{IsPresentRows};
+
+use crate::presence::{Presence, all_taken, are_there, presences_of};
+use awk_lanes::{
+    Arena, Items, Kind, Lane, Lengths, NoMemory, Num, Numbers, Steps, items_of, made_lane, number,
+    offsets_of, place_in,
+};
+use awk_layout::Arrays;
+use std::alloc::Global;
+use std::sync::ledger::Ledger;
+
+/// The rows without a null, and an index over them that counts up, and is -1 for each other row.
+#[derive(Drop)]
+pub struct PresentRows<'a> {
+    pub index: Lane<'a>,
+    pub count: u64,
+    pub arrays: Arrays<'a>,
+}
+
+/// The rows that are kept, each as a list of its place, and each other one as an empty list.
+#[derive(Drop)]
+struct KeptRows<'b, 'a> {
+    presences: &'b [Presence<'a>],
+    rows: u64,
+}
+
+impl<'b, 'a> Lengths for KeptRows<'b, 'a> {
+    ghost use Rattle.std.specs.Prelude.{◌<◌, ◌^◌};
+    ghost use Rattle.awk_pair_present.specs.Presence.{kept_length, AreAsLong};
+
+    ghost length = { λ f. kept_length f.presences.now };
+
+    ghost size = { λ f. f.rows };
+
+    ghost IsReady = { λ f. AreAsLong f.rows f.presences.now × (f.rows < 2 ^ 63) };
+
+    fn length<L: Ledger>(&self, i: u64, steps: &mut Steps<L>) -> u64 {
+        if are_there(self.presences, self.rows, i, steps) {
+            1
+        } else {
+            0
+        }
+    }
+}
+
+impl<'b, 'a> Items for KeptRows<'b, 'a> {
+    ghost use Rattle.std.specs.Prelude.{pos};
+    ghost use Rattle.awk_lanes.specs.declared.kind.Kind.TheVariants as Kind;
+
+    ghost kind = { λ _. Kind.I64 };
+
+    ghost at = { λ _ i k. pos i };
+
+    fn item<L: Ledger>(&self, i: u64, _k: u64, _steps: &mut Steps<L>) -> Num {
+        number(i)
+    }
+}
+
+/// How many rows before each are kept, or -1 where a row is not.
+#[derive(Drop)]
+struct KeptCounts<'b, 'a> {
+    rows: &'b KeptRows<'b, 'a>,
+    offsets: &'b Lane<'a>,
+}
+
+impl<'b, 'a> Numbers for KeptCounts<'b, 'a> {
+    ghost use Rattle.std.specs.Prelude.{◌≡◌, ◌<◌, ◌^◌};
+    ghost use Rattle.awk_lanes.specs.declared.kind.Kind.TheVariants as Kind;
+    ghost use Rattle.awk_lanes.specs.Counted.{offsets_by};
+    ghost use Rattle.awk_pair_present.specs.Presence.{count_at, kept_length, AreAsLong};
+
+    ghost kind = { λ _. Kind.I64 };
+
+    ghost at = { λ f. count_at f.rows.now.presences.now };
+
+    ghost size = { λ f. f.rows.now.rows };
+
+    ghost IsReady = { λ f. AreAsLong f.rows.now.rows f.rows.now.presences.now
+        × (f.rows.now.rows < 2 ^ 63)
+        × (f.offsets.now ≡ offsets_by (kept_length f.rows.now.presences.now) f.rows.now.rows) };
+
+    fn number<L: Ledger>(&self, i: u64, steps: &mut Steps<L>) -> Num {
+        if are_there(self.rows.presences, self.rows.rows, i, steps) {
+            number(place_in(self.offsets, i, steps))
+        } else {
+            Num::Int(-1)
+        }
+    }
+}
+
+/// The rows without a null, of operands by their items that are there.
+fn kept_rows<'a, L: Ledger>(
+    alloc: Global,
+    n: u64,
+    presences: &[Presence<'a>],
+    arena: &'a Arena,
+    steps: &mut Steps<L>,
+) -> Result<PresentRows<'a>, NoMemory>
+    requires long { AreAsLong n presences.now }
+    requires few { n ≤ item_limit }
+    ensures { (xs : List Layout) → ArePresences n xs presences.now →
+        IfOk result (IsPresentRows n xs) }
+{
+    let rows = KeptRows { presences, rows: n };
+    let offsets = offsets_of(n, &rows, arena, steps)?;
+    let count = offsets.total;
+    let places = items_of(Kind::I64, n, count, &rows, arena, steps)?;
+    let counts = KeptCounts {
+        rows: &rows,
+        offsets: &offsets.lane,
+    };
+    let index = made_lane(Kind::I64, n, &counts, arena, steps)?;
+    let arrays = all_taken(alloc, presences, n, &places, arena, steps)?;
+    Ok(PresentRows {
+        index,
+        count,
+        arrays,
+    })
+}
+
+/// The rows without a null.
+pub fn present_rows<'a, L: Ledger>(
+    alloc: Global,
+    n: u64,
+    xs: &Arrays<'a>,
+    arena: &'a Arena,
+    steps: &mut Steps<L>,
+) -> Result<PresentRows<'a>, NoMemory>
+    requires long { AreLong n xs.now }
+    requires few { n ≤ item_limit }
+    ensures { IfOk result (IsPresentRows n xs.now) }
+{
+    let presences = presences_of(alloc, n, xs, arena, steps)?;
+    let rows = kept_rows(alloc, n, &presences, arena, steps)?;
+    Ok(rows)
+}

@@ -1,0 +1,4 @@
+pub mod TestLaws
+pub mod RangeLaws
+pub mod LevelTypes
+pub mod PlaceLaws

@@ -1,0 +1,73 @@
+-- Tests of the items of a list, one after another.
+use Rattle.std.proofs.Common.{◌≡◌, ℕ, ◌+◌, ◌≤◌, Bool, true, false, not, ◌&&◌, ◌||◌, refl, ap, sym}
+use Rattle.std.proofs.Common.{subst, ◌∙◌, drop}
+use Rattle.std.specs.Prelude.{List, [], ◌∷◌, map, length, slice_get, Some}
+use Rattle.std.specs.List.{list_any, list_all}
+use Rattle.std.proofs.lemmas.List.{drop_all}
+use Rattle.awk_types.proofs.ListLaws.{drop-get}
+use Rattle.awk_pair_sides.specs.Levels.{unless}
+
+pub any_next : {A : Type 0} (f : A → Bool) (xs : List A) (i : ℕ) (x : A) (b : Bool)
+    → slice_get xs i ≡ Some x → f x ≡ false → list_any f (drop i xs) ≡ b
+    → list_any f (drop (i + 1) xs) ≡ b
+any_next f xs i x b g e h =
+    subst (λ c. c || list_any f (drop (i + 1) xs) ≡ b) e
+    (sym (ap (list_any f) (drop-get xs i x g)) ∙ h)
+
+pub any_found : {A : Type 0} (f : A → Bool) (xs : List A) (i : ℕ) (x : A) (b : Bool)
+    → slice_get xs i ≡ Some x → f x ≡ true → list_any f (drop i xs) ≡ b → true ≡ b
+any_found f xs i x b g e h =
+    subst (λ c. c || list_any f (drop (i + 1) xs) ≡ b) e
+    (sym (ap (list_any f) (drop-get xs i x g)) ∙ h)
+
+pub any_end : {A : Type 0} (f : A → Bool) (xs : List A) (i : ℕ) (b : Bool) → length xs ≤ i
+    → list_any f (drop i xs) ≡ b → false ≡ b
+any_end f xs i b l h = sym (ap (list_any f) (drop_all i xs l)) ∙ h
+
+pub all_next : {A : Type 0} (f : A → Bool) (xs : List A) (i : ℕ) (x : A) (b : Bool)
+    → slice_get xs i ≡ Some x → f x ≡ true → list_all f (drop i xs) ≡ b
+    → list_all f (drop (i + 1) xs) ≡ b
+all_next f xs i x b g e h =
+    subst (λ c. c && list_all f (drop (i + 1) xs) ≡ b) e
+    (sym (ap (list_all f) (drop-get xs i x g)) ∙ h)
+
+pub all_not : {A : Type 0} (f : A → Bool) (xs : List A) (i : ℕ) (x : A) (b : Bool)
+    → slice_get xs i ≡ Some x → f x ≡ false → list_all f (drop i xs) ≡ b → false ≡ b
+all_not f xs i x b g e h =
+    subst (λ c. c && list_all f (drop (i + 1) xs) ≡ b) e
+    (sym (ap (list_all f) (drop-get xs i x g)) ∙ h)
+
+pub all_end : {A : Type 0} (f : A → Bool) (xs : List A) (i : ℕ) (b : Bool) → length xs ≤ i
+    → list_all f (drop i xs) ≡ b → true ≡ b
+all_end f xs i b l h = sym (ap (list_all f) (drop_all i xs l)) ∙ h
+
+pub any-map : {A B : Type 0} (f : B → Bool) (g : A → B) (xs : List A)
+    → list_any (λ x. f (g x)) xs ≡ list_any f (map g xs)
+any-map f g [] = refl
+any-map f g (x ∷ xs) = ap (λ b. f (g x) || b) (any-map f g xs)
+
+pub all-map : {A B : Type 0} (f : B → Bool) (g : A → B) (xs : List A)
+    → list_all (λ x. f (g x)) xs ≡ list_all f (map g xs)
+all-map f g [] = refl
+all-map f g (x ∷ xs) = ap (λ b. f (g x) && b) (all-map f g xs)
+
+-- ---- truth values
+
+pub and_both : (a b : Bool) → a && b ≡ true → (a ≡ true) × (b ≡ true)
+and_both true true e = (refl, refl)
+and_both true false e = cc
+and_both false b e = cc
+
+pub or_none : (a b : Bool) → a || b ≡ false → (a ≡ false) × (b ≡ false)
+or_none false false e = (refl, refl)
+or_none true b e = cc
+or_none false true e = cc
+
+pub second : (a b : Bool) → a && b ≡ true → b ≡ true
+second a b e = (and_both a b e).1
+
+pub both_not : (a b : Bool) → a && not b ≡ unless b a
+both_not true true = refl
+both_not false true = refl
+both_not true false = refl
+both_not false false = refl

@@ -1,0 +1,4 @@
+pub mod Plain
+pub mod IsPlain
+pub mod Judged
+pub mod Types

@@ -1,0 +1,12 @@
+//! Plain JSON values: their types, and the faults of those that make no array.
+//!
+//! A whole number is of int64, a truth value of bool, null an option of nothing known, an object a
+//! record with its members in the order of their names, and a list a list of what its items' types
+//! unify to from the left. `plain_type` is that type, or the first fault.
+#![tactic(auto)]
+
+mod faults;
+mod judged;
+mod types;
+
+pub use faults::plain_type;
