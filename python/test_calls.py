@@ -13,7 +13,8 @@ from typing import Any
 from unittest import mock
 
 from jagged_testing import Columns, EngineCase, load_examples
-from jagged import LINE_LIMIT, Histogram, QueryFault, Session, e, load_line, loading, session
+from jagged import LINE_LIMIT, Histogram, Session, e, load_line, loading, session
+from jagged import OverflowFault, QueryFault, TypeFault
 from jagged.program import command_of
 
 NUMBERS = {"class": "NumpyArray", "primitive": "int64", "form_key": "node0"}
@@ -68,6 +69,43 @@ class Calls(EngineCase):
             self.assertEqual(self.session.show(x), values)
         self.assertEqual(self.session.show(2**63 - 1), 2**63 - 1)
         self.assertIs(self.session.show(True), True)
+
+    def test_values(self) -> None:
+        for data, type_ in [
+            ([1, -2, 3], "3 * int64"),
+            ([[1, None], [], None, [2]], "4 * option[var * ?int64]"),
+            ([{"b": 1, "a": True}, 3], "2 * union[{a: bool, b: int64}, int64]"),
+            ([{"x": [], "y": {"z": False}}], "1 * {x: var * unknown, y: {z: bool}}"),
+            ([], "0 * unknown"),
+            ([None], "1 * ?unknown"),
+        ]:
+            x = self.session.values("x", data)
+            self.assertEqual(x.json, "x")
+            self.assertEqual(self.session.show(x), data)
+            self.assertEqual(self.session.type(x), type_)
+
+    def test_values_of_other_kinds(self) -> None:
+        data = (range(3), array("b", [4, 5]), (True, None))
+        x = self.session.values("x", data)
+        self.assertEqual(self.session.show(x), [[0, 1, 2], [4, 5], [True, None]])
+        x = self.session.values("x", (k * k for k in range(4)))
+        self.assertEqual(self.session.show(x), [0, 1, 4, 9])
+        for wrong in [[object()], [1, {2, 3, "a", object}]]:
+            with self.assertRaises(TypeError):
+                self.session.values("x", wrong)
+        self.assertEqual(self.session.show(x), [0, 1, 4, 9])
+
+    def test_values_that_are_none(self) -> None:
+        for data, fault in [
+            ([1, "a"], TypeFault),
+            ([1, 2.5], TypeFault),
+            ([2**64], TypeFault),
+            ([2**63], OverflowFault),
+            ([2**63, None, "a"], TypeFault),
+        ]:
+            with self.assertRaises(fault):
+                self.session.values("x", data)
+        self.assertEqual(self.session.names(), [])
 
     def test_let(self) -> None:
         load_examples(self.session)
@@ -209,6 +247,8 @@ class Arguments(EngineCase):
             for values in [numbers[::2].astype(order), numbers.astype(order)[::2]]:
                 self.session.load("x", NUMBERS, 2, {"node0-data": values})
                 self.assertEqual(self.session.show(numpy.int64(1) + e.x), [6, 0])
+        x = self.session.values("x", [numbers, numpy.int16(7)])
+        self.assertEqual(self.session.show(x), [[5, 0, -1, 0], 7])
         make = Columns()
         form = make.lists([], make.numbers([], "uint16", "H"))
         data, offsets = numpy.array([5, 65535], ">u2"), numpy.array([0, 1, 2])

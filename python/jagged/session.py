@@ -4,6 +4,7 @@ from __future__ import annotations
 
 import base64
 import json
+import operator
 import os
 from collections.abc import Callable, Iterable, Mapping, Sequence
 from typing import Any, SupportsIndex
@@ -70,6 +71,15 @@ class Session:
         pieces = iter(load) if progress is None else told(load, progress)
         return _variable(name, self._ask(pieces))
 
+    def values(self, name: str, data: Iterable[Any]) -> Expression:
+        """Binds the name to the array of plain values, and returns the variable.
+
+        These are whole numbers, truth values, None, lists of values and dicts of them; tuples,
+        ranges and NumPy's arrays are lists, too. The type of a list is what the types of its items
+        unify to, and the fields of a record stand in the order of their names.
+        """
+        return _variable(name, self._answer({"values": name, "from": [*data]}))
+
     def let(self, name: str, x: Operand) -> Expression:
         """Binds the name to what the expression gives, and returns the variable."""
         return _variable(name, self._answer({"let": name, "be": json_of(x)}))
@@ -121,7 +131,7 @@ class Session:
                 raise SessionEnded(status)
 
     def _answer(self, line: dict[str, Any]) -> dict[str, Any]:
-        text = json.dumps(line, separators=(",", ":")).encode()
+        text = json.dumps(line, separators=(",", ":"), default=_plain).encode()
         if (count := len(text)) > LINE_LIMIT:
             raise ValueError(f"the line has {count:,} bytes, and the engine takes {LINE_LIMIT:,}")
         return self._ask([text + b"\n"])
@@ -138,6 +148,13 @@ class Session:
         if "fault" in answer:
             raise fault_of(answer)
         return answer
+
+
+def _plain(value: Any) -> Any:
+    """The JSON of what has none in Python: NumPy's numbers and arrays, ranges and the like."""
+    if hasattr(value, "tolist"):
+        return value.tolist()
+    return [*value] if isinstance(value, Iterable) else operator.index(value)
 
 
 def _json_answer(line: bytearray) -> dict[str, Any]:
