@@ -10,7 +10,7 @@ use Rattle.awk_leaves.specs.Table.{binary_judged}
 use Rattle.awk_leaves.specs.Values.{binary_at}
 use Rattle.awk_leaves.specs.declared.operation.Binary.{Binary}
 use Rattle.awk_pair_operands.specs.Pairs.{has_wrong_end}
-use Rattle.awk_ends.specs.Operands.{in_primitive}
+use Rattle.awk_ends.specs.Operands.{in_primitive, data_in, leaf_of, at_end, both_data}
 use Rattle.awk_arith.specs.AtLeaves.{at_leaves}
 
 -- the result at an end, in a primitive

@@ -7,9 +7,9 @@ use Rattle.awk_layout.specs.Typing.{array_type, array_items}
 use Rattle.awk_layout.specs.Valid.{len}
 use Rattle.awk_layout.specs.declared.datum.Operand.{Operand}
 use Rattle.awk_layout.specs.declared.datum.Operand.TheVariants as operand
-use Rattle.awk_leaves.specs.declared.leaf_type.LeafType.TheVariants as of
 use Rattle.awk_pointwise.specs.Sides.{side_values, leaf_type, IsSide}
 use Rattle.awk_pointwise.specs.declared.sides.Side.{Side}
+use Rattle.awk_ends.specs.Columns.{column_at, leaf_at, values_at, IsLaneOf}
 use Rattle.awk_ends.specs.Operands.{leaf_in}
 
 -- ---- columns of leaves, one for each operand that is a datum
