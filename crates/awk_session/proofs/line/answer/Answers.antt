@@ -24,7 +24,7 @@ returns-in-Ok-clause-leaves g c =
             c.in-Ok.ensures.reply ∙ b.all;
       };
       is_open = b.is_open;
-      state = rw c.behind-state.ensures
+      state = rw c.reading_behind-state.ensures
           (ap (λ (z : Reply).
           let s : State Environment = record { reading = r; variables = z.after } in s)
           (sym c.in-Ok.ensures.reply));
