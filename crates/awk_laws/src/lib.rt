@@ -1,0 +1,9 @@
+//! Laws of the operations, over their definitions: what a reader can check them against.
+//!
+//! Each call has no parameters and does nothing: its contract is the laws of one group, which stand
+//! in `specs/` as a record with a line for each law.
+#![tactic(auto)]
+
+mod leaves;
+
+pub use leaves::leaf_laws;
