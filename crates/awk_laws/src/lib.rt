@@ -4,6 +4,10 @@
 //! in `specs/` as a record with a line for each law.
 #![tactic(auto)]
 
+mod histograms;
 mod leaves;
+mod orders;
 
+pub use histograms::histogram_laws;
 pub use leaves::leaf_laws;
+pub use orders::order_laws;
