@@ -5,9 +5,11 @@
 #![tactic(auto)]
 
 mod histograms;
+mod laws;
 mod leaves;
 mod orders;
 
 pub use histograms::histogram_laws;
+pub use laws::{concatenation, flattening, nulls, picking, views};
 pub use leaves::leaf_laws;
 pub use orders::order_laws;
