@@ -8,6 +8,8 @@
 #
 # An edit has a line 'file: src/PATH' and then pairs of lines 'old: TEXT' and 'new: TEXT'. The old text
 # stands in that file exactly once, as the pairs before have left it, and the new one takes its place.
+# One with a line '# compiler: TEXT' is refused before the prover sees it: by the compiler, with an
+# error of this text.
 #
 # A crate is proved first by `rt check`, over what such checks have left in crates/*/out, and from
 # nothing where there is nothing. RT_JOBS=1 tries one edit at a time.
@@ -117,11 +119,51 @@ prove() {
     fi
 }
 
-# Tries the edits of a crate that is proved, in the scratch copy.
+# Tries these edits of a crate that is proved, in the scratch copy.
 try() {
-    rm -rf "$room/crates/$1/must-fail"
-    cp -r "edits/$1" "$room/crates/$1/must-fail"
-    (cd "$room" && rt must-fail "$1") | tee "$room/told"
+    local crate=$1
+    shift
+    rm -rf "$room/crates/$crate/must-fail"
+    mkdir "$room/crates/$crate/must-fail"
+    cp "$@" "$room/crates/$crate/must-fail"
+    (cd "$room" && rt must-fail "$crate")
+}
+
+# Tries those that the compiler must refuse: each with the error that it names, in what is told of it.
+try_compiler() {
+    local crate=$1 edit what error missed=0
+    shift
+    for edit in "$@"; do
+        what=${edit##*/}
+        error=$(sed -n 's/^# compiler: //p' "$edit")
+        if try "$crate" "$edit" | grep -A 6 "must-fail $crate/$what: .*did not reach the prover" |
+            grep -F -- "$error" >"$room/error"; then
+            tell "$crate/$what: refused, as it must be, by the compiler: $(head -n 1 "$room/error")"
+        else
+            tell "$crate/$what: NOT REFUSED by the compiler: $error"
+            missed=1
+        fi
+    done
+    return "$missed"
+}
+
+# Tries all edits of a crate that is proved.
+try_both() {
+    local crate=$1 edit proofs=() compiler=() missed=0
+    for edit in "edits/$crate"/*.edit; do
+        if grep -q '^# compiler: ' "$edit"; then
+            compiler+=("$edit")
+        else
+            proofs+=("$edit")
+        fi
+    done
+    if [ ${#proofs[@]} -gt 0 ]; then
+        try "$crate" "${proofs[@]}" || missed=1
+    fi
+    if [ ${#compiler[@]} -gt 0 ]; then
+        try_compiler "$crate" "${compiler[@]}" || missed=1
+    fi
+    return "$missed"
 }
 
 # Proves and tries each of these crates.
@@ -133,7 +175,7 @@ try_all() {
         tell "$crate: proved first, and then its ${#edits[@]} edits are tried"
         count=$((count + ${#edits[@]}))
         : >"$room/told"
-        if ! prove "$crate" || ! try "$crate"; then
+        if ! prove "$crate" || ! try_both "$crate" | tee "$room/told"; then
             failed=1
         fi
         refused=$((refused + $(grep -c ': refused, as it must be' "$room/told" || true)))

@@ -6,13 +6,13 @@ use Rattle.std.specs.List.{list_all}
 use Rattle.std.proofs.lemmas.Bool.{and_parts}
 use Rattle.awk_types.specs.Datum.{Datum}
 use Rattle.awk_layout.specs.Filler.{literal, datum}
-use Rattle.awk_query.specs.Allowed.{AreArguments, HasArguments}
-use Rattle.awk_query.specs.Operations.{operations}
-use Rattle.awk_query.specs.declared.op.Op.{Op}
-use Rattle.awk_query.specs.declared.op.Op.TheVariants as op
-use Rattle.awk_query.specs.declared.kind.ArgKind.{ArgKind}
-use Rattle.awk_query.specs.declared.kind.ArgKind.TheVariants as kind
-use Rattle.awk_query.specs.declared.fixed.FixedArg.{FixedArg}
+use Rattle.awk_expr.specs.Allowed.{AreArguments, HasArguments}
+use Rattle.awk_expr.specs.Operations.{operations}
+use Rattle.awk_expr.specs.declared.op.Op.{Op}
+use Rattle.awk_expr.specs.declared.op.Op.TheVariants as op
+use Rattle.awk_expr.specs.declared.kind.ArgKind.{ArgKind}
+use Rattle.awk_expr.specs.declared.kind.ArgKind.TheVariants as kind
+use Rattle.awk_expr.specs.declared.fixed.FixedArg.{FixedArg}
 use Rattle.awk_arguments.specs.Fit.{IsGiven, IsRange, FitsFixed, FitsOperands}
 use Rattle.awk_arguments.specs.Fixed.{place_in, text_in, texts_in, truth_in, padding_in, tuples_in}
 use Rattle.awk_arguments.specs.Fixed.{depth_in, named_in, edges_in}

@@ -5,13 +5,13 @@ use Rattle.std.specs.Prelude.{◌||◌}
 use Rattle.awk_types.specs.DataType.{Name}
 use Rattle.awk_types.specs.Names.{same_name, is_among}
 use Rattle.awk_types.specs.declared.primitive.Primitive.{Primitive}
-use Rattle.awk_query.specs.Allowed.{is_of_kind}
-use Rattle.awk_query.specs.Arguments as query
-use Rattle.awk_query.specs.Arguments.{not_zero, some_count}
-use Rattle.awk_query.specs.declared.kind.ArgKind.TheVariants as kind
-use Rattle.awk_query.specs.declared.fixed.FixedArg.{FixedArg}
-use Rattle.awk_query.specs.declared.fixed.FixedArg.TheVariants.{Place, Count, Missing, Truth, Text}
-use Rattle.awk_query.specs.declared.fixed.FixedArg.TheVariants.{Texts, Wholes}
+use Rattle.awk_expr.specs.Allowed.{is_of_kind}
+use Rattle.awk_expr.specs.Arguments as query
+use Rattle.awk_expr.specs.Arguments.{not_zero, some_count}
+use Rattle.awk_expr.specs.declared.kind.ArgKind.TheVariants as kind
+use Rattle.awk_expr.specs.declared.fixed.FixedArg.{FixedArg}
+use Rattle.awk_expr.specs.declared.fixed.FixedArg.TheVariants.{Place, Count, Missing, Truth, Text}
+use Rattle.awk_expr.specs.declared.fixed.FixedArg.TheVariants.{Texts, Wholes}
 use Rattle.awk_arguments.specs.Fit.{IsGiven, IsRange}
 use Rattle.awk_arguments.specs.Fixed.{stepped_in, stepped_by, place_in, text_in, texts_in}
 use Rattle.awk_arguments.specs.Fixed.{truth_in, padding_in, tuples_in, depth_in, named_in, edges_in}

@@ -1,11 +1,11 @@
 -- What the arguments of a call are by the kinds of its row: how many expressions, and which others.
 use Rattle.std.proofs.Common.{◌≡◌, ◌+◌, ◌<◌, ℕ, suc, Bool, true, false, List, [], ◌∷◌, ◌++◌, ap, ◌∙◌}
 use Rattle.std.proofs.Common.{length, sym, subst, arith}
-use Rattle.awk_query.specs.Allowed.{is_of_kind, IsFixed, AreArguments}
-use Rattle.awk_query.specs.declared.kind.ArgKind.{ArgKind}
-use Rattle.awk_query.specs.declared.kind.ArgKind.TheVariants as kind
-use Rattle.awk_query.specs.declared.fixed.FixedArg.{FixedArg}
-use Rattle.awk_query.specs.declared.fixed.FixedArg.TheVariants.{Texts}
+use Rattle.awk_expr.specs.Allowed.{is_of_kind, IsFixed, AreArguments}
+use Rattle.awk_expr.specs.declared.kind.ArgKind.{ArgKind}
+use Rattle.awk_expr.specs.declared.kind.ArgKind.TheVariants as kind
+use Rattle.awk_expr.specs.declared.fixed.FixedArg.{FixedArg}
+use Rattle.awk_expr.specs.declared.fixed.FixedArg.TheVariants.{Texts}
 
 -- ---- the arguments that are no expressions
 

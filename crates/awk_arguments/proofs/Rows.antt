@@ -6,15 +6,15 @@ use Rattle.std.proofs.lemmas.Bool.{and_parts}
 use Rattle.awk_types.specs.DataType.{Name}
 use Rattle.awk_types.specs.Names.{same_name, are_distinct, AreDistinct}
 use Rattle.awk_types.proofs.DistinctLaws.{AreDistinct-true}
-use Rattle.awk_query.specs.Allowed.{is_of_kind, AreArguments, HasArguments}
-use Rattle.awk_query.specs.Operations.{Row, Found, operations, row_among, row_of}
-use Rattle.awk_query.specs.declared.op.Op.{Op}
-use Rattle.awk_query.specs.declared.op.Op.TheVariants as op
-use Rattle.awk_query.specs.declared.kind.ArgKind.{ArgKind}
-use Rattle.awk_query.specs.declared.kind.ArgKind.TheVariants as kind
-use Rattle.awk_query.specs.declared.fixed.FixedArg.{FixedArg}
-use Rattle.awk_query.specs.declared.fixed.FixedArg.TheVariants.{Place, Count, Missing, Truth, Text}
-use Rattle.awk_query.specs.declared.fixed.FixedArg.TheVariants.{Texts, Wholes}
+use Rattle.awk_expr.specs.Allowed.{is_of_kind, AreArguments, HasArguments}
+use Rattle.awk_expr.specs.Operations.{Row, Found, operations, row_among, row_of}
+use Rattle.awk_expr.specs.declared.op.Op.{Op}
+use Rattle.awk_expr.specs.declared.op.Op.TheVariants as op
+use Rattle.awk_expr.specs.declared.kind.ArgKind.{ArgKind}
+use Rattle.awk_expr.specs.declared.kind.ArgKind.TheVariants as kind
+use Rattle.awk_expr.specs.declared.fixed.FixedArg.{FixedArg}
+use Rattle.awk_expr.specs.declared.fixed.FixedArg.TheVariants.{Place, Count, Missing, Truth, Text}
+use Rattle.awk_expr.specs.declared.fixed.FixedArg.TheVariants.{Texts, Wholes}
 use Rattle.awk_arguments.specs.Fixed.{texts_in}
 
 -- ---- what is so of each row is so of the one that is found

@@ -7,14 +7,14 @@ use Rattle.awk_types.specs.DataType.{Name}
 use Rattle.awk_types.specs.Names.{are_distinct}
 use Rattle.awk_types.proofs.DistinctLaws.{AreDistinct-true}
 use Rattle.awk_layout.specs.Valid.{AreNames}
-use Rattle.awk_query.specs.Allowed.{AreArguments, HasArguments}
-use Rattle.awk_query.specs.Operations.{operations}
-use Rattle.awk_query.specs.declared.op.Op.{Op}
-use Rattle.awk_query.specs.declared.op.Op.TheVariants as op
-use Rattle.awk_query.specs.declared.kind.ArgKind.{ArgKind}
-use Rattle.awk_query.specs.declared.kind.ArgKind.TheVariants as kind
-use Rattle.awk_query.specs.declared.fixed.FixedArg.{FixedArg}
-use Rattle.awk_query.specs.declared.fixed.FixedArg.TheVariants.{Texts}
+use Rattle.awk_expr.specs.Allowed.{AreArguments, HasArguments}
+use Rattle.awk_expr.specs.Operations.{operations}
+use Rattle.awk_expr.specs.declared.op.Op.{Op}
+use Rattle.awk_expr.specs.declared.op.Op.TheVariants as op
+use Rattle.awk_expr.specs.declared.kind.ArgKind.{ArgKind}
+use Rattle.awk_expr.specs.declared.kind.ArgKind.TheVariants as kind
+use Rattle.awk_expr.specs.declared.fixed.FixedArg.{FixedArg}
+use Rattle.awk_expr.specs.declared.fixed.FixedArg.TheVariants.{Texts}
 use Rattle.awk_arguments.specs.Fixed.{depth_of, named_in}
 use Rattle.awk_arguments.proofs.Rows.{row_of-all}
 

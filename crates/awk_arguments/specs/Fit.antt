@@ -1,8 +1,8 @@
 -- Which arguments are an operation's own.
 use Rattle.std.specs.Prelude.{◌≡◌, true, List, Option, None, is_some}
-use Rattle.awk_query.specs.declared.op.Op.{Op}
-use Rattle.awk_query.specs.declared.op.Op.TheVariants as op
-use Rattle.awk_query.specs.declared.fixed.FixedArg.{FixedArg}
+use Rattle.awk_expr.specs.declared.op.Op.{Op}
+use Rattle.awk_expr.specs.declared.op.Op.TheVariants as op
+use Rattle.awk_expr.specs.declared.fixed.FixedArg.{FixedArg}
 use Rattle.awk_arguments.specs.Fixed.{bounds_in, stepped_in, place_in, text_in, texts_in}
 use Rattle.awk_arguments.specs.Fixed.{truth_in, padding_in, tuples_in, depth_in, named_in, edges_in}
 use Rattle.awk_arguments.specs.Operand.{Operand, only_in, both_in, first_in, two_in, three_in}

@@ -2,10 +2,10 @@
 use Rattle.std.specs.Prelude.{ℕ, zero, suc, ℤ, pos, Bool, true, false, List, [], ◌∷◌, Option, Some}
 use Rattle.std.specs.Prelude.{None, option_map, if◌then◌else◌}
 use Rattle.awk_types.specs.DataType.{Name}
-use Rattle.awk_query.specs.Arguments.{not_zero, some_count}
-use Rattle.awk_query.specs.declared.fixed.FixedArg.{FixedArg}
-use Rattle.awk_query.specs.declared.fixed.FixedArg.TheVariants.{Place, Count, Truth, Text, Texts}
-use Rattle.awk_query.specs.declared.fixed.FixedArg.TheVariants.{Wholes}
+use Rattle.awk_expr.specs.Arguments.{not_zero, some_count}
+use Rattle.awk_expr.specs.declared.fixed.FixedArg.{FixedArg}
+use Rattle.awk_expr.specs.declared.fixed.FixedArg.TheVariants.{Place, Count, Truth, Text, Texts}
+use Rattle.awk_expr.specs.declared.fixed.FixedArg.TheVariants.{Wholes}
 
 -- whether a step is 1
 abbrev pub is_one : FixedArg → Bool

@@ -3,8 +3,8 @@ use Rattle.std.specs.Prelude.{◌≡◌, ℕ, suc, Bool, true, false, ◌==◌, 
 use Rattle.std.specs.Prelude.{option_map, if◌then◌else◌}
 use Rattle.awk_types.specs.Datum.{Datum}
 use Rattle.awk_layout.specs.Filler.{Filler, literal, datum}
-use Rattle.awk_query.specs.declared.op.Op.{Op}
-use Rattle.awk_query.specs.declared.op.Op.TheVariants as op
+use Rattle.awk_expr.specs.declared.op.Op.{Op}
+use Rattle.awk_expr.specs.declared.op.Op.TheVariants as op
 
 abbrev pub Operand : Type 0
 Operand = Filler

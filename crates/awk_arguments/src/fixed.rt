@@ -4,7 +4,7 @@ ghost use Rattle.awk_arguments.specs.Fit.{IsGiven};
 ghost use Rattle.awk_arguments.specs.Fixed as given;
 ghost use Rattle.awk_arguments.specs.SteppedView.{stepped_view};
 
-use awk_query::{Fixed, FixedArg};
+use awk_expr::{Fixed, FixedArg};
 use awk_types::{Name, Names, Wholes};
 
 /// The bounds of a range, where its step is 1.

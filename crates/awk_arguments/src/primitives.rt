@@ -4,7 +4,7 @@ ghost use Rattle.awk_arguments.specs.Fit.{IsGiven};
 ghost use Rattle.awk_arguments.specs.Primitives as given;
 
 use crate::fixed::text;
-use awk_query::Fixed;
+use awk_expr::Fixed;
 use awk_types::Prim;
 
 /// The leaf type of a name.

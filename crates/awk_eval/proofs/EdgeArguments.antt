@@ -5,18 +5,18 @@ use Rattle.std.specs.List.{list_all}
 use Rattle.std.specs.Prelude.{IfSome}
 use Rattle.std.proofs.lemmas.Bool.{and_parts}
 use Rattle.awk_bins.specs.Edges as bins
-use Rattle.awk_query.specs.Allowed.{is_of_kind, AreArguments, HasArguments}
-use Rattle.awk_query.specs.Operations.{operations}
-use Rattle.awk_query.specs.WholeNumbers as query
-use Rattle.awk_query.specs.WholeNumbers.{is_whole}
-use Rattle.awk_query.specs.declared.op.Extent.{Extent}
-use Rattle.awk_query.specs.declared.op.Op.{Op}
-use Rattle.awk_query.specs.declared.op.Op.TheVariants as op
-use Rattle.awk_query.specs.declared.kind.ArgKind.{ArgKind}
-use Rattle.awk_query.specs.declared.kind.ArgKind.TheVariants as kind
-use Rattle.awk_query.specs.declared.fixed.FixedArg.{FixedArg}
-use Rattle.awk_query.specs.declared.fixed.FixedArg.TheVariants.{Place, Count, Missing, Truth, Text}
-use Rattle.awk_query.specs.declared.fixed.FixedArg.TheVariants.{Texts, Wholes}
+use Rattle.awk_expr.specs.Allowed.{is_of_kind, AreArguments, HasArguments}
+use Rattle.awk_expr.specs.Operations.{operations}
+use Rattle.awk_expr.specs.WholeNumbers as query
+use Rattle.awk_expr.specs.WholeNumbers.{is_whole}
+use Rattle.awk_expr.specs.declared.op.Extent.{Extent}
+use Rattle.awk_expr.specs.declared.op.Op.{Op}
+use Rattle.awk_expr.specs.declared.op.Op.TheVariants as op
+use Rattle.awk_expr.specs.declared.kind.ArgKind.{ArgKind}
+use Rattle.awk_expr.specs.declared.kind.ArgKind.TheVariants as kind
+use Rattle.awk_expr.specs.declared.fixed.FixedArg.{FixedArg}
+use Rattle.awk_expr.specs.declared.fixed.FixedArg.TheVariants.{Place, Count, Missing, Truth, Text}
+use Rattle.awk_expr.specs.declared.fixed.FixedArg.TheVariants.{Texts, Wholes}
 use Rattle.awk_arguments.specs.Fixed.{edges_in}
 use Rattle.awk_arguments.proofs.Rows.{row_of-all}
 

@@ -15,14 +15,14 @@ use Rattle.awk_layout.specs.Layout.{Layout}
 use Rattle.awk_layout.specs.declared.datum.Datum.{Datum}
 use Rattle.awk_layout.specs.declared.datum.Datum.TheVariants.{Arr, One}
 use Rattle.awk_layout.specs.declared.datum.Operand as code
-use Rattle.awk_query.specs.Allowed.{HasArguments, IsAllowed, AreAllowed}
-use Rattle.awk_query.specs.ExprTree.{ExprTree, exprs_from, expr_list}
-use Rattle.awk_query.specs.View.{expr_of, exprs_of}
-use Rattle.awk_query.specs.declared.op.Op.{Op}
-use Rattle.awk_query.specs.declared.expr.Expr.{Expr, Call}
-use Rattle.awk_query.specs.declared.expr.Exprs.{Exprs}
-use Rattle.awk_query.specs.declared.fixed.Fixed.{Fixed}
-use Rattle.awk_query.proofs.Views.{expr_of-Call}
+use Rattle.awk_expr.specs.Allowed.{HasArguments, IsAllowed, AreAllowed}
+use Rattle.awk_expr.specs.ExprTree.{ExprTree, exprs_from, expr_list}
+use Rattle.awk_expr.specs.View.{expr_of, exprs_of}
+use Rattle.awk_expr.specs.declared.op.Op.{Op}
+use Rattle.awk_expr.specs.declared.expr.Expr.{Expr, Call}
+use Rattle.awk_expr.specs.declared.expr.Exprs.{Exprs}
+use Rattle.awk_expr.specs.declared.fixed.Fixed.{Fixed}
+use Rattle.awk_expr.proofs.Views.{expr_of-Call}
 use Rattle.awk_view.proofs.RowSteps.{IfOk-map}
 use Rattle.awk_eval.specs.Bindings.{Bindings, look_up, each}
 use Rattle.awk_eval.specs.Variables.{Variables, Environment, denoted}

@@ -1,7 +1,7 @@
 -- Ranges of step 1 of an array.
 use Rattle.std.proofs.Common.{◌≡◌, ℕ, ◌-◌, List, length, take, drop, max, ap, sym, ◌∙◌, arith}
 use Rattle.std.specs.List.{slice_range}
-use Rattle.awk_query.specs.declared.fixed.FixedArg.{FixedArg}
+use Rattle.awk_expr.specs.declared.fixed.FixedArg.{FixedArg}
 use Rattle.awk_eval.specs.Ranges.{bound_or, range_items}
 
 -- a second bound below the first takes as many items as the first: none

@@ -18,14 +18,14 @@ use Rattle.awk_view.specs.Answer.{choice_fault}
 use Rattle.awk_view.specs.Choice.{without}
 use Rattle.awk_view.specs.Settled.{kept}
 use Rattle.awk_layout.specs.declared.datum.Operand.{Operand}
-use Rattle.awk_query.specs.ExprTree.{ExprTree, call, exprs_from}
-use Rattle.awk_query.specs.View.{expr_of, exprs_of}
-use Rattle.awk_query.specs.declared.op.Op.{Op}
-use Rattle.awk_query.specs.declared.fixed.FixedArg.{FixedArg}
-use Rattle.awk_query.specs.declared.expr.Expr.{Expr, Call}
-use Rattle.awk_query.specs.declared.expr.Exprs.{Exprs}
-use Rattle.awk_query.specs.declared.fixed.Fixed.{Fixed}
-use Rattle.awk_query.proofs.Views.{expr_of-Call}
+use Rattle.awk_expr.specs.ExprTree.{ExprTree, call, exprs_from}
+use Rattle.awk_expr.specs.View.{expr_of, exprs_of}
+use Rattle.awk_expr.specs.declared.op.Op.{Op}
+use Rattle.awk_expr.specs.declared.fixed.FixedArg.{FixedArg}
+use Rattle.awk_expr.specs.declared.expr.Expr.{Expr, Call}
+use Rattle.awk_expr.specs.declared.expr.Exprs.{Exprs}
+use Rattle.awk_expr.specs.declared.fixed.Fixed.{Fixed}
+use Rattle.awk_expr.proofs.Views.{expr_of-Call}
 use Rattle.awk_eval.specs.Variables.{Variables}
 use Rattle.awk_eval.specs.Views.{Size, View, view_of, only_view, is_view_op, size_in, OfView}
 use Rattle.awk_eval.specs.Views.{IsTaken, Takes, TakesView, AreWithin, IsOperandWithin, IsWithin}

@@ -7,19 +7,19 @@ use Rattle.awk_types.specs.Datum.{arr, one}
 use Rattle.awk_types.specs.declared.primitive.Primitive.TheVariants.{Bool, I64}
 use Rattle.awk_types.specs.declared.fault.Fault.TheVariants.{Unbound, NoField, WrongType, Overflow}
 use Rattle.awk_types.specs.declared.fault.Fault.TheVariants.{Axis, Index}
-use Rattle.awk_query.specs.ExprTree as tree
-use Rattle.awk_query.specs.ExprTree.{ExprTree, exprs_from}
-use Rattle.awk_query.specs.declared.op.Op.{Op}
-use Rattle.awk_query.specs.declared.op.Op.TheVariants as op
+use Rattle.awk_expr.specs.ExprTree as tree
+use Rattle.awk_expr.specs.ExprTree.{ExprTree, exprs_from}
+use Rattle.awk_expr.specs.declared.op.Op.{Op}
+use Rattle.awk_expr.specs.declared.op.Op.TheVariants as op
 use Rattle.awk_kernels.specs.declared.operation.Arith.TheVariants as arith
-use Rattle.awk_query.specs.declared.op.PlaceOp.TheVariants as place_op
-use Rattle.awk_query.specs.declared.op.PairOp.TheVariants as pair_op
-use Rattle.awk_query.specs.declared.op.ReduceOp.TheVariants as reduce_op
-use Rattle.awk_query.specs.declared.op.SingleOp.TheVariants as single_op
-use Rattle.awk_query.specs.declared.op.Target.TheVariants as target
-use Rattle.awk_query.specs.declared.op.AxisOp.TheVariants as axis_op
-use Rattle.awk_query.specs.declared.fixed.FixedArg.{FixedArg}
-use Rattle.awk_query.specs.declared.fixed.FixedArg.TheVariants.{Place, Missing, Text, Texts}
+use Rattle.awk_expr.specs.declared.op.PlaceOp.TheVariants as place_op
+use Rattle.awk_expr.specs.declared.op.PairOp.TheVariants as pair_op
+use Rattle.awk_expr.specs.declared.op.ReduceOp.TheVariants as reduce_op
+use Rattle.awk_expr.specs.declared.op.SingleOp.TheVariants as single_op
+use Rattle.awk_expr.specs.declared.op.Target.TheVariants as target
+use Rattle.awk_expr.specs.declared.op.AxisOp.TheVariants as axis_op
+use Rattle.awk_expr.specs.declared.fixed.FixedArg.{FixedArg}
+use Rattle.awk_expr.specs.declared.fixed.FixedArg.TheVariants.{Place, Missing, Text, Texts}
 use Rattle.awk_eval.specs.Bindings.{Bindings, names, bind}
 use Rattle.awk_eval.specs.Variables.{Environment}
 use Rattle.awk_eval.specs.Eval.{eval}

@@ -8,27 +8,27 @@ use Rattle.awk_types.specs.Settle.{settle}
 use Rattle.awk_types.specs.declared.primitive.Primitive.TheVariants as primitive
 use Rattle.awk_types.specs.declared.fault.Fault.{Fault}
 use Rattle.awk_types.specs.declared.fault.Fault.TheVariants.{Unbound, WrongType, Overflow}
-use Rattle.awk_query.specs.ExprTree as tree
-use Rattle.awk_query.specs.ExprTree.{ExprTree, ExprTrees, no_exprs, expr}
-use Rattle.awk_query.specs.declared.op.Op.{Op}
-use Rattle.awk_query.specs.declared.op.Op.TheVariants as op
-use Rattle.awk_query.specs.declared.op.PlaceOp.{PlaceOp}
-use Rattle.awk_query.specs.declared.op.PlaceOp.TheVariants as place_op
-use Rattle.awk_query.specs.declared.op.PairOp.{PairOp}
-use Rattle.awk_query.specs.declared.op.PairOp.TheVariants as pair_op
-use Rattle.awk_query.specs.declared.op.AxisOp.{AxisOp}
-use Rattle.awk_query.specs.declared.op.AxisOp.TheVariants as axis_op
-use Rattle.awk_query.specs.declared.op.LogicOp.{LogicOp}
-use Rattle.awk_query.specs.declared.op.LogicOp.TheVariants as logic_op
-use Rattle.awk_query.specs.declared.op.SingleOp.{SingleOp}
-use Rattle.awk_query.specs.declared.op.SingleOp.TheVariants as single_op
-use Rattle.awk_query.specs.declared.op.ReduceOp.{ReduceOp}
-use Rattle.awk_query.specs.declared.op.ReduceOp.TheVariants as reduce_op
-use Rattle.awk_query.specs.declared.op.Target.{Target}
-use Rattle.awk_query.specs.declared.op.Target.TheVariants as target
-use Rattle.awk_query.specs.declared.op.Extent.{Extent}
-use Rattle.awk_query.specs.declared.op.Extent.TheVariants as extent
-use Rattle.awk_query.specs.declared.fixed.FixedArg.{FixedArg}
+use Rattle.awk_expr.specs.ExprTree as tree
+use Rattle.awk_expr.specs.ExprTree.{ExprTree, ExprTrees, no_exprs, expr}
+use Rattle.awk_expr.specs.declared.op.Op.{Op}
+use Rattle.awk_expr.specs.declared.op.Op.TheVariants as op
+use Rattle.awk_expr.specs.declared.op.PlaceOp.{PlaceOp}
+use Rattle.awk_expr.specs.declared.op.PlaceOp.TheVariants as place_op
+use Rattle.awk_expr.specs.declared.op.PairOp.{PairOp}
+use Rattle.awk_expr.specs.declared.op.PairOp.TheVariants as pair_op
+use Rattle.awk_expr.specs.declared.op.AxisOp.{AxisOp}
+use Rattle.awk_expr.specs.declared.op.AxisOp.TheVariants as axis_op
+use Rattle.awk_expr.specs.declared.op.LogicOp.{LogicOp}
+use Rattle.awk_expr.specs.declared.op.LogicOp.TheVariants as logic_op
+use Rattle.awk_expr.specs.declared.op.SingleOp.{SingleOp}
+use Rattle.awk_expr.specs.declared.op.SingleOp.TheVariants as single_op
+use Rattle.awk_expr.specs.declared.op.ReduceOp.{ReduceOp}
+use Rattle.awk_expr.specs.declared.op.ReduceOp.TheVariants as reduce_op
+use Rattle.awk_expr.specs.declared.op.Target.{Target}
+use Rattle.awk_expr.specs.declared.op.Target.TheVariants as target
+use Rattle.awk_expr.specs.declared.op.Extent.{Extent}
+use Rattle.awk_expr.specs.declared.op.Extent.TheVariants as extent
+use Rattle.awk_expr.specs.declared.fixed.FixedArg.{FixedArg}
 use Rattle.awk_view.specs.Choice.{field, fields}
 use Rattle.awk_arguments.specs.Axes.{axis_in, axis_among, at_axis, at_common_axis}
 use Rattle.awk_arguments.specs.Fixed.{bounds_in, Stepped, stepped_in, place_in, text_in, texts_in}

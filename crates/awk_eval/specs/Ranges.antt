@@ -1,7 +1,7 @@
 -- Ranges of step 1.
 use Rattle.std.specs.Prelude.{ℕ, List, length}
 use Rattle.std.specs.List.{slice_range}
-use Rattle.awk_query.specs.declared.fixed.FixedArg.{FixedArg}
+use Rattle.awk_expr.specs.declared.fixed.FixedArg.{FixedArg}
 use Rattle.awk_select.specs.Places.{bound_up}
 use Rattle.awk_arguments.specs.Fixed.{bound_in}
 

@@ -10,10 +10,10 @@ use Rattle.awk_layout.specs.declared.datum.Datum.{Datum}
 use Rattle.awk_layout.specs.declared.datum.Datum.TheVariants.{Arr, One}
 use Rattle.awk_layout.specs.declared.datum.Operand.{Operand}
 use Rattle.awk_layout.specs.declared.datum.Operand.TheVariants.{Of, Literal}
-use Rattle.awk_query.specs.ExprTree.{ExprTree, var, whole, truth, call, no_exprs, expr}
-use Rattle.awk_query.specs.declared.op.Op.{Op}
-use Rattle.awk_query.specs.declared.op.Op.TheVariants as op
-use Rattle.awk_query.specs.declared.fixed.FixedArg.{FixedArg}
+use Rattle.awk_expr.specs.ExprTree.{ExprTree, var, whole, truth, call, no_exprs, expr}
+use Rattle.awk_expr.specs.declared.op.Op.{Op}
+use Rattle.awk_expr.specs.declared.op.Op.TheVariants as op
+use Rattle.awk_expr.specs.declared.fixed.FixedArg.{FixedArg}
 use Rattle.awk_eval.specs.Bindings.{Bindings, look_up, each}
 use Rattle.awk_arguments.specs.Fixed.{bounds_in}
 use Rattle.awk_eval.specs.Variables.{Variables}

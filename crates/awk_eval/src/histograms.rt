@@ -14,7 +14,7 @@ use awk_arguments::{edges, only};
 use awk_hist::hist;
 use awk_lanes::{Arena, Steps};
 use awk_layout::{Datum, Operands};
-use awk_query::{Extent, Fixed};
+use awk_expr::{Extent, Fixed};
 use awk_types::Fault;
 use std::alloc::Global;
 use std::sync::ledger::Ledger;

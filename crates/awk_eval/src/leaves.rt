@@ -21,7 +21,7 @@ use awk_kernels::{Arith, Compare, Kernels};
 use awk_lanes::{Arena, Steps};
 use awk_layout::{Datum, Operands};
 use awk_leaves::Logic;
-use awk_query::{Fixed, LogicOp, ReduceOp, SingleOp};
+use awk_expr::{Fixed, LogicOp, ReduceOp, SingleOp};
 use awk_reduce::{Reducer, reduce};
 use awk_types::Fault;
 use std::alloc::Global;

@@ -19,7 +19,7 @@ use awk_lists::{flatten, local_index, num, unflatten};
 use awk_merge::concatenate;
 use awk_options::{drop_none, firsts, is_none, singletons};
 use awk_order::{argsort, sort};
-use awk_query::{AxisOp, Fixed, PairOp, PlaceOp, Target};
+use awk_expr::{AxisOp, Fixed, PairOp, PlaceOp, Target};
 use awk_select::{at, at_each};
 use awk_types::Fault;
 use std::alloc::Global;

@@ -15,7 +15,7 @@ use awk_cartesian::cartesian;
 use awk_combi::combinations;
 use awk_lanes::{Arena, Steps};
 use awk_layout::{Datum, Operands};
-use awk_query::{Fixed, Target};
+use awk_expr::{Fixed, Target};
 use awk_types::Fault;
 use awk_with_field::with_field;
 use awk_zip::zip;

@@ -20,7 +20,7 @@ use awk_arguments::{bound_of, bounds, only, with_step};
 use awk_lanes::{Arena, Steps};
 use awk_layout::{Array, Datum, Operands};
 use awk_lists::without_field;
-use awk_query::{Fixed, FixedArg};
+use awk_expr::{Fixed, FixedArg};
 use awk_range::range;
 use awk_select::{bound_up, step_range};
 use awk_types::{Fault, Names, NoMemory};

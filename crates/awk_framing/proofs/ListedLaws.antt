@@ -6,16 +6,16 @@ use Rattle.std.specs.Option.{option_map_or}
 use Rattle.serde_json.specs.Data.{Data, null, boolean, number, string, array, object, Members}
 use Rattle.serde_json.specs.Events.{members_len}
 use Rattle.serde_json.specs.Find.{get_member}
-use Rattle.awk_query.specs.Arguments.{u64_in}
-use Rattle.awk_query.specs.ExprTree.{ExprTree}
+use Rattle.awk_expr.specs.Arguments.{u64_in}
+use Rattle.awk_expr.specs.ExprTree.{ExprTree}
 use Rattle.awk_query.specs.Line.{Line, Buffers, session, show, type_of, pack, load_of, bind_of}
 use Rattle.awk_query.specs.Line.{bind_in, values_with, values_in, if_list, name_at, count_at}
 use Rattle.awk_query.specs.Line.{expr_at, pair_in, names_from, single_in, if_two, session_from}
 use Rattle.awk_query.specs.Line.{order_at, buffers_in, ordered_in, texts_in, load_in}
 use Rattle.awk_query.specs.Line.{if_version_2, alone_in, line_with, json_said}
 use Rattle.awk_query.specs.Line.{line_or_unread, line_said}
-use Rattle.awk_query.specs.Reading.{expr_said}
-use Rattle.awk_query.specs.Told.{Unread, or_query}
+use Rattle.awk_expr.specs.Reading.{expr_said}
+use Rattle.awk_expr.specs.Told.{Unread, or_query}
 use Rattle.awk_query.specs.declared.reading.Reading.{Reading}
 use Rattle.awk_query.specs.declared.reading.Reading.TheVariants.{First, One, Two}
 use Rattle.awk_framing.specs.Listed.{IsListed}

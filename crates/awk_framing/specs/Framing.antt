@@ -3,7 +3,7 @@ use Rattle.std.specs.Prelude.{ℕ, Bool, ◌==◌, ◌||◌, List, sum_by, Resul
 use Rattle.std.specs.List.{list_all}
 use Rattle.awk_edge.specs.Units.{Framing, Framed, units, ended_units}
 use Rattle.awk_query.specs.Line.{Line, load, parts, session, line_said}
-use Rattle.awk_query.specs.Told.{Unread}
+use Rattle.awk_expr.specs.Told.{Unread}
 use Rattle.awk_query.specs.declared.reading.RawPart.{RawPart}
 use Rattle.awk_query.specs.declared.reading.Reading.{Reading}
 use Rattle.awk_query.specs.declared.reading.Reading.TheVariants.{First, One, Two}

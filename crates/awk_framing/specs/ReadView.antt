@@ -2,7 +2,7 @@
 use Rattle.std.specs.Prelude.{Result, Ok, Err}
 use Rattle.awk_query.specs.Line.{Line}
 use Rattle.awk_query.specs.LineView.{line_view}
-use Rattle.awk_query.specs.Told.{Unread, json, query}
+use Rattle.awk_expr.specs.Told.{Unread, json, query}
 use Rattle.awk_framing.specs.declared.read.Read as code
 use Rattle.awk_framing.specs.declared.read.Read.TheVariants as variant
 

@@ -1,6 +1,6 @@
 //! What a line is read as, and how the next one is read.
 ghost use Rattle.std.specs.Prelude.{◌≡◌, Ok, IfOk};
-ghost use Rattle.awk_query.specs.Allowed.{IsAllowedLine};
+ghost use Rattle.awk_query.specs.AllowedLine.{IsAllowedLine};
 ghost use Rattle.awk_query.specs.Line.{line_said};
 ghost use Rattle.awk_query.specs.LineView.{line_view};
 ghost use Rattle.awk_query.specs.declared.reading.Reading.TheVariants.{First};
@@ -8,7 +8,8 @@ ghost use Rattle.awk_framing.specs.Framing as framing;
 ghost use Rattle.awk_framing.specs.Listed.{IsListed};
 ghost use Rattle.awk_framing.specs.ReadView.{read_view};
 
-use awk_query::{Line, QueryFault, Reading, read_line};
+use awk_expr::QueryFault;
+use awk_query::{Line, Reading, read_line};
 use std::alloc::{AllocError, Global};
 
 /// What a line is read as: a line of a session, no JSON, or no line.

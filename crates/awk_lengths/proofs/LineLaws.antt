@@ -9,10 +9,10 @@ use Rattle.serde_json.specs.Events.{members_len}
 use Rattle.serde_json.specs.Find.{get_member, as_object, as_str}
 use Rattle.serde_json.specs.Read.{read}
 use Rattle.awk_store.specs.Buffers.{texts_of, total_len}
-use Rattle.awk_query.specs.Arguments.{u64_in}
-use Rattle.awk_query.specs.ExprTree.{ExprTree}
-use Rattle.awk_query.specs.Reading.{expr_said}
-use Rattle.awk_query.specs.Told.{or_query}
+use Rattle.awk_expr.specs.Arguments.{u64_in}
+use Rattle.awk_expr.specs.ExprTree.{ExprTree}
+use Rattle.awk_expr.specs.Reading.{expr_said}
+use Rattle.awk_expr.specs.Told.{or_query}
 use Rattle.awk_query.specs.declared.reading.Reading.{Reading}
 use Rattle.awk_query.specs.declared.reading.Reading.TheVariants.{First, One, Two}
 use Rattle.awk_query.specs.declared.reading.RawPart.{RawPart}

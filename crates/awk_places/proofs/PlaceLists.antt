@@ -1,9 +1,9 @@
 -- Tuples of one place of each of several lists: how many there are, and what they hold.
-use Rattle.std.specs.Prelude.{◌≡◌, refl, ℕ, zero, suc, ◌*◌, ◌/◌, ◌<◌, ◌≤◌}
+use Rattle.std.specs.Prelude.{◌≡◌, refl, ℕ, zero, suc, ◌*◌, ◌<◌, ◌≤◌}
 use Rattle.std.specs.Prelude.{List, [], ◌∷◌, length, get_or, drop}
 use Rattle.std.specs.List.{AllByRecursion}
 use Rattle.std.proofs.Common.{arith, ap, sym, ◌∙◌}
-use Rattle.std.proofs.Math.Nat.{mul_assoc, mul_comm, div-lt_iff_lt-mul}
+use Rattle.std.proofs.Math.Nat.{mul_assoc, mul_comm}
 use Rattle.awk_types.specs.ItemLimit.{item_limit}
 use Rattle.awk_places.specs.Places.{before_each, place_lists, place_count}
 use Rattle.awk_places.proofs.FlatLaws.{all-at, all-flat, all-map, all-more}
@@ -43,23 +43,23 @@ drop-count [] j l = absurd (omega (arith, l))
 drop-count (m ∷ ms) zero l = refl
 drop-count (m ∷ ms) (suc j) l = drop-count ms j (omega (arith, l))
 
-no_less : (a r : ℕ) → 0 < r → a ≤ a * r
+pub no_less : (a r : ℕ) → 0 < r → a ≤ a * r
 no_less a zero p = absurd (omega (arith, p))
 no_less a (suc r) p = grind arith
 
 -- a product that passes the limit before its end is over it at the end
 pub over_limit : (ms : List ℕ) (j c : ℕ) → j < length ms
     → ((k : ℕ) → k < length ms → 0 < get_or ms k 0)
-    → c * place_count (drop j ms) ≡ place_count ms → 0 < c → item_limit / c < get_or ms j 0
+    → c * place_count (drop j ms) ≡ place_count ms → item_limit < c * get_or ms j 0
     → item_limit < place_count ms
-over_limit ms j c l h e p o =
+over_limit ms j c l h e o =
     let x : ℕ = get_or ms j 0 in
     let r : ℕ = place_count (drop (suc j) ms) in
     let q : x * c * r ≡ place_count ms =
     ap (λ z. z * r) (mul_comm x c) ∙ mul_assoc c x r
     ∙ ap (λ z. c * z) (sym (drop-count ms j l)) ∙ e in
     let s : 0 < r = some_right (x * c) r 0 (omega (arith, some_of_full ms h, q)) in
-    let w : item_limit < x * c = (div-lt_iff_lt-mul {k = c} {x = item_limit} {y = x} p).0 o in
+    let w : item_limit < x * c = omega (arith, o, mul_comm x c) in
     omega (arith, w, no_less (x * c) r s, q)
 
 -- ---- the places in a tuple

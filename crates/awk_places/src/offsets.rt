@@ -3,7 +3,8 @@ ghost use Rattle.std.specs.Prelude.{◌<◌, ◌≤◌, ◌^◌, IfOk};
 ghost use Rattle.awk_types.specs.ItemLimit.{item_limit};
 ghost use Rattle.awk_lanes.specs.Counted.{AreOffsetsBy};
 
-use awk_lanes::{Arena, Kind, LaneMaker, Offsets, Steps, number};
+use awk_index::IndexMaker;
+use awk_lanes::{Arena, Offsets, Steps, number};
 use awk_types::{ITEM_LIMIT, NoMemory};
 use std::sync::ledger::Ledger;
 
@@ -41,7 +42,7 @@ pub(crate) fn tuple_offsets<'a, S: TupleCounts, L: Ledger>(
     requires fits { n < 2 ^ 63 }
     ensures { IfOk result (AreOffsetsBy item_limit (S.count source.now) n) }
 {
-    let mut maker = LaneMaker::new(Kind::I64, n + 1, arena)?;
+    let mut maker = IndexMaker::new(n + 1, arena)?;
     maker.push(number(0));
     let mut total = 0;
     for i in 0..n {

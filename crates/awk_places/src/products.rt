@@ -55,7 +55,10 @@ fn count_product<L: Ledger>(n: u64, lengths: &Lanes, i: u64, steps: &mut Steps<L
     let mut count: u64 = 1;
     for j in 0..lengths.len() {
         let length = length_by(n, lengths, j, i, steps);
-        if length > ITEM_LIMIT / count {
+        if length > ITEM_LIMIT {
+            return None;
+        }
+        if count * length > ITEM_LIMIT {
             return None;
         }
         count *= length;

@@ -3,10 +3,12 @@ ghost use Rattle.std.specs.Prelude.{◌≡◌, ◌<◌, ◌^◌, ◌≤ℤ◌, p
 ghost use Rattle.awk_lanes.specs.Places.{size_of, at, place_at};
 ghost use Rattle.awk_lanes.specs.declared.kind.Kind.TheVariants as Kinds;
 
-use awk_lanes::{Lane, Steps, index_at};
+use awk_index::wide_index;
+use awk_lanes::{Lane, Steps};
 use std::sync::ledger::Ledger;
 
 /// The place at place i of a lane.
+#[inline(always)]
 pub(crate) fn place_of<L: Ledger>(lane: &Lane, i: u64, steps: &mut Steps<L>) -> u64
     requires kind { lane.now.kind ≡ Kinds.I64 }
     requires within { i < size_of lane.now }
@@ -14,5 +16,5 @@ pub(crate) fn place_of<L: Ledger>(lane: &Lane, i: u64, steps: &mut Steps<L>) -> 
     ensures value { result ≡ place_at lane.now i }
     ensures fits { result < 2 ^ 63 }
 {
-    index_at(lane, i, steps) as u64
+    wide_index(lane, steps).number(i) as u64
 }

@@ -1,8 +1,8 @@
 -- Operations on one number at each place.
-use Rattle.std.proofs.Common.{◌≡◌, ℕ, suc, ◌<◌, List, [], ◌∷◌, length, map, replicate, get_or}
+use Rattle.std.proofs.Common.{◌≡◌, ℕ, suc, ◌<◌, ◌≤◌, List, [], ◌∷◌, length, map, replicate, get_or}
 use Rattle.std.proofs.Common.{refl, ap, ap₂, sym, subst, ◌∙◌, arith, w64}
 use Rattle.std.specs.Prelude.{ℤ, pos, negsuc, ◌+ℤ◌, ◌-ℤ◌, neg_ℤ, Bool, true, false, ◌||◌, not}
-use Rattle.std.specs.Prelude.{int_lt, cond, Some, Result, Ok, Err, IfOk}
+use Rattle.std.specs.Prelude.{int_lt, cond, slice_range, Some, Result, Ok, Err, IfOk}
 use Rattle.std.specs.Prelude.{if◌then◌else◌, FitsSigned}
 use Rattle.std.specs.List.{AllByRecursion}
 use Rattle.std.specs.Ordering.{int_eq}
@@ -29,7 +29,7 @@ use Rattle.awk_kernels.specs.declared.operation.Compare.{Compare}
 use Rattle.awk_kernels.specs.declared.operation.Compare.TheVariants.{Eq, Ne}
 use Rattle.awk_layout.specs.Kinds.{kind_of}
 use Rattle.awk_leaves.specs.Values.{number_of, held_by, is_nonzero, all_values, unary_on, unary_at}
-use Rattle.awk_leaves.specs.Values.{first_fault_or, in_judged, unary_values}
+use Rattle.awk_leaves.specs.Values.{first_fault_or}
 use Rattle.awk_leaves.specs.LeafTypes.{type_beside, whole_type, truth_type, overflows}
 use Rattle.awk_leaves.specs.Table.{unary_judged}
 use Rattle.awk_leaves.specs.declared.leaf_type.LeafType.{LeafType}
@@ -40,13 +40,16 @@ use Rattle.awk_pointwise.specs.Numbers.{all_numbers, prim_leaves, int_leaves, na
 use Rattle.awk_pointwise.specs.Numbers.{greatest_int64, IsInt64, IsPresent, AreNumbersOf, IsTyped}
 use Rattle.awk_pointwise.specs.Numbers.{AreTyped, word_numbers}
 use Rattle.awk_pointwise.specs.declared.words.Words.{Words}
-use Rattle.awk_pointwise.specs.Sides.{lane_values}
+use Rattle.awk_pointwise.specs.Blocks.{side_part}
+use Rattle.awk_pointwise.specs.Sides.{lane_values, side_values, IsSide}
+use Rattle.awk_pointwise.specs.declared.sides.Side.{Side}
 use Rattle.awk_pointwise.specs.Single.{zeros_beside, held, held_all, size_of_number, below_zero}
 use Rattle.awk_pointwise.specs.Single.{IsReady}
 use Rattle.awk_pointwise.proofs.CalculatedLaws.{int_values, int_lane, more_int, told_values}
 use Rattle.awk_pointwise.proofs.CalculatedLaws.{read_truth}
 use Rattle.awk_lanes.specs.Ranges.{AreNumbers}
 use Rattle.awk_lanes.proofs.RangeLaws.{fits_64}
+use Rattle.awk_pointwise.proofs.BlockLaws.{part-map, part_is, length-map, length-side}
 use Rattle.awk_pointwise.proofs.RangeLaws.{all-weaker, beside_holds, results_numbers}
 use Rattle.awk_pointwise.proofs.SideLaws.{all-map, all-replicate}
 use Rattle.awk_pointwise.proofs.ReadyLaws.{judged_ok, truths_bool}
@@ -311,14 +314,20 @@ present_singles op p [] h = refl
 present_singles op p (x ∷ xs) h =
     ap₂ (λ r rs. r ∷ rs) (present_single op p x h.0) (present_singles op p xs h.1)
 
--- the values of an operation are those of the numbers of its side
-pub unary_is : (op : Unary) (t : LeafType) (p : Primitive) (xs : List Value) (w : Words)
-    → unary_judged op t ≡ Ok p → AreNumbersOf t xs w
-    → unary_values op t xs ≡ all_values (map (unary_on op p) (word_numbers w))
-unary_is op t p xs w e h =
-    ap (λ j. in_judged j (λ p. all_values (map (unary_at op p) xs))) e
-    ∙ ap all_values (present_singles op p xs h.present
+-- the results of a part are those of the numbers of the side's part
+pub single_part : (op : Unary) (t : LeafType) (p : Primitive) (n : ℕ) (x : Side) (lo hi : ℕ)
+    (w : Words) → lo ≤ hi → hi ≤ n → AreNumbersOf t (side_part lo hi x) w
+    → all_values (slice_range (map (unary_at op p) (side_values n x)) lo hi)
+    ≡ all_values (map (unary_on op p) (word_numbers w))
+single_part op t p n x lo hi w q r h =
+    ap all_values (sym (part-map (unary_at op p) (side_values n x) lo hi)
+    ∙ ap (map (unary_at op p)) (sym (part_is n x lo hi q r))
+    ∙ present_singles op p (side_part lo hi x) h.present
     ∙ ap (map (unary_on op p)) (sym h.numbers))
+
+pub length-single : {X : Type 0} (f : Value → X) (n : ℕ) (x : Side) → IsSide n x
+    → length (map f (side_values n x)) ≡ n
+length-single f n x h = length-map f (side_values n x) ∙ length-side n x h
 
 pub unary_same : (op : Unary) (s t : LeafType) (r : Result Primitive Fault) (p : Primitive)
     → s ≡ t → r ≡ unary_judged op s → r ≡ Ok p → unary_judged op t ≡ Ok p

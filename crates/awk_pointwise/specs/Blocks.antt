@@ -10,8 +10,9 @@ use Rattle.awk_lanes.specs.Places.{size_of}
 use Rattle.awk_leaves.specs.Values.{all_values, value_in}
 use Rattle.awk_pointwise.specs.Sides.{lane_values, leaf_type, IsSide, IsLeafNumber, IsNumber64}
 use Rattle.awk_types.specs.declared.primitive.Primitive.{Primitive}
-use Rattle.awk_leaves.specs.Table.{binary_judged}
+use Rattle.awk_leaves.specs.Table.{binary_judged, unary_judged}
 use Rattle.awk_leaves.specs.declared.operation.Binary.{Binary}
+use Rattle.awk_leaves.specs.declared.operation.Unary.{Unary}
 use Rattle.awk_pointwise.specs.declared.sides.Side.{Side}
 use Rattle.awk_pointwise.specs.declared.sides.Side.TheVariants as side
 
@@ -40,3 +41,8 @@ pub record IsPair (op : Binary) (p : Primitive) (n : ℕ) (x y : Side) : Type 0 
   pub first : IsSide n x
   pub second : IsSide n y
   pub judged : binary_judged op (leaf_type x) (leaf_type y) ≡ Ok p
+
+-- a side of n places, and the primitive of an operation on it
+pub record IsSingle (op : Unary) (p : Primitive) (n : ℕ) (x : Side) : Type 0 where
+  pub side : IsSide n x
+  pub judged : unary_judged op (leaf_type x) ≡ Ok p

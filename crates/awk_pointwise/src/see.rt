@@ -6,9 +6,9 @@ ghost use Rattle.awk_layout.specs.Kinds.{primitive_of};
 ghost use Rattle.awk_leaves.specs.Values.{value_in};
 ghost use Rattle.awk_leaves.specs.declared.leaf_type.LeafType.TheVariants.{Of, Unknown, Literal};
 ghost use Rattle.awk_pointwise.specs.Numbers.{AreNumbersOf};
-ghost use Rattle.awk_pointwise.specs.Sides.{side_values, leaf_type, lane_values};
+ghost use Rattle.awk_pointwise.specs.Sides.{leaf_type, lane_values};
 ghost use Rattle.awk_pointwise.specs.Blocks.{IsSidePast, side_part};
-ghost use Rattle.awk_pointwise.specs.Sides.{IsSide, IsLeafNumber, IsNumber64};
+ghost use Rattle.awk_pointwise.specs.Sides.{IsLeafNumber, IsNumber64};
 
 use crate::sides::Side;
 use crate::words::{Words, repeated, words_of};
@@ -83,23 +83,5 @@ pub(crate) fn see_part<L: Ledger>(
         Side::Missing => see_missing(alloc, hi - lo),
         Side::Number(prim, z) => see_one(alloc, *prim, *z, hi - lo),
         Side::Literal(z) => see_literal(alloc, *z, hi - lo),
-    }
-}
-
-/// The numbers of a side at n places.
-pub(crate) fn see<L: Ledger>(
-    alloc: Global,
-    side: &Side,
-    n: u64,
-    steps: &mut Steps<L>,
-) -> Result<Words, NoMemory>
-    requires { IsSide n side.now }
-    ensures { IfOk result (AreNumbersOf (leaf_type side.now) (side_values n side.now)) }
-{
-    match side {
-        Side::Column(lane) => see_lane(alloc, lane, steps),
-        Side::Missing => see_missing(alloc, n),
-        Side::Number(prim, z) => see_one(alloc, *prim, *z, n),
-        Side::Literal(z) => see_literal(alloc, *z, n),
     }
 }

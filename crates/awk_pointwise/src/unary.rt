@@ -19,8 +19,9 @@ ghost use Rattle.awk_pointwise.specs.Single.{zeros_beside, held_all, size_of_num
 ghost use Rattle.awk_pointwise.specs.Single.{IsReady};
 ghost use Rattle.awk_pointwise.specs.Sides.{side_values, leaf_type, lane_values, IsSide};
 
+use crate::blocks::{Blocks, lane_by_blocks};
 use crate::calculate::{calculate_ints, calculate_nats, calculated, calculated_ints};
-use crate::see::see;
+use crate::see::see_part;
 use crate::sides::Side;
 use crate::truths::tested;
 use crate::words::{Words, ints, known, repeated};
@@ -275,6 +276,39 @@ fn of_number<'a, N: Kernels>(
     }
 }
 
+/// An operation on a side of n places, in the primitive of its result.
+#[derive(Drop)]
+struct Single<'s, 'b, 'a, N: Kernels> {
+    alloc: Global,
+    op: Unary,
+    prim: Prim,
+    side: &'s Side<'b, 'a>,
+    n: u64,
+    kernels: &'s N,
+}
+
+impl<'s, 'b, 'a, N: Kernels> Blocks for Single<'s, 'b, 'a, N> {
+    ghost use Rattle.awk_leaves.specs.Values.{unary_at};
+    ghost use Rattle.awk_pointwise.specs.Blocks.{IsSingle};
+
+    ghost kind = { λ s. kind_of s.prim };
+
+    ghost results = { λ s. map (unary_at s.op s.prim) (side_values s.n s.side.now) };
+
+    ghost IsReady = { λ s. IsSingle s.op s.prim s.n s.side.now };
+
+    fn block<'r, L: Ledger>(
+        &self,
+        lo: u64,
+        hi: u64,
+        arena: &'r Arena,
+        steps: &mut Steps<L>,
+    ) -> Result<Lane<'r>, Fault> {
+        let numbers = see_part(self.alloc, self.side, lo, hi, steps)?;
+        of_number(self.alloc, self.op, self.prim, numbers, self.kernels, arena)
+    }
+}
+
 /// The lane of what an operation gives at each of n places of a side, or the fault of the first
 /// place that has one.
 pub fn unary_leaves<'a, N: Kernels, L: Ledger>(
@@ -293,6 +327,13 @@ pub fn unary_leaves<'a, N: Kernels, L: Ledger>(
         → IfOk result (λ r. r.kind ≡ kind_of p) }
 {
     let prim = unary_prim(op, side.leaf_type())?;
-    let numbers = see(alloc, side, n, steps)?;
-    of_number(alloc, op, prim, numbers, kernels, arena)
+    let single = Single {
+        alloc,
+        op,
+        prim,
+        side,
+        n,
+        kernels,
+    };
+    lane_by_blocks(alloc, kind_of(prim), n, &single, arena, steps)
 }

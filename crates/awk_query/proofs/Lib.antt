@@ -1,12 +1,2 @@
-pub mod Views
-pub mod Lists
-pub mod Rising
-pub mod Levels
-pub mod Heads
-pub mod ArgLaws
-pub mod Traversed
-pub mod Pairs
 pub mod Worked
 pub mod LineLaws
-pub mod Examples
-pub mod AllowedLaws

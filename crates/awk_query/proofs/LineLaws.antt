@@ -21,11 +21,14 @@ use Rattle.awk_types.specs.DataType.{Name}
 use Rattle.awk_types.specs.Gives.{Gives}
 use Rattle.awk_types.specs.Names.{are_distinct}
 use Rattle.awk_types.proofs.NameLaws.{same_name_is}
-use Rattle.awk_query.specs.Allowed.{IsAllowed, IsAllowedLine}
-use Rattle.awk_query.proofs.AllowedLaws.{May, may-map-of, may-then, may-if, said-is}
-use Rattle.awk_query.specs.ExprTree.{ExprTree}
-use Rattle.awk_query.specs.Reading.{expr_said}
-use Rattle.awk_query.specs.Arguments.{all_of, items_in, u64_in}
+use Rattle.awk_expr.specs.Allowed.{IsAllowed}
+use Rattle.awk_expr.proofs.AllowedLaws.{May, may-map-of, may-then, may-if, said-is}
+use Rattle.awk_expr.specs.ExprTree.{ExprTree}
+use Rattle.awk_expr.specs.Reading.{expr_said}
+use Rattle.awk_expr.specs.Arguments.{all_of, items_in, u64_in}
+use Rattle.awk_expr.specs.declared.fault.QueryFault.{QueryFault}
+use Rattle.awk_expr.specs.Told.{unread_told, or_query}
+use Rattle.awk_query.specs.AllowedLine.{IsAllowedLine}
 use Rattle.awk_query.specs.Line.{Line, Buffers, texts, parts, session, show, type_of, pack}
 use Rattle.awk_query.specs.Line.{names_from, line_of, line_with, load_of, load_with, load_in}
 use Rattle.awk_query.specs.Line.{texts_in, raw_in, buffers_in, ordered_in, if_version_2, bind_of}
@@ -37,8 +40,6 @@ use Rattle.awk_query.specs.declared.reading.Reading.{Reading}
 use Rattle.awk_query.specs.declared.reading.Reading.TheVariants.{First, One, Two}
 use Rattle.awk_query.specs.LineView.{line_view}
 use Rattle.awk_query.specs.declared.line.Line as code
-use Rattle.awk_query.specs.declared.fault.QueryFault.{QueryFault}
-use Rattle.awk_query.specs.Told.{unread_told, or_query}
 
 -- ---- bytes
 

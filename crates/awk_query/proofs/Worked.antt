@@ -4,17 +4,17 @@ use Rattle.serde_json.specs.Data.{string, number, null, array, item, no_items}
 use Rattle.serde_json.specs.Data.{no_members, member, unsigned}
 use Rattle.serde_json.specs.Read.{read}
 use Rattle.serde_json.proofs.OnLiterals.{serde_json_on_literals}
-use Rattle.awk_query.specs.ExprTree.{ExprTree, var, whole, truth, call, no_exprs, expr}
+use Rattle.awk_expr.specs.ExprTree.{ExprTree, var, whole, truth, call, no_exprs, expr}
+use Rattle.awk_expr.specs.Operations.{row_of}
+use Rattle.awk_expr.specs.Reading.{expr_said}
+use Rattle.awk_expr.specs.Told.{Unread, json, query}
+use Rattle.awk_expr.specs.declared.op.Op.TheVariants as op
+use Rattle.awk_expr.specs.declared.op.PlaceOp.TheVariants as place_op
+use Rattle.awk_expr.specs.declared.fixed.FixedArg.TheVariants.{Place, Text}
 use Rattle.awk_query.specs.Line.{Line, load, texts, parts, session, bind, values, show, type_of}
 use Rattle.awk_query.specs.Line.{pack, names, or_json, line_or_unread}
-use Rattle.awk_query.specs.Operations.{row_of}
-use Rattle.awk_query.specs.Reading.{expr_said}
-use Rattle.awk_query.specs.Told.{Unread, json, query}
-use Rattle.awk_query.specs.declared.op.Op.TheVariants as op
-use Rattle.awk_query.specs.declared.op.PlaceOp.TheVariants as place_op
 use Rattle.awk_query.specs.declared.reading.Reading.{Reading}
 use Rattle.awk_query.specs.declared.reading.Reading.TheVariants.{First, One, Two}
-use Rattle.awk_query.specs.declared.fixed.FixedArg.TheVariants.{Place, Text}
 
 abbrev x : ExprTree
 x = var (codes "x")
@@ -63,7 +63,8 @@ no_numbers = refl
 pub nested :
     line_in (codes "{\"type\":[\"field\",[\"at\",\"x\",-1],\"0\"]}")
     ≡ Ok (type_of
-    (call op.Field (expr (call (op.Place place_op.At) (expr x no_exprs) (Place (negsuc 0) ∷ [])) no_exprs)
+    (call op.Field
+    (expr (call (op.Place place_op.At) (expr x no_exprs) (Place (negsuc 0) ∷ [])) no_exprs)
     (Text (codes "0") ∷ [])))
 unfolding serde_json_on_literals row_of expr_said
 nested = refl

@@ -1,12 +1,3 @@
-pub mod Operations
-pub mod FixedCode
-pub mod ExprTree
-pub mod View
-pub mod WholeNumbers
-pub mod Arguments
-pub mod ArgsView
-pub mod Reading
-pub mod Told
 pub mod Line
 pub mod LineView
-pub mod Allowed
+pub mod AllowedLine

@@ -9,10 +9,10 @@ use Rattle.serde_json.specs.Read.{read}
 use Rattle.serde_json.specs.Events.{members_len}
 use Rattle.awk_types.specs.DataType.{Name}
 use Rattle.awk_types.specs.Names.{same_name, are_distinct}
-use Rattle.awk_query.specs.Arguments.{all_of, items_in, u64_in}
-use Rattle.awk_query.specs.ExprTree.{ExprTree}
-use Rattle.awk_query.specs.Reading.{expr_said}
-use Rattle.awk_query.specs.Told.{Unread, json, or_query}
+use Rattle.awk_expr.specs.Arguments.{all_of, items_in, u64_in}
+use Rattle.awk_expr.specs.ExprTree.{ExprTree}
+use Rattle.awk_expr.specs.Reading.{expr_said}
+use Rattle.awk_expr.specs.Told.{Unread, json, or_query}
 use Rattle.awk_query.specs.declared.reading.RawPart.{RawPart}
 use Rattle.awk_query.specs.declared.reading.Reading.{Reading}
 use Rattle.awk_query.specs.declared.reading.Reading.TheVariants.{First, Two}

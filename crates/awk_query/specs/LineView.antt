@@ -1,6 +1,6 @@
 -- The line that a line in code is.
 use Rattle.serde_json.specs.View.{view, members_view}
-use Rattle.awk_query.specs.View.{expr_of}
+use Rattle.awk_expr.specs.View.{expr_of}
 use Rattle.awk_query.specs.declared.line.Line as code
 use Rattle.awk_query.specs.declared.line.Line.TheVariants as variant
 use Rattle.awk_query.specs.Line.{Line, load, texts, parts, session, bind, values, show, type_of}

@@ -5,7 +5,9 @@ ghost use Rattle.std.specs.List.{list_all};
 ghost use Rattle.awk_types.specs.Gives.{Gives};
 ghost use Rattle.serde_json.specs.Find.{get_member, as_str};
 ghost use Rattle.serde_json.specs.View.{view, members_view};
-ghost use Rattle.awk_query.specs.Allowed.{IsAllowedLine};
+ghost use Rattle.awk_expr.specs.Reading.{expr_said};
+ghost use Rattle.awk_expr.specs.Told.{unread_told, Reads};
+ghost use Rattle.awk_query.specs.AllowedLine.{IsAllowedLine};
 ghost use Rattle.awk_query.specs.Line as lines;
 ghost use Rattle.awk_query.specs.Line.{line_said, json_said, line_of, if_version_2, ordered_in};
 ghost use Rattle.awk_query.specs.Line.{load_with, texts_in, raw_in, pair_in, bind_in, values_in};
@@ -13,14 +15,10 @@ ghost use Rattle.awk_query.specs.Line.{alone_in, first_in, session_from, single_
 ghost use Rattle.awk_query.specs.Line.{name_at, text_at, count_at, texts_at, order_at, order_of};
 ghost use Rattle.awk_query.specs.Line.{if_list, show, type_of, pack};
 ghost use Rattle.awk_query.specs.LineView.{line_view};
-ghost use Rattle.awk_query.specs.Reading.{expr_said};
-ghost use Rattle.awk_query.specs.Told.{unread_told, Reads};
 
-use crate::expr::Expr;
-use crate::fault::QueryFault;
 use crate::parts::parts;
-use crate::read::read_expr;
 use crate::reading::{RawParts, Reading};
+use awk_expr::{Expr, QueryFault, read_expr};
 use awk_types::Name;
 use serde_json::{Map, Value};
 use std::alloc::Global;
@@ -28,8 +26,8 @@ use std::alloc::Global;
 /// A line of a session.
 #[derive(Drop)]
 pub enum Line {
-    /// Binds a name to what a form, a length and the texts of buffers by their keys load. `big` says
-    /// that the most significant byte of a number comes first.
+    /// Binds a name to what a form, a length and the texts of buffers by their keys load. `big`
+    /// says that the most significant byte of a number comes first.
     Load {
         name: Name,
         form: Value,

@@ -1,13 +1,12 @@
 //! The buffers whose bytes follow a line.
 ghost use Rattle.std.specs.Prelude.{◌≡◌, map, IfOk};
 ghost use Rattle.serde_json.specs.View.{view};
-ghost use Rattle.awk_query.specs.Arguments.{all_of};
+ghost use Rattle.awk_expr.specs.Arguments.{all_of};
+ghost use Rattle.awk_expr.specs.Told.{Reads};
 ghost use Rattle.awk_query.specs.Line.{part_in, parts_in, keys_of};
-ghost use Rattle.awk_query.specs.Told.{Reads};
 
-use crate::fault::QueryFault;
 use crate::reading::{RawPart, RawParts};
-use crate::values::items;
+use awk_expr::{QueryFault, items};
 use awk_types::{Name, Names, NoMemory};
 use serde_json::Value;
 use std::alloc::Global;

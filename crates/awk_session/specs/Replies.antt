@@ -8,7 +8,7 @@ use Rattle.awk_plain.specs.Plain.{from_values}
 use Rattle.awk_query.specs.Line as lines
 use Rattle.awk_query.specs.Line.{Line, line_said}
 use Rattle.awk_query.specs.declared.reading.Reading.{Reading}
-use Rattle.awk_query.specs.Told.{Unread, json, query}
+use Rattle.awk_expr.specs.Told.{Unread, json, query}
 use Rattle.awk_eval.specs.Bindings as bindings
 use Rattle.awk_eval.specs.Bindings.{bind}
 use Rattle.awk_eval.specs.Variables.{Environment}

@@ -2,7 +2,7 @@
 ghost use Rattle.std.specs.Prelude.{◌≡◌, ◌≤◌, ◌+◌, Err, IsTrue, IsFalse, IfOk, IfErr, OnOk, ℕ, length};
 ghost use Rattle.std.specs.Result.{result_ok};
 ghost use Rattle.awk_edge.specs.Causes.{Rose, flushes_after};
-ghost use Rattle.awk_query.specs.Allowed.{IsAllowedLine};
+ghost use Rattle.awk_query.specs.AllowedLine.{IsAllowedLine};
 ghost use Rattle.awk_lengths.specs.LineBytes.{HasBytes};
 ghost use Rattle.awk_session.specs.Cost.{line_in};
 ghost use Rattle.awk_framing.specs.Framing.{is_blank};

@@ -27,7 +27,7 @@ use Rattle.serde_json.specs.View.{view, members_view}
 use Rattle.serde_json.specs.declared.value.Value.{Value}
 use Rattle.serde_json.proofs.Views.{view-lookup}
 use Rattle.awk_store.specs.Buffers.{ByKey, Held, HoldsTexts, texts_of, Given, Buffers, at_key, total_len, held_len}
-use Rattle.awk_store.specs.Buffers.{is_fetched, unfetched_len, unread_len, buffer, decoding, text_or_raw, why_told}
+use Rattle.awk_store.specs.Buffers.{is_fetched, unfetched_len, unread_len, buffer, added_bytes, decoding, text_or_raw, why_told}
 use Rattle.awk_types.specs.Gives.{Told}
 use Rattle.awk_store.specs.declared.fault.StoreFault.{StoreFault}
 use Rattle.awk_store.specs.declared.fault.StoreFault.TheVariants.{Bad}
@@ -139,3 +139,29 @@ bytes_len-≤ held key bytes is encoded = by (at_key held.texts key) (at_key hel
         let here = rw (f, same) at most in
         omega (arith, here)
     by None None e f k = cc
+
+-- the key of bytes that were added has no text
+raw_alone : (held : Held) (key bytes : List ℕ) → added_bytes held key ≡ Some bytes
+    → (at_key held.texts key ≡ None) × (at_key held.raws key ≡ Some bytes)
+raw_alone held key bytes is = by (at_key held.texts key) refl is
+  where
+    by : (text : Option (List ℕ)) → at_key held.texts key ≡ text
+        → cond (is_some text) None (at_key held.raws key) ≡ Some bytes
+        → (at_key held.texts key ≡ None) × (at_key held.raws key ≡ Some bytes)
+    by (Some text) e k = absurd (cc)
+    by None e k = (e, k)
+
+-- they are the bytes of the key
+pub buffer-added_bytes : (held : Held) (key bytes : List ℕ) → added_bytes held key ≡ Some bytes
+    → buffer held key ≡ Ok bytes
+buffer-added_bytes held key bytes is =
+    let alone = raw_alone held key bytes is in
+    rw (alone.0, alone.1) refl
+
+-- they are no more than those of all texts and buffers
+pub added_bytes_len-≤ : (held : Held) (key bytes : List ℕ) → added_bytes held key ≡ Some bytes
+    → length bytes ≤ held_len held
+added_bytes_len-≤ held key bytes is =
+    let most = at_key_len-≤ held.raws key in
+    let here = rw (raw_alone held key bytes is).1 at most in
+    omega (arith, here)

@@ -64,6 +64,11 @@ text_or_raw None raw = ok_or raw Absent
 abbrev pub buffer : Held → List ℕ → Result (List ℕ) BufferWhy
 buffer held key = text_or_raw (at_key held.texts key) (at_key held.raws key)
 
+-- the bytes that were added under a key that has no text
+abbrev pub added_bytes : Held → List ℕ → Option (List ℕ)
+added_bytes held key =
+    if is_some (at_key held.texts key) then None else at_key held.raws key
+
 -- the key is in neither
 pub record IsNew (held : Held) (key : List ℕ) : Type 0 where
   pub no_text : at_key held.texts key ≡ None

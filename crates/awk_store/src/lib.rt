@@ -2,7 +2,7 @@
 //! arena once.
 //!
 //! `Store::fetch` gives the bytes of a key, or tells that it is absent or that its text is no
-//! base64.
+//! base64. `Store::added` gives bytes that were added, and copies nothing.
 #![tactic(auto)]
 
 mod fault;

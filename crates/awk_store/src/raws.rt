@@ -1,5 +1,5 @@
 //! Bytes that were added by key.
-ghost use Rattle.std.specs.Prelude.{◌≡◌, ◌+◌, ◌++◌, ◌∷◌, [], ◌≤◌, None, IfOk, IsOk, IsTrue, OnOk, OnErr};
+ghost use Rattle.std.specs.Prelude.{◌≡◌, ◌+◌, ◌++◌, ◌∷◌, [], ◌≤◌, None, option_map, IfOk, IsOk, IsTrue, OnOk, OnErr};
 ghost use Rattle.std.specs.Option.{ok_or};
 ghost use Rattle.awk_types.specs.Gives.{Gives};
 ghost use Rattle.awk_store.specs.Buffers.{at_key, why_told, is_fetched, with_fetched, unfetched_len};
@@ -67,6 +67,16 @@ impl<'v, 'a> Raws<'v, 'a> {
     {
         self.raws.insert(String::from_str(self.alloc, key)?, bytes)?;
         Ok(())
+    }
+
+    /// The bytes of a key, where they lie.
+    pub(crate) fn get(&self, key: &str) -> Option<&'v [u8]>
+        ensures { option_map (λ bytes. bytes.now) result ≡ at_key self.now.entries key.now }
+    {
+        match self.raws.get(key) {
+            Some(bytes) => Some(*bytes),
+            None => None,
+        }
     }
 
     /// The bytes of a key. They are copied, a step for each, where they were not yet.

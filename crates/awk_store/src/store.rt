@@ -1,11 +1,11 @@
 //! The buffers of a map of base64 texts, and those whose bytes were added.
-ghost use Rattle.std.specs.Prelude.{◌≡◌, ◌≢◌, ℕ, ◌+◌, ◌≤◌, List, [], Some, IfOk, IsOk, IsErrOf, IsTrue, OnOk, OnErr};
+ghost use Rattle.std.specs.Prelude.{◌≡◌, ◌≢◌, ℕ, ◌+◌, ◌≤◌, List, [], Some, option_map, IfOk, IsOk, IsErrOf, IsTrue, OnOk, OnErr};
 ghost use Rattle.serde_json.specs.View.{members_view};
 ghost use Rattle.base64.specs.Engines.{standard};
 ghost use Rattle.base64.specs.GeneralPurpose.{encode_of, IsBytes};
 ghost use Rattle.awk_types.specs.Gives.{Gives};
 ghost use Rattle.awk_store.specs.Buffers.{HoldsTexts, texts_of, at_key, only_texts, buffer, IsNew};
-ghost use Rattle.awk_store.specs.Buffers.{why_told, with_raw, is_known, with_known, unread_len};
+ghost use Rattle.awk_store.specs.Buffers.{why_told, with_raw, added_bytes, is_known, with_known, unread_len};
 
 use crate::fault::{BufferWhy, StoreFault};
 use crate::raws::Raws;
@@ -65,6 +65,17 @@ impl<'v, 'a> Store<'v, 'a> {
         ensures refused { OnErr result (self.new ≡ self.old) }
     {
         self.raws.add(key, bytes)
+    }
+
+    /// The bytes that were added under a key, where they lie. There are none under a key with a
+    /// text.
+    pub fn added(&self, key: &str) -> Option<&'v [u8]>
+        ensures { option_map (λ bytes. bytes.now) result ≡ added_bytes self.now.held key.now }
+    {
+        if self.texts.has(key) {
+            return None;
+        }
+        self.raws.get(key)
     }
 
     /// The bytes of a key. Its text is decoded, or its bytes are copied, a step for each of their

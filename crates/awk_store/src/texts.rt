@@ -1,5 +1,5 @@
 //! The bytes that the texts of a map encode.
-ghost use Rattle.std.specs.Prelude.{◌≡◌, ◌≢◌, ℕ, ◌+◌, ◌≤◌, List, [], Some, None, Err, option_map, IfOk, IfSome, IsOk, IsErrOf, IsTrue, OnOk, OnErr};
+ghost use Rattle.std.specs.Prelude.{◌≡◌, ◌≢◌, ℕ, ◌+◌, ◌≤◌, List, [], Some, None, Err, is_some, option_map, IfOk, IfSome, IsOk, IsErrOf, IsTrue, OnOk, OnErr};
 ghost use Rattle.std.specs.Option.{option_map_or};
 ghost use Rattle.serde_json.specs.View.{members_view};
 ghost use Rattle.base64.specs.Engines.{standard};
@@ -102,6 +102,13 @@ impl<'v, 'a> Texts<'v, 'a> {
             arena,
             decoded: IndexMap::new(alloc),
         }
+    }
+
+    /// Whether a key has a text.
+    pub(crate) fn has(&self, key: &str) -> bool
+        ensures { result ≡ is_some (at_key self.now.entries key.now) }
+    {
+        text_at(self.map, key).is_some()
     }
 
     /// The bytes that the text of a key encodes. The text is decoded, a step for each of its bytes,

@@ -1,5 +1,6 @@
 -- How many numbers there are in bytes.
-use Rattle.std.proofs.Common.{◌≡◌, ◌≤◌, ◌*◌, ℕ, List, length, true, Some, None, cond, nat_le, sym, arith}
+use Rattle.std.proofs.Common.{◌≡◌, ◌≤◌, ◌*◌, ℕ, List, length, true, Some, None, Ok, Err, cond, nat_le, sym, arith}
+use Rattle.std.specs.Prelude.{Result, IfOk}
 use Rattle.std.proofs.lemmas.Option.{cond_some}
 use Rattle.awk_lanes.specs.declared.kind.Kind.{Kind}
 use Rattle.awk_lanes.specs.declared.kind.Kind.TheVariants.{Bool as Truths, I8, I16, I32, I64, U8, U16, U32, U64}
@@ -28,3 +29,9 @@ lane_len-≤ k n bytes x lane some =
     numbers-≤ k n (length bytes)
     (nat_le-true (n * width k) (length bytes)
     (cond_some (nat_le (n * width k) (length bytes)) x lane (sym some)).0)
+
+-- what is no more than one number is no more than a greater one
+pub IfOk-≤ : {X E : Type 0} (r : Result X E) (n small great : ℕ) → small ≤ great
+    → IfOk r (λ x. n ≤ small) → IfOk r (λ x. n ≤ great)
+IfOk-≤ (Ok x) n small great more h = omega (arith, more, h)
+IfOk-≤ (Err e) n small great more h = h

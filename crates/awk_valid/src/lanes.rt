@@ -1,6 +1,6 @@
 //! The lanes of a node, from the buffers under its keys.
-ghost use Rattle.std.specs.Prelude.{◌≡◌, ◌+◌, ◌*◌, ◌/◌, ◌%◌, ◌≤◌, nat_le, length, Some, None};
-ghost use Rattle.std.specs.Prelude.{if◌then◌else◌, IfOk};
+ghost use Rattle.std.specs.Prelude.{◌≡◌, ◌+◌, ◌*◌, ◌/◌, ◌%◌, ◌≤◌, nat_le, length, Ok, Some, None};
+ghost use Rattle.std.specs.Prelude.{if◌then◌else◌, true, IfOk, IsTrue};
 ghost use Rattle.awk_types.specs.Gives.{Gives};
 ghost use Rattle.awk_types.specs.ItemLimit.{item_limit};
 ghost use Rattle.awk_lanes.specs.Numbers.{width};
@@ -10,7 +10,7 @@ ghost use Rattle.awk_valid.specs.Container.{column_at};
 ghost use Rattle.awk_valid.specs.Loading.{told, lane_said, bits_said};
 
 use crate::fault::{BufferFault, LoadFault, buffer_fault};
-use crate::order::turned;
+use crate::order::{turned, turned_into};
 use awk_lanes::{Arena, Bits, Kind, Lane, NoMemory, Steps};
 use awk_store::{BufferWhy, Store, StoreFault};
 use std::alloc::Global;
@@ -55,6 +55,53 @@ fn first_numbers<'a>(
     Ok(Some(numbers_in(reader, &bytes[..size], kind)?))
 }
 
+/// The numbers that bytes outside the arena are, most significant byte first, turned round into it.
+fn numbers_turned<'a>(bytes: &[u8], kind: Kind, arena: &'a Arena) -> Result<Lane<'a>, NoMemory>
+    requires { length bytes.now % width kind ≡ 0 }
+    ensures { IfOk result (λ lane. lane ≡
+        column_at true kind (length bytes.now / width kind) bytes.now) }
+{
+    Ok(Lane::new(kind, turned_into(bytes, kind, arena)?))
+}
+
+/// The first n of them, if there are as many.
+fn first_turned<'a>(
+    bytes: &[u8],
+    kind: Kind,
+    n: u64,
+    arena: &'a Arena,
+) -> Result<Option<Lane<'a>>, NoMemory>
+    requires few { n ≤ item_limit + 1 }
+    ensures { IfOk result (λ lane. lane ≡ (if nat_le (n * width kind) (length bytes.now) then Some
+        (column_at true kind n bytes.now) else None)) }
+{
+    let size = n as usize * kind.width();
+    if bytes.len() < size {
+        return Ok(None);
+    }
+    Ok(Some(numbers_turned(&bytes[..size], kind, arena)?))
+}
+
+/// The same as the numbers of the buffer under a key.
+fn turned_lane<'a>(
+    reader: &Reader<'a>,
+    key: &str,
+    bytes: &[u8],
+    kind: Kind,
+    n: u64,
+) -> Result<Lane<'a>, LoadFault>
+    requires few { n ≤ item_limit + 1 }
+    requires big { IsTrue reader.now.big }
+    ensures answer { Gives (λ lane. lane) told result (lane_said reader.now.big key.now kind n
+        (Ok bytes.now)) }
+    ensures short { IfOk result (λ _. n ≤ length bytes.now) }
+{
+    match first_turned(bytes, kind, n, reader.arena)? {
+        Some(lane) => Ok(lane),
+        None => Err(buffer_fault(reader.alloc, key, BufferFault::Short)),
+    }
+}
+
 /// The first n numbers of a kind in the buffer under a key. Further bytes are not looked at.
 pub(crate) fn lane_at<'a, L: Ledger>(
     reader: &Reader<'a>,
@@ -73,6 +120,12 @@ pub(crate) fn lane_at<'a, L: Ledger>(
     ensures held { store.new.held ≡ store.old.held }
     ensures cost { steps.new ≤ steps.old + unread_len store.old key.now }
 {
+    if reader.big {
+        // What is turned round need not be copied before.
+        if let Some(bytes) = store.added(key) {
+            return turned_lane(reader, key, bytes, kind, n);
+        }
+    }
     match store.fetch(key, steps) {
         Ok(bytes) => match first_numbers(reader, bytes, kind, n)? {
             Some(lane) => Ok(lane),

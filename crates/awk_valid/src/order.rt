@@ -71,8 +71,29 @@ fn whole_bytes(bytes: &[u8], kind: Kind) -> &[u8]
     bytes
 }
 
-/// The bytes of numbers whose most significant byte comes first, least significant byte first.
-/// Numbers of one byte are left where they are.
+/// The bytes of numbers whose most significant byte comes first, least significant byte first, in
+/// the arena.
+pub(crate) fn turned_into<'a>(
+    bytes: &[u8],
+    kind: Kind,
+    arena: &'a Arena,
+) -> Result<&'a [u8], NoMemory>
+    requires { length bytes.now % width kind ≡ 0 }
+    ensures numbers { let n = length bytes.now / width kind in
+        IfOk result (λ r. numbers kind n r.now ≡ big_numbers kind n bytes.now) }
+    ensures size { IfOk result (λ r. length r.now ≡ length bytes.now) }
+{
+    match kind {
+        Kind::Bool | Kind::I8 | Kind::U8 => {
+            Ok(arena.try_alloc_slice_copy(whole_bytes(bytes, kind))?)
+        }
+        Kind::I16 | Kind::U16 => turned_numbers::<2>(bytes, kind, arena),
+        Kind::I32 | Kind::U32 => turned_numbers::<4>(bytes, kind, arena),
+        Kind::I64 | Kind::U64 => turned_numbers::<8>(bytes, kind, arena),
+    }
+}
+
+/// The same of bytes that lie in the arena. Numbers of one byte are left where they are.
 pub(crate) fn turned<'a>(
     bytes: &'a [u8],
     kind: Kind,
@@ -83,10 +104,8 @@ pub(crate) fn turned<'a>(
         IfOk result (λ r. numbers kind n r.now ≡ big_numbers kind n bytes.now) }
     ensures size { IfOk result (λ r. length r.now ≡ length bytes.now) }
 {
-    match kind {
-        Kind::Bool | Kind::I8 | Kind::U8 => Ok(whole_bytes(bytes, kind)),
-        Kind::I16 | Kind::U16 => turned_numbers::<2>(bytes, kind, arena),
-        Kind::I32 | Kind::U32 => turned_numbers::<4>(bytes, kind, arena),
-        Kind::I64 | Kind::U64 => turned_numbers::<8>(bytes, kind, arena),
+    if kind.width() == 1 {
+        return Ok(whole_bytes(bytes, kind));
     }
+    turned_into(bytes, kind, arena)
 }

@@ -11,8 +11,8 @@ use Rattle.base64.proofs.OnLiterals.{base64_on_literals}
 use Rattle.awk_form.specs.Node.{node_at}
 use Rattle.awk_form.specs.Reading.{nodes_of, form_of}
 use Rattle.awk_query.specs.Line.{Line, or_json, line_or_unread}
-use Rattle.awk_query.specs.Operations.{row_of}
-use Rattle.awk_query.specs.Reading.{expr_said}
+use Rattle.awk_expr.specs.Operations.{row_of}
+use Rattle.awk_expr.specs.Reading.{expr_said}
 use Rattle.awk_eval.specs.Variables.{Environment}
 use Rattle.awk_edge.proofs.PlainUnits.{plain_units}
 use Rattle.awk_query.specs.declared.reading.Reading.{Reading}

@@ -1,5 +1,5 @@
 use Rattle.std.proofs.Common.{◌≡◌, true, length, subst}
-use Rattle.awk_query.specs.Allowed.{HasArguments}
+use Rattle.awk_expr.specs.Allowed.{HasArguments}
 use Rattle.awk_arguments.proofs.Rows.{AreDistinct-fields}
 use Rattle.awk_arguments.proofs.ZipArguments.{AreNamed-zip}
 use Rattle.awk_eval.specs.Views.{is_view_op}

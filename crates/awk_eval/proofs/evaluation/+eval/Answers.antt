@@ -2,8 +2,8 @@ use Rattle.std.proofs.Common.{◌≡◌, ◌+◌, ◌∷◌, [], length, length-
 use Rattle.std.proofs.Common.{arith, rules}
 use Rattle.awk_types.specs.Faults.{fault_told}
 use Rattle.awk_types.proofs.RefusalLaws.{Gives-Err}
-use Rattle.awk_query.specs.Allowed.{HasArguments}
-use Rattle.awk_query.specs.View.{expr_of, exprs_of}
+use Rattle.awk_expr.specs.Allowed.{HasArguments}
+use Rattle.awk_expr.specs.View.{expr_of, exprs_of}
 use Rattle.awk_eval.specs.Variables.{denoted}
 use Rattle.awk_eval.proofs.Evaluations.{operands-push, operands-told, AreAllowed-get}
 use Rattle.awk_eval.proofs.Evaluations.{HasArguments-call, AreTaken-operands}

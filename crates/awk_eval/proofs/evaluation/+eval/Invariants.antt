@@ -1,6 +1,6 @@
 use Rattle.std.proofs.Common.{◌≡◌, ◌+◌, ◌*◌, ◌≤◌, ◌++◌, drop, length}
-use Rattle.awk_query.specs.ExprTree.{exprs_from}
-use Rattle.awk_query.specs.View.{exprs_of}
+use Rattle.awk_expr.specs.ExprTree.{exprs_from}
+use Rattle.awk_expr.specs.View.{exprs_of}
 use Rattle.awk_eval.specs.Variables.{denoted}
 use Rattle.awk_arguments.specs.Operand.{takes_literal, AreTaken}
 use Rattle.awk_arguments.specs.OperandView.{shown_operands}

@@ -31,13 +31,6 @@ push-requires-in-loop-i-clause-room g c =
     made_size (λ j. pos (before m j)) (c.loop-i.i + 1) _ c.loop-i.invariant.made.items in
     omega (arith, e, c.loop-i.invariant.made.room, c.loop-i-test.true)
 
-pub finish-requires : goal.finish-requires
-finish-requires g c =
-    let m = g.S.TupleCounts.count c.args.source.now in
-    let e : length c.loop-i.maker.items ≡ c.loop-i.i + 1 =
-    made_size (λ j. pos (before m j)) (c.loop-i.i + 1) _ c.loop-i.invariant.made.items in
-    omega (arith, e, c.loop-i.invariant.made.room, c.loop-i-test.false)
-
 pub loop-i-preserved : goal.loop-i-preserved
 loop-i-preserved g c =
     let m = g.S.TupleCounts.count c.args.source.now in

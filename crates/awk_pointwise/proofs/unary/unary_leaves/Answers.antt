@@ -1,28 +1,24 @@
-use Rattle.std.proofs.Common.{◌≡◌, sym, subst}
+use Rattle.std.proofs.Common.{◌≡◌, sym, subst, map}
 use Rattle.std.specs.Prelude.{Ok}
 use Rattle.awk_types.specs.Faults.{fault_told}
 use Rattle.awk_types.specs.Gives.{Gives}
 use Rattle.awk_leaves.specs.Table.{unary_judged}
-use Rattle.awk_pointwise.specs.Numbers.{word_numbers}
+use Rattle.awk_leaves.specs.Values.{unary_at, all_values, in_judged}
 use Rattle.awk_pointwise.specs.Sides.{leaf_type, side_values, lane_values}
-use Rattle.awk_pointwise.proofs.SingleLaws.{single_ready, unary_is, unary_same}
+use Rattle.awk_pointwise.proofs.SingleLaws.{unary_same, length-single}
 use Rattle.awk_pointwise.proofs.unary.unary_leaves.Goals as goal
 
-pub of_number-requires : goal.of_number-requires
-of_number-requires g c =
-    let t = leaf_type c.args.side.now in
-    let same : unary_judged c.args.op t ≡ Ok c.in_ok-prim.prim =
-    unary_same c.args.op c.leaf_type.result t c.unary_prim.result c.in_ok-prim.prim
-    c.leaf_type.ensures c.unary_prim.ensures c.in_ok-prim.was in
-    single_ready c.args.op t c.in_ok-prim.prim (word_numbers c.in_ok-numbers.numbers) same
-    c.in_ok-numbers.ensures.typed
+pub lane_by_blocks-requires-clause-size : goal.lane_by_blocks-requires-clause-size
+lane_by_blocks-requires-clause-size g c =
+    length-single (unary_at c.args.op c.in_ok-prim.prim) c.args.n c.args.side.now c.requires
 
 pub returns-clause-answer : goal.returns-clause-answer
 returns-clause-answer g c =
-    let t = leaf_type c.args.side.now in
-    let same : unary_judged c.args.op t ≡ Ok c.in_ok-prim.prim =
-    unary_same c.args.op c.leaf_type.result t c.unary_prim.result c.in_ok-prim.prim
+    let op = c.args.op in
+    let x = c.args.side.now in
+    let same : unary_judged op (leaf_type x) ≡ Ok c.in_ok-prim.prim =
+    unary_same op c.leaf_type.result (leaf_type x) c.unary_prim.result c.in_ok-prim.prim
     c.leaf_type.ensures c.unary_prim.ensures c.in_ok-prim.was in
-    subst (Gives lane_values fault_told c.of_number.result)
-    (sym (unary_is c.args.op t c.in_ok-prim.prim (side_values c.args.n c.args.side.now)
-    c.in_ok-numbers.numbers same c.in_ok-numbers.ensures)) c.of_number.ensures.answer
+    subst (λ j. Gives lane_values fault_told c.lane_by_blocks.result (in_judged j
+    (λ p. all_values (map (unary_at op p) (side_values c.args.n x))))) (sym same)
+    c.lane_by_blocks.ensures.answer

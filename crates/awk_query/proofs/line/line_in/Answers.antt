@@ -1,9 +1,9 @@
 use Rattle.std.proofs.Common.{ap, sym, ◌∙◌, subst}
 use Rattle.awk_types.specs.Gives.{Gives}
 use Rattle.serde_json.specs.View.{members_view}
+use Rattle.awk_expr.specs.Told.{unread_told, or_query}
 use Rattle.awk_query.specs.Line.{line_with}
 use Rattle.awk_query.specs.LineView.{line_view}
-use Rattle.awk_query.specs.Told.{unread_told, or_query}
 use Rattle.awk_query.proofs.LineLaws.{line_of-Object, line_with-none}
 use Rattle.awk_query.proofs.line.line_in.Goals as goal
 

@@ -1,6 +1,6 @@
 use Rattle.std.proofs.Common.{◌≡◌, ◌++◌, drop, map, option_map}
 use Rattle.serde_json.specs.View.{view}
-use Rattle.awk_query.specs.Arguments.{all_of}
+use Rattle.awk_expr.specs.Arguments.{all_of}
 use Rattle.awk_query.specs.Line.{part_in}
 use Rattle.awk_query.proofs.parts.each_part.Given as goal
 

@@ -1,6 +1,6 @@
 use Rattle.std.proofs.Common.{ap}
 use Rattle.awk_session.specs.Replies.{evaluated}
-use Rattle.awk_query.specs.View.{expr_of}
+use Rattle.awk_expr.specs.View.{expr_of}
 use Rattle.awk_eval.specs.Views.{view_of}
 use Rattle.awk_eval.proofs.ViewSteps.{TakesView-steps}
 use Rattle.awk_session.proofs.ViewLaws.{binds_made}

@@ -2,7 +2,7 @@
 use Rattle.std.proofs.Common.{◌+◌, length, subst, arith}
 use Rattle.serde_json.specs.View.{view, members_view}
 use Rattle.awk_lengths.specs.LineBytes.{text_len}
-use Rattle.awk_query.specs.Allowed.{IsAllowedLine}
+use Rattle.awk_query.specs.AllowedLine.{IsAllowedLine}
 use Rattle.awk_query.specs.Line.{keys_of, texts, parts}
 use Rattle.awk_query.specs.LineView.{line_view}
 use Rattle.awk_types.proofs.DistinctLaws.{AreDistinct-true}

@@ -1,4 +1,4 @@
-use Rattle.awk_query.specs.View.{expr_of}
+use Rattle.awk_expr.specs.View.{expr_of}
 use Rattle.awk_eval.specs.Views.{view_of}
 use Rattle.awk_eval.proofs.ViewSteps.{TakesView-steps}
 use Rattle.awk_session.proofs.reply.show_type.Goals as goal

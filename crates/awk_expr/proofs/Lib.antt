@@ -1,0 +1,10 @@
+pub mod Views
+pub mod Lists
+pub mod Rising
+pub mod Levels
+pub mod Heads
+pub mod ArgLaws
+pub mod Traversed
+pub mod Pairs
+pub mod Examples
+pub mod AllowedLaws

@@ -1,0 +1,128 @@
+-- Numbers in groups of eight bytes.
+use Rattle.std.specs.Prelude.{◌≡◌, ◌≢◌, refl, ℕ, suc, zero, ◌+◌, ◌*◌, ◌/◌, ◌<◌, List, [], ◌∷◌, ◌++◌}
+use Rattle.std.specs.Prelude.{length, map, get_or, ℤ, pos}
+use Rattle.std.specs.List.{flat_map}
+use Rattle.std.specs.Simd.{first_chunks}
+use Rattle.std.specs.Int.{cast_unsigned, w64}
+use Rattle.std.proofs.Common.{arith, ap, ap₂, sym, ◌∙◌, subst}
+use Rattle.std.proofs.lemmas.List.{length-map, get_or-map, map-append}
+use Rattle.std.proofs.lemmas.Int.{ints}
+use Rattle.awk_lanes.specs.declared.kind.Kind.{Kind}
+use Rattle.awk_lanes.specs.declared.kind.Kind.TheVariants.{Bool as Truths, I8, I16, I32, I64}
+use Rattle.awk_lanes.specs.declared.kind.Kind.TheVariants.{U8, U16, U32, U64}
+use Rattle.awk_lanes.specs.Column.{Column}
+use Rattle.awk_lanes.specs.Numbers.{width, number, numbers}
+use Rattle.awk_lanes.specs.Places.{size_of, at, IsIndexKind}
+use Rattle.awk_lanes.specs.Making.{Making, with_item}
+use Rattle.awk_lanes.specs.Ranges.{IsNumber, AreNumbers}
+use Rattle.awk_lanes.specs.Words.{column, low_bytes}
+use Rattle.awk_lanes.proofs.NumberParts.{map-number_all}
+use Rattle.awk_lanes.proofs.PlaceLaws.{element-index}
+use Rattle.awk_lanes.proofs.RangeLaws.{zero_number}
+use Rattle.awk_lanes.proofs.WordLaws.{flat_map-map, number_low, numbers-low}
+use Rattle.awk_index.specs.Groups.{groups_of}
+
+-- the numbers of a lane of 64 bits by its groups
+pub numbers-groups : (c : Column) (b : List ℕ) → c.kind ≡ I64
+    → length b ≡ size_of c * width c.kind → numbers c.kind (size_of c) b ≡ c.items
+    → map (number I64) (first_chunks 8 (length b / 8) b) ≡ c.items
+numbers-groups c b k size same =
+    subst (λ kind. length b ≡ size_of c * width kind → numbers kind (size_of c) b ≡ c.items
+    → map (number I64) (first_chunks 8 (length b / 8) b) ≡ c.items) (sym k)
+    (λ s e. map-number_all I64 (size_of c) b c.items s e) size same
+
+-- ---- one number
+
+abbrev Seen : Kind → List (List ℕ) → Column
+Seen kind gs = record { kind = kind; items = map (number I64) gs }
+
+pub within-groups : (kind : Kind) (gs : List (List ℕ)) (v : Column) (i : ℕ) → Seen kind gs ≡ v
+    → i < size_of v → i < length gs
+within-groups kind gs v i e l =
+    omega (arith, l, ap size_of e, length-map gs (number I64))
+
+pub number-at : (kind : Kind) (gs : List (List ℕ)) (v : Column) (i : ℕ) → Seen kind gs ≡ v
+    → IsIndexKind kind → i < size_of v → number I64 (get_or gs i []) ≡ at v i
+number-at kind gs v i e p l =
+    sym (get_or-map (number I64) gs i [] (pos 0) (within-groups kind gs v i e l))
+    ∙ sym (element-index kind (get_or (map (number I64) gs) i (pos 0)) p)
+    ∙ ap (λ (c : Column). at c i) e
+
+-- ---- numbers of any kind
+
+wide : (k : Kind) (z : ℤ) → k ≢ U64 → IsNumber k z → IsNumber I64 z
+wide Truths z p h = (omega (arith, ints, h.0), omega (arith, ints, h.1))
+wide I8 z p h = (omega (arith, ints, h.0), omega (arith, ints, h.1))
+wide I16 z p h = (omega (arith, ints, h.0), omega (arith, ints, h.1))
+wide I32 z p h = (omega (arith, ints, h.0), omega (arith, ints, h.1))
+wide I64 z p h = h
+wide U8 z p h = (omega (arith, ints, h.0), omega (arith, ints, h.1))
+wide U16 z p h = (omega (arith, ints, h.0), omega (arith, ints, h.1))
+wide U32 z p h = (omega (arith, ints, h.0), omega (arith, ints, h.1))
+wide U64 z p h = absurd (p refl)
+
+pub not-unsigned : (k : Kind) → IsIndexKind k → k ≢ U64
+not-unsigned k h e = subst IsIndexKind e h
+
+-- numbers of offsets and the like are numbers of 64 bits
+pub wide-numbers : (c : Column) → IsIndexKind c.kind → AreNumbers c
+    → AreNumbers (column I64 c.items)
+wide-numbers c p h i =
+    wide c.kind (get_or c.items i (pos 0)) (not-unsigned c.kind p) (h i)
+
+-- ---- a lane that is made
+
+abbrev AreGroups : List (List ℕ) → Type 0
+AreGroups gs =
+    (gs ≡ groups_of (map (number I64) gs)) × AreNumbers (column I64 (map (number I64) gs))
+
+are-more : (zs : List ℤ) (z : ℤ) → AreNumbers (column I64 zs) → IsNumber I64 z
+    → AreNumbers (column I64 (zs ++ z ∷ []))
+are-more [] z h n zero = n
+are-more [] z h n (suc i) = zero_number I64
+are-more (x ∷ zs) z h n zero = h 0
+are-more (x ∷ zs) z h n (suc i) = are-more zs z (λ j. h (suc j)) n i
+
+pub items-more : (gs : List (List ℕ)) (b : List ℕ) (z : ℤ) → IsNumber I64 z
+    → b ≡ low_bytes 8 (cast_unsigned w64 z)
+    → map (number I64) (gs ++ b ∷ []) ≡ map (number I64) gs ++ z ∷ []
+items-more gs b z n e =
+    map-append (number I64) gs (b ∷ [])
+    ∙ ap (λ u. map (number I64) gs ++ u ∷ []) (ap (number I64) e ∙ number_low I64 z n)
+
+pub groups-more : (gs new : List (List ℕ)) (b : List ℕ) (z : ℤ) → IsNumber I64 z
+    → b ≡ low_bytes 8 (cast_unsigned w64 z) → new ≡ gs ++ b ∷ [] → AreGroups gs → AreGroups new
+groups-more gs new b z n e p h =
+    let items : map (number I64) new ≡ map (number I64) gs ++ z ∷ [] =
+    ap (map (number I64)) p ∙ items-more gs b z n e in (
+      p ∙ ap₂ (λ hs c. hs ++ c ∷ []) h.0 e
+          ∙ sym (ap groups_of items
+          ∙ map-append (λ z. low_bytes 8 (cast_unsigned w64 z)) (map (number I64) gs) (z ∷ [])),
+      subst (λ zs. AreNumbers (column I64 zs)) (sym items)
+          (are-more (map (number I64) gs) z h.1 n),
+    )
+
+pub pushed : (gs new : List (List ℕ)) (room : ℕ) (b : List ℕ) (z : ℤ) (m : Making)
+    → IsNumber I64 z → b ≡ low_bytes 8 (cast_unsigned w64 z) → new ≡ gs ++ b ∷ []
+    → record { kind = I64; room = room; items = map (number I64) gs } ≡ m
+    → record { kind = I64; room = room; items = map (number I64) new } ≡ with_item m z
+pushed gs new room b z m n e p v =
+    ap (λ zs. record { kind = I64; room = room; items = zs })
+    (ap (map (number I64)) p ∙ items-more gs b z n e)
+    ∙ ap (λ (w : Making). with_item w z) v
+
+-- the lane of the numbers, whose bytes stand one after another
+pub joined : (gs : List (List ℕ)) (room : ℕ) (flat : List ℕ) (m : Making) (r : Column)
+    → record { kind = I64; room = room; items = map (number I64) gs } ≡ m → AreGroups gs
+    → flat ≡ flat_map (λ b. b) gs → length flat ≡ length gs * 8 → r.kind ≡ I64
+    → r.items ≡ numbers I64 (length flat / 8) flat → r ≡ record { kind = I64; items = m.items }
+joined gs room flat m r v h f n k e =
+    let zs : List ℤ = map (number I64) gs in
+    let count : length flat / 8 ≡ length zs = omega (arith, n, length-map gs (number I64)) in
+    let items : numbers I64 (length flat / 8) flat ≡ zs =
+    ap (λ j. numbers I64 j flat) count
+    ∙ ap (numbers I64 (length zs)) (f ∙ ap (λ (hs : List (List ℕ)). flat_map (λ b. b) hs) h.0
+    ∙ flat_map-map (λ z. low_bytes 8 (cast_unsigned w64 z)) zs)
+    ∙ numbers-low I64 zs h.1 in
+    ap₂ (λ j us. record { kind = j; items = us }) k
+    (e ∙ items ∙ ap (λ (w : Making). w.items) v)

@@ -1,0 +1,13 @@
+//! Laws of the operations, over their definitions: what a reader can check them against.
+//!
+//! Each call has no parameters and does nothing: its contract is the laws of one group, which stand
+//! in `specs/` as a record with a line for each law.
+#![tactic(auto)]
+
+mod histograms;
+mod leaves;
+mod orders;
+
+pub use histograms::histogram_laws;
+pub use leaves::leaf_laws;
+pub use orders::order_laws;

@@ -1,7 +1,0 @@
-use Rattle.awk_query.specs.Operations.{row_of}
-use Rattle.awk_query.proofs.operations.operation.Goals as goal
-
--- the table in code is that of the definition
-pub returns : goal.returns
-unfolding row_of
-returns c = c.among.ensures
