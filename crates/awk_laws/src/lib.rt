@@ -7,7 +7,11 @@
 mod histograms;
 mod leaves;
 mod orders;
+mod reducers;
+mod tuples;
 
 pub use histograms::histogram_laws;
 pub use leaves::leaf_laws;
 pub use orders::order_laws;
+pub use reducers::reducer_laws;
+pub use tuples::tuple_laws;
