@@ -1,13 +1,14 @@
 #!/usr/bin/env python3
-"""Runs sessions that name far more than they hold, in 2 GB of address space.
+"""Runs sessions that name far more than they hold, in 4 GB of address space.
 
     python3 bench/attacks.py [--only WORD] [--seconds N] [PROGRAM ..]
 
 PROGRAM is crates/awk_cli/out/awk_cli where none is given; several are run one after another. Each
-row is a session, and its last answer is printed with the exit status and the processor seconds.
-Those that end in x1 and x10 are the same at a size and at ten times that; `late` is a session that
-took longer than N seconds by the clock, 60 where none are given. No row should
-end with status 5 where a value or a fault is defined. All figures are of this run, which is made by
+row is a session, and its last answer is printed with the exit status, the processor seconds and the
+peak of its memory, of which up to 80 MB may be this script's own. Those that end in x1 and x10 are
+the same at a size and at ten times that, and their ratios are printed at the end; `late` is a
+session that took longer than N seconds by the clock, 60 where none are given. No row should end
+with status 5 where a value or a fault is defined. All figures are of this run, which is made by
 hand and is no part of the gate.
 """
 
@@ -16,10 +17,12 @@ import json
 import os
 import resource
 import subprocess
+import tempfile
+import threading
 from base64 import b64encode
 from struct import pack
 
-SPACE = 2_000_000_000
+SPACE = 4_000_000_000
 LIMIT = 2**30
 EMPTY = {"class": "RecordArray", "fields": [], "contents": []}
 
@@ -86,40 +89,137 @@ def overlapping(lists: int, places: int) -> str:
                 l_stops=lane("q", *([places] * lists)), d_data=lane("q", *range(places)))
 
 
-def wide(fields: int) -> str:
-    """Records of so many fields."""
-    names = [f"f{it}" for it in range(fields)]
-    return load("w", {"class": "RecordArray", "fields": names, "contents": [EMPTY] * fields}, 0)
+# What is asked of lists o that lie over one another, each with 1,000 items. Those of the second
+# list have a size that is refused.
+OVER = {
+    "sum": ["sum", "o"], "prod": ["prod", "o"], "min": ["min", "o"], "argmax": ["argmax", "o"],
+    "all": ["all", "o"], "count": ["count", "o"], "count_nonzero": ["count_nonzero", "o"],
+    "run_lengths": ["run_lengths", "o"], "neg": ["neg", "o"], "add": ["add", "o", "o"],
+    "eq": ["eq", "o", 7], "where": ["where", ["lt", "o", 7], "o", 0], "cast": ["cast", "o", "int16"],
+    "sort": ["sort", "o", True], "argsort": ["argsort", "o", False],
+    "hist": ["hist", "o", [0, 500, 1000]], "hist_each": ["hist_each", "o", [0, 500, 1000]],
+    "num": ["num", "o", 1], "local_index": ["local_index", "o", 1], "flatten": ["flatten", "o", 1],
+    "unflatten": ["unflatten", ["flatten", "o", 1], ["num", "o", 1]],
+    "is_none": ["is_none", "o", 1], "fill_none": ["fill_none", ["pad_none", "o", 1001, 1, True], 7],
+    "drop_none": ["drop_none", "o", 1], "singletons": ["singletons", "o", 1],
+    "firsts": ["firsts", "o", 1], "pad_none": ["pad_none", "o", 1001, 1, False],
+    "put_mask": ["put_mask", "o", ["lt", "o", 7], True], "at_each": ["at_each", "o", -1],
+    "range": ["range", "o", None, None, -1], "pick lists": ["pick", "o", ["lt", "o", 7]],
+    "pick places": ["pick", "o", ["local_index", "o", 0]], "zip": ["zip", 2, [["a", "o"]]],
+    "with_field": ["with_field", ["zip", 2, [["a", "o"]]], "b", "o"],
+    "concatenate 0": ["concatenate", 0, ["o", "o"]],
+    "concatenate 1": ["concatenate", 1, ["o", "o"]],
+}
+OVER["fill_none"].append(1)
+REFUSED = {
+    "combinations": ["combinations", 3, False, 1, "o"],
+    "cartesian": ["cartesian", 1, ["o", "o", "o"]],
+}
+
+
+def record(names: list[str], content: dict[str, object]) -> dict[str, object]:
+    return {"class": "RecordArray", "fields": names, "contents": [content] * len(names)}
+
+
+def wide(name: str, names: list[str]) -> str:
+    """A record of so many fields."""
+    return load(name, record(names, EMPTY), 1)
+
+
+def fields(scale: int) -> list[tuple[str, list[str]]]:
+    """What is asked of records of many fields."""
+    names = [f"f{it}" for it in range(5_000 * scale)]
+    back = names[::-1]
+    w, v = wide("w", names), wide("v", back)
+    values = [{name: 1 for name in names}, {name: 2 for name in back}]
+    return [
+        ("fields field", [w, typed(["field", "w", back[0]])]),
+        ("fields fields of two", [w, typed(["num", ["fields", "w", [back[0], "f0"]], 0])]),
+        ("fields fields of all", [w, typed(["num", ["fields", "w", back], 0])]),
+        ("fields without_field", [w, let("v", ["without_field", "w", back[0]])]),
+        ("fields with_field", [w, let("v", ["with_field", "w", "new", ["field", "w", "f0"]])]),
+        ("fields concatenate", [w, let("v", ["concatenate", 0, ["w", "w"]])]),
+        ("fields concatenate turned", [w, v, let("u", ["concatenate", 0, ["w", "v"]])]),
+        ("fields eq", [w, v, show(["eq", "w", "v"])]),
+        ("fields pick", [w, typed(["num", ["pick", "w", ["local_index", "w", 0]], 0])]),
+        ("fields show", [w, show("w")]),
+        ("fields pack", [w, json.dumps({"pack": "w"})]),
+        ("fields values turned", [json.dumps({"values": "x", "from": values})]),
+    ]
+
+
+def unions(name: str, alternatives: int) -> str:
+    """A union of so many alternatives, each of which has lists of such a union."""
+    buffers = {"d_data": ""}
+
+    def union(key: str, content: dict[str, object] | None) -> dict[str, object]:
+        contents = []
+        for it in range(alternatives):
+            inner = content or union(f"{key}{it}_", node("NumpyArray", "d", primitive="int64"))
+            contents.append(regular(it + 1, inner))
+        buffers.update({f"{key}_tags": "", f"{key}_index": ""})
+        return node("UnionArray", key.replace("_", "-"), tags="i8", index="i64", contents=contents)
+
+    return load(name, union("u", None), 0, **buffers)
+
+
+def big_types(scale: int) -> list[tuple[str, list[str]]]:
+    """Unions within unions of up to 127 alternatives, and types of up to 65,536 nodes."""
+    most = 40 if scale == 1 else 127
+    u, v = unions("u", most), unions("v", most)
+    # 1 + 32 * (1 + 63 * (1 + 32 or 3))
+    leaves = [f"f{it}" for it in range(31 if scale == 10 else 2)]
+    tree = record([f"f{it}" for it in range(32)],
+                  record([f"f{it}" for it in range(63)], record(leaves, EMPTY)))
+    t = load("t", tree, 1)
+    zeros = ["local_index", "t", 0]
+    return [
+        ("unions load", [u, typed("u")]),
+        ("unions concatenate", [u, v, let("c", ["concatenate", 0, ["u", "v"]])]),
+        ("unions num", [u, typed(["num", "u", 1])]),
+        ("unions is_none 2", [u, typed(["is_none", "u", 2])]),
+        ("unions pick", [u, typed(["pick", "u", ["local_index", "u", 0]])]),
+        ("unions pad_none", [u, typed(["pad_none", "u", 2, 0, False])]),
+        ("unions pack", [u, json.dumps({"pack": "u"})]),
+        ("nodes load", [t, typed("t")]),
+        ("nodes field", [t, typed(["field", "t", "f31"])]),
+        ("nodes with_field", [t, let("c", ["with_field", "t", "f0", 1])]),
+        ("nodes concatenate", [t, let("c", ["concatenate", 0, ["t", "t"]])]),
+        ("nodes cartesian", [t, let("c", ["cartesian", 0, ["t"]])]),
+        ("nodes pick", [t, let("c", ["pick", "t", zeros])]),
+        ("nodes pack", [t, json.dumps({"pack": "t"})]),
+    ]
+
+
+def many(scale: int) -> list[tuple[str, list[str]]]:
+    """Many variables, views, operands and places."""
+    one = load("n", node("NumpyArray", "d", primitive="int64"), 1, d_data=lane("q", 7))
+    row = wide("r", [f"f{it}" for it in range(100)])
+    count = 10_000 * scale
+    views = [let("n", ["range", "n", 0, None]) for _ in range(count)]
+    return [
+        ("variables", [one, *[let(f"v{it}", 1) for it in range(count)], show(f"v{count - 1}")]),
+        ("views", [one, *views, show("n")]),
+        ("concatenate of many", [one, show(["num", ["concatenate", 0, ["n"] * (100 * scale)], 0])]),
+        ("concatenate of many rows", [row, let("c", ["concatenate", 0, ["r"] * (100 * scale)])]),
+        ("places of a tuple", [one, typed(["combinations", 6_553 * scale, True, 0, "n"])]),
+        ("pad_none to 2^63", [one, show(["num", ["pad_none", "n", 2**63, 0, False], 0])]),
+    ]
 
 
 def sizes(scale: int) -> list[tuple[str, list[str]]]:
     """Sessions of a size, and of ten times that where the scale is 10."""
-    o, w, last = overlapping(100 * scale, 1000), wide(5_000 * scale), f"f{5_000 * scale - 1}"
-    one = load("n", node("NumpyArray", "d", primitive="int64"), 1, d_data=lane("q", 7))
-    found = [
-        (f"overlap {operation}", [o, typed([operation, "o"])])
-        for operation in ["sum", "min", "argmax", "count", "run_lengths", "neg"]
-    ]
+    o = overlapping(1_000 * scale, 1_000)
+    lists = overlapping(100_000 * scale, 1_000)
+    found = [(f"overlap {name}", [o, let("x", what)]) for name, what in OVER.items()]
+    found += [(f"overlap {name}", [o, show(what)]) for name, what in REFUSED.items()]
     found += [
-        ("overlap sort", [o, typed(["sort", "o", True])]),
-        ("overlap flatten", [o, typed(["flatten", "o", 1])]),
-        ("overlap add", [o, typed(["add", "o", "o"])]),
-        ("overlap hist", [o, show(["hist", "o", [0, 500, 1000]])]),
-        ("overlap concatenate 1", [o, typed(["concatenate", 1, ["o", "o"]])]),
         ("overlap pack", [o, let("s", ["sum", "o"]), show(["count", "s"])]),
-        ("fields field", [w, typed(["field", "w", last])]),
-        ("fields fields", [w, typed(["num", ["fields", "w", [last, "f0"]], 0])]),
-        ("fields without_field", [w, let("v", ["without_field", "w", last])]),
-        ("fields with_field", [w, let("v", ["with_field", "w", "new", ["field", "w", "f0"]])]),
-        ("fields concatenate", [w, let("v", ["concatenate", 0, ["w", "w"]])]),
-        ("variables", [one, *[let(f"v{it}", 1) for it in range(10_000 * scale)],
-                       show(f"v{10_000 * scale - 1}")]),
-        ("views", [one, *[let("n", ["range", "n", 0, None]) for _ in range(10_000 * scale)],
-                   show("n")]),
-        ("concatenate of many", [one, show(["num", ["concatenate", 0, ["n"] * (100 * scale)], 0])]),
-        ("places of a tuple", [one, typed(["combinations", 6_553 * scale, True, 0, "n"])]),
-        ("pad_none to 2^63", [one, show(["num", ["pad_none", "n", 2**63, 0, False], 0])]),
+        ("lists num", [lists, typed(["num", "o", 1])]),
+        ("lists at_each", [lists, typed(["at_each", "o", -1])]),
+        ("lists pick", [lists, typed(["num", ["pick", "o", ["local_index", "o", 0]], 0])]),
     ]
+    found += fields(scale) + big_types(scale) + many(scale)
     return [(f"{name} x{scale}", lines) for name, lines in found]
 
 
@@ -163,7 +263,7 @@ def rows() -> list[tuple[str, list[str]]]:
         ("many is_none 0", [MANY, show(["num", ["is_none", g, 0], 0])]),
         ("many pad_none 0 clip", [MANY, show(["num", ["pad_none", g, 1, 0, True], 0])]),
     ]
-    x = nested(500)
+    x = nested(200)
     plain = ["num", "flatten", "is_none", "local_index", "drop_none", "singletons", "firsts"]
     for operation in plain:
         for axis in [2, 3, 4]:
@@ -180,27 +280,40 @@ def space() -> None:
     resource.setrlimit(resource.RLIMIT_AS, (SPACE, SPACE))
 
 
-def spent() -> float:
-    """The processor seconds of all programs so far."""
-    used = resource.getrusage(resource.RUSAGE_CHILDREN)
-    return used.ru_utime + used.ru_stime
+class Run:
+    """A session that was run: its status, processor seconds, peak in MB and last answer."""
+
+    def __init__(self, program: str, lines: list[str], seconds: float) -> None:
+        with tempfile.TemporaryFile() as session, tempfile.TemporaryFile() as answers:
+            session.write("\n".join(lines + [""]).encode())
+            session.seek(0)
+            child = subprocess.Popen([program, "run"], stdin=session, stdout=answers,
+                                     stderr=subprocess.DEVNULL, preexec_fn=space)
+            late = threading.Timer(seconds, child.kill)
+            late.start()
+            _, status, used = os.wait4(child.pid, 0)
+            late.cancel()
+            child.returncode = os.waitstatus_to_exitcode(status)
+            answers.seek(max(0, answers.seek(0, os.SEEK_END) - 200))
+            told = answers.read().decode().splitlines()
+        self.status = "late" if child.returncode == -9 else str(child.returncode)
+        self.seconds = used.ru_utime + used.ru_stime
+        self.peak = used.ru_maxrss / 1024
+        self.answer = (told or [""])[-1]
+
+    def __str__(self) -> str:
+        figures = f"status {self.status:4} {self.seconds:7.2f} s {self.peak:7.0f} MB"
+        return f"{figures}  {self.answer[:60]}"
 
 
-def run(program: str, lines: list[str], seconds: float) -> str:
-    text = "\n".join(lines + [""]).encode()
-    began = spent()
-    child = subprocess.Popen([program, "run"], stdin=subprocess.PIPE, stdout=subprocess.PIPE,
-                             stderr=subprocess.DEVNULL, preexec_fn=space)
-    try:
-        answers, _ = child.communicate(text, timeout=seconds)
-        status = str(child.returncode)
-    except subprocess.TimeoutExpired:
-        child.kill()
-        answers, _ = child.communicate()
-        status = "late"
-    took = spent() - began
-    last = (answers.decode().splitlines() or [""])[-1]
-    return f"status {status:4} {took:6.2f} s  {last[:60]}"
+def ratios(program: str, runs: dict[str, Run]) -> None:
+    """Prints each session of two sizes with the figures of both."""
+    for name, great in runs.items():
+        small = runs.get(name.removesuffix("0"))
+        if name.endswith(" x10") and small:
+            ratio = great.seconds / max(small.seconds, 0.01)
+            print(f"| {name[:-4]} | {great.seconds:.2f} | {small.seconds:.2f} | {ratio:.0f} |"
+                  f" {great.peak:.0f} | {small.peak:.0f} | {great.status} |")
 
 
 def main() -> None:
@@ -209,12 +322,13 @@ def main() -> None:
     reader.add_argument("--only", default="")
     reader.add_argument("--seconds", type=float, default=60)
     told = reader.parse_args()
-    for name, lines in rows():
-        if told.only not in name:
-            continue
-        for program in told.programs:
-            print(f"{name:26} {os.path.basename(program):8} {run(program, lines, told.seconds)}",
-                  flush=True)
+    for program in told.programs:
+        runs: dict[str, Run] = {}
+        for name, lines in rows():
+            if told.only in name:
+                runs[name] = Run(program, lines, told.seconds)
+                print(f"{name:30} {os.path.basename(program):8} {runs[name]}", flush=True)
+        ratios(program, runs)
 
 
 if __name__ == "__main__":

@@ -18,6 +18,8 @@ use Rattle.awk_layout.specs.Datum.{datum_of}
 use Rattle.awk_layout.specs.Filler.{filler_of}
 use Rattle.awk_layout.specs.Layout.{Layout}
 use Rattle.awk_layout.specs.Typing.{array_type, array_items}
+use Rattle.awk_layout.specs.Valid.{len}
+use Rattle.awk_layout.specs.declared.datum.Datum.{Datum as Held}
 use Rattle.awk_layout.specs.declared.datum.Operand.{Operand}
 use Rattle.awk_layout.specs.declared.datum.Operand.TheVariants as operand
 use Rattle.awk_layout.proofs.ArrayItems.{length-array_items}
@@ -33,6 +35,7 @@ use Rattle.awk_ends.specs.Columns.{IsAmong, data_before, column_at, ends_of, lea
 use Rattle.awk_ends.proofs.ColumnLaws.{AreEnds, ends-count, ends-leaf, parts-at, same-at}
 use Rattle.awk_choose.specs.Choice.{far, choice_data, choice_row, are_leaves}
 use Rattle.awk_choose.specs.Ends.{IsLeafColumn, AreLeafColumns, is_optional_at, ArePresent}
+use Rattle.awk_choose.specs.Ends.{IsColumnEnd, IsEnd, IsEndAt}
 use Rattle.awk_choose.specs.Ends.{end_leaf, end_values, AreEndsAt, columns_judged, columns_said}
 use Rattle.awk_choose.specs.declared.ends.End.{End}
 use Rattle.awk_choose.proofs.MaskLaws.{present-choices}
@@ -44,6 +47,17 @@ pub all-at : {X : Type 0} (P : X → Type 0) (xs : List X) (k : ℕ) (d : X) →
 all-at P [] k d h l = absurd (omega (arith, l))
 all-at P (x ∷ xs) zero d h l = h.0
 all-at P (x ∷ xs) (suc k) d h l = all-at P xs k d h.1 (omega (arith, l))
+
+-- what the column of a datum gives is what the datum gives
+pub column-at : (d : Held) (k : ℕ) (ys : List Layout) (e : End)
+    → len (column_at ys k) ≡ ends_of ys → IsColumnEnd (column_at ys k) e
+    → IsEndAt (operand.Of d) k ys e
+column-at d k ys e size h = record {
+  leaf = h.leaf;
+  values = ap (λ n. end_values n e) (sym size) ∙ h.values;
+  end = subst (λ n. IsEnd n e) size h.end;
+  present = h.present;
+}
 
 -- where no column is optional none at a place is
 none-optional : (ys : List Layout) (k : ℕ) → some_option (map array_type ys) ≡ false

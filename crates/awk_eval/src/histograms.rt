@@ -11,10 +11,10 @@ ghost use Rattle.awk_arguments.specs.OperandView.{shown_operands};
 ghost use Rattle.awk_eval.specs.Eval as meaning;
 
 use awk_arguments::{edges, only};
+use awk_expr::{Extent, Fixed};
 use awk_hist::hist;
 use awk_lanes::{Arena, Steps};
 use awk_layout::{Datum, Operands};
-use awk_expr::{Extent, Fixed};
 use awk_types::Fault;
 use std::alloc::Global;
 use std::sync::ledger::Ledger;

@@ -10,10 +10,10 @@ ghost use Rattle.awk_arguments.specs.OperandView.{shown_operands};
 ghost use Rattle.awk_eval.specs.Eval as meaning;
 
 use awk_arguments::{axis_in, both, first, only, padding, place, truth};
+use awk_expr::Fixed;
 use awk_lanes::{Arena, Steps};
 use awk_layout::{Datum, Operands};
 use awk_options::{fill_none, pad_none, put_mask};
-use awk_expr::Fixed;
 use awk_types::Fault;
 use std::alloc::Global;
 use std::sync::ledger::Ledger;

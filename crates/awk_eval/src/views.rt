@@ -17,10 +17,10 @@ ghost use Rattle.awk_eval.specs.Views.{Size, Takes, IsWithin, AreWithin};
 ghost use Rattle.awk_eval.specs.Eval as meaning;
 
 use awk_arguments::{bound_of, bounds, only, with_step};
+use awk_expr::{Fixed, FixedArg};
 use awk_lanes::{Arena, Steps};
 use awk_layout::{Array, Datum, Operands};
 use awk_lists::without_field;
-use awk_expr::{Fixed, FixedArg};
 use awk_range::range;
 use awk_select::{bound_up, step_range};
 use awk_types::{Fault, Names, NoMemory};

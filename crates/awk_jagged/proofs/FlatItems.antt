@@ -24,7 +24,7 @@ use Rattle.awk_gather.specs.Arrays.{array_item}
 use Rattle.awk_columns.proofs.ListNodes.{item-list}
 use Rattle.awk_select.proofs.Lists.{each_of, each_of-more}
 use Rattle.awk_jagged_rows.proofs.FlatPlaces.{flat_within}
-use Rattle.awk_jagged.proofs.FlatLists.{length-each}
+use Rattle.awk_jagged_places.proofs.FlatLists.{length-each}
 
 -- ---- lists joined
 

@@ -28,15 +28,14 @@ use Rattle.awk_select.proofs.PickedPlaces.{take_places-there, has-at}
 use Rattle.awk_select.specs.Cells.{is_leaf, IsBelow, place_number, places_lane}
 use Rattle.awk_select.specs.Picks.{picked, is_mask, mask_place, mask_places, take_place}
 use Rattle.awk_select.specs.Picks.{take_places, is_outside}
-use Rattle.awk_jagged.specs.Leaves.{take_in, take_at, take_numbers, is_outside_at, mask_at}
-use Rattle.awk_jagged.specs.Leaves.{mask_numbers}
-use Rattle.awk_jagged.specs.Leaves.{AreTested, ArePlaces, ArePlacesOr}
+use Rattle.awk_jagged_places.specs.Leaves.{take_in, take_at, take_numbers, is_outside_at, mask_at}
+use Rattle.awk_jagged_places.specs.Leaves.{mask_numbers, AreTested}
+use Rattle.awk_jagged.specs.PickedAt.{ArePlaces, ArePlacesOr, AreWithin, AreWithinOr}
 use Rattle.awk_jagged.specs.declared.leaves.Places.{Places}
 use Rattle.awk_jagged_rows.specs.Levels.{row_at}
-use Rattle.awk_jagged.specs.PickedAt.{AreWithin, AreWithinOr}
 use Rattle.awk_jagged_rows.specs.Rows.{lists_by, length_by, place_by, AreAlike}
 use Rattle.awk_jagged_rows.proofs.FlatPlaces.{map_same, before_same}
-use Rattle.awk_jagged.proofs.FlatLists.{each_same, offsets_same}
+use Rattle.awk_jagged_places.proofs.FlatLists.{each_same, offsets_same}
 use Rattle.awk_jagged.proofs.LeafTypes.{mask-leaf, plain-leaf, leaf-index}
 use Rattle.awk_jagged_rows.proofs.SpanLaws.{item_in, list-items, length-list}
 

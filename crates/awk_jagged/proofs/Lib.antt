@@ -1,6 +1,5 @@
 mod Worked
 pub mod TypeLaws
-pub mod FlatLists
 pub mod PairLaws
 pub mod PickedTypes
 pub mod FlatItems
@@ -10,5 +9,3 @@ pub mod LeafLaws
 pub mod PickLaws
 pub mod ToldLaws
 pub mod FinalLaws
-pub mod PutLaws
-pub mod MaskLaws

@@ -35,7 +35,7 @@ use Rattle.awk_jagged.specs.declared.leaves.Outcome.TheVariants as outcome
 use Rattle.awk_jagged_rows.specs.declared.levels.Rows.{Rows}
 use Rattle.awk_jagged.proofs.FlatItems.{list-row, are-offsets, size-offsets, present-below}
 use Rattle.awk_jagged_rows.proofs.FlatPlaces.{flat_within, IsIn, find}
-use Rattle.awk_jagged.proofs.FlatLists.{offsets_same, length-each}
+use Rattle.awk_jagged_places.proofs.FlatLists.{offsets_same, length-each}
 use Rattle.awk_jagged.proofs.PairLaws.{AreBelow, unrolls, even-up, uneven-up, have-up, lack-up}
 use Rattle.awk_jagged.proofs.PairLaws.{picks-rows, length-picked, size-up}
 use Rattle.awk_jagged.proofs.PickedTypes.{picked_typ}

@@ -21,11 +21,11 @@ use Rattle.awk_jagged.specs.Pairs.{AreEven, IsUneven, HaveAll, LackSome, picks}
 use Rattle.awk_jagged_rows.specs.Sides.{ListsBy, sides}
 use Rattle.awk_jagged.specs.Pairs.{picked_length}
 use Rattle.awk_jagged_rows.proofs.FlatPlaces.{map_same, IsIn}
-use Rattle.awk_jagged.proofs.FlatLists.{each_same, map-flat, each-flat}
+use Rattle.awk_jagged_places.proofs.FlatLists.{each_same, map-flat, each-flat}
 use Rattle.awk_jagged_rows.proofs.FlatPlaces.{find, flat_within}
-use Rattle.awk_jagged.proofs.FlatLists.{flat_each, flat_same}
+use Rattle.awk_jagged_places.proofs.FlatLists.{flat_each, flat_same}
 use Rattle.awk_jagged_rows.proofs.FlatPlaces.{before_same}
-use Rattle.awk_jagged.proofs.FlatLists.{length-each}
+use Rattle.awk_jagged_places.proofs.FlatLists.{length-each}
 
 -- ---- types of rows
 

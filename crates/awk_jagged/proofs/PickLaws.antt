@@ -26,17 +26,17 @@ use Rattle.awk_select.specs.Picks.{is_mask}
 use Rattle.awk_jagged.specs.Jagged.{is_jagged, picked_items}
 use Rattle.awk_jagged_rows.specs.RowTypes.{rows_of}
 use Rattle.awk_jagged.specs.Jagged.{size_refused, rows_by, pick_type}
-use Rattle.awk_jagged.specs.Leaves.{take_numbers, mask_numbers, AreTested, ArePlacesOr}
+use Rattle.awk_jagged_places.specs.Leaves.{take_numbers, mask_numbers, AreTested}
+use Rattle.awk_jagged.specs.PickedAt.{ArePlacesOr, IsPickedAt}
 use Rattle.awk_jagged_rows.specs.Levels.{AreUnlike, row_at, row_count}
 use Rattle.awk_jagged.specs.Outcomes.{IsOutcomeOf}
-use Rattle.awk_jagged.specs.PickedAt.{IsPickedAt}
 use Rattle.awk_jagged.specs.Pairs.{AreEven, HaveAll, picks, picked_length}
 use Rattle.awk_jagged_rows.specs.Rows.{lists_by, length_by, AreAlike}
 use Rattle.awk_jagged.specs.declared.leaves.Outcome.{Outcome}
 use Rattle.awk_jagged.specs.declared.leaves.Outcome.TheVariants as outcome
 use Rattle.awk_jagged.specs.declared.leaves.Places.{Places}
 use Rattle.awk_jagged_rows.proofs.FlatPlaces.{before_same}
-use Rattle.awk_jagged.proofs.FlatLists.{each_same, length-each, offsets_same}
+use Rattle.awk_jagged_places.proofs.FlatLists.{each_same, length-each, offsets_same}
 use Rattle.awk_jagged.proofs.LeafLaws.{take-picks, mask-picks, take-has, take-lacks, map_each}
 use Rattle.awk_jagged.proofs.LeafLaws.{at_number}
 use Rattle.awk_jagged.proofs.LeafTypes.{TakesBy, MasksBy, takes, masks}

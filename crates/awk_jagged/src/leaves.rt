@@ -1,25 +1,23 @@
 //! The innermost picks: by masks and by places, in pairs of lists.
-ghost use Rattle.std.specs.Prelude.{◌≡◌, ◌<◌, ◌^◌, true, false, IfOk};
+ghost use Rattle.std.specs.Prelude.{◌≡◌, ◌<◌, ◌^◌, true, false, IfOk, IsTrue};
 ghost use Rattle.awk_types.specs.Simple.{present};
-ghost use Rattle.awk_lanes.specs.Places.{size_of, IsIndex, IsOptionalIndex};
+ghost use Rattle.awk_lanes.specs.Places.{size_of, IsIndex, IsIndexKind, IsOptionalIndex};
 ghost use Rattle.awk_lanes.specs.declared.kind.Kind.TheVariants as Kinds;
 ghost use Rattle.awk_layout.specs.Typing.{array_type};
 ghost use Rattle.awk_layout.specs.Valid.{len};
 ghost use Rattle.awk_select.specs.Cells.{is_leaf, AreCells};
 ghost use Rattle.awk_select.specs.Picks as picks;
-ghost use Rattle.awk_jagged.specs.Leaves.{AreLeaves, take_numbers, mask_numbers};
-ghost use Rattle.awk_jagged.specs.Leaves.{ArePlacesOr, ArePicked};
+ghost use Rattle.awk_jagged_places.specs.Leaves.{AreLeaves, take_numbers, mask_numbers};
+ghost use Rattle.awk_jagged.specs.PickedAt.{ArePlacesOr, ArePicked, AreWithinOr, IsPickedAt};
 ghost use Rattle.awk_jagged.specs.Outcomes.{IsOutcomeOf};
-ghost use Rattle.awk_jagged.specs.PickedAt.{AreWithinOr, IsPickedAt};
 ghost use Rattle.awk_jagged_rows.specs.Rows.{AreAlike};
 
-use crate::masks::Kept;
-use crate::places::Taken;
-use crate::put::put_lane;
+use awk_bounds::Bounds;
 use awk_columns::Lists;
 use awk_gather::{gather, gather_opt};
-use awk_jagged_rows::lengths_differ;
-use awk_lanes::{Arena, Lane, Steps, offsets_within};
+use awk_index::index_of;
+use awk_jagged_places::{Kept, Sparse, Taken, Values, lengths_differ, put_lane, truths_of};
+use awk_lanes::{Arena, Kind, Lane, Steps, offsets_within};
 use awk_layout::{Array, Node};
 use awk_select::{Cells, cells_of, is_mask};
 use awk_types::{ITEM_LIMIT, NoMemory, is_optional};
@@ -49,13 +47,13 @@ struct Places<'a> {
 }
 
 /// The places that an index names, unless they are too many.
-fn taken<'a, L: Ledger>(
-    picks: &Taken<'_, 'a>,
+fn taken<'a, V: Values, L: Ledger>(
+    picks: &Taken<'_, '_, 'a, V>,
     n: u64,
     arena: &'a Arena,
     steps: &mut Steps<L>,
 ) -> Result<Option<Places<'a>>, NoMemory>
-    requires leaves { AreLeaves picks.now.xs.now picks.now.ws.now picks.now.cells.now }
+    requires leaves { AreLeaves picks.now.xs.now picks.now.ws.now (V.cells picks.now.cells.now) }
     requires lists { n ≡ size_of picks.now.ws.now.starts }
     requires fits { n < 2 ^ 63 }
     ensures { IfOk result (ArePlacesOr (take_numbers picks.now.xs.now picks.now.ws.now) n) }
@@ -73,13 +71,13 @@ fn taken<'a, L: Ledger>(
 }
 
 /// The places where a mask is true, unless they are too many.
-fn kept<'a, L: Ledger>(
-    picks: &Kept<'_, 'a>,
+fn kept<'a, V: Values, L: Ledger>(
+    picks: &Kept<'_, '_, 'a, V>,
     n: u64,
     arena: &'a Arena,
     steps: &mut Steps<L>,
 ) -> Result<Option<Places<'a>>, NoMemory>
-    requires leaves { AreLeaves picks.now.xs.now picks.now.ws.now picks.now.cells.now }
+    requires leaves { AreLeaves picks.now.xs.now picks.now.ws.now (V.cells picks.now.cells.now) }
     requires alike { AreAlike picks.now.xs.now picks.now.ws.now }
     requires lists { n ≡ size_of picks.now.ws.now.starts }
     requires fits { n < 2 ^ 63 }
@@ -143,24 +141,24 @@ fn picked_at<'a, L: Ledger>(
 }
 
 /// What is picked from lists by those of a mask.
-fn by_masks<'a, L: Ledger>(
+fn by_masks<'s, 'a, V: Values, L: Ledger>(
     alloc: Global,
-    xs: &Lists<'a>,
-    ws: &Lists<'a>,
-    cells: &Cells<'a>,
+    xs: &Bounds<'s, 'a>,
+    ws: &Bounds<'s, 'a>,
+    cells: &V,
     arena: &'a Arena,
     steps: &mut Steps<L>,
 ) -> Result<Outcome<'a>, NoMemory>
     requires pairs { size_of xs.now.starts ≡ size_of ws.now.starts }
     requires leaf { is_leaf (present (array_type ws.now.content)) ≡ true }
     requires mask { picks.is_mask (array_type ws.now.content) ≡ true }
-    requires cells { AreCells ws.now.content cells.now }
+    requires cells { AreCells ws.now.content (V.cells cells.now) }
     ensures { IfOk result (IsOutcomeOf xs.now ws.now) }
 {
     let content = xs.content();
     let index = ws.content();
     let _ = index.len();
-    if lengths_differ(xs, ws, steps) {
+    if lengths_differ(xs, ws) {
         return Ok(Outcome::Uneven);
     }
     let optional = is_optional(index.typ());
@@ -170,18 +168,18 @@ fn by_masks<'a, L: Ledger>(
 }
 
 /// What is picked from lists by those of an index of places.
-fn by_places<'a, L: Ledger>(
+fn by_places<'s, 'a, V: Values, L: Ledger>(
     alloc: Global,
-    xs: &Lists<'a>,
-    ws: &Lists<'a>,
-    cells: &Cells<'a>,
+    xs: &Bounds<'s, 'a>,
+    ws: &Bounds<'s, 'a>,
+    cells: &V,
     arena: &'a Arena,
     steps: &mut Steps<L>,
 ) -> Result<Outcome<'a>, NoMemory>
     requires pairs { size_of xs.now.starts ≡ size_of ws.now.starts }
     requires leaf { is_leaf (present (array_type ws.now.content)) ≡ true }
     requires mask { picks.is_mask (array_type ws.now.content) ≡ false }
-    requires cells { AreCells ws.now.content cells.now }
+    requires cells { AreCells ws.now.content (V.cells cells.now) }
     ensures { IfOk result (IsOutcomeOf xs.now ws.now) }
 {
     let content = xs.content();
@@ -196,6 +194,102 @@ fn by_places<'a, L: Ledger>(
     picked_at(alloc, content, places, optional, arena, steps)
 }
 
+/// What is picked from lists by those of a mask, in the form in which its values lie.
+fn masked<'s, 'a, L: Ledger>(
+    alloc: Global,
+    xs: &Bounds<'s, 'a>,
+    ws: &Bounds<'s, 'a>,
+    cells: &Cells<'a>,
+    arena: &'a Arena,
+    steps: &mut Steps<L>,
+) -> Result<Outcome<'a>, NoMemory>
+    requires pairs { size_of xs.now.starts ≡ size_of ws.now.starts }
+    requires leaf { is_leaf (present (array_type ws.now.content)) ≡ true }
+    requires mask { picks.is_mask (array_type ws.now.content) ≡ true }
+    requires cells { AreCells ws.now.content cells.now }
+    ensures { IfOk result (IsOutcomeOf xs.now ws.now) }
+{
+    if let Cells::Plain(lane) = cells {
+        if lane.kind() == Kind::Bool {
+            let truths = truths_of(lane, steps);
+            return by_masks(alloc, xs, ws, &truths, arena, steps);
+        }
+    }
+    by_masks(alloc, xs, ws, cells, arena, steps)
+}
+
+/// Whether numbers of a kind are seen as an index.
+fn is_index(kind: Kind) -> bool
+    ensures { IsTrue result → IsIndexKind kind }
+{
+    match kind {
+        Kind::I32 | Kind::U32 | Kind::I64 => true,
+        _ => false,
+    }
+}
+
+/// Whether numbers of both of two kinds are.
+fn are_indexes(a: Kind, b: Kind) -> bool
+    ensures { IsTrue result → IsIndexKind a × IsIndexKind b }
+{
+    if is_index(a) {
+        return is_index(b);
+    }
+    false
+}
+
+/// What is picked from lists by those of an index of places, in the form in which these lie.
+fn placed<'s, 'a, L: Ledger>(
+    alloc: Global,
+    xs: &Bounds<'s, 'a>,
+    ws: &Bounds<'s, 'a>,
+    cells: &Cells<'a>,
+    arena: &'a Arena,
+    steps: &mut Steps<L>,
+) -> Result<Outcome<'a>, NoMemory>
+    requires pairs { size_of xs.now.starts ≡ size_of ws.now.starts }
+    requires leaf { is_leaf (present (array_type ws.now.content)) ≡ true }
+    requires mask { picks.is_mask (array_type ws.now.content) ≡ false }
+    requires cells { AreCells ws.now.content cells.now }
+    ensures { IfOk result (IsOutcomeOf xs.now ws.now) }
+{
+    match cells {
+        Cells::Plain(lane) if is_index(lane.kind()) => {
+            let places = index_of(alloc, lane, arena, steps)?;
+            by_places(alloc, xs, ws, &places, arena, steps)
+        }
+        Cells::Optional { index, lane } if are_indexes(index.kind(), lane.kind()) => {
+            let places = Sparse {
+                index: index_of(alloc, index, arena, steps)?,
+                numbers: index_of(alloc, lane, arena, steps)?,
+            };
+            by_places(alloc, xs, ws, &places, arena, steps)
+        }
+        _ => by_places(alloc, xs, ws, cells, arena, steps),
+    }
+}
+
+/// What is picked from lists, whose ends are seen, by those of a mask or of places.
+fn seen_leaves<'s, 'a, L: Ledger>(
+    alloc: Global,
+    xs: &Bounds<'s, 'a>,
+    ws: &Bounds<'s, 'a>,
+    arena: &'a Arena,
+    steps: &mut Steps<L>,
+) -> Result<Outcome<'a>, NoMemory>
+    requires pairs { size_of xs.now.starts ≡ size_of ws.now.starts }
+    requires leaf { is_leaf (present (array_type ws.now.content)) ≡ true }
+    ensures { IfOk result (IsOutcomeOf xs.now ws.now) }
+{
+    let index = ws.content();
+    let cells = cells_of(alloc, index, arena, steps)?;
+    if is_mask(index.typ()) {
+        masked(alloc, xs, ws, &cells, arena, steps)
+    } else {
+        placed(alloc, xs, ws, &cells, arena, steps)
+    }
+}
+
 /// What is picked from lists by those of a mask or of places.
 pub fn picked_leaves<'a, L: Ledger>(
     alloc: Global,
@@ -208,11 +302,7 @@ pub fn picked_leaves<'a, L: Ledger>(
     requires leaf { is_leaf (present (array_type ws.now.content)) ≡ true }
     ensures { IfOk result (IsOutcomeOf xs.now ws.now) }
 {
-    let index = ws.content();
-    let cells = cells_of(alloc, index, arena, steps)?;
-    if is_mask(index.typ()) {
-        by_masks(alloc, xs, ws, &cells, arena, steps)
-    } else {
-        by_places(alloc, xs, ws, &cells, arena, steps)
-    }
+    let xs = Bounds::new(alloc, xs, arena, steps)?;
+    let ws = Bounds::new(alloc, ws, arena, steps)?;
+    seen_leaves(alloc, &xs, &ws, arena, steps)
 }

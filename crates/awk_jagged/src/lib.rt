@@ -2,16 +2,13 @@
 //!
 //! `jagged` is the call, and `is_jagged` is what the evaluation asks of an index's type. An array
 //! and an index are walked down together, one level of rows at a time (`awk_jagged_rows`). Where
-//! the index has leaves, one lane has the places of all that is picked, and what is made is put
-//! under the levels above.
+//! the index has leaves, one lane has the places of all that is picked (`awk_jagged_places`), and
+//! what is made is put under the levels above.
 #![tactic(auto)]
 
 mod leaves;
-mod masks;
 mod over;
 mod picking;
-mod places;
-mod put;
 mod types;
 
 pub use picking::jagged;

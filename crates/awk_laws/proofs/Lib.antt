@@ -1,3 +1,23 @@
+pub mod Limits
+pub mod Told
+pub mod Cuts
+pub mod Lists
+pub mod FlatteningLaws
+pub mod Places
+pub mod PickTypes
+pub mod PickingLaws
+pub mod Slices
+pub mod ConcatenationLaws
+pub mod Present
+pub mod Lifted
+pub mod Composed
+pub mod AtAxes
+pub mod NullLaws
+pub mod PutNames
+pub mod Fields
+pub mod PairedFields
+pub mod ViewLaws
+mod Worked
 pub mod LeafLaws
 pub mod NumberLaws
 pub mod ExtremeLaws

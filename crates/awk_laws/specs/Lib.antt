@@ -1,3 +1,9 @@
+pub mod Arrays
+pub mod Flattening
+pub mod Concatenation
+pub mod Picking
+pub mod Nulls
+pub mod Viewing
 pub mod Leaves
 pub mod Extremes
 pub mod Reducers

@@ -39,7 +39,12 @@ as_str-bytes (object ms) = omega arith
 
 total_len-texts : (ms : Members) → total_len (texts_of ms) ≤ members_bytes ms
 total_len-texts no_members = omega arith
-total_len-texts (member k d ms) = omega (arith, as_str-bytes d, total_len-texts ms, sum_by-cons (λ (e : List ℕ × List ℕ). length e.1) (k, unwrap_or (as_str d) []) (texts_of ms))
+total_len-texts (member k d ms) = omega (
+  arith,
+  as_str-bytes d,
+  total_len-texts ms,
+  sum_by-cons (λ (e : List ℕ × List ℕ). length e.1) (k, unwrap_or (as_str d) []) (texts_of ms),
+)
 
 -- ---- the line that a value is
 

@@ -1,19 +1,5 @@
 pub mod MaskTypes
-pub mod MaskLists
-pub mod MaskPairs
 pub mod MaskLeaves
-pub mod MaskNulls
-pub mod MaskNullLists
-pub mod MaskOptions
-pub mod MaskPresent
-pub mod MaskJoined
-pub mod MaskColumns
-pub mod MaskCounts
-pub mod MaskUnder
-pub mod MaskNullLevels
-pub mod MaskListLevels
-pub mod MaskListColumns
-pub mod MaskOpened
 pub mod MaskFaults
 pub mod MaskMade
 mod Worked

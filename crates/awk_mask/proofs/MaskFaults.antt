@@ -1,10 +1,10 @@
 -- What is told of an array and a mask over it, in the order of the definition.
 use Rattle.std.specs.Prelude.{◌≡◌, ◌<◌, refl, Bool, true, false, length, map, Option}
-use Rattle.std.specs.Prelude.{Some, None, Ok, Err, option_map}
+use Rattle.std.specs.Prelude.{Some, None, Result, Ok, Err, option_map}
 use Rattle.std.proofs.Common.{arith, ap, ap₂, sym, ◌∙◌}
 use Rattle.awk_types.specs.DataType.{DataType}
 use Rattle.awk_types.specs.Datum.{Datum, arr}
-use Rattle.awk_types.specs.Faults.{fault_of, limit_fault}
+use Rattle.awk_types.specs.Faults.{fault_of, fault_told, limit_fault}
 use Rattle.awk_types.specs.Gives.{Told, refused_or, ◌or◌}
 use Rattle.awk_types.specs.ItemLimit.{item_limit}
 use Rattle.awk_types.specs.Limit.{Limit, limit, limit_told, within, depth_limit, size_limit}
@@ -18,15 +18,18 @@ use Rattle.awk_layout.specs.Layout.{Layout}
 use Rattle.awk_layout.specs.Typing.{array_type, array_items, array_datum}
 use Rattle.awk_layout.specs.Valid.{len}
 use Rattle.awk_layout.proofs.ArrayItems.{length-array_items}
-use Rattle.awk_mask.specs.MaskLevels.{IsUnder, IsMaskedBy, pairs_of, below_refused}
+use Rattle.awk_mask_lengths.specs.MaskValues.{masks, masked_type, masked_value, differs}
+use Rattle.awk_mask_lengths.specs.MaskValues.{lists_differ}
+use Rattle.awk_mask_levels.specs.MaskLevels.{IsFit, IsUnder, pairs_of, below_refused, unlike}
+use Rattle.awk_mask_levels.specs.MaskLevels.{levels_refused}
 use Rattle.awk_mask.specs.MaskTypes.{IsJudged}
-use Rattle.awk_mask.specs.PutMask.{masks, masked_type, masked_value, differs, lists_differ}
-use Rattle.awk_mask.specs.PutMask.{types_refused, type_refused, lengths_refused, levels_refused}
-use Rattle.awk_mask.specs.PutMask.{put_mask_of}
+use Rattle.awk_mask.specs.MaskedArrays.{IsMaskedBy, large_told}
+use Rattle.awk_mask.specs.PutMask.{types_refused, type_refused, lengths_refused, put_mask_of}
 use Rattle.awk_mask.specs.declared.masking.Masked.TheVariants as masked
-use Rattle.awk_mask.proofs.MaskColumns.{pairs_length}
-use Rattle.awk_mask.proofs.MaskCounts.{levels_over, levels_within}
-use Rattle.awk_mask.proofs.MaskUnder.{under_lengths}
+use Rattle.awk_mask_levels.proofs.MaskColumns.{pairs_length}
+use Rattle.awk_mask_levels.proofs.MaskCounts.{levels_over, levels_within}
+use Rattle.awk_mask_lengths.proofs.MaskPairs.{unequal_lengths}
+use Rattle.awk_mask_levels.proofs.MaskUnder.{under_lengths, fit_under}
 
 -- ---- types
 
@@ -66,6 +69,12 @@ pub ruleset judging = (judged_none, judged_memory, judged_limited, judged_within
 no_limit : (l : Option Limit) → option_map limit_fault l ≡ None → l ≡ None
 no_limit None e = refl
 no_limit (Some l) e = absurd cc
+
+-- a fault that is told where some level has too many items
+pub told_by : (b : Bool) (e : Fault) (r : Result Datum Fault) → e ≡ large_told b
+    → r ≡ Err (large_told b) → Told (fault_told e) r
+told_by true e r is h = rw is h
+told_by false e r is h = rw is h
 
 -- ---- an array and a mask of types that tell nothing
 
@@ -115,7 +124,7 @@ module _ (keep : Bool) (m x : Layout)
           pairs_length (masked_value (array_type m) keep) (array_items m) (array_items x) h
           ∙ length-array_items x
 
-      pub told_many : length (array_items m) ≡ length (array_items x) → item_limit < len x
+      told_many : length (array_items m) ≡ length (array_items x) → item_limit < len x
           → put_mask_of (array_datum x) (array_datum m) keep ≡ Err Size
       told_many h p =
           told false (Some Size) e
@@ -127,7 +136,7 @@ module _ (keep : Bool) (m x : Layout)
         levels_within (array_type m) (pairs_of keep m x)
         (omega (arith, u.fits, made_length u.alike (under_lengths m x u)))
 
-    pub told_below : IsMaskedBy keep m x masked.TooMany
+    told_below : below_refused keep m x ≡ Some Size
         → put_mask_of (array_datum x) (array_datum m) keep ≡ Err Size
     told_below h = told false (Some Size) u.alike (levels ∙ h)
 
@@ -140,3 +149,28 @@ module _ (keep : Bool) (m x : Layout)
     pub made_within : (r : Layout) → IsMaskedBy keep m x (masked.Column r)
         → limit (array_type r) ≡ None
     made_within r h = ap limit h.1.typ ∙ type_within
+
+  -- ---- by what the lengths of both arrays tell
+
+  pub told_unequal : (len m ≡ len x → ⊥) → put_mask_of (array_datum x) (array_datum m) keep
+      ≡ Err Lengths
+  told_unequal h =
+      told_lengths (unequal_lengths (differs (array_type m)) (array_items m) (array_items x)
+      (λ e. h (sym (length-array_items m) ∙ e ∙ length-array_items x)))
+
+  large_by : (b : Bool) → unlike m x ≡ b
+      → (unlike m x ≡ false → put_mask_of (array_datum x) (array_datum m) keep ≡ Err Size)
+      → put_mask_of (array_datum x) (array_datum m) keep ≡ Err (large_told (unlike m x))
+  large_by true e h = told_lengths e ∙ ap (λ b. Err (large_told b)) (sym e)
+  large_by false e h = h e ∙ ap (λ b. Err (large_told b)) (sym e)
+
+  pub told_large : len m ≡ len x → item_limit < len x
+      → put_mask_of (array_datum x) (array_datum m) keep ≡ Err (large_told (unlike m x))
+  told_large s p =
+      large_by (unlike m x) refl
+      (λ e. told_many e (length-array_items m ∙ s ∙ sym (length-array_items x)) p)
+
+  pub told_inside : IsFit m x → IsMaskedBy keep m x masked.TooMany
+      → put_mask_of (array_datum x) (array_datum m) keep ≡ Err (large_told (unlike m x))
+  told_inside f h =
+      large_by (unlike m x) refl (λ e. told_below (fit_under m x f e) (h e))

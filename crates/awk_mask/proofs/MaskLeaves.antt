@@ -22,8 +22,9 @@ use Rattle.awk_open.specs.declared.opening.Opened.{Opened}
 use Rattle.awk_open.specs.declared.opening.Opened.TheVariants as opened
 use Rattle.awk_lanes.proofs.MadeLanes.{size-lane_of, at-lane_of}
 use Rattle.awk_gather.proofs.FollowedIndexes.{item_if_shown, below_if_shown}
-use Rattle.awk_mask.specs.MaskLeaves.{is_innermost, kept_place, kept_lane, AreTruths, IsMasked}
-use Rattle.awk_mask.specs.PutMask.{masked_type, masked_value, kept_where}
+use Rattle.awk_mask_lengths.specs.MaskValues.{masked_type, masked_value, kept_where}
+use Rattle.awk_mask_levels.specs.MaskLevels.{is_innermost}
+use Rattle.awk_mask.specs.MaskLeaves.{kept_place, kept_lane, AreTruths, IsMasked}
 use Rattle.awk_nulls.proofs.OptionNodes.{HasItems, optional_type-is, option_stays}
 
 -- ---- the kinds of such masks

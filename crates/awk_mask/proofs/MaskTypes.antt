@@ -7,7 +7,7 @@ use Rattle.awk_types.specs.declared.typ.Typ.{Typ, Var, Reg}
 use Rattle.awk_types.specs.declared.typ.Typ.TheVariants.{rolls-Var, rolls-Reg}
 use Rattle.awk_types.specs.declared.typ.Typ.TheOpen.{Typ-F}
 use Rattle.awk_types.specs.declared.typ.Typ.TheFolds.{fold-roll-Typ}
-use Rattle.awk_mask.specs.PutMask.{masked_type, with_items}
+use Rattle.awk_mask_lengths.specs.MaskValues.{masked_type, with_items}
 
 typ_of-Var : (b : Box Typ Global) → typ_of (Var b) ≡ var (typ_of b.value)
 typ_of-Var b = ap typ_of (sym (rolls-Var b))

@@ -1,6 +1,4 @@
 pub mod PutMask
-pub mod MaskLists
 pub mod MaskLeaves
-pub mod MaskNulls
-pub mod MaskLevels
+pub mod MaskedArrays
 pub mod MaskTypes

@@ -1,7 +1,5 @@
--- Arrays where masks over them are, by place, and masks of single truth values.
-use Rattle.std.specs.Prelude.{◌≡◌, ℕ, ◌<◌, ◌^◌, ℤ, Bool, true, false}
-use Rattle.awk_types.specs.DataType.{DataType, unknown, leaf}
-use Rattle.awk_types.specs.declared.primitive.Primitive.TheVariants.{Bool as Truths}
+-- Arrays where masks of single truth values are over them, by place.
+use Rattle.std.specs.Prelude.{◌≡◌, ℕ, ◌<◌, ◌^◌, ℤ, Bool}
 use Rattle.awk_lanes.specs.Column.{Column}
 use Rattle.awk_lanes.specs.Made.{lane_of}
 use Rattle.awk_lanes.specs.Numbers.{is_nonzero}
@@ -14,13 +12,7 @@ use Rattle.awk_layout.specs.Valid.{len}
 use Rattle.awk_gather.specs.Arrays.{array_item}
 use Rattle.awk_gather.specs.Peeled.{if_shown}
 use Rattle.awk_axis.specs.Mapped.{IsColumn}
-use Rattle.awk_mask.specs.PutMask.{masked_type, masked_value}
-
--- a mask that is neither of lists nor optional
-abbrev pub is_innermost : DataType → Bool
-is_innermost unknown = true
-is_innermost (leaf Truths) = true
-is_innermost t = false
+use Rattle.awk_mask_lengths.specs.MaskValues.{masked_type, masked_value}
 
 -- the items of a mask as a lane
 pub record AreTruths (m : Layout) (c : Column) : Type 0 where

@@ -1,7 +1,7 @@
 //! The types of masks over arrays, and of arrays where masks are over them.
 ghost use Rattle.std.specs.Prelude.{◌≡◌, IfOk};
 ghost use Rattle.awk_types.specs.View.{typ_of};
-ghost use Rattle.awk_mask.specs.PutMask as spec;
+ghost use Rattle.awk_mask_lengths.specs.MaskValues as spec;
 
 use awk_types::{NoMemory, Prim, Typ, copy_type};
 use std::alloc::Global;

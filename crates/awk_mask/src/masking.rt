@@ -2,31 +2,35 @@
 ghost use Rattle.std.specs.Prelude.{◌≡◌, true, IfOk};
 ghost use Rattle.awk_types.specs.Faults.{fault_told};
 ghost use Rattle.awk_types.specs.Gives.{Gives};
+ghost use Rattle.awk_types.specs.declared.fault.Fault.{Fault};
 ghost use Rattle.awk_types.specs.View.{typ_of};
 ghost use Rattle.awk_layout.specs.Datum.{datum_of, IsDatum};
 ghost use Rattle.awk_layout.specs.Typing.{array_type, array_datum};
 ghost use Rattle.awk_layout.specs.Valid.{IsValid};
 ghost use Rattle.awk_columns.specs.ListNode.{list_layout};
-ghost use Rattle.awk_mask.specs.MaskLeaves.{is_innermost};
-ghost use Rattle.awk_mask.specs.MaskLevels.{IsUnder, IsMaskedBy, IsLevel, CanHold, IsOver};
+ghost use Rattle.awk_mask_lengths.specs.MaskValues.{masks};
+ghost use Rattle.awk_mask_levels.specs.MaskLevels.{is_innermost, IsFit, IsLevel, unlike};
 ghost use Rattle.awk_mask.specs.MaskTypes.{IsJudged};
+ghost use Rattle.awk_mask.specs.MaskedArrays.{IsMaskedBy, CanHold, IsOver, large_told};
 ghost use Rattle.awk_mask.specs.PutMask.{put_mask_of, types_refused};
 
 use crate::mask_leaves::masked_items;
-use crate::mask_lengths::unequal;
-use crate::mask_levels::{Level, Over, level_of};
 use crate::mask_types::{masked_type, masks};
 use awk_axis::made;
 use awk_lanes::{Arena, Lane, Steps};
 use awk_layout::{Array, Datum, Node};
+use awk_mask_lengths::unequal;
+use awk_mask_levels::{Level, Over, level_of};
 use awk_nulls::option_over;
 use awk_types::{Fault, ITEM_LIMIT, NoMemory, Typ, simple_of};
 use std::alloc::Global;
 use std::sync::ledger::Ledger;
 
-/// An array where a mask is over it, or that some of its lists have too many items together.
+/// An array where a mask is over it, or that some lists of both are unequally long, or that some of
+/// its lists have too many items together.
 #[derive(Drop)]
 enum Masked<'a> {
+    Unequal,
     TooMany,
     Column(Node<'a>),
 }
@@ -62,6 +66,7 @@ fn put_over<'a, L: Ledger>(
     ensures { IfOk result (IsOver over.now made.entry) }
 {
     match made {
+        Masked::Unequal => Ok(Masked::Unequal),
         Masked::TooMany => Ok(Masked::TooMany),
         Masked::Column(node) => match over {
             Over::Nulls(index) => {
@@ -86,7 +91,7 @@ fn innermost<'a, L: Ledger>(
     arena: &'a Arena,
     steps: &mut Steps<L>,
 ) -> Result<Masked<'a>, NoMemory>
-    requires under { IsUnder m.now x.now }
+    requires fit { IsFit m.now x.now }
     requires mask { is_innermost (array_type m.now) ≡ true }
     ensures { IfOk result (IsMaskedBy keep m.now x.now) }
 {
@@ -106,7 +111,7 @@ fn masked_array<'a, L: Ledger>(
     arena: &'a Arena,
     steps: &mut Steps<L>,
 ) -> Result<Masked<'a>, NoMemory>
-    requires { IsUnder m.now x.now }
+    requires { IsFit m.now x.now }
     ensures { IfOk result (IsMaskedBy keep m.now x.now) }
 {
     let level = level_of(alloc, x, m, arena, steps)?;
@@ -125,11 +130,12 @@ fn masked_level<'a, L: Ledger>(
     arena: &'a Arena,
     steps: &mut Steps<L>,
 ) -> Result<Masked<'a>, NoMemory>
-    requires under { IsUnder m.now x.now }
+    requires fit { IsFit m.now x.now }
     requires level { IsLevel m.now x.now level.now }
     ensures { IfOk result (IsMaskedBy keep m.now x.now) }
 {
     match level {
+        Level::Unequal => Ok(Masked::Unequal),
         Level::TooMany => Ok(Masked::TooMany),
         Level::Innermost => innermost(alloc, x, m, keep, arena, steps),
         Level::Within {
@@ -156,6 +162,25 @@ fn judged(alloc: Global, u: &Typ, t: &Typ) -> Result<(), Fault>
     Ok(())
 }
 
+/// What is told of an array of which some level has too many items: lengths that differ come first.
+fn large_fault<'a, L: Ledger>(
+    alloc: Global,
+    x: &Array<'a>,
+    m: &Array<'a>,
+    arena: &'a Arena,
+    steps: &mut Steps<L>,
+) -> Result<Fault, NoMemory>
+    requires { masks (array_type m.now) (array_type x.now) ≡ true }
+    ensures { let fault = large_told (unlike m.now x.now) in
+        IfOk result (λ (e : Fault). e ≡ fault) }
+{
+    if unequal(alloc, x, m, arena, steps)? {
+        Ok(Fault::Lengths)
+    } else {
+        Ok(Fault::Size)
+    }
+}
+
 /// An array where a mask is over it.
 fn put_mask_over<'a, L: Ledger>(
     alloc: Global,
@@ -170,14 +195,16 @@ fn put_mask_over<'a, L: Ledger>(
     ensures datum { IfOk result IsDatum }
 {
     judged(alloc, m.typ(), x.typ())?;
-    if unequal(alloc, x, m, arena, steps)? {
+    let n = x.len();
+    if n != m.len() {
         return Err(Fault::Lengths);
     }
-    if x.len() > ITEM_LIMIT {
-        return Err(Fault::Size);
+    if n > ITEM_LIMIT {
+        return Err(large_fault(alloc, x, m, arena, steps)?);
     }
     match masked_array(alloc, x, m, keep, arena, steps)? {
-        Masked::TooMany => Err(Fault::Size),
+        Masked::Unequal => Err(Fault::Lengths),
+        Masked::TooMany => Err(large_fault(alloc, x, m, arena, steps)?),
         Masked::Column(node) => Ok(Datum::Arr(made(alloc, node)?)),
     }
 }

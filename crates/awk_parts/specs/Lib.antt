@@ -1,3 +1,4 @@
 pub mod Parts
+pub mod Spans
 pub mod Fits
 pub mod Lanes

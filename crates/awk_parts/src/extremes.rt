@@ -1,76 +1,75 @@
-//! Where the least or the greatest number of each part stands.
-ghost use Rattle.std.specs.Prelude.{◌≡◌, ◌+◌, ◌<◌, ◌^◌, IfOk, IfSome};
+//! The least or the greatest number of each part.
+ghost use Rattle.std.specs.Prelude.{◌≡◌, pos, IfOk};
+ghost use Rattle.awk_lanes.specs.Made.{lane_of};
 ghost use Rattle.awk_lanes.specs.Numbers.{int_of, IsOf};
 ghost use Rattle.awk_lanes.specs.declared.kind.Kind.TheVariants as Kind;
-ghost use Rattle.awk_numbers.specs.Folds.{whole_numbers};
-ghost use Rattle.awk_parts.specs.Lanes.{place_number, extreme_lane};
-ghost use Rattle.awk_parts.specs.Parts.{AreParts};
+ghost use Rattle.awk_numbers.specs.Folds.{whole_numbers, lane_numbers};
+ghost use Rattle.awk_parts.specs.Lanes.{extreme_at};
+ghost use Rattle.awk_parts.specs.Spans.{span_count, AreSpanned};
 
-use crate::parts::Parts;
-use awk_lanes::{Arena, Kind, Lane, NoMemory, Num, Numbers, Steps, made_lane, number, place_in};
-use awk_numbers::{Extreme, Whole, extreme_of};
+use crate::parts::{Parts, span_of};
+use awk_lanes::{Arena, Kind, Lane, NoMemory, Num, Numbers, Steps, made_lane};
+use awk_numbers::{Extreme, extreme_of};
 use std::sync::ledger::Ledger;
 
-/// A place further on as a number, and -1 for none.
-fn number_of_place(start: u64, place: Option<u64>) -> Num
-    requires { IfSome place (λ k. start + k < 2 ^ 63) }
-    ensures number { int_of result ≡ place_number start place }
-    ensures kind { IsOf Kind.I64 result }
+/// 0 as code holds the numbers of a kind.
+fn zero_of(kind: Kind) -> Num
+    ensures number { int_of result ≡ pos 0 }
+    ensures kind { IsOf kind result }
 {
-    match place {
-        None => Num::Int(-1),
-        Some(k) => number(start + k),
+    match kind {
+        Kind::Bool => Num::Truth(false),
+        Kind::I8 | Kind::I16 | Kind::I32 | Kind::I64 => Num::Int(0),
+        Kind::U8 | Kind::U16 | Kind::U32 | Kind::U64 => Num::Nat(0),
     }
 }
 
-/// The places of the extremes.
+/// The extremes of the parts of a lane's numbers.
 #[derive(Drop)]
-struct ExtremePlaces<'b, 'a> {
+struct Extremes<'c, 'b, 'a> {
     how: Extreme,
-    numbers: &'b Whole<'a>,
-    offsets: &'b Lane<'a>,
-    count: u64,
+    lane: &'c Lane<'a>,
+    parts: &'c Parts<'b, 'a>,
 }
 
-impl<'b, 'a> Numbers for ExtremePlaces<'b, 'a> {
-    ghost use Rattle.awk_lanes.specs.declared.kind.Kind.TheVariants as Kind;
-    ghost use Rattle.awk_numbers.specs.Folds.{whole_numbers};
+impl<'c, 'b, 'a> Numbers for Extremes<'c, 'b, 'a> {
+    ghost use Rattle.std.specs.Prelude.{◌≡◌};
+    ghost use Rattle.awk_numbers.specs.Folds.{whole_numbers, lane_numbers};
     ghost use Rattle.awk_parts.specs.Lanes.{extreme_at};
-    ghost use Rattle.awk_parts.specs.Parts.{AreParts};
+    ghost use Rattle.awk_parts.specs.Spans.{span_count, AreSpanned};
 
-    ghost kind = { λ _. Kind.I64 };
+    ghost kind = { λ f. f.lane.now.kind };
 
-    ghost at = { λ f. extreme_at f.how (whole_numbers f.numbers.now) f.offsets.now };
+    ghost at = { λ f. extreme_at f.how (lane_numbers f.lane.now) f.parts.now.spans.now };
 
-    ghost size = { λ f. f.count };
+    ghost size = { λ f. span_count f.parts.now.spans.now };
 
-    ghost IsReady = { λ f. AreParts (whole_numbers f.numbers.now) f.offsets.now f.count };
+    ghost IsReady = { λ f. (whole_numbers f.parts.now.numbers.now ≡ lane_numbers f.lane.now)
+        × AreSpanned (whole_numbers f.parts.now.numbers.now) f.parts.now.spans.now };
 
     fn number<L: Ledger>(&self, i: u64, steps: &mut Steps<L>) -> Num {
-        let start = place_in(self.offsets, i, steps);
-        let stop = place_in(self.offsets, i + 1, steps);
-        number_of_place(start, extreme_of(self.how, self.numbers, start, stop))
+        let span = span_of(self.parts, i);
+        match extreme_of(self.how, self.parts.numbers, span.start, span.stop) {
+            Some(k) => self.lane.at(span.start + k, steps),
+            None => zero_of(self.lane.kind()),
+        }
     }
 }
 
-/// Where among all numbers the least or the greatest of each part stands, and -1 for a part of
-/// none.
-pub fn extreme_places<'a, L: Ledger>(
+/// The least or the greatest number of each part of a lane's numbers, and 0 for a part of none.
+pub fn extremes_of<'a, L: Ledger>(
     how: Extreme,
+    lane: &Lane,
     parts: &Parts,
     arena: &'a Arena,
     steps: &mut Steps<L>,
 ) -> Result<Lane<'a>, NoMemory>
-    requires parts { AreParts (whole_numbers parts.now.numbers.now) parts.now.offsets.now
-        parts.now.count }
-    ensures { IfOk result (λ r. r ≡ extreme_lane how (whole_numbers parts.now.numbers.now)
-        parts.now.offsets.now parts.now.count) }
+    requires numbers { whole_numbers parts.now.numbers.now ≡ lane_numbers lane.now }
+    requires parts { AreSpanned (whole_numbers parts.now.numbers.now) parts.now.spans.now }
+    ensures { IfOk result (λ r. r ≡ lane_of lane.now.kind (span_count parts.now.spans.now)
+        (extreme_at how (lane_numbers lane.now) parts.now.spans.now)) }
 {
-    let places = ExtremePlaces {
-        how,
-        numbers: parts.numbers,
-        offsets: parts.offsets,
-        count: parts.count,
-    };
-    made_lane(Kind::I64, parts.count, &places, arena, steps)
+    let count = parts.spans.starts.len() as u64;
+    let extremes = Extremes { how, lane, parts };
+    made_lane(lane.kind(), count, &extremes, arena, steps)
 }

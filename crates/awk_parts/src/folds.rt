@@ -1,35 +1,26 @@
 //! Sums and products of parts.
-ghost use Rattle.std.specs.Prelude.{◌≡◌, ◌<◌, IfOk};
+ghost use Rattle.std.specs.Prelude.{◌<◌, IfOk};
 ghost use Rattle.awk_numbers.specs.Folds.{whole_numbers};
 ghost use Rattle.awk_parts.specs.Fits.{IsFitting, AreFitting};
 ghost use Rattle.awk_parts.specs.Lanes.{folded_at};
-ghost use Rattle.awk_parts.specs.Parts.{AreParts};
+ghost use Rattle.awk_parts.specs.Spans.{span_count, AreSpanned};
 
 use crate::fits::fitting;
-use crate::parts::Parts;
-use awk_lanes::{Arena, Lane, LaneMaker, NoMemory, Num, Steps, place_in};
+use crate::parts::{Parts, span_of};
+use awk_lanes::{Arena, Lane, LaneMaker, NoMemory, Num};
 use awk_layout::kind_of;
 use awk_numbers::{Fold, folded};
 use awk_types::Prim;
-use std::sync::ledger::Ledger;
 
 /// The sum or product of part i as a number of a primitive, if it is one.
-fn fold_at<L: Ledger>(
-    how: Fold,
-    prim: Prim,
-    parts: &Parts,
-    i: u64,
-    steps: &mut Steps<L>,
-) -> Option<Num>
-    requires parts { AreParts (whole_numbers parts.now.numbers.now) parts.now.offsets.now
-        parts.now.count }
-    requires within { i < parts.now.count }
+fn fold_at(how: Fold, prim: Prim, parts: &Parts, i: u64) -> Option<Num>
+    requires parts { AreSpanned (whole_numbers parts.now.numbers.now) parts.now.spans.now }
+    requires within { i < span_count parts.now.spans.now }
     ensures { IsFitting prim (folded_at how (whole_numbers parts.now.numbers.now)
-        parts.now.offsets.now i) result }
+        parts.now.spans.now i) result }
 {
-    let start = place_in(parts.offsets, i, steps);
-    let stop = place_in(parts.offsets, i + 1, steps);
-    match folded(how, parts.numbers, start, stop) {
+    let span = span_of(parts, i);
+    match folded(how, parts.numbers, span.start, span.stop) {
         Some(z) => fitting(prim, z),
         None => None,
     }
@@ -37,22 +28,20 @@ fn fold_at<L: Ledger>(
 
 /// The sums or products of parts as numbers of a primitive, or none where one does not fit.
 #[tactic(auto, using(awk_lanes::proofs::MadeLanes::making))]
-pub fn fold_parts<'a, L: Ledger>(
+pub fn fold_parts<'a>(
     how: Fold,
     prim: Prim,
     parts: &Parts,
     arena: &'a Arena,
-    steps: &mut Steps<L>,
 ) -> Result<Option<Lane<'a>>, NoMemory>
-    requires parts { AreParts (whole_numbers parts.now.numbers.now) parts.now.offsets.now
-        parts.now.count }
+    requires { AreSpanned (whole_numbers parts.now.numbers.now) parts.now.spans.now }
     ensures { IfOk result (AreFitting prim (folded_at how (whole_numbers parts.now.numbers.now)
-        parts.now.offsets.now) parts.now.count) }
+        parts.now.spans.now) (span_count parts.now.spans.now)) }
 {
-    let n = parts.count;
+    let n = parts.spans.starts.len() as u64;
     let mut maker = LaneMaker::new(kind_of(prim), n, arena)?;
     for i in 0..n {
-        match fold_at(how, prim, parts, i, steps) {
+        match fold_at(how, prim, parts, i) {
             Some(number) => maker.push(number),
             None => return Ok(None),
         }

@@ -1,9 +1,10 @@
 //! Lanes with a number for each part of a lane's numbers.
 //!
-//! `Parts` is numbers with offsets of their parts. `fold_parts` is the sums or products of the
-//! parts, or none where one does not fit its primitive, and `tally_parts` their counts;
-//! `extreme_places` is where the least or the greatest of each part stands, and `present`,
-//! `numbers_at`, `locals` and `found` read such places.
+//! `Parts` is numbers with the `Spans` of their parts, which `spans_of` reads off lanes of starts
+//! and stops, and `spans_between` off offsets. `fold_parts` is the sums or products of the parts,
+//! or none where one does not fit its primitive, and `tally_parts` their counts; `extremes_of` is
+//! the least or the greatest of each part, `places_of` where it stands, and `found_of` where among
+//! items of which some are null; `present_parts` tells which parts have a number.
 #![tactic(auto)]
 
 mod extremes;
@@ -13,8 +14,8 @@ mod parts;
 mod places;
 mod tallies;
 
-pub use extremes::extreme_places;
+pub use extremes::extremes_of;
 pub use folds::fold_parts;
-pub use parts::Parts;
-pub use places::{found, locals, numbers_at, present};
+pub use parts::{Parts, Spans, span_length, spans_between, spans_of};
+pub use places::{found_of, places_of, present_parts};
 pub use tallies::tally_parts;

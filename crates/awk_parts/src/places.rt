@@ -1,262 +1,174 @@
-//! What stands at places, and where.
-ghost use Rattle.std.specs.Prelude.{◌≡◌, ◌<◌, ◌≤◌, ◌^◌, pos, length, IfOk, IfSome};
-ghost use Rattle.std.specs.List.{slice_range};
+//! Where the least or the greatest number of each part stands.
+ghost use Rattle.std.specs.Prelude.{◌≡◌, ◌<◌, ◌^◌, IfOk, IfSome};
 ghost use Rattle.awk_lanes.specs.Made.{lane_of};
 ghost use Rattle.awk_lanes.specs.Numbers.{int_of, IsOf};
-ghost use Rattle.awk_lanes.specs.Places.{size_of};
 ghost use Rattle.awk_lanes.specs.declared.kind.Kind.TheVariants as Kind;
 ghost use Rattle.awk_numbers.specs.Folds.{whole_numbers};
-ghost use Rattle.awk_numbers.specs.Places as spec;
-ghost use Rattle.awk_parts.specs.Lanes.{present_at, number_at, local_at, place_or_zero, found_at};
-ghost use Rattle.awk_parts.specs.Lanes.{ArePlaces, ArePlacesIn, AreLocal};
-ghost use Rattle.awk_parts.specs.Parts.{AreParts};
+ghost use Rattle.awk_parts.specs.Lanes.{local_at, found_at, present_at, place_or_zero};
+ghost use Rattle.awk_parts.specs.Spans.{span_count, AreSpanned};
 
-use awk_lanes::{
-    Arena, Kind, Lane, NoMemory, Num, Numbers, Steps, made_lane, number, option_place_in, place_in,
-};
-use awk_numbers::{Whole, nth_place};
+use crate::parts::{Parts, span_of};
+use awk_lanes::{Arena, Kind, Lane, NoMemory, Num, Numbers, Steps, made_lane, number};
+use awk_numbers::{Extreme, extreme_of, nth_place};
 use std::sync::ledger::Ledger;
 
-/// The index of the places that are there.
-#[derive(Drop)]
-struct PresentIndex<'b, 'a> {
-    places: &'b Lane<'a>,
-}
-
-impl<'b, 'a> Numbers for PresentIndex<'b, 'a> {
-    ghost use Rattle.std.specs.Prelude.{◌≡◌, ◌<◌, ◌^◌};
-    ghost use Rattle.awk_lanes.specs.Places.{size_of};
-    ghost use Rattle.awk_lanes.specs.declared.kind.Kind.TheVariants as Kind;
-    ghost use Rattle.awk_numbers.specs.Folds.{whole_numbers};
-    ghost use Rattle.awk_numbers.specs.Places as spec;
-    ghost use Rattle.awk_parts.specs.Lanes.{present_at};
-
-    ghost kind = { λ _. Kind.I64 };
-
-    ghost at = { λ f. present_at f.places.now };
-
-    ghost size = { λ f. size_of f.places.now };
-
-    ghost IsReady = { λ f. (f.places.now.kind ≡ Kind.I64) × (size_of f.places.now < 2 ^ 63) };
-
-    fn number<L: Ledger>(&self, i: u64, steps: &mut Steps<L>) -> Num {
-        match option_place_in(self.places, i, steps) {
-            Some(_) => number(i),
-            None => Num::Int(-1),
-        }
-    }
-}
-
-/// The index of an option: i where there is a place at i, else -1.
-pub fn present<'a, L: Ledger>(
-    places: &Lane,
-    arena: &'a Arena,
-    steps: &mut Steps<L>,
-) -> Result<Lane<'a>, NoMemory>
-    requires kind { places.now.kind ≡ Kind.I64 }
-    requires fits { size_of places.now < 2 ^ 63 }
-    ensures { IfOk result (λ r. r ≡ lane_of Kind.I64 (size_of places.now) (present_at places.now)) }
-{
-    made_lane(
-        Kind::I64,
-        places.len(),
-        &PresentIndex { places },
-        arena,
-        steps,
-    )
-}
-
-/// The numbers of a lane at places.
-#[derive(Drop)]
-struct NumbersAt<'b, 'a> {
-    lane: &'b Lane<'a>,
-    places: &'b Lane<'a>,
-}
-
-impl<'b, 'a> Numbers for NumbersAt<'b, 'a> {
-    ghost use Rattle.awk_lanes.specs.Places.{size_of};
-    ghost use Rattle.awk_parts.specs.Lanes.{number_at, ArePlacesIn};
-
-    ghost kind = { λ f. f.lane.now.kind };
-
-    ghost at = { λ f. number_at f.lane.now f.places.now };
-
-    ghost size = { λ f. size_of f.places.now };
-
-    ghost IsReady = { λ f. ArePlacesIn f.places.now (size_of f.lane.now) };
-
-    fn number<L: Ledger>(&self, i: u64, steps: &mut Steps<L>) -> Num {
-        match option_place_in(self.places, i, steps) {
-            Some(k) => self.lane.at(k, steps),
-            None => zero_of(self.lane.kind()),
-        }
-    }
-}
-
-/// 0 as code holds the numbers of a kind.
-fn zero_of(kind: Kind) -> Num
-    ensures number { int_of result ≡ pos 0 }
-    ensures kind { IsOf kind result }
-{
-    match kind {
-        Kind::Bool => Num::Truth(false),
-        Kind::I8 | Kind::I16 | Kind::I32 | Kind::I64 => Num::Int(0),
-        Kind::U8 | Kind::U16 | Kind::U32 | Kind::U64 => Num::Nat(0),
-    }
-}
-
-/// The numbers of a lane at places, and 0 where there is none.
-pub fn numbers_at<'a, L: Ledger>(
-    lane: &Lane,
-    places: &Lane,
-    arena: &'a Arena,
-    steps: &mut Steps<L>,
-) -> Result<Lane<'a>, NoMemory>
-    requires { ArePlacesIn places.now (size_of lane.now) }
-    ensures { IfOk result (λ r. r ≡ lane_of lane.now.kind (size_of places.now)
-        (number_at lane.now places.now)) }
-{
-    made_lane(
-        lane.kind(),
-        places.len(),
-        &NumbersAt { lane, places },
-        arena,
-        steps,
-    )
-}
-
-/// Places counted from the starts of parts.
-#[derive(Drop)]
-struct LocalPlaces<'b, 'a> {
-    offsets: &'b Lane<'a>,
-    places: &'b Lane<'a>,
-}
-
-impl<'b, 'a> Numbers for LocalPlaces<'b, 'a> {
-    ghost use Rattle.awk_lanes.specs.Places.{size_of};
-    ghost use Rattle.awk_lanes.specs.declared.kind.Kind.TheVariants as Kind;
-    ghost use Rattle.awk_parts.specs.Lanes.{local_at, AreLocal};
-
-    ghost kind = { λ _. Kind.I64 };
-
-    ghost at = { λ f. local_at f.offsets.now f.places.now };
-
-    ghost size = { λ f. size_of f.places.now };
-
-    ghost IsReady = { λ f. AreLocal f.offsets.now f.places.now };
-
-    fn number<L: Ledger>(&self, i: u64, steps: &mut Steps<L>) -> Num {
-        let start = place_in(self.offsets, i, steps);
-        local_number(start, option_place_in(self.places, i, steps))
-    }
-}
-
-/// A place counted from a start, and 0 for none.
-fn local_number(start: u64, place: Option<u64>) -> Num
-    requires { IfSome place (λ k. (start ≤ k) × (k < 2 ^ 63)) }
-    ensures number { int_of result ≡ place_or_zero start place }
+/// A place as a number, and 0 for none.
+fn number_of_place(place: Option<u64>) -> Num
+    requires { IfSome place (λ k. k < 2 ^ 63) }
+    ensures number { int_of result ≡ place_or_zero place }
     ensures kind { IsOf Kind.I64 result }
 {
     match place {
-        Some(k) => number(k - start),
-        None => number(0),
-    }
-}
-
-/// Places counted from the starts of the parts in which they are, and 0 where there is none.
-pub fn locals<'a, L: Ledger>(
-    offsets: &Lane,
-    places: &Lane,
-    arena: &'a Arena,
-    steps: &mut Steps<L>,
-) -> Result<Lane<'a>, NoMemory>
-    requires { AreLocal offsets.now places.now }
-    ensures { IfOk result (λ r. r ≡ lane_of Kind.I64 (size_of places.now)
-        (local_at offsets.now places.now)) }
-{
-    made_lane(
-        Kind::I64,
-        places.len(),
-        &LocalPlaces { offsets, places },
-        arena,
-        steps,
-    )
-}
-
-/// Where items stand in their lists that are numbers at places.
-#[derive(Drop)]
-struct FoundPlaces<'b, 'a> {
-    index: &'b Whole<'a>,
-    offsets: &'b Lane<'a>,
-    firsts: &'b Lane<'a>,
-    places: &'b Lane<'a>,
-}
-
-impl<'b, 'a> Numbers for FoundPlaces<'b, 'a> {
-    ghost use Rattle.awk_lanes.specs.Places.{size_of};
-    ghost use Rattle.awk_lanes.specs.declared.kind.Kind.TheVariants as Kind;
-    ghost use Rattle.awk_numbers.specs.Folds.{whole_numbers};
-    ghost use Rattle.awk_parts.specs.Lanes.{found_at, AreLocal};
-    ghost use Rattle.awk_parts.specs.Parts.{AreParts};
-
-    ghost kind = { λ _. Kind.I64 };
-
-    ghost at = { λ f.
-        found_at (whole_numbers f.index.now) f.offsets.now f.firsts.now f.places.now };
-
-    ghost size = { λ f. size_of f.places.now };
-
-    ghost IsReady = { λ f. AreLocal f.firsts.now f.places.now
-        × AreParts (whole_numbers f.index.now) f.offsets.now (size_of f.places.now) };
-
-    fn number<L: Ledger>(&self, i: u64, steps: &mut Steps<L>) -> Num {
-        let start = place_in(self.offsets, i, steps);
-        let stop = place_in(self.offsets, i + 1, steps);
-        let first = place_in(self.firsts, i, steps);
-        match option_place_in(self.places, i, steps) {
-            Some(k) => number_of_nth(self.index, start, stop, k - first),
-            None => number(0),
-        }
-    }
-}
-
-/// Where the item stands among those from a start below a stop that so many others stand before,
-/// and 0 for none.
-fn number_of_nth(index: &Whole, start: u64, stop: u64, before: u64) -> Num
-    requires order { start ≤ stop }
-    requires within { stop ≤ length (whole_numbers index.now) }
-    requires few { length (whole_numbers index.now) ≤ 1073741824 }
-    ensures number { int_of result ≡ place_or_zero 0 (spec.nth_place before
-        (slice_range (whole_numbers index.now) start stop)) }
-    ensures kind { IsOf Kind.I64 result }
-{
-    match nth_place(index, start, stop, before) {
         Some(k) => number(k),
         None => number(0),
     }
 }
 
-/// Where in list i, nulls counted, the item stands whose number stands at place i among those of
-/// the items that are not null, and 0 for none. The index of the items is negative for a null, and
-/// the numbers of list i begin at `firsts` i.
-pub fn found<'a, L: Ledger>(
-    index: &Whole,
-    offsets: &Lane,
-    firsts: &Lane,
-    places: &Lane,
+/// Places of extremes, counted from the starts of their parts.
+#[derive(Drop)]
+struct LocalPlaces<'c, 'b, 'a> {
+    how: Extreme,
+    parts: &'c Parts<'b, 'a>,
+}
+
+impl<'c, 'b, 'a> Numbers for LocalPlaces<'c, 'b, 'a> {
+    ghost use Rattle.awk_lanes.specs.declared.kind.Kind.TheVariants as Kind;
+    ghost use Rattle.awk_numbers.specs.Folds.{whole_numbers};
+    ghost use Rattle.awk_parts.specs.Lanes.{local_at};
+    ghost use Rattle.awk_parts.specs.Spans.{span_count, AreSpanned};
+
+    ghost kind = { λ _. Kind.I64 };
+
+    ghost at = { λ f. local_at f.how (whole_numbers f.parts.now.numbers.now)
+        f.parts.now.spans.now };
+
+    ghost size = { λ f. span_count f.parts.now.spans.now };
+
+    ghost IsReady = { λ f. AreSpanned (whole_numbers f.parts.now.numbers.now)
+        f.parts.now.spans.now };
+
+    fn number<L: Ledger>(&self, i: u64, steps: &mut Steps<L>) -> Num {
+        let span = span_of(self.parts, i);
+        number_of_place(extreme_of(self.how, self.parts.numbers, span.start, span.stop))
+    }
+}
+
+/// Where in each part its least or greatest number stands first, and 0 for a part of none.
+pub fn places_of<'a, L: Ledger>(
+    how: Extreme,
+    parts: &Parts,
     arena: &'a Arena,
     steps: &mut Steps<L>,
 ) -> Result<Lane<'a>, NoMemory>
-    requires places { AreLocal firsts.now places.now }
-    requires parts { AreParts (whole_numbers index.now) offsets.now (size_of places.now) }
-    ensures { IfOk result (λ r. r ≡ lane_of Kind.I64 (size_of places.now)
-        (found_at (whole_numbers index.now) offsets.now firsts.now places.now)) }
+    requires { AreSpanned (whole_numbers parts.now.numbers.now) parts.now.spans.now }
+    ensures { IfOk result (λ r. r ≡ lane_of Kind.I64 (span_count parts.now.spans.now)
+        (local_at how (whole_numbers parts.now.numbers.now) parts.now.spans.now)) }
 {
-    let found = FoundPlaces {
-        index,
-        offsets,
-        firsts,
-        places,
-    };
-    made_lane(Kind::I64, places.len(), &found, arena, steps)
+    let count = parts.spans.starts.len() as u64;
+    made_lane(Kind::I64, count, &LocalPlaces { how, parts }, arena, steps)
+}
+
+/// Places of extremes among items of which some are null.
+#[derive(Drop)]
+struct FoundPlaces<'c, 'b, 'a> {
+    how: Extreme,
+    parts: &'c Parts<'b, 'a>,
+    items: &'c Parts<'b, 'a>,
+}
+
+impl<'c, 'b, 'a> Numbers for FoundPlaces<'c, 'b, 'a> {
+    ghost use Rattle.std.specs.Prelude.{◌≡◌};
+    ghost use Rattle.awk_lanes.specs.declared.kind.Kind.TheVariants as Kind;
+    ghost use Rattle.awk_numbers.specs.Folds.{whole_numbers};
+    ghost use Rattle.awk_parts.specs.Lanes.{found_at};
+    ghost use Rattle.awk_parts.specs.Spans.{span_count, AreSpanned};
+
+    ghost kind = { λ _. Kind.I64 };
+
+    ghost at = { λ f. found_at f.how (whole_numbers f.parts.now.numbers.now)
+        f.parts.now.spans.now (whole_numbers f.items.now.numbers.now) f.items.now.spans.now };
+
+    ghost size = { λ f. span_count f.parts.now.spans.now };
+
+    ghost IsReady = { λ f. AreSpanned (whole_numbers f.parts.now.numbers.now) f.parts.now.spans.now
+        × AreSpanned (whole_numbers f.items.now.numbers.now) f.items.now.spans.now
+        × (span_count f.items.now.spans.now ≡ span_count f.parts.now.spans.now) };
+
+    fn number<L: Ledger>(&self, i: u64, steps: &mut Steps<L>) -> Num {
+        let span = span_of(self.parts, i);
+        let items = span_of(self.items, i);
+        match extreme_of(self.how, self.parts.numbers, span.start, span.stop) {
+            Some(q) => number_of_place(nth_place(self.items.numbers, items.start, items.stop, q)),
+            None => number(0),
+        }
+    }
+}
+
+/// Where in each part of `items`, an index that is negative for a null, the item stands whose
+/// number is the first least or greatest of the part of `parts`, and 0 for a part of none. Those
+/// parts hold the numbers of the items that are not null.
+pub fn found_of<'a, L: Ledger>(
+    how: Extreme,
+    parts: &Parts,
+    items: &Parts,
+    arena: &'a Arena,
+    steps: &mut Steps<L>,
+) -> Result<Lane<'a>, NoMemory>
+    requires parts { AreSpanned (whole_numbers parts.now.numbers.now) parts.now.spans.now }
+    requires items { AreSpanned (whole_numbers items.now.numbers.now) items.now.spans.now }
+    requires same { span_count items.now.spans.now ≡ span_count parts.now.spans.now }
+    ensures { IfOk result (λ r. r ≡ lane_of Kind.I64 (span_count parts.now.spans.now)
+        (found_at how (whole_numbers parts.now.numbers.now) parts.now.spans.now
+        (whole_numbers items.now.numbers.now) items.now.spans.now)) }
+{
+    let count = parts.spans.starts.len() as u64;
+    let found = FoundPlaces { how, parts, items };
+    made_lane(Kind::I64, count, &found, arena, steps)
+}
+
+/// The index of the parts that have a number.
+#[derive(Drop)]
+struct PresentParts<'c, 'b, 'a> {
+    parts: &'c Parts<'b, 'a>,
+}
+
+impl<'c, 'b, 'a> Numbers for PresentParts<'c, 'b, 'a> {
+    ghost use Rattle.std.specs.Prelude.{◌<◌, ◌^◌};
+    ghost use Rattle.awk_lanes.specs.declared.kind.Kind.TheVariants as Kind;
+    ghost use Rattle.awk_numbers.specs.Folds.{whole_numbers};
+    ghost use Rattle.awk_parts.specs.Lanes.{present_at};
+    ghost use Rattle.awk_parts.specs.Spans.{span_count, AreSpanned};
+
+    ghost kind = { λ _. Kind.I64 };
+
+    ghost at = { λ f. present_at (whole_numbers f.parts.now.numbers.now) f.parts.now.spans.now };
+
+    ghost size = { λ f. span_count f.parts.now.spans.now };
+
+    ghost IsReady = { λ f. AreSpanned (whole_numbers f.parts.now.numbers.now) f.parts.now.spans.now
+        × (span_count f.parts.now.spans.now < 2 ^ 63) };
+
+    fn number<L: Ledger>(&self, i: u64, steps: &mut Steps<L>) -> Num {
+        let span = span_of(self.parts, i);
+        if span.start == span.stop {
+            Num::Int(-1)
+        } else {
+            number(i)
+        }
+    }
+}
+
+/// The index of the parts that have a number: i for such a part, else -1.
+pub fn present_parts<'a, L: Ledger>(
+    parts: &Parts,
+    arena: &'a Arena,
+    steps: &mut Steps<L>,
+) -> Result<Lane<'a>, NoMemory>
+    requires parts { AreSpanned (whole_numbers parts.now.numbers.now) parts.now.spans.now }
+    requires fits { span_count parts.now.spans.now < 2 ^ 63 }
+    ensures { IfOk result (λ r. r ≡ lane_of Kind.I64 (span_count parts.now.spans.now)
+        (present_at (whole_numbers parts.now.numbers.now) parts.now.spans.now)) }
+{
+    let count = parts.spans.starts.len() as u64;
+    made_lane(Kind::I64, count, &PresentParts { parts }, arena, steps)
 }

@@ -3,12 +3,12 @@ ghost use Rattle.std.specs.Prelude.{◌≡◌, IfOk};
 ghost use Rattle.awk_lanes.specs.Made.{lane_of};
 ghost use Rattle.awk_numbers.specs.Folds.{whole_numbers, tally_kind};
 ghost use Rattle.awk_parts.specs.Lanes.{tallied_at};
-ghost use Rattle.awk_parts.specs.Parts.{AreParts};
+ghost use Rattle.awk_parts.specs.Spans.{span_count, AreSpanned};
 
-use crate::parts::Parts;
+use crate::parts::{Parts, span_of};
 use awk_kernels::Kernels;
-use awk_lanes::{Arena, Kind, Lane, NoMemory, Num, Numbers, Steps, made_lane, place_in};
-use awk_numbers::{Tally, Whole, tally_of};
+use awk_lanes::{Arena, Kind, Lane, NoMemory, Num, Numbers, Steps, made_lane};
+use awk_numbers::{Tally, tally_of};
 use std::sync::ledger::Ledger;
 
 fn kind_of_tally(how: Tally) -> Kind
@@ -22,31 +22,36 @@ fn kind_of_tally(how: Tally) -> Kind
 
 /// What is told of each part.
 #[derive(Drop)]
-struct TalliedParts<'b, 'a, N: Kernels> {
+struct TalliedParts<'c, 'b, 'a, N: Kernels> {
     how: Tally,
-    numbers: &'b Whole<'a>,
-    offsets: &'b Lane<'a>,
-    count: u64,
-    kernels: &'b N,
+    parts: &'c Parts<'b, 'a>,
+    kernels: &'c N,
 }
 
-impl<'b, 'a, N: Kernels> Numbers for TalliedParts<'b, 'a, N> {
+impl<'c, 'b, 'a, N: Kernels> Numbers for TalliedParts<'c, 'b, 'a, N> {
     ghost use Rattle.awk_numbers.specs.Folds.{whole_numbers, tally_kind};
     ghost use Rattle.awk_parts.specs.Lanes.{tallied_at};
-    ghost use Rattle.awk_parts.specs.Parts.{AreParts};
+    ghost use Rattle.awk_parts.specs.Spans.{span_count, AreSpanned};
 
     ghost kind = { λ f. tally_kind f.how };
 
-    ghost at = { λ f. tallied_at f.how (whole_numbers f.numbers.now) f.offsets.now };
+    ghost at = { λ f. tallied_at f.how (whole_numbers f.parts.now.numbers.now)
+        f.parts.now.spans.now };
 
-    ghost size = { λ f. f.count };
+    ghost size = { λ f. span_count f.parts.now.spans.now };
 
-    ghost IsReady = { λ f. AreParts (whole_numbers f.numbers.now) f.offsets.now f.count };
+    ghost IsReady = { λ f. AreSpanned (whole_numbers f.parts.now.numbers.now)
+        f.parts.now.spans.now };
 
     fn number<L: Ledger>(&self, i: u64, steps: &mut Steps<L>) -> Num {
-        let start = place_in(self.offsets, i, steps);
-        let stop = place_in(self.offsets, i + 1, steps);
-        tally_of(self.how, self.numbers, start, stop, self.kernels)
+        let span = span_of(self.parts, i);
+        tally_of(
+            self.how,
+            self.parts.numbers,
+            span.start,
+            span.stop,
+            self.kernels,
+        )
     }
 }
 
@@ -58,17 +63,16 @@ pub fn tally_parts<'a, N: Kernels, L: Ledger>(
     arena: &'a Arena,
     steps: &mut Steps<L>,
 ) -> Result<Lane<'a>, NoMemory>
-    requires parts { AreParts (whole_numbers parts.now.numbers.now) parts.now.offsets.now
-        parts.now.count }
-    ensures { IfOk result (λ r. r ≡ lane_of (tally_kind how) parts.now.count
-        (tallied_at how (whole_numbers parts.now.numbers.now) parts.now.offsets.now)) }
+    requires { AreSpanned (whole_numbers parts.now.numbers.now) parts.now.spans.now }
+    ensures { let count = span_count parts.now.spans.now in
+        IfOk result (λ r. r ≡ lane_of (tally_kind how) count
+        (tallied_at how (whole_numbers parts.now.numbers.now) parts.now.spans.now)) }
 {
     let tallied = TalliedParts {
         how,
-        numbers: parts.numbers,
-        offsets: parts.offsets,
-        count: parts.count,
+        parts,
         kernels,
     };
-    made_lane(kind_of_tally(how), parts.count, &tallied, arena, steps)
+    let count = parts.spans.starts.len() as u64;
+    made_lane(kind_of_tally(how), count, &tallied, arena, steps)
 }

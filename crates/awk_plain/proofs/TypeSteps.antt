@@ -1,5 +1,5 @@
 -- One step of the types of plain values: what is told of a list, of an object, and so far.
-use Rattle.std.proofs.Common.{◌≡◌, List, [], ◌∷◌, ◌++◌, Option, None, Result, Ok}
+use Rattle.std.proofs.Common.{◌≡◌, List, [], ◌∷◌, ◌++◌, Option, None, Result, Ok, true}
 use Rattle.std.proofs.Common.{ℕ, ap, ap₂, sym, subst, ◌∙◌, append_assoc}
 use Rattle.std.proofs.Common.{Box, Global, drop, get_or, length, ◌<◌, ◌+◌}
 use Rattle.std.proofs.lemmas.List.{drop_more}
@@ -24,6 +24,9 @@ use Rattle.awk_unify.specs.Unify.{unification}
 use Rattle.awk_plain.specs.Plain.{plain_type, items_type, one_more}
 use Rattle.awk_plain.specs.Plain.{types_made, items_made, members_made, first_limit}
 use Rattle.awk_plain.specs.Types.{fields_in}
+use Rattle.awk_plain.specs.IsPlain.{IsPlain}
+use Rattle.awk_plain.specs.Suits.{suits}
+use Rattle.awk_plain.proofs.SuitLaws.{suits_adds, suits_within}
 use Rattle.awk_plain.proofs.TypeLaws.{limit_last, limit_item, limit_member, names-fields}
 use Rattle.awk_plain.proofs.TypeLaws.{types-fields, plain_simple, items_simple}
 
@@ -118,6 +121,7 @@ pub record AreLeft (ds : Items) (t : DataType) (left : Items) : Type 0 where
   pub typ : items_type unknown ds ≡ items_type t left
   pub limits : first_limit (items_made unknown ds) ≡ first_limit (items_made t left)
   pub simple : IsSimple t
+  pub within : limit t ≡ None
 
 -- the next item has a type within the limits
 pub one_simple : (d : Data) (b : DataType)
@@ -170,6 +174,23 @@ item_left ds t d left b u s e few same =
           ∙ or-None (limit (one_more t (plain_type d))) _ fits
           ∙ ap (λ v. first_limit (items_made v left)) next;
       simple = subst IsSimple next (unify_simple t (plain_type d) s.simple (plain_simple d));
+      within = few;
+    }
+
+-- an item that is of the type so far as it stands
+pub suit_left : (ds : Items) (t : DataType) (d : Data) (left : Items) → AreLeft ds t (item d left)
+    → IsPlain d → suits t d ≡ true → AreLeft ds t left
+suit_left ds t d left s p e =
+    let same : one_more t (plain_type d) ≡ t = suits_adds t d s.simple p e in
+    record {
+      typ = s.typ ∙ ap (λ v. items_type v left) same;
+      limits =
+          s.limits ∙ limit_item t d left
+          ∙ or-None (first_limit (types_made d)) _ (suits_within t d s.simple s.within p e)
+          ∙ or-None (limit (one_more t (plain_type d))) _ (ap limit same ∙ s.within)
+          ∙ ap (λ v. first_limit (items_made v left)) same;
+      simple = s.simple;
+      within = s.within;
     }
 
 -- ---- members so far

@@ -2,3 +2,4 @@ pub mod Plain
 pub mod IsPlain
 pub mod Judged
 pub mod Types
+pub mod Suits

@@ -7,6 +7,8 @@
 
 mod faults;
 mod judged;
+mod suits;
 mod types;
 
 pub use faults::plain_type;
+pub use suits::all_suit;

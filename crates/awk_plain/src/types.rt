@@ -10,6 +10,7 @@ ghost use Rattle.awk_plain.specs.Plain as spec;
 ghost use Rattle.awk_plain.specs.Plain.{first_limit, items_made, members_made, types_made};
 ghost use Rattle.awk_plain.specs.Types.{fields_in};
 
+use crate::suits::suits;
 use awk_types::{Field, Fields, Name, Prim, Typ, TypeFault, simple_of};
 use awk_unify::unify;
 use serde_json::{Map, Value};
@@ -55,6 +56,9 @@ pub(crate) fn items_type(alloc: Global, items: &Vec<Value>) -> Result<Typ, TypeF
 {
     let mut typ = Typ::Unknown;
     for item in items {
+        if suits(&typ, item) {
+            continue;
+        }
         let one = type_of(alloc, item)?;
         typ = unify(alloc, &typ, &one)?.typ;
     }

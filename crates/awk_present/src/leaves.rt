@@ -13,7 +13,7 @@ use std::alloc::Global;
 use std::sync::ledger::Ledger;
 
 /// The items of an array of numbers, of truth values or of unknown, as a lane.
-pub(crate) fn leaves_of<'a, L: Ledger>(
+pub fn leaves_of<'a, L: Ledger>(
     alloc: Global,
     x: &Array<'a>,
     arena: &'a Arena,

@@ -8,7 +8,7 @@ use Rattle.awk_types.specs.Value.{Value}
 use Rattle.awk_lanes.specs.Column.{Column}
 use Rattle.awk_lanes.specs.Made.{lane_of}
 use Rattle.awk_lanes.specs.Numbers.{element}
-use Rattle.awk_lanes.specs.Places.{size_of, option_place, option_place_at, IsOptionalIndex}
+use Rattle.awk_lanes.specs.Places.{size_of, option_place, IsOptionalIndex}
 use Rattle.awk_lanes.specs.declared.kind.Kind.{Kind}
 use Rattle.awk_lanes.specs.declared.kind.Kind.TheVariants as kind
 use Rattle.awk_lanes.proofs.MadeLanes.{size-lane_of, at-lane_of}
@@ -16,7 +16,7 @@ use Rattle.awk_layout.specs.Item.{leaf_value, at_option, item}
 use Rattle.awk_layout.specs.Kinds.{primitive_of}
 use Rattle.awk_layout.specs.Layout.{flat, optional}
 use Rattle.awk_axis.specs.Mapped.{IsColumn}
-use Rattle.awk_parts.specs.Lanes.{index_or_null, present_at}
+use Rattle.awk_parts.specs.Lanes.{index_or_null}
 
 pub flat_column : (k : Kind) (n : ℕ) (f : ℕ → ℤ) (value : ℕ → Value) → n < 2 ^ 63
     → ((i : ℕ) → i < n → leaf_value k (element k (f i)) ≡ value i)
@@ -28,6 +28,10 @@ flat_column k n f value small h = record {
   items = λ i l. ap (leaf_value k) (at-lane_of k n f i l) ∙ h i l;
 }
 
+-- how many numbers a lane has that was made
+pub size-made : (c : Column) (k : Kind) (n : ℕ) (f : ℕ → ℤ) → c ≡ lane_of k n f → size_of c ≡ n
+size-made c k n f e = ap size_of {y = lane_of k n f} e ∙ size-lane_of k n f
+
 index_below : (i n : ℕ) (o : Option ℕ) → i < n → index_or_null i o <ℤ pos n
 index_below i n None l = omega (arith, ints)
 index_below i n (Some k) l = omega (arith, ints, l)
@@ -37,15 +41,15 @@ there : (i : ℕ) (o : Option ℕ) (h : ℕ → Value)
 there i None h = refl
 there i (Some k) h = refl
 
--- the index of places, over as many numbers
-pub present_valid : (e c : Column) → size_of c ≡ size_of e
-    → IsOptionalIndex (lane_of kind.I64 (size_of e) (present_at e)) (size_of c)
-present_valid e c h = record {
+-- an index of some of n places, into as many
+pub index_valid : (n m : ℕ) (g : ℕ → Option ℕ) → m ≡ n
+    → IsOptionalIndex (lane_of kind.I64 n (λ i. index_or_null i (g i))) m
+index_valid n m g e = record {
   kind = tt;
   below = λ i l.
-      let l' : i < size_of e = omega (arith, l, size-lane_of kind.I64 (size_of e) (present_at e)) in
-      rw (at-lane_of kind.I64 (size_of e) (present_at e) i l')
-      (index_below i (size_of c) (option_place_at e i) (omega (arith, l', h)));
+      let f : ℕ → ℤ = λ i. index_or_null i (g i) in
+      let l' : i < n = omega (arith, l, size-lane_of kind.I64 n f) in
+      rw (at-lane_of kind.I64 n f i l') (index_below i m (g i) (omega (arith, l', e)));
 }
 
 module _ (k : Kind) (n : ℕ) (g : ℕ → Option ℕ) (f : ℕ → ℤ) (value : ℕ → Value)
@@ -53,16 +57,6 @@ module _ (k : Kind) (n : ℕ) (g : ℕ → Option ℕ) (f : ℕ → ℤ) (value 
     (h : (i : ℕ) → i < n → at_option (g i) (λ q. leaf_value k (element k (f i))) ≡ value i) where
   abbrev chosen : ℕ → ℤ
   chosen i = index_or_null i (g i)
-
-  index_valid : IsOptionalIndex (lane_of kind.I64 n chosen) (size_of (lane_of k n f))
-  index_valid = record {
-    kind = tt;
-    below = λ i l.
-        let l' : i < n = omega (arith, l, size-lane_of kind.I64 n chosen) in
-        rw (at-lane_of kind.I64 n chosen i l')
-        (index_below i (size_of (lane_of k n f)) (g i)
-        (omega (arith, l', size-lane_of k n f)));
-  }
 
   here : (i : ℕ) → i < n → (o : Option ℕ) → at_option o (λ q. item (flat (lane_of k n f)) i)
       ≡ at_option o (λ q. leaf_value k (element k (f i)))
@@ -74,7 +68,7 @@ module _ (k : Kind) (n : ℕ) (g : ℕ → Option ℕ) (f : ℕ → ℤ) (value 
   optional_column = record {
     valid = (
       omega (arith, size-lane_of kind.I64 n chosen, small),
-      index_valid,
+      index_valid n (size_of (lane_of k n f)) g (size-lane_of k n f),
       omega (arith, size-lane_of k n f, small),
     );
     size = size-lane_of kind.I64 n chosen;

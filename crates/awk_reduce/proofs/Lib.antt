@@ -1,7 +1,10 @@
 mod Worked
 pub mod ExtremeLaws
 pub mod ColumnLaws
+pub mod SpanLaws
 pub mod ReadyLaws
 pub mod PlaceLaws
 pub mod ListLaws
+pub mod PlainLaws
+pub mod JoinedLaws
 pub mod LengthLaws

@@ -1,46 +1,45 @@
--- What is made of lists whose items lie one after another: extremes and their places.
-use Rattle.std.proofs.Common.{◌≡◌, ℕ, ◌+◌, ◌-◌, ◌<◌, ◌≤◌, length, get_or, List}
-use Rattle.std.proofs.Common.{arith, refl}
-use Rattle.std.proofs.Common.{ap, sym, ◌∙◌, subst}
-use Rattle.std.specs.Prelude.{ℤ, pos, false, Option, Some, None}
+-- What is made of lists whose items' numbers are ready: extremes and their places.
+use Rattle.std.proofs.Common.{◌≡◌, ℕ, ◌<◌, length, map, get_or, List, [], ◌∷◌, refl}
+use Rattle.std.proofs.Common.{ap, ap₂, sym, ◌∙◌, subst}
+use Rattle.std.specs.Prelude.{ℤ, pos, false, position, Option, Some, None}
+use Rattle.std.specs.List.{slice_range}
 use Rattle.std.specs.Option.{option_and_then}
-use Rattle.std.proofs.lemmas.List.{get_or-map}
-use Rattle.std.proofs.lemmas.List.Edits.{length-between, get_or-between}
+use Rattle.std.specs.Ordering.{int_eq}
+use Rattle.std.proofs.Common.{arith}
+use Rattle.std.proofs.lemmas.List.{get_or-map, length-map}
 use Rattle.awk_types.specs.DataType.{DataType, leaf, opt}
 use Rattle.awk_types.specs.Value.{Value, int}
+use Rattle.awk_types.specs.declared.primitive.Primitive.{Primitive}
 use Rattle.awk_types.specs.declared.primitive.Primitive.TheVariants as primitive
 use Rattle.awk_lanes.specs.Column.{Column}
 use Rattle.awk_lanes.specs.Made.{lane_of}
 use Rattle.awk_lanes.specs.Numbers.{element}
-use Rattle.awk_lanes.specs.Places.{size_of, at, place_at, option_place, option_place_at}
+use Rattle.awk_lanes.specs.declared.kind.Kind.{Kind}
 use Rattle.awk_lanes.specs.declared.kind.Kind.TheVariants.{I64}
-use Rattle.awk_lanes.proofs.MadeLanes.{size-lane_of, at-lane_of}
 use Rattle.awk_layout.specs.Item.{leaf_value, at_option}
-use Rattle.awk_layout.specs.Kinds.{primitive_of, primitive_of-kind_of}
+use Rattle.awk_layout.specs.Kinds.{kind_of, primitive_of, primitive_of-kind_of}
 use Rattle.awk_layout.specs.Layout.{Layout, flat, optional}
-use Rattle.awk_layout.specs.Typing.{array_type, array_items}
+use Rattle.awk_layout.specs.Typing.{array_type}
 use Rattle.awk_axis.specs.Mapped.{IsColumn}
 use Rattle.awk_axis.specs.declared.function.Made.TheVariants as made
 use Rattle.awk_numbers.specs.Folds.{lane_numbers, first_extreme}
-use Rattle.awk_numbers.specs.Places.{nth_place}
 use Rattle.awk_numbers.specs.declared.extremes.Extreme.{Extreme}
 use Rattle.awk_numbers.specs.declared.extremes.Extreme.TheVariants.{Least, Greatest}
-use Rattle.awk_parts.specs.Lanes.{place_number, extreme_at, extreme_lane, present_at, number_at}
-use Rattle.awk_parts.specs.Lanes.{number_or_zero, place_or_zero, found_in}
-use Rattle.awk_parts.specs.Lanes.{ArePlacesIn, AreLocal}
-use Rattle.awk_parts.specs.Parts.{part_at}
+use Rattle.awk_numbers.proofs.PartLaws.{slice_range-map}
+use Rattle.awk_parts.specs.Lanes.{extreme_at, present_at, number_or_zero, place_or_zero}
+use Rattle.awk_parts.specs.Lanes.{local_at, found_at, nth_or_zero, some_place}
+use Rattle.awk_parts.specs.Spans.{start_of, stop_of, span_count, span_part}
+use Rattle.awk_parts.specs.declared.parts.Spans.{Spans}
 use Rattle.awk_present.specs.Numbers.{leaf_of, numbers, number_place, extreme_of, extreme_place}
-use Rattle.awk_present.specs.Present.{list_at, LeadsBack}
-use Rattle.awk_present.specs.declared.present.Present.{Present}
 use Rattle.awk_present.proofs.LeafLaws.{element-twice}
 use Rattle.awk_reduce.specs.Extremes.{place_by, place_lane}
-use Rattle.awk_reduce.specs.Lists.{AreReady, AreReduced}
+use Rattle.awk_reduce.specs.Lists.{list_in, LeadsBack, AreReady, AreReduced}
 use Rattle.awk_reduce.specs.Reduce.{overflows}
 use Rattle.awk_reduce.specs.Reducers.{reduced, reduced_type, item_or_null, place_or_null}
 use Rattle.awk_reduce.specs.Totals.{item_reducer, place_reducer}
+use Rattle.awk_reduce.specs.declared.ready.ReadyLists.{ReadyLists}
 use Rattle.awk_reduce.proofs.ColumnLaws.{optional_column}
 use Rattle.awk_reduce.proofs.ExtremeLaws.{extreme_found, extreme_none}
-use Rattle.awk_reduce.proofs.ReadyLaws.{numbers-count}
 
 -- ---- by types and values
 
@@ -74,205 +73,172 @@ place_fits : (how : Extreme) (t : DataType) (vs : List Value)
 place_fits Least t vs = refl
 place_fits Greatest t vs = refl
 
--- ---- places
+-- ---- of one list
 
--- so many places further on
-abbrev further : ℕ → Option ℕ → Option ℕ
-further start None = None
-further start (Some k) = Some (start + k)
+none_of : (how : Extreme) → extreme_of how [] ≡ None
+none_of Least = refl
+none_of Greatest = refl
 
-place_back : (start : ℕ) (o : Option ℕ) → option_place (place_number start o) ≡ further start o
-place_back start None = refl
-place_back start (Some k) = refl
+some_of : (how : Extreme) (z : ℤ) (zs : List ℤ) → first_extreme how (z ∷ zs) ≡ None → ⊥
+some_of how z zs e = go how (extreme_none how (z ∷ zs) e)
+  where
+    go : (how : Extreme) → extreme_of how (z ∷ zs) ≡ None → ⊥
+    go Least e = cc
+    go Greatest e = cc
 
-further_is : (start k : ℕ) (o : Option ℕ) → further start o ≡ Some k
-    → (q : ℕ) × (o ≡ Some q) × (start + q ≡ k)
-further_is start k None e = cc
-further_is start k (Some q) e = (q, refl, cc)
+-- numbers that are read of a lane are read so again
+read_twice : (k : Kind) (ys : List ℤ) (q : ℕ) → q < length (map (element k) ys)
+    → element k (get_or (map (element k) ys) q (pos 0)) ≡ get_or (map (element k) ys) q (pos 0)
+read_twice k ys q l =
+    let here = get_or-map (element k) ys q (pos 0) (pos 0)
+    (omega (arith, l, length-map ys (element k))) in
+    ap (element k) here ∙ element-twice k (get_or ys q (pos 0)) ∙ sym here
 
-module _ (z : Layout) (o : Column) (n : ℕ) (p : Present) (r : AreReady z o n p) (how : Extreme)
-    (e : Column) (ee : e ≡ extreme_lane how (lane_numbers p.lane) p.offsets n) where
+-- the item that is the extreme of numbers, or null
+item_case : (how : Extreme) (k : Kind) (p : Primitive) (zs : List ℤ) (f : Option ℕ)
+    → k ≡ kind_of p
+    → ((q : ℕ) → q < length zs → element k (get_or zs q (pos 0)) ≡ get_or zs q (pos 0))
+    → first_extreme how zs ≡ f
+    → at_option (some_place zs) (λ q. leaf_value k (element k (number_or_zero zs f)))
+    ≡ item_or_null p (extreme_of how zs)
+item_case how k p [] f e read h = sym (ap (item_or_null p) (none_of how))
+item_case how k p (z ∷ zs) None e read h = absurd (some_of how z zs h)
+item_case how k p (z ∷ zs) (Some q) e read h =
+    let found = extreme_found how (z ∷ zs) q h in
+    ap (leaf_value k) (read q found.0)
+    ∙ ap (λ k. leaf_value k (get_or (z ∷ zs) q (pos 0))) e
+    ∙ sym (ap (item_or_null p) found.1)
+
+-- the place where a number leads back to
+back : (vs : List Value) (j : Option Column) (how : Extreme) (zs : List ℤ) (p o : Spans) (i q : ℕ)
+    (w : ℤ) → first_extreme how (span_part zs p i) ≡ Some q → LeadsBack vs j o i w q
+    → int (place_by how zs p o j i) ≡ place_or_null (number_place vs w)
+back vs None how zs p o i q w h b =
+    ap (λ f. int (place_or_zero f)) h ∙ sym (ap place_or_null b)
+back vs (Some j) how zs p o i q w h b =
+    ap (λ f. int (nth_or_zero (span_part (lane_numbers j) o i) f)) h
+    ∙ ap (λ k. int (place_or_zero k)) b.2 ∙ sym (ap place_or_null b.1)
+
+-- ---- places by the numbers, and by an index
+
+pub places_plain : (how : Extreme) (x : ReadyLists) (zs : List ℤ) (p : Spans)
+    → zs ≡ lane_numbers x.lane.now → p ≡ x.spans.now → x.index.now ≡ None
+    → lane_of I64 (span_count p) (local_at how zs p) ≡ place_lane how x
+places_plain how x zs p ze pe none =
+    ap₂ (λ zs p. lane_of I64 (span_count p) (local_at how zs p)) ze pe
+    ∙ sym (ap (λ j. lane_of I64 (span_count x.spans.now)
+    (place_by how (lane_numbers x.lane.now) x.spans.now x.items.now j)) none)
+
+pub places_found : (how : Extreme) (x : ReadyLists) (zs : List ℤ) (p : Spans) (j : Column)
+    (js : List ℤ) → zs ≡ lane_numbers x.lane.now → p ≡ x.spans.now → js ≡ lane_numbers j
+    → x.index.now ≡ Some j
+    → lane_of I64 (span_count p) (found_at how zs p js x.items.now) ≡ place_lane how x
+places_found how x zs p j js ze pe je some =
+    ap₂ (λ zs p. lane_of I64 (span_count p) (found_at how zs p js x.items.now)) ze pe
+    ∙ ap (λ js. lane_of I64 (span_count x.spans.now)
+    (found_at how (lane_numbers x.lane.now) x.spans.now js x.items.now)) je
+    ∙ sym (ap (λ j. lane_of I64 (span_count x.spans.now)
+    (place_by how (lane_numbers x.lane.now) x.spans.now x.items.now j)) some)
+
+-- ---- of all lists
+
+module _ (x : ReadyLists) (r : AreReady x) (how : Extreme) where
   abbrev all : List ℤ
-  all = lane_numbers p.lane
+  all = lane_numbers x.lane.now
+
+  abbrev k : Kind
+  k = x.lane.now.kind
+
+  abbrev p : Spans
+  p = x.spans.now
+
+  abbrev n : ℕ
+  n = span_count x.spans.now
 
   abbrev t : DataType
-  t = array_type z
+  t = array_type x.lists.now.content
 
   abbrev vs : ℕ → List Value
-  vs i = list_at (array_items z) o i
+  vs i = list_in x.lists.now i
 
   abbrev zs : ℕ → List ℤ
-  zs i = part_at all p.offsets i
+  zs i = span_part all p i
 
-  abbrev start : ℕ → ℕ
-  start i = place_at p.offsets i
-
-  pub places-count : size_of e ≡ n
-  places-count = ap size_of ee ∙ size-lane_of I64 n (extreme_at how all p.offsets)
-
-  pub places-kind : e.kind ≡ I64
-  places-kind = ap (λ (c : Column). c.kind) ee
-
-  place : (i : ℕ) → i < n → option_place_at e i ≡ further (start i) (first_extreme how (zs i))
-  place i l =
-      ap option_place (ap (λ c. at c i) ee ∙ at-lane_of I64 n (extreme_at how all p.offsets) i l)
-      ∙ place_back (start i) (first_extreme how (zs i))
-
-  part-count : (i : ℕ) → i < n → length (zs i) ≡ place_at p.offsets (i + 1) - start i
-  part-count i l =
-      length-between all (start i) (place_at p.offsets (i + 1))
-      (omega (arith, numbers-count z o n p r, r.present.rising.within (i + 1) (omega (arith, l))))
-
-  -- a place is among the numbers of its list
-  inside : (i k : ℕ) → i < n → option_place_at e i ≡ Some k
-      → (start i ≤ k) × (k < size_of p.lane)
-  inside i k l h =
-      let f = further_is (start i) k (first_extreme how (zs i)) (sym (place i l) ∙ h) in
-      let q = extreme_found how (zs i) f.0 f.1 in
-      let w = r.present.rising.within (i + 1) (omega (arith, l)) in (
-        omega (arith, f.2),
-        omega (arith, f.2, q.0, part-count i l, w),
-      )
-
-  pub places_within : ArePlacesIn e (size_of p.lane)
-  places_within = record {
-    kind = places-kind;
-    below = λ i k l h. (inside i k (omega (arith, l, places-count)) h).1;
-  }
-
-  pub places_local : AreLocal p.offsets e
-  places_local = record {
-    places = record {
-      kind = places-kind;
-      fits = omega (arith, places-count, r.fits);
-      small = λ i k l h.
-          omega (
-            arith,
-            (inside i k (omega (arith, l, places-count)) h).1,
-            r.present.few,
-            r.few,
-          );
-    };
-    kind = r.present.rising.kind;
-    size = omega (arith, places-count, r.present.rising.size);
-    positive = λ i l. r.present.rising.positive i (omega (arith, l, places-count));
-    after = λ i k l h. (inside i k (omega (arith, l, places-count)) h).0;
-  }
+  abbrev there : ℕ → Option ℕ
+  there i = some_place (zs i)
 
   -- ---- the items
 
-  number_there : (i q : ℕ) → i < n → q < length (zs i)
-      → get_or (zs i) q (pos 0) ≡ at p.lane (start i + q)
-  number_there i q l m =
-      let w = r.present.rising.within (i + 1) (omega (arith, l)) in
-      let k : start i + q < place_at p.offsets (i + 1) = omega (arith, m, part-count i l) in
-      get_or-between all (start i) (place_at p.offsets (i + 1)) q (pos 0) k
-      ∙ get_or-map (element p.lane.kind) p.lane.items (start i + q) (pos 0) (pos 0)
-      (omega (arith, k, w))
-
-  item_at : (i : ℕ) → i < n → (f : Option ℕ) → first_extreme how (zs i) ≡ f
-      → at_option (further (start i) f)
-      (λ q. leaf_value p.lane.kind
-      (element p.lane.kind (number_or_zero p.lane (further (start i) f))))
-      ≡ item_or_null (leaf_of t) (extreme_of how (zs i))
-  item_at i l None h = sym (ap (item_or_null (leaf_of t)) (extreme_none how (zs i) h))
-  item_at i l (Some q) h =
-      let found = extreme_found how (zs i) q h in
-      ap (leaf_value p.lane.kind)
-      (element-twice p.lane.kind (get_or p.lane.items (start i + q) (pos 0))
-      ∙ sym (number_there i q l found.0))
-      ∙ ap (λ k. leaf_value k (get_or (zs i) q (pos 0))) r.present.kind
-      ∙ sym (ap (item_or_null (leaf_of t)) found.1)
+  read : (i q : ℕ) → q < length (zs i)
+      → element k (get_or (zs i) q (pos 0)) ≡ get_or (zs i) q (pos 0)
+  read i q =
+      subst (λ ws. q < length ws → element k (get_or ws q (pos 0)) ≡ get_or ws q (pos 0))
+      (sym (slice_range-map (element k) x.lane.now.items (start_of p i) (stop_of p i)))
+      (read_twice k (slice_range x.lane.now.items (start_of p i) (stop_of p i)) q)
 
   item_here : (i : ℕ) → i < n
-      → at_option (option_place_at e i)
-      (λ q. leaf_value p.lane.kind (element p.lane.kind (number_at p.lane e i)))
+      → at_option (there i) (λ q. leaf_value k (element k (extreme_at how all p i)))
       ≡ reduced (item_reducer how) t (vs i)
   item_here i l =
-      ap (λ o. at_option o (λ q. leaf_value p.lane.kind
-      (element p.lane.kind (number_or_zero p.lane o)))) (place i l)
-      ∙ item_at i l (first_extreme how (zs i)) refl
-      ∙ ap (λ ns. item_or_null (leaf_of t) (extreme_of how ns)) (r.present.parts i l)
+      item_case how k (leaf_of t) (zs i) (first_extreme how (zs i)) r.kind (read i) refl
+      ∙ ap (λ ns. item_or_null (leaf_of t) (extreme_of how ns)) (r.parts i l)
       ∙ item_value how t (vs i)
 
-  leaf_type : leaf (primitive_of p.lane.kind) ≡ leaf (leaf_of t)
-  leaf_type = ap leaf (ap primitive_of r.present.kind ∙ primitive_of-kind_of (leaf_of t))
+  leaf_type : leaf (primitive_of k) ≡ leaf (leaf_of t)
+  leaf_type = ap leaf (ap primitive_of r.kind ∙ primitive_of-kind_of (leaf_of t))
 
-  pub extremes_made : (y : Layout) (c : Column)
-      → c ≡ lane_of p.lane.kind (size_of e) (number_at p.lane e)
-      → y ≡ optional (lane_of I64 (size_of e) (present_at e)) (flat c)
-      → AreReduced (item_reducer how) z o n (made.Singles y)
-  extremes_made y c ce ye =
+  pub extremes_made : (y : Layout) (j c : Column) → c ≡ lane_of k n (extreme_at how all p)
+      → j ≡ lane_of I64 n (present_at all p) → y ≡ optional j (flat c)
+      → AreReduced (item_reducer how) x (made.Singles y)
+  extremes_made y j c ce je ye =
       let value : ℕ → Value = λ i. reduced (item_reducer how) t (vs i) in
-      let same : y
-      ≡ optional (lane_of I64 n (present_at e))
-      (flat (lane_of p.lane.kind n (number_at p.lane e))) =
-      ye ∙ ap (λ c. optional (lane_of I64 (size_of e) (present_at e)) (flat c)) ce
-      ∙ ap (λ m. optional (lane_of I64 m (present_at e))
-      (flat (lane_of p.lane.kind m (number_at p.lane e)))) places-count in (
+      let same : y ≡ optional (lane_of I64 n (present_at all p))
+      (flat (lane_of k n (extreme_at how all p))) =
+      ye ∙ ap (λ j. optional j (flat c)) je
+      ∙ ap (λ c. optional (lane_of I64 n (present_at all p)) (flat c)) ce in (
         λ i l. item_fits how t (vs i),
         subst (λ u. IsColumn u value n y) (ap opt leaf_type ∙ item_type how t)
-            (subst (IsColumn (opt (leaf (primitive_of p.lane.kind))) value n) (sym same)
-            (optional_column p.lane.kind n (option_place_at e) (number_at p.lane e) value r.fits
-            item_here)),
+            (subst (IsColumn (opt (leaf (primitive_of k))) value n) (sym same)
+            (optional_column k n there (extreme_at how all p) value r.fits item_here)),
       )
 
   -- ---- their places
 
-  place_found : (i q : ℕ) (w : ℤ) → i < n → (j : Option Column)
-      → LeadsBack (array_items z) o j i w q
-      → option_place_at e i ≡ Some (start i + q)
-      → int (place_by o p.offsets e j i) ≡ place_or_null (number_place (vs i) w)
-  place_found i q w l None b h =
-      let less : start i + q - start i ≡ q = omega arith in
-      ap (λ k. int (place_or_zero (start i) k)) h ∙ ap (λ k. int (pos k)) less
-      ∙ sym (ap place_or_null b)
-  place_found i q w l (Some j) b h =
-      let less : start i + q - start i ≡ q = omega arith in
-      let whole : b.0 - 0 ≡ b.0 = omega arith in
-      ap (λ k. int (found_in (lane_numbers j) (place_at o i) (place_at o (i + 1)) (start i) k)) h
-      ∙ ap (λ m. int (place_or_zero 0 (nth_place m (part_at (lane_numbers j) o i)))) less
-      ∙ ap (λ k. int (place_or_zero 0 k)) b.2 ∙ ap (λ k. int (pos k)) whole
-      ∙ sym (ap place_or_null b.1)
+  place_case : (i : ℕ) → i < n → (ws : List ℤ) → zs i ≡ ws → (f : Option ℕ)
+      → first_extreme how ws ≡ f
+      → at_option (some_place ws) (λ q. int (place_by how all p x.items.now x.index.now i))
+      ≡ place_or_null (option_and_then (number_place (vs i)) (extreme_of how ws))
+  place_case i l [] e f h =
+      sym (ap (λ m. place_or_null (option_and_then (number_place (vs i)) m)) (none_of how))
+  place_case i l (w ∷ ws) e None h = absurd (some_of how w ws h)
+  place_case i l (w ∷ ws) e (Some q) h =
+      let found = extreme_found how (w ∷ ws) q h in
+      let z = get_or (w ∷ ws) q (pos 0) in
+      back (vs i) x.index.now how all p x.items.now i q z (ap (first_extreme how) e ∙ h)
+      (r.places i q z l (ap (position (int_eq z)) e ∙ found.2))
+      ∙ sym (ap (λ m. place_or_null (option_and_then (number_place (vs i)) m)) found.1)
 
-  index_at : (i : ℕ) → i < n → (f : Option ℕ) → first_extreme how (zs i) ≡ f
-      → at_option (further (start i) f) (λ q. int (place_by o p.offsets e p.index i))
-      ≡ place_or_null (option_and_then (number_place (vs i)) (extreme_of how (zs i)))
-  index_at i l None h =
-      sym (ap (λ x. place_or_null (option_and_then (number_place (vs i)) x))
-      (extreme_none how (zs i) h))
-  index_at i l (Some q) h =
-      let found = extreme_found how (zs i) q h in
-      place_found i q (get_or (zs i) q (pos 0)) l p.index
-      (r.present.places i q (get_or (zs i) q (pos 0)) l found.2)
-      (place i l ∙ ap (further (start i)) h)
-      ∙ sym (ap (λ x. place_or_null (option_and_then (number_place (vs i)) x)) found.1)
-
-  index_here : (i : ℕ) → i < n
-      → at_option (option_place_at e i)
-      (λ q. leaf_value I64 (element I64 (place_by o p.offsets e p.index i)))
+  place_here : (i : ℕ) → i < n
+      → at_option (there i)
+      (λ q. leaf_value I64 (element I64 (place_by how all p x.items.now x.index.now i)))
       ≡ reduced (place_reducer how) t (vs i)
-  index_here i l =
-      ap (λ x. at_option x (λ q. int (place_by o p.offsets e p.index i))) (place i l)
-      ∙ index_at i l (first_extreme how (zs i)) refl
+  place_here i l =
+      place_case i l (zs i) refl (first_extreme how (zs i)) refl
       ∙ ap (λ ns. place_or_null (option_and_then (number_place (vs i)) (extreme_of how ns)))
-      (r.present.parts i l)
+      (r.parts i l)
       ∙ place_value how t (vs i)
 
-  pub places_made : (y : Layout) (c : Column) → c ≡ place_lane o p e
-      → y ≡ optional (lane_of I64 (size_of e) (present_at e)) (flat c)
-      → AreReduced (place_reducer how) z o n (made.Singles y)
-  places_made y c ce ye =
+  pub places_made : (y : Layout) (j c : Column) → c ≡ place_lane how x
+      → j ≡ lane_of I64 n (present_at all p) → y ≡ optional j (flat c)
+      → AreReduced (place_reducer how) x (made.Singles y)
+  places_made y j c ce je ye =
       let value : ℕ → Value = λ i. reduced (place_reducer how) t (vs i) in
-      let same : y
-      ≡ optional (lane_of I64 n (present_at e))
-      (flat (lane_of I64 n (place_by o p.offsets e p.index))) =
-      ye ∙ ap (λ c. optional (lane_of I64 (size_of e) (present_at e)) (flat c)) ce
-      ∙ ap (λ m. optional (lane_of I64 m (present_at e))
-      (flat (lane_of I64 m (place_by o p.offsets e p.index)))) places-count in (
+      let place : ℕ → ℤ = place_by how all p x.items.now x.index.now in
+      let same : y ≡ optional (lane_of I64 n (present_at all p)) (flat (lane_of I64 n place)) =
+      ye ∙ ap (λ j. optional j (flat c)) je
+      ∙ ap (λ c. optional (lane_of I64 n (present_at all p)) (flat c)) ce in (
         λ i l. place_fits how t (vs i),
         subst (λ u. IsColumn u value n y) (place_type how t)
             (subst (IsColumn (opt (leaf primitive.I64)) value n) (sym same)
-            (optional_column I64 n (option_place_at e) (place_by o p.offsets e p.index) value r.fits
-            index_here)),
+            (optional_column I64 n there place value r.fits place_here)),
       )

@@ -1,8 +1,6 @@
--- What is made of lists whose items lie one after another: totals and counts.
-use Rattle.std.proofs.Common.{◌≡◌, ℕ, ◌<◌, length, arith, refl, ap, sym, ◌∙◌}
-use Rattle.std.proofs.Common.{subst}
+-- What is made of lists whose items' numbers are ready: totals and counts.
+use Rattle.std.proofs.Common.{◌≡◌, ℕ, ◌<◌, refl, ap, sym, ◌∙◌, subst}
 use Rattle.std.specs.Prelude.{ℤ, pos, Bool, true, false, not, if◌then◌else◌, List, Some}
-use Rattle.std.proofs.lemmas.List.{length-map}
 use Rattle.awk_types.specs.DataType.{DataType, leaf}
 use Rattle.awk_types.specs.Value.{Value, int, truth}
 use Rattle.awk_types.specs.declared.primitive.Primitive.{Primitive}
@@ -10,12 +8,11 @@ use Rattle.awk_types.specs.declared.primitive.Primitive.TheVariants as primitive
 use Rattle.awk_lanes.specs.Column.{Column}
 use Rattle.awk_lanes.specs.Made.{lane_of}
 use Rattle.awk_lanes.specs.Numbers.{element}
-use Rattle.awk_lanes.specs.Places.{size_of}
 use Rattle.awk_lanes.specs.declared.kind.Kind.TheVariants as kind
 use Rattle.awk_layout.specs.Item.{leaf_value}
 use Rattle.awk_layout.specs.Kinds.{kind_of, primitive_of, primitive_of-kind_of}
 use Rattle.awk_layout.specs.Layout.{Layout, flat}
-use Rattle.awk_layout.specs.Typing.{array_type, array_items}
+use Rattle.awk_layout.specs.Typing.{array_type}
 use Rattle.awk_axis.specs.Mapped.{IsColumn}
 use Rattle.awk_axis.specs.declared.function.Made.TheVariants as made
 use Rattle.awk_numbers.specs.Folds.{lane_numbers, folded, tallied, tally_kind}
@@ -25,14 +22,14 @@ use Rattle.awk_numbers.specs.declared.tallies.Tally.{Tally}
 use Rattle.awk_numbers.specs.declared.tallies.Tally.TheVariants as tally
 use Rattle.awk_parts.specs.Fits.{fits, AreFitting}
 use Rattle.awk_parts.specs.Lanes.{folded_at, tallied_at}
-use Rattle.awk_parts.specs.Parts.{AreRising, AreParts}
+use Rattle.awk_parts.specs.Spans.{span_count}
+use Rattle.awk_parts.specs.declared.parts.Spans.{Spans}
 use Rattle.awk_present.specs.Numbers.{leaf_of, numbers}
-use Rattle.awk_present.specs.Present.{list_at}
-use Rattle.awk_present.specs.declared.present.Present.{Present}
-use Rattle.awk_reduce.specs.Lists.{AreReady, AreReduced}
+use Rattle.awk_reduce.specs.Lists.{list_in, AreReady, AreReduced}
 use Rattle.awk_reduce.specs.Reduce.{overflows}
 use Rattle.awk_reduce.specs.Reducers.{wide, reduced, reduced_type}
 use Rattle.awk_reduce.specs.Totals.{fold_reducer, tally_reducer}
+use Rattle.awk_reduce.specs.declared.ready.ReadyLists.{ReadyLists}
 use Rattle.awk_reduce.proofs.ColumnLaws.{flat_column}
 
 -- ---- by types and values
@@ -94,71 +91,67 @@ tally_fits tally.All t vs = refl
 
 -- ---- of lists
 
-module _ (z : Layout) (o : Column) (n : ℕ) (p : Present) (r : AreReady z o n p) where
+module _ (x : ReadyLists) (r : AreReady x) where
   abbrev all : List ℤ
-  all = lane_numbers p.lane
+  all = lane_numbers x.lane.now
+
+  abbrev p : Spans
+  p = x.spans.now
+
+  abbrev n : ℕ
+  n = span_count x.spans.now
 
   abbrev t : DataType
-  t = array_type z
+  t = array_type x.lists.now.content
 
-  pub numbers-count : length all ≡ size_of p.lane
-  numbers-count = length-map p.lane.items (element p.lane.kind)
-
-  pub ready_parts : AreParts all p.offsets n
-  ready_parts = record {
-    rising = subst (AreRising p.offsets n) (sym numbers-count) r.present.rising;
-    few = omega (arith, numbers-count, r.present.few, r.few);
-  }
+  abbrev vs : ℕ → List Value
+  vs i = list_in x.lists.now i
 
   -- what is folded is what the numbers of a list's items come to
-  fold_same : (how : Fold) (i : ℕ) → i < n
-      → folded_at how all p.offsets i ≡ folded how (numbers (list_at (array_items z) o i))
-  fold_same how i l = ap (folded how) (r.present.parts i l)
+  fold_same : (how : Fold) (i : ℕ) → i < n → folded_at how all p i ≡ folded how (numbers (vs i))
+  fold_same how i l = ap (folded how) (r.parts i l)
 
   pub folds_spoilt : (how : Fold) (i : ℕ) → i < n
-      → fits (wide (leaf_of t)) (folded_at how all p.offsets i) ≡ false
-      → overflows (fold_reducer how) t (list_at (array_items z) o i) ≡ true
+      → fits (wide (leaf_of t)) (folded_at how all p i) ≡ false
+      → overflows (fold_reducer how) t (vs i) ≡ true
   folds_spoilt how i l e =
-      fold_overflows how t (list_at (array_items z) o i) false
+      fold_overflows how t (vs i) false
       (ap (fits (wide (leaf_of t))) (sym (fold_same how i l)) ∙ e)
 
   pub folds_made : (how : Fold) (q : Primitive) (c : Column) (y : Layout) → q ≡ wide (leaf_of t)
-      → AreFitting q (folded_at how all p.offsets) n (Some c) → y ≡ flat c
-      → AreReduced (fold_reducer how) z o n (made.Singles y)
+      → AreFitting q (folded_at how all p) n (Some c) → y ≡ flat c
+      → AreReduced (fold_reducer how) x (made.Singles y)
   folds_made how q c y qe f ye =
-      let g : ℕ → ℤ = folded_at how all p.offsets in
+      let g : ℕ → ℤ = folded_at how all p in
       let fit : AreFitting (wide (leaf_of t)) g n (Some c) =
       subst (λ q. AreFitting q g n (Some c)) qe f in (
         λ i l.
-            fold_overflows how t (list_at (array_items z) o i) true
+            fold_overflows how t (vs i) true
             (ap (fits (wide (leaf_of t))) (sym (fold_same how i l)) ∙ fit.0 i l),
-        subst
-            (λ u. IsColumn u (λ i. reduced (fold_reducer how) t (list_at (array_items z) o i)) n y)
-            (fold_type how t)
+        subst (λ u. IsColumn u (λ i. reduced (fold_reducer how) t (vs i)) n y) (fold_type how t)
             (subst (IsColumn (leaf (primitive_of (kind_of (wide (leaf_of t)))))
-            (λ i. reduced (fold_reducer how) t (list_at (array_items z) o i)) n)
+            (λ i. reduced (fold_reducer how) t (vs i)) n)
             (sym (ye ∙ ap flat fit.1))
             (flat_column (kind_of (wide (leaf_of t))) n g
-            (λ i. reduced (fold_reducer how) t (list_at (array_items z) o i)) r.fits
+            (λ i. reduced (fold_reducer how) t (vs i)) r.fits
             (λ i l.
             wide_value (leaf_of t) (g i) ∙ ap (λ z. int z) (fold_same how i l)
-            ∙ fold_value how t (list_at (array_items z) o i)))),
+            ∙ fold_value how t (vs i)))),
       )
 
   pub tallies_made : (how : Tally) (c : Column) (y : Layout)
-      → c ≡ lane_of (tally_kind how) n (tallied_at how all p.offsets) → y ≡ flat c
-      → AreReduced (tally_reducer how) z o n (made.Singles y)
+      → c ≡ lane_of (tally_kind how) n (tallied_at how all p) → y ≡ flat c
+      → AreReduced (tally_reducer how) x (made.Singles y)
   tallies_made how c y ce ye = (
-    λ i l. tally_fits how t (list_at (array_items z) o i),
-    subst (λ u. IsColumn u (λ i. reduced (tally_reducer how) t (list_at (array_items z) o i)) n y)
-        (tally_type how t)
+    λ i l. tally_fits how t (vs i),
+    subst (λ u. IsColumn u (λ i. reduced (tally_reducer how) t (vs i)) n y) (tally_type how t)
         (subst (IsColumn (leaf (primitive_of (tally_kind how)))
-        (λ i. reduced (tally_reducer how) t (list_at (array_items z) o i)) n)
+        (λ i. reduced (tally_reducer how) t (vs i)) n)
         (sym (ye ∙ ap flat ce))
-        (flat_column (tally_kind how) n (tallied_at how all p.offsets)
-        (λ i. reduced (tally_reducer how) t (list_at (array_items z) o i)) r.fits
+        (flat_column (tally_kind how) n (tallied_at how all p)
+        (λ i. reduced (tally_reducer how) t (vs i)) r.fits
         (λ i l.
         ap (λ zs. leaf_value (tally_kind how) (element (tally_kind how) (tallied how zs)))
-        (r.present.parts i l)
-        ∙ tally_value how t (list_at (array_items z) o i)))),
+        (r.parts i l)
+        ∙ tally_value how t (vs i)))),
   )

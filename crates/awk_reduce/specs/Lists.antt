@@ -1,40 +1,55 @@
--- What is made of the lists of a column, by their items one after another.
-use Rattle.std.specs.Prelude.{◌≡◌, ℕ, ◌<◌, ◌≤◌, ◌^◌, Bool, true, false, List, length}
+-- What is made of the lists of a column, by the numbers of their items.
+use Rattle.std.specs.Prelude.{◌≡◌, ℕ, ◌<◌, ◌≤◌, ◌^◌, ℤ, Bool, true, false, List, position}
+use Rattle.std.specs.Prelude.{Option, Some, None}
+use Rattle.std.specs.Ordering.{int_eq}
 use Rattle.awk_types.specs.DataType.{DataType}
 use Rattle.awk_types.specs.ItemLimit.{item_limit}
-use Rattle.awk_types.specs.Predicates.{is_leaf}
-use Rattle.awk_types.specs.Simple.{present}
 use Rattle.awk_types.specs.Value.{Value}
 use Rattle.awk_lanes.specs.Column.{Column}
-use Rattle.awk_lanes.specs.Places.{place_at}
-use Rattle.awk_layout.specs.Layout.{Layout}
-use Rattle.awk_layout.specs.Typing.{array_type, array_items}
+use Rattle.awk_layout.specs.Kinds.{kind_of}
+use Rattle.awk_layout.specs.Typing.{array_type}
 use Rattle.awk_axis.specs.Mapped.{IsColumn}
 use Rattle.awk_axis.specs.declared.causes.Spoil.TheVariants.{Overflow}
 use Rattle.awk_axis.specs.declared.function.Made.{Made}
 use Rattle.awk_axis.specs.declared.function.Made.TheVariants as made
-use Rattle.awk_parts.specs.Parts.{AreRising}
-use Rattle.awk_present.specs.Present.{ArePresent, list_at}
-use Rattle.awk_present.specs.declared.present.Present.{Present}
+use Rattle.awk_columns.specs.Lists.{Listed, items_at}
+use Rattle.awk_numbers.specs.Folds.{lane_numbers}
+use Rattle.awk_numbers.specs.Places.{nth_place}
+use Rattle.awk_parts.specs.Spans.{span_count, span_part, AreSpanned}
+use Rattle.awk_parts.specs.declared.parts.Spans.{Spans}
+use Rattle.awk_present.specs.Numbers.{leaf_of, numbers, number_place}
 use Rattle.awk_reduce.specs.Reduce.{overflows}
 use Rattle.awk_reduce.specs.Reducers.{reduced_type, reduced}
+use Rattle.awk_reduce.specs.declared.ready.ReadyLists.{ReadyLists}
 use Rattle.awk_reduce.specs.declared.reducer.Reducer.{Reducer}
 
--- items of n lists one after another, which are leaves
-pub record AreItems (z : Layout) (o : Column) (n : ℕ) : Type 0 where
-  pub leaves : is_leaf (present (array_type z)) ≡ true
-  pub rising : AreRising o n (length (array_items z))
-  pub first : place_at o 0 ≡ 0
-  pub last : place_at o n ≡ length (array_items z)
-  pub few : length (array_items z) ≤ item_limit
-  pub fits : n < 2 ^ 63
+-- the items of list i
+abbrev pub list_in : Listed → ℕ → List Value
+list_in l i = items_at l.starts l.stops l.content i
 
--- items of n lists one after another, and those that are present as numbers
-pub record AreReady (z : Layout) (o : Column) (n : ℕ) (p : Present) : Type 0 where
-  pub present : ArePresent z o n p
-  pub rising : AreRising o n (length (array_items z))
-  pub few : length (array_items z) ≤ item_limit
-  pub fits : n < 2 ^ 63
+-- an index in as many parts as there are lists
+abbrev pub IsIndexed : Option Column → Spans → ℕ → Type 0
+IsIndexed None o n = Unit {0}
+IsIndexed (Some j) o n = AreSpanned (lane_numbers j) o × (span_count o ≡ n)
+
+-- where a number stands among those of a list leads to where it stands in the list
+abbrev pub LeadsBack : List Value → Option Column → Spans → ℕ → ℤ → ℕ → Type 0
+LeadsBack vs None o i z q = number_place vs z ≡ Some q
+LeadsBack vs (Some j) o i z q = (k : ℕ)
+    × (number_place vs z ≡ Some k)
+    × (nth_place q (span_part (lane_numbers j) o i) ≡ Some k)
+
+-- lists of leaves, and the numbers of those of their items that are present
+pub record AreReady (x : ReadyLists) : Type 0 where
+  pub kind : x.lane.now.kind ≡ kind_of (leaf_of (array_type x.lists.now.content))
+  pub spans : AreSpanned (lane_numbers x.lane.now) x.spans.now
+  pub fits : span_count x.spans.now < 2 ^ 63
+  pub parts : (i : ℕ) → i < span_count x.spans.now
+      → span_part (lane_numbers x.lane.now) x.spans.now i ≡ numbers (list_in x.lists.now i)
+  pub index : IsIndexed x.index.now x.items.now (span_count x.spans.now)
+  pub places : (i q : ℕ) (z : ℤ) → i < span_count x.spans.now
+      → position (int_eq z) (span_part (lane_numbers x.lane.now) x.spans.now i) ≡ Some q
+      → LeadsBack (list_in x.lists.now i) x.index.now x.items.now i z q
 
 -- what is made of lists, n of them, whose items are of a type
 abbrev pub IsReduced : Reducer → DataType → (ℕ → List Value) → ℕ → Made → Type 0
@@ -45,9 +60,11 @@ IsReduced how t ls n (made.Singles z) =
     ((i : ℕ) → i < n → overflows how t (ls i) ≡ false)
     × IsColumn (reduced_type how t) (λ i. reduced how t (ls i)) n z
 
--- of the items of lists one after another
-abbrev pub AreReduced : Reducer → Layout → Column → ℕ → Made → Type 0
-AreReduced how z o n m = IsReduced how (array_type z) (list_at (array_items z) o) n m
+-- of these lists
+abbrev pub AreReduced : Reducer → ReadyLists → Made → Type 0
+AreReduced how x m =
+    let l = x.lists.now in
+    IsReduced how (array_type l.content) (list_in l) (span_count x.spans.now) m
 
 -- whether n items are no more than the limit
 abbrev pub IsWithin : Bool → ℕ → Type 0

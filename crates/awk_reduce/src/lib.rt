@@ -4,8 +4,8 @@
 #![tactic(auto)]
 
 mod extremes;
-mod joined;
 mod lengths;
+mod ready;
 mod reducer;
 mod reducing;
 mod totals;

@@ -1,43 +1,49 @@
 //! Reducers as functions of one list.
-ghost use Rattle.std.specs.Prelude.{◌≡◌, true, IfOk};
+ghost use Rattle.std.specs.Prelude.{◌≡◌, ◌≤◌, true, IfOk};
 ghost use Rattle.awk_types.specs.Faults.{fault_told};
 ghost use Rattle.awk_types.specs.Gives.{Gives};
+ghost use Rattle.awk_types.specs.ItemLimit.{item_limit};
 ghost use Rattle.awk_types.specs.Simple.{present};
+ghost use Rattle.awk_lanes.specs.Counted.{before};
+ghost use Rattle.awk_lanes.specs.Places.{size_of, at};
 ghost use Rattle.awk_layout.specs.Datum.{datum_of, IsDatum};
 ghost use Rattle.awk_layout.specs.Typing.{array_type};
 ghost use Rattle.awk_axis.specs.Mapped.{IsMade};
 ghost use Rattle.awk_axis.specs.Reach.{is_leaf};
-ghost use Rattle.awk_reduce.specs.Lists.{AreItems, AreReady, AreReduced};
+ghost use Rattle.awk_columns.specs.Joined.{total, JoinsLists};
+ghost use Rattle.awk_parts.specs.Spans.{span_count, span_size, AreEnds};
+ghost use Rattle.awk_reduce.specs.Lists.{AreReady, AreReduced};
 ghost use Rattle.awk_reduce.specs.Reduce.{reducer_function, reduce_of};
 
 use crate::extremes::{extreme_indexes, extremes};
-use crate::joined::{ItemLists, JoinedItems};
-use crate::lengths::{counts_all, lengths};
+use crate::lengths::{are_within, lengths};
+use crate::ready::ReadyLists;
 use crate::reducer::Reducer;
 use crate::totals::{folds, tallies};
-use crate::types::{are_leaves, reduced_typ};
+use crate::types::{are_leaves, is_leaf, reduced_typ};
 use awk_axis::{ListOp, Made, Refusal, Spoil, lift_deep};
-use awk_columns::{Joined, Lists};
+use awk_columns::{Joined, Lists, OffsetLists};
 use awk_kernels::Kernels;
 use awk_lanes::{Arena, Steps};
 use awk_layout::Datum;
 use awk_numbers::{Extreme, Fold, Tally};
-use awk_present::present_of;
+use awk_parts::{Spans, spans_between, spans_of};
+use awk_present::{leaves_of, present_of};
 use awk_types::{Fault, NoMemory, Typ};
 use std::alloc::Global;
 use std::sync::ledger::Ledger;
 
-/// What is made of lists whose items lie one after another.
+/// What is made of lists whose items' numbers are ready.
 fn reduced<'a, N: Kernels, L: Ledger>(
     alloc: Global,
     how: Reducer,
-    x: &JoinedItems<'_, 'a>,
+    x: &ReadyLists<'_, 'a>,
     kernels: &N,
     arena: &'a Arena,
     steps: &mut Steps<L>,
 ) -> Result<Made<'a>, NoMemory>
-    requires { AreReady x.now.items.now x.now.offsets.now x.now.count x.now.present.now }
-    ensures { IfOk result (AreReduced how x.now.items.now x.now.offsets.now x.now.count) }
+    requires { AreReady x.now }
+    ensures { IfOk result (AreReduced how x.now) }
 {
     match how {
         Reducer::Sum => folds(Fold::Sum, x, arena, steps),
@@ -53,30 +59,37 @@ fn reduced<'a, N: Kernels, L: Ledger>(
     }
 }
 
-/// What is made of lists, by their items one after another.
-fn reduced_items<'a, N: Kernels, L: Ledger>(
+/// What is made of lists none of whose items is null, as their items lie.
+fn reduced_plain<'a, N: Kernels, L: Ledger>(
     alloc: Global,
     how: Reducer,
-    x: &ItemLists<'_, 'a>,
+    lists: &Lists<'a>,
+    spans: &Spans<'a>,
     kernels: &N,
     arena: &'a Arena,
     steps: &mut Steps<L>,
 ) -> Result<Made<'a>, NoMemory>
-    requires { AreItems x.now.items.now x.now.offsets.now x.now.count }
-    ensures { IfOk result (AreReduced how x.now.items.now x.now.offsets.now x.now.count) }
+    requires leaves { is_leaf (array_type lists.now.content) ≡ true }
+    requires ends { AreEnds (size_of lists.now.starts) (at lists.now.starts) (at lists.now.stops)
+        spans.now }
+    requires few { before (span_size spans.now) (span_count spans.now) ≤ item_limit }
+    ensures { IfOk result (IsMade (reducer_function how) lists.now.class lists.now.starts
+        lists.now.stops lists.now.content) }
 {
-    let present = present_of(alloc, x.items, x.offsets, x.count, arena, steps)?;
-    let x = JoinedItems {
-        items: x.items,
-        offsets: x.offsets,
-        present: &present,
-        count: x.count,
+    let lane = leaves_of(alloc, lists.content(), arena, steps)?;
+    let index = None;
+    let x = ReadyLists {
+        lists,
+        lane: &lane,
+        spans,
+        index: &index,
+        items: spans,
     };
     reduced(alloc, how, &x, kernels, arena, steps)
 }
 
-/// What is made of lists, by all their items.
-fn reduced_joined<'a, N: Kernels, L: Ledger>(
+/// What is made of lists none of whose items is null.
+fn reduced_leaves<'a, N: Kernels, L: Ledger>(
     alloc: Global,
     how: Reducer,
     lists: &Lists<'a>,
@@ -84,20 +97,71 @@ fn reduced_joined<'a, N: Kernels, L: Ledger>(
     arena: &'a Arena,
     steps: &mut Steps<L>,
 ) -> Result<Made<'a>, NoMemory>
+    requires { is_leaf (array_type lists.now.content) ≡ true }
+    ensures { IfOk result (IsMade (reducer_function how) lists.now.class lists.now.starts
+        lists.now.stops lists.now.content) }
+{
+    let _ = lists.content();
+    let spans = spans_of(lists.starts(), lists.stops(), arena, steps)?;
+    if !are_within(&spans) {
+        return Ok(Made::Spoiled(Spoil::Size));
+    }
+    match how {
+        Reducer::Count => lengths(lists, &spans, arena, steps),
+        _ => reduced_plain(alloc, how, lists, &spans, kernels, arena, steps),
+    }
+}
+
+/// What is made of lists by their items one after another.
+fn reduced_items<'a, N: Kernels, L: Ledger>(
+    alloc: Global,
+    how: Reducer,
+    lists: &Lists<'a>,
+    joined: &OffsetLists<'a>,
+    kernels: &N,
+    arena: &'a Arena,
+    steps: &mut Steps<L>,
+) -> Result<Made<'a>, NoMemory>
     requires leaves { is_leaf (present (array_type lists.now.content)) ≡ true }
+    requires joins { JoinsLists lists.now.starts lists.now.stops lists.now.content
+        joined.now.offsets joined.now.content }
+    requires few { total lists.now.starts lists.now.stops lists.now.content ≤ item_limit }
     ensures { IfOk result (IsMade (reducer_function how) lists.now.class lists.now.starts
         lists.now.stops lists.now.content) }
 {
     let count = lists.len();
+    let offsets = &joined.offsets;
+    let present = present_of(alloc, &joined.content, offsets, count, arena, steps)?;
+    let spans = spans_between(&present.offsets, count, arena, steps)?;
+    let items = spans_between(offsets, count, arena, steps)?;
+    let x = ReadyLists {
+        lists,
+        lane: &present.lane,
+        spans: &spans,
+        index: &present.index,
+        items: &items,
+    };
+    reduced(alloc, how, &x, kernels, arena, steps)
+}
+
+/// What is made of lists of whose items some may be null.
+fn reduced_options<'a, N: Kernels, L: Ledger>(
+    alloc: Global,
+    how: Reducer,
+    lists: &Lists<'a>,
+    kernels: &N,
+    arena: &'a Arena,
+    steps: &mut Steps<L>,
+) -> Result<Made<'a>, NoMemory>
+    requires { is_leaf (present (array_type lists.now.content)) ≡ true }
+    ensures { IfOk result (IsMade (reducer_function how) lists.now.class lists.now.starts
+        lists.now.stops lists.now.content) }
+{
     match lists.joined(alloc, arena, steps)? {
         Joined::TooMany => Ok(Made::Spoiled(Spoil::Size)),
         Joined::Lists { offsets, content } => {
-            let x = ItemLists {
-                items: &content,
-                offsets: &offsets,
-                count,
-            };
-            reduced_items(alloc, how, &x, kernels, arena, steps)
+            let joined = OffsetLists { offsets, content };
+            reduced_items(alloc, how, lists, &joined, kernels, arena, steps)
         }
     }
 }
@@ -115,10 +179,10 @@ fn reduced_lists<'a, N: Kernels, L: Ledger>(
     ensures { IfOk result (IsMade (reducer_function how) lists.now.class lists.now.starts
         lists.now.stops lists.now.content) }
 {
-    if counts_all(how, lists.content().typ()) {
-        lengths(lists, arena, steps)
+    if is_leaf(lists.content().typ()) {
+        reduced_leaves(alloc, how, lists, kernels, arena, steps)
     } else {
-        reduced_joined(alloc, how, lists, kernels, arena, steps)
+        reduced_options(alloc, how, lists, kernels, arena, steps)
     }
 }
 

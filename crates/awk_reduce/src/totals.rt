@@ -1,9 +1,9 @@
 //! Sums, products, counts and truth.
-ghost use Rattle.std.specs.Prelude.{◌≡◌, IfOk};
+ghost use Rattle.std.specs.Prelude.{IfOk};
 ghost use Rattle.awk_reduce.specs.Lists.{AreReady, AreReduced};
 ghost use Rattle.awk_reduce.specs.Totals.{fold_reducer, tally_reducer};
 
-use crate::joined::JoinedItems;
+use crate::ready::ReadyLists;
 use crate::types::{leaf_of, wide};
 use awk_axis::{Made, Spoil};
 use awk_kernels::Kernels;
@@ -17,22 +17,20 @@ use std::sync::ledger::Ledger;
 /// The sum or product of each list, or that one does not fit its type.
 pub(crate) fn folds<'a, L: Ledger>(
     how: Fold,
-    x: &JoinedItems<'_, 'a>,
+    x: &ReadyLists<'_, 'a>,
     arena: &'a Arena,
     steps: &mut Steps<L>,
 ) -> Result<Made<'a>, NoMemory>
-    requires { AreReady x.now.items.now x.now.offsets.now x.now.count x.now.present.now }
-    ensures { IfOk result (AreReduced (fold_reducer how) x.now.items.now x.now.offsets.now
-        x.now.count) }
+    requires { AreReady x.now }
+    ensures { IfOk result (AreReduced (fold_reducer how) x.now) }
 {
-    let numbers = whole_of(&x.present.lane, steps);
+    let numbers = whole_of(x.lane, steps);
     let parts = Parts {
         numbers: &numbers,
-        offsets: &x.present.offsets,
-        count: x.count,
+        spans: x.spans,
     };
-    let prim = wide(leaf_of(x.items.typ()));
-    match fold_parts(how, prim, &parts, arena, steps)? {
+    let prim = wide(leaf_of(x.lists.content().typ()));
+    match fold_parts(how, prim, &parts, arena)? {
         Some(lane) => Ok(Made::Singles(Node::numpy(lane, steps))),
         None => Ok(Made::Spoiled(Spoil::Overflow)),
     }
@@ -41,20 +39,18 @@ pub(crate) fn folds<'a, L: Ledger>(
 /// A count of each list, or whether some or all of its items are true or not 0.
 pub(crate) fn tallies<'a, N: Kernels, L: Ledger>(
     how: Tally,
-    x: &JoinedItems<'_, 'a>,
+    x: &ReadyLists<'_, 'a>,
     kernels: &N,
     arena: &'a Arena,
     steps: &mut Steps<L>,
 ) -> Result<Made<'a>, NoMemory>
-    requires { AreReady x.now.items.now x.now.offsets.now x.now.count x.now.present.now }
-    ensures { IfOk result (AreReduced (tally_reducer how) x.now.items.now x.now.offsets.now
-        x.now.count) }
+    requires { AreReady x.now }
+    ensures { IfOk result (AreReduced (tally_reducer how) x.now) }
 {
-    let numbers = whole_of(&x.present.lane, steps);
+    let numbers = whole_of(x.lane, steps);
     let parts = Parts {
         numbers: &numbers,
-        offsets: &x.present.offsets,
-        count: x.count,
+        spans: x.spans,
     };
     let lane = tally_parts(how, &parts, kernels, arena, steps)?;
     Ok(Made::Singles(Node::numpy(lane, steps)))

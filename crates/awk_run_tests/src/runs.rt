@@ -15,15 +15,15 @@ use std::test::Fail;
 // room for no more than it says. The calls of these numbers fail, counted from 0; each answer is a
 // call to write, if it fits, and one to flush.
 #[derive(Drop)]
-struct Case<'r> {
-    session: &'r [u8],
-    gives: usize,
-    failing_reads: &'r [u64],
-    takes: usize,
-    room: usize,
-    failing_writes: &'r [u64],
-    answers: &'r [u8],
-    status: Status,
+pub struct Case<'r> {
+    pub session: &'r [u8],
+    pub gives: usize,
+    pub failing_reads: &'r [u64],
+    pub takes: usize,
+    pub room: usize,
+    pub failing_writes: &'r [u64],
+    pub answers: &'r [u8],
+    pub status: Status,
 }
 
 const UNBOUND: &[u8] = b"{\"show\":\"q\"}\n{\"show\":\"q\"}\n";
@@ -262,7 +262,7 @@ const RAW_CASES: [RawCase<'static>; 9] = [
 ];
 
 // A run whose steps nobody reads.
-fn run<S: Source, K: Sink>(
+pub fn run<S: Source, K: Sink>(
     host: &HostRuntime,
     words: &[String],
     source: &mut S,
@@ -286,7 +286,7 @@ fn counted<S: Source, K: Sink, L: Ledger>(
     run_words(host.alloc(), words, source, sink, &mut steps)
 }
 
-fn words_of(alloc: Global, words: &[&str]) -> Result<Vec<String>, NoMemory> {
+pub fn words_of(alloc: Global, words: &[&str]) -> Result<Vec<String>, NoMemory> {
     let mut owned = Vec::new(alloc);
     for word in words {
         owned.push(String::from_str(alloc, *word)?)?;
@@ -294,7 +294,7 @@ fn words_of(alloc: Global, words: &[&str]) -> Result<Vec<String>, NoMemory> {
     Ok(owned)
 }
 
-fn check_case(rt: &impl Abort, host: &HostRuntime, case: &Case<'_>) -> Result<(), NoMemory> {
+pub fn check_case(rt: &impl Abort, host: &HostRuntime, case: &Case<'_>) -> Result<(), NoMemory> {
     let alloc = host.alloc();
     assert!(rt; case.gives > 0 && case.takes > 0);
     let mut source = MemSource::new(alloc, case.session, case.gives, case.failing_reads)?;

@@ -31,11 +31,11 @@ ghost use Rattle.awk_answer.specs.declared.fault.AnswerFault.TheVariants.{Evalua
 use awk_answer::{Answer, AnswerFault, Refused, packed, type_text};
 use awk_build::from_values;
 use awk_eval::{Env, eval};
+use awk_expr::Expr;
 use awk_framing::Read;
 use awk_lanes::{Arena, Steps};
 use awk_layout::Datum;
 use awk_load_line::{Head, cut_in, load, raw_store};
-use awk_expr::Expr;
 use awk_query::{Line, RawParts};
 use awk_simd::Wide;
 use awk_store::Store;

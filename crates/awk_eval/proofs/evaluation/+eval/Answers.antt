@@ -70,8 +70,8 @@ operands-loop-k-preserved g t c = record {
       c.takes_literal.ensures c.loop-k.invariant.taken c.in_ok-x.ensures.taken;
   first = λ at_first. absurd (omega arith);
   cost = Taken-get c.args.env.now (exprs_of c.args.args.now) c.loop-k.k (expr_of c.get.result.now)
-      c.args.steps.now c.loop-k.steps c.operand.new.steps c.get.ensures.item c.loop-k.invariant.first
-      c.operand.ensures.cost;
+      c.args.steps.now c.loop-k.steps c.operand.new.steps c.get.ensures.item
+      c.loop-k.invariant.first c.operand.ensures.cost;
   within = within-get c.args.env.now (exprs_of c.args.args.now) c.loop-k.k
       (expr_of c.get.result.now) c.loop-k.made c.push.new.self c.in_ok-x.x c.get.ensures.item
       c.loop-k.invariant.count c.in_ok-push.ensures.ok c.in_ok-x.ensures.within;

@@ -4,9 +4,9 @@ use Rattle.awk_types.specs.Has.{Has}
 use Rattle.awk_types.specs.Simple.{is_option}
 use Rattle.awk_lanes.specs.Places.{size_of}
 use Rattle.awk_layout.specs.Typing.{array_type, array_items}
-use Rattle.awk_jagged.specs.Leaves.{mask_numbers, ArePlacesOr}
+use Rattle.awk_jagged_places.specs.Leaves.{mask_numbers}
+use Rattle.awk_jagged.specs.PickedAt.{ArePlacesOr, IsPickedAt}
 use Rattle.awk_jagged_rows.specs.Levels.{AreCompared}
-use Rattle.awk_jagged.specs.PickedAt.{IsPickedAt}
 use Rattle.awk_jagged.proofs.LeafLaws.{masks-within}
 use Rattle.awk_jagged.proofs.PickLaws.{unlike-masks, by-masks, leaf-outcome}
 use Rattle.awk_jagged_rows.proofs.Results.{if_ok}

@@ -4,8 +4,8 @@ use Rattle.awk_types.specs.Has.{Has}
 use Rattle.awk_types.specs.Simple.{is_option}
 use Rattle.awk_lanes.specs.Places.{size_of}
 use Rattle.awk_layout.specs.Typing.{array_type, array_items}
-use Rattle.awk_jagged.specs.Leaves.{take_numbers, ArePlacesOr, AreTested}
-use Rattle.awk_jagged.specs.PickedAt.{IsPickedAt}
+use Rattle.awk_jagged_places.specs.Leaves.{take_numbers, AreTested}
+use Rattle.awk_jagged.specs.PickedAt.{ArePlacesOr, IsPickedAt}
 use Rattle.awk_jagged.proofs.LeafLaws.{takes-within}
 use Rattle.awk_jagged.proofs.PickLaws.{outside-told, by-takes, leaf-outcome}
 use Rattle.awk_jagged_rows.proofs.Results.{if_ok}

@@ -1,4 +1,4 @@
-use Rattle.std.proofs.Common.{◌≡◌, ◌∙◌, ap, arith, subst, sym}
+use Rattle.std.proofs.Common.{◌≡◌, ◌∙◌, ap, arith, refl, subst, sym}
 use Rattle.std.specs.Prelude.{◌+◌, ◌∷◌, [], ◌++◌, drop, Err, string_bytes}
 use Rattle.serde_json.proofs.Views.{view-Array, view-Object}
 use Rattle.serde_json.specs.Data.{array, item, member, object}
@@ -19,7 +19,8 @@ use Rattle.awk_types.specs.Limit.{limit}
 use Rattle.awk_plain.proofs.TypeSteps.{array_given, array_simple, array_told, object_given}
 use Rattle.awk_plain.proofs.TypeSteps.{object_simple, object_told, typ_of-Var}
 use Rattle.awk_plain.proofs.TypeSteps.{AreFields, AreLeft, item_left, item_next, item_told}
-use Rattle.awk_plain.proofs.TypeSteps.{member_left, member_told, one_simple, unified_told}
+use Rattle.awk_plain.proofs.TypeSteps.{member_left, member_told, one_simple, suit_left}
+use Rattle.awk_plain.proofs.TypeSteps.{unified_told}
 use Rattle.awk_plain.proofs.TypeSteps.{unified_type}
 use Rattle.awk_plain.proofs.types.+typ.Goals as goal
 
@@ -150,6 +151,19 @@ items_type-loop-item-preserved t c =
     c.in_ok-typ.ensures.within_limits
     (unified_type (limit (unification so one).typ) (unification so one)
     (unified_of c.in_ok-typ.field-0) c.in_ok-typ.ensures.gives)
+
+pub items_type-loop-item-preserved-then-suits : goal.items_type-loop-item-preserved-then-suits
+items_type-loop-item-preserved-then-suits t c =
+    let ds = items_view c.args.items.now.items in
+    let vs = c.deref-item-items.result.now in
+    let v = c.item-item.result in
+    let so = typ_of c.loop-item.typ in
+    let rest = items_view (drop (c.loop-item.item-index + 1) vs) in
+    let left : AreLeft ds so (item (view v) rest) =
+    subst (AreLeft ds so)
+    (item_next vs c.loop-item.item-index v (omega arith) c.item-item.is) c.loop-item.invariant in
+    suit_left ds so (view v) rest left (c.if-suits.ensures.plain refl)
+    (sym c.if-suits.ensures.value)
 
 -- ---- members
 

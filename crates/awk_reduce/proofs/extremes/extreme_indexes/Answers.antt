@@ -1,43 +1,53 @@
-use Rattle.std.proofs.Common.{ap, ◌∙◌, arith}
-use Rattle.awk_lanes.specs.Places.{size_of}
+use Rattle.std.proofs.Common.{ap, sym, ◌∙◌, subst, arith}
+use Rattle.awk_lanes.specs.Made.{lane_of}
+use Rattle.awk_lanes.specs.Places.{size_of, IsOptionalIndex}
 use Rattle.awk_lanes.specs.declared.kind.Kind.TheVariants.{I64}
-use Rattle.awk_lanes.proofs.MadeLanes.{size-lane_of}
+use Rattle.awk_numbers.specs.Folds.{whole_numbers, lane_numbers}
+use Rattle.awk_parts.specs.Lanes.{present_at, some_place}
+use Rattle.awk_parts.specs.Spans.{span_count, span_part}
 use Rattle.awk_reduce.specs.Extremes.{place_by}
-use Rattle.awk_reduce.proofs.PlaceLaws.{places-count, places_local, places_made}
+use Rattle.awk_reduce.proofs.ColumnLaws.{index_valid, size-made}
+use Rattle.awk_reduce.proofs.PlaceLaws.{places_made}
 use Rattle.awk_reduce.proofs.extremes.extreme_indexes.Goals as goal
 
-pub places_in-requires-clause-places : goal.places_in-requires-clause-places
-places_in-requires-clause-places g c =
-    let x = c.args.x.now in
-    places_local x.items.now x.offsets.now x.count x.present.now c.requires c.args.how
-    c.in_ok-places.places c.in_ok-places.ensures
+pub indexed-requires-clause-length : goal.indexed-requires-clause-length
+indexed-requires-clause-length g c =
+    let p = c.args.x.now.spans.now in
+    let zs = whole_numbers c.whole_of-numbers.result in
+    omega (
+      arith,
+      size-made c.in_ok-index.index I64 (span_count p) (present_at zs p) c.in_ok-index.ensures,
+      c.requires.fits,
+    )
 
-pub places_in-requires-clause-count : goal.places_in-requires-clause-count
-places_in-requires-clause-count g c =
-    let x = c.args.x.now in
-    places-count x.items.now x.offsets.now x.count x.present.now c.requires c.args.how
-    c.in_ok-places.places c.in_ok-places.ensures
-
-pub optional_node-requires-clause-size : goal.optional_node-requires-clause-size
-optional_node-requires-clause-size g c =
-    let x = c.args.x.now in
-    ap size_of c.in_ok-numbers.ensures
-    ∙ size-lane_of I64 (size_of c.in_ok-places.places)
-    (place_by x.offsets.now x.present.now.offsets c.in_ok-places.places x.present.now.index)
-
-pub optional_node-requires-clause-fits : goal.optional_node-requires-clause-fits
-optional_node-requires-clause-fits g c =
+pub indexed-requires-clause-size : goal.indexed-requires-clause-size
+indexed-requires-clause-size g c =
     let x = c.args.x.now in
     omega (
       arith,
-      places-count x.items.now x.offsets.now x.count x.present.now c.requires c.args.how
-          c.in_ok-places.places c.in_ok-places.ensures,
+      size-made c.in_ok-places.places I64 (span_count x.spans.now)
+          (place_by c.args.how (lane_numbers x.lane.now) x.spans.now x.items.now x.index.now)
+          c.in_ok-places.ensures,
       c.requires.fits,
     )
+
+pub indexed-requires-clause-valid : goal.indexed-requires-clause-valid
+indexed-requires-clause-valid g c =
+    let x = c.args.x.now in
+    let zs = whole_numbers c.whole_of-numbers.result in
+    let n = size_of c.in_ok-places.places in
+    subst (λ j. IsOptionalIndex j n) (sym c.in_ok-index.ensures)
+    (index_valid (span_count x.spans.now) n (λ i. some_place (span_part zs x.spans.now i))
+    (size-made c.in_ok-places.places I64 (span_count x.spans.now)
+    (place_by c.args.how (lane_numbers x.lane.now) x.spans.now x.items.now x.index.now)
+    c.in_ok-places.ensures))
 
 pub returns : goal.returns
 returns g c =
     let x = c.args.x.now in
-    places_made x.items.now x.offsets.now x.count x.present.now c.requires c.args.how
-    c.in_ok-places.places c.in_ok-places.ensures c.in_ok-optional_node.field-0
-    c.in_ok-numbers.numbers c.in_ok-numbers.ensures c.in_ok-optional_node.ensures
+    let p = x.spans.now in
+    places_made x c.requires c.args.how c.in_ok-indexed.field-0 c.in_ok-index.index
+    c.in_ok-places.places c.in_ok-places.ensures
+    (c.in_ok-index.ensures
+    ∙ ap (λ zs. lane_of I64 (span_count p) (present_at zs p)) c.whole_of-numbers.ensures.numbers)
+    c.in_ok-indexed.ensures

@@ -9,6 +9,7 @@ use Rattle.awk_layout.specs.Typing.{array_type}
 use Rattle.awk_numbers.specs.Folds.{whole_numbers}
 use Rattle.awk_parts.specs.Fits.{AreFitting}
 use Rattle.awk_parts.specs.Lanes.{folded_at}
+use Rattle.awk_parts.specs.Spans.{span_count}
 use Rattle.awk_present.specs.Numbers.{leaf_of}
 use Rattle.awk_reduce.specs.Reducers.{wide}
 use Rattle.awk_reduce.proofs.ReadyLaws.{folds_made}
@@ -23,26 +24,30 @@ pub numpy-requires : goal.numpy-requires
 numpy-requires g c =
     let x = c.args.x.now in
     let fit = some_fits c.wide-prim.result
-    (folded_at c.args.how (whole_numbers c.whole_of-numbers.result) x.present.now.offsets) x.count
+    (folded_at c.args.how (whole_numbers c.whole_of-numbers.result) x.spans.now)
+    (span_count x.spans.now)
     c.in_ok-lane.field-0 c.in-Some.lane c.in-Some.is c.in_ok-lane.ensures in
     omega (
       arith,
       ap size_of fit.1,
-      size-lane_of (kind_of c.wide-prim.result) x.count
-          (folded_at c.args.how (whole_numbers c.whole_of-numbers.result) x.present.now.offsets),
+      size-lane_of (kind_of c.wide-prim.result) (span_count x.spans.now)
+          (folded_at c.args.how (whole_numbers c.whole_of-numbers.result) x.spans.now),
       c.requires.fits,
     )
 
 pub returns-in-Some : goal.returns-in-Some
 returns-in-Some g c =
     let x = c.args.x.now in
-    let prim : c.wide-prim.result ≡ wide (leaf_of (array_type x.items.now)) =
-    c.wide-prim.ensures ∙ ap wide (c.leaf_of.ensures ∙ ap leaf_of c.typ.ensures.typ) in
-    folds_made x.items.now x.offsets.now x.count x.present.now c.requires c.args.how
+    let prim : c.wide-prim.result ≡ wide (leaf_of (array_type x.lists.now.content)) =
+    c.wide-prim.ensures
+    ∙ ap wide (c.leaf_of.ensures
+    ∙ ap leaf_of (c.typ.ensures.typ ∙ ap array_type c.content.ensures.content)) in
+    folds_made x c.requires c.args.how
     c.wide-prim.result c.in-Some.lane c.numpy.result prim
-    (subst (λ zs. AreFitting c.wide-prim.result (folded_at c.args.how zs x.present.now.offsets)
-    x.count (Some c.in-Some.lane)) c.whole_of-numbers.ensures.numbers
+    (subst (λ zs. AreFitting c.wide-prim.result (folded_at c.args.how zs x.spans.now)
+    (span_count x.spans.now) (Some c.in-Some.lane)) c.whole_of-numbers.ensures.numbers
     (some_fits c.wide-prim.result
-    (folded_at c.args.how (whole_numbers c.whole_of-numbers.result) x.present.now.offsets) x.count
+    (folded_at c.args.how (whole_numbers c.whole_of-numbers.result) x.spans.now)
+    (span_count x.spans.now)
     c.in_ok-lane.field-0 c.in-Some.lane c.in-Some.is c.in_ok-lane.ensures))
     c.numpy.ensures.node

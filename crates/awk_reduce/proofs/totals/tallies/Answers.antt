@@ -4,6 +4,7 @@ use Rattle.awk_lanes.specs.Places.{size_of}
 use Rattle.awk_lanes.proofs.MadeLanes.{size-lane_of}
 use Rattle.awk_numbers.specs.Folds.{whole_numbers, tally_kind}
 use Rattle.awk_parts.specs.Lanes.{tallied_at}
+use Rattle.awk_parts.specs.Spans.{span_count}
 use Rattle.awk_reduce.proofs.ReadyLaws.{tallies_made}
 use Rattle.awk_reduce.proofs.totals.tallies.Goals as goal
 
@@ -13,17 +14,17 @@ numpy-requires g c =
     omega (
       arith,
       ap size_of c.in_ok-lane.ensures,
-      size-lane_of (tally_kind c.args.how) x.count
-          (tallied_at c.args.how (whole_numbers c.whole_of-numbers.result) x.present.now.offsets),
+      size-lane_of (tally_kind c.args.how) (span_count x.spans.now)
+          (tallied_at c.args.how (whole_numbers c.whole_of-numbers.result) x.spans.now),
       c.requires.fits,
     )
 
 pub returns : goal.returns
 returns g c =
     let x = c.args.x.now in
-    tallies_made x.items.now x.offsets.now x.count x.present.now c.requires c.args.how
+    tallies_made x c.requires c.args.how
     c.in_ok-lane.lane c.numpy.result
     (c.in_ok-lane.ensures
-    ∙ ap (λ zs. lane_of (tally_kind c.args.how) x.count
-    (tallied_at c.args.how zs x.present.now.offsets)) c.whole_of-numbers.ensures.numbers)
+    ∙ ap (λ zs. lane_of (tally_kind c.args.how) (span_count x.spans.now)
+    (tallied_at c.args.how zs x.spans.now)) c.whole_of-numbers.ensures.numbers)
     c.numpy.ensures.node

@@ -1,7 +1,0 @@
-use Rattle.awk_jagged.specs.Kept.{Puts}
-use Rattle.awk_jagged.specs.Leaves.{mask_first}
-use Rattle.awk_jagged.proofs.masks.KeptNumberLists.put_list.Given as goal
-
--- what the items before this one give is put
-abbrev pub invariant-loop-k : goal.invariant-loop-k
-invariant-loop-k g l = Puts (mask_first l.self.xs.now l.self.ws.now l.i l.k) l.fn.maker l.maker

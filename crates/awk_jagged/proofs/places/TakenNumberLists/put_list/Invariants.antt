@@ -1,9 +1,0 @@
-use Rattle.awk_jagged.specs.Kept.{Puts}
-use Rattle.awk_jagged.specs.Leaves.{take_at}
-use Rattle.awk_jagged.proofs.PutLaws.{first_numbers}
-use Rattle.awk_jagged.proofs.places.TakenNumberLists.put_list.Given as goal
-
--- the numbers of the items before this one are put
-abbrev pub invariant-loop-k : goal.invariant-loop-k
-invariant-loop-k g l =
-    Puts (first_numbers (take_at l.self.xs.now l.self.ws.now l.i) l.k) l.fn.maker l.maker

@@ -1,0 +1,4 @@
+pub mod FlatLists
+pub mod PutLaws
+pub mod MaskLaws
+pub mod ValueLaws

@@ -1,0 +1,19 @@
+//! The places that masks and indexes of lists name in a content, list by list.
+//!
+//! `Kept` are the places where a mask is true, and `Taken` those that an index names, each over the
+//! ends of the lists (`awk_bounds`) and over values in the form in which they lie (`Values`).
+//! `put_lane` makes one lane of them all, and `lengths_differ` tells whether the lists of a mask
+//! are as long as those that it picks from.
+#![tactic(auto)]
+
+mod differing;
+mod masks;
+mod places;
+mod put;
+mod values;
+
+pub use differing::lengths_differ;
+pub use masks::Kept;
+pub use places::Taken;
+pub use put::{NumberLists, put_lane};
+pub use values::{Sparse, Truths, Values, truths_of};

@@ -1,0 +1,52 @@
+//! Lanes whose numbers are put list by list.
+ghost use Rattle.std.specs.Prelude.{◌≡◌, ◌<◌, ◌≤◌, length, IfOk};
+ghost use Rattle.awk_lanes.specs.Counted.{before};
+ghost use Rattle.awk_jagged_places.specs.Kept.{IsPutLane};
+
+use awk_index::IndexMaker;
+use awk_lanes::{Arena, Lane, NoMemory, Steps};
+use std::sync::ledger::Ledger;
+
+/// Lists of numbers, of which each is put at once.
+pub trait NumberLists {
+    ghost use Rattle.std.specs.Prelude.{◌≡◌, ◌<◌, ℕ, ℤ, List};
+    ghost use Rattle.awk_lanes.specs.declared.kind.Kind.TheVariants as Kinds;
+    ghost use Rattle.awk_jagged_places.specs.Kept.{HasRoom, Puts};
+
+    /// The numbers of a list.
+    ghost numbers: { Self → ℕ → List ℤ };
+
+    /// How many lists may be asked for.
+    ghost size: { Self → ℕ };
+
+    /// What the numbers rest on.
+    ghost IsReady: { Self → Type 0 } = { λ _. Unit {0} };
+
+    /// Puts the numbers of list i.
+    fn put_list<L: Ledger>(&self, i: u64, maker: &mut IndexMaker, steps: &mut Steps<L>)
+        requires ready { IsReady self.now }
+        requires list { i < size self.now }
+        requires kind { maker.old.kind ≡ Kinds.I64 }
+        requires room { HasRoom (numbers self.now i) maker.old }
+        ensures { Puts (numbers self.now i) maker.old maker.new };
+}
+
+/// The numbers of the first n lists, so many together.
+pub fn put_lane<'a, S: NumberLists, L: Ledger>(
+    n: u64,
+    total: u64,
+    source: &S,
+    arena: &'a Arena,
+    steps: &mut Steps<L>,
+) -> Result<Lane<'a>, NoMemory>
+    requires ready { S.IsReady source.now }
+    requires within { n ≤ S.size source.now }
+    requires total { total ≡ before (λ i. length (S.numbers source.now i)) n }
+    ensures { IfOk result (IsPutLane (S.numbers source.now) n) }
+{
+    let mut maker = IndexMaker::new(total, arena)?;
+    for i in 0..n {
+        source.put_list(i, &mut maker, steps);
+    }
+    Ok(maker.finish())
+}

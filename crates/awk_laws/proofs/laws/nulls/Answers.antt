@@ -1,0 +1,5 @@
+use Rattle.awk_laws.proofs.NullLaws.{null_laws}
+use Rattle.awk_laws.proofs.laws.nulls.Goals as goal
+
+pub returns : goal.returns
+returns c = record { laws = null_laws }

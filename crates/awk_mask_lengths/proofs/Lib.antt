@@ -1,0 +1,2 @@
+pub mod MaskLists
+pub mod MaskPairs

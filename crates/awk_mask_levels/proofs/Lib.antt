@@ -1,0 +1,12 @@
+pub mod MaskNulls
+pub mod MaskNullLists
+pub mod MaskOptions
+pub mod MaskPresent
+pub mod MaskJoined
+pub mod MaskColumns
+pub mod MaskCounts
+pub mod MaskUnder
+pub mod MaskNullLevels
+pub mod MaskListLevels
+pub mod MaskListColumns
+pub mod MaskOpened

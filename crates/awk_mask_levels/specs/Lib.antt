@@ -1,0 +1,2 @@
+pub mod MaskNulls
+pub mod MaskLevels

@@ -1,0 +1,102 @@
+-- Parts of numbers by starts and stops, and by offsets.
+use Rattle.std.proofs.Common.{◌≡◌, ℕ, zero, suc, ◌+◌, ◌-◌, ◌<◌, ◌≤◌, List, length, refl}
+use Rattle.std.proofs.Common.{ap, ap₂, sym, ◌∙◌, subst, arith}
+use Rattle.std.specs.Prelude.{ℤ, pos, negsuc, ◌≤ℤ◌}
+use Rattle.std.specs.List.{slice_range}
+use Rattle.std.proofs.lemmas.Int.{ints}
+use Rattle.awk_types.specs.ItemLimit.{item_limit}
+use Rattle.awk_lanes.specs.Column.{Column}
+use Rattle.awk_lanes.specs.Counted.{before}
+use Rattle.awk_lanes.specs.Numbers.{nat_of}
+use Rattle.awk_lanes.specs.Places.{size_of, at, place_at, IsSpan, AreSpans}
+use Rattle.awk_lanes.proofs.CountedLanes.{before-next, before_mono}
+use Rattle.awk_columns.specs.Lists.{span_length}
+use Rattle.awk_parts.specs.Parts.{AreRising, part_at}
+use Rattle.awk_parts.specs.Spans.{end_at, start_of, stop_of, span_count, span_size, span_part}
+use Rattle.awk_parts.specs.Spans.{AreEnds, AreOrdered, AreSpanned}
+use Rattle.awk_parts.specs.declared.parts.Spans.{Spans}
+
+wider : (n m : ℕ) (a b : ℤ) → n ≤ m → IsSpan n a b → IsSpan m a b
+wider n m a b l h d = let f = h d in (f.0, f.1, omega (arith, ints, f.2, l))
+
+pub before_same : (f g : ℕ → ℕ) (n : ℕ) → ((i : ℕ) → i < n → f i ≡ g i) → before f n ≡ before g n
+before_same f g zero h = refl
+before_same f g (suc n) h =
+    ap₂ (λ a b. a + b) (before_same f g n (λ i l. h i (omega (arith, l)))) (h n (omega arith))
+
+-- one of so many is no more than all together
+one_few : (f : ℕ → ℕ) (n i : ℕ) → i < n → f i ≤ before f n
+one_few f n i l =
+    omega (arith, before-next f i, before_mono f (i + 1) n (omega (arith, l)))
+
+-- ---- by starts and stops
+
+-- of the same lanes
+pub ends_same : (s t u v : Column) (p : Spans) → s ≡ u → t ≡ v
+    → AreEnds (size_of s) (at s) (at t) p → AreEnds (size_of u) (at u) (at v) p
+ends_same s t u v p e f h =
+    subst (λ c. AreEnds (size_of u) (at u) (at c) p) f
+    (subst (λ c. AreEnds (size_of c) (at c) (at t) p) e h)
+
+module _ (s t : Column) (p : Spans) (ends : AreEnds (size_of s) (at s) (at t) p) where
+  pub start-is : (i : ℕ) → i < size_of s → start_of p i ≡ place_at s i
+  start-is i l = ap nat_of (ends.start i l)
+
+  pub stop-is : (i : ℕ) → i < size_of s → stop_of p i ≡ place_at t i
+  stop-is i l = ap nat_of (ends.stop i l)
+
+  pub size-is : (i : ℕ) → i < size_of s → span_size p i ≡ span_length s t i
+  size-is i l = ap₂ (λ a b. a - b) (stop-is i l) (start-is i l)
+
+  pub before-is : before (span_size p) (span_count p) ≡ before (span_length s t) (size_of s)
+  before-is =
+      ap (before (span_size p)) ends.starts
+      ∙ before_same (span_size p) (span_length s t) (size_of s) size-is
+
+  pub ends_ordered : (n m : ℕ) → AreSpans s t n → n ≤ m → AreOrdered m p
+  ends_ordered n m spans l = record {
+    same = ends.stops ∙ sym ends.starts;
+    spans = λ i k.
+        let k' : i < size_of s = omega (arith, k, ends.starts) in
+        subst (λ a. IsSpan m a (end_at p.stops.now i)) (sym (ends.start i k'))
+        (subst (λ b. IsSpan m (at s i) b) (sym (ends.stop i k'))
+        (wider n m (at s i) (at t i) l (spans.ordered i k')));
+  }
+
+  pub ends_spanned : (zs : List ℤ) → AreSpans s t (length zs)
+      → before (span_size p) (span_count p) ≤ item_limit → AreSpanned zs p
+  ends_spanned zs spans few = record {
+    ordered = ends_ordered (length zs) (length zs) spans (omega arith);
+    few = λ i l. omega (arith, one_few (span_size p) (span_count p) i l, few);
+  }
+
+-- ---- by offsets
+
+rise : (m : ℕ) (a b : ℤ) → pos 0 ≤ℤ a → pos 0 ≤ℤ b → nat_of a ≤ nat_of b → nat_of b ≤ m
+    → IsSpan m a b
+rise m (pos a) (pos b) f g l w d = (f, omega (arith, ints, l), omega (arith, ints, w))
+rise m (negsuc a) b f g l w d = absurd (omega (arith, ints, f))
+rise m (pos a) (negsuc b) f g l w d = absurd (omega (arith, ints, g))
+
+module _ (zs : List ℤ) (o : Column) (n : ℕ) (p : Spans)
+    (ends : AreEnds n (at o) (λ i. at o (i + 1)) p) where
+  pub part-same : (i : ℕ) → i < n → span_part zs p i ≡ part_at zs o i
+  part-same i l = ap₂ (slice_range zs) (ap nat_of (ends.start i l)) (ap nat_of (ends.stop i l))
+
+  pub offsets_spanned : AreRising o n (length zs) → length zs ≤ item_limit → AreSpanned zs p
+  offsets_spanned r few = record {
+    ordered = record {
+      same = ends.stops ∙ sym ends.starts;
+      spans = λ i k.
+          let l : i < n = omega (arith, k, ends.starts) in
+          subst (λ a. IsSpan (length zs) a (end_at p.stops.now i)) (sym (ends.start i l))
+          (subst (λ b. IsSpan (length zs) (at o i) b) (sym (ends.stop i l))
+          (rise (length zs) (at o i) (at o (i + 1)) (r.positive i (omega (arith, l)))
+          (r.positive (i + 1) (omega (arith, l))) (r.ordered i l)
+          (r.within (i + 1) (omega (arith, l)))));
+    };
+    few = λ i k.
+        let l : i < n = omega (arith, k, ends.starts) in
+        let stop : stop_of p i ≡ place_at o (i + 1) = ap nat_of (ends.stop i l) in
+        omega (arith, stop, r.within (i + 1) (omega (arith, l)), few);
+  }

@@ -1,0 +1,33 @@
+use Rattle.std.proofs.Common.{refl, ap, ◌∙◌, subst, arith}
+use Rattle.std.proofs.lemmas.Result.{IfOk-weaker}
+use Rattle.awk_types.specs.Predicates.{is_leaf}
+use Rattle.awk_layout.specs.Typing.{array_type}
+use Rattle.awk_axis.specs.Mapped.{IsMade}
+use Rattle.awk_parts.specs.Spans.{span_count}
+use Rattle.awk_present.specs.Present.{AreLeaves}
+use Rattle.awk_reduce.specs.Reduce.{reducer_function}
+use Rattle.awk_reduce.proofs.ListLaws.{leaf_same, made_of_lists, total-is}
+use Rattle.awk_reduce.proofs.PlainLaws.{plain_ready}
+use Rattle.awk_reduce.proofs.reducing.reduced_plain.Goals as goal
+
+pub leaves_of-requires : goal.leaves_of-requires
+leaves_of-requires g c =
+    let l = c.args.lists.now in
+    ap (λ y. is_leaf (array_type y)) c.content.ensures.content
+    ∙ leaf_same (array_type l.content) ∙ c.requires.leaves
+
+pub reduced-requires : goal.reduced-requires
+reduced-requires g c =
+    plain_ready _ c.content.ensures.lists
+    (subst (λ y. AreLeaves y c.in_ok-lane.lane) c.content.ensures.content c.in_ok-lane.ensures)
+    c.requires.ends c.requires.few refl
+
+pub returns : goal.returns
+returns g c =
+    let l = c.args.lists.now in
+    let p = c.args.spans.now in
+    IfOk-weaker c.reduced.result _
+    (IsMade (reducer_function c.args.how) l.class l.starts l.stops l.content)
+    (λ m h. made_of_lists l c.args.how (span_count p) m c.requires.ends.starts
+    (omega (arith, total-is l p c.requires.ends, c.requires.few)) h)
+    c.reduced.ensures
