@@ -5,5 +5,9 @@ pub mod Picking
 pub mod Nulls
 pub mod Viewing
 pub mod Leaves
+pub mod Extremes
+pub mod Reducers
+pub mod Choices
+pub mod Tuples
 pub mod Orders
 pub mod Histograms

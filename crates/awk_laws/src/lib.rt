@@ -8,8 +8,12 @@ mod histograms;
 mod laws;
 mod leaves;
 mod orders;
+mod reducers;
+mod tuples;
 
 pub use histograms::histogram_laws;
 pub use laws::{concatenation, flattening, nulls, picking, views};
 pub use leaves::leaf_laws;
 pub use orders::order_laws;
+pub use reducers::reducer_laws;
+pub use tuples::tuple_laws;

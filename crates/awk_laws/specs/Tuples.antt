@@ -1,0 +1,43 @@
+-- Laws of tuples of the items of one list and of several: how many there are, and which.
+use Rattle.std.specs.Prelude.{◌≡◌, ℕ, ◌+◌, ◌-◌, ◌*◌, ◌≤◌, Bool, true, false, pos, List, map}
+use Rattle.std.specs.Prelude.{length, Ok}
+use Rattle.std.specs.List.{AllByRecursion, Contains}
+use Rattle.awk_types.specs.DataType.{DataType}
+use Rattle.awk_types.specs.Datum.{Datum, arr}
+use Rattle.awk_types.specs.Value.{Value}
+use Rattle.awk_places.specs.Places.{rising_places, place_count}
+use Rattle.awk_merge.specs.Concatenate.{operand_items}
+use Rattle.awk_combi.specs.Combinations.{tuples}
+use Rattle.awk_cartesian.specs.Cartesian.{tuples_of, cartesian_of}
+use Rattle.awk_laws.specs.Choices.{binomial, factorial, IsChoice, comes_before, AreInOrder}
+use Rattle.awk_laws.specs.Choices.{HasSlots, picked_tuple}
+
+pub record TupleLaws : Type 0 where
+  -- there are as many combinations of n items as choices of n of them
+  pub count : (places : Bool) (n : ℕ) (t : DataType) (vs : List Value) → HasSlots n places t
+      → length (tuples false places n t vs) ≡ binomial (length vs) n
+  -- and with replacement as of n - 1 items more
+  pub count_repeated : (places : Bool) (n : ℕ) (t : DataType) (vs : List Value)
+      → HasSlots n places t
+      → length (tuples true places n t vs) ≡ binomial (length vs + n - 1) n
+  -- what that number is, by factorials
+  pub factorials : (m n : ℕ) → n ≤ m
+      → binomial m n * (factorial n * factorial (m - n)) ≡ factorial m
+  -- each is made of n places that go up
+  pub choices : (rep : Bool) (n m : ℕ) → AllByRecursion (IsChoice rep n m) (rising_places rep n m)
+  -- each n places that go up are among them
+  pub each : (rep : Bool) (n m : ℕ) (ks : List ℕ) → IsChoice rep n m ks
+      → Contains (rising_places rep n m) ks
+  -- they stand in order, each before all others behind it, so none stands there twice
+  pub in_order : (rep : Bool) (n m : ℕ) → AreInOrder (rising_places rep n m)
+  pub not_before_itself : (ks : List ℕ) → comes_before ks ks ≡ false
+  -- argcombinations picked from the list is combinations
+  pub pick : (rep : Bool) (n : ℕ) (t : DataType) (vs : List Value) → HasSlots n false t
+      → map (picked_tuple vs) (tuples rep true n t vs) ≡ tuples rep false n t vs
+  -- cartesian of lists has as many tuples as the product of their lengths
+  pub product : (places : Bool) (ls : List (List Value))
+      → length (tuples_of places ls) ≡ place_count (map length ls)
+  -- the same of whole arrays
+  pub products : (places : Bool) (ds : List Datum) (t : DataType) (vs : List Value)
+      → cartesian_of (pos 0) places ds ≡ Ok (arr t vs)
+      → length vs ≡ place_count (map (λ d. length (operand_items d)) ds)
