@@ -4,3 +4,5 @@ pub mod SideLaws
 pub mod SingleLaws
 pub mod BuiltLaws
 pub mod NumberLaws
+pub mod SuitedLaws
+pub mod ListColumns

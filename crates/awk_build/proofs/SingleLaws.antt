@@ -43,7 +43,7 @@ small n z true e = cc
 small n z false e = absurd (cc)
 
 -- the number that a whole one is as int64
-same_number : (n : Num) (z : ℤ) → as_i64 n ≡ Some z → number_in n ≡ z
+pub same_number : (n : Num) (z : ℤ) → as_i64 n ≡ Some z → number_in n ≡ z
 same_number (unsigned n) z e = small n z (nat_lt n (2 ^ 63)) e
 same_number (negative y) z e = cc
 same_number (float x) z e = absurd (cc)

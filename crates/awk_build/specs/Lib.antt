@@ -2,3 +2,4 @@ pub mod Suffix
 pub mod Joined
 pub mod Built
 pub mod Numbers
+pub mod Suited

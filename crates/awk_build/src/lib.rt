@@ -5,9 +5,12 @@
 
 mod building;
 mod joining;
+mod leaves;
 mod lifts;
+mod lists;
 mod numbers;
 mod single;
+mod suited;
 mod values;
 
 pub use building::from_values;
