@@ -6,3 +6,4 @@ pub mod BuiltLaws
 pub mod NumberLaws
 pub mod SuitedLaws
 pub mod ListColumns
+pub mod OptionColumns

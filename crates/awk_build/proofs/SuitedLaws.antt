@@ -1,5 +1,5 @@
 -- Values of a type as they stand: their numbers, their items, and what these are of.
-use Rattle.std.proofs.Common.{append-nil, append_assoc, drop, length, refl, ◌+◌, ◌≤◌}
+use Rattle.std.proofs.Common.{append-nil, append_assoc, drop, length, refl, Box, Global, ◌+◌, ◌≤◌}
 use Rattle.std.proofs.Common.{◌≡◌, ℕ, ◌<◌, List, [], ◌∷◌, ◌++◌, map, Bool, true, false}
 use Rattle.std.proofs.Common.{ap, ap₂, sym, ◌∙◌, subst, get_or, zero, suc, arith, None}
 use Rattle.std.specs.Prelude.{ℤ, FitsSigned}
@@ -14,17 +14,17 @@ use Rattle.serde_json.specs.View.{items_view, view}
 use Rattle.serde_json.specs.declared.value.Value as json
 use Rattle.awk_types.proofs.SameTypeLaws.{same_primitive_is}
 use Rattle.awk_types.proofs.Trees.{value_list-from}
-use Rattle.awk_types.specs.DataType.{DataType, unknown, leaf, var}
+use Rattle.awk_types.specs.DataType.{DataType, unknown, leaf, opt, var}
 use Rattle.awk_types.specs.Has.{Has}
 use Rattle.awk_types.specs.Limit.{limit}
 use Rattle.awk_types.specs.Simple.{IsSimple}
 use Rattle.awk_types.specs.Value as values
 use Rattle.awk_types.specs.Value.{Value}
 use Rattle.awk_types.specs.View.{NamedType, field_step, fields_step, typ_of, typ_step, typs_step}
-use Rattle.awk_types.specs.declared.typ.Typ.{Unknown}
+use Rattle.awk_types.specs.declared.typ.Typ.{Opt, Typ, Unknown}
 use Rattle.awk_types.specs.declared.typ.Typ.TheFolds.{fold-roll-Typ}
 use Rattle.awk_types.specs.declared.typ.Typ.TheOpen.{Typ-F}
-use Rattle.awk_types.specs.declared.typ.Typ.TheVariants.{rolls-Unknown}
+use Rattle.awk_types.specs.declared.typ.Typ.TheVariants.{rolls-Opt, rolls-Unknown}
 use Rattle.awk_types.specs.declared.primitive.Primitive.{Primitive}
 use Rattle.awk_types.specs.declared.primitive.Primitive.TheVariants as primitive
 use Rattle.awk_lanes.specs.Made.{lane_of}
@@ -284,3 +284,9 @@ typ_of-Unknown =
     ap typ_of (sym rolls-Unknown)
     ∙ fold-roll-Typ DataType NamedType (List NamedType) (List DataType) typ_step field_step
     fields_step typs_step Typ-F.Unknown
+
+pub typ_of-Opt : (t : Box Typ Global) → typ_of (Opt t) ≡ opt (typ_of t.value)
+typ_of-Opt t =
+    ap typ_of (sym (rolls-Opt t))
+    ∙ fold-roll-Typ DataType NamedType (List NamedType) (List DataType) typ_step field_step
+    fields_step typs_step (Typ-F.Opt t)

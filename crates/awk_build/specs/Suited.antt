@@ -1,7 +1,8 @@
 -- Values of a type as they stand, all of one type node at once.
-use Rattle.std.specs.Prelude.{◌≡◌, Bool, true, false, List, [], ◌∷◌, get_or, length, map, ℕ, ℤ}
+use Rattle.std.specs.Prelude.{◌≡◌, Bool, true, false, List, [], ◌∷◌, filter, get_or, length, map, ℕ}
+use Rattle.std.specs.Prelude.{ℤ}
 use Rattle.std.specs.List.{AllByRecursion, flat_map}
-use Rattle.serde_json.specs.Data.{Data, boolean, number, array}
+use Rattle.serde_json.specs.Data.{Data, null, boolean, number, string, array}
 use Rattle.serde_json.specs.Data.{Items, no_items, item}
 use Rattle.awk_types.specs.DataType.{DataType, unknown, leaf, var, reg, rec, tup, opt, uni}
 use Rattle.awk_types.specs.Value as values
@@ -30,6 +31,16 @@ items_of d = []
 abbrev pub joined_data : List Data → List Data
 joined_data ds = flat_map items_of ds
 
+-- a value that is not null, nor a text
+abbrev pub is_there : Data → Bool
+is_there null = false
+is_there (string s) = false
+is_there d = true
+
+-- those that are
+abbrev pub there : List Data → List Data
+there ds = filter is_there ds
+
 -- each is of the type as it stands
 abbrev pub Suits : DataType → Data → Type 0
 Suits t d = IsPlain d × (suits t d ≡ true)
@@ -39,7 +50,7 @@ AllSuit t ds = AllByRecursion (Suits t) ds
 
 -- ---- columns
 
--- lists, at any depth, of leaves
+-- lists and options, at any depth, of leaves
 abbrev pub is_listed : DataType → Bool
 is_listed unknown = true
 is_listed (leaf p) = true
@@ -47,7 +58,7 @@ is_listed (var t) = is_listed t
 is_listed (reg n t) = false
 is_listed (rec ns ts) = false
 is_listed (tup ts) = false
-is_listed (opt t) = false
+is_listed (opt t) = is_listed t
 is_listed (uni ts) = false
 
 -- the number that a value of a leaf has in a lane

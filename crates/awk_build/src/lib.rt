@@ -9,6 +9,7 @@ mod leaves;
 mod lifts;
 mod lists;
 mod numbers;
+mod options;
 mod single;
 mod suited;
 mod values;

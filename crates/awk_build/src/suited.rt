@@ -2,6 +2,7 @@
 ghost use Rattle.std.specs.Prelude.{◌≡◌, map, true, IfOk};
 ghost use Rattle.serde_json.specs.View.{view, items_view};
 ghost use Rattle.awk_types.specs.DataType.{unknown};
+ghost use Rattle.awk_types.specs.Simple.{IsSimple};
 ghost use Rattle.awk_types.specs.View.{typ_of};
 ghost use Rattle.awk_layout.specs.Array.{IsArrayType};
 ghost use Rattle.awk_layout.specs.Typing.{array_type, array_items};
@@ -15,6 +16,7 @@ ghost use Rattle.awk_build.specs.Suited as spec;
 
 use crate::leaves::leaf_column;
 use crate::lists::{joined_items, list_column, push_all};
+use crate::options::{option_column, present_values};
 use awk_lanes::{Arena, Steps};
 use awk_layout::{Array, Node};
 use awk_plain::all_suit;
@@ -23,7 +25,7 @@ use serde_json::Value;
 use std::alloc::Global;
 use std::sync::ledger::Ledger;
 
-/// Whether a type is of lists, at any depth, of leaves.
+/// Whether a type is of lists and options, at any depth, of leaves.
 #[cycle(listed)]
 pub(crate) fn is_listed(typ: &Typ) -> bool
     ensures { result ≡ spec.is_listed (typ_of typ.now) }
@@ -31,6 +33,7 @@ pub(crate) fn is_listed(typ: &Typ) -> bool
     match typ {
         Typ::Unknown | Typ::Leaf(_) => true,
         Typ::Var(item) => is_listed(item),
+        Typ::Opt(item) => is_listed(item),
         _ => false,
     }
 }
@@ -45,6 +48,7 @@ pub(crate) fn column<'a, 'v, L: Ledger>(
     steps: &mut Steps<L>,
 ) -> Result<Node<'a>, NoMemory>
     requires listed { spec.is_listed (typ_of typ.now) ≡ true }
+    requires simple { IsSimple (typ_of typ.now) }
     requires values { AllSuit (typ_of typ.now) (map (λ v. view v.now) values.now) }
     ensures { IfOk result (IsColumnOf (typ_of typ.now) (map (λ v. view v.now) values.now)) }
 {
@@ -55,6 +59,11 @@ pub(crate) fn column<'a, 'v, L: Ledger>(
             let items = joined_items(alloc, values)?;
             let content = column(alloc, item, &items, arena, steps)?;
             list_column(alloc, values, content, arena, steps)
+        }
+        Typ::Opt(item) => {
+            let present = present_values(alloc, values)?;
+            let content = column(alloc, item, &present, arena, steps)?;
+            option_column(alloc, values, content, arena, steps)
         }
         _ => unreachable!(),
     }
