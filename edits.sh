@@ -11,8 +11,8 @@
 # One with a line '# compiler: TEXT' is refused before the prover sees it: by the compiler, with an
 # error of this text.
 #
-# A crate is proved first by `rt check`, over what such checks have left in crates/*/out, and from
-# nothing where there is nothing. RT_JOBS=1 tries one edit at a time.
+# A crate is proved first, with those below it, by `rt ci CRATE` in the copy, which takes over what an
+# earlier gate on this machine has proved of the same files. Right after a gate only the edits are left.
 #
 # The status is 0 where each edit is refused (or can be applied), 1 where one is not, cannot be
 # applied or was not tried, and 2 where a word is no crate with edits.
@@ -109,79 +109,59 @@ all_apply() {
     [ "$bad" -eq 0 ]
 }
 
-# Proves a crate where it stands.
-prove() {
-    local log=$room/log
-    if ! (cd "crates/$1" && rt check) >"$log" 2>&1; then
-        grep -E ': error|^note: |^logic=' "$log" | tail -n 5 || tail -n 5 "$log"
-        tell "$1: NOT TRIED: the crate is not proved, so nothing is known of its edits"
+# Lays edits of a crate into the scratch copy, in the place of those of the gate.
+lay() {
+    local to=$room/crates/$1/must-fail
+    shift
+    rm -rf "$to"
+    mkdir "$to"
+    cp "$@" "$to"
+}
+
+# Whether the compiler refuses an edit of a crate, with the error that the edit names.
+refused_by_compiler() {
+    local edit=$1 crate=${1#edits/} what=${1##*/} error
+    crate=${crate%%/*}
+    error=$(sed -n 's/^# compiler: //p' "$edit")
+    lay "$crate" "$edit"
+    (cd "$room" && rt ci "$crate") >"$room/compiled" 2>&1 || true
+    if grep -A 6 "must-fail $crate/$what: .*did not reach the prover" "$room/compiled" |
+        grep -F -- "$error" >"$room/error"; then
+        tell "$crate/$what: refused, as it must be, by the compiler: $(head -n 1 "$room/error")"
+    else
+        tell "$crate/$what: NOT REFUSED by the compiler: $error"
         return 1
     fi
 }
 
-# Tries these edits of a crate that is proved, in the scratch copy.
-try() {
-    local crate=$1
-    shift
-    rm -rf "$room/crates/$crate/must-fail"
-    mkdir "$room/crates/$crate/must-fail"
-    cp "$@" "$room/crates/$crate/must-fail"
-    (cd "$room" && rt must-fail "$crate")
-}
-
-# Tries those that the compiler must refuse: each with the error that it names, in what is told of it.
-try_compiler() {
-    local crate=$1 edit what error missed=0
-    shift
-    for edit in "$@"; do
-        what=${edit##*/}
-        error=$(sed -n 's/^# compiler: //p' "$edit")
-        if try "$crate" "$edit" | grep -A 6 "must-fail $crate/$what: .*did not reach the prover" |
-            grep -F -- "$error" >"$room/error"; then
-            tell "$crate/$what: refused, as it must be, by the compiler: $(head -n 1 "$room/error")"
-        else
-            tell "$crate/$what: NOT REFUSED by the compiler: $error"
-            missed=1
-        fi
-    done
-    return "$missed"
-}
-
-# Tries all edits of a crate that is proved.
-try_both() {
-    local crate=$1 edit proofs=() compiler=() missed=0
-    for edit in "edits/$crate"/*.edit; do
-        if grep -q '^# compiler: ' "$edit"; then
-            compiler+=("$edit")
-        else
-            proofs+=("$edit")
-        fi
-    done
-    if [ ${#proofs[@]} -gt 0 ]; then
-        try "$crate" "${proofs[@]}" || missed=1
-    fi
-    if [ ${#compiler[@]} -gt 0 ]; then
-        try_compiler "$crate" "${compiler[@]}" || missed=1
-    fi
-    return "$missed"
-}
-
-# Proves and tries each of these crates.
+# Tries the edits of these crates.
 try_all() {
-    local crate edits count=0 refused=0 failed=0
+    local crate edit count=0 refused=0 passed=1 proofs compiler=()
     cp -r --parents crates.txt HANDLES crates/*/{src,specs,proofs} "$room"
     for crate in "$@"; do
-        edits=("edits/$crate"/*.edit)
-        tell "$crate: proved first, and then its ${#edits[@]} edits are tried"
-        count=$((count + ${#edits[@]}))
-        : >"$room/told"
-        if ! prove "$crate" || ! try_both "$crate" | tee "$room/told"; then
-            failed=1
+        proofs=()
+        for edit in "edits/$crate"/*.edit; do
+            count=$((count + 1))
+            if grep -q '^# compiler: ' "$edit"; then
+                compiler+=("$edit")
+            else
+                proofs+=("$edit")
+            fi
+        done
+        if [ ${#proofs[@]} -gt 0 ]; then
+            lay "$crate" "${proofs[@]}"
         fi
-        refused=$((refused + $(grep -c ': refused, as it must be' "$room/told" || true)))
+    done
+    tell "$# crates and $count edits"
+    (cd "$room" && rt ci "$@") | tee "$room/told" || passed=0
+    refused=$(grep -c ': refused, as it must be' "$room/told" || true)
+    for edit in "${compiler[@]}"; do
+        if refused_by_compiler "$edit"; then
+            refused=$((refused + 1))
+        fi
     done
     tell "$count edits, of which $refused are refused"
-    [ "$failed" -eq 0 ] && [ "$count" -eq "$refused" ]
+    [ "$passed" -eq 1 ] && [ "$count" -eq "$refused" ]
 }
 
 if [ "${1-}" = --applies ]; then
