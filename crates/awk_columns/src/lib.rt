@@ -2,9 +2,11 @@
 //!
 //! `in_order` opens an array so that contents hold exactly what is reached, in order; `open_array`
 //! says it with the class of lists, for operations; `join_lists` and `join_spans` put the items of
-//! lists one after another, with offsets.
+//! lists one after another, with offsets. `Bounds` are lists whose starts and stops are read without
+//! asking for their kinds, and `span_of` tells where one of them lies.
 #![tactic(auto)]
 
+mod bounds;
 mod counted;
 mod joining;
 mod lists;
@@ -14,6 +16,7 @@ mod spans;
 mod tagged;
 mod taken;
 
+pub use bounds::{Bounds, Span};
 pub use joining::{OffsetLists, join_lists};
 pub use lists::{Joined, Lists, join_spans};
 pub use opening::{Opened, open_array};

@@ -3,6 +3,7 @@ ghost use Rattle.std.specs.Prelude.{◌≡◌, ◌<◌, ◌≤◌, ◌^◌, IfOk
 ghost use Rattle.awk_lanes.specs.Numbers.{int_of, IsOf};
 ghost use Rattle.awk_lanes.specs.Counted.{before, items_lane, AreOffsetsBy, AreOffsetsOf};
 
+use crate::index_maker::IndexMaker;
 use crate::kind::{Kind, Num};
 use crate::lane::Lane;
 use crate::maker::LaneMaker;
@@ -73,7 +74,7 @@ pub fn offsets_within<'a, S: Lengths, L: Ledger>(
     requires small { limit < 2 ^ 63 }
     ensures { IfOk result (AreOffsetsBy limit (S.length source.now) n) }
 {
-    let mut maker = LaneMaker::new(Kind::I64, n + 1, arena)?;
+    let mut maker = IndexMaker::new(n + 1, arena)?;
     maker.push(number(0));
     let mut total = 0;
     for i in 0..n {

@@ -78,6 +78,7 @@ impl<'a> Lane<'a> {
     }
 
     /// The number at place i.
+    #[inline(always)]
     pub fn at<L: Ledger>(&self, i: u64, steps: &mut Steps<L>) -> Num
         requires { i < size_of self.now }
         ensures number { int_of result ≡ at self.now i }

@@ -2,14 +2,19 @@
 //!
 //! `Lane` and `Bits` are read by `at` and in ranges; `index_at`, `place_in`, `option_place_in`,
 //! `tag_in` and `is_set` read what a number stands for. A lane is made by `LaneMaker`, number by
-//! number, by `made_lane` from a rule of `Numbers`, by `offsets_of`, `offsets_within` and
-//! `items_of` from lengths, or by `lane_of_numbers` and `lane_of_nats` from a slice; `numbers_of`,
-//! `nats_of` and `byte_numbers` give the slice of a lane.
+//! number, by `made_lane` from a rule of `Numbers`, by `ordinals` of the numbers from 0 on, by
+//! `offsets_of`, `offsets_within` and `items_of` from lengths, or by `lane_of_numbers` and
+//! `lane_of_nats` from a slice; `numbers_of`, `nats_of` and `byte_numbers` give the slice of a lane.
+//! `index_of` shows a lane of places as an `Index`, whose numbers are read where they lie without
+//! asking for their kind; `IndexMaker` makes a lane of places.
 #![tactic(auto)]
 
 mod bits;
 mod bytes;
 mod counted;
+mod from_zero;
+mod index;
+mod index_maker;
 mod kind;
 mod lane;
 mod lanes;
@@ -23,6 +28,9 @@ mod words;
 
 pub use bits::Bits;
 pub use counted::{Items, Lengths, Offsets, items_of, offsets_of, offsets_within};
+pub use from_zero::ordinals;
+pub use index::{Index, index_of, wide_index};
+pub use index_maker::IndexMaker;
 pub use kind::{Kind, Num};
 pub use lane::Lane;
 pub use lanes::Lanes;

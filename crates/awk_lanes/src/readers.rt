@@ -10,6 +10,7 @@ use crate::steps::Steps;
 use std::sync::ledger::Ledger;
 
 /// The number at place i of a lane of offsets, starts, stops or indexes.
+#[inline(always)]
 pub fn index_at<L: Ledger>(lane: &Lane, i: u64, steps: &mut Steps<L>) -> i64
     requires kind { IsIndexKind lane.now.kind }
     requires within { i < size_of lane.now }
@@ -24,6 +25,7 @@ pub fn index_at<L: Ledger>(lane: &Lane, i: u64, steps: &mut Steps<L>) -> i64
 }
 
 /// The number at place i of such a lane as a place, where it is not negative.
+#[inline(always)]
 pub fn place_in<L: Ledger>(lane: &Lane, i: u64, steps: &mut Steps<L>) -> u64
     requires kind { IsIndexKind lane.now.kind }
     requires within { i < size_of lane.now }
@@ -39,6 +41,7 @@ pub fn place_in<L: Ledger>(lane: &Lane, i: u64, steps: &mut Steps<L>) -> u64
 }
 
 /// The place at place i of the index of an option, or none where it is negative.
+#[inline(always)]
 pub fn option_place_in<L: Ledger>(lane: &Lane, i: u64, steps: &mut Steps<L>) -> Option<u64>
     requires kind { IsOptionKind lane.now.kind }
     requires within { i < size_of lane.now }
@@ -96,6 +99,7 @@ pub fn number(place: u64) -> Num
 }
 
 /// A number as a place, or none where it is negative.
+#[inline(always)]
 pub fn to_option_place(z: i64) -> Option<u64>
     ensures { result ≡ option_place z }
 {

@@ -19,13 +19,6 @@ push-requires-in-loop-i-clause-room g c =
     c.loop-i.invariant.made.items in
     omega (arith, e, c.loop-i.invariant.made.room, c.loop-i-test.true)
 
-pub finish-requires : goal.finish-requires
-finish-requires g c =
-    let e : length c.loop-i.maker.items ≡ c.loop-i.i + 1 =
-    made_size (λ j. pos (before (g.S.Lengths.length c.args.source.now) j)) (c.loop-i.i + 1) _
-    c.loop-i.invariant.made.items in
-    omega (arith, e, c.loop-i.invariant.made.room, c.loop-i-test.false)
-
 pub loop-i-preserved : goal.loop-i-preserved
 loop-i-preserved g c =
     let t : c.loop-i.total + c.length-length.result

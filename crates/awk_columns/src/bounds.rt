@@ -4,9 +4,8 @@ ghost use Rattle.awk_lanes.specs.Places.{size_of, place_at};
 ghost use Rattle.awk_layout.specs.Valid.{len};
 ghost use Rattle.awk_columns.specs.Lists.{AreLists, span_length};
 
-use awk_columns::Lists;
-use awk_index::{Index, index_of};
-use awk_lanes::{Arena, Lengths, NoMemory, Steps, to_option_place};
+use crate::lists::Lists;
+use awk_lanes::{Arena, Index, Lengths, NoMemory, Steps, index_of, to_option_place};
 use awk_layout::Array;
 use std::alloc::Global;
 use std::marker::Model;

@@ -20,7 +20,7 @@ use Rattle.awk_lanes.proofs.NumberParts.{map-number_all}
 use Rattle.awk_lanes.proofs.PlaceLaws.{element-index}
 use Rattle.awk_lanes.proofs.RangeLaws.{zero_number}
 use Rattle.awk_lanes.proofs.WordLaws.{flat_map-map, number_low, numbers-low}
-use Rattle.awk_index.specs.Groups.{groups_of}
+use Rattle.awk_lanes.specs.Groups.{groups_of}
 
 -- the numbers of a lane of 64 bits by its groups
 pub numbers-groups : (c : Column) (b : List ℕ) → c.kind ≡ I64
@@ -73,8 +73,7 @@ wide-numbers c p h i =
 -- ---- a lane that is made
 
 abbrev AreGroups : List (List ℕ) → Type 0
-AreGroups gs =
-    (gs ≡ groups_of (map (number I64) gs)) × AreNumbers (column I64 (map (number I64) gs))
+AreGroups gs = (gs ≡ groups_of (map (number I64) gs)) × AreNumbers (column I64 (map (number I64) gs))
 
 are-more : (zs : List ℤ) (z : ℤ) → AreNumbers (column I64 zs) → IsNumber I64 z
     → AreNumbers (column I64 (zs ++ z ∷ []))

@@ -1,8 +1,8 @@
 use Rattle.std.proofs.Common.{map, ap, ◌∙◌}
 use Rattle.awk_lanes.specs.Numbers.{number}
 use Rattle.awk_lanes.specs.declared.kind.Kind.TheVariants.{I64}
-use Rattle.awk_index.proofs.IndexLaws.{numbers-groups}
-use Rattle.awk_index.proofs.reading.whole.Goals as goal
+use Rattle.awk_lanes.proofs.IndexLaws.{numbers-groups}
+use Rattle.awk_lanes.proofs.index.whole.Goals as goal
 
 pub returns : goal.returns
 returns g c =

@@ -4,7 +4,9 @@ ghost use Rattle.awk_lanes.specs.Making.{with_item};
 ghost use Rattle.awk_lanes.specs.Numbers.{int_of, IsOf};
 ghost use Rattle.awk_lanes.specs.declared.kind.Kind.TheVariants as Kinds;
 
-use awk_lanes::{Arena, Kind, Lane, NoMemory, Num};
+use crate::kind::{Kind, Num};
+use crate::lane::Lane;
+use crate::memory::{Arena, NoMemory};
 use bumpalo::collections::into_bump_slice;
 use std::marker::Model;
 
@@ -24,7 +26,7 @@ impl<'a> Model for IndexMaker<'a> {
     ghost use Rattle.awk_lanes.specs.Ranges.{AreNumbers};
     ghost use Rattle.awk_lanes.specs.Words.{column};
     ghost use Rattle.awk_lanes.specs.declared.kind.Kind.TheVariants.{I64};
-    ghost use Rattle.awk_index.specs.Groups.{groups_of};
+    ghost use Rattle.awk_lanes.specs.Groups.{groups_of};
 
     ghost view = { λ m. record {
       kind = I64;

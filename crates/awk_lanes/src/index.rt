@@ -4,7 +4,13 @@ ghost use Rattle.awk_lanes.specs.Numbers.{number};
 ghost use Rattle.awk_lanes.specs.Places.{size_of, at, option_place_at, IsIndexKind};
 ghost use Rattle.awk_lanes.specs.declared.kind.Kind.TheVariants as Kinds;
 
-use awk_lanes::{Arena, Kind, Lane, NoMemory, Steps, lane_of_numbers, numbers_of, to_option_place};
+use crate::kind::Kind;
+use crate::lane::Lane;
+use crate::memory::{Arena, NoMemory};
+use crate::numbers::numbers_of;
+use crate::readers::to_option_place;
+use crate::steps::Steps;
+use crate::words::lane_of_numbers;
 use std::alloc::Global;
 use std::marker::Model;
 use std::sync::ledger::Ledger;

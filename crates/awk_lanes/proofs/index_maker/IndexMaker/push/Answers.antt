@@ -8,8 +8,8 @@ use Rattle.awk_lanes.specs.Ranges.{IsNumber}
 use Rattle.awk_lanes.specs.Words.{low_bytes}
 use Rattle.awk_lanes.specs.declared.kind.Kind.TheVariants.{I64}
 use Rattle.awk_lanes.proofs.RowLaws.{in_range}
-use Rattle.awk_index.proofs.IndexLaws.{groups-more}
-use Rattle.awk_index.proofs.maker.IndexMaker.push.Goals as goal
+use Rattle.awk_lanes.proofs.IndexLaws.{groups-more}
+use Rattle.awk_lanes.proofs.index_maker.IndexMaker.push.Goals as goal
 
 pub invariant_of-self : goal.invariant_of-self
 invariant_of-self c =

@@ -1,8 +1,8 @@
 use Rattle.std.proofs.Common.{ap, sym, ◌∙◌, ◌*◌, length, List, ℕ}
 use Rattle.std.specs.List.{flat_map}
 use Rattle.std.specs.Prelude.{vec_capacity}
-use Rattle.awk_index.proofs.IndexLaws.{joined}
-use Rattle.awk_index.proofs.maker.IndexMaker.finish.Goals as goal
+use Rattle.awk_lanes.proofs.IndexLaws.{joined}
+use Rattle.awk_lanes.proofs.index_maker.IndexMaker.finish.Goals as goal
 
 pub returns : goal.returns
 returns c =

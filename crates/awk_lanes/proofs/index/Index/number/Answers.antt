@@ -1,7 +1,7 @@
 use Rattle.std.proofs.Common.{rules, FitsSigned, w64, ◌∙◌}
 use Rattle.std.proofs.lemmas.Int.{to_z-of_z}
-use Rattle.awk_index.proofs.IndexLaws.{within-groups, number-at}
-use Rattle.awk_index.proofs.reading.Index.number.Goals as goal
+use Rattle.awk_lanes.proofs.IndexLaws.{within-groups, number-at}
+use Rattle.awk_lanes.proofs.index.Index.number.Goals as goal
 
 pub eight_at-requires : goal.eight_at-requires
 eight_at-requires c =
