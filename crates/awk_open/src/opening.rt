@@ -2,8 +2,7 @@
 ghost use Rattle.std.specs.Prelude.{◌≡◌, ◌+◌, ◌*◌, ◌-◌, ◌<◌, ◌≤◌, ◌^◌, None, IfOk, option_map, pos};
 ghost use Rattle.std.specs.Prelude.{false};
 ghost use Rattle.awk_types.specs.Limit.{limit};
-ghost use Rattle.awk_types.specs.Simple.{is_option, is_union, present};
-ghost use Rattle.awk_types.specs.View.{typ_of};
+ghost use Rattle.awk_types.specs.Simple.{is_union, present};
 ghost use Rattle.awk_lanes.specs.Places.{size_of, IsIndex};
 ghost use Rattle.awk_lanes.specs.declared.kind.Kind.TheVariants as Kind;
 ghost use Rattle.awk_layout.specs.Layout.{layouts_from, flat, lists, offset_lists};
@@ -16,9 +15,9 @@ ghost use Rattle.awk_open.specs.Opened.{IsOpened, IsOpenedAt, ArePicked, AreAllP
 ghost use Rattle.awk_open.specs.Plain.{IsPlain};
 
 use awk_gather::{Peeled, array_within, gather_lane, gather_node, next_lane, peel};
-use awk_lanes::{Arena, Kind, Lane, LaneMaker, Steps, number, place_in};
+use awk_lanes::{Arena, IndexMaker, Lane, Steps, number, ordinals, place_in};
 use awk_layout::{Array, Arrays, Class, Node, Nodes};
-use awk_types::{Names, NoMemory, Typ, copy_names};
+use awk_types::{Names, NoMemory, copy_names, is_optional};
 use std::alloc::Global;
 use std::sync::ledger::Ledger;
 
@@ -53,19 +52,6 @@ pub enum Opened<'a> {
     },
 }
 
-/// The first n places.
-#[tactic(auto, using(awk_lanes::proofs::MadeLanes::making))]
-pub fn firsts<'a>(n: u64, arena: &'a Arena) -> Result<Lane<'a>, NoMemory>
-    requires { n < 2 ^ 63 }
-    ensures lane { IfOk result (λ r. r ≡ lane_of Kind.I64 n pos) }
-{
-    let mut maker = LaneMaker::new(Kind::I64, n, arena)?;
-    for i in 0..n {
-        maker.push(number(i));
-    }
-    Ok(maker.finish())
-}
-
 /// So many places past the multiples of places.
 #[tactic(auto, using(awk_lanes::proofs::MadeLanes::making))]
 fn multiple_lane<'a, L: Ledger>(
@@ -81,7 +67,7 @@ fn multiple_lane<'a, L: Ledger>(
     ensures lane { IfOk result (λ r. r ≡ multiples size distance places.now) }
 {
     let n = places.len();
-    let mut maker = LaneMaker::new(Kind::I64, n, arena)?;
+    let mut maker = IndexMaker::new(n, arena)?;
     for i in 0..n {
         let first = multiple(place_in(places, i, steps), size, distance);
         maker.push(number(first));
@@ -284,16 +270,6 @@ fn open_plain<'a, L: Ledger>(
     }
 }
 
-/// Whether a type is an option.
-pub fn is_optional(t: &Typ) -> bool
-    ensures { result ≡ is_option (typ_of t.now) }
-{
-    match t {
-        Typ::Opt(_) => true,
-        _ => false,
-    }
-}
-
 /// The outermost kind of an array whose type is no union and no option of one.
 pub fn open_peeled<'a, L: Ledger>(
     alloc: Global,
@@ -304,7 +280,7 @@ pub fn open_peeled<'a, L: Ledger>(
     requires { is_union (present (array_type x.now)) ≡ false }
     ensures opened { IfOk result (IsOpened x.now) }
 {
-    let first = firsts(x.len(), arena)?;
+    let first = ordinals(x.len(), arena, steps)?;
     let Peeled { index, content } = peel(alloc, x.node(), first, arena, steps)?;
     if is_optional(x.typ()) {
         let _ = content.len();

@@ -6,12 +6,12 @@ ghost use Rattle.awk_layout.specs.Typing.{array_type};
 ghost use Rattle.awk_open.specs.Inner.{IsInner, AreSized};
 ghost use Rattle.awk_open.specs.Opened.{IsOpened};
 
-use crate::opening::{Opened, is_optional, open_peeled};
+use crate::opening::{Opened, open_peeled};
 use crate::unions::{open_union, open_union_option};
 use crate::whole::opened_whole;
 use awk_lanes::{Arena, Steps};
 use awk_layout::Array;
-use awk_types::{NoMemory, Typ};
+use awk_types::{NoMemory, Typ, is_optional};
 use std::alloc::Global;
 use std::sync::ledger::Ledger;
 

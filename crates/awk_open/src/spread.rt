@@ -14,7 +14,7 @@ ghost use Rattle.awk_open.specs.Spread.{or_else as or_else_of};
 
 use awk_gather::{Peeled, peel};
 use awk_lanes::{
-    Arena, Kind, Lane, LaneMaker, NoMemory, Num, Steps, index_at, option_place_in, tag_in, to_place,
+    Arena, IndexMaker, Lane, NoMemory, Num, Steps, index_at, option_place_in, tag_in, to_place,
 };
 use awk_layout::{Class, Node, Nodes};
 use std::alloc::{AllocError, Global};
@@ -34,7 +34,7 @@ fn repeated<'a>(n: u64, x: Num, arena: &'a Arena) -> Result<Lane<'a>, NoMemory>
     requires { IsOf Kind.I64 x }
     ensures lane { IfOk result (λ r. r ≡ lane_of Kind.I64 n (λ i. int_of x)) }
 {
-    let mut maker = LaneMaker::new(Kind::I64, n, arena)?;
+    let mut maker = IndexMaker::new(n, arena)?;
     for i in 0..n {
         maker.push(x);
     }
@@ -119,7 +119,7 @@ fn of_alternative<'a, L: Ledger>(
     ensures lane { IfOk result (λ r. r ≡ followed (alternative tags.now index.now a) places.now) }
 {
     let n = places.len();
-    let mut maker = LaneMaker::new(Kind::I64, n, arena)?;
+    let mut maker = IndexMaker::new(n, arena)?;
     for i in 0..n {
         let next = next_of(tags, index, contents, a, places, i, steps);
         maker.push(next);
@@ -203,7 +203,7 @@ fn join_index<'a, L: Ledger>(
         IfOk result (λ r. r ≡ lane_of Kind.I64 (size_of new.now) joined) }
 {
     let n = new.len();
-    let mut maker = LaneMaker::new(Kind::I64, n, arena)?;
+    let mut maker = IndexMaker::new(n, arena)?;
     for i in 0..n {
         let joined = joined_place(old, new, i, steps);
         maker.push(joined);
@@ -233,7 +233,7 @@ fn join_tags<'a, L: Ledger>(
         IfOk result (λ r. r ≡ lane_of Kind.I64 (size_of new.now) joined) }
 {
     let n = new.len();
-    let mut maker = LaneMaker::new(Kind::I64, n, arena)?;
+    let mut maker = IndexMaker::new(n, arena)?;
     for i in 0..n {
         let joined = joined_tag(old, tags, new, base, i, steps);
         maker.push(joined);

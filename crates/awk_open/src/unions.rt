@@ -16,10 +16,12 @@ ghost use Rattle.awk_open.specs.Settled.{settled_tag, settled_place, settled_ind
 ghost use Rattle.awk_open.specs.Settled.{AreTags, CanUnite, IsSettled};
 ghost use Rattle.awk_open.specs.Spread.{or_else as or_else_of};
 
-use crate::opening::{Opened, firsts};
+use crate::opening::Opened;
 use crate::spread::{Spread, alternatives};
 use awk_gather::array_within;
-use awk_lanes::{Arena, Kind, Lane, LaneMaker, NoMemory, Num, Steps, index_at, place_in};
+use awk_lanes::{
+    Arena, IndexMaker, Kind, Lane, LaneMaker, NoMemory, Num, Steps, index_at, ordinals, place_in,
+};
 use awk_layout::{Array, Arrays, Node, Nodes};
 use std::alloc::Global;
 use std::sync::ledger::Ledger;
@@ -122,7 +124,7 @@ fn settle_places<'a, L: Ledger>(
         IfOk result (λ r. r ≡ lane_of Kind.I64 (size_of index.now) settled) }
 {
     let n = index.len();
-    let mut maker = LaneMaker::new(Kind::I64, n, arena)?;
+    let mut maker = IndexMaker::new(n, arena)?;
     for i in 0..n {
         let next = next_place(index, other, i, steps);
         maker.push(next);
@@ -154,7 +156,7 @@ fn own_places<'a, L: Ledger>(
         IfOk result (λ r. r ≡ lane_of Kind.I64 (size_of index.now) settled) }
 {
     let n = index.len();
-    let mut maker = LaneMaker::new(Kind::I64, n, arena)?;
+    let mut maker = IndexMaker::new(n, arena)?;
     for i in 0..n {
         let next = own_place(index, i, steps);
         maker.push(next);
@@ -279,7 +281,7 @@ pub fn open_union<'a, L: Ledger>(
     ensures opened { IfOk result (IsOpened x.now) }
 {
     let _ = x.typ();
-    let first = firsts(x.len(), arena)?;
+    let first = ordinals(x.len(), arena, steps)?;
     let Spread {
         tags: spread_tags,
         index,
@@ -306,7 +308,7 @@ pub fn open_union_option<'a, L: Ledger>(
     ensures opened { IfOk result (IsOpened x.now) }
 {
     let _ = x.typ();
-    let first = firsts(x.len(), arena)?;
+    let first = ordinals(x.len(), arena, steps)?;
     let Spread {
         tags,
         index: places,
