@@ -13,6 +13,7 @@ use Rattle.awk_types.specs.View.{NamedType, field_of, field_step, fields_step, n
 use Rattle.awk_types.specs.declared.typ.Field.{Field}
 use Rattle.awk_types.specs.declared.typ.Typ.TheViews.{out-Field}
 use Rattle.awk_types.specs.declared.typ.Typ.TheFolds.{fold_out-Field}
+use Rattle.awk_name_places.specs.Places as known
 use Rattle.awk_unify.specs.FieldNames.{alike, field_type, is_in, place_in}
 use Rattle.awk_unify.specs.Join.{field_types}
 use Rattle.awk_unify.proofs.Tests.{eq_false, eq_true}
@@ -54,6 +55,21 @@ pub place-last : (fs : List NamedType) (m : Name) (i all : ℕ) → length fs �
 place-last fs m i all l k =
     let none : place_in (names_of (drop i fs)) m ≡ 0 = ap (λ xs. place_in (names_of xs) m) (drop_all i fs l) in
     omega (arith, none, k)
+
+-- ---- the same place, by a map
+
+pub place_in-known : (ns : List Name) (m : Name) → known.place_in ns m ≡ place_in ns m
+place_in-known [] m = refl
+place_in-known (n ∷ ns) m = ap (λ k. if same_name n m then 0 else suc k) (place_in-known ns m)
+
+pub place_in-≤ : (fs : List NamedType) (m : Name) → place_in (names_of fs) m ≤ length fs
+place_in-≤ [] m = omega arith
+place_in-≤ (f ∷ fs) m = step (same_name f.name m) (place_in-≤ fs m)
+  where
+    step : (b : Bool) → place_in (names_of fs) m ≤ length fs
+        → (if b then 0 else suc (place_in (names_of fs) m)) ≤ suc (length fs)
+    step true h = omega arith
+    step false h = omega (arith, h)
 
 -- ---- whether a name is there
 

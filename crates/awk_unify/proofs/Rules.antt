@@ -6,7 +6,9 @@ use Rattle.awk_types.specs.Simple.{is_option, present}
 use Rattle.awk_types.specs.SameType.{same_type}
 use Rattle.awk_unify.specs.Early.{as_it_is, early}
 use Rattle.awk_unify.specs.Unification.{Unification}
-use Rattle.awk_unify.specs.Unify.{is_unknown, equal_or_unknown, joined_or, joins_or_unions, bare, optional, options_or, unification}
+use Rattle.awk_unify.specs.Unify.{equal_or_unknown, joined_or, joins_or_unions, bare, optional}
+use Rattle.awk_unify.specs.Unify.{options_or, unification}
+use Rattle.awk_types.specs.Predicates.{is_unknown}
 use Rattle.awk_unify.proofs.DepthLaws.{unify_rules}
 
 by_tests : (x y z : Bool) (a b r : Unification) → (if x then a else if y then b else if z then a else r) ≡ joined_or (if x then Some a else if y then Some b else if z then Some a else None) r

@@ -7,7 +7,10 @@ use Rattle.awk_unify.specs.FieldNames.{alike, field_type, picked, with_type}
 use Rattle.awk_unify.specs.Join.{Unifying, join_by, leaf_join, leaf_type, list_join, rec_join, tup_join, unify_parts}
 use Rattle.awk_unify.specs.Merge.{chosen, insert, start, further, insert_all, merged}
 use Rattle.awk_unify.specs.Unification.{Placed, PlacedAll, Unification}
-use Rattle.awk_unify.specs.Unify.{apart, bare, equal_or_unknown, in_unions, is_unknown, joined_or, joins_or_unions, optional, options_or, unification, unification_at}
+use Rattle.awk_unify.specs.Unify.{apart, bare, equal_or_unknown, in_unions, joined_or}
+use Rattle.awk_unify.specs.Unify.{joins_or_unions, optional, options_or, unification}
+use Rattle.awk_unify.specs.Unify.{unification_at}
+use Rattle.awk_types.specs.Predicates.{is_unknown}
 use Rattle.awk_types.proofs.SimpleLaws.{alternatives_plain, present_no_option, present_simple}
 use Rattle.awk_types.proofs.Trees.{types_from-list}
 use Rattle.awk_types.specs.DataType.{DataType, DataTypes, Name, depth, leaf, opt, rec, reg, tup, type_list, types_from, uni, unknown, var}

@@ -10,7 +10,10 @@ use Rattle.awk_unify.specs.FieldNames.{alike}
 use Rattle.awk_unify.specs.Join.{Unifying, join_by}
 use Rattle.awk_unify.specs.Merge.{start, insert_all, merged}
 use Rattle.awk_unify.specs.Unification.{Unification}
-use Rattle.awk_unify.specs.Unify.{apart, bare, equal_or_unknown, in_unions, is_unknown, joined_or, joins_or_unions, optional, options_or, unification, unification_at}
+use Rattle.awk_unify.specs.Unify.{apart, bare, equal_or_unknown, in_unions, joined_or}
+use Rattle.awk_unify.specs.Unify.{joins_or_unions, optional, options_or, unification}
+use Rattle.awk_unify.specs.Unify.{unification_at}
+use Rattle.awk_types.specs.Predicates.{is_unknown}
 use Rattle.awk_types.proofs.SameTypeLaws.{same_type_is}
 use Rattle.awk_types.proofs.SimpleLaws.{alternatives_plain, present_no_option, present_simple}
 use Rattle.awk_types.proofs.TypeLaws.{alternatives_are_types, present_is_type}

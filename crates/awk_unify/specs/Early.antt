@@ -4,7 +4,7 @@ use Rattle.awk_types.specs.DataType.{DataType}
 use Rattle.awk_types.specs.SameType.{same_type}
 use Rattle.awk_unify.specs.Carry.{keep}
 use Rattle.awk_unify.specs.Unification.{Unification}
-use Rattle.awk_unify.specs.Unify.{is_unknown}
+use Rattle.awk_types.specs.Predicates.{is_unknown}
 
 -- the type, where the values of both sides stay
 abbrev pub as_it_is : DataType → Unification

@@ -7,10 +7,7 @@ use Rattle.awk_unify.specs.Unification.{Unification}
 use Rattle.awk_types.specs.DataType.{DataType, depth, no_types, opt, type, uni, unknown}
 use Rattle.awk_types.specs.SameType.{same_type}
 use Rattle.awk_types.specs.Simple.{alternatives, is_option, is_union, present}
-
-abbrev pub is_unknown : DataType → Bool
-is_unknown unknown = true
-is_unknown t = false
+use Rattle.awk_types.specs.Predicates.{is_unknown}
 
 -- equal types, and unknown with another type
 abbrev pub equal_or_unknown : DataType → DataType → Unification → Unification

@@ -12,6 +12,7 @@ use crate::lift::{Lift, Lifts, copy_lift};
 use crate::parts::Parts;
 use crate::places::Places;
 use crate::unified::Unified;
+use awk_name_places::NamePlaces;
 use awk_types::{Fields, Name, Names, NoMemory, Typ};
 use std::alloc::Global;
 
@@ -29,20 +30,62 @@ pub(crate) fn place(xs: &Fields, name: &Name) -> usize
     xs.len()
 }
 
-/// Whether the names of two records are the same in any order.
+/// Up to so many names are looked up one by one, and more by a map.
+const FEW: usize = 16;
+
+/// The names by a map, where there are many of them and none comes twice.
+pub(crate) fn known_places<'t>(
+    alloc: Global,
+    xs: &'t Fields,
+) -> Result<Option<NamePlaces<'t>>, NoMemory>
+    ensures { IfOk result (λ known.
+        IfSome known (λ places. places ≡ names_of (fields_of xs.now))) }
+{
+    if xs.len() <= FEW {
+        return Ok(None);
+    }
+    NamePlaces::of_fields(alloc, xs)
+}
+
+/// The place of the first field with the name, by the map if there is one; where there is none, the
+/// number of fields.
+pub(crate) fn place_by(xs: &Fields, known: &Option<NamePlaces<'_>>, name: &Name) -> usize
+    requires { IfSome known.now (λ places. places ≡ names_of (fields_of xs.now)) }
+    ensures at { result ≡ place_in (names_of (fields_of xs.now)) name.now }
+    ensures within { result ≤ length (fields_of xs.now) }
+{
+    match known {
+        Some(places) => places.place(name.as_str()),
+        None => place(xs, name),
+    }
+}
+
+/// Whether each name of the second record is one of the first, which has as many.
 #[tactic(auto, using(crate::proofs::NamePlaces::alike_laws))]
-pub(crate) fn are_alike(xs: &Fields, ys: &Fields) -> bool
+fn are_found(xs: &Fields, known: &Option<NamePlaces<'_>>, ys: &Fields) -> bool
+    requires known { IfSome known.now (λ places. places ≡ names_of (fields_of xs.now)) }
+    requires same { length (fields_of xs.now) ≡ length (fields_of ys.now) }
     ensures { result ≡ alike (names_of (fields_of xs.now)) (names_of (fields_of ys.now)) }
 {
-    if xs.len() != ys.len() {
-        return false;
-    }
     for i in 0..ys.len() {
-        if place(xs, &ys.get(i).name) == xs.len() {
+        if place_by(xs, known, &ys.get(i).name) == xs.len() {
             return false;
         }
     }
     true
+}
+
+/// Whether the names of two records are the same in any order.
+#[tactic(auto, using(crate::proofs::NamePlaces::alike_laws))]
+pub(crate) fn are_alike(alloc: Global, xs: &Fields, ys: &Fields) -> Result<bool, NoMemory>
+    ensures { IfOk result (λ are.
+        are ≡ alike (names_of (fields_of xs.now)) (names_of (fields_of ys.now))) }
+{
+    if xs.len() != ys.len() {
+        return Ok(false);
+    }
+    let known = known_places(alloc, xs)?;
+    Ok(are_found(xs, &known, ys))
 }
 
 /// The lift at a place; beyond the last one, the one that keeps the value.
@@ -58,7 +101,14 @@ fn lift_at(alloc: Global, fs: &Lifts, k: usize) -> Result<Lift, NoMemory>
 }
 
 /// The parts of the second record, to the places that their names have in the first.
-fn to_names(alloc: Global, xs: &Fields, ys: &Fields, rights: &Lifts) -> Result<Lift, NoMemory>
+fn to_names(
+    alloc: Global,
+    xs: &Fields,
+    known: &Option<NamePlaces<'_>>,
+    ys: &Fields,
+    rights: &Lifts,
+) -> Result<Lift, NoMemory>
+    requires { IfSome known.now (λ places. places ≡ names_of (fields_of xs.now)) }
     ensures { let ns = names_of (fields_of xs.now) in
         let ms = names_of (fields_of ys.now) in
         IfOk result (λ f. lift_of f ≡ said.to_names ns ms (lifts_of rights.now)) }
@@ -66,7 +116,7 @@ fn to_names(alloc: Global, xs: &Fields, ys: &Fields, rights: &Lifts) -> Result<L
     let mut places = Places::new(alloc);
     let mut parts = Lifts::new(alloc);
     for i in 0..ys.len() {
-        let k = place(xs, &ys.get(i).name);
+        let k = place_by(xs, known, &ys.get(i).name);
         places.push(k as u64)?;
         parts.push(lift_at(alloc, rights, k)?)?;
     }
@@ -104,7 +154,8 @@ pub(crate) fn records(
         None => return Ok(None),
     };
     let left = in_own_places(alloc, lefts)?;
-    let right = to_names(alloc, xs, ys, &rights)?;
+    let known = known_places(alloc, xs)?;
+    let right = to_names(alloc, xs, &known, ys, &rights)?;
     let names = field_names(alloc, xs)?;
     Ok(Some(Unified {
         typ: Typ::Rec(Fields::named(alloc, &names, typs)?),

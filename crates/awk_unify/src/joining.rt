@@ -11,9 +11,9 @@ ghost use Rattle.awk_unify.specs.View.{found_of, lift_of, lifts_of, parts_of, un
 use crate::lift::{Lift, Lifts};
 use crate::parts::Parts;
 use crate::places::Places;
-use crate::predicates::{is_same, is_unknown};
+use crate::predicates::is_same;
 use crate::unified::Unified;
-use awk_types::{NoMemory, Prim, Typ, copy_type, promote};
+use awk_types::{NoMemory, Prim, Typ, copy_type, is_unknown, promote};
 use std::alloc::Global;
 
 /// A type into which the values of both sides go as they are.

@@ -1,10 +1,9 @@
 //! Tests of types.
 ghost use Rattle.std.specs.Prelude.{◌≡◌, ◌≤◌};
 ghost use Rattle.awk_types.specs.SameType.{same_type};
-ghost use Rattle.awk_types.specs.Simple.{is_option, is_union as is_uni, present as present_of};
+ghost use Rattle.awk_types.specs.Simple.{is_union as is_uni, present as present_of};
 ghost use Rattle.awk_types.specs.View.{typ_of};
 ghost use Rattle.awk_types.specs.declared.typ.Typ.{size-Typ};
-ghost use Rattle.awk_unify.specs.Unify as rule;
 
 use awk_types::{Typ, same};
 
@@ -12,18 +11,6 @@ pub(crate) fn is_same(a: &Typ, b: &Typ) -> bool
     ensures { result ≡ same_type (typ_of a.now) (typ_of b.now) }
 {
     same(a, b)
-}
-
-pub(crate) fn is_unknown(t: &Typ) -> bool
-    ensures { result ≡ rule.is_unknown (typ_of t.now) }
-{
-    matches!(t, Typ::Unknown)
-}
-
-pub(crate) fn is_optional(t: &Typ) -> bool
-    ensures { result ≡ is_option (typ_of t.now) }
-{
-    matches!(t, Typ::Opt(_))
 }
 
 pub(crate) fn is_union(t: &Typ) -> bool

@@ -1,9 +1,9 @@
 //! The type that two types unify to, and how the values of both are carried into it.
-ghost use Rattle.std.specs.Prelude.{◌≡◌, ◌<◌, IfOk};
+ghost use Rattle.std.specs.Prelude.{◌≡◌, ◌<◌, IfOk, IfSome};
 ghost use Rattle.awk_types.specs.Gives.{Gives};
 ghost use Rattle.awk_types.specs.Limit.{limit, limit_told};
 ghost use Rattle.awk_types.specs.Simple.{IsSimple, alternatives};
-ghost use Rattle.awk_types.specs.View.{fields_of, typ_of, typs_of};
+ghost use Rattle.awk_types.specs.View.{names_of, fields_of, typ_of, typs_of};
 ghost use Rattle.awk_unify.specs.Join.{join_by, join_records, unify_fields, unify_parts};
 ghost use Rattle.awk_unify.specs.Merge as merge;
 ghost use Rattle.awk_unify.specs.Merge.{insert, insert_all};
@@ -13,13 +13,14 @@ ghost use Rattle.awk_unify.specs.Unify.{unification};
 ghost use Rattle.awk_unify.specs.View.{found_of, parts_found, parts_of, placed_of, placed_all_of, unified_of};
 
 use crate::alternatives::{alternatives_of, apart, appended, of_placed, widened};
-use crate::fields::{are_alike, place, records};
+use crate::fields::{are_alike, known_places, place_by, records};
 use crate::joining::{as_it_is, early, joined_leaves, lists, optional, regular_lists, tuples};
 use crate::parts::Parts;
 use crate::placed::{Placed, PlacedAll};
-use crate::predicates::{is_optional, is_union, present};
+use crate::predicates::{is_union, present};
 use crate::unified::Unified;
-use awk_types::{Fields, NoMemory, Typ, TypeFault, Typs, simple_of};
+use awk_name_places::NamePlaces;
+use awk_types::{Fields, NoMemory, Typ, TypeFault, Typs, is_optional, simple_of};
 use std::alloc::Global;
 
 /// What two types unify to, whatever its size: for a type that becomes a part of another one, whose
@@ -117,14 +118,20 @@ fn unified_parts(alloc: Global, xs: &Typs, ys: &Typs) -> Result<Parts, NoMemory>
 
 /// The fields of two records by name, if the second has each name of the first.
 #[cycle(unify)]
-fn unified_fields(alloc: Global, xs: &Fields, ys: &Fields) -> Result<Option<Parts>, NoMemory>
+fn unified_fields(
+    alloc: Global,
+    xs: &Fields,
+    ys: &Fields,
+    known: &Option<NamePlaces<'_>>,
+) -> Result<Option<Parts>, NoMemory>
+    requires { IfSome known.now (λ places. places ≡ names_of (fields_of ys.now)) }
     ensures { let made = unify_fields unification (fields_of xs.now) (fields_of ys.now) in
         IfOk result (λ o. parts_found o ≡ made) }
 {
     let mut made = Parts::new(alloc);
     for i in 0..xs.len() {
         let field = xs.get(i);
-        let k = place(ys, &field.name);
+        let k = place_by(ys, known, &field.name);
         if k == ys.len() {
             return Ok(None);
         }
@@ -139,11 +146,11 @@ fn joined_records(alloc: Global, xs: &Fields, ys: &Fields) -> Result<Option<Unif
     ensures { let join = join_records unification (fields_of xs.now) (fields_of ys.now) in
         IfOk result (λ o. found_of o ≡ join) }
 {
-    if are_alike(xs, ys) {
-        records(alloc, xs, ys, unified_fields(alloc, xs, ys)?)
-    } else {
-        Ok(None)
+    if !are_alike(alloc, xs, ys)? {
+        return Ok(None);
     }
+    let known = known_places(alloc, ys)?;
+    records(alloc, xs, ys, unified_fields(alloc, xs, ys, &known)?)
 }
 
 /// A type put into the first alternative that joins with it, else as a new last one.

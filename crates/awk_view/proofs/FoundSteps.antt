@@ -14,13 +14,7 @@ use Rattle.awk_view.specs.Layouts.{AreAmong, IsFound, AreFound}
 use Rattle.awk_types.proofs.ListLaws.{drop-get}
 use Rattle.awk_view.proofs.ChoiceLayouts.{count-layout_types, layout_list-from}
 
--- ---- loops over alternatives, and over names
-
-pub field_step : (n : Name) (xs : List Layout) (i : ℕ) (y : Layout) → slice_get xs i ≡ Some y → all_have_field n (layout_types (layouts_from (drop i xs))) ≡ (has_field n (layout_type y) && all_have_field n (layout_types (layouts_from (drop (i + 1) xs))))
-field_step n xs i y e = ap (λ ys. all_have_field n (layout_types (layouts_from ys))) (drop-get xs i y e)
-
-pub field_end : (n : Name) (xs : List Layout) (i : ℕ) → length xs ≤ i → all_have_field n (layout_types (layouts_from (drop i xs))) ≡ true
-field_end n xs i l = ap (λ ys. all_have_field n (layout_types (layouts_from ys))) (drop_all i xs l)
+-- ---- loops over alternatives
 
 pub records_step : (xs : List Layout) (i : ℕ) (y : Layout) → slice_get xs i ≡ Some y → all_have_records (layout_types (layouts_from (drop i xs))) ≡ (has_records (layout_type y) && all_have_records (layout_types (layouts_from (drop (i + 1) xs))))
 records_step xs i y e = ap (λ ys. all_have_records (layout_types (layouts_from ys))) (drop-get xs i y e)
@@ -28,32 +22,17 @@ records_step xs i y e = ap (λ ys. all_have_records (layout_types (layouts_from 
 pub records_end : (xs : List Layout) (i : ℕ) → length xs ≤ i → all_have_records (layout_types (layouts_from (drop i xs))) ≡ true
 records_end xs i l = ap (λ ys. all_have_records (layout_types (layouts_from ys))) (drop_all i xs l)
 
-pub absent_step : (t : DataType) (ns : List Name) (i : ℕ) (n : Name) → slice_get ns i ≡ Some n → first_absent (drop i ns) t ≡ (if has_field n t then first_absent (drop (i + 1) ns) t else Some n)
-absent_step t ns i n e = ap (λ ms. first_absent ms t) (drop-get ns i n e)
-
-pub field_no : (n : Name) (xs : List Layout) (i : ℕ) (y : Layout) → slice_get xs i ≡ Some y → has_field n (layout_type y) ≡ false → all_have_field n (layout_types (layouts_from xs)) ≡ all_have_field n (layout_types (layouts_from (drop i xs))) → false ≡ all_have_field n (layout_types (layouts_from xs))
-field_no n xs i y e f h = sym (h ∙ field_step n xs i y e ∙ ap (λ b. b && all_have_field n (layout_types (layouts_from (drop (i + 1) xs)))) f)
-
-pub field_yes : (n : Name) (xs : List Layout) (i : ℕ) (y : Layout) → slice_get xs i ≡ Some y → has_field n (layout_type y) ≡ true → all_have_field n (layout_types (layouts_from xs)) ≡ all_have_field n (layout_types (layouts_from (drop i xs))) → all_have_field n (layout_types (layouts_from xs)) ≡ all_have_field n (layout_types (layouts_from (drop (i + 1) xs)))
-field_yes n xs i y e f h = h ∙ field_step n xs i y e ∙ ap (λ b. b && all_have_field n (layout_types (layouts_from (drop (i + 1) xs)))) f
-
 pub records_no : (xs : List Layout) (i : ℕ) (y : Layout) → slice_get xs i ≡ Some y → has_records (layout_type y) ≡ false → all_have_records (layout_types (layouts_from xs)) ≡ all_have_records (layout_types (layouts_from (drop i xs))) → false ≡ all_have_records (layout_types (layouts_from xs))
 records_no xs i y e f h = sym (h ∙ records_step xs i y e ∙ ap (λ b. b && all_have_records (layout_types (layouts_from (drop (i + 1) xs)))) f)
 
 pub records_yes : (xs : List Layout) (i : ℕ) (y : Layout) → slice_get xs i ≡ Some y → has_records (layout_type y) ≡ true → all_have_records (layout_types (layouts_from xs)) ≡ all_have_records (layout_types (layouts_from (drop i xs))) → all_have_records (layout_types (layouts_from xs)) ≡ all_have_records (layout_types (layouts_from (drop (i + 1) xs)))
 records_yes xs i y e f h = h ∙ records_step xs i y e ∙ ap (λ b. b && all_have_records (layout_types (layouts_from (drop (i + 1) xs)))) f
 
-pub absent_no : (t : DataType) (ns : List Name) (i : ℕ) (n m : Name) → slice_get ns i ≡ Some n → m ≡ n → has_field n t ≡ false → first_absent ns t ≡ first_absent (drop i ns) t → Some m ≡ first_absent ns t
-absent_no t ns i n m e g f h = ap Some g ∙ sym (h ∙ absent_step t ns i n e ∙ ap (λ b. if b then first_absent (drop (i + 1) ns) t else Some n) f)
-
-pub absent_yes : (t : DataType) (ns : List Name) (i : ℕ) (n : Name) → slice_get ns i ≡ Some n → has_field n t ≡ true → first_absent ns t ≡ first_absent (drop i ns) t → first_absent ns t ≡ first_absent (drop (i + 1) ns) t
-absent_yes t ns i n e f h = h ∙ absent_step t ns i n e ∙ ap (λ b. if b then first_absent (drop (i + 1) ns) t else Some n) f
-
 -- the number of a tuple's places
 pub tuple_count : (xs : List Layout) → count (layout_types (layouts_from xs)) ≡ length xs
 tuple_count xs = count-layout_types (layouts_from xs) ∙ ap length (layout_list-from xs)
 
-pub ruleset found_steps = (height-get, field_step, field_end, records_step, records_end, tuple_count)
+pub ruleset found_steps = (height-get, records_step, records_end, tuple_count)
 
 -- ---- what is not absent is found
 

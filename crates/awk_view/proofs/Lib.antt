@@ -9,6 +9,7 @@ pub mod ChosenNodes
 pub mod Beside
 pub mod RowSteps
 pub mod FoundSteps
+pub mod LeadingLaws
 pub mod ViewLaws
 pub mod SettledItems
 pub mod Ends

@@ -5,3 +5,4 @@ pub mod Answer
 pub mod Examples
 pub mod Settled
 pub mod End
+pub mod Leading

@@ -1,5 +1,5 @@
 //! Which fields are asked for, and what stands beside their names.
-ghost use Rattle.std.specs.Prelude.{◌≡◌, true, length, map, IfOk, None};
+ghost use Rattle.std.specs.Prelude.{◌≡◌, true, length, map, IfOk, IfSome, None};
 ghost use Rattle.std.specs.List.{AllByRecursion};
 ghost use Rattle.awk_types.specs.Names.{is_among};
 ghost use Rattle.awk_layout.specs.Layout.{empty};
@@ -7,6 +7,7 @@ ghost use Rattle.awk_view.specs.Asked.{seen};
 ghost use Rattle.awk_view.specs.Choice.{row_names, place_of, beside, apart_from};
 
 use awk_layout::Nodes;
+use awk_name_places::NamePlaces;
 use awk_types::{Name, Names, NoMemory};
 use std::alloc::Global;
 
@@ -55,13 +56,43 @@ pub(crate) fn place_of(names: &Names, name: &str) -> usize
     names.len()
 }
 
+/// Up to so many names are looked up one by one, and more by a map.
+const FEW: usize = 16;
+
+/// The names by a map, where many are looked up among many, and none comes twice.
+pub(crate) fn known_places<'n>(
+    alloc: Global,
+    names: &'n Names,
+    wanted: &Names,
+) -> Result<Option<NamePlaces<'n>>, NoMemory>
+    ensures { IfOk result (λ known. IfSome known (λ places. places ≡ names.now)) }
+{
+    if names.len() <= FEW || wanted.len() <= FEW {
+        return Ok(None);
+    }
+    NamePlaces::of_names(alloc, names)
+}
+
+/// The place of a name, by the map if there is one, or the number of names where it is not there.
+pub(crate) fn place_by(names: &Names, known: &Option<NamePlaces<'_>>, name: &str) -> usize
+    requires { IfSome known.now (λ places. places ≡ names.now) }
+    ensures { result ≡ place_of name.now names.now }
+{
+    match known {
+        Some(places) => places.place(name),
+        None => place_of(names, name),
+    }
+}
+
 /// The nodes beside the wanted names.
 pub(crate) fn beside_all<'a>(
     alloc: Global,
     contents: &Nodes<'a>,
     names: &Names,
+    known: &Option<NamePlaces<'_>>,
     wanted: &Names,
 ) -> Result<Nodes<'a>, NoMemory>
+    requires known { IfSome known.now (λ places. places ≡ names.now) }
     requires named { length names.now ≡ length contents.now }
     requires among { AllByRecursion (λ k. is_among k names.now ≡ true) wanted.now }
     ensures { IfOk result (λ made.
@@ -69,7 +100,7 @@ pub(crate) fn beside_all<'a>(
 {
     let mut made = Nodes::new(alloc);
     for i in 0..wanted.len() {
-        let place = place_of(names, wanted.get(i).as_str());
+        let place = place_by(names, known, wanted.get(i).as_str());
         made.push(contents.get(place).copy(alloc)?)?;
     }
     Ok(made)

@@ -8,7 +8,9 @@ ghost use Rattle.awk_view.specs.Layouts.{IsChoice, AreAmong, IsFound, AreFound};
 ghost use Rattle.awk_view.specs.Layouts.{row_of_choice, layout_of_choice};
 ghost use Rattle.awk_view.specs.Asked.{choice_of, seen};
 
-use crate::choice::{Asked, beside_all, names_apart, nodes_apart, place_of, row_names};
+use crate::choice::{
+    Asked, beside_all, known_places, names_apart, nodes_apart, place_of, row_names,
+};
 use crate::first::first_items;
 use awk_lanes::Steps;
 use awk_layout::{Class, Node, Nodes};
@@ -54,7 +56,8 @@ fn fields_of_rows<'a, L: Ledger>(
     ensures cost { steps.new ≤ steps.old + 4 }
 {
     let all = row_names(alloc, names, contents.len())?;
-    let kept = beside_all(alloc, contents, &all, wanted)?;
+    let known = known_places(alloc, &all, wanted)?;
+    let kept = beside_all(alloc, contents, &all, &known, wanted)?;
     match names {
         Some(_) => {
             let wanted = wanted.copy(alloc)?;

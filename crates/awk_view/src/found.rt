@@ -1,33 +1,60 @@
 //! Whether the fields that are asked for are there.
-ghost use Rattle.std.specs.Prelude.{◌≡◌, [], ◌∷◌, IfOk};
+ghost use Rattle.std.specs.Prelude.{◌≡◌, [], ◌∷◌, IfOk, IfSome};
+ghost use Rattle.awk_types.specs.Names.{is_among};
 ghost use Rattle.awk_layout.specs.Layout.{layouts_from};
 ghost use Rattle.awk_layout.specs.Typing.{layout_type, layout_types};
 ghost use Rattle.awk_view.specs.Choice.{fields, first_absent, absent};
 ghost use Rattle.awk_view.specs.Choice.{has_field, all_have_field, has_records, all_have_records};
+ghost use Rattle.awk_view.specs.Leading.{leading};
 ghost use Rattle.awk_view.specs.Asked.{choice_of};
 
-use crate::choice::{Asked, row_names};
+use crate::choice::{Asked, known_places, place_by, row_names};
 use awk_layout::{Class, Node, Nodes};
+use awk_name_places::NamePlaces;
 use awk_types::{Name, Names, NoMemory};
 use std::alloc::Global;
 
-/// Whether every record that is met has the field, and nothing but records is met.
-#[cycle(has_field)]
+/// How many of the wanted names come before the first that is not one of a record's own, by the map
+/// if there is one.
+fn leading_known(wanted: &Names, own: &Names, known: &Option<NamePlaces<'_>>) -> usize
+    requires { IfSome known.now (λ places. places ≡ own.now) }
+    ensures { result ≡ leading (λ n. is_among n own.now) wanted.now }
+{
+    for i in 0..wanted.len() {
+        if place_by(own, known, wanted.get(i).as_str()) == own.len() {
+            return i;
+        }
+    }
+    wanted.len()
+}
+
+/// How many of the wanted names come before the first that is not one of a record's own.
+fn leading_own(alloc: Global, wanted: &Names, own: &Names) -> Result<usize, NoMemory>
+    ensures { IfOk result (λ k. k ≡ leading (λ n. is_among n own.now) wanted.now) }
+{
+    let known = known_places(alloc, own, wanted)?;
+    Ok(leading_known(wanted, own, &known))
+}
+
+/// How many names come before the first that some record does not have; none where something else
+/// than a record is met.
+#[cycle(leading)]
 #[tactic(auto, using(crate::proofs::FoundSteps::found_steps))]
-fn has_field(alloc: Global, x: &Node, name: &str) -> Result<bool, NoMemory>
-    ensures { IfOk result (λ b. b ≡ has_field name.now (layout_type x.now)) }
+fn leading_found(alloc: Global, x: &Node, names: &Names) -> Result<usize, NoMemory>
+    ensures { IfOk result (λ k.
+        k ≡ leading (λ n. has_field n (layout_type x.now)) names.now) }
 {
     match x.class() {
-        Class::Empty => Ok(false),
-        Class::Numpy { .. } => Ok(false),
+        Class::Empty => Ok(0),
+        Class::Numpy { .. } => Ok(0),
         Class::Row {
-            names: Some(names),
+            names: Some(own),
             ..
-        } => Ok(names.contains(name)),
+        } => leading_own(alloc, names, own),
         Class::Row {
             names: None,
             contents,
-        } => Ok(row_names(alloc, None, contents.len())?.contains(name)),
+        } => leading_own(alloc, names, &row_names(alloc, None, contents.len())?),
         Class::Regular { content, .. }
         | Class::List { content, .. }
         | Class::ListOffset { content, .. }
@@ -35,24 +62,23 @@ fn has_field(alloc: Global, x: &Node, name: &str) -> Result<bool, NoMemory>
         | Class::IndexedOption { content, .. }
         | Class::ByteMasked { content, .. }
         | Class::BitMasked { content, .. }
-        | Class::Unmasked { content } => has_field(alloc, content, name),
-        Class::Union { contents, .. } => all_have_field(alloc, contents, name),
+        | Class::Unmasked { content } => leading_found(alloc, content, names),
+        Class::Union { contents, .. } => leading_of_each(alloc, contents, names),
     }
 }
 
-/// Whether that holds of each node.
-#[cycle(has_field)]
+/// The least of that of each node.
+#[cycle(leading)]
 #[tactic(auto, using(crate::proofs::FoundSteps::found_steps))]
-fn all_have_field(alloc: Global, contents: &Nodes, name: &str) -> Result<bool, NoMemory>
-    ensures { IfOk result (λ b.
-        b ≡ all_have_field name.now (layout_types (layouts_from contents.now))) }
+fn leading_of_each(alloc: Global, contents: &Nodes, names: &Names) -> Result<usize, NoMemory>
+    ensures { let typs = layout_types (layouts_from contents.now) in
+        IfOk result (λ k. k ≡ leading (λ n. all_have_field n typs) names.now) }
 {
+    let mut least = names.len();
     for i in 0..contents.len() {
-        if !has_field(alloc, contents.get(i), name)? {
-            return Ok(false);
-        }
+        least = least.min(leading_found(alloc, contents.get(i), names)?);
     }
-    Ok(true)
+    Ok(least)
 }
 
 /// Whether nothing but records is met.
@@ -95,24 +121,21 @@ fn all_have_records(contents: &Nodes) -> bool
 fn first_absent(alloc: Global, x: &Node, names: &Names) -> Result<Option<Name>, NoMemory>
     ensures { IfOk result (λ name. name ≡ first_absent names.now (layout_type x.now)) }
 {
-    for i in 0..names.len() {
-        let name = names.get(i);
-        if !has_field(alloc, x, name.as_str())? {
-            return Ok(Some(name.copy(alloc)?));
-        }
+    let place = leading_found(alloc, x, names)?;
+    if place < names.len() {
+        Ok(Some(names.get(place).copy(alloc)?))
+    } else {
+        Ok(None)
     }
-    Ok(None)
 }
 
 /// The name, where some record does not have it.
 fn one_absent(alloc: Global, x: &Node, name: &str) -> Result<Option<Name>, NoMemory>
     ensures { IfOk result (λ absent. absent ≡ first_absent (name.now ∷ []) (layout_type x.now)) }
 {
-    if has_field(alloc, x, name)? {
-        Ok(None)
-    } else {
-        Ok(Some(Name::new(alloc, name)?))
-    }
+    let mut names = Names::new(alloc);
+    names.push(Name::new(alloc, name)?)?;
+    first_absent(alloc, x, &names)
 }
 
 /// The first of the names that some record does not have, or the empty name where something else

@@ -67,14 +67,14 @@ unified_parts-returns t c = parts_last unification _ _ (typs_of c.args.xs.now) (
 
 pub unified_fields-returns-then-k-len : goal.unified_fields-returns-then-k-len
 unified_fields-returns-then-k-len t c =
-    let at : c.place-k.result ≡ place_in (names_of (fields_of c.args.ys.now)) (field_of c.get-field.result.now).name =
-    c.place-k.ensures.at ∙ ap (place_in (names_of (fields_of c.args.ys.now))) (sym (name_out c.get-field.result.now)) in
+    let at : c.place_by-k.result ≡ place_in (names_of (fields_of c.args.ys.now)) (field_of c.get-field.result.now).name =
+    c.place_by-k.ensures.at ∙ ap (place_in (names_of (fields_of c.args.ys.now))) (sym (name_out c.get-field.result.now)) in
     fields_none unification (parts_of c.loop-i.made) _ (fields_of c.args.xs.now) (fields_of c.args.ys.now) c.loop-i.i (field_of c.get-field.result.now) c.get-field.ensures.item (omega (arith, at, c.if-k-len.true, c.len.ensures)) c.loop-i.invariant
 
 pub unified_fields-loop-i-preserved : goal.unified_fields-loop-i-preserved
 unified_fields-loop-i-preserved t c =
-    let at : c.place-k.result ≡ place_in (names_of (fields_of c.args.ys.now)) (field_of c.get-field.result.now).name =
-    c.place-k.ensures.at ∙ ap (place_in (names_of (fields_of c.args.ys.now))) (sym (name_out c.get-field.result.now)) in
+    let at : c.place_by-k.result ≡ place_in (names_of (fields_of c.args.ys.now)) (field_of c.get-field.result.now).name =
+    c.place_by-k.ensures.at ∙ ap (place_in (names_of (fields_of c.args.ys.now))) (sym (name_out c.get-field.result.now)) in
     fields_next unification _ _ _ (fields_of c.args.xs.now) (fields_of c.args.ys.now) c.loop-i.i (field_of c.get-field.result.now) (field_of c.get.result.now) _ c.get-field.ensures.item (ap (slice_get (fields_of c.args.ys.now)) (sym at) ∙ c.get.ensures.item) (c.in_ok-unified.ensures ∙ ap₂ unification (sym (typ_out c.get-field.result.now)) (sym (typ_out c.get.result.now))) c.in_ok-push.ensures c.loop-i.invariant
 
 pub unified_fields-returns : goal.unified_fields-returns

@@ -1,17 +1,20 @@
-use Rattle.std.proofs.Common.{sym, ap, ◌∙◌}
+-- The name at the place, or none beyond the last.
+use Rattle.std.proofs.Common.{◌≤◌, Some, length, sym, ap, ◌∙◌, slice_get, arith}
+use Rattle.std.proofs.lemmas.Option.{slice_get_past}
 use Rattle.awk_layout.specs.Typing.{layout_type}
-use Rattle.awk_view.specs.Choice.{has_field}
-use Rattle.awk_view.proofs.FoundSteps.{absent_no, absent_yes}
+use Rattle.awk_view.proofs.LeadingLaws.{absent-leading}
 use Rattle.awk_view.proofs.found.first_absent.Goals as goal
 
-pub returns-then-not-branch : goal.returns-then-not-branch
-returns-then-not-branch c =
-    let same = ap (λ n. has_field n (layout_type c.args.x.now)) (sym c.as_str.ensures) in
-    absent_no (layout_type c.args.x.now) c.args.names.now c.loop-i.i c.get-name.result.now c.in_ok-copy.field-0 c.get-name.ensures c.in_ok-copy.ensures
-    (same ∙ sym c.in_ok-has_field.ensures ∙ c.if-not-branch.true) c.loop-i.invariant
+pub returns-in_ok-copy : goal.returns-in_ok-copy
+returns-in_ok-copy c =
+    ap Some c.in_ok-copy.ensures ∙ sym c.get.ensures
+    ∙ ap (slice_get c.args.names.now) c.in_ok-place.ensures
+    ∙ absent-leading (layout_type c.args.x.now) c.args.names.now
 
-pub loop-i-preserved : goal.loop-i-preserved
-loop-i-preserved c =
-    let same = ap (λ n. has_field n (layout_type c.args.x.now)) (sym c.as_str.ensures) in
-    absent_yes (layout_type c.args.x.now) c.args.names.now c.loop-i.i c.get-name.result.now c.get-name.ensures
-    (same ∙ sym c.in_ok-has_field.ensures ∙ c.if-not-branch.false) c.loop-i.invariant
+pub returns-else-place-len : goal.returns-else-place-len
+returns-else-place-len c =
+    let past : length c.args.names.now ≤ c.in_ok-place.place =
+    omega (arith, c.if-place-len.false, c.len.ensures) in
+    sym (slice_get_past c.args.names.now c.in_ok-place.place past)
+    ∙ ap (slice_get c.args.names.now) c.in_ok-place.ensures
+    ∙ absent-leading (layout_type c.args.x.now) c.args.names.now

@@ -1,0 +1,107 @@
+-- A place in a list of keys is that of the name.
+use Rattle.std.proofs.Common.{◌≡◌, ◌≤◌, ◌+◌, ℕ, suc, Bool, true, false, List, [], ◌∷◌, ◌++◌, length, map, Some, None, refl, ap, sym, ◌∙◌, cond, nat_lt, arith}
+use Rattle.std.specs.Prelude.{not, position}
+use Rattle.std.specs.Borrow.{Bor}
+use Rattle.std.specs.List.{list_any, position_or_len}
+use Rattle.std.specs.Str.{bytes_eq}
+use Rattle.std.proofs.lemmas.List.{map-append}
+use Rattle.awk_types.specs.DataType.{DataType, Name}
+use Rattle.awk_types.proofs.Views.{named_type}
+use Rattle.awk_types.specs.View.{NamedType, field_of, field_step, fields_step, typ_of, typ_step, typs_step}
+use Rattle.awk_types.specs.declared.typ.Field.{Field}
+use Rattle.awk_types.specs.declared.typ.Typ.TheViews.{out-Field}
+use Rattle.awk_types.specs.declared.typ.Typ.TheFolds.{fold_out-Field}
+use Rattle.awk_types.specs.Names.{same_name}
+use Rattle.awk_types.proofs.NameLaws.{same_name_is, same_name-refl}
+use Rattle.awk_name_places.specs.Places.{place_in}
+
+same_name-flip : (n m : Name) → same_name n m ≡ same_name m n
+same_name-flip n m = step (same_name n m) refl
+  where
+    step : (b : Bool) → same_name n m ≡ b → b ≡ same_name m n
+    step true e = sym (ap (λ k. same_name k n) (sym (same_name_is n m e)) ∙ same_name-refl n)
+    step false e = other (same_name m n) refl
+      where
+        other : (b : Bool) → same_name m n ≡ b → false ≡ b
+        other true f = sym e ∙ ap (same_name n) (same_name_is m n f) ∙ same_name-refl n
+        other false f = refl
+
+-- ---- a place that is found
+
+place_or_len-≤ : (p : Bor (List ℕ) → Bool) (ks : List (Bor (List ℕ)))
+    → position_or_len p ks ≤ length ks
+place_or_len-≤ p [] = omega arith
+place_or_len-≤ p (k ∷ ks) = step (not (p k)) (place_or_len-≤ p ks)
+  where
+    step : (b : Bool) → position_or_len p ks ≤ length ks
+        → cond b (1 + position_or_len p ks) 0 ≤ suc (length ks)
+    step true h = omega (arith, h)
+    step false h = omega arith
+
+module _ (key : List ℕ) where
+  place_or_len : (ks : List (Bor (List ℕ)))
+      → position_or_len (λ k. bytes_eq key k.now) ks ≡ place_in (map (λ k. k.now) ks) key
+  place_or_len [] = refl
+  place_or_len (k ∷ ks) =
+      step (bytes_eq key k.now) (place_or_len ks)
+      ∙ ap (λ b. cond b 0 (suc (place_in (map (λ k. k.now) ks) key))) (same_name-flip key k.now)
+    where
+      step : (b : Bool)
+          → position_or_len (λ k. bytes_eq key k.now) ks ≡ place_in (map (λ k. k.now) ks) key
+          → cond (not b) (1 + position_or_len (λ k. bytes_eq key k.now) ks) 0
+          ≡ cond b 0 (suc (place_in (map (λ k. k.now) ks) key))
+      step true e = refl
+      step false e = omega (arith, e)
+
+  -- what a look-up gives, by the test whether the place is within
+  by_found : (b : Bool) (place i : ℕ) → Some i ≡ cond b (Some place) None → i ≡ place
+  by_found true place i e = cc
+  by_found false place i e = absurd (cc)
+
+  by_absent : (place all : ℕ) (b : Bool) → nat_lt place all ≡ b → place ≤ all
+      → cond b (Some place) None ≡ None → all ≡ place
+  by_absent place all true test within e = absurd (cc)
+  by_absent place all false test within e = grind arith
+
+  pub found-place : (ks : List (Bor (List ℕ))) (names : List Name)
+      → map (λ k. k.now) ks ≡ names → (i : ℕ)
+      → Some i ≡ position (λ k. bytes_eq key k.now) ks → i ≡ place_in names key
+  found-place ks names shown i e =
+      by_found (nat_lt (position_or_len (λ k. bytes_eq key k.now) ks) (length ks)) _ i e
+      ∙ place_or_len ks ∙ ap (λ ns. place_in ns key) shown
+
+  pub absent-place : (ks : List (Bor (List ℕ))) (names : List Name)
+      → map (λ k. k.now) ks ≡ names
+      → None ≡ position (λ k. bytes_eq key k.now) ks → length ks ≡ place_in names key
+  absent-place ks names shown e =
+      by_absent (position_or_len (λ k. bytes_eq key k.now) ks) (length ks)
+      (nat_lt (position_or_len (λ k. bytes_eq key k.now) ks) (length ks)) refl
+      (place_or_len-≤ (λ k. bytes_eq key k.now) ks) (sym e)
+      ∙ place_or_len ks ∙ ap (λ ns. place_in ns key) shown
+
+-- ---- one name more
+
+pub keys-more : (old new : List (Bor (List ℕ))) (key : Bor (List ℕ)) (added : Bool)
+    → added ≡ true
+    → added ≡ not (list_any (λ k. bytes_eq key.now k.now) old)
+    → new ≡ cond (list_any (λ k. bytes_eq key.now k.now) old) old (old ++ key ∷ [])
+    → map (λ k. k.now) new ≡ map (λ k. k.now) old ++ key.now ∷ []
+keys-more old new key added is_new told pushed =
+    by added (list_any (λ k. bytes_eq key.now k.now) old) is_new told pushed
+  where
+    by : (a b : Bool) → a ≡ true → a ≡ not b → new ≡ cond b old (old ++ key ∷ [])
+        → map (λ k. k.now) new ≡ map (λ k. k.now) old ++ key.now ∷ []
+    by false b e t p = absurd (cc)
+    by true true e t p = absurd (cc)
+    by true false e t p =
+        ap (map (λ k. k.now)) p ∙ map-append (λ (k : Bor (List ℕ)). k.now) old (key ∷ [])
+
+-- ---- the name of a field
+
+field_out : (f : Field) → field_of f ≡ named_type (out-Field f).name (typ_of (out-Field f).typ)
+field_out =
+    fold_out-Field DataType NamedType (List NamedType) (List DataType) typ_step field_step
+    fields_step typs_step
+
+pub name_out : (f : Field) → (field_of f).name ≡ (out-Field f).name
+name_out f = ap (λ x. x.name) (field_out f)
