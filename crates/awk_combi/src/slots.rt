@@ -34,8 +34,8 @@ pub(crate) fn tuple_places<'a, L: Ledger>(
     ensures { IfOk result (ArePlaced places rising.replacement rising.slots lists.now.starts
         lists.now.stops) }
 {
-    let firsts = first_lane(places, lists, arena, steps)?;
-    let ends = end_lane(places, lists, arena, steps)?;
+    let firsts = first_lane(alloc, places, lists, arena, steps)?;
+    let ends = end_lane(alloc, places, lists, arena, steps)?;
     let _ = lists.len();
     match rising_offsets(rising, &firsts, &ends, arena, steps)? {
         None => Ok(None),

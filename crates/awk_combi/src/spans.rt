@@ -1,39 +1,37 @@
 //! Where the places of lists begin and end.
-ghost use Rattle.std.specs.Prelude.{◌≡◌, ◌+◌, ◌<◌, ◌≤◌, ◌^◌, IfOk};
+ghost use Rattle.std.specs.Prelude.{◌≡◌, ◌<◌, ◌^◌, IfOk};
 ghost use Rattle.awk_lanes.specs.Places.{size_of};
-ghost use Rattle.awk_layout.specs.Valid.{len};
-ghost use Rattle.awk_columns.specs.Lists.{span_length};
 ghost use Rattle.awk_combi.specs.Spans.{first_place, end_place, first_lane, end_lane};
 
-use awk_columns::Lists;
-use awk_lanes::{Arena, Kind, Lane, Num, Numbers, Steps, index_at, made_lane, number};
+use awk_columns::{Bounds, Lists};
+use awk_lanes::{Arena, Kind, Lane, Num, Numbers, Steps, made_lane, number};
 use awk_types::NoMemory;
+use std::alloc::Global;
 use std::sync::ledger::Ledger;
 
 /// The first place of list i: where it begins in the content, but 0 where places are counted in
 /// each list by itself, or where it is empty.
-fn first_at<L: Ledger>(places: bool, lists: &Lists, i: u64, steps: &mut Steps<L>) -> u64
+fn first_at(places: bool, lists: &Bounds, i: u64) -> u64
     requires within { i < size_of lists.now.starts }
     ensures first { result ≡ first_place places lists.now.starts lists.now.stops i }
     ensures fits { end_place places lists.now.starts lists.now.stops i < 2 ^ 63 }
 {
-    let _ = lists.content();
-    let _ = lists.content().len();
-    if places || lists.length_at(i, steps) == 0 {
+    let span = lists.span_of(i);
+    if places || span.length == 0 {
         0
     } else {
-        index_at(lists.starts(), i, steps) as u64
+        span.start
     }
 }
 
 /// The first place of each list.
 #[derive(Drop)]
-struct FirstPlaces<'b, 'a> {
-    lists: &'b Lists<'a>,
+struct FirstPlaces<'b, 'r, 'a> {
+    lists: &'b Bounds<'r, 'a>,
     places: bool,
 }
 
-impl<'b, 'a> Numbers for FirstPlaces<'b, 'a> {
+impl<'b, 'r, 'a> Numbers for FirstPlaces<'b, 'r, 'a> {
     ghost use Rattle.std.specs.Prelude.{pos};
     ghost use Rattle.awk_lanes.specs.Places.{size_of};
     ghost use Rattle.awk_lanes.specs.declared.kind.Kind.TheVariants as Kinds;
@@ -45,19 +43,19 @@ impl<'b, 'a> Numbers for FirstPlaces<'b, 'a> {
 
     ghost size = { λ f. size_of f.lists.now.starts };
 
-    fn number<L: Ledger>(&self, i: u64, steps: &mut Steps<L>) -> Num {
-        number(first_at(self.places, self.lists, i, steps))
+    fn number<L: Ledger>(&self, i: u64, _steps: &mut Steps<L>) -> Num {
+        number(first_at(self.places, self.lists, i))
     }
 }
 
 /// Where the places of each list end.
 #[derive(Drop)]
-struct EndPlaces<'b, 'a> {
-    lists: &'b Lists<'a>,
+struct EndPlaces<'b, 'r, 'a> {
+    lists: &'b Bounds<'r, 'a>,
     places: bool,
 }
 
-impl<'b, 'a> Numbers for EndPlaces<'b, 'a> {
+impl<'b, 'r, 'a> Numbers for EndPlaces<'b, 'r, 'a> {
     ghost use Rattle.std.specs.Prelude.{pos};
     ghost use Rattle.awk_lanes.specs.Places.{size_of};
     ghost use Rattle.awk_lanes.specs.declared.kind.Kind.TheVariants as Kinds;
@@ -69,14 +67,15 @@ impl<'b, 'a> Numbers for EndPlaces<'b, 'a> {
 
     ghost size = { λ f. size_of f.lists.now.starts };
 
-    fn number<L: Ledger>(&self, i: u64, steps: &mut Steps<L>) -> Num {
-        let first = first_at(self.places, self.lists, i, steps);
-        number(first + self.lists.length_at(i, steps))
+    fn number<L: Ledger>(&self, i: u64, _steps: &mut Steps<L>) -> Num {
+        let first = first_at(self.places, self.lists, i);
+        number(first + self.lists.length_at(i))
     }
 }
 
 /// The first place of each list, as a lane.
 pub(crate) fn first_lane<'a, L: Ledger>(
+    alloc: Global,
     places: bool,
     lists: &Lists<'a>,
     arena: &'a Arena,
@@ -84,12 +83,17 @@ pub(crate) fn first_lane<'a, L: Ledger>(
 ) -> Result<Lane<'a>, NoMemory>
     ensures { IfOk result (λ r. r ≡ first_lane places lists.now.starts lists.now.stops) }
 {
-    let source = FirstPlaces { lists, places };
-    made_lane(Kind::I64, lists.len(), &source, arena, steps)
+    let bounds = Bounds::new(alloc, lists, arena, steps)?;
+    let source = FirstPlaces {
+        lists: &bounds,
+        places,
+    };
+    made_lane(Kind::I64, bounds.len(), &source, arena, steps)
 }
 
 /// Where the places of each list end, as a lane.
 pub(crate) fn end_lane<'a, L: Ledger>(
+    alloc: Global,
     places: bool,
     lists: &Lists<'a>,
     arena: &'a Arena,
@@ -97,6 +101,10 @@ pub(crate) fn end_lane<'a, L: Ledger>(
 ) -> Result<Lane<'a>, NoMemory>
     ensures { IfOk result (λ r. r ≡ end_lane places lists.now.starts lists.now.stops) }
 {
-    let source = EndPlaces { lists, places };
-    made_lane(Kind::I64, lists.len(), &source, arena, steps)
+    let bounds = Bounds::new(alloc, lists, arena, steps)?;
+    let source = EndPlaces {
+        lists: &bounds,
+        places,
+    };
+    made_lane(Kind::I64, bounds.len(), &source, arena, steps)
 }

@@ -3,7 +3,7 @@ ghost use Rattle.std.specs.Prelude.{◌≡◌};
 ghost use Rattle.awk_lanes.specs.Places.{size_of};
 ghost use Rattle.awk_jagged_rows.specs.Levels.{AreCompared};
 
-use awk_bounds::Bounds;
+use awk_columns::Bounds;
 
 /// Whether two lists of some pair have unequal lengths.
 pub fn lengths_differ(xs: &Bounds, ws: &Bounds) -> bool

@@ -1,7 +1,7 @@
 //! The places that masks and indexes of lists name in a content, list by list.
 //!
 //! `Kept` are the places where a mask is true, and `Taken` those that an index names, each over the
-//! ends of the lists (`awk_bounds`) and over values in the form in which they lie (`Values`).
+//! ends of the lists (`awk_columns`) and over values in the form in which they lie (`Values`).
 //! `put_lane` makes one lane of them all, and `lengths_differ` tells whether the lists of a mask
 //! are as long as those that it picks from.
 #![tactic(auto)]

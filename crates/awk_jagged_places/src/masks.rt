@@ -12,9 +12,8 @@ ghost use Rattle.awk_jagged_rows.specs.Rows.{AreAlike};
 
 use crate::put::NumberLists;
 use crate::values::Values;
-use awk_bounds::Bounds;
-use awk_index::IndexMaker;
-use awk_lanes::{Lengths, Num, Steps, number};
+use awk_columns::Bounds;
+use awk_lanes::{IndexMaker, Lengths, Num, Steps, number};
 use std::sync::ledger::Ledger;
 
 /// The places in a content where the lists of a mask are true.

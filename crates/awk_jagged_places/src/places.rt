@@ -11,9 +11,8 @@ ghost use Rattle.awk_jagged_places.specs.Leaves.{AreLeaves, take_numbers, AreTes
 
 use crate::put::NumberLists;
 use crate::values::Values;
-use awk_bounds::{Bounds, Span};
-use awk_index::IndexMaker;
-use awk_lanes::{Num, Steps, number};
+use awk_columns::{Bounds, Span};
+use awk_lanes::{IndexMaker, Num, Steps, number};
 use awk_select::place_of;
 use std::sync::ledger::Ledger;
 

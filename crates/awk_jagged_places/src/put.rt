@@ -3,8 +3,7 @@ ghost use Rattle.std.specs.Prelude.{◌≡◌, ◌<◌, ◌≤◌, length, IfOk}
 ghost use Rattle.awk_lanes.specs.Counted.{before};
 ghost use Rattle.awk_jagged_places.specs.Kept.{IsPutLane};
 
-use awk_index::IndexMaker;
-use awk_lanes::{Arena, Lane, NoMemory, Steps};
+use awk_lanes::{Arena, IndexMaker, Lane, NoMemory, Steps};
 use std::sync::ledger::Ledger;
 
 /// Lists of numbers, of which each is put at once.

@@ -4,8 +4,7 @@ ghost use Rattle.awk_lanes.specs.Numbers.{is_nonzero};
 ghost use Rattle.awk_lanes.specs.Words.{column, integers};
 ghost use Rattle.awk_lanes.specs.declared.kind.Kind.TheVariants as Kinds;
 
-use awk_index::Index;
-use awk_lanes::{Lane, Num, Steps, byte_numbers};
+use awk_lanes::{Index, Lane, Num, Steps, byte_numbers};
 use awk_select::Cells;
 use std::sync::ledger::Ledger;
 

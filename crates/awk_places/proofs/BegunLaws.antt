@@ -8,7 +8,7 @@ use Rattle.std.proofs.lemmas.List.Folds.{flat_map-map}
 use Rattle.std.proofs.lemmas.List.FromFn.{map-range_with_len_more}
 use Rattle.std.proofs.lemmas.Simd.{map-map}
 use Rattle.awk_places.specs.Begun.{reserved, longer, rest_count, last_place, begun_by, again}
-use Rattle.awk_places.specs.Begun.{places_of, Fits, IsSmall}
+use Rattle.awk_places.specs.Begun.{places_of, Fits}
 use Rattle.awk_places.specs.declared.begun.Begun.{Begun}
 use Rattle.awk_places.specs.Places.{before_each, next_place, rising_places, after_each, next_after}
 use Rattle.awk_places.specs.Places.{places_from, rising_from}
@@ -219,7 +219,7 @@ all-always : {X : Type 0} (P : X → Type 0) → ((x : X) → P x) → (xs : Lis
 all-always P h [] = tt
 all-always P h (x ∷ xs) = (h x, all-always P h xs)
 
-last_place-next : (rep : Bool) (k : ℕ) → last_place rep (next_place rep k) ≡ k
+pub last_place-next : (rep : Bool) (k : ℕ) → last_place rep (next_place rep k) ≡ k
 last_place-next true k = omega arith
 last_place-next false k = omega arith
 
@@ -424,24 +424,6 @@ fits_longer rep left bs h =
     (all_above (λ k. Fits (record { least = next_place rep k; stop = b.stop })) b.least
     (b.stop - reserved rep left - b.least)
     (λ k p q. (next_place-within rep k b.stop (omega (arith, p, q)), f.1)))) bs h
-
-pub small_places : (bs : List Begun) → AllByRecursion Fits bs
-    → AllByRecursion IsSmall (flat_map places_of bs)
-small_places bs h =
-    all-each Fits IsSmall places_of
-    (λ b f. all_above IsSmall b.least (b.stop - b.least)
-    (λ k p q. omega (arith, p, q, f.1))) bs h
-
-pub all_times : (P : ℕ → Type 0) (n k : ℕ) → P k → AllByRecursion P (replicate n k)
-all_times P zero k p = tt
-all_times P (suc n) k p = (p, all_times P n k p)
-
-pub small_again : (rep : Bool) (left : ℕ) (bs : List Begun) → AllByRecursion Fits bs
-    → AllByRecursion IsSmall (flat_map (again rep left) bs)
-small_again rep left bs h =
-    all-each Fits IsSmall (again rep left)
-    (λ b f. all_times IsSmall (rest_count rep left b.least b.stop) (last_place rep b.least)
-    (omega (arith, f.0, f.1))) bs h
 
 -- ---- what is made so far
 

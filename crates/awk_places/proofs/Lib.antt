@@ -8,3 +8,5 @@ pub mod SlotLaws
 pub mod PlaceLists
 pub mod RunLaws
 pub mod ProductLaws
+pub mod GroupLaws
+pub mod PairLaws

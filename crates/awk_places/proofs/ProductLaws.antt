@@ -1,7 +1,7 @@
 -- Lanes of the slots of tuples of one place of each of several lists, slot after slot.
-use Rattle.std.specs.Prelude.{◌≡◌, refl, ℕ, zero, suc, ◌+◌, ◌<◌, ◌^◌, pos}
-use Rattle.std.specs.Prelude.{List, [], ◌∷◌, ◌++◌, length, map, get_or, replicate}
-use Rattle.std.specs.List.{range_with_len, flat_map, AllByRecursion}
+use Rattle.std.specs.Prelude.{◌≡◌, refl, ℕ, ◌+◌, ◌<◌, pos}
+use Rattle.std.specs.Prelude.{List, [], ◌∷◌, ◌++◌, length, map, get_or}
+use Rattle.std.specs.List.{range_with_len, flat_map}
 use Rattle.std.proofs.Common.{arith, ap, ap₂, sym, ◌∙◌, subst}
 use Rattle.std.proofs.lemmas.Int.{ints}
 use Rattle.std.proofs.lemmas.List.{length-map, get_or-map}
@@ -14,16 +14,12 @@ use Rattle.awk_lanes.specs.Numbers.{nat_of}
 use Rattle.awk_lanes.specs.Places.{place_at}
 use Rattle.awk_lanes.specs.Words.{column, integers}
 use Rattle.awk_lanes.proofs.MadeLanes.{size-lane_of, at-lane_of}
-use Rattle.awk_places.specs.Begun.{IsSmall}
 use Rattle.awk_places.specs.Places.{place_lists, place_count}
 use Rattle.awk_places.specs.Products.{AreCounts, no_lane, lengths_at, product_count}
 use Rattle.awk_places.specs.Products.{product_place, product_lane, each_times, times, share}
 use Rattle.awk_places.specs.Products.{counts_lane, shares_lane}
-use Rattle.awk_places.specs.Runs.{row_runs, slot_runs, IsSlotOf}
-use Rattle.awk_places.specs.declared.runs.Slot.{Slot}
-use Rattle.awk_places.proofs.BegunLaws.{all_times}
+use Rattle.awk_places.specs.Runs.{row_runs}
 use Rattle.awk_places.proofs.FlatLaws.{map-flat, flat-same-range, map-in_place, numbers-flat}
-use Rattle.awk_places.proofs.FlatLaws.{all-append, all-flat}
 use Rattle.awk_places.proofs.Levels.{length-place_lists}
 use Rattle.awk_places.proofs.RunLaws.{IsRest, rest_first, rest_next, runs-by_rest}
 
@@ -43,27 +39,6 @@ module _ (n : ℕ) (h : ℕ → ℕ) where
 pub length-at : (ls : List Column) (i j : ℕ) → j < length ls
     → get_or (lengths_at ls i) j 0 ≡ place_at (get_or ls j no_lane) i
 length-at ls i j p = get_or-map (λ s. place_at s i) ls j no_lane 0 p
-
--- ---- places that fit a lane
-
-small_times : (n : ℕ) (xs : List ℕ) → AllByRecursion IsSmall xs
-    → AllByRecursion IsSmall (times n xs)
-small_times zero xs h = tt
-small_times (suc n) xs h = all-append IsSmall xs (times n xs) h (small_times n xs h)
-
-small_each : (m a n : ℕ) → a + n < 2 ^ 63 → AllByRecursion IsSmall (each_times m a n)
-small_each m a n h =
-    all-flat IsSmall (λ k. replicate m k) a n
-    (λ k p q. all_times IsSmall m k (omega (arith, q, h)))
-
-pub small_slot : (n : ℕ) (s : Slot) → IsSlotOf n s
-    → AllByRecursion IsSmall (flat_map (slot_runs s) (range_with_len 0 n))
-small_slot n s h =
-    all-flat IsSmall (slot_runs s) 0 n
-    (λ i p q. small_times (place_at s.before.now i)
-    (each_times (place_at s.after.now i) (place_at s.firsts.now i) (place_at s.lengths.now i))
-    (small_each (place_at s.after.now i) (place_at s.firsts.now i) (place_at s.lengths.now i)
-    (h.spans.fits i (omega (arith, q)))))
 
 -- ---- one slot
 

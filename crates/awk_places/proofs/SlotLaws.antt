@@ -1,5 +1,5 @@
 -- Tuples of lists that are begun, and the lanes of the slots that they make.
-use Rattle.std.specs.Prelude.{◌≡◌, refl, ℕ, zero, suc, ◌+◌, ◌-◌, ◌<◌, ◌≤◌, Bool, List, [], ◌∷◌}
+use Rattle.std.specs.Prelude.{◌≡◌, refl, ℕ, suc, ◌+◌, ◌-◌, ◌<◌, ◌≤◌, Bool, List, [], ◌∷◌}
 use Rattle.std.specs.Prelude.{◌++◌, map, length, get_or, ℤ, pos, negsuc, ◌≤ℤ◌}
 use Rattle.std.specs.List.{range_with_len, flat_map, AllByRecursion}
 use Rattle.std.proofs.Common.{arith, ap, ap₂, sym, ◌∙◌, subst}
@@ -13,12 +13,11 @@ use Rattle.awk_lanes.specs.Column.{Column}
 use Rattle.awk_lanes.specs.Counted.{before}
 use Rattle.awk_lanes.specs.Numbers.{nat_of}
 use Rattle.awk_lanes.specs.Places.{size_of, at, place_at}
-use Rattle.awk_lanes.specs.Ranges.{AreNumbers}
 use Rattle.awk_lanes.specs.Words.{integers, column}
 use Rattle.awk_lanes.proofs.CountedLanes.{length-numbers, before_mono, before-next}
 use Rattle.awk_places.specs.Begun.{longer, again, places_of, begun_of, all_begun, first_begun}
 use Rattle.awk_places.specs.Begun.{IsFew}
-use Rattle.awk_places.specs.Begun.{rest_count, last_place, IsSmall}
+use Rattle.awk_places.specs.Begun.{rest_count, last_place, pair_firsts, pair_seconds}
 use Rattle.awk_places.specs.Places.{rising_from, rising_places}
 use Rattle.awk_places.specs.Slots.{ArePlaces, tuple_count, slot_place, slot_lane}
 use Rattle.awk_places.specs.declared.begun.Begun.{Begun}
@@ -27,7 +26,7 @@ use Rattle.awk_places.proofs.BegunLaws.{rising_from-shift}
 use Rattle.awk_places.proofs.FlatLaws.{flat-flat, map-flat, flat-same, map-same-all}
 use Rattle.awk_places.proofs.FlatLaws.{map-in_place, numbers-flat, flat-same-range}
 use Rattle.awk_places.proofs.RisingLaws.{rising_places-from}
-use Rattle.awk_places.proofs.BegunLaws.{fits_longer, small_places, small_again}
+use Rattle.awk_places.proofs.BegunLaws.{fits_longer}
 use Rattle.std.proofs.lemmas.List.FromFn.{map-range_with_len_more}
 use Rattle.awk_places.specs.Begun.{Fits}
 
@@ -158,18 +157,6 @@ pub all_first : (rep : Bool) (n : ℕ) (s e : Column)
     → map (first_begun s e) (range_with_len 0 (size_of s)) ≡ all_begun rep 0 n s e
 all_first rep n s e = sym (flat_map_single (first_begun s e) (range_with_len 0 (size_of s)))
 
--- ---- places as a lane
-
-pub are_numbers : (ns : List ℕ) → AllByRecursion IsSmall ns → AreNumbers (column I64 (integers ns))
-are_numbers ns h i = go ns i h
-  where
-    go : (ns : List ℕ) (i : ℕ) → AllByRecursion IsSmall ns
-        → (negsuc 9223372036854775807 ≤ℤ get_or (integers ns) i (pos 0))
-        × (get_or (integers ns) i (pos 0) ≤ℤ pos 9223372036854775807)
-    go [] i h = (omega (arith, ints), omega (arith, ints))
-    go (n ∷ ns) zero h = (omega (arith, ints), omega (arith, ints, h.0))
-    go (n ∷ ns) (suc i) h = go ns i h.1
-
 -- ---- slot after slot
 
 module _ (rep : Bool) (n j : ℕ) (s e : Column) where
@@ -231,11 +218,25 @@ pub fits_after : (rep : Bool) (left : ℕ) (bs cs : List Begun) → AllByRecursi
     → cs ≡ flat_map (longer rep left) bs → AllByRecursion Fits cs
 fits_after rep left bs cs h p = subst (AllByRecursion Fits) (sym p) (fits_longer rep left bs h)
 
-pub rests_small : (rep : Bool) (left : ℕ) (cs : List Begun) (ks : List ℕ)
-    → AllByRecursion Fits cs → ks ≡ flat_map (again rep left) cs → AllByRecursion IsSmall ks
-rests_small rep left cs ks h p =
-    subst (AllByRecursion IsSmall) (sym p) (small_again rep left cs h)
-
-pub last_small : (bs : List Begun) (ks : List ℕ) → AllByRecursion Fits bs
-    → ks ≡ flat_map places_of bs → AllByRecursion IsSmall ks
-last_small bs ks h p = subst (AllByRecursion IsSmall) (sym p) (small_places bs h)
+-- the lanes of the last two slots
+pub two_more : (rep : Bool) (n j : ℕ) (s e : Column) (bs : List Begun) (us vs ws : List Column)
+    (x y : Column) → ArePlaces s e → n ≡ j + 2 → bs ≡ all_begun rep j (n - j) s e
+    → us ≡ map (slot_lane rep n s e) (range_with_len 0 j)
+    → x ≡ column I64 (integers (flat_map (pair_firsts rep) bs)) → vs ≡ us ++ x ∷ []
+    → y ≡ column I64 (integers (flat_map (pair_seconds rep) bs)) → ws ≡ vs ++ y ∷ []
+    → ws ≡ map (slot_lane rep n s e) (range_with_len 0 n)
+two_more rep n j s e bs us vs ws x y h l p q a c b d =
+    let cs : List Begun = flat_map (longer rep 1) bs in
+    let o : j < n - 1 = omega (arith, l) in
+    let i : 1 ≡ n - 1 - j = omega (arith, l) in
+    let t : cs ≡ all_begun rep (j + 1) (n - (j + 1)) s e =
+    step_begun rep n j s e bs cs o p (ap (λ k. flat_map (longer rep k) bs) i) in
+    let u : x ≡ slot_lane rep n s e j =
+    a ∙ rests_lane rep n j s e cs (flat_map (pair_firsts rep) bs) h o t
+    (sym (flat-flat (again rep 1) (longer rep 1) bs) ∙ ap (λ k. flat_map (again rep k) cs) i) in
+    let v : y ≡ slot_lane rep n s e (j + 1) =
+    b ∙ last_lane rep n (j + 1) s e cs (flat_map (pair_seconds rep) bs) h (omega (arith, l)) t
+    (sym (flat-flat places_of (longer rep 1) bs)) in
+    let m : n ≡ j + 1 + 1 = omega (arith, l) in
+    lanes_more rep n (j + 1) s e vs ws y (lanes_more rep n j s e us vs x q u c) v d
+    ∙ ap (λ k. map (slot_lane rep n s e) (range_with_len 0 k)) (sym m)

@@ -35,12 +35,16 @@ again rep left b = replicate (rest_count rep left b.least b.stop) (last_place re
 abbrev pub places_of : Begun → List ℕ
 places_of b = places_from b.least b.stop
 
+-- each place that may follow, as often as one more may follow it, and the places that may
+abbrev pub pair_firsts : Bool → Begun → List ℕ
+pair_firsts rep b = flat_map (again rep 1) (longer rep 1 b)
+
+abbrev pub pair_seconds : Bool → Begun → List ℕ
+pair_seconds rep b = flat_map places_of (longer rep 1 b)
+
 -- the places are those of a lane
 abbrev pub Fits : Begun → Type 0
 Fits b = (b.least ≤ b.stop) × (b.stop < 2 ^ 63)
-
-abbrev pub IsSmall : ℕ → Type 0
-IsSmall n = n < 2 ^ 63
 
 -- the tuples are no more than a column may have
 abbrev pub IsFew : Bool → ℕ → Begun → Type 0

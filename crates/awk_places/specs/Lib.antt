@@ -4,3 +4,4 @@ pub mod Slots
 pub mod Begun
 pub mod Products
 pub mod Runs
+pub mod Groups

@@ -1,16 +1,18 @@
 //! Tuples that are begun, a slot at a time.
-ghost use Rattle.std.specs.Prelude.{◌≡◌, ◌-◌, ◌<◌, ◌≤◌, ◌^◌, ◌++◌, ℕ, map, replicate, IfOk};
+ghost use Rattle.std.specs.Prelude.{◌≡◌, ◌<◌, ◌^◌, ◌++◌, map, IfOk};
 ghost use Rattle.std.specs.List.{flat_map, range_with_len, AllByRecursion};
-ghost use Rattle.awk_types.specs.ItemLimit.{item_limit};
 ghost use Rattle.awk_lanes.specs.Places.{size_of};
+ghost use Rattle.awk_lanes.specs.Words.{column, integers};
+ghost use Rattle.awk_lanes.specs.declared.kind.Kind.TheVariants as Kinds;
 ghost use Rattle.awk_places.specs.Begun.{again, places_of, Fits, IsFew};
 ghost use Rattle.awk_places.specs.Begun as spec;
 ghost use Rattle.awk_places.specs.Places as places;
 ghost use Rattle.awk_places.specs.Slots.{ArePlaces};
 
 use crate::counts::count_rising;
+use crate::maker::{PlaceMaker, put_places, put_times};
 use crate::reading::place_of;
-use awk_lanes::{Lane, Steps};
+use awk_lanes::{Arena, Lane, Steps};
 use awk_types::NoMemory;
 use std::alloc::Global;
 use std::sync::ledger::Ledger;
@@ -23,7 +25,7 @@ pub(crate) struct Begun {
 }
 
 /// The least place that may follow another: with replacement the same.
-fn next_place(replacement: bool, place: u64) -> u64
+pub(crate) fn next_place(replacement: bool, place: u64) -> u64
     requires { place < 2 ^ 63 }
     ensures { result ≡ places.next_place replacement place }
 {
@@ -31,7 +33,7 @@ fn next_place(replacement: bool, place: u64) -> u64
 }
 
 /// How many places the slots that are left need for themselves.
-fn reserved(replacement: bool, left: u64) -> u64
+pub(crate) fn reserved(replacement: bool, left: u64) -> u64
     ensures { result ≡ spec.reserved replacement left }
 {
     if replacement { 0 } else { left }
@@ -98,38 +100,6 @@ pub(crate) fn longer(
     Ok(made)
 }
 
-/// Adds the places from a first one below an end.
-fn put_places(made: &mut Vec<u64>, first: u64, end: u64) -> Result<(), NoMemory>
-    ensures { IfOk result (λ _. made.new.items
-        ≡ made.old.items ++ range_with_len first (end - first)) }
-{
-    for place in first..end {
-        made.push(place)?;
-    }
-    Ok(())
-}
-
-/// Adds a place so many times.
-pub(crate) fn put_times(made: &mut Vec<u64>, place: u64, n: u64) -> Result<(), NoMemory>
-    ensures { IfOk result (λ _. made.new.items ≡ made.old.items ++ replicate n place) }
-{
-    for i in 0..n {
-        made.push(place)?;
-    }
-    Ok(())
-}
-
-/// All places that may follow, of which there are `total`.
-pub(crate) fn last_slot(alloc: Global, total: u64, begun: &[Begun]) -> Result<Vec<u64>, NoMemory>
-    ensures { IfOk result (λ r. r.items ≡ flat_map places_of begun.now) }
-{
-    let mut made = Vec::with_capacity(alloc, total as usize)?;
-    for i in 0..begun.len() {
-        put_places(&mut made, begun[i].least, begun[i].stop)?;
-    }
-    Ok(made)
-}
-
 /// How many tuples of so many further places are begun so.
 fn rest_count(replacement: bool, left: u64, begun: Begun) -> u64
     requires { IsFew replacement left begun }
@@ -145,22 +115,61 @@ fn rest_count(replacement: bool, left: u64, begun: Begun) -> u64
     }
 }
 
-/// The last place of what is begun, for each of the `total` tuples that it is continued to.
-pub(crate) fn slot_of(
-    alloc: Global,
+/// Adds the last place of what is begun, for each of the tuples that it is continued to.
+fn put_again(
+    made: &mut PlaceMaker,
+    replacement: bool,
+    left: u64,
+    begun: Begun,
+) -> Result<(), NoMemory>
+    requires fits { Fits begun }
+    requires few { IsFew replacement left begun }
+    ensures { IfOk result (λ _. made.new ≡ made.old ++ again replacement left begun) }
+{
+    let last = begun.least.saturating_sub(reserved(replacement, 1));
+    put_times(made, last, rest_count(replacement, left, begun))
+}
+
+/// The lane of the last places of what is begun, each as often as it is continued: `total` places.
+pub(crate) fn slot_lane<'a>(
     replacement: bool,
     left: u64,
     total: u64,
     begun: &[Begun],
-) -> Result<Vec<u64>, NoMemory>
-    requires { AllByRecursion (IsFew replacement left) begun.now }
-    ensures { IfOk result (λ r. r.items ≡ flat_map (again replacement left) begun.now) }
+    arena: &'a Arena,
+) -> Result<Lane<'a>, NoMemory>
+    requires fits { AllByRecursion Fits begun.now }
+    requires few { AllByRecursion (IsFew replacement left) begun.now }
+    ensures { IfOk result (λ r.
+        r ≡ column Kinds.I64 (integers (flat_map (again replacement left) begun.now))) }
 {
-    let mut made = Vec::with_capacity(alloc, total as usize)?;
+    let mut made = PlaceMaker::new(total, arena)?;
     for i in 0..begun.len() {
-        let last = begun[i].least.saturating_sub(reserved(replacement, 1));
-        let count = rest_count(replacement, left, begun[i]);
-        put_times(&mut made, last, count)?;
+        put_again(&mut made, replacement, left, begun[i])?;
     }
-    Ok(made)
+    Ok(made.finish())
+}
+
+/// Adds the places that may follow.
+fn put_rest(made: &mut PlaceMaker, begun: Begun) -> Result<(), NoMemory>
+    requires { Fits begun }
+    ensures { IfOk result (λ _. made.new ≡ made.old ++ places_of begun) }
+{
+    put_places(made, begun.least, begun.stop)
+}
+
+/// The lane of all places that may follow, of which there are `total`.
+pub(crate) fn last_lane<'a>(
+    total: u64,
+    begun: &[Begun],
+    arena: &'a Arena,
+) -> Result<Lane<'a>, NoMemory>
+    requires { AllByRecursion Fits begun.now }
+    ensures { IfOk result (λ r. r ≡ column Kinds.I64 (integers (flat_map places_of begun.now))) }
+{
+    let mut made = PlaceMaker::new(total, arena)?;
+    for i in 0..begun.len() {
+        put_rest(&mut made, begun[i])?;
+    }
+    Ok(made.finish())
 }

@@ -8,7 +8,9 @@
 
 mod begun;
 mod counts;
+mod maker;
 mod offsets;
+mod pairs;
 mod products;
 mod reading;
 mod runs;

@@ -3,8 +3,7 @@ ghost use Rattle.std.specs.Prelude.{◌<◌, ◌≤◌, ◌^◌, IfOk};
 ghost use Rattle.awk_types.specs.ItemLimit.{item_limit};
 ghost use Rattle.awk_lanes.specs.Counted.{AreOffsetsBy};
 
-use awk_index::IndexMaker;
-use awk_lanes::{Arena, Offsets, Steps, number};
+use awk_lanes::{Arena, IndexMaker, Offsets, Steps, number};
 use awk_types::{ITEM_LIMIT, NoMemory};
 use std::sync::ledger::Ledger;
 

@@ -217,7 +217,7 @@ pub fn product_lanes<'a, L: Ledger>(
             before: &before,
             after: &after,
         };
-        lanes.push(slot_lane(alloc, n, total, &slot, arena, steps)?)?;
+        lanes.push(slot_lane(n, total, &slot, arena, steps)?)?;
         rests = after;
     }
     Ok(lanes)

@@ -3,8 +3,7 @@ ghost use Rattle.std.specs.Prelude.{◌≡◌, ◌<◌, ◌^◌, ◌≤ℤ◌, p
 ghost use Rattle.awk_lanes.specs.Places.{size_of, at, place_at};
 ghost use Rattle.awk_lanes.specs.declared.kind.Kind.TheVariants as Kinds;
 
-use awk_index::wide_index;
-use awk_lanes::{Lane, Steps};
+use awk_lanes::{Lane, Steps, wide_index};
 use std::sync::ledger::Ledger;
 
 /// The place at place i of a lane.

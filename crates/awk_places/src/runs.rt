@@ -1,19 +1,16 @@
 //! The places in one slot of tuples, as runs of equal places.
-ghost use Rattle.std.specs.Prelude.{◌≡◌, ◌-◌, ◌<◌, ◌++◌, IfOk};
-ghost use Rattle.std.specs.List.{flat_map, range_with_len, AllByRecursion};
+ghost use Rattle.std.specs.Prelude.{◌≡◌, ◌-◌, ◌<◌, ◌≤◌, ◌^◌, ◌++◌, IfOk};
+ghost use Rattle.std.specs.List.{flat_map, range_with_len};
 ghost use Rattle.awk_lanes.specs.Words.{column, integers};
 ghost use Rattle.awk_lanes.specs.declared.kind.Kind.TheVariants as Kinds;
-ghost use Rattle.awk_places.specs.Begun.{IsSmall};
 ghost use Rattle.awk_places.specs.Products as spec;
 ghost use Rattle.awk_places.specs.Products.{AreCounts, AreSpansOf, each_times, times};
 ghost use Rattle.awk_places.specs.Runs.{slot_runs, IsSlotOf};
 
-use crate::begun::put_times;
+use crate::maker::{PlaceMaker, put_times};
 use crate::reading::place_of;
-use crate::slots::lane_of_places;
 use awk_lanes::{Arena, Lane, Steps};
 use awk_types::NoMemory;
-use std::alloc::Global;
 use std::sync::ledger::Ledger;
 
 /// How many of a count fall to each of so many parts.
@@ -24,9 +21,10 @@ pub(crate) fn share(count: u64, parts: u64) -> u64
 }
 
 /// Adds each place from a first one below an end so many times.
-fn put_each(made: &mut Vec<u64>, first: u64, end: u64, after: u64) -> Result<(), NoMemory>
-    ensures { IfOk result (λ _. made.new.items
-        ≡ made.old.items ++ each_times after first (end - first)) }
+fn put_each(made: &mut PlaceMaker, first: u64, end: u64, after: u64) -> Result<(), NoMemory>
+    requires { end ≤ 2 ^ 63 }
+    ensures { IfOk result (λ _. made.new
+        ≡ made.old ++ each_times after first (end - first)) }
 {
     for place in first..end {
         put_times(made, place, after)?;
@@ -36,14 +34,15 @@ fn put_each(made: &mut Vec<u64>, first: u64, end: u64, after: u64) -> Result<(),
 
 /// Adds all these places so many times.
 fn put_runs(
-    made: &mut Vec<u64>,
+    made: &mut PlaceMaker,
     first: u64,
     end: u64,
     before: u64,
     after: u64,
 ) -> Result<(), NoMemory>
-    ensures { IfOk result (λ _. made.new.items
-        ≡ made.old.items ++ times before (each_times after first (end - first))) }
+    requires { end ≤ 2 ^ 63 }
+    ensures { IfOk result (λ _. made.new
+        ≡ made.old ++ times before (each_times after first (end - first))) }
 {
     for i in 0..before {
         put_each(made, first, end, after)?;
@@ -63,7 +62,7 @@ pub(crate) struct Slot<'b, 'a> {
 
 /// Adds the places in a slot of the tuples of list i.
 fn put_row<L: Ledger>(
-    made: &mut Vec<u64>,
+    made: &mut PlaceMaker,
     n: u64,
     slot: &Slot,
     i: u64,
@@ -71,7 +70,7 @@ fn put_row<L: Ledger>(
 ) -> Result<(), NoMemory>
     requires slot { IsSlotOf n slot.now }
     requires within { i < n }
-    ensures { IfOk result (λ _. made.new.items ≡ made.old.items ++ slot_runs slot.now i) }
+    ensures { IfOk result (λ _. made.new ≡ made.old ++ slot_runs slot.now i) }
 {
     let first = place_of(slot.firsts, i, steps);
     let end = first + place_of(slot.lengths, i, steps);
@@ -79,27 +78,8 @@ fn put_row<L: Ledger>(
     put_runs(made, first, end, before, place_of(slot.after, i, steps))
 }
 
-/// The places in a slot of the tuples of n lists, of which there are `total`.
-fn slot_places<L: Ledger>(
-    alloc: Global,
-    n: u64,
-    total: u64,
-    slot: &Slot,
-    steps: &mut Steps<L>,
-) -> Result<Vec<u64>, NoMemory>
-    requires slot { IsSlotOf n slot.now }
-    ensures { IfOk result (λ r. r.items ≡ flat_map (slot_runs slot.now) (range_with_len 0 n)) }
-{
-    let mut made = Vec::with_capacity(alloc, total as usize)?;
-    for i in 0..n {
-        put_row(&mut made, n, slot, i, steps)?;
-    }
-    Ok(made)
-}
-
-/// The same as a lane.
+/// The places in a slot of the tuples of n lists, of which there are `total`, as a lane.
 pub(crate) fn slot_lane<'a, L: Ledger>(
-    alloc: Global,
     n: u64,
     total: u64,
     slot: &Slot,
@@ -110,6 +90,9 @@ pub(crate) fn slot_lane<'a, L: Ledger>(
     ensures { IfOk result (λ r. r ≡ column Kinds.I64
         (integers (flat_map (slot_runs slot.now) (range_with_len 0 n)))) }
 {
-    let places = slot_places(alloc, n, total, slot, steps)?;
-    lane_of_places(&places, arena)
+    let mut made = PlaceMaker::new(total, arena)?;
+    for i in 0..n {
+        put_row(&mut made, n, slot, i, steps)?;
+    }
+    Ok(made.finish())
 }

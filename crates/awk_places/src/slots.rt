@@ -1,19 +1,16 @@
 //! Lanes of the places of tuples, one a slot.
-ghost use Rattle.std.specs.Prelude.{◌≡◌, ◌<◌, ◌≤◌, ◌^◌, [], IfOk};
-ghost use Rattle.std.specs.List.{AllByRecursion};
+ghost use Rattle.std.specs.Prelude.{◌≡◌, ◌<◌, ◌≤◌, ◌^◌, IfOk};
 ghost use Rattle.awk_types.specs.ItemLimit.{item_limit};
 ghost use Rattle.awk_lanes.specs.Counted.{before, AreOffsetsBy};
 ghost use Rattle.awk_lanes.specs.Places.{size_of};
-ghost use Rattle.awk_lanes.specs.Words.{column, integers};
-ghost use Rattle.awk_lanes.specs.declared.kind.Kind.TheVariants as Kinds;
-ghost use Rattle.awk_places.specs.Begun.{IsSmall};
 ghost use Rattle.awk_places.specs.Slots.{ArePlaces, tuple_count, slot_lanes};
 
-use crate::begun::{first_begun, last_slot, longer, slot_of};
+use crate::begun::{first_begun, last_lane, longer, slot_lane};
 use crate::counts::count_rising;
 use crate::offsets::{TupleCounts, tuple_offsets};
+use crate::pairs::{first_lane, second_lane};
 use crate::reading::place_of;
-use awk_lanes::{Arena, Kind, Lane, Lanes, Offsets, Steps, lane_of_nats};
+use awk_lanes::{Arena, Lane, Lanes, Offsets, Steps};
 use awk_types::NoMemory;
 use std::alloc::Global;
 use std::sync::ledger::Ledger;
@@ -97,19 +94,14 @@ pub fn rising_lanes<'a, L: Ledger>(
     if rising.slots == 0 {
         return Ok(Lanes::new(alloc));
     }
-    some_lanes(alloc, rising, total, firsts, ends, arena, steps)
+    if rising.slots == 1 {
+        return one_lane(alloc, rising, total, firsts, ends, arena, steps);
+    }
+    more_lanes(alloc, rising, total, firsts, ends, arena, steps)
 }
 
-/// Places as a lane.
-pub(crate) fn lane_of_places<'a>(places: &[u64], arena: &'a Arena) -> Result<Lane<'a>, NoMemory>
-    requires { AllByRecursion IsSmall places.now }
-    ensures { IfOk result (λ r. r ≡ column Kinds.I64 (integers places.now)) }
-{
-    lane_of_nats(Kind::I64, places, arena)
-}
-
-/// The same, where a tuple has a slot.
-fn some_lanes<'a, L: Ledger>(
+/// The lanes of all slots, where a tuple has two or more.
+fn more_lanes<'a, L: Ledger>(
     alloc: Global,
     rising: Rising,
     total: u64,
@@ -118,7 +110,7 @@ fn some_lanes<'a, L: Ledger>(
     arena: &'a Arena,
     steps: &mut Steps<L>,
 ) -> Result<Lanes<'a>, NoMemory>
-    requires some { 0 < rising.slots }
+    requires some { 1 < rising.slots }
     requires places { ArePlaces firsts.now ends.now }
     requires total { total ≡ before
         (tuple_count rising.replacement rising.slots firsts.now ends.now) (size_of firsts.now) }
@@ -128,13 +120,33 @@ fn some_lanes<'a, L: Ledger>(
 {
     let mut lanes = Lanes::new(alloc);
     let mut begun = first_begun(alloc, firsts, ends, steps)?;
-    for slot in 0..rising.slots - 1 {
+    for slot in 0..rising.slots - 2 {
         let left = rising.slots - 1 - slot;
         begun = longer(alloc, rising.replacement, left, &begun)?;
-        let places = slot_of(alloc, rising.replacement, left, total, &begun)?;
-        lanes.push(lane_of_places(&places, arena)?)?;
+        lanes.push(slot_lane(rising.replacement, left, total, &begun, arena)?)?;
     }
-    let places = last_slot(alloc, total, &begun)?;
-    lanes.push(lane_of_places(&places, arena)?)?;
+    lanes.push(first_lane(rising.replacement, total, &begun, arena)?)?;
+    lanes.push(second_lane(rising.replacement, total, &begun, arena)?)?;
+    Ok(lanes)
+}
+
+/// The lane of the only slot.
+fn one_lane<'a, L: Ledger>(
+    alloc: Global,
+    rising: Rising,
+    total: u64,
+    firsts: &Lane<'a>,
+    ends: &Lane<'a>,
+    arena: &'a Arena,
+    steps: &mut Steps<L>,
+) -> Result<Lanes<'a>, NoMemory>
+    requires one { rising.slots ≡ 1 }
+    requires places { ArePlaces firsts.now ends.now }
+    ensures { IfOk result (λ r.
+        r ≡ slot_lanes rising.replacement rising.slots firsts.now ends.now) }
+{
+    let begun = first_begun(alloc, firsts, ends, steps)?;
+    let mut lanes = Lanes::new(alloc);
+    lanes.push(last_lane(total, &begun, arena)?)?;
     Ok(lanes)
 }

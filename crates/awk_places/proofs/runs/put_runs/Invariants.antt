@@ -4,4 +4,4 @@ use Rattle.awk_places.proofs.runs.put_runs.Given as goal
 
 abbrev pub invariant-loop-i : goal.invariant-loop-i
 invariant-loop-i l =
-    l.made.items ≡ l.fn.made.items ++ times l.i (each_times l.after l.first (l.end - l.first))
+    l.made ≡ l.fn.made ++ times l.i (each_times l.after l.first (l.end - l.first))

@@ -1,10 +1,8 @@
-use Rattle.std.specs.List.{AllByRecursion}
-use Rattle.std.proofs.Common.{sym, subst, ◌∙◌}
-use Rattle.awk_places.specs.Begun.{IsSmall}
-use Rattle.awk_places.proofs.ProductLaws.{small_slot}
+use Rattle.awk_places.specs.Runs.{slot_runs}
+use Rattle.awk_places.proofs.RunLaws.{rows_put}
 use Rattle.awk_places.proofs.runs.slot_lane.Goals as goal
 
-pub lane_of_places-requires : goal.lane_of_places-requires
-lane_of_places-requires g c =
-    subst (AllByRecursion IsSmall) (sym (c.deref.ensures.value ∙ c.in_ok-places.ensures))
-    (small_slot c.args.n c.args.slot.now c.requires.slot)
+pub loop-i-preserved : goal.loop-i-preserved
+loop-i-preserved g c =
+    rows_put (slot_runs c.args.slot.now) c.loop-i.i c.loop-i.made c.put_row.new.made
+    c.loop-i.invariant c.in_ok-put_row.ensures

@@ -1,7 +1,7 @@
 use Rattle.std.specs.Prelude.{◌≡◌, take}
 use Rattle.std.specs.List.{flat_map}
 use Rattle.awk_places.specs.Begun.{again}
-use Rattle.awk_places.proofs.begun.slot_of.Given as goal
+use Rattle.awk_places.proofs.begun.slot_lane.Given as goal
 
 abbrev pub invariant-loop-i : goal.invariant-loop-i
-invariant-loop-i l = l.made.items ≡ flat_map (again l.replacement l.left) (take l.i l.begun)
+invariant-loop-i l = l.made ≡ flat_map (again l.replacement l.left) (take l.i l.begun)

@@ -1,0 +1,13 @@
+use Rattle.std.specs.Prelude.{◌≡◌, ◌++◌, ◌-◌, ◌≤◌}
+use Rattle.std.specs.List.{range_with_len, flat_map}
+use Rattle.awk_places.specs.Begun.{reserved}
+use Rattle.awk_places.proofs.PairLaws.{seconds_at}
+use Rattle.awk_places.proofs.pairs.put_seconds.Given as goal
+
+abbrev pub invariant-loop-place : goal.invariant-loop-place
+invariant-loop-place l = record {
+  items : l.made ≡ l.fn.made ++ flat_map (seconds_at l.replacement l.begun.stop)
+      (range_with_len l.begun.least (l.place - l.begun.least));
+  order : l.begun.least ≤ l.place;
+  top : l.place - l.begun.least ≤ l.begun.stop - reserved l.replacement 1 - l.begun.least;
+}
