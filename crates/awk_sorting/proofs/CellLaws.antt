@@ -2,26 +2,22 @@
 use Rattle.std.proofs.Common.{◌≡◌, ℕ, zero, suc, ◌+◌, ◌-◌, ◌*◌, ◌<◌, ◌≤◌, refl, ap, ap₂}
 use Rattle.std.proofs.Common.{sym, ◌∙◌, subst, arith, List, [], ◌∷◌, ◌++◌, map, length, get_or}
 use Rattle.std.proofs.Common.{length-append, take, drop, append_assoc, take_all, ◌⊎◌, inl, inr}
-use Rattle.std.specs.Prelude.{ℤ, pos, Bool, true, false, Option, Some, None}
-use Rattle.std.specs.Prelude.{if◌then◌else◌, option_map, min, max}
+use Rattle.std.specs.Prelude.{ℤ, pos, Bool, true, Option, Some, None}
 use Rattle.std.specs.List.{range_with_len, slice_range}
-use Rattle.std.proofs.lemmas.Int.{ints}
 use Rattle.std.proofs.lemmas.List.{length-map, take-append-le, drop_at}
 use Rattle.std.proofs.lemmas.List.FromFn.{length-map-range_with_len, get_or-map-range_with_len}
 use Rattle.std.proofs.lemmas.List.FromFn.{map-range_with_len_more, length-range_with_len}
 use Rattle.std.proofs.lemmas.Slice.{between_is}
 use Rattle.awk_lanes.specs.Column.{Column}
-use Rattle.awk_lanes.specs.Numbers.{element, is_nonzero}
-use Rattle.awk_lanes.specs.Places.{at, place_at, option_place_at}
-use Rattle.awk_lanes.specs.Ranges.{IsNumber, AreNumbers}
-use Rattle.awk_lanes.specs.declared.kind.Kind.{Kind}
+use Rattle.awk_lanes.specs.Numbers.{element}
+use Rattle.awk_lanes.specs.Places.{place_at}
 use Rattle.awk_lanes.specs.declared.kind.Kind.TheVariants as kind
 use Rattle.awk_parts.specs.Parts.{part_at}
-use Rattle.awk_sorting.specs.Cells.{cell_at, cells_from, cells_of_part, rank, key, keys_from}
-use Rattle.awk_sorting.specs.Cells.{place_of, AreRanked, OrdersLane}
+use Rattle.awk_sorting.specs.Cells.{cell_at, cells_from, cells_of_part, height, key, keys_from}
+use Rattle.awk_sorting.specs.Cells.{place_of, IsRanked, AreRanked, OrdersLane}
 use Rattle.awk_sorting.specs.Order.{number_first, stands_first, order, sort_numbers}
 use Rattle.awk_sorting.proofs.InsertLaws.{length-sort}
-use Rattle.awk_sorting.proofs.KeyLaws.{IsNear, order_by_keys}
+use Rattle.awk_sorting.proofs.KeyLaws.{order_by_keys}
 use Rattle.awk_sorting.proofs.LaneLaws.{same_numbers}
 use Rattle.awk_sorting.proofs.PartLaws.{less_or_last, map-append}
 
@@ -38,30 +34,31 @@ slice_after xs ys a b e f =
     ap (take (b - a)) (drop_at xs ys a (sym e))
     ∙ take_all (b - a) ys (omega (arith, e, f))
 
-module _ (up : Bool) (least : ℕ) (c : Column) (j : Option Column) where
+module _ (up : Bool) (least last : ℕ) (c : Column) (j : Option Column) where
   more_keys : (start m : ℕ) (was : List ℤ)
-      → (was ++ keys_from up least c j start m) ++ key up least (cell_at c j (start + m)) m ∷ []
-      ≡ was ++ keys_from up least c j start (m + 1)
+      → (was ++ keys_from up least last c j start m)
+      ++ key up least last (cell_at c j (start + m)) m ∷ []
+      ≡ was ++ keys_from up least last c j start (m + 1)
   more_keys start m was =
-      let at_place : ℕ → ℤ = λ i. key up least (cell_at c j (start + i)) i in
-      append_assoc was (keys_from up least c j start m) (at_place m ∷ [])
+      let at_place : ℕ → ℤ = λ i. key up least last (cell_at c j (start + i)) i in
+      append_assoc was (keys_from up least last c j start m) (at_place m ∷ [])
       ∙ ap (λ zs. was ++ zs) (sym (map-range_with_len_more at_place 0 m m (omega arith)))
 
   pub key_pushed : {X : Type 0} (number : X → ℤ) (start i : ℕ) (was before now : List X) (k : X)
       (r : ℕ) → start ≤ i
-      → map number before ≡ map number was ++ keys_from up least c j start (i - start)
-      → now ≡ before ++ k ∷ [] → number k ≡ pos ((r - least) * 4294967296 + (i - start))
-      → r ≡ rank up (cell_at c j i)
-      → map number now ≡ map number was ++ keys_from up least c j start (i + 1 - start)
+      → map number before ≡ map number was ++ keys_from up least last c j start (i - start)
+      → now ≡ before ++ k ∷ [] → number k ≡ pos (r * 4294967296 + (i - start))
+      → r ≡ height up least last (cell_at c j i)
+      → map number now ≡ map number was ++ keys_from up least last c j start (i + 1 - start)
   key_pushed number start i was before now k r l b e ke re =
       let there : start + (i - start) ≡ i = omega (arith, l) in
       let next : i - start + 1 ≡ i + 1 - start = omega (arith, l) in
       ap (map number) e ∙ map-append number before (k ∷ [])
       ∙ ap₂ (λ zs z. zs ++ z ∷ []) b
-      (ke ∙ ap (λ n. pos ((n - least) * 4294967296 + (i - start)))
-      (re ∙ ap (λ q. rank up (cell_at c j q)) (sym there)))
+      (ke ∙ ap (λ n. pos (n * 4294967296 + (i - start)))
+      (re ∙ ap (λ q. height up least last (cell_at c j q)) (sym there)))
       ∙ more_keys start (i - start) (map number was)
-      ∙ ap (λ m. map number was ++ keys_from up least c j start m) next
+      ∙ ap (λ m. map number was ++ keys_from up least last c j start m) next
 
 -- ---- the places of one part after another
 
@@ -143,52 +140,26 @@ ordered_more up c j o i was now before next h e = record {
 
 -- ---- ranks
 
-pub ranked_more : (up : Bool) (c : Column) (j : Option Column) (i a b x : ℕ)
-    → AreRanked up c j i a b → x ≡ rank up (cell_at c j i)
-    → AreRanked up c j (i + 1) (min a x) (max b x)
-ranked_more up c j i a b x h e = record {
-  above = λ k l. low k (less_or_last k i (omega (arith, l)));
-  below = λ k l. high k (less_or_last k i (omega (arith, l)));
+ranked_wider : (up : Bool) (a b x y : ℕ) (o : Option ℤ) → x ≤ a → b ≤ y → IsRanked up a b o
+    → IsRanked up x y o
+ranked_wider up a b x y None l m h = tt
+ranked_wider up a b x y (Some z) l m h = (h.0, omega (arith, l, h.1), omega (arith, m, h.2))
+
+pub none_ranked : (up : Bool) (c : Column) (j : Option Column) (a b : ℕ) → AreRanked up c j 0 a b
+none_ranked up c j a b = record { ranked = λ k l. absurd (omega (arith, l)) }
+
+-- one cell more, within a reach that is no narrower
+pub ranked_more : (up : Bool) (c : Column) (j : Option Column) (i a b x y : ℕ) (o : Option ℤ)
+    → AreRanked up c j i a b → x ≤ a → b ≤ y → o ≡ cell_at c j i → IsRanked up x y o
+    → AreRanked up c j (i + 1) x y
+ranked_more up c j i a b x y o h l m e k = record {
+  ranked = λ q r. by_place q (less_or_last q i (omega (arith, r)));
 }
   where
-    low : (k : ℕ) → (k < i) ⊎ (k ≡ i) → min a x ≤ rank up (cell_at c j k)
-    low k (inl l) = omega (arith, h.above k l)
-    low k (inr q) = omega (arith, e, ap (λ k. rank up (cell_at c j k)) q)
-
-    high : (k : ℕ) → (k < i) ⊎ (k ≡ i) → rank up (cell_at c j k) ≤ max b x
-    high k (inl l) = omega (arith, h.below k l)
-    high k (inr q) = omega (arith, e, ap (λ k. rank up (cell_at c j k)) q)
-
--- ---- cells of 64 bits
-
-near_truth : (b : Bool) → IsNear (Some (pos (if b then 1 else 0)))
-near_truth true = (omega (arith, ints), omega (arith, ints))
-near_truth false = (omega (arith, ints), omega (arith, ints))
-
-near_element : (k : Kind) (z : ℤ) → IsNumber k z → IsNear (Some (element k z))
-near_element kind.Bool z h = near_truth (is_nonzero z)
-near_element kind.I8 z h = (omega (arith, ints, h.0), omega (arith, ints, h.1))
-near_element kind.I16 z h = (omega (arith, ints, h.0), omega (arith, ints, h.1))
-near_element kind.I32 z h = (omega (arith, ints, h.0), omega (arith, ints, h.1))
-near_element kind.I64 z h = (omega (arith, ints, h.0), omega (arith, ints, h.1))
-near_element kind.U8 z h = (omega (arith, ints, h.0), omega (arith, ints, h.1))
-near_element kind.U16 z h = (omega (arith, ints, h.0), omega (arith, ints, h.1))
-near_element kind.U32 z h = (omega (arith, ints, h.0), omega (arith, ints, h.1))
-near_element kind.U64 z h = (omega (arith, ints, h.0), omega (arith, ints, h.1))
-
-near_place : (c : Column) → AreNumbers c → (o : Option ℕ) → IsNear (option_map (at c) o)
-near_place c h None = tt
-near_place c h (Some i) = near_element c.kind (get_or c.items i (pos 0)) (h i)
-
-near_cell : (c : Column) (j : Option Column) (i : ℕ) → AreNumbers c → IsNear (cell_at c j i)
-near_cell c None i h = near_element c.kind (get_or c.items i (pos 0)) (h i)
-near_cell c (Some j) i h = near_place c h (option_place_at j i)
-
-near_all : (f : ℕ → Option ℤ) (a n : ℕ) → ((i : ℕ) → IsNear (f i))
-    → (p : ℕ) → IsNear (get_or (map f (range_with_len a n)) p None)
-near_all f a zero h p = tt
-near_all f a (suc n) h zero = h a
-near_all f a (suc n) h (suc p) = near_all f (a + 1) n h p
+    by_place : (q : ℕ) → (q < i) ⊎ (q ≡ i) → IsRanked up x y (cell_at c j q)
+    by_place q (inl r) = ranked_wider up a b x y (cell_at c j q) l m (h.ranked q r)
+    by_place q (inr s) =
+        subst (IsRanked up x y) (e ∙ ap (cell_at c j) (sym s)) k
 
 -- ---- the places of a part
 
@@ -199,51 +170,52 @@ range_same f g a (suc n) h =
     ap₂ (λ x xs. x ∷ xs) (h a (omega arith) (omega arith))
     (range_same f g (a + 1) n (λ i l m. h i (omega (arith, l)) (omega (arith, m))))
 
-places_of_part : (up : Bool) (least : ℕ) (c : Column) (j : Option Column) (start m : ℕ)
-    (zs : List ℤ) → AreNumbers c → m < 4294967296
-    → ((k : ℕ) → k < m → least ≤ rank up (cell_at c j (start + k)))
-    → zs ≡ sort_numbers true (keys_from up least c j start m)
+places_of_part : (up : Bool) (least last : ℕ) (c : Column) (j : Option Column) (start m : ℕ)
+    (zs : List ℤ) → m < 4294967296
+    → ((k : ℕ) → k < m → IsRanked up least last (cell_at c j (start + k)))
+    → zs ≡ sort_numbers true (keys_from up least last c j start m)
     → map place_of zs ≡ map pos (order up (cells_from c j start m))
-places_of_part up least c j start m zs h few above s =
+places_of_part up least last c j start m zs few ranked s =
     let cell : ℕ → Option ℤ = λ k. cell_at c j (start + k) in
     let os : List (Option ℤ) = cells_from c j start m in
     let long : length os ≡ m = length-map-range_with_len cell 0 m in
     let there : (k : ℕ) → k < m → cell k ≡ get_or os k None =
     λ k l. sym (get_or-map-range_with_len cell 0 m k k None l (omega arith)) in
-    order_by_keys up least os (omega (arith, long, few))
-    (near_all cell 0 m (λ k. near_cell c j (start + k) h))
-    (λ p l. subst (λ x. least ≤ rank up x) (there p (omega (arith, l, long)))
-    (above p (omega (arith, l, long)))) zs
+    order_by_keys up least last os (omega (arith, long, few))
+    (λ p l. subst (IsRanked up least last) (there p (omega (arith, l, long)))
+    (ranked p (omega (arith, l, long)))) zs
     (s
     ∙ ap (sort_numbers true)
-    (range_same (λ k. key up least (cell k) k) (λ p. key up least (get_or os p None) p) 0 m
-    (λ k l r. ap (λ x. key up least x k) (there k (omega (arith, r))))
-    ∙ ap (λ n. map (λ p. key up least (get_or os p None) p) (range_with_len 0 n)) (sym long)))
+    (range_same (λ k. key up least last (cell k) k)
+    (λ p. key up least last (get_or os p None) p) 0 m
+    (λ k l r. ap (λ x. key up least last x k) (there k (omega (arith, r))))
+    ∙ ap (λ n. map (λ p. key up least last (get_or os p None) p) (range_with_len 0 n))
+    (sym long)))
 
 -- sorted keys tell the places of a part
-pub order_told : {X : Type 0} (number : X → ℤ) (up : Bool) (least most : ℕ) (c : Column)
-    (j : Option Column) (n start stop : ℕ) (ks ys : List X) (was now : List ℤ) → AreNumbers c
-    → AreRanked up c j n least most → start ≤ stop → stop ≤ n → n ≤ 1073741824
-    → map number ks ≡ keys_from up least c j start (stop - start)
+pub order_told : {X : Type 0} (number : X → ℤ) (up : Bool) (least last : ℕ) (c : Column)
+    (j : Option Column) (n start stop : ℕ) (ks ys : List X) (was now : List ℤ)
+    → AreRanked up c j n least last → start ≤ stop → stop ≤ n → n ≤ 1073741824
+    → map number ks ≡ keys_from up least last c j start (stop - start)
     → map number ys ≡ sort_numbers true (map number ks)
     → now ≡ was ++ map place_of (map number ys)
     → now ≡ was ++ map pos (order up (cells_from c j start (stop - start)))
-order_told number up least most c j n start stop ks ys was now h a l m few k s e =
+order_told number up least last c j n start stop ks ys was now a l m few k s e =
     e
     ∙ ap (λ zs. was ++ zs)
-    (places_of_part up least c j start (stop - start) (map number ys) h (omega (arith, few, m))
-    (λ q r. a.above (start + q) (omega (arith, r, l, m)))
+    (places_of_part up least last c j start (stop - start) (map number ys)
+    (omega (arith, few, m)) (λ q r. a.ranked (start + q) (omega (arith, r, l, m)))
     (s ∙ ap (sort_numbers true) k))
 
 -- there are as many as cells
-pub keys_many : {X : Type 0} (number : X → ℤ) (up : Bool) (least : ℕ) (c : Column)
+pub keys_many : {X : Type 0} (number : X → ℤ) (up : Bool) (least last : ℕ) (c : Column)
     (j : Option Column) (start m : ℕ) (ks ys : List X)
-    → map number ks ≡ keys_from up least c j start m
+    → map number ks ≡ keys_from up least last c j start m
     → map number ys ≡ sort_numbers true (map number ks) → length ys ≡ m
-keys_many number up least c j start m ks ys k s =
+keys_many number up least last c j start m ks ys k s =
     sym (length-map ys number) ∙ ap length s ∙ length-sort (number_first true) (map number ks)
     ∙ ap length k
-    ∙ length-map-range_with_len (λ i. key up least (cell_at c j (start + i)) i) 0 m
+    ∙ length-map-range_with_len (λ i. key up least last (cell_at c j (start + i)) i) 0 m
 
 -- ---- the lane of all places
 

@@ -1,7 +1,7 @@
 -- Numbers of a lane, or at the places of it that an index names, and keys in whose order they
 -- stand.
 use Rattle.std.specs.Prelude.{◌≡◌, ℕ, ◌+◌, ◌-◌, ◌*◌, ◌%◌, ◌<◌, ◌≤◌, ◌^◌, ℤ, pos}
-use Rattle.std.specs.Prelude.{◌+ℤ◌, ◌-ℤ◌, Bool, true, false}
+use Rattle.std.specs.Prelude.{negsuc, ◌+ℤ◌, ◌-ℤ◌, ◌≤ℤ◌, Bool, true, false}
 use Rattle.std.specs.Prelude.{List, map, Option, Some, None, option_map}
 use Rattle.std.specs.List.{range_with_len}
 use Rattle.awk_lanes.specs.Column.{Column}
@@ -30,28 +30,42 @@ cells_from c j start n = map (λ k. cell_at c j (start + k)) (range_with_len 0 n
 abbrev pub cells_of_part : Column → Option Column → Column → ℕ → List (Option ℤ)
 cells_of_part c j o i = cells_from c j (place_at o i) (place_at o (i + 1) - place_at o i)
 
+-- a number of 64 bits, or none
+abbrev pub IsNear : Option ℤ → Type 0
+IsNear None = Unit {0}
+IsNear (Some z) = (negsuc 9223372036854775807 ≤ℤ z) × (z ≤ℤ pos 18446744073709551615)
+
 -- ---- keys
 
--- a number of 64 bits above 0, rising with it or falling, and above all of them where there is none
-abbrev pub rank : Bool → Option ℤ → ℕ
-rank up None = 73786976294838206464
-rank true (Some z) = nat_of (pos 36893488147419103232 +ℤ z)
-rank false (Some z) = nat_of (pos 36893488147419103232 -ℤ z)
+-- a number of 64 bits as one above 0, rising with it or falling
+abbrev pub rank : Bool → ℤ → ℕ
+rank true z = nat_of (pos 36893488147419103232 +ℤ z)
+rank false z = nat_of (pos 36893488147419103232 -ℤ z)
 
--- no cell of the first n has a lower rank than the least or a higher one than the most
-pub record AreRanked (up : Bool) (c : Column) (j : Option Column) (n least most : ℕ)
+-- a cell's number, if it has one, is of 64 bits, and its rank from the least on and below the last
+abbrev pub IsRanked : Bool → ℕ → ℕ → Option ℤ → Type 0
+IsRanked up least last None = Unit {0}
+IsRanked up least last (Some z) =
+    IsNear (Some z) × (least ≤ rank up z) × (rank up z < last)
+
+-- so do the first n cells
+pub record AreRanked (up : Bool) (c : Column) (j : Option Column) (n least last : ℕ)
     : Type 0 where
-  pub above : (i : ℕ) → i < n → least ≤ rank up (cell_at c j i)
-  pub below : (i : ℕ) → i < n → rank up (cell_at c j i) ≤ most
+  pub ranked : (i : ℕ) → i < n → IsRanked up least last (cell_at c j i)
 
--- of a cell at a place below 2 ^ 32, by how far its rank is above one that is no higher
-abbrev pub key : Bool → ℕ → Option ℤ → ℕ → ℤ
-key up least o p = pos ((rank up o - least) * 4294967296 + p)
+-- how far a cell's rank is above the least, where none has the last one
+abbrev pub height : Bool → ℕ → ℕ → Option ℤ → ℕ
+height up least last None = last - least
+height up least last (Some z) = rank up z - least
+
+-- of a cell at a place below 2 ^ 32
+abbrev pub key : Bool → ℕ → ℕ → Option ℤ → ℕ → ℤ
+key up least last o p = pos (height up least last o * 4294967296 + p)
 
 -- of n cells from a start on, each with its place among them
-abbrev pub keys_from : Bool → ℕ → Column → Option Column → ℕ → ℕ → List ℤ
-keys_from up least c j start n =
-    map (λ k. key up least (cell_at c j (start + k)) k) (range_with_len 0 n)
+abbrev pub keys_from : Bool → ℕ → ℕ → Column → Option Column → ℕ → ℕ → List ℤ
+keys_from up least last c j start n =
+    map (λ k. key up least last (cell_at c j (start + k)) k) (range_with_len 0 n)
 
 -- the place that a key tells
 abbrev pub place_of : ℤ → ℤ

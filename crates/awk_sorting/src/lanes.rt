@@ -10,8 +10,8 @@ ghost use Rattle.awk_sorting.specs.Lanes.{SortsLane};
 
 use crate::parts::sort_parts;
 use awk_lanes::{
-    Arena, Kind, Lane, NoMemory, Steps, byte_numbers, lane_of_nats, lane_of_numbers, nats_of,
-    numbers_of,
+    Arena, Index, Kind, Lane, NoMemory, Steps, byte_numbers, index_of, lane_of_nats,
+    lane_of_numbers, nats_of, numbers_of,
 };
 use std::alloc::Global;
 use std::sync::ledger::Ledger;
@@ -46,7 +46,7 @@ fn small_numbers<L: Ledger>(
 fn small_in_order<'a, L: Ledger>(
     alloc: Global,
     lane: &Lane,
-    offsets: &Lane,
+    offsets: &Index,
     n: u64,
     up: bool,
     arena: &'a Arena,
@@ -58,7 +58,7 @@ fn small_in_order<'a, L: Ledger>(
 {
     let _ = lane.len();
     let mut numbers = small_numbers(alloc, lane, steps)?;
-    sort_parts(&mut numbers, offsets, n, up, steps);
+    sort_parts(&mut numbers, offsets, n, up);
     lane_of_numbers(lane.kind(), &numbers, arena)
 }
 
@@ -66,7 +66,7 @@ fn small_in_order<'a, L: Ledger>(
 fn great_in_order<'a, L: Ledger>(
     alloc: Global,
     lane: &Lane,
-    offsets: &Lane,
+    offsets: &Index,
     n: u64,
     up: bool,
     arena: &'a Arena,
@@ -78,7 +78,7 @@ fn great_in_order<'a, L: Ledger>(
 {
     let _ = lane.len();
     let mut numbers = nats_of(alloc, lane, steps)?;
-    sort_parts(&mut numbers, offsets, n, up, steps);
+    sort_parts(&mut numbers, offsets, n, up);
     lane_of_nats(lane.kind(), &numbers, arena)
 }
 
@@ -86,7 +86,7 @@ fn great_in_order<'a, L: Ledger>(
 pub fn lane_in_order<'a, L: Ledger>(
     alloc: Global,
     lane: &Lane,
-    offsets: &Lane,
+    offsets: &Lane<'a>,
     n: u64,
     up: bool,
     arena: &'a Arena,
@@ -95,9 +95,10 @@ pub fn lane_in_order<'a, L: Ledger>(
     requires rising { AreRising offsets.now n (size_of lane.now) }
     ensures { IfOk result (SortsLane up offsets.now n lane.now) }
 {
+    let ends = index_of(alloc, offsets, arena, steps)?;
     if lane.kind() == Kind::U64 {
-        great_in_order(alloc, lane, offsets, n, up, arena, steps)
+        great_in_order(alloc, lane, &ends, n, up, arena, steps)
     } else {
-        small_in_order(alloc, lane, offsets, n, up, arena, steps)
+        small_in_order(alloc, lane, &ends, n, up, arena, steps)
     }
 }

@@ -8,8 +8,10 @@ mod cells;
 mod keys;
 mod lanes;
 mod number;
+mod offsets;
 mod parts;
 mod places;
+mod ranks;
 
 pub use cells::Cells;
 pub use lanes::lane_in_order;

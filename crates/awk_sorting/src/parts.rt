@@ -6,8 +6,8 @@ ghost use Rattle.awk_sorting.specs.Parts.{SortsPart, SortsParts};
 ghost use Rattle.awk_parts.specs.Parts.{AreRising};
 
 use crate::number::Number;
-use awk_lanes::{Lane, Steps, place_in};
-use std::sync::ledger::Ledger;
+use crate::offsets::offset_at;
+use awk_lanes::Index;
 
 /// Numbers brought in order, rising or falling.
 fn sort_slice<N: Number>(numbers: &mut [N], up: bool)
@@ -30,33 +30,21 @@ fn sort_part<N: Number>(numbers: &mut [N], start: usize, stop: usize, up: bool)
 }
 
 /// Each of n parts of a slice brought in order.
-fn sort_slice_parts<N: Number, L: Ledger>(
-    numbers: &mut [N],
-    offsets: &Lane,
-    n: u64,
-    up: bool,
-    steps: &mut Steps<L>,
-)
+fn sort_slice_parts<N: Number>(numbers: &mut [N], offsets: &Index, n: u64, up: bool)
     requires rising { AreRising offsets.now n (length numbers.old) }
     ensures { SortsParts N.number up offsets.now n numbers.old numbers.new }
 {
     for i in 0..n {
-        let start = place_in(offsets, i, steps) as usize;
-        let stop = place_in(offsets, i + 1, steps) as usize;
+        let start = offset_at(offsets, i) as usize;
+        let stop = offset_at(offsets, i + 1) as usize;
         sort_part(numbers, start, stop, up);
     }
 }
 
 /// Each of n parts brought in order, by their offsets.
-pub(crate) fn sort_parts<N: Number, L: Ledger>(
-    numbers: &mut Vec<N>,
-    offsets: &Lane,
-    n: u64,
-    up: bool,
-    steps: &mut Steps<L>,
-)
+pub(crate) fn sort_parts<N: Number>(numbers: &mut Vec<N>, offsets: &Index, n: u64, up: bool)
     requires rising { AreRising offsets.now n (length numbers.old.items) }
     ensures { SortsParts N.number up offsets.now n numbers.old.items numbers.new.items }
 {
-    sort_slice_parts(numbers, offsets, n, up, steps);
+    sort_slice_parts(numbers, offsets, n, up);
 }
