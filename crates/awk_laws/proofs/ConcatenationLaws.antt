@@ -23,7 +23,7 @@ use Rattle.awk_unify.specs.Carries.{carry_at}
 use Rattle.awk_unify.specs.Carry.{Carry, carried, keep}
 use Rattle.awk_types.proofs.SameTypeLaws.{same_type-refl}
 use Rattle.std.proofs.lemmas.List.{append-nil, append_assoc}
-use Rattle.awk_unify.specs.Unify.{is_unknown}
+use Rattle.awk_types.specs.Predicates.{is_unknown}
 use Rattle.awk_unify.specs.Early.{as_it_is, early}
 use Rattle.awk_unify.specs.Unification.{Unification}
 use Rattle.awk_unify.specs.Unify.{unification}

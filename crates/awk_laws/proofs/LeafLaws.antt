@@ -39,7 +39,7 @@ use Rattle.awk_leaves.specs.declared.leaf_type.LeafType.{LeafType}
 use Rattle.awk_leaves.specs.declared.leaf_type.LeafType.TheVariants.{Of}
 use Rattle.awk_leaves.specs.declared.operation.Binary.TheVariants.{Calculate, Test}
 use Rattle.awk_leaves.specs.declared.operation.Unary.TheVariants.{Not, Negate}
-use Rattle.awk_laws.specs.Leaves.{opposite, on_result, IsBelowDivisor, IsDivision, LeafLaws}
+use Rattle.awk_laws.specs.Leaves.{opposite, on_result, IsBelowDivisor, IsDivision}
 
 -- ---- choices
 
@@ -47,7 +47,7 @@ either : (b : Bool) (x : Value) → (if b then x else x) ≡ x
 either true x = refl
 either false x = refl
 
-choice_is : (c x : Value) → is_null c ≡ false → chosen_at c x x ≡ x
+pub choice_is : (c x : Value) → is_null c ≡ false → chosen_at c x x ≡ x
 choice_is c x h =
     ap (λ b. if b then null else if is_nonzero (number_of c) then x else x) h
     ∙ either (is_nonzero (number_of c)) x
@@ -60,7 +60,7 @@ chosen_are (c ∷ cs) [] e h = absurd (omega (arith, e))
 chosen_are (c ∷ cs) (x ∷ xs) e h =
     ap₂ (λ y ys. y ∷ ys) (choice_is c x h.0) (chosen_are cs xs (omega (arith, e)) h.1)
 
-choice_type_is : (p : Primitive) → choice_judged (Of primitive.Bool) (Of p) (Of p) ≡ Ok p
+pub choice_type_is : (p : Primitive) → choice_judged (Of primitive.Bool) (Of p) (Of p) ≡ Ok p
 choice_type_is primitive.Bool = refl
 choice_type_is primitive.I8 = refl
 choice_type_is primitive.I16 = refl
@@ -71,7 +71,7 @@ choice_type_is primitive.U16 = refl
 choice_type_is primitive.U32 = refl
 choice_type_is primitive.U64 = refl
 
-choices_are : (p : Primitive) (cs xs : List Value) → length cs ≡ length xs
+pub choices_are : (p : Primitive) (cs xs : List Value) → length cs ≡ length xs
     → AllByRecursion (λ c. is_null c ≡ false) cs
     → choice_values (Of primitive.Bool) (Of p) (Of p) cs xs xs ≡ Ok xs
 choices_are p cs xs e h =
@@ -93,14 +93,14 @@ opposite_holds compare.Gt a b = grind (arith, ints)
 opposite_holds compare.Ge a b = grind (arith, ints)
 
 -- what a comparison gives, which is never a fault
-abbrev tested : Compare → Value → Value → Value
+abbrev pub tested : Compare → Value → Value → Value
 tested how x y =
     if is_null x || is_null y then null else truth (holds how (number_of x) (number_of y))
 
 abbrev value_by : Bool → Value → Value → Result Value Fault
 value_by b v w = if b then Ok v else Ok w
 
-test_is : (how : Compare) (p : Primitive) (x y : Value)
+pub test_is : (how : Compare) (p : Primitive) (x y : Value)
     → binary_at (Test how) p x y ≡ Ok (tested how x y)
 test_is how p x y = go (is_null x || is_null y)
   where
@@ -114,7 +114,7 @@ not_truth : (b : Bool) → unary_at Not primitive.Bool (truth b) ≡ Ok (truth (
 not_truth true = refl
 not_truth false = refl
 
-not_tested : (how : Compare) (x y : Value)
+pub not_tested : (how : Compare) (x y : Value)
     → unary_at Not primitive.Bool (tested how x y) ≡ Ok (tested (opposite how) x y)
 not_tested how x y = go (is_null x || is_null y)
   where
@@ -127,7 +127,7 @@ not_tested how x y = go (is_null x || is_null y)
         not_truth (holds how (number_of x) (number_of y))
         ∙ ap (λ c. Ok (truth c)) (opposite_holds how (number_of x) (number_of y))
 
-negation_is : (how : Compare) (p : Primitive) (x y : Value)
+pub negation_is : (how : Compare) (p : Primitive) (x y : Value)
     → on_result (unary_at Not primitive.Bool) (binary_at (Test how) p x y)
     ≡ binary_at (Test (opposite how)) p x y
 negation_is how p x y =
@@ -150,7 +150,7 @@ all_after h t u e [] ys = refl
 all_after h t u e (x ∷ xs) [] = refl
 all_after h t u e (x ∷ xs) (y ∷ ys) = ap₂ first_fault_or (e x y) (all_after h t u e xs ys)
 
-negations_are : (how : Compare) (a b : LeafType) (xs ys : List Value)
+pub negations_are : (how : Compare) (a b : LeafType) (xs ys : List Value)
     → on_result (unary_values Not (Of primitive.Bool)) (binary_values (Test how) a b xs ys)
     ≡ binary_values (Test (opposite how)) a b xs ys
 negations_are how a b xs ys = go (judged (comparison_type a b) (literals_overflow a b))
@@ -228,7 +228,7 @@ exact_told true lo hi z q e = absurd (cc)
 exact_told false lo hi z q e =
     (refl, within_told lo hi z q (number_told (within lo hi z) q e))
 
-division_is : (p : Primitive) (a b q r : ℤ)
+pub division_is : (p : Primitive) (a b q r : ℤ)
     → binary_at (Calculate FloorDiv) p (int a) (int b) ≡ Ok (int q)
     → binary_at (Calculate Rem) p (int a) (int b) ≡ Ok (int r) → IsDivision a b q r
 division_is p a b q r e f =
@@ -273,7 +273,7 @@ negative_number p z y h e = go (int_lt (neg_ℤ z) lo || int_lt hi (neg_ℤ z)) 
         (twice_negative z)
         ∙ ap number_or_fault (inside (least_number p) (greatest_number p) z h.0 h.1)
 
-no_truth : (p : Primitive) (b : Bool) → is_whole p ≡ true → Has (leaf p) (truth b) → ⊥
+pub no_truth : (p : Primitive) (b : Bool) → is_whole p ≡ true → Has (leaf p) (truth b) → ⊥
 no_truth primitive.Bool b w h = absurd (true≢false (sym w))
 no_truth primitive.I8 b w h = h
 no_truth primitive.I16 b w h = h
@@ -284,7 +284,7 @@ no_truth primitive.U16 b w h = h
 no_truth primitive.U32 b w h = h
 no_truth primitive.U64 b w h = h
 
-negative_is : (p : Primitive) (x y : Value) → is_whole p ≡ true → Has (opt (leaf p)) x
+pub negative_is : (p : Primitive) (x y : Value) → is_whole p ≡ true → Has (opt (leaf p)) x
     → unary_at Negate p x ≡ Ok y → unary_at Negate p y ≡ Ok x
 negative_is p null y w h e =
     let same : null ≡ y = cc in
@@ -297,13 +297,13 @@ negative_is p (alt k v) y w h e = absurd h
 
 -- ---- operands that change places
 
-or_turned : (b c : Bool) → (b || c) ≡ (c || b)
+pub or_turned : (b c : Bool) → (b || c) ≡ (c || b)
 or_turned true true = refl
 or_turned true false = refl
 or_turned false true = refl
 or_turned false false = refl
 
-promotion_turned : (p q : Primitive) → promotion p q ≡ promotion q p
+pub promotion_turned : (p q : Primitive) → promotion p q ≡ promotion q p
 promotion_turned primitive.Bool primitive.Bool = refl
 promotion_turned primitive.Bool primitive.I8 = refl
 promotion_turned primitive.Bool primitive.I16 = refl
@@ -395,13 +395,13 @@ zipped_turned f g h (x ∷ xs) (y ∷ ys) = ap₂ (λ r rs. r ∷ rs) (h x y) (z
 
 module _ (op : Arith)
     (turned : (lo hi a b : ℤ) → result op lo hi a b ≡ result op lo hi b a) where
-  turned_at : (p : Primitive) (x y : Value)
+  pub turned_at : (p : Primitive) (x y : Value)
       → binary_at (Calculate op) p x y ≡ binary_at (Calculate op) p y x
   turned_at p x y =
       ap₂ (λ b r. if b then Ok null else number_or_fault r) (or_turned (is_null x) (is_null y))
       (turned (least_number p) (greatest_number p) (number_of x) (number_of y))
 
-  turned_columns : (a b : LeafType) (xs ys : List Value)
+  pub turned_columns : (a b : LeafType) (xs ys : List Value)
       → binary_values (Calculate op) a b xs ys ≡ binary_values (Calculate op) b a ys xs
   turned_columns a b xs ys =
       ap (λ j. in_judged j (λ p. all_values (zip2 (binary_at (Calculate op) p) xs ys)))
@@ -417,22 +417,8 @@ module _ (op : Arith)
           ap all_values (zipped_turned (binary_at (Calculate op) p) (binary_at (Calculate op) p)
           (turned_at p) xs ys)
 
-sum_turned : (lo hi a b : ℤ) → result Add lo hi a b ≡ result Add lo hi b a
+pub sum_turned : (lo hi a b : ℤ) → result Add lo hi a b ≡ result Add lo hi b a
 sum_turned lo hi a b = ap (within lo hi) (+ℤ_comm a b)
 
-product_turned : (lo hi a b : ℤ) → result Mul lo hi a b ≡ result Mul lo hi b a
+pub product_turned : (lo hi a b : ℤ) → result Mul lo hi a b ≡ result Mul lo hi b a
 product_turned lo hi a b = ap (within lo hi) (*ℤ_comm a b)
-
-pub leaves_law : LeafLaws
-leaves_law = record {
-  choice = choice_is;
-  choices = choices_are;
-  negation = negation_is;
-  negations = negations_are;
-  division = division_is;
-  negative = negative_is;
-  sum = turned_at Add sum_turned;
-  product = turned_at Mul product_turned;
-  sums = turned_columns Add sum_turned;
-  products = turned_columns Mul product_turned;
-}

@@ -12,7 +12,7 @@ use Rattle.awk_types.specs.Datum.{Datum, arr}
 use Rattle.awk_types.specs.Gives.{refused_or, ◌or◌}
 use Rattle.awk_types.specs.ItemLimit.{item_limit, too_many}
 use Rattle.awk_types.specs.Predicates.{is_leaf}
-use Rattle.awk_types.specs.Simple.{present, simple_value}
+use Rattle.awk_types.specs.Simple.{IsSimple, present, simple_value}
 use Rattle.awk_types.specs.Value.{Value, int, value_list, values_from}
 use Rattle.awk_types.specs.declared.fault.Fault.{Fault}
 use Rattle.awk_types.specs.declared.fault.Fault.TheVariants as fault
@@ -27,9 +27,10 @@ use Rattle.awk_sorting.proofs.InsertLaws.{AllBelow}
 use Rattle.awk_order.specs.Order.{item_order, items_in_order}
 use Rattle.awk_order.specs.Sort.{place_items, sort_of, argsort_of}
 use Rattle.awk_order.proofs.ValueLaws.{leaf_simple_value}
-use Rattle.awk_laws.specs.Orders.{OrderLaws}
-use Rattle.awk_laws.proofs.ListOrders.{same_items_are, places_are, length-sorted, length-places}
-use Rattle.awk_laws.proofs.ListOrders.{in_order_by, never_first, pick_is, places_within, twice_is}
+use Rattle.awk_laws.specs.Innermost.{datum_type, innermost_lists}
+use Rattle.awk_laws.proofs.InnermostLists.{nested}
+use Rattle.awk_laws.proofs.ListOrders.{length-sorted, length-places}
+use Rattle.awk_laws.proofs.ListOrders.{pick_is, places_within, twice_is}
 
 -- ---- whole arrays of leaves
 
@@ -128,7 +129,7 @@ module _ (up : Bool) (t : DataType) (vs : List Value) (l : is_leaf (present t) �
       ∙ ap (λ o. refused_or o (arr t ws)) k.0
       ∙ ap Ok same
 
-picks_all : (up : Bool) (t : DataType) (vs : List Value) (places : Datum)
+pub picks_all : (up : Bool) (t : DataType) (vs : List Value) (places : Datum)
     → is_leaf (present t) ≡ true → argsort_of up (arr t vs) ≡ Ok places
     → take_of (arr t vs) places ≡ sort_of up (arr t vs)
 picks_all up unknown vs places l e =
@@ -151,7 +152,7 @@ picks_all up (opt (tup ts)) vs places l e = absurd (true≢false (sym l))
 picks_all up (opt (opt t)) vs places l e = absurd (true≢false (sym l))
 picks_all up (opt (uni ts)) vs places l e = absurd (true≢false (sym l))
 
-again_all : (up : Bool) (t : DataType) (vs : List Value) (sorted : Datum)
+pub again_all : (up : Bool) (t : DataType) (vs : List Value) (sorted : Datum)
     → is_leaf (present t) ≡ true → sort_of up (arr t vs) ≡ Ok sorted
     → sort_of up sorted ≡ Ok sorted
 again_all up unknown vs sorted l e =
@@ -174,13 +175,17 @@ again_all up (opt (tup ts)) vs sorted l e = absurd (true≢false (sym l))
 again_all up (opt (opt t)) vs sorted l e = absurd (true≢false (sym l))
 again_all up (opt (uni ts)) vs sorted l e = absurd (true≢false (sym l))
 
-pub orders_law : OrderLaws
-orders_law = record {
-  same_items = same_items_are;
-  in_order = λ up vs. in_order_by up (items_in_order up vs) (never_first up vs);
-  places = places_are;
-  pick = pick_is;
-  picks = picks_all;
-  twice = twice_is;
-  again = again_all;
-}
+-- ---- any nesting
+
+pub nested_sorted : (up : Bool) (d sorted : Datum) → IsSimple (datum_type d)
+    → sort_of up d ≡ Ok sorted
+    → innermost_lists sorted ≡ map (items_in_order up) (innermost_lists d)
+nested_sorted up d sorted s e =
+    nested (λ t. t) (items_in_order up) (λ t l. l) (λ t l. l)
+    (λ t x l. leaf_simple_value t x l) d sorted s e
+
+pub nested_argsorted : (up : Bool) (d places : Datum) → IsSimple (datum_type d)
+    → argsort_of up d ≡ Ok places
+    → innermost_lists places ≡ map (place_items up) (innermost_lists d)
+nested_argsorted up d places s e =
+    nested (λ t. leaf I64) (place_items up) (λ t l. refl) (λ t l. tt) (λ t x l. refl) d places s e

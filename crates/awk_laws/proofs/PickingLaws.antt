@@ -35,6 +35,7 @@ use Rattle.awk_laws.proofs.Places.{taken_item, IsBelow}
 use Rattle.awk_laws.proofs.PickTypes.{allowed, inside, not_outside, same_length, places_index}
 use Rattle.awk_laws.proofs.PickTypes.{kept_numbers, picked_type-places, picked_index}
 use Rattle.awk_laws.proofs.PickTypes.{picked_type-picked}
+use Rattle.awk_laws.proofs.Rows.{jagged_of_local_index}
 use Rattle.awk_laws.proofs.Told.{none_told}
 
 -- ---- local_index of an array
@@ -236,4 +237,5 @@ picking_laws = record {
   take_of_local_index = take_of_local_index;
   take_of_masked_places = take_of_masked_places;
   take_of_take = take_of_take;
+  jagged_of_local_index = jagged_of_local_index;
 }

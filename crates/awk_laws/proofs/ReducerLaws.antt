@@ -48,6 +48,7 @@ use Rattle.awk_laws.specs.Extremes.{IsExtreme}
 use Rattle.awk_laws.specs.Reducers.{ReducerLaws}
 use Rattle.awk_laws.proofs.ExtremeLaws.{extreme_told, extreme_item, extreme_none, number_there}
 use Rattle.awk_laws.proofs.NumberLaws.{numbers-append}
+use Rattle.awk_laws.proofs.ReducedLists.{results_are}
 use Rattle.awk_laws.proofs.ExtremeLaws.{number_is, no_numbers, placed, first_place, place_there}
 
 -- ---- sums
@@ -336,4 +337,5 @@ reducers_law = record {
   found = λ how t vs k l h e. found_is t vs l h how k (place_is how t vs k e);
   some = some_is;
   none = none_is;
+  nested = results_are;
 }

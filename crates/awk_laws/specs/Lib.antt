@@ -6,6 +6,7 @@ pub mod Nulls
 pub mod Viewing
 pub mod Leaves
 pub mod Extremes
+pub mod Innermost
 pub mod Reducers
 pub mod Choices
 pub mod Tuples

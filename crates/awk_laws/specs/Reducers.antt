@@ -7,13 +7,16 @@ use Rattle.awk_types.specs.Has.{Has}
 use Rattle.awk_types.specs.Predicates.{is_leaf, is_null}
 use Rattle.awk_types.specs.Simple.{present}
 use Rattle.awk_types.specs.Value.{Value, int, null}
-use Rattle.awk_columns.specs.Columns.{is_present, joined_items}
+use Rattle.awk_columns.specs.Columns.{is_present, joined_items, present_values}
 use Rattle.awk_numbers.specs.declared.extremes.Extreme.{Extreme}
+use Rattle.awk_pair_operands.specs.Typed.{IsTyped}
 use Rattle.awk_reduce.specs.Reduce.{reduce_of}
 use Rattle.awk_reduce.specs.Reducers.{reduced, reduced_type}
 use Rattle.awk_reduce.specs.Totals.{item_reducer, place_reducer}
+use Rattle.awk_reduce.specs.declared.reducer.Reducer.{Reducer}
 use Rattle.awk_reduce.specs.declared.reducer.Reducer.TheVariants.{Sum, Count}
 use Rattle.awk_laws.specs.Extremes.{IsExtreme, IsFirstExtreme}
+use Rattle.awk_laws.specs.Innermost.{datum_type, innermost_lists, innermost_type, leaves_in}
 
 pub record ReducerLaws : Type 0 where
   -- the sum of lists joined is the sum of their sums
@@ -48,3 +51,8 @@ pub record ReducerLaws : Type 0 where
   pub none : (how : Extreme) (t : DataType) (vs : List Value)
       → AllByRecursion (λ v. is_null v ≡ true) vs
       → (reduced (item_reducer how) t vs ≡ null) × (reduced (place_reducer how) t vs ≡ null)
+  -- of any nesting: the leaves of what is given are, in order, what the reducer gives for each
+  -- innermost list, where neither is null
+  pub nested : (how : Reducer) (d made : Datum) → IsTyped d → reduce_of how d ≡ Ok made
+      → present_values (leaves_in made)
+      ≡ present_values (map (reduced how (innermost_type (datum_type d))) (innermost_lists d))

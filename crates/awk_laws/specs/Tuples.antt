@@ -1,12 +1,13 @@
 -- Laws of tuples of the items of one list and of several: how many there are, and which.
-use Rattle.std.specs.Prelude.{◌≡◌, ℕ, ◌+◌, ◌-◌, ◌*◌, ◌≤◌, Bool, true, false, pos, List, map}
-use Rattle.std.specs.Prelude.{length, Ok}
+use Rattle.std.specs.Prelude.{◌≡◌, ℕ, ◌+◌, ◌-◌, ◌*◌, ◌<◌, ◌≤◌, Bool, true, false, pos, List}
+use Rattle.std.specs.Prelude.{map, length, get_or, Ok}
 use Rattle.std.specs.List.{AllByRecursion, Contains}
 use Rattle.awk_types.specs.DataType.{DataType}
 use Rattle.awk_types.specs.Datum.{Datum, arr}
-use Rattle.awk_types.specs.Value.{Value}
+use Rattle.awk_types.specs.Value.{Value, null}
+use Rattle.awk_columns.specs.Columns.{is_present, list_items}
 use Rattle.awk_places.specs.Places.{rising_places, place_count}
-use Rattle.awk_merge.specs.Concatenate.{operand_items}
+use Rattle.awk_merge.specs.Concatenate.{operand_items, row_of}
 use Rattle.awk_combi.specs.Combinations.{tuples}
 use Rattle.awk_cartesian.specs.Cartesian.{tuples_of, cartesian_of}
 use Rattle.awk_laws.specs.Choices.{binomial, factorial, IsChoice, comes_before, AreInOrder}
@@ -41,3 +42,8 @@ pub record TupleLaws : Type 0 where
   pub products : (places : Bool) (ds : List Datum) (t : DataType) (vs : List Value)
       → cartesian_of (pos 0) places ds ≡ Ok (arr t vs)
       → length vs ≡ place_count (map (λ d. length (operand_items d)) ds)
+  -- and of each row of lists, where none of them is null
+  pub products_of_rows : (places : Bool) (ds : List Datum) (t : DataType) (vs : List Value)
+      → cartesian_of (pos 1) places ds ≡ Ok (arr t vs) → (i : ℕ) → i < length vs
+      → is_present (get_or vs i null) ≡ true → length (list_items (get_or vs i null))
+      ≡ place_count (map (λ v. length (list_items v)) (row_of (map operand_items ds) i))
