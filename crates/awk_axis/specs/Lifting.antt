@@ -20,7 +20,7 @@ use Rattle.awk_axis.specs.declared.place.Reach.{Reach}
 use Rattle.awk_axis.specs.declared.place.Reach.TheVariants.{Axis, Innermost}
 use Rattle.awk_axis.specs.Causes.{first_spoil}
 use Rattle.awk_axis.specs.ListFunction.{ListFunction, made_type, given_type, given_value}
-use Rattle.awk_axis.specs.Reach.{is_leaf}
+use Rattle.awk_types.specs.Predicates.{is_leaf}
 use Rattle.awk_axis.specs.Lift.{lifted_type, lifted_value, refusal_at}
 use Rattle.awk_axis.specs.Spoils.{spoil_at, too_many}
 

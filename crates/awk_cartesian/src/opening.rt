@@ -2,7 +2,6 @@
 ghost use Rattle.std.specs.Prelude.{◌≡◌, ◌∷◌, [], true, false, Some, IfOk, is_some};
 ghost use Rattle.awk_types.specs.Simple.{is_option};
 ghost use Rattle.awk_types.specs.Value.{list, values_from};
-ghost use Rattle.awk_types.specs.View.{typ_of};
 ghost use Rattle.awk_lanes.specs.Places.{size_of};
 ghost use Rattle.awk_layout.specs.Datum.{datum_of};
 ghost use Rattle.awk_layout.specs.Typing.{array_type, array_items};
@@ -24,7 +23,7 @@ use awk_lanes::{
 };
 use awk_layout::{Array, Datum};
 use awk_merge::Axis;
-use awk_types::{NoMemory, Typ, is_unknown};
+use awk_types::{NoMemory, is_optional, is_unknown};
 use std::alloc::Global;
 use std::sync::ledger::Ledger;
 
@@ -260,13 +259,6 @@ fn indexed_source<'a, L: Ledger>(
     lists_source(alloc, index, n, &lists, arena, steps)
 }
 
-/// Whether the items of a type may be null.
-fn is_option(t: &Typ) -> bool
-    ensures { result ≡ is_option (typ_of t.now) }
-{
-    matches!(t, Typ::Opt(_))
-}
-
 /// The rows of an array, each a list of its own.
 fn rows_source<'a, L: Ledger>(
     alloc: Global,
@@ -279,7 +271,7 @@ fn rows_source<'a, L: Ledger>(
         IfOk result (IsOpened (array_items x.now) (rows_item t) (is_option t)) }
 {
     let n = x.len();
-    if !is_option(x.typ()) {
+    if !is_optional(x.typ()) {
         return indexed_source(alloc, None, n, x, arena, steps);
     }
     let rows = opened_option(alloc, x, arena, steps)?;

@@ -28,8 +28,7 @@ use awk_lanes::{Arena, Kind, Lane, LaneMaker, Num, Steps, number, option_place_i
 use awk_layout::{Array, Datum, Node, Operand, kind_of};
 use awk_merge_columns::merge;
 use awk_merge_sides::Sides;
-use awk_nulls::is_optional;
-use awk_types::{Fault, NoMemory, Prim, Typ, copy_type};
+use awk_types::{Fault, NoMemory, Prim, Typ, copy_type, is_optional};
 use awk_unify::{Lift, unify, unify_unlimited};
 use std::alloc::{AllocError, Global};
 use std::marker::Model;

@@ -7,14 +7,8 @@ ghost use Rattle.awk_types.specs.WholeNumbers as whole;
 ghost use Rattle.awk_hist.specs.Bins as bins;
 ghost use Rattle.awk_hist.specs.Hist as spec;
 
-use awk_types::{Fields, Name, Names, NoMemory, Prim, Typ, Typs};
+use awk_types::{Fields, Name, Names, NoMemory, Prim, Typ, Typs, is_leaf};
 use std::alloc::Global;
-
-fn is_leaf(t: &Typ) -> bool
-    ensures { result ≡ predicates.is_leaf (typ_of t.now) }
-{
-    matches!(t, Typ::Unknown | Typ::Leaf(_))
-}
 
 /// Whether items of a type are leaves, optional or not.
 pub(crate) fn are_leaves(t: &Typ) -> bool

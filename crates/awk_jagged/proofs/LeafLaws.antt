@@ -25,7 +25,8 @@ use Rattle.awk_columns.specs.Lists.{Listed}
 use Rattle.awk_select.proofs.Lists.{each_of, each_of-more, map-map}
 use Rattle.awk_select.proofs.PickedPlaces.{IsThere, optional-lane, index-lane, take_place-below}
 use Rattle.awk_select.proofs.PickedPlaces.{take_places-there, has-at}
-use Rattle.awk_select.specs.Cells.{is_leaf, IsBelow, place_number, places_lane}
+use Rattle.awk_select.specs.Cells.{IsBelow, place_number, places_lane}
+use Rattle.awk_types.specs.Predicates.{is_leaf}
 use Rattle.awk_select.specs.Picks.{picked, is_mask, mask_place, mask_places, take_place}
 use Rattle.awk_select.specs.Picks.{take_places, is_outside}
 use Rattle.awk_jagged_places.specs.Leaves.{take_in, take_at, take_numbers, is_outside_at, mask_at}

@@ -8,7 +8,7 @@ use Rattle.awk_types.specs.Simple.{present, is_option}
 use Rattle.awk_types.specs.Value.{Value}
 use Rattle.awk_types.specs.declared.primitive.Primitive.TheVariants.{Bool as Truths, I8, I16, I32}
 use Rattle.awk_types.specs.declared.primitive.Primitive.TheVariants.{I64, U8, U16, U32, U64}
-use Rattle.awk_select.specs.Cells.{is_leaf}
+use Rattle.awk_types.specs.Predicates.{is_leaf}
 use Rattle.awk_select.specs.Picks.{picked, is_mask, is_index, mask_places, take_places, is_outside}
 use Rattle.awk_jagged.specs.Jagged.{are_uneven, lacks_places, picked_items, size_refused}
 

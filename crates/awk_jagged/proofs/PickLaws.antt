@@ -21,7 +21,7 @@ use Rattle.awk_layout.specs.Valid.{len}
 use Rattle.awk_gather.specs.Arrays.{pick}
 use Rattle.awk_columns.specs.Columns.{joined_items}
 use Rattle.awk_columns.specs.Lists.{Listed}
-use Rattle.awk_select.specs.Cells.{is_leaf}
+use Rattle.awk_types.specs.Predicates.{is_leaf}
 use Rattle.awk_select.specs.Picks.{is_mask}
 use Rattle.awk_jagged.specs.Jagged.{is_jagged, picked_items}
 use Rattle.awk_jagged_rows.specs.RowTypes.{rows_of}

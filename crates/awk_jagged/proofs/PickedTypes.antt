@@ -4,7 +4,7 @@ use Rattle.std.specs.Prelude.{is_some, if◌then◌else◌}
 use Rattle.std.proofs.Common.{ap, sym, ◌∙◌, true≢false}
 use Rattle.awk_types.specs.DataType.{DataType, unknown, leaf, var, reg, rec, tup, opt, uni}
 use Rattle.awk_types.specs.Simple.{simple, option_if, present, is_option, IsSimple}
-use Rattle.awk_select.specs.Cells.{is_leaf}
+use Rattle.awk_types.specs.Predicates.{is_leaf}
 use Rattle.awk_jagged.specs.Jagged.{pick_type, rows_type, is_jagged}
 use Rattle.awk_jagged_rows.specs.RowTypes.{rows_of}
 use Rattle.awk_jagged.specs.Judged.{picks}

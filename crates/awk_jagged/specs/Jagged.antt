@@ -12,6 +12,7 @@ use Rattle.awk_types.specs.ItemLimit.{too_many}
 use Rattle.awk_types.specs.declared.fault.Fault.{Fault}
 use Rattle.awk_types.specs.declared.fault.Fault.TheVariants.{WrongType, Lengths, Index}
 use Rattle.awk_types.specs.declared.primitive.Primitive.TheVariants.{Bool as Truths}
+use Rattle.awk_types.specs.Predicates.{is_list}
 use Rattle.awk_columns.specs.Columns.{joined_items}
 use Rattle.awk_jagged_rows.specs.RowTypes.{rows_of}
 use Rattle.awk_select.specs.Picks.{picked, mask_places, take_places, is_outside, limit_refused}
@@ -33,12 +34,6 @@ pick_type (opt u) t = option_map opt (pick_type u t)
 pick_type (rec ns us) t = None
 pick_type (tup us) t = None
 pick_type (uni us) t = None
-
--- whether items are lists, optional or not
-abbrev pub is_list : DataType → Bool
-is_list (var u) = true
-is_list (reg n u) = true
-is_list u = false
 
 abbrev pub is_jagged : DataType → Bool
 is_jagged u = is_list (present u)

@@ -5,19 +5,18 @@ ghost use Rattle.awk_lanes.specs.Places.{size_of, IsIndex, IsIndexKind, IsOption
 ghost use Rattle.awk_lanes.specs.declared.kind.Kind.TheVariants as Kinds;
 ghost use Rattle.awk_layout.specs.Typing.{array_type};
 ghost use Rattle.awk_layout.specs.Valid.{len};
-ghost use Rattle.awk_select.specs.Cells.{is_leaf, AreCells};
+ghost use Rattle.awk_select.specs.Cells.{AreCells};
+ghost use Rattle.awk_types.specs.Predicates.{is_leaf};
 ghost use Rattle.awk_select.specs.Picks as picks;
 ghost use Rattle.awk_jagged_places.specs.Leaves.{AreLeaves, take_numbers, mask_numbers};
 ghost use Rattle.awk_jagged.specs.PickedAt.{ArePlacesOr, ArePicked, AreWithinOr, IsPickedAt};
 ghost use Rattle.awk_jagged.specs.Outcomes.{IsOutcomeOf};
 ghost use Rattle.awk_jagged_rows.specs.Rows.{AreAlike};
 
-use awk_bounds::Bounds;
-use awk_columns::Lists;
+use awk_columns::{Bounds, Lists};
 use awk_gather::{gather, gather_opt};
-use awk_index::index_of;
 use awk_jagged_places::{Kept, Sparse, Taken, Values, lengths_differ, put_lane, truths_of};
-use awk_lanes::{Arena, Kind, Lane, Steps, offsets_within};
+use awk_lanes::{Arena, Kind, Lane, Steps, index_of, offsets_within};
 use awk_layout::{Array, Node};
 use awk_select::{Cells, cells_of, is_mask};
 use awk_types::{ITEM_LIMIT, NoMemory, is_optional};

@@ -38,7 +38,8 @@ use Rattle.awk_columns.specs.Opened.{items_at, OpensLists, OpensOption, OpensNot
 use Rattle.awk_columns.specs.declared.lists.Joined.{Joined}
 use Rattle.awk_columns.specs.declared.lists.Joined.TheVariants.{TooMany, Lists}
 use Rattle.awk_columns.proofs.ArrayLaws.{lists-inner}
-use Rattle.awk_lists.specs.Flatten.{is_list, item_type}
+use Rattle.awk_lists.specs.Flatten.{item_type}
+use Rattle.awk_types.specs.Predicates.{is_list_or_unknown}
 use Rattle.awk_lists.specs.Listed.{items_before, present_lane, AreEnds}
 use Rattle.awk_lists.specs.Listed.{IsListed}
 use Rattle.awk_lists.proofs.JoinedItems.{items_before-next}
@@ -161,7 +162,7 @@ no_items x e = empty_list (array_items x) (length-array_items x ∙ e)
 
 -- ---- options
 
-pub list_not_option : (t : DataType) → is_list t ≡ true → is_option t ≡ false
+pub list_not_option : (t : DataType) → is_list_or_unknown t ≡ true → is_option t ≡ false
 list_not_option unknown e = refl
 list_not_option (leaf p) e = refl
 list_not_option (var t) e = refl
@@ -171,7 +172,7 @@ list_not_option (tup ts) e = refl
 list_not_option (uni ts) e = refl
 list_not_option (opt t) e = cc
 
-pub list_present : (t : DataType) → is_list t ≡ true → present t ≡ t
+pub list_present : (t : DataType) → is_list_or_unknown t ≡ true → present t ≡ t
 list_present unknown e = refl
 list_present (leaf p) e = refl
 list_present (var t) e = refl

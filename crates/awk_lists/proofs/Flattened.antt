@@ -34,7 +34,8 @@ use Rattle.awk_axis.specs.Spoils.{too_many}
 use Rattle.awk_axis.specs.declared.causes.Refusal.TheVariants as refused
 use Rattle.awk_axis.specs.declared.causes.Spoil.TheVariants.{Size}
 use Rattle.awk_columns.specs.declared.lists.Joined.TheVariants.{TooMany}
-use Rattle.awk_lists.specs.Flatten.{is_list, item_type, flatten_function, flatten_of}
+use Rattle.awk_lists.specs.Flatten.{item_type, flatten_function, flatten_of}
+use Rattle.awk_types.specs.Predicates.{is_list_or_unknown}
 use Rattle.awk_lists.specs.Listed.{items_before, AreListed, IsListed}
 use Rattle.awk_lists.proofs.Ends.{rising_offsets, joined_at}
 use Rattle.awk_lists.proofs.JoinedItems.{items_before-add, items_before-mono, items_before-all}
@@ -42,8 +43,8 @@ use Rattle.awk_lists.proofs.JoinedItems.{slice-joined, run-slice, count-joined}
 use Rattle.awk_lists.proofs.Spans.{over_limit, within_limit}
 
 -- what is accepted are lists
-pub are_lists : (t : DataType) → flatten_function.refusal t ≡ None → is_list (present t) ≡ true
-are_lists t h = go (is_list (present t)) h
+pub are_lists : (t : DataType) → flatten_function.refusal t ≡ None → is_list_or_unknown (present t) ≡ true
+are_lists t h = go (is_list_or_unknown (present t)) h
   where
     go : (b : Bool) → (if b then None else Some refused.Axis) ≡ None → b ≡ true
     go true e = refl

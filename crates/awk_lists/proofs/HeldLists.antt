@@ -35,7 +35,7 @@ use Rattle.awk_columns.specs.Columns.{present_values}
 use Rattle.awk_columns.specs.ListClass.{Class, list_type}
 use Rattle.awk_columns.specs.Opened.{OpensLists, OpensNothing, OpensOption}
 use Rattle.awk_columns.proofs.ArrayLaws.{array_items-at}
-use Rattle.awk_lists.specs.Flatten.{is_list}
+use Rattle.awk_types.specs.Predicates.{is_list_or_unknown}
 use Rattle.awk_lists.specs.Held.{holds_item, held_lists, held_at, held_counts, AreLengths, AreHeld}
 use Rattle.awk_lists.specs.Listed.{present_lane}
 use Rattle.awk_lists.proofs.Ends.{list_present, list_not_option, no_items, count_present}
@@ -265,7 +265,7 @@ module _ (x : Layout) (s t : Column) (h : AreLengths x s t) where
       ∙ ap pos (sym (length-map (first_of (held_at s t) i) (array_item x))
       ∙ ap length (first_held i p))
 
-  pub are_held : (z : Layout) → is_list (array_type x) ≡ true → IsValid z
+  pub are_held : (z : Layout) → is_list_or_unknown (array_type x) ≡ true → IsValid z
       → IsGathered x (places_lane (first_of (held_at s t) (size_of s))) z
       → AreHeld x (held_counts s t) z
   are_held z l v g =
@@ -299,13 +299,13 @@ opens_lengths class s t y x op = record {
       ∙ length-run (array_item y) (place_at s i) (place_at t i - place_at s i);
 }
 
-list_typ_is : (class : Class) (u : DataType) → is_list (list_type class u) ≡ true
+list_typ_is : (class : Class) (u : DataType) → is_list_or_unknown (list_type class u) ≡ true
 list_typ_is None u = refl
 list_typ_is (Some n) u = refl
 
 pub opens_lists : (class : Class) (s t : Column) (y x : Layout) → OpensLists class s t y x
-    → is_list (array_type x) ≡ true
-opens_lists class s t y x op = ap is_list op.typ ∙ list_typ_is class (array_type y)
+    → is_list_or_unknown (array_type x) ≡ true
+opens_lists class s t y x op = ap is_list_or_unknown op.typ ∙ list_typ_is class (array_type y)
 
 -- ---- options
 
@@ -316,7 +316,7 @@ take_held vs i = ap (λ ws. length (held_lists ws)) (take_present vs i)
     ∙ ap length (held-present (take i vs))
 
 module _ (j : Column) (y x : Layout) (c : Column) (op : OpensOption j y x)
-    (l : is_list (array_type y) ≡ true) (z : Layout) (h : AreHeld y c z) where
+    (l : is_list_or_unknown (array_type y) ≡ true) (z : Layout) (h : AreHeld y c z) where
   count_at : (i : ℕ) → i ≤ len x
       → at (present_lane j) i ≡ pos (length (present_values (take i (array_items x))))
   count_at i p =

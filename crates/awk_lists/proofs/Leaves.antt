@@ -15,7 +15,7 @@ use Rattle.awk_layout.specs.Valid.{len}
 use Rattle.awk_open.specs.Opened.{IsOpened, IsKindOf, IsListOf}
 use Rattle.awk_open.specs.declared.opening.Opened.{Opened}
 use Rattle.awk_open.specs.declared.opening.Opened.TheVariants as opened
-use Rattle.awk_axis.specs.Reach.{is_leaf}
+use Rattle.awk_types.specs.Predicates.{is_leaf}
 use Rattle.awk_lists.specs.Numbers.{AreNumbers, AreCounts}
 use Rattle.awk_types.specs.WholeNumbers.{is_numbers}
 

@@ -28,7 +28,8 @@ use Rattle.awk_axis.specs.Spoils.{too_many}
 use Rattle.awk_axis.specs.declared.causes.Spoil.TheVariants.{Size}
 use Rattle.awk_axis.specs.declared.function.Made.{Made}
 use Rattle.awk_axis.specs.declared.function.Made.TheVariants as made
-use Rattle.awk_lists.specs.Flatten.{is_list, item_type, flatten_function}
+use Rattle.awk_lists.specs.Flatten.{item_type, flatten_function}
+use Rattle.awk_types.specs.Predicates.{is_list_or_unknown}
 use Rattle.awk_lists.specs.Held.{holds_item, held_lists, AreHeld}
 use Rattle.awk_lists.specs.Lanes.{span_length, numbers_at_ends, AreListEnds}
 use Rattle.awk_lists.proofs.Ends.{list_present}
@@ -247,18 +248,18 @@ module _ (class : Class) (s t : Column) (y : Layout) (a : AreLists class s t y)
 
   -- ---- the types
 
-  same_typ : is_list (present (array_type y)) ≡ true
+  same_typ : is_list_or_unknown (present (array_type y)) ≡ true
       → item_type (present (array_type z)) ≡ item_type (present (array_type y))
   same_typ l =
       ap (λ u. item_type (present u)) h.typ
       ∙ ap item_type (list_present (present (array_type y)) l)
 
-  pub held_typ : flatten_function.refusal (array_type y) ≡ None → is_list (array_type z) ≡ true
-  held_typ r = ap is_list h.typ ∙ are_lists (array_type y) r
+  pub held_typ : flatten_function.refusal (array_type y) ≡ None → is_list_or_unknown (array_type z) ≡ true
+  held_typ r = ap is_list_or_unknown h.typ ∙ are_lists (array_type y) r
 
   -- ---- what is made
 
-  lists_given : is_list (present (array_type y)) ≡ true → (o : Column) (w : Layout)
+  lists_given : is_list_or_unknown (present (array_type y)) ≡ true → (o : Column) (w : Layout)
       → AreGiven None (item_type (present (array_type z))) (λ ws. joined_items ws)
       starts stops z o w
       → AreGiven None (item_type (present (array_type y))) (λ ws. joined_items ws) s t y o w

@@ -6,18 +6,12 @@ use Rattle.awk_types.specs.Datum.{Datum}
 use Rattle.awk_types.specs.Simple.{present}
 use Rattle.awk_types.specs.declared.fault.Fault.{Fault}
 use Rattle.awk_types.specs.declared.fault.Fault.TheVariants.{Axis}
+use Rattle.awk_types.specs.Predicates.{is_list_or_unknown}
 use Rattle.awk_columns.specs.Columns.{joined_items}
 use Rattle.awk_axis.specs.Counted.{counted}
 use Rattle.awk_axis.specs.Lifting.{lift}
 use Rattle.awk_axis.specs.ListFunction.{ListFunction, lists}
 use Rattle.awk_axis.specs.declared.causes.Refusal.TheVariants as refused
-
--- unknown counts as lists
-abbrev pub is_list : DataType → Bool
-is_list unknown = true
-is_list (var t) = true
-is_list (reg n t) = true
-is_list t = false
 
 abbrev pub item_type : DataType → DataType
 item_type (var t) = t
@@ -27,7 +21,7 @@ item_type t = t
 -- the items of all lists of a list, one after another. A null list has none.
 abbrev pub flatten_function : ListFunction
 flatten_function = record {
-  refusal = λ t. if is_list (present t) then None else Some refused.Axis;
+  refusal = λ t. if is_list_or_unknown (present t) then None else Some refused.Axis;
   giving = lists (λ class. None) (λ t. item_type (present t)) (λ t vs. joined_items vs);
   spoil = counted (λ t vs. joined_items vs);
 }

@@ -10,7 +10,7 @@ use Rattle.awk_types.specs.declared.primitive.Primitive.TheVariants.{I64}
 use Rattle.awk_layout.specs.Item.{agrees}
 use Rattle.awk_axis.specs.Lifting.{deep}
 use Rattle.awk_axis.specs.ListFunction.{ListFunction, lists}
-use Rattle.awk_axis.specs.Reach.{is_leaf}
+use Rattle.awk_types.specs.Predicates.{is_leaf}
 use Rattle.awk_axis.specs.Spoils.{too_many}
 use Rattle.awk_axis.specs.declared.causes.Refusal.TheVariants as refused
 

@@ -5,7 +5,7 @@ ghost use Rattle.awk_lanes.specs.Places.{size_of, AreSpans};
 ghost use Rattle.awk_layout.specs.Typing.{array_type};
 ghost use Rattle.awk_columns.specs.Counted.{first_of, places_lane};
 ghost use Rattle.awk_columns.specs.Opened.{OpensNothing, OpensOption};
-ghost use Rattle.awk_lists.specs.Flatten.{is_list};
+ghost use Rattle.awk_types.specs.Predicates.{is_list_or_unknown};
 ghost use Rattle.awk_lists.specs.Held.{held_at, held_counts, AreLengths, AreHeld};
 
 use crate::counting::present_counts;
@@ -106,7 +106,7 @@ fn held_among<'a, L: Ledger>(
     arena: &'a Arena,
     steps: &mut Steps<L>,
 ) -> Result<Held<'a>, NoMemory>
-    requires lists { is_list (array_type x.now) ≡ true }
+    requires lists { is_list_or_unknown (array_type x.now) ≡ true }
     requires lengths { AreLengths x.now starts.now stops.now }
     ensures { IfOk result (λ r. AreHeld x.now r.counts r.lists) }
 {
@@ -125,7 +125,7 @@ fn plain_held<'a, L: Ledger>(
     arena: &'a Arena,
     steps: &mut Steps<L>,
 ) -> Result<Held<'a>, NoMemory>
-    requires { is_list (array_type x.now) ≡ true }
+    requires { is_list_or_unknown (array_type x.now) ≡ true }
     ensures { IfOk result (λ r. AreHeld x.now r.counts r.lists) }
 {
     match open_array(alloc, x, arena, steps)? {
@@ -146,7 +146,7 @@ fn optional_held<'a, L: Ledger>(
     arena: &'a Arena,
     steps: &mut Steps<L>,
 ) -> Result<Held<'a>, NoMemory>
-    requires lists { is_list (array_type content.now) ≡ true }
+    requires lists { is_list_or_unknown (array_type content.now) ≡ true }
     requires opens { OpensOption index.now content.now x.now }
     ensures { IfOk result (λ r. AreHeld x.now r.counts r.lists) }
 {
@@ -166,7 +166,7 @@ pub(crate) fn held_of<'a, L: Ledger>(
     arena: &'a Arena,
     steps: &mut Steps<L>,
 ) -> Result<Held<'a>, NoMemory>
-    requires { is_list (present (array_type x.now)) ≡ true }
+    requires { is_list_or_unknown (present (array_type x.now)) ≡ true }
     ensures { IfOk result (λ r. AreHeld x.now r.counts r.lists) }
 {
     match open_array(alloc, x, arena, steps)? {

@@ -12,6 +12,7 @@ ghost use Rattle.awk_columns.specs.Opened.{AreLists, OpensNothing};
 ghost use Rattle.awk_columns.specs.Joined.{JoinsLists};
 ghost use Rattle.awk_axis.specs.Mapped.{IsMade};
 ghost use Rattle.awk_lists.specs.Flatten as spec;
+ghost use Rattle.awk_types.specs.Predicates as predicates;
 ghost use Rattle.awk_lists.specs.Flatten.{flatten_function, flatten_of};
 ghost use Rattle.awk_lists.specs.Held.{AreHeld};
 ghost use Rattle.awk_lists.specs.Listed.{IsListed};
@@ -23,24 +24,17 @@ use awk_columns::{Joined, Lists, Opened, join_spans, open_array};
 use awk_gather::gather_lane;
 use awk_lanes::{Arena, Kind, Lane, LaneMaker, Steps, number};
 use awk_layout::{Array, Datum};
-use awk_types::{Fault, NoMemory, Typ, copy_type};
+use awk_types::{Fault, NoMemory, Typ, copy_type, is_list_or_unknown};
 use std::alloc::Global;
 use std::sync::ledger::Ledger;
 
-/// Whether items of a type are lists. Unknown counts as lists.
-fn is_list(t: &Typ) -> bool
-    ensures { result ≡ spec.is_list (typ_of t.now) }
-{
-    matches!(t, Typ::Unknown | Typ::Var(_) | Typ::Reg(_, _))
-}
-
 /// Whether they are lists, optional or not.
 fn has_lists(t: &Typ) -> bool
-    ensures { result ≡ spec.is_list (present (typ_of t.now)) }
+    ensures { result ≡ predicates.is_list_or_unknown (present (typ_of t.now)) }
 {
     match t {
-        Typ::Opt(lists) => is_list(lists),
-        _ => is_list(t),
+        Typ::Opt(lists) => is_list_or_unknown(lists),
+        _ => is_list_or_unknown(t),
     }
 }
 
@@ -75,7 +69,7 @@ fn plain_lists<'a, L: Ledger>(
     arena: &'a Arena,
     steps: &mut Steps<L>,
 ) -> Result<Joined<'a>, NoMemory>
-    requires { spec.is_list (array_type x.now) ≡ true }
+    requires { predicates.is_list_or_unknown (array_type x.now) ≡ true }
     ensures { IfOk result (IsListed x.now) }
 {
     match open_array(alloc, x, arena, steps)? {
@@ -97,7 +91,7 @@ fn joined_rows<'a, L: Ledger>(
     arena: &'a Arena,
     steps: &mut Steps<L>,
 ) -> Result<Made<'a>, NoMemory>
-    requires lists { spec.is_list (array_type content.now) ≡ true }
+    requires lists { predicates.is_list_or_unknown (array_type content.now) ≡ true }
     requires spans { AreLists class starts.now stops.now content.now }
     requires rows { JoinsLists starts.now stops.now content.now rows.now lists.now }
     ensures { IfOk result (IsMade flatten_function class starts.now stops.now content.now) }

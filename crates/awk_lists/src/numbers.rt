@@ -1,7 +1,7 @@
 //! The numbers or truth values of an array as a lane.
 ghost use Rattle.std.specs.Prelude.{◌≡◌, true, IfOk};
 ghost use Rattle.awk_layout.specs.Typing.{array_type};
-ghost use Rattle.awk_axis.specs.Reach.{is_leaf};
+ghost use Rattle.awk_types.specs.Predicates.{is_leaf};
 ghost use Rattle.awk_lists.specs.Numbers.{AreNumbers};
 
 use awk_lanes::{Arena, Kind, Lane, LaneMaker, Steps};

@@ -3,11 +3,9 @@ ghost use Rattle.std.specs.Prelude.{◌≡◌, ◌+◌, ◌-◌, ◌<◌, ◌≤
 ghost use Rattle.std.specs.Ordering.{int_eq};
 ghost use Rattle.awk_types.specs.Faults.{fault_told};
 ghost use Rattle.awk_types.specs.Gives.{Gives};
-ghost use Rattle.awk_types.specs.View.{typ_of};
 ghost use Rattle.awk_lanes.specs.Places.{size_of, at};
 ghost use Rattle.awk_lanes.specs.declared.kind.Kind.TheVariants as Kind;
 ghost use Rattle.awk_layout.specs.Datum.{datum_of, IsDatum};
-ghost use Rattle.awk_axis.specs.Reach as reach;
 ghost use Rattle.awk_lists.specs.RunLengths.{run_lengths_function, run_lengths_of};
 ghost use Rattle.awk_lists.specs.Runs as spec;
 ghost use Rattle.awk_lists.specs.Runs.{runs_between, runs_before, run_lane, AreRising};
@@ -17,16 +15,9 @@ use awk_axis::{ListOp, Made, Refusal, Spoil, lift_deep};
 use awk_columns::{Joined, Lists};
 use awk_lanes::{Arena, Kind, Lane, LaneMaker, Num, Steps, number, place_in};
 use awk_layout::{Datum, Node};
-use awk_types::{Fault, NoMemory, Prim, Typ};
+use awk_types::{Fault, NoMemory, Prim, Typ, is_leaf};
 use std::alloc::Global;
 use std::sync::ledger::Ledger;
-
-/// Whether items of a type are leaves, or would be if there were any.
-fn is_leaf(t: &Typ) -> bool
-    ensures { result ≡ reach.is_leaf (typ_of t.now) }
-{
-    matches!(t, Typ::Unknown | Typ::Leaf(_))
-}
 
 /// Whether the numbers at two places are the same.
 fn is_same<L: Ledger>(items: &Lane, i: u64, j: u64, steps: &mut Steps<L>) -> bool

@@ -3,17 +3,8 @@ ghost use Rattle.std.specs.Prelude.{◌≡◌, IfOk};
 ghost use Rattle.awk_types.specs.View.{typ_of};
 ghost use Rattle.awk_mask_lengths.specs.MaskValues as spec;
 
-use awk_types::{NoMemory, Prim, Typ, copy_type};
+use awk_types::{NoMemory, Prim, Typ, copy_type, is_unknown};
 use std::alloc::Global;
-
-fn is_unknown(t: &Typ) -> bool
-    ensures { result ≡ spec.is_unknown (typ_of t.now) }
-{
-    match t {
-        Typ::Unknown => true,
-        _ => false,
-    }
-}
 
 /// Whether items of type u are a mask over items of type t.
 #[cycle(masks)]

@@ -15,7 +15,8 @@ use Rattle.awk_layout.specs.Typing.{array_type, array_items}
 use Rattle.awk_layout.specs.Valid.{len}
 use Rattle.awk_layout.proofs.ArrayItems.{length-array_items, get_or-array_items}
 use Rattle.awk_gather.specs.Arrays.{array_item}
-use Rattle.awk_mask_lengths.specs.MaskLists.{is_list, has_lists, IsItemType, AreListsOf, IsPlace}
+use Rattle.awk_mask_lengths.specs.MaskLists.{has_lists, IsItemType, AreListsOf, IsPlace}
+use Rattle.awk_types.specs.Predicates.{is_list}
 use Rattle.awk_mask_lengths.specs.MaskLists.{optional_items, items_differ}
 use Rattle.awk_mask_lengths.specs.MaskValues.{masks, of_items, has_items, differs, differ_inside}
 use Rattle.awk_mask_lengths.specs.MaskValues.{any_pair, lists_differ}

@@ -2,6 +2,7 @@
 use Rattle.std.specs.Prelude.{◌≡◌, ℕ, ◌<◌, Bool, true, false, List, Option, Some, option_map}
 use Rattle.awk_types.specs.DataType.{DataType, var, reg, opt}
 use Rattle.awk_types.specs.Value.{Value}
+use Rattle.awk_types.specs.Predicates.{is_list}
 use Rattle.awk_lanes.specs.Column.{Column}
 use Rattle.awk_lanes.specs.Places.{size_of, option_place_at, AreSpans, IsOptionKind}
 use Rattle.awk_layout.specs.Item.{at_option}
@@ -12,11 +13,6 @@ use Rattle.awk_columns.specs.Opened.{items_at}
 use Rattle.awk_gather.specs.Arrays.{array_item}
 use Rattle.awk_columns.specs.ListValues.{list_at}
 use Rattle.awk_mask_lengths.specs.MaskValues.{lists_differ}
-
-abbrev pub is_list : DataType → Bool
-is_list (var t) = true
-is_list (reg n t) = true
-is_list t = false
 
 -- whether a type is of lists, optional or not
 abbrev pub has_lists : DataType → Bool

@@ -4,13 +4,10 @@ use Rattle.std.specs.Prelude.{if◌then◌else◌}
 use Rattle.awk_types.specs.DataType.{DataType, unknown, leaf, var, reg, opt}
 use Rattle.awk_types.specs.Value.{Value, truth, null, list, value_list, values_from}
 use Rattle.awk_types.specs.declared.primitive.Primitive.TheVariants.{Bool as Truths}
+use Rattle.awk_types.specs.Predicates.{is_unknown}
 use Rattle.awk_layout.specs.Item.{agrees}
 
 -- ---- types
-
-abbrev pub is_unknown : DataType → Bool
-is_unknown unknown = true
-is_unknown t = false
 
 -- whether a type is of lists whose items' type is as asked
 abbrev pub of_items : (DataType → Bool) → DataType → Bool

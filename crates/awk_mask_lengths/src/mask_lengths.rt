@@ -1,7 +1,8 @@
 //! Whether lists of a mask and the lists under them have unequal lengths.
 ghost use Rattle.std.specs.Prelude.{◌≡◌, ◌<◌, true, map, IfOk};
+ghost use Rattle.awk_types.specs.Predicates as predicates;
 ghost use Rattle.awk_types.specs.View.{typ_of};
-ghost use Rattle.awk_lanes.specs.Places.{size_of, option_place_at, AreSpans, IsOptionKind};
+ghost use Rattle.awk_lanes.specs.Places.{size_of, option_place_at, IsOptionKind};
 ghost use Rattle.awk_layout.specs.Typing.{array_type, array_items};
 ghost use Rattle.awk_layout.specs.Valid.{len};
 ghost use Rattle.awk_columns.specs.Opened.{items_at};
@@ -10,12 +11,11 @@ ghost use Rattle.awk_mask_lengths.specs.MaskLists.{AreListsOf, AreInside, items_
 ghost use Rattle.awk_mask_lengths.specs.MaskLists.{optional_items};
 ghost use Rattle.awk_mask_lengths.specs.MaskValues.{masks, differs, lists_differ};
 
-use awk_columns::{Opened, open_array};
-use awk_lanes::{Arena, Lane, Steps, option_place_in, place_in};
+use awk_columns::{Lists, Opened, open_array};
+use awk_lanes::{Arena, Lane, Steps, option_place_in, ordinals, place_in};
 use awk_layout::Array;
-use awk_nulls::{is_optional, length_at, numbers};
 use awk_range::range;
-use awk_types::{NoMemory, Typ};
+use awk_types::{NoMemory, Typ, is_list, is_optional};
 use std::alloc::Global;
 use std::sync::ledger::Ledger;
 
@@ -23,18 +23,7 @@ use std::sync::ledger::Ledger;
 #[derive(Drop)]
 struct ListsAt<'a> {
     index: Lane<'a>,
-    starts: Lane<'a>,
-    stops: Lane<'a>,
-    content: Array<'a>,
-}
-
-pub fn is_list(t: &Typ) -> bool
-    ensures { result ≡ lists.is_list (typ_of t.now) }
-{
-    match t {
-        Typ::Var(_) | Typ::Reg(_, _) => true,
-        _ => false,
-    }
+    lists: Lists<'a>,
 }
 
 /// Whether a type is of lists, optional or not.
@@ -55,17 +44,12 @@ fn lists_at<'a, L: Ledger>(
     arena: &'a Arena,
     steps: &mut Steps<L>,
 ) -> Result<ListsAt<'a>, NoMemory>
-    requires lists { lists.is_list (array_type x.now) ≡ true }
+    requires lists { predicates.is_list (array_type x.now) ≡ true }
     ensures { IfOk result (λ r.
-        AreInside x.now index.entry r.index r.starts r.stops r.content) }
+        AreInside x.now index.entry r.index r.lists.starts r.lists.stops r.lists.content) }
 {
     match open_array(alloc, x, arena, steps)? {
-        Opened::Items(lists) => Ok(ListsAt {
-            index,
-            starts: lists.starts().copy(),
-            stops: lists.stops().copy(),
-            content: lists.content().copy(alloc)?,
-        }),
+        Opened::Items(lists) => Ok(ListsAt { index, lists }),
         _ => unreachable!(),
     }
 }
@@ -78,10 +62,11 @@ fn lists_of<'a, L: Ledger>(
     steps: &mut Steps<L>,
 ) -> Result<ListsAt<'a>, NoMemory>
     requires lists { lists.has_lists (array_type x.now) ≡ true }
-    ensures { IfOk result (λ r. AreListsOf x.now r.index r.starts r.stops r.content) }
+    ensures { IfOk result (λ r.
+        AreListsOf x.now r.index r.lists.starts r.lists.stops r.lists.content) }
 {
     if !is_optional(x.typ()) {
-        let index = numbers(x.len(), arena)?;
+        let index = ordinals(x.len(), arena, steps)?;
         return lists_at(alloc, x, index, arena, steps);
     }
     match open_array(alloc, x, arena, steps)? {
@@ -93,24 +78,22 @@ fn lists_of<'a, L: Ledger>(
 /// The items of the list at a place.
 fn items_in<'a, L: Ledger>(
     alloc: Global,
-    starts: &Lane,
-    stops: &Lane,
-    content: &Array<'a>,
+    lists: &Lists<'a>,
     k: u64,
     steps: &mut Steps<L>,
 ) -> Result<Array<'a>, NoMemory>
-    requires within { k < size_of starts.now }
-    requires spans { AreSpans starts.now stops.now (len content.now) }
+    requires within { k < size_of lists.now.starts }
     ensures items { IfOk result (λ r.
-        array_items r ≡ items_at starts.now stops.now content.now k) }
-    ensures typ { IfOk result (λ r. array_type r ≡ array_type content.now) }
+        array_items r ≡ items_at lists.now.starts lists.now.stops lists.now.content k) }
+    ensures typ { IfOk result (λ r. array_type r ≡ array_type lists.now.content) }
 {
+    let content = lists.content();
     let _ = content.len();
-    let length = length_at(starts, stops, k, steps);
+    let length = lists.length_at(k, steps);
     if length == 0 {
         range(alloc, content, 0, 0, steps)
     } else {
-        let start = place_in(starts, k, steps);
+        let start = place_in(lists.starts(), k, steps);
         range(alloc, content, start, start + length, steps)
     }
 }
@@ -154,12 +137,17 @@ fn unequal_at<'a, L: Ledger>(
     arena: &'a Arena,
     steps: &mut Steps<L>,
 ) -> Result<bool, NoMemory>
-    requires masks { masks (array_type ms.now.content) (array_type xs.now.content) ≡ true }
-    requires items { lists.IsPlace xs.now.index xs.now.starts xs.now.stops xs.now.content i }
-    requires mask { lists.IsPlace ms.now.index ms.now.starts ms.now.stops ms.now.content i }
-    ensures { let differ = differs (array_type ms.now.content) in
-        let items = optional_items xs.now.index xs.now.starts xs.now.stops xs.now.content i in
-        let mask = optional_items ms.now.index ms.now.starts ms.now.stops ms.now.content i in
+    requires masks { masks (array_type ms.now.lists.content)
+        (array_type xs.now.lists.content) ≡ true }
+    requires items { lists.IsPlace xs.now.index xs.now.lists.starts xs.now.lists.stops
+        xs.now.lists.content i }
+    requires mask { lists.IsPlace ms.now.index ms.now.lists.starts ms.now.lists.stops
+        ms.now.lists.content i }
+    ensures { let differ = differs (array_type ms.now.lists.content) in
+        let items = optional_items xs.now.index xs.now.lists.starts xs.now.lists.stops
+        xs.now.lists.content i in
+        let mask = optional_items ms.now.index ms.now.lists.starts ms.now.lists.stops
+        ms.now.lists.content i in
         IfOk result (λ r. r ≡ items_differ differ mask items) }
 {
     let Some(k) = option_place_in(&xs.index, i, steps) else {
@@ -168,7 +156,7 @@ fn unequal_at<'a, L: Ledger>(
     let Some(j) = option_place_in(&ms.index, i, steps) else {
         return Ok(false);
     };
-    let x = items_in(alloc, &xs.starts, &xs.stops, &xs.content, k, steps)?;
-    let m = items_in(alloc, &ms.starts, &ms.stops, &ms.content, j, steps)?;
+    let x = items_in(alloc, &xs.lists, k, steps)?;
+    let m = items_in(alloc, &ms.lists, j, steps)?;
     unequal(alloc, &x, &m, arena, steps)
 }

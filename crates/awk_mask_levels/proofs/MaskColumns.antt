@@ -14,7 +14,7 @@ use Rattle.awk_layout.specs.Valid.{len}
 use Rattle.awk_layout.proofs.ArrayItems.{length-array_items, get_or-array_items}
 use Rattle.awk_gather.specs.Arrays.{array_item}
 use Rattle.awk_axis.specs.Mapped.{IsColumn}
-use Rattle.awk_mask_lengths.specs.MaskLists.{is_list}
+use Rattle.awk_types.specs.Predicates.{is_list}
 use Rattle.awk_mask_lengths.specs.MaskValues.{in_pairs, masks}
 use Rattle.awk_mask_levels.specs.MaskLevels.{is_innermost}
 

@@ -12,7 +12,7 @@ use Rattle.awk_layout.specs.Layout.{Layout}
 use Rattle.awk_layout.specs.Typing.{array_type, array_items}
 use Rattle.awk_columns.specs.Columns.{joined_items}
 use Rattle.awk_columns.specs.ListClass.{Class, list_type}
-use Rattle.awk_mask_lengths.specs.MaskLists.{is_list}
+use Rattle.awk_types.specs.Predicates.{is_list}
 use Rattle.awk_mask_lengths.specs.MaskValues.{masks, differs, differ_inside, any_pair, in_pairs}
 use Rattle.awk_mask_lengths.specs.MaskValues.{of_lists, masked_type, masked_value}
 use Rattle.awk_mask_levels.specs.MaskLevels.{IsUnder, below_refused, inner_refused, levels_refused}

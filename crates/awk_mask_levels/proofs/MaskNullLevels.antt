@@ -11,8 +11,8 @@ use Rattle.awk_layout.specs.Typing.{array_type, array_items}
 use Rattle.awk_layout.specs.Valid.{len}
 use Rattle.awk_layout.proofs.ArrayItems.{length-array_items}
 use Rattle.awk_columns.specs.Columns.{is_present}
-use Rattle.awk_mask_lengths.specs.MaskLists.{is_list}
-use Rattle.awk_mask_lengths.specs.MaskValues.{masks, of_items, has_items, is_unknown, differs}
+use Rattle.awk_types.specs.Predicates.{is_list, is_unknown}
+use Rattle.awk_mask_lengths.specs.MaskValues.{masks, of_items, has_items, differs}
 use Rattle.awk_mask_lengths.specs.MaskValues.{any_pair, in_pairs, masked_type, masked_value}
 use Rattle.awk_mask_lengths.specs.MaskValues.{differ_inside}
 use Rattle.awk_mask_levels.specs.MaskLevels.{IsFit, IsUnder, IsMaskedArray, AreInOrder, IsBelow}

@@ -1,19 +1,17 @@
 //! The outermost level of an array and of a mask over it.
 ghost use Rattle.std.specs.Prelude.{◌≡◌, true, IfOk, IsTrue};
+ghost use Rattle.awk_types.specs.Predicates as predicates;
 ghost use Rattle.awk_types.specs.Simple.{is_option};
 ghost use Rattle.awk_lanes.specs.declared.kind.Kind.TheVariants as Kinds;
 ghost use Rattle.awk_layout.specs.Typing.{array_type};
 ghost use Rattle.awk_mask_levels.specs.MaskLevels.{AreInOrder, AreJoinedIn, IsFit, IsLevel};
-ghost use Rattle.awk_mask_lengths.specs.MaskLists as lists;
 
 use crate::mask_nulls::items_where;
 use awk_columns::{Joined, Opened, in_order, open_array};
 use awk_lanes::{Arena, Lane, Steps};
 use awk_layout::Array;
-use awk_mask_lengths::is_list;
-use awk_nulls::is_optional;
 use awk_open::Opened as Ordered;
-use awk_types::NoMemory;
+use awk_types::{NoMemory, is_list, is_optional};
 use std::alloc::Global;
 use std::sync::ledger::Ledger;
 
@@ -88,7 +86,7 @@ fn lists_in<'a, L: Ledger>(
     arena: &'a Arena,
     steps: &mut Steps<L>,
 ) -> Result<Below<'a>, NoMemory>
-    requires { lists.is_list (array_type x.now) ≡ true }
+    requires { predicates.is_list (array_type x.now) ≡ true }
     ensures { IfOk result (AreJoinedIn x.now) }
 {
     match open_array(alloc, x, arena, steps)? {
@@ -134,7 +132,7 @@ fn nulls_of_items<'a, L: Ledger>(
     arena: &'a Arena,
     steps: &mut Steps<L>,
 ) -> Result<Level<'a>, NoMemory>
-    requires lists { lists.is_list (array_type m.now) ≡ true }
+    requires lists { predicates.is_list (array_type m.now) ≡ true }
     requires option { is_option (array_type x.now) ≡ true }
     requires fit { IsFit m.now x.now }
     ensures { IfOk result (IsLevel m.now x.now) }
@@ -166,8 +164,8 @@ fn lists_of_both<'a, L: Ledger>(
     arena: &'a Arena,
     steps: &mut Steps<L>,
 ) -> Result<Level<'a>, NoMemory>
-    requires mask { lists.is_list (array_type m.now) ≡ true }
-    requires items { lists.is_list (array_type x.now) ≡ true }
+    requires mask { predicates.is_list (array_type m.now) ≡ true }
+    requires items { predicates.is_list (array_type x.now) ≡ true }
     requires fit { IsFit m.now x.now }
     ensures { IfOk result (IsLevel m.now x.now) }
 {

@@ -7,9 +7,9 @@ ghost use Rattle.awk_layout.specs.Valid.{len};
 ghost use Rattle.awk_mask_levels.specs.MaskNulls.{stops_lane, items_where};
 
 use awk_columns::{Joined, join_spans};
-use awk_lanes::{Arena, Kind, Lane, LaneMaker, Steps, number};
+use awk_lanes::{Arena, IndexMaker, Lane, Steps, number, ordinals};
 use awk_layout::Array;
-use awk_nulls::{numbers, one_if_present};
+use awk_nulls::one_if_present;
 use awk_types::NoMemory;
 use std::alloc::Global;
 use std::sync::ledger::Ledger;
@@ -26,7 +26,7 @@ fn stops_where<'a, L: Ledger>(
     ensures { IfOk result (λ r. r ≡ stops_lane index.now) }
 {
     let n = index.len();
-    let mut maker = LaneMaker::new(Kind::I64, n, arena)?;
+    let mut maker = IndexMaker::new(n, arena)?;
     for i in 0..n {
         let count = one_if_present(index, i, steps);
         let stop = number(i + count);
@@ -49,7 +49,7 @@ pub fn items_where<'a, L: Ledger>(
     ensures items { IfOk result (λ r. array_items r ≡ items_where index.now x.now) }
     ensures typ { IfOk result (λ r. array_type r ≡ array_type x.now) }
 {
-    let starts = numbers(x.len(), arena)?;
+    let starts = ordinals(x.len(), arena, steps)?;
     let stops = stops_where(index, arena, steps)?;
     match join_spans(alloc, None, &starts, &stops, x, arena, steps)? {
         Joined::Lists { content, .. } => Ok(content),

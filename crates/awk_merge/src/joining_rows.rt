@@ -3,7 +3,6 @@ ghost use Rattle.std.specs.Prelude.{◌≡◌, ◌*◌, ◌<◌, ◌^◌, ℕ, O
 ghost use Rattle.awk_types.specs.DataType.{DataType, var};
 ghost use Rattle.awk_types.specs.Faults.{fault_told};
 ghost use Rattle.awk_types.specs.Gives.{Gives};
-ghost use Rattle.awk_types.specs.Simple.{is_option};
 ghost use Rattle.awk_types.specs.View.{typ_of};
 ghost use Rattle.awk_lanes.specs.Numbers.{int_of, IsOf};
 ghost use Rattle.awk_lanes.specs.declared.kind.Kind.TheVariants as Kinds;
@@ -25,7 +24,7 @@ use awk_columns::{Joined, Lists, Opened, join_spans, open_array};
 use awk_lanes::{Arena, Kind, Lane, LaneMaker, Num, Steps, index_at, number, option_place_in};
 use awk_layout::{Array, Node};
 use awk_merge_sides::Sides;
-use awk_types::{Fault, NoMemory, Typ, copy_type};
+use awk_types::{Fault, NoMemory, Typ, copy_type, is_optional};
 use std::alloc::Global;
 use std::sync::ledger::Ledger;
 
@@ -314,13 +313,6 @@ fn plain_rows<'a, L: Ledger>(
     )
 }
 
-/// Whether values of a type may be null.
-fn is_option(t: &Typ) -> bool
-    ensures { result ≡ is_option (typ_of t.now) }
-{
-    matches!(t, Typ::Opt(_))
-}
-
 /// The rows of k columns of n values, one column after another, each joined to one list, or null
 /// where a value is.
 fn rows_of<'a, L: Ledger>(
@@ -338,7 +330,7 @@ fn rows_of<'a, L: Ledger>(
     ensures { let rows = stacked_rows n k (array_items x.now) in
         Gives array_datum fault_told result (rows_datum (array_type x.now) rows) }
 {
-    if !is_option(x.typ()) {
+    if !is_optional(x.typ()) {
         return plain_rows(alloc, &None, n, k, x, arena, steps);
     }
     match open_array(alloc, x, arena, steps)? {

@@ -7,7 +7,7 @@ use awk_lanes::{Lane, Steps, index_at};
 use std::sync::ledger::Ledger;
 
 /// How many items the list at a place has.
-pub fn length_at<L: Ledger>(starts: &Lane, stops: &Lane, i: u64, steps: &mut Steps<L>) -> u64
+pub(crate) fn length_at<L: Ledger>(starts: &Lane, stops: &Lane, i: u64, steps: &mut Steps<L>) -> u64
     requires within { i < size_of starts.now }
     requires spans { AreSpans starts.now stops.now 9223372036854775807 }
     ensures length { result ≡ span_length starts.now stops.now i }

@@ -1,8 +1,7 @@
 //! Operations on nulls: which items are null, lists without them, padded by them, first items.
 //!
-//! The calls are `is_none`, `drop_none`, `firsts`, `singletons` and `pad_none`; `is_optional`,
-//! `numbers`, `one_if_present` and `length_at` are what masks and filling share with them, and
-//! `option_over` puts the index of an option over a node.
+//! The calls are `is_none`, `drop_none`, `firsts`, `singletons` and `pad_none`; `one_if_present` is
+//! what masks share with them, and `option_over` puts the index of an option over a node.
 #![tactic(auto)]
 
 mod composing;
@@ -17,8 +16,7 @@ mod singles;
 pub use composing::option_over;
 pub use dropping::drop_none;
 pub use first_items::firsts;
-pub use lengths::length_at;
 pub use nulls::is_none;
 pub use padding::pad_none;
-pub use presence::{is_optional, numbers, one_if_present};
+pub use presence::one_if_present;
 pub use singles::singletons;

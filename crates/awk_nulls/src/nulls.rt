@@ -12,7 +12,7 @@ ghost use Rattle.awk_axis.specs.Mapped.{IsMade};
 ghost use Rattle.awk_nulls.specs.IsNone.{is_none_function, is_none_of};
 ghost use Rattle.awk_nulls.specs.Lanes.{null_number, nulls_lane, falses_lane, AreNulls};
 
-use crate::presence::{has_options, is_optional};
+use crate::presence::has_options;
 use awk_axis::{ListOp, Made, Refusal, Spoil, lift_at};
 use awk_columns::{Joined, Lists};
 use awk_lanes::{
@@ -20,7 +20,7 @@ use awk_lanes::{
 };
 use awk_layout::{Array, Datum, Node};
 use awk_open::{Opened, opened};
-use awk_types::{Fault, ITEM_LIMIT, NoMemory, Prim, Typ};
+use awk_types::{Fault, ITEM_LIMIT, NoMemory, Prim, Typ, is_optional};
 use std::alloc::Global;
 use std::sync::ledger::Ledger;
 

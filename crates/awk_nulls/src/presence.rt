@@ -1,18 +1,15 @@
 //! The items of an array that are not null.
-ghost use Rattle.std.specs.Prelude.{◌≡◌, ◌<◌, ◌+◌, ◌^◌, IfOk, length, pos};
+ghost use Rattle.std.specs.Prelude.{◌≡◌, ◌<◌, ◌+◌, ◌^◌, IfOk, length};
 ghost use Rattle.awk_types.specs.Simple.{is_option};
-ghost use Rattle.awk_types.specs.View.{typ_of};
 ghost use Rattle.awk_lanes.specs.Places.{size_of, IsOptionKind};
-ghost use Rattle.awk_lanes.specs.declared.kind.Kind.TheVariants as Kinds;
 ghost use Rattle.awk_layout.specs.Typing.{array_type};
 ghost use Rattle.awk_columns.specs.Counted.{present_at};
-ghost use Rattle.awk_lanes.specs.Made.{lane_of};
 ghost use Rattle.awk_nulls.specs.Lanes.{present_lane, ArePresent};
 
 use awk_columns::{Lists, Opened, open_array};
-use awk_lanes::{Arena, Kind, Lane, LaneMaker, Steps, number, option_place_in};
+use awk_lanes::{Arena, Kind, Lane, LaneMaker, Steps, number, option_place_in, ordinals};
 use awk_layout::Array;
-use awk_types::{NoMemory, Typ};
+use awk_types::{NoMemory, is_optional};
 use std::alloc::Global;
 use std::sync::ledger::Ledger;
 
@@ -22,16 +19,6 @@ pub struct Present<'a> {
     /// How many stand before each item of the array, and how many there are.
     pub counts: Lane<'a>,
     pub content: Array<'a>,
-}
-
-/// Whether a type is an option.
-pub fn is_optional(t: &Typ) -> bool
-    ensures { result ≡ is_option (typ_of t.now) }
-{
-    match t {
-        Typ::Opt(_) => true,
-        _ => false,
-    }
 }
 
 /// Whether the items of lists are optional.
@@ -72,19 +59,6 @@ fn present_counts<'a, L: Ledger>(
     Ok(maker.finish())
 }
 
-/// The numbers from 0 on.
-#[tactic(auto, using(awk_lanes::proofs::MadeLanes::making))]
-pub fn numbers<'a>(n: u64, arena: &'a Arena) -> Result<Lane<'a>, NoMemory>
-    requires { n < 2 ^ 63 + 1 }
-    ensures { IfOk result (λ r. r ≡ lane_of Kinds.I64 n pos) }
-{
-    let mut maker = LaneMaker::new(Kind::I64, n, arena)?;
-    for i in 0..n {
-        maker.push(number(i));
-    }
-    Ok(maker.finish())
-}
-
 /// The items that are not null, in order.
 pub fn present_of<'a, L: Ledger>(
     alloc: Global,
@@ -96,7 +70,7 @@ pub fn present_of<'a, L: Ledger>(
 {
     let n = x.len();
     if !is_optional(x.typ()) {
-        let counts = numbers(n + 1, arena)?;
+        let counts = ordinals(n + 1, arena, steps)?;
         let content = x.copy(alloc)?;
         return Ok(Present { counts, content });
     }

@@ -24,7 +24,8 @@ use Rattle.awk_unify.specs.Early.{as_it_is, early}
 use Rattle.awk_unify.specs.FieldNames.{in_own, picked, to_names}
 use Rattle.awk_unify.specs.Join.{rec_join, unify_parts}
 use Rattle.awk_unify.specs.Unification.{Unification, Unifications}
-use Rattle.awk_unify.specs.Unify.{bare, equal_or_unknown, in_unions, is_unknown, joined_or}
+use Rattle.awk_unify.specs.Unify.{bare, equal_or_unknown, in_unions, joined_or}
+use Rattle.awk_types.specs.Predicates.{is_unknown}
 use Rattle.awk_unify.specs.Unify.{joins_or_unions, optional, unification}
 use Rattle.awk_plain.proofs.BelowLaws.{AreBelow, IsBelow, below_option, only_unknown, present_below}
 use Rattle.awk_plain.proofs.OwnNames.{alike_itself, picked_itself}

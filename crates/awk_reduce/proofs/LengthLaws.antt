@@ -5,6 +5,7 @@ use Rattle.std.specs.List.{range_with_len}
 use Rattle.std.proofs.lemmas.Int.{ints}
 use Rattle.std.proofs.lemmas.List.{length-map}
 use Rattle.awk_types.specs.DataType.{DataType, unknown, leaf, var, reg, rec, tup, opt, uni}
+use Rattle.awk_types.specs.Predicates.{is_leaf}
 use Rattle.awk_types.specs.Simple.{is_option}
 use Rattle.awk_types.specs.Value.{Value, int, truth, null, list, row, alt}
 use Rattle.awk_types.specs.declared.primitive.Primitive.TheVariants as primitive
@@ -21,7 +22,6 @@ use Rattle.awk_open.proofs.ItemShapes.{present_item}
 use Rattle.awk_columns.specs.Columns.{is_present, present_values}
 use Rattle.awk_columns.specs.Lists.{Listed, AreLists, span_length}
 use Rattle.awk_axis.specs.Mapped.{IsColumn}
-use Rattle.awk_axis.specs.Reach as axis
 use Rattle.awk_axis.specs.declared.function.Made.TheVariants as made
 use Rattle.awk_parts.specs.Spans.{span_count, span_size, AreEnds}
 use Rattle.awk_parts.specs.declared.parts.Spans.{Spans}
@@ -42,7 +42,7 @@ not_null (list vs) h = refl
 not_null (row vs) h = refl
 not_null (alt k v) h = refl
 
-leaf_plain : (t : DataType) → axis.is_leaf t ≡ true → is_option t ≡ false
+leaf_plain : (t : DataType) → is_leaf t ≡ true → is_option t ≡ false
 leaf_plain unknown h = refl
 leaf_plain (leaf p) h = refl
 leaf_plain (var t) h = refl
@@ -74,7 +74,7 @@ span_place n q (negsuc a) (pos b) h l m =
 span_place n q (negsuc a) (negsuc b) h l m = absurd (omega (arith, m))
 
 module _ (l : Listed) (lists : AreLists l.class l.starts l.stops l.content)
-    (leaves : axis.is_leaf (array_type l.content) ≡ true) (p : Spans)
+    (leaves : is_leaf (array_type l.content) ≡ true) (p : Spans)
     (ends : AreEnds (size_of l.starts) (at l.starts) (at l.stops) p) where
   abbrev t : DataType
   t = array_type l.content

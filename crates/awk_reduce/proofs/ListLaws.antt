@@ -26,7 +26,6 @@ use Rattle.awk_columns.specs.Joined.{total, IsJoined}
 use Rattle.awk_columns.specs.Lists.{Listed, items_at, all_items_at, span_length}
 use Rattle.awk_columns.specs.declared.lists.Joined.TheVariants.{TooMany}
 use Rattle.awk_axis.specs.Mapped.{IsMade, IsColumn}
-use Rattle.awk_axis.specs.Reach as axis
 use Rattle.awk_axis.specs.declared.causes.Refusal.TheVariants as refused
 use Rattle.awk_axis.specs.declared.causes.Spoil.{Spoil}
 use Rattle.awk_axis.specs.declared.causes.Spoil.TheVariants.{Index, Size, Overflow}
@@ -130,19 +129,9 @@ reduced-never how t ls h =
 
 -- ---- leaves
 
-pub leaf_same : (t : DataType) → is_leaf t ≡ axis.is_leaf t
-leaf_same unknown = refl
-leaf_same (leaf p) = refl
-leaf_same (var t) = refl
-leaf_same (reg n t) = refl
-leaf_same (rec ns ts) = refl
-leaf_same (tup ts) = refl
-leaf_same (opt t) = refl
-leaf_same (uni ts) = refl
-
 pub leaves_taken : (how : Reducer) (t : DataType) → (reducer_function how).refusal t ≡ None
-    → axis.is_leaf (present t) ≡ true
-leaves_taken how t h = go (axis.is_leaf (present t)) h
+    → is_leaf (present t) ≡ true
+leaves_taken how t h = go (is_leaf (present t)) h
   where
     go : (b : Bool) → (if b then None else Some refused.WrongType) ≡ None → b ≡ true
     go true e = refl

@@ -11,7 +11,7 @@ use Rattle.awk_types.specs.declared.fault.Fault.{Fault}
 use Rattle.awk_kernels.specs.Kernels.{total}
 use Rattle.awk_axis.specs.Lifting.{deep}
 use Rattle.awk_axis.specs.ListFunction.{ListFunction, singles}
-use Rattle.awk_axis.specs.Reach.{is_leaf}
+use Rattle.awk_types.specs.Predicates.{is_leaf}
 use Rattle.awk_axis.specs.declared.causes.Refusal.TheVariants as refused
 use Rattle.awk_axis.specs.declared.causes.Spoil.{Spoil}
 use Rattle.awk_axis.specs.declared.causes.Spoil.TheVariants.{Size, Overflow}

@@ -5,7 +5,7 @@ ghost use Rattle.awk_lanes.specs.Counted.{before};
 ghost use Rattle.awk_lanes.specs.Places.{size_of, at};
 ghost use Rattle.awk_layout.specs.Typing.{array_type};
 ghost use Rattle.awk_axis.specs.Mapped.{IsMade};
-ghost use Rattle.awk_axis.specs.Reach as reach;
+ghost use Rattle.awk_types.specs.Predicates as predicates;
 ghost use Rattle.awk_parts.specs.Spans.{span_count, span_size, AreEnds, AreOrdered};
 ghost use Rattle.awk_reduce.specs.Lists.{IsWithin};
 ghost use Rattle.awk_reduce.specs.Reduce.{reducer_function};
@@ -69,7 +69,7 @@ pub(crate) fn lengths<'a, L: Ledger>(
     arena: &'a Arena,
     steps: &mut Steps<L>,
 ) -> Result<Made<'a>, NoMemory>
-    requires leaves { reach.is_leaf (array_type lists.now.content) ≡ true }
+    requires leaves { predicates.is_leaf (array_type lists.now.content) ≡ true }
     requires ends { AreEnds (size_of lists.now.starts) (at lists.now.starts) (at lists.now.stops)
         spans.now }
     requires ordered { AreOrdered 9223372036854775807 spans.now }

@@ -2,24 +2,17 @@
 ghost use Rattle.std.specs.Prelude.{◌≡◌, IfOk};
 ghost use Rattle.awk_types.specs.Simple.{present};
 ghost use Rattle.awk_types.specs.View.{typ_of};
-ghost use Rattle.awk_axis.specs.Reach as reach;
+ghost use Rattle.awk_types.specs.Predicates as predicates;
 ghost use Rattle.awk_present.specs.Numbers as numbers;
 ghost use Rattle.awk_reduce.specs.Reducers as spec;
 
 use crate::reducer::Reducer;
-use awk_types::{NoMemory, Prim, Typ};
+use awk_types::{NoMemory, Prim, Typ, is_leaf};
 use std::alloc::Global;
-
-/// Whether a type is a leaf, which is not optional.
-pub(crate) fn is_leaf(t: &Typ) -> bool
-    ensures { result ≡ reach.is_leaf (typ_of t.now) }
-{
-    matches!(t, Typ::Unknown | Typ::Leaf(_))
-}
 
 /// Whether items of a type are leaves, optional or not.
 pub(crate) fn are_leaves(t: &Typ) -> bool
-    ensures { result ≡ reach.is_leaf (present (typ_of t.now)) }
+    ensures { result ≡ predicates.is_leaf (present (typ_of t.now)) }
 {
     match t {
         Typ::Opt(inner) => is_leaf(inner),

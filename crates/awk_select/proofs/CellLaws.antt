@@ -12,7 +12,8 @@ use Rattle.awk_layout.specs.Item.{leaf_value, at_option}
 use Rattle.awk_gather.specs.Arrays.{array_item}
 use Rattle.awk_open.specs.Opened.{IsOpened, IsKindOf}
 use Rattle.awk_open.specs.declared.opening.Opened.{Opened}
-use Rattle.awk_select.specs.Cells.{is_leaf, IsBelow, AreCells}
+use Rattle.awk_select.specs.Cells.{IsBelow, AreCells}
+use Rattle.awk_types.specs.Predicates.{is_leaf}
 use Rattle.awk_select.specs.declared.cells.Cells.TheVariants.{Optional}
 
 -- ---- the kinds that have such values

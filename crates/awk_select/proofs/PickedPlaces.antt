@@ -27,7 +27,8 @@ use Rattle.awk_layout.specs.Typing.{layout_type, array_items}
 use Rattle.awk_gather.specs.Arrays.{pick}
 use Rattle.awk_lanes.specs.Made.{lane_of}
 use Rattle.awk_layout.proofs.ArrayItems.{length-array_items, get_or-array_items}
-use Rattle.awk_select.specs.Cells.{is_leaf, IsBelow, place_number, places_lane, mask_numbers}
+use Rattle.awk_select.specs.Cells.{IsBelow, place_number, places_lane, mask_numbers}
+use Rattle.awk_types.specs.Predicates.{is_leaf}
 use Rattle.awk_select.specs.Cells.{take_number}
 use Rattle.awk_select.specs.Picks.{picked, is_truths, is_mask, mask_place, mask_places}
 use Rattle.awk_types.specs.WholeNumbers.{is_numbers}

@@ -17,12 +17,6 @@ use Rattle.awk_select.specs.Picks.{mask_place, take_place}
 use Rattle.awk_select.specs.declared.cells.Cells.{Cells}
 use Rattle.awk_select.specs.declared.cells.Cells.TheVariants.{Nulls, Plain, Optional}
 
--- a type whose items are single numbers or truth values, or that has none
-abbrev pub is_leaf : DataType → Bool
-is_leaf unknown = true
-is_leaf (leaf p) = true
-is_leaf t = false
-
 -- the value that a number in code is
 abbrev pub number_value : Num → Value
 number_value (Int z) = int z

@@ -6,7 +6,8 @@ ghost use Rattle.awk_layout.specs.Typing.{array_type};
 ghost use Rattle.awk_layout.specs.Valid.{IsValid};
 ghost use Rattle.awk_open.specs.Opened.{IsOpened};
 ghost use Rattle.awk_open.specs.declared.opening.Opened.TheVariants as Opened;
-ghost use Rattle.awk_select.specs.Cells.{is_leaf, cell_shown, cell_value, IsCell, AreCells};
+ghost use Rattle.awk_select.specs.Cells.{cell_shown, cell_value, IsCell, AreCells};
+ghost use Rattle.awk_types.specs.Predicates.{is_leaf};
 ghost use Rattle.awk_select.specs.declared.cells.Cells.TheVariants as Cells;
 
 use awk_lanes::{Arena, Lane, Num, Steps, option_place_in};

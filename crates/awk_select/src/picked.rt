@@ -17,19 +17,9 @@ ghost use Rattle.awk_select.specs.Picks.{picked_type, limit_refused};
 use awk_gather::{gather, gather_opt};
 use awk_lanes::{Arena, Lane, Steps};
 use awk_layout::Array;
-use awk_types::{Fault, Typ, copy_type, opt_of};
+use awk_types::{Fault, Typ, copy_type, is_optional, opt_of};
 use std::alloc::Global;
 use std::sync::ledger::Ledger;
-
-/// Whether a type is optional.
-pub(crate) fn is_optional(t: &Typ) -> bool
-    ensures { result ≡ is_option (typ_of t.now) }
-{
-    match t {
-        Typ::Opt(_) => true,
-        _ => false,
-    }
-}
 
 /// Judges the type of items of type t that are picked by others of type u.
 pub(crate) fn judge_type(alloc: Global, t: &Typ, u: &Typ) -> Result<(), Fault>

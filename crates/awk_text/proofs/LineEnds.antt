@@ -14,7 +14,10 @@ use Rattle.awk_edge.proofs.LineLaws.{Unbroken-append}
 use Rattle.awk_json.specs.Text.{quoted, joined, comma_joined, list_text}
 use Rattle.awk_json.proofs.Lines.{literal-unbroken, quoted-unbroken, joined-unbroken, comma_joined-unbroken, list_text-unbroken, decimal-unbroken, signed_decimal-unbroken, truth_text-unbroken}
 use Rattle.awk_text.specs.ValueText.{leaf_text, list_items, row_items, is_null, tag_of, untagged, place_names, members, value_text, row_texts, alternative_text}
-use Rattle.awk_text.specs.TypeText.{primitive_text, is_word, is_bare, name_text, is_list, option_opening, option_close, enclosed, field_type_texts, size_text, type_text, type_texts, datum_type_text}
+use Rattle.awk_text.specs.TypeText.{primitive_text, is_word, is_bare, name_text, option_opening}
+use Rattle.awk_text.specs.TypeText.{option_close, enclosed, field_type_texts, size_text, type_text}
+use Rattle.awk_text.specs.TypeText.{type_texts, datum_type_text}
+use Rattle.awk_types.specs.Predicates.{is_list}
 use Rattle.awk_text.specs.FaultText.{fault_text}
 
 -- three texts, one after another

@@ -7,6 +7,7 @@ use Rattle.awk_types.specs.declared.primitive.Primitive.TheVariants as primitive
 use Rattle.awk_types.specs.DataType.{Name, DataType, unknown, leaf, var, reg, rec, tup, opt, uni, DataTypes, no_types, type}
 use Rattle.awk_types.specs.Datum.{Datum, arr, one}
 use Rattle.awk_types.specs.View.{NamedType}
+use Rattle.awk_types.specs.Predicates.{is_list}
 use Rattle.awk_json.specs.Text.{quoted, joined}
 use Rattle.awk_text.specs.ValueText.{Text}
 
@@ -32,11 +33,6 @@ is_bare (b ∷ bytes) = not (is_ascii_digit b) && list_all is_word (b ∷ bytes)
 
 abbrev pub name_text : Name → Text
 name_text n = if is_bare n then n else quoted n
-
-abbrev pub is_list : DataType → Bool
-is_list (var t) = true
-is_list (reg n t) = true
-is_list t = false
 
 -- what stands around the type of an option's values: brackets where they are lists
 abbrev pub option_opening : DataType → Text

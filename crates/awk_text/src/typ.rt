@@ -8,13 +8,13 @@ ghost use Rattle.awk_layout.specs.Datum.{datum_of};
 ghost use Rattle.awk_text.specs.TypeText.{primitive_text, type_text, type_texts, size_text};
 ghost use Rattle.awk_text.specs.TypeText.{enclosed, field_type_texts, named_type_text};
 ghost use Rattle.awk_text.specs.TypeText.{name_text, is_word as word, is_bare as bare};
-ghost use Rattle.awk_text.specs.TypeText.{is_list as list, option_opening as opening};
+ghost use Rattle.awk_text.specs.TypeText.{option_opening as opening};
 ghost use Rattle.awk_text.specs.TypeText.{option_close as close, datum_type_text};
 
 use awk_edge::{Out, Sink, WriteFault};
 use awk_json::{write_number, write_separator, write_text};
 use awk_layout::Datum;
-use awk_types::{Field, Fields, Name, Prim, Typ, Typs};
+use awk_types::{Field, Fields, Name, Prim, Typ, Typs, is_list};
 
 /// Puts the type of a datum: that of an array behind its length, that of a single value alone.
 pub fn write_type<K: Sink>(x: &Datum<'_>, out: &mut Out, sink: &mut K) -> Result<(), WriteFault>
@@ -163,12 +163,6 @@ fn is_word(byte: u8) -> bool
     ensures { result ≡ word byte }
 {
     byte.is_ascii_alphanumeric() || byte == b'_'
-}
-
-fn is_list(typ: &Typ) -> bool
-    ensures { result ≡ list (typ_of typ.now) }
-{
-    matches!(typ, Typ::Var(_) | Typ::Reg(_, _))
 }
 
 /// What stands before the type of an option's values.

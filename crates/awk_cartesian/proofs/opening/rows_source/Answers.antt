@@ -15,17 +15,17 @@ pub indexed_source-requires-clause-lists : goal.indexed_source-requires-clause-l
 indexed_source-requires-clause-lists g c =
     let x = c.args.x.now in
     let e : is_option (array_type x) ≡ false =
-    ap is_option (sym c.typ.ensures.typ) ∙ sym c.is_option.ensures ∙ c.if-not-is_option.true in
+    ap is_option (sym c.typ.ensures.typ) ∙ sym c.is_optional.ensures ∙ c.if-not-is_optional.true in
     ap is_some (plain_item (array_type x) e) ∙ c.requires.lists
 
 pub indexed_source-requires-clause-index : goal.indexed_source-requires-clause-index
 indexed_source-requires-clause-index g c = c.len-n.ensures.len
 
-pub returns-then-not-is_option : goal.returns-then-not-is_option
-returns-then-not-is_option g c =
+pub returns-then-not-is_optional : goal.returns-then-not-is_optional
+returns-then-not-is_optional g c =
     let x = c.args.x.now in
     let e : is_option (array_type x) ≡ false =
-    ap is_option (sym c.typ.ensures.typ) ∙ sym c.is_option.ensures ∙ c.if-not-is_option.true in
+    ap is_option (sym c.typ.ensures.typ) ∙ sym c.is_optional.ensures ∙ c.if-not-is_optional.true in
     mapped
     (IsOpened (values_by None c.len-n.result (array_item x)) (list_item (array_type x)) false)
     (IsOpened (array_items x) (rows_item (array_type x)) (is_option (array_type x)))
@@ -36,7 +36,7 @@ returns-then-not-is_option g c =
 
 pub opened_option-requires : goal.opened_option-requires
 opened_option-requires g c =
-    ap is_option (sym c.typ.ensures.typ) ∙ sym c.is_option.ensures ∙ c.if-not-is_option.false
+    ap is_option (sym c.typ.ensures.typ) ∙ sym c.is_optional.ensures ∙ c.if-not-is_optional.false
 
 pub indexed_source-requires-2-clause-lists : goal.indexed_source-requires-2-clause-lists
 indexed_source-requires-2-clause-lists g c =

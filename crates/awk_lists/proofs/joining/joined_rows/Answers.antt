@@ -1,12 +1,12 @@
 use Rattle.std.proofs.Common.{ap, ◌∙◌}
 use Rattle.awk_columns.specs.declared.lists.Joined.TheVariants.{Lists}
-use Rattle.awk_lists.specs.Flatten.{is_list}
+use Rattle.awk_types.specs.Predicates.{is_list_or_unknown}
 use Rattle.awk_lists.specs.Listed.{IsListed}
 use Rattle.awk_lists.proofs.Flattened.{rows_index, are_given, too_many_joined, few_joined}
 use Rattle.awk_lists.proofs.joining.joined_rows.Goals as goal
 
 pub plain_lists-requires : goal.plain_lists-requires
-plain_lists-requires g c = ap is_list c.requires.rows.typ ∙ c.requires.lists
+plain_lists-requires g c = ap is_list_or_unknown c.requires.rows.typ ∙ c.requires.lists
 
 pub returns-in-TooMany : goal.returns-in-TooMany
 returns-in-TooMany g c =

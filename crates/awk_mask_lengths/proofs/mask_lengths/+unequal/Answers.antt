@@ -33,7 +33,7 @@ unequal-unequal_at-requires g n c κs within =
     omega (arith, c.loop-i-test.true, c.len-i-end.ensures.len) in (
       omega (
         arith,
-        item_depth (array_type c.args.m.now) (array_type c.in_ok-ms.ms.content)
+        item_depth (array_type c.args.m.now) (array_type c.in_ok-ms.ms.lists.content)
             c.in_ok-ms.ensures.typ,
         c.decreases,
       ),
@@ -41,7 +41,7 @@ unequal-unequal_at-requires g n c κs within =
         within,
         (
           items_mask (array_type c.args.m.now) (array_type c.args.x.now)
-              (array_type c.in_ok-ms.ms.content) (array_type c.in_ok-xs.xs.content)
+              (array_type c.in_ok-ms.ms.lists.content) (array_type c.in_ok-xs.xs.lists.content)
               c.in_ok-ms.ensures.typ c.in_ok-xs.ensures.typ c.requires.masks,
           (
             place_among c.args.x.now _ _ _ _ c.in_ok-xs.ensures c.loop-i.i p,
@@ -60,10 +60,11 @@ unequal-returns-then-branch g n c =
     omega (arith, c.loop-i-test.true, c.len-i-end.ensures.len) in
     let q : c.loop-i.i < len c.args.m.now = omega (arith, p, e) in
     arrays_one (differs (array_type c.args.m.now)) c.args.m.now c.args.x.now c.loop-i.i e q
-    (lists_told c.args.m.now c.in_ok-ms.ms.index c.in_ok-ms.ms.starts c.in_ok-ms.ms.stops
-    c.in_ok-ms.ms.content c.args.x.now c.in_ok-xs.xs.index c.in_ok-xs.xs.starts
-    c.in_ok-xs.xs.stops c.in_ok-xs.xs.content c.in_ok-ms.ensures c.in_ok-xs.ensures c.loop-i.i
-    q p c.in_ok-unequal_at.field-0 true c.in_ok-unequal_at.ensures c.if-branch.true)
+    (lists_told c.args.m.now c.in_ok-ms.ms.index c.in_ok-ms.ms.lists.starts
+    c.in_ok-ms.ms.lists.stops c.in_ok-ms.ms.lists.content c.args.x.now c.in_ok-xs.xs.index
+    c.in_ok-xs.xs.lists.starts c.in_ok-xs.xs.lists.stops c.in_ok-xs.xs.lists.content
+    c.in_ok-ms.ensures c.in_ok-xs.ensures c.loop-i.i q p c.in_ok-unequal_at.field-0 true
+    c.in_ok-unequal_at.ensures c.if-branch.true)
 
 pub unequal-loop-i-preserved : goal.unequal-loop-i-preserved
 unequal-loop-i-preserved g n c =
@@ -75,10 +76,11 @@ unequal-loop-i-preserved g n c =
     one_more
     (λ k. differs (array_type c.args.m.now) (array_item c.args.m.now k)
     (array_item c.args.x.now k)) c.loop-i.i c.loop-i.invariant
-    (lists_told c.args.m.now c.in_ok-ms.ms.index c.in_ok-ms.ms.starts c.in_ok-ms.ms.stops
-    c.in_ok-ms.ms.content c.args.x.now c.in_ok-xs.xs.index c.in_ok-xs.xs.starts
-    c.in_ok-xs.xs.stops c.in_ok-xs.xs.content c.in_ok-ms.ensures c.in_ok-xs.ensures c.loop-i.i
-    q p c.in_ok-unequal_at.field-0 false c.in_ok-unequal_at.ensures c.if-branch.false)
+    (lists_told c.args.m.now c.in_ok-ms.ms.index c.in_ok-ms.ms.lists.starts
+    c.in_ok-ms.ms.lists.stops c.in_ok-ms.ms.lists.content c.args.x.now c.in_ok-xs.xs.index
+    c.in_ok-xs.xs.lists.starts c.in_ok-xs.xs.lists.stops c.in_ok-xs.xs.lists.content
+    c.in_ok-ms.ensures c.in_ok-xs.ensures c.loop-i.i q p c.in_ok-unequal_at.field-0 false
+    c.in_ok-unequal_at.ensures c.if-branch.false)
 
 pub unequal-returns : goal.unequal-returns
 unequal-returns g n c =

@@ -10,7 +10,7 @@ abbrev pub decreases-unequal : goal.decreases-unequal
 decreases-unequal g l = 2 * depth (array_type l.m.now)
 
 abbrev pub decreases-unequal_at : goal.decreases-unequal_at
-decreases-unequal_at g l = 2 * depth (array_type l.ms.now.content) + 1
+decreases-unequal_at g l = 2 * depth (array_type l.ms.now.lists.content) + 1
 
 -- no pair before this place differs
 abbrev pub invariant-unequal-loop-i : goal.invariant-unequal-loop-i

@@ -16,18 +16,11 @@ pub returns : goal.returns
 returns g c =
     let o : OpensLists c.in-Items.lists.class c.in-Items.lists.starts c.in-Items.lists.stops
     c.in-Items.lists.content c.args.x.now = rw c.in-Items.is at c.in_ok-lists.ensures in
-    rw (
-      c.copy.ensures,
-      c.starts.ensures,
-      c.copy-in-Items.ensures,
-      c.stops.ensures,
-      c.in_ok-copy-in-Items.ensures,
-      c.content.ensures.content,
-    ) (record {
+    record {
       typ = subst (λ t. IsItemType t (array_type c.in-Items.lists.content)) (sym o.typ)
           (item_type c.in-Items.lists.class (array_type c.in-Items.lists.content));
       index = refl;
       spans = o.lists.spans;
       size = o.size;
       items = o.items;
-    })
+    }

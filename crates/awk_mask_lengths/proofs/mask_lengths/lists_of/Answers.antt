@@ -6,7 +6,8 @@ use Rattle.awk_layout.specs.Valid.{len}
 use Rattle.awk_lanes.specs.Made.{lane_of}
 use Rattle.awk_columns.specs.Opened.{OpensOption}
 use Rattle.awk_axis.proofs.IfOk.{if_ok}
-use Rattle.awk_mask_lengths.specs.MaskLists.{AreInside, is_list}
+use Rattle.awk_mask_lengths.specs.MaskLists.{AreInside}
+use Rattle.awk_types.specs.Predicates.{is_list}
 use Rattle.awk_mask_lengths.proofs.MaskLists.{whole_lists, option_lists}
 use Rattle.awk_mask_lengths.proofs.mask_lengths.lists_of.Goals as goal
 
@@ -15,8 +16,9 @@ returns-then-not-is_optional g c =
     let e : c.in_ok-index.index ≡ lane_of I64 (len c.args.x.now) (λ i. pos i) =
     c.in_ok-index.ensures ∙ ap (λ n. lane_of I64 n (λ i. pos i)) c.len.ensures.len in
     if_ok _ _ c.lists_at.result
-    (λ r h. whole_lists c.args.x.now r.index r.starts r.stops r.content
-    (subst (λ j. AreInside c.args.x.now j r.index r.starts r.stops r.content) e h))
+    (λ r h. whole_lists c.args.x.now r.index r.lists.starts r.lists.stops r.lists.content
+    (subst
+    (λ j. AreInside c.args.x.now j r.index r.lists.starts r.lists.stops r.lists.content) e h))
     c.lists_at.ensures
 
 pub returns : goal.returns
@@ -25,6 +27,6 @@ returns g c =
     rw c.in-Option.is at c.in_ok-index-2.ensures in
     let lists : is_list (array_type c.in-Option.content) ≡ true = rw op.typ at c.requires.lists in
     if_ok _ _ c.lists_at-in-Option.result
-    (λ r h. option_lists c.args.x.now c.in-Option.content c.in-Option.index r.index r.starts
-    r.stops r.content op lists h)
+    (λ r h. option_lists c.args.x.now c.in-Option.content c.in-Option.index r.index r.lists.starts
+    r.lists.stops r.lists.content op lists h)
     c.lists_at-in-Option.ensures

@@ -2,7 +2,7 @@ use Rattle.std.specs.Prelude.{false}
 use Rattle.std.proofs.Common.{◌≡◌, ap, sym, ◌∙◌}
 use Rattle.awk_types.specs.Simple.{is_option}
 use Rattle.awk_layout.specs.Typing.{array_type}
-use Rattle.awk_mask_lengths.specs.MaskLists.{is_list}
+use Rattle.awk_types.specs.Predicates.{is_list}
 use Rattle.awk_mask_levels.proofs.MaskColumns.{innermost_mask}
 use Rattle.awk_mask_levels.proofs.mask_levels.level_of.Goals as goal
 

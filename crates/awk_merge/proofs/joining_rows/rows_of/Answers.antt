@@ -11,13 +11,13 @@ use Rattle.awk_merge.proofs.joining_rows.rows_of.Goals as goal
 pub plain_rows-requires-clause-lists : goal.plain_rows-requires-clause-lists
 plain_rows-requires-clause-lists g c =
     var_of (array_type c.args.x.now) c.requires.rows
-    (ap is_option (sym c.typ.ensures.typ) ∙ sym c.is_option.ensures ∙ c.if-not-is_option.true)
+    (ap is_option (sym c.typ.ensures.typ) ∙ sym c.is_optional.ensures ∙ c.if-not-is_optional.true)
 
 pub plain_rows-requires-clause-index : goal.plain_rows-requires-clause-index
 plain_rows-requires-clause-index g c = sym c.requires.whole
 
-pub returns-then-not-is_option : goal.returns-then-not-is_option
-returns-then-not-is_option g c =
+pub returns-then-not-is_optional : goal.returns-then-not-is_optional
+returns-then-not-is_optional g c =
     subst (Gives array_datum fault_told c.plain_rows.result)
     (whole_gives c.args.n c.args.k c.args.x.now c.requires.whole) c.plain_rows.ensures
 

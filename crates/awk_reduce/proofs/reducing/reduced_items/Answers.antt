@@ -3,21 +3,19 @@ use Rattle.std.proofs.lemmas.Result.{IfOk-weaker}
 use Rattle.awk_types.specs.Predicates.{is_leaf}
 use Rattle.awk_types.specs.Simple.{present}
 use Rattle.awk_lanes.specs.Places.{at, place_at}
-use Rattle.awk_layout.specs.Typing.{array_type, array_items}
+use Rattle.awk_layout.specs.Typing.{array_items}
 use Rattle.awk_axis.specs.Mapped.{IsMade}
 use Rattle.awk_parts.specs.Parts.{AreRising}
 use Rattle.awk_parts.specs.Spans.{span_count, AreEnds}
 use Rattle.awk_present.specs.Present.{ArePresent}
 use Rattle.awk_reduce.specs.Reduce.{reducer_function}
 use Rattle.awk_reduce.proofs.JoinedLaws.{lists_rise, last_items, few_items, joined_ready}
-use Rattle.awk_reduce.proofs.ListLaws.{leaf_same, made_of_lists}
+use Rattle.awk_reduce.proofs.ListLaws.{made_of_lists}
 use Rattle.awk_reduce.proofs.reducing.reduced_items.Goals as goal
 
 pub present_of-requires-clause-leaves : goal.present_of-requires-clause-leaves
 present_of-requires-clause-leaves g c =
-    let l = c.args.lists.now in
-    ap (λ t. is_leaf (present t)) c.requires.joins.typ
-    ∙ leaf_same (present (array_type l.content)) ∙ c.requires.leaves
+    ap (λ t. is_leaf (present t)) c.requires.joins.typ ∙ c.requires.leaves
 
 pub present_of-requires-clause-rising : goal.present_of-requires-clause-rising
 present_of-requires-clause-rising g c =

@@ -6,15 +6,13 @@ use Rattle.awk_axis.specs.Mapped.{IsMade}
 use Rattle.awk_parts.specs.Spans.{span_count}
 use Rattle.awk_present.specs.Present.{AreLeaves}
 use Rattle.awk_reduce.specs.Reduce.{reducer_function}
-use Rattle.awk_reduce.proofs.ListLaws.{leaf_same, made_of_lists, total-is}
+use Rattle.awk_reduce.proofs.ListLaws.{made_of_lists, total-is}
 use Rattle.awk_reduce.proofs.PlainLaws.{plain_ready}
 use Rattle.awk_reduce.proofs.reducing.reduced_plain.Goals as goal
 
 pub leaves_of-requires : goal.leaves_of-requires
 leaves_of-requires g c =
-    let l = c.args.lists.now in
-    ap (λ y. is_leaf (array_type y)) c.content.ensures.content
-    ∙ leaf_same (array_type l.content) ∙ c.requires.leaves
+    ap (λ y. is_leaf (array_type y)) c.content.ensures.content ∙ c.requires.leaves
 
 pub reduced-requires : goal.reduced-requires
 reduced-requires g c =
