@@ -1,9 +1,10 @@
 -- A place in a list of keys is that of the name.
-use Rattle.std.proofs.Common.{◌≡◌, ◌≤◌, ◌+◌, ℕ, suc, Bool, true, false, List, [], ◌∷◌, ◌++◌, length, map, Some, None, refl, ap, sym, ◌∙◌, cond, nat_lt, arith}
+use Rattle.std.proofs.Common.{◌≡◌, ◌≤◌, ◌+◌, ◌||◌, ℕ, suc, Bool, true, false, List, [], ◌∷◌, ◌++◌, length, map, Some, None, refl, ap, ap₂, sym, ◌∙◌, cond, nat_lt, arith}
 use Rattle.std.specs.Prelude.{not, position}
 use Rattle.std.specs.Borrow.{Bor}
 use Rattle.std.specs.List.{list_any, position_or_len}
 use Rattle.std.specs.Str.{bytes_eq}
+use Rattle.std.proofs.Math.Bool.{not-not}
 use Rattle.std.proofs.lemmas.List.{map-append}
 use Rattle.awk_types.specs.DataType.{DataType, Name}
 use Rattle.awk_types.proofs.Views.{named_type}
@@ -11,7 +12,7 @@ use Rattle.awk_types.specs.View.{NamedType, field_of, field_step, fields_step, t
 use Rattle.awk_types.specs.declared.typ.Field.{Field}
 use Rattle.awk_types.specs.declared.typ.Typ.TheViews.{out-Field}
 use Rattle.awk_types.specs.declared.typ.Typ.TheFolds.{fold_out-Field}
-use Rattle.awk_types.specs.Names.{same_name}
+use Rattle.awk_types.specs.Names.{same_name, is_among}
 use Rattle.awk_types.proofs.NameLaws.{same_name_is, same_name-refl}
 use Rattle.awk_name_places.specs.Places.{place_in}
 
@@ -95,6 +96,20 @@ keys-more old new key added is_new told pushed =
     by true true e t p = absurd (cc)
     by true false e t p =
         ap (map (λ k. k.now)) p ∙ map-append (λ (k : Bor (List ℕ)). k.now) old (key ∷ [])
+
+-- ---- whether a name is one of the keys
+
+any-among : (name : Name) (ks : List (Bor (List ℕ)))
+    → list_any (λ k. bytes_eq name k.now) ks ≡ is_among name (map (λ k. k.now) ks)
+any-among name [] = refl
+any-among name (k ∷ ks) = ap₂ (λ s t. s || t) (same_name-flip name k.now) (any-among name ks)
+
+-- a key is added exactly where the name is not one of those before
+pub keys-among : (name : Name) (ks : List (Bor (List ℕ))) (names : List Name) (added : Bool)
+    → map (λ k. k.now) ks ≡ names → added ≡ not (list_any (λ k. bytes_eq name k.now) ks)
+    → is_among name names ≡ not added
+keys-among name ks names added shown told =
+    sym (any-among name ks ∙ ap (is_among name) shown) ∙ sym (not-not _) ∙ ap not (sym told)
 
 -- ---- the name of a field
 

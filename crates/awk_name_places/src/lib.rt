@@ -1,7 +1,8 @@
 //! The places of many names, found by a map and not by a walk over them.
 #![tactic(auto)]
 
-ghost use Rattle.std.specs.Prelude.{◌≡◌, IfOk, IfSome};
+ghost use Rattle.std.specs.Prelude.{◌≡◌, is_some, IfOk, IfSome};
+ghost use Rattle.awk_types.specs.Names.{are_distinct};
 ghost use Rattle.awk_types.specs.View.{names_of, fields_of};
 ghost use Rattle.awk_name_places.specs.Places.{place_in};
 
@@ -25,9 +26,10 @@ impl<'t> Model for NamePlaces<'t> {
 }
 
 impl<'t> NamePlaces<'t> {
-    /// The names; none where one comes twice.
+    /// The names; none exactly where one comes twice.
     pub fn of_names(alloc: Global, names: &'t Names) -> Result<Option<NamePlaces<'t>>, NoMemory>
-        ensures { IfOk result (λ found. IfSome found (λ places. places ≡ names.now)) }
+        ensures names { IfOk result (λ found. IfSome found (λ places. places ≡ names.now)) }
+        ensures distinct { IfOk result (λ found. is_some found ≡ are_distinct names.now) }
     {
         let mut set = IndexSet::new(alloc);
         for i in 0..names.len() {
@@ -38,18 +40,20 @@ impl<'t> NamePlaces<'t> {
         Ok(Some(NamePlaces { names: set }))
     }
 
-    /// The names of fields; none where one comes twice.
+    /// The names of fields; none exactly where one comes twice.
     pub fn of_fields(alloc: Global, fields: &'t Fields) -> Result<Option<NamePlaces<'t>>, NoMemory>
-        ensures { IfOk result (λ found. IfSome found (λ places.
+        ensures names { IfOk result (λ found. IfSome found (λ places.
             places ≡ names_of (fields_of fields.now))) }
+        ensures distinct { IfOk result (λ found.
+            is_some found ≡ are_distinct (names_of (fields_of fields.now))) }
     {
-        let mut set = IndexSet::new(alloc);
+        let mut names = IndexSet::new(alloc);
         for i in 0..fields.len() {
-            if !set.insert(fields.get(i).name.as_str())? {
+            if !names.insert(fields.get(i).name.as_str())? {
                 return Ok(None);
             }
         }
-        Ok(Some(NamePlaces { names: set }))
+        Ok(Some(NamePlaces { names }))
     }
 
     /// The place of a name, or the number of names where it is not there.

@@ -1,5 +1,6 @@
 //! Fields of records by name.
-ghost use Rattle.std.specs.Prelude.{◌≡◌, ◌≤◌, length, map, IfOk, IfSome};
+ghost use Rattle.std.specs.Prelude.{◌≡◌, ◌≤◌, ◌&&◌, nat_lt, is_some, length, map, IfOk, IfSome};
+ghost use Rattle.awk_types.specs.Names.{are_distinct};
 ghost use Rattle.awk_types.specs.View.{names_of, fields_of, typs_of};
 ghost use Rattle.awk_unify.specs.Carries.{carry_at};
 ghost use Rattle.awk_unify.specs.FieldNames as said;
@@ -33,13 +34,15 @@ pub(crate) fn place(xs: &Fields, name: &Name) -> usize
 /// Up to so many names are looked up one by one, and more by a map.
 const FEW: usize = 16;
 
-/// The names by a map, where there are many of them and none comes twice.
+/// The names by a map, exactly where there are many of them and none comes twice.
 pub(crate) fn known_places<'t>(
     alloc: Global,
     xs: &'t Fields,
 ) -> Result<Option<NamePlaces<'t>>, NoMemory>
-    ensures { IfOk result (λ known.
+    ensures names { IfOk result (λ known.
         IfSome known (λ places. places ≡ names_of (fields_of xs.now))) }
+    ensures many { let many = nat_lt 16 (length (fields_of xs.now)) in
+        IfOk result (λ known. is_some known ≡ (many && are_distinct (names_of (fields_of xs.now)))) }
 {
     if xs.len() <= FEW {
         return Ok(None);

@@ -35,13 +35,25 @@ fn each_before(alloc: Global, g: &Lift, fs: &Lifts) -> Result<Lifts, NoMemory>
     Ok(made)
 }
 
+/// The same. A lift that keeps each value changes none, so types that are all the same are unified
+/// in the time of one pass.
+fn all_before(alloc: Global, g: &Lift, fs: Lifts) -> Result<Lifts, NoMemory>
+    ensures { let made = map (then (lift_of g.now)) (lifts_of fs) in
+        IfOk result (λ hs. lifts_of hs ≡ made) }
+{
+    match g {
+        Lift::Same => Ok(fs),
+        _ => each_before(alloc, g, &fs),
+    }
+}
+
 /// One type more.
 fn further(alloc: Global, whole: UnifiedAll, t: &Typ) -> Result<UnifiedAll, NoMemory>
     ensures { let made = one_further (all_of whole) (typ_of t.now) in
         IfOk result (λ u. all_of u ≡ made) }
 {
     let Unified { typ, left, right } = unified(alloc, &whole.typ, t)?;
-    let mut lifts = each_before(alloc, &left, &whole.lifts)?;
+    let mut lifts = all_before(alloc, &left, whole.lifts)?;
     lifts.push(right)?;
     Ok(UnifiedAll { typ, lifts })
 }
