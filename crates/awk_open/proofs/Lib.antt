@@ -9,3 +9,4 @@ pub mod SpreadUnions
 pub mod ItemShapes
 pub mod SettledUnions
 pub mod OpenedContents
+pub mod FirstIndexes

@@ -9,6 +9,7 @@ mod outermost;
 mod spread;
 mod unions;
 mod whole;
+mod whole_index;
 
 pub use opening::Opened;
 pub use outermost::opened;

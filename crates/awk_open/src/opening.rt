@@ -1,5 +1,5 @@
 //! The outermost kind of an array.
-ghost use Rattle.std.specs.Prelude.{◌≡◌, ◌+◌, ◌*◌, ◌-◌, ◌<◌, ◌≤◌, ◌^◌, None, IfOk, option_map, pos};
+ghost use Rattle.std.specs.Prelude.{◌≡◌, ◌+◌, ◌*◌, ◌-◌, ◌<◌, ◌≤◌, ◌^◌, None, IfOk, option_map};
 ghost use Rattle.std.specs.Prelude.{false};
 ghost use Rattle.awk_types.specs.Limit.{limit};
 ghost use Rattle.awk_types.specs.Simple.{is_union, present};
@@ -9,13 +9,15 @@ ghost use Rattle.awk_layout.specs.Layout.{layouts_from, flat, lists, offset_list
 ghost use Rattle.awk_layout.specs.Layout.{regular as regular_lists, rows};
 ghost use Rattle.awk_layout.specs.Typing.{array_type};
 ghost use Rattle.awk_layout.specs.Valid.{len, IsValid};
-ghost use Rattle.awk_lanes.specs.Made.{lane_of};
 ghost use Rattle.awk_gather.specs.Lanes.{picked, multiples, AreBlocks};
 ghost use Rattle.awk_open.specs.Opened.{IsOpened, IsOpenedAt, ArePicked, AreAllPlaces, AreWithin};
 ghost use Rattle.awk_open.specs.Plain.{IsPlain};
 
-use awk_gather::{Peeled, array_within, gather_lane, gather_node, next_lane, peel};
-use awk_lanes::{Arena, IndexMaker, Lane, Steps, number, ordinals, place_in};
+use crate::whole_index::peel_whole;
+use awk_gather::{Peeled, array_within, gather_lane, gather_node, next_lane};
+use awk_lanes::{
+    Arena, Index, Kind, Lane, Num, Numbers, Steps, made_lane, number, to_place, wide_index,
+};
 use awk_layout::{Array, Arrays, Class, Node, Nodes};
 use awk_types::{Names, NoMemory, copy_names, is_optional};
 use std::alloc::Global;
@@ -53,11 +55,38 @@ pub enum Opened<'a> {
 }
 
 /// So many places past the multiples of places.
-#[tactic(auto, using(awk_lanes::proofs::MadeLanes::making))]
+#[derive(Drop)]
+struct Multiples<'a> {
+    size: u64,
+    distance: u64,
+    places: Index<'a>,
+}
+
+impl<'a> Numbers for Multiples<'a> {
+    ghost use Rattle.std.specs.Prelude.{◌+◌, ◌*◌, ◌-◌, ◌≤◌, ◌^◌, pos};
+    ghost use Rattle.awk_lanes.specs.Places.{size_of, place_at};
+    ghost use Rattle.awk_lanes.specs.declared.kind.Kind.TheVariants as Kind;
+    ghost use Rattle.awk_gather.specs.Lanes.{AreBlocks};
+
+    ghost kind = { λ _. Kind.I64 };
+
+    ghost at = { λ m i. pos (place_at m.places i * m.size + m.distance) };
+
+    ghost size = { λ m. size_of m.places };
+
+    ghost IsReady = { λ m. (m.distance ≤ m.size) × AreBlocks (2 ^ 63 - 1) m.size m.places };
+
+    fn number<L: Ledger>(&self, i: u64, _steps: &mut Steps<L>) -> Num {
+        let place = to_place(self.places.number(i));
+        number(multiple(place, self.size, self.distance))
+    }
+}
+
+/// The lane of them.
 fn multiple_lane<'a, L: Ledger>(
     size: u64,
     distance: u64,
-    places: &Lane,
+    places: &Lane<'a>,
     arena: &'a Arena,
     steps: &mut Steps<L>,
 ) -> Result<Lane<'a>, NoMemory>
@@ -66,13 +95,12 @@ fn multiple_lane<'a, L: Ledger>(
     requires blocks { AreBlocks (2 ^ 63 - 1) size places.now }
     ensures lane { IfOk result (λ r. r ≡ multiples size distance places.now) }
 {
-    let n = places.len();
-    let mut maker = IndexMaker::new(n, arena)?;
-    for i in 0..n {
-        let first = multiple(place_in(places, i, steps), size, distance);
-        maker.push(number(first));
-    }
-    Ok(maker.finish())
+    let source = Multiples {
+        size,
+        distance,
+        places: wide_index(places, steps),
+    };
+    made_lane(Kind::I64, places.len(), &source, arena, steps)
 }
 
 fn multiple(place: u64, size: u64, distance: u64) -> u64
@@ -280,8 +308,8 @@ pub fn open_peeled<'a, L: Ledger>(
     requires { is_union (present (array_type x.now)) ≡ false }
     ensures opened { IfOk result (IsOpened x.now) }
 {
-    let first = ordinals(x.len(), arena, steps)?;
-    let Peeled { index, content } = peel(alloc, x.node(), first, arena, steps)?;
+    let _ = x.len();
+    let Peeled { index, content } = peel_whole(alloc, x.node(), arena, steps)?;
     if is_optional(x.typ()) {
         let _ = content.len();
         let content = array_within(alloc, content)?;

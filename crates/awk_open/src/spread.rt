@@ -1,5 +1,5 @@
 //! A node as alternatives that are neither optional nor unions.
-ghost use Rattle.std.specs.Prelude.{◌≡◌, ℕ, ◌+◌, ◌<◌, ◌^◌, ◌≤ℤ◌, ◌++◌, ◌∷◌, [], pos, length, IfOk};
+ghost use Rattle.std.specs.Prelude.{◌≡◌, ℕ, ◌+◌, ◌<◌, ◌^◌, ◌≤ℤ◌, ◌++◌, ◌∷◌, [], pos, IfOk};
 ghost use Rattle.std.specs.Prelude.{OnOk};
 ghost use Rattle.awk_lanes.specs.Numbers.{nat_of, int_of, IsOf};
 ghost use Rattle.awk_lanes.specs.Places.{size_of, at, place_at, option_place_at, IsOptionalIndex};
