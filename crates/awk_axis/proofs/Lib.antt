@@ -16,3 +16,4 @@ mod Worked
 pub mod ItemAnswers
 pub mod WholeAnswers
 pub mod LiftAnswers
+pub mod SpoilLimits

@@ -23,6 +23,8 @@ use Rattle.awk_layout.specs.Typing.{array_type, array_items, array_datum}
 use Rattle.awk_gather.specs.Arrays.{array_item, IsGathered}
 use Rattle.awk_columns.specs.Columns.{list_items, joined_items, offsets}
 use Rattle.awk_columns.specs.Counted.{first_of, span_at, spans, places_lane, offset_at, offsets_lane, AreBelow, IsRow}
+use Rattle.awk_lanes.specs.Counted.{before, offsets_by}
+use Rattle.awk_columns.specs.Lists.{span_length}
 use Rattle.awk_columns.specs.ListValues.{list_at, list_values, joined_datum, AreJoined}
 use Rattle.awk_columns.specs.Reached.{IsReached}
 use Rattle.awk_columns.proofs.FirstPlaces.{length-first_of, first_of-mono, first_of-room}
@@ -73,6 +75,24 @@ offsets_first s t y (suc n) =
 
 pub offsets_lane-is : (s t : Column) (y : Layout) → offsets_lane s t ≡ record { kind = I64; items = offsets 0 (list_values s t y) }
 offsets_lane-is s t y = ap (λ zs. record { kind = I64; items = zs }) (sym (offsets_first s t y (size_of s)))
+
+-- the lengths of the lists before one, as the count of their places
+pub before-spans : (s t : Column) (i : ℕ) → before (span_length s t) i ≡ length (first_of (span_at s t) i)
+before-spans s t zero = refl
+before-spans s t (suc i) =
+    let e : i + 1 ≡ suc i = omega arith in
+    let w : length (span_at s t i) ≡ place_at t i - place_at s i = length-range_with_len (place_at s i) (place_at t i - place_at s i) in
+    subst (λ k. before (span_length s t) (suc i) ≡ length (first_of (span_at s t) k)) e
+    (omega (arith, before-spans s t i, length-first_of (span_at s t) i, w))
+
+numbers_same : (f g : ℕ → ℤ) (a n : ℕ) → ((i : ℕ) → f i ≡ g i) → map f (range_with_len a n) ≡ map g (range_with_len a n)
+numbers_same f g a zero h = refl
+numbers_same f g a (suc n) h = ap₂ (λ z zs. z ∷ zs) (h a) (numbers_same f g (a + 1) n h)
+
+pub offsets_by-is : (s t : Column) → offsets_by (span_length s t) (size_of s) ≡ offsets_lane s t
+offsets_by-is s t =
+    ap (λ zs. record { kind = I64; items = zs })
+    (numbers_same (λ i. pos (before (span_length s t) i)) (offset_at s t) 0 (size_of s + 1) (λ i. ap pos (before-spans s t i)))
 
 size-offsets : (s t : Column) → size_of (offsets_lane s t) ≡ size_of s + 1
 size-offsets s t = size-lane_of I64 (size_of s + 1) (offset_at s t)

@@ -11,3 +11,7 @@ pub mod JoinedLists
 pub mod ArrayLaws
 pub mod OpeningLaws
 pub mod ListNodes
+pub mod MovedNumbers
+pub mod SpanLaws
+pub mod OffsetLaws
+pub mod ItemLimits

@@ -2,8 +2,10 @@
 use Rattle.std.proofs.Common.{◌≡◌, ℕ, ◌+◌, ◌<◌, List, [], ◌∷◌, ◌++◌, map, length, arith, refl, ap, sym, ◌∙◌, subst}
 use Rattle.std.specs.Prelude.{ℤ, pos, Option, Some, None}
 use Rattle.std.proofs.lemmas.List.{append-nil, length-map, map-append}
-use Rattle.awk_lanes.specs.declared.kind.Kind.TheVariants.{I64}
+use Rattle.awk_lanes.specs.declared.kind.Kind.{Kind}
+use Rattle.awk_lanes.specs.declared.kind.Kind.TheVariants.{Bool as Truths, I8, I16, I32, I64, U8, U16, U32, U64}
 use Rattle.awk_lanes.specs.Making.{Making, with_item}
+use Rattle.awk_lanes.specs.Places.{IsIndexKind, IsOptionKind}
 use Rattle.awk_columns.specs.Counted.{first_of}
 use Rattle.awk_columns.proofs.FirstPlaces.{first_of-more, first_of-room}
 
@@ -24,12 +26,24 @@ places_pushed n ks k z old new e g h = record {
 pub places_room : (n : ℕ) (ks : List ℕ) (m : Making) → length ks < n → ArePlaces n ks m → length m.items < m.room
 places_room n ks m l h = omega (arith, ap length h.items, length-map ks (λ k. pos k), h.room)
 
+-- the index of an option is an index
+pub option-index : (k : Kind) → IsOptionKind k → IsIndexKind k
+option-index Truths h = h
+option-index I8 h = h
+option-index I16 h = h
+option-index I32 h = tt
+option-index I64 h = tt
+option-index U8 h = h
+option-index U16 h = h
+option-index U32 h = absurd h
+option-index U64 h = h
+
 -- ---- the places that f gives, one place after another
 
 -- no place is none
-pub none_left : (o : Option ℕ) → ((k : ℕ) → o ≡ Some k → ⊥) → o ≡ None
+pub none_left : {X : Type 0} (o : Option X) → ((x : X) → o ≡ Some x → ⊥) → o ≡ None
 none_left None h = refl
-none_left (Some k) h = absurd (h k refl)
+none_left (Some x) h = absurd (h x refl)
 
 pub given_pushed : (f : ℕ → List ℕ) (n i k : ℕ) (z : ℤ) (old new : Making) → f i ≡ k ∷ [] → new ≡ with_item old z → z ≡ pos k → ArePlaces n (first_of f i) old → ArePlaces n (first_of f (i + 1)) new
 given_pushed f n i k z old new o e g h =

@@ -1,7 +1,7 @@
 -- What is made of lanes when contents are brought in order: the places that are taken, and new
 -- lanes.
 use Rattle.std.specs.Prelude.{◌≡◌, ℕ, ◌+◌, ◌<◌, ◌≤◌, ◌≤ℤ◌, ◌-◌, ◌^◌, ◌==◌, List, [], ◌∷◌, length}
-use Rattle.std.specs.Prelude.{map, ℤ, pos, negsuc, Option, Some, None, if◌then◌else◌}
+use Rattle.std.specs.Prelude.{map, get_or, ℤ, pos, negsuc, Option, Some, None, if◌then◌else◌}
 use Rattle.std.specs.List.{range_with_len, flat_map}
 use Rattle.awk_lanes.specs.declared.kind.Kind.TheVariants.{I8, I64}
 use Rattle.awk_lanes.specs.Column.{Column}
@@ -15,6 +15,10 @@ first_of f n = flat_map f (range_with_len 0 n)
 -- these places as a lane
 abbrev pub places_lane : List ℕ → Column
 places_lane ks = record { kind = I64; items = map (λ k. pos k) ks }
+
+-- the numbers at these places, as they lie
+abbrev pub numbers_at : Column → List ℕ → Column
+numbers_at c ks = record { kind = c.kind; items = map (λ k. get_or c.items k (pos 0)) ks }
 
 -- each of these is a place of n items
 abbrev pub AreBelow : ℕ → List ℕ → Type 0

@@ -5,18 +5,12 @@ ghost use Rattle.awk_layout.specs.Valid.{len};
 ghost use Rattle.awk_columns.specs.Lists.{AreLists, span_length};
 
 use crate::lists::Lists;
+use crate::spans::Span;
 use awk_lanes::{Arena, Index, Lengths, NoMemory, Steps, index_of, to_option_place};
 use awk_layout::Array;
 use std::alloc::Global;
 use std::marker::Model;
 use std::sync::ledger::Ledger;
-
-/// Where a list lies in the content: its items begin at a place, and are so many.
-#[derive(Clone, Copy)]
-pub struct Span {
-    pub start: u64,
-    pub length: u64,
-}
 
 /// Lists whose ends are read without asking for their kinds.
 #[derive(Drop)]
@@ -84,7 +78,7 @@ impl<'r, 'a> Bounds<'r, 'a> {
         ensures length { result ≡ span_length self.now.starts self.now.stops i }
         ensures fits { result < 2 ^ 63 }
     {
-        let _ = self.lists.content().len();
+        let _ = self.lists.content();
         let start = self.starts.number(i);
         let stop = self.stops.number(i);
         if start == stop {

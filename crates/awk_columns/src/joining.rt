@@ -11,9 +11,9 @@ ghost use Rattle.awk_columns.specs.Counted.{spans};
 ghost use Rattle.awk_columns.specs.ListValues.{list_values, joined_datum, AreJoined};
 ghost use Rattle.awk_columns.specs.Reached.{IsReached};
 
-use crate::spans::{offsets, row_start, span_lane, total};
-use awk_gather::gather;
-use awk_lanes::{Arena, Lane, Steps};
+use crate::moved::scattered;
+use crate::spans::{Ends, row_start, total};
+use awk_lanes::{Arena, Index, Lane, Steps, index_of, offsets_within};
 use awk_layout::Array;
 use awk_range::range;
 use awk_types::{Fault, ITEM_LIMIT, NoMemory};
@@ -28,12 +28,12 @@ pub struct OffsetLists<'a> {
     pub content: Array<'a>,
 }
 
-/// The items of lists, of which there are n: cut from the content where they lie in a row, gathered
-/// else.
+/// The items of lists, of which there are n: cut from the content where they lie in a row, moved or
+/// gathered else.
 fn joined_items<'a, L: Ledger>(
     alloc: Global,
-    starts: &Lane<'a>,
-    stops: &Lane<'a>,
+    starts: &Index<'a>,
+    stops: &Index<'a>,
     n: u64,
     content: &Array<'a>,
     arena: &'a Arena,
@@ -44,13 +44,43 @@ fn joined_items<'a, L: Ledger>(
     requires small { n < 2 ^ 63 }
     ensures reached { IfOk result (IsReached content.now (spans starts.now stops.now)) }
 {
-    match row_start(starts, stops, n, content.len(), steps) {
+    match row_start(starts, stops, n, content.len()) {
         Some(first) => range(alloc, content, first, first + n, steps),
-        None => {
-            let places = span_lane(starts, stops, n, arena, steps)?;
-            gather(alloc, content, &places, arena, steps)
-        }
+        None => scattered(alloc, starts, stops, n, content, arena, steps),
     }
+}
+
+/// `join_lists` of lists whose ends are seen at once.
+fn join_ends<'a, L: Ledger>(
+    alloc: Global,
+    starts: &Index<'a>,
+    stops: &Index<'a>,
+    content: &Array<'a>,
+    arena: &'a Arena,
+    steps: &mut Steps<L>,
+) -> Result<OffsetLists<'a>, Fault>
+    requires small { size_of starts.now < 2 ^ 63 }
+    requires spans { AreSpans starts.now stops.now (len content.now) }
+    ensures answer { let vs = list_values starts.now stops.now content.now in
+        let said = joined_datum (array_type content.now) vs in
+        Gives (λ j. array_datum j.content) fault_told result said }
+    ensures offsets { let vs = list_values starts.now stops.now content.now in
+        IfOk result (λ j. j.offsets ≡ record { kind = Kind.I64; items = offsets_of 0 vs }) }
+    ensures lists { let joins = AreJoined starts.now stops.now content.now in
+        IfOk result (λ j. joins j.offsets j.content) }
+{
+    let _ = content.len();
+    let n = starts.len();
+    let ends = Ends { starts, stops };
+    let Some(offsets) = offsets_within(ITEM_LIMIT, n, &ends, arena, steps)? else {
+        return Err(Fault::Size);
+    };
+    let items = joined_items(alloc, starts, stops, offsets.total, content, arena, steps)?;
+    let _ = items.len();
+    Ok(OffsetLists {
+        offsets: offsets.lane,
+        content: items,
+    })
 }
 
 /// The items of lists, one after another, and offsets into these. `Size` tells exactly that they
@@ -73,17 +103,9 @@ pub fn join_lists<'a, L: Ledger>(
     ensures lists { let joins = AreJoined starts.now stops.now content.now in
         IfOk result (λ j. joins j.offsets j.content) }
 {
-    let _ = content.len();
-    let Some(n) = total(ITEM_LIMIT, starts, stops, steps) else {
-        return Err(Fault::Size);
-    };
-    let offsets = offsets(starts, stops, arena, steps)?;
-    let items = joined_items(alloc, starts, stops, n, content, arena, steps)?;
-    let _ = items.len();
-    Ok(OffsetLists {
-        offsets,
-        content: items,
-    })
+    let starts = index_of(alloc, starts, arena, steps)?;
+    let stops = index_of(alloc, stops, arena, steps)?;
+    join_ends(alloc, &starts, &stops, content, arena, steps)
 }
 
 /// The items of lists, one after another, however many they are.
@@ -99,8 +121,10 @@ pub fn all_items<'a, L: Ledger>(
     ensures reached { IfOk result (IsReached content.now (spans starts.now stops.now)) }
 {
     let _ = content.len();
-    match total(i64::MAX as u64, starts, stops, steps) {
-        Some(n) => joined_items(alloc, starts, stops, n, content, arena, steps),
+    let starts = index_of(alloc, starts, arena, steps)?;
+    let stops = index_of(alloc, stops, arena, steps)?;
+    match total(i64::MAX as u64, &starts, &stops) {
+        Some(n) => joined_items(alloc, &starts, &stops, n, content, arena, steps),
         None => Err(AllocError),
     }
 }

@@ -114,12 +114,12 @@ impl<'a> Lists<'a> {
     }
 
     /// How many items list i has.
+    #[inline(always)]
     pub fn length_at<L: Ledger>(&self, i: u64, steps: &mut Steps<L>) -> u64
         requires within { i < size_of self.now.starts }
         ensures length { result ≡ span_length self.now.starts self.now.stops i }
         ensures fits { result < 2 ^ 63 }
     {
-        let _ = self.content.len();
         let start = index_at(&self.starts, i, steps);
         let stop = index_at(&self.stops, i, steps);
         if start == stop {

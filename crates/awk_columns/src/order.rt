@@ -15,12 +15,38 @@ ghost use Rattle.awk_open.specs.declared.opening.Opened.TheVariants as Opened;
 use crate::counted::{count_present, counted, present_lane};
 use crate::tagged::{count_tagged, counted_union, tagged_lane};
 use crate::taken::taken;
-use awk_lanes::{Arena, Lane, Steps};
+use awk_lanes::{Arena, Index, Lane, Steps, index_of};
 use awk_layout::{Array, Arrays};
 use awk_open::{Opened, opened};
 use awk_types::NoMemory;
 use std::alloc::Global;
 use std::sync::ledger::Ledger;
+
+/// An option over its present items alone, by its index seen at once.
+fn order_seen<'a, L: Ledger>(
+    alloc: Global,
+    index: &Index<'a>,
+    content: &Array<'a>,
+    arena: &'a Arena,
+    steps: &mut Steps<L>,
+) -> Result<Opened<'a>, NoMemory>
+    requires valid { IsValid (optional index.now content.now) }
+    requires present { is_option (array_type content.now) ≡ false }
+    ensures opened { (x : Layout) → IsOpened x (Opened.Option index.now content.now) →
+        IfOk result (IsOpened x) }
+    ensures order { (x : Layout) → IsOpened x (Opened.Option index.now content.now) →
+        IfOk result (IsInOrder (array_items x)) }
+{
+    let n = count_present(index);
+    let places = present_lane(index, n, arena)?;
+    let items = taken(alloc, content, &places, arena, steps)?;
+    let _ = items.len();
+    let index = counted(index, arena)?;
+    Ok(Opened::Option {
+        index,
+        content: items,
+    })
+}
 
 /// An option over its present items alone.
 fn order_option<'a, L: Ledger>(
@@ -37,15 +63,8 @@ fn order_option<'a, L: Ledger>(
     ensures order { (x : Layout) → IsOpened x (Opened.Option index.now content.now) →
         IfOk result (IsInOrder (array_items x)) }
 {
-    let n = count_present(index, steps);
-    let places = present_lane(index, n, arena, steps)?;
-    let items = taken(alloc, content, &places, arena, steps)?;
-    let _ = items.len();
-    let index = counted(index, arena, steps)?;
-    Ok(Opened::Option {
-        index,
-        content: items,
-    })
+    let index = index_of(alloc, index, arena, steps)?;
+    order_seen(alloc, &index, content, arena, steps)
 }
 
 /// The items of alternative a alone.

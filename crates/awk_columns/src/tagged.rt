@@ -6,7 +6,7 @@ ghost use Rattle.awk_columns.specs.Counted.{first_of, places_lane, present_place
 ghost use Rattle.awk_columns.specs.Counted.{AreTagged, counted_tags};
 
 use crate::counted::one_if;
-use awk_lanes::{Arena, Kind, Lane, LaneMaker, NoMemory, Steps, number, place_in, tag_in};
+use awk_lanes::{Arena, IndexMaker, Lane, NoMemory, Steps, number, place_in, tag_in};
 use std::alloc::Global;
 use std::sync::ledger::Ledger;
 
@@ -51,7 +51,7 @@ pub fn tagged_lane<'a, L: Ledger>(
     ensures lane { let places = first_of (tagged_at tags.now index.now a) (size_of tags.now) in
         IfOk result (λ r. r ≡ places_lane places) }
 {
-    let mut maker = LaneMaker::new(Kind::I64, n, arena)?;
+    let mut maker = IndexMaker::new(n, arena)?;
     for i in 0..tags.len() {
         if let Some(place) = tagged(tags, index, a, i, steps) {
             maker.push(number(place));
@@ -89,7 +89,7 @@ pub fn counted_union<'a, L: Ledger>(
 {
     let n = tags.len();
     let mut counts = vec![in alloc; 0u64; alternatives]?;
-    let mut maker = LaneMaker::new(Kind::I64, n, arena)?;
+    let mut maker = IndexMaker::new(n, arena)?;
     for i in 0..n {
         let tag = tag_in(tags, i, steps) as usize;
         let count = count_one(&mut counts, tag);

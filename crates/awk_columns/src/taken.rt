@@ -8,21 +8,21 @@ ghost use Rattle.awk_gather.specs.Arrays.{pick};
 ghost use Rattle.awk_columns.specs.Counted.{IsRun};
 
 use awk_gather::gather;
-use awk_lanes::{Arena, Lane, NoMemory, Steps, place_in};
+use awk_lanes::{Arena, Index, Lane, NoMemory, Steps, to_place, wide_index};
 use awk_layout::Array;
 use awk_range::range;
 use std::alloc::Global;
 use std::sync::ledger::Ledger;
 
 /// Whether places go up one by one from a first one.
-fn is_run<L: Ledger>(places: &Lane, first: u64, n: u64, steps: &mut Steps<L>) -> bool
+fn is_run(places: &Index, first: u64, n: u64) -> bool
     requires kind { places.now.kind ≡ Kind.I64 }
     requires places { IsIndex places.now n }
     requires first { first < 2 ^ 63 }
     ensures { IsTrue result → (i : ℕ) → i < size_of places.now → place_at places.now i ≡ first + i }
 {
     for i in 0..places.len() {
-        if place_in(places, i, steps) != first + i {
+        if to_place(places.number(i)) != first + i {
             return false;
         }
     }
@@ -30,7 +30,7 @@ fn is_run<L: Ledger>(places: &Lane, first: u64, n: u64, steps: &mut Steps<L>) ->
 }
 
 /// The first place, or 0 where there is none.
-fn first_place<L: Ledger>(places: &Lane, n: u64, steps: &mut Steps<L>) -> u64
+fn first_place(places: &Index, n: u64) -> u64
     requires kind { places.now.kind ≡ Kind.I64 }
     requires places { IsIndex places.now n }
     ensures { result ≤ n }
@@ -38,7 +38,7 @@ fn first_place<L: Ledger>(places: &Lane, n: u64, steps: &mut Steps<L>) -> u64
     if places.len() == 0 {
         0
     } else {
-        place_in(places, 0, steps)
+        to_place(places.number(0))
     }
 }
 
@@ -49,9 +49,10 @@ fn run_start<L: Ledger>(places: &Lane, n: u64, steps: &mut Steps<L>) -> Option<u
     requires places { IsIndex places.now n }
     ensures { IfSome result (IsRun places.now n) }
 {
-    let first = first_place(places, n, steps);
-    if first + places.len() <= n {
-        if is_run(places, first, n, steps) {
+    let seen = wide_index(places, steps);
+    let first = first_place(&seen, n);
+    if first + seen.len() <= n {
+        if is_run(&seen, first, n) {
             return Some(first);
         }
     }

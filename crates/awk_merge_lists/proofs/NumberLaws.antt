@@ -1,16 +1,18 @@
 -- Numbers of columns in one lane.
 use Rattle.std.proofs.Common.{◌≡◌, ℕ, zero, suc, ◌+◌, ◌*◌, ◌<◌, ◌≤◌, List, [], ◌∷◌, ◌++◌, true, false, length, map, take, drop, get_or, Some, None, refl, ap, ap₂, sym, subst, ◌∙◌, arith, length-drop, length-append}
-use Rattle.std.specs.Prelude.{pos, slice_get}
+use Rattle.std.specs.Prelude.{ℤ, pos, Bool, if◌then◌else◌, slice_get}
 use Rattle.std.specs.List.{AllByRecursion, range_with_len}
 use Rattle.std.proofs.lemmas.List.{length-map, get_or-map, map-append, take-append-le, drop-append-le, append-nil}
-use Rattle.std.proofs.lemmas.List.FromFn.{fill_by_all, map-range_with_len_more, length-map-range_with_len}
+use Rattle.std.proofs.lemmas.Int.{ints}
+use Rattle.std.proofs.lemmas.Simd.{map-map}
+use Rattle.std.proofs.lemmas.List.FromFn.{fill_by_all}
 use Rattle.awk_types.specs.DataType.{DataType, leaf}
 use Rattle.awk_types.specs.Has.{Has}
-use Rattle.awk_types.specs.Value.{Value, null}
+use Rattle.awk_types.specs.Value.{Value, int, truth, null}
 use Rattle.awk_types.specs.declared.primitive.Primitive.{Primitive}
 use Rattle.awk_lanes.specs.Column.{Column}
-use Rattle.awk_lanes.specs.Making.{Making, with_item}
-use Rattle.awk_lanes.specs.Numbers.{number, numbers, width, int_of, IsOf}
+use Rattle.awk_lanes.specs.Made.{lane_of}
+use Rattle.awk_lanes.specs.Numbers.{number, numbers, width, int_of, is_nonzero, IsOf}
 use Rattle.awk_lanes.specs.Places.{size_of, at}
 use Rattle.awk_lanes.specs.declared.kind.Kind.{Kind}
 use Rattle.awk_lanes.specs.declared.kind.Kind.TheVariants.{Bool as Truths, I8, I16, I32, I64, U8, U16, U32, U64}
@@ -26,7 +28,7 @@ use Rattle.awk_open.specs.Opened.{IsKindOf, IsListOf}
 use Rattle.awk_open.specs.declared.opening.Opened.{Opened}
 use Rattle.awk_open.specs.declared.opening.Opened.TheVariants.{Empty, Leaf, Items, Row}
 use Rattle.awk_open.specs.declared.opening.Opened.TheVariants.{Option as Optional, Union}
-use Rattle.awk_columns.proofs.ArrayLaws.{array_items-at}
+use Rattle.awk_columns.proofs.ArrayLaws.{array_items-at, map-same}
 use Rattle.awk_unify.specs.Carry.{Carry, carried}
 use Rattle.awk_merge_lists.specs.Leaves.{lane_value, leaf_values, num_value, AreOf}
 use Rattle.awk_merge_sides.specs.Sides.{Side, side_items, merged_items, IsSide, IsMerged}
@@ -110,61 +112,11 @@ value-of U32 (Nat n) h = refl
 value-of U64 (Nat n) h = refl
 value-of _ _ h = absurd h
 
--- as it lies in a lane
-pub lane_value-of : (k : Kind) (x : Num) → IsOf k x → lane_value k (int_of x) ≡ num_value x
-lane_value-of Truths (Truth true) h = refl
-lane_value-of Truths (Truth false) h = refl
-lane_value-of I8 (Int z) h = refl
-lane_value-of I16 (Int z) h = refl
-lane_value-of I32 (Int z) h = refl
-lane_value-of I64 (Int z) h = refl
-lane_value-of U8 (Nat n) h = refl
-lane_value-of U16 (Nat n) h = refl
-lane_value-of U32 (Nat n) h = refl
-lane_value-of U64 (Nat n) h = refl
-lane_value-of _ _ h = absurd h
-
--- ---- a lane that is made number by number
-
-pub record AreConverted (k : Kind) (n : ℕ) (c : Column) (i : ℕ) (m : Making) : Type 0 where
-  pub kind : m.kind ≡ k
-  pub room : m.room ≡ n
-  pub values : map (lane_value k) m.items
-      ≡ map (λ i. leaf_value c.kind (at c i)) (range_with_len 0 i)
-
-pub converted_step : (k : Kind) (n : ℕ) (c : Column) (i : ℕ) (old new : Making) (x y : Num)
-    → new ≡ with_item old (int_of y) → IsOf k y → num_value y ≡ num_value x → IsOf c.kind x
-    → int_of x ≡ at c i → AreConverted k n c i old → AreConverted k n c (i + 1) new
-converted_step k n c i old new x y e a v b f h = record {
-  kind = ap (λ (m : Making). m.kind) e ∙ h.kind;
-  room = ap (λ (m : Making). m.room) e ∙ h.room;
-  values = ap (λ (m : Making). map (lane_value k) m.items) e
-      ∙ map-append (lane_value k) old.items (int_of y ∷ [])
-      ∙ ap₂ (λ vs v. vs ++ v ∷ []) h.values
-      (lane_value-of k y a ∙ v ∙ sym (value-of c.kind x b) ∙ ap (leaf_value c.kind) f)
-      ∙ sym (map-range_with_len_more (λ i. leaf_value c.kind (at c i)) 0 i i (omega arith));
-}
-
-pub converted_size : (k : Kind) (n : ℕ) (c : Column) (i : ℕ) (m : Making)
-    → AreConverted k n c i m → length m.items ≡ i
-converted_size k n c i m h =
-    sym (length-map m.items (lane_value k)) ∙ ap length h.values ∙ length-range i
-  where
-    length-range : (i : ℕ) → length (map (λ i. leaf_value c.kind (at c i)) (range_with_len 0 i)) ≡ i
-    length-range i = length-map-range_with_len (λ i. leaf_value c.kind (at c i)) 0 i
-
-pub converted_all : (k : Kind) (n : ℕ) (c : Column) (m : Making) (r : Column) → n ≡ size_of c
-    → r.kind ≡ m.kind → r.items ≡ m.items → AreConverted k n c n m → leaf_values r ≡ leaf_values c
-converted_all k n c m r e a b h =
-    ap₂ (λ k zs. map (lane_value k) zs) (a ∙ h.kind) b ∙ h.values
-    ∙ ap (λ n. map (λ i. leaf_value c.kind (at c i)) (range_with_len 0 n)) e ∙ leaf_values-at c
-
--- the value at a place of a lane whose values a primitive holds
-pub read_of : (p : Primitive) (c : Column) (i : ℕ) (x : Num) → AreOf p c → i < size_of c
-    → IsOf c.kind x → int_of x ≡ at c i → Has (leaf p) (num_value x)
-read_of p c i x h l a e =
-    subst (Has (leaf p)) (get_or-map (lane_value c.kind) c.items i (pos 0) null l
-    ∙ ap (leaf_value c.kind) (sym e) ∙ value-of c.kind x a)
+-- a value of a lane whose values a primitive holds
+value_has : (p : Primitive) (c : Column) (i : ℕ) → AreOf p c → i < size_of c
+    → Has (leaf p) (leaf_value c.kind (at c i))
+value_has p c i h l =
+    subst (Has (leaf p)) (get_or-map (lane_value c.kind) c.items i (pos 0) null l)
     (at_place (Has (leaf p)) (leaf_values c) i h (omega (arith, l, length-leaf_values c)))
   where
     at_place : (P : Value → Type 0) (vs : List Value) (i : ℕ) → AllByRecursion P vs
@@ -173,7 +125,63 @@ read_of p c i x h l a e =
     at_place P (v ∷ vs) zero h l = h.0
     at_place P (v ∷ vs) (suc i) h l = at_place P vs i h.1 (omega (arith, l))
 
+-- the same as code holds it
+pub read_of : (p : Primitive) (c : Column) (i : ℕ) (x : Num) → AreOf p c → i < size_of c
+    → IsOf c.kind x → int_of x ≡ at c i → Has (leaf p) (num_value x)
+read_of p c i x h l a e =
+    subst (Has (leaf p)) (ap (leaf_value c.kind) (sym e) ∙ value-of c.kind x a)
+    (value_has p c i h l)
+
 -- ---- a number in another kind that holds it
+
+nonzero_again : (b : Bool) → is_nonzero (pos (if b then 1 else 0)) ≡ b
+nonzero_again true = refl
+nonzero_again false = refl
+
+truth_value : (k : Kind) (z : ℤ) → Has (leaf (primitive_of k)) (truth (is_nonzero z))
+    → lane_value k z ≡ truth (is_nonzero z)
+truth_value Truths z h = ap truth (nonzero_again (is_nonzero z))
+truth_value I8 z h = absurd h
+truth_value I16 z h = absurd h
+truth_value I32 z h = absurd h
+truth_value I64 z h = absurd h
+truth_value U8 z h = absurd h
+truth_value U16 z h = absurd h
+truth_value U32 z h = absurd h
+truth_value U64 z h = absurd h
+
+int_value : (k : Kind) (z : ℤ) → Has (leaf (primitive_of k)) (int z) → lane_value k z ≡ int z
+int_value Truths z h = absurd (omega (arith, ints, h.0, h.1))
+int_value I8 z h = refl
+int_value I16 z h = refl
+int_value I32 z h = refl
+int_value I64 z h = refl
+int_value U8 z h = refl
+int_value U16 z h = refl
+int_value U32 z h = refl
+int_value U64 z h = refl
+
+same_value : (k l : Kind) (z : ℤ) → Has (leaf (primitive_of k)) (leaf_value l z)
+    → lane_value k z ≡ leaf_value l z
+same_value k Truths z h = truth_value k z h
+same_value k I8 z h = int_value k z h
+same_value k I16 z h = int_value k z h
+same_value k I32 z h = int_value k z h
+same_value k I64 z h = int_value k z h
+same_value k U8 z h = int_value k z h
+same_value k U16 z h = int_value k z h
+same_value k U32 z h = int_value k z h
+same_value k U64 z h = int_value k z h
+
+-- the numbers of a lane in a kind that holds them have the same values
+pub converted_values : (k : Kind) (c : Column) → AreOf (primitive_of k) c
+    → leaf_values (lane_of k (size_of c) (at c)) ≡ leaf_values c
+converted_values k c h =
+    map-map (lane_value k) (at c) (range_with_len 0 (size_of c))
+    ∙ map-same (λ i. lane_value k (at c i)) (λ i. leaf_value c.kind (at c i)) 0 (size_of c)
+    (λ i p q. same_value k c.kind (at c i)
+    (value_has (primitive_of k) c i h (omega (arith, q))))
+    ∙ leaf_values-at c
 
 -- ---- bytes one after another
 

@@ -1,9 +1,8 @@
 -- What an opened column of lists holds, as it lies and joined.
-use Rattle.std.specs.Prelude.{◌≡◌, ◌+◌, ◌-◌, ◌*◌, ◌<◌, ◌≤◌, ◌++◌, ℕ, zero, suc, List, length, Option, None, Some, pos, refl}
+use Rattle.std.specs.Prelude.{◌≡◌, ◌+◌, ◌-◌, ◌*◌, ◌<◌, ◌≤◌, ◌++◌, ℕ, zero, suc, List, length, Some, pos}
 use Rattle.std.specs.List.{flat_map, range_with_len}
 use Rattle.std.proofs.Common.{arith, ap, sym, subst, ◌∙◌, get_or-take, get_or-drop, length-take, length-drop, drop}
 use Rattle.std.proofs.lemmas.List.{length-append}
-use Rattle.awk_types.specs.DataType.{DataTypes, Name, row_type}
 use Rattle.awk_types.specs.ItemLimit.{item_limit}
 use Rattle.awk_types.specs.Value.{Value, list}
 use Rattle.awk_lanes.specs.Column.{Column}
@@ -12,7 +11,6 @@ use Rattle.awk_lanes.specs.Numbers.{element}
 use Rattle.awk_lanes.specs.Places.{size_of, at, place_at}
 use Rattle.awk_layout.specs.Item.{run}
 use Rattle.awk_layout.specs.Layout.{Layout}
-use Rattle.awk_layout.specs.Typing.{array_type}
 use Rattle.awk_layout.specs.Valid.{len}
 use Rattle.awk_layout.proofs.Runs.{length-run}
 use Rattle.awk_gather.specs.Arrays.{array_item}
@@ -20,11 +18,9 @@ use Rattle.awk_columns.specs.Columns.{list_items}
 use Rattle.awk_columns.specs.Joined.{JoinsLists, total}
 use Rattle.awk_columns.specs.ListClass.{Class, list_type}
 use Rattle.awk_columns.specs.Opened.{OpensLists}
-use Rattle.awk_columns.specs.Opened.{IsOpened, AreOfClass, items_at}
-use Rattle.awk_columns.specs.declared.opening.Opened.{Opened}
-use Rattle.awk_columns.specs.declared.opening.Opened.TheVariants as opened
+use Rattle.awk_columns.specs.Opened.{AreOfClass, items_at}
 use Rattle.awk_columns.proofs.ListNodes.{joined_even}
-use Rattle.awk_merge_lists.specs.Lists.{IsListType, AreListsOver, HoldsLists, HoldsItems, AreOfLength}
+use Rattle.awk_merge_lists.specs.Lists.{AreListsOver, HoldsLists, HoldsItems, AreOfLength}
 
 -- ---- kinds
 

@@ -8,7 +8,7 @@ use Rattle.awk_layout.specs.Layout.{Layout}
 use Rattle.awk_layout.specs.Typing.{array_type, array_items}
 use Rattle.awk_layout.specs.Valid.{len}
 use Rattle.awk_layout.proofs.ArrayItems.{length-array_items}
-use Rattle.awk_unify.specs.Carry.{Carry, carried}
+use Rattle.awk_unify.specs.Carry.{carried}
 use Rattle.awk_merge_sides.specs.Sides.{Side, sides_of, side_items, merged_items, with_side, Carries}
 use Rattle.awk_merge_sides.specs.Sides.{IsSide, AreSides, IsCounted}
 use Rattle.awk_merge_sides.specs.declared.sides.Sides.{Sides}

@@ -2,14 +2,14 @@
 ghost use Rattle.std.specs.Prelude.{◌≡◌, ◌<◌, ◌^◌, IfOk};
 ghost use Rattle.awk_types.specs.DataType.{leaf};
 ghost use Rattle.awk_types.specs.Has.{Has};
-ghost use Rattle.awk_lanes.specs.Numbers.{IsOf};
+ghost use Rattle.awk_lanes.specs.Numbers.{int_of, IsOf};
 ghost use Rattle.awk_layout.specs.Kinds.{primitive_of};
 ghost use Rattle.awk_merge_lists.specs.Leaves.{leaf_values, num_value, is_unsigned, AreOf};
 ghost use Rattle.awk_merge_sides.specs.Sides.{side_of, sides_of, side_items, merged_items};
 ghost use Rattle.awk_merge_sides.specs.Sides.{IsSide, AreSides, IsCounted, IsMerged};
 
 use awk_columns::in_order;
-use awk_lanes::{Arena, Kind, Lane, LaneMaker, Num, Steps};
+use awk_lanes::{Arena, Kind, Lane, Num, Numbers, Steps, made_lane};
 use awk_layout::{Node, kind_of};
 use awk_merge_sides::{Side, Sides};
 use awk_open::Opened;
@@ -33,11 +33,37 @@ fn as_kind(kind: Kind, x: Num) -> Num
     requires holds { Has (leaf (primitive_of kind)) (num_value x) }
     ensures kind { IsOf kind result }
     ensures value { num_value result ≡ num_value x }
+    ensures number { int_of result ≡ int_of x }
 {
     match x {
         Num::Int(z) if is_unsigned(kind) => Num::Nat(z as u64),
         Num::Nat(n) if !is_unsigned(kind) => Num::Int(n as i64),
         _ => x,
+    }
+}
+
+/// The numbers of a lane, each as code holds those of a kind.
+#[derive(Drop)]
+struct InKind<'b, 'a> {
+    kind: Kind,
+    lane: &'b Lane<'a>,
+}
+
+impl<'b, 'a> Numbers for InKind<'b, 'a> {
+    ghost use Rattle.awk_lanes.specs.Places.{size_of, at};
+    ghost use Rattle.awk_layout.specs.Kinds.{primitive_of};
+    ghost use Rattle.awk_merge_lists.specs.Leaves.{AreOf};
+
+    ghost kind = { λ f. f.kind };
+
+    ghost at = { λ f. at f.lane.now };
+
+    ghost size = { λ f. size_of f.lane.now };
+
+    ghost IsReady = { λ f. AreOf (primitive_of f.kind) f.lane.now };
+
+    fn number<L: Ledger>(&self, i: u64, steps: &mut Steps<L>) -> Num {
+        as_kind(self.kind, self.lane.at(i, steps))
     }
 }
 
@@ -52,12 +78,7 @@ fn converted<'a, L: Ledger>(
     ensures kind { IfOk result (λ r. r.kind ≡ kind) }
     ensures values { IfOk result (λ r. leaf_values r ≡ leaf_values lane.now) }
 {
-    let n = lane.len();
-    let mut maker = LaneMaker::new(kind, n, arena)?;
-    for i in 0..n {
-        maker.push(as_kind(kind, lane.at(i, steps)));
-    }
-    Ok(maker.finish())
+    made_lane(kind, lane.len(), &InKind { kind, lane }, arena, steps)
 }
 
 /// A lane in a kind that holds its numbers. One of this kind stays as it lies.

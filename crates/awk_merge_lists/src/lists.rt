@@ -13,7 +13,7 @@ ghost use Rattle.awk_merge_sides.specs.Sides.{sides_of, AreSides, IsCounted};
 
 use crate::parts::parted;
 use awk_columns::{Joined, Opened, open_array};
-use awk_lanes::{Arena, Kind, Lane, LaneMaker, Steps, index_at, number, to_option_place};
+use awk_lanes::{Arena, IndexMaker, Lane, Steps, index_at, number, to_option_place};
 use awk_layout::Array;
 use awk_merge_sides::{Side, Sides, items_lift};
 use awk_types::NoMemory;
@@ -82,7 +82,7 @@ fn put_places<L: Ledger>(
     ends: &Lane,
     base: u64,
     n: u64,
-    maker: &mut LaneMaker,
+    maker: &mut IndexMaker,
     steps: &mut Steps<L>,
 )
     requires kind { IsIndexKind ends.now.kind }
@@ -99,8 +99,8 @@ fn put_places<L: Ledger>(
 /// A level of lists that is being made.
 #[derive(Drop)]
 struct ListMaker<'a> {
-    starts: LaneMaker<'a>,
-    stops: LaneMaker<'a>,
+    starts: IndexMaker<'a>,
+    stops: IndexMaker<'a>,
     sides: Sides<'a>,
 }
 
@@ -148,8 +148,8 @@ pub fn list_level<'a, L: Ledger>(
         IfOk result (IsListLevel u (sides_of sides.now)) }
 {
     let mut maker = ListMaker {
-        starts: LaneMaker::new(Kind::I64, sides.total(), arena)?,
-        stops: LaneMaker::new(Kind::I64, sides.total(), arena)?,
+        starts: IndexMaker::new(sides.total(), arena)?,
+        stops: IndexMaker::new(sides.total(), arena)?,
         sides: Sides::new(alloc),
     };
     for i in 0..sides.len() {

@@ -6,7 +6,7 @@ use Rattle.awk_lanes.proofs.MadeLanes.{IsSoFar}
 use Rattle.awk_columns.proofs.counted.counted.Given as goal
 
 abbrev pub invariant-loop-i : goal.invariant-loop-i
-invariant-loop-i g l = record {
+invariant-loop-i l = record {
   next : l.next ≡ length (first_of (present_at l.index) l.i);
   made : IsSoFar I64 (size_of l.index) (counted_at l.index) l.i l.maker;
 }

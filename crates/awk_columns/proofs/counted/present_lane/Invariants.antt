@@ -3,4 +3,4 @@ use Rattle.awk_columns.proofs.PlaceLanes.{ArePlaces}
 use Rattle.awk_columns.proofs.counted.present_lane.Given as goal
 
 abbrev pub invariant-loop-i : goal.invariant-loop-i
-invariant-loop-i g l = ArePlaces l.n (first_of (present_at l.index) l.i) l.maker
+invariant-loop-i l = ArePlaces l.n (first_of (present_at l.index) l.i) l.maker

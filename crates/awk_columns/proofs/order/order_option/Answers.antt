@@ -1,25 +1,16 @@
-use Rattle.std.proofs.Common.{subst, sym}
-use Rattle.awk_lanes.specs.Places.{size_of, IsIndex}
-use Rattle.awk_layout.specs.Valid.{len}
-use Rattle.awk_columns.specs.Counted.{first_of, present_at}
-use Rattle.awk_columns.proofs.OrderedOptions.{option_below, option_opened, option_in_order}
-use Rattle.awk_columns.proofs.ReachedContents.{places_index, reached_by}
+use Rattle.awk_columns.proofs.PlaceLanes.{option-index}
 use Rattle.awk_columns.proofs.order.order_option.Goals as goal
 
-pub taken-requires-clause-places : goal.taken-requires-clause-places
-taken-requires-clause-places g c =
-    subst (λ p. IsIndex p (len c.args.content.now)) (sym c.in_ok-places.ensures.lane)
-    (places_index (len c.args.content.now) (first_of (present_at c.args.index.now) (size_of c.args.index.now)) (option_below c.args.index.now (len c.args.content.now) c.requires.valid.1))
+pub index_of-requires : goal.index_of-requires
+index_of-requires g c = option-index c.args.index.now.kind c.requires.valid.1.kind
+
+pub order_seen-requires-clause-valid : goal.order_seen-requires-clause-valid
+order_seen-requires-clause-valid g c = rw c.in_ok-index.ensures c.requires.valid
 
 pub returns-clause-opened : goal.returns-clause-opened
 returns-clause-opened g c x h =
-    let below = option_below c.args.index.now (len c.args.content.now) c.requires.valid.1 in
-    option_opened x c.args.content.now c.in_ok-items.items c.args.index.now c.in_ok-index.index h c.in_ok-index.ensures.lane
-    (reached_by c.args.content.now c.in_ok-items.items c.in_ok-places.places _ below c.in_ok-places.ensures.lane c.in_ok-items.ensures.typ c.in_ok-items.ensures.items)
-    c.len.ensures.valid
+    rw c.in_ok-index.ensures at c.order_seen.ensures.opened x h
 
 pub returns-clause-order : goal.returns-clause-order
 returns-clause-order g c x h =
-    let below = option_below c.args.index.now (len c.args.content.now) c.requires.valid.1 in
-    option_in_order x c.args.content.now c.in_ok-items.items c.args.index.now c.in_ok-index.index h c.requires.present c.in_ok-index.ensures.lane
-    (reached_by c.args.content.now c.in_ok-items.items c.in_ok-places.places _ below c.in_ok-places.ensures.lane c.in_ok-items.ensures.typ c.in_ok-items.ensures.items)
+    rw c.in_ok-index.ensures at c.order_seen.ensures.order x h

@@ -4,7 +4,7 @@ use Rattle.awk_columns.proofs.spans.is_row.Goals as goal
 use Rattle.awk_columns.proofs.spans.is_row.Goals.{then-span-gt0+else-span-end, else-span-gt0}
 
 pub loop-i-preserved : goal.loop-i-preserved
-loop-i-preserved g c =
+loop-i-preserved c =
     let a = c.span_of-span.result.start in
     let m = c.span_of-span.result.length in
     let next : 0 < m → a ≡ c.loop-i.end = elim c.if-span-gt0.branch [

@@ -4,7 +4,7 @@ use Rattle.awk_columns.specs.Counted.{first_of, span_at}
 use Rattle.awk_columns.proofs.spans.is_row.Given as goal
 
 abbrev pub invariant-loop-i : goal.invariant-loop-i
-invariant-loop-i g l =
+invariant-loop-i l =
     let places = first_of (span_at l.starts l.stops) l.i in
     record {
       end : l.end ≡ l.first + length places;

@@ -3,7 +3,7 @@ use Rattle.awk_columns.specs.Counted.{first_of, span_at}
 use Rattle.awk_columns.proofs.spans.total.Given as goal
 
 abbrev pub invariant-loop-i : goal.invariant-loop-i
-invariant-loop-i g l = record {
+invariant-loop-i l = record {
   total : l.sum ≡ length (first_of (span_at l.starts l.stops) l.i);
   few : l.sum ≤ l.limit;
 }

@@ -1,46 +1,20 @@
-use Rattle.std.proofs.Common.{◌≡◌, arith, subst}
-use Rattle.awk_layout.specs.Kinds.{primitive_of}
-use Rattle.awk_merge_lists.proofs.NumberLaws.{AreConverted, read_of, converted_size, converted_step, converted_all}
+use Rattle.std.proofs.Common.{ap, ◌∙◌}
+use Rattle.std.proofs.lemmas.Result.{IfOk-weaker}
+use Rattle.awk_lanes.specs.Column.{Column}
+use Rattle.awk_lanes.specs.Made.{lane_of}
+use Rattle.awk_lanes.specs.Places.{at}
+use Rattle.awk_merge_lists.specs.Leaves.{leaf_values}
+use Rattle.awk_merge_lists.proofs.NumberLaws.{converted_values}
 use Rattle.awk_merge_lists.proofs.leaves.converted.Goals as goal
 
-pub as_kind-requires : goal.as_kind-requires
-as_kind-requires g c = record {
-  holds = read_of (primitive_of c.args.kind) c.args.lane.now c.loop-i.i c.at.result c.requires.holds
-      (omega (arith, c.loop-i-test.true, c.len-n.ensures.len)) c.at.ensures.kind c.at.ensures.number;
-}
-
-pub push-requires-clause-room : goal.push-requires-clause-room
-push-requires-clause-room g c =
-    omega (
-      arith,
-      c.loop-i-test.true,
-      c.loop-i.invariant.room,
-      converted_size c.args.kind c.len-n.result c.args.lane.now c.loop-i.i c.loop-i.maker
-          c.loop-i.invariant,
-    )
-
-pub loop-i-preserved : goal.loop-i-preserved
-loop-i-preserved g c =
-    converted_step c.args.kind c.len-n.result c.args.lane.now c.loop-i.i c.loop-i.maker
-    c.push.new.self c.at.result c.as_kind.result c.push.ensures c.as_kind.ensures.kind
-    c.as_kind.ensures.value c.at.ensures.kind c.at.ensures.number c.loop-i.invariant
-
-pub finish-requires : goal.finish-requires
-finish-requires g c =
-    omega (
-      arith,
-      c.loop-i-test.false,
-      c.loop-i.auto.i-end,
-      c.loop-i.invariant.room,
-      converted_size c.args.kind c.len-n.result c.args.lane.now c.loop-i.i c.loop-i.maker
-          c.loop-i.invariant,
-    )
+pub returns-clause-kind : goal.returns-clause-kind
+returns-clause-kind g c =
+    IfOk-weaker c.made_lane.result _ _ (λ r e. ap (λ (w : Column). w.kind) e)
+    c.made_lane.ensures.lane
 
 pub returns-clause-values : goal.returns-clause-values
 returns-clause-values g c =
-    let all : c.loop-i.i ≡ c.len-n.result =
-    omega (arith, c.loop-i-test.false, c.loop-i.auto.i-end) in
-    converted_all c.args.kind c.len-n.result c.args.lane.now c.loop-i.maker c.finish.result
-    c.len-n.ensures.len c.finish.ensures.kind c.finish.ensures.items
-    (subst (λ i. AreConverted c.args.kind c.len-n.result c.args.lane.now i c.loop-i.maker) all
-    c.loop-i.invariant)
+    IfOk-weaker c.made_lane.result _ _
+    (λ r e. ap leaf_values e
+    ∙ ap (λ n. leaf_values (lane_of c.args.kind n (at c.args.lane.now))) c.len.ensures.len
+    ∙ converted_values c.args.kind c.args.lane.now c.requires.holds) c.made_lane.ensures.lane

@@ -1,9 +1,10 @@
-use Rattle.std.proofs.Common.{arith, refl, ◌∙◌}
+use Rattle.std.proofs.Common.{arith, refl, ap, sym, ◌∙◌}
+use Rattle.awk_lanes.specs.Column.{Column}
 use Rattle.std.specs.Prelude.{None}
 use Rattle.awk_types.specs.DataType.{var}
 use Rattle.awk_merge_sides.specs.Sides.{side_of, sides_of}
 use Rattle.awk_merge_lists.proofs.CarriedLists.{side_lists}
-use Rattle.awk_merge_lists.proofs.ListLaws.{listing_none, listing_room, listing_next, listing_full}
+use Rattle.awk_merge_lists.proofs.ListLaws.{listing_none, listing_room, listing_next}
 use Rattle.awk_merge_lists.proofs.ListLaws.{level_listed}
 use Rattle.awk_merge_sides.proofs.SideLaws.{IsSide-get}
 use Rattle.awk_merge_lists.proofs.lists.list_level.Goals as goal
@@ -17,7 +18,7 @@ loop-i-init g c =
       sides = c.new-3.result;
     })
     (c.total.ensures ∙ c.requires.counted.total) (c.total-2.ensures ∙ c.requires.counted.total)
-    c.in_ok-new.ensures.begun c.in_ok-new-2.ensures.begun c.new-3.ensures.none
+    c.in_ok-new.ensures c.in_ok-new-2.ensures c.new-3.ensures.none
     c.new-3.ensures.counted
 
 pub put-requires-clause-lists : goal.put-requires-clause-lists
@@ -43,18 +44,6 @@ loop-i-preserved g c =
     c.loop-i.maker c.put.new.self c.get-side.ensures c.len.ensures.items c.in_ok-put.ensures
     c.loop-i.invariant
 
-pub finish-requires : goal.finish-requires
-finish-requires g c =
-    (listing_full (sides_of c.args.sides.now) c.loop-i.i c.loop-i.maker
-    (omega (arith, c.loop-i-test.false, c.len-i-end.ensures)) c.requires.lists
-    c.loop-i.invariant).0
-
-pub finish-requires-2 : goal.finish-requires-2
-finish-requires-2 g c =
-    (listing_full (sides_of c.args.sides.now) c.loop-i.i c.loop-i.maker
-    (omega (arith, c.loop-i-test.false, c.len-i-end.ensures)) c.requires.lists
-    c.loop-i.invariant).1
-
 pub returns : goal.returns
 returns g c =
     level_listed (sides_of c.args.sides.now) c.loop-i.i c.loop-i.maker
@@ -64,6 +53,9 @@ returns g c =
       sides = c.loop-i.maker.sides;
     })
     (omega (arith, c.loop-i-test.false, c.len-i-end.ensures))
-    (omega (arith, c.requires.counted.total, c.requires.counted.fits)) c.finish.ensures.kind
-    c.finish.ensures.items c.finish-2.ensures.kind c.finish-2.ensures.items refl
+    (omega (arith, c.requires.counted.total, c.requires.counted.fits))
+    (ap (λ (w : Column). w.kind) c.finish.ensures ∙ sym c.loop-i.invariant.starts_kind)
+    (ap (λ (w : Column). w.items) c.finish.ensures)
+    (ap (λ (w : Column). w.kind) c.finish-2.ensures ∙ sym c.loop-i.invariant.stops_kind)
+    (ap (λ (w : Column). w.items) c.finish-2.ensures) refl
     c.loop-i.invariant

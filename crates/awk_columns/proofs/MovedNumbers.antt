@@ -1,0 +1,151 @@
+-- Numbers of lists moved as the bytes that they lie in.
+use Rattle.std.proofs.Common.{◌≡◌, ℕ, zero, suc, ◌+◌, ◌-◌, ◌*◌, ◌/◌, ◌<◌, ◌≤◌, List, [], ◌∷◌, ◌++◌, map, length, drop, get_or, slice_range, refl, ap, ap₂, sym, subst, ◌∙◌, arith, length-take, length-drop, length-append, get_or-take, get_or-drop}
+use Rattle.std.specs.Prelude.{ℤ, pos}
+use Rattle.std.specs.List.{range_with_len}
+use Rattle.std.proofs.Math.Nat.{mul-div_left}
+use Rattle.std.proofs.lemmas.List.{ext_get_or, get_or-map, length-map, map-append, take-append-le, drop-append-le}
+use Rattle.std.proofs.lemmas.List.FromFn.{length-map-range_with_len, get_or-map-range_with_len, fill_by_all}
+use Rattle.awk_types.specs.Value.{null}
+use Rattle.awk_lanes.specs.Column.{Column}
+use Rattle.awk_lanes.specs.Cut.{cut_of}
+use Rattle.awk_lanes.specs.Numbers.{element, number, numbers, width}
+use Rattle.awk_lanes.specs.Places.{size_of}
+use Rattle.awk_lanes.specs.declared.kind.Kind.{Kind}
+use Rattle.awk_lanes.specs.declared.kind.Kind.TheVariants.{Bool as Truths, I8, I16, I32, I64, U8, U16, U32, U64}
+use Rattle.awk_lanes.proofs.NumberParts.{number-take}
+use Rattle.awk_layout.specs.Item.{leaf_value}
+use Rattle.awk_layout.specs.Layout.{flat}
+use Rattle.awk_gather.specs.Arrays.{array_item}
+use Rattle.awk_columns.specs.Counted.{first_of, numbers_at, span_at}
+use Rattle.awk_columns.specs.Reached.{IsReached}
+use Rattle.awk_columns.proofs.ArrayLaws.{array_items-at}
+use Rattle.awk_columns.proofs.FirstPlaces.{first_of-more}
+
+-- ---- bytes one after another
+
+-- the numbers of bytes, with others after them
+numbers-join : (k : Kind) (n m : ℕ) (a b : List ℕ) → length a ≡ n * width k
+    → numbers k (n + m) (a ++ b) ≡ numbers k n a ++ numbers k m b
+numbers-join k zero m [] b h = let e : 0 + m ≡ m = omega arith in ap (λ i. numbers k i b) e
+numbers-join k zero m (x ∷ a) b h = absurd (omega (arith, h))
+numbers-join k (suc n) m a b h =
+    let w : ℕ = width k in
+    let e : suc n * w ≡ w + n * w = omega arith in
+    let l : w ≤ length a = omega (arith, h, e) in
+    let d : length (drop w a) ≡ n * w = omega (arith, length-drop w a, h, e) in
+    let s : suc n + m ≡ suc (n + m) = omega arith in
+    ap (λ i. numbers k i (a ++ b)) s
+    ∙ ap₂ (λ z zs. z ∷ zs)
+    (sym (number-take k w (a ++ b) (omega arith)) ∙ ap (number k) (take-append-le w a b l)
+    ∙ number-take k w a (omega arith))
+    (ap (numbers k (n + m)) (drop-append-le w a b l) ∙ numbers-join k n m (drop w a) b d)
+
+-- the bytes of numbers
+pub record AreBytesOf (k : Kind) (zs : List ℤ) (b : List ℕ) : Type 0 where
+  pub size : length b ≡ length zs * width k
+  pub same : numbers k (length zs) b ≡ zs
+
+bytes_more : (k : Kind) (zs ys : List ℤ) (a b : List ℕ) → length b ≡ length ys * width k
+    → numbers k (length ys) b ≡ ys → AreBytesOf k zs a → AreBytesOf k (zs ++ ys) (a ++ b)
+bytes_more k zs ys a b l n h =
+    let total : length (zs ++ ys) ≡ length zs + length ys = length-append zs ys in
+    let d : (length zs + length ys) * width k ≡ length zs * width k + length ys * width k =
+    omega arith in
+    record {
+      size = length-append a b ∙ ap₂ (λ x y. x + y) h.size l ∙ sym d
+          ∙ ap (λ n. n * width k) (sym total);
+      same = ap (λ n. numbers k n (a ++ b)) total
+          ∙ numbers-join k (length zs) (length ys) a b h.size
+          ∙ ap₂ (λ x y. x ++ y) h.same n;
+    }
+
+-- ---- a list's numbers
+
+-- a part of numbers, by places
+slice-at : (zs : List ℤ) (lo m : ℕ) → lo + m ≤ length zs
+    → slice_range zs lo (lo + m) ≡ map (λ k. get_or zs k (pos 0)) (range_with_len lo m)
+slice-at zs lo m h =
+    let e : lo + m - lo ≡ m = omega arith in
+    let w : length (slice_range zs lo (lo + m)) ≡ m =
+    omega (arith, length-take (lo + m - lo) (drop lo zs), length-drop lo zs) in
+    ext_get_or (pos 0) _ _
+    (w ∙ sym (length-map-range_with_len (λ k. get_or zs k (pos 0)) lo m))
+    (λ i l.
+    get_or-take (lo + m - lo) (drop lo zs) i (pos 0) (omega arith)
+    ∙ get_or-drop lo zs i (pos 0)
+    ∙ sym (get_or-map-range_with_len (λ k. get_or zs k (pos 0)) lo m i (lo + i) (pos 0)
+    (omega arith) refl))
+
+-- the bytes of one list more, of m items from a on
+pub moved_next : (s t c p : Column) (i a m : ℕ) (old b : List ℕ)
+    → range_with_len a m ≡ span_at s t i → a + m ≤ size_of c → p ≡ cut_of c a (a + m)
+    → length b ≡ size_of p * width p.kind → numbers p.kind (size_of p) b ≡ p.items
+    → AreBytesOf c.kind (numbers_at c (first_of (span_at s t) i)).items old
+    → AreBytesOf c.kind (numbers_at c (first_of (span_at s t) (i + 1))).items (old ++ b)
+moved_next s t c p i a m old b e w q l n h =
+    let f : ℕ → ℤ = λ k. get_or c.items k (pos 0) in
+    let part : p.items ≡ map f (range_with_len a m) =
+    ap (λ (x : Column). x.items) q ∙ slice-at c.items a m w in
+    let kind : p.kind ≡ c.kind = ap (λ (x : Column). x.kind) q in
+    let all : (numbers_at c (first_of (span_at s t) (i + 1))).items
+    ≡ (numbers_at c (first_of (span_at s t) i)).items ++ p.items =
+    ap (map f) (first_of-more (span_at s t) i)
+    ∙ map-append f (first_of (span_at s t) i) (span_at s t i)
+    ∙ ap (λ zs. map f (first_of (span_at s t) i) ++ zs) (ap (map f) (sym e) ∙ sym part) in
+    subst (λ zs. AreBytesOf c.kind zs (old ++ b)) (sym all)
+    (bytes_more c.kind (numbers_at c (first_of (span_at s t) i)).items p.items old b
+    (l ∙ ap (λ k. size_of p * width k) kind)
+    (ap (λ k. numbers k (size_of p) b) (sym kind) ∙ n) h)
+
+-- ---- the lane
+
+width-some : (k : Kind) → 0 < width k
+width-some Truths = omega arith
+width-some I8 = omega arith
+width-some I16 = omega arith
+width-some I32 = omega arith
+width-some I64 = omega arith
+width-some U8 = omega arith
+width-some U16 = omega arith
+width-some U32 = omega arith
+width-some U64 = omega arith
+
+lane_is : (a b : Column) → a.kind ≡ b.kind → a.items ≡ b.items → a ≡ b
+lane_is a b e f =
+    ap (λ k. record { kind = k; items = a.items }) e
+    ∙ ap (λ zs. record { kind = b.kind; items = zs }) f
+
+pub moved_lane : (c r : Column) (ks : List ℕ) (b : List ℕ) → r.kind ≡ c.kind
+    → r.items ≡ numbers c.kind (length b / width c.kind) b
+    → AreBytesOf c.kind (numbers_at c ks).items b → r ≡ numbers_at c ks
+moved_lane c r ks b k i h =
+    let zs : List ℤ = (numbers_at c ks).items in
+    let count : length b / width c.kind ≡ length zs =
+    ap (λ n. n / width c.kind) h.size ∙ mul-div_left (length zs) (width-some c.kind) in
+    lane_is r (numbers_at c ks) k (i ∙ ap (λ n. numbers c.kind n b) count ∙ h.same)
+
+-- numbers at places are what is reached
+pub numbers_reached : (c r : Column) (ks : List ℕ) → r ≡ numbers_at c ks
+    → IsReached (flat c) ks (flat r)
+numbers_reached c r ks e =
+    subst (λ m. IsReached (flat c) ks (flat m)) (sym e)
+    record { typ = refl; items = array_items-at (flat m) ∙ sym values }
+  where
+    m : Column
+    m = numbers_at c ks
+
+    f : ℕ → ℤ
+    f k = get_or c.items k (pos 0)
+
+    size : length (map (array_item (flat c)) ks) ≡ size_of m
+    size = length-map ks (array_item (flat c)) ∙ sym (length-map ks f)
+
+    each : (j : ℕ) → j < size_of m
+        → get_or (map (array_item (flat c)) ks) j null ≡ array_item (flat m) j
+    each j l =
+        let l' : j < length ks = omega (arith, length-map ks f) in
+        get_or-map (array_item (flat c)) ks j 0 null l'
+        ∙ ap (λ z. leaf_value c.kind (element c.kind z)) (sym (get_or-map f ks j 0 (pos 0) l'))
+
+    values : map (array_item (flat c)) ks ≡ map (array_item (flat m)) (range_with_len 0 (size_of m))
+    values = fill_by_all (array_item (flat m)) (map (array_item (flat c)) ks) (size_of m) null size each
