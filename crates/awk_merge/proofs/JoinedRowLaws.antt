@@ -36,7 +36,8 @@ use Rattle.awk_merge.specs.Operands.{values_by, list_between, is_whole, rows_lan
 use Rattle.awk_merge.specs.Operands.{offsets_of_rows, AreRising}
 use Rattle.awk_merge.proofs.ListPlaceLaws.{cell, block_within, size-ends, row_items, items-end}
 use Rattle.awk_merge.proofs.RangeLaws.{all-range, flat-range, flat-none, flat-blocks, rises, runs-joined, times_within}
-use Rattle.awk_merge.proofs.StackLaws.{map-at, over_limit, within_limit}
+use Rattle.awk_merge.proofs.StackLaws.{map-at}
+use Rattle.awk_columns.proofs.ItemLimits.{over_limit, within_limit}
 
 -- ---- the values of a row, by the places of their lists
 

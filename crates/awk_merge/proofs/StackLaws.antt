@@ -1,13 +1,10 @@
 -- Columns of operands one after another, and their rows.
 use Rattle.std.proofs.Common.{◌≡◌, ◌∙◌, ◌+◌, ◌*◌, ◌<◌, ◌≤◌, ◌==◌, ◌&&◌, ◌∷◌, ◌++◌, [], ℕ, zero, suc, Bool, true, false, List, Some, ap, sym, subst, refl, map, drop, length, slice_get, get_or, arith}
-use Rattle.std.specs.Prelude.{None, nat_lt, if◌then◌else◌}
 use Rattle.std.specs.List.{range_with_len}
 use Rattle.std.proofs.lemmas.List.{append-nil, append_assoc, length-append, length-map, drop_all, get_or_append_left, get_or-append-add}
 use Rattle.awk_types.proofs.ListLaws.{drop-get}
 use Rattle.awk_types.specs.DataType.{DataType}
-use Rattle.awk_types.specs.ItemLimit.{item_limit, too_many}
 use Rattle.awk_types.specs.Value.{Value, null}
-use Rattle.awk_types.specs.declared.fault.Fault.TheVariants.{Size}
 use Rattle.awk_layout.specs.declared.datum.Datum.{Datum}
 use Rattle.awk_unify.specs.Carry.{Carry, carried}
 use Rattle.awk_merge.specs.Concatenate.{carried_columns, stacked, row_of, joined_row, joined_rows, row_count, are_long}
@@ -149,17 +146,3 @@ rows-stacked vss n r e =
     (λ i. joined_row (row_of vss i)) 0 n
     (λ i p. ap joined_row (row-stacked vss n i (omega (arith, p)) e))
     ∙ ap (λ m. map (λ i. joined_row (row_of vss i)) (range_with_len 0 m)) r
-
--- ---- the most items
-
-many : (n : ℕ) → item_limit < n → nat_lt item_limit n ≡ true
-many n p = grind arith
-
-few : (n : ℕ) → n ≤ item_limit → nat_lt item_limit n ≡ false
-few n p = grind arith
-
-pub over_limit : (n : ℕ) → item_limit < n → too_many n ≡ Some Size
-over_limit n p = ap (λ b. if b then Some Size else None) (many n p)
-
-pub within_limit : (n : ℕ) → n ≤ item_limit → too_many n ≡ None
-within_limit n p = ap (λ b. if b then Some Size else None) (few n p)

@@ -1,5 +1,5 @@
 -- Groups of the parts of columns of rows, one column more and all.
-use Rattle.std.proofs.Common.{◌≡◌, ℕ, zero, suc, ◌+◌, ◌-◌, ◌<◌, ◌≤◌, List, [], ◌∷◌, ◌++◌, length, map, take, get_or, slice_get, Some, replicate, refl, ap, ap₂, sym, subst, ◌∙◌, arith, length-append, inl, inr, ◌⊎◌}
+use Rattle.std.proofs.Common.{◌≡◌, ℕ, zero, suc, ◌+◌, ◌-◌, ◌<◌, ◌≤◌, List, [], ◌∷◌, ◌++◌, length, map, take, get_or, slice_get, Option, Some, replicate, refl, ap, ap₂, sym, subst, ◌∙◌, arith, length-append, inl, inr, ◌⊎◌}
 use Rattle.std.specs.List.{range_with_len}
 use Rattle.std.proofs.lemmas.Bool.{cases_lt}
 use Rattle.std.proofs.lemmas.List.{length-map, get_or-map, ext_get_or, get_or_append_left, get_or-append-add}
@@ -14,7 +14,8 @@ use Rattle.awk_gather.specs.Arrays.{array_item}
 use Rattle.awk_unify.specs.Carry.{Carry, carried}
 use Rattle.awk_merge_rows.specs.RowLevels.{across, AreEachLong}
 use Rattle.awk_merge_sides.specs.Groups.{AreGroups, with_side_at}
-use Rattle.awk_merge_rows.specs.Parts.{part_side, ArePut, OpensAsRow, AreRowParts}
+use Rattle.awk_merge_sides.specs.Lifts.{part_carry, part_source}
+use Rattle.awk_merge_rows.specs.Parts.{part_side, side_from, ArePut, OpensAsRow, AreRowParts}
 use Rattle.awk_merge_sides.specs.Sides.{Side, side_items, merged_items, with_side, IsSide, AreSides}
 use Rattle.awk_merge_sides.proofs.SideLaws.{merged_items-side, total-with_side, get_or-before, get_or-added, AreSides-with_side, get_or-side_items, length-side_items, item_has}
 use Rattle.awk_merge_sides.proofs.GroupLaws.{length-groups, AreGroups-none, length-with_side_at, get_or-with_side_at, get_or-with_side_at-other}
@@ -204,6 +205,11 @@ rows_alike (t ∷ ts) ss s [] e side typed h = absurd h.groups
 rows_alike ts ss s (g ∷ gs) e side typed h = absurd (omega (arith, e))
 
 -- ---- loops
+
+-- what the part that goes to a place gives there
+pub part_side-at : (s : Side) (n : ℕ) (f : Carry) (ys : List Layout) (j : ℕ) (source : Option ℕ)
+    → s ≡ side_from n (part_carry f) ys source → source ≡ part_source f j → s ≡ part_side n f ys j
+part_side-at s n f ys j source e d = e ∙ ap (side_from n (part_carry f) ys) d
 
 pub put_next : (s : ℕ → Side) (j : ℕ) (old before after : List (List Side)) (x : Layout) (f : Carry)
     → record { column = x; carry = f } ≡ s j → j < length old

@@ -7,14 +7,16 @@ ghost use Rattle.awk_unify.specs.Carry.{keep};
 ghost use Rattle.awk_unify.specs.View.{lift_of};
 ghost use Rattle.awk_merge_sides.specs.Groups.{groups_of, AreCounted};
 ghost use Rattle.awk_merge_rows.specs.RowLevels.{row_parts, IsRowType, IsRowLevel};
-ghost use Rattle.awk_merge_rows.specs.Parts.{null_column, or_nulls, part_side, ArePut, IsRowSide};
+ghost use Rattle.awk_merge_rows.specs.Parts.{null_column, or_nulls, part_side, side_from};
+ghost use Rattle.awk_merge_rows.specs.Parts.{ArePut, IsRowSide};
 ghost use Rattle.awk_merge_rows.specs.Parts.{OpensAsRow, AreRowParts};
+ghost use Rattle.awk_merge_sides.specs.Lifts.{part_carry, part_source, AreSources};
 ghost use Rattle.awk_merge_sides.specs.Sides.{Side as Lifted, side_of, sides_of, IsSide, AreSides, IsCounted};
 
 use awk_columns::{Opened, open_array};
 use awk_lanes::{Arena, Kind, LaneMaker, Num, Steps};
 use awk_layout::{Array, Arrays, Node};
-use awk_merge_sides::{Groups, Side, Sides, part_lift, part_source};
+use awk_merge_sides::{Groups, Side, Sides, part_lift, part_sources};
 use awk_types::{NoMemory, Typ};
 use awk_unify::Lift;
 use std::alloc::Global;
@@ -56,19 +58,20 @@ fn null_side<'a, L: Ledger>(
     })
 }
 
-/// What a column of rows gives to the part at a place.
+/// What a column of rows gives to the place to which one of its parts goes, or to which none goes.
 fn part<'a, L: Ledger>(
     alloc: Global,
     side: &Side<'a>,
     columns: &Arrays<'a>,
-    j: u64,
+    source: Option<u64>,
     arena: &'a Arena,
     steps: &mut Steps<L>,
 ) -> Result<Side<'a>, NoMemory>
-    ensures { let f = lift_of side.now.lift in
-        IfOk result (λ s. side_of s ≡ part_side (len side.now.column) f columns.now j) }
+    ensures { let carry = part_carry (lift_of side.now.lift) in
+        let given = side_from (len side.now.column) carry columns.now source in
+        IfOk result (λ s. side_of s ≡ given) }
 {
-    let Some(k) = part_source(&side.lift, j) else {
+    let Some(k) = source else {
         return null_side(alloc, &side.column, arena, steps);
     };
     if k >= columns.len() as u64 {
@@ -79,15 +82,19 @@ fn part<'a, L: Ledger>(
     Ok(Side { column, lift })
 }
 
-/// The parts of the rows of one column, each into its group.
+/// The parts of the rows of one column, each into its group: for each place there is the part that
+/// goes there.
 fn put_parts<'a, L: Ledger>(
     alloc: Global,
     side: &Side<'a>,
     columns: &Arrays<'a>,
+    sources: &[Option<u64>],
     groups: &mut Groups<'a>,
     arena: &'a Arena,
     steps: &mut Steps<L>,
 ) -> Result<(), NoMemory>
+    requires sources { let source = part_source (lift_of side.now.lift) in
+        AreSources source (length (groups_of groups.old)) sources.now }
     requires counted { AreCounted groups.old }
     ensures counted { OnOk result (AreCounted groups.new) }
     ensures put { let parts = part_side (len side.now.column) (lift_of side.now.lift) columns.now in
@@ -95,7 +102,7 @@ fn put_parts<'a, L: Ledger>(
         (groups_of groups.new)) }
 {
     for j in 0..groups.len() {
-        let part = part(alloc, side, columns, j as u64, arena, steps)?;
+        let part = part(alloc, side, columns, sources[j], arena, steps)?;
         groups.push(alloc, j, part.column, &part.lift)?;
     }
     Ok(())
@@ -143,7 +150,8 @@ fn put_side<'a, L: Ledger>(
         return Ok(());
     }
     let columns = columns_of(alloc, side, arena, steps)?;
-    put_parts(alloc, side, &columns, groups, arena, steps)
+    let sources = part_sources(alloc, &side.lift, groups.len())?;
+    put_parts(alloc, side, &columns, &sources, groups, arena, steps)
 }
 
 /// How many parts a tuple or a record has.

@@ -1,5 +1,5 @@
 -- How the parts of a value are carried where it is.
-use Rattle.std.specs.Prelude.{◌==◌, ◌∷◌, ℕ, List, Option, Some, None, option_map, suc, if◌then◌else◌}
+use Rattle.std.specs.Prelude.{◌≡◌, ◌<◌, ◌==◌, ◌∷◌, ℕ, List, Option, Some, None, get_or, length, option_map, suc, if◌then◌else◌}
 use Rattle.awk_unify.specs.Carry.{Carry, keep, in_items, to_parts, to_alternatives, carry_list, tag_at}
 use Rattle.awk_unify.specs.Carries.{carry_at}
 
@@ -17,6 +17,11 @@ source_at j ps fs = None
 abbrev pub part_source : Carry → ℕ → Option ℕ
 part_source (to_parts ps fs) j = source_at j ps (carry_list fs)
 part_source f j = Some j
+
+-- for each of n places the part that goes there
+pub record AreSources (source : ℕ → Option ℕ) (n : ℕ) (sources : List (Option ℕ)) : Type 0 where
+  pub long : length sources ≡ n
+  pub at : (j : ℕ) → j < n → get_or sources j None ≡ source j
 
 -- and how it is carried
 abbrev pub part_carry : Carry → ℕ → Carry

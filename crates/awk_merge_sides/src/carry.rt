@@ -2,11 +2,11 @@
 ghost use Rattle.std.specs.Prelude.{◌≡◌, IfOk};
 ghost use Rattle.awk_unify.specs.Carries.{carry_at};
 ghost use Rattle.awk_unify.specs.View.{lift_of, lifts_of};
-ghost use Rattle.awk_merge_sides.specs.Lifts.{items_carry, part_source, part_carry, source_at as source};
+ghost use Rattle.awk_merge_sides.specs.Lifts.{items_carry, part_carry};
 ghost use Rattle.awk_merge_sides.specs.Lifts.{alternative_tag, alternative_carry};
 
 use awk_types::NoMemory;
-use awk_unify::{Lift, Lifts, Places, copy_lift};
+use awk_unify::{Lift, Lifts, copy_lift};
 use std::alloc::Global;
 
 /// The lift at a place; beyond the last one the value stays.
@@ -29,28 +29,6 @@ pub fn items_lift(alloc: Global, f: &Lift) -> Result<Lift, NoMemory>
         Lift::Items(item) => copy_lift(alloc, item),
         _ => Ok(Lift::Same),
     }
-}
-
-/// The part of a row that goes to a place, if one does.
-pub fn part_source(f: &Lift, j: u64) -> Option<u64>
-    ensures { result ≡ part_source (lift_of f.now) j }
-{
-    match f {
-        Lift::Parts { places, parts } => source_at(places, parts, j),
-        _ => Some(j),
-    }
-}
-
-/// The first part whose place is j.
-fn source_at(places: &Places, parts: &Lifts, j: u64) -> Option<u64>
-    ensures { result ≡ source j places.now (lifts_of parts.now) }
-{
-    for k in 0..places.len().min(parts.len()) {
-        if places.get(k) == j {
-            return Some(k as u64);
-        }
-    }
-    None
 }
 
 /// How a part of a row is carried.
