@@ -1,19 +1,17 @@
 -- A value in the place of each null.
 use Rattle.std.specs.Prelude.{◌≡◌, ℕ, ◌+◌, ◌-◌, ◌<◌, ◌≤◌, ◌^◌, ◌&&◌, refl, Bool, true, false, not}
-use Rattle.std.specs.Prelude.{List, [], ◌∷◌, ◌++◌, map, length, get_or, ℤ, pos, negsuc, ◌≤ℤ◌, ◌<ℤ◌, int_le}
-use Rattle.std.specs.Prelude.{Option, Some, None, Result, Ok, Err, if◌then◌else◌}
-use Rattle.std.specs.List.{AllByRecursion, range_with_len}
+use Rattle.std.specs.Prelude.{List, [], ◌++◌, map, length, get_or, ℤ, pos, negsuc, ◌≤ℤ◌, ◌<ℤ◌}
+use Rattle.std.specs.Prelude.{int_le, Option, Some, None, Result, Ok, Err}
 use Rattle.std.proofs.Common.{arith, ap, ap₂, sym, subst, ◌∙◌}
 use Rattle.std.proofs.lemmas.Int.{ints}
-use Rattle.std.proofs.lemmas.List.{length-append, length-map, get_or_append_left}
-use Rattle.std.proofs.lemmas.List.{get_or-append-add}
+use Rattle.std.proofs.lemmas.List.{length-append, length-map, get_or_append_left, get_or-append-add}
 use Rattle.std.proofs.lemmas.Simd.{map-map}
 use Rattle.awk_types.specs.DataType.{DataType, unknown, leaf, var, reg, rec, tup, opt, uni}
 use Rattle.awk_types.specs.Datum.{Datum}
 use Rattle.awk_types.specs.Faults.{fault_told}
 use Rattle.awk_types.specs.Gives.{Gives, Told, refused_or}
 use Rattle.awk_types.specs.IsType.{IsType}
-use Rattle.awk_types.specs.Limit.{Limit, limit}
+use Rattle.awk_types.specs.Limit.{limit}
 use Rattle.awk_types.specs.Has.{Has, Holds, least_number, greatest_number}
 use Rattle.awk_types.specs.Simple.{IsSimple, is_option, simple, simple_value}
 use Rattle.awk_types.specs.Value.{Value, int, truth, null, list, row, alt, value_list}
@@ -27,8 +25,8 @@ use Rattle.awk_types.specs.declared.primitive.Primitive.{Primitive}
 use Rattle.awk_types.proofs.SimpleLaws.{simple_twice, simple_is_simple, has_each, null_in_option}
 use Rattle.awk_lanes.specs.Column.{Column}
 use Rattle.awk_lanes.specs.Numbers.{nat_of}
-use Rattle.awk_lanes.specs.Places.{size_of, at, place_at, option_place, option_place_at}
-use Rattle.awk_lanes.specs.Places.{IsIndex, IsOptionalIndex}
+use Rattle.awk_lanes.specs.Places.{size_of, at, place_at, option_place, option_place_at, IsIndex}
+use Rattle.awk_lanes.specs.Places.{IsOptionalIndex}
 use Rattle.awk_lanes.specs.declared.kind.Kind.TheVariants.{I64}
 use Rattle.awk_layout.specs.declared.datum.Datum.{Datum as Array}
 use Rattle.awk_layout.specs.Datum.{datum_of}
@@ -56,14 +54,14 @@ use Rattle.awk_unify.specs.Unify.{unification}
 use Rattle.awk_merge_sides.specs.Sides.{Side, merged_items, AreSides, IsMerged, with_side}
 use Rattle.awk_merge_sides.proofs.SideLaws.{all-append, item_has, length-carried, get_or-carried}
 use Rattle.awk_merge_sides.proofs.SideLaws.{merged_items-with_side, AreSides-with_side}
-use Rattle.awk_fill.specs.Filled.{IsFirst, IsPair, place_or, places_or, AreFilled, IsFilled}
-use Rattle.awk_fill.specs.Filled.{IsFilledOption, IsRefused}
-use Rattle.awk_fill.specs.FillNone.{Filler, filler_type, filler_value, filling, fill_value}
-use Rattle.awk_fill.specs.FillNone.{filled, filled_type, fits, fill_none_function}
-use Rattle.awk_fill.specs.FillNone.{literal_refusal, literal_primitive, no_filler}
-use Rattle.awk_fill.specs.FillNone.{is_filler, fill_none_of}
-use Rattle.awk_nulls.proofs.OptionNodes.{HasItems, item_stays}
-use Rattle.awk_nulls.proofs.Spans.{count_same, over_limit, within_limit}
+use Rattle.awk_fill.specs.Filled.{IsFirst, IsPair, place_or, places_or, IsFilled, IsFilledOption}
+use Rattle.awk_fill.specs.Filled.{IsRefused}
+use Rattle.awk_fill.specs.FillNone.{Filler, filler_type, filler_value, filling, fill_value, filled}
+use Rattle.awk_fill.specs.FillNone.{filled_type, fits, fill_none_function, no_filler, is_filler}
+use Rattle.awk_fill.specs.FillNone.{fill_none_of}
+use Rattle.awk_option_nodes.proofs.OptionNodes.{HasItems, item_stays}
+use Rattle.awk_axis.proofs.SpoilLimits.{over_limit, within_limit}
+use Rattle.awk_columns.proofs.OffsetLaws.{count_same}
 
 -- ---- the value alone
 

@@ -35,7 +35,7 @@ use Rattle.awk_lists.specs.Numbers.{AreCounts}
 use Rattle.awk_lists.specs.Unflatten.{is_negative, count_of, counted_before, do_not_add_up, cut_by}
 use Rattle.awk_lists.specs.Unflatten.{lists_by, cut_items}
 use Rattle.awk_lists.proofs.Ends.{rising_offsets}
-use Rattle.awk_lists.proofs.JoinedItems.{run-slice}
+use Rattle.awk_list_ends.proofs.KeptItems.{run-slice}
 
 -- ---- counts by place
 

@@ -39,7 +39,8 @@ use Rattle.awk_types.specs.Predicates.{is_list_or_unknown}
 use Rattle.awk_lists.specs.Listed.{items_before, AreListed, IsListed}
 use Rattle.awk_lists.proofs.Ends.{rising_offsets, joined_at}
 use Rattle.awk_lists.proofs.JoinedItems.{items_before-add, items_before-mono, items_before-all}
-use Rattle.awk_lists.proofs.JoinedItems.{slice-joined, run-slice, count-joined}
+use Rattle.awk_lists.proofs.JoinedItems.{slice-joined, count-joined}
+use Rattle.awk_list_ends.proofs.KeptItems.{run-slice}
 use Rattle.awk_lists.proofs.Spans.{over_limit, within_limit}
 
 -- what is accepted are lists

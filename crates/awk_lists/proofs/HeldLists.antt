@@ -1,29 +1,26 @@
 -- Lists that hold an item: which they are among values and in an array, and runs of them.
 use Rattle.std.specs.Prelude.{◌≡◌, ℕ, zero, suc, ◌+◌, ◌-◌, ◌<◌, ◌≤◌, refl, true, false, Bool}
-use Rattle.std.specs.Prelude.{nat_lt, cond, List, [], ◌∷◌, ◌++◌, length, map, take, drop}
-use Rattle.std.specs.Prelude.{pos, ◌≤ℤ◌, Some, None}
+use Rattle.std.specs.Prelude.{nat_lt, cond, List, [], ◌∷◌, ◌++◌, length, map, take, pos, ◌≤ℤ◌, Some}
+use Rattle.std.specs.Prelude.{None}
 use Rattle.std.specs.List.{flat_map, range_with_len}
 use Rattle.std.proofs.Common.{arith, ap, sym, ◌∙◌, subst}
-use Rattle.std.proofs.Math.Seq.{drop-append_seam, take-append_seam}
 use Rattle.std.proofs.lemmas.Int.{ints}
-use Rattle.std.proofs.lemmas.List.{length-append, length-map, take-append-drop, drop-take, take_all}
-use Rattle.std.proofs.lemmas.List.Elements.{filter-append}
+use Rattle.std.proofs.lemmas.List.{length-append, length-map, take_all}
 use Rattle.std.proofs.lemmas.List.FromFn.{take-map-range_with_len}
 use Rattle.awk_types.specs.DataType.{DataType}
 use Rattle.awk_types.specs.Simple.{present}
-use Rattle.awk_types.specs.Value.{Value, null, int, truth, list, row, alt, value_list}
+use Rattle.awk_types.specs.Value.{Value, null, int, truth, list, row, alt}
 use Rattle.awk_lanes.specs.Column.{Column}
 use Rattle.awk_lanes.specs.Numbers.{nat_of}
 use Rattle.awk_lanes.specs.Places.{size_of, at, place_at, IsIndex}
 use Rattle.awk_lanes.specs.declared.kind.Kind.TheVariants.{I64}
 use Rattle.awk_layout.specs.Layout.{Layout}
-use Rattle.awk_layout.specs.Item.{run}
 use Rattle.awk_layout.specs.Typing.{array_type, array_items}
 use Rattle.awk_layout.specs.Valid.{len, IsValid}
 use Rattle.awk_layout.proofs.ArrayItems.{length-array_items}
 use Rattle.awk_layout.proofs.Runs.{length-run}
 use Rattle.awk_gather.specs.Arrays.{array_item, IsGathered}
-use Rattle.awk_columns.specs.Columns.{joined_items, list_items}
+use Rattle.awk_columns.specs.Columns.{joined_items, list_items, present_values}
 use Rattle.awk_columns.specs.Counted.{AreBelow, first_of, places_lane}
 use Rattle.awk_gather.specs.Lanes.{picked}
 use Rattle.awk_columns.specs.Reached.{IsReached}
@@ -31,17 +28,16 @@ use Rattle.awk_columns.proofs.FirstPlaces.{length-first_of}
 use Rattle.awk_lanes.proofs.MadeLanes.{size-lane_of, at-lane_of}
 use Rattle.awk_gather.proofs.PickedLanes.{size-picked, at-picked}
 use Rattle.awk_columns.proofs.ReachedContents.{below-first_of, places_index, reached_by}
-use Rattle.awk_columns.specs.Columns.{present_values}
 use Rattle.awk_columns.specs.ListClass.{Class, list_type}
-use Rattle.awk_columns.specs.Opened.{OpensLists, OpensNothing, OpensOption}
+use Rattle.awk_columns.specs.Opened.{OpensLists, OpensOption}
 use Rattle.awk_columns.proofs.ArrayLaws.{array_items-at}
 use Rattle.awk_types.specs.Predicates.{is_list_or_unknown}
 use Rattle.awk_lists.specs.Held.{holds_item, held_lists, held_at, held_counts, AreLengths, AreHeld}
-use Rattle.awk_lists.specs.Listed.{present_lane}
-use Rattle.awk_lists.proofs.Ends.{list_present, list_not_option, no_items, count_present}
-use Rattle.awk_lists.proofs.Ends.{take_present, size-counts, at-counts, filter_few}
-use Rattle.awk_lists.proofs.JoinedItems.{run-slice, take-take}
-use Rattle.awk_lists.proofs.Spans.{lists_within}
+use Rattle.awk_option_nodes.specs.Present.{present_lane}
+use Rattle.awk_lists.proofs.Ends.{list_present, list_not_option, count_present, take_present}
+use Rattle.awk_lists.proofs.Ends.{size-counts, at-counts, filter_few}
+use Rattle.awk_columns.proofs.SpanLaws.{lists_within}
+use Rattle.awk_list_ends.specs.Kept.{KeepsItems}
 
 -- ---- values
 
@@ -92,83 +88,17 @@ held-present (list ws ∷ vs) =
 held-present (row ws ∷ vs) = held-present vs
 held-present (alt k v ∷ vs) = held-present vs
 
--- ---- parts of lists
+-- ---- those that hold an item as the items that a test keeps
 
-held_split : (vs : List Value) (a : ℕ)
-    → held_lists vs ≡ held_lists (take a vs) ++ held_lists (drop a vs)
-held_split vs a =
-    ap held_lists (sym (take-append-drop a vs))
-    ∙ filter-append holds_item (take a vs) (drop a vs)
-
-abbrev held_before : List Value → ℕ → ℕ
-held_before vs a = length (held_lists (take a vs))
-
-before-add : (vs : List Value) (a n : ℕ)
-    → held_before vs (a + n) ≡ held_before vs a + held_before (drop a vs) n
-before-add vs a n =
-    ap length (held_split (take (a + n) vs) a)
-    ∙ length-append (held_lists (take a (take (a + n) vs))) (held_lists (drop a (take (a + n) vs)))
-    ∙ ap (λ ws. length (held_lists ws) + length (held_lists (drop a (take (a + n) vs))))
-    (take-take vs a n)
-    ∙ ap (λ ws. held_before vs a + length (held_lists ws)) (drop-take a n vs)
-
-pub before-few : (vs : List Value) (a : ℕ) → held_before vs a ≤ length (held_lists vs)
-before-few vs a =
-    let e = ap length (held_split vs a)
-    ∙ length-append (held_lists (take a vs)) (held_lists (drop a vs)) in
-    omega (arith, e)
-
-slice_held : (vs : List Value) (a n : ℕ)
-    → take (held_before (drop a vs) n) (drop (held_before vs a) (held_lists vs))
-    ≡ held_lists (take n (drop a vs))
-slice_held vs a n =
-    ap (λ ws. take (held_before (drop a vs) n) (drop (held_before vs a) ws)) (held_split vs a)
-    ∙ ap (take (held_before (drop a vs) n))
-    (drop-append_seam (held_lists (take a vs)) (held_lists (drop a vs)))
-    ∙ ap (take (held_before (drop a vs) n)) (held_split (drop a vs) n)
-    ∙ take-append_seam (held_lists (take n (drop a vs))) (held_lists (drop n (drop a vs)))
-
--- ---- runs of an array
-
-module _ (x : Layout) (c : Column) (z : Layout) (h : AreHeld x c z) where
-  pub at-count : (a : ℕ) → a ≤ len x → at c a ≡ pos (place_at c a)
-  at-count a p = h.counts a p ∙ sym (ap (λ w. pos (nat_of w)) (h.counts a p))
-
-  count_is : (a : ℕ) → a ≤ len x → place_at c a ≡ held_before (array_items x) a
-  count_is a p = ap nat_of (h.counts a p)
-
-  pub counts_up : (a n : ℕ) → a + n ≤ len x → place_at c a ≤ place_at c (a + n)
-  counts_up a n p =
-      let i = count_is a (omega (arith, p)) in
-      let k = count_is (a + n) p in
-      omega (arith, i, k, before-add (array_items x) a n)
-
-  pub counts_within : (a : ℕ) → a ≤ len x → place_at c a ≤ len z
-  counts_within a p =
-      let i = count_is a p in
-      let e : length (array_items z) ≡ length (held_lists (array_items x)) =
-      ap length h.column in
-      omega (arith, i, before-few (array_items x) a, e, length-array_items z)
-
-  -- those of a run of lists
-  pub held_run : (a n : ℕ) → a + n ≤ len x
-      → value_list (run (array_item z) (place_at c a) (place_at c (a + n) - place_at c a))
-      ≡ held_lists (value_list (run (array_item x) a n))
-  held_run a n p =
-      let i = count_is a (omega (arith, p)) in
-      let k = count_is (a + n) p in
-      let size : place_at c (a + n) - place_at c a ≡ held_before (drop a (array_items x)) n =
-      omega (arith, i, k, before-add (array_items x) a n) in
-      let up = counts_up a n p in
-      let within = counts_within (a + n) p in
-      run-slice z (place_at c a) (place_at c (a + n) - place_at c a)
-      (omega (arith, up, within))
-      ∙ ap (λ m. take m (drop (place_at c a) (array_items z))) size
-      ∙ ap (λ m. take (held_before (drop a (array_items x)) n) (drop m (array_items z))) i
-      ∙ ap (λ ws. take (held_before (drop a (array_items x)) n)
-      (drop (held_before (array_items x) a) ws)) h.column
-      ∙ slice_held (array_items x) a n
-      ∙ ap held_lists (sym (run-slice x a n p))
+pub keeps_held : (x : Layout) (c : Column) (z : Layout) → AreHeld x c z
+    → KeepsItems holds_item x c z
+keeps_held x c z h = record {
+  valid = h.valid;
+  column = h.column;
+  kind = h.kind;
+  size = h.size;
+  counts = h.counts;
+}
 
 -- ---- the places of those of an array
 

@@ -1,25 +1,18 @@
 -- The items of lists one after another: parts of them, and how many there are.
 use Rattle.std.specs.Prelude.{◌≡◌, ℕ, zero, suc, ◌+◌, ◌-◌, ◌<◌, ◌≤◌, refl, List, [], ◌∷◌, ◌++◌}
 use Rattle.std.specs.Prelude.{length, map, take, drop, get_or, sum}
-use Rattle.std.specs.List.{flat_map, range_with_len}
+use Rattle.std.specs.List.{flat_map}
 use Rattle.std.proofs.Common.{arith, ap, sym, ◌∙◌, subst, add-one}
 use Rattle.std.proofs.Math.Seq.{drop-append_seam, take-append_seam}
 use Rattle.std.proofs.lemmas.Grind.{flat_map-append}
 use Rattle.std.proofs.lemmas.List.{length-append, take-append-drop, drop-take, take_all}
 use Rattle.std.proofs.lemmas.List.Concat.{length-flat_map}
 use Rattle.std.proofs.lemmas.List.Folds.{flat_map-map}
-use Rattle.std.proofs.lemmas.List.FromFn.{take-map-range_with_len}
 use Rattle.std.proofs.lemmas.List.Sums.{sum-map}
-use Rattle.awk_types.specs.Value.{Value, null, value_list}
-use Rattle.awk_layout.specs.Layout.{Layout}
-use Rattle.awk_layout.specs.Item.{run}
-use Rattle.awk_layout.specs.Typing.{array_items}
-use Rattle.awk_layout.specs.Valid.{len}
-use Rattle.awk_layout.proofs.Runs.{value_list-run}
-use Rattle.awk_gather.specs.Arrays.{array_item}
+use Rattle.awk_types.specs.Value.{Value, null}
 use Rattle.awk_columns.specs.Columns.{joined_items, list_items}
-use Rattle.awk_columns.proofs.ArrayLaws.{array_items-at}
 use Rattle.awk_lists.specs.Listed.{items_before}
+use Rattle.awk_list_ends.proofs.KeptItems.{take-take}
 
 -- ---- parts
 
@@ -40,17 +33,6 @@ pub take-joined : (vs : List Value) (n : ℕ)
 take-joined vs n =
     ap (take (items_before vs n)) (joined-split vs n)
     ∙ take-append_seam (joined_items (take n vs)) (joined_items (drop n vs))
-
-take-none : (n : ℕ) → take {A = Value} n [] ≡ []
-take-none zero = refl
-take-none (suc n) = refl
-
-pub take-take : (vs : List Value) (a n : ℕ) → take a (take (a + n) vs) ≡ take a vs
-take-take vs zero n = refl
-take-take [] (suc a) n = ap (take (suc a)) (take-none (suc a + n))
-take-take (v ∷ vs) (suc a) n =
-    let e : suc a + n ≡ suc (a + n) = omega arith in
-    ap (λ k. take (suc a) (take k (v ∷ vs))) e ∙ ap (λ ws. v ∷ ws) (take-take vs a n)
 
 -- lists counted in two parts
 pub items_before-add : (vs : List Value) (a n : ℕ)
@@ -93,33 +75,6 @@ pub slice-joined : (vs : List Value) (a n : ℕ)
     ≡ joined_items (take n (drop a vs))
 slice-joined vs a n =
     ap (take (items_before (drop a vs) n)) (drop-joined vs a) ∙ take-joined (drop a vs) n
-
--- ---- runs of an array
-
-drop-range : (f : ℕ → Value) (b a m : ℕ)
-    → drop a (map f (range_with_len b (a + m))) ≡ map f (range_with_len (b + a) m)
-drop-range f b zero m =
-    let z : 0 + m ≡ m = omega arith in
-    let e : b ≡ b + 0 = omega arith in
-    ap (λ k. map f (range_with_len b k)) z ∙ ap (λ k. map f (range_with_len k m)) e
-drop-range f b (suc a) m =
-    let z : suc a + m ≡ suc (a + m) = omega arith in
-    let e : (b + 1) + a ≡ b + suc a = omega arith in
-    ap (λ k. drop (suc a) (map f (range_with_len b k))) z
-    ∙ drop-range f (b + 1) a m ∙ ap (λ k. map f (range_with_len k m)) e
-
-pub run-slice : (x : Layout) (a n : ℕ) → a + n ≤ len x
-    → value_list (run (array_item x) a n) ≡ take n (drop a (array_items x))
-run-slice x a n p =
-    let m : ℕ = len x - a in
-    let e : len x ≡ a + m = omega (arith, p) in
-    let z : 0 + a ≡ a = omega arith in
-    value_list-run (array_item x) a n
-    ∙ sym (ap (λ vs. take n (drop a vs)) (array_items-at x)
-    ∙ ap (λ k. take n (drop a (map (array_item x) (range_with_len 0 k)))) e
-    ∙ ap (take n) (drop-range (array_item x) 0 a m
-    ∙ ap (λ k. map (array_item x) (range_with_len k m)) z)
-    ∙ take-map-range_with_len (array_item x) a m n (omega (arith, p)))
 
 -- ---- how many there are
 

@@ -1,5 +1,4 @@
 pub mod Spans
-pub mod OffsetLaws
 pub mod LocalLaws
 pub mod Singles
 pub mod JoinedItems

@@ -1,6 +1,6 @@
 -- The places of the items of lists.
-use Rattle.std.specs.Prelude.{◌≡◌, ℕ, ◌+◌, ◌-◌, ◌<◌, ◌≤◌, ◌^◌, refl, List, get_or, length, map, sum, ℤ, pos}
-use Rattle.std.specs.Prelude.{Some, None}
+use Rattle.std.specs.Prelude.{◌≡◌, ℕ, ◌+◌, ◌-◌, ◌<◌, ◌≤◌, ◌^◌, refl, List, get_or, length, map, sum}
+use Rattle.std.specs.Prelude.{ℤ, pos, Some, None}
 use Rattle.std.specs.List.{range_with_len}
 use Rattle.std.proofs.Common.{arith, ap, sym, ◌∙◌}
 use Rattle.std.proofs.lemmas.Simd.{map-map}
@@ -29,8 +29,9 @@ use Rattle.awk_lanes.specs.Made.{lane_of}
 use Rattle.awk_lanes.proofs.MadeLanes.{size-lane_of, at-lane_of}
 use Rattle.awk_lanes.proofs.CountedLanes.{place-offsets, length-numbers, numbers-at}
 use Rattle.awk_lists.specs.LocalIndex.{local_index_function}
-use Rattle.awk_lists.proofs.OffsetLaws.{are_offsets, even_offsets, offset-length, items_at-length}
-use Rattle.awk_lists.proofs.OffsetLaws.{count_given, over_limit, within_limit}
+use Rattle.awk_columns.proofs.OffsetLaws.{are_offsets, even_offsets, offset-length, items_at-length}
+use Rattle.awk_columns.proofs.OffsetLaws.{count_given}
+use Rattle.awk_axis.proofs.SpoilLimits.{over_limit, within_limit}
 
 run_get : (h : ℕ → Value) (a n k : ℕ) → k < n → get_or (value_list (run h a n)) k null ≡ h (a + k)
 run_get h a n k p = ap (λ xs. get_or xs k null) (value_list-run h a n)

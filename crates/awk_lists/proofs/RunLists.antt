@@ -45,7 +45,7 @@ use Rattle.awk_lists.specs.RunLengths.{runs, run_lengths_function}
 use Rattle.awk_lists.specs.Runs.{runs_at, runs_before, run_offsets, run_lane}
 use Rattle.awk_lists.specs.Runs.{AreRising}
 use Rattle.awk_lists.proofs.Ends.{rising_offsets, joined_at}
-use Rattle.awk_lists.proofs.JoinedItems.{run-slice}
+use Rattle.awk_list_ends.proofs.KeptItems.{run-slice}
 use Rattle.awk_lists.proofs.Spans.{over_limit, within_limit}
 use Rattle.awk_lists.proofs.RunLaws.{runs_between-few}
 

@@ -1,7 +1,7 @@
 -- The lists of a list joined to one list.
-use Rattle.std.specs.Prelude.{suc, ℤ, pos, Bool, true, false, Some, None, Result, Err}
+use Rattle.std.specs.Prelude.{suc, ℤ, pos, Some, None, Result, Err}
 use Rattle.std.specs.Prelude.{if◌then◌else◌}
-use Rattle.awk_types.specs.DataType.{DataType, unknown, var, reg}
+use Rattle.awk_types.specs.DataType.{DataType, var, reg}
 use Rattle.awk_types.specs.Datum.{Datum}
 use Rattle.awk_types.specs.Simple.{present}
 use Rattle.awk_types.specs.declared.fault.Fault.{Fault}

@@ -13,7 +13,7 @@ use Rattle.awk_gather.specs.Arrays.{array_item}
 use Rattle.awk_columns.specs.Columns.{list_items}
 use Rattle.awk_columns.specs.Counted.{first_of}
 use Rattle.awk_lanes.specs.Made.{lane_of}
-use Rattle.awk_lists.specs.Lanes.{span_length}
+use Rattle.awk_list_ends.specs.Ends.{span_length}
 
 abbrev pub holds_item : Value → Bool
 holds_item v = nat_lt 0 (length (list_items v))

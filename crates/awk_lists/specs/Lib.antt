@@ -1,4 +1,3 @@
-pub mod Lanes
 pub mod Num
 pub mod LocalIndex
 pub mod Flatten

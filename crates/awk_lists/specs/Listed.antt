@@ -5,13 +5,10 @@ use Rattle.awk_types.specs.Value.{Value}
 use Rattle.awk_types.specs.ItemLimit.{item_limit}
 use Rattle.awk_lanes.specs.Column.{Column}
 use Rattle.awk_lanes.specs.Places.{size_of, at, IsIndexKind}
-use Rattle.awk_lanes.specs.declared.kind.Kind.TheVariants.{I64}
 use Rattle.awk_layout.specs.Layout.{Layout}
 use Rattle.awk_layout.specs.Valid.{IsValid}
 use Rattle.awk_layout.specs.Typing.{array_type, array_items}
 use Rattle.awk_columns.specs.Columns.{joined_items}
-use Rattle.awk_columns.specs.Counted.{first_of, present_at}
-use Rattle.awk_lanes.specs.Made.{lane_of}
 use Rattle.awk_columns.specs.declared.lists.Joined.{Joined}
 use Rattle.awk_columns.specs.declared.lists.Joined.TheVariants.{TooMany, Lists}
 use Rattle.awk_lists.specs.Flatten.{item_type}
@@ -19,11 +16,6 @@ use Rattle.awk_lists.specs.Flatten.{item_type}
 -- how many items the first i lists have together
 abbrev pub items_before : List Value → ℕ → ℕ
 items_before vs i = length (joined_items (take i vs))
-
--- how many of the first items of an option are present
-abbrev pub present_lane : Column → Column
-present_lane j =
-    lane_of I64 (size_of j + 1) (λ i. pos (length (first_of (present_at j) i)))
 
 -- where each of these lists begins and ends, if they lie one after another
 pub record AreEnds (o : Column) (vs : List Value) : Type 0 where

@@ -24,7 +24,7 @@ ghost use Rattle.awk_lists.specs.Unflatten.{limit_refused, lists_by};
 
 use crate::numbers::numbers_of;
 use awk_axis::made;
-use awk_lanes::{Arena, Kind, Lane, LaneMaker, Num, Steps, number};
+use awk_lanes::{Arena, IndexMaker, Lane, Num, Steps, number};
 use awk_layout::{Array, Datum, Node};
 use awk_types::{Fault, ITEM_LIMIT, NoMemory, Typ, copy_type, is_numbers, simple_of};
 use std::alloc::Global;
@@ -106,7 +106,7 @@ fn offsets_by<'a, L: Ledger>(
         IfOk result (λ r. r ≡ lane_of Kind.I64 (len counts.now + 1) (λ i. pos (before i))) }
 {
     let n = counts.len();
-    let mut maker = LaneMaker::new(Kind::I64, n + 1, arena)?;
+    let mut maker = IndexMaker::new(n + 1, arena)?;
     let mut end = 0;
     maker.push(number(0));
     for i in 0..n {

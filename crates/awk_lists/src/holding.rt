@@ -8,12 +8,14 @@ ghost use Rattle.awk_columns.specs.Opened.{OpensNothing, OpensOption};
 ghost use Rattle.awk_types.specs.Predicates.{is_list_or_unknown};
 ghost use Rattle.awk_lists.specs.Held.{held_at, held_counts, AreLengths, AreHeld};
 
-use crate::counting::present_counts;
-use crate::length::length_at;
 use awk_columns::{Opened, open_array};
 use awk_gather::{gather, gather_lane};
-use awk_lanes::{Arena, Kind, Lane, LaneMaker, Steps, number, place_in};
+use awk_lanes::{
+    Arena, Index, IndexMaker, Kind, Lane, LaneMaker, Steps, index_of, number, place_in,
+};
 use awk_layout::Array;
+use awk_list_ends::length_between;
+use awk_option_nodes::present_counts;
 use awk_types::NoMemory;
 use std::alloc::Global;
 use std::sync::ledger::Ledger;
@@ -27,12 +29,13 @@ pub(crate) struct Held<'a> {
 }
 
 /// 1 where the list at a place holds an item, else 0.
-fn one_if_held<L: Ledger>(starts: &Lane, stops: &Lane, i: u64, steps: &mut Steps<L>) -> u64
+#[inline(always)]
+fn one_if_held(starts: &Index, stops: &Index, i: u64) -> u64
     requires within { i < size_of starts.now }
     requires spans { AreSpans starts.now stops.now 9223372036854775807 }
     ensures { result ≡ length (held_at starts.now stops.now i) }
 {
-    if length_at(starts, stops, i, steps) > 0 {
+    if length_between(starts, stops, i) > 0 {
         1
     } else {
         0
@@ -40,33 +43,27 @@ fn one_if_held<L: Ledger>(starts: &Lane, stops: &Lane, i: u64, steps: &mut Steps
 }
 
 /// How many of the first lists hold an item: 0, then one more after each that does.
-fn held_counts<'a, L: Ledger>(
-    starts: &Lane,
-    stops: &Lane,
-    arena: &'a Arena,
-    steps: &mut Steps<L>,
-) -> Result<Lane<'a>, NoMemory>
+fn held_counts<'a>(starts: &Index, stops: &Index, arena: &'a Arena) -> Result<Lane<'a>, NoMemory>
     requires spans { AreSpans starts.now stops.now 9223372036854775807 }
     requires fits { size_of starts.now < 2 ^ 63 }
     ensures { IfOk result (λ r. r ≡ held_counts starts.now stops.now) }
 {
-    let mut maker = LaneMaker::new(Kind::I64, starts.len() + 1, arena)?;
+    let mut maker = IndexMaker::new(starts.len() + 1, arena)?;
     let mut count = 0;
     maker.push(number(0));
     for i in 0..starts.len() {
-        count += one_if_held(starts, stops, i, steps);
+        count += one_if_held(starts, stops, i);
         maker.push(number(count));
     }
     Ok(maker.finish())
 }
 
 /// The places of the lists that hold an item, of which there are n.
-fn held_places<'a, L: Ledger>(
-    starts: &Lane,
-    stops: &Lane,
+fn held_places<'a>(
+    starts: &Index,
+    stops: &Index,
     n: u64,
     arena: &'a Arena,
-    steps: &mut Steps<L>,
 ) -> Result<Lane<'a>, NoMemory>
     requires spans { AreSpans starts.now stops.now 9223372036854775807 }
     requires fits { size_of starts.now < 2 ^ 63 }
@@ -74,9 +71,9 @@ fn held_places<'a, L: Ledger>(
     ensures { let places = first_of (held_at starts.now stops.now) (size_of starts.now) in
         IfOk result (λ r. r ≡ places_lane places) }
 {
-    let mut maker = LaneMaker::new(Kind::I64, n, arena)?;
+    let mut maker = IndexMaker::new(n, arena)?;
     for i in 0..starts.len() {
-        if length_at(starts, stops, i, steps) > 0 {
+        if length_between(starts, stops, i) > 0 {
             maker.push(number(i));
         }
     }
@@ -101,8 +98,8 @@ fn none_held<'a>(alloc: Global, x: &Array<'a>, arena: &'a Arena) -> Result<Held<
 fn held_among<'a, L: Ledger>(
     alloc: Global,
     x: &Array<'a>,
-    starts: &Lane,
-    stops: &Lane,
+    starts: &Lane<'a>,
+    stops: &Lane<'a>,
     arena: &'a Arena,
     steps: &mut Steps<L>,
 ) -> Result<Held<'a>, NoMemory>
@@ -110,9 +107,11 @@ fn held_among<'a, L: Ledger>(
     requires lengths { AreLengths x.now starts.now stops.now }
     ensures { IfOk result (λ r. AreHeld x.now r.counts r.lists) }
 {
-    let counts = held_counts(starts, stops, arena, steps)?;
+    let starts = index_of(alloc, starts, arena, steps)?;
+    let stops = index_of(alloc, stops, arena, steps)?;
+    let counts = held_counts(&starts, &stops, arena)?;
     let n = place_in(&counts, starts.len(), steps);
-    let places = held_places(starts, stops, n, arena, steps)?;
+    let places = held_places(&starts, &stops, n, arena)?;
     let lists = gather(alloc, x, &places, arena, steps)?;
     let _ = lists.len();
     Ok(Held { counts, lists })
@@ -151,7 +150,7 @@ fn optional_held<'a, L: Ledger>(
     ensures { IfOk result (λ r. AreHeld x.now r.counts r.lists) }
 {
     let held = plain_held(alloc, content, arena, steps)?;
-    let places = present_counts(index, arena, steps)?;
+    let places = present_counts(alloc, index, arena, steps)?;
     let counts = gather_lane(&held.counts, &places, arena, steps)?;
     Ok(Held {
         counts,

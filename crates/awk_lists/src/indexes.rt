@@ -1,5 +1,5 @@
 //! The places of the items of each list.
-ghost use Rattle.std.specs.Prelude.{◌≡◌, ◌<◌, ◌≤◌, ◌^◌, IfOk};
+ghost use Rattle.std.specs.Prelude.{◌<◌, IfOk};
 ghost use Rattle.awk_types.specs.Faults.{fault_told};
 ghost use Rattle.awk_types.specs.Gives.{Gives};
 ghost use Rattle.awk_axis.specs.Mapped.{IsMade};
@@ -7,8 +7,8 @@ ghost use Rattle.awk_layout.specs.Datum.{datum_of, IsDatum};
 ghost use Rattle.awk_lists.specs.LocalIndex.{local_index_function, local_index_of};
 
 use awk_axis::{ListOp, Made, Refusal, Spoil, lift_at};
-use awk_columns::Lists;
-use awk_lanes::{Arena, Items, Kind, Lengths, Num, Steps, items_of, number, offsets_within};
+use awk_columns::{Bounds, Lists, places_of};
+use awk_lanes::{Arena, Items, Lengths, Num, Steps, number, offsets_within};
 use awk_layout::{Datum, Node};
 use awk_types::{Fault, ITEM_LIMIT, NoMemory, Prim, Typ};
 use std::alloc::Global;
@@ -16,11 +16,11 @@ use std::sync::ledger::Ledger;
 
 /// The places of the items of lists.
 #[derive(Drop)]
-struct LocalPlaces<'b, 'a> {
-    lists: &'b Lists<'a>,
+struct LocalPlaces<'b, 'r, 'a> {
+    lists: &'b Bounds<'r, 'a>,
 }
 
-impl<'b, 'a> Lengths for LocalPlaces<'b, 'a> {
+impl<'b, 'r, 'a> Lengths for LocalPlaces<'b, 'r, 'a> {
     ghost use Rattle.awk_lanes.specs.Places.{size_of};
     ghost use Rattle.awk_columns.specs.Lists.{span_length};
 
@@ -28,12 +28,12 @@ impl<'b, 'a> Lengths for LocalPlaces<'b, 'a> {
 
     ghost size = { λ f. size_of f.lists.now.starts };
 
-    fn length<L: Ledger>(&self, i: u64, steps: &mut Steps<L>) -> u64 {
-        self.lists.length_at(i, steps)
+    fn length<L: Ledger>(&self, i: u64, _steps: &mut Steps<L>) -> u64 {
+        self.lists.length_at(i)
     }
 }
 
-impl<'b, 'a> Items for LocalPlaces<'b, 'a> {
+impl<'b, 'r, 'a> Items for LocalPlaces<'b, 'r, 'a> {
     ghost use Rattle.std.specs.Prelude.{pos};
     ghost use Rattle.awk_lanes.specs.declared.kind.Kind.TheVariants as Kind;
 
@@ -41,14 +41,15 @@ impl<'b, 'a> Items for LocalPlaces<'b, 'a> {
 
     ghost at = { λ _ i k. pos k };
 
-    fn item<L: Ledger>(&self, i: u64, k: u64, steps: &mut Steps<L>) -> Num {
-        let _ = self.lists.length_at(i, steps);
+    fn item<L: Ledger>(&self, i: u64, k: u64, _steps: &mut Steps<L>) -> Num {
+        let _ = self.lists.length_at(i);
         number(k)
     }
 }
 
 /// The places of the items of lists, as lists of the same lengths.
-fn places_of<'a, L: Ledger>(
+fn local_places<'a, L: Ledger>(
+    alloc: Global,
     lists: &Lists<'a>,
     arena: &'a Arena,
     steps: &mut Steps<L>,
@@ -58,11 +59,12 @@ fn places_of<'a, L: Ledger>(
 {
     let n = lists.len();
     let _ = lists.content();
-    let places = LocalPlaces { lists };
+    let bounds = Bounds::new(alloc, lists, arena, steps)?;
+    let places = LocalPlaces { lists: &bounds };
     match offsets_within(ITEM_LIMIT, n, &places, arena, steps)? {
         None => Ok(Made::Spoiled(Spoil::Size)),
         Some(offsets) => {
-            let items = items_of(Kind::I64, n, offsets.total, &places, arena, steps)?;
+            let items = places_of(n, offsets.total, &places, arena, steps)?;
             Ok(Made::Lists {
                 offsets: offsets.lane,
                 content: Node::numpy(items, steps),
@@ -100,12 +102,12 @@ impl ListOp for LocalIndex {
 
     fn column<'a, L: Ledger>(
         &self,
-        _alloc: Global,
+        alloc: Global,
         lists: &Lists<'a>,
         arena: &'a Arena,
         steps: &mut Steps<L>,
     ) -> Result<Made<'a>, NoMemory> {
-        places_of(lists, arena, steps)
+        local_places(alloc, lists, arena, steps)
     }
 }
 

@@ -18,12 +18,12 @@ ghost use Rattle.awk_lists.specs.Held.{AreHeld};
 ghost use Rattle.awk_lists.specs.Listed.{IsListed};
 
 use crate::holding::held_of;
-use crate::moved::numbers_at_ends;
 use awk_axis::{ListOp, Made, Refusal, Spoil, lift_at};
 use awk_columns::{Joined, Lists, Opened, join_spans, open_array};
 use awk_gather::gather_lane;
-use awk_lanes::{Arena, Kind, Lane, LaneMaker, Steps, number};
+use awk_lanes::{Arena, Kind, Lane, LaneMaker, Steps, index_of, number};
 use awk_layout::{Array, Datum};
+use awk_list_ends::numbers_at_ends;
 use awk_types::{Fault, NoMemory, Typ, copy_type, is_list_or_unknown};
 use std::alloc::Global;
 use std::sync::ledger::Ledger;
@@ -125,10 +125,11 @@ fn held_rows<'a, L: Ledger>(
         lists.now.stops lists.now.content) }
 {
     let _ = lists.content();
-    let starts = lists.starts();
-    let stops = lists.stops();
-    let firsts = numbers_at_ends(counts, starts, stops, starts, arena, steps)?;
-    let ends = numbers_at_ends(counts, starts, stops, stops, arena, steps)?;
+    let starts = index_of(alloc, lists.starts(), arena, steps)?;
+    let stops = index_of(alloc, lists.stops(), arena, steps)?;
+    let counts = index_of(alloc, counts, arena, steps)?;
+    let firsts = numbers_at_ends(&counts, &starts, &stops, &starts, arena, steps)?;
+    let ends = numbers_at_ends(&counts, &starts, &stops, &stops, arena, steps)?;
     match join_spans(alloc, None, &firsts, &ends, held, arena, steps)? {
         Joined::TooMany => Ok(Made::Spoiled(Spoil::Size)),
         Joined::Lists {

@@ -1,44 +1,28 @@
 //! The number of items of each list.
-ghost use Rattle.std.specs.Prelude.{◌≡◌, ◌<◌, ◌^◌, IfOk};
+ghost use Rattle.std.specs.Prelude.{◌<◌, IfOk};
 ghost use Rattle.awk_types.specs.Faults.{fault_told};
 ghost use Rattle.awk_types.specs.Gives.{Gives};
-ghost use Rattle.awk_lanes.specs.Places.{size_of, AreSpans};
+ghost use Rattle.awk_lanes.specs.Places.{size_of};
 ghost use Rattle.awk_layout.specs.Datum.{datum_of, IsDatum};
 ghost use Rattle.awk_axis.specs.Mapped.{IsMade};
 ghost use Rattle.awk_columns.specs.Lists.{span_length};
 ghost use Rattle.awk_lists.specs.Num.{length_function, num_of};
 
 use awk_axis::{ListOp, Made, Refusal, lift_at};
-use awk_columns::Lists;
-use awk_lanes::{Arena, Kind, Lane, Num, Numbers, Steps, index_at, made_lane, number};
+use awk_columns::{Bounds, Lists};
+use awk_lanes::{Arena, Kind, Num, Numbers, Steps, made_lane, number};
 use awk_layout::{Datum, Node};
 use awk_types::{Fault, NoMemory, Prim, Typ};
 use std::alloc::Global;
 use std::sync::ledger::Ledger;
 
-/// How many items the list at a place has.
-pub(crate) fn length_at<L: Ledger>(starts: &Lane, stops: &Lane, i: u64, steps: &mut Steps<L>) -> u64
-    requires within { i < size_of starts.now }
-    requires spans { AreSpans starts.now stops.now 9223372036854775807 }
-    ensures length { result ≡ span_length starts.now stops.now i }
-    ensures fits { result < 2 ^ 63 }
-{
-    let start = index_at(starts, i, steps);
-    let stop = index_at(stops, i, steps);
-    if start == stop {
-        0
-    } else {
-        (stop - start) as u64
-    }
-}
-
 /// The lengths of lists.
 #[derive(Drop)]
-struct ListLengths<'b, 'a> {
-    lists: &'b Lists<'a>,
+struct ListLengths<'b, 'r, 'a> {
+    lists: &'b Bounds<'r, 'a>,
 }
 
-impl<'b, 'a> Numbers for ListLengths<'b, 'a> {
+impl<'b, 'r, 'a> Numbers for ListLengths<'b, 'r, 'a> {
     ghost use Rattle.std.specs.Prelude.{pos};
     ghost use Rattle.awk_lanes.specs.Places.{size_of};
     ghost use Rattle.awk_lanes.specs.declared.kind.Kind.TheVariants as Kind;
@@ -50,13 +34,14 @@ impl<'b, 'a> Numbers for ListLengths<'b, 'a> {
 
     ghost size = { λ f. size_of f.lists.now.starts };
 
-    fn number<L: Ledger>(&self, i: u64, steps: &mut Steps<L>) -> Num {
-        number(self.lists.length_at(i, steps))
+    fn number<L: Ledger>(&self, i: u64, _steps: &mut Steps<L>) -> Num {
+        number(self.lists.length_at(i))
     }
 }
 
 /// The lengths of lists as single values.
 fn lengths_of<'a, L: Ledger>(
+    alloc: Global,
     lists: &Lists<'a>,
     arena: &'a Arena,
     steps: &mut Steps<L>,
@@ -64,7 +49,9 @@ fn lengths_of<'a, L: Ledger>(
     ensures { IfOk result (IsMade length_function lists.now.class lists.now.starts
         lists.now.stops lists.now.content) }
 {
-    let lengths = made_lane(Kind::I64, lists.len(), &ListLengths { lists }, arena, steps)?;
+    let bounds = Bounds::new(alloc, lists, arena, steps)?;
+    let lengths = ListLengths { lists: &bounds };
+    let lengths = made_lane(Kind::I64, lists.len(), &lengths, arena, steps)?;
     Ok(Made::Singles(Node::numpy(lengths, steps)))
 }
 
@@ -97,12 +84,12 @@ impl ListOp for Length {
 
     fn column<'a, L: Ledger>(
         &self,
-        _alloc: Global,
+        alloc: Global,
         lists: &Lists<'a>,
         arena: &'a Arena,
         steps: &mut Steps<L>,
     ) -> Result<Made<'a>, NoMemory> {
-        lengths_of(lists, arena, steps)
+        lengths_of(alloc, lists, arena, steps)
     }
 }
 

@@ -4,14 +4,12 @@
 //! which takes any datum.
 #![tactic(auto)]
 
-mod counting;
 mod cutting;
 mod fields;
 mod holding;
 mod indexes;
 mod joining;
 mod length;
-mod moved;
 mod numbers;
 mod runs;
 

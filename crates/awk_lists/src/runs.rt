@@ -13,7 +13,7 @@ ghost use Rattle.awk_lists.specs.Runs.{runs_between, runs_before, run_lane, AreR
 use crate::numbers::numbers_of;
 use awk_axis::{ListOp, Made, Refusal, Spoil, lift_deep};
 use awk_columns::{Joined, Lists};
-use awk_lanes::{Arena, Kind, Lane, LaneMaker, Num, Steps, number, place_in};
+use awk_lanes::{Arena, IndexMaker, Lane, Num, Steps, number, place_in};
 use awk_layout::{Datum, Node};
 use awk_types::{Fault, NoMemory, Prim, Typ, is_leaf};
 use std::alloc::Global;
@@ -70,7 +70,7 @@ fn put_runs<'a, L: Ledger>(
     items: &Lane,
     start: u64,
     stop: u64,
-    maker: &mut LaneMaker<'a>,
+    maker: &mut IndexMaker<'a>,
     steps: &mut Steps<L>,
 )
     requires order { start ≤ stop }
@@ -105,7 +105,7 @@ fn run_offsets<'a, L: Ledger>(
     requires few { runs_before items.now offsets.now n < 2 ^ 63 }
     ensures { IfOk result (λ r. r ≡ spec.run_offsets items.now offsets.now n) }
 {
-    let mut maker = LaneMaker::new(Kind::I64, n + 1, arena)?;
+    let mut maker = IndexMaker::new(n + 1, arena)?;
     let mut end = 0;
     maker.push(number(0));
     for i in 0..n {
@@ -132,7 +132,7 @@ fn all_runs<'a, L: Ledger>(
     requires count { count ≡ runs_before items.now offsets.now n }
     ensures { IfOk result (λ r. r ≡ run_lane items.now offsets.now n) }
 {
-    let mut maker = LaneMaker::new(Kind::I64, count, arena)?;
+    let mut maker = IndexMaker::new(count, arena)?;
     for i in 0..n {
         let start = place_in(offsets, i, steps);
         let stop = place_in(offsets, i + 1, steps);

@@ -25,7 +25,7 @@ use Rattle.awk_gather.proofs.FollowedIndexes.{item_if_shown, below_if_shown}
 use Rattle.awk_mask_lengths.specs.MaskValues.{masked_type, masked_value, kept_where}
 use Rattle.awk_mask_levels.specs.MaskLevels.{is_innermost}
 use Rattle.awk_mask.specs.MaskLeaves.{kept_place, kept_lane, AreTruths, IsMasked}
-use Rattle.awk_nulls.proofs.OptionNodes.{HasItems, optional_type-is, option_stays}
+use Rattle.awk_option_nodes.proofs.OptionNodes.{HasItems, optional_type-is, option_stays}
 
 -- ---- the kinds of such masks
 

@@ -9,7 +9,7 @@ use Rattle.awk_layout.specs.Typing.{array_type}
 use Rattle.awk_layout.specs.Valid.{IsValid}
 use Rattle.awk_gather.specs.Arrays.{array_item}
 use Rattle.awk_gather.specs.Peeled.{IsPickedOpt}
-use Rattle.awk_nulls.proofs.OptionNodes.{picked_items}
+use Rattle.awk_option_nodes.proofs.OptionNodes.{picked_items}
 use Rattle.awk_mask_lengths.specs.MaskValues.{masked_type, masked_value, differs}
 use Rattle.awk_mask_levels.specs.MaskLevels.{is_innermost, IsFit, IsMaskedArray, IsInner, IsBelow}
 use Rattle.awk_mask_levels.specs.MaskLevels.{unlike, IsPlaced, inner_refused, over_layout, pairs_of}

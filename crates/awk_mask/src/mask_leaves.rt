@@ -6,14 +6,14 @@ ghost use Rattle.awk_lanes.specs.declared.kind.Kind.TheVariants as Kinds;
 ghost use Rattle.awk_layout.specs.Typing.{array_type};
 ghost use Rattle.awk_layout.specs.Valid.{len};
 ghost use Rattle.awk_gather.specs.Peeled.{if_shown};
-ghost use Rattle.awk_nulls.specs.Composed.{IsComposed};
+ghost use Rattle.awk_option_nodes.specs.Composed.{IsComposed};
 ghost use Rattle.awk_mask_levels.specs.MaskLevels.{is_innermost};
 ghost use Rattle.awk_mask.specs.MaskLeaves.{kept_lane, kept_place, AreTruths, IsMasked};
 
 use awk_lanes::{Arena, Kind, Lane, LaneMaker, Num, Numbers, Steps, made_lane, number};
 use awk_layout::{Array, Node};
-use awk_nulls::option_over;
 use awk_open::{Opened, opened};
+use awk_option_nodes::option_over;
 use awk_types::NoMemory;
 use std::alloc::Global;
 use std::sync::ledger::Ledger;

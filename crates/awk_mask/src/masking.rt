@@ -21,7 +21,7 @@ use awk_lanes::{Arena, Lane, Steps};
 use awk_layout::{Array, Datum, Node};
 use awk_mask_lengths::unequal;
 use awk_mask_levels::{Level, Over, level_of};
-use awk_nulls::option_over;
+use awk_option_nodes::option_over;
 use awk_types::{Fault, ITEM_LIMIT, NoMemory, Typ, simple_of};
 use std::alloc::Global;
 use std::sync::ledger::Ledger;

@@ -1,6 +1,6 @@
 -- The lists of what is made under a mask, counted level by level.
-use Rattle.std.specs.Prelude.{◌≡◌, ℕ, ◌<◌, ◌≤◌, refl, nat_lt, Bool, true, false, List, [], ◌∷◌}
-use Rattle.std.specs.Prelude.{◌++◌, length, filter, Some, None, if◌then◌else◌}
+use Rattle.std.specs.Prelude.{◌≡◌, ◌<◌, ◌≤◌, refl, Bool, false, List, [], ◌∷◌, ◌++◌, length, filter}
+use Rattle.std.specs.Prelude.{Some}
 use Rattle.std.specs.List.{AllByRecursion}
 use Rattle.std.proofs.Common.{arith, ap, ap₂, sym, ◌∙◌}
 use Rattle.awk_types.specs.DataType.{DataType, unknown, leaf, var, reg, rec, tup, opt, uni}
@@ -17,6 +17,7 @@ use Rattle.awk_mask_levels.specs.MaskLevels.{inner_refused, levels_refused}
 use Rattle.awk_mask_levels.specs.MaskNulls.{present_with}
 use Rattle.awk_mask_levels.proofs.MaskJoined.{IsListValue, same_length}
 use Rattle.awk_mask_levels.proofs.MaskPresent.{or_left, or_right}
+use Rattle.awk_columns.proofs.ItemLimits.{over_limit, within_limit}
 
 -- ---- levels
 
@@ -43,18 +44,6 @@ inner_same (leaf p) vs ws e = refl
 inner_same (rec ns ts) vs ws e = refl
 inner_same (tup ts) vs ws e = refl
 inner_same (uni ts) vs ws e = refl
-
-pub over_limit : (n : ℕ) → item_limit < n → too_many n ≡ Some Size
-over_limit n p = ap (λ b. if b then Some Size else None) (over n p)
-  where
-    over : (n : ℕ) → item_limit < n → nat_lt item_limit n ≡ true
-    over n p = grind arith
-
-pub within_limit : (n : ℕ) → n ≤ item_limit → too_many n ≡ None
-within_limit n p = ap (λ b. if b then Some Size else None) (not_over n p)
-  where
-    not_over : (n : ℕ) → n ≤ item_limit → nat_lt item_limit n ≡ false
-    not_over n p = grind arith
 
 pub levels_over : (u : DataType) (vs : List Value) → item_limit < length vs
     → levels_refused u vs ≡ Some Size

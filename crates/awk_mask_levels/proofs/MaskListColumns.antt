@@ -40,7 +40,7 @@ use Rattle.awk_mask_lengths.proofs.MaskPairs.{equal_lengths, none_differ}
 use Rattle.awk_mask_levels.proofs.MaskPresent.{or_left, or_right}
 use Rattle.awk_mask_levels.proofs.MaskUnder.{under_lengths, under_len, under_pairs, made_len}
 use Rattle.awk_mask_levels.proofs.MaskUnder.{fit_lengths, fit_under}
-use Rattle.awk_nulls.proofs.OptionNodes.{HasItems}
+use Rattle.awk_option_nodes.proofs.OptionNodes.{HasItems}
 
 -- the pairs of two runs
 pairs_run : (f : Value → Value → Value) (g h : ℕ → Value) (a n : ℕ)

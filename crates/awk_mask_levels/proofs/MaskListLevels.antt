@@ -20,7 +20,7 @@ use Rattle.awk_mask_levels.proofs.MaskColumns.{pairs_length}
 use Rattle.awk_mask_levels.proofs.MaskCounts.{joined_pairs, levels_over, levels_within}
 use Rattle.awk_mask_levels.proofs.MaskJoined.{IsListValue, AreAlike, joined_alike}
 use Rattle.awk_mask_levels.proofs.MaskUnder.{under_lengths, under_pairs}
-use Rattle.awk_nulls.proofs.OptionNodes.{HasItems}
+use Rattle.awk_option_nodes.proofs.OptionNodes.{HasItems}
 
 -- ---- the items of an array of lists are lists
 

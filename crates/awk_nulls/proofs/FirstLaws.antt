@@ -1,6 +1,6 @@
 -- The first items of lists.
-use Rattle.std.specs.Prelude.{◌≡◌, ◌≢◌, ℕ, zero, suc, ◌+◌, ◌-◌, ◌<◌, ◌≤◌, ◌^◌, ◌==◌, refl, false, ℤ}
-use Rattle.std.specs.Prelude.{pos, negsuc, ◌<ℤ◌, Some, if◌then◌else◌}
+use Rattle.std.specs.Prelude.{◌≡◌, ℕ, zero, suc, ◌+◌, ◌-◌, ◌<◌, ◌≤◌, ◌^◌, ◌==◌, refl, false, ℤ, pos}
+use Rattle.std.specs.Prelude.{negsuc, ◌<ℤ◌, Some, if◌then◌else◌}
 use Rattle.std.proofs.Common.{arith, ap, sym, ◌∙◌, subst}
 use Rattle.std.proofs.lemmas.Int.{ints}
 use Rattle.awk_types.specs.DataType.{opt}
@@ -9,8 +9,7 @@ use Rattle.awk_types.specs.Value.{Value, value_list}
 use Rattle.awk_lanes.specs.declared.kind.Kind.TheVariants as kinds
 use Rattle.awk_lanes.specs.Column.{Column}
 use Rattle.awk_lanes.specs.Numbers.{nat_of}
-use Rattle.awk_lanes.specs.Places.{size_of, at, place_at, option_place, IsSpan}
-use Rattle.awk_lanes.specs.Places.{IsOptionalIndex}
+use Rattle.awk_lanes.specs.Places.{size_of, at, place_at, option_place, IsOptionalIndex}
 use Rattle.awk_layout.specs.Layout.{Layout, optional}
 use Rattle.awk_layout.specs.Item.{run, at_option}
 use Rattle.awk_layout.specs.Typing.{array_type}
@@ -23,19 +22,9 @@ use Rattle.awk_axis.specs.Mapped.{IsColumn}
 use Rattle.awk_columns.specs.Opened.{AreLists, items_at}
 use Rattle.awk_nulls.specs.Firsts.{first_or_null}
 use Rattle.awk_nulls.specs.Lanes.{span_length, firsts_lane}
-use Rattle.awk_nulls.proofs.OptionNodes.{HasItems, optional_type-is, optional_item, picked_column}
-
--- a list with items begins at a place
-pub start_there : (m : ℕ) (a b : ℤ) → IsSpan m a b → 0 < nat_of b - nat_of a
-    → (a ≡ pos (nat_of a)) × (nat_of a + (nat_of b - nat_of a) ≤ m)
-start_there m (pos k) (pos l) h p =
-    let d : pos k ≢ pos l = λ e. let f : k ≡ l = ap nat_of e in omega (arith, f, p) in
-    (refl, omega (arith, ints, (h d).2, p))
-start_there m (negsuc k) (pos l) h p =
-    let d : negsuc k ≢ pos l = λ e. cc in
-    absurd (omega (arith, ints, (h d).0))
-start_there m (pos k) (negsuc l) h p = absurd (omega (arith, p))
-start_there m (negsuc k) (negsuc l) h p = absurd (omega (arith, p))
+use Rattle.awk_option_nodes.proofs.OptionNodes.{HasItems, optional_type-is, optional_item}
+use Rattle.awk_nulls.proofs.PickedColumns.{picked_column}
+use Rattle.awk_columns.proofs.SpanLaws.{start_there}
 
 abbrev first_number : ℕ → ℤ → ℤ
 first_number n a = if n == 0 then negsuc 0 else a

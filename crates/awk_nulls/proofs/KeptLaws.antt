@@ -1,7 +1,6 @@
 -- Lists whose items are of a type that is no option: none of them is null.
 use Rattle.std.specs.Prelude.{◌≡◌, ℕ, zero, suc, ◌+◌, ◌-◌, ◌<◌, ◌≤◌, refl, false, List, ◌∷◌, map}
-use Rattle.std.specs.Prelude.{sum, length}
-use Rattle.std.specs.Prelude.{Some, None}
+use Rattle.std.specs.Prelude.{sum, length, Some, None}
 use Rattle.std.proofs.Common.{arith, ap, sym, ◌∙◌, subst}
 use Rattle.awk_types.specs.DataType.{DataType}
 use Rattle.awk_types.specs.Simple.{present, simple, simple_value, is_option}
@@ -25,10 +24,11 @@ use Rattle.awk_axis.specs.Spoils.{too_many}
 use Rattle.awk_axis.specs.declared.causes.Spoil.TheVariants.{Size}
 use Rattle.awk_nulls.specs.IsNone.{is_null}
 use Rattle.awk_nulls.specs.Lanes.{span_length}
-use Rattle.awk_nulls.proofs.FirstLaws.{start_there}
+use Rattle.awk_columns.proofs.SpanLaws.{start_there}
 use Rattle.awk_nulls.proofs.NullLaws.{no_null}
-use Rattle.awk_nulls.proofs.OptionNodes.{HasItems, run_stays}
-use Rattle.awk_nulls.proofs.Spans.{count_lists, over_limit, within_limit}
+use Rattle.awk_option_nodes.proofs.OptionNodes.{HasItems, run_stays}
+use Rattle.awk_axis.proofs.SpoilLimits.{over_limit, within_limit}
+use Rattle.awk_columns.proofs.OffsetLaws.{count_lists}
 
 shown_first : (v : Value) (vs : List Value) → is_null v ≡ false
     → present_values (v ∷ vs) ≡ v ∷ present_values vs

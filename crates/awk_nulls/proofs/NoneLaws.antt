@@ -1,8 +1,7 @@
 -- Truth values for the items of lists of a type that is no option: all are false, and no item is
 -- looked at.
-use Rattle.std.specs.Prelude.{◌≡◌, ℕ, zero, suc, ◌+◌, ◌-◌, ◌*◌, ◌<◌, ◌≤◌, refl, false, map}
-use Rattle.std.specs.Prelude.{sum, length}
-use Rattle.std.specs.Prelude.{pos, Some, None}
+use Rattle.std.specs.Prelude.{◌≡◌, ℕ, zero, suc, ◌+◌, ◌-◌, ◌*◌, ◌<◌, ◌≤◌, refl, false, map, sum}
+use Rattle.std.specs.Prelude.{length, pos, Some, None}
 use Rattle.std.specs.List.{range_with_len}
 use Rattle.std.proofs.Common.{arith, ap, sym, ◌∙◌}
 use Rattle.std.proofs.lemmas.List.{length-map}
@@ -35,10 +34,10 @@ use Rattle.awk_axis.specs.Spoils.{too_many}
 use Rattle.awk_axis.specs.declared.causes.Spoil.TheVariants.{Size}
 use Rattle.awk_nulls.specs.IsNone.{is_null, nulls, is_none_function}
 use Rattle.awk_nulls.specs.Lanes.{span_length, falses_lane}
-use Rattle.awk_nulls.proofs.FirstLaws.{start_there}
+use Rattle.awk_columns.proofs.SpanLaws.{start_there}
 use Rattle.awk_nulls.proofs.NullLaws.{no_null}
-use Rattle.awk_nulls.proofs.OffsetLaws.{are_offsets}
-use Rattle.awk_nulls.proofs.Spans.{items_at-length, over_limit, within_limit}
+use Rattle.awk_columns.proofs.OffsetLaws.{are_offsets, items_at-length}
+use Rattle.awk_axis.proofs.SpoilLimits.{over_limit, within_limit}
 
 even : (class : Class) (s t : Column) → AreOfClass class s t
     → AreEven class (offsets_by (span_length s t) (size_of s)) (size_of s)

@@ -1,6 +1,6 @@
 -- Which items of an array are null.
-use Rattle.std.specs.Prelude.{◌≡◌, ℕ, ◌+◌, ◌-◌, ◌<◌, ◌≤◌, refl, false, List, length}
-use Rattle.std.specs.Prelude.{ℤ, pos, negsuc, ◌<ℤ◌, Some, None}
+use Rattle.std.specs.Prelude.{◌≡◌, ℕ, ◌+◌, ◌-◌, ◌<◌, ◌≤◌, refl, false, List, length, ℤ, pos, negsuc}
+use Rattle.std.specs.Prelude.{◌<ℤ◌, Some, None}
 use Rattle.std.proofs.Common.{arith, ap, sym, ◌∙◌, subst}
 use Rattle.std.proofs.lemmas.Int.{ints}
 use Rattle.std.proofs.lemmas.List.{length-map}
@@ -36,7 +36,8 @@ use Rattle.awk_columns.proofs.ArrayLaws.{run_map, run_same}
 use Rattle.awk_columns.proofs.ListNodes.{joined_even}
 use Rattle.awk_nulls.specs.IsNone.{is_null, nulls, is_none_function}
 use Rattle.awk_nulls.specs.Lanes.{null_number, nulls_lane, falses_lane, AreNulls}
-use Rattle.awk_nulls.proofs.Spans.{count_same, over_limit, within_limit}
+use Rattle.awk_axis.proofs.SpoilLimits.{over_limit, within_limit}
+use Rattle.awk_columns.proofs.OffsetLaws.{count_same}
 
 -- the type under an option is none
 pub inner_not_option : (x y : Layout) → array_type x ≡ opt (array_type y)

@@ -1,7 +1,7 @@
 -- Lists with nulls at their end, over the items that they have.
-use Rattle.std.specs.Prelude.{◌≡◌, ℕ, zero, suc, ◌+◌, ◌-◌, ◌*◌, ◌<◌, ◌≤◌, ◌^◌, nat_lt, refl}
-use Rattle.std.specs.Prelude.{true, false, Bool, List, length, map, get_or, sum, pos, negsuc}
-use Rattle.std.specs.Prelude.{◌<ℤ◌, Some, None, if◌then◌else◌}
+use Rattle.std.specs.Prelude.{◌≡◌, ℕ, zero, suc, ◌+◌, ◌-◌, ◌*◌, ◌<◌, ◌≤◌, ◌^◌, nat_lt, refl, true}
+use Rattle.std.specs.Prelude.{false, Bool, List, length, map, get_or, sum, pos, negsuc, ◌<ℤ◌, Some}
+use Rattle.std.specs.Prelude.{None, if◌then◌else◌}
 use Rattle.std.specs.List.{range_with_len}
 use Rattle.std.proofs.Common.{arith, ap, sym, ◌∙◌}
 use Rattle.std.proofs.lemmas.Int.{ints}
@@ -14,8 +14,7 @@ use Rattle.awk_types.specs.Value.{Value, null, value_list}
 use Rattle.awk_types.specs.ItemLimit.{item_limit}
 use Rattle.awk_lanes.specs.Column.{Column}
 use Rattle.awk_lanes.specs.Counted.{before, offsets_by}
-use Rattle.awk_lanes.specs.Places.{size_of, at, place_at, option_place}
-use Rattle.awk_lanes.specs.Places.{IsOptionalIndex}
+use Rattle.awk_lanes.specs.Places.{size_of, at, place_at, option_place, IsOptionalIndex}
 use Rattle.awk_lanes.proofs.CountedLanes.{before-next, before_mono, place-offsets, sum-before}
 use Rattle.awk_lanes.proofs.CountedLanes.{length-numbers, numbers-at, numbers-below}
 use Rattle.awk_layout.specs.Layout.{Layout, optional}
@@ -33,10 +32,12 @@ use Rattle.awk_axis.specs.Spoils.{too_many}
 use Rattle.awk_axis.specs.declared.causes.Spoil.TheVariants.{Size}
 use Rattle.awk_nulls.specs.PadNone.{padded, padded_length, padded_class, pad_none_function}
 use Rattle.awk_nulls.specs.Lanes.{span_length, padded_span, padded_place, padded_lane}
-use Rattle.awk_nulls.proofs.FirstLaws.{start_there, place_below}
-use Rattle.awk_nulls.proofs.OptionNodes.{HasItems, optional_type-is, optional_item, picked_lists}
-use Rattle.awk_nulls.proofs.OffsetLaws.{are_offsets}
-use Rattle.awk_nulls.proofs.Spans.{items_at-length, over_limit, within_limit}
+use Rattle.awk_nulls.proofs.FirstLaws.{place_below}
+use Rattle.awk_columns.proofs.SpanLaws.{start_there}
+use Rattle.awk_option_nodes.proofs.OptionNodes.{HasItems, optional_type-is, optional_item}
+use Rattle.awk_nulls.proofs.PickedColumns.{picked_lists}
+use Rattle.awk_columns.proofs.OffsetLaws.{are_offsets, items_at-length}
+use Rattle.awk_axis.proofs.SpoilLimits.{over_limit, within_limit}
 
 run_get : (h : ℕ → Value) (a n k : ℕ) → k < n → get_or (value_list (run h a n)) k null ≡ h (a + k)
 run_get h a zero k p = absurd (omega (arith, p))

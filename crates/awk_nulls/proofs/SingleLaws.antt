@@ -19,7 +19,7 @@ use Rattle.awk_layout.specs.Item.{item}
 use Rattle.awk_layout.specs.Typing.{layout_type, array_type}
 use Rattle.awk_layout.specs.Valid.{len}
 use Rattle.awk_gather.specs.Arrays.{array_item}
-use Rattle.awk_columns.specs.Columns.{present_values}
+use Rattle.awk_columns.specs.Columns.{is_present, present_values}
 use Rattle.awk_columns.specs.Joined.{JoinsLists, total}
 use Rattle.awk_columns.specs.ListClass.{Class}
 use Rattle.awk_axis.specs.Mapped.{AreGiven}
@@ -30,9 +30,12 @@ use Rattle.awk_columns.proofs.ArrayLaws.{run_map, run_same, run_in_list}
 use Rattle.awk_columns.proofs.ListNodes.{joined_even}
 use Rattle.awk_nulls.specs.Singletons.{single_list, singletons_function}
 use Rattle.awk_nulls.specs.Lanes.{ArePresent, AreSingles}
-use Rattle.awk_nulls.proofs.OptionNodes.{HasItems, item_stays}
-use Rattle.awk_nulls.proofs.PresentLaws.{at-count, counts_up, counts_within, present_run}
-use Rattle.awk_nulls.proofs.Spans.{count_same, over_limit, within_limit}
+use Rattle.awk_option_nodes.proofs.OptionNodes.{HasItems, item_stays}
+use Rattle.awk_list_ends.specs.Kept.{KeepsItems}
+use Rattle.awk_list_ends.proofs.KeptItems.{at-count, counts_up, counts_within, kept_run}
+use Rattle.awk_nulls.proofs.PresentLaws.{keeps_present}
+use Rattle.awk_axis.proofs.SpoilLimits.{over_limit, within_limit}
+use Rattle.awk_columns.proofs.OffsetLaws.{count_same}
 
 single-present : (v : Value) → list (values_from (present_values (v ∷ []))) ≡ single_list v
 single-present null = refl
@@ -71,16 +74,19 @@ single_stays t v e = single_in (simple_value (present t)) v (present_stays t v e
 -- ---- of a column of lists
 
 module _ (x : Layout) (c : Column) (z : Layout) (fits : len x < 2 ^ 63) (h : ArePresent x c z) where
+  kept : KeepsItems is_present x c z
+  kept = keeps_present x c z h
+
   pub single_offsets : IsOffsets c (len z)
   single_offsets = record {
     kind = h.kind;
     some = omega (arith, h.size);
     ordered = λ i p.
         let q : i + 1 ≤ len x = omega (arith, p, h.size) in
-        let a = at-count x c z h i (omega (arith, q)) in
-        let b = at-count x c z h (i + 1) q in
-        let up = counts_up x c z h i 1 q in
-        let within = counts_within x c z h (i + 1) q in
+        let a = at-count is_present x c z kept i (omega (arith, q)) in
+        let b = at-count is_present x c z kept (i + 1) q in
+        let up = counts_up is_present x c z kept i 1 q in
+        let within = counts_within is_present x c z kept (i + 1) q in
         rw (a, b) (λ d.
         (omega (arith, ints), omega (arith, ints, up), omega (arith, ints, within)));
   }
@@ -94,7 +100,7 @@ module _ (x : Layout) (c : Column) (z : Layout) (fits : len x < 2 ^ 63) (h : Are
       run_in_list (simple_value (layout_type z)) (item z) (place_at c i)
       (place_at c (i + 1) - place_at c i)
       ∙ ap list (sym (values_from-list _) ∙ ap values_from
-      (present_run x c z h i 1 (omega (arith, p))))
+      (kept_run is_present x c z kept i 1 (omega (arith, p))))
       ∙ single-present (array_item x i)
 
   pub singles_are : AreSingles x (offset_lists c z)

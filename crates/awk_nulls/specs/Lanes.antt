@@ -1,5 +1,5 @@
 -- Lanes that are made of lists by their starts and stops, and of the indexes of options.
-use Rattle.std.specs.Prelude.{◌≡◌, ℕ, ◌+◌, ◌-◌, ◌==◌, ◌<◌, ◌≤◌, ◌≤ℤ◌, nat_lt, Bool}
+use Rattle.std.specs.Prelude.{◌≡◌, ℕ, ◌+◌, ◌-◌, ◌==◌, ◌<◌, ◌≤◌, nat_lt, Bool}
 use Rattle.std.specs.Prelude.{length, take, ℤ, pos, negsuc, Option, Some, None}
 use Rattle.std.specs.Prelude.{if◌then◌else◌}
 use Rattle.awk_types.specs.DataType.{var}
@@ -12,17 +12,13 @@ use Rattle.awk_layout.specs.Layout.{Layout, flat}
 use Rattle.awk_layout.specs.Valid.{len, IsValid}
 use Rattle.awk_layout.specs.Typing.{array_type, array_items}
 use Rattle.awk_gather.specs.Arrays.{array_item}
-use Rattle.awk_columns.specs.Counted.{first_of, present_at}
 use Rattle.awk_lanes.specs.Counted.{items_lane}
 use Rattle.awk_lanes.specs.Made.{lane_of}
 use Rattle.awk_columns.specs.Columns.{present_values}
+pub use Rattle.awk_columns.specs.Lists.{span_length}
 use Rattle.awk_nulls.specs.IsNone.{is_null}
 use Rattle.awk_nulls.specs.PadNone.{padded_length}
 use Rattle.awk_nulls.specs.Singletons.{single_list}
-
--- how many items a list has
-abbrev pub span_length : Column → Column → ℕ → ℕ
-span_length s t i = place_at t i - place_at s i
 
 -- ---- nulls
 
@@ -53,10 +49,6 @@ firsts_lane s t =
 
 -- ---- items that are present
 
--- how many of the first items of an option are present
-abbrev pub present_lane : Column → Column
-present_lane j = lane_of I64 (size_of j + 1) (λ i. pos (length (first_of (present_at j) i)))
-
 -- the present items of an array, and how many of its first items are among them
 pub record ArePresent (x : Layout) (c : Column) (z : Layout) : Type 0 where
   pub typ : array_type z ≡ present (array_type x)
@@ -73,19 +65,6 @@ pub record AreSingles (x w : Layout) : Type 0 where
   pub size : len w ≡ len x
   pub typ : array_type w ≡ var (present (array_type x))
   pub items : (i : ℕ) → i < len x → array_item w i ≡ single_list (array_item x i)
-
--- ends of lists are places of a lane, where the lists have items
-pub record AreEnds (c s t ends : Column) : Type 0 where
-  pub kind : IsIndexKind ends.kind
-  pub size : size_of ends ≡ size_of s
-  pub places : (i : ℕ) → i < size_of s → 0 < span_length s t i
-      → (pos 0 ≤ℤ at ends i) × (place_at ends i < size_of c)
-
--- the numbers of a lane at ends of lists, and 0 where a list has no items
-abbrev pub numbers_at_ends : Column → Column → Column → Column → Column
-numbers_at_ends c s t ends =
-    lane_of I64 (size_of s)
-    (λ i. if span_length s t i == 0 then pos 0 else at c (place_at ends i))
 
 -- ---- lists with nulls at their end
 

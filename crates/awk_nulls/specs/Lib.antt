@@ -4,4 +4,3 @@ pub mod DropNone
 pub mod Firsts
 pub mod Singletons
 pub mod PadNone
-pub mod Composed

@@ -1,87 +1,28 @@
 //! The items that are not null.
-ghost use Rattle.std.specs.Prelude.{◌≡◌, ◌==◌, ◌<◌, pos, false, IfOk, if◌then◌else◌};
+ghost use Rattle.std.specs.Prelude.{◌≡◌, ◌<◌, false, IfOk};
 ghost use Rattle.awk_types.specs.Faults.{fault_told};
 ghost use Rattle.awk_types.specs.Gives.{Gives};
 ghost use Rattle.awk_types.specs.Simple.{is_option};
 ghost use Rattle.awk_layout.specs.Datum.{datum_of, IsDatum};
-ghost use Rattle.awk_lanes.specs.Numbers.{int_of, IsOf};
 ghost use Rattle.awk_lanes.specs.declared.kind.Kind.TheVariants as Kinds;
-ghost use Rattle.awk_lanes.specs.Places.{size_of, at, place_at, AreSpans, IsIndexKind};
+ghost use Rattle.awk_lanes.specs.Places.{at};
 ghost use Rattle.awk_layout.specs.Typing.{array_type};
 ghost use Rattle.awk_axis.specs.DropNone.{drop_none_function};
 ghost use Rattle.awk_axis.specs.Mapped.{IsMade};
 ghost use Rattle.awk_nulls.specs.DropNone.{drop_none_of};
-ghost use Rattle.awk_nulls.specs.Lanes.{span_length, numbers_at_ends, AreEnds, ArePresent};
+ghost use Rattle.awk_nulls.specs.Lanes.{ArePresent};
+ghost use Rattle.awk_list_ends.specs.Ends.{numbers_at_ends};
 
-use crate::lengths::length_at;
 use crate::presence::{has_options, present_of};
 use crate::singles::present_typ;
 use awk_axis::{ListOp, Made, Refusal, Spoil, lift_at};
 use awk_columns::{Joined, Lists, join_spans};
-use awk_lanes::{Arena, Kind, Lane, Num, Numbers, Steps, index_at, made_lane, place_in};
+use awk_lanes::{Arena, Lane, Steps, index_of};
 use awk_layout::{Array, Datum};
+use awk_list_ends::numbers_at_ends;
 use awk_types::{Fault, NoMemory, Typ};
 use std::alloc::Global;
 use std::sync::ledger::Ledger;
-
-/// The number of a lane at an end of each list, and 0 where a list has no items.
-#[derive(Drop)]
-struct EndNumbers<'b, 'a> {
-    numbers: &'b Lane<'a>,
-    starts: &'b Lane<'a>,
-    stops: &'b Lane<'a>,
-    ends: &'b Lane<'a>,
-}
-
-impl<'b, 'a> Numbers for EndNumbers<'b, 'a> {
-    ghost use Rattle.std.specs.Prelude.{◌==◌, pos, if◌then◌else◌};
-    ghost use Rattle.awk_lanes.specs.declared.kind.Kind.TheVariants as Kinds;
-    ghost use Rattle.awk_lanes.specs.Places.{size_of, at, place_at, AreSpans, IsIndexKind};
-    ghost use Rattle.awk_nulls.specs.Lanes.{span_length, AreEnds};
-
-    ghost kind = { λ _. Kinds.I64 };
-
-    ghost at = { λ f i. if span_length f.starts.now f.stops.now i == 0 then pos 0
-        else at f.numbers.now (place_at f.ends.now i) };
-
-    ghost size = { λ f. size_of f.starts.now };
-
-    ghost IsReady = { λ f. IsIndexKind f.numbers.now.kind
-        × AreSpans f.starts.now f.stops.now 9223372036854775807
-        × AreEnds f.numbers.now f.starts.now f.stops.now f.ends.now };
-
-    fn number<L: Ledger>(&self, i: u64, steps: &mut Steps<L>) -> Num {
-        if length_at(self.starts, self.stops, i, steps) == 0 {
-            Num::Int(0)
-        } else {
-            let place = place_in(self.ends, i, steps);
-            Num::Int(index_at(self.numbers, place, steps))
-        }
-    }
-}
-
-/// The numbers of a lane at ends of lists.
-fn numbers_at_ends<'a, L: Ledger>(
-    numbers: &Lane<'a>,
-    starts: &Lane<'a>,
-    stops: &Lane<'a>,
-    ends: &Lane<'a>,
-    arena: &'a Arena,
-    steps: &mut Steps<L>,
-) -> Result<Lane<'a>, NoMemory>
-    requires kind { IsIndexKind numbers.now.kind }
-    requires spans { AreSpans starts.now stops.now 9223372036854775807 }
-    requires ends { AreEnds numbers.now starts.now stops.now ends.now }
-    ensures { IfOk result (λ r. r ≡ numbers_at_ends numbers.now starts.now stops.now ends.now) }
-{
-    let numbers = EndNumbers {
-        numbers,
-        starts,
-        stops,
-        ends,
-    };
-    made_lane(Kind::I64, starts.len(), &numbers, arena, steps)
-}
 
 /// The lists among the items that are present, one after another.
 fn present_lists<'a, L: Ledger>(
@@ -97,10 +38,11 @@ fn present_lists<'a, L: Ledger>(
         lists.now.stops lists.now.content) }
 {
     let _ = lists.content();
-    let starts = lists.starts();
-    let stops = lists.stops();
-    let firsts = numbers_at_ends(counts, starts, stops, starts, arena, steps)?;
-    let ends = numbers_at_ends(counts, starts, stops, stops, arena, steps)?;
+    let starts = index_of(alloc, lists.starts(), arena, steps)?;
+    let stops = index_of(alloc, lists.stops(), arena, steps)?;
+    let counts = index_of(alloc, counts, arena, steps)?;
+    let firsts = numbers_at_ends(&counts, &starts, &stops, &starts, arena, steps)?;
+    let ends = numbers_at_ends(&counts, &starts, &stops, &stops, arena, steps)?;
     match join_spans(alloc, None, &firsts, &ends, items, arena, steps)? {
         Joined::TooMany => Ok(Made::Spoiled(Spoil::Size)),
         Joined::Lists { offsets, content } => {

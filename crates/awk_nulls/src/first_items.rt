@@ -9,46 +9,42 @@ ghost use Rattle.awk_layout.specs.Datum.{datum_of, IsDatum};
 ghost use Rattle.awk_nulls.specs.Firsts.{firsts_function, firsts_of};
 ghost use Rattle.awk_nulls.specs.Lanes.{span_length, firsts_lane};
 
-use crate::composing::option_over;
-use crate::lengths::length_at;
 use awk_axis::{ListOp, Made, Refusal, lift_at};
 use awk_columns::Lists;
-use awk_lanes::{Arena, Kind, Lane, LaneMaker, Num, Steps, index_at};
+use awk_lanes::{Arena, Index, IndexMaker, Lane, Num, Steps, index_of};
 use awk_layout::Datum;
+use awk_list_ends::length_between;
+use awk_option_nodes::option_over;
 use awk_types::{Fault, NoMemory, Typ, copy_type};
 use std::alloc::Global;
 use std::sync::ledger::Ledger;
 
 /// Where the first item of the list at a place is, or -1 where it has none.
-fn first_place<L: Ledger>(starts: &Lane, stops: &Lane, i: u64, steps: &mut Steps<L>) -> Num
+#[inline(always)]
+fn first_place(starts: &Index, stops: &Index, i: u64) -> Num
     requires within { i < size_of starts.now }
     requires spans { AreSpans starts.now stops.now 9223372036854775807 }
     ensures number { int_of result ≡ (if span_length starts.now stops.now i == 0 then negsuc 0
         else at starts.now i) }
     ensures kind { IsOf Kinds.I64 result }
 {
-    if length_at(starts, stops, i, steps) == 0 {
+    if length_between(starts, stops, i) == 0 {
         Num::Int(-1)
     } else {
-        Num::Int(index_at(starts, i, steps))
+        Num::Int(starts.number(i))
     }
 }
 
 /// Where the first item of each list is.
 #[tactic(auto, using(awk_lanes::proofs::MadeLanes::making))]
-fn first_places<'a, L: Ledger>(
-    starts: &Lane,
-    stops: &Lane,
-    arena: &'a Arena,
-    steps: &mut Steps<L>,
-) -> Result<Lane<'a>, NoMemory>
+fn first_places<'a>(starts: &Index, stops: &Index, arena: &'a Arena) -> Result<Lane<'a>, NoMemory>
     requires spans { AreSpans starts.now stops.now 9223372036854775807 }
     ensures { IfOk result (λ r. r ≡ firsts_lane starts.now stops.now) }
 {
     let n = starts.len();
-    let mut maker = LaneMaker::new(Kind::I64, n, arena)?;
+    let mut maker = IndexMaker::new(n, arena)?;
     for i in 0..n {
-        let place = first_place(starts, stops, i, steps);
+        let place = first_place(starts, stops, i);
         maker.push(place);
     }
     Ok(maker.finish())
@@ -90,7 +86,9 @@ impl ListOp for First {
     ) -> Result<Made<'a>, NoMemory> {
         let content = lists.content();
         let _ = content.len();
-        let places = first_places(lists.starts(), lists.stops(), arena, steps)?;
+        let starts = index_of(alloc, lists.starts(), arena, steps)?;
+        let stops = index_of(alloc, lists.stops(), arena, steps)?;
+        let places = first_places(&starts, &stops, arena)?;
         let items = option_over(alloc, content.node(), &places, arena, steps)?;
         let _ = items.len();
         Ok(Made::Singles(items))

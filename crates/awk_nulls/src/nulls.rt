@@ -16,7 +16,7 @@ use crate::presence::has_options;
 use awk_axis::{ListOp, Made, Refusal, Spoil, lift_at};
 use awk_columns::{Joined, Lists};
 use awk_lanes::{
-    Arena, Kind, Lane, Num, Numbers, Steps, made_lane, offsets_within, option_place_in,
+    Arena, Index, Kind, Lane, Num, Numbers, Steps, index_of, made_lane, offsets_within,
 };
 use awk_layout::{Array, Datum, Node};
 use awk_open::{Opened, opened};
@@ -38,11 +38,11 @@ fn null_number(place: Option<u64>) -> Num
 /// Whether each item of an option is null.
 #[derive(Drop)]
 struct NullNumbers<'b, 'a> {
-    index: &'b Lane<'a>,
+    index: &'b Index<'a>,
 }
 
 impl<'b, 'a> Numbers for NullNumbers<'b, 'a> {
-    ghost use Rattle.awk_lanes.specs.Places.{size_of, option_place_at, IsOptionKind};
+    ghost use Rattle.awk_lanes.specs.Places.{size_of, option_place_at};
     ghost use Rattle.awk_lanes.specs.declared.kind.Kind.TheVariants as Kinds;
     ghost use Rattle.awk_nulls.specs.Lanes.{null_number};
 
@@ -52,15 +52,14 @@ impl<'b, 'a> Numbers for NullNumbers<'b, 'a> {
 
     ghost size = { λ f. size_of f.index.now };
 
-    ghost IsReady = { λ f. IsOptionKind f.index.now.kind };
-
-    fn number<L: Ledger>(&self, i: u64, steps: &mut Steps<L>) -> Num {
-        null_number(option_place_in(self.index, i, steps))
+    fn number<L: Ledger>(&self, i: u64, _steps: &mut Steps<L>) -> Num {
+        null_number(self.index.option_place(i))
     }
 }
 
 /// The same as a lane.
 fn nulls<'a, L: Ledger>(
+    alloc: Global,
     index: &Lane<'a>,
     arena: &'a Arena,
     steps: &mut Steps<L>,
@@ -68,13 +67,9 @@ fn nulls<'a, L: Ledger>(
     requires kind { IsOptionKind index.now.kind }
     ensures { IfOk result (λ r. r ≡ nulls_lane index.now) }
 {
-    made_lane(
-        Kind::Bool,
-        index.len(),
-        &NullNumbers { index },
-        arena,
-        steps,
-    )
+    let index = index_of(alloc, index, arena, steps)?;
+    let nulls = NullNumbers { index: &index };
+    made_lane(Kind::Bool, index.len(), &nulls, arena, steps)
 }
 
 /// False at each place.
@@ -126,7 +121,7 @@ fn nulls_of<'a, L: Ledger>(
         Opened::Option {
             index,
             content: _content,
-        } => nulls(&index, arena, steps),
+        } => nulls(alloc, &index, arena, steps),
         _ => unreachable!(),
     }
 }

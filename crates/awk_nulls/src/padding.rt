@@ -3,20 +3,17 @@ ghost use Rattle.std.specs.Prelude.{◌≡◌, ◌<◌, IfOk};
 ghost use Rattle.awk_types.specs.Faults.{fault_told};
 ghost use Rattle.awk_types.specs.Gives.{Gives};
 ghost use Rattle.awk_lanes.specs.Numbers.{int_of, IsOf};
-ghost use Rattle.awk_lanes.specs.Places.{size_of, AreSpans};
+ghost use Rattle.awk_lanes.specs.Places.{size_of};
 ghost use Rattle.awk_lanes.specs.declared.kind.Kind.TheVariants as Kinds;
 ghost use Rattle.awk_layout.specs.Datum.{datum_of, IsDatum};
 ghost use Rattle.awk_nulls.specs.Lanes.{padded_place};
 ghost use Rattle.awk_nulls.specs.PadNone.{pad_none_function, pad_none_of};
 
-use crate::composing::option_over;
-use crate::lengths::length_at;
 use awk_axis::{ListOp, Made, Refusal, Spoil, lift_at};
-use awk_columns::Lists;
-use awk_lanes::{
-    Arena, Items, Kind, Lane, Lengths, Num, Steps, items_of, number, offsets_within, place_in,
-};
+use awk_columns::{Bounds, Lists, places_of};
+use awk_lanes::{Arena, Items, Lengths, Num, Steps, number, offsets_within};
 use awk_layout::Datum;
+use awk_option_nodes::option_over;
 use awk_types::{Fault, ITEM_LIMIT, NoMemory, Typ, copy_type};
 use std::alloc::Global;
 use std::sync::ledger::Ledger;
@@ -29,14 +26,15 @@ struct Padding {
 }
 
 /// The place of item k of the list at a place, and -1 past its end.
-fn padded_place<L: Ledger>(starts: &Lane, stops: &Lane, i: u64, k: u64, steps: &mut Steps<L>) -> Num
-    requires within { i < size_of starts.now }
-    requires spans { AreSpans starts.now stops.now 9223372036854775807 }
-    ensures number { int_of result ≡ padded_place starts.now stops.now i k }
+#[inline(always)]
+fn padded_place(lists: &Bounds, i: u64, k: u64) -> Num
+    requires within { i < size_of lists.now.starts }
+    ensures number { int_of result ≡ padded_place lists.now.starts lists.now.stops i k }
     ensures kind { IsOf Kinds.I64 result }
 {
-    if k < length_at(starts, stops, i, steps) {
-        number(place_in(starts, i, steps) + k)
+    let span = lists.span_of(i);
+    if k < span.length {
+        number(span.start + k)
     } else {
         Num::Int(-1)
     }
@@ -44,12 +42,12 @@ fn padded_place<L: Ledger>(starts: &Lane, stops: &Lane, i: u64, k: u64, steps: &
 
 /// Lists with nulls at their end.
 #[derive(Drop)]
-struct PaddedLists<'b, 'a> {
+struct PaddedLists<'b, 'r, 'a> {
     padding: Padding,
-    lists: &'b Lists<'a>,
+    lists: &'b Bounds<'r, 'a>,
 }
 
-impl<'b, 'a> Lengths for PaddedLists<'b, 'a> {
+impl<'b, 'r, 'a> Lengths for PaddedLists<'b, 'r, 'a> {
     ghost use Rattle.awk_lanes.specs.Places.{size_of};
     ghost use Rattle.awk_nulls.specs.Lanes.{padded_span};
 
@@ -58,8 +56,8 @@ impl<'b, 'a> Lengths for PaddedLists<'b, 'a> {
 
     ghost size = { λ f. size_of f.lists.now.starts };
 
-    fn length<L: Ledger>(&self, i: u64, steps: &mut Steps<L>) -> u64 {
-        let length = self.lists.length_at(i, steps);
+    fn length<L: Ledger>(&self, i: u64, _steps: &mut Steps<L>) -> u64 {
+        let length = self.lists.length_at(i);
         if self.padding.clip {
             self.padding.size
         } else {
@@ -68,7 +66,7 @@ impl<'b, 'a> Lengths for PaddedLists<'b, 'a> {
     }
 }
 
-impl<'b, 'a> Items for PaddedLists<'b, 'a> {
+impl<'b, 'r, 'a> Items for PaddedLists<'b, 'r, 'a> {
     ghost use Rattle.awk_lanes.specs.declared.kind.Kind.TheVariants as Kinds;
     ghost use Rattle.awk_nulls.specs.Lanes.{padded_place};
 
@@ -76,9 +74,8 @@ impl<'b, 'a> Items for PaddedLists<'b, 'a> {
 
     ghost at = { λ f. padded_place f.lists.now.starts f.lists.now.stops };
 
-    fn item<L: Ledger>(&self, i: u64, k: u64, steps: &mut Steps<L>) -> Num {
-        let _ = self.lists.content();
-        padded_place(self.lists.starts(), self.lists.stops(), i, k, steps)
+    fn item<L: Ledger>(&self, i: u64, k: u64, _steps: &mut Steps<L>) -> Num {
+        padded_place(self.lists, i, k)
     }
 }
 
@@ -115,14 +112,15 @@ impl ListOp for Padding {
         let n = lists.len();
         let content = lists.content();
         let _ = content.len();
+        let bounds = Bounds::new(alloc, lists, arena, steps)?;
         let padded = PaddedLists {
             padding: *self,
-            lists,
+            lists: &bounds,
         };
         match offsets_within(ITEM_LIMIT, n, &padded, arena, steps)? {
             None => Ok(Made::Spoiled(Spoil::Size)),
             Some(offsets) => {
-                let places = items_of(Kind::I64, n, offsets.total, &padded, arena, steps)?;
+                let places = places_of(n, offsets.total, &padded, arena, steps)?;
                 let padded = option_over(alloc, content.node(), &places, arena, steps)?;
                 let _ = padded.len();
                 Ok(Made::Lists {

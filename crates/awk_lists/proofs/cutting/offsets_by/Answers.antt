@@ -69,14 +69,3 @@ loop-i-preserved g c =
           c.push-in-loop-i.ensures (c.number-in-loop-i.ensures.number ∙ ap pos end)
           c.loop-i.invariant.made;
     }
-
-pub finish-requires : goal.finish-requires
-finish-requires g c =
-    omega (
-      arith,
-      made_size (λ j. pos (counted_before (array_items c.args.counts.now) j))
-          (c.loop-i.i + 1) c.loop-i.maker.items c.loop-i.invariant.made.items,
-      c.loop-i.invariant.made.room,
-      c.loop-i-test.false,
-      c.len-n.ensures.len,
-    )

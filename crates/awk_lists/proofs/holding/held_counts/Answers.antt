@@ -11,7 +11,7 @@ use Rattle.awk_lists.proofs.HeldLists.{held-most}
 use Rattle.awk_lists.proofs.holding.held_counts.Goals as goal
 
 pub overflow_add-count : goal.overflow_add-count
-overflow_add-count g c =
+overflow_add-count c =
     omega (
       arith,
       held-most c.args.starts.now c.args.stops.now (c.loop-i.i + 1),
@@ -23,7 +23,7 @@ overflow_add-count g c =
     )
 
 pub number-requires-in-loop-i : goal.number-requires-in-loop-i
-number-requires-in-loop-i g c =
+number-requires-in-loop-i c =
     omega (
       arith,
       held-most c.args.starts.now c.args.stops.now (c.loop-i.i + 1),
@@ -35,7 +35,7 @@ number-requires-in-loop-i g c =
     )
 
 pub push-requires-in-loop-i-clause-room : goal.push-requires-in-loop-i-clause-room
-push-requires-in-loop-i-clause-room g c =
+push-requires-in-loop-i-clause-room c =
     omega (
       arith,
       made_size (λ j. pos (length (first_of (held_at c.args.starts.now c.args.stops.now) j)))
@@ -45,7 +45,7 @@ push-requires-in-loop-i-clause-room g c =
     )
 
 pub loop-i-preserved : goal.loop-i-preserved
-loop-i-preserved g c =
+loop-i-preserved c =
     let count : c.loop-i.count + c.one_if_held-count.result
     ≡ length (first_of (held_at c.args.starts.now c.args.stops.now) (c.loop-i.i + 1)) =
     omega (
@@ -62,13 +62,3 @@ loop-i-preserved g c =
           c.push-in-loop-i.new.self c.push-in-loop-i.ensures
           (c.number-in-loop-i.ensures.number ∙ ap pos count) c.loop-i.invariant.made;
     }
-
-pub finish-requires : goal.finish-requires
-finish-requires g c =
-    omega (
-      arith,
-      made_size (λ j. pos (length (first_of (held_at c.args.starts.now c.args.stops.now) j)))
-          (c.loop-i.i + 1) c.loop-i.maker.items c.loop-i.invariant.made.items,
-      c.loop-i.invariant.made.room,
-      c.loop-i-test.false,
-    )

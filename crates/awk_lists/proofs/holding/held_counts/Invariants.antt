@@ -7,7 +7,7 @@ use Rattle.awk_lists.specs.Held.{held_at}
 use Rattle.awk_lists.proofs.holding.held_counts.Given as goal
 
 abbrev pub invariant-loop-i : goal.invariant-loop-i
-invariant-loop-i g l = record {
+invariant-loop-i l = record {
   count : l.count ≡ length (first_of (held_at l.starts l.stops) l.i);
   made : IsSoFar Kind.I64 (size_of l.starts + 1)
       (λ j. pos (length (first_of (held_at l.starts l.stops) j))) (l.i + 1) l.maker;

@@ -13,6 +13,7 @@ numpy-requires g c =
     omega (arith, c.len.ensures.len, c.len.ensures.fits) in
     rw (
       c.in_ok-lengths.ensures.lane,
+      c.in_ok-bounds.ensures,
       c.len.ensures.len,
       size-lane_of Kinds.I64
           (size_of c.args.lists.now.starts)
@@ -24,7 +25,12 @@ returns g c =
     let fits : size_of c.args.lists.now.starts < 2 ^ 63 =
     omega (arith, c.len.ensures.len, c.len.ensures.fits) in (
       refl,
-      rw (c.numpy.ensures.node, c.in_ok-lengths.ensures.lane, c.len.ensures.len)
+      rw (
+        c.numpy.ensures.node,
+        c.in_ok-lengths.ensures.lane,
+        c.in_ok-bounds.ensures,
+        c.len.ensures.len,
+      )
           (lengths_column c.args.lists.now.starts c.args.lists.now.stops
           c.args.lists.now.content fits),
     )

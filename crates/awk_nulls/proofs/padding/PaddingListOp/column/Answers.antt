@@ -12,6 +12,7 @@ pub option_over-requires-clause-places : goal.option_over-requires-clause-places
 option_over-requires-clause-places g c =
     rw (
       c.in_ok-places-in-Some.ensures,
+      c.in_ok-bounds.ensures,
       c.len-n.ensures.len,
       c.node.ensures,
       c.content-content.ensures.content,
@@ -25,7 +26,12 @@ returns-in-None g c =
     let m : ℕ → ℕ = padded_span c.args.self.now.size c.args.self.now.clip
     c.args.lists.now.starts c.args.lists.now.stops in
     let t : AreOffsetsBy item_limit m (size_of c.args.lists.now.starts) None =
-    rw (c.in-None.is, c.len-n.ensures.len) at c.in_ok-offsets_within.ensures in
+    rw (
+      c.in-None.is,
+      c.in_ok-bounds.ensures,
+      c.len-n.ensures.len,
+    )
+    at c.in_ok-offsets_within.ensures in
     padded_spoilt c.args.self.now.size c.args.self.now.clip c.args.lists.now.class
     c.args.lists.now.starts c.args.lists.now.stops c.args.lists.now.content
     c.content-content.ensures.lists t
@@ -35,12 +41,18 @@ returns-in_ok-padded-in-Some g c =
     let m : ℕ → ℕ = padded_span c.args.self.now.size c.args.self.now.clip
     c.args.lists.now.starts c.args.lists.now.stops in
     let t : AreOffsetsBy item_limit m (size_of c.args.lists.now.starts) (Some c.in-Some.offsets) =
-    rw (c.in-Some.is, c.len-n.ensures.len) at c.in_ok-offsets_within.ensures in
+    rw (
+      c.in-Some.is,
+      c.in_ok-bounds.ensures,
+      c.len-n.ensures.len,
+    )
+    at c.in_ok-offsets_within.ensures in
     let picked : IsPickedOpt c.args.lists.now.content
     (padded_lane c.args.self.now.size c.args.self.now.clip c.args.lists.now.starts
     c.args.lists.now.stops) c.in_ok-padded-in-Some.padded =
     rw (
       c.in_ok-places-in-Some.ensures,
+      c.in_ok-bounds.ensures,
       c.len-n.ensures.len,
       c.node.ensures,
       c.content-content.ensures.content,

@@ -1,29 +1,26 @@
 -- An index over an array's items, with null where it is negative, and the same composed.
-use Rattle.std.specs.Prelude.{◌≡◌, ℕ, ◌+◌, ◌-◌, ◌<◌, ◌≤◌, refl, List, length, map, get_or}
+use Rattle.std.specs.Prelude.{◌≡◌, ℕ, ◌+◌, ◌-◌, ◌<◌, ◌≤◌, refl, length, map, get_or}
 use Rattle.std.specs.Prelude.{Option, Some, None}
 use Rattle.std.specs.List.{AllByRecursion}
-use Rattle.std.proofs.Common.{arith, ap, sym, ◌∙◌, subst}
+use Rattle.std.proofs.Common.{arith, ap, sym, ◌∙◌}
 use Rattle.std.proofs.lemmas.List.{get_or-map, ext_get_or}
 use Rattle.awk_types.specs.DataType.{DataType, opt}
 use Rattle.awk_types.specs.Has.{Has}
 use Rattle.awk_types.specs.Simple.{simple, simple_value, option_of}
-use Rattle.awk_types.specs.Value.{Value, null, value_list}
+use Rattle.awk_types.specs.Value.{null, value_list}
 use Rattle.awk_types.proofs.SimpleLaws.{simple_twice, simple_is_simple, value_stays, each_stays}
 use Rattle.awk_types.proofs.SimpleLaws.{in_option_stays}
 use Rattle.awk_lanes.specs.Column.{Column}
-use Rattle.awk_lanes.specs.Places.{size_of, place_at, option_place_at}
+use Rattle.awk_lanes.specs.Places.{size_of, option_place_at}
 use Rattle.awk_layout.specs.Layout.{Layout, optional}
 use Rattle.awk_layout.specs.Item.{run, at_option}
 use Rattle.awk_layout.specs.Typing.{layout_type, array_type, array_items}
-use Rattle.awk_layout.specs.Valid.{len, IsValid}
+use Rattle.awk_layout.specs.Valid.{len}
 use Rattle.awk_layout.proofs.ArrayItems.{length-array_items, get_or-array_items}
 use Rattle.awk_gather.specs.Arrays.{array_item}
 use Rattle.awk_gather.specs.Peeled.{IsPickedOpt}
 use Rattle.awk_gather.proofs.OptionItems.{item-optional}
-use Rattle.awk_columns.specs.Joined.{AreOffsets}
-use Rattle.awk_columns.specs.ListClass.{Class}
 use Rattle.awk_columns.proofs.ArrayLaws.{run_map, run_same}
-use Rattle.awk_axis.specs.Mapped.{IsColumn, AreGiven}
 
 -- an array whose items are of its type
 abbrev pub HasItems : Layout → Type 0
@@ -86,27 +83,3 @@ picked_items y r p h =
     get_or-array_items r i (omega (arith, within, h.size))
     ∙ picked_item y r p h i within
     ∙ sym (get_or-array_items (optional p y) i within))
-
-pub picked_column : (t : DataType) (value : ℕ → Value) (n : ℕ) (y r : Layout) (p : Column)
-    → IsValid r → IsPickedOpt y p r → IsColumn t value n (optional p y) → IsColumn t value n r
-picked_column t value n y r p v h c = record {
-  valid = v;
-  size = h.size ∙ c.size;
-  typ = h.typ ∙ c.typ;
-  items = λ i q. picked_item y r p h i (omega (arith, q, c.size)) ∙ c.items i q;
-}
-
-pub picked_lists : (class : Class) (t : DataType) (items : List Value → List Value)
-    (s e : Column) (y w r : Layout) (o p : Column) → IsValid r → IsPickedOpt w p r
-    → AreGiven class t items s e y o (optional p w) → AreGiven class t items s e y o r
-picked_lists class t items s e y w r o p v h g = record {
-  valid = v;
-  offsets = subst (AreOffsets o (size_of s)) (sym h.size) g.offsets;
-  even = g.even;
-  typ = h.typ ∙ g.typ;
-  lists = λ i q.
-      let size : ℕ = place_at o (i + 1) - place_at o i in
-      ap value_list (run_same (array_item r) (array_item (optional p w)) (place_at o i) size
-      (λ k _ high. picked_item w r p h k (omega (arith, high, g.offsets.within i q))))
-      ∙ g.lists i q;
-}

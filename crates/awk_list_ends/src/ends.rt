@@ -1,27 +1,27 @@
 //! Ends of lists moved to other places.
 ghost use Rattle.std.specs.Prelude.{◌≡◌, IfOk};
 ghost use Rattle.awk_lanes.specs.Places.{AreSpans, IsIndexKind};
-ghost use Rattle.awk_lists.specs.Lanes.{numbers_at_ends, AreListEnds};
+ghost use Rattle.awk_list_ends.specs.Ends.{numbers_at_ends, AreListEnds};
 
-use crate::length::length_at;
-use awk_lanes::{Arena, Kind, Lane, Num, Numbers, Steps, index_at, made_lane, place_in};
+use crate::length::length_between;
+use awk_lanes::{Arena, Index, Kind, Lane, Num, Numbers, Steps, made_lane, to_place};
 use awk_types::NoMemory;
 use std::sync::ledger::Ledger;
 
 /// The number of a lane at an end of each list, and 0 where a list has no items.
 #[derive(Drop)]
 struct EndNumbers<'b, 'a> {
-    numbers: &'b Lane<'a>,
-    starts: &'b Lane<'a>,
-    stops: &'b Lane<'a>,
-    ends: &'b Lane<'a>,
+    numbers: &'b Index<'a>,
+    starts: &'b Index<'a>,
+    stops: &'b Index<'a>,
+    ends: &'b Index<'a>,
 }
 
 impl<'b, 'a> Numbers for EndNumbers<'b, 'a> {
     ghost use Rattle.std.specs.Prelude.{◌==◌, pos, if◌then◌else◌};
     ghost use Rattle.awk_lanes.specs.declared.kind.Kind.TheVariants as Kinds;
     ghost use Rattle.awk_lanes.specs.Places.{size_of, at, place_at, AreSpans, IsIndexKind};
-    ghost use Rattle.awk_lists.specs.Lanes.{span_length, AreListEnds};
+    ghost use Rattle.awk_list_ends.specs.Ends.{span_length, AreListEnds};
 
     ghost kind = { λ _. Kinds.I64 };
 
@@ -34,22 +34,22 @@ impl<'b, 'a> Numbers for EndNumbers<'b, 'a> {
         × AreSpans f.starts.now f.stops.now 9223372036854775807
         × AreListEnds f.numbers.now f.starts.now f.stops.now f.ends.now };
 
-    fn number<L: Ledger>(&self, i: u64, steps: &mut Steps<L>) -> Num {
-        if length_at(self.starts, self.stops, i, steps) == 0 {
+    fn number<L: Ledger>(&self, i: u64, _steps: &mut Steps<L>) -> Num {
+        if length_between(self.starts, self.stops, i) == 0 {
             Num::Int(0)
         } else {
-            let place = place_in(self.ends, i, steps);
-            Num::Int(index_at(self.numbers, place, steps))
+            let place = to_place(self.ends.number(i));
+            Num::Int(self.numbers.number(place))
         }
     }
 }
 
 /// The numbers of a lane at ends of lists.
-pub(crate) fn numbers_at_ends<'a, L: Ledger>(
-    numbers: &Lane<'a>,
-    starts: &Lane<'a>,
-    stops: &Lane<'a>,
-    ends: &Lane<'a>,
+pub fn numbers_at_ends<'a, L: Ledger>(
+    numbers: &Index<'a>,
+    starts: &Index<'a>,
+    stops: &Index<'a>,
+    ends: &Index<'a>,
     arena: &'a Arena,
     steps: &mut Steps<L>,
 ) -> Result<Lane<'a>, NoMemory>

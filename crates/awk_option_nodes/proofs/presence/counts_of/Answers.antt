@@ -6,34 +6,34 @@ use Rattle.awk_lanes.specs.declared.kind.Kind.TheVariants.{I64}
 use Rattle.awk_columns.specs.Counted.{first_of, present_at}
 use Rattle.awk_columns.proofs.FirstPlaces.{length-first_of, present-few}
 use Rattle.awk_lanes.proofs.MadeLanes.{so_far_pushed, made_size}
-use Rattle.awk_nulls.proofs.presence.present_counts.Goals as goal
+use Rattle.awk_option_nodes.proofs.presence.counts_of.Goals as goal
 
 pub overflow_add-count : goal.overflow_add-count
-overflow_add-count g c =
+overflow_add-count c =
     omega (
       arith,
       present-few c.args.index.now (c.loop-i.i + 1),
       length-first_of (present_at c.args.index.now) c.loop-i.i,
       c.loop-i.invariant.count,
-      c.one_if_present-count.ensures,
+      c.one_if_place-count.ensures,
       c.loop-i-test.true,
       c.requires.fits,
     )
 
 pub number-requires-in-loop-i : goal.number-requires-in-loop-i
-number-requires-in-loop-i g c =
+number-requires-in-loop-i c =
     omega (
       arith,
       present-few c.args.index.now (c.loop-i.i + 1),
       length-first_of (present_at c.args.index.now) c.loop-i.i,
       c.loop-i.invariant.count,
-      c.one_if_present-count.ensures,
+      c.one_if_place-count.ensures,
       c.loop-i-test.true,
       c.requires.fits,
     )
 
 pub push-requires-in-loop-i-clause-room : goal.push-requires-in-loop-i-clause-room
-push-requires-in-loop-i-clause-room g c =
+push-requires-in-loop-i-clause-room c =
     omega (
       arith,
       made_size (λ j. pos (length (first_of (present_at c.args.index.now) j)))
@@ -43,14 +43,14 @@ push-requires-in-loop-i-clause-room g c =
     )
 
 pub loop-i-preserved : goal.loop-i-preserved
-loop-i-preserved g c =
-    let count : c.loop-i.count + c.one_if_present-count.result
+loop-i-preserved c =
+    let count : c.loop-i.count + c.one_if_place-count.result
     ≡ length (first_of (present_at c.args.index.now) (c.loop-i.i + 1)) =
     omega (
       arith,
       length-first_of (present_at c.args.index.now) c.loop-i.i,
       c.loop-i.invariant.count,
-      c.one_if_present-count.ensures,
+      c.one_if_place-count.ensures,
     ) in
     record {
       count = count;
@@ -60,13 +60,3 @@ loop-i-preserved g c =
           c.push-in-loop-i.ensures (c.number-in-loop-i.ensures.number ∙ ap pos count)
           c.loop-i.invariant.made;
     }
-
-pub finish-requires : goal.finish-requires
-finish-requires g c =
-    omega (
-      arith,
-      made_size (λ j. pos (length (first_of (present_at c.args.index.now) j)))
-          (c.loop-i.i + 1) c.loop-i.maker.items c.loop-i.invariant.made.items,
-      c.loop-i.invariant.made.room,
-      c.loop-i-test.false,
-    )

@@ -4,7 +4,7 @@ ghost use Rattle.awk_lanes.specs.Places.{IsOptionalIndex};
 ghost use Rattle.awk_lanes.specs.declared.kind.Kind.TheVariants as Kinds;
 ghost use Rattle.awk_layout.specs.Valid.{len};
 ghost use Rattle.awk_gather.specs.Peeled.{IsPickedOpt};
-ghost use Rattle.awk_nulls.specs.Composed.{IsComposed};
+ghost use Rattle.awk_option_nodes.specs.Composed.{IsComposed};
 
 use awk_gather::{Peeled, peel};
 use awk_lanes::{Arena, Lane, Steps};

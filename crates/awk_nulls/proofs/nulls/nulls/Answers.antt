@@ -1,0 +1,8 @@
+use Rattle.awk_columns.proofs.PlaceLanes.{option-index}
+use Rattle.awk_nulls.proofs.nulls.nulls.Goals as goal
+
+pub index_of-requires : goal.index_of-requires
+index_of-requires g c = option-index c.args.index.now.kind c.requires.kind
+
+pub returns : goal.returns
+returns g c = rw (c.len.ensures.len, c.in_ok-index.ensures) at c.made_lane.ensures.lane
