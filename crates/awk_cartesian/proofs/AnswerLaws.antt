@@ -1,8 +1,7 @@
 -- What the tuples of operands are as an array, and what is told of them.
-use Rattle.std.specs.Prelude.{◌≡◌, refl, ℕ, ◌+◌, ◌-◌, ◌<◌, ◌≤◌, ◌^◌, Bool, true, false}
-use Rattle.std.specs.Prelude.{◌||◌, if◌then◌else◌, List, [], ◌∷◌, length, map, get_or}
-use Rattle.std.specs.Prelude.{ℤ, pos, negsuc, ◌<ℤ◌, Option, Some, None, is_some, option_map}
-use Rattle.std.specs.Prelude.{Ok, Err}
+use Rattle.std.specs.Prelude.{◌≡◌, refl, ℕ, ◌+◌, ◌-◌, ◌<◌, ◌≤◌, ◌^◌, Bool, true, false, ◌||◌}
+use Rattle.std.specs.Prelude.{if◌then◌else◌, List, [], ◌∷◌, length, map, get_or, ℤ, pos, negsuc}
+use Rattle.std.specs.Prelude.{◌<ℤ◌, Option, Some, None, is_some, option_map, Ok, Err}
 use Rattle.std.specs.List.{range_with_len, list_all, list_any, AllByRecursion}
 use Rattle.std.proofs.Common.{arith, ap, ap₂, sym, ◌∙◌}
 use Rattle.std.proofs.lemmas.Int.{ints}
@@ -34,22 +33,23 @@ use Rattle.awk_columns.specs.Columns.{is_present, list_items, joined_items}
 use Rattle.awk_columns.proofs.ArrayLaws.{array_items-at, map-same, simple_null, in_option_same}
 use Rattle.awk_places.specs.Places.{place_count}
 use Rattle.awk_places.specs.Products.{product_count}
-use Rattle.awk_combi.proofs.OffsetLaws.{are_offsets, offset-length}
+use Rattle.awk_columns.proofs.OffsetLaws.{are_offsets, offset-length}
 use Rattle.awk_merge.specs.Concatenate.{row_of, row_count}
 use Rattle.awk_merge.specs.Operands.{column_in, list_place, IndexesAll}
 use Rattle.awk_merge.specs.declared.operands.Axis.{Axis}
 use Rattle.awk_merge.specs.declared.operands.Axis.TheVariants.{Arrays, Rows as ByRows}
-use Rattle.awk_merge.proofs.StackLaws.{over_limit, within_limit}
-use Rattle.awk_cartesian.specs.Cartesian.{has_null_rows, item_types, tuple_type, product_type}
-use Rattle.awk_cartesian.specs.Cartesian.{tuples_of, row_tuples, rows_tuples, product_values}
+use Rattle.awk_columns.proofs.ItemLimits.{over_limit, within_limit}
+use Rattle.awk_cartesian.specs.Cartesian.{has_null_rows, item_types, product_type, row_tuples}
+use Rattle.awk_cartesian.specs.Cartesian.{rows_tuples, product_values}
+use Rattle.awk_products.specs.Tuples.{tuple_type, tuples_of}
 use Rattle.awk_cartesian.specs.Products.{row_node, product_node, tuples_fault, counted_product}
 use Rattle.awk_cartesian.specs.Products.{IsIndexOf}
-use Rattle.awk_cartesian.specs.Sources.{rows_in, may_be_null, present_place}
-use Rattle.awk_cartesian.specs.Sources.{AreTuplesOf, AreProducts, AreRows}
+use Rattle.awk_cartesian.specs.Sources.{rows_in, may_be_null, present_place, AreRows}
+use Rattle.awk_products.specs.Sources.{AreTuplesOf, AreProducts}
 use Rattle.awk_cartesian.specs.declared.rows.Rows.{Rows}
-use Rattle.awk_cartesian.specs.declared.sources.Sources.{Sources}
-use Rattle.awk_cartesian.specs.declared.tuples.Tuples.{Tuples}
-use Rattle.awk_cartesian.proofs.SlotLaws.{lengths-of}
+use Rattle.awk_products.specs.declared.sources.Sources.{Sources}
+use Rattle.awk_products.specs.declared.tuples.Tuples.{Tuples}
+use Rattle.awk_products.proofs.SlotLaws.{lengths-of}
 use Rattle.awk_cartesian.proofs.CountLaws.{length-tuples, count-rows}
 
 -- ---- how many rows there are

@@ -14,7 +14,8 @@ use Rattle.awk_places.proofs.FlatLaws.{append-none, range-more}
 use Rattle.awk_places.proofs.Levels.{length-place_lists}
 use Rattle.awk_places.proofs.RunLaws.{none_there}
 use Rattle.awk_merge.specs.Concatenate.{row_of, row_count}
-use Rattle.awk_cartesian.specs.Cartesian.{tuple_of, tuples_of, row_tuples, rows_tuples}
+use Rattle.awk_cartesian.specs.Cartesian.{row_tuples, rows_tuples}
+use Rattle.awk_products.specs.Tuples.{tuple_of, tuples_of}
 
 pub length-tuples : (places : Bool) (vss : List (List Value))
     → length (tuples_of places vss) ≡ place_count (map length vss)

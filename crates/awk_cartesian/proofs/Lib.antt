@@ -1,6 +1,4 @@
 mod Worked
-pub mod SlotLaws
-pub mod TupleLaws
 pub mod OpeningLaws
 pub mod RowLaws
 pub mod CountLaws

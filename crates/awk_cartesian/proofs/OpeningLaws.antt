@@ -35,7 +35,8 @@ use Rattle.awk_combi.proofs.SpanLaws.{within}
 use Rattle.awk_merge.specs.Operands.{list_place, values_by, IsListIndex}
 use Rattle.awk_merge.proofs.ListPlaceLaws.{place_within, indexes_all}
 use Rattle.awk_cartesian.specs.Cartesian.{list_item, rows_item}
-use Rattle.awk_cartesian.specs.Sources.{IsSource, IsOpened, source_list, repeated, zeros}
+use Rattle.awk_cartesian.specs.Sources.{IsOpened}
+use Rattle.awk_products.specs.Sources.{IsSource, source_list, repeated, zeros}
 use Rattle.awk_cartesian.specs.Sources.{IsLists, IsOfLists, IsOfNone}
 use Rattle.awk_cartesian.specs.Spans.{first_of, length_of, first_lane, length_lane}
 use Rattle.awk_cartesian.specs.declared.sources.Source.{Source}

@@ -27,12 +27,12 @@ use Rattle.awk_merge.specs.Operands.{list_place, IndexesAll}
 use Rattle.awk_merge.specs.declared.operands.Axis.{Axis}
 use Rattle.awk_places.specs.Products.{no_lane}
 use Rattle.awk_cartesian.specs.Cartesian.{operand_item, item_types}
-use Rattle.awk_cartesian.specs.Sources.{IsSource, AreSources, list_in, lists_in, source_list}
+use Rattle.awk_products.specs.Sources.{IsSource, source_list, AreSources, list_in, lists_in}
 use Rattle.awk_cartesian.specs.Sources.{rows_in, may_be_null, IsOpened, present_place}
 use Rattle.awk_cartesian.specs.Sources.{AreBoth, AreRows, pushed}
 use Rattle.awk_cartesian.specs.Spans.{place_in_both, both_lane}
 use Rattle.awk_cartesian.specs.declared.sources.Source.{Source}
-use Rattle.awk_cartesian.specs.declared.sources.Sources.{Sources}
+use Rattle.awk_products.specs.declared.sources.Sources.{Sources}
 use Rattle.awk_cartesian.specs.declared.rows.Rows.{Rows}
 
 -- ---- one source more

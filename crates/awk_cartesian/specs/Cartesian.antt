@@ -1,8 +1,8 @@
 -- Tuples of one item of each of several lists.
-use Rattle.std.specs.Prelude.{ℕ, ℤ, Bool, false, if◌then◌else◌, List, [], ◌∷◌, length, map}
+use Rattle.std.specs.Prelude.{ℤ, Bool, false, if◌then◌else◌, List, [], ◌∷◌, length, map}
 use Rattle.std.specs.Prelude.{Option, Some, None, Result, Err, option_map}
 use Rattle.std.specs.List.{range_with_len, list_all, list_any}
-use Rattle.awk_types.specs.DataType.{DataType, unknown, var, reg, opt, tup, types_from}
+use Rattle.awk_types.specs.DataType.{DataType, unknown, var, reg, opt}
 use Rattle.awk_types.specs.Datum.{Datum, arr, one}
 use Rattle.awk_types.specs.Faults.{limit_fault}
 use Rattle.awk_types.specs.Gives.{refused_or, ◌or◌}
@@ -13,8 +13,7 @@ use Rattle.awk_types.specs.Value.{Value, null, list, row, values_from}
 use Rattle.awk_types.specs.declared.fault.Fault.{Fault}
 use Rattle.awk_types.specs.declared.fault.Fault.TheVariants as fault
 use Rattle.awk_columns.specs.Columns.{is_present, list_items, joined_items}
-use Rattle.awk_places.specs.Places.{place_lists}
-use Rattle.awk_combi.specs.Combinations.{slot_type, slot_value}
+use Rattle.awk_products.specs.Tuples.{tuple_type, tuples_of}
 use Rattle.awk_merge.specs.Concatenate.{axis_of, type_before, operand_items}
 use Rattle.awk_merge.specs.Concatenate.{row_of, row_count, lengths_fault}
 use Rattle.awk_merge.specs.declared.operands.Axis.{Axis}
@@ -46,9 +45,6 @@ abbrev pub item_types : Axis → List Datum → Option (List DataType)
 item_types axis [] = Some []
 item_types axis (d ∷ ds) = type_before (operand_item axis d) (item_types axis ds)
 
-abbrev pub tuple_type : Bool → List DataType → DataType
-tuple_type places ts = tup (types_from (map (slot_type places) ts))
-
 -- whether an operand's rows may be null
 abbrev pub has_null_rows : Datum → Bool
 has_null_rows (arr t vs) = is_option t
@@ -60,19 +56,6 @@ product_type Arrays places ds ts = tuple_type places ts
 product_type Rows places ds ts = option_if (list_any has_null_rows ds) (var (tuple_type places ts))
 
 -- ---- values
-
--- one item of each list, or its place
-abbrev pub slot_values : Bool → List (List Value) → List ℕ → List Value
-slot_values places (vs ∷ vss) (k ∷ ks) = slot_value places vs k ∷ slot_values places vss ks
-slot_values places vss ks = []
-
--- the tuple of the items at these places
-abbrev pub tuple_of : Bool → List (List Value) → List ℕ → Value
-tuple_of places vss ks = row (values_from (slot_values places vss ks))
-
--- all tuples of several lists, the last varying fastest
-abbrev pub tuples_of : Bool → List (List Value) → List Value
-tuples_of places vss = map (tuple_of places vss) (place_lists (map length vss))
 
 -- those of the lists of one row, and null where one of them is
 abbrev pub row_tuples : Bool → List Value → Value

@@ -13,8 +13,9 @@ use Rattle.awk_columns.specs.Columns.{joined_items}
 use Rattle.awk_merge.specs.Concatenate.{row_count, lengths_fault}
 use Rattle.awk_merge.specs.declared.operands.Axis.{Axis}
 use Rattle.awk_merge.specs.declared.operands.Axis.TheVariants.{Arrays, Rows}
-use Rattle.awk_cartesian.specs.Cartesian.{tuples_of, rows_tuples, product_values}
-use Rattle.awk_cartesian.specs.declared.tuples.Tuples.{Tuples}
+use Rattle.awk_cartesian.specs.Cartesian.{rows_tuples, product_values}
+use Rattle.awk_products.specs.Tuples.{tuples_of}
+use Rattle.awk_products.specs.declared.tuples.Tuples.{Tuples}
 
 -- an index over the lists that offsets tell
 abbrev pub IsIndexOf : Option Column → Column → Type 0

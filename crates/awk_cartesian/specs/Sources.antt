@@ -1,95 +1,27 @@
--- Operands as lists of rows: what lists a slot of tuples takes its items of.
-use Rattle.std.specs.Prelude.{◌≡◌, ℕ, ◌+◌, ◌<◌, ◌≤◌, Bool, true, false, ◌&&◌, ◌||◌}
+-- Operands as lists of rows.
+use Rattle.std.specs.Prelude.{◌≡◌, ℕ, ◌+◌, ◌<◌, Bool, true, false, ◌&&◌, ◌||◌}
 use Rattle.std.specs.Prelude.{if◌then◌else◌, List, [], ◌∷◌, ◌++◌}
-use Rattle.std.specs.Prelude.{length, map, get_or, replicate, Option, Some, None, is_some, pos}
-use Rattle.std.specs.List.{range_with_len, list_all, list_any}
+use Rattle.std.specs.Prelude.{length, map, get_or, Option, Some, None, is_some}
+use Rattle.std.specs.List.{list_all, list_any}
 use Rattle.awk_types.specs.DataType.{DataType, var, reg}
-use Rattle.awk_types.specs.ItemLimit.{item_limit}
-use Rattle.awk_types.specs.Value.{Value, null, list, value_list, values_from}
-use Rattle.awk_lanes.specs.declared.kind.Kind.TheVariants.{I64}
+use Rattle.awk_types.specs.Value.{Value, null, list, values_from}
 use Rattle.awk_lanes.specs.Column.{Column}
-use Rattle.awk_lanes.specs.Counted.{before, offsets_by}
-use Rattle.awk_lanes.specs.Made.{lane_of}
-use Rattle.awk_lanes.specs.Places.{place_at}
-use Rattle.awk_layout.specs.Item.{run}
-use Rattle.awk_layout.specs.Layout.{Layout, empty}
+use Rattle.awk_layout.specs.Layout.{Layout}
 use Rattle.awk_layout.specs.Typing.{array_type}
-use Rattle.awk_layout.specs.Valid.{len, IsValid}
 use Rattle.awk_layout.specs.Datum.{datum_of}
 use Rattle.awk_layout.specs.declared.datum.Datum.{Datum}
-use Rattle.awk_gather.specs.Arrays.{array_item}
 use Rattle.awk_columns.specs.Columns.{is_present, list_items}
 use Rattle.awk_columns.specs.Lists.{Listed}
-use Rattle.awk_places.specs.Products.{AreSpansOf, no_lane, product_count}
 use Rattle.awk_merge.specs.Concatenate.{row_of}
 use Rattle.awk_merge.specs.Operands.{column_in, list_place, IndexesAll}
 use Rattle.awk_merge.specs.declared.operands.Axis.{Axis}
 use Rattle.awk_merge.specs.declared.operands.Axis.TheVariants.{Arrays, Rows as ByRows}
 use Rattle.awk_cartesian.specs.Cartesian.{has_null_rows, operand_item, item_types}
-use Rattle.awk_cartesian.specs.Cartesian.{tuple_type, tuples_of}
 use Rattle.awk_cartesian.specs.Spans.{first_lane, length_lane}
 use Rattle.awk_cartesian.specs.declared.sources.Source.{Source}
-use Rattle.awk_cartesian.specs.declared.sources.Sources.{Sources}
+use Rattle.awk_products.specs.Sources.{IsSource, AreSources, source_list, lists_in, zeros}
+use Rattle.awk_products.specs.declared.sources.Sources.{Sources}
 use Rattle.awk_cartesian.specs.declared.rows.Rows.{Rows}
-use Rattle.awk_cartesian.specs.declared.tuples.Tuples.{Tuples}
-
--- ---- the lists of a slot
-
--- n lists, each from a first place on so many items of a content
-pub record IsSource (n : ℕ) (f l : Column) (y : Layout) : Type 0 where
-  pub spans : AreSpansOf n f l
-  pub within : (i : ℕ) → i < n → place_at f i + place_at l i ≤ len y
-
-abbrev pub source_list : Column → Column → Layout → ℕ → List Value
-source_list f l y i = value_list (run (array_item y) (place_at f i) (place_at l i))
-
--- ---- those of all slots
-
-pub record AreSources (n : ℕ) (x : Sources) : Type 0 where
-  pub firsts : length x.firsts ≡ length x.contents
-  pub lengths : length x.lengths ≡ length x.contents
-  pub each : (j : ℕ) → j < length x.contents → IsSource n (get_or x.firsts j no_lane)
-      (get_or x.lengths j no_lane) (get_or x.contents j empty)
-
--- list i of slot j
-abbrev pub list_in : Sources → ℕ → ℕ → List Value
-list_in x i j =
-    source_list (get_or x.firsts j no_lane) (get_or x.lengths j no_lane) (get_or x.contents j empty)
-    i
-
--- list i of each slot
-abbrev pub lists_in : Sources → ℕ → List (List Value)
-lists_in x i = map (list_in x i) (range_with_len 0 (length x.contents))
-
--- ---- tuples of them
-
--- lists of the tuples of list i of each slot
-pub record AreTuplesOf (places : Bool) (n : ℕ) (x : Sources) (t : Tuples) : Type 0 where
-  pub few : before (product_count x.lengths) n ≤ item_limit
-  pub offsets : t.offsets ≡ offsets_by (product_count x.lengths) n
-  pub valid : IsValid t.node
-  pub size : len t.node ≡ before (product_count x.lengths) n
-  pub typ : array_type t.node ≡ tuple_type places (map array_type x.contents)
-  pub tuples : (i : ℕ) → i < n
-      → value_list (run (array_item t.node) (before (product_count x.lengths) i)
-      (product_count x.lengths i))
-      ≡ tuples_of places (lists_in x i)
-
--- the same, or none where the tuples are more than a column may have
-abbrev pub AreProducts : Bool → ℕ → Sources → Option Tuples → Type 0
-AreProducts places n x None = item_limit < before (product_count x.lengths) n
-AreProducts places n x (Some t) = AreTuplesOf places n x t
-
--- a number n times; zeros are what places are counted from
-abbrev pub repeated : ℕ → ℕ → Column
-repeated n m = lane_of I64 n (λ i. pos m)
-
-abbrev pub zeros : ℕ → Column
-zeros n = repeated n 0
-
--- where the places of each slot are counted from
-abbrev pub slot_firsts : Bool → ℕ → List Column → List Column
-slot_firsts places n fs = if places then replicate (length fs) (zeros n) else fs
 
 -- ---- operands
 

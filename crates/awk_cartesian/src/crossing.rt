@@ -18,11 +18,11 @@ ghost use Rattle.awk_cartesian.specs.Products.{rows_fault, IsIndexOf};
 ghost use Rattle.awk_cartesian.specs.Sources.{rows_in, IsListed};
 
 use crate::rows::opened_rows;
-use crate::tuples::{Tuples, tuples_of};
 use crate::typing::{axis_at, product_typ};
 use awk_lanes::{Arena, Lane, Steps};
 use awk_layout::{Array, Datum, Datums, Node};
 use awk_merge::Axis;
+use awk_products::{Tuples, tuples_of};
 use awk_types::{Fault, ITEM_LIMIT, NoMemory, Typ, simple_of};
 use std::alloc::Global;
 use std::sync::ledger::Ledger;

@@ -7,7 +7,6 @@ mod crossing;
 mod opening;
 mod rows;
 mod sources;
-mod tuples;
 mod typing;
 
 pub use crossing::cartesian;

@@ -1,8 +1,10 @@
 //! Operands as lists of rows.
-ghost use Rattle.std.specs.Prelude.{◌≡◌, ◌∷◌, [], true, false, Some, IfOk, is_some};
+ghost use Rattle.std.specs.Prelude.{◌≡◌, ◌<◌, ◌∷◌, [], true, false, Some, pos, IfOk, is_some};
 ghost use Rattle.awk_types.specs.Simple.{is_option};
 ghost use Rattle.awk_types.specs.Value.{list, values_from};
+ghost use Rattle.awk_lanes.specs.Numbers.{int_of, IsOf};
 ghost use Rattle.awk_lanes.specs.Places.{size_of};
+ghost use Rattle.awk_lanes.specs.declared.kind.Kind.TheVariants as Kinds;
 ghost use Rattle.awk_layout.specs.Datum.{datum_of};
 ghost use Rattle.awk_layout.specs.Typing.{array_type, array_items};
 ghost use Rattle.awk_layout.specs.Valid.{len};
@@ -16,13 +18,11 @@ ghost use Rattle.awk_cartesian.specs.Spans as spans;
 ghost use Rattle.awk_columns.specs.Opened.{OpensLists, OpensOption};
 
 use crate::sources::Source;
-use crate::tuples::repeated;
-use awk_columns::{Lists, Opened, open_array};
-use awk_lanes::{
-    Arena, Kind, Lane, Num, Numbers, Steps, index_at, made_lane, number, option_place_in,
-};
+use awk_columns::{Bounds, Lists, Opened, open_array};
+use awk_lanes::{Arena, Kind, Lane, Num, Numbers, Steps, made_lane, number, option_place_in};
 use awk_layout::{Array, Datum};
 use awk_merge::Axis;
+use awk_products::repeated;
 use awk_types::{NoMemory, is_optional, is_unknown};
 use std::alloc::Global;
 use std::sync::ledger::Ledger;
@@ -44,19 +44,33 @@ pub(crate) fn list_place<L: Ledger>(
 
 /// Rows that are lists by an index, or null.
 #[derive(Drop)]
-struct Indexed<'b, 'c, 'a> {
+struct Indexed<'b, 'c, 'r, 'a> {
     n: u64,
     index: &'b Option<Lane<'a>>,
-    lists: &'c Lists<'a>,
+    lists: &'c Bounds<'r, 'a>,
+}
+
+/// Where a list begins, but 0 where it is empty.
+fn first_at(lists: &Bounds, place: u64) -> Num
+    requires { place < size_of lists.now.starts }
+    ensures number { let said = spans.first_of lists.now.starts lists.now.stops (Some place) in
+        int_of result ≡ pos said }
+    ensures kind { IsOf Kinds.I64 result }
+{
+    let span = lists.span_of(place);
+    if span.length == 0 {
+        return number(0);
+    }
+    number(span.start)
 }
 
 /// The first places of rows.
 #[derive(Drop)]
-struct Firsts<'b, 'c, 'a> {
-    rows: Indexed<'b, 'c, 'a>,
+struct Firsts<'b, 'c, 'r, 'a> {
+    rows: Indexed<'b, 'c, 'r, 'a>,
 }
 
-impl<'b, 'c, 'a> Numbers for Firsts<'b, 'c, 'a> {
+impl<'b, 'c, 'r, 'a> Numbers for Firsts<'b, 'c, 'r, 'a> {
     ghost use Rattle.std.specs.Prelude.{pos};
     ghost use Rattle.awk_lanes.specs.Places.{size_of};
     ghost use Rattle.awk_lanes.specs.declared.kind.Kind.TheVariants as Kinds;
@@ -74,16 +88,8 @@ impl<'b, 'c, 'a> Numbers for Firsts<'b, 'c, 'a> {
         (size_of f.rows.lists.now.starts) };
 
     fn number<L: Ledger>(&self, i: u64, steps: &mut Steps<L>) -> Num {
-        let lists = self.rows.lists;
-        let _ = lists.content();
-        let _ = lists.content().len();
         match list_place(self.rows.index, i, steps) {
-            Some(place) => {
-                if lists.length_at(place, steps) == 0 {
-                    return number(0);
-                }
-                number(index_at(lists.starts(), place, steps) as u64)
-            }
+            Some(place) => first_at(self.rows.lists, place),
             None => number(0),
         }
     }
@@ -91,11 +97,11 @@ impl<'b, 'c, 'a> Numbers for Firsts<'b, 'c, 'a> {
 
 /// The lengths of rows.
 #[derive(Drop)]
-struct RowLengths<'b, 'c, 'a> {
-    rows: Indexed<'b, 'c, 'a>,
+struct RowLengths<'b, 'c, 'r, 'a> {
+    rows: Indexed<'b, 'c, 'r, 'a>,
 }
 
-impl<'b, 'c, 'a> Numbers for RowLengths<'b, 'c, 'a> {
+impl<'b, 'c, 'r, 'a> Numbers for RowLengths<'b, 'c, 'r, 'a> {
     ghost use Rattle.std.specs.Prelude.{pos};
     ghost use Rattle.awk_lanes.specs.Places.{size_of};
     ghost use Rattle.awk_lanes.specs.declared.kind.Kind.TheVariants as Kinds;
@@ -114,17 +120,17 @@ impl<'b, 'c, 'a> Numbers for RowLengths<'b, 'c, 'a> {
 
     fn number<L: Ledger>(&self, i: u64, steps: &mut Steps<L>) -> Num {
         match list_place(self.rows.index, i, steps) {
-            Some(place) => number(self.rows.lists.length_at(place, steps)),
+            Some(place) => number(self.rows.lists.length_at(place)),
             None => number(0),
         }
     }
 }
 
 /// The first place of each row, as a lane.
-fn first_lane<'a, L: Ledger>(
+fn first_lane<'r, 'a, L: Ledger>(
     index: &Option<Lane<'a>>,
     n: u64,
-    lists: &Lists<'a>,
+    lists: &Bounds<'r, 'a>,
     arena: &'a Arena,
     steps: &mut Steps<L>,
 ) -> Result<Lane<'a>, NoMemory>
@@ -137,10 +143,10 @@ fn first_lane<'a, L: Ledger>(
 }
 
 /// The length of each row, as a lane.
-fn length_lane<'a, L: Ledger>(
+fn length_lane<'r, 'a, L: Ledger>(
     index: &Option<Lane<'a>>,
     n: u64,
-    lists: &Lists<'a>,
+    lists: &Bounds<'r, 'a>,
     arena: &'a Arena,
     steps: &mut Steps<L>,
 ) -> Result<Lane<'a>, NoMemory>
@@ -203,8 +209,9 @@ fn lists_source<'a, L: Ledger>(
     requires { IsListIndex index n (size_of lists.now.starts) }
     ensures { IfOk result (IsOfLists index.entry n lists.now) }
 {
-    let first = first_lane(&index, n, lists, arena, steps)?;
-    let length = length_lane(&index, n, lists, arena, steps)?;
+    let bounds = Bounds::new(alloc, lists, arena, steps)?;
+    let first = first_lane(&index, n, &bounds, arena, steps)?;
+    let length = length_lane(&index, n, &bounds, arena, steps)?;
     let content = lists.content().copy(alloc)?;
     Ok(Source {
         index,

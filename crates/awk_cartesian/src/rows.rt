@@ -5,10 +5,11 @@ ghost use Rattle.awk_merge.specs.Operands.{IndexesAll};
 ghost use Rattle.awk_cartesian.specs.Sources.{rows_in, pushed, AreBoth, AreRows, IsListed};
 
 use crate::opening::{list_place, opened};
-use crate::sources::{Source, Sources};
+use crate::sources::Source;
 use awk_lanes::{Arena, Kind, Lane, Num, Numbers, Steps, made_lane, number};
 use awk_layout::Datums;
 use awk_merge::Axis;
+use awk_products::Sources;
 use awk_types::NoMemory;
 use std::alloc::Global;
 use std::sync::ledger::Ledger;

@@ -1,5 +1,4 @@
 mod Worked
-pub mod OffsetLaws
 pub mod TypeLaws
 pub mod SpanLaws
 pub mod TupleLaws

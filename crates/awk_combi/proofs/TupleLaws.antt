@@ -1,19 +1,17 @@
 -- The tuples of lists: their types, and the items of each list that is made.
-use Rattle.std.specs.Prelude.{◌≡◌, refl, ℕ, zero, suc, ◌+◌, ◌-◌, ◌<◌, ◌≤◌, ◌^◌, Bool, true, false}
-use Rattle.std.specs.Prelude.{List, [], ◌∷◌, map, length, get_or}
-use Rattle.std.specs.Prelude.{replicate, ℤ, pos, Some, None, sum}
+use Rattle.std.specs.Prelude.{◌≡◌, refl, ℕ, suc, ◌+◌, ◌-◌, ◌<◌, ◌≤◌, ◌^◌, Bool, true, false, List}
+use Rattle.std.specs.Prelude.{[], ◌∷◌, map, length, get_or, replicate, pos, Some, None, sum}
 use Rattle.std.specs.List.{range_with_len, AllByRecursion}
 use Rattle.std.proofs.Common.{arith, ap, ap₂, sym, ◌∙◌, subst}
 use Rattle.std.proofs.lemmas.List.{length-map}
 use Rattle.std.proofs.lemmas.List.FromFn.{fill_by_all, get_or-map-range_with_len}
 use Rattle.std.proofs.lemmas.List.FromFn.{length-map-range_with_len}
 use Rattle.std.proofs.lemmas.Simd.{map-map}
-use Rattle.awk_types.specs.DataType.{DataType, leaf, tup, types_from}
+use Rattle.awk_types.specs.DataType.{DataType, tup, types_from}
 use Rattle.awk_types.specs.Has.{Has}
 use Rattle.awk_types.specs.ItemLimit.{item_limit}
 use Rattle.awk_types.specs.Simple.{simple, simple_value}
 use Rattle.awk_types.specs.Value.{Value, int, null, row, value_list, values_from}
-use Rattle.awk_types.specs.declared.primitive.Primitive.TheVariants.{I64}
 use Rattle.awk_types.proofs.SimpleLaws.{simple_twice, simple_is_simple, value_stays}
 use Rattle.awk_lanes.specs.Column.{Column}
 use Rattle.awk_lanes.specs.Counted.{before, offsets_by}
@@ -34,15 +32,15 @@ use Rattle.awk_axis.specs.Mapped.{AreGiven}
 use Rattle.awk_axis.specs.Spoils.{too_many}
 use Rattle.awk_axis.specs.declared.causes.Spoil.TheVariants.{Size}
 use Rattle.awk_places.specs.Places.{rising_places}
-use Rattle.awk_places.proofs.FlatLaws.{map-in_place, map-same-all, all-at}
+use Rattle.awk_places.proofs.FlatLaws.{map-in_place, all-at}
 use Rattle.awk_combi.specs.Combinations.{slot_type, slots, tuple_type, slot_value, tuple_at, tuples}
 use Rattle.awk_combi.specs.Combinations.{combinations_function}
-use Rattle.awk_combi.specs.Slots.{IsSlotLane, AreSlotLanes, ArePlaced}
+use Rattle.awk_combi.specs.Slots.{IsSlotLane, AreSlotLanes, ArePlaced, slot_item, IsSlot, no_places}
+use Rattle.awk_combi.specs.Slots.{AreSlots, AreOfSize, AreTuples}
 use Rattle.awk_combi.specs.declared.slots.Placed.{Placed}
-use Rattle.awk_combi.specs.Slots.{slot_item, IsSlot, no_places, AreSlots, AreOfSize, AreTuples}
 use Rattle.awk_combi.specs.Spans.{first_place, tuples_at, count_at, place_in, slot_lane, slot_lanes}
-use Rattle.awk_combi.proofs.OffsetLaws.{are_offsets, offset-length, items_at-length, count_given}
-use Rattle.awk_combi.proofs.OffsetLaws.{over_limit, within_limit}
+use Rattle.awk_columns.proofs.OffsetLaws.{are_offsets, offset-length, items_at-length, count_given}
+use Rattle.awk_axis.proofs.SpoilLimits.{over_limit, within_limit}
 use Rattle.awk_combi.proofs.SpanLaws.{size-slot, tuple_long, tuple_below, first-full, within}
 use Rattle.awk_combi.proofs.SpanLaws.{is_slot_lane}
 use Rattle.awk_combi.proofs.TypeLaws.{simple-tuple, value-tuple}

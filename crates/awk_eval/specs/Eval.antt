@@ -44,7 +44,7 @@ use Rattle.awk_arith.specs.Unary.{unary_of}
 use Rattle.awk_cast.specs.Cast.{cast_of}
 use Rattle.awk_combi.specs.Combinations.{combinations_of}
 use Rattle.awk_cartesian.specs.Cartesian.{cartesian_of}
-use Rattle.awk_select.specs.Each.{at_each_of}
+use Rattle.awk_at_each.specs.Each.{at_each_of}
 use Rattle.awk_jagged.specs.Jagged.{is_jagged, jagged_of}
 use Rattle.awk_select.specs.Picks.{at_of, step_range_of, is_mask, mask_of, take_of}
 use Rattle.awk_lists.specs.Flatten.{flatten_of}

@@ -13,6 +13,7 @@ ghost use Rattle.awk_eval.specs.Eval as meaning;
 
 use crate::picks::pick_of;
 use awk_arguments::{axis_among, axis_in, both, data, only, place, truth};
+use awk_at_each::at_each;
 use awk_expr::{AxisOp, Fixed, PairOp, PlaceOp, Target};
 use awk_lanes::{Arena, Steps};
 use awk_layout::{Datum, Operands};
@@ -20,7 +21,7 @@ use awk_lists::{flatten, local_index, num, unflatten};
 use awk_merge::concatenate;
 use awk_options::{drop_none, firsts, is_none, singletons};
 use awk_order::{argsort, sort};
-use awk_select::{at, at_each};
+use awk_select::at;
 use awk_types::Fault;
 use std::alloc::Global;
 use std::sync::ledger::Ledger;

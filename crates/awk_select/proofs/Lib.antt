@@ -4,4 +4,3 @@ pub mod RangePlaces
 pub mod CellLaws
 pub mod PickedPlaces
 pub mod PickAnswers
-pub mod EachItems

@@ -5,9 +5,8 @@ use Rattle.awk_types.specs.DataType.{leaf, var, opt, unknown}
 use Rattle.awk_types.specs.Value.{Value, int, truth, null, list, values_from}
 use Rattle.awk_types.specs.Datum.{Datum, arr, one}
 use Rattle.awk_types.specs.declared.primitive.Primitive.TheVariants.{Bool, I64}
-use Rattle.awk_types.specs.declared.fault.Fault.TheVariants.{Axis, WrongType, Lengths, Index}
+use Rattle.awk_types.specs.declared.fault.Fault.TheVariants.{WrongType, Lengths, Index}
 use Rattle.awk_select.specs.Places.{range_places}
-use Rattle.awk_select.specs.Each.{at_each_of}
 use Rattle.awk_select.specs.Picks.{at_of, step_range_of, mask_of, take_of}
 
 abbrev n : ℕ → Value
@@ -40,26 +39,6 @@ settled_list = refl
 
 settled_null : at_of (pos 1) (arr (opt (var (leaf I64))) (list (values_from tens) ∷ null ∷ [])) ≡ Ok (one (opt (var (leaf I64))) null)
 settled_null = refl
-
--- ---- a place of each list
-
-abbrev some_lists : Datum
-some_lists = arr (opt (var (opt (leaf I64))))
-    (list (values_from tens) ∷ null ∷ list (values_from (n 1 ∷ null ∷ [])) ∷ [])
-
-last_of_each : at_each_of (negsuc 0) some_lists
-    ≡ Ok (arr (opt (leaf I64)) (n 30 ∷ null ∷ null ∷ []))
-last_of_each = refl
-
-missing_in_one : at_each_of (pos 2) some_lists ≡ Err Index
-missing_in_one = refl
-
-no_lists : at_each_of (pos 0) x ≡ Err Axis
-no_lists = refl
-
--- unknown counts as lists of unknown
-each_of_unknown : at_each_of (pos 0) (arr unknown []) ≡ Ok (arr unknown [])
-each_of_unknown = refl
 
 -- ---- ranges
 

@@ -1,4 +1,3 @@
 pub mod Places
 pub mod Picks
 pub mod Cells
-pub mod Each

@@ -7,7 +7,7 @@ ghost use Rattle.awk_select.specs.Places as places;
 use awk_lanes::Num;
 
 /// A place of n items. A negative number counts from the end.
-pub(crate) fn place_in(n: u64, i: i64) -> Option<u64>
+pub fn place_in(n: u64, i: i64) -> Option<u64>
     ensures { result ≡ places.place_in n i }
 {
     if i >= 0 {

@@ -2,7 +2,7 @@ use Rattle.std.proofs.Common.{None, ap, sym, ◌∙◌}
 use Rattle.awk_types.specs.Limit.{limit}
 use Rattle.awk_types.specs.View.{typ_of}
 use Rattle.awk_layout.specs.Typing.{array_type}
-use Rattle.awk_cartesian.specs.Sources.{AreProducts, AreTuplesOf}
+use Rattle.awk_products.specs.Sources.{AreTuplesOf, AreProducts}
 use Rattle.awk_cartesian.proofs.AnswerLaws.{rows_index, offsets_fit, offsets_few, made_type}
 use Rattle.awk_cartesian.proofs.AnswerLaws.{made_datum, too_many_made}
 use Rattle.awk_cartesian.proofs.crossing.counted.Goals as goal

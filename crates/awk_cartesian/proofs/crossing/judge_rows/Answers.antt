@@ -3,7 +3,7 @@ use Rattle.std.specs.Prelude.{if◌then◌else◌}
 use Rattle.awk_types.specs.Gives.{refused_or, ◌or◌}
 use Rattle.awk_types.specs.ItemLimit.{too_many}
 use Rattle.awk_types.specs.declared.fault.Fault.TheVariants.{Lengths}
-use Rattle.awk_merge.proofs.StackLaws.{over_limit, within_limit}
+use Rattle.awk_columns.proofs.ItemLimits.{over_limit, within_limit}
 use Rattle.awk_cartesian.proofs.crossing.judge_rows.Goals as goal
 
 pub returns-then-not-are_long : goal.returns-then-not-are_long

@@ -1,6 +1,6 @@
 use Rattle.std.proofs.Common.{refl, ap, ◌∙◌, arith}
 use Rattle.awk_layout.specs.Laws.{len-fits}
-use Rattle.awk_cartesian.specs.Sources.{repeated}
+use Rattle.awk_products.specs.Sources.{repeated}
 use Rattle.awk_cartesian.proofs.OpeningLaws.{whole_opened}
 use Rattle.awk_cartesian.proofs.opening.whole_source.Goals as goal
 

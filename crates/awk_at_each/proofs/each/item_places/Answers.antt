@@ -1,0 +1,22 @@
+use Rattle.std.proofs.Common.{◌≡◌, Some, ap, sym, ◌∙◌, w64, to_z, of_z}
+use Rattle.awk_lanes.specs.Numbers.{int_of}
+use Rattle.awk_lanes.specs.declared.kind.Kind.TheVariants.{I64}
+use Rattle.awk_lanes.proofs.MadeLanes.{so_far_pushed}
+use Rattle.awk_select.specs.Cells.{place_number}
+use Rattle.awk_at_each.specs.Each.{item_place, item_number}
+use Rattle.awk_at_each.proofs.EachItems.{AllHave-more}
+use Rattle.awk_at_each.proofs.each.item_places.Goals as goal
+
+pub loop-j-preserved : goal.loop-j-preserved
+loop-j-preserved g c =
+    let s = c.args.starts.now in
+    let t = c.args.stops.now in
+    let i = to_z w64 (of_z w64 c.args.i) in
+    let e : item_place i s t c.loop-j.j ≡ Some c.in-Some.place =
+    sym {b = item_place i s t c.loop-j.j} c.item_place.ensures.place ∙ c.in-Some.is in
+    record {
+      made = so_far_pushed I64 c.len-n.result (item_number i s t) c.loop-j.j
+          (int_of c.number.result) c.loop-j.maker c.push.new.self c.push.ensures
+          (c.number.ensures.number ∙ sym (ap place_number e)) c.loop-j.invariant.made;
+      have = AllHave-more i s t c.loop-j.j c.in-Some.place c.loop-j.invariant.have e;
+    }

@@ -1,0 +1,189 @@
+//! The item at a place of each list.
+ghost use Rattle.std.specs.Prelude.{◌≡◌, ◌+◌, ◌-◌, ◌<◌, ◌^◌, None, IfOk, IfSome};
+ghost use Rattle.awk_types.specs.Faults.{fault_told};
+ghost use Rattle.awk_types.specs.Gives.{Gives};
+ghost use Rattle.awk_lanes.specs.Places.{size_of, place_at, AreSpans, IsIndex};
+ghost use Rattle.awk_lanes.specs.declared.kind.Kind.TheVariants as Kind;
+ghost use Rattle.awk_layout.specs.Datum.{IsDatum, datum_of};
+ghost use Rattle.awk_layout.specs.Valid.{len, IsValid};
+ghost use Rattle.awk_gather.specs.Arrays.{IsGathered};
+ghost use Rattle.awk_axis.specs.Mapped.{IsMade};
+ghost use Rattle.awk_at_each.specs.Each as each;
+ghost use Rattle.awk_at_each.specs.Each.{item_place, AreItemPlaces};
+
+use awk_axis::{ListOp, Made, Refusal, Spoil, lift_at};
+use awk_columns::Lists;
+use awk_gather::gather;
+use awk_lanes::{Arena, Kind, Lane, LaneMaker, NoMemory, Steps, index_at, number, to_place};
+use awk_layout::{Array, Datum, Node};
+use awk_select::place_in;
+use awk_types::{Fault, Typ, copy_type};
+use std::alloc::Global;
+use std::sync::ledger::Ledger;
+
+/// The item at a place of each list at axis 1: of an array the lists directly inside its items, of
+/// a single value those inside its lists. A negative place counts from the end. Options, rows and
+/// unions are gone through, where null stays null.
+///
+/// `Axis` tells that there is no list somewhere, `Depth` and `Size` the limit that the type of the
+/// result passes, and `Index` that some list lacks the place. `Size` tells also that the array, or
+/// lists above, have more than 1,073,741,824 items.
+pub fn at_each<'a, L: Ledger>(
+    alloc: Global,
+    x: &Datum<'a>,
+    i: i64,
+    arena: &'a Arena,
+    steps: &mut Steps<L>,
+) -> Result<Datum<'a>, Fault>
+    requires datum { IsDatum x.now }
+    ensures answer { Gives datum_of fault_told result (each.at_each_of i (datum_of x.now)) }
+    ensures datum { IfOk result (λ made. IsDatum made) }
+{
+    lift_at(alloc, &ItemAt { place: i }, x, 1, arena, steps)
+}
+
+/// Where a list begins, and how many items it has.
+#[derive(Clone, Copy)]
+struct Span {
+    start: u64,
+    length: u64,
+}
+
+// List j. An empty one begins at 0.
+fn span_of<L: Ledger>(starts: &Lane, stops: &Lane, j: u64, steps: &mut Steps<L>) -> Span
+    requires within { j < size_of starts.now }
+    requires spans { AreSpans starts.now stops.now (2 ^ 63 - 1) }
+    ensures length { result.length ≡ place_at stops.now j - place_at starts.now j }
+    ensures start { 0 < result.length → result.start ≡ place_at starts.now j }
+    ensures small { result.start + result.length < 2 ^ 63 }
+{
+    let start = index_at(starts, j, steps);
+    let stop = index_at(stops, j, steps);
+    if start == stop {
+        Span {
+            start: 0,
+            length: 0,
+        }
+    } else {
+        Span {
+            start: to_place(start),
+            length: to_place(stop - start),
+        }
+    }
+}
+
+// Where in the content the item of list j lies.
+fn item_place<L: Ledger>(
+    starts: &Lane,
+    stops: &Lane,
+    i: i64,
+    j: u64,
+    steps: &mut Steps<L>,
+) -> Option<u64>
+    requires within { j < size_of starts.now }
+    requires spans { AreSpans starts.now stops.now (2 ^ 63 - 1) }
+    ensures place { result ≡ item_place i starts.now stops.now j }
+    ensures small { IfSome result (λ k. k < 2 ^ 63) }
+{
+    let span = span_of(starts, stops, j, steps);
+    match place_in(span.length, i) {
+        Some(k) => Some(span.start + k),
+        None => None,
+    }
+}
+
+// Where in the content the items of all lists lie, if each has one.
+#[tactic(auto, using(awk_lanes::proofs::MadeLanes::making))]
+fn item_places<'a, L: Ledger>(
+    starts: &Lane,
+    stops: &Lane,
+    i: i64,
+    arena: &'a Arena,
+    steps: &mut Steps<L>,
+) -> Result<Option<Lane<'a>>, NoMemory>
+    requires spans { AreSpans starts.now stops.now (2 ^ 63 - 1) }
+    ensures { IfOk result (AreItemPlaces i starts.now stops.now) }
+{
+    let n = starts.len();
+    let mut maker = LaneMaker::new(Kind::I64, n, arena)?;
+    for j in 0..n {
+        let Some(place) = item_place(starts, stops, i, j, steps) else {
+            return Ok(None);
+        };
+        maker.push(number(place));
+    }
+    Ok(Some(maker.finish()))
+}
+
+// The items of an array at places, as a node.
+fn items_at<'a, L: Ledger>(
+    alloc: Global,
+    x: &Array<'a>,
+    places: &Lane<'a>,
+    arena: &'a Arena,
+    steps: &mut Steps<L>,
+) -> Result<Node<'a>, NoMemory>
+    requires kind { places.now.kind ≡ Kind.I64 }
+    requires places { IsIndex places.now (len x.now) }
+    ensures gathered { IfOk result (λ made. IsGathered x.now places.now made) }
+    ensures valid { IfOk result (λ made. IsValid made) }
+{
+    let items = gather(alloc, x, places, arena, steps)?;
+    let _ = items.len();
+    items.node().copy(alloc)
+}
+
+// The item of each list at place i, or that some list has none.
+fn items_of<'a, L: Ledger>(
+    alloc: Global,
+    lists: &Lists<'a>,
+    i: i64,
+    arena: &'a Arena,
+    steps: &mut Steps<L>,
+) -> Result<Made<'a>, NoMemory>
+    ensures { IfOk result (IsMade (each.item_at i) lists.now.class lists.now.starts
+        lists.now.stops lists.now.content) }
+{
+    let content = lists.content();
+    let _ = content.len();
+    match item_places(lists.starts(), lists.stops(), i, arena, steps)? {
+        None => Ok(Made::Spoiled(Spoil::Index)),
+        Some(places) => Ok(Made::Singles(items_at(alloc, content, &places, arena, steps)?)),
+    }
+}
+
+/// The item of a list at a place.
+#[derive(Clone, Copy, Debug, PartialEq, Eq)]
+struct ItemAt {
+    place: i64,
+}
+
+impl ListOp for ItemAt {
+    ghost function = { λ f. each.item_at f.place };
+
+    fn refusal(&self, _item: &Typ) -> Option<Refusal> {
+        None
+    }
+
+    fn typ(&self, alloc: Global, item: &Typ) -> Result<Typ, NoMemory> {
+        copy_type(alloc, item)
+    }
+
+    fn gives_lists(&self) -> bool {
+        false
+    }
+
+    fn class(&self, class: Option<u64>) -> Option<u64> {
+        class
+    }
+
+    fn column<'a, L: Ledger>(
+        &self,
+        alloc: Global,
+        lists: &Lists<'a>,
+        arena: &'a Arena,
+        steps: &mut Steps<L>,
+    ) -> Result<Made<'a>, NoMemory> {
+        items_of(alloc, lists, self.place, arena, steps)
+    }
+}

@@ -1,0 +1,6 @@
+//! The item at a place of each list that lies directly inside the items of an array.
+#![tactic(auto)]
+
+mod each;
+
+pub use each::at_each;
