@@ -15,7 +15,9 @@ ghost use Rattle.awk_jagged_rows.specs.Rows.{AreAlike};
 
 use awk_columns::{Bounds, Lists};
 use awk_gather::{gather, gather_opt};
-use awk_jagged_places::{Kept, Sparse, Taken, Values, lengths_differ, put_lane, truths_of};
+use awk_jagged_places::{
+    Kept, Sparse, Taken, Values, kept_lane, lengths_differ, put_lane, truths_of,
+};
 use awk_lanes::{Arena, Kind, Lane, Steps, index_of, offsets_within};
 use awk_layout::{Array, Node};
 use awk_select::{Cells, cells_of, is_mask};
@@ -85,7 +87,7 @@ fn kept<'a, V: Values, L: Ledger>(
     match offsets_within(ITEM_LIMIT, n, picks, arena, steps)? {
         None => Ok(None),
         Some(offsets) => {
-            let lane = put_lane(n, offsets.total, picks, arena, steps)?;
+            let lane = kept_lane(n, offsets.total, picks, arena, steps)?;
             Ok(Some(Places {
                 offsets: offsets.lane,
                 lane,

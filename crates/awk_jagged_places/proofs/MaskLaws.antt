@@ -1,15 +1,15 @@
 -- Numbers of masks, while a lane of them is made.
-use Rattle.std.specs.Prelude.{◌≡◌, ℕ, zero, suc, ◌+◌, ◌<◌, ◌≤◌, List, [], ◌∷◌, ◌++◌, length}
-use Rattle.std.specs.Prelude.{map, true, false, ℤ}
+use Rattle.std.specs.Prelude.{◌≡◌, refl, ℕ, zero, suc, ◌+◌, ◌<◌, ◌≤◌, List, ◌++◌, length}
+use Rattle.std.specs.Prelude.{map, Bool, true, false, if◌then◌else◌, ℤ}
 use Rattle.std.proofs.Common.{arith, ap, sym, ◌∙◌, subst}
-use Rattle.std.proofs.lemmas.List.{append-nil, length-append}
+use Rattle.std.proofs.lemmas.List.{length-append}
 use Rattle.awk_types.specs.Value.{Value, int, truth, null, list, row, alt}
-use Rattle.awk_lanes.specs.Making.{Making, with_item}
+use Rattle.awk_lanes.specs.Making.{Making}
 use Rattle.awk_columns.specs.Lists.{Listed}
 use Rattle.awk_select.proofs.Lists.{each_of-more, length-each_of, each_of-room}
 use Rattle.awk_select.specs.Cells.{place_number}
 use Rattle.awk_select.specs.Picks.{mask_place}
-use Rattle.awk_jagged_places.specs.Kept.{HasRoom, Puts}
+use Rattle.awk_jagged_places.specs.Kept.{kept, Puts}
 use Rattle.awk_jagged_places.specs.Leaves.{mask_at, mask_first, mask_numbers}
 use Rattle.awk_jagged_rows.specs.Levels.{row_at}
 use Rattle.awk_jagged_rows.specs.Rows.{length_by, place_by}
@@ -48,37 +48,25 @@ length-more xs ws i k zs e =
 
 -- ---- one list
 
-pub puts-number : (xs ws : Listed) (i k : ℕ) (z : ℤ) (old mid new : Making)
-    → z ∷ [] ≡ mask_at xs ws i k → Puts (mask_first xs ws i k) old mid → new ≡ with_item mid z
+pub length-kept : (keep : Bool) (z : ℤ) → length (kept keep z) ≡ if keep then 1 else 0
+length-kept true z = refl
+length-kept false z = refl
+
+-- what one item more gives is put
+pub marks-put : (xs ws : Listed) (i k : ℕ) (us : List ℤ) (old mid new : Making)
+    → us ≡ mask_at xs ws i k → Puts (mask_first xs ws i k) old mid → Puts us mid new
     → Puts (mask_first xs ws i (k + 1)) old new
-puts-number xs ws i k z old mid new e p n =
+marks-put xs ws i k us old mid new e p n =
     subst (λ zs. Puts zs old new)
-    (ap (λ us. mask_first xs ws i k ++ us) e ∙ sym (first-more xs ws i k))
-    (put_more (mask_first xs ws i k) (z ∷ []) old mid new p n)
+    (ap (λ vs. mask_first xs ws i k ++ vs) e ∙ sym (first-more xs ws i k))
+    (put_more (mask_first xs ws i k) us old mid new p n)
 
-pub puts-nothing : (xs ws : Listed) (i k : ℕ) (old mid : Making) → [] ≡ mask_at xs ws i k
-    → Puts (mask_first xs ws i k) old mid → Puts (mask_first xs ws i (k + 1)) old mid
-puts-nothing xs ws i k old mid e p =
-    subst (λ zs. Puts zs old mid)
-    (sym (append-nil (mask_first xs ws i k)) ∙ ap (λ us. mask_first xs ws i k ++ us) e
-    ∙ sym (first-more xs ws i k)) p
-
-pub puts-room : (xs ws : Listed) (i k : ℕ) (z : ℤ) (old mid : Making)
-    → HasRoom (mask_numbers xs ws i) old → k < length_by ws i → z ∷ [] ≡ mask_at xs ws i k
+-- there is room for one number more
+pub marks-room : (xs ws : Listed) (i k : ℕ) (old mid : Making)
+    → length old.items + length (mask_numbers xs ws i) < old.room → k < length_by ws i
     → Puts (mask_first xs ws i k) old mid → length mid.items < mid.room
-puts-room xs ws i k z old mid r q e p =
+marks-room xs ws i k old mid r q p =
     let size : length mid.items ≡ length old.items + length (mask_first xs ws i k) =
     ap (λ (m : Making). length m.items) p ∙ length-append old.items (mask_first xs ws i k) in
     let room : mid.room ≡ old.room = ap (λ (m : Making). m.room) p in
-    omega (
-      arith,
-      size,
-      room,
-      r,
-      each_of-room (mask_at xs ws i) k (length_by ws i) q,
-      ap length e,
-    )
-
-pub puts-whole : (xs ws : Listed) (i k : ℕ) (old mid : Making) → k ≡ length_by ws i
-    → Puts (mask_first xs ws i k) old mid → Puts (mask_numbers xs ws i) old mid
-puts-whole xs ws i k old mid e p = subst (λ j. Puts (mask_first xs ws i j) old mid) e p
+    omega (arith, size, room, r, each_of-room (mask_at xs ws i) k (length_by ws i) q)

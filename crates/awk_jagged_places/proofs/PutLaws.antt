@@ -66,6 +66,13 @@ pub made-room : (f : ℕ → List ℤ) (n total i : ℕ) (m : Making)
 made-room f n total i m e p h =
     omega (arith, ap length h.items, h.room, e, length-each f n, each_of-room f i n p)
 
+-- the same with room for one number more
+pub made-room_more : (f : ℕ → List ℤ) (n total i : ℕ) (m : Making)
+    → total ≡ before (λ k. length (f k)) n → i < n → AreMade f (total + 1) i m
+    → length m.items + length (f i) < m.room
+made-room_more f n total i m e p h =
+    omega (arith, ap length h.items, h.room, e, length-each f n, each_of-room f i n p)
+
 pub made-more : (f : ℕ → List ℤ) (n i : ℕ) (old new : Making) → AreMade f n i old
     → Puts (f i) old new → AreMade f n (i + 1) new
 made-more f n i old new h p = record {

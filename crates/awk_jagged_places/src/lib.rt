@@ -2,18 +2,19 @@
 //!
 //! `Kept` are the places where a mask is true, and `Taken` those that an index names, each over the
 //! ends of the lists (`awk_columns`) and over values in the form in which they lie (`Values`).
-//! `put_lane` makes one lane of them all, and `lengths_differ` tells whether the lists of a mask
-//! are as long as those that it picks from.
+//! `put_lane` and `kept_lane` make one lane of them all, and `lengths_differ` tells whether the
+//! lists of a mask are as long as those that it picks from.
 #![tactic(auto)]
 
 mod differing;
 mod masks;
 mod places;
 mod put;
+mod sieve;
 mod values;
 
 pub use differing::lengths_differ;
-pub use masks::Kept;
+pub use masks::{Kept, kept_lane};
 pub use places::Taken;
 pub use put::{NumberLists, put_lane};
 pub use values::{Sparse, Truths, Values, truths_of};

@@ -1,19 +1,22 @@
 //! Picks of a mask, whose lists stand in pairs with those that are picked from.
-ghost use Rattle.std.specs.Prelude.{◌≡◌, ◌<◌, ◌^◌, length, map, IfSome};
-ghost use Rattle.awk_lanes.specs.Numbers.{IsOf};
+ghost use Rattle.std.specs.Prelude.{◌≡◌, ◌+◌, ◌<◌, ◌≤◌, ◌^◌, length, map, if◌then◌else◌, IfOk};
+ghost use Rattle.awk_types.specs.ItemLimit.{item_limit};
+ghost use Rattle.awk_lanes.specs.Counted.{before};
+ghost use Rattle.awk_lanes.specs.Numbers.{int_of, IsOf};
 ghost use Rattle.awk_lanes.specs.Places.{size_of};
 ghost use Rattle.awk_lanes.specs.declared.kind.Kind.TheVariants as Kinds;
 ghost use Rattle.awk_layout.specs.Valid.{len};
 ghost use Rattle.awk_gather.specs.Arrays.{array_item};
-ghost use Rattle.awk_select.specs.Cells.{numbers_shown, place_number};
+ghost use Rattle.awk_select.specs.Cells.{place_number};
 ghost use Rattle.awk_select.specs.Picks.{mask_place};
+ghost use Rattle.awk_jagged_places.specs.Kept.{kept, IsPutLane, Puts};
 ghost use Rattle.awk_jagged_places.specs.Leaves.{AreLeaves, mask_numbers};
 ghost use Rattle.awk_jagged_rows.specs.Rows.{AreAlike};
 
-use crate::put::NumberLists;
+use crate::sieve::Sieve;
 use crate::values::Values;
 use awk_columns::Bounds;
-use awk_lanes::{IndexMaker, Lengths, Num, Steps, number};
+use awk_lanes::{Arena, Lane, Lengths, NoMemory, Num, Steps, number};
 use std::sync::ledger::Ledger;
 
 /// The places in a content where the lists of a mask are true.
@@ -24,35 +27,66 @@ pub struct Kept<'r, 's, 'a, V: Values> {
     pub cells: &'r V,
 }
 
+/// What a value of a mask gives: a number, if it is kept.
+#[derive(Clone, Copy)]
+pub(crate) struct Mark {
+    pub(crate) keep: bool,
+    pub(crate) number: Num,
+}
+
 impl<'r, 's, 'a, V: Values> Kept<'r, 's, 'a, V> {
     /// What the value at a place of the mask gives: the place in the content that stands beside it
     /// where it is true, and -1 where it is null.
     #[inline(always)]
-    fn number<L: Ledger>(&self, place: u64, beside: u64, steps: &mut Steps<L>) -> Option<Num>
+    fn mark<L: Ledger>(&self, place: u64, beside: u64, steps: &mut Steps<L>) -> Mark
         requires leaves { AreLeaves self.now.xs.now self.now.ws.now (V.cells self.now.cells.now) }
         requires within { place < len self.now.ws.now.content }
         requires small { beside < 2 ^ 63 }
-        ensures kind { IfSome result (λ z. IsOf Kinds.I64 z) }
-        ensures numbers { numbers_shown result
+        ensures kind { IsOf Kinds.I64 result.number }
+        ensures numbers { kept result.keep (int_of result.number)
             ≡ map place_number (mask_place beside (array_item self.now.ws.now.content place)) }
     {
         match self.cells.value(place, steps) {
-            None => Some(Num::Int(-1)),
-            Some(Num::Truth(true)) => Some(number(beside)),
-            Some(_) => None,
+            None => Mark {
+                keep: true,
+                number: Num::Int(-1),
+            },
+            Some(Num::Truth(true)) => Mark {
+                keep: true,
+                number: number(beside),
+            },
+            Some(_) => Mark {
+                keep: false,
+                number: number(beside),
+            },
+        }
+    }
+
+    /// Puts the places that list i gives.
+    #[inline(always)]
+    fn put_list<L: Ledger>(&self, i: u64, made: &mut Sieve, steps: &mut Steps<L>)
+        requires leaves { AreLeaves self.now.xs.now self.now.ws.now (V.cells self.now.cells.now) }
+        requires alike { AreAlike self.now.xs.now self.now.ws.now }
+        requires list { i < size_of self.now.ws.now.starts }
+        requires room { length made.old.items
+            + length (mask_numbers self.now.xs.now self.now.ws.now i) < made.old.room }
+        ensures { Puts (mask_numbers self.now.xs.now self.now.ws.now i) made.old made.new }
+    {
+        let from = self.xs.span_of(i);
+        let by = self.ws.span_of(i);
+        for k in 0..by.length {
+            let mark = self.mark(by.start + k, from.start + k, steps);
+            made.push_if(mark.keep, mark.number);
         }
     }
 }
 
-/// 1 where there is a number, else 0.
+/// 1 for true, else 0.
 #[inline(always)]
-fn one_if(x: Option<Num>) -> u64
-    ensures { result ≡ length (numbers_shown x) }
+fn one_if(keep: bool) -> u64
+    ensures { result ≡ if keep then 1 else 0 }
 {
-    match x {
-        None => 0,
-        Some(_) => 1,
-    }
+    if keep { 1 } else { 0 }
 }
 
 impl<'r, 's, 'a, V: Values> Lengths for Kept<'r, 's, 'a, V> {
@@ -68,27 +102,31 @@ impl<'r, 's, 'a, V: Values> Lengths for Kept<'r, 's, 'a, V> {
         let by = self.ws.span_of(i);
         let mut count = 0;
         for k in 0..by.length {
-            count += one_if(self.number(by.start + k, from.start + k, steps));
+            count += one_if(self.mark(by.start + k, from.start + k, steps).keep);
         }
         count
     }
 }
 
-impl<'r, 's, 'a, V: Values> NumberLists for Kept<'r, 's, 'a, V> {
-    ghost numbers = { λ f. mask_numbers f.xs.now f.ws.now };
-
-    ghost size = { λ f. size_of f.ws.now.starts };
-
-    ghost IsReady = { λ f.
-        AreLeaves f.xs.now f.ws.now (V.cells f.cells.now) × AreAlike f.xs.now f.ws.now };
-
-    fn put_list<L: Ledger>(&self, i: u64, maker: &mut IndexMaker, steps: &mut Steps<L>) {
-        let from = self.xs.span_of(i);
-        let by = self.ws.span_of(i);
-        for k in 0..by.length {
-            if let Some(number) = self.number(by.start + k, from.start + k, steps) {
-                maker.push(number);
-            }
-        }
+/// The places where the first n lists of a mask are true, so many together.
+pub fn kept_lane<'a, V: Values, L: Ledger>(
+    n: u64,
+    total: u64,
+    picks: &Kept<'_, '_, 'a, V>,
+    arena: &'a Arena,
+    steps: &mut Steps<L>,
+) -> Result<Lane<'a>, NoMemory>
+    requires leaves { AreLeaves picks.now.xs.now picks.now.ws.now (V.cells picks.now.cells.now) }
+    requires alike { AreAlike picks.now.xs.now picks.now.ws.now }
+    requires within { n ≤ size_of picks.now.ws.now.starts }
+    requires total { total ≡ before
+        (λ i. length (mask_numbers picks.now.xs.now picks.now.ws.now i)) n }
+    requires few { total ≤ item_limit }
+    ensures { IfOk result (IsPutLane (mask_numbers picks.now.xs.now picks.now.ws.now) n) }
+{
+    let mut made = Sieve::new(total + 1, arena)?;
+    for i in 0..n {
+        picks.put_list(i, &mut made, steps);
     }
+    Ok(made.finish())
 }

@@ -8,5 +8,6 @@ pub mod SlotLaws
 pub mod PlaceLists
 pub mod RunLaws
 pub mod ProductLaws
+pub mod Quotients
 pub mod GroupLaws
 pub mod PairLaws

@@ -6,6 +6,8 @@ use Rattle.std.specs.List.{range_with_len, flat_map}
 use Rattle.std.proofs.Common.{arith, ap, ap₂, sym, ◌∙◌, append_assoc}
 use Rattle.std.proofs.Math.Nat.{mul_assoc, mul-div_cancel}
 use Rattle.std.proofs.lemmas.Grind.{flat_map-append}
+use Rattle.std.proofs.lemmas.List.{map-id}
+use Rattle.std.proofs.lemmas.List.Concat.{flat_map_single}
 use Rattle.std.proofs.lemmas.Simd.{map-map}
 use Rattle.awk_places.specs.Places.{before_each, place_lists, place_count}
 use Rattle.awk_places.specs.Products.{each_times, times, share}
@@ -126,6 +128,15 @@ slot-runs (m ∷ ms) (suc j) c l =
     ∙ slot-runs ms j c (omega (arith, l))) (range_with_len 0 m)
     ∙ flat-always 0 m (count_before ms j)
     (each_times (count_after ms j) c (get_or ms j 0))
+
+-- ---- places that are put once
+
+each_once : (a n : ℕ) → each_times 1 a n ≡ range_with_len a n
+each_once a n =
+    flat_map_single (λ k. k) (range_with_len a n) ∙ map-id (range_with_len a n)
+
+pub span_once : (m a n : ℕ) → m ≡ 1 → range_with_len a n ≡ each_times m a n
+span_once m a n e = sym (each_once a n) ∙ ap (λ k. each_times k a n) (sym e)
 
 -- ---- by shares of what is left
 

@@ -66,3 +66,10 @@ all_begun rep j left s e = flat_map (begun_of rep j left s e) (range_with_len 0 
 -- list i with no place of a tuple yet
 abbrev pub first_begun : Column → Column → ℕ → Begun
 first_begun s e i = record { least = place_at s i; stop = place_at e i }
+
+-- the places in both slots of the pairs of list i
+abbrev pub first_places : Bool → Column → Column → ℕ → List ℕ
+first_places rep s e i = pair_firsts rep (first_begun s e i)
+
+abbrev pub second_places : Bool → Column → Column → ℕ → List ℕ
+second_places rep s e i = pair_seconds rep (first_begun s e i)

@@ -39,6 +39,19 @@ pub(crate) fn reserved(replacement: bool, left: u64) -> u64
     if replacement { 0 } else { left }
 }
 
+/// List i with no place of a tuple yet.
+#[inline(always)]
+pub(crate) fn begun_at<L: Ledger>(firsts: &Lane, ends: &Lane, i: u64, steps: &mut Steps<L>) -> Begun
+    requires places { ArePlaces firsts.now ends.now }
+    requires within { i < size_of firsts.now }
+    ensures begun { result ≡ spec.first_begun firsts.now ends.now i }
+    ensures fits { Fits result }
+{
+    let least = place_of(firsts, i, steps);
+    let stop = place_of(ends, i, steps);
+    Begun { least, stop }
+}
+
 /// Each list with no place of a tuple yet.
 pub(crate) fn first_begun<L: Ledger>(
     alloc: Global,
@@ -53,10 +66,7 @@ pub(crate) fn first_begun<L: Ledger>(
 {
     let mut made = Vec::with_capacity(alloc, firsts.len() as usize)?;
     for i in 0..firsts.len() {
-        made.push(Begun {
-            least: place_of(firsts, i, steps),
-            stop: place_of(ends, i, steps),
-        })?;
+        made.push(begun_at(firsts, ends, i, steps))?;
     }
     Ok(made)
 }

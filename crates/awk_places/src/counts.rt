@@ -6,6 +6,21 @@ ghost use Rattle.awk_places.specs.Paths.{paths};
 
 use awk_types::ITEM_LIMIT;
 
+/// A quotient. The first two numbers of a row, which pairs ask for, are divided by 1 and by 2.
+#[tactic(auto, using(crate::proofs::Quotients::dividing))]
+fn quotient(n: u64, parts: u64) -> u64
+    requires { 0 < parts }
+    ensures { result ≡ n / parts }
+{
+    if parts == 1 {
+        return n;
+    }
+    if parts == 2 {
+        return n / 2;
+    }
+    n / parts
+}
+
 /// The next number of a row of paths, where 64 bits hold what is divided.
 fn small_next(count: u64, a: u64, j: u64) -> u64
     requires few { count ≤ item_limit }
@@ -13,8 +28,7 @@ fn small_next(count: u64, a: u64, j: u64) -> u64
     requires turn { j < 2 ^ 32 }
     ensures { result ≡ count * (a + j + 1) / (j + 1) }
 {
-    let product = count * (a + j + 1);
-    product / (j + 1)
+    quotient(count * (a + j + 1), j + 1)
 }
 
 /// The next number of a row of paths.

@@ -1,5 +1,5 @@
 //! The places in one slot of tuples, as runs of equal places.
-ghost use Rattle.std.specs.Prelude.{◌≡◌, ◌-◌, ◌<◌, ◌≤◌, ◌^◌, ◌++◌, IfOk};
+ghost use Rattle.std.specs.Prelude.{◌≡◌, ◌-◌, ◌/◌, ◌<◌, ◌≤◌, ◌^◌, ◌++◌, IfOk};
 ghost use Rattle.std.specs.List.{flat_map, range_with_len};
 ghost use Rattle.awk_lanes.specs.Words.{column, integers};
 ghost use Rattle.awk_lanes.specs.declared.kind.Kind.TheVariants as Kinds;
@@ -7,17 +7,29 @@ ghost use Rattle.awk_places.specs.Products as spec;
 ghost use Rattle.awk_places.specs.Products.{AreCounts, AreSpansOf, each_times, times};
 ghost use Rattle.awk_places.specs.Runs.{slot_runs, IsSlotOf};
 
-use crate::maker::{PlaceMaker, put_times};
+use crate::maker::{PlaceMaker, put_places, put_times};
 use crate::reading::place_of;
 use awk_lanes::{Arena, Lane, Steps};
 use awk_types::NoMemory;
 use std::sync::ledger::Ledger;
 
+/// How many of a count fall to each of some parts. One each needs no division.
+#[tactic(auto, using(crate::proofs::Quotients::sharing))]
+fn part_of(count: u64, parts: u64) -> u64
+    requires { 0 < parts }
+    ensures { result ≡ count / parts }
+{
+    if parts == count {
+        return 1;
+    }
+    count / parts
+}
+
 /// How many of a count fall to each of so many parts.
 pub(crate) fn share(count: u64, parts: u64) -> u64
     ensures { result ≡ spec.share count parts }
 {
-    if parts == 0 { 0 } else { count / parts }
+    if parts == 0 { 0 } else { part_of(count, parts) }
 }
 
 /// Adds each place from a first one below an end so many times.
@@ -30,6 +42,18 @@ fn put_each(made: &mut PlaceMaker, first: u64, end: u64, after: u64) -> Result<(
         put_times(made, place, after)?;
     }
     Ok(())
+}
+
+/// The same, without a loop a place where each is put once.
+fn put_span(made: &mut PlaceMaker, first: u64, end: u64, after: u64) -> Result<(), NoMemory>
+    requires { end ≤ 2 ^ 63 }
+    ensures { IfOk result (λ _. made.new
+        ≡ made.old ++ each_times after first (end - first)) }
+{
+    if after == 1 {
+        return put_places(made, first, end);
+    }
+    put_each(made, first, end, after)
 }
 
 /// Adds all these places so many times.
@@ -45,7 +69,7 @@ fn put_runs(
         ≡ made.old ++ times before (each_times after first (end - first))) }
 {
     for i in 0..before {
-        put_each(made, first, end, after)?;
+        put_span(made, first, end, after)?;
     }
     Ok(())
 }

@@ -8,7 +8,7 @@ ghost use Rattle.awk_places.specs.Slots.{ArePlaces, tuple_count, slot_lanes};
 use crate::begun::{first_begun, last_lane, longer, slot_lane};
 use crate::counts::count_rising;
 use crate::offsets::{TupleCounts, tuple_offsets};
-use crate::pairs::{first_lane, second_lane};
+use crate::pairs::{both_lanes, first_lane, second_lane};
 use crate::reading::place_of;
 use awk_lanes::{Arena, Lane, Lanes, Offsets, Steps};
 use awk_types::NoMemory;
@@ -97,6 +97,9 @@ pub fn rising_lanes<'a, L: Ledger>(
     if rising.slots == 1 {
         return one_lane(alloc, rising, total, firsts, ends, arena, steps);
     }
+    if rising.slots == 2 {
+        return two_lanes(alloc, rising, total, firsts, ends, arena, steps);
+    }
     more_lanes(alloc, rising, total, firsts, ends, arena, steps)
 }
 
@@ -148,5 +151,27 @@ fn one_lane<'a, L: Ledger>(
     let begun = first_begun(alloc, firsts, ends, steps)?;
     let mut lanes = Lanes::new(alloc);
     lanes.push(last_lane(total, &begun, arena)?)?;
+    Ok(lanes)
+}
+
+/// The lanes of the slots of pairs.
+fn two_lanes<'a, L: Ledger>(
+    alloc: Global,
+    rising: Rising,
+    total: u64,
+    firsts: &Lane<'a>,
+    ends: &Lane<'a>,
+    arena: &'a Arena,
+    steps: &mut Steps<L>,
+) -> Result<Lanes<'a>, NoMemory>
+    requires two { rising.slots ≡ 2 }
+    requires places { ArePlaces firsts.now ends.now }
+    ensures { IfOk result (λ r.
+        r ≡ slot_lanes rising.replacement rising.slots firsts.now ends.now) }
+{
+    let made = both_lanes(rising.replacement, total, firsts, ends, arena, steps)?;
+    let mut lanes = Lanes::new(alloc);
+    lanes.push(made.first)?;
+    lanes.push(made.second)?;
     Ok(lanes)
 }

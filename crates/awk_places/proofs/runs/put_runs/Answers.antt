@@ -6,5 +6,5 @@ use Rattle.awk_places.proofs.runs.put_runs.Goals as goal
 pub loop-i-preserved : goal.loop-i-preserved
 loop-i-preserved c =
     times_put c.loop-i.i (each_times c.args.after c.args.first (c.args.end - c.args.first))
-    c.args.made.now c.loop-i.made c.put_each.new.made c.loop-i.invariant
-    c.in_ok-put_each.ensures
+    c.args.made.now c.loop-i.made c.put_span.new.made c.loop-i.invariant
+    c.in_ok-put_span.ensures
