@@ -13,11 +13,9 @@ ghost use Rattle.awk_pair_levels.specs.Shares.{AreRepeats, IsCounted, IsLaid, Ar
 use crate::alike::{all_lists, are_alike, lead_of, level_class};
 use crate::shares::{Share, no_places, shares_of};
 use crate::whole::items_in;
-use awk_columns::Lists;
+use awk_columns::{Bounds, Lists, places_of};
 use awk_gather::gather;
-use awk_lanes::{
-    Arena, Items, Kind, Lane, Lengths, NoMemory, Num, Steps, items_of, number, offsets_within,
-};
+use awk_lanes::{Arena, Items, Lane, Lengths, NoMemory, Num, Steps, number, offsets_within};
 use awk_layout::{Array, Arrays};
 use awk_types::ITEM_LIMIT;
 use std::alloc::Global;
@@ -41,11 +39,11 @@ pub enum Below<'a> {
 
 /// The place of each list, as often as it has items.
 #[derive(Drop)]
-struct Repeats<'b, 'a> {
-    lists: &'b Lists<'a>,
+struct Repeats<'b, 'r, 'a> {
+    lists: &'b Bounds<'r, 'a>,
 }
 
-impl<'b, 'a> Lengths for Repeats<'b, 'a> {
+impl<'b, 'r, 'a> Lengths for Repeats<'b, 'r, 'a> {
     ghost use Rattle.awk_lanes.specs.Places.{size_of};
     ghost use Rattle.awk_pair_levels.specs.Shares.{length_of};
 
@@ -53,12 +51,12 @@ impl<'b, 'a> Lengths for Repeats<'b, 'a> {
 
     ghost size = { λ f. size_of f.lists.now.starts };
 
-    fn length<L: Ledger>(&self, i: u64, steps: &mut Steps<L>) -> u64 {
-        self.lists.length_at(i, steps)
+    fn length<L: Ledger>(&self, i: u64, _steps: &mut Steps<L>) -> u64 {
+        self.lists.length_at(i)
     }
 }
 
-impl<'b, 'a> Items for Repeats<'b, 'a> {
+impl<'b, 'r, 'a> Items for Repeats<'b, 'r, 'a> {
     ghost use Rattle.std.specs.Prelude.{pos};
     ghost use Rattle.awk_lanes.specs.declared.kind.Kind.TheVariants as Kind;
 
@@ -74,7 +72,7 @@ impl<'b, 'a> Items for Repeats<'b, 'a> {
 
 /// The place of each of the lead's lists, as often as it has items, where some operand gives items.
 fn repeats_of<'a, L: Ledger>(
-    lead: &Lists,
+    lead: &Bounds,
     count: u64,
     shares: &[Share<'a>],
     arena: &'a Arena,
@@ -90,7 +88,7 @@ fn repeats_of<'a, L: Ledger>(
     }
     let n = lead.len();
     let repeats = Repeats { lists: lead };
-    let places = items_of(Kind::I64, n, count, &repeats, arena, steps)?;
+    let places = places_of(n, count, &repeats, arena, steps)?;
     Ok(places)
 }
 
@@ -122,7 +120,7 @@ fn column_below<'a, L: Ledger>(
 /// What each operand gives to the rows below.
 fn columns_below<'a, L: Ledger>(
     alloc: Global,
-    lead: &Lists,
+    lead: &Bounds,
     count: u64,
     shares: &[Share<'a>],
     arena: &'a Arena,
@@ -147,7 +145,7 @@ fn columns_below<'a, L: Ledger>(
 fn rows_by<'a, L: Ledger>(
     alloc: Global,
     n: u64,
-    lead: &Lists,
+    lead: &Lists<'a>,
     shares: &[Share<'a>],
     arena: &'a Arena,
     steps: &mut Steps<L>,
@@ -159,10 +157,11 @@ fn rows_by<'a, L: Ledger>(
     ensures { IfOk result (IsShared n shares.now) }
 {
     let _ = lead.len();
-    match offsets_within(ITEM_LIMIT, n, lead, arena, steps)? {
+    let bounds = Bounds::new(alloc, lead, arena, steps)?;
+    match offsets_within(ITEM_LIMIT, n, &bounds, arena, steps)? {
         None => Ok(Below::TooMany),
         Some(offsets) => {
-            let arrays = columns_below(alloc, lead, offsets.total, shares, arena, steps)?;
+            let arrays = columns_below(alloc, &bounds, offsets.total, shares, arena, steps)?;
             Ok(Below::Rows {
                 class: level_class(shares),
                 offsets: offsets.lane,

@@ -1,1 +1,2 @@
+mod OneOption
 mod PresenceLaws

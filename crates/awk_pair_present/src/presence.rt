@@ -11,7 +11,8 @@ ghost use Rattle.awk_pair_present.specs.Presence.{AreKeptOf, AllKeptOf, IsTaken,
 
 use awk_gather::gather;
 use awk_lanes::{
-    Arena, Kind, Lane, NoMemory, Num, Numbers, Steps, made_lane, number, option_place_in, place_in,
+    Arena, Index, Kind, Lane, NoMemory, Num, Numbers, Steps, index_of, made_lane, number, place_in,
+    to_place,
 };
 use awk_layout::{Array, Arrays};
 use awk_open::{Opened, opened};
@@ -25,7 +26,10 @@ pub(crate) enum Presence<'a> {
     /// All of them are there.
     All(Array<'a>),
     /// Null where the index is negative, else the content's item there.
-    Indexed { index: Lane<'a>, content: Array<'a> },
+    Indexed {
+        index: Index<'a>,
+        content: Array<'a>,
+    },
 }
 
 /// An operand's items by those that are there.
@@ -42,7 +46,13 @@ fn presence_of<'a, L: Ledger>(
         return Ok(Presence::All(x.copy(alloc)?));
     }
     match opened(alloc, x, arena, steps)? {
-        Opened::Option { index, content } => Ok(Presence::Indexed { index, content }),
+        Opened::Option { index, content } => {
+            let places = index_of(alloc, &index, arena, steps)?;
+            Ok(Presence::Indexed {
+                index: places,
+                content,
+            })
+        }
         _ => unreachable!(),
     }
 }
@@ -67,30 +77,26 @@ pub(crate) fn presences_of<'a, L: Ledger>(
 }
 
 /// Whether an operand's item at a place is there.
-fn is_there<L: Ledger>(presence: &Presence, n: u64, i: u64, steps: &mut Steps<L>) -> bool
+#[inline(always)]
+fn is_there(presence: &Presence, n: u64, i: u64) -> bool
     requires long { IsAsLong n presence.now }
     requires within { i < n }
     ensures { result ≡ is_there_at i presence.now }
 {
     match presence {
         Presence::All(_) => true,
-        Presence::Indexed { index, .. } => option_place_in(index, i, steps).is_some(),
+        Presence::Indexed { index, .. } => index.option_place(i).is_some(),
     }
 }
 
 /// Whether all items of a row are there.
-pub(crate) fn are_there<L: Ledger>(
-    presences: &[Presence],
-    n: u64,
-    i: u64,
-    steps: &mut Steps<L>,
-) -> bool
+pub(crate) fn are_there(presences: &[Presence], n: u64, i: u64) -> bool
     requires long { AreAsLong n presences.now }
     requires within { i < n }
     ensures { result ≡ are_there_at presences.now i }
 {
     for j in 0..presences.len() {
-        if !is_there(&presences[j], n, i, steps) {
+        if !is_there(&presences[j], n, i) {
             return false;
         }
     }
@@ -100,7 +106,7 @@ pub(crate) fn are_there<L: Ledger>(
 /// Where the items at places lie among those that are there.
 #[derive(Drop)]
 struct PlacesThere<'b, 'a> {
-    index: &'b Lane<'a>,
+    index: &'b Index<'a>,
     places: &'b Lane<'a>,
 }
 
@@ -120,7 +126,7 @@ impl<'b, 'a> Numbers for PlacesThere<'b, 'a> {
 
     fn number<L: Ledger>(&self, q: u64, steps: &mut Steps<L>) -> Num {
         let i = place_in(self.places, q, steps);
-        number(place_in(self.index, i, steps))
+        number(to_place(self.index.number(i)))
     }
 }
 

@@ -1,6 +1,9 @@
 //! The rows of operands that have no null.
-ghost use Rattle.std.specs.Prelude.{◌≡◌, ◌≤◌, IfOk};
+ghost use Rattle.std.specs.Prelude.{◌≡◌, ◌≤◌, ◌∷◌, [], true, IfOk, IfSome};
 ghost use Rattle.awk_types.specs.ItemLimit.{item_limit};
+ghost use Rattle.awk_types.specs.Simple.{is_option};
+ghost use Rattle.awk_layout.specs.Typing.{array_type};
+ghost use Rattle.awk_layout.specs.Valid.{len};
 ghost use Rattle.awk_open.specs.Opened.{AreLong};
 ghost use Rattle.awk_layout.specs.Layout.{Layout};
 ghost use Rattle.std.specs.Prelude.{List};
@@ -8,11 +11,14 @@ ghost use Rattle.awk_pair_present.specs.Presence.{AreAsLong, ArePresences};
 ghost use Rattle.awk_pair_present.specs.Present.{IsPresentRows};
 
 use crate::presence::{Presence, all_taken, are_there, presences_of};
+use awk_columns::{in_order, places_of};
 use awk_lanes::{
-    Arena, Items, Kind, Lane, Lengths, NoMemory, Num, Numbers, Steps, items_of, made_lane, number,
+    Arena, Items, Kind, Lane, Lengths, NoMemory, Num, Numbers, Steps, made_lane, number,
     offsets_of, place_in,
 };
-use awk_layout::Arrays;
+use awk_layout::{Array, Arrays};
+use awk_open::Opened;
+use awk_types::is_optional;
 use std::alloc::Global;
 use std::sync::ledger::Ledger;
 
@@ -41,8 +47,8 @@ impl<'b, 'a> Lengths for KeptRows<'b, 'a> {
 
     ghost IsReady = { λ f. AreAsLong f.rows f.presences.now × (f.rows < 2 ^ 63) };
 
-    fn length<L: Ledger>(&self, i: u64, steps: &mut Steps<L>) -> u64 {
-        if are_there(self.presences, self.rows, i, steps) {
+    fn length<L: Ledger>(&self, i: u64, _steps: &mut Steps<L>) -> u64 {
+        if are_there(self.presences, self.rows, i) {
             1
         } else {
             0
@@ -87,7 +93,7 @@ impl<'b, 'a> Numbers for KeptCounts<'b, 'a> {
         × (f.offsets.now ≡ offsets_by (kept_length f.rows.now.presences.now) f.rows.now.rows) };
 
     fn number<L: Ledger>(&self, i: u64, steps: &mut Steps<L>) -> Num {
-        if are_there(self.rows.presences, self.rows.rows, i, steps) {
+        if are_there(self.rows.presences, self.rows.rows, i) {
             number(place_in(self.offsets, i, steps))
         } else {
             Num::Int(-1)
@@ -111,7 +117,7 @@ fn kept_rows<'a, L: Ledger>(
     let rows = KeptRows { presences, rows: n };
     let offsets = offsets_of(n, &rows, arena, steps)?;
     let count = offsets.total;
-    let places = items_of(Kind::I64, n, count, &rows, arena, steps)?;
+    let places = places_of(n, count, &rows, arena, steps)?;
     let counts = KeptCounts {
         rows: &rows,
         offsets: &offsets.lane,
@@ -125,7 +131,46 @@ fn kept_rows<'a, L: Ledger>(
     })
 }
 
-/// The rows without a null.
+/// The only operand, where its items may be null.
+fn only_option<'b, 'a>(xs: &'b Arrays<'a>) -> Option<&'b Array<'a>>
+    ensures only { IfSome result (λ x. xs.now ≡ x.now ∷ []) }
+    ensures option { IfSome result (λ x. is_option (array_type x.now) ≡ true) }
+{
+    if xs.len() != 1 {
+        return None;
+    }
+    let x = xs.get(0);
+    if is_optional(x.typ()) { Some(x) } else { None }
+}
+
+/// The items of one operand that are there: its option in order.
+fn present_items<'a, L: Ledger>(
+    alloc: Global,
+    n: u64,
+    x: &Array<'a>,
+    arena: &'a Arena,
+    steps: &mut Steps<L>,
+) -> Result<PresentRows<'a>, NoMemory>
+    requires long { len x.now ≡ n }
+    requires option { is_option (array_type x.now) ≡ true }
+    ensures { IfOk result (IsPresentRows n (x.now ∷ [])) }
+{
+    match in_order(alloc, x, arena, steps)? {
+        Opened::Option { index, content } => {
+            let count = content.len();
+            let mut arrays = Arrays::new(alloc);
+            arrays.push(content)?;
+            Ok(PresentRows {
+                index,
+                count,
+                arrays,
+            })
+        }
+        _ => unreachable!(),
+    }
+}
+
+/// The rows without a null. One operand alone is opened in order, and no row is looked at.
 pub fn present_rows<'a, L: Ledger>(
     alloc: Global,
     n: u64,
@@ -137,6 +182,9 @@ pub fn present_rows<'a, L: Ledger>(
     requires few { n ≤ item_limit }
     ensures { IfOk result (IsPresentRows n xs.now) }
 {
+    if let Some(x) = only_option(xs) {
+        return present_items(alloc, n, x, arena, steps);
+    }
     let presences = presences_of(alloc, n, xs, arena, steps)?;
     let rows = kept_rows(alloc, n, &presences, arena, steps)?;
     Ok(rows)

@@ -1,8 +1,13 @@
-use Rattle.std.proofs.Common.{◌∙◌, ap, sym}
+use Rattle.std.proofs.Common.{◌∙◌, ap, sym, subst}
 use Rattle.awk_types.specs.Simple.{is_option}
+use Rattle.awk_lanes.specs.Column.{Column}
+use Rattle.awk_layout.specs.Valid.{len}
 use Rattle.awk_open.specs.Inner.{IsInner}
 use Rattle.awk_open.specs.Opened.{IsOpened}
 use Rattle.awk_open.specs.declared.opening.Opened.TheVariants.{Option as Optional}
+use Rattle.awk_pair_present.specs.Presence.{IsPresence}
+use Rattle.awk_pair_present.specs.declared.presence.Presence.TheVariants.{Indexed}
+use Rattle.awk_pair_present.proofs.OneOption.{option_index_kind}
 use Rattle.awk_pair_present.proofs.PresenceLaws.{whole_presence, indexed_presence}
 use Rattle.awk_pair_present.proofs.presence.presence_of.Goals as goal
 
@@ -11,10 +16,19 @@ returns-then-not-is_optional g c =
     whole_presence c.args.x.now c.in_ok-copy.field-0 c.in_ok-copy.ensures c.len.ensures.valid
     (ap is_option (sym c.typ.ensures.typ) ∙ sym c.is_optional.ensures ∙ c.if-not-is_optional.true)
 
+pub index_of-requires : goal.index_of-requires
+index_of-requires g c =
+    let o : IsOpened c.args.x.now (Optional c.in-Option.index c.in-Option.content) =
+    rw c.in-Option.is at c.in_ok-index.ensures.opened in
+    option_index_kind c.in-Option.index.kind o.valid.1.kind
+
 pub returns : goal.returns
 returns g c =
     let o : IsOpened c.args.x.now (Optional c.in-Option.index c.in-Option.content) =
     rw c.in-Option.is at c.in_ok-index.ensures.opened in
     let i : IsInner (Optional c.in-Option.index c.in-Option.content) =
     rw c.in-Option.is at c.in_ok-index.ensures.inner in
-    indexed_presence c.args.x.now c.in-Option.index c.in-Option.content o i
+    subst
+    (λ (j : Column). IsPresence (len c.args.x.now) c.args.x.now (Indexed j c.in-Option.content))
+    (sym c.in_ok-places-in-Option.ensures)
+    (indexed_presence c.args.x.now c.in-Option.index c.in-Option.content o i)
