@@ -7,16 +7,10 @@ use Rattle.std.specs.List.{count_by}
 use Rattle.std.proofs.lemmas.Bool.{and_parts, leb-true}
 use Rattle.std.proofs.lemmas.Int.{ints}
 use Rattle.std.proofs.lemmas.List.Sums.{sum_by-cons, count_by-le-length}
-use Rattle.awk_lanes.specs.Counted.{items_lane}
-use Rattle.awk_lanes.specs.Made.{lane_of}
-use Rattle.awk_lanes.specs.declared.kind.Kind.TheVariants.{I64}
-use Rattle.awk_bins.specs.Bins.{intervals, count_in, count_under, count_over, AreBinned, AreColumns}
-use Rattle.awk_bins.specs.declared.bins.Binned.{Binned}
+use Rattle.awk_bins.specs.Bins.{intervals, count_in, count_under, count_over}
 use Rattle.awk_bins.specs.Edges.{are_edges, are_rising, edge_at, lies_in}
-use Rattle.awk_bins.specs.Table.{cell}
-use Rattle.awk_bins.specs.Tallies.{edges_up_to, tally, part_rows}
+use Rattle.awk_bins.specs.Tallies.{edges_up_to, tally}
 use Rattle.awk_bins.proofs.EdgeLaws.{edge_reached}
-use Rattle.awk_bins.proofs.TableLaws.{cell-part_rows, range-same, numbers-same}
 
 -- tests that agree count alike
 pub count_by-same : {X : Type 0} (p q : X → Bool) → ((x : X) → p x ≡ q x) → (xs : List X)
@@ -40,7 +34,7 @@ all_of : (c n : ℕ) → c ≤ n → 1 ≤ n → (c == n) ≡ nat_lt (n - 1) c
 all_of c n l m = grind (arith, l, m)
 
 module _ (es : List ℤ) (h : are_edges es ≡ true) where
-  many : 2 ≤ length es
+  pub many : 2 ≤ length es
   many = leb-true 2 (length es) (and_parts (nat_le 2 (length es)) (are_rising es) h).0
 
   pub rising : are_rising es ≡ true
@@ -83,55 +77,3 @@ module _ (es : List ℤ) (h : are_edges es ≡ true) where
   tally_over zs =
       count_by-same (λ z. edges_up_to es z == length es)
       (λ z. int_le (edge_at es (intervals es)) z) from_last zs
-
--- ---- lanes
-
-module _ (es : List ℤ) (h : are_edges es ≡ true) (part : ℕ → List ℤ) (n : ℕ) (b : Binned)
-    (c : AreColumns (part_rows es part n) (length es + 1) n b) where
-  at : (i j : ℕ) → i < n → j < length es + 1
-      → pos (cell (part_rows es part n) (length es + 1) i j) ≡ pos (tally es (part i) j)
-  at i j l m = ap pos (cell-part_rows es part n i j l m)
-
-  counts_at : (i k : ℕ) → i < n → k < length es + 1 - 2
-      → pos (cell (part_rows es part n) (length es + 1) i (k + 1)) ≡ pos (count_in es (part i) k)
-  counts_at i k l m =
-      at i (k + 1) l (omega (arith, m)) ∙ ap pos (tally_in es h (part i) k (omega (arith, m)))
-
-  lane : (f g : ℕ → ℤ) → ((i : ℕ) → i < n → f i ≡ g i) → lane_of I64 n f ≡ lane_of I64 n g
-  lane f g e =
-      ap (λ ns. record { kind = I64; items = ns })
-      (range-same f g 0 n (λ i p q. e i (omega (arith, q))))
-
-  under_at : (i : ℕ) → i < n
-      → pos (cell (part_rows es part n) (length es + 1) i 0) ≡ pos (count_under es (part i))
-  under_at i l = at i 0 l (omega arith) ∙ ap pos (tally_under es h (part i))
-
-  over_at : (i : ℕ) → i < n
-      → pos (cell (part_rows es part n) (length es + 1) i (length es + 1 - 1))
-      ≡ pos (count_over es (part i))
-  over_at i l =
-      let last : length es + 1 - 1 ≡ length es = omega arith in
-      at i (length es + 1 - 1) l (omega arith) ∙ ap (λ j. pos (tally es (part i) j)) last
-      ∙ ap pos (tally_over es h (part i))
-
-  counts_same : items_lane I64 (λ i. length es + 1 - 2)
-      (λ i k. pos (cell (part_rows es part n) (length es + 1) i (k + 1))) n
-      ≡ items_lane I64 (λ i. intervals es) (λ i k. pos (count_in es (part i) k)) n
-  counts_same =
-      let width : length es + 1 - 2 ≡ intervals es = omega arith in
-      ap (λ ns. record { kind = I64; items = ns })
-      (numbers-same (length es + 1 - 2)
-      (λ i k. pos (cell (part_rows es part n) (length es + 1) i (k + 1)))
-      (λ i k. pos (count_in es (part i) k)) n counts_at)
-      ∙ ap (λ m. items_lane I64 (λ i. m) (λ i k. pos (count_in es (part i) k)) n) width
-
-  pub columns_binned : AreBinned es part n b
-  columns_binned = record {
-    counts = c.counts ∙ counts_same;
-    under = c.under
-        ∙ lane (λ i. pos (cell (part_rows es part n) (length es + 1) i 0))
-        (λ i. pos (count_under es (part i))) under_at;
-    over = c.over
-        ∙ lane (λ i. pos (cell (part_rows es part n) (length es + 1) i (length es + 1 - 1)))
-        (λ i. pos (count_over es (part i))) over_at;
-  }

@@ -1,6 +1,8 @@
 pub mod EdgeLaws
 pub mod NearLaws
+pub mod EvenLaws
 pub mod TallyLaws
-pub mod TableLaws
+pub mod RangeLaws
 pub mod BinLaws
+pub mod CountLaws
 pub mod SumLaws

@@ -1,12 +1,11 @@
 -- How many numbers lie in each interval between edges, below the first edge, and from the last on.
-use Rattle.std.specs.Prelude.{◌≡◌, ℕ, ◌+◌, ◌-◌, ℤ, pos, int_le, int_lt}
+use Rattle.std.specs.Prelude.{◌≡◌, ℕ, ◌-◌, ℤ, pos, int_le, int_lt}
 use Rattle.std.specs.Prelude.{List, length, map}
 use Rattle.std.specs.List.{count_by, range_with_len}
 use Rattle.awk_lanes.specs.Counted.{items_lane}
 use Rattle.awk_lanes.specs.Made.{lane_of}
 use Rattle.awk_lanes.specs.declared.kind.Kind.TheVariants.{I64}
 use Rattle.awk_bins.specs.Edges.{edge_at, lies_in}
-use Rattle.awk_bins.specs.Table.{cell}
 use Rattle.awk_bins.specs.declared.bins.Binned.{Binned}
 
 -- how many intervals lie between edges
@@ -35,10 +34,3 @@ pub record AreBinned (es : List ℤ) (part : ℕ → List ℤ) (n : ℕ) (b : Bi
       ≡ items_lane I64 (λ i. intervals es) (λ i k. pos (count_in es (part i) k)) n
   pub under : b.under ≡ lane_of I64 n (λ i. pos (count_under es (part i)))
   pub over : b.over ≡ lane_of I64 n (λ i. pos (count_over es (part i)))
-
--- the first numbers of a table's rows, their last ones, and those between as lanes
-pub record AreColumns (table : List ℕ) (width n : ℕ) (b : Binned) : Type 0 where
-  pub counts : b.counts
-      ≡ items_lane I64 (λ i. width - 2) (λ i k. pos (cell table width i (k + 1))) n
-  pub under : b.under ≡ lane_of I64 n (λ i. pos (cell table width i 0))
-  pub over : b.over ≡ lane_of I64 n (λ i. pos (cell table width i (width - 1)))

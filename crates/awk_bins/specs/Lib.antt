@@ -1,5 +1,5 @@
 pub mod Edges
 pub mod Tallies
 pub mod Near
-pub mod Table
+pub mod Even
 pub mod Bins

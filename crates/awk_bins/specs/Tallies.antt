@@ -1,6 +1,6 @@
 -- How many numbers have so many edges that are no greater than they.
 use Rattle.std.specs.Prelude.{ℕ, ◌+◌, ◌==◌, ℤ, int_le, List, length, map}
-use Rattle.std.specs.List.{count_by, flat_map, range_with_len}
+use Rattle.std.specs.List.{count_by, range_with_len}
 
 -- how many edges are no greater than a number
 abbrev pub edges_up_to : List ℤ → ℤ → ℕ
@@ -13,7 +13,3 @@ tally es zs j = count_by (λ z. edges_up_to es z == j) zs
 -- for none of the edges, for one, and so on up to all
 abbrev pub tallies : List ℤ → List ℤ → List ℕ
 tallies es zs = map (tally es zs) (range_with_len 0 (length es + 1))
-
--- those of n parts, one part after another
-abbrev pub part_rows : List ℤ → (ℕ → List ℤ) → ℕ → List ℕ
-part_rows es part n = flat_map (λ i. tallies es (part i)) (range_with_len 0 n)

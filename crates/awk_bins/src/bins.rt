@@ -1,20 +1,24 @@
 //! How many numbers of each part lie in each interval.
-ghost use Rattle.std.specs.Prelude.{◌≡◌, ◌≢◌, ◌+◌, ◌≤◌, length, map, true, IfOk};
+ghost use Rattle.std.specs.Prelude.{◌≡◌, ◌≢◌, ◌+◌, ◌<◌, ◌≤◌, ◌^◌, ◌++◌, length, get_or, map, pos};
+ghost use Rattle.std.specs.Prelude.{ℕ, true, IfOk, IfSome};
 ghost use Rattle.awk_lanes.specs.declared.kind.Kind.TheVariants as Kind;
 ghost use Rattle.awk_numbers.specs.Folds.{lane_numbers};
 ghost use Rattle.awk_parts.specs.Parts.{AreParts, part_at};
-ghost use Rattle.awk_bins.specs.Bins.{AreBinned, AreColumns};
-ghost use Rattle.awk_bins.specs.Edges.{are_edges, are_rising};
+ghost use Rattle.awk_bins.specs.Bins.{AreBinned};
+ghost use Rattle.awk_bins.specs.Edges.{are_edges};
+ghost use Rattle.awk_bins.specs.Even.{AreEven};
 ghost use Rattle.awk_bins.specs.Near.{AreNear};
-ghost use Rattle.awk_bins.specs.Table.{IsTable};
-ghost use Rattle.awk_bins.specs.Tallies.{part_rows};
 
 use crate::edges::{Edges, near_edges};
+use crate::even::even_edges;
 use crate::number::Number;
-use crate::table::{Table, column_lane, middle_lane};
+use crate::offsets::offset_at;
 use crate::tallies::tally_row;
-use awk_lanes::{Arena, Kind, Lane, NoMemory, Steps, nats_of, numbers_of, place_in};
-use std::alloc::Global;
+use awk_lanes::{
+    Arena, Index, IndexMaker, Kind, Lane, NoMemory, Steps, index_of, nats_of, number, numbers_of,
+};
+use awk_numbers::{Whole, whole_of};
+use std::alloc::{AllocError, Global};
 use std::sync::ledger::Ledger;
 
 /// How many numbers of each part lie in each interval, below the first edge, and from the last on.
@@ -26,112 +30,88 @@ pub struct Binned<'a> {
     pub over: Lane<'a>,
 }
 
-/// The tallies of each part, one part after another, each made in a row of so many.
-fn row_tallies<N: Number, L: Ledger>(
-    alloc: Global,
+/// Adds tallies to a lane.
+fn push_tallies(tallies: &[u64], maker: &mut IndexMaker)
+    requires room { length maker.old.items + length tallies.now ≤ maker.old.room }
+    requires small { (j : ℕ) → j < length tallies.now → get_or tallies.now j 0 < 2 ^ 63 }
+    ensures kind { maker.new.kind ≡ maker.old.kind }
+    ensures room { maker.new.room ≡ maker.old.room }
+    ensures items { maker.new.items ≡ maker.old.items ++ map (λ n. pos n) tallies.now }
+{
+    for i in 0..tallies.len() {
+        maker.push(number(tallies[i]));
+    }
+}
+
+/// The counts of each part, whose numbers are tallied in a row of one place more than there are
+/// edges.
+fn row_counts<'a, N: Number>(
     numbers: &[N],
-    offsets: &Lane,
+    offsets: &Index,
     n: u64,
     edges: &Edges<N>,
     row: &mut [u64],
-    steps: &mut Steps<L>,
-) -> Result<Vec<u64>, NoMemory>
+    arena: &'a Arena,
+) -> Result<Binned<'a>, NoMemory>
     requires parts { AreParts (map N.number numbers.now) offsets.now n }
-    requires edges { AreNear N.least N.greatest edges.now.all.now
+    requires near { AreNear N.least N.greatest edges.now.all.now
         (map N.number edges.now.near.now) }
+    requires even { IfSome edges.now.even (λ e. AreEven (N.number e.base) e.step
+        (map N.number edges.now.near.now)) }
+    requires edges { are_edges edges.now.all.now ≡ true }
     requires size { length row.old ≡ length edges.now.all.now + 1 }
     ensures { let part = part_at (map N.number numbers.now) offsets.now in
-        IfOk result (λ v. v.items ≡ part_rows edges.now.all.now part n) }
+        IfOk result (AreBinned edges.now.all.now part n) }
 {
-    let mut made = Vec::with_capacity(alloc, (n as usize).saturating_mul(row.len()))?;
+    let last = edges.all.len();
+    let total = n.checked_mul(last as u64 - 1).ok_or(AllocError)?;
+    let mut counts = IndexMaker::new(total, arena)?;
+    let mut under = IndexMaker::new(n, arena)?;
+    let mut over = IndexMaker::new(n, arena)?;
     for i in 0..n {
-        let start = place_in(offsets, i, steps) as usize;
-        let stop = place_in(offsets, i + 1, steps) as usize;
+        let start = offset_at(offsets, i) as usize;
+        let stop = offset_at(offsets, i + 1) as usize;
         tally_row(&numbers[start..stop], edges, row);
-        made.extend_from_slice(row)?;
+        under.push(number(row[0]));
+        push_tallies(&row[1..last], &mut counts);
+        over.push(number(row[last]));
     }
-    Ok(made)
+    Ok(Binned {
+        counts: counts.finish(),
+        under: under.finish(),
+        over: over.finish(),
+    })
 }
 
 /// The same, of edges as they are.
-fn part_tallies<N: Number, L: Ledger>(
+fn part_counts<'a, N: Number>(
     alloc: Global,
     numbers: &[N],
-    offsets: &Lane,
+    offsets: &Index,
     n: u64,
     edges: &[i128],
-    row: &mut [u64],
-    steps: &mut Steps<L>,
-) -> Result<Vec<u64>, NoMemory>
+    arena: &'a Arena,
+) -> Result<Binned<'a>, NoMemory>
     requires parts { AreParts (map N.number numbers.now) offsets.now n }
-    requires edges { are_rising edges.now ≡ true }
-    requires size { length row.old ≡ length edges.now + 1 }
+    requires edges { are_edges edges.now ≡ true }
     ensures { let part = part_at (map N.number numbers.now) offsets.now in
-        IfOk result (λ v. v.items ≡ part_rows edges.now part n) }
+        IfOk result (AreBinned edges.now part n) }
 {
+    let mut row = vec![in alloc; 0u64; edges.len() + 1]?;
     let near = near_edges(alloc, edges)?;
     let edges = Edges {
         all: edges,
         near: &near,
+        even: even_edges(&near),
     };
-    row_tallies(alloc, numbers, offsets, n, &edges, row, steps)
+    row_counts(numbers, offsets, n, &edges, &mut row, arena)
 }
 
-/// The same of the numbers of a lane.
-fn lane_tallies<L: Ledger>(
+/// The same of the numbers of a lane, read one after another first.
+fn read_counts<'a, L: Ledger>(
     alloc: Global,
     lane: &Lane,
-    offsets: &Lane,
-    n: u64,
-    edges: &[i128],
-    row: &mut [u64],
-    steps: &mut Steps<L>,
-) -> Result<Vec<u64>, NoMemory>
-    requires kind { lane.now.kind ≢ Kind.Bool }
-    requires parts { AreParts (lane_numbers lane.now) offsets.now n }
-    requires edges { are_rising edges.now ≡ true }
-    requires size { length row.old ≡ length edges.now + 1 }
-    ensures { let part = part_at (lane_numbers lane.now) offsets.now in
-        IfOk result (λ v. v.items ≡ part_rows edges.now part n) }
-{
-    if lane.kind() == Kind::U64 {
-        let nats = nats_of(alloc, lane, steps)?;
-        part_tallies(alloc, &nats, offsets, n, edges, row, steps)
-    } else {
-        let numbers = numbers_of(alloc, lane, steps)?;
-        part_tallies(alloc, &numbers, offsets, n, edges, row, steps)
-    }
-}
-
-/// The counts that tallies of n parts are.
-fn columns<'a, L: Ledger>(
-    tallies: &[u64],
-    n: u64,
-    edges: &[i128],
-    arena: &'a Arena,
-    steps: &mut Steps<L>,
-) -> Result<Binned<'a>, NoMemory>
-    requires table { IsTable tallies.now (length edges.now + 1) n }
-    requires some { 1 ≤ length edges.now }
-    ensures { IfOk result (AreColumns tallies.now (length edges.now + 1) n) }
-{
-    let table = Table {
-        cells: tallies,
-        width: edges.len() as u64 + 1,
-        count: n,
-    };
-    Ok(Binned {
-        counts: middle_lane(&table, arena, steps)?,
-        under: column_lane(&table, 0, arena, steps)?,
-        over: column_lane(&table, edges.len() as u64, arena, steps)?,
-    })
-}
-
-/// How many numbers of each part lie in each interval.
-pub fn bins_of<'a, L: Ledger>(
-    alloc: Global,
-    lane: &Lane,
-    offsets: &Lane,
+    offsets: &Index,
     n: u64,
     edges: &[i128],
     arena: &'a Arena,
@@ -142,7 +122,51 @@ pub fn bins_of<'a, L: Ledger>(
     requires edges { are_edges edges.now ≡ true }
     ensures { IfOk result (AreBinned edges.now (part_at (lane_numbers lane.now) offsets.now) n) }
 {
-    let mut row = vec![in alloc; 0u64; edges.len() + 1]?;
-    let tallies = lane_tallies(alloc, lane, offsets, n, edges, &mut row, steps)?;
-    columns(&tallies, n, edges, arena, steps)
+    if lane.kind() == Kind::U64 {
+        let nats = nats_of(alloc, lane, steps)?;
+        part_counts(alloc, &nats, offsets, n, edges, arena)
+    } else {
+        let numbers = numbers_of(alloc, lane, steps)?;
+        part_counts(alloc, &numbers, offsets, n, edges, arena)
+    }
+}
+
+/// The same of the numbers of a lane: those of an i64 where they lie.
+fn lane_counts<'a, L: Ledger>(
+    alloc: Global,
+    lane: &Lane,
+    offsets: &Index,
+    n: u64,
+    edges: &[i128],
+    arena: &'a Arena,
+    steps: &mut Steps<L>,
+) -> Result<Binned<'a>, NoMemory>
+    requires kind { lane.now.kind ≢ Kind.Bool }
+    requires parts { AreParts (lane_numbers lane.now) offsets.now n }
+    requires edges { are_edges edges.now ≡ true }
+    ensures { IfOk result (AreBinned edges.now (part_at (lane_numbers lane.now) offsets.now) n) }
+{
+    match whole_of(lane, steps) {
+        Whole::I64(numbers) => part_counts(alloc, numbers, offsets, n, edges, arena),
+        _ => read_counts(alloc, lane, offsets, n, edges, arena, steps),
+    }
+}
+
+/// How many numbers of each part lie in each interval.
+pub fn bins_of<'a, L: Ledger>(
+    alloc: Global,
+    lane: &Lane,
+    offsets: &Lane<'a>,
+    n: u64,
+    edges: &[i128],
+    arena: &'a Arena,
+    steps: &mut Steps<L>,
+) -> Result<Binned<'a>, NoMemory>
+    requires kind { lane.now.kind ≢ Kind.Bool }
+    requires parts { AreParts (lane_numbers lane.now) offsets.now n }
+    requires edges { are_edges edges.now ≡ true }
+    ensures { IfOk result (AreBinned edges.now (part_at (lane_numbers lane.now) offsets.now) n) }
+{
+    let ends = index_of(alloc, offsets, arena, steps)?;
+    lane_counts(alloc, lane, &ends, n, edges, arena, steps)
 }

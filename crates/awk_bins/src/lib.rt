@@ -5,8 +5,9 @@
 
 mod bins;
 mod edges;
+mod even;
 mod number;
-mod table;
+mod offsets;
 mod tallies;
 
 pub use bins::{Binned, bins_of};

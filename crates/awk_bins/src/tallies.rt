@@ -1,5 +1,7 @@
 //! How many numbers have so many edges that are no greater than they.
 ghost use Rattle.std.specs.Prelude.{◌≡◌, ◌+◌, ◌<◌, ◌^◌, length, map, replicate};
+ghost use Rattle.std.specs.Prelude.{IfSome};
+ghost use Rattle.awk_bins.specs.Even.{AreEven};
 ghost use Rattle.awk_bins.specs.Near.{AreNear};
 ghost use Rattle.awk_bins.specs.Tallies as spec;
 
@@ -17,6 +19,8 @@ fn clear(tallies: &mut [u64])
 pub(crate) fn tally_row<N: Number>(row: &[N], edges: &Edges<N>, tallies: &mut [u64])
     requires edges { AreNear N.least N.greatest edges.now.all.now
         (map N.number edges.now.near.now) }
+    requires even { IfSome edges.now.even (λ e. AreEven (N.number e.base) e.step
+        (map N.number edges.now.near.now)) }
     requires size { length tallies.old ≡ length edges.now.all.now + 1 }
     requires few { length row.now < 2 ^ 63 }
     ensures { tallies.new ≡ spec.tallies edges.now.all.now (map N.number row.now) }

@@ -43,7 +43,7 @@ use Rattle.awk_columns.specs.Columns.{present_values}
 use Rattle.awk_bins.specs.Bins.{intervals, count_in, interval_counts, count_under, count_over}
 use Rattle.awk_bins.specs.Bins.{AreBinned}
 use Rattle.awk_bins.specs.declared.bins.Binned.{Binned}
-use Rattle.awk_bins.proofs.TableLaws.{before-same}
+use Rattle.awk_bins.proofs.RangeLaws.{before-same}
 use Rattle.awk_hist.specs.Bins.{bin_names, bins_type, count_value, count_nulls, bins_row, bins_and}
 use Rattle.awk_hist.specs.Lists.{AreItems, AreNullsReady, null_count, null_lane}
 use Rattle.awk_hist.specs.Rows.{bins_fields, bins_layout, AreOfSizes}

@@ -38,7 +38,7 @@ use Rattle.awk_present.specs.Numbers.{numbers, number_of}
 use Rattle.awk_present.specs.Present.{list_at}
 use Rattle.awk_bins.specs.Bins.{count_in, interval_counts, count_under, count_over, intervals}
 use Rattle.awk_bins.specs.Edges.{edge_at, lies_in}
-use Rattle.awk_bins.proofs.TableLaws.{range-same}
+use Rattle.awk_bins.proofs.RangeLaws.{range-same}
 use Rattle.awk_hist.specs.Hist.{leaves, lists_refused, has_numbers, hist_of, hist_of_array}
 use Rattle.awk_hist.specs.Lists.{AreItems, IsInnermost}
 use Rattle.awk_hist.specs.declared.innermost.Innermost.TheVariants as innermost

@@ -1,14 +1,12 @@
 -- What is made of lists, by their items one after another.
-use Rattle.std.specs.Prelude.{◌≡◌, ℕ, zero, suc, ◌+◌, ◌-◌, ◌*◌, ◌<◌, ◌≤◌, ◌^◌, refl}
-use Rattle.std.specs.Prelude.{true, false, Bool}
-use Rattle.std.specs.Prelude.{nat_lt, List, [], ◌∷◌, length, map, sum, pos}
-use Rattle.std.specs.Prelude.{Some, None, if◌then◌else◌, take, drop}
+use Rattle.std.specs.Prelude.{◌≡◌, ℕ, zero, suc, ◌+◌, ◌-◌, ◌*◌, ◌<◌, ◌≤◌, ◌^◌, refl, true, false}
+use Rattle.std.specs.Prelude.{Bool, nat_lt, List, [], ◌∷◌, length, map, sum, pos, Some, None}
+use Rattle.std.specs.Prelude.{if◌then◌else◌, take, drop}
 use Rattle.std.specs.List.{range_with_len, slice_range}
 use Rattle.std.proofs.Common.{arith, ap, ap₂, sym, ◌∙◌, subst}
 use Rattle.std.proofs.lemmas.Int.{ints}
 use Rattle.std.proofs.lemmas.List.Concat.{length-flat_map}
-use Rattle.std.proofs.lemmas.List.FromFn.{length-map-range_with_len}
-use Rattle.std.proofs.lemmas.List.FromFn.{take-map-range_with_len}
+use Rattle.std.proofs.lemmas.List.FromFn.{length-map-range_with_len, take-map-range_with_len}
 use Rattle.std.proofs.lemmas.List.Sums.{sum-map}
 use Rattle.std.proofs.lemmas.Simd.{map-map}
 use Rattle.awk_types.specs.DataType.{DataType}
@@ -42,6 +40,7 @@ use Rattle.awk_parts.specs.Parts.{AreRising}
 use Rattle.awk_present.specs.Present.{list_at}
 use Rattle.awk_order.specs.Lists.{AreItems, AreMade}
 use Rattle.awk_order.specs.Sort.{leaf_lists}
+use Rattle.awk_axis.proofs.SpoilLimits.{over_limit, within_limit}
 
 -- ---- counts
 
@@ -51,16 +50,6 @@ counted_total s e y =
     ap sum (map-map (λ (l : List Value). length l) (items_at s e y) (range_with_len 0 (size_of s)))
     ∙ sum-map (λ i. length (items_at s e y i)) (range_with_len 0 (size_of s))
     ∙ sym (length-flat_map (items_at s e y) (range_with_len 0 (size_of s)))
-
-over_limit : (n : ℕ) → item_limit < n → too_many n ≡ Some Size
-over_limit n p =
-    let b : nat_lt item_limit n ≡ true = grind arith in
-    ap (λ b. if b then Some Size else None) b
-
-within_limit : (n : ℕ) → n ≤ item_limit → too_many n ≡ None
-within_limit n p =
-    let b : nat_lt item_limit n ≡ false = grind arith in
-    ap (λ b. if b then Some Size else None) b
 
 too_many-index : (n : ℕ) → too_many n ≡ Some Index → ⊥
 too_many-index n h = go (nat_lt item_limit n) h

@@ -2,3 +2,4 @@ pub mod Parts
 pub mod Spans
 pub mod Fits
 pub mod Lanes
+pub mod Extremes

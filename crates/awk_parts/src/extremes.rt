@@ -1,15 +1,16 @@
 //! The least or the greatest number of each part.
-ghost use Rattle.std.specs.Prelude.{◌≡◌, pos, IfOk};
+ghost use Rattle.std.specs.Prelude.{◌≡◌, pos, map, IfOk, IfSome};
 ghost use Rattle.awk_lanes.specs.Made.{lane_of};
-ghost use Rattle.awk_lanes.specs.Numbers.{int_of, IsOf};
+ghost use Rattle.awk_lanes.specs.Numbers.{number, int_of, IsOf};
 ghost use Rattle.awk_lanes.specs.declared.kind.Kind.TheVariants as Kind;
 ghost use Rattle.awk_numbers.specs.Folds.{whole_numbers, lane_numbers};
 ghost use Rattle.awk_parts.specs.Lanes.{extreme_at};
 ghost use Rattle.awk_parts.specs.Spans.{span_count, AreSpanned};
 
 use crate::parts::{Parts, span_of};
+use crate::wide::{groups_in, wide_extreme};
 use awk_lanes::{Arena, Kind, Lane, NoMemory, Num, Numbers, Steps, made_lane};
-use awk_numbers::{Extreme, extreme_of};
+use awk_numbers::{Extreme, Whole, extreme_of};
 use std::sync::ledger::Ledger;
 
 /// 0 as code holds the numbers of a kind.
@@ -56,6 +57,68 @@ impl<'c, 'b, 'a> Numbers for Extremes<'c, 'b, 'a> {
     }
 }
 
+/// The extremes of the parts of numbers of i64.
+#[derive(Drop)]
+struct WideExtremes<'c, 'b, 'a> {
+    how: Extreme,
+    groups: &'c [[u8; 8]],
+    parts: &'c Parts<'b, 'a>,
+}
+
+impl<'c, 'b, 'a> Numbers for WideExtremes<'c, 'b, 'a> {
+    ghost use Rattle.std.specs.Prelude.{◌≡◌, map};
+    ghost use Rattle.awk_lanes.specs.Numbers.{number};
+    ghost use Rattle.awk_lanes.specs.declared.kind.Kind.TheVariants as Kind;
+    ghost use Rattle.awk_numbers.specs.Folds.{whole_numbers};
+    ghost use Rattle.awk_parts.specs.Lanes.{extreme_at};
+    ghost use Rattle.awk_parts.specs.Spans.{span_count, AreSpanned};
+
+    ghost kind = { λ _. Kind.I64 };
+
+    ghost at = { λ f. extreme_at f.how (whole_numbers f.parts.now.numbers.now)
+        f.parts.now.spans.now };
+
+    ghost size = { λ f. span_count f.parts.now.spans.now };
+
+    ghost IsReady = { λ f.
+        (whole_numbers f.parts.now.numbers.now ≡ map (number Kind.I64) f.groups.now)
+        × AreSpanned (whole_numbers f.parts.now.numbers.now) f.parts.now.spans.now };
+
+    fn number<L: Ledger>(&self, i: u64, _steps: &mut Steps<L>) -> Num {
+        Num::Int(wide_extreme(self.how, self.groups, span_of(self.parts, i)))
+    }
+}
+
+/// The least or the greatest number of each part of numbers of i64, and 0 for a part of none.
+fn wide_extremes_of<'a, L: Ledger>(
+    how: Extreme,
+    groups: &[[u8; 8]],
+    parts: &Parts,
+    arena: &'a Arena,
+    steps: &mut Steps<L>,
+) -> Result<Lane<'a>, NoMemory>
+    requires numbers { whole_numbers parts.now.numbers.now ≡ map (number Kind.I64) groups.now }
+    requires parts { AreSpanned (whole_numbers parts.now.numbers.now) parts.now.spans.now }
+    ensures { IfOk result (λ r. r ≡ lane_of Kind.I64 (span_count parts.now.spans.now)
+        (extreme_at how (whole_numbers parts.now.numbers.now) parts.now.spans.now)) }
+{
+    let count = parts.spans.starts.len() as u64;
+    let extremes = WideExtremes { how, groups, parts };
+    made_lane(Kind::I64, count, &extremes, arena, steps)
+}
+
+/// The numbers of a lane of i64 as groups of eight bytes.
+fn wide_groups<'a>(lane: &Lane, numbers: &Whole<'a>) -> Option<&'a [[u8; 8]]>
+    ensures { IfSome result (λ gs. (lane.now.kind ≡ Kind.I64)
+        × (whole_numbers numbers.now ≡ map (number Kind.I64) gs.now)) }
+{
+    let groups = groups_in(numbers)?;
+    match lane.kind() {
+        Kind::I64 => Some(groups),
+        _ => None,
+    }
+}
+
 /// The least or the greatest number of each part of a lane's numbers, and 0 for a part of none.
 pub fn extremes_of<'a, L: Ledger>(
     how: Extreme,
@@ -69,7 +132,12 @@ pub fn extremes_of<'a, L: Ledger>(
     ensures { IfOk result (λ r. r ≡ lane_of lane.now.kind (span_count parts.now.spans.now)
         (extreme_at how (lane_numbers lane.now) parts.now.spans.now)) }
 {
-    let count = parts.spans.starts.len() as u64;
-    let extremes = Extremes { how, lane, parts };
-    made_lane(lane.kind(), count, &extremes, arena, steps)
+    match wide_groups(lane, parts.numbers) {
+        Some(groups) => wide_extremes_of(how, groups, parts, arena, steps),
+        None => {
+            let count = parts.spans.starts.len() as u64;
+            let extremes = Extremes { how, lane, parts };
+            made_lane(lane.kind(), count, &extremes, arena, steps)
+        }
+    }
 }

@@ -4,7 +4,8 @@
 //! and stops, and `spans_between` off offsets. `fold_parts` is the sums or products of the parts,
 //! or none where one does not fit its primitive, and `tally_parts` their counts; `extremes_of` is
 //! the least or the greatest of each part, `places_of` where it stands, and `found_of` where among
-//! items of which some are null; `present_parts` tells which parts have a number.
+//! items of which some are null; `present_parts` tells which parts have a number. Numbers of i64
+//! are compared as such.
 #![tactic(auto)]
 
 mod extremes;
@@ -13,6 +14,7 @@ mod folds;
 mod parts;
 mod places;
 mod tallies;
+mod wide;
 
 pub use extremes::extremes_of;
 pub use folds::fold_parts;

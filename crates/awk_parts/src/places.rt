@@ -3,11 +3,12 @@ ghost use Rattle.std.specs.Prelude.{◌≡◌, ◌<◌, ◌^◌, IfOk, IfSome};
 ghost use Rattle.awk_lanes.specs.Made.{lane_of};
 ghost use Rattle.awk_lanes.specs.Numbers.{int_of, IsOf};
 ghost use Rattle.awk_lanes.specs.declared.kind.Kind.TheVariants as Kind;
-ghost use Rattle.awk_numbers.specs.Folds.{whole_numbers};
+ghost use Rattle.awk_numbers.specs.Folds.{whole_numbers, first_extreme};
 ghost use Rattle.awk_parts.specs.Lanes.{local_at, found_at, present_at, place_or_zero};
-ghost use Rattle.awk_parts.specs.Spans.{span_count, AreSpanned};
+ghost use Rattle.awk_parts.specs.Spans.{span_count, span_part, AreSpanned};
 
 use crate::parts::{Parts, span_of};
+use crate::wide::{groups_in, wide_place};
 use awk_lanes::{Arena, Kind, Lane, NoMemory, Num, Numbers, Steps, made_lane, number};
 use awk_numbers::{Extreme, extreme_of, nth_place};
 use std::sync::ledger::Ledger;
@@ -21,6 +22,22 @@ fn number_of_place(place: Option<u64>) -> Num
     match place {
         Some(k) => number(k),
         None => number(0),
+    }
+}
+
+/// Where in part i its extreme stands first.
+#[inline(always)]
+fn place_at(how: Extreme, parts: &Parts, i: u64) -> Option<u64>
+    requires parts { AreSpanned (whole_numbers parts.now.numbers.now) parts.now.spans.now }
+    requires within { i < span_count parts.now.spans.now }
+    ensures place { result ≡ first_extreme how
+        (span_part (whole_numbers parts.now.numbers.now) parts.now.spans.now i) }
+    ensures small { IfSome result (λ k. k < 2 ^ 63) }
+{
+    let span = span_of(parts, i);
+    match groups_in(parts.numbers) {
+        Some(groups) => wide_place(how, groups, span),
+        None => extreme_of(how, parts.numbers, span.start, span.stop),
     }
 }
 
@@ -48,8 +65,7 @@ impl<'c, 'b, 'a> Numbers for LocalPlaces<'c, 'b, 'a> {
         f.parts.now.spans.now };
 
     fn number<L: Ledger>(&self, i: u64, steps: &mut Steps<L>) -> Num {
-        let span = span_of(self.parts, i);
-        number_of_place(extreme_of(self.how, self.parts.numbers, span.start, span.stop))
+        number_of_place(place_at(self.how, self.parts, i))
     }
 }
 
@@ -95,9 +111,8 @@ impl<'c, 'b, 'a> Numbers for FoundPlaces<'c, 'b, 'a> {
         × (span_count f.items.now.spans.now ≡ span_count f.parts.now.spans.now) };
 
     fn number<L: Ledger>(&self, i: u64, steps: &mut Steps<L>) -> Num {
-        let span = span_of(self.parts, i);
         let items = span_of(self.items, i);
-        match extreme_of(self.how, self.parts.numbers, span.start, span.stop) {
+        match place_at(self.how, self.parts, i) {
             Some(q) => number_of_place(nth_place(self.items.numbers, items.start, items.stop, q)),
             None => number(0),
         }

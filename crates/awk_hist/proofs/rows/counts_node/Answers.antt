@@ -6,7 +6,7 @@ use Rattle.awk_lanes.specs.declared.kind.Kind.TheVariants.{I64}
 use Rattle.awk_lanes.proofs.MadeLanes.{size-lane_of}
 use Rattle.awk_layout.specs.Layout.{flat}
 use Rattle.awk_layout.specs.Valid.{len}
-use Rattle.awk_bins.proofs.TableLaws.{before-same}
+use Rattle.awk_bins.proofs.RangeLaws.{before-same}
 use Rattle.awk_hist.proofs.RowLaws.{even_offsets}
 use Rattle.awk_hist.proofs.rows.counts_node.Goals as goal
 
