@@ -1,7 +1,6 @@
 -- Arrays of values made one after another: those of a list and those of an object.
 use Rattle.std.proofs.Common.{◌≡◌, List, [], ◌∷◌, ◌++◌, map, length, refl, ap, ap₂, sym, subst}
-use Rattle.std.proofs.Common.{◌∙◌, Some, None, suc, Result, Ok, Err}
-use Rattle.std.specs.Prelude.{IfOk}
+use Rattle.std.proofs.Common.{◌∙◌, Some, None, suc}
 use Rattle.serde_json.specs.Data.{Data, array, object, Items, no_items, item}
 use Rattle.serde_json.specs.Data.{Members, no_members, member}
 use Rattle.awk_types.specs.DataType.{Name, unknown, var, rec, types_from}
@@ -157,10 +156,3 @@ row_made ms names xs y e a h t i = record {
   typ = t ∙ row_typed ms names xs e h;
   items = i ∙ ap (λ vs. row (values_from vs) ∷ []) (fields_values ms xs h);
 }
-
--- ---- what a call answers by two clauses
-
-pub both_given : {A E : Type 0} (r : Result A E) (P Q R : A → Type 0)
-    → ((x : A) → P x → Q x → R x) → IfOk r P → IfOk r Q → IfOk r R
-both_given (Ok x) P Q R f p q = f x p q
-both_given (Err e) P Q R f p q = tt

@@ -4,6 +4,4 @@ pub mod SideLaws
 pub mod SingleLaws
 pub mod BuiltLaws
 pub mod NumberLaws
-pub mod SuitedLaws
-pub mod ListColumns
-pub mod OptionColumns
+pub mod SuitedArrays

@@ -2,4 +2,3 @@ pub mod Suffix
 pub mod Joined
 pub mod Built
 pub mod Numbers
-pub mod Suited

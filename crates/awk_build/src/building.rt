@@ -1,23 +1,22 @@
 //! The array of a JSON list.
-ghost use Rattle.std.specs.Prelude.{◌≡◌, IfOk, None, true};
-ghost use Rattle.awk_types.specs.DataType.{unknown, var};
+ghost use Rattle.std.specs.Prelude.{◌≡◌, IfOk, IfSome, None, true};
+ghost use Rattle.awk_types.specs.DataType.{var};
 ghost use Rattle.awk_types.specs.Faults.{fault_told};
 ghost use Rattle.awk_types.specs.Gives.{Gives};
-ghost use Rattle.awk_types.specs.Limit.{limit};
 ghost use Rattle.awk_types.specs.View.{typ_of};
 ghost use Rattle.awk_layout.specs.Typing.{array_datum};
 ghost use Rattle.awk_plain.specs.Plain as spec;
-ghost use Rattle.awk_plain.specs.IsPlain.{AreJudged};
-ghost use Rattle.awk_plain.specs.Plain.{items_type};
+ghost use Rattle.awk_plain.specs.Plain.{plain_fault};
 ghost use Rattle.awk_plain.specs.Suits.{is_of_lists};
 ghost use Rattle.awk_build.specs.Built.{IsArrayOfItems};
+ghost use Rattle.serde_json.specs.Data.{array};
 ghost use Rattle.serde_json.specs.View.{view, items_view};
 
-use crate::suited::{are_suited, suited_array};
 use crate::values::items_array;
 use awk_lanes::{Arena, Steps};
 use awk_layout::Array;
-use awk_plain::plain_type;
+use awk_plain::{plain_type, standing_type};
+use awk_plain_columns::{has_columns, suited_array};
 use awk_types::{Fault, NoMemory, Typ};
 use serde_json::Value;
 use std::alloc::Global;
@@ -37,9 +36,14 @@ pub fn from_values<'a, L: Ledger>(
     requires { spec.is_list (view v.now) ≡ true }
     ensures { Gives array_datum fault_told result (spec.from_values (view v.now)) }
 {
-    let typ = plain_type(alloc, v)?;
     match v {
-        Value::Array(items) => Ok(list_of(alloc, item_type(&typ), items, arena, steps)?),
+        Value::Array(items) => {
+            if let Some(array) = standing_array(alloc, items, arena, steps)? {
+                return Ok(array);
+            }
+            let _typ = plain_type(alloc, v)?;
+            Ok(items_array(alloc, items, arena, steps)?)
+        }
         _ => unreachable!(),
     }
 }
@@ -55,21 +59,23 @@ fn item_type(typ: &Typ) -> &Typ
     }
 }
 
-/// The array of the items of a list, by their type: as columns where they are of it as they stand.
-fn list_of<'a, L: Ledger>(
+/// The array of a list, as columns, if all in it is of its type as it stands and that has columns.
+fn standing_array<'a, L: Ledger>(
     alloc: Global,
-    item: &Typ,
     items: &Vec<Value>,
     arena: &'a Arena,
     steps: &mut Steps<L>,
-) -> Result<Array<'a>, NoMemory>
-    requires items { AreJudged (items_view items.now.items) }
-    requires limit { limit (items_type unknown (items_view items.now.items)) ≡ None }
-    requires typ { typ_of item.now ≡ items_type unknown (items_view items.now.items) }
-    ensures { IfOk result (IsArrayOfItems (items_view items.now.items)) }
+) -> Result<Option<Array<'a>>, NoMemory>
+    ensures free { let d = array (items_view items.now.items) in
+        IfOk result (λ o. IfSome o (λ x. plain_fault d ≡ None)) }
+    ensures items { IfOk result (λ o. IfSome o (IsArrayOfItems (items_view items.now.items))) }
 {
-    if are_suited(item, items) {
-        return suited_array(alloc, item, items, arena, steps);
+    let Some(list) = standing_type(alloc, items)? else {
+        return Ok(None);
+    };
+    let item = item_type(&list);
+    if !has_columns(item) {
+        return Ok(None);
     }
-    items_array(alloc, items, arena, steps)
+    Ok(Some(suited_array(alloc, item, items, arena, steps)?))
 }

@@ -5,13 +5,9 @@
 
 mod building;
 mod joining;
-mod leaves;
 mod lifts;
-mod lists;
 mod numbers;
-mod options;
 mod single;
-mod suited;
 mod values;
 
 pub use building::from_values;

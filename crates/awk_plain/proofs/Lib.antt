@@ -11,3 +11,4 @@ pub mod JoinLaws
 pub mod SuitLaws
 pub mod SuitSteps
 pub mod OwnValues
+pub mod StandingLaws

@@ -14,10 +14,10 @@ use Rattle.awk_types.specs.Simple.{IsSimple}
 use Rattle.awk_types.specs.View.{NamedType, names_of, types_of, typ_of}
 use Rattle.awk_types.specs.View.{typ_step, field_step, fields_step, typs_step}
 use Rattle.awk_types.specs.declared.limit.TypeFault.{TypeFault}
-use Rattle.awk_types.specs.declared.typ.Typ.{Typ, Var}
+use Rattle.awk_types.specs.declared.typ.Typ.{Typ, Unknown, Var}
 use Rattle.awk_types.specs.declared.typ.Typ.TheFolds.{fold-roll-Typ}
 use Rattle.awk_types.specs.declared.typ.Typ.TheOpen.{Typ-F}
-use Rattle.awk_types.specs.declared.typ.Typ.TheVariants.{rolls-Var}
+use Rattle.awk_types.specs.declared.typ.Typ.TheVariants.{rolls-Unknown, rolls-Var}
 use Rattle.awk_types.proofs.RefusalLaws.{Told-first, Told-later, Told-same, refused_or-Ok, or-None}
 use Rattle.awk_unify.proofs.SimpleLaws.{unify_simple}
 use Rattle.awk_unify.specs.Unify.{unification}
@@ -104,6 +104,12 @@ pub typ_of-Var : (t : Box Typ Global) → typ_of (Var t) ≡ var (typ_of t.value
 typ_of-Var t = ap typ_of (sym (rolls-Var t))
     ∙ fold-roll-Typ DataType NamedType (List NamedType) (List DataType) typ_step field_step
     fields_step typs_step (Typ-F.Var t)
+
+pub typ_of-Unknown : typ_of Unknown ≡ unknown
+typ_of-Unknown =
+    ap typ_of (sym rolls-Unknown)
+    ∙ fold-roll-Typ DataType NamedType (List NamedType) (List DataType) typ_step field_step
+    fields_step typs_step Typ-F.Unknown
 
 -- ---- items so far
 

@@ -3,3 +3,4 @@ pub mod IsPlain
 pub mod Judged
 pub mod Types
 pub mod Suits
+pub mod Standing

@@ -17,7 +17,7 @@ use serde_json::{Map, Value};
 use std::alloc::Global;
 
 /// A simple type, or the limit that it passes.
-fn judged_type(alloc: Global, t: Typ) -> Result<Typ, TypeFault>
+pub(crate) fn judged_type(alloc: Global, t: Typ) -> Result<Typ, TypeFault>
     requires { IsSimple (typ_of t) }
     ensures { Gives typ_of limit_told result (within (typ_of t)) }
 {

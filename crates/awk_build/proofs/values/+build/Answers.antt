@@ -16,7 +16,8 @@ use Rattle.awk_plain.proofs.TypeSteps.{item_next}
 use Rattle.awk_build.specs.Built.{AreArraysOf, AreFieldsOf, IsArrayOf, IsArrayOfItems}
 use Rattle.awk_build.specs.Numbers.{HasNumbers}
 use Rattle.awk_build.specs.Joined.{joined_items, joined_type}
-use Rattle.awk_build.proofs.BuiltLaws.{arrays_more, both_given, fields_more, fields_named}
+use Rattle.awk_columns.proofs.ResultLaws.{IfOk-both}
+use Rattle.awk_build.proofs.BuiltLaws.{arrays_more, fields_more, fields_named}
 use Rattle.awk_build.proofs.BuiltLaws.{fields_reach, items_made, items_within, row_made, row_within}
 use Rattle.awk_build.proofs.NumberLaws.{numbers_hold, numbers_made}
 use Rattle.awk_build.proofs.values.+build.Goals as goal
@@ -53,7 +54,7 @@ array_of-returns-in_ok-fields-in-Object g t c =
     let xs = c.in_ok-fields-in-Object.fields in
     let r = c.row_array.result in
     subst (λ d. IfOk r (IsArrayOf d)) (sym viewed)
-    (both_given r (λ y. array_type y ≡ rec names (types_from (map array_type xs)))
+    (IfOk-both r (λ y. array_type y ≡ rec names (types_from (map array_type xs)))
     (λ y. array_items y ≡ row (values_from (map (λ x. array_item x 0) xs)) ∷ [])
     (IsArrayOf (object ms))
     (λ y e f. row_made ms names xs y c.in_ok-names-in-Object.ensures.names
@@ -95,7 +96,7 @@ items_array-returns-in-Some g t c =
     subst (λ vs. HasNumbers (items_view vs) zs) c.deref.ensures.value
     (subst (λ o. IfSome o (λ ys. HasNumbers (items_view c.deref.result.now) ys.items)) c.in-Some.is
     c.in_ok-numbers.ensures) in
-    both_given c.numbers_array.result (λ y. array_type y ≡ leaf I64)
+    IfOk-both c.numbers_array.result (λ y. array_type y ≡ leaf I64)
     (λ y. array_items y ≡ map int c.deref-in-Some.result.now) (IsArrayOfItems ds)
     (λ y e f. numbers_made ds zs y h e (f ∙ ap (map int) c.deref-in-Some.ensures.value))
     c.numbers_array.ensures.typ c.numbers_array.ensures.items
@@ -135,6 +136,6 @@ items_array-returns g t c =
     subst (λ ws. AreArraysOf ds xs (items_view ws))
     (drop_all c.loop-item.item-index c.deref-item-items.result.now
     (omega (arith, c.loop-item-test.false))) c.loop-item.invariant.0 in
-    both_given c.joined.result (λ y. array_type y ≡ joined_type xs)
+    IfOk-both c.joined.result (λ y. array_type y ≡ joined_type xs)
     (λ y. array_items y ≡ joined_items xs) (IsArrayOfItems ds)
     (λ y e f. items_made ds xs y all e f) c.joined.ensures.typ c.joined.ensures.items

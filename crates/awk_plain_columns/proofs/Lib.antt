@@ -1,0 +1,5 @@
+pub mod SuitedLaws
+pub mod ListColumns
+pub mod OptionColumns
+pub mod RecordLaws
+pub mod RecordColumns

@@ -1,0 +1,235 @@
+-- Options over one column of what is there.
+use Rattle.std.proofs.Common.{◌≡◌, ℕ, ◌+◌, ◌<◌, ◌≤◌, suc, List, [], ◌∷◌, ◌++◌, map, length, true}
+use Rattle.std.proofs.Common.{false, refl, ap, ap₂, sym, ◌∙◌, subst, arith, get_or, pos, negsuc, ℤ}
+use Rattle.std.proofs.Common.{add-one, append-nil, append_assoc, drop}
+use Rattle.std.specs.Prelude.{◌&&◌, filter}
+use Rattle.std.proofs.lemmas.List.{drop_all, drop_more}
+use Rattle.serde_json.specs.Data.{Data, null, boolean, number, string, array, object}
+use Rattle.awk_types.specs.DataType.{DataType, opt, unknown, leaf, var, reg, rec, tup, uni}
+use Rattle.awk_types.specs.Simple.{in_option, is_option, option_of, present}
+use Rattle.awk_types.specs.Value as values
+use Rattle.awk_types.specs.Value.{Value, int, truth, list, row, alt}
+use Rattle.awk_lanes.specs.Column.{Column}
+use Rattle.awk_lanes.specs.Places.{IsOptionalIndex, size_of}
+use Rattle.awk_layout.proofs.ArrayItems.{length-array_items}
+use Rattle.awk_layout.specs.Layout.{Layout, optional}
+use Rattle.awk_layout.specs.Typing.{array_items}
+use Rattle.awk_layout.specs.Valid.{len}
+use Rattle.awk_columns.specs.Columns.{is_present, option_index}
+use Rattle.awk_frames.proofs.FrameLaws.{index_into}
+use Rattle.awk_frames.proofs.FramedItems.{nulls-framed}
+use Rattle.awk_frames.proofs.ValueLists.{length-index}
+use Rattle.awk_frames.specs.Shape.{index_column}
+use Rattle.awk_plain.specs.Suits.{all_suit, is_int64, is_of, is_of_lists, is_of_records, item_of}
+use Rattle.awk_plain.specs.Suits.{members_suit, names_of_fields, own_value}
+use Rattle.awk_plain.specs.Suits.{types_of_fields}
+use Rattle.awk_types.specs.declared.primitive.Primitive.TheVariants as primitive
+use Rattle.awk_plain_columns.specs.Suited.{AllSuit, Suits, is_there, there}
+
+-- ---- what is there
+
+pub own_there : (ds : List Data) → filter is_present (map own_value ds) ≡ map own_value (there ds)
+own_there [] = refl
+own_there (null ∷ ds) = own_there ds
+own_there (string s ∷ ds) = own_there ds
+own_there (boolean b ∷ ds) = ap (λ vs. own_value (boolean b) ∷ vs) (own_there ds)
+own_there (number n ∷ ds) = ap (λ vs. own_value (number n) ∷ vs) (own_there ds)
+own_there (array es ∷ ds) = ap (λ vs. own_value (array es) ∷ vs) (own_there ds)
+own_there (object ms ∷ ds) = ap (λ vs. own_value (object ms) ∷ vs) (own_there ds)
+
+there_more : (d : Data) (ds : List Data) → is_there d ≡ true → there (d ∷ ds) ≡ d ∷ there ds
+there_more null ds e = cc
+there_more (string s) ds e = cc
+there_more (boolean b) ds e = refl
+there_more (number n) ds e = refl
+there_more (array es) ds e = refl
+there_more (object ms) ds e = refl
+
+there_less : (d : Data) (ds : List Data) → is_there d ≡ false → there (d ∷ ds) ≡ there ds
+there_less null ds e = refl
+there_less (string s) ds e = refl
+there_less (boolean b) ds e = cc
+there_less (number n) ds e = cc
+there_less (array es) ds e = cc
+there_less (object ms) ds e = cc
+
+step : {X : Type 0} (xs : List X) (i : ℕ) (x : X) → i < length xs → x ≡ get_or xs i x
+    → drop i xs ≡ x ∷ drop (i + 1) xs
+step xs i x l at = drop_more xs i x l ∙ ap (λ y. y ∷ drop (i + 1) xs) (sym at)
+
+pub present_more : {X : Type 0} (f : X → Data) (xs : List X) (i : ℕ) (x : X) (made new : List Data)
+    → i < length xs → x ≡ get_or xs i x → is_there (f x) ≡ true
+    → there (map f xs) ≡ made ++ there (map f (drop i xs)) → new ≡ made ++ f x ∷ []
+    → there (map f xs) ≡ new ++ there (map f (drop (i + 1) xs))
+present_more f xs i x made new l at t h e =
+    let rest = there (map f (drop (i + 1) xs)) in
+    h ∙ ap (λ ys. made ++ there (map f ys)) (step xs i x l at)
+    ∙ ap (λ ds. made ++ ds) (there_more (f x) (map f (drop (i + 1) xs)) t)
+    ∙ sym (append_assoc made (f x ∷ []) rest) ∙ ap (λ ds. ds ++ rest) (sym e)
+
+pub present_less : {X : Type 0} (f : X → Data) (xs : List X) (i : ℕ) (x : X) (made : List Data)
+    → i < length xs → x ≡ get_or xs i x → is_there (f x) ≡ false
+    → there (map f xs) ≡ made ++ there (map f (drop i xs))
+    → there (map f xs) ≡ made ++ there (map f (drop (i + 1) xs))
+present_less f xs i x made l at t h =
+    h ∙ ap (λ ys. made ++ there (map f ys)) (step xs i x l at)
+    ∙ ap (λ ds. made ++ ds) (there_less (f x) (map f (drop (i + 1) xs)) t)
+
+pub present_all : {X : Type 0} (f : X → Data) (xs : List X) (i : ℕ) (made : List Data)
+    → length xs ≤ i → there (map f xs) ≡ made ++ there (map f (drop i xs))
+    → made ≡ there (map f xs)
+present_all f xs i made l h =
+    sym (h ∙ ap (λ ys. made ++ there (map f ys)) (drop_all i xs l) ∙ append-nil made)
+
+-- ---- the index
+
+index_more : (n : ℕ) (d : Data) (vs : List Value) → is_there d ≡ true
+    → option_index n (own_value d ∷ vs) ≡ pos n ∷ option_index (n + 1) vs
+index_more n d vs e = rw add-one (by_case d e)
+  where
+    by_case : (d : Data) → is_there d ≡ true
+        → option_index n (own_value d ∷ vs) ≡ pos n ∷ option_index (suc n) vs
+    by_case null e = cc
+    by_case (string s) e = cc
+    by_case (boolean b) e = refl
+    by_case (number m) e = refl
+    by_case (array es) e = refl
+    by_case (object ms) e = refl
+
+index_less : (n : ℕ) (d : Data) (vs : List Value) → is_there d ≡ false
+    → option_index n (own_value d ∷ vs) ≡ negsuc 0 ∷ option_index n vs
+index_less n null vs e = refl
+index_less n (string s) vs e = refl
+index_less n (boolean b) vs e = cc
+index_less n (number m) vs e = cc
+index_less n (array es) vs e = cc
+index_less n (object ms) vs e = cc
+
+abbrev own_of : {X : Type 0} → (X → Data) → List X → List Value
+own_of f xs = map (λ x. own_value (f x)) xs
+
+-- the numbers so far and those that are left
+pub record AreIndexed {X : Type 0} (f : X → Data) (xs : List X) (i n : ℕ) (zs : List ℤ)
+    : Type 0 where
+  pub all : option_index 0 (own_of f xs) ≡ zs ++ option_index n (own_of f (drop i xs))
+  pub size : length zs ≡ i
+  pub few : n ≤ i
+
+pushed : (zs : List ℤ) (z : ℤ) → length (zs ++ z ∷ []) ≡ length zs + 1
+pushed [] z = refl
+pushed (y ∷ zs) z = omega (arith, pushed zs z)
+
+pub indexed_more : {X : Type 0} (f : X → Data) (xs : List X) (i n : ℕ) (x : X) (zs ys : List ℤ)
+    → i < length xs → x ≡ get_or xs i x → is_there (f x) ≡ true → AreIndexed f xs i n zs
+    → ys ≡ zs ++ pos n ∷ [] → AreIndexed f xs (i + 1) (n + 1) ys
+indexed_more f xs i n x zs ys l at t h e =
+    let rest = option_index (n + 1) (own_of f (drop (i + 1) xs)) in
+    record {
+      all =
+          h.all ∙ ap (λ ws. zs ++ option_index n (own_of f ws)) (step xs i x l at)
+          ∙ ap (λ us. zs ++ us) (index_more n (f x) (own_of f (drop (i + 1) xs)) t)
+          ∙ sym (append_assoc zs (pos n ∷ []) rest) ∙ ap (λ us. us ++ rest) (sym e);
+      size = ap length e ∙ pushed zs (pos n) ∙ ap (λ m. m + 1) h.size;
+      few = omega (arith, h.few);
+    }
+
+pub indexed_less : {X : Type 0} (f : X → Data) (xs : List X) (i n : ℕ) (x : X) (zs ys : List ℤ)
+    → i < length xs → x ≡ get_or xs i x → is_there (f x) ≡ false → AreIndexed f xs i n zs
+    → ys ≡ zs ++ negsuc 0 ∷ [] → AreIndexed f xs (i + 1) n ys
+indexed_less f xs i n x zs ys l at t h e =
+    let rest = option_index n (own_of f (drop (i + 1) xs)) in
+    record {
+      all =
+          h.all ∙ ap (λ ws. zs ++ option_index n (own_of f ws)) (step xs i x l at)
+          ∙ ap (λ us. zs ++ us) (index_less n (f x) (own_of f (drop (i + 1) xs)) t)
+          ∙ sym (append_assoc zs (negsuc 0 ∷ []) rest) ∙ ap (λ us. us ++ rest) (sym e);
+      size = ap length e ∙ pushed zs (negsuc 0) ∙ ap (λ m. m + 1) h.size;
+      few = omega (arith, h.few);
+    }
+
+pub indexed_all : {X : Type 0} (f : X → Data) (xs : List X) (i n : ℕ) (zs : List ℤ)
+    → length xs ≤ i → AreIndexed f xs i n zs → zs ≡ option_index 0 (own_of f xs)
+indexed_all f xs i n zs l h =
+    sym (h.all ∙ ap (λ ws. zs ++ option_index n (own_of f ws)) (drop_all i xs l) ∙ append-nil zs)
+
+-- ---- the column
+
+pub options_fit : (vs : List Value) (j : Column) (z : Layout) → j ≡ index_column vs
+    → array_items z ≡ filter is_present vs → IsOptionalIndex j (len z)
+options_fit vs j z e h =
+    subst (λ c. IsOptionalIndex c (len z)) (sym e)
+    (index_into vs (len z) (sym (length-array_items z) ∙ ap length h))
+
+map_same : (vs : List Value) → vs ≡ map (λ v. v) vs
+map_same [] = refl
+map_same (v ∷ vs) = ap (λ ws. v ∷ ws) (map_same vs)
+
+option_same : (v : Value) → in_option (λ w. w) v ≡ v
+option_same values.null = refl
+option_same (int z) = refl
+option_same (truth b) = refl
+option_same (list ws) = refl
+option_same (row ws) = refl
+option_same (alt k w) = refl
+
+options_same : (vs : List Value) → map (in_option (λ w. w)) vs ≡ vs
+options_same [] = refl
+options_same (v ∷ vs) = ap₂ (λ w ws. w ∷ ws) (option_same v) (options_same vs)
+
+pub options_made : (vs : List Value) (j : Column) (z y : Layout) → j ≡ index_column vs
+    → array_items z ≡ filter is_present vs → y ≡ optional j z → array_items y ≡ vs
+options_made vs j z y e h g =
+    ap array_items (g ∙ ap (λ c. optional c z) e)
+    ∙ nulls-framed (λ v. v) vs z (h ∙ map_same (filter is_present vs)) ∙ options_same vs
+
+pub options_size : (vs : List Value) (j : Column) → j ≡ index_column vs → size_of j ≡ length vs
+options_size vs j e = ap size_of e ∙ length-index 0 vs
+
+-- ---- what suits
+
+pub option_typed : (t : DataType) → is_option t ≡ false → option_of t ≡ opt t
+option_typed (opt t) e = cc
+option_typed unknown e = refl
+option_typed (leaf p) e = refl
+option_typed (var t) e = refl
+option_typed (reg n t) e = refl
+option_typed (rec ns ts) e = refl
+option_typed (tup ts) e = refl
+option_typed (uni ts) e = refl
+
+present_is : (t : DataType) → is_option t ≡ false → present t ≡ t
+present_is (opt t) e = cc
+present_is unknown e = refl
+present_is (leaf p) e = refl
+present_is (var t) e = refl
+present_is (reg n t) e = refl
+present_is (rec ns ts) e = refl
+present_is (tup ts) e = refl
+present_is (uni ts) e = refl
+
+-- a value that is there, within an option
+suit_in : (t : DataType) (d : Data) → is_option t ≡ false → is_there d ≡ true → Suits (opt t) d
+    → Suits t d
+suit_in t null e i s = absurd (cc)
+suit_in t (string c) e i s = absurd (cc)
+suit_in t (boolean b) e i s =
+    (s.0, ap (λ u. is_of primitive.Bool u) (present_is t e) ∙ s.1)
+suit_in t (number n) e i s =
+    (s.0, ap (λ u. is_of primitive.I64 u && is_int64 n) (present_is t e) ∙ s.1)
+suit_in t (array ds) e i s =
+    (s.0, ap (λ u. is_of_lists u && all_suit (item_of u) ds) (present_is t e) ∙ s.1)
+suit_in t (object ms) e i s = (
+  s.0,
+  ap (λ u. is_of_records u
+      && members_suit (names_of_fields u) (types_of_fields u) ms) (present_is t e) ∙ s.1,
+)
+
+pub there_suit : (t : DataType) (ds : List Data) → is_option t ≡ false → AllSuit (opt t) ds
+    → AllSuit t (there ds)
+there_suit t [] e a = tt
+there_suit t (null ∷ ds) e a = there_suit t ds e a.1
+there_suit t (string s ∷ ds) e a = there_suit t ds e a.1
+there_suit t (boolean b ∷ ds) e a = (suit_in t (boolean b) e refl a.0, there_suit t ds e a.1)
+there_suit t (number n ∷ ds) e a = (suit_in t (number n) e refl a.0, there_suit t ds e a.1)
+there_suit t (array es ∷ ds) e a = (suit_in t (array es) e refl a.0, there_suit t ds e a.1)
+there_suit t (object ms ∷ ds) e a = (suit_in t (object ms) e refl a.0, there_suit t ds e a.1)
