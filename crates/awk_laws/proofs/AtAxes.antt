@@ -24,14 +24,14 @@ use Rattle.awk_lists.specs.Flatten.{flatten_of, flatten_function, item_type}
 use Rattle.awk_nulls.specs.DropNone.{drop_none_of}
 use Rattle.awk_nulls.specs.PadNone.{pad_none_of, pad_none_function, padded, padded_class}
 use Rattle.awk_nulls.specs.Singletons.{singletons_of, singletons_function, single_list}
-use Rattle.awk_laws.specs.Arrays.{AreItems}
+use Rattle.awk_law_chains.specs.Arrays.{AreItems}
 use Rattle.awk_laws.proofs.Composed.{type-composed, value-composed}
 use Rattle.awk_laws.proofs.Lifted.{normal_type, normal_value}
 use Rattle.awk_laws.proofs.Present.{padded_stay, present-padded, joined-singles, singles_typed}
 
 -- ---- what is given at an axis
 
-abbrev lifted_item : Giving → ℕ → DataType → Value → Value
+abbrev pub lifted_item : Giving → ℕ → DataType → Value → Value
 lifted_item g a t v =
     simple_value (lifted_type g (Axis a) t) (lifted_value g (Axis a) t v)
 
@@ -39,7 +39,7 @@ abbrev lifted_array : Giving → ℕ → DataType → List Value → Datum
 lifted_array g a t vs =
     arr (simple (lifted_type g (Axis a) t)) (map (λ v. lifted_item g a t v) vs)
 
-given-items : (f : ListFunction) (a : ℕ) (t : DataType) (vs : List Value) (d : Datum)
+pub given-items : (f : ListFunction) (a : ℕ) (t : DataType) (vs : List Value) (d : Datum)
     → on_items f (Axis a) t vs ≡ Ok d → d ≡ lifted_array f.giving a t vs
 given-items f a t vs d e =
     let spoil = first_spoil (too_many (length vs)) (spoil_at f (Axis a) t vs) in

@@ -30,10 +30,10 @@ use Rattle.awk_unify.specs.Unify.{unification}
 use Rattle.awk_unify.specs.UnifyList.{UnificationList, unification_list, unification_more}
 use Rattle.awk_unify.specs.UnifyList.{one_further}
 use Rattle.awk_unify.proofs.Rules.{unified_early}
-use Rattle.awk_laws.specs.Arrays.{AreFew}
+use Rattle.awk_law_chains.specs.Arrays.{AreFew}
 use Rattle.awk_laws.specs.Concatenation.{ConcatenationLaws, item_type, items_in, unified}
 use Rattle.awk_laws.specs.Concatenation.{carried_items, part_range}
-use Rattle.awk_laws.proofs.Limits.{few}
+use Rattle.awk_law_chains.proofs.Limits.{few}
 use Rattle.awk_laws.proofs.Slices.{range-places}
 
 -- ---- types

@@ -24,12 +24,12 @@ use Rattle.awk_lists.specs.Num.{num_of}
 use Rattle.awk_lists.specs.Unflatten.{unflatten_of, cut_refused, lists_by, type_refused}
 use Rattle.awk_lists.specs.Unflatten.{limit_refused, lengths_refused, do_not_add_up, cut_by}
 use Rattle.awk_lists.specs.Unflatten.{count_of, is_negative}
-use Rattle.awk_laws.specs.Arrays.{AreItems, AreFew}
+use Rattle.awk_law_chains.specs.Arrays.{AreItems, AreFew}
 use Rattle.awk_laws.specs.Flattening.{FlatteningLaws}
 use Rattle.awk_laws.proofs.Cuts.{list_length, joined-cut, lengths-cut, length-cut, cut-joined}
 use Rattle.awk_laws.proofs.Cuts.{counts_add_up, adding_up, none_negative, sum-lengths}
 use Rattle.awk_laws.proofs.Cuts.{items_joined}
-use Rattle.awk_laws.proofs.Limits.{few, few-limit}
+use Rattle.awk_law_chains.proofs.Limits.{few, few-limit}
 use Rattle.awk_laws.proofs.Lists.{flatten-lists, flatten-given, num-lists, num-given, cut_lists}
 use Rattle.awk_laws.proofs.Lists.{all_lists, simple_items}
 

@@ -9,7 +9,6 @@ use Rattle.awk_types.specs.DataType.{uni, no_types, type, types_from}
 use Rattle.awk_types.specs.Has.{Has, HasRow, HasAlternative}
 use Rattle.awk_types.specs.Simple.{IsSimple, AreSimple, ArePlain, is_option, is_union, present}
 use Rattle.awk_types.specs.Simple.{simple, simples, simple_value, simple_values, in_list, in_row}
-use Rattle.awk_types.specs.Simple.{in_option}
 use Rattle.awk_types.specs.Simple.{values_by, value_by, union_of, value_after, alternatives_before}
 use Rattle.awk_types.specs.Value.{Value, Values, int, truth, null, list, row, alt, value_list}
 use Rattle.awk_types.specs.Value.{values_from}
@@ -20,9 +19,9 @@ use Rattle.awk_axis.specs.Lift.{nested, lifted_type, lifted_types, lifted_value,
 use Rattle.awk_axis.specs.ListFunction.{Giving, lists}
 use Rattle.awk_axis.specs.declared.place.Reach.TheVariants.{Axis}
 use Rattle.awk_columns.specs.ListClass.{Class, list_type}
-use Rattle.awk_columns.proofs.ArrayLaws.{simple_null}
 use Rattle.awk_columns.proofs.ListNodes.{simple-list, simple_value-list}
-use Rattle.awk_laws.proofs.Places.{map-map}
+use Rattle.awk_law_chains.proofs.Chains.{in_option_simple}
+use Rattle.awk_law_chains.proofs.Places.{map-map}
 
 -- ---- values, by one function after another
 
@@ -46,15 +45,6 @@ pub both_in_row : (f g h : List (Value → Value)) (vs : Values)
 both_in_row f g h vs e =
     ap (λ xs. row (values_from xs))
     (ap (values_by g) (value_list-from (values_by f (value_list vs))) ∙ e)
-
-in_option_simple : (t : DataType) (v : Value)
-    → in_option (simple_value t) v ≡ simple_value t v
-in_option_simple t null = sym (simple_null t)
-in_option_simple t (int z) = refl
-in_option_simple t (truth b) = refl
-in_option_simple t (list vs) = refl
-in_option_simple t (row vs) = refl
-in_option_simple t (alt k v) = refl
 
 -- ---- types
 

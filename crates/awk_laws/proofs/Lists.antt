@@ -28,7 +28,7 @@ use Rattle.awk_lists.specs.Flatten.{flatten_of}
 use Rattle.awk_lists.specs.Num.{num_of, length_function}
 use Rattle.awk_lists.specs.Unflatten.{cut_by}
 use Rattle.awk_laws.proofs.Cuts.{list_length, is_list}
-use Rattle.awk_laws.proofs.Limits.{few_spoil, few_spoil-limit, counted_few, counted-limit}
+use Rattle.awk_law_chains.proofs.Limits.{few_spoil, few_spoil-limit, counted_few, counted-limit}
 use Rattle.awk_laws.proofs.Told.{told_none, none_told, none_first}
 
 -- the array of a list of values

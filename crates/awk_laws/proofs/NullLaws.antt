@@ -16,9 +16,8 @@ use Rattle.awk_types.specs.Settle.{settle}
 use Rattle.awk_types.specs.Simple.{IsSimple, is_option, present, simple, simple_value, option_of}
 use Rattle.awk_types.specs.Simple.{in_option}
 use Rattle.awk_types.specs.Value.{Value, int, truth, null, list, row, alt, no_values}
-use Rattle.awk_types.specs.Value.{value_list, values_from}
+use Rattle.awk_types.specs.Value.{values_from}
 use Rattle.awk_types.specs.Faults.{limit_fault}
-use Rattle.awk_types.specs.declared.primitive.Primitive.TheVariants.{I64}
 use Rattle.awk_types.specs.declared.fault.Fault.{Fault}
 use Rattle.awk_types.specs.declared.fault.Fault.TheVariants as fault
 use Rattle.awk_types.proofs.RangeLaws.{fits_holds}
@@ -28,34 +27,27 @@ use Rattle.awk_types.proofs.SimpleLaws.{simple_stays, value_stays, each_stays, p
 use Rattle.awk_types.proofs.SimpleLaws.{present_stays, in_option_stays}
 use Rattle.awk_axis.specs.declared.causes.Refusal.{Refusal}
 use Rattle.awk_axis.specs.declared.causes.Refusal.TheVariants as refused
-use Rattle.awk_axis.specs.declared.place.Reach.TheVariants.{Axis}
-use Rattle.awk_axis.specs.Causes.{first_spoil}
 use Rattle.awk_axis.specs.Counted.{counted}
-use Rattle.awk_axis.specs.Lift.{lifted_value}
 use Rattle.awk_axis.specs.Lifting.{first_told, lift, refusal_fault, spoil_fault}
 use Rattle.awk_axis.specs.Spoils.{too_many}
-use Rattle.awk_columns.specs.Columns.{present_values, joined_items, list_items}
-use Rattle.awk_columns.specs.ListClass.{Class, list_type}
+use Rattle.awk_columns.specs.Columns.{present_values, joined_items}
 use Rattle.awk_fill.specs.FillNone.{Filler, literal, datum, fill_none_of, fill_none_function}
 use Rattle.awk_fill.specs.FillNone.{filled}
 use Rattle.awk_fill.specs.FillNone.{filled_type, filler_refusal, is_filler, no_filler, filling}
 use Rattle.awk_fill.specs.FillNone.{filler_type, filler_value, fits, literal_primitive}
 use Rattle.awk_lists.specs.Flatten.{flatten_of}
-use Rattle.awk_lists.specs.Num.{num_of}
 use Rattle.awk_nulls.specs.DropNone.{drop_none_of}
-use Rattle.awk_nulls.specs.Firsts.{firsts_of, first_or_null, firsts_function}
+use Rattle.awk_nulls.specs.Firsts.{first_or_null}
 use Rattle.awk_nulls.specs.IsNone.{is_null}
 use Rattle.awk_nulls.specs.PadNone.{pad_none_of, padded}
 use Rattle.awk_nulls.specs.Singletons.{singletons_of, single_list}
 use Rattle.awk_unify.specs.Carry.{Carry, keep, in_items, to_parts, to_alternatives, carried}
 use Rattle.awk_unify.proofs.UnifiesLaws.{unifies}
-use Rattle.awk_laws.specs.Arrays.{AreItems}
-use Rattle.awk_laws.specs.Nulls.{NullLaws, lacks_first, is_zero, IsTypedFiller}
+use Rattle.awk_law_chains.specs.Arrays.{AreItems}
+use Rattle.awk_laws.specs.Nulls.{lacks_first, is_zero, IsTypedFiller}
 use Rattle.awk_laws.proofs.AtAxes.{drop_of_pad, flatten_of_singles}
-use Rattle.awk_laws.proofs.Cuts.{list_length, items_in_list}
-use Rattle.awk_laws.proofs.Limits.{counted_few, counted-limit}
-use Rattle.awk_laws.proofs.Lists.{settled_values, flatten-lists, num-given, all_lists}
-use Rattle.awk_laws.proofs.Lists.{simple_items}
+use Rattle.awk_law_chains.proofs.Limits.{counted_few, counted-limit}
+use Rattle.awk_laws.proofs.Lists.{settled_values, flatten-lists}
 use Rattle.awk_laws.proofs.Present.{present-all, has_no_null, present_typed}
 use Rattle.awk_laws.proofs.Present.{length-present, present-padded, length-padded, padded_stay}
 use Rattle.awk_laws.proofs.Present.{joined-singles, singles_typed}
@@ -106,7 +98,7 @@ is_padded n t vs d e =
       is = sym r.1 ∙ settled_values (opt t) (padded n false vs);
     }
 
-drop_none_of_pad_none : (n : ℕ) (t : DataType) (vs : List Value) (whole : Datum)
+pub drop_none_of_pad_none : (n : ℕ) (t : DataType) (vs : List Value) (whole : Datum)
     → AreItems t vs → pad_none_of n (pos 0) false (arr t vs) ≡ Ok whole
     → drop_none_of (pos 0) whole ≡ drop_none_of (pos 0) (arr t vs)
 drop_none_of_pad_none n t vs whole h e =
@@ -132,7 +124,7 @@ limit_present t e l = limit-settle (opt t) (truth true) (one t (truth true)) (se
     settles (opt u) f = cc
     settles (uni ts) f = refl
 
-unpadded : (n : ℕ) (t : DataType) (vs : List Value) (whole : Datum)
+pub unpadded : (n : ℕ) (t : DataType) (vs : List Value) (whole : Datum)
     → AreItems t vs → is_option t ≡ false → pad_none_of n (pos 0) false (arr t vs) ≡ Ok whole
     → drop_none_of (pos 0) whole ≡ Ok (arr t vs)
 unpadded n t vs whole h o e =
@@ -255,7 +247,7 @@ filled_there f (rec ns ts) v h s k i j r = plain_there (rec ns ts) v refl s k
 filled_there f (tup ts) v h s k i j r = plain_there (tup ts) v refl s k
 filled_there f (uni ts) v h s k i j r = plain_there (uni ts) v refl s k
 
-all_there : (f : Filler) (t : DataType) (vs : List Value) → IsType t → IsSimple t
+pub all_there : (f : Filler) (t : DataType) (vs : List Value) → IsType t → IsSimple t
     → AllByRecursion (Has t) vs → IsTypedFiller f → is_filler f ≡ true
     → filler_refusal f t ≡ None
     → AllByRecursion (λ w. is_null w ≡ false)
@@ -278,7 +270,8 @@ never (Err fault.Lengths) d e = cc
 never (Err fault.Index) d e = cc
 never (Err fault.NoMemory) d e = cc
 
-by_filler : (b : Bool) (r : Result Datum Fault) (d : Datum) → (if b then r else no_filler r) ≡ Ok d
+pub by_filler : (b : Bool) (r : Result Datum Fault) (d : Datum)
+    → (if b then r else no_filler r) ≡ Ok d
     → (b ≡ true) × (r ≡ Ok d)
 by_filler true r d e = (refl, e)
 by_filler false r d e = absurd (never r d e)
@@ -287,7 +280,7 @@ none_refused : (r : Option Refusal) → option_map refusal_fault r ≡ None → 
 none_refused None e = refl
 none_refused (Some x) e = cc
 
-fill_none_leaves_no_null : (t u : DataType) (vs ws : List Value) (filler : Filler)
+pub fill_none_leaves_no_null : (t u : DataType) (vs ws : List Value) (filler : Filler)
     → IsType t → AreItems t vs → IsTypedFiller filler
     → fill_none_of (arr t vs) filler (pos 0) ≡ Ok (arr u ws)
     → AllByRecursion (λ w. is_null w ≡ false) ws
@@ -309,90 +302,20 @@ fill_none_leaves_no_null t u vs ws f h k i e =
 
 -- ---- firsts
 
-head_null : (t : DataType) (vs : List Value) → IsSimple t → AllByRecursion (Has t) vs
+pub head_null : (t : DataType) (vs : List Value) → IsSimple t → AllByRecursion (Has t) vs
     → is_null (in_option (simple_value t) (first_or_null vs)) ≡ lacks_first vs
 head_null t [] s h = refl
 head_null t (v ∷ vs) s h =
     ap is_null (in_option_stays (simple_value t) v (value_stays t v s h.0))
 
-first_null : (class : Class) (t : DataType) (v : Value) → IsSimple t → Has (list_type class t) v
-    → is_null (simple_value (opt t)
-    (lifted_value firsts_function.giving (Axis 0) (list_type class t) v))
-    ≡ lacks_first (list_items v)
-first_null None t (list vs) s h = head_null t (value_list vs) s h
-first_null (Some n) t (list vs) s h = head_null t (value_list vs) s h.1
-first_null None t (int z) s h = absurd h
-first_null None t (truth b) s h = absurd h
-first_null None t null s h = absurd h
-first_null None t (row vs) s h = absurd h
-first_null None t (alt k v) s h = absurd h
-first_null (Some n) t (int z) s h = absurd h
-first_null (Some n) t (truth b) s h = absurd h
-first_null (Some n) t null s h = absurd h
-first_null (Some n) t (row vs) s h = absurd h
-first_null (Some n) t (alt k v) s h = absurd h
-
-firsts_null : (class : Class) (t : DataType) (ls : List Value) → IsSimple t
-    → AllByRecursion (Has (list_type class t)) ls
-    → map is_null (map (λ v. simple_value (opt t)
-    (lifted_value firsts_function.giving (Axis 0) (list_type class t) v)) ls)
-    ≡ map (λ l. lacks_first (list_items l)) ls
-firsts_null class t [] s h = refl
-firsts_null class t (v ∷ ls) s h =
-    ap₂ (λ x xs. x ∷ xs) (first_null class t v s h.0) (firsts_null class t ls s h.1)
-
-null_firsts : (class : Class) (t u : DataType) (ls ws : List Value)
-    → AreItems (list_type class t) ls
-    → firsts_of (pos 1) (arr (list_type class t) ls) ≡ Ok (arr u ws)
-    → map is_null ws ≡ map (λ l. lacks_first (list_items l)) ls
-null_firsts None t u ls ws h e =
-    let vs = map (λ v. simple_value (opt t)
-    (lifted_value firsts_function.giving (Axis 0) (var t) v)) ls in
-    let r = refused_or-Ok
-    (first_told None (limit (simple (opt t))) (first_spoil (too_many (length ls)) None))
-    (arr (simple (opt t)) vs) (arr u ws) e in
-    let same : arr (simple (opt t)) vs ≡ arr u ws = r.1 in
-    let items : vs ≡ ws = cc in
-    ap (map is_null) (sym items) ∙ firsts_null None t ls (simple_items None t h.simple) h.items
-null_firsts (Some n) t u ls ws h e =
-    let vs = map (λ v. simple_value (opt t)
-    (lifted_value firsts_function.giving (Axis 0) (reg n t) v)) ls in
-    let r = refused_or-Ok
-    (first_told None (limit (simple (opt t))) (first_spoil (too_many (length ls)) None))
-    (arr (simple (opt t)) vs) (arr u ws) e in
-    let same : arr (simple (opt t)) vs ≡ arr u ws = r.1 in
-    let items : vs ≡ ws = cc in
-    ap (map is_null) (sym items)
-    ∙ firsts_null (Some n) t ls (simple_items (Some n) t h.simple) h.items
-
-no_items : (t : DataType) (vs : List Value) → is_option t ≡ false → AllByRecursion (Has t) vs
+pub no_items : (t : DataType) (vs : List Value) → is_option t ≡ false → AllByRecursion (Has t) vs
     → lacks_first vs ≡ is_zero (int (pos (length vs)))
 no_items t [] o h = refl
 no_items t (v ∷ vs) o h = has_no_null t v o h.0
 
-zero_lengths : (class : Class) (t : DataType) (ls : List Value) → is_option t ≡ false
-    → AllByRecursion (Has (list_type class t)) ls
-    → map (λ l. lacks_first (list_items l)) ls ≡ map is_zero (map list_length ls)
-zero_lengths class t [] o h = refl
-zero_lengths class t (v ∷ ls) o h =
-    ap₂ (λ x xs. x ∷ xs) (no_items t (list_items v) o (items_in_list class t v h.0))
-    (zero_lengths class t ls o h.1)
-
-null_where_num_is_zero : (class : Class) (t u w : DataType) (ls ws ns : List Value)
-    → AreItems (list_type class t) ls → is_option t ≡ false
-    → firsts_of (pos 1) (arr (list_type class t) ls) ≡ Ok (arr u ws)
-    → num_of (pos 1) (arr (list_type class t) ls) ≡ Ok (arr w ns)
-    → map is_null ws ≡ map is_zero ns
-null_where_num_is_zero class t u w ls ws ns h o e f =
-    let g = num-given class t ls (arr w ns) (all_lists class t ls h.items) f in
-    let same : arr w ns ≡ arr (leaf I64) (map list_length ls) = g.1 in
-    let counts : map list_length ls ≡ ns = cc in
-    null_firsts class t u ls ws h e ∙ zero_lengths class t ls o h.items
-    ∙ ap (map is_zero) counts
-
 -- ---- singletons
 
-flatten_of_singletons : (t : DataType) (vs : List Value) (lists : Datum) → AreItems t vs
+pub flatten_of_singletons : (t : DataType) (vs : List Value) (lists : Datum) → AreItems t vs
     → singletons_of (pos 0) (arr t vs) ≡ Ok lists
     → flatten_of (pos 1) lists ≡ drop_none_of (pos 0) (arr t vs)
 flatten_of_singletons t vs lists h e =
@@ -430,7 +353,7 @@ flatten_of_singletons t vs lists h e =
 same_datum : (x y : Datum) → ◌≡◌ {A = Result Datum Fault} (Ok x) (Ok y) → x ≡ y
 same_datum x y e = cc
 
-drop_none_of_pad_none_at : (n axis : ℕ) (t : DataType) (vs : List Value)
+pub drop_none_of_pad_none_at : (n axis : ℕ) (t : DataType) (vs : List Value)
     (whole unpadded dropped : Datum) → axis ≤ 60 → AreItems t vs
     → pad_none_of n (pos axis) false (arr t vs) ≡ Ok whole
     → drop_none_of (pos axis) whole ≡ Ok unpadded
@@ -440,7 +363,7 @@ drop_none_of_pad_none_at n zero t vs whole x y p h e d q =
 drop_none_of_pad_none_at n (suc a) t vs whole x y p h e d q =
     drop_of_pad n a t vs whole x y (omega (arith, p)) h e d q
 
-flatten_of_singletons_at : (axis : ℕ) (t : DataType) (vs : List Value)
+pub flatten_of_singletons_at : (axis : ℕ) (t : DataType) (vs : List Value)
     (lists joined dropped : Datum) → axis ≤ 60 → AreItems t vs
     → singletons_of (pos axis) (arr t vs) ≡ Ok lists
     → flatten_of (pos (suc axis)) lists ≡ Ok joined
@@ -449,15 +372,3 @@ flatten_of_singletons_at zero t vs ls x y p h e d q =
     same_datum x y (sym d ∙ flatten_of_singletons t vs ls h e ∙ q)
 flatten_of_singletons_at (suc a) t vs ls x y p h e d q =
     flatten_of_singles a t vs ls x y (omega (arith, p)) h e d q
-
-pub null_laws : NullLaws
-null_laws = record {
-  drop_none_of_pad_none = drop_none_of_pad_none;
-  drop_none_of_pad_none_at = drop_none_of_pad_none_at;
-  unpadded = unpadded;
-  fill_none_leaves_no_null = fill_none_leaves_no_null;
-  null_firsts = null_firsts;
-  null_where_num_is_zero = null_where_num_is_zero;
-  flatten_of_singletons = flatten_of_singletons;
-  flatten_of_singletons_at = flatten_of_singletons_at;
-}

@@ -15,7 +15,6 @@ use Rattle.awk_types.specs.Value.{Value, Values, no_values, value, int, truth, n
 use Rattle.awk_types.specs.Value.{value_list}
 use Rattle.awk_types.specs.declared.fault.Fault.TheVariants.{NoField}
 use Rattle.awk_types.proofs.RefusalLaws.{refused_or-None}
-use Rattle.awk_columns.specs.Columns.{part_at}
 use Rattle.awk_columns.specs.ListClass.{Class, list_type}
 use Rattle.awk_frames.specs.Framed.{over, over_type}
 use Rattle.awk_lists.specs.WithoutField.{choice_of}
@@ -26,9 +25,8 @@ use Rattle.awk_types.specs.Simple.{present}
 use Rattle.awk_view.specs.Answer.{choice_fault}
 use Rattle.awk_view.specs.Choice.{Choice, has_field, absent, type_of_choice, value_of_choice}
 use Rattle.awk_view.specs.Choice.{chosen_type, chosen_value}
-use Rattle.awk_with_field.specs.Field.{put, named, field_value, end_value}
+use Rattle.awk_with_field.specs.Field.{put, named}
 use Rattle.awk_laws.proofs.Lifted.{both_in_list}
-use Rattle.awk_laws.proofs.PutNames.{among-named}
 
 -- ---- types of pairs
 
@@ -68,24 +66,6 @@ paired (suc d) a b =
 abbrev pub record_with : Name → List Name → DataTypes → DataType → DataType
 record_with n ns ts y = rec (named n ns) (types_from (put n ns y (type_list ts)))
 
-pub has-over : (n : Name) (ns : List Name) (ts : DataTypes) (x y t : DataType) → IsPaired x y t
-    → has_field n (over_type t (record_with n ns ts y)) ≡ true
-has-over n ns ts x y (var t) h = has-over n ns ts x y t h
-has-over n ns ts x y (reg k t) h = has-over n ns ts x y t h
-has-over n ns ts x y (opt (var t)) h = has-over n ns ts x y t h
-has-over n ns ts x y (opt (reg k t)) h = has-over n ns ts x y t h
-has-over n ns ts x y (tup us) h = among-named n ns
-has-over n ns ts x y unknown h = absurd h
-has-over n ns ts x y (leaf p) h = absurd h
-has-over n ns ts x y (rec ms us) h = absurd h
-has-over n ns ts x y (uni us) h = absurd h
-has-over n ns ts x y (opt unknown) h = absurd h
-has-over n ns ts x y (opt (leaf p)) h = absurd h
-has-over n ns ts x y (opt (rec ms us)) h = absurd h
-has-over n ns ts x y (opt (tup us)) h = absurd h
-has-over n ns ts x y (opt (opt t)) h = absurd h
-has-over n ns ts x y (opt (uni us)) h = absurd h
-
 three_in_list : (t : DataType) (f g k p q : Value → Value) (vs : Values)
     → ((v : Value) → Has t v → k (g (f v)) ≡ q (p v)) → AllByRecursion (Has t) (value_list vs)
     → in_list k (in_list g (in_list f (list vs))) ≡ in_list q (in_list p (list vs))
@@ -94,18 +74,30 @@ three_in_list t f g k p q vs e h =
     ∙ both_in_list t (λ v. g (f v)) k (λ v. q (p v)) vs e h
     ∙ sym (both_in_list t p q (λ v. q (p v)) vs (λ v a. refl) h)
 
--- a choice that gives of each record with its field the part at place j of what was paired
-module _ (n : Name) (ns : List Name) (ts : DataTypes) (y : DataType) (c : Choice) (u : DataType)
-    (j : ℕ)
-    (types : type_of_choice c (record_with n ns ts y) ≡ u)
-    (values : (r w : Value) → Has (rec ns ts) r → Has y w
-    → chosen_value c (record_with n ns ts y) (field_value n ns r w)
-    ≡ simple_value u (part_at j (row (value r (value w no_values))))) where
-  abbrev x : DataType
-  x = rec ns ts
-
-  abbrev whole : DataType
-  whole = record_with n ns ts y
+-- a choice that gives of each record x with its field, a record w, what a function gives of the row
+-- of that record and what was paired with it
+module _ (n : Name) (c : Choice) (x y whole u : DataType) (ending part : Value → Value)
+    (has : has_field n whole ≡ true)
+    (types : simple (type_of_choice c whole) ≡ simple u)
+    (values : (r w : Value) → Has x r → Has y w
+    → chosen_value c whole (ending (row (value r (value w no_values))))
+    ≡ simple_value u (part (row (value r (value w no_values))))) where
+  has-over : (t : DataType) → IsPaired x y t → has_field n (over_type t whole) ≡ true
+  has-over (var t) h = has-over t h
+  has-over (reg k t) h = has-over t h
+  has-over (opt (var t)) h = has-over t h
+  has-over (opt (reg k t)) h = has-over t h
+  has-over (tup us) h = has
+  has-over unknown h = absurd h
+  has-over (leaf p) h = absurd h
+  has-over (rec ms us) h = absurd h
+  has-over (uni us) h = absurd h
+  has-over (opt unknown) h = absurd h
+  has-over (opt (leaf p)) h = absurd h
+  has-over (opt (rec ms us)) h = absurd h
+  has-over (opt (tup us)) h = absurd h
+  has-over (opt (opt t)) h = absurd h
+  has-over (opt (uni us)) h = absurd h
 
   pub type-over : (t : DataType) → IsPaired x y t
       → simple (type_of_choice c (over_type t whole)) ≡ simple (over_type t u)
@@ -113,7 +105,7 @@ module _ (n : Name) (ns : List Name) (ts : DataTypes) (y : DataType) (c : Choice
   type-over (reg k t) h = ap (reg k) (type-over t h)
   type-over (opt (var t)) h = ap (λ v. opt (var v)) (type-over t h)
   type-over (opt (reg k t)) h = ap (λ v. opt (reg k v)) (type-over t h)
-  type-over (tup us) h = ap simple types
+  type-over (tup us) h = types
   type-over unknown h = absurd h
   type-over (leaf p) h = absurd h
   type-over (rec ms us) h = absurd h
@@ -126,18 +118,18 @@ module _ (n : Name) (ns : List Name) (ts : DataTypes) (y : DataType) (c : Choice
   type-over (opt (uni us)) h = absurd h
 
   end-over : (vs : Values) → HasRow (type x (type y no_types)) (value_list vs)
-      → chosen_value c whole (end_value n ns (row vs)) ≡ simple_value u (part_at j (row vs))
+      → chosen_value c whole (ending (row vs)) ≡ simple_value u (part (row vs))
   end-over no_values h = absurd h
   end-over (value r no_values) h = absurd h.1
   end-over (value r (value w no_values)) h = values r w h.0 h.1.0
   end-over (value r (value w (value z vs))) h = absurd h.1.1
 
   pub value-over : (t : DataType) (v : Value) → IsPaired x y t → Has t v
-      → chosen_value c (over_type t whole) (over t (end_value n ns) v)
-      ≡ simple_value (over_type t u) (over t (part_at j) v)
+      → chosen_value c (over_type t whole) (over t ending v)
+      ≡ simple_value (over_type t u) (over t part v)
   value-over (var t) (list vs) h k =
-      three_in_list t (over t (end_value n ns)) (value_of_choice c (over_type t whole))
-      (simple_value (type_of_choice c (over_type t whole))) (over t (part_at j))
+      three_in_list t (over t ending) (value_of_choice c (over_type t whole))
+      (simple_value (type_of_choice c (over_type t whole))) (over t part)
       (simple_value (over_type t u)) vs (λ v a. value-over t v h a) k
   value-over (var t) (int z) h k = absurd k
   value-over (var t) (truth b) h k = absurd k
@@ -145,8 +137,8 @@ module _ (n : Name) (ns : List Name) (ts : DataTypes) (y : DataType) (c : Choice
   value-over (var t) (row vs) h k = absurd k
   value-over (var t) (alt i v) h k = absurd k
   value-over (reg m t) (list vs) h k =
-      three_in_list t (over t (end_value n ns)) (value_of_choice c (over_type t whole))
-      (simple_value (type_of_choice c (over_type t whole))) (over t (part_at j))
+      three_in_list t (over t ending) (value_of_choice c (over_type t whole))
+      (simple_value (type_of_choice c (over_type t whole))) (over t part)
       (simple_value (over_type t u)) vs (λ v a. value-over t v h a) k.1
   value-over (reg m t) (int z) h k = absurd k
   value-over (reg m t) (truth b) h k = absurd k
@@ -155,8 +147,8 @@ module _ (n : Name) (ns : List Name) (ts : DataTypes) (y : DataType) (c : Choice
   value-over (reg m t) (alt i v) h k = absurd k
   value-over (opt (var t)) null h k = refl
   value-over (opt (var t)) (list vs) h k =
-      three_in_list t (over t (end_value n ns)) (value_of_choice c (over_type t whole))
-      (simple_value (type_of_choice c (over_type t whole))) (over t (part_at j))
+      three_in_list t (over t ending) (value_of_choice c (over_type t whole))
+      (simple_value (type_of_choice c (over_type t whole))) (over t part)
       (simple_value (over_type t u)) vs (λ v a. value-over t v h a) k
   value-over (opt (var t)) (int z) h k = absurd k
   value-over (opt (var t)) (truth b) h k = absurd k
@@ -164,8 +156,8 @@ module _ (n : Name) (ns : List Name) (ts : DataTypes) (y : DataType) (c : Choice
   value-over (opt (var t)) (alt i v) h k = absurd k
   value-over (opt (reg m t)) null h k = refl
   value-over (opt (reg m t)) (list vs) h k =
-      three_in_list t (over t (end_value n ns)) (value_of_choice c (over_type t whole))
-      (simple_value (type_of_choice c (over_type t whole))) (over t (part_at j))
+      three_in_list t (over t ending) (value_of_choice c (over_type t whole))
+      (simple_value (type_of_choice c (over_type t whole))) (over t part)
       (simple_value (over_type t u)) vs (λ v a. value-over t v h a) k.1
   value-over (opt (reg m t)) (int z) h k = absurd k
   value-over (opt (reg m t)) (truth b) h k = absurd k
@@ -190,8 +182,8 @@ module _ (n : Name) (ns : List Name) (ts : DataTypes) (y : DataType) (c : Choice
   value-over (opt (uni us)) v h k = absurd h
 
   values-over : (t : DataType) (vs : List Value) → IsPaired x y t → AllByRecursion (Has t) vs
-      → map (chosen_value c (over_type t whole)) (map (over t (end_value n ns)) vs)
-      ≡ map (λ v. simple_value (over_type t u) (over t (part_at j) v)) vs
+      → map (chosen_value c (over_type t whole)) (map (over t ending) vs)
+      ≡ map (λ v. simple_value (over_type t u) (over t part v)) vs
   values-over t [] h k = refl
   values-over t (v ∷ vs) h k =
       ap₂ (λ w ws. w ∷ ws) (value-over t v h k.0) (values-over t vs h k.1)
@@ -206,7 +198,7 @@ module _ (n : Name) (ns : List Name) (ts : DataTypes) (y : DataType) (c : Choice
       ap₂ (λ (o : Option Name) (s : DataType). option_map NoField o
       or option_map limit_fault (limit s))
       (looks (over_type t whole)
-      ∙ ap (λ (b : Bool). if b then None else Some n) (has-over n ns ts x y t h))
+      ∙ ap (λ (b : Bool). if b then None else Some n) (has-over t h))
       (type-over t h)
       ∙ ap (option_map limit_fault) l
 
@@ -216,26 +208,26 @@ module _ (n : Name) (ns : List Name) (ts : DataTypes) (y : DataType) (c : Choice
       → IsPaired x y t → AllByRecursion (Has t) vs
       → (b ≡ false → (v : Value) × (vs ≡ v ∷ []))
       → limit (simple (over_type t u)) ≡ None
-      → choice_of c (datum_from b (over_type t whole) (map (over t (end_value n ns)) vs))
+      → choice_of c (datum_from b (over_type t whole) (map (over t ending) vs))
       ≡ Ok (datum_from b (simple (over_type t u))
-      (map (λ v. simple_value (over_type t u) (over t (part_at j) v)) vs))
+      (map (λ v. simple_value (over_type t u) (over t part v)) vs))
   chosen-over true t vs looks h k single l =
       refused_or-None (choice_fault c (over_type t whole))
       (arr (chosen_type c (over_type t whole))
-      (map (chosen_value c (over_type t whole)) (map (over t (end_value n ns)) vs)))
+      (map (chosen_value c (over_type t whole)) (map (over t ending) vs)))
       (arr (simple (over_type t u))
-      (map (λ v. simple_value (over_type t u) (over t (part_at j) v)) vs))
+      (map (λ v. simple_value (over_type t u) (over t part v)) vs))
       (allowed t looks h l) (ap₂ arr (type-over t h) (values-over t vs h k))
   chosen-over false t vs looks h k single l =
       let p = single refl in
       let v = p.0 in
       let typed = subst (AllByRecursion (Has t)) p.1 k in
       ap (λ ws. choice_of c (datum_from false (over_type t whole)
-      (map (over t (end_value n ns)) ws))) p.1
+      (map (over t ending) ws))) p.1
       ∙ refused_or-None (choice_fault c (over_type t whole))
       (one (chosen_type c (over_type t whole))
-      (chosen_value c (over_type t whole) (over t (end_value n ns) v)))
-      (one (simple (over_type t u)) (simple_value (over_type t u) (over t (part_at j) v)))
+      (chosen_value c (over_type t whole) (over t ending v)))
+      (one (simple (over_type t u)) (simple_value (over_type t u) (over t part v)))
       (allowed t looks h l) (ap₂ one (type-over t h) (value-over t v h typed.0))
       ∙ ap (λ ws. Ok (datum_from false (simple (over_type t u))
-      (map (λ w. simple_value (over_type t u) (over t (part_at j) w)) ws))) (sym p.1)
+      (map (λ w. simple_value (over_type t u) (over t part w)) ws))) (sym p.1)

@@ -27,15 +27,17 @@ use Rattle.awk_select.specs.Picks.{picked_type}
 use Rattle.awk_select.specs.Picks.{take_places, mask_places, type_refused, limit_refused}
 use Rattle.awk_select.specs.Picks.{lengths_refused, index_refused, is_index, is_mask}
 use Rattle.awk_laws.specs.Picking.{PickingLaws}
-use Rattle.awk_laws.proofs.Limits.{few, few-limit, counted-limit}
-use Rattle.awk_laws.proofs.Places.{all_places, take_places-all, none_outside}
-use Rattle.awk_laws.proofs.Places.{picked-all, mask_places_below, take_places-picked}
-use Rattle.awk_laws.proofs.Places.{picked_inside, picked-taken, picked-map_taken, inside_picked}
-use Rattle.awk_laws.proofs.Places.{taken_item, IsBelow}
+use Rattle.awk_laws.proofs.JaggedPicks.{jagged_twice}
+use Rattle.awk_law_chains.proofs.Limits.{few, few-limit, counted-limit}
+use Rattle.awk_law_chains.proofs.Places.{all_places, take_places-all, none_outside}
+use Rattle.awk_law_chains.proofs.Places.{picked-all, mask_places_below, take_places-picked}
+use Rattle.awk_law_chains.proofs.Places.{picked_inside, picked-taken, picked-map_taken}
+use Rattle.awk_law_chains.proofs.Places.{inside_picked}
+use Rattle.awk_law_chains.proofs.Places.{taken_item, IsBelow}
 use Rattle.awk_laws.proofs.PickTypes.{allowed, inside, not_outside, same_length, places_index}
 use Rattle.awk_laws.proofs.PickTypes.{kept_numbers, picked_type-places, picked_index}
 use Rattle.awk_laws.proofs.PickTypes.{picked_type-picked}
-use Rattle.awk_laws.proofs.Rows.{jagged_of_local_index}
+use Rattle.awk_laws.proofs.LocalRows.{rows_by_places, rows_masked}
 use Rattle.awk_laws.proofs.Told.{none_told}
 
 -- ---- local_index of an array
@@ -237,5 +239,7 @@ picking_laws = record {
   take_of_local_index = take_of_local_index;
   take_of_masked_places = take_of_masked_places;
   take_of_take = take_of_take;
-  jagged_of_local_index = jagged_of_local_index;
+  jagged_of_local_index = rows_by_places;
+  jagged_of_masked_places = rows_masked;
+  jagged_of_jagged = jagged_twice;
 }

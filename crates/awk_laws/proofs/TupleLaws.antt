@@ -17,14 +17,17 @@ use Rattle.awk_columns.specs.Columns.{is_present, list_items}
 use Rattle.awk_places.specs.Places.{place_count}
 use Rattle.awk_merge.specs.Concatenate.{operand_items, row_count, row_of}
 use Rattle.awk_merge.specs.declared.operands.Axis.TheVariants.{Arrays, Rows}
-use Rattle.awk_cartesian.specs.Cartesian.{tuples_of, cartesian_of, product_by, product_fault}
+use Rattle.awk_cartesian.specs.Cartesian.{cartesian_of, product_by, product_fault}
+use Rattle.awk_products.specs.Tuples.{tuples_of}
 use Rattle.awk_cartesian.specs.Cartesian.{product_type, item_types, row_tuples, rows_tuples}
 use Rattle.awk_cartesian.proofs.CountLaws.{length-tuples}
 use Rattle.awk_laws.specs.Tuples.{TupleLaws}
+use Rattle.awk_laws.proofs.AxisCounts.{nested_count, nested_pick, nested_repeated}
+use Rattle.awk_laws.proofs.AxisTuples.{nested_tuples}
 use Rattle.awk_laws.proofs.ChoiceLaws.{binomial-factorial}
 use Rattle.awk_laws.proofs.ChoiceLaws.{all_choices, each_choice, choices_in_order}
 use Rattle.awk_laws.proofs.ChoiceLaws.{not_before_itself}
-use Rattle.awk_laws.proofs.Places.{map-map}
+use Rattle.awk_law_chains.proofs.Places.{map-map}
 use Rattle.awk_laws.proofs.TuplePicks.{count_is, count_repeated_is, pick_is}
 
 -- ---- products
@@ -112,6 +115,10 @@ tuples_law = record {
   in_order = choices_in_order;
   not_before_itself = not_before_itself;
   pick = pick_is;
+  nested = nested_tuples;
+  nested_count = nested_count;
+  nested_repeated = nested_repeated;
+  nested_pick = nested_pick;
   product = length-tuples;
   products = products_are;
   products_of_rows = products_of_rows_are;

@@ -8,7 +8,8 @@ use Rattle.std.specs.List.{AllByRecursion, range_with_len}
 use Rattle.std.proofs.Common.{arith, ap, ap₂, sym, subst, ◌∙◌}
 use Rattle.std.proofs.Common.{length-take, length-drop}
 use Rattle.std.proofs.lemmas.List.FromFn.{fill_by_all}
-use Rattle.awk_types.specs.DataType.{Name, DataType, DataTypes, rec}
+use Rattle.awk_types.specs.DataType.{Name, DataType, DataTypes, unknown, leaf, var, reg, rec, tup}
+use Rattle.awk_types.specs.DataType.{opt, uni}
 use Rattle.awk_types.specs.DataType.{type_list, types_from}
 use Rattle.awk_types.specs.Datum.{Datum, arr, one}
 use Rattle.awk_types.specs.Faults.{limit_fault}
@@ -18,7 +19,7 @@ use Rattle.awk_types.specs.IsType.{IsType}
 use Rattle.awk_types.specs.Limit.{limit}
 use Rattle.awk_types.specs.Names.{is_among}
 use Rattle.awk_types.specs.Simple.{IsSimple, simple, simple_value}
-use Rattle.awk_types.specs.Value.{Value, null, row, values_from}
+use Rattle.awk_types.specs.Value.{Value, int, truth, null, list, row, alt, values_from}
 use Rattle.awk_types.specs.declared.fault.Fault.{Fault}
 use Rattle.awk_types.specs.declared.fault.Fault.TheVariants.{NoField, WrongType, Lengths}
 use Rattle.awk_types.proofs.RefusalLaws.{refused_or-Ok, refused_or-None, or-both}
@@ -46,18 +47,20 @@ use Rattle.awk_pair_operands.specs.Pairs.{single_value}
 use Rattle.awk_pair_operands.specs.Typed.{IsTyped}
 use Rattle.awk_pair_operands.proofs.TypedLaws.{typed_pairs}
 use Rattle.awk_pair_sides.specs.Sides.{rows_of}
-use Rattle.awk_types.specs.Simple.{present}
+use Rattle.awk_types.specs.Simple.{is_option, option_if, present}
 use Rattle.awk_types.specs.Value.{no_values, value}
-use Rattle.awk_view.specs.Choice.{Choice, absent, has_field, type_of_choice}
+use Rattle.awk_view.specs.Choice.{Choice, absent, has_field, type_of_choice, value_of_choice}
 use Rattle.awk_with_field.specs.WithField.{is_wrong}
 use Rattle.awk_pair_types.specs.Limits.{limit_refused}
-use Rattle.awk_laws.specs.Arrays.{AreItems}
-use Rattle.awk_laws.specs.Viewing.{ViewLaws, start, stop, part_type, paired_part}
-use Rattle.awk_laws.proofs.Places.{map-map, map-range}
+use Rattle.awk_law_chains.specs.Arrays.{AreItems}
+use Rattle.awk_laws.specs.Viewing.{ViewLaws, start, stop, part_type, paired_part, part_beside}
+use Rattle.awk_law_chains.proofs.Chains.{in_option_simple}
+use Rattle.awk_law_chains.proofs.Places.{map-map, map-range}
 use Rattle.awk_laws.proofs.Fields.{field_type-with, field-raw, type_without, without-raw, has_at}
 use Rattle.awk_laws.proofs.PutNames.{among-named}
 use Rattle.awk_laws.proofs.PairedFields.{IsPaired, paired, record_with, chosen-over}
 use Rattle.awk_laws.proofs.Slices.{range-cut, range-places, cut-cut}
+use Rattle.awk_laws.proofs.StepRanges.{range_by_steps}
 
 -- ---- ranges
 
@@ -316,61 +319,162 @@ single-pair d ds h =
 abbrev looks_for : Choice → Name → Type 0
 looks_for c n = (s : DataType) → absent c s ≡ (if has_field n s then None else Some n)
 
+-- ---- records that are optional or not
+
+optional : (t x : DataType) → present t ≡ x → t ≡ option_if (is_option t) x
+optional (opt t) x e = ap opt e
+optional unknown x e = e
+optional (leaf p) x e = e
+optional (var t) x e = e
+optional (reg k t) x e = e
+optional (rec ms us) x e = e
+optional (tup us) x e = e
+optional (uni us) x e = e
+
+-- a record with its field
+abbrev with_it : Bool → Name → List Name → DataTypes → DataType → DataType
+with_it o n ns ts y = option_if o (record_with n ns ts y)
+
+has_it : (o : Bool) (n : Name) (ns : List Name) (ts : DataTypes) (y : DataType)
+    → has_field n (with_it o n ns ts y) ≡ true
+has_it true n ns ts y = among-named n ns
+has_it false n ns ts y = among-named n ns
+
+typed_with : (o : Bool) (n : Name) (ns : List Name) (ts : DataTypes) (y : DataType)
+    → field_type n (option_if o (rec ns ts)) y ≡ with_it o n ns ts y
+typed_with true n ns ts y = refl
+typed_with false n ns ts y = refl
+
+names_with : (o : Bool) (ns : List Name) (ts : DataTypes)
+    → names_in (present (option_if o (rec ns ts))) ≡ ns
+names_with true ns ts = refl
+names_with false ns ts = refl
+
+types_if : (o : Bool) (c : Choice) (w u : DataType) → type_of_choice c w ≡ u
+    → simple (type_of_choice c (option_if o w)) ≡ simple (option_if o u)
+types_if true c w u e = ap (λ t. simple (opt t)) e
+types_if false c w u e = ap simple e
+
+-- the part at place j of a record with its field
+abbrev pair_row : Value → Value → Value
+pair_row r w = row (value r (value w no_values))
+
+-- what is so of each record that is not null is so of each
+values_if : (o : Bool) (n : Name) (ns : List Name) (ts : DataTypes) (y : DataType) (c : Choice)
+    (u : DataType) (j : ℕ)
+    → ((r w : Value) → Has (rec ns ts) r → Has y w
+    → chosen_value c (record_with n ns ts y) (field_value n ns r w)
+    ≡ simple_value u (part_at j (pair_row r w)))
+    → (r w : Value) → Has (option_if o (rec ns ts)) r → Has y w
+    → chosen_value c (with_it o n ns ts y) (end_value n ns (pair_row r w))
+    ≡ simple_value (option_if o u) (part_beside j (pair_row r w))
+values_if true n ns ts y c u j e null w h k = refl
+values_if true n ns ts y c u j e (row vs) w h k =
+    in_option_simple (type_of_choice c (record_with n ns ts y))
+    (value_of_choice c (record_with n ns ts y) (field_value n ns (row vs) w))
+    ∙ e (row vs) w h k
+    ∙ sym (in_option_simple u (part_at j (pair_row (row vs) w)))
+values_if true n ns ts y c u j e (int z) w h k = absurd h
+values_if true n ns ts y c u j e (truth b) w h k = absurd h
+values_if true n ns ts y c u j e (list vs) w h k = absurd h
+values_if true n ns ts y c u j e (alt i v) w h k = absurd h
+values_if false n ns ts y c u j e (row vs) w h k = e (row vs) w h k
+values_if false n ns ts y c u j e null w h k = absurd h
+values_if false n ns ts y c u j e (int z) w h k = absurd h
+values_if false n ns ts y c u j e (truth b) w h k = absurd h
+values_if false n ns ts y c u j e (list vs) w h k = absurd h
+values_if false n ns ts y c u j e (alt i v) w h k = absurd h
+
 part-of : (n : Name) (ns : List Name) (ts : DataTypes) (e v whole : Datum) (c : Choice) (j : ℕ)
-    → end_of 0 (levels_of e) (both e v) ≡ rec ns ts → AllByRecursion IsTyped (both e v)
+    (u : DataType)
+    → present (end_of 0 (levels_of e) (both e v)) ≡ rec ns ts → AllByRecursion IsTyped (both e v)
     → limit (simple (part_type j e v)) ≡ None → with_field_of n e v ≡ Ok whole → looks_for c n
-    → type_of_choice c (record_with n ns ts (end_of 1 (levels_of e) (both e v)))
-    ≡ end_of j (levels_of e) (both e v)
-    → ((r w : Value) → Has (rec ns ts) r → Has (end_of 1 (levels_of e) (both e v)) w
-    → chosen_value c (record_with n ns ts (end_of 1 (levels_of e) (both e v)))
-    (field_value n ns r w)
-    ≡ simple_value (end_of j (levels_of e) (both e v))
-    (part_at j (row (value r (value w no_values)))))
+    → simple (option_if (is_option (end_of 0 (levels_of e) (both e v))) u)
+    ≡ simple (option_if (is_option (end_of 0 (levels_of e) (both e v)))
+    (end_of j (levels_of e) (both e v)))
+    → type_of_choice c (record_with n ns ts (end_of 1 (levels_of e) (both e v))) ≡ u
+    → ((r w : Value) → Has (option_if (is_option (end_of 0 (levels_of e) (both e v))) (rec ns ts)) r
+    → Has (end_of 1 (levels_of e) (both e v)) w
+    → chosen_value c (with_it (is_option (end_of 0 (levels_of e) (both e v))) n ns ts
+    (end_of 1 (levels_of e) (both e v))) (end_value n ns (pair_row r w))
+    ≡ simple_value (option_if (is_option (end_of 0 (levels_of e) (both e v)))
+    (end_of j (levels_of e) (both e v))) (part_beside j (pair_row r w)))
     → choice_of c whole ≡ Ok (paired_part j e v)
-part-of n ns ts e v whole c j f typed l h looks types values =
+part-of n ns ts e v whole c j u f typed l h looks same types values =
     let d = levels_of e in
     let ds = both e v in
     let t = pair_type true (Some d) ds in
     let vs = pair_values true (Some d) ds in
+    let x = end_of 0 d ds in
     let y = end_of 1 d ds in
+    let o = is_option x in
+    let record_is : x ≡ option_if o (rec ns ts) = optional x (rec ns ts) f in
     let r = refused_or-Ok (with_refused n d ds)
     (datum_from (some_array ds) (with_type n d ds) (with_values n d ds)) whole h in
-    let is : whole ≡ datum_from (some_array ds) (over_type t (record_with n ns ts y))
+    let is : whole ≡ datum_from (some_array ds) (over_type t (with_it o n ns ts y))
     (map (over t (end_value n ns)) vs) =
     sym r.1
-    ∙ ap (λ x. datum_from (some_array ds) (over_type t (field_type n x y))
-    (map (over t (end_value n (names_in (present x)))) vs)) f in
-    let pairs : IsPaired (rec ns ts) y t =
-    subst (λ x. IsPaired x y t) f
+    ∙ ap₂ (λ z ms. datum_from (some_array ds) (over_type t z) (map (over t (end_value n ms)) vs))
+    (ap (λ z. field_type n z y) record_is ∙ typed_with o n ns ts y) (ap names_in f) in
+    let pairs : IsPaired (option_if o (rec ns ts)) y t =
+    subst (λ z. IsPaired z y t) record_is
     (paired (below (Some d) ds) (item_type e) (item_type (beside_records e v))) in
     ap (choice_of c) is
-    ∙ chosen-over n ns ts y c (end_of j d ds) j types values (some_array ds) t vs looks pairs
+    ∙ chosen-over n c (option_if o (rec ns ts)) y (with_it o n ns ts y)
+    (option_if o (end_of j d ds)) (end_value n ns) (part_beside j) (has_it o n ns ts y)
+    (types_if o c (record_with n ns ts y) u types ∙ same) values (some_array ds) t vs looks pairs
     (typed_pairs true (Some d) ds typed (even-pairs n e v whole h)) (single-pair d ds) l
 
 field_at_ends : (n : Name) (ns : List Name) (ts : DataTypes) (e v whole : Datum)
-    → IsType (rec ns ts) → end_of 0 (levels_of e) (both e v) ≡ rec ns ts
+    → IsType (rec ns ts) → present (end_of 0 (levels_of e) (both e v)) ≡ rec ns ts
     → AllByRecursion IsTyped (both e v) → limit (simple (part_type 1 e v)) ≡ None
     → with_field_of n e v ≡ Ok whole → choice_of (field n) whole ≡ Ok (paired_part 1 e v)
 field_at_ends n ns ts e v whole h f k l r =
     let y = end_of 1 (levels_of e) (both e v) in
-    part-of n ns ts e v whole (field n) 1 f k l r (λ s. refl) (field_type-with n ns ts y h)
-    (λ a b p q. field-raw n ns ts y a b h p)
+    part-of n ns ts e v whole (field n) 1 y f k l r (λ s. refl) refl (field_type-with n ns ts y h)
+    (values_if (is_option (end_of 0 (levels_of e) (both e v))) n ns ts y (field n) y 1
+    (λ a b p q. field-raw n ns ts y a b h p))
+
+-- records, which may be optional themselves
+record_same : (o : Bool) (x r : DataType) → x ≡ option_if o r
+    → simple (option_if o r) ≡ simple (option_if o x)
+record_same true x r e = sym (ap (λ t. simple (opt t)) e)
+record_same false x r e = sym (ap simple e)
+
+record_value_same : (o : Bool) (x r : DataType) (ts : DataTypes) (ns : List Name) (w : Value)
+    → r ≡ rec ns ts → x ≡ option_if o r → Has (option_if o (rec ns ts)) w
+    → (z : Value) → simple_value (option_if o r) (part_beside 0 (pair_row w z))
+    ≡ simple_value (option_if o x) (part_beside 0 (pair_row w z))
+record_value_same true x r ts ns null e f h z = refl
+record_value_same true x r ts ns (row vs) e f h z =
+    sym (ap (λ t. simple_value (opt t) (row vs)) f)
+record_value_same true x r ts ns (int n) e f h z = absurd h
+record_value_same true x r ts ns (truth b) e f h z = absurd h
+record_value_same true x r ts ns (list vs) e f h z = absurd h
+record_value_same true x r ts ns (alt i v) e f h z = absurd h
+record_value_same false x r ts ns w e f h z =
+    sym (ap (λ t. simple_value t (part_beside 0 (pair_row w z))) f)
 
 without_at_ends : (n : Name) (ns : List Name) (ts : DataTypes) (e v whole : Datum)
-    → IsType (rec ns ts) → end_of 0 (levels_of e) (both e v) ≡ rec ns ts
+    → IsType (rec ns ts) → present (end_of 0 (levels_of e) (both e v)) ≡ rec ns ts
     → AllByRecursion IsTyped (both e v) → limit (simple (part_type 0 e v)) ≡ None
     → is_among n ns ≡ false → with_field_of n e v ≡ Ok whole
     → without_field_of n whole ≡ Ok (paired_part 0 e v)
 without_at_ends n ns ts e v whole h f k l m r =
+    let x = end_of 0 (levels_of e) (both e v) in
     let y = end_of 1 (levels_of e) (both e v) in
-    part-of n ns ts e v whole (without n) 0 f k l r (λ s. refl)
-    (type_without n ns ts y h m ∙ sym f)
-    (λ a b p q. without-raw n ns ts y a b h m p
-    ∙ ap (λ x. simple_value x a) (sym f))
+    let o = is_option x in
+    let record_is : x ≡ option_if o (rec ns ts) = optional x (rec ns ts) f in
+    part-of n ns ts e v whole (without n) 0 (rec ns ts) f k l r (λ s. refl)
+    (record_same o x (rec ns ts) record_is) (type_without n ns ts y h m)
+    (λ a b p q. values_if o n ns ts y (without n) (rec ns ts) 0
+    (λ a b p q. without-raw n ns ts y a b h m p) a b p q
+    ∙ record_value_same o x (rec ns ts) ts ns a refl record_is p b)
 
 pub view_laws : ViewLaws
 view_laws = record {
   range_of_range = range_of_range;
+  range_by_steps = range_by_steps;
   field_of_with_field = field_of_with_field;
   field_of_with_value = field_of_with_value;
   without_field_of_with_field = without_field_of_with_field;

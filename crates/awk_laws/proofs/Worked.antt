@@ -1,8 +1,8 @@
 -- The laws at worked examples, each checked by computing.
 use Rattle.std.specs.Prelude.{◌≡◌, ℕ, ℤ, true, false, List, [], ◌∷◌, map, pos, negsuc, codes}
 use Rattle.std.specs.Prelude.{Some, None, Result, Ok, Err, refl}
-use Rattle.awk_types.specs.DataType.{Name, DataType, leaf, var, rec, opt, uni, types_from}
-use Rattle.awk_types.specs.Datum.{Datum, arr}
+use Rattle.awk_types.specs.DataType.{Name, DataType, leaf, var, reg, rec, opt, uni, types_from}
+use Rattle.awk_types.specs.Datum.{Datum, arr, one}
 use Rattle.awk_types.specs.Value.{Value, int, truth, null, list, row, alt, values_from}
 use Rattle.awk_types.specs.declared.fault.Fault.{Fault}
 use Rattle.awk_types.specs.declared.fault.Fault.TheVariants.{WrongType}
@@ -57,6 +57,20 @@ flattened = refl
 counted : num_of (pos 1) (lists_of cut) ≡ Ok (ints (2 ∷ 0 ∷ 1 ∷ []))
 counted = refl
 
+-- lists that were all of length 2 come back as lists of any length
+abbrev squares : Datum
+squares = arr (reg 2 (leaf I64)) (numbers (1 ∷ 2 ∷ []) ∷ numbers (3 ∷ 4 ∷ []) ∷ [])
+
+flattened_squares : flatten_of (pos 1) squares ≡ Ok (ints (1 ∷ 2 ∷ 3 ∷ 4 ∷ []))
+flattened_squares = refl
+
+counted_squares : num_of (pos 1) squares ≡ Ok (ints (2 ∷ 2 ∷ []))
+counted_squares = refl
+
+cut_squares : unflatten_of (ints (1 ∷ 2 ∷ 3 ∷ 4 ∷ [])) (ints (2 ∷ 2 ∷ []))
+    ≡ Ok (lists_of ((1 ∷ 2 ∷ []) ∷ (3 ∷ 4 ∷ []) ∷ []))
+cut_squares = refl
+
 -- lists of which one is null: their num is optional, and cuts nothing
 abbrev some_null : Datum
 some_null = arr (opt (var (leaf I64))) (numbers (1 ∷ []) ∷ null ∷ [])
@@ -89,6 +103,19 @@ part : step_range_of (Some (pos 0)) (Some (pos 2)) (pos 1)
     ≡ Ok (arr either (alt 0 (n 7) ∷ alt 0 (n 8) ∷ []))
 part = refl
 
+-- of arrays of one type it is the part itself
+joined_like : concatenate_of (pos 0) (ints (7 ∷ 8 ∷ []) ∷ ints (9 ∷ []) ∷ [])
+    ≡ Ok (ints (7 ∷ 8 ∷ 9 ∷ []))
+joined_like = refl
+
+like_part : step_range_of (Some (pos 0)) (Some (pos 2)) (pos 1) (ints (7 ∷ 8 ∷ 9 ∷ []))
+    ≡ Ok (ints (7 ∷ 8 ∷ []))
+like_part = refl
+
+-- and of one array the array
+one_alone : concatenate_of (pos 0) (ints (7 ∷ 8 ∷ []) ∷ []) ≡ Ok (ints (7 ∷ 8 ∷ []))
+one_alone = refl
+
 -- ---- picks
 
 places : local_index_of (pos 0) (ints (5 ∷ 6 ∷ 7 ∷ [])) ≡ Ok (ints (0 ∷ 1 ∷ 2 ∷ []))
@@ -108,6 +135,9 @@ by_places : take_of (ints (5 ∷ 6 ∷ 7 ∷ [])) (options (n 0 ∷ null ∷ [])
 by_places = refl
 
 -- [5,6,7] at [2,0], and that at [1,1]: at [0,0]
+picked_once : take_of (ints (5 ∷ 6 ∷ 7 ∷ [])) (ints (2 ∷ 0 ∷ [])) ≡ Ok (ints (7 ∷ 5 ∷ []))
+picked_once = refl
+
 picked_index : take_of (ints (2 ∷ 0 ∷ [])) (ints (1 ∷ 1 ∷ [])) ≡ Ok (ints (0 ∷ 0 ∷ []))
 picked_index = refl
 
@@ -141,6 +171,44 @@ joined_singles : flatten_of (pos 1) (lists_of ((4 ∷ []) ∷ [] ∷ []))
     ≡ drop_none_of (pos 0) (options (n 4 ∷ null ∷ []))
 joined_singles = refl
 
+-- the same at axis 1: [[4],[]] padded to two, and [[4,null]] as lists of at most one
+abbrev padded_rows : Datum
+padded_rows =
+    arr (var (opt (leaf I64)))
+    (list (values_from (n 4 ∷ null ∷ [])) ∷ list (values_from (null ∷ null ∷ [])) ∷ [])
+
+padded_in_rows : pad_none_of 2 (pos 1) false (lists_of ((4 ∷ []) ∷ [] ∷ [])) ≡ Ok padded_rows
+padded_in_rows = refl
+
+unpadded_in_rows : drop_none_of (pos 1) padded_rows
+    ≡ drop_none_of (pos 1) (lists_of ((4 ∷ []) ∷ [] ∷ []))
+unpadded_in_rows = refl
+
+abbrev optional_row : Datum
+optional_row = arr (var (opt (leaf I64))) (list (values_from (n 4 ∷ null ∷ [])) ∷ [])
+
+abbrev single_rows : Datum
+single_rows =
+    arr (var (var (leaf I64))) (list (values_from (numbers (4 ∷ []) ∷ numbers [] ∷ [])) ∷ [])
+
+singles_in_rows : singletons_of (pos 1) optional_row ≡ Ok single_rows
+singles_in_rows = refl
+
+joined_in_rows : flatten_of (pos 2) single_rows ≡ drop_none_of (pos 1) optional_row
+joined_in_rows = refl
+
+-- first items two levels down: of [[[1,2],[]],[[3]]] at axis 2
+abbrev deep : Datum
+deep =
+    arr (var (var (leaf I64)))
+    (list (values_from (numbers (1 ∷ 2 ∷ []) ∷ numbers [] ∷ []))
+    ∷ list (values_from (numbers (3 ∷ []) ∷ [])) ∷ [])
+
+first_in_rows : firsts_of (pos 2) deep
+    ≡ Ok (arr (var (opt (leaf I64)))
+    (list (values_from (n 1 ∷ null ∷ [])) ∷ list (values_from (n 3 ∷ [])) ∷ []))
+first_in_rows = refl
+
 -- ---- ranges and fields
 
 abbrev range : ℤ → ℤ → Datum → Result Datum Fault
@@ -153,6 +221,17 @@ range_of_five = refl
 range_of_three : step_range_of (Some (negsuc 1)) None (pos 1) (ints (1 ∷ 2 ∷ 3 ∷ []))
     ≡ range (pos 2) (pos 4) (ints (0 ∷ 1 ∷ 2 ∷ 3 ∷ 4 ∷ []))
 range_of_three = refl
+
+-- [1:9:3] of ten numbers, and [::-1] of these three, as [7:0:-3] of the ten
+abbrev ten : Datum
+ten = ints (0 ∷ 1 ∷ 2 ∷ 3 ∷ 4 ∷ 5 ∷ 6 ∷ 7 ∷ 8 ∷ 9 ∷ [])
+
+thirds : step_range_of (Some (pos 1)) (Some (pos 9)) (pos 3) ten ≡ Ok (ints (1 ∷ 4 ∷ 7 ∷ []))
+thirds = refl
+
+thirds_down : step_range_of None None (negsuc 0) (ints (1 ∷ 4 ∷ 7 ∷ []))
+    ≡ step_range_of (Some (pos 7)) (Some (pos 0)) (negsuc 2) ten
+thirds_down = refl
 
 abbrev x : Name
 x = codes "x"
@@ -170,6 +249,10 @@ pairs =
 
 with_y : with_field_of y records (ints (2 ∷ [])) ≡ Ok pairs
 with_y = refl
+
+-- a single value stands beside each record
+with_one : with_field_of y records (one (leaf I64) (n 2)) ≡ Ok pairs
+with_one = refl
 
 field_y : choice_of (field y) pairs ≡ Ok (ints (2 ∷ []))
 field_y = refl
@@ -210,3 +293,25 @@ with_null = refl
 without_null : without_field_of y (arr (opt (var pair_type)) (null ∷ []))
     ≡ Ok (arr (opt (var record_type)) (null ∷ []))
 without_null = refl
+
+-- records that may be null: the value paired is null where they are, and they come back themselves
+abbrev some_records : Datum
+some_records = arr (opt record_type) (row (values_from (n 1 ∷ [])) ∷ null ∷ [])
+
+abbrev some_pairs : Datum
+some_pairs = arr (opt pair_type) (row (values_from (n 1 ∷ n 2 ∷ [])) ∷ null ∷ [])
+
+with_y_of_some : with_field_of y some_records (ints (2 ∷ 3 ∷ [])) ≡ Ok some_pairs
+with_y_of_some = refl
+
+field_y_of_some : choice_of (field y) some_pairs ≡ Ok (options (n 2 ∷ null ∷ []))
+field_y_of_some = refl
+
+value_of_some : paired_part 1 some_records (ints (2 ∷ 3 ∷ [])) ≡ options (n 2 ∷ null ∷ [])
+value_of_some = refl
+
+without_y_of_some : without_field_of y some_pairs ≡ Ok some_records
+without_y_of_some = refl
+
+records_of_some : paired_part 0 some_records (ints (2 ∷ 3 ∷ [])) ≡ some_records
+records_of_some = refl

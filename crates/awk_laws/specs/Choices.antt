@@ -5,8 +5,9 @@ use Rattle.std.specs.List.{AllByRecursion}
 use Rattle.awk_types.specs.DataType.{DataType}
 use Rattle.awk_types.specs.Value.{Value, row, value_list, values_from}
 use Rattle.awk_places.specs.Places.{goes_up}
-use Rattle.awk_combi.specs.Combinations.{slot_type, slots}
+use Rattle.awk_combi.specs.Combinations.{slot_type, slots, tuple_type, tuples}
 use Rattle.awk_select.specs.Picks.{picked, take_places}
+use Rattle.awk_laws.specs.Axes.{TypedList}
 
 -- how many choices there are of n of m items, by Pascal's triangle
 abbrev pub binomial : ℕ → ℕ → ℕ
@@ -40,6 +41,10 @@ AreInOrder (ks ∷ kss) = AllByRecursion (λ js. comes_before ks js ≡ true) ks
 -- a type may have as many as n slots
 abbrev pub HasSlots : ℕ → Bool → DataType → Type 0
 HasSlots n places t = slots n (slot_type places t) ≡ n
+
+-- the tuples of one list, with their type
+abbrev pub tuples_of_list : ℕ → Bool → Bool → TypedList → TypedList
+tuples_of_list n rep places l = (tuple_type places n l.0, tuples rep places n l.0 l.1)
 
 -- a tuple of places as the items that a pick by them gives
 abbrev pub picked_tuple : List Value → Value → Value

@@ -11,7 +11,7 @@ use Rattle.awk_select.specs.Picks.{step_range_of}
 use Rattle.awk_unify.specs.Carries.{carry_at}
 use Rattle.awk_unify.specs.Carry.{carried}
 use Rattle.awk_unify.specs.UnifyList.{UnificationList, unification_list}
-use Rattle.awk_laws.specs.Arrays.{AreFew}
+use Rattle.awk_law_chains.specs.Arrays.{AreFew}
 
 abbrev pub item_type : Datum → DataType
 item_type (arr t vs) = t

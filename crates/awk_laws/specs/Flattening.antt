@@ -11,7 +11,7 @@ use Rattle.awk_columns.specs.ListClass.{Class, list_type}
 use Rattle.awk_lists.specs.Flatten.{flatten_of}
 use Rattle.awk_lists.specs.Num.{num_of}
 use Rattle.awk_lists.specs.Unflatten.{unflatten_of}
-use Rattle.awk_laws.specs.Arrays.{AreItems, AreFew}
+use Rattle.awk_law_chains.specs.Arrays.{AreItems, AreFew}
 
 pub record FlatteningLaws : Type 0 where
   -- flatten of unflatten of x by counts is x

@@ -1,14 +1,8 @@
-pub mod Arrays
 pub mod Flattening
 pub mod Concatenation
 pub mod Picking
 pub mod Nulls
 pub mod Viewing
-pub mod Leaves
-pub mod Extremes
-pub mod Innermost
-pub mod Reducers
+pub mod Axes
 pub mod Choices
 pub mod Tuples
-pub mod Orders
-pub mod Histograms

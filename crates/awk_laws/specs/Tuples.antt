@@ -1,17 +1,22 @@
--- Laws of tuples of the items of one list and of several: how many there are, and which.
-use Rattle.std.specs.Prelude.{◌≡◌, ℕ, ◌+◌, ◌-◌, ◌*◌, ◌<◌, ◌≤◌, Bool, true, false, pos, List}
+-- Laws of tuples of the items of lists: how many there are, and which.
+use Rattle.std.specs.Prelude.{◌≡◌, ℕ, ◌+◌, ◌-◌, ◌*◌, ◌<◌, ◌≤◌, ℤ, Bool, true, false, pos, List}
 use Rattle.std.specs.Prelude.{map, length, get_or, Ok}
 use Rattle.std.specs.List.{AllByRecursion, Contains}
 use Rattle.awk_types.specs.DataType.{DataType}
 use Rattle.awk_types.specs.Datum.{Datum, arr}
+use Rattle.awk_types.specs.Simple.{IsSimple}
 use Rattle.awk_types.specs.Value.{Value, null}
 use Rattle.awk_columns.specs.Columns.{is_present, list_items}
 use Rattle.awk_places.specs.Places.{rising_places, place_count}
 use Rattle.awk_merge.specs.Concatenate.{operand_items, row_of}
-use Rattle.awk_combi.specs.Combinations.{tuples}
-use Rattle.awk_cartesian.specs.Cartesian.{tuples_of, cartesian_of}
+use Rattle.awk_combi.specs.Combinations.{combinations_of, tuples}
+use Rattle.awk_products.specs.Tuples.{tuples_of}
+use Rattle.awk_cartesian.specs.Cartesian.{cartesian_of}
+use Rattle.awk_pair_operands.specs.Typed.{IsTyped}
 use Rattle.awk_laws.specs.Choices.{binomial, factorial, IsChoice, comes_before, AreInOrder}
-use Rattle.awk_laws.specs.Choices.{HasSlots, picked_tuple}
+use Rattle.awk_laws.specs.Choices.{HasSlots, picked_tuple, tuples_of_list}
+use Rattle.awk_laws.specs.Axes.{lists_of}
+use Rattle.awk_law_chains.specs.Innermost.{datum_type}
 
 pub record TupleLaws : Type 0 where
   -- there are as many combinations of n items as choices of n of them
@@ -35,6 +40,25 @@ pub record TupleLaws : Type 0 where
   -- argcombinations picked from the list is combinations
   pub pick : (rep : Bool) (n : ℕ) (t : DataType) (vs : List Value) → HasSlots n false t
       → map (picked_tuple vs) (tuples rep true n t vs) ≡ tuples rep false n t vs
+  -- at each axis, of any nesting: each list of what combinations gives there is the tuples of that
+  -- list, so that the laws above hold of it
+  pub nested : (n : ℕ) (rep places : Bool) (axis : ℤ) (d made : Datum) → IsTyped d
+      → IsSimple (datum_type d) → combinations_of n rep axis places d ≡ Ok made
+      → lists_of axis made ≡ map (tuples_of_list n rep places) (lists_of axis d)
+  -- and has as many of them as the binomial says, or with replacement that of n - 1 items more
+  pub nested_count : (n : ℕ) (places : Bool) (axis : ℤ) (d made : Datum) → IsTyped d
+      → IsSimple (datum_type d) → combinations_of n false axis places d ≡ Ok made
+      → map (λ l. length l.1) (lists_of axis made)
+      ≡ map (λ l. binomial (length l.1) n) (lists_of axis d)
+  pub nested_repeated : (n : ℕ) (places : Bool) (axis : ℤ) (d made : Datum) → IsTyped d
+      → IsSimple (datum_type d) → combinations_of n true axis places d ≡ Ok made
+      → map (λ l. length l.1) (lists_of axis made)
+      ≡ map (λ l. binomial (length l.1 + n - 1) n) (lists_of axis d)
+  -- and argcombinations, picked from each list there, is combinations
+  pub nested_pick : (rep : Bool) (n : ℕ) (axis : ℤ) (d made : Datum) → IsTyped d
+      → IsSimple (datum_type d) → combinations_of n rep axis false d ≡ Ok made
+      → AllByRecursion (λ l. map (picked_tuple l.1) (tuples_of_list n rep true l).1
+      ≡ (tuples_of_list n rep false l).1) (lists_of axis d)
   -- cartesian of lists has as many tuples as the product of their lengths
   pub product : (places : Bool) (ls : List (List Value))
       → length (tuples_of places ls) ≡ place_count (map length ls)

@@ -1,4 +1,4 @@
-use Rattle.awk_laws.proofs.NullLaws.{null_laws}
+use Rattle.awk_laws.proofs.NullsLaw.{null_laws}
 use Rattle.awk_laws.proofs.laws.nulls.Goals as goal
 
 pub returns : goal.returns

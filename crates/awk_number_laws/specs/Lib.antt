@@ -1,0 +1,5 @@
+pub mod Leaves
+pub mod Extremes
+pub mod Reducers
+pub mod Orders
+pub mod Histograms
