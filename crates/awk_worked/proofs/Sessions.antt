@@ -63,6 +63,19 @@ pub lists_are_shown : answers (plain_units (load_lists ∷ show_x ∷ []))
 unfolding expr_said serde_json_on_literals base64_on_literals digits node_at nodes_of form_of
 lists_are_shown = simp (load_lists-read, show_x-read) refl
 
+-- the same lists as plain values
+abbrev values_lists : List ℕ
+values_lists = codes "{\"values\":\"x\",\"from\":[[5,-1],[],[7]]}"
+
+values_lists-read : (s : State Environment) → step s values_lists [] ≡ read_as s values_lists
+unfolding encode_utf8
+values_lists-read s = step-read s values_lists refl (values_lists, (refl, refl))
+
+pub values_are_shown : answers (plain_units (values_lists ∷ show_x ∷ []))
+    ≡ lines_of (codes "{\"bound\":\"x\"}" ∷ codes "{\"value\":[[5,-1],[],[7]]}" ∷ [])
+unfolding expr_said serde_json_on_literals digits
+values_are_shown = simp (values_lists-read, show_x-read) refl
+
 -- a name that is not bound, and two offsets that are out of order
 abbrev load_unordered : List ℕ
 load_unordered = codes "{\"load\":\"x\",\"form\":{\"class\":\"ListOffsetArray\",\"offsets\":\"i64\",\"content\":{\"class\":\"NumpyArray\",\"primitive\":\"int64\",\"form_key\":\"node1\"},\"form_key\":\"node0\"},\"length\":2,\"buffers\":{\"node0-offsets\":\"AAAAAAAAAAADAAAAAAAAAAIAAAAAAAAA\"}}"
