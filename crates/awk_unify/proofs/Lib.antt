@@ -23,3 +23,4 @@ pub mod ScalarLaws
 pub mod UnifiesLaws
 pub mod LimitLaws
 pub mod ListLaws
+pub mod SameLifts

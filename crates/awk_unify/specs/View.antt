@@ -1,6 +1,7 @@
 -- The carry that a `Lift` is, and what the structs of unifying are.
-use Rattle.std.specs.Prelude.{◌<◌, List, Option, Some, None}
+use Rattle.std.specs.Prelude.{◌≡◌, ◌<◌, List, Option, Some, None, map}
 use Rattle.awk_types.specs.View.{typ_of, typs_of}
+use Rattle.awk_unify.specs.After.{after}
 use Rattle.awk_unify.specs.Carry.{Carry, keep, in_items, to_parts, to_alternatives, carries_from}
 use Rattle.awk_unify.specs.Unification as spec
 use Rattle.awk_unify.specs.Unification.{Unification}
@@ -9,6 +10,7 @@ use Rattle.awk_unify.specs.declared.lift.Lifts.{Lifts, size-Lifts}
 use Rattle.awk_unify.specs.declared.lift.Lift.TheOpen.{Lift-F, Lifts-F}
 use Rattle.awk_unify.specs.declared.lift.Lift.TheFolds.{fold-Lift, fold-Lifts}
 use Rattle.awk_unify.specs.UnifyList.{UnificationList}
+use Rattle.awk_unify.specs.declared.several.SoFar.{SoFar}
 use Rattle.awk_unify.specs.declared.several.UnifiedAll.{UnifiedAll}
 use Rattle.awk_unify.specs.declared.unified.Unified.{Unified}
 use Rattle.awk_unify.specs.declared.parts.Parts.{Parts}
@@ -58,3 +60,11 @@ parts_found (Some p) = Some (parts_of p)
 
 abbrev pub all_of : UnifiedAll → UnificationList
 all_of u = record { typ = typ_of u.typ; lifts = lifts_of u.lifts }
+
+abbrev pub so_far_of : SoFar → UnificationList
+so_far_of s = record { typ = typ_of s.typ; lifts = lifts_of s.kept.lifts }
+
+-- where a lift is known, it leaves each of these
+abbrev pub IsIdle : Option Lift → List Carry → Type 0
+IsIdle None fs = Unit {0}
+IsIdle (Some g) fs = map (after (lift_of g)) fs ≡ fs

@@ -1,5 +1,6 @@
 //! How a value becomes one of another type.
-ghost use Rattle.std.specs.Prelude.{◌≡◌, ◌<◌, [], ◌∷◌, ◌++◌, length, IfOk, OnErr, OnOk, slice_get};
+ghost use Rattle.std.specs.Prelude.{◌≡◌, ◌<◌, ◌↔◌, [], ◌∷◌, ◌++◌, length, IfOk, IsTrue, OnErr, OnOk};
+ghost use Rattle.std.specs.Prelude.{slice_get};
 ghost use Rattle.awk_unify.specs.View.{LiftBelow, lift_of, lifts_of};
 
 use crate::places::Places;
@@ -100,4 +101,54 @@ pub fn copy_lift(alloc: Global, f: &Lift) -> Result<Lift, NoMemory>
             })
         }
     }
+}
+
+/// Whether two lifts are the same.
+#[cycle(same)]
+pub(crate) fn same_lift(f: &Lift, g: &Lift) -> bool
+    ensures { IsTrue result ↔ (lift_of f.now ≡ lift_of g.now) }
+{
+    match (f, g) {
+        (Lift::Same, Lift::Same) => true,
+        (Lift::Items(item), Lift::Items(other)) => same_lift(item, other),
+        (
+            Lift::Parts { places, parts },
+            Lift::Parts {
+                places: places_two,
+                parts: parts_two,
+            },
+        ) => same_parts(places, parts, places_two, parts_two),
+        (
+            Lift::Alternatives { tags, parts },
+            Lift::Alternatives {
+                tags: tags_two,
+                parts: parts_two,
+            },
+        ) => same_parts(tags, parts, tags_two, parts_two),
+        _ => false,
+    }
+}
+
+/// Whether two lists of lifts are the same, and what stands beside them is.
+#[cycle(same)]
+fn same_parts(ps: &Places, fs: &Lifts, qs: &Places, gs: &Lifts) -> bool
+    ensures { IsTrue result ↔ (ps.now ≡ qs.now) × (lifts_of fs.now ≡ lifts_of gs.now) }
+{
+    ps.same(qs) && same_lifts(fs, gs)
+}
+
+/// Whether two lists of lifts are the same.
+#[cycle(same)]
+pub(crate) fn same_lifts(fs: &Lifts, gs: &Lifts) -> bool
+    ensures { IsTrue result ↔ (lifts_of fs.now ≡ lifts_of gs.now) }
+{
+    if fs.items.len() != gs.items.len() {
+        return false;
+    }
+    for i in 0..fs.items.len() {
+        if !same_lift(&fs.items[i], &gs.items[i]) {
+            return false;
+        }
+    }
+    true
 }

@@ -1,11 +1,19 @@
 //! Places in order.
-ghost use Rattle.std.specs.Prelude.{◌≡◌, ◌<◌, [], ◌∷◌, ◌++◌, length, map, IfOk, OnErr, OnOk, slice_get};
+ghost use Rattle.std.specs.Prelude.{◌≡◌, ◌<◌, ◌↔◌, [], ◌∷◌, ◌++◌, length, map, IfOk, IsTrue};
+ghost use Rattle.std.specs.Prelude.{OnErr, OnOk, slice_get};
 ghost use Rattle.awk_unify.specs.Carry.{tag_at};
 ghost use Rattle.awk_unify.specs.Places.{places};
 
 use awk_types::NoMemory;
 use std::alloc::Global;
 use std::marker::Model;
+
+/// Whether these are the same numbers.
+fn same_numbers(numbers: &[u64], others: &[u64]) -> bool
+    ensures { IsTrue result ↔ (numbers.now ≡ others.now) }
+{
+    numbers == others
+}
 
 /// Places in order.
 #[derive(Debug, Drop)]
@@ -53,6 +61,13 @@ impl Places {
         ensures { slice_get self.now i ≡ Some result }
     {
         self.items[i]
+    }
+
+    /// Whether these are the same places.
+    pub(crate) fn same(&self, others: &Places) -> bool
+        ensures { IsTrue result ↔ (self.now ≡ others.now) }
+    {
+        same_numbers(&self.items, &others.items)
     }
 
     /// Equal places.
