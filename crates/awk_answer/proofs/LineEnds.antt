@@ -6,7 +6,8 @@ use Rattle.awk_types.specs.Datum.{Datum, arr, one}
 use Rattle.awk_edge.specs.Lines.{Unbroken}
 use Rattle.awk_edge.proofs.LineLaws.{Unbroken-append}
 use Rattle.awk_json.specs.Text.{quoted, list_text}
-use Rattle.awk_json.proofs.Lines.{literal-unbroken, quoted-unbroken, list_text-unbroken, decimal-unbroken}
+use Rattle.awk_json.proofs.Lines.{literal-unbroken, quoted-unbroken, list_text-unbroken}
+use Rattle.awk_json.proofs.Lines.{decimal-unbroken}
 use Rattle.awk_form.specs.declared.fault.FormWhy.{FormWhy}
 use Rattle.awk_form.specs.declared.fault.FormWhy.TheVariants as why
 use Rattle.awk_valid.specs.declared.fault.BufferFault.{BufferFault}
@@ -19,7 +20,8 @@ use Rattle.awk_text.proofs.LineEnds.{value_text-unbroken, values_text-unbroken}
 use Rattle.awk_answer.specs.declared.fault.AnswerFault.{AnswerFault}
 use Rattle.awk_answer.specs.declared.fault.AnswerFault.TheVariants as faults
 use Rattle.awk_answer.specs.FaultText.{why_text, buffer_text, rule_text, fault_text}
-use Rattle.awk_answer.specs.Answer.{Answer, begun, bound, value, typ, packed, names, fault, answer_text, datum_text}
+use Rattle.awk_answer.specs.Answer.{Answer, begun, bound, value, typ, packed, names, fault}
+use Rattle.awk_answer.specs.Answer.{answer_text, datum_text}
 
 -- three texts, one after another
 between : (head text tail : List ℕ) → Unbroken head → Unbroken text → Unbroken tail

@@ -1,5 +1,6 @@
 -- Texts in parts.
-use Rattle.std.proofs.Common.{◌≡◌, ℕ, List, [], ◌∷◌, ◌++◌, codes, append_assoc, sym, subst, Option, Result}
+use Rattle.std.proofs.Common.{◌≡◌, ℕ, List, [], ◌∷◌, ◌++◌, codes, append_assoc, sym, subst, Option}
+use Rattle.std.proofs.Common.{Result}
 use Rattle.awk_edge.specs.Pending.{Pending}
 use Rattle.awk_edge.specs.Put.{Moves}
 

@@ -4,7 +4,8 @@ use Rattle.awk_types.specs.declared.fault.Fault.TheVariants.{Depth, Size}
 use Rattle.awk_form.specs.Reading as forms
 use Rattle.awk_valid.specs.Broken as walk
 use Rattle.awk_answer.specs.declared.fault.AnswerFault.{AnswerFault}
-use Rattle.awk_answer.specs.declared.fault.AnswerFault.TheVariants.{Form, Buffer, Invalid, Evaluation}
+use Rattle.awk_answer.specs.declared.fault.AnswerFault.TheVariants.{Form, Buffer, Invalid}
+use Rattle.awk_answer.specs.declared.fault.AnswerFault.TheVariants.{Evaluation}
 
 -- a form is refused by its first break, or by the limit that its type passes
 abbrev pub form_fault : forms.Refusal → AnswerFault

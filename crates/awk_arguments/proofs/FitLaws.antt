@@ -20,7 +20,8 @@ use Rattle.awk_arguments.specs.Primitives.{primitive_in}
 use Rattle.awk_arguments.specs.Operand.{Operand, IsTakenAs, AreTaken, takes_literal, only_in}
 use Rattle.awk_arguments.specs.Operand.{both_in, first_in, two_in, three_in, data_in, all_in}
 use Rattle.awk_arguments.proofs.KindLaws.{AreOfKinds, fixed_kinds, of_kinds, one_expr, two_exprs}
-use Rattle.awk_arguments.proofs.KindLaws.{three_exprs, some_exprs, one-count, two-count, three-count}
+use Rattle.awk_arguments.proofs.KindLaws.{three_exprs, some_exprs, one-count, two-count}
+use Rattle.awk_arguments.proofs.KindLaws.{three-count}
 use Rattle.awk_arguments.proofs.KindLaws.{some-count}
 use Rattle.awk_arguments.proofs.FixedLaws.{place-given, text-given, texts-given, truth-given}
 use Rattle.awk_arguments.proofs.FixedLaws.{depth-given, edges-given, primitive-given, range-given}

@@ -1,5 +1,6 @@
 -- What the arguments of a call are by the kinds of its row: how many expressions, and which others.
-use Rattle.std.proofs.Common.{◌≡◌, ◌+◌, ◌<◌, ℕ, suc, Bool, true, false, List, [], ◌∷◌, ◌++◌, ap, ◌∙◌}
+use Rattle.std.proofs.Common.{◌≡◌, ◌+◌, ◌<◌, ℕ, suc, Bool, true, false, List, [], ◌∷◌, ◌++◌, ap}
+use Rattle.std.proofs.Common.{◌∙◌}
 use Rattle.std.proofs.Common.{length, sym, subst, arith}
 use Rattle.awk_expr.specs.Allowed.{is_of_kind, IsFixed, AreArguments}
 use Rattle.awk_expr.specs.declared.kind.ArgKind.{ArgKind}

@@ -1,5 +1,6 @@
 -- What an operation takes: a datum, or a whole number that takes its type from where it stands.
-use Rattle.std.specs.Prelude.{◌≡◌, ℕ, suc, Bool, true, false, ◌==◌, List, [], ◌∷◌, Option, Some, None}
+use Rattle.std.specs.Prelude.{◌≡◌, ℕ, suc, Bool, true, false, ◌==◌, List, [], ◌∷◌, Option, Some}
+use Rattle.std.specs.Prelude.{None}
 use Rattle.std.specs.Prelude.{option_map, if◌then◌else◌}
 use Rattle.awk_types.specs.Datum.{Datum}
 use Rattle.awk_layout.specs.Filler.{Filler, literal, datum}

@@ -39,7 +39,8 @@ use Rattle.awk_columns.specs.Joined.{AreOffsets, JoinsLists}
 use Rattle.awk_axis.specs.Mapped.{IsColumn, IsMapped, AreGiven}
 use Rattle.awk_columns.specs.ListNode.{list_layout}
 use Rattle.awk_axis.specs.Mapped.{spoil_of_all, AreMapped}
-use Rattle.awk_columns.proofs.ListNodes.{simple-list, simple_value-list, array_type-list, len-list, valid-list, item-list, joined_even}
+use Rattle.awk_columns.proofs.ListNodes.{simple-list, simple_value-list, array_type-list, len-list}
+use Rattle.awk_columns.proofs.ListNodes.{valid-list, item-list, joined_even}
 use Rattle.awk_columns.proofs.ArrayLaws.{simple_null, run_in_list, run_same}
 use Rattle.awk_columns.proofs.ArrayLaws.{option_item}
 

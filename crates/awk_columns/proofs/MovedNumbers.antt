@@ -1,17 +1,23 @@
 -- Numbers of lists moved as the bytes that they lie in.
-use Rattle.std.proofs.Common.{◌≡◌, ℕ, zero, suc, ◌+◌, ◌-◌, ◌*◌, ◌/◌, ◌<◌, ◌≤◌, List, [], ◌∷◌, ◌++◌, map, length, drop, get_or, slice_range, refl, ap, ap₂, sym, subst, ◌∙◌, arith, length-take, length-drop, length-append, get_or-take, get_or-drop}
+use Rattle.std.proofs.Common.{◌≡◌, ℕ, zero, suc, ◌+◌, ◌-◌, ◌*◌, ◌/◌, ◌<◌, ◌≤◌, List, [], ◌∷◌, ◌++◌}
+use Rattle.std.proofs.Common.{map, length, drop, get_or, slice_range, refl, ap, ap₂, sym, subst}
+use Rattle.std.proofs.Common.{◌∙◌, arith, length-take, length-drop, length-append, get_or-take}
+use Rattle.std.proofs.Common.{get_or-drop}
 use Rattle.std.specs.Prelude.{ℤ, pos}
 use Rattle.std.specs.List.{range_with_len}
 use Rattle.std.proofs.Math.Nat.{mul-div_left}
-use Rattle.std.proofs.lemmas.List.{ext_get_or, get_or-map, length-map, map-append, take-append-le, drop-append-le}
-use Rattle.std.proofs.lemmas.List.FromFn.{length-map-range_with_len, get_or-map-range_with_len, fill_by_all}
+use Rattle.std.proofs.lemmas.List.{ext_get_or, get_or-map, length-map, map-append, take-append-le}
+use Rattle.std.proofs.lemmas.List.{drop-append-le}
+use Rattle.std.proofs.lemmas.List.FromFn.{length-map-range_with_len, get_or-map-range_with_len}
+use Rattle.std.proofs.lemmas.List.FromFn.{fill_by_all}
 use Rattle.awk_types.specs.Value.{null}
 use Rattle.awk_lanes.specs.Column.{Column}
 use Rattle.awk_lanes.specs.Cut.{cut_of}
 use Rattle.awk_lanes.specs.Numbers.{element, number, numbers, width}
 use Rattle.awk_lanes.specs.Places.{size_of}
 use Rattle.awk_lanes.specs.declared.kind.Kind.{Kind}
-use Rattle.awk_lanes.specs.declared.kind.Kind.TheVariants.{Bool as Truths, I8, I16, I32, I64, U8, U16, U32, U64}
+use Rattle.awk_lanes.specs.declared.kind.Kind.TheVariants.{Bool as Truths, I8, I16, I32, I64, U8}
+use Rattle.awk_lanes.specs.declared.kind.Kind.TheVariants.{U16, U32, U64}
 use Rattle.awk_lanes.proofs.NumberParts.{number-take}
 use Rattle.awk_layout.specs.Item.{leaf_value}
 use Rattle.awk_layout.specs.Layout.{flat}
@@ -148,4 +154,5 @@ numbers_reached c r ks e =
         ∙ ap (λ z. leaf_value c.kind (element c.kind z)) (sym (get_or-map f ks j 0 (pos 0) l'))
 
     values : map (array_item (flat c)) ks ≡ map (array_item (flat m)) (range_with_len 0 (size_of m))
-    values = fill_by_all (array_item (flat m)) (map (array_item (flat c)) ks) (size_of m) null size each
+    values =
+        fill_by_all (array_item (flat m)) (map (array_item (flat c)) ks) (size_of m) null size each

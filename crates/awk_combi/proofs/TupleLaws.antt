@@ -81,7 +81,8 @@ all_valid (z ∷ zs) h = (h 0 (omega arith), all_valid zs (λ j p. h (suc j) (om
 
 -- ---- what stands in the slots of a tuple
 
-pub run_get : (h : ℕ → Value) (a n k : ℕ) → k < n → get_or (value_list (run h a n)) k null ≡ h (a + k)
+pub run_get : (h : ℕ → Value) (a n k : ℕ) → k < n
+    → get_or (value_list (run h a n)) k null ≡ h (a + k)
 run_get h a n k p =
     ap (λ xs. get_or xs k null) (value_list-run h a n)
     ∙ get_or-map-range_with_len h a n k (a + k) null p refl

@@ -1,5 +1,7 @@
 -- What is read is allowed.
-use Rattle.std.proofs.Common.{◌≡◌, ℕ, zero, suc, ℤ, pos, negsuc, Bool, true, false, cond, List, [], ◌∷◌, map, length, length-append, Option, Some, None, option_map, option_and_then, is_some, refl, sym, ap, ◌∙◌, subst, arith}
+use Rattle.std.proofs.Common.{◌≡◌, ℕ, zero, suc, ℤ, pos, negsuc, Bool, true, false, cond, List, []}
+use Rattle.std.proofs.Common.{◌∷◌, map, length, length-append, Option, Some, None, option_map}
+use Rattle.std.proofs.Common.{option_and_then, is_some, refl, sym, ap, ◌∙◌, subst, arith}
 use Rattle.std.specs.Prelude.{◌&&◌}
 use Rattle.std.specs.List.{list_all}
 use Rattle.std.proofs.lemmas.List.{length-map}
@@ -7,18 +9,25 @@ use Rattle.serde_json.specs.Data.{Data, Num, null, boolean, number, string, arra
 use Rattle.serde_json.specs.Find.{as_str, as_bool, as_number, as_integer}
 use Rattle.awk_types.specs.DataType.{Name}
 use Rattle.awk_types.specs.Names.{is_among, are_distinct}
-use Rattle.awk_expr.specs.Allowed.{is_of_kind, IsFixed, IsArgument, AreArguments, HasArguments, IsAllowed, AreAllowed}
-use Rattle.awk_expr.specs.Arguments.{Args, both, of_fixed, i64_in, u64_in, items_in, item_list, not_zero, some_count, step_in, some_count_in, primitives, primitive_name, primitive_in, bound_in, all_of, edges_in, if_distinct, texts_in, pair_in, some_exprs, names_and_exprs, named_exprs, fixed_of, part_of, args_of}
+use Rattle.awk_expr.specs.Allowed.{is_of_kind, IsFixed, IsArgument, AreArguments, HasArguments}
+use Rattle.awk_expr.specs.Allowed.{IsAllowed, AreAllowed}
+use Rattle.awk_expr.specs.Arguments.{Args, both, of_fixed, i64_in, u64_in, items_in, item_list}
+use Rattle.awk_expr.specs.Arguments.{not_zero, some_count, step_in, some_count_in, primitives}
+use Rattle.awk_expr.specs.Arguments.{primitive_name, primitive_in, bound_in, all_of, edges_in}
+use Rattle.awk_expr.specs.Arguments.{if_distinct, texts_in, pair_in, some_exprs, names_and_exprs}
+use Rattle.awk_expr.specs.Arguments.{named_exprs, fixed_of, part_of, args_of}
 use Rattle.awk_expr.specs.ExprTree as tree
 use Rattle.awk_expr.specs.ExprTree.{ExprTree, exprs_from, expr_list}
 use Rattle.awk_expr.specs.Operations.{Found, row_of}
 use Rattle.awk_expr.specs.WholeNumbers.{is_whole, if_whole, whole_in, whole_of, are_edges}
 use Rattle.awk_expr.specs.WholeNumbers.{if_edges}
-use Rattle.awk_expr.specs.Reading.{Head, var, whole, truth, call, call_head, list_head, head_of, expr_with, expr_down, expr_said}
+use Rattle.awk_expr.specs.Reading.{Head, var, whole, truth, call, call_head, list_head, head_of}
+use Rattle.awk_expr.specs.Reading.{expr_with, expr_down, expr_said}
 use Rattle.awk_expr.specs.declared.kind.ArgKind.{ArgKind}
 use Rattle.awk_expr.specs.declared.kind.ArgKind.TheVariants as kind
 use Rattle.awk_expr.specs.declared.fixed.FixedArg.{FixedArg}
-use Rattle.awk_expr.specs.declared.fixed.FixedArg.TheVariants.{Place, Count, Truth, Text, Texts, Wholes}
+use Rattle.awk_expr.specs.declared.fixed.FixedArg.TheVariants.{Place, Count, Truth, Text, Texts}
+use Rattle.awk_expr.specs.declared.fixed.FixedArg.TheVariants.{Wholes}
 
 -- what is there is so
 abbrev pub May : {A : Type 0} → (A → Type 0) → Option A → Type 0

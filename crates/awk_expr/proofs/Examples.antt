@@ -1,9 +1,11 @@
 -- Examples of every operation: a call that is read, and calls that are not, since an argument is
 -- missing, one too many, or one of them is no such argument.
-use Rattle.std.proofs.Common.{◌≡◌, ℕ, ℤ, pos, negsuc, Bool, true, List, [], ◌∷◌, ◌++◌, map, codes, Option, Some, refl}
+use Rattle.std.proofs.Common.{◌≡◌, ℕ, ℤ, pos, negsuc, Bool, true, List, [], ◌∷◌, ◌++◌, map, codes}
+use Rattle.std.proofs.Common.{Option, Some, refl}
 use Rattle.std.specs.Prelude.{is_none}
 use Rattle.std.specs.List.{list_all}
-use Rattle.serde_json.specs.Data.{Data, Items, no_items, item, null, boolean, number, string, array, unsigned, negative}
+use Rattle.serde_json.specs.Data.{Data, Items, no_items, item, null, boolean, number, string, array}
+use Rattle.serde_json.specs.Data.{unsigned, negative}
 use Rattle.awk_types.specs.DataType.{Name}
 use Rattle.awk_expr.specs.ExprTree.{ExprTree, ExprTrees, var, whole, call, exprs_from}
 use Rattle.awk_expr.specs.Operations.{row_of}

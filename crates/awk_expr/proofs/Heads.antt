@@ -1,5 +1,8 @@
 -- Expressions by their heads.
-use Rattle.std.proofs.Common.{◌≡◌, ◌≤◌, ◌<◌, ℕ, ℤ, suc, Bool, List, [], ◌∷◌, map, length, get_or, Bor, Vec, BTreeMap, Global, Option, Some, None, option_map, option_and_then, Result, Ok, Err, string_bytes, String, refl, sym, ap, ◌∙◌, subst, arith, zero, rules}
+use Rattle.std.proofs.Common.{◌≡◌, ◌≤◌, ◌<◌, ℕ, ℤ, suc, Bool, List, [], ◌∷◌, map, length, get_or}
+use Rattle.std.proofs.Common.{Bor, Vec, BTreeMap, Global, Option, Some, None, option_map}
+use Rattle.std.proofs.Common.{option_and_then, Result, Ok, Err, string_bytes, String, refl, sym, ap}
+use Rattle.std.proofs.Common.{◌∙◌, subst, arith, zero, rules}
 use Rattle.awk_types.specs.Gives.{Told}
 use Rattle.serde_json.specs.Data.{Data, Num, null, boolean, number, string, array, object, depth}
 use Rattle.serde_json.specs.View.{view, items_view, members_view, number_view}
@@ -10,7 +13,8 @@ use Rattle.serde_json.specs.declared.value.Value.TheVariants as value
 use Rattle.awk_expr.specs.Arguments.{Args, all_of}
 use Rattle.awk_expr.specs.ExprTree as tree
 use Rattle.awk_expr.specs.ExprTree.{ExprTree, exprs_from}
-use Rattle.awk_expr.specs.Reading.{Head, whole, call, list_head, head_of, expr_with, expr_said, whole_said}
+use Rattle.awk_expr.specs.Reading.{Head, whole, call, list_head, head_of, expr_with, expr_said}
+use Rattle.awk_expr.specs.Reading.{whole_said}
 use Rattle.awk_expr.specs.WholeNumbers.{whole_in}
 use Rattle.awk_expr.specs.View.{expr_of, exprs_of}
 use Rattle.awk_expr.specs.declared.op.Op.{Op}

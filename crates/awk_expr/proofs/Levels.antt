@@ -1,6 +1,8 @@
 -- How deep the values of a call nest, and that an expression has no more levels than its value.
-use Rattle.std.proofs.Common.{◌≡◌, ◌≤◌, ◌<◌, ℕ, ℤ, zero, suc, max, List, [], ◌∷◌, ◌++◌, map, length, Option, Some, None, option_map, option_and_then, refl, ap, ◌∙◌, arith}
-use Rattle.serde_json.specs.Data.{Data, null, boolean, number, string, array, object, Items, no_items, item, depth, items_depth}
+use Rattle.std.proofs.Common.{◌≡◌, ◌≤◌, ◌<◌, ℕ, ℤ, zero, suc, max, List, [], ◌∷◌, ◌++◌, map, length}
+use Rattle.std.proofs.Common.{Option, Some, None, option_map, option_and_then, refl, ap, ◌∙◌, arith}
+use Rattle.serde_json.specs.Data.{Data, null, boolean, number, string, array, object, Items}
+use Rattle.serde_json.specs.Data.{no_items, item, depth, items_depth}
 use Rattle.serde_json.specs.Find.{as_str}
 use Rattle.awk_types.specs.DataType.{Name}
 use Rattle.awk_expr.specs.Operations.{Found, row_of}
@@ -9,10 +11,13 @@ use Rattle.awk_expr.specs.declared.kind.ArgKind.{ArgKind}
 use Rattle.awk_expr.specs.declared.kind.ArgKind.TheVariants as kind
 use Rattle.awk_expr.specs.declared.fixed.FixedArg.{FixedArg}
 use Rattle.awk_expr.specs.declared.fixed.FixedArg.TheVariants.{Texts}
-use Rattle.awk_expr.specs.Arguments.{Args, both, of_fixed, item_list, items_in, all_of, pair_in, some_exprs, names_and_exprs, named_exprs, if_distinct, fixed_of, part_of, args_of}
+use Rattle.awk_expr.specs.Arguments.{Args, both, of_fixed, item_list, items_in, all_of, pair_in}
+use Rattle.awk_expr.specs.Arguments.{some_exprs, names_and_exprs, named_exprs, if_distinct}
+use Rattle.awk_expr.specs.Arguments.{fixed_of, part_of, args_of}
 use Rattle.awk_expr.specs.ExprTree as tree
 use Rattle.awk_expr.specs.ExprTree.{ExprTree}
-use Rattle.awk_expr.specs.Reading.{Head, var, whole, truth, call, call_head, list_head, head_of, expr_with, expr_down, expr_said}
+use Rattle.awk_expr.specs.Reading.{Head, var, whole, truth, call, call_head, list_head, head_of}
+use Rattle.awk_expr.specs.Reading.{expr_with, expr_down, expr_said}
 use Rattle.awk_expr.specs.WholeNumbers.{whole_in}
 
 -- one more than the greatest depth, or 0

@@ -1,5 +1,7 @@
 -- Pairs of a name and an expression, read one after another.
-use Rattle.std.proofs.Common.{◌≡◌, ◌<◌, ℕ, ◌+◌, Bool, true, false, cond, List, [], ◌∷◌, ◌++◌, map, drop, length, Option, Some, None, option_map, option_and_then, Ok, Err, refl, sym, ap, ◌∙◌, subst, arith, append_assoc}
+use Rattle.std.proofs.Common.{◌≡◌, ◌<◌, ℕ, ◌+◌, Bool, true, false, cond, List, [], ◌∷◌, ◌++◌, map}
+use Rattle.std.proofs.Common.{drop, length, Option, Some, None, option_map, option_and_then, Ok}
+use Rattle.std.proofs.Common.{Err, refl, sym, ap, ◌∙◌, subst, arith, append_assoc}
 use Rattle.std.proofs.lemmas.List.{map-append}
 use Rattle.awk_types.specs.Gives.{Told}
 use Rattle.awk_types.specs.DataType.{Name}
@@ -7,7 +9,8 @@ use Rattle.serde_json.specs.Data.{Data}
 use Rattle.serde_json.specs.View.{view}
 use Rattle.serde_json.specs.declared.value.Value.{Value}
 use Rattle.awk_types.specs.Names.{are_distinct}
-use Rattle.awk_expr.specs.Arguments.{Args, both, all_of, pair_of, pair_in, named_exprs, names_and_exprs}
+use Rattle.awk_expr.specs.Arguments.{Args, both, all_of, pair_of, pair_in, named_exprs}
+use Rattle.awk_expr.specs.Arguments.{names_and_exprs}
 use Rattle.awk_expr.specs.declared.fixed.FixedArg.{FixedArg}
 use Rattle.awk_expr.specs.declared.fixed.FixedArg.TheVariants.{Texts}
 use Rattle.awk_expr.specs.Told.{Unread, query, or_query}

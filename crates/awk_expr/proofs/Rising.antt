@@ -1,5 +1,6 @@
 -- Numbers that rise, pair by pair.
-use Rattle.std.proofs.Common.{◌≡◌, ℕ, zero, suc, ◌+◌, ◌≤◌, ◌&&◌, ℤ, true, false, List, [], ◌∷◌, drop, length}
+use Rattle.std.proofs.Common.{◌≡◌, ℕ, zero, suc, ◌+◌, ◌≤◌, ◌&&◌, ℤ, true, false, List, [], ◌∷◌}
+use Rattle.std.proofs.Common.{drop, length}
 use Rattle.std.proofs.Common.{slice_get, Some, int_lt, int_le, refl, ap, sym, ◌∙◌, arith}
 use Rattle.awk_types.proofs.ListLaws.{drop-get}
 use Rattle.awk_expr.specs.WholeNumbers.{are_rising}

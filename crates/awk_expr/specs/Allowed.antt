@@ -6,7 +6,8 @@ use Rattle.std.specs.List.{list_all}
 use Rattle.awk_types.specs.DataType.{Name}
 use Rattle.awk_types.specs.Names.{is_among, are_distinct}
 use Rattle.awk_expr.specs.Arguments.{not_zero, some_count, primitives}
-use Rattle.awk_expr.specs.ExprTree.{ExprTree, ExprTrees, var, whole, truth, call, no_exprs, expr, expr_list}
+use Rattle.awk_expr.specs.ExprTree.{ExprTree, ExprTrees, var, whole, truth, call, no_exprs, expr}
+use Rattle.awk_expr.specs.ExprTree.{expr_list}
 use Rattle.awk_expr.specs.Operations.{row_of}
 use Rattle.awk_expr.specs.WholeNumbers.{is_whole, are_edges}
 use Rattle.awk_expr.specs.declared.op.Op.{Op}

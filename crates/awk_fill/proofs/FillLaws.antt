@@ -126,7 +126,8 @@ pub pair_given : (x y c d z : Layout) (a b t : DataType) (f g : Carry) (s0 s1 s2
 pair_given x y c d z a b t f g s0 s1 s2 ea eb tx ty e laws e0 ec e1 ed e2 hx hy v m =
     let r : Unification = record { typ = t; left = f; right = g } in
     let same : r ≡ unification (array_type x) (array_type y) =
-    sym (refused_none (limit (unification a b).typ) (unification a b) r e) ∙ ap₂ unification ea eb in
+    sym (refused_none (limit (unification a b).typ) (unification a b) r e) ∙ ap₂ unification ea
+    eb in
     let sides : s2 ≡ pair_sides r x y =
     e2 ∙ ap₂ (λ ss w. with_side ss w g) (e1 ∙ ap₂ (λ ss w. with_side ss w f) e0 ec) ed in
     let is_a : IsType a = subst IsType (sym ea) tx in
@@ -219,7 +220,8 @@ module _ (u : Unification) (w : Value) (x v z : Layout) (has : HasItems x)
   place_in (pos k) q = (omega (arith, ints), omega (arith, ints, q, length-pair))
   place_in (negsuc k) q = (omega (arith, ints), omega (arith, length-pair, some))
 
-  pub filled_index : (j : Column) → IsOptionalIndex j (len x) → IsIndex (places_or (len x) j) (len z)
+  pub filled_index : (j : Column) → IsOptionalIndex j (len x)
+      → IsIndex (places_or (len x) j) (len z)
   filled_index j h = record {
     kind = tt;
     places = λ i q.
@@ -251,8 +253,10 @@ module _ (f : Filler) (j : Column) (x v z : Layout) (has : HasItems x)
         typ = p.typ ∙ ap (λ (r : Unification). r.typ) same;
         items = λ i q.
             ap (λ a. array_item z (nat_of a)) (at-lane_of I64 (size_of j) g i q)
-            ∙ filled_at u (filler_value f) x v z has plain own.some own.first p (at j i) (h.below i q)
-            ∙ ap (λ r. fill_value r (filler_value f) (at_option (option_place_at j i) (array_item x))) same;
+            ∙ filled_at u (filler_value f) x v z has plain own.some own.first p (at j i)
+            (h.below i q)
+            ∙ ap (λ r. fill_value r (filler_value f)
+            (at_option (option_place_at j i) (array_item x))) same;
         stays = λ i q. item_stays z p.has (place_at (places_or (len x) j) i)
             (index.places i (omega (arith, q, s))).1;
       }
@@ -279,7 +283,11 @@ module _ (f : Filler) (j q : Column) (x v z b : Layout) (n : ℕ) (t : DataType)
   pub made_fit : size_of q < 2 ^ 63
   made_fit =
       subst (λ c. size_of c < 2 ^ 63) (sym index_is)
-      (omega (arith, size-lane_of I64 (size_of j) (λ i. place_or (len x) (option_place_at j i)), fit))
+      (omega (
+        arith,
+        size-lane_of I64 (size_of j) (λ i. place_or (len x) (option_place_at j i)),
+        fit,
+      ))
 
   pub made_option : (w : Layout) → w ≡ indexed q b → IsFilledOption f j x w
   made_option w e =
@@ -303,9 +311,11 @@ filled_opened f j y x w o h = record {
 }
 
 -- what is opened is no option
-pub opened_plain : (j : Column) (y x : Layout) → OpensOption j y x → is_option (array_type y) ≡ false
+pub opened_plain : (j : Column) (y x : Layout) → OpensOption j y x
+    → is_option (array_type y) ≡ false
 opened_plain j y x o =
-    let s : IsSimple (opt (array_type y)) = subst IsSimple o.typ (simple_is_simple (layout_type x)) in
+    let s : IsSimple (opt (array_type y)) = subst IsSimple o.typ
+    (simple_is_simple (layout_type x)) in
     s.0
 
 plain_type : (f : Filler) (t : DataType) → is_option t ≡ false → filled_type f t ≡ t

@@ -71,15 +71,18 @@ of_nulls : fill_none_of (arr (opt unknown) (null ∷ [])) (literal (pos 5)) (pos
     ≡ Ok (arr int64 (int (pos 5) ∷ []))
 of_nulls = refl
 
-without_nulls : fill_none_of (arr (opt (leaf I8)) (int (pos 1) ∷ [])) (datum (one (leaf U8) (int (pos 2)))) (pos 0)
-    ≡ fill_none_of (arr (opt (leaf I8)) (int (pos 1) ∷ [])) (datum (one (leaf U8) (int (pos 200)))) (pos 0)
+without_nulls : fill_none_of (arr (opt (leaf I8)) (int (pos 1) ∷ []))
+    (datum (one (leaf U8) (int (pos 2)))) (pos 0)
+    ≡ fill_none_of (arr (opt (leaf I8)) (int (pos 1) ∷ [])) (datum (one (leaf U8) (int (pos 200))))
+    (pos 0)
 without_nulls = refl
 
 overflows : fill_none_of (arr (opt (leaf U8)) []) (literal (pos 256)) (pos 0) ≡ Err Overflow
 overflows = refl
 
 -- a literal beside truth values is of int64
-overflows_beside_truths : fill_none_of (arr (opt truths) []) (literal (pos 9223372036854775808)) (pos 0)
+overflows_beside_truths : fill_none_of (arr (opt truths) []) (literal (pos 9223372036854775808))
+    (pos 0)
     ≡ Err Overflow
 overflows_beside_truths = refl
 

@@ -56,13 +56,14 @@ abbrev pub places_or : ℕ → Column → Column
 places_or n j = lane_of I64 (size_of j) (λ i. place_or n (option_place_at j i))
 
 -- n items of a type, with the nulls filled of those that are given by place
-pub record AreFilled (f : Filler) (t : DataType) (n : ℕ) (value : ℕ → Value) (y : Layout) : Type 0 where
-  pub valid : IsValid y
-  pub size : len y ≡ n
-  pub typ : array_type y ≡ filled_type f t
-  pub items : (i : ℕ) → i < n → array_item y i ≡ filled f t (value i)
-  -- simplifying changes nothing
-  pub stays : (i : ℕ) → i < n → simple_value (array_type y) (array_item y i) ≡ array_item y i
+pub record AreFilled (f : Filler) (t : DataType) (n : ℕ) (value : ℕ → Value) (y : Layout) : Type 0
+  where
+    pub valid : IsValid y
+    pub size : len y ≡ n
+    pub typ : array_type y ≡ filled_type f t
+    pub items : (i : ℕ) → i < n → array_item y i ≡ filled f t (value i)
+    -- simplifying changes nothing
+    pub stays : (i : ℕ) → i < n → simple_value (array_type y) (array_item y i) ≡ array_item y i
 
 -- an array with its nulls filled
 abbrev pub IsFilled : Filler → Layout → Layout → Type 0
@@ -71,7 +72,8 @@ IsFilled f x y = AreFilled f (array_type x) (len x) (array_item x) y
 -- the items of an option, by its index and what is present
 abbrev pub IsFilledOption : Filler → Column → Layout → Layout → Type 0
 IsFilledOption f j x y =
-    AreFilled f (opt (array_type x)) (size_of j) (λ i. at_option (option_place_at j i) (array_item x)) y
+    AreFilled f (opt (array_type x)) (size_of j)
+    (λ i. at_option (option_place_at j i) (array_item x)) y
 
 -- the fault for an answer that was to fill nulls with what is no filler
 abbrev pub IsRefused : Result Datum Fault → Fault → Type 0

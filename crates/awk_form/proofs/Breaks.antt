@@ -1,12 +1,15 @@
 -- The first break of nodes, part by part.
-use Rattle.std.proofs.Common.{◌≡◌, ℕ, suc, ◌+◌, List, [], ◌∷◌, ◌++◌, length, Option, Some, Ok, Err, refl, sym, ap, ap₂, ◌∙◌, subst, arith}
+use Rattle.std.proofs.Common.{◌≡◌, ℕ, suc, ◌+◌, List, [], ◌∷◌, ◌++◌, length, Option, Some, Ok, Err}
+use Rattle.std.proofs.Common.{refl, sym, ap, ap₂, ◌∙◌, subst, arith}
 use Rattle.serde_json.specs.Data.{Data}
 use Rattle.awk_form.specs.Node.{Node, node_at}
 use Rattle.std.proofs.lemmas.List.{length-append}
 use Rattle.awk_types.specs.Gives.{Told, refused_or, ◌or◌}
 use Rattle.awk_types.proofs.RefusalLaws.{Told-other, Told-first, or-assoc}
 use Rattle.awk_form.specs.FormTree.{FormTree}
-use Rattle.awk_form.specs.Reading.{Refusal, broken, break_at, first_break_from, nodes_of, nodes_of_all, nodes_below, contents_said, form_with, form_said, form_of}
+use Rattle.awk_form.specs.Reading.{Refusal, broken, break_at, first_break_from, nodes_of}
+use Rattle.awk_form.specs.Reading.{nodes_of_all, nodes_below, contents_said, form_with, form_said}
+use Rattle.awk_form.specs.Reading.{form_of}
 use Rattle.awk_form.proofs.Nodes.{nodes_of-is, form_of-is}
 use Rattle.awk_form.specs.declared.fault.FormWhy.{FormWhy}
 

@@ -1,5 +1,6 @@
 -- The texts of a form's parts.
-use Rattle.std.proofs.Common.{◌≡◌, ℕ, List, [], ◌∷◌, ◌++◌, map, codes, Option, Result, Ok, Err, Bool, ◌⊎◌, inl, inr, Box, Global, refl, ap, ap₂, ◌∙◌, rules}
+use Rattle.std.proofs.Common.{◌≡◌, ℕ, List, [], ◌∷◌, ◌++◌, map, codes, Option, Result, Ok, Err}
+use Rattle.std.proofs.Common.{Bool, ◌⊎◌, inl, inr, Box, Global, refl, ap, ap₂, ◌∙◌, rules}
 use Rattle.awk_edge.specs.Pending.{Pending}
 use Rattle.awk_edge.specs.Put.{Moves}
 use Rattle.awk_types.specs.DataType.{Name}
@@ -7,11 +8,14 @@ use Rattle.awk_json.specs.Text.{list_text}
 use Rattle.awk_types.specs.declared.name.Names.{Names}
 use Rattle.awk_json.proofs.Joins.{stops_at, goes_to}
 use Rattle.awk_form.specs.FormTree.{FormTree, forms_from}
-use Rattle.awk_form.specs.FormText.{key_of, class_text, class_member, members_text, contents_text, end_text, form_text, form_texts}
+use Rattle.awk_form.specs.FormText.{key_of, class_text, class_member, members_text, contents_text}
+use Rattle.awk_form.specs.FormText.{end_text, form_text, form_texts}
 use Rattle.awk_form.specs.View.{Keyed, shape_step, form_step, forms_step, form_of, forms_of, keyed}
 use Rattle.awk_form.specs.declared.form.Form.{Form}
 use Rattle.awk_form.specs.declared.form.Forms.{Forms}
-use Rattle.awk_form.specs.declared.form.Shape.{Shape, Regular, List as Shape-List, ListOffset, Row, Indexed, IndexedOption, ByteMasked, BitMasked, Unmasked, Union, the_lemmas}
+use Rattle.awk_form.specs.declared.form.Shape.{Shape, Regular, List as Shape-List, ListOffset, Row}
+use Rattle.awk_form.specs.declared.form.Shape.{Indexed, IndexedOption, ByteMasked, BitMasked}
+use Rattle.awk_form.specs.declared.form.Shape.{Unmasked, Union, the_lemmas}
 use Rattle.awk_form.specs.declared.form.Shape.TheOpen.{Shape-F}
 use Rattle.awk_form.specs.declared.form.Shape.TheViews.{out-Form}
 use Rattle.awk_form.specs.declared.form.Shape.TheFolds.{fold_out-Shape}

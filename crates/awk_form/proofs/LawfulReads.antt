@@ -1,5 +1,8 @@
 -- A form without a break is lawful.
-use Rattle.std.proofs.Common.{◌≡◌, ◌≢◌, ◌<◌, ◌≤◌, ℕ, zero, suc, ◌+◌, ◌&&◌, Bool, true, false, not, cond, nat_lt, List, [], ◌∷◌, length, map, codes, Option, Some, None, option_and_then, IsSome, Result, Ok, Err, refl, sym, ap, ◌∙◌, subst, arith, eqb-true}
+use Rattle.std.proofs.Common.{◌≡◌, ◌≢◌, ◌<◌, ◌≤◌, ℕ, zero, suc, ◌+◌, ◌&&◌, Bool, true, false, not}
+use Rattle.std.proofs.Common.{cond, nat_lt, List, [], ◌∷◌, length, map, codes, Option, Some, None}
+use Rattle.std.proofs.Common.{option_and_then, IsSome, Result, Ok, Err, refl, sym, ap, ◌∙◌, subst}
+use Rattle.std.proofs.Common.{arith, eqb-true}
 use Rattle.std.proofs.lemmas.Bool.{and_parts}
 use Rattle.std.proofs.lemmas.Bool.Decides.{nat_tests}
 use Rattle.std.specs.List.{AllByRecursion}
@@ -12,8 +15,15 @@ use Rattle.awk_types.proofs.RefusalLaws.{or-both}
 use Rattle.awk_form.specs.FormTree.{forms_from}
 use Rattle.awk_form.specs.Lawful.{IsLawful, AreLawful, AreNamesOf, count}
 use Rattle.awk_form.specs.Tables.{meaning, index_kinds, option_index_kinds, byte_kinds, bit_kinds}
-use Rattle.awk_form.specs.Node.{Head, empty, numpy, regular, list, list_offset, row, indexed, indexed_option, byte_masked, bit_masked, unmasked, union, Node, and_then, present_or, allowed_or, text_at, number_at, truth_at, kind_at, primitive_at, inner_shape_at, texts_of, fields_from, fields_at, content_at, contents_at, are_as_many, are_alternatives, parameters_at, form_key_from, form_key_at, has_buffers, class_at, head_at, node_at}
-use Rattle.awk_form.specs.Reading.{contents, contents_said, nodes_of, nodes_of_all, first_break_from, form_with, form_of}
+use Rattle.awk_form.specs.Node.{Head, empty, numpy, regular, list, list_offset, row, indexed}
+use Rattle.awk_form.specs.Node.{indexed_option, byte_masked, bit_masked, unmasked, union, Node}
+use Rattle.awk_form.specs.Node.{and_then, present_or, allowed_or, text_at, number_at, truth_at}
+use Rattle.awk_form.specs.Node.{kind_at, primitive_at, inner_shape_at, texts_of, fields_from}
+use Rattle.awk_form.specs.Node.{fields_at, content_at, contents_at, are_as_many, are_alternatives}
+use Rattle.awk_form.specs.Node.{parameters_at, form_key_from, form_key_at, has_buffers, class_at}
+use Rattle.awk_form.specs.Node.{head_at, node_at}
+use Rattle.awk_form.specs.Reading.{contents, contents_said, nodes_of, nodes_of_all}
+use Rattle.awk_form.specs.Reading.{first_break_from, form_with, form_of}
 use Rattle.awk_form.specs.declared.class.Class.{Class}
 use Rattle.awk_form.specs.declared.class.Class.TheVariants as class
 use Rattle.awk_form.specs.declared.fault.FormWhy.{FormWhy}
@@ -21,7 +31,8 @@ use Rattle.awk_form.specs.declared.fault.FormWhy.TheVariants as why
 use Rattle.awk_form.specs.declared.kind.IndexKind.{IndexKind}
 use Rattle.awk_form.specs.declared.kind.IndexKind.TheVariants.{I32, U32, I64}
 use Rattle.awk_form.proofs.Nodes.{contents_of-shallow}
-use Rattle.awk_form.proofs.Breaks.{first_break-append, first_break-node, first_break-broken, form_of-node}
+use Rattle.awk_form.proofs.Breaks.{first_break-append, first_break-node, first_break-broken}
+use Rattle.awk_form.proofs.Breaks.{form_of-node}
 
 -- ---- what a node says fits its class
 

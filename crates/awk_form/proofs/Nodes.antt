@@ -1,10 +1,15 @@
 -- The nodes of a value and its form, one level at a time: no more levels are needed than the value
 -- nests.
-use Rattle.std.proofs.Common.{◌≡◌, ◌<◌, ◌≤◌, ℕ, zero, suc, max, Bool, true, false, List, [], ◌∷◌, ◌++◌, map, codes, Option, Some, None, option_map, option_and_then, Result, Ok, Err, Ordering, Less, Equal, Greater, refl, sym, ap, ap₂, subst, arith}
+use Rattle.std.proofs.Common.{◌≡◌, ◌<◌, ◌≤◌, ℕ, zero, suc, max, Bool, true, false, List, [], ◌∷◌}
+use Rattle.std.proofs.Common.{◌++◌, map, codes, Option, Some, None, option_map, option_and_then}
+use Rattle.std.proofs.Common.{Result, Ok, Err, Ordering, Less, Equal, Greater, refl, sym, ap, ap₂}
+use Rattle.std.proofs.Common.{subst, arith}
 use Rattle.std.specs.List.{flat_map, AllByRecursion}
 use Rattle.std.specs.Ordering.{nat_cmp, match_ordering}
 use Rattle.std.specs.Cmp.Lexicographic.{slice_cmp}
-use Rattle.serde_json.specs.Data.{Data, null, boolean, number, string, array, object, Items, no_items, item, Members, no_members, member, depth, items_depth, members_depth}
+use Rattle.serde_json.specs.Data.{Data, null, boolean, number, string, array, object, Items}
+use Rattle.serde_json.specs.Data.{no_items, item, Members, no_members, member, depth, items_depth}
+use Rattle.serde_json.specs.Data.{members_depth}
 use Rattle.serde_json.specs.Find.{get, get_member, as_array}
 use Rattle.awk_form.specs.FormTree as made
 use Rattle.awk_form.specs.FormTree.{FormTree, forms_from}
@@ -12,8 +17,14 @@ use Rattle.awk_types.specs.DataType.{Name}
 use Rattle.awk_form.specs.declared.class.Class.{Class}
 use Rattle.awk_form.specs.declared.class.Class.TheVariants as class
 use Rattle.awk_form.specs.Tables.{index_kinds, option_index_kinds, byte_kinds, bit_kinds}
-use Rattle.awk_form.specs.Node.{Head, empty, numpy, regular, list, list_offset, row, indexed, indexed_option, byte_masked, bit_masked, unmasked, union, Node, and_then, present_or, allowed_or, values_of, number_at, truth_at, kind_at, primitive_at, inner_shape_at, fields_at, are_as_many, are_alternatives, content_at, contents_at, class_at, head_at, parameters_at, form_key_at, has_buffers, node_at}
-use Rattle.awk_form.specs.Reading.{contents, contents_said, contents_of, nodes_down, nodes_of, form_with, form_said, form_down, form_of}
+use Rattle.awk_form.specs.Node.{Head, empty, numpy, regular, list, list_offset, row, indexed}
+use Rattle.awk_form.specs.Node.{indexed_option, byte_masked, bit_masked, unmasked, union, Node}
+use Rattle.awk_form.specs.Node.{and_then, present_or, allowed_or, values_of, number_at, truth_at}
+use Rattle.awk_form.specs.Node.{kind_at, primitive_at, inner_shape_at, fields_at, are_as_many}
+use Rattle.awk_form.specs.Node.{are_alternatives, content_at, contents_at, class_at, head_at}
+use Rattle.awk_form.specs.Node.{parameters_at, form_key_at, has_buffers, node_at}
+use Rattle.awk_form.specs.Reading.{contents, contents_said, contents_of, nodes_down, nodes_of}
+use Rattle.awk_form.specs.Reading.{form_with, form_said, form_down, form_of}
 use Rattle.awk_form.specs.declared.fault.FormWhy.{FormWhy}
 use Rattle.awk_form.specs.declared.fault.FormWhy.TheVariants as why
 

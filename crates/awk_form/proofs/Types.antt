@@ -1,5 +1,6 @@
 -- The types of forms in a list, and what makes each of them lawful.
-use Rattle.std.proofs.Common.{◌≡◌, ◌<◌, ℕ, suc, ◌+◌, ◌-◌, List, [], ◌∷◌, length, map, drop, get_or, slice_get, Option, Some, refl, ap, ◌∙◌, subst, arith}
+use Rattle.std.proofs.Common.{◌≡◌, ◌<◌, ℕ, suc, ◌+◌, ◌-◌, List, [], ◌∷◌, length, map, drop, get_or}
+use Rattle.std.proofs.Common.{slice_get, Option, Some, refl, ap, ◌∙◌, subst, arith}
 use Rattle.awk_types.specs.DataType.{DataType, type, reg, uni, types_from, row_type}
 use Rattle.awk_form.specs.FormTree.{FormTree, forms_from}
 use Rattle.awk_form.specs.FormType.{type_of, types_of, shaped}

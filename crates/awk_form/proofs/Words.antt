@@ -1,5 +1,6 @@
 -- Texts in tables.
-use Rattle.std.proofs.Common.{◌≡◌, ℕ, Bool, true, false, List, [], ◌∷◌, Option, Some, None, cond, refl, sym}
+use Rattle.std.proofs.Common.{◌≡◌, ℕ, Bool, true, false, List, [], ◌∷◌, Option, Some, None, cond}
+use Rattle.std.proofs.Common.{refl, sym}
 use Rattle.std.specs.List.{AllByRecursion}
 use Rattle.awk_types.specs.Names.{same_name}
 use Rattle.awk_types.proofs.NameLaws.{same_name_is}

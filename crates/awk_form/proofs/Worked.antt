@@ -1,10 +1,13 @@
 -- The definitions on worked forms, by computing.
-use Rattle.std.specs.Prelude.{◌≡◌, ℕ, ◌^◌, ◌-◌, true, false, List, [], ◌∷◌, Option, Some, None, option_map, codes, refl}
+use Rattle.std.specs.Prelude.{◌≡◌, ℕ, ◌^◌, ◌-◌, true, false, List, [], ◌∷◌, Option, Some, None}
+use Rattle.std.specs.Prelude.{option_map, codes, refl}
 use Rattle.std.specs.Fmt.{digits}
 use Rattle.awk_types.specs.declared.primitive.Primitive.TheVariants.{I64, Bool}
 use Rattle.serde_json.specs.Read.{read}
 use Rattle.serde_json.proofs.OnLiterals.{serde_json_on_literals}
-use Rattle.awk_form.specs.FormTree.{FormTree, empty, numpy, regular, list, list_offset, row, indexed, indexed_option, byte_masked, bit_masked, unmasked, union, forms_from}
+use Rattle.awk_form.specs.FormTree.{FormTree, empty, numpy, regular, list, list_offset, row}
+use Rattle.awk_form.specs.FormTree.{indexed, indexed_option, byte_masked, bit_masked, unmasked}
+use Rattle.awk_form.specs.FormTree.{union, forms_from}
 use Rattle.awk_form.specs.FormText.{form_text}
 use Rattle.awk_form.specs.Node.{node_at}
 use Rattle.awk_form.specs.Reading.{Refusal, broken as refused, first_break, nodes_of, form_of}
@@ -22,24 +25,31 @@ formed text = option_map form_of (read text)
 abbrev at : ℕ → FormWhy → Option (Option Refusal)
 at node why = Some (Some (refused (record { node = node; why = why })))
 
-lists_of_numbers : broken (codes "{\"class\":\"ListOffsetArray\",\"offsets\":\"i64\",\"content\":{\"class\":\"NumpyArray\",\"primitive\":\"int64\",\"form_key\":\"node1\"},\"form_key\":\"node0\"}") ≡ Some None
+lists_of_numbers : broken
+    (codes "{\"class\":\"ListOffsetArray\",\"offsets\":\"i64\",\"content\":{\"class\":\"NumpyArray\",\"primitive\":\"int64\",\"form_key\":\"node1\"},\"form_key\":\"node0\"}") ≡ Some None
 unfolding serde_json_on_literals node_at nodes_of form_of
 lists_of_numbers = refl
 
-lists_of_numbers_form : formed (codes "{\"class\":\"ListOffsetArray\",\"offsets\":\"i64\",\"content\":{\"class\":\"NumpyArray\",\"primitive\":\"int64\",\"form_key\":\"node1\"},\"form_key\":\"node0\"}") ≡ Some (list_offset (Some (codes "node0")) index.I64 (numpy (Some (codes "node1")) I64 []))
+lists_of_numbers_form : formed
+    (codes "{\"class\":\"ListOffsetArray\",\"offsets\":\"i64\",\"content\":{\"class\":\"NumpyArray\",\"primitive\":\"int64\",\"form_key\":\"node1\"},\"form_key\":\"node0\"}") ≡ Some (list_offset (Some (codes "node0")) index.I64 (numpy (Some (codes "node1")) I64 []))
 unfolding serde_json_on_literals node_at nodes_of form_of
 lists_of_numbers_form = refl
 
-a_float : broken (codes "{\"class\":\"ListOffsetArray\",\"offsets\":\"i64\",\"content\":{\"class\":\"NumpyArray\",\"primitive\":\"float64\",\"form_key\":\"node1\"},\"form_key\":\"node0\"}") ≡ at 1 Primitive
+a_float : broken
+    (codes "{\"class\":\"ListOffsetArray\",\"offsets\":\"i64\",\"content\":{\"class\":\"NumpyArray\",\"primitive\":\"float64\",\"form_key\":\"node1\"},\"form_key\":\"node0\"}") ≡ at 1 Primitive
 unfolding serde_json_on_literals node_at nodes_of form_of
 a_float = refl
 
 -- ---- texts
 
-lists_of_numbers_text : form_text (list_offset (Some (codes "node0")) index.I64 (numpy (Some (codes "node1")) I64 [])) ≡ codes "{\"class\":\"ListOffsetArray\",\"offsets\":\"i64\",\"content\":{\"class\":\"NumpyArray\",\"primitive\":\"int64\",\"inner_shape\":[],\"parameters\":{},\"form_key\":\"node1\"},\"parameters\":{},\"form_key\":\"node0\"}"
+lists_of_numbers_text : form_text (list_offset (Some (codes "node0")) index.I64
+    (numpy (Some (codes "node1")) I64 [])) ≡ codes
+    "{\"class\":\"ListOffsetArray\",\"offsets\":\"i64\",\"content\":{\"class\":\"NumpyArray\",\"primitive\":\"int64\",\"inner_shape\":[],\"parameters\":{},\"form_key\":\"node1\"},\"parameters\":{},\"form_key\":\"node0\"}"
 lists_of_numbers_text = refl
 
-a_record_text : form_text (row None (Some (codes "x" ∷ codes "\"" ∷ [])) (forms_from (empty None ∷ regular None 12 (empty None) ∷ []))) ≡ codes "{\"class\":\"RecordArray\",\"fields\":[\"x\",\"\\\"\"],\"contents\":[{\"class\":\"EmptyArray\",\"parameters\":{},\"form_key\":null},{\"class\":\"RegularArray\",\"size\":12,\"content\":{\"class\":\"EmptyArray\",\"parameters\":{},\"form_key\":null},\"parameters\":{},\"form_key\":null}],\"parameters\":{},\"form_key\":null}"
+a_record_text : form_text (row None (Some (codes "x" ∷ codes "\"" ∷ []))
+    (forms_from (empty None ∷ regular None 12 (empty None) ∷ []))) ≡ codes
+    "{\"class\":\"RecordArray\",\"fields\":[\"x\",\"\\\"\"],\"contents\":[{\"class\":\"EmptyArray\",\"parameters\":{},\"form_key\":null},{\"class\":\"RegularArray\",\"size\":12,\"content\":{\"class\":\"EmptyArray\",\"parameters\":{},\"form_key\":null},\"parameters\":{},\"form_key\":null}],\"parameters\":{},\"form_key\":null}"
 unfolding digits
 a_record_text = refl
 

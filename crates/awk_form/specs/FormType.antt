@@ -1,9 +1,12 @@
 -- The type of the items of a form.
 use Rattle.std.specs.Prelude.{◌≡◌, ℕ, List, [], ◌∷◌, Ok}
-use Rattle.awk_types.specs.DataType.{DataType, DataTypes, unknown, leaf, var, reg, opt, uni, no_types, type, row_type}
+use Rattle.awk_types.specs.DataType.{DataType, DataTypes, unknown, leaf, var, reg, opt, uni}
+use Rattle.awk_types.specs.DataType.{no_types, type, row_type}
 use Rattle.awk_types.specs.Limit.{within}
 use Rattle.awk_types.specs.Simple.{simple}
-use Rattle.awk_form.specs.FormTree.{FormTree, empty, numpy, regular, list, list_offset, row, indexed, indexed_option, byte_masked, bit_masked, unmasked, union, FormTrees, no_forms, form}
+use Rattle.awk_form.specs.FormTree.{FormTree, empty, numpy, regular, list, list_offset, row}
+use Rattle.awk_form.specs.FormTree.{indexed, indexed_option, byte_masked, bit_masked, unmasked}
+use Rattle.awk_form.specs.FormTree.{union, FormTrees, no_forms, form}
 
 -- the regular lists of an inner shape
 abbrev pub shaped : List ℕ → DataType → DataType

@@ -3,8 +3,11 @@ use Rattle.std.specs.Prelude.{◌≡◌, ℕ, ◌+◌, ◌≤◌, max, List, len
 use Rattle.std.proofs.Common.{arith, ap, sym}
 use Rattle.awk_types.specs.DataType.{Name}
 use Rattle.awk_types.specs.declared.primitive.Primitive.{Primitive}
-use Rattle.awk_form.specs.FormTree.{FormTree, FormTrees, contents_of, fold, folds, empty, numpy, regular, list, list_offset, row, indexed, indexed_option, byte_masked, bit_masked, unmasked, union, no_forms, form}
-use Rattle.awk_form.specs.Measures.{inner_shape, one_more, inner_more, nodes, nodes_of, width, width_of, height, height_of}
+use Rattle.awk_form.specs.FormTree.{FormTree, FormTrees, contents_of, fold, folds, empty, numpy}
+use Rattle.awk_form.specs.FormTree.{regular, list, list_offset, row, indexed, indexed_option}
+use Rattle.awk_form.specs.FormTree.{byte_masked, bit_masked, unmasked, union, no_forms, form}
+use Rattle.awk_form.specs.Measures.{inner_shape, one_more, inner_more, nodes, nodes_of, width}
+use Rattle.awk_form.specs.Measures.{width_of, height, height_of}
 
 -- P of each of these
 abbrev pub AllOf : (FormTree → Type 0) → FormTrees → Type 0

@@ -4,7 +4,9 @@
 use Rattle.std.specs.Prelude.{◌≡◌, ◌≢◌, ◌≤◌, ℕ, List, length, Option, Some, None, IsSome}
 use Rattle.awk_types.specs.DataType.{Name}
 use Rattle.awk_types.specs.Names.{AreDistinct}
-use Rattle.awk_form.specs.FormTree.{FormTree, numpy, list, list_offset, row, indexed, indexed_option, byte_masked, bit_masked, union, FormTrees, form_list, fold, folds}
+use Rattle.awk_form.specs.FormTree.{FormTree, numpy, list, list_offset, row, indexed}
+use Rattle.awk_form.specs.FormTree.{indexed_option, byte_masked, bit_masked, union, FormTrees}
+use Rattle.awk_form.specs.FormTree.{form_list, fold, folds}
 use Rattle.awk_form.specs.declared.kind.IndexKind.TheVariants.{U32}
 
 abbrev pub count : FormTrees → ℕ

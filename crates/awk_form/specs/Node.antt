@@ -1,6 +1,8 @@
 -- What the JSON value of one node says, or the first cause against it. The contents are not looked
 -- at here: each is judged as a node of its own.
-use Rattle.std.specs.Prelude.{ℕ, ◌&&◌, ◌==◌, Bool, true, false, not, nat_lt, List, [], ◌∷◌, length, Option, Some, None, option_and_then, option_map, Result, Ok, Err, codes}
+use Rattle.std.specs.Prelude.{ℕ, ◌&&◌, ◌==◌, Bool, true, false, not, nat_lt, List, [], ◌∷◌, length}
+use Rattle.std.specs.Prelude.{Option, Some, None, option_and_then, option_map, Result, Ok, Err}
+use Rattle.std.specs.Prelude.{codes}
 use Rattle.awk_types.specs.DataType.{Name}
 use Rattle.awk_types.specs.Names.{are_distinct}
 use Rattle.awk_types.specs.declared.primitive.Primitive.{Primitive as PrimitiveKind}
@@ -8,7 +10,8 @@ use Rattle.serde_json.specs.Data.{Data, null, string, object, Items, no_items, i
 use Rattle.serde_json.specs.Find.{get, get_member, as_str, as_bool, as_number, as_array, as_u64}
 use Rattle.awk_form.specs.declared.class.Class.{Class}
 use Rattle.awk_form.specs.declared.class.Class.TheVariants as class
-use Rattle.awk_form.specs.Tables.{Table, meaning, classes, primitives, index_kinds, option_index_kinds, byte_kinds, bit_kinds}
+use Rattle.awk_form.specs.Tables.{Table, meaning, classes, primitives, index_kinds}
+use Rattle.awk_form.specs.Tables.{option_index_kinds, byte_kinds, bit_kinds}
 use Rattle.awk_form.specs.declared.fault.FormWhy.{FormWhy}
 use Rattle.awk_form.specs.declared.fault.FormWhy.TheVariants as why
 use Rattle.awk_form.specs.declared.kind.IndexKind.{IndexKind}

@@ -3,7 +3,9 @@ use Rattle.std.specs.Prelude.{map}
 use Rattle.serde_json.specs.View.{view}
 use Rattle.awk_form.specs.Node as said
 use Rattle.awk_form.specs.declared.node.Head.{Head}
-use Rattle.awk_form.specs.declared.node.Head.TheVariants.{Empty, Numpy, Regular, List, ListOffset, Row, Indexed, IndexedOption, ByteMasked, BitMasked, Unmasked, Union}
+use Rattle.awk_form.specs.declared.node.Head.TheVariants.{Empty, Numpy, Regular, List, ListOffset}
+use Rattle.awk_form.specs.declared.node.Head.TheVariants.{Row, Indexed, IndexedOption, ByteMasked}
+use Rattle.awk_form.specs.declared.node.Head.TheVariants.{BitMasked, Unmasked, Union}
 use Rattle.awk_form.specs.declared.node.Node.{Node}
 
 abbrev pub head_of : Head → said.Head

@@ -1,5 +1,6 @@
 -- The form that a JSON value is, or its first break.
-use Rattle.std.specs.Prelude.{ℕ, zero, suc, ◌+◌, List, [], ◌∷◌, map, Option, Some, None, option_map, Result, Ok, Err}
+use Rattle.std.specs.Prelude.{ℕ, zero, suc, ◌+◌, List, [], ◌∷◌, map, Option, Some, None, option_map}
+use Rattle.std.specs.Prelude.{Result, Ok, Err}
 use Rattle.std.specs.List.{flat_map}
 use Rattle.awk_types.specs.DataType.{Name}
 use Rattle.awk_types.specs.Gives.{refused_or, ◌or◌}
@@ -9,7 +10,9 @@ use Rattle.serde_json.specs.Data.{Data, depth}
 use Rattle.awk_form.specs.FormTree as made
 use Rattle.awk_form.specs.FormTree.{FormTree, forms_from}
 use Rattle.awk_form.specs.FormType.{type_of}
-use Rattle.awk_form.specs.Node.{Head, empty, numpy, regular, list, list_offset, row, indexed, indexed_option, byte_masked, bit_masked, unmasked, union, Node, node_at}
+use Rattle.awk_form.specs.Node.{Head, empty, numpy, regular, list, list_offset, row, indexed}
+use Rattle.awk_form.specs.Node.{indexed_option, byte_masked, bit_masked, unmasked, union, Node}
+use Rattle.awk_form.specs.Node.{node_at}
 use Rattle.awk_form.specs.declared.fault.FormWhy.{FormWhy}
 
 -- the contents that a node names, from left to right

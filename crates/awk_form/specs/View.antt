@@ -1,7 +1,9 @@
 -- The form that a `Form` is.
 use Rattle.std.specs.Prelude.{◌<◌, List, Option}
 use Rattle.awk_types.specs.DataType.{Name}
-use Rattle.awk_form.specs.FormTree.{FormTree, empty, numpy, regular, list, list_offset, row, indexed, indexed_option, byte_masked, bit_masked, unmasked, union, forms_from}
+use Rattle.awk_form.specs.FormTree.{FormTree, empty, numpy, regular, list, list_offset, row}
+use Rattle.awk_form.specs.FormTree.{indexed, indexed_option, byte_masked, bit_masked, unmasked}
+use Rattle.awk_form.specs.FormTree.{union, forms_from}
 use Rattle.awk_form.specs.declared.form.Form.{Form, size-Form}
 use Rattle.awk_form.specs.declared.form.Forms.{Forms, size-Forms}
 use Rattle.awk_form.specs.declared.form.Shape.{Shape}

@@ -1,11 +1,19 @@
 //! The values at the keys of a node.
-ghost use Rattle.std.specs.Prelude.{◌≡◌, ◌∷◌, ◌++◌, List, ℕ, Bool, Some, None, Ok, codes, map, length, option_map, option_and_then};
+ghost use Rattle.std.specs.Prelude.{◌≡◌, ◌∷◌, ◌++◌, List, ℕ, Bool, Some, None, Ok, codes, map};
+ghost use Rattle.std.specs.Prelude.{length, option_map, option_and_then};
 ghost use Rattle.serde_json.specs.Find.{get, as_str};
 ghost use Rattle.awk_types.specs.Gives.{Gives};
 ghost use Rattle.serde_json.specs.View.{view, items_view};
-ghost use Rattle.awk_form.specs.Tables.{meaning, index_kinds, option_index_kinds, byte_kinds, bit_kinds, primitives};
+ghost use Rattle.awk_form.specs.Tables.{meaning, index_kinds, option_index_kinds, byte_kinds};
+ghost use Rattle.awk_form.specs.Tables.{bit_kinds, primitives};
 ghost use Rattle.awk_form.specs.Told.{why_told, unit};
-ghost use Rattle.awk_form.specs.Node.{present_or, text_at as text_said, number_at as number_said, truth_at as truth_said, kind_at as kind_said, primitive_at as primitive_said, numbers_of, inner_shape_at as inner_shape_said, content_at as content_said, contents_at as contents_said, parameters_at as parameters_said, form_key_at as form_key_said};
+ghost use Rattle.awk_form.specs.Node.{present_or, text_at as text_said, number_at as number_said};
+ghost use Rattle.awk_form.specs.Node.{truth_at as truth_said, kind_at as kind_said};
+ghost use Rattle.awk_form.specs.Node.{primitive_at as primitive_said, numbers_of};
+ghost use Rattle.awk_form.specs.Node.{inner_shape_at as inner_shape_said};
+ghost use Rattle.awk_form.specs.Node.{content_at as content_said, contents_at as contents_said};
+ghost use Rattle.awk_form.specs.Node.{parameters_at as parameters_said};
+ghost use Rattle.awk_form.specs.Node.{form_key_at as form_key_said};
 ghost use Rattle.awk_form.specs.declared.fault.FormWhy.TheVariants.{Key};
 
 use crate::dims::Dims;

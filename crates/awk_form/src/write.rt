@@ -4,7 +4,9 @@ ghost use Rattle.awk_edge.specs.Causes.{HasCause};
 ghost use Rattle.awk_edge.specs.Put.{Moves};
 ghost use Rattle.awk_json.specs.Text.{quoted, list_text, truth_text};
 ghost use Rattle.awk_types.specs.DataType.{Name as Key};
-ghost use Rattle.awk_form.specs.FormText.{kind_text, primitive_text, fields_text, key_text, member, word, class_text, class_member, members_text, end_text, contents_text, form_text};
+ghost use Rattle.awk_form.specs.FormText.{kind_text, primitive_text, fields_text, key_text, member};
+ghost use Rattle.awk_form.specs.FormText.{word, class_text, class_member, members_text, end_text};
+ghost use Rattle.awk_form.specs.FormText.{contents_text, form_text};
 ghost use Rattle.awk_form.specs.View.{form_of, forms_of, keyed};
 
 use crate::dims::Dims;

@@ -20,7 +20,8 @@ use Rattle.awk_frames.specs.Framed.{places, IsFrame}
 use Rattle.awk_frames.specs.Shape.{offsets_column, index_column, shape, ends}
 use Rattle.awk_frames.specs.Sizes.{levels_refused, sizes_refused}
 use Rattle.awk_frames.proofs.FramedItems.{items-have, present-have, size-offsets}
-use Rattle.awk_frames.proofs.ValueLists.{start_at, offset-pos, length-offsets, start-first, start-last}
+use Rattle.awk_frames.proofs.ValueLists.{start_at, offset-pos, length-offsets, start-first}
+use Rattle.awk_frames.proofs.ValueLists.{start-last}
 use Rattle.awk_frames.proofs.ValueLists.{start-next, start-within, length-index, index-below}
 
 pub places-shape : (t : DataType) (vs : List Value) → places (shape t vs) ≡ length vs

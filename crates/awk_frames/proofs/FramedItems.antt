@@ -30,7 +30,8 @@ use Rattle.awk_frames.proofs.ValueLists.{nulls-by, map-range}
 
 -- ---- values that have a type
 
-pub are-lists : (c : Class) (t : DataType) (vs : List Value) → AllByRecursion (Has (list_type c t)) vs
+pub are-lists : (c : Class) (t : DataType) (vs : List Value)
+    → AllByRecursion (Has (list_type c t)) vs
     → AllByRecursion IsList vs
 are-lists c t [] h = tt
 are-lists None t (list ws ∷ vs) h = (tt, are-lists None t vs h.1)

@@ -1,6 +1,7 @@
 -- Indexes that are followed, by place.
 use Rattle.std.proofs.Common.{◌≡◌, ℕ, ◌<◌, ◌≤◌, arith, refl, sym}
-use Rattle.std.specs.Prelude.{ℤ, pos, negsuc, ◌≤ℤ◌, ◌<ℤ◌, Bool, true, false, if◌then◌else◌, Option, Some, None}
+use Rattle.std.specs.Prelude.{ℤ, pos, negsuc, ◌≤ℤ◌, ◌<ℤ◌, Bool, true, false, if◌then◌else◌, Option}
+use Rattle.std.specs.Prelude.{Some, None}
 use Rattle.std.proofs.lemmas.Int.{ints}
 use Rattle.awk_types.specs.Value.{Value, null}
 use Rattle.awk_lanes.specs.declared.kind.Kind.TheVariants.{I64}
@@ -27,14 +28,17 @@ through-none f (Some m) e = cc
 pub size-followed : (f : ℕ → ℤ) (i : Column) → size_of (followed f i) ≡ size_of i
 size-followed f i = size-lane_of I64 (size_of i) (λ j. through f (option_place_at i j))
 
-pub at-followed : (f : ℕ → ℤ) (i : Column) (j : ℕ) → j < size_of i → at (followed f i) j ≡ through f (option_place_at i j)
+pub at-followed : (f : ℕ → ℤ) (i : Column) (j : ℕ) → j < size_of i
+    → at (followed f i) j ≡ through f (option_place_at i j)
 at-followed f i j h = at-lane_of I64 (size_of i) (λ j. through f (option_place_at i j)) j h
 
-below_through : (f : ℕ → ℤ) (z : ℤ) (m n : ℕ) → ((k : ℕ) → k < m → f k <ℤ pos n) → z <ℤ pos m → through f (option_place z) <ℤ pos n
+below_through : (f : ℕ → ℤ) (z : ℤ) (m n : ℕ) → ((k : ℕ) → k < m → f k <ℤ pos n) → z <ℤ pos m
+    → through f (option_place z) <ℤ pos n
 below_through f (pos k) m n h v = h k (omega (arith, ints))
 below_through f (negsuc k) m n h v = omega (arith, ints)
 
-pub index_followed : (f : ℕ → ℤ) (i : Column) (m n : ℕ) → ((k : ℕ) → k < m → f k <ℤ pos n) → IsOptionalIndex i m → IsOptionalIndex (followed f i) n
+pub index_followed : (f : ℕ → ℤ) (i : Column) (m n : ℕ) → ((k : ℕ) → k < m → f k <ℤ pos n)
+    → IsOptionalIndex i m → IsOptionalIndex (followed f i) n
 index_followed f i m n h v = record {
   kind = tt;
   below = λ j k.
@@ -43,19 +47,24 @@ index_followed f i m n h v = record {
 }
 
 -- what is shown through an index, where f tells the place in g of each item of h
-pub item_through : (f : ℕ → ℤ) (z : ℤ) (g h : ℕ → Value) (m : ℕ) → ((k : ℕ) → k < m → h k ≡ at_option (option_place (f k)) g) → z <ℤ pos m → at_option (option_place (through f (option_place z))) g ≡ at_option (option_place z) h
+pub item_through : (f : ℕ → ℤ) (z : ℤ) (g h : ℕ → Value) (m : ℕ)
+    → ((k : ℕ) → k < m → h k ≡ at_option (option_place (f k)) g) → z <ℤ pos m
+    → at_option (option_place (through f (option_place z))) g ≡ at_option (option_place z) h
 item_through f (pos k) g h m e v = sym (e k (omega (arith, ints)))
 item_through f (negsuc k) g h m e v = refl
 
-pub through_pos : (f : ℕ → ℤ) (z : ℤ) (m : ℕ) → z <ℤ pos m → pos 0 ≤ℤ z → ((k : ℕ) → k < m → pos 0 ≤ℤ f k) → pos 0 ≤ℤ through f (option_place z)
+pub through_pos : (f : ℕ → ℤ) (z : ℤ) (m : ℕ) → z <ℤ pos m → pos 0 ≤ℤ z
+    → ((k : ℕ) → k < m → pos 0 ≤ℤ f k) → pos 0 ≤ℤ through f (option_place z)
 through_pos f (pos k) m v h e = e k (omega (arith, ints))
 through_pos f (negsuc k) m v h e = absurd (omega (arith, ints))
 
-pub item_at_place : (z : ℤ) (f : ℕ → Value) → pos 0 ≤ℤ z → at_option (option_place z) f ≡ f (nat_of z)
+pub item_at_place : (z : ℤ) (f : ℕ → Value) → pos 0 ≤ℤ z
+    → at_option (option_place z) f ≡ f (nat_of z)
 item_at_place (pos n) f h = refl
 item_at_place (negsuc n) f h = absurd (omega (arith, ints))
 
-pub item_if_shown : (b : Bool) (k : ℕ) (f : ℕ → Value) → at_option (option_place (if_shown b k)) f ≡ (if b then f k else null)
+pub item_if_shown : (b : Bool) (k : ℕ) (f : ℕ → Value)
+    → at_option (option_place (if_shown b k)) f ≡ (if b then f k else null)
 item_if_shown true k f = refl
 item_if_shown false k f = refl
 

@@ -29,21 +29,27 @@ in_option-simple t (list vs) = refl
 in_option-simple t (row vs) = refl
 in_option-simple t (alt k v) = refl
 
-option_item : (x : Layout) (o : Option ℕ) → in_option (simple_value (layout_type x)) (at_option o (item x)) ≡ at_option o (array_item x)
+option_item : (x : Layout) (o : Option ℕ)
+    → in_option (simple_value (layout_type x)) (at_option o (item x)) ≡ at_option o (array_item x)
 option_item x None = refl
 option_item x (Some k) = in_option-simple (layout_type x) (item x k)
 
-shown_item : (x : Layout) (b : Bool) (i : ℕ) → in_option (simple_value (layout_type x)) (if b then item x i else null) ≡ (if b then array_item x i else null)
+shown_item : (x : Layout) (b : Bool) (i : ℕ)
+    → in_option (simple_value (layout_type x)) (if b then item x i else null) ≡
+    (if b then array_item x i else null)
 shown_item x true i = in_option-simple (layout_type x) (item x i)
 shown_item x false i = refl
 
-pub item-optional : (j : Column) (x : Layout) (i : ℕ) → array_item (optional j x) i ≡ at_option (option_place_at j i) (array_item x)
+pub item-optional : (j : Column) (x : Layout) (i : ℕ)
+    → array_item (optional j x) i ≡ at_option (option_place_at j i) (array_item x)
 item-optional j x i = option_item x (option_place_at j i)
 
-pub item-byte_masked : (m : Column) (v : Bool) (x : Layout) (i : ℕ) → array_item (byte_masked m v x) i ≡ (if byte_shows m v i then array_item x i else null)
+pub item-byte_masked : (m : Column) (v : Bool) (x : Layout) (i : ℕ)
+    → array_item (byte_masked m v x) i ≡ (if byte_shows m v i then array_item x i else null)
 item-byte_masked m v x i = shown_item x (byte_shows m v i) i
 
-pub item-bit_masked : (m : List Bool) (v : Bool) (x : Layout) (i : ℕ) → array_item (bit_masked m v x) i ≡ (if bit_shows m v i then array_item x i else null)
+pub item-bit_masked : (m : List Bool) (v : Bool) (x : Layout) (i : ℕ)
+    → array_item (bit_masked m v x) i ≡ (if bit_shows m v i then array_item x i else null)
 item-bit_masked m v x i = shown_item x (bit_shows m v i) i
 
 pub item-unmasked : (n : ℕ) (x : Layout) (i : ℕ) → array_item (unmasked n x) i ≡ array_item x i

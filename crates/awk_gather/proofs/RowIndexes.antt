@@ -12,7 +12,8 @@ use Rattle.awk_lanes.specs.Made.{lane_of}
 use Rattle.awk_gather.proofs.GatheredArrays.{at-I64}
 
 -- places below 2^32 as the same numbers in 32 bits
-pub index_over-narrow : (n : ℕ) (p : Column) → p.kind ≡ I64 → n ≤ 4294967296 → lane_of U32 (size_of p) (at p) ≡ index_over n p
+pub index_over-narrow : (n : ℕ) (p : Column) → p.kind ≡ I64 → n ≤ 4294967296
+    → lane_of U32 (size_of p) (at p) ≡ index_over n p
 index_over-narrow n p e h =
     rw (le-ltb 4294967296 n h) (ap (λ zs. record { kind = U32; items = zs })
     (ext_get_or (pos 0) _ _ (length-map-range_with_len (at p) 0 (size_of p)) (λ i l.

@@ -1,5 +1,6 @@
 -- The base64 of bytes ends no line.
-use Rattle.std.proofs.Common.{◌≢◌, ℕ, zero, suc, List, [], ◌∷◌, length, replicate, slice_index, refl}
+use Rattle.std.proofs.Common.{◌≢◌, ℕ, zero, suc, List, [], ◌∷◌, length, replicate, slice_index}
+use Rattle.std.proofs.Common.{refl}
 use Rattle.base64.specs.Engines.{standard}
 use Rattle.base64.specs.GeneralPurpose.{encode_of}
 use Rattle.base64.specs.Rfc4648.{encode_group, encode_symbols, padding_len}

@@ -3,7 +3,8 @@ ghost use Rattle.std.specs.Prelude.{◌≡◌, ◌<◌, ◌++◌, IsTrue, decima
 ghost use Rattle.std.specs.List.{flat_map};
 ghost use Rattle.awk_edge.specs.Causes.{HasCause};
 ghost use Rattle.awk_edge.specs.Put.{Moves};
-ghost use Rattle.awk_json.specs.Text.{hex_digit, is_special as special, escape, escaped_all, quoted, comma_before, separator_before};
+ghost use Rattle.awk_json.specs.Text.{hex_digit, is_special as special, escape, escaped_all};
+ghost use Rattle.awk_json.specs.Text.{quoted, comma_before, separator_before};
 
 use awk_edge::{Out, Sink, WriteFault};
 use itoa::Buffer;

@@ -1,7 +1,8 @@
 -- The definitions at worked examples.
 use Rattle.std.proofs.Common.{◌≡◌, ℕ, zero, suc, ◌+◌, ◌-◌, ◌*◌, ◌^◌, [], ◌∷◌, refl, true, false}
 use Rattle.std.specs.Prelude.{pos, negsuc, Some, None}
-use Rattle.awk_lanes.specs.declared.kind.Kind.TheVariants.{Bool as Truths, I8, I16, I32, I64, U8, U16, U32, U64}
+use Rattle.awk_lanes.specs.declared.kind.Kind.TheVariants.{Bool as Truths, I8, I16, I32, I64, U8}
+use Rattle.awk_lanes.specs.declared.kind.Kind.TheVariants.{U16, U32, U64}
 use Rattle.awk_lanes.specs.Bits.{bits}
 use Rattle.awk_lanes.specs.Counted.{before, offsets_by, numbers_of_lists}
 use Rattle.awk_lanes.specs.Cut.{cut_of}
@@ -15,13 +16,16 @@ use Rattle.awk_lanes.specs.Words.{integers, low_bytes, unsigned}
 of_i8 : numbers I8 3 (255 ∷ 128 ∷ 127 ∷ []) ≡ negsuc 0 ∷ negsuc 127 ∷ pos 127 ∷ []
 of_i8 = refl
 
-of_i16 : numbers I16 3 (0xFE ∷ 0xFF ∷ 0x00 ∷ 0x80 ∷ 0x34 ∷ 0x12 ∷ []) ≡ negsuc 1 ∷ negsuc 32767 ∷ pos 0x1234 ∷ []
+of_i16 : numbers I16 3 (0xFE ∷ 0xFF ∷ 0x00 ∷ 0x80 ∷ 0x34 ∷ 0x12 ∷ []) ≡ negsuc 1 ∷ negsuc 32767 ∷
+    pos 0x1234 ∷ []
 of_i16 = refl
 
-of_i32 : numbers I32 2 (0xFF ∷ 0xFF ∷ 0xFF ∷ 0xFF ∷ 0x78 ∷ 0x56 ∷ 0x34 ∷ 0x12 ∷ []) ≡ negsuc 0 ∷ pos 0x12345678 ∷ []
+of_i32 : numbers I32 2 (0xFF ∷ 0xFF ∷ 0xFF ∷ 0xFF ∷ 0x78 ∷ 0x56 ∷ 0x34 ∷ 0x12 ∷ []) ≡ negsuc 0 ∷ pos
+    0x12345678 ∷ []
 of_i32 = refl
 
-of_i64 : numbers I64 2 (0xFE ∷ 0xFF ∷ 0xFF ∷ 0xFF ∷ 0xFF ∷ 0xFF ∷ 0xFF ∷ 0xFF ∷ 0x08 ∷ 0x07 ∷ 0x06 ∷ 0x05 ∷ 0x04 ∷ 0x03 ∷ 0x02 ∷ 0x01 ∷ []) ≡ negsuc 1 ∷ pos 0x0102030405060708 ∷ []
+of_i64 : numbers I64 2 (0xFE ∷ 0xFF ∷ 0xFF ∷ 0xFF ∷ 0xFF ∷ 0xFF ∷ 0xFF ∷ 0xFF ∷ 0x08 ∷ 0x07 ∷ 0x06 ∷
+    0x05 ∷ 0x04 ∷ 0x03 ∷ 0x02 ∷ 0x01 ∷ []) ≡ negsuc 1 ∷ pos 0x0102030405060708 ∷ []
 of_i64 = refl
 
 of_u8 : numbers U8 2 (255 ∷ 7 ∷ []) ≡ pos 255 ∷ pos 7 ∷ []
@@ -30,10 +34,12 @@ of_u8 = refl
 of_u16 : numbers U16 2 (0xFF ∷ 0xFF ∷ 0x34 ∷ 0x12 ∷ []) ≡ pos 65535 ∷ pos 0x1234 ∷ []
 of_u16 = refl
 
-of_u32 : numbers U32 2 (0xFF ∷ 0xFF ∷ 0xFF ∷ 0xFF ∷ 0x78 ∷ 0x56 ∷ 0x34 ∷ 0x12 ∷ []) ≡ pos 4294967295 ∷ pos 0x12345678 ∷ []
+of_u32 : numbers U32 2 (0xFF ∷ 0xFF ∷ 0xFF ∷ 0xFF ∷ 0x78 ∷ 0x56 ∷ 0x34 ∷ 0x12 ∷ []) ≡ pos 4294967295
+    ∷ pos 0x12345678 ∷ []
 of_u32 = refl
 
-of_u64 : numbers U64 1 (0xFE ∷ 0xFF ∷ 0xFF ∷ 0xFF ∷ 0xFF ∷ 0xFF ∷ 0xFF ∷ 0xFF ∷ []) ≡ pos 18446744073709551614 ∷ []
+of_u64 : numbers U64 1 (0xFE ∷ 0xFF ∷ 0xFF ∷ 0xFF ∷ 0xFF ∷ 0xFF ∷ 0xFF ∷ 0xFF ∷ []) ≡ pos
+    18446744073709551614 ∷ []
 of_u64 = refl
 
 -- ---- truth values: a byte that is not 0 is read as 1, and 1 is written
@@ -57,7 +63,8 @@ bytes_of_u32 = refl
 
 -- ---- parts and places
 
-middle : cut_of (record { kind = I8; items = pos 5 ∷ negsuc 0 ∷ pos 7 ∷ [] }) 1 3 ≡ record { kind = I8; items = negsuc 0 ∷ pos 7 ∷ [] }
+middle : cut_of (record { kind = I8; items = pos 5 ∷ negsuc 0 ∷ pos 7 ∷ [] }) 1 3 ≡
+    record { kind = I8; items = negsuc 0 ∷ pos 7 ∷ [] }
 middle = refl
 
 no_place : option_place_at (record { kind = I32; items = pos 5 ∷ negsuc 0 ∷ [] }) 1 ≡ None
@@ -68,10 +75,12 @@ a_place = refl
 
 -- ---- the bits of the bytes 0x42 and 0xA0, read both ways
 
-from_least : bits true (0x42 ∷ 0xA0 ∷ []) 0 16 ≡ false ∷ true ∷ false ∷ false ∷ false ∷ false ∷ true ∷ false ∷ false ∷ false ∷ false ∷ false ∷ false ∷ true ∷ false ∷ true ∷ []
+from_least : bits true (0x42 ∷ 0xA0 ∷ []) 0 16 ≡ false ∷ true ∷ false ∷ false ∷ false ∷ false ∷ true
+    ∷ false ∷ false ∷ false ∷ false ∷ false ∷ false ∷ true ∷ false ∷ true ∷ []
 from_least = refl
 
-from_most : bits false (0x42 ∷ 0xA0 ∷ []) 0 16 ≡ false ∷ true ∷ false ∷ false ∷ false ∷ false ∷ true ∷ false ∷ true ∷ false ∷ true ∷ false ∷ false ∷ false ∷ false ∷ false ∷ []
+from_most : bits false (0x42 ∷ 0xA0 ∷ []) 0 16 ≡ false ∷ true ∷ false ∷ false ∷ false ∷ false ∷ true
+    ∷ false ∷ true ∷ false ∷ true ∷ false ∷ false ∷ false ∷ false ∷ false ∷ []
 from_most = refl
 
 -- four bits from the seventh on

@@ -73,7 +73,8 @@ wide-numbers c p h i =
 -- ---- a lane that is made
 
 abbrev AreGroups : List (List ℕ) → Type 0
-AreGroups gs = (gs ≡ groups_of (map (number I64) gs)) × AreNumbers (column I64 (map (number I64) gs))
+AreGroups gs =
+    (gs ≡ groups_of (map (number I64) gs)) × AreNumbers (column I64 (map (number I64) gs))
 
 are-more : (zs : List ℤ) (z : ℤ) → AreNumbers (column I64 zs) → IsNumber I64 z
     → AreNumbers (column I64 (zs ++ z ∷ []))

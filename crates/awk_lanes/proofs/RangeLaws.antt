@@ -1,11 +1,13 @@
 -- The numbers of bytes are in the range of their kind.
-use Rattle.std.proofs.Common.{◌≡◌, ℕ, suc, zero, ◌<◌, ◌^◌, List, drop, get_or, arith, subst, w8, w16, w32, w64, SFits}
+use Rattle.std.proofs.Common.{◌≡◌, ℕ, suc, zero, ◌<◌, ◌^◌, List, drop, get_or, arith, subst, w8}
+use Rattle.std.proofs.Common.{w16, w32, w64, SFits}
 use Rattle.std.specs.Prelude.{ℤ, pos, negsuc, slice_index}
 use Rattle.std.specs.Int.{from_le_bytes}
 use Rattle.std.proofs.Math.Facts.{sfits_to_z}
 use Rattle.std.proofs.lemmas.Int.{ints}
 use Rattle.awk_lanes.specs.declared.kind.Kind.{Kind}
-use Rattle.awk_lanes.specs.declared.kind.Kind.TheVariants.{Bool as Truths, I8, I16, I32, I64, U8, U16, U32, U64}
+use Rattle.awk_lanes.specs.declared.kind.Kind.TheVariants.{Bool as Truths, I8, I16, I32, I64, U8}
+use Rattle.awk_lanes.specs.declared.kind.Kind.TheVariants.{U16, U32, U64}
 use Rattle.awk_lanes.specs.Column.{Column}
 use Rattle.awk_lanes.specs.Numbers.{width, number, numbers, AreBytes}
 use Rattle.awk_lanes.specs.Ranges.{IsNumber, AreNumbers}
@@ -40,21 +42,35 @@ zero_number U64 = (omega (arith, ints), omega (arith, ints))
 
 -- the number of the first bytes
 number_fits : (k : Kind) (b : List ℕ) → AreBytes b → IsNumber k (number k b)
-number_fits Truths b h = let f : slice_index b 0 < 256 = h 0 in (omega (arith, ints), omega (arith, ints))
+number_fits Truths b h =
+    let f : slice_index b 0 < 256 = h 0 in (omega (arith, ints), omega (arith, ints))
 number_fits I8 b h = fits_8 (number I8 b) (sfits_to_z (record { fits = h 0 }))
-number_fits I16 b h = fits_16 (number I16 b) (sfits_to_z (record { fits = from_le_bytes-below w16 b h }))
-number_fits I32 b h = fits_32 (number I32 b) (sfits_to_z (record { fits = from_le_bytes-below w32 b h }))
-number_fits I64 b h = fits_64 (number I64 b) (sfits_to_z (record { fits = from_le_bytes-below w64 b h }))
-number_fits U8 b h = let f : slice_index b 0 < 256 = h 0 in (omega (arith, ints), omega (arith, ints))
-number_fits U16 b h = let f : from_le_bytes w16 b < 2 ^ 16 = from_le_bytes-below w16 b h in (omega (arith, ints), omega (arith, ints))
-number_fits U32 b h = let f : from_le_bytes w32 b < 2 ^ 32 = from_le_bytes-below w32 b h in (omega (arith, ints), omega (arith, ints))
-number_fits U64 b h = let f : from_le_bytes w64 b < 2 ^ 64 = from_le_bytes-below w64 b h in (omega (arith, ints), omega (arith, ints))
+number_fits I16 b h =
+    fits_16 (number I16 b) (sfits_to_z (record { fits = from_le_bytes-below w16 b h }))
+number_fits I32 b h =
+    fits_32 (number I32 b) (sfits_to_z (record { fits = from_le_bytes-below w32 b h }))
+number_fits I64 b h =
+    fits_64 (number I64 b) (sfits_to_z (record { fits = from_le_bytes-below w64 b h }))
+number_fits U8 b h =
+    let f : slice_index b 0 < 256 = h 0 in (omega (arith, ints), omega (arith, ints))
+number_fits U16 b h =
+    let f : from_le_bytes w16 b < 2 ^ 16 = from_le_bytes-below w16 b h in
+    (omega (arith, ints), omega (arith, ints))
+number_fits U32 b h =
+    let f : from_le_bytes w32 b < 2 ^ 32 = from_le_bytes-below w32 b h in
+    (omega (arith, ints), omega (arith, ints))
+number_fits U64 b h =
+    let f : from_le_bytes w64 b < 2 ^ 64 = from_le_bytes-below w64 b h in
+    (omega (arith, ints), omega (arith, ints))
 
-numbers_fit : (k : Kind) (n : ℕ) (b : List ℕ) → AreBytes b → (i : ℕ) → IsNumber k (get_or (numbers k n b) i (pos 0))
+numbers_fit : (k : Kind) (n : ℕ) (b : List ℕ) → AreBytes b → (i : ℕ)
+    → IsNumber k (get_or (numbers k n b) i (pos 0))
 numbers_fit k zero b h i = zero_number k
 numbers_fit k (suc n) b h zero = number_fits k b h
-numbers_fit k (suc n) b h (suc i) = numbers_fit k n (drop (width k) b) (AreBytes-drop (width k) b h) i
+numbers_fit k (suc n) b h (suc i) =
+    numbers_fit k n (drop (width k) b) (AreBytes-drop (width k) b h) i
 
 -- the numbers of an opened lane
-pub opened_fit : (k : Kind) (n : ℕ) (b : List ℕ) (v : Column) → AreBytes b → ◌≡◌ {A = Column} (record { kind = k; items = numbers k n b }) v → AreNumbers v
+pub opened_fit : (k : Kind) (n : ℕ) (b : List ℕ) (v : Column) → AreBytes b → ◌≡◌ {A = Column}
+    (record { kind = k; items = numbers k n b }) v → AreNumbers v
 opened_fit k n b v h e = subst AreNumbers e (λ i. numbers_fit k n b h i)

@@ -1,8 +1,10 @@
 -- The little-endian numbers in bytes.
-use Rattle.std.specs.Prelude.{ℕ, suc, zero, ◌<◌, ◌^◌, List, [], ◌∷◌, drop, slice_index, ℤ, pos, negsuc, Bool, true, false, if◌then◌else◌, FitsSigned}
+use Rattle.std.specs.Prelude.{ℕ, suc, zero, ◌<◌, ◌^◌, List, [], ◌∷◌, drop, slice_index, ℤ, pos}
+use Rattle.std.specs.Prelude.{negsuc, Bool, true, false, if◌then◌else◌, FitsSigned}
 use Rattle.std.specs.Int.{from_le_bytes, to_le_bytes, cast_signed, cast_unsigned, w8, w16, w32, w64}
 use Rattle.awk_lanes.specs.declared.kind.Kind.{Kind}
-use Rattle.awk_lanes.specs.declared.kind.Kind.TheVariants.{Bool as Truths, I8, I16, I32, I64, U8, U16, U32, U64}
+use Rattle.awk_lanes.specs.declared.kind.Kind.TheVariants.{Bool as Truths, I8, I16, I32, I64, U8}
+use Rattle.awk_lanes.specs.declared.kind.Kind.TheVariants.{U16, U32, U64}
 use Rattle.awk_lanes.specs.declared.kind.Num.{Num}
 use Rattle.awk_lanes.specs.declared.kind.Num.TheVariants.{Int, Nat, Truth}
 

@@ -1,5 +1,6 @@
 //! Bits of borrowed bytes.
-ghost use Rattle.std.specs.Prelude.{◌≡◌, ◌+◌, ◌*◌, ◌/◌, ◌%◌, ◌<◌, ◌≤◌, length, slice_range, get_or, false, drop};
+ghost use Rattle.std.specs.Prelude.{◌≡◌, ◌+◌, ◌*◌, ◌/◌, ◌%◌, ◌<◌, ◌≤◌, length, slice_range, get_or};
+ghost use Rattle.std.specs.Prelude.{false, drop};
 ghost use Rattle.awk_lanes.specs.Bits.{bit, bits};
 
 use crate::steps::Steps;

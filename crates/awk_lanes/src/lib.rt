@@ -4,7 +4,8 @@
 //! `tag_in` and `is_set` read what a number stands for. A lane is made by `LaneMaker`, number by
 //! number, by `made_lane` from a rule of `Numbers`, by `ordinals` of the numbers from 0 on, by
 //! `offsets_of`, `offsets_within` and `items_of` from lengths, or by `lane_of_numbers` and
-//! `lane_of_nats` from a slice; `numbers_of`, `nats_of` and `byte_numbers` give the slice of a lane.
+//! `lane_of_nats` from a slice; `numbers_of`, `nats_of` and `byte_numbers` give the slice of a
+//! lane.
 //! `index_of` shows a lane of places as an `Index`, whose numbers are read where they lie without
 //! asking for their kind; `IndexMaker` makes a lane of places.
 #![tactic(auto)]

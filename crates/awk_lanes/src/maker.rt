@@ -1,5 +1,6 @@
 //! Makes a lane in an arena, a number at a time.
-ghost use Rattle.std.specs.Prelude.{◌≡◌, ◌+◌, ◌*◌, ◌^◌, ◌<◌, ◌≤◌, ◌++◌, [], length, vec_len, vec_capacity, IfOk};
+ghost use Rattle.std.specs.Prelude.{◌≡◌, ◌+◌, ◌*◌, ◌^◌, ◌<◌, ◌≤◌, ◌++◌, [], length, vec_len};
+ghost use Rattle.std.specs.Prelude.{vec_capacity, IfOk};
 ghost use Rattle.awk_lanes.specs.Numbers.{width, int_of, bytes_of, IsOf};
 ghost use Rattle.awk_lanes.specs.Making.{with_item};
 

@@ -1,7 +1,8 @@
 //! Readers of one number, for lanes of offsets, places, tags and masks. Each takes one step.
 ghost use Rattle.std.specs.Prelude.{◌≡◌, ◌+◌, ◌<◌, ◌^◌, ◌≤ℤ◌, pos};
 ghost use Rattle.awk_lanes.specs.Numbers.{nat_of, int_of, is_nonzero, IsOf};
-ghost use Rattle.awk_lanes.specs.Places.{size_of, at, place_at, option_place, option_place_at, IsIndexKind, IsOptionKind};
+ghost use Rattle.awk_lanes.specs.Places.{size_of, at, place_at, option_place, option_place_at};
+ghost use Rattle.awk_lanes.specs.Places.{IsIndexKind, IsOptionKind};
 ghost use Rattle.awk_lanes.specs.declared.kind.Kind.TheVariants as Kind;
 
 use crate::kind::Num;

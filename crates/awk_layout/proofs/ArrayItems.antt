@@ -10,9 +10,14 @@ use Rattle.awk_layout.specs.Item.{item, items}
 use Rattle.awk_layout.specs.Typing.{layout_type, array_items}
 
 pub length-array_items : (x : Layout) → length (array_items x) ≡ len x
-length-array_items x = length-map (items x) (simple_value (layout_type x)) ∙ length-map-range_with_len (item x) 0 (len x)
+length-array_items x =
+    length-map (items x) (simple_value (layout_type x)) ∙ length-map-range_with_len (item x) 0
+    (len x)
 
-pub get_or-array_items : (x : Layout) (j : ℕ) → j < len x → get_or (array_items x) j null ≡ simple_value (layout_type x) (item x j)
+pub get_or-array_items : (x : Layout) (j : ℕ) → j < len x
+    → get_or (array_items x) j null ≡ simple_value (layout_type x) (item x j)
 get_or-array_items x j h =
-    get_or-map (simple_value (layout_type x)) (items x) j null null (omega (arith, length-map-range_with_len (item x) 0 (len x)))
-    ∙ ap (simple_value (layout_type x)) (get_or-map-range_with_len (item x) 0 (len x) j j null h (omega arith))
+    get_or-map (simple_value (layout_type x)) (items x) j null null
+    (omega (arith, length-map-range_with_len (item x) 0 (len x)))
+    ∙ ap (simple_value (layout_type x)) (get_or-map-range_with_len (item x) 0 (len x) j j null h
+    (omega arith))

@@ -7,8 +7,10 @@ use Rattle.awk_layout.specs.Typing.{layout_type, layout_types}
 use Rattle.awk_layout.proofs.LayoutTypes.{layout_is_type}
 use Rattle.awk_layout.specs.Contents.{height-get, count-layouts_from}
 
-pub layout_types-layouts_from : (xs : List Layout) → types_from (map layout_type xs) ≡ layout_types (layouts_from xs)
+pub layout_types-layouts_from : (xs : List Layout)
+    → types_from (map layout_type xs) ≡ layout_types (layouts_from xs)
 layout_types-layouts_from [] = refl
 layout_types-layouts_from (x ∷ xs) = ap (type (layout_type x)) (layout_types-layouts_from xs)
 
-pub ruleset contents = (height-get, layout_types-layouts_from, count-layouts_from, layout_is_type, length-map)
+pub ruleset contents =
+    (height-get, layout_types-layouts_from, count-layouts_from, layout_is_type, length-map)

@@ -1,8 +1,13 @@
 -- The layout that a class is.
 use Rattle.std.specs.Prelude.{ℕ, option_map}
-use Rattle.awk_layout.specs.Layout.{Layout, layouts_from, empty, flat, regular, lists, offset_lists, rows, indexed, optional, byte_masked, bit_masked, unmasked, union}
+use Rattle.awk_layout.specs.Layout.{Layout, layouts_from, empty, flat, regular, lists, offset_lists}
+use Rattle.awk_layout.specs.Layout.{rows, indexed, optional, byte_masked, bit_masked, unmasked}
+use Rattle.awk_layout.specs.Layout.{union}
 use Rattle.awk_layout.specs.declared.node.class.Class.{Class}
-use Rattle.awk_layout.specs.declared.node.class.Class.TheVariants.{Empty, Numpy, Regular, List, ListOffset, Row, Indexed, IndexedOption, ByteMasked, BitMasked, Unmasked, Union}
+use Rattle.awk_layout.specs.declared.node.class.Class.TheVariants.{Empty, Numpy, Regular, List}
+use Rattle.awk_layout.specs.declared.node.class.Class.TheVariants.{ListOffset, Row, Indexed}
+use Rattle.awk_layout.specs.declared.node.class.Class.TheVariants.{IndexedOption, ByteMasked}
+use Rattle.awk_layout.specs.declared.node.class.Class.TheVariants.{BitMasked, Unmasked, Union}
 
 -- of n items
 abbrev pub layout_of : ℕ → Class → Layout

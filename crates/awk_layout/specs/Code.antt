@@ -4,12 +4,15 @@ use Rattle.std.proofs.Common.{ap, ◌∙◌}
 use Rattle.std.specs.Coded.{Coded}
 use base.Stored.{Gv, gnil, gnum, gcons}
 use Rattle.awk_types.specs.DataType.{Name}
-use Rattle.awk_types.specs.Trees.{Tree, coded_tree, list_tree, option_tree, number_from, int_tree, bool_to, bool_from, bool_same, bool_tree}
+use Rattle.awk_types.specs.Trees.{Tree, coded_tree, list_tree, option_tree, number_from, int_tree}
+use Rattle.awk_types.specs.Trees.{bool_to, bool_from, bool_same, bool_tree}
 use Rattle.awk_types.specs.TypeCodes.{primitive_to, primitive_from, primitive_same, names_tree}
 use Rattle.awk_lanes.specs.declared.kind.Kind.{Kind}
 use Rattle.awk_lanes.specs.declared.kind.Kind.TheVariants.{Bool as Truths}
 use Rattle.awk_lanes.specs.Column.{Column}
-use Rattle.awk_layout.specs.Layout.{Layout, Layouts, empty, flat, regular, lists, offset_lists, rows, indexed, optional, byte_masked, bit_masked, unmasked, union, no_layouts, layout}
+use Rattle.awk_layout.specs.Layout.{Layout, Layouts, empty, flat, regular, lists, offset_lists}
+use Rattle.awk_layout.specs.Layout.{rows, indexed, optional, byte_masked, bit_masked, unmasked}
+use Rattle.awk_layout.specs.Layout.{union, no_layouts, layout}
 use Rattle.awk_layout.specs.Kinds.{primitive_of, kind_of, kind_of-primitive_of}
 
 -- a kind by its primitive

@@ -1,5 +1,6 @@
 -- The contents of a node, one by one: what holds of all holds of the one that `get` gives.
-use Rattle.std.specs.Prelude.{◌≡◌, ℕ, zero, suc, ◌≤◌, List, [], ◌∷◌, ◌++◌, length, slice_get, Some, refl}
+use Rattle.std.specs.Prelude.{◌≡◌, ℕ, zero, suc, ◌≤◌, List, [], ◌∷◌, ◌++◌, length, slice_get, Some}
+use Rattle.std.specs.Prelude.{refl}
 use Rattle.std.proofs.Common.{arith}
 use Rattle.awk_layout.specs.Layout.{Layout, layouts_from, count, weight, weights, height, heights}
 use Rattle.awk_layout.specs.Valid.{len, IsValid, AllValid, AllReach}

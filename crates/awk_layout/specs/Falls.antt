@@ -3,7 +3,10 @@ use Rattle.std.specs.Prelude.{◌+◌, ◌*◌, ◌≤◌, max, List as Seq, [],
 use Rattle.std.proofs.Common.{arith}
 use denote.Param.Weighed.{most}
 use Rattle.awk_layout.specs.declared.node.Inner.{Inner}
-use Rattle.awk_layout.specs.declared.node.Inner.TheVariants.{Empty, Numpy, Regular, List, ListOffset, Row, Indexed, IndexedOption, ByteMasked, BitMasked, Unmasked, Union}
+use Rattle.awk_layout.specs.declared.node.Inner.TheVariants.{Empty, Numpy, Regular, List}
+use Rattle.awk_layout.specs.declared.node.Inner.TheVariants.{ListOffset, Row, Indexed}
+use Rattle.awk_layout.specs.declared.node.Inner.TheVariants.{IndexedOption, ByteMasked, BitMasked}
+use Rattle.awk_layout.specs.declared.node.Inner.TheVariants.{Unmasked, Union}
 use Rattle.awk_layout.specs.declared.node.Node.TheDeep.{deep-Inner}
 use Rattle.awk_layout.specs.Layout.{Layout, height, heights, layouts_from}
 use Rattle.awk_layout.specs.Inner.{layout_of_inner}

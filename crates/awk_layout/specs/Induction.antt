@@ -1,7 +1,10 @@
 -- What holds of every layout, by one step for all classes.
 use Rattle.std.specs.Prelude.{◌≡◌, ◌+◌, ◌<◌, max, refl}
 use Rattle.std.proofs.Common.{arith, ap, sym}
-use Rattle.awk_layout.specs.Layout.{Layout, Layouts, contents_of, fold, folds, one_more, weight, weights, height, heights, empty, flat, regular, lists, offset_lists, rows, indexed, optional, byte_masked, bit_masked, unmasked, union, no_layouts, layout}
+use Rattle.awk_layout.specs.Layout.{Layout, Layouts, contents_of, fold, folds, one_more, weight}
+use Rattle.awk_layout.specs.Layout.{weights, height, heights, empty, flat, regular, lists}
+use Rattle.awk_layout.specs.Layout.{offset_lists, rows, indexed, optional, byte_masked, bit_masked}
+use Rattle.awk_layout.specs.Layout.{unmasked, union, no_layouts, layout}
 
 -- P of each of these
 abbrev pub AllOf : (Layout → Type 0) → Layouts → Type 0

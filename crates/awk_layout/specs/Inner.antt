@@ -1,7 +1,12 @@
 -- The layout that a node is, by its private parts.
-use Rattle.awk_layout.specs.Layout.{Layout, layouts_from, empty, flat, regular, lists, offset_lists, rows, indexed, optional, byte_masked, bit_masked, unmasked, union}
+use Rattle.awk_layout.specs.Layout.{Layout, layouts_from, empty, flat, regular, lists, offset_lists}
+use Rattle.awk_layout.specs.Layout.{rows, indexed, optional, byte_masked, bit_masked, unmasked}
+use Rattle.awk_layout.specs.Layout.{union}
 use Rattle.awk_layout.specs.declared.node.Inner.{Inner}
-use Rattle.awk_layout.specs.declared.node.Inner.TheVariants.{Empty, Numpy, Regular, List, ListOffset, Row, Indexed, IndexedOption, ByteMasked, BitMasked, Unmasked, Union}
+use Rattle.awk_layout.specs.declared.node.Inner.TheVariants.{Empty, Numpy, Regular, List}
+use Rattle.awk_layout.specs.declared.node.Inner.TheVariants.{ListOffset, Row, Indexed}
+use Rattle.awk_layout.specs.declared.node.Inner.TheVariants.{IndexedOption, ByteMasked, BitMasked}
+use Rattle.awk_layout.specs.declared.node.Inner.TheVariants.{Unmasked, Union}
 
 abbrev pub layout_of_inner : Inner → Layout
 layout_of_inner Empty = empty

@@ -1,13 +1,17 @@
 -- The item of a layout at a place.
-use Rattle.std.specs.Prelude.{ℕ, suc, zero, ◌+◌, ◌-◌, ◌*◌, not, List, map, get_or, if◌then◌else◌, Bool, true, false, ℤ, Option, Some, None}
+use Rattle.std.specs.Prelude.{ℕ, suc, zero, ◌+◌, ◌-◌, ◌*◌, not, List, map, get_or, if◌then◌else◌}
+use Rattle.std.specs.Prelude.{Bool, true, false, ℤ, Option, Some, None}
 use Rattle.std.specs.List.{range_with_len}
 use Rattle.awk_types.specs.Value.{Value, Values, int, truth, null, list, row, alt, no_values, value}
 use Rattle.awk_lanes.specs.declared.kind.Kind.{Kind}
-use Rattle.awk_lanes.specs.declared.kind.Kind.TheVariants.{Bool as Truths, I8, I16, I32, I64, U8, U16, U32, U64}
+use Rattle.awk_lanes.specs.declared.kind.Kind.TheVariants.{Bool as Truths, I8, I16, I32, I64, U8}
+use Rattle.awk_lanes.specs.declared.kind.Kind.TheVariants.{U16, U32, U64}
 use Rattle.awk_lanes.specs.Column.{Column}
 use Rattle.awk_lanes.specs.Numbers.{is_nonzero}
 use Rattle.awk_lanes.specs.Places.{at, place_at, option_place_at}
-use Rattle.awk_layout.specs.Layout.{Layout, Layouts, empty, flat, regular, lists, offset_lists, rows, indexed, optional, byte_masked, bit_masked, unmasked, union, no_layouts, layout}
+use Rattle.awk_layout.specs.Layout.{Layout, Layouts, empty, flat, regular, lists, offset_lists}
+use Rattle.awk_layout.specs.Layout.{rows, indexed, optional, byte_masked, bit_masked, unmasked}
+use Rattle.awk_layout.specs.Layout.{union, no_layouts, layout}
 use Rattle.awk_layout.specs.Valid.{len}
 
 -- the value that a number of a kind is

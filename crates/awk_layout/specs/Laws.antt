@@ -1,5 +1,7 @@
 -- What holds of the items of every valid layout.
-use Rattle.std.specs.Prelude.{◌≡◌, ◌≢◌, ℕ, zero, suc, ◌+◌, ◌-◌, ◌*◌, ◌<◌, ◌≤◌, ◌^◌, ◌==◌, refl, ℤ, pos, negsuc, ◌≤ℤ◌, ◌<ℤ◌, Bool, true, false, Option, Some, None, if◌then◌else◌}
+use Rattle.std.specs.Prelude.{◌≡◌, ◌≢◌, ℕ, zero, suc, ◌+◌, ◌-◌, ◌*◌, ◌<◌, ◌≤◌, ◌^◌, ◌==◌, refl, ℤ}
+use Rattle.std.specs.Prelude.{pos, negsuc, ◌≤ℤ◌, ◌<ℤ◌, Bool, true, false, Option, Some, None}
+use Rattle.std.specs.Prelude.{if◌then◌else◌}
 use Rattle.std.proofs.Common.{arith, ap, sym}
 use Rattle.std.proofs.lemmas.Int.{ints}
 use Rattle.std.proofs.lemmas.Nat.{row_fits}
@@ -8,10 +10,13 @@ use Rattle.std.specs.Ordering.{int_eq}
 use Rattle.awk_types.specs.Value.{list, alt, null}
 use Rattle.awk_lanes.specs.Numbers.{nat_of}
 use Rattle.awk_lanes.specs.Places.{at, place_at, option_place, option_place_at, IsSpan}
-use Rattle.awk_layout.specs.Layout.{Layout, Layouts, count, height, heights, empty, flat, regular, lists, offset_lists, rows, indexed, optional, byte_masked, bit_masked, unmasked, union, no_layouts, layout}
+use Rattle.awk_layout.specs.Layout.{Layout, Layouts, count, height, heights, empty, flat, regular}
+use Rattle.awk_layout.specs.Layout.{lists, offset_lists, rows, indexed, optional, byte_masked}
+use Rattle.awk_layout.specs.Layout.{bit_masked, unmasked, union, no_layouts, layout}
 use Rattle.awk_layout.specs.Valid.{len, len_of, IsValid, AllValid, AllReach}
 use Rattle.awk_layout.specs.Item.{item, item_of, run, at_option, byte_shows, bit_shows}
-use Rattle.awk_layout.specs.Place.{span, missing, through, case_of, value_of, span_between, nth, through_option, IsWithin}
+use Rattle.awk_layout.specs.Place.{span, missing, through, case_of, value_of, span_between, nth}
+use Rattle.awk_layout.specs.Place.{through_option, IsWithin}
 
 -- a valid layout has fewer than 2 ^ 63 items
 pub len-fits : (x : Layout) → IsValid x → len x < 2 ^ 63

@@ -1,11 +1,14 @@
 -- What an item is, one level down.
-use Rattle.std.specs.Prelude.{ℕ, suc, zero, ◌+◌, ◌-◌, ◌*◌, ◌<◌, ◌≤◌, ◌==◌, List, Option, Some, None, ℤ, if◌then◌else◌}
+use Rattle.std.specs.Prelude.{ℕ, suc, zero, ◌+◌, ◌-◌, ◌*◌, ◌<◌, ◌≤◌, ◌==◌, List, Option, Some, None}
+use Rattle.std.specs.Prelude.{ℤ, if◌then◌else◌}
 use Rattle.std.specs.Ordering.{int_eq}
 use Rattle.awk_types.specs.DataType.{Name}
 use Rattle.awk_types.specs.Value.{Value, null, list, row, alt}
 use Rattle.awk_lanes.specs.Numbers.{nat_of}
 use Rattle.awk_lanes.specs.Places.{at, place_at, option_place_at}
-use Rattle.awk_layout.specs.Layout.{Layout, Layouts, height, heights, empty, flat, regular, lists, offset_lists, rows, indexed, optional, byte_masked, bit_masked, unmasked, union, no_layouts, layout}
+use Rattle.awk_layout.specs.Layout.{Layout, Layouts, height, heights, empty, flat, regular, lists}
+use Rattle.awk_layout.specs.Layout.{offset_lists, rows, indexed, optional, byte_masked, bit_masked}
+use Rattle.awk_layout.specs.Layout.{unmasked, union, no_layouts, layout}
 use Rattle.awk_layout.specs.Valid.{len, IsValid, AllValid, AllReach}
 use Rattle.awk_layout.specs.Item.{item, items_across, leaf_value, run, byte_shows, bit_shows}
 

@@ -6,7 +6,8 @@ use Rattle.awk_lanes.specs.declared.kind.Num.TheVariants.{Int, Nat, Truth}
 use Rattle.awk_layout.specs.Layout.{layouts_from}
 use Rattle.awk_layout.specs.Place.{Case, number, span, across, missing, through, alternative}
 use Rattle.awk_layout.specs.declared.node.place.Place.{Place}
-use Rattle.awk_layout.specs.declared.node.place.Place.TheVariants.{Number, Items, Row, Missing, Through, Alternative}
+use Rattle.awk_layout.specs.declared.node.place.Place.TheVariants.{Number, Items, Row, Missing}
+use Rattle.awk_layout.specs.declared.node.place.Place.TheVariants.{Through, Alternative}
 
 abbrev pub value_of_num : Num → Value
 value_of_num (Int z) = int z

@@ -1,11 +1,14 @@
 -- The type of a layout, and the simple type and items of an array of it.
 use Rattle.std.specs.Prelude.{List, map}
-use Rattle.awk_types.specs.DataType.{DataType, DataTypes, unknown, leaf, var, reg, opt, uni, row_type, no_types, type}
+use Rattle.awk_types.specs.DataType.{DataType, DataTypes, unknown, leaf, var, reg, opt, uni}
+use Rattle.awk_types.specs.DataType.{row_type, no_types, type}
 use Rattle.awk_types.specs.Value.{Value}
 use Rattle.awk_types.specs.Datum.{Datum, arr}
 use Rattle.awk_types.specs.Simple.{simple, simple_value}
 use Rattle.awk_layout.specs.Kinds.{primitive_of}
-use Rattle.awk_layout.specs.Layout.{Layout, Layouts, empty, flat, regular, lists, offset_lists, rows, indexed, optional, byte_masked, bit_masked, unmasked, union, no_layouts, layout}
+use Rattle.awk_layout.specs.Layout.{Layout, Layouts, empty, flat, regular, lists, offset_lists}
+use Rattle.awk_layout.specs.Layout.{rows, indexed, optional, byte_masked, bit_masked, unmasked}
+use Rattle.awk_layout.specs.Layout.{union, no_layouts, layout}
 use Rattle.awk_layout.specs.Item.{items}
 
 abbrev mutual

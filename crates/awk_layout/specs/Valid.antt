@@ -1,11 +1,15 @@
 -- How many items a layout has, and when it is valid.
-use Rattle.std.specs.Prelude.{◌≡◌, ℕ, zero, suc, pos, ◌≤ℤ◌, ◌-◌, ◌*◌, ◌<◌, ◌≤◌, ◌^◌, List, length, Option, Some, None}
+use Rattle.std.specs.Prelude.{◌≡◌, ℕ, zero, suc, pos, ◌≤ℤ◌, ◌-◌, ◌*◌, ◌<◌, ◌≤◌, ◌^◌, List, length}
+use Rattle.std.specs.Prelude.{Option, Some, None}
 use Rattle.awk_types.specs.DataType.{Name}
 use Rattle.awk_types.specs.Names.{AreDistinct}
 use Rattle.awk_lanes.specs.Column.{Column}
-use Rattle.awk_lanes.specs.Places.{size_of, at, place_at, IsIndexKind, IsOffsets, AreSpans, IsOptionalIndex, IsIndex}
+use Rattle.awk_lanes.specs.Places.{size_of, at, place_at, IsIndexKind, IsOffsets, AreSpans}
+use Rattle.awk_lanes.specs.Places.{IsOptionalIndex, IsIndex}
 use Rattle.awk_lanes.specs.declared.kind.Kind.TheVariants.{I8}
-use Rattle.awk_layout.specs.Layout.{Layout, Layouts, count, empty, flat, regular, lists, offset_lists, rows, indexed, optional, byte_masked, bit_masked, unmasked, union, no_layouts, layout}
+use Rattle.awk_layout.specs.Layout.{Layout, Layouts, count, empty, flat, regular, lists}
+use Rattle.awk_layout.specs.Layout.{offset_lists, rows, indexed, optional, byte_masked, bit_masked}
+use Rattle.awk_layout.specs.Layout.{unmasked, union, no_layouts, layout}
 
 -- the number of items
 abbrev pub len : Layout → ℕ

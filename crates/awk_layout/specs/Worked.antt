@@ -1,5 +1,6 @@
 -- The definitions on small layouts, each with the items and the type that it must have.
-use Rattle.std.specs.Prelude.{◌≡◌, ℕ, zero, suc, ◌<◌, ◌≤◌, ◌≤ℤ◌, ◌<ℤ◌, List, [], ◌∷◌, Some, None, true, false, ℤ, pos, negsuc, refl}
+use Rattle.std.specs.Prelude.{◌≡◌, ℕ, zero, suc, ◌<◌, ◌≤◌, ◌≤ℤ◌, ◌<ℤ◌, List, [], ◌∷◌, Some, None}
+use Rattle.std.specs.Prelude.{true, false, ℤ, pos, negsuc, refl}
 use Rattle.std.proofs.Common.{arith}
 use Rattle.std.proofs.lemmas.Int.{ints}
 use Rattle.awk_types.specs.declared.primitive.Primitive.TheVariants as Primitives
@@ -9,7 +10,10 @@ use Rattle.awk_lanes.specs.declared.kind.Kind.TheVariants.{Bool as Truths, I8, I
 use Rattle.awk_lanes.specs.Column.{Column}
 use Rattle.awk_lanes.specs.Bits.{bits}
 use Rattle.awk_lanes.specs.Places.{at}
-use Rattle.awk_layout.specs.Layout.{Layout, Layouts, contents_of, held, weight, weights, height, heights, empty, flat, regular, lists, offset_lists, rows, indexed, optional, byte_masked, bit_masked, union, no_layouts, layout}
+use Rattle.awk_layout.specs.Layout.{Layout, Layouts, contents_of, held, weight, weights, height}
+use Rattle.awk_layout.specs.Layout.{heights, empty, flat, regular, lists, offset_lists, rows}
+use Rattle.awk_layout.specs.Layout.{indexed, optional, byte_masked, bit_masked, union, no_layouts}
+use Rattle.awk_layout.specs.Layout.{layout}
 use Rattle.awk_layout.specs.Induction.{AllOf, by_contents, weight-contents, height-contents}
 use Rattle.awk_layout.specs.Valid.{IsValid}
 use Rattle.awk_layout.specs.Place.{case_of, span}

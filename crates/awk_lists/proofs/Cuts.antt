@@ -1,5 +1,6 @@
 -- An array cut by counts.
-use Rattle.std.specs.Prelude.{◌≡◌, ℕ, zero, suc, ◌+◌, ◌-◌, ◌<◌, ◌≤◌, ◌^◌, ◌==◌, nat_eq, nat_lt, refl}
+use Rattle.std.specs.Prelude.{◌≡◌, ℕ, zero, suc, ◌+◌, ◌-◌, ◌<◌, ◌≤◌, ◌^◌, ◌==◌, nat_eq, nat_lt}
+use Rattle.std.specs.Prelude.{refl}
 use Rattle.std.specs.Prelude.{Bool, true, false, ◌||◌, not, List, [], ◌∷◌, length, map, take, drop}
 use Rattle.std.specs.Prelude.{get_or, sum_by, pos, Some, None, Ok, Err}
 use Rattle.std.specs.Prelude.{if◌then◌else◌}

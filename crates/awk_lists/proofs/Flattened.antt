@@ -44,7 +44,8 @@ use Rattle.awk_list_ends.proofs.KeptItems.{run-slice}
 use Rattle.awk_lists.proofs.Spans.{over_limit, within_limit}
 
 -- what is accepted are lists
-pub are_lists : (t : DataType) → flatten_function.refusal t ≡ None → is_list_or_unknown (present t) ≡ true
+pub are_lists : (t : DataType) → flatten_function.refusal t ≡ None
+    → is_list_or_unknown (present t) ≡ true
 are_lists t h = go (is_list_or_unknown (present t)) h
   where
     go : (b : Bool) → (if b then None else Some refused.Axis) ≡ None → b ≡ true

@@ -60,7 +60,8 @@ no_numbers x c o e =
 
 -- ---- whole numbers
 
-whole_value : (k : Kind) (z : ℤ) → is_numbers (leaf (primitive_of k)) ≡ true → leaf_value k z ≡ int z
+whole_value : (k : Kind) (z : ℤ) → is_numbers (leaf (primitive_of k)) ≡ true
+    → leaf_value k z ≡ int z
 whole_value kinds.Bool z e = cc
 whole_value kinds.I8 z e = refl
 whole_value kinds.I16 z e = refl

@@ -89,7 +89,8 @@ local_given class s t y h p = record {
 local_count : (s t : Column) (y : Layout)
     → sum (map (λ (l : List Value). length (map (λ (i : ℕ). int (pos i))
     (range_with_len 0 (length l)))) (all_items_at s t y)) ≡ before (span_length s t) (size_of s)
-local_count s t y = count_given (λ l. map (λ (i : ℕ). int (pos i)) (range_with_len 0 (length l))) s t
+local_count s t y =
+    count_given (λ l. map (λ (i : ℕ). int (pos i)) (range_with_len 0 (length l))) s t
     y (span_length s t)
     (λ i. length-map-range_with_len (λ (j : ℕ). int (pos j)) 0 (length (items_at s t y i))
     ∙ items_at-length s t y i)

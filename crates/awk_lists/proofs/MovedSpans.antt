@@ -130,7 +130,8 @@ module _ (class : Class) (s t : Column) (y : Layout) (a : AreLists class s t y)
       ap (λ u. item_type (present u)) h.typ
       ∙ ap item_type (list_present (present (array_type y)) l)
 
-  pub held_typ : flatten_function.refusal (array_type y) ≡ None → is_list_or_unknown (array_type z) ≡ true
+  pub held_typ : flatten_function.refusal (array_type y) ≡ None
+      → is_list_or_unknown (array_type z) ≡ true
   held_typ r = ap is_list_or_unknown h.typ ∙ are_lists (array_type y) r
 
   -- ---- what is made

@@ -30,7 +30,8 @@ longer_by-next k (n ∷ ns) = let e : k + suc n ≡ k + 1 + n = omega arith in a
 
 -- ---- the values of a lane
 
-same_truth : (a b : Bool) → int_eq (pos (if a then 1 else 0)) (pos (if b then 1 else 0)) ≡ agrees a b
+same_truth : (a b : Bool)
+    → int_eq (pos (if a then 1 else 0)) (pos (if b then 1 else 0)) ≡ agrees a b
 same_truth true true = refl
 same_truth true false = refl
 same_truth false true = refl

@@ -186,7 +186,8 @@ module _ (s e : Column) (y : Layout) (o : Column) (z : Layout) (c : Column)
       ∙ ap (λ k. take k (drop (place_at w i) (array_items made))) size
       ∙ ap (λ k. take (length (runs_at c o i)) (drop k (array_items made))) first
       ∙ ap (λ vs. take (length (runs_at c o i)) (drop (runs_before c o i) vs)) items-made
-      ∙ ap (take (length (runs_at c o i))) (drop-map (λ (k : ℕ). int (pos k)) (runs_before c o i) all)
+      ∙ ap (take (length (runs_at c o i))) (drop-map (λ (k : ℕ). int (pos k)) (runs_before c o i)
+      all)
       ∙ take-map (λ (k : ℕ). int (pos k)) (length (runs_at c o i)) (drop (runs_before c o i) all)
       ∙ ap (map (λ (k : ℕ). int (pos k))) (first_of-part (runs_at c o) i (size_of s) p)
       ∙ ap (map (λ (k : ℕ). int (pos k))) (same_values i p)

@@ -1,6 +1,7 @@
 -- The buffers of a line that is read.
 use Rattle.std.proofs.Common.{◌≡◌, true, refl}
-use Rattle.serde_json.specs.Data.{null, boolean, number, string, array, object, Members, no_members, member}
+use Rattle.serde_json.specs.Data.{null, boolean, number, string, array, object, Members, no_members}
+use Rattle.serde_json.specs.Data.{member}
 use Rattle.awk_query.specs.Line.{are_texts}
 use Rattle.awk_store.specs.Buffers.{HoldsTexts}
 

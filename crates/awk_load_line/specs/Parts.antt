@@ -1,5 +1,6 @@
 -- The raw bytes behind a load line, parted by its keys.
-use Rattle.std.specs.Prelude.{◌≡◌, ℕ, ◌-◌, nat_lt, List, [], ◌∷◌, take, drop, Option, Some, None, if◌then◌else◌, codes, refl}
+use Rattle.std.specs.Prelude.{◌≡◌, ℕ, ◌-◌, nat_lt, List, [], ◌∷◌, take, drop, Option, Some, None}
+use Rattle.std.specs.Prelude.{if◌then◌else◌, codes, refl}
 use Rattle.awk_types.specs.DataType.{Name}
 use Rattle.awk_store.specs.Buffers.{ByKey}
 use Rattle.awk_query.specs.declared.reading.RawPart.{RawPart}

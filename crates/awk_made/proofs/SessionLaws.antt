@@ -1,5 +1,6 @@
 -- The made session has eight lines, all within the limits.
-use Rattle.std.proofs.Common.{◌≡◌, ◌<◌, ◌≤◌, ℕ, ◌+◌, List, [], ◌∷◌, ◌++◌, length, refl, ap, sym, ◌∙◌, arith, codes, decimal, length-append, append-nil}
+use Rattle.std.proofs.Common.{◌≡◌, ◌<◌, ◌≤◌, ℕ, ◌+◌, List, [], ◌∷◌, ◌++◌, length, refl, ap, sym}
+use Rattle.std.proofs.Common.{◌∙◌, arith, codes, decimal, length-append, append-nil}
 use Rattle.std.specs.List.{AllByRecursion}
 use Rattle.std.proofs.lemmas.Fmt.{length-decimal-le}
 use Rattle.base64.specs.Engines.{standard}
@@ -10,12 +11,16 @@ use Rattle.awk_edge.proofs.LineLaws.{Unbroken-append, lines-unlines, lines-nil, 
 use Rattle.awk_json.proofs.Base64.{encode_of-unbroken}
 use Rattle.awk_json.proofs.Lines.{literal-unbroken, decimal-unbroken}
 use Rattle.awk_made.specs.Draws.{Muon, events}
-use Rattle.awk_made.specs.Session.{load_head, load_line, pairs_line, opposite_line, total_line, type_line, count_line, sum_line, max_line, session_lines, session_of, offsets_bytes, pts_bytes, charges_bytes}
+use Rattle.awk_made.specs.Session.{load_head, load_line, pairs_line, opposite_line, total_line}
+use Rattle.awk_made.specs.Session.{type_line, count_line, sum_line, max_line, session_lines}
+use Rattle.awk_made.specs.Session.{session_of, offsets_bytes, pts_bytes, charges_bytes}
 use Rattle.awk_made.proofs.Base64Length.{length-encode_of}
 use Rattle.awk_made.proofs.Lengths.{length-offsets, length-pts, length-charges}
 
 -- nine texts, one after another
-nine : (a b c d e f g h i : List ℕ) → Unbroken a → Unbroken b → Unbroken c → Unbroken d → Unbroken e → Unbroken f → Unbroken g → Unbroken h → Unbroken i → Unbroken (a ++ b ++ c ++ d ++ e ++ f ++ g ++ h ++ i)
+nine : (a b c d e f g h i : List ℕ) → Unbroken a → Unbroken b → Unbroken c → Unbroken d
+    → Unbroken e → Unbroken f → Unbroken g → Unbroken h → Unbroken i
+    → Unbroken (a ++ b ++ c ++ d ++ e ++ f ++ g ++ h ++ i)
 nine a b c d e f g h i pa pb pc pd pe pf pg ph pi =
     let ab = Unbroken-append a b pa pb in
     let abc = Unbroken-append (a ++ b) c ab pc in
@@ -26,33 +31,65 @@ nine a b c d e f g h i pa pb pc pd pe pf pg ph pi =
     let abcdefgh = Unbroken-append (a ++ b ++ c ++ d ++ e ++ f ++ g) h abcdefg ph in
     Unbroken-append (a ++ b ++ c ++ d ++ e ++ f ++ g ++ h) i abcdefgh pi
 
-length_nine : (a b c d e f g h i : List ℕ) → length (a ++ b ++ c ++ d ++ e ++ f ++ g ++ h ++ i) ≡ length a + length b + length c + length d + length e + length f + length g + length h + length i
+length_nine : (a b c d e f g h i : List ℕ)
+    → length (a ++ b ++ c ++ d ++ e ++ f ++ g ++ h ++ i) ≡ length a + length b + length c + length d
+    + length e + length f + length g + length h + length i
 length_nine a b c d e f g h i = simp length-append
 
 load_line-unbroken : (n : ℕ) (es : List (List Muon)) → Unbroken (load_line n es)
 load_line-unbroken n es =
-    nine load_head (decimal n) (codes ",\"buffers\":{\"node0-offsets\":\"") (encode_of standard (offsets_bytes es)) (codes "\",\"node2-data\":\"") (encode_of standard (pts_bytes es)) (codes "\",\"node3-data\":\"") (encode_of standard (charges_bytes es)) (codes "\"}}")
-    (literal-unbroken load_head refl) (decimal-unbroken n) (literal-unbroken (codes ",\"buffers\":{\"node0-offsets\":\"") refl) (encode_of-unbroken (offsets_bytes es)) (literal-unbroken (codes "\",\"node2-data\":\"") refl) (encode_of-unbroken (pts_bytes es)) (literal-unbroken (codes "\",\"node3-data\":\"") refl) (encode_of-unbroken (charges_bytes es)) (literal-unbroken (codes "\"}}") refl)
+    nine load_head (decimal n) (codes ",\"buffers\":{\"node0-offsets\":\"")
+    (encode_of standard (offsets_bytes es)) (codes "\",\"node2-data\":\"")
+    (encode_of standard (pts_bytes es)) (codes "\",\"node3-data\":\"")
+    (encode_of standard (charges_bytes es)) (codes "\"}}")
+    (literal-unbroken load_head refl) (decimal-unbroken n)
+    (literal-unbroken (codes ",\"buffers\":{\"node0-offsets\":\"") refl)
+    (encode_of-unbroken (offsets_bytes es))
+    (literal-unbroken (codes "\",\"node2-data\":\"") refl) (encode_of-unbroken (pts_bytes es))
+    (literal-unbroken (codes "\",\"node3-data\":\"") refl)
+    (encode_of-unbroken (charges_bytes es)) (literal-unbroken (codes "\"}}") refl)
 
 -- the load line is the longest
 pub length-load_line : (n seed : ℕ) → n ≤ 1000000 → length (load_line n (events n seed)) < 60000000
 length-load_line n seed few =
     let es = events n seed in
-    let all = length_nine load_head (decimal n) (codes ",\"buffers\":{\"node0-offsets\":\"") (encode_of standard (offsets_bytes es)) (codes "\",\"node2-data\":\"") (encode_of standard (pts_bytes es)) (codes "\",\"node3-data\":\"") (encode_of standard (charges_bytes es)) (codes "\"}}") in
-    let count : length (decimal n) ≤ 7 = length-decimal-le 7 n (omega arith) (omega arith) (omega arith) in
+    let all = length_nine load_head (decimal n) (codes ",\"buffers\":{\"node0-offsets\":\"")
+    (encode_of standard (offsets_bytes es)) (codes "\",\"node2-data\":\"")
+    (encode_of standard (pts_bytes es)) (codes "\",\"node3-data\":\"")
+    (encode_of standard (charges_bytes es)) (codes "\"}}") in
+    let count : length (decimal n) ≤ 7 = length-decimal-le 7 n (omega arith) (omega arith)
+    (omega arith) in
     let head : length load_head ≤ 500 = omega arith in
-    omega (arith, all, count, head, length-encode_of (offsets_bytes es), length-encode_of (pts_bytes es), length-encode_of (charges_bytes es), length-offsets n seed, length-pts n seed, length-charges n seed)
+    omega (
+      arith,
+      all,
+      count,
+      head,
+      length-encode_of (offsets_bytes es),
+      length-encode_of
+          (pts_bytes es),
+      length-encode_of (charges_bytes es),
+      length-offsets n seed,
+      length-pts n
+          seed,
+      length-charges n seed,
+    )
 
 short : (line : List ℕ) → length line < 60000000 → length line ≤ line_limit
 unfolding line_limit
 short line h = omega arith
 
-literal_line : (line : List ℕ) → Unbroken line → length line ≤ 200 → Unbroken line × (length line ≤ line_limit)
+literal_line : (line : List ℕ) → Unbroken line → length line ≤ 200
+    → Unbroken line × (length line ≤ line_limit)
 literal_line line u h = (u, short line (omega arith))
 
 pub session_lines-within : (n seed : ℕ) → n ≤ 1000000 → AreLines (session_lines seed n)
 session_lines-within n seed few = (
-  (load_line-unbroken n (events n seed), short (load_line n (events n seed)) (length-load_line n seed few)),
+  (
+    load_line-unbroken n (events n seed),
+    short (load_line n (events n seed))
+        (length-load_line n seed few),
+  ),
   (
     literal_line pairs_line (literal-unbroken pairs_line refl) (omega arith),
     (
@@ -78,19 +115,23 @@ pub session-lines : (n seed : ℕ) → n ≤ 1000000 → lines (session_of seed 
 unfolding session_of
 session-lines n seed few =
     let ls = session_lines seed n in
-    ap lines (sym (append-nil (unlines ls))) ∙ lines-unlines ls [] (session_lines-within n seed few) ∙ ap (λ z. ls ++ z) lines-nil
+    ap lines (sym (append-nil (unlines ls))) ∙ lines-unlines ls [] (session_lines-within n seed few)
+    ∙ ap (λ z. ls ++ z) lines-nil
 
 few_lines : 8 ≤ lines_limit
 unfolding lines_limit
 few_lines = omega arith
 
-all_short : (ls : List (List ℕ)) → AreLines ls → AllByRecursion (λ line. length line ≤ line_limit) ls
+all_short : (ls : List (List ℕ)) → AreLines ls
+    → AllByRecursion (λ line. length line ≤ line_limit) ls
 all_short [] a = tt
 all_short (l ∷ ls) a = (a.0.1, all_short ls a.1)
 
 pub session-within : (n seed : ℕ) → n ≤ 1000000 → IsWithinLimits (session_of seed n)
 session-within n seed few = record {
-  short = rw (session-lines n seed few) (all_short (session_lines seed n) (session_lines-within n seed few));
+  short =
+      rw (session-lines n seed few) (all_short (session_lines seed n)
+      (session_lines-within n seed few));
   few = rw (session-lines n seed few) few_lines;
 }
 
@@ -99,4 +140,5 @@ pub session-ended : (n seed : ℕ) → n ≤ 1000000 → ended (session_of seed 
 unfolding session_of
 session-ended n seed few =
     let ls = session_lines seed n in
-    ap ended (sym (append-nil (unlines ls))) ∙ ended-unbroken ls [] (session_lines-within n seed few) few_lines tt
+    ap ended (sym (append-nil (unlines ls))) ∙ ended-unbroken ls []
+    (session_lines-within n seed few) few_lines tt

@@ -4,7 +4,8 @@ ghost use Rattle.std.specs.Int.{to_le_bytes, cast_unsigned, w8};
 ghost use Rattle.std.specs.List.{flat_map};
 ghost use Rattle.awk_made.specs.Draws.{muons, events, after_draws, charge_of};
 ghost use Rattle.awk_made.specs.Draws as drawn;
-ghost use Rattle.awk_made.specs.Session.{number_bytes, offsets_bytes, stops, pt_bytes, charge_bytes, pts_bytes, charges_bytes};
+ghost use Rattle.awk_made.specs.Session.{number_bytes, offsets_bytes, stops, pt_bytes};
+ghost use Rattle.awk_made.specs.Session.{charge_bytes, pts_bytes, charges_bytes};
 
 use crate::NoMemory;
 use std::alloc::Global;

@@ -1,9 +1,12 @@
 -- What the parts of joining answer, as parts of the whole.
-use Rattle.std.proofs.Common.{◌≡◌, ◌∙◌, ◌+◌, ◌*◌, ◌==◌, ◌&&◌, ◌≤◌, ◌∷◌, [], ℕ, suc, Bool, true, false, List, Option, Some, None, Result, Ok, Err, ap, ap₂, sym, subst, refl, map, drop, length, slice_get, arith}
+use Rattle.std.proofs.Common.{◌≡◌, ◌∙◌, ◌+◌, ◌*◌, ◌==◌, ◌&&◌, ◌≤◌, ◌∷◌, [], ℕ, suc, Bool, true}
+use Rattle.std.proofs.Common.{false, List, Option, Some, None, Result, Ok, Err, ap, ap₂, sym, subst}
+use Rattle.std.proofs.Common.{refl, map, drop, length, slice_get, arith}
 use Rattle.std.specs.Prelude.{if◌then◌else◌, option_map, IsErrAnd}
 use Rattle.std.proofs.lemmas.List.{drop_all}
 use Rattle.awk_types.proofs.ListLaws.{drop-get}
-use Rattle.awk_types.proofs.RefusalLaws.{Told-first, refused_or-Ok, refused_or-Err, or-assoc, or-both}
+use Rattle.awk_types.proofs.RefusalLaws.{Told-first, refused_or-Ok, refused_or-Err, or-assoc}
+use Rattle.awk_types.proofs.RefusalLaws.{or-both}
 use Rattle.awk_types.specs.DataType.{DataType}
 use Rattle.awk_types.specs.Datum as shown
 use Rattle.awk_types.specs.Faults.{fault_of, fault_told, limit_fault}
@@ -25,12 +28,17 @@ use Rattle.awk_layout.proofs.ArrayItems.{length-array_items}
 use Rattle.awk_columns.specs.Columns.{joined_items}
 use Rattle.awk_unify.specs.Carry.{Carry}
 use Rattle.awk_unify.specs.UnifyList.{UnificationList, UnifiesAll, unification_list, within_list}
-use Rattle.awk_merge.specs.Concatenate.{operand_types, operand_items, carried_columns, stacked, joined_rows, row_count, are_long, lengths_fault, values_fault, joined_values, joined, joined_as, concatenate_at}
-use Rattle.awk_merge.specs.Operands.{array_in, column_in, stacked_rows, rows_datum, rows_refused, joined_datum, AreLawful, AreCarriedOperands}
+use Rattle.awk_merge.specs.Concatenate.{operand_types, operand_items, carried_columns, stacked}
+use Rattle.awk_merge.specs.Concatenate.{joined_rows, row_count, are_long, lengths_fault}
+use Rattle.awk_merge.specs.Concatenate.{values_fault, joined_values, joined, joined_as}
+use Rattle.awk_merge.specs.Concatenate.{concatenate_at}
+use Rattle.awk_merge.specs.Operands.{array_in, column_in, stacked_rows, rows_datum, rows_refused}
+use Rattle.awk_merge.specs.Operands.{joined_datum, AreLawful, AreCarriedOperands}
 use Rattle.awk_merge.specs.declared.operands.Axis.{Axis}
 use Rattle.awk_merge.specs.declared.operands.Axis.TheVariants.{Rows}
 use Rattle.awk_merge.proofs.OperandLaws.{length-lifts, operand_columns}
-use Rattle.awk_merge.proofs.StackLaws.{carried_long, carried_rows, length-carried_columns, length-stacked, rows-stacked}
+use Rattle.awk_merge.proofs.StackLaws.{carried_long, carried_rows, length-carried_columns}
+use Rattle.awk_merge.proofs.StackLaws.{length-stacked, rows-stacked}
 
 -- ---- the lengths of operands, one by one
 
@@ -93,7 +101,8 @@ module _ (ds : List Datum) (fs : List Carry) (t : DataType) (n : ℕ)
       ∙ ap (λ b. (if b then None else Some fault.Lengths) or too_many n) (long-are n)
 
   -- where the rows are refused
-  pub rows_told_first : (o : Option Fault) → Told o (refused_or (rows_refused n (map column_in ds)) (tt {0}))
+  pub rows_told_first : (o : Option Fault)
+      → Told o (refused_or (rows_refused n (map column_in ds)) (tt {0}))
       → Told o (joined_datum Rows t columns)
   rows_told_first o h =
       subst (λ f. Told o (refused_or f (shown.arr t (joined_rows columns))))
@@ -126,7 +135,8 @@ module _ (ds : List Datum) (fs : List Carry) (t : DataType) (n : ℕ)
         ap (λ k. rows_datum t (stacked_rows n k (stacked columns))) (sym count-columns)
         ∙ ap (rows_datum t) (rows-stacked columns n (sym rows-are) all_long)
         ∙ sym (ap (λ f. refused_or f (shown.arr t (joined_rows columns)))
-        (ap₂ (λ a b. a or b or too_many (length (joined_items (joined_rows columns)))) fine.0 fine.1))
+        (ap₂ (λ a b. a or b or too_many (length (joined_items (joined_rows columns)))) fine.0
+        fine.1))
 
 -- ---- types
 
@@ -151,7 +161,8 @@ module _ (axis : Axis) (ds : List Datum) (ts : List DataType)
   told_by_limit f h =
       let u : UnificationList = unification_list ts in
       subst (Told (fault_told (fault_of f))) (sym whole_is)
-      (limit_first (limit u.typ) (values_fault axis (carried_columns u.lifts (map column_in ds))) f u
+      (limit_first (limit u.typ) (values_fault axis (carried_columns u.lifts (map column_in ds))) f
+      u
       (shown.arr u.typ (joined_values axis (carried_columns u.lifts (map column_in ds)))) h)
 
   pub joined_is : (t : DataType) (fs : List Carry)
@@ -162,7 +173,8 @@ module _ (axis : Axis) (ds : List Datum) (ts : List DataType)
       let u : UnificationList = unification_list ts in
       let both = refused_or-Ok (limit u.typ) u (record { typ = t; lifts = fs }) h in
       let whole : (v : UnificationList) → u ≡ v
-      → joined axis u (map column_in ds) ≡ joined_datum axis v.typ (carried_columns v.lifts (map column_in ds)) =
+      → joined axis u (map column_in ds) ≡ joined_datum axis v.typ
+      (carried_columns v.lifts (map column_in ds)) =
       λ v f. ap (λ l. refused_or (option_map limit_fault l
       or values_fault axis (carried_columns u.lifts (map column_in ds)))
       (shown.arr u.typ (joined_values axis (carried_columns u.lifts (map column_in ds))))) both.0

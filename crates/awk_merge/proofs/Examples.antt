@@ -18,7 +18,8 @@ ints zs = list_value (map (λ z. int z) zs)
 
 -- [[1,2,3],[],[4,5]]
 abbrev jagged : Datum
-jagged = arr (var int64) (ints (pos 1 ∷ pos 2 ∷ pos 3 ∷ []) ∷ ints [] ∷ ints (pos 4 ∷ pos 5 ∷ []) ∷ [])
+jagged =
+    arr (var int64) (ints (pos 1 ∷ pos 2 ∷ pos 3 ∷ []) ∷ ints [] ∷ ints (pos 4 ∷ pos 5 ∷ []) ∷ [])
 
 -- [[1,null],null,[3]]
 abbrev holes : Datum
@@ -43,8 +44,10 @@ null_row : concatenate_of (pos 1) (jagged ∷ holes ∷ []) ≡ Ok (arr (opt (va
 null_row = refl
 
 -- whole numbers and truth values do not join: each gets its tag
-apart : concatenate_of (pos 0) (arr int64 (int (pos 7) ∷ []) ∷ arr (leaf Bool) (truth true ∷ []) ∷ [])
-    ≡ Ok (arr (uni (types_from (int64 ∷ leaf Bool ∷ []))) (alt 0 (int (pos 7)) ∷ alt 1 (truth true) ∷ []))
+apart : concatenate_of (pos 0) (arr int64 (int (pos 7) ∷ []) ∷ arr (leaf Bool) (truth true ∷ []) ∷
+    [])
+    ≡ Ok (arr (uni (types_from (int64 ∷ leaf Bool ∷ [])))
+    (alt 0 (int (pos 7)) ∷ alt 1 (truth true) ∷ []))
 apart = refl
 
 -- unknown counts as lists, here as the only operand

@@ -1,5 +1,7 @@
 -- The lists of each row joined: their items, and the lists by offsets into these.
-use Rattle.std.proofs.Common.{◌≡◌, ◌∙◌, ◌+◌, ◌-◌, ◌*◌, ◌<◌, ◌≤◌, [], ℕ, Bool, true, false, List, Option, Some, None, Ok, Err, ap, ap₂, sym, subst, refl, map, length, get_or, arith}
+use Rattle.std.proofs.Common.{◌≡◌, ◌∙◌, ◌+◌, ◌-◌, ◌*◌, ◌<◌, ◌≤◌, [], ℕ, Bool, true, false, List}
+use Rattle.std.proofs.Common.{Option, Some, None, Ok, Err, ap, ap₂, sym, subst, refl, map, length}
+use Rattle.std.proofs.Common.{get_or, arith}
 use Rattle.std.specs.Prelude.{pos, is_some, if◌then◌else◌}
 use Rattle.std.specs.List.{flat_map, list_all, range_with_len}
 use Rattle.std.proofs.lemmas.Int.{ints}
@@ -35,7 +37,8 @@ use Rattle.awk_merge.specs.Operands.{stacked_row, filled_row, filled_rows, rows_
 use Rattle.awk_merge.specs.Operands.{values_by, list_between, is_whole, rows_lane, ends_in_rows}
 use Rattle.awk_merge.specs.Operands.{offsets_of_rows, AreRising}
 use Rattle.awk_merge.proofs.ListPlaceLaws.{cell, block_within, size-ends, row_items, items-end}
-use Rattle.awk_merge.proofs.RangeLaws.{all-range, flat-range, flat-none, flat-blocks, rises, runs-joined, times_within}
+use Rattle.awk_merge.proofs.RangeLaws.{all-range, flat-range, flat-none, flat-blocks, rises}
+use Rattle.awk_merge.proofs.RangeLaws.{runs-joined, times_within}
 use Rattle.awk_merge.proofs.StackLaws.{map-at}
 use Rattle.awk_columns.proofs.ItemLimits.{over_limit, within_limit}
 
@@ -49,7 +52,8 @@ module _ (index : Option Column) (n k : ℕ) (f : ℕ → Value) where
       → stacked_row n k (values_by index (k * n) f) i ≡ map (by_place i) (range_with_len 0 k)
   row-values i p =
       map-at (λ j. get_or (values_by index (k * n) f) (j * n + i) null) (by_place i) 0 k
-      (λ j q. get_or-map-range_with_len (λ m. at_option (list_place index m) f) 0 (k * n) (j * n + i)
+      (λ j q. get_or-map-range_with_len (λ m. at_option (list_place index m) f) 0 (k * n)
+      (j * n + i)
       (j * n + i) null (cell n k i j p (omega (arith, q))) (omega arith))
 
   some_present : ((p : ℕ) → is_present (f p) ≡ true) → (o : Option ℕ)
@@ -86,8 +90,10 @@ module _ (index : Option Column) (n k : ℕ) (s t : Column) (y : Layout) where
   one_row i = flat_map (λ j. items_at starts stops y (i * k + j)) (range_with_len 0 k)
 
   by_row : (b : Bool) (i : ℕ)
-      → flat_map (λ j. row_items index n k b (list_place index (j * n + i)) s t y) (range_with_len 0 k)
-      ≡ (if b then flat_map (λ j. list_items (at_option (list_place index (j * n + i)) (list_between s t y)))
+      → flat_map (λ j. row_items index n k b (list_place index (j * n + i)) s t y)
+      (range_with_len 0 k)
+      ≡ (if b then flat_map (λ j. list_items (at_option (list_place index (j * n + i))
+      (list_between s t y)))
       (range_with_len 0 k) else [])
   by_row true i = refl
   by_row false i = flat-none 0 k
@@ -115,13 +121,15 @@ module _ (index : Option Column) (n k : ℕ) (s t : Column) (y : Layout) where
       let z : 0 * k ≡ 0 = omega arith in
       ap (λ b. flat_map (items_at starts stops y) (range_with_len b (n * k))) (sym z)
       ∙ flat-blocks (items_at starts stops y) k 0 n
-      ∙ sym (flat_map-map list_items (λ i. filled_row (stacked_row n k values i)) (range_with_len 0 n)
+      ∙ sym (flat_map-map list_items (λ i. filled_row (stacked_row n k values i))
+      (range_with_len 0 n)
       ∙ flat-range (λ i. list_items (filled_row (stacked_row n k values i))) one_row 0 n
       (λ i p. ap list_items (filled-is i (omega (arith, p))) ∙ value_list-from (one_row i)))
 
   count : total starts stops y ≡ length (joined_items (filled_rows n k values))
   count =
-      ap (λ m. length (flat_map (items_at starts stops y) (range_with_len 0 m))) (size-ends index n k s)
+      ap (λ m. length (flat_map (items_at starts stops y) (range_with_len 0 m)))
+      (size-ends index n k s)
       ∙ ap length all-rows
 
   -- ---- too many, or not
@@ -167,10 +175,12 @@ module _ (index : Option Column) (n k : ℕ) (s t : Column) (y : Layout) where
 
     place-offset : (i : ℕ) → i ≤ n → place_at offsets i ≡ place_at o (i * k)
     place-offset i p =
-        ap nat_of (at-lane_of o.kind (n + 1) (λ r. at o (r * k)) i (omega (arith, p)) ∙ element-at o (i * k))
+        ap nat_of (at-lane_of o.kind (n + 1) (λ r. at o (r * k)) i (omega (arith, p)) ∙ element-at o
+        (i * k))
 
     between : (i : ℕ) → i < n
-        → value_list (run (array_item z) (place_at o (i * k)) (place_at o (i * k + k) - place_at o (i * k)))
+        → value_list (run (array_item z) (place_at o (i * k))
+        (place_at o (i * k + k) - place_at o (i * k)))
         ≡ one_row i
     between i p =
         runs-joined (array_item z) (place_at o) (i * k) k
@@ -204,7 +214,8 @@ module _ (index : Option Column) (n k : ℕ) (s t : Column) (y : Layout) where
     joined-lists =
         array_items-at (offset_lists offsets z)
         ∙ ap (λ m. map (array_item (offset_lists offsets z)) (range_with_len 0 m)) joined-len
-        ∙ map-at (array_item (offset_lists offsets z)) (λ i. filled_row (stacked_row n k values i)) 0 n
+        ∙ map-at (array_item (offset_lists offsets z)) (λ i. filled_row (stacked_row n k values i))
+        0 n
         (λ i p. item-is i (omega (arith, p)))
 
     pub joined-type : array_type (offset_lists offsets z) ≡ var (array_type y)
@@ -246,5 +257,10 @@ module _ (o : Column) (n k whole : ℕ) (h : AreRising o (n * k) whole) where
         let d : place_at o (i * k + k) ≤ place_at o (n * k) =
         subst (λ m. place_at o (i * k + k) ≤ place_at o m) e
         (up_to (i * k + k) (n * k - (i * k + k)) (omega (arith, e))) in
-        rw (a, b) (λ u. (omega (arith, ints), omega (arith, ints, c), omega (arith, ints, d, h.last)));
+        rw (a, b) (λ u. (
+          omega (arith, ints),
+          omega (arith, ints, c),
+          omega
+              (arith, ints, d, h.last),
+        ));
   }

@@ -1,5 +1,7 @@
 -- The lists of each row among those of all: their places, and where they end.
-use Rattle.std.proofs.Common.{◌≡◌, ◌∙◌, ◌+◌, ◌-◌, ◌*◌, ◌/◌, ◌%◌, ◌<◌, ◌≤◌, ◌^◌, ℕ, zero, suc, Bool, true, false, List, [], Option, Some, None, ap, ap₂, sym, subst, refl, arith}
+use Rattle.std.proofs.Common.{◌≡◌, ◌∙◌, ◌+◌, ◌-◌, ◌*◌, ◌/◌, ◌%◌, ◌<◌, ◌≤◌, ◌^◌, ℕ, zero, suc, Bool}
+use Rattle.std.proofs.Common.{true, false, List, [], Option, Some, None, ap, ap₂, sym, subst, refl}
+use Rattle.std.proofs.Common.{arith}
 use Rattle.std.specs.Prelude.{ℤ, pos, negsuc, ◌<ℤ◌, if◌then◌else◌}
 use Rattle.std.proofs.Math.Nat.{mod-lt, div-lt_iff_lt-mul}
 use Rattle.std.proofs.lemmas.Int.{ints}
@@ -7,7 +9,8 @@ use Rattle.std.proofs.lemmas.Nat.{row_fits, div-mul-add, mod-mul-add}
 use Rattle.awk_types.specs.Value.{Value, value_list}
 use Rattle.awk_lanes.specs.Column.{Column}
 use Rattle.awk_lanes.specs.Numbers.{nat_of}
-use Rattle.awk_lanes.specs.Places.{size_of, at, option_place, option_place_at, IsSpan, IsOptionalIndex}
+use Rattle.awk_lanes.specs.Places.{size_of, at, option_place, option_place_at, IsSpan}
+use Rattle.awk_lanes.specs.Places.{IsOptionalIndex}
 use Rattle.awk_lanes.specs.declared.kind.Kind.TheVariants.{I64}
 use Rattle.awk_layout.specs.Item.{run, at_option}
 use Rattle.awk_layout.specs.Layout.{Layout}
@@ -17,7 +20,8 @@ use Rattle.awk_columns.specs.Columns.{list_items}
 use Rattle.awk_lanes.proofs.MadeLanes.{size-lane_of, at-lane_of}
 use Rattle.awk_columns.specs.Opened.{AreLists, items_at}
 use Rattle.awk_merge.specs.Operands.{list_place, list_between, IsListIndex, IndexHas, IndexesAll}
-use Rattle.awk_merge.specs.Operands.{is_whole, row_or_null, rows_lane, end_at, end_of_row, end_in_rows, ends_in_rows}
+use Rattle.awk_merge.specs.Operands.{is_whole, row_or_null, rows_lane, end_at, end_of_row}
+use Rattle.awk_merge.specs.Operands.{end_in_rows, ends_in_rows}
 
 -- ---- places in k columns of n values
 
@@ -78,7 +82,8 @@ pub at-rows : (index : Option Column) (n k i : ℕ) → i < n
     → at (rows_lane index n k) i ≡ row_or_null index n k i
 at-rows index n k i p = at-lane_of I64 n (row_or_null index n k) i p
 
-pub rows_index : (index : Option Column) (n k m : ℕ) → n ≤ m → IsOptionalIndex (rows_lane index n k) m
+pub rows_index : (index : Option Column) (n k m : ℕ) → n ≤ m
+    → IsOptionalIndex (rows_lane index n k) m
 rows_index index n k m l = record {
   kind = tt;
   below = λ i p.
@@ -178,7 +183,8 @@ module _ (index : Option Column) (n k : ℕ) where
   ends_items true i j s t y = there (list_place index (j * n + i))
     where
       there : (o : Option ℕ)
-          → value_list (run (array_item y) (nat_of (end_at s o)) (nat_of (end_at t o) - nat_of (end_at s o)))
+          → value_list (run (array_item y) (nat_of (end_at s o))
+          (nat_of (end_at t o) - nat_of (end_at s o)))
           ≡ list_items (at_option o (list_between s t y))
       there None = refl
       there (Some p) = refl

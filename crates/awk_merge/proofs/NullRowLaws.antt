@@ -1,5 +1,7 @@
 -- Rows joined, where those with a null are null, and what the calls answer of them.
-use Rattle.std.proofs.Common.{◌≡◌, ◌∙◌, ◌+◌, ◌*◌, ◌<◌, [], ℕ, zero, suc, Bool, true, false, List, Option, Some, None, Ok, ap, ap₂, sym, subst, refl, map, length, get_or, arith}
+use Rattle.std.proofs.Common.{◌≡◌, ◌∙◌, ◌+◌, ◌*◌, ◌<◌, [], ℕ, zero, suc, Bool, true, false, List}
+use Rattle.std.proofs.Common.{Option, Some, None, Ok, ap, ap₂, sym, subst, refl, map, length}
+use Rattle.std.proofs.Common.{get_or, arith}
 use Rattle.std.specs.Prelude.{if◌then◌else◌}
 use Rattle.std.specs.List.{list_all, range_with_len}
 use Rattle.std.proofs.lemmas.List.Folds.{flat_map-map}
@@ -51,7 +53,8 @@ same-items n k vs =
     (λ i p. fill_items (list_all is_present (stacked_row n k vs i)) (stacked_row n k vs i))
     ∙ sym (flat_map-map list_items (λ i. joined_row (stacked_row n k vs i)) (range_with_len 0 n))
 
-pub same-count : (n k : ℕ) (vs : List Value) → too_many (length (joined_items (stacked_rows n k vs)))
+pub same-count : (n k : ℕ) (vs : List Value)
+    → too_many (length (joined_items (stacked_rows n k vs)))
     ≡ too_many (length (joined_items (filled_rows n k vs)))
 same-count n k vs = ap (λ ws. too_many (length ws)) (sym (same-items n k vs))
 
@@ -92,7 +95,8 @@ module _ (index : Option Column) (n k : ℕ) (f : ℕ → Value)
   filled-at i p =
       sym (get_or-array_items x i (omega (arith, p, rows-len)))
       ∙ ap (λ ws. get_or ws i null) e
-      ∙ get_or-map-range_with_len (λ i. filled_row (stacked_row n k vs i)) 0 n i i null p (omega arith)
+      ∙ get_or-map-range_with_len (λ i. filled_row (stacked_row n k vs i)) 0 n i i null p
+      (omega arith)
 
   null-or : (b : Bool) (i : ℕ) (ws : List Value)
       → array_item x i ≡ list (values_from (if b then joined_items ws else []))
@@ -108,7 +112,8 @@ module _ (index : Option Column) (n k : ℕ) (f : ℕ → Value)
       ap (λ o. in_option (simple_value (layout_type x)) (at_option o (item x)))
       (option-rows index n k i p
       ∙ ap (λ b. ends_place b i) (sym (row-whole index n k f h i p)))
-      ∙ null-or (list_all is_present (stacked_row n k vs i)) i (stacked_row n k vs i) (filled-at i p)
+      ∙ null-or (list_all is_present (stacked_row n k vs i)) i (stacked_row n k vs i)
+      (filled-at i p)
 
   pub null-rows : array_items (optional (rows_lane index n k) x) ≡ stacked_rows n k vs
   null-rows =
@@ -127,7 +132,8 @@ datum_is t u vs ws e = (cc, cc)
 pub rows_made : (t : DataType) (vs : List Value) (x : Layout) → rows_datum t vs ≡ Ok (array_datum x)
     → (too_many (length (joined_items vs)) ≡ None) × (t ≡ array_type x) × (vs ≡ array_items x)
 rows_made t vs x e =
-    let both = refused_or-Ok (too_many (length (joined_items vs))) (shown.arr t vs) (array_datum x) e in
+    let both = refused_or-Ok (too_many (length (joined_items vs))) (shown.arr t vs) (array_datum x)
+    e in
     let same = datum_is t (array_type x) vs (array_items x) both.1 in
     (both.0, same.0, same.1)
 

@@ -1,10 +1,12 @@
 -- Operands that are joined: their types, their columns and how these are carried.
-use Rattle.std.proofs.Common.{◌≡◌, ◌∙◌, ◌+◌, ◌≤◌, ◌∷◌, ◌++◌, [], ℕ, suc, List, Option, Some, None, ap, sym, subst, refl, map, drop, length, slice_get, append_assoc}
+use Rattle.std.proofs.Common.{◌≡◌, ◌∙◌, ◌+◌, ◌≤◌, ◌∷◌, ◌++◌, [], ℕ, suc, List, Option, Some, None}
+use Rattle.std.proofs.Common.{ap, sym, subst, refl, map, drop, length, slice_get, append_assoc}
 use Rattle.std.specs.Option.{option_map, IfSome}
 use Rattle.std.proofs.lemmas.List.{append-nil, drop_all}
 use Rattle.awk_types.proofs.ListLaws.{drop-get}
 use Rattle.awk_types.proofs.TypeLaws.{types_append}
-use Rattle.awk_types.specs.DataType.{DataType, unknown, leaf, var, reg, rec, tup, opt, uni, types_from}
+use Rattle.awk_types.specs.DataType.{DataType, unknown, leaf, var, reg, rec, tup, opt, uni}
+use Rattle.awk_types.specs.DataType.{types_from}
 use Rattle.awk_types.specs.Has.{Has}
 use Rattle.awk_types.specs.IsType.{IsType}
 use Rattle.awk_types.specs.Simple.{IsSimple, AreSimple}
@@ -16,7 +18,8 @@ use Rattle.awk_layout.specs.declared.datum.Datum.TheVariants.{Arr, One}
 use Rattle.awk_unify.specs.Carry.{Carry}
 use Rattle.awk_unify.specs.Unifies.{IsCarriedInto}
 use Rattle.awk_unify.specs.UnifyList.{AreCarriedInto}
-use Rattle.awk_merge.specs.Concatenate.{lists_type, rows_type, operand_type, operand_types, type_before, operand_items}
+use Rattle.awk_merge.specs.Concatenate.{lists_type, rows_type, operand_type, operand_types}
+use Rattle.awk_merge.specs.Concatenate.{type_before, operand_items}
 use Rattle.awk_merge.specs.Operands.{array_in, column_in, AreCarriedOperands, AreLawful}
 use Rattle.awk_merge_sides.specs.Sides.{Carries}
 use Rattle.awk_merge.specs.declared.operands.Axis.{Axis}
@@ -84,7 +87,8 @@ operand_column axis (One x) a e = absurd (cc)
 
 -- ---- all of them
 
-pub record IsBefore (t : Option DataType) (ts : Option (List DataType)) (us : List DataType) : Type 0 where
+pub record IsBefore (t : Option DataType) (ts : Option (List DataType)) (us : List DataType) : Type
+    0 where
   pub first : DataType
   pub rest : List DataType
   pub first_is : t ≡ Some first
@@ -106,7 +110,8 @@ carried_first : (axis : Axis) (d : Datum) (ds : List Datum) (a : DataType) (rest
 carried_first axis d ds a rest [] t e g h = absurd h
 carried_first axis d ds a rest (f ∷ fs) t e g h = (carried_operand axis d a t f e h.0, g fs h.1)
 
-none_carried : (fs : List Carry) (t : DataType) → AreCarriedInto [] fs t → AreCarriedOperands [] fs t
+none_carried : (fs : List Carry) (t : DataType) → AreCarriedInto [] fs t
+    → AreCarriedOperands [] fs t
 none_carried [] t h = tt
 none_carried (f ∷ fs) t h = absurd h
 
@@ -116,7 +121,8 @@ pub carried_operands : (axis : Axis) (ds : List Datum) (ts : List DataType) (fs 
 carried_operands axis [] ts fs t e h =
     let no : ts ≡ [] = cc in none_carried fs t (subst (λ us. AreCarriedInto us fs t) no h)
 carried_operands axis (d ∷ ds) ts fs t e h =
-    let b = before_is (operand_type axis (datum_of d)) (operand_types axis (map datum_of ds)) ts e in
+    let b = before_is (operand_type axis (datum_of d)) (operand_types axis (map datum_of ds)) ts
+    e in
     carried_first axis d ds b.first b.rest fs t b.first_is
     (λ gs k. carried_operands axis ds b.rest gs t b.rest_is k)
     (subst (λ us. AreCarriedInto us fs t) b.whole h)
@@ -126,7 +132,8 @@ pub operand_columns : (axis : Axis) (ds : List Datum) (ts : List DataType)
     → map operand_items (map datum_of ds) ≡ map column_in ds
 operand_columns axis [] ts e = refl
 operand_columns axis (d ∷ ds) ts e =
-    let b = before_is (operand_type axis (datum_of d)) (operand_types axis (map datum_of ds)) ts e in
+    let b = before_is (operand_type axis (datum_of d)) (operand_types axis (map datum_of ds)) ts
+    e in
     ap (λ vs. vs ∷ map operand_items (map datum_of ds)) (operand_column axis d b.first b.first_is)
     ∙ ap (λ vss. column_in d ∷ vss) (operand_columns axis ds b.rest b.rest_is)
 

@@ -1,5 +1,6 @@
 -- Lists by the places of a range: parts of it, and blocks.
-use Rattle.std.proofs.Common.{◌≡◌, ◌∙◌, ◌+◌, ◌-◌, ◌*◌, ◌<◌, ◌≤◌, ◌&&◌, ◌++◌, ◌∷◌, [], ℕ, zero, suc, Bool, true, false, List, ap, ap₂, sym, subst, refl, arith}
+use Rattle.std.proofs.Common.{◌≡◌, ◌∙◌, ◌+◌, ◌-◌, ◌*◌, ◌<◌, ◌≤◌, ◌&&◌, ◌++◌, ◌∷◌, [], ℕ, zero, suc}
+use Rattle.std.proofs.Common.{Bool, true, false, List, ap, ap₂, sym, subst, refl, arith}
 use Rattle.std.specs.List.{flat_map, list_all, range_with_len}
 use Rattle.std.proofs.lemmas.Grind.{flat_map-append}
 use Rattle.std.proofs.lemmas.List.{append-nil}
@@ -48,7 +49,8 @@ all_part p a (suc n) =
     let s : (a + 1) + n ≡ a + suc n = omega arith in
     let z : suc n + 1 ≡ suc (n + 1) = omega arith in
     ap (λ m. list_all p (range_with_len a m)) z
-    ∙ ap (λ x. p a && x) (all_part p (a + 1) n ∙ ap (λ m. list_all p (range_with_len (a + 1) n) && p m) s)
+    ∙ ap (λ x. p a && x) (all_part p (a + 1) n ∙ ap
+    (λ m. list_all p (range_with_len (a + 1) n) && p m) s)
     ∙ and_assoc (p a) (list_all p (range_with_len (a + 1) n)) (p (a + suc n))
   where
     and_assoc : (b c d : Bool) → (b && (c && d)) ≡ ((b && c) && d)
@@ -142,7 +144,8 @@ rises o b (suc k) h =
 pub runs-joined : (f : ℕ → Value) (o : ℕ → ℕ) (b k : ℕ)
     → ((j : ℕ) → j < k → o (b + j) ≤ o (b + j + 1))
     → value_list (run f (o b) (o (b + k) - o b))
-    ≡ flat_map (λ j. value_list (run f (o (b + j)) (o (b + j + 1) - o (b + j)))) (range_with_len 0 k)
+    ≡ flat_map (λ j. value_list (run f (o (b + j)) (o (b + j + 1) - o (b + j))))
+    (range_with_len 0 k)
 runs-joined f o b zero h =
     let e : b + 0 ≡ b = omega arith in
     let n : o (b + 0) - o b ≡ 0 = omega (arith, ap o e) in

@@ -1,5 +1,6 @@
 -- Types of rows unify to a type of rows.
-use Rattle.std.proofs.Common.{◌≡◌, ◌<◌, ◌∷◌, [], suc, Bool, true, false, List, Option, Some, None, ap, sym, subst, refl, map, length, arith}
+use Rattle.std.proofs.Common.{◌≡◌, ◌<◌, ◌∷◌, [], suc, Bool, true, false, List, Option, Some, None}
+use Rattle.std.proofs.Common.{ap, sym, subst, refl, map, length, arith}
 use Rattle.std.specs.List.{AllByRecursion}
 use Rattle.std.specs.Option.{option_map}
 use Rattle.awk_types.specs.DataType.{DataType, unknown, leaf, var, reg, rec, tup, opt, uni}
@@ -9,7 +10,8 @@ use Rattle.awk_layout.specs.Typing.{array_type}
 use Rattle.awk_layout.specs.declared.datum.Datum.{Datum}
 use Rattle.awk_layout.specs.declared.datum.Datum.TheVariants.{Arr, One}
 use Rattle.awk_unify.specs.Unify.{unification, options_or, joins_or_unions, rules}
-use Rattle.awk_unify.specs.UnifyList.{UnificationList, one_further, unification_list, unification_more}
+use Rattle.awk_unify.specs.UnifyList.{UnificationList, one_further, unification_list}
+use Rattle.awk_unify.specs.UnifyList.{unification_more}
 use Rattle.awk_unify.proofs.DepthLaws.{unify_rules}
 use Rattle.awk_unify.proofs.SimpleLaws.{equal_is}
 use Rattle.awk_merge.specs.Concatenate.{lists_type, rows_type, operand_type, operand_types}
@@ -98,18 +100,23 @@ rows_list (t ∷ ts) l h =
 -- ---- operands
 
 lists_are_rows : (t a : DataType) → lists_type t ≡ Some a → IsRowsType a × IsRowsType (opt a)
-lists_are_rows unknown a e = let f : var unknown ≡ a = cc in subst (λ u. IsRowsType u × IsRowsType (opt u)) f (tt, tt)
-lists_are_rows (var t) a e = let f : var t ≡ a = cc in subst (λ u. IsRowsType u × IsRowsType (opt u)) f (tt, tt)
-lists_are_rows (reg n t) a e = let f : var t ≡ a = cc in subst (λ u. IsRowsType u × IsRowsType (opt u)) f (tt, tt)
+lists_are_rows unknown a e =
+    let f : var unknown ≡ a = cc in subst (λ u. IsRowsType u × IsRowsType (opt u)) f (tt, tt)
+lists_are_rows (var t) a e =
+    let f : var t ≡ a = cc in subst (λ u. IsRowsType u × IsRowsType (opt u)) f (tt, tt)
+lists_are_rows (reg n t) a e =
+    let f : var t ≡ a = cc in subst (λ u. IsRowsType u × IsRowsType (opt u)) f (tt, tt)
 lists_are_rows (leaf p) a e = absurd (cc)
 lists_are_rows (rec ns ts) a e = absurd (cc)
 lists_are_rows (tup ts) a e = absurd (cc)
 lists_are_rows (opt t) a e = absurd (cc)
 lists_are_rows (uni ts) a e = absurd (cc)
 
-optional_rows : (o : Option DataType) (t a : DataType) → lists_type t ≡ o → option_map opt o ≡ Some a → IsRowsType a
+optional_rows : (o : Option DataType) (t a : DataType) → lists_type t ≡ o
+    → option_map opt o ≡ Some a → IsRowsType a
 optional_rows None t a e f = absurd (cc)
-optional_rows (Some u) t a e f = let g : opt u ≡ a = cc in subst IsRowsType g (lists_are_rows t u e).1
+optional_rows (Some u) t a e f =
+    let g : opt u ≡ a = cc in subst IsRowsType g (lists_are_rows t u e).1
 
 are_rows : (t a : DataType) → rows_type t ≡ Some a → IsRowsType a
 are_rows (opt t) a e = optional_rows (lists_type t) t a refl e
@@ -125,11 +132,15 @@ operand_rows : (d : Datum) (a : DataType) → operand_type Rows (datum_of d) ≡
 operand_rows (Arr x) a e = are_rows (array_type x) a e
 operand_rows (One x) a e = absurd (cc)
 
-operands_rows : (ds : List Datum) (ts : List DataType) → operand_types Rows (map datum_of ds) ≡ Some ts
+operands_rows : (ds : List Datum) (ts : List DataType)
+    → operand_types Rows (map datum_of ds) ≡ Some ts
     → AllByRecursion IsRowsType ts × (length ts ≡ length ds)
-operands_rows [] ts e = let f : [] ≡ ts = cc in subst (λ us. AllByRecursion IsRowsType us × (length us ≡ 0)) f (tt, refl)
+operands_rows [] ts e =
+    let f : [] ≡ ts = cc in subst (λ us. AllByRecursion IsRowsType us × (length us ≡ 0)) f
+    (tt, refl)
 operands_rows (d ∷ ds) ts e =
-    let b = before_is (operand_type Rows (datum_of d)) (operand_types Rows (map datum_of ds)) ts e in
+    let b = before_is (operand_type Rows (datum_of d)) (operand_types Rows (map datum_of ds)) ts
+    e in
     let rest = operands_rows ds b.rest b.rest_is in
     subst (λ us. AllByRecursion IsRowsType us × (length us ≡ length (d ∷ ds))) (sym b.whole)
     ((operand_rows d b.first b.first_is, rest.0), ap suc rest.1)

@@ -1,14 +1,19 @@
 -- Columns of operands one after another, and their rows.
-use Rattle.std.proofs.Common.{◌≡◌, ◌∙◌, ◌+◌, ◌*◌, ◌<◌, ◌≤◌, ◌==◌, ◌&&◌, ◌∷◌, ◌++◌, [], ℕ, zero, suc, Bool, true, false, List, Some, ap, sym, subst, refl, map, drop, length, slice_get, get_or, arith}
+use Rattle.std.proofs.Common.{◌≡◌, ◌∙◌, ◌+◌, ◌*◌, ◌<◌, ◌≤◌, ◌==◌, ◌&&◌, ◌∷◌, ◌++◌, [], ℕ, zero, suc}
+use Rattle.std.proofs.Common.{Bool, true, false, List, Some, ap, sym, subst, refl, map, drop}
+use Rattle.std.proofs.Common.{length, slice_get, get_or, arith}
 use Rattle.std.specs.List.{range_with_len}
-use Rattle.std.proofs.lemmas.List.{append-nil, append_assoc, length-append, length-map, drop_all, get_or_append_left, get_or-append-add}
+use Rattle.std.proofs.lemmas.List.{append-nil, append_assoc, length-append, length-map, drop_all}
+use Rattle.std.proofs.lemmas.List.{get_or_append_left, get_or-append-add}
 use Rattle.awk_types.proofs.ListLaws.{drop-get}
 use Rattle.awk_types.specs.DataType.{DataType}
 use Rattle.awk_types.specs.Value.{Value, null}
 use Rattle.awk_layout.specs.declared.datum.Datum.{Datum}
 use Rattle.awk_unify.specs.Carry.{Carry, carried}
-use Rattle.awk_merge.specs.Concatenate.{carried_columns, stacked, row_of, joined_row, joined_rows, row_count, are_long}
-use Rattle.awk_merge.specs.Operands.{array_in, column_in, AreCarriedOperands, stacked_row, stacked_rows}
+use Rattle.awk_merge.specs.Concatenate.{carried_columns, stacked, row_of, joined_row, joined_rows}
+use Rattle.awk_merge.specs.Concatenate.{row_count, are_long}
+use Rattle.awk_merge.specs.Operands.{array_in, column_in, AreCarriedOperands, stacked_row}
+use Rattle.awk_merge.specs.Operands.{stacked_rows}
 use Rattle.awk_merge_sides.specs.Sides.{Side, merged_items, AreSides, with_side}
 use Rattle.awk_merge.proofs.OperandLaws.{length-lifts}
 use Rattle.awk_merge_sides.proofs.SideLaws.{merged_items-with_side, AreSides-with_side}
@@ -40,11 +45,14 @@ one_taken ds fs t i ss rs d f e g h k =
           ap (λ xs. merged_items xs ++ later) h
           ∙ ap (λ vs. vs ++ later) (merged_items-with_side ss (array_in d) f)
           ∙ append_assoc (merged_items ss) now later
-          ∙ sym (ap (λ xs. merged_items ss ++ stacked (carried_columns (drop i fs) (map column_in xs))) a
-          ∙ ap (λ gs. merged_items ss ++ stacked (carried_columns gs (map column_in (d ∷ drop (i + 1) ds)))) b)
+          ∙ sym (ap (λ xs. merged_items ss ++ stacked
+          (carried_columns (drop i fs) (map column_in xs))) a
+          ∙ ap (λ gs. merged_items ss ++ stacked
+          (carried_columns gs (map column_in (d ∷ drop (i + 1) ds)))) b)
           ∙ k.items;
       left = here.1;
-      sides = subst (AreSides t) (sym h) (AreSides-with_side t ss (array_in d) f k.sides (λ p. here.0));
+      sides =
+          subst (AreSides t) (sym h) (AreSides-with_side t ss (array_in d) f k.sides (λ p. here.0));
     }
 
 pub all_taken : (ds : List Datum) (fs : List Carry) (t : DataType) (i : ℕ) (ss : List Side)

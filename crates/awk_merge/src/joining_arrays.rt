@@ -6,7 +6,8 @@ ghost use Rattle.awk_types.specs.View.{typ_of};
 ghost use Rattle.awk_layout.specs.Array.{IsArrayType};
 ghost use Rattle.awk_layout.specs.Typing.{array_datum};
 ghost use Rattle.awk_merge.specs.Operands.{stacked_datum};
-ghost use Rattle.awk_merge_sides.specs.Sides.{sides_of, merged_items, AreSides, IsCounted, IsMerged};
+ghost use Rattle.awk_merge_sides.specs.Sides.{sides_of, merged_items, AreSides, IsCounted};
+ghost use Rattle.awk_merge_sides.specs.Sides.{IsMerged};
 
 use awk_lanes::{Arena, Steps};
 use awk_layout::Array;

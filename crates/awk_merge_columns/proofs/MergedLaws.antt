@@ -1,9 +1,11 @@
 -- Columns merged: one alone, none, and rows by their type.
-use Rattle.std.proofs.Common.{◌≡◌, ◌∷◌, [], ℕ, List, Option, Some, None, length, map, slice_get, refl, ap, sym, subst, ◌∙◌, arith}
+use Rattle.std.proofs.Common.{◌≡◌, ◌∷◌, [], ℕ, List, Option, Some, None, length, map, slice_get}
+use Rattle.std.proofs.Common.{refl, ap, sym, subst, ◌∙◌, arith}
 use Rattle.std.proofs.lemmas.List.{append-nil}
 use Rattle.std.specs.List.{AllByRecursion}
 use Rattle.awk_types.proofs.Trees.{type_list-from, types_from-list}
-use Rattle.awk_types.specs.DataType.{DataType, Name, leaf, opt, rec, reg, row_type, tup, types_from, uni, unknown, var}
+use Rattle.awk_types.specs.DataType.{DataType, Name, leaf, opt, rec, reg, row_type, tup, types_from}
+use Rattle.awk_types.specs.DataType.{uni, unknown, var}
 use Rattle.awk_types.specs.Has.{Has}
 use Rattle.awk_types.specs.Simple.{simple_value}
 use Rattle.awk_types.specs.Value.{Value}
@@ -52,7 +54,8 @@ pub none_unknown : (ss : List Side) (i : ℕ) (s : Side) → slice_get ss i ≡ 
     → AreSides unknown ss → AllByRecursion (Has (array_type s.column)) (array_items s.column) → ⊥
 none_unknown ss i s e h k =
     let side : IsSide unknown s = IsSide-get unknown ss i s e h in
-    side.values (simple_value (layout_type s.column) (item s.column 0)) (item_has s.column 0 k side.some)
+    side.values (simple_value (layout_type s.column) (item s.column 0))
+    (item_has s.column 0 k side.some)
 
 -- ---- rows by their type
 

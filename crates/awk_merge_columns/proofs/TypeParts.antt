@@ -1,5 +1,6 @@
 -- The parts of a type that arrays have are such types.
-use Rattle.std.proofs.Common.{◌≡◌, ◌≤◌, ◌∷◌, [], ℕ, suc, List, false, length, slice_get, refl, subst}
+use Rattle.std.proofs.Common.{◌≡◌, ◌≤◌, ◌∷◌, [], ℕ, suc, List, false, length, slice_get, refl}
+use Rattle.std.proofs.Common.{subst}
 use Rattle.std.specs.Prelude.{None, Option, Some}
 use Rattle.awk_types.proofs.SimpleLaws.{plain_are_simple}
 use Rattle.awk_types.proofs.Trees.{type_list-from}
@@ -9,7 +10,8 @@ use Rattle.awk_types.specs.Limit.{limit}
 use Rattle.awk_types.specs.Names.{AreDistinct}
 use Rattle.awk_types.specs.Simple.{ArePlain, AreSimple, is_option}
 use Rattle.awk_layout.specs.Array.{IsArrayType}
-use Rattle.awk_open.proofs.PartLimits.{few_alternatives, within_opt, within_reg, within_row, within_uni, within_var}
+use Rattle.awk_open.proofs.PartLimits.{few_alternatives, within_opt, within_reg, within_row}
+use Rattle.awk_open.proofs.PartLimits.{within_uni, within_var}
 use Rattle.awk_merge_sides.specs.Groups.{AreArrayTypes}
 
 pub present_plain : (u : DataType) → IsArrayType (opt u) → is_option u ≡ false
@@ -43,9 +45,11 @@ pub row_lawful : (names : Option (List Name)) (ts : List DataType)
 row_lawful None ts h =
     each_lawful ts h.is_type h.is_simple (λ k u e. within_row None ts k u e h.within_limits)
 row_lawful (Some names) ts h =
-    each_lawful ts h.is_type.2 h.is_simple (λ k u e. within_row (Some names) ts k u e h.within_limits)
+    each_lawful ts h.is_type.2 h.is_simple (λ k u e. within_row (Some names) ts k u e
+    h.within_limits)
 
-pub alternatives_lawful : (ts : List DataType) → IsArrayType (uni (types_from ts)) → AreArrayTypes ts
+pub alternatives_lawful : (ts : List DataType) → IsArrayType (uni (types_from ts))
+    → AreArrayTypes ts
 alternatives_lawful ts h =
     each_lawful ts h.is_type.1 (plain_are_simple (types_from ts) h.is_simple)
     (λ k u e. within_uni ts k u e h.within_limits)
@@ -55,7 +59,8 @@ pub alternatives_plain : (ts : List DataType) → IsArrayType (uni (types_from t
 alternatives_plain ts h = h.is_simple
 
 -- a record has distinct names, one for each field
-pub names_lawful : (names : List Name) (ts : List DataType) → IsArrayType (rec names (types_from ts))
+pub names_lawful : (names : List Name) (ts : List DataType)
+    → IsArrayType (rec names (types_from ts))
     → AreDistinct names × (length names ≡ length ts)
 names_lawful names ts h =
     (h.is_type.0, subst (λ us. length names ≡ length us) (type_list-from ts) h.is_type.1)

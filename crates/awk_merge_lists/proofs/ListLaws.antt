@@ -1,5 +1,6 @@
 -- Lists of any length merged: where they lie, and the column of them over the merged items.
-use Rattle.std.specs.Prelude.{◌≡◌, ◌≢◌, ◌+◌, ◌-◌, ◌<◌, ◌≤◌, ◌^◌, ◌++◌, [], ℕ, ℤ, pos, negsuc, List, length, map, take, get_or, max, min, slice_get, None, Some, refl}
+use Rattle.std.specs.Prelude.{◌≡◌, ◌≢◌, ◌+◌, ◌-◌, ◌<◌, ◌≤◌, ◌^◌, ◌++◌, [], ℕ, ℤ, pos, negsuc, List}
+use Rattle.std.specs.Prelude.{length, map, take, get_or, max, min, slice_get, None, Some, refl}
 use Rattle.std.specs.List.{AllByRecursion}
 use Rattle.std.proofs.Common.{arith, ap, sym, subst, ◌∙◌, inl, inr}
 use Rattle.std.proofs.lemmas.Bool.{cases_lt}
@@ -246,7 +247,8 @@ side_cut d u x s t y h all l i p =
     (h.values (array_item x.column i) (item_has x.column i all p)) in
     let top : place_at t i ≤ max (len y) a =
     span_top (len y) (at s i) (at t i) (l.spans.ordered i (omega (arith, p, l.size))) in
-    get_or-side_items x i p ∙ ap (carried x.carry) e ∙ carried-run x.carry d u (array_item y) a n has
+    get_or-side_items x i p ∙ ap (carried x.carry) e ∙ carried-run x.carry d u (array_item y) a n
+    has
     ∙ ap list (run_moved (λ k. carried g (array_item y k))
     (λ k. get_or (map (carried g) (array_items y)) k null) a a n (λ j r.
     sym (get_or-carried y g (a + j) (omega (arith, top, r)))))
@@ -270,7 +272,8 @@ pub put_fits : (before now : Sides) (y : Layout) (f : Carry)
     → before.total + len y < 2 ^ 63
 put_fits before now y f e b k =
     let w = total-with_side (sides_of before) y f in
-    let l : length (merged_items (sides_of now)) ≡ length (merged_items (with_side (sides_of before) y f)) =
+    let l : length (merged_items (sides_of now)) ≡ length
+    (merged_items (with_side (sides_of before) y f)) =
     ap (λ ss. length (merged_items ss)) e in
     omega (arith, w, l, b.total, k.total, k.fits)
 

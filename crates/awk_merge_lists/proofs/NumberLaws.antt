@@ -1,8 +1,11 @@
 -- Numbers of columns in one lane.
-use Rattle.std.proofs.Common.{◌≡◌, ℕ, zero, suc, ◌+◌, ◌*◌, ◌<◌, ◌≤◌, List, [], ◌∷◌, ◌++◌, true, false, length, map, take, drop, get_or, Some, None, refl, ap, ap₂, sym, subst, ◌∙◌, arith, length-drop, length-append}
+use Rattle.std.proofs.Common.{◌≡◌, ℕ, zero, suc, ◌+◌, ◌*◌, ◌<◌, ◌≤◌, List, [], ◌∷◌, ◌++◌, true}
+use Rattle.std.proofs.Common.{false, length, map, take, drop, get_or, Some, None, refl, ap, ap₂}
+use Rattle.std.proofs.Common.{sym, subst, ◌∙◌, arith, length-drop, length-append}
 use Rattle.std.specs.Prelude.{ℤ, pos, Bool, if◌then◌else◌, slice_get}
 use Rattle.std.specs.List.{AllByRecursion, range_with_len}
-use Rattle.std.proofs.lemmas.List.{length-map, get_or-map, map-append, take-append-le, drop-append-le, append-nil}
+use Rattle.std.proofs.lemmas.List.{length-map, get_or-map, map-append, take-append-le}
+use Rattle.std.proofs.lemmas.List.{drop-append-le, append-nil}
 use Rattle.std.proofs.lemmas.Int.{ints}
 use Rattle.std.proofs.lemmas.Simd.{map-map}
 use Rattle.std.proofs.lemmas.List.FromFn.{fill_by_all}
@@ -15,7 +18,8 @@ use Rattle.awk_lanes.specs.Made.{lane_of}
 use Rattle.awk_lanes.specs.Numbers.{number, numbers, width, int_of, is_nonzero, IsOf}
 use Rattle.awk_lanes.specs.Places.{size_of, at}
 use Rattle.awk_lanes.specs.declared.kind.Kind.{Kind}
-use Rattle.awk_lanes.specs.declared.kind.Kind.TheVariants.{Bool as Truths, I8, I16, I32, I64, U8, U16, U32, U64}
+use Rattle.awk_lanes.specs.declared.kind.Kind.TheVariants.{Bool as Truths, I8, I16, I32, I64, U8}
+use Rattle.awk_lanes.specs.declared.kind.Kind.TheVariants.{U16, U32, U64}
 use Rattle.awk_lanes.specs.declared.kind.Num.{Num}
 use Rattle.awk_lanes.specs.declared.kind.Num.TheVariants.{Int, Nat, Truth}
 use Rattle.awk_lanes.proofs.NumberParts.{number-take}

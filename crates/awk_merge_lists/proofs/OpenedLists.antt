@@ -1,7 +1,9 @@
 -- What an opened column of lists holds, as it lies and joined.
-use Rattle.std.specs.Prelude.{◌≡◌, ◌+◌, ◌-◌, ◌*◌, ◌<◌, ◌≤◌, ◌++◌, ℕ, zero, suc, List, length, Some, pos}
+use Rattle.std.specs.Prelude.{◌≡◌, ◌+◌, ◌-◌, ◌*◌, ◌<◌, ◌≤◌, ◌++◌, ℕ, zero, suc, List, length, Some}
+use Rattle.std.specs.Prelude.{pos}
 use Rattle.std.specs.List.{flat_map, range_with_len}
-use Rattle.std.proofs.Common.{arith, ap, sym, subst, ◌∙◌, get_or-take, get_or-drop, length-take, length-drop, drop}
+use Rattle.std.proofs.Common.{arith, ap, sym, subst, ◌∙◌, get_or-take, get_or-drop, length-take}
+use Rattle.std.proofs.Common.{length-drop, drop}
 use Rattle.std.proofs.lemmas.List.{length-append}
 use Rattle.awk_types.specs.ItemLimit.{item_limit}
 use Rattle.awk_types.specs.Value.{Value, list}
@@ -66,7 +68,8 @@ holds_many class s t y x o many = record {
 -- ---- lists joined
 
 size-cut : (c : Column) (lo hi : ℕ) → lo ≤ hi → hi ≤ size_of c → size_of (cut_of c lo hi) ≡ hi - lo
-size-cut c lo hi h l = omega (arith, length-take (hi - lo) (drop lo c.items), length-drop lo c.items)
+size-cut c lo hi h l =
+    omega (arith, length-take (hi - lo) (drop lo c.items), length-drop lo c.items)
 
 at-cut : (c : Column) (lo hi i : ℕ) → i < hi - lo → at (cut_of c lo hi) i ≡ at c (lo + i)
 at-cut c lo hi i h = ap (element c.kind)

@@ -1,5 +1,6 @@
 -- Columns in parts: their items, one part more, and the level of lists over them.
-use Rattle.std.specs.Prelude.{◌≡◌, ◌+◌, ◌-◌, ◌*◌, ◌<◌, ◌≤◌, ◌++◌, ◌∷◌, [], ℕ, zero, suc, List, length, map, take, get_or, slice_get, slice_range, Some, refl}
+use Rattle.std.specs.Prelude.{◌≡◌, ◌+◌, ◌-◌, ◌*◌, ◌<◌, ◌≤◌, ◌++◌, ◌∷◌, [], ℕ, zero, suc, List}
+use Rattle.std.specs.Prelude.{length, map, take, get_or, slice_get, slice_range, Some, refl}
 use Rattle.std.proofs.Common.{arith, ap, ap₂, sym, subst, ◌∙◌, append_assoc, drop}
 use Rattle.std.proofs.lemmas.List.{map-append, append-nil, take_all}
 use Rattle.awk_types.specs.DataType.{DataType}
@@ -9,7 +10,8 @@ use Rattle.awk_layout.specs.Typing.{array_type, array_items}
 use Rattle.awk_layout.specs.Valid.{len}
 use Rattle.awk_layout.proofs.ArrayItems.{length-array_items}
 use Rattle.awk_unify.specs.Carry.{carried}
-use Rattle.awk_merge_sides.specs.Sides.{Side, sides_of, side_items, merged_items, with_side, Carries}
+use Rattle.awk_merge_sides.specs.Sides.{Side, sides_of, side_items, merged_items, with_side}
+use Rattle.awk_merge_sides.specs.Sides.{Carries}
 use Rattle.awk_merge_sides.specs.Sides.{IsSide, AreSides, IsCounted}
 use Rattle.awk_merge_sides.specs.declared.sides.Sides.{Sides}
 use Rattle.awk_merge_sides.proofs.SideLaws.{merged_items-with_side, AreSides-with_side, IsSide-get}

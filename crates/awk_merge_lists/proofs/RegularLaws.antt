@@ -1,5 +1,6 @@
 -- Lists of one length merged: their items one after another, and the column of them.
-use Rattle.std.specs.Prelude.{◌≡◌, ◌+◌, ◌-◌, ◌*◌, ◌<◌, ◌≤◌, ◌++◌, [], ℕ, List, length, map, take, get_or, slice_get, Some}
+use Rattle.std.specs.Prelude.{◌≡◌, ◌+◌, ◌-◌, ◌*◌, ◌<◌, ◌≤◌, ◌++◌, [], ℕ, List, length, map, take}
+use Rattle.std.specs.Prelude.{get_or, slice_get, Some}
 use Rattle.std.specs.List.{AllByRecursion}
 use Rattle.std.proofs.Common.{arith, ap, sym, subst, ◌∙◌}
 use Rattle.std.proofs.lemmas.List.{ext_get_or, length-append, length-map, get_or_append_left}
@@ -21,7 +22,8 @@ use Rattle.awk_unify.specs.Carry.{Carry, carried}
 use Rattle.awk_merge_lists.specs.ListLevels.{cut, IsRegularLevel}
 use Rattle.awk_merge_sides.specs.Lifts.{items_carry}
 use Rattle.awk_merge_lists.specs.Lists.{AreOfLength, HoldsItems}
-use Rattle.awk_merge_sides.specs.Sides.{Side, sides_of, side_items, merged_items, with_side, AreSides}
+use Rattle.awk_merge_sides.specs.Sides.{Side, sides_of, side_items, merged_items, with_side}
+use Rattle.awk_merge_sides.specs.Sides.{AreSides}
 use Rattle.awk_merge_sides.specs.Sides.{IsSide, IsCounted, IsMerged}
 use Rattle.awk_merge_sides.specs.declared.sides.Sides.{Sides}
 use Rattle.awk_merge_lists.proofs.CarriedLists.{run_moved, carried-list, carried-run, carried_list}
@@ -67,7 +69,8 @@ module _ (n : ℕ) (vs us ws more : List Value) (h : AreBlocks n vs ws) (k : Are
     early : (i : ℕ) → i < m → cut ws (i * n) n ≡ cut (ws ++ more) (i * n) n
     early i p =
         let w = block_within m n i p in
-        ap list (run_moved (λ j. get_or ws j null) (λ j. get_or (ws ++ more) j null) (i * n) (i * n) n
+        ap list (run_moved (λ j. get_or ws j null) (λ j. get_or (ws ++ more) j null) (i * n) (i * n)
+        n
         (λ j q. sym (get_or_append_left ws more null (i * n + j) (omega (arith, w, q, h.size)))))
 
     late : (i : ℕ) → m ≤ i → cut more ((i - m) * n) n ≡ cut (ws ++ more) (i * n) n

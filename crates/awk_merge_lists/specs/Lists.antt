@@ -1,5 +1,6 @@
 -- Columns of lists, one at a time: where their lists lie, and what is put behind the lists before.
-use Rattle.std.specs.Prelude.{◌≡◌, ◌+◌, ◌-◌, ◌*◌, ◌<◌, ◌≤◌, ◌++◌, ℕ, ℤ, min, pos, List, length, map, Some}
+use Rattle.std.specs.Prelude.{◌≡◌, ◌+◌, ◌-◌, ◌*◌, ◌<◌, ◌≤◌, ◌++◌, ℕ, ℤ, min, pos, List, length, map}
+use Rattle.std.specs.Prelude.{Some}
 use Rattle.std.specs.List.{range_with_len}
 use Rattle.awk_types.specs.DataType.{DataType, var, reg}
 use Rattle.awk_types.specs.Value.{list}

@@ -6,8 +6,10 @@ ghost use Rattle.awk_lanes.specs.declared.kind.Kind.TheVariants as Kinds;
 ghost use Rattle.awk_layout.specs.Typing.{array_type};
 ghost use Rattle.awk_layout.specs.Valid.{len};
 ghost use Rattle.awk_unify.specs.View.{lift_of};
-ghost use Rattle.awk_merge_lists.specs.ListLevels.{IsListLevel, IsRegularLevel, AreListSides, AreRegularSides};
-ghost use Rattle.awk_merge_lists.specs.Lists.{IsListType, HoldsLists, HoldsItems, AreOfLength, HasRoom};
+ghost use Rattle.awk_merge_lists.specs.ListLevels.{IsListLevel, IsRegularLevel, AreListSides};
+ghost use Rattle.awk_merge_lists.specs.ListLevels.{AreRegularSides};
+ghost use Rattle.awk_merge_lists.specs.Lists.{IsListType, HoldsLists, HoldsItems, AreOfLength};
+ghost use Rattle.awk_merge_lists.specs.Lists.{HasRoom};
 ghost use Rattle.awk_merge_lists.specs.Lists.{PutsLists, moved_places, with_numbers};
 ghost use Rattle.awk_merge_sides.specs.Sides.{sides_of, AreSides, IsCounted};
 

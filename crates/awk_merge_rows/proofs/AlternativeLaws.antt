@@ -1,8 +1,10 @@
 -- Values carried into a union: the tag that each gets, and how the value of its alternative is
 -- carried.
-use Rattle.std.proofs.Common.{◌≡◌, ◌<◌, ◌∷◌, [], ℕ, suc, zero, List, Bool, true, false, length, slice_get, Some, refl, ap, subst, arith}
+use Rattle.std.proofs.Common.{◌≡◌, ◌<◌, ◌∷◌, [], ℕ, suc, zero, List, Bool, true, false, length}
+use Rattle.std.proofs.Common.{slice_get, Some, refl, ap, subst, arith}
 use Rattle.awk_types.proofs.SimpleLaws.{null_in_option}
-use Rattle.awk_types.specs.DataType.{DataType, unknown, leaf, var, reg, rec, tup, opt, uni, types_from}
+use Rattle.awk_types.specs.DataType.{DataType, unknown, leaf, var, reg, rec, tup, opt, uni}
+use Rattle.awk_types.specs.DataType.{types_from}
 use Rattle.awk_types.specs.Has.{Has, HasAlternative}
 use Rattle.awk_types.specs.Simple.{ArePlain, is_option, is_union, value_by}
 use Rattle.awk_types.specs.Value.{Value, int, truth, null, list, row, alt}
@@ -16,7 +18,8 @@ use Rattle.awk_merge_sides.specs.Sides as sides
 
 -- ---- alternatives at a place
 
-pub alternative-within : (ts : List DataType) (k : ℕ) (v : Value) → HasAlternative (types_from ts) k v
+pub alternative-within : (ts : List DataType) (k : ℕ) (v : Value)
+    → HasAlternative (types_from ts) k v
     → k < length ts
 alternative-within [] k v h = absurd h
 alternative-within (t ∷ ts) zero v h = omega arith

@@ -1,10 +1,13 @@
 -- Columns without their nulls, and the index into all that is present.
-use Rattle.std.proofs.Common.{◌≡◌, ℕ, zero, suc, ◌+◌, ◌<◌, ◌≤◌, List, [], ◌∷◌, ◌++◌, false, length, map, take, get_or, Option, Some, None, refl, ap, ap₂, sym, subst, ◌∙◌, arith, length-append, append_assoc}
+use Rattle.std.proofs.Common.{◌≡◌, ℕ, zero, suc, ◌+◌, ◌<◌, ◌≤◌, List, [], ◌∷◌, ◌++◌, false, length}
+use Rattle.std.proofs.Common.{map, take, get_or, Option, Some, None, refl, ap, ap₂, sym, subst, ◌∙◌}
+use Rattle.std.proofs.Common.{arith, length-append, append_assoc}
 use Rattle.std.specs.Prelude.{ℤ, pos, negsuc, ◌<ℤ◌, slice_get, ◌^◌}
 use Rattle.std.specs.List.{AllByRecursion, range_with_len}
 use Rattle.std.proofs.lemmas.Int.{ints}
 use Rattle.std.proofs.lemmas.List.{length-map, map-append, get_or_append_left, get_or-append-add}
-use Rattle.std.proofs.lemmas.List.FromFn.{fill_by_all, length-map-range_with_len, map-range_with_len_more}
+use Rattle.std.proofs.lemmas.List.FromFn.{fill_by_all, length-map-range_with_len}
+use Rattle.std.proofs.lemmas.List.FromFn.{map-range_with_len_more}
 use Rattle.std.proofs.lemmas.Simd.{map-map}
 use Rattle.awk_types.specs.DataType.{DataType, unknown, leaf, var, reg, rec, tup, opt, uni}
 use Rattle.awk_types.specs.Simple.{is_option, present, option_of, IsSimple}
@@ -25,12 +28,16 @@ use Rattle.awk_columns.specs.Opened.{OpensOption}
 use Rattle.awk_columns.proofs.ArrayLaws.{array_items-at, map-same}
 use Rattle.awk_unify.specs.Carry.{Carry, carried}
 use Rattle.awk_merge_rows.specs.OptionLevels.{IsOptionLevel}
-use Rattle.awk_merge_rows.specs.Present.{with_items, places_on, moved, index_on, ArePresent, IsPresentPut}
-use Rattle.awk_merge_sides.specs.Sides.{Side, sides_of, side_items, merged_items, with_side, Carries, IsSide, AreSides, IsMerged}
+use Rattle.awk_merge_rows.specs.Present.{with_items, places_on, moved, index_on, ArePresent}
+use Rattle.awk_merge_rows.specs.Present.{IsPresentPut}
+use Rattle.awk_merge_sides.specs.Sides.{Side, sides_of, side_items, merged_items, with_side}
+use Rattle.awk_merge_sides.specs.Sides.{Carries, IsSide, AreSides, IsMerged}
 use Rattle.awk_merge_rows.specs.declared.options.OptionLevel.{OptionLevel}
 use Rattle.awk_unify.proofs.AfterLaws.{carry_null}
 use Rattle.awk_merge_sides.proofs.CarryLaws.{Carries-opt, Carries-present}
-use Rattle.awk_merge_sides.proofs.SideLaws.{merged_items-side, merged_items-with_side, AreSides-with_side, length-carried, get_or-carried, total-with_side, total-within, all-append}
+use Rattle.awk_merge_sides.proofs.SideLaws.{merged_items-side, merged_items-with_side}
+use Rattle.awk_merge_sides.proofs.SideLaws.{AreSides-with_side, length-carried, get_or-carried}
+use Rattle.awk_merge_sides.proofs.SideLaws.{total-with_side, total-within, all-append}
 
 -- ---- an index into one list behind another
 

@@ -1,8 +1,11 @@
 -- Groups of the parts of columns of rows, one column more and all.
-use Rattle.std.proofs.Common.{◌≡◌, ℕ, zero, suc, ◌+◌, ◌-◌, ◌<◌, ◌≤◌, List, [], ◌∷◌, ◌++◌, length, map, take, get_or, slice_get, Option, Some, replicate, refl, ap, ap₂, sym, subst, ◌∙◌, arith, length-append, inl, inr, ◌⊎◌}
+use Rattle.std.proofs.Common.{◌≡◌, ℕ, zero, suc, ◌+◌, ◌-◌, ◌<◌, ◌≤◌, List, [], ◌∷◌, ◌++◌, length}
+use Rattle.std.proofs.Common.{map, take, get_or, slice_get, Option, Some, replicate, refl, ap, ap₂}
+use Rattle.std.proofs.Common.{sym, subst, ◌∙◌, arith, length-append, inl, inr, ◌⊎◌}
 use Rattle.std.specs.List.{range_with_len}
 use Rattle.std.proofs.lemmas.Bool.{cases_lt}
-use Rattle.std.proofs.lemmas.List.{length-map, get_or-map, ext_get_or, get_or_append_left, get_or-append-add}
+use Rattle.std.proofs.lemmas.List.{length-map, get_or-map, ext_get_or, get_or_append_left}
+use Rattle.std.proofs.lemmas.List.{get_or-append-add}
 use Rattle.std.proofs.lemmas.List.FromFn.{fill_by_all}
 use Rattle.awk_types.specs.DataType.{DataType, no_types, unknown, tup, types_from}
 use Rattle.awk_types.specs.Has.{Has}
@@ -17,10 +20,14 @@ use Rattle.awk_merge_sides.specs.Groups.{AreGroups, with_side_at}
 use Rattle.awk_merge_sides.specs.Lifts.{part_carry, part_source}
 use Rattle.awk_merge_rows.specs.Parts.{part_side, side_from, ArePut, OpensAsRow, AreRowParts}
 use Rattle.awk_merge_sides.specs.Sides.{Side, side_items, merged_items, with_side, IsSide, AreSides}
-use Rattle.awk_merge_sides.proofs.SideLaws.{merged_items-side, total-with_side, get_or-before, get_or-added, AreSides-with_side, get_or-side_items, length-side_items, item_has}
-use Rattle.awk_merge_sides.proofs.GroupLaws.{length-groups, AreGroups-none, length-with_side_at, get_or-with_side_at, get_or-with_side_at-other}
+use Rattle.awk_merge_sides.proofs.SideLaws.{merged_items-side, total-with_side, get_or-before}
+use Rattle.awk_merge_sides.proofs.SideLaws.{get_or-added, AreSides-with_side, get_or-side_items}
+use Rattle.awk_merge_sides.proofs.SideLaws.{length-side_items, item_has}
+use Rattle.awk_merge_sides.proofs.GroupLaws.{length-groups, AreGroups-none, length-with_side_at}
+use Rattle.awk_merge_sides.proofs.GroupLaws.{get_or-with_side_at, get_or-with_side_at-other}
 use Rattle.awk_merge_rows.proofs.RowValues.{part_value}
-use Rattle.awk_merge_rows.proofs.RowSides.{row_at, HasItems, carried_row, part_carries, part_item, part_len}
+use Rattle.awk_merge_rows.proofs.RowSides.{row_at, HasItems, carried_row, part_carries, part_item}
+use Rattle.awk_merge_rows.proofs.RowSides.{part_len}
 
 -- ---- groups by place
 

@@ -1,5 +1,6 @@
 -- The column of rows over the columns of their parts.
-use Rattle.std.proofs.Common.{◌≡◌, ℕ, ◌<◌, List, [], ◌∷◌, length, get_or, Option, Some, None, refl, ap, ap₂, sym, subst, ◌∙◌, arith}
+use Rattle.std.proofs.Common.{◌≡◌, ℕ, ◌<◌, List, [], ◌∷◌, length, get_or, Option, Some, None, refl}
+use Rattle.std.proofs.Common.{ap, ap₂, sym, subst, ◌∙◌, arith}
 use Rattle.std.proofs.lemmas.List.{ext_get_or}
 use Rattle.awk_types.specs.DataType.{Name, DataType, rec, tup, row_type, types_from}
 use Rattle.awk_types.specs.Simple.{simples, simple_values, values_by}

@@ -1,11 +1,13 @@
 -- A column of rows: what it gives to each part.
-use Rattle.std.proofs.Common.{◌≡◌, ℕ, zero, suc, ◌<◌, List, [], ◌∷◌, length, map, get_or, slice_get, Option, Some, None, option_map, refl, ap, sym, subst, ◌∙◌, arith}
+use Rattle.std.proofs.Common.{◌≡◌, ℕ, zero, suc, ◌<◌, List, [], ◌∷◌, length, map, get_or, slice_get}
+use Rattle.std.proofs.Common.{Option, Some, None, option_map, refl, ap, sym, subst, ◌∙◌, arith}
 use Rattle.std.specs.Prelude.{pos, negsuc, ◌<ℤ◌}
 use Rattle.std.proofs.lemmas.Int.{ints}
 use Rattle.std.specs.List.{AllByRecursion, range_with_len}
 use Rattle.std.proofs.lemmas.List.{length-map}
 use Rattle.std.proofs.lemmas.Option.{slice_get-map}
-use Rattle.awk_types.specs.DataType.{Name, DataType, DataTypes, unknown, leaf, var, reg, rec, tup, opt, uni, row_type, types_from}
+use Rattle.awk_types.specs.DataType.{Name, DataType, DataTypes, unknown, leaf, var, reg, rec, tup}
+use Rattle.awk_types.specs.DataType.{opt, uni, row_type, types_from}
 use Rattle.awk_types.specs.Has.{Has, HasRow}
 use Rattle.awk_types.specs.Value.{Value, value, int, truth, null, list, row, alt, values_from}
 use Rattle.awk_types.specs.View.{typ_of, typs_of, fields_of}
@@ -41,7 +43,8 @@ use Rattle.awk_merge_rows.specs.Parts.{null_column, or_nulls, side_from, part_si
 use Rattle.awk_merge_sides.specs.Sides.{Side, side_items, Carries, IsSide, AreSides}
 use Rattle.awk_merge_sides.proofs.SideLaws.{get_or-side_items, item_has, IsSide-get}
 use Rattle.awk_merge_sides.proofs.CarryLaws.{IsRow, IsRowType as IsRowKind, rows_before}
-use Rattle.awk_merge_rows.proofs.RowValues.{or_null, value_from, part_value, first_parts, row_carried, part_has}
+use Rattle.awk_merge_rows.proofs.RowValues.{or_null, value_from, part_value, first_parts}
+use Rattle.awk_merge_rows.proofs.RowValues.{row_carried, part_has}
 
 -- ---- one column of rows
 

@@ -1,5 +1,7 @@
 -- Columns put in groups: what is there stays, and where the items of each column lie.
-use Rattle.std.proofs.Common.{◌≡◌, ◌+◌, ◌<◌, ◌≤◌, ◌^◌, ◌∷◌, ◌++◌, [], ℕ, suc, zero, List, Bool, true, false, length, map, drop, get_or, slice_get, Some, nat_lt, if◌then◌else◌, inl, inr, refl, ap, sym, subst, ◌∙◌, arith}
+use Rattle.std.proofs.Common.{◌≡◌, ◌+◌, ◌<◌, ◌≤◌, ◌^◌, ◌∷◌, ◌++◌, [], ℕ, suc, zero, List, Bool}
+use Rattle.std.proofs.Common.{true, false, length, map, drop, get_or, slice_get, Some, nat_lt}
+use Rattle.std.proofs.Common.{if◌then◌else◌, inl, inr, refl, ap, sym, subst, ◌∙◌, arith}
 use Rattle.std.proofs.lemmas.Bool.{cases_lt}
 use Rattle.std.proofs.lemmas.List.{append_assoc, get_or_past}
 use Rattle.std.specs.List.{AllByRecursion}
@@ -28,8 +30,10 @@ use Rattle.awk_merge_rows.specs.declared.unions.Target.{Target}
 
 pub record Grows (gs hs : List (List Side)) : Type 0 where
   pub size : length hs ≡ length gs
-  pub long : (k : ℕ) → length (merged_items (get_or gs k [])) ≤ length (merged_items (get_or hs k []))
-  pub items : (k i : ℕ) → i < length (merged_items (get_or gs k [])) → item_in hs k i ≡ item_in gs k i
+  pub long : (k : ℕ)
+      → length (merged_items (get_or gs k [])) ≤ length (merged_items (get_or hs k []))
+  pub items : (k i : ℕ) → i < length (merged_items (get_or gs k []))
+      → item_in hs k i ≡ item_in gs k i
 
 pub grows-same : (gs : List (List Side)) → Grows gs gs
 grows-same gs = record { size = refl; long = λ k. omega arith; items = λ k i h. refl }
@@ -42,7 +46,8 @@ grows-then gs hs ks a b = record {
 }
 
 side-long : (j k : ℕ) (gs : List (List Side)) (x : Layout) (f : Carry)
-    → length (merged_items (get_or gs k [])) ≤ length (merged_items (get_or (with_side_at j gs x f) k []))
+    → length (merged_items (get_or gs k [])) ≤ length
+    (merged_items (get_or (with_side_at j gs x f) k []))
 side-long j k [] x f = omega arith
 side-long zero zero (g ∷ gs) x f = omega (arith, total-with_side g x f)
 side-long zero (suc k) (g ∷ gs) x f = omega arith
@@ -50,7 +55,8 @@ side-long (suc j) zero (g ∷ gs) x f = omega arith
 side-long (suc j) (suc k) (g ∷ gs) x f = side-long j k gs x f
 
 side-items : (j k i : ℕ) (gs : List (List Side)) (x : Layout) (f : Carry)
-    → i < length (merged_items (get_or gs k [])) → item_in (with_side_at j gs x f) k i ≡ item_in gs k i
+    → i < length (merged_items (get_or gs k []))
+    → item_in (with_side_at j gs x f) k i ≡ item_in gs k i
 side-items j k i [] x f h = refl
 side-items zero zero i (g ∷ gs) x f h = get_or-before g x f i h
 side-items zero (suc k) i (g ∷ gs) x f h = refl
@@ -112,7 +118,8 @@ lies-side x f tag gs = record {
     n : length (with_side_at tag gs x f) ≡ length gs
     n = length-with_side_at tag gs x f
 
-    there : tag < length gs → get_or (with_side_at tag gs x f) tag [] ≡ with_side (get_or gs tag []) x f
+    there : tag < length gs
+        → get_or (with_side_at tag gs x f) tag [] ≡ with_side (get_or gs tag []) x f
     there h = get_or-with_side_at tag gs x f h
 
 pub lies-grown : (x : Layout) (f : Carry) (tag : ℕ) (gs hs : List (List Side)) (t : Target)

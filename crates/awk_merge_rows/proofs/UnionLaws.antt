@@ -1,12 +1,14 @@
 -- A union of the columns that the alternatives become.
-use Rattle.std.proofs.Common.{◌≡◌, ◌<◌, ◌∷◌, [], ℕ, suc, zero, List, length, get_or, refl, ap, sym, subst, ◌∙◌, arith}
+use Rattle.std.proofs.Common.{◌≡◌, ◌<◌, ◌∷◌, [], ℕ, suc, zero, List, length, get_or, refl, ap, sym}
+use Rattle.std.proofs.Common.{subst, ◌∙◌, arith}
 use Rattle.std.proofs.lemmas.List.{ext_get_or}
 use Rattle.std.specs.List.{AllByRecursion}
 use Rattle.awk_types.proofs.SimpleLaws.{present_alternatives_stay, union_of_stays}
 use Rattle.awk_types.proofs.Trees.{type_list-from}
 use Rattle.awk_types.specs.DataType.{DataType, uni, types_from}
 use Rattle.awk_types.specs.Has.{Has, HasAlternative}
-use Rattle.awk_types.specs.Simple.{ArePlain, simples, simple_values, union_of, value_after, value_by}
+use Rattle.awk_types.specs.Simple.{ArePlain, simples, simple_values, union_of, value_after}
+use Rattle.awk_types.specs.Simple.{value_by}
 use Rattle.awk_types.specs.Simple.{alternatives_before}
 use Rattle.awk_types.specs.Value.{Value, int, truth, null, list, row, alt}
 use Rattle.awk_lanes.specs.Places.{size_of, place_at, IsIndexKind}
@@ -108,12 +110,14 @@ all-at P (v ∷ vs) (suc i) h l = all-at P vs i h.1 (omega (arith, l))
 -- ---- the laws
 
 pub union_merged : (ts : List DataType) (ss : List Side) (r : UnionLevel) (ys : List Layout)
-    → IsArrayType (uni (types_from ts)) → IsUnionLevel ts ss r → AreMerged ts (groups_of r.groups) ys
+    → IsArrayType (uni (types_from ts)) → IsUnionLevel ts ss r
+    → AreMerged ts (groups_of r.groups) ys
     → IsMerged (uni (types_from ts)) ss (union r.tags r.index (layouts_from ys))
 union_merged ts ss r ys a u m = record {
   typ = ap union_of (merged-types ts gs ys m ∙ sym (type_list-from ts))
       ∙ union_of_stays (types_from ts) a.is_simple;
-  items = ext_get_or null (array_items made) (merged_items ss) (length-array_items made ∙ sym u.size)
+  items =
+      ext_get_or null (array_items made) (merged_items ss) (length-array_items made ∙ sym u.size)
       (λ i l.
       let h : i < size_of r.tags = omega (arith, l, length-array_items made) in
       get_or-array_items made i h ∙ each i h ∙ sym (u.items i h));
@@ -143,7 +147,8 @@ union_merged ts ss r ys a u m = record {
 
 -- what the node of a union asks for
 pub union_merges : (ts : List DataType) (ss : List Side) (r : UnionLevel) (ys : List Layout)
-    → IsArrayType (uni (types_from ts)) → IsUnionLevel ts ss r → AreMerged ts (groups_of r.groups) ys
+    → IsArrayType (uni (types_from ts)) → IsUnionLevel ts ss r
+    → AreMerged ts (groups_of r.groups) ys
     → IsUnion r.tags r.index (layouts_from ys)
 union_merges ts ss r ys a u m = record {
   some = omega (arith, size, a.is_type.0, ap length (type_list-from ts));

@@ -1,6 +1,8 @@
 -- One column more of those that become a union: its alternatives in their groups, and its items by
 -- their tags and places.
-use Rattle.std.proofs.Common.{◌≡◌, ◌+◌, ◌<◌, ◌≤◌, ◌^◌, ◌∷◌, ◌++◌, [], ℕ, suc, zero, List, false, length, map, take, get_or, slice_get, Some, replicate, refl, ap, sym, subst, ◌∙◌, arith}
+use Rattle.std.proofs.Common.{◌≡◌, ◌+◌, ◌<◌, ◌≤◌, ◌^◌, ◌∷◌, ◌++◌, [], ℕ, suc, zero, List, false}
+use Rattle.std.proofs.Common.{length, map, take, get_or, slice_get, Some, replicate, refl, ap, sym}
+use Rattle.std.proofs.Common.{subst, ◌∙◌, arith}
 use Rattle.std.specs.Prelude.{pos}
 use Rattle.std.proofs.lemmas.Int.{ints}
 use Rattle.std.proofs.lemmas.Option.{slice_get-get_or, slice_get-map}
@@ -25,7 +27,8 @@ use Rattle.awk_open.proofs.PartLimits.{few_alternatives}
 use Rattle.awk_columns.specs.Opened.{item_among, OpensUnion}
 use Rattle.awk_unify.specs.Carry.{Carry, carried}
 use Rattle.awk_merge_rows.proofs.AlternativeLaws.{alternative-carried, alternative-carries}
-use Rattle.awk_merge_rows.proofs.AlternativeLaws.{alternative-inside, single-carried, single-carries}
+use Rattle.awk_merge_rows.proofs.AlternativeLaws.{alternative-inside, single-carried}
+use Rattle.awk_merge_rows.proofs.AlternativeLaws.{single-carries}
 use Rattle.awk_merge_rows.proofs.AlternativeLaws.{single-inside, single, no-option}
 use Rattle.awk_merge_sides.proofs.GroupLaws.{length-groups, AreGroups-none, AreGroups-with_side_at}
 use Rattle.awk_merge_sides.proofs.SideLaws.{all-append, item_has, side_has, total-within}
@@ -295,7 +298,8 @@ whole-side s g g' m m' x count u all e counted d size tags index = record {
       (AreGroups-with_side_at ts gs (alternative_tag f 0) s.column (alternative_carry f 0) so.groups
       (λ some t i. single-carries ts f (array_type s.column) t lawful.is_simple u side.values i)))
       counted
-      (subst (Grows gs) (sym e) (grows-side (alternative_tag f 0) gs s.column (alternative_carry f 0)))
+      (subst (Grows gs) (sym e) (grows-side (alternative_tag f 0) gs s.column
+      (alternative_carry f 0)))
       side all size tags index
       (λ i l. subst (λ hs. IsTagged hs (pos x.tag) (pos (x.base + i))
       (carried f (item_at s.column i))) (sym e)
@@ -319,7 +323,8 @@ level-none ts n k a b g m e d counted x y tags index = record {
   index_room = ap (λ (k : Making). k.room) index ∙ y;
   tagged = subst (λ zs. AreTagged (groups_of g) zs m.index.items [])
       (sym (ap (λ (k : Making). k.items) tags))
-      (subst (λ zs. AreTagged (groups_of g) [] zs []) (sym (ap (λ (k : Making). k.items) index)) tt);
+      (subst (λ zs. AreTagged (groups_of g) [] zs []) (sym (ap (λ (k : Making). k.items) index))
+      tt);
   typed = tt;
 }
 
@@ -394,7 +399,8 @@ index-at : (c : Column) (i : ℕ) → c.kind ≡ I64 → at c i ≡ get_or c.ite
 index-at c i e = ap (λ k. element k (get_or c.items i (pos 0))) e
 
 pub level-made : (ts : List DataType) (n : ℕ) (ss : List Side) (g : Groups) (m : Tagged)
-    (t j : Column) → n < 2 ^ 63 → n ≡ length (merged_items ss) → IsUnionSoFar ts n (merged_items ss) g m
+    (t j : Column) → n < 2 ^ 63 → n ≡ length (merged_items ss) → IsUnionSoFar ts n (merged_items ss)
+    g m
     → t.kind ≡ m.tags.kind → t.items ≡ m.tags.items → j.kind ≡ m.index.kind
     → j.items ≡ m.index.items → IsUnionLevel ts ss (record { tags = t; index = j; groups = g })
 level-made ts n ss g m t j fits size so tk ti jk ji = record {

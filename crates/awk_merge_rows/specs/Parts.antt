@@ -1,5 +1,6 @@
 -- Columns of rows, part by part.
-use Rattle.std.specs.Prelude.{◌≡◌, ℕ, ◌<◌, ◌≤◌, negsuc, List, [], get_or, slice_get, length, Option, Some, None}
+use Rattle.std.specs.Prelude.{◌≡◌, ℕ, ◌<◌, ◌≤◌, negsuc, List, [], get_or, slice_get, length, Option}
+use Rattle.std.specs.Prelude.{Some, None}
 use Rattle.awk_types.specs.DataType.{DataType, tup, types_from}
 use Rattle.awk_types.specs.Value.{null, row, values_from}
 use Rattle.awk_lanes.specs.declared.kind.Kind.TheVariants.{I64}

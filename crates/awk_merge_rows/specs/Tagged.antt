@@ -1,6 +1,7 @@
 -- The columns of the alternatives of a union put in groups, and items by the tags and places that
 -- they get there.
-use Rattle.std.specs.Prelude.{◌≡◌, ◌+◌, ◌<◌, ◌≤◌, ◌^◌, ◌++◌, ◌∷◌, [], ℕ, ℤ, pos, ◌≤ℤ◌, List, get_or, length, map, nat_lt, if◌then◌else◌}
+use Rattle.std.specs.Prelude.{◌≡◌, ◌+◌, ◌<◌, ◌≤◌, ◌^◌, ◌++◌, ◌∷◌, [], ℕ, ℤ, pos, ◌≤ℤ◌, List, get_or}
+use Rattle.std.specs.Prelude.{length, map, nat_lt, if◌then◌else◌}
 use Rattle.std.specs.List.{AllByRecursion, range_with_len}
 use Rattle.awk_types.specs.DataType.{DataType, uni, types_from}
 use Rattle.awk_types.specs.Has.{Has}

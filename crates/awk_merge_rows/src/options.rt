@@ -1,5 +1,6 @@
 //! Columns of which some are optional: an index, and the columns of what is present.
-ghost use Rattle.std.specs.Prelude.{◌≡◌, ◌+◌, ◌-◌, ◌<◌, ◌≤◌, ◌^◌, false, length, IfOk, OnOk, IfSome};
+ghost use Rattle.std.specs.Prelude.{◌≡◌, ◌+◌, ◌-◌, ◌<◌, ◌≤◌, ◌^◌, false, length, IfOk, OnOk};
+ghost use Rattle.std.specs.Prelude.{IfSome};
 ghost use Rattle.awk_types.specs.Simple.{is_option, IsSimple};
 ghost use Rattle.awk_lanes.specs.Numbers.{int_of, IsOf};
 ghost use Rattle.awk_lanes.specs.Places.{size_of, IsOptionalIndex};
@@ -8,7 +9,8 @@ ghost use Rattle.awk_layout.specs.Typing.{array_type};
 ghost use Rattle.awk_layout.specs.Valid.{len};
 ghost use Rattle.awk_columns.specs.Opened.{OpensOption};
 ghost use Rattle.awk_merge_rows.specs.OptionLevels.{IsOptionLevel};
-ghost use Rattle.awk_merge_rows.specs.Present.{with_items, places_on, moved, index_on, IsPresentPut};
+ghost use Rattle.awk_merge_rows.specs.Present.{with_items, places_on, moved, index_on};
+ghost use Rattle.awk_merge_rows.specs.Present.{IsPresentPut};
 ghost use Rattle.awk_merge_sides.specs.Sides.{side_of, sides_of, IsCounted};
 
 use awk_columns::{Opened, open_array};

@@ -11,7 +11,8 @@ ghost use Rattle.awk_merge_rows.specs.Parts.{null_column, or_nulls, part_side, s
 ghost use Rattle.awk_merge_rows.specs.Parts.{ArePut, IsRowSide};
 ghost use Rattle.awk_merge_rows.specs.Parts.{OpensAsRow, AreRowParts};
 ghost use Rattle.awk_merge_sides.specs.Lifts.{part_carry, part_source, AreSources};
-ghost use Rattle.awk_merge_sides.specs.Sides.{Side as Lifted, side_of, sides_of, IsSide, AreSides, IsCounted};
+ghost use Rattle.awk_merge_sides.specs.Sides.{Side as Lifted, side_of, sides_of, IsSide, AreSides};
+ghost use Rattle.awk_merge_sides.specs.Sides.{IsCounted};
 
 use awk_columns::{Opened, open_array};
 use awk_lanes::{Arena, Kind, LaneMaker, Num, Steps};

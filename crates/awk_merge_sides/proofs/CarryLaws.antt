@@ -215,7 +215,8 @@ row_type_of a null n s h = absurd s
 row_type_of a (list vs) n s h = absurd s
 row_type_of a (alt k v) n s h = absurd s
 
-leaf_type_of : (a : DataType) (v : Value) → is_option a ≡ false → IsScalar v → Has a v → IsLeafType a
+leaf_type_of : (a : DataType) (v : Value) → is_option a ≡ false → IsScalar v → Has a v
+    → IsLeafType a
 leaf_type_of unknown (int z) n s h = absurd h
 leaf_type_of unknown (truth b) n s h = absurd h
 leaf_type_of (leaf p) v n s h = tt
@@ -239,7 +240,8 @@ leaf_type_of a (alt k v) n s h = absurd s
 pub lists_before : (a t : DataType) (f : Carry) (v : Value) → Has a v → Carries a f (var t)
     → IsListType a
 lists_before a t f v h c =
-    list_type a v (no_option a (var t) f (λ n. n) c) (list_before f v (var_list t (carried f v) (c v h))) h
+    list_type a v (no_option a (var t) f (λ n. n) c)
+    (list_before f v (var_list t (carried f v) (c v h))) h
 
 pub sized_lists_before : (n : ℕ) (a t : DataType) (f : Carry) (v : Value) → Has a v
     → Carries a f (reg n t) → IsListType a
@@ -260,7 +262,8 @@ rows_before a t f v h n r c =
 
 -- ---- items of lists
 
-single : (u : DataType) (f : Carry) (v : Value) → Has (var u) (carried f (list (values_from (v ∷ []))))
+single : (u : DataType) (f : Carry) (v : Value)
+    → Has (var u) (carried f (list (values_from (v ∷ []))))
     → Has u (carried (items_carry f) v)
 single u keep v h = h.0
 single u (in_items g) v h = h.0

@@ -1,5 +1,7 @@
 -- Columns in groups: one column more, and the columns that the groups become.
-use Rattle.std.proofs.Common.{◌≡◌, ◌≢◌, ◌+◌, ◌<◌, ◌≤◌, ◌∷◌, ◌++◌, [], ℕ, suc, zero, List, length, map, take, set, get_or, slice_get, Some, replicate, refl, ap, sym, subst, ◌∙◌, arith}
+use Rattle.std.proofs.Common.{◌≡◌, ◌≢◌, ◌+◌, ◌<◌, ◌≤◌, ◌∷◌, ◌++◌, [], ℕ, suc, zero, List, length}
+use Rattle.std.proofs.Common.{map, take, set, get_or, slice_get, Some, replicate, refl, ap, sym}
+use Rattle.std.proofs.Common.{subst, ◌∙◌, arith}
 use Rattle.std.proofs.lemmas.List.{take_all}
 use Rattle.std.specs.List.{AllByRecursion}
 use Rattle.awk_types.proofs.ListLaws.{take-get}
@@ -10,7 +12,8 @@ use Rattle.awk_layout.specs.Valid.{len}
 use Rattle.awk_unify.specs.Carry.{Carry}
 use Rattle.awk_merge_sides.proofs.SideLaws.{AreSides-with_side}
 use Rattle.awk_merge_sides.specs.Groups.{AreGroups, AreMerged, with_side_at}
-use Rattle.awk_merge_sides.specs.Sides.{Side, sides_of, with_side, Carries, AreSides, IsCounted, IsMerged}
+use Rattle.awk_merge_sides.specs.Sides.{Side, sides_of, with_side, Carries, AreSides, IsCounted}
+use Rattle.awk_merge_sides.specs.Sides.{IsMerged}
 use Rattle.awk_merge_sides.specs.declared.sides.Sides.{Sides}
 
 -- ---- one column more in a group

@@ -1,5 +1,8 @@
 -- How lifts act on parts, by their variants, and the search for a part.
-use Rattle.std.proofs.Common.{◌≡◌, ◌==◌, ◌+◌, ◌<◌, ◌≤◌, ◌∷◌, [], ℕ, suc, List, true, false, Option, Some, None, drop, length, slice_get, if◌then◌else◌, option_map, refl, ap, ap₂, sym, ◌∙◌, arith, ◌⊎◌, inl, inr, Bool, get_or, map, min, subst}
+use Rattle.std.proofs.Common.{◌≡◌, ◌==◌, ◌+◌, ◌<◌, ◌≤◌, ◌∷◌, [], ℕ, suc, List, true, false, Option}
+use Rattle.std.proofs.Common.{Some, None, drop, length, slice_get, if◌then◌else◌, option_map, refl}
+use Rattle.std.proofs.Common.{ap, ap₂, sym, ◌∙◌, arith, ◌⊎◌, inl, inr, Bool, get_or, map, min}
+use Rattle.std.proofs.Common.{subst}
 use Rattle.std.proofs.lemmas.Bool.{cases_lt}
 use Rattle.std.proofs.lemmas.List.{drop_all, drop_more}
 use Rattle.std.proofs.lemmas.List.FromFn.{get_or-map-range_with_len, length-map-range_with_len}
@@ -11,7 +14,8 @@ use Rattle.awk_unify.specs.Carry.{Carry, carries_from, carry_list, keep, tag_at}
 use Rattle.awk_unify.specs.View.{lift_of, lifts_of}
 use Rattle.awk_unify.specs.declared.lift.Lift.{Alternatives, Lift, Parts}
 use Rattle.awk_unify.specs.declared.lift.Lifts.{Lifts}
-use Rattle.awk_merge_sides.specs.Lifts.{alternative_carry, alternative_tag, part_carry, part_source, source_at, AreSources}
+use Rattle.awk_merge_sides.specs.Lifts.{alternative_carry, alternative_tag, part_carry, part_source}
+use Rattle.awk_merge_sides.specs.Lifts.{source_at, AreSources}
 
 -- ---- variants
 

@@ -1,7 +1,10 @@
 -- Columns one after another: their items, one column more, and the steps of loops over them.
-use Rattle.std.proofs.Common.{◌≡◌, ◌==◌, ◌+◌, ◌<◌, ◌≤◌, ◌∷◌, ◌++◌, ◌^◌, [], ℕ, suc, zero, List, Bool, true, false, length, map, take, get_or, slice_get, Some, Result, Ok, Err, if◌then◌else◌, refl, ap, sym, subst, ◌∙◌, arith}
+use Rattle.std.proofs.Common.{◌≡◌, ◌==◌, ◌+◌, ◌<◌, ◌≤◌, ◌∷◌, ◌++◌, ◌^◌, [], ℕ, suc, zero, List}
+use Rattle.std.proofs.Common.{Bool, true, false, length, map, take, get_or, slice_get, Some, Result}
+use Rattle.std.proofs.Common.{Ok, Err, if◌then◌else◌, refl, ap, sym, subst, ◌∙◌, arith}
 use Rattle.std.proofs.lemmas.Grind.{flat_map-append}
-use Rattle.std.proofs.lemmas.List.{append-nil, length-append, length-map, map-append, get_or-map, get_or_append_left, get_or-append-add, take_all}
+use Rattle.std.proofs.lemmas.List.{append-nil, length-append, length-map, map-append, get_or-map}
+use Rattle.std.proofs.lemmas.List.{get_or_append_left, get_or-append-add, take_all}
 use Rattle.std.specs.List.{AllByRecursion}
 use Rattle.std.specs.Prelude.{OnErr}
 use Rattle.awk_types.proofs.ListLaws.{take-get}
@@ -16,7 +19,8 @@ use Rattle.awk_layout.specs.Layout.{Layout}
 use Rattle.awk_layout.specs.Typing.{layout_type, array_type, array_items}
 use Rattle.awk_layout.specs.Valid.{len}
 use Rattle.awk_unify.specs.Carry.{Carry, carried}
-use Rattle.awk_merge_sides.specs.Sides.{Side, side_of, sides_of, side_items, merged_items, Carries, IsSide, AreSides, IsCounted, with_side}
+use Rattle.awk_merge_sides.specs.Sides.{Side, side_of, sides_of, side_items, merged_items, Carries}
+use Rattle.awk_merge_sides.specs.Sides.{IsSide, AreSides, IsCounted, with_side}
 use Rattle.awk_merge_sides.specs.declared.sides.Side as declared
 use Rattle.awk_merge_sides.specs.declared.sides.Sides.{Sides}
 
@@ -83,7 +87,8 @@ all-at P [] j h l = absurd (omega (arith, l))
 all-at P (v ∷ vs) zero h l = h.0
 all-at P (v ∷ vs) (suc j) h l = all-at P vs j h.1 (omega (arith, l))
 
-pub item_has : (x : Layout) (j : ℕ) → AllByRecursion (Has (array_type x)) (array_items x) → j < len x
+pub item_has : (x : Layout) (j : ℕ) → AllByRecursion (Has (array_type x)) (array_items x)
+    → j < len x
     → Has (array_type x) (simple_value (layout_type x) (item x j))
 item_has x j h l =
     subst (Has (array_type x)) (get_or-array_items x j l)
@@ -93,7 +98,8 @@ item_has x j h l =
 pub side_has : (t : DataType) (s : Side) → IsSide t s
     → AllByRecursion (Has (array_type s.column)) (array_items s.column)
     → AllByRecursion (Has t) (side_items s)
-side_has t s h k = has_each (array_type s.column) t (carried s.carry) h.values (array_items s.column) k
+side_has t s h k =
+    has_each (array_type s.column) t (carried s.carry) h.values (array_items s.column) k
 
 -- ---- one column more
 
@@ -107,7 +113,8 @@ with_items : (ss : List Side) (x : Layout) (f : Carry) (b : Bool) → (len x == 
     → merged_items (if b then ss else ss ++ record { column = x; carry = f } ∷ [])
     ≡ merged_items ss ++ map (carried f) (array_items x)
 with_items ss x f true e =
-    let none : array_items x ≡ [] = none-of (array_items x) (length-array_items x ∙ grind (arith, e)) in
+    let none : array_items x ≡ [] = none-of (array_items x)
+    (length-array_items x ∙ grind (arith, e)) in
     sym (ap (λ vs. merged_items ss ++ map (carried f) vs) none ∙ append-nil (merged_items ss))
 with_items ss x f false e = merged_items-side ss (record { column = x; carry = f })
 
@@ -208,5 +215,6 @@ total-take (s ∷ ss) (suc i) =
 pub total-within : (ss : List Side) (i : ℕ) (s : Side) → slice_get ss i ≡ Some s
     → length (merged_items (take i ss)) + len s.column ≤ length (merged_items ss)
 total-within ss i s e =
-    let f : length (merged_items (take (i + 1) ss)) ≤ length (merged_items ss) = total-take ss (i + 1) in
+    let f : length (merged_items (take (i + 1) ss)) ≤ length (merged_items ss) = total-take ss
+    (i + 1) in
     subst (λ n. n ≤ length (merged_items ss)) (total-next ss i s e) f

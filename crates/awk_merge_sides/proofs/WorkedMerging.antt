@@ -3,7 +3,8 @@ use Rattle.std.specs.Prelude.{◌≡◌, ◌∷◌, [], List, None, Some, pos, r
 use Rattle.awk_types.specs.Value.{int}
 use Rattle.awk_lanes.specs.declared.kind.Kind.TheVariants.{I64}
 use Rattle.awk_layout.specs.Layout.{Layout, empty, flat}
-use Rattle.awk_unify.specs.Carry.{Carry, carry, in_items, keep, no_carries, to_alternatives, to_parts}
+use Rattle.awk_unify.specs.Carry.{Carry, carry, in_items, keep, no_carries, to_alternatives}
+use Rattle.awk_unify.specs.Carry.{to_parts}
 use Rattle.awk_merge_sides.specs.Lifts.{alternative_tag, items_carry, part_carry}
 use Rattle.awk_merge_sides.specs.Lifts.{part_source}
 use Rattle.awk_merge_sides.specs.Sides.{merged_items, with_side}
@@ -12,7 +13,8 @@ abbrev numbers : List ℤ → Layout
 numbers zs = flat (record { kind = I64; items = zs })
 
 -- the items of columns one after another; a column without items is left out
-one_after_another : merged_items (with_side (with_side [] (numbers (pos 1 ∷ pos 2 ∷ [])) keep) (numbers (pos 3 ∷ [])) keep)
+one_after_another : merged_items (with_side (with_side [] (numbers (pos 1 ∷ pos 2 ∷ [])) keep)
+    (numbers (pos 3 ∷ [])) keep)
     ≡ int (pos 1) ∷ int (pos 2) ∷ int (pos 3) ∷ []
 one_after_another = refl
 

@@ -1,6 +1,8 @@
 -- How the parts of a value are carried where it is.
-use Rattle.std.specs.Prelude.{◌≡◌, ◌<◌, ◌==◌, ◌∷◌, ℕ, List, Option, Some, None, get_or, length, option_map, suc, if◌then◌else◌}
-use Rattle.awk_unify.specs.Carry.{Carry, keep, in_items, to_parts, to_alternatives, carry_list, tag_at}
+use Rattle.std.specs.Prelude.{◌≡◌, ◌<◌, ◌==◌, ◌∷◌, ℕ, List, Option, Some, None, get_or, length}
+use Rattle.std.specs.Prelude.{option_map, suc, if◌then◌else◌}
+use Rattle.awk_unify.specs.Carry.{Carry, keep, in_items, to_parts, to_alternatives, carry_list}
+use Rattle.awk_unify.specs.Carry.{tag_at}
 use Rattle.awk_unify.specs.Carries.{carry_at}
 
 -- the items of a list

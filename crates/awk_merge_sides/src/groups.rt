@@ -1,5 +1,6 @@
 //! Columns in groups, one for each part of a row or alternative of a union.
-ghost use Rattle.std.specs.Prelude.{◌≡◌, ◌<◌, [], IfOk, OnOk, OnErr, length, map, replicate, Some, slice_get};
+ghost use Rattle.std.specs.Prelude.{◌≡◌, ◌<◌, [], IfOk, OnOk, OnErr, length, map, replicate, Some};
+ghost use Rattle.std.specs.Prelude.{slice_get};
 ghost use Rattle.std.specs.List.{AllByRecursion};
 ghost use Rattle.awk_unify.specs.View.{lift_of};
 ghost use Rattle.awk_merge_sides.specs.Sides.{sides_of, IsCounted};

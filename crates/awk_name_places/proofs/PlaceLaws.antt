@@ -1,5 +1,6 @@
 -- A place in a list of keys is that of the name.
-use Rattle.std.proofs.Common.{◌≡◌, ◌≤◌, ◌+◌, ◌||◌, ℕ, suc, Bool, true, false, List, [], ◌∷◌, ◌++◌, length, map, Some, None, refl, ap, ap₂, sym, ◌∙◌, cond, nat_lt, arith}
+use Rattle.std.proofs.Common.{◌≡◌, ◌≤◌, ◌+◌, ◌||◌, ℕ, suc, Bool, true, false, List, [], ◌∷◌, ◌++◌}
+use Rattle.std.proofs.Common.{length, map, Some, None, refl, ap, ap₂, sym, ◌∙◌, cond, nat_lt, arith}
 use Rattle.std.specs.Prelude.{not, position}
 use Rattle.std.specs.Borrow.{Bor}
 use Rattle.std.specs.List.{list_any, position_or_len}
@@ -8,7 +9,8 @@ use Rattle.std.proofs.Math.Bool.{not-not}
 use Rattle.std.proofs.lemmas.List.{map-append}
 use Rattle.awk_types.specs.DataType.{DataType, Name}
 use Rattle.awk_types.proofs.Views.{named_type}
-use Rattle.awk_types.specs.View.{NamedType, field_of, field_step, fields_step, typ_of, typ_step, typs_step}
+use Rattle.awk_types.specs.View.{NamedType, field_of, field_step, fields_step, typ_of, typ_step}
+use Rattle.awk_types.specs.View.{typs_step}
 use Rattle.awk_types.specs.declared.typ.Field.{Field}
 use Rattle.awk_types.specs.declared.typ.Typ.TheViews.{out-Field}
 use Rattle.awk_types.specs.declared.typ.Typ.TheFolds.{fold_out-Field}

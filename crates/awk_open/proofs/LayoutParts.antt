@@ -9,7 +9,8 @@ len_of-nth no_layouts k = refl
 len_of-nth (layout x xs) zero = refl
 len_of-nth (layout x xs) (suc k) = len_of-nth xs k
 
-pub len_of-get : (xs : List Layout) (k : ℕ) (y : Layout) → slice_get xs k ≡ Some y → len_of (layouts_from xs) k ≡ len y
+pub len_of-get : (xs : List Layout) (k : ℕ) (y : Layout) → slice_get xs k ≡ Some y
+    → len_of (layouts_from xs) k ≡ len y
 len_of-get [] k y e = cc
 len_of-get (x ∷ xs) zero y e = let f : x ≡ y = cc in ap len f
 len_of-get (x ∷ xs) (suc k) y e = len_of-get xs k y e

@@ -1,5 +1,7 @@
 -- Arrays whose lanes are those of their outermost kind.
-use Rattle.std.proofs.Common.{◌≡◌, ℕ, ◌+◌, ◌-◌, ◌<◌, ◌≤◌, arith, refl, ap, sym, ◌∙◌, subst, get_or-take, get_or-drop, length-take, length-drop, drop, take, suc, zero, add-one, slice_get, Some, List, [], ◌∷◌}
+use Rattle.std.proofs.Common.{◌≡◌, ℕ, ◌+◌, ◌-◌, ◌<◌, ◌≤◌, arith, refl, ap, sym, ◌∙◌, subst}
+use Rattle.std.proofs.Common.{get_or-take, get_or-drop, length-take, length-drop, drop, take, suc}
+use Rattle.std.proofs.Common.{zero, add-one, slice_get, Some, List, [], ◌∷◌}
 use Rattle.std.specs.Prelude.{pos, None, Option}
 use Rattle.awk_types.specs.DataType.{Name}
 use Rattle.awk_types.specs.Limit.{limit}
@@ -14,34 +16,61 @@ use Rattle.awk_layout.specs.Typing.{array_type}
 use Rattle.awk_gather.specs.Arrays.{array_item}
 use Rattle.awk_open.specs.Opened.{IsOpened, AreLong}
 use Rattle.awk_open.specs.declared.opening.Opened.TheVariants.{Leaf, Items, Row}
-use Rattle.awk_open.proofs.OpenedKinds.{item-lists, item-offset_lists, item-rows, type-rows, within_at}
+use Rattle.awk_open.proofs.OpenedKinds.{item-lists, item-offset_lists, item-rows, type-rows}
+use Rattle.awk_open.proofs.OpenedKinds.{within_at}
 use Rattle.awk_open.proofs.OpenedArrays.{lists_within, offsets_within, rows_within}
 
 pub whole_leaf : (c : Column) (x : Layout) → flat c ≡ x → IsValid x → IsOpened x (Leaf c)
-whole_leaf c x e v = subst (λ (y : Layout). IsOpened y (Leaf c)) e (record { kind = refl; size = refl; valid = subst IsValid (sym e) v; columns = tt; items = λ i k. refl })
+whole_leaf c x e v =
+    subst (λ (y : Layout). IsOpened y (Leaf c)) e
+    (record {
+      kind = refl;
+      size = refl;
+      valid = subst IsValid (sym e) v;
+      columns = tt;
+      items =
+          λ i k. refl;
+    })
 
-pub whole_lists : (s t a b : Column) (x z : Layout) → IsValid (lists s t x) → z ≡ x → a ≡ s → b ≡ t → IsOpened (lists s t x) (Items a b z)
-whole_lists s t a b x z v e f h = rw (e, f, h) (record { kind = refl; size = refl; valid = v; columns = tt; items = λ i k. item-lists s t x i })
+pub whole_lists : (s t a b : Column) (x z : Layout) → IsValid (lists s t x) → z ≡ x → a ≡ s → b ≡ t
+    → IsOpened (lists s t x) (Items a b z)
+whole_lists s t a b x z v e f h =
+    rw (e, f, h) (record {
+      kind = refl;
+      size = refl;
+      valid = v;
+      columns = tt;
+      items = λ i k.
+          item-lists s t x i;
+    })
 
 -- ---- offsets as starts and stops
 
 size-cut : (c : Column) (lo hi : ℕ) → lo ≤ hi → hi ≤ size_of c → size_of (cut_of c lo hi) ≡ hi - lo
-size-cut c lo hi h l = omega (arith, length-take (hi - lo) (drop lo c.items), length-drop lo c.items)
+size-cut c lo hi h l =
+    omega (arith, length-take (hi - lo) (drop lo c.items), length-drop lo c.items)
 
 at-cut : (c : Column) (lo hi i : ℕ) → i < hi - lo → at (cut_of c lo hi) i ≡ at c (lo + i)
-at-cut c lo hi i h = ap (element c.kind) (get_or-take (hi - lo) (drop lo c.items) i (pos 0) h ∙ get_or-drop lo c.items i (pos 0))
+at-cut c lo hi i h =
+    ap (element c.kind) (get_or-take (hi - lo) (drop lo c.items) i (pos 0) h ∙ get_or-drop lo
+    c.items i (pos 0))
 
 starts-at : (o : Column) (i : ℕ) → i + 1 < size_of o → at (cut_of o 0 (size_of o - 1)) i ≡ at o i
-starts-at o i h = let e : 0 + i ≡ i = omega arith in at-cut o 0 (size_of o - 1) i (omega arith) ∙ ap (at o) e
+starts-at o i h =
+    let e : 0 + i ≡ i = omega arith in at-cut o 0 (size_of o - 1) i (omega arith) ∙ ap (at o) e
 
 stops-at : (o : Column) (i : ℕ) → i + 1 < size_of o → at (cut_of o 1 (size_of o)) i ≡ at o (i + 1)
-stops-at o i h = let e : 1 + i ≡ i + 1 = omega arith in at-cut o 1 (size_of o) i (omega arith) ∙ ap (at o) e
+stops-at o i h =
+    let e : 1 + i ≡ i + 1 = omega arith in at-cut o 1 (size_of o) i (omega arith) ∙ ap (at o) e
 
-spans-cut : (o : Column) (n : ℕ) → IsOffsets o n → AreSpans (cut_of o 0 (size_of o - 1)) (cut_of o 1 (size_of o)) n
+spans-cut : (o : Column) (n : ℕ) → IsOffsets o n
+    → AreSpans (cut_of o 0 (size_of o - 1)) (cut_of o 1 (size_of o)) n
 spans-cut o n v =
     let some : 0 < size_of o = v.some in
-    let a : size_of (cut_of o 0 (size_of o - 1)) ≡ size_of o - 1 - 0 = size-cut o 0 (size_of o - 1) (omega arith) (omega arith) in
-    let b : size_of (cut_of o 1 (size_of o)) ≡ size_of o - 1 = size-cut o 1 (size_of o) (omega arith) (omega arith) in
+    let a : size_of (cut_of o 0 (size_of o - 1)) ≡ size_of o - 1 - 0 = size-cut o 0 (size_of o - 1)
+    (omega arith) (omega arith) in
+    let b : size_of (cut_of o 1 (size_of o)) ≡ size_of o - 1 = size-cut o 1 (size_of o)
+    (omega arith) (omega arith) in
     record {
       start_kind = v.kind;
       stop_kind = v.kind;
@@ -51,10 +80,13 @@ spans-cut o n v =
           rw (starts-at o i l, stops-at o i l) (v.ordered i l);
     }
 
-pub whole_offsets : (o a b : Column) (n : ℕ) (x z : Layout) → IsValid (offset_lists o x) → z ≡ x → n ≡ size_of o → a ≡ cut_of o 0 (n - 1) → b ≡ cut_of o 1 n → IsOpened (offset_lists o x) (Items a b z)
+pub whole_offsets : (o a b : Column) (n : ℕ) (x z : Layout) → IsValid (offset_lists o x) → z ≡ x
+    → n ≡ size_of o → a ≡ cut_of o 0 (n - 1) → b ≡ cut_of o 1 n
+    → IsOpened (offset_lists o x) (Items a b z)
 whole_offsets o a b n x z v e m f h =
     let some : 0 < size_of o = v.1.some in
-    let long : size_of (cut_of o 0 (size_of o - 1)) ≡ size_of o - 1 - 0 = size-cut o 0 (size_of o - 1) (omega arith) (omega arith) in
+    let long : size_of (cut_of o 0 (size_of o - 1)) ≡ size_of o - 1 - 0 = size-cut o 0
+    (size_of o - 1) (omega arith) (omega arith) in
     rw (e, f, h, m) (record {
       kind = refl;
       size = omega (arith, long);
@@ -67,7 +99,9 @@ whole_offsets o a b n x z v e m f h =
 
 -- ---- rows
 
-pub whole_rows : (names others : Option (List Name)) (n : ℕ) (xs ys : List Layout) → IsValid (rows names n (layouts_from xs)) → AreLong n xs → others ≡ names → ys ≡ xs → IsOpened (rows names n (layouts_from xs)) (Row others ys)
+pub whole_rows : (names others : Option (List Name)) (n : ℕ) (xs ys : List Layout)
+    → IsValid (rows names n (layouts_from xs)) → AreLong n xs → others ≡ names → ys ≡ xs
+    → IsOpened (rows names n (layouts_from xs)) (Row others ys)
 whole_rows names others n xs ys v h e f = rw (e, f) (record {
   kind = type-rows names n xs;
   size = refl;
@@ -76,12 +110,14 @@ whole_rows names others n xs ys v h e f = rw (e, f) (record {
   items = λ i k. item-rows names n xs i;
 })
 
-long_suc : (n : ℕ) (xs : List Layout) (i : ℕ) (y : Layout) → slice_get xs i ≡ Some y → AreLong n (take i xs) → len y ≡ n → AreLong n (take (suc i) xs)
+long_suc : (n : ℕ) (xs : List Layout) (i : ℕ) (y : Layout) → slice_get xs i ≡ Some y
+    → AreLong n (take i xs) → len y ≡ n → AreLong n (take (suc i) xs)
 long_suc n [] i y e h p = cc
 long_suc n (x ∷ xs) zero y e h p = let f : x ≡ y = cc in (rw f p, tt)
 long_suc n (x ∷ xs) (suc i) y e h p = (h.0, long_suc n xs i y e h.1 p)
 
-pub AreLong-push : (n : ℕ) (xs : List Layout) (i : ℕ) (y : Layout) → slice_get xs i ≡ Some y → AreLong n (take i xs) → len y ≡ n → AreLong n (take (i + 1) xs)
+pub AreLong-push : (n : ℕ) (xs : List Layout) (i : ℕ) (y : Layout) → slice_get xs i ≡ Some y
+    → AreLong n (take i xs) → len y ≡ n → AreLong n (take (i + 1) xs)
 AreLong-push n xs i y e h p = rw add-one (long_suc n xs i y e h p)
 
 pub ruleset whole = (whole_leaf, whole_rows, AreLong-push, within_at, rows_within)

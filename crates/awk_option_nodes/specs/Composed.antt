@@ -1,5 +1,6 @@
 -- Indexes of options that are composed with the options and indexes below them.
-use Rattle.awk_layout.specs.Layout.{Layout, empty, flat, regular, lists, offset_lists, rows, indexed}
+use Rattle.awk_layout.specs.Layout.{Layout, empty, flat, regular, lists, offset_lists, rows}
+use Rattle.awk_layout.specs.Layout.{indexed}
 use Rattle.awk_layout.specs.Layout.{optional, byte_masked, bit_masked, unmasked, union}
 use Rattle.awk_gather.specs.Peeled.{IsBare}
 

@@ -1,4 +1,5 @@
-//! Nodes of options: an index over a node, composed with what it is put over, and which of its items
+//! Nodes of options: an index over a node, composed with what it is put over, and which of its
+//! items
 //! are not null.
 #![tactic(auto)]
 

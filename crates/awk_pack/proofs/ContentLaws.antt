@@ -1,9 +1,12 @@
 -- What is left after the lanes of an opened column are put, by its kind.
-use Rattle.std.proofs.Common.{◌≡◌, ◌≤◌, ℕ, suc, false, ◌||◌, List, [], ◌∷◌, ◌++◌, length, map, Option, Some, None, refl, sym, ap, ap₂, ◌∙◌, subst, append_assoc, arith}
+use Rattle.std.proofs.Common.{◌≡◌, ◌≤◌, ℕ, suc, false, ◌||◌, List, [], ◌∷◌, ◌++◌, length, map}
+use Rattle.std.proofs.Common.{Option, Some, None, refl, sym, ap, ap₂, ◌∙◌, subst, append_assoc}
+use Rattle.std.proofs.Common.{arith}
 use Rattle.std.specs.Prelude.{nat_lt, filter}
 use Rattle.std.specs.List.{flat_map, list_any}
 use Rattle.std.proofs.lemmas.List.{append-nil}
-use Rattle.awk_types.specs.DataType.{Name, DataType, unknown, leaf, var, reg, rec, tup, opt, uni, types_from, row_type, nodes}
+use Rattle.awk_types.specs.DataType.{Name, DataType, unknown, leaf, var, reg, rec, tup, opt, uni}
+use Rattle.awk_types.specs.DataType.{types_from, row_type, nodes}
 use Rattle.awk_types.specs.Value.{Value}
 use Rattle.awk_types.specs.ItemLimit.{item_limit}
 use Rattle.awk_lanes.specs.Column.{Column}
@@ -23,7 +26,8 @@ use Rattle.awk_pack.specs.Columns.{placed, placed_fields, placed_alternatives, a
 use Rattle.awk_pack.specs.Lanes.{lane_of, node_lanes}
 use Rattle.awk_pack.specs.Canon.{is_too_long, lanes_of}
 use Rattle.awk_pack.specs.PackedForm.{all_nodes}
-use Rattle.awk_pack.specs.Packing.{is_regular, IsColumn, IsLeft, leaf_lane, IsJoined, are_too_large, placed_of}
+use Rattle.awk_pack.specs.Packing.{is_regular, IsColumn, IsLeft, leaf_lane, IsJoined, are_too_large}
+use Rattle.awk_pack.specs.Packing.{placed_of}
 use Rattle.awk_pack.proofs.FormLaws.{sum-nodes_each}
 use Rattle.awk_pack.proofs.LargeLaws.{few_items}
 use Rattle.awk_pack.proofs.LeafLanes.{leaf-lane}

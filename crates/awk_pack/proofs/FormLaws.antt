@@ -1,9 +1,12 @@
 -- The forms of types in order, and of the fields of a record.
-use Rattle.std.proofs.Common.{◌≡◌, ℕ, suc, ◌+◌, List, [], ◌∷◌, ◌++◌, sum, map, drop, slice_get, Option, Some, None, Result, Ok, Err, IfOk, refl, sym, ap, ap₂, ◌∙◌, append_assoc, arith}
+use Rattle.std.proofs.Common.{◌≡◌, ℕ, suc, ◌+◌, List, [], ◌∷◌, ◌++◌, sum, map, drop, slice_get}
+use Rattle.std.proofs.Common.{Option, Some, None, Result, Ok, Err, IfOk, refl, sym, ap, ap₂, ◌∙◌}
+use Rattle.std.proofs.Common.{append_assoc, arith}
 use Rattle.std.specs.Option.{option_map}
 use Rattle.std.proofs.lemmas.Grind.{common_steps}
 use Rattle.std.proofs.lemmas.Option.{slice_get-map}
-use Rattle.awk_types.specs.DataType.{Name, DataType, DataTypes, uni, types_from, row_type, nodes, nodes_each}
+use Rattle.awk_types.specs.DataType.{Name, DataType, DataTypes, uni, types_from, row_type, nodes}
+use Rattle.awk_types.specs.DataType.{nodes_each}
 use Rattle.awk_types.specs.View.{NamedType, names_of, typ_of, field_of}
 use Rattle.awk_types.specs.declared.typ.Field.{Field}
 use Rattle.awk_types.specs.declared.typ.Typ.TheViews.{out-Field}

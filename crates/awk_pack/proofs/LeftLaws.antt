@@ -1,5 +1,6 @@
 -- Going on from what is put to what is left.
-use Rattle.std.proofs.Common.{◌≡◌, ◌<◌, ◌+◌, ℕ, true, ◌||◌, List, ◌∷◌, ◌++◌, drop, Some, slice_get, subst, sym, ap, ◌∙◌, append_assoc, arith}
+use Rattle.std.proofs.Common.{◌≡◌, ◌<◌, ◌+◌, ℕ, true, ◌||◌, List, ◌∷◌, ◌++◌, drop, Some, slice_get}
+use Rattle.std.proofs.Common.{subst, sym, ap, ◌∙◌, append_assoc, arith}
 use Rattle.std.specs.List.{flat_map}
 use Rattle.std.proofs.lemmas.Grind.{flat_map-append}
 use Rattle.std.proofs.lemmas.List.Folds.{list_any-append}

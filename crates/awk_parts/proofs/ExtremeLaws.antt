@@ -1,5 +1,6 @@
 -- The extreme of the numbers of i64 that were read so far, and the first of its places.
-use Rattle.std.proofs.Common.{◌≡◌, ℕ, ◌+◌, ◌<◌, ◌≤◌, ◌⊎◌, inl, inr, List, length, map, get_or, arith}
+use Rattle.std.proofs.Common.{◌≡◌, ℕ, ◌+◌, ◌<◌, ◌≤◌, ◌⊎◌, inl, inr, List, length, map, get_or}
+use Rattle.std.proofs.Common.{arith}
 use Rattle.std.proofs.Common.{ap, sym, ◌∙◌, true, false}
 use Rattle.std.specs.Prelude.{ℤ, pos, Some}
 use Rattle.std.proofs.lemmas.Bool.{cases_lt}

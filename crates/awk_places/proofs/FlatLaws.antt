@@ -61,7 +61,8 @@ module _ {X Y : Type 0} where
       let e : a ≡ a + 0 = omega arith in
       ap₂ (λ ys zs. ys ++ zs) (ap f e ∙ h 0 (omega arith))
       (flat-by_place d f g xs (a + 1)
-      (λ i p. (let e : a + 1 + i ≡ a + suc i = omega arith in ap f e) ∙ h (suc i) (omega (arith, p))))
+      (λ i p. (let e : a + 1 + i ≡ a + suc i = omega arith in ap f e) ∙ h (suc i)
+      (omega (arith, p))))
 
   map-by_place : (d : X) (f : ℕ → Y) (g : X → Y) (xs : List X) (a : ℕ)
       → ((i : ℕ) → i < length xs → f (a + i) ≡ g (get_or xs i d))
@@ -71,7 +72,8 @@ module _ {X Y : Type 0} where
       let e : a ≡ a + 0 = omega arith in
       ap₂ (λ y ys. y ∷ ys) (ap f e ∙ h 0 (omega arith))
       (map-by_place d f g xs (a + 1)
-      (λ i p. (let e : a + 1 + i ≡ a + suc i = omega arith in ap f e) ∙ h (suc i) (omega (arith, p))))
+      (λ i p. (let e : a + 1 + i ≡ a + suc i = omega arith in ap f e) ∙ h (suc i)
+      (omega (arith, p))))
 
   -- the same of all places
   pub flat-in_place : (d : X) (f : ℕ → List Y) (g : X → List Y) (xs : List X)

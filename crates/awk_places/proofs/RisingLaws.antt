@@ -1,5 +1,6 @@
 -- Places that go up, made one by one without any that do not, and how many there are.
-use Rattle.std.specs.Prelude.{◌≡◌, refl, ℕ, zero, suc, ◌+◌, ◌-◌, ◌<◌, ◌≤◌, Bool, true, false, cond, nat_lt}
+use Rattle.std.specs.Prelude.{◌≡◌, refl, ℕ, zero, suc, ◌+◌, ◌-◌, ◌<◌, ◌≤◌, Bool, true, false, cond}
+use Rattle.std.specs.Prelude.{nat_lt}
 use Rattle.std.specs.Prelude.{◌&&◌, nat_le, if◌then◌else◌, List, [], ◌∷◌, ◌++◌, filter, length}
 use Rattle.std.specs.List.{range_with_len, flat_map}
 use Rattle.std.proofs.Common.{arith, ap, ap₂, sym, ◌∙◌, ltb-true}
@@ -73,7 +74,8 @@ module _ {X : Type 0} where
       → filter p (flat_map f ks) ≡ flat_map (λ k. filter p (f k)) ks
   filter-flat_map p f [] = refl
   filter-flat_map p f (k ∷ ks) =
-      filter-append p (f k) (flat_map f ks) ∙ ap (λ xs. filter p (f k) ++ xs) (filter-flat_map p f ks)
+      filter-append p (f k) (flat_map f ks) ∙ ap (λ xs. filter p (f k) ++ xs)
+      (filter-flat_map p f ks)
 
 filter-before_each : (p : List ℕ → Bool) (k : ℕ) (kss : List (List ℕ))
     → filter p (before_each k kss) ≡ before_each k (filter (λ ks. p (k ∷ ks)) kss)
@@ -82,7 +84,8 @@ filter-before_each p k (ks ∷ kss) = go (p (k ∷ ks)) (filter-before_each p k 
   where
     go : (b : Bool) → filter p (before_each k kss) ≡ before_each k (filter (λ ks. p (k ∷ ks)) kss)
         → cond b ((k ∷ ks) ∷ filter p (before_each k kss)) (filter p (before_each k kss))
-        ≡ before_each k (cond b (ks ∷ filter (λ ks. p (k ∷ ks)) kss) (filter (λ ks. p (k ∷ ks)) kss))
+        ≡ before_each k (cond b (ks ∷ filter (λ ks. p (k ∷ ks)) kss)
+        (filter (λ ks. p (k ∷ ks)) kss))
     go true h = ap (λ js. (k ∷ ks) ∷ js) h
     go false h = h
 
@@ -144,7 +147,8 @@ filter-rises rep (suc n) a m =
     (filter-none (λ ks. rises rep a (k ∷ ks))
     (λ ks. ap (λ b. b && rises rep (next_place rep k) ks) (too_early a k l)) (all_places n m)))
     0 m (omega arith)
-    ∙ ap (λ d. flat_map (λ k. before_each k (rising_from rep n (next_place rep k) m)) (range_with_len a d))
+    ∙ ap (λ d. flat_map (λ k. before_each k (rising_from rep n (next_place rep k) m))
+    (range_with_len a d))
     (let e : 0 + m - a ≡ m - a = omega arith in e)
 
 pub rising_places-from : (rep : Bool) (n m : ℕ) → rising_places rep n m ≡ rising_from rep n 0 m

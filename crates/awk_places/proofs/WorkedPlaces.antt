@@ -16,7 +16,8 @@ more_places_than_items = refl
 pairs_of_none : rising_places true 2 0 ≡ []
 pairs_of_none = refl
 
-one_of_each : place_lists (2 ∷ 2 ∷ []) ≡ (0 ∷ 0 ∷ []) ∷ (0 ∷ 1 ∷ []) ∷ (1 ∷ 0 ∷ []) ∷ (1 ∷ 1 ∷ []) ∷ []
+one_of_each : place_lists (2 ∷ 2 ∷ []) ≡ (0 ∷ 0 ∷ []) ∷ (0 ∷ 1 ∷ []) ∷ (1 ∷ 0 ∷ []) ∷ (1 ∷ 1 ∷ []) ∷
+    []
 one_of_each = refl
 
 one_of_none : place_lists (2 ∷ 0 ∷ []) ≡ []

@@ -218,6 +218,7 @@ choice_is n s p a b c fits =
     ∙ sym (fits i q).same
     ∙ sym (masked_get nulls.items (lane_values lane) i lv (subst (λ m. i < m) (sym size) q)
     ∙ ap₂ unless_null
-    (get_or-map-range_with_len (λ i. null_number (chosen_value s i)) 0 n i i (pos 0) q (omega arith))
+    (get_or-map-range_with_len (λ i. null_number (chosen_value s i)) 0 n i i (pos 0) q
+    (omega arith))
     (leaf_get lane i (subst (λ m. i < m) (sym wide) q) ∙ ap (leaf_value (kind_of p))
     (at-lane_of (kind_of p) n (λ i. number_of (chosen_value s i)) i q))))

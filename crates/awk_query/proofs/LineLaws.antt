@@ -1,5 +1,8 @@
 -- Lines, by their members.
-use Rattle.std.proofs.Common.{◌≡◌, ℕ, ◌&&◌, ◌==◌, Bool, true, false, cond, arith, List, [], ◌∷◌, length, String, string_bytes, BTreeMap, Global, Option, Some, None, option_map, option_and_then, Result, Ok, Err, codes, is_some, is_eq, nat_cmp, refl, ap, sym, ◌∙◌, subst}
+use Rattle.std.proofs.Common.{◌≡◌, ℕ, ◌&&◌, ◌==◌, Bool, true, false, cond, arith, List, [], ◌∷◌}
+use Rattle.std.proofs.Common.{length, String, string_bytes, BTreeMap, Global, Option, Some, None}
+use Rattle.std.proofs.Common.{option_map, option_and_then, Result, Ok, Err, codes, is_some, is_eq}
+use Rattle.std.proofs.Common.{nat_cmp, refl, ap, sym, ◌∙◌, subst}
 use Rattle.std.specs.Prelude.{◌≢◌, IfOk}
 use Rattle.std.specs.Option.{option_map_or}
 use Rattle.std.specs.List.{list_all}
@@ -11,7 +14,8 @@ use Rattle.std.specs.Str.{IsUtf8, is_utf8}
 use Rattle.std.proofs.lemmas.Str.{IsUtf8-from_is_utf8, is_utf8-from_IsUtf8}
 use Rattle.std.proofs.lemmas.Map.Text.{is_eq-slice_cmp}
 use Rattle.serde_json.specs.Read.{read}
-use Rattle.serde_json.specs.Data.{Data, null, boolean, number, string, array, object, Members, member}
+use Rattle.serde_json.specs.Data.{Data, null, boolean, number, string, array, object, Members}
+use Rattle.serde_json.specs.Data.{member}
 use Rattle.serde_json.specs.Find.{as_str, as_object, get_member}
 use Rattle.serde_json.specs.Events.{members_len}
 use Rattle.serde_json.specs.View.{view, members_view}

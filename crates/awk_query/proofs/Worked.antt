@@ -1,5 +1,6 @@
 -- Worked lines, computed from their bytes.
-use Rattle.std.proofs.Common.{◌≡◌, ℕ, pos, negsuc, true, false, List, [], ◌∷◌, map, codes, Result, Ok, Err, refl}
+use Rattle.std.proofs.Common.{◌≡◌, ℕ, pos, negsuc, true, false, List, [], ◌∷◌, map, codes, Result}
+use Rattle.std.proofs.Common.{Ok, Err, refl}
 use Rattle.serde_json.specs.Data.{string, number, null, array, item, no_items}
 use Rattle.serde_json.specs.Data.{no_members, member, unsigned}
 use Rattle.serde_json.specs.Read.{read}

@@ -1,6 +1,10 @@
 //! Ranges: the items from one place below another, over the same bytes.
 ghost use Rattle.std.specs.Prelude.{◌≡◌, ◌+◌, ◌-◌, ◌*◌, ◌<◌, ◌≤◌, ◌^◌, length, slice_range, IfOk};
-ghost use Rattle.awk_layout.specs.Layout.{Layout, layouts_from, weight, weights, height, flat, lists, offset_lists, indexed as indexed_places, optional as optional_places, byte_masked as masked_by_bytes, bit_masked as masked_by_bits, union as united};
+ghost use Rattle.awk_layout.specs.Layout.{Layout, layouts_from, weight, weights, height, flat};
+ghost use Rattle.awk_layout.specs.Layout.{lists, offset_lists, indexed as indexed_places};
+ghost use Rattle.awk_layout.specs.Layout.{optional as optional_places};
+ghost use Rattle.awk_layout.specs.Layout.{byte_masked as masked_by_bytes};
+ghost use Rattle.awk_layout.specs.Layout.{bit_masked as masked_by_bits, union as united};
 ghost use Rattle.awk_layout.specs.Typing.{array_type, array_items};
 ghost use Rattle.awk_layout.specs.Valid.{len, IsValid, IsByteMask, AllReach};
 ghost use Rattle.awk_lanes.specs.Places.{size_of};

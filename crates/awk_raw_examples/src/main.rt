@@ -1,4 +1,5 @@
-//! Runs a session of version 2: raw loads of every class and both orders of bytes are its input, and
+//! Runs a session of version 2: raw loads of every class and both orders of bytes are its input,
+//! and
 //! their answers its output.
 #![tactic(auto)]
 

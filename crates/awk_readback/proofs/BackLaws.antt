@@ -1,5 +1,6 @@
 -- What the calls of there and back tell, by the law of reading back.
-use Rattle.std.proofs.Common.{◌≡◌, Bool, true, false, cond, List, None, Some, Option, Ok, Err, Result, refl, ap, sym, subst, ◌∙◌}
+use Rattle.std.proofs.Common.{◌≡◌, Bool, true, false, cond, List, None, Some, Option, Ok, Err}
+use Rattle.std.proofs.Common.{Result, refl, ap, sym, subst, ◌∙◌}
 use Rattle.std.specs.Prelude.{IsErrAnd}
 use Rattle.std.specs.Option.{option_map}
 use Rattle.std.specs.List.{AllByRecursion}

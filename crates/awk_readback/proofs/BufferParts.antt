@@ -1,11 +1,14 @@
 -- Buffers under their keys: those of contents side by side, and the numbers of one buffer.
-use Rattle.std.proofs.Common.{◌≡◌, ◌<◌, ◌≤◌, ℕ, suc, ◌+◌, ◌*◌, false, List, [], ◌∷◌, ◌++◌, length, map, get_or, None, Ok, Option, refl, ap, ap₂, subst, ◌∙◌, arith, length-append, ℤ, pos}
+use Rattle.std.proofs.Common.{◌≡◌, ◌<◌, ◌≤◌, ℕ, suc, ◌+◌, ◌*◌, false, List, [], ◌∷◌, ◌++◌, length}
+use Rattle.std.proofs.Common.{map, get_or, None, Ok, Option, refl, ap, ap₂, subst, ◌∙◌, arith}
+use Rattle.std.proofs.Common.{length-append, ℤ, pos}
 use Rattle.std.specs.Prelude.{filter, nat_lt}
 use Rattle.std.specs.List.{flat_map, AllByRecursion}
 use Rattle.std.proofs.lemmas.Grind.{flat_map-append}
 use Rattle.std.proofs.lemmas.Bool.Decides.{nat_tests}
 use Rattle.awk_types.specs.Gives.{◌or◌}
-use Rattle.awk_types.specs.DataType.{Name, DataType, unknown, leaf, var, reg, rec, tup, opt, uni, DataTypes, no_types, type, nodes}
+use Rattle.awk_types.specs.DataType.{Name, DataType, unknown, leaf, var, reg, rec, tup, opt, uni}
+use Rattle.awk_types.specs.DataType.{DataTypes, no_types, type, nodes}
 use Rattle.awk_types.specs.Value.{Value}
 use Rattle.awk_types.specs.ItemLimit.{item_limit}
 use Rattle.awk_lanes.specs.Column.{Column}

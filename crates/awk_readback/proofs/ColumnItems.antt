@@ -1,6 +1,8 @@
 -- The items that lie behind offsets, an option's index, or tags and an index, over the columns of
 -- the contents.
-use Rattle.std.proofs.Common.{◌≡◌, ◌<◌, ℕ, zero, suc, ◌+◌, ◌-◌, ◌*◌, Bool, true, false, cond, List, [], ◌∷◌, ◌++◌, length, get_or, refl, ap, sym, subst, ◌∙◌, arith, length-append, append_assoc, ℤ, pos}
+use Rattle.std.proofs.Common.{◌≡◌, ◌<◌, ℕ, zero, suc, ◌+◌, ◌-◌, ◌*◌, Bool, true, false, cond, List}
+use Rattle.std.proofs.Common.{[], ◌∷◌, ◌++◌, length, get_or, refl, ap, sym, subst, ◌∙◌, arith}
+use Rattle.std.proofs.Common.{length-append, append_assoc, ℤ, pos}
 use Rattle.std.specs.Prelude.{filter, ◌==◌}
 use Rattle.std.specs.List.{AllByRecursion}
 use Rattle.std.proofs.lemmas.Grind.{flat_map-append}
@@ -9,7 +11,9 @@ use Rattle.awk_lanes.specs.Numbers.{nat_of}
 use Rattle.awk_lanes.specs.Places.{option_place}
 use Rattle.awk_layout.specs.Item.{run, at_option}
 use Rattle.awk_valid.specs.Denote.{between}
-use Rattle.awk_columns.specs.Columns.{list_items, joined_items, is_present, given_to, alternative_values, offsets, option_index, tags, one_more, union_index}
+use Rattle.awk_columns.specs.Columns.{list_items, joined_items, is_present, given_to}
+use Rattle.awk_columns.specs.Columns.{alternative_values, offsets, option_index, tags, one_more}
+use Rattle.awk_columns.specs.Columns.{union_index}
 use Rattle.awk_readback.proofs.IndexLanes.{offsets-head, IsAlternative}
 use Rattle.awk_readback.proofs.ValueLists.{Reads, get_or-seam, snoc, length-snoc, seam-below}
 

@@ -1,12 +1,15 @@
 -- The column of each part of a type has values of that part.
-use Rattle.std.proofs.Common.{◌≡◌, ◌<◌, ◌≤◌, ℕ, zero, suc, ◌-◌, ◌*◌, Bool, true, false, cond, List, [], ◌∷◌, length, map, drop, get_or, refl, ap, arith, length-append}
+use Rattle.std.proofs.Common.{◌≡◌, ◌<◌, ◌≤◌, ℕ, zero, suc, ◌-◌, ◌*◌, Bool, true, false, cond, List}
+use Rattle.std.proofs.Common.{[], ◌∷◌, length, map, drop, get_or, refl, ap, arith, length-append}
 use Rattle.std.specs.Prelude.{filter, ◌==◌}
 use Rattle.std.specs.List.{AllByRecursion}
-use Rattle.awk_types.specs.DataType.{DataType, unknown, var, reg, rec, tup, opt, uni, DataTypes, no_types, type, type_list}
+use Rattle.awk_types.specs.DataType.{DataType, unknown, var, reg, rec, tup, opt, uni, DataTypes}
+use Rattle.awk_types.specs.DataType.{no_types, type, type_list}
 use Rattle.awk_types.specs.Value.{Value, null, list, row, alt, values_from}
 use Rattle.awk_types.specs.Has.{Has, HasRow, HasAlternative}
 use Rattle.awk_types.proofs.Trees.{values_from-list}
-use Rattle.awk_columns.specs.Columns.{list_items, joined_items, row_parts, part_at, is_present, tag_of, given_to, alternative_values}
+use Rattle.awk_columns.specs.Columns.{list_items, joined_items, row_parts, part_at, is_present}
+use Rattle.awk_columns.specs.Columns.{tag_of, given_to, alternative_values}
 use Rattle.awk_readback.proofs.IndexLanes.{IsAlternative}
 use Rattle.awk_readback.proofs.ValueLists.{map-all, all-append}
 

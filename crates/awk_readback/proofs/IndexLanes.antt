@@ -1,5 +1,7 @@
 -- The lanes of a packed node: how long they are, what they hold, and that they keep their rules.
-use Rattle.std.proofs.Common.{◌≡◌, ◌<◌, ◌≤◌, ℕ, zero, suc, ◌+◌, Bool, true, false, cond, List, [], ◌∷◌, length, get_or, Some, None, refl, ap, ◌∙◌, arith, length-append, pos, negsuc}
+use Rattle.std.proofs.Common.{◌≡◌, ◌<◌, ◌≤◌, ℕ, zero, suc, ◌+◌, Bool, true, false, cond, List, []}
+use Rattle.std.proofs.Common.{◌∷◌, length, get_or, Some, None, refl, ap, ◌∙◌, arith, length-append}
+use Rattle.std.proofs.Common.{pos, negsuc}
 use Rattle.std.specs.Prelude.{filter, int_lt, int_le, ◌==◌, ◌||◌}
 use Rattle.std.specs.List.{AllByRecursion}
 use Rattle.std.specs.Ordering.{int_eq}
@@ -9,7 +11,8 @@ use Rattle.awk_lanes.specs.declared.kind.Kind.TheVariants.{I8, I64}
 use Rattle.awk_lanes.specs.declared.kind.Num.TheVariants.{Int}
 use Rattle.awk_valid.specs.Broken.{list_rule, tag_rule}
 use Rattle.awk_valid.specs.declared.fault.Rule.TheVariants.{Order, Start, Tag, Negative}
-use Rattle.awk_columns.specs.Columns.{list_items, joined_items, is_present, tag_of, offsets, option_index, tags, one_more, union_index}
+use Rattle.awk_columns.specs.Columns.{list_items, joined_items, is_present, tag_of, offsets}
+use Rattle.awk_columns.specs.Columns.{option_index, tags, one_more, union_index}
 use Rattle.awk_readback.proofs.LaneBytes.{IsHeld}
 
 -- ---- numbers of int64 and int8

@@ -1,5 +1,7 @@
 -- How many items the lanes of a packed node need of its contents: those that stand there.
-use Rattle.std.proofs.Common.{◌≡◌, ◌<◌, ℕ, suc, ◌+◌, Bool, true, false, cond, List, [], ◌∷◌, ◌++◌, length, get_or, map, max, refl, sym, ap, ◌∙◌, arith, length-append, pos}
+use Rattle.std.proofs.Common.{◌≡◌, ◌<◌, ℕ, suc, ◌+◌, Bool, true, false, cond, List, [], ◌∷◌, ◌++◌}
+use Rattle.std.proofs.Common.{length, get_or, map, max, refl, sym, ap, ◌∙◌, arith, length-append}
+use Rattle.std.proofs.Common.{pos}
 use Rattle.std.specs.Prelude.{filter, ◌==◌, if◌then◌else◌}
 use Rattle.std.specs.List.{range_with_len, AllByRecursion}
 use Rattle.std.specs.Ordering.{int_eq}
@@ -8,7 +10,8 @@ use Rattle.std.proofs.lemmas.Bool.Decides.{Decides-int_eq, nat_tests}
 use Rattle.awk_types.specs.DataType.{greatest}
 use Rattle.awk_types.specs.Value.{Value, null, alt}
 use Rattle.awk_valid.specs.Needs.{greatest_below, reach, behind, behind_at}
-use Rattle.awk_columns.specs.Columns.{list_items, joined_items, is_present, alternative_values, offsets, option_index, tags, one_more, union_index}
+use Rattle.awk_columns.specs.Columns.{list_items, joined_items, is_present, alternative_values}
+use Rattle.awk_columns.specs.Columns.{offsets, option_index, tags, one_more, union_index}
 use Rattle.awk_readback.proofs.IndexLanes.{offsets-head, IsAlternative}
 
 -- ---- lists

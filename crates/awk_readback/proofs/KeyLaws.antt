@@ -1,13 +1,15 @@
 -- No two buffers of a packed array have the same key: keys are told apart by the number of their
 -- node, or at one node by what the buffer is for.
-use Rattle.std.proofs.Common.{◌≡◌, ◌<◌, ◌≤◌, ℕ, suc, ◌+◌, ◌^◌, false, ◌||◌, List, [], ◌∷◌, ◌++◌, sum, Some, refl, sym, ap₂, ◌∙◌, subst, arith, append_assoc, codes}
+use Rattle.std.proofs.Common.{◌≡◌, ◌<◌, ◌≤◌, ℕ, suc, ◌+◌, ◌^◌, false, ◌||◌, List, [], ◌∷◌, ◌++◌}
+use Rattle.std.proofs.Common.{sum, Some, refl, sym, ap₂, ◌∙◌, subst, arith, append_assoc, codes}
 use Rattle.std.specs.Prelude.{decimal}
 use Rattle.std.specs.List.{AllByRecursion}
 use Rattle.std.proofs.lemmas.Fmt.{decimal_by_steps, decimal_injective}
 use Rattle.std.proofs.lemmas.List.{append_cancel_left}
 use Rattle.std.proofs.lemmas.List.Folds.{list_any-append}
 use Rattle.std.proofs.lemmas.Grind.{common_steps}
-use Rattle.awk_types.specs.DataType.{Name, DataType, unknown, leaf, var, reg, rec, tup, opt, uni, DataTypes, no_types, type, nodes, nodes_each}
+use Rattle.awk_types.specs.DataType.{Name, DataType, unknown, leaf, var, reg, rec, tup, opt, uni}
+use Rattle.awk_types.specs.DataType.{DataTypes, no_types, type, nodes, nodes_each}
 use Rattle.awk_types.specs.Names.{AreDistinct, is_among, same_name}
 use Rattle.awk_types.proofs.NameLaws.{same_name_apart}
 use Rattle.awk_pack.specs.PackedForm.{packed_form, packed_forms, node_key}

@@ -1,5 +1,6 @@
 -- The lanes of a packed array lie in bytes, so that each buffer has a text, the base64 of these.
-use Rattle.std.proofs.Common.{◌≡◌, ◌<◌, ◌%◌, ◌/◌, ◌^◌, ℕ, zero, suc, List, [], ◌∷◌, ◌++◌, map, true, false, cond, Some, None, refl, ap, ◌∙◌, subst, arith, ℤ}
+use Rattle.std.proofs.Common.{◌≡◌, ◌<◌, ◌%◌, ◌/◌, ◌^◌, ℕ, zero, suc, List, [], ◌∷◌, ◌++◌, map, true}
+use Rattle.std.proofs.Common.{false, cond, Some, None, refl, ap, ◌∙◌, subst, arith, ℤ}
 use Rattle.std.specs.Prelude.{filter}
 use Rattle.std.specs.Int.{byte_at, byte_len, bytes_low_first, cast_unsigned, w8, w16, w32, w64}
 use Rattle.std.specs.List.{flat_map, AllByRecursion}
@@ -9,7 +10,8 @@ use Rattle.std.proofs.lemmas.Bool.{or_parts}
 use Rattle.std.proofs.lemmas.Grind.{flat_map-append}
 use Rattle.base64.specs.Engines.{standard}
 use Rattle.base64.specs.GeneralPurpose.{encode_of, IsBytes}
-use Rattle.awk_types.specs.DataType.{Name, DataType, unknown, leaf, var, reg, rec, tup, opt, uni, DataTypes, no_types, type}
+use Rattle.awk_types.specs.DataType.{Name, DataType, unknown, leaf, var, reg, rec, tup, opt, uni}
+use Rattle.awk_types.specs.DataType.{DataTypes, no_types, type}
 use Rattle.awk_types.specs.Has.{Has}
 use Rattle.awk_types.specs.Names.{AreDistinct, is_among, same_name}
 use Rattle.awk_types.specs.Value.{Value}
@@ -17,12 +19,14 @@ use Rattle.awk_types.proofs.NameLaws.{same_name-refl}
 use Rattle.awk_lanes.specs.Column.{Column}
 use Rattle.awk_lanes.specs.Numbers.{bytes_of, nat_of}
 use Rattle.awk_lanes.specs.declared.kind.Kind.{Kind}
-use Rattle.awk_lanes.specs.declared.kind.Kind.TheVariants.{Bool as Truths, I8, I16, I32, I64, U8, U16, U32, U64}
+use Rattle.awk_lanes.specs.declared.kind.Kind.TheVariants.{Bool as Truths, I8, I16, I32, I64, U8}
+use Rattle.awk_lanes.specs.declared.kind.Kind.TheVariants.{U16, U32, U64}
 use Rattle.awk_lanes.specs.declared.kind.Num.TheVariants.{Nat, Truth}
 use Rattle.awk_layout.specs.Kinds.{kind_of}
 use Rattle.awk_store.specs.Buffers.{ByKey, only_texts, text_or_raw}
 use Rattle.awk_store.proofs.ByKeyLaws.{decoding-encode_of}
-use Rattle.awk_columns.specs.Columns.{joined_items, part_at, is_present, alternative_values, offsets}
+use Rattle.awk_columns.specs.Columns.{joined_items, part_at, is_present, alternative_values}
+use Rattle.awk_columns.specs.Columns.{offsets}
 use Rattle.awk_columns.specs.Columns.{option_index, tags, union_index}
 use Rattle.awk_pack.specs.Columns.{placed, placed_fields, placed_alternatives}
 use Rattle.awk_pack.specs.Lanes.{lanes_at, number_of}
@@ -32,7 +36,10 @@ use Rattle.awk_valid.specs.Container.{container_of}
 use Rattle.awk_readback.specs.ReadBack.{HasBuffers, text_buffer}
 use Rattle.awk_readback.proofs.LaneBytes.{IsHeld}
 use Rattle.awk_readback.proofs.LeafReads.{leaves-held}
-use Rattle.awk_readback.proofs.ColumnTypes.{vars-have, regs-have, present-have, FieldsFrom, first-have, others-have, tups-have, recs-have, AlternativeFrom, unis-have, alternative-have, later-have}
+use Rattle.awk_readback.proofs.ColumnTypes.{vars-have, regs-have, present-have, FieldsFrom}
+use Rattle.awk_readback.proofs.ColumnTypes.{first-have, others-have, tups-have, recs-have}
+use Rattle.awk_readback.proofs.ColumnTypes.{AlternativeFrom, unis-have, alternative-have}
+use Rattle.awk_readback.proofs.ColumnTypes.{later-have}
 
 -- ---- bytes
 

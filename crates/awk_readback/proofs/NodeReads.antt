@@ -1,5 +1,6 @@
 -- A node with contents that are read is read: nothing breaks, and its items are its values.
-use Rattle.std.proofs.Common.{◌≡◌, ◌<◌, ◌≤◌, ℕ, suc, ◌+◌, ◌*◌, List, length, get_or, None, Option, refl, ap, ap₂, sym, ◌∙◌, arith, add-one, codes, pos}
+use Rattle.std.proofs.Common.{◌≡◌, ◌<◌, ◌≤◌, ℕ, suc, ◌+◌, ◌*◌, List, length, get_or, None, Option}
+use Rattle.std.proofs.Common.{refl, ap, ap₂, sym, ◌∙◌, arith, add-one, codes, pos}
 use Rattle.std.specs.Prelude.{filter}
 use Rattle.std.specs.List.{AllByRecursion}
 use Rattle.awk_types.specs.DataType.{Name, DataType, DataTypes, var, reg}
@@ -12,17 +13,23 @@ use Rattle.awk_form.specs.FormTree as form
 use Rattle.awk_form.specs.FormTree.{FormTree, FormTrees}
 use Rattle.awk_form.specs.Lawful.{count}
 use Rattle.awk_form.specs.declared.kind.IndexKind.TheVariants.{I64}
-use Rattle.awk_columns.specs.Columns.{list_items, joined_items, is_present, tag_of, alternative_values, offsets, option_index, tags, union_index, row_parts}
+use Rattle.awk_columns.specs.Columns.{list_items, joined_items, is_present, tag_of}
+use Rattle.awk_columns.specs.Columns.{alternative_values, offsets, option_index, tags, union_index}
+use Rattle.awk_columns.specs.Columns.{row_parts}
 use Rattle.awk_valid.specs.Container.{Container, index_num, int8_num}
 use Rattle.awk_valid.specs.Needs.{reach, behind, behind_at, content_length}
 use Rattle.awk_valid.specs.Broken.{size_break, list_rule, tag_rule, rule_break, all_broken_from}
 use Rattle.awk_valid.specs.Denote.{between, item, items_across, item_of}
 use Rattle.awk_valid.proofs.SearchLaws.{rule_break-clear}
-use Rattle.awk_readback.proofs.IndexLanes.{IsAlternative, length-offsets, offsets-held, offsets-rule, length-option_index, option_index-held, length-tags, tags-held, length-union_index, union_index-held, union_index-rule}
+use Rattle.awk_readback.proofs.IndexLanes.{IsAlternative, length-offsets, offsets-held}
+use Rattle.awk_readback.proofs.IndexLanes.{offsets-rule, length-option_index, option_index-held}
+use Rattle.awk_readback.proofs.IndexLanes.{length-tags, tags-held, length-union_index}
+use Rattle.awk_readback.proofs.IndexLanes.{union_index-held, union_index-rule}
 use Rattle.awk_readback.proofs.IndexNeeds.{offsets-needs, option_index-needs, union_index-needs}
 use Rattle.awk_readback.proofs.ValueLists.{Reads, all-at, map-all}
 use Rattle.awk_readback.proofs.ColumnTypes.{IsRowOf, var-list, reg-list, regs-length}
-use Rattle.awk_readback.proofs.ColumnItems.{lists-read, blocks-read, options-read, alternative_by, unions-read}
+use Rattle.awk_readback.proofs.ColumnItems.{lists-read, blocks-read, options-read, alternative_by}
+use Rattle.awk_readback.proofs.ColumnItems.{unions-read}
 use Rattle.awk_readback.proofs.BufferParts.{HasLane, num-read, bytes-well, size-well, neither}
 use Rattle.awk_readback.proofs.LeafReads.{IsUnbroken, IsRead, unbroken-at}
 

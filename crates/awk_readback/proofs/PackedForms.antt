@@ -1,6 +1,7 @@
 -- The form of a packed array has its type.
 use Rattle.std.proofs.Common.{◌≡◌, ℕ, suc, ◌+◌, refl, ap, ap₂}
-use Rattle.awk_types.specs.DataType.{DataType, unknown, leaf, var, reg, rec, tup, opt, uni, DataTypes, no_types, type, nodes}
+use Rattle.awk_types.specs.DataType.{DataType, unknown, leaf, var, reg, rec, tup, opt, uni}
+use Rattle.awk_types.specs.DataType.{DataTypes, no_types, type, nodes}
 use Rattle.awk_form.specs.FormType.{type_of, types_of}
 use Rattle.awk_pack.specs.PackedForm.{packed_form, packed_forms}
 

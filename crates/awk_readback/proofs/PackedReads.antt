@@ -1,9 +1,11 @@
 -- The form of a packed array is read as the values, in every container that has its buffers.
-use Rattle.std.proofs.Common.{◌≡◌, ◌<◌, ◌≤◌, ℕ, zero, suc, ◌+◌, List, [], ◌∷◌, ◌++◌, length, map, drop, get_or, Some, None, refl, ap, ap₂, sym, subst, ◌∙◌, arith}
+use Rattle.std.proofs.Common.{◌≡◌, ◌<◌, ◌≤◌, ℕ, zero, suc, ◌+◌, List, [], ◌∷◌, ◌++◌, length, map}
+use Rattle.std.proofs.Common.{drop, get_or, Some, None, refl, ap, ap₂, sym, subst, ◌∙◌, arith}
 use Rattle.std.specs.Prelude.{filter}
 use Rattle.std.specs.List.{AllByRecursion}
 use Rattle.std.proofs.lemmas.List.{length-map, get_or-map}
-use Rattle.awk_types.specs.DataType.{DataType, unknown, leaf, var, reg, rec, tup, opt, uni, DataTypes, no_types, type, greatest, nodes}
+use Rattle.awk_types.specs.DataType.{DataType, unknown, leaf, var, reg, rec, tup, opt, uni}
+use Rattle.awk_types.specs.DataType.{DataTypes, no_types, type, greatest, nodes}
 use Rattle.awk_types.specs.Value.{Value, null, value, values_from}
 use Rattle.awk_types.specs.Has.{Has}
 use Rattle.awk_types.specs.Limit.{width, widths}
@@ -11,7 +13,8 @@ use Rattle.awk_form.specs.FormTree as form
 use Rattle.awk_form.specs.FormTree.{FormTrees}
 use Rattle.awk_form.specs.Lawful.{count}
 use Rattle.awk_form.specs.declared.kind.IndexKind.TheVariants.{I64}
-use Rattle.awk_columns.specs.Columns.{joined_items, row_parts, part_at, is_present, tag_of, alternative_values}
+use Rattle.awk_columns.specs.Columns.{joined_items, row_parts, part_at, is_present, tag_of}
+use Rattle.awk_columns.specs.Columns.{alternative_values}
 use Rattle.awk_pack.specs.Columns.{Placed, placed, placed_fields, placed_alternatives}
 use Rattle.awk_pack.specs.PackedForm.{packed_form, packed_forms, node_key}
 use Rattle.awk_pack.proofs.LawfulForms.{count-packed_forms, length-widths}
@@ -19,10 +22,16 @@ use Rattle.awk_valid.specs.Container.{Container}
 use Rattle.awk_valid.specs.Needs.{content_length}
 use Rattle.awk_valid.specs.Denote.{items_across, item_of}
 use Rattle.awk_readback.proofs.ValueLists.{Reads, all-at, map-all}
-use Rattle.awk_readback.proofs.ColumnTypes.{vars-have, regs-have, present-have, FieldsFrom, field-at, no-field, first-have, others-have, IsRowOf, tup-row, rec-row, tups-have, recs-have, AlternativeFrom, unis-have, unis-alternatives, uni-tag, alternative-have, later-have, none-left}
-use Rattle.awk_readback.proofs.BufferParts.{HasNodes, HasFields, HasAlternatives, has-fields, has-alternatives, neither}
+use Rattle.awk_readback.proofs.ColumnTypes.{vars-have, regs-have, present-have, FieldsFrom}
+use Rattle.awk_readback.proofs.ColumnTypes.{field-at, no-field, first-have, others-have, IsRowOf}
+use Rattle.awk_readback.proofs.ColumnTypes.{tup-row, rec-row, tups-have, recs-have, AlternativeFrom}
+use Rattle.awk_readback.proofs.ColumnTypes.{unis-have, unis-alternatives, uni-tag, alternative-have}
+use Rattle.awk_readback.proofs.ColumnTypes.{later-have, none-left}
+use Rattle.awk_readback.proofs.BufferParts.{HasNodes, HasFields, HasAlternatives, has-fields}
+use Rattle.awk_readback.proofs.BufferParts.{has-alternatives, neither}
 use Rattle.awk_readback.proofs.LeafReads.{IsRead, unbroken-at, empty-node, leaves-node}
-use Rattle.awk_readback.proofs.NodeReads.{AreUnbroken, lists-node, regulars-node, options-node, rows-node, unions-needs, unions-node}
+use Rattle.awk_readback.proofs.NodeReads.{AreUnbroken, lists-node, regulars-node, options-node}
+use Rattle.awk_readback.proofs.NodeReads.{rows-node, unions-needs, unions-node}
 
 -- ---- columns within the limit
 

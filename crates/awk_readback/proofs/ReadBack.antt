@@ -1,5 +1,6 @@
 -- What is packed is read back.
-use Rattle.std.proofs.Common.{◌≡◌, ◌≤◌, Bool, true, false, cond, List, [], ◌∷◌, length, get_or, Some, None, Ok, Err, refl, ap, ap₂, sym, subst, ◌∙◌, arith}
+use Rattle.std.proofs.Common.{◌≡◌, ◌≤◌, Bool, true, false, cond, List, [], ◌∷◌, length, get_or}
+use Rattle.std.proofs.Common.{Some, None, Ok, Err, refl, ap, ap₂, sym, subst, ◌∙◌, arith}
 use Rattle.std.specs.Prelude.{nat_lt, ◌||◌}
 use Rattle.std.specs.List.{list_any, AllByRecursion}
 use Rattle.std.specs.Option.{option_map}
@@ -25,7 +26,8 @@ use Rattle.awk_valid.specs.Container.{Container}
 use Rattle.awk_valid.specs.Broken.{broken}
 use Rattle.awk_valid.specs.Denote.{item, denote}
 use Rattle.awk_valid.specs.Loading.{limited, refusal}
-use Rattle.awk_readback.specs.ReadBack.{HasBuffers, IsReadBack, PackedReadsBack, PackedIsLawful, IsHeld, PackedIsHeld}
+use Rattle.awk_readback.specs.ReadBack.{HasBuffers, IsReadBack, PackedReadsBack, PackedIsLawful}
+use Rattle.awk_readback.specs.ReadBack.{IsHeld, PackedIsHeld}
 use Rattle.awk_readback.proofs.ValueLists.{Reads, all-at, reads-all}
 use Rattle.awk_readback.proofs.BufferParts.{as-many, neither}
 use Rattle.awk_readback.proofs.HeldLaws.{distinct-held}

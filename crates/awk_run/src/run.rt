@@ -1,5 +1,7 @@
 //! A session, answered unit by unit.
-ghost use Rattle.std.specs.Prelude.{◌||◌, ◌++◌, List, ℕ, Some, Err, ◌≡◌, ◌≢◌, ◌↔◌, ◌⊎◌, ◌≤◌, ◌+◌, ◌∷◌, [], IsTrue, IsFalse, IfErr, OnErr, OnOk, length, if◌then◌else◌};
+ghost use Rattle.std.specs.Prelude.{◌||◌, ◌++◌, List, ℕ, Some, Err, ◌≡◌, ◌≢◌, ◌↔◌, ◌⊎◌, ◌≤◌, ◌+◌};
+ghost use Rattle.std.specs.Prelude.{◌∷◌, [], IsTrue, IsFalse, IfErr, OnErr, OnOk, length};
+ghost use Rattle.std.specs.Prelude.{if◌then◌else◌};
 ghost use Rattle.awk_edge.specs.Causes.{Rose};
 ghost use Rattle.awk_made.specs.Session.{session_of};
 ghost use Rattle.awk_session.specs.Cost.{are_plain, cost, line_in};

@@ -1,5 +1,6 @@
 //! The units of a session: a line, and the raw bytes that it asks for.
-ghost use Rattle.std.specs.Prelude.{◌≡◌, ◌⊎◌, ◌≤◌, ◌<◌, Ok, None, Err, IsTrue, IsFalse, IfErr, OnOk, Result};
+ghost use Rattle.std.specs.Prelude.{◌≡◌, ◌⊎◌, ◌≤◌, ◌<◌, Ok, None, Err, IsTrue, IsFalse, IfErr};
+ghost use Rattle.std.specs.Prelude.{OnOk, Result};
 ghost use Rattle.awk_edge.specs.Causes.{Rose};
 ghost use Rattle.awk_framing.specs.Framing.{session_framing, raw_asked};
 ghost use Rattle.awk_units.specs.Taking.{NextUnit, NeedsAtMost};

@@ -7,7 +7,8 @@ use Rattle.std.proofs.lemmas.List.{append-nil, length-append}
 use Rattle.std.proofs.lemmas.List.Folds.{flat_map-map}
 use Rattle.std.proofs.lemmas.List.FromFn.{map-range_with_len_more}
 
-pub map-map : {X Y Z : Type 0} (f : Y → Z) (g : X → Y) (xs : List X) → map f (map g xs) ≡ map (λ x. f (g x)) xs
+pub map-map : {X Y Z : Type 0} (f : Y → Z) (g : X → Y) (xs : List X)
+    → map f (map g xs) ≡ map (λ x. f (g x)) xs
 map-map f g [] = refl
 map-map f g (x ∷ xs) = ap (λ ys. f (g x) ∷ ys) (map-map f g xs)
 
@@ -23,18 +24,25 @@ each_of-more f i =
     ∙ flat_map-append f (map (λ k. k) (range_with_len 0 i)) (i ∷ [])
     ∙ ap₂ (λ ks ls. ks ++ ls) (flat_map-map f (λ k. k) (range_with_len 0 i)) (append-nil (f i))
 
-pub length-each_of : {Y : Type 0} (f : ℕ → List Y) (i : ℕ) → length (each_of f (i + 1)) ≡ length (each_of f i) + length (f i)
+pub length-each_of : {Y : Type 0} (f : ℕ → List Y) (i : ℕ)
+    → length (each_of f (i + 1)) ≡ length (each_of f i) + length (f i)
 length-each_of f i = ap length (each_of-more f i) ∙ length-append (each_of f i) (f i)
 
 longer : {Y : Type 0} (f : ℕ → List Y) (i k : ℕ) → length (each_of f i) ≤ length (each_of f (i + k))
-longer f i zero = let e : i ≡ i + 0 = omega arith in subst (λ m. length (each_of f i) ≤ length (each_of f m)) e (omega arith)
+longer f i zero =
+    let e : i ≡ i + 0 = omega arith in subst (λ m. length (each_of f i) ≤ length (each_of f m)) e
+    (omega arith)
 longer f i (suc k) =
     let e : i + k + 1 ≡ i + suc k = omega arith in
-    subst (λ m. length (each_of f i) ≤ length (each_of f m)) e (omega (arith, longer f i k, length-each_of f (i + k)))
+    subst (λ m. length (each_of f i) ≤ length (each_of f m)) e
+    (omega (arith, longer f i k, length-each_of f (i + k)))
 
 -- there is room for what one place gives
-pub each_of-room : {Y : Type 0} (f : ℕ → List Y) (i n : ℕ) → i < n → length (each_of f i) + length (f i) ≤ length (each_of f n)
+pub each_of-room : {Y : Type 0} (f : ℕ → List Y) (i n : ℕ) → i < n
+    → length (each_of f i) + length (f i) ≤ length (each_of f n)
 each_of-room f i n h =
     let e : i + 1 + (n - (i + 1)) ≡ n = omega arith in
-    let l : length (each_of f (i + 1)) ≤ length (each_of f n) = subst (λ m. length (each_of f (i + 1)) ≤ length (each_of f m)) e (longer f (i + 1) (n - (i + 1))) in
+    let l : length (each_of f (i + 1)) ≤ length (each_of f n) = subst
+    (λ m. length (each_of f (i + 1)) ≤ length (each_of f m)) e
+    (longer f (i + 1) (n - (i + 1))) in
     omega (arith, length-each_of f i, l)

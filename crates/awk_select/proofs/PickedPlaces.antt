@@ -36,16 +36,19 @@ use Rattle.awk_select.specs.Picks.{is_index, take_place, take_places, is_outside
 use Rattle.awk_select.specs.Places.{place_in}
 use Rattle.awk_select.proofs.Lists.{map-map, each_of, each_of-more, each_of-room, length-each_of}
 
-map-same : {X Y : Type 0} (f g : X → Y) → ((x : X) → f x ≡ g x) → (xs : List X) → map f xs ≡ map g xs
+map-same : {X Y : Type 0} (f g : X → Y) → ((x : X) → f x ≡ g x) → (xs : List X)
+    → map f xs ≡ map g xs
 map-same f g h [] = refl
 map-same f g h (x ∷ xs) = ap₂ (λ y ys. y ∷ ys) (h x) (map-same f g h xs)
 
 -- the items of a lane of places, and null at each -1
-number-item : (f : ℕ → Value) (o : Option ℕ) → at_option (option_place (place_number o)) f ≡ at_option o f
+number-item : (f : ℕ → Value) (o : Option ℕ)
+    → at_option (option_place (place_number o)) f ≡ at_option o f
 number-item f None = refl
 number-item f (Some k) = refl
 
-pub pick-picked : (vs : List Value) (os : List (Option ℕ)) (p : Column) → p ≡ places_lane os → pick vs p.items ≡ picked vs os
+pub pick-picked : (vs : List Value) (os : List (Option ℕ)) (p : Column) → p ≡ places_lane os
+    → pick vs p.items ≡ picked vs os
 pick-picked vs os p e =
     ap (λ (c : Column). pick vs c.items) e
     ∙ map-map (λ z. at_option (option_place z) (λ k. get_or vs k null)) place_number os
@@ -58,22 +61,26 @@ abbrev pub IsThere : ℕ → Option ℕ → Type 0
 IsThere n None = ⊥
 IsThere n (Some k) = k < n
 
-below-number : (n : ℕ) (os : List (Option ℕ)) (i : ℕ) → AllByRecursion (IsBelow n) os → i < length os → place_number (get_or os i None) <ℤ pos n
+below-number : (n : ℕ) (os : List (Option ℕ)) (i : ℕ) → AllByRecursion (IsBelow n) os
+    → i < length os → place_number (get_or os i None) <ℤ pos n
 below-number n [] i h l = absurd (omega arith)
 below-number n (None ∷ os) zero h l = omega (arith, ints)
 below-number n (Some k ∷ os) zero h l = omega (arith, ints, h.0)
 below-number n (o ∷ os) (suc i) h l = below-number n os i h.1 (omega arith)
 
-there-number : (n : ℕ) (os : List (Option ℕ)) (i : ℕ) → AllByRecursion (IsThere n) os → i < length os → (k : ℕ) × (place_number (get_or os i None) ≡ pos k) × (k < n)
+there-number : (n : ℕ) (os : List (Option ℕ)) (i : ℕ) → AllByRecursion (IsThere n) os
+    → i < length os → (k : ℕ) × (place_number (get_or os i None) ≡ pos k) × (k < n)
 there-number n [] i h l = absurd (omega arith)
 there-number n (None ∷ os) zero h l = absurd h.0
 there-number n (Some k ∷ os) zero h l = (k, refl, h.0)
 there-number n (o ∷ os) (suc i) h l = there-number n os i h.1 (omega arith)
 
-at-places : (os : List (Option ℕ)) (i : ℕ) → i < length os → at (places_lane os) i ≡ place_number (get_or os i None)
+at-places : (os : List (Option ℕ)) (i : ℕ) → i < length os
+    → at (places_lane os) i ≡ place_number (get_or os i None)
 at-places os i l = get_or-map place_number os i None (pos 0) l
 
-pub optional-lane : (n : ℕ) (os : List (Option ℕ)) (p : Column) → p ≡ places_lane os → AllByRecursion (IsBelow n) os → IsOptionalIndex p n
+pub optional-lane : (n : ℕ) (os : List (Option ℕ)) (p : Column) → p ≡ places_lane os
+    → AllByRecursion (IsBelow n) os → IsOptionalIndex p n
 optional-lane n os p e h = subst (λ c. IsOptionalIndex c n) (sym e) (record {
   kind = tt;
   below = λ i l.
@@ -81,7 +88,8 @@ optional-lane n os p e h = subst (λ c. IsOptionalIndex c n) (sym e) (record {
       subst (λ z. z <ℤ pos n) (sym (at-places os i l')) (below-number n os i h l');
 })
 
-pub index-lane : (n : ℕ) (os : List (Option ℕ)) (p : Column) → p ≡ places_lane os → AllByRecursion (IsThere n) os → IsIndex p n
+pub index-lane : (n : ℕ) (os : List (Option ℕ)) (p : Column) → p ≡ places_lane os
+    → AllByRecursion (IsThere n) os → IsIndex p n
 index-lane n os p e h = subst (λ c. IsIndex c n) (sym e) (record {
   kind = tt;
   places = λ i l.
@@ -102,10 +110,13 @@ pub record IsMade (n : ℕ) (os : List (Option ℕ)) (m : Making) : Type 0 where
   pub room : m.room ≡ n
   pub items : m.items ≡ map place_number os
 
-numbers-at : (m : Layout) (i : ℕ) → i < len m → map place_number (mask_place i (get_or (array_items m) i null)) ≡ mask_numbers m i
+numbers-at : (m : Layout) (i : ℕ) → i < len m
+    → map place_number (mask_place i (get_or (array_items m) i null)) ≡ mask_numbers m i
 numbers-at m i l = ap (λ v. map place_number (mask_place i v)) (get_or-array_items m i l)
 
-numbers-more : (m : Layout) (i : ℕ) → i < len m → map place_number (mask_first (array_items m) (i + 1)) ≡ map place_number (mask_first (array_items m) i) ++ mask_numbers m i
+numbers-more : (m : Layout) (i : ℕ) → i < len m
+    → map place_number (mask_first (array_items m) (i + 1)) ≡ map place_number
+    (mask_first (array_items m) i) ++ mask_numbers m i
 numbers-more m i l =
     let f : ℕ → List (Option ℕ) = λ k. mask_place k (get_or (array_items m) k null) in
     ap (map place_number) (each_of-more f i)
@@ -113,10 +124,13 @@ numbers-more m i l =
     ∙ ap (λ zs. map place_number (each_of f i) ++ zs) (numbers-at m i l)
 
 -- how many numbers one item more gives
-pub mask-count : (m : Layout) (i : ℕ) (zs : List ℤ) → i < len m → zs ≡ mask_numbers m i → length (mask_first (array_items m) (i + 1)) ≡ length (mask_first (array_items m) i) + length zs
+pub mask-count : (m : Layout) (i : ℕ) (zs : List ℤ) → i < len m → zs ≡ mask_numbers m i
+    → length (mask_first (array_items m) (i + 1)) ≡ length (mask_first (array_items m) i) + length
+    zs
 mask-count m i zs l e =
     let f : ℕ → List (Option ℕ) = λ k. mask_place k (get_or (array_items m) k null) in
-    let h : length (f i) ≡ length zs = sym (length-map (f i) place_number) ∙ ap length (numbers-at m i l ∙ sym e) in
+    let h : length (f i) ≡ length zs = sym (length-map (f i) place_number) ∙ ap length
+    (numbers-at m i l ∙ sym e) in
     omega (arith, length-each_of f i, h)
 
 few-numbers : (k : ℕ) (v : Value) → length (mask_place k v) ≤ 1
@@ -134,9 +148,13 @@ mask-few ms zero = omega arith
 mask-few ms (suc i) =
     let f : ℕ → List (Option ℕ) = λ k. mask_place k (get_or ms k null) in
     let e : i + 1 ≡ suc i = omega arith in
-    subst (λ m. length (mask_first ms m) ≤ m) e (omega (arith, mask-few ms i, length-each_of f i, few-numbers i (get_or ms i null)))
+    subst (λ m. length (mask_first ms m) ≤ m) e
+    (omega (arith, mask-few ms i, length-each_of f i, few-numbers i (get_or ms i null)))
 
-pub made-pushed : (m : Layout) (n i : ℕ) (z y : ℤ) (old new : Making) → i < len m → z ∷ [] ≡ mask_numbers m i → new ≡ with_item old y → y ≡ z → IsMade n (mask_first (array_items m) i) old → IsMade n (mask_first (array_items m) (i + 1)) new
+pub made-pushed : (m : Layout) (n i : ℕ) (z y : ℤ) (old new : Making) → i < len m
+    → z ∷ [] ≡ mask_numbers m i → new ≡ with_item old y → y ≡ z
+    → IsMade n (mask_first (array_items m) i) old
+    → IsMade n (mask_first (array_items m) (i + 1)) new
 made-pushed m n i z y old new l e g q h = record {
   kind = ap (λ (w : Making). w.kind) g ∙ h.kind;
   room = ap (λ (w : Making). w.room) g ∙ h.room;
@@ -150,42 +168,70 @@ append-none : {X : Type 0} (xs : List X) → xs ++ [] ≡ xs
 append-none [] = refl
 append-none (x ∷ xs) = ap (λ ys. x ∷ ys) (append-none xs)
 
-pub made-none : (m : Layout) (n i : ℕ) (old : Making) → i < len m → [] ≡ mask_numbers m i → IsMade n (mask_first (array_items m) i) old → IsMade n (mask_first (array_items m) (i + 1)) old
+pub made-none : (m : Layout) (n i : ℕ) (old : Making) → i < len m → [] ≡ mask_numbers m i
+    → IsMade n (mask_first (array_items m) i) old
+    → IsMade n (mask_first (array_items m) (i + 1)) old
 made-none m n i old l e h = record {
   kind = h.kind;
   room = h.room;
-  items = h.items ∙ sym (append-none _) ∙ ap (λ zs. map place_number (mask_first (array_items m) i) ++ zs) e ∙ sym (numbers-more m i l);
+  items =
+      h.items ∙ sym (append-none _) ∙ ap (λ zs. map place_number (mask_first (array_items m) i) ++
+      zs) e ∙ sym (numbers-more m i l);
 }
 
 mask-whole : (m : Layout) → mask_places (array_items m) ≡ mask_first (array_items m) (len m)
 mask-whole m = ap (mask_first (array_items m)) (length-array_items m)
 
-pub made-room : (m : Layout) (n i : ℕ) (z : ℤ) (old : Making) → n ≡ length (mask_places (array_items m)) → i < len m → z ∷ [] ≡ mask_numbers m i → IsMade n (mask_first (array_items m) i) old → length old.items < old.room
+pub made-room : (m : Layout) (n i : ℕ) (z : ℤ) (old : Making)
+    → n ≡ length (mask_places (array_items m)) → i < len m → z ∷ [] ≡ mask_numbers m i
+    → IsMade n (mask_first (array_items m) i) old → length old.items < old.room
 made-room m n i z old e l h d =
     let f : ℕ → List (Option ℕ) = λ k. mask_place k (get_or (array_items m) k null) in
-    let one : length (f i) ≡ 1 = sym (length-map (f i) place_number) ∙ ap length (numbers-at m i l ∙ sym h) in
-    let all : length (mask_first (array_items m) (len m)) ≡ n = sym (e ∙ ap length (mask-whole m)) in
-    omega (arith, ap length d.items, length-map (mask_first (array_items m) i) place_number, d.room, each_of-room f i (len m) l, one, all)
+    let one : length (f i) ≡ 1 = sym (length-map (f i) place_number) ∙ ap length
+    (numbers-at m i l ∙ sym h) in
+    let all : length (mask_first (array_items m) (len m)) ≡ n = sym
+    (e ∙ ap length (mask-whole m)) in
+    omega (
+      arith,
+      ap length d.items,
+      length-map (mask_first (array_items m) i) place_number,
+      d.room,
+      each_of-room f i (len m) l,
+      one,
+      all,
+    )
 
 -- all is made
-pub made-whole : (m : Layout) (n i : ℕ) (w : Making) → i ≡ len m → n ≡ length (mask_places (array_items m)) → IsMade n (mask_first (array_items m) i) w → (length w.items ≡ w.room) × (w.items ≡ map place_number (mask_places (array_items m)))
+pub made-whole : (m : Layout) (n i : ℕ) (w : Making) → i ≡ len m
+    → n ≡ length (mask_places (array_items m)) → IsMade n (mask_first (array_items m) i) w
+    → (length w.items ≡ w.room) × (w.items ≡ map place_number (mask_places (array_items m)))
 made-whole m n i w e c h =
-    let all : w.items ≡ map place_number (mask_places (array_items m)) = h.items ∙ ap (λ j. map place_number (mask_first (array_items m) j)) e ∙ sym (ap (map place_number) (mask-whole m)) in
-    (ap length all ∙ length-map (mask_places (array_items m)) place_number ∙ sym c ∙ sym h.room, all)
+    let all : w.items ≡ map place_number (mask_places (array_items m)) = h.items ∙ ap
+    (λ j. map place_number (mask_first (array_items m) j)) e ∙ sym
+    (ap (map place_number) (mask-whole m)) in (
+      ap length all ∙ length-map (mask_places (array_items m)) place_number ∙ sym c ∙ sym h.room,
+      all,
+    )
 
-pub count-whole : (m : Layout) (i n : ℕ) → i ≡ len m → n ≡ length (mask_first (array_items m) i) → n ≡ length (mask_places (array_items m))
-count-whole m i n e h = h ∙ ap (λ j. length (mask_first (array_items m) j)) e ∙ sym (ap length (mask-whole m))
+pub count-whole : (m : Layout) (i n : ℕ) → i ≡ len m → n ≡ length (mask_first (array_items m) i)
+    → n ≡ length (mask_places (array_items m))
+count-whole m i n e h =
+    h ∙ ap (λ j. length (mask_first (array_items m) j)) e ∙ sym (ap length (mask-whole m))
 
 -- ---- each place that a mask gives
 
-all-append : {X : Type 0} (P : X → Type 0) (xs ys : List X) → AllByRecursion P xs → AllByRecursion P ys → AllByRecursion P (xs ++ ys)
+all-append : {X : Type 0} (P : X → Type 0) (xs ys : List X) → AllByRecursion P xs
+    → AllByRecursion P ys → AllByRecursion P (xs ++ ys)
 all-append P [] ys h g = g
 all-append P (x ∷ xs) ys h g = (h.0, all-append P xs ys h.1 g)
 
-all-each : {X : Type 0} (P : X → Type 0) (f : ℕ → List X) (a m : ℕ) → ((i : ℕ) → i < a + m → AllByRecursion P (f i)) → AllByRecursion P (flat_map f (range_with_len a m))
+all-each : {X : Type 0} (P : X → Type 0) (f : ℕ → List X) (a m : ℕ)
+    → ((i : ℕ) → i < a + m → AllByRecursion P (f i))
+    → AllByRecursion P (flat_map f (range_with_len a m))
 all-each P f a zero h = tt
 all-each P f a (suc m) h =
-    all-append P (f a) (flat_map f (range_with_len (a + 1) m)) (h a (omega arith)) (all-each P f (a + 1) m (λ i l. h i (omega arith)))
+    all-append P (f a) (flat_map f (range_with_len (a + 1) m)) (h a (omega arith))
+    (all-each P f (a + 1) m (λ i l. h i (omega arith)))
 
 mask_place-below : (n k : ℕ) (v : Value) → k < n → AllByRecursion (IsBelow n) (mask_place k v)
 mask_place-below n k (truth true) h = (h, tt)
@@ -196,12 +242,15 @@ mask_place-below n k (list vs) h = tt
 mask_place-below n k (row vs) h = tt
 mask_place-below n k (alt j v) h = tt
 
-pub mask_places-below : (n : ℕ) (ms : List Value) → length ms ≡ n → AllByRecursion (IsBelow n) (mask_places ms)
+pub mask_places-below : (n : ℕ) (ms : List Value) → length ms ≡ n
+    → AllByRecursion (IsBelow n) (mask_places ms)
 mask_places-below n ms e =
-    all-each (IsBelow n) (λ k. mask_place k (get_or ms k null)) 0 (length ms) (λ i l. mask_place-below n i (get_or ms i null) (omega arith))
+    all-each (IsBelow n) (λ k. mask_place k (get_or ms k null)) 0 (length ms)
+    (λ i l. mask_place-below n i (get_or ms i null) (omega arith))
 
 -- a truth value gives no null
-mask_place-there : (n k : ℕ) (v : Value) → Has (leaf Truths) v → k < n → AllByRecursion (IsThere n) (mask_place k v)
+mask_place-there : (n k : ℕ) (v : Value) → Has (leaf Truths) v → k < n
+    → AllByRecursion (IsThere n) (mask_place k v)
 mask_place-there n k (truth true) t h = (h, tt)
 mask_place-there n k (truth false) t h = tt
 mask_place-there n k null t h = absurd t
@@ -210,7 +259,8 @@ mask_place-there n k (list vs) t h = tt
 mask_place-there n k (row vs) t h = tt
 mask_place-there n k (alt j v) t h = tt
 
-pub has-at : (P : Value → Type 0) (vs : List Value) (i : ℕ) → AllByRecursion P vs → i < length vs → P (get_or vs i null)
+pub has-at : (P : Value → Type 0) (vs : List Value) (i : ℕ) → AllByRecursion P vs → i < length vs
+    → P (get_or vs i null)
 has-at P [] i h l = absurd (omega arith)
 has-at P (v ∷ vs) zero h l = h.0
 has-at P (v ∷ vs) (suc i) h l = has-at P vs i h.1 (omega arith)
@@ -234,11 +284,14 @@ truths-of (tup ts) m o = absurd (true≢false (sym m))
 truths-of (opt t) m o = absurd (true≢false o)
 truths-of (uni ts) m o = absurd (true≢false (sym m))
 
-pub mask_places-there : (n : ℕ) (t : DataType) (ms : List Value) → length ms ≡ n → is_mask t ≡ true → is_option t ≡ false → AllByRecursion (Has t) ms → AllByRecursion (IsThere n) (mask_places ms)
+pub mask_places-there : (n : ℕ) (t : DataType) (ms : List Value) → length ms ≡ n → is_mask t ≡ true
+    → is_option t ≡ false → AllByRecursion (Has t) ms → AllByRecursion (IsThere n) (mask_places ms)
 mask_places-there n t ms e m o h =
-    let h' : AllByRecursion (Has (leaf Truths)) ms = subst (λ u. AllByRecursion (Has u) ms) (truths-of t m o) h in
+    let h' : AllByRecursion (Has (leaf Truths)) ms = subst (λ u. AllByRecursion (Has u) ms)
+    (truths-of t m o) h in
     all-each (IsThere n) (λ k. mask_place k (get_or ms k null)) 0 (length ms) (λ i l.
-    mask_place-there n i (get_or ms i null) (has-at (Has (leaf Truths)) ms i h' (omega arith)) (omega arith))
+    mask_place-there n i (get_or ms i null) (has-at (Has (leaf Truths)) ms i h' (omega arith))
+    (omega arith))
 
 -- ---- each place that an index names
 
@@ -248,7 +301,8 @@ below-if false n j h = tt
 
 pub place_in-below : (n : ℕ) (z : ℤ) → IsBelow n (place_in n z)
 place_in-below n (pos k) = below-if (nat_lt k n) n k (ltb-true k n)
-place_in-below n (negsuc k) = below-if (nat_lt k n) n (n - suc k) (λ h. omega (arith, ltb-true k n h))
+place_in-below n (negsuc k) =
+    below-if (nat_lt k n) n (n - suc k) (λ h. omega (arith, ltb-true k n h))
 
 pub take_place-below : (n : ℕ) (v : Value) → IsBelow n (take_place n v)
 take_place-below n (int z) = place_in-below n z
@@ -267,7 +321,8 @@ there-of n None b h = absurd (true≢false h)
 there-of n (Some k) b h = b
 
 -- of numbers that are not optional, each is a number
-take_place-there : (n : ℕ) (p : Primitive) (v : Value) → is_numbers (leaf p) ≡ true → Has (leaf p) v → is_outside n v ≡ false → IsThere n (take_place n v)
+take_place-there : (n : ℕ) (p : Primitive) (v : Value) → is_numbers (leaf p) ≡ true
+    → Has (leaf p) v → is_outside n v ≡ false → IsThere n (take_place n v)
 take_place-there n p (int z) m t h = there-of n (place_in n z) (place_in-below n z) h
 take_place-there n Truths (truth b) m t h = absurd (true≢false (sym m))
 take_place-there n I8 (truth b) m t h = absurd t
@@ -287,17 +342,22 @@ or-parts : (a b : Bool) → (a || b) ≡ false → (a ≡ false) × (b ≡ false
 or-parts true b h = absurd (true≢false h)
 or-parts false b h = (refl, h)
 
-leaves-there : (n : ℕ) (p : Primitive) (ws : List Value) → is_numbers (leaf p) ≡ true → AllByRecursion (Has (leaf p)) ws → list_any (is_outside n) ws ≡ false → AllByRecursion (IsThere n) (take_places n ws)
+leaves-there : (n : ℕ) (p : Primitive) (ws : List Value) → is_numbers (leaf p) ≡ true
+    → AllByRecursion (Has (leaf p)) ws → list_any (is_outside n) ws ≡ false
+    → AllByRecursion (IsThere n) (take_places n ws)
 leaves-there n p [] m t h = tt
 leaves-there n p (w ∷ ws) m t h =
     let e = or-parts (is_outside n w) (list_any (is_outside n) ws) h in
     (take_place-there n p w m t.0 e.0, leaves-there n p ws m t.1 e.1)
 
-unknown-there : (n : ℕ) (ws : List Value) → AllByRecursion (Has unknown) ws → AllByRecursion (IsThere n) (take_places n ws)
+unknown-there : (n : ℕ) (ws : List Value) → AllByRecursion (Has unknown) ws
+    → AllByRecursion (IsThere n) (take_places n ws)
 unknown-there n [] t = tt
 unknown-there n (w ∷ ws) t = absurd t.0
 
-pub take_places-there : (n : ℕ) (t : DataType) (ws : List Value) → is_index t ≡ true → is_option t ≡ false → AllByRecursion (Has t) ws → list_any (is_outside n) ws ≡ false → AllByRecursion (IsThere n) (take_places n ws)
+pub take_places-there : (n : ℕ) (t : DataType) (ws : List Value) → is_index t ≡ true
+    → is_option t ≡ false → AllByRecursion (Has t) ws → list_any (is_outside n) ws ≡ false
+    → AllByRecursion (IsThere n) (take_places n ws)
 take_places-there n unknown ws m o t h = unknown-there n ws t
 take_places-there n (leaf p) ws m o t h = leaves-there n p ws m t h
 take_places-there n (var u) ws m o t h = absurd (true≢false (sym m))
@@ -308,22 +368,29 @@ take_places-there n (opt u) ws m o t h = absurd (true≢false o)
 take_places-there n (uni ts) ws m o t h = absurd (true≢false (sym m))
 
 -- the lane of an index
-pub take-lane : (n : ℕ) (ix : Layout) (p : Column) → p ≡ lane_of kind.I64 (len ix) (take_number n ix) → p ≡ places_lane (take_places n (array_items ix))
+pub take-lane : (n : ℕ) (ix : Layout) (p : Column)
+    → p ≡ lane_of kind.I64 (len ix) (take_number n ix)
+    → p ≡ places_lane (take_places n (array_items ix))
 take-lane n ix p e =
     e ∙ ap (λ zs. record { kind = kind.I64; items = zs }) (sym
     (map-map place_number (take_place n) (array_items ix)
-    ∙ map-map (λ v. place_number (take_place n v)) (simple_value (layout_type ix)) (map (item ix) (range_with_len 0 (len ix)))
-    ∙ map-map (λ v. place_number (take_place n (simple_value (layout_type ix) v))) (item ix) (range_with_len 0 (len ix))))
+    ∙ map-map (λ v. place_number (take_place n v)) (simple_value (layout_type ix))
+    (map (item ix) (range_with_len 0 (len ix)))
+    ∙ map-map (λ v. place_number (take_place n (simple_value (layout_type ix) v))) (item ix)
+    (range_with_len 0 (len ix))))
 
 -- ---- what is outside
 
 -- one item more, and still none
-pub none-more : (p : Value → Bool) (vs : List Value) (i : ℕ) → i < length vs → list_any p (take i vs) ≡ false → p (get_or vs i null) ≡ false → list_any p (take (i + 1) vs) ≡ false
+pub none-more : (p : Value → Bool) (vs : List Value) (i : ℕ) → i < length vs
+    → list_any p (take i vs) ≡ false → p (get_or vs i null) ≡ false
+    → list_any p (take (i + 1) vs) ≡ false
 none-more p vs i l h g = list_any_more p vs i null l ∙ ap₂ (λ a b. a || b) h g
 
 -- ---- lanes by their kind and numbers
 
-pub lane-ext : (p : Column) (k : Kind) (zs : List ℤ) → p.kind ≡ k → p.items ≡ zs → p ≡ record { kind = k; items = zs }
+pub lane-ext : (p : Column) (k : Kind) (zs : List ℤ) → p.kind ≡ k → p.items ≡ zs → p ≡
+    record { kind = k; items = zs }
 lane-ext p k zs e h = ap₂ (λ k zs. record { kind = k; items = zs }) e h
 
 -- no number is none

@@ -34,10 +34,12 @@ of_a_single_value : at_of (pos 0) (one (leaf I64) (n 10)) ≡ Err WrongType
 of_a_single_value = refl
 
 -- a list is settled as the array of its items
-settled_list : at_of (pos 0) (arr (opt (var (leaf I64))) (list (values_from tens) ∷ null ∷ [])) ≡ Ok x
+settled_list : at_of (pos 0) (arr (opt (var (leaf I64))) (list (values_from tens) ∷ null ∷ [])) ≡ Ok
+    x
 settled_list = refl
 
-settled_null : at_of (pos 1) (arr (opt (var (leaf I64))) (list (values_from tens) ∷ null ∷ [])) ≡ Ok (one (opt (var (leaf I64))) null)
+settled_null : at_of (pos 1) (arr (opt (var (leaf I64))) (list (values_from tens) ∷ null ∷ [])) ≡ Ok
+    (one (opt (var (leaf I64))) null)
 settled_null = refl
 
 -- ---- ranges
@@ -51,19 +53,23 @@ backwards = refl
 every_second : step_range_of None None (pos 2) x ≡ Ok (arr (leaf I64) (n 10 ∷ n 30 ∷ []))
 every_second = refl
 
-backwards_to_1 : step_range_of (Some (pos 9)) (Some (pos 0)) (negsuc 0) x ≡ Ok (arr (leaf I64) (n 30 ∷ n 20 ∷ []))
+backwards_to_1 : step_range_of (Some (pos 9)) (Some (pos 0)) (negsuc 0) x ≡ Ok
+    (arr (leaf I64) (n 30 ∷ n 20 ∷ []))
 backwards_to_1 = refl
 
 -- the least and the greatest i64 as bounds and as steps
-widest : range_places 3 (Some (negsuc 9223372036854775807)) (Some (pos 9223372036854775807)) (pos 9223372036854775807) ≡ 0 ∷ []
+widest : range_places 3 (Some (negsuc 9223372036854775807)) (Some (pos 9223372036854775807))
+    (pos 9223372036854775807) ≡ 0 ∷ []
 widest = refl
 
-widest_down : range_places 3 (Some (pos 9223372036854775807)) (Some (negsuc 9223372036854775807)) (negsuc 9223372036854775807) ≡ 2 ∷ []
+widest_down : range_places 3 (Some (pos 9223372036854775807)) (Some (negsuc 9223372036854775807))
+    (negsuc 9223372036854775807) ≡ 2 ∷ []
 widest_down = refl
 
 -- ---- masks
 
-true_and_null : mask_of x (arr (opt (leaf Bool)) (truth false ∷ null ∷ truth true ∷ [])) ≡ Ok (arr (opt (leaf I64)) (null ∷ n 30 ∷ []))
+true_and_null : mask_of x (arr (opt (leaf Bool)) (truth false ∷ null ∷ truth true ∷ [])) ≡ Ok
+    (arr (opt (leaf I64)) (null ∷ n 30 ∷ []))
 true_and_null = refl
 
 shorter_mask : mask_of x (arr (leaf Bool) (truth true ∷ [])) ≡ Err Lengths
@@ -74,7 +80,9 @@ type_before_length = refl
 
 -- ---- indexes
 
-repeated_and_null : take_of x (arr (opt (leaf I64)) (int (negsuc 0) ∷ null ∷ n 0 ∷ int (negsuc 0) ∷ [])) ≡ Ok (arr (opt (leaf I64)) (n 30 ∷ null ∷ n 10 ∷ n 30 ∷ []))
+repeated_and_null : take_of x (arr (opt (leaf I64))
+    (int (negsuc 0) ∷ null ∷ n 0 ∷ int (negsuc 0) ∷ [])) ≡ Ok
+    (arr (opt (leaf I64)) (n 30 ∷ null ∷ n 10 ∷ n 30 ∷ []))
 repeated_and_null = refl
 
 no_such_place : take_of x (arr (leaf I64) (n 0 ∷ n 3 ∷ [])) ≡ Err Index
@@ -83,7 +91,8 @@ no_such_place = refl
 of_nothing : take_of x (arr unknown []) ≡ Ok (arr (leaf I64) [])
 of_nothing = refl
 
-of_nulls : take_of x (arr (opt unknown) (null ∷ null ∷ [])) ≡ Ok (arr (opt (leaf I64)) (null ∷ null ∷ []))
+of_nulls : take_of x (arr (opt unknown) (null ∷ null ∷ [])) ≡ Ok
+    (arr (opt (leaf I64)) (null ∷ null ∷ []))
 of_nulls = refl
 
 of_truths : take_of x (arr (leaf Bool) (truth true ∷ [])) ≡ Err WrongType

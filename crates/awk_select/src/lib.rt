@@ -2,7 +2,8 @@
 //!
 //! The calls are `at`, `step_range`, `mask` and `take`; `is_mask` and `bound_up` are what the
 //! evaluation asks of a mask's type and of the bounds of a range; `place_in` is the place that a
-//! number names; `Cells`, `cells_of` and `place_of` read the values of a mask or an index, for picks
+//! number names; `Cells`, `cells_of` and `place_of` read the values of a mask or an index, for
+//! picks
 //! row by row.
 #![tactic(auto)]
 

@@ -15,7 +15,8 @@ use std::alloc::Global;
 use std::sync::ledger::Ledger;
 
 /// The item of an array at a place, settled. A negative place counts from the end. `WrongType`
-/// tells that it is a single value, and `Index` that the array has no such place. It makes no lane, and
+/// tells that it is a single value, and `Index` that the array has no such place. It makes no lane,
+/// and
 /// takes the arena as every operation does.
 pub fn at<'a, L: Ledger>(
     alloc: Global,

@@ -1,5 +1,6 @@
 -- A line takes at most its cost, by what its parts take.
-use Rattle.std.proofs.Common.{◌≡◌, ◌≤◌, ℕ, ◌+◌, true, false, List, length, Option, Some, None, Result, Ok, Err, refl, ap, ◌∙◌, arith}
+use Rattle.std.proofs.Common.{◌≡◌, ◌≤◌, ℕ, ◌+◌, true, false, List, length, Option, Some, None}
+use Rattle.std.proofs.Common.{Result, Ok, Err, refl, ap, ◌∙◌, arith}
 use Rattle.std.specs.Prelude.{IfOk, IfSome, is_some}
 use Rattle.std.specs.Result.{result_ok}
 use Rattle.awk_lengths.specs.LineBytes.{text_len, HasBytes}
@@ -14,9 +15,11 @@ use Rattle.awk_answer.specs.Sending.{sent_cost}
 use Rattle.awk_answer.proofs.SendingLaws.{times}
 use Rattle.awk_load_line.specs.LoadCost.{form_width}
 use Rattle.awk_load_line.proofs.LoadLaws.{load_cost-bytes}
-use Rattle.awk_session.specs.Cost.{view_size, view_cost, text_cost, has_cost, made_cost, shown_cost, line_in}
+use Rattle.awk_session.specs.Cost.{view_size, view_cost, text_cost, has_cost, made_cost, shown_cost}
+use Rattle.awk_session.specs.Cost.{line_in}
 use Rattle.awk_framing.specs.Framing.{is_blank}
-use Rattle.awk_session.specs.Spending.{IsAtMost, IsOfArray, IsOfArrays, IsViewTaken, TakesBy, Takes, TakesCost, shown_size, ShowsNone, ShowsView, ShowsBy, Shows}
+use Rattle.awk_session.specs.Spending.{IsAtMost, IsOfArray, IsOfArrays, IsViewTaken, TakesBy, Takes}
+use Rattle.awk_session.specs.Spending.{TakesCost, shown_size, ShowsNone, ShowsView, ShowsBy, Shows}
 use Rattle.awk_answer.specs.declared.answer.Answer as code
 
 -- ---- texts

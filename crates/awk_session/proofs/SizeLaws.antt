@@ -1,5 +1,6 @@
 -- Variables within sizes, and what a line binds.
-use Rattle.std.proofs.Common.{◌≡◌, ◌≢◌, Bool, true, false, cond, [], ◌∷◌, Option, Some, None, option_and_then, Result, Ok, Err, refl, sym, ap, ◌∙◌, subst, arith}
+use Rattle.std.proofs.Common.{◌≡◌, ◌≢◌, Bool, true, false, cond, [], ◌∷◌, Option, Some, None}
+use Rattle.std.proofs.Common.{option_and_then, Result, Ok, Err, refl, sym, ap, ◌∙◌, subst, arith}
 use Rattle.std.specs.Prelude.{IfSome, is_some}
 use Rattle.std.specs.Option.{option_map_or}
 use Rattle.std.specs.Str.{bytes_eq}
@@ -11,9 +12,11 @@ use Rattle.awk_query.specs.Line.{Line, load, session, bind, values, show, type_o
 use Rattle.awk_eval.specs.Bindings as bindings
 use Rattle.awk_eval.specs.Bindings.{Bindings, look_up}
 use Rattle.awk_eval.specs.Variables.{Variables}
-use Rattle.awk_eval.specs.Views.{Size, Sizes, View, view_of, size_of, sizes_of, size_at, size_in, size_or_none, IsWithin, IsArray}
+use Rattle.awk_eval.specs.Views.{Size, Sizes, View, view_of, size_of, sizes_of, size_at, size_in}
+use Rattle.awk_eval.specs.Views.{size_or_none, IsWithin, IsArray}
 use Rattle.awk_session.specs.Cost.{form_size, view_size, has_cost, sized_unless, sizes_by}
-use Rattle.awk_session.specs.Spending.{IsAtMost, IsOfArray, IsOfArrays, IsBoundUnless, IsViewWithin, BindsBy, Binds, Unless, name_by}
+use Rattle.awk_session.specs.Spending.{IsAtMost, IsOfArray, IsOfArrays, IsBoundUnless, IsViewWithin}
+use Rattle.awk_session.specs.Spending.{BindsBy, Binds, Unless, name_by}
 use Rattle.awk_answer.specs.declared.answer.Answered.{Answered}
 use Rattle.awk_session.specs.declared.engine.LineEnd.{LineEnd}
 use Rattle.awk_session.specs.declared.engine.LineEnd.TheVariants.{Write, NoMemory}

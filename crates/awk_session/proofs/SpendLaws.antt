@@ -1,5 +1,6 @@
 -- Units take no more steps than their session costs.
-use Rattle.std.proofs.Common.{◌≡◌, ◌≤◌, ℕ, ◌+◌, ◌*◌, Bool, true, false, ◌&&◌, List, [], ◌∷◌, ◌++◌, Option, Some, None, refl, sym, ap, ◌∙◌, subst, arith}
+use Rattle.std.proofs.Common.{◌≡◌, ◌≤◌, ℕ, ◌+◌, ◌*◌, Bool, true, false, ◌&&◌, List, [], ◌∷◌, ◌++◌}
+use Rattle.std.proofs.Common.{Option, Some, None, refl, sym, ap, ◌∙◌, subst, arith}
 use Rattle.std.specs.Option.{option_map_or}
 use Rattle.awk_edge.specs.Units.{Framed, read_after}
 use Rattle.awk_query.specs.Line.{Line, load, session, bind, values, show, type_of, pack, names}
@@ -7,8 +8,10 @@ use Rattle.awk_query.specs.declared.reading.Reading.{Reading}
 use Rattle.awk_query.specs.declared.reading.Reading.TheVariants.{First}
 use Rattle.awk_eval.specs.Variables.{Environment, Variables}
 use Rattle.awk_eval.specs.Views.{Sizes, View, view_of, sizes_of, size_at}
-use Rattle.awk_session.specs.Cost.{Standing, at_start, next, standing_after, costs, cost, cost_of, unit_bytes, unit_cost}
-use Rattle.awk_session.specs.Cost.{is_plain, plain_from, are_plain, line_in, line_cost, made_cost, shown_cost, view_cost, view_size, answer_length, sizes_after}
+use Rattle.awk_session.specs.Cost.{Standing, at_start, next, standing_after, costs, cost, cost_of}
+use Rattle.awk_session.specs.Cost.{unit_bytes, unit_cost}
+use Rattle.awk_session.specs.Cost.{is_plain, plain_from, are_plain, line_in, line_cost, made_cost}
+use Rattle.awk_session.specs.Cost.{shown_cost, view_cost, view_size, answer_length, sizes_after}
 use Rattle.awk_framing.specs.Framing.{read_behind, session_framing}
 use Rattle.awk_session.specs.Replies.{unit_step}
 use Rattle.awk_session.specs.Spending.{Binds, TakesCost}
@@ -16,7 +19,8 @@ use Rattle.awk_session.specs.State.{State, denoted_state}
 use Rattle.awk_answer.proofs.SendingLaws.{times}
 use Rattle.awk_session.proofs.CostLaws.{text_cost-more}
 use Rattle.awk_session.proofs.Readings.{reading-step}
-use Rattle.awk_session.proofs.SizeLaws.{AreWithin, size_at-within, view_size-within, IsOfArrays-within, sizes-within}
+use Rattle.awk_session.proofs.SizeLaws.{AreWithin, size_at-within, view_size-within}
+use Rattle.awk_session.proofs.SizeLaws.{IsOfArrays-within, sizes-within}
 
 -- ---- a line costs no more where sizes are greater
 

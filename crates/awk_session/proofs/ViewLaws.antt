@@ -8,7 +8,8 @@ use Rattle.awk_eval.specs.Bindings as bindings
 use Rattle.awk_eval.specs.Variables.{Variables}
 use Rattle.awk_eval.specs.Views.{Size, View, size_of, size_in, size_or_none, IsWithin, TakesView}
 use Rattle.awk_eval.proofs.ViewSteps.{OfView-all, OfView-both, TakesView-within}
-use Rattle.awk_session.specs.Spending.{IsAtMost, IsBound, IsViewWithin, ShowsNone, ShowsView, shown_size}
+use Rattle.awk_session.specs.Spending.{IsAtMost, IsBound, IsViewWithin, ShowsNone, ShowsView}
+use Rattle.awk_session.specs.Spending.{shown_size}
 use Rattle.awk_answer.specs.declared.answer.Answer as code
 use Rattle.awk_answer.specs.declared.answer.Answer.TheVariants as variant
 use Rattle.awk_session.proofs.SizeLaws.{size_of-within}

@@ -1,5 +1,6 @@
 -- What the engine answers to a line, and to the units of a session.
-use Rattle.std.specs.Prelude.{ℕ, Bool, false, not, List, count_by, Some, None, Result, Ok, Err, if◌then◌else◌}
+use Rattle.std.specs.Prelude.{ℕ, Bool, false, not, List, count_by, Some, None, Result, Ok, Err}
+use Rattle.std.specs.Prelude.{if◌then◌else◌}
 use Rattle.awk_types.specs.DataType.{Name}
 use Rattle.awk_types.specs.Datum.{Datum}
 use Rattle.awk_types.specs.declared.fault.Fault.{Fault}
@@ -19,7 +20,8 @@ use Rattle.awk_units.specs.Runs.{Step, texts, any_fault}
 use Rattle.awk_session.specs.State.{State, at_start}
 use Rattle.awk_answer.specs.declared.fault.AnswerFault.{AnswerFault}
 use Rattle.awk_answer.specs.declared.fault.AnswerFault.TheVariants.{Json, Query, Evaluation}
-use Rattle.awk_answer.specs.Answer.{Answer, begun, bound, value, names, fault, is_fault, answer_text}
+use Rattle.awk_answer.specs.Answer.{Answer, begun, bound, value, names, fault, is_fault}
+use Rattle.awk_answer.specs.Answer.{answer_text}
 use Rattle.awk_answer.specs.Shown.{type_shown, pack_shown}
 
 -- an answer, and the variables afterwards

@@ -1,5 +1,6 @@
 -- What lines take and bind, by the sizes of the variables.
-use Rattle.std.specs.Prelude.{◌≡◌, ◌≤◌, ◌+◌, ℕ, Bool, true, false, List, Option, Some, None, option_and_then, Result, Ok, Err, MatchOption, IfSome, IsTrue}
+use Rattle.std.specs.Prelude.{◌≡◌, ◌≤◌, ◌+◌, ℕ, Bool, true, false, List, Option, Some, None}
+use Rattle.std.specs.Prelude.{option_and_then, Result, Ok, Err, MatchOption, IfSome, IsTrue}
 use Rattle.std.specs.Option.{option_map_or}
 use Rattle.awk_types.specs.DataType.{Name}
 use Rattle.awk_layout.specs.declared.datum.Datum.{Datum}
@@ -9,7 +10,8 @@ use Rattle.awk_lengths.specs.LineBytes.{text_len}
 use Rattle.awk_eval.specs.Bindings as bindings
 use Rattle.awk_eval.specs.Bindings.{look_up}
 use Rattle.awk_eval.specs.Variables.{Variables}
-use Rattle.awk_eval.specs.Views.{Size, View, view_of, IsWithin, IsArray, IsTaken, OfView, sizes_of, size_in, size_or_none}
+use Rattle.awk_eval.specs.Views.{Size, View, view_of, IsWithin, IsArray, IsTaken, OfView, sizes_of}
+use Rattle.awk_eval.specs.Views.{size_in, size_or_none}
 use Rattle.awk_session.specs.Cost.{form_size, has_cost, line_cost, line_in, answer_length}
 use Rattle.awk_answer.specs.Sending.{shown_width, shown_height}
 use Rattle.awk_load_line.specs.LoadCost.{IsLoaded}

@@ -3,11 +3,15 @@ use Rattle.std.proofs.Common.{◌≡◌, [], ◌∷◌, Ok, Err, refl}
 use Rattle.std.specs.Prelude.{codes}
 use Rattle.base64.proofs.OnLiterals.{base64_on_literals}
 use Rattle.serde_json.specs.Data.{string, no_members, member}
-use Rattle.awk_store.specs.Buffers.{Held, texts_of, only_texts, held_len, buffer, Buffers, with_raw, with_known, unread_len}
+use Rattle.awk_store.specs.Buffers.{Held, texts_of, only_texts, held_len, buffer, Buffers, with_raw}
+use Rattle.awk_store.specs.Buffers.{with_known, unread_len}
 use Rattle.awk_store.specs.declared.fault.BufferWhy.TheVariants.{Absent, Base64}
 
 abbrev held : Held
-held = only_texts (texts_of (member (codes "a") (string (codes "AA==")) (member (codes "b") (string (codes "AAA")) (member (codes "c") (string (codes "AB==")) (member (codes "d") (string []) no_members)))))
+held =
+    only_texts (texts_of (member (codes "a") (string (codes "AA=="))
+    (member (codes "b") (string (codes "AAA"))
+    (member (codes "c") (string (codes "AB==")) (member (codes "d") (string []) no_members)))))
 
 one_byte : buffer held (codes "a") ≡ Ok (0 ∷ [])
 unfolding base64_on_literals

@@ -1,8 +1,10 @@
 //! Bytes that were added by key.
-ghost use Rattle.std.specs.Prelude.{◌≡◌, ◌+◌, ◌++◌, ◌∷◌, [], ◌≤◌, None, option_map, IfOk, IsOk, IsTrue, OnOk, OnErr};
+ghost use Rattle.std.specs.Prelude.{◌≡◌, ◌+◌, ◌++◌, ◌∷◌, [], ◌≤◌, None, option_map, IfOk, IsOk};
+ghost use Rattle.std.specs.Prelude.{IsTrue, OnOk, OnErr};
 ghost use Rattle.std.specs.Option.{ok_or};
 ghost use Rattle.awk_types.specs.Gives.{Gives};
-ghost use Rattle.awk_store.specs.Buffers.{at_key, why_told, is_fetched, with_fetched, unfetched_len};
+ghost use Rattle.awk_store.specs.Buffers.{at_key, why_told, is_fetched, with_fetched};
+ghost use Rattle.awk_store.specs.Buffers.{unfetched_len};
 ghost use Rattle.awk_store.specs.declared.fault.BufferWhy.TheVariants.{Absent};
 
 use crate::fault::{BufferWhy, StoreFault};

@@ -1,11 +1,13 @@
 //! The buffers of a map of base64 texts, and those whose bytes were added.
-ghost use Rattle.std.specs.Prelude.{◌≡◌, ◌≢◌, ℕ, ◌+◌, ◌≤◌, List, [], Some, option_map, IfOk, IsOk, IsErrOf, IsTrue, OnOk, OnErr};
+ghost use Rattle.std.specs.Prelude.{◌≡◌, ◌≢◌, ℕ, ◌+◌, ◌≤◌, List, [], Some, option_map, IfOk, IsOk};
+ghost use Rattle.std.specs.Prelude.{IsErrOf, IsTrue, OnOk, OnErr};
 ghost use Rattle.serde_json.specs.View.{members_view};
 ghost use Rattle.base64.specs.Engines.{standard};
 ghost use Rattle.base64.specs.GeneralPurpose.{encode_of, IsBytes};
 ghost use Rattle.awk_types.specs.Gives.{Gives};
 ghost use Rattle.awk_store.specs.Buffers.{HoldsTexts, texts_of, at_key, only_texts, buffer, IsNew};
-ghost use Rattle.awk_store.specs.Buffers.{why_told, with_raw, added_bytes, is_known, with_known, unread_len};
+ghost use Rattle.awk_store.specs.Buffers.{why_told, with_raw, added_bytes, is_known, with_known};
+ghost use Rattle.awk_store.specs.Buffers.{unread_len};
 
 use crate::fault::{BufferWhy, StoreFault};
 use crate::raws::Raws;

@@ -1,5 +1,6 @@
 //! The bytes that the texts of a map encode.
-ghost use Rattle.std.specs.Prelude.{◌≡◌, ◌≢◌, ℕ, ◌+◌, ◌≤◌, List, [], Some, None, Err, is_some, option_map, IfOk, IfSome, IsOk, IsErrOf, IsTrue, OnOk, OnErr};
+ghost use Rattle.std.specs.Prelude.{◌≡◌, ◌≢◌, ℕ, ◌+◌, ◌≤◌, List, [], Some, None, Err, is_some};
+ghost use Rattle.std.specs.Prelude.{option_map, IfOk, IfSome, IsOk, IsErrOf, IsTrue, OnOk, OnErr};
 ghost use Rattle.std.specs.Option.{option_map_or};
 ghost use Rattle.serde_json.specs.View.{members_view};
 ghost use Rattle.base64.specs.Engines.{standard};

@@ -1,5 +1,6 @@
 -- The keys of the buffers below a node.
-use Rattle.std.proofs.Common.{◌≡◌, [], ◌++◌, Option, inl, inr, Box, Global, ap, ◌∙◌, rules, append-nil}
+use Rattle.std.proofs.Common.{◌≡◌, [], ◌++◌, Option, inl, inr, Box, Global, ap, ◌∙◌, rules}
+use Rattle.std.proofs.Common.{append-nil}
 use Rattle.awk_types.specs.DataType.{Name}
 use Rattle.awk_form.specs.FormTree.{FormTree, contents_of, forms_from, no_forms, form}
 use Rattle.awk_form.specs.Induction.{fold-contents}

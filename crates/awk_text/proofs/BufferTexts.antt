@@ -1,12 +1,14 @@
 -- The texts of buffers, one after another.
-use Rattle.std.proofs.Common.{◌≡◌, ℕ, suc, ◌+◌, false, cond, List, [], ◌∷◌, ◌++◌, length, map, drop, refl, ap, sym, ◌∙◌, arith, add-one, append_assoc, append-nil, codes}
+use Rattle.std.proofs.Common.{◌≡◌, ℕ, suc, ◌+◌, false, cond, List, [], ◌∷◌, ◌++◌, length, map, drop}
+use Rattle.std.proofs.Common.{refl, ap, sym, ◌∙◌, arith, add-one, append_assoc, append-nil, codes}
 use Rattle.std.specs.Prelude.{◌==◌}
 use Rattle.std.proofs.lemmas.List.{drop_more}
 use Rattle.awk_types.specs.DataType.{Name}
 use Rattle.awk_lanes.specs.Column.{Column}
 use Rattle.awk_json.specs.Text.{comma_joined}
 use Rattle.awk_json.proofs.Joins.{joined_after, joined_after-nothing}
-use Rattle.awk_text.specs.Buffers.{no_lane, keyed_bytes, lane_bytes, buffer_text, separator, lane_at, texts_from}
+use Rattle.awk_text.specs.Buffers.{no_lane, keyed_bytes, lane_bytes, buffer_text, separator}
+use Rattle.awk_text.specs.Buffers.{lane_at, texts_from}
 
 regrouped : (s t a b : List ℕ) → s ++ (t ++ (a ++ b)) ≡ (s ++ (t ++ a)) ++ b
 regrouped s t a b = simp append_assoc

@@ -1,21 +1,27 @@
 -- The text of an item is the text of its case.
-use Rattle.std.proofs.Common.{◌≡◌, ℕ, zero, suc, ◌+◌, ◌-◌, ◌*◌, ◌<◌, ◌≤◌, ◌==◌, Bool, true, false, List, [], ◌∷◌, ◌++◌, length, codes, decimal, map, get_or, Option, Some, None, if◌then◌else◌, refl, ap, sym, ◌∙◌, subst, arith}
+use Rattle.std.proofs.Common.{◌≡◌, ℕ, zero, suc, ◌+◌, ◌-◌, ◌*◌, ◌<◌, ◌≤◌, ◌==◌, Bool, true, false}
+use Rattle.std.proofs.Common.{List, [], ◌∷◌, ◌++◌, length, codes, decimal, map, get_or, Option}
+use Rattle.std.proofs.Common.{Some, None, if◌then◌else◌, refl, ap, sym, ◌∙◌, subst, arith}
 use Rattle.std.specs.List.{range_with_len}
 use Rattle.std.specs.Ordering.{int_eq}
 use Rattle.awk_types.specs.DataType.{Name, DataType, var, reg, opt, row_type}
 use Rattle.awk_types.specs.Has.{Has}
 use Rattle.awk_types.specs.Value.{Value, null, row, value_list}
 use Rattle.awk_json.specs.Text.{quoted, comma_joined, list_text}
-use Rattle.awk_layout.specs.Layout.{Layout, Layouts, layout_list, count, empty, flat, regular, lists, offset_lists, rows, indexed, optional, byte_masked, bit_masked, unmasked, union, no_layouts, layout}
+use Rattle.awk_layout.specs.Layout.{Layout, Layouts, layout_list, count, empty, flat, regular}
+use Rattle.awk_layout.specs.Layout.{lists, offset_lists, rows, indexed, optional, byte_masked}
+use Rattle.awk_layout.specs.Layout.{bit_masked, unmasked, union, no_layouts, layout}
 use Rattle.awk_layout.specs.Valid.{len, len_of, IsValid, AreNames}
 use Rattle.awk_layout.specs.Item.{item, items_across, item_of, run, byte_shows, bit_shows}
-use Rattle.awk_layout.specs.Place.{span, missing, through, case_of, value_of, through_option, nth, IsWithin}
+use Rattle.awk_layout.specs.Place.{span, missing, through, case_of, value_of, through_option, nth}
+use Rattle.awk_layout.specs.Place.{IsWithin}
 use Rattle.awk_layout.specs.Laws.{item-case_of, case_of-within}
 use Rattle.awk_layout.specs.Typing.{layout_type, layout_types}
 use Rattle.awk_layout.specs.Numbered.{IsNumbered}
 use Rattle.awk_lanes.specs.Numbers.{nat_of}
 use Rattle.awk_lanes.specs.Places.{at, place_at, option_place_at}
-use Rattle.awk_text.specs.ValueText.{Text, is_null, value_text, row_texts, alternative_text, members, place_names}
+use Rattle.awk_text.specs.ValueText.{Text, is_null, value_text, row_texts, alternative_text}
+use Rattle.awk_text.specs.ValueText.{members, place_names}
 use Rattle.awk_text.specs.LayoutText.{layout_text, row_text, member_text, field_name, case_text}
 use Rattle.awk_layout.proofs.TypedItems.{item_has}
 use Rattle.std.proofs.lemmas.Simd.{map-map}

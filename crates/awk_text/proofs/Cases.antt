@@ -1,12 +1,16 @@
 -- What a case of a valid layout has: names for its fields.
-use Rattle.std.proofs.Common.{◌≡◌, ℕ, ◌+◌, ◌*◌, ◌<◌, ◌==◌, Bool, true, false, List, [], ◌∷◌, ◌++◌, ◌-◌, map, codes, Option, Some, None, length, if◌then◌else◌, subst, refl, ap, sym, ◌∙◌, arith}
+use Rattle.std.proofs.Common.{◌≡◌, ℕ, ◌+◌, ◌*◌, ◌<◌, ◌==◌, Bool, true, false, List, [], ◌∷◌, ◌++◌}
+use Rattle.std.proofs.Common.{◌-◌, map, codes, Option, Some, None, length, if◌then◌else◌, subst}
+use Rattle.std.proofs.Common.{refl, ap, sym, ◌∙◌, arith}
 use Rattle.std.specs.List.{range_with_len}
 use Rattle.std.specs.Ordering.{int_eq}
 use Rattle.awk_types.specs.DataType.{Name}
 use Rattle.awk_lanes.specs.Numbers.{nat_of}
 use Rattle.awk_lanes.specs.Places.{at, option_place_at}
 use Rattle.awk_json.specs.Text.{comma_joined}
-use Rattle.awk_layout.specs.Layout.{Layout, layout_list, layouts_from, count, empty, flat, regular, lists, offset_lists, rows, indexed, optional, byte_masked, bit_masked, unmasked, union}
+use Rattle.awk_layout.specs.Layout.{Layout, layout_list, layouts_from, count, empty, flat, regular}
+use Rattle.awk_layout.specs.Layout.{lists, offset_lists, rows, indexed, optional, byte_masked}
+use Rattle.awk_layout.specs.Layout.{bit_masked, unmasked, union}
 use Rattle.awk_layout.specs.Valid.{len, IsValid, AreNames}
 use Rattle.awk_layout.specs.Numbered.{IsNumbered}
 use Rattle.awk_layout.specs.Item.{byte_shows, bit_shows}

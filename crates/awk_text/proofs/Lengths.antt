@@ -1,9 +1,11 @@
 -- No text is empty.
-use Rattle.std.proofs.Common.{ℕ, zero, suc, ◌/◌, ◌%◌, ◌<◌, ◌==◌, Bool, true, false, List, [], ◌∷◌, length, decimal, pos, negsuc, ℤ, if◌then◌else◌, arith}
+use Rattle.std.proofs.Common.{ℕ, zero, suc, ◌/◌, ◌%◌, ◌<◌, ◌==◌, Bool, true, false, List, [], ◌∷◌}
+use Rattle.std.proofs.Common.{length, decimal, pos, negsuc, ℤ, if◌then◌else◌, arith}
 use Rattle.std.specs.Fmt.{digits, digits_onto, digit_glyph}
 use Rattle.std.specs.Fmt.{signed_decimal}
 use Rattle.awk_json.specs.Text.{truth_text}
-use Rattle.awk_types.specs.DataType.{DataType, unknown, leaf, var, reg, rec, tup, opt, uni, DataTypes, no_types, type}
+use Rattle.awk_types.specs.DataType.{DataType, unknown, leaf, var, reg, rec, tup, opt, uni}
+use Rattle.awk_types.specs.DataType.{DataTypes, no_types, type}
 use Rattle.awk_types.specs.Value.{Value, int, truth, null, alt}
 use Rattle.awk_text.specs.ValueText.{leaf_text, value_text, alternative_text}
 use Rattle.awk_types.specs.Has.{Has, HasAlternative}

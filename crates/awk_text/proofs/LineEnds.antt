@@ -1,8 +1,10 @@
 -- No text of a value, of a type or of a fault holds a byte that ends a line.
-use Rattle.std.proofs.Common.{◌≡◌, ℕ, zero, suc, Bool, true, false, cond, List, [], ◌∷◌, ◌++◌, map, refl, ap, sym, ◌∙◌, not, ◌&&◌, true≢false, codes, decimal, length}
+use Rattle.std.proofs.Common.{◌≡◌, ℕ, zero, suc, Bool, true, false, cond, List, [], ◌∷◌, ◌++◌, map}
+use Rattle.std.proofs.Common.{refl, ap, sym, ◌∙◌, not, ◌&&◌, true≢false, codes, decimal, length}
 use Rattle.std.specs.Char.{is_ascii_digit}
 use Rattle.std.specs.List.{AllByRecursion, list_all}
-use Rattle.awk_types.specs.DataType.{Name, DataType, unknown, leaf, var, reg, rec, tup, opt, uni, DataTypes, no_types, type}
+use Rattle.awk_types.specs.DataType.{Name, DataType, unknown, leaf, var, reg, rec, tup, opt, uni}
+use Rattle.awk_types.specs.DataType.{DataTypes, no_types, type}
 use Rattle.awk_types.specs.Value.{Value, int, truth, null, list, row, alt}
 use Rattle.awk_types.specs.Datum.{Datum, arr, one}
 use Rattle.awk_types.specs.declared.fault.Fault.{Fault}
@@ -12,8 +14,11 @@ use Rattle.awk_types.specs.declared.primitive.Primitive.TheVariants as primitive
 use Rattle.awk_edge.specs.Lines.{Unbroken}
 use Rattle.awk_edge.proofs.LineLaws.{Unbroken-append}
 use Rattle.awk_json.specs.Text.{quoted, joined, comma_joined, list_text}
-use Rattle.awk_json.proofs.Lines.{literal-unbroken, quoted-unbroken, joined-unbroken, comma_joined-unbroken, list_text-unbroken, decimal-unbroken, signed_decimal-unbroken, truth_text-unbroken}
-use Rattle.awk_text.specs.ValueText.{leaf_text, list_items, row_items, is_null, tag_of, untagged, place_names, members, value_text, row_texts, alternative_text}
+use Rattle.awk_json.proofs.Lines.{literal-unbroken, quoted-unbroken, joined-unbroken}
+use Rattle.awk_json.proofs.Lines.{comma_joined-unbroken, list_text-unbroken, decimal-unbroken}
+use Rattle.awk_json.proofs.Lines.{signed_decimal-unbroken, truth_text-unbroken}
+use Rattle.awk_text.specs.ValueText.{leaf_text, list_items, row_items, is_null, tag_of, untagged}
+use Rattle.awk_text.specs.ValueText.{place_names, members, value_text, row_texts, alternative_text}
 use Rattle.awk_text.specs.TypeText.{primitive_text, is_word, is_bare, name_text, option_opening}
 use Rattle.awk_text.specs.TypeText.{option_close, enclosed, field_type_texts, size_text, type_text}
 use Rattle.awk_text.specs.TypeText.{type_texts, datum_type_text}

@@ -1,7 +1,9 @@
 -- The text of a lane's number.
-use Rattle.std.proofs.Common.{◌≡◌, ℕ, ◌+◌, ◌-◌, ◌<◌, ◌≤◌, ◌==◌, ◌++◌, length, true, false, ap, sym, ◌∙◌, refl, arith}
+use Rattle.std.proofs.Common.{◌≡◌, ℕ, ◌+◌, ◌-◌, ◌<◌, ◌≤◌, ◌==◌, ◌++◌, length, true, false, ap, sym}
+use Rattle.std.proofs.Common.{◌∙◌, refl, arith}
 use Rattle.awk_lanes.specs.declared.kind.Kind.{Kind}
-use Rattle.awk_lanes.specs.declared.kind.Kind.TheVariants.{Bool as Truths, I8, I16, I32, I64, U8, U16, U32, U64}
+use Rattle.awk_lanes.specs.declared.kind.Kind.TheVariants.{Bool as Truths, I8, I16, I32, I64, U8}
+use Rattle.awk_lanes.specs.declared.kind.Kind.TheVariants.{U16, U32, U64}
 use Rattle.awk_lanes.specs.declared.kind.Num.{Num}
 use Rattle.awk_lanes.specs.declared.kind.Num.TheVariants.{Int, Nat, Truth}
 use Rattle.awk_lanes.specs.Column.{Column}

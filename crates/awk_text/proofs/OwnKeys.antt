@@ -1,12 +1,15 @@
 -- The keys of a node's own buffers, by the shape of its form.
-use Rattle.std.proofs.Common.{◌≡◌, ℕ, Global, rules, List, [], ◌∷◌, ◌++◌, Bool, Option, ap, ap₂, ◌∙◌, append_assoc, codes, unwrap_or}
+use Rattle.std.proofs.Common.{◌≡◌, ℕ, Global, rules, List, [], ◌∷◌, ◌++◌, Bool, Option, ap, ap₂}
+use Rattle.std.proofs.Common.{◌∙◌, append_assoc, codes, unwrap_or}
 use Rattle.std.specs.Prelude.{Box}
 use Rattle.awk_types.specs.DataType.{Name}
 use Rattle.awk_types.specs.declared.primitive.Primitive.{Primitive}
 use Rattle.awk_form.specs.View.{form_of}
 use Rattle.awk_form.specs.declared.form.Form.{Form}
 use Rattle.awk_form.specs.declared.form.Forms.{Forms}
-use Rattle.awk_form.specs.declared.form.Shape.{the_lemmas, Numpy, ListOffset, Indexed, IndexedOption, ByteMasked, BitMasked, Union, List as Lists}
+use Rattle.awk_form.specs.declared.form.Shape.{the_lemmas, Numpy, ListOffset, Indexed}
+use Rattle.awk_form.specs.declared.form.Shape.{IndexedOption, ByteMasked, BitMasked, Union}
+use Rattle.awk_form.specs.declared.form.Shape.{List as Lists}
 use Rattle.awk_form.specs.declared.form.Shape.TheViews.{out-Form}
 use Rattle.awk_form.specs.declared.kind.IndexKind.{IndexKind}
 use Rattle.awk_text.specs.Buffers.{buffer_key, own_keys}

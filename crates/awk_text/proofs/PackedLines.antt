@@ -1,5 +1,6 @@
 -- No text of a form or of a packed array holds a byte that ends a line.
-use Rattle.std.proofs.Common.{ℕ, Bool, List, [], ◌∷◌, ◌++◌, map, length, Option, None, Some, refl, codes, decimal}
+use Rattle.std.proofs.Common.{ℕ, Bool, List, [], ◌∷◌, ◌++◌, map, length, Option, None, Some, refl}
+use Rattle.std.proofs.Common.{codes, decimal}
 use Rattle.std.specs.List.{AllByRecursion}
 use Rattle.base64.specs.Engines.{standard}
 use Rattle.base64.specs.GeneralPurpose.{encode_of}
@@ -10,9 +11,14 @@ use Rattle.awk_edge.specs.Lines.{Unbroken}
 use Rattle.awk_edge.proofs.LineLaws.{Unbroken-append}
 use Rattle.awk_json.specs.Text.{quoted, list_text, comma_joined, truth_text}
 use Rattle.awk_json.proofs.Base64.{encode_of-unbroken}
-use Rattle.awk_json.proofs.Lines.{literal-unbroken, quoted-unbroken, list_text-unbroken, comma_joined-unbroken, decimal-unbroken, truth_text-unbroken}
-use Rattle.awk_form.specs.FormText.{kind_text, primitive_text, fields_text, key_text, member, word, key_of, class_text, members_text, class_member, end_text, node_text, contents_text, form_texts, form_text}
-use Rattle.awk_form.specs.FormTree.{FormTree, FormTrees, empty, numpy, regular, list, list_offset, row, indexed, indexed_option, byte_masked, bit_masked, unmasked, union, no_forms, form}
+use Rattle.awk_json.proofs.Lines.{literal-unbroken, quoted-unbroken, list_text-unbroken}
+use Rattle.awk_json.proofs.Lines.{comma_joined-unbroken, decimal-unbroken, truth_text-unbroken}
+use Rattle.awk_form.specs.FormText.{kind_text, primitive_text, fields_text, key_text, member, word}
+use Rattle.awk_form.specs.FormText.{key_of, class_text, members_text, class_member, end_text}
+use Rattle.awk_form.specs.FormText.{node_text, contents_text, form_texts, form_text}
+use Rattle.awk_form.specs.FormTree.{FormTree, FormTrees, empty, numpy, regular, list, list_offset}
+use Rattle.awk_form.specs.FormTree.{row, indexed, indexed_option, byte_masked, bit_masked, unmasked}
+use Rattle.awk_form.specs.FormTree.{union, no_forms, form}
 use Rattle.awk_form.specs.declared.kind.IndexKind.{IndexKind}
 use Rattle.awk_form.specs.declared.kind.IndexKind.TheVariants as index
 use Rattle.awk_pack.specs.Canon.{Pack}

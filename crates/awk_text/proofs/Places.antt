@@ -1,12 +1,15 @@
 -- The texts of the places from a first one to a stop, put one after another with a separator
 -- between each two.
-use Rattle.std.proofs.Common.{◌≡◌, ℕ, ◌+◌, ◌-◌, ◌*◌, ◌<◌, ◌≤◌, ◌==◌, List, ◌∷◌, ◌++◌, map, length, codes, Option, Ok, Err, Result, ap, sym, ◌∙◌, arith, length-append}
+use Rattle.std.proofs.Common.{◌≡◌, ℕ, ◌+◌, ◌-◌, ◌*◌, ◌<◌, ◌≤◌, ◌==◌, List, ◌∷◌, ◌++◌, map, length}
+use Rattle.std.proofs.Common.{codes, Option, Ok, Err, Result, ap, sym, ◌∙◌, arith, length-append}
 use Rattle.std.specs.List.{range_with_len}
 use Rattle.awk_edge.specs.Pending.{Pending}
 use Rattle.awk_edge.specs.Put.{Moves}
 use Rattle.awk_edge.specs.declared.output.WriteFault.{WriteFault}
 use Rattle.awk_json.specs.Text.{joined, comma_joined, separator_before, comma_before}
-use Rattle.awk_json.proofs.Joins.{JoinsBy, joined_after, joined_after-nothing, joins_first, joins_next, joins_stop, joins_stop_in, joins_last, texts_left, texts_none, separator_at_first, separator_later}
+use Rattle.awk_json.proofs.Joins.{JoinsBy, joined_after, joined_after-nothing, joins_first}
+use Rattle.awk_json.proofs.Joins.{joins_next, joins_stop, joins_stop_in, joins_last, texts_left}
+use Rattle.awk_json.proofs.Joins.{texts_none, separator_at_first, separator_later}
 use Rattle.awk_text.proofs.Costs.{IsPaid, paid_first, paid_more}
 
 -- the texts of f at the places from j on

@@ -1,5 +1,7 @@
 -- Runs of a list's texts, each behind its comma.
-use Rattle.std.proofs.Common.{◌≡◌, ℕ, zero, suc, ◌+◌, ◌-◌, ◌<◌, ◌≤◌, ◌==◌, List, [], ◌++◌, length, codes, Option, Ok, Err, Result, ap, sym, ◌∙◌, arith, append_assoc, length-append, add-zero}
+use Rattle.std.proofs.Common.{◌≡◌, ℕ, zero, suc, ◌+◌, ◌-◌, ◌<◌, ◌≤◌, ◌==◌, List, [], ◌++◌, length}
+use Rattle.std.proofs.Common.{codes, Option, Ok, Err, Result, ap, sym, ◌∙◌, arith, append_assoc}
+use Rattle.std.proofs.Common.{length-append, add-zero}
 use Rattle.std.specs.List.{range_with_len, flat_map}
 use Rattle.awk_edge.specs.Pending.{Pending}
 use Rattle.awk_edge.specs.Put.{Moves}

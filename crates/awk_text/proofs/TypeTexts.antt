@@ -1,8 +1,10 @@
 -- The texts of types and of fields, place by place.
-use Rattle.std.proofs.Common.{◌≡◌, ℕ, ◌-◌, List, [], ◌∷◌, ◌++◌, codes, length, map, get_or, Box, Global, refl, ap, sym, ◌∙◌, arith, rules}
+use Rattle.std.proofs.Common.{◌≡◌, ℕ, ◌-◌, List, [], ◌∷◌, ◌++◌, codes, length, map, get_or, Box}
+use Rattle.std.proofs.Common.{Global, refl, ap, sym, ◌∙◌, arith, rules}
 use Rattle.std.specs.List.{range_with_len}
 use Rattle.awk_types.specs.DataType.{DataType, unknown, types_from}
-use Rattle.awk_types.specs.View.{NamedType, typ_step, field_step, fields_step, typs_step, typ_of, field_of, names_of, types_of}
+use Rattle.awk_types.specs.View.{NamedType, typ_step, field_step, fields_step, typs_step, typ_of}
+use Rattle.awk_types.specs.View.{field_of, names_of, types_of}
 use Rattle.awk_types.specs.declared.typ.Typ.{Typ, Var, Reg, Opt, the_lemmas}
 use Rattle.awk_types.specs.declared.typ.Typ.TheFolds.{fold_out-Field}
 use Rattle.awk_types.specs.declared.typ.Typ.TheViews.{out-Field}
@@ -19,7 +21,9 @@ use Rattle.awk_layout.specs.Item.{item, items}
 use Rattle.awk_layout.specs.Typing.{layout_type, array_type, array_items}
 use Rattle.awk_json.specs.Text.{joined}
 use Rattle.awk_text.specs.ValueText.{Text}
-use Rattle.awk_text.specs.TypeText.{type_text, type_texts, field_type_texts, name_text, named_type_text, size_text, option_opening, option_close, enclosed, datum_type_text}
+use Rattle.awk_text.specs.TypeText.{type_text, type_texts, field_type_texts, name_text}
+use Rattle.awk_text.specs.TypeText.{named_type_text, size_text, option_opening, option_close}
+use Rattle.awk_text.specs.TypeText.{enclosed, datum_type_text}
 use Rattle.awk_text.proofs.Places.{texts_from}
 use Rattle.awk_text.proofs.Ranges.{map-shift}
 

@@ -1,9 +1,12 @@
 -- The alternatives of simple types, laid one after another, as a union has them.
-use Rattle.std.proofs.Common.{◌≡◌, ℕ, zero, suc, ◌+◌, ◌<◌, Bool, true, false, ◌||◌, List, [], ◌∷◌, ◌++◌, length, codes, refl, ap, sym, ◌∙◌, subst, arith, length-append, add-zero}
+use Rattle.std.proofs.Common.{◌≡◌, ℕ, zero, suc, ◌+◌, ◌<◌, Bool, true, false, ◌||◌, List, [], ◌∷◌}
+use Rattle.std.proofs.Common.{◌++◌, length, codes, refl, ap, sym, ◌∙◌, subst, arith, length-append}
+use Rattle.std.proofs.Common.{add-zero}
 use Rattle.std.specs.List.{list_any, flat_map}
 use Rattle.awk_types.specs.DataType.{DataType, opt, uni, DataTypes, type, types_from}
 use Rattle.awk_types.specs.Value.{Value, int, truth, null, list, row, alt}
-use Rattle.awk_types.specs.Simple.{is_option, option_if, present_alternatives, union_of, alternatives_before, value_after}
+use Rattle.awk_types.specs.Simple.{is_option, option_if, present_alternatives, union_of}
+use Rattle.awk_types.specs.Simple.{alternatives_before, value_after}
 use Rattle.awk_types.proofs.SimpleLaws.{inner_tag, inner_value, present_alternatives-union_of}
 use Rattle.awk_text.specs.ValueText.{Text, is_null, value_text, alternative_text}
 

@@ -1,5 +1,6 @@
 -- The texts of a layout's items, as the layout has them.
-use Rattle.std.specs.Prelude.{ℕ, ◌-◌, ◌≤◌, ◌==◌, List, [], ◌++◌, map, get_or, length, codes, decimal, Option, Some, None, option_map}
+use Rattle.std.specs.Prelude.{ℕ, ◌-◌, ◌≤◌, ◌==◌, List, [], ◌++◌, map, get_or, length, codes}
+use Rattle.std.specs.Prelude.{decimal, Option, Some, None, option_map}
 use Rattle.std.specs.Borrow.{Bor}
 use Rattle.std.specs.List.{range_with_len, flat_map}
 use Rattle.awk_types.specs.DataType.{Name}

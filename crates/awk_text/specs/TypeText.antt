@@ -1,10 +1,12 @@
 -- The texts of types, and of data by their types.
-use Rattle.std.specs.Prelude.{ℕ, Bool, true, false, not, ◌==◌, ◌&&◌, ◌||◌, List, [], ◌∷◌, ◌++◌, if◌then◌else◌, codes, decimal, length}
+use Rattle.std.specs.Prelude.{ℕ, Bool, true, false, not, ◌==◌, ◌&&◌, ◌||◌, List, [], ◌∷◌, ◌++◌}
+use Rattle.std.specs.Prelude.{if◌then◌else◌, codes, decimal, length}
 use Rattle.std.specs.Char.{is_ascii_digit, is_ascii_alphanumeric}
 use Rattle.std.specs.List.{list_all}
 use Rattle.awk_types.specs.declared.primitive.Primitive.{Primitive}
 use Rattle.awk_types.specs.declared.primitive.Primitive.TheVariants as primitive
-use Rattle.awk_types.specs.DataType.{Name, DataType, unknown, leaf, var, reg, rec, tup, opt, uni, DataTypes, no_types, type}
+use Rattle.awk_types.specs.DataType.{Name, DataType, unknown, leaf, var, reg, rec, tup, opt, uni}
+use Rattle.awk_types.specs.DataType.{DataTypes, no_types, type}
 use Rattle.awk_types.specs.Datum.{Datum, arr, one}
 use Rattle.awk_types.specs.View.{NamedType}
 use Rattle.awk_types.specs.Predicates.{is_list}

@@ -1,12 +1,14 @@
 //! The buffers of a form, each under its key, in base64.
-ghost use Rattle.std.specs.Prelude.{◌≡◌, ◌<◌, ◌≤◌, ◌+◌, ◌++◌, ◌∷◌, [], IsTrue, OnOk, Option, length, unwrap_or};
+ghost use Rattle.std.specs.Prelude.{◌≡◌, ◌<◌, ◌≤◌, ◌+◌, ◌++◌, ◌∷◌, [], IsTrue, OnOk, Option};
+ghost use Rattle.std.specs.Prelude.{length, unwrap_or};
 ghost use Rattle.awk_edge.specs.Causes.{HasCause};
 ghost use Rattle.awk_edge.specs.Put.{Moves};
 ghost use Rattle.awk_types.specs.DataType.{Name as Key};
 ghost use Rattle.awk_lanes.specs.Places.{size_of};
 ghost use Rattle.awk_form.specs.FormTree.{contents_of, forms_from};
 ghost use Rattle.awk_form.specs.View.{form_of, forms_of, keyed};
-ghost use Rattle.awk_text.specs.Buffers.{own_keys, buffer_keys, keys_of, lane_bytes, buffer_text, texts_from, numbers_before, separator as comma};
+ghost use Rattle.awk_text.specs.Buffers.{own_keys, buffer_keys, keys_of, lane_bytes, buffer_text};
+ghost use Rattle.awk_text.specs.Buffers.{texts_from, numbers_before, separator as comma};
 
 use crate::encoded::write_base64;
 use awk_edge::{Out, Sink, WriteFault};

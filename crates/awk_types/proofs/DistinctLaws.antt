@@ -1,5 +1,7 @@
 -- Laws of the test whether names are distinct, seen from the left.
-use Rattle.std.proofs.Common.{◌≡◌, ℕ, ◌+◌, ◌&&◌, ◌||◌, Bool, true, false, not, cond, List, [], ◌∷◌, ◌++◌, take, drop, slice_get, Some, is_eq, nat_cmp, refl, sym, ap, ap₂, ◌∙◌, true≢false, subst}
+use Rattle.std.proofs.Common.{◌≡◌, ℕ, ◌+◌, ◌&&◌, ◌||◌, Bool, true, false, not, cond, List, [], ◌∷◌}
+use Rattle.std.proofs.Common.{◌++◌, take, drop, slice_get, Some, is_eq, nat_cmp, refl, sym, ap, ap₂}
+use Rattle.std.proofs.Common.{◌∙◌, true≢false, subst}
 use Rattle.std.specs.Cmp.Lexicographic.{slice_cmp}
 use Rattle.std.proofs.lemmas.List.{take-append-drop}
 use Rattle.std.proofs.lemmas.List.Folds.{list_any-append}
@@ -70,7 +72,8 @@ pub repeated : (names : List Name) (i : ℕ) (name : Name) → slice_get names i
     → is_among name (take i names) ≡ true → false ≡ are_distinct names
 repeated names i name at twice =
     sym (repeats (take i names) name (drop (i + 1) names) twice)
-    ∙ ap are_distinct (ap (λ ns. take i names ++ ns) (sym (drop-get names i name at)) ∙ take-append-drop i names)
+    ∙ ap are_distinct (ap (λ ns. take i names ++ ns) (sym (drop-get names i name at)) ∙
+    take-append-drop i names)
 
 -- ---- the names that a set has
 

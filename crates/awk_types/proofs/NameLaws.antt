@@ -26,12 +26,18 @@ apart_from n m e same = let yes : same_name n m ≡ true = (bytes_decides n m).1
 
 -- ---- distinct names
 
-is_among-push : (m n : Name) (ms : List Name) → is_among m ms ≡ false → n ≢ m → is_among m (ms ++ n ∷ []) ≡ false
+is_among-push : (m n : Name) (ms : List Name) → is_among m ms ≡ false → n ≢ m
+    → is_among m (ms ++ n ∷ []) ≡ false
 is_among-push m n [] e h = or_from (same_name n m) false (same_name_apart n m h) refl
-is_among-push m n (k ∷ ms) e h = or_from (same_name k m) _ (or_parts _ _ e).0 (is_among-push m n ms (or_parts (same_name k m) _ e).1 h)
+is_among-push m n (k ∷ ms) e h =
+    or_from (same_name k m) _ (or_parts _ _ e).0
+    (is_among-push m n ms (or_parts (same_name k m) _ e).1 h)
 
 -- a further name that is not among them leaves them distinct
-pub AreDistinct-push : (ns : List Name) (n : Name) → AreDistinct ns → is_among n ns ≡ false → AreDistinct (ns ++ n ∷ [])
+pub AreDistinct-push : (ns : List Name) (n : Name) → AreDistinct ns → is_among n ns ≡ false
+    → AreDistinct (ns ++ n ∷ [])
 AreDistinct-push [] n d e = (refl, tt)
-AreDistinct-push (m ∷ ms) n d e =
-    (is_among-push m n ms d.0 (λ same. apart_from m n (or_parts _ _ e).0 (sym same)), AreDistinct-push ms n d.1 (or_parts (same_name m n) _ e).1)
+AreDistinct-push (m ∷ ms) n d e = (
+  is_among-push m n ms d.0 (λ same. apart_from m n (or_parts _ _ e).0 (sym same)),
+  AreDistinct-push ms n d.1 (or_parts (same_name m n) _ e).1,
+)

@@ -1,6 +1,7 @@
 -- Two types are equal exactly where their parts are.
 use Rattle.std.proofs.Common.{◌≡◌, ◌↔◌, List, [], ◌∷◌, refl, sym, ap, ◌∙◌}
-use Rattle.awk_types.specs.DataType.{Name, DataType, rec, tup, uni, DataTypes, no_types, type, types_from, type_list}
+use Rattle.awk_types.specs.DataType.{Name, DataType, rec, tup, uni, DataTypes, no_types, type}
+use Rattle.awk_types.specs.DataType.{types_from, type_list}
 use Rattle.awk_types.specs.View.{NamedType, names_of, types_of, typ_of, fields_of, typs_of}
 use Rattle.awk_types.specs.declared.typ.Typ.{Typ, Tup, Uni, Rec}
 use Rattle.awk_types.specs.declared.typ.Typs.{Typs}
@@ -33,7 +34,8 @@ unfolding fields_in
 fields_in-of [] = refl
 fields_in-of (f ∷ fs) = ap (λ gs. f ∷ gs) (fields_in-of fs)
 
-pub rec-inj : (fs gs : List NamedType) → rec (names_of fs) (types_of fs) ≡ rec (names_of gs) (types_of gs) → fs ≡ gs
+pub rec-inj : (fs gs : List NamedType)
+    → rec (names_of fs) (types_of fs) ≡ rec (names_of gs) (types_of gs) → fs ≡ gs
 rec-inj fs gs e = sym (fields_in-of fs) ∙ ap fields e ∙ fields_in-of gs
   where
     fields : DataType → List NamedType
@@ -44,11 +46,20 @@ rec-inj fs gs e = sym (fields_in-of fs) ∙ ap fields e ∙ fields_in-of gs
 same_as : {A : Type 0} {a b c d : A} {P : Type 0} → a ≡ c → b ≡ d → (P ↔ (c ≡ d)) → P ↔ (a ≡ b)
 same_as e f h = (λ p. e ∙ h.0 p ∙ sym f, λ g. h.1 (sym e ∙ g ∙ f))
 
-pub tup_same : (a b : Typ) (ts us : Typs) {P : Type 0} → a ≡ Tup ts → b ≡ Tup us → (P ↔ (typs_of ts ≡ typs_of us)) → P ↔ (typ_of a ≡ typ_of b)
-tup_same a b ts us ea eb h = same_as (ap typ_of ea ∙ typ_of-Tup ts) (ap typ_of eb ∙ typ_of-Tup us) (λ p. ap (λ x. tup (types_from x)) (h.0 p), λ e. h.1 (tup-inj _ _ e))
+pub tup_same : (a b : Typ) (ts us : Typs) {P : Type 0} → a ≡ Tup ts → b ≡ Tup us
+    → (P ↔ (typs_of ts ≡ typs_of us)) → P ↔ (typ_of a ≡ typ_of b)
+tup_same a b ts us ea eb h =
+    same_as (ap typ_of ea ∙ typ_of-Tup ts) (ap typ_of eb ∙ typ_of-Tup us)
+    (λ p. ap (λ x. tup (types_from x)) (h.0 p), λ e. h.1 (tup-inj _ _ e))
 
-pub uni_same : (a b : Typ) (ts us : Typs) {P : Type 0} → a ≡ Uni ts → b ≡ Uni us → (P ↔ (typs_of ts ≡ typs_of us)) → P ↔ (typ_of a ≡ typ_of b)
-uni_same a b ts us ea eb h = same_as (ap typ_of ea ∙ typ_of-Uni ts) (ap typ_of eb ∙ typ_of-Uni us) (λ p. ap (λ x. uni (types_from x)) (h.0 p), λ e. h.1 (uni-inj _ _ e))
+pub uni_same : (a b : Typ) (ts us : Typs) {P : Type 0} → a ≡ Uni ts → b ≡ Uni us
+    → (P ↔ (typs_of ts ≡ typs_of us)) → P ↔ (typ_of a ≡ typ_of b)
+uni_same a b ts us ea eb h =
+    same_as (ap typ_of ea ∙ typ_of-Uni ts) (ap typ_of eb ∙ typ_of-Uni us)
+    (λ p. ap (λ x. uni (types_from x)) (h.0 p), λ e. h.1 (uni-inj _ _ e))
 
-pub rec_same : (a b : Typ) (fs gs : Fields) {P : Type 0} → a ≡ Rec fs → b ≡ Rec gs → (P ↔ (fields_of fs ≡ fields_of gs)) → P ↔ (typ_of a ≡ typ_of b)
-rec_same a b fs gs ea eb h = same_as (ap typ_of ea ∙ typ_of-Rec fs) (ap typ_of eb ∙ typ_of-Rec gs) (λ p. ap (λ x. rec (names_of x) (types_of x)) (h.0 p), λ e. h.1 (rec-inj _ _ e))
+pub rec_same : (a b : Typ) (fs gs : Fields) {P : Type 0} → a ≡ Rec fs → b ≡ Rec gs
+    → (P ↔ (fields_of fs ≡ fields_of gs)) → P ↔ (typ_of a ≡ typ_of b)
+rec_same a b fs gs ea eb h =
+    same_as (ap typ_of ea ∙ typ_of-Rec fs) (ap typ_of eb ∙ typ_of-Rec gs)
+    (λ p. ap (λ x. rec (names_of x) (types_of x)) (h.0 p), λ e. h.1 (rec-inj _ _ e))

@@ -1,20 +1,26 @@
 -- Each type and what it simplifies to meet the laws of simplifying.
 use Rattle.std.proofs.Common.{◌≡◌, map, refl, ap, ◌∙◌, sym, subst}
 use Rattle.std.specs.List.{AllByRecursion}
-use Rattle.awk_types.specs.DataType.{DataType, unknown, leaf, var, reg, rec, tup, opt, uni, DataTypes, types_from}
+use Rattle.awk_types.specs.DataType.{DataType, unknown, leaf, var, reg, rec, tup, opt, uni}
+use Rattle.awk_types.specs.DataType.{DataTypes, types_from}
 use Rattle.awk_types.specs.Value.{Value, list, row, Values, value_list, values_from}
 use Rattle.awk_types.specs.Has.{Has, HasRow}
-use Rattle.awk_types.specs.Simple.{simple, simples, simple_value, simple_values, values_by, in_list, in_row}
+use Rattle.awk_types.specs.Simple.{simple, simples, simple_value, simple_values, values_by, in_list}
+use Rattle.awk_types.specs.Simple.{in_row}
 use Rattle.awk_types.specs.Simplifies.{Simplifies, over_simple_parts, value_over_simple_parts}
 use Rattle.awk_types.proofs.Trees.{type_list-from, value_list-from}
-use Rattle.awk_types.proofs.SimpleLaws.{simple_is_simple, simples_are_simple, simple_stays, simples_stay, simple_twice, has_simple, has_simples, value_stays, values_stay, option_over, option_value_over, union_over, union_value_over, each_twice}
+use Rattle.awk_types.proofs.SimpleLaws.{simple_is_simple, simples_are_simple, simple_stays}
+use Rattle.awk_types.proofs.SimpleLaws.{simples_stay, simple_twice, has_simple, has_simples}
+use Rattle.awk_types.proofs.SimpleLaws.{value_stays, values_stay, option_over, option_value_over}
+use Rattle.awk_types.proofs.SimpleLaws.{union_over, union_value_over, each_twice}
 use Rattle.awk_types.proofs.NodeLaws.{nodes-simple}
 use Rattle.awk_types.proofs.TypeLaws.{simple_is_type}
 
 -- ---- simplifying the parts first
 
 pub simples_over : (ts : DataTypes) → simples (types_from (simples ts)) ≡ simples ts
-simples_over ts = simples_stay (types_from (simples ts)) (simples_are_simple ts) ∙ type_list-from (simples ts)
+simples_over ts =
+    simples_stay (types_from (simples ts)) (simples_are_simple ts) ∙ type_list-from (simples ts)
 
 pub simple_over : (t : DataType) → simple (over_simple_parts t) ≡ simple t
 simple_over unknown = refl
@@ -26,15 +32,24 @@ simple_over (tup ts) = ap (λ us. tup (types_from us)) (simples_over ts)
 simple_over (opt t) = option_over t
 simple_over (uni ts) = union_over ts
 
-list_over : (t : DataType) (vs : Values) → AllByRecursion (Has t) (value_list vs) → in_list (simple_value (simple t)) (in_list (simple_value t) (list vs)) ≡ in_list (simple_value t) (list vs)
-list_over t vs h = rw (value_list-from (map (simple_value t) (value_list vs))) (ap (λ ws. list (values_from ws)) (each_twice t (value_list vs) h))
+list_over : (t : DataType) (vs : Values) → AllByRecursion (Has t) (value_list vs)
+    → in_list (simple_value (simple t)) (in_list (simple_value t) (list vs)) ≡ in_list
+    (simple_value t) (list vs)
+list_over t vs h =
+    rw (value_list-from (map (simple_value t) (value_list vs)))
+    (ap (λ ws. list (values_from ws)) (each_twice t (value_list vs) h))
 
-row_over : (ts : DataTypes) (vs : Values) → HasRow ts (value_list vs) → in_row (simple_values (types_from (simples ts))) (in_row (simple_values ts) (row vs)) ≡ in_row (simple_values ts) (row vs)
+row_over : (ts : DataTypes) (vs : Values) → HasRow ts (value_list vs)
+    → in_row (simple_values (types_from (simples ts))) (in_row (simple_values ts) (row vs)) ≡ in_row
+    (simple_values ts) (row vs)
 row_over ts vs h =
     rw (value_list-from (values_by (simple_values ts) (value_list vs)))
-    (ap (λ ws. row (values_from ws)) (values_stay (types_from (simples ts)) (values_by (simple_values ts) (value_list vs)) (simples_are_simple ts) (has_simples ts (value_list vs) h)))
+    (ap (λ ws. row (values_from ws)) (values_stay (types_from (simples ts))
+    (values_by (simple_values ts) (value_list vs)) (simples_are_simple ts)
+    (has_simples ts (value_list vs) h)))
 
-pub value_over : (t : DataType) (v : Value) → Has t v → simple_value (over_simple_parts t) (value_over_simple_parts t v) ≡ simple_value t v
+pub value_over : (t : DataType) (v : Value) → Has t v
+    → simple_value (over_simple_parts t) (value_over_simple_parts t v) ≡ simple_value t v
 value_over unknown v h = refl
 value_over (leaf p) v h = refl
 value_over (var t) (list vs) h = list_over t vs h

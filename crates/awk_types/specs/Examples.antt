@@ -1,8 +1,11 @@
 -- The definitions at worked examples, each checked by computing.
-use Rattle.std.specs.Prelude.{◌≡◌, ℕ, zero, suc, Bool as Truth, true, false, List, [], ◌∷◌, map, pos, negsuc, codes, Option, Some, None, refl}
+use Rattle.std.specs.Prelude.{◌≡◌, ℕ, zero, suc, Bool as Truth, true, false, List, [], ◌∷◌, map}
+use Rattle.std.specs.Prelude.{pos, negsuc, codes, Option, Some, None, refl}
 use Rattle.awk_types.specs.declared.primitive.Primitive.{Primitive}
-use Rattle.awk_types.specs.declared.primitive.Primitive.TheVariants.{Bool, I8, I16, I32, I64, U8, U16, U32, U64}
-use Rattle.awk_types.specs.DataType.{DataType, unknown, leaf, var, reg, rec, tup, opt, uni, types_from, depth, nodes}
+use Rattle.awk_types.specs.declared.primitive.Primitive.TheVariants.{Bool, I8, I16, I32, I64, U8}
+use Rattle.awk_types.specs.declared.primitive.Primitive.TheVariants.{U16, U32, U64}
+use Rattle.awk_types.specs.DataType.{DataType, unknown, leaf, var, reg, rec, tup, opt, uni}
+use Rattle.awk_types.specs.DataType.{types_from, depth, nodes}
 use Rattle.awk_types.specs.Value.{Value, int, truth, null, list, row, alt, values_from}
 use Rattle.awk_types.specs.Datum.{arr, one}
 use Rattle.awk_types.specs.Names.{is_among}

@@ -1,10 +1,12 @@
 -- Which values are of a type. No value is of type unknown.
 use Rattle.std.specs.Prelude.{◌≡◌, ℕ, zero, suc, List, [], ◌∷◌, length, ℤ, pos, negsuc, ◌≤ℤ◌}
 use Rattle.std.specs.List.{AllByRecursion}
-use Rattle.awk_types.specs.DataType.{DataType, leaf, var, reg, rec, tup, opt, uni, DataTypes, no_types, type}
+use Rattle.awk_types.specs.DataType.{DataType, leaf, var, reg, rec, tup, opt, uni, DataTypes}
+use Rattle.awk_types.specs.DataType.{no_types, type}
 use Rattle.awk_types.specs.Value.{Value, int, truth, null, list, row, alt, value_list}
 use Rattle.awk_types.specs.declared.primitive.Primitive.{Primitive}
-use Rattle.awk_types.specs.declared.primitive.Primitive.TheVariants.{Bool, I8, I16, I32, I64, U8, U16, U32, U64}
+use Rattle.awk_types.specs.declared.primitive.Primitive.TheVariants.{Bool, I8, I16, I32, I64, U8}
+use Rattle.awk_types.specs.declared.primitive.Primitive.TheVariants.{U16, U32, U64}
 
 -- the least and the greatest number of a primitive; truth values are no numbers, and no number lies
 -- in their range

@@ -1,7 +1,8 @@
 -- Which trees are types: the names of a record are distinct and as many as its types, and a union
 -- has an alternative.
 use Rattle.std.specs.Prelude.{◌≡◌, ℕ, ◌≤◌, length}
-use Rattle.awk_types.specs.DataType.{DataType, unknown, leaf, var, reg, rec, tup, opt, uni, DataTypes, no_types, type, type_list}
+use Rattle.awk_types.specs.DataType.{DataType, unknown, leaf, var, reg, rec, tup, opt, uni}
+use Rattle.awk_types.specs.DataType.{DataTypes, no_types, type, type_list}
 use Rattle.awk_types.specs.Names.{AreDistinct}
 
 abbrev pub count : DataTypes → ℕ

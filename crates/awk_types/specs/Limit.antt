@@ -1,7 +1,9 @@
 -- The limits of a type.
-use Rattle.std.specs.Prelude.{ℕ, max, ◌||◌, nat_lt, List, [], ◌∷◌, length, Option, Some, None, Result, if◌then◌else◌}
+use Rattle.std.specs.Prelude.{ℕ, max, ◌||◌, nat_lt, List, [], ◌∷◌, length, Option, Some, None}
+use Rattle.std.specs.Prelude.{Result, if◌then◌else◌}
 use Rattle.awk_types.specs.Gives.{refused_or}
-use Rattle.awk_types.specs.DataType.{DataType, unknown, leaf, var, reg, rec, tup, opt, uni, DataTypes, no_types, type, greatest, depth, nodes}
+use Rattle.awk_types.specs.DataType.{DataType, unknown, leaf, var, reg, rec, tup, opt, uni}
+use Rattle.awk_types.specs.DataType.{DataTypes, no_types, type, greatest, depth, nodes}
 use Rattle.awk_types.specs.declared.limit.TypeFault.{TypeFault}
 use Rattle.awk_types.specs.declared.limit.TypeFault.TheVariants.{Depth, Size, NoMemory}
 

@@ -1,7 +1,9 @@
 -- Which whole-number types promote to which.
-use Rattle.std.specs.Prelude.{ℕ, Bool as Truth, true, false, ◌&&◌, nat_lt, Option, Some, None, if◌then◌else◌, ℤ}
+use Rattle.std.specs.Prelude.{ℕ, Bool as Truth, true, false, ◌&&◌, nat_lt, Option, Some, None}
+use Rattle.std.specs.Prelude.{if◌then◌else◌, ℤ}
 use Rattle.awk_types.specs.declared.primitive.Primitive.{Primitive}
-use Rattle.awk_types.specs.declared.primitive.Primitive.TheVariants.{Bool, I8, I16, I32, I64, U8, U16, U32, U64}
+use Rattle.awk_types.specs.declared.primitive.Primitive.TheVariants.{Bool, I8, I16, I32, I64, U8}
+use Rattle.awk_types.specs.declared.primitive.Primitive.TheVariants.{U16, U32, U64}
 use Rattle.awk_types.specs.Has.{Holds}
 
 abbrev pub is_whole : Primitive → Truth

@@ -1,8 +1,10 @@
 -- Tests of equality of primitives and of types.
 use Rattle.std.specs.Prelude.{ℕ, Bool as Truth, true, false, ◌&&◌, ◌==◌}
 use Rattle.awk_types.specs.declared.primitive.Primitive.{Primitive}
-use Rattle.awk_types.specs.declared.primitive.Primitive.TheVariants.{Bool, I8, I16, I32, I64, U8, U16, U32, U64}
-use Rattle.awk_types.specs.DataType.{DataType, unknown, leaf, var, reg, rec, tup, opt, uni, DataTypes, no_types, type}
+use Rattle.awk_types.specs.declared.primitive.Primitive.TheVariants.{Bool, I8, I16, I32, I64, U8}
+use Rattle.awk_types.specs.declared.primitive.Primitive.TheVariants.{U16, U32, U64}
+use Rattle.awk_types.specs.DataType.{DataType, unknown, leaf, var, reg, rec, tup, opt, uni}
+use Rattle.awk_types.specs.DataType.{DataTypes, no_types, type}
 use Rattle.awk_types.specs.Names.{same_names}
 
 -- a number for each primitive

@@ -1,6 +1,7 @@
 -- Settling: what a single value of a type is as a datum.
 use Rattle.std.specs.Prelude.{ℕ, zero, suc}
-use Rattle.awk_types.specs.DataType.{DataType, unknown, var, reg, opt, uni, DataTypes, no_types, type}
+use Rattle.awk_types.specs.DataType.{DataType, unknown, var, reg, opt, uni, DataTypes, no_types}
+use Rattle.awk_types.specs.DataType.{type}
 use Rattle.awk_types.specs.Value.{Value, null, list, alt, value_list}
 use Rattle.awk_types.specs.Datum.{Datum, arr, one}
 

@@ -2,7 +2,8 @@
 -- option, a union in a union is spliced in its place, and an option in a union is moved outside.
 use Rattle.std.specs.Prelude.{◌≡◌, ℕ, zero, suc, ◌+◌, Bool, true, false, List, [], ◌∷◌, length, map}
 use Rattle.std.specs.List.{list_any, flat_map}
-use Rattle.awk_types.specs.DataType.{DataType, unknown, leaf, var, reg, rec, tup, opt, uni, DataTypes, no_types, type, type_list, types_from}
+use Rattle.awk_types.specs.DataType.{DataType, unknown, leaf, var, reg, rec, tup, opt, uni}
+use Rattle.awk_types.specs.DataType.{DataTypes, no_types, type, type_list, types_from}
 use Rattle.awk_types.specs.Value.{Value, null, list, row, alt, value_list, values_from}
 
 abbrev pub is_option : DataType → Bool

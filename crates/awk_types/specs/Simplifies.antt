@@ -1,10 +1,12 @@
 -- The laws of simplifying, as facts on a type and on the type that it simplifies to.
 use Rattle.std.specs.Prelude.{◌≡◌, ◌≤◌}
-use Rattle.awk_types.specs.DataType.{DataType, unknown, leaf, var, reg, rec, tup, opt, uni, types_from, nodes}
+use Rattle.awk_types.specs.DataType.{DataType, unknown, leaf, var, reg, rec, tup, opt, uni}
+use Rattle.awk_types.specs.DataType.{types_from, nodes}
 use Rattle.awk_types.specs.Value.{Value}
 use Rattle.awk_types.specs.IsType.{IsType}
 use Rattle.awk_types.specs.Has.{Has}
-use Rattle.awk_types.specs.Simple.{IsSimple, simple, simples, simple_value, simple_values, in_list, in_row, in_option, in_alternative}
+use Rattle.awk_types.specs.Simple.{IsSimple, simple, simples, simple_value, simple_values, in_list}
+use Rattle.awk_types.specs.Simple.{in_row, in_option, in_alternative}
 
 -- the type over its parts simplified, and a value with its parts carried into them
 abbrev pub over_simple_parts : DataType → DataType

@@ -1,6 +1,7 @@
 -- The type that a `Typ` is, and the fields that `Fields` are.
 use Rattle.std.specs.Prelude.{◌<◌, List, map}
-use Rattle.awk_types.specs.DataType.{Name, DataType, DataTypes, unknown, leaf, var, reg, rec, tup, opt, uni, types_from}
+use Rattle.awk_types.specs.DataType.{Name, DataType, DataTypes, unknown, leaf, var, reg, rec, tup}
+use Rattle.awk_types.specs.DataType.{opt, uni, types_from}
 use Rattle.awk_types.specs.declared.typ.Typ.{Typ, size-Typ}
 use Rattle.awk_types.specs.declared.typ.Typs.{Typs, size-Typs}
 use Rattle.awk_types.specs.declared.typ.Field.{Field, size-Field}

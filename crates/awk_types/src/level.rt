@@ -1,7 +1,8 @@
 //! How many lists lie down to the leaves of a type.
 ghost use Rattle.std.specs.Prelude.{◌≡◌, ◌<◌, ◌≤◌, ◌^◌, None, IfSome};
 ghost use Rattle.awk_types.specs.DataType.{greatest, depth, depths, types_from};
-ghost use Rattle.awk_types.specs.Levels.{common_number, levels as levels_of, levels_each, turned_axis as axis_of};
+ghost use Rattle.awk_types.specs.Levels.{common_number, levels as levels_of, levels_each};
+ghost use Rattle.awk_types.specs.Levels.{turned_axis as axis_of};
 ghost use Rattle.awk_types.specs.Limit.{limit};
 ghost use Rattle.awk_types.specs.View.{types_of, typ_of, field_of, fields_of, typs_of};
 

@@ -1,6 +1,7 @@
 //! The depth of a type, its nodes, and the width of its unions.
 ghost use Rattle.std.specs.Prelude.{◌≡◌, ◌+◌, ◌-◌, ◌^◌, ◌<◌, min, sum};
-ghost use Rattle.awk_types.specs.DataType.{greatest, depth as depth_of, depths, nodes as nodes_of, nodes_each, types_from};
+ghost use Rattle.awk_types.specs.DataType.{greatest, depth as depth_of, depths, nodes as nodes_of};
+ghost use Rattle.awk_types.specs.DataType.{nodes_each, types_from};
 ghost use Rattle.awk_types.specs.Limit.{width as width_of, widths};
 ghost use Rattle.awk_types.specs.View.{types_of, typ_of, fields_of, typs_of};
 

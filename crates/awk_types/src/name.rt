@@ -1,5 +1,6 @@
 //! Names of fields.
-ghost use Rattle.std.specs.Prelude.{◌≡◌, ◌<◌, [], ◌∷◌, ◌++◌, length, option_map, string_bytes, IfOk, OnErr, OnOk, slice_get};
+ghost use Rattle.std.specs.Prelude.{◌≡◌, ◌<◌, [], ◌∷◌, ◌++◌, length, option_map, string_bytes};
+ghost use Rattle.std.specs.Prelude.{IfOk, OnErr, OnOk, slice_get};
 ghost use Rattle.awk_types.specs.Names.{is_among};
 ghost use Rattle.awk_types.specs.Names as said;
 

@@ -1,6 +1,9 @@
 //! Promotion of whole-number types.
 ghost use Rattle.std.specs.Prelude.{◌≡◌, IfSome};
-ghost use Rattle.awk_types.specs.Promotion.{HoldsAll, promotion, promotion_mixed, promotion_whole, bits as bits_of, is_signed as signed, is_whole as whole, signed_twice as twice, wider as wider_of};
+ghost use Rattle.awk_types.specs.Promotion.{HoldsAll, promotion, promotion_mixed, promotion_whole};
+ghost use Rattle.awk_types.specs.Promotion.{bits as bits_of, is_signed as signed};
+ghost use Rattle.awk_types.specs.Promotion.{is_whole as whole, signed_twice as twice};
+ghost use Rattle.awk_types.specs.Promotion.{wider as wider_of};
 
 use crate::primitive::Primitive;
 

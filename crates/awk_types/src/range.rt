@@ -1,6 +1,7 @@
 //! The numbers of the primitives.
 ghost use Rattle.std.specs.Prelude.{◌≡◌};
-ghost use Rattle.awk_types.specs.Fits.{fits as fits_in, literal_primitive, literal_fits as literal_fits_in};
+ghost use Rattle.awk_types.specs.Fits.{fits as fits_in, literal_primitive};
+ghost use Rattle.awk_types.specs.Fits.{literal_fits as literal_fits_in};
 ghost use Rattle.awk_types.specs.Has.{least_number, greatest_number};
 ghost use Rattle.awk_types.specs.View.{typ_of};
 

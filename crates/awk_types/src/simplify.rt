@@ -4,7 +4,8 @@ ghost use Rattle.std.specs.List.{list_any, flat_map};
 ghost use Rattle.awk_types.specs.DataType.{opt, uni, types_from};
 ghost use Rattle.awk_types.specs.Gives.{Gives};
 ghost use Rattle.awk_types.specs.Limit.{limit, limit_told, within};
-ghost use Rattle.awk_types.specs.Simple.{is_option, present_alternatives, option_of, union_of, simple, simples};
+ghost use Rattle.awk_types.specs.Simple.{is_option, present_alternatives, option_of, union_of};
+ghost use Rattle.awk_types.specs.Simple.{simple, simples};
 ghost use Rattle.awk_types.specs.Simplifies.{Simplifies};
 ghost use Rattle.awk_types.specs.View.{names_of, types_of, typ_of, fields_of, typs_of};
 

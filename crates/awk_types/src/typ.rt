@@ -1,6 +1,8 @@
 //! Types as trees.
-ghost use Rattle.std.specs.Prelude.{◌≡◌, ◌<◌, [], ◌∷◌, ◌++◌, length, map, IfOk, OnErr, OnOk, slice_get};
-ghost use Rattle.awk_types.specs.View.{Below, FieldBelow, names_of, typ_of, field_of, fields_of, typs_of};
+ghost use Rattle.std.specs.Prelude.{◌≡◌, ◌<◌, [], ◌∷◌, ◌++◌, length, map, IfOk, OnErr, OnOk};
+ghost use Rattle.std.specs.Prelude.{slice_get};
+ghost use Rattle.awk_types.specs.View.{Below, FieldBelow, names_of, typ_of, field_of, fields_of};
+ghost use Rattle.awk_types.specs.View.{typs_of};
 
 use crate::name::{Name, Names, NoMemory};
 use crate::primitive::Primitive;

@@ -1,9 +1,11 @@
 -- A value of one type, carried, is one of another: one carry after another, options.
 use Rattle.std.proofs.Common.{◌≡◌, ◌≤◌, ◌∷◌, [], ℕ, List, subst, suc, sym, zero}
 use Rattle.std.specs.Prelude.{None, Option, Some}
-use Rattle.awk_unify.proofs.AfterLaws.{AllInPlace, Fits, InPlace, after_carries, carry_null, fits_null}
+use Rattle.awk_unify.proofs.AfterLaws.{AllInPlace, Fits, InPlace, after_carries, carry_null}
+use Rattle.awk_unify.proofs.AfterLaws.{fits_null}
 use Rattle.awk_unify.specs.After.{after, afters, carry_by, each_after}
-use Rattle.awk_unify.specs.Carry.{Carries, Carry, carried, carry, in_items, keep, no_carries, to_alternatives, to_parts}
+use Rattle.awk_unify.specs.Carry.{Carries, Carry, carried, carry, in_items, keep, no_carries}
+use Rattle.awk_unify.specs.Carry.{to_alternatives, to_parts}
 use Rattle.awk_unify.specs.Join.{Unifying}
 use Rattle.awk_unify.specs.Unification.{Unification}
 use Rattle.awk_types.proofs.SimpleLaws.{has_option}
@@ -26,7 +28,9 @@ IfJoins a b None = Unit {0}
 IfJoins a b (Some j) = IsCarried a b j
 
 abbrev pub Good : ℕ → Unifying → Type 0
-Good n u = (a b : DataType) → depth b ≤ n → IsType a → IsType b → IsSimple a → IsSimple b → IsCarried a b (u a b)
+Good n u =
+    (a b : DataType) → depth b ≤ n → IsType a → IsType b → IsSimple a → IsSimple b → IsCarried a b
+    (u a b)
 
 pub stays : (t : DataType) → Takes t keep t
 stays t v h = (tt, h)
@@ -36,7 +40,8 @@ stays t v h = (tt, h)
 abbrev KeepPlaces : List (Carry → Carry) → Type 0
 KeepPlaces hs = (k : ℕ) (f : Carry) → InPlace f → InPlace (carry_by hs k f)
 
-each_in_place : (hs : List (Carry → Carry)) (ps : List ℕ) (fs : Carries) → KeepPlaces hs → AllInPlace fs → AllInPlace (each_after hs ps fs)
+each_in_place : (hs : List (Carry → Carry)) (ps : List ℕ) (fs : Carries) → KeepPlaces hs
+    → AllInPlace fs → AllInPlace (each_after hs ps fs)
 each_in_place hs [] fs p q = tt
 each_in_place hs (k ∷ ps) no_carries p q = tt
 each_in_place hs (k ∷ ps) (carry f fs) p q = (p k f q.0, each_in_place hs ps fs p q.1)
@@ -50,23 +55,28 @@ mutual
   after_in_place (in_items g) (to_alternatives ts fs) p q = q
   after_in_place (to_parts qs gs) keep p q = p
   after_in_place (to_parts qs gs) (in_items f) p q = q
-  after_in_place (to_parts qs gs) (to_parts ps fs) p q = (q.0, each_in_place (afters gs) ps fs (by_in_place gs p.1) q.1)
+  after_in_place (to_parts qs gs) (to_parts ps fs) p q =
+      (q.0, each_in_place (afters gs) ps fs (by_in_place gs p.1) q.1)
   after_in_place (to_parts qs gs) (to_alternatives ts fs) p q = q
   after_in_place (to_alternatives us gs) keep p q = p
   after_in_place (to_alternatives us gs) (in_items f) p q = (by_in_place gs p 0 (in_items f) q, tt)
-  after_in_place (to_alternatives us gs) (to_parts ps fs) p q = (by_in_place gs p 0 (to_parts ps fs) q, tt)
-  after_in_place (to_alternatives us gs) (to_alternatives ts fs) p q = each_in_place (afters gs) ts fs (by_in_place gs p) q
+  after_in_place (to_alternatives us gs) (to_parts ps fs) p q =
+      (by_in_place gs p 0 (to_parts ps fs) q, tt)
+  after_in_place (to_alternatives us gs) (to_alternatives ts fs) p q =
+      each_in_place (afters gs) ts fs (by_in_place gs p) q
 
   by_in_place : (gs : Carries) → AllInPlace gs → KeepPlaces (afters gs)
   by_in_place no_carries p k f q = q
   by_in_place (carry g gs) p zero f q = after_in_place g f p.0 q
   by_in_place (carry g gs) p (suc k) f q = by_in_place gs p.1 k f q
 
-pub then_carries : (a m t : DataType) (f g : Carry) → InPlace g → Takes a f m → Takes m g t → Takes a (after g f) t
+pub then_carries : (a m t : DataType) (f g : Carry) → InPlace g → Takes a f m → Takes m g t
+    → Takes a (after g f) t
 then_carries a m t f g p c d v h =
     let one : Fits f v × Has m (carried f v) = c v h in
     let two : Fits g (carried f v) × Has t (carried g (carried f v)) = d (carried f v) one.1 in
-    let both : Fits (after g f) v × (carried (after g f) v ≡ carried g (carried f v)) = after_carries g f v p one.0 two.0 in
+    let both : Fits (after g f) v × (carried (after g f) v ≡ carried g (carried f v)) =
+    after_carries g f v p one.0 two.0 in
     (both.0, subst (Has t) (sym both.1) two.1)
 
 -- ---- options

@@ -1,8 +1,10 @@
 -- Two lifts are equal exactly where their parts are, and lifts that one more leaves.
-use Rattle.std.proofs.Common.{◌≡◌, ◌↔◌, ℕ, List, [], ◌∷◌, ◌++◌, Option, Some, None, map, option_map, refl, sym, ap, ap₂, ◌∙◌}
+use Rattle.std.proofs.Common.{◌≡◌, ◌↔◌, ℕ, List, [], ◌∷◌, ◌++◌, Option, Some, None, map, option_map}
+use Rattle.std.proofs.Common.{refl, sym, ap, ap₂, ◌∙◌}
 use Rattle.std.proofs.lemmas.List.{map-append}
 use Rattle.awk_unify.specs.After.{after}
-use Rattle.awk_unify.specs.Carry.{Carry, Carries, carry_list, carries_from, to_parts, to_alternatives}
+use Rattle.awk_unify.specs.Carry.{Carry, Carries, carry_list, carries_from, to_parts}
+use Rattle.awk_unify.specs.Carry.{to_alternatives}
 use Rattle.awk_unify.specs.View.{IsIdle, lift_of, lifts_of}
 use Rattle.awk_unify.specs.declared.lift.Lift.{Lift, Parts, Alternatives}
 use Rattle.awk_unify.specs.declared.lift.Lifts.{Lifts}
@@ -41,7 +43,8 @@ same_as : {A : Type 0} {a b c d : A} {P : Type 0} → a ≡ c → b ≡ d → (P
 same_as e f h = (λ p. e ∙ h.0 p ∙ sym f, λ g. h.1 (sym e ∙ g ∙ f))
 
 pub parts_same : (f g : Lift) (ps qs : List ℕ) (fs gs : Lifts) {P : Type 0} → f ≡ Parts ps fs
-    → g ≡ Parts qs gs → (P ↔ ((ps ≡ qs) × (lifts_of fs ≡ lifts_of gs))) → P ↔ (lift_of f ≡ lift_of g)
+    → g ≡ Parts qs gs → (P ↔ ((ps ≡ qs) × (lifts_of fs ≡ lifts_of gs)))
+    → P ↔ (lift_of f ≡ lift_of g)
 parts_same f g ps qs fs gs ef eg h =
     same_as (ap lift_of ef ∙ lift_of-Parts ps fs) (ap lift_of eg ∙ lift_of-Parts qs gs) (
       λ p. ap₂ (λ ks hs. to_parts ks (carries_from hs)) (h.0 p).0 (h.0 p).1,
@@ -52,7 +55,8 @@ pub alternatives_same : (f g : Lift) (ps qs : List ℕ) (fs gs : Lifts) {P : Typ
     → f ≡ Alternatives ps fs → g ≡ Alternatives qs gs
     → (P ↔ ((ps ≡ qs) × (lifts_of fs ≡ lifts_of gs))) → P ↔ (lift_of f ≡ lift_of g)
 alternatives_same f g ps qs fs gs ef eg h =
-    same_as (ap lift_of ef ∙ lift_of-Alternatives ps fs) (ap lift_of eg ∙ lift_of-Alternatives qs gs) (
+    same_as (ap lift_of ef ∙ lift_of-Alternatives ps fs)
+    (ap lift_of eg ∙ lift_of-Alternatives qs gs) (
       λ p. ap₂ (λ ks hs. to_alternatives ks (carries_from hs)) (h.0 p).0 (h.0 p).1,
       λ e. h.1 (to_alternatives-inj ps qs (lifts_of fs) (lifts_of gs) e),
     )

@@ -2,7 +2,8 @@
 use Rattle.std.proofs.Common.{◌≡◌, ◌∷◌, [], ℕ, List, refl, suc, zero}
 use Rattle.awk_types.specs.Simple.{value_by}
 use Rattle.awk_types.specs.Value.{Value, alt, list, null, row}
-use Rattle.awk_unify.specs.Carry.{Carries, Carry, carried, carried_each, carry, in_items, keep, no_carries, to_alternatives, to_parts}
+use Rattle.awk_unify.specs.Carry.{Carries, Carry, carried, carried_each, carry, in_items, keep}
+use Rattle.awk_unify.specs.Carry.{no_carries, to_alternatives, to_parts}
 use Rattle.awk_unify.specs.Unifies.{scalar_of}
 use Rattle.awk_unify.proofs.AfterLaws.{Fits, FitsAt}
 
@@ -19,7 +20,8 @@ mutual
   scalar_stays (to_alternatives ts fs) (alt k v) h = scalar_at ts fs k v h
   scalar_stays (to_alternatives ts fs) v h = scalar_at ts fs 0 v h
 
-  scalar_at : (ts : List ℕ) (fs : Carries) (k : ℕ) (v : Value) → FitsAt ts fs k v → scalar_of (value_by (carried_each fs) k v) ≡ scalar_of v
+  scalar_at : (ts : List ℕ) (fs : Carries) (k : ℕ) (v : Value) → FitsAt ts fs k v
+      → scalar_of (value_by (carried_each fs) k v) ≡ scalar_of v
   scalar_at [] fs k v h = absurd h
   scalar_at (t ∷ ts) no_carries k v h = absurd h
   scalar_at (t ∷ ts) (carry f fs) zero v h = scalar_stays f v h

@@ -26,7 +26,8 @@ unknown_is t e = cc
 -- the test of equal types that a call answers
 pub same_type_from : (b : Bool) (t u : DataType) → (IsTrue b ↔ (t ≡ u)) → b ≡ same_type t u
 same_type_from true t u h = sym (subst (λ x. same_type t x ≡ true) (h.0 refl) (same_type-refl t))
-same_type_from false t u h = sym (false_from_ne_true (same_type t u) (λ e. no (h.1 (same_type_is t u e))))
+same_type_from false t u h =
+    sym (false_from_ne_true (same_type t u) (λ e. no (h.1 (same_type_is t u e))))
   where
     no : IsTrue false → ⊥
     no x = cc

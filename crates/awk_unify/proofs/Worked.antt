@@ -3,9 +3,11 @@ use Rattle.std.proofs.Common.{◌≡◌, ◌∷◌, [], ℕ, List, codes, map, n
 use Rattle.awk_unify.specs.Carry.{carried}
 use Rattle.awk_unify.specs.Unify.{unification}
 use Rattle.awk_unify.specs.UnifyList.{unification_list}
-use Rattle.awk_types.specs.DataType.{DataType, Name, leaf, opt, rec, reg, tup, types_from, uni, unknown, var}
+use Rattle.awk_types.specs.DataType.{DataType, Name, leaf, opt, rec, reg, tup, types_from, uni}
+use Rattle.awk_types.specs.DataType.{unknown, var}
 use Rattle.awk_types.specs.Value.{Value, alt, int, list, null, row, truth, values_from}
-use Rattle.awk_types.specs.declared.primitive.Primitive.TheVariants.{Bool, I16, I32, I64, I8, U16, U64, U8}
+use Rattle.awk_types.specs.declared.primitive.Primitive.TheVariants.{Bool, I16, I32, I64, I8, U16}
+use Rattle.awk_types.specs.declared.primitive.Primitive.TheVariants.{U64, U8}
 
 abbrev union : List DataType → DataType
 union ts = uni (types_from ts)

@@ -1,6 +1,7 @@
 -- One carry after another.
 use Rattle.std.specs.Prelude.{◌∷◌, [], ℕ, List, map, suc, zero}
-use Rattle.awk_unify.specs.Carry.{Carries, Carry, carry, in_items, keep, no_carries, tag_at, to_alternatives, to_parts}
+use Rattle.awk_unify.specs.Carry.{Carries, Carry, carry, in_items, keep, no_carries, tag_at}
+use Rattle.awk_unify.specs.Carry.{to_alternatives, to_parts}
 
 abbrev pub after_in_items : (Carry → Carry) → Carry → Carry → Carry
 after_in_items h g keep = g

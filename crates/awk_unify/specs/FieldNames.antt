@@ -1,6 +1,7 @@
 -- Fields of records by name.
 use Rattle.std.specs.List.{list_all}
-use Rattle.std.specs.Prelude.{◌&&◌, ◌==◌, ◌∷◌, [], ℕ, if◌then◌else◌, Bool, List, None, Option, Some, length, map, suc}
+use Rattle.std.specs.Prelude.{◌&&◌, ◌==◌, ◌∷◌, [], ℕ, if◌then◌else◌, Bool, List, None, Option, Some}
+use Rattle.std.specs.Prelude.{length, map, suc}
 use Rattle.awk_unify.specs.Carries.{carry_at}
 use Rattle.awk_unify.specs.Carry.{Carry, carries_from, to_parts}
 use Rattle.awk_unify.specs.Places.{places}

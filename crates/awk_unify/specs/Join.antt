@@ -1,9 +1,11 @@
 -- Which types join, and what they make, where their parts unify by a given function.
-use Rattle.std.specs.Prelude.{◌&&◌, ◌==◌, ◌∷◌, ◌++◌, [], if◌then◌else◌, List, None, Option, Some, length, map}
+use Rattle.std.specs.Prelude.{◌&&◌, ◌==◌, ◌∷◌, ◌++◌, [], if◌then◌else◌, List, None, Option, Some}
+use Rattle.std.specs.Prelude.{length, map}
 use Rattle.awk_unify.specs.Carry.{in_items, keep}
 use Rattle.awk_unify.specs.FieldNames.{alike, in_own, picked, to_names}
 use Rattle.awk_unify.specs.Unification.{Unification, Unifications}
-use Rattle.awk_types.specs.DataType.{DataType, Name, leaf, rec, reg, tup, type_list, types_from, unknown, var}
+use Rattle.awk_types.specs.DataType.{DataType, Name, leaf, rec, reg, tup, type_list, types_from}
+use Rattle.awk_types.specs.DataType.{unknown, var}
 use Rattle.awk_types.specs.Promotion.{promotion}
 use Rattle.awk_types.specs.SameType.{same_primitive}
 use Rattle.awk_types.specs.View.{NamedType, names_of}

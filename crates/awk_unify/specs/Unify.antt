@@ -1,5 +1,6 @@
 -- The type that two types unify to, and how the values of both are carried into it.
-use Rattle.std.specs.Prelude.{◌||◌, ◌∷◌, [], ℕ, if◌then◌else◌, Bool, None, Option, Some, false, suc, true, zero}
+use Rattle.std.specs.Prelude.{◌||◌, ◌∷◌, [], ℕ, if◌then◌else◌, Bool, None, Option, Some, false, suc}
+use Rattle.std.specs.Prelude.{true, zero}
 use Rattle.awk_unify.specs.Carry.{carry, keep, no_carries, to_alternatives}
 use Rattle.awk_unify.specs.Join.{Unifying, join_by}
 use Rattle.awk_unify.specs.Merge.{start, insert_all, merged}

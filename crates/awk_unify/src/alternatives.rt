@@ -1,5 +1,6 @@
 //! Alternatives of unions.
-ghost use Rattle.std.specs.Prelude.{◌≡◌, ◌<◌, ◌≤◌, ◌+◌, [], ◌∷◌, ◌++◌, length, take, drop, IfOk, OnOk};
+ghost use Rattle.std.specs.Prelude.{◌≡◌, ◌<◌, ◌≤◌, ◌+◌, [], ◌∷◌, ◌++◌, length, take, drop, IfOk};
+ghost use Rattle.std.specs.Prelude.{OnOk};
 ghost use Rattle.awk_types.specs.Simple.{alternatives};
 ghost use Rattle.awk_types.specs.View.{typ_of, typs_of};
 ghost use Rattle.awk_unify.specs.Carry.{carry, keep, no_carries, to_alternatives};

@@ -42,7 +42,8 @@ pub(crate) fn known_places<'t>(
     ensures names { IfOk result (λ known.
         IfSome known (λ places. places ≡ names_of (fields_of xs.now))) }
     ensures many { let many = nat_lt 16 (length (fields_of xs.now)) in
-        IfOk result (λ known. is_some known ≡ (many && are_distinct (names_of (fields_of xs.now)))) }
+        IfOk result (λ known.
+        is_some known ≡ (many && are_distinct (names_of (fields_of xs.now)))) }
 {
     if xs.len() <= FEW {
         return Ok(None);

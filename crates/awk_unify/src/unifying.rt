@@ -10,7 +10,8 @@ ghost use Rattle.awk_unify.specs.Merge.{insert, insert_all};
 ghost use Rattle.awk_unify.specs.Unifies.{Unifies, within_type};
 ghost use Rattle.awk_unify.specs.Unify as rule;
 ghost use Rattle.awk_unify.specs.Unify.{unification};
-ghost use Rattle.awk_unify.specs.View.{found_of, parts_found, parts_of, placed_of, placed_all_of, unified_of};
+ghost use Rattle.awk_unify.specs.View.{found_of, parts_found, parts_of, placed_of, placed_all_of};
+ghost use Rattle.awk_unify.specs.View.{unified_of};
 
 use crate::alternatives::{alternatives_of, apart, appended, of_placed, widened};
 use crate::fields::{are_alike, known_places, place_by, records};

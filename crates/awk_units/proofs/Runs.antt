@@ -1,5 +1,6 @@
 -- Runs of a machine, one unit more.
-use Rattle.std.proofs.Common.{◌≡◌, Bool, true, false, ◌||◌, List, [], ◌∷◌, ◌++◌, ap, refl, sym, ◌∙◌, append_assoc, append-nil}
+use Rattle.std.proofs.Common.{◌≡◌, Bool, true, false, ◌||◌, List, [], ◌∷◌, ◌++◌, ap, refl, sym, ◌∙◌}
+use Rattle.std.proofs.Common.{append_assoc, append-nil}
 use Rattle.awk_units.specs.Runs.{Step, answer_bytes, texts, any_fault, state_after}
 
 module _ {S U : Type 0} (step : S → U → Step S) where

@@ -345,7 +345,8 @@ module _ {R : Type 0} (p : Framing R) (r0 : R) where
       longer start rest u = first_longest start rest u
 
   -- a line asks for too many raw bytes
-  unfoldable pub large_raw : {left0 left1 left2 : Option (List ℕ)} {old mid : Reading} {line given : List ℕ}
+  unfoldable pub large_raw : {left0 left1 left2 : Option (List ℕ)} {old mid : Reading}
+      {line given : List ℕ}
       {taken : List Framed} → (t : Taken p r0 left0 left1 old taken) → old.is_ended ≡ false
       → TakesLine left2 old mid given line → mid.is_ended ≡ false
       → raw_limit < p.asked (read_after p r0 taken) line → HasLargeUnit p r0 (t.given ++ given)

@@ -1,5 +1,7 @@
 -- What judging the numbers of a lane tells of the lane.
-use Rattle.std.proofs.Common.{◌≡◌, ◌<◌, ℕ, ◌+◌, ◌-◌, List, length, get_or, take, drop, get_or-take, get_or-drop, map, Result, length-take, sym, ap, ap₂, ◌∙◌, arith, ℤ, pos}
+use Rattle.std.proofs.Common.{◌≡◌, ◌<◌, ℕ, ◌+◌, ◌-◌, List, length, get_or, take, drop, get_or-take}
+use Rattle.std.proofs.Common.{get_or-drop, map, Result, length-take, sym, ap, ap₂, ◌∙◌, arith, ℤ}
+use Rattle.std.proofs.Common.{pos}
 use Rattle.std.specs.List.{range_with_len}
 use Rattle.awk_types.specs.Gives.{refused_or}
 use Rattle.awk_lanes.specs.declared.kind.Kind.TheVariants.{I8}

@@ -6,7 +6,8 @@ use Rattle.awk_lanes.specs.Places.{at, IsIndexKind}
 use Rattle.awk_lanes.proofs.PlaceLaws.{at-index}
 use Rattle.awk_form.specs.declared.kind.IndexKind.{IndexKind}
 use Rattle.awk_form.specs.declared.kind.IndexKind.TheVariants.{I32, U32, I64}
-use Rattle.awk_valid.specs.Container.{Container, bytes_at, kind_of_index, index_at, int8s_at, index_num, int8_num}
+use Rattle.awk_valid.specs.Container.{Container, bytes_at, kind_of_index, index_at, int8s_at}
+use Rattle.awk_valid.specs.Container.{index_num, int8_num}
 use Rattle.awk_valid.specs.Needs.{reach, behind, behind_at, lists_length, index_length, tag_length}
 use Rattle.awk_valid.specs.Broken.{rule_break, list_rule, index_rule, tag_rule}
 use Rattle.awk_valid.proofs.LengthLaws.{greatest_below-same, rule_break-same}

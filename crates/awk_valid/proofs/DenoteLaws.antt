@@ -1,6 +1,8 @@
 -- Where the walk finds no break, the items of the layout are those that the form denotes, at each
 -- place.
-use Rattle.std.proofs.Common.{◌≡◌, ◌≢◌, ◌<◌, ◌≤◌, ℕ, zero, suc, ◌+◌, ◌-◌, ◌*◌, List, [], ◌∷◌, get_or, map, None, Ok, refl, sym, ap, ap₂, ◌∙◌, arith, codes, ℤ, pos, negsuc, ◌≤ℤ◌, Bool, false, cond}
+use Rattle.std.proofs.Common.{◌≡◌, ◌≢◌, ◌<◌, ◌≤◌, ℕ, zero, suc, ◌+◌, ◌-◌, ◌*◌, List, [], ◌∷◌}
+use Rattle.std.proofs.Common.{get_or, map, None, Ok, refl, sym, ap, ap₂, ◌∙◌, arith, codes, ℤ, pos}
+use Rattle.std.proofs.Common.{negsuc, ◌≤ℤ◌, Bool, false, cond}
 use Rattle.std.specs.List.{range_with_len}
 use Rattle.std.specs.Option.{option_map}
 use Rattle.std.proofs.Math.Nat.{mul_assoc, mul-le-mul}
@@ -22,17 +24,23 @@ use Rattle.awk_layout.specs.Item as layout_item
 use Rattle.awk_layout.specs.Item.{leaf_value, run, at_option, agrees, items}
 use Rattle.awk_layout.specs.Typing.{array_type, array_items}
 use Rattle.awk_layout.specs.Valid.{len}
-use Rattle.awk_form.specs.FormTree.{FormTree, empty, numpy, regular, list as list_array, list_offset, row as row_array, indexed, indexed_option, byte_masked, bit_masked, unmasked, union, FormTrees, no_forms, form}
+use Rattle.awk_form.specs.FormTree.{FormTree, empty, numpy, regular, list as list_array}
+use Rattle.awk_form.specs.FormTree.{list_offset, row as row_array, indexed, indexed_option}
+use Rattle.awk_form.specs.FormTree.{byte_masked, bit_masked, unmasked, union, FormTrees, no_forms}
+use Rattle.awk_form.specs.FormTree.{form}
 use Rattle.awk_form.specs.FormType.{type_of}
 use Rattle.awk_form.specs.Lawful.{count}
 use Rattle.awk_layout.specs.Kinds.{kind_of}
 use Rattle.awk_valid.specs.Container.{Container, bytes_at, column_at, index_num, int8_num}
 use Rattle.awk_valid.specs.Needs.{product, reach, behind, behind_at, content_length}
 use Rattle.awk_valid.specs.Loaded.{shaped, layout_of, layouts_of}
-use Rattle.awk_valid.specs.Denote.{element, between, shaped_item, item, items_across, item_of, denote, denoting}
-use Rattle.awk_valid.specs.Broken.{list_rule, index_rule, tag_rule, broken_from, all_broken_from, broken}
+use Rattle.awk_valid.specs.Denote.{element, between, shaped_item, item, items_across, item_of}
+use Rattle.awk_valid.specs.Denote.{denote, denoting}
+use Rattle.awk_valid.specs.Broken.{list_rule, index_rule, tag_rule, broken_from, all_broken_from}
+use Rattle.awk_valid.specs.Broken.{broken}
 use Rattle.awk_valid.specs.Loading.{limited, refusal, loading}
-use Rattle.awk_valid.proofs.Places.{rule_break-none, greatest_below-at, list_rule-none, index_rule-none, tag_rule-none, behind_at-own}
+use Rattle.awk_valid.proofs.Places.{rule_break-none, greatest_below-at, list_rule-none}
+use Rattle.awk_valid.proofs.Places.{index_rule-none, tag_rule-none, behind_at-own}
 use Rattle.awk_valid.proofs.ShapeLaws.{content-len}
 use Rattle.awk_valid.proofs.TypeLaws.{layout_type-layout_of}
 use Rattle.awk_valid.proofs.ValidLaws.{size_of-index_at, size_of-int8s_at, own, walked, no-items}

@@ -3,11 +3,15 @@ use Rattle.std.proofs.Common.{◌≡◌, ℕ, Global, rules, Bool, List, [], ◌
 use Rattle.std.specs.Prelude.{Box}
 use Rattle.awk_types.specs.declared.primitive.Primitive.{Primitive}
 use Rattle.awk_types.specs.declared.name.Names.{Names}
-use Rattle.awk_form.specs.FormTree.{FormTree, empty, numpy, regular, list, list_offset, row, indexed, indexed_option, byte_masked, bit_masked, unmasked, union, form_list, forms_from}
+use Rattle.awk_form.specs.FormTree.{FormTree, empty, numpy, regular, list, list_offset, row}
+use Rattle.awk_form.specs.FormTree.{indexed, indexed_option, byte_masked, bit_masked, unmasked}
+use Rattle.awk_form.specs.FormTree.{union, form_list, forms_from}
 use Rattle.awk_form.specs.View.{form_of, forms_of}
 use Rattle.awk_form.specs.declared.form.Form.{Form}
 use Rattle.awk_form.specs.declared.form.Forms.{Forms}
-use Rattle.awk_form.specs.declared.form.Shape.{the_lemmas, Empty, Numpy, Regular, List as Lists, ListOffset, Row, Indexed, IndexedOption, ByteMasked, BitMasked, Unmasked, Union}
+use Rattle.awk_form.specs.declared.form.Shape.{the_lemmas, Empty, Numpy, Regular, List as Lists}
+use Rattle.awk_form.specs.declared.form.Shape.{ListOffset, Row, Indexed, IndexedOption, ByteMasked}
+use Rattle.awk_form.specs.declared.form.Shape.{BitMasked, Unmasked, Union}
 use Rattle.awk_form.specs.declared.kind.IndexKind.{IndexKind}
 use Rattle.awk_form.specs.declared.form.Shape.TheViews.{out-Form}
 use Rattle.awk_form.proofs.Views.{form_of-shape, keyed-Row, keyed-Union}

@@ -1,5 +1,6 @@
 -- Numbers at the front of bytes that may go on.
-use Rattle.std.proofs.Common.{◌≡◌, ◌<◌, ◌≤◌, ℕ, ◌-◌, ◌*◌, ◌/◌, true, false, Bool, cond, nat_le, List, length, take, Some, None, ap, ◌∙◌, arith}
+use Rattle.std.proofs.Common.{◌≡◌, ◌<◌, ◌≤◌, ℕ, ◌-◌, ◌*◌, ◌/◌, true, false, Bool, cond, nat_le}
+use Rattle.std.proofs.Common.{List, length, take, Some, None, ap, ◌∙◌, arith}
 use Rattle.std.proofs.Math.Nat.{mul-div_cancel}
 use Rattle.std.proofs.lemmas.List.{take_all, length-take}
 use Rattle.awk_lanes.specs.declared.kind.Kind.{Kind}

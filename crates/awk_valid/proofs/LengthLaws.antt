@@ -1,6 +1,9 @@
 -- The greatest of what is needed at the places below a number, place by place.
 use lib.IntN.{nat_abs}
-use Rattle.std.proofs.Common.{◌≡◌, ◌≢◌, ◌<◌, ℕ, zero, suc, ◌+◌, ◌⊎◌, inl, inr, Bool, true, false, cond, List, [], ◌∷◌, length, get_or, get_or-set_same, get_or-set_other, map, max, Some, None, Option, refl, sym, ap, ◌∙◌, arith, ℤ, pos, negsuc, ◌≤ℤ◌, fold, nat_cmp}
+use Rattle.std.proofs.Common.{◌≡◌, ◌≢◌, ◌<◌, ℕ, zero, suc, ◌+◌, ◌⊎◌, inl, inr, Bool, true, false}
+use Rattle.std.proofs.Common.{cond, List, [], ◌∷◌, length, get_or, get_or-set_same}
+use Rattle.std.proofs.Common.{get_or-set_other, map, max, Some, None, Option, refl, sym, ap, ◌∙◌}
+use Rattle.std.proofs.Common.{arith, ℤ, pos, negsuc, ◌≤ℤ◌, fold, nat_cmp}
 use Rattle.std.proofs.Math.ListN.{set}
 use Rattle.std.specs.Ordering.{int_eq, ord_max}
 use Rattle.std.proofs.lemmas.Bool.{cases_eq}

@@ -1,12 +1,15 @@
 -- Numbers in bytes of either order.
-use Rattle.std.proofs.Common.{◌≡◌, ℕ, suc, zero, ◌+◌, ◌*◌, ◌<◌, ◌≤◌, List, [], ◌∷◌, ◌++◌, length, drop, take, get_or, refl, ap, ap₂, sym, ◌∙◌, subst, arith, Bool, true, false, ◌/◌}
+use Rattle.std.proofs.Common.{◌≡◌, ℕ, suc, zero, ◌+◌, ◌*◌, ◌<◌, ◌≤◌, List, [], ◌∷◌, ◌++◌, length}
+use Rattle.std.proofs.Common.{drop, take, get_or, refl, ap, ap₂, sym, ◌∙◌, subst, arith, Bool, true}
+use Rattle.std.proofs.Common.{false, ◌/◌}
 use Rattle.std.proofs.Common.{drop-drop, length-drop, length-take}
 use Rattle.std.proofs.lemmas.List.{drop-take, take_at, drop_at, length-reverse}
 use Rattle.std.specs.Prelude.{pos, reverse}
 use Rattle.std.specs.List.{flat_map}
 use Rattle.std.specs.Simd.{first_chunks}
 use Rattle.awk_lanes.specs.declared.kind.Kind.{Kind}
-use Rattle.awk_lanes.specs.declared.kind.Kind.TheVariants.{Bool as Truths, I8, I16, I32, I64, U8, U16, U32, U64}
+use Rattle.awk_lanes.specs.declared.kind.Kind.TheVariants.{Bool as Truths, I8, I16, I32, I64, U8}
+use Rattle.awk_lanes.specs.declared.kind.Kind.TheVariants.{U16, U32, U64}
 use Rattle.awk_lanes.specs.Numbers.{width, number, numbers}
 use Rattle.awk_lanes.proofs.NumberParts.{length-numbers, get_or-numbers, number-take}
 use Rattle.awk_valid.specs.Container.{big_number, num, big_numbers, numbers_by}

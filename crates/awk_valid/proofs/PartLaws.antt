@@ -1,30 +1,39 @@
 -- What the parts of a node say of the node's own break.
-use Rattle.std.proofs.Common.{◌≡◌, ℕ, zero, suc, ◌∷◌, replicate, ◌+◌, ◌-◌, ◌*◌, List, Option, None, Result, Ok, refl, sym, ap, ap₂, ◌∙◌, subst, arith, codes, map}
+use Rattle.std.proofs.Common.{◌≡◌, ℕ, zero, suc, ◌∷◌, replicate, ◌+◌, ◌-◌, ◌*◌, List, Option, None}
+use Rattle.std.proofs.Common.{Result, Ok, refl, sym, ap, ap₂, ◌∙◌, subst, arith, codes, map}
 use Rattle.std.specs.Global.{Vec}
 use Rattle.std.specs.List.{range_with_len}
 use Rattle.std.specs.Prelude.{IsErrAnd}
-use Rattle.awk_types.proofs.RefusalLaws.{Told-first, Told-later, Told-same, refused_or-Ok, refused_or-None, or-None, or-last}
+use Rattle.awk_types.proofs.RefusalLaws.{Told-first, Told-later, Told-same, refused_or-Ok}
+use Rattle.awk_types.proofs.RefusalLaws.{refused_or-None, or-None, or-last}
 use Rattle.awk_types.specs.DataType.{Name}
 use Rattle.awk_types.specs.Gives.{Told, refused_or, ◌or◌}
 use Rattle.awk_lanes.specs.Column.{Column}
 use Rattle.awk_lanes.specs.Numbers.{width}
 use Rattle.awk_lanes.specs.Places.{size_of, at, IsIndexKind}
-use Rattle.awk_form.specs.FormTree.{FormTree, list, list_offset, indexed, indexed_option, union, FormTrees}
+use Rattle.awk_form.specs.FormTree.{FormTree, list, list_offset, indexed, indexed_option, union}
+use Rattle.awk_form.specs.FormTree.{FormTrees}
 use Rattle.awk_form.specs.FormText.{key_of}
 use Rattle.awk_form.specs.Lawful.{count}
 use Rattle.awk_form.specs.Measures.{inner_shape}
 use Rattle.awk_form.specs.declared.kind.IndexKind.{IndexKind}
 use Rattle.awk_valid.specs.Container.{Container, kind_of_index, buffer_key, index_at, int8s_at}
-use Rattle.awk_valid.specs.Needs.{buffer_needs, lists_length, index_length, tag_length, content_length}
-use Rattle.awk_valid.specs.Broken.{Refusal, size_break, shape_break, bytes_break, buffers_break, places_break, node_break, rule_break, list_rule, index_rule, tag_rule}
+use Rattle.awk_valid.specs.Needs.{buffer_needs, lists_length, index_length, tag_length}
+use Rattle.awk_valid.specs.Needs.{content_length}
+use Rattle.awk_valid.specs.Broken.{Refusal, size_break, shape_break, bytes_break, buffers_break}
+use Rattle.awk_valid.specs.Broken.{places_break, node_break, rule_break, list_rule, index_rule}
+use Rattle.awk_valid.specs.Broken.{tag_rule}
 use Rattle.awk_valid.specs.Loading.{told}
 use Rattle.awk_valid.specs.Parts.{lengths_of, own_of}
-use Rattle.awk_valid.specs.Walked.{Given, container_in, product_break, own_break, own_said, GivesOwn}
+use Rattle.awk_valid.specs.Walked.{Given, container_in, product_break, own_break, own_said}
+use Rattle.awk_valid.specs.Walked.{GivesOwn}
 use Rattle.awk_valid.specs.declared.fault.LoadFault.{LoadFault}
 use Rattle.awk_valid.specs.declared.own.Own.{Own}
 use Rattle.awk_valid.proofs.ValidLaws.{size_of-index_at, size_of-int8s_at}
 use Rattle.awk_valid.proofs.FaultLaws.{Gives-fails}
-use Rattle.awk_valid.proofs.ByteLaws.{index_kind, spans-rule, spans-length, offsets-rule, offsets-length, index-rule, index-length, tags-rule, tags-length}
+use Rattle.awk_valid.proofs.ByteLaws.{index_kind, spans-rule, spans-length, offsets-rule}
+use Rattle.awk_valid.proofs.ByteLaws.{offsets-length, index-rule, index-length, tags-rule}
+use Rattle.awk_valid.proofs.ByteLaws.{tags-length}
 
 -- so many equal numbers
 pub same_lengths : (n a count : ℕ) → map (λ (k : ℕ). n) (range_with_len a count) ≡ replicate count n

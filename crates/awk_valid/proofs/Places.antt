@@ -1,5 +1,6 @@
 -- What an unbroken walk tells of sizes, of places and of lengths.
-use Rattle.std.proofs.Common.{◌≡◌, ◌<◌, ◌≤◌, ℕ, zero, suc, ◌+◌, Bool, true, false, ◌||◌, cond, map, Some, None, Option, refl, arith, ℤ, pos, negsuc, ◌≤ℤ◌, ◌<ℤ◌}
+use Rattle.std.proofs.Common.{◌≡◌, ◌<◌, ◌≤◌, ℕ, zero, suc, ◌+◌, Bool, true, false, ◌||◌, cond, map}
+use Rattle.std.proofs.Common.{Some, None, Option, refl, arith, ℤ, pos, negsuc, ◌≤ℤ◌, ◌<ℤ◌}
 use Rattle.std.specs.Prelude.{int_lt, int_le, nat_lt}
 use Rattle.std.specs.List.{range_with_len}
 use Rattle.std.specs.Ordering.{int_eq}
@@ -10,7 +11,8 @@ use Rattle.awk_types.specs.ItemLimit.{item_limit}
 use Rattle.awk_lanes.specs.Numbers.{nat_of}
 use Rattle.awk_lanes.specs.Places.{IsSpan}
 use Rattle.awk_valid.specs.Needs.{greatest_below, reach, behind, behind_at}
-use Rattle.awk_valid.specs.Broken.{Refusal, too_many, size_break, place_break, first_broken, rule_break, list_rule, index_rule, tag_rule}
+use Rattle.awk_valid.specs.Broken.{Refusal, too_many, size_break, place_break, first_broken}
+use Rattle.awk_valid.specs.Broken.{rule_break, list_rule, index_rule, tag_rule}
 use Rattle.awk_valid.specs.declared.fault.Rule.{Rule}
 use Rattle.awk_valid.specs.declared.fault.Rule.TheVariants.{Order, Start, Tag}
 

@@ -1,5 +1,7 @@
 -- The first place that breaks its rule, from what a search over the numbers answers.
-use Rattle.std.proofs.Common.{◌≡◌, ◌<◌, ◌≤◌, ℕ, zero, suc, ◌+◌, Bool, true, false, not, ◌&&◌, ◌||◌, cond, List, [], ◌∷◌, length, get_or, Some, None, Option, refl, arith, ℤ, pos}
+use Rattle.std.proofs.Common.{◌≡◌, ◌<◌, ◌≤◌, ℕ, zero, suc, ◌+◌, Bool, true, false, not, ◌&&◌, ◌||◌}
+use Rattle.std.proofs.Common.{cond, List, [], ◌∷◌, length, get_or, Some, None, Option, refl, arith}
+use Rattle.std.proofs.Common.{ℤ, pos}
 use Rattle.std.specs.Prelude.{int_lt, nat_lt, position}
 use Rattle.std.specs.List.{range_with_len, zip, position_or_len}
 use Rattle.std.specs.Ordering.{int_eq}

@@ -1,5 +1,6 @@
 -- The sizes of an inner shape, from a place on.
-use Rattle.std.proofs.Common.{◌≡◌, ◌≤◌, ℕ, ◌+◌, ◌*◌, List, [], ◌∷◌, drop, Some, None, Option, Ok, refl, sym, ap, ◌∙◌, arith, Bool, false}
+use Rattle.std.proofs.Common.{◌≡◌, ◌≤◌, ℕ, ◌+◌, ◌*◌, List, [], ◌∷◌, drop, Some, None, Option, Ok}
+use Rattle.std.proofs.Common.{refl, sym, ap, ◌∙◌, arith, Bool, false}
 use Rattle.std.specs.Prelude.{nat_lt}
 use Rattle.std.specs.List.{slice_get}
 use Rattle.std.proofs.Math.Nat.{mul_assoc}

@@ -1,10 +1,14 @@
 -- The layout that a form stands for is as large as the form.
-use Rattle.std.proofs.Common.{◌≡◌, ℕ, suc, ◌+◌, ◌*◌, max, List, [], ◌∷◌, length, refl, ap, ap₂, arith}
+use Rattle.std.proofs.Common.{◌≡◌, ℕ, suc, ◌+◌, ◌*◌, max, List, [], ◌∷◌, length, refl, ap, ap₂}
+use Rattle.std.proofs.Common.{arith}
 use Rattle.awk_layout.specs.Layout.{Layout, weight, weights, height, heights}
-use Rattle.awk_form.specs.FormTree.{FormTree, empty, numpy, regular, list, list_offset, row, indexed, indexed_option, byte_masked, bit_masked, unmasked, union, FormTrees, no_forms, form}
+use Rattle.awk_form.specs.FormTree.{FormTree, empty, numpy, regular, list, list_offset, row}
+use Rattle.awk_form.specs.FormTree.{indexed, indexed_option, byte_masked, bit_masked, unmasked}
+use Rattle.awk_form.specs.FormTree.{union, FormTrees, no_forms, form}
 use Rattle.awk_valid.specs.Container.{Container}
 use Rattle.awk_valid.specs.Loaded.{shaped, layout_of, layouts_of}
-use Rattle.awk_form.specs.Measures.{width, width_of, height as form_height, height_of as form_height_of}
+use Rattle.awk_form.specs.Measures.{width, width_of, height as form_height}
+use Rattle.awk_form.specs.Measures.{height_of as form_height_of}
 
 shaped-weight : (inner : List ℕ) (n : ℕ) (x : Layout) → weight x ≡ 1
     → weight (shaped inner n x) ≡ length inner + 1

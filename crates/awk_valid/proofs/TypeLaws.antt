@@ -5,7 +5,9 @@ use Rattle.awk_types.specs.DataType.{DataType, leaf, var, reg, opt, uni, row_typ
 use Rattle.awk_layout.specs.Layout.{Layout}
 use Rattle.awk_layout.specs.Kinds.{primitive_of-kind_of}
 use Rattle.awk_layout.specs.Typing.{layout_type, layout_types}
-use Rattle.awk_form.specs.FormTree.{FormTree, empty, numpy, regular, list, list_offset, row, indexed, indexed_option, byte_masked, bit_masked, unmasked, union, FormTrees, no_forms, form}
+use Rattle.awk_form.specs.FormTree.{FormTree, empty, numpy, regular, list, list_offset, row}
+use Rattle.awk_form.specs.FormTree.{indexed, indexed_option, byte_masked, bit_masked, unmasked}
+use Rattle.awk_form.specs.FormTree.{union, FormTrees, no_forms, form}
 use Rattle.awk_form.specs.FormType as said
 use Rattle.awk_form.specs.FormType.{type_of, types_of}
 use Rattle.awk_valid.specs.Container.{Container}

@@ -1,31 +1,43 @@
 -- Where the walk finds no break, the layout is valid and has so many items.
-use Rattle.std.proofs.Common.{◌≡◌, ◌≢◌, ◌<◌, ◌≤◌, ℕ, zero, suc, ◌+◌, ◌*◌, List, [], ◌∷◌, Some, None, Option, refl, sym, ◌∙◌, arith, codes, subst}
+use Rattle.std.proofs.Common.{◌≡◌, ◌≢◌, ◌<◌, ◌≤◌, ℕ, zero, suc, ◌+◌, ◌*◌, List, [], ◌∷◌, Some, None}
+use Rattle.std.proofs.Common.{Option, refl, sym, ◌∙◌, arith, codes, subst}
 use Rattle.std.proofs.Math.Nat.{mul_assoc}
 use Rattle.awk_types.specs.Gives.{◌or◌}
 use Rattle.awk_types.specs.DataType.{Name}
 use Rattle.awk_types.specs.ItemLimit.{item_limit}
 use Rattle.awk_lanes.specs.declared.kind.Kind.{Kind}
-use Rattle.awk_lanes.specs.Places.{size_of, at, place_at, IsOptionKind, AreSpans, IsOffsets, IsIndex, IsOptionalIndex}
+use Rattle.awk_lanes.specs.Places.{size_of, at, place_at, IsOptionKind, AreSpans, IsOffsets}
+use Rattle.awk_lanes.specs.Places.{IsIndex, IsOptionalIndex}
 use Rattle.awk_lanes.proofs.BitParts.{length-bits}
 use Rattle.awk_layout.specs.Layout as made
 use Rattle.awk_layout.specs.Layout.{Layout, Layouts}
 use Rattle.awk_layout.specs.Valid.{len, len_of, IsValid, AllValid, AllReach, AreNames, IsUnion}
-use Rattle.awk_form.specs.FormTree.{FormTree, empty, numpy, regular, list, list_offset, row, indexed, indexed_option, byte_masked, bit_masked, unmasked, union, FormTrees, no_forms, form}
+use Rattle.awk_form.specs.FormTree.{FormTree, empty, numpy, regular, list, list_offset, row}
+use Rattle.awk_form.specs.FormTree.{indexed, indexed_option, byte_masked, bit_masked, unmasked}
+use Rattle.awk_form.specs.FormTree.{union, FormTrees, no_forms, form}
 use Rattle.awk_form.specs.Lawful.{count, AreNamesOf, IsLawful, AreLawful}
 use Rattle.awk_form.specs.declared.kind.IndexKind.{IndexKind}
 use Rattle.awk_form.specs.declared.kind.IndexKind.TheVariants.{I32, U32, I64}
 use Rattle.awk_form.specs.Measures.{inner_shape}
 use Rattle.awk_types.proofs.RefusalLaws.{or-both}
 use Rattle.awk_layout.specs.Kinds.{kind_of}
-use Rattle.awk_valid.specs.Container.{Container, kind_of_index, column_at, index_at, int8s_at, bytes_at}
-use Rattle.awk_valid.specs.Needs.{product, buffer_needs, reach, behind, behind_at, lists_length, index_length, tag_length, content_length}
+use Rattle.awk_valid.specs.Container.{Container, kind_of_index, column_at, index_at, int8s_at}
+use Rattle.awk_valid.specs.Container.{bytes_at}
+use Rattle.awk_valid.specs.Needs.{product, buffer_needs, reach, behind, behind_at, lists_length}
+use Rattle.awk_valid.specs.Needs.{index_length, tag_length, content_length}
 use Rattle.awk_valid.specs.Loaded.{shaped, layout_of, layouts_of}
 use Rattle.awk_form.specs.FormText.{key_of}
-use Rattle.awk_valid.specs.Broken.{Refusal, buffers_break, places_break, node_break, size_break, shape_break, rule_break, list_rule, index_rule, tag_rule, broken_from, all_broken_from, broken}
+use Rattle.awk_valid.specs.Broken.{Refusal, buffers_break, places_break, node_break, size_break}
+use Rattle.awk_valid.specs.Broken.{shape_break, rule_break, list_rule, index_rule, tag_rule}
+use Rattle.awk_valid.specs.Broken.{broken_from, all_broken_from, broken}
 use Rattle.awk_valid.specs.declared.fault.Rule.TheVariants.{Empty}
 use Rattle.awk_valid.proofs.OrderLaws.{length-numbers_by}
-use Rattle.awk_valid.proofs.Places.{size_break-none, rule_break-none, greatest_below-at, list_rule-none, index_rule-none, below-behind, tag_rule-none, behind_at-own}
-use Rattle.awk_valid.proofs.ByteLaws.{index_kind, spans-rule, spans-length, offsets-rule, offsets-length, index-rule, index-length, tags-rule, tags-length}
+use Rattle.awk_valid.proofs.Places.{size_break-none, rule_break-none, greatest_below-at}
+use Rattle.awk_valid.proofs.Places.{list_rule-none, index_rule-none, below-behind, tag_rule-none}
+use Rattle.awk_valid.proofs.Places.{behind_at-own}
+use Rattle.awk_valid.proofs.ByteLaws.{index_kind, spans-rule, spans-length, offsets-rule}
+use Rattle.awk_valid.proofs.ByteLaws.{offsets-length, index-rule, index-length, tags-rule}
+use Rattle.awk_valid.proofs.ByteLaws.{tags-length}
 
 -- ---- kinds and sizes
 

@@ -1,5 +1,7 @@
 -- What a node's own part and its contents say of the node.
-use Rattle.std.proofs.Common.{◌≡◌, ◌<◌, ◌≤◌, ℕ, suc, ◌+◌, ◌*◌, List, [], ◌∷◌, ◌++◌, length, get_or, drop, slice_get, Option, Some, None, Result, Ok, refl, sym, ap, ap₂, ◌∙◌, subst, arith, append_assoc, codes}
+use Rattle.std.proofs.Common.{◌≡◌, ◌<◌, ◌≤◌, ℕ, suc, ◌+◌, ◌*◌, List, [], ◌∷◌, ◌++◌, length, get_or}
+use Rattle.std.proofs.Common.{drop, slice_get, Option, Some, None, Result, Ok, refl, sym, ap, ap₂}
+use Rattle.std.proofs.Common.{◌∙◌, subst, arith, append_assoc, codes}
 use Rattle.std.proofs.lemmas.List.{drop_more, drop_all, append-nil, get_or_default}
 use Rattle.std.proofs.lemmas.List.FromFn.{get_or-map-range_with_len, length-map-range_with_len}
 use Rattle.std.proofs.lemmas.Option.{slice_get_within, get_or_from_slice_get}
@@ -10,7 +12,9 @@ use Rattle.awk_store.specs.Buffers.{held_len}
 use Rattle.awk_layout.specs.Layout as made
 use Rattle.awk_layout.specs.Layout.{Layout, Layouts, layouts_from}
 use Rattle.awk_layout.specs.Valid.{IsValid}
-use Rattle.awk_form.specs.FormTree.{FormTree, empty, numpy, regular, list, list_offset, row, indexed, indexed_option, byte_masked, bit_masked, unmasked, union, FormTrees, no_forms, form, form_list, forms_from}
+use Rattle.awk_form.specs.FormTree.{FormTree, empty, numpy, regular, list, list_offset, row}
+use Rattle.awk_form.specs.FormTree.{indexed, indexed_option, byte_masked, bit_masked, unmasked}
+use Rattle.awk_form.specs.FormTree.{union, FormTrees, no_forms, form, form_list, forms_from}
 use Rattle.awk_form.specs.FormText.{key_of}
 use Rattle.awk_form.specs.Lawful.{count, IsLawful, AreLawful}
 use Rattle.awk_form.specs.Measures.{inner_shape, nodes, nodes_of}
@@ -18,11 +22,13 @@ use Rattle.awk_form.specs.Induction.{width-contents}
 use Rattle.awk_valid.specs.Container.{Container, index_at, int8s_at}
 use Rattle.awk_valid.specs.Needs.{buffer_needs, content_length}
 use Rattle.awk_valid.specs.Loaded.{layout_of, layouts_of}
-use Rattle.awk_valid.specs.Broken.{Refusal, size_break, shape_break, buffers_break, places_break, node_break, broken_from, all_broken_from}
+use Rattle.awk_valid.specs.Broken.{Refusal, size_break, shape_break, buffers_break, places_break}
+use Rattle.awk_valid.specs.Broken.{node_break, broken_from, all_broken_from}
 use Rattle.awk_form.specs.FormTree.{contents_of}
 use Rattle.awk_valid.specs.Parts.{lengths_of, own_of, over, layout_list}
 use Rattle.awk_form.specs.Measures.{width, width_of}
-use Rattle.awk_valid.specs.Walked.{Given, container_in, node_said, product_break, own_break, own_said, GivesOwn, rest, left_said, budget}
+use Rattle.awk_valid.specs.Walked.{Given, container_in, node_said, product_break, own_break}
+use Rattle.awk_valid.specs.Walked.{own_said, GivesOwn, rest, left_said, budget}
 use Rattle.awk_valid.specs.Loading.{told}
 use Rattle.awk_valid.specs.declared.fault.LoadFault.{LoadFault}
 use Rattle.awk_valid.specs.declared.own.Own.{Own}

@@ -1,5 +1,6 @@
 -- Buffers whose most significant bytes come first.
-use Rattle.std.specs.Prelude.{◌≡◌, ℕ, List, [], ◌∷◌, Some, None, Ok, true, false, refl, ℤ, pos, negsuc, codes, reverse}
+use Rattle.std.specs.Prelude.{◌≡◌, ℕ, List, [], ◌∷◌, Some, None, Ok, true, false, refl, ℤ, pos}
+use Rattle.std.specs.Prelude.{negsuc, codes, reverse}
 use Rattle.std.specs.List.{flat_map}
 use Rattle.awk_types.specs.Value.{truth}
 use Rattle.awk_types.specs.declared.primitive.Primitive.TheVariants as primitive

@@ -1,6 +1,7 @@
 -- The first break of the walk: nodes in pre-order, at each its sizes, then its buffers, then its
 -- places.
-use Rattle.std.specs.Prelude.{ℕ, suc, ◌+◌, ◌*◌, ◌||◌, nat_lt, int_lt, int_le, List, [], ◌∷◌, length, Option, Some, None, Result, Ok, Err, codes, ℤ, pos, if◌then◌else◌}
+use Rattle.std.specs.Prelude.{ℕ, suc, ◌+◌, ◌*◌, ◌||◌, nat_lt, int_lt, int_le, List, [], ◌∷◌, length}
+use Rattle.std.specs.Prelude.{Option, Some, None, Result, Ok, Err, codes, ℤ, pos, if◌then◌else◌}
 use Rattle.std.specs.List.{range_with_len}
 use Rattle.std.specs.Ordering.{int_eq}
 use Rattle.awk_types.specs.Gives.{◌or◌}
@@ -8,7 +9,9 @@ use Rattle.awk_types.specs.DataType.{Name}
 use Rattle.awk_types.specs.ItemLimit.{item_limit}
 use Rattle.awk_store.specs.declared.fault.BufferWhy.{BufferWhy}
 use Rattle.awk_store.specs.declared.fault.BufferWhy.TheVariants as why
-use Rattle.awk_form.specs.FormTree.{FormTree, empty, numpy, regular, list, list_offset, row, indexed, indexed_option, byte_masked, bit_masked, unmasked, union, FormTrees, no_forms, form}
+use Rattle.awk_form.specs.FormTree.{FormTree, empty, numpy, regular, list, list_offset, row}
+use Rattle.awk_form.specs.FormTree.{indexed, indexed_option, byte_masked, bit_masked, unmasked}
+use Rattle.awk_form.specs.FormTree.{union, FormTrees, no_forms, form}
 use Rattle.awk_form.specs.FormText.{key_of}
 use Rattle.awk_form.specs.Lawful.{count}
 use Rattle.awk_form.specs.Measures.{inner_shape, nodes}

@@ -1,5 +1,6 @@
 -- The bytes of buffers by key, in the order of their numbers, and the numbers and bits in them.
-use Rattle.std.specs.Prelude.{ℕ, suc, zero, Bool, true, false, List, [], ◌∷◌, ◌++◌, Option, Result, Ok, Err, unwrap_or, codes}
+use Rattle.std.specs.Prelude.{ℕ, suc, zero, Bool, true, false, List, [], ◌∷◌, ◌++◌, Option, Result}
+use Rattle.std.specs.Prelude.{Ok, Err, unwrap_or, codes}
 use Rattle.std.specs.Prelude.{◌*◌, drop, take, reverse, ℤ}
 use Rattle.awk_types.specs.DataType.{Name}
 use Rattle.awk_lanes.specs.declared.kind.Kind.{Kind}

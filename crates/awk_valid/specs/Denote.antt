@@ -1,7 +1,8 @@
 -- What a form, a length and a container denote: values, place by place, over the bytes of the
 -- buffers, with no columns in between. A buffer without bytes counts as empty, and a number behind
 -- the last byte is 0.
-use Rattle.std.specs.Prelude.{ℕ, zero, suc, ◌+◌, ◌-◌, ◌*◌, Bool, List, [], ◌∷◌, map, codes, ℤ, if◌then◌else◌, Result}
+use Rattle.std.specs.Prelude.{ℕ, zero, suc, ◌+◌, ◌-◌, ◌*◌, Bool, List, [], ◌∷◌, map, codes, ℤ}
+use Rattle.std.specs.Prelude.{if◌then◌else◌, Result}
 use Rattle.std.specs.List.{range_with_len}
 use Rattle.awk_types.specs.Gives.{refused_or}
 use Rattle.awk_types.specs.Value.{Value, Values, int, truth, null, list, row, alt, no_values, value}
@@ -14,7 +15,10 @@ use Rattle.awk_lanes.specs.Bits.{bit}
 use Rattle.awk_lanes.specs.Numbers.{is_nonzero, nat_of}
 use Rattle.awk_lanes.specs.Places.{option_place}
 use Rattle.awk_layout.specs.Item.{run, at_option, agrees}
-use Rattle.awk_form.specs.FormTree.{FormTree, empty, numpy, regular, list as list_array, list_offset, row as row_array, indexed, indexed_option, byte_masked, bit_masked, unmasked, union, FormTrees, no_forms, form}
+use Rattle.awk_form.specs.FormTree.{FormTree, empty, numpy, regular, list as list_array}
+use Rattle.awk_form.specs.FormTree.{list_offset, row as row_array, indexed, indexed_option}
+use Rattle.awk_form.specs.FormTree.{byte_masked, bit_masked, unmasked, union, FormTrees, no_forms}
+use Rattle.awk_form.specs.FormTree.{form}
 use Rattle.awk_form.specs.FormType.{type_of}
 use Rattle.awk_valid.specs.Container.{Container, bytes_at, num, index_num, int8_num}
 use Rattle.awk_valid.specs.Broken.{Refusal}

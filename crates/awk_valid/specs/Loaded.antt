@@ -4,7 +4,9 @@ use Rattle.std.specs.Prelude.{ℕ, suc, ◌+◌, ◌*◌, List, [], ◌∷◌, c
 use Rattle.awk_lanes.specs.Bits.{bits}
 use Rattle.awk_layout.specs.Layout as made
 use Rattle.awk_layout.specs.Layout.{Layout, Layouts}
-use Rattle.awk_form.specs.FormTree.{FormTree, empty, numpy, regular, list, list_offset, row, indexed, indexed_option, byte_masked, bit_masked, unmasked, union, FormTrees, no_forms, form}
+use Rattle.awk_form.specs.FormTree.{FormTree, empty, numpy, regular, list, list_offset, row}
+use Rattle.awk_form.specs.FormTree.{indexed, indexed_option, byte_masked, bit_masked, unmasked}
+use Rattle.awk_form.specs.FormTree.{union, FormTrees, no_forms, form}
 use Rattle.awk_layout.specs.Kinds.{kind_of}
 use Rattle.awk_valid.specs.Container.{Container, bytes_at, column_at, index_at, int8s_at}
 use Rattle.awk_valid.specs.Needs.{product, content_length}

@@ -17,7 +17,8 @@ use Rattle.awk_form.specs.FormTree.{FormTree}
 use Rattle.awk_form.specs.FormType.{type_of}
 use Rattle.awk_valid.specs.Container.{Container, bytes_or_none, column_at}
 use Rattle.awk_valid.specs.Loaded.{layout_of}
-use Rattle.awk_valid.specs.Broken.{Refusal, too_deep, too_many, buffer, invalid, bytes_break, broken}
+use Rattle.awk_valid.specs.Broken.{Refusal, too_deep, too_many, buffer, invalid, bytes_break}
+use Rattle.awk_valid.specs.Broken.{broken}
 use Rattle.awk_valid.specs.declared.fault.LoadFault.{LoadFault}
 use Rattle.awk_valid.specs.declared.fault.LoadFault.TheVariants as fault
 

@@ -4,13 +4,16 @@ use Rattle.std.specs.List.{range_with_len}
 use Rattle.awk_lanes.specs.Bits.{bits}
 use Rattle.awk_layout.specs.Layout as made
 use Rattle.awk_layout.specs.Layout.{Layout, Layouts, layouts_from}
-use Rattle.awk_form.specs.FormTree.{FormTree, contents_of, empty, numpy, regular, list, list_offset, row, indexed, indexed_option, byte_masked, bit_masked, unmasked, union}
+use Rattle.awk_form.specs.FormTree.{FormTree, contents_of, empty, numpy, regular, list, list_offset}
+use Rattle.awk_form.specs.FormTree.{row, indexed, indexed_option, byte_masked, bit_masked, unmasked}
+use Rattle.awk_form.specs.FormTree.{union}
 use Rattle.awk_form.specs.Lawful.{count}
 use Rattle.awk_valid.specs.Container.{Container, bytes_at, index_at, int8s_at}
 use Rattle.awk_valid.specs.Loaded.{layout_of}
 use Rattle.awk_valid.specs.Needs.{content_length}
 use Rattle.awk_valid.specs.declared.own.One.{One}
-use Rattle.awk_valid.specs.declared.own.One.TheVariants.{Regular, Lists, OffsetLists, Indexed, Optional, ByteMasked, BitMasked, Unmasked}
+use Rattle.awk_valid.specs.declared.own.One.TheVariants.{Regular, Lists, OffsetLists, Indexed}
+use Rattle.awk_valid.specs.declared.own.One.TheVariants.{Optional, ByteMasked, BitMasked, Unmasked}
 use Rattle.awk_valid.specs.declared.own.Own.{Own}
 use Rattle.awk_valid.specs.declared.own.Own.TheVariants.{Whole, Over, Rows, Union}
 

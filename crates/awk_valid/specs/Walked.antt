@@ -5,7 +5,8 @@ use Rattle.std.specs.Global.{Vec}
 use Rattle.awk_types.specs.Gives.{Gives, refused_or, ◌or◌}
 use Rattle.awk_store.specs.Buffers.{Held, held_len}
 use Rattle.awk_layout.specs.Layout.{Layout}
-use Rattle.awk_form.specs.FormTree.{FormTree, contents_of, FormTrees, form_list, forms_from, regular}
+use Rattle.awk_form.specs.FormTree.{FormTree, contents_of, FormTrees, form_list, forms_from}
+use Rattle.awk_form.specs.FormTree.{regular}
 use Rattle.awk_valid.specs.Broken.{Refusal, size_break, node_break, broken_from, all_broken_from}
 use Rattle.awk_valid.specs.Container.{Container, container_of}
 use Rattle.awk_valid.specs.Loaded.{layout_of, layouts_of}

@@ -32,7 +32,8 @@ use std::sync::ledger::Ledger;
 /// The array of n items that a form and the buffers of a store give.
 ///
 /// How it works, which no clause says: its lanes are the store's bytes, cut and not copied, unless
-/// the most significant byte of each number comes first; then the numbers that are needed are turned
+/// the most significant byte of each number comes first; then the numbers that are needed are
+/// turned
 /// round into the arena once.
 pub fn load<'a, N: Kernels, L: Ledger>(
     alloc: Global,

@@ -1,5 +1,6 @@
 //! The places of a node, judged by the rule of its class.
-ghost use Rattle.std.specs.Prelude.{◌≡◌, ◌<◌, ◌≤◌, ◌≤ℤ◌, length, get_or, pos, int_lt, position, if◌then◌else◌};
+ghost use Rattle.std.specs.Prelude.{◌≡◌, ◌<◌, ◌≤◌, ◌≤ℤ◌, length, get_or, pos, int_lt, position};
+ghost use Rattle.std.specs.Prelude.{if◌then◌else◌};
 ghost use Rattle.awk_types.specs.Gives.{Gives};
 ghost use Rattle.awk_lanes.specs.Numbers.{nat_of};
 ghost use Rattle.awk_valid.specs.Broken.{rule_break, tag_rule};

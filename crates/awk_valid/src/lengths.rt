@@ -1,5 +1,6 @@
 //! The lanes of a node, judged by the rule of its class, and the lengths that its contents need.
-ghost use Rattle.std.specs.Prelude.{◌≡◌, ℕ, ◌+◌, ◌-◌, ◌<◌, ◌≤◌, length, get_or, map, pos, None, IfOk};
+ghost use Rattle.std.specs.Prelude.{◌≡◌, ℕ, ◌+◌, ◌-◌, ◌<◌, ◌≤◌, length, get_or, map, pos, None};
+ghost use Rattle.std.specs.Prelude.{IfOk};
 ghost use Rattle.std.specs.List.{range_with_len};
 ghost use Rattle.awk_types.specs.Gives.{Gives, refused_or};
 ghost use Rattle.awk_lanes.specs.Places.{size_of, at, IsIndexKind};

@@ -1,5 +1,6 @@
 //! What a node holds beside its contents, judged, and the lengths that its contents need.
-ghost use Rattle.std.specs.Prelude.{◌≡◌, ℕ, ◌+◌, ◌*◌, ◌≤◌, ◌∷◌, [], Bool, List, Option, length, IfOk};
+ghost use Rattle.std.specs.Prelude.{◌≡◌, ℕ, ◌+◌, ◌*◌, ◌≤◌, ◌∷◌, [], Bool, List, Option, length};
+ghost use Rattle.std.specs.Prelude.{IfOk};
 ghost use Rattle.awk_types.specs.DataType.{Name};
 ghost use Rattle.awk_types.specs.Gives.{Gives};
 ghost use Rattle.awk_store.specs.Buffers.{held_len};

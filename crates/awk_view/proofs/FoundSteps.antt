@@ -1,32 +1,52 @@
 -- Steps of the tests, and what they find.
-use Rattle.std.proofs.Common.{◌≡◌, ℕ, ◌+◌, ◌≤◌, ◌&&◌, Bool, true, false, List, [], ◌∷◌, length, drop, slice_get, Option, Some, None, if◌then◌else◌, refl, ap, ◌∙◌, sym}
+use Rattle.std.proofs.Common.{◌≡◌, ℕ, ◌+◌, ◌≤◌, ◌&&◌, Bool, true, false, List, [], ◌∷◌, length}
+use Rattle.std.proofs.Common.{drop, slice_get, Option, Some, None, if◌then◌else◌, refl, ap, ◌∙◌}
+use Rattle.std.proofs.Common.{sym}
 use Rattle.std.proofs.lemmas.List.{drop_all}
 use Rattle.std.specs.List.{AllByRecursion}
-use Rattle.awk_types.specs.DataType.{Name, DataType, unknown, leaf, var, reg, rec, tup, opt, uni, DataTypes, no_types, type}
+use Rattle.awk_types.specs.DataType.{Name, DataType, unknown, leaf, var, reg, rec, tup, opt, uni}
+use Rattle.awk_types.specs.DataType.{DataTypes, no_types, type}
 use Rattle.awk_types.specs.Names.{is_among}
 use Rattle.awk_types.specs.IsType.{count}
 use Rattle.awk_types.specs.Gives.{◌or◌}
 use Rattle.awk_layout.specs.Layout.{Layout, layouts_from}
 use Rattle.awk_layout.specs.Typing.{layout_type, layout_types}
 use Rattle.awk_layout.specs.Contents.{height-get}
-use Rattle.awk_view.specs.Choice.{Choice, field, fields, without, row_names, has_field, all_have_field, has_records, all_have_records, first_absent, absent}
+use Rattle.awk_view.specs.Choice.{Choice, field, fields, without, row_names, has_field}
+use Rattle.awk_view.specs.Choice.{all_have_field, has_records, all_have_records, first_absent}
+use Rattle.awk_view.specs.Choice.{absent}
 use Rattle.awk_view.specs.Layouts.{AreAmong, IsFound, AreFound}
 use Rattle.awk_types.proofs.ListLaws.{drop-get}
 use Rattle.awk_view.proofs.ChoiceLayouts.{count-layout_types, layout_list-from}
 
 -- ---- loops over alternatives
 
-pub records_step : (xs : List Layout) (i : ℕ) (y : Layout) → slice_get xs i ≡ Some y → all_have_records (layout_types (layouts_from (drop i xs))) ≡ (has_records (layout_type y) && all_have_records (layout_types (layouts_from (drop (i + 1) xs))))
-records_step xs i y e = ap (λ ys. all_have_records (layout_types (layouts_from ys))) (drop-get xs i y e)
+pub records_step : (xs : List Layout) (i : ℕ) (y : Layout) → slice_get xs i ≡ Some y
+    → all_have_records (layout_types (layouts_from (drop i xs))) ≡
+    (has_records (layout_type y) && all_have_records
+    (layout_types (layouts_from (drop (i + 1) xs))))
+records_step xs i y e = ap (λ ys. all_have_records (layout_types (layouts_from ys)))
+    (drop-get xs i y e)
 
-pub records_end : (xs : List Layout) (i : ℕ) → length xs ≤ i → all_have_records (layout_types (layouts_from (drop i xs))) ≡ true
+pub records_end : (xs : List Layout) (i : ℕ) → length xs ≤ i
+    → all_have_records (layout_types (layouts_from (drop i xs))) ≡ true
 records_end xs i l = ap (λ ys. all_have_records (layout_types (layouts_from ys))) (drop_all i xs l)
 
-pub records_no : (xs : List Layout) (i : ℕ) (y : Layout) → slice_get xs i ≡ Some y → has_records (layout_type y) ≡ false → all_have_records (layout_types (layouts_from xs)) ≡ all_have_records (layout_types (layouts_from (drop i xs))) → false ≡ all_have_records (layout_types (layouts_from xs))
-records_no xs i y e f h = sym (h ∙ records_step xs i y e ∙ ap (λ b. b && all_have_records (layout_types (layouts_from (drop (i + 1) xs)))) f)
+pub records_no : (xs : List Layout) (i : ℕ) (y : Layout) → slice_get xs i ≡ Some y
+    → has_records (layout_type y) ≡ false
+    → all_have_records (layout_types (layouts_from xs)) ≡ all_have_records
+    (layout_types (layouts_from (drop i xs))) → false ≡ all_have_records
+    (layout_types (layouts_from xs))
+records_no xs i y e f h = sym (h ∙ records_step xs i y e ∙ ap
+    (λ b. b && all_have_records (layout_types (layouts_from (drop (i + 1) xs)))) f)
 
-pub records_yes : (xs : List Layout) (i : ℕ) (y : Layout) → slice_get xs i ≡ Some y → has_records (layout_type y) ≡ true → all_have_records (layout_types (layouts_from xs)) ≡ all_have_records (layout_types (layouts_from (drop i xs))) → all_have_records (layout_types (layouts_from xs)) ≡ all_have_records (layout_types (layouts_from (drop (i + 1) xs)))
-records_yes xs i y e f h = h ∙ records_step xs i y e ∙ ap (λ b. b && all_have_records (layout_types (layouts_from (drop (i + 1) xs)))) f
+pub records_yes : (xs : List Layout) (i : ℕ) (y : Layout) → slice_get xs i ≡ Some y
+    → has_records (layout_type y) ≡ true
+    → all_have_records (layout_types (layouts_from xs)) ≡ all_have_records
+    (layout_types (layouts_from (drop i xs))) → all_have_records (layout_types (layouts_from xs)) ≡
+    all_have_records (layout_types (layouts_from (drop (i + 1) xs)))
+records_yes xs i y e f h = h ∙ records_step xs i y e ∙ ap
+    (λ b. b && all_have_records (layout_types (layouts_from (drop (i + 1) xs)))) f
 
 -- the number of a tuple's places
 pub tuple_count : (xs : List Layout) → count (layout_types (layouts_from xs)) ≡ length xs
@@ -45,7 +65,9 @@ both_second true b e = e
 both_second false b e = cc
 
 mutual
-  found_one : (c : Choice) (k : Name) → ((names : List Name) → is_among k names ≡ true → AreAmong c names) → (t : DataType) → has_field k t ≡ true → IsFound c t
+  found_one : (c : Choice) (k : Name)
+      → ((names : List Name) → is_among k names ≡ true → AreAmong c names) → (t : DataType)
+      → has_field k t ≡ true → IsFound c t
   found_one c k a unknown e = cc
   found_one c k a (leaf p) e = cc
   found_one c k a (var t) e = found_one c k a t e
@@ -55,20 +77,31 @@ mutual
   found_one c k a (opt t) e = found_one c k a t e
   found_one c k a (uni ts) e = found_ones c k a ts e
 
-  found_ones : (c : Choice) (k : Name) → ((names : List Name) → is_among k names ≡ true → AreAmong c names) → (ts : DataTypes) → all_have_field k ts ≡ true → AreFound c ts
+  found_ones : (c : Choice) (k : Name)
+      → ((names : List Name) → is_among k names ≡ true → AreAmong c names) → (ts : DataTypes)
+      → all_have_field k ts ≡ true → AreFound c ts
   found_ones c k a no_types e = tt
-  found_ones c k a (type t ts) e = (found_one c k a t (both_first (has_field k t) _ e), found_ones c k a ts (both_second (has_field k t) _ e))
+  found_ones c k a (type t ts) e = (
+    found_one c k a t (both_first (has_field k t) _ e),
+    found_ones c k a ts
+        (both_second (has_field k t) _ e),
+  )
 
-each_first : (t : DataType) (ts : DataTypes) (ks : List Name) → AllByRecursion (λ k. (has_field k t && all_have_field k ts) ≡ true) ks → AllByRecursion (λ k. has_field k t ≡ true) ks
+each_first : (t : DataType) (ts : DataTypes) (ks : List Name)
+    → AllByRecursion (λ k. (has_field k t && all_have_field k ts) ≡ true) ks
+    → AllByRecursion (λ k. has_field k t ≡ true) ks
 each_first t ts [] h = tt
 each_first t ts (k ∷ ks) h = (both_first (has_field k t) _ h.0, each_first t ts ks h.1)
 
-each_second : (t : DataType) (ts : DataTypes) (ks : List Name) → AllByRecursion (λ k. (has_field k t && all_have_field k ts) ≡ true) ks → AllByRecursion (λ k. all_have_field k ts ≡ true) ks
+each_second : (t : DataType) (ts : DataTypes) (ks : List Name)
+    → AllByRecursion (λ k. (has_field k t && all_have_field k ts) ≡ true) ks
+    → AllByRecursion (λ k. all_have_field k ts ≡ true) ks
 each_second t ts [] h = tt
 each_second t ts (k ∷ ks) h = (both_second (has_field k t) _ h.0, each_second t ts ks h.1)
 
 mutual
-  found_all : (ks : List Name) (t : DataType) → has_records t ≡ true → AllByRecursion (λ k. has_field k t ≡ true) ks → IsFound (fields ks) t
+  found_all : (ks : List Name) (t : DataType) → has_records t ≡ true
+      → AllByRecursion (λ k. has_field k t ≡ true) ks → IsFound (fields ks) t
   found_all ks unknown e h = cc
   found_all ks (leaf p) e h = cc
   found_all ks (var t) e h = found_all ks t e h
@@ -78,20 +111,24 @@ mutual
   found_all ks (opt t) e h = found_all ks t e h
   found_all ks (uni ts) e h = found_alls ks ts e h
 
-  found_alls : (ks : List Name) (ts : DataTypes) → all_have_records ts ≡ true → AllByRecursion (λ k. all_have_field k ts ≡ true) ks → AreFound (fields ks) ts
+  found_alls : (ks : List Name) (ts : DataTypes) → all_have_records ts ≡ true
+      → AllByRecursion (λ k. all_have_field k ts ≡ true) ks → AreFound (fields ks) ts
   found_alls ks no_types e h = tt
   found_alls ks (type t ts) e h = (
     found_all ks t (both_first (has_records t) _ e) (each_first t ts ks h),
     found_alls ks ts (both_second (has_records t) _ e) (each_second t ts ks h),
   )
 
-none_here : (b : Bool) (n : Name) (o : Option Name) → (if b then o else Some n) ≡ None → (b ≡ true) × (o ≡ None)
+none_here : (b : Bool) (n : Name) (o : Option Name) → (if b then o else Some n) ≡ None
+    → (b ≡ true) × (o ≡ None)
 none_here true n o e = (refl, e)
 none_here false n o e = cc
 
-none_absent : (ks : List Name) (t : DataType) → first_absent ks t ≡ None → AllByRecursion (λ k. has_field k t ≡ true) ks
+none_absent : (ks : List Name) (t : DataType) → first_absent ks t ≡ None
+    → AllByRecursion (λ k. has_field k t ≡ true) ks
 none_absent [] t e = tt
-none_absent (k ∷ ks) t e = let h = none_here (has_field k t) k (first_absent ks t) e in (h.0, none_absent ks t h.1)
+none_absent (k ∷ ks) t e =
+    let h = none_here (has_field k t) k (first_absent ks t) e in (h.0, none_absent ks t h.1)
 
 none_of_two : (a b : Option Name) → (a or b) ≡ None → (a ≡ None) × (b ≡ None)
 none_of_two None b e = (refl, e)

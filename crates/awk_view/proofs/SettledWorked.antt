@@ -1,5 +1,6 @@
 -- Settling of items of small arrays, each checked by computing.
-use Rattle.std.specs.Prelude.{◌≡◌, ℕ, List, [], ◌∷◌, get_or, codes, true, Some, ℤ, pos, negsuc, refl}
+use Rattle.std.specs.Prelude.{◌≡◌, ℕ, List, [], ◌∷◌, get_or, codes, true, Some, ℤ, pos, negsuc}
+use Rattle.std.specs.Prelude.{refl}
 use Rattle.awk_types.specs.DataType.{DataType, leaf, var, rec, opt, uni, types_from}
 use Rattle.awk_types.specs.declared.primitive.Primitive.TheVariants.{I8, I64}
 use Rattle.awk_types.specs.Value.{int, null, row, values_from}
@@ -7,7 +8,8 @@ use Rattle.awk_types.specs.Datum.{Datum, arr, one}
 use Rattle.awk_types.specs.Settle.{settle}
 use Rattle.awk_lanes.specs.declared.kind.Kind.TheVariants as kind
 use Rattle.awk_lanes.specs.Column.{Column}
-use Rattle.awk_layout.specs.Layout.{Layout, layouts_from, flat, regular, offset_lists, rows, optional, byte_masked, union}
+use Rattle.awk_layout.specs.Layout.{Layout, layouts_from, flat, regular, offset_lists, rows}
+use Rattle.awk_layout.specs.Layout.{optional, byte_masked, union}
 use Rattle.awk_layout.specs.Typing.{array_type, array_items}
 
 abbrev bytes : List ℤ → Column

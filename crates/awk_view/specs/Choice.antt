@@ -1,9 +1,11 @@
 -- Choices of fields: what is looked for through lists, options and every alternative of a union,
 -- and what stays of each
 -- record that is found.
-use Rattle.std.specs.Prelude.{ℕ, suc, Bool, true, false, ◌&&◌, List, [], ◌∷◌, length, map, get_or, decimal, Option, Some, None, option_map, if◌then◌else◌}
+use Rattle.std.specs.Prelude.{ℕ, suc, Bool, true, false, ◌&&◌, List, [], ◌∷◌, length, map, get_or}
+use Rattle.std.specs.Prelude.{decimal, Option, Some, None, option_map, if◌then◌else◌}
 use Rattle.std.specs.List.{range_with_len}
-use Rattle.awk_types.specs.DataType.{Name, DataType, unknown, leaf, var, reg, rec, tup, opt, uni, DataTypes, no_types, type, type_list, types_from}
+use Rattle.awk_types.specs.DataType.{Name, DataType, unknown, leaf, var, reg, rec, tup, opt, uni}
+use Rattle.awk_types.specs.DataType.{DataTypes, no_types, type, type_list, types_from}
 use Rattle.awk_types.specs.Value.{Value, null, row, value_list, values_from}
 use Rattle.awk_types.specs.Names.{same_name, is_among}
 use Rattle.awk_types.specs.IsType.{count}

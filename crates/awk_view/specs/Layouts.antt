@@ -1,12 +1,16 @@
 -- What is chosen of a layout: each lane stays, and of a record's column the items below the
 -- record's length.
-use Rattle.std.specs.Prelude.{◌≡◌, ℕ, ◌+◌, true, List, [], ◌∷◌, length, map, slice_range, Option, None, option_map}
+use Rattle.std.specs.Prelude.{◌≡◌, ℕ, ◌+◌, true, List, [], ◌∷◌, length, map, slice_range, Option}
+use Rattle.std.specs.Prelude.{None, option_map}
 use Rattle.std.specs.List.{AllByRecursion}
-use Rattle.awk_types.specs.DataType.{Name, DataType, unknown, leaf, var, reg, rec, tup, opt, uni, DataTypes, no_types, type}
+use Rattle.awk_types.specs.DataType.{Name, DataType, unknown, leaf, var, reg, rec, tup, opt, uni}
+use Rattle.awk_types.specs.DataType.{DataTypes, no_types, type}
 use Rattle.awk_types.specs.IsType.{count}
 use Rattle.awk_types.specs.Names.{is_among, AreDistinct}
 use Rattle.awk_lanes.specs.Cut.{cut_of}
-use Rattle.awk_layout.specs.Layout.{Layout, Layouts, layout_list, layouts_from, empty, flat, regular, lists, offset_lists, rows, indexed, optional, byte_masked, bit_masked, unmasked, union, no_layouts, layout}
+use Rattle.awk_layout.specs.Layout.{Layout, Layouts, layout_list, layouts_from, empty, flat}
+use Rattle.awk_layout.specs.Layout.{regular, lists, offset_lists, rows, indexed, optional}
+use Rattle.awk_layout.specs.Layout.{byte_masked, bit_masked, unmasked, union, no_layouts, layout}
 use Rattle.awk_view.specs.Choice.{Choice, field, fields, without, row_names, beside, apart_from}
 
 -- the names of a choice differ from one another

@@ -51,7 +51,8 @@ show_x-read s = step-read s show_x refl (show_x, (refl, refl))
 
 -- three lists of int64, at offsets 0, 2, 2 and 3
 abbrev pub load_lists : List ℕ
-load_lists = codes "{\"load\":\"x\",\"form\":{\"class\":\"ListOffsetArray\",\"offsets\":\"i64\",\"content\":{\"class\":\"NumpyArray\",\"primitive\":\"int64\",\"form_key\":\"node1\"},\"form_key\":\"node0\"},\"length\":3,\"buffers\":{\"node0-offsets\":\"AAAAAAAAAAACAAAAAAAAAAIAAAAAAAAAAwAAAAAAAAA=\",\"node1-data\":\"BQAAAAAAAAD//////////wcAAAAAAAAA\"}}"
+load_lists =
+    codes "{\"load\":\"x\",\"form\":{\"class\":\"ListOffsetArray\",\"offsets\":\"i64\",\"content\":{\"class\":\"NumpyArray\",\"primitive\":\"int64\",\"form_key\":\"node1\"},\"form_key\":\"node0\"},\"length\":3,\"buffers\":{\"node0-offsets\":\"AAAAAAAAAAACAAAAAAAAAAIAAAAAAAAAAwAAAAAAAAA=\",\"node1-data\":\"BQAAAAAAAAD//////////wcAAAAAAAAA\"}}"
 
 pub load_lists-read : (s : State Environment)
     → step s load_lists [] ≡ read_as s load_lists
@@ -78,7 +79,8 @@ values_are_shown = simp (values_lists-read, show_x-read) refl
 
 -- a name that is not bound, and two offsets that are out of order
 abbrev load_unordered : List ℕ
-load_unordered = codes "{\"load\":\"x\",\"form\":{\"class\":\"ListOffsetArray\",\"offsets\":\"i64\",\"content\":{\"class\":\"NumpyArray\",\"primitive\":\"int64\",\"form_key\":\"node1\"},\"form_key\":\"node0\"},\"length\":2,\"buffers\":{\"node0-offsets\":\"AAAAAAAAAAADAAAAAAAAAAIAAAAAAAAA\"}}"
+load_unordered =
+    codes "{\"load\":\"x\",\"form\":{\"class\":\"ListOffsetArray\",\"offsets\":\"i64\",\"content\":{\"class\":\"NumpyArray\",\"primitive\":\"int64\",\"form_key\":\"node1\"},\"form_key\":\"node0\"},\"length\":2,\"buffers\":{\"node0-offsets\":\"AAAAAAAAAAADAAAAAAAAAAIAAAAAAAAA\"}}"
 
 load_unordered-read : (s : State Environment)
     → step s load_unordered [] ≡ read_as s load_unordered
@@ -101,7 +103,8 @@ null_line-read : (s : State Environment) → step s null_line [] ≡ read_as s n
 unfolding encode_utf8
 null_line-read s = step-read s null_line refl (null_line, (refl, refl))
 
-pub null_is_no_line : answers (plain_units (null_line ∷ [])) ≡ lines_of (codes "{\"fault\":\"query\"}" ∷ [])
+pub null_is_no_line : answers (plain_units (null_line ∷ [])) ≡ lines_of
+    (codes "{\"fault\":\"query\"}" ∷ [])
 unfolding expr_said serde_json_on_literals
 null_is_no_line = simp null_line-read refl
 
@@ -120,7 +123,8 @@ no_names = simp names_line-read refl
 
 -- a form that is broken: an unknown primitive at the second node
 abbrev load_float : List ℕ
-load_float = codes "{\"load\":\"x\",\"form\":{\"class\":\"ListOffsetArray\",\"offsets\":\"i64\",\"content\":{\"class\":\"NumpyArray\",\"primitive\":\"float64\",\"form_key\":\"node1\"},\"form_key\":\"node0\"},\"length\":0,\"buffers\":{}}"
+load_float =
+    codes "{\"load\":\"x\",\"form\":{\"class\":\"ListOffsetArray\",\"offsets\":\"i64\",\"content\":{\"class\":\"NumpyArray\",\"primitive\":\"float64\",\"form_key\":\"node1\"},\"form_key\":\"node0\"},\"length\":0,\"buffers\":{}}"
 
 load_float-read : (s : State Environment)
     → step s load_float [] ≡ read_as s load_float
@@ -140,7 +144,8 @@ broken-read : (s : State Environment) → step s broken [] ≡ read_as s broken
 unfolding encode_utf8
 broken-read s = step-read s broken refl (broken, (refl, refl))
 
-pub broken_is_no_json : answers (plain_units (broken ∷ [])) ≡ lines_of (codes "{\"fault\":\"json\"}" ∷ [])
+pub broken_is_no_json : answers (plain_units (broken ∷ [])) ≡ lines_of
+    (codes "{\"fault\":\"json\"}" ∷ [])
 unfolding expr_said serde_json_on_literals
 broken_is_no_json = simp broken-read refl
 
@@ -173,7 +178,8 @@ version_2_begins_once = simp session_line-read refl
 
 -- a number of two bytes, most significant first
 abbrev load_raw : List ℕ
-load_raw = codes "{\"load\":\"x\",\"form\":{\"class\":\"NumpyArray\",\"primitive\":\"uint16\",\"form_key\":\"n\"},\"length\":1,\"byteorder\":\">\",\"raw\":[[\"n-data\",2]]}"
+load_raw =
+    codes "{\"load\":\"x\",\"form\":{\"class\":\"NumpyArray\",\"primitive\":\"uint16\",\"form_key\":\"n\"},\"length\":1,\"byteorder\":\">\",\"raw\":[[\"n-data\",2]]}"
 
 load_raw-read : (s : State Environment) (raw : List ℕ)
     → step s load_raw raw ≡ read_with s load_raw raw

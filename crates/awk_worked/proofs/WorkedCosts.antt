@@ -20,7 +20,8 @@ use Rattle.awk_framing.specs.Framing.{is_blank, read_behind, reading_behind}
 use Rattle.awk_session.specs.Replies.{step}
 use Rattle.awk_session.specs.State.{State}
 use Rattle.awk_session.specs.Cost.{line_in, cost, are_plain}
-use Rattle.awk_worked.proofs.Sessions.{read_as, step-read, load_lists, load_lists-read, show_x, show_x-read}
+use Rattle.awk_worked.proofs.Sessions.{read_as, step-read, load_lists, load_lists-read, show_x}
+use Rattle.awk_worked.proofs.Sessions.{show_x-read}
 
 -- the line that a text of UTF-8 is
 abbrev line_as : Reading → List ℕ → Option Line
@@ -65,7 +66,8 @@ lists_cost = simp (load_lists-read, show_x-read, load_lists-line, show_x-line) r
 
 -- eleven numbers under a mask of bits, loaded, and a range of them shown
 abbrev load_masked : List ℕ
-load_masked = codes "{\"load\":\"x\",\"form\":{\"class\":\"BitMaskedArray\",\"mask\":\"u8\",\"valid_when\":false,\"lsb_order\":false,\"content\":{\"class\":\"NumpyArray\",\"primitive\":\"int8\",\"form_key\":\"d\"},\"form_key\":\"m\"},\"length\":11,\"buffers\":{\"m-mask\":\"QqA=\",\"d-data\":\"AAECAwQFBgcICQo=\"}}"
+load_masked =
+    codes "{\"load\":\"x\",\"form\":{\"class\":\"BitMaskedArray\",\"mask\":\"u8\",\"valid_when\":false,\"lsb_order\":false,\"content\":{\"class\":\"NumpyArray\",\"primitive\":\"int8\",\"form_key\":\"d\"},\"form_key\":\"m\"},\"length\":11,\"buffers\":{\"m-mask\":\"QqA=\",\"d-data\":\"AAECAwQFBgcICQo=\"}}"
 
 load_masked-read : (s : State Environment)
     → step s load_masked [] ≡ read_as s load_masked

@@ -1,8 +1,10 @@
 //! The twelve constructors. Each takes one step and no memory.
 ghost use Rattle.std.specs.Prelude.{◌≡◌, ◌+◌, ◌*◌, ◌<◌, ◌≤◌, ◌^◌, length};
 ghost use Rattle.awk_lanes.specs.Places.{size_of, IsOffsets, AreSpans, IsOptionalIndex, IsIndex};
-ghost use Rattle.awk_layout.specs.Layout.{count, layouts_from, empty, flat, regular, lists, offset_lists};
-ghost use Rattle.awk_layout.specs.Layout.{rows, indexed, optional, byte_masked, bit_masked, unmasked, union};
+ghost use Rattle.awk_layout.specs.Layout.{count, layouts_from, empty, flat, regular, lists};
+ghost use Rattle.awk_layout.specs.Layout.{offset_lists};
+ghost use Rattle.awk_layout.specs.Layout.{rows, indexed, optional, byte_masked, bit_masked};
+ghost use Rattle.awk_layout.specs.Layout.{unmasked, union};
 ghost use Rattle.awk_layout.specs.Valid.{len, AllReach, AreNames, IsByteMask, IsUnion};
 
 use crate::node::{Inner, Node, Nodes};

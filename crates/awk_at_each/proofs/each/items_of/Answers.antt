@@ -42,7 +42,8 @@ returns-in_ok-items_at-in-Some g c =
     subst (λ i. AreItemPlaces i s t (Some c.in-Some.places))
     (to_z-of_z w64 c.args.i c.ranges.i) made in (
       lists-have c.args.i s t c.args.lists.now.content found.0,
-      items-column c.args.i s t c.args.lists.now.content c.in-Some.places c.content-content.ensures.lists.spans found.0
+      items-column c.args.i s t c.args.lists.now.content c.in-Some.places
+          c.content-content.ensures.lists.spans found.0
           found.1 c.in_ok-items_at-in-Some.field-0
           (rw c.content-content.ensures.content at c.in_ok-items_at-in-Some.ensures.gathered)
           c.in_ok-items_at-in-Some.ensures.valid

@@ -80,9 +80,12 @@ pub lifted_lists-at_axis-requires :
 lifted_lists-at_axis-requires g t c =
     let f = g.F.ListOp.function c.args.f.now in
     let e : here c.args.k (array_type c.args.lists.now.content) ≡ true =
-    ap (here c.args.k) (sym (c.typ.ensures.typ ∙ ap array_type c.content.ensures.content)) ∙ sym c.is_here.ensures ∙ c.if-is_here.true in
+    ap (here c.args.k) (sym (c.typ.ensures.typ ∙ ap array_type c.content.ensures.content)) ∙ sym
+    c.is_here.ensures ∙ c.if-is_here.true in
     record {
-      accepted = sym (refusal-list_here f c.args.k c.args.lists.now.class (array_type c.args.lists.now.content) e)
+      accepted =
+          sym (refusal-list_here f c.args.k c.args.lists.now.class
+          (array_type c.args.lists.now.content) e)
           ∙ ap (refusal_at f c.args.k) (sym c.requires.opens.typ) ∙ c.requires.accepted;
     }
 
@@ -90,10 +93,13 @@ pub lifted_lists-returns-then-is_here : goal.lifted_lists-returns-then-is_here
 lifted_lists-returns-then-is_here g t c =
     let f = g.F.ListOp.function c.args.f.now in
     let e : here c.args.k (array_type c.args.lists.now.content) ≡ true =
-    ap (here c.args.k) (sym (c.typ.ensures.typ ∙ ap array_type c.content.ensures.content)) ∙ sym c.is_here.ensures ∙ c.if-is_here.true in
-    if_ok (IsAtAxis f c.args.lists.now.class c.args.lists.now.starts c.args.lists.now.stops c.args.lists.now.content)
+    ap (here c.args.k) (sym (c.typ.ensures.typ ∙ ap array_type c.content.ensures.content)) ∙ sym
+    c.is_here.ensures ∙ c.if-is_here.true in
+    if_ok (IsAtAxis f c.args.lists.now.class c.args.lists.now.starts c.args.lists.now.stops
+    c.args.lists.now.content)
     (IsLifted f c.args.k c.args.x.now) c.at_axis.result
-    (λ m. lists_here f c.args.k c.args.lists.now.class c.args.lists.now.starts c.args.lists.now.stops c.args.lists.now.content
+    (λ m. lists_here f c.args.k c.args.lists.now.class c.args.lists.now.starts
+    c.args.lists.now.stops c.args.lists.now.content
     c.args.x.now m e c.requires.opens) c.at_axis.ensures
 
 pub lifted_lists-returns-in_err-joined : goal.lifted_lists-returns-in_err-joined
@@ -176,16 +182,19 @@ pub lifted_lists-lifted-requires : goal.lifted_lists-lifted-requires
 lifted_lists-lifted-requires g t c κs within =
     let f = g.F.ListOp.function c.args.f.now in
     let e : here c.args.k (array_type c.args.lists.now.content) ≡ false =
-    ap (here c.args.k) (sym (c.typ.ensures.typ ∙ ap array_type c.content.ensures.content)) ∙ sym c.is_here.ensures ∙ c.if-is_here.false in
+    ap (here c.args.k) (sym (c.typ.ensures.typ ∙ ap array_type c.content.ensures.content)) ∙ sym
+    c.is_here.ensures ∙ c.if-is_here.false in
     let j : IsJoined c.args.lists.now.starts c.args.lists.now.stops c.args.lists.now.content
     (joined.Lists c.in-Lists.offsets c.in-Lists.content) =
     rw c.in-Lists.is at c.in_ok-joined.ensures in
-    let r : refusal_at f (inner c.args.k) (array_type c.args.lists.now.content) ≡ refusal_at f c.args.k
+    let r : refusal_at f (inner c.args.k) (array_type c.args.lists.now.content) ≡ refusal_at f
+    c.args.k
     (array_type c.args.x.now) =
     sym (refusal-list f c.args.k c.args.lists.now.class (array_type c.args.lists.now.content) e)
     ∙ ap (refusal_at f c.args.k) (sym c.requires.opens.typ) in
     let d : depth (array_type c.args.x.now) ≡ depth (array_type c.in-Lists.content) + 1 =
-    ap depth c.requires.opens.typ ∙ depth-list c.args.lists.now.class (array_type c.args.lists.now.content)
+    ap depth c.requires.opens.typ ∙ depth-list c.args.lists.now.class
+    (array_type c.args.lists.now.content)
     ∙ ap (λ u. depth u + 1) (sym j.1.typ) in (
       omega (
         arith,
@@ -210,13 +219,15 @@ pub lifted_lists-returns-in-Spoiled : goal.lifted_lists-returns-in-Spoiled
 lifted_lists-returns-in-Spoiled g t c =
     let f = g.F.ListOp.function c.args.f.now in
     let e : here c.args.k (array_type c.args.lists.now.content) ≡ false =
-    ap (here c.args.k) (sym (c.typ.ensures.typ ∙ ap array_type c.content.ensures.content)) ∙ sym c.is_here.ensures ∙ c.if-is_here.false in
+    ap (here c.args.k) (sym (c.typ.ensures.typ ∙ ap array_type c.content.ensures.content)) ∙ sym
+    c.is_here.ensures ∙ c.if-is_here.false in
     let j : IsJoined c.args.lists.now.starts c.args.lists.now.stops c.args.lists.now.content
     (joined.Lists c.in-Lists.offsets c.in-Lists.content) =
     rw c.in-Lists.is at c.in_ok-joined.ensures in
     let h : IsLifted f (inner c.args.k) c.in-Lists.content (mapped.Spoiled c.in-Spoiled.why) =
     rw (c.inner.ensures, c.in-Spoiled.is) at c.in_ok-why-in-Lists.ensures in
-    lists_spoiled f c.args.k c.args.lists.now.class c.args.lists.now.starts c.args.lists.now.stops c.in-Lists.offsets
+    lists_spoiled f c.args.k c.args.lists.now.class c.args.lists.now.starts c.args.lists.now.stops
+    c.in-Lists.offsets
     c.args.lists.now.content c.in-Lists.content c.args.x.now c.in-Spoiled.why e c.requires.opens j.0
     j.1 h
 
@@ -236,7 +247,8 @@ lifted_lists-list_node-requires-clause-even g t c =
     let j : IsJoined c.args.lists.now.starts c.args.lists.now.stops c.args.lists.now.content
     (joined.Lists c.in-Lists.offsets c.in-Lists.content) =
     rw c.in-Lists.is at c.in_ok-joined.ensures in
-    rw (c.class.ensures, c.len-n.ensures.len) (joined_even c.args.lists.now.class c.args.lists.now.starts c.args.lists.now.stops
+    rw (c.class.ensures, c.len-n.ensures.len) (joined_even c.args.lists.now.class
+    c.args.lists.now.starts c.args.lists.now.stops
     c.args.lists.now.content c.in-Lists.offsets c.in-Lists.content c.requires.opens.lists.same_class
     j.1)
 
@@ -247,14 +259,16 @@ pub lifted_lists-returns : goal.lifted_lists-returns
 lifted_lists-returns g t c =
     let f = g.F.ListOp.function c.args.f.now in
     let e : here c.args.k (array_type c.args.lists.now.content) ≡ false =
-    ap (here c.args.k) (sym (c.typ.ensures.typ ∙ ap array_type c.content.ensures.content)) ∙ sym c.is_here.ensures ∙ c.if-is_here.false in
+    ap (here c.args.k) (sym (c.typ.ensures.typ ∙ ap array_type c.content.ensures.content)) ∙ sym
+    c.is_here.ensures ∙ c.if-is_here.false in
     let j : IsJoined c.args.lists.now.starts c.args.lists.now.stops c.args.lists.now.content
     (joined.Lists c.in-Lists.offsets c.in-Lists.content) =
     rw c.in-Lists.is at c.in_ok-joined.ensures in
     let h : IsLifted f (inner c.args.k) c.in-Lists.content (mapped.Column c.in-Column.node) =
     rw (c.inner.ensures, c.in-Column.is) at c.in_ok-why-in-Lists.ensures in
     rw (c.in_ok-node-in-Column.ensures, c.class.ensures, c.len-n.ensures.len)
-    (lists_above f c.args.k c.args.lists.now.class c.args.lists.now.starts c.args.lists.now.stops c.in-Lists.offsets
+    (lists_above f c.args.k c.args.lists.now.class c.args.lists.now.starts c.args.lists.now.stops
+    c.in-Lists.offsets
     c.args.lists.now.content c.in-Lists.content c.args.x.now c.in-Column.node e c.requires.opens j.0
     j.1 h)
 
@@ -325,7 +339,8 @@ lifted_row-lifted_all-requires g t c κs within =
         (
           within.1,
           refusal-row (g.F.ListOp.function c.args.f.now) c.args.k c.args.names ts
-              (ap (refusal_at (g.F.ListOp.function c.args.f.now) c.args.k) (sym c.requires.opens.typ)
+              (ap (refusal_at (g.F.ListOp.function c.args.f.now) c.args.k)
+              (sym c.requires.opens.typ)
               ∙ c.requires.accepted),
         ),
       ),
@@ -381,7 +396,8 @@ lifted_union-lifted_all-requires g t c κs within =
         (
           within.1,
           refusal-union (g.F.ListOp.function c.args.f.now) c.args.k ts
-              (ap (refusal_at (g.F.ListOp.function c.args.f.now) c.args.k) (sym c.requires.opens.typ)
+              (ap (refusal_at (g.F.ListOp.function c.args.f.now) c.args.k)
+              (sym c.requires.opens.typ)
               ∙ c.requires.accepted),
         ),
       ),

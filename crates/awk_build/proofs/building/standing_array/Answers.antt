@@ -59,5 +59,6 @@ returns-clause-items g c =
     c.deref.ensures.value c.in_ok-list.ensures in
     suited_made vs u c.in_ok-suited_array.field-0
     (standing_item t u (items_view vs) s c.item_type-item.ensures) s.plain
-    (standing_suited t u (items_view vs) s c.item_type-item.ensures) c.in_ok-suited_array.ensures.typ
+    (standing_suited t u (items_view vs) s c.item_type-item.ensures)
+    c.in_ok-suited_array.ensures.typ
     c.in_ok-suited_array.ensures.items

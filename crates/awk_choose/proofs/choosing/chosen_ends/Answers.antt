@@ -34,7 +34,8 @@ returns-in_err-chosen-clause-answer g c =
     let e = c.in_err-chosen.field-0.0 in
     let failed : c.from_residual-in_err-chosen.result ≡ Err e = grind arith in
     Gives-Err array_items fault_told c.from_residual-in_err-chosen.result e (columns_said a b ys)
-    failed (subst (Told (fault_told e)) (ends-said a b ys c.in_ok-condition.condition c.in_ok-x.x c.in_ok-y.y h
+    failed (subst (Told (fault_told e)) (ends-said a b ys c.in_ok-condition.condition c.in_ok-x.x
+    c.in_ok-y.y h
     c.len-n.result size)
     c.in_err-chosen.ensures.answer)
 

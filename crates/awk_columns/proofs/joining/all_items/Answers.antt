@@ -13,7 +13,8 @@ index_of-requires-2 g c = c.requires.spans.stop_kind
 pub total-requires : goal.total-requires
 total-requires g c = record {
   spans = rw (c.in_ok-starts.ensures, c.in_ok-stops.ensures)
-      (spans_wider c.args.starts.now c.args.stops.now (len c.args.content.now) 9223372036854775807 (omega (arith, len-fits c.args.content.now c.len.ensures.valid)) c.requires.spans);
+      (spans_wider c.args.starts.now c.args.stops.now (len c.args.content.now) 9223372036854775807
+      (omega (arith, len-fits c.args.content.now c.len.ensures.valid)) c.requires.spans);
 }
 
 pub joined_items-requires-clause-spans : goal.joined_items-requires-clause-spans

@@ -2,13 +2,15 @@ use Rattle.std.proofs.Common.{arith, ◌∙◌}
 use Rattle.awk_lanes.specs.Places.{size_of}
 use Rattle.awk_layout.specs.Laws.{len-fits}
 use Rattle.awk_layout.specs.Valid.{len}
-use Rattle.awk_columns.proofs.JoinedLists.{spans_wider, before-spans, offsets_by-is, are_joined, joined_refused, joined_given, offsets_lane-is}
+use Rattle.awk_columns.proofs.JoinedLists.{spans_wider, before-spans, offsets_by-is, are_joined}
+use Rattle.awk_columns.proofs.JoinedLists.{joined_refused, joined_given, offsets_lane-is}
 use Rattle.awk_columns.proofs.PlaceLanes.{none_left}
 use Rattle.awk_columns.proofs.joining.join_ends.Goals as goal
 
 pub offsets_within-requires-clause-ready : goal.offsets_within-requires-clause-ready
 offsets_within-requires-clause-ready g c =
-    spans_wider c.args.starts.now c.args.stops.now (len c.args.content.now) 9223372036854775807 (omega (arith, len-fits c.args.content.now c.len.ensures.valid)) c.requires.spans
+    spans_wider c.args.starts.now c.args.stops.now (len c.args.content.now) 9223372036854775807
+    (omega (arith, len-fits c.args.content.now c.len.ensures.valid)) c.requires.spans
 
 pub returns-in_default-clause-answer : goal.returns-in_default-clause-answer
 returns-in_default-clause-answer g c =
@@ -35,7 +37,8 @@ returns-clause-answer g c =
     let s = c.args.starts.now in
     let t = c.args.stops.now in
     let o = rw (c.in-Some.is, c.len-n.ensures.len) at c.in_ok-offsets.ensures in
-    joined_given s t c.args.content.now c.in_ok-items.items (omega (arith, o.1, before-spans s t (size_of s))) c.in_ok-items.ensures.reached
+    joined_given s t c.args.content.now c.in_ok-items.items
+    (omega (arith, o.1, before-spans s t (size_of s))) c.in_ok-items.ensures.reached
 
 pub returns-clause-offsets : goal.returns-clause-offsets
 returns-clause-offsets g c =
@@ -49,5 +52,6 @@ returns-clause-lists g c =
     let s = c.args.starts.now in
     let t = c.args.stops.now in
     let o = rw (c.in-Some.is, c.len-n.ensures.len) at c.in_ok-offsets.ensures in
-    are_joined s t c.args.content.now c.in-Some.offsets.lane c.in_ok-items.items c.requires.spans c.requires.small
+    are_joined s t c.args.content.now c.in-Some.offsets.lane c.in_ok-items.items c.requires.spans
+    c.requires.small
     (o.2 ∙ offsets_by-is s t) c.in_ok-items.ensures.reached c.len-2.ensures.valid

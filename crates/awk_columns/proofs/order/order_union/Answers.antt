@@ -4,15 +4,21 @@ use Rattle.awk_columns.proofs.OrderedUnions.{union_tagged, union_opened, union_i
 use Rattle.awk_columns.proofs.order.order_union.Goals as goal
 
 pub counted_union-requires-clause-tagged : goal.counted_union-requires-clause-tagged
-counted_union-requires-clause-tagged g c = union_tagged c.args.tags.now c.args.index.now c.args.contents.now c.requires.valid
+counted_union-requires-clause-tagged g c =
+    union_tagged c.args.tags.now c.args.index.now c.args.contents.now c.requires.valid
 
 pub counted_union-requires-clause-below : goal.counted_union-requires-clause-below
-counted_union-requires-clause-below g c = λ i l. omega (arith, (c.requires.valid.1.tags i l).1, count-layouts_from c.args.contents.now, c.len.ensures)
+counted_union-requires-clause-below g c = λ i l. omega
+    (arith, (c.requires.valid.1.tags i l).1, count-layouts_from c.args.contents.now, c.len.ensures)
 
 pub returns-clause-opened : goal.returns-clause-opened
 returns-clause-opened g c x h =
-    rw c.copy.ensures (union_opened x c.args.tags.now c.args.index.now c.in_ok-counted.counted c.args.contents.now c.in_ok-taken.taken h c.in_ok-counted.ensures.lane c.in_ok-taken.ensures)
+    rw c.copy.ensures (union_opened x c.args.tags.now c.args.index.now c.in_ok-counted.counted
+    c.args.contents.now c.in_ok-taken.taken h c.in_ok-counted.ensures.lane
+    c.in_ok-taken.ensures)
 
 pub returns-clause-order : goal.returns-clause-order
 returns-clause-order g c x h =
-    rw c.copy.ensures (union_in_order x c.args.tags.now c.args.index.now c.in_ok-counted.counted c.args.contents.now c.in_ok-taken.taken h c.in_ok-counted.ensures.lane c.in_ok-taken.ensures)
+    rw c.copy.ensures (union_in_order x c.args.tags.now c.args.index.now c.in_ok-counted.counted
+    c.args.contents.now c.in_ok-taken.taken h c.in_ok-counted.ensures.lane
+    c.in_ok-taken.ensures)

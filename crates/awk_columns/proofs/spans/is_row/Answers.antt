@@ -12,6 +12,14 @@ loop-i-preserved c =
       | else-span-gt0 w ↦ λ p. absurd (omega (arith, w.if-span-gt0.false))
     ] in
     record {
-      end = omega (arith, span-count c.args.starts.now c.args.stops.now c.loop-i.i a m c.span_of-span.ensures.places, c.loop-i.invariant.end);
-      row = row_more c.args.starts.now c.args.stops.now c.loop-i.i c.args.first c.loop-i.end a m c.span_of-span.ensures.places c.loop-i.invariant.end next c.loop-i.invariant.row;
+      end =
+          omega (
+            arith,
+            span-count c.args.starts.now c.args.stops.now c.loop-i.i a m
+                c.span_of-span.ensures.places,
+            c.loop-i.invariant.end,
+          );
+      row =
+          row_more c.args.starts.now c.args.stops.now c.loop-i.i c.args.first c.loop-i.end a m
+          c.span_of-span.ensures.places c.loop-i.invariant.end next c.loop-i.invariant.row;
     }

@@ -8,4 +8,6 @@ abbrev pub invariant-loop-i : goal.invariant-loop-i
 invariant-loop-i l = ArePlaces l.n (first_of (span_at l.starts l.stops) l.i) l.maker
 
 abbrev pub invariant-loop-k : goal.invariant-loop-k
-invariant-loop-k l = ArePlaces l.n (first_of (span_at l.starts l.stops) l.i ++ range_with_len l.span.start l.k) l.maker
+invariant-loop-k l =
+    ArePlaces l.n (first_of (span_at l.starts l.stops) l.i ++ range_with_len l.span.start l.k)
+    l.maker

@@ -8,6 +8,7 @@ use Rattle.awk_columns.proofs.tagged.counted_union.Given as goal
 abbrev pub invariant-loop-i : goal.invariant-loop-i
 invariant-loop-i g l = record {
   many : length l.counts.items ≡ l.alternatives;
-  counts : (a : ℕ) → a < l.alternatives → get_or l.counts.items a 0 ≡ length (first_of (tagged_at l.tags l.index a) l.i);
+  counts : (a : ℕ) → a < l.alternatives
+      → get_or l.counts.items a 0 ≡ length (first_of (tagged_at l.tags l.index a) l.i);
   made : IsSoFar I64 (size_of l.tags) (counted_tag l.tags l.index) l.i l.maker;
 }

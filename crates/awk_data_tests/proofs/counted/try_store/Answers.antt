@@ -8,14 +8,17 @@ use Rattle.serde_json.proofs.OnLiterals.{serde_json_on_literals}
 use Rattle.awk_data_tests.proofs.counted.try_store.Goals as goal
 
 abbrev sample : Members
-sample = member (codes "a") (string (codes "AA==")) (member (codes "b") (string (codes "AAA")) no_members)
+sample =
+    member (codes "a") (string (codes "AA=="))
+    (member (codes "b") (string (codes "AAA")) no_members)
 
 pub new-store-requires : goal.new-store-requires
 unfolding serde_json_on_literals
 new-store-requires g c =
     let read : Some (object sample) ≡ Some (view c.in_ok-json.json) = c.in_ok-json.ensures.ok in
     let members : Some (members_view c.expect-buffers.result.now.entries) ≡ Some sample =
-    ap (option_map (λ m. members_view m.now.entries)) (sym c.expect-buffers.ensures) ∙ c.as_object.ensures
+    ap (option_map (λ m. members_view m.now.entries)) (sym c.expect-buffers.ensures) ∙
+    c.as_object.ensures
     ∙ ap (option_and_then as_object) (sym read) in
     let same : members_view c.expect-buffers.result.now.entries ≡ sample = cc in
     rw same (refl, (refl, tt))

@@ -22,7 +22,8 @@ returns-in-Flatten-clause-answer g c =
     let axis =
     to_z-of_z w64 c.axis_in-axis.result fits ∙ c.axis_in-axis.ensures
     ∙ ap (axis_in (datum_of c.only-x.result.now)) (to_z-of_z w64 c.place.result given) in
-    rw (c.in-Flatten.is, c.place.ensures, c.only-x.ensures.alone) (rw axis at c.flatten.ensures.answer)
+    rw (c.in-Flatten.is, c.place.ensures, c.only-x.ensures.alone)
+    (rw axis at c.flatten.ensures.answer)
 
 pub returns-in-LocalIndex-clause-answer : goal.returns-in-LocalIndex-clause-answer
 returns-in-LocalIndex-clause-answer g c =
@@ -31,7 +32,8 @@ returns-in-LocalIndex-clause-answer g c =
     let axis =
     to_z-of_z w64 c.axis_in-axis.result fits ∙ c.axis_in-axis.ensures
     ∙ ap (axis_in (datum_of c.only-x.result.now)) (to_z-of_z w64 c.place.result given) in
-    rw (c.in-LocalIndex.is, c.place.ensures, c.only-x.ensures.alone) (rw axis at c.local_index.ensures.answer)
+    rw (c.in-LocalIndex.is, c.place.ensures, c.only-x.ensures.alone)
+    (rw axis at c.local_index.ensures.answer)
 
 pub returns-in-IsNone-clause-answer : goal.returns-in-IsNone-clause-answer
 returns-in-IsNone-clause-answer g c =
@@ -40,7 +42,8 @@ returns-in-IsNone-clause-answer g c =
     let axis =
     to_z-of_z w64 c.axis_in-axis.result fits ∙ c.axis_in-axis.ensures
     ∙ ap (axis_in (datum_of c.only-x.result.now)) (to_z-of_z w64 c.place.result given) in
-    rw (c.in-IsNone.is, c.place.ensures, c.only-x.ensures.alone) (rw axis at c.is_none.ensures.answer)
+    rw (c.in-IsNone.is, c.place.ensures, c.only-x.ensures.alone)
+    (rw axis at c.is_none.ensures.answer)
 
 pub returns-in-DropNone-clause-answer : goal.returns-in-DropNone-clause-answer
 returns-in-DropNone-clause-answer g c =
@@ -49,7 +52,8 @@ returns-in-DropNone-clause-answer g c =
     let axis =
     to_z-of_z w64 c.axis_in-axis.result fits ∙ c.axis_in-axis.ensures
     ∙ ap (axis_in (datum_of c.only-x.result.now)) (to_z-of_z w64 c.place.result given) in
-    rw (c.in-DropNone.is, c.place.ensures, c.only-x.ensures.alone) (rw axis at c.drop_none.ensures.answer)
+    rw (c.in-DropNone.is, c.place.ensures, c.only-x.ensures.alone)
+    (rw axis at c.drop_none.ensures.answer)
 
 pub returns-in-Firsts-clause-answer : goal.returns-in-Firsts-clause-answer
 returns-in-Firsts-clause-answer g c =
@@ -58,7 +62,8 @@ returns-in-Firsts-clause-answer g c =
     let axis =
     to_z-of_z w64 c.axis_in-axis.result fits ∙ c.axis_in-axis.ensures
     ∙ ap (axis_in (datum_of c.only-x.result.now)) (to_z-of_z w64 c.place.result given) in
-    rw (c.in-Firsts.is, c.place.ensures, c.only-x.ensures.alone) (rw axis at c.firsts.ensures.answer)
+    rw (c.in-Firsts.is, c.place.ensures, c.only-x.ensures.alone)
+    (rw axis at c.firsts.ensures.answer)
 
 pub returns-in-Singletons-clause-answer : goal.returns-in-Singletons-clause-answer
 returns-in-Singletons-clause-answer g c =
@@ -67,4 +72,5 @@ returns-in-Singletons-clause-answer g c =
     let axis =
     to_z-of_z w64 c.axis_in-axis.result fits ∙ c.axis_in-axis.ensures
     ∙ ap (axis_in (datum_of c.only-x.result.now)) (to_z-of_z w64 c.place.result given) in
-    rw (c.in-Singletons.is, c.place.ensures, c.only-x.ensures.alone) (rw axis at c.singletons.ensures.answer)
+    rw (c.in-Singletons.is, c.place.ensures, c.only-x.ensures.alone)
+    (rw axis at c.singletons.ensures.answer)

@@ -4,7 +4,8 @@ use Rattle.serde_json.specs.View.{view}
 use Rattle.awk_expr.specs.Arguments.{items_in}
 use Rattle.awk_expr.proofs.Pairs.{pair-none}
 use Rattle.awk_expr.proofs.arguments.named.Goals as goal
-use Rattle.awk_expr.proofs.arguments.named.Goals.{in_default-via-then-branch-lt2, in_default-via-else-branch-lt2+else-this-lt3}
+use Rattle.awk_expr.proofs.arguments.named.Goals.{in_default-via-then-branch-lt2}
+use Rattle.awk_expr.proofs.arguments.named.Goals.{in_default-via-else-branch-lt2+else-this-lt3}
 
 pub returns-in_default : goal.returns-in_default
 returns-in_default c =

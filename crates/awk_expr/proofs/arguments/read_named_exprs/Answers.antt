@@ -1,4 +1,5 @@
-use Rattle.std.proofs.Common.{◌≡◌, ◌+◌, ◌<◌, ◌++◌, ◌∷◌, [], true, false, Err, map, drop, length, arith, ap, sym, ◌∙◌, refl, append-nil}
+use Rattle.std.proofs.Common.{◌≡◌, ◌+◌, ◌<◌, ◌++◌, ◌∷◌, [], true, false, Err, map, drop, length}
+use Rattle.std.proofs.Common.{arith, ap, sym, ◌∙◌, refl, append-nil}
 use Rattle.std.proofs.lemmas.List.{drop_more, length-map, map-append}
 use Rattle.serde_json.specs.View.{view}
 use Rattle.awk_types.proofs.RefusalLaws.{Gives-Err}

@@ -7,7 +7,9 @@ use Rattle.awk_expr.specs.View.{expr_of, exprs_of}
 use Rattle.awk_expr.specs.Told.{unread_told}
 use Rattle.awk_expr.specs.ArgsView.{args_view}
 use Rattle.awk_expr.proofs.Levels.{levels, list-shallow}
-use Rattle.awk_expr.proofs.Heads.{string-value, number-value, truth-value, null-value, object-value, array-expr, array-levels, item-levels, call-done, call-told, head-told, call-levels}
+use Rattle.awk_expr.proofs.Heads.{string-value, number-value, truth-value, null-value, object-value}
+use Rattle.awk_expr.proofs.Heads.{array-expr, array-levels, item-levels, call-done, call-told}
+use Rattle.awk_expr.proofs.Heads.{head-told, call-levels}
 use Rattle.awk_expr.proofs.read.+read.Goals as goal
 
 pub read_expr-call-requires : goal.read_expr-call-requires

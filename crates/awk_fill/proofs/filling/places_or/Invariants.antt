@@ -6,4 +6,5 @@ use Rattle.awk_fill.proofs.filling.places_or.Given as goal
 
 abbrev pub invariant-loop-i : goal.invariant-loop-i
 invariant-loop-i g l =
-    IsSoFar Kinds.I64 (size_of l.index) (λ i. place_or l.place (option_place_at l.index i)) l.i l.maker
+    IsSoFar Kinds.I64 (size_of l.index) (λ i. place_or l.place (option_place_at l.index i)) l.i
+    l.maker

@@ -7,7 +7,8 @@ use Rattle.awk_fill.proofs.moving.bits_in.Goals as goal
 pub loop-k-preserved : goal.loop-k-preserved
 loop-k-preserved g c =
     c.in_ok-push.ensures.items ∙ ap₂ (λ xs x. xs ++ x ∷ []) c.loop-k.invariant c.eight.ensures
-    ∙ sym (map-range_with_len_more (λ k. eight c.args.bits.now (8 * k)) 0 c.loop-k.k c.loop-k.k (omega arith))
+    ∙ sym (map-range_with_len_more (λ k. eight c.args.bits.now (8 * k)) 0 c.loop-k.k c.loop-k.k
+    (omega arith))
 
 pub new-requires : goal.new-requires
 new-requires g c =

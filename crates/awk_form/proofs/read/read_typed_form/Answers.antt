@@ -1,7 +1,8 @@
 use Rattle.std.proofs.Common.{◌≡◌, Err, arith, sym, ap, ◌∙◌, subst}
 use Rattle.awk_types.specs.Gives.{Told, refused_or}
 use Rattle.awk_types.specs.Simple.{simple}
-use Rattle.awk_types.proofs.RefusalLaws.{Told-first, Told-later, refused_or-Ok, refused_or-None, or-None, Gives-Err}
+use Rattle.awk_types.proofs.RefusalLaws.{Told-first, Told-later, refused_or-Ok, refused_or-None}
+use Rattle.awk_types.proofs.RefusalLaws.{or-None, Gives-Err}
 use Rattle.serde_json.specs.View.{view}
 use Rattle.awk_form.specs.FormType.{type_of}
 use Rattle.awk_form.specs.Lawful.{IsLawful}

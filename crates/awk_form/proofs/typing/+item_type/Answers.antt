@@ -1,4 +1,5 @@
-use Rattle.std.proofs.Common.{◌≡◌, ◌++◌, ◌∷◌, ◌+◌, [], IfOk, map, drop, arith, rules, sym, ap, ◌∙◌, subst, append_assoc, length}
+use Rattle.std.proofs.Common.{◌≡◌, ◌++◌, ◌∷◌, ◌+◌, [], IfOk, map, drop, arith, rules, sym, ap, ◌∙◌}
+use Rattle.std.proofs.Common.{subst, append_assoc, length}
 use Rattle.std.proofs.lemmas.List.{length-map}
 use Rattle.awk_types.specs.DataType.{uni, types_from}
 use Rattle.awk_types.specs.View.{typ_of, typs_of}

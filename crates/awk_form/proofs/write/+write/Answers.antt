@@ -1,5 +1,6 @@
 use Rattle.std.proofs.Common.{◌≡◌, ◌++◌, codes, map, arith, sym, ap, ◌∙◌}
-use Rattle.awk_json.proofs.Joins.{stops_at, goes_to, puts_same, joins_first, joins_next, joins_stop, joins_stop_in, joins_last}
+use Rattle.awk_json.proofs.Joins.{stops_at, goes_to, puts_same, joins_first, joins_next, joins_stop}
+use Rattle.awk_json.proofs.Joins.{joins_stop_in, joins_last}
 use Rattle.awk_json.specs.Text.{comma_joined}
 use Rattle.awk_form.specs.FormText.{class_text, class_member, members_text, form_text}
 use Rattle.awk_form.specs.View.{form_of, forms_of}

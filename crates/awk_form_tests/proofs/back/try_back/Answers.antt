@@ -15,7 +15,8 @@ unfolding serde_json_on_literals
 new-store-requires g c =
     let read : Some (object sample) ≡ Some (view c.in_ok-json.json) = c.in_ok-json.ensures.ok in
     let members : Some (members_view c.expect-buffers.result.now.entries) ≡ Some sample =
-    ap (option_map (λ m. members_view m.now.entries)) (sym c.expect-buffers.ensures) ∙ c.as_object.ensures
+    ap (option_map (λ m. members_view m.now.entries)) (sym c.expect-buffers.ensures) ∙
+    c.as_object.ensures
     ∙ ap (option_and_then as_object) (sym read) in
     let same : members_view c.expect-buffers.result.now.entries ≡ sample = cc in
     rw same (refl, tt)

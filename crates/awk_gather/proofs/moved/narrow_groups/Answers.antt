@@ -8,5 +8,7 @@ loop-i-preserved c = record {
   end = refl;
   count = omega (arith, c.push_reserved.ensures.len, c.loop-i.invariant.count);
   room = c.push_reserved.ensures.capacity ∙ c.loop-i.invariant.room;
-  items = group_pushed (narrow_group c.args.places.now) c.loop-i.i c.narrow.result c.loop-i.moved.items _ c.push_reserved.ensures.items c.narrow.ensures c.loop-i.invariant.items;
+  items =
+      group_pushed (narrow_group c.args.places.now) c.loop-i.i c.narrow.result c.loop-i.moved.items
+      _ c.push_reserved.ensures.items c.narrow.ensures c.loop-i.invariant.items;
 }

@@ -9,8 +9,10 @@ abbrev pub invariant-loop-i : goal.invariant-loop-i
 invariant-loop-i g l = record {
   ordered : l.start ≤ l.i;
   done : List ℕ;
-  put : Moves {E = WriteFault} (g.K.Sink.written l.fn.sink) (g.K.Sink.written l.sink) l.out (l.fn.out.held ++ done) (Ok tt);
-  whole : escaped_all l.bytes ≡ done ++ (slice_range l.bytes l.start l.i ++ escaped_all (drop l.i l.bytes));
+  put : Moves {E = WriteFault} (g.K.Sink.written l.fn.sink) (g.K.Sink.written l.sink) l.out
+      (l.fn.out.held ++ done) (Ok tt);
+  whole : escaped_all l.bytes ≡ done ++ (slice_range l.bytes l.start l.i ++ escaped_all
+      (drop l.i l.bytes));
   flushes : g.K.Sink.flushes l.sink ≡ g.K.Sink.flushes l.fn.sink;
   later : g.K.Sink.faults l.fn.sink ≤ g.K.Sink.faults l.sink;
 }

@@ -9,8 +9,10 @@ use Rattle.awk_json.proofs.text.write_pieces.Given as goal
 abbrev pub invariant-loop-piece : goal.invariant-loop-piece
 invariant-loop-piece g l = record {
   done : List ℕ;
-  put : Moves {E = WriteFault} (g.K.Sink.written l.fn.sink) (g.K.Sink.written l.sink) l.out (l.fn.out.held ++ done) (Ok tt);
-  whole : flat_map (λ p. p.now) l.pieces ≡ done ++ flat_map (λ p. p.now) (drop l.piece-index l.pieces);
+  put : Moves {E = WriteFault} (g.K.Sink.written l.fn.sink) (g.K.Sink.written l.sink) l.out
+      (l.fn.out.held ++ done) (Ok tt);
+  whole : flat_map (λ p. p.now) l.pieces ≡ done ++ flat_map (λ p. p.now)
+      (drop l.piece-index l.pieces);
   flushes : g.K.Sink.flushes l.sink ≡ g.K.Sink.flushes l.fn.sink;
   later : g.K.Sink.faults l.fn.sink ≤ g.K.Sink.faults l.sink;
 }

@@ -9,7 +9,8 @@ use Rattle.awk_lanes.proofs.counted.offsets_within.Goals as goal
 pub returns-then-length-limit : goal.returns-then-length-limit
 returns-then-length-limit g c =
     total_passed (g.S.Lengths.length c.args.source.now) c.args.limit c.args.n c.loop-i.i
-    c.loop-i.total c.length-length.result (omega (arith, c.loop-i-test.true)) c.loop-i.invariant.total
+    c.loop-i.total c.length-length.result (omega (arith, c.loop-i-test.true))
+    c.loop-i.invariant.total
     c.length-length.ensures.length (omega (arith, c.if-length-limit.true, c.loop-i.invariant.small))
 
 pub push-requires-in-loop-i-clause-room : goal.push-requires-in-loop-i-clause-room

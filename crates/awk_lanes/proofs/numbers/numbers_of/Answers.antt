@@ -7,5 +7,8 @@ use Rattle.awk_lanes.proofs.numbers.numbers_of.Goals as goal
 
 pub returns-clause-numbers : goal.returns-clause-numbers
 returns-clause-numbers g c =
-    let all : map (number c.kind.result) (first_chunks (width c.kind.result) (length c.bulk.result.now / width c.kind.result) c.bulk.result.now) ≡ c.args.lane.now.items = rw c.kind.ensures (map-number_all _ _ _ _ c.bulk.ensures.size c.bulk.ensures.numbers) in
+    let all : map (number c.kind.result) (first_chunks (width c.kind.result)
+    (length c.bulk.result.now / width c.kind.result) c.bulk.result.now) ≡
+    c.args.lane.now.items =
+    rw c.kind.ensures (map-number_all _ _ _ _ c.bulk.ensures.size c.bulk.ensures.numbers) in
     rw all at c.numbers_in.ensures

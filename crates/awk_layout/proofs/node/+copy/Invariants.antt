@@ -12,7 +12,8 @@ abbrev pub decreases-Nodes::copy : goal.decreases-Nodes::copy
 decreases-Nodes::copy l = goal.size-Nodes::copy l
 
 abbrev pub invariant-Nodes::copy-loop-i : goal.invariant-Nodes::copy-loop-i
-invariant-Nodes::copy-loop-i l = (l.i ≤ length l.self-inside.nodes.items) × (l.nodes.items ≡ take l.i l.self-inside.nodes.items)
+invariant-Nodes::copy-loop-i l =
+    (l.i ≤ length l.self-inside.nodes.items) × (l.nodes.items ≡ take l.i l.self-inside.nodes.items)
 
 abbrev pub decreases-Nodes::copy-loop-i : goal.decreases-Nodes::copy-loop-i
 decreases-Nodes::copy-loop-i l = length l.self-inside.nodes.items - l.i

@@ -4,15 +4,19 @@ use Rattle.awk_lists.proofs.holding.held_of.Goals as goal
 
 pub held_among-requires-clause-lists : goal.held_among-requires-clause-lists
 held_among-requires-clause-lists g c =
-    let opens : OpensLists c.in-Items.lists.class c.in-Items.lists.starts c.in-Items.lists.stops c.in-Items.lists.content
+    let opens : OpensLists c.in-Items.lists.class c.in-Items.lists.starts c.in-Items.lists.stops
+    c.in-Items.lists.content
     c.args.x.now = rw c.in-Items.is at c.in_ok-open_array.ensures in
-    opens_lists c.in-Items.lists.class c.in-Items.lists.starts c.in-Items.lists.stops c.in-Items.lists.content
+    opens_lists c.in-Items.lists.class c.in-Items.lists.starts c.in-Items.lists.stops
+    c.in-Items.lists.content
     c.args.x.now opens
 
 pub held_among-requires-clause-lengths : goal.held_among-requires-clause-lengths
 held_among-requires-clause-lengths g c =
-    let opens : OpensLists c.in-Items.lists.class c.in-Items.lists.starts c.in-Items.lists.stops c.in-Items.lists.content
+    let opens : OpensLists c.in-Items.lists.class c.in-Items.lists.starts c.in-Items.lists.stops
+    c.in-Items.lists.content
     c.args.x.now = rw c.in-Items.is at c.in_ok-open_array.ensures in
     rw (c.starts.ensures, c.stops.ensures) (
-    opens_lengths c.in-Items.lists.class c.in-Items.lists.starts c.in-Items.lists.stops c.in-Items.lists.content
+    opens_lengths c.in-Items.lists.class c.in-Items.lists.starts c.in-Items.lists.stops
+    c.in-Items.lists.content
     c.args.x.now opens)

@@ -33,7 +33,8 @@ numbers_at_ends-requires-clause-ends g c =
       c.starts.ensures,
       c.stops.ensures,
     )
-    (starts_are c.args.lists.now.class c.args.lists.now.starts c.args.lists.now.stops c.args.lists.now.content
+    (starts_are c.args.lists.now.class c.args.lists.now.starts c.args.lists.now.stops
+    c.args.lists.now.content
     c.content.ensures.lists c.args.counts.now c.args.held.now c.requires.lists)
 
 pub numbers_at_ends-requires-2-clause-spans : goal.numbers_at_ends-requires-2-clause-spans
@@ -51,7 +52,8 @@ numbers_at_ends-requires-2-clause-ends g c =
       c.starts.ensures,
       c.stops.ensures,
     )
-    (stops_are c.args.lists.now.class c.args.lists.now.starts c.args.lists.now.stops c.args.lists.now.content
+    (stops_are c.args.lists.now.class c.args.lists.now.starts c.args.lists.now.stops
+    c.args.lists.now.content
     c.content.ensures.lists c.args.counts.now c.args.held.now c.requires.lists)
 
 pub join_spans-requires : goal.join_spans-requires
@@ -65,12 +67,14 @@ join_spans-requires g c =
       c.starts.ensures,
       c.stops.ensures,
     )
-    (moved_spans c.args.lists.now.class c.args.lists.now.starts c.args.lists.now.stops c.args.lists.now.content
+    (moved_spans c.args.lists.now.class c.args.lists.now.starts c.args.lists.now.stops
+    c.args.lists.now.content
     c.content.ensures.lists c.args.counts.now c.args.held.now c.requires.lists)
 
 pub joined_rows-requires-clause-lists : goal.joined_rows-requires-clause-lists
 joined_rows-requires-clause-lists g c =
-    held_typ c.args.lists.now.class c.args.lists.now.starts c.args.lists.now.stops c.args.lists.now.content
+    held_typ c.args.lists.now.class c.args.lists.now.starts c.args.lists.now.stops
+    c.args.lists.now.content
     c.content.ensures.lists c.args.counts.now c.args.held.now c.requires.lists c.requires.accepted
 
 pub joined_rows-requires-clause-spans : goal.joined_rows-requires-clause-spans
@@ -84,7 +88,8 @@ joined_rows-requires-clause-spans g c =
       c.starts.ensures,
       c.stops.ensures,
     )
-    (moved_spans c.args.lists.now.class c.args.lists.now.starts c.args.lists.now.stops c.args.lists.now.content
+    (moved_spans c.args.lists.now.class c.args.lists.now.starts c.args.lists.now.stops
+    c.args.lists.now.content
     c.content.ensures.lists c.args.counts.now c.args.held.now c.requires.lists)
 
 pub returns-in-TooMany : goal.returns-in-TooMany
@@ -92,8 +97,10 @@ returns-in-TooMany g c =
     let j : IsJoined c.in_ok-firsts.firsts c.in_ok-ends.ends c.args.held.now TooMany =
     rw c.in-TooMany.is at c.in_ok-join_spans.ensures in
     let k : item_limit < total
-    (numbers_at_ends c.args.counts.now c.args.lists.now.starts c.args.lists.now.stops c.args.lists.now.starts)
-    (numbers_at_ends c.args.counts.now c.args.lists.now.starts c.args.lists.now.stops c.args.lists.now.stops)
+    (numbers_at_ends c.args.counts.now c.args.lists.now.starts c.args.lists.now.stops
+    c.args.lists.now.starts)
+    (numbers_at_ends c.args.counts.now c.args.lists.now.starts c.args.lists.now.stops
+    c.args.lists.now.stops)
     c.args.held.now =
     rw (
       c.in_ok-firsts.ensures,
@@ -105,15 +112,18 @@ returns-in-TooMany g c =
       c.stops.ensures,
     )
     at j in
-    moved_spoilt c.args.lists.now.class c.args.lists.now.starts c.args.lists.now.stops c.args.lists.now.content
+    moved_spoilt c.args.lists.now.class c.args.lists.now.starts c.args.lists.now.stops
+    c.args.lists.now.content
     c.content.ensures.lists c.args.counts.now c.args.held.now c.requires.lists k
 
 pub returns-in-Lists : goal.returns-in-Lists
 returns-in-Lists g c =
     let firsts : Column =
-    numbers_at_ends c.args.counts.now c.args.lists.now.starts c.args.lists.now.stops c.args.lists.now.starts in
+    numbers_at_ends c.args.counts.now c.args.lists.now.starts c.args.lists.now.stops
+    c.args.lists.now.starts in
     let ends : Column =
-    numbers_at_ends c.args.counts.now c.args.lists.now.starts c.args.lists.now.stops c.args.lists.now.stops in
+    numbers_at_ends c.args.counts.now c.args.lists.now.starts c.args.lists.now.stops
+    c.args.lists.now.stops in
     let made : IfOk c.joined_rows.result
     (IsMade flatten_function None firsts ends c.args.held.now) =
     rw (
@@ -127,8 +137,10 @@ returns-in-Lists g c =
     )
     at c.joined_rows.ensures in
     if_ok (IsMade flatten_function None firsts ends c.args.held.now)
-    (IsMade flatten_function c.args.lists.now.class c.args.lists.now.starts c.args.lists.now.stops c.args.lists.now.content)
+    (IsMade flatten_function c.args.lists.now.class c.args.lists.now.starts c.args.lists.now.stops
+    c.args.lists.now.content)
     c.joined_rows.result
-    (moved_made c.args.lists.now.class c.args.lists.now.starts c.args.lists.now.stops c.args.lists.now.content
+    (moved_made c.args.lists.now.class c.args.lists.now.starts c.args.lists.now.stops
+    c.args.lists.now.content
     c.content.ensures.lists c.args.counts.now c.args.held.now c.requires.lists c.requires.accepted)
     made

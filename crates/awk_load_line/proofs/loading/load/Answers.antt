@@ -1,5 +1,6 @@
 -- Why the walk refuses an array is why the line is refused.
-use Rattle.std.proofs.Common.{◌≡◌, ℕ, Bool, Option, Some, None, option_map, Result, Ok, Err, ap, sym, subst}
+use Rattle.std.proofs.Common.{◌≡◌, ℕ, Bool, Option, Some, None, option_map, Result, Ok, Err, ap}
+use Rattle.std.proofs.Common.{sym, subst}
 use Rattle.std.specs.Prelude.{IsErrAnd}
 use Rattle.serde_json.specs.View.{view}
 use Rattle.serde_json.specs.Data.{Data}

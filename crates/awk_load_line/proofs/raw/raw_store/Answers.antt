@@ -1,6 +1,7 @@
 use Rattle.std.proofs.Common.{[], ◌∷◌, ◌++◌, ap, sym, ◌∙◌, subst, arith}
 use Rattle.awk_store.specs.Buffers.{Buffers, IsNew}
-use Rattle.awk_load_line.proofs.RawLaws.{IsPartedSoFar, parted_start, next_is_new, next_is_whole, parted_more, parted_all}
+use Rattle.awk_load_line.proofs.RawLaws.{IsPartedSoFar, parted_start, next_is_new, next_is_whole}
+use Rattle.awk_load_line.proofs.RawLaws.{parted_more, parted_all}
 use Rattle.awk_load_line.proofs.raw.raw_store.Goals as goal
 
 pub loop-i-init : goal.loop-i-init

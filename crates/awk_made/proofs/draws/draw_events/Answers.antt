@@ -16,14 +16,26 @@ loop-i-preserved c =
     let next : d ≡ draw s = c.draw-next.ensures.value in
     let few : d % 4 < 4 = mod-lt d (omega arith) in
     let all : events (n - k) s ≡ muons (d % 4) d ∷ rest =
-    events_from n k s c.loop-i-test.true ∙ ap (λ x. muons (x % 4) x ∷ events (n - (k + 1)) (after_draws (2 * (x % 4)) x)) (sym next) ∙ ap (λ z. muons (d % 4) d ∷ events (n - (k + 1)) z) (sym c.in_ok-s.ensures.last.0) in
-    let stopped : stops c.loop-i.count (events (n - k) s) ≡ (c.loop-i.count + d % 4) ∷ stops (c.loop-i.count + d % 4) rest =
-    ap (stops c.loop-i.count) all ∙ ap (λ m. (c.loop-i.count + m) ∷ stops (c.loop-i.count + m) rest) (length-muons (d % 4) d) in
+    events_from n k s c.loop-i-test.true ∙ ap (λ x. muons (x % 4) x ∷ events (n - (k + 1))
+    (after_draws (2 * (x % 4)) x)) (sym next) ∙ ap
+    (λ z. muons (d % 4) d ∷ events (n - (k + 1)) z) (sym c.in_ok-s.ensures.last.0) in
+    let stopped : stops c.loop-i.count (events (n - k) s) ≡ (c.loop-i.count + d % 4) ∷ stops
+    (c.loop-i.count + d % 4) rest =
+    ap (stops c.loop-i.count) all ∙ ap (λ m. (c.loop-i.count + m) ∷ stops (c.loop-i.count + m) rest)
+    (length-muons (d % 4) d) in
     record {
       below = c.in_ok-s.ensures.last.1;
       few = omega (arith, i.few, few);
-      offsets = made_on number_bytes c.loop-i.offsets.items _ (c.loop-i.count + d % 4) (stops (c.loop-i.count + d % 4) rest) (stops c.loop-i.count (events (n - k) s)) _ i.offsets stopped
-          (c.in_ok-extend_from_slice-2.ensures.items ∙ ap (λ z. c.loop-i.offsets.items ++ z) c.to_le_bytes-in-loop-i.ensures);
-      pts = made_on pt_bytes c.loop-i.pts.items _ (muons (d % 4) d) rest (events (n - k) s) _ i.pts all c.in_ok-s.ensures.pts;
-      charges = made_on charge_bytes c.loop-i.charges.items _ (muons (d % 4) d) rest (events (n - k) s) _ i.charges all c.in_ok-s.ensures.charges;
+      offsets =
+          made_on number_bytes c.loop-i.offsets.items _ (c.loop-i.count + d % 4)
+          (stops (c.loop-i.count + d % 4) rest) (stops c.loop-i.count (events (n - k) s)) _
+          i.offsets stopped
+          (c.in_ok-extend_from_slice-2.ensures.items ∙ ap (λ z. c.loop-i.offsets.items ++ z)
+          c.to_le_bytes-in-loop-i.ensures);
+      pts =
+          made_on pt_bytes c.loop-i.pts.items _ (muons (d % 4) d) rest (events (n - k) s) _ i.pts
+          all c.in_ok-s.ensures.pts;
+      charges =
+          made_on charge_bytes c.loop-i.charges.items _ (muons (d % 4) d) rest (events (n - k) s) _
+          i.charges all c.in_ok-s.ensures.charges;
     }

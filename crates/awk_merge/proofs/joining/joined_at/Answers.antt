@@ -22,9 +22,11 @@ unify_all-requires g c =
 
 pub returns-in_err-whole-in-Some : goal.returns-in_err-whole-in-Some
 returns-in_err-whole-in-Some g c =
-    let e : operand_types c.args.axis (map datum_of c.args.xs.now) ≡ Some (typs_of c.in-Some.types) =
+    let e : operand_types c.args.axis (map datum_of c.args.xs.now) ≡ Some (typs_of c.in-Some.types)
+    =
     sym c.in_ok-types.ensures.types ∙ ap (option_map typs_of) c.in-Some.is in
-    limit_gives c.args.axis c.args.xs.now (typs_of c.in-Some.types) e c.in_err-whole-in-Some.field-0.0
+    limit_gives c.args.axis c.args.xs.now (typs_of c.in-Some.types) e
+    c.in_err-whole-in-Some.field-0.0
     c.from_residual-in_err-whole-in-Some.result c.from_residual-in_err-whole-in-Some.ensures.1
     c.in_err-whole-in-Some.ensures.gives
 
@@ -32,11 +34,13 @@ pub joined-requires-clause-lawful : goal.joined-requires-clause-lawful
 joined-requires-clause-lawful g c =
     array_type_is (typs_of c.in-Some.types) (all_of c.in_ok-whole-in-Some.whole)
     (MatchOption-at_some ⊤ (λ us. AreLawful (typs_of us)) c.in-Some.types c.in-Some.is
-    c.in_ok-types.ensures.lawful) c.in_ok-whole-in-Some.ensures.laws c.in_ok-whole-in-Some.ensures.within_limits
+    c.in_ok-types.ensures.lawful) c.in_ok-whole-in-Some.ensures.laws
+    c.in_ok-whole-in-Some.ensures.within_limits
 
 pub joined-requires-clause-carried : goal.joined-requires-clause-carried
 joined-requires-clause-carried g c =
-    let e : operand_types c.args.axis (map datum_of c.args.xs.now) ≡ Some (typs_of c.in-Some.types) =
+    let e : operand_types c.args.axis (map datum_of c.args.xs.now) ≡ Some (typs_of c.in-Some.types)
+    =
     sym c.in_ok-types.ensures.types ∙ ap (option_map typs_of) c.in-Some.is in
     let lawful : AreLawful (typs_of c.in-Some.types) =
     MatchOption-at_some ⊤ (λ us. AreLawful (typs_of us)) c.in-Some.types c.in-Some.is
@@ -47,16 +51,19 @@ joined-requires-clause-carried g c =
 
 pub joined-requires-clause-rows : goal.joined-requires-clause-rows
 joined-requires-clause-rows g c =
-    let e : operand_types c.args.axis (map datum_of c.args.xs.now) ≡ Some (typs_of c.in-Some.types) =
+    let e : operand_types c.args.axis (map datum_of c.args.xs.now) ≡ Some (typs_of c.in-Some.types)
+    =
     sym c.in_ok-types.ensures.types ∙ ap (option_map typs_of) c.in-Some.is in
     λ h.
     subst (λ u. IsRowsType u.typ) (sym c.in_ok-whole-in-Some.ensures.laws.from_left)
     (joined_are_rows c.args.xs.now (typs_of c.in-Some.types) c.requires.some
-    (subst (λ a. operand_types a (map datum_of c.args.xs.now) ≡ Some (typs_of c.in-Some.types)) h e))
+    (subst (λ a. operand_types a (map datum_of c.args.xs.now) ≡ Some (typs_of c.in-Some.types)) h
+    e))
 
 pub returns-in_ok-whole-in-Some : goal.returns-in_ok-whole-in-Some
 returns-in_ok-whole-in-Some g c =
-    let e : operand_types c.args.axis (map datum_of c.args.xs.now) ≡ Some (typs_of c.in-Some.types) =
+    let e : operand_types c.args.axis (map datum_of c.args.xs.now) ≡ Some (typs_of c.in-Some.types)
+    =
     sym c.in_ok-types.ensures.types ∙ ap (option_map typs_of) c.in-Some.is in
     subst (Gives array_datum fault_told c.joined.result)
     (joined_is c.args.axis c.args.xs.now (typs_of c.in-Some.types) e

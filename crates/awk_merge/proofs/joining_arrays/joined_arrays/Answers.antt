@@ -13,7 +13,8 @@ pub returns-then-total-gt-ITEM_LIMIT : goal.returns-then-total-gt-ITEM_LIMIT
 returns-then-total-gt-ITEM_LIMIT g c =
     let h : item_limit < length (merged_items (sides_of c.args.sides.now)) =
     omega (arith, c.if-total-gt-ITEM_LIMIT.true, c.total.ensures, c.requires.counted.total) in
-    ap (λ o. refused_or o (shown.arr (typ_of c.args.typ.now) (merged_items (sides_of c.args.sides.now))))
+    ap (λ o. refused_or o (shown.arr (typ_of c.args.typ.now)
+    (merged_items (sides_of c.args.sides.now))))
     (over_limit (length (merged_items (sides_of c.args.sides.now))) h)
 
 pub returns : goal.returns

@@ -1,7 +1,8 @@
 use Rattle.std.proofs.Common.{◌∙◌, ◌+◌, ◌*◌, ◌%◌, ◌/◌, ◌<◌, ℕ, Some, ap, refl, sym, arith}
 use Rattle.awk_lanes.specs.Places.{size_of}
 use Rattle.awk_merge.specs.Operands.{list_place}
-use Rattle.awk_merge.proofs.ListPlaceLaws.{cell, row_within, column_within, place_within, indexes_all, index_has}
+use Rattle.awk_merge.proofs.ListPlaceLaws.{cell, row_within, column_within, place_within}
+use Rattle.awk_merge.proofs.ListPlaceLaws.{indexes_all, index_has}
 use Rattle.awk_merge.proofs.joining_rows.end_in_rows.Goals as goal
 
 pub list_place-requires : goal.list_place-requires
@@ -11,7 +12,8 @@ list_place-requires g c =
     place_within (Some c.args.rows.now) n n (c.args.t / c.args.k) c.in-Some.i
     (refl, c.requires.rows) (row_within c.args.t n c.args.k c.requires.within)
     (sym c.option_place_in.ensures.value ∙ c.in-Some.is) in
-    rw c.len.ensures.len (index_has c.args.index.now (c.args.k * n) (c.args.t % c.args.k * n + c.in-Some.i)
+    rw c.len.ensures.len (index_has c.args.index.now (c.args.k * n)
+    (c.args.t % c.args.k * n + c.in-Some.i)
     (indexes_all c.args.index.now (c.args.k * n) (size_of c.args.ends.now) c.requires.index)
     (cell n c.args.k c.in-Some.i (c.args.t % c.args.k) row
     (column_within c.args.t n c.args.k c.requires.within)))

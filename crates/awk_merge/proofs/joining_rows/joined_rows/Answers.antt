@@ -27,7 +27,8 @@ returns-in_err-rows g c =
     Gives-Err array_datum fault_told c.from_residual-in_err-rows.result c.in_err-rows.field-0.0 _
     failed
     (subst (λ t. Told (fault_told c.in_err-rows.field-0.0) (rows_datum t
-    (stacked_rows c.args.n c.args.k (merged_items (sides_of c.args.sides.now))))) c.in_ok-x.ensures.typ
+    (stacked_rows c.args.n c.args.k (merged_items (sides_of c.args.sides.now)))))
+    c.in_ok-x.ensures.typ
     (subst (λ vs. Told (fault_told c.in_err-rows.field-0.0) (rows_datum (array_type c.in_ok-x.x)
     (stacked_rows c.args.n c.args.k vs))) c.in_ok-x.ensures.items c.in_err-rows.ensures))
 

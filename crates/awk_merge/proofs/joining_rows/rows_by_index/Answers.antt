@@ -1,4 +1,5 @@
-use Rattle.std.proofs.Common.{◌≡◌, ◌∙◌, ◌*◌, ◌<◌, ◌^◌, ℕ, List, Ok, Err, ap, sym, subst, refl, arith}
+use Rattle.std.proofs.Common.{◌≡◌, ◌∙◌, ◌*◌, ◌<◌, ◌^◌, ℕ, List, Ok, Err, ap, sym, subst, refl}
+use Rattle.std.proofs.Common.{arith}
 use Rattle.awk_types.proofs.RefusalLaws.{Gives-Err}
 use Rattle.awk_types.specs.DataType.{DataType, var}
 use Rattle.awk_types.specs.Faults.{fault_told}
@@ -8,7 +9,8 @@ use Rattle.awk_lanes.specs.Places.{size_of, IsOptionalIndex}
 use Rattle.awk_layout.specs.Layout.{optional}
 use Rattle.awk_layout.specs.Typing.{array_type, array_datum}
 use Rattle.awk_layout.specs.Valid.{len}
-use Rattle.awk_merge.specs.Operands.{rows_lane, rows_datum, filled_rows, stacked_rows, values_by, type_by, list_between, IsListIndex}
+use Rattle.awk_merge.specs.Operands.{rows_lane, rows_datum, filled_rows, stacked_rows, values_by}
+use Rattle.awk_merge.specs.Operands.{type_by, list_between, IsListIndex}
 use Rattle.awk_merge.proofs.ListPlaceLaws.{few_rows, indexes_all, size-rows, rows_index}
 use Rattle.awk_merge.proofs.NullRowLaws.{plain_gives, null_gives, rows_made, rows-len, rows_told}
 use Rattle.awk_merge.proofs.joining_rows.rows_by_index.Goals as goal
@@ -48,7 +50,8 @@ returns-in_err-lists g c =
     let failed : c.from_residual-in_err-lists.result ≡ Err c.in_err-lists.field-0.0 = grind arith in
     Gives-Err array_datum fault_told c.from_residual-in_err-lists.result c.in_err-lists.field-0.0 _
     failed
-    (rows_told (fault_told c.in_err-lists.field-0.0) t (type_by c.args.index.now t) c.args.n c.args.k
+    (rows_told (fault_told c.in_err-lists.field-0.0) t (type_by c.args.index.now t) c.args.n
+    c.args.k
     (values_by c.args.index.now (c.args.k * c.args.n)
     (list_between c.args.starts.now c.args.stops.now c.args.content.now))
     (subst (λ m. Told (fault_told c.in_err-lists.field-0.0) (rows_datum t

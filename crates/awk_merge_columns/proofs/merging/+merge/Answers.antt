@@ -9,9 +9,11 @@ use Rattle.awk_merge_sides.specs.Groups.{groups_of}
 use Rattle.awk_merge_rows.specs.RowLevels.{row_names}
 use Rattle.awk_merge_columns.specs.PartTypes.{part_types}
 use Rattle.awk_merge_sides.specs.Sides.{IsMerged, sides_of}
-use Rattle.awk_merge_sides.proofs.GroupLaws.{AreGroups-get, AreMerged-all, AreMerged-next, length-groups}
+use Rattle.awk_merge_sides.proofs.GroupLaws.{AreGroups-get, AreMerged-all, AreMerged-next}
+use Rattle.awk_merge_sides.proofs.GroupLaws.{length-groups}
 use Rattle.awk_merge_lists.proofs.ListLaws.{list_merged, list_spans}
-use Rattle.awk_merge_columns.proofs.MergedLaws.{row_groups, row_parts_lawful, rows_are_named, rows_merged}
+use Rattle.awk_merge_columns.proofs.MergedLaws.{row_groups, row_parts_lawful, rows_are_named}
+use Rattle.awk_merge_columns.proofs.MergedLaws.{rows_merged}
 use Rattle.awk_merge_columns.proofs.MergedLaws.{rows_reach, union_groups, union_parts_lawful}
 use Rattle.awk_merge_columns.proofs.MergedLaws.{unions_merged, unions_valid}
 use Rattle.awk_merge_rows.proofs.OptionLaws.{option_index, option_merged}
@@ -22,7 +24,8 @@ use Rattle.awk_merge_columns.proofs.merging.+merge.Goals as goal
 
 -- ---- options
 
-pub merge_options-option_node-requires-clause-valid : goal.merge_options-option_node-requires-clause-valid
+pub merge_options-option_node-requires-clause-valid :
+    goal.merge_options-option_node-requires-clause-valid
 merge_options-option_node-requires-clause-valid g t c =
     option_index (typ_of c.args.present.now) (sides_of c.args.sides.now) c.in_ok-level.level
     c.in_ok-content.content c.in_ok-level.ensures c.in_ok-content.ensures
@@ -34,7 +37,8 @@ merge_options-returns g t c =
     IfOk-weaker c.option_node.result
     (λ x. x ≡ optional c.in_ok-level.level.index c.in_ok-content.content) (IsMerged (opt u) ss)
     (λ x e. subst (IsMerged (opt u) ss) (sym e)
-    (option_merged u ss c.in_ok-level.level c.in_ok-content.content (present_plain u c.requires.lawful)
+    (option_merged u ss c.in_ok-level.level c.in_ok-content.content
+    (present_plain u c.requires.lawful)
     c.in_ok-level.ensures c.in_ok-content.ensures))
     c.option_node.ensures
 
@@ -72,13 +76,15 @@ merge_lists-returns g t c =
     (c.in_ok-level.ensures u c.requires.sides) c.in_ok-content.ensures))
     c.list_node.ensures
 
-pub merge_regular-regular_level-requires-clause-lists : goal.merge_regular-regular_level-requires-clause-lists
+pub merge_regular-regular_level-requires-clause-lists :
+    goal.merge_regular-regular_level-requires-clause-lists
 merge_regular-regular_level-requires-clause-lists g t c =
     (c.args.size, (typ_of c.args.item.now, c.requires.sides))
 
 pub merge_regular-merge-requires : goal.merge_regular-merge-requires
 merge_regular-merge-requires g t c κs within =
-    let l : IsRegularLevel c.args.size (typ_of c.args.item.now) (sides_of c.args.sides.now) c.in_ok-items.items
+    let l : IsRegularLevel c.args.size (typ_of c.args.item.now) (sides_of c.args.sides.now)
+    c.in_ok-items.items
     = c.in_ok-items.ensures c.args.size (typ_of c.args.item.now) c.requires.sides in (
       omega (arith, c.decreases),
       (
@@ -87,9 +93,11 @@ merge_regular-merge-requires g t c κs within =
       ),
     )
 
-pub merge_regular-regular_node-requires-clause-valid : goal.merge_regular-regular_node-requires-clause-valid
+pub merge_regular-regular_node-requires-clause-valid :
+    goal.merge_regular-regular_node-requires-clause-valid
 merge_regular-regular_node-requires-clause-valid g t c =
-    regular_room c.args.size (typ_of c.args.item.now) (sides_of c.args.sides.now) c.in_ok-items.items
+    regular_room c.args.size (typ_of c.args.item.now) (sides_of c.args.sides.now)
+    c.in_ok-items.items
     c.in_ok-content.content c.total.result (c.total.ensures ∙ c.requires.counted.total)
     (c.in_ok-items.ensures c.args.size (typ_of c.args.item.now) c.requires.sides)
     c.in_ok-content.ensures
@@ -132,14 +140,16 @@ merge_rows-row_node-requires-clause-names g t c =
 
 pub merge_rows-row_node-requires-clause-valid : goal.merge_rows-row_node-requires-clause-valid
 merge_rows-row_node-requires-clause-valid g t c =
-    rows_reach (typ_of c.args.t.now) (sides_of c.args.sides.now) c.total.result c.in_ok-groups.groups
+    rows_reach (typ_of c.args.t.now) (sides_of c.args.sides.now) c.total.result
+    c.in_ok-groups.groups
     c.in_ok-nodes.nodes c.requires.row (c.total.ensures ∙ c.requires.counted.total)
     c.in_ok-groups.ensures c.in_ok-nodes.ensures
 
 pub merge_rows-returns : goal.merge_rows-returns
 merge_rows-returns g t c =
     IfOk-weaker c.row_node.result
-    (λ x. x ≡ rows (row_names (typ_of c.args.t.now)) c.total.result (layouts_from c.in_ok-nodes.nodes))
+    (λ x. x ≡ rows (row_names (typ_of c.args.t.now)) c.total.result
+    (layouts_from c.in_ok-nodes.nodes))
     (IsMerged (typ_of c.args.t.now) (sides_of c.args.sides.now))
     (λ x e. rows_merged (typ_of c.args.t.now) (sides_of c.args.sides.now) c.total.result
     c.in_ok-groups.groups c.in_ok-nodes.nodes x c.requires.row
@@ -173,7 +183,8 @@ merge_unions-union-requires-clause-valid g t c =
 
 pub merge_unions-returns : goal.merge_unions-returns
 merge_unions-returns g t c =
-    unions_merged (typ_of c.args.t.now) (typs_of c.args.alternatives.now) (sides_of c.args.sides.now)
+    unions_merged (typ_of c.args.t.now) (typs_of c.args.alternatives.now)
+    (sides_of c.args.sides.now)
     c.in_ok-level.level c.in_ok-nodes.nodes c.union.result c.requires.typ c.requires.lawful
     c.in_ok-level.ensures c.in_ok-nodes.ensures c.union.ensures.node
 
@@ -186,7 +197,8 @@ merge_each-part_type-requires g t c =
       c.loop-j-test.true,
       c.loop-j.auto.j-end,
       c.len-j-end.ensures,
-      length-groups (part_types (typ_of c.args.t.now)) (groups_of c.args.groups.now) c.requires.groups,
+      length-groups (part_types (typ_of c.args.t.now)) (groups_of c.args.groups.now)
+          c.requires.groups,
     )
 
 pub merge_each-merge-requires : goal.merge_each-merge-requires
@@ -221,4 +233,5 @@ merge_each-returns g t c =
     = length-groups ts (groups_of c.args.groups.now) c.requires.groups in
     AreMerged-all ts (groups_of c.args.groups.now) c.loop-j.nodes c.loop-j.j
     (omega (arith, c.loop-j-test.false, c.loop-j.auto.j-end, c.len-j-end.ensures, n))
-    (omega (arith, c.loop-j-test.false, c.loop-j.auto.j-end, c.len-j-end.ensures)) c.loop-j.invariant
+    (omega (arith, c.loop-j-test.false, c.loop-j.auto.j-end, c.len-j-end.ensures))
+    c.loop-j.invariant

@@ -5,7 +5,8 @@ use Rattle.awk_merge_lists.proofs.leaves.joined.Goals as goal
 
 pub loop-i-preserved : goal.loop-i-preserved
 loop-i-preserved g c =
-    subst (AreBytesOf c.args.kind (merged_items (take (c.loop-i.i + 1) (sides_of c.args.sides.now))))
+    subst (AreBytesOf c.args.kind (merged_items
+    (take (c.loop-i.i + 1) (sides_of c.args.sides.now))))
     (sym c.in_ok-extend_from_slice.ensures.items)
     (bytes_next c.args.kind (sides_of c.args.sides.now) c.loop-i.i (side_of c.get.result.now)
     c.in_ok-lane.lane c.loop-i.bytes.items c.bulk.result.now c.get.ensures c.in_ok-lane.ensures.kind

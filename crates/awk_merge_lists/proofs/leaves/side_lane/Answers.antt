@@ -11,7 +11,8 @@ pub in_kind-requires : goal.in_kind-requires
 in_kind-requires g c = record {
   holds = side_of_kind (primitive_of c.args.kind) (side_of c.args.side.now) c.in-Leaf.lane
       c.requires.side c.len.ensures.items
-      (subst (IsInOrder (array_items c.args.side.now.column)) c.in-Leaf.is c.in_ok-lane.ensures.order);
+      (subst (IsInOrder (array_items c.args.side.now.column)) c.in-Leaf.is
+      c.in_ok-lane.ensures.order);
 }
 
 pub unreachable-requires : goal.unreachable-requires

@@ -6,10 +6,12 @@ use Rattle.awk_merge_lists.proofs.lists.items_of.Goals as goal
 
 pub returns-in-Lists : goal.returns-in-Lists
 returns-in-Lists g c =
-    let o : OpensLists c.in-Items.lists.class c.in-Items.lists.starts c.in-Items.lists.stops c.in-Items.lists.content
+    let o : OpensLists c.in-Items.lists.class c.in-Items.lists.starts c.in-Items.lists.stops
+    c.in-Items.lists.content
     c.args.column.now = rw c.in-Items.is at c.in_ok-lists.ensures in
     let j : IsJoined c.in-Items.lists.starts c.in-Items.lists.stops c.in-Items.lists.content
     (joined.Lists c.in-Lists._offsets c.in-Lists.content) =
     rw c.in-Lists.is at c.in_ok-_offsets-in-Items.ensures in
-    holds_even c.in-Items.lists.class c.in-Items.lists.starts c.in-Items.lists.stops c.in-Items.lists.content
+    holds_even c.in-Items.lists.class c.in-Items.lists.starts c.in-Items.lists.stops
+    c.in-Items.lists.content
     c.args.column.now c.in-Lists._offsets c.in-Lists.content o j.1

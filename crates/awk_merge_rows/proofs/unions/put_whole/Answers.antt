@@ -17,8 +17,10 @@ put_run-requires-clause-fits c =
       arith,
       c.len.ensures.len,
       fits-put c.args.side.now.column (alternative_carry f 0) (alternative_tag f 0)
-          (groups_of c.args.groups.now) c.put_alternative.new.groups.groups.items c.in_ok-target.target
-          made.groups made.counted (len-fits c.args.side.now.column c.len.ensures.valid) made.target,
+          (groups_of c.args.groups.now) c.put_alternative.new.groups.groups.items
+          c.in_ok-target.target
+          made.groups made.counted (len-fits c.args.side.now.column c.len.ensures.valid)
+          made.target,
     )
 
 pub returns : goal.returns

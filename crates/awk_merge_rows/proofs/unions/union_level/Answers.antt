@@ -1,7 +1,8 @@
 use Rattle.std.proofs.Common.{take, arith}
 use Rattle.awk_types.specs.View.{typs_of}
 use Rattle.awk_merge_sides.specs.Sides.{side_of, sides_of, merged_items}
-use Rattle.awk_merge_rows.proofs.UnionSides.{level-none, level-few, level-ready, level-next, level-all}
+use Rattle.awk_merge_rows.proofs.UnionSides.{level-none, level-few, level-ready, level-next}
+use Rattle.awk_merge_rows.proofs.UnionSides.{level-all}
 use Rattle.awk_merge_rows.proofs.UnionSides.{level-tags, level-places, level-made}
 use Rattle.awk_merge_rows.proofs.unions.union_level.Goals as goal
 

@@ -1,5 +1,6 @@
 -- One key more is the name of one field more, and one that is a key already comes twice.
-use Rattle.std.proofs.Common.{◌≡◌, ◌+◌, ◌∙◌, ap, sym, take, List, ℕ, [], ◌∷◌, ◌++◌, Some, not, option_map, arith}
+use Rattle.std.proofs.Common.{◌≡◌, ◌+◌, ◌∙◌, ap, sym, take, List, ℕ, [], ◌∷◌, ◌++◌, Some, not}
+use Rattle.std.proofs.Common.{option_map, arith}
 use Rattle.std.proofs.lemmas.List.{take-map, take_all}
 use Rattle.std.proofs.lemmas.Option.{slice_get-map}
 use Rattle.awk_types.specs.Names.{are_distinct, is_among}
@@ -34,7 +35,8 @@ loop-i-preserved c =
       end = c.loop-i.invariant.end;
       keys =
           keys-more c.loop-i.names.keys c.insert.new.self.keys c.as_str.result
-          c.in_ok-insert.field-0 c.if-not-branch.false c.in_ok-insert.ensures.added c.in_ok-insert.ensures.keys
+          c.in_ok-insert.field-0 c.if-not-branch.false c.in_ok-insert.ensures.added
+          c.in_ok-insert.ensures.keys
           ∙ ap (λ (ns : List (List ℕ)). ns ++ name ∷ []) c.loop-i.invariant.keys ∙ sym at;
       distinct =
           ap are_distinct at

@@ -72,7 +72,8 @@ join_spans-requires g c =
       c.starts.ensures,
       c.stops.ensures,
     )
-    (present_lists c.args.lists.now.class c.args.lists.now.starts c.args.lists.now.stops c.args.lists.now.content
+    (present_lists c.args.lists.now.class c.args.lists.now.starts c.args.lists.now.stops
+    c.args.lists.now.content
     c.content.ensures.lists c.args.counts.now c.args.items.now c.requires.items)
 
 pub returns-in-TooMany : goal.returns-in-TooMany
@@ -80,8 +81,10 @@ returns-in-TooMany g c =
     let j : IsJoined c.in_ok-firsts.firsts c.in_ok-ends.ends c.args.items.now TooMany =
     rw c.in-TooMany.is at c.in_ok-join_spans.ensures in
     let k : item_limit < total
-    (numbers_at_ends c.args.counts.now c.args.lists.now.starts c.args.lists.now.stops c.args.lists.now.starts)
-    (numbers_at_ends c.args.counts.now c.args.lists.now.starts c.args.lists.now.stops c.args.lists.now.stops)
+    (numbers_at_ends c.args.counts.now c.args.lists.now.starts c.args.lists.now.stops
+    c.args.lists.now.starts)
+    (numbers_at_ends c.args.counts.now c.args.lists.now.starts c.args.lists.now.stops
+    c.args.lists.now.stops)
     c.args.items.now =
     rw (
       c.in_ok-firsts.ensures,
@@ -93,7 +96,8 @@ returns-in-TooMany g c =
       c.stops.ensures,
     )
     at j in
-    present_spoilt c.args.lists.now.class c.args.lists.now.starts c.args.lists.now.stops c.args.lists.now.content
+    present_spoilt c.args.lists.now.class c.args.lists.now.starts c.args.lists.now.stops
+    c.args.lists.now.content
     c.content.ensures.lists c.args.counts.now c.args.items.now c.requires.items k
 
 pub returns-in_ok-copy-in-Lists : goal.returns-in_ok-copy-in-Lists
@@ -102,8 +106,10 @@ returns-in_ok-copy-in-Lists g c =
     (Lists c.in-Lists.offsets c.in-Lists.content) =
     rw c.in-Lists.is at c.in_ok-join_spans.ensures in
     let k : IsJoined
-    (numbers_at_ends c.args.counts.now c.args.lists.now.starts c.args.lists.now.stops c.args.lists.now.starts)
-    (numbers_at_ends c.args.counts.now c.args.lists.now.starts c.args.lists.now.stops c.args.lists.now.stops)
+    (numbers_at_ends c.args.counts.now c.args.lists.now.starts c.args.lists.now.stops
+    c.args.lists.now.starts)
+    (numbers_at_ends c.args.counts.now c.args.lists.now.starts c.args.lists.now.stops
+    c.args.lists.now.stops)
     c.args.items.now (Lists c.in-Lists.offsets c.in-Lists.content) =
     rw (
       c.in_ok-firsts.ensures,
@@ -117,9 +123,11 @@ returns-in_ok-copy-in-Lists g c =
     at j in
     let e : c.in_ok-copy-in-Lists.field-0 ≡ c.in-Lists.content =
     c.in_ok-copy-in-Lists.ensures ∙ c.node.ensures in (
-      present_fine c.args.lists.now.class c.args.lists.now.starts c.args.lists.now.stops c.args.lists.now.content
+      present_fine c.args.lists.now.class c.args.lists.now.starts c.args.lists.now.stops
+          c.args.lists.now.content
           c.content.ensures.lists c.args.counts.now c.args.items.now c.requires.items k.0,
-      rw e (present_given c.args.lists.now.class c.args.lists.now.starts c.args.lists.now.stops c.args.lists.now.content
+      rw e (present_given c.args.lists.now.class c.args.lists.now.starts c.args.lists.now.stops
+          c.args.lists.now.content
           c.content.ensures.lists c.args.counts.now c.args.items.now c.requires.items
           c.in-Lists.offsets c.in-Lists.content k.1 c.len.ensures.items),
     )

@@ -7,7 +7,13 @@ use Rattle.awk_open.proofs.OpenedKinds.{opened_lists}
 use Rattle.awk_open.proofs.opening.open_lists.Goals as goal
 
 pub returns : goal.returns
-returns g c = record { opened = opened_lists c.args.starts.now c.args.stops.now c.args.places.now c.in_ok-starts.starts c.in_ok-stops.stops c.args.content.now c.in_ok-content.content c.requires.valid (c.in_ok-content.ensures ∙ c.in_ok-copy.ensures) c.requires.small c.requires.places c.in_ok-starts.ensures.lane c.in_ok-stops.ensures.lane }
+returns g c = record {
+  opened = opened_lists c.args.starts.now c.args.stops.now c.args.places.now
+      c.in_ok-starts.starts c.in_ok-stops.stops c.args.content.now c.in_ok-content.content
+      c.requires.valid (c.in_ok-content.ensures ∙ c.in_ok-copy.ensures) c.requires.small
+      c.requires.places c.in_ok-starts.ensures.lane c.in_ok-stops.ensures.lane;
+}
 
 pub array_within-requires : goal.array_within-requires
-array_within-requires g c = subst (λ (x : Layout). limit (array_type x) ≡ None) (sym c.in_ok-copy.ensures) c.requires.limit
+array_within-requires g c =
+    subst (λ (x : Layout). limit (array_type x) ≡ None) (sym c.in_ok-copy.ensures) c.requires.limit

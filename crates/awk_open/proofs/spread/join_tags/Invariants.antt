@@ -5,4 +5,5 @@ use Rattle.awk_lanes.proofs.MadeLanes.{IsSoFar}
 use Rattle.awk_open.proofs.spread.join_tags.Given as goal
 
 abbrev pub invariant-loop-i : goal.invariant-loop-i
-invariant-loop-i g l = IsSoFar Kind.I64 (size_of l.new) (joined_tags l.old l.tags l.new l.base) l.i l.maker
+invariant-loop-i g l =
+    IsSoFar Kind.I64 (size_of l.new) (joined_tags l.old l.tags l.new l.base) l.i l.maker

@@ -6,4 +6,6 @@ use Rattle.awk_lanes.proofs.MadeLanes.{IsSoFar}
 use Rattle.awk_open.proofs.spread.of_alternative.Given as goal
 
 abbrev pub invariant-loop-i : goal.invariant-loop-i
-invariant-loop-i g l = IsSoFar Kind.I64 (size_of l.places) (λ j. through (alternative l.tags l.index l.a) (option_place_at l.places j)) l.i l.maker
+invariant-loop-i g l =
+    IsSoFar Kind.I64 (size_of l.places) (λ j. through (alternative l.tags l.index l.a)
+    (option_place_at l.places j)) l.i l.maker

@@ -10,24 +10,54 @@ use Rattle.awk_open.proofs.SettledUnions.{can_unite, settled_limit, opened_unite
 use Rattle.awk_open.proofs.unions.open_union_option.Goals as goal
 
 pub alternatives-requires-clause-index : goal.alternatives-requires-clause-index
-alternatives-requires-clause-index g c = all_optional (len c.node.result.now) c.in_ok-first.first (c.in_ok-first.ensures ∙ ap (λ n. lane_of I64 n (λ i. pos i)) (c.len.ensures.len ∙ ap len (sym c.node.ensures)))
+alternatives-requires-clause-index g c =
+    all_optional (len c.node.result.now) c.in_ok-first.first
+    (c.in_ok-first.ensures ∙ ap (λ n. lane_of I64 n (λ i. pos i))
+    (c.len.ensures.len ∙ ap len (sym c.node.ensures)))
 
 pub settle-requires : goal.settle-requires
 settle-requires g c =
-    let e : c.in_ok-first.first ≡ lane_of I64 (len c.args.x.now) (λ i. pos i) = c.in_ok-first.ensures ∙ ap (λ n. lane_of I64 n (λ i. pos i)) c.len.ensures.len in
-    let q : IsSpread c.args.x.now c.in_ok-first.first c.in_ok-tags.field-0.tags c.in_ok-tags.field-0.index c.in_ok-tags.field-0.contents = subst (λ (x : Layout). IsSpread x c.in_ok-first.first c.in_ok-tags.field-0.tags c.in_ok-tags.field-0.index c.in_ok-tags.field-0.contents) c.node.ensures c.in_ok-tags.ensures.spread in
-    record { fits = can_unite c.args.x.now c.in_ok-first.first c.in_ok-tags.field-0.tags c.in_ok-tags.field-0.index c.in_ok-tags.field-0.contents e c.len.ensures.valid c.requires.union c.typ.ensures.lawful.within_limits q }
+    let e : c.in_ok-first.first ≡ lane_of I64 (len c.args.x.now) (λ i. pos i) =
+    c.in_ok-first.ensures ∙ ap (λ n. lane_of I64 n (λ i. pos i)) c.len.ensures.len in
+    let q : IsSpread c.args.x.now c.in_ok-first.first c.in_ok-tags.field-0.tags
+    c.in_ok-tags.field-0.index c.in_ok-tags.field-0.contents =
+    subst (λ (x : Layout). IsSpread x c.in_ok-first.first c.in_ok-tags.field-0.tags
+    c.in_ok-tags.field-0.index c.in_ok-tags.field-0.contents) c.node.ensures
+    c.in_ok-tags.ensures.spread in
+    record {
+      fits = can_unite c.args.x.now c.in_ok-first.first c.in_ok-tags.field-0.tags
+          c.in_ok-tags.field-0.index c.in_ok-tags.field-0.contents e c.len.ensures.valid
+          c.requires.union c.typ.ensures.lawful.within_limits q;
+    }
 
 pub array_within-requires : goal.array_within-requires
 array_within-requires g c =
-    let e : c.in_ok-first.first ≡ lane_of I64 (len c.args.x.now) (λ i. pos i) = c.in_ok-first.ensures ∙ ap (λ n. lane_of I64 n (λ i. pos i)) c.len.ensures.len in
-    let q : IsSpread c.args.x.now c.in_ok-first.first c.in_ok-tags.field-0.tags c.in_ok-tags.field-0.index c.in_ok-tags.field-0.contents = subst (λ (x : Layout). IsSpread x c.in_ok-first.first c.in_ok-tags.field-0.tags c.in_ok-tags.field-0.index c.in_ok-tags.field-0.contents) c.node.ensures c.in_ok-tags.ensures.spread in
-    settled_limit c.args.x.now c.in_ok-index.field-0.content c.in_ok-tags.field-0.tags c.in_ok-tags.field-0.index c.in_ok-index.field-0.index c.in_ok-tags.field-0.contents q.types c.requires.union c.typ.ensures.lawful.is_simple c.typ.ensures.lawful.within_limits c.in_ok-index.ensures.settled
+    let e : c.in_ok-first.first ≡ lane_of I64 (len c.args.x.now) (λ i. pos i) =
+    c.in_ok-first.ensures ∙ ap (λ n. lane_of I64 n (λ i. pos i)) c.len.ensures.len in
+    let q : IsSpread c.args.x.now c.in_ok-first.first c.in_ok-tags.field-0.tags
+    c.in_ok-tags.field-0.index c.in_ok-tags.field-0.contents =
+    subst (λ (x : Layout). IsSpread x c.in_ok-first.first c.in_ok-tags.field-0.tags
+    c.in_ok-tags.field-0.index c.in_ok-tags.field-0.contents) c.node.ensures
+    c.in_ok-tags.ensures.spread in
+    settled_limit c.args.x.now c.in_ok-index.field-0.content c.in_ok-tags.field-0.tags
+    c.in_ok-tags.field-0.index c.in_ok-index.field-0.index c.in_ok-tags.field-0.contents q.types
+    c.requires.union c.typ.ensures.lawful.is_simple c.typ.ensures.lawful.within_limits
+    c.in_ok-index.ensures.settled
 
 pub returns : goal.returns
 returns g c =
-    let e : c.in_ok-first.first ≡ lane_of I64 (len c.args.x.now) (λ i. pos i) = c.in_ok-first.ensures ∙ ap (λ n. lane_of I64 n (λ i. pos i)) c.len.ensures.len in
-    let q : IsSpread c.args.x.now c.in_ok-first.first c.in_ok-tags.field-0.tags c.in_ok-tags.field-0.index c.in_ok-tags.field-0.contents = subst (λ (x : Layout). IsSpread x c.in_ok-first.first c.in_ok-tags.field-0.tags c.in_ok-tags.field-0.index c.in_ok-tags.field-0.contents) c.node.ensures c.in_ok-tags.ensures.spread in
+    let e : c.in_ok-first.first ≡ lane_of I64 (len c.args.x.now) (λ i. pos i) =
+    c.in_ok-first.ensures ∙ ap (λ n. lane_of I64 n (λ i. pos i)) c.len.ensures.len in
+    let q : IsSpread c.args.x.now c.in_ok-first.first c.in_ok-tags.field-0.tags
+    c.in_ok-tags.field-0.index c.in_ok-tags.field-0.contents =
+    subst (λ (x : Layout). IsSpread x c.in_ok-first.first c.in_ok-tags.field-0.tags
+    c.in_ok-tags.field-0.index c.in_ok-tags.field-0.contents) c.node.ensures
+    c.in_ok-tags.ensures.spread in
     record {
-      opened = opened_united c.args.x.now c.in_ok-index.field-0.content c.in_ok-content.content c.in_ok-first.first c.in_ok-tags.field-0.tags c.in_ok-tags.field-0.index c.in_ok-index.field-0.index c.in_ok-tags.field-0.contents e c.len.ensures.valid c.requires.union c.requires.option c.typ.ensures.lawful.is_simple q c.in_ok-index.ensures.settled c.len-2.ensures.valid c.in_ok-content.ensures;
+      opened =
+          opened_united c.args.x.now c.in_ok-index.field-0.content c.in_ok-content.content
+          c.in_ok-first.first c.in_ok-tags.field-0.tags c.in_ok-tags.field-0.index
+          c.in_ok-index.field-0.index c.in_ok-tags.field-0.contents e c.len.ensures.valid
+          c.requires.union c.requires.option c.typ.ensures.lawful.is_simple q
+          c.in_ok-index.ensures.settled c.len-2.ensures.valid c.in_ok-content.ensures;
     }

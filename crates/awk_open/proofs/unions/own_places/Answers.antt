@@ -2,4 +2,6 @@ use Rattle.awk_lanes.proofs.MadeLanes.{so_far_pushed}
 use Rattle.awk_open.proofs.unions.own_places.Goals as goal
 
 pub loop-i-preserved : goal.loop-i-preserved
-loop-i-preserved g c = so_far_pushed _ _ _ c.loop-i.i _ c.loop-i.maker c.push.new.self c.push.ensures c.own_place-next.ensures.number c.loop-i.invariant
+loop-i-preserved g c =
+    so_far_pushed _ _ _ c.loop-i.i _ c.loop-i.maker c.push.new.self c.push.ensures
+    c.own_place-next.ensures.number c.loop-i.invariant

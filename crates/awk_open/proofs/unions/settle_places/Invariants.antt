@@ -5,4 +5,5 @@ use Rattle.awk_lanes.proofs.MadeLanes.{IsSoFar}
 use Rattle.awk_open.proofs.unions.settle_places.Given as goal
 
 abbrev pub invariant-loop-i : goal.invariant-loop-i
-invariant-loop-i g l = IsSoFar Kind.I64 (size_of l.index) (settled_place l.index l.other) l.i l.maker
+invariant-loop-i g l =
+    IsSoFar Kind.I64 (size_of l.index) (settled_place l.index l.other) l.i l.maker

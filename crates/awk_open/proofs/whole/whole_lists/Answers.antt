@@ -7,7 +7,12 @@ use Rattle.awk_open.proofs.WholeLanes.{whole_lists}
 use Rattle.awk_open.proofs.whole.whole_lists.Goals as goal
 
 pub array_within-requires : goal.array_within-requires
-array_within-requires c = subst (λ (x : Layout). limit (array_type x) ≡ None) (sym c.in_ok-copy.ensures) c.requires.limit
+array_within-requires c =
+    subst (λ (x : Layout). limit (array_type x) ≡ None) (sym c.in_ok-copy.ensures) c.requires.limit
 
 pub returns : goal.returns
-returns c = record { opened = whole_lists c.args.starts.now c.args.stops.now c.copy-2.result c.copy-3.result c.args.content.now c.in_ok-content.content c.requires.valid (c.in_ok-content.ensures ∙ c.in_ok-copy.ensures) c.copy-2.ensures c.copy-3.ensures }
+returns c = record {
+  opened = whole_lists c.args.starts.now c.args.stops.now c.copy-2.result
+      c.copy-3.result c.args.content.now c.in_ok-content.content c.requires.valid
+      (c.in_ok-content.ensures ∙ c.in_ok-copy.ensures) c.copy-2.ensures c.copy-3.ensures;
+}

@@ -4,5 +4,6 @@ use Rattle.awk_select.proofs.cells.cells_of.Goals as goal
 
 pub unreachable-requires : goal.unreachable-requires
 unreachable-requires g c =
-    only_cells (array_type c.args.x.now) c.in_ok-opened.field-0 c.in_ok-opened.ensures.opened.kind c.requires
+    only_cells (array_type c.args.x.now) c.in_ok-opened.field-0 c.in_ok-opened.ensures.opened.kind
+    c.requires
     c.in_default.not-Empty c.in_default.not-Leaf c.in_default.not-Option

@@ -12,36 +12,49 @@ use Rattle.awk_select.proofs.indexes.taken_items.Goals as goal
 
 pub returns-then-not-are_inside : goal.returns-then-not-are_inside
 returns-then-not-are_inside g c = record {
-  answer = take-outside (length (array_items c.args.x.now)) c.len-n.result (array_items c.args.ix.now) _
-      (c.len-n.ensures.len ∙ sym (length-array_items c.args.x.now)) (sym c.if-not-are_inside.ensures);
+  answer =
+      take-outside (length (array_items c.args.x.now)) c.len-n.result (array_items c.args.ix.now) _
+      (c.len-n.ensures.len ∙ sym (length-array_items c.args.x.now))
+      (sym c.if-not-are_inside.ensures);
 }
 
 pub returns-then-len-gt-ITEM_LIMIT : goal.returns-then-len-gt-ITEM_LIMIT
 returns-then-len-gt-ITEM_LIMIT g c = record {
-  answer = take-size (length (array_items c.args.x.now)) c.len-n.result c.len.result (array_items c.args.ix.now) _
-      (c.len-n.ensures.len ∙ sym (length-array_items c.args.x.now)) (sym c.if-not-are_inside.ensures)
-      (c.len.ensures.len ∙ sym (length-array_items c.args.ix.now)) (omega (arith, c.if-len-gt-ITEM_LIMIT.true));
+  answer =
+      take-size (length (array_items c.args.x.now)) c.len-n.result c.len.result
+      (array_items c.args.ix.now) _
+      (c.len-n.ensures.len ∙ sym (length-array_items c.args.x.now))
+      (sym c.if-not-are_inside.ensures)
+      (c.len.ensures.len ∙ sym (length-array_items c.args.ix.now))
+      (omega (arith, c.if-len-gt-ITEM_LIMIT.true));
 }
 
 pub pick-requires-clause-places : goal.pick-requires-clause-places
 pick-requires-clause-places g c =
     subst (IsOptionalIndex c.in_ok-places.places) c.len-n.ensures.len
-    (optional-lane c.len-n.result (take_places c.len-n.result (array_items c.args.ix.now)) c.in_ok-places.places
+    (optional-lane c.len-n.result (take_places c.len-n.result (array_items c.args.ix.now))
+    c.in_ok-places.places
     (take-lane c.len-n.result c.args.ix.now c.in_ok-places.places c.in_ok-places.ensures.lane)
     (take_places-below c.len-n.result (array_items c.args.ix.now)))
 
 pub pick-requires-clause-present : goal.pick-requires-clause-present
 pick-requires-clause-present g c = λ plain.
     subst (IsIndex c.in_ok-places.places) c.len-n.ensures.len
-    (index-lane c.len-n.result (take_places c.len-n.result (array_items c.args.ix.now)) c.in_ok-places.places
+    (index-lane c.len-n.result (take_places c.len-n.result (array_items c.args.ix.now))
+    c.in_ok-places.places
     (take-lane c.len-n.result c.args.ix.now c.in_ok-places.places c.in_ok-places.ensures.lane)
-    (take_places-there c.len-n.result (array_type c.args.ix.now) (array_items c.args.ix.now) c.requires.index
-    (ap is_option (sym c.typ.ensures.typ) ∙ plain) c.len.ensures.items (sym c.if-not-are_inside.ensures)))
+    (take_places-there c.len-n.result (array_type c.args.ix.now) (array_items c.args.ix.now)
+    c.requires.index
+    (ap is_option (sym c.typ.ensures.typ) ∙ plain) c.len.ensures.items
+    (sym c.if-not-are_inside.ensures)))
 
 pub returns : goal.returns
 returns g c = record {
-  answer = take-said c.args.x.now c.args.ix.now c.in_ok-places.places (typ_of c.typ.result.now) c.len-n.result c.len.result c.pick.result
-      c.typ.ensures.typ (c.len-n.ensures.len ∙ sym (length-array_items c.args.x.now)) c.in_ok-places.ensures.lane
+  answer =
+      take-said c.args.x.now c.args.ix.now c.in_ok-places.places (typ_of c.typ.result.now)
+      c.len-n.result c.len.result c.pick.result
+      c.typ.ensures.typ (c.len-n.ensures.len ∙ sym (length-array_items c.args.x.now))
+      c.in_ok-places.ensures.lane
       (sym c.if-not-are_inside.ensures) (c.len.ensures.len ∙ sym (length-array_items c.args.ix.now))
       (omega (arith, c.if-len-gt-ITEM_LIMIT.false)) c.pick.ensures.answer;
 }

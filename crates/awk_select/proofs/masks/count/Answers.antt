@@ -8,7 +8,8 @@ use Rattle.awk_select.proofs.masks.count.Goals as goal
 
 pub overflow_add-count : goal.overflow_add-count
 overflow_add-count g c =
-    let i : c.loop-i.i < len c.args.m.now = omega (arith, c.loop-i-test.true, c.len-i-end.ensures.len) in
+    let i : c.loop-i.i < len c.args.m.now = omega
+    (arith, c.loop-i-test.true, c.len-i-end.ensures.len) in
     omega (
       arith,
       c.one_if-count.ensures,
@@ -21,8 +22,15 @@ overflow_add-count g c =
 
 pub loop-i-preserved : goal.loop-i-preserved
 loop-i-preserved g c =
-    let i : c.loop-i.i < len c.args.m.now = omega (arith, c.loop-i-test.true, c.len-i-end.ensures.len) in
-    omega (arith, c.one_if-count.ensures, mask-count c.args.m.now c.loop-i.i (numbers_shown c.kept.result) i c.kept.ensures.numbers, c.loop-i.invariant)
+    let i : c.loop-i.i < len c.args.m.now = omega
+    (arith, c.loop-i-test.true, c.len-i-end.ensures.len) in
+    omega (
+      arith,
+      c.one_if-count.ensures,
+      mask-count c.args.m.now c.loop-i.i
+          (numbers_shown c.kept.result) i c.kept.ensures.numbers,
+      c.loop-i.invariant,
+    )
 
 pub returns : goal.returns
 returns g c =

@@ -10,30 +10,40 @@ use Rattle.awk_select.proofs.masks.mask_lane.Goals.{in-Some, in_default}
 
 pub push-requires-clause-room : goal.push-requires-clause-room
 push-requires-clause-room g c =
-    let i : c.loop-i.i < len c.args.m.now = omega (arith, c.loop-i-test.true, c.len-i-end.ensures.len) in
-    made-room c.args.m.now c.args.n c.loop-i.i (int_of c.in-Some.z) c.loop-i.maker c.requires.count i
+    let i : c.loop-i.i < len c.args.m.now = omega
+    (arith, c.loop-i-test.true, c.len-i-end.ensures.len) in
+    made-room c.args.m.now c.args.n c.loop-i.i (int_of c.in-Some.z) c.loop-i.maker c.requires.count
+    i
     (ap numbers_shown (sym c.in-Some.is) ∙ c.kept.ensures.numbers) c.loop-i.invariant
 
 pub loop-i-preserved : goal.loop-i-preserved
 loop-i-preserved g c =
-    let i : c.loop-i.i < len c.args.m.now = omega (arith, c.loop-i-test.true, c.len-i-end.ensures.len) in
+    let i : c.loop-i.i < len c.args.m.now = omega
+    (arith, c.loop-i-test.true, c.len-i-end.ensures.len) in
     elim c.match-kept.branch [
-      | in-Some w ↦ subst (IsMade c.args.n (mask_first (array_items c.args.m.now) (c.loop-i.i + 1))) (sym w.maker-is)
-          (made-pushed c.args.m.now c.args.n c.loop-i.i (int_of w.in-Some.z) (int_of w.in-Some.z) c.loop-i.maker w.push.new.self i
-          (ap numbers_shown (sym w.in-Some.is) ∙ c.kept.ensures.numbers) w.push.ensures refl c.loop-i.invariant)
-      | in_default w ↦ subst (IsMade c.args.n (mask_first (array_items c.args.m.now) (c.loop-i.i + 1))) (sym w.maker-is)
+      | in-Some w ↦ subst (IsMade c.args.n (mask_first (array_items c.args.m.now) (c.loop-i.i + 1)))
+          (sym w.maker-is)
+          (made-pushed c.args.m.now c.args.n c.loop-i.i (int_of w.in-Some.z) (int_of w.in-Some.z)
+          c.loop-i.maker w.push.new.self i
+          (ap numbers_shown (sym w.in-Some.is) ∙ c.kept.ensures.numbers) w.push.ensures refl
+          c.loop-i.invariant)
+      | in_default w ↦ subst (IsMade c.args.n (mask_first (array_items c.args.m.now)
+          (c.loop-i.i + 1))) (sym w.maker-is)
           (made-none c.args.m.now c.args.n c.loop-i.i c.loop-i.maker i
-          (ap numbers_shown (sym (none_left _ (λ k e. w.in_default.not-Some k e))) ∙ c.kept.ensures.numbers) c.loop-i.invariant)
+          (ap numbers_shown (sym (none_left _ (λ k e. w.in_default.not-Some k e))) ∙
+          c.kept.ensures.numbers) c.loop-i.invariant)
     ]
 
 pub finish-requires : goal.finish-requires
 finish-requires g c =
-    (made-whole c.args.m.now c.args.n c.loop-i.i c.loop-i.maker (omega (arith, c.loop-i-test.false, c.loop-i.auto, c.len-i-end.ensures.len))
+    (made-whole c.args.m.now c.args.n c.loop-i.i c.loop-i.maker
+    (omega (arith, c.loop-i-test.false, c.loop-i.auto, c.len-i-end.ensures.len))
     c.requires.count c.loop-i.invariant).0
 
 pub returns : goal.returns
 returns g c = record {
   lane = lane-ext c.finish.result _ _ (c.finish.ensures.kind ∙ c.loop-i.invariant.kind)
-      (c.finish.ensures.items ∙ (made-whole c.args.m.now c.args.n c.loop-i.i c.loop-i.maker (omega (arith, c.loop-i-test.false, c.loop-i.auto, c.len-i-end.ensures.len))
+      (c.finish.ensures.items ∙ (made-whole c.args.m.now c.args.n c.loop-i.i c.loop-i.maker
+      (omega (arith, c.loop-i-test.false, c.loop-i.auto, c.len-i-end.ensures.len))
       c.requires.count c.loop-i.invariant).1);
 }

@@ -20,10 +20,12 @@ place-is x i n o p e h s =
 pub returns-in_ok-item_at-in-Some-clause-answer : goal.returns-in_ok-item_at-in-Some-clause-answer
 returns-in_ok-item_at-in-Some-clause-answer g c =
     place-is c.args.x.now c.args.i c.len.result c.place_in.result (Some c.in-Some.k)
-    c.len.ensures.len (c.place_in.ensures ∙ ap (place_in c.len.result) (to_z-of_z w64 c.args.i c.ranges.i)) c.in-Some.is
+    c.len.ensures.len (c.place_in.ensures ∙ ap (place_in c.len.result)
+    (to_z-of_z w64 c.args.i c.ranges.i)) c.in-Some.is
     ∙ ap Ok (sym c.in_ok-item_at-in-Some.ensures.settled)
 
 pub returns-in-None-clause-answer : goal.returns-in-None-clause-answer
 returns-in-None-clause-answer g c =
     place-is c.args.x.now c.args.i c.len.result c.place_in.result None c.len.ensures.len
-    (c.place_in.ensures ∙ ap (place_in c.len.result) (to_z-of_z w64 c.args.i c.ranges.i)) c.in-None.is
+    (c.place_in.ensures ∙ ap (place_in c.len.result) (to_z-of_z w64 c.args.i c.ranges.i))
+    c.in-None.is

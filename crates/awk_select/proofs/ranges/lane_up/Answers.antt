@@ -9,19 +9,29 @@ use Rattle.awk_select.proofs.ranges.lane_up.Goals as goal
 
 pub place_up-requires-clause-below : goal.place_up-requires-clause-below
 place_up-requires-clause-below c =
-    let n : c.multiples_below-n.result ≡ multiples_below (c.args.hi - c.args.lo) c.args.step = c.multiples_below-n.ensures ∙ ap (λ d. multiples_below d c.args.step) c.saturating_sub.ensures in
-    multiple-below (c.args.hi - c.args.lo) c.args.step c.loop-j.j c.requires.step (omega (arith, n, c.loop-j-test.true))
+    let n : c.multiples_below-n.result ≡ multiples_below (c.args.hi - c.args.lo) c.args.step =
+    c.multiples_below-n.ensures ∙ ap (λ d. multiples_below d c.args.step)
+    c.saturating_sub.ensures in
+    multiple-below (c.args.hi - c.args.lo) c.args.step c.loop-j.j c.requires.step
+    (omega (arith, n, c.loop-j-test.true))
 
 pub loop-j-preserved : goal.loop-j-preserved
 loop-j-preserved c =
-    so_far_pushed _ _ (λ j. pos (c.args.lo + j * c.args.step)) c.loop-j.j (int_of c.number.result) c.loop-j.maker c.push.new.self c.push.ensures
+    so_far_pushed _ _ (λ j. pos (c.args.lo + j * c.args.step)) c.loop-j.j (int_of c.number.result)
+    c.loop-j.maker c.push.new.self c.push.ensures
     (c.number.ensures.number ∙ ap pos c.place_up.ensures.place) c.loop-j.invariant
 
 pub returns : goal.returns
 returns c =
-    let n : c.multiples_below-n.result ≡ multiples_below (c.args.hi - c.args.lo) c.args.step = c.multiples_below-n.ensures ∙ ap (λ d. multiples_below d c.args.step) c.saturating_sub.ensures in
+    let n : c.multiples_below-n.result ≡ multiples_below (c.args.hi - c.args.lo) c.args.step =
+    c.multiples_below-n.ensures ∙ ap (λ d. multiples_below d c.args.step)
+    c.saturating_sub.ensures in
     record {
-      lane = lane-up c.args.lo c.args.hi c.args.step c.finish.result (lane-ext c.finish.result _ _ (c.finish.ensures.kind ∙ c.loop-j.invariant.kind)
-          (c.finish.ensures.items ∙ c.loop-j.invariant.items ∙ end-is (λ j. pos (c.args.lo + j * c.args.step)) c.loop-j.j c.multiples_below-n.result (multiples_below (c.args.hi - c.args.lo) c.args.step)
+      lane =
+          lane-up c.args.lo c.args.hi c.args.step c.finish.result
+          (lane-ext c.finish.result _ _ (c.finish.ensures.kind ∙ c.loop-j.invariant.kind)
+          (c.finish.ensures.items ∙ c.loop-j.invariant.items ∙ end-is
+          (λ j. pos (c.args.lo + j * c.args.step)) c.loop-j.j c.multiples_below-n.result
+          (multiples_below (c.args.hi - c.args.lo) c.args.step)
           (omega (arith, c.loop-j-test.false, c.loop-j.auto)) n));
     }

@@ -14,6 +14,9 @@ pub returns-in_ok-stepped-in-Arr-clause-answer : goal.returns-in_ok-stepped-in-A
 returns-in_ok-stepped-in-Arr-clause-answer g c =
     ap (λ d. step_range_of c.args.lo c.args.hi c.args.step (datum_of d)) c.in-Arr.is
     ∙ ap₂ (λ t vs. Ok (arr t vs)) (sym c.in_ok-stepped-in-Arr.ensures.typ)
-    (ap (λ n. items_at (array_items c.in-Arr.x) (range_places n c.args.lo c.args.hi c.args.step)) (length-array_items c.in-Arr.x)
-    ∙ ap (λ s. items_at (array_items c.in-Arr.x) (range_places (len c.in-Arr.x) c.args.lo c.args.hi s)) (sym (to_z-of_z w64 c.args.step c.ranges.step))
+    (ap (λ n. items_at (array_items c.in-Arr.x) (range_places n c.args.lo c.args.hi c.args.step))
+    (length-array_items c.in-Arr.x)
+    ∙ ap (λ s. items_at (array_items c.in-Arr.x)
+    (range_places (len c.in-Arr.x) c.args.lo c.args.hi s))
+    (sym (to_z-of_z w64 c.args.step c.ranges.step))
     ∙ sym c.in_ok-stepped-in-Arr.ensures.items)

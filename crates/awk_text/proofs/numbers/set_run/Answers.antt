@@ -1,4 +1,5 @@
-use Rattle.std.proofs.Common.{◌≡◌, ℕ, ◌<◌, ◌≤◌, List, ◌+◌, ◌-◌, ◌==◌, ◌++◌, codes, length, drop, refl, ap, sym, ◌∙◌, arith}
+use Rattle.std.proofs.Common.{◌≡◌, ℕ, ◌<◌, ◌≤◌, List, ◌+◌, ◌-◌, ◌==◌, ◌++◌, codes, length, drop}
+use Rattle.std.proofs.Common.{refl, ap, sym, ◌∙◌, arith}
 use Rattle.std.proofs.lemmas.List.{drop-set, drop_all}
 use Rattle.std.proofs.Math.ListN.{set}
 use Rattle.awk_layout.specs.Layout.{flat}

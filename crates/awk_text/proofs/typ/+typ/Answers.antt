@@ -3,9 +3,12 @@ use Rattle.std.proofs.lemmas.Option.{get_or_from_slice_get}
 use Rattle.awk_types.specs.View.{typ_of, typs_of, field_of, fields_of}
 use Rattle.awk_types.specs.declared.typ.Typ.TheViews.{out-Field}
 use Rattle.awk_json.proofs.Joins.{stops_at, goes_to, puts_same}
-use Rattle.awk_text.specs.TypeText.{type_text, size_text, option_opening, name_text, named_type_text}
-use Rattle.awk_text.proofs.Places.{places_first, places_next, places_stop, places_stop_in, places_last}
-use Rattle.awk_text.proofs.TypeTexts.{type_at, field_at, enclosed_types, enclosed_fields, said_var, said_reg, said_opt, said_field}
+use Rattle.awk_text.specs.TypeText.{type_text, size_text, option_opening, name_text}
+use Rattle.awk_text.specs.TypeText.{named_type_text}
+use Rattle.awk_text.proofs.Places.{places_first, places_next, places_stop, places_stop_in}
+use Rattle.awk_text.proofs.Places.{places_last}
+use Rattle.awk_text.proofs.TypeTexts.{type_at, field_at, enclosed_types, enclosed_fields, said_var}
+use Rattle.awk_text.proofs.TypeTexts.{said_reg, said_opt, said_field}
 use Rattle.awk_text.proofs.typ.+typ.Goals as goal
 
 -- ---- a type

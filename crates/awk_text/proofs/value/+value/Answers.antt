@@ -1,4 +1,5 @@
-use Rattle.std.proofs.Common.{◌++◌, ◌+◌, ◌*◌, ◌≤◌, codes, refl, ap, sym, ◌∙◌, arith, length, length-append, get_or, rules}
+use Rattle.std.proofs.Common.{◌++◌, ◌+◌, ◌*◌, ◌≤◌, codes, refl, ap, sym, ◌∙◌, arith, length}
+use Rattle.std.proofs.Common.{length-append, get_or, rules}
 use Rattle.std.proofs.lemmas.Option.{get_or_from_slice_get}
 use Rattle.awk_json.proofs.Joins.{stops_at, goes_to, puts_same}
 use Rattle.awk_json.specs.Text.{comma_joined}
@@ -6,11 +7,13 @@ use Rattle.awk_layout.specs.Layout.{height, heights, layouts_from, empty}
 use Rattle.awk_layout.specs.Contents.{height-get, AllReach-get}
 use Rattle.awk_layout.specs.Induction.{height-some}
 use Rattle.awk_layout.specs.Place.{span, through, alternative}
-use Rattle.awk_text.specs.LayoutText.{layout_text, span_text, row_text, member_text, field_text, names_shown}
+use Rattle.awk_text.specs.LayoutText.{layout_text, span_text, row_text, member_text, field_text}
+use Rattle.awk_text.specs.LayoutText.{names_shown}
 use Rattle.awk_text.proofs.ArrayTexts.{item_some}
 use Rattle.awk_text.proofs.Cases.{item_text-case, item_text-row, row_text-places, row_named}
 use Rattle.awk_text.proofs.Costs.{leaf_cost, flat_cost, deeper_text}
-use Rattle.awk_text.proofs.Places.{texts_from, places_first, places_next, places_stop, places_stop_in, places_last, paid_start, paid_place}
+use Rattle.awk_text.proofs.Places.{texts_from, places_first, places_next, places_stop}
+use Rattle.awk_text.proofs.Places.{places_stop_in, places_last, paid_start, paid_place}
 use Rattle.awk_text.proofs.value.+value.Goals as goal
 
 -- ---- lists

@@ -8,4 +8,6 @@ use Rattle.awk_types.proofs.simplify.opt_of.Goals as goal
 
 pub returns-clause-laws : goal.returns-clause-laws
 returns-clause-laws c =
-    IfOk-weaker c.checked.result _ _ (λ s same. simplifies_to (opt (typ_of c.args.t)) (typ_of s) (same ∙ c.in_ok-optional.ensures ∙ ap option_of c.in_ok-item.ensures)) c.checked.ensures.same
+    IfOk-weaker c.checked.result _ _ (λ s same. simplifies_to (opt (typ_of c.args.t)) (typ_of s)
+    (same ∙ c.in_ok-optional.ensures ∙ ap option_of c.in_ok-item.ensures))
+    c.checked.ensures.same

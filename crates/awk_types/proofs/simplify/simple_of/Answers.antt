@@ -6,4 +6,5 @@ use Rattle.awk_types.proofs.simplify.simple_of.Goals as goal
 
 pub returns-clause-laws : goal.returns-clause-laws
 returns-clause-laws c =
-    IfOk-weaker c.checked.result _ _ (λ s same. simplifies_to (typ_of c.args.t) (typ_of s) (same ∙ c.in_ok-simplified.ensures)) c.checked.ensures.same
+    IfOk-weaker c.checked.result _ _ (λ s same. simplifies_to (typ_of c.args.t) (typ_of s)
+    (same ∙ c.in_ok-simplified.ensures)) c.checked.ensures.same

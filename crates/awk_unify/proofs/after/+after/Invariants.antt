@@ -6,7 +6,9 @@ use Rattle.awk_unify.specs.declared.lift.Lifts.{size-Lifts}
 use Rattle.awk_unify.proofs.after.+after.Given as goal
 
 abbrev pub invariant-each_after-loop-i : goal.invariant-each_after-loop-i
-invariant-each_after-loop-i l = lifts_of l.made ++ put_after (lifts_of l.gs) (drop l.i l.ks) (drop l.i (lifts_of l.fs)) ≡ put_after (lifts_of l.gs) l.ks (lifts_of l.fs)
+invariant-each_after-loop-i l =
+    lifts_of l.made ++ put_after (lifts_of l.gs) (drop l.i l.ks) (drop l.i (lifts_of l.fs)) ≡
+    put_after (lifts_of l.gs) l.ks (lifts_of l.fs)
 
 abbrev pub decreases-after : goal.decreases-after
 decreases-after l = 3 * size-Lift l.g.now

@@ -5,4 +5,6 @@ use Rattle.awk_unify.proofs.Views.{lift_of-Same}
 use Rattle.awk_unify.proofs.fields.lift_at.Goals as goal
 
 pub returns-else-k-len : goal.returns-else-k-len
-returns-else-k-len c = lift_of-Same ∙ sym (carry_at-beyond (lifts_of c.args.fs.now) c.args.k (omega (arith, c.if-k-len.false, c.len.ensures)))
+returns-else-k-len c =
+    lift_of-Same ∙ sym (carry_at-beyond (lifts_of c.args.fs.now) c.args.k
+    (omega (arith, c.if-k-len.false, c.len.ensures)))

@@ -7,7 +7,8 @@ use Rattle.awk_unify.proofs.NamePlaces.{place_in-known, place_in-≤}
 use Rattle.awk_unify.proofs.fields.place_by.Goals as goal
 use Rattle.awk_unify.proofs.fields.place_by.Goals.{After-place}
 
-at_name : (c : After-place) → c.place.result ≡ place_in (names_of (fields_of c.args.xs.now)) c.args.name.now
+at_name : (c : After-place)
+    → c.place.result ≡ place_in (names_of (fields_of c.args.xs.now)) c.args.name.now
 at_name c =
     let shown = rw c.in-Some.is at c.requires in
     c.place.ensures

@@ -3,4 +3,5 @@ use Rattle.std.proofs.lemmas.Slice.Eq.{slice_eq-Decides}
 use Rattle.awk_unify.proofs.places.same_numbers.Goals as goal
 
 pub returns : goal.returns
-returns c = slice_eq-Decides Decides-eqb c.args.numbers.now c.args.others.now c.eq.result c.eq.ensures
+returns c =
+    slice_eq-Decides Decides-eqb c.args.numbers.now c.args.others.now c.eq.result c.eq.ensures

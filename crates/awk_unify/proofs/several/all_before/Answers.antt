@@ -8,7 +8,8 @@ use Rattle.awk_unify.proofs.several.all_before.Goals as goal
 
 pub returns-then-is_keep-clause-made : goal.returns-then-is_keep-clause-made
 returns-then-is_keep-clause-made c =
-    sym (ap (λ f. map (after f) (lifts_of c.args.kept.lifts)) (c.is_keep.ensures.0 c.if-is_keep.true)
+    sym (ap (λ f. map (after f) (lifts_of c.args.kept.lifts))
+    (c.is_keep.ensures.0 c.if-is_keep.true)
     ∙ map-id (lifts_of c.args.kept.lifts))
 
 pub returns-then-is_idle-clause-made : goal.returns-then-is_idle-clause-made

@@ -9,14 +9,21 @@ use Rattle.awk_unify.proofs.several.unify_all.Goals as goal
 pub returns-in_err-typ-2-clause-gives : goal.returns-in_err-typ-2-clause-gives
 returns-in_err-typ-2-clause-gives c =
     let failed : c.from_residual-in_err-typ-2.result ≡ Err c.in_err-typ-2.field-0.0 = grind arith in
-    Gives-Err all_of limit_told c.from_residual-in_err-typ-2.result c.in_err-typ-2.field-0.0 _ failed
-    (list_told (typs_of c.args.ts.now) (typ_of c.in_ok-typ.field-0.typ) (lifts_of c.in_ok-typ.field-0.lifts) _ c.requires c.in_ok-typ.ensures c.in_err-typ-2.ensures.gives)
+    Gives-Err all_of limit_told c.from_residual-in_err-typ-2.result c.in_err-typ-2.field-0.0 _
+    failed
+    (list_told (typs_of c.args.ts.now) (typ_of c.in_ok-typ.field-0.typ)
+    (lifts_of c.in_ok-typ.field-0.lifts) _ c.requires c.in_ok-typ.ensures
+    c.in_err-typ-2.ensures.gives)
 
 pub returns-clause-gives : goal.returns-clause-gives
 returns-clause-gives c =
-    list_gives (typs_of c.args.ts.now) (typ_of c.in_ok-typ.field-0.typ) (typ_of c.in_ok-typ-2.typ) (lifts_of c.in_ok-typ.field-0.lifts) c.requires c.in_ok-typ.ensures c.in_ok-typ-2.ensures.gives
+    list_gives (typs_of c.args.ts.now) (typ_of c.in_ok-typ.field-0.typ) (typ_of c.in_ok-typ-2.typ)
+    (lifts_of c.in_ok-typ.field-0.lifts) c.requires c.in_ok-typ.ensures
+    c.in_ok-typ-2.ensures.gives
 
 pub returns-clause-laws : goal.returns-clause-laws
 returns-clause-laws c =
     unifies_all (typs_of c.args.ts.now) _
-    (list_within (typs_of c.args.ts.now) (typ_of c.in_ok-typ.field-0.typ) (typ_of c.in_ok-typ-2.typ) (lifts_of c.in_ok-typ.field-0.lifts) c.requires c.in_ok-typ.ensures c.in_ok-typ-2.ensures.gives)
+    (list_within (typs_of c.args.ts.now) (typ_of c.in_ok-typ.field-0.typ) (typ_of c.in_ok-typ-2.typ)
+    (lifts_of c.in_ok-typ.field-0.lifts) c.requires c.in_ok-typ.ensures
+    c.in_ok-typ-2.ensures.gives)

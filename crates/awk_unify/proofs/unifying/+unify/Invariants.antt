@@ -54,8 +54,10 @@ invariant-unified_fields-loop-i l =
 
 abbrev pub invariant-inserted-loop-i : goal.invariant-inserted-loop-i
 invariant-inserted-loop-i l =
-    ahead (take l.i (typs_of l.ts)) (insert (join_by unification) (drop l.i (typs_of l.ts)) (typ_of l.b)) ≡ insert (join_by unification) (typs_of l.ts) (typ_of l.b)
+    ahead (take l.i (typs_of l.ts)) (insert (join_by unification) (drop l.i (typs_of l.ts))
+    (typ_of l.b)) ≡ insert (join_by unification) (typs_of l.ts) (typ_of l.b)
 
 abbrev pub invariant-inserted_each-loop-i : goal.invariant-inserted_each-loop-i
 invariant-inserted_each-loop-i l =
-    insert_all (join_by unification) (placed_all_of l.made) (drop l.i (typs_of l.bs)) ≡ insert_all (join_by unification) (placed_all_of l.fn.start) (typs_of l.bs)
+    insert_all (join_by unification) (placed_all_of l.made) (drop l.i (typs_of l.bs)) ≡ insert_all
+    (join_by unification) (placed_all_of l.fn.start) (typs_of l.bs)

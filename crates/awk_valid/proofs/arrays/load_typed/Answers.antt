@@ -12,7 +12,8 @@ use Rattle.awk_valid.specs.Loaded.{layout_of}
 use Rattle.awk_valid.specs.Loading.{told, loading}
 use Rattle.awk_form.specs.Measures as extent
 use Rattle.awk_valid.proofs.FaultLaws.{Gives-fails}
-use Rattle.awk_valid.proofs.LoadLaws.{load_walk, load_made, load_typ, load_typed, load_length, load_size, load_cost}
+use Rattle.awk_valid.proofs.LoadLaws.{load_walk, load_made, load_typ, load_typed, load_length}
+use Rattle.awk_valid.proofs.LoadLaws.{load_size, load_cost}
 use Rattle.awk_valid.specs.Walked.{given, container_in}
 use Rattle.awk_valid.proofs.DenoteLaws.{made-denoted}
 use Rattle.awk_valid.proofs.arrays.load_typed.Goals as goal

@@ -1,5 +1,6 @@
 -- One more tag raises the length of its alternative.
-use Rattle.std.proofs.Common.{◌≡◌, ℕ, length, get_or, pos, w64, FitsSigned, nat_cmp, arith, rules, sym, ap}
+use Rattle.std.proofs.Common.{◌≡◌, ℕ, length, get_or, pos, w64, FitsSigned, nat_cmp, arith, rules}
+use Rattle.std.proofs.Common.{sym, ap}
 use Rattle.std.specs.Ordering.{ord_max}
 use lib.IntN.{nat_abs}
 use Rattle.std.proofs.lemmas.Int.{to_z-of_z}

@@ -9,7 +9,8 @@ use Rattle.awk_valid.specs.Loading.{told}
 use Rattle.awk_valid.specs.Needs.{index_length}
 use Rattle.awk_valid.specs.declared.own.One.TheVariants.{Indexed}
 use Rattle.awk_valid.specs.declared.own.Own.TheVariants.{Over}
-use Rattle.awk_valid.proofs.PartLaws.{part-fails, part-made, told-places, index_fetched, indexed-own}
+use Rattle.awk_valid.proofs.PartLaws.{part-fails, part-made, told-places, index_fetched}
+use Rattle.awk_valid.proofs.PartLaws.{indexed-own}
 use Rattle.awk_valid.proofs.parts.indexed.Goals as goal
 
 pub returns-in_err-length-clause-answer : goal.returns-in_err-length-clause-answer

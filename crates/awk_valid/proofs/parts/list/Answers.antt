@@ -11,7 +11,8 @@ use Rattle.awk_valid.specs.Loading.{told}
 use Rattle.awk_valid.specs.Needs.{lists_length}
 use Rattle.awk_valid.specs.declared.own.One.TheVariants.{Lists}
 use Rattle.awk_valid.specs.declared.own.Own.TheVariants.{Over}
-use Rattle.awk_valid.proofs.PartLaws.{part-fails, part-made, told-buffers, told-second, told-places, index_break, index_told, index_fetched, list-own}
+use Rattle.awk_valid.proofs.PartLaws.{part-fails, part-made, told-buffers, told-second, told-places}
+use Rattle.awk_valid.proofs.PartLaws.{index_break, index_told, index_fetched, list-own}
 use Rattle.awk_valid.proofs.parts.list.Goals as goal
 
 pub returns-in_err-stops-clause-answer : goal.returns-in_err-stops-clause-answer

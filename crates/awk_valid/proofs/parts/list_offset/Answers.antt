@@ -10,7 +10,8 @@ use Rattle.awk_valid.specs.Loading.{told}
 use Rattle.awk_valid.specs.Needs.{lists_length}
 use Rattle.awk_valid.specs.declared.own.One.TheVariants.{OffsetLists}
 use Rattle.awk_valid.specs.declared.own.Own.TheVariants.{Over}
-use Rattle.awk_valid.proofs.PartLaws.{part-fails, part-made, told-buffers, told-places, index_break, index_fetched, offsets-own}
+use Rattle.awk_valid.proofs.PartLaws.{part-fails, part-made, told-buffers, told-places, index_break}
+use Rattle.awk_valid.proofs.PartLaws.{index_fetched, offsets-own}
 use Rattle.awk_valid.proofs.parts.list_offset.Goals as goal
 
 pub returns-in_err-offsets-clause-answer : goal.returns-in_err-offsets-clause-answer

@@ -6,7 +6,9 @@ use Rattle.awk_form.specs.View.{form_of, forms_of}
 use Rattle.awk_form.specs.declared.form.Shape.TheViews.{out-Form}
 use Rattle.awk_form.proofs.Types.{count-from}
 use Rattle.awk_form.specs.Measures.{inner_shape}
-use Rattle.awk_valid.proofs.FormLaws.{form-Empty, form-Numpy, form-Regular, form-List, form-ListOffset, form-Row, form-Indexed, form-IndexedOption, form-ByteMasked, form-BitMasked, form-Unmasked, form-Union}
+use Rattle.awk_valid.proofs.FormLaws.{form-Empty, form-Numpy, form-Regular, form-List}
+use Rattle.awk_valid.proofs.FormLaws.{form-ListOffset, form-Row, form-Indexed, form-IndexedOption}
+use Rattle.awk_valid.proofs.FormLaws.{form-ByteMasked, form-BitMasked, form-Unmasked, form-Union}
 use Rattle.awk_valid.proofs.WalkLaws.{own-said}
 use Rattle.awk_valid.specs.Walked.{given}
 use Rattle.awk_valid.proofs.parts.own_part.Goals as goal

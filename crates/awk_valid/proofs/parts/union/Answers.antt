@@ -11,7 +11,8 @@ use Rattle.awk_valid.specs.Walked.{given, container_in}
 use Rattle.awk_valid.specs.Loading.{told}
 use Rattle.awk_valid.specs.Needs.{tag_length}
 use Rattle.awk_valid.specs.declared.own.Own.TheVariants.{Union}
-use Rattle.awk_valid.proofs.PartLaws.{part-fails, part-made, told-places, index_fetched, int8s_fetched, union-own}
+use Rattle.awk_valid.proofs.PartLaws.{part-fails, part-made, told-places, index_fetched}
+use Rattle.awk_valid.proofs.PartLaws.{int8s_fetched, union-own}
 use Rattle.awk_valid.proofs.parts.union.Goals as goal
 
 pub judged_union-requires-clause-tags : goal.judged_union-requires-clause-tags

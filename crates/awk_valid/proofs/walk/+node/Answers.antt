@@ -1,6 +1,7 @@
 -- A node is told with its own break, then with those of its contents in order, and is its own part
 -- over them.
-use Rattle.std.proofs.Common.{◌≡◌, ◌<◌, ◌≤◌, ◌+◌, ◌++◌, ◌∷◌, [], Ok, arith, rules, sym, ap, ap₂, ◌∙◌, subst}
+use Rattle.std.proofs.Common.{◌≡◌, ◌<◌, ◌≤◌, ◌+◌, ◌++◌, ◌∷◌, [], Ok, arith, rules, sym, ap, ap₂}
+use Rattle.std.proofs.Common.{◌∙◌, subst}
 use Rattle.awk_types.specs.Gives.{Told}
 use Rattle.awk_layout.specs.Valid.{IsValid}
 use Rattle.awk_form.specs.Induction.{nodes-contents}
@@ -13,7 +14,10 @@ use Rattle.awk_valid.specs.Loading.{told}
 use Rattle.awk_valid.specs.Parts.{own_of, over}
 use Rattle.awk_valid.specs.Walked.{given, container_in, node_said, left_said}
 use Rattle.awk_valid.proofs.FaultLaws.{Gives-fails}
-use Rattle.awk_valid.proofs.WalkLaws.{steps-own, steps-within, steps-first, steps-next, told-own, left-all, own-count, own-length, rest-all, rest-none, rest-lawful, rest-nodes, lawful-over, left-told, left-next, left-none, said-valid}
+use Rattle.awk_valid.proofs.WalkLaws.{steps-own, steps-within, steps-first, steps-next, told-own}
+use Rattle.awk_valid.proofs.WalkLaws.{left-all, own-count, own-length, rest-all, rest-none}
+use Rattle.awk_valid.proofs.WalkLaws.{rest-lawful, rest-nodes, lawful-over, left-told, left-next}
+use Rattle.awk_valid.proofs.WalkLaws.{left-none, said-valid}
 use Rattle.awk_valid.proofs.walk.+node.Goals as goal
 
 pub returns-in_err-own-clause-answer : goal.returns-in_err-own-clause-answer

@@ -11,4 +11,6 @@ abbrev pub decreases-all_have_records : goal.decreases-all_have_records
 decreases-all_have_records l = 2 * heights (layouts_from l.contents.now) + 1
 
 abbrev pub invariant-all_have_records-loop-i : goal.invariant-all_have_records-loop-i
-invariant-all_have_records-loop-i l = all_have_records (layout_types (layouts_from l.contents)) ≡ all_have_records (layout_types (layouts_from (drop l.i l.contents)))
+invariant-all_have_records-loop-i l =
+    all_have_records (layout_types (layouts_from l.contents)) ≡ all_have_records
+    (layout_types (layouts_from (drop l.i l.contents)))

@@ -1,6 +1,7 @@
 -- The least of all alternatives is that of the first that is wanting in any.
 use Rattle.std.proofs.Common.{arith}
-use Rattle.awk_view.proofs.LeadingLaws.{empty_leads, least_end, least_next, least_start, numbers_lead}
+use Rattle.awk_view.proofs.LeadingLaws.{empty_leads, least_end, least_next, least_start}
+use Rattle.awk_view.proofs.LeadingLaws.{numbers_lead}
 use Rattle.awk_view.proofs.found.+leading.Goals as goal
 
 pub leading_found-returns-in-Empty : goal.leading_found-returns-in-Empty

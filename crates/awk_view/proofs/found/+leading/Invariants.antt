@@ -15,6 +15,7 @@ decreases-leading_of_each l = 2 * heights (layouts_from l.contents.now) + 1
 abbrev pub invariant-leading_of_each-loop-i : goal.invariant-leading_of_each-loop-i
 invariant-leading_of_each-loop-i l = record {
   within : l.least ≤ length l.names;
-  least : min l.least (leading (λ n. all_have_field n (layout_types (layouts_from (drop l.i l.contents)))) l.names)
+  least : min l.least (leading (λ n. all_have_field n
+      (layout_types (layouts_from (drop l.i l.contents)))) l.names)
       ≡ leading (λ n. all_have_field n (layout_types (layouts_from l.contents))) l.names;
 }

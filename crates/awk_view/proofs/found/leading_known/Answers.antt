@@ -11,13 +11,16 @@ returns-then-place_by-len c =
     c.place_by.ensures ∙ ap (λ k. place_of k c.args.own.now) c.as_str.ensures in
     let beyond : place_of c.get.result.now c.args.own.now ≡ length c.args.own.now =
     omega (arith, at, c.if-place_by-len.true, c.len.ensures) in
-    leading-stops (λ n. is_among n c.args.own.now) c.args.wanted.now c.loop-i.i c.get.result.now c.get.ensures
+    leading-stops (λ n. is_among n c.args.own.now) c.args.wanted.now c.loop-i.i c.get.result.now
+    c.get.ensures
     (among-beyond c.get.result.now c.args.own.now beyond) c.loop-i.invariant
 
 pub loop-i-preserved : goal.loop-i-preserved
 loop-i-preserved c =
     let at : c.place_by.result ≡ place_of c.get.result.now c.args.own.now =
     c.place_by.ensures ∙ ap (λ k. place_of k c.args.own.now) c.as_str.ensures in
-    leading-next (λ n. is_among n c.args.own.now) c.args.wanted.now c.loop-i.i c.get.result.now c.get.ensures
-    (among-within c.get.result.now c.args.own.now (λ e. omega (arith, e, at, c.if-place_by-len.false, c.len.ensures)))
+    leading-next (λ n. is_among n c.args.own.now) c.args.wanted.now c.loop-i.i c.get.result.now
+    c.get.ensures
+    (among-within c.get.result.now c.args.own.now
+    (λ e. omega (arith, e, at, c.if-place_by-len.false, c.len.ensures)))
     c.loop-i.invariant

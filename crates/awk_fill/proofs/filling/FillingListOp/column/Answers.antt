@@ -31,7 +31,8 @@ returns-in_ok-items-in-Lists g c =
     subst (λ v. IsFilled (filler_of v) c.in-Lists.content c.in_ok-items-in-Lists.items)
     c.self.view_is c.in_ok-items-in-Lists.ensures in (
       filled_fine f c.args.lists.now.starts c.args.lists.now.stops c.args.lists.now.content j.0,
-      filled_given f c.args.lists.now.class c.args.lists.now.starts c.args.lists.now.stops c.args.lists.now.content
+      filled_given f c.args.lists.now.class c.args.lists.now.starts c.args.lists.now.stops
+          c.args.lists.now.content
           c.in-Lists.offsets c.in-Lists.content c.in_ok-items-in-Lists.items c.content.ensures.lists
           j.1 h,
     )

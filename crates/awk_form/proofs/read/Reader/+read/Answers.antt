@@ -1,4 +1,5 @@
-use Rattle.std.proofs.Common.{◌≡◌, ◌+◌, ◌++◌, ◌∷◌, [], map, drop, Ok, Err, arith, sym, ap, ◌∙◌, subst, append_assoc}
+use Rattle.std.proofs.Common.{◌≡◌, ◌+◌, ◌++◌, ◌∷◌, [], map, drop, Ok, Err, arith, sym, ap, ◌∙◌}
+use Rattle.std.proofs.Common.{subst, append_assoc}
 use Rattle.awk_types.specs.Gives.{Told}
 use Rattle.awk_types.proofs.RefusalLaws.{refused_or-Ok, or-None, Gives-Err}
 use Rattle.serde_json.specs.View.{view}
@@ -6,7 +7,8 @@ use Rattle.awk_form.specs.Reading.{nodes_of, nodes_of_all, first_break_from, for
 use Rattle.awk_form.specs.Told.{refusal_told, why_told}
 use Rattle.awk_form.specs.Node.{node_at}
 use Rattle.awk_form.specs.NodeView.{node_of}
-use Rattle.awk_form.proofs.Breaks.{breaks_left, told_of_whole, length_left, told_of_node, read_of_node, broken_node, length-node}
+use Rattle.awk_form.proofs.Breaks.{breaks_left, told_of_whole, length_left, told_of_node}
+use Rattle.awk_form.proofs.Breaks.{read_of_node, broken_node, length-node}
 use Rattle.awk_form.specs.View.{form_of as made, forms_of}
 use Rattle.awk_form.proofs.Views.{form_of-roll}
 use Rattle.awk_form.proofs.Lists.{map_left}

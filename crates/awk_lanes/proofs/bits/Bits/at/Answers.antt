@@ -12,5 +12,6 @@ pub returns-clause-value : goal.returns-clause-value
 returns-clause-value g c =
     let n : c.self.inside.n ≡ length c.args.self.now = opened_len _ _ _ _ _ c.self.view_is in
     c.bit_at.ensures
-    ∙ sym (get_or-bits c.self.inside.lsb_order c.self.inside.bytes.now c.self.inside.first c.self.inside.n c.args.i (omega arith))
+    ∙ sym (get_or-bits c.self.inside.lsb_order c.self.inside.bytes.now c.self.inside.first
+    c.self.inside.n c.args.i (omega arith))
     ∙ ap (λ (v : List Bool). get_or v c.args.i false) c.self.view_is

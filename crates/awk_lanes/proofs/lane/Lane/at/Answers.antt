@@ -10,12 +10,14 @@ use Rattle.awk_lanes.proofs.lane.Lane.at.Goals as goal
 pub item-requires : goal.item-requires
 item-requires g c =
     let o = opened _ _ _ _ c.self.view_is in
-    let f = row_fits c.args.i (width c.self.inside.kind) c.self.inside.count (width c.self.inside.kind) (omega arith) (omega arith) in
+    let f = row_fits c.args.i (width c.self.inside.kind) c.self.inside.count
+    (width c.self.inside.kind) (omega arith) (omega arith) in
     omega (arith, c.self.invariant.0)
 
 pub returns-clause-number : goal.returns-clause-number
 returns-clause-number g c =
     let o = opened _ _ _ _ c.self.view_is in
     c.item.ensures.number
-    ∙ ap (element c.self.inside.kind) (sym (get_or-numbers c.self.inside.kind c.self.inside.count c.self.inside.bytes.now c.args.i (omega arith)))
+    ∙ ap (element c.self.inside.kind) (sym (get_or-numbers c.self.inside.kind c.self.inside.count
+    c.self.inside.bytes.now c.args.i (omega arith)))
     ∙ ap (λ (v : Column). at v c.args.i) c.self.view_is

@@ -21,4 +21,5 @@ returns-clause-cost g c =
 pub returns-clause-bytes : goal.returns-clause-bytes
 returns-clause-bytes g c =
     let o = opened _ _ _ _ c.self.view_is in
-    rw (← o.kind, ← o.items) (sym (flat_map-numbers c.self.inside.kind c.self.inside.count c.self.inside.bytes.now c.self.invariant.0 c.self.invariant.1))
+    rw (← o.kind, ← o.items) (sym (flat_map-numbers c.self.inside.kind c.self.inside.count
+    c.self.inside.bytes.now c.self.invariant.0 c.self.invariant.1))

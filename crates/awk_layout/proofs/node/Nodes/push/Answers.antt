@@ -8,5 +8,6 @@ pub invariant_of-self-2 : goal.invariant_of-self-2
 invariant_of-self-2 c =
     rw c.in_ok-push.ensures.items (
       AllValid-append _ _ c.self.invariant.0 (subst IsValid c.item.view_is c.item.invariant.0),
-      AreNumbered-append _ _ c.self.invariant.1 (subst IsNumbered c.item.view_is c.item.invariant.1),
+      AreNumbered-append _ _ c.self.invariant.1
+          (subst IsNumbered c.item.view_is c.item.invariant.1),
     )

@@ -18,7 +18,8 @@ run_offsets-requires-clause-lists g c =
     let j : IsJoined c.args.lists.now.starts c.args.lists.now.stops c.args.lists.now.content
     (Lists c.in-Lists.offsets c.in-Lists.content) =
     rw c.in-Lists.is at c.in_ok-joined.ensures in
-    rw c.len-n.ensures.len (lists_rise c.args.lists.now.starts c.args.lists.now.stops c.args.lists.now.content
+    rw c.len-n.ensures.len (lists_rise c.args.lists.now.starts c.args.lists.now.stops
+    c.args.lists.now.content
     c.in-Lists.offsets c.in-Lists.content
     c.in_ok-items-in-Lists.items c.args.lists.now.class c.content.ensures.lists j.1
     c.in_ok-items-in-Lists.ensures)
@@ -51,7 +52,8 @@ all_runs-requires-clause-lists g c =
     let j : IsJoined c.args.lists.now.starts c.args.lists.now.stops c.args.lists.now.content
     (Lists c.in-Lists.offsets c.in-Lists.content) =
     rw c.in-Lists.is at c.in_ok-joined.ensures in
-    rw c.len-n.ensures.len (lists_rise c.args.lists.now.starts c.args.lists.now.stops c.args.lists.now.content
+    rw c.len-n.ensures.len (lists_rise c.args.lists.now.starts c.args.lists.now.stops
+    c.args.lists.now.content
     c.in-Lists.offsets c.in-Lists.content
     c.in_ok-items-in-Lists.items c.args.lists.now.class c.content.ensures.lists j.1
     c.in_ok-items-in-Lists.ensures)

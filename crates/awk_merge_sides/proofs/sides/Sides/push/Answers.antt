@@ -4,7 +4,9 @@ use Rattle.awk_merge_sides.proofs.SideLaws.{counted_push, on_err-anyway}
 use Rattle.awk_merge_sides.proofs.sides.Sides.push.Goals as goal
 
 pub returns-clause-counted : goal.returns-clause-counted
-returns-clause-counted c = counted_push c.args.self.now _ _ c.requires.counted c.in_ok-push.ensures.items (ap (λ n. c.args.self.now.total + n) c.len-n.ensures.len) (search rules)
+returns-clause-counted c =
+    counted_push c.args.self.now _ _ c.requires.counted c.in_ok-push.ensures.items
+    (ap (λ n. c.args.self.now.total + n) c.len-n.ensures.len) (search rules)
 
 pub returns-in_err-push-clause-err : goal.returns-in_err-push-clause-err
 returns-in_err-push-clause-err c =

@@ -8,7 +8,8 @@ use Rattle.awk_nulls.proofs.first_items.FirstListOp.column.Goals as goal
 pub first_places-requires : goal.first_places-requires
 first_places-requires g c = record {
   spans = rw (c.in_ok-starts.ensures, c.in_ok-stops.ensures, c.starts.ensures, c.stops.ensures)
-      (lists_within c.args.lists.now.class c.args.lists.now.starts c.args.lists.now.stops c.args.lists.now.content
+      (lists_within c.args.lists.now.class c.args.lists.now.starts c.args.lists.now.stops
+      c.args.lists.now.content
       c.content-content.ensures.lists);
 }
 

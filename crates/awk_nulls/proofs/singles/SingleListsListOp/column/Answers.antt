@@ -4,7 +4,8 @@ use Rattle.awk_nulls.proofs.SingleLaws.{singles_given, singles_spoilt, singles_f
 use Rattle.awk_nulls.proofs.singles.SingleListsListOp.column.Goals as goal
 
 pub returns-in-TooMany : goal.returns-in-TooMany
-returns-in-TooMany g c = singles_spoilt c.args.lists.now.starts c.args.lists.now.stops c.args.lists.now.content
+returns-in-TooMany g c =
+    singles_spoilt c.args.lists.now.starts c.args.lists.now.stops c.args.lists.now.content
     (rw c.in-TooMany.is at c.in_ok-joined.ensures)
 
 pub returns-in_ok-singles-in-Lists : goal.returns-in_ok-singles-in-Lists
@@ -13,7 +14,9 @@ returns-in_ok-singles-in-Lists g c =
     (Lists c.in-Lists.offsets c.in-Lists.content) =
     rw c.in-Lists.is at c.in_ok-joined.ensures in (
       singles_fine c.args.lists.now.starts c.args.lists.now.stops c.args.lists.now.content j.0,
-      singles_given c.args.lists.now.class c.args.lists.now.starts c.args.lists.now.stops c.args.lists.now.content
-          c.in-Lists.offsets c.in-Lists.content c.in_ok-singles-in-Lists.singles c.content.ensures.lists
+      singles_given c.args.lists.now.class c.args.lists.now.starts c.args.lists.now.stops
+          c.args.lists.now.content
+          c.in-Lists.offsets c.in-Lists.content c.in_ok-singles-in-Lists.singles
+          c.content.ensures.lists
           j.1 c.len.ensures.items c.in_ok-singles-in-Lists.ensures,
     )

@@ -5,7 +5,8 @@ use Rattle.awk_types.specs.View.{typ_of, typs_of, fields_of, names_of}
 use Rattle.awk_types.proofs.Views.{typ_of-Tup, typ_of-Uni, typ_of-Rec}
 use Rattle.awk_types.specs.declared.typ.Typ.{the_lemmas}
 use Rattle.awk_form.specs.View.{form_of, forms_of}
-use Rattle.awk_pack.proofs.FormLaws.{all_nodes-drop, form_each-drop, type_at, nodes-row, nodes-uni, packed-row, packed-uni, if_ok}
+use Rattle.awk_pack.proofs.FormLaws.{all_nodes-drop, form_each-drop, type_at, nodes-row, nodes-uni}
+use Rattle.awk_pack.proofs.FormLaws.{packed-row, packed-uni, if_ok}
 use Rattle.awk_pack.proofs.form.FormMaker.+form.Goals as goal
 
 pub contents-form-requires : goal.contents-form-requires

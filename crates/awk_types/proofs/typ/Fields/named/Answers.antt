@@ -10,12 +10,17 @@ loop-typ-preserved c =
     let f = named_type c.in_ok-name.name (typ_of c.in-Some.typ) in
     let made = fields_of c.loop-typ.made in
     let more = fields_of c.push.new.self in
-    let pushed : more ≡ made ++ f ∷ [] = c.in_ok-push.ensures.ok ∙ ap (λ g. made ++ g ∷ []) (field_of-roll c.in_ok-name.name c.in-Some.typ) in
+    let pushed : more ≡ made ++ f ∷ [] = c.in_ok-push.ensures.ok ∙ ap (λ g. made ++ g ∷ [])
+    (field_of-roll c.in_ok-name.name c.in-Some.typ) in
     let left = c.loop-typ.typ-iterator.rest.items in
     let later = c.next.new.self.rest.items in
     let rest : left ≡ c.in-Some.typ ∷ later = search rules in
     record {
-      names = map-take_next (λ (g : NamedType). g.name) made more f c.args.names.now pushed c.loop-typ.invariant.names (search rules);
-      types = shown-push (λ (g : NamedType). g.typ) typ_of made more f left later c.in-Some.typ pushed rest refl ∙ c.loop-typ.invariant.types;
+      names =
+          map-take_next (λ (g : NamedType). g.name) made more f c.args.names.now pushed
+          c.loop-typ.invariant.names (search rules);
+      types =
+          shown-push (λ (g : NamedType). g.typ) typ_of made more f left later c.in-Some.typ pushed
+          rest refl ∙ c.loop-typ.invariant.types;
       count = omega (arith, ap length pushed, length-append made (f ∷ []), ap length rest);
     }
