@@ -12,6 +12,7 @@
 
 mod bits;
 mod bytes;
+mod cells;
 mod counted;
 mod from_zero;
 mod index;

@@ -6,6 +6,7 @@ ghost use Rattle.awk_lanes.specs.Places.{size_of};
 ghost use Rattle.awk_lanes.specs.Words.{integers, unsigned, HasNats, IsByteKind};
 ghost use Rattle.awk_lanes.specs.declared.kind.Kind.TheVariants as Kind;
 
+use crate::cells::{naturals, widened};
 use crate::kind::Kind;
 use crate::lane::Lane;
 use crate::memory::NoMemory;
@@ -38,28 +39,13 @@ fn numbers_in(alloc: Global, kind: Kind, bytes: &[u8]) -> Result<Vec<i64>, NoMem
     let (fours, _) = bytes.as_chunks::<4>();
     let (eights, _) = bytes.as_chunks::<8>();
     match kind {
-        Kind::Bool | Kind::U8 => ones.iter().map(|[b]| *b as i64).collect(alloc),
-        Kind::I8 => ones
-            .iter()
-            .map(|b| i8::from_le_bytes(*b) as i64)
-            .collect(alloc),
-        Kind::I16 => twos
-            .iter()
-            .map(|b| i16::from_le_bytes(*b) as i64)
-            .collect(alloc),
-        Kind::I32 => fours
-            .iter()
-            .map(|b| i32::from_le_bytes(*b) as i64)
-            .collect(alloc),
-        Kind::I64 => eights.iter().map(|b| i64::from_le_bytes(*b)).collect(alloc),
-        Kind::U16 => twos
-            .iter()
-            .map(|b| u16::from_le_bytes(*b) as i64)
-            .collect(alloc),
-        Kind::U32 => fours
-            .iter()
-            .map(|b| u32::from_le_bytes(*b) as i64)
-            .collect(alloc),
+        Kind::Bool | Kind::U8 => widened::<1, u8>(alloc, ones),
+        Kind::I8 => widened::<1, i8>(alloc, ones),
+        Kind::I16 => widened::<2, i16>(alloc, twos),
+        Kind::I32 => widened::<4, i32>(alloc, fours),
+        Kind::I64 => widened::<8, i64>(alloc, eights),
+        Kind::U16 => widened::<2, u16>(alloc, twos),
+        Kind::U32 => widened::<4, u32>(alloc, fours),
         Kind::U64 => unreachable!(),
     }
 }
@@ -88,16 +74,10 @@ fn nats_in(alloc: Global, kind: Kind, bytes: &[u8]) -> Result<Vec<u64>, NoMemory
     let (fours, _) = bytes.as_chunks::<4>();
     let (eights, _) = bytes.as_chunks::<8>();
     match kind {
-        Kind::Bool | Kind::I8 | Kind::U8 => ones.iter().map(|[b]| *b as u64).collect(alloc),
-        Kind::I16 | Kind::U16 => twos
-            .iter()
-            .map(|b| u16::from_le_bytes(*b) as u64)
-            .collect(alloc),
-        Kind::I32 | Kind::U32 => fours
-            .iter()
-            .map(|b| u32::from_le_bytes(*b) as u64)
-            .collect(alloc),
-        Kind::I64 | Kind::U64 => eights.iter().map(|b| u64::from_le_bytes(*b)).collect(alloc),
+        Kind::Bool | Kind::I8 | Kind::U8 => naturals::<1, u8>(alloc, ones),
+        Kind::I16 | Kind::U16 => naturals::<2, u16>(alloc, twos),
+        Kind::I32 | Kind::U32 => naturals::<4, u32>(alloc, fours),
+        Kind::I64 | Kind::U64 => naturals::<8, u64>(alloc, eights),
     }
 }
 
