@@ -40,7 +40,7 @@ use Rattle.awk_axis.specs.Mapped.{GivesLists, IsColumn, IsMapped, IsAtAxis, IsLi
 use Rattle.awk_columns.specs.ListNode.{AreEven}
 use Rattle.awk_columns.specs.ListNode.{list_layout}
 use Rattle.awk_axis.specs.Mapped.{spoil_of_all, AreMapped}
-use Rattle.awk_columns.specs.Counted.{spans}
+use Rattle.awk_counts.specs.Counted.{spans}
 use Rattle.awk_columns.specs.Reached.{IsReached}
 use Rattle.awk_columns.proofs.ArrayLaws.{lists-inner, lists-among}
 use Rattle.awk_columns.proofs.OpeningLaws.{reached-items}

@@ -34,10 +34,10 @@ use Rattle.awk_columns.proofs.ArrayLaws.{array_items-at, map-same, simple_null, 
 use Rattle.awk_places.specs.Places.{place_count}
 use Rattle.awk_places.specs.Products.{product_count}
 use Rattle.awk_columns.proofs.OffsetLaws.{are_offsets, offset-length}
-use Rattle.awk_merge.specs.Concatenate.{row_of, row_count}
-use Rattle.awk_merge.specs.Operands.{column_in, list_place, IndexesAll}
-use Rattle.awk_merge.specs.declared.operands.Axis.{Axis}
-use Rattle.awk_merge.specs.declared.operands.Axis.TheVariants.{Arrays, Rows as ByRows}
+use Rattle.awk_merge_operands.specs.Concatenate.{row_of, row_count}
+use Rattle.awk_merge_operands.specs.Operands.{column_in, list_place, IndexesAll}
+use Rattle.awk_merge_operands.specs.declared.operands.Axis.{Axis}
+use Rattle.awk_merge_operands.specs.declared.operands.Axis.TheVariants.{Arrays, Rows as ByRows}
 use Rattle.awk_columns.proofs.ItemLimits.{over_limit, within_limit}
 use Rattle.awk_cartesian.specs.Cartesian.{has_null_rows, item_types, product_type, row_tuples}
 use Rattle.awk_cartesian.specs.Cartesian.{rows_tuples, product_values}

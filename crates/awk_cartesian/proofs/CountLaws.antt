@@ -13,7 +13,7 @@ use Rattle.awk_places.specs.Places.{place_lists, place_count}
 use Rattle.awk_places.proofs.FlatLaws.{append-none, range-more}
 use Rattle.awk_places.proofs.Levels.{length-place_lists}
 use Rattle.awk_places.proofs.RunLaws.{none_there}
-use Rattle.awk_merge.specs.Concatenate.{row_of, row_count}
+use Rattle.awk_merge_operands.specs.Concatenate.{row_of, row_count}
 use Rattle.awk_cartesian.specs.Cartesian.{row_tuples, rows_tuples}
 use Rattle.awk_products.specs.Tuples.{tuple_of, tuples_of}
 

@@ -32,8 +32,8 @@ use Rattle.awk_columns.specs.declared.opening.Opened.TheVariants as opened
 use Rattle.awk_columns.proofs.ArrayLaws.{array_items-at, map-same}
 use Rattle.awk_places.proofs.ProductLaws.{are_counts, count-at}
 use Rattle.awk_combi.proofs.SpanLaws.{within}
-use Rattle.awk_merge.specs.Operands.{list_place, values_by, IsListIndex}
-use Rattle.awk_merge.proofs.ListPlaceLaws.{place_within, indexes_all}
+use Rattle.awk_merge_operands.specs.Operands.{list_place, values_by, IsListIndex}
+use Rattle.awk_merge_operands.proofs.ListPlaceLaws.{place_within, indexes_all}
 use Rattle.awk_cartesian.specs.Cartesian.{list_item, rows_item}
 use Rattle.awk_cartesian.specs.Sources.{IsOpened}
 use Rattle.awk_products.specs.Sources.{IsSource, source_list, repeated, zeros}

@@ -22,9 +22,9 @@ use Rattle.awk_layout.specs.Typing.{array_type}
 use Rattle.awk_layout.specs.declared.datum.Datum.{Datum}
 use Rattle.awk_columns.specs.Columns.{is_present, list_items}
 use Rattle.awk_columns.proofs.ArrayLaws.{map-same}
-use Rattle.awk_merge.specs.Concatenate.{row_of, type_before}
-use Rattle.awk_merge.specs.Operands.{list_place, IndexesAll}
-use Rattle.awk_merge.specs.declared.operands.Axis.{Axis}
+use Rattle.awk_merge_operands.specs.Concatenate.{row_of, type_before}
+use Rattle.awk_merge_operands.specs.Operands.{list_place, IndexesAll}
+use Rattle.awk_merge_operands.specs.declared.operands.Axis.{Axis}
 use Rattle.awk_places.specs.Products.{no_lane}
 use Rattle.awk_cartesian.specs.Cartesian.{operand_item, item_types}
 use Rattle.awk_products.specs.Sources.{IsSource, source_list, AreSources, list_in, lists_in}

@@ -12,9 +12,9 @@ use Rattle.awk_layout.specs.Datum.{datum_of}
 use Rattle.awk_layout.specs.declared.datum.Datum.{Datum}
 use Rattle.awk_layout.specs.declared.datum.Datum.TheVariants.{Arr, One}
 use Rattle.awk_combi.specs.Combinations.{slot_type}
-use Rattle.awk_merge.specs.Concatenate.{type_before, operand_items}
-use Rattle.awk_merge.specs.Operands.{column_in}
-use Rattle.awk_merge.specs.declared.operands.Axis.{Axis}
+use Rattle.awk_merge_operands.specs.Concatenate.{type_before, operand_items}
+use Rattle.awk_merge_operands.specs.Operands.{column_in}
+use Rattle.awk_merge_operands.specs.declared.operands.Axis.{Axis}
 use Rattle.awk_cartesian.specs.Cartesian.{operand_item, item_types, has_null_rows}
 use Rattle.awk_cartesian.specs.Sources.{IsListed}
 

@@ -27,10 +27,10 @@ use Rattle.awk_layout.specs.declared.datum.Datum.TheVariants.{Arr, One}
 use Rattle.awk_layout.specs.Layout.{Layout}
 use Rattle.awk_layout.specs.Typing.{array_datum}
 use Rattle.awk_layout.specs.declared.datum.Datum.{Datum}
-use Rattle.awk_merge.specs.Concatenate.{are_long, row_count, lengths_fault}
-use Rattle.awk_merge.specs.Operands.{array_in, column_in, rows_refused}
-use Rattle.awk_merge.specs.declared.operands.Axis.{Axis}
-use Rattle.awk_merge.specs.declared.operands.Axis.TheVariants.{Arrays, Rows}
+use Rattle.awk_merge_operands.specs.Concatenate.{are_long, row_count, lengths_fault}
+use Rattle.awk_merge_operands.specs.Operands.{array_in, column_in, rows_refused}
+use Rattle.awk_merge_operands.specs.declared.operands.Axis.{Axis}
+use Rattle.awk_merge_operands.specs.declared.operands.Axis.TheVariants.{Arrays, Rows}
 use Rattle.awk_cartesian.specs.Cartesian.{item_types, product_type, product, product_by}
 use Rattle.awk_cartesian.specs.Cartesian.{product_fault, product_values, cartesian_at}
 use Rattle.awk_cartesian.specs.Products.{count_of, rows_fault, tuples_fault, counted_product}

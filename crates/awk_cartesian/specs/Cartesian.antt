@@ -14,10 +14,10 @@ use Rattle.awk_types.specs.declared.fault.Fault.{Fault}
 use Rattle.awk_types.specs.declared.fault.Fault.TheVariants as fault
 use Rattle.awk_columns.specs.Columns.{is_present, list_items, joined_items}
 use Rattle.awk_products.specs.Tuples.{tuple_type, tuples_of}
-use Rattle.awk_merge.specs.Concatenate.{axis_of, type_before, operand_items}
-use Rattle.awk_merge.specs.Concatenate.{row_of, row_count, lengths_fault}
-use Rattle.awk_merge.specs.declared.operands.Axis.{Axis}
-use Rattle.awk_merge.specs.declared.operands.Axis.TheVariants.{Arrays, Rows}
+use Rattle.awk_merge_operands.specs.Concatenate.{axis_of, type_before, operand_items}
+use Rattle.awk_merge_operands.specs.Concatenate.{row_of, row_count, lengths_fault}
+use Rattle.awk_merge_operands.specs.declared.operands.Axis.{Axis}
+use Rattle.awk_merge_operands.specs.declared.operands.Axis.TheVariants.{Arrays, Rows}
 
 -- ---- types
 

@@ -10,9 +10,9 @@ use Rattle.awk_lanes.specs.Column.{Column}
 use Rattle.awk_lanes.specs.Places.{size_of, IsOptionalIndex}
 use Rattle.awk_layout.specs.Layout.{Layout, offset_lists, optional}
 use Rattle.awk_columns.specs.Columns.{joined_items}
-use Rattle.awk_merge.specs.Concatenate.{row_count, lengths_fault}
-use Rattle.awk_merge.specs.declared.operands.Axis.{Axis}
-use Rattle.awk_merge.specs.declared.operands.Axis.TheVariants.{Arrays, Rows}
+use Rattle.awk_merge_operands.specs.Concatenate.{row_count, lengths_fault}
+use Rattle.awk_merge_operands.specs.declared.operands.Axis.{Axis}
+use Rattle.awk_merge_operands.specs.declared.operands.Axis.TheVariants.{Arrays, Rows}
 use Rattle.awk_cartesian.specs.Cartesian.{rows_tuples, product_values}
 use Rattle.awk_products.specs.Tuples.{tuples_of}
 use Rattle.awk_products.specs.declared.tuples.Tuples.{Tuples}

@@ -12,10 +12,10 @@ use Rattle.awk_layout.specs.Datum.{datum_of}
 use Rattle.awk_layout.specs.declared.datum.Datum.{Datum}
 use Rattle.awk_columns.specs.Columns.{is_present, list_items}
 use Rattle.awk_columns.specs.Lists.{Listed}
-use Rattle.awk_merge.specs.Concatenate.{row_of}
-use Rattle.awk_merge.specs.Operands.{column_in, list_place, IndexesAll}
-use Rattle.awk_merge.specs.declared.operands.Axis.{Axis}
-use Rattle.awk_merge.specs.declared.operands.Axis.TheVariants.{Arrays, Rows as ByRows}
+use Rattle.awk_merge_operands.specs.Concatenate.{row_of}
+use Rattle.awk_merge_operands.specs.Operands.{column_in, list_place, IndexesAll}
+use Rattle.awk_merge_operands.specs.declared.operands.Axis.{Axis}
+use Rattle.awk_merge_operands.specs.declared.operands.Axis.TheVariants.{Arrays, Rows as ByRows}
 use Rattle.awk_cartesian.specs.Cartesian.{has_null_rows, operand_item, item_types}
 use Rattle.awk_cartesian.specs.Spans.{first_lane, length_lane}
 use Rattle.awk_cartesian.specs.declared.sources.Source.{Source}

@@ -5,7 +5,7 @@ use Rattle.awk_lanes.specs.Column.{Column}
 use Rattle.awk_lanes.specs.Made.{lane_of}
 use Rattle.awk_lanes.specs.Places.{place_at}
 use Rattle.awk_columns.specs.Lists.{span_length}
-use Rattle.awk_merge.specs.Operands.{list_place}
+use Rattle.awk_merge_operands.specs.Operands.{list_place}
 
 -- where a list begins, but 0 where it is empty or null
 abbrev pub first_of : Column → Column → Option ℕ → ℕ

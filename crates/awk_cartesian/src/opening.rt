@@ -9,8 +9,8 @@ ghost use Rattle.awk_layout.specs.Datum.{datum_of};
 ghost use Rattle.awk_layout.specs.Typing.{array_type, array_items};
 ghost use Rattle.awk_layout.specs.Valid.{len};
 ghost use Rattle.awk_gather.specs.Arrays.{array_item};
-ghost use Rattle.awk_merge.specs.Operands as spec;
-ghost use Rattle.awk_merge.specs.Operands.{values_by, IndexHas, IsListIndex};
+ghost use Rattle.awk_merge_operands.specs.Operands as spec;
+ghost use Rattle.awk_merge_operands.specs.Operands.{values_by, IndexHas, IsListIndex};
 ghost use Rattle.awk_cartesian.specs.Cartesian.{list_item, rows_item, operand_item};
 ghost use Rattle.awk_cartesian.specs.Sources.{rows_in, may_be_null, IsOpened};
 ghost use Rattle.awk_cartesian.specs.Sources.{IsLists, IsOfLists, IsOfNone};
@@ -21,7 +21,7 @@ use crate::sources::Source;
 use awk_columns::{Bounds, Lists, Opened, open_array};
 use awk_lanes::{Arena, Kind, Lane, Num, Numbers, Steps, made_lane, number, option_place_in};
 use awk_layout::{Array, Datum};
-use awk_merge::Axis;
+use awk_merge_operands::Axis;
 use awk_products::repeated;
 use awk_types::{NoMemory, is_optional, is_unknown};
 use std::alloc::Global;
@@ -74,7 +74,7 @@ impl<'b, 'c, 'r, 'a> Numbers for Firsts<'b, 'c, 'r, 'a> {
     ghost use Rattle.std.specs.Prelude.{pos};
     ghost use Rattle.awk_lanes.specs.Places.{size_of};
     ghost use Rattle.awk_lanes.specs.declared.kind.Kind.TheVariants as Kinds;
-    ghost use Rattle.awk_merge.specs.Operands.{list_place, IsListIndex};
+    ghost use Rattle.awk_merge_operands.specs.Operands.{list_place, IsListIndex};
     ghost use Rattle.awk_cartesian.specs.Spans.{first_of};
 
     ghost kind = { λ _. Kinds.I64 };
@@ -105,7 +105,7 @@ impl<'b, 'c, 'r, 'a> Numbers for RowLengths<'b, 'c, 'r, 'a> {
     ghost use Rattle.std.specs.Prelude.{pos};
     ghost use Rattle.awk_lanes.specs.Places.{size_of};
     ghost use Rattle.awk_lanes.specs.declared.kind.Kind.TheVariants as Kinds;
-    ghost use Rattle.awk_merge.specs.Operands.{list_place, IsListIndex};
+    ghost use Rattle.awk_merge_operands.specs.Operands.{list_place, IsListIndex};
     ghost use Rattle.awk_cartesian.specs.Spans.{length_of};
 
     ghost kind = { λ _. Kinds.I64 };

@@ -1,14 +1,14 @@
 //! The rows of all operands.
 ghost use Rattle.std.specs.Prelude.{◌≡◌, ◌<◌, ◌^◌, IfOk, length};
 ghost use Rattle.std.specs.List.{AllByRecursion};
-ghost use Rattle.awk_merge.specs.Operands.{IndexesAll};
+ghost use Rattle.awk_merge_operands.specs.Operands.{IndexesAll};
 ghost use Rattle.awk_cartesian.specs.Sources.{rows_in, pushed, AreBoth, AreRows, IsListed};
 
 use crate::opening::{list_place, opened};
 use crate::sources::Source;
 use awk_lanes::{Arena, Kind, Lane, Num, Numbers, Steps, made_lane, number};
 use awk_layout::Datums;
-use awk_merge::Axis;
+use awk_merge_operands::Axis;
 use awk_products::Sources;
 use awk_types::NoMemory;
 use std::alloc::Global;
@@ -32,7 +32,7 @@ struct BothRows<'b, 'a> {
 impl<'b, 'a> Numbers for BothRows<'b, 'a> {
     ghost use Rattle.std.specs.Prelude.{◌<◌, ◌^◌};
     ghost use Rattle.awk_lanes.specs.declared.kind.Kind.TheVariants as Kinds;
-    ghost use Rattle.awk_merge.specs.Operands.{list_place, IndexesAll};
+    ghost use Rattle.awk_merge_operands.specs.Operands.{list_place, IndexesAll};
     ghost use Rattle.awk_cartesian.specs.Spans.{place_in_both};
 
     ghost kind = { λ _. Kinds.I64 };

@@ -5,13 +5,13 @@ ghost use Rattle.awk_types.specs.Simple.{is_option, option_if, IsSimple, AreSimp
 ghost use Rattle.awk_types.specs.View.{typ_of, typs_of};
 ghost use Rattle.awk_layout.specs.Datum.{datum_of};
 ghost use Rattle.awk_combi.specs.Combinations.{slot_type};
-ghost use Rattle.awk_merge.specs.Concatenate.{axis_of};
+ghost use Rattle.awk_merge_operands.specs.Concatenate.{axis_of};
 ghost use Rattle.awk_cartesian.specs.Cartesian as spec;
 ghost use Rattle.awk_cartesian.specs.Sources.{may_be_null};
 ghost use Rattle.std.specs.List.{list_any};
 
 use awk_layout::{Datum, Datums};
-use awk_merge::Axis;
+use awk_merge_operands::Axis;
 use awk_types::{NoMemory, Prim, Typ, Typs, copy_type};
 use std::alloc::Global;
 

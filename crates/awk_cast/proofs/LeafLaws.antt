@@ -11,7 +11,7 @@ use Rattle.std.proofs.lemmas.Simd.{map-map, pick_l_whole}
 use Rattle.awk_types.specs.DataType.{DataType, DataTypes, unknown, leaf, var, reg, rec, tup}
 use Rattle.awk_types.specs.DataType.{opt, uni}
 use Rattle.awk_types.specs.Faults.{fault_told}
-use Rattle.awk_types.specs.Fits.{fits}
+use Rattle.awk_primitives.specs.Fits.{fits}
 use Rattle.awk_types.specs.Gives.{Told}
 use Rattle.awk_types.specs.Has.{Has, Holds, least_number, greatest_number}
 use Rattle.awk_types.specs.Simple.{simple, option_if, simple_value}
@@ -20,7 +20,7 @@ use Rattle.awk_types.specs.declared.fault.Fault.{Fault}
 use Rattle.awk_types.specs.declared.fault.Fault.TheVariants as fault
 use Rattle.awk_types.specs.declared.primitive.Primitive.{Primitive}
 use Rattle.awk_types.specs.declared.primitive.Primitive.TheVariants as prim
-use Rattle.awk_types.proofs.RangeLaws.{holds_fits}
+use Rattle.awk_primitives.proofs.RangeLaws.{holds_fits}
 use Rattle.awk_lanes.specs.Column.{Column}
 use Rattle.awk_lanes.specs.Numbers.{element}
 use Rattle.awk_lanes.specs.Places.{size_of, at}

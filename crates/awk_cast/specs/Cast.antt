@@ -6,7 +6,7 @@ use Rattle.std.specs.List.{list_any}
 use Rattle.awk_types.specs.DataType.{DataType, DataTypes, unknown, leaf, var, reg, rec, tup, opt}
 use Rattle.awk_types.specs.DataType.{uni, no_types, type, types_from}
 use Rattle.awk_types.specs.Datum.{Datum, arr, one}
-use Rattle.awk_types.specs.Fits.{fits}
+use Rattle.awk_primitives.specs.Fits.{fits}
 use Rattle.awk_types.specs.Gives.{refused_or}
 use Rattle.awk_types.specs.ItemLimit.{item_limit}
 use Rattle.awk_types.specs.Predicates.{is_null}

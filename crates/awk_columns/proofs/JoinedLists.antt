@@ -25,13 +25,13 @@ use Rattle.awk_layout.proofs.Runs.{value_list-run}
 use Rattle.awk_layout.specs.Typing.{array_type, array_items, array_datum}
 use Rattle.awk_gather.specs.Arrays.{array_item, IsGathered}
 use Rattle.awk_columns.specs.Columns.{list_items, joined_items, offsets}
-use Rattle.awk_columns.specs.Counted.{first_of, span_at, spans, places_lane, offset_at}
-use Rattle.awk_columns.specs.Counted.{offsets_lane, AreBelow, IsRow}
+use Rattle.awk_counts.specs.Counted.{first_of, span_at, spans, places_lane, offset_at}
+use Rattle.awk_counts.specs.Counted.{offsets_lane, AreBelow, IsRow}
 use Rattle.awk_lanes.specs.Counted.{before, offsets_by}
 use Rattle.awk_columns.specs.Lists.{span_length}
 use Rattle.awk_columns.specs.ListValues.{list_at, list_values, joined_datum, AreJoined}
 use Rattle.awk_columns.specs.Reached.{IsReached}
-use Rattle.awk_columns.proofs.FirstPlaces.{length-first_of, first_of-mono, first_of-room}
+use Rattle.awk_counts.proofs.FirstPlaces.{length-first_of, first_of-mono, first_of-room}
 use Rattle.awk_lanes.proofs.MadeLanes.{size-lane_of, at-lane_of}
 use Rattle.awk_layout.proofs.ArrayItems.{length-array_items}
 use Rattle.awk_gather.proofs.PickedNodes.{run_same}

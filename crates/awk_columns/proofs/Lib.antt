@@ -1,7 +1,4 @@
-pub mod FirstPlaces
-pub mod PlaceLanes
 pub mod ReachedContents
-pub mod TaggedCounts
 pub mod SpanPlaces
 pub mod ResultLaws
 pub mod OrderedOptions

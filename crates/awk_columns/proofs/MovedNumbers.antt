@@ -22,10 +22,10 @@ use Rattle.awk_lanes.proofs.NumberParts.{number-take}
 use Rattle.awk_layout.specs.Item.{leaf_value}
 use Rattle.awk_layout.specs.Layout.{flat}
 use Rattle.awk_gather.specs.Arrays.{array_item}
-use Rattle.awk_columns.specs.Counted.{first_of, numbers_at, span_at}
+use Rattle.awk_counts.specs.Counted.{first_of, numbers_at, span_at}
 use Rattle.awk_columns.specs.Reached.{IsReached}
 use Rattle.awk_columns.proofs.ArrayLaws.{array_items-at}
-use Rattle.awk_columns.proofs.FirstPlaces.{first_of-more}
+use Rattle.awk_counts.proofs.FirstPlaces.{first_of-more}
 
 -- ---- bytes one after another
 

@@ -24,14 +24,14 @@ use Rattle.awk_layout.specs.Valid.{len}
 use Rattle.awk_layout.specs.Typing.{array_type, array_items, array_datum}
 use Rattle.awk_gather.specs.Arrays.{array_item}
 use Rattle.awk_columns.specs.Columns.{joined_items, list_items, offsets}
-use Rattle.awk_columns.specs.Counted.{first_of, span_at, spans, offset_at, offsets_lane}
+use Rattle.awk_counts.specs.Counted.{first_of, span_at, spans, offset_at, offsets_lane}
 use Rattle.awk_columns.specs.InOrder.{IsInOrder}
 use Rattle.awk_open.specs.Inner.{AreSized}
 use Rattle.awk_columns.specs.ListValues as gathered
 use Rattle.awk_open.specs.Opened.{IsListOf, AreLong, opened_item}
 use Rattle.awk_open.specs.Opened as gathers
 use Rattle.awk_open.specs.declared.opening.Opened.TheVariants as ordered
-use Rattle.awk_columns.proofs.FirstPlaces.{length-first_of, first_of-mono}
+use Rattle.awk_counts.proofs.FirstPlaces.{length-first_of, first_of-mono}
 use Rattle.awk_columns.proofs.JoinedLists.{offsets_lane-is, joined_items-is}
 use Rattle.awk_lanes.proofs.MadeLanes.{at-lane_of}
 use Rattle.awk_columns.specs.Joined.{IsJoined}

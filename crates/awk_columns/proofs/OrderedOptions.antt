@@ -19,13 +19,13 @@ use Rattle.awk_layout.specs.Item.{item, at_option}
 use Rattle.awk_layout.specs.Typing.{layout_type, array_type, array_items}
 use Rattle.awk_gather.specs.Arrays.{array_item}
 use Rattle.awk_columns.specs.Columns.{is_present, option_index}
-use Rattle.awk_columns.specs.Counted.{first_of, present_place, present_at, count_or_null}
-use Rattle.awk_columns.specs.Counted.{counted_at, counted_lane, AreBelow}
+use Rattle.awk_counts.specs.Counted.{first_of, present_place, present_at, count_or_null}
+use Rattle.awk_counts.specs.Counted.{counted_at, counted_lane, AreBelow}
 use Rattle.awk_columns.specs.InOrder.{IsInOrder}
 use Rattle.awk_open.specs.Opened.{IsOpened}
 use Rattle.awk_columns.specs.Reached.{IsReached}
 use Rattle.awk_open.specs.declared.opening.Opened.TheVariants.{Option as Optional}
-use Rattle.awk_columns.proofs.FirstPlaces.{first_of-room}
+use Rattle.awk_counts.proofs.FirstPlaces.{first_of-room}
 use Rattle.awk_lanes.proofs.MadeLanes.{size-lane_of, at-lane_of}
 use Rattle.awk_columns.proofs.ReachedContents.{below-first_of, first_of-at, reached-len}
 use Rattle.awk_columns.proofs.ReachedContents.{reached-item}

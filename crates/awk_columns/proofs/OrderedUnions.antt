@@ -21,13 +21,13 @@ use Rattle.awk_layout.specs.Place.{nth}
 use Rattle.awk_layout.specs.Typing.{array_type, array_items}
 use Rattle.awk_gather.specs.Arrays.{array_item}
 use Rattle.awk_columns.specs.Columns.{tag_of, alternative_values, tags, one_more, union_index}
-use Rattle.awk_columns.specs.Counted.{first_of, tagged_at, counted_tag, counted_tags, AreTagged}
-use Rattle.awk_columns.specs.Counted.{AreBelow}
+use Rattle.awk_counts.specs.Counted.{first_of, tagged_at, counted_tag, counted_tags, AreTagged}
+use Rattle.awk_counts.specs.Counted.{AreBelow}
 use Rattle.awk_columns.specs.InOrder.{IsInOrder, AreAlternatives}
 use Rattle.awk_open.specs.Opened.{IsOpened}
 use Rattle.awk_columns.specs.Reached.{IsReached, AreReached}
 use Rattle.awk_open.specs.declared.opening.Opened.TheVariants.{Union}
-use Rattle.awk_columns.proofs.FirstPlaces.{length-first_of, first_of-room}
+use Rattle.awk_counts.proofs.FirstPlaces.{length-first_of, first_of-room}
 use Rattle.awk_open.proofs.LayoutParts.{len_of-get, len_of-nth}
 use Rattle.awk_lanes.proofs.MadeLanes.{size-lane_of, at-lane_of}
 use Rattle.awk_columns.proofs.OrderedOptions.{array_items-is, map-same}

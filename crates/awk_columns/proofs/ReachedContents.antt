@@ -16,9 +16,9 @@ use Rattle.awk_layout.specs.Valid.{len}
 use Rattle.awk_layout.specs.Item.{at_option}
 use Rattle.awk_layout.specs.Typing.{array_type, array_items}
 use Rattle.awk_gather.specs.Arrays.{array_item, pick}
-use Rattle.awk_columns.specs.Counted.{first_of, places_lane, AreBelow, IsRun}
+use Rattle.awk_counts.specs.Counted.{first_of, places_lane, AreBelow, IsRun}
 use Rattle.awk_columns.specs.Reached.{IsReached}
-use Rattle.awk_columns.proofs.FirstPlaces.{first_of-more, length-first_of, first_of-mono}
+use Rattle.awk_counts.proofs.FirstPlaces.{first_of-more, length-first_of, first_of-mono}
 use Rattle.awk_gather.proofs.FollowedIndexes.{item_at_place}
 use Rattle.awk_layout.proofs.ArrayItems.{length-array_items, get_or-array_items}
 use Rattle.awk_gather.proofs.GatheredArrays.{at-I64}

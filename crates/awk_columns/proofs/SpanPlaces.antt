@@ -9,9 +9,9 @@ use Rattle.awk_lanes.specs.Column.{Column}
 use Rattle.awk_lanes.specs.Making.{Making, with_item}
 use Rattle.awk_lanes.specs.Numbers.{nat_of}
 use Rattle.awk_lanes.specs.Places.{size_of}
-use Rattle.awk_columns.specs.Counted.{first_of, span_at, spans, places_lane, IsRow, IsRun}
-use Rattle.awk_columns.proofs.FirstPlaces.{first_of-more, length-first_of, first_of-room}
-use Rattle.awk_columns.proofs.PlaceLanes.{ArePlaces, places_pushed, places_room}
+use Rattle.awk_counts.specs.Counted.{first_of, span_at, spans, places_lane, IsRow, IsRun}
+use Rattle.awk_counts.proofs.FirstPlaces.{first_of-more, length-first_of, first_of-room}
+use Rattle.awk_counts.proofs.PlaceLanes.{ArePlaces, places_pushed, places_room}
 use Rattle.awk_columns.proofs.ReachedContents.{at-places_lane}
 
 -- numbers in a row, in two parts

@@ -9,7 +9,7 @@ use Rattle.awk_layout.specs.Typing.{array_type, array_items}
 use Rattle.awk_layout.specs.Item.{run}
 use Rattle.awk_columns.specs.Opened.{items_at}
 use Rattle.awk_gather.specs.Arrays.{array_item}
-use Rattle.awk_columns.specs.Counted.{offsets_lane}
+use Rattle.awk_counts.specs.Counted.{offsets_lane}
 use Rattle.awk_types.specs.ItemLimit.{item_limit}
 use Rattle.awk_columns.specs.declared.lists.Joined.{Joined}
 use Rattle.awk_columns.specs.declared.lists.Joined.TheVariants.{TooMany, Lists}

@@ -1,5 +1,4 @@
 pub mod Columns
-pub mod Counted
 pub mod InOrder
 pub mod Reached
 pub mod ListValues

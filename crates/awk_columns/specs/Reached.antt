@@ -6,7 +6,7 @@ use Rattle.awk_layout.specs.Layout.{Layout}
 use Rattle.awk_layout.specs.Valid.{IsValid}
 use Rattle.awk_layout.specs.Typing.{array_type, array_items}
 use Rattle.awk_gather.specs.Arrays.{array_item}
-use Rattle.awk_columns.specs.Counted.{first_of, tagged_at}
+use Rattle.awk_counts.specs.Counted.{first_of, tagged_at}
 
 -- z holds the items of y at places
 pub record IsReached (y : Layout) (ks : List ℕ) (z : Layout) : Type 0 where

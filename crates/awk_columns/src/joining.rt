@@ -7,7 +7,7 @@ ghost use Rattle.awk_lanes.specs.declared.kind.Kind.TheVariants as Kind;
 ghost use Rattle.awk_layout.specs.Typing.{array_type, array_datum};
 ghost use Rattle.awk_layout.specs.Valid.{len};
 ghost use Rattle.awk_columns.specs.Columns.{offsets as offsets_of};
-ghost use Rattle.awk_columns.specs.Counted.{spans};
+ghost use Rattle.awk_counts.specs.Counted.{spans};
 ghost use Rattle.awk_columns.specs.ListValues.{list_values, joined_datum, AreJoined};
 ghost use Rattle.awk_columns.specs.Reached.{IsReached};
 

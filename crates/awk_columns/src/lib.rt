@@ -8,7 +8,6 @@
 #![tactic(auto)]
 
 mod bounds;
-mod counted;
 mod joining;
 mod lists;
 mod moved;
@@ -16,7 +15,6 @@ mod opening;
 mod order;
 mod places;
 mod spans;
-mod tagged;
 mod taken;
 
 pub use bounds::Bounds;

@@ -1,7 +1,7 @@
 //! Lists of one class, as one value.
 ghost use Rattle.std.specs.Prelude.{◌≡◌, ◌<◌, ◌^◌, IfOk};
 ghost use Rattle.awk_lanes.specs.Places.{size_of};
-ghost use Rattle.awk_columns.specs.Counted.{spans};
+ghost use Rattle.awk_counts.specs.Counted.{spans};
 ghost use Rattle.awk_columns.specs.Joined.{IsJoined};
 ghost use Rattle.awk_columns.specs.Lists.{AreLists, span_length};
 ghost use Rattle.awk_columns.specs.Reached.{IsReached};

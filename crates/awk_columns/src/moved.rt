@@ -4,7 +4,7 @@ ghost use Rattle.awk_lanes.specs.Places.{size_of, AreSpans};
 ghost use Rattle.awk_layout.specs.Layout.{flat};
 ghost use Rattle.awk_layout.specs.Typing.{array_type};
 ghost use Rattle.awk_layout.specs.Valid.{len};
-ghost use Rattle.awk_columns.specs.Counted.{numbers_at, spans};
+ghost use Rattle.awk_counts.specs.Counted.{numbers_at, spans};
 ghost use Rattle.awk_columns.specs.Reached.{IsReached};
 
 use crate::spans::{span_lane, span_of};

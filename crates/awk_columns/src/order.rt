@@ -5,16 +5,15 @@ ghost use Rattle.awk_lanes.specs.Places.{size_of};
 ghost use Rattle.awk_layout.specs.Layout.{Layout, layouts_from, optional, union as united};
 ghost use Rattle.awk_layout.specs.Typing.{array_type, array_items};
 ghost use Rattle.awk_layout.specs.Valid.{len, IsValid};
-ghost use Rattle.awk_columns.specs.Counted.{first_of, tagged_at, AreBelow, AreTagged};
+ghost use Rattle.awk_counts.specs.Counted.{first_of, tagged_at, AreBelow, AreTagged};
 ghost use Rattle.awk_columns.specs.InOrder.{IsInOrder};
 ghost use Rattle.awk_open.specs.Inner.{IsInner, AreSized};
 ghost use Rattle.awk_open.specs.Opened.{IsOpened};
 ghost use Rattle.awk_columns.specs.Reached.{IsReached, AreReached};
 ghost use Rattle.awk_open.specs.declared.opening.Opened.TheVariants as Opened;
 
-use crate::counted::{count_present, counted, present_lane};
-use crate::tagged::{count_tagged, counted_union, tagged_lane};
 use crate::taken::taken;
+use awk_counts::{count_present, count_tagged, counted, counted_union, present_lane, tagged_lane};
 use awk_lanes::{Arena, Index, Lane, Steps, index_of};
 use awk_layout::{Array, Arrays};
 use awk_open::{Opened, opened};

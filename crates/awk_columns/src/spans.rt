@@ -2,7 +2,7 @@
 ghost use Rattle.std.specs.Prelude.{◌≡◌, ℕ, ◌+◌, ◌-◌, ◌<◌, ◌≤◌, ◌^◌, length, IfOk, IfSome, IsTrue};
 ghost use Rattle.std.specs.List.{range_with_len};
 ghost use Rattle.awk_lanes.specs.Places.{size_of, AreSpans};
-ghost use Rattle.awk_columns.specs.Counted.{places_lane, span_at, spans, IsRow, IsTotal};
+ghost use Rattle.awk_counts.specs.Counted.{places_lane, span_at, spans, IsRow, IsTotal};
 ghost use Rattle.awk_columns.specs.Lists.{span_length};
 
 use awk_lanes::{Arena, Index, IndexMaker, Lane, Lengths, NoMemory, Steps, number, to_place};

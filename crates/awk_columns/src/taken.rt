@@ -5,7 +5,7 @@ ghost use Rattle.awk_lanes.specs.declared.kind.Kind.TheVariants as Kind;
 ghost use Rattle.awk_layout.specs.Typing.{array_type, array_items};
 ghost use Rattle.awk_layout.specs.Valid.{len};
 ghost use Rattle.awk_gather.specs.Arrays.{pick};
-ghost use Rattle.awk_columns.specs.Counted.{IsRun};
+ghost use Rattle.awk_counts.specs.Counted.{IsRun};
 
 use awk_gather::gather;
 use awk_lanes::{Arena, Index, Lane, NoMemory, Steps, to_place, wide_index};

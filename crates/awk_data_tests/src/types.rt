@@ -3,9 +3,10 @@
 ghost use Rattle.std.specs.Prelude.{◌<◌, length};
 ghost use Rattle.awk_types.specs.View.{typs_of};
 
+use awk_primitives::promote;
 use awk_types::{
     Fields, Name, Names, NoMemory, Prim, Typ, TypeFault, Typs, Wholes, copy_type, levels, opt_of,
-    promote, same, turned_axis, uni_of,
+    same, turned_axis, uni_of,
 };
 use std::alloc::Global;
 use std::process::Abort;

@@ -57,7 +57,7 @@ use Rattle.awk_zip.specs.Zip.{zip_of}
 use Rattle.awk_lists.specs.WithoutField.{choice_of, without_field_of}
 use Rattle.awk_with_field.specs.WithField.{with_field_of}
 use Rattle.awk_nulls.specs.DropNone.{drop_none_of}
-use Rattle.awk_merge.specs.Concatenate.{concatenate_of}
+use Rattle.awk_merge_operands.specs.Concatenate.{concatenate_of}
 use Rattle.awk_hist.specs.HistEach.{histogram}
 use Rattle.awk_reduce.specs.Reduce.{reduce_of}
 use Rattle.awk_reduce.specs.declared.reducer.Reducer.{Reducer}

@@ -8,7 +8,7 @@ ghost use Rattle.awk_arguments.specs.Fixed.{place_in, truth_in};
 ghost use Rattle.awk_arguments.specs.Operand.{only_in, both_in, data_in};
 ghost use Rattle.awk_arguments.specs.OperandView.{shown_operands};
 ghost use Rattle.awk_arguments.specs.Axes as axes;
-ghost use Rattle.awk_merge.specs.Concatenate.{concatenate_of};
+ghost use Rattle.awk_merge_operands.specs.Concatenate.{concatenate_of};
 ghost use Rattle.awk_eval.specs.Eval as meaning;
 
 use crate::picks::pick_of;

@@ -29,7 +29,7 @@ use Rattle.awk_gather.specs.Picked.{IsPicked}
 use Rattle.awk_gather.specs.Peeled.{IsPeeled, IsPickedOpt}
 use Rattle.awk_gather.proofs.ArrayAnswers.{datum_or_fault}
 use Rattle.awk_gather.proofs.FollowedIndexes.{item_at_place}
-use Rattle.awk_gather.proofs.PickedLanes.{optional_of_places}
+use Rattle.awk_gather_lanes.proofs.PickedLanes.{optional_of_places}
 use Rattle.awk_gather.proofs.OptionItems.{item-optional}
 
 pub picked_item : (x : Layout) (z : ℤ) → z <ℤ pos (len x)

@@ -1,5 +1,3 @@
-pub mod MovedGroups
-pub mod PickedLanes
 pub mod FollowedIndexes
 pub mod PickedNodes
 pub mod AlikeNodes

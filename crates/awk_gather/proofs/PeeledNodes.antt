@@ -17,7 +17,7 @@ use Rattle.awk_gather.specs.Arrays.{array_item}
 use Rattle.awk_gather.specs.Peeled.{followed, byte_index, bit_index, IsBare, IsPeeled}
 use Rattle.awk_gather.proofs.OptionItems.{item-optional, item-byte_masked, item-bit_masked}
 use Rattle.awk_gather.proofs.OptionItems.{item-unmasked}
-use Rattle.awk_gather.proofs.PickedLanes.{below_of_place}
+use Rattle.awk_gather_lanes.proofs.PickedLanes.{below_of_place}
 use Rattle.awk_gather.proofs.FollowedIndexes.{size-followed, at-followed, index_followed}
 use Rattle.awk_gather.proofs.FollowedIndexes.{item_through, through_pos, item_at_place}
 use Rattle.awk_gather.proofs.FollowedIndexes.{item_if_shown, below_if_shown}

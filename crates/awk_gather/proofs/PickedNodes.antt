@@ -13,20 +13,36 @@ use Rattle.awk_lanes.specs.Places.{IsOptionalIndex}
 use Rattle.awk_layout.specs.Layout.{Layout, Layouts, empty, flat, regular, lists, offset_lists}
 use Rattle.awk_layout.specs.Layout.{indexed, optional, byte_masked, bit_masked, unmasked, union}
 use Rattle.awk_layout.specs.Layout.{height}
-use Rattle.awk_layout.specs.Valid.{len, IsValid}
+use Rattle.awk_layout.specs.Valid.{len, IsValid, IsUnion}
 use Rattle.awk_layout.specs.Laws.{len-fits}
 use Rattle.awk_layout.specs.Item.{item, leaf_value, run, at_option, byte_shows, bit_shows}
-use Rattle.awk_gather.specs.Lanes.{picked, nexts, blocks, AreBlocks}
+use Rattle.awk_gather_lanes.specs.Lanes.{picked, nexts, blocks, AreBlocks}
 use Rattle.awk_gather.specs.Peeled.{followed, byte_index, bit_index}
 use Rattle.awk_gather.specs.Picked.{IsPicked}
-use Rattle.awk_gather.proofs.PickedLanes.{size-picked, at-picked, size-nexts, at-nexts, size-blocks}
-use Rattle.awk_gather.proofs.PickedLanes.{at-blocks, block_at-is, places_le, index_picked}
-use Rattle.awk_gather.proofs.PickedLanes.{optional_picked, spans_picked, spans_of_offsets}
-use Rattle.awk_gather.proofs.PickedLanes.{union_picked, optional_of_places, blocks_of_places}
-use Rattle.awk_gather.proofs.PickedLanes.{places_of_blocks}
+use Rattle.awk_gather_lanes.proofs.PickedLanes.{size-picked, at-picked, size-nexts, at-nexts}
+use Rattle.awk_gather_lanes.proofs.PickedLanes.{size-blocks}
+use Rattle.awk_gather_lanes.proofs.PickedLanes.{at-blocks, block_at-is, places_le, index_picked}
+use Rattle.awk_gather_lanes.proofs.PickedLanes.{optional_picked, spans_picked, spans_of_offsets}
+use Rattle.awk_gather_lanes.proofs.PickedLanes.{optional_of_places, blocks_of_places}
+use Rattle.awk_gather_lanes.proofs.PickedLanes.{places_of_blocks}
 use Rattle.awk_gather.proofs.FollowedIndexes.{size-followed, at-followed, index_followed}
 use Rattle.awk_gather.proofs.FollowedIndexes.{item_through, item_at_place, item_if_shown}
 use Rattle.awk_gather.proofs.FollowedIndexes.{below_if_shown}
+
+pub union_picked : (t j p : Column) (xs : Layouts) → IsUnion t j xs → IsIndex p (size_of t)
+    → IsUnion (picked t p) (picked j p) xs
+union_picked t j p xs v h = record {
+  some = v.some;
+  tag_kind = v.tag_kind;
+  index_kind = v.index_kind;
+  same_size = size-picked t p ∙ sym (size-picked j p);
+  tags = λ i k.
+      let k' : i < size_of p = omega (arith, size-picked t p) in
+      rw (at-picked t p i k') (v.tags (place_at p i) (h.places i k').1);
+  places = λ i k.
+      let k' : i < size_of p = omega (arith, size-picked t p) in
+      rw (at-picked t p i k', at-picked j p i k') (v.places (place_at p i) (h.places i k').1);
+}
 
 pub empty_picked : (p : Column) → IsIndex p 0 → IsPicked empty p empty
 empty_picked p h = record {

@@ -12,8 +12,8 @@ ghost use Rattle.awk_gather.specs.Picked.{IsPicked};
 
 use crate::alike::pick_alike;
 use crate::follow::{follow_bits, follow_bytes};
-use crate::lanes_at::{block_lane, gather_lane, next_lane};
 use crate::rows::gather_rows;
+use awk_gather_lanes::{block_lane, gather_lane, next_lane};
 use awk_lanes::{Arena, Bits, Lane, NoMemory, Steps};
 use awk_layout::{Class, Node, Nodes};
 use std::alloc::{AllocError, Global};

@@ -6,7 +6,7 @@ ghost use Rattle.awk_layout.specs.Layout.{indexed};
 ghost use Rattle.awk_layout.specs.Valid.{len};
 ghost use Rattle.awk_gather.specs.Arrays.{index_over};
 
-use crate::moved::narrowed;
+use awk_gather_lanes::narrowed;
 use awk_lanes::{Arena, Lane, NoMemory, Steps};
 use awk_layout::Node;
 use std::alloc::Global;

@@ -26,7 +26,7 @@ use Rattle.awk_layout.specs.Typing.{array_type, array_items}
 use Rattle.awk_layout.specs.Valid.{len}
 use Rattle.awk_layout.proofs.Runs.{value_list-run}
 use Rattle.awk_gather.specs.Arrays.{array_item}
-use Rattle.awk_columns.specs.Counted.{offset_at}
+use Rattle.awk_counts.specs.Counted.{offset_at}
 use Rattle.awk_columns.specs.Joined.{JoinsLists, total, IsJoined}
 use Rattle.awk_columns.specs.ListClass.{Class}
 use Rattle.awk_columns.specs.Opened.{items_at, all_items_at}

@@ -15,13 +15,14 @@ use Rattle.awk_types.specs.ItemLimit.{too_many}
 use Rattle.awk_types.specs.Limit.{limit}
 use Rattle.awk_types.specs.Value.{Value}
 use Rattle.awk_types.proofs.RefusalLaws.{refused_or-Ok, refused_or-None}
-use Rattle.awk_merge.specs.Concatenate.{concatenate_of, operand_items, operand_types, type_before}
-use Rattle.awk_merge.specs.Concatenate.{joined_as, carried_columns, stacked, values_fault}
-use Rattle.awk_merge.specs.declared.operands.Axis.TheVariants.{Arrays}
+use Rattle.awk_merge_operands.specs.Concatenate.{concatenate_of, operand_items, operand_types}
+use Rattle.awk_merge_operands.specs.Concatenate.{type_before}
+use Rattle.awk_merge_operands.specs.Concatenate.{joined_as, carried_columns, stacked, values_fault}
+use Rattle.awk_merge_operands.specs.declared.operands.Axis.TheVariants.{Arrays}
 use Rattle.awk_unify.specs.After.{after}
 use Rattle.awk_unify.specs.Carries.{carry_at}
 use Rattle.awk_unify.specs.Carry.{Carry, carried, keep}
-use Rattle.awk_types.proofs.SameTypeLaws.{same_type-refl}
+use Rattle.awk_unify.proofs.SameTypeLaws.{same_type-refl}
 use Rattle.std.proofs.lemmas.List.{append-nil, append_assoc}
 use Rattle.awk_types.specs.Predicates.{is_unknown}
 use Rattle.awk_unify.specs.Early.{as_it_is, early}

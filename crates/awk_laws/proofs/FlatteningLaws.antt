@@ -16,7 +16,7 @@ use Rattle.awk_types.specs.WholeNumbers.{is_numbers}
 use Rattle.awk_types.specs.declared.fault.Fault.TheVariants.{Lengths}
 use Rattle.awk_types.specs.declared.primitive.Primitive.TheVariants.{I64}
 use Rattle.awk_types.proofs.RefusalLaws.{refused_or-Ok, refused_or-None, or-both}
-use Rattle.awk_types.proofs.SettleLimits.{limit-settle}
+use Rattle.awk_view.proofs.SettleLimits.{limit-settle}
 use Rattle.awk_columns.specs.Columns.{joined_items}
 use Rattle.awk_columns.specs.ListClass.{Class, list_type}
 use Rattle.awk_lists.specs.Flatten.{flatten_of}

@@ -20,9 +20,9 @@ use Rattle.awk_types.specs.Value.{values_from}
 use Rattle.awk_types.specs.Faults.{limit_fault}
 use Rattle.awk_types.specs.declared.fault.Fault.{Fault}
 use Rattle.awk_types.specs.declared.fault.Fault.TheVariants as fault
-use Rattle.awk_types.proofs.RangeLaws.{fits_holds}
+use Rattle.awk_primitives.proofs.RangeLaws.{fits_holds}
 use Rattle.awk_types.proofs.RefusalLaws.{refused_or-Ok, refused_or-None, or-both}
-use Rattle.awk_types.proofs.SettleLimits.{limit-settle}
+use Rattle.awk_view.proofs.SettleLimits.{limit-settle}
 use Rattle.awk_types.proofs.SimpleLaws.{simple_stays, value_stays, each_stays, present_simple}
 use Rattle.awk_types.proofs.SimpleLaws.{present_stays, in_option_stays}
 use Rattle.awk_axis.specs.declared.causes.Refusal.{Refusal}

@@ -15,8 +15,8 @@ use Rattle.awk_types.proofs.RefusalLaws.{refused_or-Ok}
 use Rattle.awk_types.proofs.Trees.{value_list-from}
 use Rattle.awk_columns.specs.Columns.{is_present, list_items}
 use Rattle.awk_places.specs.Places.{place_count}
-use Rattle.awk_merge.specs.Concatenate.{operand_items, row_count, row_of}
-use Rattle.awk_merge.specs.declared.operands.Axis.TheVariants.{Arrays, Rows}
+use Rattle.awk_merge_operands.specs.Concatenate.{operand_items, row_count, row_of}
+use Rattle.awk_merge_operands.specs.declared.operands.Axis.TheVariants.{Arrays, Rows}
 use Rattle.awk_cartesian.specs.Cartesian.{cartesian_of, product_by, product_fault}
 use Rattle.awk_products.specs.Tuples.{tuples_of}
 use Rattle.awk_cartesian.specs.Cartesian.{product_type, item_types, row_tuples, rows_tuples}

@@ -13,7 +13,7 @@ use Rattle.awk_lists.specs.LocalIndex.{local_index_of}
 use Rattle.awk_lists.specs.Num.{num_of}
 use Rattle.awk_lists.specs.Unflatten.{unflatten_of}
 use Rattle.awk_lists.specs.WithoutField.{choice_of, without_field_of}
-use Rattle.awk_merge.specs.Concatenate.{concatenate_of}
+use Rattle.awk_merge_operands.specs.Concatenate.{concatenate_of}
 use Rattle.awk_nulls.specs.DropNone.{drop_none_of}
 use Rattle.awk_nulls.specs.Firsts.{firsts_of}
 use Rattle.awk_nulls.specs.PadNone.{pad_none_of}

@@ -6,7 +6,7 @@ use Rattle.awk_types.specs.Datum.{Datum, arr, one}
 use Rattle.awk_types.specs.Limit.{limit}
 use Rattle.awk_types.specs.Value.{Value}
 use Rattle.awk_types.specs.declared.fault.Fault.{Fault}
-use Rattle.awk_merge.specs.Concatenate.{concatenate_of, operand_items}
+use Rattle.awk_merge_operands.specs.Concatenate.{concatenate_of, operand_items}
 use Rattle.awk_select.specs.Picks.{step_range_of}
 use Rattle.awk_unify.specs.Carries.{carry_at}
 use Rattle.awk_unify.specs.Carry.{carried}

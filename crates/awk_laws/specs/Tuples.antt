@@ -8,7 +8,7 @@ use Rattle.awk_types.specs.Simple.{IsSimple}
 use Rattle.awk_types.specs.Value.{Value, null}
 use Rattle.awk_columns.specs.Columns.{is_present, list_items}
 use Rattle.awk_places.specs.Places.{rising_places, place_count}
-use Rattle.awk_merge.specs.Concatenate.{operand_items, row_of}
+use Rattle.awk_merge_operands.specs.Concatenate.{operand_items, row_of}
 use Rattle.awk_combi.specs.Combinations.{combinations_of, tuples}
 use Rattle.awk_products.specs.Tuples.{tuples_of}
 use Rattle.awk_cartesian.specs.Cartesian.{cartesian_of}

@@ -4,8 +4,8 @@ use Rattle.std.specs.Prelude.{if◌then◌else◌}
 use Rattle.awk_types.specs.declared.primitive.Primitive.{Primitive}
 use Rattle.awk_types.specs.declared.primitive.Primitive.TheVariants.{I64}
 use Rattle.awk_types.specs.declared.primitive.Primitive.TheVariants.{Bool as Truths}
-use Rattle.awk_types.specs.Fits.{fits}
-use Rattle.awk_types.specs.Promotion.{is_whole, promotion}
+use Rattle.awk_primitives.specs.Fits.{fits}
+use Rattle.awk_primitives.specs.Promotion.{is_whole, promotion}
 use Rattle.awk_leaves.specs.declared.leaf_type.LeafType.{LeafType}
 use Rattle.awk_leaves.specs.declared.leaf_type.LeafType.TheVariants.{Of, Unknown, Literal}
 

@@ -1,9 +1,10 @@
 //! What the leaves of an operand are of, and which primitive they take beside others.
 ghost use Rattle.std.specs.Prelude.{◌≡◌};
-ghost use Rattle.awk_types.specs.Promotion.{is_whole};
+ghost use Rattle.awk_primitives.specs.Promotion.{is_whole};
 ghost use Rattle.awk_leaves.specs.LeafTypes as spec;
 
-use awk_types::{Prim, fits, promote};
+use awk_primitives::{fits, promote};
+use awk_types::Prim;
 
 /// What the leaves of an operand are of.
 #[derive(Clone, Copy, Debug, PartialEq, Eq)]

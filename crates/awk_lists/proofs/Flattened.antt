@@ -23,8 +23,8 @@ use Rattle.awk_layout.specs.Valid.{len}
 use Rattle.awk_layout.proofs.ArrayItems.{length-array_items}
 use Rattle.awk_gather.specs.Arrays.{array_item}
 use Rattle.awk_columns.specs.Columns.{joined_items}
-use Rattle.awk_gather.specs.Lanes.{picked}
-use Rattle.awk_gather.proofs.PickedLanes.{size-picked, at-picked}
+use Rattle.awk_gather_lanes.specs.Lanes.{picked}
+use Rattle.awk_gather_lanes.proofs.PickedLanes.{size-picked, at-picked}
 use Rattle.awk_columns.specs.Joined.{AreOffsets, JoinsLists}
 use Rattle.awk_axis.specs.Lifting.{lift}
 use Rattle.awk_columns.specs.ListClass.{Class}

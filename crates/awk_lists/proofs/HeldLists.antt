@@ -21,12 +21,12 @@ use Rattle.awk_layout.proofs.ArrayItems.{length-array_items}
 use Rattle.awk_layout.proofs.Runs.{length-run}
 use Rattle.awk_gather.specs.Arrays.{array_item, IsGathered}
 use Rattle.awk_columns.specs.Columns.{joined_items, list_items, present_values}
-use Rattle.awk_columns.specs.Counted.{AreBelow, first_of, places_lane}
-use Rattle.awk_gather.specs.Lanes.{picked}
+use Rattle.awk_counts.specs.Counted.{AreBelow, first_of, places_lane}
+use Rattle.awk_gather_lanes.specs.Lanes.{picked}
 use Rattle.awk_columns.specs.Reached.{IsReached}
-use Rattle.awk_columns.proofs.FirstPlaces.{length-first_of}
+use Rattle.awk_counts.proofs.FirstPlaces.{length-first_of}
 use Rattle.awk_lanes.proofs.MadeLanes.{size-lane_of, at-lane_of}
-use Rattle.awk_gather.proofs.PickedLanes.{size-picked, at-picked}
+use Rattle.awk_gather_lanes.proofs.PickedLanes.{size-picked, at-picked}
 use Rattle.awk_columns.proofs.ReachedContents.{below-first_of, places_index, reached_by}
 use Rattle.awk_columns.specs.ListClass.{Class, list_type}
 use Rattle.awk_columns.specs.Opened.{OpensLists, OpensOption}

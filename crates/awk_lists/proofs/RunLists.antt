@@ -27,8 +27,8 @@ use Rattle.awk_layout.specs.Layout.{Layout, flat}
 use Rattle.awk_layout.specs.Typing.{array_type, array_items}
 use Rattle.awk_layout.specs.Valid.{len}
 use Rattle.awk_gather.specs.Arrays.{array_item}
-use Rattle.awk_columns.specs.Counted.{first_of}
-use Rattle.awk_columns.proofs.FirstPlaces.{length-first_of}
+use Rattle.awk_counts.specs.Counted.{first_of}
+use Rattle.awk_counts.proofs.FirstPlaces.{length-first_of}
 use Rattle.awk_lanes.proofs.MadeLanes.{size-lane_of, at-lane_of}
 use Rattle.awk_columns.specs.Joined.{AreOffsets, JoinsLists, total, IsJoined}
 use Rattle.awk_columns.specs.ListClass.{Class}

@@ -11,7 +11,7 @@ use Rattle.awk_layout.specs.Valid.{len, IsValid}
 use Rattle.awk_layout.specs.Typing.{array_type, array_items}
 use Rattle.awk_gather.specs.Arrays.{array_item}
 use Rattle.awk_columns.specs.Columns.{list_items}
-use Rattle.awk_columns.specs.Counted.{first_of}
+use Rattle.awk_counts.specs.Counted.{first_of}
 use Rattle.awk_lanes.specs.Made.{lane_of}
 use Rattle.awk_list_ends.specs.Ends.{span_length}
 

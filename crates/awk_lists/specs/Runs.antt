@@ -5,7 +5,7 @@ use Rattle.awk_lanes.specs.Column.{Column}
 use Rattle.awk_lanes.specs.Places.{size_of, at, place_at, IsIndexKind}
 use Rattle.awk_lanes.specs.declared.kind.Kind.TheVariants.{I64}
 use Rattle.awk_layout.specs.Item.{leaf_value, run}
-use Rattle.awk_columns.specs.Counted.{first_of}
+use Rattle.awk_counts.specs.Counted.{first_of}
 use Rattle.awk_lanes.specs.Made.{lane_of}
 use Rattle.awk_lists.specs.RunLengths.{runs}
 

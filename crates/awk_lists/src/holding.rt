@@ -3,13 +3,14 @@ ghost use Rattle.std.specs.Prelude.{◌≡◌, ◌<◌, ◌^◌, true, IfOk, len
 ghost use Rattle.awk_types.specs.Simple.{present};
 ghost use Rattle.awk_lanes.specs.Places.{size_of, AreSpans};
 ghost use Rattle.awk_layout.specs.Typing.{array_type};
-ghost use Rattle.awk_columns.specs.Counted.{first_of, places_lane};
+ghost use Rattle.awk_counts.specs.Counted.{first_of, places_lane};
 ghost use Rattle.awk_columns.specs.Opened.{OpensNothing, OpensOption};
 ghost use Rattle.awk_types.specs.Predicates.{is_list_or_unknown};
 ghost use Rattle.awk_lists.specs.Held.{held_at, held_counts, AreLengths, AreHeld};
 
 use awk_columns::{Opened, open_array};
-use awk_gather::{gather, gather_lane};
+use awk_gather::gather;
+use awk_gather_lanes::gather_lane;
 use awk_lanes::{
     Arena, Index, IndexMaker, Kind, Lane, LaneMaker, Steps, index_of, number, place_in,
 };

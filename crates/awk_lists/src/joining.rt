@@ -20,7 +20,7 @@ ghost use Rattle.awk_lists.specs.Listed.{IsListed};
 use crate::holding::held_of;
 use awk_axis::{ListOp, Made, Refusal, Spoil, lift_at};
 use awk_columns::{Joined, Lists, Opened, join_spans, open_array};
-use awk_gather::gather_lane;
+use awk_gather_lanes::gather_lane;
 use awk_lanes::{Arena, Kind, Lane, LaneMaker, Steps, index_of, number};
 use awk_layout::{Array, Datum};
 use awk_list_ends::numbers_at_ends;

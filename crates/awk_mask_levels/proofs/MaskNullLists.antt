@@ -15,7 +15,7 @@ use Rattle.awk_layout.specs.Valid.{len}
 use Rattle.awk_layout.proofs.ArrayItems.{length-array_items, get_or-array_items}
 use Rattle.awk_gather.specs.Arrays.{array_item}
 use Rattle.awk_columns.specs.Columns.{is_present, option_index}
-use Rattle.awk_columns.specs.Counted.{present_place, present_at}
+use Rattle.awk_counts.specs.Counted.{present_place, present_at}
 use Rattle.awk_mask_lengths.specs.MaskValues.{in_pairs, of_lists, kept_where, masked_value}
 use Rattle.awk_mask_levels.specs.MaskNulls.{items_where, present_with}
 

@@ -15,7 +15,7 @@ use Rattle.awk_layout.specs.Laws.{len-fits}
 use Rattle.awk_layout.specs.Valid.{len, IsValid}
 use Rattle.awk_gather.specs.Arrays.{array_item}
 use Rattle.awk_types.specs.ItemLimit.{item_limit}
-use Rattle.awk_columns.specs.Counted.{present_at, present_place}
+use Rattle.awk_counts.specs.Counted.{present_at, present_place}
 use Rattle.awk_lanes.specs.Made.{lane_of}
 use Rattle.awk_lanes.proofs.MadeLanes.{size-lane_of, at-lane_of}
 use Rattle.awk_columns.specs.Joined.{total}

@@ -9,7 +9,7 @@ use Rattle.awk_layout.specs.Layout.{Layout}
 use Rattle.awk_layout.specs.Valid.{len}
 use Rattle.awk_gather.specs.Arrays.{array_item}
 use Rattle.awk_columns.specs.Columns.{is_present}
-use Rattle.awk_columns.specs.Counted.{present_at}
+use Rattle.awk_counts.specs.Counted.{present_at}
 use Rattle.awk_lanes.specs.Made.{lane_of}
 
 -- each item's place, and the next one where an index is not null

@@ -28,18 +28,21 @@ use Rattle.awk_layout.specs.Typing.{layout_type, array_type, array_items, array_
 use Rattle.awk_layout.specs.Valid.{len}
 use Rattle.awk_gather.specs.Arrays.{array_item}
 use Rattle.awk_columns.specs.Columns.{is_present, list_items, joined_items}
-use Rattle.awk_columns.specs.Counted.{offset_at}
+use Rattle.awk_counts.specs.Counted.{offset_at}
 use Rattle.awk_lanes.proofs.MadeLanes.{size-lane_of, at-lane_of}
 use Rattle.awk_columns.specs.Joined.{JoinsLists, total}
 use Rattle.awk_columns.specs.Opened.{items_at}
 use Rattle.awk_columns.proofs.ArrayLaws.{array_items-at, run_in_list}
-use Rattle.awk_merge.specs.Operands.{stacked_row, filled_row, filled_rows, rows_datum, list_place}
-use Rattle.awk_merge.specs.Operands.{values_by, list_between, is_whole, rows_lane, ends_in_rows}
-use Rattle.awk_merge.specs.Operands.{offsets_of_rows, AreRising}
-use Rattle.awk_merge.proofs.ListPlaceLaws.{cell, block_within, size-ends, row_items, items-end}
+use Rattle.awk_merge_operands.specs.Operands.{stacked_row, filled_row, filled_rows, rows_datum}
+use Rattle.awk_merge_operands.specs.Operands.{list_place}
+use Rattle.awk_merge_operands.specs.Operands.{values_by, list_between, is_whole, rows_lane}
+use Rattle.awk_merge_operands.specs.Operands.{ends_in_rows}
+use Rattle.awk_merge_operands.specs.Operands.{offsets_of_rows, AreRising}
+use Rattle.awk_merge_operands.proofs.ListPlaceLaws.{cell, block_within, size-ends, row_items}
+use Rattle.awk_merge_operands.proofs.ListPlaceLaws.{items-end}
 use Rattle.awk_merge.proofs.RangeLaws.{all-range, flat-range, flat-none, flat-blocks, rises}
 use Rattle.awk_merge.proofs.RangeLaws.{runs-joined, times_within}
-use Rattle.awk_merge.proofs.StackLaws.{map-at}
+use Rattle.awk_merge_operands.proofs.StackLaws.{map-at}
 use Rattle.awk_columns.proofs.ItemLimits.{over_limit, within_limit}
 
 -- ---- the values of a row, by the places of their lists

@@ -26,14 +26,17 @@ use Rattle.awk_columns.specs.Columns.{is_present, list_items, joined_items}
 use Rattle.awk_columns.specs.ListClass.{Class, list_type}
 use Rattle.awk_columns.specs.Opened.{OpensLists, OpensOption}
 use Rattle.awk_columns.proofs.ArrayLaws.{simple_null, in_option_same, array_items-at}
-use Rattle.awk_merge.specs.Concatenate.{joined_row}
-use Rattle.awk_merge.specs.Operands.{stacked_row, stacked_rows, filled_row, filled_rows, rows_datum}
-use Rattle.awk_merge.specs.Operands.{list_place, values_by, type_by, list_between, rows_lane}
-use Rattle.awk_merge.specs.Operands.{IsListIndex, IsRowsType}
+use Rattle.awk_merge_operands.specs.Concatenate.{joined_row}
+use Rattle.awk_merge_operands.specs.Operands.{stacked_row, stacked_rows, filled_row, filled_rows}
+use Rattle.awk_merge_operands.specs.Operands.{rows_datum}
+use Rattle.awk_merge_operands.specs.Operands.{list_place, values_by, type_by, list_between}
+use Rattle.awk_merge_operands.specs.Operands.{rows_lane}
+use Rattle.awk_merge_operands.specs.Operands.{IsListIndex, IsRowsType}
 use Rattle.awk_merge.proofs.JoinedRowLaws.{row-whole}
-use Rattle.awk_merge.proofs.ListPlaceLaws.{ends_place, size-rows, option-rows, place_within}
+use Rattle.awk_merge_operands.proofs.ListPlaceLaws.{ends_place, size-rows, option-rows}
+use Rattle.awk_merge_operands.proofs.ListPlaceLaws.{place_within}
 use Rattle.awk_merge.proofs.RangeLaws.{flat-range}
-use Rattle.awk_merge.proofs.StackLaws.{map-at}
+use Rattle.awk_merge_operands.proofs.StackLaws.{map-at}
 
 -- ---- filled rows and rows with nulls
 

@@ -14,10 +14,10 @@ use Rattle.awk_unify.specs.UnifyList.{UnificationList, one_further, unification_
 use Rattle.awk_unify.specs.UnifyList.{unification_more}
 use Rattle.awk_unify.proofs.DepthLaws.{unify_rules}
 use Rattle.awk_unify.proofs.SimpleLaws.{equal_is}
-use Rattle.awk_merge.specs.Concatenate.{lists_type, rows_type, operand_type, operand_types}
-use Rattle.awk_merge.specs.Operands.{IsRowsType}
-use Rattle.awk_merge.specs.declared.operands.Axis.TheVariants.{Rows}
-use Rattle.awk_merge.proofs.OperandLaws.{before_is}
+use Rattle.awk_merge_operands.specs.Concatenate.{lists_type, rows_type, operand_type, operand_types}
+use Rattle.awk_merge_operands.specs.Operands.{IsRowsType}
+use Rattle.awk_merge_operands.specs.declared.operands.Axis.TheVariants.{Rows}
+use Rattle.awk_merge_operands.proofs.OperandLaws.{before_is}
 
 -- ---- the two forms of such a type
 

@@ -5,7 +5,7 @@ ghost use Rattle.awk_types.specs.Gives.{Gives};
 ghost use Rattle.awk_types.specs.View.{typ_of};
 ghost use Rattle.awk_layout.specs.Array.{IsArrayType};
 ghost use Rattle.awk_layout.specs.Typing.{array_datum};
-ghost use Rattle.awk_merge.specs.Operands.{stacked_datum};
+ghost use Rattle.awk_merge_operands.specs.Operands.{stacked_datum};
 ghost use Rattle.awk_merge_sides.specs.Sides.{sides_of, merged_items, AreSides, IsCounted};
 ghost use Rattle.awk_merge_sides.specs.Sides.{IsMerged};
 

@@ -13,10 +13,11 @@ ghost use Rattle.awk_layout.specs.Typing.{array_type, array_items, array_datum};
 ghost use Rattle.awk_layout.specs.Valid.{len};
 ghost use Rattle.awk_gather.specs.Arrays.{array_item};
 ghost use Rattle.awk_columns.specs.Opened.{AreLists, OpensLists};
-ghost use Rattle.awk_merge.specs.Operands as spec;
-ghost use Rattle.awk_merge.specs.Operands.{stacked_rows, filled_rows, rows_datum, values_by};
-ghost use Rattle.awk_merge.specs.Operands.{type_by, list_between, IsListIndex, IsRowsType};
-ghost use Rattle.awk_merge.specs.Operands.{IndexHas, IndexesAll, AreRising};
+ghost use Rattle.awk_merge_operands.specs.Operands as spec;
+ghost use Rattle.awk_merge_operands.specs.Operands.{stacked_rows, filled_rows, rows_datum};
+ghost use Rattle.awk_merge_operands.specs.Operands.{values_by};
+ghost use Rattle.awk_merge_operands.specs.Operands.{type_by, list_between, IsListIndex, IsRowsType};
+ghost use Rattle.awk_merge_operands.specs.Operands.{IndexHas, IndexesAll, AreRising};
 ghost use Rattle.awk_merge_sides.specs.Sides.{sides_of, merged_items, AreSides, IsCounted};
 
 use crate::joining_arrays::merged;

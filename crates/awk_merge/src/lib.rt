@@ -8,10 +8,9 @@
 mod joining;
 mod joining_arrays;
 mod joining_rows;
-mod operands;
 
 pub use awk_merge_columns::merge;
+pub use awk_merge_operands::Axis;
 pub use awk_merge_sides::{Side, Sides};
 pub use awk_unify::{Lift, Lifts, Places, Unified, unify};
 pub use joining::concatenate;
-pub use operands::Axis;

@@ -26,7 +26,7 @@ use Rattle.awk_layout.specs.Typing.{array_type, array_items}
 use Rattle.awk_layout.specs.Valid.{len}
 use Rattle.awk_gather.specs.Arrays.{array_item}
 use Rattle.awk_lanes.specs.Made.{lane_of}
-use Rattle.awk_gather.proofs.MovedGroups.{lane_is}
+use Rattle.awk_gather_lanes.proofs.MovedGroups.{lane_is}
 use Rattle.awk_lanes.proofs.MadeLanes.{at-lane_of, size-lane_of}
 use Rattle.awk_gather.proofs.OptionItems.{item-optional}
 use Rattle.awk_columns.specs.ListClass.{Class, list_type}

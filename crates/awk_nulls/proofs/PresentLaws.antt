@@ -20,9 +20,9 @@ use Rattle.awk_layout.specs.Valid.{len, IsValid}
 use Rattle.awk_layout.proofs.ArrayItems.{length-array_items, get_or-array_items}
 use Rattle.awk_gather.specs.Arrays.{array_item}
 use Rattle.awk_columns.specs.Columns.{is_present, present_values}
-use Rattle.awk_columns.specs.Counted.{first_of, present_at, present_place}
+use Rattle.awk_counts.specs.Counted.{first_of, present_at, present_place}
 use Rattle.awk_lanes.specs.Made.{lane_of}
-use Rattle.awk_columns.proofs.FirstPlaces.{length-first_of}
+use Rattle.awk_counts.proofs.FirstPlaces.{length-first_of}
 use Rattle.awk_open.proofs.ItemShapes.{present_item}
 use Rattle.awk_lanes.proofs.MadeLanes.{size-lane_of, at-lane_of}
 use Rattle.awk_columns.specs.Opened.{OpensOption}

@@ -15,7 +15,7 @@ use Rattle.std.proofs.lemmas.Int.{ints}
 use Rattle.awk_types.specs.DataType.{leaf, opt}
 use Rattle.awk_types.specs.Has.{Has, Holds, least_number, greatest_number}
 use Rattle.awk_types.specs.Predicates.{is_null}
-use Rattle.awk_types.specs.Promotion.{is_whole, promotion}
+use Rattle.awk_primitives.specs.Promotion.{is_whole, promotion}
 use Rattle.awk_types.specs.Value.{Value, int, truth, null, list, row, alt}
 use Rattle.awk_types.specs.declared.fault.Fault.{Fault}
 use Rattle.awk_types.specs.declared.primitive.Primitive.{Primitive}

@@ -8,7 +8,7 @@ use Rattle.awk_types.specs.DataType.{DataType, leaf, var, reg, opt}
 use Rattle.awk_types.specs.Datum.{Datum, arr, one}
 use Rattle.awk_types.specs.Has.{Has}
 use Rattle.awk_types.specs.Predicates.{is_null}
-use Rattle.awk_types.specs.Promotion.{is_whole}
+use Rattle.awk_primitives.specs.Promotion.{is_whole}
 use Rattle.awk_types.specs.Simple.{IsSimple}
 use Rattle.awk_types.specs.Value.{Value, int, null}
 use Rattle.awk_types.specs.declared.fault.Fault.{Fault}

@@ -17,13 +17,14 @@ use Rattle.awk_types.specs.Limit.{limit}
 use Rattle.awk_layout.specs.Item.{item, items_across, leaf_value, run}
 use Rattle.awk_layout.specs.Typing.{layout_type, layout_types, array_type}
 use Rattle.awk_gather.specs.Arrays.{array_item}
-use Rattle.awk_gather.specs.Lanes.{picked, nexts, multiples, AreBlocks}
+use Rattle.awk_gather_lanes.specs.Lanes.{picked, nexts, multiples, AreBlocks}
 use Rattle.awk_gather.specs.Picked.{IsPicked}
 use Rattle.awk_open.specs.Opened.{IsListOf, IsOpenedAt, ArePicked, AreAllPlaces, AreWithin, AreLong}
 use Rattle.awk_open.specs.declared.opening.Opened.TheVariants.{Empty, Leaf, Items, Row}
 use Rattle.awk_lanes.proofs.MadeLanes.{size-lane_of, at-lane_of}
-use Rattle.awk_gather.proofs.PickedLanes.{size-picked, at-picked, at-nexts, places_le, spans_picked}
-use Rattle.awk_gather.proofs.PickedLanes.{spans_of_offsets, blocks_of_places}
+use Rattle.awk_gather_lanes.proofs.PickedLanes.{size-picked, at-picked, at-nexts, places_le}
+use Rattle.awk_gather_lanes.proofs.PickedLanes.{spans_picked}
+use Rattle.awk_gather_lanes.proofs.PickedLanes.{spans_of_offsets, blocks_of_places}
 use Rattle.awk_open.proofs.UnionItems.{simples-types}
 
 -- the items of a list, simplified one by one

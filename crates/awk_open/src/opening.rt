@@ -9,12 +9,13 @@ ghost use Rattle.awk_layout.specs.Layout.{layouts_from, flat, lists, offset_list
 ghost use Rattle.awk_layout.specs.Layout.{regular as regular_lists, rows};
 ghost use Rattle.awk_layout.specs.Typing.{array_type};
 ghost use Rattle.awk_layout.specs.Valid.{len, IsValid};
-ghost use Rattle.awk_gather.specs.Lanes.{picked, multiples, AreBlocks};
+ghost use Rattle.awk_gather_lanes.specs.Lanes.{picked, multiples, AreBlocks};
 ghost use Rattle.awk_open.specs.Opened.{IsOpened, IsOpenedAt, ArePicked, AreAllPlaces, AreWithin};
 ghost use Rattle.awk_open.specs.Plain.{IsPlain};
 
 use crate::whole_index::peel_whole;
-use awk_gather::{Peeled, array_within, gather_lane, gather_node, next_lane};
+use awk_gather::{Peeled, array_within, gather_node};
+use awk_gather_lanes::{gather_lane, next_lane};
 use awk_lanes::{
     Arena, Index, Kind, Lane, Num, Numbers, Steps, made_lane, number, to_place, wide_index,
 };
@@ -66,7 +67,7 @@ impl<'a> Numbers for Multiples<'a> {
     ghost use Rattle.std.specs.Prelude.{◌+◌, ◌*◌, ◌-◌, ◌≤◌, ◌^◌, pos};
     ghost use Rattle.awk_lanes.specs.Places.{size_of, place_at};
     ghost use Rattle.awk_lanes.specs.declared.kind.Kind.TheVariants as Kind;
-    ghost use Rattle.awk_gather.specs.Lanes.{AreBlocks};
+    ghost use Rattle.awk_gather_lanes.specs.Lanes.{AreBlocks};
 
     ghost kind = { λ _. Kind.I64 };
 
@@ -201,7 +202,7 @@ fn open_regular<'a, L: Ledger>(
 }
 
 /// The numbers of a lane of offsets at places.
-#[tactic(auto, using(awk_gather::proofs::PickedLanes::places_le))]
+#[tactic(auto, using(awk_gather_lanes::proofs::PickedLanes::places_le))]
 fn gather_before<'a, L: Ledger>(
     offsets: &Lane<'a>,
     places: &Lane<'a>,

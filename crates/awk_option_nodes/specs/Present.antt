@@ -4,7 +4,7 @@ use Rattle.awk_lanes.specs.Column.{Column}
 use Rattle.awk_lanes.specs.Made.{lane_of}
 use Rattle.awk_lanes.specs.Places.{size_of}
 use Rattle.awk_lanes.specs.declared.kind.Kind.TheVariants.{I64}
-use Rattle.awk_columns.specs.Counted.{first_of, present_at}
+use Rattle.awk_counts.specs.Counted.{first_of, present_at}
 
 -- how many of the first items of an option are present
 abbrev pub present_lane : Column → Column

@@ -1,7 +1,7 @@
 //! Items of options that are not null.
 ghost use Rattle.std.specs.Prelude.{◌≡◌, ◌<◌, ◌+◌, ◌^◌, IfOk, length};
 ghost use Rattle.awk_lanes.specs.Places.{size_of, IsOptionKind};
-ghost use Rattle.awk_columns.specs.Counted.{present_at, present_place};
+ghost use Rattle.awk_counts.specs.Counted.{present_at, present_place};
 ghost use Rattle.awk_option_nodes.specs.Present.{present_lane};
 
 use awk_lanes::{Arena, Index, IndexMaker, Lane, Steps, index_of, number, option_place_in};

@@ -14,7 +14,7 @@ use Rattle.awk_lanes.specs.declared.kind.Kind.TheVariants.{I64}
 use Rattle.awk_layout.specs.Layout.{Layout}
 use Rattle.awk_layout.specs.Valid.{len}
 use Rattle.awk_gather.specs.Arrays.{array_item, IsGathered}
-use Rattle.awk_columns.specs.Counted.{first_of, span_at, spans}
+use Rattle.awk_counts.specs.Counted.{first_of, span_at, spans}
 use Rattle.awk_columns.specs.Reached.{IsReached}
 use Rattle.awk_columns.specs.ListClass.{Class}
 use Rattle.awk_columns.specs.Lists.{Listed}

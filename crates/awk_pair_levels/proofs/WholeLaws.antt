@@ -18,7 +18,7 @@ use Rattle.awk_lanes.specs.declared.kind.Kind.TheVariants.{U16, U32, U64}
 use Rattle.awk_layout.specs.Layout.{Layout}
 use Rattle.awk_layout.specs.Typing.{array_type, array_items}
 use Rattle.awk_layout.specs.Valid.{len}
-use Rattle.awk_columns.specs.Counted.{first_of, span_at, spans}
+use Rattle.awk_counts.specs.Counted.{first_of, span_at, spans}
 use Rattle.awk_columns.specs.Lists.{Listed, AreLists}
 use Rattle.awk_columns.specs.Reached.{IsReached}
 use Rattle.awk_columns.proofs.JoinedLists.{row_reached}

@@ -14,7 +14,7 @@ use Rattle.awk_layout.specs.Layout.{Layout}
 use Rattle.awk_layout.specs.Typing.{array_type}
 use Rattle.awk_layout.specs.Valid.{len}
 use Rattle.awk_gather.specs.Arrays.{array_item, IsGathered}
-use Rattle.awk_columns.specs.Counted.{spans}
+use Rattle.awk_counts.specs.Counted.{spans}
 use Rattle.awk_columns.specs.ListClass.{Class}
 use Rattle.awk_columns.specs.Lists.{Listed, span_length}
 use Rattle.awk_columns.specs.Reached.{IsReached}

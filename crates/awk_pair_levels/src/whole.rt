@@ -2,7 +2,7 @@
 ghost use Rattle.std.specs.Prelude.{◌≡◌, IfOk, IfSome, IsTrue};
 ghost use Rattle.awk_lanes.specs.Counted.{before};
 ghost use Rattle.awk_lanes.specs.Places.{size_of};
-ghost use Rattle.awk_columns.specs.Counted.{spans};
+ghost use Rattle.awk_counts.specs.Counted.{spans};
 ghost use Rattle.awk_columns.specs.Reached.{IsReached};
 ghost use Rattle.awk_pair_levels.specs.Shares.{length_of, LieInRow};
 

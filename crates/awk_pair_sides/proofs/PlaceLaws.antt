@@ -14,8 +14,8 @@ use Rattle.awk_layout.specs.Item.{run}
 use Rattle.awk_layout.specs.Layout.{Layout}
 use Rattle.awk_layout.specs.Valid.{len}
 use Rattle.awk_open.specs.Opened.{AreLong}
-use Rattle.awk_columns.specs.Counted.{first_of, AreBelow}
-use Rattle.awk_columns.proofs.FirstPlaces.{first_of-more}
+use Rattle.awk_counts.specs.Counted.{first_of, AreBelow}
+use Rattle.awk_counts.proofs.FirstPlaces.{first_of-more}
 use Rattle.awk_columns.proofs.ReachedContents.{below-first_of, places_index}
 use Rattle.awk_pair_sides.proofs.RangeLaws.{map-append, map-map}
 

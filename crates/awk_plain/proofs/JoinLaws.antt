@@ -3,7 +3,7 @@ use Rattle.std.proofs.Common.{◌≡◌, List, [], ◌∷◌, length, Bool, true
 use Rattle.std.proofs.Common.{sym, ◌∙◌, subst, suc, Some, None}
 use Rattle.std.specs.Prelude.{◌||◌, if◌then◌else◌}
 use Rattle.std.proofs.lemmas.Bool.{or_parts}
-use Rattle.awk_types.proofs.SameTypeLaws.{same_type-refl, same_type_is}
+use Rattle.awk_unify.proofs.SameTypeLaws.{same_type-refl, same_type_is}
 use Rattle.awk_types.proofs.SimpleLaws.{each_stays, present_no_option, present_simple}
 use Rattle.awk_types.proofs.SimpleLaws.{present_stays}
 use Rattle.awk_types.proofs.Trees.{values_from-list}

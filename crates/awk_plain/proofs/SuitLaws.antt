@@ -8,7 +8,7 @@ use Rattle.serde_json.specs.Data.{Data, null, boolean, number, string, array, ob
 use Rattle.serde_json.specs.Data.{Items, no_items, item, Members, no_members, member}
 use Rattle.awk_types.proofs.NameLaws.{same_name_is}
 use Rattle.awk_types.proofs.RefusalLaws.{or-None}
-use Rattle.awk_types.proofs.SameTypeLaws.{same_primitive_is}
+use Rattle.awk_unify.proofs.SameTypeLaws.{same_primitive_is}
 use Rattle.awk_types.proofs.SimpleLaws.{present_simple}
 use Rattle.awk_types.proofs.Trees.{types_from-list}
 use Rattle.awk_types.specs.DataType.{DataType, Name, unknown, leaf, var, reg, rec, tup}

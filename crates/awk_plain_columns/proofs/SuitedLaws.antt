@@ -12,7 +12,7 @@ use Rattle.serde_json.specs.Data.{Data, Num, null, boolean, number, string, arra
 use Rattle.serde_json.specs.Data.{Items, no_items, item}
 use Rattle.serde_json.specs.View.{items_view, view}
 use Rattle.serde_json.specs.declared.value.Value as json
-use Rattle.awk_types.proofs.SameTypeLaws.{same_primitive_is}
+use Rattle.awk_unify.proofs.SameTypeLaws.{same_primitive_is}
 use Rattle.awk_types.proofs.Trees.{value_list-from}
 use Rattle.awk_types.specs.DataType.{DataType, unknown, leaf, opt, var}
 use Rattle.awk_types.specs.Has.{Has}

@@ -7,7 +7,7 @@ use Rattle.std.specs.Prelude.{if◌then◌else◌}
 use Rattle.std.specs.List.{AllByRecursion}
 use Rattle.awk_types.specs.Has.{Holds}
 use Rattle.awk_types.specs.Predicates.{is_null}
-use Rattle.awk_types.specs.Promotion.{is_whole}
+use Rattle.awk_primitives.specs.Promotion.{is_whole}
 use Rattle.awk_types.specs.Value.{Value, int, truth, null}
 use Rattle.awk_types.specs.declared.fault.Fault.{Fault}
 use Rattle.awk_types.specs.declared.primitive.Primitive.{Primitive}

@@ -6,14 +6,15 @@ use Rattle.std.specs.Prelude.{Some, None, Result, Ok, Err, IfSome, if◌then◌e
 use Rattle.std.specs.List.{AllByRecursion}
 use Rattle.std.specs.Ordering.{int_eq}
 use Rattle.std.proofs.lemmas.Int.{ints}
-use Rattle.awk_types.specs.Fits.{fits}
+use Rattle.awk_primitives.specs.Fits.{fits}
 use Rattle.awk_types.specs.Has.{least_number, greatest_number, Holds}
-use Rattle.awk_types.specs.Promotion.{is_whole, promotion, promotion_whole, is_signed, HoldsAll}
+use Rattle.awk_primitives.specs.Promotion.{is_whole, promotion, promotion_whole, is_signed}
+use Rattle.awk_primitives.specs.Promotion.{HoldsAll}
 use Rattle.awk_types.specs.declared.fault.Fault.{Fault}
 use Rattle.awk_types.specs.declared.primitive.Primitive.{Primitive}
 use Rattle.awk_types.specs.declared.primitive.Primitive.TheVariants as prim
-use Rattle.awk_types.proofs.PromotionLaws.{promotion_holds}
-use Rattle.awk_types.proofs.RangeLaws.{fits_holds}
+use Rattle.awk_primitives.proofs.PromotionLaws.{promotion_holds}
+use Rattle.awk_primitives.proofs.RangeLaws.{fits_holds}
 use Rattle.awk_lanes.specs.Ranges.{IsNumber, AreNumbers}
 use Rattle.awk_lanes.specs.Words.{column}
 use Rattle.awk_lanes.proofs.RangeLaws.{zero_number}

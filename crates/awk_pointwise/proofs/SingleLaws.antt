@@ -12,7 +12,7 @@ use Rattle.awk_types.specs.Faults.{fault_told}
 use Rattle.awk_types.specs.Gives.{Gives, Told}
 use Rattle.awk_types.specs.Has.{least_number, greatest_number, Holds}
 use Rattle.awk_types.specs.Predicates.{is_null}
-use Rattle.awk_types.specs.Promotion.{is_whole}
+use Rattle.awk_primitives.specs.Promotion.{is_whole}
 use Rattle.awk_types.specs.Value.{Value, int, null, truth}
 use Rattle.awk_types.specs.declared.fault.Fault.{Fault}
 use Rattle.awk_types.specs.declared.primitive.Primitive.{Primitive}

@@ -6,7 +6,7 @@ use Rattle.std.specs.List.{AllByRecursion}
 use Rattle.std.specs.Simd.Lanes.{zip2}
 use Rattle.awk_types.specs.Has.{least_number, greatest_number, Holds}
 use Rattle.awk_types.specs.Predicates.{is_null}
-use Rattle.awk_types.specs.Promotion.{is_whole}
+use Rattle.awk_primitives.specs.Promotion.{is_whole}
 use Rattle.awk_types.specs.Value.{Value}
 use Rattle.awk_types.specs.declared.fault.Fault.{Fault}
 use Rattle.awk_types.specs.declared.primitive.Primitive.{Primitive}

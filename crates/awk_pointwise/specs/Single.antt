@@ -3,7 +3,7 @@ use Rattle.std.specs.Prelude.{◌≡◌, ℤ, pos, neg_ℤ, unsigned_abs, true, 
 use Rattle.std.specs.Prelude.{replicate, Result}
 use Rattle.std.specs.List.{AllByRecursion}
 use Rattle.awk_types.specs.Has.{least_number, greatest_number, Holds}
-use Rattle.awk_types.specs.Promotion.{is_whole}
+use Rattle.awk_primitives.specs.Promotion.{is_whole}
 use Rattle.awk_types.specs.declared.primitive.Primitive.{Primitive}
 use Rattle.awk_types.specs.declared.primitive.Primitive.TheVariants.{Bool as Truths}
 use Rattle.awk_kernels.specs.Operations.{within}

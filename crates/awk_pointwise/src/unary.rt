@@ -4,7 +4,7 @@ ghost use Rattle.std.specs.List.{AllByRecursion};
 ghost use Rattle.awk_types.specs.Faults.{fault_told};
 ghost use Rattle.awk_types.specs.Gives.{Gives};
 ghost use Rattle.awk_types.specs.Has.{Holds};
-ghost use Rattle.awk_types.specs.Promotion.{is_whole};
+ghost use Rattle.awk_primitives.specs.Promotion.{is_whole};
 ghost use Rattle.awk_types.specs.declared.primitive.Primitive.{Primitive};
 ghost use Rattle.awk_types.specs.declared.primitive.Primitive.TheVariants as prims;
 ghost use Rattle.awk_lanes.specs.Words.{integers, column};

@@ -12,10 +12,10 @@ use Rattle.awk_lanes.specs.declared.kind.Kind.TheVariants.{U8, U16, U32, U64}
 use Rattle.awk_lanes.specs.Column.{Column}
 use Rattle.awk_lanes.specs.Numbers.{width, number, numbers, element}
 use Rattle.awk_lanes.specs.Places.{size_of, at, option_place, IsOptionalIndex}
-use Rattle.awk_gather.specs.Moved.{eight}
-use Rattle.awk_gather.proofs.MovedGroups.{number-group, length-groups, numbers-flat}
-use Rattle.awk_columns.specs.Counted.{first_of, present_place, present_at, AreBelow}
-use Rattle.awk_columns.proofs.FirstPlaces.{first_of-more}
+use Rattle.awk_gather_lanes.specs.Moved.{eight}
+use Rattle.awk_gather_lanes.proofs.MovedGroups.{number-group, length-groups, numbers-flat}
+use Rattle.awk_counts.specs.Counted.{first_of, present_place, present_at, AreBelow}
+use Rattle.awk_counts.proofs.FirstPlaces.{first_of-more}
 use Rattle.awk_present.specs.Named.{place_group, named_places, ArePlacesOf}
 use Rattle.awk_present.proofs.SliceLaws.{map-places}
 use Rattle.awk_present.proofs.TakenLanes.{named_within}

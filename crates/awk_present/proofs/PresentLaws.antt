@@ -29,7 +29,7 @@ use Rattle.awk_gather.specs.Arrays.{array_item}
 use Rattle.awk_open.specs.Opened.{IsOpened}
 use Rattle.awk_open.specs.declared.opening.Opened.TheVariants as opened
 use Rattle.awk_columns.specs.Columns.{is_present, present_values}
-use Rattle.awk_columns.specs.Counted.{first_of, present_place, present_at}
+use Rattle.awk_counts.specs.Counted.{first_of, present_place, present_at}
 use Rattle.awk_columns.proofs.ArrayLaws.{array_items-at}
 use Rattle.awk_columns.proofs.OrderedOptions.{map-same}
 use Rattle.awk_numbers.specs.Folds.{lane_numbers}

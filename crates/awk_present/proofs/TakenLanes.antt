@@ -7,8 +7,8 @@ use Rattle.std.proofs.lemmas.List.{append-nil, length-map, map-append}
 use Rattle.awk_lanes.specs.Column.{Column}
 use Rattle.awk_lanes.specs.Making.{Making, with_item}
 use Rattle.awk_lanes.specs.Places.{size_of, at, option_place, option_place_at, IsOptionalIndex}
-use Rattle.awk_columns.specs.Counted.{first_of, present_place, present_at}
-use Rattle.awk_columns.proofs.FirstPlaces.{first_of-more, first_of-room}
+use Rattle.awk_counts.specs.Counted.{first_of, present_place, present_at}
+use Rattle.awk_counts.proofs.FirstPlaces.{first_of-more, first_of-room}
 
 -- the numbers at these places are made, of n
 pub record AreTaken (c : Column) (n : ℕ) (ks : List ℕ) (m : Making) : Type 0 where

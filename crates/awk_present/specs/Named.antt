@@ -1,8 +1,8 @@
 -- Groups of bytes at the places that an index of groups names.
 use Rattle.std.specs.Prelude.{◌≡◌, ℕ, ◌<◌, List, [], map, get_or, length, Some}
 use Rattle.awk_lanes.specs.Places.{option_place}
-use Rattle.awk_gather.specs.Moved.{eight}
-use Rattle.awk_columns.specs.Counted.{first_of, present_place}
+use Rattle.awk_gather_lanes.specs.Moved.{eight}
+use Rattle.awk_counts.specs.Counted.{first_of, present_place}
 
 -- the place that group i is, where it is not negative
 abbrev pub place_group : List (List ℕ) → ℕ → List ℕ

@@ -3,8 +3,8 @@ ghost use Rattle.std.specs.Prelude.{◌≡◌, ◌≢◌, ◌<◌, length, IfOk}
 ghost use Rattle.awk_lanes.specs.Numbers.{width};
 ghost use Rattle.awk_lanes.specs.Places.{size_of, option_place, IsOptionalIndex};
 ghost use Rattle.awk_lanes.specs.declared.kind.Kind.TheVariants as Kind;
-ghost use Rattle.awk_gather.specs.Moved.{eight};
-ghost use Rattle.awk_columns.specs.Counted.{first_of, present_at};
+ghost use Rattle.awk_gather_lanes.specs.Moved.{eight};
+ghost use Rattle.awk_counts.specs.Counted.{first_of, present_at};
 ghost use Rattle.awk_present.specs.Named.{named_places, named_groups, ArePlacesOf};
 ghost use Rattle.awk_present.specs.Present.{taken_lane};
 

@@ -6,7 +6,7 @@ ghost use Rattle.awk_types.specs.Simple.{present, is_option};
 ghost use Rattle.awk_lanes.specs.Counted.{AreOffsetsOf};
 ghost use Rattle.awk_lanes.specs.Places.{size_of, place_at, IsOptionalIndex};
 ghost use Rattle.awk_layout.specs.Typing.{array_type, array_items};
-ghost use Rattle.awk_columns.specs.Counted.{first_of, present_at};
+ghost use Rattle.awk_counts.specs.Counted.{first_of, present_at};
 ghost use Rattle.awk_numbers.specs.Folds.{whole_numbers};
 ghost use Rattle.awk_parts.specs.Parts.{AreRising, AreParts};
 ghost use Rattle.awk_present.specs.Present.{present_in, taken_lane, ArePresent};

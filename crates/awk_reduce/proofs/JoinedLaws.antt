@@ -18,7 +18,7 @@ use Rattle.awk_layout.specs.Typing.{array_items}
 use Rattle.awk_layout.specs.Valid.{len}
 use Rattle.awk_layout.proofs.Runs.{value_list-run}
 use Rattle.awk_gather.specs.Arrays.{array_item}
-use Rattle.awk_columns.specs.Counted.{offset_at}
+use Rattle.awk_counts.specs.Counted.{offset_at}
 use Rattle.awk_columns.specs.Joined.{JoinsLists, total}
 use Rattle.awk_columns.specs.Lists.{Listed, items_at}
 use Rattle.awk_columns.proofs.ArrayLaws.{array_items-at}

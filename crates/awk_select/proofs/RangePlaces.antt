@@ -12,7 +12,7 @@ use Rattle.awk_lanes.specs.declared.kind.Kind.TheVariants.{I64}
 use Rattle.awk_lanes.specs.Column.{Column}
 use Rattle.awk_lanes.specs.Places.{IsIndex}
 use Rattle.awk_gather.specs.Arrays.{pick}
-use Rattle.awk_columns.specs.Counted.{places_lane, AreBelow}
+use Rattle.awk_counts.specs.Counted.{places_lane, AreBelow}
 use Rattle.awk_lanes.specs.Made.{lane_of}
 use Rattle.awk_columns.proofs.ReachedContents.{places_index}
 use Rattle.awk_select.specs.Picks.{items_at}

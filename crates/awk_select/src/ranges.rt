@@ -5,7 +5,7 @@ ghost use Rattle.awk_types.specs.Gives.{Gives};
 ghost use Rattle.awk_layout.specs.Datum.{IsDatum, datum_of};
 ghost use Rattle.awk_layout.specs.Typing.{array_type, array_items};
 ghost use Rattle.awk_layout.specs.Valid.{len};
-ghost use Rattle.awk_columns.specs.Counted.{places_lane};
+ghost use Rattle.awk_counts.specs.Counted.{places_lane};
 ghost use Rattle.awk_select.specs.Picks.{items_at, step_range_of};
 ghost use Rattle.awk_select.specs.Places as places;
 

@@ -4,13 +4,8 @@ pub mod Views
 pub mod NameLaws
 pub mod DistinctLaws
 pub mod SameTypes
-pub mod SameTypeLaws
 pub mod SimpleLaws
 pub mod TypeLaws
 pub mod NodeLaws
 pub mod Simplified
-pub mod PromotionLaws
 pub mod RefusalLaws
-pub mod SettleLaws
-pub mod SettleLimits
-pub mod RangeLaws

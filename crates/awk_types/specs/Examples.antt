@@ -1,9 +1,7 @@
 -- The definitions at worked examples, each checked by computing.
 use Rattle.std.specs.Prelude.{◌≡◌, ℕ, zero, suc, Bool as Truth, true, false, List, [], ◌∷◌, map}
-use Rattle.std.specs.Prelude.{pos, negsuc, codes, Option, Some, None, refl}
-use Rattle.awk_types.specs.declared.primitive.Primitive.{Primitive}
-use Rattle.awk_types.specs.declared.primitive.Primitive.TheVariants.{Bool, I8, I16, I32, I64, U8}
-use Rattle.awk_types.specs.declared.primitive.Primitive.TheVariants.{U16, U32, U64}
+use Rattle.std.specs.Prelude.{pos, negsuc, codes, Some, None, refl}
+use Rattle.awk_types.specs.declared.primitive.Primitive.TheVariants.{Bool, I8, I64, U8}
 use Rattle.awk_types.specs.DataType.{DataType, unknown, leaf, var, reg, rec, tup, opt, uni}
 use Rattle.awk_types.specs.DataType.{types_from, depth, nodes}
 use Rattle.awk_types.specs.Value.{Value, int, truth, null, list, row, alt, values_from}
@@ -13,9 +11,7 @@ use Rattle.awk_types.specs.IsType.{IsType}
 use Rattle.awk_types.specs.Has.{Has}
 use Rattle.awk_types.specs.Simple.{simple, simple_value}
 use Rattle.awk_types.specs.Settle.{settle}
-use Rattle.awk_types.specs.Promotion.{promotion}
 use Rattle.awk_types.specs.Levels.{levels, common_number, datum_levels, turned_axis}
-use Rattle.awk_types.specs.Fits.{fits, literal_fits}
 use Rattle.awk_types.specs.Predicates.{is_leaf, is_list, is_list_or_unknown, is_unknown, is_null}
 use Rattle.awk_types.specs.Limit.{limit, width, depth_limit, size_limit}
 
@@ -167,30 +163,6 @@ settled_number : settle (opt (union_type (leaf Bool ∷ leaf I8 ∷ []))) (alt 1
     ≡ one (leaf I8) (int (pos 1))
 settled_number = refl
 
--- ---- promotion: all pairs of primitives
-
-abbrev primitives : List Primitive
-primitives = Bool ∷ I8 ∷ I16 ∷ I32 ∷ I64 ∷ U8 ∷ U16 ∷ U32 ∷ U64 ∷ []
-
-abbrev none : Option Primitive
-none = None
-
-abbrev to : Primitive → Option Primitive
-to p = Some p
-
-promotions : map (λ p. map (promotion p) primitives) primitives
-    ≡ (none ∷ none ∷ none ∷ none ∷ none ∷ none ∷ none ∷ none ∷ none ∷ [])
-    ∷ (none ∷ to I8 ∷ to I16 ∷ to I32 ∷ to I64 ∷ to I16 ∷ to I32 ∷ to I64 ∷ none ∷ [])
-    ∷ (none ∷ to I16 ∷ to I16 ∷ to I32 ∷ to I64 ∷ to I16 ∷ to I32 ∷ to I64 ∷ none ∷ [])
-    ∷ (none ∷ to I32 ∷ to I32 ∷ to I32 ∷ to I64 ∷ to I32 ∷ to I32 ∷ to I64 ∷ none ∷ [])
-    ∷ (none ∷ to I64 ∷ to I64 ∷ to I64 ∷ to I64 ∷ to I64 ∷ to I64 ∷ to I64 ∷ none ∷ [])
-    ∷ (none ∷ to I16 ∷ to I16 ∷ to I32 ∷ to I64 ∷ to U8 ∷ to U16 ∷ to U32 ∷ to U64 ∷ [])
-    ∷ (none ∷ to I32 ∷ to I32 ∷ to I32 ∷ to I64 ∷ to U16 ∷ to U16 ∷ to U32 ∷ to U64 ∷ [])
-    ∷ (none ∷ to I64 ∷ to I64 ∷ to I64 ∷ to I64 ∷ to U32 ∷ to U32 ∷ to U32 ∷ to U64 ∷ [])
-    ∷ (none ∷ none ∷ none ∷ none ∷ none ∷ to U64 ∷ to U64 ∷ to U64 ∷ to U64 ∷ [])
-    ∷ []
-promotions = refl
-
 -- ---- levels, and the axis that a negative one stands for
 
 levels_of_leaves : map levels (leaf I64 ∷ unknown ∷ opt (leaf Bool) ∷ [])
@@ -246,7 +218,7 @@ unequally_deep : common_number
     (datum_levels (arr (leaf I64) []) ∷ datum_levels (arr particles []) ∷ []) ≡ None
 unequally_deep = refl
 
--- ---- tests of types and values, and of numbers
+-- ---- tests of types and values
 
 abbrev no : Truth
 no = false
@@ -272,15 +244,3 @@ unknowns = refl
 nulls : map is_null (null ∷ int (pos 0) ∷ truth false ∷ list_value [] ∷ [])
     ≡ yes ∷ no ∷ no ∷ no ∷ []
 nulls = refl
-
-fit : map (fits I8) (negsuc 128 ∷ negsuc 127 ∷ pos 127 ∷ pos 128 ∷ []) ≡ no ∷ yes ∷ yes ∷ no ∷ []
-fit = refl
-
--- no number is a truth value
-fit_truths : map (fits Bool) (negsuc 0 ∷ pos 0 ∷ pos 1 ∷ []) ≡ no ∷ no ∷ no ∷ []
-fit_truths = refl
-
--- a literal beside truth values or lists is of int64
-fit_literals : map (λ t. literal_fits t (pos 9223372036854775808))
-    (leaf U64 ∷ leaf Bool ∷ var (leaf U64) ∷ []) ≡ yes ∷ no ∷ no ∷ []
-fit_literals = refl

@@ -8,13 +8,11 @@ pub mod Simple
 pub mod Simplifies
 pub mod SameType
 pub mod Settle
-pub mod Promotion
 pub mod Limit
 pub mod Levels
 pub mod ItemLimit
 pub mod WholeNumbers
 pub mod Predicates
-pub mod Fits
 pub mod Gives
 pub mod View
 pub mod Trees

@@ -2,10 +2,9 @@
 //! operations.
 //!
 //! A type is simplified by `simple_of`, `opt_of` and `uni_of`, within the limits that `TypeFault`
-//! tells; `same` compares, `depth`, `nodes` and `levels` measure, `copy_type` copies. Of primitives
-//! there are `promote`, the range (`least`, `greatest`, `fits`) and what a literal fits
-//! (`literal_prim`, `literal_fits`). The predicates on types (`is_leaf`, `is_list`, ...) and the
-//! small lists `Names`, `Typs`, `Fields` and `Wholes` stand here for all crates above.
+//! tells; `same` compares, `depth`, `nodes` and `levels` measure, `copy_type` copies. The
+//! predicates on types (`is_leaf`, `is_list`, ...) and the small lists `Names`, `Typs`, `Fields`
+//! and `Wholes` stand here for all crates above.
 #![tactic(auto)]
 
 mod copy;
@@ -18,8 +17,6 @@ mod name;
 mod numbers;
 mod predicates;
 mod primitive;
-mod promotion;
-mod range;
 mod simplify;
 mod typ;
 mod whole;
@@ -34,8 +31,6 @@ pub use name::{Name, Names, NoMemory, copy_names};
 pub use numbers::is_numbers;
 pub use predicates::{is_leaf, is_list, is_list_or_unknown, is_optional, is_unknown};
 pub use primitive::Primitive as Prim;
-pub use promotion::promote;
-pub use range::{fits, greatest, least, literal_fits, literal_prim};
 pub use simplify::{opt_of, simple_of, uni_of};
 pub use typ::{Field, Fields, Typ, Typs};
 pub use whole::Wholes;

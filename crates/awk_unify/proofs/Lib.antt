@@ -1,3 +1,4 @@
+pub mod SameTypeLaws
 pub mod Worked
 pub mod Tests
 pub mod AfterLaws

@@ -14,8 +14,8 @@ use Rattle.awk_unify.specs.FieldNames.{in_own}
 use Rattle.awk_unify.specs.Join.{Unifying, leaf_join, list_join, tup_join, unify_parts}
 use Rattle.awk_unify.specs.Places.{places, places_from}
 use Rattle.awk_unify.specs.Unification.{Unification, Unifications}
-use Rattle.awk_types.proofs.PromotionLaws.{promotion_holds}
-use Rattle.awk_types.proofs.SameTypeLaws.{same_primitive_is}
+use Rattle.awk_primitives.proofs.PromotionLaws.{promotion_holds}
+use Rattle.awk_unify.proofs.SameTypeLaws.{same_primitive_is}
 use Rattle.awk_types.proofs.SimpleLaws.{has_list, has_reg}
 use Rattle.awk_types.proofs.Trees.{types_from-list, value_list-from}
 use Rattle.awk_types.proofs.TypeLaws.{type_list_are_types}
@@ -23,7 +23,7 @@ use Rattle.awk_types.specs.DataType.{DataType, DataTypes, depths, greatest, leaf
 use Rattle.awk_types.specs.DataType.{type_list, types_from, var}
 use Rattle.awk_types.specs.Has.{Has, HasRow}
 use Rattle.awk_types.specs.IsType.{AreTypes}
-use Rattle.awk_types.specs.Promotion.{HoldsAll, is_whole, promotion}
+use Rattle.awk_primitives.specs.Promotion.{HoldsAll, is_whole, promotion}
 use Rattle.awk_types.specs.SameType.{same_primitive}
 use Rattle.awk_types.specs.Simple.{AreSimple, values_by}
 use Rattle.awk_types.specs.Value.{Value, int, list, row, value_list}

@@ -2,7 +2,7 @@
 use Rattle.std.proofs.Common.{◌≡◌, ◌↔◌, ◌==◌, ℕ, Bool, IsTrue, arith, false, refl, subst, sym, true}
 use Rattle.std.proofs.lemmas.Bool.{false_from_ne_true}
 use Rattle.awk_types.specs.Predicates.{is_unknown}
-use Rattle.awk_types.proofs.SameTypeLaws.{same_type-refl, same_type_is}
+use Rattle.awk_unify.proofs.SameTypeLaws.{same_type-refl, same_type_is}
 use Rattle.awk_types.specs.DataType.{DataType, unknown}
 use Rattle.awk_types.specs.SameType.{same_type}
 

@@ -16,7 +16,7 @@ use Rattle.awk_unify.specs.Unify.{apart, bare, equal_or_unknown, in_unions, join
 use Rattle.awk_unify.specs.Unify.{joins_or_unions, optional, options_or, unification}
 use Rattle.awk_unify.specs.Unify.{unification_at}
 use Rattle.awk_types.specs.Predicates.{is_unknown}
-use Rattle.awk_types.proofs.SameTypeLaws.{same_type_is}
+use Rattle.awk_unify.proofs.SameTypeLaws.{same_type_is}
 use Rattle.awk_types.proofs.SimpleLaws.{alternatives_plain, present_no_option, present_simple}
 use Rattle.awk_types.proofs.TypeLaws.{alternatives_are_types, present_is_type}
 use Rattle.awk_types.specs.DataType.{DataType, depth, leaf, rec, reg, tup, type_list, uni, unknown}

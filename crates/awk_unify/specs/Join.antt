@@ -6,7 +6,7 @@ use Rattle.awk_unify.specs.FieldNames.{alike, in_own, picked, to_names}
 use Rattle.awk_unify.specs.Unification.{Unification, Unifications}
 use Rattle.awk_types.specs.DataType.{DataType, Name, leaf, rec, reg, tup, type_list, types_from}
 use Rattle.awk_types.specs.DataType.{unknown, var}
-use Rattle.awk_types.specs.Promotion.{promotion}
+use Rattle.awk_primitives.specs.Promotion.{promotion}
 use Rattle.awk_types.specs.SameType.{same_primitive}
 use Rattle.awk_types.specs.View.{NamedType, names_of}
 use Rattle.awk_types.specs.declared.primitive.Primitive.{Primitive}

@@ -13,7 +13,8 @@ use crate::parts::Parts;
 use crate::places::Places;
 use crate::predicates::is_same;
 use crate::unified::Unified;
-use awk_types::{NoMemory, Prim, Typ, copy_type, is_unknown, promote};
+use awk_primitives::promote;
+use awk_types::{NoMemory, Prim, Typ, copy_type, is_unknown};
 use std::alloc::Global;
 
 /// A type into which the values of both sides go as they are.

@@ -18,8 +18,8 @@ use Rattle.awk_view.specs.declared.settling.End.{End}
 use Rattle.awk_view.specs.declared.settling.End.TheVariants.{Null, Single, Items}
 use Rattle.awk_view.specs.End.{IsEnd, IsSingleOf, IsListOf, IsItemOf, IsOneOf, IsArrOf, simple_item}
 use Rattle.awk_view.specs.End.{settled_item}
-use Rattle.awk_types.proofs.SettleLimits.{limit-settle}
-use Rattle.awk_types.proofs.SettleLaws.{settle-null}
+use Rattle.awk_view.proofs.SettleLimits.{limit-settle}
+use Rattle.awk_view.proofs.SettleLaws.{settle-null}
 use Rattle.awk_layout.proofs.ArrayItems.{length-array_items, get_or-array_items}
 use Rattle.awk_view.proofs.SettledItems.{StaysOne, IsListed, Follows, item_part}
 

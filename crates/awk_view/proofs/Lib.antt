@@ -1,3 +1,5 @@
+pub mod SettleLaws
+pub mod SettleLimits
 pub mod TypeWalks
 pub mod ChoiceTypes
 pub mod ChoiceValues

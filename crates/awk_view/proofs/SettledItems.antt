@@ -15,8 +15,8 @@ use Rattle.awk_types.specs.Settle.{settle, settle_alternative}
 use Rattle.awk_types.specs.Simple.{simple, simples, simple_value, simple_values, value_by}
 use Rattle.awk_types.specs.Simple.{value_after, alternatives_before}
 use Rattle.awk_types.specs.Value.{Value, Values, null, row, alt, value_list, values_from}
-use Rattle.awk_types.proofs.SettleLaws.{settle-option_of, in_option-simple, value_after-present}
-use Rattle.awk_types.proofs.SettleLaws.{settle-union_of}
+use Rattle.awk_view.proofs.SettleLaws.{settle-option_of, in_option-simple, value_after-present}
+use Rattle.awk_view.proofs.SettleLaws.{settle-union_of}
 use Rattle.awk_types.proofs.SimpleLaws.{simples_are_simple, has_simple_alternative}
 use Rattle.awk_types.proofs.Trees.{value_list-from}
 use Rattle.awk_lanes.specs.declared.kind.Kind.{Kind}

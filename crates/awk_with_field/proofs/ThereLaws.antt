@@ -15,8 +15,8 @@ use Rattle.awk_lanes.proofs.CountedLanes.{length-numbers}
 use Rattle.awk_layout.specs.Item.{at_option}
 use Rattle.awk_gather.specs.Arrays.{pick}
 use Rattle.awk_columns.specs.Columns.{is_present, option_index}
-use Rattle.awk_columns.specs.Counted.{first_of, AreBelow}
-use Rattle.awk_columns.proofs.FirstPlaces.{first_of-more}
+use Rattle.awk_counts.specs.Counted.{first_of, AreBelow}
+use Rattle.awk_counts.proofs.FirstPlaces.{first_of-more}
 use Rattle.awk_columns.proofs.ReachedContents.{below-first_of, places_index}
 use Rattle.awk_frames.specs.Shape.{index_column}
 use Rattle.awk_frames.proofs.ValueLists.{length-index}

@@ -10,7 +10,7 @@ use Rattle.awk_types.specs.Simple.{IsSimple}
 use Rattle.awk_types.specs.View.{typ_of}
 use Rattle.awk_layout.specs.Datum.{datum_of}
 use Rattle.awk_layout.specs.Typing.{array_datum}
-use Rattle.awk_merge.specs.Operands.{column_in}
+use Rattle.awk_merge_operands.specs.Operands.{column_in}
 use Rattle.awk_cartesian.specs.Cartesian.{product_type, item_types}
 use Rattle.awk_cartesian.specs.Products.{rows_fault, count_of}
 use Rattle.awk_cartesian.proofs.WholeLaws.{limit_gives, type_fine, rows_told, counted_is}

@@ -4,7 +4,7 @@ use Rattle.awk_layout.specs.Laws.{len-fits}
 use Rattle.awk_layout.specs.Valid.{len}
 use Rattle.awk_columns.proofs.JoinedLists.{spans_wider, before-spans, offsets_by-is, are_joined}
 use Rattle.awk_columns.proofs.JoinedLists.{joined_refused, joined_given, offsets_lane-is}
-use Rattle.awk_columns.proofs.PlaceLanes.{none_left}
+use Rattle.awk_counts.proofs.PlaceLanes.{none_left}
 use Rattle.awk_columns.proofs.joining.join_ends.Goals as goal
 
 pub offsets_within-requires-clause-ready : goal.offsets_within-requires-clause-ready

@@ -1,6 +1,6 @@
 use Rattle.std.proofs.Common.{◌+◌, arith, sym, subst}
 use Rattle.awk_lanes.specs.Places.{size_of}
-use Rattle.awk_columns.specs.Counted.{first_of, numbers_at, span_at}
+use Rattle.awk_counts.specs.Counted.{first_of, numbers_at, span_at}
 use Rattle.awk_columns.proofs.JoinedLists.{spans_wider}
 use Rattle.awk_columns.proofs.MovedNumbers.{AreBytesOf, moved_next}
 use Rattle.awk_columns.proofs.moved.moved_numbers.Goals as goal

@@ -1,4 +1,4 @@
-use Rattle.awk_columns.specs.Counted.{first_of, numbers_at, span_at}
+use Rattle.awk_counts.specs.Counted.{first_of, numbers_at, span_at}
 use Rattle.awk_columns.proofs.MovedNumbers.{AreBytesOf}
 use Rattle.awk_columns.proofs.moved.moved_numbers.Given as goal
 

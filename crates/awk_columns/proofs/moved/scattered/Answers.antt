@@ -6,7 +6,7 @@ use Rattle.awk_lanes.specs.Column.{Column}
 use Rattle.awk_lanes.specs.Places.{size_of}
 use Rattle.awk_layout.specs.Layout.{flat}
 use Rattle.awk_layout.specs.Valid.{len}
-use Rattle.awk_columns.specs.Counted.{spans}
+use Rattle.awk_counts.specs.Counted.{spans}
 use Rattle.awk_columns.specs.Reached.{IsReached}
 use Rattle.awk_columns.proofs.JoinedLists.{gather_reached, spans_places}
 use Rattle.awk_columns.proofs.MovedNumbers.{numbers_reached}

@@ -1,7 +1,7 @@
 use Rattle.std.proofs.Common.{subst, sym}
 use Rattle.awk_lanes.specs.Places.{size_of, IsIndex}
 use Rattle.awk_layout.specs.Valid.{len}
-use Rattle.awk_columns.specs.Counted.{first_of, present_at}
+use Rattle.awk_counts.specs.Counted.{first_of, present_at}
 use Rattle.awk_columns.proofs.OrderedOptions.{option_below, option_opened, option_in_order}
 use Rattle.awk_columns.proofs.ReachedContents.{places_index, reached_by}
 use Rattle.awk_columns.proofs.order.order_seen.Goals as goal

@@ -1,6 +1,6 @@
 use Rattle.std.specs.Prelude.{◌≡◌, ◌+◌, length}
 use Rattle.std.specs.List.{range_with_len}
-use Rattle.awk_columns.specs.Counted.{first_of, span_at}
+use Rattle.awk_counts.specs.Counted.{first_of, span_at}
 use Rattle.awk_columns.proofs.spans.is_row.Given as goal
 
 abbrev pub invariant-loop-i : goal.invariant-loop-i

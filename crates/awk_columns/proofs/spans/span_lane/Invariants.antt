@@ -1,7 +1,7 @@
 use Rattle.std.specs.Prelude.{◌++◌}
 use Rattle.std.specs.List.{range_with_len}
-use Rattle.awk_columns.specs.Counted.{first_of, span_at}
-use Rattle.awk_columns.proofs.PlaceLanes.{ArePlaces}
+use Rattle.awk_counts.specs.Counted.{first_of, span_at}
+use Rattle.awk_counts.proofs.PlaceLanes.{ArePlaces}
 use Rattle.awk_columns.proofs.spans.span_lane.Given as goal
 
 abbrev pub invariant-loop-i : goal.invariant-loop-i

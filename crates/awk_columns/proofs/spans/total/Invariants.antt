@@ -1,5 +1,5 @@
 use Rattle.std.specs.Prelude.{◌≡◌, ◌≤◌, length}
-use Rattle.awk_columns.specs.Counted.{first_of, span_at}
+use Rattle.awk_counts.specs.Counted.{first_of, span_at}
 use Rattle.awk_columns.proofs.spans.total.Given as goal
 
 abbrev pub invariant-loop-i : goal.invariant-loop-i

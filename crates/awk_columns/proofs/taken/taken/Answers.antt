@@ -4,7 +4,7 @@ use Rattle.std.specs.Prelude.{IfSome, slice_range}
 use Rattle.std.proofs.lemmas.Result.{IfOk-weaker}
 use Rattle.awk_layout.specs.Typing.{array_items}
 use Rattle.awk_layout.specs.Valid.{len}
-use Rattle.awk_columns.specs.Counted.{IsRun}
+use Rattle.awk_counts.specs.Counted.{IsRun}
 use Rattle.awk_layout.proofs.ArrayItems.{length-array_items}
 use Rattle.awk_columns.proofs.ReachedContents.{run_picked}
 use Rattle.awk_columns.proofs.taken.taken.Goals as goal

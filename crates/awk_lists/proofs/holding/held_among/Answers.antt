@@ -1,7 +1,7 @@
 use Rattle.std.proofs.Common.{ap, ◌∙◌}
 use Rattle.awk_lanes.specs.Places.{size_of, place_at}
 use Rattle.awk_gather.specs.Arrays.{IsGathered}
-use Rattle.awk_columns.specs.Counted.{first_of, places_lane}
+use Rattle.awk_counts.specs.Counted.{first_of, places_lane}
 use Rattle.awk_lists.specs.Held.{held_at, held_counts}
 use Rattle.awk_lists.proofs.HeldLists.{held_size, last_positive, last_place, held_index, are_held}
 use Rattle.awk_lists.proofs.holding.held_among.Goals as goal

@@ -3,8 +3,8 @@ use Rattle.std.specs.Prelude.{pos}
 use Rattle.awk_lanes.specs.Numbers.{int_of}
 use Rattle.awk_lanes.specs.Places.{size_of}
 use Rattle.awk_lanes.specs.declared.kind.Kind.TheVariants.{I64}
-use Rattle.awk_columns.specs.Counted.{first_of}
-use Rattle.awk_columns.proofs.FirstPlaces.{length-first_of}
+use Rattle.awk_counts.specs.Counted.{first_of}
+use Rattle.awk_counts.proofs.FirstPlaces.{length-first_of}
 use Rattle.awk_lanes.proofs.MadeLanes.{so_far_pushed, made_size}
 use Rattle.awk_lists.specs.Held.{held_at}
 use Rattle.awk_lists.proofs.HeldLists.{held-most}

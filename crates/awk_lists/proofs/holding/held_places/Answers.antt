@@ -1,7 +1,7 @@
 use Rattle.std.proofs.Common.{◌+◌, arith, sym, subst}
 use Rattle.awk_lanes.specs.Places.{size_of}
-use Rattle.awk_columns.specs.Counted.{first_of}
-use Rattle.awk_columns.proofs.PlaceLanes.{ArePlaces, given_pushed, given_none, given_room}
+use Rattle.awk_counts.specs.Counted.{first_of}
+use Rattle.awk_counts.proofs.PlaceLanes.{ArePlaces, given_pushed, given_none, given_room}
 use Rattle.awk_lists.specs.Held.{held_at}
 use Rattle.awk_lists.proofs.HeldLists.{held-some, held-none}
 use Rattle.awk_lists.proofs.holding.held_places.Goals as goal

@@ -1,5 +1,5 @@
-use Rattle.awk_columns.specs.Counted.{first_of}
-use Rattle.awk_columns.proofs.PlaceLanes.{ArePlaces}
+use Rattle.awk_counts.specs.Counted.{first_of}
+use Rattle.awk_counts.proofs.PlaceLanes.{ArePlaces}
 use Rattle.awk_lists.specs.Held.{held_at}
 use Rattle.awk_lists.proofs.holding.held_places.Given as goal
 

@@ -1,8 +1,8 @@
 use Rattle.std.proofs.Common.{◌≡◌, ◌++◌, length, map, arith, ap, ap₂, sym, ◌∙◌}
 use Rattle.std.specs.Prelude.{ℕ, pos}
 use Rattle.std.proofs.lemmas.List.{length-map, map-append}
-use Rattle.awk_columns.specs.Counted.{first_of}
-use Rattle.awk_columns.proofs.FirstPlaces.{first_of-room, first_of-more}
+use Rattle.awk_counts.specs.Counted.{first_of}
+use Rattle.awk_counts.proofs.FirstPlaces.{first_of-room, first_of-more}
 use Rattle.awk_lists.specs.Runs.{runs_between, runs_at}
 use Rattle.awk_lists.proofs.runs.all_runs.Goals as goal
 

@@ -1,6 +1,6 @@
 use Rattle.std.specs.Prelude.{◌≡◌, map, pos}
 use Rattle.awk_lanes.specs.declared.kind.Kind.TheVariants as Kind
-use Rattle.awk_columns.specs.Counted.{first_of}
+use Rattle.awk_counts.specs.Counted.{first_of}
 use Rattle.awk_lists.specs.Runs.{runs_at}
 use Rattle.awk_lists.proofs.runs.all_runs.Given as goal
 

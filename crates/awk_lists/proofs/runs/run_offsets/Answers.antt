@@ -2,7 +2,7 @@ use Rattle.std.proofs.Common.{◌≡◌, ◌+◌, length, arith, ap, ap₂, sym,
 use Rattle.std.specs.Prelude.{pos}
 use Rattle.awk_lanes.specs.Numbers.{int_of}
 use Rattle.awk_lanes.specs.declared.kind.Kind.TheVariants.{I64}
-use Rattle.awk_columns.proofs.FirstPlaces.{length-first_of, first_of-mono}
+use Rattle.awk_counts.proofs.FirstPlaces.{length-first_of, first_of-mono}
 use Rattle.awk_lanes.proofs.MadeLanes.{so_far_pushed, made_size}
 use Rattle.awk_lists.specs.Runs.{runs_between, runs_at, runs_before}
 use Rattle.awk_lists.proofs.runs.run_offsets.Goals as goal

@@ -1,7 +1,7 @@
 use Rattle.std.specs.Prelude.{◌+◌, length, pos}
 use Rattle.awk_lanes.specs.Places.{size_of}
 use Rattle.awk_lanes.specs.declared.kind.Kind.TheVariants as Kinds
-use Rattle.awk_columns.specs.Counted.{present_at}
+use Rattle.awk_counts.specs.Counted.{present_at}
 use Rattle.awk_lanes.proofs.MadeLanes.{IsSoFar}
 use Rattle.awk_mask_levels.proofs.mask_nulls.stops_where.Given as goal
 

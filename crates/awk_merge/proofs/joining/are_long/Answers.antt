@@ -1,7 +1,7 @@
 use Rattle.std.proofs.Common.{◌≡◌, ◌∙◌, ◌==◌, ap, sym, length, false, arith}
 use Rattle.awk_layout.specs.Valid.{len}
-use Rattle.awk_merge.specs.Operands.{column_in}
-use Rattle.awk_merge.proofs.AnswerLaws.{long_next, long_fails, long_last, length-column}
+use Rattle.awk_merge_operands.specs.Operands.{column_in}
+use Rattle.awk_merge_operands.proofs.AnswerLaws.{long_next, long_fails, long_last, length-column}
 use Rattle.awk_merge.proofs.joining.are_long.Goals as goal
 
 pub loop-i-preserved : goal.loop-i-preserved

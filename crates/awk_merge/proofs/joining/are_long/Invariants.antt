@@ -1,6 +1,6 @@
 use Rattle.std.proofs.Common.{◌≡◌, map, drop}
-use Rattle.awk_merge.specs.Concatenate.{are_long}
-use Rattle.awk_merge.specs.Operands.{column_in}
+use Rattle.awk_merge_operands.specs.Concatenate.{are_long}
+use Rattle.awk_merge_operands.specs.Operands.{column_in}
 use Rattle.awk_merge.proofs.joining.are_long.Given as goal
 
 abbrev pub invariant-loop-i : goal.invariant-loop-i

@@ -6,10 +6,11 @@ use Rattle.awk_types.specs.View.{typ_of}
 use Rattle.awk_layout.specs.Typing.{array_datum}
 use Rattle.awk_layout.specs.Valid.{len}
 use Rattle.awk_unify.specs.View.{lifts_of}
-use Rattle.awk_merge.specs.Concatenate.{row_count}
-use Rattle.awk_merge.specs.Operands.{column_in, rows_datum, stacked_rows, rows_refused}
+use Rattle.awk_merge_operands.specs.Concatenate.{row_count}
+use Rattle.awk_merge_operands.specs.Operands.{column_in, rows_datum, stacked_rows, rows_refused}
 use Rattle.awk_merge_sides.specs.Sides.{sides_of, merged_items}
-use Rattle.awk_merge.proofs.AnswerLaws.{first_rows, rows_told_first, length-joined, rows_gives}
+use Rattle.awk_merge_operands.proofs.AnswerLaws.{first_rows, rows_told_first, length-joined}
+use Rattle.awk_merge_operands.proofs.AnswerLaws.{rows_gives}
 use Rattle.awk_merge.proofs.joining.by_rows.Goals as goal
 
 pub returns-in_err-judge_rows : goal.returns-in_err-judge_rows

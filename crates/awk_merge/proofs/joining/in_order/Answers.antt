@@ -3,7 +3,7 @@ use Rattle.awk_types.specs.Faults.{fault_told}
 use Rattle.awk_types.specs.Gives.{Gives}
 use Rattle.awk_types.specs.View.{typ_of}
 use Rattle.awk_layout.specs.Typing.{array_datum}
-use Rattle.awk_merge.specs.Operands.{stacked_datum}
+use Rattle.awk_merge_operands.specs.Operands.{stacked_datum}
 use Rattle.awk_merge.proofs.joining.in_order.Goals as goal
 
 pub returns : goal.returns

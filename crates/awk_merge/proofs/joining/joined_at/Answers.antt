@@ -8,10 +8,10 @@ use Rattle.awk_types.specs.View.{typ_of, typs_of}
 use Rattle.awk_layout.specs.Datum.{datum_of}
 use Rattle.awk_layout.specs.Typing.{array_datum}
 use Rattle.awk_unify.specs.View.{all_of, lifts_of}
-use Rattle.awk_merge.specs.Concatenate.{operand_types}
-use Rattle.awk_merge.specs.Operands.{AreLawful, IsRowsType}
-use Rattle.awk_merge.proofs.AnswerLaws.{limit_gives, joined_is, none_joined, array_type_is}
-use Rattle.awk_merge.proofs.OperandLaws.{carried_operands}
+use Rattle.awk_merge_operands.specs.Concatenate.{operand_types}
+use Rattle.awk_merge_operands.specs.Operands.{AreLawful, IsRowsType}
+use Rattle.awk_merge_operands.proofs.AnswerLaws.{limit_gives, joined_is, none_joined, array_type_is}
+use Rattle.awk_merge_operands.proofs.OperandLaws.{carried_operands}
 use Rattle.awk_merge.proofs.RowTypeLaws.{joined_are_rows}
 use Rattle.awk_merge.proofs.joining.joined_at.Goals as goal
 

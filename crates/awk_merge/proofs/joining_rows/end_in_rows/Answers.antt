@@ -1,8 +1,8 @@
 use Rattle.std.proofs.Common.{◌∙◌, ◌+◌, ◌*◌, ◌%◌, ◌/◌, ◌<◌, ℕ, Some, ap, refl, sym, arith}
 use Rattle.awk_lanes.specs.Places.{size_of}
-use Rattle.awk_merge.specs.Operands.{list_place}
-use Rattle.awk_merge.proofs.ListPlaceLaws.{cell, row_within, column_within, place_within}
-use Rattle.awk_merge.proofs.ListPlaceLaws.{indexes_all, index_has}
+use Rattle.awk_merge_operands.specs.Operands.{list_place}
+use Rattle.awk_merge_operands.proofs.ListPlaceLaws.{cell, row_within, column_within, place_within}
+use Rattle.awk_merge_operands.proofs.ListPlaceLaws.{indexes_all, index_has}
 use Rattle.awk_merge.proofs.joining_rows.end_in_rows.Goals as goal
 
 pub list_place-requires : goal.list_place-requires

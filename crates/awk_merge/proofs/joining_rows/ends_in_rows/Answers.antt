@@ -3,7 +3,7 @@ use Rattle.awk_lanes.specs.Numbers.{int_of}
 use Rattle.awk_lanes.specs.Places.{size_of}
 use Rattle.awk_lanes.specs.declared.kind.Kind.TheVariants.{I64}
 use Rattle.awk_lanes.proofs.MadeLanes.{so_far_pushed}
-use Rattle.awk_merge.specs.Operands.{end_in_rows}
+use Rattle.awk_merge_operands.specs.Operands.{end_in_rows}
 use Rattle.awk_merge.proofs.joining_rows.ends_in_rows.Goals as goal
 
 pub loop-t-preserved : goal.loop-t-preserved

@@ -1,7 +1,7 @@
 use Rattle.std.proofs.Common.{◌≡◌, ◌∙◌, ◌+◌, ◌*◌, ap, sym, subst, arith}
 use Rattle.std.specs.Prelude.{true, not, is_some}
 use Rattle.std.specs.List.{list_all, range_with_len}
-use Rattle.awk_merge.specs.Operands.{list_place}
+use Rattle.awk_merge_operands.specs.Operands.{list_place}
 use Rattle.awk_merge.proofs.RangeLaws.{holds_next, fails_at}
 use Rattle.awk_merge.proofs.joining_rows.is_whole.Goals as goal
 

@@ -1,6 +1,6 @@
 use Rattle.std.specs.Prelude.{◌≡◌, ◌+◌, ◌*◌, true, is_some}
 use Rattle.std.specs.List.{list_all, range_with_len}
-use Rattle.awk_merge.specs.Operands.{list_place}
+use Rattle.awk_merge_operands.specs.Operands.{list_place}
 use Rattle.awk_merge.proofs.joining_rows.is_whole.Given as goal
 
 abbrev pub invariant-loop-j : goal.invariant-loop-j

@@ -6,9 +6,9 @@ use Rattle.awk_layout.specs.Typing.{array_type}
 use Rattle.awk_columns.specs.Joined.{IsJoined, JoinsLists, total}
 use Rattle.awk_columns.specs.Opened.{AreLists}
 use Rattle.awk_columns.specs.declared.lists.Joined.TheVariants.{TooMany, Lists}
-use Rattle.awk_merge.specs.Operands.{rows_lane, ends_in_rows}
+use Rattle.awk_merge_operands.specs.Operands.{rows_lane, ends_in_rows}
 use Rattle.awk_merge.proofs.JoinedRowLaws.{too-many, are-rising, joined-datum}
-use Rattle.awk_merge.proofs.ListPlaceLaws.{rows_index, ends_are}
+use Rattle.awk_merge_operands.proofs.ListPlaceLaws.{rows_index, ends_are}
 use Rattle.awk_merge.proofs.joining_rows.joined_lists.Goals as goal
 
 pub ends_in_rows-requires-clause-rows : goal.ends_in_rows-requires-clause-rows

@@ -5,7 +5,7 @@ use Rattle.awk_types.specs.Gives.{Told}
 use Rattle.awk_layout.proofs.ArrayItems.{length-array_items}
 use Rattle.awk_layout.specs.Array.{IsArrayType}
 use Rattle.awk_layout.specs.Typing.{array_type, array_items, array_datum}
-use Rattle.awk_merge.specs.Operands.{stacked_rows, rows_datum, IsRowsType}
+use Rattle.awk_merge_operands.specs.Operands.{stacked_rows, rows_datum, IsRowsType}
 use Rattle.awk_merge_sides.specs.Sides.{sides_of, merged_items}
 use Rattle.awk_merge.proofs.NullRowLaws.{rows_made}
 use Rattle.awk_merge.proofs.joining_rows.joined_rows.Goals as goal

@@ -9,9 +9,10 @@ use Rattle.awk_lanes.specs.Places.{size_of, IsOptionalIndex}
 use Rattle.awk_layout.specs.Layout.{optional}
 use Rattle.awk_layout.specs.Typing.{array_type, array_datum}
 use Rattle.awk_layout.specs.Valid.{len}
-use Rattle.awk_merge.specs.Operands.{rows_lane, rows_datum, filled_rows, stacked_rows, values_by}
-use Rattle.awk_merge.specs.Operands.{type_by, list_between, IsListIndex}
-use Rattle.awk_merge.proofs.ListPlaceLaws.{few_rows, indexes_all, size-rows, rows_index}
+use Rattle.awk_merge_operands.specs.Operands.{rows_lane, rows_datum, filled_rows, stacked_rows}
+use Rattle.awk_merge_operands.specs.Operands.{values_by}
+use Rattle.awk_merge_operands.specs.Operands.{type_by, list_between, IsListIndex}
+use Rattle.awk_merge_operands.proofs.ListPlaceLaws.{few_rows, indexes_all, size-rows, rows_index}
 use Rattle.awk_merge.proofs.NullRowLaws.{plain_gives, null_gives, rows_made, rows-len, rows_told}
 use Rattle.awk_merge.proofs.joining_rows.rows_by_index.Goals as goal
 

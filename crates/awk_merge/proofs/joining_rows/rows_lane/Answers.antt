@@ -1,7 +1,7 @@
 use Rattle.awk_lanes.specs.Numbers.{int_of}
 use Rattle.awk_lanes.specs.declared.kind.Kind.TheVariants.{I64}
 use Rattle.awk_lanes.proofs.MadeLanes.{so_far_pushed}
-use Rattle.awk_merge.specs.Operands.{row_or_null}
+use Rattle.awk_merge_operands.specs.Operands.{row_or_null}
 use Rattle.awk_merge.proofs.joining_rows.rows_lane.Goals as goal
 
 pub loop-i-preserved : goal.loop-i-preserved

@@ -1,6 +1,6 @@
 use Rattle.awk_lanes.specs.declared.kind.Kind.TheVariants.{I64}
 use Rattle.awk_lanes.proofs.MadeLanes.{IsSoFar}
-use Rattle.awk_merge.specs.Operands.{row_or_null}
+use Rattle.awk_merge_operands.specs.Operands.{row_or_null}
 use Rattle.awk_merge.proofs.joining_rows.rows_lane.Given as goal
 
 abbrev pub invariant-loop-i : goal.invariant-loop-i

@@ -1,7 +1,7 @@
 use Rattle.std.specs.Prelude.{◌≡◌, ◌+◌, length, pos}
 use Rattle.awk_lanes.specs.Places.{size_of}
 use Rattle.awk_lanes.specs.declared.kind.Kind.TheVariants as Kind
-use Rattle.awk_columns.specs.Counted.{first_of, present_at}
+use Rattle.awk_counts.specs.Counted.{first_of, present_at}
 use Rattle.awk_lanes.proofs.MadeLanes.{IsSoFar}
 use Rattle.awk_option_nodes.proofs.presence.counts_of.Given as goal
 

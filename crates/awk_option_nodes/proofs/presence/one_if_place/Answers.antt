@@ -1,5 +1,5 @@
 use Rattle.std.proofs.Common.{length, ap, ◌∙◌}
-use Rattle.awk_columns.specs.Counted.{present_place}
+use Rattle.awk_counts.specs.Counted.{present_place}
 use Rattle.awk_option_nodes.proofs.presence.one_if_place.Goals as goal
 
 pub returns : goal.returns

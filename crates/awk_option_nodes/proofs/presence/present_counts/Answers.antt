@@ -1,4 +1,4 @@
-use Rattle.awk_columns.proofs.PlaceLanes.{option-index}
+use Rattle.awk_counts.proofs.PlaceLanes.{option-index}
 use Rattle.awk_option_nodes.proofs.presence.present_counts.Goals as goal
 
 pub index_of-requires : goal.index_of-requires

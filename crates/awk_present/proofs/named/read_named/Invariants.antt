@@ -1,4 +1,4 @@
-use Rattle.awk_columns.specs.Counted.{first_of, present_at}
+use Rattle.awk_counts.specs.Counted.{first_of, present_at}
 use Rattle.awk_present.proofs.TakenLanes.{AreTaken}
 use Rattle.awk_present.proofs.named.read_named.Given as goal
 

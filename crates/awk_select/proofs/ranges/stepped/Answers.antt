@@ -5,7 +5,7 @@ use Rattle.std.proofs.lemmas.Result.{IfOk-weaker}
 use Rattle.awk_lanes.specs.Places.{IsIndex}
 use Rattle.awk_layout.specs.Typing.{array_items}
 use Rattle.awk_layout.specs.Valid.{len}
-use Rattle.awk_columns.specs.Counted.{places_lane}
+use Rattle.awk_counts.specs.Counted.{places_lane}
 use Rattle.awk_select.specs.Places.{range_places}
 use Rattle.awk_select.proofs.RangePlaces.{range_places-index, pick-places}
 use Rattle.awk_select.proofs.ranges.stepped.Goals as goal

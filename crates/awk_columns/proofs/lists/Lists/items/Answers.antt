@@ -1,5 +1,5 @@
 use Rattle.std.proofs.Common.{subst, IfOk}
-use Rattle.awk_columns.specs.Counted.{spans}
+use Rattle.awk_counts.specs.Counted.{spans}
 use Rattle.awk_columns.specs.Lists.{Listed}
 use Rattle.awk_columns.specs.Reached.{IsReached}
 use Rattle.awk_columns.proofs.lists.Lists.items.Goals as goal

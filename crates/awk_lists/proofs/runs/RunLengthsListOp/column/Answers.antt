@@ -5,7 +5,7 @@ use Rattle.std.proofs.lemmas.List.{length-map}
 use Rattle.awk_lanes.specs.Numbers.{nat_of}
 use Rattle.awk_lanes.specs.Places.{size_of, place_at}
 use Rattle.awk_lanes.specs.declared.kind.Kind.TheVariants.{I64}
-use Rattle.awk_columns.specs.Counted.{first_of}
+use Rattle.awk_counts.specs.Counted.{first_of}
 use Rattle.awk_lanes.proofs.MadeLanes.{at-lane_of}
 use Rattle.awk_columns.specs.Joined.{IsJoined}
 use Rattle.awk_columns.specs.declared.lists.Joined.TheVariants.{Lists}

@@ -1,6 +1,0 @@
-use Rattle.std.proofs.Common.{◌≡◌, length}
-use Rattle.awk_columns.specs.Counted.{first_of, present_at}
-use Rattle.awk_columns.proofs.counted.count_present.Given as goal
-
-abbrev pub invariant-loop-i : goal.invariant-loop-i
-invariant-loop-i l = l.count ≡ length (first_of (present_at l.index) l.i)

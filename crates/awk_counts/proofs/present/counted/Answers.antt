@@ -1,0 +1,54 @@
+use Rattle.std.proofs.Common.{◌+◌, length, arith, ap, ◌∙◌}
+use Rattle.awk_lanes.specs.Numbers.{int_of}
+use Rattle.awk_lanes.specs.Places.{option_place_at}
+use Rattle.awk_counts.specs.Counted.{count_or_null, present_place, present_at}
+use Rattle.awk_counts.proofs.FirstPlaces.{length-first_of, present-few}
+use Rattle.awk_lanes.proofs.MadeLanes.{so_far_pushed}
+use Rattle.awk_counts.proofs.present.counted.Goals as goal
+
+pub loop-i-preserved : goal.loop-i-preserved
+loop-i-preserved c = record {
+  next =
+      omega (
+        arith,
+        length-first_of (present_at c.args.index.now) c.loop-i.i,
+        c.loop-i.invariant.next,
+        c.one_if-next.ensures,
+        ap (λ o. length (present_place o))
+            c.option_place.ensures,
+      );
+  made =
+      so_far_pushed _ _ _ c.loop-i.i (int_of c.next_number-number.result) c.loop-i.maker
+      c.push.new.self c.push.ensures
+      (c.next_number-number.ensures.number ∙ ap
+      (λ n. count_or_null n (option_place_at c.args.index.now c.loop-i.i))
+      c.loop-i.invariant.next)
+      c.loop-i.invariant.made;
+}
+
+pub next_number-number-requires-clause-small : goal.next_number-number-requires-clause-small
+next_number-number-requires-clause-small c =
+    omega (
+      arith,
+      present-few c.args.index.now c.loop-i.i,
+      c.loop-i.invariant.next,
+      c.loop-i-test.true,
+      c.len-n.ensures.len,
+      c.requires.small,
+    )
+
+pub overflow_add-next : goal.overflow_add-next
+overflow_add-next c =
+    omega (
+      arith,
+      present-few c.args.index.now (c.loop-i.i + 1),
+      length-first_of
+          (present_at c.args.index.now) c.loop-i.i,
+      c.loop-i.invariant.next,
+      c.one_if-next.ensures,
+      ap
+          (λ o. length (present_place o)) c.option_place.ensures,
+      c.loop-i-test.true,
+      c.len-n.ensures.len,
+      c.requires.small,
+    )

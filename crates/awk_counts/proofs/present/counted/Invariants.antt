@@ -1,0 +1,12 @@
+use Rattle.std.proofs.Common.{◌≡◌, length}
+use Rattle.awk_lanes.specs.declared.kind.Kind.TheVariants.{I64}
+use Rattle.awk_lanes.specs.Places.{size_of}
+use Rattle.awk_counts.specs.Counted.{first_of, present_at, counted_at}
+use Rattle.awk_lanes.proofs.MadeLanes.{IsSoFar}
+use Rattle.awk_counts.proofs.present.counted.Given as goal
+
+abbrev pub invariant-loop-i : goal.invariant-loop-i
+invariant-loop-i l = record {
+  next : l.next ≡ length (first_of (present_at l.index) l.i);
+  made : IsSoFar I64 (size_of l.index) (counted_at l.index) l.i l.maker;
+}

@@ -1,0 +1,91 @@
+//! Indexes of options that count up, and the places of the items that are present.
+ghost use Rattle.std.specs.Prelude.{◌≡◌, ◌<◌, ◌^◌, length, IfOk, IfSome};
+ghost use Rattle.awk_lanes.specs.Numbers.{int_of, IsOf};
+ghost use Rattle.awk_lanes.specs.Places.{size_of, option_place_at, IsOptionKind};
+ghost use Rattle.awk_lanes.specs.declared.kind.Kind.TheVariants as Kind;
+ghost use Rattle.awk_counts.specs.Counted.{first_of, places_lane, present_place, present_at};
+ghost use Rattle.awk_counts.specs.Counted.{count_or_null, counted_lane};
+
+use awk_lanes::{Arena, Index, IndexMaker, Lane, NoMemory, Num, number};
+
+/// 1 where there is a place, else 0.
+pub fn one_if(place: Option<u64>) -> u64
+    ensures { result ≡ length (present_place place) }
+{
+    match place {
+        Some(_) => 1,
+        None => 0,
+    }
+}
+
+/// How many items the index of an option names.
+#[tactic(auto, using(crate::proofs::FirstPlaces::counting))]
+pub fn count_present(index: &Index) -> u64
+    requires kind { IsOptionKind index.now.kind }
+    ensures { result ≡ length (first_of (present_at index.now) (size_of index.now)) }
+{
+    let mut count = 0;
+    for i in 0..index.len() {
+        count += one_if(index.option_place(i));
+    }
+    count
+}
+
+/// `next` where the index of an option names an item at place i, else -1.
+fn next_number(index: &Index, i: u64, next: u64) -> Num
+    requires kind { IsOptionKind index.now.kind }
+    requires within { i < size_of index.now }
+    requires small { next < 2 ^ 63 }
+    ensures number { int_of result ≡ count_or_null next (option_place_at index.now i) }
+    ensures kind { IsOf Kind.I64 result }
+{
+    match index.option_place(i) {
+        Some(_) => Num::Int(next as i64),
+        None => Num::Int(-1),
+    }
+}
+
+/// The index of an option over the present items alone: it counts up, and is -1 for each null.
+#[tactic(auto, using(awk_lanes::proofs::MadeLanes::making))]
+pub fn counted<'a>(index: &Index, arena: &'a Arena) -> Result<Lane<'a>, NoMemory>
+    requires kind { IsOptionKind index.now.kind }
+    requires small { size_of index.now < 2 ^ 63 }
+    ensures lane { IfOk result (λ r. r ≡ counted_lane index.now) }
+{
+    let n = index.len();
+    let mut maker = IndexMaker::new(n, arena)?;
+    let mut next = 0;
+    for i in 0..n {
+        let number = next_number(index, i, next);
+        maker.push(number);
+        next += one_if(index.option_place(i));
+    }
+    Ok(maker.finish())
+}
+
+/// The place that the index of an option names at place i, which an i64 holds.
+#[inline(always)]
+fn present_in(index: &Index, i: u64) -> Option<u64>
+    requires within { i < size_of index.now }
+    ensures place { result ≡ option_place_at index.now i }
+    ensures small { IfSome result (λ k. k < 2 ^ 63) }
+{
+    let place = index.number(i);
+    if place < 0 { None } else { Some(place as u64) }
+}
+
+/// The places of the items that the index of an option names, of which there are n.
+pub fn present_lane<'a>(index: &Index, n: u64, arena: &'a Arena) -> Result<Lane<'a>, NoMemory>
+    requires kind { IsOptionKind index.now.kind }
+    requires count { n ≡ length (first_of (present_at index.now) (size_of index.now)) }
+    ensures lane { let places = first_of (present_at index.now) (size_of index.now) in
+        IfOk result (λ r. r ≡ places_lane places) }
+{
+    let mut maker = IndexMaker::new(n, arena)?;
+    for i in 0..index.len() {
+        if let Some(place) = present_in(index, i) {
+            maker.push(number(place));
+        }
+    }
+    Ok(maker.finish())
+}

@@ -1,0 +1,2 @@
+pub mod MovedGroups
+pub mod PickedLanes

@@ -1,0 +1,2 @@
+pub mod PromotionLaws
+pub mod RangeLaws

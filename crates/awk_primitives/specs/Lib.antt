@@ -1,0 +1,3 @@
+pub mod Promotion
+pub mod Fits
+pub mod Worked
