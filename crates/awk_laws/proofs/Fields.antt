@@ -12,7 +12,7 @@ use Rattle.awk_types.specs.Value.{Value, int, truth, null, list, row, alt, value
 use Rattle.awk_types.proofs.Trees.{type_list-from, types_from-list, value_list-from}
 use Rattle.awk_types.proofs.Trees.{values_from-list}
 use Rattle.awk_view.specs.Choice.{field, without, beside, apart_from, place_of, chosen_value}
-use Rattle.awk_with_field.specs.Field.{put, named, field_value}
+use Rattle.awk_put_field.specs.Field.{put, named, field_value}
 use Rattle.awk_laws.proofs.PutNames.{beside-put, apart-put}
 
 -- ---- rows

@@ -25,7 +25,7 @@ use Rattle.awk_types.specs.Simple.{present}
 use Rattle.awk_view.specs.Answer.{choice_fault}
 use Rattle.awk_view.specs.Choice.{Choice, has_field, absent, type_of_choice, value_of_choice}
 use Rattle.awk_view.specs.Choice.{chosen_type, chosen_value}
-use Rattle.awk_with_field.specs.Field.{put, named}
+use Rattle.awk_put_field.specs.Field.{put, named}
 use Rattle.awk_laws.proofs.Lifted.{both_in_list}
 
 -- ---- types of pairs

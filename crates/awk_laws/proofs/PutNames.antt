@@ -6,7 +6,7 @@ use Rattle.awk_types.specs.DataType.{Name}
 use Rattle.awk_types.specs.Names.{same_name, is_among}
 use Rattle.awk_types.proofs.NameLaws.{same_name-refl}
 use Rattle.awk_view.specs.Choice.{place_of, apart_from}
-use Rattle.awk_with_field.specs.Field.{put, named}
+use Rattle.awk_put_field.specs.Field.{put, named}
 
 -- ---- the name is there
 

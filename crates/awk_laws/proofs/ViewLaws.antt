@@ -36,10 +36,10 @@ use Rattle.awk_select.specs.Places.{range_places}
 use Rattle.awk_view.specs.Answer.{choice_fault}
 use Rattle.awk_view.specs.Choice.{field, without, chosen_type}
 use Rattle.awk_view.specs.Choice.{chosen_value}
-use Rattle.awk_with_field.specs.Field.{put, named, field_value, end_value}
+use Rattle.awk_put_field.specs.Field.{put, named, field_value, end_value}
 use Rattle.awk_with_field.specs.WithField.{with_field_of, with_refused, with_type, with_values}
 use Rattle.awk_with_field.specs.WithField.{both, beside as beside_records, end_of, levels_of}
-use Rattle.awk_with_field.specs.Field.{field_type, names_in}
+use Rattle.awk_put_field.specs.Field.{field_type, names_in}
 use Rattle.awk_frames.specs.Framed.{over, over_type}
 use Rattle.awk_columns.specs.Columns.{part_at}
 use Rattle.awk_pair_operands.specs.Paired.{paired_value, to_depth}

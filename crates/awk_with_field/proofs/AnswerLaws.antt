@@ -25,7 +25,7 @@ use Rattle.awk_pair_operands.specs.Answer.{single_or_fault}
 use Rattle.awk_pair_operands.specs.Pairs.{pair_refused, pair_type, pair_values, some_array}
 use Rattle.awk_pair_operands.specs.Pairs.{datum_from}
 use Rattle.awk_pair_types.specs.Limits.{limit_refused}
-use Rattle.awk_with_field.specs.Field.{names_in, end_value}
+use Rattle.awk_put_field.specs.Field.{names_in, end_value}
 use Rattle.awk_with_field.specs.WithField.{end_of, is_wrong, with_type, with_values}
 use Rattle.awk_with_field.specs.WithField.{with_refused, with_field_at}
 

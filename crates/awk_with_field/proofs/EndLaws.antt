@@ -28,7 +28,7 @@ use Rattle.awk_pair_operands.specs.Paired.{to_depth, types_at_ends}
 use Rattle.awk_pair_sides.specs.Levels.{opens, item_of, item_types}
 use Rattle.awk_types.specs.Simple.{present}
 use Rattle.awk_pair_types.specs.Limits.{limit_refused}
-use Rattle.awk_with_field.specs.Field.{is_record, names_in, field_type, end_value, field_value}
+use Rattle.awk_put_field.specs.Field.{is_record, names_in, field_type, end_value, field_value}
 use Rattle.awk_with_field.specs.WithField.{end_of, is_wrong, with_type}
 
 -- ---- as many columns as operands

@@ -15,8 +15,8 @@ use Rattle.awk_layout.specs.declared.datum.Datum.TheVariants.{Arr, One}
 use Rattle.awk_pair_operands.specs.Paired.{to_depth, types_at_ends}
 use Rattle.awk_pair_operands.specs.Pairs.{below, item_type}
 use Rattle.awk_pair_sides.specs.Levels.{item_types}
-use Rattle.awk_with_field.specs.Ends.{lists_down, ends_at_records}
-use Rattle.awk_with_field.specs.Field.{is_record}
+use Rattle.awk_put_field.specs.Ends.{lists_down, ends_at_records}
+use Rattle.awk_put_field.specs.Field.{is_record}
 use Rattle.awk_with_field.specs.WithField.{levels_of, beside, both, is_wrong}
 
 -- the levels below the first rows

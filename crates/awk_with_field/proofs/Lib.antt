@@ -1,12 +1,6 @@
 mod Worked
-mod PutLaws
-mod ThereLaws
-mod OptionLaws
-mod RowLaws
 mod OneLaws
 mod LevelLaws
 mod EndLaws
-mod DepthLaws
-mod LimitLaws
 mod AnswerLaws
 mod RefusedLaws

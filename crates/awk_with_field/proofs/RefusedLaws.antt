@@ -27,13 +27,13 @@ use Rattle.awk_layout.specs.declared.datum.Datum.TheVariants.{Arr, One}
 use Rattle.awk_layout.specs.declared.datum.Operand.{Operand}
 use Rattle.awk_pair_operands.specs.First.{all_data}
 use Rattle.awk_pair_operands.specs.Pairs.{item_type, pair_refused, datum_from, some_array}
-use Rattle.awk_with_field.specs.Depths.{depth_over, list_told}
-use Rattle.awk_with_field.specs.Ends.{ends_at_records}
+use Rattle.awk_put_field.specs.Depths.{depth_over, list_told}
+use Rattle.awk_put_field.specs.Ends.{ends_at_records}
 use Rattle.awk_with_field.specs.Refused.{IsListFault}
 use Rattle.awk_with_field.specs.WithField.{levels_of, beside, both, is_wrong, with_type}
 use Rattle.awk_with_field.specs.WithField.{with_values, with_field_at, with_field_of}
 use Rattle.awk_with_field.proofs.AnswerLaws.{items-one, wrong-none}
-use Rattle.awk_with_field.proofs.DepthLaws.{deep_result, large_result}
+use Rattle.awk_put_field.proofs.DepthLaws.{deep_result, large_result}
 use Rattle.awk_with_field.proofs.LevelLaws.{wrong-told}
 
 pub type-kept : (d : code.Datum) → item_type (datum_of d) ≡ array_type (kept d)

@@ -7,7 +7,7 @@ use Rattle.awk_types.specs.Gives.{Told}
 use Rattle.awk_types.specs.Simple.{IsSimple}
 use Rattle.awk_types.specs.Value.{Value}
 use Rattle.awk_types.specs.declared.fault.Fault.{Fault}
-use Rattle.awk_with_field.specs.Ends.{ends_at_records}
+use Rattle.awk_put_field.specs.Ends.{ends_at_records}
 use Rattle.awk_with_field.specs.WithField.{with_field_of}
 
 -- the fault of any single value of records with any array

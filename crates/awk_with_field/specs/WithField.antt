@@ -12,8 +12,8 @@ use Rattle.awk_frames.specs.Framed.{over, over_type}
 use Rattle.awk_pair_operands.specs.Pairs.{datum_from, leaf_types, pair_refused, pair_type}
 use Rattle.awk_pair_operands.specs.Pairs.{pair_values, some_array}
 use Rattle.awk_pair_types.specs.Limits.{limit_refused}
-use Rattle.awk_with_field.specs.Ends.{lists_down}
-use Rattle.awk_with_field.specs.Field.{is_record, names_in, field_type, end_value}
+use Rattle.awk_put_field.specs.Ends.{lists_down}
+use Rattle.awk_put_field.specs.Field.{is_record, names_in, field_type, end_value}
 
 -- ---- what is paired
 

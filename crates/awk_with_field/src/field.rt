@@ -10,16 +10,16 @@ ghost use Rattle.awk_layout.specs.Datum.{datum_of, IsDatum};
 ghost use Rattle.awk_layout.specs.Typing.{array_type, array_items};
 ghost use Rattle.awk_pair_operands.specs.First.{all_data};
 ghost use Rattle.awk_pair_operands.specs.Pairs.{item_type};
-ghost use Rattle.awk_with_field.specs.Ends.{ends_at_records};
+ghost use Rattle.awk_put_field.specs.Ends.{ends_at_records};
 ghost use Rattle.awk_with_field.specs.Refused.{IsListFault};
 ghost use Rattle.awk_with_field.specs.WithField as spec;
 ghost use Rattle.awk_with_field.specs.WithField.{with_field_of};
 
 use crate::joining::joined;
 use crate::levels::{ends_at_records, levels_of, one_list};
-use crate::limits::list_fault;
 use awk_lanes::{Arena, NoMemory, Steps};
 use awk_layout::{Array, Datum, Operand, Operands};
+use awk_put_field::list_fault;
 use awk_types::{Fault, Typ};
 use std::alloc::Global;
 use std::sync::ledger::Ledger;

@@ -10,12 +10,12 @@ ghost use Rattle.awk_pair_operands.specs.First.{all_data};
 ghost use Rattle.awk_pair_types.specs.Limits.{limit_refused};
 ghost use Rattle.awk_with_field.specs.WithField.{is_wrong, with_type, with_field_at};
 
-use crate::ends::with_column;
 use awk_frames::framed;
 use awk_lanes::{Arena, Steps};
 use awk_layout::{Array, Datum, Operands};
 use awk_pair::pair_keeping;
 use awk_pair_types::{pair_types, typ_within};
+use awk_put_field::with_column;
 use awk_types::{Fault, Typ};
 use std::alloc::Global;
 use std::sync::ledger::Ledger;

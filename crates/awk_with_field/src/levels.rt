@@ -7,7 +7,7 @@ ghost use Rattle.awk_lanes.specs.declared.kind.Kind.TheVariants as Kind;
 ghost use Rattle.awk_layout.specs.Datum.{datum_of};
 ghost use Rattle.awk_layout.specs.Typing.{array_type, array_items};
 ghost use Rattle.awk_layout.specs.Valid.{len};
-ghost use Rattle.awk_with_field.specs.Ends as ends;
+ghost use Rattle.awk_put_field.specs.Ends as ends;
 ghost use Rattle.awk_with_field.specs.WithField as spec;
 
 use awk_lanes::{Arena, Kind, Lane, LaneMaker, NoMemory, Steps, number};

@@ -4,11 +4,8 @@
 //! records is stretched, and puts the values into the records.
 #![tactic(auto)]
 
-mod ends;
 mod field;
 mod joining;
 mod levels;
-mod limits;
-mod records;
 
 pub use field::with_field;

@@ -6,7 +6,7 @@ use Rattle.awk_types.specs.View.{typ_of}
 use Rattle.awk_layout.specs.Array.{array_of}
 use Rattle.awk_layout.specs.Typing.{array_type, array_items}
 use Rattle.awk_layout.specs.Valid.{len}
-use Rattle.awk_with_field.specs.Depths.{list_told}
+use Rattle.awk_put_field.specs.Depths.{list_told}
 use Rattle.awk_with_field.specs.WithField.{with_field_of}
 use Rattle.awk_with_field.proofs.RefusedLaws.{one_datum, list_refused}
 use Rattle.awk_with_field.proofs.field.list_beside.Goals as goal

@@ -8,7 +8,7 @@ use Rattle.awk_layout.specs.Datum.{datum_of}
 use Rattle.awk_layout.specs.Typing.{array_type}
 use Rattle.awk_pair_operands.specs.First.{all_data}
 use Rattle.awk_pair_operands.specs.Pairs.{item_type}
-use Rattle.awk_with_field.specs.Ends.{ends_at_records}
+use Rattle.awk_put_field.specs.Ends.{ends_at_records}
 use Rattle.awk_with_field.specs.WithField.{is_wrong, with_field_of}
 use Rattle.awk_with_field.proofs.RefusedLaws.{type-kept, wrong_answer, right-told}
 use Rattle.awk_with_field.proofs.RefusedLaws.{both-are, two-are, same-answer}

@@ -14,7 +14,7 @@ use Rattle.awk_pair_operands.specs.Answer.{shared_ends}
 use Rattle.awk_pair_operands.specs.First.{all_data}
 use Rattle.awk_pair_operands.specs.Pairs.{leaf_types, pair_refused, pair_type, pair_values}
 use Rattle.awk_pair_operands.specs.Pairs.{some_array}
-use Rattle.awk_with_field.specs.Field.{names_in, end_value}
+use Rattle.awk_put_field.specs.Field.{names_in, end_value}
 use Rattle.awk_with_field.specs.WithField.{end_of, with_type, with_field_at}
 use Rattle.awk_with_field.proofs.AnswerLaws.{told_type, told_pair, IsResult, datum_made, made}
 use Rattle.awk_with_field.proofs.EndLaws.{few-leaves, type-at, right-record, type-joined}

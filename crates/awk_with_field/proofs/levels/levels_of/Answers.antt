@@ -1,7 +1,7 @@
 use Rattle.std.proofs.Common.{◌≤◌, ◌∙◌, ap, sym, subst}
 use Rattle.awk_types.specs.View.{typ_of}
 use Rattle.awk_layout.specs.Typing.{array_type}
-use Rattle.awk_with_field.specs.Ends.{lists_down}
+use Rattle.awk_put_field.specs.Ends.{lists_down}
 use Rattle.awk_with_field.proofs.LevelLaws.{few_lists, levels-arr, levels-one}
 use Rattle.awk_with_field.proofs.levels.levels_of.Goals as goal
 

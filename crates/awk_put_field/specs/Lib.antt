@@ -1,0 +1,5 @@
+pub mod Places
+pub mod Field
+pub mod There
+pub mod Ends
+pub mod Depths
