@@ -1,9 +1,7 @@
 -- A longer text costs more.
-use Rattle.std.proofs.Common.{◌≤◌, ℕ, ◌*◌, List, ◌++◌, length, length-append, arith}
+use Rattle.std.proofs.Common.{◌≤◌, ℕ, List, ◌++◌, length, length-append, arith}
+use Rattle.awk_base.proofs.Numbers.{times}
 use Rattle.awk_answer.specs.Sending.{text_cost}
-
-pub times : (a b c d : ℕ) → a ≤ c → b ≤ d → a * b ≤ c * d
-times a b c d h k = grind arith
 
 -- a text within another costs no more
 pub text_cost-around : (width height : ℕ) (head text tail : List ℕ)

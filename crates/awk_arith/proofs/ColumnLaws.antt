@@ -1,9 +1,10 @@
 -- Columns of leaves at the ends of a pairing, and two operands among them.
-use Rattle.std.proofs.Common.{◌≡◌, ℕ, suc, ◌<◌, Bool, true, false, ◌&&◌, refl, ap, sym, subst, ◌∙◌}
+use Rattle.std.proofs.Common.{◌≡◌, ℕ, suc, ◌<◌, true, false, refl, ap, sym, subst, ◌∙◌}
 use Rattle.std.proofs.Common.{arith}
 use Rattle.std.specs.Prelude.{List, [], ◌∷◌, map, length, None}
 use Rattle.std.specs.List.{list_all}
 use Rattle.std.proofs.lemmas.List.{length-map}
+use Rattle.std.proofs.lemmas.Bool.{and_parts}
 use Rattle.awk_types.specs.Datum.{Datum}
 use Rattle.awk_types.specs.Predicates.{is_leaf}
 use Rattle.awk_types.specs.Value.{Value, int}
@@ -23,10 +24,6 @@ use Rattle.awk_ends.proofs.LeafLaws.{leaf_types-all}
 use Rattle.awk_ends.proofs.ColumnLaws.{same-at, parts-at, AreEnds, ends-count, ends-leaf}
 use Rattle.awk_arith.specs.Sides.{AreLeaves}
 
-both : (a b : Bool) → (a && b) ≡ true → (a ≡ true) × (b ≡ true)
-both true b e = (refl, e)
-both false b e = absurd cc
-
 -- ---- columns of parts
 
 parts-long : (es : List Value) (k : ℕ) (ys : List Layout) → AreParts k es ys
@@ -35,7 +32,7 @@ parts-long es k [] h e = tt
 parts-long es k (y ∷ ys) h e =
     let split : (is_leaf (array_type y) ≡ true)
     × (list_all is_leaf (map array_type ys) ≡ true) =
-    both (is_leaf (array_type y)) (list_all is_leaf (map array_type ys)) e in (
+    and_parts (is_leaf (array_type y)) (list_all is_leaf (map array_type ys)) e in (
       sym (length-array_items y) ∙ ap length h.0 ∙ length-map es (part_at k),
       split.0,
       parts-long es (suc k) ys h.1 split.1,

@@ -2,6 +2,7 @@
 use Rattle.std.proofs.Common.{◌≡◌, ◌<◌, Bool, true, false, not, ap, sym, subst, ◌∙◌, arith}
 use Rattle.std.specs.Prelude.{List, [], ◌∷◌, map, length, slice_get, Option, Some, None, Result, Ok}
 use Rattle.std.specs.Prelude.{Err, if◌then◌else◌}
+use Rattle.std.proofs.lemmas.Simd.{map-map}
 use Rattle.awk_types.specs.DataType.{DataType}
 use Rattle.awk_types.specs.Datum.{Datum}
 use Rattle.awk_types.specs.Faults.{fault_told}
@@ -30,7 +31,7 @@ use Rattle.awk_pair_operands.specs.Pairs.{item_type}
 use Rattle.awk_pointwise.specs.Sides.{lane_values}
 use Rattle.awk_pair_types.specs.Limits.{limit_refused}
 use Rattle.awk_ends.specs.Operands.{leaf_in, in_primitive}
-use Rattle.awk_ends.proofs.ColumnLaws.{map-map, AreEnds, ends-count, ends-leaf, parts-at}
+use Rattle.awk_ends.proofs.ColumnLaws.{AreEnds, ends-count, ends-leaf, parts-at}
 use Rattle.awk_ends.proofs.LaneLaws.{column_is}
 use Rattle.awk_arith.specs.AtLeaves.{at_leaves, result_type, row_values, value_or_null, first_fault}
 use Rattle.awk_arith.specs.Unary.{unary_row, judged_unary}

@@ -2,6 +2,7 @@
 use Rattle.std.proofs.Common.{◌≡◌, ℕ, ◌<◌, ◌^◌, Bool, not, ap, sym, ◌∙◌}
 use Rattle.std.specs.Prelude.{List, map, length, None, Result, Ok, false}
 use Rattle.std.proofs.lemmas.List.{length-map}
+use Rattle.std.proofs.lemmas.Simd.{map-map}
 use Rattle.awk_types.specs.DataType.{DataType}
 use Rattle.awk_types.specs.Datum.{Datum}
 use Rattle.awk_types.specs.Gives.{refused_or}
@@ -20,7 +21,6 @@ use Rattle.awk_pair_operands.specs.Answer.{single_or_fault, shared_ends}
 use Rattle.awk_pair_operands.specs.Pairs.{pair_refused, some_array}
 use Rattle.awk_pointwise.specs.Sides.{lane_values}
 use Rattle.awk_pair_types.specs.Limits.{limit_refused}
-use Rattle.awk_ends.proofs.ColumnLaws.{map-map}
 use Rattle.awk_ends.proofs.LaneLaws.{flat-items}
 use Rattle.awk_arith.specs.AtLeaves.{result_type, first_fault, value_or_null, row_values}
 use Rattle.awk_arith.proofs.AnswerLaws.{IsResult}

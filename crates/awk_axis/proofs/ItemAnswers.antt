@@ -5,6 +5,7 @@ use Rattle.std.proofs.Common.{arith, ap, ap₂, sym, ◌∙◌}
 use Rattle.std.specs.List.{range_with_len}
 use Rattle.std.proofs.lemmas.Simd.{map-map}
 use Rattle.std.proofs.lemmas.List.FromFn.{length-map-range_with_len}
+use Rattle.awk_base.proofs.Ranges.{map-same}
 use Rattle.awk_types.specs.DataType.{DataType}
 use Rattle.awk_types.specs.Datum.{Datum, arr, one}
 use Rattle.awk_types.specs.Gives.{refused_or}
@@ -25,7 +26,7 @@ use Rattle.awk_axis.specs.ListFunction.{ListFunction}
 use Rattle.awk_axis.specs.Lift.{refusal_at, lifted_type, lifted_value}
 use Rattle.awk_axis.specs.Lifting.{spoil_fault, on_items, on_one}
 use Rattle.awk_axis.specs.Mapped.{IsMapped, IsLifted}
-use Rattle.awk_columns.proofs.ArrayLaws.{array_items-at, map-same}
+use Rattle.awk_columns.proofs.ArrayLaws.{array_items-at}
 use Rattle.awk_axis.proofs.CauseLaws.{first_spoil-none_after}
 use Rattle.awk_axis.proofs.JudgedTypes.{told_values}
 

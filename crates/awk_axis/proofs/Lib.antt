@@ -1,5 +1,4 @@
 pub mod CauseLaws
-pub mod ListLaws
 pub mod Walks
 pub mod TypeWalks
 pub mod LiftedLaws
@@ -8,7 +7,6 @@ pub mod ArrayKinds
 pub mod Falls
 pub mod KindLaws
 pub mod IndexLaws
-pub mod IfOk
 pub mod AllLaws
 pub mod JudgedTypes
 pub mod GivenTypes

@@ -1,9 +1,11 @@
 -- What is lifted for each outermost kind of an array, from what is lifted for its contents.
 use Rattle.std.specs.Prelude.{◌≡◌, ℕ, zero, suc, min, ◌+◌, ◌<◌, ◌≤◌, nat_lt}
-use Rattle.std.specs.Prelude.{refl, true, false, List, [], ◌∷◌, ◌++◌, map, take, drop, length}
+use Rattle.std.specs.Prelude.{true, false, List, [], ◌∷◌, ◌++◌, map, take, drop, length}
 use Rattle.std.specs.Prelude.{slice_get, Option, Some, None, if◌then◌else◌}
 use Rattle.std.proofs.Common.{arith, ap, sym, ◌∙◌, add-one}
 use Rattle.std.specs.List.{range_with_len, flat_map}
+use Rattle.awk_base.proofs.Truths.{nat_lt-none}
+use Rattle.awk_base.proofs.Lists.{drop_suc-get, take_suc-get}
 use Rattle.awk_types.specs.DataType.{Name, DataType, DataTypes, unknown, uni, opt, var, types_from}
 use Rattle.awk_types.specs.DataType.{depth, depths, greatest, row_type}
 use Rattle.awk_types.specs.Value.{Value, null}
@@ -62,9 +64,6 @@ column_as t u v w n y e q m = record {
 
 over : (a b : ℕ) → a < b → nat_lt a b ≡ true
 over a b p = grind arith
-
-not_over : (a b : ℕ) → b ≤ a → nat_lt a b ≡ false
-not_over a b p = grind arith
 
 -- ---- options
 
@@ -165,7 +164,7 @@ within_spoil : (f : ListFunction) (k : Reach) (class : Class) (s t o : Column) (
     spoil_at f k (array_type x) (array_items x) ≡ spoil_at f (inner k) (array_type z)
     (array_items z)
 within_spoil f k class s t o c z x e opens p joins =
-    let q : nat_lt item_limit (total s t c) ≡ false = not_over item_limit (total s t c) p in
+    let q : nat_lt item_limit (total s t c) ≡ false = nat_lt-none item_limit (total s t c) p in
     above_spoil f k class s t c x e opens
     ∙ ap (λ b. first_spoil (if b then Some Size else None) (spoil_at f (inner k) (array_type c)
     (flat_map (items_at s t c) (range_with_len 0 (size_of s))))) q
@@ -311,18 +310,6 @@ pub depth-union : (ts : DataTypes) → depth (uni ts) ≡ greatest (depths ts) +
 depth-union ts = omega arith
 
 -- ---- going from left to right
-
-drop_suc-get : {X : Type 0} (xs : List X) (i : ℕ) (x : X) → slice_get xs i ≡ Some x
-    → drop i xs ≡ x ∷ drop (suc i) xs
-drop_suc-get [] i x e = cc
-drop_suc-get (y ∷ xs) zero x e = let f : y ≡ x = cc in rw f refl
-drop_suc-get (y ∷ xs) (suc i) x e = drop_suc-get xs i x e
-
-take_suc-get : {X : Type 0} (xs : List X) (i : ℕ) (x : X) → slice_get xs i ≡ Some x
-    → take (suc i) xs ≡ take i xs ++ x ∷ []
-take_suc-get [] i x e = cc
-take_suc-get (y ∷ xs) zero x e = let f : y ≡ x = cc in rw f refl
-take_suc-get (y ∷ xs) (suc i) x e = ap (λ zs. y ∷ zs) (take_suc-get xs i x e)
 
 -- one more array, whose spoil is told
 pub spoil_next : (f : ListFunction) (k : Reach) (xs : List Layout) (i : ℕ) (x : Layout)

@@ -6,7 +6,7 @@ use Rattle.std.specs.List.{AllByRecursion}
 use Rattle.std.specs.Prelude.{reverse, get_or, option_map}
 use Rattle.std.proofs.lemmas.List.{drop_all, drop_more, length-map, reverse-append, get_or-map}
 use Rattle.std.proofs.lemmas.Option.{slice_get-map}
-use Rattle.awk_types.proofs.ListLaws.{drop-get}
+use Rattle.awk_base.proofs.Lists.{drop-get}
 use Rattle.awk_types.specs.DataType.{DataType, unknown}
 use Rattle.awk_layout.specs.Array.{IsArrayType}
 use Rattle.awk_layout.specs.Layout.{Layout}

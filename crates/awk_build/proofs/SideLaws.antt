@@ -8,7 +8,8 @@ use Rattle.std.specs.Prelude.{reverse, get_or}
 use Rattle.std.proofs.lemmas.List.{drop_all, length-map, length-reverse, get_or-reverse}
 use Rattle.std.proofs.lemmas.List.{reverse-reverse}
 use Rattle.std.proofs.lemmas.Option.{slice_get-get_or, get_or_from_slice_get}
-use Rattle.awk_types.proofs.ListLaws.{drop-get}
+use Rattle.awk_base.proofs.Every.{all-impl}
+use Rattle.awk_base.proofs.Lists.{drop-get}
 use Rattle.awk_types.specs.DataType.{DataType, unknown}
 use Rattle.awk_types.specs.Limit.{limit}
 use Rattle.awk_layout.specs.Array.{IsArrayType}
@@ -17,7 +18,7 @@ use Rattle.awk_layout.specs.Typing.{array_type, array_items}
 use Rattle.awk_unify.specs.Carry.{Carry, carried}
 use Rattle.awk_unify.specs.Unify.{unification}
 use Rattle.awk_merge_sides.specs.Sides.{Side, AreSides, merged_items, with_side}
-use Rattle.awk_merge_sides.proofs.SideLaws.{AreSides-with_side, merged_items-with_side, all-impl}
+use Rattle.awk_merge_sides.proofs.SideLaws.{AreSides-with_side, merged_items-with_side}
 use Rattle.awk_build.specs.Joined.{carries_of, items_by, joined_items, joined_type, sides_from}
 use Rattle.awk_build.specs.Suffix.{carriers, steps_from}
 use Rattle.awk_build.proofs.SuffixLaws.{AreCarriers, AreTaken, AreLawful, IsLawful, are_carriers}

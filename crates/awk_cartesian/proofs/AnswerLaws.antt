@@ -5,6 +5,7 @@ use Rattle.std.specs.Prelude.{◌<ℤ◌, Option, Some, None, is_some, option_ma
 use Rattle.std.specs.List.{range_with_len, list_all, list_any, AllByRecursion}
 use Rattle.std.proofs.Common.{arith, ap, ap₂, sym, ◌∙◌}
 use Rattle.std.proofs.lemmas.Int.{ints}
+use Rattle.awk_base.proofs.Ranges.{map-same}
 use Rattle.awk_types.specs.DataType.{DataType, var, opt}
 use Rattle.awk_types.specs.Datum as shown
 use Rattle.awk_types.specs.Gives.{refused_or}
@@ -30,7 +31,7 @@ use Rattle.awk_layout.proofs.Runs.{value_list-run}
 use Rattle.awk_gather.specs.Arrays.{array_item}
 use Rattle.awk_open.proofs.OpenedKinds.{item-offset_lists}
 use Rattle.awk_columns.specs.Columns.{is_present, list_items, joined_items}
-use Rattle.awk_columns.proofs.ArrayLaws.{array_items-at, map-same, simple_null, in_option_same}
+use Rattle.awk_columns.proofs.ArrayLaws.{array_items-at, simple_null, in_option_same}
 use Rattle.awk_places.specs.Places.{place_count}
 use Rattle.awk_places.specs.Products.{product_count}
 use Rattle.awk_columns.proofs.OffsetLaws.{are_offsets, offset-length}

@@ -3,14 +3,14 @@ use Rattle.std.specs.Prelude.{◌≡◌, refl, ℕ, zero, suc, ◌+◌, ◌*◌,
 use Rattle.std.specs.Prelude.{◌&&◌, if◌then◌else◌, List, [], ◌∷◌, ◌++◌, length, map}
 use Rattle.std.specs.List.{range_with_len, flat_map, list_all}
 use Rattle.std.proofs.Common.{arith, ap, ap₂, sym, ◌∙◌}
-use Rattle.std.proofs.lemmas.List.{length-append, length-map}
+use Rattle.std.proofs.lemmas.List.{length-append, length-map, append-nil}
 use Rattle.std.proofs.lemmas.List.Folds.{flat_map-map}
+use Rattle.awk_base.proofs.Ranges.{range-last}
 use Rattle.awk_types.specs.Value.{Value, int, truth, null, list, row, alt, values_from}
 use Rattle.awk_types.proofs.Trees.{value_list-from}
 use Rattle.awk_lanes.specs.Counted.{before}
 use Rattle.awk_columns.specs.Columns.{is_present, list_items, joined_items}
 use Rattle.awk_places.specs.Places.{place_lists, place_count}
-use Rattle.awk_places.proofs.FlatLaws.{append-none, range-more}
 use Rattle.awk_places.proofs.Levels.{length-place_lists}
 use Rattle.awk_places.proofs.RunLaws.{none_there}
 use Rattle.awk_merge_operands.specs.Concatenate.{row_of, row_count}
@@ -68,11 +68,6 @@ row-items places vs = go (list_all is_present vs) refl
         ∙ sym (ap (map (tuple_of places (map list_items vs)))
         (none_there (map length (map list_items vs)) (none_counted vs e)))
 
-first-more : (n : ℕ) → range_with_len 0 (suc n) ≡ range_with_len 0 n ++ n ∷ []
-first-more n =
-    let e : 0 + n ≡ n = omega arith in
-    range-more 0 n ∙ ap (λ k. range_with_len 0 n ++ k ∷ []) e
-
 -- how many items lists have together
 length-joined : (g : ℕ → Value) (m : ℕ → ℕ) (n : ℕ)
     → ((i : ℕ) → i < n → length (list_items (g i)) ≡ m i)
@@ -84,7 +79,7 @@ length-joined g m n h =
         → length (flat_map (λ i. list_items (g i)) (range_with_len 0 n)) ≡ before m n
     go zero h = refl
     go (suc n) h =
-        ap (λ is. length (flat_map (λ i. list_items (g i)) is)) (first-more n)
+        ap (λ is. length (flat_map (λ i. list_items (g i)) is)) (range-last n)
         ∙ more (range_with_len 0 n) n
         ∙ ap₂ (λ a b. a + b) (go n (λ i p. h i (omega (arith, p)))) (h n (omega arith))
       where
@@ -93,7 +88,7 @@ length-joined g m n h =
             ≡ length (flat_map (λ i. list_items (g i)) is) + length (list_items (g k))
         more [] k =
             let e : 0 + length (list_items (g k)) ≡ length (list_items (g k)) = omega arith in
-            ap length (append-none (list_items (g k))) ∙ sym e
+            ap length (append-nil (list_items (g k))) ∙ sym e
         more (i ∷ is) k =
             length-append (list_items (g i))
             (flat_map (λ i. list_items (g i)) (is ++ k ∷ []))

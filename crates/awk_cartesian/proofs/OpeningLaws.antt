@@ -1,10 +1,11 @@
 -- Operands as lists of rows.
 use Rattle.std.specs.Prelude.{◌≡◌, ◌==◌, refl, ℕ, zero, suc, ◌+◌, ◌<◌, ◌≤◌, true, false}
 use Rattle.std.specs.Prelude.{if◌then◌else◌, List, [], ◌∷◌, length, map, get_or}
-use Rattle.std.specs.Prelude.{Option, Some, None, is_some, Result, Ok, Err, IfOk}
+use Rattle.std.specs.Prelude.{Option, Some, None, is_some}
 use Rattle.std.specs.List.{AllByRecursion}
 use Rattle.std.proofs.Common.{arith, ap, ap₂, sym, ◌∙◌, subst}
 use Rattle.std.proofs.lemmas.List.FromFn.{get_or-map-range_with_len, length-map-range_with_len}
+use Rattle.awk_base.proofs.Ranges.{map-same}
 use Rattle.awk_types.specs.DataType.{DataType, Name, unknown, leaf, var, reg, rec, tup, opt, uni}
 use Rattle.awk_types.specs.DataType.{types_from, row_type}
 use Rattle.awk_types.specs.Has.{Has}
@@ -29,7 +30,7 @@ use Rattle.awk_columns.specs.Lists.{Listed}
 use Rattle.awk_columns.specs.Opened.{OpensLists, OpensOption, OpensNothing, IsOpened as Opens}
 use Rattle.awk_columns.specs.declared.opening.Opened.{Opened}
 use Rattle.awk_columns.specs.declared.opening.Opened.TheVariants as opened
-use Rattle.awk_columns.proofs.ArrayLaws.{array_items-at, map-same}
+use Rattle.awk_columns.proofs.ArrayLaws.{array_items-at}
 use Rattle.awk_places.proofs.ProductLaws.{are_counts, count-at}
 use Rattle.awk_combi.proofs.SpanLaws.{within}
 use Rattle.awk_merge_operands.specs.Operands.{list_place, values_by, IsListIndex}
@@ -366,9 +367,3 @@ nothing x e h = record {
     go : (ws : List Value) → AllByRecursion (Has unknown) ws → length ws ≡ 0
     go [] h = refl
     go (w ∷ ws) h = absurd h.0
-
--- what holds of a value that is made
-pub mapped : {A E : Type 0} (P Q : A → Type 0) (r : Result A E) → ((x : A) → P x → Q x)
-    → IfOk r P → IfOk r Q
-mapped P Q (Ok x) f h = f x h
-mapped P Q (Err e) f h = h

@@ -9,6 +9,8 @@ use Rattle.std.proofs.lemmas.List.{take_all, length-append, map-append, get_or_a
 use Rattle.std.proofs.lemmas.List.{get_or_push}
 use Rattle.std.proofs.lemmas.List.Folds.{list_all-append, list_any-append}
 use Rattle.std.proofs.lemmas.List.FromFn.{map-range_with_len_more}
+use Rattle.std.proofs.Math.Bool.{or-true, or-false, and-true}
+use Rattle.awk_base.proofs.Ranges.{map-same}
 use Rattle.awk_types.specs.DataType.{DataType}
 use Rattle.awk_types.specs.Datum as shown
 use Rattle.awk_types.specs.Value.{Value, null}
@@ -21,7 +23,6 @@ use Rattle.awk_layout.specs.Layout.{empty}
 use Rattle.awk_layout.specs.Typing.{array_type}
 use Rattle.awk_layout.specs.declared.datum.Datum.{Datum}
 use Rattle.awk_columns.specs.Columns.{is_present, list_items}
-use Rattle.awk_columns.proofs.ArrayLaws.{map-same}
 use Rattle.awk_merge_operands.specs.Concatenate.{row_of, type_before}
 use Rattle.awk_merge_operands.specs.Operands.{list_place, IndexesAll}
 use Rattle.awk_merge_operands.specs.declared.operands.Axis.{Axis}
@@ -151,25 +152,13 @@ no_rows axis n r e f = rw (e, f) (record {
   optional = refl;
 })
 
-and_true : (b : Bool) → (b && true) ≡ b
-and_true true = refl
-and_true false = refl
-
-or_false : (b : Bool) → (b || false) ≡ b
-or_false true = refl
-or_false false = refl
-
-or_true : (b : Bool) → (b || true) ≡ true
-or_true true = refl
-or_true false = refl
-
 -- ---- rows that are null by neither of two indexes
 
 pub none_both : (n : ℕ) (r : Option Column) → IndexesAll r n → AreBoth n r None r
 none_both n r h = record {
   index = h;
-  places = λ i p b e. e ∙ ap (λ c. present_place c i) (sym (and_true b));
-  optional = sym (or_false (is_some r));
+  places = λ i p b e. e ∙ ap (λ c. present_place c i) (sym (and-true b));
+  optional = sym (or-false (is_some r));
 }
 
 pub some_both : (n : ℕ) (r : Option Column) (j c : Column) → c ≡ both_lane r (Some j) n
@@ -180,7 +169,7 @@ some_both n r j c e = rw e (record {
       ap option_place (at-lane_of I64 n f i p)
       ∙ ap (λ o. option_place (place_in_both i o (list_place (Some j) i))) g
       ∙ go b i (list_place (Some j) i);
-  optional = sym (or_true (is_some r));
+  optional = sym (or-true (is_some r));
 })
   where
     f : ℕ → ℤ
@@ -206,7 +195,7 @@ module _ (axis : Axis) (n : ℕ) (ds : List Datum) (d : Datum) (r q : Rows) (s :
       let old : Bool = list_all is_present (row_of (map (rows_in axis) ds) i) in
       b.places i p old (h.present i p)
       ∙ ap (λ c. present_place (old && c) i)
-      (o.present i (omega (arith, p, m)) ∙ sym (and_true (is_present (row i))))
+      (o.present i (omega (arith, p, m)) ∙ sym (and-true (is_present (row i))))
       ∙ ap (λ c. present_place c i)
       (sym (list_all-append is_present (row_of (map (rows_in axis) ds) i) (row i ∷ [])))
       ∙ ap (λ vs. present_place (list_all is_present vs) i)
@@ -236,7 +225,7 @@ module _ (axis : Axis) (n : ℕ) (ds : List Datum) (d : Datum) (r q : Rows) (s :
     index = b.index;
     present = rows-present;
     optional = b.optional
-        ∙ ap₂ (λ c d. c || d) h.optional (o.optional ∙ sym (or_false (may_be_null axis d)))
+        ∙ ap₂ (λ c d. c || d) h.optional (o.optional ∙ sym (or-false (may_be_null axis d)))
         ∙ sym (list_any-append (may_be_null axis) ds (d ∷ []));
   }
 

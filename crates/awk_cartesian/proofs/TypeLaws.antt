@@ -7,7 +7,7 @@ use Rattle.std.proofs.Common.{ap, ap₂, sym, ◌∙◌, subst, append_assoc}
 use Rattle.std.proofs.lemmas.List.{append-nil, drop_all}
 use Rattle.awk_types.specs.DataType.{DataType, types_from}
 use Rattle.awk_types.specs.Simple.{IsSimple, AreSimple}
-use Rattle.awk_types.proofs.ListLaws.{drop-get}
+use Rattle.awk_base.proofs.Lists.{drop-get}
 use Rattle.awk_layout.specs.Datum.{datum_of}
 use Rattle.awk_layout.specs.declared.datum.Datum.{Datum}
 use Rattle.awk_layout.specs.declared.datum.Datum.TheVariants.{Arr, One}

@@ -4,6 +4,7 @@ use Rattle.std.proofs.Common.{ap, ap₂, sym, subst, ◌∙◌, arith}
 use Rattle.std.specs.Prelude.{Option, None, Ok, Err}
 use Rattle.std.specs.List.{range_with_len}
 use Rattle.std.proofs.lemmas.Simd.{map-map}
+use Rattle.awk_base.proofs.Ranges.{map-same}
 use Rattle.awk_types.specs.Datum.{arr, one}
 use Rattle.awk_types.specs.Faults.{fault_told}
 use Rattle.awk_types.specs.Gives.{Told, refused_or}
@@ -24,7 +25,7 @@ use Rattle.awk_layout.specs.Valid.{len, IsValid}
 use Rattle.awk_layout.proofs.ArrayItems.{length-array_items}
 use Rattle.awk_layout.proofs.TypedItems.{item_has}
 use Rattle.awk_gather.specs.Arrays.{array_item}
-use Rattle.awk_columns.proofs.ArrayLaws.{array_items-at, map-same}
+use Rattle.awk_columns.proofs.ArrayLaws.{array_items-at}
 use Rattle.awk_cast.specs.Cast.{cast_type, cast_value, cast_of, are_many, is_large, overflows, told}
 use Rattle.awk_cast.specs.Casting.{IsCast, IsArrayOf, IsTold, fault_of, told_of, is_large_array}
 use Rattle.awk_cast.specs.Casting.{array_overflows}

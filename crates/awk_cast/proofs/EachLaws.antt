@@ -1,10 +1,12 @@
 -- Arrays one after another: what is made of the first of them, and of all.
-use Rattle.std.proofs.Common.{◌≡◌, ℕ, suc, zero, ◌+◌, ◌≤◌, ◌||◌, Bool, true, false, List, []}
+use Rattle.std.proofs.Common.{◌≡◌, ℕ, ◌+◌, ◌≤◌, ◌||◌, Bool, true, false, List, []}
 use Rattle.std.proofs.Common.{◌∷◌, ◌++◌, length, take, drop, slice_get, Some, None, refl}
 use Rattle.std.proofs.Common.{ap, ap₂, sym, subst, ◌∙◌, add-one}
 use Rattle.std.specs.Prelude.{Result, Ok, Err}
 use Rattle.std.specs.List.{list_any}
 use Rattle.std.proofs.lemmas.List.{take_all, drop_all}
+use Rattle.std.proofs.lemmas.Bool.{or_right}
+use Rattle.awk_base.proofs.Lists.{drop_suc-get, take_suc-get}
 use Rattle.awk_types.specs.declared.fault.Fault.TheVariants as fault
 use Rattle.awk_types.specs.declared.primitive.Primitive.{Primitive}
 use Rattle.awk_layout.specs.Layout.{Layout}
@@ -44,22 +46,10 @@ told_none false false e = (refl, refl)
 
 -- ---- one array more
 
-drop_at : {X : Type 0} (xs : List X) (i : ℕ) (x : X) → slice_get xs i ≡ Some x
-    → drop i xs ≡ x ∷ drop (suc i) xs
-drop_at [] i x e = cc
-drop_at (y ∷ xs) zero x e = let f : y ≡ x = cc in rw f refl
-drop_at (y ∷ xs) (suc i) x e = drop_at xs i x e
-
-take_at : {X : Type 0} (xs : List X) (i : ℕ) (x : X) → slice_get xs i ≡ Some x
-    → take (suc i) xs ≡ take i xs ++ x ∷ []
-take_at [] i x e = cc
-take_at (y ∷ xs) zero x e = let f : y ≡ x = cc in rw f refl
-take_at (y ∷ xs) (suc i) x e = ap (λ zs. y ∷ zs) (take_at xs i x e)
-
 any_at : (f : Layout → Bool) (xs : List Layout) (i : ℕ) (x : Layout) → slice_get xs i ≡ Some x
     → list_any f (drop i xs) ≡ (f x || list_any f (drop (i + 1) xs))
 any_at f xs i x e =
-    let d : drop i xs ≡ x ∷ drop (i + 1) xs = rw add-one (drop_at xs i x e) in
+    let d : drop i xs ≡ x ∷ drop (i + 1) xs = rw add-one (drop_suc-get xs i x e) in
     ap (list_any f) d
 
 cast_behind : (p : Primitive) (xs ys : List Layout) (x y : Layout) → AreCast p xs ys → IsCast p x y
@@ -77,10 +67,6 @@ rest_decides a false c e h = e
 moved : (a past b c : Bool) → a ≡ (past || (b || c)) → a ≡ ((past || b) || c)
 moved a true b c e = e
 moved a false b c e = e
-
-either_true : (past b : Bool) → b ≡ true → (past || b) ≡ true
-either_true true b e = refl
-either_true false b e = e
 
 either_same : (past b : Bool) → b ≡ false → (past || b) ≡ past
 either_same true b e = refl
@@ -107,7 +93,7 @@ module _ (p : Primitive) (xs : List Layout) (i : ℕ) (x : Layout) (past : Bool)
         overflow = past_next
             ∙ ap (λ c. c || list_any (array_overflows p) (drop (i + 1) xs))
             (either_same past (array_overflows p x) n.1 ∙ sym same);
-        made = λ e. rw (add-one, take_at xs i x at, put)
+        made = λ e. rw (add-one, take_suc-get xs i x at, put)
             (cast_behind p (take i xs) ys x y (so.made (sym same ∙ e)) m);
       }
 
@@ -120,7 +106,7 @@ module _ (p : Primitive) (xs : List Layout) (i : ℕ) (x : Layout) (past : Bool)
         sizes = large_next n.0;
         overflow = past_next
             ∙ ap (λ c. c || list_any (array_overflows p) (drop (i + 1) xs))
-            (either_true past (array_overflows p x) n.1 ∙ sym is);
+            (or_right past (array_overflows p x) n.1 ∙ sym is);
         made = λ e. absurd (cc);
       }
 

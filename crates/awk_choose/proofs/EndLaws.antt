@@ -6,6 +6,7 @@ use Rattle.std.specs.List.{AllByRecursion, list_all}
 use Rattle.std.proofs.lemmas.List.{length-map}
 use Rattle.std.proofs.lemmas.Option.{slice_get_within}
 use Rattle.std.proofs.lemmas.Simd.{zip2_of_maps}
+use Rattle.std.proofs.lemmas.Bool.{and_parts, or_parts}
 use Rattle.awk_types.specs.Datum.{Datum}
 use Rattle.awk_types.specs.Predicates.{is_leaf}
 use Rattle.awk_types.specs.Simple.{present, is_option}
@@ -29,7 +30,6 @@ use Rattle.awk_leaves.specs.declared.leaf_type.LeafType.{LeafType}
 use Rattle.awk_leaves.specs.declared.leaf_type.LeafType.TheVariants.{Unknown}
 use Rattle.awk_pair_operands.specs.Pairs.{typs, item_type, leaf_types}
 use Rattle.awk_pair_sides.specs.Levels.{some_option}
-use Rattle.awk_pair_sides.proofs.TestLaws.{and_both, or_none}
 use Rattle.awk_ends.specs.Operands.{leaf_in, data_in, leaf_of, at_end}
 use Rattle.awk_ends.specs.Columns.{IsAmong, data_before, column_at, ends_of, leaf_at, values_at}
 use Rattle.awk_ends.proofs.ColumnLaws.{AreEnds, ends-count, ends-leaf, parts-at, same-at}
@@ -64,9 +64,9 @@ none-optional : (ys : List Layout) (k : ℕ) → some_option (map array_type ys)
     → k < length ys → is_option (array_type (column_at ys k)) ≡ false
 none-optional [] k e l = absurd (omega (arith, l))
 none-optional (y ∷ ys) zero e l =
-    (or_none (is_option (array_type y)) (some_option (map array_type ys)) e).0
+    (or_parts (is_option (array_type y)) (some_option (map array_type ys)) e).0
 none-optional (y ∷ ys) (suc k) e l =
-    none-optional ys k (or_none (is_option (array_type y)) (some_option (map array_type ys)) e).1
+    none-optional ys k (or_parts (is_option (array_type y)) (some_option (map array_type ys)) e).1
     (omega (arith, l))
 
 none-optional-at : (x : Operand) (k : ℕ) (ys : List Layout)
@@ -81,7 +81,7 @@ leaf-columns : (es : List Value) (k : ℕ) (ys : List Layout) → AreParts k es 
     → AllByRecursion (IsLeafColumn (length es)) ys
 leaf-columns es k [] h e = tt
 leaf-columns es k (y ∷ ys) h e =
-    let split = and_both (is_leaf (present (array_type y)))
+    let split = and_parts (is_leaf (present (array_type y)))
     (list_all is_leaf (map present (map array_type ys))) e in (
       record {
         size = sym (length-array_items y) ∙ ap length h.0 ∙ length-map es (part_at k);

@@ -6,7 +6,8 @@ use Rattle.std.specs.List.{range_with_len}
 use Rattle.std.specs.Simd.Lanes.{zip2}
 use Rattle.std.proofs.lemmas.List.{ext_get_or}
 use Rattle.std.proofs.lemmas.List.FromFn.{get_or-map-range_with_len, length-map-range_with_len}
-use Rattle.std.proofs.lemmas.Simd.{zip2_of_maps}
+use Rattle.std.proofs.lemmas.Simd.{zip2_of_maps, map-map}
+use Rattle.awk_base.proofs.Lists.{map-each}
 use Rattle.awk_types.specs.Predicates.{is_null}
 use Rattle.awk_types.specs.Simple.{in_option, simple_value}
 use Rattle.awk_types.specs.DataType.{leaf}
@@ -22,7 +23,6 @@ use Rattle.awk_layout.specs.Typing.{array_items}
 use Rattle.awk_leaves.specs.Values.{chosen_at, chosen_values, number_of, is_nonzero as is_true}
 use Rattle.awk_pointwise.specs.Optional.{unless_null, masked_values}
 use Rattle.awk_pointwise.specs.Sides.{lane_values}
-use Rattle.awk_ends.proofs.ColumnLaws.{map-map}
 use Rattle.awk_ends.proofs.LaneLaws.{lane_values-at, length-lane_values, flat-items}
 use Rattle.awk_choose.specs.Ends.{ArePresent}
 
@@ -49,11 +49,6 @@ leaf-same c (alt k v) = refl
 shown-one : (b : Bool) (v : Value) → (if not b then v else null) ≡ (if b then null else v)
 shown-one true v = refl
 shown-one false v = refl
-
-map-each : {A B : Type 0} (f g : A → B) (xs : List A) → ((x : A) → f x ≡ g x)
-    → map f xs ≡ map g xs
-map-each f g [] e = refl
-map-each f g (x ∷ xs) e = ap₂ (λ y ys. y ∷ ys) (e x) (map-each f g xs e)
 
 -- the items of a lane, null where the mask's byte is not 0
 pub masked-items : (m c : Column) → m.kind ≡ I8 → size_of m ≡ size_of c

@@ -7,6 +7,7 @@ use Rattle.std.proofs.lemmas.Simd.{map-map}
 use Rattle.std.proofs.lemmas.List.Folds.{flat_map-map}
 use Rattle.std.proofs.lemmas.List.Concat.{flat_map_single}
 use Rattle.std.specs.List.{range_with_len, flat_map}
+use Rattle.awk_base.proofs.Ranges.{map-same}
 use Rattle.awk_types.specs.DataType.{DataType, unknown, leaf, var, reg, rec, tup, opt, uni}
 use Rattle.awk_types.specs.Value.{Value, int, truth, null, list, row, alt, value}
 use Rattle.awk_types.specs.Value.{value_list, values_from}
@@ -44,16 +45,6 @@ in_option_same f e (alt k v) = refl
 
 pub array_items-at : (x : Layout) → array_items x ≡ map (array_item x) (range_with_len 0 (len x))
 array_items-at x = map-map (simple_value (layout_type x)) (item x) (range_with_len 0 (len x))
-
--- what is the same at each place of a range is the same list
-pub map-same : {X : Type 0} (f g : ℕ → X) (a n : ℕ) → ((i : ℕ) → a ≤ i → i < a + n → f i ≡ g i)
-    → map f (range_with_len a n) ≡ map g (range_with_len a n)
-map-same f g a zero e = refl
-map-same {X} f g a (suc n) e =
-    let rest : map f (range_with_len (a + 1) n) ≡ map g (range_with_len (a + 1) n) =
-    map-same f g (a + 1) n (λ i p q. e i (omega (arith, p)) (omega (arith, q))) in
-    ap (λ (x : X). x ∷ map f (range_with_len (a + 1) n)) (e a (omega arith) (omega arith))
-    ∙ ap (λ xs. g a ∷ xs) rest
 
 -- ---- runs
 

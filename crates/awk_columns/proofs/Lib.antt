@@ -1,6 +1,5 @@
 pub mod ReachedContents
 pub mod SpanPlaces
-pub mod ResultLaws
 pub mod OrderedOptions
 pub mod OrderedUnions
 pub mod OrderedKinds

@@ -21,7 +21,7 @@ use Rattle.awk_lanes.proofs.MadeLanes.{size-lane_of, at-lane_of}
 use Rattle.awk_lanes.proofs.CountedLanes.{before-next, before_mono, place-offsets, sum-before}
 use Rattle.std.proofs.lemmas.List.Concat.{length-flat_map}
 use Rattle.std.proofs.lemmas.List.Sums.{sum-map}
-use Rattle.awk_columns.proofs.ArrayLaws.{map-same}
+use Rattle.awk_base.proofs.Ranges.{map-same}
 
 module _ (m : ℕ → ℕ) where
   size-offsets : (n : ℕ) → size_of (offsets_by m n) ≡ n + 1

@@ -5,6 +5,7 @@ use Rattle.std.specs.Prelude.{ℤ, pos}
 use Rattle.std.specs.List.{range_with_len}
 use Rattle.std.proofs.lemmas.List.{append_assoc, append-nil, length-append, length-map}
 use Rattle.std.proofs.lemmas.List.FromFn.{length-range_with_len, get_or-range_with_len}
+use Rattle.awk_base.proofs.Ranges.{range-append}
 use Rattle.awk_lanes.specs.Column.{Column}
 use Rattle.awk_lanes.specs.Making.{Making, with_item}
 use Rattle.awk_lanes.specs.Numbers.{nat_of}
@@ -13,19 +14,6 @@ use Rattle.awk_counts.specs.Counted.{first_of, span_at, spans, places_lane, IsRo
 use Rattle.awk_counts.proofs.FirstPlaces.{first_of-more, length-first_of, first_of-room}
 use Rattle.awk_counts.proofs.PlaceLanes.{ArePlaces, places_pushed, places_room}
 use Rattle.awk_columns.proofs.ReachedContents.{at-places_lane}
-
--- numbers in a row, in two parts
-range-append : (a m k : ℕ)
-    → range_with_len a (m + k) ≡ range_with_len a m ++ range_with_len (a + m) k
-range-append a zero k =
-    let e : zero + k ≡ k = omega arith in
-    let f : a ≡ a + zero = omega arith in
-    ap (range_with_len a) e ∙ ap (λ b. range_with_len b k) f
-range-append a (suc m) k =
-    let e : suc m + k ≡ suc (m + k) = omega arith in
-    let f : a + 1 + m ≡ a + suc m = omega arith in
-    ap (range_with_len a) e ∙ ap (λ ns. a ∷ ns) (range-append (a + 1) m k) ∙ ap
-    (λ b. a ∷ (range_with_len (a + 1) m ++ range_with_len b k)) f
 
 pub range-more : (a k : ℕ) → range_with_len a (k + 1) ≡ range_with_len a k ++ (a + k) ∷ []
 range-more a k = range-append a k 1

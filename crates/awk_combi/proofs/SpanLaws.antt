@@ -6,6 +6,8 @@ use Rattle.std.specs.Prelude.{get_or, ℤ, pos, negsuc, ◌≤ℤ◌, ◌<ℤ◌
 use Rattle.std.specs.List.{range_with_len, flat_map, AllByRecursion}
 use Rattle.std.proofs.Common.{arith, ap, ap₂, sym, ◌∙◌, subst}
 use Rattle.std.proofs.lemmas.Int.{ints}
+use Rattle.awk_base.proofs.Ranges.{map-same}
+use Rattle.awk_base.proofs.Every.{all_range}
 use Rattle.awk_types.specs.ItemLimit.{item_limit}
 use Rattle.awk_lanes.specs.declared.kind.Kind.TheVariants.{I64}
 use Rattle.awk_lanes.specs.Column.{Column}
@@ -18,7 +20,6 @@ use Rattle.awk_layout.specs.Layout.{Layout}
 use Rattle.awk_layout.specs.Valid.{len}
 use Rattle.awk_columns.specs.Lists.{AreLists, span_length}
 use Rattle.awk_columns.specs.ListClass.{Class}
-use Rattle.awk_columns.proofs.ArrayLaws.{map-same}
 use Rattle.awk_places.specs.Places.{rising_places}
 use Rattle.awk_places.specs.Slots as of_lanes
 use Rattle.awk_places.proofs.BegunLaws.{IsLong, AreBelow, all_long, all_below}
@@ -148,14 +149,6 @@ module _ (rep : Bool) (n m : ℕ) where
       (all-at (AreBelow m) [] (rising_places rep n m) k p
       (subst (AllByRecursion (AreBelow m)) (sym (rising_places-from rep n m))
       (all_below rep n 0 m)))
-
-all_range : (P : ℕ → Type 0) (a n : ℕ) → ((k : ℕ) → a ≤ k → k < a + n → P k)
-    → AllByRecursion P (range_with_len a n)
-all_range P a zero h = tt
-all_range P a (suc n) h = (
-  h a (omega arith) (omega arith),
-  all_range P (a + 1) n (λ k p q. h k (omega (arith, p)) (omega (arith, q))),
-)
 
 -- what holds of each number
 pub numbers-all : (P : ℤ → Type 0) (m : ℕ → ℕ) (h : ℕ → ℕ → ℤ) (n : ℕ)

@@ -1,7 +1,7 @@
 -- Lanes of places, while they are made.
-use Rattle.std.proofs.Common.{◌≡◌, ℕ, ◌+◌, ◌<◌, List, [], ◌∷◌, ◌++◌, map, length, arith, refl, ap}
+use Rattle.std.proofs.Common.{◌≡◌, ℕ, ◌+◌, ◌<◌, List, [], ◌∷◌, ◌++◌, map, length, arith, ap}
 use Rattle.std.proofs.Common.{sym, ◌∙◌, subst}
-use Rattle.std.specs.Prelude.{ℤ, pos, Option, Some, None}
+use Rattle.std.specs.Prelude.{ℤ, pos}
 use Rattle.std.proofs.lemmas.List.{append-nil, length-map, map-append}
 use Rattle.awk_lanes.specs.declared.kind.Kind.{Kind}
 use Rattle.awk_lanes.specs.declared.kind.Kind.TheVariants.{Bool as Truths, I8, I16, I32, I64, U8}
@@ -45,11 +45,6 @@ option-index U32 h = absurd h
 option-index U64 h = h
 
 -- ---- the places that f gives, one place after another
-
--- no place is none
-pub none_left : {X : Type 0} (o : Option X) → ((x : X) → o ≡ Some x → ⊥) → o ≡ None
-none_left None h = refl
-none_left (Some x) h = absurd (h x refl)
 
 pub given_pushed : (f : ℕ → List ℕ) (n i k : ℕ) (z : ℤ) (old new : Making) → f i ≡ k ∷ []
     → new ≡ with_item old z → z ≡ pos k → ArePlaces n (first_of f i) old

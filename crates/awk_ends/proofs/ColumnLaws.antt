@@ -2,6 +2,8 @@
 use Rattle.std.proofs.Common.{◌≡◌, ℕ, zero, suc, ◌+◌, ◌<◌, refl, ap, sym, ◌∙◌, arith}
 use Rattle.std.specs.Prelude.{List, [], ◌∷◌, map, length, get_or, replicate, Option}
 use Rattle.std.proofs.lemmas.List.{length-map}
+use Rattle.std.proofs.lemmas.Simd.{map-map}
+use Rattle.std.proofs.Math.ListN.{get_or-map}
 use Rattle.awk_types.specs.Datum.{Datum}
 use Rattle.awk_types.specs.Value.{Value}
 use Rattle.awk_columns.specs.Columns.{part_at}
@@ -13,17 +15,6 @@ use Rattle.awk_pair_operands.specs.Pairs.{leaf_types, typs}
 use Rattle.awk_ends.specs.Operands.{leaf_in}
 use Rattle.awk_ends.specs.Columns.{column_at}
 use Rattle.awk_ends.proofs.LeafLaws.{leaf_types-leaves, length-leaf_types}
-
-pub map-map : {A B C : Type 0} (f : B → C) (g : A → B) (xs : List A)
-    → map f (map g xs) ≡ map (λ x. f (g x)) xs
-map-map f g [] = refl
-map-map f g (x ∷ xs) = ap (λ ys. f (g x) ∷ ys) (map-map f g xs)
-
-pub get-map : {A B : Type 0} (f : A → B) (xs : List A) (k : ℕ) (d : A)
-    → get_or (map f xs) k (f d) ≡ f (get_or xs k d)
-get-map f [] k d = refl
-get-map f (x ∷ xs) zero d = refl
-get-map f (x ∷ xs) (suc k) d = get-map f xs k d
 
 pub same-at : (es : List Value) (z : Value) (n : ℕ) → n ≡ length es
     → replicate n z ≡ map (λ v. z) es
@@ -59,6 +50,6 @@ pub ends-leaf : (d : Option ℕ) (ds : List Datum) (es : List Value) (ys : List 
     → AreEnds d ds es ys
     → leaf_in (array_type (column_at ys k)) ≡ get_or (map leaf_in (typs ds)) k Unknown
 ends-leaf d ds es ys k h =
-    sym (get-map (λ y. leaf_in (array_type y)) ys k empty)
+    sym (get_or-map (λ y. leaf_in (array_type y)) ys k empty)
     ∙ ap (λ ts. get_or ts k Unknown) (sym (map-map leaf_in array_type ys)
     ∙ ap (map leaf_in) h.types ∙ leaf_types-leaves d ds)

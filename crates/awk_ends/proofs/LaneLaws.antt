@@ -4,6 +4,8 @@ use Rattle.std.specs.Prelude.{List, [], ◌∷◌, map, length, get_or, slice_ge
 use Rattle.std.specs.List.{range_with_len}
 use Rattle.std.proofs.lemmas.List.{length-map}
 use Rattle.std.proofs.lemmas.Option.{get_or_from_slice_get}
+use Rattle.std.proofs.lemmas.Simd.{map-map}
+use Rattle.awk_base.proofs.Lists.{map-each}
 use Rattle.awk_lanes.specs.Column.{Column}
 use Rattle.awk_lanes.specs.Numbers.{element}
 use Rattle.awk_lanes.specs.Places.{size_of, at}
@@ -20,7 +22,6 @@ use Rattle.awk_types.specs.Value.{Value}
 use Rattle.awk_types.specs.declared.primitive.Primitive.{Primitive}
 use Rattle.awk_layout.specs.Kinds.{kind_of, primitive_of, primitive_of-kind_of}
 use Rattle.awk_ends.specs.Columns.{column_at}
-use Rattle.awk_ends.proofs.ColumnLaws.{map-map}
 
 -- what stands at each place of a list
 map-at : {A B : Type 0} (f : B → A) (d : B) (h : ℕ → A) (a : ℕ) (zs : List B)
@@ -62,12 +63,6 @@ column_is ys k y e = get_or_from_slice_get ys k y empty e
 leaves-same : (p : Primitive) (vs : List Value) → map (simple_value (leaf p)) vs ≡ vs
 leaves-same p [] = refl
 leaves-same p (v ∷ vs) = ap (λ ws. v ∷ ws) (leaves-same p vs)
-
-map-each : {A B : Type 0} (f g : A → B) (xs : List A) → ((x : A) → f x ≡ g x)
-    → map f xs ≡ map g xs
-map-each f g [] e = refl
-map-each f g (x ∷ xs) e =
-    ap (λ y. y ∷ map f xs) (e x) ∙ ap (λ ys. g x ∷ ys) (map-each f g xs e)
 
 pub flat-items : (c : Column) → array_items (flat c) ≡ lane_values c
 flat-items c =

@@ -1,7 +1,8 @@
 -- The leaves of types, and the types at the ends of a pairing.
-use Rattle.std.proofs.Common.{◌≡◌, ℕ, zero, suc, Bool, true, false, not, refl, ap, ◌∙◌}
+use Rattle.std.proofs.Common.{◌≡◌, ℕ, zero, suc, Bool, true, false, refl, ap, ◌∙◌}
 use Rattle.std.specs.Prelude.{List, [], ◌∷◌, map, length, if◌then◌else◌, Option, None}
 use Rattle.std.specs.List.{list_all}
+use Rattle.std.proofs.lemmas.Bool.{not-false}
 use Rattle.awk_types.specs.DataType.{DataType, unknown, leaf, var, reg, rec, tup, opt, uni}
 use Rattle.awk_types.specs.Datum.{Datum}
 use Rattle.awk_types.specs.Predicates.{is_leaf}
@@ -66,16 +67,13 @@ leaves-ends r (suc d) ts =
     level true e f = e
     level false e f = f
 
-deny : (b : Bool) → not b ≡ false → b ≡ true
-deny true e = refl
-deny false e = absurd cc
-
 -- where no end is wrong all are leaves
 pub ends_leaves : (d : ℕ) (ts : List DataType) → is_wrong to_leaves d ts ≡ false
     → list_all is_leaf (types_at_ends to_leaves d ts) ≡ true
-ends_leaves zero ts e = deny (list_all is_leaf (map present ts)) e
+ends_leaves zero ts e = not-false (list_all is_leaf (map present ts)) e
 ends_leaves (suc d) ts e =
-    level (opens ts) (ends_leaves d (item_types ts)) (deny (list_all is_leaf (map present ts))) e
+    level (opens ts) (ends_leaves d (item_types ts)) (not-false (list_all is_leaf (map present ts)))
+        e
   where
     level : (b : Bool) → (is_wrong to_leaves d (item_types ts) ≡ false
         → list_all is_leaf (types_at_ends to_leaves d (item_types ts)) ≡ true)

@@ -2,7 +2,7 @@
 use Rattle.std.proofs.Common.{◌≡◌, ℕ, zero, suc, ◌+◌, ◌≤◌, ◌&&◌, ℤ, true, false, List, [], ◌∷◌}
 use Rattle.std.proofs.Common.{drop, length}
 use Rattle.std.proofs.Common.{slice_get, Some, int_lt, int_le, refl, ap, sym, ◌∙◌, arith}
-use Rattle.awk_types.proofs.ListLaws.{drop-get}
+use Rattle.awk_base.proofs.Lists.{drop-get}
 use Rattle.awk_expr.specs.WholeNumbers.{are_rising}
 
 module _ (zs : List ℤ) (k : ℕ) (a b : ℤ) (at : slice_get zs k ≡ Some a)

@@ -1,9 +1,8 @@
 -- The equations of `expr_of` and its like.
 use Rattle.std.proofs.Common.{◌≡◌, ℕ, ◌<◌, List, map, arith, length, slice_get, Some, get_or, sym}
-use Rattle.std.proofs.Common.{ap, ◌∙◌, refl}
-use Rattle.std.specs.Option.{option_map}
+use Rattle.std.proofs.Common.{ap, ◌∙◌}
 use Rattle.std.proofs.lemmas.List.{length-map}
-use Rattle.std.proofs.lemmas.Option.{slice_get-map, slice_get_read}
+use Rattle.awk_base.proofs.Lists.{slice_get_of_map}
 use Rattle.awk_expr.specs.ExprTree.{ExprTree, call, exprs_from}
 use Rattle.awk_expr.specs.View.{expr_step, exprs_step, expr_of, exprs_of}
 use Rattle.awk_expr.specs.declared.expr.Expr.{Expr, Call}
@@ -17,12 +16,6 @@ use Rattle.awk_expr.specs.declared.expr.Expr.TheFolds.{fold_out-Exprs, fold-roll
 
 pub exprs_out : (es : Exprs) → exprs_of es ≡ map expr_of (out-Exprs es).items.items
 exprs_out = fold_out-Exprs ExprTree (List ExprTree) expr_step exprs_step
-
--- the item that `get` reads
-slice_get_of_map : {A B : Type 0} (f : A → B) (xs : List A) (i : ℕ) (x : A) → i < length xs
-    → x ≡ get_or xs i x → slice_get (map f xs) i ≡ Some (f x)
-slice_get_of_map f xs i x within read = slice_get-map f xs i
-    ∙ ap (option_map f) (slice_get_read xs (length xs) i x refl within read)
 
 pub exprs_get : (es : Exprs) (i : ℕ) (x : Expr) → i < length (exprs_of es)
     → x ≡ get_or (out-Exprs es).items.items i x → slice_get (exprs_of es) i ≡ Some (expr_of x)

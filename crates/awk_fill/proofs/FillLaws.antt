@@ -6,6 +6,7 @@ use Rattle.std.proofs.Common.{arith, ap, ap₂, sym, subst, ◌∙◌}
 use Rattle.std.proofs.lemmas.Int.{ints}
 use Rattle.std.proofs.lemmas.List.{length-append, length-map, get_or_append_left, get_or-append-add}
 use Rattle.std.proofs.lemmas.Simd.{map-map}
+use Rattle.awk_base.proofs.Every.{all-append}
 use Rattle.awk_types.specs.DataType.{DataType, unknown, leaf, var, reg, rec, tup, opt, uni}
 use Rattle.awk_types.specs.Datum.{Datum}
 use Rattle.awk_types.specs.Faults.{fault_told}
@@ -52,7 +53,7 @@ use Rattle.awk_unify.specs.Unification.{Unification}
 use Rattle.awk_unify.specs.Unifies.{IsCarriedInto, Unifies, within_type}
 use Rattle.awk_unify.specs.Unify.{unification}
 use Rattle.awk_merge_sides.specs.Sides.{Side, merged_items, AreSides, IsMerged, with_side}
-use Rattle.awk_merge_sides.proofs.SideLaws.{all-append, item_has, length-carried, get_or-carried}
+use Rattle.awk_merge_sides.proofs.SideLaws.{item_has, length-carried, get_or-carried}
 use Rattle.awk_merge_sides.proofs.SideLaws.{merged_items-with_side, AreSides-with_side}
 use Rattle.awk_fill.specs.Filled.{IsFirst, IsPair, place_or, places_or, IsFilled, IsFilledOption}
 use Rattle.awk_fill.specs.Filled.{IsRefused}

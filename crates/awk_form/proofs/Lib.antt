@@ -2,7 +2,6 @@ pub mod Breaks
 pub mod FormTexts
 pub mod LawfulReads
 pub mod Levels
-pub mod Lists
 pub mod Nodes
 pub mod Refusals
 pub mod Types

@@ -14,7 +14,7 @@ use Rattle.awk_form.specs.declared.form.Forms.{Forms}
 use Rattle.awk_form.specs.declared.form.Shape.{Row, Union}
 use Rattle.awk_form.specs.declared.form.Shape.TheViews.{out-Form}
 use Rattle.awk_form.specs.declared.kind.IndexKind.{IndexKind}
-use Rattle.awk_form.proofs.Lists.{map_left}
+use Rattle.awk_base.proofs.Left.{map_left}
 use Rattle.awk_form.proofs.Views.{form_of-shape, keyed-Row, keyed-Union}
 
 pub types_of-from : (fs : List FormTree) → types_of (forms_from fs) ≡ types_from (map type_of fs)

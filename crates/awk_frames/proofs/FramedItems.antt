@@ -1,10 +1,12 @@
 -- A column of ends under a shape: its items, its type and its length.
 use Rattle.std.proofs.Common.{◌≡◌, ℕ, ◌+◌, ◌-◌, ◌<◌, refl, ap, arith}
 use Rattle.std.proofs.Common.{sym, ◌∙◌}
-use Rattle.std.specs.Prelude.{List, [], ◌∷◌, ◌++◌, map, filter, length, get_or, pos}
+use Rattle.std.specs.Prelude.{List, [], ◌∷◌, map, filter, length, get_or, pos}
 use Rattle.std.specs.Prelude.{Option, Some, None}
 use Rattle.std.specs.List.{range_with_len, AllByRecursion}
 use Rattle.std.proofs.lemmas.List.{length-map, get_or-map}
+use Rattle.awk_base.proofs.Ranges.{map-in}
+use Rattle.awk_base.proofs.Every.{all-append}
 use Rattle.awk_types.specs.DataType.{DataType, unknown, leaf, var, reg, rec, tup, opt, uni}
 use Rattle.awk_types.specs.Has.{Has}
 use Rattle.awk_types.specs.Simple.{simple_value, option_of, in_list, in_option}
@@ -26,7 +28,7 @@ use Rattle.awk_frames.specs.Framed.{places, IsFrame, framed_layout, over, over_t
 use Rattle.awk_frames.specs.Shape.{Shape, leaves, items, missing, offsets_column, index_column}
 use Rattle.awk_frames.specs.Shape.{shape, ends}
 use Rattle.awk_frames.proofs.ValueLists.{IsList, start_at, length-offsets, length-index, lists-by}
-use Rattle.awk_frames.proofs.ValueLists.{nulls-by, map-range}
+use Rattle.awk_frames.proofs.ValueLists.{nulls-by}
 
 -- ---- values that have a type
 
@@ -46,11 +48,6 @@ are-lists (Some n) t (truth b ∷ vs) h = absurd h.0
 are-lists (Some n) t (null ∷ vs) h = absurd h.0
 are-lists (Some n) t (row ws ∷ vs) h = absurd h.0
 are-lists (Some n) t (alt k w ∷ vs) h = absurd h.0
-
-all-append : (P : Value → Type 0) (vs ws : List Value) → AllByRecursion P vs → AllByRecursion P ws
-    → AllByRecursion P (vs ++ ws)
-all-append P [] ws h g = g
-all-append P (v ∷ vs) ws h g = (h.0, all-append P vs ws h.1 g)
 
 list-has : (c : Class) (t : DataType) (v : Value) → Has (list_type c t) v
     → AllByRecursion (Has t) (list_items v)
@@ -120,7 +117,7 @@ lists-framed c g vs z l e h =
     array_items-at (list_layout c n o z)
     ∙ ap (λ k. map (array_item (list_layout c n o z)) (range_with_len 0 k))
     (len-list c n o z (omega (arith, length-offsets 0 vs)))
-    ∙ map-range (array_item (list_layout c n o z)) f 0 n
+    ∙ map-in (array_item (list_layout c n o z)) f 0 n
     (λ i q. item-list c n o z e i (omega (arith, q)))
     ∙ ap (λ k. map f (range_with_len 0 k)) m
     ∙ lists-by g (array_item z) 0 vs l (λ k q.
@@ -146,7 +143,7 @@ nulls-framed g vs z h =
     let f : ℕ → Value = λ i. at_option (option_place (get_or (option_index 0 vs) i (pos 0)))
     (array_item z) in
     array_items-at (optional j z)
-    ∙ map-range (array_item (optional j z)) f 0 (size_of j) (λ i q. option-at j z i)
+    ∙ map-in (array_item (optional j z)) f 0 (size_of j) (λ i q. option-at j z i)
     ∙ ap (λ k. map f (range_with_len 0 k)) (length-index 0 vs)
     ∙ nulls-by g (array_item z) 0 vs (λ k q.
     item-by z g (filter is_present vs) h (0 + k) (omega (arith, q))

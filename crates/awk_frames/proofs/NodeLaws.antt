@@ -1,7 +1,8 @@
 -- The lanes of a frame fit what is made below them.
 use Rattle.std.proofs.Common.{◌≡◌, ℕ, ◌-◌, Box, Global, refl, ap, sym, subst, ◌∙◌}
-use Rattle.std.specs.Prelude.{List, map, Option, Result, Ok, Err, IfOk}
+use Rattle.std.specs.Prelude.{List, map, Option, Result, IfOk}
 use Rattle.std.specs.List.{AllByRecursion}
+use Rattle.awk_base.proofs.Results.{if_ok}
 use Rattle.awk_types.specs.DataType.{DataType}
 use Rattle.awk_types.specs.Has.{Has}
 use Rattle.awk_types.specs.Value.{Value}
@@ -51,11 +52,6 @@ missing_fit shape below j p b ends content e d h f q =
 
 -- ---- what `framed` answers, by what it makes
 
-if-ok : {X E : Type 0} (P Q : X → Type 0) (r : Result X E) → ((x : X) → P x → Q x) → IfOk r P
-    → IfOk r Q
-if-ok P Q (Ok x) f h = f x h
-if-ok P Q (Err e) f h = h
-
 abbrev IsUnder : Shape → Layout → Layout → Type 0
 IsUnder s ends y = y ≡ framed_layout s ends
 
@@ -65,7 +61,7 @@ pub under_items : {E : Type 0} (s : Shape) (ends : Layout) (r : Result Layout E)
     → s ≡ shape t vs → array_items ends ≡ map f (ends_by t vs)
     → IfOk r (λ y. array_items y ≡ map (over t f) vs)
 under_items s ends r h u t f vs has e i =
-    if-ok (IsUnder s ends) (λ y. array_items y ≡ map (over t f) vs) r
+    if_ok (IsUnder s ends) (λ y. array_items y ≡ map (over t f) vs) r
     (λ y k. ap array_items (k ∙ ap (λ w. framed_layout w ends) e)
     ∙ items-framed t f vs (len ends) ends has (subst (λ w. IsFrame w (len ends)) e h) i) u
 
@@ -73,12 +69,12 @@ pub under_type : {E : Type 0} (s : Shape) (ends : Layout) (r : Result Layout E)
     → IfOk r (λ y. y ≡ framed_layout s ends) → (t : DataType) (vs : List Value) → s ≡ shape t vs
     → IfOk r (λ y. array_type y ≡ over_type t (array_type ends))
 under_type s ends r u t vs e =
-    if-ok (IsUnder s ends) (λ y. array_type y ≡ over_type t (array_type ends)) r
+    if_ok (IsUnder s ends) (λ y. array_type y ≡ over_type t (array_type ends)) r
     (λ y k. ap array_type (k ∙ ap (λ w. framed_layout w ends) e) ∙ type-framed t vs ends) u
 
 pub under_size : {E : Type 0} (s : Shape) (ends : Layout) (r : Result Layout E)
     → IsFrame s (len ends) → IfOk r (λ y. y ≡ framed_layout s ends)
     → IfOk r (λ y. len y ≡ places s)
 under_size s ends r h u =
-    if-ok (IsUnder s ends) (λ y. len y ≡ places s) r
+    if_ok (IsUnder s ends) (λ y. len y ≡ places s) r
     (λ y k. ap len k ∙ len-framed s ends h) u

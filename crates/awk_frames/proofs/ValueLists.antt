@@ -6,6 +6,7 @@ use Rattle.std.specs.Prelude.{◌<ℤ◌}
 use Rattle.std.specs.List.{range_with_len, AllByRecursion}
 use Rattle.std.proofs.lemmas.Int.{ints}
 use Rattle.std.proofs.lemmas.List.{length-append, get_or_append_left, get_or-append-add}
+use Rattle.awk_base.proofs.Ranges.{map-in, map-suc}
 use Rattle.awk_types.specs.Simple.{in_list, in_option}
 use Rattle.awk_types.specs.Value.{Value, int, truth, null, list, row, alt, value, value_list}
 use Rattle.awk_types.specs.Value.{values_from}
@@ -15,19 +16,6 @@ use Rattle.awk_layout.specs.Item.{run, at_option}
 use Rattle.awk_columns.specs.Columns.{list_items, joined_items, is_present, offsets, option_index}
 
 -- ---- ranges
-
-pub map-suc : {A : Type 0} (f : ℕ → A) (a n : ℕ)
-    → map f (range_with_len (a + 1) n) ≡ map (λ i. f (i + 1)) (range_with_len a n)
-map-suc f a zero = refl
-map-suc f a (suc n) =
-    ap (λ ys. f (a + 1) ∷ ys) (map-suc f (a + 1) n)
-
-pub map-range : {A : Type 0} (f g : ℕ → A) (a n : ℕ) → ((i : ℕ) → i < a + n → f i ≡ g i)
-    → map f (range_with_len a n) ≡ map g (range_with_len a n)
-map-range f g a zero h = refl
-map-range f g a (suc n) h =
-    ap (λ y. y ∷ map f (range_with_len (a + 1) n)) (h a (omega arith))
-    ∙ ap (λ ys. g a ∷ ys) (map-range f g (a + 1) n (λ i l. h i (omega arith)))
 
 -- a list of what a function gives of each of other values
 run-by : (g : Value → Value) (h : ℕ → Value) (a : ℕ) (ws : List Value)
@@ -144,7 +132,7 @@ lists-by g h a (v ∷ vs) l e =
     ∙ ap g (get_or_append_left ws rest null k q)))
     ∙ ap (λ us. in_list g v ∷ us)
     (map-suc at 0 (length vs)
-    ∙ map-range (λ i. at (i + 1)) next 0 (length vs) same
+    ∙ map-in (λ i. at (i + 1)) next 0 (length vs) same
     ∙ lists-by g h b vs l.1 (λ k q.
     let s : a + (length ws + k) ≡ b + k = omega arith in
     subst (λ c. h c ≡ g (get_or rest k null)) s
@@ -216,7 +204,7 @@ nulls-step h z zs m w ws e f =
     let next : ℕ → Value = λ i. at_option (option_place (get_or zs i (pos 0))) h in
     ap (λ v. v ∷ map at (range_with_len 1 m)) e
     ∙ ap (λ us. w ∷ us)
-    (map-suc at 0 m ∙ map-range (λ i. at (i + 1)) next 0 m (λ i q. shifted i) ∙ f)
+    (map-suc at 0 m ∙ map-in (λ i. at (i + 1)) next 0 m (λ i q. shifted i) ∙ f)
   where
     shifted : (i : ℕ) → at_option (option_place (get_or (z ∷ zs) (i + 1) (pos 0))) h
         ≡ at_option (option_place (get_or zs i (pos 0))) h

@@ -6,6 +6,7 @@ use Rattle.std.specs.Option.{option_map_or}
 use Rattle.serde_json.specs.Data.{Data, null, boolean, number, string, array, object, Members}
 use Rattle.serde_json.specs.Events.{members_len}
 use Rattle.serde_json.specs.Find.{get_member}
+use Rattle.std.proofs.lemmas.Bool.{and_right}
 use Rattle.awk_expr.specs.Arguments.{u64_in}
 use Rattle.awk_expr.specs.ExprTree.{ExprTree}
 use Rattle.awk_query.specs.Line.{Line, texts, session, show, type_of, pack}
@@ -155,11 +156,7 @@ pub raw_asked-one : (line : List ℕ) → raw_asked One line ≡ 0
 unfolding is_two
 raw_asked-one line = none_asked One line refl
 
-and-false : (a b : Bool) → b ≡ false → (a && b) ≡ false
-and-false true b e = e
-and-false false b e = refl
-
 -- nor does one that is no object of five members
 pub raw_asked-few : (r : Reading) (line : List ℕ) → has_five (json_said line) ≡ false
     → raw_asked r line ≡ 0
-raw_asked-few r line e = none_asked r line (and-false (is_two r) (has_five (json_said line)) e)
+raw_asked-few r line e = none_asked r line (and_right (is_two r) (has_five (json_said line)) e)

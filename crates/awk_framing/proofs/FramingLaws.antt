@@ -1,7 +1,7 @@
 -- What a line asks for, and how the next one is read, where it is blank and where it is not.
 use Rattle.std.proofs.Common.{◌≡◌, ℕ, ◌+◌, true, false, List, refl, ap, ◌∙◌, drop, slice_get, Some}
 use Rattle.std.proofs.lemmas.List.Sums.{sum_by-cons}
-use Rattle.awk_types.proofs.ListLaws.{drop-get}
+use Rattle.awk_base.proofs.Lists.{drop-get}
 use Rattle.awk_query.specs.Line.{line_said}
 use Rattle.awk_query.specs.declared.reading.RawPart.{RawPart}
 use Rattle.awk_query.specs.declared.reading.Reading.{Reading}

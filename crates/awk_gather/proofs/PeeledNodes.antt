@@ -1,7 +1,8 @@
 -- Options and indexes are taken off.
 use Rattle.std.proofs.Common.{◌≡◌, ℕ, ◌+◌, ◌<◌, ◌≤◌, length, arith, refl, ap, sym, ◌∙◌, subst}
-use Rattle.std.specs.Prelude.{ℤ, pos, ◌≤ℤ◌, Bool, true, false, List, Option, Some, None}
+use Rattle.std.specs.Prelude.{ℤ, pos, ◌≤ℤ◌, Bool, false, List, Option, Some, None}
 use Rattle.std.proofs.lemmas.Int.{ints}
+use Rattle.std.proofs.lemmas.Bool.{true≢false}
 use Rattle.awk_types.specs.DataType.{DataType, unknown, leaf, var, reg, rec, tup, opt, uni}
 use Rattle.awk_types.specs.Simple.{present, is_option, option_of}
 use Rattle.awk_types.specs.Value.{Value}
@@ -21,9 +22,6 @@ use Rattle.awk_gather_lanes.proofs.PickedLanes.{below_of_place}
 use Rattle.awk_gather.proofs.FollowedIndexes.{size-followed, at-followed, index_followed}
 use Rattle.awk_gather.proofs.FollowedIndexes.{item_through, through_pos, item_at_place}
 use Rattle.awk_gather.proofs.FollowedIndexes.{item_if_shown, below_if_shown}
-
-no_option : true ≡ false → ⊥
-no_option e = cc
 
 -- one layer is taken off
 pub peel_step : (x y z : Layout) (f : ℕ → ℤ) (i k : Column)
@@ -91,7 +89,7 @@ pub peel_optional : (c i k : Column) (x y z : Layout) → optional c y ≡ x
 peel_optional c i k x y z e v h =
     let v' : IsOptionalIndex i (size_of c) = subst (λ q. IsOptionalIndex i (len q)) (sym e) v in
     rw (← e) (peel_step (optional c y) y z (at c) i k (λ j l. item-optional c y j)
-    (λ q. absurd (no_option q)) v' (present-option_of (array_type y)) (omega arith)
+    (λ q. absurd (true≢false q)) v' (present-option_of (array_type y)) (omega arith)
     (omega arith) h)
 
 pub follow_indexed : (c i : Column) (x y : Layout) → indexed c y ≡ x → IsValid x
@@ -136,7 +134,7 @@ peel_byte_masked m b i k x y z e v h =
     let v' : IsOptionalIndex i (size_of m) = subst (λ q. IsOptionalIndex i (len q)) (sym e) v in
     rw (← e) (peel_step (byte_masked m b y) y z (byte_index m b) i k
     (λ j l. item-byte_masked m b y j ∙ sym (item_if_shown (byte_shows m b j) j (array_item y)))
-    (λ q. absurd (no_option q)) v' (present-option_of (array_type y)) (omega arith)
+    (λ q. absurd (true≢false q)) v' (present-option_of (array_type y)) (omega arith)
     (omega arith) h)
 
 pub follow_bit_masked : (m : List Bool) (b : Bool) (i : Column) (x y : Layout)
@@ -158,7 +156,7 @@ peel_bit_masked m b i k x y z e v h =
     let v' : IsOptionalIndex i (length m) = subst (λ q. IsOptionalIndex i (len q)) (sym e) v in
     rw (← e) (peel_step (bit_masked m b y) y z (bit_index m b) i k
     (λ j l. item-bit_masked m b y j ∙ sym (item_if_shown (bit_shows m b j) j (array_item y)))
-    (λ q. absurd (no_option q)) v' (present-option_of (array_type y)) (omega arith)
+    (λ q. absurd (true≢false q)) v' (present-option_of (array_type y)) (omega arith)
     (omega arith) h)
 
 pub follow_unmasked : (n : ℕ) (i : Column) (x y : Layout) → unmasked n y ≡ x → IsValid x
@@ -186,7 +184,7 @@ peel_unmasked n i k x y z e h = rw (← e) (record {
       (array_item (unmasked n y)) (λ m. sym (item-unmasked n y m));
   bare = h.bare;
   same_present = h.same_present ∙ present-option_of (array_type y);
-  stays = λ q. absurd (no_option q);
+  stays = λ q. absurd (true≢false q);
   held_within = omega (arith, h.held_within);
   height_within = omega (arith, h.height_within);
 })

@@ -1,7 +1,7 @@
 -- The numbers of groups of bytes that were moved.
 use Rattle.std.proofs.Common.{◌≡◌, ◌≢◌, ℕ, suc, zero, ◌+◌, ◌-◌, ◌*◌, ◌/◌, ◌<◌, ◌≤◌, List, [], ◌∷◌}
 use Rattle.std.proofs.Common.{◌++◌, length, drop, get_or, map, refl, ap, sym, subst, ◌∙◌, arith}
-use Rattle.std.proofs.Common.{drop-drop, length-take, length-drop}
+use Rattle.std.proofs.Common.{drop-drop}
 use Rattle.std.specs.Prelude.{◌^◌, ℤ, pos, negsuc, ◌≤ℤ◌}
 use Rattle.std.specs.List.{range_with_len, flat_map}
 use Rattle.std.specs.Simd.{first_chunks}
@@ -18,6 +18,7 @@ use Rattle.awk_lanes.specs.Places.{size_of, at, place_at, IsIndex}
 use Rattle.awk_lanes.specs.declared.kind.Num.TheVariants.{Nat}
 use Rattle.std.specs.Int.{to_le_bytes, w32}
 use Rattle.std.proofs.lemmas.Int.{ints}
+use Rattle.awk_base.proofs.Lists.{length-chunk}
 use Rattle.awk_lanes.proofs.NumberParts.{number-bytes_of, length-numbers, get_or-numbers}
 use Rattle.awk_lanes.proofs.NumberParts.{number-take, map-number_all}
 use Rattle.awk_gather_lanes.specs.Moved.{past, eight, group_past, groups_past, ArePlacesPast}
@@ -40,18 +41,6 @@ pub lane_is : (a b : Column) → a.kind ≡ b.kind → a.items ≡ b.items → a
 lane_is a b e f =
     ap (λ k. record { kind = k; items = a.items }) e ∙ ap
     (λ zs. record { kind = b.kind; items = zs }) f
-
--- a group is as long as it says
-length-first_chunk : (w n : ℕ) (b : List ℕ) (i : ℕ) → n * w ≤ length b → i < n
-    → length (get_or (first_chunks w n b) i []) ≡ w
-length-first_chunk w zero b i h l = absurd (omega arith)
-length-first_chunk w (suc n) b zero h l = omega (arith, length-take w b, fits)
-  where
-    fits : w ≤ length b
-    fits = let e : suc n * w ≡ w + n * w = omega arith in omega arith
-length-first_chunk w (suc n) b (suc i) h l =
-    let e : suc n * w ≡ w + n * w = omega arith in
-    length-first_chunk w n (drop w b) i (omega (arith, length-drop w b)) (omega arith)
 
 -- the number at a place of groups that are joined is that of the group
 number-flat : (k : Kind) (gs : List (List ℕ)) (j : ℕ)
@@ -200,7 +189,7 @@ module _ (c p : Column) (b q : List ℕ) (d w : ℕ) (plain : c.kind ≢ Truths)
       let e : nat_of (eight (get_or (first_chunks 8 (length q / 8) q) i [])) ≡ place_at p i = ap
       nat_of (eight-at p q (size_of c) d kind p-size p-same i l) in
       let l' : place_at p i + d < size_of c = omega (arith, (within.places i l).1) in
-      length-first_chunk (width c.kind) (length b / width c.kind) b
+      length-chunk (width c.kind) (length b / width c.kind) b
       (nat_of (eight (get_or (first_chunks 8 (length q / 8) q) i [])) + d)
       (div-mul-le_self (length b) (width c.kind)) (omega (arith, count))
 

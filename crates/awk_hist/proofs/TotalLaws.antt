@@ -1,10 +1,10 @@
 -- All counts of a histogram are as many as there are values.
-use Rattle.std.proofs.Common.{◌≡◌, ℕ, ◌+◌, List, [], ◌∷◌, length, map, map-id, ap, sym, ◌∙◌, arith}
+use Rattle.std.proofs.Common.{◌≡◌, ℕ, List, length, map, map-id, ap, sym, ◌∙◌, arith}
 use Rattle.std.specs.Prelude.{ℤ, true, false, Option, Some, None, Result, Ok, Err, IfOk}
 use Rattle.std.specs.List.{sum}
-use Rattle.std.proofs.lemmas.Grind.{common_steps}
 use Rattle.std.proofs.lemmas.List.{length-map}
 use Rattle.std.proofs.lemmas.Simd.{map-map}
+use Rattle.awk_base.proofs.Sums.{sum-four}
 use Rattle.awk_types.specs.Datum as shown
 use Rattle.awk_types.specs.Faults.{fault_told}
 use Rattle.awk_types.specs.Gives.{Gives, refused_or}
@@ -22,9 +22,6 @@ use Rattle.awk_hist.specs.Bins.{bins, bins_type, count_nulls, count_value}
 use Rattle.awk_hist.specs.Hist.{leaves_of, hist_of, hist_refused}
 use Rattle.awk_hist.specs.Totals.{count_of, counts_total, row_total, CountsAll}
 use Rattle.awk_hist.proofs.InnermostLaws.{present_few}
-
-sum-four : (a b c d : ℕ) → sum (a ∷ b ∷ c ∷ d ∷ []) ≡ a + b + c + d
-sum-four a b c d = grind (arith, common_steps)
 
 list-total : (ns : List ℕ)
     → sum (map count_of (value_list (values_from (map count_value ns)))) ≡ sum ns

@@ -11,6 +11,7 @@ use Rattle.std.specs.Prelude.{◌*◌, ◌^◌, ◌||◌, nat_lt, Some, None, Ok
 use Rattle.std.specs.Prelude.{if◌then◌else◌}
 use Rattle.std.specs.List.{flat_map}
 use Rattle.std.proofs.lemmas.Bool.{ltb-false}
+use Rattle.awk_base.proofs.Ranges.{map-same}
 use Rattle.awk_types.specs.DataType.{DataType, depth, nodes}
 use Rattle.awk_types.specs.Datum.{Datum, arr, one}
 use Rattle.awk_types.specs.Gives.{refused_or, ◌or◌}
@@ -38,7 +39,6 @@ use Rattle.awk_present.specs.Numbers.{numbers, number_of}
 use Rattle.awk_present.specs.Present.{list_at}
 use Rattle.awk_bins.specs.Bins.{count_in, interval_counts, count_under, count_over, intervals}
 use Rattle.awk_bins.specs.Edges.{edge_at, lies_in}
-use Rattle.awk_bins.proofs.RangeLaws.{range-same}
 use Rattle.awk_hist.specs.Hist.{leaves, lists_refused, has_numbers, hist_of, hist_of_array}
 use Rattle.awk_hist.specs.Lists.{AreItems, IsInnermost}
 use Rattle.awk_hist.specs.declared.innermost.Innermost.TheVariants as innermost
@@ -85,7 +85,7 @@ module _ (es : List ℤ) (us vs : List Value) (more : ℕ)
       ap (λ ns. row (values_from (list (values_from (map count_value ns))
       ∷ count_value (count_under es (numbers us)) ∷ count_value (count_over es (numbers us))
       ∷ count_value (count_nulls us) ∷ [])))
-      (range-same (count_in es (numbers us)) (count_in es (numbers vs)) 0 (intervals es)
+      (map-same (count_in es (numbers us)) (count_in es (numbers vs)) 0 (intervals es)
       (λ i p q. same (lies_in es i)))
       ∙ ap (λ n. row (values_from (counts_of vs
       ∷ count_value n ∷ count_value (count_over es (numbers us))

@@ -22,7 +22,7 @@ use Rattle.awk_layout.specs.Typing.{array_items}
 use Rattle.awk_layout.specs.Valid.{len}
 use Rattle.awk_gather.specs.Arrays.{array_item}
 use Rattle.awk_columns.proofs.ListNodes.{item-list}
-use Rattle.awk_select.proofs.Lists.{each_of, each_of-more}
+use Rattle.awk_base.proofs.Each.{each_of, each_of-more}
 use Rattle.awk_jagged_rows.proofs.FlatPlaces.{flat_within}
 use Rattle.awk_jagged_places.proofs.FlatLists.{length-each}
 

@@ -6,6 +6,10 @@ use Rattle.std.specs.List.{range_with_len, flat_map, list_any, AllByRecursion}
 use Rattle.std.proofs.Common.{arith, ap, ap₂, sym, ◌∙◌, subst}
 use Rattle.std.proofs.lemmas.List.{map-append}
 use Rattle.std.proofs.lemmas.List.FromFn.{length-map-range_with_len, get_or-map-range_with_len}
+use Rattle.std.proofs.Math.Bool.{or-true}
+use Rattle.std.proofs.lemmas.Simd.{map-map}
+use Rattle.awk_base.proofs.Ranges.{map-same}
+use Rattle.awk_base.proofs.Every.{all-each as all-range, all-map}
 use Rattle.awk_types.specs.DataType.{DataType, leaf}
 use Rattle.awk_types.specs.Has.{Has}
 use Rattle.awk_types.specs.ItemLimit.{item_limit}
@@ -22,7 +26,7 @@ use Rattle.awk_layout.specs.Typing.{array_type, array_items}
 use Rattle.awk_layout.specs.Valid.{len}
 use Rattle.awk_gather.specs.Arrays.{pick}
 use Rattle.awk_columns.specs.Lists.{Listed}
-use Rattle.awk_select.proofs.Lists.{each_of, each_of-more, map-map}
+use Rattle.awk_base.proofs.Each.{each_of, each_of-more}
 use Rattle.awk_select.proofs.PickedPlaces.{IsThere, optional-lane, index-lane, take_place-below}
 use Rattle.awk_select.proofs.PickedPlaces.{take_places-there, has-at}
 use Rattle.awk_select.specs.Cells.{IsBelow, place_number, places_lane}
@@ -35,7 +39,7 @@ use Rattle.awk_jagged.specs.PickedAt.{ArePlaces, ArePlacesOr, AreWithin, AreWith
 use Rattle.awk_jagged.specs.declared.leaves.Places.{Places}
 use Rattle.awk_jagged_rows.specs.Levels.{row_at}
 use Rattle.awk_jagged_rows.specs.Rows.{lists_by, length_by, place_by, AreAlike}
-use Rattle.awk_jagged_rows.proofs.FlatPlaces.{map_same, before_same}
+use Rattle.awk_jagged_rows.proofs.FlatPlaces.{before_same}
 use Rattle.awk_jagged_places.proofs.FlatLists.{each_same, offsets_same}
 use Rattle.awk_jagged.proofs.LeafTypes.{mask-leaf, plain-leaf, leaf-index}
 use Rattle.awk_jagged_rows.proofs.SpanLaws.{item_in, list-items, length-list}
@@ -53,25 +57,6 @@ map_each {X} {Y} p f (suc n) =
     ∙ ap (λ (ys : List Y). ys ++ map p (f n)) (map_each p f n)
     ∙ sym (each_of-more (λ i. map p (f i)) n)
     ∙ ap (each_of (λ i. map p (f i))) (sym e)
-
-all-append : {X : Type 0} (P : X → Type 0) (xs ys : List X) → AllByRecursion P xs
-    → AllByRecursion P ys → AllByRecursion P (xs ++ ys)
-all-append P [] ys h g = g
-all-append P (x ∷ xs) ys h g = (h.0, all-append P xs ys h.1 g)
-
-all-range : {X : Type 0} (P : X → Type 0) (f : ℕ → List X) (a m : ℕ)
-    → ((i : ℕ) → i < a + m → AllByRecursion P (f i))
-    → AllByRecursion P (flat_map f (range_with_len a m))
-all-range P f a zero h = tt
-all-range P f a (suc m) h =
-    all-append P (f a) (flat_map f (range_with_len (a + 1) m)) (h a (omega arith))
-    (all-range P f (a + 1) m (λ i l. h i (omega (arith, l))))
-
-all-map : {X : Type 0} (P : X → Type 0) (f : ℕ → X) (a m : ℕ) → ((i : ℕ) → i < a + m → P (f i))
-    → AllByRecursion P (map f (range_with_len a m))
-all-map P f a zero h = tt
-all-map P f a (suc m) h =
-    (h a (omega arith), all-map P f (a + 1) m (λ i l. h i (omega (arith, l))))
 
 all-each : {X : Type 0} (P : X → Type 0) (f : ℕ → List X) (n : ℕ)
     → ((i : ℕ) → i < n → AllByRecursion P (f i)) → AllByRecursion P (each_of f n)
@@ -110,7 +95,7 @@ pub take-picks : (xs ws : Listed) (i : ℕ) → AreSpans xs.starts xs.stops (len
 take-picks xs ws i s p =
     map-map (at_number (array_items xs.content)) (λ k. place_number (take_in xs ws i k))
     (range_with_len 0 (length_by ws i))
-    ∙ map_same _ _ 0 (length_by ws i)
+    ∙ map-same _ _ 0 (length_by ws i)
     (λ k l q. moved_place (lists_by xs i) (array_items xs.content) (place_at xs.starts i)
     (length_by xs i) (take_place (length_by xs i) (row_at ws i k))
     (λ j r. pick_in xs i j s p r) (take_place-below (length_by xs i) (row_at ws i k)))
@@ -299,10 +284,6 @@ any_outside n g a zero f = refl
 any_outside n g a (suc m) f = ap₂ (λ b c. b || c) (f a (omega arith))
     (any_outside n g (a + 1) m (λ k l. f k (omega (arith, l))))
 
-or_right : (b : Bool) → (b || true) ≡ true
-or_right true = refl
-or_right false = refl
-
 one_outside : (n : ℕ) (g : ℕ → Value) (a m k : ℕ) → k < m → is_outside n (g (a + k)) ≡ true
     → list_any (is_outside n) (map g (range_with_len a m)) ≡ true
 one_outside n g a zero k p e = absurd (omega (arith, p))
@@ -315,7 +296,7 @@ one_outside n g a (suc m) (suc k) p e =
     ap (λ b. is_outside n (g a) || b)
     (one_outside n g (a + 1) m k (omega (arith, p))
     (subst (λ j. is_outside n (g j) ≡ true) z e))
-    ∙ or_right (is_outside n (g a))
+    ∙ or-true (is_outside n (g a))
 
 lacks_by : (xs ws : Listed) (i : ℕ)
     → list_any (is_outside (length (lists_by xs i))) (lists_by ws i)

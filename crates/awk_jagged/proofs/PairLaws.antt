@@ -5,6 +5,8 @@ use Rattle.std.specs.List.{range_with_len, flat_map}
 use Rattle.std.proofs.Common.{arith, ap, ap₂, sym, ◌∙◌, subst, eq-eqb}
 use Rattle.std.proofs.lemmas.List.Folds.{flat_map-map}
 use Rattle.std.proofs.lemmas.List.FromFn.{length-map-range_with_len}
+use Rattle.std.proofs.Math.Bool.{or-true}
+use Rattle.awk_base.proofs.Ranges.{map-same}
 use Rattle.awk_types.specs.DataType.{DataType, unknown, leaf, var, reg, rec, tup, opt, uni}
 use Rattle.awk_types.specs.ItemLimit.{too_many}
 use Rattle.awk_types.specs.Gives.{◌or◌}
@@ -20,7 +22,7 @@ use Rattle.awk_jagged.specs.Jagged.{rows_any, row_any, rows_by, row_by, is_jagge
 use Rattle.awk_jagged.specs.Pairs.{AreEven, IsUneven, HaveAll, LackSome, picks}
 use Rattle.awk_jagged_rows.specs.Sides.{ListsBy, sides}
 use Rattle.awk_jagged.specs.Pairs.{picked_length}
-use Rattle.awk_jagged_rows.proofs.FlatPlaces.{map_same, IsIn}
+use Rattle.awk_jagged_rows.proofs.FlatPlaces.{IsIn}
 use Rattle.awk_jagged_places.proofs.FlatLists.{each_same, map-flat, each-flat}
 use Rattle.awk_jagged_rows.proofs.FlatPlaces.{find, flat_within}
 use Rattle.awk_jagged_places.proofs.FlatLists.{flat_each, flat_same}
@@ -181,10 +183,6 @@ rows_any-none f g h a (suc m) e =
     ap₂ (λ b c. b || c) (e a (omega arith) (omega arith))
     (rows_any-none f g h (a + 1) m (λ k p q. e k (omega (arith, p)) (omega (arith, q))))
 
-or_one : (b : Bool) → (b || true) ≡ true
-or_one true = refl
-or_one false = refl
-
 rows_any-some : (f : List Value → List Value → Bool) (g h : ℕ → Value) (a m k : ℕ) → k < m
     → row_any f (g (a + k)) (h (a + k)) ≡ true
     → rows_any f (map g (range_with_len a m)) (map h (range_with_len a m)) ≡ true
@@ -199,7 +197,7 @@ rows_any-some f g h a (suc m) (suc k) p e =
     ap (λ b. row_any f (g a) (h a) || b)
     (rows_any-some f g h (a + 1) m k (omega (arith, p))
     (subst (λ b. row_any f (g b) (h b) ≡ true) z e))
-    ∙ or_one (row_any f (g a) (h a))
+    ∙ or-true (row_any f (g a) (h a))
 
 pub rows_by-map : (f : List Value → List Value → List Value) (g h : ℕ → Value) (a m : ℕ)
     → rows_by f (map g (range_with_len a m)) (map h (range_with_len a m))
@@ -282,7 +280,7 @@ module _ (u v : DataType) (x w : ListsBy) (n : ℕ) (m : ℕ → ℕ) (x' w' : L
         s.1,
         b.unrolls.uneven (x s.0) (w s.0)
             ∙ ap (λ d. not (length (x s.0) == length (w s.0)) || d) s.2
-            ∙ or_one (not (length (x s.0) == length (w s.0))),
+            ∙ or-true (not (length (x s.0) == length (w s.0))),
       )
 
   pub have-up : HaveAll v x' w' (before m n) → HaveAll u x w n
@@ -318,7 +316,7 @@ module _ (u v : DataType) (x w : ListsBy) (n : ℕ) (m : ℕ → ℕ) (x' w' : L
   picks-rows f e =
       map-flat m f n
       ∙ each_same _ _ n (λ i p.
-      map_same (λ k. f (before m i + k)) (picked_row i) 0 (m i)
+      map-same (λ k. f (before m i + k)) (picked_row i) 0 (m i)
       (λ k l q. e i k p (omega (arith, q))) ∙ sym (picked-rows i p))
 
   row_items : (i k : ℕ) → i < n → k < m i

@@ -1,11 +1,12 @@
 -- Outcomes: of leaves, of rows, and of lists that are looked at one by one.
-use Rattle.std.specs.Prelude.{◌≡◌, ◌≢◌, ℕ, ◌<◌, ◌≤◌, ◌==◌, refl, Bool, true, false, not, ◌||◌}
+use Rattle.std.specs.Prelude.{◌≡◌, ◌≢◌, ℕ, ◌<◌, ◌≤◌, ◌==◌, refl, Bool, true, false, not}
 use Rattle.std.specs.Prelude.{List, length, map, Option, Some, None, is_some, ℤ}
 use Rattle.std.specs.Prelude.{option_map, if◌then◌else◌}
 use Rattle.std.specs.List.{range_with_len}
 use Rattle.std.proofs.Common.{arith, ap, ap₂, sym, ◌∙◌, eq-eqb, ne_eqb, le-ltb, lt-ltb}
 use Rattle.std.proofs.lemmas.List.{length-map}
 use Rattle.std.proofs.lemmas.List.FromFn.{length-map-range_with_len}
+use Rattle.std.proofs.lemmas.Bool.{or_left}
 use Rattle.awk_types.specs.DataType.{DataType, unknown, leaf, var, reg, rec, tup, opt, uni, depth}
 use Rattle.awk_types.specs.Gives.{◌or◌}
 use Rattle.awk_types.specs.ItemLimit.{item_limit, too_many}
@@ -200,10 +201,6 @@ parts_of (Some p) e = refl
 unrolled : (u : DataType) → is_jagged u ≡ true → Unrolls u (item_of (rows_of u))
 unrolled u j = unrolls u (item_of (rows_of u)) (flag_of (rows_of u)) j
     (parts_of (rows_of u) (rows-index u j))
-
-or_left : (a b : Bool) → a ≡ true → (a || b) ≡ true
-or_left true b e = refl
-or_left false b e = absurd cc
 
 pub unlike-rows : (xs ws : Listed) → is_jagged (array_type ws.content) ≡ true → AreUnlike xs ws
     → IsOutcomeOf xs ws outcome.Uneven

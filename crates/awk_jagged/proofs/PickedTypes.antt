@@ -2,6 +2,7 @@
 use Rattle.std.specs.Prelude.{◌≡◌, Bool, true, false, ◌||◌, Option, Some, None, option_map, refl}
 use Rattle.std.specs.Prelude.{is_some, if◌then◌else◌}
 use Rattle.std.proofs.Common.{ap, sym, ◌∙◌, true≢false}
+use Rattle.std.proofs.Math.Bool.{or-true, or-false}
 use Rattle.awk_types.specs.DataType.{DataType, unknown, leaf, var, reg, rec, tup, opt, uni}
 use Rattle.awk_types.specs.Simple.{simple, option_if, present, is_option, IsSimple}
 use Rattle.awk_types.specs.Predicates.{is_leaf}
@@ -34,14 +35,6 @@ over_option b None r e = absurd cc
 over_option true (Some s) r e = ap (λ t. Some (opt (var t))) (ap typ_in e)
 over_option false (Some s) r e = ap (λ t. Some (opt (var t))) (ap typ_in e)
 
-or_right : (b : Bool) → (b || false) ≡ b
-or_right true = refl
-or_right false = refl
-
-or_true : (b : Bool) → (b || true) ≡ true
-or_true true = refl
-or_true false = refl
-
 -- what is picked by lists of v, and by optional ones
 lists_typ : (v t t' r : DataType) (first : Bool) → rows_of t ≡ Some (first, t')
     → option_map simple (pick_type v t') ≡ Some r
@@ -64,7 +57,7 @@ plain_typ : (u v t t' r : DataType) (first second : Bool) → u ≡ v → false 
 plain_typ u v t t' r first second e f h q =
     ap (λ w. option_map simple (rows_type (rows_of t) (pick_type w))) e
     ∙ lists_typ v t t' r first h q
-    ∙ ap (λ b. Some (option_if b (var r))) (sym (or_right first) ∙ ap (λ b. first || b) f)
+    ∙ ap (λ b. Some (option_if b (var r))) (sym (or-false first) ∙ ap (λ b. first || b) f)
 
 optional_typ : (u v t t' r : DataType) (first second : Bool) → u ≡ v → true ≡ second
     → rows_of t ≡ Some (first, t') → option_map simple (pick_type v t') ≡ Some r
@@ -73,7 +66,7 @@ optional_typ : (u v t t' r : DataType) (first second : Bool) → u ≡ v → tru
 optional_typ u v t t' r first second e f h q =
     ap (λ w. option_map simple (option_map opt (rows_type (rows_of t) (pick_type w)))) e
     ∙ option_typ v t t' r first h q
-    ∙ ap (λ b. Some (option_if b (var r))) (sym (or_true first) ∙ ap (λ b. first || b) f)
+    ∙ ap (λ b. Some (option_if b (var r))) (sym (or-true first) ∙ ap (λ b. first || b) f)
 
 pub picked_typ : (u v t t' r : DataType) (first second : Bool) → is_jagged u ≡ true
     → rows_of u ≡ Some (second, v) → rows_of t ≡ Some (first, t')

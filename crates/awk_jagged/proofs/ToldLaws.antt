@@ -1,7 +1,7 @@
 -- What is told of pairs of lists one by one.
 use Rattle.std.specs.Prelude.{◌≡◌, ℕ, ◌+◌, ◌<◌, refl, Bool, true, false, List}
-use Rattle.std.specs.Prelude.{nat_lt}
 use Rattle.std.proofs.Common.{arith, ap, ap₂, sym, ◌∙◌, subst}
+use Rattle.awk_base.proofs.Ranges.{one_more}
 use Rattle.awk_types.specs.DataType.{DataType}
 use Rattle.awk_types.specs.ItemLimit.{item_limit}
 use Rattle.awk_types.specs.Value.{Value}
@@ -114,16 +114,6 @@ told-none xs ws = record {
   even = λ i p. absurd (omega (arith, p));
   found = λ i p. absurd (omega (arith, p));
 }
-
-one_more : (p : ℕ → Bool) (n : ℕ) → ((i : ℕ) → i < n → p i ≡ false) → p n ≡ false → (i : ℕ)
-    → i < n + 1 → p i ≡ false
-one_more p n h e i q = go (nat_lt i n) refl
-  where
-    go : (b : Bool) → nat_lt i n ≡ b → p i ≡ false
-    go true f = h i (grind (arith, f))
-    go false f =
-        let s : n ≡ i = grind (arith, f, q) in
-        subst (λ k. p k ≡ false) s e
 
 pub told-nothing : (xs ws : Listed) (n : ℕ) (b : Bool) → AreToldTo xs ws n b
     → IsTold xs ws n told.Nothing → AreToldTo xs ws (n + 1) b

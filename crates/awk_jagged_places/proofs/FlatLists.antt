@@ -7,10 +7,11 @@ use Rattle.std.proofs.Common.{arith, ap, ap₂, sym, ◌∙◌}
 use Rattle.std.proofs.lemmas.Grind.{flat_map-append}
 use Rattle.std.proofs.lemmas.List.{length-append}
 use Rattle.std.proofs.lemmas.List.Folds.{flat_map-map}
+use Rattle.awk_base.proofs.Ranges.{map-same, map_from}
 use Rattle.awk_lanes.specs.Counted.{before, offsets_by}
 use Rattle.awk_lanes.specs.declared.kind.Kind.TheVariants.{I64}
-use Rattle.awk_select.proofs.Lists.{each_of, each_of-more}
-use Rattle.awk_jagged_rows.proofs.FlatPlaces.{map_same, map_from, map_parts, before_same}
+use Rattle.awk_base.proofs.Each.{each_of, each_of-more}
+use Rattle.awk_jagged_rows.proofs.FlatPlaces.{map_parts, before_same}
 
 -- what is the same at each place of a range is the same list
 pub flat_same : {Y : Type 0} (f g : ℕ → List Y) (a m : ℕ)
@@ -82,5 +83,5 @@ pub offsets_same : (f g : ℕ → ℕ) (n : ℕ) → ((i : ℕ) → i < n → f 
     → offsets_by f n ≡ offsets_by g n
 offsets_same f g n e =
     ap (λ zs. record { kind = I64; items = zs })
-    (map_same (λ i. pos (before f i)) (λ i. pos (before g i)) 0 (n + 1) (λ i p q.
+    (map-same (λ i. pos (before f i)) (λ i. pos (before g i)) 0 (n + 1) (λ i p q.
     ap (λ k. pos k) (before_same f g i (λ j l. e j (omega (arith, l, q))))))

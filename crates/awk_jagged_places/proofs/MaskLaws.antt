@@ -6,7 +6,7 @@ use Rattle.std.proofs.lemmas.List.{length-append}
 use Rattle.awk_types.specs.Value.{Value, int, truth, null, list, row, alt}
 use Rattle.awk_lanes.specs.Making.{Making}
 use Rattle.awk_columns.specs.Lists.{Listed}
-use Rattle.awk_select.proofs.Lists.{each_of-more, length-each_of, each_of-room}
+use Rattle.awk_base.proofs.Each.{each_of-more, length-each_of, each_of-room}
 use Rattle.awk_select.specs.Cells.{place_number}
 use Rattle.awk_select.specs.Picks.{mask_place}
 use Rattle.awk_jagged_places.specs.Kept.{kept, Puts}

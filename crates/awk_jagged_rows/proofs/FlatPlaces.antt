@@ -7,28 +7,6 @@ use Rattle.std.proofs.Common.{arith, ap, ap₂, ◌∙◌, subst}
 use Rattle.awk_lanes.specs.Counted.{before}
 use Rattle.awk_lanes.proofs.CountedLanes.{before-next, before_mono}
 
--- the same for what maps give
-pub map_same : {Y : Type 0} (f g : ℕ → Y) (a n : ℕ) → ((i : ℕ) → a ≤ i → i < a + n → f i ≡ g i)
-    → map f (range_with_len a n) ≡ map g (range_with_len a n)
-map_same f g a zero e = refl
-map_same {Y} f g a (suc n) e = ap₂ (λ (y : Y) (ys : List Y). y ∷ ys)
-    (e a (omega arith) (omega arith))
-    (map_same f g (a + 1) n (λ i p q. e i (omega (arith, p)) (omega (arith, q))))
-
--- a map from a place on
-pub map_from : {Y : Type 0} (f : ℕ → Y) (a n : ℕ)
-    → map f (range_with_len a n) ≡ map (λ k. f (a + k)) (range_with_len 0 n)
-map_from {Y} f a n =
-    let z : a + 0 ≡ a = omega arith in
-    subst (λ b. map f (range_with_len b n) ≡ map (λ k. f (a + k)) (range_with_len 0 n)) z (go 0 n)
-  where
-    go : (c m : ℕ) → map f (range_with_len (a + c) m) ≡ map (λ k. f (a + k)) (range_with_len c m)
-    go c zero = refl
-    go c (suc m) =
-        let e : a + c + 1 ≡ a + (c + 1) = omega arith in
-        ap (λ (ys : List Y). f (a + c) ∷ ys)
-        (ap (λ b. map f (range_with_len b m)) e ∙ go (c + 1) m)
-
 -- a range in two parts
 pub map_parts : {Y : Type 0} (f : ℕ → Y) (a m k : ℕ)
     → map f (range_with_len a (m + k))

@@ -1,4 +1,3 @@
-pub mod Results
 pub mod FlatPlaces
 pub mod RowLaws
 pub mod SpanLaws

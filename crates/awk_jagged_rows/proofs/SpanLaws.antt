@@ -5,6 +5,7 @@ use Rattle.std.specs.List.{range_with_len}
 use Rattle.std.proofs.Common.{arith, ap, ◌∙◌}
 use Rattle.std.proofs.lemmas.Int.{ints}
 use Rattle.std.proofs.lemmas.List.FromFn.{length-map-range_with_len}
+use Rattle.awk_base.proofs.Ranges.{map_from}
 use Rattle.awk_lanes.specs.Numbers.{nat_of}
 use Rattle.awk_lanes.specs.Places.{size_of, at, place_at, IsSpan, AreSpans}
 use Rattle.awk_layout.proofs.Runs.{value_list-run}
@@ -13,7 +14,6 @@ use Rattle.awk_gather.specs.Arrays.{array_item}
 use Rattle.awk_columns.specs.Lists.{Listed}
 use Rattle.awk_jagged_rows.specs.Levels.{row_at}
 use Rattle.awk_jagged_rows.specs.Rows.{lists_by, length_by, place_by}
-use Rattle.awk_jagged_rows.proofs.FlatPlaces.{map_from}
 
 -- an item of a span lies within
 pub span_item : (n : ℕ) (a b : ℤ) (k : ℕ) → IsSpan n a b → k < nat_of b - nat_of a

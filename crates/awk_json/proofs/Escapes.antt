@@ -47,10 +47,6 @@ special_next bytes i within special =
     ap escaped_all (drop_more bytes i 0 within) ∙ ap (λ z. z ++ escaped_all (drop (i + 1) bytes))
     (escaped-special (get_or bytes i 0) special)
 
--- no part between a place and itself
-pub none_between : (bytes : List ℕ) (i : ℕ) → slice_range bytes i i ≡ []
-none_between bytes i = let none : i - i ≡ 0 = omega arith in rw none refl
-
 -- at the end the part is all that is left
 pub last_part : (bytes : List ℕ) (start i : ℕ) → i ≡ length bytes
     → slice_range bytes start i ++ escaped_all (drop i bytes) ≡ slice_range bytes start

@@ -4,7 +4,7 @@ use Rattle.std.proofs.Common.{length, drop, take, get_or, refl, ap, sym, inl, in
 use Rattle.std.proofs.Common.{add-one, get_or-take, drop-drop, length-drop, length-take}
 use Rattle.std.proofs.Common.{get_or-drop, true, false, w8, w16, w32, w64, ◌^◌, ◌%◌, ◌/◌, map}
 use Rattle.std.proofs.Math.Facts.{Fits-of_z}
-use Rattle.std.proofs.Math.Nat.{pow-suc}
+use Rattle.std.proofs.Math.Nat.{pow-suc, add-mul}
 use Rattle.std.proofs.lemmas.Bool.{cases_lt}
 use Rattle.std.proofs.lemmas.List.{take-append-drop, drop-take, ext_get_or, get_or_past}
 use Rattle.std.proofs.lemmas.List.{take-append-le, drop-append-le}
@@ -125,16 +125,13 @@ numbers-slice_range k n b lo hi p q =
         ∙ number-take k (m - j * w) (drop (j * w) (drop (lo * w) b)) (omega arith)
         ∙ ap (number k) (drop-drop (j * w) (lo * w) b ∙ ap (λ x. drop x b) (sym split))
 
-spread : (a b w : ℕ) → (a + b) * w ≡ a * w + b * w
-spread a b w = omega arith
-
 -- how long the bytes of a part are
 pub length-part : (b : List ℕ) (lo hi w : ℕ) → lo ≤ hi → hi * w ≤ length b
     → (hi - lo) * w ≡ length (slice_range b (lo * w) (hi * w))
 length-part b lo hi w p q =
     let d : ℕ = hi - lo in
     let e : hi ≡ lo + d = omega arith in
-    let f : hi * w ≡ lo * w + d * w = ap (λ x. x * w) e ∙ spread lo d w in
+    let f : hi * w ≡ lo * w + d * w = ap (λ x. x * w) e ∙ add-mul lo d w in
     omega (arith, length-take (hi * w - lo * w) (drop (lo * w) b), length-drop (lo * w) b)
 
 -- ---- one more number

@@ -3,6 +3,7 @@ use Rattle.std.specs.Prelude.{◌≡◌, Bool, true, false, List, [], ◌∷◌,
 use Rattle.std.specs.Prelude.{filter, Some, None, refl}
 use Rattle.std.specs.List.{AllByRecursion}
 use Rattle.std.proofs.Common.{ap, sym, ◌∙◌, subst}
+use Rattle.awk_base.proofs.Every.{all-append}
 use Rattle.awk_types.specs.DataType.{DataType, opt}
 use Rattle.awk_types.specs.Has.{Has}
 use Rattle.awk_types.specs.Simple.{in_option}
@@ -10,7 +11,7 @@ use Rattle.awk_types.specs.Value.{Value, int, truth, null, list, row, alt, value
 use Rattle.awk_types.proofs.Trees.{value_list-from}
 use Rattle.awk_columns.specs.Columns.{is_present, list_items, joined_items}
 use Rattle.awk_columns.specs.ListClass.{Class, list_type}
-use Rattle.awk_law_chains.proofs.Chains.{Chain, IsAt, IsEndAt, all-append, all-each, all-of}
+use Rattle.awk_law_chains.proofs.Chains.{Chain, IsAt, IsEndAt, all-each, all-of}
 use Rattle.awk_law_chains.proofs.Chains.{at_ends}
 use Rattle.awk_law_chains.proofs.Chains.{both-each, chain_ends, chain_type, close, is_lists}
 use Rattle.awk_law_chains.proofs.Chains.{joined-in_list, layer, same-each}

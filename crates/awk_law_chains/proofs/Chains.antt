@@ -83,11 +83,6 @@ pub all-of : (P Q : Value → Type 0) (vs : List Value)
 all-of P Q [] e h = tt
 all-of P Q (v ∷ vs) e h = (e v h.0, all-of P Q vs e h.1)
 
-pub all-append : (P : Value → Type 0) (vs ws : List Value) → AllByRecursion P vs
-    → AllByRecursion P ws → AllByRecursion P (vs ++ ws)
-all-append P [] ws h k = k
-all-append P (v ∷ vs) ws h k = (h.0, all-append P vs ws h.1 k)
-
 pub items-in_list : (f : Value → Value) (v : Value)
     → list_items (in_list f v) ≡ map f (list_items v)
 items-in_list f (list vs) = value_list-from (map f (value_list vs))

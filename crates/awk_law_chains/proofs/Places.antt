@@ -5,6 +5,8 @@ use Rattle.std.specs.Prelude.{is_none, refl, if◌then◌else◌}
 use Rattle.std.specs.List.{AllByRecursion, range_with_len, flat_map, list_any}
 use Rattle.std.proofs.Common.{arith, ap, ap₂, sym, ◌∙◌}
 use Rattle.std.proofs.lemmas.List.FromFn.{get_or-map-range_with_len, fill_by_all}
+use Rattle.std.proofs.lemmas.Simd.{map-map}
+use Rattle.awk_base.proofs.Truths.{or_first, or_second}
 use Rattle.awk_types.specs.Value.{Value, int, truth, null, list, row, alt}
 use Rattle.awk_layout.specs.Item.{at_option}
 use Rattle.awk_select.specs.Picks.{picked, take_place, take_places, is_outside, mask_place}
@@ -12,18 +14,6 @@ use Rattle.awk_select.specs.Picks.{mask_places}
 use Rattle.awk_select.specs.Places.{place_in}
 
 -- ---- lists
-
-pub map-map : {X Y Z : Type 0} (f : Y → Z) (g : X → Y) (xs : List X)
-    → map f (map g xs) ≡ map (λ x. f (g x)) xs
-map-map f g [] = refl
-map-map f g (x ∷ xs) = ap (λ ys. f (g x) ∷ ys) (map-map f g xs)
-
-pub map-range : {X : Type 0} (f g : ℕ → X) (a n : ℕ) → ((i : ℕ) → i < a + n → f i ≡ g i)
-    → map f (range_with_len a n) ≡ map g (range_with_len a n)
-map-range f g a zero h = refl
-map-range f g a (suc n) h =
-    ap₂ (λ x xs. x ∷ xs) (h a (omega arith))
-    (map-range f g (a + 1) n (λ i p. h i (omega (arith, p))))
 
 -- ---- all places
 
@@ -153,20 +143,12 @@ picked-map_taken vs ws [] = refl
 picked-map_taken vs ws (o ∷ os) =
     ap₂ (λ x xs. x ∷ xs) (place_taken vs ws o) (picked-map_taken vs ws os)
 
-outside_first : (a b : Bool) → (a || b) ≡ false → a ≡ false
-outside_first false b e = refl
-outside_first true b e = e
-
-outside_rest : (a b : Bool) → (a || b) ≡ false → b ≡ false
-outside_rest false b e = e
-outside_rest true b e = cc
-
 inside_at : (n : ℕ) (ws : List Value) (k : ℕ) → list_any (is_outside n) ws ≡ false
     → is_outside n (get_or ws k null) ≡ false
 inside_at n [] k h = refl
-inside_at n (w ∷ ws) zero h = outside_first (is_outside n w) (list_any (is_outside n) ws) h
+inside_at n (w ∷ ws) zero h = or_first (is_outside n w) (list_any (is_outside n) ws) h
 inside_at n (w ∷ ws) (suc k) h =
-    inside_at n ws k (outside_rest (is_outside n w) (list_any (is_outside n) ws) h)
+    inside_at n ws k (or_second (is_outside n w) (list_any (is_outside n) ws) h)
 
 inside_option : (n : ℕ) (ws : List Value) (o : Option ℕ) → list_any (is_outside n) ws ≡ false
     → is_outside n (at_option o (λ k. get_or ws k null)) ≡ false

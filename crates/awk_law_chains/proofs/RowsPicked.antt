@@ -1,12 +1,13 @@
 -- Lists that are picked row by row by places of their own items: at an axis, or the innermost ones.
-use Rattle.std.specs.Prelude.{◌≡◌, ◌==◌, ◌||◌, ◌+◌, ◌≤◌, not, ℕ, Bool, true, false}
+use Rattle.std.specs.Prelude.{◌≡◌, ◌==◌, ◌||◌, ◌≤◌, not, ℕ, Bool, true, false}
 use Rattle.std.specs.Prelude.{List, [], ◌∷◌}
 use Rattle.std.specs.Prelude.{length, map, sum, Option, Some, None, option_map, Err, refl}
 use Rattle.std.specs.Prelude.{if◌then◌else◌}
 use Rattle.std.specs.List.{AllByRecursion, list_any}
 use Rattle.std.proofs.Common.{arith, ap, ap₂, sym, ◌∙◌}
-use Rattle.std.proofs.lemmas.Grind.{common_steps}
 use Rattle.std.proofs.lemmas.List.{length-append, length-map}
+use Rattle.awk_base.proofs.Truths.{or_later}
+use Rattle.awk_base.proofs.Sums.{sum-cons}
 use Rattle.awk_types.specs.DataType.{DataType, unknown, leaf, var, reg, rec, tup, opt, uni}
 use Rattle.awk_types.specs.Limit.{limit}
 use Rattle.awk_types.specs.Datum.{arr}
@@ -88,9 +89,6 @@ lists-present (list us ∷ vs) = ap (λ xs. value_list us ∷ xs) (lists-present
 lists-present (row us ∷ vs) = lists-present vs
 lists-present (alt j u ∷ vs) = lists-present vs
 
-sum-cons : (n : ℕ) (ns : List ℕ) → sum (n ∷ ns) ≡ n + sum ns
-sum-cons n ns = grind (arith, common_steps)
-
 joined-lengths : (vs : List Value) → length (joined_items vs) ≡ sum (map length (lists_among vs))
 joined-lengths [] = refl
 joined-lengths (list us ∷ vs) =
@@ -128,10 +126,6 @@ simple_value-lists true None u v e =
     in_option_stays (in_list (simple_value u)) v (in_list_stays (simple_value u) v e)
 simple_value-lists true (Some n) u v e =
     in_option_stays (in_list (simple_value u)) v (in_list_stays (simple_value u) v e)
-
-either_true : (a b : Bool) → (a || b) ≡ true → a ≡ false → b ≡ true
-either_true false b e f = e
-either_true true b e f = cc
 
 module _ (F G : List Value → List Value)
     (gives : (us : List Value) → picked us (take_places (length us) (F us)) ≡ G us)
@@ -400,7 +394,7 @@ module _ (F G : List Value → List Value)
 
   below : (k : Reach) (t : DataType) → (here k t || is_lists_to (inner k) t) ≡ true
       → here k t ≡ false → is_lists_to (inner k) t ≡ true
-  below k t r e = either_true (here k t) (is_lists_to (inner k) t) r e
+  below k t r e = or_later (here k t) (is_lists_to (inner k) t) r e
 
   pub is_picked : (k : Reach) (t : DataType) → IsSimple t → is_lists_to k t ≡ true → IsPicked k t
   is_picked k (var t) s r =

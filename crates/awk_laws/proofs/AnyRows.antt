@@ -2,6 +2,7 @@
 use Rattle.std.specs.Prelude.{◌≡◌, ℕ, suc, ◌||◌, Bool, true, false, List, Some, None, Err}
 use Rattle.std.specs.Prelude.{refl, if◌then◌else◌}
 use Rattle.std.proofs.Common.{ap, sym, ◌∙◌, subst}
+use Rattle.awk_base.proofs.Numbers.{suc-same}
 use Rattle.awk_types.specs.DataType.{DataType, unknown, leaf, var, reg, rec, tup, opt, uni}
 use Rattle.awk_types.specs.Datum.{arr}
 use Rattle.awk_types.specs.Gives.{refused_or, ◌or◌}
@@ -32,9 +33,6 @@ record IsLevel (w : DataType) (n : ℕ) : Type 0 where
   simple_item : IsSimple item
   deep : list_depth item ≡ n
 
-less : (m n : ℕ) → suc m ≡ suc n → m ≡ n
-less m n e = cc
-
 level_of : (w : DataType) (n : ℕ) → IsSimple w → list_depth w ≡ suc n → IsLevel w n
 level_of (var t) n s e = record {
   optional = false;
@@ -42,7 +40,7 @@ level_of (var t) n s e = record {
   item = t;
   is = refl;
   simple_item = s;
-  deep = less (list_depth t) n e;
+  deep = suc-same (list_depth t) n e;
 }
 level_of (reg m t) n s e = record {
   optional = false;
@@ -50,7 +48,7 @@ level_of (reg m t) n s e = record {
   item = t;
   is = refl;
   simple_item = s;
-  deep = less (list_depth t) n e;
+  deep = suc-same (list_depth t) n e;
 }
 level_of (opt (var t)) n s e = record {
   optional = true;
@@ -58,7 +56,7 @@ level_of (opt (var t)) n s e = record {
   item = t;
   is = refl;
   simple_item = s.1;
-  deep = less (list_depth t) n e;
+  deep = suc-same (list_depth t) n e;
 }
 level_of (opt (reg m t)) n s e = record {
   optional = true;
@@ -66,7 +64,7 @@ level_of (opt (reg m t)) n s e = record {
   item = t;
   is = refl;
   simple_item = s.1;
-  deep = less (list_depth t) n e;
+  deep = suc-same (list_depth t) n e;
 }
 level_of unknown n s e = cc
 level_of (leaf p) n s e = cc

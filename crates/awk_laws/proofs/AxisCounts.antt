@@ -8,6 +8,7 @@ use Rattle.std.proofs.Common.{arith, ap, sym, ◌∙◌, subst, inl, inr}
 use Rattle.std.proofs.Math.Nat.{lt-mul-div-succ}
 use Rattle.std.proofs.lemmas.Bool.{cases_lt, ltb-false}
 use Rattle.std.proofs.lemmas.Grind.{common_steps}
+use Rattle.std.proofs.lemmas.Simd.{map-map}
 use Rattle.awk_types.specs.DataType.{DataType, DataTypes, unknown, leaf, var, reg, rec, tup, opt}
 use Rattle.awk_types.specs.DataType.{uni, no_types, type, types_from, depth, nodes, nodes_each}
 use Rattle.awk_types.specs.Datum.{Datum, arr, one}
@@ -25,7 +26,6 @@ use Rattle.awk_laws.specs.Choices.{HasSlots, binomial, picked_tuple, tuples_of_l
 use Rattle.awk_law_chains.specs.Innermost.{datum_type}
 use Rattle.awk_laws.proofs.AxisLists.{limited-given}
 use Rattle.awk_laws.proofs.AxisTuples.{nested_tuples}
-use Rattle.awk_law_chains.proofs.Places.{map-map}
 use Rattle.awk_laws.proofs.TuplePicks.{count_is, count_repeated_is, pick_is}
 
 -- ---- lists at an axis have types of no more nodes

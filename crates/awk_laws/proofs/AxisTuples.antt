@@ -4,6 +4,7 @@ use Rattle.std.specs.Prelude.{length, map, get_or, replicate, None, Ok, refl}
 use Rattle.std.specs.List.{AllByRecursion}
 use Rattle.std.proofs.Common.{arith, ap, ap₂, ◌∙◌}
 use Rattle.std.proofs.lemmas.List.{length-map}
+use Rattle.std.proofs.lemmas.Simd.{map-map}
 use Rattle.awk_types.specs.DataType.{DataType, tup, types_from}
 use Rattle.awk_types.specs.Datum.{Datum}
 use Rattle.awk_types.specs.Has.{Has}
@@ -23,7 +24,6 @@ use Rattle.awk_law_chains.specs.Innermost.{datum_type}
 use Rattle.awk_laws.proofs.AxisLists.{each-given, given}
 use Rattle.awk_laws.proofs.AxisTypes.{IsPlain, plain_lists}
 use Rattle.awk_laws.proofs.ChoiceLaws.{all_choices}
-use Rattle.awk_law_chains.proofs.Places.{map-map}
 
 -- ---- slots of one type
 

@@ -7,6 +7,7 @@ use Rattle.std.proofs.lemmas.Bool.{cases_lt}
 use Rattle.std.proofs.lemmas.List.{length-map, get_or-map}
 use Rattle.std.proofs.lemmas.List.Elements.{Contains-append_left, Contains-append_right}
 use Rattle.std.proofs.lemmas.List.Elements.{filter_passes, recursion_from_All}
+use Rattle.awk_base.proofs.Truths.{eq-refl}
 use Rattle.awk_places.specs.Paths.{paths}
 use Rattle.awk_places.specs.Places.{before_each, all_places, next_place, goes_up, rising_places}
 use Rattle.awk_places.specs.Places.{rising_from}
@@ -143,13 +144,10 @@ each_choice rep n m ks h =
 
 -- ---- in order
 
-self : (k : ℕ) → (k == k) ≡ true
-self k = grind arith
-
 pub not_before_itself : (ks : List ℕ) → comes_before ks ks ≡ false
 not_before_itself [] = refl
 not_before_itself (k ∷ ks) =
-    ap (λ b. if b then comes_before ks ks else nat_lt k k) (self k) ∙ not_before_itself ks
+    ap (λ b. if b then comes_before ks ks else nat_lt k k) (eq-refl k) ∙ not_before_itself ks
 
 abbrev IsBefore : List ℕ → List ℕ → Type 0
 IsBefore ks js = comes_before ks js ≡ true
@@ -162,7 +160,7 @@ order_append (x ∷ xs) ys a b c =
 
 before_same : (k : ℕ) (js ks : List ℕ) → IsBefore js ks → IsBefore (k ∷ js) (k ∷ ks)
 before_same k js ks h =
-    ap (λ b. if b then comes_before js ks else nat_lt k k) (self k) ∙ h
+    ap (λ b. if b then comes_before js ks else nat_lt k k) (eq-refl k) ∙ h
 
 all_before_same : (k : ℕ) (js : List ℕ) (kss : List (List ℕ)) → AllByRecursion (IsBefore js) kss
     → AllByRecursion (IsBefore (k ∷ js)) (before_each k kss)

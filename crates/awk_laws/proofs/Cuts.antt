@@ -1,5 +1,5 @@
 -- Lists by counts, and their items one after another.
-use Rattle.std.specs.Prelude.{◌≡◌, ℕ, suc, ◌+◌, ◌≤◌, ◌==◌, Bool, true, false}
+use Rattle.std.specs.Prelude.{◌≡◌, ℕ, suc, ◌+◌, ◌≤◌, ◌==◌, true, false}
 use Rattle.std.specs.Prelude.{◌||◌, not, List, [], ◌∷◌, ◌++◌, length, map, take, drop, sum_by}
 use Rattle.std.specs.Prelude.{pos, negsuc, refl, Some, None}
 use Rattle.std.specs.List.{AllByRecursion, list_any}
@@ -7,6 +7,8 @@ use Rattle.std.proofs.Common.{arith, ap, ap₂, ◌∙◌}
 use Rattle.std.proofs.lemmas.List.{length-append, length-drop, length-take-le, take-append-drop}
 use Rattle.std.proofs.lemmas.List.Sums.{sum_by-cons}
 use Rattle.std.proofs.Math.Seq.{drop-append_seam, take-append_seam}
+use Rattle.awk_base.proofs.Truths.{or_first, or_second, same_number, equal_right}
+use Rattle.awk_base.proofs.Every.{all-append}
 use Rattle.awk_types.specs.DataType.{DataType, unknown, leaf, var, reg, rec, tup, opt, uni}
 use Rattle.awk_types.specs.Has.{Has}
 use Rattle.awk_types.specs.Value.{Value, int, truth, null, list, row, alt}
@@ -68,14 +70,6 @@ int-count (tup ts) c k h g = cc
 int-count (opt t) c k h g = cc
 int-count (uni ts) c k h g = cc
 
-or_first : (a b : Bool) → (a || b) ≡ false → a ≡ false
-or_first false b e = refl
-or_first true b e = e
-
-or_second : (a b : Bool) → (a || b) ≡ false → b ≡ false
-or_second false b e = e
-or_second true b e = cc
-
 pub lengths-cut : (u : DataType) (cs vs : List Value) → is_numbers u ≡ true
     → AllByRecursion (Has u) cs → list_any is_negative cs ≡ false
     → sum_by count_of cs ≡ length vs
@@ -96,12 +90,6 @@ lengths-cut u (c ∷ cs) vs k h g e =
     left)
 
 -- ---- counts that add up
-
-same_number : (n m : ℕ) → not (n == m) ≡ false → n ≡ m
-same_number n m h = grind arith
-
-equal_right : (n m : ℕ) → n ≡ m → not (n == m) ≡ false
-equal_right n m h = grind arith
 
 pub counts_add_up : (n : ℕ) (cs : List Value) → do_not_add_up n cs ≡ false
     → (list_any is_negative cs ≡ false) × (sum_by count_of cs ≡ n)
@@ -175,14 +163,9 @@ items_in_list (Some n) t null h = absurd h
 items_in_list (Some n) t (row vs) h = absurd h
 items_in_list (Some n) t (alt k v) h = absurd h
 
-pub all_append : (P : Value → Type 0) (xs ys : List Value) → AllByRecursion P xs
-    → AllByRecursion P ys → AllByRecursion P (xs ++ ys)
-all_append P [] ys p q = q
-all_append P (x ∷ xs) ys p q = (p.0, all_append P xs ys p.1 q)
-
 pub items_joined : (class : Class) (t : DataType) (ls : List Value)
     → AllByRecursion (Has (list_type class t)) ls → AllByRecursion (Has t) (joined_items ls)
 items_joined class t [] h = tt
 items_joined class t (v ∷ ls) h =
-    all_append (Has t) (list_items v) (joined_items ls) (items_in_list class t v h.0)
+    all-append (Has t) (list_items v) (joined_items ls) (items_in_list class t v h.0)
     (items_joined class t ls h.1)

@@ -2,6 +2,7 @@
 use Rattle.std.specs.Prelude.{◌≡◌, ℕ, suc, ◌||◌, Bool, true, false, List, length}
 use Rattle.std.specs.Prelude.{Option, Some, None, refl}
 use Rattle.std.proofs.Common.{ap, ap₂, sym, ◌∙◌, subst}
+use Rattle.awk_base.proofs.Numbers.{suc-same}
 use Rattle.awk_types.specs.DataType.{DataType, unknown, leaf, var, reg, rec, tup, opt, uni}
 use Rattle.awk_types.specs.Gives.{◌or◌}
 use Rattle.awk_types.specs.ItemLimit.{too_many}
@@ -163,9 +164,6 @@ flat_of (opt (tup ts)) s b e = cc
 flat_of (opt (opt t)) s b e = let f = s.0 in cc
 flat_of (opt (uni ts)) s b e = cc
 
-less : (m n : ℕ) → suc m ≡ suc n → m ≡ n
-less m n e = cc
-
 lists_of_depth : (u : DataType) (n : ℕ) → IsSimple u → picks_by_place u ≡ true
     → list_depth u ≡ suc n → IsLists u n
 lists_of_depth (var t) n s b e = record {
@@ -175,7 +173,7 @@ lists_of_depth (var t) n s b e = record {
   is = refl;
   simple_item = s;
   index = b;
-  deep = less (list_depth t) n e;
+  deep = suc-same (list_depth t) n e;
 }
 lists_of_depth (reg m t) n s b e = record {
   optional = false;
@@ -184,7 +182,7 @@ lists_of_depth (reg m t) n s b e = record {
   is = refl;
   simple_item = s;
   index = b;
-  deep = less (list_depth t) n e;
+  deep = suc-same (list_depth t) n e;
 }
 lists_of_depth (opt (var t)) n s b e = record {
   optional = true;
@@ -193,7 +191,7 @@ lists_of_depth (opt (var t)) n s b e = record {
   is = refl;
   simple_item = s.1;
   index = b;
-  deep = less (list_depth t) n e;
+  deep = suc-same (list_depth t) n e;
 }
 lists_of_depth (opt (reg m t)) n s b e = record {
   optional = true;
@@ -202,7 +200,7 @@ lists_of_depth (opt (reg m t)) n s b e = record {
   is = refl;
   simple_item = s.1;
   index = b;
-  deep = less (list_depth t) n e;
+  deep = suc-same (list_depth t) n e;
 }
 lists_of_depth unknown n s b e = cc
 lists_of_depth (leaf p) n s b e = cc

@@ -4,6 +4,8 @@ use Rattle.std.specs.Prelude.{map, Option, Some, refl, if◌then◌else◌}
 use Rattle.std.specs.List.{list_any}
 use Rattle.std.proofs.Common.{ap, ap₂, sym, ◌∙◌, subst}
 use Rattle.std.proofs.lemmas.List.{length-map}
+use Rattle.std.proofs.lemmas.Option.{same_Some}
+use Rattle.awk_base.proofs.Truths.{not-both}
 use Rattle.awk_types.specs.DataType.{DataType, unknown, leaf, var, reg, rec, tup, opt, uni}
 use Rattle.awk_types.specs.ItemLimit.{too_many}
 use Rattle.awk_types.specs.Predicates.{is_leaf}
@@ -185,18 +187,11 @@ pub record Composes (u w : DataType) : Type 0 where
       → Fits (simple typ) vs (picked_items w is js)
   pub sizes : (rs : List Value) → size_refused w rs ≡ size_refused (simple typ) rs
 
-pub some_same : {X : Type 0} (x y : X) → Some x ≡ Some y → x ≡ y
-some_same x y e = cc
-
 simple_both : (p q : Bool) (t : DataType)
     → simple (option_if p (simple (option_if q t))) ≡ simple (option_if (p || q) t)
 simple_both false q t = simple_twice (option_if q t)
 simple_both true false t = option_over t
 simple_both true true t = option_over (opt t)
-
-not_jagged : (b : Bool) → b ≡ false → b ≡ true → ⊥
-not_jagged true e f = cc
-not_jagged false e f = cc
 
 module _ (p q : Bool) (u l : DataType) (ul : is_leaf u ≡ true) (ll : is_leaf l ≡ true)
     (index : is_truths u ≡ false) where
@@ -223,7 +218,7 @@ module _ (p q : Bool) (u l : DataType) (ul : is_leaf u ≡ true) (ll : is_leaf l
   leaf_both : (t r : DataType) → pick_type inner t ≡ Some r
       → PicksBoth last (simple (option_if p inner)) (simple r) t
   leaf_both t r e =
-      let is : option_if q t ≡ r = some_same (option_if q t) r (sym (leaf_pick q u t ul) ∙ e) in
+      let is : option_if q t ≡ r = same_Some (option_if q t) r (sym (leaf_pick q u t ul) ∙ e) in
       record {
         one = option_if p (simple r);
         other = option_if (p || q) t;
@@ -278,7 +273,7 @@ module _ (p q : Bool) (u l : DataType) (ul : is_leaf u ≡ true) (ll : is_leaf l
   leaf_composes = record {
     typ = option_if p inner;
     types = leaf_pick p l inner ll;
-    jagged = λ e. absurd (not_jagged (is_jagged last) (leaf_flat p l ll) e);
+    jagged = λ e. absurd (not-both (is_jagged last) (leaf_flat p l ll) e);
     both = leaf_both;
     items = leaf_twice;
     first = leaf_first;

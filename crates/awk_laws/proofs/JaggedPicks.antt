@@ -3,6 +3,7 @@ use Rattle.std.specs.Prelude.{◌≡◌, Bool, true, false, List, Option, Some, 
 use Rattle.std.specs.Prelude.{refl}
 use Rattle.std.specs.Prelude.{if◌then◌else◌}
 use Rattle.std.proofs.Common.{ap, ap₂, sym, ◌∙◌}
+use Rattle.std.proofs.lemmas.Option.{same_Some}
 use Rattle.awk_types.specs.DataType.{DataType}
 use Rattle.awk_types.specs.Datum.{Datum, arr}
 use Rattle.awk_types.specs.Gives.{refused_or, ◌or◌}
@@ -16,7 +17,6 @@ use Rattle.awk_jagged.specs.Jagged.{pick_type, picked_as, picked_items, size_ref
 use Rattle.awk_select.specs.Picks.{limit_refused}
 use Rattle.awk_law_chains.specs.Arrays.{list_depth, picks_by_place}
 use Rattle.awk_laws.proofs.JaggedComposed.{composes}
-use Rattle.awk_laws.proofs.JaggedLeaves.{some_same}
 use Rattle.awk_laws.proofs.JaggedTwice.{Fits}
 
 pub record IsJagged (t u : DataType) (vs ws : List Value) (d : Datum) : Type 0 where
@@ -96,5 +96,5 @@ jagged_twice t u w vs is js picked index s z p d e f =
     ∙ sym (fitting t (simple k.typ) h.other vs ks (k.jagged b.jagged) h.second
     (k.second vs is js a.fits b.fits))
     ∙ ap (λ r. jagged_of (arr t vs) (arr (simple r) ks))
-    (some_same k.typ b.typ (sym k.types ∙ b.types))
+    (same_Some k.typ b.typ (sym k.types ∙ b.types))
     ∙ ap (jagged_of (arr t vs)) b.is

@@ -1,7 +1,8 @@
 -- A pick of a pick, row by row: by the picked index.
-use Rattle.std.specs.Prelude.{◌≡◌, ℕ, suc, ◌==◌, ◌||◌, not, Bool, true, false, List, [], ◌∷◌}
+use Rattle.std.specs.Prelude.{◌≡◌, suc, ◌==◌, ◌||◌, not, Bool, false, List, [], ◌∷◌}
 use Rattle.std.specs.Prelude.{length, refl}
 use Rattle.std.proofs.Common.{arith, ap, ap₂, sym, ◌∙◌, subst}
+use Rattle.awk_base.proofs.Truths.{or_first, or_second, same_number, equal_right}
 use Rattle.awk_types.specs.DataType.{DataType}
 use Rattle.awk_types.specs.Simple.{option_if}
 use Rattle.awk_types.specs.Value.{Value, int, truth, null, list, row, alt, value_list, values_from}
@@ -30,14 +31,6 @@ RowsFit u (v ∷ vs) (w ∷ ws) = RowFits u v w × RowsFit u vs ws
 RowsFit u [] (w ∷ ws) = ⊥
 RowsFit u (v ∷ vs) [] = ⊥
 
-first_false : (a b : Bool) → (a || b) ≡ false → a ≡ false
-first_false false b e = refl
-first_false true b e = cc
-
-rest_false : (a b : Bool) → (a || b) ≡ false → b ≡ false
-rest_false false b e = e
-rest_false true b e = cc
-
 row_fits : (u : DataType) (v w : Value) → row_any (are_uneven u) v w ≡ false
     → row_any (lacks_places u) v w ≡ false → RowFits u v w
 row_fits u (list vs) (list ws) e f = record { even = e; within = f }
@@ -63,8 +56,8 @@ rows_fit u (v ∷ vs) (w ∷ ws) l e f =
     let b = row_any (lacks_places u) v w in
     let ra = rows_any (are_uneven u) vs ws in
     let rb = rows_any (lacks_places u) vs ws in (
-      row_fits u v w (first_false a ra e) (first_false b rb f),
-      rows_fit u vs ws (omega (arith, l)) (rest_false a ra e) (rest_false b rb f),
+      row_fits u v w (or_first a ra e) (or_first b rb f),
+      rows_fit u vs ws (omega (arith, l)) (or_second a ra e) (or_second b rb f),
     )
 
 row_even : (u : DataType) (v w : Value) → RowFits u v w
@@ -92,19 +85,13 @@ rows_even u (v ∷ vs) (w ∷ ws) k =
     let b = rows_even u vs ws k.1 in
     (ap suc b.0, ap₂ (λ x y. x || y) a.0 b.1, ap₂ (λ x y. x || y) a.1 b.2)
 
-equal : (n m : ℕ) → not (n == m) ≡ false → n ≡ m
-equal n m e = grind arith
-
-unequal : (n m : ℕ) → n ≡ m → not (n == m) ≡ false
-unequal n m e = grind arith
-
 pub fits_rows : (p : Bool) (c : Class) (u : DataType) (vs ws : List Value)
     → Fits (option_if p (list_type c u)) vs ws → RowsFit u vs ws
 fits_rows p c u vs ws k =
     let e = sym (uneven-lists p c u vs ws) ∙ k.even in
     let a = not (length vs == length ws) in
     let b = rows_any (are_uneven u) vs ws in
-    rows_fit u vs ws (equal (length vs) (length ws) (first_false a b e)) (rest_false a b e)
+    rows_fit u vs ws (same_number (length vs) (length ws) (or_first a b e)) (or_second a b e)
     (sym (lacking-lists p c u vs ws) ∙ k.within)
 
 pub rows_fitting : (p : Bool) (c : Class) (u : DataType) (vs ws : List Value)
@@ -113,7 +100,7 @@ rows_fitting p c u vs ws k =
     let e = rows_even u vs ws k in
     record {
       even = uneven-lists p c u vs ws
-          ∙ ap₂ (λ x y. x || y) (unequal (length vs) (length ws) e.0) e.1;
+          ∙ ap₂ (λ x y. x || y) (equal_right (length vs) (length ws) e.0) e.1;
       within = lacking-lists p c u vs ws ∙ e.2;
     }
 

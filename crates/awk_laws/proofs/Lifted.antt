@@ -4,6 +4,7 @@ use Rattle.std.specs.Prelude.{◌≡◌, ℕ, zero, suc, ◌-◌, ◌==◌, min,
 use Rattle.std.specs.Prelude.{◌∷◌, map, None, Some, refl, if◌then◌else◌}
 use Rattle.std.specs.List.{AllByRecursion}
 use Rattle.std.proofs.Common.{arith, ap, ap₂, sym, ◌∙◌, subst}
+use Rattle.std.proofs.lemmas.Simd.{map-map}
 use Rattle.awk_types.specs.DataType.{DataType, DataTypes, unknown, leaf, var, reg, rec, tup, opt}
 use Rattle.awk_types.specs.DataType.{uni, no_types, type, types_from}
 use Rattle.awk_types.specs.Has.{Has, HasRow, HasAlternative}
@@ -21,7 +22,6 @@ use Rattle.awk_axis.specs.declared.place.Reach.TheVariants.{Axis}
 use Rattle.awk_columns.specs.ListClass.{Class, list_type}
 use Rattle.awk_columns.proofs.ListNodes.{simple-list, simple_value-list}
 use Rattle.awk_law_chains.proofs.Chains.{in_option_simple}
-use Rattle.awk_law_chains.proofs.Places.{map-map}
 
 -- ---- values, by one function after another
 

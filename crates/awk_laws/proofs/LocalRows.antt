@@ -1,8 +1,9 @@
 -- Lists that are picked row by row by their own places, at each axis.
-use Rattle.std.specs.Prelude.{◌≡◌, ℕ, suc, ◌≤◌, ◌||◌, Bool, true, false, List, [], ◌∷◌, length, map}
+use Rattle.std.specs.Prelude.{◌≡◌, ℕ, suc, ◌≤◌, Bool, true, false, List, [], ◌∷◌, length, map}
 use Rattle.std.specs.Prelude.{sum, pos, Option, None, option_map, Ok, refl, if◌then◌else◌}
 use Rattle.std.proofs.Common.{ap, ap₂, sym, ◌∙◌, subst}
 use Rattle.std.proofs.lemmas.List.FromFn.{length-map-range_with_len}
+use Rattle.awk_base.proofs.Truths.{or_later}
 use Rattle.awk_types.specs.DataType.{DataType, unknown, leaf, var, reg, rec, tup, opt, uni}
 use Rattle.awk_types.specs.Datum.{Datum, arr}
 use Rattle.awk_types.specs.Faults.{limit_fault}
@@ -71,18 +72,14 @@ same_if : (b : Bool) (t : DataType) (f : Value → Value) (v : Value)
 same_if true t f v e = same_row t v
 same_if false t f v e = in_list_stays f v (e refl)
 
-rest_true : (a b : Bool) → (a || b) ≡ true → a ≡ false → b ≡ true
-rest_true false b e f = e
-rest_true true b e f = cc
-
 same_in : (k : Reach) (t : DataType) (v : Value) → is_lists_to k t ≡ true
     → lifted_value same k t v ≡ v
 same_in k (var t) v r =
     same_if (here k t) t (lifted_value same (inner k) t) v
-    (λ e x. same_in (inner k) t x (rest_true (here k t) (is_lists_to (inner k) t) r e))
+    (λ e x. same_in (inner k) t x (or_later (here k t) (is_lists_to (inner k) t) r e))
 same_in k (reg n t) v r =
     same_if (here k t) t (lifted_value same (inner k) t) v
-    (λ e x. same_in (inner k) t x (rest_true (here k t) (is_lists_to (inner k) t) r e))
+    (λ e x. same_in (inner k) t x (or_later (here k t) (is_lists_to (inner k) t) r e))
 same_in k (opt t) v r = in_option_stays (lifted_value same k t) v (same_in k t v r)
 same_in k unknown v r = refl
 same_in k (leaf p) v r = refl

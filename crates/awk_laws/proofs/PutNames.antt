@@ -2,6 +2,7 @@
 use Rattle.std.specs.Prelude.{◌≡◌, suc, Bool, true, false, ◌||◌, List, [], ◌∷◌, length, get_or}
 use Rattle.std.specs.Prelude.{refl, if◌then◌else◌}
 use Rattle.std.proofs.Common.{arith, ap, ap₂, ◌∙◌}
+use Rattle.awk_base.proofs.Truths.{or_first, or_second}
 use Rattle.awk_types.specs.DataType.{Name}
 use Rattle.awk_types.specs.Names.{same_name, is_among}
 use Rattle.awk_types.proofs.NameLaws.{same_name-refl}
@@ -41,14 +42,6 @@ beside-put n (m ∷ ms) d x (y ∷ ys) l =
 
 -- ---- a new name left out again
 
-new_first : (a b : Bool) → (a || b) ≡ false → a ≡ false
-new_first false b e = refl
-new_first true b e = e
-
-new_rest : (a b : Bool) → (a || b) ≡ false → b ≡ false
-new_rest false b e = e
-new_rest true b e = cc
-
 apart-or : {A : Type 0} (n m : Name) (ms zs : List Name) (x y : A) (ys ws : List A) (b : Bool)
     → same_name m n ≡ b → b ≡ false → apart_from n zs ws ≡ ys
     → apart_from n (if b then n ∷ ms else m ∷ zs) (if b then x ∷ ys else y ∷ ws) ≡ y ∷ ys
@@ -66,5 +59,5 @@ apart-put n [] x (y ∷ ys) f l = absurd (omega (arith, l))
 apart-put n (m ∷ ms) x [] f l = absurd (omega (arith, l))
 apart-put n (m ∷ ms) x (y ∷ ys) f l =
     apart-or n m ms (named n ms) x y ys (put n ms x ys) (same_name m n) refl
-    (new_first (same_name m n) (is_among n ms) f)
-    (apart-put n ms x ys (new_rest (same_name m n) (is_among n ms) f) (omega (arith, l)))
+    (or_first (same_name m n) (is_among n ms) f)
+    (apart-put n ms x ys (or_second (same_name m n) (is_among n ms) f) (omega (arith, l)))

@@ -3,6 +3,8 @@ use Rattle.std.specs.Prelude.{◌≡◌, ℕ, zero, suc, ◌-◌, ◌==◌, ◌|
 use Rattle.std.specs.Prelude.{map, Some, None, refl}
 use Rattle.std.specs.List.{AllByRecursion}
 use Rattle.std.proofs.Common.{arith, ap, ap₂, sym, ◌∙◌}
+use Rattle.std.proofs.lemmas.Simd.{map-map}
+use Rattle.awk_base.proofs.Every.{all-append}
 use Rattle.awk_types.specs.DataType.{DataType, unknown, leaf, var, reg, rec, tup, opt, uni}
 use Rattle.awk_types.specs.Has.{Has}
 use Rattle.awk_types.specs.Simple.{IsSimple, option_if, simple_value, in_list}
@@ -16,9 +18,8 @@ use Rattle.awk_columns.specs.Columns.{joined_items, list_items}
 use Rattle.awk_columns.specs.ListClass.{Class, list_type}
 use Rattle.awk_columns.proofs.ListNodes.{simple_value-list}
 use Rattle.awk_law_chains.specs.Arrays.{is_lists_to}
-use Rattle.awk_law_chains.proofs.Chains.{all-append, is_lists, joined-in_list}
+use Rattle.awk_law_chains.proofs.Chains.{is_lists, joined-in_list}
 use Rattle.awk_law_chains.proofs.JaggedRows.{IsRow, are_rows}
-use Rattle.awk_law_chains.proofs.Places.{map-map}
 use Rattle.awk_laws.specs.Nulls.{items_down}
 use Rattle.awk_laws.proofs.AtAxes.{lifted_item}
 use Rattle.awk_laws.proofs.Composed.{not_here}

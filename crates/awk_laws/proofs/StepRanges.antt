@@ -7,6 +7,8 @@ use Rattle.std.proofs.Common.{arith, ap, ap₂, sym, ◌∙◌, subst}
 use Rattle.std.proofs.Math.Nat.{div-eq_of_lt, mul-div_cancel, mul-pos}
 use Rattle.std.proofs.lemmas.List.FromFn.{get_or-map-range_with_len, length-map-range_with_len}
 use Rattle.std.proofs.lemmas.List.{length-map}
+use Rattle.std.proofs.lemmas.Simd.{map-map}
+use Rattle.awk_base.proofs.Ranges.{map-in}
 use Rattle.awk_types.specs.DataType.{DataType}
 use Rattle.awk_types.specs.Datum.{Datum, arr}
 use Rattle.awk_types.specs.Value.{Value, null}
@@ -15,7 +17,6 @@ use Rattle.awk_select.specs.Picks.{items_at, step_range_of}
 use Rattle.awk_select.specs.Places.{bound_down, bound_up, multiples_below, places_down, places_up}
 use Rattle.awk_select.specs.Places.{range_places}
 use Rattle.awk_select.proofs.RangePlaces.{multiple-below}
-use Rattle.awk_law_chains.proofs.Places.{map-map, map-range}
 
 -- ---- places that go up or down by a step
 
@@ -81,7 +82,7 @@ range_down n lo hi k =
     record {
       first = a - 1;
       count = c;
-      places = map-range (λ j. a - suc (j * suc k)) (λ j. a - 1 - j * suc k) 0 c
+      places = map-in (λ j. a - suc (j * suc k)) (λ j. a - 1 - j * suc k) 0 c
           (λ j l. omega arith);
       falls = λ j l e. omega (arith, within j l);
       below = λ j l. omega (arith, within j l, top);
@@ -174,7 +175,7 @@ module _ (n : ℕ) (ps ks : List ℕ) (up last : Bool) (s u : ℕ) (p : IsRun n 
     count = k.count;
     places = ap (map (λ i. get_or ps i 0)) k.places
         ∙ map-map (λ i. get_or ps i 0) (λ j. run last k.first u j) (range_with_len 0 k.count)
-        ∙ map-range (λ j. get_or ps (run last k.first u j) 0)
+        ∙ map-in (λ j. get_or ps (run last k.first u j) 0)
         (λ j. run (both_up up last) (run up p.first s k.first) (s * u) j) 0 k.count
         (λ j l. let m : j < k.count = omega (arith, l) in
         place_of (run last k.first u j) (inside j m) ∙ twice j m);
@@ -233,7 +234,7 @@ range_going_down n a s c p l m =
     ∙ ap (places_down (suc a) (a - c * s)) g
     ∙ ap (λ x. map (λ j. suc a - suc (j * s)) (range_with_len 0 x))
     (ap (λ x. multiples_below x s) d ∙ multiples_one c s p)
-    ∙ map-range (λ j. suc a - suc (j * s)) (λ j. a - j * s) 0 (suc c) (λ j i. omega arith)
+    ∙ map-in (λ j. suc a - suc (j * s)) (λ j. a - j * s) 0 (suc c) (λ j i. omega arith)
 
 no_places : (n s : ℕ) (up : Bool) → 0 < s
     → range_places n (Some (pos 0)) (Some (pos 0)) (step_of up s) ≡ []

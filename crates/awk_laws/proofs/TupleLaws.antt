@@ -5,6 +5,7 @@ use Rattle.std.specs.Prelude.{pos, Bool, true, false, Option, Some, None, Ok, op
 use Rattle.std.specs.Prelude.{if◌then◌else◌}
 use Rattle.std.specs.List.{list_all}
 use Rattle.std.proofs.lemmas.List.FromFn.{get_or-map-range_with_len, length-map-range_with_len}
+use Rattle.std.proofs.lemmas.Simd.{map-map}
 use Rattle.awk_types.specs.DataType.{DataType}
 use Rattle.awk_types.specs.Datum.{Datum, arr}
 use Rattle.awk_types.specs.Faults.{limit_fault}
@@ -27,7 +28,6 @@ use Rattle.awk_laws.proofs.AxisTuples.{nested_tuples}
 use Rattle.awk_laws.proofs.ChoiceLaws.{binomial-factorial}
 use Rattle.awk_laws.proofs.ChoiceLaws.{all_choices, each_choice, choices_in_order}
 use Rattle.awk_laws.proofs.ChoiceLaws.{not_before_itself}
-use Rattle.awk_law_chains.proofs.Places.{map-map}
 use Rattle.awk_laws.proofs.TuplePicks.{count_is, count_repeated_is, pick_is}
 
 -- ---- products

@@ -8,6 +8,9 @@ use Rattle.std.specs.List.{AllByRecursion, range_with_len}
 use Rattle.std.proofs.Common.{arith, ap, ap₂, sym, subst, ◌∙◌}
 use Rattle.std.proofs.Common.{length-take, length-drop}
 use Rattle.std.proofs.lemmas.List.FromFn.{fill_by_all}
+use Rattle.std.proofs.lemmas.Simd.{map-map}
+use Rattle.awk_base.proofs.Truths.{eq_is}
+use Rattle.awk_base.proofs.Ranges.{map-in}
 use Rattle.awk_types.specs.DataType.{Name, DataType, DataTypes, unknown, leaf, var, reg, rec, tup}
 use Rattle.awk_types.specs.DataType.{opt, uni}
 use Rattle.awk_types.specs.DataType.{type_list, types_from}
@@ -55,7 +58,6 @@ use Rattle.awk_pair_types.specs.Limits.{limit_refused}
 use Rattle.awk_law_chains.specs.Arrays.{AreItems}
 use Rattle.awk_laws.specs.Viewing.{ViewLaws, start, stop, part_type, paired_part, part_beside}
 use Rattle.awk_law_chains.proofs.Chains.{in_option_simple}
-use Rattle.awk_law_chains.proofs.Places.{map-map, map-range}
 use Rattle.awk_laws.proofs.Fields.{field_type-with, field-raw, type_without, without-raw, has_at}
 use Rattle.awk_laws.proofs.PutNames.{among-named}
 use Rattle.awk_laws.proofs.PairedFields.{IsPaired, paired, record_with, chosen-over}
@@ -184,16 +186,13 @@ and_first : (a : Bool) → (a && true) ≡ true → a ≡ true
 and_first true e = refl
 and_first false e = cc
 
-same_number : (n m : ℕ) → (n == m) ≡ true → n ≡ m
-same_number n m e = grind arith
-
 -- arrays are equally long
 equal_lengths : (n : Name) (ns : List Name) (ts : DataTypes) (rs : List Value) (u : DataType)
     (ws : List Value) (whole : Datum)
     → with_field_of n (arr (rec ns ts) rs) (arr u ws) ≡ Ok whole → length rs ≡ length ws
 equal_lengths n ns ts rs u ws whole e =
     let ds = parts n ns ts rs (arr u ws) in
-    same_number (length rs) (length ws)
+    eq_is (length rs) (length ws)
     (and_first (length rs == length ws)
     (not_first ((length rs == length ws) && true)
     (any_uneven true (below (Some 1) ds) (typs ds) (first_rows ds))
@@ -221,7 +220,7 @@ field-of n ns ts rs v h k s l p =
     ∙ ap (option_map limit_fault) l)
     (ap₂ arr type
     (map-map (chosen_value (field n) t) (whole_item n ns ts rs v) (range_with_len 0 (length rs))
-    ∙ map-range (λ i. chosen_value (field n) t (whole_item n ns ts rs v i)) (row_side v) 0
+    ∙ map-in (λ i. chosen_value (field n) t (whole_item n ns ts rs v i)) (row_side v) 0
     (length rs)
     (λ i q. let r : i < length rs = omega (arith, q) in
     field-raw n ns ts u (get_or rs i null) (row_side v i) h (has_at (rec ns ts) rs i k r)
@@ -275,7 +274,7 @@ without_field_of_with_field n ns ts rs v whole h k l f e =
     ∙ ap (option_map limit_fault) l)
     (ap₂ arr type
     (map-map (chosen_value (without n) t) (whole_item n ns ts rs v) (range_with_len 0 (length rs))
-    ∙ map-range (λ i. chosen_value (without n) t (whole_item n ns ts rs v i))
+    ∙ map-in (λ i. chosen_value (without n) t (whole_item n ns ts rs v i))
     (λ i. get_or rs i null) 0 (length rs)
     (λ i q. let typed = has_at (rec ns ts) rs i k.items (omega (arith, q)) in
     without-raw n ns ts u (get_or rs i null) (row_side v i) h f typed

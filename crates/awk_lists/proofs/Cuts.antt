@@ -1,7 +1,7 @@
 -- An array cut by counts.
 use Rattle.std.specs.Prelude.{◌≡◌, ℕ, zero, suc, ◌+◌, ◌-◌, ◌<◌, ◌≤◌, ◌^◌, ◌==◌, nat_eq, nat_lt}
 use Rattle.std.specs.Prelude.{refl}
-use Rattle.std.specs.Prelude.{Bool, true, false, ◌||◌, not, List, [], ◌∷◌, length, map, take, drop}
+use Rattle.std.specs.Prelude.{true, false, ◌||◌, not, List, [], ◌∷◌, length, map, take, drop}
 use Rattle.std.specs.Prelude.{get_or, sum_by, pos, Some, None, Ok, Err}
 use Rattle.std.specs.Prelude.{if◌then◌else◌}
 use Rattle.std.specs.List.{list_any, range_with_len}
@@ -10,6 +10,9 @@ use Rattle.std.proofs.lemmas.List.{length-map, take_all}
 use Rattle.std.proofs.lemmas.List.Folds.{list_any_at, list_any_more}
 use Rattle.std.proofs.lemmas.List.FromFn.{fill_by_all}
 use Rattle.std.proofs.lemmas.List.Sums.{sum_by-cons, sum_by_more, sum_by-take-le}
+use Rattle.std.proofs.Math.Bool.{or-true}
+use Rattle.awk_base.proofs.Truths.{or_second, same_number, equal_right, unequal_wrong}
+use Rattle.awk_base.proofs.Ranges.{map-same}
 use Rattle.awk_types.specs.DataType.{DataType, var}
 use Rattle.awk_types.specs.Datum.{arr}
 use Rattle.awk_types.specs.Gives.{refused_or, ◌or◌}
@@ -31,7 +34,7 @@ use Rattle.awk_gather.specs.Arrays.{array_item}
 use Rattle.awk_lanes.specs.Made.{lane_of}
 use Rattle.awk_lanes.proofs.MadeLanes.{size-lane_of, at-lane_of}
 use Rattle.awk_columns.specs.Joined.{AreOffsets}
-use Rattle.awk_columns.proofs.ArrayLaws.{array_items-at, map-same, run_in_list}
+use Rattle.awk_columns.proofs.ArrayLaws.{array_items-at, run_in_list}
 use Rattle.awk_lists.specs.Numbers.{AreCounts}
 use Rattle.awk_lists.specs.Unflatten.{is_negative, count_of, counted_before, do_not_add_up, cut_by}
 use Rattle.awk_lists.specs.Unflatten.{lists_by, cut_items}
@@ -63,10 +66,6 @@ negative_next x c a i p e h =
 
 -- ---- counts that do not add up
 
-or_true : (b : Bool) → (b || true) ≡ true
-or_true true = refl
-or_true false = refl
-
 pub negative_wrong : (x : Layout) (c : Column) (n : ℕ) → AreCounts x c → (i : ℕ) → i < len x
     → is_negative (int (at c i)) ≡ true → do_not_add_up n (array_items x) ≡ true
 negative_wrong x c n a i p e =
@@ -74,38 +73,25 @@ negative_wrong x c n a i p e =
     (list_any_at is_negative (array_items x) i null (omega (arith, p, length-array_items x))
     (ap is_negative (count_at x c a i p) ∙ e))
 
-unequal_wrong : (n m : ℕ) → (n ≡ m → ⊥) → not (n == m) ≡ true
-unequal_wrong n m h = grind arith
-
-equal_right : (n m : ℕ) → n ≡ m → not (n == m) ≡ false
-equal_right n m h = grind arith
-
 pub over_wrong : (cs : List Value) (n : ℕ) → n < sum_by count_of cs → do_not_add_up n cs ≡ true
 over_wrong cs n p =
     ap (λ b. list_any is_negative cs || b)
     (unequal_wrong (sum_by count_of cs) n (λ e. omega (arith, p, e)))
-    ∙ or_true (list_any is_negative cs)
+    ∙ or-true (list_any is_negative cs)
 
 pub under_wrong : (cs : List Value) (n : ℕ) → sum_by count_of cs < n → do_not_add_up n cs ≡ true
 under_wrong cs n p =
     ap (λ b. list_any is_negative cs || b)
     (unequal_wrong (sum_by count_of cs) n (λ e. omega (arith, p, e)))
-    ∙ or_true (list_any is_negative cs)
+    ∙ or-true (list_any is_negative cs)
 
 pub adds_up : (cs : List Value) (n : ℕ) → list_any is_negative cs ≡ false → sum_by count_of cs ≡ n
     → do_not_add_up n cs ≡ false
 adds_up cs n h e = ap₂ (λ u v. u || v) h (equal_right (sum_by count_of cs) n e)
 
-or_false : (a b : Bool) → (a || b) ≡ false → b ≡ false
-or_false false b h = h
-or_false true b h = cc
-
-same_number : (n m : ℕ) → not (n == m) ≡ false → n ≡ m
-same_number n m h = grind arith
-
 pub counted_whole : (cs : List Value) (n : ℕ) → do_not_add_up n cs ≡ false → sum_by count_of cs ≡ n
 counted_whole cs n h =
-    same_number (sum_by count_of cs) n (or_false (list_any is_negative cs) _ h)
+    same_number (sum_by count_of cs) n (or_second (list_any is_negative cs) _ h)
 
 pub all_added : (cs : List Value) (n left i : ℕ) → length cs ≤ i
     → list_any is_negative (take i cs) ≡ false → counted_before cs i + left ≡ n

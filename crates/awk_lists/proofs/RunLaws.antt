@@ -4,7 +4,7 @@ use Rattle.std.specs.Prelude.{length, map, Bool, true, false, ℤ, pos, if◌the
 use Rattle.std.specs.Ordering.{int_eq}
 use Rattle.std.proofs.Common.{arith, ap, ap₂, sym, ◌∙◌}
 use Rattle.std.proofs.lemmas.List.{length-append, length-map}
-use Rattle.awk_axis.proofs.ListLaws.{append_one}
+use Rattle.awk_base.proofs.Lists.{append_one}
 use Rattle.awk_types.specs.Value.{Value, value_list}
 use Rattle.awk_lanes.specs.Column.{Column}
 use Rattle.awk_lanes.specs.Numbers.{is_nonzero, element, IsOf}

@@ -1,7 +1,7 @@
 -- The runs of the lists of a column: what is made of them.
 use Rattle.std.specs.Prelude.{◌≡◌, ℕ, zero, suc, ◌+◌, ◌-◌, ◌<◌, ◌≤◌, ◌^◌, refl, true, false}
 use Rattle.std.specs.Prelude.{Bool}
-use Rattle.std.specs.Prelude.{List, ◌∷◌, ◌++◌, length, map, take, drop, sum, ℤ, pos}
+use Rattle.std.specs.Prelude.{List, ◌++◌, length, map, take, drop, sum, ℤ, pos}
 use Rattle.std.specs.Prelude.{Some, None, if◌then◌else◌}
 use Rattle.std.specs.List.{range_with_len, flat_map}
 use Rattle.std.proofs.Common.{arith, ap, sym, ◌∙◌, subst}
@@ -13,6 +13,7 @@ use Rattle.std.proofs.lemmas.List.Concat.{length-flat_map}
 use Rattle.std.proofs.lemmas.List.Sums.{sum-map}
 use Rattle.std.proofs.lemmas.List.FromFn.{fill_by_all}
 use Rattle.std.proofs.lemmas.Simd.{map-map}
+use Rattle.awk_base.proofs.Ranges.{range-append}
 use Rattle.awk_types.specs.DataType.{DataType, leaf}
 use Rattle.awk_types.specs.Simple.{simple_value}
 use Rattle.awk_types.specs.Value.{Value, int, value_list}
@@ -51,24 +52,11 @@ use Rattle.awk_lists.proofs.RunLaws.{runs_between-few}
 
 -- ---- lists that lie one after another
 
-range_more : (a n k : ℕ)
-    → range_with_len a (n + k) ≡ range_with_len a n ++ range_with_len (a + n) k
-range_more a zero k =
-    let z : 0 + k ≡ k = omega arith in
-    let e : a ≡ a + 0 = omega arith in
-    ap (range_with_len a) z ∙ ap (λ b. range_with_len b k) e
-range_more a (suc n) k =
-    let z : suc n + k ≡ suc (n + k) = omega arith in
-    let e : a + 1 + n ≡ a + suc n = omega arith in
-    ap (range_with_len a) z
-    ∙ ap (λ xs. a ∷ xs) (range_more (a + 1) n k
-    ∙ ap (λ b. range_with_len (a + 1) n ++ range_with_len b k) e)
-
 first_of-add : (f : ℕ → List ℕ) (i k : ℕ)
     → first_of f (i + k) ≡ first_of f i ++ flat_map f (range_with_len i k)
 first_of-add f i k =
     let z : 0 + i ≡ i = omega arith in
-    ap (flat_map f) (range_more 0 i k
+    ap (flat_map f) (range-append 0 i k
     ∙ ap (λ b. range_with_len 0 i ++ range_with_len b k) z)
     ∙ flat_map-append f (range_with_len 0 i) (range_with_len i k)
 

@@ -1,9 +1,7 @@
 -- A load of more bytes costs more.
 use Rattle.std.proofs.Common.{◌≤◌, ℕ, ◌+◌, ◌*◌, arith}
+use Rattle.awk_base.proofs.Numbers.{times}
 use Rattle.awk_load_line.specs.LoadCost.{load_cost}
-
-times : (a b c d : ℕ) → a ≤ c → b ≤ d → a * b ≤ c * d
-times a b c d h k = grind arith
 
 pub load_cost-bytes : (width m n : ℕ) → m ≤ n → load_cost width m ≤ load_cost width n
 load_cost-bytes width m n h =

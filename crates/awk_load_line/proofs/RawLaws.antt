@@ -1,14 +1,15 @@
 -- The raw bytes behind a line, part by part.
-use Rattle.std.proofs.Common.{◌≡◌, ◌≤◌, nat_lt, ℕ, zero, suc, ◌+◌, ◌-◌, ◌||◌, Bool, true, false}
+use Rattle.std.proofs.Common.{◌≡◌, ◌≤◌, nat_lt, ℕ, zero, suc, ◌+◌, ◌-◌, Bool, true, false}
 use Rattle.std.proofs.Common.{cond, List, [], ◌∷◌, ◌++◌, length, take, drop, slice_get, Option}
 use Rattle.std.proofs.Common.{Some, None, true≢false, refl, sym, ap, ◌∙◌, subst, arith}
 use Rattle.std.proofs.Common.{append_assoc, append-nil, length-take, length-drop}
 use Rattle.std.specs.List.{list_any}
 use Rattle.std.specs.Str.{bytes_eq}
 use Rattle.std.proofs.lemmas.List.Sums.{sum_by-cons}
+use Rattle.std.proofs.lemmas.Bool.{or_parts}
 use Rattle.awk_types.specs.DataType.{Name}
 use Rattle.awk_types.specs.Names.{AreDistinct}
-use Rattle.awk_types.proofs.ListLaws.{drop-get}
+use Rattle.awk_base.proofs.Lists.{drop-get}
 use Rattle.awk_query.specs.Line.{keys_of}
 use Rattle.awk_query.specs.declared.reading.RawPart.{RawPart}
 use Rattle.awk_store.specs.Buffers.{ByKey, Held, IsNew, at_key, total_len}
@@ -73,10 +74,6 @@ abbrev pub AreNew : ByKey → List Name → Type 0
 AreNew raws [] = Unit {0}
 AreNew raws (k ∷ ks) = (at_key raws k ≡ None) × AreNew raws ks
 
-or-none : (a b : Bool) → (a || b) ≡ false → (a ≡ false) × (b ≡ false)
-or-none true b e = absurd (cc)
-or-none false b e = (refl, e)
-
 cond-none : (b : Bool) (x : List ℕ) (o : Option (List ℕ)) → cond b (Some x) o ≡ None
     → (b ≡ false) × (o ≡ None)
 cond-none true x o e = absurd (cc)
@@ -93,7 +90,7 @@ pub AreNew-add : (raws : ByKey) (l bytes : List ℕ) (ks : List Name) → AreNew
     → list_any (λ m. bytes_eq m l) ks ≡ false → AreNew (raws ++ (l, bytes) ∷ []) ks
 AreNew-add raws l bytes [] new apart = tt
 AreNew-add raws l bytes (k ∷ ks) new apart =
-    let parts = or-none (bytes_eq k l) (list_any (λ m. bytes_eq m l) ks) apart in
+    let parts = or_parts (bytes_eq k l) (list_any (λ m. bytes_eq m l) ks) apart in
     (at_key-add raws k l bytes new.0 parts.0, AreNew-add raws l bytes ks new.1 parts.1)
 
 pub AreNew-none : (ks : List Name) → AreNew [] ks

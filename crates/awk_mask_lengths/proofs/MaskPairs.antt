@@ -1,8 +1,9 @@
 -- Masks over lists by place: what their types say of the items, and where lists differ.
-use Rattle.std.specs.Prelude.{◌≡◌, ℕ, zero, suc, ◌+◌, ◌-◌, ◌<◌, nat_lt, Bool, true, false, ◌||◌}
-use Rattle.std.specs.Prelude.{not, ◌==◌, refl, List, [], ◌∷◌, length, get_or, Option, Some, None}
+use Rattle.std.specs.Prelude.{◌≡◌, ℕ, zero, suc, ◌-◌, ◌<◌, Bool, true, false, ◌||◌}
+use Rattle.std.specs.Prelude.{refl, List, [], ◌∷◌, length, get_or, Option, Some, None}
 use Rattle.std.specs.Prelude.{option_map}
 use Rattle.std.proofs.Common.{arith, ap, ap₂, sym, ◌∙◌}
+use Rattle.awk_base.proofs.Truths.{equal_right, unequal_wrong}
 use Rattle.awk_types.specs.DataType.{DataType, unknown, leaf, var, reg, rec, tup, opt, uni}
 use Rattle.awk_types.specs.DataType.{depth}
 use Rattle.awk_types.specs.Simple.{IsSimple}
@@ -155,31 +156,14 @@ one_differs f (m ∷ ms) (v ∷ vs) (suc k) e p h =
     ap (λ b. f m v || b) (one_differs f ms vs k (omega (arith, e)) (omega (arith, p)) h)
     ∙ or_true (f m v)
 
-equal_refl : (n m : ℕ) → n ≡ m → not (n == m) ≡ false
-equal_refl n m e = grind arith
-
-unequal_refl : (n m : ℕ) → (n ≡ m → ⊥) → not (n == m) ≡ true
-unequal_refl n m e = grind arith
-
 pub unequal_lengths : (f : Value → Value → Bool) (ms vs : List Value)
     → (length ms ≡ length vs → ⊥) → lists_differ f ms vs ≡ true
-unequal_lengths f ms vs e = ap (λ b. b || any_pair f ms vs) (unequal_refl (length ms) (length vs) e)
+unequal_lengths f ms vs e =
+    ap (λ b. b || any_pair f ms vs) (unequal_wrong (length ms) (length vs) e)
 
 pub equal_lengths : (f : Value → Value → Bool) (ms vs : List Value) → length ms ≡ length vs
     → lists_differ f ms vs ≡ any_pair f ms vs
-equal_lengths f ms vs e = ap (λ b. b || any_pair f ms vs) (equal_refl (length ms) (length vs) e)
-
--- none before this place, and not this one
-pub one_more : (f : ℕ → Bool) (i : ℕ) → ((k : ℕ) → k < i → f k ≡ false) → f i ≡ false → (k : ℕ)
-    → k < i + 1 → f k ≡ false
-one_more f i h e k p = by_order (nat_lt k i) refl
-  where
-    same : nat_lt k i ≡ false → k ≡ i
-    same q = grind arith
-
-    by_order : (b : Bool) → nat_lt k i ≡ b → f k ≡ false
-    by_order true q = h k (grind arith)
-    by_order false q = ap f (same q) ∙ e
+equal_lengths f ms vs e = ap (λ b. b || any_pair f ms vs) (equal_right (length ms) (length vs) e)
 
 -- ---- arrays
 

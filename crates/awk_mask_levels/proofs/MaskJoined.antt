@@ -3,6 +3,7 @@ use Rattle.std.specs.Prelude.{◌≡◌, ℕ, refl, Bool, true, false, ◌||◌,
 use Rattle.std.specs.Prelude.{length, pos, ◌+◌}
 use Rattle.std.specs.List.{AllByRecursion}
 use Rattle.std.proofs.Common.{arith, ap, ap₂, ◌∙◌, length-append}
+use Rattle.awk_base.proofs.Truths.{same_number}
 use Rattle.awk_types.specs.Value.{Value, null, int, truth, list, row, alt, value_list}
 use Rattle.awk_columns.specs.Columns.{joined_items, offsets}
 use Rattle.awk_mask_lengths.specs.MaskValues.{any_pair, lists_differ, differ_inside}
@@ -26,13 +27,10 @@ pairs_append f (u ∷ us) (w ∷ ws) ms vs e =
     ap (λ b. f u w || b) (pairs_append f us ws ms vs (omega (arith, e)))
     ∙ or_joined (f u w) (any_pair f us ws) (any_pair f ms vs)
 
-equal_if : (n m : ℕ) → not (n == m) ≡ false → n ≡ m
-equal_if n m e = grind arith
-
 pub same_length : (f : Value → Value → Bool) (us ws : List Value) → lists_differ f us ws ≡ false
     → length us ≡ length ws
 same_length f us ws h =
-    equal_if (length us) (length ws)
+    same_number (length us) (length ws)
     (or_left (not (length us == length ws)) (any_pair f us ws) h)
 
 -- what is told of two columns of lists that do not differ

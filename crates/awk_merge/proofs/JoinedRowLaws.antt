@@ -8,6 +8,8 @@ use Rattle.std.proofs.lemmas.Int.{ints}
 use Rattle.std.proofs.lemmas.Nat.{row_fits}
 use Rattle.std.proofs.lemmas.List.Folds.{flat_map-map, list_all-map}
 use Rattle.std.proofs.lemmas.List.FromFn.{get_or-map-range_with_len}
+use Rattle.awk_base.proofs.Numbers.{times-le}
+use Rattle.awk_base.proofs.Ranges.{map-in, flat-in}
 use Rattle.awk_types.proofs.RefusalLaws.{refused_or-None}
 use Rattle.awk_types.proofs.Trees.{values_from-list, value_list-from}
 use Rattle.awk_types.specs.DataType.{DataType, var}
@@ -34,15 +36,11 @@ use Rattle.awk_columns.specs.Joined.{JoinsLists, total}
 use Rattle.awk_columns.specs.Opened.{items_at}
 use Rattle.awk_columns.proofs.ArrayLaws.{array_items-at, run_in_list}
 use Rattle.awk_merge_operands.specs.Operands.{stacked_row, filled_row, filled_rows, rows_datum}
-use Rattle.awk_merge_operands.specs.Operands.{list_place}
-use Rattle.awk_merge_operands.specs.Operands.{values_by, list_between, is_whole, rows_lane}
-use Rattle.awk_merge_operands.specs.Operands.{ends_in_rows}
-use Rattle.awk_merge_operands.specs.Operands.{offsets_of_rows, AreRising}
+use Rattle.awk_merge_operands.specs.Operands.{list_place, values_by, list_between, is_whole}
+use Rattle.awk_merge_operands.specs.Operands.{rows_lane, ends_in_rows, offsets_of_rows, AreRising}
 use Rattle.awk_merge_operands.proofs.ListPlaceLaws.{cell, block_within, size-ends, row_items}
 use Rattle.awk_merge_operands.proofs.ListPlaceLaws.{items-end}
-use Rattle.awk_merge.proofs.RangeLaws.{all-range, flat-range, flat-none, flat-blocks, rises}
-use Rattle.awk_merge.proofs.RangeLaws.{runs-joined, times_within}
-use Rattle.awk_merge_operands.proofs.StackLaws.{map-at}
+use Rattle.awk_merge.proofs.RangeLaws.{all-range, flat-none, flat-blocks, rises, runs-joined}
 use Rattle.awk_columns.proofs.ItemLimits.{over_limit, within_limit}
 
 -- ---- the values of a row, by the places of their lists
@@ -54,7 +52,7 @@ module _ (index : Option Column) (n k : ℕ) (f : ℕ → Value) where
   pub row-values : (i : ℕ) → i < n
       → stacked_row n k (values_by index (k * n) f) i ≡ map (by_place i) (range_with_len 0 k)
   row-values i p =
-      map-at (λ j. get_or (values_by index (k * n) f) (j * n + i) null) (by_place i) 0 k
+      map-in (λ j. get_or (values_by index (k * n) f) (j * n + i) null) (by_place i) 0 k
       (λ j q. get_or-map-range_with_len (λ m. at_option (list_place index m) f) 0 (k * n)
       (j * n + i)
       (j * n + i) null (cell n k i j p (omega (arith, q))) (omega arith))
@@ -104,7 +102,7 @@ module _ (index : Option Column) (n k : ℕ) (s t : Column) (y : Layout) where
   row-is : (i : ℕ) → i < n → one_row i
       ≡ (if is_whole index n k i then joined_items (stacked_row n k values i) else [])
   row-is i p =
-      flat-range (λ j. items_at starts stops y (i * k + j))
+      flat-in (λ j. items_at starts stops y (i * k + j))
       (λ j. row_items index n k (is_whole index n k i) (list_place index (j * n + i)) s t y) 0 k
       (λ j q. items-end index n k s t y i j p (omega (arith, q)))
       ∙ by_row (is_whole index n k i) i
@@ -126,7 +124,7 @@ module _ (index : Option Column) (n k : ℕ) (s t : Column) (y : Layout) where
       ∙ flat-blocks (items_at starts stops y) k 0 n
       ∙ sym (flat_map-map list_items (λ i. filled_row (stacked_row n k values i))
       (range_with_len 0 n)
-      ∙ flat-range (λ i. list_items (filled_row (stacked_row n k values i))) one_row 0 n
+      ∙ flat-in (λ i. list_items (filled_row (stacked_row n k values i))) one_row 0 n
       (λ i p. ap list_items (filled-is i (omega (arith, p))) ∙ value_list-from (one_row i)))
 
   count : total starts stops y ≡ length (joined_items (filled_rows n k values))
@@ -188,7 +186,7 @@ module _ (index : Option Column) (n k : ℕ) (s t : Column) (y : Layout) where
     between i p =
         runs-joined (array_item z) (place_at o) (i * k) k
         (λ r q. grows (i * k + r) (block_within n k i r p q))
-        ∙ flat-range (λ r. value_list (run (array_item z) (place_at o (i * k + r))
+        ∙ flat-in (λ r. value_list (run (array_item z) (place_at o (i * k + r))
         (place_at o (i * k + r + 1) - place_at o (i * k + r))))
         (λ r. items_at starts stops y (i * k + r)) 0 k
         (λ r q. ap value_list (sym (j.lists (i * k + r)
@@ -217,7 +215,7 @@ module _ (index : Option Column) (n k : ℕ) (s t : Column) (y : Layout) where
     joined-lists =
         array_items-at (offset_lists offsets z)
         ∙ ap (λ m. map (array_item (offset_lists offsets z)) (range_with_len 0 m)) joined-len
-        ∙ map-at (array_item (offset_lists offsets z)) (λ i. filled_row (stacked_row n k values i))
+        ∙ map-in (array_item (offset_lists offsets z)) (λ i. filled_row (stacked_row n k values i))
         0 n
         (λ i p. item-is i (omega (arith, p)))
 
@@ -239,7 +237,7 @@ module _ (o : Column) (n k whole : ℕ) (h : AreRising o (n * k) whole) where
   at-start : (i : ℕ) → i ≤ n → at (offsets_of_rows o n k) i ≡ pos (place_at o (i * k))
   at-start i p =
       at-lane_of o.kind (n + 1) (λ r. at o (r * k)) i (omega (arith, p))
-      ∙ element-at o (i * k) ∙ h.numbers (i * k) (times_within i n k p)
+      ∙ element-at o (i * k) ∙ h.numbers (i * k) (times-le i n k p)
 
   up_to : (i m : ℕ) → i + m ≤ n * k → place_at o i ≤ place_at o (i + m)
   up_to i m p = rises (place_at o) i m (λ r q. h.rises (i + r) (omega (arith, p, q)))

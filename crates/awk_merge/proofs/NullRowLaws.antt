@@ -6,6 +6,7 @@ use Rattle.std.specs.Prelude.{if◌then◌else◌}
 use Rattle.std.specs.List.{list_all, range_with_len}
 use Rattle.std.proofs.lemmas.List.Folds.{flat_map-map}
 use Rattle.std.proofs.lemmas.List.FromFn.{get_or-map-range_with_len, length-map-range_with_len}
+use Rattle.awk_base.proofs.Ranges.{map-in, flat-in}
 use Rattle.awk_types.proofs.RefusalLaws.{Told-same, refused_or-None, refused_or-Ok}
 use Rattle.awk_types.specs.DataType.{DataType, unknown, leaf, var, reg, rec, tup, opt, uni}
 use Rattle.awk_types.specs.Datum as shown
@@ -35,8 +36,6 @@ use Rattle.awk_merge_operands.specs.Operands.{IsListIndex, IsRowsType}
 use Rattle.awk_merge.proofs.JoinedRowLaws.{row-whole}
 use Rattle.awk_merge_operands.proofs.ListPlaceLaws.{ends_place, size-rows, option-rows}
 use Rattle.awk_merge_operands.proofs.ListPlaceLaws.{place_within}
-use Rattle.awk_merge.proofs.RangeLaws.{flat-range}
-use Rattle.awk_merge_operands.proofs.StackLaws.{map-at}
 
 -- ---- filled rows and rows with nulls
 
@@ -51,7 +50,7 @@ pub same-items : (n k : ℕ) (vs : List Value)
     → joined_items (filled_rows n k vs) ≡ joined_items (stacked_rows n k vs)
 same-items n k vs =
     flat_map-map list_items (λ i. filled_row (stacked_row n k vs i)) (range_with_len 0 n)
-    ∙ flat-range (λ i. list_items (filled_row (stacked_row n k vs i)))
+    ∙ flat-in (λ i. list_items (filled_row (stacked_row n k vs i)))
     (λ i. list_items (joined_row (stacked_row n k vs i))) 0 n
     (λ i p. fill_items (list_all is_present (stacked_row n k vs i)) (stacked_row n k vs i))
     ∙ sym (flat_map-map list_items (λ i. joined_row (stacked_row n k vs i)) (range_with_len 0 n))
@@ -75,7 +74,7 @@ all_true a (suc n) = all_true (a + 1) n
 pub plain-rows : (n k : ℕ) (f : ℕ → Value) → ((p : ℕ) → is_present (f p) ≡ true)
     → filled_rows n k (values_by None (k * n) f) ≡ stacked_rows n k (values_by None (k * n) f)
 plain-rows n k f h =
-    map-at (λ i. filled_row (stacked_row n k (values_by None (k * n) f) i))
+    map-in (λ i. filled_row (stacked_row n k (values_by None (k * n) f) i))
     (λ i. joined_row (stacked_row n k (values_by None (k * n) f) i)) 0 n
     (λ i p. whole_row (list_all is_present (stacked_row n k (values_by None (k * n) f) i))
     (stacked_row n k (values_by None (k * n) f) i)
@@ -123,7 +122,7 @@ module _ (index : Option Column) (n k : ℕ) (f : ℕ → Value)
       array_items-at (optional (rows_lane index n k) x)
       ∙ ap (λ m. map (array_item (optional (rows_lane index n k) x)) (range_with_len 0 m))
       (size-rows index n k)
-      ∙ map-at (array_item (optional (rows_lane index n k) x))
+      ∙ map-in (array_item (optional (rows_lane index n k) x))
       (λ i. joined_row (stacked_row n k vs i)) 0 n (λ i p. item-is i (omega (arith, p)))
 
 -- ---- answers
@@ -214,7 +213,7 @@ module _ (index : Option Column) (n k : ℕ) (class : Class) (s t : Column) (y x
   lists_gives u e =
       ap₂ (λ w vs. rows_datum (type_by index w) (stacked_rows n k vs))
       (var_class class u (array_type y) (sym h.typ ∙ e) ∙ sym h.typ)
-      (map-at (λ j. at_option (list_place index j) (list_between s t y))
+      (map-in (λ j. at_option (list_place index j) (list_between s t y))
       (λ j. at_option (list_place index j) (array_item x)) 0 (k * n)
       (λ j q. same_item (list_place index j)
       (λ p r. place_within index (k * n) (len x) j p g (omega (arith, q)) r)))
@@ -225,7 +224,7 @@ pub option_gives : (j : Column) (n k : ℕ) (y x : Layout) → OpensOption j y x
 option_gives j n k y x h e =
     ap₂ (λ w vs. rows_datum w (stacked_rows n k vs)) (sym h.typ)
     (sym (array_items-at x
-    ∙ map-at (array_item x) (λ i. at_option (option_place_at j i) (array_item y)) 0 (len x)
+    ∙ map-in (array_item x) (λ i. at_option (option_place_at j i) (array_item y)) 0 (len x)
     (λ i p. h.items i (omega (arith, p)))
     ∙ ap (λ m. map (λ i. at_option (option_place_at j i) (array_item y)) (range_with_len 0 m)) e))
 

@@ -4,6 +4,8 @@ use Rattle.std.proofs.Common.{Bool, true, false, List, ap, ap₂, sym, subst, re
 use Rattle.std.specs.List.{flat_map, list_all, range_with_len}
 use Rattle.std.proofs.lemmas.Grind.{flat_map-append}
 use Rattle.std.proofs.lemmas.List.{append-nil}
+use Rattle.std.proofs.lemmas.Bool.{and_right}
+use Rattle.awk_base.proofs.Ranges.{range-append}
 use Rattle.awk_types.specs.Value.{Value, value_list}
 use Rattle.awk_layout.specs.Item.{run}
 
@@ -16,10 +18,6 @@ all-range p q a (suc n) e =
     ap₂ (λ x y. x && y) (e a (omega arith))
     (all-range p q (a + 1) n (λ j l. e j (omega (arith, l))))
 
-later : (b c : Bool) → c ≡ false → (b && c) ≡ false
-later true c f = f
-later false c f = refl
-
 fails : (p : ℕ → Bool) (a d n : ℕ) → d < n → p (a + d) ≡ false
     → list_all p (range_with_len a n) ≡ false
 fails p a d zero l e = absurd (omega (arith, l))
@@ -28,7 +26,7 @@ fails p a zero (suc n) l e =
     ap (λ x. x && list_all p (range_with_len (a + 1) n)) (sym (ap p s) ∙ e)
 fails p a (suc d) (suc n) l e =
     let s : (a + 1) + d ≡ a + suc d = omega arith in
-    later (p a) (list_all p (range_with_len (a + 1) n))
+    and_right (p a) (list_all p (range_with_len (a + 1) n))
     (fails p (a + 1) d n (omega (arith, l)) (ap p s ∙ e))
 
 -- one that fails
@@ -66,31 +64,12 @@ holds_next p n e f =
 
 -- ---- lists one after another
 
-pub flat-range : {X : Type 0} (f g : ℕ → List X) (a n : ℕ) → ((j : ℕ) → j < a + n → f j ≡ g j)
-    → flat_map f (range_with_len a n) ≡ flat_map g (range_with_len a n)
-flat-range f g a zero e = refl
-flat-range f g a (suc n) e =
-    ap₂ (λ xs ys. xs ++ ys) (e a (omega arith))
-    (flat-range f g (a + 1) n (λ j l. e j (omega (arith, l))))
-
 abbrev pub nothing : {X : Type 0} → ℕ → List X
 nothing j = []
 
 pub flat-none : {X : Type 0} (a n : ℕ) → flat_map (nothing {X = X}) (range_with_len a n) ≡ []
 flat-none a zero = refl
 flat-none a (suc n) = flat-none (a + 1) n
-
-range-part : (a m n : ℕ) → range_with_len a (m + n) ≡ range_with_len a m ++ range_with_len (a + m) n
-range-part a zero n =
-    let e : a ≡ a + 0 = omega arith in
-    let z : 0 + n ≡ n = omega arith in
-    ap (λ m. range_with_len a m) z ∙ ap (λ k. range_with_len k n) e
-range-part a (suc m) n =
-    let e : (a + 1) + m ≡ a + suc m = omega arith in
-    let z : suc m + n ≡ suc (m + n) = omega arith in
-    ap (λ k. range_with_len a k) z
-    ∙ ap (λ ks. a ∷ ks) (range-part (a + 1) m n)
-    ∙ ap (λ k. a ∷ (range_with_len (a + 1) m ++ range_with_len k n)) e
 
 flat-shift : {X : Type 0} (f : ℕ → List X) (a b n : ℕ)
     → flat_map f (range_with_len (a + b) n) ≡ flat_map (λ j. f (a + j)) (range_with_len b n)
@@ -111,7 +90,7 @@ flat-blocks f k a (suc n) =
     let z : a * k ≡ a * k + 0 = omega arith in
     let next : a * k + k ≡ (a + 1) * k = grind arith in
     ap (λ m. flat_map f (range_with_len (a * k) m)) w
-    ∙ ap (flat_map f) (range-part (a * k) k (n * k))
+    ∙ ap (flat_map f) (range-append (a * k) k (n * k))
     ∙ flat_map-append f (range_with_len (a * k) k) (range_with_len (a * k + k) (n * k))
     ∙ ap₂ (λ xs ys. xs ++ ys)
     (ap (λ b. flat_map f (range_with_len b k)) z ∙ flat-shift f (a * k) 0 k)
@@ -165,13 +144,7 @@ runs-joined f o b (suc k) h =
     ∙ ap₂ (λ xs ys. xs ++ ys) (runs-joined f o b k (λ j l. h j (omega (arith, l))))
     (ap (λ a. value_list (run f a (o (b + k + 1) - o (b + k)))) there ∙ sym (append-nil (g k)))
     ∙ sym (ap (λ n. flat_map g (range_with_len 0 n)) s
-    ∙ ap (flat_map g) (range-part 0 k 1 ∙ ap (λ m. range_with_len 0 k ++ range_with_len m 1) z)
+    ∙ ap (flat_map g) (range-append 0 k 1 ∙ ap (λ m. range_with_len 0 k ++ range_with_len m 1) z)
     ∙ flat_map-append g (range_with_len 0 k) (range_with_len k 1))
 
 -- ---- multiples
-
-pub times_within : (i n k : ℕ) → i ≤ n → i * k ≤ n * k
-times_within i n k p =
-    let e : i + (n - i) ≡ n = omega (arith, p) in
-    let w : (i + (n - i)) * k ≡ i * k + (n - i) * k = grind arith in
-    subst (λ m. i * k ≤ m * k) e (omega (arith, w))

@@ -9,6 +9,7 @@ use Rattle.std.proofs.lemmas.List.{drop-append-le, append-nil}
 use Rattle.std.proofs.lemmas.Int.{ints}
 use Rattle.std.proofs.lemmas.Simd.{map-map}
 use Rattle.std.proofs.lemmas.List.FromFn.{fill_by_all}
+use Rattle.awk_base.proofs.Ranges.{map-same}
 use Rattle.awk_types.specs.DataType.{DataType, leaf}
 use Rattle.awk_types.specs.Has.{Has}
 use Rattle.awk_types.specs.Value.{Value, int, truth, null}
@@ -32,7 +33,7 @@ use Rattle.awk_open.specs.Opened.{IsKindOf, IsListOf}
 use Rattle.awk_open.specs.declared.opening.Opened.{Opened}
 use Rattle.awk_open.specs.declared.opening.Opened.TheVariants.{Empty, Leaf, Items, Row}
 use Rattle.awk_open.specs.declared.opening.Opened.TheVariants.{Option as Optional, Union}
-use Rattle.awk_columns.proofs.ArrayLaws.{array_items-at, map-same}
+use Rattle.awk_columns.proofs.ArrayLaws.{array_items-at}
 use Rattle.awk_unify.specs.Carry.{Carry, carried}
 use Rattle.awk_merge_lists.specs.Leaves.{lane_value, leaf_values, num_value, AreOf}
 use Rattle.awk_merge_sides.specs.Sides.{Side, side_items, merged_items, IsSide, IsMerged}

@@ -4,7 +4,7 @@ use Rattle.std.proofs.Common.{false, List, Option, Some, None, Result, Ok, Err, 
 use Rattle.std.proofs.Common.{refl, map, drop, length, slice_get, arith}
 use Rattle.std.specs.Prelude.{if◌then◌else◌, option_map, IsErrAnd}
 use Rattle.std.proofs.lemmas.List.{drop_all}
-use Rattle.awk_types.proofs.ListLaws.{drop-get}
+use Rattle.awk_base.proofs.Lists.{drop-get}
 use Rattle.awk_types.proofs.RefusalLaws.{Told-first, refused_or-Ok, refused_or-Err, or-assoc}
 use Rattle.awk_types.proofs.RefusalLaws.{or-both}
 use Rattle.awk_types.specs.DataType.{DataType}

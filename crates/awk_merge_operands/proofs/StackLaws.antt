@@ -1,11 +1,13 @@
 -- Columns of operands one after another, and their rows.
-use Rattle.std.proofs.Common.{◌≡◌, ◌∙◌, ◌+◌, ◌*◌, ◌<◌, ◌≤◌, ◌==◌, ◌&&◌, ◌∷◌, ◌++◌, [], ℕ, zero, suc}
-use Rattle.std.proofs.Common.{Bool, true, false, List, Some, ap, sym, subst, refl, map, drop}
+use Rattle.std.proofs.Common.{◌≡◌, ◌∙◌, ◌+◌, ◌*◌, ◌<◌, ◌≤◌, ◌==◌, ◌&&◌, ◌∷◌, ◌++◌, [], ℕ, suc}
+use Rattle.std.proofs.Common.{true, List, Some, ap, sym, subst, refl, map, drop}
 use Rattle.std.proofs.Common.{length, slice_get, get_or, arith}
 use Rattle.std.specs.List.{range_with_len}
 use Rattle.std.proofs.lemmas.List.{append-nil, append_assoc, length-append, length-map, drop_all}
 use Rattle.std.proofs.lemmas.List.{get_or_append_left, get_or-append-add}
-use Rattle.awk_types.proofs.ListLaws.{drop-get}
+use Rattle.std.proofs.lemmas.Bool.{and_parts}
+use Rattle.awk_base.proofs.Ranges.{map-in, map-suc}
+use Rattle.awk_base.proofs.Lists.{drop-get}
 use Rattle.awk_types.specs.DataType.{DataType}
 use Rattle.awk_types.specs.Value.{Value, null}
 use Rattle.awk_layout.specs.declared.datum.Datum.{Datum}
@@ -94,14 +96,10 @@ carried_rows (f ∷ fs) (vs ∷ vss) e = length-map vs (carried f)
 
 -- ---- columns of one length
 
-both : (a b : Bool) → (a && b) ≡ true → (a ≡ true) × (b ≡ true)
-both true b e = (refl, e)
-both false b e = absurd (cc)
-
 long_first : (vs : List Value) (vss : List (List Value)) (n : ℕ) → are_long n (vs ∷ vss) ≡ true
     → (length vs ≡ n) × (are_long n vss ≡ true)
 long_first vs vss n e =
-    let h = both (length vs == n) (are_long n vss) e in (grind (arith, h.0), h.1)
+    let h = and_parts (length vs == n) (are_long n vss) e in (grind (arith, h.0), h.1)
 
 pub length-stacked : (vss : List (List Value)) (n : ℕ) → are_long n vss ≡ true
     → length (stacked vss) ≡ length vss * n
@@ -113,18 +111,6 @@ length-stacked (vs ∷ vss) n e =
     length-append vs (stacked vss) ∙ omega (arith, h.0, rest, w)
 
 -- ---- the rows
-
-range_later : {X : Type 0} (f : ℕ → X) (a n : ℕ)
-    → map f (range_with_len (a + 1) n) ≡ map (λ j. f (j + 1)) (range_with_len a n)
-range_later f a zero = refl
-range_later f a (suc n) = ap (λ xs. f (a + 1) ∷ xs) (range_later f (a + 1) n)
-
-pub map-at : {X : Type 0} (f g : ℕ → X) (a n : ℕ) → ((j : ℕ) → j < a + n → f j ≡ g j)
-    → map f (range_with_len a n) ≡ map g (range_with_len a n)
-map-at f g a zero e = refl
-map-at {X} f g a (suc n) e =
-    ap (λ (x : X). x ∷ map f (range_with_len (a + 1) n)) (e a (omega arith))
-    ∙ ap (λ xs. g a ∷ xs) (map-at f g (a + 1) n (λ j p. e j (omega (arith, p))))
 
 pub row-stacked : (vss : List (List Value)) (n i : ℕ) → i < n → are_long n vss ≡ true
     → stacked_row n (length vss) (stacked vss) i ≡ row_of vss i
@@ -143,15 +129,15 @@ row-stacked (vs ∷ vss) n i p e =
     ap (λ v. v ∷ map (λ j. get_or (vs ++ stacked vss) (j * n + i) null)
     (range_with_len 1 (length vss))) first
     ∙ ap (λ ws. get_or vs i null ∷ ws)
-    (range_later (λ j. get_or (vs ++ stacked vss) (j * n + i) null) 0 (length vss)
-    ∙ map-at (λ j. get_or (vs ++ stacked vss) ((j + 1) * n + i) null)
+    (map-suc (λ j. get_or (vs ++ stacked vss) (j * n + i) null) 0 (length vss)
+    ∙ map-in (λ j. get_or (vs ++ stacked vss) ((j + 1) * n + i) null)
     (λ j. get_or (stacked vss) (j * n + i) null) 0 (length vss) (λ j q. next j)
     ∙ row-stacked vss n i p h.1)
 
 pub rows-stacked : (vss : List (List Value)) (n : ℕ) → n ≡ row_count vss → are_long n vss ≡ true
     → stacked_rows n (length vss) (stacked vss) ≡ joined_rows vss
 rows-stacked vss n r e =
-    map-at (λ i. joined_row (stacked_row n (length vss) (stacked vss) i))
+    map-in (λ i. joined_row (stacked_row n (length vss) (stacked vss) i))
     (λ i. joined_row (row_of vss i)) 0 n
     (λ i p. ap joined_row (row-stacked vss n i (omega (arith, p)) e))
     ∙ ap (λ m. map (λ i. joined_row (row_of vss i)) (range_with_len 0 m)) r

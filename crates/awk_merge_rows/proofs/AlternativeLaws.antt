@@ -1,7 +1,8 @@
 -- Values carried into a union: the tag that each gets, and how the value of its alternative is
 -- carried.
-use Rattle.std.proofs.Common.{◌≡◌, ◌<◌, ◌∷◌, [], ℕ, suc, zero, List, Bool, true, false, length}
+use Rattle.std.proofs.Common.{◌≡◌, ◌<◌, ◌∷◌, [], ℕ, suc, zero, List, true, false, length}
 use Rattle.std.proofs.Common.{slice_get, Some, refl, ap, subst, arith}
+use Rattle.awk_base.proofs.Truths.{not-both}
 use Rattle.awk_types.proofs.SimpleLaws.{null_in_option}
 use Rattle.awk_types.specs.DataType.{DataType, unknown, leaf, var, reg, rec, tup, opt, uni}
 use Rattle.awk_types.specs.DataType.{types_from}
@@ -36,10 +37,6 @@ pub has-alternative : (ts : List DataType) (k : ℕ) (t : DataType) (v : Value)
 has-alternative [] k t v e h = cc
 has-alternative (u ∷ ts) zero t v e h = let f : t ≡ u = cc in subst (λ u. Has u v) f h
 has-alternative (u ∷ ts) (suc k) t v e h = has-alternative ts k t v e h
-
--- no alternative of a simple union is optional
-not-both : (b : Bool) → b ≡ false → b ≡ true → ⊥
-not-both b e f = cc
 
 no-null : (ts : List DataType) (k : ℕ) → ArePlain (types_from ts)
     → HasAlternative (types_from ts) k null → ⊥

@@ -9,10 +9,12 @@ use Rattle.std.proofs.lemmas.List.{length-map, map-append, get_or_append_left, g
 use Rattle.std.proofs.lemmas.List.FromFn.{fill_by_all, length-map-range_with_len}
 use Rattle.std.proofs.lemmas.List.FromFn.{map-range_with_len_more}
 use Rattle.std.proofs.lemmas.Simd.{map-map}
+use Rattle.awk_base.proofs.Ranges.{map-same}
+use Rattle.awk_base.proofs.Every.{all-append}
 use Rattle.awk_types.specs.DataType.{DataType, unknown, leaf, var, reg, rec, tup, opt, uni}
 use Rattle.awk_types.specs.Simple.{is_option, present, option_of, IsSimple}
 use Rattle.awk_types.specs.Value.{Value, null}
-use Rattle.awk_types.proofs.ListLaws.{take-get}
+use Rattle.awk_base.proofs.Lists.{take-get}
 use Rattle.awk_lanes.specs.Column.{Column}
 use Rattle.awk_lanes.specs.Making.{Making, with_item}
 use Rattle.awk_lanes.specs.Places.{size_of, at, option_place, option_place_at, IsOptionalIndex}
@@ -25,7 +27,7 @@ use Rattle.awk_gather.specs.Arrays.{array_item, pick}
 use Rattle.awk_gather.proofs.GatheredArrays.{picked_items}
 use Rattle.awk_gather.proofs.OptionItems.{item-optional}
 use Rattle.awk_columns.specs.Opened.{OpensOption}
-use Rattle.awk_columns.proofs.ArrayLaws.{array_items-at, map-same}
+use Rattle.awk_columns.proofs.ArrayLaws.{array_items-at}
 use Rattle.awk_unify.specs.Carry.{Carry, carried}
 use Rattle.awk_merge_rows.specs.OptionLevels.{IsOptionLevel}
 use Rattle.awk_merge_rows.specs.Present.{with_items, places_on, moved, index_on, ArePresent}
@@ -37,7 +39,7 @@ use Rattle.awk_unify.proofs.AfterLaws.{carry_null}
 use Rattle.awk_merge_sides.proofs.CarryLaws.{Carries-opt, Carries-present}
 use Rattle.awk_merge_sides.proofs.SideLaws.{merged_items-side, merged_items-with_side}
 use Rattle.awk_merge_sides.proofs.SideLaws.{AreSides-with_side, length-carried, get_or-carried}
-use Rattle.awk_merge_sides.proofs.SideLaws.{total-with_side, total-within, all-append}
+use Rattle.awk_merge_sides.proofs.SideLaws.{total-with_side, total-within}
 
 -- ---- an index into one list behind another
 

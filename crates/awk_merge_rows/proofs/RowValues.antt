@@ -5,12 +5,12 @@ use Rattle.std.proofs.Common.{if◌then◌else◌, refl, ap, sym, subst, ◌∙�
 use Rattle.std.specs.List.{range_with_len}
 use Rattle.std.proofs.lemmas.List.FromFn.{fill_by_all, get_or-map-range_with_len}
 use Rattle.std.proofs.lemmas.List.FromFn.{length-map-range_with_len}
+use Rattle.awk_base.proofs.Ranges.{map-same}
 use Rattle.awk_types.specs.DataType.{DataType, unknown, tup, types_from}
 use Rattle.awk_types.specs.Has.{Has, HasRow}
 use Rattle.awk_types.specs.Simple.{values_by}
 use Rattle.awk_types.specs.Value.{Value, null, row, value_list, values_from}
 use Rattle.awk_types.proofs.Trees.{value_list-from}
-use Rattle.awk_columns.proofs.ArrayLaws.{map-same}
 use Rattle.awk_unify.specs.Carry.{Carry, Carries as CarryList, carry, no_carries, carry_list}
 use Rattle.awk_unify.specs.Carry.{carried, carried_each, keep, in_items, to_parts, to_alternatives}
 use Rattle.awk_unify.specs.Carry.{at_place, in_order}

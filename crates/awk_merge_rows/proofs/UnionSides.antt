@@ -8,6 +8,7 @@ use Rattle.std.proofs.lemmas.Int.{ints}
 use Rattle.std.proofs.lemmas.Option.{slice_get-get_or, slice_get-map}
 use Rattle.std.specs.List.{AllByRecursion, range_with_len}
 use Rattle.std.specs.Option.{option_map}
+use Rattle.awk_base.proofs.Every.{all-append}
 use Rattle.awk_types.specs.DataType.{DataType, uni, types_from}
 use Rattle.awk_types.specs.Has.{Has}
 use Rattle.awk_types.specs.Simple.{is_union, simple_value}
@@ -31,7 +32,7 @@ use Rattle.awk_merge_rows.proofs.AlternativeLaws.{alternative-inside, single-car
 use Rattle.awk_merge_rows.proofs.AlternativeLaws.{single-carries}
 use Rattle.awk_merge_rows.proofs.AlternativeLaws.{single-inside, single, no-option}
 use Rattle.awk_merge_sides.proofs.GroupLaws.{length-groups, AreGroups-none, AreGroups-with_side_at}
-use Rattle.awk_merge_sides.proofs.SideLaws.{all-append, item_has, side_has, total-within}
+use Rattle.awk_merge_sides.proofs.SideLaws.{item_has, side_has, total-within}
 use Rattle.awk_merge_sides.proofs.SideLaws.{merged_items-all, merged_items-next, IsSide-get}
 use Rattle.awk_merge_rows.proofs.TaggedLaws.{tagged-append, tagged-grown, tagged-items, tagged-at}
 use Rattle.awk_merge_rows.proofs.TaggedLaws.{length-tags, length-places}

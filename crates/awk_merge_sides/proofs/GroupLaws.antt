@@ -4,7 +4,7 @@ use Rattle.std.proofs.Common.{map, take, set, get_or, slice_get, Some, replicate
 use Rattle.std.proofs.Common.{subst, ◌∙◌, arith}
 use Rattle.std.proofs.lemmas.List.{take_all}
 use Rattle.std.specs.List.{AllByRecursion}
-use Rattle.awk_types.proofs.ListLaws.{take-get}
+use Rattle.awk_base.proofs.Lists.{take-get}
 use Rattle.awk_types.specs.DataType.{DataType}
 use Rattle.awk_layout.specs.Layout.{Layout}
 use Rattle.awk_layout.specs.Typing.{array_type}

@@ -7,7 +7,8 @@ use Rattle.std.proofs.lemmas.List.{append-nil, length-append, length-map, map-ap
 use Rattle.std.proofs.lemmas.List.{get_or_append_left, get_or-append-add, take_all}
 use Rattle.std.specs.List.{AllByRecursion}
 use Rattle.std.specs.Prelude.{OnErr}
-use Rattle.awk_types.proofs.ListLaws.{take-get}
+use Rattle.awk_base.proofs.Every.{all-append, all-impl}
+use Rattle.awk_base.proofs.Lists.{take-get}
 use Rattle.awk_types.proofs.SimpleLaws.{has_each}
 use Rattle.awk_types.specs.DataType.{DataType}
 use Rattle.awk_types.specs.Has.{Has}
@@ -32,23 +33,6 @@ pub all-get : {X : Type 0} (P : X → Type 0) (xs : List X) (i : ℕ) (x : X) �
 all-get P [] i x e h = cc
 all-get P (y ∷ xs) zero x e h = let f : y ≡ x = cc in subst P f h.0
 all-get P (y ∷ xs) (suc i) x e h = all-get P xs i x e h.1
-
-pub all-append : {X : Type 0} (P : X → Type 0) (xs ys : List X) → AllByRecursion P xs
-    → AllByRecursion P ys → AllByRecursion P (xs ++ ys)
-all-append P [] ys h k = k
-all-append P (x ∷ xs) ys h k = (h.0, all-append P xs ys h.1 k)
-
-pub all-impl : {X : Type 0} (P Q : X → Type 0) (xs : List X) → ((x : X) → P x → Q x)
-    → AllByRecursion P xs → AllByRecursion Q xs
-all-impl P Q [] f h = tt
-all-impl P Q (x ∷ xs) f h = (f x h.0, all-impl P Q xs f h.1)
-
-pub all-take : {X : Type 0} (P : X → Type 0) (xs : List X) (i : ℕ) → AllByRecursion P xs
-    → AllByRecursion P (take i xs)
-all-take P [] zero h = tt
-all-take P [] (suc i) h = tt
-all-take P (x ∷ xs) zero h = tt
-all-take P (x ∷ xs) (suc i) h = (h.0, all-take P xs i h.1)
 
 -- what holds anyway
 pub on_err-anyway : {A E : Type 0} (r : Result A E) (P : Type 0) → P → OnErr r P

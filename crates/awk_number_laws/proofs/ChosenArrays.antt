@@ -4,6 +4,8 @@ use Rattle.std.specs.Prelude.{List, [], ◌∷◌, map, length, get_or, Some, No
 use Rattle.std.specs.Prelude.{Result, Ok, Err, refl, if◌then◌else◌}
 use Rattle.std.specs.List.{AllByRecursion, list_all, list_any, range_with_len}
 use Rattle.std.proofs.Common.{ap, ap₂, sym, ◌∙◌, arith, subst, inl, inr}
+use Rattle.std.proofs.lemmas.Bool.{and_parts, not-false, or_parts}
+use Rattle.std.proofs.lemmas.Simd.{map-map}
 use Rattle.awk_types.specs.DataType.{DataType, leaf, var, reg, opt}
 use Rattle.awk_types.specs.Datum.{Datum, arr, one}
 use Rattle.awk_types.specs.Gives.{◌or◌}
@@ -44,13 +46,12 @@ use Rattle.awk_number_laws.proofs.LeafChoices.{choose, chosen, twice, values_twi
 use Rattle.awk_number_laws.proofs.LeafChoices.{rows_back}
 use Rattle.awk_number_laws.proofs.LeafChoices.{under_leaf, list_level, leaf_level, type_level}
 use Rattle.awk_number_laws.proofs.LeafChoices.{ends_level}
-use Rattle.awk_number_laws.proofs.LeafChoices.{all-get, items_back, no_either, is_even}
+use Rattle.awk_number_laws.proofs.LeafChoices.{all-get, items_back}
 use Rattle.awk_number_laws.proofs.LeafChoices.{same_lengths}
 use Rattle.awk_number_laws.proofs.LeafChoices.{end_of}
 use Rattle.awk_number_laws.proofs.LeafLaws.{choice_type_is}
 use Rattle.awk_number_laws.proofs.LeafSigns.{chain_of, chained}
 use Rattle.awk_number_laws.proofs.OnePaired.{levels, leaf-chain}
-use Rattle.awk_law_chains.proofs.Places.{map-map}
 
 -- ---- a condition's lists
 
@@ -153,10 +154,6 @@ option_back (layer o d k) p (suc n) c (inr w) l =
 abbrev are_leaf_ends : List DataType → Bool
 are_leaf_ends ts = list_all is_leaf (map present ts)
 
-both_true : (b c : Bool) → b && c ≡ true → (b ≡ true) × (c ≡ true)
-both_true true c e = (refl, e)
-both_true false c e = cc
-
 no_list_leaf : (o : Bool) (d : Class) (t : DataType)
     → is_leaf (present (option_if o (list_type d t))) ≡ true → ⊥
 no_list_leaf true None t e = cc
@@ -170,10 +167,10 @@ deep_enough : (k : Chain) (p : Primitive) (n : ℕ) (c : DataType) → choices.I
 deep_enough (close o) p n c q e = omega arith
 deep_enough (layer o d k) p zero c q e =
     let t = option_if o (list_type d (chain_type k (leaf p))) in
-    let f = both_true (is_leaf (present c)) (is_leaf (present t) && (is_leaf (present t) && true))
+    let f = and_parts (is_leaf (present c)) (is_leaf (present t) && (is_leaf (present t) && true))
     e in
     absurd (no_list_leaf o d (chain_type k (leaf p))
-    (both_true (is_leaf (present t)) (is_leaf (present t) && true) f.1).0)
+    (and_parts (is_leaf (present t)) (is_leaf (present t) && true) f.1).0)
 deep_enough (layer o d k) p (suc n) c (inl g) e =
     let m = deep_enough k p n (leaf Truths) (under_leaf k)
     (ap are_leaf_ends (sym (ends_level (leaf Truths) (leaf Truths) o d (chain_type k (leaf p))
@@ -225,8 +222,8 @@ module _ (c : Datum) (k : Chain) (p : Primitive) (vs : List Value) (n : ℕ) (hc
       → map (over (paired_type false to_depth n ts) choose)
       (map (paired_value false to_depth n ts) (rows_of rs)) ≡ vs
   rows_chosen e =
-      let a = no_either (not (equally_long rs)) (list_any (is_uneven false n ts) (rows_of rs)) e in
-      let even = is_even (equally_long rs) a.0 in
+      let a = or_parts (not (equally_long rs)) (list_any (is_uneven false n ts) (rows_of rs)) e in
+      let even = not-false (equally_long rs) a.0 in
       let m = long_of c vs even in
       map-map (over (paired_type false to_depth n ts) choose) (paired_value false to_depth n ts)
       (rows_of rs)
@@ -350,7 +347,7 @@ of_value : (c : DataType) (v : Value) (made : Datum) (p : Primitive) (t : DataTy
     → choose_of (one c v) (datum (one t w)) (datum (one t w)) ≡ Ok made → made ≡ one t w
 of_value c v made p t w hc h k e q f =
     let g = chosen_is (one c v) (one t w) made k p e q f in
-    let u = no_either (is_uneven false 64 (twice c t) (values_twice v w)) false g.even in
+    let u = or_parts (is_uneven false 64 (twice c t) (values_twice v w)) false g.even in
     g.is
     ∙ ap (λ s. one (chain_type k (leaf p)) (over (paired_type false to_depth 64 (twice c s)) choose
     (paired_value false to_depth 64 (twice c s) (values_twice v w)))) e

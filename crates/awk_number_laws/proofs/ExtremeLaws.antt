@@ -15,6 +15,7 @@ use Rattle.std.proofs.lemmas.List.{get_or_default}
 use Rattle.std.proofs.lemmas.List.Elements.{All-cons, All-weaker}
 use Rattle.std.proofs.lemmas.List.Quantifiers.{position-Some}
 use Rattle.std.proofs.lemmas.List.Sums.{fails_before_first}
+use Rattle.awk_base.proofs.Truths.{int_eq-refl}
 use Rattle.awk_types.specs.Predicates.{is_null}
 use Rattle.awk_types.specs.Value.{Value, int, truth, null, list, row, alt}
 use Rattle.awk_columns.specs.Columns.{is_present, present_values}
@@ -85,9 +86,6 @@ numbers-first v vs = go (is_present v)
     go true = refl
     go false = refl
 
-same : (z : ℤ) → int_eq z z ≡ true
-same z = grind (arith, ints)
-
 -- a number is that of an item that is present
 pub number_there : (vs : List Value) (z : ℤ) → Contains (numbers vs) z
     → (i : ℕ) × (i < length vs) × (number_test z (get_or vs i null) ≡ true)
@@ -107,7 +105,7 @@ number_there (v ∷ vs) z h =
         → (i : ℕ) × (i < length (v ∷ vs)) × (number_test z (get_or (v ∷ vs) i null) ≡ true)
     go false e h k = later (k h)
     go true e (zero, l, f) k =
-        (0, omega arith, ap₂ (λ b n. b && int_eq z n) e f ∙ same z)
+        (0, omega arith, ap₂ (λ b n. b && int_eq z n) e f ∙ int_eq-refl z)
     go true e (suc i, l, f) k = later (k (i, omega (arith, l), f))
 
 -- what holds of all numbers holds of that of an item that is present

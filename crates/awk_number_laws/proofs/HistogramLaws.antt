@@ -5,11 +5,12 @@ use Rattle.std.specs.Prelude.{ℤ, nat_lt, Bool, true, false, cond, int_lt, int_
 use Rattle.std.specs.Prelude.{Option, Some, None, Ok, if◌then◌else◌}
 use Rattle.std.specs.List.{count_by, flat_map, fold, range_with_len, sum}
 use Rattle.std.proofs.lemmas.Bool.{ltb-false}
-use Rattle.std.proofs.lemmas.Grind.{common_steps, flat_map-append}
+use Rattle.std.proofs.lemmas.Grind.{flat_map-append}
 use Rattle.std.proofs.lemmas.List.{length-map, length-append}
 use Rattle.std.proofs.lemmas.List.Elements.{filter-append}
 use Rattle.std.proofs.lemmas.List.Sums.{sum_by-append}
 use Rattle.std.proofs.lemmas.Simd.{map-map}
+use Rattle.awk_base.proofs.Sums.{sum-four}
 use Rattle.awk_types.specs.DataType.{DataType, unknown, leaf, var, reg, rec, tup, opt, uni}
 use Rattle.awk_types.specs.Datum.{Datum, arr, one}
 use Rattle.awk_types.specs.Gives.{refused_or, ◌or◌}
@@ -35,9 +36,6 @@ use Rattle.awk_number_laws.specs.Histograms.{added, all_added, AddUpTo, Histogra
 use Rattle.awk_number_laws.proofs.NumberLaws.{numbers-append}
 
 -- ---- all counts
-
-sum-four : (a b c d : ℕ) → sum (a ∷ b ∷ c ∷ d ∷ []) ≡ a + b + c + d
-sum-four a b c d = grind (arith, common_steps)
 
 list-total : (ns : List ℕ)
     → sum (map count_of (value_list (values_from (map count_value ns)))) ≡ sum ns

@@ -1,9 +1,11 @@
 -- Laws of operations on the leaves of whole arrays.
-use Rattle.std.specs.Prelude.{◌≡◌, ℕ, zero, suc, ◌<◌, Bool, true, false, not, ◌&&◌, ◌||◌}
+use Rattle.std.specs.Prelude.{◌≡◌, ℕ, zero, suc, ◌<◌, Bool, true, false, not, ◌||◌}
 use Rattle.std.specs.Prelude.{List, [], ◌∷◌, map, length, get_or, Option, Some, None}
 use Rattle.std.specs.Prelude.{Result, Ok, Err, refl, if◌then◌else◌}
 use Rattle.std.specs.List.{AllByRecursion, list_all}
 use Rattle.std.proofs.Common.{ap, ap₂, sym, ◌∙◌, arith, subst}
+use Rattle.std.proofs.lemmas.Bool.{and_parts, not-false}
+use Rattle.std.proofs.lemmas.Simd.{map-map}
 use Rattle.awk_types.specs.DataType.{DataType, unknown, leaf, var, reg, rec, tup, opt, uni}
 use Rattle.awk_types.specs.DataType.{types_from}
 use Rattle.awk_types.specs.Datum.{Datum}
@@ -55,7 +57,6 @@ use Rattle.awk_law_chains.proofs.ChainEnds.{ends-mapped}
 use Rattle.awk_law_chains.proofs.ChainEnds.{twice-each, same-all, all-mapped, have-at}
 use Rattle.awk_number_laws.proofs.OnePaired.{IsChainOf, unary_is}
 use Rattle.awk_number_laws.proofs.LeafLaws.{tested, test_is, not_tested}
-use Rattle.awk_law_chains.proofs.Places.{map-map}
 
 -- ---- the lists and options that data share
 
@@ -99,20 +100,16 @@ shared_type to_depth (suc d) ts =
 
 -- ---- ends that are leaves
 
-is_true : (b : Bool) → not b ≡ false → b ≡ true
-is_true true e = refl
-is_true false e = cc
-
 right_if : (b x : Bool) (us ws : List DataType)
     → (x ≡ false → list_all is_leaf us ≡ true)
     → (if b then x else not (list_all is_leaf ws)) ≡ false
     → list_all is_leaf (if b then us else ws) ≡ true
 right_if true x us ws h e = h e
-right_if false x us ws h e = is_true (list_all is_leaf ws) e
+right_if false x us ws h e = not-false (list_all is_leaf ws) e
 
 pub leaf_ends : (d : ℕ) (ts : List DataType) → is_wrong to_leaves d ts ≡ false
     → list_all is_leaf (types_at_ends to_leaves d ts) ≡ true
-leaf_ends zero ts e = is_true (list_all is_leaf (map present ts)) e
+leaf_ends zero ts e = not-false (list_all is_leaf (map present ts)) e
 leaf_ends (suc d) ts e =
     right_if (opens ts) (is_wrong to_leaves d (item_types ts))
     (types_at_ends to_leaves d (item_types ts)) (map present ts)
@@ -151,18 +148,14 @@ leaf_present (tup ts) v e h = cc
 leaf_present (opt t) v e h = cc
 leaf_present (uni ts) v e h = cc
 
-both_true : (b c : Bool) → b && c ≡ true → (b ≡ true) × (c ≡ true)
-both_true true c e = (refl, e)
-both_true false c e = cc
-
 parts_present : (ts : List DataType) (vs : List Value) (j : ℕ) → list_all is_leaf ts ≡ true
     → HasRow (types_from ts) vs → j < length ts → is_present (get_or vs j null) ≡ true
 parts_present [] vs j e h l = absurd (omega (arith, l))
 parts_present (t ∷ ts) [] j e h l = absurd h
 parts_present (t ∷ ts) (v ∷ vs) zero e h l =
-    leaf_present t v (both_true (is_leaf t) (list_all is_leaf ts) e).0 h.0
+    leaf_present t v (and_parts (is_leaf t) (list_all is_leaf ts) e).0 h.0
 parts_present (t ∷ ts) (v ∷ vs) (suc j) e h l =
-    parts_present ts vs j (both_true (is_leaf t) (list_all is_leaf ts) e).1 h.1 (omega (arith, l))
+    parts_present ts vs j (and_parts (is_leaf t) (list_all is_leaf ts) e).1 h.1 (omega (arith, l))
 
 pub part_present : (ts : List DataType) (v : Value) (j : ℕ) → list_all is_leaf ts ≡ true
     → Has (tup (types_from ts)) v → j < length ts → is_present (part_at j v) ≡ true

@@ -5,6 +5,9 @@ use Rattle.std.specs.Prelude.{refl, if◌then◌else◌}
 use Rattle.std.specs.List.{AllByRecursion, list_any, range_with_len}
 use Rattle.std.proofs.Common.{ap, ap₂, sym, ◌∙◌, arith, subst, inl, inr}
 use Rattle.std.proofs.lemmas.List.FromFn.{fill_by_all}
+use Rattle.std.proofs.lemmas.Bool.{not-false, or_parts}
+use Rattle.std.proofs.lemmas.Simd.{map-map}
+use Rattle.awk_base.proofs.Truths.{eq-refl}
 use Rattle.awk_types.specs.DataType.{DataType, leaf, tup, opt}
 use Rattle.awk_types.specs.DataType.{types_from}
 use Rattle.awk_types.specs.Has.{Has}
@@ -28,7 +31,6 @@ use Rattle.awk_pair_sides.specs.Sides.{level_sides, misses}
 use Rattle.awk_law_chains.proofs.Chains.{Chain, close, layer, chain_type, IsAt, closing}
 use Rattle.awk_number_laws.proofs.LeafLaws.{choice_is}
 use Rattle.awk_number_laws.proofs.OnePaired.{levels}
-use Rattle.awk_law_chains.proofs.Places.{map-map}
 
 -- ---- a condition whose lists are those of another type, from the outermost on
 
@@ -64,9 +66,6 @@ not_two : (b : Bool) → (not b || (not b || false)) && b ≡ false
 not_two true = refl
 not_two false = refl
 
-same_number : (n : ℕ) → (n == n) ≡ true
-same_number n = grind arith
-
 -- what a level of three operands is, of which the last two are the same
 pub record IsLevel (c u : DataType) (o : Bool) (d : Class) (t : DataType) (side_of : Value → Side)
     : Type 0 where
@@ -101,14 +100,14 @@ list_level u true (Some n) t = record {
   opened = refl;
   items = refl;
   optional = refl;
-  classed = rw (not_three (n == 1), same_number n) refl;
+  classed = rw (not_three (n == 1), eq-refl n) refl;
   sides_are = λ v w. rw (not_three (n == 1)) refl;
 }
 list_level u false (Some n) t = record {
   opened = refl;
   items = refl;
   optional = refl;
-  classed = rw (not_three (n == 1), same_number n) refl;
+  classed = rw (not_three (n == 1), eq-refl n) refl;
   sides_are = λ v w. rw (not_three (n == 1)) refl;
 }
 
@@ -132,14 +131,14 @@ leaf_level true (Some n) t = record {
   opened = refl;
   items = refl;
   optional = refl;
-  classed = rw (not_two (n == 1), same_number n) refl;
+  classed = rw (not_two (n == 1), eq-refl n) refl;
   sides_are = λ v w. rw (not_two (n == 1)) refl;
 }
 leaf_level false (Some n) t = record {
   opened = refl;
   items = refl;
   optional = refl;
-  classed = rw (not_two (n == 1), same_number n) refl;
+  classed = rw (not_two (n == 1), eq-refl n) refl;
   sides_are = λ v w. rw (not_two (n == 1)) refl;
 }
 
@@ -184,14 +183,6 @@ null_level : (d : Class) (t : DataType) (f : Value → Value)
 null_level None t f = refl
 null_level (Some n) t f = refl
 
-pub no_either : (b c : Bool) → (b || c) ≡ false → (b ≡ false) × (c ≡ false)
-no_either true c e = cc
-no_either false c e = (refl, e)
-
-pub is_even : (b : Bool) → not b ≡ false → b ≡ true
-is_even true e = refl
-is_even false e = cc
-
 never_and : (o : Bool) → o && false ≡ false
 never_and true = refl
 never_and false = refl
@@ -207,7 +198,7 @@ pub rows_back : (bad : List Value → Bool) (f : List Value → Value) (r : Side
     ≡ map (λ j. get_or xs j null) (range_with_len a m)
 rows_back bad f r xs a zero h e = refl
 rows_back bad f r xs a (suc m) h e =
-    let q = no_either (bad (row_of r xs a))
+    let q = or_parts (bad (row_of r xs a))
     (list_any bad (map (row_of r xs) (range_with_len (a + 1) m)))
     e in
     ap₂ (λ v vs. v ∷ vs) (h a (omega arith) q.0)
@@ -304,9 +295,9 @@ module _ (c u : DataType) (o : Bool) (d : Class) (k : Chain) (p : Primitive)
       ap (λ b. if b then false else not (equally_long rs)
       || list_any (is_uneven false n (twice u tx)) (rows_of rs)) (sym m)
       ∙ sym (level_uneven c u o d tx side_of h n v (list xs) e) ∙ f in
-      let a = no_either (not (equally_long rs))
+      let a = or_parts (not (equally_long rs))
       (list_any (is_uneven false n (twice u tx)) (rows_of rs)) g in
-      let even = is_even (equally_long rs) a.0 in
+      let even = not-false (equally_long rs) a.0 in
       let l = long v ys even in
       ap (over (option_if o (list_type d below)) choose)
       (level_value c u o d tx side_of h n v (list xs) e

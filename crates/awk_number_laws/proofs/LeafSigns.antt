@@ -5,6 +5,7 @@ use Rattle.std.specs.Prelude.{filter, Option, Some, None, Result, Ok, Err, ℤ, 
 use Rattle.std.specs.Prelude.{if◌then◌else◌}
 use Rattle.std.specs.List.{AllByRecursion}
 use Rattle.std.proofs.Common.{ap, ap₂, sym, ◌∙◌, subst}
+use Rattle.std.proofs.lemmas.Simd.{map-map}
 use Rattle.awk_types.specs.DataType.{DataType, unknown, leaf, var, reg, rec, tup, opt, uni}
 use Rattle.awk_types.specs.Datum.{Datum, arr, one}
 use Rattle.awk_types.specs.Gives.{refused_or, ◌or◌}
@@ -37,7 +38,6 @@ use Rattle.awk_law_chains.proofs.ChainEnds.{twice-each, all-mapped, have-at, all
 use Rattle.awk_law_chains.proofs.Chains.{in_list_stays}
 use Rattle.awk_number_laws.proofs.LeafLaws.{negative_is, no_truth}
 use Rattle.awk_number_laws.proofs.OnePaired.{IsChainOf, made, unary_is}
-use Rattle.awk_law_chains.proofs.Places.{map-map}
 
 -- ---- the lists and options of a type of leaves
 

@@ -4,6 +4,8 @@ use Rattle.std.specs.Prelude.{List, [], ◌∷◌, map, length, Option, Some, No
 use Rattle.std.specs.Prelude.{Result, Ok, Err, refl, if◌then◌else◌, ℤ}
 use Rattle.std.specs.List.{AllByRecursion, list_any, range_with_len}
 use Rattle.std.proofs.Common.{ap, ap₂, sym, ◌∙◌, subst}
+use Rattle.std.proofs.lemmas.Bool.{not-false, or_parts}
+use Rattle.std.proofs.lemmas.Simd.{map-map}
 use Rattle.awk_types.specs.DataType.{DataType, unknown, leaf, var, reg, rec, tup, opt, uni, depth}
 use Rattle.awk_types.specs.Datum.{Datum}
 use Rattle.awk_types.specs.Gives.{refused_or, ◌or◌}
@@ -49,10 +51,9 @@ use Rattle.awk_law_chains.proofs.Chains.{in_list-same, in_option-same}
 use Rattle.awk_law_chains.proofs.ChainEnds.{twice-each}
 use Rattle.awk_number_laws.proofs.LeafArrays.{shared, result_is, rows_are, ends_are, sizes_are}
 use Rattle.awk_number_laws.proofs.LeafLaws.{turned_at, or_turned, promotion_turned}
-use Rattle.awk_law_chains.proofs.Places.{map-map}
-use Rattle.awk_number_laws.proofs.TurnedLevels.{any_same, any_turned, equal_turned, is_even}
+use Rattle.awk_number_laws.proofs.TurnedLevels.{any_same, any_turned, equal_turned}
 use Rattle.awk_number_laws.proofs.TurnedLevels.{length_turned}
-use Rattle.awk_number_laws.proofs.TurnedLevels.{max_turned, no_either, pairs_of, rows_same}
+use Rattle.awk_number_laws.proofs.TurnedLevels.{max_turned, pairs_of, rows_same}
 use Rattle.awk_number_laws.proofs.TurnedLevels.{shared_turned}
 use Rattle.awk_number_laws.proofs.TurnedLevels.{turn, uneven_if, uneven_turned, value_turned}
 use Rattle.awk_number_laws.proofs.TurnedLevels.{wrong_turned}
@@ -191,7 +192,7 @@ module _ (c e : Datum) where
       (list_any (is_uneven false m (t ∷ s ∷ [])) (first_rows es))
       (ap not (equal_turned (datum_side c) (datum_side e)))
       (λ q. uneven_rows (some_array ds)
-      (is_even (equally_long (datum_side c ∷ datum_side e ∷ [])) q)
+      (not-false (equally_long (datum_side c ∷ datum_side e ∷ [])) q)
       ∙ ap₂ (λ k b. list_any (is_uneven false k (t ∷ s ∷ [])) (turned_when b)) levels_same
       arrays_same)
 
@@ -212,16 +213,17 @@ module _ (c e : Datum) where
       (λ k f. value_turned n s t (side_at k (datum_side c)) (side_at k (datum_side e)) f) h
   values_rows false q h =
       ap (λ v. v ∷ []) (value_turned n s t (single_value c) (single_value e)
-      (no_either (is_uneven false n (s ∷ t ∷ []) (single_value c ∷ single_value e ∷ [])) false h).0)
+      (or_parts (is_uneven false n (s ∷ t ∷ []) (single_value c ∷ single_value e ∷ [])) false h).0)
 
   pub values_same : are_uneven false None ds ≡ false
       → pair_values false None es ≡ map (at_ends chain_by turn) (pair_values false None ds)
   values_same h =
-      let k = no_either (not (equally_long (datum_side c ∷ datum_side e ∷ [])))
+      let k = or_parts (not (equally_long (datum_side c ∷ datum_side e ∷ [])))
       (list_any (is_uneven false n (s ∷ t ∷ [])) (first_rows ds)) h in
       ap₂ (λ k b. map (paired_value false to_leaves k (t ∷ s ∷ [])) (turned_when b))
       (sym levels_same) (sym arrays_same)
-      ∙ values_rows (some_array ds) (is_even (equally_long (datum_side c ∷ datum_side e ∷ [])) k.0)
+      ∙ values_rows (some_array ds) (not-false (equally_long (datum_side c ∷ datum_side e ∷ []))
+          k.0)
       k.1
 
   values_at : AllByRecursion (IsAt chain_by Anything) (pair_values false None ds)

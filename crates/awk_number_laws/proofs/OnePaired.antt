@@ -5,6 +5,7 @@ use Rattle.std.specs.Prelude.{Ok, Err, refl, if◌then◌else◌}
 use Rattle.std.specs.List.{AllByRecursion, list_any, range_with_len}
 use Rattle.std.proofs.Common.{ap, ap₂, sym, ◌∙◌, arith}
 use Rattle.std.proofs.lemmas.List.FromFn.{fill_by_all}
+use Rattle.std.proofs.lemmas.Simd.{map-map}
 use Rattle.awk_types.specs.DataType.{DataType, leaf, var, opt, tup, no_types, type, depth}
 use Rattle.awk_types.specs.Datum.{Datum}
 use Rattle.awk_types.specs.Gives.{refused_or, ◌or◌}
@@ -42,7 +43,6 @@ use Rattle.awk_law_chains.proofs.Chains.{same-each}
 use Rattle.awk_law_chains.proofs.ChainEnds.{twice-each, ends-mapped}
 use Rattle.awk_law_chains.proofs.Chains.{chain_sizes, chain_ends, over-chain, over_type-chain}
 use Rattle.awk_law_chains.proofs.Chains.{sizes-chain, sizes-mapped, ends-chain, length-each}
-use Rattle.awk_law_chains.proofs.Places.{map-map}
 
 -- a row of one
 abbrev pub alone : Value → Value

@@ -6,7 +6,7 @@ use Rattle.std.specs.Prelude.{None, Ok, if◌then◌else◌}
 use Rattle.std.specs.List.{list_any}
 use Rattle.std.proofs.lemmas.Bool.{ltb-false}
 use Rattle.std.proofs.lemmas.List.{length-map}
-use Rattle.std.proofs.lemmas.List.Sums.{sum_by-cons}
+use Rattle.awk_base.proofs.Sums.{sum-one}
 use Rattle.awk_types.specs.DataType.{DataType, unknown, leaf, var, reg, rec, tup, opt, uni}
 use Rattle.awk_types.specs.Datum.{Datum, arr}
 use Rattle.awk_types.specs.Gives.{refused_or, ◌or◌}
@@ -55,9 +55,6 @@ settled_is t ws l =
     value_list-from (map (simple_value t) (value_list (values_from ws)))
     ∙ ap (map (simple_value t)) (value_list-from ws) ∙ each_simple t ws l
 
-one_length : (n : ℕ) → sum (n ∷ []) ≡ n
-one_length n = sum_by-cons (λ x. x) n [] ∙ omega arith
-
 few : (n : ℕ) → size_told n ≡ None → n ≤ item_limit
 few n e = go (nat_lt item_limit (sum (n ∷ []))) refl e
   where
@@ -65,7 +62,7 @@ few n e = go (nat_lt item_limit (sum (n ∷ []))) refl e
         → first_told None None (size_by b) ≡ None → n ≤ item_limit
     go true f g = absurd (cc)
     go false f g =
-        omega (arith, one_length n, ltb-false item_limit (sum (n ∷ [])) f)
+        omega (arith, sum-one n, ltb-false item_limit (sum (n ∷ [])) f)
 
 small : (n : ℕ) → n ≤ item_limit → too_many n ≡ None
 small n l =

@@ -4,6 +4,7 @@ use Rattle.std.specs.Prelude.{Option, Some, None, option_map, Ok, refl, if◌the
 use Rattle.std.specs.List.{AllByRecursion, flat_map}
 use Rattle.std.proofs.Common.{ap, ap₂, sym, ◌∙◌}
 use Rattle.std.proofs.lemmas.Grind.{flat_map-append}
+use Rattle.awk_base.proofs.Every.{all-append}
 use Rattle.awk_types.specs.DataType.{DataType, unknown, leaf, var, reg, rec, tup, opt, uni}
 use Rattle.awk_types.specs.Datum.{Datum, arr, one}
 use Rattle.awk_types.specs.Faults.{limit_fault}
@@ -31,7 +32,7 @@ use Rattle.awk_frames.specs.Shape.{ends}
 use Rattle.awk_pair_operands.specs.Typed.{IsTyped}
 use Rattle.awk_law_chains.specs.Innermost.{datum_type, innermost_lists, innermost_type, leaves_in}
 use Rattle.awk_law_chains.specs.Innermost.{lists_in}
-use Rattle.awk_law_chains.proofs.Chains.{all-append, both-each, in_option_simple, joined-in_list}
+use Rattle.awk_law_chains.proofs.Chains.{both-each, in_option_simple, joined-in_list}
 use Rattle.awk_law_chains.proofs.Chains.{joined-present}
 use Rattle.awk_number_laws.proofs.InnermostLists.{inside, lists_null}
 use Rattle.awk_law_chains.proofs.Limits.{none_map}

@@ -9,6 +9,7 @@ use Rattle.std.proofs.lemmas.Bool.{ltb-false}
 use Rattle.std.proofs.lemmas.List.{length-map, length-append, get_or-map}
 use Rattle.std.proofs.lemmas.List.{get_or_default}
 use Rattle.std.proofs.lemmas.List.Sums.{sum_by-cons}
+use Rattle.awk_base.proofs.Sums.{sum-one}
 use Rattle.awk_types.specs.DataType.{DataType, unknown, leaf, var, reg, rec, tup, opt, uni}
 use Rattle.awk_types.specs.Datum.{Datum, arr, one}
 use Rattle.awk_types.specs.Gives.{refused_or}
@@ -118,9 +119,6 @@ sum_by many past q z =
     (if many then Some Size else if past || false then Some Overflow else None))
     (one (leaf q) (int z))
 
-one_length : (n : ℕ) → sum (n ∷ []) ≡ n
-one_length n = sum_by-cons (λ x. x) n [] ∙ omega arith
-
 abbrev sum_one : Primitive → List Value → Result Datum Fault
 sum_one q ws = sum_by (nat_lt item_limit (sum (length ws ∷ [])))
     (not (fits q (total (numbers ws)))) q (total (numbers ws))
@@ -128,7 +126,7 @@ sum_one q ws = sum_by (nat_lt item_limit (sum (length ws ∷ [])))
 few : (n : ℕ) → n ≤ item_limit → nat_lt item_limit (sum (n ∷ [])) ≡ false
 few n l =
     let e : nat_lt item_limit n ≡ false = grind (arith, l) in
-    ap (nat_lt item_limit) (one_length n) ∙ e
+    ap (nat_lt item_limit) (sum-one n) ∙ e
 
 sums_same : (q : Primitive) (us vs : List Value) → length us ≤ item_limit
     → length vs ≤ item_limit → total (numbers us) ≡ total (numbers vs)

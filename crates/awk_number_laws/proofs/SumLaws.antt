@@ -4,6 +4,7 @@ use Rattle.std.specs.Prelude.{ℤ, ◌+ℤ◌, Bool, true, false, filter, None, 
 use Rattle.std.specs.Prelude.{if◌then◌else◌}
 use Rattle.std.specs.List.{flat_map}
 use Rattle.std.proofs.Math.IntN.{+ℤ_assoc, +ℤ_idl}
+use Rattle.std.proofs.lemmas.List.{append-nil}
 use Rattle.awk_types.specs.DataType.{DataType, unknown, leaf, var, reg, rec, tup, opt, uni}
 use Rattle.awk_types.specs.Datum.{Datum, arr, one}
 use Rattle.awk_types.specs.Faults.{limit_fault}
@@ -123,17 +124,13 @@ all_leaves (rec ns ts) vs r = cc
 all_leaves (tup ts) vs r = cc
 all_leaves (uni ts) vs r = cc
 
-append_nil : (vs : List Value) → vs ++ [] ≡ vs
-append_nil [] = refl
-append_nil (v ∷ vs) = ap (λ ws. v ∷ ws) (append_nil vs)
-
 array_leaves : (t : DataType) (vs : List Value) (made : Datum) (b : Bool)
     → is_leaf (present t) ≡ b
     → (if b then on_whole f t vs else on_items f Innermost t vs) ≡ Ok made
     → present_values (joined (if b then vs ∷ [] else flat_map (lists_in t) vs))
     ≡ present_values (ends t vs)
 array_leaves t vs made true l e =
-    ap present_values (append_nil vs) ∙ sym (leaf_ends t vs l)
+    ap present_values (append-nil vs) ∙ sym (leaf_ends t vs l)
 array_leaves t vs made false l e =
     let u = lifted_type f.giving Innermost t in
     let x = option_map refusal_fault (refusal_at f Innermost t) in

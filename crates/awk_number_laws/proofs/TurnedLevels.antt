@@ -4,6 +4,7 @@ use Rattle.std.specs.Prelude.{List, [], ◌∷◌, map, length, Some, None}
 use Rattle.std.specs.Prelude.{refl, if◌then◌else◌}
 use Rattle.std.specs.List.{list_any, range_with_len, flat_map}
 use Rattle.std.proofs.Common.{ap, ap₂, sym, ◌∙◌, arith}
+use Rattle.std.proofs.lemmas.Bool.{not-false, or_parts}
 use Rattle.awk_types.specs.DataType.{DataType}
 use Rattle.awk_types.specs.Predicates.{is_list, is_leaf}
 use Rattle.awk_types.specs.Simple.{present, is_option, in_list}
@@ -153,14 +154,6 @@ sides_turned a b x y =
     ap (λ q. side (role q (present b)) y ∷ side (role q (present a)) x ∷ [])
     (sym (stretches_turned (present a) (present b)))
 
-pub is_even : (b : Bool) → not b ≡ false → b ≡ true
-is_even true e = refl
-is_even false e = cc
-
-pub no_either : (b c : Bool) → (b || c) ≡ false → (b ≡ false) × (c ≡ false)
-no_either true c e = cc
-no_either false c e = (refl, e)
-
 abbrev pub pairs_of : Side → Side → ℕ → List (List Value)
 pairs_of r s n = map (λ k. side_at k r ∷ side_at k s ∷ []) (range_with_len 0 n)
 
@@ -198,7 +191,7 @@ module _ (a b : DataType) (x y : Value) where
       (list_any (is_uneven false d (below_types b a)) (rows_of (right ∷ left ∷ [])))
       (ap not (equal_turned left right))
       (λ e. ap (λ n. list_any (is_uneven false d (below_types a b)) (pairs_of left right n))
-      (length_turned left right (is_even (equally_long (left ∷ right ∷ [])) e))
+      (length_turned left right (not-false (equally_long (left ∷ right ∷ [])) e))
       ∙ any_same (is_uneven false d (below_types a b)) (is_uneven false d (below_types b a))
       (λ k. side_at k left ∷ side_at k right ∷ []) (λ k. side_at k right ∷ side_at k left ∷ [])
       (range_with_len 0 (common_length (right ∷ left ∷ [])))
@@ -245,7 +238,7 @@ pub rows_same : (P : List Value → Bool) (p q : ℕ → List Value) (F G : List
     → map G (map q ks) ≡ map f (map F (map p ks))
 rows_same P p q F G f [] e h = refl
 rows_same P p q F G f (k ∷ ks) e h =
-    let n = no_either (P (p k)) (list_any P (map p ks)) h in
+    let n = or_parts (P (p k)) (list_any P (map p ks)) h in
     ap₂ (λ v vs. v ∷ vs) (e k n.0) (rows_same P p q F G f ks e n.1)
 
 by_open : (b : Bool) (o : Bool) (c : Class) (k : Chain) (f : Value → Value) (v w x y : Value)
@@ -286,10 +279,10 @@ module _ (d : ℕ) (a b : DataType) (x y : Value)
       → map other_way (rows_of (r ∷ l ∷ []))
       ≡ map (at_ends chain turn) (map one_way (rows_of (l ∷ r ∷ [])))
   rows_turned e =
-      let n = no_either (not (equally_long (l ∷ r ∷ [])))
+      let n = or_parts (not (equally_long (l ∷ r ∷ [])))
       (list_any (is_uneven false d (below_types a b)) (rows_of (l ∷ r ∷ []))) e in
       ap (λ m. map other_way (pairs_of r l m))
-      (sym (length_turned l r (is_even (equally_long (l ∷ r ∷ [])) n.0)))
+      (sym (length_turned l r (not-false (equally_long (l ∷ r ∷ [])) n.0)))
       ∙ rows_same (is_uneven false d (below_types a b)) (λ k. side_at k l ∷ side_at k r ∷ [])
       (λ k. side_at k r ∷ side_at k l ∷ []) one_way other_way (at_ends chain turn)
       (range_with_len 0 (common_length (l ∷ r ∷ [])))

@@ -4,6 +4,7 @@ use Rattle.std.proofs.Common.{refl, ap, sym, ◌∙◌, subst}
 use Rattle.std.specs.Prelude.{ℤ, pos, negsuc, ◌≤ℤ◌, ◌<ℤ◌, Bool, true, false, Option, None}
 use Rattle.std.specs.List.{list_any, flat_map}
 use Rattle.std.proofs.lemmas.Int.{ints}
+use Rattle.std.proofs.lemmas.Bool.{true≢false}
 use Rattle.awk_types.specs.DataType.{Name, DataType, DataTypes, unknown, leaf, var, reg, rec, tup}
 use Rattle.awk_types.specs.DataType.{opt, uni, types_from, row_type}
 use Rattle.awk_types.specs.Limit.{limit}
@@ -40,9 +41,6 @@ present-option_if : (b : Bool) (ts : DataTypes) → is_union (present (option_if
 present-option_if true ts = refl
 present-option_if false ts = refl
 
-no_union : true ≡ false → ⊥
-no_union e = cc
-
 pub bare_plain : (y : Layout) → IsBare y → is_union (present (array_type y)) ≡ false → IsPlain y
 bare_plain empty b e = tt
 bare_plain (flat c) b e = tt
@@ -56,7 +54,7 @@ bare_plain (byte_masked m v x) b e = absurd b
 bare_plain (bit_masked m v x) b e = absurd b
 bare_plain (unmasked n x) b e = absurd b
 bare_plain (union t j xs) b e =
-    absurd (no_union (sym (present-option_if (list_any is_option (simples (layout_types xs)))
+    absurd (true≢false (sym (present-option_if (list_any is_option (simples (layout_types xs)))
     (types_from (flat_map present_alternatives (simples (layout_types xs))))) ∙ e))
 
 rows_present : (names : Option (List Name)) (ts : DataTypes)

@@ -7,6 +7,8 @@ use Rattle.std.proofs.Common.{arith, ap, ap₂, sym, ◌∙◌, subst, append-ni
 use Rattle.std.proofs.lemmas.List.{length-map}
 use Rattle.std.proofs.lemmas.List.FromFn.{fill_by_all}
 use Rattle.std.proofs.lemmas.Simd.{map-map}
+use Rattle.awk_base.proofs.Ranges.{map-same, map_from}
+use Rattle.awk_base.proofs.Every.{all-part}
 use Rattle.awk_types.specs.DataType.{unknown, leaf}
 use Rattle.awk_types.specs.Has.{Has}
 use Rattle.awk_types.specs.Predicates.{is_unknown}
@@ -25,7 +27,7 @@ use Rattle.awk_layout.specs.Typing.{array_type, array_items}
 use Rattle.awk_layout.specs.Valid.{len, IsValid}
 use Rattle.awk_layout.proofs.Runs.{value_list-run}
 use Rattle.awk_gather.specs.Arrays.{array_item}
-use Rattle.awk_columns.proofs.ArrayLaws.{array_items-at, map-same}
+use Rattle.awk_columns.proofs.ArrayLaws.{array_items-at}
 use Rattle.awk_numbers.specs.Folds.{lane_numbers}
 use Rattle.awk_parts.specs.Parts.{AreRising, part_at}
 use Rattle.awk_present.specs.Numbers.{leaf_of}
@@ -39,7 +41,7 @@ use Rattle.awk_order.specs.Lists.{AreItems, AreMade}
 use Rattle.awk_order.specs.Order.{option_number, items_in_order}
 use Rattle.awk_order.specs.Sort.{place_items}
 use Rattle.awk_order.proofs.ListLaws.{part-range}
-use Rattle.awk_order.proofs.ValueLaws.{value_of, all_numbers, no_numbers, slice_has}
+use Rattle.awk_order.proofs.ValueLaws.{value_of, all_numbers, no_numbers}
 use Rattle.awk_order.proofs.ValueLaws.{in_order_values}
 
 -- ---- parts of a lane
@@ -62,16 +64,6 @@ pub part_by_place : (c o : Column) (i : ℕ) → place_at o i ≤ place_at o (i 
 part_by_place c o i p q =
     ap (λ zs. part_at zs o i) (numbers_at_places c)
     ∙ part-range (at c) (size_of c) (place_at o i) (place_at o (i + 1)) p q
-
-pub shifted : {X : Type 0} (f : ℕ → X) (a n : ℕ)
-    → map f (range_with_len a n) ≡ map (λ k. f (a + k)) (range_with_len 0 n)
-shifted f a n = go f a 0 n a (omega arith)
-  where
-    go : {X : Type 0} (f : ℕ → X) (a b n c : ℕ) → a + b ≡ c
-        → map f (range_with_len c n) ≡ map (λ k. f (a + k)) (range_with_len b n)
-    go f a b zero c e = refl
-    go f a b (suc n) c e =
-        ap₂ (λ x xs. x ∷ xs) (ap f (sym e)) (go f a (b + 1) n (c + 1) (omega (arith, e)))
 
 somes_all : (zs : List ℤ) → somes (map (λ z. Some z) zs) ≡ zs
 somes_all [] = refl
@@ -115,7 +107,7 @@ module _ (z : Layout) (o : Column) (n : ℕ) (a : AreItems z o n) where
       ∙ map-map option_number (array_item z) (range_with_len (start i) (count i))
       ∙ map-same (λ k. option_number (array_item z k)) (cell_at c j) (start i) (count i)
       (λ k p q. h.items k (omega (arith, q, within i l, a.rising.ordered i l)))
-      ∙ shifted (cell_at c j) (start i) (count i)
+      ∙ map_from (cell_at c j) (start i) (count i)
 
   -- numbers of a lane as the items of a part
   lane_list : (r : Column) (i : ℕ) → size_of r ≡ len z → i < n
@@ -162,7 +154,7 @@ module _ (z : Layout) (o : Column) (n : ℕ) (a : AreItems z o n) where
   module _ (has : AllByRecursion (Has (array_type z)) (array_items z)) where
     list_has : (i : ℕ) → AllByRecursion (Has (array_type z)) (list_at (array_items z) o i)
     list_has i =
-        slice_has (Has (array_type z)) (array_items z) (place_at o i) (place_at o (i + 1)) has
+        all-part (Has (array_type z)) (array_items z) (place_at o i) (place_at o (i + 1)) has
 
     abbrev leaf_kind : Kind
     leaf_kind = kind_of (leaf_of (array_type z))
@@ -206,7 +198,7 @@ module _ (z : Layout) (o : Column) (n : ℕ) (a : AreItems z o n) where
             ≡ map (λ z. Some z) (part_at (lane_numbers c) o i)
         cells i l =
             list_of_cells c None i h.cells l
-            ∙ sym (shifted (λ k. Some (at c k)) (start i) (count i))
+            ∙ sym (map_from (λ k. Some (at c k)) (start i) (count i))
             ∙ sym (map-map (λ z. Some z) (at c) (range_with_len (start i) (count i)))
             ∙ ap (map (λ z. Some z))
             (sym (part_by_place c o i (a.rising.ordered i l)

@@ -9,6 +9,8 @@ use Rattle.std.proofs.lemmas.List.{length-map}
 use Rattle.std.proofs.lemmas.List.FromFn.{fill_by_all, length-map-range_with_len}
 use Rattle.std.proofs.lemmas.List.FromFn.{get_or-map-range_with_len}
 use Rattle.std.proofs.lemmas.Simd.{map-map}
+use Rattle.awk_base.proofs.Ranges.{map-same, map_from}
+use Rattle.awk_base.proofs.Every.{all-append, all-map}
 use Rattle.awk_types.specs.DataType.{DataType, unknown, leaf, var, reg, rec, tup, opt, uni}
 use Rattle.awk_types.specs.Has.{Has}
 use Rattle.awk_types.specs.ItemLimit.{item_limit}
@@ -27,7 +29,6 @@ use Rattle.awk_layout.specs.Valid.{len}
 use Rattle.awk_layout.proofs.ArrayItems.{length-array_items}
 use Rattle.awk_layout.proofs.Runs.{value_list-run}
 use Rattle.awk_gather.specs.Arrays.{array_item}
-use Rattle.awk_columns.proofs.ArrayLaws.{map-same}
 use Rattle.awk_numbers.specs.Folds.{lane_numbers}
 use Rattle.awk_parts.specs.Parts.{AreRising, part_at}
 use Rattle.awk_present.specs.Numbers.{leaf_of}
@@ -41,7 +42,7 @@ use Rattle.awk_sorting.proofs.NullLaws.{somes_nones}
 use Rattle.awk_order.specs.Lists.{AreItems, AreMade}
 use Rattle.awk_order.specs.Nulls.{length_at, place_or_null, nulls_last, AreNullsReady}
 use Rattle.awk_order.specs.Order.{option_number, items_in_order}
-use Rattle.awk_order.proofs.NodeLaws.{list_in_order, part_by_place, shifted, list_by_place}
+use Rattle.awk_order.proofs.NodeLaws.{list_in_order, part_by_place, list_by_place}
 use Rattle.awk_order.proofs.ValueLaws.{leaf_simple_value, somes_numbers}
 
 -- ---- offsets
@@ -76,17 +77,6 @@ nulls_ready z o n p a h = record {
 
 -- ---- numbers of lists
 
-all_append : {X : Type 0} (P : X → Type 0) (xs ys : List X) → AllByRecursion P xs
-    → AllByRecursion P ys → AllByRecursion P (xs ++ ys)
-all_append P [] ys h k = k
-all_append P (x ∷ xs) ys h k = (h.0, all_append P xs ys h.1 k)
-
-all_range : {X : Type 0} (P : X → Type 0) (f : ℕ → X) (a n : ℕ)
-    → ((k : ℕ) → k < a + n → P (f k)) → AllByRecursion P (map f (range_with_len a n))
-all_range P f a zero h = tt
-all_range P f a (suc n) h =
-    (h a (omega arith), all_range P f (a + 1) n (λ k l. h k (omega (arith, l))))
-
 all_at : {X : Type 0} (P : X → Type 0) (xs : List X) (j : ℕ) (d : X) → AllByRecursion P xs
     → j < length xs → P (get_or xs j d)
 all_at P [] j d h l = absurd (omega (arith, l))
@@ -97,9 +87,9 @@ all_lists : (P : ℤ → Type 0) (m : ℕ → ℕ) (h : ℕ → ℕ → ℤ) (n 
     → ((i k : ℕ) → i < n → k < m i → P (h i k)) → AllByRecursion P (numbers_of_lists m h n)
 all_lists P m h zero f = tt
 all_lists P m h (suc n) f =
-    all_append P (numbers_of_lists m h n) (map (h n) (range_with_len 0 (m n)))
+    all-append P (numbers_of_lists m h n) (map (h n) (range_with_len 0 (m n)))
     (all_lists P m h n (λ i k l q. f i k (omega (arith, l)) q))
-    (all_range P (h n) 0 (m n) (λ k l. f n k (omega arith) (omega (arith, l))))
+    (all-map P (h n) 0 (m n) (λ k l. f n k (omega arith) (omega (arith, l))))
 
 -- ---- places
 
@@ -284,7 +274,7 @@ module _ (z : Layout) (o : Column) (n : ℕ) (a : AreItems z o n)
         ∙ optional_leaf (array_type z) opt_type a.leaves known;
     lists = λ i l.
         value_list-run (array_item y) (place_at o i) (length_at o i)
-        ∙ shifted (array_item y) (place_at o i) (length_at o i)
+        ∙ map_from (array_item y) (place_at o i) (length_at o i)
         ∙ map-same (λ k. array_item y (place_at o i + k)) (λ k. get_or (whole i) k null) 0
         (length_at o i) (λ k q m. item_is i k l (omega (arith, m)))
         ∙ sym (fill_by_all (λ k. get_or (whole i) k null) (whole i) (length_at o i) null

@@ -1,12 +1,14 @@
 -- Items of leaves by their numbers.
 use Rattle.std.proofs.Common.{◌≡◌, ℕ, zero, suc, ◌-◌, refl, ap, ap₂, sym, ◌∙◌, arith}
-use Rattle.std.proofs.Common.{List, [], ◌∷◌, ◌++◌, map, length, get_or, replicate, true≢false, take}
-use Rattle.std.proofs.Common.{drop}
+use Rattle.std.proofs.Common.{List, [], ◌∷◌, ◌++◌, map, length, get_or, replicate, true≢false}
 use Rattle.std.specs.Prelude.{ℤ, pos, Bool, true, false, Option, Some, None}
 use Rattle.std.specs.Prelude.{if◌then◌else◌}
-use Rattle.std.specs.List.{AllByRecursion, slice_range}
+use Rattle.std.specs.List.{AllByRecursion}
 use Rattle.std.proofs.lemmas.Int.{ints}
 use Rattle.std.proofs.lemmas.Simd.{map-map}
+use Rattle.std.proofs.Math.ListN.{get_or-map}
+use Rattle.awk_base.proofs.Lists.{map-each}
+use Rattle.awk_base.proofs.Every.{all-take}
 use Rattle.awk_types.specs.DataType.{DataType, unknown, leaf, var, reg, rec, tup, opt, uni}
 use Rattle.awk_types.specs.Has.{Has, Holds}
 use Rattle.awk_types.specs.Predicates.{is_leaf, is_unknown}
@@ -146,33 +148,7 @@ somes_numbers (list ws ∷ vs) = ap (λ zs. pos 0 ∷ zs) (somes_numbers vs)
 somes_numbers (row ws ∷ vs) = ap (λ zs. pos 0 ∷ zs) (somes_numbers vs)
 somes_numbers (alt k w ∷ vs) = ap (λ zs. pos 0 ∷ zs) (somes_numbers vs)
 
-drop_has : {X : Type 0} (P : X → Type 0) (xs : List X) (n : ℕ) → AllByRecursion P xs
-    → AllByRecursion P (drop n xs)
-drop_has P xs zero h = h
-drop_has P [] (suc n) h = tt
-drop_has P (x ∷ xs) (suc n) h = drop_has P xs n h.1
-
-take_has : {X : Type 0} (P : X → Type 0) (xs : List X) (n : ℕ) → AllByRecursion P xs
-    → AllByRecursion P (take n xs)
-take_has P xs zero h = tt
-take_has P [] (suc n) h = tt
-take_has P (x ∷ xs) (suc n) h = (h.0, take_has P xs n h.1)
-
-pub slice_has : {X : Type 0} (P : X → Type 0) (xs : List X) (a b : ℕ) → AllByRecursion P xs
-    → AllByRecursion P (slice_range xs a b)
-slice_has P xs a b h = take_has P (drop a xs) (b - a) (drop_has P xs a h)
-
 -- ---- lists in order
-
-get-map : {X Y : Type 0} (f : X → Y) (xs : List X) (p : ℕ) (d : X)
-    → get_or (map f xs) p (f d) ≡ f (get_or xs p d)
-get-map f [] p d = refl
-get-map f (x ∷ xs) zero d = refl
-get-map f (x ∷ xs) (suc p) d = get-map f xs p d
-
-map-each : {X Y : Type 0} (f g : X → Y) (xs : List X) → ((x : X) → f x ≡ g x) → map f xs ≡ map g xs
-map-each f g [] h = refl
-map-each f g (x ∷ xs) h = ap₂ (λ y ys. y ∷ ys) (h x) (map-each f g xs h)
 
 values_then_nulls : (k : Kind) (zs : List ℤ) (n : ℕ)
     → map (value_of k) (map (λ z. Some z) zs ++ replicate n None)
@@ -190,7 +166,7 @@ pub in_order_values : (k : Kind) (up : Bool) (vs : List Value)
 in_order_values k up vs e =
     let os : List (Option ℤ) = map option_number vs in
     map-each (λ p. get_or vs p null) (λ p. value_of k (get_or os p None)) (order up os)
-    (λ p. ap (λ ws. get_or ws p null) e ∙ get-map (value_of k) os p None)
+    (λ p. ap (λ ws. get_or ws p null) e ∙ get_or-map (value_of k) os p None)
     ∙ sym (map-map (value_of k) (λ p. get_or os p None) (order up os))
     ∙ ap (map (value_of k)) (cells_in_order up os)
     ∙ values_then_nulls k (sort_numbers up (somes os)) (nones os)

@@ -3,14 +3,14 @@ use Rattle.std.proofs.Common.{◌≡◌, ℕ, suc, ◌+◌, List, [], ◌∷◌,
 use Rattle.std.proofs.Common.{Option, Some, None, Result, Ok, Err, IfOk, refl, sym, ap, ap₂, ◌∙◌}
 use Rattle.std.proofs.Common.{append_assoc, arith}
 use Rattle.std.specs.Option.{option_map}
-use Rattle.std.proofs.lemmas.Grind.{common_steps}
 use Rattle.std.proofs.lemmas.Option.{slice_get-map}
+use Rattle.awk_base.proofs.Sums.{sum-cons}
 use Rattle.awk_types.specs.DataType.{Name, DataType, DataTypes, uni, types_from, row_type, nodes}
 use Rattle.awk_types.specs.DataType.{nodes_each}
 use Rattle.awk_types.specs.View.{NamedType, names_of, typ_of, field_of}
 use Rattle.awk_types.specs.declared.typ.Field.{Field}
 use Rattle.awk_types.specs.declared.typ.Typ.TheViews.{out-Field}
-use Rattle.awk_types.proofs.ListLaws.{drop-get}
+use Rattle.awk_base.proofs.Lists.{drop-get}
 use Rattle.awk_types.proofs.Views.{field_of-out}
 use Rattle.awk_form.specs.FormTree.{FormTree, FormTrees, form, row, union, forms_from}
 use Rattle.awk_form.specs.declared.kind.IndexKind.TheVariants.{I64}
@@ -21,9 +21,6 @@ pub forms_from-form_each : (k : ℕ) (ts : List DataType)
 forms_from-form_each k [] = refl
 forms_from-form_each k (t ∷ ts) =
     ap (form (packed_form k t)) (forms_from-form_each (k + nodes t) ts)
-
-sum-cons : (n : ℕ) (ns : List ℕ) → sum (n ∷ ns) ≡ n + sum ns
-sum-cons n ns = grind (arith, common_steps)
 
 pub sum-nodes_each : (ts : List DataType) → sum (nodes_each (types_from ts)) ≡ all_nodes ts
 sum-nodes_each [] = refl

@@ -1,8 +1,8 @@
 -- Columns with too many values.
-use Rattle.std.proofs.Common.{◌≡◌, ◌<◌, ◌≤◌, ◌||◌, Bool, true, false, List, length, refl, ap, ◌∙◌}
+use Rattle.std.proofs.Common.{◌≡◌, ◌<◌, ◌≤◌, ◌||◌, true, false, List, length, ap, ◌∙◌}
 use Rattle.std.specs.Prelude.{nat_lt, filter}
 use Rattle.std.specs.List.{list_any}
-use Rattle.std.proofs.lemmas.Bool.{lt-ltb, le-ltb}
+use Rattle.std.proofs.lemmas.Bool.{lt-ltb, le-ltb, or_right}
 use Rattle.awk_types.specs.DataType.{DataType, unknown, leaf, var, reg, rec, tup, opt, uni}
 use Rattle.awk_types.specs.Value.{Value}
 use Rattle.awk_types.specs.ItemLimit.{item_limit}
@@ -40,19 +40,15 @@ pub few_items : (x : Layout) → len x ≤ item_limit
     → nat_lt item_limit (length (array_items x)) ≡ false
 few_items x l = ap (nat_lt item_limit) (length-array_items x) ∙ le-ltb item_limit (len x) l
 
-or_true : (a b : Bool) → b ≡ true → (a || b) ≡ true
-or_true true b h = refl
-or_true false b h = h
-
 -- the items of lists are too many
 pub large_lists : (t : DataType) (vs : List Value) (s e : Column) (y : Layout)
     → nat_lt item_limit (length (joined_items (list_values s e y))) ≡ true
     → IsColumn t vs (Items s e y) → is_too_large t vs ≡ true
-large_lists (var t) vs s e y l h = or_true (is_too_long (record { typ = var t; values = vs }))
+large_lists (var t) vs s e y l h = or_right (is_too_long (record { typ = var t; values = vs }))
     (is_too_large t (joined_items vs))
     (large_node t (joined_items vs)
     (ap (λ vs. nat_lt item_limit (length (joined_items vs))) h.order ∙ l))
-large_lists (reg n t) vs s e y l h = or_true (is_too_long (record { typ = reg n t; values = vs }))
+large_lists (reg n t) vs s e y l h = or_right (is_too_long (record { typ = reg n t; values = vs }))
     (is_too_large t (joined_items vs))
     (large_node t (joined_items vs)
     (ap (λ vs. nat_lt item_limit (length (joined_items vs))) h.order ∙ l))

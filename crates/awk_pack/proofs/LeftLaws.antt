@@ -6,7 +6,7 @@ use Rattle.std.proofs.lemmas.Grind.{flat_map-append}
 use Rattle.std.proofs.lemmas.List.Folds.{list_any-append}
 use Rattle.awk_types.specs.DataType.{DataType, nodes}
 use Rattle.awk_types.specs.Value.{Value}
-use Rattle.awk_types.proofs.ListLaws.{drop-get}
+use Rattle.awk_base.proofs.Lists.{drop-get}
 use Rattle.awk_lanes.specs.Column.{Column}
 use Rattle.awk_layout.specs.Layout.{Layout}
 use Rattle.awk_layout.specs.Typing.{array_type, array_items}

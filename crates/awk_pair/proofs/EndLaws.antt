@@ -11,6 +11,7 @@ use Rattle.awk_layout.specs.Item.{item}
 use Rattle.awk_types.specs.Simple.{simple_value}
 use Rattle.awk_layout.specs.Typing.{layout_type, array_type, array_items}
 use Rattle.std.proofs.lemmas.Simd.{map-map}
+use Rattle.awk_base.proofs.Lists.{map-by}
 use Rattle.awk_columns.specs.Columns.{part_at}
 use Rattle.awk_columns.specs.InOrder.{AreParts}
 use Rattle.awk_open.specs.Opened.{AreLong}
@@ -18,7 +19,7 @@ use Rattle.awk_gather.specs.Arrays.{array_item}
 use Rattle.awk_pair_operands.proofs.LevelLaws.{paired_value-level, paired_type-level}
 use Rattle.awk_pair_operands.proofs.LevelLaws.{types_at_ends-level}
 use Rattle.awk_pair_operands.proofs.LevelLaws.{is_uneven-level}
-use Rattle.awk_pair_operands.proofs.RowLaws.{value_list-from, map-by, any-by}
+use Rattle.awk_pair_operands.proofs.RowLaws.{value_list-from, any-by}
 use Rattle.awk_pair.specs.Outcomes.{ArePairs}
 use Rattle.awk_pair_operands.specs.Paired.{Reach, to_leaves, to_depth, end_type, end_types}
 use Rattle.awk_pair_operands.specs.Paired.{paired_type}

@@ -4,6 +4,7 @@ use Rattle.std.proofs.Common.{refl, ap, sym, subst, ◌∙◌}
 use Rattle.std.specs.Prelude.{List, map, filter, length}
 use Rattle.std.specs.Prelude.{Option, Some, None}
 use Rattle.std.specs.List.{list_any, flat_map, range_with_len}
+use Rattle.awk_base.proofs.Lists.{map-by}
 use Rattle.awk_types.specs.DataType.{DataType}
 use Rattle.awk_types.specs.Gives.{◌or◌}
 use Rattle.awk_types.specs.ItemLimit.{item_limit, too_many}
@@ -22,7 +23,7 @@ use Rattle.awk_pair_operands.proofs.LevelLaws.{value-present, type-lists, values
 use Rattle.awk_pair_operands.proofs.LevelLaws.{unevens-lists}
 use Rattle.awk_pair_operands.proofs.LevelLaws.{ends-lists}
 use Rattle.awk_pair_operands.proofs.RowLaws.{or_null, index-rows, present-rows, joined-rows}
-use Rattle.awk_pair_operands.proofs.RowLaws.{offsets-rows, map-by, too_few, too_large}
+use Rattle.awk_pair_operands.proofs.RowLaws.{offsets-rows, too_few, too_large}
 use Rattle.awk_pair.specs.Outcomes.{ArePairs, AreTooMany}
 use Rattle.awk_pair_operands.specs.Paired.{Reach, paired_type, paired_value, takes_nulls}
 use Rattle.awk_pair_operands.specs.Paired.{values_of_rows}

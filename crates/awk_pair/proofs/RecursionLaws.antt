@@ -1,5 +1,5 @@
 -- What the recursion over levels needs of its tests.
-use Rattle.std.proofs.Common.{◌≡◌, ℕ, ◌<◌, ◌≤◌, Bool, true, false, ◌&&◌, refl, subst, sym}
+use Rattle.std.proofs.Common.{◌≡◌, ℕ, ◌<◌, ◌≤◌, Bool, false, ◌&&◌, refl, subst, sym}
 use Rattle.std.proofs.Common.{◌∙◌}
 use Rattle.std.specs.Prelude.{List, map, length}
 use Rattle.std.specs.List.{range_with_len, list_any, flat_map}
@@ -12,12 +12,6 @@ use Rattle.awk_pair_sides.proofs.RangeLaws.{length-range, length-map}
 use Rattle.awk_pair_sides.specs.Levels.{some_option}
 use Rattle.awk_pair_sides.specs.Rows.{row_at, rows_at}
 use Rattle.awk_pair_sides.specs.Sides.{differ, inner_rows}
-
--- both hold
-pub both : (a b : Bool) → a && b ≡ true → (a ≡ true) × (b ≡ true)
-both true true e = (refl, refl)
-both true false e = cc
-both false b e = cc
 
 -- where there is no level, only leaves are without nulls
 pub bare_end : (r : Reach) (d : ℕ) (ts : List DataType)

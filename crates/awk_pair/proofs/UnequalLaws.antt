@@ -7,7 +7,9 @@ use Rattle.std.specs.Prelude.{List, [], ◌∷◌, ◌++◌, map, filter, nat_lt
 use Rattle.std.specs.Prelude.{Some, length}
 use Rattle.std.proofs.lemmas.List.{take_all}
 use Rattle.std.specs.List.{list_any, flat_map, range_with_len}
-use Rattle.awk_types.proofs.ListLaws.{take-get}
+use Rattle.std.proofs.lemmas.Bool.{and_parts}
+use Rattle.std.proofs.lemmas.List.Folds.{list_any-append}
+use Rattle.awk_base.proofs.Lists.{take-get}
 use Rattle.awk_types.specs.DataType.{DataType}
 use Rattle.awk_types.specs.Simple.{present}
 use Rattle.awk_types.specs.Value.{Value}
@@ -29,7 +31,7 @@ use Rattle.awk_pair_levels.proofs.EvenLaws.{among_long, among_even}
 use Rattle.awk_pair_levels.proofs.ItemLaws.{all_inside, items_row, items_types}
 use Rattle.awk_pair_levels.proofs.ItemLaws.{alone-size, alone-item}
 use Rattle.awk_pair_sides.proofs.RangeLaws.{no_place, place_fails}
-use Rattle.awk_pair_sides.proofs.TestLaws.{any-map, and_both}
+use Rattle.awk_pair_sides.proofs.TestLaws.{any-map}
 use Rattle.awk_pair_sides.specs.Sides.{is_whole, differ, inner_rows}
 use Rattle.awk_pair_levels.specs.Single.{AreItems}
 use Rattle.awk_pair.proofs.EndLaws.{end_even}
@@ -55,21 +57,11 @@ pub none_all : (p : ℕ → Bool) (n : ℕ) → ((k : ℕ) → k < n → p k ≡
     → false ≡ list_any p (range_with_len 0 n)
 none_all p n h = sym (no_place p 0 n (λ i l. h i (omega arith)))
 
-any-append : {A : Type 0} (u : A → Bool) (xs ys : List A)
-    → list_any u (xs ++ ys) ≡ list_any u xs || list_any u ys
-any-append u [] ys = refl
-any-append u (x ∷ xs) ys = step (u x) (any-append u xs ys)
-  where
-    step : (b : Bool) → list_any u (xs ++ ys) ≡ list_any u xs || list_any u ys
-        → b || list_any u (xs ++ ys) ≡ (b || list_any u xs) || list_any u ys
-    step true e = refl
-    step false e = e
-
 any-flat : {A B : Type 0} (u : B → Bool) (f : A → List B) (xs : List A)
     → list_any u (flat_map f xs) ≡ list_any (λ x. list_any u (f x)) xs
 any-flat u f [] = refl
 any-flat u f (x ∷ xs) =
-    any-append u (f x) (flat_map f xs) ∙ ap (λ b. list_any u (f x) || b) (any-flat u f xs)
+    list_any-append u (f x) (flat_map f xs) ∙ ap (λ b. list_any u (f x) || b) (any-flat u f xs)
 
 or-false : (b : Bool) → b || false ≡ b
 or-false true = refl
@@ -223,4 +215,4 @@ some_levels d ts h = step (nat_lt 0 d) refl h
     step false e f = cc
 
 pub some_opens : (d : ℕ) (ts : List DataType) → goes_on d ts ≡ true → opens ts ≡ true
-some_opens d ts h = (and_both (nat_lt 0 d) (opens ts) h).1
+some_opens d ts h = (and_parts (nat_lt 0 d) (opens ts) h).1

@@ -4,7 +4,8 @@ use Rattle.std.proofs.Common.{inl, inr, refl, ap, arith, sym, subst, ◌∙◌}
 use Rattle.std.proofs.Common.{◌≢◌, drop}
 use Rattle.std.specs.Prelude.{List, [], ◌∷◌, length, nat_lt, slice_get, Some}
 use Rattle.std.specs.List.{list_all, range_with_len}
-use Rattle.awk_types.proofs.ListLaws.{drop-get}
+use Rattle.std.proofs.lemmas.Bool.{and_parts, not-false}
+use Rattle.awk_base.proofs.Lists.{drop-get}
 use Rattle.awk_lanes.specs.Places.{size_of}
 use Rattle.awk_columns.specs.Lists.{Listed}
 use Rattle.awk_pair_levels.specs.Shares.{length_of, share_lengths, lengths_at, length_at}
@@ -15,7 +16,6 @@ use Rattle.awk_pair_levels.specs.declared.shares.Share.{Share}
 use Rattle.awk_pair_levels.specs.declared.shares.Share.TheVariants.{Lists, Items}
 use Rattle.awk_pair_sides.proofs.RangeLaws.{all_places, no_place, place_holds, place_fails}
 use Rattle.awk_pair_sides.proofs.RangeLaws.{fails}
-use Rattle.awk_pair_sides.proofs.TestLaws.{and_both}
 
 abbrev AllAre : ℕ → List ℕ → Type 0
 AllAre c [] = Unit {0}
@@ -39,7 +39,7 @@ first-rest : (n : ℕ) (ns : List ℕ) → list_all (λ m. n == m) ns ≡ true �
 first-rest n [] e = tt
 first-rest n (m ∷ ns) e =
     let both : ((n == m) ≡ true) × (list_all (λ k. n == k) ns ≡ true) =
-    and_both (n == m) (list_all (λ k. n == k) ns) e in
+    and_parts (n == m) (list_all (λ k. n == k) ns) e in
     (grind (arith, both.0), first-rest n ns both.1)
 
 first-all : (ns : List ℕ) → all_same ns ≡ true → AllAre (first_or_zero ns) ns
@@ -101,7 +101,7 @@ pub alike_even : (m : ℕ → ℕ) (n : ℕ) (ps : List Share) → list_all (is_
 alike_even m n [] e = tt
 alike_even m n (Lists l ∷ ps) e =
     let both : (is_alike m n (Lists l) ≡ true) × (list_all (is_alike m n) ps ≡ true) =
-    and_both (is_alike m n (Lists l)) (list_all (is_alike m n) ps) e in (
+    and_parts (is_alike m n (Lists l)) (list_all (is_alike m n) ps) e in (
       (λ i q. let h : (length_of l i == m i) ≡ true =
           place_holds (λ j. length_of l j == m j) 0 n i both.0 (omega arith) (omega arith) in
           grind (arith, h)),
@@ -118,22 +118,18 @@ even_alike m n (Lists l ∷ ps) h =
     rw f (even_alike m n ps h.1)
 even_alike m n (Items y ∷ ps) h = even_alike m n ps h.1
 
-not-not : (b : Bool) → not b ≡ false → b ≡ true
-not-not true e = refl
-not-not false e = cc
-
 -- where no row's lists differ they are as long as those of the first operand that gives lists
 pub even_of_none : (n : ℕ) (ps : List Share) → any_differ ps n ≡ false
     → AreEven (length_at ps) n ps
 even_of_none n ps e =
     even-from (length_at ps) n ps (λ i q. first-all (lengths_at ps i)
-    (not-not (all_same (lengths_at ps i))
+    (not-false (all_same (lengths_at ps i))
     (place_fails (λ j. not (all_same (lengths_at ps j))) 0 n i e (omega arith) (omega arith))))
 
 rows-same : (l : Listed) (n : ℕ) (ps : List Share) → IsAmong l ps → any_differ ps n ≡ false
     → (i : ℕ) → i < n → AllAre (length_of l i) (lengths_at ps i)
 rows-same l n ps a e i q =
-    let s : all_same (lengths_at ps i) ≡ true = not-not (all_same (lengths_at ps i))
+    let s : all_same (lengths_at ps i) ≡ true = not-false (all_same (lengths_at ps i))
     (place_fails (λ j. not (all_same (lengths_at ps j))) 0 n i e (omega arith) (omega arith)) in
     let f : AllAre (first_or_zero (lengths_at ps i)) (lengths_at ps i) =
     first-all (lengths_at ps i) s in

@@ -7,7 +7,7 @@ use Rattle.std.specs.Prelude.{slice_range}
 use Rattle.std.specs.Prelude.{ℤ, pos, negsuc, ◌≤ℤ◌}
 use Rattle.std.proofs.lemmas.Int.{ints}
 use Rattle.std.proofs.lemmas.List.{take_all}
-use Rattle.awk_types.proofs.ListLaws.{drop-get, take-get}
+use Rattle.awk_base.proofs.Lists.{drop-get, take-get}
 use Rattle.std.specs.List.{list_any}
 use Rattle.awk_types.specs.Predicates.{is_list}
 use Rattle.awk_types.specs.Simple.{present}

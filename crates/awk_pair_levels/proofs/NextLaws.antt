@@ -5,7 +5,8 @@ use Rattle.std.specs.Prelude.{List, [], ◌∷◌, ◌++◌, length, get_or, pos
 use Rattle.std.specs.List.{flat_map, list_all}
 use Rattle.std.proofs.lemmas.List.{take_all}
 use Rattle.std.proofs.lemmas.List.FromFn.{get_or-range_with_len}
-use Rattle.awk_types.proofs.ListLaws.{drop-get, take-get}
+use Rattle.awk_base.proofs.Ranges.{map-in}
+use Rattle.awk_base.proofs.Lists.{drop-get, take-get}
 use Rattle.awk_types.specs.ItemLimit.{item_limit}
 use Rattle.awk_lanes.specs.Column.{Column}
 use Rattle.awk_lanes.specs.Counted.{before, offsets_by}
@@ -23,7 +24,6 @@ use Rattle.awk_pair_sides.specs.Levels.{common_class}
 use Rattle.awk_pair_sides.proofs.PlaceLaws.{places_of, repeats_index, size-places_of}
 use Rattle.awk_pair_sides.proofs.PlaceLaws.{place-places_of}
 use Rattle.awk_pair_sides.proofs.RangeLaws.{length-flat, length-range, before-same, before-room}
-use Rattle.awk_pair_sides.proofs.RangeLaws.{map-in}
 use Rattle.awk_pair_levels.specs.Shares.{length_of, length_at, share_class, IsEven, AreEven}
 use Rattle.awk_pair_levels.specs.Shares.{any_differ, IsAmong, IsNext, AreNext, AreSharedRows}
 use Rattle.awk_pair_levels.specs.Shares.{is_lists, IsAsLong, IsCounted, IsLaid, IsRepeated}

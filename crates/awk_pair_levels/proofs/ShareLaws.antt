@@ -4,7 +4,7 @@ use Rattle.std.proofs.Common.{refl, ap, arith, sym, subst, ◌∙◌, take}
 use Rattle.std.specs.Prelude.{List, [], ◌∷◌, ◌++◌, length, slice_get, Some, None, get_or}
 use Rattle.std.proofs.lemmas.List.{take_all, length-take}
 use Rattle.std.proofs.lemmas.Option.{slice_get_within}
-use Rattle.awk_types.proofs.ListLaws.{take-get}
+use Rattle.awk_base.proofs.Lists.{take-get}
 use Rattle.awk_types.specs.DataType.{DataType, unknown, leaf, var, reg, rec, tup, opt, uni}
 use Rattle.awk_types.specs.Predicates.{is_list_or_unknown}
 use Rattle.awk_types.specs.Value.{null}

@@ -3,6 +3,8 @@ use Rattle.std.proofs.Common.{◌≡◌, ℕ, zero, suc, ◌+◌, ◌<◌, Bool,
 use Rattle.std.proofs.Common.{arith, sym, subst, ◌∙◌}
 use Rattle.std.specs.Prelude.{List, [], ◌∷◌, ◌++◌, map, length, get_or, pos}
 use Rattle.std.specs.List.{list_any, flat_map, range_with_len}
+use Rattle.std.proofs.lemmas.Simd.{map-map}
+use Rattle.awk_base.proofs.Ranges.{map-in, flat-in}
 use Rattle.awk_types.specs.ItemLimit.{item_limit}
 use Rattle.awk_types.specs.Value.{null}
 use Rattle.awk_lanes.specs.Column.{Column}
@@ -35,8 +37,8 @@ use Rattle.awk_pair_levels.specs.declared.shares.Share.{Share}
 use Rattle.awk_pair_levels.specs.declared.shares.Share.TheVariants.{Lists, Items}
 use Rattle.awk_pair_sides.proofs.LevelTypes.{presents-bare, roles-bare, is_listed}
 use Rattle.awk_pair_sides.proofs.PlaceLaws.{get-run}
-use Rattle.awk_pair_sides.proofs.RangeLaws.{length-map, length-range, map-in, flat-in, any-in}
-use Rattle.awk_pair_sides.proofs.RangeLaws.{map-map, flat-map, length-flat, pieces, before-same}
+use Rattle.awk_pair_sides.proofs.RangeLaws.{length-map, length-range, any-in}
+use Rattle.awk_pair_sides.proofs.RangeLaws.{flat-map, length-flat, pieces, before-same}
 use Rattle.awk_pair_sides.proofs.TestLaws.{any-map}
 
 -- ---- one operand

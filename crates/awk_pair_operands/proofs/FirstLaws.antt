@@ -6,7 +6,9 @@ use Rattle.std.specs.Prelude.{unwrap_or, is_some}
 use Rattle.std.proofs.lemmas.Int.{ints}
 use Rattle.std.specs.List.{list_all, flat_map, range_with_len, AllByRecursion}
 use Rattle.std.proofs.lemmas.List.{drop_all, take_all}
-use Rattle.awk_types.proofs.ListLaws.{drop-get, take-get}
+use Rattle.std.proofs.lemmas.Bool.{and_parts}
+use Rattle.awk_base.proofs.Ranges.{map-in}
+use Rattle.awk_base.proofs.Lists.{drop-get, take-get}
 use Rattle.awk_types.specs.DataType.{DataType}
 use Rattle.awk_types.specs.Datum.{Datum, arr, one}
 use Rattle.awk_types.specs.Value.{Value}
@@ -38,8 +40,7 @@ use Rattle.awk_pair_operands.specs.Typed.{IsTyped}
 use Rattle.awk_pair_sides.specs.Rows.{row_at, rows_at}
 use Rattle.awk_pair_sides.specs.Sides.{side_at, side_lengths, all_same, first_or_zero}
 use Rattle.awk_pair_sides.specs.Sides.{equally_long, each}
-use Rattle.awk_pair_sides.proofs.TestLaws.{and_both}
-use Rattle.awk_pair_sides.proofs.RangeLaws.{map-in, flat-map}
+use Rattle.awk_pair_sides.proofs.RangeLaws.{flat-map}
 
 -- ---- columns
 
@@ -344,7 +345,7 @@ module _ (n : ℕ) (xs : List Operand) (i : ℕ) (x : Operand) (e : slice_get xs
       → (are_long (operand_lengths x) ≡ true)
       × (are_long (array_lengths (drop (i + 1) xs)) ≡ true)
   long_both h =
-      and_both (are_long (operand_lengths x)) (are_long (array_lengths (drop (i + 1) xs)))
+      and_parts (are_long (operand_lengths x)) (are_long (array_lengths (drop (i + 1) xs)))
       (sym long-split ∙ h)
 
 -- a single value is kept as an array of one item

@@ -3,6 +3,7 @@ use Rattle.std.proofs.Common.{◌≡◌, ℕ, zero, suc, ◌-◌, Bool, true, fa
 use Rattle.std.proofs.Common.{ap, arith, sym, ◌∙◌}
 use Rattle.std.specs.Prelude.{List, map, filter, if◌then◌else◌, nat_lt}
 use Rattle.std.specs.List.{list_any, flat_map}
+use Rattle.awk_base.proofs.Lists.{map-by}
 use Rattle.awk_types.specs.DataType.{DataType}
 use Rattle.awk_types.specs.Simple.{option_if}
 use Rattle.awk_types.specs.DataType.{opt}
@@ -10,7 +11,7 @@ use Rattle.awk_types.specs.Simple.{present}
 use Rattle.awk_types.specs.Value.{Value, null, list, values_from}
 use Rattle.awk_columns.specs.ListClass.{list_type}
 use Rattle.awk_columns.specs.Columns.{is_present}
-use Rattle.awk_pair_operands.proofs.RowLaws.{or_null, list_by, any-kept, any-below, map-by, any-by}
+use Rattle.awk_pair_operands.proofs.RowLaws.{or_null, list_by, any-kept, any-below, any-by}
 use Rattle.awk_pair_sides.proofs.LevelTypes.{presents-bare}
 use Rattle.awk_pair_operands.specs.Paired.{Reach, to_leaves, to_depth, end_type, end_types}
 use Rattle.awk_pair_operands.specs.Paired.{paired_type}

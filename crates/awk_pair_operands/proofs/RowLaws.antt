@@ -4,12 +4,14 @@ use Rattle.std.proofs.Common.{refl, ap, arith, ◌∙◌}
 use Rattle.std.specs.Prelude.{List, [], ◌∷◌, ◌++◌, map, filter, length, if◌then◌else◌, pos}
 use Rattle.std.specs.Prelude.{negsuc, cond, nat_lt, Some, None}
 use Rattle.std.specs.List.{list_any, flat_map}
+use Rattle.std.proofs.lemmas.List.{map-append}
+use Rattle.std.proofs.lemmas.List.Folds.{list_any-append}
 use Rattle.awk_types.specs.Value.{Value, int, truth, null, list, row, alt}
 use Rattle.awk_types.specs.Value.{value_list, values_from}
 use Rattle.awk_columns.specs.Columns.{list_items, joined_items, is_present, offsets, option_index}
 use Rattle.awk_types.specs.ItemLimit.{item_limit, too_many}
 use Rattle.awk_types.specs.declared.fault.Fault.TheVariants.{Size}
-use Rattle.awk_pair_sides.proofs.RangeLaws.{length-map, map-append}
+use Rattle.awk_pair_sides.proofs.RangeLaws.{length-map}
 use Rattle.awk_pair_sides.specs.Rows.{flags_index, lengths_offsets}
 use Rattle.awk_pair_sides.specs.Sides.{is_whole}
 
@@ -123,16 +125,6 @@ or-assoc false true true d = refl
 or-assoc false true false d = refl
 or-assoc false false c d = refl
 
-any-append : {A : Type 0} (u : A → Bool) (xs ys : List A)
-    → list_any u (xs ++ ys) ≡ list_any u xs || list_any u ys
-any-append u [] ys = refl
-any-append u (x ∷ xs) ys = step (u x) (any-append u xs ys)
-  where
-    step : (b : Bool) → list_any u (xs ++ ys) ≡ list_any u xs || list_any u ys
-        → b || list_any u (xs ++ ys) ≡ (b || list_any u xs) || list_any u ys
-    step true e = refl
-    step false e = e
-
 -- tests of rows and of the rows below them
 pub any-below : (a b : List Value → Bool) (f : List Value
     → List (List Value)) (rows : List (List Value))
@@ -140,15 +132,10 @@ pub any-below : (a b : List Value → Bool) (f : List Value
     ≡ list_any a rows || list_any b (flat_map f rows)
 any-below a b f [] = refl
 any-below a b f (vs ∷ rows) =
-    rw (any-below a b f rows, any-append b (f vs) (flat_map f rows))
+    rw (any-below a b f rows, list_any-append b (f vs) (flat_map f rows))
     (or-assoc (a vs) (list_any b (f vs)) (list_any a rows) (list_any b (flat_map f rows)))
 
 -- ---- all rows
-
-pub map-by : {A B : Type 0} (f g : A → B) → ((x : A) → f x ≡ g x) → (xs : List A)
-    → map f xs ≡ map g xs
-map-by f g e [] = refl
-map-by f g e (x ∷ xs) = ap (λ y. y ∷ map f xs) (e x) ∙ ap (λ ys. g x ∷ ys) (map-by f g e xs)
 
 pub any-by : {A : Type 0} (f g : A → Bool) → ((x : A) → f x ≡ g x) → (xs : List A)
     → list_any f xs ≡ list_any g xs

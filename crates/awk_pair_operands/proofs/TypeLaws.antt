@@ -1,12 +1,12 @@
 -- The types of operands so many levels down, and the ends of a pairing by them.
 use Rattle.std.proofs.Common.{◌≡◌, ℕ, zero, suc, ◌+◌, ◌-◌, ◌<◌, ◌≤◌, Bool, true, false, not}
-use Rattle.std.proofs.Common.{refl, ap, arith, sym, subst, ◌∙◌, drop, nat_cmp}
+use Rattle.std.proofs.Common.{refl, ap, arith, sym, subst, ◌∙◌, drop}
 use Rattle.std.specs.Prelude.{List, map, length, slice_get, Some, None, Option}
 use Rattle.std.specs.Prelude.{ℤ, max, min, nat_lt, if◌then◌else◌}
 use Rattle.std.specs.List.{list_any, list_all}
-use Rattle.std.specs.Ordering.{ord_max}
 use Rattle.std.proofs.lemmas.List.{drop_all}
-use Rattle.awk_types.proofs.ListLaws.{drop-get}
+use Rattle.std.proofs.lemmas.Simd.{map-map}
+use Rattle.awk_base.proofs.Lists.{drop-get}
 use Rattle.awk_types.specs.DataType.{DataType, leaf}
 use Rattle.awk_types.specs.DataType.{depth}
 use Rattle.awk_types.specs.Limit.{Limit, depth_limit, limit}
@@ -26,7 +26,6 @@ use Rattle.awk_pair_operands.specs.Pairs.{typs, item_type, below, has_wrong_end}
 use Rattle.awk_pair_operands.specs.Types.{down, operand_type, lists_down, leaf_down, opens_down}
 use Rattle.awk_pair_operands.specs.Types.{leaves_down}
 use Rattle.awk_pair_sides.specs.Levels.{opens, item_of, item_types}
-use Rattle.awk_pair_sides.proofs.RangeLaws.{map-map}
 use Rattle.awk_pair_sides.proofs.TestLaws.{any-map, all-map}
 
 -- ---- one type
@@ -141,10 +140,6 @@ depths_next xs i x g d m e f h =
     ≡ max (depth (operand_type x)) (all_levels (map operand_type (drop (i + 1) xs))) =
     ap (λ ys. all_levels (map operand_type ys)) (drop-get xs i x e) in
     omega (arith, s, f, h)
-
--- `max` of code is the greater
-pub ord_max-nat : (a b : ℕ) → ord_max nat_cmp a b ≡ max a b
-ord_max-nat a b = grind arith
 
 pub depths_end : (xs : List Operand) (i g m : ℕ) → length xs ≤ i → depths_from g xs i ≡ m → g ≡ m
 depths_end xs i g m l h =

@@ -4,6 +4,7 @@ use Rattle.std.proofs.Common.{refl, ap, arith, sym, subst, ◌∙◌}
 use Rattle.std.specs.Prelude.{List, [], ◌∷◌, ◌++◌, map, length, get_or, Option, Some, None, Ok}
 use Rattle.std.specs.Prelude.{if◌then◌else◌}
 use Rattle.std.specs.List.{list_any, list_all, flat_map, range_with_len, AllByRecursion}
+use Rattle.std.proofs.lemmas.Bool.{and_parts, not-false, or_parts}
 use Rattle.awk_types.specs.DataType.{DataType, unknown, leaf, var, reg, rec, tup, opt, uni}
 use Rattle.awk_types.specs.DataType.{types_from}
 use Rattle.awk_types.specs.Datum.{Datum, arr, one}
@@ -29,7 +30,6 @@ use Rattle.awk_pair_operands.specs.Pairs.{pair_type, pair_values, are_uneven, le
 use Rattle.awk_pair_operands.specs.Pairs.{type_refused}
 use Rattle.awk_pair_operands.specs.Typed.{IsTyped, HasEach}
 use Rattle.awk_pair_sides.proofs.LevelTypes.{presents-bare}
-use Rattle.awk_pair_sides.proofs.TestLaws.{and_both, or_none}
 use Rattle.awk_pair_sides.specs.Levels.{listed, stretched, role, roles_by, roles}
 use Rattle.awk_pair_sides.specs.Levels.{unless, stretches, item_of, item_types, opens, some_option}
 use Rattle.awk_pair_sides.specs.Levels.{role_class, is_class, common_class, level_class}
@@ -64,7 +64,7 @@ row-has n k [] [] h e l = tt
 row-has n k (t ∷ ts) (each vs ∷ ss) h e l =
     let both : ((n == length vs) ≡ true)
     × (list_all (λ m. n == m) (flat_map side_lengths ss) ≡ true) =
-    and_both (n == length vs) (list_all (λ m. n == m) (flat_map side_lengths ss)) e in
+    and_parts (n == length vs) (list_all (λ m. n == m) (flat_map side_lengths ss)) e in
     let f : n ≡ length vs = grind (arith, both.0) in
     (all-get t vs k h.0 (omega (arith, f, l)), row-has n k ts ss h.1 both.1 l)
 row-has n k (t ∷ ts) (always v ∷ ss) h e l = (h.0, row-has n k ts ss h.1 e l)
@@ -132,7 +132,7 @@ whole-have : (ts : List DataType) (vs : List Value) → is_whole vs ≡ true →
 whole-have [] [] e h = tt
 whole-have (t ∷ ts) (v ∷ vs) e h =
     let both : (is_present v ≡ true) × (is_whole vs ≡ true) =
-    and_both (is_present v) (is_whole vs) e in
+    and_parts (is_present v) (is_whole vs) e in
     (present-has t v both.0 h.0, whole-have ts vs both.1 h.1)
 whole-have [] (v ∷ vs) e h = absurd h
 whole-have (t ∷ ts) [] e h = absurd h
@@ -157,7 +157,7 @@ reg-side b n t (row ws) e h = absurd h
 reg-side b n t (alt k w) e h = absurd h
 
 is-one : (s : Bool) (n : ℕ) → s && n == 1 ≡ true → n ≡ 1
-is-one s n e = let both : (s ≡ true) × ((n == 1) ≡ true) = and_both s (n == 1) e in
+is-one s n e = let both : (s ≡ true) × ((n == 1) ≡ true) = and_parts s (n == 1) e in
     grind (arith, both.1)
 
 side-has : (s : Bool) (t : DataType) (v : Value) → Has t v
@@ -189,7 +189,7 @@ sides-have keep s (t ∷ ts) [] h = absurd h
 same-class : (n m : ℕ) (rest : Bool) → is_class (Some n) (Some m) && rest ≡ true
     → (n ≡ m) × (rest ≡ true)
 same-class n m rest e =
-    let both : ((n == m) ≡ true) × (rest ≡ true) = and_both (n == m) rest e in
+    let both : ((n == m) ≡ true) × (rest ≡ true) = and_parts (n == m) rest e in
     (grind (arith, both.0), both.1)
 
 -- lists that are of a length where all are have it
@@ -309,12 +309,8 @@ values-have : (u : DataType) (ts : List DataType) (g : List Value → Value) (ba
 values-have u ts g bad [] f h e = tt
 values-have u ts g bad (vs ∷ rows) f h e =
     let both : (bad vs ≡ false) × (list_any bad rows ≡ false) =
-    or_none (bad vs) (list_any bad rows) e in
+    or_parts (bad vs) (list_any bad rows) e in
     (f vs h.0 both.0, values-have u ts g bad rows f h.1 both.1)
-
-not-false : (b : Bool) → not b ≡ false → b ≡ true
-not-false true e = refl
-not-false false e = cc
 
 module _ (keep : Bool) where
   -- the lists of a level, from what the rows below come to
@@ -326,7 +322,7 @@ module _ (keep : Bool) where
       → Has (list_type (level_class keep ts) u) (list (values_from (map g (inner_rows keep ts vs))))
   level-has ts vs u g bad f h e =
       let both : (differ keep ts vs ≡ false) × (list_any bad (inner_rows keep ts vs) ≡ false) =
-      or_none (differ keep ts vs) (list_any bad (inner_rows keep ts vs)) e in
+      or_parts (differ keep ts vs) (list_any bad (inner_rows keep ts vs)) e in
       let even : equally_long (level_sides keep ts vs) ≡ true =
       not-false (equally_long (level_sides keep ts vs)) both.0 in
       list-of (level_class keep ts) u (map g (inner_rows keep ts vs))
@@ -371,7 +367,7 @@ module _ (keep : Bool) where
   typed_pairs d ds h e =
       let both : (not (equally_long (map datum_side ds)) ≡ false)
       × (any_uneven keep (below d ds) (typs ds) (first_rows ds) ≡ false) =
-      or_none (not (equally_long (map datum_side ds)))
+      or_parts (not (equally_long (map datum_side ds)))
       (any_uneven keep (below d ds) (typs ds) (first_rows ds)) e in
       values-have (pair_type keep d ds) (typs ds)
       (paired_value keep (reach d) (below d ds) (typs ds))

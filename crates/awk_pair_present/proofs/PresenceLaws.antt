@@ -6,7 +6,10 @@ use Rattle.std.specs.Prelude.{ℤ, pos, negsuc, ◌<ℤ◌, ◌≤ℤ◌, ◌^�
 use Rattle.std.specs.List.{flat_map, range_with_len}
 use Rattle.std.proofs.lemmas.Int.{ints}
 use Rattle.std.proofs.lemmas.List.{take_all}
-use Rattle.awk_types.proofs.ListLaws.{drop-get, take-get}
+use Rattle.std.proofs.lemmas.Bool.{and_parts}
+use Rattle.std.proofs.lemmas.Simd.{map-map}
+use Rattle.awk_base.proofs.Ranges.{map-in, flat-in}
+use Rattle.awk_base.proofs.Lists.{drop-get, take-get}
 use Rattle.awk_types.specs.Simple.{is_option, present}
 use Rattle.awk_types.specs.Value.{Value, int, truth, null, list, row, alt}
 use Rattle.awk_lanes.specs.Column.{Column}
@@ -39,8 +42,7 @@ use Rattle.awk_pair_present.specs.declared.presence.Presence.TheVariants.{All, I
 use Rattle.awk_pair_sides.proofs.LevelTypes.{present-bare}
 use Rattle.awk_pair_sides.proofs.PlaceLaws.{places_of, size-places_of, place-places_of}
 use Rattle.awk_pair_sides.proofs.PlaceLaws.{repeats_index}
-use Rattle.awk_pair_sides.proofs.RangeLaws.{map-map, map-in, flat-in, pieces, before-room}
-use Rattle.awk_pair_sides.proofs.TestLaws.{and_both}
+use Rattle.awk_pair_sides.proofs.RangeLaws.{pieces, before-room}
 use Rattle.awk_lanes.proofs.MadeLanes.{size-lane_of, at-lane_of}
 
 -- ---- one operand
@@ -354,12 +356,12 @@ all-there n ks [] h = tt
 all-there n ks (p ∷ ps) h = (
   (λ q a. (
     (h q a).0,
-    (and_both (is_there (place_at ks q) p) (are_there ps (place_at ks q))
+    (and_parts (is_there (place_at ks q) p) (are_there ps (place_at ks q))
         (h q a).1).0,
   )),
   all-there n ks ps (λ q a. (
     (h q a).0,
-    (and_both (is_there (place_at ks q) p)
+    (and_parts (is_there (place_at ks q) p)
         (are_there ps (place_at ks q)) (h q a).1).1,
   )),
 )

@@ -3,6 +3,7 @@ use Rattle.std.proofs.Common.{◌≡◌, ◌==◌, Bool, true, false, not, ◌||
 use Rattle.std.proofs.Common.{◌∙◌}
 use Rattle.std.specs.Prelude.{List, [], ◌∷◌, map, Some, if◌then◌else◌}
 use Rattle.std.specs.List.{list_any}
+use Rattle.std.proofs.lemmas.Bool.{or_parts}
 use Rattle.awk_types.specs.DataType.{DataType, unknown, leaf, var, reg, rec, tup, opt, uni}
 use Rattle.awk_types.specs.Predicates.{is_list}
 use Rattle.awk_types.specs.Simple.{is_option, present}
@@ -10,7 +11,7 @@ use Rattle.awk_pair_sides.specs.Levels.{Role, listed, stretched, repeated, role,
 use Rattle.awk_pair_sides.specs.Levels.{roles, opens, some_option, is_longer, stretches}
 use Rattle.awk_layout.specs.Layout.{Layout}
 use Rattle.awk_layout.specs.Typing.{array_type}
-use Rattle.awk_pair_sides.proofs.TestLaws.{or_none, any-map}
+use Rattle.awk_pair_sides.proofs.TestLaws.{any-map}
 
 pub present-bare : (t : DataType) → is_option t ≡ false → present t ≡ t
 present-bare (opt t) e = cc
@@ -27,7 +28,7 @@ pub presents-bare : (ts : List DataType) → some_option ts ≡ false → map pr
 presents-bare [] e = refl
 presents-bare (t ∷ ts) e =
     let both : (is_option t ≡ false) × (some_option ts ≡ false) =
-    or_none (is_option t) (some_option ts) e in
+    or_parts (is_option t) (some_option ts) e in
     rw (present-bare t both.0) (ap (λ us. t ∷ us) (presents-bare ts both.1))
 
 pub roles-bare : (keep : Bool) (ts : List DataType) → some_option ts ≡ false

@@ -2,7 +2,9 @@
 use Rattle.std.proofs.Common.{◌≡◌, ℕ, zero, suc, ◌+◌, ◌<◌, refl, ap, arith, sym, subst, ◌∙◌, drop}
 use Rattle.std.specs.Prelude.{List, ◌++◌, map, get_or, pos, slice_get, Some}
 use Rattle.std.specs.List.{range_with_len}
-use Rattle.awk_types.proofs.ListLaws.{drop-get}
+use Rattle.std.proofs.lemmas.Simd.{map-map}
+use Rattle.std.proofs.lemmas.List.{map-append}
+use Rattle.awk_base.proofs.Lists.{drop-get}
 use Rattle.awk_types.specs.Value.{Value, null, value_list}
 use Rattle.awk_lanes.specs.Column.{Column}
 use Rattle.awk_lanes.specs.Counted.{before, items_lane, numbers_of_lists}
@@ -17,7 +19,6 @@ use Rattle.awk_open.specs.Opened.{AreLong}
 use Rattle.awk_counts.specs.Counted.{first_of, AreBelow}
 use Rattle.awk_counts.proofs.FirstPlaces.{first_of-more}
 use Rattle.awk_columns.proofs.ReachedContents.{below-first_of, places_index}
-use Rattle.awk_pair_sides.proofs.RangeLaws.{map-append, map-map}
 
 -- ---- runs of items
 

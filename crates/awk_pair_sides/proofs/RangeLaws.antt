@@ -3,9 +3,10 @@ use Rattle.std.proofs.Common.{◌≡◌, ℕ, zero, suc, ◌+◌, ◌-◌, ◌<�
 use Rattle.std.proofs.Common.{refl, ap, arith, sym, subst, ◌∙◌}
 use Rattle.std.specs.Prelude.{List, [], ◌∷◌, ◌++◌, map, length, nat_le}
 use Rattle.std.specs.List.{list_any, list_all, flat_map, range_with_len}
-use Rattle.std.proofs.lemmas.List.{length-append}
+use Rattle.std.proofs.lemmas.List.{length-append, append-nil, map-append, append_assoc}
+use Rattle.std.proofs.lemmas.Bool.{and_parts, or_parts}
+use Rattle.awk_base.proofs.Ranges.{range-append, range-last}
 use Rattle.awk_lanes.specs.Counted.{before}
-use Rattle.awk_pair_sides.proofs.TestLaws.{and_both, or_none}
 
 pub length-map : {A B : Type 0} (f : A → B) (xs : List A) → length (map f xs) ≡ length xs
 length-map f [] = refl
@@ -15,69 +16,19 @@ pub length-range : (a n : ℕ) → length (range_with_len a n) ≡ n
 length-range a zero = refl
 length-range a (suc n) = ap suc (length-range (a + 1) n)
 
-pub range-append : (a m k : ℕ)
-    → range_with_len a (m + k) ≡ range_with_len a m ++ range_with_len (a + m) k
-range-append a zero k =
-    let e : zero + k ≡ k = omega arith in
-    let f : a ≡ a + zero = omega arith in
-    ap (range_with_len a) e ∙ ap (λ b. range_with_len b k) f
-range-append a (suc m) k =
-    let e : suc m + k ≡ suc (m + k) = omega arith in
-    let f : a + 1 + m ≡ a + suc m = omega arith in
-    ap (range_with_len a) e ∙ ap (λ ns. a ∷ ns) (range-append (a + 1) m k)
-    ∙ ap (λ b. a ∷ (range_with_len (a + 1) m ++ range_with_len b k)) f
-
-pub range-last : (n : ℕ) → range_with_len 0 (suc n) ≡ range_with_len 0 n ++ n ∷ []
-range-last n =
-    let e : suc n ≡ n + 1 = omega arith in
-    let f : 0 + n ≡ n = omega arith in
-    ap (range_with_len 0) e ∙ range-append 0 n 1 ∙ ap (λ b. range_with_len 0 n ++ b ∷ []) f
-
-pub map-append : {A B : Type 0} (f : A → B) (xs ys : List A)
-    → map f (xs ++ ys) ≡ map f xs ++ map f ys
-map-append f [] ys = refl
-map-append f (x ∷ xs) ys = ap (λ zs. f x ∷ zs) (map-append f xs ys)
-
-pub append-nil : {A : Type 0} (xs : List A) → xs ++ [] ≡ xs
-append-nil [] = refl
-append-nil (x ∷ xs) = ap (λ ys. x ∷ ys) (append-nil xs)
-
-append-assoc : {A : Type 0} (xs ys zs : List A) → (xs ++ ys) ++ zs ≡ xs ++ (ys ++ zs)
-append-assoc [] ys zs = refl
-append-assoc (x ∷ xs) ys zs = ap (λ ws. x ∷ ws) (append-assoc xs ys zs)
-
 pub flat-append : {A B : Type 0} (f : A → List B) (xs ys : List A)
     → flat_map f (xs ++ ys) ≡ flat_map f xs ++ flat_map f ys
 flat-append f [] ys = refl
 flat-append f (x ∷ xs) ys =
     ap (λ zs. f x ++ zs) (flat-append f xs ys)
-    ∙ sym (append-assoc (f x) (flat_map f xs) (flat_map f ys))
+    ∙ sym (append_assoc (f x) (flat_map f xs) (flat_map f ys))
 
 pub flat-map : {A B C : Type 0} (f : B → List C) (g : A → B) (xs : List A)
     → flat_map f (map g xs) ≡ flat_map (λ x. f (g x)) xs
 flat-map f g [] = refl
 flat-map f g (x ∷ xs) = ap (λ ys. f (g x) ++ ys) (flat-map f g xs)
 
-pub map-map : {A B C : Type 0} (f : B → C) (g : A → B) (xs : List A)
-    → map f (map g xs) ≡ map (λ x. f (g x)) xs
-map-map f g [] = refl
-map-map f g (x ∷ xs) = ap (λ ys. f (g x) ∷ ys) (map-map f g xs)
-
 -- ---- functions that agree in a range
-
-pub map-in : {A : Type 0} (f g : ℕ → A) (a n : ℕ) → ((i : ℕ) → i < a + n → f i ≡ g i)
-    → map f (range_with_len a n) ≡ map g (range_with_len a n)
-map-in f g a zero h = refl
-map-in f g a (suc n) h =
-    ap (λ y. y ∷ map f (range_with_len (a + 1) n)) (h a (omega arith))
-    ∙ ap (λ ys. g a ∷ ys) (map-in f g (a + 1) n (λ i l. h i (omega arith)))
-
-pub flat-in : {A : Type 0} (f g : ℕ → List A) (a n : ℕ) → ((i : ℕ) → i < a + n → f i ≡ g i)
-    → flat_map f (range_with_len a n) ≡ flat_map g (range_with_len a n)
-flat-in f g a zero h = refl
-flat-in f g a (suc n) h =
-    ap (λ y. y ++ flat_map f (range_with_len (a + 1) n)) (h a (omega arith))
-    ∙ ap (λ ys. g a ++ ys) (flat-in f g (a + 1) n (λ i l. h i (omega arith)))
 
 pub any-in : (p q : ℕ → Bool) (a n : ℕ) → ((i : ℕ) → i < a + n → p i ≡ q i)
     → list_any p (range_with_len a n) ≡ list_any q (range_with_len a n)
@@ -168,7 +119,7 @@ pub place_holds : (p : ℕ → Bool) (a n i : ℕ) → list_all p (range_with_le
 place_holds p a zero i e g l = absurd (omega arith)
 place_holds p a (suc n) i e g l =
     let both : (p a ≡ true) × (list_all p (range_with_len (a + 1) n) ≡ true) =
-    and_both (p a) (list_all p (range_with_len (a + 1) n)) e in
+    and_parts (p a) (list_all p (range_with_len (a + 1) n)) e in
     first-or (λ k. p k ≡ true) a i (nat_le (a + 1) i) refl g both.0
     (λ h. place_holds p (a + 1) n i both.1 h (omega arith))
 
@@ -177,7 +128,7 @@ pub place_fails : (p : ℕ → Bool) (a n i : ℕ) → list_any p (range_with_le
 place_fails p a zero i e g l = absurd (omega arith)
 place_fails p a (suc n) i e g l =
     let both : (p a ≡ false) × (list_any p (range_with_len (a + 1) n) ≡ false) =
-    or_none (p a) (list_any p (range_with_len (a + 1) n)) e in
+    or_parts (p a) (list_any p (range_with_len (a + 1) n)) e in
     first-or (λ k. p k ≡ false) a i (nat_le (a + 1) i) refl g both.0
     (λ h. place_fails p (a + 1) n i both.1 h (omega arith))
 

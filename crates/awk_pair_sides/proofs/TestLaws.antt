@@ -4,7 +4,8 @@ use Rattle.std.proofs.Common.{subst, ◌∙◌, drop}
 use Rattle.std.specs.Prelude.{List, [], ◌∷◌, map, length, slice_get, Some}
 use Rattle.std.specs.List.{list_any, list_all}
 use Rattle.std.proofs.lemmas.List.{drop_all}
-use Rattle.awk_types.proofs.ListLaws.{drop-get}
+use Rattle.std.proofs.lemmas.Bool.{and_parts}
+use Rattle.awk_base.proofs.Lists.{drop-get}
 use Rattle.awk_pair_sides.specs.Levels.{unless}
 
 pub any_next : {A : Type 0} (f : A → Bool) (xs : List A) (i : ℕ) (x : A) (b : Bool)
@@ -53,18 +54,8 @@ all-map f g (x ∷ xs) = ap (λ b. f (g x) && b) (all-map f g xs)
 
 -- ---- truth values
 
-pub and_both : (a b : Bool) → a && b ≡ true → (a ≡ true) × (b ≡ true)
-and_both true true e = (refl, refl)
-and_both true false e = cc
-and_both false b e = cc
-
-pub or_none : (a b : Bool) → a || b ≡ false → (a ≡ false) × (b ≡ false)
-or_none false false e = (refl, refl)
-or_none true b e = cc
-or_none false true e = cc
-
 pub second : (a b : Bool) → a && b ≡ true → b ≡ true
-second a b e = (and_both a b e).1
+second a b e = (and_parts a b e).1
 
 pub both_not : (a b : Bool) → a && not b ≡ unless b a
 both_not true true = refl

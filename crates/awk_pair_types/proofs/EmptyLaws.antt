@@ -10,7 +10,7 @@ use Rattle.awk_types.specs.Datum.{Datum, arr}
 use Rattle.awk_types.specs.Gives.{Told, refused_or}
 use Rattle.awk_types.specs.Value.{Value}
 use Rattle.awk_types.specs.declared.fault.Fault.{Fault}
-use Rattle.awk_types.proofs.ListLaws.{map-take-get}
+use Rattle.awk_base.proofs.Lists.{map-take-get}
 use Rattle.awk_layout.proofs.ArrayItems.{length-array_items}
 use Rattle.awk_layout.specs.Datum.{datum_of, kept}
 use Rattle.awk_layout.specs.Layout.{Layout}

@@ -7,13 +7,16 @@ use Rattle.std.proofs.lemmas.Bool.{ltb-false}
 use Rattle.std.proofs.lemmas.List.Folds.{flat_map-map}
 use Rattle.std.proofs.lemmas.List.FromFn.{map-range_with_len_more}
 use Rattle.std.proofs.lemmas.Simd.{map-map}
+use Rattle.std.proofs.lemmas.List.{append-nil, append_assoc}
+use Rattle.awk_base.proofs.Ranges.{range-more}
+use Rattle.awk_base.proofs.Every.{all_range}
 use Rattle.awk_places.specs.Begun.{reserved, longer, rest_count, last_place, begun_by, again}
 use Rattle.awk_places.specs.Begun.{places_of, Fits}
 use Rattle.awk_places.specs.declared.begun.Begun.{Begun}
 use Rattle.awk_places.specs.Places.{before_each, next_place, rising_places, after_each, next_after}
 use Rattle.awk_places.specs.Places.{places_from, rising_from}
-use Rattle.awk_places.proofs.FlatLaws.{append-none, flat-flat, map-flat, flat-same, map-same}
-use Rattle.awk_places.proofs.FlatLaws.{flat-same-all, all-map, all-append, all-flat, range-more}
+use Rattle.awk_places.proofs.FlatLaws.{flat-flat, map-flat, flat-same, map-same}
+use Rattle.awk_places.proofs.FlatLaws.{flat-same-all, all-map, all-append, all-flat}
 use Rattle.awk_places.proofs.Levels.{rising_from-more, room_after}
 use Rattle.awk_places.proofs.Paths.{with_replacement, without_replacement, none_chosen}
 use Rattle.awk_places.proofs.Paths.{paths-further}
@@ -130,7 +133,7 @@ rising_from-begun rep zero j a m =
   where
     none : (kss : List (List ℕ)) → kss ≡ flat_map (λ ks. (ks ++ []) ∷ []) kss
     none [] = refl
-    none (ks ∷ kss) = ap₂ (λ x xs. x ∷ xs) (sym (append-none ks)) (none kss)
+    none (ks ∷ kss) = ap₂ (λ x xs. x ∷ xs) (sym (append-nil ks)) (none kss)
 rising_from-begun rep (suc left) j a m =
     let e : j + suc left ≡ suc j + left = omega arith in
     let n : ℕ = m - reserved rep left in
@@ -403,14 +406,6 @@ begun-few rep j left a m =
 abbrev pub next_begun : Bool → ℕ → ℕ → Begun
 next_begun rep stop k = record { least = next_place rep k; stop = stop }
 
-all_above : (P : ℕ → Type 0) (a n : ℕ) → ((k : ℕ) → a ≤ k → k < a + n → P k)
-    → AllByRecursion P (range_with_len a n)
-all_above P a zero h = tt
-all_above P a (suc n) h = (
-  h a (omega arith) (omega arith),
-  all_above P (a + 1) n (λ k p q. h k (omega (arith, p)) (omega (arith, q))),
-)
-
 next_place-within : (rep : Bool) (k stop : ℕ) → k < stop → next_place rep k ≤ stop
 next_place-within true k stop p = omega (arith, p)
 next_place-within false k stop p = omega (arith, p)
@@ -421,15 +416,11 @@ fits_longer rep left bs h =
     all-each Fits Fits (longer rep left)
     (λ b f. all-map Fits (λ k. record { least = next_place rep k; stop = b.stop })
     (places_from b.least (b.stop - reserved rep left))
-    (all_above (λ k. Fits (record { least = next_place rep k; stop = b.stop })) b.least
+    (all_range (λ k. Fits (record { least = next_place rep k; stop = b.stop })) b.least
     (b.stop - reserved rep left - b.least)
     (λ k p q. (next_place-within rep k b.stop (omega (arith, p, q)), f.1)))) bs h
 
 -- ---- what is made so far
-
-append-by : {X : Type 0} (xs ys zs : List X) → (xs ++ ys) ++ zs ≡ xs ++ (ys ++ zs)
-append-by [] ys zs = refl
-append-by (x ∷ xs) ys zs = ap (λ ws. x ∷ ws) (append-by xs ys zs)
 
 -- one more behind what is made of the places from one on
 pub map_put : {X : Type 0} (f : ℕ → X) (a k : ℕ) (xs ys zs : List X) (x : X) → a ≤ k
@@ -439,7 +430,7 @@ map_put f a k xs ys zs x o e p q =
     let m : k - a + 1 ≡ k + 1 - a = omega (arith, o) in
     let b : a + (k - a) ≡ k = omega (arith, o) in
     p ∙ ap₂ (λ us v. us ++ v ∷ []) e q
-    ∙ append-by xs (map f (range_with_len a (k - a))) (f k ∷ [])
+    ∙ append_assoc xs (map f (range_with_len a (k - a))) (f k ∷ [])
     ∙ ap (λ us. xs ++ us) (sym (map-range_with_len_more f a (k - a) k b))
     ∙ ap (λ n. xs ++ map f (range_with_len a n)) m
 
@@ -450,7 +441,7 @@ range_put a k xs ys zs o e p =
     let m : suc (k - a) ≡ k + 1 - a = omega (arith, o) in
     let b : a + (k - a) ≡ k = omega (arith, o) in
     p ∙ ap (λ us. us ++ k ∷ []) e
-    ∙ append-by xs (range_with_len a (k - a)) (k ∷ [])
+    ∙ append_assoc xs (range_with_len a (k - a)) (k ∷ [])
     ∙ ap (λ j. xs ++ (range_with_len a (k - a) ++ j ∷ [])) (sym b)
     ∙ ap (λ us. xs ++ us) (sym (range-more a (k - a)))
     ∙ ap (λ n. xs ++ range_with_len a n) m

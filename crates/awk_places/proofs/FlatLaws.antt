@@ -4,12 +4,9 @@ use Rattle.std.specs.Prelude.{length, get_or, ℤ}
 use Rattle.std.specs.List.{range_with_len, flat_map, AllByRecursion}
 use Rattle.std.proofs.Common.{arith, ap, ap₂, sym, ◌∙◌}
 use Rattle.std.proofs.lemmas.Grind.{flat_map-append}
-use Rattle.std.proofs.lemmas.List.{map-append}
+use Rattle.std.proofs.lemmas.List.{map-append, append-nil}
+use Rattle.awk_base.proofs.Ranges.{range-last}
 use Rattle.awk_lanes.specs.Counted.{numbers_of_lists}
-
-pub append-none : {X : Type 0} (xs : List X) → xs ++ [] ≡ xs
-append-none [] = refl
-append-none (x ∷ xs) = ap (λ ys. x ∷ ys) (append-none xs)
 
 module _ {X Y Z : Type 0} where
   pub flat-flat : (f : Y → List Z) (g : X → List Y) (xs : List X)
@@ -126,18 +123,6 @@ module _ {Y : Type 0} where
       ap₂ (λ xs ys. xs ++ ys) (h a (omega arith) (omega arith))
       (flat-same-range f g (a + 1) n (λ i p q. h i (omega (arith, p)) (omega (arith, q))))
 
-pub range-more : (a n : ℕ) → range_with_len a (suc n) ≡ range_with_len a n ++ (a + n) ∷ []
-range-more a zero = let e : a ≡ a + 0 = omega arith in ap (λ k. k ∷ []) e
-range-more a (suc n) =
-    let e : a + 1 + n ≡ a + suc n = omega arith in
-    ap (λ ks. a ∷ ks) (range-more (a + 1) n)
-    ∙ ap (λ k. a ∷ (range_with_len (a + 1) n ++ k ∷ [])) e
-
-first-more : (n : ℕ) → range_with_len 0 (suc n) ≡ range_with_len 0 n ++ n ∷ []
-first-more n =
-    let e : 0 + n ≡ n = omega arith in
-    range-more 0 n ∙ ap (λ k. range_with_len 0 n ++ k ∷ []) e
-
 -- the numbers of items of lists, list by list
 pub numbers-flat : (m : ℕ → ℕ) (h : ℕ → ℕ → ℤ) (n : ℕ) → numbers_of_lists m h n
     ≡ flat_map (λ i. map (h i) (range_with_len 0 (m i))) (range_with_len 0 n)
@@ -145,9 +130,9 @@ numbers-flat m h zero = refl
 numbers-flat m h (suc n) =
     ap (λ zs. zs ++ map (h n) (range_with_len 0 (m n))) (numbers-flat m h n)
     ∙ ap (λ zs. flat_map (λ i. map (h i) (range_with_len 0 (m i))) (range_with_len 0 n) ++ zs)
-    (sym (append-none (map (h n) (range_with_len 0 (m n)))))
+    (sym (append-nil (map (h n) (range_with_len 0 (m n)))))
     ∙ sym (flat_map-append (λ i. map (h i) (range_with_len 0 (m i))) (range_with_len 0 n) (n ∷ []))
-    ∙ ap (flat_map (λ i. map (h i) (range_with_len 0 (m i)))) (sym (first-more n))
+    ∙ ap (flat_map (λ i. map (h i) (range_with_len 0 (m i)))) (sym (range-last n))
 
 -- the same of the elements of a list
 pub numbers-each : {X : Type 0} (d : X) (m : ℕ → ℕ) (h : ℕ → ℕ → ℤ) (f : X → ℕ) (g : X → ℕ → ℤ)

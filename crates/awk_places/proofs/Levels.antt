@@ -3,9 +3,9 @@ use Rattle.std.specs.Prelude.{◌≡◌, refl, ℕ, zero, suc, ◌+◌, ◌-◌,
 use Rattle.std.specs.Prelude.{if◌then◌else◌, List, [], ◌∷◌, ◌++◌, length}
 use Rattle.std.specs.List.{range_with_len, flat_map}
 use Rattle.std.proofs.Common.{arith, ap, ap₂, sym, ◌∙◌}
-use Rattle.std.proofs.lemmas.List.{length-append, length-map, map-append}
+use Rattle.std.proofs.lemmas.List.{length-append, length-map, map-append, append-nil}
 use Rattle.std.proofs.lemmas.Simd.{map-map}
-use Rattle.awk_places.proofs.FlatLaws.{append-none, flat-flat, flat-same}
+use Rattle.awk_places.proofs.FlatLaws.{flat-flat, flat-same}
 use Rattle.awk_places.specs.Places.{before_each, place_lists, next_place, rising_places}
 use Rattle.awk_places.specs.Places.{after_each, next_after, places_from, place_count}
 use Rattle.awk_places.specs.Places.{rising_from}
@@ -34,7 +34,7 @@ after_before r s k h (ks ∷ kss) =
 pub place_lists-more : (ms : List ℕ) (m : ℕ) → place_lists (ms ++ m ∷ [])
     ≡ flat_map (λ ks. after_each ks (range_with_len 0 m)) (place_lists ms)
 place_lists-more [] m =
-    singles (range_with_len 0 m) ∙ sym (append-none (after_each [] (range_with_len 0 m)))
+    singles (range_with_len 0 m) ∙ sym (append-nil (after_each [] (range_with_len 0 m)))
 place_lists-more (n ∷ ms) m =
     ap (λ kss. flat_map (λ k. before_each k kss) (range_with_len 0 n)) (place_lists-more ms m)
     ∙ sym (flat-flat (λ ks. after_each ks (range_with_len 0 m))
@@ -74,7 +74,7 @@ last_empty : (g : ℕ → List (List ℕ)) (a d : ℕ) → g (a + d) ≡ []
     → flat_map g (range_with_len a (suc d)) ≡ flat_map g (range_with_len a d)
 last_empty g a zero h =
     let e : a ≡ a + 0 = omega arith in
-    append-none (g a) ∙ ap g e ∙ h
+    append-nil (g a) ∙ ap g e ∙ h
 last_empty g a (suc d) h =
     let e : a + 1 + d ≡ a + suc d = omega arith in
     ap (λ xs. g a ++ xs) (last_empty g (a + 1) d (ap g e ∙ h))
@@ -109,7 +109,7 @@ pub rising_from-more : (rep : Bool) (n a m : ℕ) → rising_from rep (suc n) a 
     ≡ flat_map (λ ks. after_each ks (places_from (next_after rep a ks) m))
     (rising_from rep n a (m - room_after rep))
 rising_from-more rep zero a m =
-    singles (places_from a m) ∙ sym (append-none (after_each [] (places_from a m)))
+    singles (places_from a m) ∙ sym (append-nil (after_each [] (places_from a m)))
 rising_from-more rep (suc n) a m =
     shorter rep n a m
     ∙ flat-same (λ k. before_each k (rising_from rep (suc n) (next_place rep k) m))

@@ -2,7 +2,7 @@
 use Rattle.std.specs.Prelude.{◌≡◌, refl, ℕ, zero, suc, ◌+◌, ◌-◌, ◌*◌, ◌/◌, ◌<◌, ◌≤◌, Bool, true}
 use Rattle.std.specs.Prelude.{false, length}
 use Rattle.std.proofs.Common.{arith, ap, ap₂, sym, ◌∙◌, subst}
-use Rattle.std.proofs.Math.Nat.{mul-add, mul-div_cancel}
+use Rattle.std.proofs.Math.Nat.{mul-add, mul-div_cancel, add-mul}
 use Rattle.awk_places.specs.Paths.{paths}
 use Rattle.awk_places.specs.Places.{rising_places}
 use Rattle.awk_places.proofs.RisingLaws.{rising_count, length-rising_places}
@@ -51,9 +51,6 @@ without_replacement (suc n) (suc a) (suc d) e =
 
 -- ---- one factor more
 
-times_more : (p q k : ℕ) → (p + q) * k ≡ p * k + q * k
-times_more p q k = grind arith
-
 upwards_by : (s a n : ℕ) → a + n ≤ s → paths a (suc n) * suc n ≡ paths a n * (a + n + 1)
 upwards_by s zero n l =
     let e : 1 * suc n ≡ 1 * (0 + n + 1) = omega arith in
@@ -67,7 +64,7 @@ upwards_by (suc s) (suc a) n l =
     let side : paths (suc a) n * suc a ≡ paths a n * (a + n + 1) =
     ap (λ p. p * suc a) (paths-turned (suc a) n) ∙ turned
     ∙ ap₂ (λ p q. p * q) (paths-turned n a) (let e : n + a + 1 ≡ a + n + 1 = omega arith in e) in
-    times_more (paths (suc a) n) (paths a (suc n)) (suc n)
+    add-mul (paths (suc a) n) (paths a (suc n)) (suc n)
     ∙ ap (λ q. paths (suc a) n * suc n + q) (here ∙ sym side)
     ∙ sym (mul-add (paths (suc a) n) (suc n) (suc a))
     ∙ ap (λ k. paths (suc a) n * k) (let e : suc n + suc a ≡ suc a + n + 1 = omega arith in e)

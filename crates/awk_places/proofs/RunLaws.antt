@@ -6,13 +6,14 @@ use Rattle.std.specs.List.{range_with_len, flat_map}
 use Rattle.std.proofs.Common.{arith, ap, ap₂, sym, ◌∙◌, append_assoc}
 use Rattle.std.proofs.Math.Nat.{mul_assoc, mul-div_cancel}
 use Rattle.std.proofs.lemmas.Grind.{flat_map-append}
-use Rattle.std.proofs.lemmas.List.{map-id}
+use Rattle.std.proofs.lemmas.List.{map-id, append-nil}
 use Rattle.std.proofs.lemmas.List.Concat.{flat_map_single}
 use Rattle.std.proofs.lemmas.Simd.{map-map}
+use Rattle.awk_base.proofs.Ranges.{range-more}
 use Rattle.awk_places.specs.Places.{before_each, place_lists, place_count}
 use Rattle.awk_places.specs.Products.{each_times, times, share}
 use Rattle.awk_places.proofs.BegunLaws.{map-always}
-use Rattle.awk_places.proofs.FlatLaws.{append-none, map-flat, flat-same, range-more}
+use Rattle.awk_places.proofs.FlatLaws.{map-flat, flat-same}
 use Rattle.awk_places.proofs.Levels.{length-place_lists}
 use Rattle.awk_places.proofs.PlaceLists.{some_right, drop-count}
 
@@ -24,7 +25,7 @@ module _ {X : Type 0} (f : ℕ → List X) where
   flat-more a n =
       ap (flat_map f) (range-more a n)
       ∙ flat_map-append f (range_with_len a n) ((a + n) ∷ [])
-      ∙ ap (λ ys. flat_map f (range_with_len a n) ++ ys) (append-none (f (a + n)))
+      ∙ ap (λ ys. flat_map f (range_with_len a n) ++ ys) (append-nil (f (a + n)))
 
   -- one more behind what is made of the places from one on
   pub flat_put : (a k : ℕ) (xs ys zs : List X) → a ≤ k
@@ -49,7 +50,7 @@ rows_put f k ys zs e p =
     ∙ ap (λ n. flat_map f (range_with_len 0 n)) m
 
 times-more : (n : ℕ) (xs : List ℕ) → times (suc n) xs ≡ times n xs ++ xs
-times-more zero xs = append-none xs
+times-more zero xs = append-nil xs
 times-more (suc n) xs =
     ap (λ ys. xs ++ ys) (times-more n xs) ∙ sym (append_assoc xs (times n xs) xs)
 
@@ -118,7 +119,7 @@ slot-runs (m ∷ ms) zero c l =
     let e : c + 0 ≡ c = omega arith in
     map-flat (λ ks. c + get_or ks 0 0) (λ k. before_each k (place_lists ms)) (range_with_len 0 m)
     ∙ first_runs c 0 m ms ∙ ap (λ b. each_times (place_count ms) b m) e
-    ∙ sym (append-none (each_times (place_count ms) c m))
+    ∙ sym (append-nil (each_times (place_count ms) c m))
 slot-runs (m ∷ ms) (suc j) c l =
     map-flat (λ ks. c + get_or ks (suc j) 0) (λ k. before_each k (place_lists ms))
     (range_with_len 0 m)

@@ -3,7 +3,6 @@ use Rattle.std.proofs.Common.{◌≡◌, List, [], ◌∷◌, Bool, true, false,
 use Rattle.std.proofs.Common.{String, Global, Less, string_bytes, string_cmp, nat_cmp, is_eq}
 use Rattle.std.proofs.Common.{bytes_eq}
 use Rattle.std.proofs.Common.{refl, ap, sym, ◌∙◌}
-use Rattle.std.specs.Prelude.{◌&&◌}
 use Rattle.std.specs.List.{AllByRecursion}
 use Rattle.std.specs.List.Sorted.{IsStrictlySortedBy}
 use Rattle.std.specs.Cmp.Lexicographic.{slice_cmp}
@@ -13,6 +12,7 @@ use Rattle.serde_json.proofs.Views.{Entry}
 use Rattle.serde_json.specs.Data.{Data, null, boolean, number, string, array, object}
 use Rattle.serde_json.specs.Data.{Items, no_items, item, Members, no_members, member}
 use Rattle.serde_json.specs.View.{members_view}
+use Rattle.std.proofs.lemmas.Bool.{and_parts}
 use Rattle.awk_types.specs.DataType.{DataType, unknown, var, rec, types_from}
 use Rattle.awk_types.specs.Faults.{limit_fault}
 use Rattle.awk_types.specs.Gives.{◌or◌}
@@ -28,10 +28,6 @@ use Rattle.awk_plain.specs.Plain.{items_type, member_types, names_in, one_more, 
 use Rattle.awk_plain.specs.Plain.{items_made, members_made, first_limit, plain_fault}
 use Rattle.awk_plain.specs.Plain.{refused_unless}
 use Rattle.awk_plain.proofs.TypeLaws.{limit_last, limit_item, limit_member}
-
-both : (a b : Bool) → (a && b) ≡ true → (a ≡ true) × (b ≡ true)
-both true b e = (refl, e)
-both false b e = absurd (cc)
 
 mutual
   pub judged : (d : Data) → all_pass is_whole false d ≡ true → all_pass fits true d ≡ true
@@ -56,8 +52,8 @@ mutual
   are_judged t no_items w f l = tt
   are_judged t (item d ds) w f l =
       let u = one_more t (plain_type d) in
-      let a = both (all_pass is_whole false d) (items_pass is_whole false ds) w in
-      let b = both (all_pass fits true d) (items_pass fits true ds) f in
+      let a = and_parts (all_pass is_whole false d) (items_pass is_whole false ds) w in
+      let b = and_parts (all_pass fits true d) (items_pass fits true ds) f in
       let p = or-both (first_limit (types_made d)) (limit u or first_limit (items_made u ds))
       (sym (limit_item t d ds) ∙ l) in
       let q = or-both (limit u) (first_limit (items_made u ds)) p.1 in
@@ -67,8 +63,8 @@ mutual
       → members_pass fits true ms ≡ true → first_limit (members_made ms) ≡ None → HaveJudged ms
   have_judged no_members w f l = tt
   have_judged (member key d ms) w f l =
-      let a = both (all_pass is_whole false d) (members_pass is_whole false ms) w in
-      let b = both (all_pass fits true d) (members_pass fits true ms) f in
+      let a = and_parts (all_pass is_whole false d) (members_pass is_whole false ms) w in
+      let b = and_parts (all_pass fits true d) (members_pass fits true ms) f in
       let p = or-both (first_limit (types_made d)) (first_limit (members_made ms))
       (sym (limit_member key d ms) ∙ l) in
       (judged d a.0 b.0 p.0, have_judged ms a.1 b.1 p.1)

@@ -5,6 +5,7 @@ use Rattle.std.specs.Prelude.{◌&&◌}
 use Rattle.std.specs.List.{AllByRecursion}
 use Rattle.serde_json.specs.Data.{Data, null, boolean, number, string, array, object}
 use Rattle.serde_json.specs.Data.{Items, no_items, item, Members, no_members, member}
+use Rattle.std.proofs.lemmas.Bool.{and_parts}
 use Rattle.awk_types.proofs.SimpleLaws.{each_stays, has_option}
 use Rattle.awk_types.proofs.Trees.{value_list-from}
 use Rattle.awk_types.specs.DataType.{DataType, Name, unknown, leaf, var, rec, opt, types_from}
@@ -29,7 +30,7 @@ use Rattle.awk_plain.specs.Suits.{members_suit, names_of_fields, own_parts, own_
 use Rattle.awk_plain.specs.Suits.{suits, types_of_fields}
 use Rattle.awk_plain.proofs.BelowLaws.{IsBelow, unknown_below}
 use Rattle.awk_plain.proofs.JoinLaws.{Joined, joined}
-use Rattle.awk_plain.proofs.SuitLaws.{both, of_lists, of_prim, of_records, part_simple, suits_below}
+use Rattle.awk_plain.proofs.SuitLaws.{of_lists, of_prim, of_records, part_simple, suits_below}
 use Rattle.awk_plain.proofs.TypeLaws.{plain_simple}
 use Rattle.awk_plain.proofs.TypedLaws.{all_carried, all_push, plain_typed}
 
@@ -53,18 +54,18 @@ mutual
       of_part t (leaf Truths) (truth b) (of_prim Truths (present t) e) tt
   own_typed t (number n) p e =
       of_part t (leaf I64) (int (number_in n))
-      (of_prim I64 (present t) (both (is_of I64 (present t)) (is_int64 n) e).0) p
+      (of_prim I64 (present t) (and_parts (is_of I64 (present t)) (is_int64 n) e).0) p
   own_typed t (string c) p e = absurd p
   own_typed t (array ds) p e =
       let u = item_of (present t) in
-      let f = both (is_of_lists (present t)) (all_suit u ds) e in
+      let f = and_parts (is_of_lists (present t)) (all_suit u ds) e in
       of_part t (var u) (list (values_from (own_values ds))) (of_lists (present t) f.0)
       (subst (AllByRecursion (Has u)) (sym (value_list-from (own_values ds)))
       (own_items_typed u ds p f.1))
   own_typed t (object ms) p e =
       let ns = names_of_fields (present t) in
       let ts = types_of_fields (present t) in
-      let f = both (is_of_records (present t)) (members_suit ns ts ms) e in
+      let f = and_parts (is_of_records (present t)) (members_suit ns ts ms) e in
       of_part t (rec ns (types_from ts)) (row (values_from (own_parts ms)))
       (of_records (present t) f.0)
       (subst (HasRow (types_from ts)) (sym (value_list-from (own_parts ms)))
@@ -74,7 +75,7 @@ mutual
       → AllByRecursion (Has t) (own_values ds)
   own_items_typed t no_items p e = tt
   own_items_typed t (item d ds) p e =
-      let f = both (suits t d) (all_suit t ds) e in
+      let f = and_parts (suits t d) (all_suit t ds) e in
       (own_typed t d p.0 f.0, own_items_typed t ds p.1 f.1)
 
   own_parts_typed : (ns : List Name) (ts : List DataType) (ms : Members) → HavePlain ms
@@ -85,8 +86,8 @@ mutual
   own_parts_typed (n ∷ ns) [] ms p e = absurd (cc)
   own_parts_typed (n ∷ ns) (t ∷ ts) no_members p e = absurd (cc)
   own_parts_typed (n ∷ ns) (t ∷ ts) (member key d ms) p e =
-      let f = both (same_name n key) (suits t d && members_suit ns ts ms) e in
-      let g = both (suits t d) (members_suit ns ts ms) f.1 in
+      let f = and_parts (same_name n key) (suits t d && members_suit ns ts ms) e in
+      let g = and_parts (suits t d) (members_suit ns ts ms) f.1 in
       (own_typed t d p.0 g.0, own_parts_typed ns ts ms p.1 g.1)
 
 -- ---- and the plain value
@@ -100,14 +101,14 @@ mutual
   own_is t (string c) s p e = refl
   own_is t (array ds) s p e =
       let u = item_of (present t) in
-      let f = both (is_of_lists (present t)) (all_suit u ds) e in
+      let f = and_parts (is_of_lists (present t)) (all_suit u ds) e in
       let g : present t ≡ var u = of_lists (present t) f.0 in
       ap (λ vs. list (values_from vs))
       (own_items_are u unknown [] ds (part_simple t (var u) s g) tt tt (unknown_below u) tt p f.1)
   own_is t (object ms) s p e =
       let ns = names_of_fields (present t) in
       let ts = types_of_fields (present t) in
-      let f = both (is_of_records (present t)) (members_suit ns ts ms) e in
+      let f = and_parts (is_of_records (present t)) (members_suit ns ts ms) e in
       let g : present t ≡ rec ns (types_from ts) = of_records (present t) f.0 in
       ap (λ vs. row (values_from vs))
       (own_parts_are ns ts ms (part_simple t (rec ns (types_from ts)) s g) p.1 f.1)
@@ -118,7 +119,7 @@ mutual
       → items_values t vs ds ≡ vs ++ own_values ds
   own_items_are u t vs no_items s x y h a p e = sym (append-nil vs)
   own_items_are u t vs (item d ds) s x y h a p e =
-      let f = both (suits u d) (all_suit u ds) e in
+      let f = and_parts (suits u d) (all_suit u ds) e in
       let b = plain_type d in
       let v = plain_value d in
       let r = unification t b in
@@ -146,8 +147,8 @@ mutual
   own_parts_are (n ∷ ns) [] ms s p e = absurd (cc)
   own_parts_are (n ∷ ns) (t ∷ ts) no_members s p e = absurd (cc)
   own_parts_are (n ∷ ns) (t ∷ ts) (member key d ms) s p e =
-      let f = both (same_name n key) (suits t d && members_suit ns ts ms) e in
-      let g = both (suits t d) (members_suit ns ts ms) f.1 in
+      let f = and_parts (same_name n key) (suits t d && members_suit ns ts ms) e in
+      let g = and_parts (suits t d) (members_suit ns ts ms) f.1 in
       ap₂ (λ v vs. v ∷ vs) (own_is t d s.0 p.0 g.0) (own_parts_are ns ts ms s.1 p.1 g.1)
 
 -- the items of a list

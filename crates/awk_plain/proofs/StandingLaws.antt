@@ -4,6 +4,7 @@ use Rattle.std.proofs.Common.{ap, ap₂, sym, ◌∙◌, subst, Option, Some, No
 use Rattle.std.specs.Prelude.{◌&&◌, IfOk, IfSome}
 use Rattle.serde_json.specs.Data.{Data, null, boolean, number, string, array, object}
 use Rattle.serde_json.specs.Data.{Items, no_items, item, Members, no_members, member}
+use Rattle.std.proofs.lemmas.Bool.{and_parts}
 use Rattle.awk_types.specs.DataType.{DataType, Name, unknown, var}
 use Rattle.awk_types.specs.Limit.{limit}
 use Rattle.awk_types.specs.Names.{same_name}
@@ -16,7 +17,7 @@ use Rattle.awk_plain.specs.Plain.{one_more, plain_fault, plain_type}
 use Rattle.awk_plain.specs.Standing.{Stands}
 use Rattle.awk_plain.specs.Suits.{all_suit, is_int64, is_of, is_of_lists, is_of_records, item_of}
 use Rattle.awk_plain.specs.Suits.{members_suit, names_of_fields, suits, types_of_fields}
-use Rattle.awk_plain.proofs.SuitLaws.{both, suits_adds, suits_within}
+use Rattle.awk_plain.proofs.SuitLaws.{suits_adds, suits_within}
 use Rattle.awk_plain.proofs.TypeLaws.{plain_simple}
 
 -- ---- no text, and whole numbers that fit int64
@@ -39,22 +40,23 @@ mutual
   suits_pass t null e = record { whole = refl; small = refl }
   suits_pass t (boolean b) e = record { whole = refl; small = refl }
   suits_pass t (number n) e =
-      let f = both (is_whole n) (fits n) (both (is_of I64 (present t)) (is_int64 n) e).1 in
+      let f = and_parts (is_whole n) (fits n) (and_parts (is_of I64 (present t)) (is_int64 n)
+          e).1 in
       record { whole = f.0; small = f.1 }
   suits_pass t (string s) e = absurd (cc)
   suits_pass t (array ds) e =
       let u = item_of (present t) in
-      all_suit_pass u ds (both (is_of_lists (present t)) (all_suit u ds) e).1
+      all_suit_pass u ds (and_parts (is_of_lists (present t)) (all_suit u ds) e).1
   suits_pass t (object ms) e =
       let ns = names_of_fields (present t) in
       let ts = types_of_fields (present t) in
-      members_suit_pass ns ts ms (both (is_of_records (present t)) (members_suit ns ts ms) e).1
+      members_suit_pass ns ts ms (and_parts (is_of_records (present t)) (members_suit ns ts ms) e).1
 
   all_suit_pass : (t : DataType) (ds : Items) → all_suit t ds ≡ true
       → Pass (items_pass is_whole false ds) (items_pass fits true ds)
   all_suit_pass t no_items e = record { whole = refl; small = refl }
   all_suit_pass t (item d ds) e =
-      let f = both (suits t d) (all_suit t ds) e in
+      let f = and_parts (suits t d) (all_suit t ds) e in
       pass_both (all_pass is_whole false d) (all_pass fits true d) (items_pass is_whole false ds)
       (items_pass fits true ds) (suits_pass t d f.0) (all_suit_pass t ds f.1)
 
@@ -67,8 +69,8 @@ mutual
   members_suit_pass (n ∷ ns) [] ms e = absurd (cc)
   members_suit_pass (n ∷ ns) (t ∷ ts) no_members e = absurd (cc)
   members_suit_pass (n ∷ ns) (t ∷ ts) (member key d ms) e =
-      let f = both (same_name n key) (suits t d && members_suit ns ts ms) e in
-      let g = both (suits t d) (members_suit ns ts ms) f.1 in
+      let f = and_parts (same_name n key) (suits t d && members_suit ns ts ms) e in
+      let g = and_parts (suits t d) (members_suit ns ts ms) f.1 in
       pass_both (all_pass is_whole false d) (all_pass fits true d) (members_pass is_whole false ms)
       (members_pass fits true ms) (suits_pass t d g.0) (members_suit_pass ns ts ms g.1)
 

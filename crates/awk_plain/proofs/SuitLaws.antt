@@ -1,11 +1,12 @@
 -- What is of a type as it stands: its type is below that one, and no limit is passed in it.
-use Rattle.std.proofs.Common.{◌≡◌, List, [], ◌∷◌, Bool, true, false, refl, ap, sym}
+use Rattle.std.proofs.Common.{◌≡◌, List, [], ◌∷◌, true, false, refl, ap, sym}
 use Rattle.std.proofs.Common.{◌∙◌, subst, None, arith}
 use Rattle.std.specs.Prelude.{◌&&◌}
 use Rattle.std.specs.List.{AllByRecursion}
 use Rattle.std.proofs.lemmas.Grind.{common_steps}
 use Rattle.serde_json.specs.Data.{Data, null, boolean, number, string, array, object}
 use Rattle.serde_json.specs.Data.{Items, no_items, item, Members, no_members, member}
+use Rattle.std.proofs.lemmas.Bool.{and_parts}
 use Rattle.awk_types.proofs.NameLaws.{same_name_is}
 use Rattle.awk_types.proofs.RefusalLaws.{or-None}
 use Rattle.awk_unify.proofs.SameTypeLaws.{same_primitive_is}
@@ -31,10 +32,6 @@ use Rattle.awk_plain.proofs.TypeLaws.{limit_item, limit_last, limit_member, plai
 use Rattle.awk_plain.proofs.TypedLaws.{plain_typed}
 use Rattle.awk_unify.proofs.SimpleLaws.{unify_simple}
 use Rattle.awk_unify.specs.Unify.{unification}
-
-pub both : (a b : Bool) → (a && b) ≡ true → (a ≡ true) × (b ≡ true)
-both true b e = (refl, e)
-both false b e = absurd (cc)
 
 -- ---- the part of a type that a value is of
 
@@ -90,18 +87,18 @@ mutual
       in_present t (leaf Truths) (leaf Truths) (of_prim Truths (present t) e) refl refl
   suits_below t (number n) s p e =
       in_present t (leaf I64) (leaf I64)
-      (of_prim I64 (present t) (both (is_of I64 (present t)) (is_int64 n) e).0) refl refl
+      (of_prim I64 (present t) (and_parts (is_of I64 (present t)) (is_int64 n) e).0) refl refl
   suits_below t (string c) s p e = absurd p
   suits_below t (array ds) s p e =
       let u = item_of (present t) in
-      let f = both (is_of_lists (present t)) (all_suit u ds) e in
+      let f = and_parts (is_of_lists (present t)) (all_suit u ds) e in
       let g : present t ≡ var u = of_lists (present t) f.0 in
       in_present t (var u) (plain_type (array ds)) g refl
       (items_below u unknown ds (part_simple t (var u) s g) tt (unknown_below u) p f.1)
   suits_below t (object ms) s p e =
       let ns = names_of_fields (present t) in
       let ts = types_of_fields (present t) in
-      let f = both (is_of_records (present t)) (members_suit ns ts ms) e in
+      let f = and_parts (is_of_records (present t)) (members_suit ns ts ms) e in
       let g : present t ≡ rec ns (types_from ts) = of_records (present t) f.0 in
       in_present t (rec ns (types_from ts)) (plain_type (object ms)) g refl
       (members_below ns ts ms (part_simple t (rec ns (types_from ts)) s g) p.1 f.1)
@@ -110,7 +107,7 @@ mutual
       → ArePlain ds → all_suit u ds ≡ true → IsBelow u (items_type t ds)
   items_below u t no_items s x h p e = h
   items_below u t (item d ds) s x h p e =
-      let f = both (suits u d) (all_suit u ds) e in
+      let f = and_parts (suits u d) (all_suit u ds) e in
       let b = plain_type d in
       let j : Joined u t b (unification t b) =
       joined u t b s x (plain_simple d) (plain_typed d p.0).0 h (suits_below u d s p.0 f.0) in
@@ -125,8 +122,8 @@ mutual
   members_below (n ∷ ns) [] ms s p e = absurd (cc)
   members_below (n ∷ ns) (t ∷ ts) no_members s p e = absurd (cc)
   members_below (n ∷ ns) (t ∷ ts) (member key d ms) s p e =
-      let f = both (same_name n key) (suits t d && members_suit ns ts ms) e in
-      let g = both (suits t d) (members_suit ns ts ms) f.1 in
+      let f = and_parts (same_name n key) (suits t d && members_suit ns ts ms) e in
+      let g = and_parts (suits t d) (members_suit ns ts ms) f.1 in
       let rest = members_below ns ts ms s.1 p.1 g.1 in (
         ap (λ k. k ∷ names_in ms) (sym (same_name_is n key f.0)) ∙ ap (λ ks. n ∷ ks) rest.0,
         (suits_below t d s.0 p.0 g.0, rest.1),
@@ -195,7 +192,7 @@ mutual
   suits_within t (string c) s l p e = absurd p
   suits_within t (array ds) s l p e =
       let u = item_of (present t) in
-      let f = both (is_of_lists (present t)) (all_suit u ds) e in
+      let f = and_parts (is_of_lists (present t)) (all_suit u ds) e in
       let g : present t ≡ var u = of_lists (present t) f.0 in
       limit_last (items_made unknown ds) (plain_type (array ds))
       ∙ or-None (first_limit (items_made unknown ds)) (limit (plain_type (array ds)))
@@ -205,7 +202,7 @@ mutual
   suits_within t (object ms) s l p e =
       let ns = names_of_fields (present t) in
       let ts = types_of_fields (present t) in
-      let f = both (is_of_records (present t)) (members_suit ns ts ms) e in
+      let f = and_parts (is_of_records (present t)) (members_suit ns ts ms) e in
       let g : present t ≡ rec ns (types_from ts) = of_records (present t) f.0 in
       limit_last (members_made ms) (plain_type (object ms))
       ∙ or-None (first_limit (members_made ms)) (limit (plain_type (object ms)))
@@ -217,7 +214,7 @@ mutual
       → IsBelow u t → ArePlain ds → all_suit u ds ≡ true → first_limit (items_made t ds) ≡ None
   items_within u t no_items s l x h p e = refl
   items_within u t (item d ds) s l x h p e =
-      let f = both (suits u d) (all_suit u ds) e in
+      let f = and_parts (suits u d) (all_suit u ds) e in
       let b = plain_type d in
       let j : Joined u t b (unification t b) =
       joined u t b s x (plain_simple d) (plain_typed d p.0).0 h (suits_below u d s p.0 f.0) in
@@ -237,8 +234,8 @@ mutual
   members_within (n ∷ ns) [] ms s l p e = absurd (cc)
   members_within (n ∷ ns) (t ∷ ts) no_members s l p e = absurd (cc)
   members_within (n ∷ ns) (t ∷ ts) (member key d ms) s l p e =
-      let f = both (same_name n key) (suits t d && members_suit ns ts ms) e in
-      let g = both (suits t d) (members_suit ns ts ms) f.1 in
+      let f = and_parts (same_name n key) (suits t d && members_suit ns ts ms) e in
+      let g = and_parts (suits t d) (members_suit ns ts ms) f.1 in
       limit_member key d ms
       ∙ or-None (first_limit (types_made d)) (first_limit (members_made ms))
       (suits_within t d s.0 l.0 p.0 g.0)

@@ -4,7 +4,7 @@ use Rattle.std.proofs.Common.{false, refl, ap, ◌∙◌, Some, arith, drop, sli
 use Rattle.std.specs.Prelude.{◌&&◌, ◌==◌}
 use Rattle.std.proofs.lemmas.List.{drop_all}
 use Rattle.serde_json.specs.Data.{Data, Members, no_members, member, object}
-use Rattle.awk_types.proofs.ListLaws.{drop-get}
+use Rattle.awk_base.proofs.Lists.{drop-get}
 use Rattle.awk_types.proofs.Trees.{type_list-from}
 use Rattle.awk_types.specs.DataType.{DataType, Name, rec}
 use Rattle.awk_types.specs.Names.{same_name}

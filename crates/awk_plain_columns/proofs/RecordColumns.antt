@@ -4,6 +4,7 @@ use Rattle.std.proofs.Common.{refl, ap, ap₂, sym, ◌∙◌, subst, arith, dro
 use Rattle.std.proofs.Math.Seq.{drop-cons}
 use Rattle.std.proofs.lemmas.List.{drop_all, ext_get_or, length-map}
 use Rattle.serde_json.specs.Data.{Data, null, boolean, number, string, array, object}
+use Rattle.std.proofs.lemmas.Bool.{and_parts}
 use Rattle.awk_types.proofs.Trees.{type_list-from}
 use Rattle.awk_types.specs.DataType.{DataType, DataTypes, Name, unknown, leaf, var, reg, rec, tup}
 use Rattle.awk_types.specs.DataType.{no_types, opt, type, types_from, uni}
@@ -20,7 +21,6 @@ use Rattle.awk_layout.specs.Typing.{array_items, array_type}
 use Rattle.awk_layout.specs.Valid.{AllReach, AreNames, len}
 use Rattle.awk_gather.specs.Arrays.{array_item}
 use Rattle.awk_open.proofs.OpenedKinds.{item-rows, type-rows}
-use Rattle.awk_plain.proofs.SuitLaws.{both}
 use Rattle.awk_plain.specs.Suits.{own_value}
 use Rattle.awk_plain_columns.proofs.RecordLaws.{own_member_list, wide_at}
 use Rattle.awk_plain_columns.proofs.SuitedLaws.{suit_at}
@@ -173,5 +173,5 @@ mutual
       → HaveColumns ts
   have_columns_of no_types h s y = tt
   have_columns_of (type t ts) h s y =
-      let b = both (has_columns t) (have_columns ts) h in
+      let b = and_parts (has_columns t) (have_columns ts) h in
       (columns_of t b.0 s.0 y.0, have_columns_of ts b.1 s.1 y.1)

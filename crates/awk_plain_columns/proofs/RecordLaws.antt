@@ -9,14 +9,14 @@ use Rattle.std.proofs.lemmas.List.{drop_all, drop_more, get_or_append_left, leng
 use Rattle.std.proofs.lemmas.Option.{slice_get-map}
 use Rattle.serde_json.specs.Data.{Data, null, boolean, number, string, array, object}
 use Rattle.serde_json.specs.Data.{Members, no_members, member}
-use Rattle.awk_types.proofs.ListLaws.{drop-get}
+use Rattle.std.proofs.lemmas.Bool.{and_parts}
+use Rattle.awk_base.proofs.Lists.{drop-get}
 use Rattle.awk_types.proofs.Trees.{type_list-from}
 use Rattle.awk_types.specs.DataType.{DataType, DataTypes, Name, depth, depths, greatest, rec}
 use Rattle.awk_types.specs.DataType.{type_list, types_from}
 use Rattle.awk_types.specs.IsType.{count}
 use Rattle.awk_types.specs.Names.{same_name}
 use Rattle.awk_types.specs.View.{NamedType, names_of, types_of}
-use Rattle.awk_plain.proofs.SuitLaws.{both}
 use Rattle.awk_plain.specs.IsPlain.{HavePlain}
 use Rattle.awk_plain.specs.Suits.{members_suit, own_parts, own_value, suits}
 use Rattle.awk_plain_columns.specs.Suited.{AllSuit, AreWide, HasColumns, HaveColumns, Suits}
@@ -38,8 +38,8 @@ members_count [] (t ∷ ts) ms e = absurd (cc)
 members_count (n ∷ ns) [] ms e = absurd (cc)
 members_count (n ∷ ns) (t ∷ ts) no_members e = absurd (cc)
 members_count (n ∷ ns) (t ∷ ts) (member key d ms) e =
-    let f = both (same_name n key) (suits t d && members_suit ns ts ms) e in
-    let g = both (suits t d) (members_suit ns ts ms) f.1 in
+    let f = and_parts (same_name n key) (suits t d && members_suit ns ts ms) e in
+    let g = and_parts (suits t d) (members_suit ns ts ms) f.1 in
     ap suc (members_count ns ts ms g.1)
 
 pub wide_at : (ns : List Name) (ts : DataTypes) (d : Data) → Suits (rec ns ts) d
@@ -72,13 +72,13 @@ member_suits [] (t ∷ ts) ms k u p e at = absurd (cc)
 member_suits (n ∷ ns) [] ms k u p e at = absurd (cc)
 member_suits (n ∷ ns) (t ∷ ts) no_members k u p e at = absurd (cc)
 member_suits (n ∷ ns) (t ∷ ts) (member key d ms) zero u p e at =
-    let f = both (same_name n key) (suits t d && members_suit ns ts ms) e in
-    let g = both (suits t d) (members_suit ns ts ms) f.1 in
+    let f = and_parts (same_name n key) (suits t d && members_suit ns ts ms) e in
+    let g = and_parts (suits t d) (members_suit ns ts ms) f.1 in
     let same : t ≡ u = cc in
     subst (λ w. Suits w d) same (p.0, g.0)
 member_suits (n ∷ ns) (t ∷ ts) (member key d ms) (suc k) u p e at =
-    let f = both (same_name n key) (suits t d && members_suit ns ts ms) e in
-    let g = both (suits t d) (members_suit ns ts ms) f.1 in
+    let f = and_parts (same_name n key) (suits t d && members_suit ns ts ms) e in
+    let g = and_parts (suits t d) (members_suit ns ts ms) f.1 in
     member_suits ns ts ms k u p.1 g.1 at
 
 suits_at : (ns : List Name) (ts : DataTypes) (k : ℕ) (u : DataType) (d : Data)

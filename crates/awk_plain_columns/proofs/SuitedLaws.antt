@@ -13,6 +13,7 @@ use Rattle.serde_json.specs.Data.{Items, no_items, item}
 use Rattle.serde_json.specs.View.{items_view, view}
 use Rattle.serde_json.specs.declared.value.Value as json
 use Rattle.awk_unify.proofs.SameTypeLaws.{same_primitive_is}
+use Rattle.std.proofs.lemmas.Bool.{and_parts}
 use Rattle.awk_types.proofs.Trees.{value_list-from}
 use Rattle.awk_types.specs.DataType.{DataType, unknown, leaf, opt, var}
 use Rattle.awk_types.specs.Has.{Has}
@@ -37,7 +38,6 @@ use Rattle.awk_merge_lists.specs.Leaves.{lane_value}
 use Rattle.awk_frames.proofs.FramedItems.{are-lists}
 use Rattle.awk_frames.proofs.ValueLists.{IsList}
 use Rattle.awk_plain.proofs.OwnValues.{own_typed}
-use Rattle.awk_plain.proofs.SuitLaws.{both}
 use Rattle.awk_plain.specs.IsPlain.{ArePlain}
 use Rattle.awk_plain.specs.Plain.{fits, is_whole}
 use Rattle.awk_plain.specs.Suits.{all_suit, is_int64, is_of, own_value, own_values, suits}
@@ -87,7 +87,7 @@ list_suits : (t : DataType) (ds : Items) → ArePlain ds → all_suit t ds ≡ t
     → AllSuit t (data_list ds)
 list_suits t no_items p e = tt
 list_suits t (item d ds) p e =
-    let f = both (suits t d) (all_suit t ds) e in
+    let f = and_parts (suits t d) (all_suit t ds) e in
     ((p.0, f.0), list_suits t ds p.1 f.1)
 
 pub list_of_suits : (t : DataType) (ds : Items) → ArePlain ds → all_suit t ds ≡ true
@@ -147,7 +147,7 @@ prim_of_truth p b s = same_primitive_is p primitive.Bool s.1
 
 pub prim_of_number : (p : Primitive) (n : Num) → Suits (leaf p) (number n) → p ≡ primitive.I64
 prim_of_number p n s =
-    same_primitive_is p primitive.I64 (both (is_of primitive.I64 (leaf p)) (is_int64 n) s.1).0
+    same_primitive_is p primitive.I64 (and_parts (is_of primitive.I64 (leaf p)) (is_int64 n) s.1).0
 
 truth_again : (b : Bool)
     → lane_value (kind_of primitive.Bool) (lane_number (boolean b)) ≡ own_value (boolean b)
@@ -251,7 +251,7 @@ number_kind p n z s f = subst (λ q. IsOf (kind_of q) (Int z)) (sym (prim_of_num
 pub whole_of : (p : Primitive) (n : Num) → Suits (leaf p) (number n)
     → (is_whole n ≡ true) × (fits n ≡ true)
 whole_of p n s =
-    both (is_whole n) (fits n) (both (is_of primitive.I64 (leaf p)) (is_int64 n) s.1).1
+    and_parts (is_whole n) (fits n) (and_parts (is_of primitive.I64 (leaf p)) (is_int64 n) s.1).1
 
 pub typ_of-Opt : (t : Box Typ Global) → typ_of (Opt t) ≡ opt (typ_of t.value)
 typ_of-Opt t =

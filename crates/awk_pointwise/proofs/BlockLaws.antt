@@ -3,7 +3,7 @@ use Rattle.std.proofs.Common.{◌≡◌, ℕ, zero, suc, ◌+◌, ◌-◌, ◌*�
 use Rattle.std.proofs.Common.{length, map, take, drop, replicate, refl, ap, ap₂, sym, subst, ◌∙◌}
 use Rattle.std.proofs.Common.{arith, length-take, length-drop}
 use Rattle.std.proofs.lemmas.List.{take-append-drop, take-append-le, drop-append-le, take-map}
-use Rattle.std.proofs.lemmas.List.{drop-replicate, take-replicate, drop-map}
+use Rattle.std.proofs.lemmas.List.{drop-replicate, take-replicate, drop-map, map-append}
 use Rattle.std.specs.Prelude.{ℤ, Option, Some, None, Result, Ok, Err}
 use Rattle.std.specs.Prelude.{slice_range}
 use Rattle.std.specs.Simd.Lanes.{zip2}
@@ -88,15 +88,11 @@ numbers-after k (suc n) m b c h =
     ∙ number-take k w b (omega arith))
     (ap (numbers k (n + m)) (drop-append-le w b c l) ∙ numbers-after k n m (drop w b) c d)
 
-map-after : {X Y : Type 0} (f : X → Y) (xs ys : List X) → map f (xs ++ ys) ≡ map f xs ++ map f ys
-map-after f [] ys = refl
-map-after f (x ∷ xs) ys = ap (λ zs. f x ∷ zs) (map-after f xs ys)
-
 lane-after : (k : Kind) (xs ys : List ℤ) → lane_values (column k (xs ++ ys))
     ≡ lane_values (column k xs) ++ lane_values (column k ys)
 lane-after k xs ys =
-    ap (map (leaf_value k)) (map-after (element k) xs ys)
-    ∙ map-after (leaf_value k) (map (element k) xs) (map (element k) ys)
+    ap (map (leaf_value k)) (map-append (element k) xs ys)
+    ∙ map-append (leaf_value k) (map (element k) xs) (map (element k) ys)
 
 pub length-map : {X Y : Type 0} (f : X → Y) (xs : List X) → length (map f xs) ≡ length xs
 length-map f [] = refl

@@ -5,6 +5,8 @@ use Rattle.std.proofs.Common.{inl, inr}
 use Rattle.std.specs.Prelude.{ℤ, pos, Bool, true, false, ◌⊎◌, Option, Some, None, Result, Ok}
 use Rattle.std.specs.Prelude.{if◌then◌else◌}
 use Rattle.std.specs.List.{AllByRecursion}
+use Rattle.std.proofs.lemmas.Bool.{or_parts}
+use Rattle.awk_base.proofs.Every.{all-impl}
 use Rattle.awk_types.specs.Has.{Holds}
 use Rattle.awk_types.specs.Predicates.{is_null}
 use Rattle.awk_primitives.specs.Promotion.{is_whole}
@@ -38,8 +40,7 @@ use Rattle.awk_pointwise.specs.Numbers.{IsTyped}
 use Rattle.awk_pointwise.specs.Sides.{lane_values, leaf_type, side_values, IsSide, IsLeafNumber}
 use Rattle.awk_pointwise.proofs.ChoiceLaws.{FitsIn}
 use Rattle.awk_pointwise.proofs.RangeLaws.{both_whole, first_holds, second_holds, result_whole}
-use Rattle.awk_pointwise.proofs.RangeLaws.{all-weaker}
-use Rattle.awk_pointwise.proofs.ReadyLaws.{IsJudged, judged_ok, neither}
+use Rattle.awk_pointwise.proofs.ReadyLaws.{IsJudged, judged_ok}
 use Rattle.awk_pointwise.proofs.SingleLaws.{zero_held}
 
 -- ---- null, or a leaf of a type
@@ -201,7 +202,7 @@ pub choice_fits : (s t u : LeafType) (p : Primitive) (c x y : Value)
 choice_fits s t u p c x y e a b =
     let j = judged_ok (choice_type t u) (one_overflows t u) p
     (choice_ok (truth_type s) t u p e) in
-    let o = neither (overflows t u) (overflows u t) j.fits in
+    let o = or_parts (overflows t u) (overflows u t) j.fits in
     chosen_fits p c x y (first_leaf t u p x j.typed o.0 a) (second_leaf t u p y j.typed o.1 b)
 
 -- ---- leaves of sides
@@ -300,18 +301,18 @@ module _ (s t u : LeafType) (p : Primitive) (e : choice_judged s t u ≡ Ok p) w
       (choice_ok (truth_type s) t u p e)
 
   neither_past : (overflows t u ≡ false) × (overflows u t ≡ false)
-  neither_past = neither (overflows t u) (overflows u t) both_judged.fits
+  neither_past = or_parts (overflows t u) (overflows u t) both_judged.fits
 
   pub first_fits : (n : ℕ) (x : Side) → leaf_type x ≡ t → IsSide n x → AreKnownSide x
       → AllByRecursion (FitsIn p) (side_values n x)
   first_fits n x i h k =
-      all-weaker (IsLeafAt t) (FitsIn p) (side_values n x)
+      all-impl (IsLeafAt t) (FitsIn p) (side_values n x)
       (λ v l. first_leaf t u p v both_judged.typed neither_past.0 l)
       (subst (λ t. AllByRecursion (IsLeafAt t) (side_values n x)) i (side_leaves n x h k))
 
   pub second_fits : (n : ℕ) (y : Side) → leaf_type y ≡ u → IsSide n y → AreKnownSide y
       → AllByRecursion (FitsIn p) (side_values n y)
   second_fits n y i h k =
-      all-weaker (IsLeafAt u) (FitsIn p) (side_values n y)
+      all-impl (IsLeafAt u) (FitsIn p) (side_values n y)
       (λ v l. second_leaf t u p v both_judged.typed neither_past.1 l)
       (subst (λ t. AllByRecursion (IsLeafAt t) (side_values n y)) i (side_leaves n y h k))

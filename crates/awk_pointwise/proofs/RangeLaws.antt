@@ -7,6 +7,7 @@ use Rattle.std.specs.List.{AllByRecursion}
 use Rattle.std.specs.Ordering.{int_eq}
 use Rattle.std.proofs.lemmas.Int.{ints}
 use Rattle.awk_primitives.specs.Fits.{fits}
+use Rattle.awk_base.proofs.Every.{all-impl}
 use Rattle.awk_types.specs.Has.{least_number, greatest_number, Holds}
 use Rattle.awk_primitives.specs.Promotion.{is_whole, promotion, promotion_whole, is_signed}
 use Rattle.awk_primitives.specs.Promotion.{HoldsAll}
@@ -30,11 +31,6 @@ use Rattle.awk_leaves.specs.declared.leaf_type.LeafType.TheVariants.{Of, Unknown
 use Rattle.awk_pointwise.specs.Numbers.{with_number, all_numbers, IsTyped, AreTyped, IsInt64}
 use Rattle.awk_pointwise.specs.Numbers.{greatest_int64, int_leaves, prim_leaves}
 use Rattle.awk_pointwise.specs.Sides.{IsLeafNumber}
-
-pub all-weaker : {X : Type 0} (P Q : X → Type 0) (xs : List X) → ((x : X) → P x → Q x)
-    → AllByRecursion P xs → AllByRecursion Q xs
-all-weaker P Q [] h a = tt
-all-weaker P Q (x ∷ xs) h a = (h x a.0, all-weaker P Q xs h a.1)
 
 whole_holds : (p : Primitive) (z : ℤ) → is_whole p ≡ true → IsLeafNumber p z → Holds p z
 whole_holds prim.Bool z w h = absurd (cc)
@@ -106,14 +102,14 @@ pub first_holds : (t u : LeafType) (r : Primitive) (zs : List ℤ) → number_ty
 first_holds t u r zs e o a =
     let w = both_whole (type_beside t u) (type_beside u t) r e in
     let h = both_hold (type_beside t u) (type_beside u t) r e in
-    all-weaker (IsTyped t) (Holds r) zs (λ z i. h.0 z (beside_holds t u z w.0 o i)) a
+    all-impl (IsTyped t) (Holds r) zs (λ z i. h.0 z (beside_holds t u z w.0 o i)) a
 
 pub second_holds : (t u : LeafType) (r : Primitive) (zs : List ℤ) → number_type t u ≡ Some r
     → overflows u t ≡ false → AreTyped u zs → AllByRecursion (Holds r) zs
 second_holds t u r zs e o a =
     let w = both_whole (type_beside t u) (type_beside u t) r e in
     let h = both_hold (type_beside t u) (type_beside u t) r e in
-    all-weaker (IsTyped u) (Holds r) zs (λ z i. h.1 z (beside_holds u t z w.1 o i)) a
+    all-impl (IsTyped u) (Holds r) zs (λ z i. h.1 z (beside_holds u t z w.1 o i)) a
 
 -- the primitive of a result is of whole numbers
 pub result_whole : (t u : LeafType) (r : Primitive) → number_type t u ≡ Some r
@@ -136,7 +132,7 @@ holds_int64 prim.U32 z n h = grind (arith, ints, h.0, h.1)
 
 pub all_int64 : (p : Primitive) (zs : List ℤ) → (p ≡ prim.U64 → ⊥) → AllByRecursion (Holds p) zs
     → AllByRecursion IsInt64 zs
-all_int64 p zs n a = all-weaker (Holds p) IsInt64 zs (λ z h. holds_int64 p z n h) a
+all_int64 p zs n a = all-impl (Holds p) IsInt64 zs (λ z h. holds_int64 p z n h) a
 
 -- ---- results
 

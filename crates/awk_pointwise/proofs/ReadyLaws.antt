@@ -1,10 +1,12 @@
 -- What the judged types of an operation tell of the numbers of its sides.
 use Rattle.std.proofs.Common.{◌≡◌, List, refl, ap₂, sym, subst, ◌∙◌}
 use Rattle.std.proofs.Common.{arith, inl, inr}
-use Rattle.std.specs.Prelude.{ℤ, Bool, true, false, ◌||◌, Option, Some, None}
+use Rattle.std.specs.Prelude.{ℤ, Bool, true, false, Option, Some, None}
 use Rattle.std.specs.Prelude.{Result, Ok, if◌then◌else◌}
 use Rattle.std.specs.List.{AllByRecursion}
 use Rattle.std.proofs.lemmas.Int.{ints}
+use Rattle.std.proofs.lemmas.Bool.{or_parts}
+use Rattle.awk_base.proofs.Every.{all-impl}
 use Rattle.awk_types.specs.declared.fault.Fault.{Fault}
 use Rattle.awk_types.specs.declared.primitive.Primitive.{Primitive}
 use Rattle.awk_types.specs.declared.primitive.Primitive.TheVariants as prim
@@ -19,7 +21,7 @@ use Rattle.awk_leaves.specs.declared.operation.Binary.TheVariants.{Calculate, Te
 use Rattle.awk_pointwise.specs.Numbers.{IsTyped, AreTyped, AreReady}
 use Rattle.awk_pointwise.specs.Numbers.{IsInt64}
 use Rattle.awk_pointwise.specs.Sides.{IsLeafNumber}
-use Rattle.awk_pointwise.proofs.RangeLaws.{all-weaker, first_holds, second_holds, result_whole}
+use Rattle.awk_pointwise.proofs.RangeLaws.{first_holds, second_holds, result_whole}
 
 -- ---- what was judged
 
@@ -32,10 +34,6 @@ pub judged_ok : (o : Option Primitive) (past : Bool) (p : Primitive) → judged 
 judged_ok None past p e = absurd (cc)
 judged_ok (Some q) true p e = absurd (cc)
 judged_ok (Some q) false p e = record { typed = cc; fits = refl }
-
-pub neither : (a b : Bool) → a || b ≡ false → (a ≡ false) × (b ≡ false)
-neither true b e = absurd (cc)
-neither false b e = (refl, e)
 
 compared_truths : (alike : Bool) (p : Primitive)
     → (if alike then Some prim.Bool else None) ≡ Some p → p ≡ prim.Bool
@@ -51,7 +49,7 @@ one_int64 z (inr e) = subst IsInt64 (sym e) (grind (arith, ints))
 -- the numbers of truth values fit an i64
 pub truths_int64 : (t : LeafType) (p : Primitive) (zs : List ℤ) → truth_type t ≡ Some p
     → AreTyped t zs → AllByRecursion IsInt64 zs
-truths_int64 (Of prim.Bool) p zs e a = all-weaker (IsTyped (Of prim.Bool)) IsInt64 zs one_int64 a
+truths_int64 (Of prim.Bool) p zs e a = all-impl (IsTyped (Of prim.Bool)) IsInt64 zs one_int64 a
 truths_int64 (Of prim.I8) p zs e a = absurd (cc)
 truths_int64 (Of prim.I16) p zs e a = absurd (cc)
 truths_int64 (Of prim.I32) p zs e a = absurd (cc)
@@ -61,7 +59,7 @@ truths_int64 (Of prim.U16) p zs e a = absurd (cc)
 truths_int64 (Of prim.U32) p zs e a = absurd (cc)
 truths_int64 (Of prim.U64) p zs e a = absurd (cc)
 truths_int64 Unknown p zs e a =
-    all-weaker (IsTyped Unknown) IsInt64 zs (λ z h. absurd h) a
+    all-impl (IsTyped Unknown) IsInt64 zs (λ z h. absurd h) a
 truths_int64 (Literal y) p zs e a = absurd (cc)
 
 pub truths_bool : (t : LeafType) (p : Primitive) → truth_type t ≡ Some p → p ≡ prim.Bool
@@ -95,7 +93,7 @@ pub are_ready : (op : Binary) (t u : LeafType) (p : Primitive) (xs ys : List ℤ
     → binary_judged op t u ≡ Ok p → AreTyped t xs → AreTyped u ys → AreReady op p xs ys
 are_ready (Calculate op) t u p xs ys e a b =
     let j = judged_ok (number_type t u) (one_overflows t u) p e in
-    let fit = neither (overflows t u) (overflows u t) j.fits in (
+    let fit = or_parts (overflows t u) (overflows u t) j.fits in (
       result_whole t u p j.typed,
       first_holds t u p xs j.typed fit.0 a,
       second_holds t u p ys j.typed fit.1 b,

@@ -1,12 +1,13 @@
 -- What a mask chooses, of numbers and of the values that they are.
 use Rattle.std.proofs.Common.{◌≡◌, ℕ, zero, suc, ◌+◌, ◌-◌, ◌==◌, ◌≤◌, Bool, true, false, refl, ap}
 use Rattle.std.proofs.Common.{ap₂, sym, subst, ◌∙◌, arith, inl, inr}
-use Rattle.std.specs.Prelude.{ℤ, pos, List, [], ◌∷◌, map, length, get_or, take, drop, cond}
+use Rattle.std.specs.Prelude.{ℤ, pos, List, [], ◌∷◌, map, length, get_or, cond}
 use Rattle.std.specs.Prelude.{slice_range, Ok, if◌then◌else◌}
 use Rattle.std.specs.List.{AllByRecursion, range_with_len}
 use Rattle.std.specs.Simd.Lanes.{zip2}
 use Rattle.std.proofs.lemmas.Int.{ints}
 use Rattle.std.proofs.lemmas.List.{length-map}
+use Rattle.awk_base.proofs.Every.{all-part}
 use Rattle.awk_types.specs.Predicates.{is_null}
 use Rattle.awk_types.specs.Value.{Value}
 use Rattle.awk_types.specs.declared.primitive.Primitive.{Primitive}
@@ -144,22 +145,6 @@ lists_chosen k (m ∷ ms) (x ∷ xs) (y ∷ ys) a b =
     ap₂ (λ v vs. v ∷ vs) (one_chosen k m x y a.0 b.0) (lists_chosen k ms xs ys a.1 b.1)
 
 -- ---- parts
-
-all-drop : {A : Type 0} (P : A → Type 0) (n : ℕ) (xs : List A) → AllByRecursion P xs
-    → AllByRecursion P (drop n xs)
-all-drop P zero xs a = a
-all-drop P (suc n) [] a = tt
-all-drop P (suc n) (x ∷ xs) a = all-drop P n xs a.1
-
-all-take : {A : Type 0} (P : A → Type 0) (n : ℕ) (xs : List A) → AllByRecursion P xs
-    → AllByRecursion P (take n xs)
-all-take P zero xs a = tt
-all-take P (suc n) [] a = tt
-all-take P (suc n) (x ∷ xs) a = (a.0, all-take P n xs a.1)
-
-all-part : {A : Type 0} (P : A → Type 0) (xs : List A) (lo hi : ℕ) → AllByRecursion P xs
-    → AllByRecursion P (slice_range xs lo hi)
-all-part P xs lo hi a = all-take P (hi - lo) (drop lo xs) (all-drop P lo xs a)
 
 pub values_ok : (vs : List Value) → all_values (map (λ v. Ok v) vs) ≡ Ok vs
 values_ok [] = refl

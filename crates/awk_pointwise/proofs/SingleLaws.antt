@@ -8,6 +8,7 @@ use Rattle.std.specs.List.{AllByRecursion}
 use Rattle.std.specs.Ordering.{int_eq}
 use Rattle.std.specs.Simd.Lanes.{zip2}
 use Rattle.std.proofs.lemmas.Int.{ints}
+use Rattle.awk_base.proofs.Every.{all-impl}
 use Rattle.awk_types.specs.Faults.{fault_told}
 use Rattle.awk_types.specs.Gives.{Gives, Told}
 use Rattle.awk_types.specs.Has.{least_number, greatest_number, Holds}
@@ -50,7 +51,7 @@ use Rattle.awk_pointwise.proofs.CalculatedLaws.{read_truth}
 use Rattle.awk_lanes.specs.Ranges.{AreNumbers}
 use Rattle.awk_lanes.proofs.RangeLaws.{fits_64}
 use Rattle.awk_pointwise.proofs.BlockLaws.{part-map, part_is, length-map, length-side}
-use Rattle.awk_pointwise.proofs.RangeLaws.{all-weaker, beside_holds, results_numbers}
+use Rattle.awk_pointwise.proofs.RangeLaws.{beside_holds, results_numbers}
 use Rattle.awk_pointwise.proofs.SideLaws.{all-map, all-replicate}
 use Rattle.awk_pointwise.proofs.ReadyLaws.{judged_ok, truths_bool}
 
@@ -371,7 +372,7 @@ sign_ready t p zs e o a =
     let first : is_whole (type_beside t Unknown) ≡ true = ap is_whole w.beside ∙ w.whole in (
       w.whole,
       subst (λ p. AllByRecursion (Holds p) zs) w.beside
-          (all-weaker (IsTyped t) (Holds (type_beside t Unknown)) zs
+          (all-impl (IsTyped t) (Holds (type_beside t Unknown)) zs
           (λ z h. beside_holds t Unknown z first o h) a),
     )
 

@@ -10,6 +10,7 @@ use Rattle.std.proofs.lemmas.List.{get_or-replicate, length-append}
 use Rattle.std.proofs.lemmas.List.{get_or_append_left, get_or_push}
 use Rattle.std.proofs.lemmas.List.FromFn.{get_or-map-range_with_len, length-map-range_with_len}
 use Rattle.std.proofs.lemmas.Simd.{map-map}
+use Rattle.awk_base.proofs.Ranges.{map-same}
 use Rattle.awk_types.specs.Value.{int}
 use Rattle.awk_lanes.specs.Column.{Column}
 use Rattle.awk_lanes.specs.Counted.{before}
@@ -20,7 +21,6 @@ use Rattle.awk_layout.specs.Layout.{Layout, empty}
 use Rattle.awk_layout.specs.Valid.{len}
 use Rattle.awk_layout.proofs.Runs.{length-run}
 use Rattle.awk_gather.specs.Arrays.{array_item}
-use Rattle.awk_columns.proofs.ArrayLaws.{map-same}
 use Rattle.awk_places.specs.Places.{place_lists}
 use Rattle.awk_places.specs.Products.{AreCounts, AreSpansOf, no_lane, lengths_at, product_count}
 use Rattle.awk_places.specs.Products.{product_place, product_lane, product_lanes}

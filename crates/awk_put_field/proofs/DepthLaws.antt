@@ -5,6 +5,7 @@ use Rattle.std.proofs.Common.{refl, ap, ◌∙◌, arith}
 use Rattle.std.proofs.lemmas.Grind.{common_steps}
 use Rattle.std.specs.Prelude.{List, [], ◌∷◌, map, get_or, sum, Option, Some, None, ◌||◌}
 use Rattle.std.specs.Prelude.{nat_lt, if◌then◌else◌}
+use Rattle.std.proofs.Math.Bool.{or-false}
 use Rattle.awk_types.specs.DataType.{Name, DataType, DataTypes, unknown, leaf, var, reg, rec, tup}
 use Rattle.awk_types.specs.DataType.{opt, uni, no_types, type, type_list, types_from, depth, depths}
 use Rattle.awk_types.specs.DataType.{greatest, nodes, nodes_each}
@@ -43,10 +44,6 @@ depths-from (t ∷ ts) = ap (λ ds. depth t ∷ ds) (depths-from ts)
 depths-list : (ts : DataTypes) → map depth (type_list ts) ≡ depths ts
 depths-list no_types = refl
 depths-list (type t ts) = ap (λ ds. depth t ∷ ds) (depths-list ts)
-
-pub or-false : (b : Bool) → (b || false) ≡ b
-or-false true = refl
-or-false false = refl
 
 one-few : (b : Bool) → one_if b ≤ 1
 one-few true = omega arith

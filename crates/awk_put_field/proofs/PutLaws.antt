@@ -7,7 +7,7 @@ use Rattle.std.proofs.lemmas.List.{take_all}
 use Rattle.std.proofs.lemmas.Bool.{or_from, or_parts}
 use Rattle.awk_types.specs.DataType.{Name}
 use Rattle.awk_types.specs.Names.{same_name, is_among, AreDistinct}
-use Rattle.awk_types.proofs.ListLaws.{take-get}
+use Rattle.awk_base.proofs.Lists.{take-get}
 use Rattle.awk_types.proofs.NameLaws.{same_name_is, same_name-refl}
 use Rattle.awk_layout.specs.Layout.{Layout, layouts_from, empty}
 use Rattle.awk_layout.specs.Valid.{len, AllReach}

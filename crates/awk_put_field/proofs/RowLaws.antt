@@ -1,9 +1,10 @@
 -- Records that are rows of columns, with a column as the field of a name.
 use Rattle.std.proofs.Common.{◌≡◌, ℕ, ◌<◌, refl, ap, arith, sym, ◌∙◌}
-use Rattle.std.specs.Prelude.{List, [], ◌∷◌, map, Some, Result, Ok, Err, IfOk}
+use Rattle.std.specs.Prelude.{List, [], ◌∷◌, map, Some}
 use Rattle.std.specs.List.{range_with_len}
 use Rattle.std.specs.Simd.Lanes.{zip2}
 use Rattle.std.proofs.lemmas.Simd.{zip2_of_maps}
+use Rattle.awk_base.proofs.Ranges.{map-same}
 use Rattle.awk_types.specs.DataType.{Name, rec, types_from}
 use Rattle.awk_types.specs.Value.{row, values_from, value_list}
 use Rattle.awk_types.proofs.Trees.{type_list-from}
@@ -13,7 +14,7 @@ use Rattle.awk_layout.specs.Valid.{len}
 use Rattle.awk_gather.specs.Arrays.{array_item}
 use Rattle.awk_open.proofs.OpenedKinds.{item-rows, type-rows}
 use Rattle.awk_columns.specs.Opened.{across, OpensRow}
-use Rattle.awk_columns.proofs.ArrayLaws.{array_items-at, map-same}
+use Rattle.awk_columns.proofs.ArrayLaws.{array_items-at}
 use Rattle.awk_put_field.specs.Field.{put, named, names_in, field_type, field_value}
 use Rattle.awk_put_field.proofs.PutLaws.{map-put}
 
@@ -60,8 +61,3 @@ module _ (n : Name) (ns : List Name) (k : ℕ) (v x : Layout) (ys : List Layout)
       ∙ sym (ap (λ t. field_type n t (array_type v)) o.typ
       ∙ ap (λ ts. rec (named n ns) (types_from (put n ns (array_type v) ts)))
       (type_list-from (map array_type ys)))
-
-pub if_ok : {A E : Type 0} (P Q : A → Type 0) (r : Result A E) → ((a : A) → P a → Q a)
-    → IfOk r P → IfOk r Q
-if_ok P Q (Ok a) f h = f a h
-if_ok P Q (Err e) f h = h

@@ -5,7 +5,8 @@ use Rattle.std.proofs.Common.{add-one, refl, ap, sym, ◌∙◌, map, length-tak
 use Rattle.std.proofs.Common.{get_or-take, get_or-drop}
 use Rattle.std.proofs.lemmas.List.{ext_get_or, take-map, drop-map}
 use Rattle.std.proofs.lemmas.List.FromFn.{length-map-range_with_len, get_or-map-range_with_len}
-use Rattle.std.proofs.lemmas.Nat.{mul-le, row_fits}
+use Rattle.std.proofs.lemmas.Nat.{row_fits}
+use Rattle.awk_base.proofs.Numbers.{times-le}
 use Rattle.awk_types.specs.DataType.{Name, type, row_type, reg}
 use Rattle.awk_types.specs.Simple.{simple, simple_value}
 use Rattle.awk_types.specs.Value.{value, row, list, null}
@@ -106,9 +107,6 @@ minus-times lo hi c h =
     let f : hi * c ≡ (lo + d) * c = ap (λ m. m * c) e in
     let g : (lo + d) * c ≡ lo * c + d * c = omega arith in
     omega arith
-
-pub times-le : (a b c : ℕ) → a ≤ b → a * c ≤ b * c
-times-le a b c h = mul-le a c b c h (omega arith)
 
 -- k items from a place on, of a part and of the whole
 run_part : (x r : Layout) (lo hi a k : ℕ) → IsPart x lo hi r → a + k ≤ hi - lo

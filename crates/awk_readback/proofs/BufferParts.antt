@@ -2,10 +2,10 @@
 use Rattle.std.proofs.Common.{◌≡◌, ◌<◌, ◌≤◌, ℕ, suc, ◌+◌, ◌*◌, false, List, [], ◌∷◌, ◌++◌, length}
 use Rattle.std.proofs.Common.{map, get_or, None, Ok, Option, refl, ap, ap₂, subst, ◌∙◌, arith}
 use Rattle.std.proofs.Common.{length-append, ℤ, pos}
-use Rattle.std.specs.Prelude.{filter, nat_lt}
+use Rattle.std.specs.Prelude.{filter}
 use Rattle.std.specs.List.{flat_map, AllByRecursion}
 use Rattle.std.proofs.lemmas.Grind.{flat_map-append}
-use Rattle.std.proofs.lemmas.Bool.Decides.{nat_tests}
+use Rattle.awk_base.proofs.Truths.{nat_lt-none}
 use Rattle.awk_types.specs.Gives.{◌or◌}
 use Rattle.awk_types.specs.DataType.{Name, DataType, unknown, leaf, var, reg, rec, tup, opt, uni}
 use Rattle.awk_types.specs.DataType.{DataTypes, no_types, type, nodes}
@@ -143,9 +143,6 @@ pub num-read : (c : Container) (key : Option Name) (attribute : List ℕ) (k : K
     → num c.big k (bytes_at c key attribute) i ≡ get_or zs i (pos 0)
 num-read c key attribute k zs i e h l =
     ap₂ (λ b r. num b k (bytes_or_none r) i) e.0 e.1 ∙ num-lane_bytes k zs i h l
-
-nat_lt-none : (a b : ℕ) → b ≤ a → nat_lt a b ≡ false
-nat_lt-none a b h = grind (arith, nat_tests)
 
 -- there are as many bytes as are needed
 pub bytes-well : (c : Container) (key : Option Name) (attribute : List ℕ) (k : Kind) (n : ℕ)

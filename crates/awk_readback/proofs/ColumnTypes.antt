@@ -3,6 +3,7 @@ use Rattle.std.proofs.Common.{◌≡◌, ◌<◌, ◌≤◌, ℕ, zero, suc, ◌
 use Rattle.std.proofs.Common.{[], ◌∷◌, length, map, drop, get_or, refl, ap, arith, length-append}
 use Rattle.std.specs.Prelude.{filter, ◌==◌}
 use Rattle.std.specs.List.{AllByRecursion}
+use Rattle.awk_base.proofs.Every.{all-append}
 use Rattle.awk_types.specs.DataType.{DataType, unknown, var, reg, rec, tup, opt, uni, DataTypes}
 use Rattle.awk_types.specs.DataType.{no_types, type, type_list}
 use Rattle.awk_types.specs.Value.{Value, null, list, row, alt, values_from}
@@ -11,7 +12,7 @@ use Rattle.awk_types.proofs.Trees.{values_from-list}
 use Rattle.awk_columns.specs.Columns.{list_items, joined_items, row_parts, part_at, is_present}
 use Rattle.awk_columns.specs.Columns.{tag_of, given_to, alternative_values}
 use Rattle.awk_readback.proofs.IndexLanes.{IsAlternative}
-use Rattle.awk_readback.proofs.ValueLists.{map-all, all-append}
+use Rattle.awk_readback.proofs.ValueLists.{map-all}
 
 -- no value is of type unknown
 pub none-unknown : (vs : List Value) → AllByRecursion (Has unknown) vs → length vs ≡ 0

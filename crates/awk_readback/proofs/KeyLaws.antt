@@ -7,7 +7,7 @@ use Rattle.std.specs.List.{AllByRecursion}
 use Rattle.std.proofs.lemmas.Fmt.{decimal_by_steps, decimal_injective}
 use Rattle.std.proofs.lemmas.List.{append_cancel_left}
 use Rattle.std.proofs.lemmas.List.Folds.{list_any-append}
-use Rattle.std.proofs.lemmas.Grind.{common_steps}
+use Rattle.awk_base.proofs.Sums.{sum-cons}
 use Rattle.awk_types.specs.DataType.{Name, DataType, unknown, leaf, var, reg, rec, tup, opt, uni}
 use Rattle.awk_types.specs.DataType.{DataTypes, no_types, type, nodes, nodes_each}
 use Rattle.awk_types.specs.Names.{AreDistinct, is_among, same_name}
@@ -77,9 +77,6 @@ below : (k n : ℕ) (names : List Name) → AreWithin (suc k) (suc k + n) names
     → AreWithin k (k + suc n) names
 below k n names h =
     wider (suc k) (suc k + n) k (k + suc n) names (omega arith) (omega arith) h
-
-sum-cons : (n : ℕ) (ns : List ℕ) → sum (n ∷ ns) ≡ n + sum ns
-sum-cons n ns = grind (arith, common_steps)
 
 own : (k n : ℕ) (a : List ℕ) → IsWithin k (k + suc n) (key_at k a)
 own k n a = (k, omega arith, omega arith, (a, refl))

@@ -3,6 +3,7 @@ use Rattle.std.proofs.Common.{◌≡◌, ℕ, ◌*◌, ◌<◌, List, [], ◌∷
 use Rattle.std.proofs.Common.{refl, ap, sym, ◌∙◌, arith, length-append, ℤ, pos, false}
 use Rattle.std.specs.List.{flat_map, AllByRecursion}
 use Rattle.std.proofs.lemmas.List.{take_all, take-append-le}
+use Rattle.std.proofs.Math.Seq.{drop-append_seam}
 use Rattle.awk_lanes.specs.declared.kind.Kind.{Kind}
 use Rattle.awk_lanes.specs.declared.kind.Kind.TheVariants.{Bool as Truths, I8, I16, I32, I64, U8}
 use Rattle.awk_lanes.specs.declared.kind.Kind.TheVariants.{U16, U32, U64}
@@ -41,10 +42,6 @@ number-held : (k : Kind) (z : ℤ) → IsHeld k z → number k (bytes_of k z) �
 number-held k z h =
     ap (λ y. number k (bytes_of k y)) (sym h.2) ∙ number-bytes_of k h.0 h.1 ∙ h.2
 
-drop-own : (bs rest : List ℕ) → drop (length bs) (bs ++ rest) ≡ rest
-drop-own [] rest = refl
-drop-own (b ∷ bs) rest = drop-own bs rest
-
 -- the bytes of one number stand before the others
 first-number : (k : Kind) (z : ℤ) (rest : List ℕ) → IsHeld k z → number k (bytes_of k z ++ rest) ≡ z
 first-number k z rest h =
@@ -58,7 +55,7 @@ first-number k z rest h =
 other-bytes : (k : Kind) (z : ℤ) (rest : List ℕ) → drop (width k) (bytes_of k z ++ rest) ≡ rest
 other-bytes k z rest =
     ap (λ n. drop n (bytes_of k z ++ rest)) (sym (length-bytes_of k z))
-    ∙ drop-own (bytes_of k z) rest
+    ∙ drop-append_seam (bytes_of k z) rest
 
 numbers-lane_bytes : (k : Kind) (zs : List ℤ) → AllByRecursion (IsHeld k) zs
     → numbers k (length zs) (flat_map (bytes_of k) zs) ≡ zs

@@ -17,11 +17,6 @@ pub map-all : (P Q : Value → Type 0) → ((v : Value) → P v → Q v) → (vs
 map-all P Q f [] h = tt
 map-all P Q f (v ∷ vs) h = (f v h.0, map-all P Q f vs h.1)
 
-pub all-append : (P : Value → Type 0) (vs ws : List Value) → AllByRecursion P vs
-    → AllByRecursion P ws → AllByRecursion P (vs ++ ws)
-all-append P [] ws h k = k
-all-append P (v ∷ vs) ws h k = (h.0, all-append P vs ws h.1 k)
-
 -- ---- values by place
 
 -- a function gives the value at each place

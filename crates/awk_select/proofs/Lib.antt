@@ -1,5 +1,4 @@
 pub mod Worked
-pub mod Lists
 pub mod RangePlaces
 pub mod CellLaws
 pub mod PickedPlaces

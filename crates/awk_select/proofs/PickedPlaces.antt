@@ -4,10 +4,14 @@ use Rattle.std.proofs.Common.{length, get_or, take, arith, refl, ap, ap₂, sym,
 use Rattle.std.proofs.Common.{true≢false, ltb-true}
 use Rattle.std.specs.Prelude.{ℤ, pos, negsuc, ◌<ℤ◌, Bool, true, false, ◌||◌, nat_lt, Option}
 use Rattle.std.specs.Prelude.{Some, None, is_none, if◌then◌else◌}
-use Rattle.std.specs.List.{range_with_len, flat_map, list_any, AllByRecursion}
+use Rattle.std.specs.List.{range_with_len, list_any, AllByRecursion}
 use Rattle.std.proofs.lemmas.Int.{ints}
-use Rattle.std.proofs.lemmas.List.{get_or-map, length-map, map-append}
+use Rattle.std.proofs.lemmas.List.{get_or-map, length-map, map-append, append-nil}
 use Rattle.std.proofs.lemmas.List.Folds.{list_any_more}
+use Rattle.std.proofs.lemmas.Bool.{or_parts}
+use Rattle.std.proofs.lemmas.Simd.{map-map}
+use Rattle.awk_base.proofs.Lists.{map-by}
+use Rattle.awk_base.proofs.Every.{all-each}
 use Rattle.awk_types.specs.DataType.{DataType, unknown, leaf, var, reg, rec, tup, opt, uni}
 use Rattle.awk_types.specs.Has.{Has}
 use Rattle.awk_types.specs.Simple.{is_option, present, simple_value}
@@ -34,12 +38,7 @@ use Rattle.awk_select.specs.Picks.{picked, is_truths, is_mask, mask_place, mask_
 use Rattle.awk_types.specs.WholeNumbers.{is_numbers}
 use Rattle.awk_select.specs.Picks.{is_index, take_place, take_places, is_outside}
 use Rattle.awk_select.specs.Places.{place_in}
-use Rattle.awk_select.proofs.Lists.{map-map, each_of, each_of-more, each_of-room, length-each_of}
-
-map-same : {X Y : Type 0} (f g : X → Y) → ((x : X) → f x ≡ g x) → (xs : List X)
-    → map f xs ≡ map g xs
-map-same f g h [] = refl
-map-same f g h (x ∷ xs) = ap₂ (λ y ys. y ∷ ys) (h x) (map-same f g h xs)
+use Rattle.awk_base.proofs.Each.{each_of, each_of-more, each_of-room, length-each_of}
 
 -- the items of a lane of places, and null at each -1
 number-item : (f : ℕ → Value) (o : Option ℕ)
@@ -52,7 +51,7 @@ pub pick-picked : (vs : List Value) (os : List (Option ℕ)) (p : Column) → p 
 pick-picked vs os p e =
     ap (λ (c : Column). pick vs c.items) e
     ∙ map-map (λ z. at_option (option_place z) (λ k. get_or vs k null)) place_number os
-    ∙ map-same _ _ (number-item (λ k. get_or vs k null)) os
+    ∙ map-by _ _ (number-item (λ k. get_or vs k null)) os
 
 -- ---- lanes of places
 
@@ -164,10 +163,6 @@ made-pushed m n i z y old new l e g q h = record {
       ∙ sym (numbers-more m i l);
 }
 
-append-none : {X : Type 0} (xs : List X) → xs ++ [] ≡ xs
-append-none [] = refl
-append-none (x ∷ xs) = ap (λ ys. x ∷ ys) (append-none xs)
-
 pub made-none : (m : Layout) (n i : ℕ) (old : Making) → i < len m → [] ≡ mask_numbers m i
     → IsMade n (mask_first (array_items m) i) old
     → IsMade n (mask_first (array_items m) (i + 1)) old
@@ -175,7 +170,7 @@ made-none m n i old l e h = record {
   kind = h.kind;
   room = h.room;
   items =
-      h.items ∙ sym (append-none _) ∙ ap (λ zs. map place_number (mask_first (array_items m) i) ++
+      h.items ∙ sym (append-nil _) ∙ ap (λ zs. map place_number (mask_first (array_items m) i) ++
       zs) e ∙ sym (numbers-more m i l);
 }
 
@@ -219,19 +214,6 @@ count-whole m i n e h =
     h ∙ ap (λ j. length (mask_first (array_items m) j)) e ∙ sym (ap length (mask-whole m))
 
 -- ---- each place that a mask gives
-
-all-append : {X : Type 0} (P : X → Type 0) (xs ys : List X) → AllByRecursion P xs
-    → AllByRecursion P ys → AllByRecursion P (xs ++ ys)
-all-append P [] ys h g = g
-all-append P (x ∷ xs) ys h g = (h.0, all-append P xs ys h.1 g)
-
-all-each : {X : Type 0} (P : X → Type 0) (f : ℕ → List X) (a m : ℕ)
-    → ((i : ℕ) → i < a + m → AllByRecursion P (f i))
-    → AllByRecursion P (flat_map f (range_with_len a m))
-all-each P f a zero h = tt
-all-each P f a (suc m) h =
-    all-append P (f a) (flat_map f (range_with_len (a + 1) m)) (h a (omega arith))
-    (all-each P f (a + 1) m (λ i l. h i (omega arith)))
 
 mask_place-below : (n k : ℕ) (v : Value) → k < n → AllByRecursion (IsBelow n) (mask_place k v)
 mask_place-below n k (truth true) h = (h, tt)
@@ -338,16 +320,12 @@ take_place-there n p (list vs) m t h = absurd t
 take_place-there n p (row vs) m t h = absurd t
 take_place-there n p (alt j v) m t h = absurd t
 
-or-parts : (a b : Bool) → (a || b) ≡ false → (a ≡ false) × (b ≡ false)
-or-parts true b h = absurd (true≢false h)
-or-parts false b h = (refl, h)
-
 leaves-there : (n : ℕ) (p : Primitive) (ws : List Value) → is_numbers (leaf p) ≡ true
     → AllByRecursion (Has (leaf p)) ws → list_any (is_outside n) ws ≡ false
     → AllByRecursion (IsThere n) (take_places n ws)
 leaves-there n p [] m t h = tt
 leaves-there n p (w ∷ ws) m t h =
-    let e = or-parts (is_outside n w) (list_any (is_outside n) ws) h in
+    let e = or_parts (is_outside n w) (list_any (is_outside n) ws) h in
     (take_place-there n p w m t.0 e.0, leaves-there n p ws m t.1 e.1)
 
 unknown-there : (n : ℕ) (ws : List Value) → AllByRecursion (Has unknown) ws
@@ -392,11 +370,6 @@ none-more p vs i l h g = list_any_more p vs i null l ∙ ap₂ (λ a b. a || b) 
 pub lane-ext : (p : Column) (k : Kind) (zs : List ℤ) → p.kind ≡ k → p.items ≡ zs → p ≡
     record { kind = k; items = zs }
 lane-ext p k zs e h = ap₂ (λ k zs. record { kind = k; items = zs }) e h
-
--- no number is none
-pub none_left : {X : Type 0} (o : Option X) → ((k : X) → o ≡ Some k → ⊥) → o ≡ None
-none_left None h = refl
-none_left (Some k) h = absurd (h k refl)
 
 -- ---- a mask has leaves
 

@@ -7,6 +7,7 @@ use Rattle.std.specs.Prelude.{ℤ, pos, negsuc, Option, Some, None}
 use Rattle.std.specs.List.{range_with_len}
 use Rattle.std.proofs.lemmas.List.{ext_get_or}
 use Rattle.std.proofs.lemmas.List.FromFn.{length-map-range_with_len, get_or-map-range_with_len}
+use Rattle.std.proofs.lemmas.Simd.{map-map}
 use Rattle.awk_types.specs.Value.{Value, null}
 use Rattle.awk_lanes.specs.declared.kind.Kind.TheVariants.{I64}
 use Rattle.awk_lanes.specs.Column.{Column}
@@ -18,7 +19,6 @@ use Rattle.awk_columns.proofs.ReachedContents.{places_index}
 use Rattle.awk_select.specs.Picks.{items_at}
 use Rattle.awk_select.specs.Places.{bound_up, bound_down, multiples_below, places_up, places_down}
 use Rattle.awk_select.specs.Places.{range_places}
-use Rattle.awk_select.proofs.Lists.{map-map}
 
 -- ---- multiples of a step
 

@@ -3,6 +3,7 @@ use Rattle.std.proofs.Common.{◌≡◌, ◌≤◌, ℕ, ◌+◌, true, false, L
 use Rattle.std.proofs.Common.{Result, Ok, Err, refl, ap, ◌∙◌, arith}
 use Rattle.std.specs.Prelude.{IfOk, IfSome, is_some}
 use Rattle.std.specs.Result.{result_ok}
+use Rattle.awk_base.proofs.Numbers.{times}
 use Rattle.awk_lengths.specs.LineBytes.{text_len, HasBytes}
 use Rattle.awk_query.specs.Line.{Line, load, session, bind, values, show, type_of, pack, names}
 use Rattle.awk_query.specs.Line.{line_said}
@@ -12,7 +13,6 @@ use Rattle.awk_eval.specs.Views.{Size, View, view_of, sizes_of, size_in, size_or
 use Rattle.awk_answer.specs.Answer.{answer_text}
 use Rattle.awk_answer.specs.AnswerView.{answer_view}
 use Rattle.awk_answer.specs.Sending.{sent_cost}
-use Rattle.awk_answer.proofs.SendingLaws.{times}
 use Rattle.awk_load_line.specs.LoadCost.{form_width}
 use Rattle.awk_load_line.proofs.LoadLaws.{load_cost-bytes}
 use Rattle.awk_session.specs.Cost.{view_size, view_cost, text_cost, has_cost, made_cost, shown_cost}

@@ -1,7 +1,9 @@
 -- Units take no more steps than their session costs.
-use Rattle.std.proofs.Common.{◌≡◌, ◌≤◌, ℕ, ◌+◌, ◌*◌, Bool, true, false, ◌&&◌, List, [], ◌∷◌, ◌++◌}
+use Rattle.std.proofs.Common.{◌≡◌, ◌≤◌, ℕ, ◌+◌, ◌*◌, true, ◌&&◌, List, [], ◌∷◌, ◌++◌}
 use Rattle.std.proofs.Common.{Option, Some, None, refl, sym, ap, ◌∙◌, subst, arith}
 use Rattle.std.specs.Option.{option_map_or}
+use Rattle.std.proofs.lemmas.Bool.{and_parts}
+use Rattle.awk_base.proofs.Numbers.{times}
 use Rattle.awk_edge.specs.Units.{Framed, read_after}
 use Rattle.awk_query.specs.Line.{Line, load, session, bind, values, show, type_of, pack, names}
 use Rattle.awk_query.specs.declared.reading.Reading.{Reading}
@@ -16,7 +18,6 @@ use Rattle.awk_framing.specs.Framing.{read_behind, session_framing}
 use Rattle.awk_session.specs.Replies.{unit_step}
 use Rattle.awk_session.specs.Spending.{Binds, TakesCost}
 use Rattle.awk_session.specs.State.{State, denoted_state}
-use Rattle.awk_answer.proofs.SendingLaws.{times}
 use Rattle.awk_session.proofs.CostLaws.{text_cost-more}
 use Rattle.awk_session.proofs.Readings.{reading-step}
 use Rattle.awk_session.proofs.SizeLaws.{AreWithin, size_at-within, view_size-within}
@@ -90,17 +91,12 @@ costs-push s xs x = omega (arith, costs-append s xs (x ∷ []))
 pub cost-first : (xs ys : List Framed) → cost xs ≤ cost (xs ++ ys)
 cost-first xs ys = omega (arith, costs-append at_start xs ys)
 
-and-both : (a b : Bool) → (a && b) ≡ true → (a ≡ true) × (b ≡ true)
-and-both true true e = (refl, refl)
-and-both true false e = absurd (cc)
-and-both false b e = absurd (cc)
-
 plain-append : (r : Reading) (xs ys : List Framed) → plain_from r (xs ++ ys) ≡ true
     → (plain_from r xs ≡ true) × (plain_from (read_after session_framing r xs) ys ≡ true)
 plain-append r [] ys e = (refl, e)
 plain-append r (x ∷ xs) ys e =
     let later = read_behind r x.line in
-    let both = and-both (is_plain r x.line) (plain_from later (xs ++ ys)) e in
+    let both = and_parts (is_plain r x.line) (plain_from later (xs ++ ys)) e in
     let rest = plain-append later xs ys both.1 in
     (ap (λ b. b && plain_from later xs) both.0 ∙ rest.0, rest.1)
 
@@ -108,7 +104,7 @@ plain-push : (xs : List Framed) (x : Framed) → are_plain (xs ++ x ∷ []) ≡ 
     → (are_plain xs ≡ true) × (is_plain (standing_after at_start xs).state.reading x.line ≡ true)
 plain-push xs x e =
     let p = plain-append First xs (x ∷ []) e in
-    let here = (and-both (is_plain (read_after session_framing First xs) x.line) true p.1).0 in
+    let here = (and_parts (is_plain (read_after session_framing First xs) x.line) true p.1).0 in
     (p.0, ap (λ r. is_plain r x.line) (standing-reading at_start xs) ∙ here)
 
 -- ---- what the loop of a run keeps

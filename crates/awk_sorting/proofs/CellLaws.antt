@@ -8,6 +8,7 @@ use Rattle.std.proofs.lemmas.List.{length-map, take-append-le, drop_at}
 use Rattle.std.proofs.lemmas.List.FromFn.{length-map-range_with_len, get_or-map-range_with_len}
 use Rattle.std.proofs.lemmas.List.FromFn.{map-range_with_len_more, length-range_with_len}
 use Rattle.std.proofs.lemmas.Slice.{between_is}
+use Rattle.awk_base.proofs.Ranges.{map-same}
 use Rattle.awk_lanes.specs.Column.{Column}
 use Rattle.awk_lanes.specs.Numbers.{element}
 use Rattle.awk_lanes.specs.Places.{place_at}
@@ -163,13 +164,6 @@ ranked_more up c j i a b x y o h l m e k = record {
 
 -- ---- the places of a part
 
-range_same : {X : Type 0} (f g : ℕ → X) (a n : ℕ) → ((i : ℕ) → a ≤ i → i < a + n → f i ≡ g i)
-    → map f (range_with_len a n) ≡ map g (range_with_len a n)
-range_same f g a zero h = refl
-range_same f g a (suc n) h =
-    ap₂ (λ x xs. x ∷ xs) (h a (omega arith) (omega arith))
-    (range_same f g (a + 1) n (λ i l m. h i (omega (arith, l)) (omega (arith, m))))
-
 places_of_part : (up : Bool) (least last : ℕ) (c : Column) (j : Option Column) (start m : ℕ)
     (zs : List ℤ) → m < 4294967296
     → ((k : ℕ) → k < m → IsRanked up least last (cell_at c j (start + k)))
@@ -186,7 +180,7 @@ places_of_part up least last c j start m zs few ranked s =
     (ranked p (omega (arith, l, long)))) zs
     (s
     ∙ ap (sort_numbers true)
-    (range_same (λ k. key up least last (cell k) k)
+    (map-same (λ k. key up least last (cell k) k)
     (λ p. key up least last (get_or os p None) p) 0 m
     (λ k l r. ap (λ x. key up least last x k) (there k (omega (arith, r))))
     ∙ ap (λ n. map (λ p. key up least last (get_or os p None) p) (range_with_len 0 n))

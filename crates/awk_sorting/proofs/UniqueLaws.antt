@@ -10,6 +10,7 @@ use Rattle.std.proofs.lemmas.Int.{ints}
 use Rattle.std.proofs.lemmas.List.Sorted.{IsPermutation-sym, IsPermutation-trans}
 use Rattle.std.proofs.lemmas.List.Sorted.{sum_by-IsPermutation}
 use Rattle.std.proofs.lemmas.List.Sums.{sum_by-cons}
+use Rattle.awk_base.proofs.Truths.{int_eq-refl}
 use Rattle.awk_sorting.specs.Order.{insert_by, number_first, sort_numbers}
 use Rattle.awk_sorting.proofs.InsertLaws.{sort_permutes}
 
@@ -114,11 +115,8 @@ times z zs = sum_by (hit z) zs
 times-cons : (z y : ℤ) (ys : List ℤ) → times z (y ∷ ys) ≡ hit z y + times z ys
 times-cons z y ys = sum_by-cons (hit z) y ys
 
-self : (x : ℤ) → int_eq x x ≡ true
-self x = grind (arith, ints)
-
 times_self : (x : ℤ) (xs : List ℤ) → times x (x ∷ xs) ≡ 1 + times x xs
-times_self x xs = times-cons x x xs ∙ ap (λ b. cond b 1 0 + times x xs) (self x)
+times_self x xs = times-cons x x xs ∙ ap (λ b. cond b 1 0 + times x xs) (int_eq-refl x)
 
 found_step : (b up : Bool) (x y w : ℤ) (ys : List ℤ) → int_eq x y ≡ b
     → number_first up y w ≡ false → 0 < cond b 1 0 + times x ys

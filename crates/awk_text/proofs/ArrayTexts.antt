@@ -15,7 +15,7 @@ use Rattle.awk_text.specs.LayoutText.{layout_text, span_text}
 use Rattle.awk_layout.proofs.TypedItems.{item_has}
 use Rattle.awk_text.proofs.Lengths.{text_some}
 use Rattle.std.proofs.lemmas.Simd.{map-map}
-use Rattle.awk_text.proofs.Ranges.{map-range_same}
+use Rattle.awk_base.proofs.Ranges.{map-same}
 use Rattle.awk_text.proofs.SimpleTexts.{simple_text}
 
 pub item_text-layout : (x : Layout) (i : ℕ) → IsValid x → IsNumbered x → i < len x
@@ -31,7 +31,7 @@ array_text-span x v w =
     ap list_text
     (map-map shown carried (items x) ∙ map-map (λ v. shown (carried v)) (item x)
     (range_with_len 0 (len x)) ∙ ap (λ n. map (item_text x) (range_with_len 0 n)) e
-    ∙ map-range_same (item_text x) (layout_text x) 0 all
+    ∙ map-same (item_text x) (layout_text x) 0 all
     (λ k p q. item_text-layout x k v w (omega arith)))
 
 -- an item's text is not empty

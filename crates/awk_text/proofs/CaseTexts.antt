@@ -25,8 +25,9 @@ use Rattle.awk_text.specs.ValueText.{members, place_names}
 use Rattle.awk_text.specs.LayoutText.{layout_text, row_text, member_text, field_name, case_text}
 use Rattle.awk_layout.proofs.TypedItems.{item_has}
 use Rattle.std.proofs.lemmas.Simd.{map-map}
+use Rattle.awk_base.proofs.Ranges.{map-same}
 use Rattle.awk_layout.proofs.Runs.{value_list-run}
-use Rattle.awk_text.proofs.Ranges.{map-shift, map-range_same}
+use Rattle.awk_text.proofs.Ranges.{map-shift}
 
 -- ---- lists
 
@@ -135,7 +136,7 @@ members_case names ns xs i enough named =
     ∙ ap
     (λ n. map (λ k. (quoted (get_or ns k []) ++ codes ":") ++ get_or texts k [])
     (range_with_len 0 n)) many
-    ∙ map-range_same _ (member_text names (layout_list xs) i) 0 (length (layout_list xs)) (λ k p q.
+    ∙ map-same _ (member_text names (layout_list xs) i) 0 (length (layout_list xs)) (λ k p q.
     let below : k < length (layout_list xs) = omega arith in
     ap (λ z. (quoted z ++ codes ":") ++ get_or texts k []) (named k below)
     ∙ ap (λ z. (quoted (field_name names k) ++ codes ":") ++ z) (row_texts-at xs i k below))

@@ -1,8 +1,9 @@
 -- No text of a value, of a type or of a fault holds a byte that ends a line.
 use Rattle.std.proofs.Common.{◌≡◌, ℕ, zero, suc, Bool, true, false, cond, List, [], ◌∷◌, ◌++◌, map}
-use Rattle.std.proofs.Common.{refl, ap, sym, ◌∙◌, not, ◌&&◌, true≢false, codes, decimal, length}
+use Rattle.std.proofs.Common.{refl, ap, sym, ◌∙◌, not, true≢false, codes, decimal, length}
 use Rattle.std.specs.Char.{is_ascii_digit}
 use Rattle.std.specs.List.{AllByRecursion, list_all}
+use Rattle.std.proofs.lemmas.Bool.{and_parts}
 use Rattle.awk_types.specs.DataType.{Name, DataType, unknown, leaf, var, reg, rec, tup, opt, uni}
 use Rattle.awk_types.specs.DataType.{DataTypes, no_types, type}
 use Rattle.awk_types.specs.Value.{Value, int, truth, null, list, row, alt}
@@ -115,21 +116,17 @@ primitive_text-unbroken primitive.U16 = literal-unbroken (codes "uint16") refl
 primitive_text-unbroken primitive.U32 = literal-unbroken (codes "uint32") refl
 primitive_text-unbroken primitive.U64 = literal-unbroken (codes "uint64") refl
 
-both : (s t : Bool) → (s && t) ≡ true → (s ≡ true) × (t ≡ true)
-both true t h = (refl, h)
-both false t h = absurd (true≢false (sym h))
-
 -- no letter, digit or `_` ends a line
 words-unbroken : (bytes : List ℕ) → list_all is_word bytes ≡ true → Unbroken bytes
 words-unbroken [] h = tt
 words-unbroken (b ∷ bytes) h =
     let first : (is_word b ≡ true) × (list_all is_word bytes ≡ true) =
-    both (is_word b) (list_all is_word bytes) h in
+    and_parts (is_word b) (list_all is_word bytes) h in
     ((λ e. true≢false (sym first.0 ∙ ap is_word e)), words-unbroken bytes first.1)
 
 bare-unbroken : (n : Name) → is_bare n ≡ true → Unbroken n
 bare-unbroken [] h = tt
-bare-unbroken (b ∷ bytes) h = let rest = both (not (is_ascii_digit b))
+bare-unbroken (b ∷ bytes) h = let rest = and_parts (not (is_ascii_digit b))
     (list_all is_word (b ∷ bytes)) h in words-unbroken (b ∷ bytes) rest.1
 
 name_by-unbroken : (n : Name) (bare : Bool) → is_bare n ≡ bare → Unbroken (cond bare n (quoted n))

@@ -1,8 +1,9 @@
 -- The alternatives of simple types, laid one after another, as a union has them.
-use Rattle.std.proofs.Common.{◌≡◌, ℕ, zero, suc, ◌+◌, ◌<◌, Bool, true, false, ◌||◌, List, [], ◌∷◌}
+use Rattle.std.proofs.Common.{◌≡◌, ℕ, zero, suc, ◌+◌, ◌<◌, Bool, true, false, List, [], ◌∷◌}
 use Rattle.std.proofs.Common.{◌++◌, length, codes, refl, ap, sym, ◌∙◌, subst, arith, length-append}
 use Rattle.std.proofs.Common.{add-zero}
 use Rattle.std.specs.List.{list_any, flat_map}
+use Rattle.std.proofs.lemmas.Bool.{or_right, or_left}
 use Rattle.awk_types.specs.DataType.{DataType, opt, uni, DataTypes, type, types_from}
 use Rattle.awk_types.specs.Value.{Value, int, truth, null, list, row, alt}
 use Rattle.awk_types.specs.Simple.{is_option, option_if, present_alternatives, union_of}
@@ -45,14 +46,6 @@ pub record SplitsAt (ss : List DataType) (k : ℕ) (w : Value) (text : Text) : T
       → alternatives_before ss k + inner_tag w < length (flat_map present_alternatives ss)
   pub shown : is_null w ≡ false → alternative_text (types_from (flat_map present_alternatives ss))
       (alternatives_before ss k + inner_tag w) (inner_value w) ≡ text
-
-or_left : (a b : Bool) → a ≡ true → (a || b) ≡ true
-or_left true b e = refl
-or_left false b e = cc
-
-or_right : (a b : Bool) → b ≡ true → (a || b) ≡ true
-or_right true b e = refl
-or_right false b e = e
 
 -- what an option shows at null
 null_text-option : (s : DataType) (w : Value) → is_null w ≡ true → is_option s ≡ true

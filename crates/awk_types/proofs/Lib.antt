@@ -1,4 +1,3 @@
-pub mod ListLaws
 pub mod Trees
 pub mod Views
 pub mod NameLaws

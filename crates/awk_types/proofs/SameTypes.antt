@@ -1,5 +1,6 @@
 -- Two types are equal exactly where their parts are.
 use Rattle.std.proofs.Common.{◌≡◌, ◌↔◌, List, [], ◌∷◌, refl, sym, ap, ◌∙◌}
+use Rattle.awk_base.proofs.Truths.{same_as}
 use Rattle.awk_types.specs.DataType.{Name, DataType, rec, tup, uni, DataTypes, no_types, type}
 use Rattle.awk_types.specs.DataType.{types_from, type_list}
 use Rattle.awk_types.specs.View.{NamedType, names_of, types_of, typ_of, fields_of, typs_of}
@@ -41,10 +42,6 @@ rec-inj fs gs e = sym (fields_in-of fs) ∙ ap fields e ∙ fields_in-of gs
     fields : DataType → List NamedType
     fields (rec ns ts) = fields_in ns ts
     fields t = []
-
--- equality of two terms that are known as others
-same_as : {A : Type 0} {a b c d : A} {P : Type 0} → a ≡ c → b ≡ d → (P ↔ (c ≡ d)) → P ↔ (a ≡ b)
-same_as e f h = (λ p. e ∙ h.0 p ∙ sym f, λ g. h.1 (sym e ∙ g ∙ f))
 
 pub tup_same : (a b : Typ) (ts us : Typs) {P : Type 0} → a ≡ Tup ts → b ≡ Tup us
     → (P ↔ (typs_of ts ≡ typs_of us)) → P ↔ (typ_of a ≡ typ_of b)

@@ -6,7 +6,7 @@ use Rattle.awk_types.specs.DataType.{Name, DataType, tup, uni, rec, types_from}
 use Rattle.awk_types.specs.View.{NamedType, names_of, types_of, typ_step, field_step, fields_step}
 use Rattle.awk_types.specs.View.{typs_step, typ_of, field_of, fields_of, typs_of}
 use Rattle.awk_types.specs.declared.name.Name.{Name as FieldName}
-use Rattle.awk_types.proofs.ListLaws.{slice_get_of_map}
+use Rattle.awk_base.proofs.Lists.{slice_get_of_map}
 use Rattle.awk_types.specs.declared.typ.Typ.{Typ, Tup, Uni, Rec}
 use Rattle.awk_types.specs.declared.typ.Typ.TheVariants.{rolls-Tup, rolls-Uni, rolls-Rec}
 use Rattle.awk_types.specs.declared.typ.Typs.{Typs}

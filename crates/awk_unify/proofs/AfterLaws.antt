@@ -3,6 +3,7 @@ use Rattle.std.proofs.Common.{◌≡◌, ◌+◌, ◌<◌, ◌==◌, ◌∷◌, 
 use Rattle.std.proofs.Common.{length, map, refl, subst, suc, sym, true, zero}
 use Rattle.std.specs.List.{AllByRecursion}
 use Rattle.std.specs.Prelude.{if◌then◌else◌}
+use Rattle.awk_base.proofs.Truths.{eq_is, eq-refl}
 use Rattle.awk_unify.specs.After.{after, afters, carry_by, each_after}
 use Rattle.awk_unify.specs.Carry.{Carries, Carry, at_place, carried, carried_each, carry, in_items}
 use Rattle.awk_unify.specs.Carry.{in_order, keep, no_carries, tag_at, to_alternatives, to_parts}
@@ -144,12 +145,6 @@ pub length_places : (i n : ℕ) → length (places_from i n) ≡ n
 length_places i zero = refl
 length_places i (suc n) = ap suc (length_places (suc i) n)
 
-same_test : (p : ℕ) → (p == p) ≡ true
-same_test p = grind arith
-
-test_is : (p q : ℕ) → (p == q) ≡ true → p ≡ q
-test_is p q e = grind arith
-
 not_more : (i j : ℕ) → (i == i + suc j) ≡ false
 not_more i j = grind arith
 
@@ -159,7 +154,7 @@ at_own : (i : ℕ) (ys : List Value) (j : ℕ) → j < length ys
 at_own i [] j l = absurd (omega arith)
 at_own i (y ∷ ys) zero l =
     let here : i + 0 ≡ i = omega arith in
-    rw here (rw (same_test i))
+    rw here (rw (eq-refl i))
 at_own i (y ∷ ys) (suc j) l =
     let next : i + suc j ≡ suc i + j = omega arith in
     rw (not_more i j) (subst (λ k. at_place k (places_from (suc i) (length ys)) ys ≡ nth ys j)
@@ -209,7 +204,7 @@ found_all : (n : ℕ) (ps : List ℕ) (xs : List Value) → ArePlaces n ps → F
 found_all n [] xs a = tt
 found_all n (p ∷ ps) [] a = tt
 found_all n (p ∷ ps) (x ∷ xs) a =
-    (rw (same_test p), found_more p x ps xs ps xs a.1 (found_all n ps xs a.2))
+    (rw (eq-refl p), found_more p x ps xs ps xs a.1 (found_all n ps xs a.2))
 
 fits_at : (qs : List ℕ) (gs : Carries) (ws : List Value) (k : ℕ) → FitEach qs gs ws → k < length ws
     → FitsAt qs gs k (nth ws k)
@@ -264,7 +259,7 @@ nth_null (carry g gs) (suc k) = nth_null gs k
 at_step : (t : Bool) (gs : List (Value → Value)) (p j : ℕ) (x y x' y' : Value) → (p == j) ≡ t
     → x ≡ value_by gs p y → x' ≡ value_by gs j y'
     → (if t then x else x') ≡ value_by gs j (if t then y else y')
-at_step true gs p j x y x' y' e f g = f ∙ ap (λ k. value_by gs k y) (test_is p j e)
+at_step true gs p j x y x' y' e f g = f ∙ ap (λ k. value_by gs k y) (eq_is p j e)
 at_step false gs p j x y x' y' e f g = g
 
 at_related : (gs : Carries) (j : ℕ) (ps : List ℕ) (xs ys : List Value)

@@ -4,7 +4,7 @@ use Rattle.std.proofs.Common.{slice_get, Some, add-one, refl, ap, arith, zero, s
 use Rattle.std.proofs.Common.{append_assoc}
 use Rattle.std.proofs.Math.Seq.{drop-nil}
 use Rattle.std.proofs.lemmas.List.{append-nil}
-use Rattle.awk_types.proofs.ListLaws.{drop-get}
+use Rattle.awk_base.proofs.Lists.{drop-get}
 use Rattle.awk_types.specs.DataType.{DataType}
 use Rattle.awk_unify.specs.Carry.{Carry, carry, keep, carries_from, tag_at}
 use Rattle.awk_unify.specs.After.{after, afters, carry_by, each_after}

@@ -8,7 +8,7 @@ use Rattle.awk_unify.specs.Insert.{ahead, joined_first}
 use Rattle.awk_unify.specs.Join.{Joining}
 use Rattle.awk_unify.specs.Merge.{chosen, insert, insert_all, further}
 use Rattle.awk_unify.specs.Unification.{Placed, PlacedAll, Unification}
-use Rattle.awk_types.proofs.ListLaws.{drop-get}
+use Rattle.awk_base.proofs.Lists.{drop-get}
 
 -- one by one
 abbrev behind : List DataType → Placed → Placed

@@ -2,7 +2,7 @@
 use Rattle.std.proofs.Common.{◌≡◌, ◌∙◌, ◌+◌, ◌≤◌, ◌∷◌, ◌++◌, [], ℕ, List, Ok, Option, Some, ap}
 use Rattle.std.proofs.Common.{append_assoc, drop, length, refl, map, slice_get, subst, sym}
 use Rattle.std.proofs.lemmas.List.{append-nil, drop_all}
-use Rattle.awk_types.proofs.ListLaws.{drop-get}
+use Rattle.awk_base.proofs.Lists.{drop-get}
 use Rattle.awk_types.proofs.RefusalLaws.{refused_or-None}
 use Rattle.awk_types.specs.DataType.{DataType, types_from, unknown}
 use Rattle.awk_types.specs.Gives.{Told}

@@ -1,7 +1,7 @@
 -- Lists from a place on, and places in them.
 use Rattle.std.proofs.Common.{◌≡◌, ℕ, suc, zero, ◌+◌, ◌≤◌, List, [], ◌∷◌, ◌++◌, length, slice_get}
 use Rattle.std.proofs.Common.{Some, add-one, arith, refl, ap, ◌∙◌}
-use Rattle.awk_types.proofs.ListLaws.{drop-get, take-get}
+use Rattle.awk_base.proofs.Lists.{drop-get, take-get}
 use Rattle.awk_unify.specs.Carry.{tag_at}
 use Rattle.awk_unify.specs.Places.{places, places_from}
 

@@ -6,7 +6,7 @@ use Rattle.std.specs.List.{list_all}
 use Rattle.std.specs.Prelude.{None, if◌then◌else◌}
 use Rattle.std.proofs.Math.Bool.{and-false}
 use Rattle.std.proofs.lemmas.List.{drop_all, length-map, map-append, take_all}
-use Rattle.awk_types.proofs.ListLaws.{drop-get, map-take-get}
+use Rattle.awk_base.proofs.Lists.{drop-get, map-take-get}
 use Rattle.awk_types.proofs.NameLaws.{same_name-refl, same_name_is}
 use Rattle.awk_types.specs.DataType.{DataType, Name}
 use Rattle.awk_types.specs.Names.{same_name}

@@ -5,12 +5,13 @@ use Rattle.std.proofs.lemmas.List.{length-map}
 use Rattle.std.proofs.lemmas.Bool.{and_parts, or_parts}
 use Rattle.std.specs.List.{list_all, list_any}
 use Rattle.std.specs.Prelude.{if◌then◌else◌, None, Option, Some}
+use Rattle.std.proofs.lemmas.Option.{same_Some}
+use Rattle.awk_base.proofs.Truths.{eq_is}
 use Rattle.awk_unify.proofs.AfterLaws.{Apart, ArePlaces, FitEach, Fits}
 use Rattle.awk_unify.proofs.DepthLaws.{deepest_list}
 use Rattle.awk_unify.proofs.HasLaws.{of_list, rec_tup, tup_rec}
 use Rattle.awk_unify.proofs.SimpleLaws.{IfAllFine, picked_fine}
 use Rattle.awk_unify.proofs.NamePlaces.{same_name-flip}
-use Rattle.awk_unify.proofs.Tests.{eq_is}
 use Rattle.awk_unify.proofs.TypeLaws.{IfFields, picked_ok}
 use Rattle.awk_unify.specs.Carries.{carry_at}
 use Rattle.awk_unify.specs.Carry.{Carry, at_place, carried, carried_each, carries_from, in_order}
@@ -131,13 +132,9 @@ fields_are (m ∷ ms) [] d = tt
 fields_are (m ∷ ms) (u ∷ us) d =
     (rw (same_name-refl m), fields_more m u ms us ms us (other_way m ms d.0) (fields_are ms us d.1))
 
--- picked types, by place
-some_is : {A : Type 0} (x y : A) → Some x ≡ Some y → x ≡ y
-some_is x y e = cc
-
 with_first : (o : Option DataType) (os : Option (List DataType)) (ps : List DataType)
     → with_type o os ≡ Some ps → o ≡ Some (type_at ps 0)
-with_first (Some t) (Some ts) ps e = ap (λ x. Some (type_at x 0)) (some_is (t ∷ ts) ps e)
+with_first (Some t) (Some ts) ps e = ap (λ x. Some (type_at x 0)) (same_Some (t ∷ ts) ps e)
 with_first (Some t) None ps e = cc
 with_first None os ps e = cc
 
@@ -145,7 +142,7 @@ with_rest : (o : Option DataType) (os : Option (List DataType)) (ps : List DataT
     → with_type o os ≡ Some ps
     → (qs : List DataType) × (os ≡ Some qs) × ((k : ℕ) → type_at ps (suc k) ≡ type_at qs k)
 with_rest (Some t) (Some ts) ps e =
-    (ts, refl, λ k. ap (λ x. type_at x (suc k)) (sym (some_is (t ∷ ts) ps e)))
+    (ts, refl, λ k. ap (λ x. type_at x (suc k)) (sym (same_Some (t ∷ ts) ps e)))
 with_rest (Some t) None ps e = cc
 with_rest None os ps e = cc
 
@@ -199,7 +196,7 @@ named_each ns ms us ps ts fs e c l (k ∷ ks) [] vs n a f h = absurd (omega arit
 named_each ns ms us ps ts fs e c l (k ∷ ks) (w ∷ ws) [] n a f h = absurd h
 named_each ns ms us ps ts fs e c l (k ∷ ks) (w ∷ ws) (v ∷ vs) n a f h =
     let known : is_in ns k ≡ true = (and_parts _ _ a).0 in
-    let of_type : type_at ps (place_in ns k) ≡ w = some_is _ _
+    let of_type : type_at ps (place_in ns k) ≡ w = same_Some _ _
     (sym (picked_at ns ms us ps k e known) ∙ f.0) in
     let low : place_in ns k < length ts = subst (λ x. place_in ns k < x) l
     (place_below ns k known) in
@@ -337,7 +334,7 @@ names_carry ns ms us ps ts fs dn dm a lu lt e c v h = absurd h
 
 pub picked_length : (ns ms : List Name) (us ps : List DataType) → picked ns ms us ≡ Some ps
     → length ps ≡ length ns
-picked_length [] ms us ps e = ap length (some_is ps [] (sym e))
+picked_length [] ms us ps e = ap length (same_Some ps [] (sym e))
 picked_length (n ∷ ns) ms us ps e =
     with_length (field_type n ms us) (picked ns ms us) ps e (picked_length ns ms us)
   where
@@ -345,7 +342,7 @@ picked_length (n ∷ ns) ms us ps e =
         → with_type o os ≡ Some ps → ((qs : List DataType) → os ≡ Some qs → length qs ≡ length ns)
         → length ps ≡ suc (length ns)
     with_length (Some t) (Some ts) ps e f =
-        ap length (sym (some_is (t ∷ ts) ps e)) ∙ ap suc (f ts refl)
+        ap length (sym (same_Some (t ∷ ts) ps e)) ∙ ap suc (f ts refl)
     with_length (Some t) None ps e f = cc
     with_length None os ps e f = cc
 

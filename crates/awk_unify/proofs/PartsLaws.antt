@@ -4,7 +4,7 @@ use Rattle.std.proofs.Common.{arith, drop, length, min, refl, slice_get, suc, sy
 use Rattle.std.specs.Prelude.{IfSome, None, Option}
 use Rattle.std.proofs.Math.Seq.{drop-nil}
 use Rattle.std.proofs.lemmas.List.{append-nil, drop_all, length-map}
-use Rattle.awk_types.proofs.ListLaws.{drop-get}
+use Rattle.awk_base.proofs.Lists.{drop-get}
 use Rattle.awk_types.specs.DataType.{DataType}
 use Rattle.awk_types.specs.View.{NamedType, names_of, typs_of}
 use Rattle.awk_unify.specs.Carry.{Carry}

@@ -2,6 +2,7 @@
 use Rattle.std.proofs.Common.{◌≡◌, ◌↔◌, ℕ, List, [], ◌∷◌, ◌++◌, Option, Some, None, map, option_map}
 use Rattle.std.proofs.Common.{refl, sym, ap, ap₂, ◌∙◌}
 use Rattle.std.proofs.lemmas.List.{map-append}
+use Rattle.awk_base.proofs.Truths.{same_as}
 use Rattle.awk_unify.specs.After.{after}
 use Rattle.awk_unify.specs.Carry.{Carry, Carries, carry_list, carries_from, to_parts}
 use Rattle.awk_unify.specs.Carry.{to_alternatives}
@@ -37,10 +38,6 @@ to_alternatives-inj : (ps qs : List ℕ) (fs gs : List Carry)
 unfolding beside within
 to_alternatives-inj ps qs fs gs e =
     (ap beside e, sym (carry_list-from fs) ∙ ap within e ∙ carry_list-from gs)
-
--- equality of two terms that are known as others
-same_as : {A : Type 0} {a b c d : A} {P : Type 0} → a ≡ c → b ≡ d → (P ↔ (c ≡ d)) → P ↔ (a ≡ b)
-same_as e f h = (λ p. e ∙ h.0 p ∙ sym f, λ g. h.1 (sym e ∙ g ∙ f))
 
 pub parts_same : (f g : Lift) (ps qs : List ℕ) (fs gs : Lifts) {P : Type 0} → f ≡ Parts ps fs
     → g ≡ Parts qs gs → (P ↔ ((ps ≡ qs) × (lifts_of fs ≡ lifts_of gs)))

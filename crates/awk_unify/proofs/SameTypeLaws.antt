@@ -1,7 +1,8 @@
 -- A test of equality of types is true exactly of equal types.
-use Rattle.std.proofs.Common.{◌≡◌, ℕ, true, ◌==◌, refl, sym, ap, ◌∙◌, arith}
+use Rattle.std.proofs.Common.{◌≡◌, ℕ, true, ◌==◌, refl, sym, ap, ◌∙◌}
 use Rattle.std.specs.Prelude.{if◌then◌else◌}
 use Rattle.std.proofs.lemmas.Bool.{and_parts}
+use Rattle.awk_base.proofs.Truths.{eq_is, eq-refl}
 use Rattle.awk_types.specs.declared.primitive.Primitive.{Primitive}
 use Rattle.awk_types.specs.declared.primitive.Primitive.TheVariants.{Bool, I8, I16, I32, I64, U8}
 use Rattle.awk_types.specs.declared.primitive.Primitive.TheVariants.{U16, U32, U64}
@@ -9,12 +10,6 @@ use Rattle.awk_types.specs.DataType.{DataType, unknown, leaf, var, reg, rec, tup
 use Rattle.awk_types.specs.DataType.{DataTypes, no_types, type}
 use Rattle.awk_types.specs.SameType.{primitive_number, same_primitive, same_type, same_types}
 use Rattle.awk_types.proofs.NameLaws.{same_names_is, same_names-refl}
-
-eq_is : (n m : ℕ) → (n == m) ≡ true → n ≡ m
-eq_is n m e = grind arith
-
-eq-refl : (n : ℕ) → (n == n) ≡ true
-eq-refl n = grind arith
 
 primitive_from : ℕ → Primitive
 primitive_from n =

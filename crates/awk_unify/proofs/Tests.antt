@@ -1,15 +1,13 @@
 -- What follows where a test is true.
 use Rattle.std.proofs.Common.{◌≡◌, ◌↔◌, ◌==◌, ℕ, Bool, IsTrue, arith, false, refl, subst, sym, true}
 use Rattle.std.proofs.lemmas.Bool.{false_from_ne_true}
+use Rattle.awk_base.proofs.Truths.{eq_is}
 use Rattle.awk_types.specs.Predicates.{is_unknown}
 use Rattle.awk_unify.proofs.SameTypeLaws.{same_type-refl, same_type_is}
 use Rattle.awk_types.specs.DataType.{DataType, unknown}
 use Rattle.awk_types.specs.SameType.{same_type}
 
 -- ---- equal numbers
-
-pub eq_is : (n m : ℕ) → (n == m) ≡ true → n ≡ m
-eq_is n m e = grind arith
 
 pub eq_true : (n m : ℕ) → n ≡ m → (n == m) ≡ true
 eq_true n m e = grind arith

@@ -2,10 +2,11 @@
 use Rattle.std.proofs.Common.{◌≡◌, ◌≤◌, ◌||◌, ◌&&◌, ◌==◌, ◌∷◌, [], ℕ, List, Bool as Truth, arith}
 use Rattle.std.proofs.Common.{false, length, refl, subst, suc, sym, true, zero}
 use Rattle.std.specs.Prelude.{if◌then◌else◌, None, Option, Some}
+use Rattle.awk_base.proofs.Truths.{eq_is}
 use Rattle.awk_unify.proofs.AfterLaws.{AllInPlace}
 use Rattle.awk_unify.proofs.SimpleLaws.{Simply, deepest_alternatives, depth_pos, not_opts, not_uni}
 use Rattle.awk_unify.proofs.SimpleLaws.{present_shallow, steps_simple}
-use Rattle.awk_unify.proofs.Tests.{eq_is, unknown_is}
+use Rattle.awk_unify.proofs.Tests.{unknown_is}
 use Rattle.awk_unify.proofs.TypeLaws.{Types, steps_type}
 use Rattle.awk_unify.specs.Carry.{Carry, carries_from, keep}
 use Rattle.awk_unify.specs.FieldNames.{alike}

@@ -2,7 +2,7 @@
 use Rattle.std.proofs.Common.{◌≡◌, Bool, true, false, ℕ, ◌<◌, List, [], ◌∷◌, map, arith, length}
 use Rattle.std.proofs.Common.{slice_get, Some, get_or, sym, ap, ◌∙◌}
 use Rattle.std.proofs.lemmas.List.{length-map}
-use Rattle.awk_types.proofs.ListLaws.{slice_get_of_map}
+use Rattle.awk_base.proofs.Lists.{slice_get_of_map}
 use Rattle.awk_unify.specs.Carry.{Carry, Carries, carry, keep, no_carries, in_items, to_parts}
 use Rattle.awk_unify.specs.Carry.{to_alternatives, carries_from, tag_at}
 use Rattle.awk_unify.specs.After.{after}

@@ -4,8 +4,9 @@ use Rattle.std.proofs.Common.{false, cond, List, [], ◌∷◌, ◌++◌, length
 use Rattle.std.proofs.Common.{◌∙◌, arith, append_assoc, length-drop}
 use Rattle.std.specs.List.{prefix_len}
 use Rattle.std.proofs.Math.Numerals.{one-add}
-use Rattle.std.proofs.lemmas.Bool.Decides.{nat_tests}
 use Rattle.std.proofs.lemmas.List.{take-append-drop}
+use Rattle.std.proofs.lemmas.Bool.{and_parts}
+use Rattle.awk_base.proofs.Truths.{eq_is, nat_le-true}
 use Rattle.awk_edge.specs.Lines.{Unbroken, line_limit, lines_limit}
 use Rattle.awk_edge.specs.Units.{raw_limit, Framing, Framed, first_line, has_end, behind_line}
 use Rattle.awk_edge.specs.Units.{framed, units, is_whole, is_small, whole_units, ended_units}
@@ -49,17 +50,6 @@ length-behind b (c ∷ bytes) = by (b == 10) (length-behind c bytes)
     by true h = omega arith
     by false h = omega arith
 
-and_both : (a b : Bool) → (a && b) ≡ true → (a ≡ true) × (b ≡ true)
-and_both true true e = (refl, refl)
-and_both true false e = absurd (cc)
-and_both false b e = absurd (cc)
-
-equal_from : (m n : ℕ) → (m == n) ≡ true → m ≡ n
-equal_from m n e = grind arith
-
-most_from : (m n : ℕ) → nat_le m n ≡ true → m ≤ n
-most_from m n e = grind (arith, nat_tests)
-
 pub whole_units-cons : (n : ℕ) (u : Framed) (us : List Framed) → (is_whole u && is_small u) ≡ true
     → whole_units (suc n) (u ∷ us) ≡ u ∷ whole_units n us
 unfolding whole_units
@@ -81,16 +71,17 @@ module _ {R : Type 0} (p : Framing R) where
       (is_whole u && is_small u) ≡ true) → IsUnit p r (framed (p.asked r (first_line bytes)) bytes)
   is_unit r bytes e =
       let u = framed (p.asked r (first_line bytes)) bytes in
-      let tests = and_both (is_whole u) (is_small u) e in
-      let whole = and_both u.is_ended (length u.raw == u.asked) tests.0 in
-      let small = and_both (nat_le (length u.line) line_limit) (nat_le u.asked raw_limit) tests.1 in
+      let tests = and_parts (is_whole u) (is_small u) e in
+      let whole = and_parts u.is_ended (length u.raw == u.asked) tests.0 in
+      let small = and_parts (nat_le (length u.line) line_limit) (nat_le u.asked raw_limit)
+          tests.1 in
       record {
         unbroken = first_unbroken bytes;
         is_ended = whole.0;
         asked = refl;
-        raw = equal_from (length u.raw) u.asked whole.1;
-        short = most_from (length u.line) line_limit small.0;
-        few = most_from u.asked raw_limit small.1;
+        raw = eq_is (length u.raw) u.asked whole.1;
+        short = nat_le-true (length u.line) line_limit small.0;
+        few = nat_le-true u.asked raw_limit small.1;
       }
 
   none_parted : (n : ℕ) (r : R) (bytes : List ℕ) → whole_units n (units p r bytes) ≡ []

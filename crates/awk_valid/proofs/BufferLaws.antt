@@ -1,8 +1,9 @@
 -- How many numbers there are in bytes.
-use Rattle.std.proofs.Common.{◌≡◌, ◌≤◌, ◌*◌, ℕ, List, length, true, Some, None, Ok, Err, cond}
+use Rattle.std.proofs.Common.{◌≡◌, ◌≤◌, ◌*◌, ℕ, List, length, Some, None, Ok, Err, cond}
 use Rattle.std.proofs.Common.{nat_le, sym, arith}
 use Rattle.std.specs.Prelude.{Result, IfOk}
 use Rattle.std.proofs.lemmas.Option.{cond_some}
+use Rattle.awk_base.proofs.Truths.{nat_le-true}
 use Rattle.awk_lanes.specs.declared.kind.Kind.{Kind}
 use Rattle.awk_lanes.specs.declared.kind.Kind.TheVariants.{Bool as Truths, I8, I16, I32, I64, U8}
 use Rattle.awk_lanes.specs.declared.kind.Kind.TheVariants.{U16, U32, U64}
@@ -20,9 +21,6 @@ numbers-≤ U8 n size h = omega arith
 numbers-≤ U16 n size h = omega arith
 numbers-≤ U32 n size h = omega arith
 numbers-≤ U64 n size h = omega arith
-
-nat_le-true : (a b : ℕ) → nat_le a b ≡ true → a ≤ b
-nat_le-true a b e = grind arith
 
 -- where there are n numbers in the bytes, there are n bytes
 pub lane_len-≤ : (k : Kind) (n : ℕ) (bytes : List ℕ) (x lane : Column)

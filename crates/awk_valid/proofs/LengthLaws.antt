@@ -15,6 +15,7 @@ use Rattle.awk_valid.proofs.Places.{tag_rule-none, behind_at-own}
 use Rattle.std.specs.List.{range_with_len}
 use Rattle.std.specs.Int.{int_max}
 use Rattle.std.proofs.lemmas.Int.{ints}
+use Rattle.awk_base.proofs.Numbers.{ord_max-nat}
 use Rattle.awk_kernels.specs.Kernels as kernels
 use Rattle.awk_types.specs.DataType.{greatest}
 use Rattle.awk_valid.specs.Needs.{greatest_below, behind, behind_at, index_length, tag_length}
@@ -114,10 +115,6 @@ index_length-greatest (x ∷ xs) =
     (ap greatest
     (numbers-from behind (x ∷ xs) (x ∷ xs) 0
     (λ j l. let e : 0 + j ≡ j = omega arith in rw e refl)))
-
--- `max` of code is the greater
-pub ord_max-nat : (a b : ℕ) → ord_max nat_cmp a b ≡ max a b
-ord_max-nat a b = grind arith
 
 -- ---- the length of an alternative
 

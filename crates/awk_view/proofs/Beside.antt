@@ -6,7 +6,7 @@ use Rattle.std.proofs.lemmas.List.{append_assoc}
 use Rattle.std.specs.List.{AllByRecursion}
 use Rattle.awk_types.specs.DataType.{Name}
 use Rattle.awk_types.specs.Names.{same_name}
-use Rattle.awk_types.proofs.ListLaws.{drop-get, map-take-get}
+use Rattle.awk_base.proofs.Lists.{drop-get, map-take-get}
 use Rattle.awk_view.specs.Choice.{place_of, apart_from}
 
 pub All-get : {X : Type 0} (P : X → Type 0) (xs : List X) (i : ℕ) (x : X) → slice_get xs i ≡ Some x
@@ -72,10 +72,6 @@ apart_kept n names xs made i m x e f s h =
 pub not_true : (b : Bool) → not b ≡ true → b ≡ false
 not_true true e = cc
 not_true false e = refl
-
-pub not_false : (b : Bool) → not b ≡ false → b ≡ true
-not_false true e = refl
-not_false false e = cc
 
 -- a list that is as long has an item wherever there is a name
 get_some : {X Y : Type 0} (P : Type 0) (names : List Y) (xs : List X) (i : ℕ) (m : Y)

@@ -1,10 +1,11 @@
 -- What is chosen of a layout: its type, its items, its length and its nodes, and that it is valid.
-use Rattle.std.proofs.Common.{◌≡◌, ℕ, zero, suc, ◌<◌, ◌≤◌, ◌||◌, Bool, true, false, List, [], ◌∷◌}
+use Rattle.std.proofs.Common.{◌≡◌, ℕ, zero, suc, ◌<◌, ◌≤◌, Bool, true, false, List, [], ◌∷◌}
 use Rattle.std.proofs.Common.{length, map, decimal, Option, Some, None, get_or, if◌then◌else◌, refl}
 use Rattle.std.proofs.Common.{ap, ap₂, ◌∙◌, sym, subst, arith}
 use Rattle.std.proofs.lemmas.List.{length-map}
 use Rattle.std.specs.Option.{option_map}
 use Rattle.std.proofs.lemmas.List.FromFn.{length-map-range_with_len}
+use Rattle.awk_base.proofs.Truths.{or_later}
 use Rattle.awk_types.specs.DataType.{Name, unknown, var, reg, opt, uni, type, types_from, type_list}
 use Rattle.awk_types.specs.Value.{value, values_from}
 use Rattle.awk_types.specs.Names.{same_name, is_among}
@@ -118,10 +119,6 @@ first_or_later : (P : ℕ → Type 0) (b : Bool) (p : ℕ) → P 0 → (b ≡ fa
     → P (if b then 0 else suc p)
 first_or_later P true p h k = h
 first_or_later P false p h k = k refl
-
-or_later : (a b : Bool) → (a || b) ≡ true → a ≡ false → b ≡ true
-or_later true b e f = cc
-or_later false b e f = e
 
 pub place_within : (k : Name) (names : List Name) → is_among k names ≡ true
     → place_of k names < length names

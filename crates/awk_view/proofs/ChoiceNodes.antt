@@ -1,10 +1,11 @@
 -- What is chosen of a layout has no more nodes, and is valid.
-use Rattle.std.proofs.Common.{◌≡◌, ℕ, suc, ◌+◌, ◌≤◌, max, ◌||◌, Bool, true, false, List, [], ◌∷◌}
+use Rattle.std.proofs.Common.{◌≡◌, ℕ, suc, ◌+◌, ◌≤◌, max, Bool, true, false, List, [], ◌∷◌}
 use Rattle.std.proofs.Common.{length, map, sum, get_or, if◌then◌else◌, refl, ap, ap₂, ◌∙◌, sym}
 use Rattle.std.proofs.Common.{subst, arith}
-use Rattle.std.proofs.lemmas.Grind.{common_steps}
 use Rattle.std.proofs.lemmas.List.{length-map, get_or-map}
 use Rattle.std.specs.List.{AllByRecursion}
+use Rattle.awk_base.proofs.Truths.{or_first, or_second}
+use Rattle.awk_base.proofs.Sums.{sum-cons}
 use Rattle.awk_types.specs.DataType.{Name}
 use Rattle.awk_types.specs.Names.{same_name, is_among, AreDistinct}
 use Rattle.awk_types.proofs.NameLaws.{same_name_is, same_name-refl}
@@ -22,17 +23,6 @@ not_turned true n m e f =
     (same_name-refl m) in
     cc
 not_turned false n m e f = refl
-
-or_first : (a b : Bool) → (a || b) ≡ false → a ≡ false
-or_first true b e = e
-or_first false b e = refl
-
-or_second : (a b : Bool) → (a || b) ≡ false → b ≡ false
-or_second true b e = cc
-or_second false b e = e
-
-sum-cons : (n : ℕ) (ns : List ℕ) → sum (n ∷ ns) ≡ n + sum ns
-sum-cons n ns = grind (arith, common_steps)
 
 -- a name that is not among the names changes none
 none_same : (m : Name) (w : ℕ) (f : Name → ℕ) (ks : List Name) → is_among m ks ≡ false

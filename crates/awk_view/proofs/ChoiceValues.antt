@@ -5,6 +5,7 @@ use Rattle.std.proofs.Common.{map, length, Option, Some, None, get_or, if◌then
 use Rattle.std.proofs.Common.{◌∙◌, sym, arith, length-append}
 use Rattle.std.specs.List.{list_any, flat_map, AllByRecursion}
 use Rattle.std.specs.Option.{option_map}
+use Rattle.std.proofs.lemmas.Simd.{map-map}
 use Rattle.awk_types.specs.DataType.{Name, DataType, unknown, leaf, var, reg, rec, tup, opt, uni}
 use Rattle.awk_types.specs.DataType.{DataTypes, no_types, type, types_from, type_list}
 use Rattle.awk_types.specs.Value.{Value, null, list, row, alt, Values, value_list, values_from}
@@ -252,11 +253,6 @@ union_placed c ts k w s h =
         ∙ flat_placed c ts k w s h e
 
 -- ---- values of lists
-
-map-map : {A B C : Type 0} (g : B → C) (f : A → B) (xs : List A)
-    → map g (map f xs) ≡ map (λ x. g (f x)) xs
-map-map g f [] = refl
-map-map g f (x ∷ xs) = ap (λ ys. g (f x) ∷ ys) (map-map g f xs)
 
 in_list-in_list : (g f : Value → Value) (v : Value)
     → in_list g (in_list f v) ≡ in_list (λ v. g (f v)) v

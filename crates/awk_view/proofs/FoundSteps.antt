@@ -16,7 +16,7 @@ use Rattle.awk_view.specs.Choice.{Choice, field, fields, without, row_names, has
 use Rattle.awk_view.specs.Choice.{all_have_field, has_records, all_have_records, first_absent}
 use Rattle.awk_view.specs.Choice.{absent}
 use Rattle.awk_view.specs.Layouts.{AreAmong, IsFound, AreFound}
-use Rattle.awk_types.proofs.ListLaws.{drop-get}
+use Rattle.awk_base.proofs.Lists.{drop-get}
 use Rattle.awk_view.proofs.ChoiceLayouts.{count-layout_types, layout_list-from}
 
 -- ---- loops over alternatives

@@ -5,7 +5,7 @@ use Rattle.std.proofs.Common.{arith}
 use Rattle.std.proofs.lemmas.List.{drop_all}
 use Rattle.awk_types.specs.DataType.{Name, DataType}
 use Rattle.awk_types.specs.Names.{same_name, is_among}
-use Rattle.awk_types.proofs.ListLaws.{drop-get}
+use Rattle.awk_base.proofs.Lists.{drop-get}
 use Rattle.awk_lanes.specs.Column.{Column}
 use Rattle.awk_layout.specs.Layout.{Layout, empty, flat, layouts_from}
 use Rattle.awk_layout.specs.Typing.{layout_type, layout_types}

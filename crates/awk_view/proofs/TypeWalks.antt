@@ -6,6 +6,7 @@ use Rattle.std.proofs.lemmas.List.{map-append, append-nil}
 use Rattle.std.proofs.lemmas.List.Folds.{list_any-append}
 use Rattle.std.proofs.lemmas.Grind.{flat_map-append}
 use Rattle.std.specs.List.{list_any, list_all, flat_map}
+use Rattle.std.proofs.Math.Bool.{or-false, and-true}
 use Rattle.awk_types.specs.DataType.{DataType, unknown, leaf, var, reg, rec, tup, opt, uni}
 use Rattle.awk_types.specs.DataType.{types_from, type_list}
 use Rattle.awk_types.specs.Simple.{present, option_if, is_option, alternatives}
@@ -15,19 +16,11 @@ use Rattle.awk_types.proofs.Trees.{types_from-list}
 
 -- ---- truth values
 
-or_false : (a : Bool) → (a || false) ≡ a
-or_false true = refl
-or_false false = refl
-
 or_crossed : (a b c d : Bool) → ((a || b) || (c || d)) ≡ ((a || c) || (b || d))
 or_crossed true b c d = refl
 or_crossed false true true d = refl
 or_crossed false true false d = refl
 or_crossed false false c d = refl
-
-and_true : (a : Bool) → (a && true) ≡ a
-and_true true = refl
-and_true false = refl
 
 and_grouped : (a b c : Bool) → ((a && b) && c) ≡ (a && (b && c))
 and_grouped true b c = refl
@@ -47,13 +40,13 @@ all_alternatives : (f : DataType → Bool)
     → list_all f (alternatives t) ≡ f t
 all_alternatives f u (uni ts) =
     sym (ap (λ us. f (uni us)) (sym (types_from-list ts)) ∙ u (type_list ts))
-all_alternatives f u unknown = and_true (f unknown)
-all_alternatives f u (leaf p) = and_true (f (leaf p))
-all_alternatives f u (var t) = and_true (f (var t))
-all_alternatives f u (reg n t) = and_true (f (reg n t))
-all_alternatives f u (rec ns ts) = and_true (f (rec ns ts))
-all_alternatives f u (tup ts) = and_true (f (tup ts))
-all_alternatives f u (opt t) = and_true (f (opt t))
+all_alternatives f u unknown = and-true (f unknown)
+all_alternatives f u (leaf p) = and-true (f (leaf p))
+all_alternatives f u (var t) = and-true (f (var t))
+all_alternatives f u (reg n t) = and-true (f (reg n t))
+all_alternatives f u (rec ns ts) = and-true (f (rec ns ts))
+all_alternatives f u (tup ts) = and-true (f (tup ts))
+all_alternatives f u (opt t) = and-true (f (opt t))
 
 test_present : (f : DataType → Bool) → ((t : DataType) → f (opt t) ≡ f t) → (t : DataType)
     → f (present t) ≡ f t
@@ -154,13 +147,13 @@ alternatives_option : (g : DataType → DataType)
 alternatives_option g u (uni ts) =
     sym (ap (λ us. is_option (g (uni us))) (sym (types_from-list ts)) ∙ ap is_option
     (u (type_list ts)) ∙ union_option (map g (type_list ts)))
-alternatives_option g u unknown = or_false (is_option (g unknown))
-alternatives_option g u (leaf p) = or_false (is_option (g (leaf p)))
-alternatives_option g u (var t) = or_false (is_option (g (var t)))
-alternatives_option g u (reg n t) = or_false (is_option (g (reg n t)))
-alternatives_option g u (rec ns ts) = or_false (is_option (g (rec ns ts)))
-alternatives_option g u (tup ts) = or_false (is_option (g (tup ts)))
-alternatives_option g u (opt t) = or_false (is_option (g (opt t)))
+alternatives_option g u unknown = or-false (is_option (g unknown))
+alternatives_option g u (leaf p) = or-false (is_option (g (leaf p)))
+alternatives_option g u (var t) = or-false (is_option (g (var t)))
+alternatives_option g u (reg n t) = or-false (is_option (g (reg n t)))
+alternatives_option g u (rec ns ts) = or-false (is_option (g (rec ns ts)))
+alternatives_option g u (tup ts) = or-false (is_option (g (tup ts)))
+alternatives_option g u (opt t) = or-false (is_option (g (opt t)))
 
 part_option : (g : DataType → DataType) → ((t : DataType) → g (opt t) ≡ option_of (g t))
     → ((ts : List DataType) → g (uni (types_from ts)) ≡ union_of (map g ts)) → (t : DataType)

@@ -1,7 +1,8 @@
 -- One list of all items of an array.
 use Rattle.std.proofs.Common.{◌≡◌, ℕ, ◌+◌, ◌-◌, refl, ap, sym, subst, ◌∙◌, arith}
-use Rattle.std.specs.Prelude.{List, [], ◌∷◌, ◌++◌, map, length, pos}
+use Rattle.std.specs.Prelude.{List, [], ◌∷◌, map, length, pos}
 use Rattle.std.specs.Prelude.{None}
+use Rattle.std.proofs.lemmas.List.{append-nil}
 use Rattle.awk_types.specs.Value.{Value, list, values_from, value_list}
 use Rattle.awk_types.proofs.Trees.{value_list-from}
 use Rattle.awk_lanes.specs.Column.{Column}
@@ -19,10 +20,6 @@ use Rattle.awk_frames.proofs.FrameLaws.{offsets_fill}
 -- the items as one list
 abbrev pub only : Layout → List Value
 only x = list (values_from (array_items x)) ∷ []
-
-append-nil : (vs : List Value) → vs ++ [] ≡ vs
-append-nil [] = refl
-append-nil (v ∷ vs) = ap (λ ws. v ∷ ws) (append-nil vs)
 
 map-id : (vs : List Value) → map (λ (v : Value). v) vs ≡ vs
 map-id [] = refl

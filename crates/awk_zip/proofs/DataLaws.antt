@@ -2,7 +2,7 @@
 use Rattle.std.proofs.Common.{◌≡◌, ℕ, ◌≤◌, ◌+◌, ap, sym, ◌∙◌, take}
 use Rattle.std.specs.Prelude.{List, [], ◌∷◌, ◌++◌, map, length, slice_get, Some}
 use Rattle.std.proofs.lemmas.List.{length-map, map-append, take_all}
-use Rattle.awk_types.proofs.ListLaws.{map-take-get}
+use Rattle.awk_base.proofs.Lists.{map-take-get}
 use Rattle.awk_layout.specs.Datum.{datum_of}
 use Rattle.awk_layout.specs.Single.{own_datum}
 use Rattle.awk_layout.specs.declared.datum.Datum.{Datum}

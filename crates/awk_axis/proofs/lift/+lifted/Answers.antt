@@ -1,4 +1,5 @@
 use Rattle.std.proofs.Common.{◌+◌, arith, rules, ◌≡◌, sym, true, false, ap, ◌∙◌, map}
+use Rattle.awk_base.proofs.Results.{if_ok}
 use Rattle.awk_layout.specs.Typing.{array_type}
 use Rattle.awk_columns.specs.Opened.{IsOpened}
 use Rattle.awk_axis.proofs.KindLaws.{unknown_accepted, unknown_refused, leaf_refused}
@@ -6,7 +7,6 @@ use Rattle.awk_axis.specs.Reach.{here, inner}
 use Rattle.awk_axis.specs.Lift.{refusal_at}
 use Rattle.awk_columns.specs.Joined.{IsJoined}
 use Rattle.awk_axis.specs.Mapped.{IsAtAxis, IsLifted, AreLifted}
-use Rattle.awk_axis.proofs.IfOk.{if_ok}
 use Rattle.awk_axis.proofs.LiftLaws.{refusal-list, refusal-list_here, refusal-row}
 use Rattle.awk_columns.proofs.ListNodes.{joined_even}
 use Rattle.awk_axis.proofs.LiftLaws.{count_mapped, reach_mapped, refusal-union, union_mapped}

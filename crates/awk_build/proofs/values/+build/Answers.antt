@@ -5,6 +5,7 @@ use Rattle.std.proofs.lemmas.List.{drop_all}
 use Rattle.serde_json.proofs.Views.{view-Object}
 use Rattle.serde_json.specs.Data.{item, member, no_items, object}
 use Rattle.serde_json.specs.View.{items_view, members_view, view}
+use Rattle.awk_base.proofs.Results.{IfOk-both}
 use Rattle.awk_types.specs.DataType.{leaf, rec, types_from}
 use Rattle.awk_types.specs.Has.{Holds}
 use Rattle.awk_types.specs.Value.{int, row, values_from}
@@ -16,7 +17,6 @@ use Rattle.awk_plain.proofs.TypeSteps.{item_next}
 use Rattle.awk_build.specs.Built.{AreArraysOf, AreFieldsOf, IsArrayOf, IsArrayOfItems}
 use Rattle.awk_build.specs.Numbers.{HasNumbers}
 use Rattle.awk_build.specs.Joined.{joined_items, joined_type}
-use Rattle.awk_columns.proofs.ResultLaws.{IfOk-both}
 use Rattle.awk_build.proofs.BuiltLaws.{arrays_more, fields_more, fields_named}
 use Rattle.awk_build.proofs.BuiltLaws.{fields_reach, items_made, items_within, row_made, row_within}
 use Rattle.awk_build.proofs.NumberLaws.{numbers_hold, numbers_made}

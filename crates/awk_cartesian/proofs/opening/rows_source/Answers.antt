@@ -1,5 +1,6 @@
 use Rattle.std.proofs.Common.{◌≡◌, false, true, None, Some, ap, sym, ◌∙◌, subst}
 use Rattle.std.specs.Prelude.{is_some}
+use Rattle.awk_base.proofs.Results.{if_ok}
 use Rattle.awk_types.specs.Simple.{is_option}
 use Rattle.awk_layout.specs.Typing.{array_type, array_items}
 use Rattle.awk_layout.specs.Valid.{len}
@@ -8,7 +9,7 @@ use Rattle.awk_merge_operands.specs.Operands.{values_by, IsListIndex}
 use Rattle.awk_cartesian.specs.Cartesian.{list_item, rows_item}
 use Rattle.awk_cartesian.specs.Sources.{IsOpened}
 use Rattle.awk_cartesian.proofs.OpeningLaws.{plain_item, plain_opened, option_item, option_index}
-use Rattle.awk_cartesian.proofs.OpeningLaws.{option_opened, mapped}
+use Rattle.awk_cartesian.proofs.OpeningLaws.{option_opened}
 use Rattle.awk_cartesian.proofs.opening.rows_source.Goals as goal
 
 pub indexed_source-requires-clause-lists : goal.indexed_source-requires-clause-lists
@@ -26,7 +27,7 @@ returns-then-not-is_optional g c =
     let x = c.args.x.now in
     let e : is_option (array_type x) ≡ false =
     ap is_option (sym c.typ.ensures.typ) ∙ sym c.is_optional.ensures ∙ c.if-not-is_optional.true in
-    mapped
+    if_ok
     (IsOpened (values_by None c.len-n.result (array_item x)) (list_item (array_type x)) false)
     (IsOpened (array_items x) (rows_item (array_type x)) (is_option (array_type x)))
     c.indexed_source.result
@@ -53,7 +54,7 @@ pub returns : goal.returns
 returns g c =
     let x = c.args.x.now in
     let w = c.in_ok-rows.rows in
-    mapped
+    if_ok
     (IsOpened (values_by (Some w.index) c.len-n.result (array_item w.content))
     (list_item (array_type w.content)) true)
     (IsOpened (array_items x) (rows_item (array_type x)) (is_option (array_type x)))

@@ -1,6 +1,6 @@
 use Rattle.std.proofs.Common.{◌≡◌, refl, sym, subst, arith, length, take}
-use Rattle.awk_types.proofs.ListLaws.{take-get}
 use Rattle.awk_merge_operands.specs.Operands.{IndexesAll}
+use Rattle.awk_base.proofs.Lists.{take-get}
 use Rattle.awk_cartesian.specs.Sources.{rows_in, IsListed, AreRows}
 use Rattle.awk_cartesian.proofs.RowLaws.{no_rows, more_rows, one_of, all_of_no_more}
 use Rattle.awk_cartesian.proofs.rows.opened_rows.Goals as goal

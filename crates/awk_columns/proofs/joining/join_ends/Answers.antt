@@ -1,10 +1,10 @@
 use Rattle.std.proofs.Common.{arith, ◌∙◌}
+use Rattle.awk_base.proofs.Results.{none_left}
 use Rattle.awk_lanes.specs.Places.{size_of}
 use Rattle.awk_layout.specs.Laws.{len-fits}
 use Rattle.awk_layout.specs.Valid.{len}
 use Rattle.awk_columns.proofs.JoinedLists.{spans_wider, before-spans, offsets_by-is, are_joined}
 use Rattle.awk_columns.proofs.JoinedLists.{joined_refused, joined_given, offsets_lane-is}
-use Rattle.awk_counts.proofs.PlaceLanes.{none_left}
 use Rattle.awk_columns.proofs.joining.join_ends.Goals as goal
 
 pub offsets_within-requires-clause-ready : goal.offsets_within-requires-clause-ready

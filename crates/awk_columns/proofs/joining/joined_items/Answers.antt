@@ -1,10 +1,10 @@
 use Rattle.std.proofs.Common.{arith, subst}
 use Rattle.std.specs.Prelude.{IfSome}
+use Rattle.awk_base.proofs.Results.{IfOk-both}
 use Rattle.awk_layout.specs.Laws.{len-fits}
 use Rattle.awk_layout.specs.Valid.{len}
 use Rattle.awk_counts.specs.Counted.{IsRow}
 use Rattle.awk_columns.proofs.JoinedLists.{spans_wider, row_reached}
-use Rattle.awk_columns.proofs.ResultLaws.{IfOk-both}
 use Rattle.awk_columns.proofs.joining.joined_items.Goals as goal
 
 pub row_start-requires-clause-spans : goal.row_start-requires-clause-spans

@@ -1,9 +1,9 @@
 use Rattle.std.proofs.Common.{subst, sym}
+use Rattle.awk_base.proofs.Results.{IfOk-both}
 use Rattle.awk_lanes.specs.Places.{size_of, IsIndex}
 use Rattle.awk_layout.specs.Valid.{len}
 use Rattle.awk_counts.specs.Counted.{first_of, tagged_at}
 use Rattle.awk_columns.proofs.ReachedContents.{places_index, reached_by}
-use Rattle.awk_columns.proofs.ResultLaws.{IfOk-both}
 use Rattle.awk_columns.proofs.order.taken_of.Goals as goal
 
 pub taken-requires-clause-places : goal.taken-requires-clause-places

@@ -1,9 +1,9 @@
 use Rattle.std.proofs.Common.{◌+◌, ◌<◌, ◌^◌, arith, ap, sym, ◌∙◌, subst}
 use Rattle.std.specs.Prelude.{IfSome}
+use Rattle.awk_base.proofs.Results.{none_left}
 use Rattle.awk_lanes.specs.Places.{size_of}
 use Rattle.awk_counts.specs.Counted.{first_of, present_place, present_at}
-use Rattle.awk_counts.proofs.PlaceLanes.{ArePlaces, none_left, given_pushed, given_none}
-use Rattle.awk_counts.proofs.PlaceLanes.{given_room}
+use Rattle.awk_counts.proofs.PlaceLanes.{ArePlaces, given_pushed, given_none, given_room}
 use Rattle.awk_counts.proofs.present.present_lane.Goals as goal
 use Rattle.awk_counts.proofs.present.present_lane.Goals.{in-Some, in_default}
 

@@ -1,6 +1,6 @@
 -- The loop over contents.
 use Rattle.std.proofs.Common.{◌+◌, ◌++◌, ◌∷◌, [], ap₂, sym, ◌∙◌, arith, rules}
-use Rattle.awk_types.proofs.ListLaws.{take-get}
+use Rattle.awk_base.proofs.Lists.{take-get}
 use Rattle.awk_layout.specs.Contents.{weight-get}
 use Rattle.awk_range.proofs.Weights.{weights-take_more, weights-take-le}
 use Rattle.awk_eval.proofs.shared.+shared.Goals as goal

@@ -1,4 +1,4 @@
-use Rattle.awk_types.proofs.ListLaws.{take-get}
+use Rattle.awk_base.proofs.Lists.{take-get}
 use Rattle.awk_fill.proofs.moving.+moving.Goals as goal
 
 pub nodes_in-loop-i-preserved : goal.nodes_in-loop-i-preserved

@@ -10,7 +10,7 @@ use Rattle.awk_form.specs.FormTree.{forms_from}
 use Rattle.awk_form.specs.Lawful.{AreNamesOf}
 use Rattle.awk_form.specs.declared.form.Shape.{the_lemmas}
 use Rattle.awk_form.proofs.Types.{count-from, type-Union, type-Row, lawful-Row, lawful_left}
-use Rattle.awk_form.proofs.Lists.{map_left}
+use Rattle.awk_base.proofs.Left.{map_left}
 use Rattle.awk_form.proofs.typing.+item_type.Goals as goal
 
 pub item_type-returns-in_ok-item_types-in-Union : goal.item_type-returns-in_ok-item_types-in-Union

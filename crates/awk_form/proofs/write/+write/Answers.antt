@@ -6,7 +6,7 @@ use Rattle.awk_form.specs.FormText.{class_text, class_member, members_text, form
 use Rattle.awk_form.specs.View.{form_of, forms_of}
 use Rattle.awk_form.specs.declared.form.Shape.TheViews.{out-Form}
 use Rattle.awk_form.proofs.FormTexts.{stops_in_contents, puts_parts, content-said, contents-said}
-use Rattle.awk_form.proofs.Lists.{map_left, map_none}
+use Rattle.awk_base.proofs.Left.{map_left, map_none}
 use Rattle.awk_form.proofs.Views.{forms_out}
 use Rattle.awk_form.proofs.write.+write.Goals as goal
 

@@ -2,7 +2,7 @@ use Rattle.std.proofs.Common.{◌++◌, [], codes, map, Some, arith, refl, sym, 
 use Rattle.awk_json.proofs.Joins.{stops_at, joins_first, joins_next, joins_stop, joins_stop_in}
 use Rattle.awk_json.proofs.Joins.{joins_last}
 use Rattle.awk_json.specs.Text.{quoted, comma_joined}
-use Rattle.awk_form.proofs.Lists.{map_left, map_left_at, map_none}
+use Rattle.awk_base.proofs.Left.{map_left, map_left_at, map_none}
 use Rattle.awk_form.proofs.write.write_names.Goals as goal
 
 pub returns-in_err-put-clause-bytes : goal.returns-in_err-put-clause-bytes

@@ -1,5 +1,6 @@
 use Rattle.std.specs.List.{AllByRecursion}
 use Rattle.std.proofs.Common.{◌≡◌, ap, ◌∙◌, subst}
+use Rattle.awk_base.proofs.Results.{if_ok}
 use Rattle.awk_types.specs.Has.{Has}
 use Rattle.awk_types.specs.Simple.{is_option}
 use Rattle.awk_lanes.specs.Places.{size_of}
@@ -9,7 +10,6 @@ use Rattle.awk_jagged.specs.PickedAt.{ArePlacesOr, IsPickedAt}
 use Rattle.awk_jagged_rows.specs.Levels.{AreCompared}
 use Rattle.awk_jagged.proofs.LeafLaws.{masks-within}
 use Rattle.awk_jagged.proofs.PickLaws.{unlike-masks, by-masks, leaf-outcome}
-use Rattle.awk_jagged_rows.proofs.Results.{if_ok}
 use Rattle.awk_jagged.proofs.leaves.by_masks.Goals as goal
 
 pub returns-then-lengths_differ : goal.returns-then-lengths_differ

@@ -1,5 +1,6 @@
 use Rattle.std.specs.List.{AllByRecursion}
 use Rattle.std.proofs.Common.{◌≡◌, ap, ◌∙◌, subst}
+use Rattle.awk_base.proofs.Results.{if_ok}
 use Rattle.awk_types.specs.Has.{Has}
 use Rattle.awk_types.specs.Simple.{is_option}
 use Rattle.awk_lanes.specs.Places.{size_of}
@@ -8,7 +9,6 @@ use Rattle.awk_jagged_places.specs.Leaves.{take_numbers, AreTested}
 use Rattle.awk_jagged.specs.PickedAt.{ArePlacesOr, IsPickedAt}
 use Rattle.awk_jagged.proofs.LeafLaws.{takes-within}
 use Rattle.awk_jagged.proofs.PickLaws.{outside-told, by-takes, leaf-outcome}
-use Rattle.awk_jagged_rows.proofs.Results.{if_ok}
 use Rattle.awk_jagged.proofs.leaves.by_places.Goals as goal
 
 pub returns-then-has_outside : goal.returns-then-has_outside

@@ -1,5 +1,6 @@
 use Rattle.std.specs.Prelude.{◌+◌}
 use Rattle.std.proofs.Common.{arith, sym, subst}
+use Rattle.awk_base.proofs.Results.{if_ok}
 use Rattle.awk_layout.specs.Typing.{array_type}
 use Rattle.awk_jagged_rows.specs.Levels.{AreRows, AreUnlike}
 use Rattle.awk_jagged.specs.Outcomes.{IsTold}
@@ -7,7 +8,6 @@ use Rattle.awk_jagged.specs.declared.picking.Told.TheVariants as told
 use Rattle.awk_jagged.proofs.OverLaws.{can-hold, outcome-over}
 use Rattle.awk_jagged.proofs.PickLaws.{unlike-rows}
 use Rattle.awk_jagged.proofs.PickedTypes.{rows-picked, rows-index}
-use Rattle.awk_jagged_rows.proofs.Results.{if_ok}
 use Rattle.awk_jagged.proofs.ToldLaws.{AreToldTo, told-outside, told-nothing, told-many, one-told}
 use Rattle.awk_jagged.proofs.picking.+picked.Goals as goal
 use Rattle.awk_jagged.proofs.picking.+picked.Goals.{picked_apart-in-Outside}

@@ -1,8 +1,8 @@
 use Rattle.std.proofs.Common.{option_map, ap, ◌∙◌}
+use Rattle.awk_base.proofs.Results.{if_ok}
 use Rattle.awk_types.specs.DataType.{opt}
 use Rattle.awk_types.specs.View.{typ_of}
 use Rattle.awk_jagged.specs.Jagged.{pick_type}
-use Rattle.awk_jagged_rows.proofs.Results.{if_ok}
 use Rattle.awk_jagged.proofs.TypeLaws.{rows_by_opt}
 use Rattle.awk_jagged.proofs.types.+pick.Goals as goal
 

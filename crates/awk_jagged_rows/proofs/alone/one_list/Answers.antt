@@ -1,6 +1,6 @@
 use Rattle.std.specs.Prelude.{refl}
+use Rattle.awk_base.proofs.Results.{if_ok}
 use Rattle.awk_jagged_rows.proofs.AloneLaws.{whole}
-use Rattle.awk_jagged_rows.proofs.Results.{if_ok}
 use Rattle.awk_jagged_rows.proofs.alone.one_list.Goals as goal
 
 pub returns : goal.returns

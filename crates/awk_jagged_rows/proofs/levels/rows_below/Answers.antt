@@ -1,9 +1,9 @@
 use Rattle.std.proofs.Common.{subst}
+use Rattle.awk_base.proofs.Results.{if_ok}
 use Rattle.awk_jagged_rows.specs.InOrder.{AreFirsts}
 use Rattle.awk_jagged_rows.specs.RowLists.{AreRowsOf}
 use Rattle.awk_jagged_rows.proofs.LevelLaws.{rows-made}
 use Rattle.awk_jagged_rows.proofs.OrderLaws.{rows-ordered, first-within, second-within}
-use Rattle.awk_jagged_rows.proofs.Results.{if_ok}
 use Rattle.awk_jagged_rows.proofs.levels.rows_below.Goals as goal
 
 pub rows_in_order-requires-clause-x_within : goal.rows_in_order-requires-clause-x_within

@@ -1,10 +1,10 @@
 use Rattle.std.specs.Prelude.{false}
 use Rattle.std.proofs.Common.{◌≡◌, ap, sym, ◌∙◌}
+use Rattle.awk_base.proofs.Results.{if_ok}
 use Rattle.awk_types.specs.Simple.{is_option}
 use Rattle.awk_layout.specs.Typing.{array_type}
 use Rattle.awk_open.specs.Opened.{IsOpened}
 use Rattle.awk_open.specs.declared.opening.Opened.{Opened}
-use Rattle.awk_jagged_rows.proofs.Results.{if_ok}
 use Rattle.awk_jagged_rows.proofs.RowLaws.{rows-whole, rows-option}
 use Rattle.awk_jagged_rows.proofs.row_lists.row_lists.Goals as goal
 

@@ -1,7 +1,8 @@
 use Rattle.std.proofs.Common.{arith, ◌++◌, ◌+◌, drop, get_or, slice_range, refl, ap, ◌∙◌, sym}
 use Rattle.std.proofs.Common.{append_assoc}
+use Rattle.awk_base.proofs.Lists.{part_none}
 use Rattle.awk_json.specs.Text.{escape, escaped_all}
-use Rattle.awk_json.proofs.Escapes.{plain_on, special_next, none_between, last_part}
+use Rattle.awk_json.proofs.Escapes.{plain_on, special_next, last_part}
 use Rattle.awk_json.proofs.Puts.{stops, goes}
 use Rattle.awk_json.proofs.text.write_escaped.Goals as goal
 
@@ -37,7 +38,7 @@ loop-i-preserved g c =
     let bytes = c.args.bytes.now in
     let i = c.loop-i.i in
     let next = special_next bytes i (omega arith) (grind arith) in
-    let none = none_between bytes (i + 1) in
+    let none = part_none bytes (i + 1) in
     record {
       ordered = omega arith;
       done =

@@ -1,7 +1,7 @@
 use Rattle.std.proofs.Common.{◌∙◌, [], ◌∷◌, ap, map, take}
 use Rattle.std.proofs.lemmas.List.{map-append}
 use Rattle.awk_types.specs.DataType.{uni, tup, rec, types_from}
-use Rattle.awk_types.proofs.ListLaws.{take-get}
+use Rattle.awk_base.proofs.Lists.{take-get}
 use Rattle.awk_types.proofs.Views.{typ_of-Uni, typ_of-Tup, typ_of-Rec}
 use Rattle.awk_layout.specs.Typing.{layout_type}
 use Rattle.awk_layout.proofs.ContentTypes.{layout_types-layouts_from}

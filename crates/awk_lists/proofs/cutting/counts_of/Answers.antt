@@ -1,5 +1,5 @@
+use Rattle.awk_base.proofs.Results.{if_ok}
 use Rattle.awk_layout.specs.Typing.{array_type}
-use Rattle.awk_axis.proofs.IfOk.{if_ok}
 use Rattle.awk_lists.specs.Numbers.{AreNumbers, AreCounts}
 use Rattle.awk_lists.proofs.Leaves.{counts_leaf, are_whole}
 use Rattle.awk_lists.proofs.cutting.counts_of.Goals as goal

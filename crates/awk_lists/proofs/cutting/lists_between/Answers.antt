@@ -1,9 +1,9 @@
 use Rattle.std.proofs.Common.{◌≡◌, ◌<◌, ◌^◌, arith, ap, ◌∙◌}
+use Rattle.awk_base.proofs.Results.{if_ok}
 use Rattle.awk_layout.specs.Laws.{len-fits}
 use Rattle.awk_layout.specs.Layout.{Layout, offset_lists}
 use Rattle.awk_layout.specs.Typing.{array_type, array_items, array_datum}
 use Rattle.awk_layout.specs.Valid.{len}
-use Rattle.awk_axis.proofs.IfOk.{if_ok}
 use Rattle.awk_lists.specs.Unflatten.{lists_by}
 use Rattle.awk_lists.proofs.Cuts.{cut_offsets, lists_cut, counted_whole}
 use Rattle.awk_lists.proofs.cutting.lists_between.Goals as goal

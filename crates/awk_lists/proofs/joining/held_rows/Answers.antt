@@ -1,10 +1,10 @@
 use Rattle.std.proofs.Common.{◌<◌, IfOk, None}
+use Rattle.awk_base.proofs.Results.{if_ok}
 use Rattle.awk_lanes.specs.Column.{Column}
 use Rattle.awk_types.specs.ItemLimit.{item_limit}
 use Rattle.awk_columns.specs.Joined.{IsJoined, total}
 use Rattle.awk_axis.specs.Mapped.{IsMade}
 use Rattle.awk_columns.specs.declared.lists.Joined.TheVariants.{TooMany}
-use Rattle.awk_axis.proofs.IfOk.{if_ok}
 use Rattle.awk_lists.specs.Flatten.{flatten_function}
 use Rattle.awk_list_ends.specs.Ends.{numbers_at_ends}
 use Rattle.awk_lists.proofs.MovedSpans.{starts_are, stops_are, moved_spans, moved_spoilt}

@@ -1,5 +1,5 @@
 use Rattle.std.proofs.Common.{arith, rules}
-use Rattle.awk_axis.proofs.IfOk.{if_ok}
+use Rattle.awk_base.proofs.Results.{if_ok}
 use Rattle.awk_mask_levels.specs.MaskLevels.{IsInner, IsLevel, IsPlaced, over_layout}
 use Rattle.awk_mask_levels.specs.declared.mask_levels.Level.TheVariants.{Innermost, Unequal}
 use Rattle.awk_mask_levels.specs.declared.mask_levels.Level.TheVariants.{TooMany}

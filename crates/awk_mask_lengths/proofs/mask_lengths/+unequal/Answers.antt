@@ -1,11 +1,12 @@
 use Rattle.std.specs.Prelude.{true, false, ◌<◌}
 use Rattle.std.proofs.Common.{◌≡◌, arith, ap, sym, ◌∙◌}
+use Rattle.awk_base.proofs.Ranges.{one_more}
 use Rattle.awk_layout.specs.Typing.{array_type}
 use Rattle.awk_layout.specs.Valid.{len}
 use Rattle.awk_gather.specs.Arrays.{array_item}
 use Rattle.awk_mask_lengths.specs.MaskLists.{has_lists}
 use Rattle.awk_mask_lengths.specs.MaskValues.{differs}
-use Rattle.awk_mask_lengths.proofs.MaskPairs.{without_lists, items_mask, item_depth, one_more}
+use Rattle.awk_mask_lengths.proofs.MaskPairs.{without_lists, items_mask, item_depth}
 use Rattle.awk_mask_lengths.proofs.MaskPairs.{arrays_none, arrays_one, arrays_unequal, lists_told}
 use Rattle.awk_mask_lengths.proofs.MaskPairs.{place_among}
 use Rattle.awk_mask_lengths.proofs.mask_lengths.+unequal.Goals as goal

@@ -1,10 +1,10 @@
 use Rattle.std.specs.Prelude.{◌≡◌, ℕ, ◌≤◌, ◌+◌, slice_range}
 use Rattle.std.proofs.Common.{arith, ap₂, ◌∙◌}
+use Rattle.awk_base.proofs.Results.{if_ok}
 use Rattle.awk_lanes.specs.Places.{at, place_at}
 use Rattle.awk_layout.specs.Laws.{len-fits}
 use Rattle.awk_layout.specs.Typing.{array_items}
 use Rattle.awk_layout.specs.Valid.{len, IsValid}
-use Rattle.awk_axis.proofs.IfOk.{if_ok}
 use Rattle.awk_columns.specs.Lists.{span_length}
 use Rattle.awk_mask_lengths.proofs.MaskLists.{items_part, span_end}
 use Rattle.awk_mask_lengths.proofs.mask_lengths.items_in.Goals as goal

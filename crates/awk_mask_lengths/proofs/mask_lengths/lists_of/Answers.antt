@@ -1,11 +1,11 @@
 use Rattle.std.specs.Prelude.{pos, true}
 use Rattle.std.proofs.Common.{◌≡◌, ap, subst, ◌∙◌}
+use Rattle.awk_base.proofs.Results.{if_ok}
 use Rattle.awk_lanes.specs.declared.kind.Kind.TheVariants.{I64}
 use Rattle.awk_layout.specs.Typing.{array_type}
 use Rattle.awk_layout.specs.Valid.{len}
 use Rattle.awk_lanes.specs.Made.{lane_of}
 use Rattle.awk_columns.specs.Opened.{OpensOption}
-use Rattle.awk_axis.proofs.IfOk.{if_ok}
 use Rattle.awk_mask_lengths.specs.MaskLists.{AreInside}
 use Rattle.awk_types.specs.Predicates.{is_list}
 use Rattle.awk_mask_lengths.proofs.MaskLists.{whole_lists, option_lists}

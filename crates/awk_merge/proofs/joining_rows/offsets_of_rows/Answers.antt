@@ -1,8 +1,8 @@
 use Rattle.std.proofs.Common.{◌+◌, ◌*◌, arith}
+use Rattle.awk_base.proofs.Numbers.{times-le}
 use Rattle.awk_lanes.specs.Numbers.{int_of}
 use Rattle.awk_lanes.specs.Places.{at}
 use Rattle.awk_lanes.proofs.MadeLanes.{so_far_pushed}
-use Rattle.awk_merge.proofs.RangeLaws.{times_within}
 use Rattle.awk_merge.proofs.joining_rows.offsets_of_rows.Goals as goal
 
 pub loop-i-preserved : goal.loop-i-preserved
@@ -15,6 +15,6 @@ pub overflow_mul-i : goal.overflow_mul-i
 overflow_mul-i g c =
     omega (
       arith,
-      times_within c.loop-i.i c.args.n c.args.k (omega (arith, c.loop-i-test.true)),
+      times-le c.loop-i.i c.args.n c.args.k (omega (arith, c.loop-i-test.true)),
       c.requires.small,
     )

@@ -3,7 +3,7 @@ use Rattle.std.proofs.Common.{◌∙◌, ap, sym, take, List, ℕ, [], ◌∷◌
 use Rattle.std.proofs.lemmas.List.{take_all}
 use Rattle.awk_types.specs.Names.{are_distinct}
 use Rattle.awk_types.proofs.DistinctLaws.{distinct-more, repeated}
-use Rattle.awk_types.proofs.ListLaws.{take-get}
+use Rattle.awk_base.proofs.Lists.{take-get}
 use Rattle.awk_name_places.proofs.PlaceLaws.{keys-among, keys-more}
 use Rattle.awk_name_places.proofs.NamePlaces.of_names.Goals as goal
 

@@ -1,10 +1,10 @@
 use Rattle.std.proofs.Common.{◌≡◌, ap, sym, ◌∙◌, subst}
 use Rattle.std.specs.Prelude.{false}
+use Rattle.awk_base.proofs.Results.{if_ok}
 use Rattle.awk_types.specs.Simple.{is_option}
 use Rattle.awk_layout.specs.Typing.{array_type}
 use Rattle.awk_open.specs.Opened.{IsOpened}
 use Rattle.awk_open.specs.declared.opening.Opened.TheVariants.{Option as Optional}
-use Rattle.awk_axis.proofs.IfOk.{if_ok}
 use Rattle.awk_nulls.specs.Lanes.{nulls_lane, falses_lane, AreNulls}
 use Rattle.awk_nulls.proofs.NullLaws.{falses_are, nulls_are}
 use Rattle.awk_nulls.proofs.nulls.nulls_of.Goals as goal

@@ -1,7 +1,7 @@
 use Rattle.std.proofs.Common.{◌≡◌, sym, subst}
+use Rattle.awk_base.proofs.Results.{if_ok}
 use Rattle.awk_layout.specs.Laws.{len-fits}
 use Rattle.awk_layout.specs.Layout.{offset_lists}
-use Rattle.awk_axis.proofs.IfOk.{if_ok}
 use Rattle.awk_nulls.specs.Lanes.{AreSingles}
 use Rattle.awk_nulls.proofs.SingleLaws.{single_fit, single_offsets, singles_are}
 use Rattle.awk_nulls.proofs.singles.singles_of.Goals as goal

@@ -1,4 +1,4 @@
-use Rattle.awk_types.proofs.ListLaws.{take-get}
+use Rattle.awk_base.proofs.Lists.{take-get}
 use Rattle.awk_open.proofs.whole.arrays_of.Goals as goal
 
 pub loop-i-preserved : goal.loop-i-preserved

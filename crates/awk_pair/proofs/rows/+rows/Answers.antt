@@ -1,4 +1,5 @@
 use Rattle.std.proofs.Common.{◌∙◌, sym, subst, map}
+use Rattle.std.proofs.lemmas.Bool.{and_parts}
 use Rattle.awk_layout.specs.Typing.{array_type}
 use Rattle.awk_pair.specs.Outcomes.{reach_of, ArePairs}
 use Rattle.awk_pair_sides.specs.Rows.{rows_at}
@@ -13,7 +14,7 @@ use Rattle.awk_pair.proofs.OutcomeLaws.{nulls_pairs, nulls_too_many, nulls_unequ
 use Rattle.awk_pair.proofs.OutcomeLaws.{lists_unequal_below, lists_pairs, lists_too_many}
 use Rattle.awk_pair.proofs.OutcomeLaws.{lists_large}
 use Rattle.awk_frames.proofs.Views.{shape_of-Leaf, shape_of-Items, shape_of-Missing}
-use Rattle.awk_pair.proofs.RecursionLaws.{both, bare_end, rows_few, large_of}
+use Rattle.awk_pair.proofs.RecursionLaws.{bare_end, rows_few, large_of}
 use Rattle.awk_pair.proofs.rows.+rows.Goals as goal
 
 pub pair_bare-returns : goal.pair_bare-returns
@@ -88,7 +89,7 @@ pub pair_present-returns-in-Unequal : goal.pair_present-returns-in-Unequal
 pair_present-returns-in-Unequal g t c =
     let h : ArePresent c.args.n c.args.xs.now c.in_ok-index.field-0.index
     c.in_ok-index.field-0.count c.in_ok-index.field-0.arrays = c.in_ok-index.ensures in
-    let n = both (takes_nulls (reach_of c.args.rule.to_leaves) c.args.d
+    let n = and_parts (takes_nulls (reach_of c.args.rule.to_leaves) c.args.d
     (map array_type c.args.xs.now))
     (some_option (map array_type c.args.xs.now)) c.requires.nulls in
     nulls_unequal c.args.rule.keep c.args.d (map array_type c.args.xs.now)
@@ -101,7 +102,7 @@ pub pair_present-returns-in-TooMany : goal.pair_present-returns-in-TooMany
 pair_present-returns-in-TooMany g t c =
     let h : ArePresent c.args.n c.args.xs.now c.in_ok-index.field-0.index
     c.in_ok-index.field-0.count c.in_ok-index.field-0.arrays = c.in_ok-index.ensures in
-    let n = both (takes_nulls (reach_of c.args.rule.to_leaves) c.args.d
+    let n = and_parts (takes_nulls (reach_of c.args.rule.to_leaves) c.args.d
     (map array_type c.args.xs.now))
     (some_option (map array_type c.args.xs.now)) c.requires.nulls in
     nulls_too_many c.args.rule.keep (reach_of c.args.rule.to_leaves) c.args.d
@@ -115,7 +116,7 @@ pub pair_present-returns : goal.pair_present-returns
 pair_present-returns g t c =
     let h : ArePresent c.args.n c.args.xs.now c.in_ok-index.field-0.index
     c.in_ok-index.field-0.count c.in_ok-index.field-0.arrays = c.in_ok-index.ensures in
-    let n = both (takes_nulls (reach_of c.args.rule.to_leaves) c.args.d
+    let n = and_parts (takes_nulls (reach_of c.args.rule.to_leaves) c.args.d
     (map array_type c.args.xs.now))
     (some_option (map array_type c.args.xs.now)) c.requires.nulls in
     subst (λ s. ArePairs c.args.rule.keep (reach_of c.args.rule.to_leaves) c.args.d

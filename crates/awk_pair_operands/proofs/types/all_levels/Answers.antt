@@ -1,7 +1,8 @@
 use Rattle.std.proofs.Common.{◌≡◌, ◌+◌, ◌∙◌, sym, subst, map}
+use Rattle.awk_base.proofs.Numbers.{ord_max-nat}
 use Rattle.awk_pair_operands.specs.Paired.{all_levels}
 use Rattle.awk_pair_operands.specs.Types.{operand_type}
-use Rattle.awk_pair_operands.proofs.TypeLaws.{depths_from, depths_next, ord_max-nat}
+use Rattle.awk_pair_operands.proofs.TypeLaws.{depths_from, depths_next}
 use Rattle.awk_pair_operands.proofs.types.all_levels.Goals as goal
 
 pub loop-i-preserved : goal.loop-i-preserved

@@ -4,11 +4,11 @@ use Rattle.std.specs.Prelude.{filter, IfOk}
 use Rattle.std.specs.List.{AllByRecursion}
 use Rattle.serde_json.specs.Data.{Data}
 use Rattle.serde_json.specs.View.{view}
+use Rattle.awk_base.proofs.Results.{IfOk-both}
 use Rattle.awk_types.proofs.Views.{field_of-out, typ_of-Rec}
 use Rattle.awk_types.specs.DataType.{DataType, depth, opt, rec, unknown, var}
 use Rattle.awk_types.specs.Simple.{option_of}
 use Rattle.awk_types.specs.View.{NamedType, field_of, fields_of, names_of, typ_of, types_of}
-use Rattle.awk_columns.proofs.ResultLaws.{IfOk-both}
 use Rattle.awk_columns.specs.Columns.{is_present, joined_items}
 use Rattle.awk_layout.specs.Typing.{array_type, array_items}
 use Rattle.awk_frames.proofs.ValueLists.{IsList}

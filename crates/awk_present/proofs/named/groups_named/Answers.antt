@@ -1,11 +1,11 @@
 use Rattle.std.proofs.Common.{◌≡◌, length, [], get_or, refl, ap, sym, ◌∙◌, arith}
 use Rattle.std.specs.Prelude.{Some}
 use Rattle.std.proofs.lemmas.List.{get_or_read}
+use Rattle.awk_base.proofs.Results.{none_left}
 use Rattle.awk_lanes.specs.Places.{option_place}
 use Rattle.awk_gather_lanes.specs.Moved.{eight}
 use Rattle.awk_counts.specs.Counted.{present_place}
 use Rattle.awk_counts.proofs.FirstPlaces.{first_of-room, length-first_of}
-use Rattle.awk_counts.proofs.PlaceLanes.{none_left}
 use Rattle.awk_present.specs.Named.{place_group}
 use Rattle.awk_present.proofs.NamedLaws.{named_more, places_same}
 use Rattle.awk_present.proofs.named.groups_named.Goals as goal

@@ -1,6 +1,6 @@
 use Rattle.std.proofs.Common.{◌+◌, arith, ap, sym, ◌∙◌, subst}
 use Rattle.awk_counts.specs.Counted.{first_of, present_place, present_at}
-use Rattle.awk_counts.proofs.PlaceLanes.{none_left}
+use Rattle.awk_base.proofs.Results.{none_left}
 use Rattle.awk_present.proofs.TakenLanes.{AreTaken, taken_more, taken_same, taken_room}
 use Rattle.awk_present.proofs.named.read_named.Goals as goal
 use Rattle.awk_present.proofs.named.read_named.Goals.{in-Some, in_default}

@@ -1,11 +1,12 @@
 use Rattle.std.proofs.Common.{◌≡◌, ◌∙◌, ap, subst, Some}
 use Rattle.std.specs.Simd.Lanes.{zip2}
+use Rattle.awk_base.proofs.Results.{if_ok}
 use Rattle.awk_layout.specs.Contents.{count-layouts_from}
 use Rattle.awk_layout.specs.Typing.{array_type, array_items}
 use Rattle.awk_columns.specs.Opened.{IsOpened, OpensRow}
 use Rattle.awk_columns.specs.declared.opening.Opened.TheVariants.{Row}
 use Rattle.awk_put_field.specs.Field.{names_in, field_type, field_value}
-use Rattle.awk_put_field.proofs.RowLaws.{made, items-made, type-made, if_ok}
+use Rattle.awk_put_field.proofs.RowLaws.{made, items-made, type-made}
 use Rattle.awk_put_field.proofs.ends.present_with.Goals as goal
 
 pub records_of-requires-clause-names : goal.records_of-requires-clause-names

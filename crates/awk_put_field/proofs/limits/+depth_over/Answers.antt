@@ -1,11 +1,12 @@
 use Rattle.std.proofs.Common.{◌≡◌, ◌+◌, suc, false, ap, ◌∙◌, arith}
 use Rattle.std.specs.Prelude.{◌||◌}
+use Rattle.std.proofs.Math.Bool.{or-false}
 use Rattle.awk_types.specs.DataType.{depth as depth_of, depths, greatest}
 use Rattle.awk_types.specs.View.{typ_of, fields_of, names_of, types_of}
 use Rattle.awk_types.proofs.Views.{typ_of-Rec}
 use Rattle.awk_put_field.specs.Depths.{depth_over as depth_joined, one_if as one_where}
 use Rattle.awk_put_field.specs.Field.{put}
-use Rattle.awk_put_field.proofs.DepthLaws.{greatest-put, or-false}
+use Rattle.awk_put_field.proofs.DepthLaws.{greatest-put}
 use Rattle.awk_put_field.proofs.limits.+depth_over.Goals as goal
 
 pub returns-in-Rec : goal.returns-in-Rec

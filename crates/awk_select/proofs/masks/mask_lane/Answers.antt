@@ -1,10 +1,11 @@
 use Rattle.std.proofs.Common.{◌+◌, ◌<◌, arith, refl, ap, sym, ◌∙◌, subst}
+use Rattle.awk_base.proofs.Results.{none_left}
 use Rattle.awk_lanes.specs.Numbers.{int_of}
 use Rattle.awk_layout.specs.Typing.{array_items}
 use Rattle.awk_layout.specs.Valid.{len}
 use Rattle.awk_select.specs.Cells.{numbers_shown}
 use Rattle.awk_select.proofs.PickedPlaces.{mask_first, IsMade, made-pushed, made-none, made-room}
-use Rattle.awk_select.proofs.PickedPlaces.{made-whole, none_left, lane-ext}
+use Rattle.awk_select.proofs.PickedPlaces.{made-whole, lane-ext}
 use Rattle.awk_select.proofs.masks.mask_lane.Goals as goal
 use Rattle.awk_select.proofs.masks.mask_lane.Goals.{in-Some, in_default}
 

@@ -2,7 +2,7 @@ use Rattle.std.proofs.Common.{◌≡◌, length, take, ap, sym, ◌∙◌, arith
 use Rattle.std.proofs.lemmas.List.{length-map}
 use Rattle.std.proofs.Math.Seq.{take-length}
 use Rattle.awk_types.specs.DataType.{Name}
-use Rattle.awk_types.proofs.ListLaws.{take-get}
+use Rattle.awk_base.proofs.Lists.{take-get}
 use Rattle.awk_layout.specs.Datum.{datum_of}
 use Rattle.awk_layout.specs.declared.datum.Datum.{Datum}
 use Rattle.awk_eval.specs.Bindings.{names}

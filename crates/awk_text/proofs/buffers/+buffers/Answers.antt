@@ -1,7 +1,7 @@
 use Rattle.std.proofs.Common.{◌≡◌, ◌+◌, ◌++◌, [], None, OnOk, length, drop, refl, sym, ap, ap₂}
 use Rattle.std.proofs.Common.{subst, ◌∙◌, arith, rules, append-nil, append_assoc}
 use Rattle.std.proofs.lemmas.List.{length-append, drop_all}
-use Rattle.awk_types.proofs.ListLaws.{drop-get}
+use Rattle.awk_base.proofs.Lists.{drop-get}
 use Rattle.awk_edge.proofs.Known.{Appends-none}
 use Rattle.awk_json.proofs.Joins.{stops_at, goes_to, puts_same}
 use Rattle.awk_json.proofs.Puts.{goes}

@@ -1,5 +1,5 @@
 use Rattle.std.proofs.Common.{◌∷◌, ◌++◌, ◌∙◌, [], ap}
-use Rattle.awk_types.proofs.ListLaws.{drop-get}
+use Rattle.awk_base.proofs.Lists.{drop-get}
 use Rattle.awk_types.specs.View.{typs_of}
 use Rattle.awk_unify.proofs.Afters.{loop_step}
 use Rattle.awk_unify.proofs.alternatives.push_later.Goals as goal

@@ -1,5 +1,5 @@
 use Rattle.std.proofs.Common.{◌++◌, ◌∷◌, ◌∙◌, [], ap, map}
-use Rattle.awk_types.proofs.ListLaws.{drop-get}
+use Rattle.awk_base.proofs.Lists.{drop-get}
 use Rattle.awk_unify.specs.After.{after}
 use Rattle.awk_unify.specs.View.{lift_of, lifts_of}
 use Rattle.awk_unify.proofs.Afters.{loop_step}

@@ -1,8 +1,9 @@
 -- One more list raises the length to its stop.
 use Rattle.std.proofs.Common.{get_or, pos, refl, ℕ, FitsSigned, w64, rules}
 use Rattle.std.proofs.lemmas.Int.{to_z-of_z}
+use Rattle.awk_base.proofs.Numbers.{ord_max-nat}
 use Rattle.awk_valid.specs.Needs.{reach}
-use Rattle.awk_valid.proofs.LengthLaws.{greatest_below-more, ord_max-nat}
+use Rattle.awk_valid.proofs.LengthLaws.{greatest_below-more}
 use Rattle.awk_valid.proofs.lengths.spans_length.Goals as goal
 
 pub loop-place-init : goal.loop-place-init

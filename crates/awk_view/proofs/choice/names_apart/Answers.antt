@@ -1,7 +1,8 @@
 use Rattle.std.proofs.Common.{◌≡◌, ◌+◌, ◌++◌, ◌∷◌, [], true, false, drop, sym, ap, ◌∙◌, subst}
+use Rattle.std.proofs.lemmas.Bool.{not-false}
 use Rattle.awk_types.specs.Names.{same_name}
 use Rattle.awk_view.specs.Choice.{apart_from}
-use Rattle.awk_view.proofs.Beside.{apart_left, apart_kept, not_true, not_false}
+use Rattle.awk_view.proofs.Beside.{apart_left, apart_kept, not_true}
 use Rattle.awk_view.proofs.choice.names_apart.Goals.{then-ne+in_ok-copy+in_ok-push, else-ne}
 use Rattle.awk_view.proofs.choice.names_apart.Goals as goal
 
@@ -23,7 +24,7 @@ loop-i-preserved c =
           c.get-item.result.now c.get-item.ensures c.get-item.ensures other c.loop-i.invariant))
       | else-ne w ↦
           let same : same_name c.get-item.result.now name ≡ true = ap (λ n. same_name n name)
-          (sym c.as_str.ensures) ∙ not_false _ (sym c.ne.ensures ∙ w.if-ne.false) in
+          (sym c.as_str.ensures) ∙ not-false _ (sym c.ne.ensures ∙ w.if-ne.false) in
           subst (λ ys. ys ++ apart_from name (drop (c.loop-i.i + 1) names)
           (drop (c.loop-i.i + 1) names) ≡ apart_from name names names) (sym w.made-is)
           (apart_left name names names c.loop-i.made c.loop-i.i c.get-item.result.now

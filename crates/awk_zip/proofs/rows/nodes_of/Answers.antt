@@ -1,5 +1,5 @@
 use Rattle.std.proofs.Common.{◌∙◌, ◌++◌, ◌∷◌, [], ap, sym, take}
-use Rattle.awk_types.proofs.ListLaws.{take-get}
+use Rattle.awk_base.proofs.Lists.{take-get}
 use Rattle.awk_zip.proofs.rows.nodes_of.Goals as goal
 
 pub loop-i-preserved : goal.loop-i-preserved

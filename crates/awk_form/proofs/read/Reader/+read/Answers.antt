@@ -11,7 +11,7 @@ use Rattle.awk_form.proofs.Breaks.{breaks_left, told_of_whole, length_left, told
 use Rattle.awk_form.proofs.Breaks.{read_of_node, broken_node, length-node}
 use Rattle.awk_form.specs.View.{form_of as made, forms_of}
 use Rattle.awk_form.proofs.Views.{form_of-roll}
-use Rattle.awk_form.proofs.Lists.{map_left}
+use Rattle.awk_base.proofs.Left.{map_left}
 use Rattle.awk_form.proofs.Levels.{levels-node, levels-item}
 use Rattle.awk_form.proofs.read.Reader.+read.Goals as goal
 

@@ -2,7 +2,7 @@ use Rattle.std.proofs.Common.{◌≡◌, true, false, not, cond, nat_cmp, is_eq,
 use Rattle.std.specs.Cmp.Lexicographic.{slice_cmp}
 use Rattle.std.proofs.Math.Bool.{not-not}
 use Rattle.awk_types.specs.Names.{is_among, are_distinct}
-use Rattle.awk_types.proofs.ListLaws.{take-get}
+use Rattle.awk_base.proofs.Lists.{take-get}
 use Rattle.awk_types.proofs.DistinctLaws.{distinct-more, repeated, seen-more}
 use Rattle.awk_types.proofs.name.Names.are_distinct.Goals as goal
 

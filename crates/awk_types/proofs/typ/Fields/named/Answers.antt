@@ -1,7 +1,7 @@
 use Rattle.std.proofs.Common.{rules, arith, ◌≡◌, [], ◌∷◌, ◌++◌, length, refl, ap, ◌∙◌}
 use Rattle.std.proofs.lemmas.List.{length-append}
 use Rattle.awk_types.specs.View.{NamedType, typ_of, fields_of}
-use Rattle.awk_types.proofs.ListLaws.{map-take_next, shown-push}
+use Rattle.awk_base.proofs.Lists.{map-take_next, shown-push}
 use Rattle.awk_types.proofs.Views.{named_type, field_of-roll}
 use Rattle.awk_types.proofs.typ.Fields.named.Goals as goal
 

@@ -3,7 +3,7 @@
 use Rattle.std.proofs.Common.{◌≡◌, ◌<◌, ◌≤◌, ℕ, ◌+◌, List, [], ◌∷◌, length, map, drop, get_or}
 use Rattle.std.proofs.Common.{slice_get, Some, sym, ap, ◌∙◌}
 use Rattle.std.proofs.lemmas.List.{drop_more, drop_all}
-use Rattle.awk_types.proofs.ListLaws.{drop-get}
+use Rattle.awk_base.proofs.Lists.{drop-get}
 
 pub map_left : {A B : Type 0} (f : A → B) (xs : List A) (i : ℕ) (x d : A) → i < length xs
     → x ≡ get_or xs i d → map f (drop i xs) ≡ f x ∷ map f (drop (i + 1) xs)

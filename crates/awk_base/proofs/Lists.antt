@@ -1,7 +1,10 @@
--- Lists by the item that `get` gives.
-use Rattle.std.proofs.Common.{◌≡◌, ℕ, ◌<◌, ◌+◌, List, [], ◌∷◌, ◌++◌, map, take, drop, get_or}
-use Rattle.std.proofs.Common.{slice_get, Some, length, append_assoc, refl, sym, ap, ◌∙◌}
+-- Lists by the item that `get` gives, and what functions give of lists.
+use Rattle.std.proofs.Common.{◌≡◌, ℕ, zero, suc, ◌<◌, ◌≤◌, ◌+◌, ◌-◌, ◌*◌, arith}
+use Rattle.std.proofs.Common.{List, [], ◌∷◌, ◌++◌, map, take, drop, get_or, slice_get, slice_range}
+use Rattle.std.proofs.Common.{Some, length, length-take, length-drop, append_assoc}
+use Rattle.std.proofs.Common.{refl, sym, ap, ap₂, ◌∙◌}
 use Rattle.std.specs.Option.{option_map}
+use Rattle.std.specs.Simd.{first_chunks}
 use Rattle.std.proofs.lemmas.List.{take_more, drop_more, map-append, length-append}
 use Rattle.std.proofs.lemmas.Option.{slice_get-map, slice_get_read, slice_get_within}
 use Rattle.std.proofs.lemmas.Option.{get_or_from_slice_get}
@@ -48,3 +51,49 @@ shown-push g f old new x left later y pushed rest same =
     ap (λ zs. map g zs ++ map f later) pushed ∙ ap (λ zs. zs ++ map f later)
     (map-append g old (x ∷ [])) ∙ append_assoc (map g old) (g x ∷ []) (map f later)
     ∙ ap (λ z. map g old ++ z ∷ map f later) same ∙ ap (λ zs. map g old ++ map f zs) (sym rest)
+
+-- one element between two lists
+pub append_one : {X : Type 0} (xs : List X) (x : X) (ys : List X)
+    → (xs ++ x ∷ []) ++ ys ≡ xs ++ x ∷ ys
+append_one [] x ys = refl
+append_one (z ∷ xs) x ys = ap (λ zs. z ∷ zs) (append_one xs x ys)
+
+-- the same by the number behind the place
+pub drop_suc-get : {X : Type 0} (xs : List X) (i : ℕ) (x : X) → slice_get xs i ≡ Some x
+    → drop i xs ≡ x ∷ drop (suc i) xs
+drop_suc-get [] i x e = cc
+drop_suc-get (y ∷ xs) zero x e = let f : y ≡ x = cc in rw f refl
+drop_suc-get (y ∷ xs) (suc i) x e = drop_suc-get xs i x e
+
+pub take_suc-get : {X : Type 0} (xs : List X) (i : ℕ) (x : X) → slice_get xs i ≡ Some x
+    → take (suc i) xs ≡ take i xs ++ x ∷ []
+take_suc-get [] i x e = cc
+take_suc-get (y ∷ xs) zero x e = let f : y ≡ x = cc in rw f refl
+take_suc-get (y ∷ xs) (suc i) x e = ap (λ zs. y ∷ zs) (take_suc-get xs i x e)
+
+-- functions that agree everywhere
+pub map-each : {A B : Type 0} (f g : A → B) (xs : List A) → ((x : A) → f x ≡ g x)
+    → map f xs ≡ map g xs
+map-each f g [] e = refl
+map-each f g (x ∷ xs) e = ap₂ (λ y ys. y ∷ ys) (e x) (map-each f g xs e)
+
+pub map-by : {A B : Type 0} (f g : A → B) → ((x : A) → f x ≡ g x) → (xs : List A)
+    → map f xs ≡ map g xs
+map-by f g e [] = refl
+map-by f g e (x ∷ xs) = ap (λ y. y ∷ map f xs) (e x) ∙ ap (λ ys. g x ∷ ys) (map-by f g e xs)
+
+-- no part between a place and itself
+pub part_none : (bytes : List ℕ) (i : ℕ) → slice_range bytes i i ≡ []
+part_none bytes i = let none : i - i ≡ 0 = omega arith in rw none refl
+
+-- a group is as long as it says
+pub length-chunk : (w n : ℕ) (b : List ℕ) (i : ℕ) → n * w ≤ length b → i < n
+    → length (get_or (first_chunks w n b) i []) ≡ w
+length-chunk w zero b i h l = absurd (omega (arith, l))
+length-chunk w (suc n) b zero h l = omega (arith, length-take w b, fits)
+  where
+    fits : w ≤ length b
+    fits = let e : suc n * w ≡ w + n * w = omega arith in omega (arith, e, h)
+length-chunk w (suc n) b (suc i) h l =
+    let e : suc n * w ≡ w + n * w = omega arith in
+    length-chunk w n (drop w b) i (omega (arith, e, h, length-drop w b)) (omega (arith, l))

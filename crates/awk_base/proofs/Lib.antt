@@ -1,0 +1,9 @@
+pub mod Lists
+pub mod Left
+pub mod Every
+pub mod Each
+pub mod Ranges
+pub mod Sums
+pub mod Numbers
+pub mod Truths
+pub mod Results
