@@ -73,7 +73,7 @@ pub ends_leaves : (d : ℕ) (ts : List DataType) → is_wrong to_leaves d ts ≡
 ends_leaves zero ts e = not-false (list_all is_leaf (map present ts)) e
 ends_leaves (suc d) ts e =
     level (opens ts) (ends_leaves d (item_types ts)) (not-false (list_all is_leaf (map present ts)))
-        e
+    e
   where
     level : (b : Bool) → (is_wrong to_leaves d (item_types ts) ≡ false
         → list_all is_leaf (types_at_ends to_leaves d (item_types ts)) ≡ true)

@@ -140,11 +140,11 @@ list-frame : (c : Class) (t : DataType) (vs : List Value) → AllByRecursion (Ha
     × AreEven c (offsets_column vs) (size_of (offsets_column vs) - 1)
     × IsFrame (shape t (joined_items vs)) (length (ends t (joined_items vs)))
 list-frame c t vs h few below e =
-    let n = none-of (too_many (length (joined_items vs))) (levels_refused t (joined_items vs)) e in
-        (
-      offsets_fill vs (places (shape t (joined_items vs))) (places-shape t (joined_items vs)) few,
+    let items = joined_items vs in
+    let n = none-of (too_many (length items)) (levels_refused t items) e in (
+      offsets_fill vs (places (shape t items)) (places-shape t items) few,
       offsets_even c t vs h,
-      below (items-have c t vs h) (few-of (length (joined_items vs)) n.0) n.1,
+      below (items-have c t vs h) (few-of (length items) n.0) n.1,
     )
 
 pub has_frame : (t : DataType) (vs : List Value) → AllByRecursion (Has t) vs

@@ -223,7 +223,7 @@ module _ (c e : Datum) where
       ap₂ (λ k b. map (paired_value false to_leaves k (t ∷ s ∷ [])) (turned_when b))
       (sym levels_same) (sym arrays_same)
       ∙ values_rows (some_array ds) (not-false (equally_long (datum_side c ∷ datum_side e ∷ []))
-          k.0)
+      k.0)
       k.1
 
   values_at : AllByRecursion (IsAt chain_by Anything) (pair_values false None ds)

@@ -41,7 +41,7 @@ mutual
   suits_pass t (boolean b) e = record { whole = refl; small = refl }
   suits_pass t (number n) e =
       let f = and_parts (is_whole n) (fits n) (and_parts (is_of I64 (present t)) (is_int64 n)
-          e).1 in
+      e).1 in
       record { whole = f.0; small = f.1 }
   suits_pass t (string s) e = absurd (cc)
   suits_pass t (array ds) e =

@@ -92,9 +92,8 @@ one-field : (k j : ℕ) (t : DataType) (ts : DataTypes) (rows : List Value) (c :
     → FieldsRead (packed_forms (k + nodes t) ts) (suc j) c rows
     → FieldsRead (packed_forms k (type t ts)) j c rows
 one-field k j t ts rows c h one others =
-    let own = unbroken-at (packed_form k t) _ (length rows) c (length-map rows (part_at j)) one.0 in
-        (
-      λ m. neither _ _ (own m) (others.0 _),
+    let f = unbroken-at (packed_form k t) _ (length rows) c (length-map rows (part_at j)) one.0 in (
+      λ m. neither _ _ (f m) (others.0 _),
       λ i l.
           let parts =
           (field-at t ts (row_parts (get_or rows i null)) j

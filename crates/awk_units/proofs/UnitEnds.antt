@@ -74,7 +74,7 @@ module _ {R : Type 0} (p : Framing R) where
       let tests = and_parts (is_whole u) (is_small u) e in
       let whole = and_parts u.is_ended (length u.raw == u.asked) tests.0 in
       let small = and_parts (nat_le (length u.line) line_limit) (nat_le u.asked raw_limit)
-          tests.1 in
+      tests.1 in
       record {
         unbroken = first_unbroken bytes;
         is_ended = whole.0;
