@@ -1,10 +1,7 @@
 -- No text of a value, of a fault or of an answer holds a byte that ends a line.
-use Rattle.std.proofs.Common.{ℕ, List, [], ◌∷◌, ◌++◌, map, refl, codes, decimal}
-use Rattle.std.specs.List.{AllByRecursion}
-use Rattle.awk_types.specs.DataType.{Name}
+use Rattle.std.proofs.Common.{ℕ, List, ◌++◌, map, refl, codes, decimal}
 use Rattle.awk_types.specs.Datum.{Datum, arr, one}
 use Rattle.awk_edge.specs.Lines.{Unbroken}
-use Rattle.awk_edge.proofs.LineLaws.{Unbroken-append}
 use Rattle.awk_json.specs.Text.{quoted, list_text}
 use Rattle.awk_json.proofs.Lines.{literal-unbroken, quoted-unbroken, list_text-unbroken}
 use Rattle.awk_json.proofs.Lines.{decimal-unbroken}
@@ -15,18 +12,13 @@ use Rattle.awk_valid.specs.declared.fault.BufferFault.TheVariants as buffers
 use Rattle.awk_valid.specs.declared.fault.Rule.{Rule}
 use Rattle.awk_valid.specs.declared.fault.Rule.TheVariants as rules
 use Rattle.awk_text.proofs.LineEnds as evaluations
-use Rattle.awk_text.proofs.PackedLines.{packed_text-unbroken}
-use Rattle.awk_text.proofs.LineEnds.{value_text-unbroken, values_text-unbroken}
+use Rattle.awk_text.proofs.PackedLines.{packed_text-unbroken, quoted_all-unbroken}
+use Rattle.awk_text.proofs.LineEnds.{value_text-unbroken, values_text-unbroken, between}
 use Rattle.awk_answer.specs.declared.fault.AnswerFault.{AnswerFault}
 use Rattle.awk_answer.specs.declared.fault.AnswerFault.TheVariants as faults
 use Rattle.awk_answer.specs.FaultText.{why_text, buffer_text, rule_text, fault_text}
 use Rattle.awk_answer.specs.Answer.{Answer, begun, bound, value, typ, packed, names, fault}
 use Rattle.awk_answer.specs.Answer.{answer_text, datum_text}
-
--- three texts, one after another
-between : (head text tail : List ℕ) → Unbroken head → Unbroken text → Unbroken tail
-    → Unbroken (head ++ text ++ tail)
-between head text tail h t l = Unbroken-append (head ++ text) tail (Unbroken-append head text h t) l
 
 -- five texts, one after another
 around : (head a middle b tail : List ℕ) → Unbroken head → Unbroken a → Unbroken middle → Unbroken b
@@ -103,10 +95,6 @@ datum_text-unbroken : (d : Datum) → Unbroken (datum_text d)
 datum_text-unbroken (arr t vs) = values_text-unbroken t vs
 datum_text-unbroken (one t v) = value_text-unbroken t v
 
-quoted_texts-unbroken : (ns : List Name) → AllByRecursion Unbroken (map quoted ns)
-quoted_texts-unbroken [] = tt
-quoted_texts-unbroken (n ∷ ns) = (quoted-unbroken n, quoted_texts-unbroken ns)
-
 pub answer_text-unbroken : (a : Answer) → Unbroken (answer_text a)
 answer_text-unbroken begun = literal-unbroken (codes "{\"session\":2}") refl
 answer_text-unbroken (bound n) = member-unbroken (codes "{\"bound\":") (quoted n)
@@ -118,5 +106,5 @@ answer_text-unbroken (typ text) = member-unbroken (codes "{\"type\":") (quoted t
 answer_text-unbroken (packed p) = packed_text-unbroken p
 answer_text-unbroken (names ns) = member-unbroken (codes "{\"names\":") (list_text (map quoted ns))
     (literal-unbroken (codes "{\"names\":") refl)
-    (list_text-unbroken (map quoted ns) (quoted_texts-unbroken ns))
+    (list_text-unbroken (map quoted ns) (quoted_all-unbroken ns))
 answer_text-unbroken (fault f) = fault_text-unbroken f

@@ -15,6 +15,7 @@ use Rattle.awk_types.specs.Value.{Value, null, list, value_list, values_from}
 use Rattle.awk_types.proofs.Trees.{value_list-from}
 use Rattle.awk_lanes.specs.Column.{Column}
 use Rattle.awk_lanes.specs.Places.{size_of, place_at, option_place_at}
+use Rattle.awk_unify.proofs.Tests.{unknown_is}
 use Rattle.awk_layout.specs.Item.{run, at_option}
 use Rattle.awk_layout.specs.Laws.{len-fits}
 use Rattle.awk_layout.specs.Layout.{Layout}
@@ -309,7 +310,7 @@ only_lists x (opened.Row names ys) k h n =
 only_lists x (opened.Option j y) k h n = subst IsLists k.typ h
 only_lists x (opened.Union t j ys) k h n = subst IsLists k.typ h
 
-lists_no_option : (class : Class) (u : DataType) → is_option (list_type class u) ≡ false
+pub lists_no_option : (class : Class) (u : DataType) → is_option (list_type class u) ≡ false
 lists_no_option None u = refl
 lists_no_option (Some n) u = refl
 
@@ -344,16 +345,6 @@ some_lists (rec ns ts) h e = absurd (cc)
 some_lists (tup ts) h e = absurd (cc)
 some_lists (opt t) h e = absurd (cc)
 some_lists (uni ts) h e = absurd (cc)
-
-unknown_is : (t : DataType) → is_unknown t ≡ true → t ≡ unknown
-unknown_is unknown e = refl
-unknown_is (leaf p) e = absurd (cc)
-unknown_is (var t) e = absurd (cc)
-unknown_is (reg n t) e = absurd (cc)
-unknown_is (rec ns ts) e = absurd (cc)
-unknown_is (tup ts) e = absurd (cc)
-unknown_is (opt t) e = absurd (cc)
-unknown_is (uni ts) e = absurd (cc)
 
 -- of unknown there are no items
 pub nothing : (x : Layout) → is_unknown (array_type x) ≡ true

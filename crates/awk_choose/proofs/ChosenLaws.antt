@@ -1,6 +1,6 @@
 -- What a choice answers in a primitive, where all ends are leaves.
-use Rattle.std.proofs.Common.{◌≡◌, Bool, true, false, not, refl, ap, ap₂, sym, subst, ◌∙◌}
-use Rattle.std.specs.Prelude.{List, map, length, Option, Some, None, Result, Ok, Err, if◌then◌else◌}
+use Rattle.std.proofs.Common.{◌≡◌, Bool, true, false, not, ap, ap₂, sym, subst, ◌∙◌}
+use Rattle.std.specs.Prelude.{List, map, length, Option, Result, Ok, Err, if◌then◌else◌}
 use Rattle.std.proofs.lemmas.List.{length-map}
 use Rattle.awk_types.specs.DataType.{DataType, leaf}
 use Rattle.awk_types.specs.Datum.{Datum}
@@ -29,6 +29,7 @@ use Rattle.awk_pair_operands.specs.Pairs.{datum_from}
 use Rattle.awk_pair_operands.specs.Pairs.{leaf_types, item_type}
 use Rattle.awk_pair_sides.specs.Levels.{some_option}
 use Rattle.awk_pair_types.specs.Limits.{limit_refused}
+use Rattle.awk_pair_types.proofs.EmptyLaws.{none_told}
 use Rattle.awk_ends.specs.Operands.{leaf_in, in_primitive, leaf_of}
 use Rattle.awk_ends.proofs.DatumLaws.{IsMade, values-one, datum_shown}
 use Rattle.awk_choose.specs.Choice.{far, choice_data, are_leaves, choice_row, end_type, result_type}
@@ -79,12 +80,6 @@ ok-same : {A F : Type 0} (r : Result A F) (x y : A) → r ≡ Ok x → r ≡ Ok 
 ok-same (Ok z) x y e f = let a : z ≡ x = cc in let b : z ≡ y = cc in sym a ∙ b
 ok-same (Err z) x y e f = absurd cc
 
--- what tells a value tells no fault
-none-told : {A : Type 0} (o : Option Fault) (said : Result A Fault) (x : A) → Told o said
-    → said ≡ Ok x → o ≡ None
-none-told None said x h e = refl
-none-told (Some f) said x h e = absurd cc
-
 module _ (c : Datum) (a b : Operand) (ds : List Datum) (p : Primitive) (t : DataType)
     (h : IsJudged c a b ds p t) where
   abbrev typ : DataType
@@ -133,7 +128,7 @@ module _ (c : Datum) (a b : Operand) (ds : List Datum) (p : Primitive) (t : Data
         → Told o (judged_choice c (filler_of a) (filler_of b))
     told_ends o k =
         subst (λ o. Told o (judged_choice c (filler_of a) (filler_of b)))
-        (sym (none-told o (columns_said a b ys) (map row ends) k said)) tt
+        (sym (none_told o (columns_said a b ys) (map row ends) k said)) tt
 
     module _ (y : Layout) (k : columns_said a b ys ≡ Ok (array_items y)) where
       pub items : array_items y ≡ map row ends

@@ -23,13 +23,13 @@ use Rattle.awk_hist.specs.Hist.{leaves_of, hist_of, hist_refused}
 use Rattle.awk_hist.specs.Totals.{count_of, counts_total, row_total, CountsAll}
 use Rattle.awk_hist.proofs.InnermostLaws.{present_few}
 
-list-total : (ns : List ℕ)
+pub list-total : (ns : List ℕ)
     → sum (map count_of (value_list (values_from (map count_value ns)))) ≡ sum ns
 list-total ns =
     ap (λ vs. sum (map count_of vs)) (value_list-from (map count_value ns))
     ∙ ap sum (map-map count_of count_value ns ∙ map-id ns)
 
-bins-total : (es : List ℤ) (vs : List Value) → are_edges es ≡ true
+pub bins-total : (es : List ℤ) (vs : List Value) → are_edges es ≡ true
     → row_total (bins es vs) ≡ length vs
 bins-total es vs h =
     let counts = interval_counts es (numbers vs) in

@@ -28,7 +28,8 @@ use Rattle.awk_gather.specs.Arrays.{pick}
 use Rattle.awk_columns.specs.Lists.{Listed}
 use Rattle.awk_base.proofs.Each.{each_of, each_of-more}
 use Rattle.awk_select.proofs.PickedPlaces.{IsThere, optional-lane, index-lane, take_place-below}
-use Rattle.awk_select.proofs.PickedPlaces.{take_places-there, has-at}
+use Rattle.awk_select.proofs.PickedPlaces.{take_places-there, has-at, mask_place-below}
+use Rattle.awk_select.proofs.PickedPlaces.{mask_place-there}
 use Rattle.awk_select.specs.Cells.{IsBelow, place_number, places_lane}
 use Rattle.awk_types.specs.Predicates.{is_leaf}
 use Rattle.awk_select.specs.Picks.{picked, is_mask, mask_place, mask_places, take_place}
@@ -170,25 +171,6 @@ take_one n u w l m o h e =
     (take_places-there n u (w ∷ []) (leaf-index u (plain-leaf u l o) m) o (h, tt)
     (or_none (is_outside n w) e)).0
 
-mask_below : (n a : ℕ) (w : Value) → a < n → AllByRecursion (IsBelow n) (mask_place a w)
-mask_below n a (truth true) h = (h, tt)
-mask_below n a (truth false) h = tt
-mask_below n a null h = (tt, tt)
-mask_below n a (int z) h = tt
-mask_below n a (list vs) h = tt
-mask_below n a (row vs) h = tt
-mask_below n a (alt j v) h = tt
-
-mask_there : (n a : ℕ) (w : Value) → Has (leaf Truths) w → a < n
-    → AllByRecursion (IsThere n) (mask_place a w)
-mask_there n a (truth true) t h = (h, tt)
-mask_there n a (truth false) t h = tt
-mask_there n a null t h = absurd t
-mask_there n a (int z) t h = tt
-mask_there n a (list vs) t h = tt
-mask_there n a (row vs) t h = tt
-mask_there n a (alt j v) t h = tt
-
 -- a lane of places, list by list
 lane_of_places : (os : ℕ → List (Option ℕ)) (n : ℕ) (p : Column)
     → p ≡ record { kind = kinds.I64; items = each_of (λ i. map place_number (os i)) n }
@@ -261,13 +243,13 @@ mask-within xs ws p pairs alike sx sw l m has e =
     (length_by ws i)))))
     (λ i q. all-range (IsBelow (len xs.content))
     (λ k. mask_place (place_by xs i k) (row_at ws i k)) 0 (length_by ws i)
-    (λ k r. mask_below (len xs.content) (place_by xs i k) (row_at ws i k) (at i k q r)))
+    (λ k r. mask_place-below (len xs.content) (place_by xs i k) (row_at ws i k) (at i k q r)))
     (λ o i q. all-range (IsThere (len xs.content))
     (λ k. mask_place (place_by xs i k) (row_at ws i k)) 0 (length_by ws i)
     (λ k r.
     let t : array_type ws.content ≡ leaf Truths =
     mask-leaf (array_type ws.content) (plain-leaf (array_type ws.content) l o) m in
-    mask_there (len xs.content) (place_by xs i k) (row_at ws i k)
+    mask_place-there (len xs.content) (place_by xs i k) (row_at ws i k)
     (subst (λ u. Has u (row_at ws i k)) t
     (item_has ws (Has (array_type ws.content)) i k sw q (omega (arith, r)) has)) (at i k q r)))
   where

@@ -1,15 +1,13 @@
 -- What is picked of rows, under the level that they are of.
-use Rattle.std.specs.Prelude.{◌≡◌, ℕ, ◌+◌, ◌<◌, ◌≤◌, ◌^◌, refl, Bool, true, false, ◌||◌, List}
+use Rattle.std.specs.Prelude.{◌≡◌, ℕ, ◌+◌, ◌<◌, ◌^◌, refl, Bool, true, false, ◌||◌, List}
 use Rattle.std.specs.Prelude.{length, map, Option, Some, None, is_some, IfSome}
 use Rattle.std.specs.Prelude.{if◌then◌else◌}
 use Rattle.std.specs.List.{range_with_len}
-use Rattle.std.proofs.Common.{arith, ap, sym, ◌∙◌, subst, le-ltb}
+use Rattle.std.proofs.Common.{arith, ap, sym, ◌∙◌, subst}
 use Rattle.awk_types.specs.DataType.{DataType, var}
 use Rattle.awk_types.specs.Gives.{◌or◌}
-use Rattle.awk_types.specs.ItemLimit.{item_limit, too_many}
 use Rattle.awk_types.specs.Simple.{option_if}
 use Rattle.awk_types.specs.Value.{Value, int, truth, null, list, row, alt, values_from}
-use Rattle.awk_types.specs.declared.fault.Fault.TheVariants.{Size}
 use Rattle.awk_lanes.specs.Column.{Column}
 use Rattle.awk_lanes.specs.Counted.{before, offsets_by}
 use Rattle.awk_lanes.specs.Places.{size_of, at, IsOptionalIndex}
@@ -23,6 +21,7 @@ use Rattle.awk_gather.specs.Arrays.{array_item}
 use Rattle.awk_columns.proofs.ArrayLaws.{array_items-at}
 use Rattle.awk_columns.proofs.ListNodes.{len-list}
 use Rattle.awk_columns.specs.Lists.{Listed}
+use Rattle.awk_columns.proofs.ItemLimits.{within_limit}
 use Rattle.awk_jagged.specs.Jagged.{is_jagged, picked_items, row_by, size_refused}
 use Rattle.awk_jagged_rows.specs.Levels.{AreRows, IsRowIndex, row_at, row_count, rows_before}
 use Rattle.awk_jagged.specs.Outcomes.{ArePickedLists, AreTooMany, IsOutcome, IsOutcomeOf}
@@ -91,9 +90,6 @@ below_of xs ws r h j = record {
   second = λ i p. list-items ws i;
   rows = h.rows;
 }
-
-few_rows : (n : ℕ) → n ≤ item_limit → too_many n ≡ None
-few_rows n h = ap (λ b. if b then Some Size else None) (le-ltb item_limit n h)
 
 module _ (xs ws : Listed) (r : Rows) (h : AreRows xs ws r)
     (j : is_jagged (array_type ws.content) ≡ true) where
@@ -213,7 +209,7 @@ module _ (xs ws : Listed) (r : Rows) (h : AreRows xs ws r)
       size-up u v (lists_by xs) (lists_by ws) n (length_by ws) (lists_by r.xs) (lists_by r.ws)
       (row_at xs) (row_at ws) b
       ∙ ap (λ o. o or size_refused v (picks v (lists_by r.xs) (lists_by r.ws) m))
-      (few_rows m h.few)
+      (within_limit m h.few)
 
   lengths : (i : ℕ) → i < n → picked_length u (lists_by xs) (lists_by ws) i ≡ length_by ws i
   lengths = length-picked u v (lists_by xs) (lists_by ws) n (length_by ws) (lists_by r.xs)

@@ -1,9 +1,9 @@
 -- Outcomes: of leaves, of rows, and of lists that are looked at one by one.
-use Rattle.std.specs.Prelude.{◌≡◌, ◌≢◌, ℕ, ◌<◌, ◌≤◌, ◌==◌, refl, Bool, true, false, not}
+use Rattle.std.specs.Prelude.{◌≡◌, ◌≢◌, ℕ, ◌<◌, ◌==◌, refl, Bool, true, false, not}
 use Rattle.std.specs.Prelude.{List, length, map, Option, Some, None, is_some, ℤ}
 use Rattle.std.specs.Prelude.{option_map, if◌then◌else◌}
 use Rattle.std.specs.List.{range_with_len}
-use Rattle.std.proofs.Common.{arith, ap, ap₂, sym, ◌∙◌, eq-eqb, ne_eqb, le-ltb, lt-ltb}
+use Rattle.std.proofs.Common.{arith, ap, ap₂, sym, ◌∙◌, eq-eqb, ne_eqb}
 use Rattle.std.proofs.lemmas.List.{length-map}
 use Rattle.std.proofs.lemmas.List.FromFn.{length-map-range_with_len}
 use Rattle.std.proofs.lemmas.Bool.{or_left}
@@ -23,6 +23,7 @@ use Rattle.awk_gather.specs.Arrays.{pick}
 use Rattle.awk_columns.specs.Columns.{joined_items}
 use Rattle.awk_columns.specs.Lists.{Listed}
 use Rattle.awk_types.specs.Predicates.{is_leaf}
+use Rattle.awk_columns.proofs.ItemLimits.{over_limit, within_limit}
 use Rattle.awk_select.specs.Picks.{is_mask}
 use Rattle.awk_jagged.specs.Jagged.{is_jagged, picked_items}
 use Rattle.awk_jagged_rows.specs.RowTypes.{rows_of}
@@ -55,12 +56,6 @@ pub record ByNumbers (xs ws : Listed) (numbers : ℕ → List ℤ) : Type 0 wher
   pub have : HaveAll (array_type ws.content) (lists_by xs) (lists_by ws) (size_of ws.starts)
   pub picks : (i : ℕ) → i < size_of ws.starts → pick (array_items xs.content) (numbers i)
       ≡ picked_items (array_type ws.content) (lists_by xs i) (lists_by ws i)
-
-few_items : (n : ℕ) → n ≤ item_limit → too_many n ≡ None
-few_items n h = ap (λ b. if b then Some Size else None) (le-ltb item_limit n h)
-
-many_items : (n : ℕ) → item_limit < n → too_many n ≡ Some Size
-many_items n h = ap (λ b. if b then Some Size else None) (lt-ltb item_limit n h)
 
 module _ (xs ws : Listed) (numbers : ℕ → List ℤ) (b : ByNumbers xs ws numbers) where
   lengths : (i : ℕ) → i < size_of ws.starts → length (numbers i)
@@ -95,7 +90,7 @@ module _ (xs ws : Listed) (numbers : ℕ → List ℤ) (b : ByNumbers xs ws numb
     even = b.even;
     have = b.have;
     many = b.size _ ∙ ap too_many total
-        ∙ many_items (before (λ i. length (numbers i)) (size_of ws.starts)) h;
+        ∙ over_limit (before (λ i. length (numbers i)) (size_of ws.starts)) h;
   }
   leaf-outcome None outcome.Uneven h g = absurd g
   leaf-outcome None outcome.Outside h g = absurd g
@@ -107,7 +102,7 @@ module _ (xs ws : Listed) (numbers : ℕ → List ℤ) (b : ByNumbers xs ws numb
     even = b.even;
     have = b.have;
     few = b.size _ ∙ ap too_many total
-        ∙ few_items (before (λ i. length (numbers i)) (size_of ws.starts)) h.few;
+        ∙ within_limit (before (λ i. length (numbers i)) (size_of ws.starts)) h.few;
     typ = typ_at (array_type xs.content) (array_type ws.content) (array_type y)
         (simple_twice (layout_type xs.content)) b.leaf g.1.typ;
     valid = g.1.valid;
@@ -233,7 +228,7 @@ many-rows xs ws j alike h =
     ∙ rows_by-map (picked_items (item_of (rows_of u))) (row_at xs i) (row_at ws i) 0
     (length_by ws i))
     ∙ length-map-range_with_len _ 0 (length_by ws i)))
-    ∙ many_items (row_count ws) h)
+    ∙ over_limit (row_count ws) h)
 
 -- the items of rows are not as deep
 pub rows-depth : (u v : DataType) (b : Bool) → is_jagged u ≡ true → rows_of u ≡ Some (b, v)

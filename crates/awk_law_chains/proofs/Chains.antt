@@ -7,13 +7,12 @@ use Rattle.std.proofs.lemmas.List.{map-append}
 use Rattle.awk_types.specs.DataType.{DataType, unknown, leaf, var, reg, rec, tup, opt, uni}
 use Rattle.awk_types.specs.Gives.{◌or◌}
 use Rattle.awk_types.specs.ItemLimit.{too_many}
-use Rattle.awk_types.specs.Simple.{simple_value, option_if, present, in_list, in_option}
+use Rattle.awk_types.specs.Simple.{option_if, present, in_list, in_option}
 use Rattle.awk_types.specs.Value.{Value, int, truth, null, list, row, alt, value_list, values_from}
 use Rattle.awk_types.specs.declared.fault.Fault.{Fault}
 use Rattle.awk_types.proofs.Trees.{value_list-from, values_from-list}
 use Rattle.awk_columns.specs.Columns.{is_present, list_items, joined_items}
 use Rattle.awk_columns.specs.ListClass.{Class, list_type}
-use Rattle.awk_columns.proofs.ArrayLaws.{simple_null}
 use Rattle.awk_frames.specs.Framed.{over, over_type}
 use Rattle.awk_frames.specs.Shape.{ends}
 use Rattle.awk_frames.specs.Sizes.{levels_refused}
@@ -151,15 +150,6 @@ in_list_stays f (truth b) e = refl
 in_list_stays f null e = refl
 in_list_stays f (row vs) e = refl
 in_list_stays f (alt j v) e = refl
-
-pub in_option_simple : (t : DataType) (v : Value)
-    → in_option (simple_value t) v ≡ simple_value t v
-in_option_simple t null = sym (simple_null t)
-in_option_simple t (int z) = refl
-in_option_simple t (truth b) = refl
-in_option_simple t (list vs) = refl
-in_option_simple t (row vs) = refl
-in_option_simple t (alt k v) = refl
 
 -- ---- types over such lists
 

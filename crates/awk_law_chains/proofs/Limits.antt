@@ -8,12 +8,6 @@ use Rattle.awk_types.specs.Value.{Value}
 use Rattle.awk_axis.specs.Counted.{counted}
 use Rattle.awk_axis.specs.Spoils as spoils
 
-pub few : (n : ℕ) → n ≤ item_limit → too_many n ≡ None
-few n p = grind arith
-
-pub few_spoil : (n : ℕ) → n ≤ item_limit → spoils.too_many n ≡ None
-few_spoil n p = grind arith
-
 pub few-limit : (n : ℕ) → too_many n ≡ None → n ≤ item_limit
 few-limit n e = grind arith
 

@@ -34,6 +34,7 @@ use Rattle.awk_axis.specs.declared.place.Reach.{Reach}
 use Rattle.awk_axis.proofs.CauseLaws.{first_spoil-both}
 use Rattle.awk_columns.specs.Columns.{joined_items, lists_among, present_values}
 use Rattle.awk_columns.specs.ListClass.{Class, list_type}
+use Rattle.awk_columns.proofs.ItemLimits.{within_limit}
 use Rattle.awk_jagged.specs.Jagged.{are_uneven, fault_if, is_jagged, jagged_of, lacks_places}
 use Rattle.awk_jagged.specs.Jagged.{pick_type, picked_as, picked_items, size_refused}
 use Rattle.awk_select.specs.Picks.{is_outside, limit_refused, picked, take_places}
@@ -46,7 +47,7 @@ use Rattle.awk_law_chains.proofs.JaggedRows.{rows_any-rows}
 use Rattle.awk_law_chains.proofs.JaggedRows.{rows_by-rows, rows_of-lists, simple-options}
 use Rattle.awk_law_chains.proofs.JaggedRows.{size-lists}
 use Rattle.awk_law_chains.proofs.JaggedRows.{uneven-lists}
-use Rattle.awk_law_chains.proofs.Limits.{few, few_spoil-limit}
+use Rattle.awk_law_chains.proofs.Limits.{few_spoil-limit}
 use Rattle.awk_law_chains.proofs.AnyLength.{any_limit}
 
 pub any_length_at-lists : (k : Reach) (o : Bool) (c : Class) (t : DataType)
@@ -293,7 +294,7 @@ module _ (F G : List Value → List Value)
       let n = length (joined_items (map (row_of G) vs)) in
       let same : n ≡ sum (map length (lists_among vs)) =
       joined-lengths (map (row_of G) vs) ∙ ap sum (sizes_among vs) in
-      few n (omega (arith, same, few_items t (lists_among vs) e))
+      within_limit n (omega (arith, same, few_items t (lists_among vs) e))
 
   joined_rows : (k : Reach) (t : DataType) (vs : List Value)
       → joined_items (map (row_of (map (picked_in k t))) vs)
@@ -388,7 +389,12 @@ module _ (F G : List Value → List Value)
             ap₂ size_refused typed (results vs)
             ∙ size-lists o c w (map (row_of S) vs)
             ∙ ap₂ (λ x y. x or y)
-            (few n (omega (arith, length-map vs (row_of S), few_spoil-limit (length vs) e)))
+            (within_limit n (omega (
+              arith,
+              length-map vs (row_of S),
+              few_spoil-limit (length vs)
+                  e,
+            )))
             (p.sizes vs (sym (spoil-lists k o c t vs) ∙ f));
       }
 

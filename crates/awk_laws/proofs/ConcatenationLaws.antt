@@ -31,10 +31,10 @@ use Rattle.awk_unify.specs.Unify.{unification}
 use Rattle.awk_unify.specs.UnifyList.{UnificationList, unification_list, unification_more}
 use Rattle.awk_unify.specs.UnifyList.{one_further}
 use Rattle.awk_unify.proofs.Rules.{unified_early}
+use Rattle.awk_columns.proofs.ItemLimits.{within_limit}
 use Rattle.awk_law_chains.specs.Arrays.{AreFew}
 use Rattle.awk_laws.specs.Concatenation.{ConcatenationLaws, item_type, items_in, unified}
 use Rattle.awk_laws.specs.Concatenation.{carried_items, part_range}
-use Rattle.awk_law_chains.proofs.Limits.{few}
 use Rattle.awk_laws.proofs.Slices.{range-places}
 
 -- ---- types
@@ -197,7 +197,7 @@ one_array t vs l p =
     (option_map limit_fault (limit t) or too_many (length (map (carried keep) vs ++ [])))
     (arr t (map (carried keep) vs ++ [])) (arr t vs)
     (ap₂ (λ x y. x or y) (ap (option_map limit_fault) l)
-    (few (length (map (carried keep) vs ++ [])) (omega (arith, ap length (kept vs), p))))
+    (within_limit (length (map (carried keep) vs ++ [])) (omega (arith, ap length (kept vs), p))))
     (ap (arr t) (kept vs))
 
 -- ---- parts of one type

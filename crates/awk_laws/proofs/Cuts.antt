@@ -1,5 +1,5 @@
 -- Lists by counts, and their items one after another.
-use Rattle.std.specs.Prelude.{◌≡◌, ℕ, suc, ◌+◌, ◌≤◌, ◌==◌, true, false}
+use Rattle.std.specs.Prelude.{◌≡◌, ℕ, ◌+◌, ◌≤◌, ◌==◌, true, false}
 use Rattle.std.specs.Prelude.{◌||◌, not, List, [], ◌∷◌, ◌++◌, length, map, take, drop, sum_by}
 use Rattle.std.specs.Prelude.{pos, negsuc, refl, Some, None}
 use Rattle.std.specs.List.{AllByRecursion, list_any}
@@ -8,7 +8,6 @@ use Rattle.std.proofs.lemmas.List.{length-append, length-drop, length-take-le, t
 use Rattle.std.proofs.lemmas.List.Sums.{sum_by-cons}
 use Rattle.std.proofs.Math.Seq.{drop-append_seam, take-append_seam}
 use Rattle.awk_base.proofs.Truths.{or_first, or_second, same_number, equal_right}
-use Rattle.awk_base.proofs.Every.{all-append}
 use Rattle.awk_types.specs.DataType.{DataType, unknown, leaf, var, reg, rec, tup, opt, uni}
 use Rattle.awk_types.specs.Has.{Has}
 use Rattle.awk_types.specs.Value.{Value, int, truth, null, list, row, alt}
@@ -24,10 +23,6 @@ use Rattle.awk_lists.specs.Unflatten.{is_negative, count_of, cut_by, do_not_add_
 -- the length of a list as a number
 abbrev pub list_length : Value → Value
 list_length v = int (pos (length (list_items v)))
-
-pub length-cut : (ns : List ℕ) (vs : List Value) → length (cut_by ns vs) ≡ length ns
-length-cut [] vs = refl
-length-cut (n ∷ ns) vs = ap suc (length-cut ns (drop n vs))
 
 -- ---- what is cut, joined
 
@@ -162,10 +157,3 @@ items_in_list (Some n) t (truth b) h = absurd h
 items_in_list (Some n) t null h = absurd h
 items_in_list (Some n) t (row vs) h = absurd h
 items_in_list (Some n) t (alt k v) h = absurd h
-
-pub items_joined : (class : Class) (t : DataType) (ls : List Value)
-    → AllByRecursion (Has (list_type class t)) ls → AllByRecursion (Has t) (joined_items ls)
-items_joined class t [] h = tt
-items_joined class t (v ∷ ls) h =
-    all-append (Has t) (list_items v) (joined_items ls) (items_in_list class t v h.0)
-    (items_joined class t ls h.1)

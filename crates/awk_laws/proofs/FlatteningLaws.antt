@@ -19,17 +19,19 @@ use Rattle.awk_types.proofs.RefusalLaws.{refused_or-Ok, refused_or-None, or-both
 use Rattle.awk_view.proofs.SettleLimits.{limit-settle}
 use Rattle.awk_columns.specs.Columns.{joined_items}
 use Rattle.awk_columns.specs.ListClass.{Class, list_type}
+use Rattle.awk_columns.proofs.ItemLimits.{within_limit}
+use Rattle.awk_frames.proofs.FramedItems.{items-have}
 use Rattle.awk_lists.specs.Flatten.{flatten_of}
 use Rattle.awk_lists.specs.Num.{num_of}
 use Rattle.awk_lists.specs.Unflatten.{unflatten_of, cut_refused, lists_by, type_refused}
 use Rattle.awk_lists.specs.Unflatten.{limit_refused, lengths_refused, do_not_add_up, cut_by}
 use Rattle.awk_lists.specs.Unflatten.{count_of, is_negative}
+use Rattle.awk_lists.proofs.Cuts.{length-cut}
 use Rattle.awk_law_chains.specs.Arrays.{AreItems, AreFew}
 use Rattle.awk_laws.specs.Flattening.{FlatteningLaws}
-use Rattle.awk_laws.proofs.Cuts.{list_length, joined-cut, lengths-cut, length-cut, cut-joined}
+use Rattle.awk_laws.proofs.Cuts.{list_length, joined-cut, lengths-cut, cut-joined}
 use Rattle.awk_laws.proofs.Cuts.{counts_add_up, adding_up, none_negative, sum-lengths}
-use Rattle.awk_laws.proofs.Cuts.{items_joined}
-use Rattle.awk_law_chains.proofs.Limits.{few, few-limit}
+use Rattle.awk_law_chains.proofs.Limits.{few-limit}
 use Rattle.awk_laws.proofs.Lists.{flatten-lists, flatten-given, num-lists, num-given, cut_lists}
 use Rattle.awk_laws.proofs.Lists.{all_lists, simple_items}
 
@@ -111,7 +113,7 @@ not_refused : (t : DataType) (vs ns : List Value) → limit (var t) ≡ None
     → cut_refused t vs (leaf I64) ns ≡ None
 not_refused t vs ns l a p =
     ap₂ (λ x y. option_map limit_fault x or y) l
-    (ap₂ (λ (x : Bool) y. (if x then Some Lengths else None) or y) a (few (length ns) p))
+    (ap₂ (λ (x : Bool) y. (if x then Some Lengths else None) or y) a (within_limit (length ns) p))
 
 unflatten_of_flatten : (class : Class) (t : DataType) (ls : List Value) (items counts : Datum)
     → AreItems (list_type class t) ls → limit (var t) ≡ None
@@ -120,7 +122,7 @@ unflatten_of_flatten : (class : Class) (t : DataType) (ls : List Value) (items c
     → unflatten_of items counts ≡ Ok (arr (var t) ls)
 unflatten_of_flatten class t ls items counts h l e f =
     let a = flatten-given class t ls items (simple_items class t h.simple)
-    (items_joined class t ls h.items) e in
+    (items-have class t ls h.items) e in
     let b = num-given class t ls counts (all_lists class t ls h.items) f in
     let js = joined_items ls in
     let ns = map list_length ls in

@@ -16,12 +16,13 @@ use Rattle.awk_types.specs.Value.{values_from}
 use Rattle.awk_types.proofs.SimpleLaws.{present_stays, plain_are_simple, union_of_stays}
 use Rattle.awk_types.proofs.SimpleLaws.{simple_is_simple, present_alternatives_stay}
 use Rattle.awk_types.proofs.Trees.{type_list-from, value_list-from}
+use Rattle.awk_view.proofs.SettleLaws.{in_option-simple}
 use Rattle.awk_axis.specs.Lift.{nested, lifted_type, lifted_types, lifted_value, lifted_values}
 use Rattle.awk_axis.specs.ListFunction.{Giving, lists}
 use Rattle.awk_axis.specs.declared.place.Reach.TheVariants.{Axis}
 use Rattle.awk_columns.specs.ListClass.{Class, list_type}
 use Rattle.awk_columns.proofs.ListNodes.{simple-list, simple_value-list}
-use Rattle.awk_law_chains.proofs.Chains.{in_option_simple}
+use Rattle.awk_cartesian.proofs.OpeningLaws.{lists_no_option}
 
 -- ---- values, by one function after another
 
@@ -52,17 +53,13 @@ simple-nested : (m : ℕ) (t : DataType) → simple (nested m t) ≡ nested m (s
 simple-nested zero t = refl
 simple-nested (suc m) t = ap var (simple-nested m t)
 
-list_no_option : (c : Class) (t : DataType) → is_option (list_type c t) ≡ false
-list_no_option None t = refl
-list_no_option (Some n) t = refl
-
 list_no_union : (c : Class) (t : DataType) → is_union (list_type c t) ≡ false
 list_no_union None t = refl
 list_no_union (Some n) t = refl
 
 nested_no_option : (m : ℕ) (c : Class) (t : DataType)
     → is_option (nested m (list_type c t)) ≡ false
-nested_no_option zero c t = list_no_option c t
+nested_no_option zero c t = lists_no_option c t
 nested_no_option (suc m) c t = refl
 
 nested_no_union : (m : ℕ) (c : Class) (t : DataType)
@@ -72,8 +69,8 @@ nested_no_union (suc m) c t = refl
 
 no_option_if : (b : Bool) (c d : Class) (t u : DataType)
     → is_option (if b then list_type c t else list_type d u) ≡ false
-no_option_if true c d t u = list_no_option c t
-no_option_if false c d t u = list_no_option d u
+no_option_if true c d t u = lists_no_option c t
+no_option_if false c d t u = lists_no_option d u
 
 no_union_if : (b : Bool) (c d : Class) (t u : DataType)
     → is_union (if b then list_type c t else list_type d u) ≡ false
@@ -289,19 +286,19 @@ module _ (cf : Class → Class) (tf : DataType → DataType)
     normal_value a (tup ts) (alt j v) s h = absurd h
     normal_value a (opt t) null s h = refl
     normal_value a (opt t) (int z) s h =
-        in_option_simple (lifted_type raw (Axis a) t) (lifted_value raw (Axis a) t (int z))
+        in_option-simple (lifted_type raw (Axis a) t) (lifted_value raw (Axis a) t (int z))
         ∙ normal_value a t (int z) s.1 h
     normal_value a (opt t) (truth b) s h =
-        in_option_simple (lifted_type raw (Axis a) t) (lifted_value raw (Axis a) t (truth b))
+        in_option-simple (lifted_type raw (Axis a) t) (lifted_value raw (Axis a) t (truth b))
         ∙ normal_value a t (truth b) s.1 h
     normal_value a (opt t) (list vs) s h =
-        in_option_simple (lifted_type raw (Axis a) t) (lifted_value raw (Axis a) t (list vs))
+        in_option-simple (lifted_type raw (Axis a) t) (lifted_value raw (Axis a) t (list vs))
         ∙ normal_value a t (list vs) s.1 h
     normal_value a (opt t) (row vs) s h =
-        in_option_simple (lifted_type raw (Axis a) t) (lifted_value raw (Axis a) t (row vs))
+        in_option-simple (lifted_type raw (Axis a) t) (lifted_value raw (Axis a) t (row vs))
         ∙ normal_value a t (row vs) s.1 h
     normal_value a (opt t) (alt j v) s h =
-        in_option_simple (lifted_type raw (Axis a) t) (lifted_value raw (Axis a) t (alt j v))
+        in_option-simple (lifted_type raw (Axis a) t) (lifted_value raw (Axis a) t (alt j v))
         ∙ normal_value a t (alt j v) s.1 h
     normal_value a (uni ts) (alt j v) s h =
         ap₂ (λ us x. value_after (alternatives_before us j) x)

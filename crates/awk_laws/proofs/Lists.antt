@@ -24,11 +24,12 @@ use Rattle.awk_axis.specs.Lifting.{first_told}
 use Rattle.awk_axis.specs.Spoils.{too_many}
 use Rattle.awk_columns.specs.Columns.{list_items, joined_items}
 use Rattle.awk_columns.specs.ListClass.{Class, list_type}
+use Rattle.awk_axis.proofs.SpoilLimits.{within_limit}
 use Rattle.awk_lists.specs.Flatten.{flatten_of}
 use Rattle.awk_lists.specs.Num.{num_of, length_function}
 use Rattle.awk_lists.specs.Unflatten.{cut_by}
 use Rattle.awk_laws.proofs.Cuts.{list_length, is_list}
-use Rattle.awk_law_chains.proofs.Limits.{few_spoil, few_spoil-limit, counted_few, counted-limit}
+use Rattle.awk_law_chains.proofs.Limits.{few_spoil-limit, counted_few, counted-limit}
 use Rattle.awk_laws.proofs.Told.{told_none, none_told, none_first}
 
 -- the array of a list of values
@@ -131,7 +132,7 @@ pub num-lists : (class : Class) (t : DataType) (ls : List Value) → AllByRecurs
 num-lists class t ls h p = go class
   where
     told : first_told None None (first_spoil (too_many (length ls)) None) ≡ None
-    told = ap (λ s. first_told None None (first_spoil s None)) (few_spoil (length ls) p)
+    told = ap (λ s. first_told None None (first_spoil s None)) (within_limit (length ls) p)
 
     values : Class → List Value
     values c = map (λ v. lifted_value length_function.giving (Axis 0) (list_type c t) v) ls

@@ -19,6 +19,7 @@ use Rattle.awk_types.specs.declared.primitive.Primitive.TheVariants.{I64}
 use Rattle.awk_types.proofs.RefusalLaws.{refused_or-Ok, refused_or-None, or-both, or-last}
 use Rattle.awk_types.proofs.Trees.{value_list-from}
 use Rattle.awk_layout.specs.Item.{at_option}
+use Rattle.awk_columns.proofs.ItemLimits.{within_limit}
 use Rattle.awk_axis.specs.Counted.{counted}
 use Rattle.awk_axis.specs.Lifting.{first_told}
 use Rattle.awk_lists.specs.LocalIndex.{local_index_of}
@@ -28,7 +29,7 @@ use Rattle.awk_select.specs.Picks.{take_places, mask_places, type_refused, limit
 use Rattle.awk_select.specs.Picks.{lengths_refused, index_refused, is_index, is_mask}
 use Rattle.awk_laws.specs.Picking.{PickingLaws}
 use Rattle.awk_laws.proofs.JaggedPicks.{jagged_twice}
-use Rattle.awk_law_chains.proofs.Limits.{few, few-limit, counted-limit}
+use Rattle.awk_law_chains.proofs.Limits.{few-limit, counted-limit}
 use Rattle.awk_law_chains.proofs.Places.{all_places, take_places-all, none_outside}
 use Rattle.awk_law_chains.proofs.Places.{picked-all, mask_places_below, take_places-picked}
 use Rattle.awk_law_chains.proofs.Places.{picked_inside, picked-taken, picked-map_taken}
@@ -95,7 +96,7 @@ take_of_local_index t vs index l e =
     (arr t (picked vs (take_places (length vs) ws))) (arr t vs)
     (all_none None (limit_refused t) (index_refused (length vs) ws) (too_many (length ws)) refl
     (ap (option_map limit_fault) l) (not_outside (length vs) ws (none_outside (length vs)))
-    (few (length ws) (omega (arith, size, k.0))))
+    (within_limit (length ws) (omega (arith, size, k.0))))
     (ap (arr t) (ap (picked vs) (take_places-all (length vs)) ∙ picked-all vs))
 
 -- what is not refused
@@ -168,11 +169,11 @@ by_places t vs u ms index places e f =
     limit_alone (type_refused (is_index v)) (limit_refused (picked_type v t)) (index_refused n ws)
     (too_many (length ws)) (ap type_refused (places_index u))
     (not_outside n ws (picked_inside n os below))
-    (few (length ws) (omega (arith, count, m.few))) in
+    (within_limit (length ws) (omega (arith, count, m.few))) in
     let right : mask_refused t vs u ms ≡ limit_refused (picked_type u t) =
     limit_alone (type_refused (is_mask u)) (limit_refused (picked_type u t))
     (lengths_refused n (length ms)) (too_many (length os)) (ap type_refused m.mask)
-    (equal_lengths n (length ms) long) (few (length os) m.few) in
+    (equal_lengths n (length ms) long) (within_limit (length os) m.few) in
     let type : picked_type v t ≡ picked_type u t = picked_type-places u t in
     ap (take_of (arr t vs)) (sym m.is)
     ∙ same_answer (take_refused t vs v ws) (mask_refused t vs u ms)

@@ -10,6 +10,7 @@ use Rattle.awk_types.specs.Has.{Has}
 use Rattle.awk_types.specs.Simple.{IsSimple, option_if, simple_value, in_list}
 use Rattle.awk_types.specs.Value.{Value, int, truth, null, list, row, alt, value_list, values_from}
 use Rattle.awk_types.proofs.Trees.{value_list-from}
+use Rattle.awk_view.proofs.SettleLaws.{in_option-simple}
 use Rattle.awk_axis.specs.Lift.{lifted_type, lifted_value}
 use Rattle.awk_axis.specs.ListFunction.{Giving}
 use Rattle.awk_axis.specs.declared.place.Reach.TheVariants.{Axis}
@@ -23,7 +24,6 @@ use Rattle.awk_law_chains.proofs.JaggedRows.{IsRow, are_rows}
 use Rattle.awk_laws.specs.Nulls.{items_down}
 use Rattle.awk_laws.proofs.AtAxes.{lifted_item}
 use Rattle.awk_laws.proofs.Composed.{not_here}
-use Rattle.awk_law_chains.proofs.Chains.{in_option_simple}
 
 in_list-both : (f h : Value → Value) (v : Value)
     → in_list f (in_list h v) ≡ in_list (λ x. f (h x)) v
@@ -83,7 +83,7 @@ module _ (g : Giving) (p q : Value → Bool)
   row_above a false c t v e = list_above a c t v
   row_above a true c t null e = refl
   row_above a true c t (list vs) e =
-      in_option_simple (lifted_type g (Axis (suc a)) (list_type c t))
+      in_option-simple (lifted_type g (Axis (suc a)) (list_type c t))
       (lifted_value g (Axis (suc a)) (list_type c t) (list vs))
       ∙ list_above a c t (list vs)
   row_above a true c t (int z) e = cc

@@ -16,7 +16,7 @@ use Rattle.awk_types.specs.declared.fault.Fault.{Fault}
 use Rattle.awk_select.specs.Picks.{items_at, step_range_of}
 use Rattle.awk_select.specs.Places.{bound_down, bound_up, multiples_below, places_down, places_up}
 use Rattle.awk_select.specs.Places.{range_places}
-use Rattle.awk_select.proofs.RangePlaces.{multiple-below}
+use Rattle.awk_select.proofs.RangePlaces.{multiple-below, bound_up-below, bound_down-below}
 
 -- ---- places that go up or down by a step
 
@@ -38,16 +38,6 @@ abbrev step_of : Bool → ℕ → ℤ
 step_of true s = pos s
 step_of false s = negsuc (s - 1)
 
-up_below : (n other : ℕ) (b : Option ℤ) → other ≤ n → bound_up n other b ≤ n
-up_below n other None l = l
-up_below n other (Some (pos k)) l = omega arith
-up_below n other (Some (negsuc k)) l = omega arith
-
-down_below : (n other : ℕ) (b : Option ℤ) → other ≤ n → bound_down n other b ≤ n
-down_below n other None l = l
-down_below n other (Some (pos k)) l = omega arith
-down_below n other (Some (negsuc k)) l = omega arith
-
 -- a range is one
 record IsStep (n : ℕ) (ks : List ℕ) (step : ℤ) : Type 0 where
   up : Bool
@@ -61,7 +51,7 @@ range_up : (n : ℕ) (lo hi : Option ℤ) (s : ℕ) → 0 < s
 range_up n lo hi s p =
     let a = bound_up n 0 lo in
     let b = bound_up n n hi in
-    let top : b ≤ n = up_below n n hi (omega arith) in
+    let top : b ≤ n = bound_up-below n n hi (omega arith) in
     record {
       first = a;
       count = multiples_below (b - a) s;
@@ -77,7 +67,7 @@ range_down n lo hi k =
     let a = bound_down n n lo in
     let b = bound_down n 0 hi in
     let c = multiples_below (a - b) (suc k) in
-    let top : a ≤ n = down_below n n lo (omega arith) in
+    let top : a ≤ n = bound_down-below n n lo (omega arith) in
     let within = λ (j : ℕ) (l : j < c). multiple-below (a - b) (suc k) j (omega arith) l in
     record {
       first = a - 1;

@@ -53,11 +53,11 @@ use Rattle.awk_pair_sides.specs.Sides.{rows_of}
 use Rattle.awk_types.specs.Simple.{is_option, option_if, present}
 use Rattle.awk_types.specs.Value.{no_values, value}
 use Rattle.awk_view.specs.Choice.{Choice, absent, has_field, type_of_choice, value_of_choice}
+use Rattle.awk_view.proofs.SettleLaws.{in_option-simple}
 use Rattle.awk_with_field.specs.WithField.{is_wrong}
 use Rattle.awk_pair_types.specs.Limits.{limit_refused}
 use Rattle.awk_law_chains.specs.Arrays.{AreItems}
 use Rattle.awk_laws.specs.Viewing.{ViewLaws, start, stop, part_type, paired_part, part_beside}
-use Rattle.awk_law_chains.proofs.Chains.{in_option_simple}
 use Rattle.awk_laws.proofs.Fields.{field_type-with, field-raw, type_without, without-raw, has_at}
 use Rattle.awk_laws.proofs.PutNames.{among-named}
 use Rattle.awk_laws.proofs.PairedFields.{IsPaired, paired, record_with, chosen-over}
@@ -369,10 +369,10 @@ values_if : (o : Bool) (n : Name) (ns : List Name) (ts : DataTypes) (y : DataTyp
     ≡ simple_value (option_if o u) (part_beside j (pair_row r w))
 values_if true n ns ts y c u j e null w h k = refl
 values_if true n ns ts y c u j e (row vs) w h k =
-    in_option_simple (type_of_choice c (record_with n ns ts y))
+    in_option-simple (type_of_choice c (record_with n ns ts y))
     (value_of_choice c (record_with n ns ts y) (field_value n ns (row vs) w))
     ∙ e (row vs) w h k
-    ∙ sym (in_option_simple u (part_at j (pair_row (row vs) w)))
+    ∙ sym (in_option-simple u (part_at j (pair_row (row vs) w)))
 values_if true n ns ts y c u j e (int z) w h k = absurd h
 values_if true n ns ts y c u j e (truth b) w h k = absurd h
 values_if true n ns ts y c u j e (list vs) w h k = absurd h

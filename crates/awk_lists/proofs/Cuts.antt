@@ -163,7 +163,7 @@ module _ (x counts : Layout) (c : Column) (a : AreCounts counts c) (fits : len c
 
 -- ---- lists by counts, one after another
 
-length-cut : (ns : List ℕ) (vs : List Value) → length (cut_by ns vs) ≡ length ns
+pub length-cut : (ns : List ℕ) (vs : List Value) → length (cut_by ns vs) ≡ length ns
 length-cut [] vs = refl
 length-cut (n ∷ ns) vs = ap suc (length-cut ns (drop n vs))
 

@@ -1,6 +1,6 @@
 -- Truth values for the items of lists of a type that is no option: all are false, and no item is
 -- looked at.
-use Rattle.std.specs.Prelude.{◌≡◌, ℕ, zero, suc, ◌+◌, ◌-◌, ◌*◌, ◌<◌, ◌≤◌, refl, false, map, sum}
+use Rattle.std.specs.Prelude.{◌≡◌, ℕ, ◌+◌, ◌-◌, ◌<◌, ◌≤◌, refl, false, map, sum}
 use Rattle.std.specs.Prelude.{length, pos, Some, None}
 use Rattle.std.specs.List.{range_with_len}
 use Rattle.std.proofs.Common.{arith, ap, sym, ◌∙◌}
@@ -25,8 +25,6 @@ use Rattle.awk_layout.specs.Valid.{len}
 use Rattle.awk_gather.specs.Arrays.{array_item}
 use Rattle.awk_gather.proofs.PickedNodes.{run_same}
 use Rattle.awk_columns.specs.ListClass.{Class}
-use Rattle.awk_columns.specs.ListNode.{AreEven}
-use Rattle.awk_columns.specs.Lists.{AreOfClass}
 use Rattle.awk_columns.specs.Opened.{AreLists, items_at, all_items_at}
 use Rattle.awk_columns.proofs.ArrayLaws.{run_map}
 use Rattle.awk_axis.specs.Mapped.{AreGiven}
@@ -36,21 +34,8 @@ use Rattle.awk_nulls.specs.IsNone.{is_null, nulls, is_none_function}
 use Rattle.awk_nulls.specs.Lanes.{span_length, falses_lane}
 use Rattle.awk_columns.proofs.SpanLaws.{start_there}
 use Rattle.awk_nulls.proofs.NullLaws.{no_null}
-use Rattle.awk_columns.proofs.OffsetLaws.{are_offsets, items_at-length}
+use Rattle.awk_columns.proofs.OffsetLaws.{are_offsets, items_at-length, even_offsets}
 use Rattle.awk_axis.proofs.SpoilLimits.{over_limit, within_limit}
-
-even : (class : Class) (s t : Column) → AreOfClass class s t
-    → AreEven class (offsets_by (span_length s t) (size_of s)) (size_of s)
-even None s t c = tt
-even (Some m) s t c = λ i p. place-offsets (span_length s t) (size_of s) i p ∙ go i p
-  where
-    go : (i : ℕ) → i ≤ size_of s → before (span_length s t) i ≡ i * m
-    go zero p = omega arith
-    go (suc i) p =
-        let here : before (span_length s t) i ≡ i * m = go i (omega (arith, p)) in
-        let size : span_length s t i ≡ m = c i (omega (arith, p)) in
-        let next : suc i * m ≡ i * m + m = grind arith in
-        omega (arith, here, size, next)
 
 module _ (class : Class) (s t : Column) (y : Layout) (a : AreLists class s t y)
     (plain : is_option (array_type y) ≡ false) where
@@ -89,7 +74,7 @@ module _ (class : Class) (s t : Column) (y : Layout) (a : AreLists class s t y)
   none_given h = record {
     valid = omega (arith, h, size-lane_of kinds.Bool all (λ j. pos 0));
     offsets = rw (size-lane_of kinds.Bool all (λ j. pos 0)) (are_offsets m (size_of s) a.fits);
-    even = even class s t a.same_class;
+    even = even_offsets class s t a.same_class;
     typ = refl;
     lists = λ i p.
         ap (λ z. value_list (run (array_item (flat (falses_lane all))) (place_at o i) z)) (long i p)

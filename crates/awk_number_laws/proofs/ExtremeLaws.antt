@@ -67,10 +67,6 @@ pub extreme_there : (how : Extreme) (y : ℤ) (ys : List ℤ)
 extreme_there Least y ys = (fold int_min y ys, refl)
 extreme_there Greatest y ys = (fold int_max y ys, refl)
 
-pub extreme_none : (how : Extreme) → extreme_of how [] ≡ None
-extreme_none Least = refl
-extreme_none Greatest = refl
-
 -- ---- of items
 
 abbrev pub number_test : ℤ → Value → Bool

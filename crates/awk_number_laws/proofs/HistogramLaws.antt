@@ -1,67 +1,43 @@
 -- The laws of histograms.
-use Rattle.std.proofs.Common.{◌≡◌, ℕ, ◌+◌, ◌≤◌, List, [], ◌∷◌, ◌++◌, length, map, map-id, refl, ap}
+use Rattle.std.proofs.Common.{◌≡◌, ℕ, ◌+◌, ◌≤◌, List, [], ◌∷◌, ◌++◌, length, map, refl, ap}
 use Rattle.std.proofs.Common.{ap₂, sym, ◌∙◌, arith, append_assoc, append-nil}
 use Rattle.std.specs.Prelude.{ℤ, nat_lt, Bool, true, false, cond, int_lt, int_le}
 use Rattle.std.specs.Prelude.{Option, Some, None, Ok, if◌then◌else◌}
 use Rattle.std.specs.List.{count_by, flat_map, fold, range_with_len, sum}
 use Rattle.std.proofs.lemmas.Bool.{ltb-false}
 use Rattle.std.proofs.lemmas.Grind.{flat_map-append}
-use Rattle.std.proofs.lemmas.List.{length-map, length-append}
+use Rattle.std.proofs.lemmas.List.{length-append}
 use Rattle.std.proofs.lemmas.List.Elements.{filter-append}
 use Rattle.std.proofs.lemmas.List.Sums.{sum_by-append}
-use Rattle.std.proofs.lemmas.Simd.{map-map}
-use Rattle.awk_base.proofs.Sums.{sum-four}
 use Rattle.awk_types.specs.DataType.{DataType, unknown, leaf, var, reg, rec, tup, opt, uni}
 use Rattle.awk_types.specs.Datum.{Datum, arr, one}
 use Rattle.awk_types.specs.Gives.{refused_or, ◌or◌}
 use Rattle.awk_types.specs.ItemLimit.{item_limit, too_many}
 use Rattle.awk_types.specs.Predicates.{is_null}
-use Rattle.awk_types.specs.Value.{Value, list, row, values_from, value_list}
+use Rattle.awk_types.specs.Value.{Value, list, row, values_from}
 use Rattle.awk_types.specs.declared.fault.Fault.{Fault}
 use Rattle.awk_types.specs.declared.fault.Fault.TheVariants.{Size}
 use Rattle.awk_types.proofs.RefusalLaws.{refused_or-Ok, or-both, or-None}
-use Rattle.awk_types.proofs.Trees.{value_list-from}
 use Rattle.awk_columns.specs.Columns.{is_present, present_values, list_items, joined_items}
-use Rattle.awk_present.specs.Numbers.{numbers, number_of}
-use Rattle.awk_bins.specs.Bins.{intervals, count_in, interval_counts, count_under, count_over}
+use Rattle.awk_present.specs.Numbers.{numbers}
+use Rattle.awk_bins.specs.Bins.{intervals, count_in, count_under, count_over}
 use Rattle.awk_bins.specs.Edges.{are_edges, edge_at, lies_in}
-use Rattle.awk_bins.proofs.SumLaws.{all_counted}
 use Rattle.awk_hist.specs.Bins.{bins, bins_type, count_nulls, count_value}
 use Rattle.awk_hist.specs.Hist.{leaves, leaves_of, hist_of, hist_refused, lists_refused}
 use Rattle.awk_hist.specs.Hist.{type_refused}
-use Rattle.awk_hist.specs.Totals.{count_of, counts_total, row_total}
-use Rattle.awk_hist.proofs.InnermostLaws.{present_few}
+use Rattle.awk_hist.specs.Totals.{counts_total}
+use Rattle.awk_hist.proofs.TotalLaws.{bins-total}
 use Rattle.awk_number_laws.proofs.HistogramLists.{each_counted}
 use Rattle.awk_number_laws.specs.Histograms.{added, all_added, AddUpTo, HistogramLaws}
 use Rattle.awk_number_laws.proofs.NumberLaws.{numbers-append}
 
 -- ---- all counts
 
-list-total : (ns : List ℕ)
-    → sum (map count_of (value_list (values_from (map count_value ns)))) ≡ sum ns
-list-total ns =
-    ap (λ vs. sum (map count_of vs)) (value_list-from (map count_value ns))
-    ∙ ap sum (map-map count_of count_value ns ∙ map-id ns)
-
-total_is : (es : List ℤ) (vs : List Value) → are_edges es ≡ true
-    → row_total (bins es vs) ≡ length vs
-total_is es vs h =
-    let counts = interval_counts es (numbers vs) in
-    sum-four (sum (map count_of (value_list (values_from (map count_value counts)))))
-    (count_under es (numbers vs)) (count_over es (numbers vs)) (count_nulls vs)
-    ∙ omega (
-      arith,
-      list-total counts,
-      all_counted es (numbers vs) h,
-      length-map (present_values vs) number_of,
-      present_few vs,
-    )
-
 leaves_are : (es : List ℤ) (d made : Datum) → are_edges es ≡ true → hist_of es d ≡ Ok made
     → counts_total made ≡ length (leaves_of d)
 leaves_are es d made h e =
     let k = refused_or-Ok (hist_refused d) (one bins_type (bins es (leaves_of d))) made e in
-    ap counts_total (sym k.1) ∙ total_is es (leaves_of d) h
+    ap counts_total (sym k.1) ∙ bins-total es (leaves_of d) h
 
 -- ---- two lists
 
@@ -200,7 +176,7 @@ arrays_are es t us vs made e =
 
 pub histograms_law : HistogramLaws
 histograms_law = record {
-  total = total_is;
+  total = bins-total;
   leaves = leaves_are;
   joined = joined_is;
   parts = λ es ls. parts_from es [] ls;

@@ -1,10 +1,10 @@
 -- Laws of operations on the leaves of whole arrays.
-use Rattle.std.specs.Prelude.{◌≡◌, ℕ, zero, suc, ◌<◌, Bool, true, false, not, ◌||◌}
+use Rattle.std.specs.Prelude.{◌≡◌, ℕ, zero, suc, ◌<◌, Bool, true, false, ◌||◌}
 use Rattle.std.specs.Prelude.{List, [], ◌∷◌, map, length, get_or, Option, Some, None}
 use Rattle.std.specs.Prelude.{Result, Ok, Err, refl, if◌then◌else◌}
 use Rattle.std.specs.List.{AllByRecursion, list_all}
 use Rattle.std.proofs.Common.{ap, ap₂, sym, ◌∙◌, arith, subst}
-use Rattle.std.proofs.lemmas.Bool.{and_parts, not-false}
+use Rattle.std.proofs.lemmas.Bool.{and_parts}
 use Rattle.std.proofs.lemmas.Simd.{map-map}
 use Rattle.awk_types.specs.DataType.{DataType, unknown, leaf, var, reg, rec, tup, opt, uni}
 use Rattle.awk_types.specs.DataType.{types_from}
@@ -36,7 +36,7 @@ use Rattle.awk_leaves.specs.declared.operation.Unary.TheVariants.{Not}
 use Rattle.awk_ends.specs.Operands.{at_end, both_data, data_in, leaf_of, in_primitive}
 use Rattle.awk_pair_operands.specs.Answer.{shared_ends}
 use Rattle.awk_pair_operands.specs.Paired.{Reach, to_leaves, to_depth, end_types, paired_type}
-use Rattle.awk_pair_operands.specs.Paired.{types_at_ends, is_wrong, paired_value}
+use Rattle.awk_pair_operands.specs.Paired.{types_at_ends, paired_value}
 use Rattle.awk_pair_operands.specs.Pairs.{datum_from, has_wrong_end, are_uneven, below}
 use Rattle.awk_pair_operands.specs.Pairs.{pair_refused, pair_type, pair_values, some_array, typs}
 use Rattle.awk_pair_operands.specs.Pairs.{single_value, datum_side}
@@ -45,6 +45,7 @@ use Rattle.awk_pair_operands.specs.Typed.{IsTyped}
 use Rattle.awk_pair_operands.proofs.TypedLaws.{typed_pairs}
 use Rattle.awk_pair_sides.specs.Levels.{opens, some_option, item_types, level_class}
 use Rattle.awk_pair_types.specs.Limits.{limit_refused}
+use Rattle.awk_ends.proofs.LeafLaws.{ends_leaves}
 use Rattle.awk_arith.specs.AtLeaves.{at_leaves, first_fault, row_values}
 use Rattle.awk_arith.specs.AtLeaves.{result_type, value_or_null}
 use Rattle.awk_arith.specs.Binary.{binary_of, binary_row}
@@ -99,21 +100,6 @@ shared_type to_depth (suc d) ts =
     (types_at_ends to_depth d (item_types ts)) (shared_type to_depth d (item_types ts))
 
 -- ---- ends that are leaves
-
-right_if : (b x : Bool) (us ws : List DataType)
-    → (x ≡ false → list_all is_leaf us ≡ true)
-    → (if b then x else not (list_all is_leaf ws)) ≡ false
-    → list_all is_leaf (if b then us else ws) ≡ true
-right_if true x us ws h e = h e
-right_if false x us ws h e = not-false (list_all is_leaf ws) e
-
-pub leaf_ends : (d : ℕ) (ts : List DataType) → is_wrong to_leaves d ts ≡ false
-    → list_all is_leaf (types_at_ends to_leaves d ts) ≡ true
-leaf_ends zero ts e = not-false (list_all is_leaf (map present ts)) e
-leaf_ends (suc d) ts e =
-    right_if (opens ts) (is_wrong to_leaves d (item_types ts))
-    (types_at_ends to_leaves d (item_types ts)) (map present ts)
-    (λ f. leaf_ends d (item_types ts) f) e
 
 length-types : (f : DataType → DataType) (ts : List DataType) → length (map f ts) ≡ length ts
 length-types f [] = refl
@@ -289,7 +275,7 @@ module _ (a b : Filler) where
         (typed_pairs false None ds typed (even_false (are_uneven false None ds) both.0)))
 
     all_leaves : list_all is_leaf E ≡ true
-    all_leaves = leaf_ends levels (typs ds) right
+    all_leaves = ends_leaves levels (typs ds) right
 
     pub first_there : (v : Value) → P v → is_present (first v) ≡ true
     first_there v h = first_present a b E v all_leaves count_is h

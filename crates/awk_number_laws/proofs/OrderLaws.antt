@@ -19,6 +19,7 @@ use Rattle.awk_types.specs.declared.fault.Fault.TheVariants as fault
 use Rattle.awk_types.specs.declared.primitive.Primitive.TheVariants.{I64}
 use Rattle.awk_types.proofs.RefusalLaws.{refused_or-Ok}
 use Rattle.awk_types.proofs.Trees.{value_list-from}
+use Rattle.awk_columns.proofs.ItemLimits.{within_limit}
 use Rattle.awk_axis.specs.Lifting.{first_told}
 use Rattle.awk_axis.specs.declared.causes.Spoil.{Spoil}
 use Rattle.awk_axis.specs.declared.causes.Spoil.TheVariants.{Size}
@@ -64,11 +65,6 @@ few n e = go (nat_lt item_limit (sum (n ∷ []))) refl e
     go false f g =
         omega (arith, sum-one n, ltb-false item_limit (sum (n ∷ [])) f)
 
-small : (n : ℕ) → n ≤ item_limit → too_many n ≡ None
-small n l =
-    let e : nat_lt item_limit n ≡ false = grind (arith, l) in
-    ap (λ b. if b then Some fault.Size else None) e
-
 pub inside : (n : ℕ) (ps : List ℕ) → AllBelow n ps
     → list_any (is_outside n) (map (λ (p : ℕ). int (pos p)) ps) ≡ false
 inside n [] h = refl
@@ -97,7 +93,7 @@ module _ (up : Bool) (t : DataType) (vs : List Value) (l : is_leaf (present t) �
       ∙ ap₂ (λ b o. refused_or ((if b then Some fault.Index else None) or o)
       (arr t (picked vs (take_places (length vs) (place_items up vs)))))
       (inside (length vs) (item_order up vs) (places_within up vs))
-      (small n (omega (arith, long, few (length vs) e)))
+      (within_limit n (omega (arith, long, few (length vs) e)))
       ∙ ap (λ ws. Ok (arr t ws)) (pick_is up vs)
 
   picks_are : (places : Datum) → argsort_of up (arr t vs) ≡ Ok places

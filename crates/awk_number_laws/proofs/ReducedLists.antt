@@ -4,7 +4,6 @@ use Rattle.std.specs.Prelude.{Option, Some, None, option_map, Ok, refl, if◌the
 use Rattle.std.specs.List.{AllByRecursion, flat_map}
 use Rattle.std.proofs.Common.{ap, ap₂, sym, ◌∙◌}
 use Rattle.std.proofs.lemmas.Grind.{flat_map-append}
-use Rattle.awk_base.proofs.Every.{all-append}
 use Rattle.awk_types.specs.DataType.{DataType, unknown, leaf, var, reg, rec, tup, opt, uni}
 use Rattle.awk_types.specs.Datum.{Datum, arr, one}
 use Rattle.awk_types.specs.Faults.{limit_fault}
@@ -17,6 +16,7 @@ use Rattle.awk_types.specs.Simple.{present, simple, simple_value, in_list, in_op
 use Rattle.awk_types.specs.Value.{Value, int, truth, null, list, row, alt, value_list, values_from}
 use Rattle.awk_types.proofs.RefusalLaws.{refused_or-Ok, or-both}
 use Rattle.awk_types.proofs.Trees.{value_list-from}
+use Rattle.awk_view.proofs.SettleLaws.{in_option-simple}
 use Rattle.awk_axis.specs.Causes.{first_spoil}
 use Rattle.awk_axis.specs.Lift.{lifted_type, lifted_value, refusal_at, on_list}
 use Rattle.awk_axis.specs.Lifting.{deep, first_told, on_items, on_whole}
@@ -29,10 +29,11 @@ use Rattle.awk_axis.specs.declared.place.Reach.TheVariants.{Innermost}
 use Rattle.awk_columns.specs.Columns.{is_present, list_items, joined_items, list_of, present_values}
 use Rattle.awk_columns.specs.ListClass.{Class, list_type}
 use Rattle.awk_frames.specs.Shape.{ends}
+use Rattle.awk_frames.proofs.FramedItems.{items-have}
 use Rattle.awk_pair_operands.specs.Typed.{IsTyped}
 use Rattle.awk_law_chains.specs.Innermost.{datum_type, innermost_lists, innermost_type, leaves_in}
 use Rattle.awk_law_chains.specs.Innermost.{lists_in}
-use Rattle.awk_law_chains.proofs.Chains.{both-each, in_option_simple, joined-in_list}
+use Rattle.awk_law_chains.proofs.Chains.{both-each, joined-in_list}
 use Rattle.awk_law_chains.proofs.Chains.{joined-present}
 use Rattle.awk_number_laws.proofs.InnermostLists.{inside, lists_null}
 use Rattle.awk_law_chains.proofs.Limits.{none_map}
@@ -146,27 +147,6 @@ lists-given (Some n) t h (row us ∷ vs) k = absurd k.0
 lists-given None t h (alt j u ∷ vs) k = absurd k.0
 lists-given (Some n) t h (alt j u ∷ vs) k = absurd k.0
 
-item_has : (c : Class) (t : DataType) (v : Value) → Has (list_type c t) v
-    → AllByRecursion (Has t) (list_items v)
-item_has None t (list us) k = k
-item_has (Some n) t (list us) k = k.1
-item_has None t (int z) k = absurd k
-item_has (Some n) t (int z) k = absurd k
-item_has None t (truth b) k = absurd k
-item_has (Some n) t (truth b) k = absurd k
-item_has None t null k = absurd k
-item_has (Some n) t null k = absurd k
-item_has None t (row us) k = absurd k
-item_has (Some n) t (row us) k = absurd k
-item_has None t (alt j u) k = absurd k
-item_has (Some n) t (alt j u) k = absurd k
-
-items_have : (c : Class) (t : DataType) (vs : List Value)
-    → AllByRecursion (Has (list_type c t)) vs → AllByRecursion (Has t) (joined_items vs)
-items_have c t [] k = tt
-items_have c t (v ∷ vs) k =
-    all-append (Has t) (list_items v) (joined_items vs) (item_has c t v k.0) (items_have c t vs k.1)
-
 present_have : (t : DataType) (vs : List Value) → AllByRecursion (Has (opt t)) vs
     → AllByRecursion (Has t) (filter is_present vs)
 present_have t [] k = tt
@@ -245,15 +225,15 @@ module _ (typ : DataType → DataType) (value_of : DataType → List Value → V
       (λ e x h. plain_in t x (below t e r) h)
   plain_in (opt t) null r k = refl
   plain_in (opt t) (int z) r k =
-      in_option_simple (type_in t) (value_in t (int z)) ∙ plain_in t (int z) r k
+      in_option-simple (type_in t) (value_in t (int z)) ∙ plain_in t (int z) r k
   plain_in (opt t) (truth b) r k =
-      in_option_simple (type_in t) (value_in t (truth b)) ∙ plain_in t (truth b) r k
+      in_option-simple (type_in t) (value_in t (truth b)) ∙ plain_in t (truth b) r k
   plain_in (opt t) (list us) r k =
-      in_option_simple (type_in t) (value_in t (list us)) ∙ plain_in t (list us) r k
+      in_option-simple (type_in t) (value_in t (list us)) ∙ plain_in t (list us) r k
   plain_in (opt t) (row us) r k =
-      in_option_simple (type_in t) (value_in t (row us)) ∙ plain_in t (row us) r k
+      in_option-simple (type_in t) (value_in t (row us)) ∙ plain_in t (row us) r k
   plain_in (opt t) (alt j w) r k =
-      in_option_simple (type_in t) (value_in t (alt j w)) ∙ plain_in t (alt j w) r k
+      in_option-simple (type_in t) (value_in t (alt j w)) ∙ plain_in t (alt j w) r k
   plain_in unknown v r k = absurd k
   plain_in (leaf p) v r k = cc
   plain_in (rec ns ts) v r k = cc
@@ -325,10 +305,10 @@ module _ (typ : DataType → DataType) (value_of : DataType → List Value → V
       → Gives t (innermost_type t) vs
   gives (var t) vs r k =
       list_gives None (is_leaf (present t)) t vs k
-      (λ e. gives t (joined_items vs) (below t e r) (items_have None t vs k))
+      (λ e. gives t (joined_items vs) (below t e r) (items-have None t vs k))
   gives (reg n t) vs r k =
       list_gives (Some n) (is_leaf (present t)) t vs k
-      (λ e. gives t (joined_items vs) (below t e r) (items_have (Some n) t vs k))
+      (λ e. gives t (joined_items vs) (below t e r) (items-have (Some n) t vs k))
   gives (opt t) vs r k =
       present_ends (type_in t) (map (in_option (value_in t)) vs)
       ∙ sym (present_ends (type_in t) (map (in_option (value_in t)) vs))

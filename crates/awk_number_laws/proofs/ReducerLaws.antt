@@ -41,12 +41,13 @@ use Rattle.awk_reduce.specs.Reduce.{reduce_of, overflows, overflow_spoil, reduce
 use Rattle.awk_reduce.specs.Reducers.{wide, reduced, reduced_type, item_or_null, place_or_null}
 use Rattle.awk_reduce.specs.Totals.{item_reducer, place_reducer}
 use Rattle.awk_reduce.specs.declared.reducer.Reducer.TheVariants.{Sum, Count}
+use Rattle.awk_reduce.proofs.PlaceLaws.{none_of}
 use Rattle.awk_order.specs.Order.{option_number}
 use Rattle.awk_order.proofs.ValueLaws.{value_of, all_numbers}
 use Rattle.awk_hist.proofs.InnermostLaws.{present_few}
 use Rattle.awk_number_laws.specs.Extremes.{IsExtreme}
 use Rattle.awk_number_laws.specs.Reducers.{ReducerLaws}
-use Rattle.awk_number_laws.proofs.ExtremeLaws.{extreme_told, extreme_item, extreme_none}
+use Rattle.awk_number_laws.proofs.ExtremeLaws.{extreme_told, extreme_item}
 use Rattle.awk_number_laws.proofs.ExtremeLaws.{number_there}
 use Rattle.awk_number_laws.proofs.NumberLaws.{numbers-append}
 use Rattle.awk_number_laws.proofs.ReducedLeaves.{reduced_are}
@@ -303,7 +304,7 @@ none_is : (how : Extreme) (t : DataType) (vs : List Value)
     → (reduced (item_reducer how) t vs ≡ null) × (reduced (place_reducer how) t vs ≡ null)
 none_is how t vs h =
     let e : extreme_of how (numbers vs) ≡ None =
-    ap (extreme_of how) (no_numbers vs h) ∙ extreme_none how in (
+    ap (extreme_of how) (no_numbers vs h) ∙ none_of how in (
       item_said how t vs ∙ ap (item_or_null (leaf_of t)) e,
       place_said how t vs
           ∙ ap (λ o. place_or_null (option_and_then (number_place vs) o)) e,

@@ -1,6 +1,6 @@
 -- What is made of lists, by their items one after another.
 use Rattle.std.specs.Prelude.{◌≡◌, ℕ, zero, suc, ◌+◌, ◌-◌, ◌*◌, ◌<◌, ◌≤◌, ◌^◌, refl, true, false}
-use Rattle.std.specs.Prelude.{Bool, nat_lt, List, [], ◌∷◌, length, map, sum, pos, Some, None}
+use Rattle.std.specs.Prelude.{Bool, List, [], ◌∷◌, length, map, sum, pos, Some, None}
 use Rattle.std.specs.Prelude.{if◌then◌else◌, take, drop}
 use Rattle.std.specs.List.{range_with_len, slice_range}
 use Rattle.std.proofs.Common.{arith, ap, ap₂, sym, ◌∙◌, subst}
@@ -41,6 +41,7 @@ use Rattle.awk_present.specs.Present.{list_at}
 use Rattle.awk_order.specs.Lists.{AreItems, AreMade}
 use Rattle.awk_order.specs.Sort.{leaf_lists}
 use Rattle.awk_axis.proofs.SpoilLimits.{over_limit, within_limit}
+use Rattle.awk_axis.proofs.IndexLaws.{too_many-never}
 
 -- ---- counts
 
@@ -51,13 +52,6 @@ counted_total s e y =
     ∙ sum-map (λ i. length (items_at s e y i)) (range_with_len 0 (size_of s))
     ∙ sym (length-flat_map (items_at s e y) (range_with_len 0 (size_of s)))
 
-too_many-index : (n : ℕ) → too_many n ≡ Some Index → ⊥
-too_many-index n h = go (nat_lt item_limit n) h
-  where
-    go : (b : Bool) → (if b then Some Size else None) ≡ Some Index → ⊥
-    go true e = cc
-    go false e = cc
-
 module _ (typ : DataType → DataType) (items : List Value → List Value) where
   pub lists_spoilt : (s e : Column) (y : Layout) → IsJoined s e y TooMany
       → (leaf_lists typ items).spoil (array_type y) (all_items_at s e y) ≡ Some Size
@@ -66,7 +60,7 @@ module _ (typ : DataType → DataType) (items : List Value → List Value) where
   -- no list is refused for a place
   pub lists_never : (t : DataType) (ls : List (List Value))
       → (leaf_lists typ items).spoil t ls ≡ Some Index → ⊥
-  lists_never t ls h = too_many-index (sum (map (λ (l : List Value). length l) ls)) h
+  lists_never t ls h = too_many-never (sum (map (λ (l : List Value). length l) ls)) h
 
   pub leaves_taken : (t : DataType) → (leaf_lists typ items).refusal t ≡ None
       → is_leaf (present t) ≡ true

@@ -13,19 +13,9 @@ use Rattle.awk_lanes.specs.Places.{size_of, at}
 use Rattle.awk_layout.specs.Item.{leaf_value}
 use Rattle.awk_layout.specs.Kinds.{primitive_of, kind_of, kind_of-primitive_of}
 use Rattle.awk_types.specs.Value.{Value}
+use Rattle.awk_lanes.proofs.PlaceLaws.{element-same}
 use Rattle.awk_pack.specs.Lanes.{lane_of, number_of}
 use Rattle.awk_pack.specs.Packing.{leaf_lane}
-
-read-number : (k : Kind) (z : ℤ) → k ≢ kind.Bool → element k z ≡ z
-read-number kind.Bool z h = absurd (h refl)
-read-number kind.I8 z h = refl
-read-number kind.I16 z h = refl
-read-number kind.I32 z h = refl
-read-number kind.I64 z h = refl
-read-number kind.U8 z h = refl
-read-number kind.U16 z h = refl
-read-number kind.U32 z h = refl
-read-number kind.U64 z h = refl
 
 -- but for truth values, a number is read as it lies: such a lane is borrowed
 pub leaf_lane-same : (c : Column) → c.kind ≢ kind.Bool → c ≡ leaf_lane c
@@ -35,7 +25,7 @@ leaf_lane-same c h =
     (sym (length-map-range_with_len (at c) 0 (size_of c))) (λ i l.
     sym
     (get_or-map-range_with_len (at c) 0 (size_of c) i i (pos 0) l (omega arith)
-    ∙ read-number c.kind (get_or c.items i (pos 0)) h)))
+    ∙ element-same c.kind (get_or c.items i (pos 0)) h)))
 
 number_of-leaf : (k : Kind) (z : ℤ) → number_of (leaf_value k (element k z)) ≡ element k z
 number_of-leaf kind.Bool z = of (is_nonzero z)

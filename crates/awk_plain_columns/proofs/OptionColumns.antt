@@ -6,7 +6,7 @@ use Rattle.std.specs.Prelude.{◌&&◌, filter}
 use Rattle.std.proofs.lemmas.List.{drop_all, drop_more}
 use Rattle.serde_json.specs.Data.{Data, null, boolean, number, string, array, object}
 use Rattle.awk_types.specs.DataType.{DataType, opt, unknown, leaf, var, reg, rec, tup, uni}
-use Rattle.awk_types.specs.Simple.{in_option, is_option, option_of, present}
+use Rattle.awk_types.specs.Simple.{in_option, is_option, option_of}
 use Rattle.awk_types.specs.Value as values
 use Rattle.awk_types.specs.Value.{Value, int, truth, list, row, alt}
 use Rattle.awk_lanes.specs.Column.{Column}
@@ -24,6 +24,7 @@ use Rattle.awk_plain.specs.Suits.{all_suit, is_int64, is_of, is_of_lists, is_of_
 use Rattle.awk_plain.specs.Suits.{members_suit, names_of_fields, own_value}
 use Rattle.awk_plain.specs.Suits.{types_of_fields}
 use Rattle.awk_types.specs.declared.primitive.Primitive.TheVariants as primitive
+use Rattle.awk_types.proofs.SimpleLaws.{present_stays}
 use Rattle.awk_plain_columns.specs.Suited.{AllSuit, Suits, is_there, there}
 
 -- ---- what is there
@@ -197,31 +198,21 @@ option_typed (rec ns ts) e = refl
 option_typed (tup ts) e = refl
 option_typed (uni ts) e = refl
 
-present_is : (t : DataType) → is_option t ≡ false → present t ≡ t
-present_is (opt t) e = cc
-present_is unknown e = refl
-present_is (leaf p) e = refl
-present_is (var t) e = refl
-present_is (reg n t) e = refl
-present_is (rec ns ts) e = refl
-present_is (tup ts) e = refl
-present_is (uni ts) e = refl
-
 -- a value that is there, within an option
 suit_in : (t : DataType) (d : Data) → is_option t ≡ false → is_there d ≡ true → Suits (opt t) d
     → Suits t d
 suit_in t null e i s = absurd (cc)
 suit_in t (string c) e i s = absurd (cc)
 suit_in t (boolean b) e i s =
-    (s.0, ap (λ u. is_of primitive.Bool u) (present_is t e) ∙ s.1)
+    (s.0, ap (λ u. is_of primitive.Bool u) (present_stays t e) ∙ s.1)
 suit_in t (number n) e i s =
-    (s.0, ap (λ u. is_of primitive.I64 u && is_int64 n) (present_is t e) ∙ s.1)
+    (s.0, ap (λ u. is_of primitive.I64 u && is_int64 n) (present_stays t e) ∙ s.1)
 suit_in t (array ds) e i s =
-    (s.0, ap (λ u. is_of_lists u && all_suit (item_of u) ds) (present_is t e) ∙ s.1)
+    (s.0, ap (λ u. is_of_lists u && all_suit (item_of u) ds) (present_stays t e) ∙ s.1)
 suit_in t (object ms) e i s = (
   s.0,
   ap (λ u. is_of_records u
-      && members_suit (names_of_fields u) (types_of_fields u) ms) (present_is t e) ∙ s.1,
+      && members_suit (names_of_fields u) (types_of_fields u) ms) (present_stays t e) ∙ s.1,
 )
 
 pub there_suit : (t : DataType) (ds : List Data) → is_option t ≡ false → AllSuit (opt t) ds

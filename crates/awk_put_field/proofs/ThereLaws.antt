@@ -5,7 +5,6 @@ use Rattle.std.specs.Prelude.{List, [], ◌∷◌, ◌++◌, map, filter, length
 use Rattle.std.specs.Prelude.{is_some, if◌then◌else◌}
 use Rattle.std.specs.List.{range_with_len}
 use Rattle.std.proofs.lemmas.List.{take_all, map-append, length-map}
-use Rattle.std.proofs.lemmas.Simd.{map-map}
 use Rattle.awk_types.specs.Value.{Value, int, truth, null, list, row, alt}
 use Rattle.awk_lanes.specs.Counted.{before, numbers_of_lists, items_lane}
 use Rattle.awk_lanes.specs.Column.{Column}
@@ -16,10 +15,10 @@ use Rattle.awk_layout.specs.Item.{at_option}
 use Rattle.awk_gather.specs.Arrays.{pick}
 use Rattle.awk_columns.specs.Columns.{is_present, option_index}
 use Rattle.awk_counts.specs.Counted.{first_of, AreBelow}
-use Rattle.awk_counts.proofs.FirstPlaces.{first_of-more}
 use Rattle.awk_columns.proofs.ReachedContents.{below-first_of, places_index}
 use Rattle.awk_frames.specs.Shape.{index_column}
 use Rattle.awk_frames.proofs.ValueLists.{length-index}
+use Rattle.awk_pair_sides.proofs.PlaceLaws.{place-numbers}
 use Rattle.awk_put_field.specs.There.{beside_present, there_length}
 
 -- ---- which items an index names
@@ -212,19 +211,6 @@ some_taken j p vs ws e l f =
     ∙ pick-there vs ws (same-length j vs ws e l)
 
 -- ---- each is a place
-
-place-numbers : (m : ℕ → ℕ) (g : ℕ → ℕ → ℕ) (n : ℕ) → numbers_of_lists m (λ i k. pos (g i k)) n
-    ≡ map (λ k. pos k) (first_of (λ i. map (g i) (range_with_len 0 (m i))) n)
-place-numbers m g zero = refl
-place-numbers m g (suc n) =
-    let f : ℕ → List ℕ = λ i. map (g i) (range_with_len 0 (m i)) in
-    let e : suc n ≡ n + 1 = omega arith in
-    ap (λ zs. zs ++ map (λ k. pos (g n k)) (range_with_len 0 (m n))) (place-numbers m g n)
-    ∙ ap (λ zs. map (λ k. pos k) (first_of f n) ++ zs)
-    (sym (map-map (λ k. pos k) (g n) (range_with_len 0 (m n))))
-    ∙ sym (ap (λ k. map (λ k. pos k) (first_of f k)) e
-    ∙ ap (map (λ k. pos k)) (first_of-more f n)
-    ∙ map-append (λ k. pos k) (first_of f n) (f n))
 
 same-below : (n i a m : ℕ) → i < n → AreBelow n (map (λ k. i) (range_with_len a m))
 same-below n i a zero h = tt

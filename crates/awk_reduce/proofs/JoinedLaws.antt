@@ -19,6 +19,7 @@ use Rattle.awk_layout.specs.Valid.{len}
 use Rattle.awk_layout.proofs.Runs.{value_list-run}
 use Rattle.awk_gather.specs.Arrays.{array_item}
 use Rattle.awk_counts.specs.Counted.{offset_at}
+use Rattle.awk_layout.proofs.ArrayItems.{length-array_items}
 use Rattle.awk_columns.specs.Joined.{JoinsLists, total}
 use Rattle.awk_columns.specs.Lists.{Listed, items_at}
 use Rattle.awk_columns.proofs.ArrayLaws.{array_items-at}
@@ -32,7 +33,7 @@ use Rattle.awk_present.specs.Present.{LeadsBack as Leads}
 use Rattle.awk_present.specs.declared.present.Present.{Present}
 use Rattle.awk_reduce.specs.Lists.{list_in, IsIndexed, LeadsBack, AreReady}
 use Rattle.awk_reduce.specs.declared.ready.ReadyLists.{ReadyLists}
-use Rattle.awk_reduce.proofs.PlainLaws.{part-range, items-count}
+use Rattle.awk_reduce.proofs.PlainLaws.{part-range}
 use Rattle.awk_reduce.proofs.SpanLaws.{part-same, offsets_spanned}
 
 module _ (s e : Column) (y : Layout) (o : Column) (z : Layout) (j : JoinsLists s e y o z) where
@@ -56,14 +57,14 @@ module _ (s e : Column) (y : Layout) (o : Column) (z : Layout) (j : JoinsLists s
     size = j.offsets.size;
     positive = λ i p. rw (joined_at i p) (omega (arith, ints));
     ordered = λ i p. omega (arith, j.lengths i p);
-    within = λ i p. omega (arith, below i p, items-count z);
+    within = λ i p. omega (arith, below i p, length-array_items z);
   }
 
   pub few_items : total s e y ≤ item_limit → length (array_items z) ≤ item_limit
   few_items h = omega (arith, ap length j.column, h)
 
   pub last_items : place_at o (size_of s) ≡ length (array_items z)
-  last_items = j.offsets.last ∙ sym (items-count z)
+  last_items = j.offsets.last ∙ sym (length-array_items z)
 
   pub list_same : (i : ℕ) → i < size_of s → items_at s e y i ≡ list_at (array_items z) o i
   list_same i p =

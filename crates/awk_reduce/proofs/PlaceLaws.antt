@@ -75,7 +75,7 @@ place_fits Greatest t vs = refl
 
 -- ---- of one list
 
-none_of : (how : Extreme) → extreme_of how [] ≡ None
+pub none_of : (how : Extreme) → extreme_of how [] ≡ None
 none_of Least = refl
 none_of Greatest = refl
 

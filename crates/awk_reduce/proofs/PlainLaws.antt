@@ -8,7 +8,7 @@ use Rattle.std.specs.Ordering.{int_eq}
 use Rattle.std.proofs.lemmas.Bool.{ltb-false}
 use Rattle.std.proofs.lemmas.Int.{ints}
 use Rattle.std.proofs.lemmas.List.{length-map}
-use Rattle.std.proofs.lemmas.List.FromFn.{length-map-range_with_len, take-map-range_with_len}
+use Rattle.std.proofs.lemmas.List.FromFn.{take-map-range_with_len}
 use Rattle.awk_types.specs.ItemLimit.{item_limit}
 use Rattle.awk_types.specs.Value.{Value, value_list}
 use Rattle.awk_lanes.specs.Column.{Column}
@@ -21,6 +21,7 @@ use Rattle.awk_layout.specs.Layout.{Layout}
 use Rattle.awk_layout.specs.Typing.{array_items}
 use Rattle.awk_layout.specs.Valid.{len}
 use Rattle.awk_layout.proofs.Runs.{value_list-run}
+use Rattle.awk_layout.proofs.ArrayItems.{length-array_items}
 use Rattle.awk_gather.specs.Arrays.{array_item}
 use Rattle.awk_columns.specs.Lists.{Listed, AreLists}
 use Rattle.awk_columns.proofs.ArrayLaws.{array_items-at}
@@ -56,10 +57,6 @@ part-range f n a b p q =
     ap (take (b - a)) (drop-range f 0 a n)
     ∙ take-map-range_with_len f (0 + a) (n - a) (b - a) (omega (arith, p, q))
     ∙ ap (λ c. map f (range_with_len c (b - a))) e
-
-pub items-count : (y : Layout) → length (array_items y) ≡ len y
-items-count y =
-    ap length (array_items-at y) ∙ length-map-range_with_len (array_item y) 0 (len y)
 
 -- two offsets
 abbrev two : ℕ → ℕ → Column
@@ -125,7 +122,7 @@ module _ (y : Layout) (c : Column) (h : AreLeaves y c) (a b : ℤ)
       let items : slice_range (array_items y) first last ≡ vs =
       ap (λ ws. slice_range ws first last) (array_items-at y)
       ∙ part-range (array_item y) (len y) first last (omega (arith, less))
-      (omega (arith, within, count, items-count y))
+      (omega (arith, within, count, length-array_items y))
       ∙ sym (value_list-run (array_item y) first (last - first)) in (
         p.parts 0 (omega arith) ∙ ap numbers items,
         λ q z e. ap (λ ws. number_place ws z) (sym items) ∙ p.places 0 q z (omega arith) e,
@@ -165,7 +162,7 @@ module _ (x : ReadyLists)
   l = x.lists.now
 
   long : len l.content ≡ size_of c
-  long = sym (items-count l.content) ∙ leaves-count c l.content leaves
+  long = sym (length-array_items l.content) ∙ leaves-count c l.content leaves
 
   numbers-count : length (lane_numbers c) ≡ size_of c
   numbers-count = length-map c.items (element c.kind)

@@ -1,6 +1,6 @@
 -- What masks and indexes answer: the first refusal, or the items.
 use Rattle.std.proofs.Common.{◌≡◌, ℕ, ◌<◌, ◌≤◌, List, length, refl, ap, ap₂, sym, ◌∙◌, subst}
-use Rattle.std.proofs.Common.{eq-eqb, ne_eqb, le-ltb, lt-ltb}
+use Rattle.std.proofs.Common.{eq-eqb, ne_eqb}
 use Rattle.std.specs.Prelude.{true, false, Option, Some, None, option_map, Result, Ok, Err}
 use Rattle.std.specs.Prelude.{if◌then◌else◌}
 use Rattle.std.specs.List.{list_any}
@@ -22,6 +22,7 @@ use Rattle.awk_layout.specs.Typing.{array_type, array_items, array_datum}
 use Rattle.awk_layout.proofs.ArrayItems.{length-array_items}
 use Rattle.awk_gather.specs.Arrays.{pick}
 use Rattle.awk_lanes.specs.Made.{lane_of}
+use Rattle.awk_columns.proofs.ItemLimits.{over_limit, within_limit}
 use Rattle.awk_select.specs.Cells.{places_lane, take_number}
 use Rattle.awk_select.specs.Picks.{picked, picked_type, limit_refused}
 use Rattle.awk_select.specs.Picks.{mask_places, alike}
@@ -29,12 +30,6 @@ use Rattle.awk_select.specs.Picks.{take_places, is_outside, index_refused}
 use Rattle.awk_select.proofs.PickedPlaces.{pick-picked, take-lane}
 
 -- ---- parts of refusals
-
-many : (n : ℕ) → item_limit < n → too_many n ≡ Some Size
-many n h = ap (λ b. if b then Some Size else None) (lt-ltb item_limit n h)
-
-few : (n : ℕ) → n ≤ item_limit → too_many n ≡ None
-few n h = ap (λ b. if b then Some Size else None) (le-ltb item_limit n h)
 
 no_limit : (o : Option Limit) → option_map limit_fault o ≡ None → o ≡ None
 no_limit None h = refl
@@ -48,7 +43,7 @@ judged t h = no_limit (limit t) (refused_or-Ok (limit_refused t) (tt {0}) (tt {0
 
 pub mask-size : (k n : ℕ) (a : Datum) → k ≡ n → item_limit < k
     → refused_or (too_many n) a ≡ Err Size
-mask-size k n a e h = ap (λ o. refused_or o a) (ap too_many (sym e) ∙ many k h)
+mask-size k n a e h = ap (λ o. refused_or o a) (ap too_many (sym e) ∙ over_limit k h)
 
 pub mask-said : (x m : Layout) (p : Column) (u : DataType) (k : ℕ) (r : Result Layout Fault)
     → u ≡ array_type m → p ≡ places_lane (mask_places (array_items m))
@@ -64,7 +59,8 @@ mask-said x m p u k r t e c l h =
     let same : Ok (arr (picked_type u (array_type x)) (pick (array_items x) p.items)) ≡ refused_or
     (too_many (length os)) a =
     ap₂ (λ t vs. Ok (arr (picked_type t (array_type x)) vs)) t (pick-picked (array_items x) os p e)
-    ∙ sym (refused_or-None (too_many (length os)) a a (ap too_many (sym c) ∙ few k l) refl) in
+    ∙ sym (refused_or-None (too_many (length os)) a a (ap too_many (sym c) ∙ within_limit k l)
+    refl) in
     subst (λ said. Gives array_datum fault_told r said) same h
 
 -- ---- indexes
@@ -107,7 +103,7 @@ take-said x ix p u n q r t e lane inside c l h =
     (pick-picked (array_items x) (take_places n ws) p (take-lane n ix p lane) ∙ ap
     (λ m. picked (array_items x) (take_places m ws)) e)
     ∙ sym (take-inside (length (array_items x)) n ws a e inside ∙ refused_or-None
-    (too_many (length ws)) a a (ap too_many (sym c) ∙ few q l) refl) in
+    (too_many (length ws)) a a (ap too_many (sym c) ∙ within_limit q l) refl) in
     subst (λ said. Gives array_datum fault_told r said) same h
 
 -- ---- lengths

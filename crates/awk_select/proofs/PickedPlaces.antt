@@ -215,7 +215,7 @@ count-whole m i n e h =
 
 -- ---- each place that a mask gives
 
-mask_place-below : (n k : ℕ) (v : Value) → k < n → AllByRecursion (IsBelow n) (mask_place k v)
+pub mask_place-below : (n k : ℕ) (v : Value) → k < n → AllByRecursion (IsBelow n) (mask_place k v)
 mask_place-below n k (truth true) h = (h, tt)
 mask_place-below n k (truth false) h = tt
 mask_place-below n k null h = (tt, tt)
@@ -231,7 +231,7 @@ mask_places-below n ms e =
     (λ i l. mask_place-below n i (get_or ms i null) (omega arith))
 
 -- a truth value gives no null
-mask_place-there : (n k : ℕ) (v : Value) → Has (leaf Truths) v → k < n
+pub mask_place-there : (n k : ℕ) (v : Value) → Has (leaf Truths) v → k < n
     → AllByRecursion (IsThere n) (mask_place k v)
 mask_place-there n k (truth true) t h = (h, tt)
 mask_place-there n k (truth false) t h = tt

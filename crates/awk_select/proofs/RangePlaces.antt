@@ -51,12 +51,12 @@ below-map : (n : ℕ) (f : ℕ → ℕ) (a m : ℕ) → ((j : ℕ) → j < a + m
 below-map n f a zero h = tt
 below-map n f a (suc m) h = (h a (omega arith), below-map n f (a + 1) m (λ j l. h j (omega arith)))
 
-bound_up-below : (n other : ℕ) (b : Option ℤ) → other ≤ n → bound_up n other b ≤ n
+pub bound_up-below : (n other : ℕ) (b : Option ℤ) → other ≤ n → bound_up n other b ≤ n
 bound_up-below n other None h = h
 bound_up-below n other (Some (pos k)) h = omega arith
 bound_up-below n other (Some (negsuc k)) h = omega arith
 
-bound_down-below : (n other : ℕ) (b : Option ℤ) → other ≤ n → bound_down n other b ≤ n
+pub bound_down-below : (n other : ℕ) (b : Option ℤ) → other ≤ n → bound_down n other b ≤ n
 bound_down-below n other None h = h
 bound_down-below n other (Some (pos k)) h = omega arith
 bound_down-below n other (Some (negsuc k)) h = omega arith

@@ -27,7 +27,7 @@ use Rattle.awk_types.specs.Predicates.{is_list}
 use Rattle.awk_text.specs.FaultText.{fault_text}
 
 -- three texts, one after another
-between : (head text tail : List ℕ) → Unbroken head → Unbroken text → Unbroken tail
+pub between : (head text tail : List ℕ) → Unbroken head → Unbroken text → Unbroken tail
     → Unbroken (head ++ text ++ tail)
 between head text tail h t l = Unbroken-append (head ++ text) tail (Unbroken-append head text h t) l
 

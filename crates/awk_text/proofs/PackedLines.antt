@@ -27,21 +27,19 @@ use Rattle.awk_text.specs.PackedText.{buffers, buffers_text, packed_text}
 
 -- ---- forms
 
--- a text behind a head that is written out
-behind : (head text : List ℕ) → Unbroken head → Unbroken text → Unbroken (head ++ text)
-behind head text h t = Unbroken-append head text h t
-
 member-unbroken : (name value : List ℕ) → Unbroken name → Unbroken value
     → Unbroken (member name value)
 member-unbroken name value n v =
-    behind (codes ",\"") (name ++ (codes "\":" ++ value)) (literal-unbroken (codes ",\"") refl)
-    (behind name (codes "\":" ++ value) n
-    (behind (codes "\":") value (literal-unbroken (codes "\":") refl) v))
+    Unbroken-append (codes ",\"") (name ++ (codes "\":" ++ value))
+    (literal-unbroken (codes ",\"") refl)
+    (Unbroken-append name (codes "\":" ++ value) n
+    (Unbroken-append (codes "\":") value (literal-unbroken (codes "\":") refl) v))
 
 word-unbroken : (text : List ℕ) → Unbroken text → Unbroken (word text)
 word-unbroken text t =
     let quote = literal-unbroken (codes "\"") refl in
-    behind (codes "\"") (text ++ codes "\"") quote (behind text (codes "\"") t quote)
+    Unbroken-append (codes "\"") (text ++ codes "\"") quote
+    (Unbroken-append text (codes "\"") t quote)
 
 kind_text-unbroken : (k : IndexKind) → Unbroken (kind_text k)
 kind_text-unbroken index.I32 = literal-unbroken (codes "i32") refl
@@ -59,7 +57,7 @@ primitive_text-unbroken primitive.U16 = literal-unbroken (codes "uint16") refl
 primitive_text-unbroken primitive.U32 = literal-unbroken (codes "uint32") refl
 primitive_text-unbroken primitive.U64 = literal-unbroken (codes "uint64") refl
 
-quoted_all-unbroken : (ns : List Name) → AllByRecursion Unbroken (map quoted ns)
+pub quoted_all-unbroken : (ns : List Name) → AllByRecursion Unbroken (map quoted ns)
 quoted_all-unbroken [] = tt
 quoted_all-unbroken (n ∷ ns) = (quoted-unbroken n, quoted_all-unbroken ns)
 
@@ -103,7 +101,7 @@ truth_member name b n = member-unbroken name (truth_text b) n (truth_text-unbrok
 members_text-unbroken : (f : FormTree) → Unbroken (members_text f)
 members_text-unbroken (empty key) = tt
 members_text-unbroken (numpy key prim inner) =
-    behind (member (codes "primitive") (word (primitive_text prim)))
+    Unbroken-append (member (codes "primitive") (word (primitive_text prim)))
     (member (codes "inner_shape") (list_text (map decimal inner)))
     (member-unbroken (codes "primitive") (word (primitive_text prim))
     (literal-unbroken (codes "primitive") refl)
@@ -114,7 +112,7 @@ members_text-unbroken (numpy key prim inner) =
 members_text-unbroken (regular key size f) = member-unbroken (codes "size") (decimal size)
     (literal-unbroken (codes "size") refl) (decimal-unbroken size)
 members_text-unbroken (list key starts stops f) =
-    behind (member (codes "starts") (word (kind_text starts)))
+    Unbroken-append (member (codes "starts") (word (kind_text starts)))
     (member (codes "stops") (word (kind_text stops)))
     (kind_member (codes "starts") starts (literal-unbroken (codes "starts") refl))
     (kind_member (codes "stops") stops (literal-unbroken (codes "stops") refl))
@@ -127,48 +125,49 @@ members_text-unbroken (indexed key kind f) =
 members_text-unbroken (indexed_option key kind f) =
     kind_member (codes "index") kind (literal-unbroken (codes "index") refl)
 members_text-unbroken (byte_masked key valid_when f) =
-    behind (member (codes "mask") (word (codes "i8")))
+    Unbroken-append (member (codes "mask") (word (codes "i8")))
     (member (codes "valid_when") (truth_text valid_when))
     (literal-unbroken (member (codes "mask") (word (codes "i8"))) refl)
     (truth_member (codes "valid_when") valid_when (literal-unbroken (codes "valid_when") refl))
 members_text-unbroken (bit_masked key valid_when lsb_order f) =
-    behind (member (codes "mask") (word (codes "u8")))
+    Unbroken-append (member (codes "mask") (word (codes "u8")))
     (member (codes "valid_when") (truth_text valid_when) ++ member (codes "lsb_order")
     (truth_text lsb_order))
     (literal-unbroken (member (codes "mask") (word (codes "u8"))) refl)
-    (behind (member (codes "valid_when") (truth_text valid_when))
+    (Unbroken-append (member (codes "valid_when") (truth_text valid_when))
     (member (codes "lsb_order") (truth_text lsb_order))
     (truth_member (codes "valid_when") valid_when (literal-unbroken (codes "valid_when") refl))
     (truth_member (codes "lsb_order") lsb_order (literal-unbroken (codes "lsb_order") refl)))
 members_text-unbroken (unmasked key f) = tt
 members_text-unbroken (union key kind fs) =
-    behind (member (codes "tags") (word (codes "i8")))
+    Unbroken-append (member (codes "tags") (word (codes "i8")))
     (member (codes "index") (word (kind_text kind)))
     (literal-unbroken (member (codes "tags") (word (codes "i8"))) refl)
     (kind_member (codes "index") kind (literal-unbroken (codes "index") refl))
 
 class_member-unbroken : (class : List ℕ) → Unbroken class → Unbroken (class_member class)
 class_member-unbroken class c =
-    behind (codes "{\"class\":\"") (class ++ codes "\"")
+    Unbroken-append (codes "{\"class\":\"") (class ++ codes "\"")
     (literal-unbroken (codes "{\"class\":\"") refl)
-    (behind class (codes "\"") c (literal-unbroken (codes "\"") refl))
+    (Unbroken-append class (codes "\"") c (literal-unbroken (codes "\"") refl))
 
 end_text-unbroken : (key : Option Name) → Unbroken (end_text key)
 end_text-unbroken key =
-    behind (member (codes "parameters") (codes "{}"))
+    Unbroken-append (member (codes "parameters") (codes "{}"))
     (member (codes "form_key") (key_text key) ++ codes "}")
     (literal-unbroken (member (codes "parameters") (codes "{}")) refl)
-    (behind (member (codes "form_key") (key_text key)) (codes "}")
+    (Unbroken-append (member (codes "form_key") (key_text key)) (codes "}")
     (member-unbroken (codes "form_key") (key_text key) (literal-unbroken (codes "form_key") refl)
     (key_text-unbroken key)) (literal-unbroken (codes "}") refl))
 
 node_text-unbroken : (f : FormTree) (contents : List ℕ) → Unbroken contents
     → Unbroken (node_text f contents)
 node_text-unbroken f contents c =
-    behind (class_member (class_text f)) (members_text f ++ (contents ++ end_text (key_of f)))
+    Unbroken-append (class_member (class_text f))
+    (members_text f ++ (contents ++ end_text (key_of f)))
     (class_member-unbroken (class_text f) (class_text-unbroken f))
-    (behind (members_text f) (contents ++ end_text (key_of f)) (members_text-unbroken f)
-    (behind contents (end_text (key_of f)) c (end_text-unbroken (key_of f))))
+    (Unbroken-append (members_text f) (contents ++ end_text (key_of f)) (members_text-unbroken f)
+    (Unbroken-append contents (end_text (key_of f)) c (end_text-unbroken (key_of f))))
 
 -- the member of one content, or of several
 content-unbroken : (text : List ℕ) → Unbroken text → Unbroken (member (codes "content") text)
@@ -222,11 +221,11 @@ form_text-unbroken f = node_text-unbroken f (contents_text f) (contents_text-unb
 
 buffer_text-unbroken : (b : Name × List ℕ) → Unbroken (buffer_text b)
 buffer_text-unbroken b =
-    behind (quoted b.0) (codes ":\"" ++ (encode_of standard b.1 ++ codes "\""))
+    Unbroken-append (quoted b.0) (codes ":\"" ++ (encode_of standard b.1 ++ codes "\""))
     (quoted-unbroken b.0)
-    (behind (codes ":\"") (encode_of standard b.1 ++ codes "\"")
+    (Unbroken-append (codes ":\"") (encode_of standard b.1 ++ codes "\"")
     (literal-unbroken (codes ":\"") refl)
-    (behind (encode_of standard b.1) (codes "\"") (encode_of-unbroken b.1)
+    (Unbroken-append (encode_of standard b.1) (codes "\"") (encode_of-unbroken b.1)
     (literal-unbroken (codes "\"") refl)))
 
 buffer_texts-unbroken : (bs : List (Name × List ℕ)) → AllByRecursion Unbroken (map buffer_text bs)
@@ -238,17 +237,19 @@ packed_text-unbroken p =
     let texts = map buffer_text (buffers p) in
     let close = literal-unbroken (codes "}") refl in
     let all : Unbroken (buffers_text p) =
-    behind (codes "{") (comma_joined texts ++ codes "}") (literal-unbroken (codes "{") refl)
-    (behind (comma_joined texts) (codes "}")
+    Unbroken-append (codes "{") (comma_joined texts ++ codes "}")
+    (literal-unbroken (codes "{") refl)
+    (Unbroken-append (comma_joined texts) (codes "}")
     (comma_joined-unbroken texts (buffer_texts-unbroken (buffers p))) close) in
     let buffered = buffers_text p ++ codes "}" in
     let counted = codes ",\"buffers\":" ++ buffered in
     let sized = decimal p.length ++ counted in
     let formed = codes ",\"length\":" ++ sized in
-    behind (codes "{\"form\":") (form_text p.form ++ formed)
+    Unbroken-append (codes "{\"form\":") (form_text p.form ++ formed)
     (literal-unbroken (codes "{\"form\":") refl)
-    (behind (form_text p.form) formed (form_text-unbroken p.form)
-    (behind (codes ",\"length\":") sized (literal-unbroken (codes ",\"length\":") refl)
-    (behind (decimal p.length) counted (decimal-unbroken p.length)
-    (behind (codes ",\"buffers\":") buffered (literal-unbroken (codes ",\"buffers\":") refl)
-    (behind (buffers_text p) (codes "}") all close)))))
+    (Unbroken-append (form_text p.form) formed (form_text-unbroken p.form)
+    (Unbroken-append (codes ",\"length\":") sized (literal-unbroken (codes ",\"length\":") refl)
+    (Unbroken-append (decimal p.length) counted (decimal-unbroken p.length)
+    (Unbroken-append (codes ",\"buffers\":") buffered
+    (literal-unbroken (codes ",\"buffers\":") refl)
+    (Unbroken-append (buffers_text p) (codes "}") all close)))))

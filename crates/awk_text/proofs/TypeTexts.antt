@@ -9,17 +9,15 @@ use Rattle.awk_types.specs.declared.typ.Typ.{Typ, Var, Reg, Opt, the_lemmas}
 use Rattle.awk_types.specs.declared.typ.Typ.TheFolds.{fold_out-Field}
 use Rattle.awk_types.specs.declared.typ.Typ.TheViews.{out-Field}
 use Rattle.awk_types.specs.declared.typ.Field.{Field}
-use Rattle.std.proofs.lemmas.List.FromFn.{length-map-range_with_len}
-use Rattle.std.proofs.lemmas.List.{length-map}
-use Rattle.awk_types.specs.Simple.{simple_value}
 use Rattle.awk_layout.specs.declared.datum.Datum.{Datum}
 use Rattle.awk_layout.specs.declared.datum.Datum.TheVariants.{Arr}
 use Rattle.awk_layout.specs.Datum.{datum_of}
 use Rattle.awk_layout.specs.Layout.{Layout}
 use Rattle.awk_layout.specs.Valid.{len}
 use Rattle.awk_layout.specs.Item.{item, items}
-use Rattle.awk_layout.specs.Typing.{layout_type, array_type, array_items}
+use Rattle.awk_layout.specs.Typing.{array_type}
 use Rattle.awk_json.specs.Text.{joined}
+use Rattle.awk_layout.proofs.ArrayItems.{length-array_items}
 use Rattle.awk_text.specs.ValueText.{Text}
 use Rattle.awk_text.specs.TypeText.{type_text, type_texts, field_type_texts, name_text}
 use Rattle.awk_text.specs.TypeText.{named_type_text, size_text, option_opening, option_close}
@@ -127,11 +125,6 @@ said_field f =
     fields_step typs_step f)
 
 -- ---- data
-
-length-array_items : (x : Layout) → length (array_items x) ≡ len x
-length-array_items x =
-    length-map (items x) (simple_value (layout_type x)) ∙ length-map-range_with_len (item x) 0
-    (len x)
 
 -- an array's type behind its length
 pub said_array : (d : Datum) (x : Layout) (n : ℕ) → d ≡ Arr x → n ≡ len x

@@ -3,25 +3,18 @@ use Rattle.std.proofs.Common.{◌≡◌, refl, ap, ◌∙◌}
 use Rattle.std.specs.Prelude.{List, [], ◌∷◌, map}
 use Rattle.awk_types.specs.DataType.{DataType, unknown, leaf, var, reg, rec, tup, opt, uni}
 use Rattle.awk_types.specs.Simple.{in_list, in_option}
-use Rattle.awk_types.specs.Value.{Value, Values, int, truth, null, list, row, alt, no_values, value}
+use Rattle.awk_types.specs.Value.{Value, Values, int, truth, null, list, row, alt}
 use Rattle.awk_types.specs.Value.{value_list, values_from}
+use Rattle.awk_types.proofs.Trees.{values_from-list}
 use Rattle.awk_frames.specs.Framed.{over}
 
 map-same : (f : Value → Value) → ((v : Value) → f v ≡ v) → (vs : List Value) → map f vs ≡ vs
 map-same f e [] = refl
 map-same f e (v ∷ vs) = ap (λ w. w ∷ map f vs) (e v) ∙ ap (λ ws. v ∷ ws) (map-same f e vs)
 
-pub list-values : (vs : List Value) → value_list (values_from vs) ≡ vs
-list-values [] = refl
-list-values (v ∷ vs) = ap (λ ws. v ∷ ws) (list-values vs)
-
-pub values-list : (vs : Values) → values_from (value_list vs) ≡ vs
-values-list no_values = refl
-values-list (value v vs) = ap (value v) (values-list vs)
-
 list-same : (f : Value → Value) → ((v : Value) → f v ≡ v) → (v : Value) → in_list f v ≡ v
 list-same f e (list vs) =
-    ap (λ ws. list (values_from ws)) (map-same f e (value_list vs)) ∙ ap list (values-list vs)
+    ap (λ ws. list (values_from ws)) (map-same f e (value_list vs)) ∙ ap list (values_from-list vs)
 list-same f e (int z) = refl
 list-same f e (truth b) = refl
 list-same f e null = refl

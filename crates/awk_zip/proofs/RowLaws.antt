@@ -12,6 +12,7 @@ use Rattle.awk_types.specs.Has.{Has, HasRow}
 use Rattle.awk_types.specs.Simple.{option_if, present}
 use Rattle.awk_types.specs.Value.{Value, int, truth, null, list, row, alt, value_list}
 use Rattle.awk_types.specs.Value.{values_from}
+use Rattle.awk_types.proofs.Trees.{value_list-from, values_from-list}
 use Rattle.awk_layout.proofs.ArrayItems.{length-array_items, get_or-array_items}
 use Rattle.awk_layout.specs.Layout.{Layout, rows, layouts_from}
 use Rattle.awk_layout.specs.Single.{own_datum}
@@ -34,7 +35,6 @@ use Rattle.awk_pair_operands.specs.Pairs.{typs}
 use Rattle.awk_pair_operands.specs.Paired.{to_depth, end_type, paired_type, types_at_ends}
 use Rattle.awk_pair_sides.proofs.RangeLaws.{length-map}
 use Rattle.awk_pair_sides.specs.Levels.{opens, some_option, item_of, item_types, level_class}
-use Rattle.awk_zip.proofs.OverLaws.{values-list, list-values}
 
 -- ---- the parts of one row
 
@@ -67,7 +67,7 @@ item_of-part k i vs x e l h =
     ∙ get_or-map (part_at k) vs i h
 
 part-of-row : (k : ℕ) (ws : List Value) → part_at k (row (values_from ws)) ≡ get_or ws k null
-part-of-row k ws = ap (λ us. get_or us k null) (list-values ws)
+part-of-row k ws = ap (λ us. get_or us k null) (value_list-from ws)
 
 -- what columns of parts have at a place
 parts_of : (k i : ℕ) (vs ws : List Value) (xs : List Layout) → AreParts k vs xs
@@ -110,10 +110,10 @@ row-at names n i ts vs xs (row us) h l p e t =
     item-rows names n xs i
     ∙ ap (λ ws. row (values_from ws))
     (parts_of 0 i vs (value_list us) xs h (parts-long 0 vs xs h) p
-    (e ∙ ap row (sym (values-list us)))
+    (e ∙ ap row (sym (values_from-list us)))
     ∙ ap (λ m. parts_at 0 m (value_list us)) (l ∙ sym (row-length ts (value_list us) t))
     ∙ parts_at-all (value_list us))
-    ∙ ap row (values-list us)
+    ∙ ap row (values_from-list us)
 row-at names n i ts vs xs (int z) h l p e t = absurd t
 row-at names n i ts vs xs (truth b) h l p e t = absurd t
 row-at names n i ts vs xs null h l p e t = absurd t
