@@ -20,7 +20,7 @@ use Rattle.awk_axis.proofs.LiftLaws.{value-list_here}
 use Rattle.awk_columns.specs.ListClass.{Class, list_type}
 use Rattle.awk_laws.proofs.Lifted.{both_in_list, both_in_row}
 
-pub not_here : (m : ℕ) → (suc m == 0) ≡ false
+not_here : (m : ℕ) → (suc m == 0) ≡ false
 not_here m = grind arith
 
 nested-given : (g : Giving) (m : ℕ) (c : Class) (t u : DataType)

@@ -20,8 +20,9 @@ pub mod NullLaws
 pub mod AxisTypes
 pub mod AxisLists
 pub mod AxisNulls
-pub mod SingleRows
-pub mod FirstRows
+pub mod InPlace
+pub mod ListsInPlace
+pub mod FirstNulls
 pub mod NullsLaw
 pub mod PutNames
 pub mod Fields

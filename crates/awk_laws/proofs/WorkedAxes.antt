@@ -1,16 +1,19 @@
 -- Worked examples of the laws at an axis and row by row, each checked by computing.
 use Rattle.std.specs.Prelude.{◌≡◌, ℕ, refl, pos, true, false, List, [], ◌∷◌, map, length}
-use Rattle.std.specs.Prelude.{Ok, Err}
-use Rattle.awk_types.specs.DataType.{DataType, leaf, var, tup, opt, types_from}
+use Rattle.std.specs.Prelude.{Ok, Err, codes}
+use Rattle.awk_types.specs.DataType.{DataType, leaf, var, rec, tup, opt, uni, types_from}
 use Rattle.awk_types.specs.Datum.{Datum, arr}
-use Rattle.awk_types.specs.Value.{Value, int, truth, null, list, row, values_from}
+use Rattle.awk_types.specs.Value.{Value, int, truth, null, list, row, alt, values_from}
 use Rattle.awk_types.specs.declared.fault.Fault.TheVariants as fault
 use Rattle.awk_types.specs.declared.primitive.Primitive.TheVariants.{Bool as Truths, I64}
 use Rattle.awk_combi.specs.Combinations.{combinations_of}
 use Rattle.awk_fill.specs.FillNone.{literal, fill_none_of}
 use Rattle.awk_jagged.specs.Jagged.{jagged_of}
 use Rattle.awk_lists.specs.LocalIndex.{local_index_of}
+use Rattle.awk_lists.specs.Num.{num_of}
+use Rattle.awk_nulls.specs.Firsts.{firsts_of}
 use Rattle.awk_laws.specs.Axes.{lists_of}
+use Rattle.awk_laws.specs.InPlace.{in_place}
 use Rattle.awk_laws.specs.Choices.{binomial}
 
 abbrev int64 : DataType
@@ -63,6 +66,82 @@ filled_rows : fill_none_of
     (literal (pos 0)) (pos 1)
     ≡ Ok (lists ((1 ∷ 0 ∷ []) ∷ (0 ∷ []) ∷ []))
 filled_rows = refl
+
+-- ---- first items in records and unions
+
+-- of [{"x":[1,2],"y":[]},null] the first items are [{"x":1,"y":null},null]
+abbrev two_fields : DataType → DataType → DataType
+two_fields t u = rec (codes "x" ∷ codes "y" ∷ []) (types_from (t ∷ u ∷ []))
+
+abbrev records : Datum
+records =
+    arr (opt (two_fields (var int64) (var int64)))
+    (row (values_from (numbers (1 ∷ 2 ∷ []) ∷ numbers [] ∷ [])) ∷ null ∷ [])
+
+abbrev records_by : DataType → Value → Value → Datum
+records_by t v w = arr (opt (two_fields t t)) (row (values_from (v ∷ w ∷ [])) ∷ null ∷ [])
+
+firsts_of_fields : firsts_of (pos 1) records ≡ Ok (records_by (opt int64) (n 1) null)
+firsts_of_fields = refl
+
+counts_of_fields : num_of (pos 1) records ≡ Ok (records_by int64 (n 2) (n 0))
+counts_of_fields = refl
+
+fields_in_place : in_place (pos 1) records (records_by (opt int64) (n 1) null) ≡ n 1 ∷ null ∷ []
+fields_in_place = refl
+
+counts_in_place : in_place (pos 1) records (records_by int64 (n 2) (n 0)) ≡ n 2 ∷ n 0 ∷ []
+counts_in_place = refl
+
+-- in a union the null of an empty list is one of the whole, and a first item of a union one of its
+-- alternatives: lists of a union of two and lists of lists, of which [] and [true] are among the
+-- first, and [[7]] and [] among the second
+abbrev either : DataType
+either = uni (types_from (int64 ∷ leaf Truths ∷ []))
+
+abbrev unions : Datum
+unions =
+    arr (uni (types_from (var either ∷ var (var int64) ∷ [])))
+    (alt 0 (items []) ∷ alt 0 (items (alt 1 (truth true) ∷ [])) ∷ alt 1 (items (numbers (7 ∷ [])
+    ∷ [])) ∷ alt 1 (items []) ∷ [])
+
+abbrev unions_firsts : Datum
+unions_firsts =
+    arr (opt (uni (types_from (int64 ∷ leaf Truths ∷ var int64 ∷ []))))
+    (null ∷ alt 1 (truth true) ∷ alt 2 (numbers (7 ∷ [])) ∷ null ∷ [])
+
+firsts_of_unions : firsts_of (pos 1) unions ≡ Ok unions_firsts
+firsts_of_unions = refl
+
+unions_in_place : in_place (pos 1) unions unions_firsts
+    ≡ null ∷ truth true ∷ numbers (7 ∷ []) ∷ null ∷ []
+unions_in_place = refl
+
+lists_of_unions : in_place (pos 1) unions unions
+    ≡ items [] ∷ items (alt 1 (truth true) ∷ []) ∷ items (numbers (7 ∷ []) ∷ []) ∷ items [] ∷ []
+lists_of_unions = refl
+
+-- where a list is null, so is what is given for it
+nulls_in_place : in_place (pos 1) (arr (opt (var int64)) (null ∷ numbers (5 ∷ []) ∷ []))
+    (arr (opt int64) (null ∷ n 5 ∷ []))
+    ≡ null ∷ n 5 ∷ []
+nulls_in_place = refl
+
+-- where items are optional the first of a list that has items may be null
+null_first : firsts_of (pos 1) (arr (var (opt int64)) (items (null ∷ n 1 ∷ []) ∷ []))
+    ≡ Ok (arr (opt int64) (null ∷ []))
+null_first = refl
+
+counted_first : num_of (pos 1) (arr (var (opt int64)) (items (null ∷ n 1 ∷ []) ∷ []))
+    ≡ Ok (arr int64 (n 2 ∷ []))
+counted_first = refl
+
+-- an array is the one list at axis 0
+first_of_whole : firsts_of (pos 0) (lists ([] ∷ (4 ∷ []) ∷ [])) ≡ Ok (arr int64 [])
+first_of_whole = refl
+
+whole_in_place : in_place (pos 0) (lists ([] ∷ (4 ∷ []) ∷ [])) (arr int64 []) ≡ items [] ∷ []
+whole_in_place = refl
 
 -- ---- picks row by row
 

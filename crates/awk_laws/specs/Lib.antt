@@ -4,5 +4,6 @@ pub mod Picking
 pub mod Nulls
 pub mod Viewing
 pub mod Axes
+pub mod InPlace
 pub mod Choices
 pub mod Tuples

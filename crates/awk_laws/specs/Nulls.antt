@@ -1,15 +1,14 @@
 -- Laws of operations on nulls.
 use Rattle.std.specs.Prelude.{◌≡◌, ℕ, zero, suc, ◌≤◌, Bool, true, false, List, [], ◌∷◌, map, pos}
-use Rattle.std.specs.Prelude.{ℤ, ◌-◌, ◌==◌, Ok, if◌then◌else◌}
+use Rattle.std.specs.Prelude.{ℤ, Ok}
 use Rattle.std.specs.List.{AllByRecursion}
-use Rattle.awk_types.specs.DataType.{DataType, var, reg, opt}
+use Rattle.awk_types.specs.DataType.{DataType}
 use Rattle.awk_types.specs.Datum.{Datum, arr, one}
 use Rattle.awk_types.specs.Has.{Has}
 use Rattle.awk_types.specs.IsType.{IsType}
 use Rattle.awk_types.specs.Simple.{IsSimple, is_option}
 use Rattle.awk_types.specs.Value.{Value, int, null}
-use Rattle.awk_axis.specs.declared.place.Reach.TheVariants.{Axis}
-use Rattle.awk_columns.specs.Columns.{joined_items, list_items}
+use Rattle.awk_columns.specs.Columns.{list_items, lists_among}
 use Rattle.awk_fill.specs.FillNone.{Filler, literal, datum, fill_none_of}
 use Rattle.awk_lists.specs.Flatten.{flatten_of}
 use Rattle.awk_lists.specs.Num.{num_of}
@@ -19,19 +18,15 @@ use Rattle.awk_nulls.specs.IsNone.{is_null}
 use Rattle.awk_nulls.specs.PadNone.{pad_none_of}
 use Rattle.awk_nulls.specs.Singletons.{singletons_of}
 use Rattle.awk_pair_operands.specs.Typed.{IsTyped}
-use Rattle.awk_law_chains.specs.Arrays.{AreItems, is_lists_to}
+use Rattle.awk_law_chains.specs.Arrays.{AreItems}
 use Rattle.awk_laws.specs.Axes.{TypedList, lists_of}
+use Rattle.awk_laws.specs.InPlace.{in_place}
 use Rattle.awk_law_chains.specs.Innermost.{datum_type}
 
 -- whether a list has no first item, or one that is null
 abbrev pub lacks_first : List Value → Bool
 lacks_first [] = true
 lacks_first (v ∷ vs) = is_null v
-
--- the items that stand so many levels of lists down, in order
-abbrev pub items_down : ℕ → List Value → List Value
-items_down zero vs = vs
-items_down (suc a) vs = items_down a (joined_items vs)
 
 abbrev pub is_zero : Value → Bool
 is_zero (int (pos zero)) = true
@@ -44,13 +39,6 @@ HasNoNull l = AllByRecursion (λ w. is_null w ≡ false) l.1
 abbrev pub is_zero_or_null : Value → Bool
 is_zero_or_null null = true
 is_zero_or_null v = is_zero v
-
--- the type of the items of the lists at an axis of an array of lists
-abbrev pub items_type : ℕ → DataType → DataType
-items_type a (var t) = if a == 0 then t else items_type (a - 1) t
-items_type a (reg n t) = if a == 0 then t else items_type (a - 1) t
-items_type a (opt t) = items_type a t
-items_type a t = t
 
 -- what fills is of its type
 abbrev pub IsTypedFiller : Filler → Type 0
@@ -82,17 +70,20 @@ pub record NullLaws : Type 0 where
   pub fill_none_at : (filler : Filler) (axis : ℤ) (d made : Datum) → IsType (datum_type d)
       → IsSimple (datum_type d) → IsTyped d → IsTypedFiller filler
       → fill_none_of d filler axis ≡ Ok made → AllByRecursion HasNoNull (lists_of axis made)
+  -- in the places of the lists at an axis of a datum itself stand these lists, besides nulls
+  pub lists_in_place : (axis : ℤ) (d : Datum)
+      → lists_among (in_place axis d d) ≡ map (λ l. l.1) (lists_of axis d)
   -- firsts of lists is null exactly where a list has no item or its first one is null, or the list
-  -- itself is null, at each axis down to which the array is lists
-  pub null_firsts : (a : ℕ) (t u : DataType) (vs ws : List Value) → AreItems t vs
-      → is_lists_to (Axis a) t ≡ true → firsts_of (pos (suc a)) (arr t vs) ≡ Ok (arr u ws)
-      → map is_null (items_down a ws) ≡ map (λ l. lacks_first (list_items l)) (items_down a vs)
+  -- itself is null, at each axis of any nesting
+  pub null_firsts : (axis : ℤ) (d made : Datum) → IsSimple (datum_type d) → IsTyped d
+      → firsts_of axis d ≡ Ok made
+      → map is_null (in_place axis d made)
+      ≡ map (λ l. lacks_first (list_items l)) (in_place axis d d)
   -- that is exactly where num is 0, or the list is null, where items are not optional
-  pub null_where_num_is_zero : (a : ℕ) (t u w : DataType) (vs ws ns : List Value)
-      → AreItems t vs → is_lists_to (Axis a) t ≡ true → is_option (items_type a t) ≡ false
-      → firsts_of (pos (suc a)) (arr t vs) ≡ Ok (arr u ws)
-      → num_of (pos (suc a)) (arr t vs) ≡ Ok (arr w ns)
-      → map is_null (items_down a ws) ≡ map is_zero_or_null (items_down a ns)
+  pub null_where_num_is_zero : (axis : ℤ) (d made counts : Datum) → IsSimple (datum_type d)
+      → IsTyped d → AllByRecursion (λ l. is_option l.0 ≡ false) (lists_of axis d)
+      → firsts_of axis d ≡ Ok made → num_of axis d ≡ Ok counts
+      → map is_null (in_place axis d made) ≡ map is_zero_or_null (in_place axis d counts)
   -- flatten of singletons is drop_none
   pub flatten_of_singletons : (t : DataType) (vs : List Value) (lists : Datum) → AreItems t vs
       → singletons_of (pos 0) (arr t vs) ≡ Ok lists
