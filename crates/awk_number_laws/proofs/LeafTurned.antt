@@ -60,25 +60,25 @@ use Rattle.awk_number_laws.proofs.TurnedLevels.{wrong_turned}
 
 -- ---- paired values have the lists that their types share
 
-list_or_null : (o w : Bool) (ws : List Value)
+pub list_or_null : (o w : Bool) (ws : List Value)
     → is_lists o (if o && not w then null else list (values_from ws)) ≡ true
 list_or_null true true ws = refl
 list_or_null true false ws = refl
 list_or_null false w ws = refl
 
-abbrev Anything : Value → Type 0
+abbrev pub Anything : Value → Type 0
 Anything v = Unit {0}
 
 any_end : (o : Bool) (v : Value) → IsAt (close o) Anything v
 any_end true v = λ e. tt
 any_end false v = tt
 
-items_at : (k : Chain) (m : Bool) (ws : List Value) → AllByRecursion (IsAt k Anything) ws
+pub items_at : (k : Chain) (m : Bool) (ws : List Value) → AllByRecursion (IsAt k Anything) ws
     → AllByRecursion (IsAt k Anything) (list_items (if m then null else list (values_from ws)))
 items_at k true ws h = tt
 items_at k false ws h = subst (AllByRecursion (IsAt k Anything)) (sym (value_list-from ws)) h
 
-every : (k : Chain) (g : List Value → Value) (rows : List (List Value))
+pub every : (k : Chain) (g : List Value → Value) (rows : List (List Value))
     → ((vs : List Value) → IsAt k Anything (g vs)) → AllByRecursion (IsAt k Anything) (map g rows)
 every k g [] e = tt
 every k g (vs ∷ rows) e = (e vs, every k g rows e)

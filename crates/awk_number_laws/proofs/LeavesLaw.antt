@@ -6,6 +6,7 @@ use Rattle.awk_number_laws.proofs.LeafLaws.{division_is, negative_is, turned_at,
 use Rattle.awk_number_laws.proofs.LeafLaws.{sum_turned, product_turned}
 use Rattle.awk_number_laws.proofs.LeafArrays.{negation_of}
 use Rattle.awk_number_laws.proofs.ChosenArrays.{choice_of}
+use Rattle.awk_number_laws.proofs.ChosenBeside.{choice_beside}
 use Rattle.awk_number_laws.proofs.LeafDivisions.{division_of}
 use Rattle.awk_number_laws.proofs.LeafSigns.{negative_of}
 use Rattle.awk_number_laws.proofs.LeafTurned.{operands_turned}
@@ -15,6 +16,7 @@ leaves_law = record {
   choice = choice_is;
   choices = choices_are;
   choice_of = choice_of;
+  choice_beside = choice_beside;
   negation = negation_is;
   negations = negations_are;
   negation_of = λ how a b typed. negation_of a b typed how;

@@ -7,12 +7,16 @@ pub mod LeafTurned
 pub mod LeafDivisions
 pub mod LeafChoices
 pub mod ChosenArrays
+pub mod DoubledLevels
+pub mod ChosenBeside
 pub mod LeavesLaw
 pub mod InnermostLists
 pub mod ReducedLists
 pub mod ReducedLeaves
+pub mod Overflows
 pub mod NumberLaws
 pub mod SumLaws
+pub mod SumsJoined
 pub mod ExtremeLaws
 pub mod ReducerLaws
 pub mod ListOrders

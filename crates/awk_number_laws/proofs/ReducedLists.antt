@@ -157,6 +157,17 @@ present_have t (list us ∷ vs) k = (k.0, present_have t vs k.1)
 present_have t (row us ∷ vs) k = (k.0, present_have t vs k.1)
 present_have t (alt j u ∷ vs) k = (k.0, present_have t vs k.1)
 
+-- the type of leaves is the innermost one
+pub type_here : (t : DataType) → is_leaf (present t) ≡ true → innermost_type t ≡ t
+type_here unknown l = refl
+type_here (leaf p) l = refl
+type_here (opt t) l = ap (λ b. if b then opt t else innermost_type t) l
+type_here (var t) l = cc
+type_here (reg n t) l = cc
+type_here (rec ns ts) l = refl
+type_here (tup ts) l = refl
+type_here (uni ts) l = refl
+
 module _ (typ : DataType → DataType) (value_of : DataType → List Value → Value)
     (refusal : DataType → Option Refusal) (spoil : DataType → List (List Value) → Option Spoil)
     (plain_result : (t : DataType) (us : List Value)
@@ -340,16 +351,6 @@ module _ (typ : DataType → DataType) (value_of : DataType → List Value → V
       (ends_simple t (map (λ v. simple_value (type_in t) (value_in t v)) vs) r
       ∙ ap (ends (type_in t)) (each_plain t vs r k))
       ∙ gives t vs r k
-
-  type_here : (t : DataType) → is_leaf (present t) ≡ true → innermost_type t ≡ t
-  type_here unknown l = refl
-  type_here (leaf p) l = refl
-  type_here (opt t) l = ap (λ b. if b then opt t else innermost_type t) l
-  type_here (var t) l = cc
-  type_here (reg n t) l = cc
-  type_here (rec ns ts) l = refl
-  type_here (tup ts) l = refl
-  type_here (uni ts) l = refl
 
   by_array : (t : DataType) (vs : List Value) (made : Datum) (b : Bool) → is_leaf (present t) ≡ b
       → AllByRecursion (Has t) vs

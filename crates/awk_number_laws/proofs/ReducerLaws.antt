@@ -51,6 +51,8 @@ use Rattle.awk_number_laws.proofs.ExtremeLaws.{extreme_told, extreme_item}
 use Rattle.awk_number_laws.proofs.ExtremeLaws.{number_there}
 use Rattle.awk_number_laws.proofs.NumberLaws.{numbers-append}
 use Rattle.awk_number_laws.proofs.ReducedLeaves.{reduced_are}
+use Rattle.awk_number_laws.proofs.Overflows.{no_overflow, overflow}
+use Rattle.awk_number_laws.proofs.SumsJoined.{sums_joined}
 use Rattle.awk_number_laws.proofs.SumLaws.{numbers-ints, total-append, total-joined, totals_are}
 use Rattle.awk_number_laws.proofs.ExtremeLaws.{number_is, no_numbers, placed, first_place}
 use Rattle.awk_number_laws.proofs.ExtremeLaws.{place_there}
@@ -321,5 +323,8 @@ reducers_law = record {
   some = some_is;
   none = none_is;
   nested = reduced_are;
+  no_overflow = no_overflow;
+  overflow = overflow;
+  sums_joined = sums_joined;
   totals = totals_are;
 }

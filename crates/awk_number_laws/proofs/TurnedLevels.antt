@@ -225,7 +225,7 @@ end_turned a b x y =
     ap (λ m. if m then null else row (value y (value x no_values))) (sym (misses_turned a b x y))
     ∙ close_turned (some_option (a ∷ b ∷ [])) (is_whole (x ∷ y ∷ [])) x y
 
-in_list_null : (b : Bool) (f : Value → Value) (vs ws : List Value) → (b ≡ false → ws ≡ map f vs)
+pub in_list_null : (b : Bool) (f : Value → Value) (vs ws : List Value) → (b ≡ false → ws ≡ map f vs)
     → (if b then null else list (values_from ws))
     ≡ in_list f (if b then null else list (values_from vs))
 in_list_null true f vs ws e = refl
@@ -240,12 +240,6 @@ rows_same P p q F G f [] e h = refl
 rows_same P p q F G f (k ∷ ks) e h =
     let n = or_parts (P (p k)) (list_any P (map p ks)) h in
     ap₂ (λ v vs. v ∷ vs) (e k n.0) (rows_same P p q F G f ks e n.1)
-
-by_open : (b : Bool) (o : Bool) (c : Class) (k : Chain) (f : Value → Value) (v w x y : Value)
-    → (b ≡ true → v ≡ in_list (at_ends k f) w) → x ≡ at_ends (close o) f y
-    → (if b then v else x) ≡ at_ends (if b then layer o c k else close o) f (if b then w else y)
-by_open true o c k f v w x y h e = h refl
-by_open false o c k f v w x y h e = e
 
 even_if : (b m : Bool) (x : Bool) → b ≡ true → m ≡ false
     → (if b then (if m then false else x) else false) ≡ false → x ≡ false

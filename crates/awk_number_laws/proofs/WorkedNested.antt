@@ -30,6 +30,8 @@ use Rattle.awk_arith.specs.Binary.{binary_of}
 use Rattle.awk_arith.specs.Unary.{unary_of}
 use Rattle.awk_choose.specs.Choice.{choose_of}
 use Rattle.awk_law_chains.specs.Innermost.{innermost_lists, leaves_in}
+use Rattle.awk_number_laws.specs.Leaves.{beside}
+use Rattle.awk_number_laws.specs.Reducers.{joined_lists}
 
 abbrev int64 : DataType
 int64 = leaf I64
@@ -97,6 +99,39 @@ any_length : choose_of
     (datum (arr (reg 2 int64) (items (ints (pos 5 ∷ pos 6 ∷ [])) ∷ [])))
     ≡ Ok (lists_of ((pos 5 ∷ pos 6 ∷ []) ∷ []))
 any_length = refl
+
+-- both are x as it is repeated by being paired with the condition
+deeper_beside : beside (arr (var (leaf Truths)) (items (truth true ∷ truth true ∷ []) ∷ []))
+    (arr int64 (ints (pos 5 ∷ [])))
+    ≡ Ok (lists_of ((pos 5 ∷ pos 5 ∷ []) ∷ []))
+deeper_beside = refl
+
+any_length_beside : beside
+    (arr (var (leaf Truths)) (items (truth true ∷ truth true ∷ []) ∷ []))
+    (arr (reg 2 int64) (items (ints (pos 5 ∷ pos 6 ∷ [])) ∷ []))
+    ≡ Ok (lists_of ((pos 5 ∷ pos 6 ∷ []) ∷ []))
+any_length_beside = refl
+
+-- where the condition is null, so is a leaf, or a whole list that stands beside it
+null_leaf : beside (arr (var (opt (leaf Truths))) (items (truth true ∷ null ∷ []) ∷ []))
+    (arr int64 (ints (pos 5 ∷ [])))
+    ≡ Ok (arr (var (opt int64)) (items (int (pos 5) ∷ null ∷ []) ∷ []))
+null_leaf = refl
+
+abbrev one_null : Datum
+one_null = arr (opt (leaf Truths)) (truth false ∷ null ∷ truth true ∷ [])
+
+null_list : beside one_null three
+    ≡ Ok (arr (opt (var int64))
+    (items (ints (pos 1 ∷ pos 2 ∷ [])) ∷ null ∷ items (ints (pos 3 ∷ [])) ∷ []))
+null_list = refl
+
+chosen_null_list : choose_of one_null (datum three) (datum three) ≡ beside one_null three
+chosen_null_list = refl
+
+-- and what is not paired is refused alike
+unequal_beside : beside conditions (lists_of ([] ∷ [] ∷ [] ∷ [])) ≡ Err Lengths
+unequal_beside = refl
 
 -- unknown leaves have no sign, and become int64
 unknown_minus : unary_of Negate (arr unknown []) ≡ Ok (arr int64 [])
@@ -190,6 +225,18 @@ deep_sums = refl
 sums_again : reduce_of Sum (lists_of ((pos 4 ∷ pos 0 ∷ []) ∷ (pos 2 ∷ []) ∷ []))
     ≡ Ok (arr int64 (ints (pos 4 ∷ pos 2 ∷ [])))
 sums_again = refl
+
+-- each list of sums adds up to what the lists joined do: [4,0] to what [1,3] does, and [2] alike
+joined_deep : joined_lists deep ≡ ints (pos 1 ∷ pos 3 ∷ []) ∷ ints (pos 2 ∷ []) ∷ []
+joined_deep = refl
+
+lists_added : map (λ l. total (numbers l)) (joined_lists deep) ≡ pos 4 ∷ pos 2 ∷ []
+lists_added = refl
+
+sums_lists_added : map (λ l. total (numbers l))
+    (innermost_lists (lists_of ((pos 4 ∷ pos 0 ∷ []) ∷ (pos 2 ∷ []) ∷ [])))
+    ≡ pos 4 ∷ pos 2 ∷ []
+sums_lists_added = refl
 
 all_added : total (numbers (leaves_in deep)) ≡ pos 6
 all_added = refl

@@ -1,13 +1,14 @@
 -- Worked examples of the laws of reducers, each checked by computing.
-use Rattle.std.specs.Prelude.{◌≡◌, refl, ℤ, pos, negsuc, List, [], ◌∷◌, map, Ok, Err}
+use Rattle.std.specs.Prelude.{◌≡◌, refl, ℤ, pos, negsuc, true, false, List, [], ◌∷◌, map, Ok, Err}
 use Rattle.awk_types.specs.DataType.{DataType, leaf, var, opt}
 use Rattle.awk_types.specs.Datum.{arr, one}
 use Rattle.awk_types.specs.Value.{Value, int, null, list, values_from}
 use Rattle.awk_types.specs.declared.fault.Fault.TheVariants.{Overflow}
 use Rattle.awk_types.specs.declared.primitive.Primitive.TheVariants.{I64}
-use Rattle.awk_reduce.specs.Reduce.{reduce_of}
+use Rattle.awk_reduce.specs.Reduce.{overflows, reduce_of}
 use Rattle.awk_reduce.specs.Reducers.{reduced}
 use Rattle.awk_reduce.specs.declared.reducer.Reducer.TheVariants.{Sum, Count, Min, Max, Argmax}
+use Rattle.awk_law_chains.specs.Innermost.{innermost_lists}
 
 abbrev int64 : DataType
 int64 = leaf I64
@@ -35,6 +36,12 @@ sum_of_joined = refl
 sum_past : reduce_of Sum (arr (var int64)
     (row (pos 9223372036854775807 ∷ pos 1 ∷ []) ∷ row (negsuc 0 ∷ []) ∷ [])) ≡ Err Overflow
 sum_past = refl
+
+-- of its two innermost lists the first one's does not fit
+past_first : map (overflows Sum int64) (innermost_lists (arr (var int64)
+    (row (pos 9223372036854775807 ∷ pos 1 ∷ []) ∷ row (negsuc 0 ∷ []) ∷ [])))
+    ≡ true ∷ false ∷ []
+past_first = refl
 
 sum_back : reduce_of Sum (arr int64 (ints (pos 9223372036854775807 ∷ pos 1 ∷ negsuc 0 ∷ [])))
     ≡ Ok (one int64 (int (pos 9223372036854775807)))

@@ -1,35 +1,43 @@
 -- Laws of operations on leaves: choices, comparisons, quotients, signs, and operands that change
 -- places.
 use Rattle.std.specs.Prelude.{◌≡◌, ℕ, ◌<◌, get_or, None, ℤ, pos, ◌+ℤ◌, ◌*ℤ◌, ◌<ℤ◌, ◌≤ℤ◌, ◌⊎◌, true}
-use Rattle.std.specs.Prelude.{false, List, length}
+use Rattle.std.specs.Prelude.{false, not, List, [], ◌∷◌, length, map, if◌then◌else◌}
 use Rattle.std.specs.Prelude.{Result, Ok, Err}
 use Rattle.std.specs.List.{AllByRecursion}
 use Rattle.awk_types.specs.DataType.{DataType, leaf, var, reg, opt}
 use Rattle.awk_types.specs.Datum.{Datum, arr, one}
+use Rattle.awk_types.specs.Gives.{refused_or, ◌or◌}
 use Rattle.awk_types.specs.Has.{Has}
 use Rattle.awk_types.specs.Predicates.{is_null}
 use Rattle.awk_primitives.specs.Promotion.{is_whole}
 use Rattle.awk_types.specs.Simple.{IsSimple}
 use Rattle.awk_types.specs.Value.{Value, int, null}
 use Rattle.awk_types.specs.declared.fault.Fault.{Fault}
+use Rattle.awk_types.specs.declared.fault.Fault.TheVariants.{WrongType}
 use Rattle.awk_types.specs.declared.primitive.Primitive.{Primitive}
 use Rattle.awk_types.specs.declared.primitive.Primitive.TheVariants.{Bool as Truths}
 use Rattle.awk_kernels.specs.declared.operation.Arith.TheVariants.{Add, Mul, FloorDiv, Rem}
 use Rattle.awk_kernels.specs.declared.operation.Compare.{Compare}
 use Rattle.awk_kernels.specs.declared.operation.Compare.TheVariants.{Eq, Ne, Lt, Le, Gt, Ge}
+use Rattle.awk_columns.specs.Columns.{part_at}
+use Rattle.awk_frames.specs.Framed.{over}
 use Rattle.awk_layout.specs.Filler.{Filler, datum}
+use Rattle.awk_leaves.specs.Table.{choice_judged}
 use Rattle.awk_leaves.specs.Values.{binary_at, unary_at, chosen_at, number_of}
 use Rattle.awk_leaves.specs.Values.{binary_values, unary_values, choice_values}
 use Rattle.awk_leaves.specs.declared.leaf_type.LeafType.{LeafType}
 use Rattle.awk_leaves.specs.declared.leaf_type.LeafType.TheVariants.{Of}
 use Rattle.awk_leaves.specs.declared.operation.Binary.TheVariants.{Calculate, Test}
 use Rattle.awk_leaves.specs.declared.operation.Unary.TheVariants.{Not, Negate}
-use Rattle.awk_ends.specs.Operands.{at_end, both_data, data_in, leaf_in}
+use Rattle.awk_ends.specs.Operands.{at_end, both_data, data_in, in_primitive, leaf_in}
 use Rattle.awk_pair_operands.specs.Answer.{shared_ends}
+use Rattle.awk_pair_operands.specs.Pairs.{datum_from, item_type, pair_refused, pair_type}
+use Rattle.awk_pair_operands.specs.Pairs.{pair_values, some_array}
 use Rattle.awk_pair_operands.specs.Typed.{IsTyped}
+use Rattle.awk_pair_types.specs.Limits.{limit_refused}
 use Rattle.awk_arith.specs.Binary.{binary_of}
 use Rattle.awk_arith.specs.Unary.{unary_of}
-use Rattle.awk_choose.specs.Choice.{choose_of}
+use Rattle.awk_choose.specs.Choice.{are_leaves, choose_of, far, result_type}
 use Rattle.awk_law_chains.specs.Innermost.{datum_type, leaves_in}
 
 -- the comparison that holds exactly where another does not
@@ -79,6 +87,25 @@ IsCondition (arr c cs) (one t w) = ⊥
 IsCondition (one c v) (arr t vs) = c ≡ leaf Truths
 IsCondition (one c v) (one t w) = IsUnder c t
 
+-- of a row of a condition and of what is paired with it: null where the condition is
+abbrev pub part_beside : Value → Value
+part_beside v = if is_null (part_at 0 v) then null else part_at 1 v
+
+-- paired data of which the first is a condition: what the second gives at each end that both share
+abbrev pub paired_beside : List Datum → Primitive → Result Datum Fault
+paired_beside ds p =
+    refused_or (limit_refused (result_type p ds) or pair_refused false far ds)
+    (datum_from (some_array ds) (result_type p ds)
+    (map (over (pair_type false far ds) part_beside) (pair_values false far ds)))
+
+-- x as it is repeated by being paired with a condition, or why it is not paired with it
+abbrev pub beside : Datum → Datum → Result Datum Fault
+beside c x =
+    let ds = c ∷ x ∷ [] in
+    let of = leaf_in (item_type x) in
+    if not (are_leaves ds) then Err WrongType
+    else in_primitive (choice_judged (leaf_in (item_type c)) of of) (paired_beside ds)
+
 pub record LeafLaws : Type 0 where
   -- where of c, x and x is x, where c is not null
   pub choice : (c x : Value) → is_null c ≡ false → chosen_at c x x ≡ x
@@ -90,6 +117,9 @@ pub record LeafLaws : Type 0 where
   pub choice_of : (p : Primitive) (c x made : Datum) → IsTyped c → IsTyped x
       → IsSimple (datum_type x) → leaf_in (datum_type x) ≡ Of p → IsCondition c x
       → choose_of c (datum x) (datum x) ≡ Ok made → made ≡ x
+  -- where of c, x and x is x as it is repeated by being paired with c, and null where c is null,
+  -- whatever the lists of both are, the faults included
+  pub choice_beside : (c x : Datum) → choose_of c (datum x) (datum x) ≡ beside c x
   -- not of a comparison is the opposite comparison, null where that is null
   pub negation : (how : Compare) (p : Primitive) (x y : Value)
       → on_result (unary_at Not Truths) (binary_at (Test how) p x y)
