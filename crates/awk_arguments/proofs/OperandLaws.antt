@@ -1,10 +1,10 @@
 -- The operands in code and those that they stand for.
-use Rattle.std.proofs.Common.{◌≡◌, ◌<◌, List, [], ◌∷◌, length, slice_get, Some, ℤ, ap, ap₂, ◌∙◌}
+use Rattle.std.proofs.Common.{◌≡◌, List, [], ◌∷◌, length, slice_get, Some, ℤ, ap, ap₂, ◌∙◌}
 use Rattle.std.proofs.Common.{refl, subst, arith}
 use Rattle.awk_layout.specs.declared.datum.Operand.{Operand}
 use Rattle.awk_layout.specs.declared.datum.Operand.TheVariants.{Of, Literal}
 use Rattle.awk_arguments.specs.Fit.{IsGiven}
-use Rattle.awk_arguments.specs.Operand.{only_in, both_in, first_in, two_in, three_in, data_in}
+use Rattle.awk_arguments.specs.Operand.{only_in, first_in, two_in, three_in}
 use Rattle.awk_arguments.specs.OperandView.{shown_operands}
 
 -- ---- operands at their places
@@ -75,22 +75,6 @@ three-long (Of x ∷ p ∷ q ∷ []) h = refl
 three-long (Literal z ∷ p ∷ q ∷ []) h = absurd (cc)
 three-long (Of x ∷ p ∷ q ∷ r ∷ os) h = absurd (cc)
 three-long (Literal z ∷ p ∷ q ∷ r ∷ os) h = absurd (cc)
-
-pub data-long : (os : List Operand) → IsGiven (data_in (shown_operands os)) → 0 < length os
-data-long [] h = absurd (cc)
-data-long (o ∷ os) h = omega arith
-
--- two data are a datum and an operand
-pub first-both : (os : List Operand) → IsGiven (both_in (shown_operands os))
-    → IsGiven (first_in (shown_operands os))
-first-both [] h = absurd (cc)
-first-both (Of x ∷ []) h = absurd (cc)
-first-both (Literal z ∷ []) h = absurd (cc)
-first-both (Of x ∷ p ∷ []) h = refl
-first-both (Literal z ∷ p ∷ []) h = absurd (cc)
-first-both (Of x ∷ Of y ∷ q ∷ os) h = absurd (cc)
-first-both (Of x ∷ Literal z ∷ q ∷ os) h = absurd (cc)
-first-both (Literal z ∷ p ∷ q ∷ os) h = absurd (cc)
 
 -- ---- a literal stands in the place of none of these data
 

@@ -19,12 +19,6 @@ pub record AreMoved (least most : ℤ) (es ks : List ℤ) (n : ℕ) : Type 0 whe
   pub same : (k : ℕ) → k < n → (z : ℤ) → least ≤ℤ z → z ≤ℤ most
       → int_le (get_or ks k (pos 0)) z ≡ int_le (get_or es k (pos 0)) z
 
-pub none_moved : (least most : ℤ) (es : List ℤ) → AreMoved least most es [] 0
-none_moved least most es = record {
-  size = refl;
-  same = λ k l. absurd (omega (arith, l));
-}
-
 pub moved_more : (least most : ℤ) (es ks : List ℤ) (n : ℕ) (e : ℤ)
     → AreMoved least most es ks n
     → ((z : ℤ) → least ≤ℤ z → z ≤ℤ most → int_le e z ≡ int_le (get_or es n (pos 0)) z)

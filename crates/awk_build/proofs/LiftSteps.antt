@@ -1,10 +1,10 @@
 -- Steps of unifying from the left, and carries from the right.
-use Rattle.std.proofs.Common.{◌≡◌, ℕ, ◌+◌, ◌-◌, ◌<◌, ◌≤◌, List, [], ◌∷◌, ◌++◌, map, drop}
+use Rattle.std.proofs.Common.{◌≡◌, ℕ, ◌+◌, ◌-◌, ◌<◌, List, [], ◌∷◌, ◌++◌, map, drop}
 use Rattle.std.proofs.Common.{length, slice_get, Some, ap, ap₂, sym, subst, ◌∙◌, arith}
-use Rattle.std.proofs.Common.{append-nil, append_assoc}
+use Rattle.std.proofs.Common.{append_assoc}
 use Rattle.std.specs.List.{AllByRecursion}
 use Rattle.std.specs.Prelude.{reverse, get_or, option_map}
-use Rattle.std.proofs.lemmas.List.{drop_all, drop_more, length-map, reverse-append, get_or-map}
+use Rattle.std.proofs.lemmas.List.{drop_more, length-map, reverse-append, get_or-map}
 use Rattle.std.proofs.lemmas.Option.{slice_get-map}
 use Rattle.awk_base.proofs.Lists.{drop-get}
 use Rattle.awk_types.specs.DataType.{DataType, unknown}
@@ -12,7 +12,7 @@ use Rattle.awk_layout.specs.Array.{IsArrayType}
 use Rattle.awk_layout.specs.Layout.{Layout}
 use Rattle.awk_layout.specs.Typing.{array_type}
 use Rattle.awk_unify.specs.After.{after}
-use Rattle.awk_unify.specs.Carry.{Carry, keep}
+use Rattle.awk_unify.specs.Carry.{Carry}
 use Rattle.awk_unify.specs.Unification.{Unification}
 use Rattle.awk_unify.specs.Unify.{unification}
 use Rattle.awk_build.specs.Joined.{joined_type}
@@ -55,32 +55,12 @@ pub record AreAllSteps (xs : List Layout) (rs : List Unification) (t : DataType)
   pub last : t ≡ joined_type xs
   pub lawful : AllByRecursion IsArrayType (map array_type xs)
 
-pub all_steps : (xs : List Layout) (rs : List Unification) (t : DataType) (i : ℕ)
-    → AreSteps xs rs t i → length xs ≤ i → AreAllSteps xs rs t
-all_steps xs rs t i s h =
-    let ts = map array_type xs in
-    let d : drop i ts ≡ [] = drop_all i ts (omega (arith, h, length-map xs array_type)) in
-    record {
-      steps = sym (s.steps ∙ ap (λ bs. rs ++ steps_from t bs) d ∙ append-nil rs);
-      last = sym (s.last ∙ ap (last_type t) d);
-      lawful = s.lawful (subst (AllByRecursion IsArrayType) (sym d) tt);
-    }
-
 -- ---- from the right
 
 -- the carries of the steps from m on, the last one first
 pub record AreBack (rs : List Unification) (m : ℕ) (g : Carry) (fs : List Carry) : Type 0 where
   pub so_far : g ≡ (carriers (drop m rs)).so_far
   pub each : fs ≡ reverse (carriers (drop m rs)).each
-
-pub none_back : (rs : List Unification) (m : ℕ) (g : Carry) (fs : List Carry) → length rs ≤ m
-    → g ≡ keep → fs ≡ [] → AreBack rs m g fs
-none_back rs m g fs h e f =
-    let d : drop m rs ≡ [] = drop_all m rs h in
-    record {
-      so_far = e ∙ ap (λ zs. (carriers zs).so_far) (sym d);
-      each = f ∙ ap (λ zs. reverse (carriers zs).each) (sym d);
-    }
 
 back_more : (rs : List Unification) (i : ℕ) (r : Unification) (g h : Carry) (fs gs : List Carry)
     → drop i rs ≡ r ∷ drop (i + 1) rs → AreBack rs (i + 1) g fs → h ≡ after g r.left

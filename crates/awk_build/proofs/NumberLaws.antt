@@ -6,8 +6,6 @@ use Rattle.std.specs.List.{AllByRecursion}
 use Rattle.std.proofs.lemmas.Int.{ints, to_z-of_z}
 use Rattle.serde_json.specs.Data.{Data, null, boolean, number, string, array, object}
 use Rattle.serde_json.specs.Data.{Items, no_items, item}
-use Rattle.serde_json.specs.View.{items_view}
-use Rattle.serde_json.specs.declared.value.Value as json
 use Rattle.awk_types.specs.DataType.{unknown, leaf}
 use Rattle.awk_types.specs.Has.{Holds}
 use Rattle.awk_types.specs.Value.{Value, int}
@@ -75,12 +73,6 @@ numbers_more ds [] d left z h p =
     subst (λ es. AreNumbersOf es (z ∷ []) left) (sym h) (p, refl)
 numbers_more no_items (y ∷ zs) d left z h p = absurd h
 numbers_more (item e es) (y ∷ zs) d left z h p = (h.0, numbers_more es zs d left z h.1 p)
-
-pub some_numbers : (vs : List json.Value) (zs : List ℤ) → 0 < length vs
-    → AreNumbersOf (items_view vs) zs no_items → HasNumbers (items_view vs) zs
-some_numbers [] zs s h = absurd (omega (arith, s))
-some_numbers (v ∷ vs) [] s h = absurd (cc)
-some_numbers (v ∷ vs) (z ∷ zs) s h = record { some = omega arith; all = h }
 
 pub numbers_hold : (ds : Items) (zs : List ℤ) → AreNumbersOf ds zs no_items
     → AllByRecursion (Holds I64) zs

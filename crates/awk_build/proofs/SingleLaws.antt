@@ -1,42 +1,29 @@
 -- Arrays of one value.
 use Rattle.std.proofs.Common.{◌≡◌, ℕ, zero, suc, ◌+◌, ◌-◌, ◌<◌, ◌≤◌, List, [], ◌∷◌, map, refl, ap}
-use Rattle.std.proofs.Common.{sym, subst, ◌∙◌, arith, length, get_or, Some, None, Bool}
+use Rattle.std.proofs.Common.{sym, ◌∙◌, arith, length, get_or, Some, None, Bool}
 use Rattle.std.proofs.Common.{true, false}
 use Rattle.std.specs.Prelude.{ℤ, pos, negsuc, ◌<ℤ◌, ◌^◌, nat_lt, if◌then◌else◌}
 use Rattle.std.specs.List.{range_with_len}
 use Rattle.std.proofs.lemmas.Int.{ints}
-use Rattle.serde_json.specs.Data.{Num, unsigned, negative, float, boolean, null, number}
+use Rattle.serde_json.specs.Data.{Num, unsigned, negative, float, null}
 use Rattle.serde_json.specs.Find.{as_i64}
 use Rattle.awk_types.specs.DataType.{Name}
-use Rattle.awk_types.specs.Has.{Holds}
 use Rattle.awk_types.specs.Value.{Value, Values, value, list, row, values_from}
 use Rattle.awk_types.specs.Value as values
-use Rattle.awk_types.specs.declared.primitive.Primitive.TheVariants as primitive
 use Rattle.awk_lanes.specs.Column.{Column}
-use Rattle.awk_lanes.specs.Numbers.{int_of}
-use Rattle.awk_lanes.specs.Places.{at, IsOffsets, IsOptionalIndex, IsSpan}
-use Rattle.awk_lanes.specs.declared.kind.Kind.TheVariants.{I64, Bool as Truths}
-use Rattle.awk_lanes.specs.declared.kind.Num.TheVariants.{Truth}
+use Rattle.awk_lanes.specs.Places.{at}
+use Rattle.awk_lanes.specs.declared.kind.Kind.TheVariants.{I64}
 use Rattle.awk_layout.proofs.ArrayItems.{length-array_items, get_or-array_items}
 use Rattle.awk_layout.specs.Item.{item, run}
-use Rattle.awk_layout.specs.Layout.{Layout, empty, layouts_from, offset_lists, optional, rows}
-use Rattle.awk_layout.specs.Single.{only}
-use Rattle.awk_layout.specs.Typing.{array_type, array_items, layout_type}
+use Rattle.awk_layout.specs.Layout.{Layout, layouts_from, offset_lists, rows}
+use Rattle.awk_layout.specs.Typing.{array_items, layout_type}
 use Rattle.awk_types.specs.Simple.{simple_value}
 use Rattle.awk_layout.specs.Valid.{len}
 use Rattle.awk_gather.specs.Arrays.{array_item}
 use Rattle.awk_open.proofs.OpenedKinds.{item-offset_lists, item-rows}
 use Rattle.awk_plain.specs.Plain.{fits, is_whole, number_in}
-use Rattle.awk_build.specs.Built.{IsArrayOf}
 
 -- ---- numbers and truth values
-
-pub truth_made : (b : Bool) (x : Layout) → x ≡ only Truths (int_of (Truth b))
-    → IsArrayOf (boolean b) x
-truth_made true x e =
-    subst (IsArrayOf (boolean true)) (sym e) (record { plain = tt; typ = refl; items = refl })
-truth_made false x e =
-    subst (IsArrayOf (boolean false)) (sym e) (record { plain = tt; typ = refl; items = refl })
 
 small : (n : ℕ) (z : ℤ) (b : Bool) → (if b then Some (pos n) else None) ≡ Some z → pos n ≡ z
 small n z true e = cc
@@ -47,16 +34,6 @@ pub same_number : (n : Num) (z : ℤ) → as_i64 n ≡ Some z → number_in n �
 same_number (unsigned n) z e = small n z (nat_lt n (2 ^ 63)) e
 same_number (negative y) z e = cc
 same_number (float x) z e = absurd (cc)
-
-pub number_made : (n : Num) (z : ℤ) (x : Layout) → as_i64 n ≡ Some z → Holds primitive.I64 z
-    → x ≡ only I64 z → IsArrayOf (number n) x
-number_made n z x e h f =
-    let s = same_number n z e in
-    record {
-      plain = subst (Holds primitive.I64) (sym s) h;
-      typ = ap array_type f;
-      items = ap array_items f ∙ ap (λ y. values.int y ∷ []) (sym s);
-    }
 
 fitting : (n : ℕ) (b : Bool) → b ≡ true → (if b then Some (pos n) else None) ≡ None → ⊥
 fitting n true f e = cc
@@ -77,33 +54,10 @@ null_below : (i : ℕ) → i < 1 → at nulls i <ℤ pos 0
 null_below zero h = omega (arith, ints)
 null_below (suc i) h = absurd (omega (arith, h))
 
-pub null_index_fits : (c : Column) (x : Layout) → c ≡ nulls → x ≡ empty → IsOptionalIndex c (len x)
-null_index_fits c x e f =
-    subst (λ z. IsOptionalIndex z (len x)) (sym e)
-    (subst (λ y. IsOptionalIndex nulls (len y)) (sym f)
-    (record { kind = tt; below = null_below }))
-
-pub null_layout : (c : Column) (x y : Layout) → c ≡ nulls → x ≡ empty → y ≡ optional c x
-    → y ≡ optional nulls empty
-null_layout c x y e f h = h ∙ ap (λ z. optional z x) e ∙ ap (optional nulls) f
-
-pub null_made : (y : Layout) → y ≡ optional nulls empty → IsArrayOf null y
-null_made y e = subst (IsArrayOf null) (sym e) (record { plain = tt; typ = refl; items = refl })
-
 -- ---- a list
 
 abbrev ends : ℕ → Column
 ends n = record { kind = I64; items = pos 0 ∷ pos n ∷ [] }
-
-one_span : (n i : ℕ) → i + 1 < 2 → IsSpan n (at (ends n) i) (at (ends n) (i + 1))
-one_span n zero h = λ apart. (omega (arith, ints), omega (arith, ints), omega (arith, ints))
-one_span n (suc i) h = absurd (omega (arith, h))
-
-pub ends_fit : (o : Column) (n : ℕ) (x : Layout) → o ≡ ends n → n ≡ len x → IsOffsets o (len x)
-ends_fit o n x e h =
-    subst (λ z. IsOffsets z (len x)) (sym e)
-    (subst (IsOffsets (ends n)) h
-    (record { kind = tt; some = omega arith; ordered = one_span n }))
 
 run_values : (f : ℕ → Value) (first n : ℕ)
     → run f first n ≡ values_from (map f (range_with_len first n))

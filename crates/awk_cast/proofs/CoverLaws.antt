@@ -1,7 +1,7 @@
 -- Lists and options over what is made of their contents.
 use Rattle.std.proofs.Common.{◌≡◌, ℕ, ◌+◌, ◌-◌, ◌*◌, ◌<◌, ◌||◌, false, refl, ap, ap₂}
 use Rattle.std.proofs.Common.{sym, subst, ◌∙◌, arith}
-use Rattle.std.specs.Prelude.{ℤ, pos, negsuc, ◌<ℤ◌, Bool, List, [], ◌∷◌, Some, None, length}
+use Rattle.std.specs.Prelude.{ℤ, pos, negsuc, ◌<ℤ◌, Bool, List, [], ◌∷◌, Some, None}
 use Rattle.std.specs.Prelude.{slice_get}
 use Rattle.std.proofs.lemmas.Int.{ints}
 use Rattle.std.specs.List.{list_any}
@@ -17,7 +17,6 @@ use Rattle.awk_layout.specs.Typing.{layout_type, array_type, array_items}
 use Rattle.awk_layout.specs.Valid.{len}
 use Rattle.awk_gather.specs.Arrays.{array_item}
 use Rattle.awk_columns.specs.Columns.{joined_items}
-use Rattle.awk_columns.specs.Joined.{AreOffsets}
 use Rattle.awk_columns.specs.ListClass.{Class, list_type}
 use Rattle.awk_columns.specs.ListNode.{AreEven, list_layout}
 use Rattle.awk_columns.specs.Opened.{OpensOption}
@@ -26,7 +25,7 @@ use Rattle.awk_columns.proofs.ListNodes.{len-list}
 use Rattle.awk_cast.specs.Cast.{cast_type, cast_value, some_node, are_many}
 use Rattle.awk_cast.specs.Cast.{told, leaf_past}
 use Rattle.awk_cast.specs.Casting.{IsCast, IsOnly, told_of, is_large_array}
-use Rattle.awk_cast.specs.Levels.{IsListed, IsOver, covered, Covers}
+use Rattle.awk_cast.specs.Levels.{IsListed, IsOver, covered}
 use Rattle.awk_cast.specs.declared.level.Cover.{Cover}
 use Rattle.awk_cast.specs.declared.level.Cover.TheVariants as cover
 use Rattle.awk_cast.proofs.TypeLaws.{cast_null}
@@ -147,19 +146,7 @@ over_told p c z x h =
     ap₂ told (over_large c z x h)
     (over_node (λ vs. false) (list_any (leaf_past p)) c z x h refl)
 
--- the content that is made fits as the old one does
-pub over_fits : (c : Cover) (z x : Layout) (m : ℕ) → IsOver x c z → m ≡ len z
-    → Covers (len x) c m
-over_fits (cover.Lists class o) z x m h e =
-    (subst (AreOffsets o (len x)) (sym e) h.offsets, h.even)
-over_fits (cover.Option j) z x m h e = (h.fits, rw e h.index)
-
 -- ---- the only content
-
-pub only_some : (P : Layout → Type 0) (zs : List Layout) → IsOnly P zs → 0 < length zs
-only_some P [] h = absurd h
-only_some P (z ∷ []) h = omega arith
-only_some P (z ∷ w ∷ zs) h = absurd h
 
 pub only_is : (P : Layout → Type 0) (zs : List Layout) (z : Layout) → IsOnly P zs
     → slice_get zs 0 ≡ Some z → P z

@@ -1,11 +1,10 @@
 -- Numbers of lists moved as the bytes that they lie in.
-use Rattle.std.proofs.Common.{◌≡◌, ℕ, zero, suc, ◌+◌, ◌-◌, ◌*◌, ◌/◌, ◌<◌, ◌≤◌, List, [], ◌∷◌, ◌++◌}
+use Rattle.std.proofs.Common.{◌≡◌, ℕ, zero, suc, ◌+◌, ◌-◌, ◌*◌, ◌<◌, ◌≤◌, List, [], ◌∷◌, ◌++◌}
 use Rattle.std.proofs.Common.{map, length, drop, get_or, slice_range, refl, ap, ap₂, sym, subst}
 use Rattle.std.proofs.Common.{◌∙◌, arith, length-take, length-drop, length-append, get_or-take}
 use Rattle.std.proofs.Common.{get_or-drop}
 use Rattle.std.specs.Prelude.{ℤ, pos}
 use Rattle.std.specs.List.{range_with_len}
-use Rattle.std.proofs.Math.Nat.{mul-div_left}
 use Rattle.std.proofs.lemmas.List.{ext_get_or, get_or-map, length-map, map-append, take-append-le}
 use Rattle.std.proofs.lemmas.List.{drop-append-le}
 use Rattle.std.proofs.lemmas.List.FromFn.{length-map-range_with_len, get_or-map-range_with_len}
@@ -16,8 +15,6 @@ use Rattle.awk_lanes.specs.Cut.{cut_of}
 use Rattle.awk_lanes.specs.Numbers.{element, number, numbers, width}
 use Rattle.awk_lanes.specs.Places.{size_of}
 use Rattle.awk_lanes.specs.declared.kind.Kind.{Kind}
-use Rattle.awk_lanes.specs.declared.kind.Kind.TheVariants.{Bool as Truths, I8, I16, I32, I64, U8}
-use Rattle.awk_lanes.specs.declared.kind.Kind.TheVariants.{U16, U32, U64}
 use Rattle.awk_lanes.proofs.NumberParts.{number-take}
 use Rattle.awk_layout.specs.Item.{leaf_value}
 use Rattle.awk_layout.specs.Layout.{flat}
@@ -105,30 +102,10 @@ moved_next s t c p i a m old b e w q l n h =
 
 -- ---- the lane
 
-width-some : (k : Kind) → 0 < width k
-width-some Truths = omega arith
-width-some I8 = omega arith
-width-some I16 = omega arith
-width-some I32 = omega arith
-width-some I64 = omega arith
-width-some U8 = omega arith
-width-some U16 = omega arith
-width-some U32 = omega arith
-width-some U64 = omega arith
-
 lane_is : (a b : Column) → a.kind ≡ b.kind → a.items ≡ b.items → a ≡ b
 lane_is a b e f =
     ap (λ k. record { kind = k; items = a.items }) e
     ∙ ap (λ zs. record { kind = b.kind; items = zs }) f
-
-pub moved_lane : (c r : Column) (ks : List ℕ) (b : List ℕ) → r.kind ≡ c.kind
-    → r.items ≡ numbers c.kind (length b / width c.kind) b
-    → AreBytesOf c.kind (numbers_at c ks).items b → r ≡ numbers_at c ks
-moved_lane c r ks b k i h =
-    let zs : List ℤ = (numbers_at c ks).items in
-    let count : length b / width c.kind ≡ length zs =
-    ap (λ n. n / width c.kind) h.size ∙ mul-div_left (length zs) (width-some c.kind) in
-    lane_is r (numbers_at c ks) k (i ∙ ap (λ n. numbers c.kind n b) count ∙ h.same)
 
 -- numbers at places are what is reached
 pub numbers_reached : (c r : Column) (ks : List ℕ) → r ≡ numbers_at c ks

@@ -3,28 +3,17 @@ use Rattle.std.proofs.Common.{subst, ◌≡◌, ℕ, ◌+◌, ◌*◌, ◌<◌, 
 use Rattle.std.proofs.Common.{take, slice_get, Some, add-one, arith, refl, ap, sym, ◌∙◌}
 use Rattle.std.specs.Prelude.{Option, IfSome}
 use Rattle.std.proofs.lemmas.Nat.{row_fits}
-use Rattle.awk_types.specs.DataType.{Name, type, row_type, reg, opt}
+use Rattle.awk_types.specs.DataType.{Name, type, row_type, reg}
 use Rattle.awk_types.specs.Value.{value, row, list}
 use Rattle.awk_lanes.specs.Column.{Column}
 use Rattle.awk_lanes.specs.Places.{size_of, place_at}
 use Rattle.awk_layout.specs.Layout.{Layout, layouts_from, count, held_all, weights, rows, regular}
-use Rattle.awk_layout.specs.Layout.{unmasked}
 use Rattle.awk_layout.specs.Valid.{len, IsValid, AllReach, AreNames}
 use Rattle.awk_layout.specs.Item.{item, items_across}
 use Rattle.awk_layout.specs.Typing.{layout_types}
 use Rattle.awk_gather.specs.Alike.{AreCopies, AreAllCopies}
 use Rattle.awk_gather.specs.Picked.{IsPicked}
 use Rattle.awk_gather.proofs.PickedNodes.{run_same}
-
--- no copy
-pub no_copies : (x r : Layout) (n : ℕ) → n ≡ 0 → r ≡ x → AreCopies x n r
-no_copies x r n e f = rw (e, f) record {
-  size = omega arith;
-  items = λ i j l. absurd (omega (arith, l));
-  same_type = refl;
-  held_within = omega arith;
-  nodes_within = omega arith;
-}
 
 -- ---- records
 
@@ -132,20 +121,6 @@ regular_copies size m n k x y r s z e f h g i =
 pub copies_reach : (n k size : ℕ) (y r s : Layout) → k ≡ n * size → AreCopies y k r → s ≡ r
     → n * size ≤ len s
 copies_reach n k size y r s f h g = rw (g, ← f) h.size
-
-unmasked_copied : (m n : ℕ) (y r : Layout) → AreCopies y n r
-    → AreCopies (unmasked m y) n (unmasked n r)
-unmasked_copied m n y r h = record {
-  size = omega arith;
-  items = λ i j l. h.items i j l;
-  same_type = ap opt h.same_type;
-  held_within = omega (arith, h.held_within);
-  nodes_within = omega (arith, h.nodes_within);
-}
-
-pub unmasked_copies : (m n : ℕ) (x y r s z : Layout) → unmasked m y ≡ x → AreCopies y n r → s ≡ r
-    → z ≡ unmasked n s → AreCopies x n z
-unmasked_copies m n x y r s z e h g i = rw (← e, i, g) (unmasked_copied m n y r h)
 
 -- lists of one size at places, where their items are alike
 alike_lists : (size n : ℕ) (p : Column) (y r : Layout) → AreCopies y (size_of p * size) r

@@ -2,7 +2,7 @@
 use Rattle.std.proofs.Common.{◌≡◌, ℕ, zero, suc, ◌+◌, ◌<◌, ◌≤◌, List, [], ◌∷◌, length, map, map-id}
 use Rattle.std.proofs.Common.{refl, ap, ap₂, sym, ◌∙◌, arith}
 use Rattle.std.specs.Prelude.{ℤ, pos, Bool, true, false, cond, ◌&&◌, int_lt, int_le, ◌≤ℤ◌}
-use Rattle.std.specs.List.{count_by, range_with_len, slice_range}
+use Rattle.std.specs.List.{count_by, slice_range}
 use Rattle.std.proofs.lemmas.Grind.{common_steps}
 use Rattle.std.proofs.lemmas.Int.{ints}
 use Rattle.std.proofs.lemmas.List.Concat.{flat_map-cons}
@@ -27,11 +27,7 @@ use Rattle.awk_types.proofs.Trees.{value_list-from}
 use Rattle.awk_lanes.specs.Column.{Column}
 use Rattle.awk_lanes.specs.Places.{at, place_at}
 use Rattle.awk_lanes.specs.declared.kind.Kind.TheVariants.{I64}
-use Rattle.awk_layout.specs.Datum.{first_item}
 use Rattle.awk_layout.specs.Layout.{Layout}
-use Rattle.awk_layout.specs.Valid.{len}
-use Rattle.awk_gather.specs.Arrays.{array_item}
-use Rattle.awk_columns.proofs.ArrayLaws.{array_items-at}
 use Rattle.awk_layout.specs.Typing.{array_type, array_items}
 use Rattle.awk_columns.specs.Columns.{is_present}
 use Rattle.awk_numbers.proofs.PartLaws.{whole_range}
@@ -214,7 +210,3 @@ module _ (es : List ℤ) (t : DataType) (v : Value) where
     where
       alone : flat_map (leaves t) (v ∷ []) ≡ leaves t v
       alone = flat_map-cons (leaves t) v [] ∙ grind (arith, common_steps)
-
--- the items of an array of one item
-pub items_of_one : (x : Layout) → len x ≡ 1 → array_items x ≡ first_item x ∷ []
-items_of_one x e = array_items-at x ∙ ap (λ n. map (array_item x) (range_with_len 0 n)) e

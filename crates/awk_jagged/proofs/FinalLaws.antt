@@ -1,5 +1,5 @@
 -- What picks row by row answer.
-use Rattle.std.specs.Prelude.{◌≡◌, ℕ, ◌<◌, refl, Bool, true, false, List, is_some}
+use Rattle.std.specs.Prelude.{◌≡◌, ℕ, ◌<◌, refl, Bool, true, false, List}
 use Rattle.std.specs.Prelude.{Option, Some, None, option_map, Result, Ok, Err, if◌then◌else◌}
 use Rattle.std.proofs.Common.{arith, ap, ap₂, sym, ◌∙◌, subst}
 use Rattle.std.proofs.lemmas.List.{append-nil}
@@ -21,7 +21,7 @@ use Rattle.awk_select.specs.Picks.{limit_refused}
 use Rattle.awk_jagged_rows.specs.Alone.{IsWhole}
 use Rattle.awk_jagged.specs.Jagged.{jagged_of, is_jagged, pick_type, picked_as}
 use Rattle.awk_jagged.specs.Jagged.{are_uneven, lacks_places, picked_items, size_refused, fault_if}
-use Rattle.awk_jagged.specs.Judged.{judged_pick, within_limits, picks, AreJudged}
+use Rattle.awk_jagged.specs.Judged.{judged_pick, within_limits, AreJudged}
 use Rattle.awk_jagged.specs.Outcomes.{IsOutcomeOf}
 use Rattle.awk_jagged.specs.Pairs.{picks as picks_of}
 use Rattle.awk_jagged_rows.specs.Rows.{lists_by}
@@ -46,9 +46,6 @@ are-judged u t e = go (is_jagged u) refl (pick_type u t) refl e
     }
     go true j None p f = absurd cc
     go false j o p f = absurd cc
-
-pub judged-picks : (u t : DataType) → AreJudged u t → picks u t ≡ true
-judged-picks u t h = ap (λ o. is_some o) h.is
 
 -- the same fault of another result
 abbrev faults_as : Result Datum Fault → Result (Unit {0}) Fault → Result Datum Fault
@@ -181,16 +178,6 @@ module _ (xs ws : Listed) (e : size_of ws.starts ≡ 1)
       → limit (array_type y) ≡ None
   picked-limit c y o =
       ap limit (typ_is y o.typ) ∙ no_limit (limit (simple h.typ)) h.within
-
--- the arrays as lists are what they are
-pub whole-said : (x ix : Layout) (xs ws : Listed) → IsWhole x xs → IsWhole ix ws
-    → jagged_of (arr (array_type xs.content) (lists_by xs 0))
-    (arr (array_type ws.content) (lists_by ws 0))
-    ≡ jagged_of (array_datum x) (array_datum ix)
-whole-said x ix xs ws hx hw =
-    ap₂ (λ a b. jagged_of (arr (array_type a) (lists_by xs 0)) (arr (array_type b) (lists_by ws 0)))
-    hx.content hw.content
-    ∙ ap₂ (λ a b. jagged_of (arr (array_type x) a) (arr (array_type ix) b)) hx.list hw.list
 
 pub whole-judged : (x ix : Layout) (xs ws : Listed) → IsWhole x xs → IsWhole ix ws
     → AreJudged (array_type ix) (array_type x)

@@ -7,7 +7,7 @@ use Rattle.std.proofs.Common.{arith, ap, ap₂, sym, ◌∙◌, eq-eqb, ne_eqb}
 use Rattle.std.proofs.lemmas.List.{length-map}
 use Rattle.std.proofs.lemmas.List.FromFn.{length-map-range_with_len}
 use Rattle.std.proofs.lemmas.Bool.{or_left}
-use Rattle.awk_types.specs.DataType.{DataType, unknown, leaf, var, reg, rec, tup, opt, uni, depth}
+use Rattle.awk_types.specs.DataType.{DataType, unknown, leaf, opt}
 use Rattle.awk_types.specs.Gives.{◌or◌}
 use Rattle.awk_types.specs.ItemLimit.{item_limit, too_many}
 use Rattle.awk_types.specs.Simple.{present, is_option, simple}
@@ -229,22 +229,3 @@ many-rows xs ws j alike h =
     (length_by ws i))
     ∙ length-map-range_with_len _ 0 (length_by ws i)))
     ∙ over_limit (row_count ws) h)
-
--- the items of rows are not as deep
-pub rows-depth : (u v : DataType) (b : Bool) → is_jagged u ≡ true → rows_of u ≡ Some (b, v)
-    → depth v < depth u
-rows-depth unknown v b j e = absurd cc
-rows-depth (leaf p) v b j e = absurd cc
-rows-depth (var u) v b j e = rw (sym (ap item_of e)) (omega arith)
-rows-depth (reg n u) v b j e = rw (sym (ap item_of e)) (omega arith)
-rows-depth (rec ns us) v b j e = absurd cc
-rows-depth (tup us) v b j e = absurd cc
-rows-depth (uni us) v b j e = absurd cc
-rows-depth (opt unknown) v b j e = absurd cc
-rows-depth (opt (leaf p)) v b j e = absurd cc
-rows-depth (opt (var u)) v b j e = rw (sym (ap item_of e)) (omega arith)
-rows-depth (opt (reg n u)) v b j e = rw (sym (ap item_of e)) (omega arith)
-rows-depth (opt (rec ns us)) v b j e = absurd cc
-rows-depth (opt (tup us)) v b j e = absurd cc
-rows-depth (opt (opt u)) v b j e = absurd cc
-rows-depth (opt (uni us)) v b j e = absurd cc

@@ -98,38 +98,6 @@ some_of : (f : DataType → DataType) (o : Option DataType) → is_some (option_
 some_of f None = refl
 some_of f (Some t) = refl
 
-rows_some : (u v t t' : DataType) (first : Bool) → u ≡ v → rows_of t ≡ Some (first, t')
-    → is_some (rows_type (rows_of t) (pick_type u)) ≡ picks v t'
-rows_some u v t t' first e h =
-    ap (λ w. is_some (rows_type (rows_of t) (pick_type w))) e
-    ∙ ap (λ o. is_some (rows_type o (pick_type v))) h
-    ∙ some_of (λ s. option_if first (var s)) (pick_type v t')
-
-pub picks-below : (u v t t' : DataType) (first second : Bool) → is_jagged u ≡ true
-    → rows_of u ≡ Some (second, v) → rows_of t ≡ Some (first, t') → picks u t ≡ true
-    → picks v t' ≡ true
-picks-below unknown v t t' first second j e h q = absurd cc
-picks-below (leaf p) v t t' first second j e h q = absurd cc
-picks-below (var u) v t t' first second j e h q =
-    sym (rows_some u v t t' first (ap item_of e) h) ∙ q
-picks-below (reg n u) v t t' first second j e h q =
-    sym (rows_some u v t t' first (ap item_of e) h) ∙ q
-picks-below (rec ns us) v t t' first second j e h q = absurd cc
-picks-below (tup us) v t t' first second j e h q = absurd cc
-picks-below (uni us) v t t' first second j e h q = absurd cc
-picks-below (opt unknown) v t t' first second j e h q = absurd cc
-picks-below (opt (leaf p)) v t t' first second j e h q = absurd cc
-picks-below (opt (var u)) v t t' first second j e h q =
-    sym (some_of opt (rows_type (rows_of t) (pick_type u))
-    ∙ rows_some u v t t' first (ap item_of e) h) ∙ q
-picks-below (opt (reg n u)) v t t' first second j e h q =
-    sym (some_of opt (rows_type (rows_of t) (pick_type u))
-    ∙ rows_some u v t t' first (ap item_of e) h) ∙ q
-picks-below (opt (rec ns us)) v t t' first second j e h q = absurd cc
-picks-below (opt (tup us)) v t t' first second j e h q = absurd cc
-picks-below (opt (opt u)) v t t' first second j e h q = absurd cc
-picks-below (opt (uni us)) v t t' first second j e h q = absurd cc
-
 -- ---- what is of rows
 
 rows_only : (o : Option (Bool × DataType)) (f : DataType → Option DataType)

@@ -109,12 +109,6 @@ pub record AreToldTo (xs ws : Listed) (n : ℕ) (outside : Bool) : Type 0 where
   pub even : AreEven (array_type ws.content) (lists_by xs) (lists_by ws) n
   pub found : AreFound xs ws n outside
 
-pub told-none : (xs ws : Listed) → AreToldTo xs ws 0 false
-told-none xs ws = record {
-  even = λ i p. absurd (omega (arith, p));
-  found = λ i p. absurd (omega (arith, p));
-}
-
 pub told-nothing : (xs ws : Listed) (n : ℕ) (b : Bool) → AreToldTo xs ws n b
     → IsTold xs ws n told.Nothing → AreToldTo xs ws (n + 1) b
 told-nothing xs ws n true h t = record {
@@ -136,16 +130,6 @@ told-outside xs ws n b h t = record {
       h.even t.0;
   found = (n, omega arith, t.1);
 }
-
-pub told-uneven : (xs ws : Listed) (n : ℕ) → n < size_of ws.starts → IsTold xs ws n told.Uneven
-    → IsOutcomeOf xs ws outcome.Uneven
-told-uneven xs ws n p t = (n, p, t)
-
-pub told-lacks : (xs ws : Listed) (n : ℕ) → n ≡ size_of ws.starts → AreToldTo xs ws n true
-    → IsOutcomeOf xs ws outcome.Outside
-told-lacks xs ws n e h =
-    subst (λ m. AreEven (array_type ws.content) (lists_by xs) (lists_by ws) m
-    × LackSome (array_type ws.content) (lists_by xs) (lists_by ws) m) e (h.even, h.found)
 
 pub told-many : (xs ws : Listed) (n : ℕ) → n ≡ size_of ws.starts
     → is_jagged (array_type ws.content) ≡ true → AreAlike xs ws → item_limit < row_count ws

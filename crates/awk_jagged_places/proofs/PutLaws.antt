@@ -2,7 +2,7 @@
 use Rattle.std.specs.Prelude.{◌≡◌, ℕ, ◌+◌, ◌<◌, List, [], ◌∷◌, ◌++◌, length, map, ℤ}
 use Rattle.std.specs.List.{range_with_len}
 use Rattle.std.proofs.Common.{arith, ap, sym, ◌∙◌, subst}
-use Rattle.std.proofs.lemmas.List.{append-nil, append_assoc, length-append}
+use Rattle.std.proofs.lemmas.List.{append_assoc, length-append}
 use Rattle.std.proofs.lemmas.List.FromFn.{length-map-range_with_len, map-range_with_len_more}
 use Rattle.awk_lanes.specs.Counted.{before}
 use Rattle.awk_lanes.specs.Making.{Making, with_item}
@@ -12,10 +12,6 @@ use Rattle.awk_jagged_places.specs.Kept.{HasRoom, Puts}
 use Rattle.awk_jagged_places.proofs.FlatLists.{length-each}
 
 -- ---- one list
-
-pub puts-none : (m : Making) → Puts [] m m
-puts-none m = ap (λ zs. record { kind = m.kind; room = m.room; items = zs })
-    (sym (append-nil m.items))
 
 pub put_more : (zs us : List ℤ) (old mid new : Making) → Puts zs old mid
     → new ≡ record { kind = mid.kind; room = mid.room; items = mid.items ++ us }

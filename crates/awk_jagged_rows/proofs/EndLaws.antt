@@ -14,7 +14,7 @@ use Rattle.awk_layout.specs.Item.{run}
 use Rattle.awk_layout.specs.Valid.{len, IsValid}
 use Rattle.awk_gather.specs.Arrays.{array_item}
 use Rattle.awk_columns.specs.Lists.{Listed, AreLists}
-use Rattle.awk_jagged_rows.specs.Rows.{end_number, HasEnds, IsSmallIndex, AreIn, AreListsIn}
+use Rattle.awk_jagged_rows.specs.Rows.{end_number, IsSmallIndex, AreIn, AreListsIn}
 use Rattle.awk_jagged_rows.specs.Rows.{items_or_none}
 use Rattle.awk_jagged_rows.specs.declared.row_lists.RowLists.{RowLists}
 
@@ -35,22 +35,6 @@ end_span : (s t : Column) (n : ℕ) (o : Option ℕ) → AreSpans s t n → IfSo
     → IsSpan n (end_number s o) (end_number t o)
 end_span s t n None h p = λ d. absurd (d refl)
 end_span s t n (Some k) h p = nat_span n (at s k) (at t k) (h.ordered k p)
-
-pub starts-ready : (j : Column) (r : RowLists) (n : ℕ) → IsSmallIndex j → AreIn j r
-    → AreSpans r.starts r.stops n → HasEnds j r.starts
-starts-ready j r n s i h = record { kind = s.0; ends = h.start_kind; below = i }
-
-pub stops-ready : (j : Column) (r : RowLists) (n : ℕ) → IsSmallIndex j → AreIn j r
-    → AreSpans r.starts r.stops n → HasEnds j r.stops
-stops-ready j r n s i h = record {
-  kind = s.0;
-  ends = h.stop_kind;
-  below = λ k p. go (option_place_at j k) (i k p);
-}
-  where
-    go : (o : Option ℕ) → IfSome o (λ k. k < size_of r.starts) → IfSome o (λ k. k < size_of r.stops)
-    go None q = tt
-    go (Some k) q = omega (arith, q, h.same_size)
 
 module _ (j : Column) (r : RowLists) (s : IsSmallIndex j) (i : AreIn j r)
     (h : AreSpans r.starts r.stops (len r.content)) (v : IsValid r.content) where

@@ -9,7 +9,6 @@ use Rattle.awk_types.specs.Simple.{is_option}
 use Rattle.awk_types.specs.Value.{Value}
 use Rattle.awk_lanes.specs.Column.{Column}
 use Rattle.awk_lanes.specs.Places.{size_of, at, option_place, option_place_at}
-use Rattle.awk_lanes.specs.declared.kind.Kind.TheVariants.{I64}
 use Rattle.awk_layout.specs.Item.{at_option}
 use Rattle.awk_layout.specs.Laws.{len-fits}
 use Rattle.awk_layout.specs.Layout.{Layout}
@@ -25,16 +24,6 @@ use Rattle.awk_jagged_rows.specs.RowLists.{list_place, AreListsAt, AreRowsOf}
 use Rattle.awk_jagged_rows.specs.declared.row_lists.RowLists.{RowLists}
 
 -- ---- types
-
-list_rows-list : (t u : DataType) → IsListOf t u → list_rows t ≡ Some u
-list_rows-list (var t) u e = ap (λ (v : DataType). Some v) e
-list_rows-list (reg n t) u e = ap (λ (v : DataType). Some v) e
-list_rows-list unknown u e = absurd e
-list_rows-list (leaf p) u e = absurd e
-list_rows-list (rec ns ts) u e = absurd e
-list_rows-list (tup ts) u e = absurd e
-list_rows-list (opt t) u e = absurd e
-list_rows-list (uni ts) u e = absurd e
 
 abbrev with_flag : Bool → Option DataType → Option (Bool × DataType)
 with_flag b None = None
@@ -59,17 +48,6 @@ rows_of-option (rec ns ts) = refl
 rows_of-option (tup ts) = refl
 rows_of-option (opt t) = refl
 rows_of-option (uni ts) = refl
-
-pub outer_lists : (t : DataType) → is_option t ≡ false → is_some (rows_of t) ≡ true
-    → is_list_or_unknown t ≡ true
-outer_lists unknown o h = refl
-outer_lists (leaf p) o h = absurd cc
-outer_lists (var t) o h = refl
-outer_lists (reg n t) o h = refl
-outer_lists (rec ns ts) o h = absurd cc
-outer_lists (tup ts) o h = absurd cc
-outer_lists (opt t) o h = absurd cc
-outer_lists (uni ts) o h = absurd cc
 
 inner_lists : (t : DataType) → is_some (rows_of (opt t)) ≡ true → is_list_or_unknown t ≡ true
 inner_lists unknown h = refl
@@ -113,9 +91,6 @@ only_lists t (Opened.Row names ys) k h e l = not_row t names ys k h
 only_lists t (Opened.Option j y) k h e l = not_option t j y k h
 only_lists t (Opened.Union g j ys) k h e l = not_union t g j ys k h
 
-not_plain : (t : DataType) → is_option t ≡ true → (k : DataType) → is_option k ≡ false → t ≡ k → ⊥
-not_plain t o k p e = true≢false (sym o ∙ ap is_option e ∙ p)
-
 not_listed : (t u : DataType) → is_option t ≡ true → IsListOf t u → ⊥
 not_listed (var t) u o e = true≢false (sym o)
 not_listed (reg n t) u o e = true≢false (sym o)
@@ -142,37 +117,6 @@ only_option t (Opened.Option j y) k o l = l j y refl
 only_option t (Opened.Union g j ys) k o l = true≢false (sym o ∙ ap is_option k)
 
 -- ---- lists as they lie
-
-pub lists-at : (x : Layout) (given : Option Column) (s e : Column) (y : Layout) (r : RowLists)
-    → IsOpened x (Opened.Items s e y)
-    → r ≡ record { index = given; starts = s; stops = e; content = y }
-    → AreListsAt x given r
-lists-at x given s e y r o is = rw is (record {
-  index = refl;
-  typ = list_rows-list (array_type x) (array_type y) o.kind;
-  spans = o.valid.1;
-  valid = o.valid.2;
-  size = o.size;
-  items = o.items;
-})
-
-pub lists-none : (x : Layout) (given : Option Column) (r : RowLists) → IsOpened x Opened.Empty
-    → IsValid x → r.index ≡ given → r.content ≡ x → r.starts.kind ≡ I64 → r.stops.kind ≡ I64
-    → size_of r.starts ≡ 0 → size_of r.stops ≡ 0 → AreListsAt x given r
-lists-none x given r o v i c a b s t = record {
-  index = i;
-  typ = ap list_rows o.kind
-      ∙ ap (λ (u : DataType). Some u) (sym o.kind ∙ sym (ap array_type c));
-  spans = record {
-    start_kind = rw a tt;
-    stop_kind = rw b tt;
-    same_size = s ∙ sym t;
-    ordered = λ i p. absurd (omega (arith, p, s));
-  };
-  valid = rw c v;
-  size = s ∙ o.size;
-  items = λ i p. absurd (omega (arith, p, o.size));
-}
 
 pub rows-whole : (x : Layout) (r : RowLists) → IsValid x → is_option (array_type x) ≡ false
     → AreListsAt x None r → AreRowsOf x r

@@ -1,5 +1,5 @@
 -- Items of lists by their starts and stops.
-use Rattle.std.specs.Prelude.{◌≡◌, ℕ, ◌+◌, ◌-◌, ◌<◌, ◌≤◌, length, map}
+use Rattle.std.specs.Prelude.{◌≡◌, ℕ, ◌+◌, ◌-◌, ◌<◌, length, map}
 use Rattle.std.specs.Prelude.{ℤ, pos, negsuc, ◌≤ℤ◌}
 use Rattle.std.specs.List.{range_with_len}
 use Rattle.std.proofs.Common.{arith, ap, ◌∙◌}
@@ -42,12 +42,3 @@ list-items l i =
 pub length-list : (l : Listed) (i : ℕ) → length (lists_by l i) ≡ length_by l i
 length-list l i =
     ap length (list-items l i) ∙ length-map-range_with_len (row_at l i) 0 (length_by l i)
-
--- a list that is not empty ends within
-pub list-end : (l : Listed) (i : ℕ) → AreSpans l.starts l.stops (len l.content)
-    → i < size_of l.starts → 0 < length_by l i
-    → place_at l.starts i + length_by l i ≤ len l.content
-list-end l i s p q =
-    let w : place_by l i (length_by l i - 1) < len l.content =
-    (item_in l i (length_by l i - 1) s p (omega (arith, q))).1 in
-    omega (arith, w, q)

@@ -191,16 +191,6 @@ over_type-end (rec ns ts) w e = absurd e
 over_type-end (opt t) w e = absurd e
 over_type-end (uni ts) w e = absurd e
 
-pub present-end : (u : DataType) → IsEnd u → present u ≡ u
-present-end (leaf p) e = refl
-present-end (tup ts) e = refl
-present-end unknown e = absurd e
-present-end (var t) e = absurd e
-present-end (reg n t) e = absurd e
-present-end (rec ns ts) e = absurd e
-present-end (opt t) e = absurd e
-present-end (uni ts) e = absurd e
-
 over_type-list : (c : Class) (t w : DataType)
     → over_type (list_type c t) w ≡ list_type c (over_type t w)
 over_type-list None t w = refl

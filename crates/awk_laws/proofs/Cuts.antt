@@ -142,18 +142,3 @@ cut-joined class t (v ∷ ls) h =
     (drop-append_seam (list_items v) (joined_items ls)) ∙ cut-joined class t ls h.1)
 
 -- ---- items of lists
-
-pub items_in_list : (class : Class) (t : DataType) (v : Value) → Has (list_type class t) v
-    → AllByRecursion (Has t) (list_items v)
-items_in_list None t (list vs) h = h
-items_in_list (Some n) t (list vs) h = h.1
-items_in_list None t (int z) h = absurd h
-items_in_list None t (truth b) h = absurd h
-items_in_list None t null h = absurd h
-items_in_list None t (row vs) h = absurd h
-items_in_list None t (alt k v) h = absurd h
-items_in_list (Some n) t (int z) h = absurd h
-items_in_list (Some n) t (truth b) h = absurd h
-items_in_list (Some n) t null h = absurd h
-items_in_list (Some n) t (row vs) h = absurd h
-items_in_list (Some n) t (alt k v) h = absurd h

@@ -1,19 +1,18 @@
 -- The made session has eight lines, all within the limits.
-use Rattle.std.proofs.Common.{◌≡◌, ◌<◌, ◌≤◌, ℕ, ◌+◌, List, [], ◌∷◌, ◌++◌, length, refl, ap, sym}
-use Rattle.std.proofs.Common.{◌∙◌, arith, codes, decimal, length-append, append-nil}
+use Rattle.std.proofs.Common.{◌≡◌, ◌<◌, ◌≤◌, ℕ, ◌+◌, List, [], ◌∷◌, ◌++◌, length, refl}
+use Rattle.std.proofs.Common.{arith, codes, decimal, length-append}
 use Rattle.std.specs.List.{AllByRecursion}
 use Rattle.std.proofs.lemmas.Fmt.{length-decimal-le}
 use Rattle.base64.specs.Engines.{standard}
 use Rattle.base64.specs.GeneralPurpose.{encode_of}
-use Rattle.awk_edge.specs.Lines.{Unbroken, lines, ended, unlines, AreLines, line_limit, lines_limit}
-use Rattle.awk_edge.specs.Limits.{IsWithinLimits}
-use Rattle.awk_edge.proofs.LineLaws.{Unbroken-append, lines-unlines, lines-nil, ended-unbroken}
+use Rattle.awk_edge.specs.Lines.{Unbroken, AreLines, line_limit, lines_limit}
+use Rattle.awk_edge.proofs.LineLaws.{Unbroken-append}
 use Rattle.awk_json.proofs.Base64.{encode_of-unbroken}
 use Rattle.awk_json.proofs.Lines.{literal-unbroken, decimal-unbroken}
 use Rattle.awk_made.specs.Draws.{Muon, events}
 use Rattle.awk_made.specs.Session.{load_head, load_line, pairs_line, opposite_line, total_line}
 use Rattle.awk_made.specs.Session.{type_line, count_line, sum_line, max_line, session_lines}
-use Rattle.awk_made.specs.Session.{session_of, offsets_bytes, pts_bytes, charges_bytes}
+use Rattle.awk_made.specs.Session.{offsets_bytes, pts_bytes, charges_bytes}
 use Rattle.awk_made.proofs.Base64Length.{length-encode_of}
 use Rattle.awk_made.proofs.Lengths.{length-offsets, length-pts, length-charges}
 
@@ -111,13 +110,6 @@ session_lines-within n seed few = (
   ),
 )
 
-pub session-lines : (n seed : ℕ) → n ≤ 1000000 → lines (session_of seed n) ≡ session_lines seed n
-unfolding session_of
-session-lines n seed few =
-    let ls = session_lines seed n in
-    ap lines (sym (append-nil (unlines ls))) ∙ lines-unlines ls [] (session_lines-within n seed few)
-    ∙ ap (λ z. ls ++ z) lines-nil
-
 few_lines : 8 ≤ lines_limit
 unfolding lines_limit
 few_lines = omega arith
@@ -126,19 +118,3 @@ all_short : (ls : List (List ℕ)) → AreLines ls
     → AllByRecursion (λ line. length line ≤ line_limit) ls
 all_short [] a = tt
 all_short (l ∷ ls) a = (a.0.1, all_short ls a.1)
-
-pub session-within : (n seed : ℕ) → n ≤ 1000000 → IsWithinLimits (session_of seed n)
-session-within n seed few = record {
-  short =
-      rw (session-lines n seed few) (all_short (session_lines seed n)
-      (session_lines-within n seed few));
-  few = rw (session-lines n seed few) few_lines;
-}
-
--- each of its lines is ended
-pub session-ended : (n seed : ℕ) → n ≤ 1000000 → ended (session_of seed n) ≡ session_lines seed n
-unfolding session_of
-session-ended n seed few =
-    let ls = session_lines seed n in
-    ap ended (sym (append-nil (unlines ls))) ∙ ended-unbroken ls []
-    (session_lines-within n seed few) few_lines tt

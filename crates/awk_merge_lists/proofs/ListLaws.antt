@@ -342,16 +342,6 @@ listing_next ss i x before now e all p h = record {
       ∙ merged_items-with_side (sides_of before.sides) p.content g);
 }
 
--- all room is taken at the end
-pub listing_full : (ss : List Side) (i : ℕ) (m : ListMaker) → length ss ≤ i → AreListSides ss
-    → IsListing ss i m → (length m.starts.items ≡ m.starts.room)
-    × (length m.stops.items ≡ m.stops.room)
-listing_full ss i m n p h =
-    let l = h.lists p.0 p.1 in
-    let e : length (merged_items (take i ss)) ≡ length (merged_items ss) =
-    ap length (merged_items-all ss i n) in
-    (l.starts ∙ e ∙ sym h.starts_room, l.stops ∙ e ∙ sym h.stops_room)
-
 at-made : (c : Column) (zs : List ℤ) (i : ℕ) → c.kind ≡ I64 → c.items ≡ zs
     → at c i ≡ start_of zs i
 at-made c zs i k e =

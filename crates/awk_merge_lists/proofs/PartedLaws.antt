@@ -15,7 +15,7 @@ use Rattle.awk_merge_sides.specs.Sides.{Carries}
 use Rattle.awk_merge_sides.specs.Sides.{IsSide, AreSides, IsCounted}
 use Rattle.awk_merge_sides.specs.declared.sides.Sides.{Sides}
 use Rattle.awk_merge_sides.proofs.SideLaws.{merged_items-with_side, AreSides-with_side, IsSide-get}
-use Rattle.awk_merge_sides.proofs.SideLaws.{merged_items-next, merged_items-all}
+use Rattle.awk_merge_sides.proofs.SideLaws.{merged_items-next}
 use Rattle.awk_merge_lists.specs.ListLevels.{IsRegularLevel}
 use Rattle.awk_merge_lists.specs.Parted.{IsPartsPut, IsParted}
 
@@ -83,13 +83,6 @@ pub record AreParted (ss : List Side) (i : ℕ) (r : Sides) : Type 0 where
   pub items : merged_items (sides_of r) ≡ merged_items (take i ss)
   pub counted : IsCounted r
 
-pub parted-none : (ss : List Side) (r : Sides) → sides_of r ≡ [] → IsCounted r → AreParted ss 0 r
-parted-none ss r e k = record {
-  sides = λ t h. rw e tt;
-  items = ap merged_items e;
-  counted = k;
-}
-
 pub parted-next : (ss : List Side) (i : ℕ) (s : Side) (before now : Sides) → slice_get ss i ≡ Some s
     → IsPartsPut s (sides_of before) (sides_of now) → IsCounted now → AreParted ss i before
     → AreParted ss (i + 1) now
@@ -97,14 +90,6 @@ parted-next ss i s before now e p k h = record {
   sides = λ t j. p.sides t (IsSide-get t ss i s e j) (h.sides t j);
   items = p.items ∙ ap (λ vs. vs ++ side_items s) h.items ∙ sym (merged_items-next ss i s e);
   counted = k;
-}
-
-pub parted-all : (ss : List Side) (i : ℕ) (r : Sides) → length ss ≤ i → AreParted ss i r
-    → IsParted ss r
-parted-all ss i r l h = record {
-  sides = h.sides;
-  items = h.items ∙ merged_items-all ss i l;
-  counted = h.counted;
 }
 
 -- ---- the level of their lists

@@ -1,5 +1,5 @@
 -- What carries keep: nulls, shapes of values, and the values of parts of types.
-use Rattle.std.proofs.Common.{◌≡◌, ◌≢◌, ◌∷◌, [], ℕ, true, false, refl, subst, sym, ◌∙◌}
+use Rattle.std.proofs.Common.{◌≡◌, ◌≢◌, ◌∷◌, [], true, false, refl, subst, sym, ◌∙◌}
 use Rattle.awk_types.proofs.SimpleLaws.{has_option, null_in_option}
 use Rattle.awk_types.specs.DataType.{DataType, leaf, opt, rec, reg, tup, uni, unknown, var}
 use Rattle.awk_types.specs.Has.{Has}
@@ -96,14 +96,6 @@ leaf_scalar p (int z) h = tt
 leaf_scalar p (truth b) h = tt
 leaf_scalar p v h = absurd h
 
-pub var_list : (t : DataType) (v : Value) → Has (var t) v → IsList v
-var_list t (list vs) h = tt
-var_list t v h = absurd h
-
-pub reg_list : (n : ℕ) (t : DataType) (v : Value) → Has (reg n t) v → IsList v
-reg_list n t (list vs) h = tt
-reg_list n t v h = absurd h
-
 -- what becomes a number is that number
 pub scalar_stays : (f : Carry) (v : Value) → IsScalar (carried f v) → carried f v ≡ v
 scalar_stays keep v h = refl
@@ -125,28 +117,6 @@ scalar_stays (to_alternatives ts fs) null h = refl
 scalar_stays (to_alternatives ts fs) (list vs) h = absurd h
 scalar_stays (to_alternatives ts fs) (row vs) h = absurd h
 scalar_stays (to_alternatives ts fs) (alt k v) h = absurd h
-
--- what becomes a list is one, and what becomes a row is one
-pub list_before : (f : Carry) (v : Value) → IsList (carried f v) → IsList v
-list_before keep v h = h
-list_before (in_items f) (list vs) h = tt
-list_before (in_items f) (int z) h = h
-list_before (in_items f) (truth b) h = h
-list_before (in_items f) null h = h
-list_before (in_items f) (row vs) h = h
-list_before (in_items f) (alt k v) h = h
-list_before (to_parts ps fs) (list vs) h = tt
-list_before (to_parts ps fs) (int z) h = h
-list_before (to_parts ps fs) (truth b) h = h
-list_before (to_parts ps fs) null h = h
-list_before (to_parts ps fs) (row vs) h = absurd h
-list_before (to_parts ps fs) (alt k v) h = h
-list_before (to_alternatives ts fs) (list vs) h = tt
-list_before (to_alternatives ts fs) (int z) h = absurd h
-list_before (to_alternatives ts fs) (truth b) h = absurd h
-list_before (to_alternatives ts fs) null h = absurd h
-list_before (to_alternatives ts fs) (row vs) h = absurd h
-list_before (to_alternatives ts fs) (alt k v) h = absurd h
 
 pub row_before : (f : Carry) (v : Value) → IsRow (carried f v) → IsRow v
 row_before keep v h = h
@@ -236,19 +206,6 @@ leaf_type_of a (list vs) n s h = absurd s
 leaf_type_of a (row vs) n s h = absurd s
 leaf_type_of a (alt k v) n s h = absurd s
 
--- with a value at hand: what becomes lists is of a list's type, and so of rows and numbers
-pub lists_before : (a t : DataType) (f : Carry) (v : Value) → Has a v → Carries a f (var t)
-    → IsListType a
-lists_before a t f v h c =
-    list_type a v (no_option a (var t) f (λ n. n) c)
-    (list_before f v (var_list t (carried f v) (c v h))) h
-
-pub sized_lists_before : (n : ℕ) (a t : DataType) (f : Carry) (v : Value) → Has a v
-    → Carries a f (reg n t) → IsListType a
-sized_lists_before n a t f v h c =
-    list_type a v (no_option a (reg n t) f (λ k. k) c)
-    (list_before f v (reg_list n t (carried f v) (c v h))) h
-
 pub leaves_before : (p : Primitive) (a : DataType) (f : Carry) (v : Value) → Has a v
     → Carries a f (leaf p) → IsLeafType a
 leaves_before p a f v h c =
@@ -269,8 +226,3 @@ single u keep v h = h.0
 single u (in_items g) v h = h.0
 single u (to_parts ps fs) v h = h.0
 single u (to_alternatives ts fs) v h = absurd h
-
--- what carries lists carries their items
-pub Carries-items : (a u : DataType) (f : Carry) → Carries (var a) f (var u)
-    → Carries a (items_carry f) u
-Carries-items a u f c v h = single u f v (c (list (values_from (v ∷ []))) (h, tt))

@@ -10,11 +10,11 @@ use Rattle.std.specs.List.{range_with_len}
 use Rattle.awk_base.proofs.Lists.{drop-get}
 use Rattle.awk_unify.proofs.Views.{lift_of-Alternatives, lift_of-Parts}
 use Rattle.awk_unify.specs.Carries.{carry_at}
-use Rattle.awk_unify.specs.Carry.{Carry, carries_from, carry_list, keep, tag_at}
+use Rattle.awk_unify.specs.Carry.{Carry, carries_from, carry_list, keep}
 use Rattle.awk_unify.specs.View.{lift_of, lifts_of}
 use Rattle.awk_unify.specs.declared.lift.Lift.{Alternatives, Lift, Parts}
 use Rattle.awk_unify.specs.declared.lift.Lifts.{Lifts}
-use Rattle.awk_merge_sides.specs.Lifts.{alternative_carry, alternative_tag, part_carry, part_source}
+use Rattle.awk_merge_sides.specs.Lifts.{alternative_carry, part_carry, part_source}
 use Rattle.awk_merge_sides.specs.Lifts.{source_at, AreSources}
 
 -- ---- variants
@@ -34,11 +34,6 @@ pub part_carry-Parts : (f : Lift) (ps : List ℕ) (parts : Lifts) (k : ℕ) → 
 part_carry-Parts f ps parts k e =
     sym (ap (λ c. part_carry c k) (ap lift_of e ∙ lift_of-Parts ps parts)
     ∙ ap (λ fs. carry_at fs k) (carry_list-from (lifts_of parts)))
-
-pub tag-Alternatives : (f : Lift) (ts : List ℕ) (parts : Lifts) (k : ℕ) → f ≡ Alternatives ts parts
-    → tag_at ts k ≡ alternative_tag (lift_of f) k
-tag-Alternatives f ts parts k e =
-    sym (ap (λ c. alternative_tag c k) (ap lift_of e ∙ lift_of-Alternatives ts parts))
 
 pub alternative_carry-Alternatives : (f : Lift) (ts : List ℕ) (parts : Lifts) (k : ℕ)
     → f ≡ Alternatives ts parts → carry_at (lifts_of parts) k ≡ alternative_carry (lift_of f) k

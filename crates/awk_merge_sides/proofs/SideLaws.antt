@@ -7,7 +7,7 @@ use Rattle.std.proofs.lemmas.List.{append-nil, length-append, length-map, map-ap
 use Rattle.std.proofs.lemmas.List.{get_or_append_left, get_or-append-add, take_all}
 use Rattle.std.specs.List.{AllByRecursion}
 use Rattle.std.specs.Prelude.{OnErr}
-use Rattle.awk_base.proofs.Every.{all-append, all-impl}
+use Rattle.awk_base.proofs.Every.{all-append}
 use Rattle.awk_base.proofs.Lists.{take-get}
 use Rattle.awk_types.proofs.SimpleLaws.{has_each}
 use Rattle.awk_types.specs.DataType.{DataType}
@@ -160,10 +160,6 @@ AreSides-with_side t ss x f h k = with_all t ss x f (len x == 0) refl h k
 pub IsSide-get : (t : DataType) (ss : List Side) (i : ℕ) (s : Side) → slice_get ss i ≡ Some s
     → AreSides t ss → IsSide t s
 IsSide-get t ss i s e h = all-get (IsSide t) ss i s e h
-
-pub AreSides-impl : (t u : DataType) (ss : List Side) → ((s : Side) → IsSide t s → IsSide u s)
-    → AreSides t ss → AreSides u ss
-AreSides-impl t u ss f h = all-impl (IsSide t) (IsSide u) ss f h
 
 pub merged_items-next : (ss : List Side) (i : ℕ) (s : Side) → slice_get ss i ≡ Some s
     → merged_items (take (i + 1) ss) ≡ merged_items (take i ss) ++ side_items s

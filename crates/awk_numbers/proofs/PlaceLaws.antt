@@ -5,7 +5,7 @@ use Rattle.std.specs.Prelude.{ℤ, pos, Bool, true, false, ◌==◌, Option, Som
 use Rattle.std.specs.Prelude.{if◌then◌else◌, IfSome}
 use Rattle.std.specs.List.{slice_range}
 use Rattle.std.specs.Option.{option_map}
-use Rattle.std.proofs.lemmas.List.{drop_more, length-map, drop_all}
+use Rattle.std.proofs.lemmas.List.{drop_more, length-map}
 use Rattle.std.proofs.lemmas.List.Edits.{length-between}
 use Rattle.awk_numbers.specs.Places.{is_place, nth_true, nth_place}
 
@@ -17,56 +17,12 @@ further i o = option_map (λ k. i + k) o
 abbrev pub IsLeft : ℕ → ℕ → List ℤ → ℕ → Type 0
 IsLeft before left zs i = nth_place before zs ≡ further i (nth_place left (drop i zs))
 
-further_none : (o : Option ℕ) → o ≡ further 0 o
-further_none None = refl
-further_none (Some k) = let e : k ≡ 0 + k = omega arith in ap Some e
-
-further_one : (i : ℕ) (o : Option ℕ) → further i (option_map suc o) ≡ further (i + 1) o
-further_one i None = refl
-further_one i (Some k) = let e : i + suc k ≡ i + 1 + k = omega arith in ap Some e
-
-pub left_all : (before : ℕ) (zs : List ℤ) → IsLeft before before zs 0
-left_all before zs = further_none (nth_place before zs)
-
 -- the numbers from a place on, the first of them apart
 next : (n i : ℕ) (zs : List ℤ) (b : Bool) → i < length zs → is_place (get_or zs i (pos 0)) ≡ b
     → nth_place n (drop i zs) ≡ nth_true n (b ∷ map is_place (drop (i + 1) zs))
 next n i zs b l e =
     ap (nth_place n) (drop_more zs i (pos 0) l)
     ∙ ap (λ c. nth_true n (c ∷ map is_place (drop (i + 1) zs))) e
-
--- one number more that is no place
-pub left_kept : (before left : ℕ) (zs : List ℤ) (i : ℕ) → i < length zs
-    → is_place (get_or zs i (pos 0)) ≡ false → IsLeft before left zs i
-    → IsLeft before left zs (i + 1)
-left_kept before left zs i l e h =
-    h ∙ ap (further i) (next left i zs false l e)
-    ∙ further_one i (nth_place left (drop (i + 1) zs))
-
--- one place more that is not looked for
-pub left_less : (before left : ℕ) (zs : List ℤ) (i : ℕ) → i < length zs
-    → is_place (get_or zs i (pos 0)) ≡ true → (left == 0) ≡ false → IsLeft before left zs i
-    → IsLeft before (left - 1) zs (i + 1)
-left_less before left zs i l e n h =
-    h ∙ ap (further i) (next left i zs true l e
-    ∙ ap (λ b. if b then Some 0 else option_map suc (nth_place (left - 1) (drop (i + 1) zs))) n)
-    ∙ further_one i (nth_place (left - 1) (drop (i + 1) zs))
-
--- the place that is looked for
-pub left_found : (before left : ℕ) (zs : List ℤ) (i : ℕ) → i < length zs
-    → is_place (get_or zs i (pos 0)) ≡ true → (left == 0) ≡ true → IsLeft before left zs i
-    → Some i ≡ nth_place before zs
-left_found before left zs i l e n h =
-    let here : i ≡ i + 0 = omega arith in
-    ap Some here
-    ∙ sym (h ∙ ap (further i) (next left i zs true l e
-    ∙ ap (λ b. if b then Some 0 else option_map suc (nth_place (left - 1) (drop (i + 1) zs))) n))
-
--- none is left
-pub left_none : (before left : ℕ) (zs : List ℤ) (i : ℕ) → length zs ≤ i → IsLeft before left zs i
-    → None ≡ nth_place before zs
-left_none before left zs i l h =
-    sym (h ∙ ap (λ ys. further i (nth_place left ys)) (drop_all i zs l))
 
 later : (n k : ℕ) (o : Option ℕ) → option_map suc o ≡ Some k → ((m : ℕ) → o ≡ Some m → m < n)
     → k < suc n

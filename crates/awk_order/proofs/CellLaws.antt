@@ -1,5 +1,5 @@
 -- Arrays of leaves as cells, by what they are opened as.
-use Rattle.std.proofs.Common.{◌≡◌, refl, ap, sym, ◌∙◌, arith, [], true≢false}
+use Rattle.std.proofs.Common.{◌≡◌, refl, ap, sym, ◌∙◌, arith, true≢false}
 use Rattle.std.specs.Prelude.{ℤ, pos, negsuc, ◌<ℤ◌, Bool, true, false, Some}
 use Rattle.std.specs.Prelude.{option_map, if◌then◌else◌}
 use Rattle.std.proofs.lemmas.Int.{ints}
@@ -47,18 +47,6 @@ leaf_numbers x c o = record {
     items = λ i l. ap option_number (o.items i l) ∙ leaf_number c.kind _;
   };
 }
-
-pub none_numbers : (x : Layout) (c : Column) → IsOpened x opened.Empty → c.items ≡ []
-    → AreNumbers x c
-none_numbers x c o e =
-    let none : 0 ≡ len x = o.size in
-    record {
-      typ = λ known. absurd (known o.kind);
-      cells = record {
-        cells = rw e (sym none);
-        items = λ i l. absurd (omega (arith, l, none));
-      };
-    }
 
 pub optional_numbers : (x : Layout) (j c : Column) (y : Layout)
     → IsOpened x (opened.Option j y) → AreNumbers y c → AreItemCells x c (Some j)

@@ -42,22 +42,6 @@ opened_lists x l h = record {
   items = h.items;
 }
 
-pub opened_class : (x : Layout) (l : Listed) → OpensLists l.class l.starts l.stops l.content x
-    → role false (array_type x) ≡ listed l.class
-opened_class x l h = ap (role false) h.typ ∙ by l.class
-  where
-    by : (c : Class) → role false (list_type c (array_type l.content)) ≡ listed c
-    by None = refl
-    by (Some n) = refl
-
-pub unknown_lists : (x : Layout) (l : Listed) → array_type x ≡ unknown → len x ≡ 0
-    → size_of l.starts ≡ 0 → l.content ≡ x → AreListsOf (len x) x l
-unknown_lists x l u e s c = record {
-  size = s ∙ sym e;
-  typ = ap array_type c ∙ u ∙ ap item_of (sym u);
-  items = λ i h. absurd (omega (arith, h, e));
-}
-
 -- ---- lists of size 1
 
 pub not_other : (t : DataType) → is_single t ≡ true → is_list_or_unknown t ≡ true

@@ -5,26 +5,23 @@ use Rattle.std.specs.Prelude.{List, [], ◌∷◌, ◌++◌, map, length, slice_
 use Rattle.std.specs.Prelude.{unwrap_or, is_some}
 use Rattle.std.proofs.lemmas.Int.{ints}
 use Rattle.std.specs.List.{list_all, flat_map, range_with_len, AllByRecursion}
-use Rattle.std.proofs.lemmas.List.{drop_all, take_all}
+use Rattle.std.proofs.lemmas.List.{take_all}
 use Rattle.std.proofs.lemmas.Bool.{and_parts}
 use Rattle.awk_base.proofs.Ranges.{map-in}
 use Rattle.awk_base.proofs.Lists.{drop-get, take-get}
-use Rattle.awk_types.specs.DataType.{DataType}
 use Rattle.awk_types.specs.Datum.{Datum, arr, one}
-use Rattle.awk_types.specs.Value.{Value}
 use Rattle.awk_lanes.specs.Column.{Column}
 use Rattle.awk_lanes.specs.Places.{size_of, place_at, at, IsIndex}
 use Rattle.awk_lanes.specs.Made.{lane_of}
 use Rattle.awk_lanes.specs.Numbers.{nat_of}
 use Rattle.awk_lanes.specs.declared.kind.Kind.TheVariants.{I64}
 use Rattle.awk_lanes.proofs.MadeLanes.{size-lane_of, at-lane_of}
-use Rattle.awk_layout.specs.Datum.{datum_of, IsDatum}
 use Rattle.awk_layout.specs.Layout.{Layout}
 use Rattle.awk_layout.specs.Single.{own_datum}
 use Rattle.awk_layout.specs.Typing.{array_type}
 use Rattle.awk_layout.specs.Valid.{len}
 use Rattle.awk_layout.specs.declared.datum.Datum.{Datum as Kept}
-use Rattle.awk_layout.specs.declared.datum.Datum.TheVariants.{Arr, One}
+use Rattle.awk_layout.specs.declared.datum.Datum.TheVariants.{Arr}
 use Rattle.awk_layout.specs.declared.datum.Operand.{Operand}
 use Rattle.awk_layout.specs.declared.datum.Operand.TheVariants.{Of}
 use Rattle.awk_layout.proofs.ArrayItems.{length-array_items, get_or-array_items}
@@ -43,16 +40,6 @@ use Rattle.awk_pair_sides.specs.Sides.{equally_long, each}
 use Rattle.awk_pair_sides.proofs.RangeLaws.{flat-map}
 
 -- ---- columns
-
-pub kept_column : (x : Layout) → IsColumn (datum_of (Arr x)) x
-kept_column x = (refl, refl)
-
-pub single_column : (x : Layout) → IsDatum (One x) → IsColumn (datum_of (One x)) x
-single_column x h = (refl, h, refl)
-
-pub literal_column : (y : Layout) (t : DataType) (v : Value) → datum_of (One y) ≡ one t v
-    → len y ≡ 1 → IsColumn (one t v) y
-literal_column y t v e l = (ap item_type e, l, ap single_value e)
 
 columns-append : (ds : List Datum) (ys : List Layout) (d : Datum) (y : Layout) → AreColumns ds ys
     → IsColumn d y → AreColumns (ds ++ d ∷ []) (ys ++ y ∷ [])
@@ -116,9 +103,6 @@ lengths-data xs =
 pub lengths_next : (xs : List Operand) (i : ℕ) (x : Operand) → slice_get xs i ≡ Some x
     → array_lengths (drop i xs) ≡ operand_lengths x ++ array_lengths (drop (i + 1) xs)
 lengths_next xs i x e = ap array_lengths (drop-get xs i x e)
-
-pub lengths_end : (xs : List Operand) (i : ℕ) → length xs ≤ i → array_lengths (drop i xs) ≡ []
-lengths_end xs i l = ap array_lengths (drop_all i xs l)
 
 -- one more array that is as long, or none
 pub long_same : (n : ℕ) (ms ns : List ℕ) → list_all (λ m. n == m) (ms ++ ns)

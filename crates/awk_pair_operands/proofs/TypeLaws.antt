@@ -1,15 +1,13 @@
 -- The types of operands so many levels down, and the ends of a pairing by them.
-use Rattle.std.proofs.Common.{◌≡◌, ℕ, zero, suc, ◌+◌, ◌-◌, ◌<◌, ◌≤◌, Bool, true, false, not}
+use Rattle.std.proofs.Common.{◌≡◌, ℕ, zero, suc, ◌+◌, ◌-◌, ◌<◌, Bool, true, false, not}
 use Rattle.std.proofs.Common.{refl, ap, arith, sym, subst, ◌∙◌, drop}
-use Rattle.std.specs.Prelude.{List, map, length, slice_get, Some, None, Option}
-use Rattle.std.specs.Prelude.{ℤ, max, min, nat_lt, if◌then◌else◌}
+use Rattle.std.specs.Prelude.{List, map, slice_get, Some, None, Option}
+use Rattle.std.specs.Prelude.{ℤ, max, if◌then◌else◌}
 use Rattle.std.specs.List.{list_any, list_all}
-use Rattle.std.proofs.lemmas.List.{drop_all}
 use Rattle.std.proofs.lemmas.Simd.{map-map}
 use Rattle.awk_base.proofs.Lists.{drop-get}
 use Rattle.awk_types.specs.DataType.{DataType, leaf}
 use Rattle.awk_types.specs.DataType.{depth}
-use Rattle.awk_types.specs.Limit.{Limit, depth_limit, limit}
 use Rattle.awk_types.specs.Predicates.{is_leaf, is_list}
 use Rattle.awk_types.specs.Simple.{present}
 use Rattle.awk_types.specs.declared.primitive.Primitive.{Primitive}
@@ -33,14 +31,6 @@ use Rattle.awk_pair_sides.proofs.TestLaws.{any-map, all-map}
 pub down-leaf : (k : ℕ) (p : Primitive) → down k (leaf p) ≡ leaf p
 down-leaf zero p = refl
 down-leaf (suc k) p = down-leaf k p
-
-pub down-first : (t : DataType) → down 0 t ≡ present t
-down-first t = refl
-
-pub down-next : (k : ℕ) (t : DataType) → 0 < k → down k t ≡ down (k - 1) (item_of (present t))
-down-next zero t h = absurd (omega (arith, h))
-down-next (suc k) t h =
-    let e : suc k - 1 ≡ k = omega arith in ap (λ j. down j (item_of (present t))) (sym e)
 
 -- ---- all types
 
@@ -130,9 +120,6 @@ wrong_last xs d k b h e =
 abbrev pub depths_from : ℕ → List Operand → ℕ → ℕ
 depths_from g xs i = max g (all_levels (map operand_type (drop i xs)))
 
-pub depths_first : (xs : List Operand) → depths_from 0 xs 0 ≡ all_levels (map operand_type xs)
-depths_first xs = omega arith
-
 pub depths_next : (xs : List Operand) (i : ℕ) (x : Operand) (g d m : ℕ) → slice_get xs i ≡ Some x
     → d ≡ depth (operand_type x) → depths_from g xs i ≡ m → depths_from (max g d) xs (i + 1) ≡ m
 depths_next xs i x g d m e f h =
@@ -141,26 +128,11 @@ depths_next xs i x g d m e f h =
     ap (λ ys. all_levels (map operand_type ys)) (drop-get xs i x e) in
     omega (arith, s, f, h)
 
-pub depths_end : (xs : List Operand) (i g m : ℕ) → length xs ≤ i → depths_from g xs i ≡ m → g ≡ m
-depths_end xs i g m l h =
-    let s : all_levels (map operand_type (drop i xs)) ≡ 0 =
-    ap (λ ys. all_levels (map operand_type ys)) (drop_all i xs l) in
-    omega (arith, s, h)
-
 -- ---- operands
 
 pub type-kept : (d : Datum) → item_type (datum_of d) ≡ array_type (kept d)
 type-kept (Arr x) = refl
 type-kept (One x) = refl
-
-depth-by : (n : ℕ) (b : Bool) (f : Option Limit) → nat_lt 60 n ≡ b
-    → (if b then Some depth_limit else f) ≡ None → min n 18446744073709551615 ≡ n
-depth-by n true f e h = cc
-depth-by n false f e h = let l : n ≤ 60 = grind (arith, e) in omega (arith, l)
-
--- the type of an array is within the limit of depth
-pub depth_fits : (t : DataType) → limit t ≡ None → min (depth t) 18446744073709551615 ≡ depth t
-depth_fits t h = depth-by (depth t) (nat_lt 60 (depth t)) _ refl h
 
 -- ---- by the depth that is asked for
 

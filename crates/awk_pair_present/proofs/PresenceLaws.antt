@@ -17,7 +17,7 @@ use Rattle.awk_lanes.specs.Counted.{before, offsets_by}
 use Rattle.awk_lanes.specs.Made.{lane_of}
 use Rattle.awk_lanes.specs.Numbers.{nat_of}
 use Rattle.awk_lanes.specs.Places.{size_of, at, place_at, option_place}
-use Rattle.awk_lanes.specs.Places.{IsIndex, IsIndexKind}
+use Rattle.awk_lanes.specs.Places.{IsIndex}
 use Rattle.awk_lanes.specs.declared.kind.Kind.TheVariants.{I64}
 use Rattle.awk_layout.specs.Item.{at_option}
 use Rattle.awk_layout.specs.Layout.{Layout}
@@ -377,11 +377,6 @@ pub kept_positive : (n : ℕ) (ps : List Presence) (ks : Column)
 kept_positive n ps ks e =
     subst (λ w. (q : ℕ) → q < size_of w → pos 0 ≤ℤ at w q) (sym e)
     (λ q a. ((repeats_index (kept_length ps) n).places q a).0)
-
--- the offsets of the rows that are kept
-pub counts_kind : (ps : List Presence) (n : ℕ) (o : Column) → o ≡ offsets_by (kept_length ps) n
-    → IsIndexKind o.kind
-counts_kind ps n o e = subst (λ c. IsIndexKind c.kind) (sym e) tt
 
 pub counts_within : (ps : List Presence) (n i : ℕ) (o : Column)
     → o ≡ offsets_by (kept_length ps) n → i < n → i < size_of o

@@ -1,12 +1,11 @@
 -- Tests of the items of a list, one after another.
-use Rattle.std.proofs.Common.{◌≡◌, ℕ, ◌+◌, ◌≤◌, Bool, true, false, not, ◌&&◌, ◌||◌, refl, ap, sym}
+use Rattle.std.proofs.Common.{◌≡◌, ℕ, ◌+◌, ◌≤◌, Bool, true, false, ◌&&◌, ◌||◌, refl, ap, sym}
 use Rattle.std.proofs.Common.{subst, ◌∙◌, drop}
 use Rattle.std.specs.Prelude.{List, [], ◌∷◌, map, length, slice_get, Some}
 use Rattle.std.specs.List.{list_any, list_all}
 use Rattle.std.proofs.lemmas.List.{drop_all}
 use Rattle.std.proofs.lemmas.Bool.{and_parts}
 use Rattle.awk_base.proofs.Lists.{drop-get}
-use Rattle.awk_pair_sides.specs.Levels.{unless}
 
 pub any_next : {A : Type 0} (f : A → Bool) (xs : List A) (i : ℕ) (x : A) (b : Bool)
     → slice_get xs i ≡ Some x → f x ≡ false → list_any f (drop i xs) ≡ b
@@ -56,9 +55,3 @@ all-map f g (x ∷ xs) = ap (λ b. f (g x) && b) (all-map f g xs)
 
 pub second : (a b : Bool) → a && b ≡ true → b ≡ true
 second a b e = (and_parts a b e).1
-
-pub both_not : (a b : Bool) → a && not b ≡ unless b a
-both_not true true = refl
-both_not false true = refl
-both_not true false = refl
-both_not false false = refl

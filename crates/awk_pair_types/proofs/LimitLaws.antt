@@ -1,12 +1,10 @@
 -- The fault of a type that passes a limit, and faults that are want of memory.
-use Rattle.std.proofs.Common.{◌≡◌, refl, ap, sym, ◌∙◌}
+use Rattle.std.proofs.Common.{◌≡◌, ap, sym, ◌∙◌}
 use Rattle.std.specs.Prelude.{None, Ok, option_map}
 use Rattle.awk_types.specs.DataType.{DataType}
 use Rattle.awk_types.specs.Faults.{fault_of, fault_told, limit_fault}
 use Rattle.awk_types.specs.Gives.{Told, refused_or}
 use Rattle.awk_types.specs.Limit.{limit, limit_told, depth_limit, size_limit}
-use Rattle.awk_types.specs.declared.fault.Fault.{Fault}
-use Rattle.awk_types.specs.declared.fault.Fault.TheVariants as fault
 use Rattle.awk_types.specs.declared.limit.TypeFault.{TypeFault}
 use Rattle.awk_types.specs.declared.limit.TypeFault.TheVariants as refused
 use Rattle.awk_types.proofs.RefusalLaws.{refused_or-Err}
@@ -30,17 +28,3 @@ pub limit_fine : (t u : DataType) → u ≡ t → limit u ≡ None
 limit_fine t u e l =
     ap (λ o. refused_or (option_map limit_fault o) t) (sym (ap limit e) ∙ l)
     ∙ ap (λ v. Ok v) (sym e)
-
--- a fault that tells none is want of memory
-pub only_memory : (e : Fault) → fault_told e ≡ None → e ≡ fault.NoMemory
-only_memory (fault.Unbound n) h = cc
-only_memory (fault.NoField n) h = cc
-only_memory fault.Axis h = cc
-only_memory fault.WrongType h = cc
-only_memory fault.Overflow h = cc
-only_memory fault.Zero h = cc
-only_memory fault.Depth h = cc
-only_memory fault.Size h = cc
-only_memory fault.Lengths h = cc
-only_memory fault.Index h = cc
-only_memory fault.NoMemory h = refl

@@ -11,7 +11,7 @@ use Rattle.awk_lanes.specs.declared.kind.Kind.TheVariants.{I64}
 use Rattle.awk_numbers.specs.Folds.{beats, first_extreme}
 use Rattle.awk_numbers.specs.declared.extremes.Extreme.{Extreme}
 use Rattle.awk_numbers.specs.declared.extremes.Extreme.TheVariants.{Least, Greatest}
-use Rattle.awk_numbers.proofs.ExtremeLaws.{IsFirst, first_alone, first_kept, first_new, first_found}
+use Rattle.awk_numbers.proofs.ExtremeLaws.{IsFirst, first_kept, first_new, first_found}
 use Rattle.awk_parts.specs.Extremes.{IsExtreme}
 use Rattle.awk_parts.specs.Lanes.{number_or_zero}
 
@@ -25,12 +25,6 @@ eights-count gs = length-map gs (number I64)
 pub record IsBest (how : Extreme) (gs : List (List ℕ)) (i : ℕ) (z : ℤ) : Type 0 where
   pub place : ℕ
   pub first : IsFirst how (map (number I64) gs) i place z
-
-pub best_alone : (how : Extreme) (gs : List (List ℕ)) (z : ℤ) → 0 < length gs
-    → z ≡ get_or (map (number I64) gs) 0 (pos 0) → IsBest how gs 0 z
-best_alone how gs z l e =
-    let some : 0 < length (eights gs) = omega (arith, l, eights-count gs) in
-    record { place = 0; first = first_alone how (eights gs) z some e }
 
 pub best_kept : (how : Extreme) (gs : List (List ℕ)) (i : ℕ) (x z : ℤ)
     → z ≡ get_or (map (number I64) gs) i (pos 0) → beats how z x ≡ false → IsBest how gs i x
@@ -70,13 +64,6 @@ best_found how gs i z l h =
 pub record IsNext (gs : List (List ℕ)) (z : ℤ) (i place : ℕ) : Type 0 where
   pub next : (k : ℕ) → i ≤ k → k < length gs → get_or (map (number I64) gs) k (pos 0) ≡ z
       → (place ≤ k) × (get_or (map (number I64) gs) place (pos 0) ≡ z)
-
-pub next_none : (gs : List (List ℕ)) (z : ℤ) (i place : ℕ) → length gs ≤ i → IsNext gs z i place
-next_none gs z i place l = record { next = λ k p q e. absurd (omega (arith, l, p, q)) }
-
-pub next_here : (gs : List (List ℕ)) (z y : ℤ) (i : ℕ)
-    → y ≡ get_or (map (number I64) gs) i (pos 0) → y ≡ z → IsNext gs z i i
-next_here gs z y i e h = record { next = λ k p q f. (p, sym e ∙ h) }
 
 pub next_past : (gs : List (List ℕ)) (z y : ℤ) (i place : ℕ)
     → y ≡ get_or (map (number I64) gs) i (pos 0) → (y ≡ z → ⊥) → IsNext gs z (i + 1) place

@@ -1,10 +1,8 @@
 -- Numbers that fit a primitive, one more, and those that are too far from 0.
-use Rattle.std.proofs.Common.{◌≡◌, ℕ, ◌+◌, ◌≤◌, arith, refl, ap, ◌∙◌, ltb-true}
-use Rattle.std.specs.Prelude.{ℤ, Bool, true, false, nat_lt, unsigned_abs}
+use Rattle.std.proofs.Common.{◌≡◌, ℕ, ◌+◌, arith, refl, ap, ◌∙◌, ltb-true}
+use Rattle.std.specs.Prelude.{ℤ, Bool, true, false, nat_lt}
 use Rattle.std.proofs.lemmas.Bool.{ltb-false}
-use Rattle.std.proofs.lemmas.Int.{ints}
 use Rattle.awk_types.specs.declared.primitive.Primitive.{Primitive}
-use Rattle.awk_types.specs.declared.primitive.Primitive.TheVariants as primitive
 use Rattle.awk_parts.specs.Fits.{fits, AllFit}
 
 pub AllFit-more : (p : Primitive) (f : ℕ → ℤ) (n : ℕ) → AllFit p f n → fits p (f n) ≡ true
@@ -16,15 +14,3 @@ AllFit-more p f n h e i l = by (nat_lt i n) refl
     by false before =
         let same : i ≡ n = omega (arith, l, ltb-false i n before) in
         ap (λ i. fits p (f i)) same ∙ e
-
--- no primitive holds a number that is so far
-pub far_unfit : (p : Primitive) (z : ℤ) → 18446744073709551616 ≤ unsigned_abs z → fits p z ≡ false
-far_unfit primitive.Bool z h = grind (arith, ints)
-far_unfit primitive.I8 z h = grind (arith, ints)
-far_unfit primitive.I16 z h = grind (arith, ints)
-far_unfit primitive.I32 z h = grind (arith, ints)
-far_unfit primitive.I64 z h = grind (arith, ints)
-far_unfit primitive.U8 z h = grind (arith, ints)
-far_unfit primitive.U16 z h = grind (arith, ints)
-far_unfit primitive.U32 z h = grind (arith, ints)
-far_unfit primitive.U64 z h = grind (arith, ints)

@@ -13,13 +13,11 @@ use Rattle.awk_base.proofs.Every.{all_range}
 use Rattle.awk_places.specs.Begun.{reserved, longer, rest_count, last_place, begun_by, again}
 use Rattle.awk_places.specs.Begun.{places_of, Fits}
 use Rattle.awk_places.specs.declared.begun.Begun.{Begun}
-use Rattle.awk_places.specs.Places.{before_each, next_place, rising_places, after_each, next_after}
+use Rattle.awk_places.specs.Places.{before_each, next_place, after_each, next_after}
 use Rattle.awk_places.specs.Places.{places_from, rising_from}
 use Rattle.awk_places.proofs.FlatLaws.{flat-flat, map-flat, flat-same, map-same}
 use Rattle.awk_places.proofs.FlatLaws.{flat-same-all, all-map, all-append, all-flat}
 use Rattle.awk_places.proofs.Levels.{rising_from-more, room_after}
-use Rattle.awk_places.proofs.Paths.{with_replacement, without_replacement, none_chosen}
-use Rattle.awk_places.proofs.Paths.{paths-further}
 use Rattle.awk_places.proofs.RisingLaws.{rising_count, length-rising_from, length-rising_places}
 
 -- ---- no room
@@ -357,48 +355,6 @@ rising_from-shift rep c (suc n) a m =
     ∙ sym (map-map (map (λ k. c + k)) (λ (ks : List ℕ). k ∷ ks)
     (rising_from rep n (next_place rep k) m))) (range_with_len a (m - a))
     ∙ sym (map-flat (map (λ k. c + k)) g (range_with_len a (m - a)))
-
--- ---- how many are begun
-
--- no more than there are tuples
-count-begun : (rep : Bool) (j left d : ℕ)
-    → rising_count rep (suc j) (d - reserved rep left) ≤ rising_count rep (suc j + left) d
-count-begun true j left zero = omega arith
-count-begun true j left (suc d) =
-    let e : suc d - 0 ≡ suc d = omega arith in
-    rw e (omega (
-      arith,
-      with_replacement (suc j) d,
-      with_replacement (suc j + left) d,
-      paths-further d (suc j) left,
-    ))
-count-begun false j left d = go (nat_lt d (suc j + left)) refl
-  where
-    go : (b : Bool) → nat_lt d (suc j + left) ≡ b
-        → rising_count false (suc j) (d - left) ≤ rising_count false (suc j + left) d
-    go true t =
-        let l = ltb-true d (suc j + left) t in
-        let e = none_chosen (suc j) (d - left) (omega (arith, l)) in
-        omega (arith, e)
-    go false t =
-        let l = ltb-false d (suc j + left) t in
-        let a : ℕ = d - (suc j + left) in
-        omega (
-          arith,
-          without_replacement (suc j) a (d - left) (omega (arith, l)),
-          without_replacement (suc j + left) a d (omega (arith, l)),
-          paths-further a (suc j) left,
-        )
-
-pub begun-few : (rep : Bool) (j left a m : ℕ)
-    → length (rising_from rep (suc j) a (m - reserved rep left))
-    ≤ length (rising_places rep (suc j + left) (m - a))
-begun-few rep j left a m =
-    let e : m - reserved rep left - a ≡ m - a - reserved rep left = omega arith in
-    let p = count-from rep (suc j) a (m - reserved rep left) ∙ ap (rising_count rep (suc j)) e in
-    let q = length-rising_places rep (suc j + left) (m - a) in
-    let r = count-begun rep j left (m - a) in
-    omega (arith, p, q, r)
 
 -- ---- places that fit a lane
 

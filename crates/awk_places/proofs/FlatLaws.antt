@@ -133,16 +133,3 @@ numbers-flat m h (suc n) =
     (sym (append-nil (map (h n) (range_with_len 0 (m n)))))
     ∙ sym (flat_map-append (λ i. map (h i) (range_with_len 0 (m i))) (range_with_len 0 n) (n ∷ []))
     ∙ ap (flat_map (λ i. map (h i) (range_with_len 0 (m i)))) (sym (range-last n))
-
--- the same of the elements of a list
-pub numbers-each : {X : Type 0} (d : X) (m : ℕ → ℕ) (h : ℕ → ℕ → ℤ) (f : X → ℕ) (g : X → ℕ → ℤ)
-    (xs : List X) → ((i : ℕ) → i < length xs → m i ≡ f (get_or xs i d))
-    → ((i k : ℕ) → i < length xs → h i k ≡ g (get_or xs i d) k)
-    → numbers_of_lists m h (length xs)
-    ≡ flat_map (λ x. map (g x) (range_with_len 0 (f x))) xs
-numbers-each d m h f g xs p q =
-    numbers-flat m h (length xs)
-    ∙ flat-in_place d (λ i. map (h i) (range_with_len 0 (m i)))
-    (λ x. map (g x) (range_with_len 0 (f x))) xs
-    (λ i l. map-same (h i) (g (get_or xs i d)) (λ k. q i k l) (range_with_len 0 (m i))
-    ∙ ap (λ n. map (g (get_or xs i d)) (range_with_len 0 n)) (p i l))

@@ -6,10 +6,9 @@ use Rattle.std.proofs.Common.{arith, ap, ap₂, sym, ◌∙◌}
 use Rattle.std.proofs.lemmas.List.{length-append, length-map, map-append, append-nil}
 use Rattle.std.proofs.lemmas.Simd.{map-map}
 use Rattle.awk_places.proofs.FlatLaws.{flat-flat, flat-same}
-use Rattle.awk_places.specs.Places.{before_each, place_lists, next_place, rising_places}
+use Rattle.awk_places.specs.Places.{before_each, place_lists, next_place}
 use Rattle.awk_places.specs.Places.{after_each, next_after, places_from, place_count}
 use Rattle.awk_places.specs.Places.{rising_from}
-use Rattle.awk_places.proofs.RisingLaws.{rising_places-from}
 
 singles : (js : List ℕ) → flat_map (λ k. before_each k ([] ∷ [])) js ≡ after_each [] js
 singles [] = refl
@@ -131,12 +130,3 @@ rising_from-more rep (suc n) a m =
     (λ ks. places_from (next_after rep (next_place rep k) ks) m) k (λ ks. refl)
     (rising_from rep n (next_place rep k) (m - room_after rep)))
     (range_with_len a (m - room_after rep - a)))
-
--- the same of all lists of n places
-pub rising_places-more : (rep : Bool) (n m : ℕ) → rising_places rep (suc n) m
-    ≡ flat_map (λ ks. after_each ks (places_from (next_after rep 0 ks) m))
-    (rising_places rep n (m - room_after rep))
-rising_places-more rep n m =
-    rising_places-from rep (suc n) m ∙ rising_from-more rep n 0 m
-    ∙ ap (flat_map (λ ks. after_each ks (places_from (next_after rep 0 ks) m)))
-    (sym (rising_places-from rep n (m - room_after rep)))

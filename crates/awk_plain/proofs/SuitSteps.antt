@@ -2,7 +2,6 @@
 use Rattle.std.proofs.Common.{◌≡◌, ℕ, zero, suc, ◌+◌, ◌≤◌, List, [], ◌∷◌, map, length, Bool, true}
 use Rattle.std.proofs.Common.{false, refl, ap, ◌∙◌, Some, arith, drop, slice_get}
 use Rattle.std.specs.Prelude.{◌&&◌, ◌==◌}
-use Rattle.std.proofs.lemmas.List.{drop_all}
 use Rattle.serde_json.specs.Data.{Data, Members, no_members, member, object}
 use Rattle.awk_base.proofs.Lists.{drop-get}
 use Rattle.awk_types.proofs.Trees.{type_list-from}
@@ -19,10 +18,6 @@ pub fields_next : (fs : List NamedType) (i : ℕ) (f : NamedType) (key : Name) (
     ≡ (same_name f.name key && (suits f.typ d && fields_suit (drop (i + 1) fs) ms))
 fields_next fs i f key d ms e =
     ap (λ gs. fields_suit gs (member key d ms)) (drop-get fs i f e)
-
-pub fields_left : (fs : List NamedType) (i : ℕ) (key : Name) (d : Data) (ms : Members)
-    → length fs ≤ i → fields_suit (drop i fs) (member key d ms) ≡ false
-fields_left fs i key d ms h = ap (λ gs. fields_suit gs (member key d ms)) (drop_all i fs h)
 
 pub fields_end : (fs : List NamedType) (i : ℕ) → i ≤ length fs
     → fields_suit (drop i fs) no_members ≡ (i == length fs)

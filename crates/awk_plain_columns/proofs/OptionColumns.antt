@@ -1,9 +1,9 @@
 -- Options over one column of what is there.
 use Rattle.std.proofs.Common.{◌≡◌, ℕ, ◌+◌, ◌<◌, ◌≤◌, suc, List, [], ◌∷◌, ◌++◌, map, length, true}
 use Rattle.std.proofs.Common.{false, refl, ap, ap₂, sym, ◌∙◌, subst, arith, get_or, pos, negsuc, ℤ}
-use Rattle.std.proofs.Common.{add-one, append-nil, append_assoc, drop}
+use Rattle.std.proofs.Common.{add-one, append_assoc, drop}
 use Rattle.std.specs.Prelude.{◌&&◌, filter}
-use Rattle.std.proofs.lemmas.List.{drop_all, drop_more}
+use Rattle.std.proofs.lemmas.List.{drop_more}
 use Rattle.serde_json.specs.Data.{Data, null, boolean, number, string, array, object}
 use Rattle.awk_types.specs.DataType.{DataType, opt, unknown, leaf, var, reg, rec, tup, uni}
 use Rattle.awk_types.specs.Simple.{in_option, is_option, option_of}
@@ -46,14 +46,6 @@ there_more (number n) ds e = refl
 there_more (array es) ds e = refl
 there_more (object ms) ds e = refl
 
-there_less : (d : Data) (ds : List Data) → is_there d ≡ false → there (d ∷ ds) ≡ there ds
-there_less null ds e = refl
-there_less (string s) ds e = refl
-there_less (boolean b) ds e = cc
-there_less (number n) ds e = cc
-there_less (array es) ds e = cc
-there_less (object ms) ds e = cc
-
 step : {X : Type 0} (xs : List X) (i : ℕ) (x : X) → i < length xs → x ≡ get_or xs i x
     → drop i xs ≡ x ∷ drop (i + 1) xs
 step xs i x l at = drop_more xs i x l ∙ ap (λ y. y ∷ drop (i + 1) xs) (sym at)
@@ -67,20 +59,6 @@ present_more f xs i x made new l at t h e =
     h ∙ ap (λ ys. made ++ there (map f ys)) (step xs i x l at)
     ∙ ap (λ ds. made ++ ds) (there_more (f x) (map f (drop (i + 1) xs)) t)
     ∙ sym (append_assoc made (f x ∷ []) rest) ∙ ap (λ ds. ds ++ rest) (sym e)
-
-pub present_less : {X : Type 0} (f : X → Data) (xs : List X) (i : ℕ) (x : X) (made : List Data)
-    → i < length xs → x ≡ get_or xs i x → is_there (f x) ≡ false
-    → there (map f xs) ≡ made ++ there (map f (drop i xs))
-    → there (map f xs) ≡ made ++ there (map f (drop (i + 1) xs))
-present_less f xs i x made l at t h =
-    h ∙ ap (λ ys. made ++ there (map f ys)) (step xs i x l at)
-    ∙ ap (λ ds. made ++ ds) (there_less (f x) (map f (drop (i + 1) xs)) t)
-
-pub present_all : {X : Type 0} (f : X → Data) (xs : List X) (i : ℕ) (made : List Data)
-    → length xs ≤ i → there (map f xs) ≡ made ++ there (map f (drop i xs))
-    → made ≡ there (map f xs)
-present_all f xs i made l h =
-    sym (h ∙ ap (λ ys. made ++ there (map f ys)) (drop_all i xs l) ∙ append-nil made)
 
 -- ---- the index
 
@@ -147,11 +125,6 @@ indexed_less f xs i n x zs ys l at t h e =
       size = ap length e ∙ pushed zs (negsuc 0) ∙ ap (λ m. m + 1) h.size;
       few = omega (arith, h.few);
     }
-
-pub indexed_all : {X : Type 0} (f : X → Data) (xs : List X) (i n : ℕ) (zs : List ℤ)
-    → length xs ≤ i → AreIndexed f xs i n zs → zs ≡ option_index 0 (own_of f xs)
-indexed_all f xs i n zs l h =
-    sym (h.all ∙ ap (λ ws. zs ++ option_index n (own_of f ws)) (drop_all i xs l) ∙ append-nil zs)
 
 -- ---- the column
 

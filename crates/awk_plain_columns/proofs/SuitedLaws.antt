@@ -2,8 +2,6 @@
 use Rattle.std.proofs.Common.{append-nil, append_assoc, drop, length, refl, Box, Global, ◌+◌, ◌≤◌}
 use Rattle.std.proofs.Common.{◌≡◌, ℕ, ◌<◌, List, [], ◌∷◌, ◌++◌, map, Bool, true, false}
 use Rattle.std.proofs.Common.{ap, ap₂, sym, ◌∙◌, subst, get_or, zero, suc, arith, None}
-use Rattle.std.specs.Prelude.{ℤ, FitsSigned}
-use Rattle.std.specs.Int.{w64}
 use Rattle.std.specs.List.{AllByRecursion, flat_map, range_with_len}
 use Rattle.std.proofs.lemmas.List.{length-map, get_or-map, map-append, drop_all, drop_more}
 use Rattle.std.proofs.lemmas.List.FromFn.{fill_by_all}
@@ -28,7 +26,7 @@ use Rattle.awk_types.specs.declared.primitive.Primitive.{Primitive}
 use Rattle.awk_types.specs.declared.primitive.Primitive.TheVariants as primitive
 use Rattle.awk_lanes.specs.Made.{lane_of}
 use Rattle.awk_lanes.specs.Numbers.{IsOf}
-use Rattle.awk_lanes.specs.declared.kind.Num.TheVariants.{Int, Truth}
+use Rattle.awk_lanes.specs.declared.kind.Num.TheVariants.{Truth}
 use Rattle.awk_layout.specs.Kinds.{kind_of, primitive_of-kind_of}
 use Rattle.awk_layout.specs.Layout.{Layout, empty, flat}
 use Rattle.awk_layout.specs.Typing.{array_type, array_items}
@@ -89,10 +87,6 @@ list_suits t no_items p e = tt
 list_suits t (item d ds) p e =
     let f = and_parts (suits t d) (all_suit t ds) e in
     ((p.0, f.0), list_suits t ds p.1 f.1)
-
-pub list_of_suits : (t : DataType) (ds : Items) → ArePlain ds → all_suit t ds ≡ true
-    → AllSuit t (items_of (array ds))
-list_of_suits t ds p e = list_suits t ds p e
 
 items_suit : (t : DataType) (d : Data) → Suits (var t) d → AllSuit t (items_of d)
 items_suit t (array ds) s = list_suits t ds s.0 s.1
@@ -243,10 +237,6 @@ parts_all g f xs i made l h =
 pub truth_kind : (p : Primitive) (b : Bool) → Suits (leaf p) (boolean b)
     → IsOf (kind_of p) (Truth b)
 truth_kind p b s = subst (λ q. IsOf (kind_of q) (Truth b)) (sym (prim_of_truth p b s)) tt
-
-pub number_kind : (p : Primitive) (n : Num) (z : ℤ) → Suits (leaf p) (number n)
-    → FitsSigned w64 z → IsOf (kind_of p) (Int z)
-number_kind p n z s f = subst (λ q. IsOf (kind_of q) (Int z)) (sym (prim_of_number p n s)) f
 
 pub whole_of : (p : Primitive) (n : Num) → Suits (leaf p) (number n)
     → (is_whole n ≡ true) × (fits n ≡ true)

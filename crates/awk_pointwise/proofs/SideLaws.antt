@@ -5,7 +5,7 @@ use Rattle.std.specs.Prelude.{ℤ, pos, Bool, true, false, if◌then◌else◌}
 use Rattle.std.specs.List.{AllByRecursion}
 use Rattle.std.proofs.lemmas.Int.{ints}
 use Rattle.awk_types.specs.Predicates.{is_null}
-use Rattle.awk_types.specs.Value.{Value, int, truth, null}
+use Rattle.awk_types.specs.Value.{Value, int, truth}
 use Rattle.awk_types.specs.declared.primitive.Primitive.{Primitive}
 use Rattle.awk_types.specs.declared.primitive.Primitive.TheVariants as prim
 use Rattle.awk_lanes.specs.Column.{Column}
@@ -18,7 +18,7 @@ use Rattle.awk_layout.specs.Item.{leaf_value}
 use Rattle.awk_layout.specs.Kinds.{primitive_of}
 use Rattle.awk_numbers.specs.Folds.{lane_numbers}
 use Rattle.awk_leaves.specs.Values.{number_of, value_in}
-use Rattle.awk_leaves.specs.declared.leaf_type.LeafType.TheVariants.{Of, Unknown, Literal}
+use Rattle.awk_leaves.specs.declared.leaf_type.LeafType.TheVariants.{Of, Literal}
 use Rattle.awk_pointwise.specs.Numbers.{IsTyped, AreTyped, IsPresent, AreNumbersOf, word_numbers}
 use Rattle.awk_pointwise.specs.declared.words.Words.{Words}
 use Rattle.awk_pointwise.specs.Sides.{lane_values, IsLeafNumber, IsNumber64}
@@ -152,15 +152,6 @@ literal_seen z n w e = record {
   present = all-replicate IsPresent n (int z) refl;
   typed = subst (AreTyped (Literal z)) (sym e) (all-replicate (IsTyped (Literal z)) n z refl);
 }
-
--- unknown has no places
-pub missing_seen : (n : ℕ) (w : Words) → n ≡ 0 → word_numbers w ≡ []
-    → AreNumbersOf Unknown (replicate n null) w
-missing_seen n w h e = subst (λ n. AreNumbersOf Unknown (replicate n null) w) (sym h) (record {
-  numbers = e;
-  present = tt;
-  typed = subst (AreTyped Unknown) (sym e) tt;
-})
 
 pub leaf_64 : (p : Primitive) (z : ℤ) → IsLeafNumber p z → IsNumber64 z
 leaf_64 prim.Bool z (inl e) = subst IsNumber64 (sym e) (grind (arith, ints))

@@ -2,8 +2,7 @@
 use Rattle.std.proofs.Common.{◌≡◌, ◌&&◌, Bool, true, false, ℤ, ◌≤ℤ◌, ap₂, refl, arith}
 use Rattle.std.specs.Prelude.{int_le}
 use Rattle.std.proofs.lemmas.Int.{ints}
-use Rattle.awk_types.specs.DataType.{DataType}
-use Rattle.awk_primitives.specs.Fits.{fits, literal_primitive, literal_fits}
+use Rattle.awk_primitives.specs.Fits.{fits}
 use Rattle.awk_types.specs.Has.{Holds, least_number, greatest_number}
 use Rattle.awk_types.specs.declared.primitive.Primitive.{Primitive}
 
@@ -27,8 +26,3 @@ holds_fits p z h = ap₂ (λ l g. l && g) (in_order (least_number p) z h.0)
   where
     in_order : (a b : ℤ) → a ≤ℤ b → int_le a b ≡ true
     in_order a b e = grind (arith, ints)
-
--- a literal that fits is a number of its type
-pub literal_fits_holds : (t : DataType) (z : ℤ) → literal_fits t z ≡ true
-    → Holds (literal_primitive t) z
-literal_fits_holds t z e = fits_holds (literal_primitive t) z e

@@ -8,14 +8,14 @@ use Rattle.std.proofs.lemmas.List.FromFn.{length-map-range_with_len, get_or-map-
 use Rattle.std.proofs.lemmas.Nat.{row_fits}
 use Rattle.awk_base.proofs.Numbers.{times-le}
 use Rattle.awk_types.specs.DataType.{Name, type, row_type, reg}
-use Rattle.awk_types.specs.Simple.{simple, simple_value}
+use Rattle.awk_types.specs.Simple.{simple_value}
 use Rattle.awk_types.specs.Value.{value, row, list, null}
 use Rattle.awk_layout.specs.Layout.{Layout, layouts_from, count, weights, heights, rows, regular}
 use Rattle.awk_layout.specs.Valid.{len, AllReach}
 use Rattle.awk_layout.specs.Contents.{AllReach-get, weight-get, count-layouts_from}
 use Rattle.awk_layout.specs.Laws.{AllReach-le}
 use Rattle.awk_layout.specs.Item.{item, items, items_across, run}
-use Rattle.awk_layout.specs.Typing.{layout_type, layout_types, array_type, array_items}
+use Rattle.awk_layout.specs.Typing.{layout_type, layout_types, array_items}
 use Rattle.awk_range.specs.Range.{IsPart, AreParts}
 use Rattle.awk_range.proofs.Weights.{weights-take_more, weights-take-le}
 
@@ -160,9 +160,6 @@ array_items_part x r lo hi p le within =
     ∙ ap (map (simple_value (layout_type x))) (items_part x r lo hi p le within)
     ∙ sym (take-map (simple_value (layout_type x)) (hi - lo) (drop lo (items x)))
     ∙ ap (take (hi - lo)) (sym (drop-map (simple_value (layout_type x)) lo (items x)))
-
-pub array_type_part : (x r : Layout) (lo hi : ℕ) → IsPart x lo hi r → array_type r ≡ array_type x
-array_type_part x r lo hi p = ap simple p.typ
 
 pub ruleset range_laws = (
   AllReach-le,

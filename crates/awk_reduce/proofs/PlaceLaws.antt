@@ -27,7 +27,7 @@ use Rattle.awk_numbers.specs.declared.extremes.Extreme.{Extreme}
 use Rattle.awk_numbers.specs.declared.extremes.Extreme.TheVariants.{Least, Greatest}
 use Rattle.awk_numbers.proofs.PartLaws.{slice_range-map}
 use Rattle.awk_parts.specs.Lanes.{extreme_at, present_at, number_or_zero, place_or_zero}
-use Rattle.awk_parts.specs.Lanes.{local_at, found_at, nth_or_zero, some_place}
+use Rattle.awk_parts.specs.Lanes.{local_at, nth_or_zero, some_place}
 use Rattle.awk_parts.specs.Spans.{start_of, stop_of, span_count, span_part}
 use Rattle.awk_parts.specs.declared.parts.Spans.{Spans}
 use Rattle.awk_present.specs.Numbers.{leaf_of, numbers, number_place, extreme_of, extreme_place}
@@ -128,17 +128,6 @@ places_plain how x zs p ze pe none =
     ap₂ (λ zs p. lane_of I64 (span_count p) (local_at how zs p)) ze pe
     ∙ sym (ap (λ j. lane_of I64 (span_count x.spans.now)
     (place_by how (lane_numbers x.lane.now) x.spans.now x.items.now j)) none)
-
-pub places_found : (how : Extreme) (x : ReadyLists) (zs : List ℤ) (p : Spans) (j : Column)
-    (js : List ℤ) → zs ≡ lane_numbers x.lane.now → p ≡ x.spans.now → js ≡ lane_numbers j
-    → x.index.now ≡ Some j
-    → lane_of I64 (span_count p) (found_at how zs p js x.items.now) ≡ place_lane how x
-places_found how x zs p j js ze pe je some =
-    ap₂ (λ zs p. lane_of I64 (span_count p) (found_at how zs p js x.items.now)) ze pe
-    ∙ ap (λ js. lane_of I64 (span_count x.spans.now)
-    (found_at how (lane_numbers x.lane.now) x.spans.now js x.items.now)) je
-    ∙ sym (ap (λ j. lane_of I64 (span_count x.spans.now)
-    (place_by how (lane_numbers x.lane.now) x.spans.now x.items.now j)) some)
 
 -- ---- of all lists
 

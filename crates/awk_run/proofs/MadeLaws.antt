@@ -227,11 +227,6 @@ pub not_words : {made : List ℕ} {written0 written1 : Option (List ℕ)} {flush
     → MadeSession made written0 written1 flushes0 flushes1 steps0 steps1 status → status ≢ Words
 not_words status s e = subst IsMadeEnd e s.ends
 
-pub not_read : {made : List ℕ} {written0 written1 : Option (List ℕ)} {flushes0 flushes1 : List
-    (Option (List ℕ))} {steps0 steps1 : ℕ} (status : Status)
-    → MadeSession made written0 written1 flushes0 flushes1 steps0 steps1 status → status ≡ Read → ⊥
-not_read status s e = subst IsMadeEnd e s.ends
-
 -- a source that never fails has no count that rose
 pub never_rose : Rose 0 0 → ⊥
 never_rose (inl less) = omega arith

@@ -93,13 +93,6 @@ pub record AreOrdered (up : Bool) (c : Column) (j : Option Column) (o : Column) 
   pub parts : (i : ℕ) → i < n → slice_range zs (place_at o i) (place_at o (i + 1))
       ≡ map pos (order up (cells_of_part c j o i))
 
-pub none_ordered : (up : Bool) (c : Column) (j : Option Column) (o : Column) → place_at o 0 ≡ 0
-    → AreOrdered up c j o 0 []
-none_ordered up c j o h = record {
-  size = sym h;
-  parts = λ i l. absurd (omega (arith, l));
-}
-
 length-places : (up : Bool) (c : Column) (j : Option Column) (start m : ℕ)
     → length (map pos (order up (cells_from c j start m))) ≡ m
 length-places up c j start m =

@@ -184,13 +184,6 @@ raw_alone held key bytes is = by (at_key held.texts key) refl is
     by (Some text) e k = absurd (cc)
     by None e k = (e, k)
 
--- they are the bytes of the key
-pub buffer-added_bytes : (held : Held) (key bytes : List ℕ) → added_bytes held key ≡ Some bytes
-    → buffer held key ≡ Ok bytes
-buffer-added_bytes held key bytes is =
-    let alone = raw_alone held key bytes is in
-    rw (alone.0, alone.1) refl
-
 -- they are no more than those of all texts and buffers
 pub added_bytes_len-≤ : (held : Held) (key bytes : List ℕ) → added_bytes held key ≡ Some bytes
     → length bytes ≤ held_len held

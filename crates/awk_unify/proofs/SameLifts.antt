@@ -1,7 +1,6 @@
 -- Two lifts are equal exactly where their parts are, and lifts that one more leaves.
-use Rattle.std.proofs.Common.{◌≡◌, ◌↔◌, ℕ, List, [], ◌∷◌, ◌++◌, Option, Some, None, map, option_map}
+use Rattle.std.proofs.Common.{◌≡◌, ◌↔◌, ℕ, List, [], ◌∷◌, Option, Some, None, map, option_map}
 use Rattle.std.proofs.Common.{refl, sym, ap, ap₂, ◌∙◌}
-use Rattle.std.proofs.lemmas.List.{map-append}
 use Rattle.awk_base.proofs.Truths.{same_as}
 use Rattle.awk_unify.specs.After.{after}
 use Rattle.awk_unify.specs.Carry.{Carry, Carries, carry_list, carries_from, to_parts}
@@ -74,8 +73,3 @@ pub idle_leaves : (idle : Option Lift) (g : Carry) (fs : List Carry) → IsIdle 
     → option_map lift_of idle ≡ Some g → map (after g) fs ≡ fs
 idle_leaves None g fs h e = cc
 idle_leaves (Some known) g fs h e = ap (λ x. map (after x) fs) (sym (some-inj _ _ e)) ∙ h
-
-pub idle_more : (g f : Carry) (fs : List Carry) → map (after g) fs ≡ fs → after g f ≡ f
-    → map (after g) (fs ++ f ∷ []) ≡ fs ++ f ∷ []
-idle_more g f fs h e =
-    map-append (after g) fs (f ∷ []) ∙ ap₂ (λ xs x. xs ++ x ∷ []) h e

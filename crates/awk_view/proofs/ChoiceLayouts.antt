@@ -177,9 +177,6 @@ rows_named names xs h = subst (AreNames names) (sym (length-layout_list xs)) h
 pub rows_reach : (n : ℕ) (xs : Layouts) → AllReach n xs → AllReach n (layouts_from (layout_list xs))
 rows_reach n xs h = subst (AllReach n) (sym (layouts_from-list xs)) h
 
-pub rows_valid : (xs : Layouts) → AllValid xs → AllValid (layouts_from (layout_list xs))
-rows_valid xs h = subst AllValid (sym (layouts_from-list xs)) h
-
 pub beside_reaches : (k : Name) (names : Option (List Name)) (n : ℕ) (xs : List Layout)
     → AreNames names (length xs) → AllReach n (layouts_from xs)
     → is_among k (row_names names (length xs)) ≡ true

@@ -23,7 +23,7 @@ use Rattle.awk_view.proofs.FirstItems.{weight-first_items, height-first_items, f
 use Rattle.awk_view.proofs.ChoiceLayouts.{layouts_from-list, get_reaches, get_valid, get_weight}
 use Rattle.awk_view.proofs.ChoiceLayouts.{get_height, length-row_names, beside_within}
 use Rattle.awk_view.proofs.ChoiceLayouts.{beside_reaches, place_within, rows_found, rows_named}
-use Rattle.awk_view.proofs.ChoiceLayouts.{rows_reach, rows_valid, len-layout_of_choice}
+use Rattle.awk_view.proofs.ChoiceLayouts.{rows_reach, len-layout_of_choice}
 use Rattle.awk_range.proofs.Weights.{weights-take_more, weights-take-le}
 use Rattle.awk_view.proofs.ChoiceNodes.{weights-beside, heights-beside, weights-apart}
 use Rattle.awk_view.proofs.ChoiceNodes.{heights-apart, reach-apart, valid-apart, length-apart}
