@@ -17,11 +17,12 @@ use Rattle.awk_lanes.proofs.MadeLanes.{size-lane_of, at-lane_of}
 use Rattle.awk_places.specs.Places.{place_lists, place_count}
 use Rattle.awk_places.specs.Products.{AreCounts, no_lane, lengths_at, product_count}
 use Rattle.awk_places.specs.Products.{product_place, product_lane, each_times, times, share}
-use Rattle.awk_places.specs.Products.{counts_lane, shares_lane}
+use Rattle.awk_places.specs.Products.{counts_lane, shares_lane, once_lane, product_lanes}
 use Rattle.awk_places.specs.Runs.{row_runs}
 use Rattle.awk_places.proofs.FlatLaws.{map-flat, flat-same-range, map-in_place, numbers-flat}
 use Rattle.awk_places.proofs.Levels.{length-place_lists}
 use Rattle.awk_places.proofs.RunLaws.{IsRest, rest_first, rest_next, runs-by_rest}
+use Rattle.awk_places.proofs.RunLaws.{count_before, count_after, slot-runs}
 
 -- ---- lanes of counts
 
@@ -130,3 +131,46 @@ lanes_more n fs ls j xs ys x p q r =
     let z : 0 + j ≡ j = omega arith in
     r ∙ ap₂ (λ us u. us ++ u ∷ []) p q
     ∙ sym (map-range_with_len_more (λ j. product_lane n (get_or fs j no_lane) ls j) 0 j j z)
+
+-- ---- both slots of pairs
+
+-- a slot by its runs
+abbrev pub by_runs : ℕ → Column → Column → Column → Column → Column
+by_runs n f l b a =
+    column I64 (integers (flat_map (row_runs f l b a) (range_with_len 0 n)))
+
+-- the first by the lengths of the second
+first-by_runs : (n : ℕ) (f l m : Column)
+    → by_runs n f l (once_lane n) m ≡ product_lane n f (l ∷ m ∷ []) 0
+first-by_runs n f l m =
+    slot-numbers n (l ∷ m ∷ []) 0 f (row_runs f l (once_lane n) m)
+    (λ i o.
+    let ms : List ℕ = place_at l i ∷ place_at m i ∷ [] in
+    let once : place_at (once_lane n) i ≡ count_before ms 0 = count-at n (λ i. 1) i o in
+    let after : place_at m i ≡ count_after ms 0 = omega arith in
+    ap₂ (λ b a. times b (each_times a (place_at f i) (place_at l i))) once after
+    ∙ sym (slot-runs ms 0 (place_at f i) (omega arith)))
+
+-- the second by those of the first
+second-by_runs : (n : ℕ) (f l m : Column)
+    → by_runs n f m l (once_lane n) ≡ product_lane n f (l ∷ m ∷ []) 1
+second-by_runs n f l m =
+    slot-numbers n (l ∷ m ∷ []) 1 f (row_runs f m l (once_lane n))
+    (λ i o.
+    let ms : List ℕ = place_at l i ∷ place_at m i ∷ [] in
+    let once : place_at (once_lane n) i ≡ count_after ms 1 = count-at n (λ i. 1) i o in
+    let before : place_at l i ≡ count_before ms 1 = omega arith in
+    ap₂ (λ b a. times b (each_times a (place_at f i) (place_at m i))) before once
+    ∙ sym (slot-runs ms 1 (place_at f i) (omega arith)))
+
+pub pair-by_runs : (n : ℕ) (fs ls : List Column) (f g l m : Column) → length ls ≡ 2
+    → get_or fs 0 no_lane ≡ f → get_or fs 1 no_lane ≡ g → get_or ls 0 no_lane ≡ l
+    → get_or ls 1 no_lane ≡ m
+    → by_runs n f l (once_lane n) m ∷ by_runs n g m l (once_lane n) ∷ [] ≡ product_lanes n fs ls
+pair-by_runs n fs [] f g l m two p q r s = absurd (omega (arith, two))
+pair-by_runs n fs (a ∷ []) f g l m two p q r s = absurd (omega (arith, two))
+pair-by_runs n fs (a ∷ b ∷ []) f g l m two p q r s =
+    rw (← p, ← q, ← r, ← s)
+    (ap₂ (λ x y. x ∷ y ∷ []) (first-by_runs n (get_or fs 0 no_lane) a b)
+    (second-by_runs n (get_or fs 1 no_lane) a b))
+pair-by_runs n fs (a ∷ b ∷ c ∷ ls) f g l m two p q r s = absurd (omega (arith, two))

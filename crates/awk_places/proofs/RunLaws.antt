@@ -111,7 +111,7 @@ first_runs c a (suc m) ms =
     (first_runs c (a + 1) m ms ∙ ap (λ b. each_times (place_count ms) b m) e)
 
 -- the places in slot j of all tuples, from a first place on
-slot-runs : (ms : List ℕ) (j c : ℕ) → j < length ms
+pub slot-runs : (ms : List ℕ) (j c : ℕ) → j < length ms
     → map (λ ks. c + get_or ks j 0) (place_lists ms)
     ≡ times (count_before ms j) (each_times (count_after ms j) c (get_or ms j 0))
 slot-runs [] j c l = absurd (omega (arith, l))
@@ -138,6 +138,22 @@ each_once a n =
 
 pub span_once : (m a n : ℕ) → m ≡ 1 → range_with_len a n ≡ each_times m a n
 span_once m a n e = sym (each_once a n) ∙ ap (λ k. each_times k a n) (sym e)
+
+-- ---- nothing is put
+
+times_none : (n : ℕ) → times n [] ≡ []
+times_none zero = refl
+times_none (suc n) = times_none n
+
+never : (a n : ℕ) → each_times 0 a n ≡ []
+never a zero = refl
+never a (suc n) = never (a + 1) n
+
+pub runs_never : (b m a n : ℕ) → m ≡ 0 → times b (each_times m a n) ≡ []
+runs_never b m a n e = ap (times b) (ap (λ m. each_times m a n) e ∙ never a n) ∙ times_none b
+
+pub runs_nowhere : (b m a n : ℕ) → n ≡ 0 → times b (each_times m a n) ≡ []
+runs_nowhere b m a n e = ap (λ n. times b (each_times m a n)) e ∙ times_none b
 
 -- ---- by shares of what is left
 

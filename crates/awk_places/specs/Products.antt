@@ -68,3 +68,7 @@ counts_lane n ls = lane_of I64 n (λ i. pos (product_count ls i))
 
 abbrev pub shares_lane : ℕ → Column → Column → Column
 shares_lane n c p = lane_of I64 n (λ i. pos (share (place_at c i) (place_at p i)))
+
+-- one for each of n lists
+abbrev pub once_lane : ℕ → Column
+once_lane n = lane_of I64 n (λ i. pos 1)

@@ -1,5 +1,5 @@
 //! One place of each of several lists: how many tuples there are, before any is made, and the
-//! places in each slot.
+//! places in each slot. Of pairs nothing is counted again.
 ghost use Rattle.std.specs.Prelude.{◌≡◌, ℕ, ◌<◌, ◌≤◌, ◌^◌, length, get_or, IsTrue, IsFalse, IfOk};
 ghost use Rattle.std.specs.List.{AllByRecursion};
 ghost use Rattle.awk_types.specs.ItemLimit.{item_limit};
@@ -7,6 +7,7 @@ ghost use Rattle.awk_lanes.specs.Counted.{before, AreOffsetsBy};
 ghost use Rattle.awk_places.specs.Places.{place_count, IsCounted};
 ghost use Rattle.awk_places.specs.Products.{AreCounts, AreSpansOf, no_lane, lengths_at};
 ghost use Rattle.awk_places.specs.Products.{product_count, product_lanes, counts_lane, shares_lane};
+ghost use Rattle.awk_places.specs.Products.{once_lane};
 
 use crate::offsets::{TupleCounts, tuple_offsets};
 use crate::reading::place_of;
@@ -188,8 +189,82 @@ fn shares_lane<'a, L: Ledger>(
     made_lane(Kind::I64, n, &source, arena, steps)
 }
 
-/// The places of all tuples of n lists, list by list: a lane for each slot.
-pub fn product_lanes<'a, L: Ledger>(
+/// One for each list.
+#[derive(Drop)]
+struct Once {
+    n: u64,
+}
+
+impl Numbers for Once {
+    ghost use Rattle.std.specs.Prelude.{pos};
+    ghost use Rattle.awk_lanes.specs.declared.kind.Kind.TheVariants as Kinds;
+
+    ghost kind = { λ _. Kinds.I64 };
+
+    ghost at = { λ _ _. pos 1 };
+
+    ghost size = { λ o. o.n };
+
+    fn number<L: Ledger>(&self, _i: u64, _steps: &mut Steps<L>) -> Num {
+        number(1)
+    }
+}
+
+/// One for each of n lists, as a lane.
+fn once_lane<'a, L: Ledger>(
+    n: u64,
+    arena: &'a Arena,
+    steps: &mut Steps<L>,
+) -> Result<Lane<'a>, NoMemory>
+    ensures { IfOk result (λ r. r ≡ once_lane n) }
+{
+    made_lane(Kind::I64, n, &Once { n }, arena, steps)
+}
+
+/// The lanes of both slots of pairs: each place of the first list as often as the second has
+/// places, and all places of the second as often as the first has some.
+fn two_lanes<'a, L: Ledger>(
+    alloc: Global,
+    n: u64,
+    total: u64,
+    firsts: &Lanes<'a>,
+    lengths: &Lanes<'a>,
+    arena: &'a Arena,
+    steps: &mut Steps<L>,
+) -> Result<Lanes<'a>, NoMemory>
+    requires two { length lengths.now ≡ 2 }
+    requires same { length firsts.now ≡ length lengths.now }
+    requires spans { (j : ℕ) → j < length lengths.now →
+        AreSpansOf n (get_or firsts.now j no_lane) (get_or lengths.now j no_lane) }
+    ensures { IfOk result (λ r. r ≡ product_lanes n firsts.now lengths.now) }
+{
+    let first = firsts.get(0);
+    let second = firsts.get(1);
+    let outer = lengths.get(0);
+    let inner = lengths.get(1);
+    let once = once_lane(n, arena, steps)?;
+    let slot = Slot {
+        firsts: first,
+        lengths: outer,
+        before: &once,
+        after: inner,
+    };
+    let left = slot_lane(n, total, &slot, arena, steps)?;
+    let slot = Slot {
+        firsts: second,
+        lengths: inner,
+        before: outer,
+        after: &once,
+    };
+    let right = slot_lane(n, total, &slot, arena, steps)?;
+    let mut lanes = Lanes::new(alloc);
+    lanes.push(left)?;
+    lanes.push(right)?;
+    Ok(lanes)
+}
+
+/// The lanes of all slots, by how many of the tuples fall to each place.
+fn shared_lanes<'a, L: Ledger>(
     alloc: Global,
     n: u64,
     total: u64,
@@ -221,4 +296,27 @@ pub fn product_lanes<'a, L: Ledger>(
         rests = after;
     }
     Ok(lanes)
+}
+
+/// The places of all tuples of n lists, list by list: a lane for each slot.
+pub fn product_lanes<'a, L: Ledger>(
+    alloc: Global,
+    n: u64,
+    total: u64,
+    firsts: &Lanes<'a>,
+    lengths: &Lanes<'a>,
+    arena: &'a Arena,
+    steps: &mut Steps<L>,
+) -> Result<Lanes<'a>, NoMemory>
+    requires same { length firsts.now ≡ length lengths.now }
+    requires lengths { AllByRecursion (AreCounts n) lengths.now }
+    requires spans { (j : ℕ) → j < length lengths.now →
+        AreSpansOf n (get_or firsts.now j no_lane) (get_or lengths.now j no_lane) }
+    requires few { before (product_count lengths.now) n ≤ item_limit }
+    ensures { IfOk result (λ r. r ≡ product_lanes n firsts.now lengths.now) }
+{
+    if lengths.len() == 2 {
+        return two_lanes(alloc, n, total, firsts, lengths, arena, steps);
+    }
+    shared_lanes(alloc, n, total, firsts, lengths, arena, steps)
 }

@@ -84,7 +84,7 @@ pub(crate) struct Slot<'b, 'a> {
     pub(crate) after: &'b Lane<'a>,
 }
 
-/// Adds the places in a slot of the tuples of list i.
+/// Adds the places in a slot of the tuples of list i. Where there are none, nothing is repeated.
 fn put_row<L: Ledger>(
     made: &mut PlaceMaker,
     n: u64,
@@ -97,9 +97,16 @@ fn put_row<L: Ledger>(
     ensures { IfOk result (λ _. made.new ≡ made.old ++ slot_runs slot.now i) }
 {
     let first = place_of(slot.firsts, i, steps);
-    let end = first + place_of(slot.lengths, i, steps);
+    let length = place_of(slot.lengths, i, steps);
     let before = place_of(slot.before, i, steps);
-    put_runs(made, first, end, before, place_of(slot.after, i, steps))
+    let after = place_of(slot.after, i, steps);
+    if after == 0 {
+        return Ok(());
+    }
+    if length == 0 {
+        return Ok(());
+    }
+    put_runs(made, first, first + length, before, after)
 }
 
 /// The places in a slot of the tuples of n lists, of which there are `total`, as a lane.

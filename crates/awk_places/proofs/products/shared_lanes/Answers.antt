@@ -5,7 +5,7 @@ use Rattle.awk_places.specs.Products.{AreCounts, AreSpansOf, no_lane, product_co
 use Rattle.awk_places.specs.Products.{product_lane, shares_lane}
 use Rattle.awk_places.proofs.ProductLaws.{counts_made, rests_first, rests_next, slot-by_shares}
 use Rattle.awk_places.proofs.ProductLaws.{lanes_more}
-use Rattle.awk_places.proofs.products.product_lanes.Goals as goal
+use Rattle.awk_places.proofs.products.shared_lanes.Goals as goal
 
 pub loop-j-init : goal.loop-j-init
 loop-j-init g c = record {

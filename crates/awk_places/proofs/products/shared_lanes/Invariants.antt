@@ -1,7 +1,7 @@
 use Rattle.std.specs.Prelude.{◌≡◌}
 use Rattle.awk_places.specs.Products.{AreCounts}
 use Rattle.awk_places.proofs.ProductLaws.{AreRests, first_lanes}
-use Rattle.awk_places.proofs.products.product_lanes.Given as goal
+use Rattle.awk_places.proofs.products.shared_lanes.Given as goal
 
 abbrev pub invariant-loop-j : goal.invariant-loop-j
 invariant-loop-j g l = record {
