@@ -20,7 +20,8 @@ use Rattle.awk_parts.specs.Parts.{AreRising}
 use Rattle.awk_sorting.specs.Order.{number_first, sort_numbers}
 use Rattle.awk_sorting.specs.Parts.{SortsPart, SortsParts, numbers_at}
 use Rattle.awk_sorting.proofs.UniqueLaws.{AreInOrder, NoneBefore, in_order_by_neighbours}
-use Rattle.awk_sorting.proofs.UniqueLaws.{sorted_is, in_order_appended, AllPassed}
+use Rattle.awk_sorting.proofs.UniqueLaws.{sorted_is, sort_in_order, in_order_appended}
+use Rattle.awk_sorting.proofs.UniqueLaws.{AllPassed}
 
 pub less_or_last : (j i : ℕ) → j ≤ i → (j < i) ⊎ (j ≡ i)
 less_or_last j i l = search (rules, eq-or-lt_of_le)
@@ -92,14 +93,17 @@ module _ {X : Type 0} (number : X → ℤ) where
         sorted_is true (map number xs) (map number ys) (IsPermutation-map number xs ys p)
         (rising ys s)
 
-    pub sorted_down : (xs ys : List X) → IsPermutation xs ys → IsSorted cmp ys
-        → map number (reverse ys) ≡ sort_numbers false (map number xs)
-    sorted_down xs ys p s =
-        sorted_is false (map number xs) (map number (reverse ys))
-        (IsPermutation-map number xs (reverse ys)
-        (IsPermutation-trans xs ys (reverse ys) p (IsPermutation-reverse ys)))
-        (subst (AreInOrder false) (sym (map-reverse ys)) (turned_in_order (map number ys)
-        (rising ys s)))
+  pub sorted_down : (xs ys : List X) → IsPermutation xs ys
+      → map number ys ≡ sort_numbers true (map number xs)
+      → map number (reverse ys) ≡ sort_numbers false (map number xs)
+  sorted_down xs ys p e =
+      let in_order : AreInOrder true (map number ys) =
+      subst (AreInOrder true) (sym e) (sort_in_order true (map number xs)) in
+      sorted_is false (map number xs) (map number (reverse ys))
+      (IsPermutation-map number xs (reverse ys)
+      (IsPermutation-trans xs ys (reverse ys) p (IsPermutation-reverse ys)))
+      (subst (AreInOrder false) (sym (map-reverse ys)) (turned_in_order (map number ys)
+      in_order))
 
   -- ---- a part of a slice
 

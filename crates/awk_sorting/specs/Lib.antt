@@ -1,4 +1,3 @@
-pub mod Compare
 pub mod Cells
 pub mod Order
 pub mod Lanes

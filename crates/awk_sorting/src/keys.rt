@@ -94,5 +94,5 @@ pub(crate) fn push_keys<K: Key, R: Row, L: Ledger>(
 pub(crate) fn sort_keys<K: Key>(keys: &mut Vec<K>)
     ensures { map K.number keys.new.items ≡ sort_numbers true (map K.number keys.old.items) }
 {
-    keys.sort_unstable();
+    K::sort(keys);
 }

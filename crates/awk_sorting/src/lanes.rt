@@ -9,6 +9,7 @@ ghost use Rattle.awk_parts.specs.Parts.{AreRising};
 ghost use Rattle.awk_sorting.specs.Lanes.{SortsLane};
 
 use crate::parts::sort_parts;
+use crate::wide::wide_in_order;
 use awk_lanes::{
     Arena, Index, Kind, Lane, NoMemory, Steps, byte_numbers, index_of, lane_of_nats,
     lane_of_numbers, nats_of, numbers_of,
@@ -96,7 +97,10 @@ pub fn lane_in_order<'a, L: Ledger>(
     ensures { IfOk result (SortsLane up offsets.now n lane.now) }
 {
     let ends = index_of(alloc, offsets, arena, steps)?;
-    if lane.kind() == Kind::U64 {
+    let kind = lane.kind();
+    if kind == Kind::I64 {
+        wide_in_order(lane, &ends, n, up, arena, steps)
+    } else if kind == Kind::U64 {
         great_in_order(alloc, lane, &ends, n, up, arena, steps)
     } else {
         small_in_order(alloc, lane, &ends, n, up, arena, steps)

@@ -12,6 +12,7 @@ mod offsets;
 mod parts;
 mod places;
 mod ranks;
+mod wide;
 
 pub use cells::Cells;
 pub use lanes::lane_in_order;

@@ -1,39 +1,56 @@
-//! Numbers that std's sort brings in order.
+//! Numbers of which slices are brought in order by std's sort.
 
-/// A whole number that compares as such.
-pub(crate) trait Number: Ord + Copy {
-    ghost use Rattle.std.specs.Prelude.{◌≡◌, ℤ, int_lt};
-    ghost use Rattle.std.specs.Ordering.{is_lt};
+/// A whole number, or the bytes that it lies in.
+pub(crate) trait Number: Copy {
+    ghost use Rattle.std.specs.Prelude.{◌≡◌, ℤ, map, true};
+    ghost use Rattle.std.specs.List.Sorted.{IsPermutation};
+    ghost use Rattle.awk_sorting.specs.Order.{sort_numbers};
 
     /// The number.
     ghost number: { Self → ℤ };
 
-    /// Of two the less one is the less number.
-    ghost compares: { (x y : Self) → is_lt (Self.cmp x y) ≡ int_lt (number x) (number y) };
+    /// Brings numbers in rising order.
+    fn sort(numbers: &mut [Self])
+        ensures same { IsPermutation numbers.old numbers.new }
+        ensures order { map number numbers.new ≡ sort_numbers true (map number numbers.old) };
 }
 
 impl Number for i64 {
-    ghost use Rattle.awk_sorting.specs.Compare.{int_cmp-first};
-
     ghost number = { λ z. z };
 
-    ghost compares = { int_cmp-first };
+    fn sort(numbers: &mut [i64]) {
+        numbers.sort_unstable();
+    }
 }
 
 impl Number for u128 {
     ghost use Rattle.std.specs.Prelude.{pos};
-    ghost use Rattle.awk_sorting.specs.Compare.{nat_cmp-first};
 
     ghost number = { λ n. pos n };
 
-    ghost compares = { nat_cmp-first };
+    fn sort(numbers: &mut [u128]) {
+        numbers.sort_unstable();
+    }
 }
 
 impl Number for u64 {
     ghost use Rattle.std.specs.Prelude.{pos};
-    ghost use Rattle.awk_sorting.specs.Compare.{nat_cmp-first};
 
     ghost number = { λ n. pos n };
 
-    ghost compares = { nat_cmp-first };
+    fn sort(numbers: &mut [u64]) {
+        numbers.sort_unstable();
+    }
+}
+
+// The bytes in which a lane holds an i64.
+impl Number for [u8; 8] {
+    ghost use Rattle.awk_lanes.specs.Numbers as spec;
+    ghost use Rattle.awk_lanes.specs.declared.kind.Kind.TheVariants.{I64};
+
+    ghost number = { spec.number I64 };
+
+    fn sort(numbers: &mut [[u8; 8]]) {
+        numbers.sort_unstable_by_key(|bytes| i64::from_le_bytes(*bytes));
+    }
 }

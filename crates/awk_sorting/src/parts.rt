@@ -14,7 +14,7 @@ fn sort_slice<N: Number>(numbers: &mut [N], up: bool)
     ensures same { IsPermutation numbers.old numbers.new }
     ensures order { map N.number numbers.new ≡ sort_numbers up (map N.number numbers.old) }
 {
-    numbers.sort_unstable();
+    N::sort(numbers);
     if !up {
         numbers.reverse();
     }
@@ -29,8 +29,8 @@ fn sort_part<N: Number>(numbers: &mut [N], start: usize, stop: usize, up: bool)
     sort_slice(&mut numbers[start..stop], up);
 }
 
-/// Each of n parts of a slice brought in order.
-fn sort_slice_parts<N: Number>(numbers: &mut [N], offsets: &Index, n: u64, up: bool)
+/// Each of n parts of a slice brought in order, by their offsets.
+pub(crate) fn sort_slice_parts<N: Number>(numbers: &mut [N], offsets: &Index, n: u64, up: bool)
     requires rising { AreRising offsets.now n (length numbers.old) }
     ensures { SortsParts N.number up offsets.now n numbers.old numbers.new }
 {
@@ -41,7 +41,7 @@ fn sort_slice_parts<N: Number>(numbers: &mut [N], offsets: &Index, n: u64, up: b
     }
 }
 
-/// Each of n parts brought in order, by their offsets.
+/// The same of all numbers that are at hand.
 pub(crate) fn sort_parts<N: Number>(numbers: &mut Vec<N>, offsets: &Index, n: u64, up: bool)
     requires rising { AreRising offsets.now n (length numbers.old.items) }
     ensures { SortsParts N.number up offsets.now n numbers.old.items numbers.new.items }
