@@ -13,8 +13,8 @@ use Rattle.awk_lanes.specs.Numbers.{nat_of}
 use Rattle.awk_lanes.specs.Places.{size_of, at, place_at}
 use Rattle.awk_layout.specs.Item.{leaf_value}
 use Rattle.awk_layout.specs.Kinds.{primitive_of}
-use Rattle.awk_layout.specs.Layout.{Layout, flat, empty}
-use Rattle.awk_layout.specs.Valid.{len}
+use Rattle.awk_layout.specs.Layout.{Layout, flat, indexed, empty}
+use Rattle.awk_layout.specs.Valid.{len, IsValid}
 use Rattle.awk_combi.specs.Slots.{IsSlotLane, IsSlot, AreSlots, no_places}
 
 pub place_slot : (y : Layout) (n : ℕ) (c : Column) → IsSlotLane true n c → IsSlot true y c (flat c)
@@ -29,6 +29,16 @@ place_slot y n c h = record {
     kept : (z : ℤ) → pos 0 ≤ℤ z → z ≡ pos (nat_of z)
     kept (pos n) p = refl
     kept (negsuc n) p = absurd (omega (arith, ints, p))
+
+-- items by an index over their content
+pub index_slot : (places : Bool) (y : Layout) (c : Column) (z : Layout) → IsValid y
+    → IsSlotLane places (len y) c → places ≡ false → z ≡ indexed c y → IsSlot places y c z
+index_slot places y c z v h e f = rw (e, f) (record {
+  valid = (h.few, h.within e, v);
+  size = refl;
+  typ = refl;
+  items = λ k p. refl;
+})
 
 -- one slot more
 pub one_more : (places : Bool) (y : Layout) (cs : List Column) (j : ℕ) (zs : List Layout)

@@ -1,5 +1,7 @@
 //! Lanes of places and arrays of what stands there, one a slot.
 ghost use Rattle.std.specs.Prelude.{◌≡◌, ◌<◌, ◌≤◌, ◌^◌, length, IfOk};
+ghost use Rattle.awk_lanes.specs.Places.{size_of, IsIndex};
+ghost use Rattle.awk_layout.specs.Layout.{indexed, is_rows};
 ghost use Rattle.awk_layout.specs.Valid.{len};
 ghost use Rattle.awk_combi.specs.Slots.{IsSlot, IsSlotLane, AreSlots, AreSlotLanes, ArePlaced};
 
@@ -7,7 +9,7 @@ use crate::spans::{end_lane, first_lane};
 use awk_columns::Lists;
 use awk_gather::gather;
 use awk_lanes::{Arena, Lane, Lanes, Steps};
-use awk_layout::{Array, Node, Nodes};
+use awk_layout::{Array, Class, Node, Nodes};
 use awk_places::{Rising, rising_lanes, rising_offsets};
 use awk_types::NoMemory;
 use std::alloc::Global;
@@ -51,8 +53,35 @@ pub(crate) fn tuple_places<'a, L: Ledger>(
     }
 }
 
-/// What stands in a slot, by its places.
-fn slot_node<'a, L: Ledger>(
+/// Whether items are records.
+fn are_records(content: &Array) -> bool
+    ensures { result ≡ is_rows content.now }
+{
+    match content.node().class() {
+        Class::Row { .. } => true,
+        _ => false,
+    }
+}
+
+/// The records at places, as an index over all of them. It is the lane itself: no column is moved,
+/// and numbers of 64 bits are read where they lie.
+fn records_at<'a, L: Ledger>(
+    alloc: Global,
+    content: &Array<'a>,
+    lane: &Lane<'a>,
+    steps: &mut Steps<L>,
+) -> Result<Node<'a>, NoMemory>
+    requires small { size_of lane.now < 2 ^ 63 }
+    requires places { IsIndex lane.now (len content.now) }
+    ensures { IfOk result (λ r. r ≡ indexed lane.now content.now) }
+{
+    let content = Box::new(alloc, content.node().copy(alloc)?)?;
+    Ok(Node::indexed(lane.copy(), content, steps))
+}
+
+/// What stands in a slot, by its places: these themselves, or the items there. Records are not
+/// moved: the lane is an index over them.
+pub fn slot_node<'a, L: Ledger>(
     alloc: Global,
     places: bool,
     content: &Array<'a>,
@@ -65,6 +94,12 @@ fn slot_node<'a, L: Ledger>(
 {
     if places {
         return Ok(Node::numpy(lane.copy(), steps));
+    }
+    let _ = content.len();
+    let records = are_records(content);
+    if records {
+        let node = records_at(alloc, content, lane, steps)?;
+        return Ok(node);
     }
     let items = gather(alloc, content, lane, arena, steps)?;
     let _ = items.len();

@@ -1,15 +1,13 @@
 //! Tuples of one item of a list of each slot.
 ghost use Rattle.std.specs.Prelude.{◌≡◌, ◌<◌, ◌^◌, IfOk, length, replicate};
-ghost use Rattle.awk_layout.specs.Valid.{len};
-ghost use Rattle.awk_combi.specs.Slots.{IsSlot, IsSlotLane};
 ghost use Rattle.awk_places.specs.Products.{product_lanes};
 ghost use Rattle.awk_products.specs.Slots.{AreSlots, AreSlotLanes, IsFew};
 ghost use Rattle.awk_products.specs.Sources.{AreSources, AreProducts, repeated, zeros, slot_firsts};
 
 use crate::sources::Sources;
-use awk_gather::gather;
+use awk_combi::slot_node;
 use awk_lanes::{Arena, Kind, Lane, Lanes, Num, Numbers, Steps, made_lane, number};
-use awk_layout::{Array, Arrays, Node, Nodes};
+use awk_layout::{Arrays, Node, Nodes};
 use awk_places::{product_lanes, product_offsets};
 use awk_types::NoMemory;
 use std::alloc::Global;
@@ -98,26 +96,6 @@ fn slot_lanes<'a, L: Ledger>(
         return product_lanes(alloc, n, total, &firsts, &x.lengths, arena, steps);
     }
     product_lanes(alloc, n, total, &x.firsts, &x.lengths, arena, steps)
-}
-
-/// What stands in a slot, by its places.
-fn slot_node<'a, L: Ledger>(
-    alloc: Global,
-    places: bool,
-    content: &Array<'a>,
-    lane: &Lane<'a>,
-    arena: &'a Arena,
-    steps: &mut Steps<L>,
-) -> Result<Node<'a>, NoMemory>
-    requires { IsSlotLane places (len content.now) lane.now }
-    ensures { IfOk result (IsSlot places content.now lane.now) }
-{
-    if places {
-        return Ok(Node::numpy(lane.copy(), steps));
-    }
-    let items = gather(alloc, content, lane, arena, steps)?;
-    let _ = items.len();
-    Ok(items.into_node())
 }
 
 /// What stands in each slot.
