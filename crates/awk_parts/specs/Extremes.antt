@@ -1,12 +1,17 @@
--- The extreme of numbers.
-use Rattle.std.specs.Prelude.{◌≡◌, ℕ, ◌<◌, ℤ, pos, List, length, get_or, Some}
-use Rattle.awk_numbers.specs.Folds.{first_extreme}
+-- The extreme of numbers of i64.
+use Rattle.std.specs.Prelude.{◌≡◌, ℕ, ◌<◌, pos, List, length, map, get_or, Some, if◌then◌else◌}
+use Rattle.awk_lanes.specs.Numbers.{number}
+use Rattle.awk_lanes.specs.declared.kind.Kind.TheVariants.{I64}
+use Rattle.awk_numbers.specs.Folds.{beats, first_extreme}
 use Rattle.awk_numbers.specs.declared.extremes.Extreme.{Extreme}
+use Rattle.awk_parts.specs.declared.wide.Best.{Best}
 
--- a number, and the first of its places
-pub record IsExtreme (how : Extreme) (zs : List ℤ) (z : ℤ) : Type 0 where
-  pub place : ℕ
-  pub inside : place < length zs
-  pub found : get_or zs place (pos 0) ≡ z
-  pub before : (k : ℕ) → k < place → get_or zs k (pos 0) ≡ z → ⊥
-  pub first : first_extreme how zs ≡ Some place
+-- the better one of the best so far and the next number
+abbrev pub better_of : Extreme → Best → Best → Best
+better_of how old next = if beats how next.number old.number then next else old
+
+-- the extreme, and the first of its places
+pub record IsBest (how : Extreme) (gs : List (List ℕ)) (b : Best) : Type 0 where
+  pub inside : b.place < length gs
+  pub found : get_or (map (number I64) gs) b.place (pos 0) ≡ b.number
+  pub first : first_extreme how (map (number I64) gs) ≡ Some b.place

@@ -5,7 +5,8 @@
 //! or none where one does not fit its primitive, and `tally_parts` their counts; `extremes_of` is
 //! the least or the greatest of each part, `places_of` where it stands, and `found_of` where among
 //! items of which some are null; `present_parts` tells which parts have a number. Numbers of i64
-//! are compared as such.
+//! are compared as such; whether some or all of a part are not 0 is told at the first that settles
+//! it, of numbers of i64 and of truth values.
 #![tactic(auto)]
 
 mod extremes;
@@ -14,6 +15,7 @@ mod folds;
 mod parts;
 mod places;
 mod tallies;
+mod truths;
 mod wide;
 
 pub use extremes::extremes_of;

@@ -6,6 +6,7 @@ ghost use Rattle.awk_parts.specs.Lanes.{tallied_at};
 ghost use Rattle.awk_parts.specs.Spans.{span_count, AreSpanned};
 
 use crate::parts::{Parts, span_of};
+use crate::truths::told_early;
 use awk_kernels::Kernels;
 use awk_lanes::{Arena, Kind, Lane, NoMemory, Num, Numbers, Steps, made_lane};
 use awk_numbers::{Tally, tally_of};
@@ -44,14 +45,12 @@ impl<'c, 'b, 'a, N: Kernels> Numbers for TalliedParts<'c, 'b, 'a, N> {
         f.parts.now.spans.now };
 
     fn number<L: Ledger>(&self, i: u64, steps: &mut Steps<L>) -> Num {
+        let numbers = self.parts.numbers;
         let span = span_of(self.parts, i);
-        tally_of(
-            self.how,
-            self.parts.numbers,
-            span.start,
-            span.stop,
-            self.kernels,
-        )
+        match told_early(self.how, numbers, span) {
+            Some(told) => Num::Truth(told),
+            None => tally_of(self.how, numbers, span.start, span.stop, self.kernels),
+        }
     }
 }
 

@@ -1,10 +1,10 @@
 //! The least or the greatest of numbers of i64, which are compared as such.
-ghost use Rattle.std.specs.Prelude.{◌≡◌, ◌-◌, ◌<◌, ◌≤◌, ℕ, pos, get_or, length, map, IfSome};
+ghost use Rattle.std.specs.Prelude.{◌≡◌, ◌-◌, ◌<◌, ◌≤◌, pos, get_or, length, map, IfSome};
 ghost use Rattle.std.specs.List.{slice_range};
 ghost use Rattle.awk_lanes.specs.Numbers.{number};
 ghost use Rattle.awk_lanes.specs.declared.kind.Kind.TheVariants as Kind;
 ghost use Rattle.awk_numbers.specs.Folds.{first_extreme, whole_numbers};
-ghost use Rattle.awk_parts.specs.Extremes.{IsExtreme};
+ghost use Rattle.awk_parts.specs.Extremes.{better_of, IsBest};
 ghost use Rattle.awk_parts.specs.Lanes.{number_or_zero};
 
 use crate::parts::Span;
@@ -52,53 +52,60 @@ impl Side for Greater {
 
 /// The number at place i.
 #[inline(always)]
-fn number_at(groups: &[[u8; 8]], i: usize) -> i64
+pub(crate) fn number_at(groups: &[[u8; 8]], i: usize) -> i64
     requires { i < length groups.now }
     ensures { result ≡ get_or (map (number Kind.I64) groups.now) i (pos 0) }
 {
     i64::from_le_bytes(groups[i])
 }
 
-/// The extreme number.
-fn extreme_in<S: Side>(groups: &[[u8; 8]]) -> i64
-    requires some { 0 < length groups.now }
-    ensures { IsExtreme S.how (map (number Kind.I64) groups.now) result }
+/// An extreme number, and the first of its places.
+#[derive(Clone, Copy)]
+pub(crate) struct Best {
+    pub place: usize,
+    pub number: i64,
+}
+
+/// The better one of the best so far and the next number.
+#[inline(always)]
+fn better<S: Side>(old: Best, next: Best) -> Best
+    ensures { result ≡ better_of S.how old next }
 {
-    let mut best = number_at(groups, 0);
+    if S::beats(next.number, old.number) {
+        next
+    } else {
+        old
+    }
+}
+
+/// The extreme.
+#[inline(always)]
+fn best_in<S: Side>(groups: &[[u8; 8]]) -> Best
+    requires some { 0 < length groups.now }
+    ensures { IsBest S.how groups.now result }
+{
+    let first = number_at(groups, 0);
+    let mut best = Best {
+        place: 0,
+        number: first,
+    };
     for i in 0..groups.len() {
-        let z = number_at(groups, i);
-        if S::beats(z, best) {
-            best = z;
-        }
+        let number = number_at(groups, i);
+        best = better::<S>(best, Best { place: i, number });
     }
     best
 }
 
-/// The extreme number.
-fn extreme_number(how: Extreme, groups: &[[u8; 8]]) -> i64
+/// The extreme.
+#[inline(always)]
+fn best_of(how: Extreme, groups: &[[u8; 8]]) -> Best
     requires some { 0 < length groups.now }
-    ensures { IsExtreme how (map (number Kind.I64) groups.now) result }
+    ensures { IsBest how groups.now result }
 {
     match how {
-        Extreme::Least => extreme_in::<Lesser>(groups),
-        Extreme::Greatest => extreme_in::<Greater>(groups),
+        Extreme::Least => best_in::<Lesser>(groups),
+        Extreme::Greatest => best_in::<Greater>(groups),
     }
-}
-
-/// The first place of a number that is there. All are looked at from the last one on, since a
-/// search that ends where it finds one is slower in lists of a few numbers.
-fn first_place(groups: &[[u8; 8]], z: i64) -> usize
-    ensures { let zs = map (number Kind.I64) groups.now in
-        (k : ℕ) → k < length groups.now → get_or zs k (pos 0) ≡ z
-        → (result ≤ k) × (get_or zs result (pos 0) ≡ z) }
-{
-    let mut place = 0;
-    for i in (0..groups.len()).rev() {
-        if number_at(groups, i) == z {
-            place = i;
-        }
-    }
-    place
 }
 
 /// The first place of the extreme, or none of none.
@@ -109,8 +116,7 @@ fn extreme_place(how: Extreme, groups: &[[u8; 8]]) -> Option<u64>
     if groups.is_empty() {
         return None;
     }
-    let z = extreme_number(how, groups);
-    Some(first_place(groups, z) as u64)
+    Some(best_of(how, groups).place as u64)
 }
 
 /// The extreme of the numbers from a start below a stop, and 0 of none.
@@ -124,7 +130,7 @@ pub(crate) fn wide_extreme(how: Extreme, groups: &[[u8; 8]], span: Span) -> i64
     if part.is_empty() {
         return 0;
     }
-    extreme_number(how, part)
+    best_of(how, part).number
 }
 
 /// The first place of the extreme of the numbers from a start below a stop, counted from the start.

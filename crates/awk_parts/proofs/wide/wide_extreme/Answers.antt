@@ -1,4 +1,4 @@
-use Rattle.std.proofs.Common.{◌≡◌, sym, ◌∙◌, subst, map, rules}
+use Rattle.std.proofs.Common.{◌≡◌, sym, ◌∙◌, subst, rules}
 use Rattle.std.specs.Prelude.{FitsSigned}
 use Rattle.std.specs.Int.{w64}
 use Rattle.std.specs.List.{slice_range}
@@ -8,17 +8,17 @@ use Rattle.awk_lanes.specs.declared.kind.Kind.TheVariants as Kind
 use Rattle.awk_numbers.specs.Folds.{first_extreme}
 use Rattle.awk_numbers.proofs.PartLaws.{slice_range-map}
 use Rattle.awk_parts.specs.Lanes.{number_or_zero}
-use Rattle.awk_parts.proofs.ExtremeLaws.{extreme_read}
+use Rattle.awk_parts.proofs.ExtremeLaws.{best_read}
 use Rattle.awk_parts.proofs.wide.wide_extreme.Goals as goal
 
 pub returns : goal.returns
 returns c =
     let how = c.args.how in
     let gs = c.args.groups.now in
-    let z = c.extreme_number.result in
+    let z = c.best_of.result.number in
     let part = slice_range gs c.args.span.start c.args.span.stop in
     let f : FitsSigned w64 z = search rules in
     to_z-of_z w64 z f
     ∙ subst (λ zs. z ≡ number_or_zero zs (first_extreme how zs))
     (sym (slice_range-map (number Kind.I64) gs c.args.span.start c.args.span.stop))
-    (extreme_read how (map (number Kind.I64) part) z c.extreme_number.ensures)
+    (best_read how part c.best_of.result c.best_of.ensures)

@@ -1,0 +1,10 @@
+use Rattle.std.proofs.Common.{◌≡◌, take}
+use Rattle.std.specs.Prelude.{false}
+use Rattle.std.specs.List.{list_any}
+use Rattle.awk_lanes.specs.Numbers.{is_nonzero}
+use Rattle.awk_parts.proofs.truths.is_some_true.Given as goal
+
+abbrev pub invariant-loop-i : goal.invariant-loop-i
+invariant-loop-i g l = record {
+  none : list_any is_nonzero (take l.i (g.R.Row.numbers l.row)) ≡ false;
+}
