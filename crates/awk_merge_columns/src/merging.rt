@@ -14,7 +14,7 @@ use crate::parts::part_type;
 use awk_lanes::{Arena, Steps};
 use awk_layout::{Node, Nodes};
 use awk_merge_lists::{list_level, numbers, regular_level};
-use awk_merge_rows::{option_level, row_level, union_level};
+use awk_merge_rows::{present_level, row_level, union_level};
 use awk_merge_sides::{Groups, Sides};
 use awk_types::{NoMemory, Typ, Typs};
 use std::alloc::Global;
@@ -64,7 +64,7 @@ fn merge_options<'a, L: Ledger>(
     requires counted { IsCounted sides.now }
     ensures { IfOk result (IsMerged (opt (typ_of present.now)) (sides_of sides.now)) }
 {
-    let level = option_level(alloc, sides, arena, steps)?;
+    let level = present_level(alloc, sides, arena, steps)?;
     let content = merge(alloc, present, &level.sides, arena, steps)?;
     option_node(alloc, level.index, content, steps)
 }

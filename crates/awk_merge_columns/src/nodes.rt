@@ -2,9 +2,10 @@
 ghost use Rattle.std.specs.Prelude.{◌≡◌, ◌*◌, ◌<◌, ◌≤◌, ◌^◌, IfOk, IfSome};
 ghost use Rattle.awk_types.specs.DataType.{unknown};
 ghost use Rattle.awk_types.specs.View.{typ_of};
-ghost use Rattle.awk_lanes.specs.Places.{size_of, AreSpans, IsOptionalIndex};
-ghost use Rattle.awk_layout.specs.Layout.{count, layouts_from, lists, optional, regular, rows};
+ghost use Rattle.awk_lanes.specs.Places.{size_of, AreSpans};
+ghost use Rattle.awk_layout.specs.Layout.{count, layouts_from, lists, regular, rows};
 ghost use Rattle.awk_layout.specs.Valid.{len, AllReach, AreNames};
+ghost use Rattle.awk_merge_rows.specs.PresentLevels.{option_over, IsIndexOf};
 ghost use Rattle.awk_merge_rows.specs.RowLevels.{row_names};
 ghost use Rattle.awk_merge_sides.specs.Sides.{sides_of, AreSides, IsMerged};
 
@@ -42,19 +43,23 @@ pub fn nothing<'a, L: Ledger>(sides: &Sides<'a>, steps: &mut Steps<L>) -> Node<'
     Node::empty(steps)
 }
 
-/// The items at an index, and null at each negative number of it.
+/// The items at an index, and null at each negative number of it; or all items, where there is no
+/// index.
 pub fn option_node<'a, L: Ledger>(
     alloc: Global,
-    index: Lane<'a>,
+    index: Option<Lane<'a>>,
     content: Node<'a>,
     steps: &mut Steps<L>,
 ) -> Result<Node<'a>, NoMemory>
-    requires length { size_of index < 2 ^ 63 }
-    requires valid { IsOptionalIndex index (len content) }
-    ensures { IfOk result (λ x. x ≡ optional index.entry content.entry) }
+    requires { IsIndexOf (len content) index }
+    ensures { IfOk result (λ x. x ≡ option_over index.entry content.entry) }
 {
+    let n = content.len();
     let content = Box::new(alloc, content)?;
-    Ok(Node::indexed_option(index, content, steps))
+    match index {
+        Some(index) => Ok(Node::indexed_option(index, content, steps)),
+        None => Ok(Node::unmasked(content, n, steps)),
+    }
 }
 
 /// Lists from their starts below their stops.

@@ -8,3 +8,4 @@ pub mod TaggedLaws
 pub mod TargetLaws
 pub mod UnionLaws
 pub mod UnionSides
+pub mod WholeLaws

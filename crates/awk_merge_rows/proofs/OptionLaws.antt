@@ -11,30 +11,25 @@ use Rattle.std.proofs.lemmas.List.FromFn.{map-range_with_len_more}
 use Rattle.std.proofs.lemmas.Simd.{map-map}
 use Rattle.awk_base.proofs.Ranges.{map-same}
 use Rattle.awk_base.proofs.Every.{all-append}
-use Rattle.awk_types.specs.DataType.{DataType, unknown, leaf, var, reg, rec, tup, opt, uni}
-use Rattle.awk_types.specs.Simple.{is_option, present, option_of, IsSimple}
+use Rattle.awk_types.specs.DataType.{DataType, opt}
+use Rattle.awk_types.specs.Simple.{is_option, IsSimple}
 use Rattle.awk_types.specs.Value.{Value, null}
 use Rattle.awk_base.proofs.Lists.{take-get}
 use Rattle.awk_lanes.specs.Column.{Column}
 use Rattle.awk_lanes.specs.Making.{Making, with_item}
 use Rattle.awk_lanes.specs.Places.{size_of, at, option_place, option_place_at, IsOptionalIndex}
 use Rattle.awk_layout.specs.Item.{at_option}
-use Rattle.awk_layout.specs.Layout.{Layout, optional}
+use Rattle.awk_layout.specs.Layout.{Layout}
 use Rattle.awk_layout.specs.Typing.{array_type, array_items}
 use Rattle.awk_layout.specs.Valid.{len}
-use Rattle.awk_layout.proofs.ArrayItems.{length-array_items}
 use Rattle.awk_gather.specs.Arrays.{array_item, pick}
-use Rattle.awk_gather.proofs.GatheredArrays.{picked_items}
-use Rattle.awk_gather.proofs.OptionItems.{item-optional}
 use Rattle.awk_columns.specs.Opened.{OpensOption}
 use Rattle.awk_columns.proofs.ArrayLaws.{array_items-at}
 use Rattle.awk_unify.specs.Carry.{Carry, carried}
-use Rattle.awk_merge_rows.specs.OptionLevels.{IsOptionLevel}
 use Rattle.awk_merge_rows.specs.Present.{with_items, places_on, moved, index_on, ArePresent}
 use Rattle.awk_merge_rows.specs.Present.{IsPresentPut}
-use Rattle.awk_merge_sides.specs.Sides.{Side, sides_of, side_items, merged_items, with_side}
-use Rattle.awk_merge_sides.specs.Sides.{Carries, IsSide, AreSides, IsMerged}
-use Rattle.awk_merge_rows.specs.declared.options.OptionLevel.{OptionLevel}
+use Rattle.awk_merge_sides.specs.Sides.{Side, side_items, merged_items, with_side}
+use Rattle.awk_merge_sides.specs.Sides.{Carries, IsSide, AreSides}
 use Rattle.awk_unify.proofs.AfterLaws.{carry_null}
 use Rattle.awk_merge_sides.proofs.CarryLaws.{Carries-opt, Carries-present}
 use Rattle.awk_merge_sides.proofs.SideLaws.{merged_items-side, merged_items-with_side}
@@ -158,12 +153,12 @@ pushed_room before after total first x f a b t l =
 
 -- ---- one column more
 
-all-left : {X : Type 0} (P : X → Type 0) (xs ys : List X) → AllByRecursion P (xs ++ ys)
+pub all-left : {X : Type 0} (P : X → Type 0) (xs ys : List X) → AllByRecursion P (xs ++ ys)
     → AllByRecursion P xs
 all-left P [] ys h = tt
 all-left P (x ∷ xs) ys h = (h.0, all-left P xs ys h.1)
 
-all-last : {X : Type 0} (P : X → Type 0) (xs : List X) (x : X) → AllByRecursion P (xs ++ x ∷ [])
+pub all-last : {X : Type 0} (P : X → Type 0) (xs : List X) (x : X) → AllByRecursion P (xs ++ x ∷ [])
     → P x
 all-last P [] x h = h.0
 all-last P (y ∷ xs) x h = all-last P xs x h.1
@@ -288,36 +283,3 @@ pub present_room : (ss : List Side) (i : ℕ) (s : Side) (present : List Side) (
     → ArePresent (take i ss) present m.items → length m.items + len s.column ≤ m.room
 present_room ss i s present m e r h =
     omega (arith, total-within ss i s e, present_size (take i ss) present m.items h, r)
-
--- ---- all columns
-
--- ---- the column of the index over what is present
-
-pub merged_len : (t : DataType) (ss : List Side) (y : Layout) → IsMerged t ss y
-    → len y ≡ length (merged_items ss)
-merged_len t ss y m = sym (length-array_items y) ∙ ap length m.items
-
-pub option_index : (u : DataType) (ss : List Side) (r : OptionLevel) (y : Layout)
-    → IsOptionLevel ss r → IsMerged u (sides_of r.sides) y → IsOptionalIndex r.index (len y)
-option_index u ss r y o m =
-    subst (IsOptionalIndex r.index) (sym (merged_len u (sides_of r.sides) y m)) o.index
-
-no_option : (t : DataType) → is_option t ≡ false → present t ≡ t
-no_option unknown e = refl
-no_option (leaf p) e = refl
-no_option (var t) e = refl
-no_option (reg n t) e = refl
-no_option (rec ns ts) e = refl
-no_option (tup ts) e = refl
-no_option (uni ts) e = refl
-no_option (opt t) e = cc
-
-pub option_merged : (u : DataType) (ss : List Side) (r : OptionLevel) (y : Layout)
-    → is_option u ≡ false → IsOptionLevel ss r → IsMerged u (sides_of r.sides) y
-    → IsMerged (opt u) ss (optional r.index y)
-option_merged u ss r y e o m = record {
-  typ = ap option_of m.typ ∙ ap opt (no_option u e);
-  items = picked_items y (optional r.index y) r.index o.kind (option_index u ss r y o m) refl
-      (λ i l. item-optional r.index y i)
-      ∙ ap (λ vs. pick vs r.index.items) m.items ∙ sym o.items;
-}

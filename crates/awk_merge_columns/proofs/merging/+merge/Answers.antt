@@ -3,9 +3,10 @@ use Rattle.std.proofs.lemmas.Result.{IfOk-weaker}
 use Rattle.awk_types.specs.DataType.{opt, reg, var}
 use Rattle.awk_types.specs.View.{typ_of, typs_of}
 use Rattle.awk_layout.specs.Array.{IsArrayType}
-use Rattle.awk_layout.specs.Layout.{layouts_from, lists, optional, regular, rows}
+use Rattle.awk_layout.specs.Layout.{layouts_from, lists, regular, rows}
 use Rattle.awk_merge_lists.specs.ListLevels.{IsListLevel, IsRegularLevel}
 use Rattle.awk_merge_sides.specs.Groups.{groups_of}
+use Rattle.awk_merge_rows.specs.PresentLevels.{option_over}
 use Rattle.awk_merge_rows.specs.RowLevels.{row_names}
 use Rattle.awk_merge_columns.specs.PartTypes.{part_types}
 use Rattle.awk_merge_sides.specs.Sides.{IsMerged, sides_of}
@@ -16,7 +17,7 @@ use Rattle.awk_merge_columns.proofs.MergedLaws.{row_groups, row_parts_lawful, ro
 use Rattle.awk_merge_columns.proofs.MergedLaws.{rows_merged}
 use Rattle.awk_merge_columns.proofs.MergedLaws.{rows_reach, union_groups, union_parts_lawful}
 use Rattle.awk_merge_columns.proofs.MergedLaws.{unions_merged, unions_valid}
-use Rattle.awk_merge_rows.proofs.OptionLaws.{option_index, option_merged}
+use Rattle.awk_merge_rows.proofs.WholeLaws.{present_index, present_merged}
 use Rattle.awk_merge_lists.proofs.RegularLaws.{regular_merged, regular_room}
 use Rattle.awk_merge_sides.proofs.SideLaws.{all-get}
 use Rattle.awk_merge_columns.proofs.TypeParts.{item_lawful, present_plain, sized_lawful}
@@ -24,10 +25,9 @@ use Rattle.awk_merge_columns.proofs.merging.+merge.Goals as goal
 
 -- ---- options
 
-pub merge_options-option_node-requires-clause-valid :
-    goal.merge_options-option_node-requires-clause-valid
-merge_options-option_node-requires-clause-valid g t c =
-    option_index (typ_of c.args.present.now) (sides_of c.args.sides.now) c.in_ok-level.level
+pub merge_options-option_node-requires : goal.merge_options-option_node-requires
+merge_options-option_node-requires g t c =
+    present_index (typ_of c.args.present.now) (sides_of c.args.sides.now) c.in_ok-level.level
     c.in_ok-content.content c.in_ok-level.ensures c.in_ok-content.ensures
 
 pub merge_options-returns : goal.merge_options-returns
@@ -35,9 +35,9 @@ merge_options-returns g t c =
     let u = typ_of c.args.present.now in
     let ss = sides_of c.args.sides.now in
     IfOk-weaker c.option_node.result
-    (λ x. x ≡ optional c.in_ok-level.level.index c.in_ok-content.content) (IsMerged (opt u) ss)
+    (λ x. x ≡ option_over c.in_ok-level.level.index c.in_ok-content.content) (IsMerged (opt u) ss)
     (λ x e. subst (IsMerged (opt u) ss) (sym e)
-    (option_merged u ss c.in_ok-level.level c.in_ok-content.content
+    (present_merged u ss c.in_ok-level.level c.in_ok-content.content
     (present_plain u c.requires.lawful)
     c.in_ok-level.ensures c.in_ok-content.ensures))
     c.option_node.ensures
