@@ -5,3 +5,4 @@ mod ClassLaws
 mod ShareLaws
 pub mod ItemLaws
 mod WholeLaws
+mod InRowLaws

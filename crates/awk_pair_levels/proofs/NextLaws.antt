@@ -83,6 +83,24 @@ next_items n m p y z e g = record {
 
 -- ---- what a share is made of
 
+next-one : (m k : ℕ → ℕ) (n : ℕ) (p : Share) (z : Layout) → ((i : ℕ) → i < n → m i ≡ k i)
+    → IsNext m n p z → IsNext k n p z
+next-one m k n p z e h = record {
+  size = h.size ∙ before-same m k n e;
+  typ = h.typ;
+  items = λ i j a b.
+      ap (λ q. array_item z (q + j)) (sym (before-same m k i (λ c r. e c (omega arith))))
+      ∙ h.items i j a (omega (arith, e i a));
+}
+
+-- the items of lists that are as long as others
+even_next : (m : ℕ → ℕ) (n : ℕ) (l : Listed) (z : Layout) → size_of l.starts ≡ n
+    → IsEven m n (Lists l) → IsNext (length_of l) (size_of l.starts) (Lists l) z
+    → IsNext m n (Lists l) z
+even_next m n l z a v h =
+    next-one (length_of l) m n (Lists l) z v
+    (subst (λ j. IsNext (length_of l) j (Lists l) z) a h)
+
 module _ (m : ℕ → ℕ) (n : ℕ) (ks : Column) where
   pub no_repeats : (ps : List Share) → list_all is_lists ps ≡ true → AreRepeats m n ks ps
   no_repeats [] e = tt
@@ -110,7 +128,7 @@ module _ (m : ℕ → ℕ) (n : ℕ) (ks : Column) where
 
   pub laid_next : (p : Share) (z : Layout) → IsAsLong n p → IsEven m n p → IsRepeated m n ks p
       → IsLaid ks p z → IsNext m n p z
-  laid_next (Lists l) z a v r h = next_lists n m l z a v h
+  laid_next (Lists l) z a v r h = even_next m n l z a v h
   laid_next (Items y) z a v r h = next_items n m ks y z r h
 
 -- ---- one share after another
@@ -121,16 +139,6 @@ next_append m n [] [] p z h g = (g, tt)
 next_append m n (q ∷ ps) (y ∷ zs) p z h g = (h.0, next_append m n ps zs p z h.1 g)
 next_append m n [] (y ∷ zs) p z h g = absurd h
 next_append m n (q ∷ ps) [] p z h g = absurd h
-
-next-one : (m k : ℕ → ℕ) (n : ℕ) (p : Share) (z : Layout) → ((i : ℕ) → i < n → m i ≡ k i)
-    → IsNext m n p z → IsNext k n p z
-next-one m k n p z e h = record {
-  size = h.size ∙ before-same m k n e;
-  typ = h.typ;
-  items = λ i j a b.
-      ap (λ q. array_item z (q + j)) (sym (before-same m k i (λ c r. e c (omega arith))))
-      ∙ h.items i j a (omega (arith, e i a));
-}
 
 pub next_by : (m k : ℕ → ℕ) (n : ℕ) (ps : List Share) (zs : List Layout)
     → ((i : ℕ) → i < n → m i ≡ k i) → AreNext m n ps zs → AreNext k n ps zs

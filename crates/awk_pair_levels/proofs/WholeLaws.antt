@@ -52,7 +52,7 @@ same_lane a b xs ys k e f g h i =
 
 -- ---- lists in a row
 
-pos-of : (z : ℤ) → pos 0 ≤ℤ z → z ≡ pos (nat_of z)
+pub pos-of : (z : ℤ) → pos 0 ≤ℤ z → z ≡ pos (nat_of z)
 pos-of (pos n) h = refl
 pos-of (negsuc n) h = absurd (omega (arith, ints, h))
 
@@ -64,7 +64,7 @@ pos-up n a b true e h =
 pos-up n a b false e h = grind (arith, e)
 
 -- a span that begins at a place ends at one
-span-up : (n : ℕ) (a b : ℤ) → IsSpan n a b → pos 0 ≤ℤ a
+pub span-up : (n : ℕ) (a b : ℤ) → IsSpan n a b → pos 0 ≤ℤ a
     → (pos 0 ≤ℤ b) × (nat_of a ≤ nat_of b)
 span-up n (pos a) (pos b) h p = (omega (arith, ints), pos-up n a b (nat_lt b a) refl h)
 span-up n (pos a) (negsuc b) h p =

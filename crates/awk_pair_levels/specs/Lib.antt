@@ -1,3 +1,4 @@
+pub mod InRow
 pub mod Inner
 pub mod Shares
 pub mod Single

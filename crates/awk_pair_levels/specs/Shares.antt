@@ -17,7 +17,6 @@ use Rattle.awk_gather.specs.Arrays.{array_item, IsGathered}
 use Rattle.awk_counts.specs.Counted.{spans}
 use Rattle.awk_columns.specs.ListClass.{Class}
 use Rattle.awk_columns.specs.Lists.{Listed, span_length}
-use Rattle.awk_columns.specs.Reached.{IsReached}
 use Rattle.awk_pair_sides.specs.Levels.{Role, listed, role, role_class, unless, item_of}
 use Rattle.awk_pair_sides.specs.Levels.{common_class}
 use Rattle.awk_pair_sides.specs.Sides.{side, always, first_or_zero, all_same}
@@ -152,7 +151,7 @@ IsCounted c ks (Items y) = (ks.kind ≡ I64) × IsIndex ks (len y)
 
 -- z has the items of lists, or those at places
 abbrev pub IsLaid : Column → Share → Layout → Type 0
-IsLaid ks (Lists l) z = IsReached l.content (spans l.starts l.stops) z
+IsLaid ks (Lists l) z = IsNext (length_of l) (size_of l.starts) (Lists l) z
 IsLaid ks (Items y) z = IsGathered y ks z
 
 -- where there is something to repeat: the place of each row, as often as it has items

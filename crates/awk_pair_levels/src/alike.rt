@@ -1,30 +1,50 @@
 //! Whether the lists of a level are equally long.
-ghost use Rattle.std.specs.Prelude.{◌≡◌, ◌==◌, true};
+ghost use Rattle.std.specs.Prelude.{◌≡◌, ◌==◌, length, slice_get, true, Some, IfSome};
 ghost use Rattle.std.specs.List.{list_any, list_all, flat_map, range_with_len};
+ghost use Rattle.awk_lanes.specs.Counted.{offsets_by};
 ghost use Rattle.awk_lanes.specs.Places.{size_of};
 ghost use Rattle.awk_pair_sides.specs.Levels.{common_class};
 ghost use Rattle.awk_pair_levels.specs.Shares.{length_of, is_lists, is_alike as is_alike_to};
 ghost use Rattle.awk_pair_levels.specs.Shares.{share_class, class_list};
 ghost use Rattle.awk_pair_levels.specs.Shares.{IsAsLong, AreAsLong, IsAmong};
+ghost use Rattle.awk_pair_levels.specs.InRow.{IsOf, AreOf};
+ghost use Rattle.awk_pair_levels.specs.declared.shares.Share.TheVariants as given;
 
+use crate::in_row::begin_at;
 use crate::shares::Share;
 use crate::whole::are_same;
 use awk_columns::Lists;
-use awk_lanes::Steps;
+use awk_lanes::{Lane, Steps};
+use awk_layout::{Array, Arrays};
 use std::sync::ledger::Ledger;
+
+/// Lists by which those of a level are judged, and the place of the operand that gives them.
+#[derive(Drop)]
+pub(crate) struct Lead<'b, 'a> {
+    pub(crate) place: usize,
+    pub(crate) lists: &'b Lists<'a>,
+}
+
+/// The first operand that gives lists.
+pub(crate) fn lead_in<'b, 'a>(shares: &'b [Share<'a>]) -> Lead<'b, 'a>
+    requires { list_any is_lists shares.now ≡ true }
+    ensures { slice_get shares.now result.place ≡ Some (given.Lists result.lists.now) }
+{
+    for i in 0..shares.len() {
+        match &shares[i] {
+            Share::Lists(lists) => return Lead { place: i, lists },
+            Share::Items(_) => {}
+        }
+    }
+    unreachable!()
+}
 
 /// The lists of the first operand that gives lists.
 pub fn lead_of<'b, 'a>(shares: &'b [Share<'a>]) -> &'b Lists<'a>
     requires { list_any is_lists shares.now ≡ true }
     ensures { IsAmong result.now shares.now }
 {
-    for i in 0..shares.len() {
-        match &shares[i] {
-            Share::Lists(lists) => return lists,
-            Share::Items(_) => {}
-        }
-    }
-    unreachable!()
+    lead_in(shares).lists
 }
 
 /// Whether lists are as long as others, place by place.
@@ -53,31 +73,75 @@ fn is_as_long<L: Ledger>(lead: &Lists, lists: &Lists, steps: &mut Steps<L>) -> b
     are_equal(lead, lists, steps)
 }
 
-/// The same of what an operand gives, if it gives lists.
-fn is_alike<L: Ledger>(n: u64, lead: &Lists, share: &Share, steps: &mut Steps<L>) -> bool
-    requires lead { size_of lead.now.starts ≡ n }
-    requires long { IsAsLong n share.now }
-    ensures { result ≡ is_alike_to (length_of lead.now) n share.now }
+/// The same, which compares ends where the lists of an operand lie in a row.
+fn is_even<L: Ledger>(
+    lead: &Lists,
+    ends: &Option<Lane>,
+    x: &Array,
+    lists: &Lists,
+    steps: &mut Steps<L>,
+) -> bool
+    requires size { size_of lists.now.starts ≡ size_of lead.now.starts }
+    requires ends { IfSome ends.now (λ o.
+        o ≡ offsets_by (length_of lead.now) (size_of lead.now.starts)) }
+    requires of { IsOf x.now (given.Lists lists.now) }
+    ensures { let all = list_all (λ i. length_of lists.now i == length_of lead.now i) in
+        result ≡ all (range_with_len 0 (size_of lead.now.starts)) }
 {
+    if let Some(ends) = ends {
+        if begin_at(x, ends, steps) {
+            return true;
+        }
+    }
+    is_as_long(lead, lists, steps)
+}
+
+/// The same of what the operand at a place gives, if it gives lists. Those of the lead are its own.
+fn is_alike<L: Ledger>(
+    lead: &Lead,
+    ends: &Option<Lane>,
+    i: usize,
+    x: &Array,
+    share: &Share,
+    steps: &mut Steps<L>,
+) -> bool
+    requires lead { i ≡ lead.now.place → share.now ≡ given.Lists lead.now.lists.now }
+    requires ends { let l = lead.now.lists.now in
+        IfSome ends.now (λ o. o ≡ offsets_by (length_of l) (size_of l.starts)) }
+    requires long { IsAsLong (size_of lead.now.lists.now.starts) share.now }
+    requires of { IsOf x.now share.now }
+    ensures { let l = lead.now.lists.now in
+        result ≡ is_alike_to (length_of l) (size_of l.starts) share.now }
+{
+    if i == lead.place {
+        return true;
+    }
     match share {
-        Share::Lists(lists) => is_as_long(lead, lists, steps),
+        Share::Lists(lists) => is_even(lead.lists, ends, x, lists, steps),
         Share::Items(_) => true,
     }
 }
 
-/// Whether the lists of all operands that give lists are as long as these.
+/// Whether the lists of all operands that give lists are as long as these, whose ends are given
+/// where they lie in a row.
 pub(crate) fn are_alike<L: Ledger>(
-    n: u64,
-    lead: &Lists,
+    lead: &Lead,
+    ends: &Option<Lane>,
+    xs: &Arrays,
     shares: &[Share],
     steps: &mut Steps<L>,
 ) -> bool
-    requires lead { size_of lead.now.starts ≡ n }
-    requires long { AreAsLong n shares.now }
-    ensures { result ≡ list_all (is_alike_to (length_of lead.now) n) shares.now }
+    requires lead { slice_get shares.now lead.now.place ≡ Some (given.Lists lead.now.lists.now) }
+    requires ends { let l = lead.now.lists.now in
+        IfSome ends.now (λ o. o ≡ offsets_by (length_of l) (size_of l.starts)) }
+    requires long { AreAsLong (size_of lead.now.lists.now.starts) shares.now }
+    requires same { length xs.now ≡ length shares.now }
+    requires of { AreOf xs.now shares.now }
+    ensures { let l = lead.now.lists.now in
+        result ≡ list_all (is_alike_to (length_of l) (size_of l.starts)) shares.now }
 {
     for i in 0..shares.len() {
-        if !is_alike(n, lead, &shares[i], steps) {
+        if !is_alike(lead, ends, i, xs.get(i), &shares[i], steps) {
             return false;
         }
     }

@@ -1,21 +1,28 @@
 //! The rows below the rows of a level of lists.
-ghost use Rattle.std.specs.Prelude.{◌≡◌, map, true, false, IfOk};
+ghost use Rattle.std.specs.Prelude.{◌≡◌, length, map, true, false, IfOk, IfSome};
 ghost use Rattle.std.specs.List.{list_any};
-ghost use Rattle.awk_lanes.specs.Counted.{before};
+ghost use Rattle.awk_types.specs.ItemLimit.{item_limit};
+ghost use Rattle.awk_lanes.specs.Counted.{before, offsets_by, AreOffsetsBy};
 ghost use Rattle.awk_lanes.specs.Places.{size_of};
 ghost use Rattle.awk_layout.specs.Typing.{array_type};
 ghost use Rattle.awk_open.specs.Opened.{AreLong};
 ghost use Rattle.awk_pair_sides.specs.Levels as spec;
+ghost use Rattle.awk_pair_levels.specs.InRow.{IsOf, AreOf};
 ghost use Rattle.awk_pair_levels.specs.Inner.{IsBelow};
 ghost use Rattle.awk_pair_levels.specs.Shares.{length_of, is_lists, AreEven, AreAsLong, IsAmong};
-ghost use Rattle.awk_pair_levels.specs.Shares.{AreRepeats, IsCounted, IsLaid, AreNext, IsShared};
+ghost use Rattle.awk_pair_levels.specs.Shares.{AreRepeats, IsCounted, IsLaid, IsNext, AreNext};
+ghost use Rattle.awk_pair_levels.specs.Shares.{IsShared};
+ghost use Rattle.awk_pair_levels.specs.declared.shares.Share.TheVariants as given;
 
-use crate::alike::{all_lists, are_alike, lead_of, level_class};
+use crate::alike::{all_lists, are_alike, lead_in, level_class};
+use crate::in_row::{own_ends, own_items};
 use crate::shares::{Share, no_places, shares_of};
 use crate::whole::items_in;
 use awk_columns::{Bounds, Lists, places_of};
 use awk_gather::gather;
-use awk_lanes::{Arena, Items, Lane, Lengths, NoMemory, Num, Steps, number, offsets_within};
+use awk_lanes::{
+    Arena, Items, Lane, Lengths, NoMemory, Num, Offsets, Steps, number, offsets_within, place_in,
+};
 use awk_layout::{Array, Arrays};
 use awk_types::ITEM_LIMIT;
 use std::alloc::Global;
@@ -92,22 +99,45 @@ fn repeats_of<'a, L: Ledger>(
     Ok(places)
 }
 
+/// The items of an operand's lists, of which there are so many, one list after another.
+fn items_below<'a, L: Ledger>(
+    alloc: Global,
+    count: u64,
+    x: &Array<'a>,
+    lists: &Lists<'a>,
+    arena: &'a Arena,
+    steps: &mut Steps<L>,
+) -> Result<Array<'a>, NoMemory>
+    requires count { count ≡ before (length_of lists.now) (size_of lists.now.starts) }
+    requires of { IsOf x.now (given.Lists lists.now) }
+    ensures { let l = lists.now in
+        IfOk result (IsNext (length_of l) (size_of l.starts) (given.Lists l)) }
+{
+    if let Some(own) = own_items(alloc, x, steps)? {
+        return Ok(own);
+    }
+    let items = items_in(alloc, count, lists, arena, steps)?;
+    Ok(items)
+}
+
 /// What an operand gives to the rows below, of which there are so many: the items of its lists, or
 /// its items at the places.
 fn column_below<'a, L: Ledger>(
     alloc: Global,
     count: u64,
     places: &Lane<'a>,
+    x: &Array<'a>,
     share: &Share<'a>,
     arena: &'a Arena,
     steps: &mut Steps<L>,
 ) -> Result<Array<'a>, NoMemory>
-    requires { IsCounted count places.now share.now }
+    requires counted { IsCounted count places.now share.now }
+    requires of { IsOf x.now share.now }
     ensures { IfOk result (IsLaid places.now share.now) }
 {
     match share {
         Share::Lists(lists) => {
-            let items = items_in(alloc, count, lists, arena, steps)?;
+            let items = items_below(alloc, count, x, lists, arena, steps)?;
             Ok(items)
         }
         Share::Items(y) => {
@@ -122,6 +152,7 @@ fn columns_below<'a, L: Ledger>(
     alloc: Global,
     lead: &Bounds,
     count: u64,
+    xs: &Arrays<'a>,
     shares: &[Share<'a>],
     arena: &'a Arena,
     steps: &mut Steps<L>,
@@ -129,43 +160,74 @@ fn columns_below<'a, L: Ledger>(
     requires long { AreAsLong (size_of lead.now.starts) shares.now }
     requires even { AreEven (length_of lead.now) (size_of lead.now.starts) shares.now }
     requires count { count ≡ before (length_of lead.now) (size_of lead.now.starts) }
+    requires same { length xs.now ≡ length shares.now }
+    requires of { AreOf xs.now shares.now }
     ensures { let n = size_of lead.now.starts in
         IfOk result (AreNext (length_of lead.now) n shares.now) }
 {
     let places = repeats_of(lead, count, shares, arena, steps)?;
     let mut columns = Arrays::new(alloc);
     for i in 0..shares.len() {
-        let column = column_below(alloc, count, &places, &shares[i], arena, steps)?;
+        let column = column_below(alloc, count, &places, xs.get(i), &shares[i], arena, steps)?;
         columns.push(column)?;
     }
     Ok(columns)
 }
 
+/// Where each list begins, and how many items there are, or none where they are too many: the ends
+/// that the lists have already, or new ones.
+fn level_offsets<'a, L: Ledger>(
+    lead: &Bounds,
+    ends: Option<Lane<'a>>,
+    arena: &'a Arena,
+    steps: &mut Steps<L>,
+) -> Result<Option<Offsets<'a>>, NoMemory>
+    requires { IfSome ends (λ o.
+        o ≡ offsets_by (length_of lead.now) (size_of lead.now.starts)) }
+    ensures { let n = size_of lead.now.starts in
+        IfOk result (AreOffsetsBy item_limit (length_of lead.now) n) }
+{
+    let n = lead.len();
+    let Some(lane) = ends else {
+        return offsets_within(ITEM_LIMIT, n, lead, arena, steps);
+    };
+    let total = place_in(&lane, n, steps);
+    if total > ITEM_LIMIT {
+        return Ok(None);
+    }
+    Ok(Some(Offsets { lane, total }))
+}
+
 /// The rows below lists that are all as long as those of the lead.
 fn rows_by<'a, L: Ledger>(
     alloc: Global,
-    n: u64,
     lead: &Lists<'a>,
+    ends: Option<Lane<'a>>,
+    xs: &Arrays<'a>,
     shares: &[Share<'a>],
     arena: &'a Arena,
     steps: &mut Steps<L>,
 ) -> Result<Below<'a>, NoMemory>
-    requires size { size_of lead.now.starts ≡ n }
-    requires long { AreAsLong n shares.now }
+    requires ends { IfSome ends (λ o.
+        o ≡ offsets_by (length_of lead.now) (size_of lead.now.starts)) }
+    requires long { AreAsLong (size_of lead.now.starts) shares.now }
     requires lead { IsAmong lead.now shares.now }
-    requires even { AreEven (length_of lead.now) n shares.now }
-    ensures { IfOk result (IsShared n shares.now) }
+    requires even { AreEven (length_of lead.now) (size_of lead.now.starts) shares.now }
+    requires same { length xs.now ≡ length shares.now }
+    requires of { AreOf xs.now shares.now }
+    ensures { IfOk result (IsShared (size_of lead.now.starts) shares.now) }
 {
     let _ = lead.len();
     let bounds = Bounds::new(alloc, lead, arena, steps)?;
-    match offsets_within(ITEM_LIMIT, n, &bounds, arena, steps)? {
+    match level_offsets(&bounds, ends, arena, steps)? {
         None => Ok(Below::TooMany),
         Some(offsets) => {
-            let arrays = columns_below(alloc, &bounds, offsets.total, shares, arena, steps)?;
+            let count = offsets.total;
+            let arrays = columns_below(alloc, &bounds, count, xs, shares, arena, steps)?;
             Ok(Below::Rows {
                 class: level_class(shares),
                 offsets: offsets.lane,
-                count: offsets.total,
+                count,
                 arrays,
             })
         }
@@ -176,19 +238,23 @@ fn rows_by<'a, L: Ledger>(
 fn shared_rows<'a, L: Ledger>(
     alloc: Global,
     n: u64,
+    xs: &Arrays<'a>,
     shares: &[Share<'a>],
     arena: &'a Arena,
     steps: &mut Steps<L>,
 ) -> Result<Below<'a>, NoMemory>
     requires long { AreAsLong n shares.now }
     requires lists { list_any is_lists shares.now ≡ true }
+    requires same { length xs.now ≡ length shares.now }
+    requires of { AreOf xs.now shares.now }
     ensures { IfOk result (IsShared n shares.now) }
 {
-    let lead = lead_of(shares);
-    if !are_alike(n, lead, shares, steps) {
+    let lead = lead_in(shares);
+    let ends = own_ends(xs.get(lead.place), steps);
+    if !are_alike(&lead, &ends, xs, shares, steps) {
         return Ok(Below::Unequal);
     }
-    rows_by(alloc, n, lead, shares, arena, steps)
+    rows_by(alloc, lead.lists, ends, xs, shares, arena, steps)
 }
 
 /// The rows below those of a level of lists without nulls. Where `keep` is true no list of the
@@ -207,6 +273,6 @@ pub fn rows_below<'a, L: Ledger>(
     ensures { IfOk result (IsBelow keep n xs.now) }
 {
     let shares = shares_of(alloc, keep, n, xs, arena, steps)?;
-    let below = shared_rows(alloc, n, &shares, arena, steps)?;
+    let below = shared_rows(alloc, n, xs, &shares, arena, steps)?;
     Ok(below)
 }

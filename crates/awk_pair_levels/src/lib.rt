@@ -7,6 +7,7 @@
 
 mod alike;
 mod below;
+mod in_row;
 mod items;
 mod shares;
 mod whole;

@@ -14,7 +14,7 @@ use std::alloc::Global;
 use std::sync::ledger::Ledger;
 
 /// Whether lanes have the same bytes, of one kind.
-fn is_same<L: Ledger>(a: &Lane, b: &Lane, steps: &mut Steps<L>) -> bool
+pub(crate) fn is_same<L: Ledger>(a: &Lane, b: &Lane, steps: &mut Steps<L>) -> bool
     ensures { IsTrue result → a.now ≡ b.now }
 {
     if a.kind() != b.kind() {

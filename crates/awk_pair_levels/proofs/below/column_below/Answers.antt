@@ -1,21 +1,25 @@
 use Rattle.std.proofs.Common.{sym, subst}
+use Rattle.awk_pair_levels.specs.InRow.{IsOf}
 use Rattle.awk_pair_levels.specs.Shares.{IsCounted, IsLaid}
 use Rattle.awk_pair_levels.specs.declared.shares.Share.TheVariants.{Items}
 use Rattle.awk_pair_levels.proofs.below.column_below.Goals as goal
 
-pub items_in-requires : goal.items_in-requires
-items_in-requires g c =
-    subst (IsCounted c.args.count c.args.places.now) c.in-Lists.is c.requires
+pub items_below-requires-clause-count : goal.items_below-requires-clause-count
+items_below-requires-clause-count g c =
+    subst (IsCounted c.args.count c.args.places.now) c.in-Lists.is c.requires.counted
+
+pub items_below-requires-clause-of : goal.items_below-requires-clause-of
+items_below-requires-clause-of g c = subst (IsOf c.args.x.now) c.in-Lists.is c.requires.of
 
 pub gather-requires-clause-kind : goal.gather-requires-clause-kind
 gather-requires-clause-kind g c =
     let h : IsCounted c.args.count c.args.places.now (Items c.in-Items.y) =
-    subst (IsCounted c.args.count c.args.places.now) c.in-Items.is c.requires in h.0
+    subst (IsCounted c.args.count c.args.places.now) c.in-Items.is c.requires.counted in h.0
 
 pub gather-requires-clause-places : goal.gather-requires-clause-places
 gather-requires-clause-places g c =
     let h : IsCounted c.args.count c.args.places.now (Items c.in-Items.y) =
-    subst (IsCounted c.args.count c.args.places.now) c.in-Items.is c.requires in h.1
+    subst (IsCounted c.args.count c.args.places.now) c.in-Items.is c.requires.counted in h.1
 
 pub returns-in_ok-items-in-Lists : goal.returns-in_ok-items-in-Lists
 returns-in_ok-items-in-Lists g c =

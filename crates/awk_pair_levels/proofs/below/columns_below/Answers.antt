@@ -3,12 +3,16 @@ use Rattle.std.proofs.lemmas.Option.{slice_get_read}
 use Rattle.awk_lanes.specs.Places.{size_of}
 use Rattle.awk_pair_levels.specs.Shares.{length_of}
 use Rattle.awk_pair_levels.proofs.EvenLaws.{as_long_get, even_get}
+use Rattle.awk_pair_levels.proofs.InRowLaws.{of_get}
 use Rattle.awk_pair_levels.proofs.NextLaws.{next_push, next_all, repeat_get, counted_share}
 use Rattle.awk_pair_levels.proofs.NextLaws.{laid_next}
 use Rattle.awk_pair_levels.proofs.below.columns_below.Goals as goal
 
-pub column_below-requires : goal.column_below-requires
-column_below-requires g c =
+pub get-requires : goal.get-requires
+get-requires g c = omega (arith, c.requires.same, c.loop-i-test.true)
+
+pub column_below-requires-clause-counted : goal.column_below-requires-clause-counted
+column_below-requires-clause-counted g c =
     let m = length_of c.args.lead.now in
     let n = size_of c.args.lead.now.starts in
     let read = slice_get_read c.args.shares.now (length c.args.shares.now) c.loop-i.i
@@ -20,6 +24,13 @@ column_below-requires g c =
     c.loop-i.invariant.even).0
     (repeat_get m n c.in_ok-places.places c.args.shares.now c.loop-i.i c.index-shares-i.result read
     c.loop-i.invariant.repeats).0
+
+pub column_below-requires-clause-of : goal.column_below-requires-clause-of
+column_below-requires-clause-of g c =
+    of_get c.args.xs.now c.args.shares.now c.loop-i.i c.get.result.now c.index-shares-i.result
+    c.get.ensures
+    (slice_get_read c.args.shares.now (length c.args.shares.now) c.loop-i.i
+    c.index-shares-i.result refl (omega arith) c.index-shares-i.is) c.requires.of
 
 pub loop-i-preserved : goal.loop-i-preserved
 loop-i-preserved g c =

@@ -5,6 +5,8 @@ use Rattle.awk_layout.specs.Typing.{array_type}
 use Rattle.awk_pair_sides.specs.Levels.{stretches}
 use Rattle.awk_pair_levels.specs.Shares.{is_lists, AreAsLong, IsShared}
 use Rattle.awk_pair_sides.proofs.LevelTypes.{presents-bare, some_listed}
+use Rattle.awk_pair_levels.specs.InRow.{AreOf}
+use Rattle.awk_pair_levels.proofs.InRowLaws.{of_length, of_shares}
 use Rattle.awk_pair_levels.proofs.SharedRows.{shares_long, shares_lists, below_is}
 use Rattle.awk_pair_levels.proofs.below.rows_below.Goals as goal
 
@@ -13,6 +15,19 @@ shared_rows-requires-clause-long g c =
     subst (AreAsLong c.args.n) (sym c.deref.ensures.value)
     (shares_long c.args.n c.args.keep (stretches (map array_type c.args.xs.now)) c.args.xs.now
     c.in_ok-shares.shares.items c.in_ok-shares.ensures)
+
+pub shared_rows-requires-clause-same : goal.shared_rows-requires-clause-same
+shared_rows-requires-clause-same g c =
+    of_length c.args.xs.now c.deref.result.now
+    (subst (AreOf c.args.xs.now) (sym c.deref.ensures.value)
+    (of_shares c.args.n c.args.keep (stretches (map array_type c.args.xs.now)) c.args.xs.now
+    c.in_ok-shares.shares.items c.requires.long c.in_ok-shares.ensures))
+
+pub shared_rows-requires-clause-of : goal.shared_rows-requires-clause-of
+shared_rows-requires-clause-of g c =
+    subst (AreOf c.args.xs.now) (sym c.deref.ensures.value)
+    (of_shares c.args.n c.args.keep (stretches (map array_type c.args.xs.now)) c.args.xs.now
+    c.in_ok-shares.shares.items c.requires.long c.in_ok-shares.ensures)
 
 pub shared_rows-requires-clause-lists : goal.shared_rows-requires-clause-lists
 shared_rows-requires-clause-lists g c =
