@@ -3,6 +3,7 @@
 //! `present_rows` leaves out the rows in which some operand is null.
 #![tactic(auto)]
 
+mod numbers;
 mod presence;
 mod present;
 

@@ -2,22 +2,26 @@
 ghost use Rattle.std.specs.Prelude.{◌≡◌, ◌≤◌, ◌∷◌, [], true, IfOk, IfSome};
 ghost use Rattle.awk_types.specs.ItemLimit.{item_limit};
 ghost use Rattle.awk_types.specs.Simple.{is_option};
-ghost use Rattle.awk_layout.specs.Typing.{array_type};
+ghost use Rattle.awk_layout.specs.Typing.{array_type, array_items};
 ghost use Rattle.awk_layout.specs.Valid.{len};
-ghost use Rattle.awk_open.specs.Opened.{AreLong};
+ghost use Rattle.awk_open.specs.Inner.{IsInner};
+ghost use Rattle.awk_open.specs.Opened.{IsOpened, AreLong};
+ghost use Rattle.awk_open.specs.declared.opening.Opened.TheVariants as opening;
+ghost use Rattle.awk_columns.specs.InOrder.{IsInOrder};
 ghost use Rattle.awk_layout.specs.Layout.{Layout};
 ghost use Rattle.std.specs.Prelude.{List};
 ghost use Rattle.awk_pair_present.specs.Presence.{AreAsLong, ArePresences};
 ghost use Rattle.awk_pair_present.specs.Present.{IsPresentRows};
 
+use crate::numbers::present_numbers;
 use crate::presence::{Presence, all_taken, are_there, presences_of};
 use awk_columns::{in_order, places_of};
 use awk_lanes::{
-    Arena, Items, Kind, Lane, Lengths, NoMemory, Num, Numbers, Steps, made_lane, number,
+    Arena, Items, Kind, Lane, Lengths, NoMemory, Num, Numbers, Steps, index_of, made_lane, number,
     offsets_of, place_in,
 };
-use awk_layout::{Array, Arrays};
-use awk_open::Opened;
+use awk_layout::{Array, Arrays, Class};
+use awk_open::{Opened, opened};
 use awk_types::is_optional;
 use std::alloc::Global;
 use std::sync::ledger::Ledger;
@@ -143,6 +147,78 @@ fn only_option<'b, 'a>(xs: &'b Arrays<'a>) -> Option<&'b Array<'a>>
     if is_optional(x.typ()) { Some(x) } else { None }
 }
 
+/// An option by its index and its content, in order: numbers are moved at once.
+fn option_in_order<'a, L: Ledger>(
+    alloc: Global,
+    x: &Array<'a>,
+    index: &Lane<'a>,
+    content: &Array<'a>,
+    arena: &'a Arena,
+    steps: &mut Steps<L>,
+) -> Result<Opened<'a>, NoMemory>
+    requires { IsOpened x.now (opening.Option index.now content.now) }
+    ensures opened { IfOk result (IsOpened x.now) }
+    ensures inner { IfOk result IsInner }
+    ensures order { IfOk result (IsInOrder (array_items x.now)) }
+{
+    match content.node().class() {
+        Class::Numpy { lane } => {
+            let index = index_of(alloc, index, arena, steps)?;
+            present_numbers(alloc, &index, content, lane, arena, steps)
+        }
+        _ => in_order(alloc, x, arena, steps),
+    }
+}
+
+/// An option over numbers, in order.
+fn numbers_in_order<'a, L: Ledger>(
+    alloc: Global,
+    x: &Array<'a>,
+    arena: &'a Arena,
+    steps: &mut Steps<L>,
+) -> Result<Opened<'a>, NoMemory>
+    requires option { is_option (array_type x.now) ≡ true }
+    ensures opened { IfOk result (IsOpened x.now) }
+    ensures inner { IfOk result IsInner }
+    ensures order { IfOk result (IsInOrder (array_items x.now)) }
+{
+    match opened(alloc, x, arena, steps)? {
+        Opened::Option { index, content } => {
+            option_in_order(alloc, x, &index, &content, arena, steps)
+        }
+        _ => unreachable!(),
+    }
+}
+
+/// Whether an array is an option over numbers behind an index.
+fn has_numbers(x: &Array) -> bool {
+    match x.node().class() {
+        Class::IndexedOption { content, .. } => match content.class() {
+            Class::Numpy { .. } => true,
+            _ => false,
+        },
+        _ => false,
+    }
+}
+
+/// An option in order. Numbers behind an index are moved at once, without a lane of their places.
+fn ordered<'a, L: Ledger>(
+    alloc: Global,
+    x: &Array<'a>,
+    arena: &'a Arena,
+    steps: &mut Steps<L>,
+) -> Result<Opened<'a>, NoMemory>
+    requires option { is_option (array_type x.now) ≡ true }
+    ensures opened { IfOk result (IsOpened x.now) }
+    ensures inner { IfOk result IsInner }
+    ensures order { IfOk result (IsInOrder (array_items x.now)) }
+{
+    if has_numbers(x) {
+        return numbers_in_order(alloc, x, arena, steps);
+    }
+    in_order(alloc, x, arena, steps)
+}
+
 /// The items of one operand that are there: its option in order.
 fn present_items<'a, L: Ledger>(
     alloc: Global,
@@ -155,7 +231,7 @@ fn present_items<'a, L: Ledger>(
     requires option { is_option (array_type x.now) ≡ true }
     ensures { IfOk result (IsPresentRows n (x.now ∷ [])) }
 {
-    match in_order(alloc, x, arena, steps)? {
+    match ordered(alloc, x, arena, steps)? {
         Opened::Option { index, content } => {
             let count = content.len();
             let mut arrays = Arrays::new(alloc);
