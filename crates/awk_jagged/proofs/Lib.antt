@@ -9,3 +9,4 @@ pub mod LeafLaws
 pub mod PickLaws
 pub mod ToldLaws
 pub mod FinalLaws
+pub mod BesideLaws

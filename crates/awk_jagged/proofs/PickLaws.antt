@@ -7,7 +7,7 @@ use Rattle.std.proofs.Common.{arith, ap, ap₂, sym, ◌∙◌, eq-eqb, ne_eqb}
 use Rattle.std.proofs.lemmas.List.{length-map}
 use Rattle.std.proofs.lemmas.List.FromFn.{length-map-range_with_len}
 use Rattle.std.proofs.lemmas.Bool.{or_left}
-use Rattle.awk_types.specs.DataType.{DataType, unknown, leaf, opt}
+use Rattle.awk_types.specs.DataType.{DataType, unknown, opt}
 use Rattle.awk_types.specs.Gives.{◌or◌}
 use Rattle.awk_types.specs.ItemLimit.{item_limit, too_many}
 use Rattle.awk_types.specs.Simple.{present, is_option, simple}

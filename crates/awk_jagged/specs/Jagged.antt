@@ -1,6 +1,6 @@
 -- Picks row by row: each list of a datum by the list of another at its place, down to the masks and
 -- indexes inside.
-use Rattle.std.specs.Prelude.{◌==◌, Bool, true, false, not, ◌||◌, List, [], ◌∷◌, length}
+use Rattle.std.specs.Prelude.{◌==◌, Bool, false, not, ◌||◌, List, [], ◌∷◌, length}
 use Rattle.std.specs.Prelude.{Option, Some, None, option_map, Result, Err, if◌then◌else◌}
 use Rattle.std.specs.List.{list_any}
 use Rattle.awk_types.specs.DataType.{DataType, unknown, leaf, var, reg, rec, tup, opt, uni}

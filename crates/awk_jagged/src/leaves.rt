@@ -1,14 +1,16 @@
 //! The innermost picks: by masks and by places, in pairs of lists.
-ghost use Rattle.std.specs.Prelude.{◌≡◌, ◌<◌, ◌^◌, true, false, IfOk, IsTrue};
-ghost use Rattle.awk_types.specs.Simple.{present};
+ghost use Rattle.std.specs.Prelude.{◌≡◌, ◌<◌, ◌^◌, true, false, IfOk, IfSome, IsTrue};
+ghost use Rattle.awk_types.specs.Simple.{present, is_option};
 ghost use Rattle.awk_lanes.specs.Places.{size_of, IsIndex, IsIndexKind, IsOptionalIndex};
 ghost use Rattle.awk_lanes.specs.declared.kind.Kind.TheVariants as Kinds;
+ghost use Rattle.awk_layout.specs.Layout.{flat};
 ghost use Rattle.awk_layout.specs.Typing.{array_type};
 ghost use Rattle.awk_layout.specs.Valid.{len};
 ghost use Rattle.awk_select.specs.Cells.{AreCells};
 ghost use Rattle.awk_types.specs.Predicates.{is_leaf};
 ghost use Rattle.awk_select.specs.Picks as picks;
 ghost use Rattle.awk_jagged_places.specs.Leaves.{AreLeaves, take_numbers, mask_numbers};
+ghost use Rattle.awk_jagged_places.specs.Leaves.{truth_cells};
 ghost use Rattle.awk_jagged.specs.PickedAt.{ArePlacesOr, ArePicked, AreWithinOr, IsPickedAt};
 ghost use Rattle.awk_jagged.specs.Outcomes.{IsOutcomeOf};
 ghost use Rattle.awk_jagged_rows.specs.Rows.{AreAlike};
@@ -16,10 +18,11 @@ ghost use Rattle.awk_jagged_rows.specs.Rows.{AreAlike};
 use awk_columns::{Bounds, Lists};
 use awk_gather::{gather, gather_opt};
 use awk_jagged_places::{
-    Kept, Sparse, Taken, Values, kept_lane, lengths_differ, put_lane, truths_of,
+    Beside, Kept, Sparse, Taken, Truths, Values, beside_lane, kept_lane, lengths_differ, put_lane,
+    truths_of,
 };
-use awk_lanes::{Arena, Kind, Lane, Steps, index_of, offsets_within};
-use awk_layout::{Array, Node};
+use awk_lanes::{Arena, Index, Kind, Lane, Steps, index_of, offsets_within, wide_index};
+use awk_layout::{Array, Class, Node};
 use awk_select::{Cells, cells_of, is_mask};
 use awk_types::{ITEM_LIMIT, NoMemory, is_optional};
 use std::alloc::{AllocError, Global};
@@ -141,7 +144,7 @@ fn picked_at<'a, L: Ledger>(
     }
 }
 
-/// What is picked from lists by those of a mask.
+/// What is picked from lists by those of a mask, which are as long.
 fn by_masks<'s, 'a, V: Values, L: Ledger>(
     alloc: Global,
     xs: &Bounds<'s, 'a>,
@@ -151,6 +154,7 @@ fn by_masks<'s, 'a, V: Values, L: Ledger>(
     steps: &mut Steps<L>,
 ) -> Result<Outcome<'a>, NoMemory>
     requires pairs { size_of xs.now.starts ≡ size_of ws.now.starts }
+    requires alike { AreAlike xs.now ws.now }
     requires leaf { is_leaf (present (array_type ws.now.content)) ≡ true }
     requires mask { picks.is_mask (array_type ws.now.content) ≡ true }
     requires cells { AreCells ws.now.content (V.cells cells.now) }
@@ -159,9 +163,6 @@ fn by_masks<'s, 'a, V: Values, L: Ledger>(
     let content = xs.content();
     let index = ws.content();
     let _ = index.len();
-    if lengths_differ(xs, ws) {
-        return Ok(Outcome::Uneven);
-    }
     let optional = is_optional(index.typ());
     let picks = Kept { xs, ws, cells };
     let places = kept(&picks, ws.len(), arena, steps)?;
@@ -195,6 +196,88 @@ fn by_places<'s, 'a, V: Values, L: Ledger>(
     picked_at(alloc, content, places, optional, arena, steps)
 }
 
+/// The numbers of an array that lie side by side in 64 bits.
+fn plain_numbers<'a, L: Ledger>(x: &Array<'a>, steps: &mut Steps<L>) -> Option<Index<'a>>
+    ensures { IfSome result (λ c. (c.kind ≡ Kinds.I64) × (x.now ≡ flat c)) }
+{
+    match x.node().class() {
+        Class::Numpy { lane } if lane.kind() == Kind::I64 => Some(wide_index(lane, steps)),
+        _ => None,
+    }
+}
+
+/// What is picked from lists of such numbers by truth values: each is moved as it is read, and no
+/// lane of places is made.
+fn numbers_kept<'s, 'a, L: Ledger>(
+    xs: &Bounds<'s, 'a>,
+    ws: &Bounds<'s, 'a>,
+    truths: &Truths<'a>,
+    numbers: &Index<'a>,
+    arena: &'a Arena,
+    steps: &mut Steps<L>,
+) -> Result<Outcome<'a>, NoMemory>
+    requires pairs { size_of xs.now.starts ≡ size_of ws.now.starts }
+    requires alike { AreAlike xs.now ws.now }
+    requires leaf { is_leaf (present (array_type ws.now.content)) ≡ true }
+    requires mask { picks.is_mask (array_type ws.now.content) ≡ true }
+    requires present { is_option (array_type ws.now.content) ≡ false }
+    requires cells { AreCells ws.now.content (truth_cells truths.now.bytes.now) }
+    requires kind { numbers.now.kind ≡ Kinds.I64 }
+    requires content { xs.now.content ≡ flat numbers.now }
+    ensures { IfOk result (IsOutcomeOf xs.now ws.now) }
+{
+    let _ = xs.content();
+    let index = ws.content();
+    let _ = index.len();
+    let n = ws.len();
+    let places = Kept {
+        xs,
+        ws,
+        cells: truths,
+    };
+    let Some(offsets) = offsets_within(ITEM_LIMIT, n, &places, arena, steps)? else {
+        return Ok(Outcome::TooMany);
+    };
+    let picks = Beside {
+        xs,
+        ws,
+        truths,
+        numbers,
+    };
+    let lane = beside_lane(n, offsets.total, &picks, arena)?;
+    Ok(Outcome::Lists {
+        offsets: offsets.lane,
+        content: Node::numpy(lane, steps),
+    })
+}
+
+/// What is picked from lists by those of truth values, which are as long.
+fn by_truths<'s, 'a, L: Ledger>(
+    alloc: Global,
+    xs: &Bounds<'s, 'a>,
+    ws: &Bounds<'s, 'a>,
+    truths: &Truths<'a>,
+    arena: &'a Arena,
+    steps: &mut Steps<L>,
+) -> Result<Outcome<'a>, NoMemory>
+    requires pairs { size_of xs.now.starts ≡ size_of ws.now.starts }
+    requires alike { AreAlike xs.now ws.now }
+    requires leaf { is_leaf (present (array_type ws.now.content)) ≡ true }
+    requires mask { picks.is_mask (array_type ws.now.content) ≡ true }
+    requires cells { AreCells ws.now.content (truth_cells truths.now.bytes.now) }
+    ensures { IfOk result (IsOutcomeOf xs.now ws.now) }
+{
+    let index = ws.content();
+    let optional = is_optional(index.typ());
+    if optional {
+        return by_masks(alloc, xs, ws, truths, arena, steps);
+    }
+    match plain_numbers(xs.content(), steps) {
+        Some(numbers) => numbers_kept(xs, ws, truths, &numbers, arena, steps),
+        None => by_masks(alloc, xs, ws, truths, arena, steps),
+    }
+}
+
 /// What is picked from lists by those of a mask, in the form in which its values lie.
 fn masked<'s, 'a, L: Ledger>(
     alloc: Global,
@@ -210,10 +293,13 @@ fn masked<'s, 'a, L: Ledger>(
     requires cells { AreCells ws.now.content cells.now }
     ensures { IfOk result (IsOutcomeOf xs.now ws.now) }
 {
+    if lengths_differ(xs, ws) {
+        return Ok(Outcome::Uneven);
+    }
     if let Cells::Plain(lane) = cells {
         if lane.kind() == Kind::Bool {
             let truths = truths_of(lane, steps);
-            return by_masks(alloc, xs, ws, &truths, arena, steps);
+            return by_truths(alloc, xs, ws, &truths, arena, steps);
         }
     }
     by_masks(alloc, xs, ws, cells, arena, steps)

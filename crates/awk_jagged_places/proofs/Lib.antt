@@ -3,3 +3,4 @@ pub mod PutLaws
 pub mod MaskLaws
 pub mod SieveLaws
 pub mod ValueLaws
+pub mod BesideLaws

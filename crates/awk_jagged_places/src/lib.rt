@@ -2,10 +2,12 @@
 //!
 //! `Kept` are the places where a mask is true, and `Taken` those that an index names, each over the
 //! ends of the lists (`awk_columns`) and over values in the form in which they lie (`Values`).
-//! `put_lane` and `kept_lane` make one lane of them all, and `lengths_differ` tells whether the
-//! lists of a mask are as long as those that it picks from.
+//! `put_lane` and `kept_lane` make one lane of them all, `beside_lane` one of the numbers that stand
+//! there, and `lengths_differ` tells whether the lists of a mask are as long as those that it picks
+//! from.
 #![tactic(auto)]
 
+mod beside;
 mod differing;
 mod masks;
 mod places;
@@ -13,6 +15,7 @@ mod put;
 mod sieve;
 mod values;
 
+pub use beside::{Beside, beside_lane};
 pub use differing::lengths_differ;
 pub use masks::{Kept, kept_lane};
 pub use places::Taken;

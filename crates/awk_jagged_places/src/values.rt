@@ -1,8 +1,11 @@
 //! The values of a mask or an index, in the form in which they lie.
 ghost use Rattle.std.specs.Prelude.{◌≡◌, ◌<◌, pos, length, get_or};
+ghost use Rattle.awk_types.specs.Value.{truth};
 ghost use Rattle.awk_lanes.specs.Numbers.{is_nonzero};
 ghost use Rattle.awk_lanes.specs.Words.{column, integers};
 ghost use Rattle.awk_lanes.specs.declared.kind.Kind.TheVariants as Kinds;
+ghost use Rattle.awk_select.specs.Cells.{cell_value, IsCell};
+ghost use Rattle.awk_jagged_places.specs.Leaves.{truth_cells};
 
 use awk_lanes::{Index, Lane, Num, Steps, byte_numbers};
 use awk_select::Cells;
@@ -56,6 +59,17 @@ fn is_true(bytes: &[u8], i: usize) -> bool
     bytes[i] != 0
 }
 
+impl<'a> Truths<'a> {
+    /// The truth value at a place.
+    #[inline(always)]
+    pub(crate) fn at(&self, i: u64) -> bool
+        requires { IsCell (truth_cells self.now.bytes.now) i }
+        ensures { truth result ≡ cell_value (truth_cells self.now.bytes.now) i }
+    {
+        is_true(self.bytes, i as usize)
+    }
+}
+
 impl<'a> Values for Truths<'a> {
     ghost use Rattle.awk_lanes.specs.Words.{column, integers};
     ghost use Rattle.awk_lanes.specs.declared.kind.Kind.TheVariants as Kinds;
@@ -65,7 +79,7 @@ impl<'a> Values for Truths<'a> {
 
     #[inline(always)]
     fn value<L: Ledger>(&self, i: u64, _steps: &mut Steps<L>) -> Option<Num> {
-        Some(Num::Truth(is_true(self.bytes, i as usize)))
+        Some(Num::Truth(self.at(i)))
     }
 }
 

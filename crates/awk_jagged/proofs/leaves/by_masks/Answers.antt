@@ -7,16 +7,9 @@ use Rattle.awk_lanes.specs.Places.{size_of}
 use Rattle.awk_layout.specs.Typing.{array_type, array_items}
 use Rattle.awk_jagged_places.specs.Leaves.{mask_numbers}
 use Rattle.awk_jagged.specs.PickedAt.{ArePlacesOr, IsPickedAt}
-use Rattle.awk_jagged_rows.specs.Levels.{AreCompared}
 use Rattle.awk_jagged.proofs.LeafLaws.{masks-within}
-use Rattle.awk_jagged.proofs.PickLaws.{unlike-masks, by-masks, leaf-outcome}
+use Rattle.awk_jagged.proofs.PickLaws.{by-masks, leaf-outcome}
 use Rattle.awk_jagged.proofs.leaves.by_masks.Goals as goal
-
-pub returns-then-lengths_differ : goal.returns-then-lengths_differ
-returns-then-lengths_differ g c =
-    unlike-masks c.args.xs.now c.args.ws.now c.requires.leaf c.requires.mask
-    (subst (AreCompared c.args.xs.now c.args.ws.now) c.if-lengths_differ.true
-    c.lengths_differ.ensures)
 
 pub picked_at-requires : goal.picked_at-requires
 picked_at-requires g c =
@@ -34,8 +27,7 @@ picked_at-requires g c =
     rw (optional, c.content-content.ensures.content)
     (record {
       places = masks-within c.args.xs.now c.args.ws.now c.requires.pairs
-          (subst (AreCompared c.args.xs.now c.args.ws.now) c.if-lengths_differ.false
-          c.lengths_differ.ensures)
+          c.requires.alike
           c.content-content.ensures.lists.spans c.content-index.ensures.lists.spans c.requires.leaf
           c.requires.mask has c.in_ok-places.places places;
     })
@@ -53,8 +45,7 @@ returns g c =
     (λ r q.
     leaf-outcome c.args.xs.now c.args.ws.now (mask_numbers c.args.xs.now c.args.ws.now)
     (by-masks c.args.xs.now c.args.ws.now c.requires.pairs
-    (subst (AreCompared c.args.xs.now c.args.ws.now) c.if-lengths_differ.false
-    c.lengths_differ.ensures)
+    c.requires.alike
     c.content-content.ensures.lists.spans c.requires.leaf c.requires.mask)
     c.in_ok-places.places r places
     (subst (λ o. IsPickedAt o c.args.xs.now.content c.in_ok-places.places r) optional

@@ -1,9 +1,9 @@
 use Rattle.awk_jagged_places.proofs.ValueLaws.{byte_in, truth_shown}
-use Rattle.awk_jagged_places.proofs.values.TruthsValues.value.Goals as goal
+use Rattle.awk_jagged_places.proofs.values.Truths.at.Goals as goal
 
 pub is_true-requires : goal.is_true-requires
-is_true-requires g c = byte_in c.args.self.now.bytes.now c.args.i c.requires
+is_true-requires c = byte_in c.args.self.now.bytes.now c.args.i c.requires
 
 pub returns : goal.returns
-returns g c =
+returns c =
     truth_shown c.args.self.now.bytes.now c.args.i c.is_true.result c.requires c.is_true.ensures
