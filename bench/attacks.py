@@ -163,6 +163,14 @@ def unions(name: str, alternatives: int) -> str:
     return load(name, union("u", None), 0, **buffers)
 
 
+def tagged(rows: int) -> str:
+    """A union of 127 alternatives, with so many rows, one of each in turn."""
+    contents = [regular(it + 1, EMPTY) for it in range(127)]
+    form = node("UnionArray", "u", tags="i8", index="i64", contents=contents)
+    tags = lane("b", *(it % 127 for it in range(rows)))
+    return load("u", form, rows, u_tags=tags, u_index=lane("q", *(it // 127 for it in range(rows))))
+
+
 def big_types(scale: int) -> list[tuple[str, list[str]]]:
     """Unions within unions of up to 127 alternatives, and types of up to 65,536 nodes."""
     most = 40 if scale == 1 else 127
@@ -173,7 +181,10 @@ def big_types(scale: int) -> list[tuple[str, list[str]]]:
                   record([f"f{it}" for it in range(63)], record(leaves, EMPTY)))
     t = load("t", tree, 1)
     zeros = ["local_index", "t", 0]
+    tags = tagged(2_000 * scale)
     return [
+        ("tags concatenate", [tags, let("c", ["concatenate", 0, ["u", "u"]])]),
+        ("tags pack", [tags, json.dumps({"pack": "u"})]),
         ("unions load", [u, typed("u")]),
         ("unions concatenate", [u, v, let("c", ["concatenate", 0, ["u", "v"]])]),
         ("unions num", [u, typed(["num", "u", 1])]),

@@ -1,19 +1,18 @@
 //! Columns in order: an outermost kind whose contents hold exactly the items that are reached.
-ghost use Rattle.std.specs.Prelude.{◌≡◌, ◌<◌, ◌^◌, false, IfOk};
+ghost use Rattle.std.specs.Prelude.{◌≡◌, false, length, IfOk};
 ghost use Rattle.awk_types.specs.Simple.{is_option};
-ghost use Rattle.awk_lanes.specs.Places.{size_of};
 ghost use Rattle.awk_layout.specs.Layout.{Layout, layouts_from, optional, union as united};
 ghost use Rattle.awk_layout.specs.Typing.{array_type, array_items};
 ghost use Rattle.awk_layout.specs.Valid.{len, IsValid};
-ghost use Rattle.awk_counts.specs.Counted.{first_of, tagged_at, AreBelow, AreTagged};
+ghost use Rattle.awk_counts.specs.Counted.{tag_counts};
 ghost use Rattle.awk_columns.specs.InOrder.{IsInOrder};
 ghost use Rattle.awk_open.specs.Inner.{IsInner, AreSized};
 ghost use Rattle.awk_open.specs.Opened.{IsOpened};
-ghost use Rattle.awk_columns.specs.Reached.{IsReached, AreReached};
+ghost use Rattle.awk_columns.specs.Reached.{AreReached};
 ghost use Rattle.awk_open.specs.declared.opening.Opened.TheVariants as Opened;
 
 use crate::taken::taken;
-use awk_counts::{count_present, count_tagged, counted, counted_union, present_lane, tagged_lane};
+use awk_counts::{count_present, counted, counted_union, present_lane, tagged_lanes};
 use awk_lanes::{Arena, Index, Lane, Steps, index_of};
 use awk_layout::{Array, Arrays};
 use awk_open::{Opened, opened};
@@ -66,49 +65,30 @@ fn order_option<'a, L: Ledger>(
     order_seen(alloc, &index, content, arena, steps)
 }
 
-/// The items of alternative a alone.
-fn taken_of<'a, L: Ledger>(
-    alloc: Global,
-    tags: &Lane<'a>,
-    index: &Lane<'a>,
-    a: u64,
-    content: &Array<'a>,
-    arena: &'a Arena,
-    steps: &mut Steps<L>,
-) -> Result<Array<'a>, NoMemory>
-    requires tagged { AreTagged tags.now index.now }
-    requires small { size_of tags.now < 2 ^ 63 }
-    requires below { let places = first_of (tagged_at tags.now index.now a) (size_of tags.now) in
-        AreBelow (len content.now) places }
-    ensures reached { let places = first_of (tagged_at tags.now index.now a) (size_of tags.now) in
-        IfOk result (IsReached content.now places) }
-{
-    let n = count_tagged(tags, index, a, steps);
-    let places = tagged_lane(tags, index, a, n, arena, steps)?;
-    taken(alloc, content, &places, arena, steps)
-}
-
-/// The items of each alternative alone.
+/// The items of each alternative alone, by how many there are of each.
 fn taken_of_each<'a, L: Ledger>(
     alloc: Global,
     tags: &Lane<'a>,
     index: &Lane<'a>,
+    counts: &[u64],
     contents: &Arrays<'a>,
     arena: &'a Arena,
     steps: &mut Steps<L>,
 ) -> Result<Arrays<'a>, NoMemory>
     requires valid { IsValid (united tags.now index.now (layouts_from contents.now)) }
+    requires counts { counts.now ≡ tag_counts tags.now index.now (length contents.now) }
     ensures { IfOk result (AreReached tags.now index.now 0 contents.now) }
 {
-    let mut taken = Arrays::new(alloc);
+    let places = tagged_lanes(alloc, tags, index, counts, arena, steps)?;
+    let mut arrays = Arrays::new(alloc);
     let mut a = 0;
     while a < contents.len() {
-        let items = taken_of(alloc, tags, index, a as u64, contents.get(a), arena, steps)?;
+        let items = taken(alloc, contents.get(a), places.get(a), arena, steps)?;
         let _ = items.len();
-        taken.push(items)?;
+        arrays.push(items)?;
         a += 1;
     }
-    Ok(taken)
+    Ok(arrays)
 }
 
 /// A union over the items of each alternative alone.
@@ -126,11 +106,11 @@ fn order_union<'a, L: Ledger>(
     ensures order { (x : Layout) → IsOpened x (Opened.Union tags.now index.now contents.now) →
         IfOk result (IsInOrder (array_items x)) }
 {
-    let taken = taken_of_each(alloc, tags, index, contents, arena, steps)?;
     let counted = counted_union(alloc, tags, index, contents.len(), arena, steps)?;
+    let taken = taken_of_each(alloc, tags, index, &counted.counts, contents, arena, steps)?;
     Ok(Opened::Union {
         tags: tags.copy(),
-        index: counted,
+        index: counted.index,
         contents: taken,
     })
 }

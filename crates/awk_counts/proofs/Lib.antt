@@ -1,3 +1,4 @@
 pub mod FirstPlaces
 pub mod PlaceLanes
 pub mod TaggedCounts
+pub mod TaggedPlaces

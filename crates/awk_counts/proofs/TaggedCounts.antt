@@ -1,12 +1,13 @@
 -- Counts of the items of each alternative.
 use Rattle.std.proofs.Common.{◌≡◌, ◌≢◌, ℕ, ◌+◌, ◌<◌, ◌≤◌, List, [], ◌∷◌, length, get_or, arith}
-use Rattle.std.proofs.Common.{refl, ap, ◌∙◌}
+use Rattle.std.proofs.Common.{refl, ap, sym, ◌∙◌}
 use Rattle.std.specs.Prelude.{Bool, true, false, slice_set, ◌==◌, if◌then◌else◌, pos}
 use Rattle.std.proofs.lemmas.Grind.{get_or-set_at}
-use Rattle.std.proofs.lemmas.List.{get_or-set_other}
+use Rattle.std.proofs.lemmas.List.{ext_get_or, get_or-set_other}
+use Rattle.std.proofs.lemmas.List.FromFn.{length-map-range_with_len, get_or-map-range_with_len}
 use Rattle.awk_lanes.specs.Column.{Column}
-use Rattle.awk_lanes.specs.Places.{place_at}
-use Rattle.awk_counts.specs.Counted.{first_of, tagged_at, counted_tag}
+use Rattle.awk_lanes.specs.Places.{place_at, size_of}
+use Rattle.awk_counts.specs.Counted.{first_of, tagged_at, tagged_places, counted_tag, tag_counts}
 use Rattle.awk_counts.proofs.FirstPlaces.{length-first_of, tagged-few}
 
 -- counts of the items of each of so many alternatives among the first i
@@ -50,3 +51,17 @@ count_before t j many i a n ns e h g c = (
   ap pos (g ∙ c a h) ∙ ap (λ b. pos (length (first_of (tagged_at t j b) i))) e,
   omega (arith, g, c a h, tagged-few t j a i),
 )
+
+pub tag_counts-at : (t j : Column) (many a : ℕ) → a < many
+    → get_or (tag_counts t j many) a 0 ≡ length (tagged_places t j a)
+tag_counts-at t j many a h =
+    get_or-map-range_with_len (λ b. length (tagged_places t j b)) 0 many a a 0 h (omega arith)
+
+-- when all items are counted
+pub counts_all : (t j : Column) (many i : ℕ) (ns : List ℕ) → i ≡ size_of t → length ns ≡ many
+    → AreCounts t j many i ns → ns ≡ tag_counts t j many
+counts_all t j many i ns e l c =
+    ext_get_or 0 ns (tag_counts t j many)
+    (l ∙ sym (length-map-range_with_len (λ a. length (tagged_places t j a)) 0 many))
+    (λ a h. let g : a < many = omega (arith, l, h) in
+    c a g ∙ ap (λ m. length (first_of (tagged_at t j a) m)) e ∙ sym (tag_counts-at t j many a g))

@@ -5,6 +5,7 @@ use Rattle.std.specs.Prelude.{map, get_or, ℤ, pos, negsuc, Option, Some, None,
 use Rattle.std.specs.List.{range_with_len, flat_map}
 use Rattle.awk_lanes.specs.declared.kind.Kind.TheVariants.{I8, I64}
 use Rattle.awk_lanes.specs.Column.{Column}
+use Rattle.awk_lanes.specs.Making.{Making}
 use Rattle.awk_lanes.specs.Places.{size_of, at, place_at, option_place_at, IsIndexKind}
 use Rattle.awk_lanes.specs.Made.{lane_of}
 
@@ -71,6 +72,29 @@ counted_tag t j i = pos (length (first_of (tagged_at t j (place_at t i)) i))
 
 abbrev pub counted_tags : Column → Column → Column
 counted_tags t j = lane_of I64 (size_of t) (counted_tag t j)
+
+-- the places of the items of alternative a
+abbrev pub tagged_places : Column → Column → ℕ → List ℕ
+tagged_places t j a = first_of (tagged_at t j a) (size_of t)
+
+-- how many items are of each of the first alternatives
+abbrev pub tag_counts : Column → Column → ℕ → List ℕ
+tag_counts t j many = map (λ a. length (tagged_places t j a)) (range_with_len 0 many)
+
+-- the places of the items of each of the first alternatives
+abbrev pub tagged_lanes : Column → Column → ℕ → List Column
+tagged_lanes t j many = map (λ a. places_lane (tagged_places t j a)) (range_with_len 0 many)
+
+-- a lane of n places that is begun
+abbrev pub begun : ℕ → Making
+begun n = record { kind = I64; room = n; items = [] }
+
+-- the lane of places that is made at a place of a list
+abbrev pub made_at : List Making → ℕ → Making
+made_at ms a = get_or ms a (begun 0)
+
+abbrev pub lane_made : Making → Column
+lane_made m = record { kind = I64; items = m.items }
 
 -- ---- lists
 

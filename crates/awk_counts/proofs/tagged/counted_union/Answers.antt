@@ -3,7 +3,7 @@ use Rattle.std.proofs.lemmas.List.{length-set}
 use Rattle.awk_lanes.specs.Numbers.{int_of}
 use Rattle.awk_lanes.specs.Places.{size_of}
 use Rattle.awk_lanes.proofs.MadeLanes.{so_far_pushed}
-use Rattle.awk_counts.proofs.TaggedCounts.{AreCounts, counts_more, count_before}
+use Rattle.awk_counts.proofs.TaggedCounts.{AreCounts, counts_more, counts_all, count_before}
 use Rattle.awk_counts.proofs.tagged.counted_union.Goals as goal
 
 pub count_one-count-requires-clause-fits : goal.count_one-count-requires-clause-fits
@@ -52,3 +52,9 @@ loop-i-preserved g c =
           c.push.ensures
           (c.number.ensures.number ∙ b.0) c.loop-i.invariant.made;
     }
+
+pub returns-clause-counts : goal.returns-clause-counts
+returns-clause-counts g c =
+    counts_all c.args.tags.now c.args.index.now c.args.alternatives c.loop-i.i
+    c.loop-i.counts.items (omega (arith, c.loop-i-test.false, c.len-n.ensures.len))
+    c.loop-i.invariant.many c.loop-i.invariant.counts
