@@ -1,4 +1,5 @@
-//! Sums and differences of eight numbers at once. Of the other operations no place is made.
+//! Sums and differences of eight numbers at once, and quotients and remainders by one number. Of
+//! products no place is made.
 ghost use Rattle.std.specs.Prelude.{◌≡◌, ℕ, ◌+◌, ◌<◌, ◌≤◌, length, get_or, pos, Ok, IsTrue, IsNone};
 ghost use Rattle.std.specs.Prelude.{map, FitsSigned};
 ghost use Rattle.std.specs.Int.{w64};
@@ -7,6 +8,7 @@ ghost use Rattle.awk_kernels.specs.Kernels.{first_broken, leaves, nat_leaves};
 ghost use Rattle.awk_kernels.specs.declared.operation.Arith.TheVariants.{Add, Sub};
 
 use crate::blocks::known;
+use crate::division::{divided, divided_nat};
 use crate::rest;
 use awk_kernels::{Arith, Broken};
 use std::simd::prelude::*;
@@ -88,6 +90,21 @@ fn arith_blocks(op: Arith, a: &[i64], b: &[i64], lo: i64, hi: i64, out: &mut [i6
     a.len() / 8 * 8
 }
 
+/// The results at some of the first places, and how many these are.
+fn arith_front(op: Arith, a: &[i64], b: &[i64], lo: i64, hi: i64, out: &mut [i64]) -> usize
+    requires b { length b.now ≡ length a.now }
+    requires out { length out.old ≡ length a.now }
+    ensures within { result ≤ length a.now }
+    ensures made { (k : ℕ) → k < result
+        → leaf op lo hi (get_or a.now k (pos 0)) (get_or b.now k (pos 0))
+        ≡ Ok (get_or out.new k (pos 0)) }
+{
+    match op {
+        Arith::FloorDiv | Arith::Rem => divided(op, a, b, lo, hi, out),
+        _ => arith_blocks(op, a, b, lo, hi, out),
+    }
+}
+
 /// The results at all places, or the first place that has none.
 pub(crate) fn arith(
     op: Arith,
@@ -102,7 +119,7 @@ pub(crate) fn arith(
     ensures broken { result ≡ first_broken (leaves op lo hi a.now b.now) }
     ensures written { IsNone result → map Ok out.new ≡ leaves op lo hi a.now b.now }
 {
-    let made = arith_blocks(op, a, b, lo, hi, out);
+    let made = arith_front(op, a, b, lo, hi, out);
     rest::arith(op, a, b, lo, hi, made, out)
 }
 
@@ -170,6 +187,21 @@ fn arith_nat_blocks(op: Arith, a: &[u64], b: &[u64], hi: u64, out: &mut [u64]) -
     a.len() / 8 * 8
 }
 
+/// The results at some of the first places, and how many these are.
+fn arith_nat_front(op: Arith, a: &[u64], b: &[u64], hi: u64, out: &mut [u64]) -> usize
+    requires b { length b.now ≡ length a.now }
+    requires out { length out.old ≡ length a.now }
+    ensures within { result ≤ length a.now }
+    ensures made { (k : ℕ) → k < result
+        → leaf op (pos 0) (pos hi) (pos (get_or a.now k 0)) (pos (get_or b.now k 0))
+        ≡ Ok (pos (get_or out.new k 0)) }
+{
+    match op {
+        Arith::FloorDiv | Arith::Rem => divided_nat(op, a, b, hi, out),
+        _ => arith_nat_blocks(op, a, b, hi, out),
+    }
+}
+
 /// The results at all places, or the first place that has none.
 pub(crate) fn arith_nat(op: Arith, a: &[u64], b: &[u64], hi: u64, out: &mut [u64]) -> Option<Broken>
     requires b { length b.now ≡ length a.now }
@@ -178,6 +210,6 @@ pub(crate) fn arith_nat(op: Arith, a: &[u64], b: &[u64], hi: u64, out: &mut [u64
     ensures written { IsNone result
         → map (λ z. Ok (pos z)) out.new ≡ nat_leaves op hi a.now b.now }
 {
-    let made = arith_nat_blocks(op, a, b, hi, out);
+    let made = arith_nat_front(op, a, b, hi, out);
     rest::arith_nat(op, a, b, hi, made, out)
 }

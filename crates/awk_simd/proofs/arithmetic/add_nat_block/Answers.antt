@@ -1,5 +1,5 @@
-use Rattle.std.proofs.Common.{◌≡◌, ℕ, ◌+◌, ◌≤◌, length, arith, ap, sym, ◌∙◌}
-use Rattle.std.specs.Prelude.{pos, Ok, IsTrue, nat_eq}
+use Rattle.std.proofs.Common.{◌+◌, ◌≤◌, length, arith, ap, sym, ◌∙◌}
+use Rattle.std.specs.Prelude.{pos, Ok}
 use Rattle.std.specs.Simd.Lanes.{chunk, zip2}
 use Rattle.std.proofs.lemmas.Simd.{get_or-put_chunk_below, length-chunk}
 use Rattle.awk_simd.proofs.Lanes.{length-results}

@@ -1,5 +1,5 @@
-use Rattle.std.proofs.Common.{◌≡◌, ℕ, ◌+◌, ◌≤◌, length, arith, ap, sym, ◌∙◌, w64}
-use Rattle.std.specs.Prelude.{pos, Ok, IsTrue, nat_eq}
+use Rattle.std.proofs.Common.{◌+◌, ◌≤◌, length, arith, ap, sym, ◌∙◌, w64}
+use Rattle.std.specs.Prelude.{pos, Ok}
 use Rattle.std.specs.Int.{cast_signed as to_z}
 use Rattle.std.specs.Simd.Lanes.{zip2}
 use Rattle.std.proofs.lemmas.Simd.{get_or-put_chunk_below}

@@ -1,5 +1,4 @@
-use Rattle.std.proofs.Common.{get_or, sym, ◌∙◌, arith}
-use Rattle.std.specs.Prelude.{pos}
+use Rattle.std.proofs.Common.{sym, ◌∙◌, arith}
 use Rattle.awk_kernels.proofs.PlaceLaws.{compared_at-mixed}
 use Rattle.awk_simd.proofs.comparisons.compare_mixed.Goals as goal
 

@@ -1,10 +1,8 @@
-use Rattle.std.proofs.Common.{◌+◌, ◌≤◌, length, map, arith}
-use Rattle.std.specs.Prelude.{nat_lt}
+use Rattle.std.proofs.Common.{◌+◌, ◌≤◌, length, arith}
 use Rattle.std.specs.Simd.Lanes.{chunk}
 use Rattle.std.proofs.lemmas.Simd.{get_or-put_chunk_below}
 use Rattle.awk_simd.proofs.Masks.{loaded}
-use Rattle.awk_simd.proofs.Lanes.{below}
-use Rattle.awk_simd.proofs.Mixed.{size_of, raised, sizes_fit, mixed_fit, flags_stored-mixed}
+use Rattle.awk_simd.proofs.Mixed.{sizes_fit, mixed_fit, flags_stored-mixed}
 use Rattle.awk_simd.proofs.comparisons.compare_mixed_block.Goals as goal
 
 pub overflow_cast-x : goal.overflow_cast-x

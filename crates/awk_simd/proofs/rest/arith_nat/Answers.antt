@@ -1,6 +1,6 @@
-use Rattle.std.proofs.Common.{◌≡◌, ℕ, ◌+◌, ◌<◌, length, get_or, map, drop, sym, ap, ap₂, ◌∙◌}
+use Rattle.std.proofs.Common.{length, get_or, map, drop, sym, ap, ap₂, ◌∙◌}
 use Rattle.std.proofs.Common.{arith, rules, Fits, w64}
-use Rattle.std.specs.Prelude.{pos, Some, Ok}
+use Rattle.std.specs.Prelude.{pos, Ok}
 use Rattle.std.specs.Option.{option_map}
 use Rattle.std.proofs.lemmas.List.{length-drop, length-map, drop-map}
 use Rattle.awk_kernels.specs.Operations.{leaf}

@@ -1,4 +1,4 @@
-use Rattle.std.proofs.Common.{◌≡◌, ap₂, ◌∙◌, arith, rules}
+use Rattle.std.proofs.Common.{ap₂, ◌∙◌, arith}
 use Rattle.std.specs.Int.{from_bool}
 use Rattle.awk_kernels.specs.Operations.{holds}
 use Rattle.awk_kernels.specs.Kernels.{compared}

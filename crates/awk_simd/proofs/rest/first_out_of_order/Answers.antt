@@ -1,4 +1,4 @@
-use Rattle.std.proofs.Common.{◌≡◌, ◌+◌, ◌<◌, length, drop, sym, ap, ap₂, ◌∙◌, arith, rules, Fits}
+use Rattle.std.proofs.Common.{◌+◌, length, drop, sym, ap, ap₂, ◌∙◌, arith, rules, Fits}
 use Rattle.std.proofs.Common.{w64}
 use Rattle.std.specs.Prelude.{pos, position, zip}
 use Rattle.std.specs.Option.{option_map}

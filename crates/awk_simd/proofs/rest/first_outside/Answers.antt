@@ -1,4 +1,4 @@
-use Rattle.std.proofs.Common.{◌≡◌, ◌+◌, sym, ap, ◌∙◌, w64}
+use Rattle.std.proofs.Common.{◌+◌, sym, ap, ◌∙◌, w64}
 use Rattle.std.specs.Prelude.{pos, position}
 use Rattle.std.specs.Option.{option_map}
 use Rattle.std.proofs.lemmas.Int.{to_z-of_z}
