@@ -1,24 +1,28 @@
 -- What each share gives to the rows below.
 use Rattle.std.proofs.Common.{◌≡◌, ℕ, ◌+◌, ◌<◌, ◌≤◌, ap, arith, sym, subst, ◌∙◌}
 use Rattle.std.proofs.Common.{take, drop, true, false}
-use Rattle.std.specs.Prelude.{List, [], ◌∷◌, ◌++◌, length, get_or, pos, slice_get, Some}
-use Rattle.std.specs.List.{flat_map, list_all}
+use Rattle.std.specs.Prelude.{List, [], ◌∷◌, ◌++◌, length, map, get_or, pos, slice_get, Some}
+use Rattle.std.specs.List.{flat_map, list_all, range_with_len}
+use Rattle.std.proofs.lemmas.Bool.{and_parts}
 use Rattle.std.proofs.lemmas.List.{take_all}
-use Rattle.std.proofs.lemmas.List.FromFn.{get_or-range_with_len}
+use Rattle.std.proofs.lemmas.List.FromFn.{get_or-range_with_len, length-map-range_with_len}
+use Rattle.std.proofs.lemmas.List.FromFn.{get_or-map-range_with_len}
 use Rattle.awk_base.proofs.Ranges.{map-in}
+use Rattle.awk_base.proofs.Truths.{not-both}
 use Rattle.awk_base.proofs.Lists.{drop-get, take-get}
 use Rattle.awk_types.specs.ItemLimit.{item_limit}
 use Rattle.awk_lanes.specs.Column.{Column}
 use Rattle.awk_lanes.specs.Counted.{before, offsets_by}
 use Rattle.awk_lanes.specs.Places.{size_of, place_at, IsIndex}
 use Rattle.awk_lanes.specs.declared.kind.Kind.TheVariants.{I64}
-use Rattle.awk_layout.specs.Layout.{Layout}
-use Rattle.awk_layout.specs.Valid.{len}
+use Rattle.awk_layout.specs.Layout.{Layout, flat}
 use Rattle.awk_gather.specs.Arrays.{array_item, IsGathered}
-use Rattle.awk_counts.specs.Counted.{first_of, span_at, spans}
+use Rattle.awk_counts.specs.Counted.{first_of, numbers_at, span_at, spans}
+use Rattle.awk_list_numbers.specs.ListPlaces.{list_places}
 use Rattle.awk_columns.specs.Reached.{IsReached}
 use Rattle.awk_columns.specs.ListClass.{Class}
 use Rattle.awk_columns.specs.Lists.{Listed}
+use Rattle.awk_columns.proofs.MovedNumbers.{numbers_reached}
 use Rattle.awk_columns.proofs.ReachedContents.{first_of-at, reached-len, reached-item}
 use Rattle.awk_pair_sides.specs.Levels.{common_class}
 use Rattle.awk_pair_sides.proofs.PlaceLaws.{places_of, repeats_index, size-places_of}
@@ -26,8 +30,7 @@ use Rattle.awk_pair_sides.proofs.PlaceLaws.{place-places_of}
 use Rattle.awk_pair_sides.proofs.RangeLaws.{length-flat, length-range, before-same, before-room}
 use Rattle.awk_pair_levels.specs.Shares.{length_of, length_at, share_class, IsEven, AreEven}
 use Rattle.awk_pair_levels.specs.Shares.{any_differ, IsAmong, IsNext, AreNext, AreSharedRows}
-use Rattle.awk_pair_levels.specs.Shares.{is_lists, IsAsLong, IsCounted, IsLaid, IsRepeated}
-use Rattle.awk_pair_levels.specs.Shares.{AreRepeats}
+use Rattle.awk_pair_levels.specs.Shares.{is_flat, is_plain, IsRepeated, AreRepeats}
 use Rattle.awk_pair_levels.specs.declared.shares.Share.{Share}
 use Rattle.awk_pair_levels.specs.declared.shares.Share.TheVariants.{Lists, Items}
 use Rattle.awk_pair_levels.proofs.EvenLaws.{length_at-among, none_differ, even_by}
@@ -81,7 +84,70 @@ next_items n m p y z e g = record {
       ∙ ap (array_item y) (place-places_of m n i k h l);
 }
 
+-- numbers repeated at once
+pub next_repeats : (n : ℕ) (m : ℕ → ℕ) (c r : Column)
+    → r ≡ numbers_at c (list_places m (λ i k. i) n) → IsNext m n (Items (flat c)) (flat r)
+next_repeats n m c r e =
+    let f : ℕ → List ℕ = λ i. map (λ k. i) (range_with_len 0 (m i)) in
+    let g : IsReached (flat c) (first_of f n) (flat r) = numbers_reached c r (first_of f n) e in
+    let b : (i : ℕ) → length (first_of f i) ≡ before m i =
+    λ i. length-flat f i
+    ∙ before-same (λ j. length (f j)) m i
+    (λ j h. length-map-range_with_len (λ k. j) 0 (m j)) in
+    record {
+      size = reached-len (flat c) (flat r) (first_of f n) g ∙ b n;
+      typ = g.typ;
+      items = λ i k h l.
+          let q : before m i + k < length (first_of f n) =
+          omega (arith, b n, before-room m n i k h l) in
+          let s : k < length (f i) = omega (arith, l, length-map-range_with_len (λ j. i) 0 (m i)) in
+          reached-item (flat c) (flat r) (first_of f n) (before m i + k) g q
+          ∙ ap (array_item (flat c))
+          (ap (λ d. get_or (first_of f n) (d + k) 0) (sym (b i))
+          ∙ first_of-at f i n k 0 h s
+          ∙ get_or-map-range_with_len (λ j. i) 0 (m i) k k 0 l (omega arith));
+    }
+
 -- ---- what a share is made of
+
+module _ (m : ℕ → ℕ) (n : ℕ) (ks : Column) where
+  pub no_repeats : (ps : List Share) → list_all is_plain ps ≡ true → AreRepeats m n ks ps
+  no_repeats [] e = tt
+  no_repeats (Lists l ∷ ps) e =
+      (tt, no_repeats ps (and_parts true (list_all is_plain ps) e).1)
+  no_repeats (Items y ∷ ps) e =
+      let both : (is_flat y ≡ true) × (list_all is_plain ps ≡ true) =
+      and_parts (is_flat y) (list_all is_plain ps) e in
+      ((λ h. absurd (not-both (is_flat y) h both.0)), no_repeats ps both.1)
+
+  pub all_repeats : (ps : List Share) → ks ≡ places_of m n → AreRepeats m n ks ps
+  all_repeats [] e = tt
+  all_repeats (Lists l ∷ ps) e = (tt, all_repeats ps e)
+  all_repeats (Items y ∷ ps) e = ((λ h. e), all_repeats ps e)
+
+  pub repeat_get : (ps : List Share) (i : ℕ) (p : Share) → slice_get ps i ≡ Some p
+      → AreRepeats m n ks (drop i ps) → IsRepeated m n ks p × AreRepeats m n ks (drop (i + 1) ps)
+  repeat_get ps i p e h = subst (AreRepeats m n ks) (drop-get ps i p e) h
+
+-- places of what is repeated
+pub places_there : (m : ℕ → ℕ) (n l : ℕ) (ks : Column) → ks ≡ places_of m n → l ≡ n → IsIndex ks l
+places_there m n l ks e a =
+    subst (λ k. IsIndex k l) (sym e) (subst (IsIndex (places_of m n)) (sym a) (repeats_index m n))
+
+-- as many items as lists have that are as long as others
+pub even_count : (m : ℕ → ℕ) (n : ℕ) (l : Listed) (c : ℕ) → size_of l.starts ≡ n
+    → IsEven m n (Lists l) → c ≡ before m n → c ≡ before (length_of l) (size_of l.starts)
+even_count m n l c a v e =
+    e ∙ sym (before-same (length_of l) m n v) ∙ ap (before (length_of l)) (sym a)
+
+-- ---- one share after another
+
+pub next_append : (m : ℕ → ℕ) (n : ℕ) (ps : List Share) (zs : List Layout) (p : Share) (z : Layout)
+    → AreNext m n ps zs → IsNext m n p z → AreNext m n (ps ++ p ∷ []) (zs ++ z ∷ [])
+next_append m n [] [] p z h g = (g, tt)
+next_append m n (q ∷ ps) (y ∷ zs) p z h g = (h.0, next_append m n ps zs p z h.1 g)
+next_append m n [] (y ∷ zs) p z h g = absurd h
+next_append m n (q ∷ ps) [] p z h g = absurd h
 
 next-one : (m k : ℕ → ℕ) (n : ℕ) (p : Share) (z : Layout) → ((i : ℕ) → i < n → m i ≡ k i)
     → IsNext m n p z → IsNext k n p z
@@ -94,51 +160,12 @@ next-one m k n p z e h = record {
 }
 
 -- the items of lists that are as long as others
-even_next : (m : ℕ → ℕ) (n : ℕ) (l : Listed) (z : Layout) → size_of l.starts ≡ n
+pub even_next : (m : ℕ → ℕ) (n : ℕ) (l : Listed) (z : Layout) → size_of l.starts ≡ n
     → IsEven m n (Lists l) → IsNext (length_of l) (size_of l.starts) (Lists l) z
     → IsNext m n (Lists l) z
 even_next m n l z a v h =
     next-one (length_of l) m n (Lists l) z v
     (subst (λ j. IsNext (length_of l) j (Lists l) z) a h)
-
-module _ (m : ℕ → ℕ) (n : ℕ) (ks : Column) where
-  pub no_repeats : (ps : List Share) → list_all is_lists ps ≡ true → AreRepeats m n ks ps
-  no_repeats [] e = tt
-  no_repeats (Lists l ∷ ps) e = (tt, no_repeats ps e)
-  no_repeats (Items y ∷ ps) e = cc
-
-  pub all_repeats : (ps : List Share) → ks ≡ places_of m n → AreRepeats m n ks ps
-  all_repeats [] e = tt
-  all_repeats (Lists l ∷ ps) e = (tt, all_repeats ps e)
-  all_repeats (Items y ∷ ps) e = (e, all_repeats ps e)
-
-  pub repeat_get : (ps : List Share) (i : ℕ) (p : Share) → slice_get ps i ≡ Some p
-      → AreRepeats m n ks (drop i ps) → IsRepeated m n ks p × AreRepeats m n ks (drop (i + 1) ps)
-  repeat_get ps i p e h = subst (AreRepeats m n ks) (drop-get ps i p e) h
-
-  pub counted_share : (c : ℕ) (p : Share) → c ≡ before m n → IsAsLong n p → IsEven m n p
-      → IsRepeated m n ks p → IsCounted c ks p
-  counted_share c (Lists l) e a v r =
-      e ∙ sym (before-same (length_of l) m n v) ∙ ap (before (length_of l)) (sym a)
-  counted_share c (Items y) e a v r = (
-    ap (λ k. k.kind) r,
-    subst (λ k. IsIndex k (len y)) (sym r)
-        (subst (IsIndex (places_of m n)) (sym a) (repeats_index m n)),
-  )
-
-  pub laid_next : (p : Share) (z : Layout) → IsAsLong n p → IsEven m n p → IsRepeated m n ks p
-      → IsLaid ks p z → IsNext m n p z
-  laid_next (Lists l) z a v r h = even_next m n l z a v h
-  laid_next (Items y) z a v r h = next_items n m ks y z r h
-
--- ---- one share after another
-
-pub next_append : (m : ℕ → ℕ) (n : ℕ) (ps : List Share) (zs : List Layout) (p : Share) (z : Layout)
-    → AreNext m n ps zs → IsNext m n p z → AreNext m n (ps ++ p ∷ []) (zs ++ z ∷ [])
-next_append m n [] [] p z h g = (g, tt)
-next_append m n (q ∷ ps) (y ∷ zs) p z h g = (h.0, next_append m n ps zs p z h.1 g)
-next_append m n [] (y ∷ zs) p z h g = absurd h
-next_append m n (q ∷ ps) [] p z h g = absurd h
 
 pub next_by : (m k : ℕ → ℕ) (n : ℕ) (ps : List Share) (zs : List Layout)
     → ((i : ℕ) → i < n → m i ≡ k i) → AreNext m n ps zs → AreNext k n ps zs

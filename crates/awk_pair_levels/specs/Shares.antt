@@ -7,13 +7,13 @@ use Rattle.awk_types.specs.ItemLimit.{item_limit}
 use Rattle.awk_types.specs.Value.{Value, list}
 use Rattle.awk_lanes.specs.Column.{Column}
 use Rattle.awk_lanes.specs.Counted.{before, items_lane, offsets_by}
-use Rattle.awk_lanes.specs.Places.{size_of, place_at, IsIndex}
+use Rattle.awk_lanes.specs.Places.{size_of, place_at}
 use Rattle.awk_lanes.specs.declared.kind.Kind.TheVariants.{I64}
 use Rattle.awk_layout.specs.Item.{run}
-use Rattle.awk_layout.specs.Layout.{Layout}
+use Rattle.awk_layout.specs.Layout.{Layout, flat}
 use Rattle.awk_layout.specs.Typing.{array_type}
 use Rattle.awk_layout.specs.Valid.{len}
-use Rattle.awk_gather.specs.Arrays.{array_item, IsGathered}
+use Rattle.awk_gather.specs.Arrays.{array_item}
 use Rattle.awk_counts.specs.Counted.{spans}
 use Rattle.awk_columns.specs.ListClass.{Class}
 use Rattle.awk_columns.specs.Lists.{Listed, span_length}
@@ -144,20 +144,20 @@ AreNext m n (p ∷ ps) [] = ⊥
 abbrev pub LieInRow : Column → Column → ℕ → Type 0
 LieInRow s t first = spans s t ≡ range_with_len first (length (spans s t))
 
--- as many items as lists have together, or places of what is repeated
-abbrev pub IsCounted : ℕ → Column → Share → Type 0
-IsCounted c ks (Lists l) = c ≡ before (length_of l) (size_of l.starts)
-IsCounted c ks (Items y) = (ks.kind ≡ I64) × IsIndex ks (len y)
+-- a column of numbers
+abbrev pub is_flat : Layout → Bool
+is_flat (flat c) = true
+is_flat x = false
 
--- z has the items of lists, or those at places
-abbrev pub IsLaid : Column → Share → Layout → Type 0
-IsLaid ks (Lists l) z = IsNext (length_of l) (size_of l.starts) (Lists l) z
-IsLaid ks (Items y) z = IsGathered y ks z
+-- what is made without places: the items of lists, and numbers, which are repeated at once
+abbrev pub is_plain : Share → Bool
+is_plain (Lists l) = true
+is_plain (Items y) = is_flat y
 
--- where there is something to repeat: the place of each row, as often as it has items
+-- where something else is repeated: the place of each row, as often as it has items
 abbrev pub IsRepeated : (ℕ → ℕ) → ℕ → Column → Share → Type 0
 IsRepeated m n ks (Lists l) = Unit {0}
-IsRepeated m n ks (Items y) = ks ≡ items_lane I64 m (λ i k. pos i) n
+IsRepeated m n ks (Items y) = is_flat y ≡ false → ks ≡ items_lane I64 m (λ i k. pos i) n
 
 abbrev pub AreRepeats : (ℕ → ℕ) → ℕ → Column → List Share → Type 0
 AreRepeats m n ks [] = Unit {0}

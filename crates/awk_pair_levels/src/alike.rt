@@ -6,6 +6,8 @@ ghost use Rattle.awk_lanes.specs.Places.{size_of};
 ghost use Rattle.awk_pair_sides.specs.Levels.{common_class};
 ghost use Rattle.awk_pair_levels.specs.Shares.{length_of, is_lists, is_alike as is_alike_to};
 ghost use Rattle.awk_pair_levels.specs.Shares.{share_class, class_list};
+ghost use Rattle.awk_pair_levels.specs.Shares.{is_flat as is_flat_column};
+ghost use Rattle.awk_pair_levels.specs.Shares.{is_plain as is_plain_share};
 ghost use Rattle.awk_pair_levels.specs.Shares.{IsAsLong, AreAsLong, IsAmong};
 ghost use Rattle.awk_pair_levels.specs.InRow.{IsOf, AreOf};
 ghost use Rattle.awk_pair_levels.specs.declared.shares.Share.TheVariants as given;
@@ -15,7 +17,7 @@ use crate::shares::Share;
 use crate::whole::are_same;
 use awk_columns::Lists;
 use awk_lanes::{Lane, Steps};
-use awk_layout::{Array, Arrays};
+use awk_layout::{Array, Arrays, Class};
 use std::sync::ledger::Ledger;
 
 /// Lists by which those of a level are judged, and the place of the operand that gives them.
@@ -148,22 +150,32 @@ pub(crate) fn are_alike<L: Ledger>(
     true
 }
 
-/// Whether an operand gives lists.
-fn gives_lists(share: &Share) -> bool
-    ensures { result ≡ is_lists share.now }
+/// Whether a column is of numbers.
+pub(crate) fn is_flat(x: &Array) -> bool
+    ensures { result ≡ is_flat_column x.now }
 {
-    match share {
-        Share::Lists(_) => true,
-        Share::Items(_) => false,
+    match x.node().class() {
+        Class::Numpy { .. } => true,
+        _ => false,
     }
 }
 
-/// Whether all operands give lists.
-pub(crate) fn all_lists(shares: &[Share]) -> bool
-    ensures { result ≡ list_all is_lists shares.now }
+/// Whether what an operand gives to the rows below is made without places.
+fn is_plain(share: &Share) -> bool
+    ensures { result ≡ is_plain_share share.now }
+{
+    match share {
+        Share::Lists(_) => true,
+        Share::Items(column) => is_flat(column),
+    }
+}
+
+/// The same of all operands.
+pub(crate) fn all_plain(shares: &[Share]) -> bool
+    ensures { result ≡ list_all is_plain_share shares.now }
 {
     for i in 0..shares.len() {
-        if !gives_lists(&shares[i]) {
+        if !is_plain(&shares[i]) {
             return false;
         }
     }

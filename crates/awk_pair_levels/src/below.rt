@@ -1,29 +1,32 @@
 //! The rows below the rows of a level of lists.
-ghost use Rattle.std.specs.Prelude.{◌≡◌, length, map, true, false, IfOk, IfSome};
+ghost use Rattle.std.specs.Prelude.{◌≡◌, ◌≤◌, length, map, true, false, IfOk, IfSome};
 ghost use Rattle.std.specs.List.{list_any};
 ghost use Rattle.awk_types.specs.ItemLimit.{item_limit};
 ghost use Rattle.awk_lanes.specs.Counted.{before, offsets_by, AreOffsetsBy};
 ghost use Rattle.awk_lanes.specs.Places.{size_of};
+ghost use Rattle.awk_layout.specs.Layout.{flat};
 ghost use Rattle.awk_layout.specs.Typing.{array_type};
+ghost use Rattle.awk_layout.specs.Valid.{len};
 ghost use Rattle.awk_open.specs.Opened.{AreLong};
 ghost use Rattle.awk_pair_sides.specs.Levels as spec;
 ghost use Rattle.awk_pair_levels.specs.InRow.{IsOf, AreOf};
 ghost use Rattle.awk_pair_levels.specs.Inner.{IsBelow};
 ghost use Rattle.awk_pair_levels.specs.Shares.{length_of, is_lists, AreEven, AreAsLong, IsAmong};
-ghost use Rattle.awk_pair_levels.specs.Shares.{AreRepeats, IsCounted, IsLaid, IsNext, AreNext};
-ghost use Rattle.awk_pair_levels.specs.Shares.{IsShared};
+ghost use Rattle.awk_pair_levels.specs.Shares.{IsAsLong, IsEven, IsNext, AreNext, IsRepeated};
+ghost use Rattle.awk_pair_levels.specs.Shares.{AreRepeats, IsShared};
 ghost use Rattle.awk_pair_levels.specs.declared.shares.Share.TheVariants as given;
 
-use crate::alike::{all_lists, are_alike, lead_in, level_class};
+use crate::alike::{all_plain, are_alike, is_flat, lead_in, level_class};
 use crate::in_row::{own_ends, own_items};
 use crate::shares::{Share, no_places, shares_of};
 use crate::whole::items_in;
 use awk_columns::{Bounds, Lists, places_of};
-use awk_gather::gather;
+use awk_gather::{array_within, gather};
 use awk_lanes::{
     Arena, Items, Lane, Lengths, NoMemory, Num, Offsets, Steps, number, offsets_within, place_in,
 };
-use awk_layout::{Array, Arrays};
+use awk_layout::{Array, Arrays, Class, Node};
+use awk_list_numbers::{Places, list_numbers};
 use awk_types::ITEM_LIMIT;
 use std::alloc::Global;
 use std::sync::ledger::Ledger;
@@ -63,6 +66,14 @@ impl<'b, 'r, 'a> Lengths for Repeats<'b, 'r, 'a> {
     }
 }
 
+impl<'b, 'r, 'a> Places for Repeats<'b, 'r, 'a> {
+    ghost place = { λ _ i k. i };
+
+    fn place<L: Ledger>(&self, i: u64, _k: u64, _steps: &mut Steps<L>) -> u64 {
+        i
+    }
+}
+
 impl<'b, 'r, 'a> Items for Repeats<'b, 'r, 'a> {
     ghost use Rattle.std.specs.Prelude.{pos};
     ghost use Rattle.awk_lanes.specs.declared.kind.Kind.TheVariants as Kind;
@@ -77,7 +88,17 @@ impl<'b, 'r, 'a> Items for Repeats<'b, 'r, 'a> {
     }
 }
 
-/// The place of each of the lead's lists, as often as it has items, where some operand gives items.
+/// Lists that all operands share, of so many items together, and the place of each list as often as
+/// it has items, where some operand needs these.
+#[derive(Drop)]
+struct Level<'b, 'r, 'a> {
+    lead: &'b Bounds<'r, 'a>,
+    count: u64,
+    places: Lane<'a>,
+}
+
+/// The place of each of the lead's lists, as often as it has items, where an operand is repeated
+/// that is no column of numbers.
 fn repeats_of<'a, L: Ledger>(
     lead: &Bounds,
     count: u64,
@@ -89,7 +110,7 @@ fn repeats_of<'a, L: Ledger>(
     ensures { let n = size_of lead.now.starts in
         IfOk result (λ r. AreRepeats (length_of lead.now) n r shares.now) }
 {
-    if all_lists(shares) {
+    if all_plain(shares) {
         let none = no_places(arena)?;
         return Ok(none);
     }
@@ -97,6 +118,55 @@ fn repeats_of<'a, L: Ledger>(
     let repeats = Repeats { lists: lead };
     let places = places_of(n, count, &repeats, arena, steps)?;
     Ok(places)
+}
+
+/// Numbers, each as often as the list at its place has items.
+fn repeated_numbers<'a, L: Ledger>(
+    alloc: Global,
+    level: &Level<'_, '_, 'a>,
+    lane: &Lane<'a>,
+    arena: &'a Arena,
+    steps: &mut Steps<L>,
+) -> Result<Array<'a>, NoMemory>
+    requires long { size_of lane.now ≡ size_of level.now.lead.now.starts }
+    requires count { let l = level.now.lead.now in
+        level.now.count ≡ before (length_of l) (size_of l.starts) }
+    requires few { level.now.count ≤ item_limit }
+    ensures { let l = level.now.lead.now in
+        IfOk result (IsNext (length_of l) (size_of l.starts) (given.Items (flat lane.now))) }
+{
+    let n = level.lead.len();
+    let repeats = Repeats { lists: level.lead };
+    let numbers = list_numbers(lane, n, level.count, &repeats, arena, steps)?;
+    let array = array_within(alloc, Node::numpy(numbers, steps))?;
+    Ok(array)
+}
+
+/// An operand's items, each as often as the list at its place has items.
+fn repeated<'a, L: Ledger>(
+    alloc: Global,
+    level: &Level<'_, '_, 'a>,
+    y: &Array<'a>,
+    arena: &'a Arena,
+    steps: &mut Steps<L>,
+) -> Result<Array<'a>, NoMemory>
+    requires long { len y.now ≡ size_of level.now.lead.now.starts }
+    requires count { let l = level.now.lead.now in
+        level.now.count ≡ before (length_of l) (size_of l.starts) }
+    requires few { level.now.count ≤ item_limit }
+    requires places { let l = level.now.lead.now in
+        IsRepeated (length_of l) (size_of l.starts) level.now.places (given.Items y.now) }
+    ensures { let l = level.now.lead.now in
+        IfOk result (IsNext (length_of l) (size_of l.starts) (given.Items y.now)) }
+{
+    if !is_flat(y) {
+        let items = gather(alloc, y, &level.places, arena, steps)?;
+        return Ok(items);
+    }
+    match y.node().class() {
+        Class::Numpy { lane } => repeated_numbers(alloc, level, lane, arena, steps),
+        _ => unreachable!(),
+    }
 }
 
 /// The items of an operand's lists, of which there are so many, one list after another.
@@ -120,28 +190,34 @@ fn items_below<'a, L: Ledger>(
     Ok(items)
 }
 
-/// What an operand gives to the rows below, of which there are so many: the items of its lists, or
-/// its items at the places.
+/// What an operand gives to the rows below: the items of its lists, or its items repeated.
 fn column_below<'a, L: Ledger>(
     alloc: Global,
-    count: u64,
-    places: &Lane<'a>,
+    level: &Level<'_, '_, 'a>,
     x: &Array<'a>,
     share: &Share<'a>,
     arena: &'a Arena,
     steps: &mut Steps<L>,
 ) -> Result<Array<'a>, NoMemory>
-    requires counted { IsCounted count places.now share.now }
+    requires count { let l = level.now.lead.now in
+        level.now.count ≡ before (length_of l) (size_of l.starts) }
+    requires few { level.now.count ≤ item_limit }
+    requires long { IsAsLong (size_of level.now.lead.now.starts) share.now }
+    requires even { let l = level.now.lead.now in
+        IsEven (length_of l) (size_of l.starts) share.now }
+    requires places { let l = level.now.lead.now in
+        IsRepeated (length_of l) (size_of l.starts) level.now.places share.now }
     requires of { IsOf x.now share.now }
-    ensures { IfOk result (IsLaid places.now share.now) }
+    ensures { let l = level.now.lead.now in
+        IfOk result (IsNext (length_of l) (size_of l.starts) share.now) }
 {
     match share {
         Share::Lists(lists) => {
-            let items = items_below(alloc, count, x, lists, arena, steps)?;
+            let items = items_below(alloc, level.count, x, lists, arena, steps)?;
             Ok(items)
         }
         Share::Items(y) => {
-            let items = gather(alloc, y, places, arena, steps)?;
+            let items = repeated(alloc, level, y, arena, steps)?;
             Ok(items)
         }
     }
@@ -150,7 +226,7 @@ fn column_below<'a, L: Ledger>(
 /// What each operand gives to the rows below.
 fn columns_below<'a, L: Ledger>(
     alloc: Global,
-    lead: &Bounds,
+    lead: &Bounds<'_, 'a>,
     count: u64,
     xs: &Arrays<'a>,
     shares: &[Share<'a>],
@@ -160,15 +236,21 @@ fn columns_below<'a, L: Ledger>(
     requires long { AreAsLong (size_of lead.now.starts) shares.now }
     requires even { AreEven (length_of lead.now) (size_of lead.now.starts) shares.now }
     requires count { count ≡ before (length_of lead.now) (size_of lead.now.starts) }
+    requires few { count ≤ item_limit }
     requires same { length xs.now ≡ length shares.now }
     requires of { AreOf xs.now shares.now }
     ensures { let n = size_of lead.now.starts in
         IfOk result (AreNext (length_of lead.now) n shares.now) }
 {
     let places = repeats_of(lead, count, shares, arena, steps)?;
+    let level = Level {
+        lead,
+        count,
+        places,
+    };
     let mut columns = Arrays::new(alloc);
     for i in 0..shares.len() {
-        let column = column_below(alloc, count, &places, xs.get(i), &shares[i], arena, steps)?;
+        let column = column_below(alloc, &level, xs.get(i), &shares[i], arena, steps)?;
         columns.push(column)?;
     }
     Ok(columns)

@@ -4,33 +4,40 @@ use Rattle.awk_lanes.specs.Places.{size_of}
 use Rattle.awk_pair_levels.specs.Shares.{length_of}
 use Rattle.awk_pair_levels.proofs.EvenLaws.{as_long_get, even_get}
 use Rattle.awk_pair_levels.proofs.InRowLaws.{of_get}
-use Rattle.awk_pair_levels.proofs.NextLaws.{next_push, next_all, repeat_get, counted_share}
-use Rattle.awk_pair_levels.proofs.NextLaws.{laid_next}
+use Rattle.awk_pair_levels.proofs.NextLaws.{next_push, next_all, repeat_get}
 use Rattle.awk_pair_levels.proofs.below.columns_below.Goals as goal
 
 pub get-requires : goal.get-requires
 get-requires g c = omega (arith, c.requires.same, c.loop-i-test.true)
 
-pub column_below-requires-clause-counted : goal.column_below-requires-clause-counted
-column_below-requires-clause-counted g c =
-    let m = length_of c.args.lead.now in
-    let n = size_of c.args.lead.now.starts in
-    let read = slice_get_read c.args.shares.now (length c.args.shares.now) c.loop-i.i
-    c.index-shares-i.result refl (omega arith) c.index-shares-i.is in
-    counted_share m n c.in_ok-places.places c.args.count c.index-shares-i.result c.requires.count
-    (as_long_get n c.args.shares.now c.loop-i.i c.index-shares-i.result read
-    c.loop-i.invariant.long).0
-    (even_get m n c.args.shares.now c.loop-i.i c.index-shares-i.result read
-    c.loop-i.invariant.even).0
-    (repeat_get m n c.in_ok-places.places c.args.shares.now c.loop-i.i c.index-shares-i.result read
-    c.loop-i.invariant.repeats).0
+pub column_below-requires-clause-long : goal.column_below-requires-clause-long
+column_below-requires-clause-long g c =
+    (as_long_get (size_of c.args.lead.now.starts) c.args.shares.now c.loop-i.i
+    c.index-shares-i.result
+    (slice_get_read c.args.shares.now (length c.args.shares.now) c.loop-i.i
+    c.index-shares-i.result refl (omega arith) c.index-shares-i.is) c.loop-i.invariant.long).0
+
+pub column_below-requires-clause-even : goal.column_below-requires-clause-even
+column_below-requires-clause-even g c =
+    (even_get (length_of c.args.lead.now) (size_of c.args.lead.now.starts) c.args.shares.now
+    c.loop-i.i c.index-shares-i.result
+    (slice_get_read c.args.shares.now (length c.args.shares.now) c.loop-i.i
+    c.index-shares-i.result refl (omega arith) c.index-shares-i.is) c.loop-i.invariant.even).0
+
+pub column_below-requires-clause-places : goal.column_below-requires-clause-places
+column_below-requires-clause-places g c =
+    (repeat_get (length_of c.args.lead.now) (size_of c.args.lead.now.starts)
+    c.in_ok-places.places c.args.shares.now c.loop-i.i c.index-shares-i.result
+    (slice_get_read c.args.shares.now (length c.args.shares.now) c.loop-i.i
+    c.index-shares-i.result refl (omega arith) c.index-shares-i.is) c.loop-i.invariant.repeats).0
 
 pub column_below-requires-clause-of : goal.column_below-requires-clause-of
 column_below-requires-clause-of g c =
     of_get c.args.xs.now c.args.shares.now c.loop-i.i c.get.result.now c.index-shares-i.result
     c.get.ensures
     (slice_get_read c.args.shares.now (length c.args.shares.now) c.loop-i.i
-    c.index-shares-i.result refl (omega arith) c.index-shares-i.is) c.requires.of
+    c.index-shares-i.result refl (omega arith) c.index-shares-i.is)
+    c.requires.of
 
 pub loop-i-preserved : goal.loop-i-preserved
 loop-i-preserved g c =
@@ -38,21 +45,16 @@ loop-i-preserved g c =
     let n = size_of c.args.lead.now.starts in
     let read = slice_get_read c.args.shares.now (length c.args.shares.now) c.loop-i.i
     c.index-shares-i.result refl (omega arith) c.index-shares-i.is in
-    let a = as_long_get n c.args.shares.now c.loop-i.i c.index-shares-i.result read
-    c.loop-i.invariant.long in
-    let v = even_get m n c.args.shares.now c.loop-i.i c.index-shares-i.result read
-    c.loop-i.invariant.even in
-    let r = repeat_get m n c.in_ok-places.places c.args.shares.now c.loop-i.i
-    c.index-shares-i.result read c.loop-i.invariant.repeats in
     record {
-      long = a.1;
-      even = v.1;
-      repeats = r.1;
+      long = (as_long_get n c.args.shares.now c.loop-i.i c.index-shares-i.result read
+          c.loop-i.invariant.long).1;
+      even = (even_get m n c.args.shares.now c.loop-i.i c.index-shares-i.result read
+          c.loop-i.invariant.even).1;
+      repeats = (repeat_get m n c.in_ok-places.places c.args.shares.now c.loop-i.i
+          c.index-shares-i.result read c.loop-i.invariant.repeats).1;
       made = next_push m n c.args.shares.now c.loop-i.columns c.push.new.self c.loop-i.i
           c.index-shares-i.result c.in_ok-column.column read c.in_ok-push.ensures.ok
-          c.loop-i.invariant.made
-          (laid_next m n c.in_ok-places.places c.index-shares-i.result c.in_ok-column.column
-          a.0 v.0 r.0 c.in_ok-column.ensures);
+          c.loop-i.invariant.made c.in_ok-column.ensures;
     }
 
 pub returns : goal.returns

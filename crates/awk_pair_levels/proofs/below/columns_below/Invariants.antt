@@ -7,6 +7,7 @@ abbrev pub invariant-loop-i : goal.invariant-loop-i
 invariant-loop-i g l = record {
   long : AreAsLong (size_of l.lead.starts) (drop l.i l.shares);
   even : AreEven (length_of l.lead) (size_of l.lead.starts) (drop l.i l.shares);
-  repeats : AreRepeats (length_of l.lead) (size_of l.lead.starts) l.places (drop l.i l.shares);
+  repeats : AreRepeats (length_of l.lead) (size_of l.lead.starts) l.level.places
+      (drop l.i l.shares);
   made : AreNext (length_of l.lead) (size_of l.lead.starts) (take l.i l.shares) l.columns;
 }

@@ -1,4 +1,4 @@
-use Rattle.std.proofs.Common.{◌≡◌, subst, sym, None, Some}
+use Rattle.std.proofs.Common.{◌≡◌, subst, sym, None, Some, arith}
 use Rattle.std.specs.Prelude.{IfSome}
 use Rattle.awk_types.specs.ItemLimit.{item_limit}
 use Rattle.awk_lanes.specs.Column.{Column}
@@ -42,6 +42,12 @@ columns_below-requires-clause-count g c =
     let b = c.in_ok-bounds.bounds in
     let h : AreOffsetsBy item_limit (length_of b) (size_of b.starts) (Some c.in-Some.offsets) =
     rw c.in-Some.is at c.in_ok-level_offsets.ensures in h.0
+
+pub columns_below-requires-clause-few : goal.columns_below-requires-clause-few
+columns_below-requires-clause-few g c =
+    let b = c.in_ok-bounds.bounds in
+    let h : AreOffsetsBy item_limit (length_of b) (size_of b.starts) (Some c.in-Some.offsets) =
+    rw c.in-Some.is at c.in_ok-level_offsets.ensures in omega (arith, h.0, h.1)
 
 pub returns-in_ok-arrays-in-Some : goal.returns-in_ok-arrays-in-Some
 returns-in_ok-arrays-in-Some g c =
