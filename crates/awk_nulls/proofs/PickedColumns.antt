@@ -2,7 +2,7 @@
 use Rattle.std.specs.Prelude.{ℕ, ◌+◌, ◌-◌, List}
 use Rattle.std.proofs.Common.{arith, ap, sym, ◌∙◌, subst}
 use Rattle.awk_types.specs.DataType.{DataType}
-use Rattle.awk_types.specs.Value.{Value, null, value_list}
+use Rattle.awk_types.specs.Value.{Value, value_list}
 use Rattle.awk_lanes.specs.Column.{Column}
 use Rattle.awk_lanes.specs.Places.{size_of, place_at}
 use Rattle.awk_layout.specs.Layout.{Layout, optional}

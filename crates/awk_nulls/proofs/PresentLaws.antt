@@ -1,5 +1,5 @@
 -- The items of an array that are not null, and runs of them.
-use Rattle.std.specs.Prelude.{◌≡◌, ℕ, zero, suc, ◌+◌, ◌-◌, ◌<◌, ◌≤◌, refl, true, false, List, []}
+use Rattle.std.specs.Prelude.{◌≡◌, ℕ, zero, suc, ◌+◌, ◌<◌, ◌≤◌, ◌^◌, refl, true, false, List, []}
 use Rattle.std.specs.Prelude.{◌∷◌, length, take, get_or, cond, ℤ, pos, negsuc, ◌<ℤ◌}
 use Rattle.std.specs.List.{AllByRecursion}
 use Rattle.std.proofs.Common.{arith, ap, sym, ◌∙◌, subst}
@@ -13,21 +13,27 @@ use Rattle.awk_types.proofs.SimpleLaws.{null_in_option, present_stays}
 use Rattle.awk_lanes.specs.Column.{Column}
 use Rattle.awk_lanes.specs.Places.{size_of, at, option_place}
 use Rattle.awk_lanes.specs.declared.kind.Kind.TheVariants.{I64}
-use Rattle.awk_layout.specs.Layout.{Layout}
+use Rattle.awk_layout.specs.Layout.{Layout, flat}
 use Rattle.awk_layout.specs.Item.{at_option}
+use Rattle.awk_layout.specs.Laws.{len-fits}
 use Rattle.awk_layout.specs.Typing.{array_type, array_items}
 use Rattle.awk_layout.specs.Valid.{len, IsValid}
 use Rattle.awk_layout.proofs.ArrayItems.{length-array_items, get_or-array_items}
 use Rattle.awk_gather.specs.Arrays.{array_item}
 use Rattle.awk_columns.specs.Columns.{is_present, present_values}
-use Rattle.awk_counts.specs.Counted.{first_of, present_at, present_place}
+use Rattle.awk_counts.specs.Counted.{first_of, present_at, present_place, counted_lane}
+use Rattle.awk_counts.specs.Counted.{numbers_at}
 use Rattle.awk_lanes.specs.Made.{lane_of}
 use Rattle.awk_counts.proofs.FirstPlaces.{length-first_of}
+use Rattle.awk_open.specs.Opened.{IsOpened}
+use Rattle.awk_open.specs.declared.opening.Opened.TheVariants.{Option as Optional}
 use Rattle.awk_open.proofs.ItemShapes.{present_item}
 use Rattle.awk_lanes.proofs.MadeLanes.{size-lane_of, at-lane_of}
 use Rattle.awk_columns.specs.Opened.{OpensOption}
-use Rattle.awk_nulls.specs.Lanes.{ArePresent}
+use Rattle.awk_columns.proofs.OrderedOptions.{option_in_order}
+use Rattle.awk_nulls.specs.Lanes.{ArePresent, HasPresent}
 use Rattle.awk_option_nodes.specs.Present.{present_lane}
+use Rattle.awk_nulls.proofs.NamedNumbers.{named_reached}
 use Rattle.awk_nulls.proofs.NullLaws.{inner_not_option}
 use Rattle.awk_option_nodes.proofs.OptionNodes.{HasItems}
 use Rattle.awk_list_ends.specs.Kept.{KeepsItems}
@@ -101,8 +107,8 @@ present_one y (pos k) v n p =
     not_null (array_item y k) (present_item y k v (omega (arith, ints, p)) n) in
     rw e refl
 
-count_present : (j : Column) (y x : Layout) → OpensOption j y x → is_option (array_type y) ≡ false
-    → (i : ℕ) → i ≤ len x
+count_present : (j : Column) (y x : Layout) → IsOpened x (Optional j y)
+    → is_option (array_type y) ≡ false → (i : ℕ) → i ≤ len x
     → length (first_of (present_at j) i) ≡ length (present_values (take i (array_items x)))
 count_present j y x op n zero p = refl
 count_present j y x op n (suc i) p =
@@ -110,7 +116,7 @@ count_present j y x op n (suc i) p =
     let e : i + 1 ≡ suc i = omega arith in
     let before = count_present j y x op n i (omega (arith, p)) in
     let here : length (present_at j i) ≡ cond (is_present (get_or (array_items x) i null)) 1 0 =
-    present_one y (at j i) op.valid n (op.index.below i (omega (arith, q, op.size)))
+    present_one y (at j i) op.valid.2 n (op.valid.1.below i (omega (arith, q, op.size)))
     ∙ ap (λ v. cond (is_present v) 1 0) (sym (get_or-array_items x i q ∙ op.items i q)) in
     let a = length-first_of (present_at j) i in
     let b = length-filter_more is_present (array_items x) i null
@@ -121,19 +127,49 @@ count_present j y x op n (suc i) p =
 size-counts : (j : Column) → size_of (present_lane j) ≡ size_of j + 1
 size-counts j = size-lane_of I64 (size_of j + 1) (λ i. pos (length (first_of (present_at j) i)))
 
-pub option_present : (j : Column) (y x : Layout) → OpensOption j y x
-    → ArePresent x (present_lane j) y
-option_present j y x op = record {
-  typ = sym (ap present op.typ);
-  valid = op.valid;
-  column = op.column;
+-- what holds the present items alone, beside the index of what an option opens to
+present_items : (j : Column) (y x z : Layout) → IsOpened x (Optional j y) → IsValid z
+    → array_type z ≡ array_type y → array_items z ≡ present_values (array_items x)
+    → ArePresent x (present_lane j) z
+present_items j y x z op v t e = record {
+  typ = t ∙ sym (ap present op.kind);
+  valid = v;
+  column = e;
   kind = tt;
   size = size-counts j ∙ ap (λ n. n + 1) op.size;
   counts = λ i p.
       at-lane_of I64 (size_of j + 1) (λ k. pos (length (first_of (present_at j) k))) i
       (omega (arith, p, op.size))
-      ∙ ap pos (count_present j y x op (inner_not_option x y op.typ) i p);
+      ∙ ap pos (count_present j y x op (inner_not_option x y op.kind) i p);
 }
+
+option_opens : (j : Column) (y x : Layout) → OpensOption j y x → IsOpened x (Optional j y)
+option_opens j y x op = record {
+  kind = op.typ;
+  size = op.size;
+  valid = (op.fits, op.index, op.valid);
+  columns = tt;
+  items = op.items;
+}
+
+-- an option in order
+pub option_present : (j : Column) (y x : Layout) → OpensOption j y x → HasPresent x j y
+option_present j y x op = record {
+  kind = op.index.kind;
+  present = present_items j y x y (option_opens j y x op) op.valid refl op.column;
+}
+
+-- numbers that were moved
+pub moved_present : (j c : Column) (y x z : Layout) → IsOpened x (Optional j y) → y ≡ flat c
+    → z ≡ flat (numbers_at c (first_of (present_at j) (size_of j))) → IsValid z
+    → HasPresent x j z
+moved_present j c y x z op ey ez v =
+    let r = named_reached y z c (first_of (present_at j) (size_of j)) ey ez in
+    let order = option_in_order x y z j (counted_lane j) op (inner_not_option x y op.kind) refl r in
+    record {
+      kind = op.valid.1.kind;
+      present = present_items j y x z op v r.typ order.1;
+    }
 
 -- ---- those present as the items that a test keeps
 
@@ -146,3 +182,12 @@ keeps_present x c z h = record {
   size = h.size;
   counts = h.counts;
 }
+
+-- ---- the index of an option
+
+pub option_size : (x : Layout) (j : Column) (z : Layout) → HasPresent x j z → size_of j ≡ len x
+option_size x j z h = omega (arith, size-counts j, h.present.size)
+
+pub option_fits : (x : Layout) (j : Column) (z : Layout) → IsValid x → HasPresent x j z
+    → size_of j < 2 ^ 63
+option_fits x j z v h = omega (arith, option_size x j z h, len-fits x v)

@@ -1,5 +1,5 @@
 -- Lanes that are made of lists by their starts and stops, and of the indexes of options.
-use Rattle.std.specs.Prelude.{◌≡◌, ℕ, ◌+◌, ◌-◌, ◌==◌, ◌<◌, ◌≤◌, nat_lt, Bool}
+use Rattle.std.specs.Prelude.{◌≡◌, ℕ, ◌+◌, ◌==◌, ◌<◌, ◌≤◌, nat_lt, Bool}
 use Rattle.std.specs.Prelude.{length, take, ℤ, pos, negsuc, Option, Some, None}
 use Rattle.std.specs.Prelude.{if◌then◌else◌}
 use Rattle.awk_types.specs.DataType.{var}
@@ -7,6 +7,7 @@ use Rattle.awk_types.specs.Simple.{present}
 use Rattle.awk_types.specs.Value.{truth}
 use Rattle.awk_lanes.specs.Column.{Column}
 use Rattle.awk_lanes.specs.Places.{size_of, at, place_at, option_place_at, IsIndexKind}
+use Rattle.awk_lanes.specs.Places.{IsOptionKind}
 use Rattle.awk_lanes.specs.declared.kind.Kind.TheVariants.{Bool as Truths, I64}
 use Rattle.awk_layout.specs.Layout.{Layout, flat}
 use Rattle.awk_layout.specs.Valid.{len, IsValid}
@@ -16,6 +17,9 @@ use Rattle.awk_lanes.specs.Counted.{items_lane}
 use Rattle.awk_lanes.specs.Made.{lane_of}
 use Rattle.awk_columns.specs.Columns.{present_values}
 pub use Rattle.awk_columns.specs.Lists.{span_length}
+use Rattle.awk_list_ends.specs.Ends.{numbers_at_ends}
+use Rattle.awk_option_nodes.specs.Present.{present_lane}
+use Rattle.awk_nulls.specs.declared.ends.Ends.{Ends}
 use Rattle.awk_nulls.specs.IsNone.{is_null}
 use Rattle.awk_nulls.specs.PadNone.{padded_length}
 use Rattle.awk_nulls.specs.Singletons.{single_list}
@@ -58,6 +62,16 @@ pub record ArePresent (x : Layout) (c : Column) (z : Layout) : Type 0 where
   pub size : size_of c ≡ len x + 1
   pub counts : (i : ℕ) → i ≤ len x
       → at c i ≡ pos (length (present_values (take i (array_items x))))
+
+-- the same by the index of an option, which is negative for null
+pub record HasPresent (x : Layout) (j : Column) (z : Layout) : Type 0 where
+  pub kind : IsOptionKind j.kind
+  pub present : ArePresent x (present_lane j) z
+
+-- where lists begin and end among items of which counts tell how many stand before each place
+abbrev pub AreEnds : Column → Column → Column → Ends → Type 0
+AreEnds c s t e =
+    (e.starts ≡ numbers_at_ends c s t s) × (e.stops ≡ numbers_at_ends c s t t)
 
 -- a list of at most one for each item of an array
 pub record AreSingles (x w : Layout) : Type 0 where

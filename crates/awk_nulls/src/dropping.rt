@@ -4,22 +4,19 @@ ghost use Rattle.awk_types.specs.Faults.{fault_told};
 ghost use Rattle.awk_types.specs.Gives.{Gives};
 ghost use Rattle.awk_types.specs.Simple.{is_option};
 ghost use Rattle.awk_layout.specs.Datum.{datum_of, IsDatum};
-ghost use Rattle.awk_lanes.specs.declared.kind.Kind.TheVariants as Kinds;
-ghost use Rattle.awk_lanes.specs.Places.{at};
 ghost use Rattle.awk_layout.specs.Typing.{array_type};
 ghost use Rattle.awk_axis.specs.DropNone.{drop_none_function};
 ghost use Rattle.awk_axis.specs.Mapped.{IsMade};
 ghost use Rattle.awk_nulls.specs.DropNone.{drop_none_of};
-ghost use Rattle.awk_nulls.specs.Lanes.{ArePresent};
-ghost use Rattle.awk_list_ends.specs.Ends.{numbers_at_ends};
+ghost use Rattle.awk_nulls.specs.Lanes.{HasPresent};
 
-use crate::presence::{has_options, present_of};
+use crate::ends::ends_among_present;
+use crate::presence::{has_options, option_items};
 use crate::singles::present_typ;
 use awk_axis::{ListOp, Made, Refusal, Spoil, lift_at};
 use awk_columns::{Joined, Lists, join_spans};
-use awk_lanes::{Arena, Lane, Steps, index_of};
+use awk_lanes::{Arena, Lane, Steps};
 use awk_layout::{Array, Datum};
-use awk_list_ends::numbers_at_ends;
 use awk_types::{Fault, NoMemory, Typ};
 use std::alloc::Global;
 use std::sync::ledger::Ledger;
@@ -28,22 +25,18 @@ use std::sync::ledger::Ledger;
 fn present_lists<'a, L: Ledger>(
     alloc: Global,
     lists: &Lists<'a>,
-    counts: &Lane<'a>,
+    index: &Lane<'a>,
     items: &Array<'a>,
     arena: &'a Arena,
     steps: &mut Steps<L>,
 ) -> Result<Made<'a>, NoMemory>
-    requires items { ArePresent lists.now.content counts.now items.now }
+    requires items { HasPresent lists.now.content index.now items.now }
     ensures { IfOk result (IsMade drop_none_function lists.now.class lists.now.starts
         lists.now.stops lists.now.content) }
 {
     let _ = lists.content();
-    let starts = index_of(alloc, lists.starts(), arena, steps)?;
-    let stops = index_of(alloc, lists.stops(), arena, steps)?;
-    let counts = index_of(alloc, counts, arena, steps)?;
-    let firsts = numbers_at_ends(&counts, &starts, &stops, &starts, arena, steps)?;
-    let ends = numbers_at_ends(&counts, &starts, &stops, &stops, arena, steps)?;
-    match join_spans(alloc, None, &firsts, &ends, items, arena, steps)? {
+    let ends = ends_among_present(alloc, index, lists, arena, steps)?;
+    match join_spans(alloc, None, &ends.starts, &ends.stops, items, arena, steps)? {
         Joined::TooMany => Ok(Made::Spoiled(Spoil::Size)),
         Joined::Lists { offsets, content } => {
             let _ = content.len();
@@ -114,8 +107,8 @@ impl ListOp for PresentItems {
         steps: &mut Steps<L>,
     ) -> Result<Made<'a>, NoMemory> {
         if has_options(lists) {
-            let items = present_of(alloc, lists.content(), arena, steps)?;
-            present_lists(alloc, lists, &items.counts, &items.content, arena, steps)
+            let items = option_items(alloc, lists.content(), arena, steps)?;
+            present_lists(alloc, lists, &items.index, &items.content, arena, steps)
         } else {
             kept_lists(alloc, lists, arena, steps)
         }

@@ -4,8 +4,10 @@
 #![tactic(auto)]
 
 mod dropping;
+mod ends;
 mod first_items;
 mod nulls;
+mod numbers;
 mod padding;
 mod presence;
 mod singles;

@@ -1,12 +1,16 @@
 //! The items of an array that are not null.
-ghost use Rattle.std.specs.Prelude.{◌≡◌, ◌<◌, ◌+◌, IfOk};
+ghost use Rattle.std.specs.Prelude.{◌≡◌, ◌<◌, ◌+◌, true, IfOk};
 ghost use Rattle.awk_types.specs.Simple.{is_option};
 ghost use Rattle.awk_layout.specs.Typing.{array_type};
-ghost use Rattle.awk_nulls.specs.Lanes.{ArePresent};
+ghost use Rattle.awk_open.specs.Opened.{IsOpened};
+ghost use Rattle.awk_open.specs.declared.opening.Opened.TheVariants as Outermost;
+ghost use Rattle.awk_nulls.specs.Lanes.{ArePresent, HasPresent};
 
+use crate::numbers::{has_numbers, named_numbers};
 use awk_columns::{Lists, Opened, open_array};
-use awk_lanes::{Arena, Lane, Steps, ordinals};
-use awk_layout::Array;
+use awk_lanes::{Arena, Lane, Steps, index_of, ordinals};
+use awk_layout::{Array, Class};
+use awk_open::{Opened as Outermost, opened};
 use awk_option_nodes::present_counts;
 use awk_types::{NoMemory, is_optional};
 use std::alloc::Global;
@@ -20,11 +24,95 @@ pub struct Present<'a> {
     pub content: Array<'a>,
 }
 
+/// The items of an option that are not null, in order, and an index that is negative for null.
+#[derive(Drop)]
+pub(crate) struct OptionItems<'a> {
+    pub(crate) index: Lane<'a>,
+    pub(crate) content: Array<'a>,
+}
+
 /// Whether the items of lists are optional.
 pub(crate) fn has_options(lists: &Lists) -> bool
     ensures { result ≡ is_option (array_type lists.now.content) }
 {
     is_optional(lists.content().typ())
+}
+
+/// The items of an option that are not null, by its index in order.
+fn ordered_items<'a, L: Ledger>(
+    alloc: Global,
+    x: &Array<'a>,
+    arena: &'a Arena,
+    steps: &mut Steps<L>,
+) -> Result<OptionItems<'a>, NoMemory>
+    requires option { is_option (array_type x.now) ≡ true }
+    ensures { IfOk result (λ r. HasPresent x.now r.index r.content) }
+{
+    match open_array(alloc, x, arena, steps)? {
+        Opened::Option { index, content } => Ok(OptionItems { index, content }),
+        _ => unreachable!(),
+    }
+}
+
+/// The same of what an option opens to: numbers are moved at once, and its index stays.
+fn moved_items<'a, L: Ledger>(
+    alloc: Global,
+    x: &Array<'a>,
+    index: &Lane<'a>,
+    content: &Array<'a>,
+    arena: &'a Arena,
+    steps: &mut Steps<L>,
+) -> Result<OptionItems<'a>, NoMemory>
+    requires option { is_option (array_type x.now) ≡ true }
+    requires opened { IsOpened x.now (Outermost.Option index.now content.now) }
+    ensures { IfOk result (λ r. HasPresent x.now r.index r.content) }
+{
+    match content.node().class() {
+        Class::Numpy { lane } => {
+            let places = index_of(alloc, index, arena, steps)?;
+            let numbers = named_numbers(alloc, &places, lane, arena, steps)?;
+            let _ = numbers.len();
+            Ok(OptionItems {
+                index: index.copy(),
+                content: numbers,
+            })
+        }
+        _ => ordered_items(alloc, x, arena, steps),
+    }
+}
+
+/// The same of an option over numbers.
+fn number_items<'a, L: Ledger>(
+    alloc: Global,
+    x: &Array<'a>,
+    arena: &'a Arena,
+    steps: &mut Steps<L>,
+) -> Result<OptionItems<'a>, NoMemory>
+    requires option { is_option (array_type x.now) ≡ true }
+    ensures { IfOk result (λ r. HasPresent x.now r.index r.content) }
+{
+    match opened(alloc, x, arena, steps)? {
+        Outermost::Option { index, content } => {
+            moved_items(alloc, x, &index, &content, arena, steps)
+        }
+        _ => unreachable!(),
+    }
+}
+
+/// The items of an option that are not null. Numbers behind an index are moved at once.
+pub(crate) fn option_items<'a, L: Ledger>(
+    alloc: Global,
+    x: &Array<'a>,
+    arena: &'a Arena,
+    steps: &mut Steps<L>,
+) -> Result<OptionItems<'a>, NoMemory>
+    requires option { is_option (array_type x.now) ≡ true }
+    ensures { IfOk result (λ r. HasPresent x.now r.index r.content) }
+{
+    if has_numbers(x) {
+        return number_items(alloc, x, arena, steps);
+    }
+    ordered_items(alloc, x, arena, steps)
 }
 
 /// The items that are not null, in order.
@@ -42,11 +130,10 @@ pub fn present_of<'a, L: Ledger>(
         let content = x.copy(alloc)?;
         return Ok(Present { counts, content });
     }
-    match open_array(alloc, x, arena, steps)? {
-        Opened::Option { index, content } => {
-            let counts = present_counts(alloc, &index, arena, steps)?;
-            Ok(Present { counts, content })
-        }
-        _ => unreachable!(),
-    }
+    let items = option_items(alloc, x, arena, steps)?;
+    let counts = present_counts(alloc, &items.index, arena, steps)?;
+    Ok(Present {
+        counts,
+        content: items.content,
+    })
 }

@@ -1,0 +1,5 @@
+use Rattle.awk_counts.proofs.PlaceLanes.{option-index}
+use Rattle.awk_nulls.proofs.ends.ends_among_present.Goals as goal
+
+pub index_of-requires : goal.index_of-requires
+index_of-requires g c = option-index c.args.index.now.kind c.requires.kind
