@@ -1,5 +1,5 @@
 -- A value in the place of each null.
-use Rattle.std.specs.Prelude.{◌≡◌, ℕ, ◌+◌, ◌-◌, ◌<◌, ◌≤◌, ◌^◌, ◌&&◌, refl, Bool, true, false, not}
+use Rattle.std.specs.Prelude.{◌≡◌, ℕ, ◌+◌, ◌-◌, ◌<◌, ◌≤◌, ◌^◌, ◌&&◌, refl, Bool, true, false}
 use Rattle.std.specs.Prelude.{List, [], ◌++◌, map, length, get_or, ℤ, pos, negsuc, ◌≤ℤ◌, ◌<ℤ◌}
 use Rattle.std.specs.Prelude.{int_le, Option, Some, None, Result, Ok, Err}
 use Rattle.std.proofs.Common.{arith, ap, ap₂, sym, subst, ◌∙◌}
@@ -43,8 +43,9 @@ use Rattle.awk_axis.specs.Lifting.{lift}
 use Rattle.awk_columns.specs.ListClass.{Class}
 use Rattle.awk_axis.specs.Mapped.{AreGiven}
 use Rattle.awk_columns.specs.Opened.{AreLists, OpensOption, items_at, all_items_at}
+use Rattle.awk_open.specs.Opened.{IsOpened}
+use Rattle.awk_open.specs.declared.opening.Opened.TheVariants.{Option as Optional}
 use Rattle.awk_axis.specs.Spoils.{too_many}
-use Rattle.awk_axis.specs.declared.causes.Refusal.TheVariants as refused
 use Rattle.awk_axis.specs.declared.causes.Spoil.TheVariants.{Size as TooLarge}
 use Rattle.awk_columns.proofs.ArrayLaws.{run_map, run_same}
 use Rattle.awk_columns.proofs.ListNodes.{joined_even}
@@ -56,7 +57,7 @@ use Rattle.awk_merge_sides.specs.Sides.{Side, merged_items, AreSides, IsMerged, 
 use Rattle.awk_merge_sides.proofs.SideLaws.{item_has, length-carried, get_or-carried}
 use Rattle.awk_merge_sides.proofs.SideLaws.{merged_items-with_side, AreSides-with_side}
 use Rattle.awk_fill.specs.Filled.{IsFirst, IsPair, place_or, places_or, IsFilled, IsFilledOption}
-use Rattle.awk_fill.specs.Filled.{IsRefused}
+use Rattle.awk_fill.specs.Filled.{HoldsOption, IsRefused}
 use Rattle.awk_fill.specs.FillNone.{Filler, filler_type, filler_value, filling, fill_value, filled}
 use Rattle.awk_fill.specs.FillNone.{filled_type, fits, fill_none_function, no_filler, is_filler}
 use Rattle.awk_fill.specs.FillNone.{fill_none_of}
@@ -297,8 +298,29 @@ module _ (f : Filler) (j q : Column) (x v z b : Layout) (n : ℕ) (t : DataType)
 
 -- ---- arrays
 
--- an option as what it opens to
-pub filled_opened : (f : Filler) (j : Column) (y x w : Layout) → OpensOption j y x
+-- what an option opens to
+pub holds_ordered : (j : Column) (y x : Layout) → OpensOption j y x → HoldsOption j y x
+holds_ordered j y x o = record {
+  typ = o.typ;
+  size = o.size;
+  fits = o.fits;
+  index = o.index;
+  valid = o.valid;
+  items = o.items;
+}
+
+pub holds_whole : (j : Column) (y x : Layout) → IsOpened x (Optional j y) → HoldsOption j y x
+holds_whole j y x o = record {
+  typ = o.kind;
+  size = o.size;
+  fits = o.valid.0;
+  index = o.valid.1;
+  valid = o.valid.2;
+  items = o.items;
+}
+
+-- an option by its parts
+pub filled_opened : (f : Filler) (j : Column) (y x w : Layout) → HoldsOption j y x
     → IsFilledOption f j y w → IsFilled f x w
 filled_opened f j y x w o h = record {
   valid = h.valid;
@@ -312,7 +334,7 @@ filled_opened f j y x w o h = record {
 }
 
 -- what is opened is no option
-pub opened_plain : (j : Column) (y x : Layout) → OpensOption j y x
+pub opened_plain : (j : Column) (y x : Layout) → HoldsOption j y x
     → is_option (array_type y) ≡ false
 opened_plain j y x o =
     let s : IsSimple (opt (array_type y)) = subst IsSimple o.typ

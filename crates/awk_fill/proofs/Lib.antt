@@ -1,3 +1,4 @@
 pub mod FillLaws
 pub mod MovedBits
+pub mod NumberLaws
 mod WorkedFill

@@ -1,5 +1,5 @@
 -- Worked examples of nulls that are filled, each checked by computing.
-use Rattle.std.specs.Prelude.{◌≡◌, List, [], ◌∷◌, map, pos, negsuc, ℤ, Ok, Err, true, false}
+use Rattle.std.specs.Prelude.{◌≡◌, List, [], ◌∷◌, pos, negsuc, Ok, Err, true}
 use Rattle.std.specs.Prelude.{refl}
 use Rattle.awk_types.specs.declared.primitive.Primitive.TheVariants.{Bool, I8, U8, I64}
 use Rattle.awk_types.specs.DataType.{DataType, unknown, leaf, var, reg, tup, opt, uni}

@@ -1,6 +1,6 @@
 -- A value in the place of each null.
-use Rattle.std.specs.Prelude.{◌&&◌, Bool, true, false, not, List, map, ℤ, pos, Option, Some, None}
-use Rattle.std.specs.Prelude.{Result, Ok, Err, if◌then◌else◌, int_le}
+use Rattle.std.specs.Prelude.{◌&&◌, Bool, true, false, not, map, ℤ, Option, Some, None}
+use Rattle.std.specs.Prelude.{Result, Err, if◌then◌else◌, int_le}
 use Rattle.awk_types.specs.DataType.{DataType, leaf, opt}
 use Rattle.awk_types.specs.Datum.{Datum, arr, one}
 use Rattle.awk_types.specs.Has.{least_number, greatest_number}

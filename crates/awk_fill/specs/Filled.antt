@@ -1,5 +1,5 @@
 -- Columns whose nulls are filled.
-use Rattle.std.specs.Prelude.{◌≡◌, ℕ, ◌<◌, ◌++◌, ℤ, pos, List, map, Option, Some, None}
+use Rattle.std.specs.Prelude.{◌≡◌, ℕ, ◌<◌, ◌^◌, ◌++◌, ℤ, pos, map, Option, Some, None}
 use Rattle.std.specs.Prelude.{Result}
 use Rattle.std.specs.List.{AllByRecursion}
 use Rattle.awk_types.specs.DataType.{DataType, opt}
@@ -11,7 +11,7 @@ use Rattle.awk_types.specs.Simple.{simple_value}
 use Rattle.awk_types.specs.Value.{Value}
 use Rattle.awk_types.specs.declared.fault.Fault.{Fault}
 use Rattle.awk_lanes.specs.Column.{Column}
-use Rattle.awk_lanes.specs.Places.{size_of, option_place_at}
+use Rattle.awk_lanes.specs.Places.{size_of, at, option_place_at, IsOptionalIndex}
 use Rattle.awk_lanes.specs.declared.kind.Kind.TheVariants.{I64}
 use Rattle.awk_layout.specs.Datum.{datum_of}
 use Rattle.awk_layout.specs.Item.{at_option}
@@ -54,6 +54,23 @@ place_or n (Some k) = pos k
 
 abbrev pub places_or : ℕ → Column → Column
 places_or n j = lane_of I64 (size_of j) (λ i. place_or n (option_place_at j i))
+
+-- the number there, or another for null
+abbrev pub number_or : ℤ → Column → Option ℕ → ℤ
+number_or z c None = z
+number_or z c (Some k) = at c k
+
+abbrev pub filled_lane : ℤ → Column → Column → Column
+filled_lane z c j = lane_of I64 (size_of j) (λ i. number_or z c (option_place_at j i))
+
+-- the items of x are those of y by an index, and null where it is negative
+pub record HoldsOption (j : Column) (y x : Layout) : Type 0 where
+  pub typ : array_type x ≡ opt (array_type y)
+  pub size : size_of j ≡ len x
+  pub fits : size_of j < 2 ^ 63
+  pub index : IsOptionalIndex j (len y)
+  pub valid : IsValid y
+  pub items : (i : ℕ) → i < len x → array_item x i ≡ at_option (option_place_at j i) (array_item y)
 
 -- n items of a type, with the nulls filled of those that are given by place
 pub record AreFilled (f : Filler) (t : DataType) (n : ℕ) (value : ℕ → Value) (y : Layout) : Type 0

@@ -1,5 +1,5 @@
 //! A value in the place of each null.
-ghost use Rattle.std.specs.Prelude.{◌≡◌, ◌<◌, ◌^◌, false, pos, None, IfOk};
+ghost use Rattle.std.specs.Prelude.{◌≡◌, ◌<◌, ◌^◌, true, false, pos, None, IfOk};
 ghost use Rattle.awk_types.specs.DataType.{leaf, opt};
 ghost use Rattle.awk_types.specs.Faults.{fault_told};
 ghost use Rattle.awk_types.specs.Gives.{Gives};
@@ -15,19 +15,23 @@ ghost use Rattle.awk_layout.specs.Typing.{array_type};
 ghost use Rattle.awk_layout.specs.Valid.{len};
 ghost use Rattle.awk_unify.specs.Unify.{unification};
 ghost use Rattle.awk_fill.specs.Filled.{IsFirst, HasFirst, IsPair, place_or, places_or};
-ghost use Rattle.awk_fill.specs.Filled.{IsFilled, IsFilledOption, IsRefused};
+ghost use Rattle.awk_fill.specs.Filled.{HoldsOption, IsFilled, IsFilledOption, IsRefused};
 ghost use Rattle.awk_fill.specs.FillNone.{filler_of, is_filler, literal_primitive};
 ghost use Rattle.awk_fill.specs.FillNone.{fits as fits_in, literal_refusal, filler_refusal};
 ghost use Rattle.awk_fill.specs.FillNone.{filler_type, filler_value, fill_none_function};
 ghost use Rattle.awk_fill.specs.FillNone.{fill_none_of};
 
 use crate::moving::array_in;
+use crate::numbers::{filled_numbers, has_wide_numbers};
 use awk_axis::{ListOp, Made, Refusal, Spoil, lift_at};
 use awk_columns::{Joined, Lists, Opened, open_array};
-use awk_lanes::{Arena, Kind, Lane, LaneMaker, Num, Steps, number, option_place_in};
+use awk_lanes::{
+    Arena, Index, Kind, Lane, LaneMaker, Num, Numbers, Steps, index_of, made_lane, number,
+};
 use awk_layout::{Array, Datum, Node, Operand, kind_of};
 use awk_merge_columns::merge;
 use awk_merge_sides::Sides;
+use awk_open::{Opened as Outermost, opened};
 use awk_types::{Fault, NoMemory, Prim, Typ, copy_type, is_optional};
 use awk_unify::{Lift, unify, unify_unlimited};
 use std::alloc::{AllocError, Global};
@@ -205,10 +209,36 @@ fn place_or(place: u64, at: Option<u64>) -> u64
 }
 
 /// Where the items of an option are, and each null at a place of its own.
-#[tactic(auto, using(awk_lanes::proofs::MadeLanes::making))]
-fn places_or<'a, L: Ledger>(
+#[derive(Drop)]
+struct PlacesOr<'b, 'a> {
     place: u64,
-    index: &Lane,
+    index: &'b Index<'a>,
+}
+
+impl<'b, 'a> Numbers for PlacesOr<'b, 'a> {
+    ghost use Rattle.std.specs.Prelude.{◌<◌, ◌^◌};
+    ghost use Rattle.awk_lanes.specs.declared.kind.Kind.TheVariants as Kinds;
+    ghost use Rattle.awk_lanes.specs.Places.{size_of, option_place_at, IsOptionalIndex};
+    ghost use Rattle.awk_fill.specs.Filled.{place_or as place_or_own};
+
+    ghost kind = { λ _. Kinds.I64 };
+
+    ghost at = { λ f i. place_or_own f.place (option_place_at f.index.now i) };
+
+    ghost size = { λ f. size_of f.index.now };
+
+    ghost IsReady = { λ f. (f.place < 2 ^ 63) × IsOptionalIndex f.index.now f.place };
+
+    fn number<L: Ledger>(&self, i: u64, _steps: &mut Steps<L>) -> Num {
+        number(place_or(self.place, self.index.option_place(i)))
+    }
+}
+
+/// The same as a lane.
+fn places_or<'a, L: Ledger>(
+    alloc: Global,
+    place: u64,
+    index: &Lane<'a>,
     arena: &'a Arena,
     steps: &mut Steps<L>,
 ) -> Result<Lane<'a>, NoMemory>
@@ -216,15 +246,16 @@ fn places_or<'a, L: Ledger>(
     requires index { IsOptionalIndex index.now place }
     ensures { IfOk result (λ r. r ≡ places_or place index.now) }
 {
-    let n = index.len();
-    let mut maker = LaneMaker::new(Kind::I64, n, arena)?;
-    for i in 0..n {
-        maker.push(number(place_or(place, option_place_in(index, i, steps))));
-    }
-    Ok(maker.finish())
+    let index = index_of(alloc, index, arena, steps)?;
+    let places = PlacesOr {
+        place,
+        index: &index,
+    };
+    made_lane(Kind::I64, index.len(), &places, arena, steps)
 }
 
 /// The nulls of an option as the value, which stands first behind the items that are present.
+/// Numbers are filled in one pass.
 fn filled_option<'a, L: Ledger>(
     alloc: Global,
     value: &Operand,
@@ -243,9 +274,83 @@ fn filled_option<'a, L: Ledger>(
 {
     let n = present.len();
     let own = value_array(alloc, value, present.typ(), arena, steps)?;
+    let filled = filled_numbers(alloc, index, present, &own, arena, steps)?;
+    if let Some(node) = filled {
+        return Ok(node);
+    }
     let items = Box::new(alloc, pair(alloc, present, &own, arena, steps)?)?;
-    let places = places_or(n, index, arena, steps)?;
+    let places = places_or(alloc, n, index, arena, steps)?;
     Ok(Node::indexed(places, items, steps))
+}
+
+/// Whether a value becomes a number of 64 bits with a sign beside these.
+fn is_wide(value: &Operand) -> bool {
+    match value {
+        Operand::Literal(_) => true,
+        Operand::Of(Datum::Arr(x) | Datum::One(x)) => match x.typ() {
+            Typ::Leaf(prim) => *prim == Prim::I64,
+            _ => false,
+        },
+    }
+}
+
+/// An option, by its index and what holds the items that are present.
+#[derive(Drop)]
+struct Parts<'a> {
+    index: Lane<'a>,
+    content: Array<'a>,
+}
+
+/// The parts of an option, whose content holds what is present alone.
+fn ordered_parts<'a, L: Ledger>(
+    alloc: Global,
+    x: &Array<'a>,
+    arena: &'a Arena,
+    steps: &mut Steps<L>,
+) -> Result<Parts<'a>, NoMemory>
+    requires option { is_option (array_type x.now) ≡ true }
+    ensures { IfOk result (λ r. HoldsOption r.index r.content x.now) }
+{
+    match open_array(alloc, x, arena, steps)? {
+        Opened::Option { index, content } => Ok(Parts { index, content }),
+        _ => unreachable!(),
+    }
+}
+
+/// The parts of an option as they lie.
+fn whole_parts<'a, L: Ledger>(
+    alloc: Global,
+    x: &Array<'a>,
+    arena: &'a Arena,
+    steps: &mut Steps<L>,
+) -> Result<Parts<'a>, NoMemory>
+    requires option { is_option (array_type x.now) ≡ true }
+    ensures { IfOk result (λ r. HoldsOption r.index r.content x.now) }
+{
+    match opened(alloc, x, arena, steps)? {
+        Outermost::Option { index, content } => Ok(Parts { index, content }),
+        _ => unreachable!(),
+    }
+}
+
+/// The parts of an option whose nulls become a value: as they lie where numbers are filled in one
+/// pass, and else what is present alone.
+fn parts_of<'a, L: Ledger>(
+    alloc: Global,
+    value: &Operand,
+    x: &Array<'a>,
+    arena: &'a Arena,
+    steps: &mut Steps<L>,
+) -> Result<Parts<'a>, NoMemory>
+    requires option { is_option (array_type x.now) ≡ true }
+    ensures { IfOk result (λ r. HoldsOption r.index r.content x.now) }
+{
+    if is_wide(value) {
+        if has_wide_numbers(x) {
+            return whole_parts(alloc, x, arena, steps);
+        }
+    }
+    ordered_parts(alloc, x, arena, steps)
 }
 
 /// The nulls of an array as the value.
@@ -264,12 +369,8 @@ fn filled<'a, L: Ledger>(
     if !is_optional(x.typ()) {
         return x.node().copy(alloc);
     }
-    match open_array(alloc, x, arena, steps)? {
-        Opened::Option { index, content } => {
-            filled_option(alloc, value, &index, &content, arena, steps)
-        }
-        _ => unreachable!(),
-    }
+    let parts = parts_of(alloc, value, x, arena, steps)?;
+    filled_option(alloc, value, &parts.index, &parts.content, arena, steps)
 }
 
 /// The items of a list with the value in the place of each null.

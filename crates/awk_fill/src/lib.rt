@@ -6,5 +6,6 @@
 
 mod filling;
 mod moving;
+mod numbers;
 
 pub use filling::fill_none;

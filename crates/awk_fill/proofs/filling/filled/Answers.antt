@@ -3,7 +3,6 @@ use Rattle.std.specs.Prelude.{false}
 use Rattle.awk_base.proofs.Results.{if_ok}
 use Rattle.awk_types.specs.Simple.{is_option}
 use Rattle.awk_layout.specs.Typing.{array_type}
-use Rattle.awk_columns.specs.Opened.{OpensOption}
 use Rattle.awk_fill.specs.Filled.{IsFilled, IsFilledOption}
 use Rattle.awk_fill.specs.FillNone.{filler_of, filler_refusal}
 use Rattle.awk_fill.proofs.FillLaws.{filled_plain, filled_opened, opened_plain}
@@ -21,32 +20,25 @@ returns-then-not-is_optional g c =
 
 pub filled_option-requires-clause-accepted : goal.filled_option-requires-clause-accepted
 filled_option-requires-clause-accepted g c =
-    let op : OpensOption c.in-Option.index c.in-Option.content c.args.x.now =
-    rw c.in-Option.is at c.in_ok-index.ensures in
-    subst (λ t. filler_refusal (filler_of c.args.value.now) t ≡ None) op.typ c.requires.accepted
+    subst (λ t. filler_refusal (filler_of c.args.value.now) t ≡ None) c.in_ok-parts.ensures.typ
+    c.requires.accepted
 
 pub filled_option-requires-clause-fits : goal.filled_option-requires-clause-fits
-filled_option-requires-clause-fits g c =
-    let op : OpensOption c.in-Option.index c.in-Option.content c.args.x.now =
-    rw c.in-Option.is at c.in_ok-index.ensures in op.fits
+filled_option-requires-clause-fits g c = c.in_ok-parts.ensures.fits
 
 pub filled_option-requires-clause-index : goal.filled_option-requires-clause-index
-filled_option-requires-clause-index g c =
-    let op : OpensOption c.in-Option.index c.in-Option.content c.args.x.now =
-    rw c.in-Option.is at c.in_ok-index.ensures in op.index
+filled_option-requires-clause-index g c = c.in_ok-parts.ensures.index
 
 pub filled_option-requires-clause-plain : goal.filled_option-requires-clause-plain
 filled_option-requires-clause-plain g c =
-    let op : OpensOption c.in-Option.index c.in-Option.content c.args.x.now =
-    rw c.in-Option.is at c.in_ok-index.ensures in
-    opened_plain c.in-Option.index c.in-Option.content c.args.x.now op
+    opened_plain c.in_ok-parts.parts.index c.in_ok-parts.parts.content c.args.x.now
+    c.in_ok-parts.ensures
 
 pub returns : goal.returns
 returns g c =
     let f = filler_of c.args.value.now in
-    let op : OpensOption c.in-Option.index c.in-Option.content c.args.x.now =
-    rw c.in-Option.is at c.in_ok-index.ensures in
-    if_ok (IsFilledOption f c.in-Option.index c.in-Option.content) (IsFilled f c.args.x.now)
-    c.filled_option.result
-    (λ w h. filled_opened f c.in-Option.index c.in-Option.content c.args.x.now w op h)
+    if_ok (IsFilledOption f c.in_ok-parts.parts.index c.in_ok-parts.parts.content)
+    (IsFilled f c.args.x.now) c.filled_option.result
+    (λ w h. filled_opened f c.in_ok-parts.parts.index c.in_ok-parts.parts.content c.args.x.now w
+    c.in_ok-parts.ensures h)
     c.filled_option.ensures

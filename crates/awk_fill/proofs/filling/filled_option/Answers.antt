@@ -1,9 +1,11 @@
-use Rattle.std.proofs.Common.{◌≡◌, None, arith, subst, sym}
+use Rattle.std.proofs.Common.{◌≡◌, None, IfSome, arith, subst, sym}
 use Rattle.awk_types.specs.DataType.{opt}
 use Rattle.awk_types.specs.View.{typ_of}
 use Rattle.awk_lanes.specs.Places.{IsOptionalIndex}
 use Rattle.awk_layout.specs.Laws.{len-fits}
-use Rattle.awk_fill.specs.FillNone.{filler_of, filler_refusal}
+use Rattle.awk_layout.specs.Typing.{array_type}
+use Rattle.awk_fill.specs.Filled.{IsFirst, IsFilledOption}
+use Rattle.awk_fill.specs.FillNone.{Filler, filler_of, filler_refusal, filler_type, filler_value}
 use Rattle.awk_fill.proofs.FillLaws.{made_index, made_fit, made_option}
 use Rattle.awk_fill.proofs.filling.filled_option.Goals as goal
 
@@ -44,3 +46,14 @@ returns g c =
     c.requires.plain c.requires.fits c.requires.index c.in_ok-own.ensures c.in_ok-pair.ensures
     c.in_ok-items.ensures.ok c.len-n.ensures.len c.in_ok-places.ensures c.indexed.result
     c.indexed.ensures.node
+
+pub returns-in-Some : goal.returns-in-Some
+returns-in-Some g c =
+    let f : Filler = filler_of c.args.value.now in
+    let own : IsFirst (filler_type f (array_type c.args.present.now)) (filler_value f)
+    c.in_ok-own.own =
+    subst (λ t. IsFirst (filler_type f t) (filler_value f) c.in_ok-own.own) c.typ.ensures.typ
+    c.in_ok-own.ensures in
+    let h : IfSome c.in_ok-filled.filled
+    (IsFilledOption f c.args.index.now c.args.present.now) = c.in_ok-filled.ensures f own in
+    rw c.in-Some.is at h

@@ -1,4 +1,4 @@
-use Rattle.std.proofs.Common.{◌+◌, ◌*◌, ◌++◌, ◌∷◌, [], ap₂, sym, ◌∙◌, arith}
+use Rattle.std.proofs.Common.{◌*◌, ◌++◌, ◌∷◌, [], ap₂, sym, ◌∙◌, arith}
 use Rattle.std.proofs.lemmas.List.FromFn.{map-range_with_len_more}
 use Rattle.awk_fill.specs.Moved.{eight}
 use Rattle.awk_fill.proofs.MovedBits.{bits_same, bytes_length}

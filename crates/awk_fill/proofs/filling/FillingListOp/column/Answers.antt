@@ -1,4 +1,4 @@
-use Rattle.std.proofs.Common.{◌≡◌, None, subst, sym, ◌∙◌}
+use Rattle.std.proofs.Common.{◌≡◌, None, subst, sym}
 use Rattle.awk_columns.specs.Joined.{IsJoined}
 use Rattle.awk_columns.specs.declared.lists.Joined.TheVariants.{Lists}
 use Rattle.awk_layout.specs.Typing.{array_type}
