@@ -1,5 +1,5 @@
 //! A value in the place of each null.
-ghost use Rattle.std.specs.Prelude.{◌≡◌, ◌<◌, ◌^◌, true, false, pos, None, IfOk};
+ghost use Rattle.std.specs.Prelude.{◌≡◌, ◌<◌, ◌^◌, false, pos, None, IfOk};
 ghost use Rattle.awk_types.specs.DataType.{leaf, opt};
 ghost use Rattle.awk_types.specs.Faults.{fault_told};
 ghost use Rattle.awk_types.specs.Gives.{Gives};
@@ -15,23 +15,23 @@ ghost use Rattle.awk_layout.specs.Typing.{array_type};
 ghost use Rattle.awk_layout.specs.Valid.{len};
 ghost use Rattle.awk_unify.specs.Unify.{unification};
 ghost use Rattle.awk_fill.specs.Filled.{IsFirst, HasFirst, IsPair, place_or, places_or};
-ghost use Rattle.awk_fill.specs.Filled.{HoldsOption, IsFilled, IsFilledOption, IsRefused};
+ghost use Rattle.awk_fill.specs.Filled.{IsFilled, IsFilledOption, IsRefused};
 ghost use Rattle.awk_fill.specs.FillNone.{filler_of, is_filler, literal_primitive};
 ghost use Rattle.awk_fill.specs.FillNone.{fits as fits_in, literal_refusal, filler_refusal};
 ghost use Rattle.awk_fill.specs.FillNone.{filler_type, filler_value, fill_none_function};
 ghost use Rattle.awk_fill.specs.FillNone.{fill_none_of};
 
 use crate::moving::array_in;
-use crate::numbers::{filled_numbers, has_wide_numbers};
+use crate::numbers::filled_numbers;
+use crate::parts::parts_of;
 use awk_axis::{ListOp, Made, Refusal, Spoil, lift_at};
-use awk_columns::{Joined, Lists, Opened, open_array};
+use awk_columns::{Joined, Lists};
 use awk_lanes::{
     Arena, Index, Kind, Lane, LaneMaker, Num, Numbers, Steps, index_of, made_lane, number,
 };
 use awk_layout::{Array, Datum, Node, Operand, kind_of};
 use awk_merge_columns::merge;
 use awk_merge_sides::Sides;
-use awk_open::{Opened as Outermost, opened};
 use awk_types::{Fault, NoMemory, Prim, Typ, copy_type, is_optional};
 use awk_unify::{Lift, unify, unify_unlimited};
 use std::alloc::{AllocError, Global};
@@ -281,76 +281,6 @@ fn filled_option<'a, L: Ledger>(
     let items = Box::new(alloc, pair(alloc, present, &own, arena, steps)?)?;
     let places = places_or(alloc, n, index, arena, steps)?;
     Ok(Node::indexed(places, items, steps))
-}
-
-/// Whether a value becomes a number of 64 bits with a sign beside these.
-fn is_wide(value: &Operand) -> bool {
-    match value {
-        Operand::Literal(_) => true,
-        Operand::Of(Datum::Arr(x) | Datum::One(x)) => match x.typ() {
-            Typ::Leaf(prim) => *prim == Prim::I64,
-            _ => false,
-        },
-    }
-}
-
-/// An option, by its index and what holds the items that are present.
-#[derive(Drop)]
-struct Parts<'a> {
-    index: Lane<'a>,
-    content: Array<'a>,
-}
-
-/// The parts of an option, whose content holds what is present alone.
-fn ordered_parts<'a, L: Ledger>(
-    alloc: Global,
-    x: &Array<'a>,
-    arena: &'a Arena,
-    steps: &mut Steps<L>,
-) -> Result<Parts<'a>, NoMemory>
-    requires option { is_option (array_type x.now) ≡ true }
-    ensures { IfOk result (λ r. HoldsOption r.index r.content x.now) }
-{
-    match open_array(alloc, x, arena, steps)? {
-        Opened::Option { index, content } => Ok(Parts { index, content }),
-        _ => unreachable!(),
-    }
-}
-
-/// The parts of an option as they lie.
-fn whole_parts<'a, L: Ledger>(
-    alloc: Global,
-    x: &Array<'a>,
-    arena: &'a Arena,
-    steps: &mut Steps<L>,
-) -> Result<Parts<'a>, NoMemory>
-    requires option { is_option (array_type x.now) ≡ true }
-    ensures { IfOk result (λ r. HoldsOption r.index r.content x.now) }
-{
-    match opened(alloc, x, arena, steps)? {
-        Outermost::Option { index, content } => Ok(Parts { index, content }),
-        _ => unreachable!(),
-    }
-}
-
-/// The parts of an option whose nulls become a value: as they lie where numbers are filled in one
-/// pass, and else what is present alone.
-fn parts_of<'a, L: Ledger>(
-    alloc: Global,
-    value: &Operand,
-    x: &Array<'a>,
-    arena: &'a Arena,
-    steps: &mut Steps<L>,
-) -> Result<Parts<'a>, NoMemory>
-    requires option { is_option (array_type x.now) ≡ true }
-    ensures { IfOk result (λ r. HoldsOption r.index r.content x.now) }
-{
-    if is_wide(value) {
-        if has_wide_numbers(x) {
-            return whole_parts(alloc, x, arena, steps);
-        }
-    }
-    ordered_parts(alloc, x, arena, steps)
 }
 
 /// The nulls of an array as the value.

@@ -7,5 +7,6 @@
 mod filling;
 mod moving;
 mod numbers;
+mod parts;
 
 pub use filling::fill_none;

@@ -1,7 +1,7 @@
 use Rattle.awk_open.specs.Opened.{IsOpened}
 use Rattle.awk_open.specs.declared.opening.Opened.TheVariants.{Option as Optional}
 use Rattle.awk_fill.proofs.FillLaws.{holds_whole}
-use Rattle.awk_fill.proofs.filling.whole_parts.Goals as goal
+use Rattle.awk_fill.proofs.parts.whole_parts.Goals as goal
 
 pub returns : goal.returns
 returns g c =

@@ -1,6 +1,6 @@
 use Rattle.awk_columns.specs.Opened.{OpensOption}
 use Rattle.awk_fill.proofs.FillLaws.{holds_ordered}
-use Rattle.awk_fill.proofs.filling.ordered_parts.Goals as goal
+use Rattle.awk_fill.proofs.parts.ordered_parts.Goals as goal
 
 pub returns : goal.returns
 returns g c =
