@@ -1,5 +1,5 @@
 //! Arrays joined row by row: the lists of each row become one.
-ghost use Rattle.std.specs.Prelude.{◌≡◌, ◌*◌, ◌<◌, ◌^◌, ℕ, Option, IfOk, length};
+ghost use Rattle.std.specs.Prelude.{◌≡◌, ◌*◌, ◌<◌, ◌^◌, ℕ, Option, Some, IfOk, length};
 ghost use Rattle.awk_types.specs.DataType.{DataType, var};
 ghost use Rattle.awk_types.specs.Faults.{fault_told};
 ghost use Rattle.awk_types.specs.Gives.{Gives};
@@ -21,8 +21,11 @@ ghost use Rattle.awk_merge_operands.specs.Operands.{IndexHas, IndexesAll, AreRis
 ghost use Rattle.awk_merge_sides.specs.Sides.{sides_of, merged_items, AreSides, IsCounted};
 
 use crate::joining_arrays::merged;
-use awk_columns::{Joined, Lists, Opened, join_spans, open_array};
-use awk_lanes::{Arena, Kind, Lane, LaneMaker, Num, Steps, index_at, number, option_place_in};
+use awk_columns::{Joined, Lists, Opened, join_spans, open_array, places_of};
+use awk_lanes::{
+    Arena, Index, IndexMaker, Items, Lane, LaneMaker, Lengths, Num, Steps, index_of, number,
+    option_place_in,
+};
 use awk_layout::{Array, Node};
 use awk_merge_sides::Sides;
 use awk_types::{Fault, NoMemory, Typ, copy_type, is_optional};
@@ -85,7 +88,7 @@ fn rows_lane<'a, L: Ledger>(
     requires small { n < 2 ^ 63 }
     ensures { IfOk result (λ r. r ≡ spec.rows_lane index.now n k) }
 {
-    let mut maker = LaneMaker::new(Kind::I64, n, arena)?;
+    let mut maker = IndexMaker::new(n, arena)?;
     for i in 0..n {
         let row = row_or_null(index, n, k, i, steps);
         maker.push(row);
@@ -93,39 +96,72 @@ fn rows_lane<'a, L: Ledger>(
     Ok(maker.finish())
 }
 
-/// The end of list t of all rows, of k in each; 0 where the row is null.
-fn end_in_rows<L: Ledger>(
-    index: &Option<Lane>,
-    rows: &Lane,
-    k: u64,
-    ends: &Lane,
-    t: u64,
-    steps: &mut Steps<L>,
-) -> Num
-    requires index { IsListIndex index.now (k * size_of rows.now) (size_of ends.now) }
-    requires fits { k * size_of rows.now < 2 ^ 63 }
-    requires rows { IsOptionalIndex rows.now (size_of rows.now) }
-    requires ends { IsIndexKind ends.now.kind }
-    requires within { t < size_of rows.now * k }
-    ensures number { int_of result ≡ spec.end_in_rows index.now rows.now k ends.now t }
+/// The end of a list by its index, and 0 where the index has none.
+#[inline(always)]
+fn end_at<L: Ledger>(index: &Option<Lane>, t: u64, ends: &Index, steps: &mut Steps<L>) -> Num
+    requires index { IndexHas index.now t }
+    requires within { (p : ℕ) → spec.list_place index.now t ≡ Some p → p < size_of ends.now }
+    ensures number { int_of result ≡ spec.end_at ends.now (spec.list_place index.now t) }
     ensures kind { IsOf Kinds.I64 result }
 {
-    match option_place_in(rows, t / k, steps) {
-        Some(i) => match list_place(index, t % k * rows.len() + i, steps) {
-            Some(place) => Num::Int(index_at(ends, place, steps)),
-            None => Num::Int(0),
-        },
+    match list_place(index, t, steps) {
+        Some(place) => Num::Int(ends.number(place)),
         None => Num::Int(0),
     }
 }
 
-/// The ends of the lists of each row, row after row.
-#[tactic(auto, using(awk_lanes::proofs::MadeLanes::making))]
-fn ends_in_rows<'a, L: Ledger>(
-    index: &Option<Lane>,
-    rows: &Lane,
+/// The ends of the lists of each row, of k in each; 0 where the row is null.
+#[derive(Drop)]
+struct RowEnds<'b, 'a, 'c> {
+    index: &'b Option<Lane<'c>>,
+    rows: &'b Index<'a>,
     k: u64,
-    ends: &Lane,
+    ends: &'b Index<'a>,
+}
+
+impl<'b, 'a, 'c> Lengths for RowEnds<'b, 'a, 'c> {
+    ghost use Rattle.std.specs.Prelude.{◌*◌, ◌<◌, ◌^◌};
+    ghost use Rattle.awk_lanes.specs.Places.{size_of, IsOptionalIndex};
+    ghost use Rattle.awk_merge_operands.specs.Operands.{IsListIndex};
+
+    ghost length = { λ f _. f.k };
+
+    ghost size = { λ f. size_of f.rows.now };
+
+    ghost IsReady = { λ f. (f.k * size_of f.rows.now < 2 ^ 63)
+        × IsOptionalIndex f.rows.now (size_of f.rows.now)
+        × IsListIndex f.index.now (f.k * size_of f.rows.now) (size_of f.ends.now) };
+
+    fn length<L: Ledger>(&self, _i: u64, _steps: &mut Steps<L>) -> u64 {
+        self.k
+    }
+}
+
+impl<'b, 'a, 'c> Items for RowEnds<'b, 'a, 'c> {
+    ghost use Rattle.awk_lanes.specs.Places.{size_of, option_place_at};
+    ghost use Rattle.awk_lanes.specs.declared.kind.Kind.TheVariants as Kinds;
+    ghost use Rattle.awk_merge_operands.specs.Operands.{end_of_row};
+
+    ghost kind = { λ _. Kinds.I64 };
+
+    ghost at = { λ f i j. end_of_row f.index.now (size_of f.rows.now) f.ends.now j
+        (option_place_at f.rows.now i) };
+
+    fn item<L: Ledger>(&self, i: u64, j: u64, steps: &mut Steps<L>) -> Num {
+        match self.rows.option_place(i) {
+            Some(row) => end_at(self.index, j * self.rows.len() + row, self.ends, steps),
+            None => Num::Int(0),
+        }
+    }
+}
+
+/// The ends of the lists of each row, row after row.
+fn ends_in_rows<'a, L: Ledger>(
+    alloc: Global,
+    index: &Option<Lane>,
+    rows: &Lane<'a>,
+    k: u64,
+    ends: &Lane<'a>,
     arena: &'a Arena,
     steps: &mut Steps<L>,
 ) -> Result<Lane<'a>, NoMemory>
@@ -135,13 +171,16 @@ fn ends_in_rows<'a, L: Ledger>(
     requires ends { IsIndexKind ends.now.kind }
     ensures { IfOk result (λ r. r ≡ spec.ends_in_rows index.now rows.now k ends.now) }
 {
-    let n = rows.len() * k;
-    let mut maker = LaneMaker::new(Kind::I64, n, arena)?;
-    for t in 0..n {
-        let end = end_in_rows(index, rows, k, ends, t, steps);
-        maker.push(end);
-    }
-    Ok(maker.finish())
+    let rows = index_of(alloc, rows, arena, steps)?;
+    let ends = index_of(alloc, ends, arena, steps)?;
+    let n = rows.len();
+    let source = RowEnds {
+        index,
+        rows: &rows,
+        k,
+        ends: &ends,
+    };
+    places_of(n, n * k, &source, arena, steps)
 }
 
 /// Each k-th offset, up to that of place n.
@@ -192,7 +231,7 @@ fn lists_of_rows<'a, L: Ledger>(
 fn joined_lists<'a, L: Ledger>(
     alloc: Global,
     index: &Option<Lane>,
-    rows: &Lane,
+    rows: &Lane<'a>,
     k: u64,
     starts: &Lane<'a>,
     stops: &Lane<'a>,
@@ -210,8 +249,8 @@ fn joined_lists<'a, L: Ledger>(
         let said = rows_datum (var (array_type content.now)) (filled_rows n k vs) in
         Gives array_datum fault_told result said }
 {
-    let firsts = ends_in_rows(index, rows, k, starts, arena, steps)?;
-    let ends = ends_in_rows(index, rows, k, stops, arena, steps)?;
+    let firsts = ends_in_rows(alloc, index, rows, k, starts, arena, steps)?;
+    let ends = ends_in_rows(alloc, index, rows, k, stops, arena, steps)?;
     let _ = content.len();
     match join_spans(alloc, None, &firsts, &ends, content, arena, steps)? {
         Joined::TooMany => Err(Fault::Size),
