@@ -1,11 +1,13 @@
--- Numbers of 64 bits that a mask picks, without a lane of their places.
+-- Numbers of 64 bits that a mask or an index picks, without a lane of their places.
 use Rattle.std.specs.Prelude.{◌≡◌, refl, ℕ, ◌<◌, ◌≤◌, ◌^◌, true, false, List, length, map, ℤ, pos}
-use Rattle.std.specs.Prelude.{Some, None}
+use Rattle.std.specs.Prelude.{Option, Some, None}
 use Rattle.std.specs.List.{range_with_len, AllByRecursion}
 use Rattle.std.proofs.Common.{arith, ap, sym, ◌∙◌, subst}
 use Rattle.std.proofs.lemmas.List.{ext_get_or, get_or-map, length-map}
 use Rattle.std.proofs.lemmas.List.FromFn.{length-map-range_with_len, get_or-map-range_with_len}
+use Rattle.std.proofs.lemmas.Simd.{map-map}
 use Rattle.awk_base.proofs.Each.{each_of}
+use Rattle.awk_base.proofs.Ranges.{map-same}
 use Rattle.awk_types.specs.Has.{Has}
 use Rattle.awk_types.specs.ItemLimit.{item_limit}
 use Rattle.awk_types.specs.Predicates.{is_leaf}
@@ -24,16 +26,22 @@ use Rattle.awk_gather.specs.Arrays.{IsGathered}
 use Rattle.awk_gather.proofs.GatheredArrays.{gathered}
 use Rattle.awk_gather.proofs.PickedNodes.{flat_picked}
 use Rattle.awk_columns.specs.Lists.{Listed}
+use Rattle.awk_select.specs.Cells.{place_number}
 use Rattle.awk_select.specs.Picks.{is_mask}
-use Rattle.awk_jagged_places.specs.Leaves.{mask_numbers, numbers_beside}
-use Rattle.awk_jagged_places.proofs.FlatLists.{length-each}
-use Rattle.awk_jagged_rows.specs.Rows.{AreAlike}
+use Rattle.awk_select.proofs.PickedPlaces.{IsThere}
+use Rattle.awk_jagged_places.specs.Leaves.{mask_numbers, numbers_beside, AreTested, take_in}
+use Rattle.awk_jagged_places.specs.Leaves.{take_at, take_numbers, number_or, number_taken}
+use Rattle.awk_jagged_places.specs.Leaves.{numbers_taken}
+use Rattle.awk_jagged_places.proofs.FlatLists.{length-each, each_same, offsets_same}
+use Rattle.awk_jagged_rows.specs.Rows.{AreAlike, length_by}
+use Rattle.awk_jagged_rows.proofs.FlatPlaces.{before_same}
 use Rattle.awk_jagged.specs.Outcomes.{IsOutcomeOf}
 use Rattle.awk_jagged.specs.PickedAt.{ArePicked, AreWithin}
 use Rattle.awk_jagged.specs.declared.leaves.Outcome.TheVariants as outcome
 use Rattle.awk_jagged.specs.declared.leaves.Places.{Places}
-use Rattle.awk_jagged.proofs.LeafLaws.{map_each, mask-within}
-use Rattle.awk_jagged.proofs.PickLaws.{by-masks, leaf-outcome}
+use Rattle.awk_jagged.proofs.LeafLaws.{map_each, mask-within, take-within, take-there, takes-many}
+use Rattle.awk_jagged.proofs.LeafLaws.{takes-total}
+use Rattle.awk_jagged.proofs.PickLaws.{ByNumbers, by-masks, by-takes, leaf-outcome}
 
 module _ (c : Column) (zs : List ℤ) where
   abbrev places : Column
@@ -65,6 +73,52 @@ module _ (c : Column) (zs : List ℤ) where
         items = map (λ i. at c (place_at places i)) (range_with_len 0 (length zs));
       }) (sym k)
 
+-- ---- numbers that are picked by any places
+
+module _ (xs ws : Listed) (numbers : ℕ → List ℤ) (b : ByNumbers xs ws numbers) where
+  -- more than a column may have
+  any-many : item_limit < before (λ i. length (numbers i)) (size_of ws.starts)
+      → IsOutcomeOf xs ws outcome.TooMany
+  any-many h = leaf-outcome xs ws numbers b None outcome.TooMany h tt
+
+  module _ (c o r : Column) (e : xs.content ≡ flat c) (k : c.kind ≡ I64)
+      (few : before (λ i. length (numbers i)) (size_of ws.starts) ≤ item_limit)
+      (made : r ≡ record {
+        kind = I64;
+        items = map (λ z. at c (nat_of z)) (each_of numbers (size_of ws.starts));
+      }) where
+    abbrev lane : Column
+    lane = record { kind = I64; items = each_of numbers (size_of ws.starts) }
+
+    picks : r ≡ picked c lane
+    picks = lane-picked c (each_of numbers (size_of ws.starts)) r k made
+
+    any-few : size_of r < 2 ^ 63
+    any-few =
+        let s : size_of r ≡ before (λ i. length (numbers i)) (size_of ws.starts) =
+        ap size_of picks ∙ size-picked c lane ∙ length-each numbers (size_of ws.starts) in
+        omega (arith, s, few)
+
+    any-outcome : is_option (array_type ws.content) ≡ false → IsIndex lane (len xs.content)
+        → o ≡ offsets_by (λ i. length (numbers i)) (size_of ws.starts)
+        → IsOutcomeOf xs ws (outcome.Lists o (flat r))
+    any-outcome present within offsets =
+        let p : Places = record { offsets = o; lane = lane } in
+        let index : IsIndex lane (len (flat c)) = subst (λ y. IsIndex lane (len y)) e within in
+        let g : IsGathered (flat c) lane (flat r) =
+        subst (λ d. IsGathered (flat c) lane (flat d)) (sym picks)
+        (gathered (flat c) (flat (picked c lane)) lane refl index (flat_picked c lane)) in
+        let there : ArePicked false (flat c) lane (flat r) =
+        record { valid = any-few; typ = g.typ; items = g.items } in
+        leaf-outcome xs ws numbers b (Some p) (outcome.Lists o (flat r))
+        (record { few = few; offsets = offsets; lane = refl }) (
+          refl,
+          subst (λ b. ArePicked b xs.content lane (flat r)) (sym present)
+              (subst (λ y. ArePicked false y lane (flat r)) (sym e) there),
+        )
+
+-- ---- numbers beside the true items of a mask
+
 module _ (xs ws : Listed) (pairs : size_of xs.starts ≡ size_of ws.starts) (alike : AreAlike xs ws)
     (sx : AreSpans xs.starts xs.stops (len xs.content))
     (l : is_leaf (present (array_type ws.content)) ≡ true)
@@ -72,52 +126,107 @@ module _ (xs ws : Listed) (pairs : size_of xs.starts ≡ size_of ws.starts) (ali
   abbrev n : ℕ
   n = size_of ws.starts
 
-  -- more than a column may have
+  masked : ByNumbers xs ws (mask_numbers xs ws)
+  masked = by-masks xs ws pairs alike sx l m
+
   pub numbers-many : item_limit < before (λ i. length (mask_numbers xs ws i)) n
       → IsOutcomeOf xs ws outcome.TooMany
-  numbers-many h =
-      leaf-outcome xs ws (mask_numbers xs ws) (by-masks xs ws pairs alike sx l m) None
-      outcome.TooMany h tt
+  numbers-many h = any-many xs ws (mask_numbers xs ws) masked h
 
   module _ (c o r : Column) (e : xs.content ≡ flat c) (k : c.kind ≡ I64)
       (few : before (λ i. length (mask_numbers xs ws i)) n ≤ item_limit)
       (made : r ≡ record { kind = I64; items = each_of (numbers_beside xs ws c) n }) where
-    abbrev lane : Column
-    lane = record { kind = I64; items = each_of (mask_numbers xs ws) n }
-
-    picks : r ≡ picked c lane
-    picks =
-        lane-picked c (each_of (mask_numbers xs ws) n) r k
-        (made ∙ ap (λ us. record { kind = I64; items = us })
-        (sym (map_each (λ z. at c (nat_of z)) (mask_numbers xs ws) n)))
+    moved : r ≡ record {
+      kind = I64;
+      items = map (λ z. at c (nat_of z)) (each_of (mask_numbers xs ws) n);
+    }
+    moved =
+        made ∙ ap (λ us. record { kind = I64; items = us })
+        (sym (map_each (λ z. at c (nat_of z)) (mask_numbers xs ws) n))
 
     pub numbers-few : size_of r < 2 ^ 63
-    numbers-few =
-        let s : size_of r ≡ before (λ i. length (mask_numbers xs ws i)) n =
-        ap size_of picks ∙ size-picked c lane ∙ length-each (mask_numbers xs ws) n in
-        omega (arith, s, few)
+    numbers-few = any-few xs ws (mask_numbers xs ws) masked c o r e k few moved
 
-    -- the numbers beside the true items
     pub numbers-outcome : AreSpans ws.starts ws.stops (len ws.content)
         → is_option (array_type ws.content) ≡ false
         → AllByRecursion (Has (array_type ws.content)) (array_items ws.content)
         → o ≡ offsets_by (λ i. length (mask_numbers xs ws i)) n
         → IsOutcomeOf xs ws (outcome.Lists o (flat r))
     numbers-outcome sw b has offsets =
-        let p : Places = record { offsets = o; lane = lane } in
-        let within : AreWithin (is_option (array_type ws.content)) (len xs.content) lane =
-        mask-within xs ws lane pairs alike sx sw l m has refl in
-        let index : IsIndex lane (len (flat c)) =
-        subst (λ y. IsIndex lane (len y)) e (within.present b) in
-        let g : IsGathered (flat c) lane (flat r) =
-        subst (λ d. IsGathered (flat c) lane (flat d)) (sym picks)
-        (gathered (flat c) (flat (picked c lane)) lane refl index (flat_picked c lane)) in
-        let there : ArePicked false (flat c) lane (flat r) =
-        record { valid = numbers-few; typ = g.typ; items = g.items } in
-        leaf-outcome xs ws (mask_numbers xs ws) (by-masks xs ws pairs alike sx l m) (Some p)
-        (outcome.Lists o (flat r))
-        (record { few = few; offsets = offsets; lane = refl }) (
-          refl,
-          subst (λ b. ArePicked b xs.content lane (flat r)) (sym b)
-              (subst (λ y. ArePicked false y lane (flat r)) (sym e) there),
-        )
+        let p : Column = record { kind = I64; items = each_of (mask_numbers xs ws) n } in
+        let within : AreWithin (is_option (array_type ws.content)) (len xs.content) p =
+        mask-within xs ws p pairs alike sx sw l m has refl in
+        any-outcome xs ws (mask_numbers xs ws) masked c o r e k few moved b (within.present b)
+        offsets
+
+-- ---- numbers that an index takes
+
+some_number : (c : Column) (m : ℕ) (p : Option ℕ) → IsThere m p
+    → number_or c p ≡ at c (nat_of (place_number p))
+some_number c m None h = absurd h
+some_number c m (Some k) h = refl
+
+module _ (xs ws : Listed) (pairs : size_of xs.starts ≡ size_of ws.starts)
+    (sx : AreSpans xs.starts xs.stops (len xs.content))
+    (l : is_leaf (present (array_type ws.content)) ≡ true)
+    (m : is_mask (array_type ws.content) ≡ false) (inside : AreTested xs ws false) where
+  taken : ByNumbers xs ws (take_numbers xs ws)
+  taken = by-takes xs ws pairs sx l m inside
+
+  pub takes-too_many : item_limit < before (length_by ws) (size_of ws.starts)
+      → IsOutcomeOf xs ws outcome.TooMany
+  takes-too_many h =
+      any-many xs ws (take_numbers xs ws) taken (takes-many xs ws (size_of ws.starts) h)
+
+  module _ (c o r : Column) (e : xs.content ≡ flat c) (k : c.kind ≡ I64)
+      (few : before (length_by ws) (size_of ws.starts) ≤ item_limit)
+      (sw : AreSpans ws.starts ws.stops (len ws.content))
+      (b : is_option (array_type ws.content) ≡ false)
+      (has : AllByRecursion (Has (array_type ws.content)) (array_items ws.content))
+      (made : r
+      ≡ record { kind = I64; items = each_of (numbers_taken xs ws c) (size_of ws.starts) }) where
+    -- each item of list i names a place
+    list : (i : ℕ) → i < size_of ws.starts
+        → numbers_taken xs ws c i ≡ map (λ z. at c (nat_of z)) (take_numbers xs ws i)
+    list i q =
+        map-same (number_taken xs ws c i) (λ j. at c (nat_of (take_at xs ws i j))) 0
+        (length_by ws i)
+        (λ j g h. some_number c (len xs.content) (take_in xs ws i j)
+        (take-there xs ws pairs sx sw l m b has (λ a d u v. inside a u d v) i j q
+        (omega (arith, h))))
+        ∙ sym (map-map (λ z. at c (nat_of z)) (take_at xs ws i) (range_with_len 0 (length_by ws i)))
+
+    whole : r ≡ record {
+      kind = I64;
+      items = map (λ z. at c (nat_of z)) (each_of (take_numbers xs ws) (size_of ws.starts));
+    }
+    whole =
+        made ∙ ap (λ us. record { kind = I64; items = us })
+        (each_same (numbers_taken xs ws c) (λ i. map (λ z. at c (nat_of z)) (take_numbers xs ws i))
+        (size_of ws.starts) list
+        ∙ sym (map_each (λ z. at c (nat_of z)) (take_numbers xs ws) (size_of ws.starts)))
+
+    fewer : before (λ i. length (take_numbers xs ws i)) (size_of ws.starts) ≤ item_limit
+    fewer = omega (arith, few, takes-total xs ws (size_of ws.starts))
+
+    pub taken-few : size_of r < 2 ^ 63
+    taken-few = any-few xs ws (take_numbers xs ws) taken c o r e k fewer whole
+
+    pub taken-outcome : o ≡ offsets_by (length_by ws) (size_of ws.starts)
+        → IsOutcomeOf xs ws (outcome.Lists o (flat r))
+    taken-outcome offsets =
+        let p : Column =
+        record { kind = I64; items = each_of (take_numbers xs ws) (size_of ws.starts) } in
+        let within : AreWithin (is_option (array_type ws.content)) (len xs.content) p =
+        take-within xs ws p pairs sx sw l m has (λ a d u v. inside a u d v) refl in
+        any-outcome xs ws (take_numbers xs ws) taken c o r e k fewer whole b (within.present b)
+        (offsets ∙ offsets_same (length_by ws) (λ i. length (take_numbers xs ws i))
+        (size_of ws.starts)
+        (λ i q. sym (length-map-range_with_len (take_at xs ws i) 0 (length_by ws i))))
+
+  -- as many numbers as items of the index
+  pub taken-total : (c : Column) (total : ℕ) → total ≡ before (length_by ws) (size_of ws.starts)
+      → total ≡ before (λ i. length (numbers_taken xs ws c i)) (size_of ws.starts)
+  taken-total c total e =
+      e ∙ before_same (length_by ws) (λ i. length (numbers_taken xs ws c i)) (size_of ws.starts)
+      (λ i q. sym (length-map-range_with_len (number_taken xs ws c i) 0 (length_by ws i)))

@@ -195,6 +195,23 @@ within b m n os p e f g = record {
 abbrev take_list : Listed → Listed → ℕ → List (Option ℕ)
 take_list xs ws i = map (take_in xs ws i) (range_with_len 0 (length_by ws i))
 
+-- an item of an index without nulls names a place of the content
+pub take-there : (xs ws : Listed) → size_of xs.starts ≡ size_of ws.starts
+    → AreSpans xs.starts xs.stops (len xs.content)
+    → AreSpans ws.starts ws.stops (len ws.content)
+    → is_leaf (present (array_type ws.content)) ≡ true
+    → is_mask (array_type ws.content) ≡ false → is_option (array_type ws.content) ≡ false
+    → AllByRecursion (Has (array_type ws.content)) (array_items ws.content)
+    → ((i k : ℕ) → i < size_of ws.starts → k < length_by ws i → is_outside_at xs ws i k ≡ false)
+    → (i k : ℕ) → i < size_of ws.starts → k < length_by ws i
+    → IsThere (len xs.content) (take_in xs ws i k)
+take-there xs ws pairs sx sw l m o has inside i k q r =
+    moved_there (place_at xs.starts i) (length_by xs i) (len xs.content)
+    (take_place (length_by xs i) (row_at ws i k))
+    (λ j t. (item_in xs i j sx (omega (arith, q, pairs)) t).1)
+    (take_one (length_by xs i) (array_type ws.content) (row_at ws i k) l m o
+    (item_has ws (Has (array_type ws.content)) i k sw q r has) (inside i k q r))
+
 pub take-within : (xs ws : Listed) (p : Column) → size_of xs.starts ≡ size_of ws.starts
     → AreSpans xs.starts xs.stops (len xs.content)
     → AreSpans ws.starts ws.stops (len ws.content)
@@ -215,13 +232,7 @@ take-within xs ws p pairs sx sw l m has inside e =
     (λ j t. (item_in xs i j sx (omega (arith, q, pairs)) t).1)
     (take_place-below (length_by xs i) (row_at ws i k))))
     (λ o i q. all-map (IsThere (len xs.content)) (take_in xs ws i) 0 (length_by ws i)
-    (λ k r.
-    let r' : k < length_by ws i = omega (arith, r) in
-    moved_there (place_at xs.starts i) (length_by xs i) (len xs.content)
-    (take_place (length_by xs i) (row_at ws i k))
-    (λ j t. (item_in xs i j sx (omega (arith, q, pairs)) t).1)
-    (take_one (length_by xs i) (array_type ws.content) (row_at ws i k) l m o
-    (item_has ws (Has (array_type ws.content)) i k sw q r' has) (inside i k q r'))))
+    (λ k r. take-there xs ws pairs sx sw l m o has inside i k q (omega (arith, r))))
 
 abbrev mask_list : Listed → Listed → ℕ → List (Option ℕ)
 mask_list xs ws i =

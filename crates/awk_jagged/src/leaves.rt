@@ -10,7 +10,7 @@ ghost use Rattle.awk_select.specs.Cells.{AreCells};
 ghost use Rattle.awk_types.specs.Predicates.{is_leaf};
 ghost use Rattle.awk_select.specs.Picks as picks;
 ghost use Rattle.awk_jagged_places.specs.Leaves.{AreLeaves, take_numbers, mask_numbers};
-ghost use Rattle.awk_jagged_places.specs.Leaves.{truth_cells};
+ghost use Rattle.awk_jagged_places.specs.Leaves.{truth_cells, AreTested};
 ghost use Rattle.awk_jagged.specs.PickedAt.{ArePlacesOr, ArePicked, AreWithinOr, IsPickedAt};
 ghost use Rattle.awk_jagged.specs.Outcomes.{IsOutcomeOf};
 ghost use Rattle.awk_jagged_rows.specs.Rows.{AreAlike};
@@ -18,8 +18,8 @@ ghost use Rattle.awk_jagged_rows.specs.Rows.{AreAlike};
 use awk_columns::{Bounds, Lists};
 use awk_gather::{gather, gather_opt};
 use awk_jagged_places::{
-    Beside, Kept, Sparse, Taken, Truths, Values, beside_lane, kept_lane, lengths_differ, put_lane,
-    truths_of,
+    Beside, Kept, Sparse, Taken, TakenNumbers, Truths, Values, beside_lane, kept_lane,
+    lengths_differ, put_lane, truths_of,
 };
 use awk_lanes::{Arena, Index, Kind, Lane, Steps, index_of, offsets_within, wide_index};
 use awk_layout::{Array, Class, Node};
@@ -169,6 +169,72 @@ fn by_masks<'s, 'a, V: Values, L: Ledger>(
     picked_at(alloc, content, places, optional, arena, steps)
 }
 
+/// What is picked from lists by those of an index, of which each item is null or names a place.
+fn places_taken<'s, 'a, V: Values, L: Ledger>(
+    alloc: Global,
+    source: &Taken<'_, 's, 'a, V>,
+    arena: &'a Arena,
+    steps: &mut Steps<L>,
+) -> Result<Outcome<'a>, NoMemory>
+    requires leaves { AreLeaves source.now.xs.now source.now.ws.now (V.cells source.now.cells.now) }
+    requires leaf { is_leaf (present (array_type source.now.ws.now.content)) ≡ true }
+    requires mask { picks.is_mask (array_type source.now.ws.now.content) ≡ false }
+    requires inside { AreTested source.now.xs.now source.now.ws.now false }
+    ensures { IfOk result (IsOutcomeOf source.now.xs.now source.now.ws.now) }
+{
+    let content = source.xs.content();
+    let index = source.ws.content();
+    let _ = index.len();
+    let optional = is_optional(index.typ());
+    let places = taken(source, source.ws.len(), arena, steps)?;
+    picked_at(alloc, content, places, optional, arena, steps)
+}
+
+/// The numbers of an array that lie side by side in 64 bits.
+fn plain_numbers<'a, L: Ledger>(x: &Array<'a>, steps: &mut Steps<L>) -> Option<Index<'a>>
+    ensures { IfSome result (λ c. (c.kind ≡ Kinds.I64) × (x.now ≡ flat c)) }
+{
+    match x.node().class() {
+        Class::Numpy { lane } if lane.kind() == Kind::I64 => Some(wide_index(lane, steps)),
+        _ => None,
+    }
+}
+
+/// What is picked from lists of such numbers by an index without nulls: each is moved as its place
+/// is read, and no lane of places is made.
+fn numbers_taken<'s, 'a, V: Values, L: Ledger>(
+    source: &Taken<'_, 's, 'a, V>,
+    numbers: &Index<'a>,
+    arena: &'a Arena,
+    steps: &mut Steps<L>,
+) -> Result<Outcome<'a>, NoMemory>
+    requires leaves { AreLeaves source.now.xs.now source.now.ws.now (V.cells source.now.cells.now) }
+    requires leaf { is_leaf (present (array_type source.now.ws.now.content)) ≡ true }
+    requires mask { picks.is_mask (array_type source.now.ws.now.content) ≡ false }
+    requires present { is_option (array_type source.now.ws.now.content) ≡ false }
+    requires inside { AreTested source.now.xs.now source.now.ws.now false }
+    requires kind { numbers.now.kind ≡ Kinds.I64 }
+    requires content { source.now.xs.now.content ≡ flat numbers.now }
+    ensures { IfOk result (IsOutcomeOf source.now.xs.now source.now.ws.now) }
+{
+    let _ = source.xs.content();
+    let index = source.ws.content();
+    let _ = index.len();
+    let n = source.ws.len();
+    let Some(offsets) = offsets_within(ITEM_LIMIT, n, source.ws, arena, steps)? else {
+        return Ok(Outcome::TooMany);
+    };
+    let moved = TakenNumbers {
+        picks: source,
+        numbers,
+    };
+    let lane = put_lane(n, offsets.total, &moved, arena, steps)?;
+    Ok(Outcome::Lists {
+        offsets: offsets.lane,
+        content: Node::numpy(lane, steps),
+    })
+}
+
 /// What is picked from lists by those of an index of places.
 fn by_places<'s, 'a, V: Values, L: Ledger>(
     alloc: Global,
@@ -184,25 +250,18 @@ fn by_places<'s, 'a, V: Values, L: Ledger>(
     requires cells { AreCells ws.now.content (V.cells cells.now) }
     ensures { IfOk result (IsOutcomeOf xs.now ws.now) }
 {
-    let content = xs.content();
     let index = ws.content();
-    let _ = index.len();
     let optional = is_optional(index.typ());
     let picks = Taken { xs, ws, cells };
     if picks.has_outside(steps) {
         return Ok(Outcome::Outside);
     }
-    let places = taken(&picks, ws.len(), arena, steps)?;
-    picked_at(alloc, content, places, optional, arena, steps)
-}
-
-/// The numbers of an array that lie side by side in 64 bits.
-fn plain_numbers<'a, L: Ledger>(x: &Array<'a>, steps: &mut Steps<L>) -> Option<Index<'a>>
-    ensures { IfSome result (λ c. (c.kind ≡ Kinds.I64) × (x.now ≡ flat c)) }
-{
-    match x.node().class() {
-        Class::Numpy { lane } if lane.kind() == Kind::I64 => Some(wide_index(lane, steps)),
-        _ => None,
+    if optional {
+        return places_taken(alloc, &picks, arena, steps);
+    }
+    match plain_numbers(xs.content(), steps) {
+        Some(numbers) => numbers_taken(&picks, &numbers, arena, steps),
+        None => places_taken(alloc, &picks, arena, steps),
     }
 }
 

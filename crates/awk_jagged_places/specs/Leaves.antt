@@ -1,6 +1,6 @@
 -- The innermost picks: the places in a content that masks and indexes name, list by list.
-use Rattle.std.specs.Prelude.{◌≡◌, ℕ, ◌+◌, ◌<◌, ℤ, Bool, true, false, List, map}
-use Rattle.std.specs.Prelude.{Option, option_map}
+use Rattle.std.specs.Prelude.{◌≡◌, ℕ, ◌+◌, ◌<◌, ℤ, negsuc, Bool, true, false, List, map}
+use Rattle.std.specs.Prelude.{Option, Some, None, option_map}
 use Rattle.std.specs.List.{range_with_len, flat_map}
 use Rattle.awk_lanes.specs.declared.kind.Kind.TheVariants.{Bool as Truths}
 use Rattle.awk_lanes.specs.Column.{Column}
@@ -32,6 +32,18 @@ take_at xs ws i k = place_number (take_in xs ws i k)
 
 abbrev pub take_numbers : Listed → Listed → ℕ → List ℤ
 take_numbers xs ws i = map (take_at xs ws i) (range_with_len 0 (length_by ws i))
+
+-- the number of a content at a place, and -1 at none
+abbrev pub number_or : Column → Option ℕ → ℤ
+number_or c None = negsuc 0
+number_or c (Some k) = at c k
+
+-- the number of a content that item k of list i of an index names
+abbrev pub number_taken : Listed → Listed → Column → ℕ → ℕ → ℤ
+number_taken xs ws c i k = number_or c (take_in xs ws i k)
+
+abbrev pub numbers_taken : Listed → Listed → Column → ℕ → List ℤ
+numbers_taken xs ws c i = map (number_taken xs ws c i) (range_with_len 0 (length_by ws i))
 
 -- whether item k of list i of an index names no place
 abbrev pub is_outside_at : Listed → Listed → ℕ → ℕ → Bool

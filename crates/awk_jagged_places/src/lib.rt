@@ -2,9 +2,9 @@
 //!
 //! `Kept` are the places where a mask is true, and `Taken` those that an index names, each over the
 //! ends of the lists (`awk_columns`) and over values in the form in which they lie (`Values`).
-//! `put_lane` and `kept_lane` make one lane of them all, `beside_lane` one of the numbers that stand
-//! there, and `lengths_differ` tells whether the lists of a mask are as long as those that it picks
-//! from.
+//! `put_lane` and `kept_lane` make one lane of them all. `beside_lane`, and `put_lane` over
+//! `TakenNumbers`, make one of the numbers that stand there. `lengths_differ` tells whether the
+//! lists of a mask are as long as those that it picks from.
 #![tactic(auto)]
 
 mod beside;
@@ -13,6 +13,7 @@ mod masks;
 mod places;
 mod put;
 mod sieve;
+mod taken;
 mod values;
 
 pub use beside::{Beside, beside_lane};
@@ -20,4 +21,5 @@ pub use differing::lengths_differ;
 pub use masks::{Kept, kept_lane};
 pub use places::Taken;
 pub use put::{NumberLists, put_lane};
+pub use taken::TakenNumbers;
 pub use values::{Sparse, Truths, Values, truths_of};

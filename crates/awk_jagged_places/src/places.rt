@@ -1,5 +1,5 @@
 //! Picks of an index of places, whose lists stand in pairs with those that are picked from.
-ghost use Rattle.std.specs.Prelude.{◌≡◌, ◌+◌, ◌<◌, ◌^◌, option_map};
+ghost use Rattle.std.specs.Prelude.{◌≡◌, ◌+◌, ◌<◌, ◌^◌, option_map, IfSome};
 ghost use Rattle.awk_lanes.specs.Numbers.{int_of, IsOf};
 ghost use Rattle.awk_lanes.specs.Places.{size_of};
 ghost use Rattle.awk_lanes.specs.declared.kind.Kind.TheVariants as Kinds;
@@ -79,7 +79,31 @@ impl<'r, 's, 'a, V: Values> Taken<'r, 's, 'a, V> {
         false
     }
 
-    /// The place that the value at a place of the index names in a list, or -1 for none.
+    /// The place in the content that the value at a place of the index names in a list.
+    #[inline(always)]
+    pub(crate) fn place<L: Ledger>(
+        &self,
+        place: u64,
+        from: Span,
+        steps: &mut Steps<L>,
+    ) -> Option<u64>
+        requires leaves { AreLeaves self.now.xs.now self.now.ws.now (V.cells self.now.cells.now) }
+        requires within { place < len self.now.ws.now.content }
+        requires small { from.start + from.length < 2 ^ 63 }
+        ensures place { result ≡ option_map (λ p. from.start + p)
+            (take_place from.length (array_item self.now.ws.now.content place)) }
+        ensures within { IfSome result (λ p. (p < from.start + from.length) × (0 < from.length)) }
+    {
+        match self.cells.value(place, steps) {
+            None => None,
+            Some(x) => match place_of(from.length, x) {
+                None => None,
+                Some(p) => Some(from.start + p),
+            },
+        }
+    }
+
+    /// The same as a number, or -1 for none.
     #[inline(always)]
     fn number<L: Ledger>(&self, place: u64, from: Span, steps: &mut Steps<L>) -> Num
         requires leaves { AreLeaves self.now.xs.now self.now.ws.now (V.cells self.now.cells.now) }
@@ -89,12 +113,9 @@ impl<'r, 's, 'a, V: Values> Taken<'r, 's, 'a, V> {
         ensures number { int_of result ≡ place_number (option_map (λ p. from.start + p)
             (take_place from.length (array_item self.now.ws.now.content place))) }
     {
-        match self.cells.value(place, steps) {
+        match self.place(place, from, steps) {
             None => Num::Int(-1),
-            Some(x) => match place_of(from.length, x) {
-                None => Num::Int(-1),
-                Some(p) => number(from.start + p),
-            },
+            Some(p) => number(p),
         }
     }
 }

@@ -1,0 +1,36 @@
+use Rattle.std.proofs.Common.{◌≡◌, arith, ap}
+use Rattle.awk_lanes.specs.Numbers.{int_of}
+use Rattle.awk_lanes.specs.Places.{size_of}
+use Rattle.awk_layout.specs.Valid.{len}
+use Rattle.awk_jagged_places.specs.Leaves.{number_taken}
+use Rattle.awk_jagged_places.proofs.PutLaws.{puts-next, next-room}
+use Rattle.awk_jagged_rows.specs.Rows.{length_by}
+use Rattle.awk_jagged_places.proofs.taken.TakenNumbersNumberLists.put_list.Goals as goal
+
+pub number-requires-clause-list : goal.number-requires-clause-list
+number-requires-clause-list g c =
+    let size : len c.args.self.now.picks.now.xs.now.content ≡ size_of c.args.self.now.numbers.now =
+    ap len c.requires.ready.1 in
+    λ l. omega (arith, size, c.span_of-from.ensures.within l)
+
+pub push-requires-clause-room : goal.push-requires-clause-room
+push-requires-clause-room g c =
+    next-room (number_taken c.args.self.now.picks.now.xs.now c.args.self.now.picks.now.ws.now
+    c.args.self.now.numbers.now c.args.i)
+    (length_by c.args.self.now.picks.now.ws.now c.args.i) c.loop-k.k c.args.maker.now
+    c.loop-k.maker c.requires.room
+    (omega (arith, c.loop-k-test.true, c.span_of-by.ensures.length)) c.loop-k.invariant
+
+pub loop-k-preserved : goal.loop-k-preserved
+loop-k-preserved g c =
+    let z : int_of c.number.result
+    ≡ number_taken c.args.self.now.picks.now.xs.now c.args.self.now.picks.now.ws.now
+    c.args.self.now.numbers.now c.args.i c.loop-k.k =
+    rw (
+      c.span_of-from.ensures.start,
+      c.span_of-from.ensures.length,
+      c.span_of-by.ensures.start,
+    ) at c.number.ensures.number in
+    puts-next (number_taken c.args.self.now.picks.now.xs.now c.args.self.now.picks.now.ws.now
+    c.args.self.now.numbers.now c.args.i) c.loop-k.k (int_of c.number.result) c.args.maker.now
+    c.loop-k.maker c.push.new.self z c.loop-k.invariant c.push.ensures

@@ -1,0 +1,10 @@
+use Rattle.awk_jagged_places.specs.Kept.{Puts}
+use Rattle.awk_jagged_places.specs.Leaves.{number_taken}
+use Rattle.awk_jagged_places.proofs.PutLaws.{first_numbers}
+use Rattle.awk_jagged_places.proofs.taken.TakenNumbersNumberLists.put_list.Given as goal
+
+-- the numbers of the items before this one are put
+abbrev pub invariant-loop-k : goal.invariant-loop-k
+invariant-loop-k g l =
+    Puts (first_numbers (number_taken l.self.picks.now.xs.now l.self.picks.now.ws.now
+    l.self.numbers.now l.i) l.k) l.fn.maker l.maker
