@@ -15,11 +15,9 @@ ghost use Rattle.awk_put_field.specs.Field.{is_record, names_in, field_type, fie
 ghost use Rattle.awk_put_field.specs.There.{beside_present, there_length};
 
 use crate::records::records_of;
-use awk_columns::{Opened, in_order, open_array};
+use awk_columns::{Opened, in_order, open_array, places_of};
 use awk_gather::gather;
-use awk_lanes::{
-    Arena, Items, Kind, Lane, Lengths, NoMemory, Num, Steps, items_of, number, option_place_in,
-};
+use awk_lanes::{Arena, Items, Lane, Lengths, NoMemory, Num, Steps, number, option_place_in};
 use awk_layout::{Array, Node};
 use awk_open::Opened as Ordered;
 use awk_types::is_optional;
@@ -87,7 +85,7 @@ fn items_there<'a, L: Ledger>(
         return Ok(all);
     }
     let there = PlacesThere { index };
-    let places = items_of(Kind::I64, index.len(), n, &there, arena, steps)?;
+    let places = places_of(index.len(), n, &there, arena, steps)?;
     let items = gather(alloc, column, &places, arena, steps)?;
     Ok(items)
 }
