@@ -1,6 +1,6 @@
 -- Lists of a column joined: what is made of them, and when they are too many.
 use Rattle.std.specs.Prelude.{◌≡◌, ℕ, zero, suc, ◌+◌, ◌-◌, ◌<◌, ◌≤◌, true, false, refl}
-use Rattle.std.specs.Prelude.{List, length, map, take, drop, sum, ℤ, pos, negsuc, ◌≤ℤ◌, ◌-ℤ◌, Bool}
+use Rattle.std.specs.Prelude.{List, length, map, take, drop, sum, ℤ, pos, negsuc, ◌≤ℤ◌, Bool}
 use Rattle.std.specs.Prelude.{Some, None, if◌then◌else◌}
 use Rattle.std.specs.List.{AllByRecursion, range_with_len}
 use Rattle.std.proofs.Common.{arith, ap, sym, ◌∙◌, subst}

@@ -4,15 +4,12 @@ use Rattle.std.specs.Prelude.{length, map, Bool, true, false, ℤ, pos, if◌the
 use Rattle.std.specs.Ordering.{int_eq}
 use Rattle.std.proofs.Common.{arith, ap, ap₂, sym, ◌∙◌}
 use Rattle.std.proofs.lemmas.List.{length-append, length-map}
-use Rattle.awk_base.proofs.Lists.{append_one}
 use Rattle.awk_types.specs.Value.{Value, value_list}
 use Rattle.awk_lanes.specs.Column.{Column}
-use Rattle.awk_lanes.specs.Numbers.{is_nonzero, element, IsOf}
+use Rattle.awk_lanes.specs.Numbers.{is_nonzero, element}
 use Rattle.awk_lanes.specs.Places.{at}
 use Rattle.awk_lanes.specs.declared.kind.Kind.{Kind}
 use Rattle.awk_lanes.specs.declared.kind.Kind.TheVariants as kinds
-use Rattle.awk_lanes.specs.declared.kind.Num.{Num}
-use Rattle.awk_lanes.specs.declared.kind.Num.TheVariants.{Int, Nat, Truth}
 use Rattle.awk_layout.specs.Item.{leaf_value, run, agrees}
 use Rattle.awk_lists.specs.RunLengths.{is_same, longer, runs}
 use Rattle.awk_lists.specs.Runs.{values_between, runs_between}

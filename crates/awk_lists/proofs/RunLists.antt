@@ -1,6 +1,5 @@
 -- The runs of the lists of a column: what is made of them.
-use Rattle.std.specs.Prelude.{◌≡◌, ℕ, zero, suc, ◌+◌, ◌-◌, ◌<◌, ◌≤◌, ◌^◌, refl, true, false}
-use Rattle.std.specs.Prelude.{Bool}
+use Rattle.std.specs.Prelude.{◌≡◌, ℕ, zero, suc, ◌+◌, ◌-◌, ◌<◌, ◌≤◌, ◌^◌, refl}
 use Rattle.std.specs.Prelude.{List, ◌++◌, length, map, take, drop, sum, ℤ, pos}
 use Rattle.std.specs.Prelude.{Some, None, if◌then◌else◌}
 use Rattle.std.specs.List.{range_with_len, flat_map}
@@ -14,7 +13,7 @@ use Rattle.std.proofs.lemmas.List.Sums.{sum-map}
 use Rattle.std.proofs.lemmas.List.FromFn.{fill_by_all}
 use Rattle.std.proofs.lemmas.Simd.{map-map}
 use Rattle.awk_base.proofs.Ranges.{range-append}
-use Rattle.awk_types.specs.DataType.{DataType, leaf}
+use Rattle.awk_types.specs.DataType.{leaf}
 use Rattle.awk_types.specs.Simple.{simple_value}
 use Rattle.awk_types.specs.Value.{Value, int, value_list}
 use Rattle.awk_types.specs.ItemLimit.{item_limit}
@@ -35,9 +34,7 @@ use Rattle.awk_columns.specs.Joined.{AreOffsets, JoinsLists, total, IsJoined}
 use Rattle.awk_columns.specs.ListClass.{Class}
 use Rattle.awk_axis.specs.Mapped.{AreGiven}
 use Rattle.awk_columns.specs.Opened.{AreLists, items_at, all_items_at}
-use Rattle.awk_types.specs.Predicates.{is_leaf}
 use Rattle.awk_axis.specs.Spoils.{too_many}
-use Rattle.awk_axis.specs.declared.causes.Refusal.TheVariants as refused
 use Rattle.awk_axis.specs.declared.causes.Spoil.TheVariants.{Size}
 use Rattle.awk_columns.specs.declared.lists.Joined.TheVariants.{TooMany}
 use Rattle.awk_columns.proofs.ArrayLaws.{run_same, array_items-at}

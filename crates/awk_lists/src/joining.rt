@@ -19,7 +19,7 @@ ghost use Rattle.awk_lists.specs.Listed.{IsListed};
 
 use crate::holding::held_of;
 use awk_axis::{ListOp, Made, Refusal, Spoil, lift_at};
-use awk_columns::{Joined, Lists, Opened, join_spans, open_array};
+use awk_columns::{Bounds, Joined, Lists, Opened, join_spans, open_array};
 use awk_gather_lanes::gather_lane;
 use awk_lanes::{Arena, Kind, Lane, LaneMaker, Steps, index_of, number};
 use awk_layout::{Array, Datum};
@@ -141,6 +141,74 @@ fn held_rows<'a, L: Ledger>(
     }
 }
 
+/// Rows of lists joined, by the lists that hold an item.
+fn any_rows<'a, L: Ledger>(
+    alloc: Global,
+    lists: &Lists<'a>,
+    arena: &'a Arena,
+    steps: &mut Steps<L>,
+) -> Result<Made<'a>, NoMemory>
+    requires accepted { flatten_function.refusal (array_type lists.now.content) ≡ None }
+    ensures { IfOk result (IsMade flatten_function lists.now.class lists.now.starts
+        lists.now.stops lists.now.content) }
+{
+    let held = held_of(alloc, lists.content(), arena, steps)?;
+    held_rows(alloc, lists, &held.counts, &held.lists, arena, steps)
+}
+
+/// The same where none of the lists is null: all of them are brought in order, unless they are too
+/// many.
+fn plain_rows<'a, L: Ledger>(
+    alloc: Global,
+    lists: &Lists<'a>,
+    arena: &'a Arena,
+    steps: &mut Steps<L>,
+) -> Result<Made<'a>, NoMemory>
+    requires accepted { flatten_function.refusal (array_type lists.now.content) ≡ None }
+    requires lists { predicates.is_list_or_unknown (array_type lists.now.content) ≡ true }
+    ensures { IfOk result (IsMade flatten_function lists.now.class lists.now.starts
+        lists.now.stops lists.now.content) }
+{
+    let _ = lists.content();
+    match lists.joined(alloc, arena, steps)? {
+        Joined::TooMany => any_rows(alloc, lists, arena, steps),
+        Joined::Lists {
+            offsets,
+            content: rows,
+        } => joined_rows(
+            alloc,
+            lists.class(),
+            lists.starts(),
+            lists.stops(),
+            lists.content(),
+            &offsets,
+            &rows,
+            arena,
+            steps,
+        ),
+    }
+}
+
+/// Whether lists have together no more items than what holds these.
+fn are_few<'a, L: Ledger>(
+    alloc: Global,
+    lists: &Lists<'a>,
+    arena: &'a Arena,
+    steps: &mut Steps<L>,
+) -> Result<bool, NoMemory> {
+    let bounds = Bounds::new(alloc, lists, arena, steps)?;
+    let limit = lists.content().len();
+    let mut total = 0;
+    for i in 0..bounds.len() {
+        let length = bounds.length_at(i);
+        if length > limit - total {
+            return Ok(false);
+        }
+        total += length;
+    }
+    Ok(true)
+}
+
 /// The lists of a list joined.
 #[derive(Clone, Copy, Debug, PartialEq, Eq)]
 struct JoinedLists;
@@ -182,8 +250,12 @@ impl ListOp for JoinedLists {
         arena: &'a Arena,
         steps: &mut Steps<L>,
     ) -> Result<Made<'a>, NoMemory> {
-        let held = held_of(alloc, lists.content(), arena, steps)?;
-        held_rows(alloc, lists, &held.counts, &held.lists, arena, steps)
+        if is_list_or_unknown(lists.content().typ()) {
+            if are_few(alloc, lists, arena, steps)? {
+                return plain_rows(alloc, lists, arena, steps);
+            }
+        }
+        any_rows(alloc, lists, arena, steps)
     }
 }
 

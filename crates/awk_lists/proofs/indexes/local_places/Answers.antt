@@ -1,8 +1,8 @@
-use Rattle.std.proofs.Common.{ℕ, ◌≤◌, ◌<◌, ◌^◌, None, Some, arith}
+use Rattle.std.proofs.Common.{ℕ, None, Some, arith}
 use Rattle.awk_lanes.specs.Places.{size_of}
 use Rattle.awk_types.specs.ItemLimit.{item_limit}
 use Rattle.awk_columns.specs.Lists.{span_length}
-use Rattle.awk_lanes.specs.Counted.{before, AreOffsetsBy}
+use Rattle.awk_lanes.specs.Counted.{AreOffsetsBy}
 use Rattle.awk_lists.proofs.LocalLaws.{local-length, local_given, local_spoilt, local_fine}
 use Rattle.awk_lists.proofs.indexes.local_places.Goals as goal
 
