@@ -3,9 +3,8 @@ ghost use Rattle.std.specs.Prelude.{◌≡◌, ◌<◌, ◌≤◌, ◌^◌, IfOk
 ghost use Rattle.awk_lanes.specs.Places.{place_at};
 ghost use Rattle.awk_order.specs.Nulls.{nulls_last, AreNullsReady};
 
-use awk_lanes::{
-    Arena, Items, Kind, Lane, Lengths, NoMemory, Num, Steps, items_of, number, place_in,
-};
+use awk_columns::places_of;
+use awk_lanes::{Arena, Items, Lane, Lengths, NoMemory, Num, Steps, number, place_in};
 use std::sync::ledger::Ledger;
 
 /// Lists of so many items of which so many are present, by offsets of both.
@@ -67,5 +66,5 @@ pub(crate) fn present_first<'a, L: Ledger>(
         count,
     };
     let total = place_in(offsets, count, steps);
-    items_of(Kind::I64, count, total, &lists, arena, steps)
+    places_of(count, total, &lists, arena, steps)
 }

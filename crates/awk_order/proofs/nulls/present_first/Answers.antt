@@ -3,8 +3,8 @@ use Rattle.awk_order.proofs.NullLaws.{offsets_before}
 use Rattle.std.proofs.Common.{◌∙◌, arith}
 use Rattle.awk_order.proofs.nulls.present_first.Goals as goal
 
-pub items_of-requires-clause-total : goal.items_of-requires-clause-total
-items_of-requires-clause-total g c =
+pub places_of-requires-clause-total : goal.places_of-requires-clause-total
+places_of-requires-clause-total g c =
     c.place_in-total.ensures.value
     ∙ offsets_before c.args.offsets.now c.args.count item_limit c.requires.ready.all
     c.requires.ready.first c.args.count (omega arith)
