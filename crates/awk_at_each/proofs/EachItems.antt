@@ -1,7 +1,7 @@
 -- The item at a place of each list, by its place in the content.
 use Rattle.std.proofs.Common.{◌≡◌, ◌≢◌, ℕ, zero, suc, ◌+◌, ◌-◌, ◌<◌, List, map, get_or}
 use Rattle.std.proofs.Common.{refl, ap, ap₂, sym, ◌∙◌, subst, arith, true≢false, ltb-true}
-use Rattle.std.specs.Prelude.{ℤ, pos, negsuc, ◌≤ℤ◌, ◌^◌, nat_lt, [], Bool, true, false, ◌||◌}
+use Rattle.std.specs.Prelude.{ℤ, pos, negsuc, ◌≤ℤ◌, nat_lt, [], Bool, true, false, ◌||◌}
 use Rattle.std.specs.Prelude.{Option, Some, None, is_none}
 use Rattle.std.specs.Prelude.{option_map, if◌then◌else◌}
 use Rattle.std.specs.List.{range_with_len, list_any, AllByRecursion}
@@ -19,7 +19,6 @@ use Rattle.awk_lanes.specs.Places.{size_of, at, place_at, AreSpans, IsIndex, IsI
 use Rattle.awk_lanes.specs.declared.kind.Kind.TheVariants.{I64}
 use Rattle.awk_layout.specs.Item.{at_option}
 use Rattle.awk_layout.specs.Layout.{Layout}
-use Rattle.awk_layout.specs.Laws.{len-fits}
 use Rattle.awk_layout.specs.Typing.{layout_type, array_type, array_items}
 use Rattle.awk_layout.specs.Valid.{len, IsValid}
 use Rattle.awk_layout.proofs.ArrayItems.{length-array_items, get_or-array_items}
@@ -175,16 +174,3 @@ module _ (i : ℤ) (s t : Column) (y : Layout) (p : Column) (spans : AreSpans s 
         ∙ sym (item-stays y m h (place-within s t (len y) j f.0 spans l b))
         ∙ ap (simple_value (array_type y)) (sym (item-in i s t y j f.0 f.1 b));
   }
-
--- ---- spans
-
--- spans of an array's content
-pub spans-small : (s t : Column) (y : Layout) → IsValid y → AreSpans s t (len y)
-    → AreSpans s t (2 ^ 63 - 1)
-spans-small s t y v h = record {
-  start_kind = h.start_kind;
-  stop_kind = h.stop_kind;
-  same_size = h.same_size;
-  ordered = λ i l d.
-      let o = h.ordered i l d in (o.0, o.1, omega (arith, ints, o.2, len-fits y v));
-}

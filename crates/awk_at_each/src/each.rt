@@ -1,8 +1,8 @@
 //! The item at a place of each list.
-ghost use Rattle.std.specs.Prelude.{◌≡◌, ◌+◌, ◌-◌, ◌<◌, ◌^◌, None, IfOk, IfSome};
+ghost use Rattle.std.specs.Prelude.{◌≡◌, ◌<◌, ◌^◌, IfOk, IfSome};
 ghost use Rattle.awk_types.specs.Faults.{fault_told};
 ghost use Rattle.awk_types.specs.Gives.{Gives};
-ghost use Rattle.awk_lanes.specs.Places.{size_of, place_at, AreSpans, IsIndex};
+ghost use Rattle.awk_lanes.specs.Places.{size_of, IsIndex};
 ghost use Rattle.awk_lanes.specs.declared.kind.Kind.TheVariants as Kind;
 ghost use Rattle.awk_layout.specs.Datum.{IsDatum, datum_of};
 ghost use Rattle.awk_layout.specs.Valid.{len, IsValid};
@@ -12,9 +12,9 @@ ghost use Rattle.awk_at_each.specs.Each as each;
 ghost use Rattle.awk_at_each.specs.Each.{item_place, AreItemPlaces};
 
 use awk_axis::{ListOp, Made, Refusal, Spoil, lift_at};
-use awk_columns::Lists;
+use awk_columns::{Bounds, Lists};
 use awk_gather::gather;
-use awk_lanes::{Arena, Kind, Lane, LaneMaker, NoMemory, Steps, index_at, number, to_place};
+use awk_lanes::{Arena, IndexMaker, Lane, NoMemory, Steps, number};
 use awk_layout::{Array, Datum, Node};
 use awk_select::place_in;
 use awk_types::{Fault, Typ, copy_type};
@@ -42,50 +42,14 @@ pub fn at_each<'a, L: Ledger>(
     lift_at(alloc, &ItemAt { place: i }, x, 1, arena, steps)
 }
 
-/// Where a list begins, and how many items it has.
-#[derive(Clone, Copy)]
-struct Span {
-    start: u64,
-    length: u64,
-}
-
-// List j. An empty one begins at 0.
-fn span_of<L: Ledger>(starts: &Lane, stops: &Lane, j: u64, steps: &mut Steps<L>) -> Span
-    requires within { j < size_of starts.now }
-    requires spans { AreSpans starts.now stops.now (2 ^ 63 - 1) }
-    ensures length { result.length ≡ place_at stops.now j - place_at starts.now j }
-    ensures start { 0 < result.length → result.start ≡ place_at starts.now j }
-    ensures small { result.start + result.length < 2 ^ 63 }
-{
-    let start = index_at(starts, j, steps);
-    let stop = index_at(stops, j, steps);
-    if start == stop {
-        Span {
-            start: 0,
-            length: 0,
-        }
-    } else {
-        Span {
-            start: to_place(start),
-            length: to_place(stop - start),
-        }
-    }
-}
-
 // Where in the content the item of list j lies.
-fn item_place<L: Ledger>(
-    starts: &Lane,
-    stops: &Lane,
-    i: i64,
-    j: u64,
-    steps: &mut Steps<L>,
-) -> Option<u64>
-    requires within { j < size_of starts.now }
-    requires spans { AreSpans starts.now stops.now (2 ^ 63 - 1) }
-    ensures place { result ≡ item_place i starts.now stops.now j }
+#[inline(always)]
+fn item_place(lists: &Bounds, i: i64, j: u64) -> Option<u64>
+    requires { j < size_of lists.now.starts }
+    ensures place { result ≡ item_place i lists.now.starts lists.now.stops j }
     ensures small { IfSome result (λ k. k < 2 ^ 63) }
 {
-    let span = span_of(starts, stops, j, steps);
+    let span = lists.span_of(j);
     match place_in(span.length, i) {
         Some(k) => Some(span.start + k),
         None => None,
@@ -94,20 +58,13 @@ fn item_place<L: Ledger>(
 
 // Where in the content the items of all lists lie, if each has one.
 #[tactic(auto, using(awk_lanes::proofs::MadeLanes::making))]
-fn item_places<'a, L: Ledger>(
-    starts: &Lane,
-    stops: &Lane,
-    i: i64,
-    arena: &'a Arena,
-    steps: &mut Steps<L>,
-) -> Result<Option<Lane<'a>>, NoMemory>
-    requires spans { AreSpans starts.now stops.now (2 ^ 63 - 1) }
-    ensures { IfOk result (AreItemPlaces i starts.now stops.now) }
+fn item_places<'a>(lists: &Bounds, i: i64, arena: &'a Arena) -> Result<Option<Lane<'a>>, NoMemory>
+    ensures { IfOk result (AreItemPlaces i lists.now.starts lists.now.stops) }
 {
-    let n = starts.len();
-    let mut maker = LaneMaker::new(Kind::I64, n, arena)?;
+    let n = lists.len();
+    let mut maker = IndexMaker::new(n, arena)?;
     for j in 0..n {
-        let Some(place) = item_place(starts, stops, i, j, steps) else {
+        let Some(place) = item_place(lists, i, j) else {
             return Ok(None);
         };
         maker.push(number(place));
@@ -146,7 +103,8 @@ fn items_of<'a, L: Ledger>(
 {
     let content = lists.content();
     let _ = content.len();
-    match item_places(lists.starts(), lists.stops(), i, arena, steps)? {
+    let bounds = Bounds::new(alloc, lists, arena, steps)?;
+    match item_places(&bounds, i, arena)? {
         None => Ok(Made::Spoiled(Spoil::Index)),
         Some(places) => Ok(Made::Singles(items_at(alloc, content, &places, arena, steps)?)),
     }

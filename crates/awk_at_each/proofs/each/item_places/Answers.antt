@@ -8,9 +8,9 @@ use Rattle.awk_at_each.proofs.EachItems.{AllHave-more}
 use Rattle.awk_at_each.proofs.each.item_places.Goals as goal
 
 pub loop-j-preserved : goal.loop-j-preserved
-loop-j-preserved g c =
-    let s = c.args.starts.now in
-    let t = c.args.stops.now in
+loop-j-preserved c =
+    let s = c.args.lists.now.starts in
+    let t = c.args.lists.now.stops in
     let i = to_z w64 (of_z w64 c.args.i) in
     let e : item_place i s t c.loop-j.j ≡ Some c.in-Some.place =
     sym {b = item_place i s t c.loop-j.j} c.item_place.ensures.place ∙ c.in-Some.is in

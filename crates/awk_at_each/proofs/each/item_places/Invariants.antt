@@ -4,7 +4,7 @@ use Rattle.awk_at_each.specs.Each.{item_number, AllHave}
 use Rattle.awk_at_each.proofs.each.item_places.Given as goal
 
 abbrev pub invariant-loop-j : goal.invariant-loop-j
-invariant-loop-j g l = record {
-  made : IsSoFar I64 l.n (item_number l.i l.starts l.stops) l.j l.maker;
-  have : AllHave l.i l.starts l.stops l.j;
+invariant-loop-j l = record {
+  made : IsSoFar I64 l.n (item_number l.i l.lists.starts l.lists.stops) l.j l.maker;
+  have : AllHave l.i l.lists.starts l.lists.stops l.j;
 }
