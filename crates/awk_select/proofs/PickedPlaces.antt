@@ -22,7 +22,6 @@ use Rattle.awk_types.specs.declared.primitive.Primitive.TheVariants.{I64, U8, U1
 use Rattle.awk_lanes.specs.Column.{Column}
 use Rattle.awk_lanes.specs.Making.{Making, with_item}
 use Rattle.awk_lanes.specs.Places.{at, option_place, IsIndex, IsOptionalIndex}
-use Rattle.awk_lanes.specs.declared.kind.Kind.{Kind}
 use Rattle.awk_lanes.specs.declared.kind.Kind.TheVariants as kind
 use Rattle.awk_layout.specs.Layout.{Layout}
 use Rattle.awk_layout.specs.Valid.{len}
@@ -198,15 +197,11 @@ made-room m n i z old e l h d =
 
 -- all is made
 pub made-whole : (m : Layout) (n i : ℕ) (w : Making) → i ≡ len m
-    → n ≡ length (mask_places (array_items m)) → IsMade n (mask_first (array_items m) i) w
-    → (length w.items ≡ w.room) × (w.items ≡ map place_number (mask_places (array_items m)))
-made-whole m n i w e c h =
-    let all : w.items ≡ map place_number (mask_places (array_items m)) = h.items ∙ ap
-    (λ j. map place_number (mask_first (array_items m) j)) e ∙ sym
-    (ap (map place_number) (mask-whole m)) in (
-      ap length all ∙ length-map (mask_places (array_items m)) place_number ∙ sym c ∙ sym h.room,
-      all,
-    )
+    → IsMade n (mask_first (array_items m) i) w
+    → w.items ≡ map place_number (mask_places (array_items m))
+made-whole m n i w e h =
+    h.items ∙ ap (λ j. map place_number (mask_first (array_items m) j)) e
+    ∙ sym (ap (map place_number) (mask-whole m))
 
 pub count-whole : (m : Layout) (i n : ℕ) → i ≡ len m → n ≡ length (mask_first (array_items m) i)
     → n ≡ length (mask_places (array_items m))
@@ -364,12 +359,6 @@ pub none-more : (p : Value → Bool) (vs : List Value) (i : ℕ) → i < length 
     → list_any p (take i vs) ≡ false → p (get_or vs i null) ≡ false
     → list_any p (take (i + 1) vs) ≡ false
 none-more p vs i l h g = list_any_more p vs i null l ∙ ap₂ (λ a b. a || b) h g
-
--- ---- lanes by their kind and numbers
-
-pub lane-ext : (p : Column) (k : Kind) (zs : List ℤ) → p.kind ≡ k → p.items ≡ zs → p ≡
-    record { kind = k; items = zs }
-lane-ext p k zs e h = ap₂ (λ k zs. record { kind = k; items = zs }) e h
 
 -- ---- a mask has leaves
 

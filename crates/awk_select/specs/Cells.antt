@@ -1,7 +1,6 @@
 -- The numbers or truth values of an array as lanes, with its nulls.
-use Rattle.std.specs.Prelude.{◌≡◌, ℕ, ◌<◌, ℤ, pos, negsuc, Bool, true, false, List, [], ◌∷◌, map}
+use Rattle.std.specs.Prelude.{◌≡◌, ℕ, ◌<◌, ℤ, pos, negsuc, List, [], ◌∷◌, map}
 use Rattle.std.specs.Prelude.{Option, Some, None}
-use Rattle.awk_types.specs.DataType.{DataType, unknown, leaf}
 use Rattle.awk_types.specs.Value.{Value, int, truth, null}
 use Rattle.awk_lanes.specs.Column.{Column}
 use Rattle.awk_lanes.specs.Numbers.{int_of}

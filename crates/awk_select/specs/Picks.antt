@@ -4,7 +4,7 @@ use Rattle.std.specs.Prelude.{ℕ, ◌==◌, ℤ, Bool, true, false, List, [], �
 use Rattle.std.specs.Prelude.{Option, Some, None, is_none, option_map, Result, Ok, Err}
 use Rattle.std.specs.Prelude.{if◌then◌else◌}
 use Rattle.std.specs.List.{range_with_len, flat_map, list_any}
-use Rattle.awk_types.specs.DataType.{DataType, unknown, leaf, opt}
+use Rattle.awk_types.specs.DataType.{DataType, leaf, opt}
 use Rattle.awk_types.specs.Value.{Value, int, truth, null}
 use Rattle.awk_types.specs.Datum.{Datum, arr, one}
 use Rattle.awk_types.specs.Faults.{limit_fault}

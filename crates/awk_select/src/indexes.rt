@@ -22,7 +22,7 @@ ghost use Rattle.awk_select.specs.Picks.{picked, picked_type};
 use crate::cells::{Cells, cells_of};
 use crate::picked::{judge_type, pick};
 use crate::places::{place_in, place_of};
-use awk_lanes::{Arena, Kind, Lane, LaneMaker, NoMemory, Num, Steps, number};
+use awk_lanes::{Arena, IndexMaker, Lane, NoMemory, Num, Steps, number};
 use awk_layout::{Array, Datum};
 use awk_types::{Fault, ITEM_LIMIT, Typ, is_numbers};
 use std::alloc::Global;
@@ -174,7 +174,7 @@ fn take_lane<'a, L: Ledger>(
     ensures lane { IfOk result (λ r. r ≡ lane_of Kind.I64 (len ix.now) (take_number n ix.now)) }
 {
     let count = ix.len();
-    let mut maker = LaneMaker::new(Kind::I64, count, arena)?;
+    let mut maker = IndexMaker::new(count, arena)?;
     for i in 0..count {
         let place = taken_number(ix, cells, n, i, steps);
         maker.push(place);

@@ -19,7 +19,7 @@ ghost use Rattle.awk_select.specs.Picks.{picked, picked_type};
 
 use crate::cells::{Cells, cells_of};
 use crate::picked::{judge_type, pick};
-use awk_lanes::{Arena, Kind, Lane, LaneMaker, NoMemory, Num, Steps, number};
+use awk_lanes::{Arena, IndexMaker, Lane, NoMemory, Num, Steps, number};
 use awk_layout::{Array, Datum};
 use awk_types::{Fault, ITEM_LIMIT, Prim, Typ};
 use std::alloc::Global;
@@ -188,7 +188,7 @@ fn mask_lane<'a, L: Ledger>(
     requires count { n ≡ length (mask_places (array_items m.now)) }
     ensures lane { IfOk result (λ r. r ≡ places_lane (mask_places (array_items m.now))) }
 {
-    let mut maker = LaneMaker::new(Kind::I64, n, arena)?;
+    let mut maker = IndexMaker::new(n, arena)?;
     for i in 0..m.len() {
         if let Some(z) = kept(m, cells, i, steps) {
             maker.push(z);

@@ -11,7 +11,7 @@ ghost use Rattle.awk_select.specs.Places as places;
 
 use crate::places::{bound_down, bound_up};
 use awk_gather::gather;
-use awk_lanes::{Arena, Kind, Lane, LaneMaker, NoMemory, Steps, number};
+use awk_lanes::{Arena, IndexMaker, Lane, NoMemory, Steps, number};
 use awk_layout::{Array, Datum};
 use awk_range::range;
 use awk_types::Fault;
@@ -123,7 +123,7 @@ fn lane_up<'a>(lo: u64, hi: u64, step: u64, arena: &'a Arena) -> Result<Lane<'a>
     ensures lane { IfOk result (λ r. r ≡ places_lane (places.places_up lo hi step)) }
 {
     let n = multiples_below(hi.saturating_sub(lo), step);
-    let mut maker = LaneMaker::new(Kind::I64, n, arena)?;
+    let mut maker = IndexMaker::new(n, arena)?;
     for j in 0..n {
         maker.push(number(place_up(lo, hi, step, j)));
     }
@@ -147,7 +147,7 @@ fn lane_down<'a>(lo: u64, hi: u64, step: u64, arena: &'a Arena) -> Result<Lane<'
     ensures lane { IfOk result (λ r. r ≡ places_lane (places.places_down lo hi step)) }
 {
     let n = multiples_below(lo.saturating_sub(hi), step);
-    let mut maker = LaneMaker::new(Kind::I64, n, arena)?;
+    let mut maker = IndexMaker::new(n, arena)?;
     for j in 0..n {
         maker.push(number(place_down(lo, hi, step, j)));
     }

@@ -1,11 +1,12 @@
 use Rattle.std.proofs.Common.{◌+◌, ◌<◌, arith, refl, ap, sym, ◌∙◌, subst}
 use Rattle.awk_base.proofs.Results.{none_left}
 use Rattle.awk_lanes.specs.Numbers.{int_of}
+use Rattle.awk_lanes.specs.declared.kind.Kind.TheVariants.{I64}
 use Rattle.awk_layout.specs.Typing.{array_items}
 use Rattle.awk_layout.specs.Valid.{len}
 use Rattle.awk_select.specs.Cells.{numbers_shown}
 use Rattle.awk_select.proofs.PickedPlaces.{mask_first, IsMade, made-pushed, made-none, made-room}
-use Rattle.awk_select.proofs.PickedPlaces.{made-whole, lane-ext}
+use Rattle.awk_select.proofs.PickedPlaces.{made-whole}
 use Rattle.awk_select.proofs.masks.mask_lane.Goals as goal
 use Rattle.awk_select.proofs.masks.mask_lane.Goals.{in-Some, in_default}
 
@@ -35,16 +36,10 @@ loop-i-preserved g c =
           c.kept.ensures.numbers) c.loop-i.invariant)
     ]
 
-pub finish-requires : goal.finish-requires
-finish-requires g c =
-    (made-whole c.args.m.now c.args.n c.loop-i.i c.loop-i.maker
-    (omega (arith, c.loop-i-test.false, c.loop-i.auto, c.len-i-end.ensures.len))
-    c.requires.count c.loop-i.invariant).0
-
 pub returns : goal.returns
 returns g c = record {
-  lane = lane-ext c.finish.result _ _ (c.finish.ensures.kind ∙ c.loop-i.invariant.kind)
-      (c.finish.ensures.items ∙ (made-whole c.args.m.now c.args.n c.loop-i.i c.loop-i.maker
+  lane = c.finish.ensures ∙ ap (λ zs. record { kind = I64; items = zs })
+      (made-whole c.args.m.now c.args.n c.loop-i.i c.loop-i.maker
       (omega (arith, c.loop-i-test.false, c.loop-i.auto, c.len-i-end.ensures.len))
-      c.requires.count c.loop-i.invariant).1);
+      c.loop-i.invariant);
 }

@@ -1,9 +1,9 @@
 use Rattle.std.proofs.Common.{◌≡◌, ◌-◌, ◌*◌, suc, arith, ap, ◌∙◌}
 use Rattle.std.specs.Prelude.{pos}
 use Rattle.awk_lanes.specs.Numbers.{int_of}
+use Rattle.awk_lanes.specs.declared.kind.Kind.TheVariants.{I64}
 use Rattle.awk_lanes.proofs.MadeLanes.{so_far_pushed}
 use Rattle.awk_select.specs.Places.{multiples_below}
-use Rattle.awk_select.proofs.PickedPlaces.{lane-ext}
 use Rattle.awk_select.proofs.RangePlaces.{multiple-below, lane-down, end-is}
 use Rattle.awk_select.proofs.ranges.lane_down.Goals as goal
 
@@ -29,8 +29,9 @@ returns c =
     record {
       lane =
           lane-down c.args.lo c.args.hi c.args.step c.finish.result
-          (lane-ext c.finish.result _ _ (c.finish.ensures.kind ∙ c.loop-j.invariant.kind)
-          (c.finish.ensures.items ∙ c.loop-j.invariant.items ∙ end-is
+          (c.finish.ensures
+          ∙ ap (λ zs. record { kind = I64; items = zs })
+          (c.loop-j.invariant.items ∙ end-is
           (λ j. pos (c.args.lo - suc (j * c.args.step))) c.loop-j.j c.multiples_below-n.result
           (multiples_below (c.args.lo - c.args.hi) c.args.step)
           (omega (arith, c.loop-j-test.false, c.loop-j.auto)) n));
