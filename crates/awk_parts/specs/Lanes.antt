@@ -1,7 +1,6 @@
 -- A number for each part: what it comes to, and where its extreme stands.
 use Rattle.std.specs.Prelude.{ℕ, ℤ, pos, negsuc, Option, Some, None, List, [], ◌∷◌, get_or}
 use Rattle.awk_numbers.specs.Folds.{folded, tallied, first_extreme}
-use Rattle.awk_numbers.specs.Places.{nth_place}
 use Rattle.awk_numbers.specs.declared.extremes.Extreme.{Extreme}
 use Rattle.awk_numbers.specs.declared.folds.Fold.{Fold}
 use Rattle.awk_numbers.specs.declared.tallies.Tally.{Tally}
@@ -35,15 +34,6 @@ extreme_at how zs p i =
 -- where in part i its extreme stands, and 0 where this has no number
 abbrev pub local_at : Extreme → List ℤ → Spans → ℕ → ℤ
 local_at how zs p i = place_or_zero (first_extreme how (span_part zs p i))
-
--- where among numbers the place stands that so many places stand before, and 0 for none
-abbrev pub nth_or_zero : List ℤ → Option ℕ → ℤ
-nth_or_zero js None = pos 0
-nth_or_zero js (Some q) = place_or_zero (nth_place q js)
-
--- where in part i of an index the place stands of the extreme of part i, and 0 for none
-abbrev pub found_at : Extreme → List ℤ → Spans → List ℤ → Spans → ℕ → ℤ
-found_at how zs p js o i = nth_or_zero (span_part js o i) (first_extreme how (span_part zs p i))
 
 -- the first place of numbers, if there are some
 abbrev pub some_place : List ℤ → Option ℕ

@@ -14,7 +14,7 @@ use awk_numbers::{Extreme, Whole, extreme_of};
 use std::sync::ledger::Ledger;
 
 /// 0 as code holds the numbers of a kind.
-fn zero_of(kind: Kind) -> Num
+pub fn zero_of(kind: Kind) -> Num
     ensures number { int_of result ≡ pos 0 }
     ensures kind { IsOf kind result }
 {

@@ -1,50 +1,118 @@
 //! Sums and products of parts.
-ghost use Rattle.std.specs.Prelude.{◌<◌, IfOk};
-ghost use Rattle.awk_numbers.specs.Folds.{whole_numbers};
+ghost use Rattle.std.specs.Prelude.{◌<◌, ◌≤◌, IfOk};
+ghost use Rattle.awk_numbers.specs.Folds.{whole_numbers, IsNear};
 ghost use Rattle.awk_parts.specs.Fits.{IsFitting, AreFitting};
 ghost use Rattle.awk_parts.specs.Lanes.{folded_at};
 ghost use Rattle.awk_parts.specs.Spans.{span_count, AreSpanned};
 
 use crate::fits::fitting;
 use crate::parts::{Parts, span_of};
-use awk_lanes::{Arena, Lane, LaneMaker, NoMemory, Num};
+use awk_lanes::{Arena, Lane, LaneMaker, NoMemory, Num, Steps};
 use awk_layout::kind_of;
 use awk_numbers::{Fold, folded};
 use awk_types::Prim;
+use std::sync::ledger::Ledger;
 
-/// The sum or product of part i as a number of a primitive, if it is one.
-fn fold_at(how: Fold, prim: Prim, parts: &Parts, i: u64) -> Option<Num>
-    requires parts { AreSpanned (whole_numbers parts.now.numbers.now) parts.now.spans.now }
-    requires within { i < span_count parts.now.spans.now }
-    ensures { IsFitting prim (folded_at how (whole_numbers parts.now.numbers.now)
-        parts.now.spans.now i) result }
+/// Exact numbers by their places.
+pub trait Totals {
+    ghost use Rattle.std.specs.Prelude.{ℕ, ℤ};
+    ghost use Rattle.awk_numbers.specs.Folds.{IsNear};
+
+    /// The number at a place.
+    ghost at: { Self → ℕ → ℤ };
+
+    /// How many numbers may be asked for.
+    ghost size: { Self → ℕ };
+
+    /// What the numbers rest on.
+    ghost IsReady: { Self → Type 0 } = { λ _. Unit {0} };
+
+    /// The number at place i, or none where no number of 64 bits is so far from 0.
+    fn total<L: Ledger>(&self, i: u64, steps: &mut Steps<L>) -> Option<i128>
+        requires ready { IsReady self.now }
+        requires within { i < size self.now }
+        ensures { IsNear (at self.now i) result };
+}
+
+/// The number at place i as one of a primitive, if it is one.
+fn total_at<S: Totals, L: Ledger>(
+    prim: Prim,
+    source: &S,
+    i: u64,
+    steps: &mut Steps<L>,
+) -> Option<Num>
+    requires ready { S.IsReady source.now }
+    requires within { i < S.size source.now }
+    ensures { IsFitting prim (S.at source.now i) result }
 {
-    let span = span_of(parts, i);
-    match folded(how, parts.numbers, span.start, span.stop) {
+    match source.total(i, steps) {
         Some(z) => fitting(prim, z),
         None => None,
     }
 }
 
-/// The sums or products of parts as numbers of a primitive, or none where one does not fit.
+/// The first n numbers as those of a primitive, or none where one does not fit.
 #[tactic(auto, using(awk_lanes::proofs::MadeLanes::making))]
-pub fn fold_parts<'a>(
-    how: Fold,
+pub fn fitting_lane<'a, S: Totals, L: Ledger>(
     prim: Prim,
-    parts: &Parts,
+    n: u64,
+    source: &S,
     arena: &'a Arena,
+    steps: &mut Steps<L>,
 ) -> Result<Option<Lane<'a>>, NoMemory>
-    requires { AreSpanned (whole_numbers parts.now.numbers.now) parts.now.spans.now }
-    ensures { IfOk result (AreFitting prim (folded_at how (whole_numbers parts.now.numbers.now)
-        parts.now.spans.now) (span_count parts.now.spans.now)) }
+    requires ready { S.IsReady source.now }
+    requires within { n ≤ S.size source.now }
+    ensures { IfOk result (AreFitting prim (S.at source.now) n) }
 {
-    let n = parts.spans.starts.len() as u64;
     let mut maker = LaneMaker::new(kind_of(prim), n, arena)?;
     for i in 0..n {
-        match fold_at(how, prim, parts, i) {
+        match total_at(prim, source, i, steps) {
             Some(number) => maker.push(number),
             None => return Ok(None),
         }
     }
     Ok(Some(maker.finish()))
+}
+
+/// The sums or products of parts.
+#[derive(Drop)]
+struct PartTotals<'c, 'b, 'a> {
+    how: Fold,
+    parts: &'c Parts<'b, 'a>,
+}
+
+impl<'c, 'b, 'a> Totals for PartTotals<'c, 'b, 'a> {
+    ghost use Rattle.awk_numbers.specs.Folds.{whole_numbers};
+    ghost use Rattle.awk_parts.specs.Lanes.{folded_at};
+    ghost use Rattle.awk_parts.specs.Spans.{span_count, AreSpanned};
+
+    ghost at = { λ f. folded_at f.how (whole_numbers f.parts.now.numbers.now)
+        f.parts.now.spans.now };
+
+    ghost size = { λ f. span_count f.parts.now.spans.now };
+
+    ghost IsReady = { λ f. AreSpanned (whole_numbers f.parts.now.numbers.now)
+        f.parts.now.spans.now };
+
+    fn total<L: Ledger>(&self, i: u64, _steps: &mut Steps<L>) -> Option<i128> {
+        let span = span_of(self.parts, i);
+        folded(self.how, self.parts.numbers, span.start, span.stop)
+    }
+}
+
+/// The sums or products of parts as numbers of a primitive, or none where one does not fit.
+pub fn fold_parts<'a, L: Ledger>(
+    how: Fold,
+    prim: Prim,
+    parts: &Parts,
+    arena: &'a Arena,
+    steps: &mut Steps<L>,
+) -> Result<Option<Lane<'a>>, NoMemory>
+    requires { AreSpanned (whole_numbers parts.now.numbers.now) parts.now.spans.now }
+    ensures { IfOk result (AreFitting prim (folded_at how (whole_numbers parts.now.numbers.now)
+        parts.now.spans.now) (span_count parts.now.spans.now)) }
+{
+    let count = parts.spans.starts.len() as u64;
+    let totals = PartTotals { how, parts };
+    fitting_lane(prim, count, &totals, arena, steps)
 }

@@ -3,10 +3,10 @@
 //! `Parts` is numbers with the `Spans` of their parts, which `spans_of` reads off lanes of starts
 //! and stops, and `spans_between` off offsets. `fold_parts` is the sums or products of the parts,
 //! or none where one does not fit its primitive, and `tally_parts` their counts; `extremes_of` is
-//! the least or the greatest of each part, `places_of` where it stands, and `found_of` where among
-//! items of which some are null; `present_parts` tells which parts have a number. Numbers of i64
-//! are compared as such; whether some or all of a part are not 0 is told at the first that settles
-//! it, of numbers of i64 and of truth values.
+//! the least or the greatest of each part, `places_of` where it stands; `present_parts` tells which
+//! parts have a number. `fitting_lane` makes a lane of any numbers that are judged so (`Totals`).
+//! Numbers of i64 are compared as such; whether some or all of a part are not 0 is told at the first
+//! that settles it, of numbers of i64 and of truth values.
 #![tactic(auto)]
 
 mod extremes;
@@ -18,8 +18,8 @@ mod tallies;
 mod truths;
 mod wide;
 
-pub use extremes::extremes_of;
-pub use folds::fold_parts;
+pub use extremes::{extremes_of, zero_of};
+pub use folds::{Totals, fitting_lane, fold_parts};
 pub use parts::{Parts, Spans, span_length, spans_between, spans_of};
-pub use places::{found_of, places_of, present_parts};
-pub use tallies::tally_parts;
+pub use places::{number_of_place, places_of, present_parts};
+pub use tallies::{kind_of_tally, tally_parts};

@@ -4,17 +4,17 @@ ghost use Rattle.awk_lanes.specs.Made.{lane_of};
 ghost use Rattle.awk_lanes.specs.Numbers.{int_of, IsOf};
 ghost use Rattle.awk_lanes.specs.declared.kind.Kind.TheVariants as Kind;
 ghost use Rattle.awk_numbers.specs.Folds.{whole_numbers, first_extreme};
-ghost use Rattle.awk_parts.specs.Lanes.{local_at, found_at, present_at, place_or_zero};
+ghost use Rattle.awk_parts.specs.Lanes.{local_at, present_at, place_or_zero};
 ghost use Rattle.awk_parts.specs.Spans.{span_count, span_part, AreSpanned};
 
 use crate::parts::{Parts, span_of};
 use crate::wide::{groups_in, wide_place};
 use awk_lanes::{Arena, Kind, Lane, NoMemory, Num, Numbers, Steps, made_lane, number};
-use awk_numbers::{Extreme, extreme_of, nth_place};
+use awk_numbers::{Extreme, extreme_of};
 use std::sync::ledger::Ledger;
 
 /// A place as a number, and 0 for none.
-fn number_of_place(place: Option<u64>) -> Num
+pub fn number_of_place(place: Option<u64>) -> Num
     requires { IfSome place (λ k. k < 2 ^ 63) }
     ensures number { int_of result ≡ place_or_zero place }
     ensures kind { IsOf Kind.I64 result }
@@ -82,63 +82,6 @@ pub fn places_of<'a, L: Ledger>(
 {
     let count = parts.spans.starts.len() as u64;
     made_lane(Kind::I64, count, &LocalPlaces { how, parts }, arena, steps)
-}
-
-/// Places of extremes among items of which some are null.
-#[derive(Drop)]
-struct FoundPlaces<'c, 'b, 'a> {
-    how: Extreme,
-    parts: &'c Parts<'b, 'a>,
-    items: &'c Parts<'b, 'a>,
-}
-
-impl<'c, 'b, 'a> Numbers for FoundPlaces<'c, 'b, 'a> {
-    ghost use Rattle.std.specs.Prelude.{◌≡◌};
-    ghost use Rattle.awk_lanes.specs.declared.kind.Kind.TheVariants as Kind;
-    ghost use Rattle.awk_numbers.specs.Folds.{whole_numbers};
-    ghost use Rattle.awk_parts.specs.Lanes.{found_at};
-    ghost use Rattle.awk_parts.specs.Spans.{span_count, AreSpanned};
-
-    ghost kind = { λ _. Kind.I64 };
-
-    ghost at = { λ f. found_at f.how (whole_numbers f.parts.now.numbers.now)
-        f.parts.now.spans.now (whole_numbers f.items.now.numbers.now) f.items.now.spans.now };
-
-    ghost size = { λ f. span_count f.parts.now.spans.now };
-
-    ghost IsReady = { λ f. AreSpanned (whole_numbers f.parts.now.numbers.now) f.parts.now.spans.now
-        × AreSpanned (whole_numbers f.items.now.numbers.now) f.items.now.spans.now
-        × (span_count f.items.now.spans.now ≡ span_count f.parts.now.spans.now) };
-
-    fn number<L: Ledger>(&self, i: u64, steps: &mut Steps<L>) -> Num {
-        let items = span_of(self.items, i);
-        match place_at(self.how, self.parts, i) {
-            Some(q) => number_of_place(nth_place(self.items.numbers, items.start, items.stop, q)),
-            None => number(0),
-        }
-    }
-}
-
-/// Where in each part of `items`, an index that is negative for a null, the item stands whose
-/// number is the first least or greatest of the part of `parts`, and 0 for a part of none. Those
-/// parts hold the numbers of the items that are not null.
-pub fn found_of<'a, L: Ledger>(
-    how: Extreme,
-    parts: &Parts,
-    items: &Parts,
-    arena: &'a Arena,
-    steps: &mut Steps<L>,
-) -> Result<Lane<'a>, NoMemory>
-    requires parts { AreSpanned (whole_numbers parts.now.numbers.now) parts.now.spans.now }
-    requires items { AreSpanned (whole_numbers items.now.numbers.now) items.now.spans.now }
-    requires same { span_count items.now.spans.now ≡ span_count parts.now.spans.now }
-    ensures { IfOk result (λ r. r ≡ lane_of Kind.I64 (span_count parts.now.spans.now)
-        (found_at how (whole_numbers parts.now.numbers.now) parts.now.spans.now
-        (whole_numbers items.now.numbers.now) items.now.spans.now)) }
-{
-    let count = parts.spans.starts.len() as u64;
-    let found = FoundPlaces { how, parts, items };
-    made_lane(Kind::I64, count, &found, arena, steps)
 }
 
 /// The index of the parts that have a number.

@@ -12,7 +12,8 @@ use awk_lanes::{Arena, Kind, Lane, NoMemory, Num, Numbers, Steps, made_lane};
 use awk_numbers::{Tally, tally_of};
 use std::sync::ledger::Ledger;
 
-fn kind_of_tally(how: Tally) -> Kind
+/// The kind of what is told.
+pub fn kind_of_tally(how: Tally) -> Kind
     ensures { result ≡ tally_kind how }
 {
     match how {

@@ -64,7 +64,7 @@ impl<'a> Row for Wide<'a> {
 fn is_set(byte: u8) -> bool
     ensures { result ≡ is_nonzero (element Kind.Bool (pos byte)) }
 {
-    if byte == 0 { false } else { true }
+    byte != 0
 }
 
 /// Truth values, each as its byte.

@@ -62,7 +62,7 @@ count_all f a (suc k) h =
     ∙ ap suc (count_all f (a + 1) k (λ q l m. h q (omega (arith, l)) (omega (arith, m))))
 
 -- a place in a list is one of the content
-span_place : (n q : ℕ) (a b : ℤ) → IsSpan n a b → nat_of a ≤ q → q < nat_of b → q < n
+pub span_place : (n q : ℕ) (a b : ℤ) → IsSpan n a b → nat_of a ≤ q → q < nat_of b → q < n
 span_place n q (pos a) (pos b) h l m =
     let f = h (λ e. let g : nat_of (pos a) ≡ nat_of (pos b) = ap nat_of e in
     omega (arith, g, l, m)) in

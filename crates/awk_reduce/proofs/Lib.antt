@@ -6,5 +6,5 @@ pub mod ReadyLaws
 pub mod PlaceLaws
 pub mod ListLaws
 pub mod PlainLaws
-pub mod JoinedLaws
+pub mod OptionLaws
 pub mod LengthLaws

@@ -12,7 +12,7 @@ use Rattle.std.proofs.lemmas.Simd.{map-map}
 use Rattle.awk_types.specs.DataType.{DataType, unknown, leaf, var, reg, rec, tup, opt, uni}
 use Rattle.awk_types.specs.ItemLimit.{item_limit}
 use Rattle.awk_types.specs.Predicates.{is_leaf}
-use Rattle.awk_types.specs.Simple.{present}
+use Rattle.awk_types.specs.Simple.{present, is_option}
 use Rattle.awk_types.specs.Value.{Value}
 use Rattle.awk_lanes.specs.Column.{Column}
 use Rattle.awk_lanes.specs.Counted.{before}
@@ -55,7 +55,7 @@ counted_total s e y =
     ∙ sym (length-flat_map (items_at s e y) (range_with_len 0 (size_of s)))
 
 -- the same by the lengths of lists
-total-before : (s e : Column) (y : Layout) → total s e y ≡ before (span_length s e) (size_of s)
+pub total-before : (s e : Column) (y : Layout) → total s e y ≡ before (span_length s e) (size_of s)
 total-before s e y =
     sym (counted_total s e y)
     ∙ ap sum
@@ -128,6 +128,18 @@ reduced-never how t ls h =
     go false false e = cc
 
 -- ---- leaves
+
+-- what is a leaf without its option alone is an option
+pub optional_leaf : (t : DataType) → is_leaf t ≡ false → is_leaf (present t) ≡ true
+    → is_option t ≡ true
+optional_leaf unknown h e = cc
+optional_leaf (leaf p) h e = cc
+optional_leaf (var t) h e = cc
+optional_leaf (reg n t) h e = cc
+optional_leaf (rec ns ts) h e = cc
+optional_leaf (tup ts) h e = cc
+optional_leaf (opt t) h e = refl
+optional_leaf (uni ts) h e = cc
 
 pub leaves_taken : (how : Reducer) (t : DataType) → (reducer_function how).refusal t ≡ None
     → is_leaf (present t) ≡ true

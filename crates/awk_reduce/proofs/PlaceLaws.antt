@@ -1,6 +1,6 @@
 -- What is made of lists whose items' numbers are ready: extremes and their places.
 use Rattle.std.proofs.Common.{◌≡◌, ℕ, ◌<◌, length, map, get_or, List, [], ◌∷◌, refl}
-use Rattle.std.proofs.Common.{ap, ap₂, sym, ◌∙◌, subst}
+use Rattle.std.proofs.Common.{ap, sym, ◌∙◌, subst}
 use Rattle.std.specs.Prelude.{ℤ, pos, false, position, Option, Some, None}
 use Rattle.std.specs.List.{slice_range}
 use Rattle.std.specs.Option.{option_and_then}
@@ -21,34 +21,35 @@ use Rattle.awk_layout.specs.Kinds.{kind_of, primitive_of, primitive_of-kind_of}
 use Rattle.awk_layout.specs.Layout.{Layout, flat, optional}
 use Rattle.awk_layout.specs.Typing.{array_type}
 use Rattle.awk_axis.specs.Mapped.{IsColumn}
+use Rattle.awk_columns.specs.Lists.{Listed}
 use Rattle.awk_axis.specs.declared.function.Made.TheVariants as made
 use Rattle.awk_numbers.specs.Folds.{lane_numbers, first_extreme}
 use Rattle.awk_numbers.specs.declared.extremes.Extreme.{Extreme}
 use Rattle.awk_numbers.specs.declared.extremes.Extreme.TheVariants.{Least, Greatest}
 use Rattle.awk_numbers.proofs.PartLaws.{slice_range-map}
-use Rattle.awk_parts.specs.Lanes.{extreme_at, present_at, number_or_zero, place_or_zero}
-use Rattle.awk_parts.specs.Lanes.{local_at, nth_or_zero, some_place}
+use Rattle.awk_parts.specs.Lanes.{extreme_at, local_at, present_at, number_or_zero}
+use Rattle.awk_parts.specs.Lanes.{index_or_null, some_place, place_or_zero}
 use Rattle.awk_parts.specs.Spans.{start_of, stop_of, span_count, span_part}
 use Rattle.awk_parts.specs.declared.parts.Spans.{Spans}
 use Rattle.awk_present.specs.Numbers.{leaf_of, numbers, number_place, extreme_of, extreme_place}
 use Rattle.awk_present.proofs.LeafLaws.{element-twice}
-use Rattle.awk_reduce.specs.Extremes.{place_by, place_lane}
-use Rattle.awk_reduce.specs.Lists.{list_in, LeadsBack, AreReady, AreReduced}
+use Rattle.awk_reduce.specs.Lists.{list_in, AreReady, IsReduced}
 use Rattle.awk_reduce.specs.Reduce.{overflows}
 use Rattle.awk_reduce.specs.Reducers.{reduced, reduced_type, item_or_null, place_or_null}
 use Rattle.awk_reduce.specs.Totals.{item_reducer, place_reducer}
 use Rattle.awk_reduce.specs.declared.ready.ReadyLists.{ReadyLists}
 use Rattle.awk_reduce.proofs.ColumnLaws.{optional_column}
 use Rattle.awk_reduce.proofs.ExtremeLaws.{extreme_found, extreme_none}
+use Rattle.awk_reduce.proofs.ReadyLaws.{AreNumbered, ready_numbered}
 
 -- ---- by types and values
 
-item_value : (how : Extreme) (t : DataType) (vs : List Value)
+pub item_value : (how : Extreme) (t : DataType) (vs : List Value)
     → item_or_null (leaf_of t) (extreme_of how (numbers vs)) ≡ reduced (item_reducer how) t vs
 item_value Least t vs = refl
 item_value Greatest t vs = refl
 
-place_value : (how : Extreme) (t : DataType) (vs : List Value)
+pub place_value : (how : Extreme) (t : DataType) (vs : List Value)
     → place_or_null (extreme_place how vs) ≡ reduced (place_reducer how) t vs
 place_value Least t vs = refl
 place_value Greatest t vs = refl
@@ -79,7 +80,7 @@ pub none_of : (how : Extreme) → extreme_of how [] ≡ None
 none_of Least = refl
 none_of Greatest = refl
 
-some_of : (how : Extreme) (z : ℤ) (zs : List ℤ) → first_extreme how (z ∷ zs) ≡ None → ⊥
+pub some_of : (how : Extreme) (z : ℤ) (zs : List ℤ) → first_extreme how (z ∷ zs) ≡ None → ⊥
 some_of how z zs e = go how (extreme_none how (z ∷ zs) e)
   where
     go : (how : Extreme) → extreme_of how (z ∷ zs) ≡ None → ⊥
@@ -109,27 +110,59 @@ item_case how k p (z ∷ zs) (Some q) e read h =
     ∙ ap (λ k. leaf_value k (get_or (z ∷ zs) q (pos 0))) e
     ∙ sym (ap (item_or_null p) found.1)
 
--- the place where a number leads back to
-back : (vs : List Value) (j : Option Column) (how : Extreme) (zs : List ℤ) (p o : Spans) (i q : ℕ)
-    (w : ℤ) → first_extreme how (span_part zs p i) ≡ Some q → LeadsBack vs j o i w q
-    → int (place_by how zs p o j i) ≡ place_or_null (number_place vs w)
-back vs None how zs p o i q w h b =
-    ap (λ f. int (place_or_zero f)) h ∙ sym (ap place_or_null b)
-back vs (Some j) how zs p o i q w h b =
-    ap (λ f. int (nth_or_zero (span_part (lane_numbers j) o i) f)) h
-    ∙ ap (λ k. int (place_or_zero k)) b.2 ∙ sym (ap place_or_null b.1)
+-- ---- of lists whose numbers are known
 
--- ---- places by the numbers, and by an index
+module _ (l : Listed) (n : ℕ) (zs : ℕ → List ℤ) (r : AreNumbered l n zs) (how : Extreme) where
+  abbrev t : DataType
+  t = array_type l.content
 
-pub places_plain : (how : Extreme) (x : ReadyLists) (zs : List ℤ) (p : Spans)
-    → zs ≡ lane_numbers x.lane.now → p ≡ x.spans.now → x.index.now ≡ None
-    → lane_of I64 (span_count p) (local_at how zs p) ≡ place_lane how x
-places_plain how x zs p ze pe none =
-    ap₂ (λ zs p. lane_of I64 (span_count p) (local_at how zs p)) ze pe
-    ∙ sym (ap (λ j. lane_of I64 (span_count x.spans.now)
-    (place_by how (lane_numbers x.lane.now) x.spans.now x.items.now j)) none)
+  abbrev vs : ℕ → List Value
+  vs i = list_in l i
 
--- ---- of all lists
+  abbrev there : ℕ → Option ℕ
+  there i = some_place (zs i)
+
+  -- which lists have a number
+  abbrev pub chosen : ℕ → ℤ
+  chosen i = index_or_null i (there i)
+
+  leaf_type : (k : Kind) → k ≡ kind_of (leaf_of t) → leaf (primitive_of k) ≡ leaf (leaf_of t)
+  leaf_type k e = ap leaf (ap primitive_of e ∙ primitive_of-kind_of (leaf_of t))
+
+  pub extremes_made : (k : Kind) (f : ℕ → ℤ) (y : Layout) (j c : Column)
+      → k ≡ kind_of (leaf_of t)
+      → ((i : ℕ) → i < n → at_option (there i) (λ q. leaf_value k (element k (f i)))
+      ≡ reduced (item_reducer how) t (vs i))
+      → c ≡ lane_of k n f → j ≡ lane_of I64 n chosen → y ≡ optional j (flat c)
+      → IsReduced (item_reducer how) t vs n (made.Singles y)
+  extremes_made k f y j c ke here ce je ye =
+      let value : ℕ → Value = λ i. reduced (item_reducer how) t (vs i) in
+      let same : y ≡ optional (lane_of I64 n chosen) (flat (lane_of k n f)) =
+      ye ∙ ap (λ j. optional j (flat c)) je
+      ∙ ap (λ c. optional (lane_of I64 n chosen) (flat c)) ce in (
+        λ i l. item_fits how t (vs i),
+        subst (λ u. IsColumn u value n y) (ap opt (leaf_type k ke) ∙ item_type how t)
+            (subst (IsColumn (opt (leaf (primitive_of k))) value n) (sym same)
+            (optional_column k n there f value r.fits here)),
+      )
+
+  pub places_made : (f : ℕ → ℤ) (y : Layout) (j c : Column)
+      → ((i : ℕ) → i < n → at_option (there i) (λ q. int (f i))
+      ≡ reduced (place_reducer how) t (vs i))
+      → c ≡ lane_of I64 n f → j ≡ lane_of I64 n chosen → y ≡ optional j (flat c)
+      → IsReduced (place_reducer how) t vs n (made.Singles y)
+  places_made f y j c here ce je ye =
+      let value : ℕ → Value = λ i. reduced (place_reducer how) t (vs i) in
+      let same : y ≡ optional (lane_of I64 n chosen) (flat (lane_of I64 n f)) =
+      ye ∙ ap (λ j. optional j (flat c)) je
+      ∙ ap (λ c. optional (lane_of I64 n chosen) (flat c)) ce in (
+        λ i l. place_fits how t (vs i),
+        subst (λ u. IsColumn u value n y) (place_type how t)
+            (subst (IsColumn (opt (leaf primitive.I64)) value n) (sym same)
+            (optional_column I64 n there f value r.fits here)),
+      )
+
+-- ---- of lists whose items' numbers are ready
 
 module _ (x : ReadyLists) (r : AreReady x) (how : Extreme) where
   abbrev all : List ℤ
@@ -144,19 +177,14 @@ module _ (x : ReadyLists) (r : AreReady x) (how : Extreme) where
   abbrev n : ℕ
   n = span_count x.spans.now
 
-  abbrev t : DataType
-  t = array_type x.lists.now.content
+  abbrev item : DataType
+  item = array_type x.lists.now.content
 
-  abbrev vs : ℕ → List Value
-  vs i = list_in x.lists.now i
+  abbrev values : ℕ → List Value
+  values i = list_in x.lists.now i
 
   abbrev zs : ℕ → List ℤ
   zs i = span_part all p i
-
-  abbrev there : ℕ → Option ℕ
-  there i = some_place (zs i)
-
-  -- ---- the items
 
   read : (i q : ℕ) → q < length (zs i)
       → element k (get_or (zs i) q (pos 0)) ≡ get_or (zs i) q (pos 0)
@@ -166,68 +194,44 @@ module _ (x : ReadyLists) (r : AreReady x) (how : Extreme) where
       (read_twice k (slice_range x.lane.now.items (start_of p i) (stop_of p i)) q)
 
   item_here : (i : ℕ) → i < n
-      → at_option (there i) (λ q. leaf_value k (element k (extreme_at how all p i)))
-      ≡ reduced (item_reducer how) t (vs i)
+      → at_option (some_place (zs i)) (λ q. leaf_value k (element k (extreme_at how all p i)))
+      ≡ reduced (item_reducer how) item (values i)
   item_here i l =
-      item_case how k (leaf_of t) (zs i) (first_extreme how (zs i)) r.kind (read i) refl
-      ∙ ap (λ ns. item_or_null (leaf_of t) (extreme_of how ns)) (r.parts i l)
-      ∙ item_value how t (vs i)
+      item_case how k (leaf_of item) (zs i) (first_extreme how (zs i)) r.kind (read i) refl
+      ∙ ap (λ ns. item_or_null (leaf_of item) (extreme_of how ns)) (r.parts i l)
+      ∙ item_value how item (values i)
 
-  leaf_type : leaf (primitive_of k) ≡ leaf (leaf_of t)
-  leaf_type = ap leaf (ap primitive_of r.kind ∙ primitive_of-kind_of (leaf_of t))
-
-  pub extremes_made : (y : Layout) (j c : Column) → c ≡ lane_of k n (extreme_at how all p)
+  pub ready_extremes : (y : Layout) (j c : Column) → c ≡ lane_of k n (extreme_at how all p)
       → j ≡ lane_of I64 n (present_at all p) → y ≡ optional j (flat c)
-      → AreReduced (item_reducer how) x (made.Singles y)
-  extremes_made y j c ce je ye =
-      let value : ℕ → Value = λ i. reduced (item_reducer how) t (vs i) in
-      let same : y ≡ optional (lane_of I64 n (present_at all p))
-      (flat (lane_of k n (extreme_at how all p))) =
-      ye ∙ ap (λ j. optional j (flat c)) je
-      ∙ ap (λ c. optional (lane_of I64 n (present_at all p)) (flat c)) ce in (
-        λ i l. item_fits how t (vs i),
-        subst (λ u. IsColumn u value n y) (ap opt leaf_type ∙ item_type how t)
-            (subst (IsColumn (opt (leaf (primitive_of k))) value n) (sym same)
-            (optional_column k n there (extreme_at how all p) value r.fits item_here)),
-      )
-
-  -- ---- their places
+      → IsReduced (item_reducer how) item values n (made.Singles y)
+  ready_extremes y j c =
+      extremes_made x.lists.now n zs (ready_numbered x r) how k (extreme_at how all p) y j c r.kind
+      item_here
 
   place_case : (i : ℕ) → i < n → (ws : List ℤ) → zs i ≡ ws → (f : Option ℕ)
       → first_extreme how ws ≡ f
-      → at_option (some_place ws) (λ q. int (place_by how all p x.items.now x.index.now i))
-      ≡ place_or_null (option_and_then (number_place (vs i)) (extreme_of how ws))
+      → at_option (some_place ws) (λ q. int (place_or_zero f))
+      ≡ place_or_null (option_and_then (number_place (values i)) (extreme_of how ws))
   place_case i l [] e f h =
-      sym (ap (λ m. place_or_null (option_and_then (number_place (vs i)) m)) (none_of how))
+      sym (ap (λ m. place_or_null (option_and_then (number_place (values i)) m)) (none_of how))
   place_case i l (w ∷ ws) e None h = absurd (some_of how w ws h)
   place_case i l (w ∷ ws) e (Some q) h =
       let found = extreme_found how (w ∷ ws) q h in
       let z = get_or (w ∷ ws) q (pos 0) in
-      back (vs i) x.index.now how all p x.items.now i q z (ap (first_extreme how) e ∙ h)
-      (r.places i q z l (ap (position (int_eq z)) e ∙ found.2))
-      ∙ sym (ap (λ m. place_or_null (option_and_then (number_place (vs i)) m)) found.1)
+      sym (ap place_or_null (r.places i q z l (ap (position (int_eq z)) e ∙ found.2)))
+      ∙ sym (ap (λ m. place_or_null (option_and_then (number_place (values i)) m)) found.1)
 
   place_here : (i : ℕ) → i < n
-      → at_option (there i)
-      (λ q. leaf_value I64 (element I64 (place_by how all p x.items.now x.index.now i)))
-      ≡ reduced (place_reducer how) t (vs i)
+      → at_option (some_place (zs i)) (λ q. int (local_at how all p i))
+      ≡ reduced (place_reducer how) item (values i)
   place_here i l =
       place_case i l (zs i) refl (first_extreme how (zs i)) refl
-      ∙ ap (λ ns. place_or_null (option_and_then (number_place (vs i)) (extreme_of how ns)))
+      ∙ ap (λ ns. place_or_null (option_and_then (number_place (values i)) (extreme_of how ns)))
       (r.parts i l)
-      ∙ place_value how t (vs i)
+      ∙ place_value how item (values i)
 
-  pub places_made : (y : Layout) (j c : Column) → c ≡ place_lane how x
+  pub ready_places : (y : Layout) (j c : Column) → c ≡ lane_of I64 n (local_at how all p)
       → j ≡ lane_of I64 n (present_at all p) → y ≡ optional j (flat c)
-      → AreReduced (place_reducer how) x (made.Singles y)
-  places_made y j c ce je ye =
-      let value : ℕ → Value = λ i. reduced (place_reducer how) t (vs i) in
-      let place : ℕ → ℤ = place_by how all p x.items.now x.index.now in
-      let same : y ≡ optional (lane_of I64 n (present_at all p)) (flat (lane_of I64 n place)) =
-      ye ∙ ap (λ j. optional j (flat c)) je
-      ∙ ap (λ c. optional (lane_of I64 n (present_at all p)) (flat c)) ce in (
-        λ i l. place_fits how t (vs i),
-        subst (λ u. IsColumn u value n y) (place_type how t)
-            (subst (IsColumn (opt (leaf primitive.I64)) value n) (sym same)
-            (optional_column I64 n there place value r.fits place_here)),
-      )
+      → IsReduced (place_reducer how) item values n (made.Singles y)
+  ready_places y j c =
+      places_made x.lists.now n zs (ready_numbered x r) how (local_at how all p) y j c place_here

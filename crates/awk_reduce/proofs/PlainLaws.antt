@@ -2,7 +2,7 @@
 use Rattle.std.proofs.Common.{◌≡◌, ◌≢◌, ℕ, zero, suc, ◌+◌, ◌-◌, ◌<◌, ◌≤◌, List, [], ◌∷◌, length}
 use Rattle.std.proofs.Common.{map, take, drop, refl, ap, ap₂, sym, ◌∙◌, subst, arith, ltb-true}
 use Rattle.std.specs.Prelude.{ℤ, pos, negsuc, ◌≤ℤ◌, nat_lt, Bool, true, false, position}
-use Rattle.std.specs.Prelude.{Some, None}
+use Rattle.std.specs.Prelude.{Some}
 use Rattle.std.specs.List.{range_with_len, slice_range}
 use Rattle.std.specs.Ordering.{int_eq}
 use Rattle.std.proofs.lemmas.Bool.{ltb-false}
@@ -31,7 +31,7 @@ use Rattle.awk_parts.specs.Spans.{span_count, span_size, span_part, AreEnds}
 use Rattle.awk_present.specs.Numbers.{numbers, number_place}
 use Rattle.awk_present.specs.Present.{AreLeaves}
 use Rattle.awk_present.proofs.PresentLaws.{leaves-count, plain_present}
-use Rattle.awk_reduce.specs.Lists.{list_in, IsIndexed, LeadsBack, AreReady}
+use Rattle.awk_reduce.specs.Lists.{list_in, AreReady}
 use Rattle.awk_reduce.specs.declared.ready.ReadyLists.{ReadyLists}
 use Rattle.awk_reduce.proofs.SpanLaws.{start-is, stop-is, ends_spanned}
 
@@ -153,8 +153,7 @@ module _ (x : ReadyLists)
     (leaves : AreLeaves x.lists.now.content x.lane.now)
     (ends : AreEnds (size_of x.lists.now.starts) (at x.lists.now.starts) (at x.lists.now.stops)
     x.spans.now)
-    (few : before (span_size x.spans.now) (span_count x.spans.now) ≤ item_limit)
-    (none : x.index.now ≡ None) where
+    (few : before (span_size x.spans.now) (span_count x.spans.now) ≤ item_limit) where
   abbrev c : Column
   c = x.lane.now
 
@@ -189,9 +188,7 @@ module _ (x : ReadyLists)
     parts = λ i k.
         let k' : i < size_of l.starts = omega (arith, k, ends.starts) in
         part i k' ∙ (plain i k').0;
-    index = subst (λ j. IsIndexed j x.items.now (span_count x.spans.now)) (sym none) tt;
     places = λ i q z k e.
         let k' : i < size_of l.starts = omega (arith, k, ends.starts) in
-        subst (λ j. LeadsBack (list_in l i) j x.items.now i z q) (sym none)
-        ((plain i k').1 q z (sym (ap (position (int_eq z)) (part i k')) ∙ e));
+        (plain i k').1 q z (sym (ap (position (int_eq z)) (part i k')) ∙ e);
   }

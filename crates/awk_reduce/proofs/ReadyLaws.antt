@@ -1,6 +1,6 @@
 -- What is made of lists whose items' numbers are ready: totals and counts.
 use Rattle.std.proofs.Common.{◌≡◌, ℕ, ◌<◌, refl, ap, sym, ◌∙◌, subst}
-use Rattle.std.specs.Prelude.{ℤ, pos, Bool, true, false, not, if◌then◌else◌, List, Some}
+use Rattle.std.specs.Prelude.{◌^◌, ℤ, pos, Bool, true, false, not, if◌then◌else◌, List, Some}
 use Rattle.awk_types.specs.DataType.{DataType, leaf}
 use Rattle.awk_types.specs.Value.{Value, int, truth}
 use Rattle.awk_types.specs.declared.primitive.Primitive.{Primitive}
@@ -21,11 +21,10 @@ use Rattle.awk_numbers.specs.declared.folds.Fold.TheVariants as fold
 use Rattle.awk_numbers.specs.declared.tallies.Tally.{Tally}
 use Rattle.awk_numbers.specs.declared.tallies.Tally.TheVariants as tally
 use Rattle.awk_parts.specs.Fits.{fits, AreFitting}
-use Rattle.awk_parts.specs.Lanes.{folded_at, tallied_at}
-use Rattle.awk_parts.specs.Spans.{span_count}
-use Rattle.awk_parts.specs.declared.parts.Spans.{Spans}
+use Rattle.awk_columns.specs.Lists.{Listed}
+use Rattle.awk_parts.specs.Spans.{span_count, span_part}
 use Rattle.awk_present.specs.Numbers.{leaf_of, numbers}
-use Rattle.awk_reduce.specs.Lists.{list_in, AreReady, AreReduced}
+use Rattle.awk_reduce.specs.Lists.{list_in, AreReady, IsReduced}
 use Rattle.awk_reduce.specs.Reduce.{overflows}
 use Rattle.awk_reduce.specs.Reducers.{wide, reduced, reduced_type}
 use Rattle.awk_reduce.specs.Totals.{fold_reducer, tally_reducer}
@@ -91,38 +90,39 @@ tally_fits tally.All t vs = refl
 
 -- ---- of lists
 
-module _ (x : ReadyLists) (r : AreReady x) where
-  abbrev all : List ℤ
-  all = lane_numbers x.lane.now
+-- numbers by lists are those of their items
+pub record AreNumbered (l : Listed) (n : ℕ) (zs : ℕ → List ℤ) : Type 0 where
+  pub fits : n < 2 ^ 63
+  pub parts : (i : ℕ) → i < n → zs i ≡ numbers (list_in l i)
 
-  abbrev p : Spans
-  p = x.spans.now
+pub ready_numbered : (x : ReadyLists) → AreReady x
+    → AreNumbered x.lists.now (span_count x.spans.now)
+    (span_part (lane_numbers x.lane.now) x.spans.now)
+ready_numbered x r = record { fits = r.fits; parts = r.parts }
 
-  abbrev n : ℕ
-  n = span_count x.spans.now
-
+module _ (l : Listed) (n : ℕ) (zs : ℕ → List ℤ) (r : AreNumbered l n zs) where
   abbrev t : DataType
-  t = array_type x.lists.now.content
+  t = array_type l.content
 
   abbrev vs : ℕ → List Value
-  vs i = list_in x.lists.now i
+  vs i = list_in l i
 
   -- what is folded is what the numbers of a list's items come to
-  fold_same : (how : Fold) (i : ℕ) → i < n → folded_at how all p i ≡ folded how (numbers (vs i))
+  fold_same : (how : Fold) (i : ℕ) → i < n → folded how (zs i) ≡ folded how (numbers (vs i))
   fold_same how i l = ap (folded how) (r.parts i l)
 
   pub folds_spoilt : (how : Fold) (i : ℕ) → i < n
-      → fits (wide (leaf_of t)) (folded_at how all p i) ≡ false
+      → fits (wide (leaf_of t)) (folded how (zs i)) ≡ false
       → overflows (fold_reducer how) t (vs i) ≡ true
   folds_spoilt how i l e =
       fold_overflows how t (vs i) false
       (ap (fits (wide (leaf_of t))) (sym (fold_same how i l)) ∙ e)
 
   pub folds_made : (how : Fold) (q : Primitive) (c : Column) (y : Layout) → q ≡ wide (leaf_of t)
-      → AreFitting q (folded_at how all p) n (Some c) → y ≡ flat c
-      → AreReduced (fold_reducer how) x (made.Singles y)
+      → AreFitting q (λ i. folded how (zs i)) n (Some c) → y ≡ flat c
+      → IsReduced (fold_reducer how) t vs n (made.Singles y)
   folds_made how q c y qe f ye =
-      let g : ℕ → ℤ = folded_at how all p in
+      let g : ℕ → ℤ = λ i. folded how (zs i) in
       let fit : AreFitting (wide (leaf_of t)) g n (Some c) =
       subst (λ q. AreFitting q g n (Some c)) qe f in (
         λ i l.
@@ -140,18 +140,18 @@ module _ (x : ReadyLists) (r : AreReady x) where
       )
 
   pub tallies_made : (how : Tally) (c : Column) (y : Layout)
-      → c ≡ lane_of (tally_kind how) n (tallied_at how all p) → y ≡ flat c
-      → AreReduced (tally_reducer how) x (made.Singles y)
+      → c ≡ lane_of (tally_kind how) n (λ i. tallied how (zs i)) → y ≡ flat c
+      → IsReduced (tally_reducer how) t vs n (made.Singles y)
   tallies_made how c y ce ye = (
     λ i l. tally_fits how t (vs i),
     subst (λ u. IsColumn u (λ i. reduced (tally_reducer how) t (vs i)) n y) (tally_type how t)
         (subst (IsColumn (leaf (primitive_of (tally_kind how)))
         (λ i. reduced (tally_reducer how) t (vs i)) n)
         (sym (ye ∙ ap flat ce))
-        (flat_column (tally_kind how) n (tallied_at how all p)
+        (flat_column (tally_kind how) n (λ i. tallied how (zs i))
         (λ i. reduced (tally_reducer how) t (vs i)) r.fits
         (λ i l.
-        ap (λ zs. leaf_value (tally_kind how) (element (tally_kind how) (tallied how zs)))
+        ap (λ ws. leaf_value (tally_kind how) (element (tally_kind how) (tallied how ws)))
         (r.parts i l)
         ∙ tally_value how t (vs i)))),
   )

@@ -1,8 +1,7 @@
--- Parts of numbers by starts and stops, and by offsets.
+-- Parts of numbers by starts and stops.
 use Rattle.std.proofs.Common.{◌≡◌, ℕ, zero, suc, ◌+◌, ◌-◌, ◌<◌, ◌≤◌, List, length, refl}
 use Rattle.std.proofs.Common.{ap, ap₂, sym, ◌∙◌, subst, arith}
-use Rattle.std.specs.Prelude.{ℤ, pos, negsuc, ◌≤ℤ◌}
-use Rattle.std.specs.List.{slice_range}
+use Rattle.std.specs.Prelude.{ℤ}
 use Rattle.std.proofs.lemmas.Int.{ints}
 use Rattle.awk_types.specs.ItemLimit.{item_limit}
 use Rattle.awk_lanes.specs.Column.{Column}
@@ -11,8 +10,7 @@ use Rattle.awk_lanes.specs.Numbers.{nat_of}
 use Rattle.awk_lanes.specs.Places.{size_of, at, place_at, IsSpan, AreSpans}
 use Rattle.awk_lanes.proofs.CountedLanes.{before-next, before_mono}
 use Rattle.awk_columns.specs.Lists.{span_length}
-use Rattle.awk_parts.specs.Parts.{AreRising, part_at}
-use Rattle.awk_parts.specs.Spans.{end_at, start_of, stop_of, span_count, span_size, span_part}
+use Rattle.awk_parts.specs.Spans.{end_at, start_of, stop_of, span_count, span_size}
 use Rattle.awk_parts.specs.Spans.{AreEnds, AreOrdered, AreSpanned}
 use Rattle.awk_parts.specs.declared.parts.Spans.{Spans}
 
@@ -25,7 +23,7 @@ before_same f g (suc n) h =
     ap₂ (λ a b. a + b) (before_same f g n (λ i l. h i (omega (arith, l)))) (h n (omega arith))
 
 -- one of so many is no more than all together
-one_few : (f : ℕ → ℕ) (n i : ℕ) → i < n → f i ≤ before f n
+pub one_few : (f : ℕ → ℕ) (n i : ℕ) → i < n → f i ≤ before f n
 one_few f n i l =
     omega (arith, before-next f i, before_mono f (i + 1) n (omega (arith, l)))
 
@@ -68,35 +66,4 @@ module _ (s t : Column) (p : Spans) (ends : AreEnds (size_of s) (at s) (at t) p)
   ends_spanned zs spans few = record {
     ordered = ends_ordered (length zs) (length zs) spans (omega arith);
     few = λ i l. omega (arith, one_few (span_size p) (span_count p) i l, few);
-  }
-
--- ---- by offsets
-
-rise : (m : ℕ) (a b : ℤ) → pos 0 ≤ℤ a → pos 0 ≤ℤ b → nat_of a ≤ nat_of b → nat_of b ≤ m
-    → IsSpan m a b
-rise m (pos a) (pos b) f g l w d = (f, omega (arith, ints, l), omega (arith, ints, w))
-rise m (negsuc a) b f g l w d = absurd (omega (arith, ints, f))
-rise m (pos a) (negsuc b) f g l w d = absurd (omega (arith, ints, g))
-
-module _ (zs : List ℤ) (o : Column) (n : ℕ) (p : Spans)
-    (ends : AreEnds n (at o) (λ i. at o (i + 1)) p) where
-  pub part-same : (i : ℕ) → i < n → span_part zs p i ≡ part_at zs o i
-  part-same i l = ap₂ (slice_range zs) (ap nat_of (ends.start i l)) (ap nat_of (ends.stop i l))
-
-  pub offsets_spanned : AreRising o n (length zs) → length zs ≤ item_limit → AreSpanned zs p
-  offsets_spanned r few = record {
-    ordered = record {
-      same = ends.stops ∙ sym ends.starts;
-      spans = λ i k.
-          let l : i < n = omega (arith, k, ends.starts) in
-          subst (λ a. IsSpan (length zs) a (end_at p.stops.now i)) (sym (ends.start i l))
-          (subst (λ b. IsSpan (length zs) (at o i) b) (sym (ends.stop i l))
-          (rise (length zs) (at o i) (at o (i + 1)) (r.positive i (omega (arith, l)))
-          (r.positive (i + 1) (omega (arith, l))) (r.ordered i l)
-          (r.within (i + 1) (omega (arith, l)))));
-    };
-    few = λ i k.
-        let l : i < n = omega (arith, k, ends.starts) in
-        let stop : stop_of p i ≡ place_at o (i + 1) = ap nat_of (ends.stop i l) in
-        omega (arith, stop, r.within (i + 1) (omega (arith, l)), few);
   }

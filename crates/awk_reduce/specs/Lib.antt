@@ -2,4 +2,4 @@ pub mod Reducers
 pub mod Reduce
 pub mod Lists
 pub mod Totals
-pub mod Extremes
+pub mod Nullable

@@ -1,11 +1,10 @@
 -- What is made of the lists of a column, by the numbers of their items.
 use Rattle.std.specs.Prelude.{◌≡◌, ℕ, ◌<◌, ◌≤◌, ◌^◌, ℤ, Bool, true, false, List, position}
-use Rattle.std.specs.Prelude.{Option, Some, None}
+use Rattle.std.specs.Prelude.{Some}
 use Rattle.std.specs.Ordering.{int_eq}
 use Rattle.awk_types.specs.DataType.{DataType}
 use Rattle.awk_types.specs.ItemLimit.{item_limit}
 use Rattle.awk_types.specs.Value.{Value}
-use Rattle.awk_lanes.specs.Column.{Column}
 use Rattle.awk_layout.specs.Kinds.{kind_of}
 use Rattle.awk_layout.specs.Typing.{array_type}
 use Rattle.awk_axis.specs.Mapped.{IsColumn}
@@ -14,9 +13,7 @@ use Rattle.awk_axis.specs.declared.function.Made.{Made}
 use Rattle.awk_axis.specs.declared.function.Made.TheVariants as made
 use Rattle.awk_columns.specs.Lists.{Listed, items_at}
 use Rattle.awk_numbers.specs.Folds.{lane_numbers}
-use Rattle.awk_numbers.specs.Places.{nth_place}
 use Rattle.awk_parts.specs.Spans.{span_count, span_part, AreSpanned}
-use Rattle.awk_parts.specs.declared.parts.Spans.{Spans}
 use Rattle.awk_present.specs.Numbers.{leaf_of, numbers, number_place}
 use Rattle.awk_reduce.specs.Reduce.{overflows}
 use Rattle.awk_reduce.specs.Reducers.{reduced_type, reduced}
@@ -27,29 +24,16 @@ use Rattle.awk_reduce.specs.declared.reducer.Reducer.{Reducer}
 abbrev pub list_in : Listed → ℕ → List Value
 list_in l i = items_at l.starts l.stops l.content i
 
--- an index in as many parts as there are lists
-abbrev pub IsIndexed : Option Column → Spans → ℕ → Type 0
-IsIndexed None o n = Unit {0}
-IsIndexed (Some j) o n = AreSpanned (lane_numbers j) o × (span_count o ≡ n)
-
--- where a number stands among those of a list leads to where it stands in the list
-abbrev pub LeadsBack : List Value → Option Column → Spans → ℕ → ℤ → ℕ → Type 0
-LeadsBack vs None o i z q = number_place vs z ≡ Some q
-LeadsBack vs (Some j) o i z q = (k : ℕ)
-    × (number_place vs z ≡ Some k)
-    × (nth_place q (span_part (lane_numbers j) o i) ≡ Some k)
-
--- lists of leaves, and the numbers of those of their items that are present
+-- lists of leaves none of which is null, and the numbers of their items
 pub record AreReady (x : ReadyLists) : Type 0 where
   pub kind : x.lane.now.kind ≡ kind_of (leaf_of (array_type x.lists.now.content))
   pub spans : AreSpanned (lane_numbers x.lane.now) x.spans.now
   pub fits : span_count x.spans.now < 2 ^ 63
   pub parts : (i : ℕ) → i < span_count x.spans.now
       → span_part (lane_numbers x.lane.now) x.spans.now i ≡ numbers (list_in x.lists.now i)
-  pub index : IsIndexed x.index.now x.items.now (span_count x.spans.now)
   pub places : (i q : ℕ) (z : ℤ) → i < span_count x.spans.now
       → position (int_eq z) (span_part (lane_numbers x.lane.now) x.spans.now i) ≡ Some q
-      → LeadsBack (list_in x.lists.now i) x.index.now x.items.now i z q
+      → number_place (list_in x.lists.now i) z ≡ Some q
 
 -- what is made of lists, n of them, whose items are of a type
 abbrev pub IsReduced : Reducer → DataType → (ℕ → List Value) → ℕ → Made → Type 0

@@ -2,8 +2,6 @@
 ghost use Rattle.std.specs.Prelude.{◌≡◌, ◌<◌, ◌^◌, IfOk};
 ghost use Rattle.awk_lanes.specs.Places.{size_of, IsOptionalIndex};
 ghost use Rattle.awk_layout.specs.Layout.{flat, optional};
-ghost use Rattle.awk_numbers.specs.Folds.{whole_numbers, lane_numbers};
-ghost use Rattle.awk_reduce.specs.Extremes.{place_lane};
 ghost use Rattle.awk_reduce.specs.Lists.{AreReady, AreReduced};
 ghost use Rattle.awk_reduce.specs.Totals.{item_reducer, place_reducer};
 
@@ -12,13 +10,13 @@ use awk_axis::Made;
 use awk_lanes::{Arena, Lane, Steps};
 use awk_layout::Node;
 use awk_numbers::{Extreme, whole_of};
-use awk_parts::{Parts, extremes_of, found_of, places_of, present_parts};
+use awk_parts::{Parts, extremes_of, places_of, present_parts};
 use awk_types::NoMemory;
 use std::alloc::Global;
 use std::sync::ledger::Ledger;
 
 /// Numbers, and null where an index names none.
-fn indexed<'a, L: Ledger>(
+pub(crate) fn indexed<'a, L: Ledger>(
     alloc: Global,
     index: Lane<'a>,
     numbers: Lane<'a>,
@@ -54,32 +52,6 @@ pub(crate) fn extremes<'a, L: Ledger>(
     Ok(Made::Singles(indexed(alloc, index, items, steps)?))
 }
 
-/// Where in each list its least or greatest item stands, nulls counted, and 0 where it has none.
-fn places_in<'a, L: Ledger>(
-    how: Extreme,
-    x: &ReadyLists<'_, 'a>,
-    parts: &Parts<'_, 'a>,
-    arena: &'a Arena,
-    steps: &mut Steps<L>,
-) -> Result<Lane<'a>, NoMemory>
-    requires ready { AreReady x.now }
-    requires numbers { whole_numbers parts.now.numbers.now ≡ lane_numbers x.now.lane.now }
-    requires spans { parts.now.spans.now ≡ x.now.spans.now }
-    ensures { IfOk result (λ r. r ≡ place_lane how x.now) }
-{
-    match x.index {
-        None => places_of(how, parts, arena, steps),
-        Some(index) => {
-            let index = whole_of(index, steps);
-            let items = Parts {
-                numbers: &index,
-                spans: x.items,
-            };
-            found_of(how, parts, &items, arena, steps)
-        }
-    }
-}
-
 /// The place of the least or of the greatest item of each list.
 pub(crate) fn extreme_indexes<'a, L: Ledger>(
     alloc: Global,
@@ -96,7 +68,7 @@ pub(crate) fn extreme_indexes<'a, L: Ledger>(
         numbers: &numbers,
         spans: x.spans,
     };
-    let places = places_in(how, x, &parts, arena, steps)?;
+    let places = places_of(how, &parts, arena, steps)?;
     let index = present_parts(&parts, arena, steps)?;
     Ok(Made::Singles(indexed(alloc, index, places, steps)?))
 }

@@ -13,7 +13,7 @@ ghost use Rattle.awk_reduce.specs.declared.reducer.Reducer.TheVariants as Reduce
 
 use awk_axis::Made;
 use awk_columns::Lists;
-use awk_lanes::{Arena, Kind, Num, Numbers, Steps, made_lane, number};
+use awk_lanes::{Arena, Kind, Lengths, Num, Numbers, Steps, made_lane, number};
 use awk_layout::Node;
 use awk_parts::{Spans, span_length};
 use awk_types::NoMemory;
@@ -22,14 +22,15 @@ use std::sync::ledger::Ledger;
 /// The most items that lists may have together.
 const ITEM_LIMIT: u64 = 1_073_741_824;
 
-/// Whether parts have no more numbers together than the limit.
-pub(crate) fn are_within(spans: &Spans) -> bool
-    requires { AreOrdered 9223372036854775807 spans.now }
-    ensures { IsWithin result (before (span_size spans.now) (span_count spans.now)) }
+/// Whether n lists have no more items together than the limit.
+pub(crate) fn are_within<S: Lengths, L: Ledger>(n: u64, source: &S, steps: &mut Steps<L>) -> bool
+    requires ready { S.IsReady source.now }
+    requires within { n ≤ S.size source.now }
+    ensures { IsWithin result (before (S.length source.now) n) }
 {
     let mut total = 0;
-    for i in 0..spans.starts.len() as u64 {
-        let length = span_length(spans, i);
+    for i in 0..n {
+        let length = source.length(i, steps);
         if length > ITEM_LIMIT - total {
             return false;
         }
@@ -40,8 +41,22 @@ pub(crate) fn are_within(spans: &Spans) -> bool
 
 /// The lengths of lists.
 #[derive(Drop)]
-struct SpanLengths<'b, 'a> {
-    spans: &'b Spans<'a>,
+pub(crate) struct SpanLengths<'b, 'a> {
+    pub spans: &'b Spans<'a>,
+}
+
+impl<'b, 'a> Lengths for SpanLengths<'b, 'a> {
+    ghost use Rattle.awk_parts.specs.Spans.{span_count, span_size, AreOrdered};
+
+    ghost length = { λ f. span_size f.spans.now };
+
+    ghost size = { λ f. span_count f.spans.now };
+
+    ghost IsReady = { λ f. AreOrdered 9223372036854775807 f.spans.now };
+
+    fn length<L: Ledger>(&self, i: u64, _steps: &mut Steps<L>) -> u64 {
+        span_length(self.spans, i)
+    }
 }
 
 impl<'b, 'a> Numbers for SpanLengths<'b, 'a> {

@@ -5,6 +5,7 @@
 
 mod extremes;
 mod lengths;
+mod nullable;
 mod ready;
 mod reducer;
 mod reducing;

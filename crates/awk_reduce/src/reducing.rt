@@ -1,5 +1,5 @@
 //! Reducers as functions of one list.
-ghost use Rattle.std.specs.Prelude.{◌≡◌, ◌≤◌, true, IfOk};
+ghost use Rattle.std.specs.Prelude.{◌≡◌, ◌≤◌, true, false, IfOk};
 ghost use Rattle.awk_types.specs.Faults.{fault_told};
 ghost use Rattle.awk_types.specs.Gives.{Gives};
 ghost use Rattle.awk_types.specs.ItemLimit.{item_limit};
@@ -10,25 +10,26 @@ ghost use Rattle.awk_layout.specs.Datum.{datum_of, IsDatum};
 ghost use Rattle.awk_layout.specs.Typing.{array_type};
 ghost use Rattle.awk_axis.specs.Mapped.{IsMade};
 ghost use Rattle.awk_types.specs.Predicates.{is_leaf};
-ghost use Rattle.awk_columns.specs.Joined.{total, JoinsLists};
 ghost use Rattle.awk_parts.specs.Spans.{span_count, span_size, AreEnds};
 ghost use Rattle.awk_reduce.specs.Lists.{AreReady, AreReduced};
 ghost use Rattle.awk_reduce.specs.Reduce.{reducer_function, reduce_of};
 
 use crate::extremes::{extreme_indexes, extremes};
-use crate::lengths::{are_within, lengths};
+use crate::lengths::{SpanLengths, are_within, lengths};
+use crate::nullable::reduced_opened;
 use crate::ready::ReadyLists;
 use crate::reducer::Reducer;
 use crate::totals::{folds, tallies};
 use crate::types::{are_leaves, reduced_typ};
 use awk_axis::{ListOp, Made, Refusal, Spoil, lift_deep};
-use awk_columns::{Joined, Lists, OffsetLists};
+use awk_columns::{Bounds, Lists};
 use awk_kernels::Kernels;
 use awk_lanes::{Arena, Steps};
 use awk_layout::Datum;
+use awk_nullable_lists::nullable_of;
 use awk_numbers::{Extreme, Fold, Tally};
-use awk_parts::{Spans, spans_between, spans_of};
-use awk_present::{leaves_of, present_of};
+use awk_parts::{Spans, spans_of};
+use awk_present::leaves_of;
 use awk_types::{Fault, NoMemory, Typ, is_leaf};
 use std::alloc::Global;
 use std::sync::ledger::Ledger;
@@ -77,13 +78,10 @@ fn reduced_plain<'a, N: Kernels, L: Ledger>(
         lists.now.stops lists.now.content) }
 {
     let lane = leaves_of(alloc, lists.content(), arena, steps)?;
-    let index = None;
     let x = ReadyLists {
         lists,
         lane: &lane,
         spans,
-        index: &index,
-        items: spans,
     };
     reduced(alloc, how, &x, kernels, arena, steps)
 }
@@ -103,7 +101,8 @@ fn reduced_leaves<'a, N: Kernels, L: Ledger>(
 {
     let _ = lists.content();
     let spans = spans_of(lists.starts(), lists.stops(), arena, steps)?;
-    if !are_within(&spans) {
+    let count = spans.starts.len() as u64;
+    if !are_within(count, &SpanLengths { spans: &spans }, steps) {
         return Ok(Made::Spoiled(Spoil::Size));
     }
     match how {
@@ -112,57 +111,25 @@ fn reduced_leaves<'a, N: Kernels, L: Ledger>(
     }
 }
 
-/// What is made of lists by their items one after another.
-fn reduced_items<'a, N: Kernels, L: Ledger>(
-    alloc: Global,
-    how: Reducer,
-    lists: &Lists<'a>,
-    joined: &OffsetLists<'a>,
-    kernels: &N,
-    arena: &'a Arena,
-    steps: &mut Steps<L>,
-) -> Result<Made<'a>, NoMemory>
-    requires leaves { is_leaf (present (array_type lists.now.content)) ≡ true }
-    requires joins { JoinsLists lists.now.starts lists.now.stops lists.now.content
-        joined.now.offsets joined.now.content }
-    requires few { total lists.now.starts lists.now.stops lists.now.content ≤ item_limit }
-    ensures { IfOk result (IsMade (reducer_function how) lists.now.class lists.now.starts
-        lists.now.stops lists.now.content) }
-{
-    let count = lists.len();
-    let offsets = &joined.offsets;
-    let present = present_of(alloc, &joined.content, offsets, count, arena, steps)?;
-    let spans = spans_between(&present.offsets, count, arena, steps)?;
-    let items = spans_between(offsets, count, arena, steps)?;
-    let x = ReadyLists {
-        lists,
-        lane: &present.lane,
-        spans: &spans,
-        index: &present.index,
-        items: &items,
-    };
-    reduced(alloc, how, &x, kernels, arena, steps)
-}
-
 /// What is made of lists of whose items some may be null.
-fn reduced_options<'a, N: Kernels, L: Ledger>(
+fn reduced_options<'a, L: Ledger>(
     alloc: Global,
     how: Reducer,
     lists: &Lists<'a>,
-    kernels: &N,
     arena: &'a Arena,
     steps: &mut Steps<L>,
 ) -> Result<Made<'a>, NoMemory>
-    requires { is_leaf (present (array_type lists.now.content)) ≡ true }
+    requires optional { is_leaf (array_type lists.now.content) ≡ false }
+    requires leaves { is_leaf (present (array_type lists.now.content)) ≡ true }
     ensures { IfOk result (IsMade (reducer_function how) lists.now.class lists.now.starts
         lists.now.stops lists.now.content) }
 {
-    match lists.joined(alloc, arena, steps)? {
-        Joined::TooMany => Ok(Made::Spoiled(Spoil::Size)),
-        Joined::Lists { offsets, content } => {
-            let joined = OffsetLists { offsets, content };
-            reduced_items(alloc, how, lists, &joined, kernels, arena, steps)
-        }
+    let bounds = Bounds::new(alloc, lists, arena, steps)?;
+    if are_within(bounds.len(), &bounds, steps) {
+        let leaves = nullable_of(alloc, lists.content(), arena, steps)?;
+        reduced_opened(alloc, how, &bounds, &leaves, arena, steps)
+    } else {
+        Ok(Made::Spoiled(Spoil::Size))
     }
 }
 
@@ -182,7 +149,7 @@ fn reduced_lists<'a, N: Kernels, L: Ledger>(
     if is_leaf(lists.content().typ()) {
         reduced_leaves(alloc, how, lists, kernels, arena, steps)
     } else {
-        reduced_options(alloc, how, lists, kernels, arena, steps)
+        reduced_options(alloc, how, lists, arena, steps)
     }
 }
 

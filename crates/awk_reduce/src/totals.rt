@@ -30,7 +30,7 @@ pub(crate) fn folds<'a, L: Ledger>(
         spans: x.spans,
     };
     let prim = wide(leaf_of(x.lists.content().typ()));
-    match fold_parts(how, prim, &parts, arena)? {
+    match fold_parts(how, prim, &parts, arena, steps)? {
         Some(lane) => Ok(Made::Singles(Node::numpy(lane, steps))),
         None => Ok(Made::Spoiled(Spoil::Overflow)),
     }

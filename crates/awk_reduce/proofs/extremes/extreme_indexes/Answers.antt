@@ -2,12 +2,11 @@ use Rattle.std.proofs.Common.{ap, sym, ◌∙◌, subst, arith}
 use Rattle.awk_lanes.specs.Made.{lane_of}
 use Rattle.awk_lanes.specs.Places.{size_of, IsOptionalIndex}
 use Rattle.awk_lanes.specs.declared.kind.Kind.TheVariants.{I64}
-use Rattle.awk_numbers.specs.Folds.{whole_numbers, lane_numbers}
-use Rattle.awk_parts.specs.Lanes.{present_at, some_place}
+use Rattle.awk_numbers.specs.Folds.{whole_numbers}
+use Rattle.awk_parts.specs.Lanes.{local_at, present_at, some_place}
 use Rattle.awk_parts.specs.Spans.{span_count, span_part}
-use Rattle.awk_reduce.specs.Extremes.{place_by}
 use Rattle.awk_reduce.proofs.ColumnLaws.{index_valid, size-made}
-use Rattle.awk_reduce.proofs.PlaceLaws.{places_made}
+use Rattle.awk_reduce.proofs.PlaceLaws.{ready_places}
 use Rattle.awk_reduce.proofs.extremes.extreme_indexes.Goals as goal
 
 pub indexed-requires-clause-length : goal.indexed-requires-clause-length
@@ -26,7 +25,7 @@ indexed-requires-clause-size g c =
     omega (
       arith,
       size-made c.in_ok-places.places I64 (span_count x.spans.now)
-          (place_by c.args.how (lane_numbers x.lane.now) x.spans.now x.items.now x.index.now)
+          (local_at c.args.how (whole_numbers c.whole_of-numbers.result) x.spans.now)
           c.in_ok-places.ensures,
       c.requires.fits,
     )
@@ -39,15 +38,17 @@ indexed-requires-clause-valid g c =
     subst (λ j. IsOptionalIndex j n) (sym c.in_ok-index.ensures)
     (index_valid (span_count x.spans.now) n (λ i. some_place (span_part zs x.spans.now i))
     (size-made c.in_ok-places.places I64 (span_count x.spans.now)
-    (place_by c.args.how (lane_numbers x.lane.now) x.spans.now x.items.now x.index.now)
-    c.in_ok-places.ensures))
+    (local_at c.args.how zs x.spans.now) c.in_ok-places.ensures))
 
 pub returns : goal.returns
 returns g c =
     let x = c.args.x.now in
     let p = x.spans.now in
-    places_made x c.requires c.args.how c.in_ok-indexed.field-0 c.in_ok-index.index
-    c.in_ok-places.places c.in_ok-places.ensures
+    ready_places x c.requires c.args.how c.in_ok-indexed.field-0 c.in_ok-index.index
+    c.in_ok-places.places
+    (c.in_ok-places.ensures
+    ∙ ap (λ zs. lane_of I64 (span_count p) (local_at c.args.how zs p))
+    c.whole_of-numbers.ensures.numbers)
     (c.in_ok-index.ensures
     ∙ ap (λ zs. lane_of I64 (span_count p) (present_at zs p)) c.whole_of-numbers.ensures.numbers)
     c.in_ok-indexed.ensures

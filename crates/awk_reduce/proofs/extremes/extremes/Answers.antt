@@ -6,7 +6,7 @@ use Rattle.awk_numbers.specs.Folds.{whole_numbers, lane_numbers}
 use Rattle.awk_parts.specs.Lanes.{extreme_at, present_at, some_place}
 use Rattle.awk_parts.specs.Spans.{span_count, span_part}
 use Rattle.awk_reduce.proofs.ColumnLaws.{index_valid, size-made}
-use Rattle.awk_reduce.proofs.PlaceLaws.{extremes_made}
+use Rattle.awk_reduce.proofs.PlaceLaws.{ready_extremes}
 use Rattle.awk_reduce.proofs.extremes.extremes.Goals as goal
 
 pub indexed-requires-clause-length : goal.indexed-requires-clause-length
@@ -44,7 +44,7 @@ pub returns : goal.returns
 returns g c =
     let x = c.args.x.now in
     let p = x.spans.now in
-    extremes_made x c.requires c.args.how c.in_ok-indexed.field-0 c.in_ok-index.index
+    ready_extremes x c.requires c.args.how c.in_ok-indexed.field-0 c.in_ok-index.index
     c.in_ok-items.items c.in_ok-items.ensures
     (c.in_ok-index.ensures
     ∙ ap (λ zs. lane_of I64 (span_count p) (present_at zs p)) c.whole_of-numbers.ensures.numbers)

@@ -22,8 +22,8 @@ spans_of-requires-clause-same g c =
     ap size_of c.stops.ensures ∙ sym c.content.ensures.lists.spans.same_size
     ∙ sym (ap size_of c.starts.ensures)
 
-pub are_within-requires : goal.are_within-requires
-are_within-requires g c =
+pub are_within-requires-clause-ready : goal.are_within-requires-clause-ready
+are_within-requires-clause-ready g c =
     let l = c.args.lists.now in
     let p = c.in_ok-spans.spans in
     ends_ordered l.starts l.stops p

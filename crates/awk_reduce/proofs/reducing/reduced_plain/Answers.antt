@@ -1,4 +1,4 @@
-use Rattle.std.proofs.Common.{refl, ap, ◌∙◌, subst, arith}
+use Rattle.std.proofs.Common.{ap, ◌∙◌, subst, arith}
 use Rattle.std.proofs.lemmas.Result.{IfOk-weaker}
 use Rattle.awk_types.specs.Predicates.{is_leaf}
 use Rattle.awk_layout.specs.Typing.{array_type}
@@ -18,7 +18,7 @@ pub reduced-requires : goal.reduced-requires
 reduced-requires g c =
     plain_ready _ c.content.ensures.lists
     (subst (λ y. AreLeaves y c.in_ok-lane.lane) c.content.ensures.content c.in_ok-lane.ensures)
-    c.requires.ends c.requires.few refl
+    c.requires.ends c.requires.few
 
 pub returns : goal.returns
 returns g c =

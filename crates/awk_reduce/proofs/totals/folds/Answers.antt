@@ -6,13 +6,13 @@ use Rattle.awk_lanes.specs.Places.{size_of}
 use Rattle.awk_lanes.proofs.MadeLanes.{size-lane_of}
 use Rattle.awk_layout.specs.Kinds.{kind_of}
 use Rattle.awk_layout.specs.Typing.{array_type}
-use Rattle.awk_numbers.specs.Folds.{whole_numbers}
+use Rattle.awk_numbers.specs.Folds.{whole_numbers, lane_numbers}
 use Rattle.awk_parts.specs.Fits.{AreFitting}
 use Rattle.awk_parts.specs.Lanes.{folded_at}
-use Rattle.awk_parts.specs.Spans.{span_count}
+use Rattle.awk_parts.specs.Spans.{span_count, span_part}
 use Rattle.awk_present.specs.Numbers.{leaf_of}
 use Rattle.awk_reduce.specs.Reducers.{wide}
-use Rattle.awk_reduce.proofs.ReadyLaws.{folds_made}
+use Rattle.awk_reduce.proofs.ReadyLaws.{folds_made, ready_numbered}
 use Rattle.awk_reduce.proofs.totals.folds.Goals as goal
 
 -- what was folded fits
@@ -42,7 +42,8 @@ returns-in-Some g c =
     c.wide-prim.ensures
     ∙ ap wide (c.leaf_of.ensures
     ∙ ap leaf_of (c.typ.ensures.typ ∙ ap array_type c.content.ensures.content)) in
-    folds_made x c.requires c.args.how
+    folds_made x.lists.now (span_count x.spans.now)
+    (span_part (lane_numbers x.lane.now) x.spans.now) (ready_numbered x c.requires) c.args.how
     c.wide-prim.result c.in-Some.lane c.numpy.result prim
     (subst (λ zs. AreFitting c.wide-prim.result (folded_at c.args.how zs x.spans.now)
     (span_count x.spans.now) (Some c.in-Some.lane)) c.whole_of-numbers.ensures.numbers

@@ -2,10 +2,10 @@ use Rattle.std.proofs.Common.{ap, ◌∙◌, arith}
 use Rattle.awk_lanes.specs.Made.{lane_of}
 use Rattle.awk_lanes.specs.Places.{size_of}
 use Rattle.awk_lanes.proofs.MadeLanes.{size-lane_of}
-use Rattle.awk_numbers.specs.Folds.{whole_numbers, tally_kind}
+use Rattle.awk_numbers.specs.Folds.{whole_numbers, lane_numbers, tally_kind}
 use Rattle.awk_parts.specs.Lanes.{tallied_at}
-use Rattle.awk_parts.specs.Spans.{span_count}
-use Rattle.awk_reduce.proofs.ReadyLaws.{tallies_made}
+use Rattle.awk_parts.specs.Spans.{span_count, span_part}
+use Rattle.awk_reduce.proofs.ReadyLaws.{tallies_made, ready_numbered}
 use Rattle.awk_reduce.proofs.totals.tallies.Goals as goal
 
 pub numpy-requires : goal.numpy-requires
@@ -22,7 +22,8 @@ numpy-requires g c =
 pub returns : goal.returns
 returns g c =
     let x = c.args.x.now in
-    tallies_made x c.requires c.args.how
+    tallies_made x.lists.now (span_count x.spans.now)
+    (span_part (lane_numbers x.lane.now) x.spans.now) (ready_numbered x c.requires) c.args.how
     c.in_ok-lane.lane c.numpy.result
     (c.in_ok-lane.ensures
     ∙ ap (λ zs. lane_of (tally_kind c.args.how) (span_count x.spans.now)

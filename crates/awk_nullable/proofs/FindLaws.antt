@@ -1,0 +1,86 @@
+-- The first item that has a number, one item more.
+use Rattle.std.proofs.Common.{◌≡◌, ℕ, zero, suc, ◌+◌, List, ◌∷◌, length, arith, refl}
+use Rattle.std.proofs.Common.{ap, ap₂, sym, ◌∙◌}
+use Rattle.std.specs.Prelude.{ℤ, Bool, true, false, not, cond, nat_lt, position, Option, Some, None}
+use Rattle.std.specs.List.{range_with_len, prefix_len}
+use Rattle.std.specs.Option.{option_map}
+use Rattle.awk_nullable.specs.Extremes.{is_some_number, number_place}
+
+pub position-cons : {X : Type 0} (p : X → Bool) (x : X) (xs : List X)
+    → position p (x ∷ xs) ≡ cond (p x) (Some 0) (option_map suc (position p xs))
+position-cons p x xs = go (p x)
+  where
+    n : ℕ
+    n = prefix_len (λ y. not (p y)) xs
+
+    one : (c : Bool) → cond c (Some (1 + n)) None ≡ option_map suc (cond c (Some n) None)
+    one true = let e : 1 + n ≡ suc n = omega arith in ap Some e
+    one false = refl
+
+    go : (b : Bool)
+        → cond (nat_lt (cond (not b) (1 + n) 0) (suc (length xs)))
+        (Some (cond (not b) (1 + n) 0)) None
+        ≡ cond b (Some 0) (option_map suc (cond (nat_lt n (length xs)) (Some n) None))
+    go true =
+        let t : nat_lt 0 (suc (length xs)) ≡ true = grind arith in
+        ap (λ c. cond c (Some 0) None) t
+    go false =
+        let t : nat_lt (1 + n) (suc (length xs)) ≡ nat_lt n (length xs) = grind arith in
+        ap (λ c. cond c (Some (1 + n)) None) t ∙ one (nat_lt n (length xs))
+
+-- the earlier one of two places, the first if there is one
+abbrev pub earlier : Option ℕ → Option ℕ → Option ℕ
+earlier None o = o
+earlier (Some k) o = Some k
+
+pub earlier_none : (o : Option ℕ) → earlier o None ≡ o
+earlier_none None = refl
+earlier_none (Some k) = refl
+
+-- item n, if it has a number
+abbrev pub found : ℤ → ℕ → Option ℤ → Option ℕ
+found z n o = cond (is_some_number z o) (Some n) None
+
+later : (o p : Option ℕ) → option_map suc (earlier o p)
+    ≡ earlier (option_map suc o) (option_map suc p)
+later None p = refl
+later (Some k) p = refl
+
+found_later : (z : ℤ) (n : ℕ) (o : Option ℤ) → option_map suc (found z n o) ≡ found z (suc n) o
+found_later z n o = go (is_some_number z o)
+  where
+    go : (b : Bool) → option_map suc (cond b (Some n) None) ≡ cond b (Some (suc n)) None
+    go true = refl
+    go false = refl
+
+module _ (g : ℕ → Option ℤ) (z : ℤ) where
+  abbrev there : ℕ → Bool
+  there q = is_some_number z (g q)
+
+  first_cons : (a n : ℕ) → number_place g a (suc n) z
+      ≡ cond (there a) (Some 0) (option_map suc (number_place g (a + 1) n z))
+  first_cons a n = position-cons there a (range_with_len (a + 1) n)
+
+  pub place-more : (a n : ℕ) → number_place g a (n + 1) z
+      ≡ earlier (number_place g a n z) (found z n (g (a + n)))
+  place-more a zero =
+      let e : a ≡ a + 0 = omega arith in
+      first_cons a 0 ∙ one (there a) ∙ ap (λ q. found z 0 (g q)) e
+    where
+      one : (b : Bool) → cond b (Some 0) None ≡ earlier None (cond b (Some 0) None)
+      one b = refl
+  place-more a (suc n) =
+      let e : a + 1 + n ≡ a + suc n = omega arith in
+      let m : suc n + 1 ≡ suc (n + 1) = omega arith in
+      ap (λ k. number_place g a k z) m
+      ∙ first_cons a (n + 1)
+      ∙ ap (λ o. cond (there a) (Some 0) (option_map suc o)) (place-more (a + 1) n)
+      ∙ by (there a) (number_place g (a + 1) n z) (g (a + 1 + n))
+      ∙ ap₂ (λ o q. earlier o (found z (suc n) (g q))) (sym (first_cons a n)) e
+    where
+      by : (b : Bool) (o : Option ℕ) (w : Option ℤ)
+          → cond b (Some 0) (option_map suc (earlier o (found z n w)))
+          ≡ earlier (cond b (Some 0) (option_map suc o)) (found z (suc n) w)
+      by true o w = refl
+      by false o w =
+          later o (found z n w) ∙ ap (earlier (option_map suc o)) (found_later z n w)

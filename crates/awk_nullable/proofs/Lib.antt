@@ -1,0 +1,5 @@
+mod NumberLaws
+mod FindLaws
+mod BestLaws
+mod TotalLaws
+mod TruthLaws

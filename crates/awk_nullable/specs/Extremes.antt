@@ -1,0 +1,62 @@
+-- The extreme of numbers while they are read, and its first item.
+use Rattle.std.specs.Prelude.{◌≡◌, ℕ, ◌<◌, ℤ, Bool, true, false, List, [], position, Option}
+use Rattle.std.specs.Prelude.{Some, None}
+use Rattle.std.specs.Prelude.{if◌then◌else◌}
+use Rattle.std.specs.Int.{int_min, int_max}
+use Rattle.std.specs.List.{range_with_len, reduce}
+use Rattle.std.specs.Option.{option_and_then}
+use Rattle.std.specs.Ordering.{int_eq}
+use Rattle.awk_lanes.specs.Column.{Column}
+use Rattle.awk_lanes.specs.Places.{size_of, at}
+use Rattle.awk_numbers.specs.Folds.{beats}
+use Rattle.awk_numbers.specs.declared.extremes.Extreme.{Extreme}
+use Rattle.awk_numbers.specs.declared.extremes.Extreme.TheVariants.{Least, Greatest}
+use Rattle.awk_nullable.specs.Numbers.{leaf_number, numbers_from}
+use Rattle.awk_nullable.specs.declared.extremes.Best.{Best}
+
+-- the least number or the greatest, or none of none
+abbrev pub extreme_number : Extreme → List ℤ → Option ℤ
+extreme_number Least zs = reduce int_min zs
+extreme_number Greatest zs = reduce int_max zs
+
+-- the better one of a number and the best so far
+abbrev pub better_of : Extreme → Option Best → Best → Best
+better_of how None next = next
+better_of how (Some old) next = if beats how next.number old.number then next else old
+
+-- whether an item has a number
+abbrev pub is_some_number : ℤ → Option ℤ → Bool
+is_some_number z None = false
+is_some_number z (Some y) = int_eq z y
+
+-- the first of n items from one on that has a number, counted from the first
+abbrev pub number_place : (ℕ → Option ℤ) → ℕ → ℕ → ℤ → Option ℕ
+number_place g first n z = position (λ i. is_some_number z (g i)) (range_with_len first n)
+
+-- the extreme of the numbers of n items from one on: its first item, its place and its number
+pub record IsFirst (how : Extreme) (f : ℕ → Option ℕ) (c : Column) (first n : ℕ)
+    (b : Best) : Type 0 where
+  pub inside : b.item < n
+  pub place : b.place < size_of c
+  pub number : b.number ≡ at c b.place
+  pub extreme : extreme_number how (numbers_from (leaf_number f c) first n) ≡ Some b.number
+  pub item : number_place (leaf_number f c) first n b.number ≡ Some b.item
+  pub before : (z : ℤ) → beats how z b.number ≡ true
+      → number_place (leaf_number f c) first n z ≡ None
+
+-- the extreme, or none of none
+abbrev pub IsBest : Extreme → (ℕ → Option ℕ) → Column → ℕ → ℕ → Option Best → Type 0
+IsBest how f c first n None =
+    (numbers_from (leaf_number f c) first n ≡ [])
+    × ((z : ℤ) → number_place (leaf_number f c) first n z ≡ None)
+IsBest how f c first n (Some b) = IsFirst how f c first n b
+
+-- a place of the extreme in the lane, or none of no numbers
+abbrev pub IsExtremeAt : Extreme → Column → List ℤ → Option ℕ → Type 0
+IsExtremeAt how c zs None = zs ≡ []
+IsExtremeAt how c zs (Some k) = (k < size_of c) × (extreme_number how zs ≡ Some (at c k))
+
+-- the first item of the extreme
+abbrev pub extreme_place : Extreme → (ℕ → Option ℤ) → ℕ → ℕ → Option ℕ
+extreme_place how g first n =
+    option_and_then (number_place g first n) (extreme_number how (numbers_from g first n))

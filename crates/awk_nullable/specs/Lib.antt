@@ -1,0 +1,4 @@
+pub mod Masks
+pub mod Numbers
+pub mod Totals
+pub mod Extremes

@@ -1,0 +1,35 @@
+-- Sums and products while numbers are read.
+use Rattle.std.specs.Prelude.{◌≡◌, ◌*◌, ◌<◌, ◌≤◌, ℤ, pos, neg_ℤ, ◌≤ℤ◌, unsigned_abs, true, false}
+use Rattle.std.specs.Prelude.{Bool, not, List, length, Option, Some, None}
+use Rattle.std.specs.List.{list_any}
+use Rattle.awk_lanes.specs.Numbers.{is_nonzero}
+use Rattle.awk_kernels.specs.Kernels.{total}
+use Rattle.awk_numbers.specs.Folds.{product, is_zero}
+use Rattle.awk_nullable.specs.declared.totals.Product.{Product}
+use Rattle.awk_nullable.specs.declared.totals.Product.TheVariants.{Zero, Far, Near}
+
+-- the sum of numbers, each nearer to 0 than 2 to the power of 64
+pub record IsSum (sum : ℤ) (zs : List ℤ) : Type 0 where
+  pub exact : sum ≡ total zs
+  pub low : neg_ℤ (pos (length zs * 18446744073709551616)) ≤ℤ sum
+  pub high : sum ≤ℤ pos (length zs * 18446744073709551616)
+
+-- whether one of the numbers is 0, and else how far their product is from 0
+abbrev pub IsProduct : Product → List ℤ → Type 0
+IsProduct Zero zs = list_any is_zero zs ≡ true
+IsProduct Far zs =
+    (list_any is_zero zs ≡ false) × (18446744073709551616 ≤ unsigned_abs (product zs))
+IsProduct (Near z) zs =
+    (list_any is_zero zs ≡ false) × (z ≡ product zs) × (unsigned_abs z < 18446744073709551616)
+
+-- ---- truth
+
+-- whether an item is not null and not 0
+abbrev pub is_true_number : Option ℤ → Bool
+is_true_number None = false
+is_true_number (Some z) = is_nonzero z
+
+-- whether it is not null, and is 0
+abbrev pub is_false_number : Option ℤ → Bool
+is_false_number None = false
+is_false_number (Some z) = not (is_nonzero z)

@@ -1,0 +1,183 @@
+//! The least or the greatest item of a list that is not null, and where it stands.
+ghost use Rattle.std.specs.Prelude.{◌≡◌, ◌+◌, ◌<◌, ◌^◌, IfSome};
+ghost use Rattle.awk_lanes.specs.Places.{size_of};
+ghost use Rattle.awk_nullable.specs.Extremes.{better_of, extreme_place, IsBest, IsExtremeAt};
+ghost use Rattle.awk_nullable.specs.Numbers.{leaf_number, numbers_from, AreItems, AreLeading};
+
+use crate::cells::Cells;
+use crate::numbers::Leaves;
+use crate::places::Places;
+use awk_lanes::Steps;
+use awk_numbers::Extreme;
+use std::sync::ledger::Ledger;
+
+/// Which of two numbers is looked for.
+trait Side {
+    ghost use Rattle.awk_numbers.specs.Folds.{beats as is_before};
+    ghost use Rattle.awk_numbers.specs.declared.extremes.Extreme.{Extreme};
+
+    ghost how: { Extreme };
+
+    /// Whether a number comes before another.
+    fn beats(x: i128, y: i128) -> bool
+        ensures { result ≡ is_before how x y };
+}
+
+/// The least.
+struct Lesser;
+
+impl Side for Lesser {
+    ghost use Rattle.awk_numbers.specs.declared.extremes.Extreme.TheVariants.{Least};
+
+    ghost how = { Least };
+
+    #[inline(always)]
+    fn beats(x: i128, y: i128) -> bool {
+        x < y
+    }
+}
+
+/// The greatest.
+struct Greater;
+
+impl Side for Greater {
+    ghost use Rattle.awk_numbers.specs.declared.extremes.Extreme.TheVariants.{Greatest};
+
+    ghost how = { Greatest };
+
+    #[inline(always)]
+    fn beats(x: i128, y: i128) -> bool {
+        y < x
+    }
+}
+
+/// The extreme so far: its item, counted from the first one, its place in the lane and its number.
+#[derive(Clone, Copy)]
+pub(crate) struct Best {
+    pub item: u64,
+    pub place: u64,
+    pub number: i128,
+}
+
+/// The better one of a number and the best so far, if there is one.
+#[inline(always)]
+fn better<S: Side>(best: Option<Best>, next: Best) -> Best
+    ensures { result ≡ better_of S.how best next }
+{
+    match best {
+        Some(old) => {
+            if S::beats(next.number, old.number) {
+                next
+            } else {
+                old
+            }
+        }
+        None => next,
+    }
+}
+
+/// The best one after item i, counted from the first one.
+#[inline(always)]
+fn next_best<S: Side, P: Places, C: Cells, L: Ledger>(
+    best: Option<Best>,
+    x: &Leaves<'_, P, C>,
+    first: u64,
+    i: u64,
+    steps: &mut Steps<L>,
+) -> Option<Best>
+    requires small { first + i < 2 ^ 63 }
+    requires within { first + i < P.size x.now.places.now }
+    requires leads { AreLeading (P.at x.now.places.now) (P.size x.now.places.now)
+        (size_of (C.lane x.now.cells.now)) }
+    requires best { IsBest S.how (P.at x.now.places.now) (C.lane x.now.cells.now) first i best }
+    ensures { IsBest S.how (P.at x.now.places.now) (C.lane x.now.cells.now) first (i + 1) result }
+{
+    match x.places.place(first + i, steps) {
+        Some(place) => {
+            let number = x.cells.exact(place, steps);
+            let next = Best {
+                item: i,
+                place,
+                number,
+            };
+            Some(better::<S>(best, next))
+        }
+        None => best,
+    }
+}
+
+/// The extreme of the items, or none where all are null.
+fn best_by<S: Side, P: Places, C: Cells, L: Ledger>(
+    x: &Leaves<'_, P, C>,
+    first: u64,
+    count: u64,
+    steps: &mut Steps<L>,
+) -> Option<Best>
+    requires items { AreItems (P.at x.now.places.now) (P.size x.now.places.now)
+        (C.lane x.now.cells.now) first count }
+    ensures { IsBest S.how (P.at x.now.places.now) (C.lane x.now.cells.now) first count result }
+{
+    let mut best = None;
+    for i in 0..count {
+        best = next_best::<S, P, C, L>(best, x, first, i, steps);
+    }
+    best
+}
+
+/// The extreme of the items, or none where all are null.
+fn best_of<P: Places, C: Cells, L: Ledger>(
+    how: Extreme,
+    x: &Leaves<'_, P, C>,
+    first: u64,
+    count: u64,
+    steps: &mut Steps<L>,
+) -> Option<Best>
+    requires items { AreItems (P.at x.now.places.now) (P.size x.now.places.now)
+        (C.lane x.now.cells.now) first count }
+    ensures { IsBest how (P.at x.now.places.now) (C.lane x.now.cells.now) first count result }
+{
+    match how {
+        Extreme::Least => best_by::<Lesser, P, C, L>(x, first, count, steps),
+        Extreme::Greatest => best_by::<Greater, P, C, L>(x, first, count, steps),
+    }
+}
+
+/// Where in the lane the extreme of so many items from a first one on lies, or none where all are
+/// null.
+pub fn extreme_of<P: Places, C: Cells, L: Ledger>(
+    how: Extreme,
+    x: &Leaves<'_, P, C>,
+    first: u64,
+    count: u64,
+    steps: &mut Steps<L>,
+) -> Option<u64>
+    requires items { AreItems (P.at x.now.places.now) (P.size x.now.places.now)
+        (C.lane x.now.cells.now) first count }
+    ensures { IsExtremeAt how (C.lane x.now.cells.now) (numbers_from (leaf_number
+        (P.at x.now.places.now) (C.lane x.now.cells.now)) first count) result }
+{
+    match best_of(how, x, first, count, steps) {
+        Some(best) => Some(best.place),
+        None => None,
+    }
+}
+
+/// Where in a span of items the extreme stands first, nulls counted.
+pub fn place_of<P: Places, C: Cells, L: Ledger>(
+    how: Extreme,
+    x: &Leaves<'_, P, C>,
+    first: u64,
+    count: u64,
+    steps: &mut Steps<L>,
+) -> Option<u64>
+    requires items { AreItems (P.at x.now.places.now) (P.size x.now.places.now)
+        (C.lane x.now.cells.now) first count }
+    ensures place { result ≡ extreme_place how (leaf_number (P.at x.now.places.now)
+        (C.lane x.now.cells.now)) first count }
+    ensures small { IfSome result (λ k. k < 2 ^ 63) }
+{
+    match best_of(how, x, first, count, steps) {
+        Some(best) => Some(best.item),
+        None => None,
+    }
+}

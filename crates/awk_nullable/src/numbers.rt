@@ -1,0 +1,139 @@
+//! The numbers of items one after another, those of nulls left out.
+ghost use Rattle.std.specs.Prelude.{◌≡◌, ◌<◌, ◌≤◌, ◌++◌, ℕ, ℤ, List, [], length, unsigned_abs};
+ghost use Rattle.std.specs.Prelude.{IfSome};
+ghost use Rattle.std.specs.Option.{option_map};
+ghost use Rattle.awk_lanes.specs.Places.{size_of};
+ghost use Rattle.awk_nullable.specs.Numbers.{leaf_number, number_list, numbers_from};
+ghost use Rattle.awk_nullable.specs.Numbers.{AreItems, AreLeading, IsFilled};
+
+use crate::cells::Cells;
+use crate::places::Places;
+use awk_lanes::Steps;
+use std::sync::ledger::Ledger;
+
+/// Items, of which some may be null, and the numbers of the others.
+#[derive(Drop)]
+pub struct Leaves<'c, P: Places, C: Cells> {
+    pub places: &'c P,
+    pub cells: &'c C,
+}
+
+/// The number of item i, if that is not null.
+#[inline(always)]
+pub(crate) fn number_of<P: Places, C: Cells, L: Ledger>(
+    x: &Leaves<'_, P, C>,
+    i: u64,
+    steps: &mut Steps<L>,
+) -> Option<i128>
+    requires within { i < P.size x.now.places.now }
+    requires leads { AreLeading (P.at x.now.places.now) (P.size x.now.places.now)
+        (size_of (C.lane x.now.cells.now)) }
+    ensures number { result ≡ leaf_number (P.at x.now.places.now) (C.lane x.now.cells.now) i }
+    ensures near { IfSome result (λ z. unsigned_abs z < 18446744073709551616) }
+{
+    match x.places.place(i, steps) {
+        Some(place) => Some(x.cells.exact(place, steps)),
+        None => None,
+    }
+}
+
+/// What numbers come to, one after another.
+pub(crate) trait Total {
+    ghost use Rattle.std.specs.Prelude.{ℤ, List, ◌++◌, ◌∷◌};
+
+    /// What it is after numbers.
+    ghost IsOf: { Self → List ℤ → Type 0 };
+
+    /// After one number more.
+    fn with(self, z: i128) -> Self
+        requires near { unsigned_abs z < 18446744073709551616 }
+        requires few { (zs : List ℤ) × IsOf self zs × (length zs < 1073741824) }
+        ensures { (zs : List ℤ) → IsOf self zs → IsOf result (zs ++ z ∷ []) };
+}
+
+/// After the number of an item, if that is not null.
+#[inline(always)]
+fn after<T: Total>(total: T, number: Option<i128>) -> T
+    requires near { IfSome number (λ z. unsigned_abs z < 18446744073709551616) }
+    requires few { (zs : List ℤ) × T.IsOf total zs × (length zs < 1073741824) }
+    ensures { (zs : List ℤ) → T.IsOf total zs → T.IsOf result (zs ++ number_list number) }
+{
+    match number {
+        Some(z) => total.with(z),
+        None => total,
+    }
+}
+
+/// What the numbers of so many items from a first one on come to.
+pub(crate) fn total_of<T: Total, P: Places, C: Cells, L: Ledger>(
+    none: T,
+    x: &Leaves<'_, P, C>,
+    first: u64,
+    count: u64,
+    steps: &mut Steps<L>,
+) -> T
+    requires none { T.IsOf none [] }
+    requires items { AreItems (P.at x.now.places.now) (P.size x.now.places.now)
+        (C.lane x.now.cells.now) first count }
+    ensures { T.IsOf result (numbers_from (leaf_number (P.at x.now.places.now)
+        (C.lane x.now.cells.now)) first count) }
+{
+    let mut total = none;
+    for i in 0..count {
+        total = after(total, number_of(x, first + i, steps));
+    }
+    total
+}
+
+/// 1 for an item that is there, else 0.
+#[inline(always)]
+fn one_if_there(place: Option<u64>) -> u64
+    ensures one { (h : ℕ → ℤ) → result ≡ length (number_list (option_map h place)) }
+    ensures small { result ≤ 1 }
+{
+    match place {
+        Some(_) => 1,
+        None => 0,
+    }
+}
+
+/// How many of so many items from a first one on are not null.
+pub fn count_of<P: Places, C: Cells, L: Ledger>(
+    x: &Leaves<'_, P, C>,
+    first: u64,
+    count: u64,
+    steps: &mut Steps<L>,
+) -> u64
+    requires items { AreItems (P.at x.now.places.now) (P.size x.now.places.now)
+        (C.lane x.now.cells.now) first count }
+    ensures present { result ≡ length (numbers_from (leaf_number (P.at x.now.places.now)
+        (C.lane x.now.cells.now)) first count) }
+    ensures few { result ≤ count }
+{
+    let mut present: u64 = 0;
+    for i in 0..count {
+        present += one_if_there(x.places.place(first + i, steps));
+    }
+    present
+}
+
+/// Whether one of so many items from a first one on is not null.
+pub fn is_some_there<P: Places, C: Cells, L: Ledger>(
+    x: &Leaves<'_, P, C>,
+    first: u64,
+    count: u64,
+    steps: &mut Steps<L>,
+) -> bool
+    requires items { AreItems (P.at x.now.places.now) (P.size x.now.places.now)
+        (C.lane x.now.cells.now) first count }
+    ensures { IsFilled result (numbers_from (leaf_number (P.at x.now.places.now)
+        (C.lane x.now.cells.now)) first count) }
+{
+    for i in 0..count {
+        match x.places.place(first + i, steps) {
+            Some(_) => return true,
+            None => {}
+        }
+    }
+    false
+}

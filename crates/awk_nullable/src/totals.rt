@@ -1,0 +1,247 @@
+//! Sums, products and counts of the items of a list that are not null.
+ghost use Rattle.std.specs.Prelude.{◌≡◌, ◌<◌, ◌≤◌, ◌*ℤ◌, ℤ, List, cond, unsigned_abs};
+ghost use Rattle.std.specs.Prelude.{Some};
+ghost use Rattle.std.specs.List.{count_by, list_any, list_all};
+ghost use Rattle.awk_lanes.specs.Numbers.{int_of, is_nonzero, IsOf as IsOfKind};
+ghost use Rattle.awk_numbers.specs.Folds.{folded, tallied, tally_kind, product, IsNear};
+ghost use Rattle.awk_nullable.specs.Numbers.{leaf_number, numbers_from, AreItems};
+ghost use Rattle.awk_nullable.specs.Totals.{is_true_number, is_false_number, IsProduct};
+
+use crate::cells::Cells;
+use crate::numbers::{Leaves, Total, count_of, number_of, total_of};
+use crate::places::Places;
+use awk_lanes::{Num, Steps, number};
+use awk_numbers::{Fold, Tally};
+use std::sync::ledger::Ledger;
+
+/// The sum of numbers.
+#[derive(Clone, Copy)]
+pub(crate) struct Sum {
+    sum: i128,
+}
+
+impl Total for Sum {
+    ghost use Rattle.awk_nullable.specs.Totals.{IsSum};
+
+    ghost IsOf = { λ s zs. IsSum s.sum zs };
+
+    #[inline(always)]
+    fn with(self, z: i128) -> Sum {
+        Sum { sum: self.sum + z }
+    }
+}
+
+/// The product of numbers.
+#[derive(Clone, Copy)]
+pub(crate) enum Product {
+    /// One of them is 0.
+    Zero,
+    /// None is 0, and it is as far from 0 as 2 to the power of 64.
+    Far,
+    /// None is 0, and it is nearer.
+    Near(i128),
+}
+
+/// A product, if it is nearer to 0 than 2 to the power of 64.
+#[inline(always)]
+fn near(so_far: i128, factor: i128) -> Option<i128>
+    ensures near { IsNear (so_far *ℤ factor) result }
+    ensures small { (z : ℤ) → result ≡ Some z → unsigned_abs z < 18446744073709551616 }
+{
+    let next = so_far.checked_mul(factor)?;
+    if next.unsigned_abs() >= 0x1_0000_0000_0000_0000 {
+        None
+    } else {
+        Some(next)
+    }
+}
+
+impl Total for Product {
+    ghost use Rattle.awk_nullable.specs.Totals.{IsProduct};
+
+    ghost IsOf = { IsProduct };
+
+    #[inline(always)]
+    fn with(self, z: i128) -> Product {
+        if z == 0 {
+            return Product::Zero;
+        }
+        match self {
+            Product::Zero => Product::Zero,
+            Product::Far => Product::Far,
+            Product::Near(so_far) => match near(so_far, z) {
+                Some(next) => Product::Near(next),
+                None => Product::Far,
+            },
+        }
+    }
+}
+
+/// A product as it is, or none where it is far.
+fn near_product(x: Product) -> Option<i128>
+    ensures { (zs : List ℤ) → IsProduct x zs → IsNear (product zs) result }
+{
+    match x {
+        Product::Zero => Some(0),
+        Product::Far => None,
+        Product::Near(z) => Some(z),
+    }
+}
+
+/// How many numbers are not 0.
+#[derive(Clone, Copy)]
+pub(crate) struct Nonzero {
+    count: u64,
+}
+
+/// 1 for a number that is not 0, else 0.
+#[inline(always)]
+fn one_if(z: i128) -> u64
+    ensures one { result ≡ cond (is_nonzero z) 1 0 }
+    ensures small { result ≤ 1 }
+{
+    if z == 0 { 0 } else { 1 }
+}
+
+impl Total for Nonzero {
+    ghost use Rattle.std.specs.Prelude.{◌≡◌};
+    ghost use Rattle.std.specs.List.{count_by, list_any, list_all};
+    ghost use Rattle.awk_lanes.specs.Numbers.{is_nonzero};
+
+    ghost IsOf = { λ x zs. x.count ≡ count_by is_nonzero zs };
+
+    #[inline(always)]
+    fn with(self, z: i128) -> Nonzero {
+        Nonzero {
+            count: self.count + one_if(z),
+        }
+    }
+}
+
+/// The exact sum or product of so many items from a first one on, or none where no number of 64
+/// bits is so far from 0.
+pub fn fold_of<P: Places, C: Cells, L: Ledger>(
+    how: Fold,
+    x: &Leaves<'_, P, C>,
+    first: u64,
+    count: u64,
+    steps: &mut Steps<L>,
+) -> Option<i128>
+    requires items { AreItems (P.at x.now.places.now) (P.size x.now.places.now)
+        (C.lane x.now.cells.now) first count }
+    ensures { IsNear (folded how (numbers_from (leaf_number (P.at x.now.places.now)
+        (C.lane x.now.cells.now)) first count)) result }
+{
+    match how {
+        Fold::Sum => Some(total_of(Sum { sum: 0 }, x, first, count, steps).sum),
+        Fold::Product => near_product(total_of(Product::Near(1), x, first, count, steps)),
+    }
+}
+
+/// How many items are not 0 and not null.
+fn nonzero_of<P: Places, C: Cells, L: Ledger>(
+    x: &Leaves<'_, P, C>,
+    first: u64,
+    count: u64,
+    steps: &mut Steps<L>,
+) -> u64
+    requires items { AreItems (P.at x.now.places.now) (P.size x.now.places.now)
+        (C.lane x.now.cells.now) first count }
+    ensures nonzero { result ≡ count_by is_nonzero (numbers_from (leaf_number
+        (P.at x.now.places.now) (C.lane x.now.cells.now)) first count) }
+    ensures few { result ≤ count }
+{
+    total_of(Nonzero { count: 0 }, x, first, count, steps).count
+}
+
+/// Whether a number is not 0.
+#[inline(always)]
+fn is_true(z: i128) -> bool
+    ensures { result ≡ is_nonzero z }
+{
+    z != 0
+}
+
+/// Whether an item is not null and not 0.
+#[inline(always)]
+fn is_true_there(number: Option<i128>) -> bool
+    ensures { result ≡ is_true_number number }
+{
+    match number {
+        Some(z) => is_true(z),
+        None => false,
+    }
+}
+
+/// Whether an item is not null, and is 0.
+#[inline(always)]
+fn is_false_there(number: Option<i128>) -> bool
+    ensures { result ≡ is_false_number number }
+{
+    match number {
+        Some(z) => !is_true(z),
+        None => false,
+    }
+}
+
+/// Whether some item is not null and not 0.
+fn is_some_true<P: Places, C: Cells, L: Ledger>(
+    x: &Leaves<'_, P, C>,
+    first: u64,
+    count: u64,
+    steps: &mut Steps<L>,
+) -> bool
+    requires items { AreItems (P.at x.now.places.now) (P.size x.now.places.now)
+        (C.lane x.now.cells.now) first count }
+    ensures { result ≡ list_any is_nonzero (numbers_from (leaf_number (P.at x.now.places.now)
+        (C.lane x.now.cells.now)) first count) }
+{
+    for i in 0..count {
+        if is_true_there(number_of(x, first + i, steps)) {
+            return true;
+        }
+    }
+    false
+}
+
+/// Whether no item that is not null is 0.
+fn are_all_true<P: Places, C: Cells, L: Ledger>(
+    x: &Leaves<'_, P, C>,
+    first: u64,
+    count: u64,
+    steps: &mut Steps<L>,
+) -> bool
+    requires items { AreItems (P.at x.now.places.now) (P.size x.now.places.now)
+        (C.lane x.now.cells.now) first count }
+    ensures { result ≡ list_all is_nonzero (numbers_from (leaf_number (P.at x.now.places.now)
+        (C.lane x.now.cells.now)) first count) }
+{
+    for i in 0..count {
+        if is_false_there(number_of(x, first + i, steps)) {
+            return false;
+        }
+    }
+    true
+}
+
+/// What is told of the items that are not null.
+pub fn tally_of<P: Places, C: Cells, L: Ledger>(
+    how: Tally,
+    x: &Leaves<'_, P, C>,
+    first: u64,
+    count: u64,
+    steps: &mut Steps<L>,
+) -> Num
+    requires items { AreItems (P.at x.now.places.now) (P.size x.now.places.now)
+        (C.lane x.now.cells.now) first count }
+    ensures number { int_of result ≡ tallied how (numbers_from (leaf_number
+        (P.at x.now.places.now) (C.lane x.now.cells.now)) first count) }
+    ensures kind { IsOfKind (tally_kind how) result }
+{
+    match how {
+        Tally::Items => number(count_of(x, first, count, steps)),
+        Tally::Nonzero => number(nonzero_of(x, first, count, steps)),
+        Tally::Any => Num::Truth(is_some_true(x, first, count, steps)),
+        Tally::All => Num::Truth(are_all_true(x, first, count, steps)),
+    }
+}

@@ -1,0 +1,301 @@
+//! Lanes with a number for each list of leaves of which some may be null.
+ghost use Rattle.std.specs.Prelude.{◌≡◌, ◌<◌, IfOk};
+ghost use Rattle.awk_lanes.specs.Made.{lane_of};
+ghost use Rattle.awk_lanes.specs.Places.{size_of, place_at};
+ghost use Rattle.awk_lanes.specs.declared.kind.Kind.TheVariants as Kind;
+ghost use Rattle.awk_columns.specs.Lists.{span_length};
+ghost use Rattle.awk_numbers.specs.Folds.{tally_kind};
+ghost use Rattle.awk_parts.specs.Fits.{AreFitting};
+ghost use Rattle.awk_nullable_lists.specs.Lists.{folded_at, tallied_at, extreme_at, local_at};
+ghost use Rattle.awk_nullable_lists.specs.Lists.{present_at};
+ghost use Rattle.awk_nullable_lists.specs.Lists.{AreNullable};
+ghost use Rattle.awk_nullable.specs.Numbers.{leaf_number, AreItems};
+
+use awk_columns::{Bounds, Span};
+use awk_lanes::{Arena, Kind, Lane, NoMemory, Num, Numbers, Steps, made_lane, number};
+use awk_nullable::{Cells, Leaves, Places, extreme_of, fold_of, is_some_there, place_of, tally_of};
+use awk_numbers::{Extreme, Fold, Tally};
+use awk_parts::{Totals, fitting_lane, kind_of_tally, number_of_place, zero_of};
+use awk_types::Prim;
+use std::sync::ledger::Ledger;
+
+/// Lists of leaves of which some may be null.
+#[derive(Drop)]
+pub struct LeafLists<'c, 'r, 'a, P: Places, C: Cells> {
+    pub bounds: &'c Bounds<'r, 'a>,
+    pub leaves: &'c Leaves<'c, P, C>,
+}
+
+/// Where list i lies.
+#[inline(always)]
+fn span_of<P: Places, C: Cells>(x: &LeafLists<'_, '_, '_, P, C>, i: u64) -> Span
+    requires ready { AreNullable x.now.bounds.now (P.at x.now.leaves.now.places.now)
+        (P.size x.now.leaves.now.places.now) (C.lane x.now.leaves.now.cells.now) }
+    requires within { i < size_of x.now.bounds.now.starts }
+    ensures start { result.start ≡ place_at x.now.bounds.now.starts i }
+    ensures length { result.length ≡ span_length x.now.bounds.now.starts x.now.bounds.now.stops i }
+    ensures items { AreItems (P.at x.now.leaves.now.places.now)
+        (P.size x.now.leaves.now.places.now) (C.lane x.now.leaves.now.cells.now) result.start
+        result.length }
+{
+    x.bounds.span_of(i)
+}
+
+/// What is told of each list.
+#[derive(Drop)]
+struct ListTallies<'x, 'c, 'r, 'a, P: Places, C: Cells> {
+    how: Tally,
+    lists: &'x LeafLists<'c, 'r, 'a, P, C>,
+}
+
+impl<'x, 'c, 'r, 'a, P: Places, C: Cells> Numbers for ListTallies<'x, 'c, 'r, 'a, P, C> {
+    ghost use Rattle.awk_numbers.specs.Folds.{tally_kind};
+    ghost use Rattle.awk_lanes.specs.Places.{size_of};
+    ghost use Rattle.awk_nullable_lists.specs.Lists.{tallied_at, AreNullable};
+    ghost use Rattle.awk_nullable.specs.Numbers.{leaf_number};
+
+    ghost kind = { λ f. tally_kind f.how };
+
+    ghost at = { λ f. tallied_at f.how f.lists.now.bounds.now
+        (leaf_number (P.at f.lists.now.leaves.now.places.now)
+        (C.lane f.lists.now.leaves.now.cells.now)) };
+
+    ghost size = { λ f. size_of f.lists.now.bounds.now.starts };
+
+    ghost IsReady = { λ f. AreNullable f.lists.now.bounds.now
+        (P.at f.lists.now.leaves.now.places.now) (P.size f.lists.now.leaves.now.places.now)
+        (C.lane f.lists.now.leaves.now.cells.now) };
+
+    fn number<L: Ledger>(&self, i: u64, steps: &mut Steps<L>) -> Num {
+        let span = span_of(self.lists, i);
+        let leaves = self.lists.leaves;
+        tally_of(self.how, leaves, span.start, span.length, steps)
+    }
+}
+
+/// What is told of each list, as a lane.
+pub fn tally_lists<'b, P: Places, C: Cells, L: Ledger>(
+    how: Tally,
+    lists: &LeafLists<'_, '_, '_, P, C>,
+    arena: &'b Arena,
+    steps: &mut Steps<L>,
+) -> Result<Lane<'b>, NoMemory>
+    requires ready { AreNullable lists.now.bounds.now (P.at lists.now.leaves.now.places.now)
+        (P.size lists.now.leaves.now.places.now) (C.lane lists.now.leaves.now.cells.now) }
+    ensures { IfOk result (λ r. r ≡ lane_of (tally_kind how) (size_of lists.now.bounds.now.starts)
+        (tallied_at how lists.now.bounds.now (leaf_number (P.at lists.now.leaves.now.places.now)
+        (C.lane lists.now.leaves.now.cells.now)))) }
+{
+    let source = ListTallies { how, lists };
+    made_lane(
+        kind_of_tally(how),
+        lists.bounds.len(),
+        &source,
+        arena,
+        steps,
+    )
+}
+
+/// The extreme of each list, and 0 where all its items are null.
+#[derive(Drop)]
+struct ListExtremes<'x, 'c, 'r, 'a, 'l, P: Places, C: Cells> {
+    how: Extreme,
+    lane: &'x Lane<'l>,
+    lists: &'x LeafLists<'c, 'r, 'a, P, C>,
+}
+
+impl<'x, 'c, 'r, 'a, 'l, P: Places, C: Cells> Numbers for ListExtremes<'x, 'c, 'r, 'a, 'l, P, C> {
+    ghost use Rattle.std.specs.Prelude.{◌≡◌};
+    ghost use Rattle.awk_lanes.specs.Places.{size_of};
+    ghost use Rattle.awk_nullable_lists.specs.Lists.{extreme_at, AreNullable};
+    ghost use Rattle.awk_nullable.specs.Numbers.{leaf_number};
+
+    ghost kind = { λ f. f.lane.now.kind };
+
+    ghost at = { λ f. extreme_at f.how f.lists.now.bounds.now
+        (leaf_number (P.at f.lists.now.leaves.now.places.now)
+        (C.lane f.lists.now.leaves.now.cells.now)) };
+
+    ghost size = { λ f. size_of f.lists.now.bounds.now.starts };
+
+    ghost IsReady = { λ f. (f.lane.now ≡ C.lane f.lists.now.leaves.now.cells.now)
+        × AreNullable f.lists.now.bounds.now (P.at f.lists.now.leaves.now.places.now)
+        (P.size f.lists.now.leaves.now.places.now) (C.lane f.lists.now.leaves.now.cells.now) };
+
+    fn number<L: Ledger>(&self, i: u64, steps: &mut Steps<L>) -> Num {
+        let span = span_of(self.lists, i);
+        let leaves = self.lists.leaves;
+        match extreme_of(self.how, leaves, span.start, span.length, steps) {
+            Some(place) => self.lane.at(place, steps),
+            None => zero_of(self.lane.kind()),
+        }
+    }
+}
+
+/// The least or the greatest item of each list, and 0 where all its items are null.
+pub fn extreme_lists<'b, P: Places, C: Cells, L: Ledger>(
+    how: Extreme,
+    lane: &Lane,
+    lists: &LeafLists<'_, '_, '_, P, C>,
+    arena: &'b Arena,
+    steps: &mut Steps<L>,
+) -> Result<Lane<'b>, NoMemory>
+    requires lane { lane.now ≡ C.lane lists.now.leaves.now.cells.now }
+    requires ready { AreNullable lists.now.bounds.now (P.at lists.now.leaves.now.places.now)
+        (P.size lists.now.leaves.now.places.now) (C.lane lists.now.leaves.now.cells.now) }
+    ensures { IfOk result (λ r. r ≡ lane_of lane.now.kind (size_of lists.now.bounds.now.starts)
+        (extreme_at how lists.now.bounds.now (leaf_number (P.at lists.now.leaves.now.places.now)
+        (C.lane lists.now.leaves.now.cells.now)))) }
+{
+    let source = ListExtremes { how, lane, lists };
+    made_lane(lane.kind(), lists.bounds.len(), &source, arena, steps)
+}
+
+/// Where in each list its extreme stands, and 0 where all its items are null.
+#[derive(Drop)]
+struct ListPlaces<'x, 'c, 'r, 'a, P: Places, C: Cells> {
+    how: Extreme,
+    lists: &'x LeafLists<'c, 'r, 'a, P, C>,
+}
+
+impl<'x, 'c, 'r, 'a, P: Places, C: Cells> Numbers for ListPlaces<'x, 'c, 'r, 'a, P, C> {
+    ghost use Rattle.awk_lanes.specs.declared.kind.Kind.TheVariants as Kind;
+    ghost use Rattle.awk_lanes.specs.Places.{size_of};
+    ghost use Rattle.awk_nullable_lists.specs.Lists.{local_at, AreNullable};
+    ghost use Rattle.awk_nullable.specs.Numbers.{leaf_number};
+
+    ghost kind = { λ _. Kind.I64 };
+
+    ghost at = { λ f. local_at f.how f.lists.now.bounds.now
+        (leaf_number (P.at f.lists.now.leaves.now.places.now)
+        (C.lane f.lists.now.leaves.now.cells.now)) };
+
+    ghost size = { λ f. size_of f.lists.now.bounds.now.starts };
+
+    ghost IsReady = { λ f. AreNullable f.lists.now.bounds.now
+        (P.at f.lists.now.leaves.now.places.now) (P.size f.lists.now.leaves.now.places.now)
+        (C.lane f.lists.now.leaves.now.cells.now) };
+
+    fn number<L: Ledger>(&self, i: u64, steps: &mut Steps<L>) -> Num {
+        let span = span_of(self.lists, i);
+        let leaves = self.lists.leaves;
+        number_of_place(place_of(self.how, leaves, span.start, span.length, steps))
+    }
+}
+
+/// Where in each list its least or greatest item stands first, nulls counted, and 0 where all its
+/// items are null.
+pub fn place_lists<'b, P: Places, C: Cells, L: Ledger>(
+    how: Extreme,
+    lists: &LeafLists<'_, '_, '_, P, C>,
+    arena: &'b Arena,
+    steps: &mut Steps<L>,
+) -> Result<Lane<'b>, NoMemory>
+    requires ready { AreNullable lists.now.bounds.now (P.at lists.now.leaves.now.places.now)
+        (P.size lists.now.leaves.now.places.now) (C.lane lists.now.leaves.now.cells.now) }
+    ensures { IfOk result (λ r. r ≡ lane_of Kind.I64 (size_of lists.now.bounds.now.starts)
+        (local_at how lists.now.bounds.now (leaf_number (P.at lists.now.leaves.now.places.now)
+        (C.lane lists.now.leaves.now.cells.now)))) }
+{
+    let source = ListPlaces { how, lists };
+    made_lane(Kind::I64, lists.bounds.len(), &source, arena, steps)
+}
+
+/// The index of the lists that have an item that is not null.
+#[derive(Drop)]
+struct ListsPresent<'x, 'c, 'r, 'a, P: Places, C: Cells> {
+    lists: &'x LeafLists<'c, 'r, 'a, P, C>,
+}
+
+impl<'x, 'c, 'r, 'a, P: Places, C: Cells> Numbers for ListsPresent<'x, 'c, 'r, 'a, P, C> {
+    ghost use Rattle.awk_lanes.specs.declared.kind.Kind.TheVariants as Kind;
+    ghost use Rattle.awk_lanes.specs.Places.{size_of};
+    ghost use Rattle.awk_nullable_lists.specs.Lists.{present_at, AreNullable};
+    ghost use Rattle.awk_nullable.specs.Numbers.{leaf_number};
+
+    ghost kind = { λ _. Kind.I64 };
+
+    ghost at = { λ f. present_at f.lists.now.bounds.now
+        (leaf_number (P.at f.lists.now.leaves.now.places.now)
+        (C.lane f.lists.now.leaves.now.cells.now)) };
+
+    ghost size = { λ f. size_of f.lists.now.bounds.now.starts };
+
+    ghost IsReady = { λ f. AreNullable f.lists.now.bounds.now
+        (P.at f.lists.now.leaves.now.places.now) (P.size f.lists.now.leaves.now.places.now)
+        (C.lane f.lists.now.leaves.now.cells.now) };
+
+    fn number<L: Ledger>(&self, i: u64, steps: &mut Steps<L>) -> Num {
+        let _ = self.lists.bounds.len();
+        let span = span_of(self.lists, i);
+        let leaves = self.lists.leaves;
+        if is_some_there(leaves, span.start, span.length, steps) {
+            number(i)
+        } else {
+            Num::Int(-1)
+        }
+    }
+}
+
+/// The index of the lists that have an item that is not null: i for such a list, else -1.
+pub fn present_lists<'b, P: Places, C: Cells, L: Ledger>(
+    lists: &LeafLists<'_, '_, '_, P, C>,
+    arena: &'b Arena,
+    steps: &mut Steps<L>,
+) -> Result<Lane<'b>, NoMemory>
+    requires ready { AreNullable lists.now.bounds.now (P.at lists.now.leaves.now.places.now)
+        (P.size lists.now.leaves.now.places.now) (C.lane lists.now.leaves.now.cells.now) }
+    ensures { IfOk result (λ r. r ≡ lane_of Kind.I64 (size_of lists.now.bounds.now.starts)
+        (present_at lists.now.bounds.now (leaf_number (P.at lists.now.leaves.now.places.now)
+        (C.lane lists.now.leaves.now.cells.now)))) }
+{
+    let source = ListsPresent { lists };
+    made_lane(Kind::I64, lists.bounds.len(), &source, arena, steps)
+}
+
+/// The sum or product of each list.
+#[derive(Drop)]
+struct ListTotals<'x, 'c, 'r, 'a, P: Places, C: Cells> {
+    how: Fold,
+    lists: &'x LeafLists<'c, 'r, 'a, P, C>,
+}
+
+impl<'x, 'c, 'r, 'a, P: Places, C: Cells> Totals for ListTotals<'x, 'c, 'r, 'a, P, C> {
+    ghost use Rattle.awk_lanes.specs.Places.{size_of};
+    ghost use Rattle.awk_nullable_lists.specs.Lists.{folded_at, AreNullable};
+    ghost use Rattle.awk_nullable.specs.Numbers.{leaf_number};
+
+    ghost at = { λ f. folded_at f.how f.lists.now.bounds.now
+        (leaf_number (P.at f.lists.now.leaves.now.places.now)
+        (C.lane f.lists.now.leaves.now.cells.now)) };
+
+    ghost size = { λ f. size_of f.lists.now.bounds.now.starts };
+
+    ghost IsReady = { λ f. AreNullable f.lists.now.bounds.now
+        (P.at f.lists.now.leaves.now.places.now) (P.size f.lists.now.leaves.now.places.now)
+        (C.lane f.lists.now.leaves.now.cells.now) };
+
+    fn total<L: Ledger>(&self, i: u64, steps: &mut Steps<L>) -> Option<i128> {
+        let span = span_of(self.lists, i);
+        fold_of(self.how, self.lists.leaves, span.start, span.length, steps)
+    }
+}
+
+/// The sums or products of lists as numbers of a primitive, or none where one does not fit.
+pub fn fold_lists<'b, P: Places, C: Cells, L: Ledger>(
+    how: Fold,
+    prim: Prim,
+    lists: &LeafLists<'_, '_, '_, P, C>,
+    arena: &'b Arena,
+    steps: &mut Steps<L>,
+) -> Result<Option<Lane<'b>>, NoMemory>
+    requires ready { AreNullable lists.now.bounds.now (P.at lists.now.leaves.now.places.now)
+        (P.size lists.now.leaves.now.places.now) (C.lane lists.now.leaves.now.cells.now) }
+    ensures { IfOk result (AreFitting prim (folded_at how lists.now.bounds.now
+        (leaf_number (P.at lists.now.leaves.now.places.now)
+        (C.lane lists.now.leaves.now.cells.now)))
+        (size_of lists.now.bounds.now.starts)) }
+{
+    let source = ListTotals { how, lists };
+    fitting_lane(prim, lists.bounds.len(), &source, arena, steps)
+}
