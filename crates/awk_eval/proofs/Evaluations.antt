@@ -40,7 +40,7 @@ each_or f true a later = refl
 each_or f false a later = refl
 
 -- another view of what a name is bound to
-look_up-each : {A B : Type 0} (f : A → B) (n : Name) (variables : Bindings A)
+pub look_up-each : {A B : Type 0} (f : A → B) (n : Name) (variables : Bindings A)
     → look_up n (each f variables) ≡ option_map f (look_up n variables)
 look_up-each f n [] = refl
 look_up-each f n (v ∷ vs) = ap (cond (bytes_eq n v.0) (Some (f v.1))) (look_up-each f n vs)

@@ -4,3 +4,4 @@ pub mod Entries
 pub mod Ranges
 pub mod Eval
 pub mod Views
+pub mod Heights

@@ -9,6 +9,7 @@ ghost use Rattle.awk_expr.specs.Allowed.{IsAllowed, AreAllowed};
 ghost use Rattle.awk_expr.specs.ExprTree.{exprs_from};
 ghost use Rattle.awk_expr.specs.View.{expr_of, exprs_of};
 ghost use Rattle.awk_eval.specs.Bindings.{look_up};
+ghost use Rattle.awk_eval.specs.Heights.{IsNoHigher};
 ghost use Rattle.awk_eval.specs.Variables.{denoted};
 ghost use Rattle.awk_arguments.specs.Operand as operand;
 ghost use Rattle.awk_arguments.specs.Operand.{AreTaken, IsTakenAs};
@@ -20,6 +21,7 @@ ghost use Rattle.awk_eval.specs.Eval as meaning;
 
 use crate::application::apply;
 use crate::env::Env;
+use crate::heights::limited;
 use crate::shared::shared_datum;
 use crate::single::{bool_of, int64_of};
 use awk_expr::{Expr, Exprs, Op};
@@ -32,7 +34,8 @@ use std::sync::ledger::Ledger;
 
 /// The datum of an expression, or its first fault. Arguments are evaluated from left to right.
 ///
-/// What is made lies in the arena, whose life may be shorter than that of the variables.
+/// What is made lies in the arena, whose life may be shorter than that of the variables. It is no
+/// higher than the highest of them, or than twice the depth of its type.
 #[cycle(eval)]
 pub fn eval<'s, 'a: 's, N: Kernels, L: Ledger>(
     alloc: Global,
@@ -47,6 +50,7 @@ pub fn eval<'s, 'a: 's, N: Kernels, L: Ledger>(
         (meaning.eval (denoted env.now) (expr_of e.now)) }
     ensures datum { IfOk result (λ made. IsDatum made) }
     ensures cost { TakesView env.now (view_of (expr_of e.now)) steps.old steps.new result }
+    ensures height { IfOk result (IsNoHigher env.now) }
 {
     match e {
         Expr::Var(name) => variable(alloc, env, name.as_str(), steps),
@@ -54,7 +58,8 @@ pub fn eval<'s, 'a: 's, N: Kernels, L: Ledger>(
         Expr::Truth(b) => Ok(bool_of(*b, arena, steps)?),
         Expr::Call { op, args, fixed } => {
             let operands = operands(alloc, env, *op, args, kernels, arena, steps)?;
-            apply(alloc, *op, fixed, &operands, kernels, arena, steps)
+            let made = apply(alloc, *op, fixed, &operands, kernels, arena, steps)?;
+            Ok(limited(alloc, env, e, made, arena, steps)?)
         }
     }
 }
@@ -156,6 +161,7 @@ fn variable<'s, 'a: 's, L: Ledger>(
     ensures datum { IfOk result (λ made. IsDatum made) }
     ensures cost { IsArray (look_up name.now env.now)
         → Takes (size_at (sizes_of env.now) name.now) 1 steps.old steps.new result }
+    ensures height { IfOk result (IsNoHigher env.now) }
 {
     match env.get(name) {
         Some(x) => Ok(shared_datum(alloc, x, steps)?),

@@ -8,6 +8,7 @@
 mod application;
 mod env;
 mod evaluation;
+mod heights;
 mod histograms;
 mod leaves;
 mod lists;

@@ -3,7 +3,8 @@ ghost use Rattle.std.specs.Prelude.{◌≡◌, [], ◌∷◌, IfOk};
 ghost use Rattle.awk_types.specs.Gives.{Gives};
 ghost use Rattle.awk_types.specs.Faults.{fault_told};
 ghost use Rattle.awk_lanes.specs.Numbers.{int_of, IsOf};
-ghost use Rattle.awk_layout.specs.Datum.{IsDatum, datum_of};
+ghost use Rattle.awk_heights.specs.Low.{IsLow};
+ghost use Rattle.awk_layout.specs.Datum.{IsDatum, datum_of, kept};
 ghost use Rattle.awk_layout.specs.Layout.{flat};
 ghost use Rattle.awk_eval.specs.Eval as meaning;
 
@@ -20,6 +21,7 @@ pub(crate) fn int64_of<'s, L: Ledger>(
 ) -> Result<Datum<'s>, Fault>
     ensures answer { Gives datum_of fault_told result (meaning.int64_of z) }
     ensures datum { IfOk result (λ made. IsDatum made) }
+    ensures low { IfOk result (λ made. IsLow (kept made)) }
 {
     if z < i128::from(i64::MIN) || z > i128::from(i64::MAX) {
         return Err(Fault::Overflow);
@@ -35,6 +37,7 @@ pub(crate) fn bool_of<'s, L: Ledger>(
 ) -> Result<Datum<'s>, NoMemory>
     ensures value { IfOk result (λ made. datum_of made ≡ meaning.bool_of b) }
     ensures datum { IfOk result (λ made. IsDatum made) }
+    ensures low { IfOk result (λ made. IsLow (kept made)) }
 {
     Ok(Datum::One(only(Kind::Bool, Num::Truth(b), arena, steps)?))
 }

@@ -1,5 +1,5 @@
-use Rattle.std.proofs.Common.{◌≡◌, ◌+◌, ◌∷◌, [], length, length-append, Err, ap, sym, ◌∙◌, subst}
-use Rattle.std.proofs.Common.{arith, rules}
+use Rattle.std.proofs.Common.{◌≡◌, ◌+◌, ◌∷◌, [], length, length-append, Ok, Err, ap, sym, ◌∙◌}
+use Rattle.std.proofs.Common.{subst, arith, rules}
 use Rattle.awk_types.specs.Faults.{fault_told}
 use Rattle.awk_types.proofs.RefusalLaws.{Gives-Err}
 use Rattle.awk_expr.specs.Allowed.{HasArguments}
@@ -12,7 +12,8 @@ use Rattle.awk_arguments.specs.Operand.{takes_literal, AreTaken}
 use Rattle.awk_arguments.specs.OperandView.{shown_operands}
 use Rattle.awk_layout.specs.Filler.{filler_of}
 use Rattle.std.proofs.lemmas.List.{length-map}
-use Rattle.awk_eval.specs.Views.{view_of, only_view, size_in, AreWithin, IsOperandWithin}
+use Rattle.awk_eval.specs.Views.{view_of, only_view, size_in, AreWithin, IsOperandWithin, IsWithin}
+use Rattle.awk_eval.proofs.HeightLaws.{call_no_higher, TakesView-limited, TakesView-unlimited}
 use Rattle.awk_eval.proofs.ViewSteps.{OfView-all, Taken-get, within-get, TakesView-steps}
 use Rattle.awk_eval.proofs.ViewSteps.{TakesView-within, TakesView-fault, TakesView-call, IfOk-IsErr}
 use Rattle.awk_eval.proofs.evaluation.+eval.Goals as goal
@@ -130,10 +131,52 @@ eval-returns-in_err-operands-in-Call-clause-cost g t c =
     c.from_residual-in_err-operands-in-Call.result
     c.from_residual-in_err-operands-in-Call.ensures.0 c.operands.ensures.cost
 
-pub eval-returns-in_ok-operands-in-Call-clause-cost :
-    goal.eval-returns-in_ok-operands-in-Call-clause-cost
-eval-returns-in_ok-operands-in-Call-clause-cost g t c =
+pub eval-returns-in_err-made-in-Call-clause-cost :
+    goal.eval-returns-in_err-made-in-Call-clause-cost
+eval-returns-in_err-made-in-Call-clause-cost g t c =
     TakesView-call c.args.env.now c.args.e.now c.in-Call.op c.in-Call.args c.in-Call.fixed
     c.in-Call.is c.in_ok-operands-in-Call.operands c.args.steps.now c.operands.new.steps
-    c.apply.new.steps c.apply.result c.operands.ensures.cost
-    c.in_ok-operands-in-Call.ensures.within c.apply.ensures.cost
+    c.apply.new.steps c.from_residual-in_err-made-in-Call.result c.operands.ensures.cost
+    c.in_ok-operands-in-Call.ensures.within
+    (λ s views within. record {
+      steps = (c.in_err-made-in-Call.ensures.cost s views within).steps;
+      within = IfOk-IsErr (IsWithin s) c.from_residual-in_err-made-in-Call.result
+          c.from_residual-in_err-made-in-Call.ensures.0;
+    })
+
+pub eval-returns-in_err-limited-in-Call-clause-cost :
+    goal.eval-returns-in_err-limited-in-Call-clause-cost
+eval-returns-in_err-limited-in-Call-clause-cost g t c =
+    TakesView-unlimited c.args.env.now c.in_ok-made-in-Call.made (view_of (expr_of c.args.e.now))
+    c.args.steps.now c.apply.new.steps c.limited.new.steps
+    c.from_residual-in_err-limited-in-Call.result
+    c.from_residual-in_err-limited-in-Call.ensures.0
+    (TakesView-call c.args.env.now c.args.e.now c.in-Call.op c.in-Call.args c.in-Call.fixed
+    c.in-Call.is c.in_ok-operands-in-Call.operands c.args.steps.now c.operands.new.steps
+    c.apply.new.steps (Ok c.in_ok-made-in-Call.made) c.operands.ensures.cost
+    c.in_ok-operands-in-Call.ensures.within c.in_ok-made-in-Call.ensures.cost)
+    (λ view. (c.in_err-limited-in-Call.ensures.view view).0)
+
+pub eval-returns-in_ok-limited-in-Call-clause-cost :
+    goal.eval-returns-in_ok-limited-in-Call-clause-cost
+eval-returns-in_ok-limited-in-Call-clause-cost g t c =
+    TakesView-limited c.args.env.now c.in_ok-made-in-Call.made (view_of (expr_of c.args.e.now))
+    c.args.steps.now c.apply.new.steps c.limited.new.steps
+    (Ok c.in_ok-limited-in-Call.field-0)
+    (TakesView-call c.args.env.now c.args.e.now c.in-Call.op c.in-Call.args c.in-Call.fixed
+    c.in-Call.is c.in_ok-operands-in-Call.operands c.args.steps.now c.operands.new.steps
+    c.apply.new.steps (Ok c.in_ok-made-in-Call.made) c.operands.ensures.cost
+    c.in_ok-operands-in-Call.ensures.within c.in_ok-made-in-Call.ensures.cost)
+    c.in_ok-limited-in-Call.ensures.view
+
+pub eval-returns-in_ok-limited-in-Call-clause-height :
+    goal.eval-returns-in_ok-limited-in-Call-clause-height
+eval-returns-in_ok-limited-in-Call-clause-height g t c =
+    call_no_higher c.args.env.now c.in_ok-made-in-Call.made (view_of (expr_of c.args.e.now))
+    c.args.steps.now c.apply.new.steps c.in_ok-limited-in-Call.field-0
+    (TakesView-call c.args.env.now c.args.e.now c.in-Call.op c.in-Call.args c.in-Call.fixed
+    c.in-Call.is c.in_ok-operands-in-Call.operands c.args.steps.now c.operands.new.steps
+    c.apply.new.steps (Ok c.in_ok-made-in-Call.made) c.operands.ensures.cost
+    c.in_ok-operands-in-Call.ensures.within c.in_ok-made-in-Call.ensures.cost)
+    (λ view. (c.in_ok-limited-in-Call.ensures.view view).1)
+    c.in_ok-limited-in-Call.ensures.low

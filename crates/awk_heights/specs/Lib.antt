@@ -1,0 +1,3 @@
+pub mod Low
+pub mod Levels
+pub mod Contents
