@@ -16,8 +16,8 @@ use crate::ends::{Ends, Present};
 use crate::in_order::{firsts_of, rows_in_order};
 use crate::paired::PairLists;
 use crate::row_lists::{RowLists, row_lists};
-use awk_columns::Lists;
-use awk_lanes::{Arena, Kind, Lane, Offsets, Steps, items_of, made_lane, offsets_within};
+use awk_columns::{Lists, places_of};
+use awk_lanes::{Arena, Kind, Lane, Offsets, Steps, made_lane, offsets_within};
 use awk_types::{ITEM_LIMIT, NoMemory};
 use std::alloc::Global;
 use std::sync::ledger::Ledger;
@@ -132,7 +132,7 @@ fn rows_by<'a, L: Ledger>(
         w,
         second: false,
     };
-    let of_x = items_of(Kind::I64, n, offsets.total, &first, arena, steps)?;
+    let of_x = places_of(n, offsets.total, &first, arena, steps)?;
     let second = PairLists {
         xs,
         ws,
@@ -140,7 +140,7 @@ fn rows_by<'a, L: Ledger>(
         w,
         second: true,
     };
-    let of_w = items_of(Kind::I64, n, offsets.total, &second, arena, steps)?;
+    let of_w = places_of(n, offsets.total, &second, arena, steps)?;
     let index = index_of(&of_w, x, w, arena, steps)?;
     let xs = lists_in(alloc, &of_x, x, arena, steps)?;
     let ws = lists_in(alloc, &of_w, w, arena, steps)?;

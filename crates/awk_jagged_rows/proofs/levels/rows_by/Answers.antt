@@ -7,14 +7,14 @@ use Rattle.awk_jagged_rows.specs.Rows.{length_by, pair_at, IsSmallIndex, AreIn, 
 use Rattle.awk_jagged_rows.proofs.LevelLaws.{ready, pair-small, first_in, second_in}
 use Rattle.awk_jagged_rows.proofs.levels.rows_by.Goals as goal
 
-pub items_of-requires-clause-ready : goal.items_of-requires-clause-ready
-items_of-requires-clause-ready g c =
+pub places_of-requires-clause-ready : goal.places_of-requires-clause-ready
+places_of-requires-clause-ready g c =
     ready c.args.xs.now c.args.ws.now c.args.x.now c.args.w.now c.requires.pairs c.requires.alike
     c.content.ensures.lists.spans c.content-2.ensures.lists.spans c.requires.first
     c.requires.second
 
-pub items_of-requires-2-clause-ready : goal.items_of-requires-2-clause-ready
-items_of-requires-2-clause-ready g c =
+pub places_of-requires-2-clause-ready : goal.places_of-requires-2-clause-ready
+places_of-requires-2-clause-ready g c =
     ready c.args.xs.now c.args.ws.now c.args.x.now c.args.w.now c.requires.pairs c.requires.alike
     c.content.ensures.lists.spans c.content-2.ensures.lists.spans c.requires.first
     c.requires.second
