@@ -29,7 +29,8 @@ use Rattle.awk_columns.specs.Lists.{Listed}
 use Rattle.awk_select.specs.Cells.{place_number}
 use Rattle.awk_select.specs.Picks.{is_mask}
 use Rattle.awk_select.proofs.PickedPlaces.{IsThere}
-use Rattle.awk_jagged_places.specs.Leaves.{mask_numbers, numbers_beside, AreTested, take_in}
+use Rattle.awk_jagged_places.specs.Beside.{places_beside}
+use Rattle.awk_jagged_places.specs.Leaves.{mask_numbers, AreTested, take_in}
 use Rattle.awk_jagged_places.specs.Leaves.{take_at, take_numbers, number_or, number_taken}
 use Rattle.awk_jagged_places.specs.Leaves.{numbers_taken}
 use Rattle.awk_jagged_places.proofs.FlatLists.{length-each, each_same, offsets_same}
@@ -81,30 +82,23 @@ module _ (xs ws : Listed) (numbers : ℕ → List ℤ) (b : ByNumbers xs ws numb
       → IsOutcomeOf xs ws outcome.TooMany
   any-many h = leaf-outcome xs ws numbers b None outcome.TooMany h tt
 
-  module _ (c o r : Column) (e : xs.content ≡ flat c) (k : c.kind ≡ I64)
+  abbrev lane : Column
+  lane = record { kind = I64; items = each_of numbers (size_of ws.starts) }
+
+  module _ (c o r : Column) (e : xs.content ≡ flat c)
       (few : before (λ i. length (numbers i)) (size_of ws.starts) ≤ item_limit)
-      (made : r ≡ record {
-        kind = I64;
-        items = map (λ z. at c (nat_of z)) (each_of numbers (size_of ws.starts));
-      }) where
-    abbrev lane : Column
-    lane = record { kind = I64; items = each_of numbers (size_of ws.starts) }
-
-    picks : r ≡ picked c lane
-    picks = lane-picked c (each_of numbers (size_of ws.starts)) r k made
-
+      (picks : r ≡ picked c lane) where
     any-few : size_of r < 2 ^ 63
     any-few =
         let s : size_of r ≡ before (λ i. length (numbers i)) (size_of ws.starts) =
         ap size_of picks ∙ size-picked c lane ∙ length-each numbers (size_of ws.starts) in
         omega (arith, s, few)
 
-    any-outcome : is_option (array_type ws.content) ≡ false → IsIndex lane (len xs.content)
+    any-outcome : is_option (array_type ws.content) ≡ false → IsIndex lane (size_of c)
         → o ≡ offsets_by (λ i. length (numbers i)) (size_of ws.starts)
         → IsOutcomeOf xs ws (outcome.Lists o (flat r))
-    any-outcome present within offsets =
+    any-outcome present index offsets =
         let p : Places = record { offsets = o; lane = lane } in
-        let index : IsIndex lane (len (flat c)) = subst (λ y. IsIndex lane (len y)) e within in
         let g : IsGathered (flat c) lane (flat r) =
         subst (λ d. IsGathered (flat c) lane (flat d)) (sym picks)
         (gathered (flat c) (flat (picked c lane)) lane refl index (flat_picked c lane)) in
@@ -123,41 +117,36 @@ module _ (xs ws : Listed) (pairs : size_of xs.starts ≡ size_of ws.starts) (ali
     (sx : AreSpans xs.starts xs.stops (len xs.content))
     (l : is_leaf (present (array_type ws.content)) ≡ true)
     (m : is_mask (array_type ws.content) ≡ true) where
-  abbrev n : ℕ
-  n = size_of ws.starts
-
   masked : ByNumbers xs ws (mask_numbers xs ws)
   masked = by-masks xs ws pairs alike sx l m
 
-  pub numbers-many : item_limit < before (λ i. length (mask_numbers xs ws i)) n
+  pub numbers-many : item_limit < before (λ i. length (mask_numbers xs ws i)) (size_of ws.starts)
       → IsOutcomeOf xs ws outcome.TooMany
   numbers-many h = any-many xs ws (mask_numbers xs ws) masked h
 
-  module _ (c o r : Column) (e : xs.content ≡ flat c) (k : c.kind ≡ I64)
-      (few : before (λ i. length (mask_numbers xs ws i)) n ≤ item_limit)
-      (made : r ≡ record { kind = I64; items = each_of (numbers_beside xs ws c) n }) where
-    moved : r ≡ record {
-      kind = I64;
-      items = map (λ z. at c (nat_of z)) (each_of (mask_numbers xs ws) n);
-    }
-    moved =
-        made ∙ ap (λ us. record { kind = I64; items = us })
-        (sym (map_each (λ z. at c (nat_of z)) (mask_numbers xs ws) n))
+  -- each is a place of the content
+  pub numbers-index : (c : Column) → xs.content ≡ flat c
+      → AreSpans ws.starts ws.stops (len ws.content) → is_option (array_type ws.content) ≡ false
+      → AllByRecursion (Has (array_type ws.content)) (array_items ws.content)
+      → IsIndex (places_beside xs ws (size_of ws.starts)) (size_of c)
+  numbers-index c e sw b has =
+      let p : Column = places_beside xs ws (size_of ws.starts) in
+      let within : AreWithin (is_option (array_type ws.content)) (len xs.content) p =
+      mask-within xs ws p pairs alike sx sw l m has refl in
+      subst (λ y. IsIndex p (len y)) e (within.present b)
 
+  module _ (c o r : Column) (e : xs.content ≡ flat c)
+      (few : before (λ i. length (mask_numbers xs ws i)) (size_of ws.starts) ≤ item_limit)
+      (moved : r ≡ picked c (places_beside xs ws (size_of ws.starts))) where
     pub numbers-few : size_of r < 2 ^ 63
-    numbers-few = any-few xs ws (mask_numbers xs ws) masked c o r e k few moved
+    numbers-few = any-few xs ws (mask_numbers xs ws) masked c o r e few moved
 
-    pub numbers-outcome : AreSpans ws.starts ws.stops (len ws.content)
+    pub numbers-outcome : IsIndex (places_beside xs ws (size_of ws.starts)) (size_of c)
         → is_option (array_type ws.content) ≡ false
-        → AllByRecursion (Has (array_type ws.content)) (array_items ws.content)
-        → o ≡ offsets_by (λ i. length (mask_numbers xs ws i)) n
+        → o ≡ offsets_by (λ i. length (mask_numbers xs ws i)) (size_of ws.starts)
         → IsOutcomeOf xs ws (outcome.Lists o (flat r))
-    numbers-outcome sw b has offsets =
-        let p : Column = record { kind = I64; items = each_of (mask_numbers xs ws) n } in
-        let within : AreWithin (is_option (array_type ws.content)) (len xs.content) p =
-        mask-within xs ws p pairs alike sx sw l m has refl in
-        any-outcome xs ws (mask_numbers xs ws) masked c o r e k few moved b (within.present b)
-        offsets
+    numbers-outcome index b offsets =
+        any-outcome xs ws (mask_numbers xs ws) masked c o r e few moved b index offsets
 
 -- ---- numbers that an index takes
 
@@ -206,11 +195,17 @@ module _ (xs ws : Listed) (pairs : size_of xs.starts ≡ size_of ws.starts)
         (size_of ws.starts) list
         ∙ sym (map_each (λ z. at c (nat_of z)) (take_numbers xs ws) (size_of ws.starts)))
 
+    moved : r ≡ picked c (record {
+      kind = I64;
+      items = each_of (take_numbers xs ws) (size_of ws.starts);
+    })
+    moved = lane-picked c (each_of (take_numbers xs ws) (size_of ws.starts)) r k whole
+
     fewer : before (λ i. length (take_numbers xs ws i)) (size_of ws.starts) ≤ item_limit
     fewer = omega (arith, few, takes-total xs ws (size_of ws.starts))
 
     pub taken-few : size_of r < 2 ^ 63
-    taken-few = any-few xs ws (take_numbers xs ws) taken c o r e k fewer whole
+    taken-few = any-few xs ws (take_numbers xs ws) taken c o r e fewer moved
 
     pub taken-outcome : o ≡ offsets_by (length_by ws) (size_of ws.starts)
         → IsOutcomeOf xs ws (outcome.Lists o (flat r))
@@ -219,7 +214,8 @@ module _ (xs ws : Listed) (pairs : size_of xs.starts ≡ size_of ws.starts)
         record { kind = I64; items = each_of (take_numbers xs ws) (size_of ws.starts) } in
         let within : AreWithin (is_option (array_type ws.content)) (len xs.content) p =
         take-within xs ws p pairs sx sw l m has (λ a d u v. inside a u d v) refl in
-        any-outcome xs ws (take_numbers xs ws) taken c o r e k fewer whole b (within.present b)
+        any-outcome xs ws (take_numbers xs ws) taken c o r e fewer moved b
+        (subst (λ y. IsIndex p (len y)) e (within.present b))
         (offsets ∙ offsets_same (length_by ws) (λ i. length (take_numbers xs ws i))
         (size_of ws.starts)
         (λ i q. sym (length-map-range_with_len (take_at xs ws i) 0 (length_by ws i))))

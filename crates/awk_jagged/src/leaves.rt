@@ -1,5 +1,5 @@
 //! The innermost picks: by masks and by places, in pairs of lists.
-ghost use Rattle.std.specs.Prelude.{◌≡◌, ◌<◌, ◌^◌, true, false, IfOk, IfSome, IsTrue};
+ghost use Rattle.std.specs.Prelude.{◌≡◌, ◌≢◌, ◌<◌, ◌^◌, true, false, IfOk, IfSome, IsTrue};
 ghost use Rattle.awk_types.specs.Simple.{present, is_option};
 ghost use Rattle.awk_lanes.specs.Places.{size_of, IsIndex, IsIndexKind, IsOptionalIndex};
 ghost use Rattle.awk_lanes.specs.declared.kind.Kind.TheVariants as Kinds;
@@ -190,6 +190,16 @@ fn places_taken<'s, 'a, V: Values, L: Ledger>(
     picked_at(alloc, content, places, optional, arena, steps)
 }
 
+/// The lane of an array of numbers that lie side by side, of which none is a truth value.
+fn plain_lane<'x, 'a>(x: &'x Array<'a>) -> Option<&'x Lane<'a>>
+    ensures { IfSome result (λ c. (c.now.kind ≢ Kinds.Bool) × (x.now ≡ flat c.now)) }
+{
+    match x.node().class() {
+        Class::Numpy { lane } if lane.kind() != Kind::Bool => Some(lane),
+        _ => None,
+    }
+}
+
 /// The numbers of an array that lie side by side in 64 bits.
 fn plain_numbers<'a, L: Ledger>(x: &Array<'a>, steps: &mut Steps<L>) -> Option<Index<'a>>
     ensures { IfSome result (λ c. (c.kind ≡ Kinds.I64) × (x.now ≡ flat c)) }
@@ -265,13 +275,13 @@ fn by_places<'s, 'a, V: Values, L: Ledger>(
     }
 }
 
-/// What is picked from lists of such numbers by truth values: each is moved as it is read, and no
-/// lane of places is made.
+/// What is picked from lists of numbers that lie side by side by truth values: each is moved as the
+/// truth value beside it is read, and no lane of places is made.
 fn numbers_kept<'s, 'a, L: Ledger>(
     xs: &Bounds<'s, 'a>,
     ws: &Bounds<'s, 'a>,
     truths: &Truths<'a>,
-    numbers: &Index<'a>,
+    numbers: &Lane<'a>,
     arena: &'a Arena,
     steps: &mut Steps<L>,
 ) -> Result<Outcome<'a>, NoMemory>
@@ -281,7 +291,7 @@ fn numbers_kept<'s, 'a, L: Ledger>(
     requires mask { picks.is_mask (array_type ws.now.content) ≡ true }
     requires present { is_option (array_type ws.now.content) ≡ false }
     requires cells { AreCells ws.now.content (truth_cells truths.now.bytes.now) }
-    requires kind { numbers.now.kind ≡ Kinds.I64 }
+    requires plain { numbers.now.kind ≢ Kinds.Bool }
     requires content { xs.now.content ≡ flat numbers.now }
     ensures { IfOk result (IsOutcomeOf xs.now ws.now) }
 {
@@ -297,13 +307,8 @@ fn numbers_kept<'s, 'a, L: Ledger>(
     let Some(offsets) = offsets_within(ITEM_LIMIT, n, &places, arena, steps)? else {
         return Ok(Outcome::TooMany);
     };
-    let picks = Beside {
-        xs,
-        ws,
-        truths,
-        numbers,
-    };
-    let lane = beside_lane(n, offsets.total, &picks, arena)?;
+    let picks = Beside { xs, ws, truths };
+    let lane = beside_lane(n, offsets.total, &picks, numbers, arena, steps)?;
     Ok(Outcome::Lists {
         offsets: offsets.lane,
         content: Node::numpy(lane, steps),
@@ -331,8 +336,8 @@ fn by_truths<'s, 'a, L: Ledger>(
     if optional {
         return by_masks(alloc, xs, ws, truths, arena, steps);
     }
-    match plain_numbers(xs.content(), steps) {
-        Some(numbers) => numbers_kept(xs, ws, truths, &numbers, arena, steps),
+    match plain_lane(xs.content()) {
+        Some(numbers) => numbers_kept(xs, ws, truths, numbers, arena, steps),
         None => by_masks(alloc, xs, ws, truths, arena, steps),
     }
 }

@@ -1,73 +1,101 @@
--- Numbers that stand beside the true items of masks, while a lane of them is made.
-use Rattle.std.specs.Prelude.{◌≡◌, ℕ, ◌+◌, ◌<◌, List, ◌++◌, length, map, Bool, true, false, ℤ}
-use Rattle.std.proofs.Common.{arith, ap, sym, ◌∙◌, subst}
-use Rattle.std.proofs.lemmas.List.{length-append, length-map, map-append}
+-- What stands beside the true items of masks, while it is put.
+use Rattle.std.specs.Prelude.{◌≡◌, refl, ℕ, ◌+◌, ◌<◌, List, [], ◌++◌, length, map, get_or, Bool}
+use Rattle.std.specs.Prelude.{true, false}
+use Rattle.std.proofs.Common.{arith, ap, ap₂, sym, ◌∙◌}
+use Rattle.std.proofs.lemmas.List.{append_assoc, length-map, map-append}
+use Rattle.awk_base.proofs.Each.{each_of, each_of-more, length-each_of, each_of-room}
 use Rattle.awk_types.specs.Value.{Value, truth}
-use Rattle.awk_lanes.specs.Column.{Column}
 use Rattle.awk_lanes.specs.Counted.{before}
-use Rattle.awk_lanes.specs.Making.{Making}
-use Rattle.awk_lanes.specs.Numbers.{nat_of}
-use Rattle.awk_lanes.specs.Places.{at}
 use Rattle.awk_columns.specs.Lists.{Listed}
-use Rattle.awk_base.proofs.Each.{each_of-room}
 use Rattle.awk_select.specs.Cells.{place_number}
 use Rattle.awk_select.specs.Picks.{mask_place}
-use Rattle.awk_jagged_places.specs.Kept.{kept, Puts}
-use Rattle.awk_jagged_places.specs.Leaves.{mask_at, mask_first, mask_numbers, numbers_beside}
+use Rattle.awk_jagged_places.specs.Beside.{group_at, groups_beside}
+use Rattle.awk_jagged_places.specs.Kept.{kept}
+use Rattle.awk_jagged_places.specs.Leaves.{mask_at, mask_first, mask_numbers}
+use Rattle.awk_jagged_places.proofs.FlatLists.{length-each}
+use Rattle.awk_jagged_places.proofs.MaskLaws.{first-more, length-more}
 use Rattle.awk_jagged_rows.specs.Levels.{row_at}
 use Rattle.awk_jagged_rows.specs.Rows.{length_by, place_by}
-use Rattle.awk_jagged_rows.proofs.FlatPlaces.{before_same}
-use Rattle.awk_jagged_places.proofs.MaskLaws.{first-more}
-use Rattle.awk_jagged_places.proofs.PutLaws.{put_more}
 
--- the number beside a true item is kept
-beside_one : (c : Column) (p : ℕ) (keep : Bool) (v : Value) → truth keep ≡ v
-    → kept keep (at c p) ≡ map (λ z. at c (nat_of z)) (map place_number (mask_place p v))
-beside_one c p true v e =
-    ap (λ w. map (λ z. at c (nat_of z)) (map place_number (mask_place p w))) e
-beside_one c p false v e =
-    ap (λ w. map (λ z. at c (nat_of z)) (map place_number (mask_place p w))) e
+-- the group beside a true item is kept
+beside_one : (gs : List (List ℕ)) (p : ℕ) (keep : Bool) (v : Value) → truth keep ≡ v
+    → kept keep (get_or gs p []) ≡ map (group_at gs) (map place_number (mask_place p v))
+beside_one gs p true v e =
+    ap (λ w. map (group_at gs) (map place_number (mask_place p w))) e
+beside_one gs p false v e =
+    ap (λ w. map (group_at gs) (map place_number (mask_place p w))) e
 
-module _ (xs ws : Listed) (c : Column) where
-  -- the numbers beside the first k items of list i
-  abbrev pub beside_first : ℕ → ℕ → List ℤ
-  beside_first i k = map (λ z. at c (nat_of z)) (mask_first xs ws i k)
+module _ (xs ws : Listed) (gs : List (List ℕ)) where
+  -- the groups beside the first k items of list i
+  abbrev pub groups_first : ℕ → ℕ → List (List ℕ)
+  groups_first i k = map (group_at gs) (mask_first xs ws i k)
+
+  -- the groups of the first i lists
+  abbrev pub groups_each : ℕ → List (List ℕ)
+  groups_each i = map (group_at gs) (each_of (mask_numbers xs ws) i)
+
+  kept_here : (i k : ℕ) (keep : Bool) (b : List ℕ) → truth keep ≡ row_at ws i k
+      → b ≡ get_or gs (place_by xs i k) [] → kept keep b ≡ map (group_at gs) (mask_at xs ws i k)
+  kept_here i k keep b e f =
+      ap (kept keep) f ∙ beside_one gs (place_by xs i k) keep (row_at ws i k) e
 
   -- what one item more gives is put
-  pub beside-put : (i k : ℕ) (keep : Bool) (z : ℤ) (old mid new : Making)
-      → truth keep ≡ row_at ws i k → z ≡ at c (place_by xs i k)
-      → Puts (beside_first i k) old mid → Puts (kept keep z) mid new
-      → Puts (beside_first i (k + 1)) old new
-  beside-put i k keep z old mid new e f p n =
-      let us : kept keep z ≡ map (λ z. at c (nat_of z)) (mask_at xs ws i k) =
-      ap (kept keep) f ∙ beside_one c (place_by xs i k) keep (row_at ws i k) e in
-      subst (λ zs. Puts zs old new)
-      (ap (λ vs. beside_first i k ++ vs) us
-      ∙ sym (map-append (λ z. at c (nat_of z)) (mask_first xs ws i k) (mask_at xs ws i k))
-      ∙ sym (ap (map (λ z. at c (nat_of z))) (first-more xs ws i k)))
-      (put_more (beside_first i k) (kept keep z) old mid new p n)
+  pub groups-next : (i k : ℕ) (keep : Bool) (b : List ℕ) (old mid new : List (List ℕ))
+      → truth keep ≡ row_at ws i k → b ≡ get_or gs (place_by xs i k) []
+      → mid ≡ old ++ groups_first i k → new ≡ mid ++ kept keep b
+      → new ≡ old ++ groups_first i (k + 1)
+  groups-next i k keep b old mid new e f p n =
+      n
+      ∙ ap₂ (λ (us : List (List ℕ)) (vs : List (List ℕ)). us ++ vs) p (kept_here i k keep b e f)
+      ∙ append_assoc old (groups_first i k) (map (group_at gs) (mask_at xs ws i k))
+      ∙ ap (λ us. old ++ us)
+      (sym (map-append (group_at gs) (mask_first xs ws i k) (mask_at xs ws i k))
+      ∙ sym (ap (map (group_at gs)) (first-more xs ws i k)))
 
-  -- there is room for one number more
-  pub beside-room : (i k : ℕ) (old mid : Making)
-      → length old.items + length (numbers_beside xs ws c i) < old.room → k < length_by ws i
-      → Puts (beside_first i k) old mid → length mid.items < mid.room
-  beside-room i k old mid r q p =
-      let size : length mid.items ≡ length old.items + length (beside_first i k) =
-      ap (λ (m : Making). length m.items) p ∙ length-append old.items (beside_first i k) in
+  pub count-next : (i k : ℕ) (keep : Bool) (b : List ℕ) (old mid new : ℕ)
+      → truth keep ≡ row_at ws i k → b ≡ get_or gs (place_by xs i k) []
+      → mid ≡ old + length (mask_first xs ws i k) → new ≡ mid + length (kept keep b)
+      → new ≡ old + length (mask_first xs ws i (k + 1))
+  count-next i k keep b old mid new e f p n =
       omega (
         arith,
-        size,
-        ap (λ (m : Making). m.room) p,
-        r,
-        length-map (mask_first xs ws i k) (λ z. at c (nat_of z)),
-        length-map (mask_numbers xs ws i) (λ z. at c (nat_of z)),
-        each_of-room (mask_at xs ws i) k (length_by ws i) q,
+        p,
+        n,
+        ap length (kept_here i k keep b e f),
+        length-map (mask_at xs ws i k) (group_at gs),
+        length-more xs ws i k (mask_at xs ws i k) refl,
       )
 
-  -- as many numbers as places
-  pub beside-total : (n total : ℕ) → total ≡ before (λ i. length (mask_numbers xs ws i)) n
-      → total ≡ before (λ i. length (numbers_beside xs ws c i)) n
-  beside-total n total e =
-      e ∙ before_same (λ i. length (mask_numbers xs ws i))
-      (λ i. length (numbers_beside xs ws c i)) n
-      (λ i l. sym (length-map (mask_numbers xs ws i) (λ z. at c (nat_of z))))
+  -- there is room for one group more
+  pub groups-room : (i k old mid room : ℕ) → old + length (mask_numbers xs ws i) < room
+      → k < length_by ws i → mid ≡ old + length (mask_first xs ws i k) → mid < room
+  groups-room i k old mid room r q p =
+      omega (arith, p, r, each_of-room (mask_at xs ws i) k (length_by ws i) q)
+
+  -- one list more
+  pub lists-next : (i : ℕ) (old new : List (List ℕ)) → old ≡ groups_each i
+      → new ≡ old ++ groups_beside xs ws gs i → new ≡ groups_each (i + 1)
+  lists-next i old new p n =
+      n ∙ ap (λ us. us ++ groups_beside xs ws gs i) p
+      ∙ sym (map-append (group_at gs) (each_of (mask_numbers xs ws) i) (mask_numbers xs ws i))
+      ∙ sym (ap (map (group_at gs)) (each_of-more (mask_numbers xs ws) i))
+
+  pub total-next : (i old new : ℕ) → old ≡ length (each_of (mask_numbers xs ws) i)
+      → new ≡ old + length (mask_numbers xs ws i)
+      → new ≡ length (each_of (mask_numbers xs ws) (i + 1))
+  total-next i old new p n = omega (arith, p, n, length-each_of (mask_numbers xs ws) i)
+
+  -- there is room for one list more
+  pub lists-room : (i n total made room : ℕ) → i < n
+      → total ≡ before (λ k. length (mask_numbers xs ws k)) n → room ≡ total + 1
+      → made ≡ length (each_of (mask_numbers xs ws) i)
+      → made + length (mask_numbers xs ws i) < room
+  lists-room i n total made room l e r m =
+      omega (
+        arith,
+        e,
+        r,
+        m,
+        length-each (mask_numbers xs ws) n,
+        each_of-room (mask_numbers xs ws) i n l,
+      )

@@ -4,3 +4,4 @@ pub mod MaskLaws
 pub mod SieveLaws
 pub mod ValueLaws
 pub mod BesideLaws
+pub mod KeptLanes

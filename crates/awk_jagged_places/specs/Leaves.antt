@@ -4,7 +4,6 @@ use Rattle.std.specs.Prelude.{Option, Some, None, option_map}
 use Rattle.std.specs.List.{range_with_len, flat_map}
 use Rattle.awk_lanes.specs.declared.kind.Kind.TheVariants.{Bool as Truths}
 use Rattle.awk_lanes.specs.Column.{Column}
-use Rattle.awk_lanes.specs.Numbers.{nat_of}
 use Rattle.awk_lanes.specs.Places.{size_of, at, place_at}
 use Rattle.awk_lanes.specs.Words.{column, integers}
 use Rattle.awk_columns.specs.Lists.{Listed}
@@ -75,7 +74,3 @@ mask_numbers xs ws i = mask_first xs ws i (length_by ws i)
 -- truth values by their bytes
 abbrev pub truth_cells : List ℕ → Cells
 truth_cells bs = Plain (column Truths (integers bs))
-
--- the numbers of a content at the places that list i of a mask gives
-abbrev pub numbers_beside : Listed → Listed → Column → ℕ → List ℤ
-numbers_beside xs ws c i = map (λ z. at c (nat_of z)) (mask_numbers xs ws i)

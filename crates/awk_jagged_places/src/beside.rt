@@ -1,86 +1,146 @@
-//! Numbers of 64 bits that stand beside the true items of a mask. They are put as they lie, and no
-//! lane of their places is made.
-ghost use Rattle.std.specs.Prelude.{◌≡◌, ◌+◌, ◌<◌, ◌≤◌, length, IfOk};
+//! Numbers that stand beside the true items of a mask. They are moved as the groups of bytes that
+//! they lie in, and no lane of their places is made.
+ghost use Rattle.std.specs.Prelude.{◌≡◌, ◌≢◌, ◌+◌, ◌<◌, ◌≤◌, ◌++◌, length, vec_len, vec_capacity};
+ghost use Rattle.std.specs.Prelude.{IfOk};
 ghost use Rattle.awk_types.specs.ItemLimit.{item_limit};
 ghost use Rattle.awk_lanes.specs.Counted.{before};
-ghost use Rattle.awk_lanes.specs.Numbers.{int_of, IsOf};
-ghost use Rattle.awk_lanes.specs.Places.{size_of, at};
+ghost use Rattle.awk_lanes.specs.Numbers.{width};
+ghost use Rattle.awk_lanes.specs.Places.{size_of, IsIndex};
 ghost use Rattle.awk_lanes.specs.declared.kind.Kind.TheVariants as Kinds;
-ghost use Rattle.awk_layout.specs.Layout.{flat};
-ghost use Rattle.awk_jagged_places.specs.Kept.{IsPutLane, Puts};
+ghost use Rattle.awk_layout.specs.Valid.{len};
+ghost use Rattle.awk_gather_lanes.specs.Lanes.{picked};
+ghost use Rattle.awk_jagged_places.specs.Beside.{groups_beside, places_beside, IsBeside};
 ghost use Rattle.awk_jagged_places.specs.Leaves.{AreLeaves, truth_cells, mask_numbers};
-ghost use Rattle.awk_jagged_places.specs.Leaves.{numbers_beside};
 ghost use Rattle.awk_jagged_rows.specs.Rows.{AreAlike};
 
-use crate::sieve::Sieve;
+use crate::sieve::put_if;
 use crate::values::Truths;
 use awk_columns::Bounds;
-use awk_lanes::{Arena, Index, Lane, NoMemory, Num};
+use awk_lanes::{Arena, Kind, Lane, NoMemory, Steps};
+use bumpalo::collections::into_bump_slice;
+use std::sync::ledger::Ledger;
 
-/// The numbers of a content that stand beside the true items of the lists of a mask.
+/// Lists of truth values beside those that are picked from.
 #[derive(Drop)]
 pub struct Beside<'r, 's, 'a> {
     pub xs: &'r Bounds<'s, 'a>,
     pub ws: &'r Bounds<'s, 'a>,
     pub truths: &'r Truths<'a>,
-    pub numbers: &'r Index<'a>,
 }
 
 impl<'r, 's, 'a> Beside<'r, 's, 'a> {
-    /// The number at a place of the content.
+    /// Puts the groups beside the true items of list i.
     #[inline(always)]
-    fn number(&self, place: u64) -> Num
-        requires { place < size_of self.now.numbers.now }
-        ensures kind { IsOf Kinds.I64 result }
-        ensures number { int_of result ≡ at self.now.numbers.now place }
-    {
-        Num::Int(self.numbers.number(place))
-    }
-
-    /// Puts the numbers that list i gives.
-    #[inline(always)]
-    fn put_list(&self, i: u64, made: &mut Sieve)
+    fn put_list<const W: usize>(&self, i: u64, groups: &[[u8; W]], made: &mut Vec<[u8; W], &Arena>)
+        requires small { W ≤ 8 }
         requires leaves { AreLeaves self.now.xs.now self.now.ws.now
             (truth_cells self.now.truths.now.bytes.now) }
         requires alike { AreAlike self.now.xs.now self.now.ws.now }
-        requires content { self.now.xs.now.content ≡ flat self.now.numbers.now }
+        requires content { len self.now.xs.now.content ≡ length groups.now }
         requires list { i < size_of self.now.ws.now.starts }
-        requires room { length made.old.items
-            + length (numbers_beside self.now.xs.now self.now.ws.now self.now.numbers.now i)
-            < made.old.room }
-        ensures { Puts (numbers_beside self.now.xs.now self.now.ws.now self.now.numbers.now i)
-            made.old made.new }
+        requires room { vec_len made.old
+            + length (mask_numbers self.now.xs.now self.now.ws.now i) < vec_capacity made.old }
+        ensures items { made.new.items ≡ made.old.items
+            ++ groups_beside self.now.xs.now self.now.ws.now groups.now i }
+        ensures len { vec_len made.new ≡ vec_len made.old
+            + length (mask_numbers self.now.xs.now self.now.ws.now i) }
+        ensures capacity { vec_capacity made.new ≡ vec_capacity made.old }
     {
         let from = self.xs.span_of(i);
         let by = self.ws.span_of(i);
         for k in 0..by.length {
             let keep = self.truths.at(by.start + k);
-            made.push_if(keep, self.number(from.start + k));
+            put_if(made, keep, groups[(from.start + k) as usize]);
         }
     }
 }
 
-/// The numbers beside the true items of the first n lists of a mask, so many together.
-pub fn beside_lane<'a>(
+/// The groups beside the true items of the first n lists, so many together.
+fn groups_of<'a, const W: usize>(
     n: u64,
     total: u64,
-    picks: &Beside<'_, '_, 'a>,
+    picks: &Beside,
+    groups: &[[u8; W]],
     arena: &'a Arena,
-) -> Result<Lane<'a>, NoMemory>
+) -> Result<&'a [[u8; W]], NoMemory>
+    requires small { W ≤ 8 }
     requires leaves { AreLeaves picks.now.xs.now picks.now.ws.now
         (truth_cells picks.now.truths.now.bytes.now) }
     requires alike { AreAlike picks.now.xs.now picks.now.ws.now }
-    requires content { picks.now.xs.now.content ≡ flat picks.now.numbers.now }
+    requires content { len picks.now.xs.now.content ≡ length groups.now }
     requires within { n ≤ size_of picks.now.ws.now.starts }
     requires total { total ≡ before
         (λ i. length (mask_numbers picks.now.xs.now picks.now.ws.now i)) n }
     requires few { total ≤ item_limit }
-    ensures { IfOk result (IsPutLane
-        (numbers_beside picks.now.xs.now picks.now.ws.now picks.now.numbers.now) n) }
+    ensures { IfOk result (λ r.
+        IsBeside picks.now.xs.now picks.now.ws.now n groups.now r.now) }
 {
-    let mut made = Sieve::new(total + 1, arena)?;
+    let mut made = Vec::with_capacity(arena, (total + 1) as usize)?;
     for i in 0..n {
-        picks.put_list(i, &mut made);
+        picks.put_list(i, groups, &mut made);
     }
-    Ok(made.finish())
+    Ok(into_bump_slice(made))
+}
+
+/// The numbers of W bytes beside the true items of the first n lists of a mask.
+fn wide_lane<'a, const W: usize, L: Ledger>(
+    n: u64,
+    total: u64,
+    picks: &Beside<'_, '_, 'a>,
+    lane: &Lane<'a>,
+    arena: &'a Arena,
+    steps: &mut Steps<L>,
+) -> Result<Lane<'a>, NoMemory>
+    requires leaves { AreLeaves picks.now.xs.now picks.now.ws.now
+        (truth_cells picks.now.truths.now.bytes.now) }
+    requires alike { AreAlike picks.now.xs.now picks.now.ws.now }
+    requires plain { lane.now.kind ≢ Kinds.Bool }
+    requires width { width lane.now.kind ≡ W }
+    requires some { 0 < W }
+    requires content { len picks.now.xs.now.content ≡ size_of lane.now }
+    requires index { IsIndex (places_beside picks.now.xs.now picks.now.ws.now n)
+        (size_of lane.now) }
+    requires within { n ≤ size_of picks.now.ws.now.starts }
+    requires total { total ≡ before
+        (λ i. length (mask_numbers picks.now.xs.now picks.now.ws.now i)) n }
+    requires few { total ≤ item_limit }
+    ensures { let places = places_beside picks.now.xs.now picks.now.ws.now n in
+        IfOk result (λ r. r ≡ picked lane.now places) }
+{
+    let (groups, _) = lane.bulk(steps).as_chunks::<W>();
+    let moved = groups_of(n, total, picks, groups, arena)?;
+    Ok(Lane::new(lane.kind(), moved.as_flattened()))
+}
+
+/// The numbers of a lane beside the true items of the first n lists of a mask, so many together. No
+/// number is a truth value, of which any byte but 0 is one.
+pub fn beside_lane<'a, L: Ledger>(
+    n: u64,
+    total: u64,
+    picks: &Beside<'_, '_, 'a>,
+    lane: &Lane<'a>,
+    arena: &'a Arena,
+    steps: &mut Steps<L>,
+) -> Result<Lane<'a>, NoMemory>
+    requires leaves { AreLeaves picks.now.xs.now picks.now.ws.now
+        (truth_cells picks.now.truths.now.bytes.now) }
+    requires alike { AreAlike picks.now.xs.now picks.now.ws.now }
+    requires plain { lane.now.kind ≢ Kinds.Bool }
+    requires content { len picks.now.xs.now.content ≡ size_of lane.now }
+    requires index { IsIndex (places_beside picks.now.xs.now picks.now.ws.now n)
+        (size_of lane.now) }
+    requires within { n ≤ size_of picks.now.ws.now.starts }
+    requires total { total ≡ before
+        (λ i. length (mask_numbers picks.now.xs.now picks.now.ws.now i)) n }
+    requires few { total ≤ item_limit }
+    ensures { let places = places_beside picks.now.xs.now picks.now.ws.now n in
+        IfOk result (λ r. r ≡ picked lane.now places) }
+{
+    match lane.kind() {
+        Kind::I8 | Kind::U8 => wide_lane::<1, L>(n, total, picks, lane, arena, steps),
+        Kind::I16 | Kind::U16 => wide_lane::<2, L>(n, total, picks, lane, arena, steps),
+        Kind::I32 | Kind::U32 => wide_lane::<4, L>(n, total, picks, lane, arena, steps),
+        Kind::I64 | Kind::U64 => wide_lane::<8, L>(n, total, picks, lane, arena, steps),
+        Kind::Bool => unreachable!(),
+    }
 }

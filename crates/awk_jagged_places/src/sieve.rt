@@ -51,10 +51,10 @@ fn group_of(x: Num) -> [u8; 8]
 
 /// Adds a group, and takes it away again where it is not kept.
 #[inline(always)]
-fn put_if(groups: &mut Vec<[u8; 8], &Arena>, keep: bool, group: [u8; 8])
+pub(crate) fn put_if<const W: usize>(groups: &mut Vec<[u8; W], &Arena>, keep: bool, group: [u8; W])
     requires { vec_len groups.old < vec_capacity groups.old }
-    ensures items { groups.new.items ≡ groups.old.items ++ kept keep group }
-    ensures len { vec_len groups.new ≡ vec_len groups.old + length (kept keep group) }
+    ensures items { groups.new.items ≡ groups.old.items ++ kept keep group.entry }
+    ensures len { vec_len groups.new ≡ vec_len groups.old + length (kept keep group.entry) }
     ensures capacity { vec_capacity groups.new ≡ vec_capacity groups.old }
 {
     groups.push_reserved(group);
