@@ -15,13 +15,14 @@ ghost use Rattle.awk_session.specs.Spending.{Binds, IsOfArrays, Unless, name_in}
 ghost use Rattle.awk_session.specs.State.{denoted_state};
 
 use crate::line::{RawLine, answer_line};
-use crate::state::SessionState;
+use crate::state::{Arenas, SessionState, empty_arena};
 use awk_answer::Answered;
 use awk_edge::{Out, Sink};
 use awk_eval::Env;
 use awk_framing::{RawEnd, raw_need};
 use awk_lanes::{Arena, Steps};
 use awk_query::Reading;
+use bumpalo::Bump;
 use std::alloc::Global;
 use std::marker::Model;
 use std::sync::ledger::Ledger;
@@ -37,11 +38,13 @@ pub enum LineEnd {
 }
 
 /// The variables that lines have bound, in the order of first binding, and how the next line is
-/// read. The buffers of the variables lie in the arena.
+/// read. The buffers of the variables lie in the arena that is kept, and those of what a line only
+/// shows in the other, which is emptied after the answer.
 #[derive(Drop)]
 pub struct Engine<'a> {
     state: SessionState<'a>,
-    arena: &'a Arena,
+    kept: &'a Arena,
+    scratch: Arena,
 }
 
 impl<'a> Model for Engine<'a> {
@@ -58,7 +61,7 @@ impl<'a> Model for Engine<'a> {
 }
 
 impl<'a> Engine<'a> {
-    /// An engine without variables, before the first line.
+    /// An engine without variables, before the first line. What lines bind lies in the arena.
     pub fn new(alloc: Global, arena: &'a Arena) -> Engine<'a>
         ensures { result ≡ record { reading = First; variables = [] } }
     {
@@ -67,7 +70,8 @@ impl<'a> Engine<'a> {
                 env: Env::new(alloc),
                 reading: Reading::First,
             },
-            arena,
+            kept: arena,
+            scratch: Bump::new(alloc),
         }
     }
 
@@ -148,7 +152,13 @@ impl<'a> Engine<'a> {
             (step (denoted_state self.old) bytes.now raw.now).answer }
     {
         let unit = RawLine { line: bytes, raw };
-        answer_line(alloc, &mut self.state, &unit, self.arena, out, sink, steps)
+        let arenas = Arenas {
+            kept: self.kept,
+            scratch: &self.scratch,
+        };
+        let answered = answer_line(alloc, &mut self.state, &unit, &arenas, out, sink, steps);
+        empty_arena(alloc, &mut self.scratch);
+        answered
     }
 
     /// Answers a line that is not blank, without raw bytes, and flushes.

@@ -16,12 +16,11 @@ ghost use Rattle.awk_session.specs.StateView.{shown, stands};
 
 use crate::engine::LineEnd;
 use crate::reply::reply;
-use crate::state::SessionState;
+use crate::state::{Arenas, SessionState};
 use awk_answer::{Answered, kind_of, send};
 use awk_edge::{Out, Sink};
 use awk_framing::{Read, read_as, reading_behind};
-use awk_lanes::{Arena, Steps};
-use bumpalo::Bump;
+use awk_lanes::Steps;
 use std::alloc::Global;
 use std::sync::ledger::Ledger;
 
@@ -33,12 +32,12 @@ pub struct RawLine<'v> {
 }
 
 /// Answers a line that is not blank with its raw bytes, and flushes. What it binds lies in the
-/// arena that is kept.
+/// arena that is kept, and what it only shows in the other.
 pub fn answer_line<'a, K: Sink, L: Ledger>(
     alloc: Global,
     state: &mut SessionState<'a>,
     unit: &RawLine<'_>,
-    kept: &'a Arena,
+    arenas: &Arenas<'a, '_>,
     out: &mut Out,
     sink: &mut K,
     steps: &mut Steps<L>,
@@ -65,18 +64,18 @@ pub fn answer_line<'a, K: Sink, L: Ledger>(
         steps.old steps.new }
 {
     match read_as(alloc, unit.line, state.reading) {
-        Ok(read) => answer(alloc, state, &read, unit.raw, kept, out, sink, steps),
+        Ok(read) => answer(alloc, state, &read, unit.raw, arenas, out, sink, steps),
         Err(_) => Err(LineEnd::NoMemory),
     }
 }
 
-// Answers a line by what was read from it. What is only shown lies in an arena of the line's own.
+// Answers a line by what was read from it.
 fn answer<'a, K: Sink, L: Ledger>(
     alloc: Global,
     state: &mut SessionState<'a>,
     read: &Read,
     raw: &[u8],
-    kept: &'a Arena,
+    arenas: &Arenas<'a, '_>,
     out: &mut Out,
     sink: &mut K,
     steps: &mut Steps<L>,
@@ -103,8 +102,15 @@ fn answer<'a, K: Sink, L: Ledger>(
         (step_read (stands state.old) (read_view read.now) raw.now).answer
         steps.old steps.new }
 {
-    let arena = Bump::new(alloc);
-    match reply(alloc, &mut state.env, read, raw, kept, &arena, steps) {
+    match reply(
+        alloc,
+        &mut state.env,
+        read,
+        raw,
+        arenas.kept,
+        arenas.scratch,
+        steps,
+    ) {
         Ok(answer) => {
             state.reading = reading_behind(state.reading, read);
             match send(&answer, out, sink, steps) {

@@ -12,7 +12,7 @@ returns-clause-keeps g c = λ n other.
     let here : c.self.inside.state.reading ≡ c.args.self.now.reading =
     ap (λ (s : State Variables). s.reading) c.self.view_is in
     let elsewhere = subst (λ r. name_in r c.args.bytes.now ≢ Some n) (sym here) other in
-    keeps n (line_in c.self.inside.state.reading c.args.bytes.now) _ _ _ c.answer_line.result
-    elsewhere c.answer_line.ensures.binds
-    (λ e. ap (λ (s : State Variables). s.variables) (c.answer_line.ensures.same e))
+    keeps n (line_in c.self.inside.state.reading c.args.bytes.now) _ _ _
+    c.answer_line-answered.result elsewhere c.answer_line-answered.ensures.binds
+    (λ e. ap (λ (s : State Variables). s.variables) (c.answer_line-answered.ensures.same e))
     ∙ ap (λ (s : State Variables). look_up n s.variables) c.self.view_is
