@@ -1,5 +1,5 @@
 #!/usr/bin/env python3
-"""Runs sessions that name far more than they hold, in 4 GB of address space.
+"""Runs sessions that name far more than they hold, in 2 GB of address space.
 
     python3 bench/attacks.py [--only WORD] [--seconds N] [PROGRAM ..]
 
@@ -22,7 +22,7 @@ import threading
 from base64 import b64encode
 from struct import pack
 
-SPACE = 4_000_000_000
+SPACE = 2_000_000_000
 LIMIT = 2**30
 EMPTY = {"class": "RecordArray", "fields": [], "contents": []}
 
