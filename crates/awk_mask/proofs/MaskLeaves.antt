@@ -1,12 +1,14 @@
 -- Masks of single truth values: their kinds, and the places that they keep.
-use Rattle.std.specs.Prelude.{◌≡◌, ℕ, ◌<◌, ◌<ℤ◌, pos, refl, Bool, true, false, Some, None}
+use Rattle.std.specs.Prelude.{◌≡◌, ℕ, zero, suc, ◌<◌, ◌<ℤ◌, pos, refl, Bool, true, false}
+use Rattle.std.specs.Prelude.{List, length, get_or, Some, None}
 use Rattle.std.specs.Prelude.{if◌then◌else◌}
 use Rattle.std.proofs.Common.{arith, ap, sym, ◌∙◌, subst}
+use Rattle.std.proofs.lemmas.List.{get_or-map, length-map}
 use Rattle.awk_types.specs.DataType.{DataType, unknown, leaf, var, reg, rec, tup, opt, uni}
 use Rattle.awk_types.specs.Simple.{simple, simple_value}
 use Rattle.awk_types.specs.Value.{Value, null, truth}
 use Rattle.awk_lanes.specs.Column.{Column}
-use Rattle.awk_lanes.specs.Numbers.{is_nonzero}
+use Rattle.awk_lanes.specs.Numbers.{is_nonzero, element}
 use Rattle.awk_lanes.specs.Places.{size_of, at, option_place, IsOptionalIndex}
 use Rattle.awk_lanes.specs.declared.kind.Kind.{Kind}
 use Rattle.awk_lanes.specs.declared.kind.Kind.TheVariants as kinds
@@ -24,7 +26,7 @@ use Rattle.awk_lanes.proofs.MadeLanes.{size-lane_of, at-lane_of}
 use Rattle.awk_gather.proofs.FollowedIndexes.{item_if_shown, below_if_shown}
 use Rattle.awk_mask_lengths.specs.MaskValues.{masked_type, masked_value, kept_where}
 use Rattle.awk_mask_levels.specs.MaskLevels.{is_innermost}
-use Rattle.awk_mask.specs.MaskLeaves.{kept_place, kept_lane, AreTruths, IsMasked}
+use Rattle.awk_mask.specs.MaskLeaves.{kept_place, kept_lane, truths_in, AreTruths, IsMasked}
 use Rattle.awk_option_nodes.proofs.OptionNodes.{HasItems, optional_type-is, option_stays}
 
 -- ---- the kinds of such masks
@@ -74,6 +76,20 @@ leaf_truths m c h o = record {
 }
 
 -- ---- the places that are kept
+
+-- a truth value is whether its byte is not 0
+truth_shown : (n : ℕ) → is_nonzero (element kinds.Bool (pos n)) ≡ is_nonzero (pos n)
+truth_shown zero = refl
+truth_shown (suc n) = refl
+
+pub truth_byte : (bytes : List ℕ) (i : ℕ) → i < length bytes
+    → is_nonzero (at (truths_in bytes) i) ≡ is_nonzero (pos (get_or bytes i 0))
+truth_byte bytes i p =
+    ap (λ z. is_nonzero (element kinds.Bool z)) (get_or-map pos bytes i 0 (pos 0) p)
+    ∙ truth_shown (get_or bytes i 0)
+
+pub size-truths_in : (bytes : List ℕ) (c : Column) → truths_in bytes ≡ c → length bytes ≡ size_of c
+size-truths_in bytes c e = sym (length-map bytes pos) ∙ ap size_of e
 
 size-kept : (c : Column) (keep : Bool) → size_of (kept_lane c keep) ≡ size_of c
 size-kept c keep = size-lane_of kinds.I64 (size_of c) (kept_place c keep)

@@ -1,9 +1,10 @@
 -- Arrays where masks of single truth values are over them, by place.
-use Rattle.std.specs.Prelude.{◌≡◌, ℕ, ◌<◌, ◌^◌, ℤ, Bool}
+use Rattle.std.specs.Prelude.{◌≡◌, ℕ, ◌<◌, ◌^◌, ℤ, Bool, List}
 use Rattle.awk_lanes.specs.Column.{Column}
 use Rattle.awk_lanes.specs.Made.{lane_of}
 use Rattle.awk_lanes.specs.Numbers.{is_nonzero}
 use Rattle.awk_lanes.specs.Places.{size_of, at}
+use Rattle.awk_lanes.specs.Words.{column, integers}
 use Rattle.awk_lanes.specs.declared.kind.Kind.TheVariants as kinds
 use Rattle.awk_layout.specs.Item.{leaf_value, agrees}
 use Rattle.awk_layout.specs.Layout.{Layout}
@@ -20,6 +21,10 @@ pub record AreTruths (m : Layout) (c : Column) : Type 0 where
   pub size : size_of c ≡ len m
   pub fits : size_of c < 2 ^ 63
   pub items : (i : ℕ) → i < len m → array_item m i ≡ leaf_value c.kind (at c i)
+
+-- the truth values that bytes are
+abbrev pub truths_in : List ℕ → Column
+truths_in bytes = column kinds.Bool (integers bytes)
 
 -- its own place where a truth value is the one that is kept, and -1 elsewhere
 abbrev pub kept_place : Column → Bool → ℕ → ℤ

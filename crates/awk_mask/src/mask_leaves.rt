@@ -1,16 +1,20 @@
 //! An array where a mask of single truth values is over it.
-ghost use Rattle.std.specs.Prelude.{◌≡◌, ◌<◌, ◌^◌, true, IfOk};
-ghost use Rattle.awk_lanes.specs.Numbers.{int_of, IsOf};
+ghost use Rattle.std.specs.Prelude.{◌≡◌, ◌<◌, ◌^◌, pos, true, length, IfOk};
+ghost use Rattle.awk_lanes.specs.Numbers.{int_of, is_nonzero, IsOf};
 ghost use Rattle.awk_lanes.specs.Places.{size_of};
 ghost use Rattle.awk_lanes.specs.declared.kind.Kind.TheVariants as Kinds;
+ghost use Rattle.awk_layout.specs.Item.{agrees};
 ghost use Rattle.awk_layout.specs.Typing.{array_type};
 ghost use Rattle.awk_layout.specs.Valid.{len};
 ghost use Rattle.awk_gather.specs.Peeled.{if_shown};
 ghost use Rattle.awk_option_nodes.specs.Composed.{IsComposed};
 ghost use Rattle.awk_mask_levels.specs.MaskLevels.{is_innermost};
-ghost use Rattle.awk_mask.specs.MaskLeaves.{kept_lane, kept_place, AreTruths, IsMasked};
+ghost use Rattle.awk_mask.specs.MaskLeaves.{kept_lane, kept_place, truths_in};
+ghost use Rattle.awk_mask.specs.MaskLeaves.{AreTruths, IsMasked};
 
-use awk_lanes::{Arena, Kind, Lane, LaneMaker, Num, Numbers, Steps, made_lane, number};
+use awk_lanes::{
+    Arena, Kind, Lane, LaneMaker, Num, Numbers, Steps, byte_numbers, made_lane, number,
+};
 use awk_layout::{Array, Node};
 use awk_open::{Opened, opened};
 use awk_option_nodes::option_over;
@@ -45,45 +49,58 @@ fn place_if(shown: bool, place: u64) -> Num
     if shown { number(place) } else { Num::Int(-1) }
 }
 
-/// Its own place where a truth value is the one that is kept, else -1.
-fn kept_place<L: Ledger>(truths: &Lane, keep: bool, i: u64, steps: &mut Steps<L>) -> Num
-    requires kind { truths.now.kind ≡ Kinds.Bool }
-    requires within { i < size_of truths.now }
-    requires fits { i < 2 ^ 63 }
-    ensures number { int_of result ≡ kept_place truths.now keep i }
-    ensures kind { IsOf Kinds.I64 result }
+/// Whether the byte of a truth value is the one that is kept.
+#[inline(always)]
+fn is_kept(byte: u8, keep: bool) -> bool
+    ensures { result ≡ agrees keep (is_nonzero (pos byte)) }
 {
-    match truths.at(i, steps) {
-        Num::Truth(true) => place_if(keep, i),
-        Num::Truth(false) => place_if(!keep, i),
-        Num::Int(_) | Num::Nat(_) => unreachable!(),
-    }
+    if keep { byte != 0 } else { byte == 0 }
 }
 
-/// The places of the truth values that are kept.
+/// Its own place where the byte of a truth value is the one that is kept, else -1.
+#[inline(always)]
+fn kept_place(bytes: &[u8], keep: bool, i: u64) -> Num
+    requires within { i < length bytes.now }
+    requires fits { i < 2 ^ 63 }
+    ensures number { int_of result ≡ kept_place (truths_in bytes.now) keep i }
+    ensures kind { IsOf Kinds.I64 result }
+{
+    let shown = is_kept(bytes[i as usize], keep);
+    place_if(shown, i)
+}
+
+/// The places of the truth values that are kept, by their bytes.
 #[derive(Drop)]
-struct Kept<'b, 'a> {
-    truths: &'b Lane<'a>,
+struct Kept<'b> {
+    bytes: &'b [u8],
     keep: bool,
 }
 
-impl<'b, 'a> Numbers for Kept<'b, 'a> {
-    ghost use Rattle.std.specs.Prelude.{◌≡◌, ◌<◌, ◌^◌};
+impl<'b> Numbers for Kept<'b> {
+    ghost use Rattle.std.specs.Prelude.{◌<◌, ◌^◌, length};
     ghost use Rattle.awk_lanes.specs.declared.kind.Kind.TheVariants as Kinds;
-    ghost use Rattle.awk_lanes.specs.Places.{size_of};
-    ghost use Rattle.awk_mask.specs.MaskLeaves.{kept_place};
+    ghost use Rattle.awk_mask.specs.MaskLeaves.{kept_place, truths_in};
 
     ghost kind = { λ _. Kinds.I64 };
 
-    ghost at = { λ f. kept_place f.truths.now f.keep };
+    ghost at = { λ f. kept_place (truths_in f.bytes.now) f.keep };
 
-    ghost size = { λ f. size_of f.truths.now };
+    ghost size = { λ f. length f.bytes.now };
 
-    ghost IsReady = { λ f. (f.truths.now.kind ≡ Kinds.Bool) × (size_of f.truths.now < 2 ^ 63) };
+    ghost IsReady = { λ f. length f.bytes.now < 2 ^ 63 };
 
-    fn number<L: Ledger>(&self, i: u64, steps: &mut Steps<L>) -> Num {
-        kept_place(self.truths, self.keep, i, steps)
+    #[inline(always)]
+    fn number<L: Ledger>(&self, i: u64, _steps: &mut Steps<L>) -> Num {
+        kept_place(self.bytes, self.keep, i)
     }
+}
+
+/// The bytes of truth values where they lie.
+fn truth_bytes<'a, L: Ledger>(truths: &Lane<'a>, steps: &mut Steps<L>) -> &'a [u8]
+    requires { truths.now.kind ≡ Kinds.Bool }
+    ensures { truths_in result.now ≡ truths.now }
+{
+    byte_numbers(truths, steps)
 }
 
 /// Truth values as an index: each place whose value is the one that is kept, and -1 elsewhere.
@@ -97,13 +114,9 @@ fn kept_places<'a, L: Ledger>(
     requires fits { size_of truths.now < 2 ^ 63 }
     ensures { IfOk result (λ r. r ≡ kept_lane truths.now keep) }
 {
-    made_lane(
-        Kind::I64,
-        truths.len(),
-        &Kept { truths, keep },
-        arena,
-        steps,
-    )
+    let bytes = truth_bytes(truths, steps);
+    let kept = Kept { bytes, keep };
+    made_lane(Kind::I64, bytes.len() as u64, &kept, arena, steps)
 }
 
 /// The items of an array where a mask of single truth values is the one that is kept.
