@@ -15,8 +15,8 @@ use bumpalo::collections::into_bump_slice;
 use std::alloc::Global;
 use std::sync::ledger::Ledger;
 
-/// How many places are worked on at once: a few lanes of so many numbers fit the nearest memory.
-const BLOCK: u64 = 8192;
+/// How many places are worked on at once. So many numbers of 64 bits take 16 KiB.
+const BLOCK: u64 = 2048;
 
 /// Results at places, and lanes of those from a place below a place.
 pub(crate) trait Blocks {
