@@ -1,10 +1,8 @@
--- The extreme of the numbers of i64 that were read so far, and the first of its places.
+-- The extreme of the numbers that were read so far, and the first of its places.
 use Rattle.std.proofs.Common.{◌≡◌, ℕ, ◌+◌, ◌<◌, ◌≤◌, List, length, map, get_or, arith, refl, ap}
 use Rattle.std.proofs.Common.{sym, ◌∙◌, subst, true, false}
 use Rattle.std.specs.Prelude.{ℤ, pos, Bool, if◌then◌else◌}
 use Rattle.std.proofs.lemmas.List.{length-map}
-use Rattle.awk_lanes.specs.Numbers.{number}
-use Rattle.awk_lanes.specs.declared.kind.Kind.TheVariants.{I64}
 use Rattle.awk_numbers.specs.Folds.{beats, first_extreme}
 use Rattle.awk_numbers.specs.declared.extremes.Extreme.{Extreme}
 use Rattle.awk_numbers.proofs.ExtremeLaws.{IsFirst, first_kept, first_new, first_found}
@@ -12,30 +10,30 @@ use Rattle.awk_parts.specs.Extremes.{better_of, IsBest}
 use Rattle.awk_parts.specs.Lanes.{number_or_zero}
 use Rattle.awk_parts.specs.declared.wide.Best.{Best}
 
-module _ (how : Extreme) (gs : List (List ℕ)) (i : ℕ) where
+module _ (how : Extreme) (f : List ℕ → ℤ) (gs : List (List ℕ)) (i : ℕ) where
   abbrev zs : List ℤ
-  zs = map (number I64) gs
+  zs = map f gs
 
   -- the extreme of the first i numbers
   abbrev pub IsSoFar : Best → Type 0
-  IsSoFar b = IsFirst how (map (number I64) gs) i b.place b.number
+  IsSoFar b = IsFirst how (map f gs) i b.place b.number
 
   all-read : length gs ≤ i → length zs ≤ i
-  all-read l = omega (arith, l, length-map gs (number I64))
+  all-read l = omega (arith, l, length-map gs f)
 
   -- one number more
   pub better_more : (old next new : Best) → new ≡ better_of how old next → i < length gs
-      → next.place ≡ i → next.number ≡ get_or (map (number I64) gs) i (pos 0) → IsSoFar old
-      → IsFirst how (map (number I64) gs) (i + 1) new.place new.number
+      → next.place ≡ i → next.number ≡ get_or (map f gs) i (pos 0) → IsSoFar old
+      → IsFirst how (map f gs) (i + 1) new.place new.number
   better_more old next new same l place e h =
       subst (λ (b : Best). IsFirst how zs (i + 1) b.place b.number) (sym same)
       (go (beats how next.number old.number) refl)
     where
       inside : i < length zs
-      inside = omega (arith, l, length-map gs (number I64))
+      inside = omega (arith, l, length-map gs f)
 
       go : (b : Bool) → beats how next.number old.number ≡ b
-          → IsFirst how (map (number I64) gs) (i + 1) (if b then next else old).place
+          → IsFirst how (map f gs) (i + 1) (if b then next else old).place
           (if b then next else old).number
       go true t =
           subst (λ k. IsFirst how zs (i + 1) k next.number) (sym place)
@@ -43,13 +41,14 @@ module _ (how : Extreme) (gs : List (List ℕ)) (i : ℕ) where
       go false t = first_kept how zs i old.place old.number next.number e t h
 
   -- when all are read, it is the extreme
-  pub best_found : (b : Best) → length gs ≤ i → IsSoFar b → IsBest how gs b
+  pub best_found : (b : Best) → length gs ≤ i → IsSoFar b → IsBest how f gs b
   best_found b l h = record {
-    inside = omega (arith, h.inside, length-map gs (number I64));
+    inside = omega (arith, h.inside, length-map gs f);
     found = h.found;
     first = sym (first_found how zs i b.place b.number (all-read l) h);
   }
 
-pub best_read : (how : Extreme) (gs : List (List ℕ)) (b : Best) → IsBest how gs b
-    → b.number ≡ number_or_zero (map (number I64) gs) (first_extreme how (map (number I64) gs))
-best_read how gs b h = sym (ap (number_or_zero (map (number I64) gs)) h.first ∙ h.found)
+pub best_read : (how : Extreme) (f : List ℕ → ℤ) (gs : List (List ℕ)) (b : Best)
+    → IsBest how f gs b
+    → b.number ≡ number_or_zero (map f gs) (first_extreme how (map f gs))
+best_read how f gs b h = sym (ap (number_or_zero (map f gs)) h.first ∙ h.found)

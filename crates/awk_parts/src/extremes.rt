@@ -8,9 +8,9 @@ ghost use Rattle.awk_parts.specs.Lanes.{extreme_at};
 ghost use Rattle.awk_parts.specs.Spans.{span_count, AreSpanned};
 
 use crate::parts::{Parts, span_of};
-use crate::wide::{groups_in, wide_extreme};
+use crate::wide::{first_place, groups_in, wide_extreme};
 use awk_lanes::{Arena, Kind, Lane, NoMemory, Num, Numbers, Steps, made_lane};
-use awk_numbers::{Extreme, Whole, extreme_of};
+use awk_numbers::{Extreme, Whole};
 use std::sync::ledger::Ledger;
 
 /// 0 as code holds the numbers of a kind.
@@ -50,7 +50,7 @@ impl<'c, 'b, 'a> Numbers for Extremes<'c, 'b, 'a> {
 
     fn number<L: Ledger>(&self, i: u64, steps: &mut Steps<L>) -> Num {
         let span = span_of(self.parts, i);
-        match extreme_of(self.how, self.parts.numbers, span.start, span.stop) {
+        match first_place(self.how, self.parts.numbers, span) {
             Some(k) => self.lane.at(span.start + k, steps),
             None => zero_of(self.lane.kind()),
         }

@@ -5,10 +5,11 @@
 //! or none where one does not fit its primitive, and `tally_parts` their counts; `extremes_of` is
 //! the least or the greatest of each part, `places_of` where it stands; `present_parts` tells which
 //! parts have a number. `fitting_lane` makes a lane of any numbers that are judged so (`Totals`).
-//! Numbers of i64 are compared as such; whether some or all of a part are not 0 is told at the first
-//! that settles it, of numbers of i64 and of truth values.
+//! Numbers that fit an i64 are compared as such, in a loop for each kind; whether some or all of a
+//! part are not 0 is told at the first that settles it, of numbers of i64 and of truth values.
 #![tactic(auto)]
 
+mod cells;
 mod extremes;
 mod fits;
 mod folds;

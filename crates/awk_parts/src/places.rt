@@ -8,9 +8,9 @@ ghost use Rattle.awk_parts.specs.Lanes.{local_at, present_at, place_or_zero};
 ghost use Rattle.awk_parts.specs.Spans.{span_count, span_part, AreSpanned};
 
 use crate::parts::{Parts, span_of};
-use crate::wide::{groups_in, wide_place};
+use crate::wide::first_place;
 use awk_lanes::{Arena, Kind, Lane, NoMemory, Num, Numbers, Steps, made_lane, number};
-use awk_numbers::{Extreme, extreme_of};
+use awk_numbers::Extreme;
 use std::sync::ledger::Ledger;
 
 /// A place as a number, and 0 for none.
@@ -35,10 +35,7 @@ fn place_at(how: Extreme, parts: &Parts, i: u64) -> Option<u64>
     ensures small { IfSome result (λ k. k < 2 ^ 63) }
 {
     let span = span_of(parts, i);
-    match groups_in(parts.numbers) {
-        Some(groups) => wide_place(how, groups, span),
-        None => extreme_of(how, parts.numbers, span.start, span.stop),
-    }
+    first_place(how, parts.numbers, span)
 }
 
 /// Places of extremes, counted from the starts of their parts.

@@ -55,7 +55,7 @@ impl<'a> Row for Wide<'a> {
 
     #[inline(always)]
     fn is_true(&self, i: usize) -> bool {
-        is_not_zero(number_at(self.groups, i))
+        is_not_zero(number_at::<8, i64>(self.groups, i))
     }
 }
 

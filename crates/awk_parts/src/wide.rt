@@ -1,14 +1,15 @@
-//! The least or the greatest of numbers of i64, which are compared as such.
+//! The least or the greatest of numbers that fit an i64, which are compared as such.
 ghost use Rattle.std.specs.Prelude.{◌≡◌, ◌-◌, ◌<◌, ◌≤◌, pos, get_or, length, map, IfSome};
 ghost use Rattle.std.specs.List.{slice_range};
-ghost use Rattle.awk_lanes.specs.Numbers.{number};
+ghost use Rattle.awk_lanes.specs.Numbers.{element, number};
 ghost use Rattle.awk_lanes.specs.declared.kind.Kind.TheVariants as Kind;
 ghost use Rattle.awk_numbers.specs.Folds.{first_extreme, whole_numbers};
 ghost use Rattle.awk_parts.specs.Extremes.{better_of, IsBest};
 ghost use Rattle.awk_parts.specs.Lanes.{number_or_zero};
 
+use crate::cells::Cell;
 use crate::parts::Span;
-use awk_numbers::{Extreme, Whole};
+use awk_numbers::{Extreme, Whole, extreme_of};
 
 /// Which of two numbers is looked for.
 trait Side {
@@ -52,11 +53,11 @@ impl Side for Greater {
 
 /// The number at place i.
 #[inline(always)]
-pub(crate) fn number_at(groups: &[[u8; 8]], i: usize) -> i64
+pub(crate) fn number_at<const W: usize, C: Cell<W>>(groups: &[[u8; W]], i: usize) -> i64
     requires { i < length groups.now }
-    ensures { result ≡ get_or (map (number Kind.I64) groups.now) i (pos 0) }
+    ensures { result ≡ get_or (map C.number groups.now) i (pos 0) }
 {
-    i64::from_le_bytes(groups[i])
+    C::number(&groups[i])
 }
 
 /// An extreme number, and the first of its places.
@@ -80,17 +81,17 @@ fn better<S: Side>(old: Best, next: Best) -> Best
 
 /// The extreme.
 #[inline(always)]
-fn best_in<S: Side>(groups: &[[u8; 8]]) -> Best
+fn best_in<S: Side, const W: usize, C: Cell<W>>(groups: &[[u8; W]]) -> Best
     requires some { 0 < length groups.now }
-    ensures { IsBest S.how groups.now result }
+    ensures { IsBest S.how C.number groups.now result }
 {
-    let first = number_at(groups, 0);
+    let first = number_at::<W, C>(groups, 0);
     let mut best = Best {
         place: 0,
         number: first,
     };
     for i in 0..groups.len() {
-        let number = number_at(groups, i);
+        let number = number_at::<W, C>(groups, i);
         best = better::<S>(best, Best { place: i, number });
     }
     best
@@ -98,25 +99,26 @@ fn best_in<S: Side>(groups: &[[u8; 8]]) -> Best
 
 /// The extreme.
 #[inline(always)]
-fn best_of(how: Extreme, groups: &[[u8; 8]]) -> Best
+fn best_of<const W: usize, C: Cell<W>>(how: Extreme, groups: &[[u8; W]]) -> Best
     requires some { 0 < length groups.now }
-    ensures { IsBest how groups.now result }
+    ensures { IsBest how C.number groups.now result }
 {
     match how {
-        Extreme::Least => best_in::<Lesser>(groups),
-        Extreme::Greatest => best_in::<Greater>(groups),
+        Extreme::Least => best_in::<Lesser, W, C>(groups),
+        Extreme::Greatest => best_in::<Greater, W, C>(groups),
     }
 }
 
 /// The first place of the extreme, or none of none.
-fn extreme_place(how: Extreme, groups: &[[u8; 8]]) -> Option<u64>
-    ensures place { result ≡ first_extreme how (map (number Kind.I64) groups.now) }
+#[inline(always)]
+fn extreme_place<const W: usize, C: Cell<W>>(how: Extreme, groups: &[[u8; W]]) -> Option<u64>
+    ensures place { result ≡ first_extreme how (map C.number groups.now) }
     ensures inside { IfSome result (λ k. k < length groups.now) }
 {
     if groups.is_empty() {
         return None;
     }
-    Some(best_of(how, groups).place as u64)
+    Some(best_of::<W, C>(how, groups).place as u64)
 }
 
 /// The extreme of the numbers from a start below a stop, and 0 of none.
@@ -130,18 +132,55 @@ pub(crate) fn wide_extreme(how: Extreme, groups: &[[u8; 8]], span: Span) -> i64
     if part.is_empty() {
         return 0;
     }
-    best_of(how, part).number
+    best_of::<8, i64>(how, part).number
 }
 
-/// The first place of the extreme of the numbers from a start below a stop, counted from the start.
-pub(crate) fn wide_place(how: Extreme, groups: &[[u8; 8]], span: Span) -> Option<u64>
+/// The first place of the extreme of the numbers of cells from a start below a stop, counted from
+/// the start.
+fn cell_place<const W: usize, C: Cell<W>>(
+    how: Extreme,
+    groups: &[[u8; W]],
+    span: Span,
+) -> Option<u64>
     requires order { span.start ≤ span.stop }
     requires within { span.stop ≤ length groups.now }
     ensures place { result ≡ first_extreme how
-        (slice_range (map (number Kind.I64) groups.now) span.start span.stop) }
+        (slice_range (map C.number groups.now) span.start span.stop) }
     ensures inside { IfSome result (λ k. k < span.stop - span.start) }
 {
-    extreme_place(how, &groups[span.start as usize..span.stop as usize])
+    extreme_place::<W, C>(how, &groups[span.start as usize..span.stop as usize])
+}
+
+/// Truth values, each in a group of its own.
+#[inline(always)]
+fn truth_groups<'a>(bytes: &'a [u8]) -> &'a [[u8; 1]]
+    ensures { map (λ g. element Kind.Bool (number Kind.Bool g)) result.now
+        ≡ map (λ b. element Kind.Bool (pos b)) bytes.now }
+{
+    bytes.as_chunks::<1>().0
+}
+
+/// The first place of the extreme of the numbers from a start below a stop, counted from the start.
+/// There is a loop for each kind, so that none asks for it.
+pub(crate) fn first_place(how: Extreme, numbers: &Whole, span: Span) -> Option<u64>
+    requires order { span.start ≤ span.stop }
+    requires within { span.stop ≤ length (whole_numbers numbers.now) }
+    requires few { span.stop - span.start ≤ 1073741824 }
+    ensures place { result ≡ first_extreme how
+        (slice_range (whole_numbers numbers.now) span.start span.stop) }
+    ensures inside { IfSome result (λ k. k < span.stop - span.start) }
+{
+    match *numbers {
+        Whole::Truths(bytes) => cell_place::<1, bool>(how, truth_groups(bytes), span),
+        Whole::I8(groups) => cell_place::<1, i8>(how, groups, span),
+        Whole::I16(groups) => cell_place::<2, i16>(how, groups, span),
+        Whole::I32(groups) => cell_place::<4, i32>(how, groups, span),
+        Whole::I64(groups) => cell_place::<8, i64>(how, groups, span),
+        Whole::U8(groups) => cell_place::<1, u8>(how, groups, span),
+        Whole::U16(groups) => cell_place::<2, u16>(how, groups, span),
+        Whole::U32(groups) => cell_place::<4, u32>(how, groups, span),
+        Whole::U64(_) => extreme_of(how, numbers, span.start, span.stop),
+    }
 }
 
 /// The numbers as groups of eight bytes, if they are of i64.

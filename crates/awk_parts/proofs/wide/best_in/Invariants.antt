@@ -2,4 +2,4 @@ use Rattle.awk_parts.proofs.ExtremeLaws.{IsSoFar}
 use Rattle.awk_parts.proofs.wide.best_in.Given as goal
 
 abbrev pub invariant-loop-i : goal.invariant-loop-i
-invariant-loop-i g l = IsSoFar g.S.Side.how l.groups l.i l.best
+invariant-loop-i g l = IsSoFar g.S.Side.how g.C.Cell.number l.groups l.i l.best

@@ -21,4 +21,4 @@ returns c =
     to_z-of_z w64 z f
     ∙ subst (λ zs. z ≡ number_or_zero zs (first_extreme how zs))
     (sym (slice_range-map (number Kind.I64) gs c.args.span.start c.args.span.stop))
-    (best_read how part c.best_of.result c.best_of.ensures)
+    (best_read how (number Kind.I64) part c.best_of.result c.best_of.ensures)

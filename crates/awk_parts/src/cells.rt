@@ -1,0 +1,110 @@
+//! How numbers that fit an i64 lie in the bytes of a lane.
+ghost use Rattle.std.specs.Prelude.{◌≡◌};
+
+/// A number of W bytes, the least significant first, that fits an i64; a truth value is 0 or 1.
+pub(crate) trait Cell<const W: usize> {
+    ghost use Rattle.std.specs.Prelude.{ℕ, ℤ, List};
+
+    /// The number of a group of bytes.
+    ghost number: { List ℕ → ℤ };
+
+    /// The number of these bytes.
+    fn number(bytes: &[u8; W]) -> i64
+        ensures { result ≡ number bytes.now };
+}
+
+impl Cell<1> for bool {
+    ghost use Rattle.awk_lanes.specs.Numbers.{element, number as number_of};
+    ghost use Rattle.awk_lanes.specs.declared.kind.Kind.TheVariants as Kind;
+
+    ghost number = { λ b. element Kind.Bool (number_of Kind.Bool b) };
+
+    #[inline(always)]
+    fn number(bytes: &[u8; 1]) -> i64 {
+        if bytes[0] == 0 { 0 } else { 1 }
+    }
+}
+
+impl Cell<1> for i8 {
+    ghost use Rattle.awk_lanes.specs.Numbers.{number as number_of};
+    ghost use Rattle.awk_lanes.specs.declared.kind.Kind.TheVariants as Kind;
+
+    ghost number = { number_of Kind.I8 };
+
+    #[inline(always)]
+    fn number(bytes: &[u8; 1]) -> i64 {
+        i64::from(i8::from_le_bytes(*bytes))
+    }
+}
+
+impl Cell<2> for i16 {
+    ghost use Rattle.awk_lanes.specs.Numbers.{number as number_of};
+    ghost use Rattle.awk_lanes.specs.declared.kind.Kind.TheVariants as Kind;
+
+    ghost number = { number_of Kind.I16 };
+
+    #[inline(always)]
+    fn number(bytes: &[u8; 2]) -> i64 {
+        i64::from(i16::from_le_bytes(*bytes))
+    }
+}
+
+impl Cell<4> for i32 {
+    ghost use Rattle.awk_lanes.specs.Numbers.{number as number_of};
+    ghost use Rattle.awk_lanes.specs.declared.kind.Kind.TheVariants as Kind;
+
+    ghost number = { number_of Kind.I32 };
+
+    #[inline(always)]
+    fn number(bytes: &[u8; 4]) -> i64 {
+        i64::from(i32::from_le_bytes(*bytes))
+    }
+}
+
+impl Cell<8> for i64 {
+    ghost use Rattle.awk_lanes.specs.Numbers.{number as number_of};
+    ghost use Rattle.awk_lanes.specs.declared.kind.Kind.TheVariants as Kind;
+
+    ghost number = { number_of Kind.I64 };
+
+    #[inline(always)]
+    fn number(bytes: &[u8; 8]) -> i64 {
+        i64::from_le_bytes(*bytes)
+    }
+}
+
+impl Cell<1> for u8 {
+    ghost use Rattle.awk_lanes.specs.Numbers.{number as number_of};
+    ghost use Rattle.awk_lanes.specs.declared.kind.Kind.TheVariants as Kind;
+
+    ghost number = { number_of Kind.U8 };
+
+    #[inline(always)]
+    fn number(bytes: &[u8; 1]) -> i64 {
+        i64::from(bytes[0])
+    }
+}
+
+impl Cell<2> for u16 {
+    ghost use Rattle.awk_lanes.specs.Numbers.{number as number_of};
+    ghost use Rattle.awk_lanes.specs.declared.kind.Kind.TheVariants as Kind;
+
+    ghost number = { number_of Kind.U16 };
+
+    #[inline(always)]
+    fn number(bytes: &[u8; 2]) -> i64 {
+        i64::from(u16::from_le_bytes(*bytes))
+    }
+}
+
+impl Cell<4> for u32 {
+    ghost use Rattle.awk_lanes.specs.Numbers.{number as number_of};
+    ghost use Rattle.awk_lanes.specs.declared.kind.Kind.TheVariants as Kind;
+
+    ghost number = { number_of Kind.U32 };
+
+    #[inline(always)]
+    fn number(bytes: &[u8; 4]) -> i64 {
+        i64::from(u32::from_le_bytes(*bytes))
+    }
+}
