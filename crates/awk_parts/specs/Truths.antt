@@ -1,5 +1,6 @@
 -- Whether some or all numbers are not 0.
-use Rattle.std.specs.Prelude.{◌≡◌, ℤ, pos, Bool, List, if◌then◌else◌}
+use Rattle.std.specs.Prelude.{◌≡◌, ℕ, ℤ, pos, Bool, true, false, not, List, if◌then◌else◌}
+use Rattle.awk_lanes.specs.Numbers.{element, is_nonzero}
 use Rattle.awk_lanes.specs.declared.kind.Kind.TheVariants as kind
 use Rattle.awk_numbers.specs.Folds.{tallied, tally_kind}
 use Rattle.awk_numbers.specs.declared.tallies.Tally.{Tally}
@@ -7,3 +8,8 @@ use Rattle.awk_numbers.specs.declared.tallies.Tally.{Tally}
 -- what is told of numbers is a truth value, and this one
 abbrev pub IsTold : Tally → List ℤ → Bool → Type 0
 IsTold how zs b = (tally_kind how ≡ kind.Bool) × (tallied how zs ≡ pos (if b then 1 else 0))
+
+-- whether a byte is that of the truth value that is looked for
+abbrev pub is_wanted : Bool → ℕ → Bool
+is_wanted true b = is_nonzero (element kind.Bool (pos b))
+is_wanted false b = not (is_nonzero (element kind.Bool (pos b)))

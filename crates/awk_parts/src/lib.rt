@@ -6,9 +6,11 @@
 //! the least or the greatest of each part, `places_of` where it stands; `present_parts` tells which
 //! parts have a number. `fitting_lane` makes a lane of any numbers that are judged so (`Totals`).
 //! Numbers that fit an i64 are compared as such, in a loop for each kind; whether some or all of a
-//! part are not 0 is told at the first that settles it, of numbers of i64 and of truth values.
+//! part are not 0 is told of them at the first that settles it, and of truth values at the first
+//! block.
 #![tactic(auto)]
 
+mod blocks;
 mod cells;
 mod extremes;
 mod fits;

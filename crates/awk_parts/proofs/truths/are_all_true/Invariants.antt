@@ -1,4 +1,4 @@
-use Rattle.std.proofs.Common.{◌≡◌, take}
+use Rattle.std.proofs.Common.{◌≡◌, map, take}
 use Rattle.std.specs.Prelude.{true}
 use Rattle.std.specs.List.{list_all}
 use Rattle.awk_lanes.specs.Numbers.{is_nonzero}
@@ -6,5 +6,5 @@ use Rattle.awk_parts.proofs.truths.are_all_true.Given as goal
 
 abbrev pub invariant-loop-i : goal.invariant-loop-i
 invariant-loop-i g l = record {
-  all : list_all is_nonzero (take l.i (g.R.Row.numbers l.row)) ≡ true;
+  all : list_all is_nonzero (take l.i (map g.C.Cell.number l.groups)) ≡ true;
 }
