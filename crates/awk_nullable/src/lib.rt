@@ -1,19 +1,22 @@
 //! Numbers of which some may be null, read where they lie.
 //!
-//! `Leaves` is the numbers of a lane (`Cells`: those of any lane, or of i64 as such) and a way
-//! there from an item (`Places`): an index, a mask of bytes or of bits, or none where each item is
-//! there. Of so many items from a first one on, those that are not null are folded by `fold_of`,
-//! counted by `count_of` and judged by `tally_of`, and `is_some_there` tells whether there is one;
-//! `extreme_of` is where in the lane the least or the greatest of them lies, and `place_of` where
-//! among the items it stands first. Each is one pass, and no lane of their numbers is made.
+//! `Leaves` is the numbers of a lane (`Cells`: those of any lane, or of i64, of i8 or truth values
+//! as such) and a way there from an item (`Places`): an index, a mask of bytes or of bits, or none
+//! where each item is there. Of so many items from a first one on, those that are not null are
+//! folded by `fold_of`, counted by `count_of` and judged by `tally_of`, and `is_some_there` tells
+//! whether there is one; `extreme_of` is where in the lane the least or the greatest of them lies,
+//! and `place_of` where among the items it stands first. Each is one pass, and no lane of their
+//! numbers is made.
 #![tactic(auto)]
 
+mod byte_cells;
 mod cells;
 mod extremes;
 mod numbers;
 mod places;
 mod totals;
 
+pub use byte_cells::{Byte, ByteCells, cells_of};
 pub use cells::Cells;
 pub use extremes::{extreme_of, place_of};
 pub use numbers::{Leaves, count_of, is_some_there};

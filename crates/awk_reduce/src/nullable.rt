@@ -1,6 +1,7 @@
 //! Lists of leaves of which some may be null, reduced where they lie.
 ghost use Rattle.std.specs.Prelude.{◌≡◌, ◌≤◌, IfOk};
 ghost use Rattle.awk_types.specs.ItemLimit.{item_limit};
+ghost use Rattle.awk_lanes.specs.Numbers.{width};
 ghost use Rattle.awk_lanes.specs.Places.{size_of};
 ghost use Rattle.awk_layout.specs.Typing.{array_type};
 ghost use Rattle.awk_axis.specs.Mapped.{IsMade};
@@ -18,7 +19,7 @@ use awk_axis::{Made, Spoil};
 use awk_columns::Bounds;
 use awk_lanes::{Arena, Kind, Lane, Steps, wide_index};
 use awk_layout::Node;
-use awk_nullable::{Cells, Leaves, Places};
+use awk_nullable::{Byte, Cells, Leaves, Places, cells_of};
 use awk_nullable_lists::{
     LeafLists, Nullable, extreme_lists, fold_lists, place_lists, present_lists, tally_lists,
 };
@@ -155,7 +156,32 @@ fn reduced_by<'a, P: Places, C: Cells, L: Ledger>(
     null_reduced(alloc, how, lane, &lists, arena, steps)
 }
 
-/// The same, where numbers of i64 are read as such.
+/// The same by a lane of a byte a number, whose kind is not asked for.
+fn reduced_bytes<'a, B: Byte, P: Places, L: Ledger>(
+    alloc: Global,
+    how: Reducer,
+    bounds: &Bounds<'_, 'a>,
+    lane: &Lane<'a>,
+    places: &P,
+    arena: &'a Arena,
+    steps: &mut Steps<L>,
+) -> Result<Made<'a>, NoMemory>
+    requires kind { lane.now.kind ≡ B.kind }
+    requires width { width B.kind ≡ 1 }
+    requires leaves { AreLeaves bounds.now.content (P.at places.now) (P.size places.now) lane.now }
+    requires few { total bounds.now.starts bounds.now.stops bounds.now.content ≤ item_limit }
+    ensures { IfOk result (IsMade (reducer_function how) bounds.now.class bounds.now.starts
+        bounds.now.stops bounds.now.content) }
+{
+    let cells = cells_of::<B, L>(lane, steps);
+    let leaves = Leaves {
+        places,
+        cells: &cells,
+    };
+    reduced_by(alloc, how, bounds, lane, &leaves, arena, steps)
+}
+
+/// The same, where numbers of i64, of i8 and truth values are read as such.
 fn reduced_in<'a, P: Places, L: Ledger>(
     alloc: Global,
     how: Reducer,
@@ -179,6 +205,8 @@ fn reduced_in<'a, P: Places, L: Ledger>(
             };
             reduced_by(alloc, how, bounds, lane, &leaves, arena, steps)
         }
+        Kind::I8 => reduced_bytes::<i8, P, L>(alloc, how, bounds, lane, places, arena, steps),
+        Kind::Bool => reduced_bytes::<bool, P, L>(alloc, how, bounds, lane, places, arena, steps),
         _ => {
             let leaves = Leaves {
                 places,
