@@ -2,7 +2,7 @@
 use Rattle.std.proofs.Common.{◌≡◌, ℕ, ◌+◌, ◌-◌, ◌%◌, ◌^◌, ◌<◌, ◌≤◌, Bool, true, false, cond}
 use Rattle.std.proofs.Common.{List, map, length, get_or, replicate, refl, sym, ap, ap₂, ◌∙◌}
 use Rattle.std.proofs.Common.{arith, w64}
-use Rattle.std.specs.Prelude.{ℤ, pos, ◌+ℤ◌, ◌-ℤ◌, int_lt, nat_lt, nat_eq, ◌||◌}
+use Rattle.std.specs.Prelude.{ℤ, pos, negsuc, ◌+ℤ◌, ◌-ℤ◌, int_lt, nat_lt, nat_eq, ◌||◌}
 use Rattle.std.specs.Prelude.{FitsSigned, IsTrue, Result, Ok, Err}
 use Rattle.std.specs.Int.{cast_unsigned as of_z, cast_signed as to_z}
 use Rattle.std.specs.Simd.Lanes.{chunk, zip2}
@@ -55,6 +55,19 @@ lane_within lo hi s j fl fh e l m n =
           ∙ no_mark below (replicate 8 (of_z w64 hi)) s j (length-replicate 8 (of_z w64 hi)) e l n,
     )
 
+-- nor where every number of 64 bits lies from lo to hi
+sum_within : (lo hi : ℤ) (u v : ℕ) → lo ≡ negsuc 9223372036854775807
+    → hi ≡ pos 9223372036854775807
+    → (int_lt (to_z w64 (wrapped_sum u v)) lo ≡ false)
+    × (int_lt hi (to_z w64 (wrapped_sum u v)) ≡ false)
+sum_within lo hi u v e f = (grind (arith, ints), grind (arith, ints))
+
+difference_within : (lo hi : ℤ) (u v : ℕ) → lo ≡ negsuc 9223372036854775807
+    → hi ≡ pos 9223372036854775807
+    → (int_lt (to_z w64 (wrapped_difference u v)) lo ≡ false)
+    × (int_lt hi (to_z w64 (wrapped_difference u v)) ≡ false)
+difference_within lo hi u v e f = (grind (arith, ints), grind (arith, ints))
+
 module _ (xs ys : List ℤ) (at : ℕ) (rx : at + 8 ≤ length xs) (ry : at + 8 ≤ length ys)
     (lo hi : ℤ) (fl : FitsSigned w64 lo) (fh : FitsSigned w64 hi) (k : ℕ) (p : at ≤ k)
     (q : k < at + 8) (fx : FitsSigned w64 (get_or xs k (pos 0)))
@@ -83,6 +96,27 @@ module _ (xs ys : List ℤ) (at : ℕ) (rx : at + 8 ≤ length xs) (ry : at + 8 
   first : to_z w64 (get_or (loaded at xs) (k - at) 0) ≡ get_or xs k (pos 0)
   first = ap (to_z w64) (lane_at xs at k rx p q) ∙ to_z-of_z w64 (get_or xs k (pos 0)) fx
 
+  sum_between :
+      mask below (zip2 wrapped_sum (loaded at xs) (loaded at ys)) (loaded at xs)
+      ≡ mask below (loaded at ys) (replicate 8 0)
+      → (int_lt (to_z w64 (get_or (zip2 wrapped_sum (loaded at xs) (loaded at ys)) (k - at) 0)) lo
+      ≡ false)
+      × (int_lt hi (to_z w64 (get_or (zip2 wrapped_sum (loaded at xs) (loaded at ys)) (k - at) 0))
+      ≡ false)
+      → leaf Add lo hi (get_or xs k (pos 0)) (get_or ys k (pos 0))
+      ≡ Ok (to_z w64 (get_or (zip2 wrapped_sum (loaded at xs) (loaded at ys)) (k - at) 0))
+  sum_between e bounds =
+      let x = get_or xs k (pos 0) in
+      let y = get_or ys k (pos 0) in
+      let s = zip2 wrapped_sum (loaded at xs) (loaded at ys) in
+      let z = to_z w64 (get_or s (k - at) 0) in
+      let here = ap (to_z w64) (block_at wrapped_sum) in
+      let marks = same_marks below below s (loaded at xs) (loaded at ys) (replicate 8 0) (k - at)
+      (long wrapped_sum) (length-loaded at xs rx) (length-loaded at ys ry)
+      (length-replicate {A = ℕ} 8 0) (omega arith) e in
+      let is = here ∙ sum_is x y fx fy (ap₂ int_lt (sym here) (sym first) ∙ marks ∙ minus) in
+      within_is lo hi (x +ℤ y) z is bounds.0 bounds.1
+
   pub sum_made :
       mask below (zip2 wrapped_sum (loaded at xs) (loaded at ys)) (loaded at xs)
       ≡ mask below (loaded at ys) (replicate 8 0)
@@ -91,18 +125,41 @@ module _ (xs ys : List ℤ) (at : ℕ) (rx : at + 8 ≤ length xs) (ry : at + 8 
       → leaf Add lo hi (get_or xs k (pos 0)) (get_or ys k (pos 0))
       ≡ Ok (to_z w64 (get_or (zip2 wrapped_sum (loaded at xs) (loaded at ys)) (k - at) 0))
   sum_made e m n =
+      let s = zip2 wrapped_sum (loaded at xs) (loaded at ys) in
+      sum_between e
+      (lane_within lo hi s (k - at) fl fh (long wrapped_sum) (omega arith) m n)
+
+  pub sum_made-all :
+      mask below (zip2 wrapped_sum (loaded at xs) (loaded at ys)) (loaded at xs)
+      ≡ mask below (loaded at ys) (replicate 8 0)
+      → lo ≡ negsuc 9223372036854775807 → hi ≡ pos 9223372036854775807
+      → leaf Add lo hi (get_or xs k (pos 0)) (get_or ys k (pos 0))
+      ≡ Ok (to_z w64 (get_or (zip2 wrapped_sum (loaded at xs) (loaded at ys)) (k - at) 0))
+  sum_made-all e l h =
+      let u = of_z w64 (get_or xs k (pos 0)) in
+      let v = of_z w64 (get_or ys k (pos 0)) in
+      sum_between e (rw (block_at wrapped_sum) (sum_within lo hi u v l h))
+
+  difference_between :
+      mask below (loaded at xs) (zip2 wrapped_difference (loaded at xs) (loaded at ys))
+      ≡ mask below (loaded at ys) (replicate 8 0)
+      → (int_lt (to_z w64 (get_or (zip2 wrapped_difference (loaded at xs) (loaded at ys))
+      (k - at) 0)) lo ≡ false)
+      × (int_lt hi (to_z w64 (get_or (zip2 wrapped_difference (loaded at xs) (loaded at ys))
+      (k - at) 0)) ≡ false)
+      → leaf Sub lo hi (get_or xs k (pos 0)) (get_or ys k (pos 0))
+      ≡ Ok (to_z w64 (get_or (zip2 wrapped_difference (loaded at xs) (loaded at ys)) (k - at) 0))
+  difference_between e bounds =
       let x = get_or xs k (pos 0) in
       let y = get_or ys k (pos 0) in
-      let s = zip2 wrapped_sum (loaded at xs) (loaded at ys) in
+      let s = zip2 wrapped_difference (loaded at xs) (loaded at ys) in
       let z = to_z w64 (get_or s (k - at) 0) in
-      let j : k - at < 8 = omega arith in
-      let here = ap (to_z w64) (block_at wrapped_sum) in
-      let marks = same_marks below below s (loaded at xs) (loaded at ys) (replicate 8 0) (k - at)
-      (long wrapped_sum) (length-loaded at xs rx) (length-loaded at ys ry)
-      (length-replicate {A = ℕ} 8 0) j e in
-      let is = here ∙ sum_is x y fx fy (ap₂ int_lt (sym here) (sym first) ∙ marks ∙ minus) in
-      let bounds = lane_within lo hi s (k - at) fl fh (long wrapped_sum) j m n in
-      within_is lo hi (x +ℤ y) z is bounds.0 bounds.1
+      let here = ap (to_z w64) (block_at wrapped_difference) in
+      let marks = same_marks below below (loaded at xs) s (loaded at ys) (replicate 8 0) (k - at)
+      (length-loaded at xs rx) (long wrapped_difference) (length-loaded at ys ry)
+      (length-replicate {A = ℕ} 8 0) (omega arith) e in
+      let is = here ∙ difference_is x y fx fy (ap₂ int_lt (sym first) (sym here) ∙ marks ∙ minus) in
+      within_is lo hi (x -ℤ y) z is bounds.0 bounds.1
 
   pub difference_made :
       mask below (loaded at xs) (zip2 wrapped_difference (loaded at xs) (loaded at ys))
@@ -114,18 +171,20 @@ module _ (xs ys : List ℤ) (at : ℕ) (rx : at + 8 ≤ length xs) (ry : at + 8 
       → leaf Sub lo hi (get_or xs k (pos 0)) (get_or ys k (pos 0))
       ≡ Ok (to_z w64 (get_or (zip2 wrapped_difference (loaded at xs) (loaded at ys)) (k - at) 0))
   difference_made e m n =
-      let x = get_or xs k (pos 0) in
-      let y = get_or ys k (pos 0) in
       let s = zip2 wrapped_difference (loaded at xs) (loaded at ys) in
-      let z = to_z w64 (get_or s (k - at) 0) in
-      let j : k - at < 8 = omega arith in
-      let here = ap (to_z w64) (block_at wrapped_difference) in
-      let marks = same_marks below below (loaded at xs) s (loaded at ys) (replicate 8 0) (k - at)
-      (length-loaded at xs rx) (long wrapped_difference) (length-loaded at ys ry)
-      (length-replicate {A = ℕ} 8 0) j e in
-      let is = here ∙ difference_is x y fx fy (ap₂ int_lt (sym first) (sym here) ∙ marks ∙ minus) in
-      let bounds = lane_within lo hi s (k - at) fl fh (long wrapped_difference) j m n in
-      within_is lo hi (x -ℤ y) z is bounds.0 bounds.1
+      difference_between e
+      (lane_within lo hi s (k - at) fl fh (long wrapped_difference) (omega arith) m n)
+
+  pub difference_made-all :
+      mask below (loaded at xs) (zip2 wrapped_difference (loaded at xs) (loaded at ys))
+      ≡ mask below (loaded at ys) (replicate 8 0)
+      → lo ≡ negsuc 9223372036854775807 → hi ≡ pos 9223372036854775807
+      → leaf Sub lo hi (get_or xs k (pos 0)) (get_or ys k (pos 0))
+      ≡ Ok (to_z w64 (get_or (zip2 wrapped_difference (loaded at xs) (loaded at ys)) (k - at) 0))
+  difference_made-all e l h =
+      let u = of_z w64 (get_or xs k (pos 0)) in
+      let v = of_z w64 (get_or ys k (pos 0)) in
+      difference_between e (rw (block_at wrapped_difference) (difference_within lo hi u v l h))
 
 -- the same, of numbers that are not below 0
 nat_sum_is : (x y : ℕ) → x < 2 ^ 64 → y < 2 ^ 64 → nat_lt (wrapped_sum x y) x ≡ false

@@ -1,7 +1,7 @@
 //! Sums and differences of eight numbers at once, and quotients and remainders by one number. Of
 //! products no place is made.
 ghost use Rattle.std.specs.Prelude.{◌≡◌, ℕ, ◌+◌, ◌<◌, ◌≤◌, length, get_or, pos, Ok, IsTrue, IsNone};
-ghost use Rattle.std.specs.Prelude.{map, FitsSigned};
+ghost use Rattle.std.specs.Prelude.{map, negsuc, FitsSigned};
 ghost use Rattle.std.specs.Int.{w64};
 ghost use Rattle.awk_kernels.specs.Operations.{leaf};
 ghost use Rattle.awk_kernels.specs.Kernels.{first_broken, leaves, nat_leaves};
@@ -12,6 +12,15 @@ use crate::division::{divided, divided_nat};
 use crate::rest;
 use awk_kernels::{Arith, Broken};
 use std::simd::prelude::*;
+
+/// Whether every i64 lies from `lo` to `hi`.
+#[inline(always)]
+fn takes_all(lo: i64, hi: i64) -> bool
+    ensures least { IsTrue result → lo ≡ negsuc 9223372036854775807 }
+    ensures greatest { IsTrue result → hi ≡ pos 9223372036854775807 }
+{
+    lo == i64::MIN && hi == i64::MAX
+}
 
 /// Writes the sums of the eight numbers from a place on, and tells whether each of them is exact
 /// and lies from `lo` to `hi`. Where one is not, it says nothing of these places.
@@ -33,6 +42,9 @@ fn add_block(a: &[i64], b: &[i64], at: usize, lo: i64, hi: i64, out: &mut [i64])
     z.copy_to_slice(&mut out[at..]);
     if z.simd_lt(x).to_bitmask() != y.simd_lt(i64x8::splat(0)).to_bitmask() {
         return false;
+    }
+    if takes_all(lo, hi) {
+        return true;
     }
     if z.simd_lt(i64x8::splat(lo)).to_bitmask() != 0 {
         return false;
@@ -59,6 +71,9 @@ fn subtract_block(a: &[i64], b: &[i64], at: usize, lo: i64, hi: i64, out: &mut [
     z.copy_to_slice(&mut out[at..]);
     if x.simd_lt(z).to_bitmask() != y.simd_lt(i64x8::splat(0)).to_bitmask() {
         return false;
+    }
+    if takes_all(lo, hi) {
+        return true;
     }
     if z.simd_lt(i64x8::splat(lo)).to_bitmask() != 0 {
         return false;
