@@ -1,19 +1,20 @@
 -- Sums and differences of lanes that do not wrap.
-use Rattle.std.proofs.Common.{◌≡◌, ℕ, ◌+◌, ◌-◌, ◌%◌, ◌^◌, ◌<◌, ◌≤◌, Bool, true, false, cond}
-use Rattle.std.proofs.Common.{List, map, length, get_or, replicate, refl, sym, ap, ap₂, ◌∙◌}
+use Rattle.std.proofs.Common.{◌≡◌, ℕ, ◌+◌, ◌-◌, ◌%◌, ◌^◌, ◌<◌, ◌≤◌, false, cond}
+use Rattle.std.proofs.Common.{List, length, get_or, replicate, refl, sym, ap, ap₂, ◌∙◌}
 use Rattle.std.proofs.Common.{arith, w64}
 use Rattle.std.specs.Prelude.{ℤ, pos, negsuc, ◌+ℤ◌, ◌-ℤ◌, int_lt, nat_lt, nat_eq, ◌||◌}
-use Rattle.std.specs.Prelude.{FitsSigned, IsTrue, Result, Ok, Err}
+use Rattle.std.specs.Prelude.{FitsSigned, IsTrue, Ok, Err, zero, suc, ◌/◌}
+use Rattle.std.specs.Prelude.{bit_and, bit_xor}
 use Rattle.std.specs.Int.{cast_unsigned as of_z, cast_signed as to_z}
 use Rattle.std.specs.Simd.Lanes.{chunk, zip2}
 use Rattle.std.proofs.lemmas.Int.{ints, to_z-of_z}
+use Rattle.std.proofs.lemmas.Nat.{and_shr, xor_shr, and_le_l, xor_lt, div_below}
 use Rattle.std.proofs.lemmas.Simd.{length-chunk, length-replicate, get_or-replicate}
-use Rattle.awk_kernels.specs.declared.operation.Why.{Why}
 use Rattle.awk_kernels.specs.declared.operation.Why.TheVariants.{Overflow}
 use Rattle.awk_kernels.specs.declared.operation.Arith.TheVariants.{Add, Sub}
 use Rattle.awk_kernels.specs.Operations.{leaf, within}
 use Rattle.awk_simd.proofs.Masks.{loaded, length-loaded}
-use Rattle.awk_simd.proofs.Lanes.{mask, below, same_marks, no_mark, lane_at, lane_at-nat}
+use Rattle.awk_simd.proofs.Lanes.{mask, below, no_mark, lane_at, lane_at-nat}
 use Rattle.awk_simd.proofs.Lanes.{result_at, length-results}
 
 abbrev pub wrapped_sum : ℕ → ℕ → ℕ
@@ -22,17 +23,68 @@ wrapped_sum u v = (u + v) % 2 ^ 64
 abbrev pub wrapped_difference : ℕ → ℕ → ℕ
 wrapped_difference u v = (u + (2 ^ 64 - v)) % 2 ^ 64
 
--- a sum that is below the first number exactly where the second is below 0 has not wrapped
-sum_is : (x y : ℤ) → FitsSigned w64 x → FitsSigned w64 y
-    → int_lt (to_z w64 (wrapped_sum (of_z w64 x) (of_z w64 y))) x ≡ int_lt y (pos 0)
-    → to_z w64 (wrapped_sum (of_z w64 x) (of_z w64 y)) ≡ x +ℤ y
-sum_is x y f g e = grind (arith, ints)
+-- where two bits are equal, and a third differs from neither of them or from one, it is equal
+equal_bits : (a b c : ℕ) → a < 2 → b < 2 → c < 2 → a ≡ b
+    → bit_and (bit_xor a c) (bit_xor b c) ≡ 0 → c ≡ a
+equal_bits zero zero zero p q r s e = refl
+equal_bits zero zero (suc zero) p q r s e = absurd (omega (arith, e))
+equal_bits (suc zero) (suc zero) zero p q r s e = absurd (omega (arith, e))
+equal_bits (suc zero) (suc zero) (suc zero) p q r s e = refl
+equal_bits zero (suc b) c p q r s e = absurd (omega (arith, s))
+equal_bits (suc a) zero c p q r s e = absurd (omega (arith, s))
+equal_bits (suc (suc a)) (suc b) c p q r s e = absurd (omega (arith, p))
+equal_bits (suc zero) (suc (suc b)) c p q r s e = absurd (omega (arith, q))
+equal_bits zero zero (suc (suc c)) p q r s e = absurd (omega (arith, r))
+equal_bits (suc zero) (suc zero) (suc (suc c)) p q r s e = absurd (omega (arith, r))
 
--- a difference that is above the first number exactly where the second is below 0 has not either
-difference_is : (x y : ℤ) → FitsSigned w64 x → FitsSigned w64 y
-    → int_lt x (to_z w64 (wrapped_difference (of_z w64 x) (of_z w64 y))) ≡ int_lt y (pos 0)
+unequal_bits : (a b c : ℕ) → a < 2 → b < 2 → c < 2 → a + b ≡ 1
+    → bit_and (bit_xor a b) (bit_xor a c) ≡ 0 → c ≡ a
+unequal_bits zero (suc zero) zero p q r s e = refl
+unequal_bits zero (suc zero) (suc zero) p q r s e = absurd (omega (arith, e))
+unequal_bits (suc zero) zero zero p q r s e = absurd (omega (arith, e))
+unequal_bits (suc zero) zero (suc zero) p q r s e = refl
+unequal_bits zero zero c p q r s e = absurd (omega (arith, s))
+unequal_bits (suc a) (suc b) c p q r s e = absurd (omega (arith, s))
+unequal_bits (suc (suc a)) zero c p q r s e = absurd (omega (arith, p))
+unequal_bits zero (suc (suc b)) c p q r s e = absurd (omega (arith, q))
+unequal_bits zero (suc zero) (suc (suc c)) p q r s e = absurd (omega (arith, r))
+unequal_bits (suc zero) zero (suc (suc c)) p q r s e = absurd (omega (arith, r))
+
+-- the sign of a number of 64 bits
+abbrev sign : ℕ → ℕ
+sign u = u / 2 ^ 63
+
+-- where two numbers' signs differ, those of two others do not
+signs_apart : (a b c d : ℕ) → a < 2 ^ 64 → b < 2 ^ 64
+    → int_lt (to_z w64 (bit_and (bit_xor a b) (bit_xor c d))) (pos 0) ≡ false
+    → bit_and (bit_xor (sign a) (sign b)) (bit_xor (sign c) (sign d)) ≡ 0
+signs_apart a b c d p q e =
+    let n = bit_and (bit_xor a b) (bit_xor c d) in
+    let l : n < 2 ^ 64 = omega (arith, and_le_l (bit_xor a b) (bit_xor c d), xor_lt 64 a b p q) in
+    let low : n < 2 ^ 63 = grind (arith, ints) in
+    ap₂ bit_and (sym (xor_shr a b 63)) (sym (xor_shr c d 63))
+    ∙ sym (and_shr (bit_xor a b) (bit_xor c d) 63)
+    ∙ omega (arith, div_below n (2 ^ 63) 1 (omega arith) (omega (arith, low)))
+
+unsigned_below : (x : ℤ) → FitsSigned w64 x → of_z w64 x < 2 ^ 64
+unsigned_below x f = grind (arith, ints)
+
+sign_below : (u : ℕ) → u < 2 ^ 64 → sign u < 2
+sign_below u p = div_below u (2 ^ 63) 2 (omega arith) (omega (arith, p))
+
+-- a sum whose sign is that of one of the two numbers has not wrapped
+sum_fits : (x y : ℤ) → FitsSigned w64 x → FitsSigned w64 y
+    → (sign (of_z w64 x) ≡ sign (of_z w64 y)
+    → sign (wrapped_sum (of_z w64 x) (of_z w64 y)) ≡ sign (of_z w64 x))
+    → to_z w64 (wrapped_sum (of_z w64 x) (of_z w64 y)) ≡ x +ℤ y
+sum_fits x y f g e = grind (arith, ints)
+
+-- nor has a difference whose sign is that of the first number, or of numbers of one sign
+difference_fits : (x y : ℤ) → FitsSigned w64 x → FitsSigned w64 y
+    → (sign (of_z w64 x) + sign (of_z w64 y) ≡ 1
+    → sign (wrapped_difference (of_z w64 x) (of_z w64 y)) ≡ sign (of_z w64 x))
     → to_z w64 (wrapped_difference (of_z w64 x) (of_z w64 y)) ≡ x -ℤ y
-difference_is x y f g e = grind (arith, ints)
+difference_fits x y f g e = grind (arith, ints)
 
 within_is : (lo hi s z : ℤ) → z ≡ s → int_lt z lo ≡ false → int_lt hi z ≡ false
     → within lo hi s ≡ Ok z
@@ -85,20 +137,33 @@ module _ (xs ys : List ℤ) (at : ℕ) (rx : at + 8 ≤ length xs) (ry : at + 8 
       length-results f (loaded at xs) (loaded at ys) (length-loaded at xs rx)
       (length-loaded at ys ry)
 
-  -- the second number is below 0, as its lane tells
-  minus : below (get_or (loaded at ys) (k - at) 0) (get_or (replicate 8 0) (k - at) 0)
-      ≡ int_lt (get_or ys k (pos 0)) (pos 0)
-  minus =
-      let y = get_or ys k (pos 0) in
-      ap₂ int_lt (ap (to_z w64) (lane_at ys at k ry p q) ∙ to_z-of_z w64 y fy)
-      (ap (to_z w64) (get_or-replicate 8 (k - at) 0 0 (omega arith)))
-
-  first : to_z w64 (get_or (loaded at xs) (k - at) 0) ≡ get_or xs k (pos 0)
-  first = ap (to_z w64) (lane_at xs at k rx p q) ∙ to_z-of_z w64 (get_or xs k (pos 0)) fx
+  -- the signs that no mark of two vectors is set for
+  mark_at : (us vs ws zs : List ℕ) → length us ≡ 8 → length vs ≡ 8 → length ws ≡ 8 → length zs ≡ 8
+      → get_or us (k - at) 0 < 2 ^ 64 → get_or vs (k - at) 0 < 2 ^ 64
+      → mask below (zip2 bit_and (zip2 bit_xor us vs) (zip2 bit_xor ws zs)) (replicate 8 0) ≡ 0
+      → bit_and (bit_xor (sign (get_or us (k - at) 0)) (sign (get_or vs (k - at) 0)))
+      (bit_xor (sign (get_or ws (k - at) 0)) (sign (get_or zs (k - at) 0))) ≡ 0
+  mark_at us vs ws zs lu lv lw lz bu bv e =
+      let j : k - at < 8 = omega arith in
+      let m = zip2 bit_xor us vs in
+      let n = zip2 bit_xor ws zs in
+      let lm = length-results bit_xor us vs lu lv in
+      let ln = length-results bit_xor ws zs lw lz in
+      let lane = result_at bit_and m n (k - at) lm ln j
+      ∙ ap₂ bit_and (result_at bit_xor us vs (k - at) lu lv j)
+      (result_at bit_xor ws zs (k - at) lw lz j) in
+      signs_apart (get_or us (k - at) 0) (get_or vs (k - at) 0) (get_or ws (k - at) 0)
+      (get_or zs (k - at) 0) bu bv
+      (ap₂ int_lt (ap (to_z w64) (sym lane))
+      (ap (to_z w64) (sym (get_or-replicate 8 (k - at) 0 0 j)))
+      ∙ no_mark below (zip2 bit_and m n) (replicate 8 0) (k - at)
+      (length-results bit_and m n lm ln) (length-replicate {A = ℕ} 8 0) j e)
 
   sum_between :
-      mask below (zip2 wrapped_sum (loaded at xs) (loaded at ys)) (loaded at xs)
-      ≡ mask below (loaded at ys) (replicate 8 0)
+      mask below (zip2 bit_and
+      (zip2 bit_xor (loaded at xs) (zip2 wrapped_sum (loaded at xs) (loaded at ys)))
+      (zip2 bit_xor (loaded at ys) (zip2 wrapped_sum (loaded at xs) (loaded at ys))))
+      (replicate 8 0) ≡ 0
       → (int_lt (to_z w64 (get_or (zip2 wrapped_sum (loaded at xs) (loaded at ys)) (k - at) 0)) lo
       ≡ false)
       × (int_lt hi (to_z w64 (get_or (zip2 wrapped_sum (loaded at xs) (loaded at ys)) (k - at) 0))
@@ -111,15 +176,31 @@ module _ (xs ys : List ℤ) (at : ℕ) (rx : at + 8 ≤ length xs) (ry : at + 8 
       let s = zip2 wrapped_sum (loaded at xs) (loaded at ys) in
       let z = to_z w64 (get_or s (k - at) 0) in
       let here = ap (to_z w64) (block_at wrapped_sum) in
-      let marks = same_marks below below s (loaded at xs) (loaded at ys) (replicate 8 0) (k - at)
-      (long wrapped_sum) (length-loaded at xs rx) (length-loaded at ys ry)
-      (length-replicate {A = ℕ} 8 0) (omega arith) e in
-      let is = here ∙ sum_is x y fx fy (ap₂ int_lt (sym here) (sym first) ∙ marks ∙ minus) in
+      let u = of_z w64 x in
+      let v = of_z w64 y in
+      let w = wrapped_sum u v in
+      let bu = unsigned_below x fx in
+      let bv = unsigned_below y fy in
+      let bw : w < 2 ^ 64 = omega arith in
+      let eu = lane_at xs at k rx p q in
+      let ev = lane_at ys at k ry p q in
+      let ew = block_at wrapped_sum in
+      let lx = length-loaded at xs rx in
+      let ly = length-loaded at ys ry in
+      let m = mark_at (loaded at xs) s (loaded at ys) s lx (long wrapped_sum) ly
+      (long wrapped_sum) (rw eu bu) (rw ew bw) e in
+      let apart : bit_and (bit_xor (sign u) (sign w)) (bit_xor (sign v) (sign w)) ≡ 0 =
+      rw (eu, ev, ew) at m in
+      let is = here ∙ sum_fits x y fx fy
+      (λ f. equal_bits (sign u) (sign v) (sign w) (sign_below u bu) (sign_below v bv)
+      (sign_below w bw) f apart) in
       within_is lo hi (x +ℤ y) z is bounds.0 bounds.1
 
   pub sum_made :
-      mask below (zip2 wrapped_sum (loaded at xs) (loaded at ys)) (loaded at xs)
-      ≡ mask below (loaded at ys) (replicate 8 0)
+      mask below (zip2 bit_and
+      (zip2 bit_xor (loaded at xs) (zip2 wrapped_sum (loaded at xs) (loaded at ys)))
+      (zip2 bit_xor (loaded at ys) (zip2 wrapped_sum (loaded at xs) (loaded at ys))))
+      (replicate 8 0) ≡ 0
       → mask below (zip2 wrapped_sum (loaded at xs) (loaded at ys)) (replicate 8 (of_z w64 lo)) ≡ 0
       → mask below (replicate 8 (of_z w64 hi)) (zip2 wrapped_sum (loaded at xs) (loaded at ys)) ≡ 0
       → leaf Add lo hi (get_or xs k (pos 0)) (get_or ys k (pos 0))
@@ -130,8 +211,10 @@ module _ (xs ys : List ℤ) (at : ℕ) (rx : at + 8 ≤ length xs) (ry : at + 8 
       (lane_within lo hi s (k - at) fl fh (long wrapped_sum) (omega arith) m n)
 
   pub sum_made-all :
-      mask below (zip2 wrapped_sum (loaded at xs) (loaded at ys)) (loaded at xs)
-      ≡ mask below (loaded at ys) (replicate 8 0)
+      mask below (zip2 bit_and
+      (zip2 bit_xor (loaded at xs) (zip2 wrapped_sum (loaded at xs) (loaded at ys)))
+      (zip2 bit_xor (loaded at ys) (zip2 wrapped_sum (loaded at xs) (loaded at ys))))
+      (replicate 8 0) ≡ 0
       → lo ≡ negsuc 9223372036854775807 → hi ≡ pos 9223372036854775807
       → leaf Add lo hi (get_or xs k (pos 0)) (get_or ys k (pos 0))
       ≡ Ok (to_z w64 (get_or (zip2 wrapped_sum (loaded at xs) (loaded at ys)) (k - at) 0))
@@ -141,8 +224,9 @@ module _ (xs ys : List ℤ) (at : ℕ) (rx : at + 8 ≤ length xs) (ry : at + 8 
       sum_between e (rw (block_at wrapped_sum) (sum_within lo hi u v l h))
 
   difference_between :
-      mask below (loaded at xs) (zip2 wrapped_difference (loaded at xs) (loaded at ys))
-      ≡ mask below (loaded at ys) (replicate 8 0)
+      mask below (zip2 bit_and (zip2 bit_xor (loaded at xs) (loaded at ys))
+      (zip2 bit_xor (loaded at xs) (zip2 wrapped_difference (loaded at xs) (loaded at ys))))
+      (replicate 8 0) ≡ 0
       → (int_lt (to_z w64 (get_or (zip2 wrapped_difference (loaded at xs) (loaded at ys))
       (k - at) 0)) lo ≡ false)
       × (int_lt hi (to_z w64 (get_or (zip2 wrapped_difference (loaded at xs) (loaded at ys))
@@ -155,15 +239,30 @@ module _ (xs ys : List ℤ) (at : ℕ) (rx : at + 8 ≤ length xs) (ry : at + 8 
       let s = zip2 wrapped_difference (loaded at xs) (loaded at ys) in
       let z = to_z w64 (get_or s (k - at) 0) in
       let here = ap (to_z w64) (block_at wrapped_difference) in
-      let marks = same_marks below below (loaded at xs) s (loaded at ys) (replicate 8 0) (k - at)
-      (length-loaded at xs rx) (long wrapped_difference) (length-loaded at ys ry)
-      (length-replicate {A = ℕ} 8 0) (omega arith) e in
-      let is = here ∙ difference_is x y fx fy (ap₂ int_lt (sym first) (sym here) ∙ marks ∙ minus) in
+      let u = of_z w64 x in
+      let v = of_z w64 y in
+      let w = wrapped_difference u v in
+      let bu = unsigned_below x fx in
+      let bv = unsigned_below y fy in
+      let bw : w < 2 ^ 64 = omega arith in
+      let eu = lane_at xs at k rx p q in
+      let ev = lane_at ys at k ry p q in
+      let ew = block_at wrapped_difference in
+      let lx = length-loaded at xs rx in
+      let ly = length-loaded at ys ry in
+      let m = mark_at (loaded at xs) (loaded at ys) (loaded at xs) s lx ly lx
+      (long wrapped_difference) (rw eu bu) (rw ev bv) e in
+      let apart : bit_and (bit_xor (sign u) (sign v)) (bit_xor (sign u) (sign w)) ≡ 0 =
+      rw (eu, ev, ew) at m in
+      let is = here ∙ difference_fits x y fx fy
+      (λ f. unequal_bits (sign u) (sign v) (sign w) (sign_below u bu) (sign_below v bv)
+      (sign_below w bw) f apart) in
       within_is lo hi (x -ℤ y) z is bounds.0 bounds.1
 
   pub difference_made :
-      mask below (loaded at xs) (zip2 wrapped_difference (loaded at xs) (loaded at ys))
-      ≡ mask below (loaded at ys) (replicate 8 0)
+      mask below (zip2 bit_and (zip2 bit_xor (loaded at xs) (loaded at ys))
+      (zip2 bit_xor (loaded at xs) (zip2 wrapped_difference (loaded at xs) (loaded at ys))))
+      (replicate 8 0) ≡ 0
       → mask below (zip2 wrapped_difference (loaded at xs) (loaded at ys))
       (replicate 8 (of_z w64 lo)) ≡ 0
       → mask below (replicate 8 (of_z w64 hi))
@@ -176,8 +275,9 @@ module _ (xs ys : List ℤ) (at : ℕ) (rx : at + 8 ≤ length xs) (ry : at + 8 
       (lane_within lo hi s (k - at) fl fh (long wrapped_difference) (omega arith) m n)
 
   pub difference_made-all :
-      mask below (loaded at xs) (zip2 wrapped_difference (loaded at xs) (loaded at ys))
-      ≡ mask below (loaded at ys) (replicate 8 0)
+      mask below (zip2 bit_and (zip2 bit_xor (loaded at xs) (loaded at ys))
+      (zip2 bit_xor (loaded at xs) (zip2 wrapped_difference (loaded at xs) (loaded at ys))))
+      (replicate 8 0) ≡ 0
       → lo ≡ negsuc 9223372036854775807 → hi ≡ pos 9223372036854775807
       → leaf Sub lo hi (get_or xs k (pos 0)) (get_or ys k (pos 0))
       ≡ Ok (to_z w64 (get_or (zip2 wrapped_difference (loaded at xs) (loaded at ys)) (k - at) 0))

@@ -40,7 +40,8 @@ fn add_block(a: &[i64], b: &[i64], at: usize, lo: i64, hi: i64, out: &mut [i64])
     let y = i64x8::from_slice(&b[at..]);
     let z = x + y;
     z.copy_to_slice(&mut out[at..]);
-    if z.simd_lt(x).to_bitmask() != y.simd_lt(i64x8::splat(0)).to_bitmask() {
+    let wrapped = (x ^ z) & (y ^ z); // below 0 where the sum has the sign of neither
+    if wrapped.simd_lt(i64x8::splat(0)).to_bitmask() != 0 {
         return false;
     }
     if takes_all(lo, hi) {
@@ -69,7 +70,8 @@ fn subtract_block(a: &[i64], b: &[i64], at: usize, lo: i64, hi: i64, out: &mut [
     let y = i64x8::from_slice(&b[at..]);
     let z = x - y;
     z.copy_to_slice(&mut out[at..]);
-    if x.simd_lt(z).to_bitmask() != y.simd_lt(i64x8::splat(0)).to_bitmask() {
+    let wrapped = (x ^ y) & (x ^ z); // below 0 where x alone has its sign
+    if wrapped.simd_lt(i64x8::splat(0)).to_bitmask() != 0 {
         return false;
     }
     if takes_all(lo, hi) {

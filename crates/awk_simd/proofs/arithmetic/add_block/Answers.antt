@@ -10,8 +10,8 @@ use Rattle.awk_simd.proofs.Chosen.{stored_by}
 use Rattle.awk_simd.proofs.Results.{wrapped_sum, sum_made, sum_made-all, zero_mask}
 use Rattle.awk_simd.proofs.arithmetic.add_block.Goals as goal
 
-pub returns-then-z-x-clause-below : goal.returns-then-z-x-clause-below
-returns-then-z-x-clause-below c = λ k l. get_or-put_chunk_below c.args.at c.args.out.now _ k
+pub returns-then-wrapped-ne0-clause-below : goal.returns-then-wrapped-ne0-clause-below
+returns-then-wrapped-ne0-clause-below c = λ k l. get_or-put_chunk_below c.args.at c.args.out.now _ k
     (pos 0) l
 
 pub returns-then-takes_all-clause-below : goal.returns-then-takes_all-clause-below
@@ -30,7 +30,7 @@ returns-then-takes_all-clause-made c = λ t k p q.
     (length-loaded at b rb) in
     sum_made-all a b at ra rb c.args.lo c.args.hi c.ranges.lo c.ranges.hi k p q
     (c.requires.known_a k (omega (arith, ra))) (c.requires.known_b k (omega (arith, rb)))
-    c.if-z-x.false
+    c.if-wrapped-ne0.false
     (sym (to_z-of_z w64 c.args.lo c.ranges.lo) ∙ c.if-takes_all.ensures.least t)
     (sym (to_z-of_z w64 c.args.hi c.ranges.hi) ∙ c.if-takes_all.ensures.greatest t)
     ∙ ap (λ z. Ok z) (sym (stored_by (to_z w64) (pos 0) c.args.out.now s at k long
@@ -55,6 +55,6 @@ returns-clause-made c = λ t k p q.
     (length-loaded at b rb) in
     sum_made a b at ra rb c.args.lo c.args.hi c.ranges.lo c.ranges.hi k p q
     (c.requires.known_a k (omega (arith, ra))) (c.requires.known_b k (omega (arith, rb)))
-    c.if-z-x.false c.if-z-lo-ne0.false (zero_mask _ t)
+    c.if-wrapped-ne0.false c.if-z-lo-ne0.false (zero_mask _ t)
     ∙ ap (λ z. Ok z) (sym (stored_by (to_z w64) (pos 0) c.args.out.now s at k long
     (omega (arith, ra, c.requires.out)) p q))

@@ -11,8 +11,8 @@ use Rattle.awk_simd.proofs.Results.{wrapped_difference, difference_made, differe
 use Rattle.awk_simd.proofs.Results.{zero_mask}
 use Rattle.awk_simd.proofs.arithmetic.subtract_block.Goals as goal
 
-pub returns-then-x-z-clause-below : goal.returns-then-x-z-clause-below
-returns-then-x-z-clause-below c = λ k l. get_or-put_chunk_below c.args.at c.args.out.now _ k
+pub returns-then-wrapped-ne0-clause-below : goal.returns-then-wrapped-ne0-clause-below
+returns-then-wrapped-ne0-clause-below c = λ k l. get_or-put_chunk_below c.args.at c.args.out.now _ k
     (pos 0) l
 
 pub returns-then-takes_all-clause-below : goal.returns-then-takes_all-clause-below
@@ -31,7 +31,7 @@ returns-then-takes_all-clause-made c = λ t k p q.
     (length-loaded at a ra) (length-loaded at b rb) in
     difference_made-all a b at ra rb c.args.lo c.args.hi c.ranges.lo c.ranges.hi k p q
     (c.requires.known_a k (omega (arith, ra))) (c.requires.known_b k (omega (arith, rb)))
-    c.if-x-z.false
+    c.if-wrapped-ne0.false
     (sym (to_z-of_z w64 c.args.lo c.ranges.lo) ∙ c.if-takes_all.ensures.least t)
     (sym (to_z-of_z w64 c.args.hi c.ranges.hi) ∙ c.if-takes_all.ensures.greatest t)
     ∙ ap (λ z. Ok z) (sym (stored_by (to_z w64) (pos 0) c.args.out.now s at k long
@@ -56,6 +56,6 @@ returns-clause-made c = λ t k p q.
     (length-loaded at a ra) (length-loaded at b rb) in
     difference_made a b at ra rb c.args.lo c.args.hi c.ranges.lo c.ranges.hi k p q
     (c.requires.known_a k (omega (arith, ra))) (c.requires.known_b k (omega (arith, rb)))
-    c.if-x-z.false c.if-z-lo-ne0.false (zero_mask _ t)
+    c.if-wrapped-ne0.false c.if-z-lo-ne0.false (zero_mask _ t)
     ∙ ap (λ z. Ok z) (sym (stored_by (to_z w64) (pos 0) c.args.out.now s at k long
     (omega (arith, ra, c.requires.out)) p q))
