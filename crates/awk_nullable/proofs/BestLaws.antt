@@ -1,6 +1,7 @@
 -- The extreme of numbers, one number more.
-use Rattle.std.proofs.Common.{◌≡◌, ℕ, ◌+◌, ◌<◌, List, [], ◌∷◌, ◌++◌, arith, refl, ap, sym, ◌∙◌}
-use Rattle.std.specs.Prelude.{ℤ, Bool, true, false, cond, Option, Some, None, if◌then◌else◌}
+use Rattle.std.proofs.Common.{◌≡◌, ℕ, ◌+◌, ◌<◌, List, [], ◌∷◌, ◌++◌, arith, refl, ap, ap₂, sym, ◌∙◌}
+use Rattle.std.proofs.Common.{subst}
+use Rattle.std.specs.Prelude.{ℤ, ◌+ℤ◌, Bool, true, false, cond, Option, Some, None, if◌then◌else◌}
 use Rattle.std.specs.Int.{int_min, int_max}
 use Rattle.std.specs.List.{fold}
 use Rattle.std.specs.Option.{option_map}
@@ -14,10 +15,12 @@ use Rattle.awk_lanes.specs.Places.{size_of, at}
 use Rattle.awk_numbers.specs.Folds.{beats}
 use Rattle.awk_numbers.specs.declared.extremes.Extreme.{Extreme}
 use Rattle.awk_numbers.specs.declared.extremes.Extreme.TheVariants.{Least, Greatest}
-use Rattle.awk_nullable.specs.Extremes.{extreme_number, number_place, better_of, IsFirst, IsBest}
+use Rattle.awk_nullable.specs.Extremes.{extreme_number, number_place, better_of, better_found}
+use Rattle.awk_nullable.specs.Extremes.{Found, found_of, IsFirst, IsFound, IsBest}
 use Rattle.awk_nullable.specs.Numbers.{leaf_number, number_list, numbers_from}
 use Rattle.awk_nullable.specs.declared.extremes.Best.{Best}
 use Rattle.awk_nullable.proofs.FindLaws.{earlier, earlier_none, found, place-more}
+use Rattle.awk_nullable.proofs.KeyLaws.{beats-shift}
 use Rattle.awk_nullable.proofs.NumberLaws.{numbers-more}
 
 abbrev choice : Extreme → ℤ → ℤ → ℤ
@@ -92,8 +95,8 @@ module _ (how : Extreme) (f : ℕ → Option ℕ) (c : Column) (a i : ℕ) where
       ∙ ap (λ o. earlier (place_of z) (found z i (option_map (at c) o))) e
       ∙ earlier_none (place_of z)
 
-  pub null_more : (best : Option Best) → f (a + i) ≡ None → IsBest how f c a i best
-      → IsBest how f c a (i + 1) best
+  pub null_more : (best : Option Found) → f (a + i) ≡ None → IsFound how f c a i best
+      → IsFound how f c a (i + 1) best
   null_more None e h = (numbers_kept e ∙ h.0, λ z. place_kept e z ∙ h.1 z)
   null_more (Some b) e h = record {
     inside = omega (arith, h.inside);
@@ -106,7 +109,7 @@ module _ (how : Extreme) (f : ℕ → Option ℕ) (c : Column) (a i : ℕ) where
 
   -- ---- one that has a number
 
-  module _ (next : Best) (item : next.item ≡ i) (e : f (a + i) ≡ Some next.place)
+  module _ (next : Found) (item : next.item ≡ i) (e : f (a + i) ≡ Some next.place)
       (l : next.place < size_of c) (n : next.number ≡ at c next.place) where
     here : option_map (at c) (f (a + i)) ≡ Some next.number
     here = ap (option_map (at c)) e ∙ ap Some (sym n)
@@ -143,7 +146,7 @@ module _ (how : Extreme) (f : ℕ → Option ℕ) (c : Column) (a i : ℕ) where
       before = λ z t. place_else z (q z t) (differs how z next.number t);
     }
 
-    kept : (old : Best) → beats how next.number old.number ≡ false → IsFirst how f c a i old
+    kept : (old : Found) → beats how next.number old.number ≡ false → IsFirst how f c a i old
         → IsFirst how f c a (i + 1) old
     kept old t h = record {
       inside = omega (arith, h.inside);
@@ -158,7 +161,7 @@ module _ (how : Extreme) (f : ℕ → Option ℕ) (c : Column) (a i : ℕ) where
           place_else z (h.before z s) (differs_too how z old.number next.number s t);
     }
 
-    best_by : (old : Best) (b : Bool) → beats how next.number old.number ≡ b
+    best_by : (old : Found) (b : Bool) → beats how next.number old.number ≡ b
         → IsFirst how f c a i old → IsFirst how f c a (i + 1) (if b then next else old)
     best_by old true t h =
         chosen
@@ -168,11 +171,45 @@ module _ (how : Extreme) (f : ℕ → Option ℕ) (c : Column) (a i : ℕ) where
         (λ z s. h.before z (beats_on how z next.number old.number s t))
     best_by old false t h = kept old t h
 
-    pub number_more : (best : Option Best) → IsBest how f c a i best
-        → IsFirst how f c a (i + 1) (better_of how best next)
+    pub number_more : (best : Option Found) → IsFound how f c a i best
+        → IsFirst how f c a (i + 1) (better_found how best next)
     number_more None h =
         chosen
         (ap (λ ys. extreme_number how (ys ++ next.number ∷ [])) h.0 ∙ extreme_one how next.number)
         (h.1 next.number)
         (λ z t. h.1 z)
     number_more (Some old) h = best_by old (beats how next.number old.number) refl h
+
+-- ---- by keys
+
+module _ (how : Extreme) (f : ℕ → Option ℕ) (c : Column) (s : ℤ) (a i : ℕ) where
+  pub null_keyed : (best : Option Best) → f (a + i) ≡ None → IsBest how f c s a i best
+      → IsBest how f c s a (i + 1) best
+  null_keyed None e h = null_more how f c a i None e h
+  null_keyed (Some b) e h = (h.0, null_more how f c a i (Some (found_of c b)) e h.1)
+
+  pub number_keyed : (next : Best) → next.item ≡ i → f (a + i) ≡ Some next.place
+      → next.place < size_of c → next.key ≡ at c next.place +ℤ s → (best : Option Best)
+      → IsBest how f c s a i best → IsBest how f c s a (i + 1) (Some (better_of how best next))
+  number_keyed next item e l n None h =
+      (n, number_more how f c a i (found_of c next) item e l refl None h)
+  number_keyed next item e l n (Some old) h = go (beats how next.key old.key) refl
+    where
+      better : IsFirst how f c a (i + 1)
+          (better_found how (Some (found_of c old)) (found_of c next))
+      better = number_more how f c a i (found_of c next) item e l refl (Some (found_of c old)) h.1
+
+      same : beats how (at c next.place) (at c old.place) ≡ beats how next.key old.key
+      same = sym (beats-shift how (at c next.place) (at c old.place) s)
+          ∙ ap₂ (beats how) (sym n) (sym h.0)
+
+      kept_by : (b : Bool) → beats how next.key old.key ≡ b
+          → IsFirst how f c a (i + 1) (if b then found_of c next else found_of c old)
+      kept_by b t =
+          subst (λ (q : Bool). IsFirst how f c a (i + 1)
+          (if q then found_of c next else found_of c old)) (same ∙ t) better
+
+      go : (b : Bool) → beats how next.key old.key ≡ b
+          → IsBest how f c s a (i + 1) (Some (if b then next else old))
+      go true t = (n, kept_by true t)
+      go false t = (h.0, kept_by false t)

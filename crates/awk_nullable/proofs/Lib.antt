@@ -3,3 +3,4 @@ mod FindLaws
 mod BestLaws
 mod TotalLaws
 mod TruthLaws
+mod KeyLaws

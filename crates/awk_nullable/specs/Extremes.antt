@@ -1,7 +1,6 @@
 -- The extreme of numbers while they are read, and its first item.
-use Rattle.std.specs.Prelude.{◌≡◌, ℕ, ◌<◌, ℤ, Bool, true, false, List, [], position, Option}
-use Rattle.std.specs.Prelude.{Some, None}
-use Rattle.std.specs.Prelude.{if◌then◌else◌}
+use Rattle.std.specs.Prelude.{◌≡◌, ℕ, ◌<◌, ℤ, ◌+ℤ◌, Bool, true, false, List, [], position, Option}
+use Rattle.std.specs.Prelude.{Some, None, if◌then◌else◌}
 use Rattle.std.specs.Int.{int_min, int_max}
 use Rattle.std.specs.List.{range_with_len, reduce}
 use Rattle.std.specs.Option.{option_and_then}
@@ -19,10 +18,25 @@ abbrev pub extreme_number : Extreme → List ℤ → Option ℤ
 extreme_number Least zs = reduce int_min zs
 extreme_number Greatest zs = reduce int_max zs
 
--- the better one of a number and the best so far
+-- the better one of a number and the best so far, by their keys
 abbrev pub better_of : Extreme → Option Best → Best → Best
 better_of how None next = next
-better_of how (Some old) next = if beats how next.number old.number then next else old
+better_of how (Some old) next = if beats how next.key old.key then next else old
+
+-- a number, its item and its place in the lane
+pub record Found : Type 0 where
+  pub item : ℕ
+  pub place : ℕ
+  pub number : ℤ
+
+-- the one that the code holds by its key
+abbrev pub found_of : Column → Best → Found
+found_of c b = record { item = b.item; place = b.place; number = at c b.place }
+
+-- the better one by their numbers
+abbrev pub better_found : Extreme → Option Found → Found → Found
+better_found how None next = next
+better_found how (Some old) next = if beats how next.number old.number then next else old
 
 -- whether an item has a number
 abbrev pub is_some_number : ℤ → Option ℤ → Bool
@@ -35,7 +49,7 @@ number_place g first n z = position (λ i. is_some_number z (g i)) (range_with_l
 
 -- the extreme of the numbers of n items from one on: its first item, its place and its number
 pub record IsFirst (how : Extreme) (f : ℕ → Option ℕ) (c : Column) (first n : ℕ)
-    (b : Best) : Type 0 where
+    (b : Found) : Type 0 where
   pub inside : b.item < n
   pub place : b.place < size_of c
   pub number : b.number ≡ at c b.place
@@ -45,11 +59,17 @@ pub record IsFirst (how : Extreme) (f : ℕ → Option ℕ) (c : Column) (first 
       → number_place (leaf_number f c) first n z ≡ None
 
 -- the extreme, or none of none
-abbrev pub IsBest : Extreme → (ℕ → Option ℕ) → Column → ℕ → ℕ → Option Best → Type 0
-IsBest how f c first n None =
+abbrev pub IsFound : Extreme → (ℕ → Option ℕ) → Column → ℕ → ℕ → Option Found → Type 0
+IsFound how f c first n None =
     (numbers_from (leaf_number f c) first n ≡ [])
     × ((z : ℤ) → number_place (leaf_number f c) first n z ≡ None)
-IsBest how f c first n (Some b) = IsFirst how f c first n b
+IsFound how f c first n (Some b) = IsFirst how f c first n b
+
+-- the same by a key that lies so far from its number
+abbrev pub IsBest : Extreme → (ℕ → Option ℕ) → Column → ℤ → ℕ → ℕ → Option Best → Type 0
+IsBest how f c shift first n None = IsFound how f c first n None
+IsBest how f c shift first n (Some b) =
+    (b.key ≡ at c b.place +ℤ shift) × IsFirst how f c first n (found_of c b)
 
 -- a place of the extreme in the lane, or none of no numbers
 abbrev pub IsExtremeAt : Extreme → Column → List ℤ → Option ℕ → Type 0

@@ -2,3 +2,4 @@ pub mod Masks
 pub mod Numbers
 pub mod Totals
 pub mod Extremes
+pub mod Keys

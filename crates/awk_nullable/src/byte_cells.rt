@@ -61,11 +61,20 @@ impl<'a, C: Byte> Model for ByteCells<'a, C> {
 }
 
 impl<'a, C: Byte> Cells for ByteCells<'a, C> {
+    ghost use Rattle.std.specs.Prelude.{pos};
+
     ghost lane = { λ x. x };
+
+    ghost shift = { λ _. pos 0 };
 
     #[inline(always)]
     fn exact<L: Ledger>(&self, k: u64, _steps: &mut Steps<L>) -> i128 {
         i128::from(C::number(&self.groups[k as usize]))
+    }
+
+    #[inline(always)]
+    fn key<L: Ledger>(&self, k: u64, _steps: &mut Steps<L>) -> i64 {
+        C::number(&self.groups[k as usize])
     }
 }
 

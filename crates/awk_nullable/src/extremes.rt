@@ -19,7 +19,7 @@ trait Side {
     ghost how: { Extreme };
 
     /// Whether a number comes before another.
-    fn beats(x: i128, y: i128) -> bool
+    fn beats(x: i64, y: i64) -> bool
         ensures { result ≡ is_before how x y };
 }
 
@@ -32,7 +32,7 @@ impl Side for Lesser {
     ghost how = { Least };
 
     #[inline(always)]
-    fn beats(x: i128, y: i128) -> bool {
+    fn beats(x: i64, y: i64) -> bool {
         x < y
     }
 }
@@ -46,17 +46,17 @@ impl Side for Greater {
     ghost how = { Greatest };
 
     #[inline(always)]
-    fn beats(x: i128, y: i128) -> bool {
+    fn beats(x: i64, y: i64) -> bool {
         y < x
     }
 }
 
-/// The extreme so far: its item, counted from the first one, its place in the lane and its number.
+/// The extreme so far: its item, counted from the first one, its place in the lane and its key.
 #[derive(Clone, Copy)]
 pub(crate) struct Best {
     pub item: u64,
     pub place: u64,
-    pub number: i128,
+    pub key: i64,
 }
 
 /// The better one of a number and the best so far, if there is one.
@@ -66,7 +66,7 @@ fn better<S: Side>(best: Option<Best>, next: Best) -> Best
 {
     match best {
         Some(old) => {
-            if S::beats(next.number, old.number) {
+            if S::beats(next.key, old.key) {
                 next
             } else {
                 old
@@ -89,16 +89,18 @@ fn next_best<S: Side, P: Places, C: Cells, L: Ledger>(
     requires within { first + i < P.size x.now.places.now }
     requires leads { AreLeading (P.at x.now.places.now) (P.size x.now.places.now)
         (size_of (C.lane x.now.cells.now)) }
-    requires best { IsBest S.how (P.at x.now.places.now) (C.lane x.now.cells.now) first i best }
-    ensures { IsBest S.how (P.at x.now.places.now) (C.lane x.now.cells.now) first (i + 1) result }
+    requires best { IsBest S.how (P.at x.now.places.now) (C.lane x.now.cells.now)
+        (C.shift x.now.cells.now) first i best }
+    ensures { IsBest S.how (P.at x.now.places.now) (C.lane x.now.cells.now)
+        (C.shift x.now.cells.now) first (i + 1) result }
 {
     match x.places.place(first + i, steps) {
         Some(place) => {
-            let number = x.cells.exact(place, steps);
+            let key = x.cells.key(place, steps);
             let next = Best {
                 item: i,
                 place,
-                number,
+                key,
             };
             Some(better::<S>(best, next))
         }
@@ -115,7 +117,8 @@ fn best_by<S: Side, P: Places, C: Cells, L: Ledger>(
 ) -> Option<Best>
     requires items { AreItems (P.at x.now.places.now) (P.size x.now.places.now)
         (C.lane x.now.cells.now) first count }
-    ensures { IsBest S.how (P.at x.now.places.now) (C.lane x.now.cells.now) first count result }
+    ensures { IsBest S.how (P.at x.now.places.now) (C.lane x.now.cells.now)
+        (C.shift x.now.cells.now) first count result }
 {
     let mut best = None;
     for i in 0..count {
@@ -134,7 +137,8 @@ fn best_of<P: Places, C: Cells, L: Ledger>(
 ) -> Option<Best>
     requires items { AreItems (P.at x.now.places.now) (P.size x.now.places.now)
         (C.lane x.now.cells.now) first count }
-    ensures { IsBest how (P.at x.now.places.now) (C.lane x.now.cells.now) first count result }
+    ensures { IsBest how (P.at x.now.places.now) (C.lane x.now.cells.now)
+        (C.shift x.now.cells.now) first count result }
 {
     match how {
         Extreme::Least => best_by::<Lesser, P, C, L>(x, first, count, steps),
