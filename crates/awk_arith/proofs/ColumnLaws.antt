@@ -9,7 +9,7 @@ use Rattle.awk_types.specs.Datum.{Datum}
 use Rattle.awk_types.specs.Predicates.{is_leaf}
 use Rattle.awk_types.specs.Value.{Value, int}
 use Rattle.awk_columns.specs.Columns.{part_at}
-use Rattle.awk_columns.specs.InOrder.{AreParts}
+use Rattle.awk_columns.specs.Parts.{AreParts}
 use Rattle.awk_layout.specs.Datum.{datum_of}
 use Rattle.awk_layout.specs.Filler.{filler_of}
 use Rattle.awk_layout.specs.Layout.{Layout}

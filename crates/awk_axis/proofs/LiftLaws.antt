@@ -31,9 +31,11 @@ use Rattle.awk_axis.specs.ListFunction.{given_value}
 use Rattle.awk_axis.specs.Lift.{lifted_type, lifted_types, lifted_value, lifted_values, refusal_at}
 use Rattle.awk_axis.specs.Lift.{refusal_among, on_list}
 use Rattle.awk_axis.specs.Spoils.{spoil_at, spoils_at, spoil_inside, spoil_across, spoil_among}
-use Rattle.awk_columns.specs.Opened.{items_at, across, item_among, AllOfLen}
-use Rattle.awk_columns.specs.Opened.{OpensLists, OpensOption, OpensRow, OpensUnion}
-use Rattle.awk_columns.specs.InOrder.{AreParts, AreAlternatives}
+use Rattle.awk_columns.specs.Lists.{items_at}
+use Rattle.awk_open.specs.Opened.{AreLong}
+use Rattle.awk_open.specs.Opens.{across, item_among, OpensLists, OpensOption, OpensRow}
+use Rattle.awk_open.specs.Opens.{OpensUnion}
+use Rattle.awk_columns.specs.Parts.{AreParts, AreAlternatives}
 use Rattle.awk_gather.specs.Arrays.{array_item}
 use Rattle.awk_columns.specs.Joined.{AreOffsets, JoinsLists}
 use Rattle.awk_axis.specs.Mapped.{IsColumn, IsMapped, AreGiven}
@@ -222,7 +224,7 @@ row_item names n ys i =
 
 -- each item by the function of its place
 pub across_mapped : (f : ListFunction) (k : Reach) (n : ℕ) (xs ys : List Layout) (i : ℕ) → i < n
-    → AllOfLen n xs → AreMapped f k xs ys →
+    → AreLong n xs → AreMapped f k xs ys →
     values_by (simple_values (types_from (lifted_types f.giving k
     (types_from (map array_type xs))))) (values_by
     (lifted_values f.giving k (types_from (map array_type xs))) (value_list (across xs i)))
@@ -261,7 +263,7 @@ count_mapped f k [] (y ∷ ys) m = absurd m
 count_mapped f k (x ∷ xs) [] m = absurd m
 count_mapped f k (x ∷ xs) (y ∷ ys) m = ap (λ (n : ℕ). n + 1) (count_mapped f k xs ys m.1)
 
-pub reach_mapped : (f : ListFunction) (k : Reach) (n : ℕ) (xs ys : List Layout) → AllOfLen n xs
+pub reach_mapped : (f : ListFunction) (k : Reach) (n : ℕ) (xs ys : List Layout) → AreLong n xs
     → AreMapped f k xs ys → AllReach n (layouts_from ys)
 reach_mapped f k n [] [] a m = tt
 reach_mapped f k n [] (y ∷ ys) a m = absurd m

@@ -32,8 +32,8 @@ use Rattle.awk_axis.specs.Lift.{lifted_type, lifted_value, on_list}
 use Rattle.awk_axis.specs.Lift.{refusal_at, refusal_among, nested}
 use Rattle.awk_axis.specs.Spoils.{spoil_at, too_many}
 use Rattle.awk_axis.specs.Taken.{told}
-use Rattle.awk_columns.specs.Opened.{items_at, all_items_at, OpensLists, OpensOption, OpensRow}
-use Rattle.awk_columns.specs.Opened.{OpensUnion, OpensNothing}
+use Rattle.awk_columns.specs.Lists.{items_at, all_items_at}
+use Rattle.awk_open.specs.Opens.{OpensLists, OpensOption, OpensRow, OpensUnion, OpensNothing}
 use Rattle.awk_gather.specs.Arrays.{array_item}
 use Rattle.awk_columns.specs.Joined.{AreOffsets, JoinsLists, total}
 use Rattle.awk_axis.specs.declared.lift.Mapped.{Mapped}
@@ -44,8 +44,8 @@ use Rattle.awk_columns.specs.ListNode.{list_layout}
 use Rattle.awk_axis.specs.Mapped.{spoil_of_all, AreMapped}
 use Rattle.awk_counts.specs.Counted.{spans}
 use Rattle.awk_columns.specs.Reached.{IsReached}
-use Rattle.awk_columns.proofs.ArrayLaws.{lists-inner, lists-among}
-use Rattle.awk_columns.proofs.OpeningLaws.{reached-items}
+use Rattle.awk_open.proofs.OpenedLists.{lists-inner, lists-among}
+use Rattle.awk_columns.proofs.JoinLaws.{reached-items}
 use Rattle.awk_axis.proofs.LiftLaws.{given_column, lifted_null, option_column, lists_column}
 use Rattle.awk_axis.proofs.LiftLaws.{row_column, union_column, spoil-list, spoil-list_here}
 use Rattle.awk_axis.proofs.LiftLaws.{type-list, type-list_here, value-list, value-list_here}

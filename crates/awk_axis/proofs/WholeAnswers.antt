@@ -28,7 +28,7 @@ use Rattle.awk_axis.specs.ListFunction.{Giving, lists, singles, ListFunction}
 use Rattle.awk_axis.specs.ListFunction.{made_type, given_type, given_value}
 use Rattle.awk_axis.specs.Lifting.{spoil_fault, on_whole}
 use Rattle.awk_axis.specs.Mapped.{AreGiven, GivesLists, GivesSingles, IsMade}
-use Rattle.awk_columns.specs.Opened.{AreLists, items_at, all_items_at}
+use Rattle.awk_columns.specs.Lists.{AreLists, items_at, all_items_at}
 use Rattle.awk_columns.proofs.ArrayLaws.{array_items-at}
 use Rattle.awk_axis.proofs.JudgedTypes.{told_values}
 

@@ -19,7 +19,7 @@ use Rattle.awk_axis.specs.ListFunction.{Giving, lists, singles, ListFunction, gi
 use Rattle.awk_axis.specs.ListFunction.{given_value}
 use Rattle.awk_axis.specs.Lift.{lifted_type, lifted_value}
 use Rattle.awk_axis.specs.Spoils.{spoil_at}
-use Rattle.awk_columns.specs.Opened.{items_at, all_items_at}
+use Rattle.awk_columns.specs.Lists.{items_at, all_items_at}
 use Rattle.awk_gather.specs.Arrays.{array_item}
 use Rattle.awk_columns.specs.Joined.{AreOffsets}
 use Rattle.awk_axis.specs.declared.function.Made.{Made}

@@ -6,8 +6,7 @@ ghost use Rattle.awk_layout.specs.Valid.{len};
 ghost use Rattle.awk_layout.specs.Typing.{array_type};
 ghost use Rattle.awk_axis.specs.Lift as spec;
 ghost use Rattle.awk_axis.specs.declared.place.Reach.TheVariants as Reach;
-ghost use Rattle.awk_columns.specs.Opened.{OpensLists, OpensOption, OpensRow, OpensUnion};
-ghost use Rattle.awk_columns.specs.Opened.{OpensNothing};
+ghost use Rattle.awk_open.specs.Opens.{OpensLists, OpensOption, OpensRow, OpensUnion, OpensNothing};
 ghost use Rattle.awk_columns.specs.Joined.{AreOffsets, total};
 ghost use Rattle.awk_axis.specs.Causes.{first_spoil};
 ghost use Rattle.awk_axis.specs.Reach.{here};
@@ -20,9 +19,10 @@ use crate::causes::{Spoil, first_of, sooner_spoil};
 use crate::function::{ListOp, Made};
 use crate::place::Reach;
 use crate::types::MOST_LISTS;
-use awk_columns::{Joined, Lists, Opened, open_array};
+use awk_columns::{Joined, Lists};
 use awk_lanes::{Arena, Kind, Lane, LaneMaker, NoMemory, Num, Steps};
 use awk_layout::{Array, Arrays, Node, Nodes};
+use awk_open::{Opened, open_array};
 use awk_types::Names;
 use std::alloc::Global;
 use std::sync::ledger::Ledger;
@@ -131,7 +131,7 @@ pub fn lifted<'a, F: ListOp, L: Ledger>(
     ensures { IfOk result (IsLifted (F.function f.now) k x.now) }
 {
     match open_array(alloc, x, arena, steps)? {
-        Opened::Unknown => match k {
+        Opened::Empty => match k {
             Reach::Axis(k) => below_unknown(alloc, f, k, x, arena, steps),
             Reach::Innermost => unreachable!(),
         },

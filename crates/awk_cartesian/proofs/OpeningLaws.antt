@@ -28,9 +28,9 @@ use Rattle.awk_columns.specs.Columns.{is_present, list_items}
 use Rattle.awk_columns.specs.ListClass.{Class, list_type}
 use Rattle.awk_columns.specs.Lists.{span_length}
 use Rattle.awk_columns.specs.Lists.{Listed}
-use Rattle.awk_columns.specs.Opened.{OpensLists, OpensOption, OpensNothing, IsOpened as Opens}
-use Rattle.awk_columns.specs.declared.opening.Opened.{Opened}
-use Rattle.awk_columns.specs.declared.opening.Opened.TheVariants as opened
+use Rattle.awk_open.specs.Opens.{OpensLists, OpensOption, OpensNothing, Opens}
+use Rattle.awk_open.specs.declared.opening.Opened.{Opened}
+use Rattle.awk_open.specs.declared.opening.Opened.TheVariants as opened
 use Rattle.awk_columns.proofs.ArrayLaws.{array_items-at}
 use Rattle.awk_places.proofs.ProductLaws.{are_counts, count-at}
 use Rattle.awk_combi.proofs.SpanLaws.{within}
@@ -302,7 +302,7 @@ no_row (Some names) ts h = h
 
 pub only_lists : (x : Layout) (o : Opened) → Opens x o → IsLists (array_type x)
     → ((l : Listed) → o ≡ opened.Items l → ⊥) → ⊥
-only_lists x opened.Unknown k h n = subst IsLists k.typ h
+only_lists x opened.Empty k h n = subst IsLists k.typ h
 only_lists x (opened.Leaf c) k h n = subst IsLists k.typ h
 only_lists x (opened.Items l) k h n = n l refl
 only_lists x (opened.Row names ys) k h n =
@@ -327,7 +327,7 @@ both_ways t u e f g = go (sym g ∙ ap is_option e ∙ f)
 
 pub only_option : (x : Layout) (o : Opened) → Opens x o → is_option (array_type x) ≡ true
     → ((j : Column) (y : Layout) → o ≡ opened.Option j y → ⊥) → ⊥
-only_option x opened.Unknown k h n = both_ways (array_type x) _ k.typ refl h
+only_option x opened.Empty k h n = both_ways (array_type x) _ k.typ refl h
 only_option x (opened.Leaf c) k h n = both_ways (array_type x) _ k.typ refl h
 only_option x (opened.Items l) k h n =
     both_ways (array_type x) _ k.typ (lists_no_option l.class (array_type l.content)) h

@@ -15,13 +15,14 @@ ghost use Rattle.awk_cartesian.specs.Cartesian.{list_item, rows_item, operand_it
 ghost use Rattle.awk_cartesian.specs.Sources.{rows_in, may_be_null, IsOpened};
 ghost use Rattle.awk_cartesian.specs.Sources.{IsLists, IsOfLists, IsOfNone};
 ghost use Rattle.awk_cartesian.specs.Spans as spans;
-ghost use Rattle.awk_columns.specs.Opened.{OpensLists, OpensOption};
+ghost use Rattle.awk_open.specs.Opens.{OpensLists, OpensOption};
 
 use crate::sources::Source;
-use awk_columns::{Bounds, Lists, Opened, open_array};
+use awk_columns::{Bounds, Lists};
 use awk_lanes::{Arena, Kind, Lane, Num, Numbers, Steps, made_lane, number, option_place_in};
 use awk_layout::{Array, Datum};
 use awk_merge_operands::Axis;
+use awk_open::{Opened, open_array};
 use awk_products::repeated;
 use awk_types::{NoMemory, is_optional, is_unknown};
 use std::alloc::Global;

@@ -19,7 +19,7 @@ use Rattle.awk_gather.specs.Arrays.{array_item}
 use Rattle.awk_columns.specs.Columns.{joined_items}
 use Rattle.awk_columns.specs.ListClass.{Class, list_type}
 use Rattle.awk_columns.specs.ListNode.{AreEven, list_layout}
-use Rattle.awk_columns.specs.Opened.{OpensOption}
+use Rattle.awk_open.specs.Opens.{OpensOption}
 use Rattle.awk_columns.proofs.ArrayLaws.{in_option_same, run_in_list, run_same}
 use Rattle.awk_columns.proofs.ListNodes.{len-list}
 use Rattle.awk_cast.specs.Cast.{cast_type, cast_value, some_node, are_many}

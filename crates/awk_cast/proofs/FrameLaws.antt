@@ -15,8 +15,9 @@ use Rattle.awk_layout.specs.Layout.{Layout, layouts_from, count, rows, union}
 use Rattle.awk_layout.specs.Typing.{layout_types, array_type, array_items}
 use Rattle.awk_layout.specs.Valid.{len, len_of, AllReach, IsUnion}
 use Rattle.awk_gather.specs.Arrays.{array_item}
-use Rattle.awk_columns.specs.InOrder.{AreParts, AreAlternatives}
-use Rattle.awk_columns.specs.Opened.{across, item_among, AllOfLen, OpensRow, OpensUnion}
+use Rattle.awk_columns.specs.Parts.{AreParts, AreAlternatives}
+use Rattle.awk_open.specs.Opened.{AreLong}
+use Rattle.awk_open.specs.Opens.{across, item_among, OpensRow, OpensUnion}
 use Rattle.awk_cast.specs.Cast.{cast_type, cast_types, cast_value, cast_values, some_node}
 use Rattle.awk_cast.specs.Cast.{some_nodes, some_part, some_alternative, are_many, leaf_past, told}
 use Rattle.awk_cast.specs.Casting.{IsCast, AreCast, told_of, told_of_all}
@@ -43,7 +44,7 @@ count_cast p [] (y ∷ ys) m = absurd m
 count_cast p (x ∷ xs) [] m = absurd m
 count_cast p (x ∷ xs) (y ∷ ys) m = ap (λ (n : ℕ). n + 1) (count_cast p xs ys m.1)
 
-reach_cast : (p : Primitive) (n : ℕ) (xs ys : List Layout) → AllOfLen n xs → AreCast p xs ys
+reach_cast : (p : Primitive) (n : ℕ) (xs ys : List Layout) → AreLong n xs → AreCast p xs ys
     → AllReach n (layouts_from ys)
 reach_cast p n [] [] a m = tt
 reach_cast p n [] (y ∷ ys) a m = absurd m
@@ -77,7 +78,7 @@ some_node-row f g None ts vs = refl
 some_node-row f g (Some ns) ts vs = refl
 
 -- the parts at a place
-parts_cast : (p : Primitive) (n : ℕ) (xs ys : List Layout) (i : ℕ) → i < n → AllOfLen n xs
+parts_cast : (p : Primitive) (n : ℕ) (xs ys : List Layout) (i : ℕ) → i < n → AreLong n xs
     → AreCast p xs ys
     → items_across (layouts_from ys) i
     ≡ values_from (values_by (cast_values p (types xs)) (value_list (across xs i)))

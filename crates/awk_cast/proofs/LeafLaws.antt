@@ -2,14 +2,15 @@
 use Rattle.std.proofs.Common.{◌≡◌, ℕ, ◌<◌, ◌&&◌, ◌||◌, Bool, true, false, List, [], ◌∷◌, map}
 use Rattle.std.proofs.Common.{length, get_or, refl, ap, ap₂, sym, subst, ◌∙◌, arith}
 use Rattle.std.specs.Prelude.{zero, suc}
-use Rattle.std.specs.Prelude.{ℤ, pos, int_lt, int_le, cond, not, Some, Result, Ok, Err}
+use Rattle.std.specs.Prelude.{ℤ, pos, int_lt, int_le, cond, not, Option, Some, None, Result, Ok}
+use Rattle.std.specs.Prelude.{Err}
 use Rattle.std.specs.Prelude.{if◌then◌else◌}
 use Rattle.std.specs.List.{AllByRecursion, list_any, range_with_len}
 use Rattle.std.proofs.lemmas.Int.{ints}
 use Rattle.std.proofs.lemmas.List.{get_or-map, length-map}
 use Rattle.std.proofs.lemmas.Simd.{map-map, pick_l_whole}
 use Rattle.awk_types.specs.DataType.{DataType, DataTypes, unknown, leaf, var, reg, rec, tup}
-use Rattle.awk_types.specs.DataType.{opt, uni}
+use Rattle.awk_types.specs.DataType.{opt, uni, Name, types_from, row_type}
 use Rattle.awk_types.specs.Faults.{fault_told}
 use Rattle.awk_primitives.specs.Fits.{fits}
 use Rattle.awk_types.specs.Gives.{Told}
@@ -32,6 +33,11 @@ use Rattle.awk_layout.specs.Typing.{layout_type, array_type, array_items}
 use Rattle.awk_layout.specs.Valid.{len}
 use Rattle.awk_layout.proofs.ArrayItems.{length-array_items, get_or-array_items}
 use Rattle.awk_gather.specs.Arrays.{array_item}
+use Rattle.awk_columns.specs.ListClass.{Class, list_type}
+use Rattle.awk_open.specs.Opened.{IsKindOf}
+use Rattle.awk_open.specs.declared.opening.Opened.{Opened}
+use Rattle.awk_open.specs.declared.opening.Opened.TheVariants as kinds
+use Rattle.awk_open.proofs.OnlyKinds.{not_of}
 use Rattle.awk_numbers.specs.Folds.{lane_numbers}
 use Rattle.awk_leaves.specs.Values.{number_of, value_in, number_or_fault, held_by, unary_on}
 use Rattle.awk_leaves.specs.Values.{unary_at, all_values, first_fault_or}
@@ -39,7 +45,29 @@ use Rattle.awk_leaves.specs.declared.operation.Unary.TheVariants.{Cast}
 use Rattle.awk_pointwise.specs.Sides.{lane_values}
 use Rattle.awk_pointwise.proofs.BlockLaws.{length-lane}
 use Rattle.awk_cast.specs.Cast.{cast_type, cast_leaf, cast_value, is_past, leaf_past, told}
-use Rattle.awk_cast.specs.Casting.{IsAnswer, IsTold, IsLaneOf, leaf_fault, told_of}
+use Rattle.awk_cast.specs.Casting.{IsAnswer, IsTold, IsLaneOf, is_primitive, leaf_fault, told_of}
+
+-- ---- which kinds have a lane
+
+no_list : (c : Class) (t : DataType) → is_primitive (list_type c t) ≡ false
+no_list None t = refl
+no_list (Some n) t = refl
+
+no_row : (names : Option (List Name)) (ts : DataTypes) → is_primitive (row_type names ts) ≡ false
+no_row None ts = refl
+no_row (Some ns) ts = refl
+
+pub only_lane : (t : DataType) (r : Opened) → IsKindOf t r → is_primitive t ≡ true
+    → ((c : Column) → r ≡ kinds.Leaf c → ⊥) → ⊥
+only_lane t kinds.Empty k h l = not_of is_primitive t unknown k refl h
+only_lane t (kinds.Leaf c) k h l = l c refl
+only_lane t (kinds.Items q) k h l =
+    not_of is_primitive t _ k (no_list q.class (array_type q.content)) h
+only_lane t (kinds.Row names ys) k h l =
+    not_of is_primitive t _ k (no_row names (types_from (map array_type ys))) h
+only_lane t (kinds.Option j y) k h l = not_of is_primitive t (opt (array_type y)) k refl h
+only_lane t (kinds.Union g j ys) k h l =
+    not_of is_primitive t (uni (types_from (map array_type ys))) k refl h
 
 -- ---- one leaf
 

@@ -14,8 +14,9 @@ use Rattle.awk_layout.specs.Typing.{array_type, array_items}
 use Rattle.awk_columns.specs.Columns.{joined_items}
 use Rattle.awk_columns.specs.Joined.{JoinsLists, total}
 use Rattle.awk_columns.specs.ListClass.{Class, list_type}
-use Rattle.awk_columns.specs.Opened.{OpensLists, items_at}
-use Rattle.awk_columns.proofs.ArrayLaws.{lists-inner}
+use Rattle.awk_open.specs.Opens.{OpensLists}
+use Rattle.awk_columns.specs.Lists.{items_at}
+use Rattle.awk_open.proofs.OpenedLists.{lists-inner}
 use Rattle.awk_columns.proofs.ListNodes.{joined_even}
 use Rattle.awk_cast.specs.Cast.{are_many, is_large, told}
 use Rattle.awk_cast.specs.Casting.{is_large_array, array_overflows, told_of}

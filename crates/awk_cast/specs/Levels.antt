@@ -12,7 +12,7 @@ use Rattle.awk_columns.specs.Columns.{joined_items}
 use Rattle.awk_columns.specs.Joined.{AreOffsets}
 use Rattle.awk_columns.specs.ListClass.{Class, list_type}
 use Rattle.awk_columns.specs.ListNode.{AreEven, list_layout}
-use Rattle.awk_columns.specs.Opened.{OpensOption, OpensRow, OpensUnion}
+use Rattle.awk_open.specs.Opens.{OpensOption, OpensRow, OpensUnion}
 use Rattle.awk_cast.specs.Cast.{are_many}
 use Rattle.awk_cast.specs.declared.level.Cover.{Cover}
 use Rattle.awk_cast.specs.declared.level.Cover.TheVariants as cover

@@ -6,12 +6,11 @@ ghost use Rattle.awk_pointwise.specs.Sides.{lane_values};
 ghost use Rattle.awk_cast.specs.Casting.{is_primitive, leaf_fault, IsAnswer, IsLaneOf};
 
 use crate::fault::CastFault;
-use awk_columns::in_order;
 use awk_kernels::Kernels;
 use awk_lanes::{Arena, Lane, NoMemory, Steps};
 use awk_layout::{Array, Node};
 use awk_leaves::Unary;
-use awk_open::Opened;
+use awk_open::{Opened, in_order};
 use awk_pointwise::{Side, unary_leaves};
 use awk_types::{Fault, Prim};
 use std::alloc::Global;
@@ -29,8 +28,7 @@ fn leaf_lane<'a, L: Ledger>(
 {
     match in_order(alloc, x, arena, steps)? {
         Opened::Leaf(lane) => Ok(lane),
-        Opened::Empty | Opened::Items { .. } | Opened::Row { .. } => unreachable!(),
-        Opened::Option { .. } | Opened::Union { .. } => unreachable!(),
+        _ => unreachable!(),
     }
 }
 

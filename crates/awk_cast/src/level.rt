@@ -2,16 +2,17 @@
 ghost use Rattle.std.specs.Prelude.{◌≡◌, [], ◌∷◌, false, IfOk};
 ghost use Rattle.awk_layout.specs.Layout.{Layout};
 ghost use Rattle.awk_layout.specs.Typing.{array_type};
-ghost use Rattle.awk_columns.specs.Opened.{OpensLists};
+ghost use Rattle.awk_open.specs.Opens.{OpensLists};
 ghost use Rattle.awk_types.specs.declared.primitive.Primitive.{Primitive};
 ghost use Rattle.awk_cast.specs.Casting.{is_primitive, IsLevel};
 
 use crate::fault::CastFault;
 use crate::leaves::cast_leaves;
-use awk_columns::{Joined, Lists, Opened, open_array};
+use awk_columns::{Joined, Lists};
 use awk_kernels::Kernels;
 use awk_lanes::{Arena, Lane, Steps};
 use awk_layout::{Array, Arrays, Node};
+use awk_open::{Opened, open_array};
 use awk_types::{Names, NoMemory, Prim, Typ};
 use std::alloc::Global;
 use std::sync::ledger::Ledger;
@@ -85,7 +86,7 @@ fn open_level<'a, L: Ledger>(
     ensures { (p : Primitive) → IsLevel p x.now result }
 {
     match open_array(alloc, x, arena, steps)? {
-        Opened::Unknown => Ok(Level::Whole(Node::empty(steps))),
+        Opened::Empty => Ok(Level::Whole(Node::empty(steps))),
         Opened::Leaf(_) => unreachable!(),
         Opened::Items(lists) => list_level(alloc, &lists, arena, steps),
         Opened::Row { names, columns } => Ok(Level::Beside(Frame::Row(names), columns)),

@@ -17,7 +17,7 @@ use Rattle.awk_layout.proofs.ArrayItems.{length-array_items}
 use Rattle.awk_open.specs.Opened.{IsOpened}
 use Rattle.awk_open.specs.declared.opening.Opened.TheVariants as opened
 use Rattle.awk_columns.specs.Columns.{is_present, option_index}
-use Rattle.awk_columns.specs.InOrder.{IsInOrder}
+use Rattle.awk_open.specs.InOrder.{IsInOrder}
 use Rattle.awk_pointwise.specs.Optional.{item_at}
 use Rattle.awk_pointwise.specs.Sides.{lane_values}
 use Rattle.awk_ends.specs.Operands.{leaf_in}

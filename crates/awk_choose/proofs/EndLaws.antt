@@ -14,7 +14,7 @@ use Rattle.awk_types.specs.Value.{Value, int}
 use Rattle.awk_types.specs.declared.fault.Fault.{Fault}
 use Rattle.awk_types.specs.declared.primitive.Primitive.{Primitive}
 use Rattle.awk_columns.specs.Columns.{part_at}
-use Rattle.awk_columns.specs.InOrder.{AreParts}
+use Rattle.awk_columns.specs.Parts.{AreParts}
 use Rattle.awk_layout.specs.Datum.{datum_of}
 use Rattle.awk_layout.specs.Filler.{filler_of}
 use Rattle.awk_layout.specs.Layout.{Layout}

@@ -15,19 +15,18 @@ ghost use Rattle.awk_leaves.specs.Table.{choice_judged};
 ghost use Rattle.awk_leaves.specs.Values.{choice_values};
 ghost use Rattle.awk_open.specs.Opened.{IsOpened};
 ghost use Rattle.awk_open.specs.declared.opening.Opened.TheVariants as Opened;
-ghost use Rattle.awk_columns.specs.InOrder.{IsInOrder};
+ghost use Rattle.awk_open.specs.InOrder.{IsInOrder};
 ghost use Rattle.awk_pointwise.specs.Choice.{chosen_items};
 ghost use Rattle.awk_pointwise.specs.Optional.{optional_type, optional_values, IsOptional};
 ghost use Rattle.awk_ends.specs.Columns.{IsAmong};
 ghost use Rattle.awk_choose.specs.Ends.{end_leaf, end_values, IsEnd, IsSideOf, IsColumnEnd};
 ghost use Rattle.awk_choose.specs.Ends.{AreLeafColumns, IsEndAt};
 
-use awk_columns::in_order;
 use awk_ends::leaf_lane;
 use awk_kernels::Kernels;
 use awk_lanes::{Arena, Lane, NoMemory, Steps};
 use awk_layout::{Array, Arrays, Operand};
-use awk_open::Opened;
+use awk_open::{Opened, in_order};
 use awk_pointwise::{Chosen, Optional, Side, choice_leaves};
 use awk_types::Fault;
 use std::alloc::Global;
@@ -80,7 +79,7 @@ pub(crate) fn column_end<'a, L: Ledger>(
         Opened::Empty => Ok(End::Nulls),
         Opened::Leaf(lane) => Ok(End::Leaves(lane)),
         Opened::Option { index, content } => option_end(alloc, &index, &content, arena, steps),
-        Opened::Items { .. } | Opened::Row { .. } | Opened::Union { .. } => unreachable!(),
+        _ => unreachable!(),
     }
 }
 

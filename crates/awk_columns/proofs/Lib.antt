@@ -1,11 +1,8 @@
 pub mod ReachedContents
 pub mod SpanPlaces
-pub mod OrderedOptions
-pub mod OrderedUnions
-pub mod OrderedKinds
 pub mod JoinedLists
+pub mod JoinLaws
 pub mod ArrayLaws
-pub mod OpeningLaws
 pub mod ListNodes
 pub mod MovedNumbers
 pub mod SpanLaws

@@ -12,7 +12,7 @@ use Rattle.awk_layout.specs.Valid.{len, IsValid}
 use Rattle.awk_layout.specs.Item.{item, run}
 use Rattle.awk_layout.specs.Typing.{layout_type, array_type}
 use Rattle.awk_columns.specs.ListClass.{Class, list_type}
-use Rattle.awk_columns.specs.Opened.{AreOfClass}
+use Rattle.awk_columns.specs.Lists.{AreOfClass}
 use Rattle.awk_gather.specs.Arrays.{array_item}
 use Rattle.awk_columns.specs.Joined.{AreOffsets, JoinsLists}
 use Rattle.awk_columns.specs.ListNode.{AreEven, list_layout}

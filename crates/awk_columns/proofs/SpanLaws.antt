@@ -3,12 +3,12 @@ use Rattle.std.specs.Prelude.{◌≡◌, ℕ, ◌-◌, ◌<◌, ◌≤◌, ℤ, 
 use Rattle.std.proofs.Common.{arith, ap}
 use Rattle.std.proofs.lemmas.Int.{ints}
 use Rattle.awk_lanes.specs.Column.{Column}
-use Rattle.awk_lanes.specs.Places.{at, IsSpan, AreSpans}
+use Rattle.awk_lanes.specs.Places.{IsSpan, AreSpans}
 use Rattle.awk_layout.specs.Laws.{len-fits}
 use Rattle.awk_layout.specs.Layout.{Layout}
 use Rattle.awk_layout.specs.Valid.{len}
 use Rattle.awk_columns.specs.ListClass.{Class}
-use Rattle.awk_columns.specs.Opened.{AreLists}
+use Rattle.awk_columns.specs.Lists.{AreLists}
 use Rattle.awk_columns.proofs.JoinedLists.{spans_wider}
 use Rattle.awk_lanes.specs.Numbers.{nat_of}
 

@@ -7,7 +7,7 @@ use Rattle.awk_layout.specs.Layout.{Layout}
 use Rattle.awk_layout.specs.Valid.{len, IsValid}
 use Rattle.awk_layout.specs.Typing.{array_type, array_items}
 use Rattle.awk_layout.specs.Item.{run}
-use Rattle.awk_columns.specs.Opened.{items_at}
+use Rattle.awk_columns.specs.Lists.{items_at}
 use Rattle.awk_gather.specs.Arrays.{array_item}
 use Rattle.awk_counts.specs.Counted.{offsets_lane}
 use Rattle.awk_types.specs.ItemLimit.{item_limit}

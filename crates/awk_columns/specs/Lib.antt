@@ -1,8 +1,7 @@
 pub mod Columns
-pub mod InOrder
+pub mod Parts
 pub mod Reached
 pub mod ListValues
-pub mod Opened
 pub mod Joined
 pub mod ListClass
 pub mod ListNode

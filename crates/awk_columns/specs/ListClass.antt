@@ -9,7 +9,3 @@ Class = Option ℕ
 abbrev pub list_type : Class → DataType → DataType
 list_type None t = var t
 list_type (Some n) t = reg n t
-
-abbrev pub class_of : DataType → Class
-class_of (reg n t) = Some n
-class_of t = None

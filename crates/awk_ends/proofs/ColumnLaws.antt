@@ -7,7 +7,7 @@ use Rattle.std.proofs.Math.ListN.{get_or-map}
 use Rattle.awk_types.specs.Datum.{Datum}
 use Rattle.awk_types.specs.Value.{Value}
 use Rattle.awk_columns.specs.Columns.{part_at}
-use Rattle.awk_columns.specs.InOrder.{AreParts}
+use Rattle.awk_columns.specs.Parts.{AreParts}
 use Rattle.awk_layout.specs.Layout.{Layout, empty}
 use Rattle.awk_layout.specs.Typing.{array_type, array_items}
 use Rattle.awk_leaves.specs.declared.leaf_type.LeafType.TheVariants.{Unknown}

@@ -5,10 +5,9 @@ ghost use Rattle.awk_layout.specs.Typing.{array_type};
 ghost use Rattle.awk_layout.specs.declared.datum.Datum.TheVariants.{Arr, One};
 ghost use Rattle.awk_ends.specs.Columns.{IsLaneOf};
 
-use awk_columns::in_order;
 use awk_lanes::{Arena, Lane, NoMemory, Steps};
 use awk_layout::{Array, Datum};
-use awk_open::Opened;
+use awk_open::{Opened, in_order};
 use std::alloc::Global;
 use std::sync::ledger::Ledger;
 
@@ -25,8 +24,7 @@ pub fn leaf_lane<'a, L: Ledger>(
     match in_order(alloc, leaf, arena, steps)? {
         Opened::Empty => Ok(None),
         Opened::Leaf(lane) => Ok(Some(lane)),
-        Opened::Items { .. } | Opened::Row { .. } => unreachable!(),
-        Opened::Option { .. } | Opened::Union { .. } => unreachable!(),
+        _ => unreachable!(),
     }
 }
 

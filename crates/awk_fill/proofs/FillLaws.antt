@@ -42,7 +42,8 @@ use Rattle.awk_columns.specs.Joined.{JoinsLists, total}
 use Rattle.awk_axis.specs.Lifting.{lift}
 use Rattle.awk_columns.specs.ListClass.{Class}
 use Rattle.awk_axis.specs.Mapped.{AreGiven}
-use Rattle.awk_columns.specs.Opened.{AreLists, OpensOption, items_at, all_items_at}
+use Rattle.awk_columns.specs.Lists.{AreLists, items_at, all_items_at}
+use Rattle.awk_open.specs.Opens.{OpensOption}
 use Rattle.awk_open.specs.Opened.{IsOpened}
 use Rattle.awk_open.specs.declared.opening.Opened.TheVariants.{Option as Optional}
 use Rattle.awk_axis.specs.Spoils.{too_many}

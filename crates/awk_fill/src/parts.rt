@@ -5,10 +5,9 @@ ghost use Rattle.awk_layout.specs.Typing.{array_type};
 ghost use Rattle.awk_fill.specs.Filled.{HoldsOption};
 
 use crate::numbers::has_wide_numbers;
-use awk_columns::{Opened, open_array};
 use awk_lanes::{Arena, Lane, Steps};
 use awk_layout::{Array, Datum, Operand};
-use awk_open::{Opened as Outermost, opened};
+use awk_open::{Opened, open_array, opened};
 use awk_types::{NoMemory, Prim, Typ};
 use std::alloc::Global;
 use std::sync::ledger::Ledger;
@@ -58,7 +57,7 @@ fn whole_parts<'a, L: Ledger>(
     ensures { IfOk result (λ r. HoldsOption r.index r.content x.now) }
 {
     match opened(alloc, x, arena, steps)? {
-        Outermost::Option { index, content } => Ok(Parts { index, content }),
+        Opened::Option { index, content } => Ok(Parts { index, content }),
         _ => unreachable!(),
     }
 }

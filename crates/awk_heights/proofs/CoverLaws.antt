@@ -1,10 +1,12 @@
 -- Lists and options over what is made of their contents.
 use Rattle.std.proofs.Common.{◌≡◌, ℕ, ◌+◌, ◌-◌, ◌*◌, ◌<◌, ◌≤◌, refl, ap, sym, subst, ◌∙◌, arith}
-use Rattle.std.specs.Prelude.{ℤ, pos, negsuc, ◌<ℤ◌, List, [], ◌∷◌, Some, slice_get}
+use Rattle.std.proofs.Common.{true≢false}
+use Rattle.std.specs.Prelude.{ℤ, pos, negsuc, ◌<ℤ◌, List, [], ◌∷◌, Some, None, false, slice_get}
 use Rattle.std.proofs.lemmas.Int.{ints}
 use Rattle.std.proofs.lemmas.Nat.{row_fits}
-use Rattle.awk_types.specs.DataType.{DataType}
+use Rattle.awk_types.specs.DataType.{DataType, var}
 use Rattle.awk_types.specs.Value.{Value, list}
+use Rattle.awk_lanes.specs.Column.{Column}
 use Rattle.awk_lanes.specs.Numbers.{nat_of}
 use Rattle.awk_lanes.specs.Places.{at, place_at, option_place, IsSpan}
 use Rattle.awk_layout.specs.Item.{item, at_option}
@@ -12,10 +14,15 @@ use Rattle.awk_layout.specs.Layout.{Layout, height}
 use Rattle.awk_layout.specs.Typing.{layout_type, array_type}
 use Rattle.awk_layout.specs.Valid.{len}
 use Rattle.awk_gather.specs.Arrays.{array_item}
+use Rattle.awk_columns.specs.ListClass.{Class, list_type}
+use Rattle.awk_columns.specs.Lists.{Listed}
 use Rattle.awk_columns.proofs.ArrayLaws.{run_same}
 use Rattle.awk_columns.proofs.SpanLaws.{start_there}
+use Rattle.awk_open.specs.Opened.{IsOpened}
+use Rattle.awk_open.specs.declared.opening.Opened.TheVariants as opened
 use Rattle.awk_heights.specs.Low.{height_limit, IsLowNode}
 use Rattle.awk_heights.specs.Levels.{covered, cover_type, cover_item, Covers, IsOver, IsOnly}
+use Rattle.awk_heights.specs.Levels.{is_sized}
 use Rattle.awk_heights.specs.declared.level.Cover.{Cover}
 use Rattle.awk_heights.specs.declared.level.Cover.TheVariants as cover
 
@@ -67,6 +74,26 @@ cover_item-same (cover.Sized j size n) m f g z i h same l =
     (λ k p q. same k (omega (arith, q, h.2, below))))
 cover_item-same (cover.Option j) m f g z i h same l =
     option_same (at j i) m f g (h.1.below i l) same
+
+-- ---- lists as they are opened
+
+any_length : (c : Class) (t u : DataType) → t ≡ list_type c u → is_sized t ≡ false → t ≡ var u
+any_length None t u e h = e
+any_length (Some n) t u e h = absurd (true≢false (ap is_sized (sym e) ∙ h))
+
+over_lists : (x : Layout) (l : Listed) → IsOpened x (opened.Items l)
+    → is_sized (array_type x) ≡ false → IsOver x (cover.Lists l.starts l.stops) l.content
+over_lists x l o h = record {
+  fits = (o.valid.0, o.valid.1);
+  size = o.size;
+  typ = any_length l.class (array_type x) (array_type l.content) o.kind h;
+  items = o.items;
+}
+
+pub only_lists : (x : Layout) (l : Listed) (s e : Column) (z : Layout) (zs : List Layout)
+    → IsOpened x (opened.Items l) → is_sized (array_type x) ≡ false → s ≡ l.starts → e ≡ l.stops
+    → z ≡ l.content → zs ≡ z ∷ [] → IsOnly (IsOver x (cover.Lists s e)) zs
+only_lists x l s e z zs o h p q r is = rw (is, p, q, r) (over_lists x l o h)
 
 -- ---- a cover over a low content
 

@@ -1,10 +1,14 @@
 //! An array once its outermost kind is taken off.
 ghost use Rattle.std.specs.Prelude.{◌≡◌, [], ◌∷◌, false, IfOk};
 ghost use Rattle.awk_types.specs.View.{typ_of};
+ghost use Rattle.awk_layout.specs.Layout.{Layout};
 ghost use Rattle.awk_layout.specs.Typing.{array_type};
+ghost use Rattle.awk_open.specs.Opened.{IsOpened};
+ghost use Rattle.awk_open.specs.declared.opening.Opened.TheVariants as Opened;
 ghost use Rattle.awk_heights.specs.Levels.{is_sized as is_sized_type, IsLevel};
 
 use crate::sized::sized_level;
+use awk_columns::Lists;
 use awk_lanes::{Arena, Lane, Steps};
 use awk_layout::{Array, Arrays, Node};
 use awk_open::{Opened, opened};
@@ -62,6 +66,18 @@ fn is_sized(t: &Typ) -> bool
     }
 }
 
+/// Lists over their content.
+fn lists_level<'a>(alloc: Global, lists: &Lists<'a>) -> Result<Level<'a>, NoMemory>
+    ensures { (x : Layout) → IsOpened x (Opened.Items lists.now) →
+        is_sized_type (array_type x) ≡ false → IfOk result (IsLevel x) }
+{
+    let starts = lists.starts().copy();
+    let stops = lists.stops().copy();
+    let content = lists.content().copy(alloc)?;
+    let contents = only(alloc, content)?;
+    Ok(Level::Over(Cover::Lists(starts, stops), contents))
+}
+
 /// An array of another type than lists of one size.
 fn open_level<'a, L: Ledger>(
     alloc: Global,
@@ -75,14 +91,7 @@ fn open_level<'a, L: Ledger>(
     match opened(alloc, x, arena, steps)? {
         Opened::Empty => Ok(Level::Whole(Node::empty(steps))),
         Opened::Leaf(lane) => Ok(Level::Whole(Node::numpy(lane, steps))),
-        Opened::Items {
-            starts,
-            stops,
-            content,
-        } => {
-            let contents = only(alloc, content)?;
-            Ok(Level::Over(Cover::Lists(starts, stops), contents))
-        }
+        Opened::Items(lists) => lists_level(alloc, &lists),
         Opened::Row { names, columns } => Ok(Level::Beside(Frame::Row(names), columns)),
         Opened::Option { index, content } => {
             let contents = only(alloc, content)?;

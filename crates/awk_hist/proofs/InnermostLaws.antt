@@ -24,9 +24,9 @@ use Rattle.awk_columns.specs.Columns.{list_items, joined_items, present_values}
 use Rattle.awk_columns.specs.Joined.{IsJoined, total}
 use Rattle.awk_columns.specs.ListClass.{Class, list_type}
 use Rattle.awk_columns.specs.Lists.{items_at}
-use Rattle.awk_columns.specs.Opened.{OpensLists, OpensOption}
+use Rattle.awk_open.specs.Opens.{OpensLists, OpensOption}
 use Rattle.awk_columns.specs.declared.lists.Joined.TheVariants as joined
-use Rattle.awk_columns.proofs.ArrayLaws.{lists-inner}
+use Rattle.awk_open.proofs.OpenedLists.{lists-inner}
 use Rattle.awk_hist.specs.Hist.{leaves, has_numbers, lists_refused}
 use Rattle.awk_hist.specs.Lists.{IsInnermost}
 use Rattle.awk_hist.specs.declared.innermost.Innermost.{Innermost}

@@ -29,7 +29,7 @@ use Rattle.awk_gather.specs.Arrays.{array_item}
 use Rattle.awk_counts.specs.Counted.{offset_at}
 use Rattle.awk_columns.specs.Joined.{JoinsLists, total, IsJoined}
 use Rattle.awk_columns.specs.ListClass.{Class}
-use Rattle.awk_columns.specs.Opened.{items_at, all_items_at}
+use Rattle.awk_columns.specs.Lists.{items_at, all_items_at}
 use Rattle.awk_columns.specs.declared.lists.Joined.TheVariants.{TooMany}
 use Rattle.awk_columns.proofs.ArrayLaws.{array_items-at}
 use Rattle.awk_axis.specs.Causes.{first_spoil}

@@ -4,14 +4,15 @@ ghost use Rattle.awk_types.specs.ItemLimit.{item_limit};
 ghost use Rattle.awk_types.specs.Predicates.{is_leaf};
 ghost use Rattle.awk_types.specs.Simple.{present};
 ghost use Rattle.awk_layout.specs.Typing.{array_type, array_items};
-ghost use Rattle.awk_columns.specs.Opened.{OpensLists, OpensOption};
+ghost use Rattle.awk_open.specs.Opens.{OpensLists, OpensOption};
 ghost use Rattle.awk_hist.specs.Hist.{has_numbers};
 ghost use Rattle.awk_hist.specs.Lists.{IsInnermost};
 
 use crate::types::are_leaves;
-use awk_columns::{Joined, Lists, Opened, open_array};
+use awk_columns::{Joined, Lists};
 use awk_lanes::{Arena, Lane, Steps};
 use awk_layout::Array;
+use awk_open::{Opened, open_array};
 use awk_types::NoMemory;
 use std::alloc::Global;
 use std::sync::ledger::Ledger;

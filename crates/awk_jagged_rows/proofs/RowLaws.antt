@@ -15,8 +15,10 @@ use Rattle.awk_layout.specs.Layout.{Layout}
 use Rattle.awk_layout.specs.Typing.{array_type}
 use Rattle.awk_layout.specs.Valid.{len, IsValid}
 use Rattle.awk_gather.specs.Arrays.{array_item}
+use Rattle.awk_columns.specs.ListClass.{Class, list_type}
+use Rattle.awk_columns.specs.Lists.{Listed}
 use Rattle.awk_columns.specs.ListValues.{list_at}
-use Rattle.awk_open.specs.Opened.{IsOpened, IsKindOf, IsListOf}
+use Rattle.awk_open.specs.Opened.{IsOpened, IsKindOf}
 use Rattle.awk_open.specs.declared.opening.Opened.{Opened}
 use Rattle.awk_jagged_rows.specs.RowTypes.{rows_of}
 use Rattle.awk_jagged_rows.specs.RowTypes.{list_rows}
@@ -83,40 +85,32 @@ not_union : (t : DataType) (g j : Column) (ys : List Layout) → IsKindOf t (Ope
 not_union t g j ys k h = true≢false (sym h ∙ ap is_list_or_unknown k)
 
 pub only_lists : (t : DataType) (r : Opened) → IsKindOf t r → is_list_or_unknown t ≡ true
-    → (r ≡ Opened.Empty → ⊥) → ((s e : Column) (y : Layout) → r ≡ Opened.Items s e y → ⊥) → ⊥
+    → (r ≡ Opened.Empty → ⊥) → ((q : Listed) → r ≡ Opened.Items q → ⊥) → ⊥
 only_lists t Opened.Empty k h e l = e refl
 only_lists t (Opened.Leaf c) k h e l = not_leaf t c k h
-only_lists t (Opened.Items s f y) k h e l = l s f y refl
+only_lists t (Opened.Items q) k h e l = l q refl
 only_lists t (Opened.Row names ys) k h e l = not_row t names ys k h
 only_lists t (Opened.Option j y) k h e l = not_option t j y k h
 only_lists t (Opened.Union g j ys) k h e l = not_union t g j ys k h
 
-not_listed : (t u : DataType) → is_option t ≡ true → IsListOf t u → ⊥
-not_listed (var t) u o e = true≢false (sym o)
-not_listed (reg n t) u o e = true≢false (sym o)
-not_listed unknown u o e = e
-not_listed (leaf p) u o e = e
-not_listed (rec ns ts) u o e = e
-not_listed (tup ts) u o e = e
-not_listed (opt t) u o e = e
-not_listed (uni ts) u o e = e
-
-not_rows : (t : DataType) (names : Option (List Name)) (ys : List Layout) → is_option t ≡ true
-    → IsKindOf t (Opened.Row names ys) → ⊥
-not_rows t None ys o k = true≢false (sym o ∙ ap is_option k)
-not_rows t (Some names) ys o k = true≢false (sym o ∙ ap is_option k)
-
--- an optional array is opened as an option
-pub only_option : (t : DataType) (r : Opened) → IsKindOf t r → is_option t ≡ true
-    → ((j : Column) (y : Layout) → r ≡ Opened.Option j y → ⊥) → ⊥
-only_option t Opened.Empty k o l = true≢false (sym o ∙ ap is_option k)
-only_option t (Opened.Leaf c) k o l = true≢false (sym o ∙ ap is_option k)
-only_option t (Opened.Items s f y) k o l = not_listed t (array_type y) o k
-only_option t (Opened.Row names ys) k o l = not_rows t names ys o k
-only_option t (Opened.Option j y) k o l = l j y refl
-only_option t (Opened.Union g j ys) k o l = true≢false (sym o ∙ ap is_option k)
-
 -- ---- lists as they lie
+
+list_rows-list : (c : Class) (t : DataType) → list_rows (list_type c t) ≡ Some t
+list_rows-list None t = refl
+list_rows-list (Some n) t = refl
+
+pub rows-listed : (x : Layout) (given : Option Column) (l : Listed) (r : RowLists)
+    → IsOpened x (Opened.Items l) → r.index ≡ given → r.starts ≡ l.starts → r.stops ≡ l.stops
+    → r.content ≡ l.content → AreListsAt x given r
+rows-listed x given l r o i s t y = record {
+  index = i;
+  typ = ap list_rows o.kind ∙ list_rows-list l.class (array_type l.content)
+      ∙ ap (λ z. Some (array_type z)) (sym y);
+  spans = rw (s, t, y) o.valid.1;
+  valid = rw y o.valid.2;
+  size = ap size_of s ∙ o.size;
+  items = λ j p. rw (s, t, y) (o.items j p);
+}
 
 pub rows-whole : (x : Layout) (r : RowLists) → IsValid x → is_option (array_type x) ≡ false
     → AreListsAt x None r → AreRowsOf x r

@@ -3,10 +3,14 @@ ghost use Rattle.std.specs.Prelude.{◌≡◌, true, is_some, IfOk};
 ghost use Rattle.awk_types.specs.Predicates.{is_list_or_unknown};
 ghost use Rattle.awk_lanes.specs.Places.{size_of};
 ghost use Rattle.awk_lanes.specs.declared.kind.Kind.TheVariants as Kinds;
+ghost use Rattle.awk_layout.specs.Layout.{Layout};
 ghost use Rattle.awk_layout.specs.Typing.{array_type};
+ghost use Rattle.awk_open.specs.Opened.{IsOpened};
+ghost use Rattle.awk_open.specs.declared.opening.Opened.TheVariants as Opened;
 ghost use Rattle.awk_jagged_rows.specs.RowTypes.{rows_of};
 ghost use Rattle.awk_jagged_rows.specs.RowLists.{list_place, HasPlace, AreListsAt, AreRowsOf};
 
+use awk_columns::Lists;
 use awk_lanes::{Arena, Kind, Lane, LaneMaker, Steps, option_place_in};
 use awk_layout::Array;
 use awk_open::{Opened, opened};
@@ -45,6 +49,26 @@ fn none<'a>(arena: &'a Arena) -> Result<Lane<'a>, NoMemory>
     Ok(LaneMaker::new(Kind::I64, 0, arena)?.finish())
 }
 
+/// Lists, with an index into them.
+fn indexed_lists<'a>(
+    alloc: Global,
+    lists: &Lists<'a>,
+    index: Option<Lane<'a>>,
+) -> Result<RowLists<'a>, NoMemory>
+    ensures { (x : Layout) → IsOpened x (Opened.Items lists.now) →
+        IfOk result (AreListsAt x index.entry) }
+{
+    let starts = lists.starts().copy();
+    let stops = lists.stops().copy();
+    let content = lists.content().copy(alloc)?;
+    Ok(RowLists {
+        index,
+        starts,
+        stops,
+        content,
+    })
+}
+
 /// The lists of an array of lists, or of unknown, with an index into them.
 fn lists_at<'a, L: Ledger>(
     alloc: Global,
@@ -57,16 +81,7 @@ fn lists_at<'a, L: Ledger>(
     ensures { IfOk result (AreListsAt x.now index.entry) }
 {
     match opened(alloc, x, arena, steps)? {
-        Opened::Items {
-            starts,
-            stops,
-            content,
-        } => Ok(RowLists {
-            index,
-            starts,
-            stops,
-            content,
-        }),
+        Opened::Items(lists) => indexed_lists(alloc, &lists, index),
         Opened::Empty => Ok(RowLists {
             index,
             starts: none(arena)?,

@@ -14,8 +14,7 @@ use Rattle.awk_layout.specs.Valid.{len}
 use Rattle.awk_gather.specs.Arrays.{array_item}
 use Rattle.awk_lanes.proofs.MadeLanes.{size-lane_of, at-lane_of}
 use Rattle.awk_columns.specs.ListClass.{Class}
-use Rattle.awk_columns.specs.Lists.{span_length}
-use Rattle.awk_columns.specs.Opened.{AreLists, items_at}
+use Rattle.awk_columns.specs.Lists.{span_length, AreLists, items_at}
 use Rattle.awk_list_ends.specs.Ends.{AreListEnds, numbers_at_ends}
 use Rattle.awk_columns.proofs.SpanLaws.{start_there, stop_there}
 use Rattle.awk_list_ends.specs.Kept.{KeepsItems}

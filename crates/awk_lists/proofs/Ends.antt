@@ -34,10 +34,11 @@ use Rattle.awk_lanes.proofs.MadeLanes.{size-lane_of, at-lane_of}
 use Rattle.awk_columns.specs.Columns.{present_values}
 use Rattle.awk_columns.specs.Joined.{AreOffsets, JoinsLists, IsJoined}
 use Rattle.awk_columns.specs.ListClass.{Class, list_type}
-use Rattle.awk_columns.specs.Opened.{items_at, OpensLists, OpensOption}
+use Rattle.awk_columns.specs.Lists.{items_at}
+use Rattle.awk_open.specs.Opens.{OpensLists, OpensOption}
 use Rattle.awk_columns.specs.declared.lists.Joined.{Joined}
 use Rattle.awk_columns.specs.declared.lists.Joined.TheVariants.{TooMany, Lists}
-use Rattle.awk_columns.proofs.ArrayLaws.{lists-inner}
+use Rattle.awk_open.proofs.OpenedLists.{lists-inner}
 use Rattle.awk_lists.specs.Flatten.{item_type}
 use Rattle.awk_types.specs.Predicates.{is_list_or_unknown}
 use Rattle.awk_lists.specs.Listed.{items_before}

@@ -29,7 +29,7 @@ use Rattle.awk_lanes.proofs.MadeLanes.{size-lane_of, at-lane_of}
 use Rattle.awk_gather_lanes.proofs.PickedLanes.{size-picked, at-picked}
 use Rattle.awk_columns.proofs.ReachedContents.{below-first_of, places_index, reached_by}
 use Rattle.awk_columns.specs.ListClass.{Class, list_type}
-use Rattle.awk_columns.specs.Opened.{OpensLists, OpensOption}
+use Rattle.awk_open.specs.Opens.{OpensLists, OpensOption}
 use Rattle.awk_columns.proofs.ArrayLaws.{array_items-at}
 use Rattle.awk_types.specs.Predicates.{is_list_or_unknown}
 use Rattle.awk_lists.specs.Held.{holds_item, held_lists, held_at, held_counts, AreLengths, AreHeld}

@@ -1,5 +1,5 @@
 -- The numbers of an array of leaves, as a lane.
-use Rattle.std.specs.Prelude.{◌≡◌, refl, true, false, ℤ, [], Some, None}
+use Rattle.std.specs.Prelude.{◌≡◌, refl, true, ℤ, []}
 use Rattle.std.proofs.Common.{arith, ap, sym, ◌∙◌}
 use Rattle.awk_types.specs.DataType.{DataType, unknown, leaf, var, reg, rec, tup, opt, uni}
 use Rattle.awk_types.specs.Value.{int}
@@ -12,37 +12,11 @@ use Rattle.awk_layout.specs.Item.{leaf_value}
 use Rattle.awk_layout.specs.Layout.{Layout}
 use Rattle.awk_layout.specs.Typing.{array_type}
 use Rattle.awk_layout.specs.Valid.{len}
-use Rattle.awk_open.specs.Opened.{IsOpened, IsKindOf, IsListOf}
-use Rattle.awk_open.specs.declared.opening.Opened.{Opened}
+use Rattle.awk_open.specs.Opened.{IsOpened}
 use Rattle.awk_open.specs.declared.opening.Opened.TheVariants as opened
 use Rattle.awk_types.specs.Predicates.{is_leaf}
 use Rattle.awk_lists.specs.Numbers.{AreNumbers, AreCounts}
 use Rattle.awk_types.specs.WholeNumbers.{is_numbers}
-
--- ---- the kinds that have such values
-
-no_list : (t u : DataType) → IsListOf t u → is_leaf t ≡ true → ⊥
-no_list unknown u h e = h
-no_list (leaf p) u h e = h
-no_list (var t) u h e = cc
-no_list (reg n t) u h e = cc
-no_list (rec ns ts) u h e = h
-no_list (tup ts) u h e = h
-no_list (opt t) u h e = h
-no_list (uni ts) u h e = h
-
-pub only_numbers : (t : DataType) (r : Opened) → IsKindOf t r → is_leaf t ≡ true
-    → (r ≡ opened.Empty → ⊥) → ((c : Column) → r ≡ opened.Leaf c → ⊥) → ⊥
-only_numbers t opened.Empty k h e l = e refl
-only_numbers t (opened.Leaf c) k h e l = l c refl
-only_numbers t (opened.Items s f y) k h e l = no_list t (array_type y) k h
-only_numbers t (opened.Row None ys) k h e l = let f : false ≡ true = sym (ap is_leaf k) ∙ h in cc
-only_numbers t (opened.Row (Some ns) ys) k h e l =
-    let f : false ≡ true = sym (ap is_leaf k) ∙ h in cc
-only_numbers t (opened.Option j y) k h e l =
-    let f : false ≡ true = sym (ap is_leaf k) ∙ h in cc
-only_numbers t (opened.Union g j ys) k h e l =
-    let f : false ≡ true = sym (ap is_leaf k) ∙ h in cc
 
 pub leaf_numbers : (x : Layout) (c : Column) → IsOpened x (opened.Leaf c) → AreNumbers x c
 leaf_numbers x c o = record { typ = λ p. o.kind; size = o.size; fits = o.valid; items = o.items }

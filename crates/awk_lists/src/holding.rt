@@ -4,11 +4,10 @@ ghost use Rattle.awk_types.specs.Simple.{present};
 ghost use Rattle.awk_lanes.specs.Places.{size_of, AreSpans};
 ghost use Rattle.awk_layout.specs.Typing.{array_type};
 ghost use Rattle.awk_counts.specs.Counted.{first_of, places_lane};
-ghost use Rattle.awk_columns.specs.Opened.{OpensNothing, OpensOption};
+ghost use Rattle.awk_open.specs.Opens.{OpensNothing, OpensOption};
 ghost use Rattle.awk_types.specs.Predicates.{is_list_or_unknown};
 ghost use Rattle.awk_lists.specs.Held.{held_at, held_counts, AreLengths, AreHeld};
 
-use awk_columns::{Opened, open_array};
 use awk_gather::gather;
 use awk_gather_lanes::gather_lane;
 use awk_lanes::{
@@ -16,6 +15,7 @@ use awk_lanes::{
 };
 use awk_layout::Array;
 use awk_list_ends::length_between;
+use awk_open::{Opened, open_array};
 use awk_option_nodes::present_counts;
 use awk_types::NoMemory;
 use std::alloc::Global;
@@ -129,7 +129,7 @@ fn plain_held<'a, L: Ledger>(
     ensures { IfOk result (λ r. AreHeld x.now r.counts r.lists) }
 {
     match open_array(alloc, x, arena, steps)? {
-        Opened::Unknown => none_held(alloc, x, arena),
+        Opened::Empty => none_held(alloc, x, arena),
         Opened::Items(lists) => {
             held_among(alloc, x, lists.starts(), lists.stops(), arena, steps)
         }
@@ -170,7 +170,7 @@ pub(crate) fn held_of<'a, L: Ledger>(
     ensures { IfOk result (λ r. AreHeld x.now r.counts r.lists) }
 {
     match open_array(alloc, x, arena, steps)? {
-        Opened::Unknown => none_held(alloc, x, arena),
+        Opened::Empty => none_held(alloc, x, arena),
         Opened::Items(lists) => {
             held_among(alloc, x, lists.starts(), lists.stops(), arena, steps)
         }

@@ -8,7 +8,8 @@ ghost use Rattle.awk_types.specs.View.{typ_of};
 ghost use Rattle.awk_lanes.specs.Numbers.{nat_of};
 ghost use Rattle.awk_layout.specs.Datum.{datum_of, IsDatum};
 ghost use Rattle.awk_layout.specs.Typing.{array_type};
-ghost use Rattle.awk_columns.specs.Opened.{AreLists, OpensNothing};
+ghost use Rattle.awk_columns.specs.Lists.{AreLists};
+ghost use Rattle.awk_open.specs.Opens.{OpensNothing};
 ghost use Rattle.awk_columns.specs.Joined.{JoinsLists};
 ghost use Rattle.awk_axis.specs.Mapped.{IsMade};
 ghost use Rattle.awk_lists.specs.Flatten as spec;
@@ -19,11 +20,12 @@ ghost use Rattle.awk_lists.specs.Listed.{IsListed};
 
 use crate::holding::held_of;
 use awk_axis::{ListOp, Made, Refusal, Spoil, lift_at};
-use awk_columns::{Bounds, Joined, Lists, Opened, join_spans, open_array};
+use awk_columns::{Bounds, Joined, Lists, join_spans};
 use awk_gather_lanes::gather_lane;
 use awk_lanes::{Arena, Kind, Lane, LaneMaker, Steps, index_of, number};
 use awk_layout::{Array, Datum};
 use awk_list_ends::numbers_at_ends;
+use awk_open::{Opened, open_array};
 use awk_types::{Fault, NoMemory, Typ, copy_type, is_list_or_unknown};
 use std::alloc::Global;
 use std::sync::ledger::Ledger;
@@ -73,7 +75,7 @@ fn plain_lists<'a, L: Ledger>(
     ensures { IfOk result (IsListed x.now) }
 {
     match open_array(alloc, x, arena, steps)? {
-        Opened::Unknown => no_lists(alloc, x, arena),
+        Opened::Empty => no_lists(alloc, x, arena),
         Opened::Items(lists) => lists.joined(alloc, arena, steps),
         _ => unreachable!(),
     }

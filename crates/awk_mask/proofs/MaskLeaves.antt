@@ -19,9 +19,11 @@ use Rattle.awk_layout.specs.Typing.{array_type}
 use Rattle.awk_layout.specs.Valid.{len, IsValid}
 use Rattle.awk_gather.specs.Arrays.{array_item}
 use Rattle.awk_gather.specs.Peeled.{IsPickedOpt}
-use Rattle.awk_open.specs.Opened.{IsOpened, IsKindOf, IsListOf}
+use Rattle.awk_columns.specs.ListClass.{Class, list_type}
+use Rattle.awk_open.specs.Opened.{IsOpened, IsKindOf}
 use Rattle.awk_open.specs.declared.opening.Opened.{Opened}
 use Rattle.awk_open.specs.declared.opening.Opened.TheVariants as opened
+use Rattle.awk_open.proofs.OnlyKinds.{not_of}
 use Rattle.awk_lanes.proofs.MadeLanes.{size-lane_of, at-lane_of}
 use Rattle.awk_gather.proofs.FollowedIndexes.{item_if_shown, below_if_shown}
 use Rattle.awk_mask_lengths.specs.MaskValues.{masked_type, masked_value, kept_where}
@@ -31,21 +33,16 @@ use Rattle.awk_option_nodes.proofs.OptionNodes.{HasItems, optional_type-is, opti
 
 -- ---- the kinds of such masks
 
-no_list : (t u : DataType) → IsListOf t u → is_innermost t ≡ true → ⊥
-no_list unknown u h e = h
-no_list (leaf p) u h e = h
-no_list (var t) u h e = cc
-no_list (reg n t) u h e = cc
-no_list (rec ns ts) u h e = h
-no_list (tup ts) u h e = h
-no_list (opt t) u h e = h
-no_list (uni ts) u h e = h
+no_list : (c : Class) (t : DataType) → is_innermost (list_type c t) ≡ false
+no_list None t = refl
+no_list (Some n) t = refl
 
 pub only_leaves : (t : DataType) (r : Opened) → IsKindOf t r → is_innermost t ≡ true
     → (r ≡ opened.Empty → ⊥) → ((c : Column) → r ≡ opened.Leaf c → ⊥) → ⊥
 only_leaves t opened.Empty k h e l = e refl
 only_leaves t (opened.Leaf c) k h e l = l c refl
-only_leaves t (opened.Items s f y) k h e l = no_list t (array_type y) k h
+only_leaves t (opened.Items q) k h e l =
+    not_of is_innermost t _ k (no_list q.class (array_type q.content)) h
 only_leaves t (opened.Row None ys) k h e l =
     let f : false ≡ true = sym (ap is_innermost k) ∙ h in cc
 only_leaves t (opened.Row (Some ns) ys) k h e l =

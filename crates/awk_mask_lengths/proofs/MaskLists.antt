@@ -22,7 +22,7 @@ use Rattle.awk_gather.specs.Arrays.{array_item}
 use Rattle.awk_columns.specs.ListValues.{list_at}
 use Rattle.awk_lanes.specs.Made.{lane_of}
 use Rattle.awk_lanes.proofs.MadeLanes.{size-lane_of, at-lane_of}
-use Rattle.awk_columns.specs.Opened.{OpensOption}
+use Rattle.awk_open.specs.Opens.{OpensOption}
 use Rattle.awk_mask_lengths.specs.MaskLists.{IsItemType, AreListsOf, AreInside}
 use Rattle.awk_types.specs.Predicates.{is_list}
 

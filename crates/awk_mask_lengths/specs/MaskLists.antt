@@ -9,7 +9,7 @@ use Rattle.awk_layout.specs.Item.{at_option}
 use Rattle.awk_layout.specs.Layout.{Layout}
 use Rattle.awk_layout.specs.Typing.{array_type}
 use Rattle.awk_layout.specs.Valid.{len}
-use Rattle.awk_columns.specs.Opened.{items_at}
+use Rattle.awk_columns.specs.Lists.{items_at}
 use Rattle.awk_gather.specs.Arrays.{array_item}
 use Rattle.awk_columns.specs.ListValues.{list_at}
 use Rattle.awk_mask_lengths.specs.MaskValues.{lists_differ}

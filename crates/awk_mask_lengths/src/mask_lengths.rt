@@ -5,15 +5,16 @@ ghost use Rattle.awk_types.specs.View.{typ_of};
 ghost use Rattle.awk_lanes.specs.Places.{size_of, option_place_at, IsOptionKind};
 ghost use Rattle.awk_layout.specs.Typing.{array_type, array_items};
 ghost use Rattle.awk_layout.specs.Valid.{len};
-ghost use Rattle.awk_columns.specs.Opened.{items_at};
+ghost use Rattle.awk_columns.specs.Lists.{items_at};
 ghost use Rattle.awk_mask_lengths.specs.MaskLists as lists;
 ghost use Rattle.awk_mask_lengths.specs.MaskLists.{AreListsOf, AreInside, items_differ};
 ghost use Rattle.awk_mask_lengths.specs.MaskLists.{optional_items};
 ghost use Rattle.awk_mask_lengths.specs.MaskValues.{masks, differs, lists_differ};
 
-use awk_columns::{Lists, Opened, open_array};
+use awk_columns::Lists;
 use awk_lanes::{Arena, Lane, Steps, option_place_in, ordinals, place_in};
 use awk_layout::Array;
+use awk_open::{Opened, open_array};
 use awk_range::range;
 use awk_types::{NoMemory, Typ, is_list, is_optional};
 use std::alloc::Global;

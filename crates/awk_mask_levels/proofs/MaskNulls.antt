@@ -19,7 +19,7 @@ use Rattle.awk_counts.specs.Counted.{present_at, present_place}
 use Rattle.awk_lanes.specs.Made.{lane_of}
 use Rattle.awk_lanes.proofs.MadeLanes.{size-lane_of, at-lane_of}
 use Rattle.awk_columns.specs.Joined.{total}
-use Rattle.awk_columns.specs.Opened.{AreLists, items_at}
+use Rattle.awk_columns.specs.Lists.{AreLists, items_at}
 use Rattle.awk_mask_levels.specs.MaskNulls.{stops_lane, items_where}
 
 pub at_most_one : (j : Column) (i : ℕ) → length (present_at j i) ≤ 1

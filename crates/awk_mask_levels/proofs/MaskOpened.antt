@@ -13,14 +13,15 @@ use Rattle.awk_layout.specs.Layout.{Layout}
 use Rattle.awk_layout.specs.Typing.{array_items}
 use Rattle.awk_layout.proofs.ArrayItems.{length-array_items, get_or-array_items}
 use Rattle.awk_columns.specs.Columns.{joined_items, offsets}
-use Rattle.awk_columns.specs.InOrder.{IsInOrder}
+use Rattle.awk_open.specs.InOrder.{IsInOrder}
 use Rattle.awk_open.specs.Opened as gathers
 use Rattle.awk_open.specs.declared.opening.Opened.TheVariants as ordered
 use Rattle.awk_columns.specs.Joined.{JoinsLists, total}
 use Rattle.awk_columns.specs.ListClass.{Class, list_type}
 use Rattle.awk_columns.specs.ListValues.{list_at, list_values}
-use Rattle.awk_columns.specs.Opened.{OpensLists, items_at}
-use Rattle.awk_columns.proofs.ArrayLaws.{lists-inner}
+use Rattle.awk_open.specs.Opens.{OpensLists}
+use Rattle.awk_columns.specs.Lists.{items_at}
+use Rattle.awk_open.proofs.OpenedLists.{lists-inner}
 use Rattle.awk_columns.proofs.JoinedLists.{offsets_lane-is}
 use Rattle.awk_columns.proofs.ListNodes.{joined_even}
 use Rattle.awk_mask_levels.specs.MaskLevels.{AreInOrder, AreListsIn}

@@ -7,10 +7,10 @@ ghost use Rattle.awk_layout.specs.Typing.{array_type};
 ghost use Rattle.awk_mask_levels.specs.MaskLevels.{AreInOrder, AreJoinedIn, IsFit, IsLevel};
 
 use crate::mask_nulls::items_where;
-use awk_columns::{Joined, Opened, in_order, open_array};
+use awk_columns::Joined;
 use awk_lanes::{Arena, Lane, Steps};
 use awk_layout::Array;
-use awk_open::Opened as Ordered;
+use awk_open::{Opened, in_order, open_array};
 use awk_types::{NoMemory, is_list, is_optional};
 use std::alloc::Global;
 use std::sync::ledger::Ledger;
@@ -74,7 +74,7 @@ fn present_in<'a, L: Ledger>(
     ensures { IfOk result (λ r. AreInOrder x.now r.index r.content) }
 {
     match in_order(alloc, x, arena, steps)? {
-        Ordered::Option { index, content } => Ok(Present { index, content }),
+        Opened::Option { index, content } => Ok(Present { index, content }),
         _ => unreachable!(),
     }
 }

@@ -33,7 +33,7 @@ use Rattle.awk_columns.specs.Columns.{is_present, list_items, joined_items}
 use Rattle.awk_counts.specs.Counted.{offset_at}
 use Rattle.awk_lanes.proofs.MadeLanes.{size-lane_of, at-lane_of}
 use Rattle.awk_columns.specs.Joined.{JoinsLists, total}
-use Rattle.awk_columns.specs.Opened.{items_at}
+use Rattle.awk_columns.specs.Lists.{items_at}
 use Rattle.awk_columns.proofs.ArrayLaws.{array_items-at, run_in_list}
 use Rattle.awk_merge_operands.specs.Operands.{stacked_row, filled_row, filled_rows, rows_datum}
 use Rattle.awk_merge_operands.specs.Operands.{list_place, values_by, list_between, is_whole}

@@ -25,7 +25,7 @@ use Rattle.awk_layout.proofs.ArrayItems.{length-array_items, get_or-array_items}
 use Rattle.awk_gather.specs.Arrays.{array_item}
 use Rattle.awk_columns.specs.Columns.{is_present, list_items, joined_items}
 use Rattle.awk_columns.specs.ListClass.{Class, list_type}
-use Rattle.awk_columns.specs.Opened.{OpensLists, OpensOption}
+use Rattle.awk_open.specs.Opens.{OpensLists, OpensOption}
 use Rattle.awk_columns.proofs.ArrayLaws.{simple_null, in_option_same, array_items-at}
 use Rattle.awk_merge_operands.specs.Concatenate.{joined_row}
 use Rattle.awk_merge_operands.specs.Operands.{stacked_row, stacked_rows, filled_row, filled_rows}

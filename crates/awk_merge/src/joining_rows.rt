@@ -12,7 +12,8 @@ ghost use Rattle.awk_layout.specs.Layout.{offset_lists, optional};
 ghost use Rattle.awk_layout.specs.Typing.{array_type, array_items, array_datum};
 ghost use Rattle.awk_layout.specs.Valid.{len};
 ghost use Rattle.awk_gather.specs.Arrays.{array_item};
-ghost use Rattle.awk_columns.specs.Opened.{AreLists, OpensLists};
+ghost use Rattle.awk_columns.specs.Lists.{AreLists};
+ghost use Rattle.awk_open.specs.Opens.{OpensLists};
 ghost use Rattle.awk_merge_operands.specs.Operands as spec;
 ghost use Rattle.awk_merge_operands.specs.Operands.{stacked_rows, filled_rows, rows_datum};
 ghost use Rattle.awk_merge_operands.specs.Operands.{values_by};
@@ -21,13 +22,14 @@ ghost use Rattle.awk_merge_operands.specs.Operands.{IndexHas, IndexesAll, AreRis
 ghost use Rattle.awk_merge_sides.specs.Sides.{sides_of, merged_items, AreSides, IsCounted};
 
 use crate::joining_arrays::merged;
-use awk_columns::{Joined, Lists, Opened, join_spans, open_array, places_of};
+use awk_columns::{Joined, Lists, join_spans, places_of};
 use awk_lanes::{
     Arena, Index, IndexMaker, Items, Lane, LaneMaker, Lengths, Num, Steps, index_of, number,
     option_place_in,
 };
 use awk_layout::{Array, Node};
 use awk_merge_sides::Sides;
+use awk_open::{Opened, open_array};
 use awk_types::{Fault, NoMemory, Typ, copy_type, is_optional};
 use std::alloc::Global;
 use std::sync::ledger::Ledger;

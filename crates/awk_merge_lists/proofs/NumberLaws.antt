@@ -28,8 +28,9 @@ use Rattle.awk_layout.specs.Item.{leaf_value}
 use Rattle.awk_layout.specs.Kinds.{primitive_of, kind_of, primitive_of-kind_of}
 use Rattle.awk_layout.specs.Layout.{flat}
 use Rattle.awk_layout.specs.Typing.{array_type, array_items}
-use Rattle.awk_columns.specs.InOrder.{IsInOrder}
-use Rattle.awk_open.specs.Opened.{IsKindOf, IsListOf}
+use Rattle.awk_open.specs.InOrder.{IsInOrder}
+use Rattle.awk_columns.specs.ListClass.{Class, list_type}
+use Rattle.awk_open.specs.Opened.{IsKindOf}
 use Rattle.awk_open.specs.declared.opening.Opened.{Opened}
 use Rattle.awk_open.specs.declared.opening.Opened.TheVariants.{Empty, Leaf, Items, Row}
 use Rattle.awk_open.specs.declared.opening.Opened.TheVariants.{Option as Optional, Union}
@@ -74,15 +75,16 @@ leaf_opened p s r h k o n =
     by_kind r (leaves_before p (array_type s.column) s.carry (array_item s.column 0)
     (item_has s.column 0 k h.some) h.values) o n
   where
-    lists_not : (a u : DataType) → IsLeafType a → IsListOf a u → ⊥
-    lists_not (leaf p) u q k = absurd k
-    lists_not a u q k = absurd q
+    lists_not : (c : Class) (u : DataType) → IsLeafType (list_type c u) → ⊥
+    lists_not None u q = q
+    lists_not (Some n) u q = q
 
     by_kind : (r : Opened) → IsLeafType (array_type s.column) → IsKindOf (array_type s.column) r
         → ((c : Column) → r ≡ Leaf c → ⊥) → ⊥
     by_kind Empty q k n = subst IsLeafType k q
     by_kind (Leaf c) q k n = n c refl
-    by_kind (Items b e y) q k n = lists_not _ _ q k
+    by_kind (Items l) q k n =
+        lists_not l.class (array_type l.content) (subst IsLeafType k q)
     by_kind (Row None ys) q k n = subst IsLeafType k q
     by_kind (Row (Some ns) ys) q k n = subst IsLeafType k q
     by_kind (Optional j y) q k n = subst IsLeafType k q

@@ -19,8 +19,8 @@ use Rattle.awk_gather.specs.Arrays.{array_item}
 use Rattle.awk_columns.specs.Columns.{list_items}
 use Rattle.awk_columns.specs.Joined.{JoinsLists, total}
 use Rattle.awk_columns.specs.ListClass.{Class, list_type}
-use Rattle.awk_columns.specs.Opened.{OpensLists}
-use Rattle.awk_columns.specs.Opened.{AreOfClass, items_at}
+use Rattle.awk_open.specs.Opens.{OpensLists}
+use Rattle.awk_columns.specs.Lists.{AreOfClass, items_at}
 use Rattle.awk_columns.proofs.ListNodes.{joined_even}
 use Rattle.awk_merge_lists.specs.Lists.{AreListsOver, HoldsLists, HoldsItems, AreOfLength}
 

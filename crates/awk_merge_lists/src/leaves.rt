@@ -8,11 +8,10 @@ ghost use Rattle.awk_merge_lists.specs.Leaves.{leaf_values, num_value, is_unsign
 ghost use Rattle.awk_merge_sides.specs.Sides.{side_of, sides_of, side_items, merged_items};
 ghost use Rattle.awk_merge_sides.specs.Sides.{IsSide, AreSides, IsCounted, IsMerged};
 
-use awk_columns::in_order;
 use awk_lanes::{Arena, Kind, Lane, Num, Numbers, Steps, made_lane};
 use awk_layout::{Node, kind_of};
 use awk_merge_sides::{Side, Sides};
-use awk_open::Opened;
+use awk_open::{Opened, in_order};
 use awk_types::{NoMemory, Prim};
 use bumpalo::collections::into_bump_slice;
 use std::alloc::{AllocError, Global};

@@ -14,10 +14,11 @@ ghost use Rattle.awk_merge_lists.specs.Lists.{PutsLists, moved_places, with_numb
 ghost use Rattle.awk_merge_sides.specs.Sides.{sides_of, AreSides, IsCounted};
 
 use crate::parts::parted;
-use awk_columns::{Joined, Opened, open_array};
+use awk_columns::Joined;
 use awk_lanes::{Arena, IndexMaker, Lane, Steps, index_at, number, to_option_place};
 use awk_layout::Array;
 use awk_merge_sides::{Side, Sides, items_lift};
+use awk_open::{Opened, open_array};
 use awk_types::NoMemory;
 use std::alloc::{AllocError, Global};
 use std::sync::ledger::Ledger;

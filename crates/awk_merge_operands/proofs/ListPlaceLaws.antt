@@ -18,7 +18,7 @@ use Rattle.awk_layout.specs.Valid.{len, IsValid}
 use Rattle.awk_gather.specs.Arrays.{array_item}
 use Rattle.awk_columns.specs.Columns.{list_items}
 use Rattle.awk_lanes.proofs.MadeLanes.{size-lane_of, at-lane_of}
-use Rattle.awk_columns.specs.Opened.{AreLists, items_at}
+use Rattle.awk_columns.specs.Lists.{AreLists, items_at}
 use Rattle.awk_merge_operands.specs.Operands.{list_place, list_between, IsListIndex, IndexHas}
 use Rattle.awk_merge_operands.specs.Operands.{IndexesAll}
 use Rattle.awk_merge_operands.specs.Operands.{is_whole, row_or_null, rows_lane, end_at, end_of_row}

@@ -23,7 +23,7 @@ use Rattle.awk_layout.specs.Layout.{Layout}
 use Rattle.awk_layout.specs.Typing.{array_type, array_items}
 use Rattle.awk_layout.specs.Valid.{len}
 use Rattle.awk_gather.specs.Arrays.{array_item, pick}
-use Rattle.awk_columns.specs.Opened.{OpensOption}
+use Rattle.awk_open.specs.Opens.{OpensOption}
 use Rattle.awk_columns.proofs.ArrayLaws.{array_items-at}
 use Rattle.awk_unify.specs.Carry.{Carry, carried}
 use Rattle.awk_merge_rows.specs.Present.{with_items, places_on, moved, index_on, ArePresent}

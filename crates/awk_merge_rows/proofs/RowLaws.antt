@@ -11,16 +11,16 @@ use Rattle.awk_layout.specs.Typing.{layout_types, array_type, array_items}
 use Rattle.awk_layout.specs.Valid.{AllReach}
 use Rattle.awk_layout.proofs.ArrayItems.{length-array_items, get_or-array_items}
 use Rattle.awk_gather.specs.Arrays.{array_item}
-use Rattle.awk_columns.specs.Opened.{AllOfLen}
 use Rattle.awk_merge_sides.specs.Groups.{groups_of, AreMerged}
 use Rattle.awk_merge_rows.specs.RowLevels.{across, AreEachLong, IsRowLevel}
 use Rattle.awk_merge_sides.specs.Sides.{Side, merged_items, IsMerged}
+use Rattle.awk_open.specs.Opened.{AreLong}
 use Rattle.awk_merge_sides.specs.declared.groups.Groups.{Groups}
 
 -- ---- the column of rows over the columns of the parts
 
 merged_at : (ts : List DataType) (gs : List (List Side)) (ys : List Layout) (n : ℕ)
-    → AreMerged ts gs ys → AreEachLong n gs → AllOfLen n ys
+    → AreMerged ts gs ys → AreEachLong n gs → AreLong n ys
 merged_at [] [] [] n h l = tt
 merged_at (t ∷ ts) (g ∷ gs) (y ∷ ys) n h l =
     (sym (length-array_items y) ∙ ap length h.0.items ∙ l.0, merged_at ts gs ys n h.1 l.1)
@@ -29,7 +29,7 @@ merged_at [] (g ∷ gs) ys n h l = absurd h
 merged_at (t ∷ ts) [] ys n h l = absurd h
 merged_at (t ∷ ts) (g ∷ gs) [] n h l = absurd h
 
-all_reach : (n : ℕ) (ys : List Layout) → AllOfLen n ys → AllReach n (layouts_from ys)
+all_reach : (n : ℕ) (ys : List Layout) → AreLong n ys → AllReach n (layouts_from ys)
 all_reach n [] h = tt
 all_reach n (y ∷ ys) h = (omega (arith, h.0), all_reach n ys h.1)
 
@@ -60,7 +60,7 @@ merged_types (t ∷ ts) [] ys h = absurd h
 merged_types (t ∷ ts) (g ∷ gs) [] h = absurd h
 
 merged_across : (ts : List DataType) (gs : List (List Side)) (ys : List Layout) (i n : ℕ)
-    → AreMerged ts gs ys → AllOfLen n ys → i < n
+    → AreMerged ts gs ys → AreLong n ys → i < n
     → values_by (simple_values (layout_types (layouts_from ys)))
     (value_list (items_across (layouts_from ys) i)) ≡ across gs i
 merged_across [] [] [] i n h l p = refl
@@ -100,6 +100,6 @@ row_merged names ts ss n r ys e h m = record {
       ∙ sym (h.items i (omega (arith, p, e))));
 }
   where
-    lens : AllOfLen n ys
+    lens : AreLong n ys
     lens = merged_at ts (groups_of r) ys n m
         (subst (λ n. AreEachLong n (groups_of r)) (sym e) h.long)

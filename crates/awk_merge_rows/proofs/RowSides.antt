@@ -30,11 +30,12 @@ use Rattle.awk_gather_lanes.proofs.MovedGroups.{lane_is}
 use Rattle.awk_lanes.proofs.MadeLanes.{at-lane_of, size-lane_of}
 use Rattle.awk_gather.proofs.OptionItems.{item-optional}
 use Rattle.awk_columns.specs.ListClass.{Class, list_type}
-use Rattle.awk_columns.specs.Opened.{IsOpened, OpensRow, AllOfLen}
-use Rattle.awk_columns.specs.Opened as opening
-use Rattle.awk_columns.specs.declared.opening.Opened.{Opened}
-use Rattle.awk_columns.specs.declared.opening.Opened.TheVariants.{Unknown, Leaf, Items, Row}
-use Rattle.awk_columns.specs.declared.opening.Opened.TheVariants.{Option as Optional, Union}
+use Rattle.awk_open.specs.Opened.{AreLong}
+use Rattle.awk_open.specs.Opens.{Opens, OpensRow}
+use Rattle.awk_open.specs.Opens as opening
+use Rattle.awk_open.specs.declared.opening.Opened.{Opened}
+use Rattle.awk_open.specs.declared.opening.Opened.TheVariants.{Empty, Leaf, Items, Row}
+use Rattle.awk_open.specs.declared.opening.Opened.TheVariants.{Option as Optional, Union}
 use Rattle.awk_unify.specs.Carry.{Carry, carried, keep}
 use Rattle.awk_unify.proofs.HasLaws.{rec_tup, of_list}
 use Rattle.awk_merge_rows.specs.RowLevels.{row_parts, IsRowType}
@@ -86,7 +87,7 @@ abbrev OfLen : ℕ → Option Layout → Type 0
 OfLen n None = Unit {0}
 OfLen n (Some y) = len y ≡ n
 
-of_len : (n : ℕ) (ys : List Layout) (k : ℕ) → AllOfLen n ys → OfLen n (slice_get ys k)
+of_len : (n : ℕ) (ys : List Layout) (k : ℕ) → AreLong n ys → OfLen n (slice_get ys k)
 of_len n [] k h = tt
 of_len n (y ∷ ys) zero h = h.0
 of_len n (y ∷ ys) (suc k) h = of_len n ys k h.1
@@ -101,7 +102,7 @@ or_item n i f None e l =
     ∙ null_item n i l
 
 -- what they give to a part is the part of each row
-from_item : (n i : ℕ) (f : ℕ → Carry) (ys : List Layout) (o : Option ℕ) → AllOfLen n ys → i < n
+from_item : (n i : ℕ) (f : ℕ → Carry) (ys : List Layout) (o : Option ℕ) → AreLong n ys → i < n
     → get_or (side_items (side_from n f ys o)) i null ≡ value_from f (row_at ys i) o
 from_item n i f ys None a l = or_item n i keep None tt l
 from_item n i f ys (Some k) a l =
@@ -112,7 +113,7 @@ or_len : (n : ℕ) (f : Carry) (o : Option Layout) → OfLen n o → len (or_nul
 or_len n f (Some y) e = e
 or_len n f None e = len-null_column n
 
-from_len : (n : ℕ) (f : ℕ → Carry) (ys : List Layout) (o : Option ℕ) → AllOfLen n ys
+from_len : (n : ℕ) (f : ℕ → Carry) (ys : List Layout) (o : Option ℕ) → AreLong n ys
     → len (side_from n f ys o).column ≡ n
 from_len n f ys None a = len-null_column n
 from_len n f ys (Some k) a = or_len n (f k) (slice_get ys k) (of_len n ys k a)
@@ -235,16 +236,16 @@ not_row : (c : Class) (t : DataType) → IsRowKind (list_type c t) → ⊥
 not_row None t h = h
 not_row (Some n) t h = h
 
-pub row_opened : (s : Side) (r : Opened) → IsRowSide s → HasItems s.column → IsOpened s.column r
+pub row_opened : (s : Side) (r : Opened) → IsRowSide s → HasItems s.column → Opens s.column r
     → ((names : Option (List Name)) (ys : List Layout) → r ≡ Row names ys → ⊥) → ⊥
 row_opened s r h k o n =
     by_kind r (rows_before (array_type s.column) (tup (types_from h.0)) s.carry
     (array_item s.column 0) (item_has s.column 0 k h.1.some) (λ k. k) (tup_row (types_from h.0))
     h.1.values) o n
   where
-    by_kind : (r : Opened) → IsRowKind (array_type s.column) → IsOpened s.column r
+    by_kind : (r : Opened) → IsRowKind (array_type s.column) → Opens s.column r
         → ((names : Option (List Name)) (ys : List Layout) → r ≡ Row names ys → ⊥) → ⊥
-    by_kind Unknown l o n = subst IsRowKind o.typ l
+    by_kind Empty l o n = subst IsRowKind o.typ l
     by_kind (Leaf c) l o n = subst IsRowKind o.typ l
     by_kind (Items ls) l o n =
         not_row ls.class (array_type ls.content) (subst IsRowKind o.typ l)

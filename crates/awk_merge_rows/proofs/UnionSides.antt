@@ -25,7 +25,7 @@ use Rattle.awk_layout.specs.Layout.{Layout, layouts_from, count}
 use Rattle.awk_layout.specs.Typing.{layout_type, array_type, array_items}
 use Rattle.awk_layout.specs.Valid.{len, len_of, IsValid, AllValid}
 use Rattle.awk_open.proofs.PartLimits.{few_alternatives}
-use Rattle.awk_columns.specs.Opened.{item_among, OpensUnion}
+use Rattle.awk_open.specs.Opens.{item_among, OpensUnion}
 use Rattle.awk_unify.specs.Carry.{Carry, carried}
 use Rattle.awk_merge_rows.proofs.AlternativeLaws.{alternative-carried, alternative-carries}
 use Rattle.awk_merge_rows.proofs.AlternativeLaws.{alternative-inside, single-carried}

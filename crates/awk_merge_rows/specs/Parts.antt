@@ -6,7 +6,7 @@ use Rattle.awk_types.specs.Value.{null, row, values_from}
 use Rattle.awk_lanes.specs.declared.kind.Kind.TheVariants.{I64}
 use Rattle.awk_layout.specs.Layout.{Layout, optional, empty}
 use Rattle.awk_lanes.specs.Made.{lane_of}
-use Rattle.awk_columns.specs.Opened.{OpensRow}
+use Rattle.awk_open.specs.Opens.{OpensRow}
 use Rattle.awk_unify.specs.Carry.{Carry, keep}
 use Rattle.awk_merge_sides.specs.Lifts.{part_source, part_carry}
 use Rattle.awk_merge_sides.specs.Sides.{Side, merged_items, with_side, IsSide}

@@ -7,16 +7,16 @@ ghost use Rattle.awk_lanes.specs.Places.{size_of, IsOptionalIndex};
 ghost use Rattle.awk_lanes.specs.declared.kind.Kind.TheVariants as Kind;
 ghost use Rattle.awk_layout.specs.Typing.{array_type};
 ghost use Rattle.awk_layout.specs.Valid.{len};
-ghost use Rattle.awk_columns.specs.Opened.{OpensOption};
+ghost use Rattle.awk_open.specs.Opens.{OpensOption};
 ghost use Rattle.awk_merge_rows.specs.OptionLevels.{IsOptionLevel};
 ghost use Rattle.awk_merge_rows.specs.Present.{with_items, places_on, moved, index_on};
 ghost use Rattle.awk_merge_rows.specs.Present.{IsPresentPut};
 ghost use Rattle.awk_merge_sides.specs.Sides.{side_of, sides_of, IsCounted};
 
-use awk_columns::{Opened, open_array};
 use awk_lanes::{Arena, Kind, Lane, LaneMaker, Num, Steps, number, option_place_in};
 use awk_layout::Array;
 use awk_merge_sides::{Side, Sides};
+use awk_open::{Opened, open_array};
 use awk_types::NoMemory;
 use std::alloc::Global;
 use std::sync::ledger::Ledger;

@@ -14,10 +14,10 @@ ghost use Rattle.awk_merge_sides.specs.Lifts.{part_carry, part_source, AreSource
 ghost use Rattle.awk_merge_sides.specs.Sides.{Side as Lifted, side_of, sides_of, IsSide, AreSides};
 ghost use Rattle.awk_merge_sides.specs.Sides.{IsCounted};
 
-use awk_columns::{Opened, open_array};
 use awk_lanes::{Arena, Kind, LaneMaker, Num, Steps};
 use awk_layout::{Array, Arrays, Node};
 use awk_merge_sides::{Groups, Side, Sides, part_lift, part_sources};
+use awk_open::{Opened, open_array};
 use awk_types::{NoMemory, Typ};
 use awk_unify::Lift;
 use std::alloc::Global;

@@ -11,7 +11,7 @@ ghost use Rattle.awk_lanes.specs.declared.kind.Kind.TheVariants as Kind;
 ghost use Rattle.awk_layout.specs.Array.{IsArrayType};
 ghost use Rattle.awk_layout.specs.Typing.{array_type};
 ghost use Rattle.awk_layout.specs.Valid.{len};
-ghost use Rattle.awk_columns.specs.Opened.{OpensUnion};
+ghost use Rattle.awk_open.specs.Opens.{OpensUnion};
 ghost use Rattle.awk_unify.specs.View.{lift_of};
 ghost use Rattle.awk_merge_sides.specs.Groups.{groups_of, with_side_at, AreCounted};
 ghost use Rattle.awk_merge_rows.specs.UnionLevels.{IsUnionLevel};
@@ -21,10 +21,10 @@ ghost use Rattle.awk_merge_rows.specs.Tagged.{target_in as target_in_groups, wit
 ghost use Rattle.awk_merge_rows.specs.Tagged.{with_alternatives, targets_of, item_tag, item_place};
 ghost use Rattle.awk_merge_rows.specs.Tagged.{AreTargeted, IsReady, with_numbers, PutsSide};
 
-use awk_columns::{Opened, open_array};
 use awk_lanes::{Arena, Kind, Lane, LaneMaker, Num, Steps, number, place_in, tag_in};
 use awk_layout::{Array, Arrays};
 use awk_merge_sides::{Groups, Side, Sides, alternative_lift, alternative_tag};
+use awk_open::{Opened, open_array};
 use awk_types::{NoMemory, Typs};
 use awk_unify::Lift;
 use std::alloc::Global;

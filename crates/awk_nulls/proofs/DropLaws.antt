@@ -21,7 +21,7 @@ use Rattle.awk_axis.specs.DropNone.{drop_none_function}
 use Rattle.awk_columns.specs.Joined.{AreOffsets, JoinsLists, total}
 use Rattle.awk_columns.specs.ListClass.{Class}
 use Rattle.awk_axis.specs.Mapped.{AreGiven}
-use Rattle.awk_columns.specs.Opened.{AreLists, items_at, all_items_at}
+use Rattle.awk_columns.specs.Lists.{AreLists, items_at, all_items_at}
 use Rattle.awk_axis.specs.Spoils.{too_many}
 use Rattle.awk_axis.specs.declared.causes.Spoil.TheVariants.{Size}
 use Rattle.awk_nulls.specs.Lanes.{ArePresent}

@@ -13,8 +13,7 @@ use Rattle.awk_layout.specs.Layout.{Layout}
 use Rattle.awk_layout.specs.Valid.{len}
 use Rattle.awk_counts.specs.Counted.{first_of, present_at}
 use Rattle.awk_columns.specs.ListClass.{Class}
-use Rattle.awk_columns.specs.Lists.{span_length}
-use Rattle.awk_columns.specs.Opened.{AreLists}
+use Rattle.awk_columns.specs.Lists.{span_length, AreLists}
 use Rattle.awk_columns.proofs.SpanLaws.{stop_there}
 use Rattle.awk_option_nodes.specs.Present.{present_lane}
 

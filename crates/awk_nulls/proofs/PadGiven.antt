@@ -27,7 +27,7 @@ use Rattle.awk_gather.specs.Peeled.{IsPickedOpt}
 use Rattle.awk_columns.specs.ListClass.{Class}
 use Rattle.awk_columns.specs.ListNode.{AreEven}
 use Rattle.awk_axis.specs.Mapped.{AreGiven}
-use Rattle.awk_columns.specs.Opened.{AreLists, items_at, all_items_at}
+use Rattle.awk_columns.specs.Lists.{AreLists, items_at, all_items_at}
 use Rattle.awk_axis.specs.Spoils.{too_many}
 use Rattle.awk_axis.specs.declared.causes.Spoil.TheVariants.{Size}
 use Rattle.awk_nulls.specs.PadNone.{padded, padded_length, padded_class, pad_none_function}

@@ -29,8 +29,8 @@ use Rattle.awk_open.specs.Opened.{IsOpened}
 use Rattle.awk_open.specs.declared.opening.Opened.TheVariants.{Option as Optional}
 use Rattle.awk_open.proofs.ItemShapes.{present_item}
 use Rattle.awk_lanes.proofs.MadeLanes.{size-lane_of, at-lane_of}
-use Rattle.awk_columns.specs.Opened.{OpensOption}
-use Rattle.awk_columns.proofs.OrderedOptions.{option_in_order}
+use Rattle.awk_open.specs.Opens.{OpensOption}
+use Rattle.awk_open.proofs.OrderedOptions.{option_in_order}
 use Rattle.awk_nulls.specs.Lanes.{ArePresent, HasPresent}
 use Rattle.awk_option_nodes.specs.Present.{present_lane}
 use Rattle.awk_nulls.proofs.NamedNumbers.{named_reached}
@@ -148,7 +148,7 @@ option_opens j y x op = record {
   kind = op.typ;
   size = op.size;
   valid = (op.fits, op.index, op.valid);
-  columns = tt;
+  lengths = tt;
   items = op.items;
 }
 

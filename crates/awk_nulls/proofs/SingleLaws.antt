@@ -23,7 +23,7 @@ use Rattle.awk_columns.specs.Columns.{is_present, present_values}
 use Rattle.awk_columns.specs.Joined.{JoinsLists, total}
 use Rattle.awk_columns.specs.ListClass.{Class}
 use Rattle.awk_axis.specs.Mapped.{AreGiven}
-use Rattle.awk_columns.specs.Opened.{AreLists, items_at, all_items_at}
+use Rattle.awk_columns.specs.Lists.{AreLists, items_at, all_items_at}
 use Rattle.awk_axis.specs.Spoils.{too_many}
 use Rattle.awk_axis.specs.declared.causes.Spoil.TheVariants.{Size}
 use Rattle.awk_columns.proofs.ArrayLaws.{run_map, run_same, run_in_list}

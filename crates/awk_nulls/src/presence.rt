@@ -3,14 +3,14 @@ ghost use Rattle.std.specs.Prelude.{◌≡◌, ◌<◌, ◌+◌, true, IfOk};
 ghost use Rattle.awk_types.specs.Simple.{is_option};
 ghost use Rattle.awk_layout.specs.Typing.{array_type};
 ghost use Rattle.awk_open.specs.Opened.{IsOpened};
-ghost use Rattle.awk_open.specs.declared.opening.Opened.TheVariants as Outermost;
+ghost use Rattle.awk_open.specs.declared.opening.Opened.TheVariants as Opened;
 ghost use Rattle.awk_nulls.specs.Lanes.{ArePresent, HasPresent};
 
 use crate::numbers::{has_numbers, named_numbers};
-use awk_columns::{Lists, Opened, open_array};
+use awk_columns::Lists;
 use awk_lanes::{Arena, Lane, Steps, index_of, ordinals};
 use awk_layout::{Array, Class};
-use awk_open::{Opened as Outermost, opened};
+use awk_open::{Opened, open_array, opened};
 use awk_option_nodes::present_counts;
 use awk_types::{NoMemory, is_optional};
 use std::alloc::Global;
@@ -64,7 +64,7 @@ fn moved_items<'a, L: Ledger>(
     steps: &mut Steps<L>,
 ) -> Result<OptionItems<'a>, NoMemory>
     requires option { is_option (array_type x.now) ≡ true }
-    requires opened { IsOpened x.now (Outermost.Option index.now content.now) }
+    requires opened { IsOpened x.now (Opened.Option index.now content.now) }
     ensures { IfOk result (λ r. HasPresent x.now r.index r.content) }
 {
     match content.node().class() {
@@ -92,7 +92,7 @@ fn number_items<'a, L: Ledger>(
     ensures { IfOk result (λ r. HasPresent x.now r.index r.content) }
 {
     match opened(alloc, x, arena, steps)? {
-        Outermost::Option { index, content } => {
+        Opened::Option { index, content } => {
             moved_items(alloc, x, &index, &content, arena, steps)
         }
         _ => unreachable!(),

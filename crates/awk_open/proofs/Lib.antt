@@ -10,3 +10,9 @@ pub mod ItemShapes
 pub mod SettledUnions
 pub mod OpenedContents
 pub mod FirstIndexes
+pub mod OrderedOptions
+pub mod OrderedUnions
+pub mod OrderedKinds
+pub mod OpeningLaws
+pub mod OpenedLists
+pub mod OnlyKinds

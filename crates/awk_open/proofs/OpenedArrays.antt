@@ -27,7 +27,7 @@ use Rattle.awk_lanes.specs.Made.{lane_of}
 use Rattle.awk_gather.specs.Peeled.{IsBare, IsPeeled}
 use Rattle.awk_open.specs.Plain.{IsPlain}
 use Rattle.awk_open.specs.Opened.{IsKindOf, IsOpened, IsOpenedAt, AreWithin, opened_layout}
-use Rattle.awk_open.specs.Opened.{HasColumns}
+use Rattle.awk_open.specs.Opened.{HasLengths}
 use Rattle.awk_open.specs.declared.opening.Opened.{Opened}
 use Rattle.awk_open.specs.declared.opening.Opened.TheVariants.{Option as Optional}
 use Rattle.awk_lanes.proofs.MadeLanes.{size-lane_of, at-lane_of}
@@ -139,7 +139,7 @@ opened_option x y z p k e l h q v u o = rw q (record {
   kind = option_present (array_type x) o ∙ ap opt (sym (left_type x y p k h u).1);
   size = peeled_size x y p k e h;
   valid = (omega (arith, peeled_size x y p k e h), h.index, v);
-  columns = tt;
+  lengths = tt;
   items = λ j i. sym (peeled_item x y p k j e h i);
 })
 
@@ -178,7 +178,7 @@ opened_through x y p k r e h u o w =
       kind = subst (λ t. IsKindOf t r) (left_same x y p k h u o).1 w.kind;
       size = ap (λ n. len (opened_layout n r)) (sym m) ∙ w.size ∙ m;
       valid = subst (λ n. IsValid (opened_layout n r)) m w.valid;
-      columns = subst (λ n. HasColumns n r) m w.columns;
+      lengths = subst (λ n. HasLengths n r) m w.lengths;
       items = λ j q.
           let q' : j < size_of k = omega (arith, m) in
           sym (peeled_item x y p k j e h q) ∙ item_at_place (at k j) (array_item y)

@@ -19,7 +19,10 @@ use Rattle.awk_layout.specs.Typing.{layout_type, layout_types, array_type}
 use Rattle.awk_gather.specs.Arrays.{array_item}
 use Rattle.awk_gather_lanes.specs.Lanes.{picked, nexts, multiples, AreBlocks}
 use Rattle.awk_gather.specs.Picked.{IsPicked}
-use Rattle.awk_open.specs.Opened.{IsListOf, IsOpenedAt, ArePicked, AreAllPlaces, AreWithin, AreLong}
+use Rattle.awk_columns.specs.ListClass.{Class, list_type}
+use Rattle.awk_columns.specs.Lists.{Listed, AreLists, AreOfClass}
+use Rattle.awk_open.specs.Opened.{IsOpened, IsOpenedAt, ArePicked, AreAllPlaces, AreWithin, AreLong}
+use Rattle.awk_open.specs.declared.opening.Opened.{Opened}
 use Rattle.awk_open.specs.declared.opening.Opened.TheVariants.{Empty, Leaf, Items, Row}
 use Rattle.awk_lanes.proofs.MadeLanes.{size-lane_of, at-lane_of}
 use Rattle.awk_gather_lanes.proofs.PickedLanes.{size-picked, at-picked, at-nexts, places_le}
@@ -76,38 +79,64 @@ opened_leaf c p a l e = rw e (record {
   kind = refl;
   size = size-picked c p;
   valid = omega (arith, size-picked c p);
-  columns = tt;
+  lengths = tt;
   items = λ j k. sym (ap (leaf_value c.kind) (at-picked c p j k));
 })
 
--- lists, of the content of a layout of lists
-opened_items : (x y z : Layout) (p a b : Column) → IsListOf (array_type x) (array_type y)
-    → IsValid y → z ≡ y → size_of p < 2 ^ 63 → size_of a ≡ size_of p → AreSpans a b (len y)
+-- lists of a class, of the content of a layout of lists
+abbrev pub listed : Class → Column → Column → Layout → Listed
+listed c s t y = record { class = c; starts = s; stops = t; content = y }
+
+abbrev pub items_of : Class → Column → Column → Layout → Opened
+items_of c s t y = Items (listed c s t y)
+
+-- what is opened into lists is lists of their class
+pub are_lists : (x : Layout) (l : Listed) → IsOpened x (Items l)
+    → AreLists l.class l.starts l.stops l.content
+are_lists x l o = record {
+  spans = o.valid.1;
+  fits = o.valid.0;
+  valid = o.valid.2;
+  same_class = o.lengths;
+}
+
+pub are_lists-at : (x : Layout) (p : Column) (l : Listed) → IsOpenedAt x p (Items l)
+    → AreLists l.class l.starts l.stops l.content
+are_lists-at x p l o = record {
+  spans = o.valid.1;
+  fits = o.valid.0;
+  valid = o.valid.2;
+  same_class = o.lengths;
+}
+
+opened_items : (x y z : Layout) (p a b : Column) (c : Class)
+    → array_type x ≡ list_type c (array_type y) → IsValid y → z ≡ y → size_of p < 2 ^ 63
+    → size_of a ≡ size_of p → AreSpans a b (len y) → AreOfClass c a b
     → ((j : ℕ) → j < size_of p → array_item x (place_at p j) ≡ list
     (run (array_item y) (place_at a j) (place_at b j - place_at a j))) → IsOpenedAt x p
-    (Items a b z)
-opened_items x y z p a b t v e l s h f = rw e (record {
+    (items_of c a b z)
+opened_items x y z p a b c t v e l s h k f = rw e (record {
   kind = t;
   size = s;
   valid = (omega (arith, s), h, v);
-  columns = tt;
+  lengths = k;
   items = f;
 })
 
 pub opened_lists : (s t p a b : Column) (x z : Layout) → IsValid (lists s t x) → z ≡ x
     → size_of p < 2 ^ 63 → IsIndex p (size_of s) → a ≡ picked s p → b ≡ picked t p
-    → IsOpenedAt (lists s t x) p (Items a b z)
+    → IsOpenedAt (lists s t x) p (items_of None a b z)
 opened_lists s t p a b x z v g l h e f =
-    rw (e, f) (opened_items (lists s t x) x z p (picked s p) (picked t p) refl v.2 g l
-    (size-picked s p) (spans_picked s t p (len x) v.1 h)
+    rw (e, f) (opened_items (lists s t x) x z p (picked s p) (picked t p) None refl v.2 g l
+    (size-picked s p) (spans_picked s t p (len x) v.1 h) tt
     (λ j k. rw (at-picked s p j k, at-picked t p j k) (item-lists s t x (place_at p j))))
 
 pub opened_offsets : (o p a b : Column) (x z : Layout) → IsValid (offset_lists o x) → z ≡ x
     → size_of p < 2 ^ 63 → IsIndex p (size_of o - 1) → a ≡ picked o p → b ≡ nexts o p
-    → IsOpenedAt (offset_lists o x) p (Items a b z)
+    → IsOpenedAt (offset_lists o x) p (items_of None a b z)
 opened_offsets o p a b x z v g l h e f =
-    rw (e, f) (opened_items (offset_lists o x) x z p (picked o p) (nexts o p) refl v.2 g l
-    (size-picked o p) (spans_of_offsets o p (len x) v.1 h)
+    rw (e, f) (opened_items (offset_lists o x) x z p (picked o p) (nexts o p) None refl v.2 g l
+    (size-picked o p) (spans_of_offsets o p (len x) v.1 h) tt
     (λ j k. rw (at-picked o p j k, at-nexts o p j k) (item-offset_lists o x (place_at p j))))
 
 multiple_span : (n a size : ℕ) → a * size + size ≤ n
@@ -133,13 +162,20 @@ spans_multiples size n p h = record {
       (multiple_span n (place_at p i) size (h i k').1);
 }
 
+sized_multiples : (size : ℕ) (p : Column) (i : ℕ) → i < size_of p
+    → place_at (multiples size size p) i - place_at (multiples size 0 p) i ≡ size
+sized_multiples size p i k =
+    let w : place_at p i * size + size - (place_at p i * size + 0) ≡ size = omega arith in
+    rw (at-multiples size 0 p i k, at-multiples size size p i k) w
+
 pub opened_regular : (size n : ℕ) (p a b : Column) (x z : Layout) → IsValid (regular size n x)
     → z ≡ x → size_of p < 2 ^ 63 → IsIndex p n → a ≡ multiples size 0 p → b ≡ multiples size size p
-    → IsOpenedAt (regular size n x) p (Items a b z)
+    → IsOpenedAt (regular size n x) p (items_of (Some size) a b z)
 opened_regular size n p a b x z v g l h e f =
     rw (e, f) (opened_items (regular size n x) x z p (multiples size 0 p) (multiples size size p)
-    refl v.2 g l (size-multiples size 0 p) (spans_multiples size (len x) p
+    (Some size) refl v.2 g l (size-multiples size 0 p) (spans_multiples size (len x) p
     (blocks_of_places n (len x) size p h v.1))
+    (λ i k. sized_multiples size p i (omega (arith, k, size-multiples size 0 p)))
     (λ j k.
     let d : place_at p j * size + 0 ≡ place_at p j * size = omega arith in
     let w : place_at p j * size + size - place_at p j * size ≡ size = omega arith in
@@ -151,7 +187,7 @@ opened_empty p h = record {
   kind = refl;
   size = none (size_of p) refl;
   valid = tt;
-  columns = tt;
+  lengths = tt;
   items = λ j k. refl;
 }
   where
@@ -241,7 +277,7 @@ opened_rows names others n p xs rs e a l h = rw e (record {
   kind = type-rows names n xs ∙ ap (λ ts. row_type names (types_from ts)) (types_picked p xs rs h);
   size = refl;
   valid = (l, rw (count_picked p xs rs h) a, reach_picked p xs rs h, valid_picked p xs rs h);
-  columns = long_picked p xs rs h;
+  lengths = long_picked p xs rs h;
   items = λ j k. item-rows names n xs (place_at p j) ∙ ap (λ vs. row (values_from vs))
       (across_picked p xs rs j h k);
 })

@@ -366,7 +366,7 @@ opened_union x p t k T ys zs e v u o h q a b w = rw (a, b) (record {
     },
     w,
   );
-  columns = tt;
+  lengths = tt;
   items = λ j l.
       let l' : j < size_of k = omega (arith, m) in
       let s = part j l' in
@@ -415,7 +415,7 @@ opened_united x y z p t k i ys e v u o s q r w c = rw c (record {
       (simple_present (array_type x) s) u));
   size = m;
   valid = (omega (arith, m, len-fits x v), r.index, w);
-  columns = tt;
+  lengths = tt;
   items = λ j l.
       let l' : j < size_of k = omega (arith, n) in
       let d : j < size_of p = omega (arith, first_size (len x) p e) in

@@ -2,23 +2,19 @@
 use Rattle.std.proofs.Common.{◌≡◌, ℕ, ◌+◌, ◌-◌, ◌<◌, ◌≤◌, arith, refl, ap, sym, ◌∙◌, subst}
 use Rattle.std.proofs.Common.{get_or-take, get_or-drop, length-take, length-drop, drop, take, suc}
 use Rattle.std.proofs.Common.{zero, add-one, slice_get, Some, List, [], ◌∷◌}
-use Rattle.std.specs.Prelude.{pos, None, Option}
+use Rattle.std.specs.Prelude.{pos, Option, None}
 use Rattle.awk_types.specs.DataType.{Name}
-use Rattle.awk_types.specs.Limit.{limit}
 use Rattle.awk_lanes.specs.Column.{Column}
 use Rattle.awk_lanes.specs.Cut.{cut_of}
-use Rattle.awk_lanes.specs.Numbers.{element, nat_of}
-use Rattle.awk_lanes.specs.Places.{at, place_at, size_of, AreSpans, IsOffsets}
+use Rattle.awk_lanes.specs.Numbers.{element}
+use Rattle.awk_lanes.specs.Places.{at, size_of, AreSpans, IsOffsets}
 use Rattle.awk_layout.specs.Layout.{Layout, layouts_from, flat, lists, offset_lists, rows}
 use Rattle.awk_layout.specs.Valid.{len, IsValid}
-use Rattle.awk_layout.specs.Item.{run}
-use Rattle.awk_layout.specs.Typing.{array_type}
-use Rattle.awk_gather.specs.Arrays.{array_item}
 use Rattle.awk_open.specs.Opened.{IsOpened, AreLong}
-use Rattle.awk_open.specs.declared.opening.Opened.TheVariants.{Leaf, Items, Row}
+use Rattle.awk_open.specs.declared.opening.Opened.TheVariants.{Leaf, Row}
 use Rattle.awk_open.proofs.OpenedKinds.{item-lists, item-offset_lists, item-rows, type-rows}
-use Rattle.awk_open.proofs.OpenedKinds.{within_at}
-use Rattle.awk_open.proofs.OpenedArrays.{lists_within, offsets_within, rows_within}
+use Rattle.awk_open.proofs.OpenedKinds.{within_at, items_of}
+use Rattle.awk_open.proofs.OpenedArrays.{rows_within}
 
 pub whole_leaf : (c : Column) (x : Layout) → flat c ≡ x → IsValid x → IsOpened x (Leaf c)
 whole_leaf c x e v =
@@ -27,19 +23,19 @@ whole_leaf c x e v =
       kind = refl;
       size = refl;
       valid = subst IsValid (sym e) v;
-      columns = tt;
+      lengths = tt;
       items =
           λ i k. refl;
     })
 
 pub whole_lists : (s t a b : Column) (x z : Layout) → IsValid (lists s t x) → z ≡ x → a ≡ s → b ≡ t
-    → IsOpened (lists s t x) (Items a b z)
+    → IsOpened (lists s t x) (items_of None a b z)
 whole_lists s t a b x z v e f h =
     rw (e, f, h) (record {
       kind = refl;
       size = refl;
       valid = v;
-      columns = tt;
+      lengths = tt;
       items = λ i k.
           item-lists s t x i;
     })
@@ -82,7 +78,7 @@ spans-cut o n v =
 
 pub whole_offsets : (o a b : Column) (n : ℕ) (x z : Layout) → IsValid (offset_lists o x) → z ≡ x
     → n ≡ size_of o → a ≡ cut_of o 0 (n - 1) → b ≡ cut_of o 1 n
-    → IsOpened (offset_lists o x) (Items a b z)
+    → IsOpened (offset_lists o x) (items_of None a b z)
 whole_offsets o a b n x z v e m f h =
     let some : 0 < size_of o = v.1.some in
     let long : size_of (cut_of o 0 (size_of o - 1)) ≡ size_of o - 1 - 0 = size-cut o 0
@@ -91,7 +87,7 @@ whole_offsets o a b n x z v e m f h =
       kind = refl;
       size = omega (arith, long);
       valid = (omega (arith, long, v.0), spans-cut o (len x) v.1, v.2);
-      columns = tt;
+      lengths = tt;
       items = λ i k.
           let l : i + 1 < size_of o = omega arith in
           rw (starts-at o i l, stops-at o i l) (item-offset_lists o x i);
@@ -106,7 +102,7 @@ whole_rows names others n xs ys v h e f = rw (e, f) (record {
   kind = type-rows names n xs;
   size = refl;
   valid = v;
-  columns = h;
+  lengths = h;
   items = λ i k. item-rows names n xs i;
 })
 

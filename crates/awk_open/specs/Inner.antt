@@ -1,8 +1,7 @@
--- What the contents of an outermost kind are not, and how long lists of one size are.
-use Rattle.std.specs.Prelude.{◌≡◌, ℕ, ◌-◌, ◌<◌, false, map}
-use Rattle.awk_types.specs.DataType.{DataType, reg, types_from}
+-- What the contents of an outermost kind are not.
+use Rattle.std.specs.Prelude.{◌≡◌, false, map}
+use Rattle.awk_types.specs.DataType.{types_from}
 use Rattle.awk_types.specs.Simple.{is_option, ArePlain}
-use Rattle.awk_lanes.specs.Places.{size_of, place_at}
 use Rattle.awk_layout.specs.Typing.{array_type}
 use Rattle.awk_open.specs.declared.opening.Opened.{Opened}
 use Rattle.awk_open.specs.declared.opening.Opened.TheVariants.{Empty, Leaf, Items, Row}
@@ -14,10 +13,5 @@ IsInner (Optional j y) = is_option (array_type y) ≡ false
 IsInner (Union t j ys) = ArePlain (types_from (map array_type ys))
 IsInner Empty = Unit {0}
 IsInner (Leaf c) = Unit {0}
-IsInner (Items s e y) = Unit {0}
+IsInner (Items l) = Unit {0}
 IsInner (Row names ys) = Unit {0}
-
--- each list of a type of lists of one size has as many items
-abbrev pub AreSized : DataType → Opened → Type 0
-AreSized (reg n t) (Items s e y) = (i : ℕ) → i < size_of s → place_at e i - place_at s i ≡ n
-AreSized t r = Unit {0}

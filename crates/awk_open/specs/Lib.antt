@@ -3,3 +3,5 @@ pub mod Spread
 pub mod Opened
 pub mod Settled
 pub mod Inner
+pub mod InOrder
+pub mod Opens

@@ -14,6 +14,7 @@ ghost use Rattle.awk_open.specs.Opened.{IsOpened, IsOpenedAt, ArePicked, AreAllP
 ghost use Rattle.awk_open.specs.Plain.{IsPlain};
 
 use crate::whole_index::peel_whole;
+use awk_columns::Lists;
 use awk_gather::{Peeled, array_within, gather_node};
 use awk_gather_lanes::{gather_lane, next_lane};
 use awk_lanes::{
@@ -31,12 +32,8 @@ pub enum Opened<'a> {
     Empty,
     /// Numbers or truth values.
     Leaf(Lane<'a>),
-    /// The lists of the content's items from each start below its stop.
-    Items {
-        starts: Lane<'a>,
-        stops: Lane<'a>,
-        content: Array<'a>,
-    },
+    /// Lists of one class.
+    Items(Lists<'a>),
     /// The rows of the columns' items. A tuple has no names.
     Row {
         names: Option<Names>,
@@ -144,11 +141,7 @@ fn open_lists<'a, L: Ledger>(
     let content = array_within(alloc, content.copy(alloc)?)?;
     let starts = gather_lane(starts, places, arena, steps)?;
     let stops = gather_lane(stops, places, arena, steps)?;
-    Ok(Opened::Items {
-        starts,
-        stops,
-        content,
-    })
+    Ok(Opened::Items(Lists::new(None, starts, stops, content)))
 }
 
 fn open_offsets<'a, L: Ledger>(
@@ -168,11 +161,7 @@ fn open_offsets<'a, L: Ledger>(
     let content = array_within(alloc, content.copy(alloc)?)?;
     let starts = gather_before(offsets, places, arena, steps)?;
     let stops = next_lane(offsets, places, arena, steps)?;
-    Ok(Opened::Items {
-        starts,
-        stops,
-        content,
-    })
+    Ok(Opened::Items(Lists::new(None, starts, stops, content)))
 }
 
 fn open_regular<'a, L: Ledger>(
@@ -194,11 +183,7 @@ fn open_regular<'a, L: Ledger>(
     let content = array_within(alloc, content.copy(alloc)?)?;
     let starts = multiple_lane(size, 0, places, arena, steps)?;
     let stops = multiple_lane(size, size, places, arena, steps)?;
-    Ok(Opened::Items {
-        starts,
-        stops,
-        content,
-    })
+    Ok(Opened::Items(Lists::new(Some(size), starts, stops, content)))
 }
 
 /// The numbers of a lane of offsets at places.

@@ -2,8 +2,7 @@
 ghost use Rattle.std.specs.Prelude.{◌≡◌, IfOk};
 ghost use Rattle.awk_types.specs.Simple.{is_union, present};
 ghost use Rattle.awk_types.specs.View.{typ_of};
-ghost use Rattle.awk_layout.specs.Typing.{array_type};
-ghost use Rattle.awk_open.specs.Inner.{IsInner, AreSized};
+ghost use Rattle.awk_open.specs.Inner.{IsInner};
 ghost use Rattle.awk_open.specs.Opened.{IsOpened};
 
 use crate::opening::{Opened, open_peeled};
@@ -79,9 +78,7 @@ pub fn opened<'a, L: Ledger>(
 ) -> Result<Opened<'a>, NoMemory>
     ensures opened { IfOk result (IsOpened x.now) }
     ensures inner { IfOk result IsInner }
-    ensures sizes { IfOk result (AreSized (array_type x.now)) }
 {
     let _ = x.typ();
-    let _ = x.len();
     opened_any(alloc, x, arena, steps)
 }

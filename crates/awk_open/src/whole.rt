@@ -7,6 +7,7 @@ ghost use Rattle.awk_layout.specs.Valid.{IsValid};
 ghost use Rattle.awk_open.specs.Opened.{IsOpened, AreLong, AreWithin};
 
 use crate::opening::Opened;
+use awk_columns::Lists;
 use awk_gather::array_within;
 use awk_lanes::{Arena, Lane, Steps};
 use awk_layout::{Array, Arrays, Class, Node, Nodes};
@@ -25,11 +26,7 @@ fn whole_lists<'a>(
     ensures opened { IfOk result (IsOpened (lists starts.now stops.now content.now)) }
 {
     let content = array_within(alloc, content.copy(alloc)?)?;
-    Ok(Opened::Items {
-        starts: starts.copy(),
-        stops: stops.copy(),
-        content,
-    })
+    Ok(Opened::Items(Lists::new(None, starts.copy(), stops.copy(), content)))
 }
 
 /// The offsets but the last are starts, and those but the first are stops.
@@ -45,11 +42,9 @@ fn whole_offsets<'a, L: Ledger>(
 {
     let content = array_within(alloc, content.copy(alloc)?)?;
     let n = offsets.len();
-    Ok(Opened::Items {
-        starts: offsets.cut(0, n - 1, steps),
-        stops: offsets.cut(1, n, steps),
-        content,
-    })
+    let starts = offsets.cut(0, n - 1, steps);
+    let stops = offsets.cut(1, n, steps);
+    Ok(Opened::Items(Lists::new(None, starts, stops, content)))
 }
 
 /// Whether each of these has n items.

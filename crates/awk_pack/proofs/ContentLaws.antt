@@ -1,12 +1,12 @@
 -- What is left after the lanes of an opened column are put, by its kind.
-use Rattle.std.proofs.Common.{◌≡◌, ◌≤◌, ℕ, suc, false, ◌||◌, List, [], ◌∷◌, ◌++◌, length, map}
+use Rattle.std.proofs.Common.{◌≡◌, ◌≤◌, ℕ, suc, true, false, ◌||◌, List, [], ◌∷◌, ◌++◌, length, map}
 use Rattle.std.proofs.Common.{Option, Some, None, refl, sym, ap, ap₂, ◌∙◌, subst, append_assoc}
-use Rattle.std.proofs.Common.{arith}
+use Rattle.std.proofs.Common.{arith, true≢false}
 use Rattle.std.specs.Prelude.{nat_lt, filter}
 use Rattle.std.specs.List.{flat_map, list_any}
 use Rattle.std.proofs.lemmas.List.{append-nil}
-use Rattle.awk_types.specs.DataType.{Name, DataType, unknown, leaf, var, reg, rec, tup, opt, uni}
-use Rattle.awk_types.specs.DataType.{types_from, row_type, nodes}
+use Rattle.awk_types.specs.DataType.{Name, DataType, leaf, var, reg, rec, tup, opt, uni, types_from}
+use Rattle.awk_types.specs.DataType.{row_type, nodes}
 use Rattle.awk_types.specs.Value.{Value}
 use Rattle.awk_types.specs.ItemLimit.{item_limit}
 use Rattle.awk_lanes.specs.Column.{Column}
@@ -16,9 +16,12 @@ use Rattle.awk_layout.specs.Layout.{Layout}
 use Rattle.awk_layout.specs.Typing.{array_type, array_items}
 use Rattle.awk_layout.specs.Valid.{len}
 use Rattle.awk_columns.specs.Columns.{joined_items, offsets, is_present}
-use Rattle.awk_columns.specs.InOrder.{IsInOrder, AreParts, AreAlternatives}
+use Rattle.awk_open.specs.InOrder.{IsInOrder}
+use Rattle.awk_columns.specs.Parts.{AreParts, AreAlternatives}
 use Rattle.awk_open.specs.Opened.{IsOpened}
 use Rattle.awk_open.specs.declared.opening.Opened.{Opened}
+use Rattle.awk_columns.specs.ListClass.{Class, list_type}
+use Rattle.awk_columns.specs.Lists.{Listed}
 use Rattle.awk_columns.specs.ListValues.{list_values}
 use Rattle.awk_open.specs.declared.opening.Opened.TheVariants.{Leaf, Items, Row}
 use Rattle.awk_open.specs.declared.opening.Opened.TheVariants.{Option as Optional, Union}
@@ -85,11 +88,12 @@ one : (t : DataType) (vs : List Value) (z : Layout) → array_type z ≡ t → a
     → placed t vs ≡ flat_map placed_of (z ∷ [])
 one t vs z e f = ap₂ placed (sym e) (sym f) ∙ sym (append-nil (placed_of z))
 
-own_var : (u : DataType) (vs : List Value) (old new : List Column) (s e o : Column) (y z : Layout)
-    → IsColumn (var u) vs (Items s e y) → IsJoined y (list_values s e y) o z → new ≡ old ++ o ∷ []
+own_var : (u : DataType) (vs : List Value) (old new : List Column) (l : Listed) (o : Column)
+    (z : Layout) → IsColumn (var u) vs (Items l) → array_type l.content ≡ u
+    → IsJoined l.content (list_values l.starts l.stops l.content) o z → new ≡ old ++ o ∷ []
     → IsOwn (var u) vs old (z ∷ []) new
-own_var u vs old new s e o y z h j m =
-    let typ : array_type z ≡ u = j.typ ∙ sym h.kind in
+own_var u vs old new l o z h t j m =
+    let typ : array_type z ≡ u = j.typ ∙ t in
     let items : array_items z ≡ joined_items vs = j.items ∙ ap joined_items (sym h.order) in
     record {
       lanes =
@@ -101,24 +105,56 @@ own_var u vs old new s e o y z h j m =
     }
 
 -- lists that are not of one length have offsets
-offsets_put : (t : DataType) (vs : List Value) (old new : List Column) (s e o : Column)
-    (y z : Layout) → is_regular t ≡ false → IsColumn t vs (Items s e y)
-    → IsJoined y (list_values s e y) o z → new ≡ old ++ o ∷ [] → IsLeft t vs old (z ∷ []) new
-offsets_put (var u) vs old new s e o y z r h j m =
-    left (var u) vs old (z ∷ []) new (own_var u vs old new s e o y z h j m)
-offsets_put (reg n u) vs old new s e o y z r h j m = absurd (cc)
-offsets_put unknown vs old new s e o y z r h j m = absurd h.kind
-offsets_put (leaf q) vs old new s e o y z r h j m = absurd h.kind
-offsets_put (rec ns ts) vs old new s e o y z r h j m = absurd h.kind
-offsets_put (tup ts) vs old new s e o y z r h j m = absurd h.kind
-offsets_put (opt u) vs old new s e o y z r h j m = absurd h.kind
-offsets_put (uni ts) vs old new s e o y z r h j m = absurd h.kind
+offsets_put : (c : Class) (t : DataType) (vs : List Value) (old new : List Column) (l : Listed)
+    (o : Column) (z : Layout) → t ≡ list_type c (array_type l.content) → is_regular t ≡ false
+    → IsColumn t vs (Items l) → IsJoined l.content (list_values l.starts l.stops l.content) o z
+    → new ≡ old ++ o ∷ [] → IsLeft t vs old (z ∷ []) new
+offsets_put None t vs old new l o z e r h j m =
+    let u = array_type l.content in
+    subst (λ t. IsLeft t vs old (z ∷ []) new) (sym e) (left (var u) vs old (z ∷ []) new
+    (own_var u vs old new l o z (subst (λ t. IsColumn t vs (Items l)) e h) refl j m))
+offsets_put (Some n) t vs old new l o z e r h j m =
+    absurd (true≢false (ap is_regular (sym e) ∙ r))
 
-pub left_var : (t : DataType) (vs : List Value) (old new : List Column) (s e o : Column)
-    (y z : Layout) (ys : List Layout) → is_regular t ≡ false → IsJoined y (list_values s e y) o z
-    → new ≡ old ++ o ∷ [] → ys ≡ z ∷ [] → IsColumn t vs (Items s e y) → IsLeft t vs old ys new
-left_var t vs old new s e o y z ys r j m is h =
-    subst (λ ys. IsLeft t vs old ys new) (sym is) (offsets_put t vs old new s e o y z r h j m)
+pub left_var : (t : DataType) (vs : List Value) (old new : List Column) (l : Listed) (o : Column)
+    (z : Layout) (ys : List Layout) → is_regular t ≡ false
+    → IsJoined l.content (list_values l.starts l.stops l.content) o z → new ≡ old ++ o ∷ []
+    → ys ≡ z ∷ [] → IsColumn t vs (Items l) → IsLeft t vs old ys new
+left_var t vs old new l o z ys r j m is h =
+    subst (λ ys. IsLeft t vs old ys new) (sym is)
+    (offsets_put l.class t vs old new l o z h.kind r h j m)
+
+-- lists of one length have none
+own_reg : (n : ℕ) (u : DataType) (vs : List Value) (old : List Column) (l : Listed) (o : Column)
+    (z : Layout) → IsColumn (reg n u) vs (Items l) → array_type l.content ≡ u
+    → IsJoined l.content (list_values l.starts l.stops l.content) o z
+    → IsOwn (reg n u) vs old (z ∷ []) old
+own_reg n u vs old l o z h t j =
+    let typ : array_type z ≡ u = j.typ ∙ t in
+    let items : array_items z ≡ joined_items vs = j.items ∙ ap joined_items (sym h.order) in
+    record {
+      lanes = sym (append-nil old);
+      columns = ap (λ ps. at_node (reg n u) vs ∷ ps) (one u (joined_items vs) z typ items);
+      count = omega (arith, ap nodes typ);
+      few = h.few;
+    }
+
+none_put : (c : Class) (t : DataType) (vs : List Value) (old : List Column) (l : Listed)
+    (o : Column) (z : Layout) → t ≡ list_type c (array_type l.content) → is_regular t ≡ true
+    → IsColumn t vs (Items l) → IsJoined l.content (list_values l.starts l.stops l.content) o z
+    → IsLeft t vs old (z ∷ []) old
+none_put None t vs old l o z e r h j = absurd (true≢false (sym r ∙ ap is_regular e))
+none_put (Some n) t vs old l o z e r h j =
+    let u = array_type l.content in
+    subst (λ t. IsLeft t vs old (z ∷ []) old) (sym e) (left (reg n u) vs old (z ∷ []) old
+    (own_reg n u vs old l o z (subst (λ t. IsColumn t vs (Items l)) e h) refl j))
+
+pub left_regular : (t : DataType) (vs : List Value) (old : List Column) (l : Listed) (o : Column)
+    (z : Layout) (ys : List Layout) → is_regular t ≡ true
+    → IsJoined l.content (list_values l.starts l.stops l.content) o z → ys ≡ z ∷ []
+    → IsColumn t vs (Items l) → IsLeft t vs old ys old
+left_regular t vs old l o z ys r j is h =
+    subst (λ ys. IsLeft t vs old ys old) (sym is) (none_put l.class t vs old l o z h.kind r h j)
 
 -- ---- options
 

@@ -1,16 +1,17 @@
 -- Columns with too many values.
-use Rattle.std.proofs.Common.{◌≡◌, ◌<◌, ◌≤◌, ◌||◌, true, false, List, length, ap, ◌∙◌}
+use Rattle.std.proofs.Common.{◌≡◌, ◌<◌, ◌≤◌, ◌||◌, true, false, List, length, ap, ◌∙◌, Some, None}
 use Rattle.std.specs.Prelude.{nat_lt, filter}
 use Rattle.std.specs.List.{list_any}
 use Rattle.std.proofs.lemmas.Bool.{lt-ltb, le-ltb, or_right}
 use Rattle.awk_types.specs.DataType.{DataType, unknown, leaf, var, reg, rec, tup, opt, uni}
 use Rattle.awk_types.specs.Value.{Value}
 use Rattle.awk_types.specs.ItemLimit.{item_limit}
-use Rattle.awk_lanes.specs.Column.{Column}
 use Rattle.awk_layout.specs.Layout.{Layout}
 use Rattle.awk_layout.specs.Typing.{array_type, array_items}
 use Rattle.awk_layout.specs.Valid.{len}
 use Rattle.awk_columns.specs.Columns.{joined_items, is_present}
+use Rattle.awk_columns.specs.ListClass.{Class, list_type}
+use Rattle.awk_columns.specs.Lists.{Listed}
 use Rattle.awk_columns.specs.ListValues.{list_values}
 use Rattle.awk_open.specs.declared.opening.Opened.TheVariants.{Items}
 use Rattle.awk_layout.proofs.ArrayItems.{length-array_items}
@@ -41,20 +42,20 @@ pub few_items : (x : Layout) → len x ≤ item_limit
 few_items x l = ap (nat_lt item_limit) (length-array_items x) ∙ le-ltb item_limit (len x) l
 
 -- the items of lists are too many
-pub large_lists : (t : DataType) (vs : List Value) (s e : Column) (y : Layout)
-    → nat_lt item_limit (length (joined_items (list_values s e y))) ≡ true
-    → IsColumn t vs (Items s e y) → is_too_large t vs ≡ true
-large_lists (var t) vs s e y l h = or_right (is_too_long (record { typ = var t; values = vs }))
-    (is_too_large t (joined_items vs))
-    (large_node t (joined_items vs)
-    (ap (λ vs. nat_lt item_limit (length (joined_items vs))) h.order ∙ l))
-large_lists (reg n t) vs s e y l h = or_right (is_too_long (record { typ = reg n t; values = vs }))
-    (is_too_large t (joined_items vs))
-    (large_node t (joined_items vs)
-    (ap (λ vs. nat_lt item_limit (length (joined_items vs))) h.order ∙ l))
-large_lists unknown vs s e y l h = absurd h.kind
-large_lists (leaf q) vs s e y l h = absurd h.kind
-large_lists (rec ns ts) vs s e y l h = absurd h.kind
-large_lists (tup ts) vs s e y l h = absurd h.kind
-large_lists (opt t) vs s e y l h = absurd h.kind
-large_lists (uni ts) vs s e y l h = absurd h.kind
+large_of : (c : Class) (t u : DataType) (vs : List Value) → t ≡ list_type c u
+    → nat_lt item_limit (length (joined_items vs)) ≡ true → is_too_large t vs ≡ true
+large_of None t u vs e l =
+    ap (λ t. is_too_large t vs) e
+    ∙ or_right (is_too_long (record { typ = var u; values = vs }))
+    (is_too_large u (joined_items vs)) (large_node u (joined_items vs) l)
+large_of (Some n) t u vs e l =
+    ap (λ t. is_too_large t vs) e
+    ∙ or_right (is_too_long (record { typ = reg n u; values = vs }))
+    (is_too_large u (joined_items vs)) (large_node u (joined_items vs) l)
+
+pub large_lists : (t : DataType) (vs : List Value) (l : Listed)
+    → nat_lt item_limit (length (joined_items (list_values l.starts l.stops l.content))) ≡ true
+    → IsColumn t vs (Items l) → is_too_large t vs ≡ true
+large_lists t vs l e h =
+    large_of l.class t (array_type l.content) vs h.kind
+    (ap (λ vs. nat_lt item_limit (length (joined_items vs))) h.order ∙ e)

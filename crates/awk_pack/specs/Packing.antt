@@ -13,7 +13,7 @@ use Rattle.awk_lanes.specs.declared.kind.Kind.TheVariants as kind
 use Rattle.awk_layout.specs.Layout.{Layout}
 use Rattle.awk_layout.specs.Typing.{array_type, array_items}
 use Rattle.awk_columns.specs.Columns.{joined_items, offsets}
-use Rattle.awk_columns.specs.InOrder.{IsInOrder}
+use Rattle.awk_open.specs.InOrder.{IsInOrder}
 use Rattle.awk_lanes.specs.Made.{lane_of as read_lane}
 use Rattle.awk_open.specs.Opened.{IsKindOf}
 use Rattle.awk_open.specs.declared.opening.Opened.{Opened}

@@ -3,19 +3,17 @@ ghost use Rattle.std.specs.Prelude.{◌≡◌, [], ◌∷◌, List, true, IfOk};
 ghost use Rattle.awk_types.specs.DataType.{DataType};
 ghost use Rattle.awk_types.specs.Value.{Value};
 ghost use Rattle.awk_types.specs.View.{typ_of};
-ghost use Rattle.awk_layout.specs.Layout.{lists};
 ghost use Rattle.awk_layout.specs.Typing.{array_type, array_items};
-ghost use Rattle.awk_layout.specs.Valid.{IsValid};
 ghost use Rattle.awk_open.specs.declared.opening.Opened.TheVariants as Opened;
 ghost use Rattle.awk_pack.specs.Canon.{is_too_large};
 ghost use Rattle.awk_pack.specs.Packing.{IsColumn, IsLeft, IfSize, is_regular as is_regular_type};
 
 use crate::column::{joined, leaf_lane};
 use crate::packed::PackFault;
-use awk_columns::in_order;
+use awk_columns::Lists;
 use awk_lanes::{Arena, Lane, Lanes, Steps};
 use awk_layout::{Array, Arrays};
-use awk_open::Opened;
+use awk_open::{Opened, in_order};
 use awk_types::{ITEM_LIMIT, NoMemory, Typ};
 use std::alloc::Global;
 use std::sync::ledger::Ledger;
@@ -58,22 +56,24 @@ fn leaf_contents<'a, L: Ledger>(
 fn list_contents<'a, L: Ledger>(
     alloc: Global,
     typ: &Typ,
-    starts: &Lane<'a>,
-    stops: &Lane<'a>,
-    content: &Array<'a>,
+    opened: &Lists<'a>,
     lanes: &mut Lanes<'a>,
     arena: &'a Arena,
     steps: &mut Steps<L>,
 ) -> Result<Arrays<'a>, PackFault>
-    requires valid { IsValid (lists starts.now stops.now content.now) }
-    ensures left { let opened = Opened.Items starts.now stops.now content.now in
-        (vs : List Value) → IsColumn (typ_of typ.now) vs opened →
+    ensures left { (vs : List Value) → IsColumn (typ_of typ.now) vs (Opened.Items opened.now) →
         IfOk result (λ ys. IsLeft (typ_of typ.now) vs lanes.old ys lanes.new) }
-    ensures size { let opened = Opened.Items starts.now stops.now content.now in
-        (vs : List Value) → IsColumn (typ_of typ.now) vs opened →
+    ensures size { (vs : List Value) → IsColumn (typ_of typ.now) vs (Opened.Items opened.now) →
         IfSize result (is_too_large (typ_of typ.now) vs ≡ true) }
 {
-    let lists = joined(alloc, starts, stops, content, arena, steps)?;
+    let lists = joined(
+        alloc,
+        opened.starts(),
+        opened.stops(),
+        opened.content(),
+        arena,
+        steps,
+    )?;
     if is_regular(typ) {
         return Ok(only(alloc, lists.content)?);
     }
@@ -100,20 +100,7 @@ pub(crate) fn contents<'a, L: Ledger>(
     match in_order(alloc, x, arena, steps)? {
         Opened::Empty => Ok(Arrays::new(alloc)),
         Opened::Leaf(lane) => Ok(leaf_contents(alloc, &lane, lanes, arena, steps)?),
-        Opened::Items {
-            starts,
-            stops,
-            content,
-        } => list_contents(
-            alloc,
-            x.typ(),
-            &starts,
-            &stops,
-            &content,
-            lanes,
-            arena,
-            steps,
-        ),
+        Opened::Items(lists) => list_contents(alloc, x.typ(), &lists, lanes, arena, steps),
         Opened::Row { columns, .. } => Ok(columns),
         Opened::Option { index, content } => {
             lanes.push(index)?;

@@ -13,7 +13,7 @@ use Rattle.awk_layout.specs.Typing.{layout_type, array_type, array_items}
 use Rattle.std.proofs.lemmas.Simd.{map-map}
 use Rattle.awk_base.proofs.Lists.{map-by}
 use Rattle.awk_columns.specs.Columns.{part_at}
-use Rattle.awk_columns.specs.InOrder.{AreParts}
+use Rattle.awk_columns.specs.Parts.{AreParts}
 use Rattle.awk_open.specs.Opened.{AreLong}
 use Rattle.awk_gather.specs.Arrays.{array_item}
 use Rattle.awk_pair_operands.proofs.LevelLaws.{paired_value-level, paired_type-level}

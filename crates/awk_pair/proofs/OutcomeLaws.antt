@@ -17,7 +17,7 @@ use Rattle.awk_lanes.specs.declared.kind.Kind.TheVariants.{I64}
 use Rattle.awk_layout.specs.Layout.{Layout}
 use Rattle.awk_columns.specs.Columns.{joined_items, is_present, offsets}
 use Rattle.awk_columns.specs.ListClass.{Class, list_type}
-use Rattle.awk_columns.specs.InOrder.{AreParts}
+use Rattle.awk_columns.specs.Parts.{AreParts}
 use Rattle.awk_pair_operands.proofs.LevelLaws.{type-nulls, values-nulls, unevens-nulls, ends-nulls}
 use Rattle.awk_pair_operands.proofs.LevelLaws.{value-present, type-lists, values-lists}
 use Rattle.awk_pair_operands.proofs.LevelLaws.{unevens-lists}

@@ -5,7 +5,7 @@ use Rattle.awk_types.specs.Value.{Value}
 use Rattle.awk_types.specs.declared.fault.Fault.TheVariants.{Size}
 use Rattle.awk_layout.specs.Layout.{Layout}
 use Rattle.awk_layout.specs.Typing.{array_type}
-use Rattle.awk_columns.specs.InOrder.{AreParts}
+use Rattle.awk_columns.specs.Parts.{AreParts}
 use Rattle.awk_pair_sides.specs.Rows.{rows_at}
 use Rattle.awk_pair_operands.specs.Paired.{Reach, to_leaves, to_depth, paired_type, types_at_ends}
 use Rattle.awk_pair_operands.specs.Paired.{values_of_rows, any_uneven}

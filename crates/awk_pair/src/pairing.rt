@@ -4,7 +4,7 @@ ghost use Rattle.std.specs.List.{AllByRecursion};
 ghost use Rattle.awk_types.specs.Faults.{fault_told};
 ghost use Rattle.awk_types.specs.Gives.{Gives};
 ghost use Rattle.awk_types.specs.Has.{Has};
-ghost use Rattle.awk_columns.specs.InOrder.{AreParts};
+ghost use Rattle.awk_columns.specs.Parts.{AreParts};
 ghost use Rattle.awk_layout.specs.Typing.{array_type};
 ghost use Rattle.awk_pair_operands.specs.Answer.{single_or_fault, shared_shape, shared_ends};
 ghost use Rattle.awk_pair_operands.specs.First.{all_data};

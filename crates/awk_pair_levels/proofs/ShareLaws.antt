@@ -17,7 +17,7 @@ use Rattle.awk_gather.specs.Arrays.{array_item}
 use Rattle.awk_columns.specs.Columns.{list_items}
 use Rattle.awk_columns.specs.ListClass.{Class, list_type}
 use Rattle.awk_columns.specs.Lists.{Listed, AreLists, AreOfClass}
-use Rattle.awk_columns.specs.Opened.{OpensLists}
+use Rattle.awk_open.specs.Opens.{OpensLists}
 use Rattle.awk_pair_sides.specs.Levels.{Role, listed, stretched, repeated, role, unless, kept_at}
 use Rattle.awk_pair_sides.specs.Levels.{is_single, item_of}
 use Rattle.awk_pair_levels.specs.Shares.{length_of, AreListsOf, AreItemsOf, IsShare, AreShares}

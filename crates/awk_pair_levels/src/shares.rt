@@ -14,9 +14,10 @@ ghost use Rattle.awk_pair_levels.specs.Shares.{IsNext, HasOnes};
 ghost use Rattle.awk_pair_levels.specs.declared.shares.Share.TheVariants as share;
 
 use crate::whole::items_in;
-use awk_columns::{Lists, Opened, open_array};
+use awk_columns::Lists;
 use awk_lanes::{Arena, Kind, Lane, LaneMaker, NoMemory, Steps};
 use awk_layout::{Array, Arrays};
+use awk_open::{Opened, open_array};
 use awk_pair_sides::{is_single, stretches};
 use awk_types::{Typ, is_list_or_unknown};
 use std::alloc::Global;
@@ -52,7 +53,7 @@ fn lists_of<'a, L: Ledger>(
 {
     match open_array(alloc, x, arena, steps)? {
         Opened::Items(lists) => Ok(lists),
-        Opened::Unknown => {
+        Opened::Empty => {
             let starts = no_places(arena)?;
             let stops = no_places(arena)?;
             Ok(Lists::new(None, starts, stops, x.copy(alloc)?))

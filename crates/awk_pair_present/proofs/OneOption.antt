@@ -21,8 +21,8 @@ use Rattle.awk_open.specs.Inner.{IsInner}
 use Rattle.awk_open.specs.Opened.{IsOpened}
 use Rattle.awk_open.specs.declared.opening.Opened.TheVariants.{Option as Optional}
 use Rattle.awk_columns.specs.Columns.{is_present, option_index}
-use Rattle.awk_columns.specs.InOrder.{IsInOrder}
-use Rattle.awk_columns.proofs.OrderedOptions.{array_items-is}
+use Rattle.awk_open.specs.InOrder.{IsInOrder}
+use Rattle.awk_columns.proofs.ArrayLaws.{array_items-at}
 use Rattle.awk_pair_sides.specs.Rows.{rows_at, flags_index}
 use Rattle.awk_pair_sides.specs.Sides.{is_whole}
 use Rattle.awk_pair_present.specs.Present.{ArePresent}
@@ -52,7 +52,7 @@ one_value v = v ∷ []
 
 rows-one : (x : Layout) → rows_at (x ∷ []) (len x) ≡ map one_value (array_items x)
 rows-one x =
-    sym (ap (map one_value) (array_items-is x)
+    sym (ap (map one_value) (array_items-at x)
     ∙ map-map one_value (array_item x) (range_with_len 0 (len x)))
 
 flags-one : (k : ℕ) (vs : List Value)

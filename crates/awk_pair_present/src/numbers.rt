@@ -8,7 +8,7 @@ ghost use Rattle.awk_open.specs.Inner.{IsInner};
 ghost use Rattle.awk_open.specs.Opened.{IsOpened};
 ghost use Rattle.awk_open.specs.declared.opening.Opened.TheVariants as Opened;
 ghost use Rattle.awk_counts.specs.Counted.{first_of, numbers_at, present_at};
-ghost use Rattle.awk_columns.specs.InOrder.{IsInOrder};
+ghost use Rattle.awk_open.specs.InOrder.{IsInOrder};
 
 use awk_counts::{count_present, counted};
 use awk_gather::array_within;

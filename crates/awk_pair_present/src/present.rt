@@ -7,7 +7,7 @@ ghost use Rattle.awk_layout.specs.Valid.{len};
 ghost use Rattle.awk_open.specs.Inner.{IsInner};
 ghost use Rattle.awk_open.specs.Opened.{IsOpened, AreLong};
 ghost use Rattle.awk_open.specs.declared.opening.Opened.TheVariants as opening;
-ghost use Rattle.awk_columns.specs.InOrder.{IsInOrder};
+ghost use Rattle.awk_open.specs.InOrder.{IsInOrder};
 ghost use Rattle.awk_layout.specs.Layout.{Layout};
 ghost use Rattle.std.specs.Prelude.{List};
 ghost use Rattle.awk_pair_present.specs.Presence.{AreAsLong, ArePresences};
@@ -15,13 +15,13 @@ ghost use Rattle.awk_pair_present.specs.Present.{IsPresentRows};
 
 use crate::numbers::present_numbers;
 use crate::presence::{Presence, all_taken, are_there, presences_of};
-use awk_columns::{in_order, places_of};
+use awk_columns::places_of;
 use awk_lanes::{
     Arena, Items, Kind, Lane, Lengths, NoMemory, Num, Numbers, Steps, index_of, made_lane, number,
     offsets_of, place_in,
 };
 use awk_layout::{Array, Arrays, Class};
-use awk_open::{Opened, opened};
+use awk_open::{Opened, in_order, opened};
 use awk_types::is_optional;
 use std::alloc::Global;
 use std::sync::ledger::Ledger;

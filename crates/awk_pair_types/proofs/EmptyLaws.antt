@@ -21,7 +21,7 @@ use Rattle.awk_layout.specs.declared.datum.Datum.TheVariants.{Arr, One}
 use Rattle.awk_layout.specs.declared.datum.Operand.{Operand}
 use Rattle.awk_layout.specs.declared.datum.Operand.TheVariants as operand
 use Rattle.awk_columns.specs.Columns.{part_at}
-use Rattle.awk_columns.specs.InOrder.{AreParts}
+use Rattle.awk_columns.specs.Parts.{AreParts}
 use Rattle.awk_open.specs.Opened.{AreLong}
 use Rattle.awk_frames.specs.Shape.{Shape, ends, shape}
 use Rattle.awk_frames.specs.Sizes.{levels_refused}

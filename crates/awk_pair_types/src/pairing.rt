@@ -4,7 +4,7 @@ ghost use Rattle.awk_types.specs.Faults.{fault_told};
 ghost use Rattle.awk_types.specs.Gives.{Gives};
 ghost use Rattle.awk_layout.specs.Typing.{array_type};
 ghost use Rattle.awk_open.specs.Opened.{AreLong};
-ghost use Rattle.awk_columns.specs.InOrder.{AreParts};
+ghost use Rattle.awk_columns.specs.Parts.{AreParts};
 ghost use Rattle.awk_frames.specs.Framed.{IsFrame};
 ghost use Rattle.awk_frames.specs.Shape.{shape as shape_by};
 ghost use Rattle.awk_frames.specs.View.{shape_of};

@@ -1,9 +1,8 @@
 -- Lanes of leaves, and which kinds of arrays have one.
 use Rattle.std.proofs.Common.{◌≡◌, refl, ap, sym, ◌∙◌, true≢false, map, []}
-use Rattle.std.proofs.Common.{List}
-use Rattle.std.specs.Prelude.{ℤ, pos, true, false, Bool, Option, Some, None, if◌then◌else◌}
+use Rattle.std.specs.Prelude.{ℤ, pos, true, false, Bool, if◌then◌else◌}
 use Rattle.std.specs.List.{range_with_len}
-use Rattle.awk_types.specs.DataType.{DataType, Name, unknown, leaf, var, reg, rec, tup, opt, uni}
+use Rattle.awk_types.specs.DataType.{DataType, unknown, leaf, var, reg, rec, tup, opt, uni}
 use Rattle.awk_types.specs.Predicates.{is_leaf}
 use Rattle.awk_types.specs.Simple.{present, is_option}
 use Rattle.awk_types.specs.Value.{truth}
@@ -16,66 +15,9 @@ use Rattle.awk_layout.specs.Item.{leaf_value}
 use Rattle.awk_layout.specs.Kinds.{kind_of, primitive_of, kind_of-primitive_of}
 use Rattle.awk_layout.specs.Layout.{Layout}
 use Rattle.awk_layout.specs.Typing.{array_type, array_items}
-use Rattle.awk_open.specs.Opened.{IsKindOf}
-use Rattle.awk_open.specs.declared.opening.Opened.{Opened}
-use Rattle.awk_open.specs.declared.opening.Opened.TheVariants as opened
 use Rattle.awk_columns.specs.Columns.{is_present}
 use Rattle.awk_present.specs.Numbers.{number_of, leaf_of}
 use Rattle.awk_present.specs.Present.{AreLeaves}
-
--- ---- the kinds that have such lanes
-
-no_lists : (t : DataType) (s e : Column) (y : Layout) → IsKindOf t (opened.Items s e y)
-    → is_leaf t ≡ true → ⊥
-no_lists unknown s e y k h = absurd k
-no_lists (leaf p) s e y k h = absurd k
-no_lists (var t) s e y k h = true≢false (sym h)
-no_lists (reg n t) s e y k h = true≢false (sym h)
-no_lists (rec ns ts) s e y k h = absurd k
-no_lists (tup ts) s e y k h = absurd k
-no_lists (opt t) s e y k h = absurd k
-no_lists (uni ts) s e y k h = absurd k
-
-no_rows : (t : DataType) (names : Option (List Name)) (ys : List Layout)
-    → IsKindOf t (opened.Row names ys) → is_leaf t ≡ true → ⊥
-no_rows t None ys k h = true≢false (sym h ∙ ap is_leaf k)
-no_rows t (Some names) ys k h = true≢false (sym h ∙ ap is_leaf k)
-
--- leaves are numbers of a lane, or none
-pub only_leaves : (t : DataType) (r : Opened) → IsKindOf t r → is_leaf t ≡ true
-    → (r ≡ opened.Empty → ⊥) → ((c : Column) → r ≡ opened.Leaf c → ⊥) → ⊥
-only_leaves t opened.Empty k h e l = e refl
-only_leaves t (opened.Leaf c) k h e l = l c refl
-only_leaves t (opened.Items s f y) k h e l = no_lists t s f y k h
-only_leaves t (opened.Row names ys) k h e l = no_rows t names ys k h
-only_leaves t (opened.Option j y) k h e l = true≢false (sym h ∙ ap is_leaf k)
-only_leaves t (opened.Union g j ys) k h e l = true≢false (sym h ∙ ap is_leaf k)
-
-no_listed : (t : DataType) (s e : Column) (y : Layout) → IsKindOf t (opened.Items s e y)
-    → is_option t ≡ true → ⊥
-no_listed unknown s e y k h = absurd k
-no_listed (leaf p) s e y k h = absurd k
-no_listed (var t) s e y k h = true≢false (sym h)
-no_listed (reg n t) s e y k h = true≢false (sym h)
-no_listed (rec ns ts) s e y k h = absurd k
-no_listed (tup ts) s e y k h = absurd k
-no_listed (opt t) s e y k h = absurd k
-no_listed (uni ts) s e y k h = absurd k
-
-no_row : (t : DataType) (names : Option (List Name)) (ys : List Layout)
-    → IsKindOf t (opened.Row names ys) → is_option t ≡ true → ⊥
-no_row t None ys k h = true≢false (sym h ∙ ap is_option k)
-no_row t (Some names) ys k h = true≢false (sym h ∙ ap is_option k)
-
--- an option is opened as one
-pub only_option : (t : DataType) (r : Opened) → IsKindOf t r → is_option t ≡ true
-    → ((j : Column) (y : Layout) → r ≡ opened.Option j y → ⊥) → ⊥
-only_option t opened.Empty k h o = true≢false (sym h ∙ ap is_option k)
-only_option t (opened.Leaf c) k h o = true≢false (sym h ∙ ap is_option k)
-only_option t (opened.Items s f y) k h o = no_listed t s f y k h
-only_option t (opened.Row names ys) k h o = no_row t names ys k h
-only_option t (opened.Option j y) k h o = o j y refl
-only_option t (opened.Union g j ys) k h o = true≢false (sym h ∙ ap is_option k)
 
 -- without an option a leaf is what it is
 pub present_leaf : (t : DataType) → is_option t ≡ false → is_leaf (present t) ≡ true

@@ -31,7 +31,7 @@ use Rattle.awk_open.specs.declared.opening.Opened.TheVariants as opened
 use Rattle.awk_columns.specs.Columns.{is_present, present_values}
 use Rattle.awk_counts.specs.Counted.{first_of, present_place, present_at}
 use Rattle.awk_columns.proofs.ArrayLaws.{array_items-at}
-use Rattle.awk_columns.proofs.OrderedOptions.{map-same}
+use Rattle.awk_base.proofs.Ranges.{map-in}
 use Rattle.awk_numbers.specs.Folds.{lane_numbers}
 use Rattle.awk_numbers.specs.Places.{is_place}
 use Rattle.awk_numbers.proofs.PartLaws.{slice_range-map}
@@ -227,7 +227,7 @@ module _ (j c : Column) where
     values : vs ≡ map there (range_with_len 0 (size_of j))
     values =
         array_items-at x
-        ∙ map-same (array_item x) there 0 (len x) (λ i l. item_there i (omega (arith, l)))
+        ∙ map-in (array_item x) there 0 (len x) (λ i l. item_there i (omega (arith, l)))
         ∙ ap (λ m. map there (range_with_len 0 m)) (sym opens.size)
 
     flagged : IsFlagged js vs

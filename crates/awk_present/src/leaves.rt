@@ -4,10 +4,9 @@ ghost use Rattle.awk_types.specs.Predicates.{is_leaf};
 ghost use Rattle.awk_layout.specs.Typing.{array_type};
 ghost use Rattle.awk_present.specs.Present.{AreLeaves};
 
-use awk_columns::in_order;
 use awk_lanes::{Arena, Kind, Lane, LaneMaker, Steps};
 use awk_layout::Array;
-use awk_open::Opened;
+use awk_open::{Opened, in_order};
 use awk_types::NoMemory;
 use std::alloc::Global;
 use std::sync::ledger::Ledger;

@@ -1,14 +1,11 @@
 -- Records, of which some are null, with a field: those that are there, under their option.
-use Rattle.std.proofs.Common.{◌≡◌, ℕ, suc, true, false, refl, ap, sym, subst, ◌∙◌, arith}
-use Rattle.std.specs.Prelude.{List, [], ◌∷◌, map, filter, length, pos, negsuc, Option, Some, None}
+use Rattle.std.proofs.Common.{◌≡◌, ℕ, suc, true, refl, ap, sym, subst, ◌∙◌, arith}
+use Rattle.std.specs.Prelude.{List, [], ◌∷◌, map, filter, length, pos, negsuc}
 use Rattle.std.specs.Simd.Lanes.{zip2}
-use Rattle.awk_types.specs.DataType.{Name, DataType, DataTypes, unknown, leaf, var, reg, rec}
-use Rattle.awk_types.specs.DataType.{tup, opt, uni, row_type, types_from}
-use Rattle.awk_types.specs.Simple.{present, is_option, in_option}
+use Rattle.awk_types.specs.DataType.{Name, DataType, unknown, leaf, var, reg, rec}
+use Rattle.awk_types.specs.DataType.{tup, opt, uni}
+use Rattle.awk_types.specs.Simple.{present, in_option}
 use Rattle.awk_types.specs.Value.{Value, int, truth, null, list, row, alt, values_from}
-use Rattle.awk_layout.specs.Kinds.{primitive_of}
-use Rattle.awk_open.specs.Opened.{IsKindOf, IsListOf}
-use Rattle.awk_open.specs.declared.opening.Opened.{Opened}
 use Rattle.awk_columns.specs.Columns.{is_present, option_index}
 use Rattle.awk_lanes.specs.Column.{Column}
 use Rattle.awk_lanes.specs.Counted.{before}
@@ -155,35 +152,3 @@ type-optional n x y v t z j e r f g =
     ap (λ w. opt (present w)) (g ∙ ap (field_type n (array_type y)) f)
     ∙ record-field n (array_type y) (array_type v) r
     ∙ ap (λ w. field_type n w (array_type v)) (sym e)
-
--- ---- an optional type is opened as an option
-
-not-option : (t u : DataType) → is_option t ≡ true → t ≡ u → is_option u ≡ false → ⊥
-not-option t u e f g =
-    let h : true ≡ false = sym e ∙ ap is_option f ∙ g in cc
-
-not-lists : (t u : DataType) → is_option t ≡ true → IsListOf t u → ⊥
-not-lists (opt t) u e k = k
-not-lists (var t) u e k = cc
-not-lists (reg n t) u e k = cc
-not-lists unknown u e k = k
-not-lists (leaf q) u e k = k
-not-lists (rec ns ts) u e k = k
-not-lists (tup ts) u e k = k
-not-lists (uni ts) u e k = k
-
-plain-row : (names : Option (List Name)) (ts : DataTypes) → is_option (row_type names ts) ≡ false
-plain-row None ts = refl
-plain-row (Some ns) ts = refl
-
-pub only_option : (t : DataType) (r : Opened) → IsKindOf t r → is_option t ≡ true
-    → ((j : Column) (y : Layout) → r ≡ Opened.Option j y → ⊥) → ⊥
-only_option t Opened.Empty k e f = not-option t unknown e k refl
-only_option t (Opened.Leaf c) k e f = not-option t (leaf (primitive_of c.kind)) e k refl
-only_option t (Opened.Items s l y) k e f = not-lists t (array_type y) e k
-only_option t (Opened.Row names ys) k e f =
-    not-option t (row_type names (types_from (map array_type ys))) e k
-    (plain-row names (types_from (map array_type ys)))
-only_option t (Opened.Option j y) k e f = f j y refl
-only_option t (Opened.Union g j ys) k e f =
-    not-option t (uni (types_from (map array_type ys))) e k refl

@@ -13,7 +13,7 @@ use Rattle.awk_layout.specs.Typing.{array_type, array_items}
 use Rattle.awk_layout.specs.Valid.{len}
 use Rattle.awk_gather.specs.Arrays.{array_item}
 use Rattle.awk_open.proofs.OpenedKinds.{item-rows, type-rows}
-use Rattle.awk_columns.specs.Opened.{across, OpensRow}
+use Rattle.awk_open.specs.Opens.{across, OpensRow}
 use Rattle.awk_columns.proofs.ArrayLaws.{array_items-at}
 use Rattle.awk_put_field.specs.Field.{put, named, names_in, field_type, field_value}
 use Rattle.awk_put_field.proofs.PutLaws.{map-put}

@@ -9,17 +9,17 @@ ghost use Rattle.awk_layout.specs.Typing.{array_type, array_items};
 ghost use Rattle.awk_layout.specs.Valid.{len};
 ghost use Rattle.awk_open.specs.Opened.{IsOpened};
 ghost use Rattle.awk_open.specs.declared.opening.Opened.TheVariants.{Option as Optional};
-ghost use Rattle.awk_columns.specs.InOrder.{IsInOrder};
+ghost use Rattle.awk_open.specs.InOrder.{IsInOrder};
 ghost use Rattle.awk_frames.specs.Shape.{index_column};
 ghost use Rattle.awk_put_field.specs.Field.{is_record, names_in, field_type, field_value};
 ghost use Rattle.awk_put_field.specs.There.{beside_present, there_length};
 
 use crate::records::records_of;
-use awk_columns::{Opened, in_order, open_array, places_of};
+use awk_columns::places_of;
 use awk_gather::gather;
 use awk_lanes::{Arena, Items, Lane, Lengths, NoMemory, Num, Steps, number, option_place_in};
 use awk_layout::{Array, Node};
-use awk_open::Opened as Ordered;
+use awk_open::{Opened, in_order, open_array};
 use awk_types::is_optional;
 use std::alloc::Global;
 use std::sync::ledger::Ledger;
@@ -169,7 +169,7 @@ fn optional_with<'a, L: Ledger>(
     ensures size { IfOk result (λ y. len y ≡ len records.now) }
 {
     match in_order(alloc, records, arena, steps)? {
-        Ordered::Option { index, content } => {
+        Opened::Option { index, content } => {
             let node = under_option(alloc, records, &index, &content, name, column, arena, steps)?;
             Ok(node)
         }

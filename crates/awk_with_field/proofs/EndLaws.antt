@@ -20,7 +20,7 @@ use Rattle.awk_layout.specs.declared.datum.Operand.{Operand}
 use Rattle.awk_layout.proofs.ArrayItems.{length-array_items}
 use Rattle.awk_open.specs.Opened.{AreLong}
 use Rattle.awk_columns.specs.Columns.{part_at}
-use Rattle.awk_columns.specs.InOrder.{AreParts}
+use Rattle.awk_columns.specs.Parts.{AreParts}
 use Rattle.awk_frames.specs.Framed.{over_type}
 use Rattle.awk_pair_operands.specs.First.{all_data}
 use Rattle.awk_pair_operands.specs.Pairs.{below, item_type, leaf_types, pair_type, typs}

@@ -17,13 +17,14 @@ use Rattle.awk_lanes.specs.Column.{Column}
 use Rattle.awk_lanes.specs.Places.{size_of}
 use Rattle.awk_layout.specs.Layout.{Layout}
 use Rattle.awk_layout.specs.Typing.{array_type, array_items}
-use Rattle.awk_columns.proofs.ArrayLaws.{lists-inner}
+use Rattle.awk_open.proofs.OpenedLists.{lists-inner}
 use Rattle.awk_columns.specs.Columns.{part_values, present_values, alternative_values}
-use Rattle.awk_columns.specs.InOrder.{AreParts, AreAlternatives}
+use Rattle.awk_columns.specs.Parts.{AreParts, AreAlternatives}
 use Rattle.awk_columns.specs.Joined.{JoinsLists, total}
 use Rattle.awk_columns.specs.ListClass.{Class, list_type}
-use Rattle.awk_columns.specs.Opened.{items_at, OpensLists, OpensOption, OpensRow, OpensUnion}
-use Rattle.awk_columns.specs.Opened.{OpensLeaf, OpensNothing}
+use Rattle.awk_columns.specs.Lists.{items_at}
+use Rattle.awk_open.specs.Opens.{OpensLists, OpensOption, OpensRow, OpensUnion, OpensLeaf}
+use Rattle.awk_open.specs.Opens.{OpensNothing}
 use Rattle.awk_zip.specs.Counted.{lists_refused, each_refused, all_refused, size_if, across, among}
 use Rattle.awk_zip.proofs.SizeLaws.{list-refused}
 

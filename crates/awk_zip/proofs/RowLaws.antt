@@ -21,7 +21,7 @@ use Rattle.awk_layout.specs.Valid.{len, AllReach}
 use Rattle.awk_layout.specs.declared.datum.Operand.{Operand}
 use Rattle.awk_gather.specs.Arrays.{array_item}
 use Rattle.awk_columns.specs.Columns.{part_at, joined_items, is_present}
-use Rattle.awk_columns.specs.InOrder.{AreParts}
+use Rattle.awk_columns.specs.Parts.{AreParts}
 use Rattle.awk_columns.specs.ListClass.{Class, list_type}
 use Rattle.awk_open.proofs.OpenedKinds.{item-rows}
 use Rattle.awk_open.specs.Opened.{AreLong}

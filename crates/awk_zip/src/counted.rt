@@ -1,11 +1,12 @@
 //! Whether the lists of a column's first levels have too many items together.
 ghost use Rattle.std.specs.Prelude.{◌≡◌, ◌<◌, IfOk};
-ghost use Rattle.awk_columns.specs.Opened.{IsOpened, OpensLists};
+ghost use Rattle.awk_open.specs.Opens.{Opens, OpensLists};
 ghost use Rattle.awk_zip.specs.Counted.{column_refused, all_refused, size_if};
 
-use awk_columns::{Joined, Lists, Opened, open_array};
+use awk_columns::{Joined, Lists};
 use awk_lanes::{Arena, NoMemory, Steps};
 use awk_layout::{Array, Arrays};
+use awk_open::{Opened, open_array};
 use std::alloc::Global;
 use std::sync::ledger::Ledger;
 
@@ -39,12 +40,12 @@ fn opened_large<'a, L: Ledger>(
     arena: &'a Arena,
     steps: &mut Steps<L>,
 ) -> Result<bool, NoMemory>
-    requires opens { IsOpened x.now opened.now }
+    requires opens { Opens x.now opened.now }
     requires levels { 0 < k }
     ensures { IfOk result (λ b. column_refused k x.now ≡ size_if b) }
 {
     match opened {
-        Opened::Unknown => Ok(false),
+        Opened::Empty => Ok(false),
         Opened::Leaf(_) => Ok(false),
         Opened::Items(lists) => lists_large(alloc, k, x, lists, arena, steps),
         Opened::Row { columns, .. } => any_large(alloc, k, columns, arena, steps),

@@ -1,7 +1,7 @@
 use Rattle.std.proofs.Common.{◌+◌, arith, rules, ◌≡◌, sym, true, false, ap, ◌∙◌, map}
 use Rattle.awk_base.proofs.Results.{if_ok}
 use Rattle.awk_layout.specs.Typing.{array_type}
-use Rattle.awk_columns.specs.Opened.{IsOpened}
+use Rattle.awk_open.specs.Opens.{Opens}
 use Rattle.awk_axis.proofs.KindLaws.{unknown_accepted, unknown_refused, leaf_refused}
 use Rattle.awk_axis.specs.Reach.{here, inner}
 use Rattle.awk_axis.specs.Lift.{refusal_at}
@@ -19,7 +19,7 @@ use Rattle.awk_types.specs.DataType.{types_from, depth, depths, greatest}
 use Rattle.awk_axis.proofs.Falls.{falls_kind, falls_item, falls_all, falls_each}
 use Rattle.awk_layout.specs.Valid.{len}
 use Rattle.awk_axis.proofs.AllLaws.{so_far_taken}
-use Rattle.awk_columns.specs.declared.opening.Opened.TheVariants as opened
+use Rattle.awk_open.specs.declared.opening.Opened.TheVariants as opened
 use Rattle.awk_columns.specs.declared.lists.Joined.TheVariants as joined
 use Rattle.awk_axis.specs.declared.lift.Mapped.TheVariants as mapped
 use Rattle.awk_axis.specs.declared.lift.AllMapped.TheVariants as all_mapped
@@ -31,19 +31,19 @@ lifted-returns-in_err-open_array g t c = search rules
 pub lifted-below_unknown-requires-clause-accepted :
     goal.lifted-below_unknown-requires-clause-accepted
 lifted-below_unknown-requires-clause-accepted g t c =
-    let o : IsOpened c.args.x.now opened.Unknown =
-    rw c.in-Unknown.is at c.in_ok-open_array.ensures in
+    let o : Opens c.args.x.now opened.Empty =
+    rw c.in-Empty.is at c.in_ok-open_array.ensures in
     unknown_accepted (g.F.ListOp.function c.args.f.now) c.args.k c.in-Axis.k
     (array_type c.args.x.now) c.in-Axis.is o.typ c.requires
 
 pub lifted-below_unknown-requires-clause-nothing : goal.lifted-below_unknown-requires-clause-nothing
 lifted-below_unknown-requires-clause-nothing g t c =
-    rw c.in-Unknown.is at c.in_ok-open_array.ensures
+    rw c.in-Empty.is at c.in_ok-open_array.ensures
 
 pub lifted-unreachable-requires : goal.lifted-unreachable-requires
 lifted-unreachable-requires g t c =
-    let o : IsOpened c.args.x.now opened.Unknown =
-    rw c.in-Unknown.is at c.in_ok-open_array.ensures in
+    let o : Opens c.args.x.now opened.Empty =
+    rw c.in-Empty.is at c.in_ok-open_array.ensures in
     unknown_refused (g.F.ListOp.function c.args.f.now) c.args.k (array_type c.args.x.now)
     c.in-Innermost.is o.typ c.requires
 
@@ -52,7 +52,7 @@ lifted-unreachable-unreachable g t c = c.unreachable.result
 
 pub lifted-unreachable-requires-in-Leaf : goal.lifted-unreachable-requires-in-Leaf
 lifted-unreachable-requires-in-Leaf g t c =
-    let o : IsOpened c.args.x.now (opened.Leaf c.in-Leaf.field-0) =
+    let o : Opens c.args.x.now (opened.Leaf c.in-Leaf.field-0) =
     rw c.in-Leaf.is at c.in_ok-open_array.ensures in
     leaf_refused (g.F.ListOp.function c.args.f.now) c.args.k _ (array_type c.args.x.now) o.typ
     c.requires

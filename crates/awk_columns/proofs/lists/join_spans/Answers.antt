@@ -1,4 +1,4 @@
-use Rattle.awk_columns.proofs.OpeningLaws.{join_given, join_refused}
+use Rattle.awk_columns.proofs.JoinLaws.{join_given, join_refused}
 use Rattle.awk_columns.proofs.lists.join_spans.Goals as goal
 
 pub returns-in-Ok : goal.returns-in-Ok

@@ -1,4 +1,4 @@
-use Rattle.awk_columns.specs.Opened.{OpensOption}
+use Rattle.awk_open.specs.Opens.{OpensOption}
 use Rattle.awk_fill.proofs.FillLaws.{holds_ordered}
 use Rattle.awk_fill.proofs.parts.ordered_parts.Goals as goal
 

@@ -5,6 +5,7 @@ use Rattle.awk_types.specs.Simple.{is_option}
 use Rattle.awk_layout.specs.Typing.{array_type}
 use Rattle.awk_open.specs.Opened.{IsOpened}
 use Rattle.awk_open.specs.declared.opening.Opened.{Opened}
+use Rattle.awk_open.proofs.OnlyKinds.{only_option}
 use Rattle.awk_jagged_rows.proofs.RowLaws.{rows-whole, rows-option}
 use Rattle.awk_jagged_rows.proofs.row_lists.row_lists.Goals as goal
 
@@ -22,3 +23,9 @@ returns g c =
     if_ok _ _ c.lists_at-in-Option.result
     (λ r h. rows-option c.args.x.now c.in-Option.content c.in-Option.index r o h)
     c.lists_at-in-Option.ensures
+
+pub unreachable-requires : goal.unreachable-requires
+unreachable-requires g c =
+    only_option (array_type c.args.x.now) c.in_ok-index.field-0 c.in_ok-index.ensures.opened.kind
+    (ap is_option (sym c.typ.ensures.typ) ∙ sym c.is_optional.ensures ∙ c.if-not-is_optional.false)
+    c.in_default.not-Option

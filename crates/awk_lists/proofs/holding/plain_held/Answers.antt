@@ -1,4 +1,4 @@
-use Rattle.awk_columns.specs.Opened.{OpensLists}
+use Rattle.awk_open.specs.Opens.{OpensLists}
 use Rattle.awk_lists.proofs.HeldLists.{opens_lengths}
 use Rattle.awk_lists.proofs.holding.plain_held.Goals as goal
 

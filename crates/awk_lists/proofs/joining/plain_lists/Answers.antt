@@ -1,6 +1,6 @@
 use Rattle.awk_base.proofs.Results.{if_ok}
 use Rattle.awk_columns.specs.Joined.{IsJoined}
-use Rattle.awk_columns.specs.Opened.{OpensLists}
+use Rattle.awk_open.specs.Opens.{OpensLists}
 use Rattle.awk_lists.specs.Listed.{IsListed}
 use Rattle.awk_lists.proofs.Ends.{lists_joined}
 use Rattle.awk_lists.proofs.joining.plain_lists.Goals as goal

@@ -3,7 +3,7 @@ use Rattle.std.proofs.Common.{subst, sym}
 use Rattle.awk_types.specs.DataType.{DataType}
 use Rattle.awk_layout.specs.Typing.{array_type}
 use Rattle.awk_columns.specs.ListClass.{Class, list_type}
-use Rattle.awk_columns.specs.Opened.{OpensLists}
+use Rattle.awk_open.specs.Opens.{OpensLists}
 use Rattle.awk_mask_lengths.specs.MaskLists.{IsItemType}
 use Rattle.awk_mask_lengths.proofs.mask_lengths.lists_at.Goals as goal
 

@@ -5,7 +5,7 @@ use Rattle.awk_lanes.specs.declared.kind.Kind.TheVariants.{I64}
 use Rattle.awk_layout.specs.Typing.{array_type}
 use Rattle.awk_layout.specs.Valid.{len}
 use Rattle.awk_lanes.specs.Made.{lane_of}
-use Rattle.awk_columns.specs.Opened.{OpensOption}
+use Rattle.awk_open.specs.Opens.{OpensOption}
 use Rattle.awk_mask_lengths.specs.MaskLists.{AreInside}
 use Rattle.awk_types.specs.Predicates.{is_list}
 use Rattle.awk_mask_lengths.proofs.MaskLists.{whole_lists, option_lists}

@@ -1,5 +1,5 @@
 use Rattle.awk_columns.specs.Joined.{IsJoined}
-use Rattle.awk_columns.specs.Opened.{OpensLists}
+use Rattle.awk_open.specs.Opens.{OpensLists}
 use Rattle.awk_columns.specs.declared.lists.Joined.TheVariants.{TooMany, Lists}
 use Rattle.awk_mask_levels.proofs.MaskOpened.{lists_too_many, lists_joined}
 use Rattle.awk_mask_levels.proofs.mask_levels.lists_in.Goals as goal

@@ -7,7 +7,7 @@ use Rattle.awk_layout.specs.Valid.{len}
 use Rattle.awk_types.specs.ItemLimit.{item_limit}
 use Rattle.awk_lanes.specs.Made.{lane_of}
 use Rattle.awk_columns.specs.Joined.{IsJoined, total}
-use Rattle.awk_columns.specs.Opened.{items_at}
+use Rattle.awk_columns.specs.Lists.{items_at}
 use Rattle.awk_columns.specs.declared.lists.Joined.TheVariants.{TooMany, Lists}
 use Rattle.awk_mask_levels.specs.MaskNulls.{stops_lane}
 use Rattle.awk_mask_levels.proofs.MaskNulls.{single_lists, single_items, single_total}

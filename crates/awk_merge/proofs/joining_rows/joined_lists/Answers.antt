@@ -4,7 +4,7 @@ use Rattle.awk_types.specs.ItemLimit.{item_limit}
 use Rattle.awk_lanes.specs.Places.{size_of, IsOptionalIndex}
 use Rattle.awk_layout.specs.Typing.{array_type}
 use Rattle.awk_columns.specs.Joined.{IsJoined, JoinsLists, total}
-use Rattle.awk_columns.specs.Opened.{AreLists}
+use Rattle.awk_columns.specs.Lists.{AreLists}
 use Rattle.awk_columns.specs.declared.lists.Joined.TheVariants.{TooMany, Lists}
 use Rattle.awk_merge_operands.specs.Operands.{rows_lane, ends_in_rows}
 use Rattle.awk_merge.proofs.JoinedRowLaws.{too-many, are-rising, joined-datum}

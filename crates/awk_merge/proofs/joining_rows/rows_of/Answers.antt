@@ -3,7 +3,7 @@ use Rattle.awk_types.specs.Faults.{fault_told}
 use Rattle.awk_types.specs.Gives.{Gives}
 use Rattle.awk_types.specs.Simple.{is_option}
 use Rattle.awk_layout.specs.Typing.{array_type, array_datum}
-use Rattle.awk_columns.specs.Opened.{OpensOption}
+use Rattle.awk_open.specs.Opens.{OpensOption}
 use Rattle.awk_merge_operands.specs.Operands.{IsRowsType}
 use Rattle.awk_merge.proofs.NullRowLaws.{var_of, var_in, whole_gives, option_gives}
 use Rattle.awk_merge.proofs.joining_rows.rows_of.Goals as goal

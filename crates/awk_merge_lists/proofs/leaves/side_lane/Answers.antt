@@ -2,7 +2,7 @@ use Rattle.std.proofs.Common.{subst, sym, ◌∙◌}
 use Rattle.std.proofs.lemmas.Result.{IfOk-weaker}
 use Rattle.awk_layout.specs.Kinds.{primitive_of}
 use Rattle.awk_layout.specs.Typing.{array_items}
-use Rattle.awk_columns.specs.InOrder.{IsInOrder}
+use Rattle.awk_open.specs.InOrder.{IsInOrder}
 use Rattle.awk_merge_sides.specs.Sides.{side_of}
 use Rattle.awk_merge_lists.proofs.NumberLaws.{leaf_opened, side_leaves, side_of_kind}
 use Rattle.awk_merge_lists.proofs.leaves.side_lane.Goals as goal

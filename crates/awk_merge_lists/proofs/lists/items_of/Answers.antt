@@ -1,5 +1,5 @@
 use Rattle.awk_columns.specs.Joined.{IsJoined}
-use Rattle.awk_columns.specs.Opened.{OpensLists}
+use Rattle.awk_open.specs.Opens.{OpensLists}
 use Rattle.awk_columns.specs.declared.lists.Joined.TheVariants as joined
 use Rattle.awk_merge_lists.proofs.OpenedLists.{holds_even}
 use Rattle.awk_merge_lists.proofs.lists.items_of.Goals as goal

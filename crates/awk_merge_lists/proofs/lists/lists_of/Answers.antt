@@ -1,7 +1,7 @@
 use Rattle.std.proofs.Common.{◌≡◌, ◌∙◌, sym, subst}
 use Rattle.awk_merge_lists.specs.Lists.{HoldsLists}
 use Rattle.awk_columns.specs.Joined.{IsJoined}
-use Rattle.awk_columns.specs.Opened.{OpensLists}
+use Rattle.awk_open.specs.Opens.{OpensLists}
 use Rattle.awk_columns.specs.declared.lists.Joined.TheVariants as joined
 use Rattle.awk_merge_lists.proofs.OpenedLists.{holds_many, holds_joined}
 use Rattle.awk_merge_lists.proofs.lists.lists_of.Goals as goal

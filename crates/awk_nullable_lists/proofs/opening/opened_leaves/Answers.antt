@@ -6,7 +6,7 @@ use Rattle.awk_lanes.specs.Places.{size_of, option_place_at}
 use Rattle.awk_layout.specs.Typing.{array_type}
 use Rattle.awk_open.specs.Opened.{IsOpened}
 use Rattle.awk_open.specs.declared.opening.Opened.TheVariants as opened
-use Rattle.awk_present.proofs.LeafLaws.{only_option}
+use Rattle.awk_open.proofs.OnlyKinds.{only_option}
 use Rattle.awk_nullable_lists.specs.Nullable.{AreLeaves}
 use Rattle.awk_nullable_lists.proofs.NullableLaws.{opened_leaves, option_kind}
 use Rattle.awk_nullable_lists.proofs.opening.opened_leaves.Goals as goal

@@ -5,6 +5,7 @@ use Rattle.awk_types.specs.Simple.{is_option}
 use Rattle.awk_layout.specs.Typing.{array_type}
 use Rattle.awk_open.specs.Opened.{IsOpened}
 use Rattle.awk_open.specs.declared.opening.Opened.TheVariants.{Option as Optional}
+use Rattle.awk_open.proofs.OnlyKinds.{only_option}
 use Rattle.awk_nulls.specs.Lanes.{nulls_lane, falses_lane, AreNulls}
 use Rattle.awk_nulls.proofs.NullLaws.{falses_are, nulls_are}
 use Rattle.awk_nulls.proofs.nulls.nulls_of.Goals as goal
@@ -24,3 +25,9 @@ returns g c =
     if_ok (λ r. r ≡ nulls_lane c.in-Option.index) (AreNulls c.args.x.now) c.nulls.result
     (λ r e. subst (AreNulls c.args.x.now) (sym e)
     (nulls_are c.args.x.now c.in-Option._content c.in-Option.index o)) c.nulls.ensures
+
+pub unreachable-requires : goal.unreachable-requires
+unreachable-requires g c =
+    only_option (array_type c.args.x.now) c.in_ok-index.field-0 c.in_ok-index.ensures.opened.kind
+    (ap is_option (sym c.typ.ensures.typ) ∙ sym c.is_optional.ensures ∙ c.if-not-is_optional.false)
+    c.in_default.not-Option

@@ -1,4 +1,4 @@
-use Rattle.awk_columns.specs.Opened.{OpensOption}
+use Rattle.awk_open.specs.Opens.{OpensOption}
 use Rattle.awk_nulls.proofs.PresentLaws.{option_present}
 use Rattle.awk_nulls.proofs.presence.ordered_items.Goals as goal
 

@@ -3,15 +3,23 @@ use Rattle.std.specs.Prelude.{None}
 use Rattle.awk_types.specs.Limit.{limit}
 use Rattle.awk_layout.specs.Layout.{Layout}
 use Rattle.awk_layout.specs.Typing.{array_type}
-use Rattle.awk_open.proofs.OpenedKinds.{opened_regular}
+use Rattle.awk_open.proofs.OpenedKinds.{opened_regular, are_lists-at}
 use Rattle.awk_open.proofs.opening.open_regular.Goals as goal
+
+pub new-requires : goal.new-requires
+new-requires g c =
+    are_lists-at _ _ _ (opened_regular c.args.size c.args.n c.args.places.now c.in_ok-starts.starts
+    c.in_ok-stops.stops c.args.content.now c.in_ok-content.content c.requires.valid
+    (c.in_ok-content.ensures ∙ c.in_ok-copy.ensures) c.requires.small c.requires.places
+    c.in_ok-starts.ensures.lane c.in_ok-stops.ensures.lane)
 
 pub returns : goal.returns
 returns g c = record {
-  opened = opened_regular c.args.size c.args.n c.args.places.now
-      c.in_ok-starts.starts c.in_ok-stops.stops c.args.content.now c.in_ok-content.content
-      c.requires.valid (c.in_ok-content.ensures ∙ c.in_ok-copy.ensures) c.requires.small
-      c.requires.places c.in_ok-starts.ensures.lane c.in_ok-stops.ensures.lane;
+  opened =
+      rw c.new.ensures (opened_regular c.args.size c.args.n c.args.places.now c.in_ok-starts.starts
+      c.in_ok-stops.stops c.args.content.now c.in_ok-content.content c.requires.valid
+      (c.in_ok-content.ensures ∙ c.in_ok-copy.ensures) c.requires.small c.requires.places
+      c.in_ok-starts.ensures.lane c.in_ok-stops.ensures.lane);
 }
 
 pub array_within-requires : goal.array_within-requires

@@ -1,5 +1,5 @@
 use Rattle.awk_layout.specs.Typing.{array_type}
-use Rattle.awk_present.proofs.LeafLaws.{only_leaves}
+use Rattle.awk_open.proofs.OnlyKinds.{only_leaves}
 use Rattle.awk_order.proofs.CellLaws.{leaf_numbers}
 use Rattle.awk_order.proofs.cells.numbers_of.Goals as goal
 

@@ -2,7 +2,7 @@ use Rattle.std.proofs.Common.{subst}
 use Rattle.awk_layout.specs.Typing.{array_type}
 use Rattle.awk_open.specs.Opened.{IsOpened}
 use Rattle.awk_open.specs.declared.opening.Opened.TheVariants as opened
-use Rattle.awk_present.proofs.LeafLaws.{only_option}
+use Rattle.awk_open.proofs.OnlyKinds.{only_option}
 use Rattle.awk_order.proofs.CellLaws.{optional_numbers}
 use Rattle.awk_order.proofs.cells.optional_cells.Goals as goal
 

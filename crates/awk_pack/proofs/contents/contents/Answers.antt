@@ -1,7 +1,8 @@
-use Rattle.std.proofs.Common.{IfOk, arith, sym, subst}
+use Rattle.std.proofs.Common.{◌≡◌, IfOk, true, arith, sym, subst}
 use Rattle.awk_layout.specs.Typing.{array_type, array_items}
 use Rattle.awk_open.specs.declared.opening.Opened.TheVariants as opened
-use Rattle.awk_pack.specs.Packing.{IsColumn, IsLeft}
+use Rattle.awk_pack.specs.Canon.{is_too_large}
+use Rattle.awk_pack.specs.Packing.{IfSize, IsColumn, IsLeft}
 use Rattle.awk_pack.proofs.ContentLaws.{column-is, left_row, left_option, left_union}
 use Rattle.awk_pack.proofs.LargeLaws.{large_array}
 use Rattle.awk_pack.proofs.contents.contents.Goals as goal
@@ -21,7 +22,7 @@ returns-in-Leaf-clause-left g c =
 pub returns-in-Items-clause-left : goal.returns-in-Items-clause-left
 returns-in-Items-clause-left g c =
     let x = c.args.x.now in
-    let s = opened.Items c.in-Items.starts c.in-Items.stops c.in-Items.content in
+    let s = opened.Items c.in-Items.lists in
     let column = column-is x c.in_ok-in_order.field-0 s c.in-Items.is
     c.in_ok-in_order.ensures.opened c.in_ok-in_order.ensures.order
     (omega (arith, c.if-len-gt-ITEM_LIMIT.false, c.len.ensures.len)) in
@@ -29,6 +30,18 @@ returns-in-Items-clause-left g c =
     (λ ys. IsLeft t (array_items x) c.args.lanes.now ys c.list_contents.new.lanes))
     c.typ.ensures.typ
     (c.list_contents.ensures.left (array_items x)
+    (subst (λ t. IsColumn t (array_items x) s) (sym c.typ.ensures.typ) column))
+
+pub returns-in-Items-clause-size : goal.returns-in-Items-clause-size
+returns-in-Items-clause-size g c =
+    let x = c.args.x.now in
+    let s = opened.Items c.in-Items.lists in
+    let column = column-is x c.in_ok-in_order.field-0 s c.in-Items.is
+    c.in_ok-in_order.ensures.opened c.in_ok-in_order.ensures.order
+    (omega (arith, c.if-len-gt-ITEM_LIMIT.false, c.len.ensures.len)) in
+    subst (λ t. IfSize c.list_contents.result (is_too_large t (array_items x) ≡ true))
+    c.typ.ensures.typ
+    (c.list_contents.ensures.size (array_items x)
     (subst (λ t. IsColumn t (array_items x) s) (sym c.typ.ensures.typ) column))
 
 pub returns-in-Row-clause-left : goal.returns-in-Row-clause-left

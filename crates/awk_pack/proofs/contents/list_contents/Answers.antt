@@ -1,22 +1,39 @@
 use Rattle.std.proofs.Common.{◌≡◌, Err, arith, sym, ◌∙◌}
 use Rattle.awk_types.specs.View.{typ_of}
-use Rattle.awk_pack.proofs.ContentLaws.{left_var}
+use Rattle.awk_pack.proofs.ContentLaws.{left_var, left_regular}
 use Rattle.awk_pack.proofs.LargeLaws.{large_lists}
 use Rattle.awk_pack.proofs.SizeLaws.{size_on}
 use Rattle.awk_pack.proofs.contents.list_contents.Goals as goal
+
+pub joined-requires-clause-small : goal.joined-requires-clause-small
+joined-requires-clause-small g c = rw c.starts.ensures c.content.ensures.lists.fits
+
+pub joined-requires-clause-spans : goal.joined-requires-clause-spans
+joined-requires-clause-spans g c =
+    rw (c.starts.ensures, c.stops.ensures, c.content.ensures.content) c.content.ensures.lists.spans
 
 pub returns-in_err-lists-clause-size : goal.returns-in_err-lists-clause-size
 returns-in_err-lists-clause-size g c vs h =
     let e = c.in_err-lists.field-0.0 in
     let failed : c.from_residual.result ≡ Err e = grind arith in
-    size_on c.from_residual.result e _ _ failed c.in_err-lists.ensures.size
-    (λ large. large_lists (typ_of c.args.typ.now) vs c.args.starts.now c.args.stops.now
-    c.args.content.now large h)
+    let size = rw (c.starts.ensures, c.stops.ensures, c.content.ensures.content) at
+    c.in_err-lists.ensures.size in
+    size_on c.from_residual.result e _ _ failed size
+    (λ large. large_lists (typ_of c.args.typ.now) vs c.args.opened.now large h)
+
+pub returns-then-is_regular-clause-left : goal.returns-then-is_regular-clause-left
+returns-then-is_regular-clause-left g c vs h =
+    let joined = rw (c.starts.ensures, c.stops.ensures, c.content.ensures.content) at
+    c.in_ok-lists.ensures.joined in
+    left_regular (typ_of c.args.typ.now) vs c.args.lanes.now c.args.opened.now
+    c.in_ok-lists.lists.offsets c.in_ok-lists.lists.content c.in_ok-only.field-0
+    (sym c.is_regular.ensures ∙ c.if-is_regular.true) joined c.in_ok-only.ensures h
 
 pub returns-clause-left : goal.returns-clause-left
 returns-clause-left g c vs h =
-    left_var (typ_of c.args.typ.now) vs c.args.lanes.now c.push.new.self c.args.starts.now
-    c.args.stops.now c.in_ok-lists.lists.offsets c.args.content.now c.in_ok-lists.lists.content
-    c.in_ok-only-2.field-0
-    (sym c.is_regular.ensures ∙ c.if-is_regular.false) c.in_ok-lists.ensures.joined
-    c.in_ok-push.ensures.ok c.in_ok-only-2.ensures h
+    let joined = rw (c.starts.ensures, c.stops.ensures, c.content.ensures.content) at
+    c.in_ok-lists.ensures.joined in
+    left_var (typ_of c.args.typ.now) vs c.args.lanes.now c.push.new.self c.args.opened.now
+    c.in_ok-lists.lists.offsets c.in_ok-lists.lists.content c.in_ok-only-2.field-0
+    (sym c.is_regular.ensures ∙ c.if-is_regular.false) joined c.in_ok-push.ensures.ok
+    c.in_ok-only-2.ensures h

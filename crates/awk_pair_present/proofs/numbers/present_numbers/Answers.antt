@@ -5,7 +5,7 @@ use Rattle.awk_layout.specs.Layout.{Layout}
 use Rattle.awk_layout.specs.Typing.{array_type}
 use Rattle.awk_layout.specs.Valid.{len}
 use Rattle.awk_counts.specs.Counted.{first_of, present_at}
-use Rattle.awk_columns.proofs.OrderedOptions.{option_opened, option_in_order}
+use Rattle.awk_open.proofs.OrderedOptions.{option_opened, option_in_order}
 use Rattle.awk_pair_present.proofs.PresentNumbers.{there_reached}
 use Rattle.awk_pair_present.proofs.numbers.present_numbers.Goals as goal
 

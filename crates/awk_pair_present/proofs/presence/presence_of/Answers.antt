@@ -1,10 +1,12 @@
 use Rattle.std.proofs.Common.{◌∙◌, ap, sym, subst}
 use Rattle.awk_types.specs.Simple.{is_option}
 use Rattle.awk_lanes.specs.Column.{Column}
+use Rattle.awk_layout.specs.Typing.{array_type}
 use Rattle.awk_layout.specs.Valid.{len}
 use Rattle.awk_open.specs.Inner.{IsInner}
 use Rattle.awk_open.specs.Opened.{IsOpened}
 use Rattle.awk_open.specs.declared.opening.Opened.TheVariants.{Option as Optional}
+use Rattle.awk_open.proofs.OnlyKinds.{only_option}
 use Rattle.awk_pair_present.specs.Presence.{IsPresence}
 use Rattle.awk_pair_present.specs.declared.presence.Presence.TheVariants.{Indexed}
 use Rattle.awk_pair_present.proofs.OneOption.{option_index_kind}
@@ -32,3 +34,9 @@ returns g c =
     (λ (j : Column). IsPresence (len c.args.x.now) c.args.x.now (Indexed j c.in-Option.content))
     (sym c.in_ok-places-in-Option.ensures)
     (indexed_presence c.args.x.now c.in-Option.index c.in-Option.content o i)
+
+pub unreachable-requires : goal.unreachable-requires
+unreachable-requires g c =
+    only_option (array_type c.args.x.now) c.in_ok-index.field-0 c.in_ok-index.ensures.opened.kind
+    (ap is_option (sym c.typ.ensures.typ) ∙ sym c.is_optional.ensures ∙ c.if-not-is_optional.false)
+    c.in_default.not-Option

@@ -1,9 +1,10 @@
 use Rattle.std.proofs.Common.{◌≡◌, ◌++◌, ◌∷◌, [], ap, ◌∙◌, sym, subst}
-use Rattle.awk_layout.specs.Typing.{array_items}
-use Rattle.awk_columns.specs.InOrder.{IsInOrder}
+use Rattle.awk_layout.specs.Typing.{array_type, array_items}
+use Rattle.awk_open.specs.InOrder.{IsInOrder}
 use Rattle.awk_open.specs.Inner.{IsInner}
 use Rattle.awk_open.specs.Opened.{IsOpened}
 use Rattle.awk_open.specs.declared.opening.Opened.TheVariants.{Option as Optional}
+use Rattle.awk_open.proofs.OnlyKinds.{only_option}
 use Rattle.awk_pair_present.specs.Present.{ArePresent}
 use Rattle.awk_pair_present.proofs.OneOption.{one_present}
 use Rattle.awk_pair_present.proofs.present.present_items.Goals as goal
@@ -22,3 +23,8 @@ returns g c =
     subst (ArePresent c.args.n (c.args.x.now ∷ []) c.in-Option.index c.len-count.result) (sym e)
     (one_present c.args.n c.args.x.now c.in-Option.content c.in-Option.index c.len-count.result
     c.requires.long o i h c.len-count.ensures.len)
+
+pub unreachable-requires : goal.unreachable-requires
+unreachable-requires g c =
+    only_option (array_type c.args.x.now) c.in_ok-index.field-0 c.in_ok-index.ensures.opened.kind
+    c.requires.option c.in_default.not-Option

@@ -2,7 +2,7 @@ use Rattle.std.proofs.Common.{◌≡◌, ◌∙◌, ap, subst, false}
 use Rattle.std.specs.Prelude.{[], length, map}
 use Rattle.awk_types.specs.Faults.{fault_told}
 use Rattle.awk_types.specs.Gives.{Told}
-use Rattle.awk_columns.specs.InOrder.{AreParts}
+use Rattle.awk_columns.specs.Parts.{AreParts}
 use Rattle.awk_frames.specs.Framed.{IsFrame}
 use Rattle.awk_frames.specs.Shape.{shape}
 use Rattle.awk_frames.specs.View.{shape_of}

@@ -5,7 +5,7 @@ use Rattle.awk_lanes.specs.Numbers.{width, numbers}
 use Rattle.awk_lanes.specs.Places.{size_of}
 use Rattle.awk_gather_lanes.proofs.MovedGroups.{width-small, lane_is}
 use Rattle.awk_counts.specs.Counted.{first_of, present_at}
-use Rattle.awk_columns.proofs.OrderedOptions.{option_below}
+use Rattle.awk_open.proofs.OrderedOptions.{option_below}
 use Rattle.awk_present.specs.Named.{named_places, ArePlacesOf}
 use Rattle.awk_present.proofs.NamedLaws.{named_same, places_within, groups-count, numbers-named}
 use Rattle.awk_present.proofs.named.numbers_named.Goals as goal

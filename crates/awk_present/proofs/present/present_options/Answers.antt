@@ -6,6 +6,7 @@ use Rattle.awk_lanes.specs.Counted.{before, offsets_by}
 use Rattle.awk_layout.specs.Typing.{array_type, array_items}
 use Rattle.awk_open.specs.Opened.{IsOpened}
 use Rattle.awk_open.specs.declared.opening.Opened.TheVariants as opened
+use Rattle.awk_open.proofs.OnlyKinds.{only_option}
 use Rattle.awk_numbers.specs.Folds.{whole_numbers}
 use Rattle.awk_parts.specs.Parts.{AreRising}
 use Rattle.awk_present.specs.Present.{present_in}
@@ -61,3 +62,8 @@ returns g c =
     ∙ ap (λ js. offsets_by (present_in js c.args.offsets.now) c.args.count)
     c.whole_of-whole.ensures.numbers)
     leaves
+
+pub unreachable-requires : goal.unreachable-requires
+unreachable-requires g c =
+    only_option (array_type c.args.items.now) c.in_ok-index.field-0 c.in_ok-index.ensures.kind
+    c.requires.optional c.in_default.not-Option

@@ -1,5 +1,5 @@
 use Rattle.awk_layout.specs.Typing.{array_type}
-use Rattle.awk_put_field.proofs.OptionLaws.{only_option}
+use Rattle.awk_open.proofs.OnlyKinds.{only_option}
 use Rattle.awk_put_field.proofs.ends.optional_with.Goals as goal
 
 pub under_option-requires-clause-opened : goal.under_option-requires-clause-opened

@@ -3,15 +3,15 @@ use Rattle.std.specs.Simd.Lanes.{zip2}
 use Rattle.awk_base.proofs.Results.{if_ok}
 use Rattle.awk_layout.specs.Contents.{count-layouts_from}
 use Rattle.awk_layout.specs.Typing.{array_type, array_items}
-use Rattle.awk_columns.specs.Opened.{IsOpened, OpensRow}
-use Rattle.awk_columns.specs.declared.opening.Opened.TheVariants.{Row}
+use Rattle.awk_open.specs.Opens.{Opens, OpensRow}
+use Rattle.awk_open.specs.declared.opening.Opened.TheVariants.{Row}
 use Rattle.awk_put_field.specs.Field.{names_in, field_type, field_value}
 use Rattle.awk_put_field.proofs.RowLaws.{made, items-made, type-made}
 use Rattle.awk_put_field.proofs.ends.present_with.Goals as goal
 
 pub records_of-requires-clause-names : goal.records_of-requires-clause-names
 records_of-requires-clause-names g c =
-    let r : IsOpened c.args.records.now (Row c.in-Row.names c.in-Row.columns) =
+    let r : Opens c.args.records.now (Row c.in-Row.names c.in-Row.columns) =
     rw c.in-Row.is at c.in_ok-names.ensures in
     let o : OpensRow (Some c.in-Some.names) c.in-Row.columns c.args.records.now =
     subst (λ m. OpensRow m c.in-Row.columns c.args.records.now) c.in-Some.is r in
@@ -22,7 +22,7 @@ returns-clause-typ g c =
     let x = c.args.records.now in
     let v = c.args.column.now in
     let n = c.args.name.now in
-    let r : IsOpened x (Row c.in-Row.names c.in-Row.columns) =
+    let r : Opens x (Row c.in-Row.names c.in-Row.columns) =
     rw c.in-Row.is at c.in_ok-names.ensures in
     let o : OpensRow (Some c.in-Some.names) c.in-Row.columns x =
     subst (λ m. OpensRow m c.in-Row.columns x) c.in-Some.is r in
@@ -36,7 +36,7 @@ returns-clause-items g c =
     let x = c.args.records.now in
     let v = c.args.column.now in
     let n = c.args.name.now in
-    let r : IsOpened x (Row c.in-Row.names c.in-Row.columns) =
+    let r : Opens x (Row c.in-Row.names c.in-Row.columns) =
     rw c.in-Row.is at c.in_ok-names.ensures in
     let o : OpensRow (Some c.in-Some.names) c.in-Row.columns x =
     subst (λ m. OpensRow m c.in-Row.columns x) c.in-Some.is r in

@@ -7,7 +7,7 @@ use Rattle.awk_layout.specs.Typing.{array_type, array_items}
 use Rattle.awk_layout.specs.Valid.{len}
 use Rattle.awk_open.specs.Opened.{IsOpened}
 use Rattle.awk_open.specs.declared.opening.Opened.TheVariants.{Option as Optional}
-use Rattle.awk_columns.specs.InOrder.{IsInOrder}
+use Rattle.awk_open.specs.InOrder.{IsInOrder}
 use Rattle.awk_put_field.specs.Field.{is_record, names_in, field_value}
 use Rattle.awk_put_field.proofs.OptionLaws.{index-kind, index-size, content-count, index-into}
 use Rattle.awk_put_field.proofs.OptionLaws.{there-size, items-optional, type-optional}

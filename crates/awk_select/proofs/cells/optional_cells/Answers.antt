@@ -1,5 +1,5 @@
 use Rattle.awk_layout.specs.Typing.{array_type}
-use Rattle.awk_select.proofs.CellLaws.{only_leaves}
+use Rattle.awk_open.proofs.OnlyKinds.{only_leaves}
 use Rattle.awk_select.proofs.cells.optional_cells.Goals as goal
 
 pub unreachable-requires : goal.unreachable-requires

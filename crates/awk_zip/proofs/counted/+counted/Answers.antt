@@ -4,9 +4,9 @@ use Rattle.awk_types.specs.DataType.{depth, depths, greatest, types_from}
 use Rattle.awk_layout.specs.Typing.{array_type, array_items}
 use Rattle.awk_columns.specs.Joined.{IsJoined}
 use Rattle.awk_columns.specs.ListClass.{list_type}
-use Rattle.awk_columns.specs.Opened.{IsOpened}
+use Rattle.awk_open.specs.Opens.{Opens}
 use Rattle.awk_columns.specs.declared.lists.Joined.TheVariants as joined
-use Rattle.awk_columns.specs.declared.opening.Opened.TheVariants as opened
+use Rattle.awk_open.specs.declared.opening.Opened.TheVariants as opened
 use Rattle.awk_zip.specs.Counted.{lists_refused, all_refused, size_if}
 use Rattle.awk_zip.proofs.CountLaws.{row_counted, union_counted, option_counted, leaf_counted}
 use Rattle.awk_zip.proofs.CountLaws.{nothing_counted, none-refused, many_counted, lists_counted}
@@ -63,13 +63,13 @@ lists_large-returns-in_ok-large-in-Lists g t c =
 
 pub opened_large-lists_large-requires : goal.opened_large-lists_large-requires
 opened_large-lists_large-requires g t c κs within =
-    let h : IsOpened c.args.x.now (opened.Items c.in-Items.lists) =
+    let h : Opens c.args.x.now (opened.Items c.in-Items.lists) =
     rw c.in-Items.is at c.requires.opens in
     (omega (arith, c.decreases), (within, (h, c.requires.levels)))
 
 pub opened_large-any_large-requires : goal.opened_large-any_large-requires
 opened_large-any_large-requires g t c κs within =
-    let h : IsOpened c.args.x.now (opened.Row c.in-Row.names c.in-Row.columns) =
+    let h : Opens c.args.x.now (opened.Row c.in-Row.names c.in-Row.columns) =
     rw c.in-Row.is at c.requires.opens in
     let d : depth (array_type c.args.x.now)
     ≡ greatest (depths (types_from (map array_type c.in-Row.columns))) + 1 =
@@ -78,7 +78,7 @@ opened_large-any_large-requires g t c κs within =
 
 pub opened_large-is_large-requires : goal.opened_large-is_large-requires
 opened_large-is_large-requires g t c κs within =
-    let h : IsOpened c.args.x.now (opened.Option c.in-Option.index c.in-Option.content) =
+    let h : Opens c.args.x.now (opened.Option c.in-Option.index c.in-Option.content) =
     rw c.in-Option.is at c.requires.opens in
     let d : depth (array_type c.args.x.now) ≡ depth (array_type c.in-Option.content) + 1 =
     ap depth h.typ ∙ depth-option (array_type c.in-Option.content) in
@@ -86,27 +86,27 @@ opened_large-is_large-requires g t c κs within =
 
 pub opened_large-any_large-requires-in-Union : goal.opened_large-any_large-requires-in-Union
 opened_large-any_large-requires-in-Union g t c κs within =
-    let h : IsOpened c.args.x.now (opened.Union c.in-Union.tags c.in-Union.index
+    let h : Opens c.args.x.now (opened.Union c.in-Union.tags c.in-Union.index
     c.in-Union.contents) = rw c.in-Union.is at c.requires.opens in
     let d : depth (array_type c.args.x.now)
     ≡ greatest (depths (types_from (map array_type c.in-Union.contents))) + 1 =
     ap depth h.typ ∙ depth-union (types_from (map array_type c.in-Union.contents)) in
     (omega (arith, c.decreases, d), within)
 
-pub opened_large-returns-in-Unknown : goal.opened_large-returns-in-Unknown
-opened_large-returns-in-Unknown g t c =
-    let h : IsOpened c.args.x.now opened.Unknown = rw c.in-Unknown.is at c.requires.opens in
+pub opened_large-returns-in-Empty : goal.opened_large-returns-in-Empty
+opened_large-returns-in-Empty g t c =
+    let h : Opens c.args.x.now opened.Empty = rw c.in-Empty.is at c.requires.opens in
     nothing_counted c.args.k c.args.x.now h
 
 pub opened_large-returns-in-Leaf : goal.opened_large-returns-in-Leaf
 opened_large-returns-in-Leaf g t c =
-    let h : IsOpened c.args.x.now (opened.Leaf c.in-Leaf.field-0) =
+    let h : Opens c.args.x.now (opened.Leaf c.in-Leaf.field-0) =
     rw c.in-Leaf.is at c.requires.opens in
     leaf_counted c.args.k c.in-Leaf.field-0 c.args.x.now h
 
 pub opened_large-returns-in-Row : goal.opened_large-returns-in-Row
 opened_large-returns-in-Row g t c =
-    let h : IsOpened c.args.x.now (opened.Row c.in-Row.names c.in-Row.columns) =
+    let h : Opens c.args.x.now (opened.Row c.in-Row.names c.in-Row.columns) =
     rw c.in-Row.is at c.requires.opens in
     if_ok (λ b. all_refused c.args.k c.in-Row.columns ≡ size_if b)
     (λ b. lists_refused c.args.k (array_type c.args.x.now) (array_items c.args.x.now) ≡ size_if b)
@@ -116,7 +116,7 @@ opened_large-returns-in-Row g t c =
 
 pub opened_large-returns-in-Option : goal.opened_large-returns-in-Option
 opened_large-returns-in-Option g t c =
-    let h : IsOpened c.args.x.now (opened.Option c.in-Option.index c.in-Option.content) =
+    let h : Opens c.args.x.now (opened.Option c.in-Option.index c.in-Option.content) =
     rw c.in-Option.is at c.requires.opens in
     if_ok (λ b. lists_refused c.args.k (array_type c.in-Option.content)
     (array_items c.in-Option.content) ≡ size_if b)
@@ -127,7 +127,7 @@ opened_large-returns-in-Option g t c =
 
 pub opened_large-returns-in-Union : goal.opened_large-returns-in-Union
 opened_large-returns-in-Union g t c =
-    let h : IsOpened c.args.x.now (opened.Union c.in-Union.tags c.in-Union.index
+    let h : Opens c.args.x.now (opened.Union c.in-Union.tags c.in-Union.index
     c.in-Union.contents) = rw c.in-Union.is at c.requires.opens in
     if_ok (λ b. all_refused c.args.k c.in-Union.contents ≡ size_if b)
     (λ b. lists_refused c.args.k (array_type c.args.x.now) (array_items c.args.x.now) ≡ size_if b)
