@@ -8,7 +8,8 @@ use Rattle.std.proofs.lemmas.Bool.{and_parts, not-false}
 use Rattle.awk_base.proofs.Lists.{drop-get}
 use Rattle.awk_lanes.specs.Places.{size_of}
 use Rattle.awk_columns.specs.Lists.{Listed}
-use Rattle.awk_pair_levels.specs.Shares.{length_of, share_lengths, lengths_at, length_at}
+use Rattle.awk_list_rows.specs.InRow.{length_of}
+use Rattle.awk_pair_levels.specs.Shares.{share_lengths, lengths_at, length_at}
 use Rattle.awk_pair_levels.specs.Shares.{any_differ, is_alike, IsEven, AreEven, IsAmong}
 use Rattle.awk_pair_levels.specs.Shares.{IsAsLong, AreAsLong}
 use Rattle.awk_pair_sides.specs.Sides.{all_same, first_or_zero}

@@ -4,5 +4,4 @@ pub mod SharedRows
 mod ClassLaws
 mod ShareLaws
 pub mod ItemLaws
-mod WholeLaws
 mod InRowLaws

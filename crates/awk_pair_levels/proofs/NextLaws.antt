@@ -28,7 +28,9 @@ use Rattle.awk_pair_sides.specs.Levels.{common_class}
 use Rattle.awk_pair_sides.proofs.PlaceLaws.{places_of, repeats_index, size-places_of}
 use Rattle.awk_pair_sides.proofs.PlaceLaws.{place-places_of}
 use Rattle.awk_pair_sides.proofs.RangeLaws.{length-flat, length-range, before-same, before-room}
-use Rattle.awk_pair_levels.specs.Shares.{length_of, length_at, share_class, IsEven, AreEven}
+use Rattle.awk_list_rows.specs.InRow.{length_of}
+use Rattle.awk_list_rows.proofs.WholeLaws.{spans-before}
+use Rattle.awk_pair_levels.specs.Shares.{length_at, share_class, IsEven, AreEven}
 use Rattle.awk_pair_levels.specs.Shares.{any_differ, IsAmong, IsNext, AreNext, AreSharedRows}
 use Rattle.awk_pair_levels.specs.Shares.{is_flat, is_plain, IsRepeated, AreRepeats}
 use Rattle.awk_pair_levels.specs.declared.shares.Share.{Share}
@@ -36,14 +38,6 @@ use Rattle.awk_pair_levels.specs.declared.shares.Share.TheVariants.{Lists, Items
 use Rattle.awk_pair_levels.proofs.EvenLaws.{length_at-among, none_differ, even_by}
 
 -- ---- lists
-
--- how many items the first lists have together
-pub spans-before : (l : Listed) (i : ℕ)
-    → length (first_of (span_at l.starts l.stops) i) ≡ before (length_of l) i
-spans-before l i =
-    length-flat (span_at l.starts l.stops) i
-    ∙ before-same (λ j. length (span_at l.starts l.stops j)) (length_of l) i
-    (λ j h. length-range (place_at l.starts j) (length_of l j))
 
 pub next_lists : (n : ℕ) (m : ℕ → ℕ) (l : Listed) (z : Layout) → size_of l.starts ≡ n
     → IsEven m n (Lists l) → IsReached l.content (spans l.starts l.stops) z → IsNext m n (Lists l) z

@@ -20,7 +20,8 @@ use Rattle.awk_columns.specs.Lists.{Listed, AreLists, AreOfClass}
 use Rattle.awk_open.specs.Opens.{OpensLists}
 use Rattle.awk_pair_sides.specs.Levels.{Role, listed, stretched, repeated, role, unless, kept_at}
 use Rattle.awk_pair_sides.specs.Levels.{is_single, item_of}
-use Rattle.awk_pair_levels.specs.Shares.{length_of, AreListsOf, AreItemsOf, IsShare, AreShares}
+use Rattle.awk_list_rows.specs.InRow.{length_of}
+use Rattle.awk_pair_levels.specs.Shares.{AreListsOf, AreItemsOf, IsShare, AreShares}
 use Rattle.awk_pair_levels.specs.Shares.{HasOnes, IsNext}
 use Rattle.awk_pair_sides.specs.Sides.{always}
 use Rattle.awk_pair_levels.specs.declared.shares.Share.{Share}

@@ -23,7 +23,8 @@ use Rattle.awk_pair_sides.specs.Levels.{roles, stretches, stretched, repeated, s
 use Rattle.awk_pair_sides.specs.Levels.{item_of, item_types, common_class}
 use Rattle.awk_pair_sides.specs.Rows.{row_at, rows_at, lengths_offsets}
 use Rattle.awk_pair_levels.specs.Inner.{AreInner, IsBelow}
-use Rattle.awk_pair_levels.specs.Shares.{length_of, share_lengths, lengths_at, length_at}
+use Rattle.awk_list_rows.specs.InRow.{length_of}
+use Rattle.awk_pair_levels.specs.Shares.{share_lengths, lengths_at, length_at}
 use Rattle.awk_pair_levels.specs.Shares.{share_class, share_at, any_differ, IsShare, AreShares}
 use Rattle.awk_pair_levels.specs.Shares.{IsEven, AreEven, IsNext, AreNext, AreSharedRows, IsAsLong}
 use Rattle.awk_pair_levels.specs.Shares.{AreAsLong, is_lists, IsShared, share_column, share_row}

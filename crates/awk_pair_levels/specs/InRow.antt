@@ -1,21 +1,10 @@
--- Columns of lists whose items lie in a row, from the first item of their content on.
-use Rattle.std.specs.Prelude.{◌≡◌, List, [], ◌∷◌}
-use Rattle.awk_lanes.specs.Column.{Column}
-use Rattle.awk_lanes.specs.Counted.{offsets_by}
+-- Operands, and the lists that they give.
+use Rattle.std.specs.Prelude.{List, [], ◌∷◌}
 use Rattle.awk_layout.specs.Layout.{Layout}
 use Rattle.awk_layout.specs.Valid.{len}
-use Rattle.awk_columns.specs.Lists.{Listed}
-use Rattle.awk_pair_levels.specs.Shares.{length_of, AreListsOf, IsNext}
+use Rattle.awk_pair_levels.specs.Shares.{AreListsOf}
 use Rattle.awk_pair_levels.specs.declared.shares.Share.{Share}
 use Rattle.awk_pair_levels.specs.declared.shares.Share.TheVariants.{Lists, Items}
-
--- o has where each list of x begins, counted from 0, and where the last one ends
-abbrev pub AreEnds : Layout → Column → Type 0
-AreEnds x o = (l : Listed) → AreListsOf (len x) x l → o ≡ offsets_by (length_of l) (len x)
-
--- z has the items of the lists of x, one list after another
-abbrev pub HoldsItems : Layout → Layout → Type 0
-HoldsItems x z = (l : Listed) → AreListsOf (len x) x l → IsNext (length_of l) (len x) (Lists l) z
 
 -- where an operand gives lists, they are its own
 abbrev pub IsOf : Layout → Share → Type 0

@@ -1,6 +1,6 @@
 -- What operands give to all rows of a level, as columns, and the rows below that these make.
 use Rattle.std.specs.Prelude.{◌≡◌, ℕ, ◌+◌, ◌<◌, ◌≤◌, ◌==◌, Bool, true, false, not, ◌⊎◌}
-use Rattle.std.specs.Prelude.{List, [], ◌∷◌, map, length, pos, Option, Some, None}
+use Rattle.std.specs.Prelude.{List, [], ◌∷◌, map, pos, Option, Some, None}
 use Rattle.std.specs.List.{list_any, list_all, flat_map, range_with_len}
 use Rattle.awk_types.specs.DataType.{DataType}
 use Rattle.awk_types.specs.ItemLimit.{item_limit}
@@ -14,9 +14,9 @@ use Rattle.awk_layout.specs.Layout.{Layout, flat}
 use Rattle.awk_layout.specs.Typing.{array_type}
 use Rattle.awk_layout.specs.Valid.{len}
 use Rattle.awk_gather.specs.Arrays.{array_item}
-use Rattle.awk_counts.specs.Counted.{spans}
 use Rattle.awk_columns.specs.ListClass.{Class}
-use Rattle.awk_columns.specs.Lists.{Listed, span_length}
+use Rattle.awk_columns.specs.Lists.{Listed}
+use Rattle.awk_list_rows.specs.InRow.{length_of}
 use Rattle.awk_pair_sides.specs.Levels.{Role, listed, role, role_class, unless, item_of}
 use Rattle.awk_pair_sides.specs.Levels.{common_class}
 use Rattle.awk_pair_sides.specs.Sides.{side, always, first_or_zero, all_same}
@@ -24,10 +24,6 @@ use Rattle.awk_pair_levels.specs.declared.below.Below.{Below}
 use Rattle.awk_pair_levels.specs.declared.below.Below.TheVariants as below
 use Rattle.awk_pair_levels.specs.declared.shares.Share.{Share}
 use Rattle.awk_pair_levels.specs.declared.shares.Share.TheVariants.{Lists, Items}
-
--- how many items list i has
-abbrev pub length_of : Listed → ℕ → ℕ
-length_of l i = span_length l.starts l.stops i
 
 -- l are the lists of n items of x; unknown, which has no items, counts as lists
 pub record AreListsOf (n : ℕ) (x : Layout) (l : Listed) : Type 0 where
@@ -139,10 +135,6 @@ AreNext m n [] (z ∷ zs) = ⊥
 AreNext m n (p ∷ ps) [] = ⊥
 
 -- ---- how the rows below are made
-
--- lists whose items lie in a row, from a first one on
-abbrev pub LieInRow : Column → Column → ℕ → Type 0
-LieInRow s t first = spans s t ≡ range_with_len first (length (spans s t))
 
 -- a column of numbers
 abbrev pub is_flat : Layout → Bool

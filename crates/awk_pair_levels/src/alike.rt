@@ -4,7 +4,8 @@ ghost use Rattle.std.specs.List.{list_any, list_all, flat_map, range_with_len};
 ghost use Rattle.awk_lanes.specs.Counted.{offsets_by};
 ghost use Rattle.awk_lanes.specs.Places.{size_of};
 ghost use Rattle.awk_pair_sides.specs.Levels.{common_class};
-ghost use Rattle.awk_pair_levels.specs.Shares.{length_of, is_lists, is_alike as is_alike_to};
+ghost use Rattle.awk_list_rows.specs.InRow.{length_of};
+ghost use Rattle.awk_pair_levels.specs.Shares.{is_lists, is_alike as is_alike_to};
 ghost use Rattle.awk_pair_levels.specs.Shares.{share_class, class_list};
 ghost use Rattle.awk_pair_levels.specs.Shares.{is_flat as is_flat_column};
 ghost use Rattle.awk_pair_levels.specs.Shares.{is_plain as is_plain_share};
@@ -12,12 +13,11 @@ ghost use Rattle.awk_pair_levels.specs.Shares.{IsAsLong, AreAsLong, IsAmong};
 ghost use Rattle.awk_pair_levels.specs.InRow.{IsOf, AreOf};
 ghost use Rattle.awk_pair_levels.specs.declared.shares.Share.TheVariants as given;
 
-use crate::in_row::begin_at;
 use crate::shares::Share;
-use crate::whole::are_same;
 use awk_columns::Lists;
 use awk_lanes::{Lane, Steps};
 use awk_layout::{Array, Arrays, Class};
+use awk_list_rows::{are_same, begin_at};
 use std::sync::ledger::Ledger;
 
 /// Lists by which those of a level are judged, and the place of the operand that gives them.

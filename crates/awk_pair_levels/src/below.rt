@@ -2,32 +2,29 @@
 ghost use Rattle.std.specs.Prelude.{◌≡◌, ◌≤◌, length, map, true, false, IfOk, IfSome};
 ghost use Rattle.std.specs.List.{list_any};
 ghost use Rattle.awk_types.specs.ItemLimit.{item_limit};
-ghost use Rattle.awk_lanes.specs.Counted.{before, offsets_by, AreOffsetsBy};
+ghost use Rattle.awk_lanes.specs.Counted.{before, offsets_by};
 ghost use Rattle.awk_lanes.specs.Places.{size_of};
 ghost use Rattle.awk_layout.specs.Layout.{flat};
 ghost use Rattle.awk_layout.specs.Typing.{array_type};
 ghost use Rattle.awk_layout.specs.Valid.{len};
 ghost use Rattle.awk_open.specs.Opened.{AreLong};
 ghost use Rattle.awk_pair_sides.specs.Levels as spec;
+ghost use Rattle.awk_list_rows.specs.InRow.{length_of};
 ghost use Rattle.awk_pair_levels.specs.InRow.{IsOf, AreOf};
 ghost use Rattle.awk_pair_levels.specs.Inner.{IsBelow};
-ghost use Rattle.awk_pair_levels.specs.Shares.{length_of, is_lists, AreEven, AreAsLong, IsAmong};
+ghost use Rattle.awk_pair_levels.specs.Shares.{is_lists, AreEven, AreAsLong, IsAmong};
 ghost use Rattle.awk_pair_levels.specs.Shares.{IsAsLong, IsEven, IsNext, AreNext, IsRepeated};
 ghost use Rattle.awk_pair_levels.specs.Shares.{AreRepeats, IsShared};
 ghost use Rattle.awk_pair_levels.specs.declared.shares.Share.TheVariants as given;
 
 use crate::alike::{all_plain, are_alike, is_flat, lead_in, level_class};
-use crate::in_row::{own_ends, own_items};
 use crate::shares::{Share, no_places, shares_of};
-use crate::whole::items_in;
 use awk_columns::{Bounds, Lists, places_of};
 use awk_gather::{array_within, gather};
-use awk_lanes::{
-    Arena, Items, Lane, Lengths, NoMemory, Num, Offsets, Steps, number, offsets_within, place_in,
-};
+use awk_lanes::{Arena, Items, Lane, Lengths, NoMemory, Num, Steps, number};
 use awk_layout::{Array, Arrays, Class, Node};
 use awk_list_numbers::{Places, list_numbers};
-use awk_types::ITEM_LIMIT;
+use awk_list_rows::{items_in, own_ends, own_items, row_offsets};
 use std::alloc::Global;
 use std::sync::ledger::Ledger;
 
@@ -55,7 +52,7 @@ struct Repeats<'b, 'r, 'a> {
 
 impl<'b, 'r, 'a> Lengths for Repeats<'b, 'r, 'a> {
     ghost use Rattle.awk_lanes.specs.Places.{size_of};
-    ghost use Rattle.awk_pair_levels.specs.Shares.{length_of};
+    ghost use Rattle.awk_list_rows.specs.InRow.{length_of};
 
     ghost length = { λ f. length_of f.lists.now };
 
@@ -256,30 +253,6 @@ fn columns_below<'a, L: Ledger>(
     Ok(columns)
 }
 
-/// Where each list begins, and how many items there are, or none where they are too many: the ends
-/// that the lists have already, or new ones.
-fn level_offsets<'a, L: Ledger>(
-    lead: &Bounds,
-    ends: Option<Lane<'a>>,
-    arena: &'a Arena,
-    steps: &mut Steps<L>,
-) -> Result<Option<Offsets<'a>>, NoMemory>
-    requires { IfSome ends (λ o.
-        o ≡ offsets_by (length_of lead.now) (size_of lead.now.starts)) }
-    ensures { let n = size_of lead.now.starts in
-        IfOk result (AreOffsetsBy item_limit (length_of lead.now) n) }
-{
-    let n = lead.len();
-    let Some(lane) = ends else {
-        return offsets_within(ITEM_LIMIT, n, lead, arena, steps);
-    };
-    let total = place_in(&lane, n, steps);
-    if total > ITEM_LIMIT {
-        return Ok(None);
-    }
-    Ok(Some(Offsets { lane, total }))
-}
-
 /// The rows below lists that are all as long as those of the lead.
 fn rows_by<'a, L: Ledger>(
     alloc: Global,
@@ -301,7 +274,7 @@ fn rows_by<'a, L: Ledger>(
 {
     let _ = lead.len();
     let bounds = Bounds::new(alloc, lead, arena, steps)?;
-    match level_offsets(&bounds, ends, arena, steps)? {
+    match row_offsets(&bounds, ends, arena, steps)? {
         None => Ok(Below::TooMany),
         Some(offsets) => {
             let count = offsets.total;

@@ -7,10 +7,8 @@
 
 mod alike;
 mod below;
-mod in_row;
 mod items;
 mod shares;
-mod whole;
 
 pub use alike::lead_of;
 pub use below::{Below, rows_below};

@@ -13,10 +13,10 @@ ghost use Rattle.awk_pair_levels.specs.Shares.{AreListsOf, AreItemsOf, IsShare, 
 ghost use Rattle.awk_pair_levels.specs.Shares.{IsNext, HasOnes};
 ghost use Rattle.awk_pair_levels.specs.declared.shares.Share.TheVariants as share;
 
-use crate::whole::items_in;
 use awk_columns::Lists;
 use awk_lanes::{Arena, Kind, Lane, LaneMaker, NoMemory, Steps};
 use awk_layout::{Array, Arrays};
+use awk_list_rows::items_in;
 use awk_open::{Opened, open_array};
 use awk_pair_sides::{is_single, stretches};
 use awk_types::{Typ, is_list_or_unknown};

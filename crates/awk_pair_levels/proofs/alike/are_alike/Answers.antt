@@ -1,7 +1,8 @@
 use Rattle.std.proofs.Common.{◌∙◌, arith, refl, sym, length}
 use Rattle.std.proofs.lemmas.Option.{slice_get_read}
 use Rattle.awk_lanes.specs.Places.{size_of}
-use Rattle.awk_pair_levels.specs.Shares.{length_of, is_alike}
+use Rattle.awk_list_rows.specs.InRow.{length_of}
+use Rattle.awk_pair_levels.specs.Shares.{is_alike}
 use Rattle.awk_pair_levels.proofs.EvenLaws.{as_long_get}
 use Rattle.awk_pair_levels.proofs.InRowLaws.{of_get, lead_own}
 use Rattle.awk_pair_sides.proofs.TestLaws.{all_next, all_not, all_end}

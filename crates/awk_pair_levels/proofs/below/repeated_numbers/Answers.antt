@@ -9,7 +9,8 @@ use Rattle.awk_layout.specs.Typing.{array_type}
 use Rattle.awk_counts.specs.Counted.{numbers_at}
 use Rattle.awk_list_numbers.specs.ListPlaces.{list_places}
 use Rattle.awk_list_numbers.proofs.ListNumbers.{length-list_places}
-use Rattle.awk_pair_levels.specs.Shares.{length_of, IsNext}
+use Rattle.awk_list_rows.specs.InRow.{length_of}
+use Rattle.awk_pair_levels.specs.Shares.{IsNext}
 use Rattle.awk_pair_levels.specs.declared.shares.Share.TheVariants.{Items}
 use Rattle.awk_pair_levels.proofs.NextLaws.{next_repeats}
 use Rattle.awk_pair_levels.proofs.below.repeated_numbers.Goals as goal

@@ -5,12 +5,13 @@ use Rattle.awk_lanes.specs.Column.{Column}
 use Rattle.awk_lanes.specs.Counted.{AreOffsetsBy, offsets_by}
 use Rattle.awk_lanes.specs.Places.{size_of}
 use Rattle.awk_columns.specs.Lists.{Listed}
-use Rattle.awk_pair_levels.specs.Shares.{length_of, AreAsLong, AreEven, AreNext}
+use Rattle.awk_list_rows.specs.InRow.{length_of}
+use Rattle.awk_pair_levels.specs.Shares.{AreAsLong, AreEven, AreNext}
 use Rattle.awk_pair_levels.proofs.NextLaws.{rows_large, rows_given}
 use Rattle.awk_pair_levels.proofs.below.rows_by.Goals as goal
 
-pub level_offsets-requires : goal.level_offsets-requires
-level_offsets-requires g c =
+pub row_offsets-requires : goal.row_offsets-requires
+row_offsets-requires g c =
     subst (λ (l : Listed). IfSome c.args.ends
     (λ (o : Column). o ≡ offsets_by (length_of l) (size_of l.starts)))
     (sym c.in_ok-bounds.ensures) c.requires.ends
@@ -19,7 +20,7 @@ pub returns-in-None : goal.returns-in-None
 returns-in-None g c =
     let b = c.in_ok-bounds.bounds in
     let e : AreOffsetsBy item_limit (length_of b) (size_of b.starts) None =
-    rw c.in-None.is at c.in_ok-level_offsets.ensures in
+    rw c.in-None.is at c.in_ok-row_offsets.ensures in
     let h : AreOffsetsBy item_limit (length_of c.args.lead.now) (size_of c.args.lead.now.starts)
     None =
     subst (λ (l : Listed). AreOffsetsBy item_limit (length_of l) (size_of l.starts) None)
@@ -41,19 +42,19 @@ pub columns_below-requires-clause-count : goal.columns_below-requires-clause-cou
 columns_below-requires-clause-count g c =
     let b = c.in_ok-bounds.bounds in
     let h : AreOffsetsBy item_limit (length_of b) (size_of b.starts) (Some c.in-Some.offsets) =
-    rw c.in-Some.is at c.in_ok-level_offsets.ensures in h.0
+    rw c.in-Some.is at c.in_ok-row_offsets.ensures in h.0
 
 pub columns_below-requires-clause-few : goal.columns_below-requires-clause-few
 columns_below-requires-clause-few g c =
     let b = c.in_ok-bounds.bounds in
     let h : AreOffsetsBy item_limit (length_of b) (size_of b.starts) (Some c.in-Some.offsets) =
-    rw c.in-Some.is at c.in_ok-level_offsets.ensures in omega (arith, h.0, h.1)
+    rw c.in-Some.is at c.in_ok-row_offsets.ensures in omega (arith, h.0, h.1)
 
 pub returns-in_ok-arrays-in-Some : goal.returns-in_ok-arrays-in-Some
 returns-in_ok-arrays-in-Some g c =
     let b = c.in_ok-bounds.bounds in
     let e : AreOffsetsBy item_limit (length_of b) (size_of b.starts) (Some c.in-Some.offsets) =
-    rw c.in-Some.is at c.in_ok-level_offsets.ensures in
+    rw c.in-Some.is at c.in_ok-row_offsets.ensures in
     let h : AreOffsetsBy item_limit (length_of c.args.lead.now) (size_of c.args.lead.now.starts)
     (Some c.in-Some.offsets) =
     subst (λ (l : Listed). AreOffsetsBy item_limit (length_of l) (size_of l.starts)

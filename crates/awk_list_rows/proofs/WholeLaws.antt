@@ -6,6 +6,7 @@ use Rattle.std.specs.Prelude.{drop, Option, IfSome}
 use Rattle.std.specs.List.{range_with_len}
 use Rattle.std.proofs.lemmas.Int.{ints}
 use Rattle.std.proofs.lemmas.List.{get_or-drop, get_or-take}
+use Rattle.std.proofs.lemmas.List.FromFn.{length-range_with_len}
 use Rattle.awk_lanes.specs.Column.{Column}
 use Rattle.awk_lanes.specs.Counted.{before}
 use Rattle.awk_lanes.specs.Cut.{cut_of}
@@ -19,12 +20,12 @@ use Rattle.awk_layout.specs.Layout.{Layout}
 use Rattle.awk_layout.specs.Typing.{array_type, array_items}
 use Rattle.awk_layout.specs.Valid.{len}
 use Rattle.awk_counts.specs.Counted.{first_of, span_at, spans}
+use Rattle.awk_counts.proofs.FirstPlaces.{length-first_of}
 use Rattle.awk_columns.specs.Lists.{Listed, AreLists}
 use Rattle.awk_columns.specs.Reached.{IsReached}
 use Rattle.awk_columns.proofs.JoinedLists.{row_reached}
 use Rattle.awk_columns.proofs.SpanPlaces.{row_more, span-count}
-use Rattle.awk_pair_levels.specs.Shares.{length_of, LieInRow}
-use Rattle.awk_pair_levels.proofs.NextLaws.{spans-before}
+use Rattle.awk_list_rows.specs.InRow.{length_of, LieInRow}
 
 -- ---- the same bytes
 
@@ -146,6 +147,21 @@ row_found s t m n r h e l f g =
     (row-place s t (at s 0) (λ first b. lie_in_row s t m n first h e l f b))
 
 -- ---- their items
+
+-- how many items the first lists have together
+pub spans-before : (l : Listed) (i : ℕ)
+    → length (first_of (span_at l.starts l.stops) i) ≡ before (length_of l) i
+spans-before l zero = refl
+spans-before l (suc i) =
+    let e : i + 1 ≡ suc i = omega arith in
+    let f : ℕ → List ℕ = span_at l.starts l.stops in
+    ap (λ n. length (first_of f n)) (sym e)
+    ∙ omega (
+      arith,
+      length-first_of f i,
+      spans-before l i,
+      length-range_with_len (place_at l.starts i) (length_of l i),
+    )
 
 pub row_items : (l : Listed) (r : Layout) (first n : ℕ)
     → AreLists l.class l.starts l.stops l.content → LieInRow l.starts l.stops first

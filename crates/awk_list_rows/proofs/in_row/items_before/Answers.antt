@@ -5,8 +5,8 @@ use Rattle.awk_lanes.specs.Places.{size_of, place_at}
 use Rattle.awk_layout.specs.Layout.{Layout}
 use Rattle.awk_layout.specs.Typing.{array_type, array_items}
 use Rattle.awk_layout.specs.Valid.{len}
-use Rattle.awk_pair_levels.proofs.InRowLaws.{offset-place}
-use Rattle.awk_pair_levels.proofs.in_row.items_before.Goals as goal
+use Rattle.awk_list_rows.proofs.InRowLaws.{offset-place}
+use Rattle.awk_list_rows.proofs.in_row.items_before.Goals as goal
 
 pub array_within-requires : goal.array_within-requires
 array_within-requires g c =

@@ -4,7 +4,7 @@ ghost use Rattle.awk_lanes.specs.Counted.{before};
 ghost use Rattle.awk_lanes.specs.Places.{size_of};
 ghost use Rattle.awk_counts.specs.Counted.{spans};
 ghost use Rattle.awk_columns.specs.Reached.{IsReached};
-ghost use Rattle.awk_pair_levels.specs.Shares.{length_of, LieInRow};
+ghost use Rattle.awk_list_rows.specs.InRow.{length_of, LieInRow};
 
 use awk_columns::Lists;
 use awk_lanes::{Arena, Lane, NoMemory, Steps, index_at, to_option_place};
@@ -24,7 +24,7 @@ pub(crate) fn is_same<L: Ledger>(a: &Lane, b: &Lane, steps: &mut Steps<L>) -> bo
 }
 
 /// Whether lists have the same lanes as others, byte for byte.
-pub(crate) fn are_same<L: Ledger>(lead: &Lists, lists: &Lists, steps: &mut Steps<L>) -> bool
+pub fn are_same<L: Ledger>(lead: &Lists, lists: &Lists, steps: &mut Steps<L>) -> bool
     ensures starts { IsTrue result → lists.now.starts ≡ lead.now.starts }
     ensures stops { IsTrue result → lists.now.stops ≡ lead.now.stops }
 {
@@ -53,7 +53,7 @@ fn row_start<L: Ledger>(lists: &Lists, steps: &mut Steps<L>) -> Option<u64>
 
 /// The items of lists one after another, of which there are so many: cut from the content where
 /// they lie there in a row.
-pub(crate) fn items_in<'a, L: Ledger>(
+pub fn items_in<'a, L: Ledger>(
     alloc: Global,
     count: u64,
     lists: &Lists<'a>,

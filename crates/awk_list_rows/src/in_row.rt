@@ -7,7 +7,7 @@ ghost use Rattle.awk_lanes.specs.declared.kind.Kind.TheVariants as Kinds;
 ghost use Rattle.awk_layout.specs.Layout.{offset_lists};
 ghost use Rattle.awk_layout.specs.Typing.{array_type, array_items};
 ghost use Rattle.awk_layout.specs.Valid.{IsValid};
-ghost use Rattle.awk_pair_levels.specs.InRow.{AreEnds, HoldsItems};
+ghost use Rattle.awk_list_rows.specs.InRow.{AreEnds, HoldsItems};
 
 use crate::whole::is_same;
 use awk_gather::array_within;
@@ -34,7 +34,7 @@ fn begin_at_zero<L: Ledger>(offsets: &Lane, steps: &mut Steps<L>) -> bool
 }
 
 /// Where the lists of a column begin: its own offsets, if they are of 64 bits and begin at 0.
-pub(crate) fn own_ends<'a, L: Ledger>(x: &Array<'a>, steps: &mut Steps<L>) -> Option<Lane<'a>>
+pub fn own_ends<'a, L: Ledger>(x: &Array<'a>, steps: &mut Steps<L>) -> Option<Lane<'a>>
     ensures { IfSome result (AreEnds x.now) }
 {
     match x.node().class() {
@@ -50,7 +50,7 @@ pub(crate) fn own_ends<'a, L: Ledger>(x: &Array<'a>, steps: &mut Steps<L>) -> Op
 }
 
 /// Whether the lists of a column are known to begin at these places.
-pub(crate) fn begin_at<L: Ledger>(x: &Array, ends: &Lane, steps: &mut Steps<L>) -> bool
+pub fn begin_at<L: Ledger>(x: &Array, ends: &Lane, steps: &mut Steps<L>) -> bool
     ensures { IsTrue result → AreEnds x.now ends.now }
 {
     match own_ends(x, steps) {
@@ -82,7 +82,7 @@ fn items_before<'a, L: Ledger>(
 
 /// The items of the lists of a column, where its offsets are of 64 bits and begin at 0: a part of
 /// its content.
-pub(crate) fn own_items<'a, L: Ledger>(
+pub fn own_items<'a, L: Ledger>(
     alloc: Global,
     x: &Array<'a>,
     steps: &mut Steps<L>,

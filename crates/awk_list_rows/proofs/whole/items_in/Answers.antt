@@ -2,9 +2,9 @@ use Rattle.std.proofs.Common.{◌+◌, arith, ap, subst, ◌∙◌}
 use Rattle.std.specs.Prelude.{IfSome, slice_range}
 use Rattle.awk_layout.specs.Typing.{array_type, array_items}
 use Rattle.awk_layout.specs.Valid.{len}
-use Rattle.awk_pair_levels.specs.Shares.{LieInRow}
-use Rattle.awk_pair_levels.proofs.WholeLaws.{row_items}
-use Rattle.awk_pair_levels.proofs.whole.items_in.Goals as goal
+use Rattle.awk_list_rows.specs.InRow.{LieInRow}
+use Rattle.awk_list_rows.proofs.WholeLaws.{row_items}
+use Rattle.awk_list_rows.proofs.whole.items_in.Goals as goal
 
 pub returns-then-count-n : goal.returns-then-count-n
 returns-then-count-n g c =

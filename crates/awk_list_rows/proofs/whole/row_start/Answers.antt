@@ -5,8 +5,8 @@ use Rattle.std.proofs.lemmas.Int.{to_z-of_z}
 use Rattle.awk_lanes.specs.Cut.{cut_of}
 use Rattle.awk_lanes.specs.Places.{at, option_place}
 use Rattle.awk_layout.specs.Valid.{len}
-use Rattle.awk_pair_levels.proofs.WholeLaws.{row_found}
-use Rattle.awk_pair_levels.proofs.whole.row_start.Goals as goal
+use Rattle.awk_list_rows.proofs.WholeLaws.{row_found}
+use Rattle.awk_list_rows.proofs.whole.row_start.Goals as goal
 
 pub returns : goal.returns
 returns g c =

@@ -1,6 +1,6 @@
 use Rattle.std.proofs.Common.{refl, ◌∙◌}
-use Rattle.awk_pair_levels.proofs.InRowLaws.{ends_are_own, own_offsets}
-use Rattle.awk_pair_levels.proofs.in_row.own_ends.Goals as goal
+use Rattle.awk_list_rows.proofs.InRowLaws.{ends_are_own, own_offsets}
+use Rattle.awk_list_rows.proofs.in_row.own_ends.Goals as goal
 
 pub begin_at_zero-requires-clause-kind : goal.begin_at_zero-requires-clause-kind
 begin_at_zero-requires-clause-kind g c =

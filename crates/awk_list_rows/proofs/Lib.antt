@@ -1,0 +1,4 @@
+pub mod WholeLaws
+pub mod InRowLaws
+pub mod EndLaws
+mod VarLimits
