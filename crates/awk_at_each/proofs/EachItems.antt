@@ -1,17 +1,18 @@
 -- The item at a place of each list, by its place in the content.
-use Rattle.std.proofs.Common.{◌≡◌, ◌≢◌, ℕ, zero, suc, ◌+◌, ◌-◌, ◌<◌, List, map, get_or}
-use Rattle.std.proofs.Common.{refl, ap, ap₂, sym, ◌∙◌, subst, arith, true≢false, ltb-true}
-use Rattle.std.specs.Prelude.{ℤ, pos, negsuc, ◌≤ℤ◌, nat_lt, [], Bool, true, false, ◌||◌}
+use Rattle.std.proofs.Common.{◌≡◌, ◌≢◌, ℕ, ◌+◌, ◌-◌, ◌<◌, get_or}
+use Rattle.std.proofs.Common.{refl, ap, sym, ◌∙◌, subst, arith, true≢false, ltb-true}
+use Rattle.std.specs.Prelude.{ℤ, pos, negsuc, ◌≤ℤ◌, nat_lt, [], Bool, true, false}
 use Rattle.std.specs.Prelude.{Option, Some, None, is_none}
 use Rattle.std.specs.Prelude.{option_map, if◌then◌else◌}
-use Rattle.std.specs.List.{range_with_len, list_any, AllByRecursion}
+use Rattle.std.specs.List.{AllByRecursion}
 use Rattle.std.proofs.lemmas.Bool.{ltb-false}
 use Rattle.std.proofs.lemmas.Int.{ints}
 use Rattle.std.proofs.lemmas.List.Folds.{list_any_at}
 use Rattle.std.proofs.lemmas.List.FromFn.{get_or-map-range_with_len, length-map-range_with_len}
+use Rattle.awk_base.proofs.Ranges.{none-any}
 use Rattle.awk_types.specs.Has.{Has}
 use Rattle.awk_types.specs.Simple.{simple_value}
-use Rattle.awk_types.specs.Value.{Value, null}
+use Rattle.awk_types.specs.Value.{null}
 use Rattle.awk_types.proofs.SimpleLaws.{simple_is_simple, simple_twice, value_stays}
 use Rattle.awk_lanes.specs.Column.{Column}
 use Rattle.awk_lanes.specs.Numbers.{nat_of}
@@ -120,18 +121,11 @@ lists-lack i s t y j l e =
     (omega (arith, l, length-map-range_with_len (items_at s t y) 0 (size_of s)))
     (ap (lacks_place i) at_j ∙ lacks))
 
-none-lack : (p : List Value → Bool) (f : ℕ → List Value) (a n : ℕ)
-    → ((j : ℕ) → j < a + n → p (f j) ≡ false) → list_any p (map f (range_with_len a n)) ≡ false
-none-lack p f a zero h = refl
-none-lack p f a (suc n) h =
-    ap₂ (λ b c. b || c) (h a (omega arith))
-    (none-lack p f (a + 1) n (λ j l. h j (omega (arith, l))))
-
 pub lists-have : (i : ℤ) (s t : Column) (y : Layout) → AllHave i s t (size_of s)
     → (item_at i).spoil (array_type y) (all_items_at s t y) ≡ None
 lists-have i s t y h =
     ap (λ b. if b then Some Index else None)
-    (none-lack (lacks_place i) (items_at s t y) 0 (size_of s)
+    (none-any (lacks_place i) (items_at s t y) 0 (size_of s)
     (λ j l. lacks-item i s t y j ∙ h j (omega (arith, l))))
 
 module _ (i : ℤ) (s t : Column) (y : Layout) (p : Column) (spans : AreSpans s t (len y))

@@ -3,6 +3,8 @@ use Rattle.std.proofs.Common.{◌≡◌, ℕ, zero, suc, ◌<◌, ◌≤◌, ◌
 use Rattle.std.proofs.Common.{List, [], ◌∷◌, ◌++◌, map, take, drop, get_or, slice_get, slice_range}
 use Rattle.std.proofs.Common.{Some, length, length-take, length-drop, append_assoc}
 use Rattle.std.proofs.Common.{refl, sym, ap, ap₂, ◌∙◌}
+use Rattle.std.specs.Prelude.{Bool, true, false, not, cond, position, None, nat_lt}
+use Rattle.std.specs.List.{prefix_len}
 use Rattle.std.specs.Option.{option_map}
 use Rattle.std.specs.Simd.{first_chunks}
 use Rattle.std.proofs.lemmas.List.{take_more, drop_more, map-append, length-append}
@@ -97,3 +99,31 @@ length-chunk w (suc n) b zero h l = omega (arith, length-take w b, fits)
 length-chunk w (suc n) b (suc i) h l =
     let e : suc n * w ≡ w + n * w = omega arith in
     length-chunk w n (drop w b) i (omega (arith, e, h, length-drop w b)) (omega (arith, l))
+
+-- there are as many groups as are asked for
+pub length-chunks : (w n : ℕ) (b : List ℕ) → length (first_chunks w n b) ≡ n
+length-chunks w zero b = refl
+length-chunks w (suc n) b = ap suc (length-chunks w n (drop w b))
+
+-- the first place where a test passes is 0, or one more than in what follows
+pub position-cons : {X : Type 0} (p : X → Bool) (x : X) (xs : List X)
+    → position p (x ∷ xs) ≡ cond (p x) (Some 0) (option_map suc (position p xs))
+position-cons p x xs = go (p x)
+  where
+    n : ℕ
+    n = prefix_len (λ y. not (p y)) xs
+
+    one : (c : Bool) → cond c (Some (1 + n)) None ≡ option_map suc (cond c (Some n) None)
+    one true = let e : 1 + n ≡ suc n = omega arith in ap Some e
+    one false = refl
+
+    go : (b : Bool)
+        → cond (nat_lt (cond (not b) (1 + n) 0) (suc (length xs)))
+        (Some (cond (not b) (1 + n) 0)) None
+        ≡ cond b (Some 0) (option_map suc (position p xs))
+    go true =
+        let t : nat_lt 0 (suc (length xs)) ≡ true = grind arith in
+        ap (λ c. cond c (Some 0) None) t
+    go false =
+        let t : nat_lt (1 + n) (suc (length xs)) ≡ nat_lt n (length xs) = grind arith in
+        ap (λ c. cond c (Some (1 + n)) None) t ∙ one (nat_lt n (length xs))

@@ -1,7 +1,9 @@
 -- Numbers in a row, and what functions give there.
-use Rattle.std.specs.List.{range_with_len, flat_map}
-use Rattle.std.proofs.Common.{◌≡◌, ℕ, suc, zero, ◌+◌, ◌∷◌, ◌++◌, arith, ap, ◌∙◌, ap₂, subst}
-use Rattle.std.specs.Prelude.{[], ◌<◌, ◌≤◌, refl, List, map, nat_lt, Bool, true, false}
+use Rattle.std.specs.List.{range_with_len, flat_map, slice_range, list_any}
+use Rattle.std.proofs.lemmas.List.FromFn.{take-map-range_with_len}
+use Rattle.std.proofs.Common.{◌≡◌, ℕ, suc, zero, ◌+◌, ◌-◌, ◌∷◌, ◌++◌, ◌||◌, arith, ap, ◌∙◌, ap₂}
+use Rattle.std.proofs.Common.{subst}
+use Rattle.std.specs.Prelude.{[], ◌<◌, ◌≤◌, refl, List, map, take, drop, nat_lt, Bool, true, false}
 
 -- numbers in a row, in two parts
 pub range-append : (a m k : ℕ)
@@ -83,3 +85,34 @@ one_more f i h e k p = by_order (nat_lt k i) refl
     by_order : (b : Bool) → nat_lt k i ≡ b → f k ≡ false
     by_order true q = h k (grind arith)
     by_order false q = ap f (same q) ∙ e
+
+-- what is left of what a function gives in a range, and a part of it
+pub drop-range : {Y : Type 0} (f : ℕ → Y) (a k n : ℕ)
+    → drop k (map f (range_with_len a n)) ≡ map f (range_with_len (a + k) (n - k))
+drop-range f a zero n =
+    let e : a ≡ a + 0 = omega arith in
+    let m : n ≡ n - 0 = omega arith in
+    ap₂ (λ b c. map f (range_with_len b c)) e m
+drop-range f a (suc k) zero =
+    let e : 0 ≡ 0 - suc k = omega arith in
+    ap (λ m. map f (range_with_len (a + suc k) m)) e
+drop-range f a (suc k) (suc n) =
+    let e : a + 1 + k ≡ a + suc k = omega arith in
+    let m : n - k ≡ suc n - suc k = omega arith in
+    drop-range f (a + 1) k n ∙ ap₂ (λ b c. map f (range_with_len b c)) e m
+
+pub part-range : {Y : Type 0} (f : ℕ → Y) (n a b : ℕ) → a ≤ b → b ≤ n
+    → slice_range (map f (range_with_len 0 n)) a b ≡ map f (range_with_len a (b - a))
+part-range f n a b p q =
+    let e : 0 + a ≡ a = omega arith in
+    ap (take (b - a)) (drop-range f 0 a n)
+    ∙ take-map-range_with_len f (0 + a) (n - a) (b - a) (omega (arith, p, q))
+    ∙ ap (λ c. map f (range_with_len c (b - a))) e
+
+-- a test that fails on each that a function gives in a range
+pub none-any : {Y : Type 0} (p : Y → Bool) (f : ℕ → Y) (a n : ℕ)
+    → ((j : ℕ) → j < a + n → p (f j) ≡ false) → list_any p (map f (range_with_len a n)) ≡ false
+none-any p f a zero h = refl
+none-any p f a (suc n) h =
+    ap₂ (λ b c. b || c) (h a (omega arith))
+    (none-any p f (a + 1) n (λ j l. h j (omega (arith, l))))

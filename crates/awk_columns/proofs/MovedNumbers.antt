@@ -1,21 +1,20 @@
 -- Numbers of lists moved as the bytes that they lie in.
-use Rattle.std.proofs.Common.{◌≡◌, ℕ, zero, suc, ◌+◌, ◌-◌, ◌*◌, ◌<◌, ◌≤◌, List, [], ◌∷◌, ◌++◌}
+use Rattle.std.proofs.Common.{◌≡◌, ℕ, ◌+◌, ◌-◌, ◌*◌, ◌<◌, ◌≤◌, List, ◌++◌}
 use Rattle.std.proofs.Common.{map, length, drop, get_or, slice_range, refl, ap, ap₂, sym, subst}
 use Rattle.std.proofs.Common.{◌∙◌, arith, length-take, length-drop, length-append, get_or-take}
 use Rattle.std.proofs.Common.{get_or-drop}
 use Rattle.std.specs.Prelude.{ℤ, pos}
 use Rattle.std.specs.List.{range_with_len}
-use Rattle.std.proofs.lemmas.List.{ext_get_or, get_or-map, length-map, map-append, take-append-le}
-use Rattle.std.proofs.lemmas.List.{drop-append-le}
+use Rattle.std.proofs.lemmas.List.{ext_get_or, get_or-map, length-map, map-append}
 use Rattle.std.proofs.lemmas.List.FromFn.{length-map-range_with_len, get_or-map-range_with_len}
 use Rattle.std.proofs.lemmas.List.FromFn.{fill_by_all}
 use Rattle.awk_types.specs.Value.{null}
 use Rattle.awk_lanes.specs.Column.{Column}
 use Rattle.awk_lanes.specs.Cut.{cut_of}
-use Rattle.awk_lanes.specs.Numbers.{element, number, numbers, width}
+use Rattle.awk_lanes.specs.Numbers.{element, numbers, width}
 use Rattle.awk_lanes.specs.Places.{size_of}
 use Rattle.awk_lanes.specs.declared.kind.Kind.{Kind}
-use Rattle.awk_lanes.proofs.NumberParts.{number-take}
+use Rattle.awk_lanes.proofs.NumberParts.{numbers-join}
 use Rattle.awk_layout.specs.Item.{leaf_value}
 use Rattle.awk_layout.specs.Layout.{flat}
 use Rattle.awk_gather.specs.Arrays.{array_item}
@@ -25,23 +24,6 @@ use Rattle.awk_columns.proofs.ArrayLaws.{array_items-at}
 use Rattle.awk_counts.proofs.FirstPlaces.{first_of-more}
 
 -- ---- bytes one after another
-
--- the numbers of bytes, with others after them
-numbers-join : (k : Kind) (n m : ℕ) (a b : List ℕ) → length a ≡ n * width k
-    → numbers k (n + m) (a ++ b) ≡ numbers k n a ++ numbers k m b
-numbers-join k zero m [] b h = let e : 0 + m ≡ m = omega arith in ap (λ i. numbers k i b) e
-numbers-join k zero m (x ∷ a) b h = absurd (omega (arith, h))
-numbers-join k (suc n) m a b h =
-    let w : ℕ = width k in
-    let e : suc n * w ≡ w + n * w = omega arith in
-    let l : w ≤ length a = omega (arith, h, e) in
-    let d : length (drop w a) ≡ n * w = omega (arith, length-drop w a, h, e) in
-    let s : suc n + m ≡ suc (n + m) = omega arith in
-    ap (λ i. numbers k i (a ++ b)) s
-    ∙ ap₂ (λ z zs. z ∷ zs)
-    (sym (number-take k w (a ++ b) (omega arith)) ∙ ap (number k) (take-append-le w a b l)
-    ∙ number-take k w a (omega arith))
-    (ap (numbers k (n + m)) (drop-append-le w a b l) ∙ numbers-join k n m (drop w a) b d)
 
 -- the bytes of numbers
 pub record AreBytesOf (k : Kind) (zs : List ℤ) (b : List ℕ) : Type 0 where

@@ -1,15 +1,15 @@
 //! Lanes of places and arrays of what stands there, one a slot.
 ghost use Rattle.std.specs.Prelude.{◌≡◌, ◌<◌, ◌≤◌, ◌^◌, length, IfOk};
 ghost use Rattle.awk_lanes.specs.Places.{size_of, IsIndex};
-ghost use Rattle.awk_layout.specs.Layout.{indexed, is_rows};
+ghost use Rattle.awk_layout.specs.Layout.{indexed};
 ghost use Rattle.awk_layout.specs.Valid.{len};
 ghost use Rattle.awk_combi.specs.Slots.{IsSlot, IsSlotLane, AreSlots, AreSlotLanes, ArePlaced};
 
 use crate::spans::{end_lane, first_lane};
 use awk_columns::Lists;
-use awk_gather::gather;
+use awk_gather::{gather, is_record};
 use awk_lanes::{Arena, Lane, Lanes, Steps};
-use awk_layout::{Array, Class, Node, Nodes};
+use awk_layout::{Array, Node, Nodes};
 use awk_places::{Rising, rising_lanes, rising_offsets};
 use awk_types::NoMemory;
 use std::alloc::Global;
@@ -53,16 +53,6 @@ pub(crate) fn tuple_places<'a, L: Ledger>(
     }
 }
 
-/// Whether items are records.
-fn are_records(content: &Array) -> bool
-    ensures { result ≡ is_rows content.now }
-{
-    match content.node().class() {
-        Class::Row { .. } => true,
-        _ => false,
-    }
-}
-
 /// The records at places, as an index over all of them. It is the lane itself: no column is moved,
 /// and numbers of 64 bits are read where they lie.
 fn records_at<'a, L: Ledger>(
@@ -96,7 +86,7 @@ pub fn slot_node<'a, L: Ledger>(
         return Ok(Node::numpy(lane.copy(), steps));
     }
     let _ = content.len();
-    let records = are_records(content);
+    let records = is_record(content.node());
     if records {
         let node = records_at(alloc, content, lane, steps)?;
         return Ok(node);

@@ -14,4 +14,4 @@ mod rows;
 
 pub use arrays::{array_within, gather, gather_opt};
 pub use peeling::{Peeled, peel};
-pub use pick::gather_node;
+pub use pick::{gather_node, is_record};

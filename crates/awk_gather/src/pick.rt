@@ -266,7 +266,7 @@ pub fn gather_node<'a, L: Ledger>(
 }
 
 /// Whether a node is a record.
-fn is_record(x: &Node) -> bool
+pub fn is_record(x: &Node) -> bool
     ensures { result ≡ is_rows x.now }
 {
     match x.class() {

@@ -1,16 +1,17 @@
 -- Histograms of lists, by their items one after another.
 use Rattle.std.specs.Prelude.{◌≡◌, ℕ, zero, suc, ◌+◌, ◌-◌, ◌*◌, ◌<◌, ◌≤◌, ◌^◌, refl, true, Bool}
 use Rattle.std.specs.Prelude.{nat_lt, nat_le, ℤ, List, [], ◌∷◌, length}
-use Rattle.std.specs.Prelude.{map, sum, pos, take, drop, false}
+use Rattle.std.specs.Prelude.{map, sum, pos, false}
 use Rattle.std.specs.Prelude.{Option, Some, None, if◌then◌else◌}
-use Rattle.std.specs.List.{range_with_len, slice_range, sum_by}
+use Rattle.std.specs.List.{range_with_len, sum_by}
 use Rattle.std.proofs.Common.{arith, ap, ap₂, sym, ◌∙◌, subst}
 use Rattle.std.proofs.lemmas.Bool.{leb-true}
 use Rattle.std.proofs.lemmas.Int.{ints}
 use Rattle.std.proofs.lemmas.List.Concat.{length-flat_map}
-use Rattle.std.proofs.lemmas.List.FromFn.{length-map-range_with_len, take-map-range_with_len}
+use Rattle.std.proofs.lemmas.List.FromFn.{length-map-range_with_len}
 use Rattle.std.proofs.lemmas.List.Sums.{sum-map, sum_by-cons}
 use Rattle.std.proofs.lemmas.Simd.{map-map}
+use Rattle.awk_base.proofs.Ranges.{part-range}
 use Rattle.awk_types.specs.DataType.{DataType}
 use Rattle.awk_types.specs.ItemLimit.{item_limit}
 use Rattle.awk_types.specs.Simple.{present, simple_value}
@@ -137,29 +138,6 @@ numbers_taken es t h = go (is_numbers (present t)) h
     go false e = cc
 
 -- ---- lists one after another
-
--- a part of what stands at places in a row
-drop-range : (f : ℕ → Value) (a k n : ℕ)
-    → drop k (map f (range_with_len a n)) ≡ map f (range_with_len (a + k) (n - k))
-drop-range f a zero n =
-    let e : a ≡ a + 0 = omega arith in
-    let m : n ≡ n - 0 = omega arith in
-    ap₂ (λ b c. map f (range_with_len b c)) e m
-drop-range f a (suc k) zero =
-    let e : 0 ≡ 0 - suc k = omega arith in
-    ap (λ m. map f (range_with_len (a + suc k) m)) e
-drop-range f a (suc k) (suc n) =
-    let e : a + 1 + k ≡ a + suc k = omega arith in
-    let m : n - k ≡ suc n - suc k = omega arith in
-    drop-range f (a + 1) k n ∙ ap₂ (λ b c. map f (range_with_len b c)) e m
-
-part-range : (f : ℕ → Value) (n a b : ℕ) → a ≤ b → b ≤ n
-    → slice_range (map f (range_with_len 0 n)) a b ≡ map f (range_with_len a (b - a))
-part-range f n a b p q =
-    let e : 0 + a ≡ a = omega arith in
-    ap (take (b - a)) (drop-range f 0 a n)
-    ∙ take-map-range_with_len f (0 + a) (n - a) (b - a) (omega (arith, p, q))
-    ∙ ap (λ c. map f (range_with_len c (b - a))) e
 
 no_more : (es : List ℤ) (vs : List Value) → bins_and 0 es vs ≡ bins es vs
 no_more es vs =

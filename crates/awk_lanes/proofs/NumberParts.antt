@@ -1,6 +1,7 @@
 -- The numbers of a part of the bytes, and of bytes that were put after others.
 use Rattle.std.proofs.Common.{◌≡◌, ℕ, suc, zero, ◌+◌, ◌-◌, ◌*◌, ◌<◌, ◌≤◌, List, [], ◌∷◌, ◌++◌}
-use Rattle.std.proofs.Common.{length, drop, take, get_or, refl, ap, sym, inl, inr, ◌⊎◌, ◌∙◌, arith}
+use Rattle.std.proofs.Common.{length, drop, take, get_or, refl, ap, ap₂, sym, inl, inr, ◌⊎◌, ◌∙◌}
+use Rattle.std.proofs.Common.{arith}
 use Rattle.std.proofs.Common.{add-one, get_or-take, drop-drop, length-drop, length-take}
 use Rattle.std.proofs.Common.{get_or-drop, true, false, w8, w16, w32, w64, ◌^◌, ◌%◌, ◌/◌, map}
 use Rattle.std.proofs.Math.Facts.{Fits-of_z}
@@ -181,6 +182,23 @@ number-bytes_of U16 (Nat n) h = ap pos (from_le_bytes-to_le_bytes_2 n h)
 number-bytes_of U32 (Nat n) h = ap pos (from_le_bytes-to_le_bytes_4 n h)
 number-bytes_of U64 (Nat n) h = ap pos (from_le_bytes-to_le_bytes_8 n h)
 number-bytes_of _ _ h = absurd h
+
+-- the numbers of bytes, with others after them
+pub numbers-join : (k : Kind) (n m : ℕ) (a b : List ℕ) → length a ≡ n * width k
+    → numbers k (n + m) (a ++ b) ≡ numbers k n a ++ numbers k m b
+numbers-join k zero m [] b h = let e : 0 + m ≡ m = omega arith in ap (λ i. numbers k i b) e
+numbers-join k zero m (x ∷ a) b h = absurd (omega (arith, h))
+numbers-join k (suc n) m a b h =
+    let w : ℕ = width k in
+    let e : suc n * w ≡ w + n * w = omega arith in
+    let l : w ≤ length a = omega (arith, h, e) in
+    let d : length (drop w a) ≡ n * w = omega (arith, length-drop w a, h, e) in
+    let s : suc n + m ≡ suc (n + m) = omega arith in
+    ap (λ i. numbers k i (a ++ b)) s
+    ∙ ap₂ (λ z zs. z ∷ zs)
+    (sym (number-take k w (a ++ b) (omega arith)) ∙ ap (number k) (take-append-le w a b l)
+    ∙ number-take k w a (omega arith))
+    (ap (numbers k (n + m)) (drop-append-le w a b l) ∙ numbers-join k n m (drop w a) b d)
 
 -- ---- all numbers at once
 

@@ -1,11 +1,11 @@
 -- Numbers of columns in one lane.
-use Rattle.std.proofs.Common.{◌≡◌, ℕ, zero, suc, ◌+◌, ◌*◌, ◌<◌, ◌≤◌, List, [], ◌∷◌, ◌++◌, true}
-use Rattle.std.proofs.Common.{false, length, map, take, drop, get_or, Some, None, refl, ap, ap₂}
-use Rattle.std.proofs.Common.{sym, subst, ◌∙◌, arith, length-drop, length-append}
+use Rattle.std.proofs.Common.{◌≡◌, ℕ, zero, suc, ◌+◌, ◌*◌, ◌<◌, List, [], ◌∷◌, ◌++◌, true}
+use Rattle.std.proofs.Common.{false, length, map, take, get_or, Some, None, refl, ap, ap₂}
+use Rattle.std.proofs.Common.{sym, subst, ◌∙◌, arith, length-append}
 use Rattle.std.specs.Prelude.{ℤ, pos, Bool, if◌then◌else◌, slice_get}
 use Rattle.std.specs.List.{AllByRecursion, range_with_len}
-use Rattle.std.proofs.lemmas.List.{length-map, get_or-map, map-append, take-append-le}
-use Rattle.std.proofs.lemmas.List.{drop-append-le, append-nil}
+use Rattle.std.proofs.lemmas.List.{length-map, get_or-map, map-append}
+use Rattle.std.proofs.lemmas.List.{append-nil}
 use Rattle.std.proofs.lemmas.Int.{ints}
 use Rattle.std.proofs.lemmas.Simd.{map-map}
 use Rattle.std.proofs.lemmas.List.FromFn.{fill_by_all}
@@ -16,14 +16,14 @@ use Rattle.awk_types.specs.Value.{Value, int, truth, null}
 use Rattle.awk_types.specs.declared.primitive.Primitive.{Primitive}
 use Rattle.awk_lanes.specs.Column.{Column}
 use Rattle.awk_lanes.specs.Made.{lane_of}
-use Rattle.awk_lanes.specs.Numbers.{number, numbers, width, int_of, is_nonzero, IsOf}
+use Rattle.awk_lanes.specs.Numbers.{numbers, width, int_of, is_nonzero, IsOf}
 use Rattle.awk_lanes.specs.Places.{size_of, at}
 use Rattle.awk_lanes.specs.declared.kind.Kind.{Kind}
 use Rattle.awk_lanes.specs.declared.kind.Kind.TheVariants.{Bool as Truths, I8, I16, I32, I64, U8}
 use Rattle.awk_lanes.specs.declared.kind.Kind.TheVariants.{U16, U32, U64}
 use Rattle.awk_lanes.specs.declared.kind.Num.{Num}
 use Rattle.awk_lanes.specs.declared.kind.Num.TheVariants.{Int, Nat, Truth}
-use Rattle.awk_lanes.proofs.NumberParts.{number-take}
+use Rattle.awk_lanes.proofs.NumberParts.{numbers-join}
 use Rattle.awk_layout.specs.Item.{leaf_value}
 use Rattle.awk_layout.specs.Kinds.{primitive_of, kind_of, primitive_of-kind_of}
 use Rattle.awk_layout.specs.Layout.{flat}
@@ -191,23 +191,6 @@ converted_values k c h =
     ∙ leaf_values-at c
 
 -- ---- bytes one after another
-
--- the numbers of bytes, with others after them
-numbers-join : (k : Kind) (n m : ℕ) (a b : List ℕ) → length a ≡ n * width k
-    → numbers k (n + m) (a ++ b) ≡ numbers k n a ++ numbers k m b
-numbers-join k zero m [] b h = let e : 0 + m ≡ m = omega arith in ap (λ i. numbers k i b) e
-numbers-join k zero m (x ∷ a) b h = absurd (omega (arith, h))
-numbers-join k (suc n) m a b h =
-    let w : ℕ = width k in
-    let e : suc n * w ≡ w + n * w = omega arith in
-    let l : w ≤ length a = omega (arith, h, e) in
-    let d : length (drop w a) ≡ n * w = omega (arith, length-drop w a, h, e) in
-    let s : suc n + m ≡ suc (n + m) = omega arith in
-    ap (λ i. numbers k i (a ++ b)) s
-    ∙ ap₂ (λ z zs. z ∷ zs)
-    (sym (number-take k w (a ++ b) (omega arith)) ∙ ap (number k) (take-append-le w a b l)
-    ∙ number-take k w a (omega arith))
-    (ap (numbers k (n + m)) (drop-append-le w a b l) ∙ numbers-join k n m (drop w a) b d)
 
 -- the bytes of numbers with these values
 pub record AreBytesOf (k : Kind) (vs : List Value) (b : List ℕ) : Type 0 where

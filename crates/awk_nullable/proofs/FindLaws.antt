@@ -1,32 +1,11 @@
 -- The first item that has a number, one item more.
-use Rattle.std.proofs.Common.{◌≡◌, ℕ, zero, suc, ◌+◌, List, ◌∷◌, length, arith, refl}
+use Rattle.std.proofs.Common.{◌≡◌, ℕ, zero, suc, ◌+◌, arith, refl}
 use Rattle.std.proofs.Common.{ap, ap₂, sym, ◌∙◌}
-use Rattle.std.specs.Prelude.{ℤ, Bool, true, false, not, cond, nat_lt, position, Option, Some, None}
-use Rattle.std.specs.List.{range_with_len, prefix_len}
+use Rattle.std.specs.Prelude.{ℤ, Bool, true, false, cond, Option, Some, None}
+use Rattle.std.specs.List.{range_with_len}
 use Rattle.std.specs.Option.{option_map}
+use Rattle.awk_base.proofs.Lists.{position-cons}
 use Rattle.awk_nullable.specs.Extremes.{is_some_number, number_place}
-
-pub position-cons : {X : Type 0} (p : X → Bool) (x : X) (xs : List X)
-    → position p (x ∷ xs) ≡ cond (p x) (Some 0) (option_map suc (position p xs))
-position-cons p x xs = go (p x)
-  where
-    n : ℕ
-    n = prefix_len (λ y. not (p y)) xs
-
-    one : (c : Bool) → cond c (Some (1 + n)) None ≡ option_map suc (cond c (Some n) None)
-    one true = let e : 1 + n ≡ suc n = omega arith in ap Some e
-    one false = refl
-
-    go : (b : Bool)
-        → cond (nat_lt (cond (not b) (1 + n) 0) (suc (length xs)))
-        (Some (cond (not b) (1 + n) 0)) None
-        ≡ cond b (Some 0) (option_map suc (cond (nat_lt n (length xs)) (Some n) None))
-    go true =
-        let t : nat_lt 0 (suc (length xs)) ≡ true = grind arith in
-        ap (λ c. cond c (Some 0) None) t
-    go false =
-        let t : nat_lt (1 + n) (suc (length xs)) ≡ nat_lt n (length xs) = grind arith in
-        ap (λ c. cond c (Some (1 + n)) None) t ∙ one (nat_lt n (length xs))
 
 -- the earlier one of two places, the first if there is one
 abbrev pub earlier : Option ℕ → Option ℕ → Option ℕ

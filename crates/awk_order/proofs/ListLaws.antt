@@ -1,14 +1,15 @@
 -- What is made of lists, by their items one after another.
 use Rattle.std.specs.Prelude.{◌≡◌, ℕ, zero, suc, ◌+◌, ◌-◌, ◌*◌, ◌<◌, ◌≤◌, ◌^◌, refl, true, false}
 use Rattle.std.specs.Prelude.{Bool, List, [], ◌∷◌, length, map, sum, pos, Some, None}
-use Rattle.std.specs.Prelude.{if◌then◌else◌, take, drop}
-use Rattle.std.specs.List.{range_with_len, slice_range}
+use Rattle.std.specs.Prelude.{if◌then◌else◌}
+use Rattle.std.specs.List.{range_with_len}
 use Rattle.std.proofs.Common.{arith, ap, ap₂, sym, ◌∙◌, subst}
 use Rattle.std.proofs.lemmas.Int.{ints}
 use Rattle.std.proofs.lemmas.List.Concat.{length-flat_map}
-use Rattle.std.proofs.lemmas.List.FromFn.{length-map-range_with_len, take-map-range_with_len}
+use Rattle.std.proofs.lemmas.List.FromFn.{length-map-range_with_len}
 use Rattle.std.proofs.lemmas.List.Sums.{sum-map}
 use Rattle.std.proofs.lemmas.Simd.{map-map}
+use Rattle.awk_base.proofs.Ranges.{part-range}
 use Rattle.awk_types.specs.DataType.{DataType}
 use Rattle.awk_types.specs.ItemLimit.{item_limit}
 use Rattle.awk_types.specs.Predicates.{is_leaf}
@@ -71,29 +72,6 @@ module _ (typ : DataType → DataType) (items : List Value → List Value) where
       go false e = cc
 
 -- ---- lists one after another
-
--- a part of what stands at places in a row
-drop-range : {X : Type 0} (f : ℕ → X) (a k n : ℕ)
-    → drop k (map f (range_with_len a n)) ≡ map f (range_with_len (a + k) (n - k))
-drop-range f a zero n =
-    let e : a ≡ a + 0 = omega arith in
-    let m : n ≡ n - 0 = omega arith in
-    ap₂ (λ b c. map f (range_with_len b c)) e m
-drop-range f a (suc k) zero =
-    let e : 0 ≡ 0 - suc k = omega arith in
-    ap (λ m. map f (range_with_len (a + suc k) m)) e
-drop-range f a (suc k) (suc n) =
-    let e : a + 1 + k ≡ a + suc k = omega arith in
-    let m : n - k ≡ suc n - suc k = omega arith in
-    drop-range f (a + 1) k n ∙ ap₂ (λ b c. map f (range_with_len b c)) e m
-
-pub part-range : {X : Type 0} (f : ℕ → X) (n a b : ℕ) → a ≤ b → b ≤ n
-    → slice_range (map f (range_with_len 0 n)) a b ≡ map f (range_with_len a (b - a))
-part-range f n a b p q =
-    let e : 0 + a ≡ a = omega arith in
-    ap (take (b - a)) (drop-range f 0 a n)
-    ∙ take-map-range_with_len f (0 + a) (n - a) (b - a) (omega (arith, p, q))
-    ∙ ap (λ c. map f (range_with_len c (b - a))) e
 
 map-id-by : {X : Type 0} (f : X → X) (xs : List X) → ((x : X) → f x ≡ x) → map f xs ≡ xs
 map-id-by f [] h = refl

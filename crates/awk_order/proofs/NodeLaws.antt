@@ -7,7 +7,7 @@ use Rattle.std.proofs.Common.{arith, ap, ap₂, sym, ◌∙◌, subst, append-ni
 use Rattle.std.proofs.lemmas.List.{length-map}
 use Rattle.std.proofs.lemmas.List.FromFn.{fill_by_all}
 use Rattle.std.proofs.lemmas.Simd.{map-map}
-use Rattle.awk_base.proofs.Ranges.{map-same, map_from}
+use Rattle.awk_base.proofs.Ranges.{map-same, map_from, part-range}
 use Rattle.awk_base.proofs.Every.{all-part}
 use Rattle.awk_types.specs.DataType.{unknown, leaf}
 use Rattle.awk_types.specs.Has.{Has}
@@ -40,7 +40,6 @@ use Rattle.awk_order.specs.Cells.{AreItemCells, AreNumbers}
 use Rattle.awk_order.specs.Lists.{AreItems, AreMade}
 use Rattle.awk_order.specs.Order.{option_number, items_in_order}
 use Rattle.awk_order.specs.Sort.{place_items}
-use Rattle.awk_order.proofs.ListLaws.{part-range}
 use Rattle.awk_order.proofs.ValueLaws.{value_of, all_numbers, no_numbers}
 use Rattle.awk_order.proofs.ValueLaws.{in_order_values}
 

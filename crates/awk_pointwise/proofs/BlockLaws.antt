@@ -2,7 +2,7 @@
 use Rattle.std.proofs.Common.{◌≡◌, ℕ, zero, suc, ◌+◌, ◌-◌, ◌*◌, ◌/◌, ◌≤◌, List, [], ◌∷◌, ◌++◌}
 use Rattle.std.proofs.Common.{length, map, take, drop, replicate, refl, ap, ap₂, sym, subst, ◌∙◌}
 use Rattle.std.proofs.Common.{arith, length-take, length-drop}
-use Rattle.std.proofs.lemmas.List.{take-append-drop, take-append-le, drop-append-le, take-map}
+use Rattle.std.proofs.lemmas.List.{take-append-drop, take-map}
 use Rattle.std.proofs.lemmas.List.{drop-replicate, take-replicate, drop-map, map-append}
 use Rattle.std.specs.Prelude.{ℤ, Option, Some, None, Result, Ok, Err}
 use Rattle.std.specs.Prelude.{slice_range}
@@ -11,13 +11,13 @@ use Rattle.awk_types.specs.Gives.{Told}
 use Rattle.awk_types.specs.Value.{Value, int, null}
 use Rattle.awk_types.specs.declared.fault.Fault.{Fault}
 use Rattle.awk_lanes.specs.Column.{Column}
-use Rattle.awk_lanes.specs.Numbers.{width, number, numbers, element}
+use Rattle.awk_lanes.specs.Numbers.{width, numbers, element}
 use Rattle.awk_lanes.specs.Places.{size_of}
 use Rattle.awk_lanes.specs.Words.{column}
 use Rattle.awk_lanes.specs.declared.kind.Kind.{Kind}
 use Rattle.awk_lanes.specs.declared.kind.Kind.TheVariants.{Bool, I8, I16, I32, I64, U8, U16}
 use Rattle.awk_lanes.specs.declared.kind.Kind.TheVariants.{U32, U64}
-use Rattle.awk_lanes.proofs.NumberParts.{number-take}
+use Rattle.awk_lanes.proofs.NumberParts.{numbers-join}
 use Rattle.awk_layout.specs.Item.{leaf_value}
 use Rattle.awk_leaves.specs.Values.{all_values, first_fault_or, value_in, number_of, binary_at}
 use Rattle.awk_leaves.specs.Values.{binary_on}
@@ -71,22 +71,7 @@ length-values (Ok v ∷ rs) vs e = go (all_values rs) refl (length-values rs) e
     go (Ok ws) i h e = let same : v ∷ ws ≡ vs = cc in
         ap length (sym same) ∙ ap suc (h ws i)
 
--- ---- numbers of bytes after others
-
-numbers-after : (k : Kind) (n m : ℕ) (b c : List ℕ) → length b ≡ n * width k
-    → numbers k (n + m) (b ++ c) ≡ numbers k n b ++ numbers k m c
-numbers-after k zero m [] c h =
-    let e : 0 + m ≡ m = omega arith in ap (λ i. numbers k i c) e
-numbers-after k zero m (x ∷ b) c h = absurd (omega (arith, h))
-numbers-after k (suc n) m b c h =
-    let e : suc n + m ≡ suc (n + m) = omega arith in
-    let w : ℕ = width k in
-    let l : w ≤ length b = omega (arith, h) in
-    let d : length (drop w b) ≡ n * w = omega (arith, h, length-drop w b) in
-    ap (λ i. numbers k i (b ++ c)) e ∙ ap₂ (λ z zs. z ∷ zs)
-    (sym (number-take k w (b ++ c) (omega arith)) ∙ ap (number k) (take-append-le w b c l)
-    ∙ number-take k w b (omega arith))
-    (ap (numbers k (n + m)) (drop-append-le w b c l) ∙ numbers-after k n m (drop w b) c d)
+-- ---- numbers after others
 
 lane-after : (k : Kind) (xs ys : List ℤ) → lane_values (column k (xs ++ ys))
     ≡ lane_values (column k xs) ++ lane_values (column k ys)
@@ -152,7 +137,7 @@ more_so_far rs k lo hi b c r p q so same e numbered long =
           ∙ all_values-append (take lo rs) (slice_range rs lo hi)
           ∙ ap₂ after so.values (e ∙ ap (λ vs. Ok vs) own)
           ∙ ap (λ vs. Ok vs) (sym (lane-after k (numbers k lo b) (numbers k m c)))
-          ∙ ap (λ zs. Ok (lane_values (column k zs))) (sym (numbers-after k lo m b c so.size))
+          ∙ ap (λ zs. Ok (lane_values (column k zs))) (sym (numbers-join k lo m b c so.size))
           ∙ ap (λ i. Ok (lane_values (column k (numbers k i (b ++ c))))) (sym total);
     }
   where

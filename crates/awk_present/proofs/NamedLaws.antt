@@ -1,11 +1,11 @@
 -- The numbers of groups of bytes at the places that an index names.
 use Rattle.std.proofs.Common.{◌≡◌, ◌≢◌, ℕ, suc, zero, ◌+◌, ◌*◌, ◌/◌, ◌<◌, List, [], ◌∷◌, ◌++◌}
-use Rattle.std.proofs.Common.{length, drop, get_or, map, refl, ap, ap₂, sym, ◌∙◌, arith}
+use Rattle.std.proofs.Common.{length, get_or, map, refl, ap, ap₂, sym, ◌∙◌, arith}
 use Rattle.std.specs.Prelude.{ℤ, pos, Some}
 use Rattle.std.specs.List.{range_with_len, flat_map}
 use Rattle.std.specs.Simd.{first_chunks}
 use Rattle.std.proofs.lemmas.List.{map-append, append-nil}
-use Rattle.awk_base.proofs.Lists.{length-chunk}
+use Rattle.awk_base.proofs.Lists.{length-chunk, length-chunks}
 use Rattle.awk_lanes.specs.declared.kind.Kind.{Kind}
 use Rattle.awk_lanes.specs.declared.kind.Kind.TheVariants.{Bool as Truths, I8, I16, I32, I64}
 use Rattle.awk_lanes.specs.declared.kind.Kind.TheVariants.{U8, U16, U32, U64}
@@ -85,10 +85,6 @@ module _ (j : Column) (b : List ℕ) (kind : j.kind ≡ I64)
         named_within j n i k h l' (ap option_place (sym (eight_at i l')) ∙ e)
 
 -- ---- the numbers
-
-length-chunks : (w n : ℕ) (b : List ℕ) → length (first_chunks w n b) ≡ n
-length-chunks w zero b = refl
-length-chunks w (suc n) b = ap suc (length-chunks w n (drop w b))
 
 element-same : (k : Kind) (z : ℤ) → k ≢ Truths → element k z ≡ z
 element-same Truths z h = absurd (h refl)

@@ -10,6 +10,7 @@ use Rattle.std.proofs.lemmas.List.{length-map, take_all}
 use Rattle.std.proofs.lemmas.List.Edits.{length-between}
 use Rattle.std.proofs.lemmas.List.FromFn.{length-map-range_with_len, get_or-map-range_with_len}
 use Rattle.std.proofs.lemmas.List.Sums.{length-filter, count_by-le-length}
+use Rattle.awk_base.proofs.Lists.{position-cons}
 use Rattle.awk_types.specs.Predicates.{is_leaf}
 use Rattle.awk_types.specs.Value.{Value, null}
 use Rattle.awk_lanes.specs.Column.{Column}
@@ -44,7 +45,7 @@ use Rattle.awk_present.proofs.FlagLaws.{leads_to}
 use Rattle.awk_present.proofs.LeafLaws.{present-leaf_value, number_of-leaf_value, element-twice}
 use Rattle.awk_present.proofs.LeafLaws.{leaf_of-opt}
 use Rattle.awk_present.proofs.SliceLaws.{slice-filter, kept-more, kept-few}
-use Rattle.awk_present.proofs.SliceLaws.{map-places, position-cons}
+use Rattle.awk_present.proofs.SliceLaws.{map-places}
 
 -- ---- leaves
 

@@ -1,11 +1,10 @@
 -- Parts of lists of which some items are left out, and lists by their places.
-use Rattle.std.proofs.Common.{◌≡◌, ℕ, suc, ◌+◌, ◌-◌, ◌≤◌, ◌<◌, List, ◌∷◌, ◌++◌, length}
+use Rattle.std.proofs.Common.{◌≡◌, ℕ, ◌+◌, ◌-◌, ◌≤◌, ◌<◌, List, ◌++◌, length}
 use Rattle.std.proofs.Common.{take, drop, map, get_or, filter, refl, ap, ap₂, sym, ◌∙◌}
 use Rattle.std.proofs.Common.{arith}
 use Rattle.std.proofs.Common.{length-append, append_assoc}
-use Rattle.std.specs.Prelude.{Bool, true, false, not, cond, position, Some, None, nat_lt}
-use Rattle.std.specs.List.{slice_range, range_with_len, prefix_len}
-use Rattle.std.specs.Option.{option_map}
+use Rattle.std.specs.Prelude.{Bool}
+use Rattle.std.specs.List.{slice_range, range_with_len}
 use Rattle.std.proofs.lemmas.List.{take-append-drop, take-take, length-map}
 use Rattle.std.proofs.lemmas.List.Elements.{filter-append}
 use Rattle.std.proofs.lemmas.List.FromFn.{get_or-map-range_with_len, length-map-range_with_len}
@@ -64,28 +63,6 @@ module _ {X : Type 0} where
         ap length (ap kept (sym (take-append-drop b xs)) ∙ filter-append p (take b xs) (drop b xs))
         ∙ length-append (kept (take b xs)) (kept (drop b xs)) in
         omega (arith, whole)
-
-    pub position-cons : (x : X) (xs : List X)
-        → position p (x ∷ xs) ≡ cond (p x) (Some 0) (option_map suc (position p xs))
-    position-cons x xs = go (p x)
-      where
-        n : ℕ
-        n = prefix_len (λ y. not (p y)) xs
-
-        one : (c : Bool) → cond c (Some (1 + n)) None ≡ option_map suc (cond c (Some n) None)
-        one true = let e : 1 + n ≡ suc n = omega arith in ap Some e
-        one false = refl
-
-        go : (b : Bool)
-            → cond (nat_lt (cond (not b) (1 + n) 0) (suc (length xs)))
-            (Some (cond (not b) (1 + n) 0)) None
-            ≡ cond b (Some 0) (option_map suc (position p xs))
-        go true =
-            let t : nat_lt 0 (suc (length xs)) ≡ true = grind arith in
-            ap (λ c. cond c (Some 0) None) t
-        go false =
-            let t : nat_lt (1 + n) (suc (length xs)) ≡ nat_lt n (length xs) = grind arith in
-            ap (λ c. cond c (Some (1 + n)) None) t ∙ one (nat_lt n (length xs))
 
 -- a list by its places
 pub map-places : {X Y : Type 0} (f : X → Y) (xs : List X) (d : X)

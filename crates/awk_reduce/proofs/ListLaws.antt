@@ -1,15 +1,16 @@
 -- What is made of lists, by what is made of their items.
-use Rattle.std.specs.Prelude.{◌≡◌, ℕ, zero, suc, ◌+◌, ◌<◌, ◌≤◌, refl, true, false, Bool}
-use Rattle.std.specs.Prelude.{◌||◌, nat_lt, List, [], length, map, sum}
+use Rattle.std.specs.Prelude.{◌≡◌, ℕ, ◌<◌, ◌≤◌, refl, true, false, Bool}
+use Rattle.std.specs.Prelude.{nat_lt, List, [], length, map, sum}
 use Rattle.std.specs.Prelude.{Option, Some, None, if◌then◌else◌}
 use Rattle.std.specs.List.{range_with_len, list_any}
-use Rattle.std.proofs.Common.{arith, ap, ap₂, sym, ◌∙◌, subst}
+use Rattle.std.proofs.Common.{arith, ap, sym, ◌∙◌, subst}
 use Rattle.std.proofs.lemmas.List.Concat.{length-flat_map}
 use Rattle.std.proofs.lemmas.List.Folds.{list_any_at}
 use Rattle.std.proofs.lemmas.List.FromFn.{get_or-map-range_with_len, length-map-range_with_len}
 use Rattle.std.proofs.lemmas.List.Sums.{sum-map}
 use Rattle.std.proofs.lemmas.Simd.{map-map}
-use Rattle.awk_types.specs.DataType.{DataType, unknown, leaf, var, reg, rec, tup, opt, uni}
+use Rattle.awk_base.proofs.Ranges.{none-any}
+use Rattle.awk_types.specs.DataType.{DataType}
 use Rattle.awk_types.specs.ItemLimit.{item_limit}
 use Rattle.awk_types.specs.Predicates.{is_leaf}
 use Rattle.awk_types.specs.Simple.{present, is_option}
@@ -85,13 +86,6 @@ module _ (how : Reducer) (s e : Column) (y : Layout) where
       → spoil ≡ overflow_spoil how (array_type y) (all_items_at s e y)
   few_spoil h = counted ∙ ap by_count (within_limit (total s e y) h)
 
-none_any : (p : List Value → Bool) (f : ℕ → List Value) (a n : ℕ)
-    → ((j : ℕ) → j < a + n → p (f j) ≡ false) → list_any p (map f (range_with_len a n)) ≡ false
-none_any p f a zero h = refl
-none_any p f a (suc n) h =
-    ap₂ (λ b c. b || c) (h a (omega arith))
-    (none_any p f (a + 1) n (λ j l. h j (omega (arith, l))))
-
 -- no list overflows
 reduced_fine : (how : Reducer) (s e : Column) (y : Layout) → total s e y ≤ item_limit
     → ((i : ℕ) → i < size_of s → overflows how (array_type y) (items_at s e y i) ≡ false)
@@ -99,7 +93,7 @@ reduced_fine : (how : Reducer) (s e : Column) (y : Layout) → total s e y ≤ i
 reduced_fine how s e y h f =
     few_spoil how s e y h
     ∙ ap (λ b. if b then Some Overflow else None)
-    (none_any (overflows how (array_type y)) (items_at s e y) 0 (size_of s)
+    (none-any (overflows how (array_type y)) (items_at s e y) 0 (size_of s)
     (λ j l. f j (omega (arith, l))))
 
 -- some list overflows

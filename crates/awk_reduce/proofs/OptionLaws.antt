@@ -6,6 +6,7 @@ use Rattle.std.specs.Prelude.{Option, Some, None, if◌then◌else◌}
 use Rattle.std.specs.List.{range_with_len, flat_map}
 use Rattle.std.specs.Option.{option_map, option_and_then}
 use Rattle.std.specs.Ordering.{int_eq}
+use Rattle.awk_base.proofs.Lists.{position-cons}
 use Rattle.awk_types.specs.DataType.{DataType}
 use Rattle.awk_types.specs.Value.{Value, int, truth}
 use Rattle.awk_types.specs.declared.primitive.Primitive.{Primitive}
@@ -31,7 +32,6 @@ use Rattle.awk_present.specs.Numbers.{leaf_of, number_of, numbers, extreme_of, e
 use Rattle.awk_present.specs.Numbers.{number_place}
 use Rattle.awk_present.proofs.FlagLaws.{leads_back}
 use Rattle.awk_present.proofs.LeafLaws.{present-leaf_value, number_of-leaf_value}
-use Rattle.awk_present.proofs.SliceLaws.{position-cons}
 use Rattle.awk_nullable.specs.Extremes as null
 use Rattle.awk_nullable.specs.Numbers.{leaf_number, number_list}
 use Rattle.awk_nullable_lists.specs.Lists.{numbers_at, extreme_at, local_at, or_zero, AreNullable}

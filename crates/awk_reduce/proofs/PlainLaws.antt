@@ -1,14 +1,14 @@
 -- Lists none of whose items is null: the numbers of their items as these lie.
 use Rattle.std.proofs.Common.{◌≡◌, ◌≢◌, ℕ, zero, suc, ◌+◌, ◌-◌, ◌<◌, ◌≤◌, List, [], ◌∷◌, length}
-use Rattle.std.proofs.Common.{map, take, drop, refl, ap, ap₂, sym, ◌∙◌, subst, arith, ltb-true}
+use Rattle.std.proofs.Common.{take, drop, refl, ap, ap₂, sym, ◌∙◌, subst, arith, ltb-true}
 use Rattle.std.specs.Prelude.{ℤ, pos, negsuc, ◌≤ℤ◌, nat_lt, Bool, true, false, position}
 use Rattle.std.specs.Prelude.{Some}
-use Rattle.std.specs.List.{range_with_len, slice_range}
+use Rattle.std.specs.List.{slice_range}
 use Rattle.std.specs.Ordering.{int_eq}
 use Rattle.std.proofs.lemmas.Bool.{ltb-false}
 use Rattle.std.proofs.lemmas.Int.{ints}
 use Rattle.std.proofs.lemmas.List.{length-map}
-use Rattle.std.proofs.lemmas.List.FromFn.{take-map-range_with_len}
+use Rattle.awk_base.proofs.Ranges.{part-range}
 use Rattle.awk_types.specs.ItemLimit.{item_limit}
 use Rattle.awk_types.specs.Value.{Value, value_list}
 use Rattle.awk_lanes.specs.Column.{Column}
@@ -34,29 +34,6 @@ use Rattle.awk_present.proofs.PresentLaws.{leaves-count, plain_present}
 use Rattle.awk_reduce.specs.Lists.{list_in, AreReady}
 use Rattle.awk_reduce.specs.declared.ready.ReadyLists.{ReadyLists}
 use Rattle.awk_reduce.proofs.SpanLaws.{start-is, stop-is, ends_spanned}
-
--- a part of what stands at places in a row
-drop-range : (f : ℕ → Value) (a k n : ℕ)
-    → drop k (map f (range_with_len a n)) ≡ map f (range_with_len (a + k) (n - k))
-drop-range f a zero n =
-    let e : a ≡ a + 0 = omega arith in
-    let m : n ≡ n - 0 = omega arith in
-    ap₂ (λ b c. map f (range_with_len b c)) e m
-drop-range f a (suc k) zero =
-    let e : 0 ≡ 0 - suc k = omega arith in
-    ap (λ m. map f (range_with_len (a + suc k) m)) e
-drop-range f a (suc k) (suc n) =
-    let e : a + 1 + k ≡ a + suc k = omega arith in
-    let m : n - k ≡ suc n - suc k = omega arith in
-    drop-range f (a + 1) k n ∙ ap₂ (λ b c. map f (range_with_len b c)) e m
-
-pub part-range : (f : ℕ → Value) (n a b : ℕ) → a ≤ b → b ≤ n
-    → slice_range (map f (range_with_len 0 n)) a b ≡ map f (range_with_len a (b - a))
-part-range f n a b p q =
-    let e : 0 + a ≡ a = omega arith in
-    ap (take (b - a)) (drop-range f 0 a n)
-    ∙ take-map-range_with_len f (0 + a) (n - a) (b - a) (omega (arith, p, q))
-    ∙ ap (λ c. map f (range_with_len c (b - a))) e
 
 -- two offsets
 abbrev two : ℕ → ℕ → Column

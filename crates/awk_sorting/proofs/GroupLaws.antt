@@ -1,5 +1,5 @@
 -- Numbers of 64 bits in the groups of eight bytes that they lie in, as a lane.
-use Rattle.std.proofs.Common.{◌≡◌, ℕ, zero, suc, ◌*◌, ◌/◌, ◌≤◌, refl, ap, ap₂, sym, ◌∙◌, subst}
+use Rattle.std.proofs.Common.{◌≡◌, ℕ, suc, ◌*◌, ◌/◌, ◌≤◌, refl, ap, ap₂, sym, ◌∙◌, subst}
 use Rattle.std.proofs.Common.{List, [], ◌∷◌, ◌++◌, length, map, drop, arith}
 use Rattle.std.specs.Prelude.{Bool}
 use Rattle.std.specs.List.{All, flat_map}
@@ -8,7 +8,7 @@ use Rattle.std.specs.Simd.{first_chunks}
 use Rattle.std.proofs.lemmas.List.{length-map, take_at, drop_at}
 use Rattle.std.proofs.lemmas.List.Elements.{All-from_get_or}
 use Rattle.std.proofs.lemmas.List.Sorted.{All-permutation}
-use Rattle.awk_base.proofs.Lists.{length-chunk}
+use Rattle.awk_base.proofs.Lists.{length-chunk, length-chunks}
 use Rattle.awk_lanes.specs.Column.{Column}
 use Rattle.awk_lanes.specs.Numbers.{width, number, numbers}
 use Rattle.awk_lanes.specs.Places.{size_of, IsIndexKind}
@@ -25,14 +25,10 @@ use Rattle.awk_sorting.proofs.LaneLaws.{plain_numbers, sorts_lane}
 abbrev AreEights : List (List ℕ) → Type 0
 AreEights gs = All (λ g. length g ≡ 8) gs
 
-length_chunks : (n : ℕ) (b : List ℕ) → length (first_chunks 8 n b) ≡ n
-length_chunks zero b = refl
-length_chunks (suc n) b = ap suc (length_chunks n (drop 8 b))
-
 chunks_eights : (n : ℕ) (b : List ℕ) → n * 8 ≤ length b → AreEights (first_chunks 8 n b)
 chunks_eights n b h =
     All-from_get_or (λ g. length g ≡ 8) (first_chunks 8 n b) []
-    (λ i l. length-chunk 8 n b i h (omega (arith, l, length_chunks n b)))
+    (λ i l. length-chunk 8 n b i h (omega (arith, l, length-chunks 8 n b)))
 
 -- the numbers of groups that stand one after another
 numbers_eights : (gs : List (List ℕ)) → AreEights gs

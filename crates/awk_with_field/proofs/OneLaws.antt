@@ -1,8 +1,8 @@
 -- One list of all items of an array.
-use Rattle.std.proofs.Common.{◌≡◌, ℕ, ◌+◌, ◌-◌, refl, ap, sym, subst, ◌∙◌, arith}
-use Rattle.std.specs.Prelude.{List, [], ◌∷◌, map, length, pos}
+use Rattle.std.proofs.Common.{◌≡◌, ℕ, ◌+◌, ◌-◌, ap, sym, subst, ◌∙◌, arith}
+use Rattle.std.specs.Prelude.{List, [], ◌∷◌, length, pos}
 use Rattle.std.specs.Prelude.{None}
-use Rattle.std.proofs.lemmas.List.{append-nil}
+use Rattle.std.proofs.lemmas.List.{append-nil, map-id}
 use Rattle.awk_types.specs.Value.{Value, list, values_from, value_list}
 use Rattle.awk_types.proofs.Trees.{value_list-from}
 use Rattle.awk_lanes.specs.Column.{Column}
@@ -20,10 +20,6 @@ use Rattle.awk_frames.proofs.FrameLaws.{offsets_fill}
 -- the items as one list
 abbrev pub only : Layout → List Value
 only x = list (values_from (array_items x)) ∷ []
-
-map-id : (vs : List Value) → map (λ (v : Value). v) vs ≡ vs
-map-id [] = refl
-map-id (v ∷ vs) = ap (λ ws. v ∷ ws) (map-id vs)
 
 joined-only : (x : Layout) → joined_items (only x) ≡ array_items x
 joined-only x =

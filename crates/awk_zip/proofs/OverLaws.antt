@@ -3,7 +3,7 @@ use Rattle.std.proofs.Common.{◌≡◌, refl, ap, ◌∙◌}
 use Rattle.std.specs.Prelude.{List, [], ◌∷◌, map}
 use Rattle.awk_types.specs.DataType.{DataType, unknown, leaf, var, reg, rec, tup, opt, uni}
 use Rattle.awk_types.specs.Simple.{in_list, in_option}
-use Rattle.awk_types.specs.Value.{Value, Values, int, truth, null, list, row, alt}
+use Rattle.awk_types.specs.Value.{Value, int, truth, null, list, row, alt}
 use Rattle.awk_types.specs.Value.{value_list, values_from}
 use Rattle.awk_types.proofs.Trees.{values_from-list}
 use Rattle.awk_frames.specs.Framed.{over}
@@ -42,6 +42,3 @@ over-same (uni ts) v = refl
 
 pub overs-same : (t : DataType) (vs : List Value) → map (over t (λ w. w)) vs ≡ vs
 overs-same t vs = map-same (over t (λ w. w)) (over-same t) vs
-
-pub map-id : (vs : List Value) → map (λ (w : Value). w) vs ≡ vs
-map-id vs = map-same (λ w. w) (λ v. refl) vs

@@ -1,5 +1,6 @@
 use Rattle.std.proofs.Common.{◌≡◌, ◌∙◌, ap, sym, subst, arith, false, length, map, Some}
 use Rattle.std.specs.Prelude.{option_map}
+use Rattle.std.proofs.lemmas.List.{map-id}
 use Rattle.awk_types.specs.DataType.{row_type, types_from}
 use Rattle.awk_layout.specs.Typing.{array_type, array_items}
 use Rattle.awk_layout.specs.Valid.{len, AreNames}
@@ -10,7 +11,7 @@ use Rattle.awk_open.specs.Opened.{AreLong}
 use Rattle.awk_pair_operands.specs.Answer.{shared_ends}
 use Rattle.awk_pair_operands.specs.First.{all_data}
 use Rattle.awk_pair_operands.specs.Pairs.{leaf_types, pair_type, pair_values}
-use Rattle.awk_zip.proofs.OverLaws.{map-id, overs-same}
+use Rattle.awk_zip.proofs.OverLaws.{overs-same}
 use Rattle.awk_zip.proofs.RowLaws.{columns_length, types_length, first_long, columns_long}
 use Rattle.awk_zip.proofs.RowLaws.{rows_items, ends_typed}
 use Rattle.awk_zip.proofs.zipping.zip_pairs.Goals as goal
