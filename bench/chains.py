@@ -7,7 +7,8 @@ PROGRAM is crates/awk_cli/out/awk_cli where none is given, and LINES 20,000. Eac
 again and again to an operation over itself, as `{"let":"x","be":["pad_none","x",1,0,false]}`, over
 numbers, lists, records and a union. No such line deepens the type, so none may make the layout
 higher: each chain is to end with status 0, and twice as many lines are to take about twice as long.
-All figures are of this run, which is made by hand and is no part of the gate.
+The figures are of this run, which is made by hand; `python/test_chains.py`, which the gate runs,
+looks at the status and the last answer of each chain.
 """
 
 import json
@@ -79,22 +80,27 @@ def stack() -> None:
     resource.setrlimit(resource.RLIMIT_STACK, (STACK, STACK))
 
 
-def run(program: str, heads: list[str], steps: list[object], lines: int) -> tuple[int, float]:
+def session(start: str, mask: str | None, steps: list[object], lines: int) -> str:
+    """A chain of so many lines, with what it starts from, and what is bound in the end."""
+    heads = [STARTS[start]] + ([MASKS[mask]] if mask else [])
     each = [json.dumps({"let": "x", "be": step}) for step in steps]
-    text = "\n".join(heads + [each[k % len(each)] for k in range(lines)] + ['{"show":"x"}', ""])
+    return "\n".join(heads + [each[k % len(each)] for k in range(lines)] + ['{"show":"x"}', ""])
+
+
+def run(program: str, text: str) -> tuple[int, float, list[bytes]]:
+    """The status with which a session ends, its seconds, and its answers."""
     began = time.perf_counter()
-    done = subprocess.run([program, "run"], input=text.encode(), stdout=subprocess.DEVNULL,
+    done = subprocess.run([program, "run"], input=text.encode(), stdout=subprocess.PIPE,
                           preexec_fn=stack, check=False)
-    return done.returncode, time.perf_counter() - began
+    return done.returncode, time.perf_counter() - began, done.stdout.splitlines()
 
 
 def main() -> None:
     program = sys.argv[1] if len(sys.argv) > 1 else "crates/awk_cli/out/awk_cli"
     lines = int(sys.argv[2]) if len(sys.argv) > 2 else 20_000
     for start, mask, steps in CHAINS:
-        heads = [STARTS[start]] + ([MASKS[mask]] if mask else [])
-        _, half = run(program, heads, steps, lines // 2)
-        status, whole = run(program, heads, steps, lines)
+        _, half, _ = run(program, session(start, mask, steps, lines // 2))
+        status, whole, _ = run(program, session(start, mask, steps, lines))
         what = " ".join(json.dumps(step) for step in steps)
         print(f"status {status}  {half:6.2f} s  {whole:6.2f} s  {start:8} {mask or '':7} {what}")
 
