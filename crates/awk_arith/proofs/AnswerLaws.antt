@@ -3,6 +3,7 @@ use Rattle.std.proofs.Common.{◌≡◌, Bool, false, not, sym, ◌∙◌}
 use Rattle.std.specs.Prelude.{List, map, Option, None, Result, Ok, if◌then◌else◌}
 use Rattle.std.proofs.lemmas.List.{length-map}
 use Rattle.awk_types.specs.Datum.{Datum}
+use Rattle.awk_types.specs.Faults.{limit_refused}
 use Rattle.awk_types.specs.Gives.{Told, refused_or, ◌or◌}
 use Rattle.awk_types.specs.Value.{Value}
 use Rattle.awk_types.specs.declared.fault.Fault.{Fault}
@@ -17,7 +18,6 @@ use Rattle.awk_frames.specs.Framed.{over}
 use Rattle.awk_pair_operands.specs.Answer.{single_or_fault, shared_ends}
 use Rattle.awk_pair_operands.specs.Pairs.{pair_refused, pair_type, pair_values, some_array}
 use Rattle.awk_pair_operands.specs.Pairs.{datum_from}
-use Rattle.awk_pair_types.specs.Limits.{limit_refused}
 use Rattle.awk_ends.proofs.DatumLaws.{IsMade, values-one, datum_shown, datum_made as single_made}
 use Rattle.awk_arith.specs.AtLeaves.{result_type, first_fault, value_or_null, row_values}
 use Rattle.awk_arith.specs.AtLeaves.{leaves_refused, at_leaves}

@@ -15,14 +15,13 @@ use Rattle.awk_layout.specs.Kinds.{kind_of}
 use Rattle.awk_layout.specs.Layout.{flat}
 use Rattle.awk_layout.specs.Typing.{array_type}
 use Rattle.awk_layout.specs.Valid.{len}
-use Rattle.awk_layout.proofs.ArrayItems.{length-array_items}
+use Rattle.awk_layout.proofs.ArrayItems.{length-array_items, array_items-one}
 use Rattle.awk_leaves.specs.Table.{binary_judged}
 use Rattle.awk_leaves.specs.Values.{binary_at, binary_values, all_values, in_judged}
 use Rattle.awk_leaves.specs.declared.leaf_type.LeafType.TheVariants.{Literal}
 use Rattle.awk_leaves.specs.declared.operation.Binary.{Binary}
 use Rattle.awk_pointwise.specs.Sides.{lane_values}
 use Rattle.awk_ends.specs.Operands.{in_primitive}
-use Rattle.awk_ends.proofs.DatumLaws.{items-one}
 use Rattle.awk_ends.proofs.LaneLaws.{flat-items, flat-type}
 use Rattle.awk_arith.specs.AtLeaves.{at_leaves, first_fault, value_or_null}
 use Rattle.awk_arith.specs.Binary.{binary_row, judged_binary}
@@ -45,7 +44,7 @@ lane_one lane v e = sym (length-array_items (flat lane)) ∙ ap length (flat-ite
 first_is : (lane : Column) (v : Value) → lane_values lane ≡ v ∷ [] → v ≡ first_item (flat lane)
 first_is lane v e =
     ap (λ vs. get_or vs 0 null) (sym e ∙ sym (flat-items lane)
-    ∙ items-one (flat lane) (lane_one lane v e))
+    ∙ array_items-one (flat lane) (lane_one lane v e))
 
 result_made : (p : Primitive) (lane : Column) (r : Result Value Fault)
     → all_values (r ∷ []) ≡ Ok (lane_values lane) → lane.kind ≡ kind_of p

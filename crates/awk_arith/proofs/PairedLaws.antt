@@ -3,6 +3,7 @@ use Rattle.std.proofs.Common.{◌≡◌, ◌<◌, Bool, false, not, ap, sym, sub
 use Rattle.std.specs.Prelude.{List, map, length, Option, None, Result, Ok, if◌then◌else◌}
 use Rattle.std.proofs.lemmas.List.{length-map}
 use Rattle.awk_types.specs.DataType.{DataType}
+use Rattle.awk_types.specs.Faults.{limit_refused}
 use Rattle.awk_types.specs.Gives.{Told, refused_or}
 use Rattle.awk_types.specs.Value.{Value}
 use Rattle.awk_types.specs.declared.fault.Fault.{Fault}
@@ -25,7 +26,6 @@ use Rattle.awk_pair_operands.specs.Answer.{single_or_fault, shared_ends}
 use Rattle.awk_pair_operands.specs.First.{all_data}
 use Rattle.awk_pair_operands.specs.Pairs.{has_wrong_end, leaf_types, pair_refused, some_array}
 use Rattle.awk_pointwise.specs.Sides.{lane_values}
-use Rattle.awk_pair_types.specs.Limits.{limit_refused}
 use Rattle.awk_ends.specs.Operands.{leaf_of, both_data}
 use Rattle.awk_ends.specs.Columns.{leaf_at, values_at, data_before, ends_of}
 use Rattle.awk_ends.proofs.ColumnLaws.{AreEnds, ends-count}

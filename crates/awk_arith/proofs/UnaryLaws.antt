@@ -4,8 +4,8 @@ use Rattle.std.specs.Prelude.{List, [], ◌∷◌, map, length, slice_get, Optio
 use Rattle.std.specs.Prelude.{Err, if◌then◌else◌}
 use Rattle.std.proofs.lemmas.Simd.{map-map}
 use Rattle.awk_types.specs.DataType.{DataType}
-use Rattle.awk_types.specs.Datum.{Datum}
-use Rattle.awk_types.specs.Faults.{fault_told}
+use Rattle.awk_types.specs.Datum.{Datum, datum_type}
+use Rattle.awk_types.specs.Faults.{fault_told, limit_refused}
 use Rattle.awk_types.specs.Gives.{Told, refused_or}
 use Rattle.awk_types.specs.Predicates.{is_leaf}
 use Rattle.awk_types.specs.Value.{Value}
@@ -27,9 +27,7 @@ use Rattle.awk_leaves.specs.declared.operation.Unary.{Unary}
 use Rattle.awk_pair_operands.specs.Answer.{single_or_fault, shared_ends}
 use Rattle.awk_pair_operands.specs.First.{all_data}
 use Rattle.awk_pair_operands.specs.Pairs.{has_wrong_end, leaf_types, pair_refused, some_array}
-use Rattle.awk_pair_operands.specs.Pairs.{item_type}
 use Rattle.awk_pointwise.specs.Sides.{lane_values}
-use Rattle.awk_pair_types.specs.Limits.{limit_refused}
 use Rattle.awk_ends.specs.Operands.{leaf_in, in_primitive}
 use Rattle.awk_ends.proofs.ColumnLaws.{AreEnds, ends-count, ends-leaf, parts-at}
 use Rattle.awk_ends.proofs.LaneLaws.{column_is}
@@ -43,14 +41,14 @@ use Rattle.awk_arith.proofs.UnderLaws.{result_is, no_fault, lane_items, lane_siz
 
 module _ (op : Unary) (d : Datum) where
   -- what the type tells
-  pub told_primitive : (e : Fault) → Err e ≡ unary_judged op (leaf_in (item_type d))
+  pub told_primitive : (e : Fault) → Err e ≡ unary_judged op (leaf_in (datum_type d))
       → Told (fault_told e) (judged_unary op d)
   told_primitive e h =
       Told-fault e (judged_unary op d)
       (ap (λ j. in_primitive j (λ p. at_leaves p (unary_row op p) (d ∷ []))) (sym h))
 
   pub judged-is : (p : Primitive) (ds : List Datum)
-      → unary_judged op (leaf_in (item_type d)) ≡ Ok p → ds ≡ d ∷ []
+      → unary_judged op (leaf_in (datum_type d)) ≡ Ok p → ds ≡ d ∷ []
       → judged_unary op d ≡ at_leaves p (unary_row op p) ds
   judged-is p ds e given =
       ap (λ j. in_primitive j (λ q. at_leaves q (unary_row op q) (d ∷ []))) e
@@ -59,12 +57,12 @@ module _ (op : Unary) (d : Datum) where
 -- a column at the ends of one datum
 pub record IsSingle (d : Datum) (es : List Value) (y : Layout) : Type 0 where
   pub leaf : is_leaf (array_type y) ≡ true
-  pub typ : leaf_in (array_type y) ≡ leaf_in (item_type d)
+  pub typ : leaf_in (array_type y) ≡ leaf_in (datum_type d)
   pub items : array_items y ≡ map (part_at 0) es
 
 -- the results of leaves, as those of rows
 rows_said : (op : Unary) (p : Primitive) (d : Datum) (es : List Value) (y : Layout)
-    → unary_judged op (leaf_in (item_type d)) ≡ Ok p → IsSingle d es y
+    → unary_judged op (leaf_in (datum_type d)) ≡ Ok p → IsSingle d es y
     → unary_values op (leaf_in (array_type y)) (array_items y)
     ≡ refused_or (first_fault (map (unary_row op p) es))
     (map value_or_null (map (unary_row op p) es))
@@ -77,7 +75,7 @@ rows_said op p d es y judged s =
 
 module _ (op : Unary) (d : Datum) (xs : List Operand) (p : Primitive)
     (given : all_data xs ≡ d ∷ [])
-    (judged : unary_judged op (leaf_in (item_type d)) ≡ Ok p) where
+    (judged : unary_judged op (leaf_in (datum_type d)) ≡ Ok p) where
   abbrev row : Value → Result Value Fault
   row = unary_row op p
 

@@ -1,10 +1,11 @@
 -- A lane of results under the lists and nulls that data share.
-use Rattle.std.proofs.Common.{◌≡◌, ℕ, ◌<◌, ◌^◌, Bool, not, ap, sym, ◌∙◌}
+use Rattle.std.proofs.Common.{◌≡◌, Bool, not, ap, sym, ◌∙◌}
 use Rattle.std.specs.Prelude.{List, map, length, None, Result, Ok, false}
 use Rattle.std.proofs.lemmas.List.{length-map}
 use Rattle.std.proofs.lemmas.Simd.{map-map}
 use Rattle.awk_types.specs.DataType.{DataType}
 use Rattle.awk_types.specs.Datum.{Datum}
+use Rattle.awk_types.specs.Faults.{limit_refused}
 use Rattle.awk_types.specs.Gives.{refused_or}
 use Rattle.awk_types.specs.Value.{Value}
 use Rattle.awk_types.specs.declared.fault.Fault.{Fault}
@@ -15,12 +16,10 @@ use Rattle.awk_layout.specs.Layout.{Layout, flat}
 use Rattle.awk_layout.specs.Typing.{array_type, array_items}
 use Rattle.awk_layout.specs.Valid.{len}
 use Rattle.awk_layout.proofs.ArrayItems.{length-array_items}
-use Rattle.awk_frames.specs.Framed.{IsFrame}
-use Rattle.awk_frames.specs.Shape.{Shape, leaves, items, missing}
+use Rattle.awk_frames.specs.Shape.{leaves, items}
 use Rattle.awk_pair_operands.specs.Answer.{single_or_fault, shared_ends}
 use Rattle.awk_pair_operands.specs.Pairs.{pair_refused, some_array}
 use Rattle.awk_pointwise.specs.Sides.{lane_values}
-use Rattle.awk_pair_types.specs.Limits.{limit_refused}
 use Rattle.awk_ends.proofs.LaneLaws.{flat-items}
 use Rattle.awk_arith.specs.AtLeaves.{result_type, first_fault, value_or_null, row_values}
 use Rattle.awk_arith.proofs.AnswerLaws.{IsResult}
@@ -47,11 +46,6 @@ module _ (f : Value → Result Value Fault) (es : List Value) (lane : Column)
       ∙ length-map es (λ v. value_or_null (f v))
 
 -- ---- what is known where nothing is refused
-
-pub frame_small : (s : Shape) (n : ℕ) → IsFrame s n → n < 2 ^ 63
-frame_small (leaves m) n h = h.1
-frame_small (items o c s) n h = frame_small s n h.2
-frame_small (missing j s) n h = frame_small s n h.2
 
 pub result_is : (p : Primitive) (f : Value → Result Value Fault) (ds : List Datum) (single : Bool)
     (t : DataType) (y : Layout)

@@ -3,6 +3,7 @@
 use Rattle.std.specs.Prelude.{List, [], ◌∷◌, map, Option, Some, None, Result, Ok, Err, false}
 use Rattle.awk_types.specs.DataType.{DataType, leaf}
 use Rattle.awk_types.specs.Datum.{Datum}
+use Rattle.awk_types.specs.Faults.{limit_refused}
 use Rattle.awk_types.specs.Gives.{refused_or, ◌or◌}
 use Rattle.awk_types.specs.Value.{Value, null}
 use Rattle.awk_types.specs.declared.fault.Fault.{Fault}
@@ -11,7 +12,6 @@ use Rattle.awk_frames.specs.Framed.{over, over_type}
 use Rattle.awk_pair_operands.specs.Answer.{shared_ends}
 use Rattle.awk_pair_operands.specs.Pairs.{pair_refused, pair_type, pair_values, some_array}
 use Rattle.awk_pair_operands.specs.Pairs.{datum_from}
-use Rattle.awk_pair_types.specs.Limits.{limit_refused}
 
 -- ---- results of which some may be faults
 

@@ -13,13 +13,14 @@ ghost use Rattle.awk_arith.specs.Binary.{judged_binary, binary_of};
 
 use crate::result::result_typ;
 use crate::sides::row_leaves;
-use awk_ends::{datum_from, leaf_type, push_datum};
+use awk_ends::{leaf_type, push_datum};
 use awk_frames::framed;
 use awk_kernels::{Arith, Compare, Kernels};
 use awk_lanes::{Arena, NoMemory, Steps};
 use awk_layout::{Array, Datum, Node, Operand, Operands};
 use awk_leaves::{Binary, Logic, binary_prim};
 use awk_pair::{has_wrong_end, pair};
+use awk_pair_operands::datum_from;
 use awk_pointwise::{Side, binary_leaves};
 use awk_types::Fault;
 use std::alloc::Global;

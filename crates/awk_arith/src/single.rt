@@ -5,31 +5,22 @@ ghost use Rattle.awk_types.specs.Gives.{Gives};
 ghost use Rattle.awk_layout.specs.Datum.{datum_of, IsDatum};
 ghost use Rattle.awk_leaves.specs.declared.operation.Unary.TheVariants.{Not, Negate, Absolute};
 ghost use Rattle.awk_pair_operands.specs.First.{all_data};
-ghost use Rattle.awk_pair_operands.specs.Pairs.{has_wrong_end, item_type};
-ghost use Rattle.awk_ends.specs.Operands.{leaf_in};
+ghost use Rattle.awk_pair_operands.specs.Pairs.{has_wrong_end};
 ghost use Rattle.awk_arith.specs.Unary.{judged_unary, unary_of};
 
 use crate::result::result_typ;
 use crate::sides::leaf_results;
-use awk_ends::{datum_from, leaf_in};
+use awk_ends::datum_leaf;
 use awk_frames::framed;
 use awk_kernels::Kernels;
 use awk_lanes::{Arena, NoMemory, Steps};
 use awk_layout::{Array, Datum, Node, Operand, Operands};
-use awk_leaves::{LeafType, Unary, unary_prim};
+use awk_leaves::{Unary, unary_prim};
 use awk_pair::{has_wrong_end, pair};
+use awk_pair_operands::datum_from;
 use awk_types::Fault;
 use std::alloc::Global;
 use std::sync::ledger::Ledger;
-
-/// What the leaves of a datum are of.
-fn leaf_type(x: &Datum) -> LeafType
-    ensures { result ≡ leaf_in (item_type (datum_of x.now)) }
-{
-    match x {
-        Datum::Arr(x) | Datum::One(x) => leaf_in(x.typ()),
-    }
-}
 
 /// A datum as the only operand.
 fn only<'a>(alloc: Global, x: &Datum<'a>) -> Result<Operands<'a>, NoMemory>
@@ -57,7 +48,7 @@ fn paired_leaves<'a, N: Kernels, L: Ledger>(
     ensures answer { Gives datum_of fault_told result (judged_unary op (datum_of x.now)) }
     ensures datum { IfOk result (λ made. IsDatum made) }
 {
-    let prim = unary_prim(op, leaf_type(x))?;
+    let prim = unary_prim(op, datum_leaf(x))?;
     let typ = result_typ(alloc, prim, xs, arena, steps)?;
     let paired = pair(alloc, xs, None, arena, steps)?;
     let lane = leaf_results(alloc, op, paired.leaves.get(0), kernels, arena, steps)?;

@@ -10,6 +10,7 @@ use Rattle.std.proofs.lemmas.Int.{ints}
 use Rattle.std.proofs.lemmas.List.Folds.{list_any_at}
 use Rattle.std.proofs.lemmas.List.FromFn.{get_or-map-range_with_len, length-map-range_with_len}
 use Rattle.awk_base.proofs.Ranges.{none-any}
+use Rattle.awk_base.proofs.Every.{all-at}
 use Rattle.awk_types.specs.Has.{Has}
 use Rattle.awk_types.specs.Simple.{simple_value}
 use Rattle.awk_types.specs.Value.{null}
@@ -33,7 +34,7 @@ use Rattle.awk_axis.specs.declared.causes.Spoil.TheVariants.{Index}
 use Rattle.awk_select.specs.Cells.{IsBelow, place_number}
 use Rattle.awk_at_each.specs.Each.{item_in, lacks_place, item_at, item_place, item_number, AllHave}
 use Rattle.awk_select.specs.Places.{place_in}
-use Rattle.awk_select.proofs.PickedPlaces.{has-at, place_in-below}
+use Rattle.awk_select.proofs.PickedPlaces.{place_in-below}
 
 -- ---- one list
 
@@ -93,7 +94,7 @@ item-stays : (y : Layout) (m : ℕ) → AllByRecursion (Has (array_type y)) (arr
     → m < len y → simple_value (array_type y) (array_item y m) ≡ array_item y m
 item-stays y m h l =
     let has : Has (array_type y) (get_or (array_items y) m null) =
-    has-at (Has (array_type y)) (array_items y) m h (omega (arith, l, length-array_items y)) in
+    all-at (Has (array_type y)) (array_items y) m null h (omega (arith, l, length-array_items y)) in
     value_stays (array_type y) (array_item y m) (simple_is_simple (layout_type y))
     (subst (Has (array_type y)) (get_or-array_items y m l) has)
 

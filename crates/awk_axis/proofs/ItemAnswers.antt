@@ -1,10 +1,8 @@
 -- What is told of a function of one list, applied to the lists inside items.
-use Rattle.std.specs.Prelude.{◌≡◌, [], ◌∷◌, map, length, Option}
-use Rattle.std.specs.Prelude.{Some, None, Ok, Err, option_map}
+use Rattle.std.specs.Prelude.{◌≡◌, [], ◌∷◌, map, length, Option, Some, None, Ok, Err, option_map}
 use Rattle.std.proofs.Common.{arith, ap, ap₂, sym, ◌∙◌}
 use Rattle.std.specs.List.{range_with_len}
 use Rattle.std.proofs.lemmas.Simd.{map-map}
-use Rattle.std.proofs.lemmas.List.FromFn.{length-map-range_with_len}
 use Rattle.awk_base.proofs.Ranges.{map-same}
 use Rattle.awk_types.specs.DataType.{DataType}
 use Rattle.awk_types.specs.Datum.{Datum, arr, one}
@@ -16,6 +14,7 @@ use Rattle.awk_layout.specs.Datum.{first_item}
 use Rattle.awk_layout.specs.Layout.{Layout}
 use Rattle.awk_layout.specs.Valid.{len}
 use Rattle.awk_layout.specs.Typing.{array_type, array_items}
+use Rattle.awk_layout.proofs.ArrayItems.{length-array_items, array_items-one}
 use Rattle.awk_gather.specs.Arrays.{array_item}
 use Rattle.awk_axis.specs.declared.causes.Spoil.{Spoil}
 use Rattle.awk_axis.specs.declared.place.Reach.{Reach}
@@ -29,9 +28,6 @@ use Rattle.awk_axis.specs.Mapped.{IsMapped, IsLifted}
 use Rattle.awk_columns.proofs.ArrayLaws.{array_items-at}
 use Rattle.awk_axis.proofs.CauseLaws.{first_spoil-none_after}
 use Rattle.awk_axis.proofs.JudgedTypes.{told_values}
-
-length-items : (x : Layout) → length (array_items x) ≡ len x
-length-items x = ap length (array_items-at x) ∙ length-map-range_with_len (array_item x) 0 (len x)
 
 mapped_items : (t : DataType) (g : Value → Value) (x y : Layout) → IsMapped t g x y
     → array_items y ≡ map (λ v. simple_value t (g v)) (array_items x)
@@ -65,7 +61,7 @@ items_spoilt f k x many s w a p q h =
     let spoil : first_spoil (too_many (length (array_items x)))
     (spoil_at f k (array_type x) (array_items x)) ≡ Some w =
     ap (λ n. first_spoil (too_many n) (spoil_at f k (array_type x) (array_items x)))
-    (length-items x) ∙ ap (λ z. first_spoil (too_many (len x)) z) q
+    (length-array_items x) ∙ ap (λ z. first_spoil (too_many (len x)) z) q
     ∙ ap (λ z. first_spoil z s) (sym p) ∙ h in
     told_values _ _ _ (given_items f k x) a.0 a.1
     ∙ ap (λ z. refused_or (option_map spoil_fault z) (given_items f k x)) spoil
@@ -79,7 +75,7 @@ items_made f k x y many a p n h =
     let spoil : first_spoil (too_many (length (array_items x)))
     (spoil_at f k (array_type x) (array_items x)) ≡ None =
     ap (λ n. first_spoil (too_many n) (spoil_at f k (array_type x) (array_items x)))
-    (length-items x) ∙ ap (λ z. first_spoil (too_many (len x)) z) h.0
+    (length-array_items x) ∙ ap (λ z. first_spoil (too_many (len x)) z) h.0
     ∙ ap (λ z. first_spoil z None) (sym p ∙ n) in
     told_values _ _ _ (given_items f k x) a.0 a.1
     ∙ ap (λ z. refused_or (option_map spoil_fault z) (given_items f k x)) spoil
@@ -94,9 +90,6 @@ items_many f k x y many w a p n h =
 
 -- ---- a single value
 
-one-items : (x : Layout) → len x ≡ 1 → array_items x ≡ first_item x ∷ []
-one-items x e = array_items-at x ∙ ap (λ n. map (array_item x) (range_with_len 0 n)) e
-
 abbrev given_one : ListFunction → Reach → Layout → Datum
 given_one f k x =
     one (simple (lifted_type f.giving k (array_type x)))
@@ -108,7 +101,7 @@ pub one_spoilt : (f : ListFunction) (k : Reach) (x : Layout) (w : Spoil) → len
     → on_one f k (array_type x) (first_item x) ≡ Err (spoil_fault w)
 one_spoilt f k x w e a h =
     let spoil : spoil_at f k (array_type x) (first_item x ∷ []) ≡ Some w =
-    ap (spoil_at f k (array_type x)) (sym (one-items x e)) ∙ h in
+    ap (spoil_at f k (array_type x)) (sym (array_items-one x e)) ∙ h in
     told_values _ _ _ (given_one f k x) a.0 a.1
     ∙ ap (λ z. refused_or (option_map spoil_fault z) (given_one f k x)) spoil
 
@@ -117,7 +110,7 @@ pub one_made : (f : ListFunction) (k : Reach) (x y : Layout) → len x ≡ 1 →
     → on_one f k (array_type x) (first_item x) ≡ Ok (one (array_type y) (first_item y))
 one_made f k x y e a h =
     let spoil : spoil_at f k (array_type x) (first_item x ∷ []) ≡ None =
-    ap (spoil_at f k (array_type x)) (sym (one-items x e)) ∙ h.0 in
+    ap (spoil_at f k (array_type x)) (sym (array_items-one x e)) ∙ h.0 in
     told_values _ _ _ (given_one f k x) a.0 a.1
     ∙ ap (λ z. refused_or (option_map spoil_fault z) (given_one f k x)) spoil
     ∙ ap₂ (λ u v. Ok (one u v)) (sym h.1.typ) (sym (h.1.items 0 (omega (arith, e))))

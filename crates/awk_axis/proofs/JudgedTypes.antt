@@ -8,7 +8,6 @@ use Rattle.awk_types.specs.Limit.{Limit, limit, within, limit_told}
 use Rattle.awk_types.specs.declared.fault.Fault.{Fault}
 use Rattle.awk_types.specs.declared.limit.TypeFault.{TypeFault}
 use Rattle.awk_types.proofs.RefusalLaws.{refused_or-Ok}
-use Rattle.awk_gather.proofs.GatheredArrays.{array_of-within}
 use Rattle.awk_axis.specs.declared.causes.Refusal.{Refusal}
 use Rattle.awk_axis.specs.declared.causes.Spoil.{Spoil}
 use Rattle.awk_axis.specs.Causes.{first_spoil}
@@ -52,5 +51,3 @@ pub first_some : (many : Option Spoil) (w : Spoil) → first_spoil many (Some w)
 first_some many w h = let e : Some w ≡ None = (first_spoil-both many (Some w) h).1 in cc
 
 pub ruleset judging = (judged_refused, judged_accepted, judged_limited)
-
-pub ruleset making = (array_of-within)

@@ -1,21 +1,17 @@
 -- Which lists a call reaches, by its axis and by its datum.
-use Rattle.std.specs.Prelude.{◌≡◌, ℕ, zero, suc, ◌-◌, ◌<◌, refl, List, ℤ, pos, negsuc, ◌<ℤ◌, Result}
-use Rattle.std.specs.Prelude.{Err, true, false}
-use Rattle.std.proofs.Common.{arith, ap, ◌∙◌, sym, subst}
-use Rattle.std.proofs.lemmas.Int.{ints}
+use Rattle.std.specs.Prelude.{◌≡◌, ℕ, zero, suc, ◌-◌, ◌<◌, List, pos, Result}
+use Rattle.std.proofs.Common.{arith, ap, sym, subst}
 use Rattle.awk_types.specs.DataType.{DataType}
-use Rattle.awk_types.specs.Datum.{Datum, arr, one}
+use Rattle.awk_types.specs.Datum.{Datum, arr}
 use Rattle.awk_types.specs.Value.{Value}
-use Rattle.awk_types.specs.declared.fault.Fault.TheVariants as fault
 use Rattle.awk_types.specs.Faults.{fault_told}
 use Rattle.awk_types.specs.Gives.{Gives}
 use Rattle.awk_types.specs.declared.fault.Fault.{Fault}
 use Rattle.awk_layout.specs.Datum.{datum_of}
 use Rattle.awk_layout.specs.declared.datum.Datum as code
-use Rattle.awk_axis.specs.declared.place.Reach.TheVariants.{Axis, Innermost}
+use Rattle.awk_axis.specs.declared.place.Reach.TheVariants.{Axis}
 use Rattle.awk_axis.specs.ListFunction.{ListFunction}
-use Rattle.awk_axis.specs.Lifting.{on_whole, on_items, on_one, lift, deep}
-use Rattle.awk_axis.specs.Reach.{here}
+use Rattle.awk_axis.specs.Lifting.{on_items, lift}
 
 pub lift_items : (f : ListFunction) (n m : ℕ) (t : DataType) (vs : List Value) → 0 < n → m ≡ n - 1
     → lift f (pos n) (arr t vs) ≡ on_items f (Axis m) t vs

@@ -1,24 +1,23 @@
 -- What a function applied at an axis gives for lists, options, rows and unions, from what it gives
 -- for their contents.
-use Rattle.std.specs.Prelude.{◌≡◌, ℕ, zero, suc, ◌+◌, ◌-◌, ◌<◌, refl, Bool}
-use Rattle.std.specs.Prelude.{true, false, List, [], ◌∷◌, map, Option, Some, None}
-use Rattle.std.specs.Prelude.{if◌then◌else◌}
+use Rattle.std.specs.Prelude.{◌≡◌, ℕ, zero, suc, ◌+◌, ◌-◌, ◌<◌, refl, Bool, true, false, List, []}
+use Rattle.std.specs.Prelude.{◌∷◌, map, Option, Some, None, if◌then◌else◌}
 use Rattle.std.proofs.Common.{arith, ap, sym, ◌∙◌}
 use Rattle.awk_types.specs.DataType.{Name, DataType, DataTypes, unknown, leaf, var, reg, rec, tup}
 use Rattle.awk_types.specs.DataType.{opt, uni, types_from, row_type}
-use Rattle.awk_types.specs.Value.{Value, null, list, row, alt, value_list}
-use Rattle.awk_types.specs.Value.{values_from}
+use Rattle.awk_types.specs.Value.{Value, null, list, row, alt, value_list, values_from}
 use Rattle.awk_types.specs.Simple.{simple, simples, simple_value, simple_values, in_list, in_row}
 use Rattle.awk_types.specs.Simple.{in_option, in_alternative, option_of, union_of, union_value}
 use Rattle.awk_types.specs.Simple.{values_by, value_by}
 use Rattle.awk_types.proofs.Trees.{values_from-list, value_list-from}
+use Rattle.awk_types.proofs.NullLaws.{simple_value-null}
 use Rattle.awk_lanes.specs.Column.{Column}
 use Rattle.awk_lanes.specs.Places.{size_of, at, place_at}
-use Rattle.awk_layout.specs.Layout.{Layout, layouts_from, count}
-use Rattle.awk_layout.specs.Layout.{rows, optional, union}
+use Rattle.awk_layout.specs.Layout.{Layout, layouts_from, count, rows, optional, union}
 use Rattle.awk_layout.specs.Valid.{len, len_of, AllValid, AllReach, IsUnion}
 use Rattle.awk_layout.specs.Item.{item, item_of, items_across}
 use Rattle.awk_layout.specs.Typing.{layout_type, layout_types, array_type, array_items}
+use Rattle.awk_layout.proofs.Runs.{run-same}
 use Rattle.awk_axis.specs.declared.causes.Refusal.{Refusal}
 use Rattle.awk_axis.specs.declared.causes.Refusal.TheVariants.{WrongType}
 use Rattle.awk_axis.specs.declared.place.Reach.{Reach}
@@ -26,25 +25,21 @@ use Rattle.awk_axis.specs.Reach.{here, inner, passes_rows}
 use Rattle.awk_axis.specs.Causes.{first_spoil}
 use Rattle.awk_columns.specs.Columns.{lists_among}
 use Rattle.awk_columns.specs.ListClass.{Class, list_type}
-use Rattle.awk_axis.specs.ListFunction.{Giving, ListFunction, given_type}
-use Rattle.awk_axis.specs.ListFunction.{given_value}
+use Rattle.awk_axis.specs.ListFunction.{Giving, ListFunction, given_type, given_value}
 use Rattle.awk_axis.specs.Lift.{lifted_type, lifted_types, lifted_value, lifted_values, refusal_at}
 use Rattle.awk_axis.specs.Lift.{refusal_among, on_list}
 use Rattle.awk_axis.specs.Spoils.{spoil_at, spoils_at, spoil_inside, spoil_across, spoil_among}
 use Rattle.awk_columns.specs.Lists.{items_at}
 use Rattle.awk_open.specs.Opened.{AreLong}
-use Rattle.awk_open.specs.Opens.{across, item_among, OpensLists, OpensOption, OpensRow}
-use Rattle.awk_open.specs.Opens.{OpensUnion}
+use Rattle.awk_open.specs.Opens.{across, item_among, OpensLists, OpensOption, OpensRow, OpensUnion}
 use Rattle.awk_columns.specs.Parts.{AreParts, AreAlternatives}
 use Rattle.awk_gather.specs.Arrays.{array_item}
 use Rattle.awk_columns.specs.Joined.{AreOffsets, JoinsLists}
-use Rattle.awk_axis.specs.Mapped.{IsColumn, IsMapped, AreGiven}
+use Rattle.awk_axis.specs.Mapped.{IsColumn, IsMapped, AreGiven, spoil_of_all, AreMapped}
 use Rattle.awk_columns.specs.ListNode.{list_layout}
-use Rattle.awk_axis.specs.Mapped.{spoil_of_all, AreMapped}
 use Rattle.awk_columns.proofs.ListNodes.{simple-list, simple_value-list, array_type-list, len-list}
 use Rattle.awk_columns.proofs.ListNodes.{valid-list, item-list, joined_even}
-use Rattle.awk_columns.proofs.ArrayLaws.{simple_null, run_in_list, run_same}
-use Rattle.awk_columns.proofs.ArrayLaws.{option_item}
+use Rattle.awk_columns.proofs.ArrayLaws.{run_in_list, option_item}
 
 same_branches : {X : Type 0} (b : Bool) (x y : X) → x ≡ y → (if b then x else y) ≡ y
 same_branches true x y e = e
@@ -72,7 +67,7 @@ option_column u g j c x y gn o m = record {
   items = λ i p.
       option_item (at j i) (len c) (o.index.below i (omega (arith, p, o.size)))
       (simple_value (layout_type y)) (item y) (simple_value u) g (array_item c)
-      (simple_null (layout_type y)) (simple_null u) gn m.items
+      (simple_value-null (layout_type y)) (simple_value-null u) gn m.items
       ∙ ap (λ v. in_option (simple_value u) (in_option g v)) (sym (o.items i p));
 }
 
@@ -95,7 +90,7 @@ lists_column class u g s t o c z x y opens joins m =
           let a = place_at o i in
           let n = place_at o (i + 1) - place_at o i in
           item-list class (size_of s) o y even i q
-          ∙ ap list (run_same (array_item y) (λ k. simple_value u (g (array_item z k))) a n
+          ∙ ap list (run-same (array_item y) (λ k. simple_value u (g (array_item z k))) a n
           (λ k _ r. m.items k (omega (arith, r, joins.offsets.within i q))))
           ∙ sym (simple_value-list class u (in_list g (array_item x i))
           ∙ ap (λ v. in_list (simple_value u) (in_list g v))

@@ -1,47 +1,42 @@
 -- What is lifted for each outermost kind of an array, from what is lifted for its contents.
-use Rattle.std.specs.Prelude.{◌≡◌, ℕ, zero, suc, min, ◌+◌, ◌<◌, ◌≤◌, nat_lt}
-use Rattle.std.specs.Prelude.{true, false, List, [], ◌∷◌, ◌++◌, map, take, drop, length}
-use Rattle.std.specs.Prelude.{slice_get, Option, Some, None, if◌then◌else◌}
+use Rattle.std.specs.Prelude.{◌≡◌, ℕ, zero, suc, ◌+◌, ◌<◌, ◌≤◌, nat_lt, true, false, List, [], ◌∷◌}
+use Rattle.std.specs.Prelude.{◌++◌, map, take, drop, length, slice_get, Option, Some, None}
+use Rattle.std.specs.Prelude.{if◌then◌else◌}
 use Rattle.std.proofs.Common.{arith, ap, sym, ◌∙◌, add-one}
 use Rattle.std.specs.List.{range_with_len, flat_map}
 use Rattle.awk_base.proofs.Truths.{nat_lt-none}
 use Rattle.awk_base.proofs.Lists.{drop_suc-get, take_suc-get}
-use Rattle.awk_types.specs.DataType.{Name, DataType, DataTypes, unknown, uni, opt, var, types_from}
-use Rattle.awk_types.specs.DataType.{depth, depths, greatest, row_type}
-use Rattle.awk_types.specs.Value.{Value, null}
+use Rattle.awk_types.specs.DataType.{Name, DataType, types_from, depth, depths, greatest}
+use Rattle.awk_types.specs.Value.{Value}
 use Rattle.awk_types.specs.Simple.{simple, simple_value}
 use Rattle.awk_types.specs.ItemLimit.{item_limit}
 use Rattle.awk_lanes.specs.Column.{Column}
 use Rattle.awk_lanes.specs.Places.{size_of}
-use Rattle.awk_layout.specs.Layout.{Layout, layouts_from, rows, optional, union, offset_lists}
+use Rattle.awk_layout.specs.Layout.{Layout, layouts_from, rows, optional, union}
 use Rattle.awk_layout.specs.Valid.{len}
-use Rattle.awk_lanes.specs.declared.kind.Kind.TheVariants.{I64}
 use Rattle.awk_axis.proofs.CauseLaws.{sooner-both, first_spoil-assoc, first_spoil-none}
 use Rattle.awk_axis.proofs.IndexLaws.{spoil_at-never, first_spoil-size}
 use Rattle.awk_layout.specs.Typing.{array_type, array_items}
 use Rattle.awk_axis.specs.declared.causes.Spoil.{Spoil}
 use Rattle.awk_axis.specs.declared.causes.Spoil.TheVariants.{Size}
 use Rattle.awk_axis.specs.declared.place.Reach.{Reach}
-use Rattle.awk_axis.specs.declared.place.Reach.TheVariants.{Axis}
 use Rattle.awk_axis.specs.Reach.{here, inner}
 use Rattle.awk_axis.specs.Causes.{first_spoil}
 use Rattle.awk_columns.specs.ListClass.{Class, list_type}
 use Rattle.awk_axis.specs.ListFunction.{Giving, lists, singles, ListFunction, NeverIndex}
 use Rattle.awk_axis.specs.ListFunction.{given_type, given_value, given_class}
-use Rattle.awk_axis.specs.Lift.{lifted_type, lifted_value, on_list}
-use Rattle.awk_axis.specs.Lift.{refusal_at, refusal_among, nested}
+use Rattle.awk_axis.specs.Lift.{lifted_type, lifted_value, on_list, refusal_at, refusal_among}
 use Rattle.awk_axis.specs.Spoils.{spoil_at, too_many}
 use Rattle.awk_axis.specs.Taken.{told}
 use Rattle.awk_columns.specs.Lists.{items_at, all_items_at}
-use Rattle.awk_open.specs.Opens.{OpensLists, OpensOption, OpensRow, OpensUnion, OpensNothing}
+use Rattle.awk_open.specs.Opens.{OpensLists, OpensOption, OpensRow, OpensUnion}
 use Rattle.awk_gather.specs.Arrays.{array_item}
 use Rattle.awk_columns.specs.Joined.{AreOffsets, JoinsLists, total}
 use Rattle.awk_axis.specs.declared.lift.Mapped.{Mapped}
 use Rattle.awk_axis.specs.declared.lift.Mapped.TheVariants as mapped
-use Rattle.awk_axis.specs.Mapped.{GivesLists, IsColumn, IsMapped, IsAtAxis, IsLifted}
-use Rattle.awk_columns.specs.ListNode.{AreEven}
-use Rattle.awk_columns.specs.ListNode.{list_layout}
-use Rattle.awk_axis.specs.Mapped.{spoil_of_all, AreMapped}
+use Rattle.awk_axis.specs.Mapped.{GivesLists, IsColumn, IsMapped, IsAtAxis, IsLifted, spoil_of_all}
+use Rattle.awk_axis.specs.Mapped.{AreMapped}
+use Rattle.awk_columns.specs.ListNode.{AreEven, list_layout}
 use Rattle.awk_counts.specs.Counted.{spans}
 use Rattle.awk_columns.specs.Reached.{IsReached}
 use Rattle.awk_open.proofs.OpenedLists.{lists-inner, lists-among}
@@ -276,11 +271,6 @@ gives_column (lists class typ items) c s e o y z h =
     given_column (class c) (typ (array_type y)) (items (array_type y)) s e o y z h
 gives_column (singles typ value) c s e o y z h = absurd h
 
--- ---- unknown: there are no lists
-
-no_lists : (s e : Column) (x : Layout) → size_of s ≡ 0 → all_items_at s e x ≡ []
-no_lists s e x p = ap (λ n. map (items_at s e x) (range_with_len 0 n)) p
-
 -- ---- refusals and depths of contents
 
 pub refusal-get : (f : ListFunction) (k : Reach) (xs : List Layout) (i : ℕ) (x : Layout)
@@ -293,21 +283,6 @@ refusal-get f k (y ∷ xs) zero x e h = let q : y ≡ x = cc in
 refusal-get f k (y ∷ xs) (suc i) x e h =
     refusal-get f k xs i x e (sooner-both (refusal_at f k (array_type y))
     (refusal_among f k (types_from (map array_type xs))) h).1
-
-pub depth-list : (class : Class) (t : DataType) → depth (list_type class t) ≡ depth t + 1
-depth-list None t = omega arith
-depth-list (Some n) t = omega arith
-
-pub depth-row : (names : Option (List Name)) (ts : DataTypes)
-    → depth (row_type names ts) ≡ greatest (depths ts) + 1
-depth-row None ts = omega arith
-depth-row (Some ns) ts = omega arith
-
-pub depth-option : (t : DataType) → depth (opt t) ≡ depth t + 1
-depth-option t = omega arith
-
-pub depth-union : (ts : DataTypes) → depth (uni ts) ≡ greatest (depths ts) + 1
-depth-union ts = omega arith
 
 -- ---- going from left to right
 

@@ -9,8 +9,7 @@ use Rattle.awk_axis.specs.Causes.{sooner}
 use Rattle.awk_axis.specs.ListFunction.{Giving, ListFunction}
 use Rattle.awk_axis.specs.Lift.{refusal_at, refusal_among, lifted_type, lifted_types}
 use Rattle.awk_axis.proofs.CauseLaws.{sooner-assoc}
-use Rattle.awk_base.proofs.Lists.{append_one}
-use Rattle.awk_base.proofs.Lists.{drop-get}
+use Rattle.awk_base.proofs.Lists.{append_one, drop-get}
 
 pub refusal_next : (f : ListFunction) (k : Reach) (ts : List DataType) (i : ℕ) (t : DataType)
     (first r s w : Option Refusal) → slice_get ts i ≡ Some t → r ≡ refusal_at f k t

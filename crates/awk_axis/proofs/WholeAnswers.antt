@@ -1,8 +1,7 @@
 -- What is told of a function of one list, applied to a whole array as one list.
-use Rattle.std.specs.Prelude.{◌≡◌, ℕ, zero, suc, ◌-◌, ◌<◌, refl, List, [], ◌∷◌, map}
+use Rattle.std.specs.Prelude.{◌≡◌, ℕ, ◌-◌, List, [], ◌∷◌, map}
 use Rattle.std.specs.Prelude.{Option, Some, None, Ok, Err, option_map, pos}
 use Rattle.std.proofs.Common.{arith, ap, ap₂, sym, ◌∙◌}
-use Rattle.std.proofs.lemmas.Int.{ints}
 use Rattle.awk_types.specs.DataType.{DataType}
 use Rattle.awk_types.specs.Datum.{Datum, arr}
 use Rattle.awk_types.specs.Gives.{refused_or}
@@ -12,12 +11,12 @@ use Rattle.awk_types.specs.Simple.{simple, simple_value}
 use Rattle.awk_types.specs.Value.{Value, list, value_list, values_from}
 use Rattle.awk_types.proofs.Trees.{value_list-from}
 use Rattle.awk_lanes.specs.Column.{Column}
-use Rattle.awk_lanes.specs.Places.{at, place_at, IsSpan}
+use Rattle.awk_lanes.specs.Places.{place_at}
 use Rattle.awk_lanes.specs.declared.kind.Kind.TheVariants.{I64}
 use Rattle.awk_layout.specs.Datum.{first_item}
 use Rattle.awk_layout.specs.Item.{run}
 use Rattle.awk_layout.specs.Layout.{Layout}
-use Rattle.awk_layout.specs.Valid.{len, IsValid}
+use Rattle.awk_layout.specs.Valid.{len}
 use Rattle.awk_layout.specs.Typing.{array_type, array_items}
 use Rattle.awk_layout.proofs.Runs.{value_list-run}
 use Rattle.awk_gather.specs.Arrays.{array_item}
@@ -28,7 +27,7 @@ use Rattle.awk_axis.specs.ListFunction.{Giving, lists, singles, ListFunction}
 use Rattle.awk_axis.specs.ListFunction.{made_type, given_type, given_value}
 use Rattle.awk_axis.specs.Lifting.{spoil_fault, on_whole}
 use Rattle.awk_axis.specs.Mapped.{AreGiven, GivesLists, GivesSingles, IsMade}
-use Rattle.awk_columns.specs.Lists.{AreLists, items_at, all_items_at}
+use Rattle.awk_columns.specs.Lists.{items_at, all_items_at}
 use Rattle.awk_columns.proofs.ArrayLaws.{array_items-at}
 use Rattle.awk_axis.proofs.JudgedTypes.{told_values}
 
@@ -37,23 +36,6 @@ abbrev pub single : ℕ → Column
 single n = record { kind = I64; items = pos n ∷ [] }
 
 -- ---- the whole array as one list
-
-whole_span : (n i : ℕ) → i < 1 → IsSpan n (at (single 0) i) (at (single n) i)
-whole_span n zero h = λ d. (omega (arith, ints), omega (arith, ints), omega (arith, ints))
-whole_span n (suc i) h = absurd (omega (arith, h))
-
-pub whole_lists : (x : Layout) → IsValid x → AreLists None (single 0) (single (len x)) x
-whole_lists x v = record {
-  spans = record {
-    start_kind = tt;
-    stop_kind = tt;
-    same_size = refl;
-    ordered = λ i h. whole_span (len x) i h;
-  };
-  fits = omega arith;
-  valid = v;
-  same_class = tt;
-}
 
 all_items : (x : Layout) → value_list (run (array_item x) 0 (len x)) ≡ array_items x
 all_items x = value_list-run (array_item x) 0 (len x) ∙ sym (array_items-at x)
@@ -121,16 +103,6 @@ lists_datum (lists class typ items) x z o h =
     ∙ ap₂ arr (sym h.typ) (sym (given_whole (class None) (typ (array_type x)) (items (array_type x))
     x z o h))
 lists_datum (singles typ value) x z o h = absurd h
-
-pub lists_within : (f : ListFunction) (x z : Layout) (o : Column) → IsTaken f x
-    → IsMade f None (single 0) (single (len x)) x (made.Lists o z) → limit (array_type z) ≡ None
-lists_within f x z o a h = ap limit (lists_type f.giving x z o h.1) ∙ a.1
-  where
-    lists_type : (g : Giving) (x z : Layout) (o : Column)
-        → GivesLists g None (single 0) (single (len x)) x o z
-        → array_type z ≡ simple (made_type g (array_type x))
-    lists_type (lists class typ items) x z o h = h.typ
-    lists_type (singles typ value) x z o h = absurd h
 
 pub whole_given : (f : ListFunction) (x z : Layout) (o : Column) → IsTaken f x
     → IsMade f None (single 0) (single (len x)) x (made.Lists o z)

@@ -1,9 +1,7 @@
 -- Worked examples of lifting, each checked by computing.
-use Rattle.std.specs.Prelude.{◌≡◌, List, [], ◌∷◌, map, pos, negsuc, codes, ℤ, Ok, Err}
-use Rattle.std.specs.Prelude.{true, refl}
+use Rattle.std.specs.Prelude.{◌≡◌, List, [], ◌∷◌, map, pos, negsuc, codes, ℤ, Ok, Err, true, refl}
 use Rattle.awk_types.specs.declared.primitive.Primitive.TheVariants.{Bool, I64}
-use Rattle.awk_types.specs.DataType.{DataType, unknown, leaf, var, reg, rec, opt, uni}
-use Rattle.awk_types.specs.DataType.{types_from}
+use Rattle.awk_types.specs.DataType.{DataType, unknown, leaf, var, reg, rec, opt, uni, types_from}
 use Rattle.awk_types.specs.Value.{Value, int, truth, null, list, row, alt, values_from}
 use Rattle.awk_types.specs.Datum.{Datum, arr, one}
 use Rattle.awk_axis.specs.DropNone.{drop_none_function}

@@ -1,12 +1,11 @@
 -- What is made of an array: its items by a function, as items of a type.
-use Rattle.std.specs.Prelude.{◌≡◌, ℕ, ◌+◌, ◌-◌, ◌*◌, ◌<◌, ◌≤◌, List, [], ◌∷◌, map, Option, Some}
-use Rattle.std.specs.Prelude.{None}
+use Rattle.std.specs.Prelude.{◌≡◌, ℕ, ◌+◌, ◌-◌, ◌<◌, List, [], ◌∷◌, map, Option, Some, None}
 use Rattle.awk_types.specs.DataType.{DataType}
 use Rattle.awk_types.specs.Value.{Value, value_list}
 use Rattle.awk_types.specs.Simple.{simple, simple_value}
 use Rattle.awk_lanes.specs.Column.{Column}
 use Rattle.awk_lanes.specs.Places.{size_of, place_at}
-use Rattle.awk_layout.specs.Layout.{Layout, offset_lists, regular}
+use Rattle.awk_layout.specs.Layout.{Layout}
 use Rattle.awk_layout.specs.Valid.{len, IsValid}
 use Rattle.awk_layout.specs.Item.{run}
 use Rattle.awk_layout.specs.Typing.{array_type, array_items}

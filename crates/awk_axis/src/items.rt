@@ -10,7 +10,7 @@ ghost use Rattle.awk_axis.specs.Spoils.{too_many};
 
 use crate::causes::{Spoil, first_of};
 use crate::function::ListOp;
-use crate::judged::{judged, made, spoilt};
+use crate::judged::{judged, spoilt};
 use crate::lift::{Mapped, lifted};
 use crate::place::Reach;
 use awk_lanes::{Arena, Steps};
@@ -51,7 +51,7 @@ pub(crate) fn on_items<'a, F: ListOp, L: Ledger>(
         Mapped::Spoiled(why) => Err(spoilt(first_of(many, why))),
         Mapped::Column(node) => match many {
             Some(why) => Err(spoilt(why)),
-            None => Ok(Datum::Arr(made(alloc, node)?)),
+            None => Ok(Datum::Arr(Array::of_node(alloc, node)?)),
         },
     }
 }
@@ -75,6 +75,6 @@ pub(crate) fn on_one<'a, F: ListOp, L: Ledger>(
     }
     match lifted(alloc, f, k, x, arena, steps)? {
         Mapped::Spoiled(why) => Err(spoilt(why)),
-        Mapped::Column(node) => Ok(Datum::One(made(alloc, node)?)),
+        Mapped::Column(node) => Ok(Datum::One(Array::of_node(alloc, node)?)),
     }
 }

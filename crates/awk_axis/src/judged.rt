@@ -1,10 +1,9 @@
 //! What types tell, before anything is made.
-ghost use Rattle.std.specs.Prelude.{◌≡◌, Some, None, IfOk, option_map};
+ghost use Rattle.std.specs.Prelude.{◌≡◌, Some, option_map};
 ghost use Rattle.awk_types.specs.Faults.{fault_told, limit_fault};
 ghost use Rattle.awk_types.specs.Limit.{limit, limit_told};
 ghost use Rattle.awk_types.specs.Simple.{simple};
 ghost use Rattle.awk_types.specs.View.{typ_of};
-ghost use Rattle.awk_layout.specs.Typing.{array_type};
 ghost use Rattle.awk_axis.specs.Faults.{IsJudged};
 ghost use Rattle.awk_axis.specs.Lift as spec;
 ghost use Rattle.awk_axis.specs.Lifting.{refusal_fault, spoil_fault};
@@ -14,9 +13,8 @@ use crate::causes::{Refusal, Spoil};
 use crate::function::ListOp;
 use crate::place::Reach;
 use crate::types::{lifted_type, refusal_at};
-use awk_layout::{Array, Node};
 use awk_types::{Fault, NoMemory, Typ, TypeFault, simple_of};
-use std::alloc::{AllocError, Global};
+use std::alloc::Global;
 
 /// The fault of a refusal.
 pub(crate) fn refused(why: Refusal) -> Fault
@@ -83,18 +81,5 @@ pub(crate) fn judged_whole<F: ListOp>(alloc: Global, f: &F, t: &Typ) -> Result<(
     match simple_of(alloc, given) {
         Ok(_) => Ok(()),
         Err(why) => Err(limited(why)),
-    }
-}
-
-/// The array of a node whose type passes no limit.
-#[tactic(auto, using(crate::proofs::JudgedTypes::making))]
-pub fn made<'a>(alloc: Global, node: Node<'a>) -> Result<Array<'a>, NoMemory>
-    requires { limit (array_type node) ≡ None }
-    ensures { IfOk result (λ array. array ≡ node.entry) }
-{
-    match Array::new(alloc, node) {
-        Ok(array) => Ok(array),
-        Err(TypeFault::NoMemory) => Err(AllocError),
-        Err(TypeFault::Depth | TypeFault::Size) => unreachable!(),
     }
 }

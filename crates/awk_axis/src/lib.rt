@@ -2,8 +2,7 @@
 //!
 //! A function is a value of `ListOp`: a refusal by the type, the type that it gives, and a maker of
 //! one column. `lift_at` applies it at an axis and `lift_deep` to the innermost lists; `Refusal`
-//! and `Spoil` are why types and values are refused. `made` makes an array of a node whose type is
-//! known to be within the limits.
+//! and `Spoil` are why types and values are refused.
 #![tactic(auto)]
 
 mod causes;
@@ -19,4 +18,3 @@ mod whole;
 pub use causes::{Refusal, Spoil};
 pub use datum::{lift_at, lift_deep};
 pub use function::{ListOp, Made};
-pub use judged::made;

@@ -2,24 +2,22 @@
 ghost use Rattle.std.specs.Prelude.{◌≡◌, ◌<◌, Some, None, false, map, IfOk};
 ghost use Rattle.awk_types.specs.DataType.{types_from};
 ghost use Rattle.awk_types.specs.ItemLimit.{item_limit};
-ghost use Rattle.awk_layout.specs.Valid.{len};
 ghost use Rattle.awk_layout.specs.Typing.{array_type};
 ghost use Rattle.awk_axis.specs.Lift as spec;
 ghost use Rattle.awk_axis.specs.declared.place.Reach.TheVariants as Reach;
 ghost use Rattle.awk_open.specs.Opens.{OpensLists, OpensOption, OpensRow, OpensUnion, OpensNothing};
-ghost use Rattle.awk_columns.specs.Joined.{AreOffsets, total};
+ghost use Rattle.awk_columns.specs.Joined.{total};
 ghost use Rattle.awk_axis.specs.Causes.{first_spoil};
 ghost use Rattle.awk_axis.specs.Reach.{here};
 ghost use Rattle.awk_axis.specs.Taken.{told, IsTaken};
 ghost use Rattle.awk_axis.specs.declared.causes.Spoil.TheVariants as Spoil;
-ghost use Rattle.awk_columns.specs.ListNode.{AreEven, list_layout};
 ghost use Rattle.awk_axis.specs.Mapped.{IsAtAxis, IsLifted, AreLifted};
 
 use crate::causes::{Spoil, first_of, sooner_spoil};
 use crate::function::{ListOp, Made};
 use crate::place::Reach;
 use crate::types::MOST_LISTS;
-use awk_columns::{Joined, Lists};
+use awk_columns::{Joined, Lists, list_node};
 use awk_lanes::{Arena, Kind, Lane, LaneMaker, NoMemory, Num, Steps};
 use awk_layout::{Array, Arrays, Node, Nodes};
 use awk_open::{Opened, open_array};
@@ -39,26 +37,6 @@ pub enum Mapped<'a> {
 pub enum AllMapped<'a> {
     Spoiled(Spoil),
     Columns(Nodes<'a>),
-}
-
-/// Lists over their content: even ones of a sized class.
-fn list_node<'a, L: Ledger>(
-    alloc: Global,
-    class: Option<u64>,
-    n: u64,
-    offsets: Lane<'a>,
-    content: Node<'a>,
-    steps: &mut Steps<L>,
-) -> Result<Node<'a>, NoMemory>
-    requires offsets { AreOffsets offsets n (len content) }
-    requires even { AreEven class offsets n }
-    ensures { IfOk result (λ y. y ≡ list_layout class n offsets.entry content.entry) }
-{
-    let content = Box::new(alloc, content)?;
-    match class {
-        None => Ok(Node::list_offset(offsets, content, steps)),
-        Some(size) => Ok(Node::regular(size, n, content, steps)),
-    }
 }
 
 /// What the function makes of a column of lists, as one node.

@@ -1,10 +1,9 @@
 //! A function of one list, applied to a whole array as one list.
-ghost use Rattle.std.specs.Prelude.{◌≡◌, ◌∷◌, [], ◌<◌, ◌^◌, None, IfOk, pos};
+ghost use Rattle.std.specs.Prelude.{◌≡◌, ◌<◌, None, IfOk};
 ghost use Rattle.awk_types.specs.Faults.{fault_told};
 ghost use Rattle.awk_types.specs.Gives.{Gives};
 ghost use Rattle.awk_types.specs.Limit.{limit};
 ghost use Rattle.awk_types.specs.Simple.{simple};
-ghost use Rattle.awk_lanes.specs.declared.kind.Kind.TheVariants as Kind;
 ghost use Rattle.awk_layout.specs.Datum.{datum_of, IsDatum};
 ghost use Rattle.awk_layout.specs.Typing.{array_type, array_items};
 ghost use Rattle.awk_axis.specs.Lifting as spec;
@@ -12,24 +11,14 @@ ghost use Rattle.awk_axis.specs.ListFunction.{made_type};
 ghost use Rattle.awk_axis.specs.OneList.{one_list};
 
 use crate::function::{ListOp, Made};
-use crate::judged::{judged_whole, made, spoilt};
+use crate::judged::{judged_whole, spoilt};
 use awk_columns::Lists;
-use awk_lanes::{Arena, Kind, Lane, LaneMaker, NoMemory, Steps, number};
+use awk_lanes::{Arena, Steps, one_number};
 use awk_layout::{Array, Datum};
 use awk_types::Fault;
 use awk_view::settled;
 use std::alloc::Global;
 use std::sync::ledger::Ledger;
-
-/// A lane of one number.
-fn one_number<'a>(n: u64, arena: &'a Arena) -> Result<Lane<'a>, NoMemory>
-    requires { n < 2 ^ 63 }
-    ensures { IfOk result (λ r. r ≡ record { kind = Kind.I64; items = pos n ∷ [] }) }
-{
-    let mut maker = LaneMaker::new(Kind::I64, 1, arena)?;
-    maker.push(number(n));
-    Ok(maker.finish())
-}
 
 /// What the function gives for one list, settled.
 fn given_one<'a, F: ListOp, L: Ledger>(
@@ -50,9 +39,9 @@ fn given_one<'a, F: ListOp, L: Ledger>(
 {
     match f.column(alloc, lists, arena, steps)? {
         Made::Spoiled(why) => Err(spoilt(why)),
-        Made::Lists { content, .. } => Ok(Datum::Arr(made(alloc, content)?)),
+        Made::Lists { content, .. } => Ok(Datum::Arr(Array::of_node(alloc, content)?)),
         Made::Singles(node) => {
-            let one = made(alloc, node)?;
+            let one = Array::of_node(alloc, node)?;
             Ok(settled(alloc, &one, steps)?)
         }
     }

@@ -1,7 +1,8 @@
 -- What holds of every item of a list.
 use Rattle.std.specs.List.{AllByRecursion, range_with_len, flat_map}
-use Rattle.std.proofs.Common.{ℕ, zero, suc, take, ◌-◌, arith}
-use Rattle.std.specs.Prelude.{List, [], ◌∷◌, ◌++◌, drop, slice_range, ◌+◌, ◌<◌, ◌≤◌, map}
+use Rattle.std.proofs.Common.{ℕ, zero, suc, take, ◌-◌, arith, Some, slice_get, subst, ◌≡◌}
+use Rattle.std.specs.Prelude.{List, [], ◌∷◌, ◌++◌, drop, slice_range, ◌+◌, ◌<◌, ◌≤◌, map, get_or}
+use Rattle.std.specs.Prelude.{length}
 
 -- of both of two lists, of both together
 pub all-append : {X : Type 0} (P : X → Type 0) (xs ys : List X) → AllByRecursion P xs
@@ -58,3 +59,17 @@ pub all-map : {X : Type 0} (P : X → Type 0) (f : ℕ → X) (a m : ℕ) → ((
 all-map P f a zero h = tt
 all-map P f a (suc m) h =
     (h a (omega arith), all-map P f (a + 1) m (λ i l. h i (omega (arith, l))))
+
+-- of the one that `get` gives
+pub all-get : {X : Type 0} (P : X → Type 0) (xs : List X) (i : ℕ) (x : X) → slice_get xs i ≡ Some x
+    → AllByRecursion P xs → P x
+all-get P [] i x e h = cc
+all-get P (y ∷ xs) zero x e h = let f : y ≡ x = cc in subst P f h.0
+all-get P (y ∷ xs) (suc i) x e h = all-get P xs i x e h.1
+
+-- of the one at a place
+pub all-at : {X : Type 0} (P : X → Type 0) (xs : List X) (k : ℕ) (d : X) → AllByRecursion P xs
+    → k < length xs → P (get_or xs k d)
+all-at P [] k d h l = absurd (omega (arith, l))
+all-at P (x ∷ xs) zero d h l = h.0
+all-at P (x ∷ xs) (suc k) d h l = all-at P xs k d h.1 (omega (arith, l))

@@ -12,7 +12,7 @@ use Rattle.awk_lanes.specs.Column.{Column}
 use Rattle.awk_lanes.specs.Making.{Making, with_item}
 use Rattle.awk_lanes.specs.Places.{place_at}
 use Rattle.awk_lanes.specs.declared.kind.Kind.TheVariants.{I64}
-use Rattle.awk_lanes.proofs.CountedLanes.{length-numbers}
+use Rattle.awk_lanes.proofs.CountedLanes.{length-numbers, before-equal}
 use Rattle.awk_lanes.proofs.MadeLanes.{IsSoFar, so_far_pushed}
 use Rattle.awk_numbers.proofs.PartLaws.{slice_range-map}
 use Rattle.awk_parts.specs.Parts.{AreParts, part_at}
@@ -20,7 +20,6 @@ use Rattle.awk_bins.specs.Bins.{intervals, count_in, count_under, count_over}
 use Rattle.awk_bins.specs.Edges.{are_edges}
 use Rattle.awk_bins.specs.Tallies.{tallies}
 use Rattle.awk_bins.proofs.BinLaws.{many, tally_in, tally_under, tally_over}
-use Rattle.awk_bins.proofs.RangeLaws.{before-same}
 use Rattle.awk_bins.proofs.TallyLaws.{length-tallies, get_or-tallies, tallies_few}
 
 -- ---- a row of tallies
@@ -143,7 +142,7 @@ module _ (es : List ℤ) (h : are_edges es ≡ true) (part : ℕ → List ℤ) (
   length-counts : length (counts i) ≡ i * intervals es
   length-counts =
       length-numbers (λ i. intervals es) (λ i k. pos (count_in es (part i) k)) i
-      ∙ before-same (intervals es) i
+      ∙ before-equal (intervals es) i
 
   -- there is room for the counts of one more
   pub counts_room : (row : List ℕ) (m : Making) → row ≡ tallies es (part i) → i < n

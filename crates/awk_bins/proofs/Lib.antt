@@ -2,7 +2,6 @@ pub mod EdgeLaws
 pub mod NearLaws
 pub mod EvenLaws
 pub mod TallyLaws
-pub mod RangeLaws
 pub mod BinLaws
 pub mod CountLaws
 pub mod SumLaws

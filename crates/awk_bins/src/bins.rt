@@ -12,12 +12,12 @@ ghost use Rattle.awk_bins.specs.Near.{AreNear};
 use crate::edges::{Edges, near_edges};
 use crate::even::even_edges;
 use crate::number::Number;
-use crate::offsets::offset_at;
 use crate::tallies::tally_row;
 use awk_lanes::{
     Arena, Index, IndexMaker, Kind, Lane, NoMemory, Steps, index_of, nats_of, number, numbers_of,
 };
 use awk_numbers::{Whole, whole_of};
+use awk_parts::offset_at;
 use std::alloc::{AllocError, Global};
 use std::sync::ledger::Ledger;
 

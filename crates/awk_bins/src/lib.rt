@@ -7,7 +7,6 @@ mod bins;
 mod edges;
 mod even;
 mod number;
-mod offsets;
 mod tallies;
 
 pub use bins::{Binned, bins_of};

@@ -1,12 +1,11 @@
 -- Arrays of values made one after another: those of a list and those of an object.
 use Rattle.std.proofs.Common.{◌≡◌, List, [], ◌∷◌, ◌++◌, map, length, refl, ap, ap₂, sym, subst}
 use Rattle.std.proofs.Common.{◌∙◌, Some, None, suc}
-use Rattle.serde_json.specs.Data.{Data, array, object, Items, no_items, item}
-use Rattle.serde_json.specs.Data.{Members, no_members, member}
-use Rattle.awk_types.specs.DataType.{Name, unknown, var, rec, types_from}
+use Rattle.serde_json.specs.Data.{Data, object, Items, no_items, item, Members, no_members, member}
+use Rattle.awk_types.specs.DataType.{Name, unknown, rec, types_from}
 use Rattle.awk_types.specs.Limit.{limit}
 use Rattle.awk_types.specs.Names.{AreDistinct}
-use Rattle.awk_types.specs.Value.{list, row, values_from}
+use Rattle.awk_types.specs.Value.{row, values_from}
 use Rattle.awk_layout.specs.Layout.{Layout, layouts_from}
 use Rattle.awk_layout.specs.Typing.{array_type, array_items}
 use Rattle.awk_layout.specs.Valid.{AllReach, AreNames}
@@ -77,15 +76,6 @@ items_made ds xs x h e f =
           ∙ arrays_items (carriers_of unknown ds).each ds xs h
           ∙ sym (list_carried ds (are_typed ds plain));
     }
-
-pub list_made : (ds : Items) (x y : Layout) → IsArrayOfItems ds x → array_type y
-    ≡ var (array_type x)
-    → array_items y ≡ list (values_from (array_items x)) ∷ [] → IsArrayOf (array ds) y
-list_made ds x y h e f = record {
-  plain = h.plain;
-  typ = e ∙ ap var h.typ;
-  items = f ∙ ap (λ vs. list (values_from vs) ∷ []) h.items;
-}
 
 -- ---- objects
 

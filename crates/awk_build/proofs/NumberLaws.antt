@@ -1,5 +1,5 @@
 -- A list of whole numbers is of int64, and has them as its items.
-use Rattle.std.proofs.Common.{◌≡◌, ℕ, zero, suc, ◌<◌, List, [], ◌∷◌, ◌++◌, length, map, get_or}
+use Rattle.std.proofs.Common.{◌≡◌, ◌<◌, List, [], ◌∷◌, ◌++◌, length, map}
 use Rattle.std.proofs.Common.{refl, ap, ap₂, sym, subst, ◌∙◌, arith, append-nil, append_assoc}
 use Rattle.std.proofs.Common.{ℤ, pos, negsuc, SFits, to_z, of_z, w64}
 use Rattle.std.specs.List.{AllByRecursion}
@@ -10,7 +10,6 @@ use Rattle.awk_types.specs.DataType.{unknown, leaf}
 use Rattle.awk_types.specs.Has.{Holds}
 use Rattle.awk_types.specs.Value.{Value, int}
 use Rattle.awk_types.specs.declared.primitive.Primitive.TheVariants.{I64}
-use Rattle.awk_lanes.specs.Ranges.{IsNumber}
 use Rattle.awk_lanes.specs.declared.kind.Kind.TheVariants as Kinds
 use Rattle.awk_layout.specs.Layout.{Layout, flat}
 use Rattle.awk_layout.specs.Typing.{array_type, array_items}
@@ -79,12 +78,6 @@ pub numbers_hold : (ds : Items) (zs : List ℤ) → AreNumbersOf ds zs no_items
 numbers_hold ds [] h = tt
 numbers_hold no_items (z ∷ zs) h = absurd h
 numbers_hold (item d ds) (z ∷ zs) h = (number_holds d z h.0, numbers_hold ds zs h.1)
-
-pub lane_holds : (zs : List ℤ) (i : ℕ) → AllByRecursion (Holds I64) zs
-    → IsNumber Kinds.I64 (get_or zs i (pos 0))
-lane_holds [] i h = (omega (arith, ints), omega (arith, ints))
-lane_holds (z ∷ zs) zero h = h.0
-lane_holds (z ∷ zs) (suc i) h = lane_holds zs i h.1
 
 -- ---- a list of numbers
 

@@ -1,17 +1,13 @@
 -- Arrays of one value.
 use Rattle.std.proofs.Common.{◌≡◌, ℕ, zero, suc, ◌+◌, ◌-◌, ◌<◌, ◌≤◌, List, [], ◌∷◌, map, refl, ap}
-use Rattle.std.proofs.Common.{sym, ◌∙◌, arith, length, get_or, Some, None, Bool}
-use Rattle.std.proofs.Common.{true, false}
-use Rattle.std.specs.Prelude.{ℤ, pos, negsuc, ◌<ℤ◌, ◌^◌, nat_lt, if◌then◌else◌}
+use Rattle.std.proofs.Common.{sym, ◌∙◌, arith, length, get_or, Some}
+use Rattle.std.specs.Prelude.{pos}
 use Rattle.std.specs.List.{range_with_len}
-use Rattle.std.proofs.lemmas.Int.{ints}
-use Rattle.serde_json.specs.Data.{Num, unsigned, negative, float, null}
-use Rattle.serde_json.specs.Find.{as_i64}
+use Rattle.serde_json.specs.Data.{null}
 use Rattle.awk_types.specs.DataType.{Name}
-use Rattle.awk_types.specs.Value.{Value, Values, value, list, row, values_from}
+use Rattle.awk_types.specs.Value.{Value, value, list, row, values_from}
 use Rattle.awk_types.specs.Value as values
 use Rattle.awk_lanes.specs.Column.{Column}
-use Rattle.awk_lanes.specs.Places.{at}
 use Rattle.awk_lanes.specs.declared.kind.Kind.TheVariants.{I64}
 use Rattle.awk_layout.proofs.ArrayItems.{length-array_items, get_or-array_items}
 use Rattle.awk_layout.specs.Item.{item, run}
@@ -20,39 +16,8 @@ use Rattle.awk_layout.specs.Typing.{array_items, layout_type}
 use Rattle.awk_types.specs.Simple.{simple_value}
 use Rattle.awk_layout.specs.Valid.{len}
 use Rattle.awk_gather.specs.Arrays.{array_item}
-use Rattle.awk_open.proofs.OpenedKinds.{item-offset_lists, item-rows}
-use Rattle.awk_plain.specs.Plain.{fits, is_whole, number_in}
-
--- ---- numbers and truth values
-
-small : (n : ℕ) (z : ℤ) (b : Bool) → (if b then Some (pos n) else None) ≡ Some z → pos n ≡ z
-small n z true e = cc
-small n z false e = absurd (cc)
-
--- the number that a whole one is as int64
-pub same_number : (n : Num) (z : ℤ) → as_i64 n ≡ Some z → number_in n ≡ z
-same_number (unsigned n) z e = small n z (nat_lt n (2 ^ 63)) e
-same_number (negative y) z e = cc
-same_number (float x) z e = absurd (cc)
-
-fitting : (n : ℕ) (b : Bool) → b ≡ true → (if b then Some (pos n) else None) ≡ None → ⊥
-fitting n true f e = cc
-fitting n false f e = cc
-
--- a whole number that fits is one
-pub number_fits : (n : Num) → is_whole n ≡ true → fits n ≡ true → as_i64 n ≡ None → ⊥
-number_fits (unsigned n) w f e = fitting n (nat_lt n (2 ^ 63)) f e
-number_fits (negative y) w f e = cc
-number_fits (float x) w f e = cc
-
--- ---- null
-
-abbrev nulls : Column
-nulls = record { kind = I64; items = negsuc 0 ∷ [] }
-
-null_below : (i : ℕ) → i < 1 → at nulls i <ℤ pos 0
-null_below zero h = omega (arith, ints)
-null_below (suc i) h = absurd (omega (arith, h))
+use Rattle.awk_columns.proofs.ArrayLaws.{item-offset_lists}
+use Rattle.awk_open.proofs.OpenedKinds.{item-rows}
 
 -- ---- a list
 

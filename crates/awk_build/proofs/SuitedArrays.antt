@@ -12,10 +12,10 @@ use Rattle.awk_types.specs.Limit.{limit}
 use Rattle.awk_types.specs.Simple.{IsSimple}
 use Rattle.awk_types.specs.View.{typ_of}
 use Rattle.awk_types.specs.declared.typ.Typ.{Typ}
+use Rattle.awk_types.proofs.PartLimits.{within_var}
 use Rattle.awk_layout.specs.Array.{IsArrayType}
 use Rattle.awk_layout.specs.Layout.{Layout}
 use Rattle.awk_layout.specs.Typing.{array_datum, array_type, array_items}
-use Rattle.awk_open.proofs.PartLimits.{within_var}
 use Rattle.awk_plain.proofs.OwnValues.{list_own}
 use Rattle.awk_plain.proofs.TypedLaws.{items_typed}
 use Rattle.awk_plain.specs.IsPlain.{ArePlain}

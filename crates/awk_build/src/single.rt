@@ -1,5 +1,5 @@
 //! Arrays of one value.
-ghost use Rattle.std.specs.Prelude.{◌≡◌, ◌<◌, ◌^◌, ◌∷◌, [], Bool, None, Some, length, map, pos};
+ghost use Rattle.std.specs.Prelude.{◌≡◌, ◌<◌, ◌∷◌, [], Bool, None, Some, length, map};
 ghost use Rattle.std.specs.Prelude.{true, negsuc, IfOk};
 ghost use Rattle.serde_json.specs.Data.{boolean, null, number as whole};
 ghost use Rattle.serde_json.specs.View.{number_view};
@@ -14,7 +14,7 @@ ghost use Rattle.awk_gather.specs.Arrays.{array_item};
 ghost use Rattle.awk_plain.specs.Plain.{fits, is_whole};
 ghost use Rattle.awk_build.specs.Built.{IsArrayOf};
 
-use awk_lanes::{Arena, Kind, Lane, LaneMaker, Num, Steps, number};
+use awk_lanes::{Arena, Kind, Lane, LaneMaker, Num, Steps, one_offsets};
 use awk_layout::{Array, Node, Nodes};
 use awk_types::{Names, NoMemory, Prim};
 use serde_json::Number;
@@ -68,17 +68,6 @@ pub(crate) fn null_array<'a, L: Ledger>(
     let index = null_index(arena)?;
     let content = Box::new(alloc, Node::empty(steps))?;
     Array::of_node(alloc, Node::indexed_option(index, content, steps))
-}
-
-/// The offsets of one list of n items.
-fn one_offsets<'a>(n: u64, arena: &'a Arena) -> Result<Lane<'a>, NoMemory>
-    requires { n < 2 ^ 63 }
-    ensures { IfOk result (λ r. r ≡ record { kind = Kinds.I64; items = pos 0 ∷ pos n ∷ [] }) }
-{
-    let mut maker = LaneMaker::new(Kind::I64, 2, arena)?;
-    maker.push(number(0));
-    maker.push(number(n));
-    Ok(maker.finish())
 }
 
 /// The array of one list, which has the items of an array.

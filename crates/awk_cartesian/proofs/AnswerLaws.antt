@@ -15,6 +15,8 @@ use Rattle.awk_types.specs.Value.{Value, null, list, value_list, values_from}
 use Rattle.awk_types.specs.declared.fault.Fault.TheVariants.{Size}
 use Rattle.awk_types.proofs.RefusalLaws.{refused_or-None}
 use Rattle.awk_types.proofs.Trees.{value_list-from, values_from-list}
+use Rattle.awk_types.proofs.NullLaws.{simple_value-null, in_option-same}
+use Rattle.awk_types.proofs.ItemLimits.{over_limit, within_limit}
 use Rattle.awk_lanes.specs.Column.{Column}
 use Rattle.awk_lanes.specs.Counted.{before}
 use Rattle.awk_lanes.specs.declared.kind.Kind.TheVariants.{I64}
@@ -29,9 +31,8 @@ use Rattle.awk_layout.specs.Valid.{len}
 use Rattle.awk_layout.specs.declared.datum.Datum.{Datum}
 use Rattle.awk_layout.proofs.Runs.{value_list-run}
 use Rattle.awk_gather.specs.Arrays.{array_item}
-use Rattle.awk_open.proofs.OpenedKinds.{item-offset_lists}
 use Rattle.awk_columns.specs.Columns.{is_present, list_items, joined_items}
-use Rattle.awk_columns.proofs.ArrayLaws.{array_items-at, simple_null, in_option_same}
+use Rattle.awk_columns.proofs.ArrayLaws.{array_items-at, item-offset_lists}
 use Rattle.awk_places.specs.Places.{place_count}
 use Rattle.awk_places.specs.Products.{product_count}
 use Rattle.awk_columns.proofs.OffsetLaws.{are_offsets, offset-length}
@@ -39,7 +40,6 @@ use Rattle.awk_merge_operands.specs.Concatenate.{row_of, row_count}
 use Rattle.awk_merge_operands.specs.Operands.{column_in, list_place, IndexesAll}
 use Rattle.awk_merge_operands.specs.declared.operands.Axis.{Axis}
 use Rattle.awk_merge_operands.specs.declared.operands.Axis.TheVariants.{Arrays, Rows as ByRows}
-use Rattle.awk_columns.proofs.ItemLimits.{over_limit, within_limit}
 use Rattle.awk_cartesian.specs.Cartesian.{has_null_rows, item_types, product_type, row_tuples}
 use Rattle.awk_cartesian.specs.Cartesian.{rows_tuples, product_values}
 use Rattle.awk_products.specs.Tuples.{tuple_type, tuples_of}
@@ -179,7 +179,7 @@ module _ (places : Bool) (n : ℕ) (ds : List Datum) (r : Rows)
         → in_option (simple_value (layout_type lists)) (at_option (present_place b i) (item lists))
         ≡ (if b then list (values_from vs) else null)
     null_or true i vs g =
-        in_option_same (simple_value (layout_type lists)) (simple_null (layout_type lists))
+        in_option-same (simple_value (layout_type lists)) (simple_value-null (layout_type lists))
         (item lists i) ∙ g
     null_or false i vs g = refl
 

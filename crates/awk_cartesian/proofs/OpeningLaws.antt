@@ -1,7 +1,7 @@
 -- Operands as lists of rows.
 use Rattle.std.specs.Prelude.{◌≡◌, ◌==◌, refl, ℕ, zero, suc, ◌+◌, ◌<◌, ◌≤◌, true, false}
-use Rattle.std.specs.Prelude.{if◌then◌else◌, List, [], ◌∷◌, length, map, get_or}
-use Rattle.std.specs.Prelude.{Option, Some, None, is_some}
+use Rattle.std.specs.Prelude.{if◌then◌else◌, List, [], ◌∷◌, length, map, get_or, Option, Some, None}
+use Rattle.std.specs.Prelude.{is_some}
 use Rattle.std.specs.List.{AllByRecursion}
 use Rattle.std.proofs.Common.{arith, ap, ap₂, sym, ◌∙◌, subst}
 use Rattle.std.proofs.lemmas.List.FromFn.{get_or-map-range_with_len, length-map-range_with_len}
@@ -9,6 +9,7 @@ use Rattle.awk_base.proofs.Ranges.{map-same}
 use Rattle.awk_types.specs.DataType.{DataType, Name, unknown, leaf, var, reg, rec, tup, opt, uni}
 use Rattle.awk_types.specs.DataType.{types_from, row_type}
 use Rattle.awk_types.specs.Has.{Has}
+use Rattle.awk_types.specs.Parts.{list_item, IsListType}
 use Rattle.awk_types.specs.Predicates.{is_unknown}
 use Rattle.awk_types.specs.Simple.{is_option}
 use Rattle.awk_types.specs.Value.{Value, null, list, value_list, values_from}
@@ -26,20 +27,19 @@ use Rattle.awk_layout.proofs.Runs.{value_list-run}
 use Rattle.awk_gather.specs.Arrays.{array_item}
 use Rattle.awk_columns.specs.Columns.{is_present, list_items}
 use Rattle.awk_columns.specs.ListClass.{Class, list_type}
-use Rattle.awk_columns.specs.Lists.{span_length}
-use Rattle.awk_columns.specs.Lists.{Listed}
+use Rattle.awk_columns.specs.Lists.{span_length, Listed}
 use Rattle.awk_open.specs.Opens.{OpensLists, OpensOption, OpensNothing, Opens}
 use Rattle.awk_open.specs.declared.opening.Opened.{Opened}
 use Rattle.awk_open.specs.declared.opening.Opened.TheVariants as opened
 use Rattle.awk_columns.proofs.ArrayLaws.{array_items-at}
+use Rattle.awk_columns.proofs.ListTypes.{list_no_option}
 use Rattle.awk_places.proofs.ProductLaws.{are_counts, count-at}
 use Rattle.awk_combi.proofs.SpanLaws.{within}
 use Rattle.awk_merge_operands.specs.Operands.{list_place, values_by, IsListIndex}
 use Rattle.awk_merge_operands.proofs.ListPlaceLaws.{place_within, indexes_all}
-use Rattle.awk_cartesian.specs.Cartesian.{list_item, rows_item}
-use Rattle.awk_cartesian.specs.Sources.{IsOpened}
+use Rattle.awk_cartesian.specs.Cartesian.{rows_item}
+use Rattle.awk_cartesian.specs.Sources.{IsOpened, IsOfLists, IsOfNone}
 use Rattle.awk_products.specs.Sources.{IsSource, source_list, repeated, zeros}
-use Rattle.awk_cartesian.specs.Sources.{IsLists, IsOfLists, IsOfNone}
 use Rattle.awk_cartesian.specs.Spans.{first_of, length_of, first_lane, length_lane}
 use Rattle.awk_cartesian.specs.declared.sources.Source.{Source}
 
@@ -296,23 +296,19 @@ whole_opened x r v a b c d = rw (a, b, c, d) (record {
 -- ---- what can be opened
 
 no_row : (names : Option (List Name)) (ts : List DataType)
-    → IsLists (row_type names (types_from ts)) → ⊥
+    → IsListType (row_type names (types_from ts)) → ⊥
 no_row None ts h = h
 no_row (Some names) ts h = h
 
-pub only_lists : (x : Layout) (o : Opened) → Opens x o → IsLists (array_type x)
+pub only_lists : (x : Layout) (o : Opened) → Opens x o → IsListType (array_type x)
     → ((l : Listed) → o ≡ opened.Items l → ⊥) → ⊥
-only_lists x opened.Empty k h n = subst IsLists k.typ h
-only_lists x (opened.Leaf c) k h n = subst IsLists k.typ h
+only_lists x opened.Empty k h n = subst IsListType k.typ h
+only_lists x (opened.Leaf c) k h n = subst IsListType k.typ h
 only_lists x (opened.Items l) k h n = n l refl
 only_lists x (opened.Row names ys) k h n =
-    no_row names (map array_type ys) (subst IsLists k.typ h)
-only_lists x (opened.Option j y) k h n = subst IsLists k.typ h
-only_lists x (opened.Union t j ys) k h n = subst IsLists k.typ h
-
-pub lists_no_option : (class : Class) (u : DataType) → is_option (list_type class u) ≡ false
-lists_no_option None u = refl
-lists_no_option (Some n) u = refl
+    no_row names (map array_type ys) (subst IsListType k.typ h)
+only_lists x (opened.Option j y) k h n = subst IsListType k.typ h
+only_lists x (opened.Union t j ys) k h n = subst IsListType k.typ h
 
 row_no_option : (names : Option (List Name)) (ts : List DataType)
     → is_option (row_type names (types_from ts)) ≡ false
@@ -330,13 +326,13 @@ pub only_option : (x : Layout) (o : Opened) → Opens x o → is_option (array_t
 only_option x opened.Empty k h n = both_ways (array_type x) _ k.typ refl h
 only_option x (opened.Leaf c) k h n = both_ways (array_type x) _ k.typ refl h
 only_option x (opened.Items l) k h n =
-    both_ways (array_type x) _ k.typ (lists_no_option l.class (array_type l.content)) h
+    both_ways (array_type x) _ k.typ (list_no_option l.class (array_type l.content)) h
 only_option x (opened.Row names ys) k h n =
     both_ways (array_type x) _ k.typ (row_no_option names (map array_type ys)) h
 only_option x (opened.Option j y) k h n = n j y refl
 only_option x (opened.Union t j ys) k h n = both_ways (array_type x) _ k.typ refl h
 
-pub some_lists : (t : DataType) → is_some (list_item t) ≡ true → is_unknown t ≡ false → IsLists t
+pub some_lists : (t : DataType) → is_some (list_item t) ≡ true → is_unknown t ≡ false → IsListType t
 some_lists (var t) h e = tt
 some_lists (reg n t) h e = tt
 some_lists unknown h e = absurd (cc)

@@ -1,8 +1,8 @@
 -- The rows of operands, one operand after another.
-use Rattle.std.specs.Prelude.{◌≡◌, refl, ℕ, zero, suc, ◌+◌, ◌<◌, ◌≤◌, Bool, true, false, ◌&&◌, ◌||◌}
+use Rattle.std.specs.Prelude.{◌≡◌, refl, ℕ, ◌+◌, ◌<◌, ◌≤◌, Bool, true, false, ◌&&◌, ◌||◌}
 use Rattle.std.specs.Prelude.{nat_lt, List, [], ◌∷◌, ◌++◌, length, map, get_or, Option, Some, None}
 use Rattle.std.specs.Prelude.{is_some, take, ℤ}
-use Rattle.std.specs.List.{range_with_len, list_all, AllByRecursion, slice_get}
+use Rattle.std.specs.List.{range_with_len, list_all}
 use Rattle.std.proofs.Common.{arith, ap, ap₂, sym, ◌∙◌, subst, ltb-true}
 use Rattle.std.proofs.lemmas.Bool.{ltb-false}
 use Rattle.std.proofs.lemmas.List.{take_all, length-append, map-append, get_or_append_left}
@@ -15,7 +15,7 @@ use Rattle.awk_types.specs.DataType.{DataType}
 use Rattle.awk_types.specs.Datum as shown
 use Rattle.awk_types.specs.Value.{Value, null}
 use Rattle.awk_lanes.specs.declared.kind.Kind.TheVariants.{I64}
-use Rattle.awk_lanes.specs.Column.{Column}
+use Rattle.awk_lanes.specs.Column.{Column, no_places}
 use Rattle.awk_lanes.specs.Places.{option_place}
 use Rattle.awk_lanes.proofs.MadeLanes.{size-lane_of, at-lane_of}
 use Rattle.awk_layout.specs.Datum.{datum_of}
@@ -23,10 +23,10 @@ use Rattle.awk_layout.specs.Layout.{empty}
 use Rattle.awk_layout.specs.Typing.{array_type}
 use Rattle.awk_layout.specs.declared.datum.Datum.{Datum}
 use Rattle.awk_columns.specs.Columns.{is_present, list_items}
-use Rattle.awk_merge_operands.specs.Concatenate.{row_of, type_before}
+use Rattle.awk_unify.specs.FieldNames.{with_type}
+use Rattle.awk_merge_operands.specs.Concatenate.{row_of}
 use Rattle.awk_merge_operands.specs.Operands.{list_place, IndexesAll}
 use Rattle.awk_merge_operands.specs.declared.operands.Axis.{Axis}
-use Rattle.awk_places.specs.Products.{no_lane}
 use Rattle.awk_cartesian.specs.Cartesian.{operand_item, item_types}
 use Rattle.awk_products.specs.Sources.{IsSource, source_list, AreSources, list_in, lists_in}
 use Rattle.awk_cartesian.specs.Sources.{rows_in, may_be_null, IsOpened, present_place}
@@ -45,22 +45,22 @@ module _ (n : ℕ) (x : Sources) (s : Source) (h : AreSources n x) where
   abbrev y : Sources
   y = pushed x s
 
-  first-old : (j : ℕ) → j < k → get_or y.firsts j no_lane ≡ get_or x.firsts j no_lane
+  first-old : (j : ℕ) → j < k → get_or y.firsts j no_places ≡ get_or x.firsts j no_places
   first-old j p =
-      get_or_append_left x.firsts (s.first ∷ []) no_lane j (omega (arith, p, h.firsts))
+      get_or_append_left x.firsts (s.first ∷ []) no_places j (omega (arith, p, h.firsts))
 
-  length-old : (j : ℕ) → j < k → get_or y.lengths j no_lane ≡ get_or x.lengths j no_lane
+  length-old : (j : ℕ) → j < k → get_or y.lengths j no_places ≡ get_or x.lengths j no_places
   length-old j p =
-      get_or_append_left x.lengths (s.length ∷ []) no_lane j (omega (arith, p, h.lengths))
+      get_or_append_left x.lengths (s.length ∷ []) no_places j (omega (arith, p, h.lengths))
 
   content-old : (j : ℕ) → j < k → get_or y.contents j empty ≡ get_or x.contents j empty
   content-old j p = get_or_append_left x.contents (s.content ∷ []) empty j p
 
-  first-new : get_or y.firsts k no_lane ≡ s.first
-  first-new = get_or_push x.firsts s.first no_lane k h.firsts
+  first-new : get_or y.firsts k no_places ≡ s.first
+  first-new = get_or_push x.firsts s.first no_places k h.firsts
 
-  length-new : get_or y.lengths k no_lane ≡ s.length
-  length-new = get_or_push x.lengths s.length no_lane k h.lengths
+  length-new : get_or y.lengths k no_places ≡ s.length
+  length-new = get_or_push x.lengths s.length no_places k h.lengths
 
   content-new : get_or y.contents k empty ≡ s.content
   content-new = get_or_push x.contents s.content empty k refl
@@ -84,7 +84,7 @@ module _ (n : ℕ) (x : Sources) (s : Source) (h : AreSources n x) where
   }
     where
       go : (j : ℕ) → j < k + 1 → (b : Bool) → nat_lt j k ≡ b
-          → IsSource n (get_or y.firsts j no_lane) (get_or y.lengths j no_lane)
+          → IsSource n (get_or y.firsts j no_places) (get_or y.lengths j no_places)
           (get_or y.contents j empty)
       go j p true e =
           let l : j < k = ltb-true j k e in
@@ -116,22 +116,22 @@ types-more : (axis : Axis) (ds : List shown.Datum) (d : shown.Datum) (ts : List 
     → item_types axis (ds ++ d ∷ []) ≡ Some (ts ++ t ∷ [])
 types-more axis [] d ts t e f =
     let no : ts ≡ [] = cc in
-    ap (λ o. type_before o (Some [])) f ∙ ap (λ us. Some (us ++ t ∷ [])) (sym no)
+    ap (λ o. with_type o (Some [])) f ∙ ap (λ us. Some (us ++ t ∷ [])) (sym no)
 types-more axis (c ∷ ds) d ts t e f =
     go (operand_item axis c) (item_types axis ds) refl refl e
     (λ us g. types-more axis ds d us t g f)
   where
     go : (o : Option DataType) (os : Option (List DataType)) → operand_item axis c ≡ o
-        → item_types axis ds ≡ os → type_before o os ≡ Some ts
+        → item_types axis ds ≡ os → with_type o os ≡ Some ts
         → ((us : List DataType) → item_types axis ds ≡ Some us
         → item_types axis (ds ++ d ∷ []) ≡ Some (us ++ t ∷ []))
-        → type_before (operand_item axis c) (item_types axis (ds ++ d ∷ []))
+        → with_type (operand_item axis c) (item_types axis (ds ++ d ∷ []))
         ≡ Some (ts ++ t ∷ [])
     go None os a b g h = absurd (cc)
     go (Some u) None a b g h = absurd (cc)
     go (Some u) (Some us) a b g h =
         let w : u ∷ us ≡ ts = cc in
-        ap₂ type_before a (h us b) ∙ ap (λ vs. Some (vs ++ t ∷ [])) w
+        ap₂ with_type a (h us b) ∙ ap (λ vs. Some (vs ++ t ∷ [])) w
 
 -- ---- the rows of operands
 
@@ -234,9 +234,3 @@ module _ (axis : Axis) (n : ℕ) (ds : List Datum) (d : Datum) (r q : Rows) (s :
 pub all_of_no_more : (axis : Axis) (n : ℕ) (ds : List Datum) (j : ℕ) (r : Rows) → length ds ≤ j
     → AreRows axis n (take j ds) r → AreRows axis n ds r
 all_of_no_more axis n ds j r l h = subst (λ xs. AreRows axis n xs r) (take_all j ds l) h
-
-pub one_of : {X : Type 0} (P : X → Type 0) (xs : List X) (i : ℕ) (x : X) → slice_get xs i ≡ Some x
-    → AllByRecursion P xs → P x
-one_of P [] i x e h = absurd (cc)
-one_of P (y ∷ xs) zero x e h = let f : y ≡ x = cc in subst P f h.0
-one_of P (y ∷ xs) (suc i) x e h = one_of P xs i x (cc) h.1

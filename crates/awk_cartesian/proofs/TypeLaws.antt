@@ -1,18 +1,19 @@
 -- The types of operands one by one, and what operands are of which there are types.
-use Rattle.std.specs.Prelude.{◌≡◌, refl, ℕ, ◌+◌, ◌≤◌, Bool, true, false, ◌||◌}
-use Rattle.std.specs.Prelude.{List, [], ◌∷◌, ◌++◌, length, map, drop}
-use Rattle.std.specs.Prelude.{Option, Some, None, is_some, option_map}
+use Rattle.std.specs.Prelude.{◌≡◌, refl, ℕ, ◌+◌, ◌≤◌, Bool, true, false, ◌||◌, List, [], ◌∷◌, ◌++◌}
+use Rattle.std.specs.Prelude.{length, map, drop, Option, Some, None, is_some, option_map}
 use Rattle.std.specs.List.{AllByRecursion, slice_get, list_any}
 use Rattle.std.proofs.Common.{ap, ap₂, sym, ◌∙◌, subst, append_assoc}
 use Rattle.std.proofs.lemmas.List.{append-nil, drop_all}
 use Rattle.awk_types.specs.DataType.{DataType, types_from}
 use Rattle.awk_types.specs.Simple.{IsSimple, AreSimple}
 use Rattle.awk_base.proofs.Lists.{drop-get}
+use Rattle.awk_types.proofs.SimpleLaws.{simple_append}
 use Rattle.awk_layout.specs.Datum.{datum_of}
 use Rattle.awk_layout.specs.declared.datum.Datum.{Datum}
 use Rattle.awk_layout.specs.declared.datum.Datum.TheVariants.{Arr, One}
 use Rattle.awk_combi.specs.Combinations.{slot_type}
-use Rattle.awk_merge_operands.specs.Concatenate.{type_before, operand_items}
+use Rattle.awk_unify.specs.FieldNames.{with_type}
+use Rattle.awk_merge_operands.specs.Concatenate.{operand_items}
 use Rattle.awk_merge_operands.specs.Operands.{column_in}
 use Rattle.awk_merge_operands.specs.declared.operands.Axis.{Axis}
 use Rattle.awk_cartesian.specs.Cartesian.{operand_item, item_types, has_null_rows}
@@ -36,13 +37,13 @@ module _ (axis : Axis) (places : Bool) (ds : List Datum) where
   types_next j d t us ws e f g h =
       let rest : Option (List DataType) = item_types axis (map datum_of (drop (j + 1) ds)) in
       go rest
-      ∙ ap (λ o. option_map (λ ts. us ++ map (slot_type places) ts) (type_before o rest)) f
+      ∙ ap (λ o. option_map (λ ts. us ++ map (slot_type places) ts) (with_type o rest)) f
       ∙ sym (ap (λ xs. option_map (λ ts. us ++ map (slot_type places) ts)
       (item_types axis (map datum_of xs))) (drop-get ds j d e)) ∙ h
     where
       go : (o : Option (List DataType))
           → option_map (λ ts. ws ++ map (slot_type places) ts) o
-          ≡ option_map (λ ts. us ++ map (slot_type places) ts) (type_before (Some t) o)
+          ≡ option_map (λ ts. us ++ map (slot_type places) ts) (with_type (Some t) o)
       go None = refl
       go (Some ts) =
           ap Some (ap (λ vs. vs ++ map (slot_type places) ts) g
@@ -52,7 +53,7 @@ module _ (axis : Axis) (places : Bool) (ds : List Datum) where
       → None ≡ operand_item axis (datum_of d) → AreFirst j us → None ≡ all_types
   types_none j d us e f h =
       let rest : Option (List DataType) = item_types axis (map datum_of (drop (j + 1) ds)) in
-      ap (λ o. option_map (λ ts. us ++ map (slot_type places) ts) (type_before o rest)) f
+      ap (λ o. option_map (λ ts. us ++ map (slot_type places) ts) (with_type o rest)) f
       ∙ sym (ap (λ xs. option_map (λ ts. us ++ map (slot_type places) ts)
       (item_types axis (map datum_of xs))) (drop-get ds j d e)) ∙ h
 
@@ -64,11 +65,6 @@ module _ (axis : Axis) (places : Bool) (ds : List Datum) where
       (item_types axis (map datum_of xs))) (drop_all j ds l)) ∙ h
 
 -- ---- simple types
-
-simple_append : (ts us : List DataType) → AreSimple (types_from ts) → AreSimple (types_from us)
-    → AreSimple (types_from (ts ++ us))
-simple_append [] us h k = k
-simple_append (t ∷ ts) us h k = (h.0, simple_append ts us h.1 k)
 
 slot_simple : (places : Bool) (t : DataType) → IsSimple t → IsSimple (slot_type places t)
 slot_simple true t h = tt
@@ -112,7 +108,7 @@ pub record IsBefore (t : Option DataType) (ts : Option (List DataType)) : Type 0
   pub rest_is : ts ≡ Some rest
 
 before_is : (t : Option DataType) (ts : Option (List DataType)) (us : List DataType)
-    → type_before t ts ≡ Some us → IsBefore t ts
+    → with_type t ts ≡ Some us → IsBefore t ts
 before_is None ts us e = absurd (cc)
 before_is (Some t) None us e = absurd (cc)
 before_is (Some t) (Some ts) us e =

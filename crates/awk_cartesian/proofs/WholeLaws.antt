@@ -1,14 +1,14 @@
 -- The parts of a call as parts of its definition.
-use Rattle.std.specs.Prelude.{◌≡◌, ◌==◌, refl, ℕ, ◌<◌, ◌≤◌, ◌^◌, Bool, true, false}
-use Rattle.std.specs.Prelude.{◌&&◌, nat_lt, if◌then◌else◌, List, [], ◌∷◌, length, map}
-use Rattle.std.specs.Prelude.{Option, Some, None, option_map, Result, Ok, Err, IsErrAnd}
+use Rattle.std.specs.Prelude.{◌≡◌, ◌==◌, refl, ℕ, ◌<◌, ◌^◌, Bool, true, false, ◌&&◌, if◌then◌else◌}
+use Rattle.std.specs.Prelude.{List, [], ◌∷◌, length, map, Option, Some, None, option_map, Result}
+use Rattle.std.specs.Prelude.{Ok, Err, IsErrAnd}
 use Rattle.std.specs.List.{AllByRecursion, slice_get}
 use Rattle.std.proofs.Common.{arith, ap, ap₂, sym, ◌∙◌, subst}
 use Rattle.awk_types.specs.DataType.{DataType}
 use Rattle.awk_types.specs.Datum as shown
 use Rattle.awk_types.specs.Faults.{fault_of, fault_told, limit_fault}
 use Rattle.awk_types.specs.Gives.{Told, Gives, refused_or, ◌or◌}
-use Rattle.awk_types.specs.ItemLimit.{item_limit, too_many}
+use Rattle.awk_types.specs.ItemLimit.{too_many}
 use Rattle.awk_types.specs.Limit.{Limit, limit, limit_told, within, depth_limit, size_limit}
 use Rattle.awk_types.specs.Simple.{simple, IsSimple}
 use Rattle.awk_types.specs.Value.{Value}
@@ -17,18 +17,17 @@ use Rattle.awk_types.specs.declared.fault.Fault.TheVariants as fault
 use Rattle.awk_types.specs.declared.limit.TypeFault.{TypeFault}
 use Rattle.awk_types.specs.declared.limit.TypeFault.TheVariants as refused
 use Rattle.awk_types.proofs.RefusalLaws.{Told-first, Told-same, refused_or-Ok, refused_or-Err}
-use Rattle.awk_types.proofs.RefusalLaws.{or-assoc}
-use Rattle.awk_types.proofs.RefusalLaws.{or-both}
+use Rattle.awk_types.proofs.RefusalLaws.{or-assoc, or-both}
 use Rattle.awk_types.proofs.SimpleLaws.{simple_stays}
+use Rattle.awk_types.proofs.ItemLimits.{limit_kept}
 use Rattle.awk_layout.specs.Datum.{datum_of, kept}
 use Rattle.awk_layout.specs.Valid.{len}
-use Rattle.awk_layout.proofs.ArrayItems.{length-array_items}
-use Rattle.awk_layout.specs.declared.datum.Datum.TheVariants.{Arr, One}
 use Rattle.awk_layout.specs.Layout.{Layout}
 use Rattle.awk_layout.specs.Typing.{array_datum}
 use Rattle.awk_layout.specs.declared.datum.Datum.{Datum}
+use Rattle.awk_merge_operands.proofs.AnswerLaws.{first_rows}
 use Rattle.awk_merge_operands.specs.Concatenate.{are_long, row_count, lengths_fault}
-use Rattle.awk_merge_operands.specs.Operands.{array_in, column_in, rows_refused}
+use Rattle.awk_merge_operands.specs.Operands.{column_in, rows_refused}
 use Rattle.awk_merge_operands.specs.declared.operands.Axis.{Axis}
 use Rattle.awk_merge_operands.specs.declared.operands.Axis.TheVariants.{Arrays, Rows}
 use Rattle.awk_cartesian.specs.Cartesian.{item_types, product_type, product, product_by}
@@ -114,33 +113,7 @@ module _ (axis : Axis) (places : Bool) (ds : List Datum) (u : DataType)
           ∙ ap (λ f. refused_or (f or tuples_fault axis places vss)
           (shown.arr u (product_values axis places vss))) n)
 
-pub none_at : (axis : Axis) (places : Bool) (ds : List Datum)
-    → None ≡ option_map (product_type axis places (map datum_of ds))
-    (item_types axis (map datum_of ds))
-    → cartesian_at (Some axis) places (map datum_of ds) ≡ Err fault.Axis
-none_at axis places ds e = go (item_types axis (map datum_of ds)) refl e
-  where
-    go : (o : Option (List DataType)) → item_types axis (map datum_of ds) ≡ o
-        → None ≡ option_map (product_type axis places (map datum_of ds)) o
-        → cartesian_at (Some axis) places (map datum_of ds) ≡ Err fault.Axis
-    go None f g = ap (product_by axis places (map datum_of ds)) f
-    go (Some ts) f g = absurd (cc)
-
 -- ---- columns of operands
-
-kept_in : (d : Datum) → kept d ≡ array_in d
-kept_in (Arr x) = refl
-kept_in (One x) = refl
-
-pub length-kept : (d : Datum) → length (column_in d) ≡ len (kept d)
-length-kept d = length-array_items (array_in d) ∙ ap len (sym (kept_in d))
-
--- the first operand has as many items as all must have
-pub first_count : (ds : List Datum) (d : Datum) → slice_get ds 0 ≡ Some d
-    → row_count (map column_in ds) ≡ len (kept d)
-first_count [] d e = absurd (cc)
-first_count (x ∷ ds) d e =
-    let f : x ≡ d = cc in length-kept x ∙ ap (λ y. len (kept y)) f
 
 -- what the rows are refused for
 pub rows_judged : (axis : Axis) (ds : List Datum) (d : Datum) (n : ℕ) → axis ≡ Rows
@@ -151,7 +124,7 @@ rows_judged axis ds d n a e m o h =
     let vss : List (List Value) = map column_in ds in
     Told-same o (rows_fault axis vss) (rows_refused n vss) (tt {0}) (count_of axis vss)
     (ap (λ a. rows_fault a vss) a
-    ∙ ap (λ k. rows_refused k vss) (first_count ds d e ∙ sym m)) h
+    ∙ ap (λ k. rows_refused k vss) (first_rows ds d e ∙ sym m)) h
 
 -- the type within the limits
 pub type_fine : (u t : DataType) → IsSimple u → within (simple u) ≡ Ok t
@@ -173,15 +146,6 @@ listed_by axis places ds u e = go (item_types axis (map datum_of ds)) refl e
     go (Some ts) f g = all_listed axis ds ts f
 
 -- ---- rows that are not refused
-
-few_items : (n : ℕ) → too_many n ≡ None → n ≤ item_limit
-few_items n e = go (nat_lt item_limit n) refl
-  where
-    go : (b : Bool) → nat_lt item_limit n ≡ b → n ≤ item_limit
-    go true f =
-        absurd (subst (λ o. o ≡ None → ⊥)
-        (sym (ap (λ b. if b then Some fault.Size else None) f)) (λ g. cc) e)
-    go false f = grind (arith, f)
 
 is_long : (b : Bool) → (if b then None else Some fault.Lengths) ≡ None → b ≡ true
 is_long true e = refl
@@ -221,4 +185,4 @@ module _ (n : ℕ) (ds : List Datum) where
   rows_few Rows e f =
       let vss : List (List Value) = map column_in ds in
       let both = or-both (lengths_fault vss) (too_many (row_count vss)) e in
-      omega (arith, f, few_items (row_count vss) both.1)
+      omega (arith, f, limit_kept (row_count vss) both.1)

@@ -2,31 +2,26 @@
 use Rattle.std.specs.Prelude.{ℤ, Bool, false, if◌then◌else◌, List, [], ◌∷◌, length, map}
 use Rattle.std.specs.Prelude.{Option, Some, None, Result, Err, option_map}
 use Rattle.std.specs.List.{range_with_len, list_all, list_any}
-use Rattle.awk_types.specs.DataType.{DataType, unknown, var, reg, opt}
+use Rattle.awk_types.specs.DataType.{DataType, var, opt}
 use Rattle.awk_types.specs.Datum.{Datum, arr, one}
 use Rattle.awk_types.specs.Faults.{limit_fault}
 use Rattle.awk_types.specs.Gives.{refused_or, ◌or◌}
 use Rattle.awk_types.specs.ItemLimit.{too_many}
 use Rattle.awk_types.specs.Limit.{limit}
+use Rattle.awk_types.specs.Parts.{list_item}
 use Rattle.awk_types.specs.Simple.{is_option, option_if}
-use Rattle.awk_types.specs.Value.{Value, null, list, row, values_from}
+use Rattle.awk_types.specs.Value.{Value, null, list, values_from}
 use Rattle.awk_types.specs.declared.fault.Fault.{Fault}
 use Rattle.awk_types.specs.declared.fault.Fault.TheVariants as fault
 use Rattle.awk_columns.specs.Columns.{is_present, list_items, joined_items}
 use Rattle.awk_products.specs.Tuples.{tuple_type, tuples_of}
-use Rattle.awk_merge_operands.specs.Concatenate.{axis_of, type_before, operand_items}
+use Rattle.awk_unify.specs.FieldNames.{with_type}
+use Rattle.awk_merge_operands.specs.Concatenate.{axis_of, operand_items}
 use Rattle.awk_merge_operands.specs.Concatenate.{row_of, row_count, lengths_fault}
 use Rattle.awk_merge_operands.specs.declared.operands.Axis.{Axis}
 use Rattle.awk_merge_operands.specs.declared.operands.Axis.TheVariants.{Arrays, Rows}
 
 -- ---- types
-
--- what lists are of; unknown counts as lists of unknown
-abbrev pub list_item : DataType → Option DataType
-list_item unknown = Some unknown
-list_item (var t) = Some t
-list_item (reg n t) = Some t
-list_item t = None
 
 -- the same of lists that may be null
 abbrev pub rows_item : DataType → Option DataType
@@ -43,7 +38,7 @@ operand_item Rows (arr t vs) = rows_item t
 -- of all operands, or none where one has none
 abbrev pub item_types : Axis → List Datum → Option (List DataType)
 item_types axis [] = Some []
-item_types axis (d ∷ ds) = type_before (operand_item axis d) (item_types axis ds)
+item_types axis (d ∷ ds) = with_type (operand_item axis d) (item_types axis ds)
 
 -- whether an operand's rows may be null
 abbrev pub has_null_rows : Datum → Bool

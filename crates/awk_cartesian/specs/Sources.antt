@@ -1,9 +1,8 @@
 -- Operands as lists of rows.
-use Rattle.std.specs.Prelude.{◌≡◌, ℕ, ◌+◌, ◌<◌, Bool, true, false, ◌&&◌, ◌||◌}
-use Rattle.std.specs.Prelude.{if◌then◌else◌, List, [], ◌∷◌, ◌++◌}
-use Rattle.std.specs.Prelude.{length, map, get_or, Option, Some, None, is_some}
+use Rattle.std.specs.Prelude.{◌≡◌, ℕ, ◌+◌, ◌<◌, Bool, true, false, ◌&&◌, ◌||◌, if◌then◌else◌, List}
+use Rattle.std.specs.Prelude.{[], ◌∷◌, ◌++◌, length, map, get_or, Option, Some, None, is_some}
 use Rattle.std.specs.List.{list_all, list_any}
-use Rattle.awk_types.specs.DataType.{DataType, var, reg}
+use Rattle.awk_types.specs.DataType.{DataType}
 use Rattle.awk_types.specs.Value.{Value, null, list, values_from}
 use Rattle.awk_lanes.specs.Column.{Column}
 use Rattle.awk_layout.specs.Layout.{Layout}
@@ -33,12 +32,6 @@ rows_in ByRows d = column_in d
 abbrev pub may_be_null : Axis → Datum → Bool
 may_be_null Arrays d = false
 may_be_null ByRows d = has_null_rows (datum_of d)
-
--- lists of any length, or of one
-abbrev pub IsLists : DataType → Type 0
-IsLists (var t) = Unit {0}
-IsLists (reg n t) = Unit {0}
-IsLists t = ⊥
 
 -- n rows that are lists by an index
 pub record IsOfLists (j : Option Column) (n : ℕ) (l : Listed) (x : Source) : Type 0 where

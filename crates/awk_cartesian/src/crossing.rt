@@ -9,8 +9,7 @@ ghost use Rattle.awk_lanes.specs.Places.{IsOffsets, IsOptionalIndex, size_of};
 ghost use Rattle.awk_layout.specs.Datum.{datum_of, IsDatum};
 ghost use Rattle.awk_layout.specs.Typing.{array_datum};
 ghost use Rattle.awk_layout.specs.Valid.{len};
-ghost use Rattle.awk_merge_operands.specs.Concatenate as merging;
-ghost use Rattle.awk_merge_operands.specs.Operands.{column_in, rows_refused};
+ghost use Rattle.awk_merge_operands.specs.Operands.{column_in};
 ghost use Rattle.awk_cartesian.specs.Cartesian.{cartesian_at, cartesian_of};
 ghost use Rattle.awk_cartesian.specs.Cartesian.{item_types, product_type};
 ghost use Rattle.awk_cartesian.specs.Products.{row_node, product_node, counted_product, count_of};
@@ -18,40 +17,14 @@ ghost use Rattle.awk_cartesian.specs.Products.{rows_fault, IsIndexOf};
 ghost use Rattle.awk_cartesian.specs.Sources.{rows_in, IsListed};
 
 use crate::rows::opened_rows;
-use crate::typing::{axis_at, product_typ};
+use crate::typing::product_typ;
 use awk_lanes::{Arena, Lane, Steps};
 use awk_layout::{Array, Datum, Datums, Node};
-use awk_merge_operands::Axis;
+use awk_merge_operands::{Axis, axis_at, judge_rows};
 use awk_products::{Tuples, tuples_of};
-use awk_types::{Fault, ITEM_LIMIT, NoMemory, Typ, simple_of};
+use awk_types::{Fault, NoMemory, Typ, simple_of};
 use std::alloc::Global;
 use std::sync::ledger::Ledger;
-
-/// Whether all columns have n items.
-fn are_long(xs: &Datums, n: u64) -> bool
-    ensures { result ≡ merging.are_long n (map column_in xs.now) }
-{
-    for i in 0..xs.len() {
-        if xs.get(i).kept().len() != n {
-            return false;
-        }
-    }
-    true
-}
-
-/// Judges the lengths of columns that are taken row by row.
-fn judge_rows(xs: &Datums, n: u64) -> Result<(), Fault>
-    ensures { let said = rows_refused n (map column_in xs.now) in
-        Gives (λ _. tt {0}) fault_told result (refused_or said (tt {0})) }
-{
-    if !are_long(xs, n) {
-        return Err(Fault::Lengths);
-    }
-    if n > ITEM_LIMIT {
-        return Err(Fault::Size);
-    }
-    Ok(())
-}
 
 /// Lists of tuples, which are null where an index tells.
 fn row_node<'a, L: Ledger>(

@@ -1,5 +1,6 @@
 //! Operands as lists of rows.
 ghost use Rattle.std.specs.Prelude.{◌≡◌, ◌<◌, ◌∷◌, [], true, false, Some, pos, IfOk, is_some};
+ghost use Rattle.awk_types.specs.Parts.{list_item, IsListType};
 ghost use Rattle.awk_types.specs.Simple.{is_option};
 ghost use Rattle.awk_types.specs.Value.{list, values_from};
 ghost use Rattle.awk_lanes.specs.Numbers.{int_of, IsOf};
@@ -11,9 +12,8 @@ ghost use Rattle.awk_layout.specs.Valid.{len};
 ghost use Rattle.awk_gather.specs.Arrays.{array_item};
 ghost use Rattle.awk_merge_operands.specs.Operands as spec;
 ghost use Rattle.awk_merge_operands.specs.Operands.{values_by, IndexHas, IsListIndex};
-ghost use Rattle.awk_cartesian.specs.Cartesian.{list_item, rows_item, operand_item};
-ghost use Rattle.awk_cartesian.specs.Sources.{rows_in, may_be_null, IsOpened};
-ghost use Rattle.awk_cartesian.specs.Sources.{IsLists, IsOfLists, IsOfNone};
+ghost use Rattle.awk_cartesian.specs.Cartesian.{rows_item, operand_item};
+ghost use Rattle.awk_cartesian.specs.Sources.{rows_in, may_be_null, IsOpened, IsOfLists, IsOfNone};
 ghost use Rattle.awk_cartesian.specs.Spans as spans;
 ghost use Rattle.awk_open.specs.Opens.{OpensLists, OpensOption};
 
@@ -166,7 +166,7 @@ fn opened_lists<'a, L: Ledger>(
     arena: &'a Arena,
     steps: &mut Steps<L>,
 ) -> Result<Lists<'a>, NoMemory>
-    requires { IsLists (array_type x.now) }
+    requires { IsListType (array_type x.now) }
     ensures { IfOk result (λ r. OpensLists r.class r.starts r.stops r.content x.now) }
 {
     match open_array(alloc, x, arena, steps)? {

@@ -1,34 +1,23 @@
 //! The types of tuples of one item of each operand.
 ghost use Rattle.std.specs.Prelude.{◌≡◌, IfOk, IfSome, map, option_map};
 ghost use Rattle.awk_types.specs.DataType.{types_from};
+ghost use Rattle.awk_types.specs.Parts.{list_item};
 ghost use Rattle.awk_types.specs.Simple.{is_option, option_if, IsSimple, AreSimple};
 ghost use Rattle.awk_types.specs.View.{typ_of, typs_of};
 ghost use Rattle.awk_layout.specs.Datum.{datum_of};
 ghost use Rattle.awk_combi.specs.Combinations.{slot_type};
-ghost use Rattle.awk_merge_operands.specs.Concatenate.{axis_of};
 ghost use Rattle.awk_cartesian.specs.Cartesian as spec;
 ghost use Rattle.awk_cartesian.specs.Sources.{may_be_null};
 ghost use Rattle.std.specs.List.{list_any};
 
 use awk_layout::{Datum, Datums};
 use awk_merge_operands::Axis;
-use awk_types::{NoMemory, Prim, Typ, Typs, copy_type};
+use awk_types::{NoMemory, Prim, Typ, Typs, copy_type, is_optional};
 use std::alloc::Global;
-
-/// What a number is as an axis.
-pub(crate) fn axis_at(axis: i64) -> Option<Axis>
-    ensures { result ≡ axis_of axis }
-{
-    match axis {
-        0 => Some(Axis::Arrays),
-        1 => Some(Axis::Rows),
-        _ => None,
-    }
-}
 
 /// What lists of a type are of. Unknown counts as lists of unknown.
 fn list_item(t: &Typ) -> Option<&Typ>
-    ensures typ { option_map (λ u. typ_of u.now) result ≡ spec.list_item (typ_of t.now) }
+    ensures typ { option_map (λ u. typ_of u.now) result ≡ list_item (typ_of t.now) }
     ensures simple { IsSimple (typ_of t.now) → IfSome result (λ u. IsSimple (typ_of u.now)) }
 {
     match t {
@@ -96,7 +85,7 @@ fn may_be_null(x: &Datum) -> bool
     ensures { result ≡ spec.has_null_rows (datum_of x.now) }
 {
     match x {
-        Datum::Arr(x) => matches!(x.typ(), Typ::Opt(_)),
+        Datum::Arr(x) => is_optional(x.typ()),
         Datum::One(_) => false,
     }
 }

@@ -22,7 +22,7 @@ use Rattle.awk_layout.specs.Layout.{Layout}
 use Rattle.awk_layout.specs.Numbered.{IsNumbered}
 use Rattle.awk_layout.specs.Typing.{array_type, array_items}
 use Rattle.awk_layout.specs.Valid.{len, IsValid}
-use Rattle.awk_layout.proofs.ArrayItems.{length-array_items}
+use Rattle.awk_layout.proofs.ArrayItems.{length-array_items, array_items-one}
 use Rattle.awk_layout.proofs.TypedItems.{item_has}
 use Rattle.awk_gather.specs.Arrays.{array_item}
 use Rattle.awk_columns.proofs.ArrayLaws.{array_items-at}
@@ -109,15 +109,12 @@ within_limit x n e h = grind (arith, h, e, length-array_items x)
 
 -- ---- single values
 
-only_item : (x : Layout) → len x ≡ 1 → array_items x ≡ first_item x ∷ []
-only_item x e = array_items-at x ∙ ap (λ n. map (array_item x) (range_with_len 0 n)) e
-
 one_told_is : (p : Primitive) (x : Layout) → len x ≡ 1
     → told (is_large (array_type x) (first_item x ∷ []))
     (overflows p (array_type x) (first_item x ∷ [])) ≡ told_of p x
 one_told_is p x e =
     ap (λ vs. told (is_large (array_type x) vs) (overflows p (array_type x) vs))
-    (sym (only_item x e))
+    (sym (array_items-one x e))
 
 pub one_told : (p : Primitive) (x : Layout) (e : CastFault) → len x ≡ 1 → IsTold (told_of p x) e
     → Told (fault_told (fault_of e)) (cast_of p (one (array_type x) (first_item x)))
@@ -134,6 +131,6 @@ pub one_given : (p : Primitive) (x y : Layout) → len x ≡ 1 → told_of p x �
 one_given p x y n h m =
     let first : cast_value p (array_type x) (first_item x) ≡ first_item y =
     first_of_list _ _
-    (sym (ap (map (cast_value p (array_type x))) (only_item x n)) ∙ sym m.items
-    ∙ only_item y (m.size ∙ n)) in
+    (sym (ap (map (cast_value p (array_type x))) (array_items-one x n)) ∙ sym m.items
+    ∙ array_items-one y (m.size ∙ n)) in
     ap₂ refused_or (one_told_is p x n ∙ h) (ap₂ one (sym m.typ) first)

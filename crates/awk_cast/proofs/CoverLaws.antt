@@ -1,30 +1,31 @@
 -- Lists and options over what is made of their contents.
-use Rattle.std.proofs.Common.{◌≡◌, ℕ, ◌+◌, ◌-◌, ◌*◌, ◌<◌, ◌||◌, false, refl, ap, ap₂}
-use Rattle.std.proofs.Common.{sym, subst, ◌∙◌, arith}
-use Rattle.std.specs.Prelude.{ℤ, pos, negsuc, ◌<ℤ◌, Bool, List, [], ◌∷◌, Some, None}
-use Rattle.std.specs.Prelude.{slice_get}
+use Rattle.std.proofs.Common.{◌≡◌, ℕ, ◌+◌, ◌-◌, ◌*◌, ◌<◌, ◌||◌, false, refl, ap, ap₂, sym, subst}
+use Rattle.std.proofs.Common.{◌∙◌, arith}
+use Rattle.std.specs.Prelude.{ℤ, pos, negsuc, ◌<ℤ◌, Bool, List, [], ◌∷◌, Some, None, slice_get}
 use Rattle.std.proofs.lemmas.Int.{ints}
 use Rattle.std.specs.List.{list_any}
 use Rattle.awk_types.specs.DataType.{DataType, opt}
 use Rattle.awk_types.specs.Simple.{in_list, in_option}
 use Rattle.awk_types.specs.Value.{Value, null, list}
 use Rattle.awk_types.specs.declared.primitive.Primitive.{Primitive}
+use Rattle.awk_types.proofs.NullLaws.{in_option-same}
 use Rattle.awk_lanes.specs.Column.{Column}
 use Rattle.awk_lanes.specs.Places.{at, place_at, option_place}
+use Rattle.awk_layout.specs.Frames.{IsOnly}
 use Rattle.awk_layout.specs.Item.{item, run, at_option}
 use Rattle.awk_layout.specs.Layout.{Layout, optional}
 use Rattle.awk_layout.specs.Typing.{layout_type, array_type, array_items}
 use Rattle.awk_layout.specs.Valid.{len}
+use Rattle.awk_layout.proofs.Runs.{run-same}
 use Rattle.awk_gather.specs.Arrays.{array_item}
 use Rattle.awk_columns.specs.Columns.{joined_items}
 use Rattle.awk_columns.specs.ListClass.{Class, list_type}
 use Rattle.awk_columns.specs.ListNode.{AreEven, list_layout}
 use Rattle.awk_open.specs.Opens.{OpensOption}
-use Rattle.awk_columns.proofs.ArrayLaws.{in_option_same, run_in_list, run_same}
+use Rattle.awk_columns.proofs.ArrayLaws.{run_in_list}
 use Rattle.awk_columns.proofs.ListNodes.{len-list}
-use Rattle.awk_cast.specs.Cast.{cast_type, cast_value, some_node, are_many}
-use Rattle.awk_cast.specs.Cast.{told, leaf_past}
-use Rattle.awk_cast.specs.Casting.{IsCast, IsOnly, told_of, is_large_array}
+use Rattle.awk_cast.specs.Cast.{cast_type, cast_value, some_node, are_many, told, leaf_past}
+use Rattle.awk_cast.specs.Casting.{IsCast, told_of, is_large_array}
 use Rattle.awk_cast.specs.Levels.{IsListed, IsOver, covered}
 use Rattle.awk_cast.specs.declared.level.Cover.{Cover}
 use Rattle.awk_cast.specs.declared.level.Cover.TheVariants as cover
@@ -36,7 +37,7 @@ option_value : (z : ℤ) (n : ℕ) → z <ℤ pos n → (it ac : ℕ → Value) 
     → g null ≡ null → ((k : ℕ) → k < n → it k ≡ g (ac k))
     → at_option (option_place z) it ≡ in_option g (at_option (option_place z) ac)
 option_value (pos k) n h it ac g e each =
-    each k (omega (arith, ints, h)) ∙ sym (in_option_same g e (ac k))
+    each k (omega (arith, ints, h)) ∙ sym (in_option-same g e (ac k))
 option_value (negsuc k) n h it ac g e each = refl
 
 option_cast : (p : Primitive) (j : Column) (z x y : Layout) → OpensOption j z x → IsCast p z y
@@ -105,7 +106,7 @@ lists_cast p class o z x y l m = record {
       let n = place_at o (i + 1) - place_at o i in
       let f = cast_value p (array_type z) in
       list-at class (len x) o y l.even i h
-      ∙ ap list (run_same (item y) (λ k. f (array_item z k)) a n
+      ∙ ap list (run-same (item y) (λ k. f (array_item z k)) a n
       (λ k _ r. m.items k (omega (arith, r, l.offsets.within i h))))
       ∙ sym (run_in_list f (array_item z) a n)
       ∙ ap (in_list f) (sym (l.items i h))

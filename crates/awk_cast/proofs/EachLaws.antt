@@ -24,9 +24,6 @@ pub record AreSoFar (p : Primitive) (xs : List Layout) (i : ℕ) (past : Bool) (
       ≡ (past || list_any (array_overflows p) (drop i xs))
   pub made : past ≡ false → AreCast p (take i xs) ys
 
-pub none_so_far : (p : Primitive) (xs : List Layout) → AreSoFar p xs 0 false []
-none_so_far p xs = record { sizes = refl; overflow = refl; made = λ _. tt }
-
 -- ---- what is told
 
 told_size : (b c : Bool) → told b c ≡ Some fault.Size → b ≡ true

@@ -1,25 +1,14 @@
 -- The types of contents have fewer nodes.
-use Rattle.std.proofs.Common.{◌≡◌, ℕ, zero, suc, ◌+◌, ◌≤◌, List, [], ◌∷◌, map, slice_get, Option}
-use Rattle.std.proofs.Common.{Some, None, arith, sum}
+use Rattle.std.proofs.Common.{◌≡◌, ℕ, zero, suc, ◌≤◌, List, [], ◌∷◌, map, slice_get}
+use Rattle.std.proofs.Common.{Some, arith, sum}
 use Rattle.std.proofs.lemmas.Grind.{common_steps}
-use Rattle.awk_types.specs.DataType.{Name, DataType, DataTypes, types_from, row_type, nodes}
-use Rattle.awk_types.specs.DataType.{nodes_each}
+use Rattle.awk_types.specs.DataType.{types_from, nodes, nodes_each}
 use Rattle.awk_layout.specs.Layout.{Layout}
 use Rattle.awk_layout.specs.Typing.{array_type}
-use Rattle.awk_columns.specs.ListClass.{Class, list_type}
 
 -- the nodes of all types together
 abbrev pub nodes_of : List Layout → ℕ
 nodes_of xs = sum (nodes_each (types_from (map array_type xs)))
-
-nodes-list : (class : Class) (t : DataType) → nodes (list_type class t) ≡ nodes t + 1
-nodes-list None t = omega arith
-nodes-list (Some n) t = omega arith
-
-nodes-row : (names : Option (List Name)) (ts : DataTypes)
-    → nodes (row_type names ts) ≡ sum (nodes_each ts) + 1
-nodes-row None ts = omega arith
-nodes-row (Some ns) ts = omega arith
 
 pub each_falls : (xs : List Layout) (i : ℕ) (x : Layout) → slice_get xs i ≡ Some x
     → nodes (array_type x) ≤ nodes_of xs

@@ -1,19 +1,20 @@
 -- Rows and unions over what is made of their contents.
-use Rattle.std.proofs.Common.{◌≡◌, ℕ, zero, suc, ◌+◌, ◌<◌, ◌||◌, List, [], ◌∷◌, map}
-use Rattle.std.proofs.Common.{refl, ap, ap₂, sym, ◌∙◌, arith}
+use Rattle.std.proofs.Common.{◌≡◌, ℕ, zero, suc, ◌+◌, ◌<◌, ◌||◌, List, [], ◌∷◌, map, refl, ap, ap₂}
+use Rattle.std.proofs.Common.{sym, ◌∙◌, arith}
 use Rattle.std.specs.Prelude.{Bool, false, Option, Some, None}
 use Rattle.std.specs.List.{list_any}
-use Rattle.awk_types.specs.DataType.{Name, DataTypes, type, types_from}
-use Rattle.awk_types.specs.DataType.{row_type, uni}
+use Rattle.awk_types.specs.DataType.{Name, DataTypes, type, types_from, row_type, uni}
 use Rattle.awk_types.specs.Simple.{in_row, in_alternative, values_by, value_by}
 use Rattle.awk_types.specs.Value.{Value, row, alt, value, value_list, values_from}
 use Rattle.awk_types.specs.declared.primitive.Primitive.{Primitive}
 use Rattle.awk_lanes.specs.Column.{Column}
 use Rattle.awk_lanes.specs.Places.{place_at}
+use Rattle.awk_layout.specs.Frames.{framed, Frames}
 use Rattle.awk_layout.specs.Item.{items_across, item_of}
 use Rattle.awk_layout.specs.Layout.{Layout, layouts_from, count, rows, union}
 use Rattle.awk_layout.specs.Typing.{layout_types, array_type, array_items}
 use Rattle.awk_layout.specs.Valid.{len, len_of, AllReach, IsUnion}
+use Rattle.awk_layout.specs.declared.frame.Frame.{Frame}
 use Rattle.awk_gather.specs.Arrays.{array_item}
 use Rattle.awk_columns.specs.Parts.{AreParts, AreAlternatives}
 use Rattle.awk_open.specs.Opened.{AreLong}
@@ -21,9 +22,8 @@ use Rattle.awk_open.specs.Opens.{across, item_among, OpensRow, OpensUnion}
 use Rattle.awk_cast.specs.Cast.{cast_type, cast_types, cast_value, cast_values, some_node}
 use Rattle.awk_cast.specs.Cast.{some_nodes, some_part, some_alternative, are_many, leaf_past, told}
 use Rattle.awk_cast.specs.Casting.{IsCast, AreCast, told_of, told_of_all}
-use Rattle.awk_cast.specs.Levels.{AreBeside, framed, Frames}
-use Rattle.awk_cast.specs.declared.level.Frame.{Frame}
-use Rattle.awk_cast.specs.declared.level.Frame.TheVariants as frame
+use Rattle.awk_cast.specs.Levels.{AreBeside}
+use Rattle.awk_layout.specs.declared.frame.Frame.TheVariants as frame
 
 abbrev types : List Layout → DataTypes
 types xs = types_from (map array_type xs)

@@ -1,20 +1,18 @@
 -- Columns of leaves, cast.
 use Rattle.std.proofs.Common.{◌≡◌, ℕ, ◌<◌, ◌&&◌, ◌||◌, Bool, true, false, List, [], ◌∷◌, map}
 use Rattle.std.proofs.Common.{length, get_or, refl, ap, ap₂, sym, subst, ◌∙◌, arith}
-use Rattle.std.specs.Prelude.{zero, suc}
-use Rattle.std.specs.Prelude.{ℤ, pos, int_lt, int_le, cond, not, Option, Some, None, Result, Ok}
-use Rattle.std.specs.Prelude.{Err}
-use Rattle.std.specs.Prelude.{if◌then◌else◌}
-use Rattle.std.specs.List.{AllByRecursion, list_any, range_with_len}
+use Rattle.std.specs.Prelude.{zero, suc, ℤ, pos, int_lt, int_le, cond, not, Option, Some, None}
+use Rattle.std.specs.Prelude.{Result, Ok, Err, if◌then◌else◌}
+use Rattle.std.specs.List.{AllByRecursion, list_any}
 use Rattle.std.proofs.lemmas.Int.{ints}
 use Rattle.std.proofs.lemmas.List.{get_or-map, length-map}
-use Rattle.std.proofs.lemmas.Simd.{map-map, pick_l_whole}
-use Rattle.awk_types.specs.DataType.{DataType, DataTypes, unknown, leaf, var, reg, rec, tup}
-use Rattle.awk_types.specs.DataType.{opt, uni, Name, types_from, row_type}
+use Rattle.awk_types.specs.DataType.{DataType, DataTypes, unknown, leaf, var, reg, rec, tup, opt}
+use Rattle.awk_types.specs.DataType.{uni, Name, types_from, row_type}
 use Rattle.awk_types.specs.Faults.{fault_told}
 use Rattle.awk_primitives.specs.Fits.{fits}
 use Rattle.awk_types.specs.Gives.{Told}
 use Rattle.awk_types.specs.Has.{Has, Holds, least_number, greatest_number}
+use Rattle.awk_types.specs.Parts.{number_of}
 use Rattle.awk_types.specs.Simple.{simple, option_if, simple_value}
 use Rattle.awk_types.specs.Value.{Value, int, truth, null, list, row, alt}
 use Rattle.awk_types.specs.declared.fault.Fault.{Fault}
@@ -39,8 +37,8 @@ use Rattle.awk_open.specs.declared.opening.Opened.{Opened}
 use Rattle.awk_open.specs.declared.opening.Opened.TheVariants as kinds
 use Rattle.awk_open.proofs.OnlyKinds.{not_of}
 use Rattle.awk_numbers.specs.Folds.{lane_numbers}
-use Rattle.awk_leaves.specs.Values.{number_of, value_in, number_or_fault, held_by, unary_on}
-use Rattle.awk_leaves.specs.Values.{unary_at, all_values, first_fault_or}
+use Rattle.awk_leaves.specs.Values.{value_in, number_or_fault, held_by, unary_on, unary_at}
+use Rattle.awk_leaves.specs.Values.{all_values, first_fault_or}
 use Rattle.awk_leaves.specs.declared.operation.Unary.TheVariants.{Cast}
 use Rattle.awk_pointwise.specs.Sides.{lane_values}
 use Rattle.awk_pointwise.proofs.BlockLaws.{length-lane}
@@ -158,16 +156,6 @@ said_err false vs f h = cc
 leaves_told : (p q : Primitive) (x : Layout) → array_type x ≡ leaf q
     → told_of p x ≡ told false (list_any (leaf_past p) (array_items x))
 leaves_told p q x e = rw e refl
-
--- the leaves at each place of a lane
-pub lane_values-at : (c : Column)
-    → map (λ i. leaf_value c.kind (at c i)) (range_with_len 0 (size_of c)) ≡ lane_values c
-lane_values-at c =
-    sym (map-map (λ z. leaf_value c.kind (element c.kind z)) (λ i. get_or c.items i (pos 0))
-    (range_with_len 0 (size_of c)))
-    ∙ ap (map (λ z. leaf_value c.kind (element c.kind z)))
-    (pick_l_whole (pos 0) c.items (size_of c) refl)
-    ∙ sym (map-map (leaf_value c.kind) (element c.kind) c.items)
 
 pub lane_long : (x : Layout) (c : Column) → IsLaneOf x c → size_of c ≡ len x
 lane_long x c l = sym (length-lane c) ∙ sym (ap length l.values) ∙ length-array_items x

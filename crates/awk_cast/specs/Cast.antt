@@ -1,7 +1,7 @@
 -- All leaves of a datum as those of another primitive, through lists, options, records and
 -- unions.
-use Rattle.std.specs.Prelude.{ℕ, suc, ℤ, nat_lt, Bool, false, not, ◌||◌, List, [], ◌∷◌, length}
-use Rattle.std.specs.Prelude.{map, Option, Some, None, Result, if◌then◌else◌}
+use Rattle.std.specs.Prelude.{ℕ, suc, ℤ, nat_lt, Bool, false, not, ◌||◌, List, [], ◌∷◌, length, map}
+use Rattle.std.specs.Prelude.{Option, Some, None, Result, if◌then◌else◌}
 use Rattle.std.specs.List.{list_any}
 use Rattle.awk_types.specs.DataType.{DataType, DataTypes, unknown, leaf, var, reg, rec, tup, opt}
 use Rattle.awk_types.specs.DataType.{uni, no_types, type, types_from}
@@ -9,6 +9,7 @@ use Rattle.awk_types.specs.Datum.{Datum, arr, one}
 use Rattle.awk_primitives.specs.Fits.{fits}
 use Rattle.awk_types.specs.Gives.{refused_or}
 use Rattle.awk_types.specs.ItemLimit.{item_limit}
+use Rattle.awk_types.specs.Parts.{number_of}
 use Rattle.awk_types.specs.Predicates.{is_null}
 use Rattle.awk_types.specs.Simple.{in_list, in_row, in_option, in_alternative}
 use Rattle.awk_types.specs.Value.{Value, null}
@@ -16,9 +17,8 @@ use Rattle.awk_types.specs.declared.fault.Fault.{Fault}
 use Rattle.awk_types.specs.declared.fault.Fault.TheVariants.{Size, Overflow}
 use Rattle.awk_types.specs.declared.primitive.Primitive.{Primitive}
 use Rattle.awk_types.specs.declared.primitive.Primitive.TheVariants.{Bool as Truths}
-use Rattle.awk_columns.specs.Columns.{joined_items, present_values, part_values}
-use Rattle.awk_columns.specs.Columns.{alternative_values}
-use Rattle.awk_leaves.specs.Values.{number_of, value_in}
+use Rattle.awk_columns.specs.Columns.{joined_items, present_values, part_values, alternative_values}
+use Rattle.awk_leaves.specs.Values.{value_in}
 
 -- ---- types; unknown stays
 

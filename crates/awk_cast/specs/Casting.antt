@@ -7,6 +7,7 @@ use Rattle.awk_types.specs.declared.fault.Fault.{Fault}
 use Rattle.awk_types.specs.declared.fault.Fault.TheVariants as fault
 use Rattle.awk_types.specs.declared.primitive.Primitive.{Primitive}
 use Rattle.awk_lanes.specs.Column.{Column}
+use Rattle.awk_layout.specs.Frames.{IsOnly}
 use Rattle.awk_layout.specs.Item.{item}
 use Rattle.awk_layout.specs.Kinds.{primitive_of}
 use Rattle.awk_layout.specs.Layout.{Layout}
@@ -63,11 +64,6 @@ told_of p x = told (is_large_array x) (array_overflows p x)
 abbrev pub IsAnswer : Primitive → Layout → Result Layout CastFault → Type 0
 IsAnswer p x (Ok y) = (told_of p x ≡ None) × IsCast p x y
 IsAnswer p x (Err e) = IsTold (told_of p x) e
-
--- there is one array, of which this holds
-abbrev pub IsOnly : (Layout → Type 0) → List Layout → Type 0
-IsOnly P (z ∷ []) = P z
-IsOnly P zs = ⊥
 
 -- an array without contents is cast, and every other one is taken apart
 abbrev pub IsLevel : Primitive → Layout → Result Level CastFault → Type 0

@@ -4,9 +4,10 @@ use Rattle.awk_types.specs.Value.{list}
 use Rattle.awk_lanes.specs.Column.{Column}
 use Rattle.awk_lanes.specs.Places.{size_of, place_at, IsOptionalIndex}
 use Rattle.awk_layout.specs.Item.{run}
-use Rattle.awk_layout.specs.Layout.{Layout, layouts_from, count, optional, rows, union}
+use Rattle.awk_layout.specs.Layout.{Layout, optional}
 use Rattle.awk_layout.specs.Typing.{array_type, array_items}
-use Rattle.awk_layout.specs.Valid.{len, AllReach, AreNames, IsUnion}
+use Rattle.awk_layout.specs.Valid.{len}
+use Rattle.awk_layout.specs.declared.frame.Frame.{Frame}
 use Rattle.awk_gather.specs.Arrays.{array_item}
 use Rattle.awk_columns.specs.Columns.{joined_items}
 use Rattle.awk_columns.specs.Joined.{AreOffsets}
@@ -16,8 +17,7 @@ use Rattle.awk_open.specs.Opens.{OpensOption, OpensRow, OpensUnion}
 use Rattle.awk_cast.specs.Cast.{are_many}
 use Rattle.awk_cast.specs.declared.level.Cover.{Cover}
 use Rattle.awk_cast.specs.declared.level.Cover.TheVariants as cover
-use Rattle.awk_cast.specs.declared.level.Frame.{Frame}
-use Rattle.awk_cast.specs.declared.level.Frame.TheVariants as frame
+use Rattle.awk_layout.specs.declared.frame.Frame.TheVariants as frame
 
 -- ---- over one content
 
@@ -50,14 +50,3 @@ Covers n (cover.Option j) m = (size_of j < 2 ^ 63) × IsOptionalIndex j m
 abbrev pub AreBeside : Layout → Frame → List Layout → Type 0
 AreBeside x (frame.Row names) ys = OpensRow names ys x
 AreBeside x (frame.Union t j) ys = OpensUnion t j ys x
-
--- the node of n items over contents
-abbrev pub framed : ℕ → Frame → List Layout → Layout
-framed n (frame.Row names) zs = rows names n (layouts_from zs)
-framed n (frame.Union t j) zs = union t j (layouts_from zs)
-
--- a frame of n items fits contents
-abbrev pub Frames : ℕ → Frame → List Layout → Type 0
-Frames n (frame.Row names) zs =
-    (n < 2 ^ 63) × AreNames names (count (layouts_from zs)) × AllReach n (layouts_from zs)
-Frames n (frame.Union t j) zs = (size_of t < 2 ^ 63) × IsUnion t j (layouts_from zs)

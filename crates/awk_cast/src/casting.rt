@@ -9,10 +9,10 @@ ghost use Rattle.awk_cast.specs.Casting.{IsAnswer, AreAnswer, IsTaken, IsMade};
 
 use crate::fault::CastFault;
 use crate::level::{Level, level_of};
-use crate::nodes::{covered, framed};
+use crate::nodes::covered;
 use awk_kernels::Kernels;
 use awk_lanes::{Arena, Steps};
-use awk_layout::{Array, Arrays, Datum, Node, Nodes};
+use awk_layout::{Array, Arrays, Datum, Node, Nodes, framed};
 use awk_types::{Fault, ITEM_LIMIT, Prim};
 use std::alloc::Global;
 use std::sync::ledger::Ledger;

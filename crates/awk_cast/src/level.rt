@@ -1,5 +1,5 @@
 //! An array once its outermost kind is taken off.
-ghost use Rattle.std.specs.Prelude.{◌≡◌, [], ◌∷◌, false, IfOk};
+ghost use Rattle.std.specs.Prelude.{◌≡◌, false};
 ghost use Rattle.awk_layout.specs.Layout.{Layout};
 ghost use Rattle.awk_layout.specs.Typing.{array_type};
 ghost use Rattle.awk_open.specs.Opens.{OpensLists};
@@ -11,9 +11,9 @@ use crate::leaves::cast_leaves;
 use awk_columns::{Joined, Lists};
 use awk_kernels::Kernels;
 use awk_lanes::{Arena, Lane, Steps};
-use awk_layout::{Array, Arrays, Node};
+use awk_layout::{Array, Arrays, Frame, Node};
 use awk_open::{Opened, open_array};
-use awk_types::{Names, NoMemory, Prim, Typ};
+use awk_types::{Prim, Typ};
 use std::alloc::Global;
 use std::sync::ledger::Ledger;
 
@@ -26,15 +26,6 @@ pub enum Cover<'a> {
     Option(Lane<'a>),
 }
 
-/// What lies over several contents.
-#[derive(Drop)]
-pub enum Frame<'a> {
-    /// The names of a record, or none of a tuple.
-    Row(Option<Names>),
-    /// The tags and the index of a union.
-    Union(Lane<'a>, Lane<'a>),
-}
-
 /// An array once its outermost kind is taken off. The contents hold exactly what is reached.
 #[derive(Drop)]
 pub enum Level<'a> {
@@ -44,15 +35,6 @@ pub enum Level<'a> {
     Over(Cover<'a>, Arrays<'a>),
     /// Several contents in their frame.
     Beside(Frame<'a>, Arrays<'a>),
-}
-
-/// The only one.
-fn only<'a>(alloc: Global, content: Array<'a>) -> Result<Arrays<'a>, NoMemory>
-    ensures { IfOk result (λ ys. ys ≡ content.entry ∷ []) }
-{
-    let mut contents = Arrays::new(alloc);
-    contents.push(content)?;
-    Ok(contents)
 }
 
 /// Lists, over their items one list after another.
@@ -70,7 +52,7 @@ fn list_level<'a, L: Ledger>(
         Joined::TooMany => Err(CastFault::Size),
         Joined::Lists { offsets, content } => {
             let cover = Cover::Lists(lists.class(), offsets);
-            Ok(Level::Over(cover, only(alloc, content)?))
+            Ok(Level::Over(cover, Arrays::only(alloc, content)?))
         }
     }
 }
@@ -91,7 +73,7 @@ fn open_level<'a, L: Ledger>(
         Opened::Items(lists) => list_level(alloc, &lists, arena, steps),
         Opened::Row { names, columns } => Ok(Level::Beside(Frame::Row(names), columns)),
         Opened::Option { index, content } => {
-            Ok(Level::Over(Cover::Option(index), only(alloc, content)?))
+            Ok(Level::Over(Cover::Option(index), Arrays::only(alloc, content)?))
         }
         Opened::Union {
             tags,

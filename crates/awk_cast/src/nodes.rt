@@ -1,35 +1,14 @@
 //! Nodes over what is made of their contents.
 ghost use Rattle.std.specs.Prelude.{◌≡◌, ◌<◌, ◌^◌, IfOk};
 ghost use Rattle.awk_layout.specs.Valid.{len};
-ghost use Rattle.awk_columns.specs.Joined.{AreOffsets};
-ghost use Rattle.awk_columns.specs.ListNode.{AreEven, list_layout};
 ghost use Rattle.awk_cast.specs.Levels as spec;
 
-use crate::level::{Cover, Frame};
-use awk_lanes::{Lane, NoMemory, Steps};
-use awk_layout::{Node, Nodes};
+use crate::level::Cover;
+use awk_columns::list_node;
+use awk_lanes::{NoMemory, Steps};
+use awk_layout::Node;
 use std::alloc::Global;
 use std::sync::ledger::Ledger;
-
-/// Lists over their items: even ones of a sized class.
-fn list_node<'a, L: Ledger>(
-    alloc: Global,
-    class: Option<u64>,
-    n: u64,
-    offsets: Lane<'a>,
-    items: Node<'a>,
-    steps: &mut Steps<L>,
-) -> Result<Node<'a>, NoMemory>
-    requires offsets { AreOffsets offsets n (len items) }
-    requires even { AreEven class offsets n }
-    ensures { IfOk result (λ y. y ≡ list_layout class n offsets.entry items.entry) }
-{
-    let items = Box::new(alloc, items)?;
-    match class {
-        None => Ok(Node::list_offset(offsets, items, steps)),
-        Some(size) => Ok(Node::regular(size, n, items, steps)),
-    }
-}
 
 /// A node of n items over one content.
 pub(crate) fn covered<'a, L: Ledger>(
@@ -48,21 +27,5 @@ pub(crate) fn covered<'a, L: Ledger>(
             let content = Box::new(alloc, content)?;
             Ok(Node::indexed_option(index, content, steps))
         }
-    }
-}
-
-/// A node of n items over several contents.
-pub(crate) fn framed<'a, L: Ledger>(
-    n: u64,
-    frame: Frame<'a>,
-    contents: Nodes<'a>,
-    steps: &mut Steps<L>,
-) -> Node<'a>
-    requires { spec.Frames n frame contents }
-    ensures { result ≡ spec.framed n frame.entry contents.entry }
-{
-    match frame {
-        Frame::Row(names) => Node::row(names, n, contents, steps),
-        Frame::Union(tags, index) => Node::union(tags, index, contents, steps),
     }
 }

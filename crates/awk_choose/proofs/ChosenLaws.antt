@@ -3,7 +3,8 @@ use Rattle.std.proofs.Common.{◌≡◌, Bool, true, false, not, ap, ap₂, sym,
 use Rattle.std.specs.Prelude.{List, map, length, Option, Result, Ok, Err, if◌then◌else◌}
 use Rattle.std.proofs.lemmas.List.{length-map}
 use Rattle.awk_types.specs.DataType.{DataType, leaf}
-use Rattle.awk_types.specs.Datum.{Datum}
+use Rattle.awk_types.specs.Datum.{Datum, datum_type}
+use Rattle.awk_types.specs.Faults.{limit_refused}
 use Rattle.awk_types.specs.Gives.{Told, refused_or, ◌or◌}
 use Rattle.awk_types.specs.Simple.{option_if}
 use Rattle.awk_types.specs.Value.{Value}
@@ -25,10 +26,8 @@ use Rattle.awk_leaves.specs.declared.leaf_type.LeafType.{LeafType}
 use Rattle.awk_frames.specs.Framed.{over, over_type}
 use Rattle.awk_pair_operands.specs.Answer.{single_or_fault, shared_ends}
 use Rattle.awk_pair_operands.specs.Pairs.{pair_refused, pair_type, pair_values, some_array}
-use Rattle.awk_pair_operands.specs.Pairs.{datum_from}
-use Rattle.awk_pair_operands.specs.Pairs.{leaf_types, item_type}
+use Rattle.awk_pair_operands.specs.Pairs.{datum_from, leaf_types}
 use Rattle.awk_pair_sides.specs.Levels.{some_option}
-use Rattle.awk_pair_types.specs.Limits.{limit_refused}
 use Rattle.awk_pair_types.proofs.EmptyLaws.{none_told}
 use Rattle.awk_ends.specs.Operands.{leaf_in, in_primitive, leaf_of}
 use Rattle.awk_ends.proofs.DatumLaws.{IsMade, values-one, datum_shown}
@@ -42,14 +41,14 @@ pub record IsJudged (c : Datum) (a b : Operand) (ds : List Datum) (p : Primitive
     : Type 0 where
   pub given : ds ≡ choice_data c (filler_of a) (filler_of b)
   pub leaves : are_leaves ds ≡ true
-  pub judged : choice_judged (leaf_in (item_type c)) (leaf_of (filler_of a))
+  pub judged : choice_judged (leaf_in (datum_type c)) (leaf_of (filler_of a))
       (leaf_of (filler_of b)) ≡ Ok p
   pub limit : refused_or (limit_refused (result_type p ds)) (result_type p ds) ≡ Ok t
 
 judged-as : (c : Datum) (a b : Operand) (p : Primitive) (x y z : LeafType)
-    → x ≡ leaf_in (item_type c) → y ≡ leaf_of (filler_of a) → z ≡ leaf_of (filler_of b)
+    → x ≡ leaf_in (datum_type c) → y ≡ leaf_of (filler_of a) → z ≡ leaf_of (filler_of b)
     → Ok p ≡ choice_judged x y z
-    → choice_judged (leaf_in (item_type c)) (leaf_of (filler_of a)) (leaf_of (filler_of b)) ≡ Ok p
+    → choice_judged (leaf_in (datum_type c)) (leaf_of (filler_of a)) (leaf_of (filler_of b)) ≡ Ok p
 judged-as c a b p x y z e f g h =
     ap (λ x. choice_judged x (leaf_of (filler_of a)) (leaf_of (filler_of b))) (sym e)
     ∙ ap₂ (choice_judged x) (sym f) (sym g) ∙ sym h
@@ -63,7 +62,7 @@ type-as ds p o ts e f =
 
 pub is_judged : (c : Datum) (a b : Operand) (ds : List Datum) (p : Primitive) (t : DataType)
     → ds ≡ choice_data c (filler_of a) (filler_of b) → are_leaves ds ≡ true → (x y z : LeafType)
-    → x ≡ leaf_in (item_type c) → y ≡ leaf_of (filler_of a) → z ≡ leaf_of (filler_of b)
+    → x ≡ leaf_in (datum_type c) → y ≡ leaf_of (filler_of a) → z ≡ leaf_of (filler_of b)
     → Ok p ≡ choice_judged x y z → (o : Bool) (ts : List DataType) → o ≡ some_option ts
     → ts ≡ leaf_types far ds
     → refused_or (limit_refused (over_type (pair_type false far ds) (option_if o (leaf p))))

@@ -7,7 +7,7 @@ use Rattle.std.proofs.lemmas.List.{length-map}
 use Rattle.std.proofs.lemmas.Option.{slice_get_within}
 use Rattle.std.proofs.lemmas.Simd.{zip2_of_maps}
 use Rattle.std.proofs.lemmas.Bool.{and_parts, or_parts}
-use Rattle.awk_types.specs.Datum.{Datum}
+use Rattle.awk_types.specs.Datum.{Datum, datum_type}
 use Rattle.awk_types.specs.Predicates.{is_leaf}
 use Rattle.awk_types.specs.Simple.{present, is_option}
 use Rattle.awk_types.specs.Value.{Value, int}
@@ -28,7 +28,7 @@ use Rattle.awk_leaves.specs.Table.{choice_judged}
 use Rattle.awk_leaves.specs.Values.{chosen_at, chosen_values, choice_values, in_judged}
 use Rattle.awk_leaves.specs.declared.leaf_type.LeafType.{LeafType}
 use Rattle.awk_leaves.specs.declared.leaf_type.LeafType.TheVariants.{Unknown}
-use Rattle.awk_pair_operands.specs.Pairs.{typs, item_type, leaf_types}
+use Rattle.awk_pair_operands.specs.Pairs.{typs, leaf_types}
 use Rattle.awk_pair_sides.specs.Levels.{some_option}
 use Rattle.awk_ends.specs.Operands.{leaf_in, data_in, leaf_of, at_end}
 use Rattle.awk_ends.specs.Columns.{IsAmong, data_before, column_at, ends_of, leaf_at, values_at}
@@ -41,12 +41,6 @@ use Rattle.awk_choose.specs.declared.ends.End.{End}
 use Rattle.awk_choose.proofs.MaskLaws.{present-choices}
 
 -- ---- at a place of a list
-
-pub all-at : {X : Type 0} (P : X → Type 0) (xs : List X) (k : ℕ) (d : X) → AllByRecursion P xs
-    → k < length xs → P (get_or xs k d)
-all-at P [] k d h l = absurd (omega (arith, l))
-all-at P (x ∷ xs) zero d h l = h.0
-all-at P (x ∷ xs) (suc k) d h l = all-at P xs k d h.1 (omega (arith, l))
 
 -- what the column of a datum gives is what the datum gives
 pub column-at : (d : Held) (k : ℕ) (ys : List Layout) (e : End)
@@ -108,10 +102,10 @@ pub record IsGiven (x : Operand) (k : ℕ) (es : List Value) (ys : List Layout) 
   pub values : values_at (ends_of ys) x k ys ≡ map (at_end (filler_of x) k) es
 
 leaf-of : (ds : List Datum) (k : ℕ) (d : Datum) → slice_get ds k ≡ Some d
-    → get_or (map leaf_in (typs ds)) k Unknown ≡ leaf_in (item_type d)
+    → get_or (map leaf_in (typs ds)) k Unknown ≡ leaf_in (datum_type d)
 leaf-of [] k d e = absurd cc
 leaf-of (c ∷ ds) zero d e =
-    let same : c ≡ d = cc in ap (λ c. leaf_in (item_type c)) same
+    let same : c ≡ d = cc in ap (λ c. leaf_in (datum_type c)) same
 leaf-of (c ∷ ds) (suc k) d e = leaf-of ds k d e
 
 given : (ds : List Datum) (es : List Value) (ys : List Layout) (x : Operand) (k : ℕ)
@@ -154,7 +148,7 @@ pub record AreGiven (c : Datum) (a b : Operand) (es : List Value) (ys : List Lay
   pub some : 0 < length ys
   pub leaves : AreLeafColumns ys
   pub count : ends_of ys ≡ length es
-  pub leaf : leaf_in (array_type (column_at ys 0)) ≡ leaf_in (item_type c)
+  pub leaf : leaf_in (array_type (column_at ys 0)) ≡ leaf_in (datum_type c)
   pub values : array_items (column_at ys 0) ≡ map (part_at 0) es
   pub first : IsGiven a 1 es ys
   pub second : IsGiven b (suc (data_before a)) es ys
@@ -215,10 +209,10 @@ judged-values s t u cs xs ys vs h = by (choice_judged s t u) h
 
 pub given-judged : (c : Datum) (a b : Operand) (p : Primitive) (es : List Value)
     (ys : List Layout)
-    → choice_judged (leaf_in (item_type c)) (leaf_of (filler_of a)) (leaf_of (filler_of b)) ≡ Ok p
+    → choice_judged (leaf_in (datum_type c)) (leaf_of (filler_of a)) (leaf_of (filler_of b)) ≡ Ok p
     → AreGiven c a b es ys → columns_judged a b ys ≡ Ok p
 given-judged c a b p es ys judged s =
-    judged-same (leaf_in (array_type (column_at ys 0))) (leaf_in (item_type c)) (leaf_at a 1 ys)
+    judged-same (leaf_in (array_type (column_at ys 0))) (leaf_in (datum_type c)) (leaf_at a 1 ys)
     (leaf_of (filler_of a)) (leaf_at b (suc (data_before a)) ys) (leaf_of (filler_of b)) p s.leaf
     s.first.leaf s.second.leaf judged
 
@@ -233,7 +227,7 @@ rows-chosen f g h es cs xs ys e i j =
 -- as rows say it
 pub given-said : (c : Datum) (a b : Operand) (p : Primitive) (es : List Value)
     (ys : List Layout)
-    → choice_judged (leaf_in (item_type c)) (leaf_of (filler_of a)) (leaf_of (filler_of b)) ≡ Ok p
+    → choice_judged (leaf_in (datum_type c)) (leaf_of (filler_of a)) (leaf_of (filler_of b)) ≡ Ok p
     → AreGiven c a b es ys
     → columns_said a b ys ≡ Ok (map (choice_row (filler_of a) (filler_of b)) es)
 given-said c a b p es ys judged s =

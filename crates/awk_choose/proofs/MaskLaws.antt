@@ -8,6 +8,7 @@ use Rattle.std.proofs.lemmas.List.{ext_get_or}
 use Rattle.std.proofs.lemmas.List.FromFn.{get_or-map-range_with_len, length-map-range_with_len}
 use Rattle.std.proofs.lemmas.Simd.{zip2_of_maps, map-map}
 use Rattle.awk_base.proofs.Lists.{map-each}
+use Rattle.awk_types.specs.Parts.{number_of}
 use Rattle.awk_types.specs.Predicates.{is_null}
 use Rattle.awk_types.specs.Simple.{in_option, simple_value}
 use Rattle.awk_types.specs.DataType.{leaf}
@@ -20,10 +21,12 @@ use Rattle.awk_layout.specs.Item.{item, leaf_value}
 use Rattle.awk_layout.specs.Kinds.{primitive_of}
 use Rattle.awk_layout.specs.Layout.{flat, byte_masked}
 use Rattle.awk_layout.specs.Typing.{array_items}
-use Rattle.awk_leaves.specs.Values.{chosen_at, chosen_values, number_of, is_nonzero as is_true}
+use Rattle.awk_leaves.specs.Values.{chosen_at, chosen_values, is_nonzero as is_true}
 use Rattle.awk_pointwise.specs.Optional.{unless_null, masked_values}
 use Rattle.awk_pointwise.specs.Sides.{lane_values}
-use Rattle.awk_ends.proofs.LaneLaws.{lane_values-at, length-lane_values, flat-items}
+use Rattle.awk_pointwise.proofs.BlockLaws.{length-lane}
+use Rattle.awk_pointwise.proofs.SideLaws.{lane_values-at}
+use Rattle.awk_ends.proofs.LaneLaws.{flat-items}
 use Rattle.awk_choose.specs.Ends.{ArePresent}
 
 -- ---- a lane under a mask
@@ -85,7 +88,7 @@ pub present-items : (m c : Column) → size_of m ≡ size_of c → ArePresent (m
     → array_items (flat c) ≡ masked_values m c
 present-items m c s h =
     flat-items c
-    ∙ sym (all-shown m.items (lane_values c) (s ∙ sym (length-lane_values c)) h)
+    ∙ sym (all-shown m.items (lane_values c) (s ∙ sym (length-lane c)) h)
 
 -- ---- a choice among values of which none is null
 

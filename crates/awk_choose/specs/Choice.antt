@@ -3,7 +3,8 @@ use Rattle.std.specs.Prelude.{ℕ, suc, Bool, not, List, ◌∷◌, map, length,
 use Rattle.std.specs.Prelude.{false, if◌then◌else◌}
 use Rattle.std.specs.List.{list_all}
 use Rattle.awk_types.specs.DataType.{DataType, leaf}
-use Rattle.awk_types.specs.Datum.{Datum}
+use Rattle.awk_types.specs.Datum.{Datum, datum_type}
+use Rattle.awk_types.specs.Faults.{limit_refused}
 use Rattle.awk_types.specs.Gives.{refused_or, ◌or◌}
 use Rattle.awk_types.specs.Predicates.{is_leaf}
 use Rattle.awk_types.specs.Simple.{present, option_if}
@@ -17,10 +18,8 @@ use Rattle.awk_leaves.specs.Table.{choice_judged}
 use Rattle.awk_leaves.specs.Values.{chosen_at}
 use Rattle.awk_frames.specs.Framed.{over, over_type}
 use Rattle.awk_pair_operands.specs.Pairs.{pair_refused, pair_type, pair_values, some_array}
-use Rattle.awk_pair_operands.specs.Pairs.{datum_from}
-use Rattle.awk_pair_operands.specs.Pairs.{leaf_types, item_type}
+use Rattle.awk_pair_operands.specs.Pairs.{datum_from, leaf_types}
 use Rattle.awk_pair_sides.specs.Levels.{some_option}
-use Rattle.awk_pair_types.specs.Limits.{limit_refused}
 use Rattle.awk_ends.specs.Operands.{leaf_in, in_primitive, data_in, leaf_of, at_end, both_data}
 
 -- deeper than lists of any type go, so that the pairing ends at what is no list
@@ -64,7 +63,7 @@ chosen_in a b ds p =
 -- in the primitive that the types are judged to give
 abbrev pub judged_choice : Datum → Filler → Filler → Result Datum Fault
 judged_choice c a b =
-    in_primitive (choice_judged (leaf_in (item_type c)) (leaf_of a) (leaf_of b))
+    in_primitive (choice_judged (leaf_in (datum_type c)) (leaf_of a) (leaf_of b))
     (chosen_in a b (choice_data c a b))
 
 -- An end that is no leaf is a type fault, as a condition that is no truth value and items that do

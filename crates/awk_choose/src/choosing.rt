@@ -12,36 +12,27 @@ ghost use Rattle.awk_frames.specs.Framed.{IsFrame};
 ghost use Rattle.awk_frames.specs.Shape.{shape as shape_by};
 ghost use Rattle.awk_frames.specs.View.{shape_of};
 ghost use Rattle.awk_pair_operands.specs.First.{all_data};
-ghost use Rattle.awk_pair_operands.specs.Pairs.{leaf_types, pair_type, item_type};
+ghost use Rattle.awk_pair_operands.specs.Pairs.{leaf_types, pair_type};
 ghost use Rattle.awk_pair_sides.specs.Levels.{some_option};
-ghost use Rattle.awk_ends.specs.Operands.{leaf_in};
 ghost use Rattle.awk_ends.specs.Columns.{IsAmong, data_before};
 ghost use Rattle.awk_choose.specs.Choice.{far, choice_data, are_leaves, judged_choice, choose_of};
 ghost use Rattle.awk_choose.specs.Ends.{AreLeafColumns, columns_judged, columns_said};
 
 use crate::ends::{chosen_leaves, column_end, operand_end};
 use crate::types::{are_leaves, chosen_node, result_typ};
-use awk_ends::{data_before, datum_from, leaf_in, leaf_type, push_datum};
+use awk_ends::{data_before, datum_leaf, leaf_type, push_datum};
 use awk_frames::framed;
 use awk_kernels::Kernels;
 use awk_lanes::{Arena, NoMemory, Steps};
 use awk_layout::{Array, Arrays, Datum, Node, Operand, Operands};
-use awk_leaves::{LeafType, choice_prim};
+use awk_leaves::choice_prim;
 use awk_pair::{Paired, pair};
+use awk_pair_operands::datum_from;
 use awk_pair_sides::some_option;
 use awk_pair_types::pair_types;
 use awk_types::Fault;
 use std::alloc::Global;
 use std::sync::ledger::Ledger;
-
-/// What the leaves of a datum are of.
-fn datum_leaf(x: &Datum) -> LeafType
-    ensures { result ≡ leaf_in (item_type (datum_of x.now)) }
-{
-    match x {
-        Datum::Arr(x) | Datum::One(x) => leaf_in(x.typ()),
-    }
-}
 
 /// The condition, and the operands that are data.
 fn data_of<'a>(

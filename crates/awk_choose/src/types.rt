@@ -1,7 +1,7 @@
 //! What the types of operands tell before their values are looked at.
 ghost use Rattle.std.specs.Prelude.{◌≡◌, ◌<◌, ◌^◌, [], false, map, IfOk};
 ghost use Rattle.std.specs.List.{list_all};
-ghost use Rattle.awk_types.specs.Faults.{fault_told};
+ghost use Rattle.awk_types.specs.Faults.{fault_told, limit_refused};
 ghost use Rattle.awk_types.specs.Gives.{Gives, refused_or};
 ghost use Rattle.awk_types.specs.Predicates.{is_leaf};
 ghost use Rattle.awk_types.specs.Simple.{present, option_if};
@@ -16,7 +16,6 @@ ghost use Rattle.awk_layout.specs.Valid.{len};
 ghost use Rattle.awk_frames.specs.Framed.{IsFrame, over_type};
 ghost use Rattle.awk_frames.specs.Shape.{shape as shape_by};
 ghost use Rattle.awk_frames.specs.View.{shape_of};
-ghost use Rattle.awk_pair_types.specs.Limits.{limit_refused};
 ghost use Rattle.awk_pointwise.specs.Choice.{chosen_items};
 ghost use Rattle.awk_choose.specs.Ends.{ArePresent};
 

@@ -1,5 +1,5 @@
 -- Lists joined, or refused, as operations take them.
-use Rattle.std.specs.Prelude.{◌≡◌, ℕ, ◌+◌, ◌-◌, ◌<◌, ◌≤◌, List, length, Some, None, Ok}
+use Rattle.std.specs.Prelude.{◌≡◌, ℕ, ◌+◌, ◌-◌, ◌<◌, ◌≤◌, List, length, Some, Ok}
 use Rattle.std.proofs.Common.{arith, ap, sym, ◌∙◌, subst}
 use Rattle.std.specs.List.{range_with_len, flat_map}
 use Rattle.std.proofs.lemmas.List.Folds.{flat_map-map}
@@ -11,6 +11,7 @@ use Rattle.awk_types.specs.Value.{Value, Values, list}
 use Rattle.awk_types.specs.ItemLimit.{item_limit, too_many}
 use Rattle.awk_types.specs.declared.fault.Fault.TheVariants.{Size}
 use Rattle.awk_types.proofs.RefusalLaws.{refused_or-Ok, refused_or-Err}
+use Rattle.awk_types.proofs.ItemLimits.{limit_kept}
 use Rattle.awk_lanes.specs.Column.{Column}
 use Rattle.awk_lanes.specs.Numbers.{nat_of}
 use Rattle.awk_lanes.specs.declared.kind.Kind.TheVariants.{I64}
@@ -41,9 +42,6 @@ reached-items s t y z h = h.items ∙ sym (joined_items-is s t y) ∙ joined-tot
 
 limit_passed : (n : ℕ) → too_many n ≡ Some Size → item_limit < n
 limit_passed n h = grind arith
-
-limit_kept : (n : ℕ) → too_many n ≡ None → n ≤ item_limit
-limit_kept n h = grind arith
 
 pub join_refused : (s t : Column) (y : Layout)
     → Told (Some Size) (gathered.joined_datum (array_type y) (gathered.list_values s t y))

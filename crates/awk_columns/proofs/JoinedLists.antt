@@ -1,10 +1,8 @@
 -- Lists joined: their items and offsets, by the places of the items.
 use Rattle.std.proofs.Common.{◌≡◌, ℕ, suc, zero, ◌+◌, ◌-◌, ◌<◌, ◌≤◌, ◌^◌, List, [], ◌∷◌, ◌++◌, map}
 use Rattle.std.proofs.Common.{length, arith, refl, ap, ap₂, sym, ◌∙◌, subst}
-use Rattle.std.specs.Prelude.{ℤ, pos, negsuc, nat_lt, Some, None, true, if◌then◌else◌, Ok, Err}
-use Rattle.std.specs.Prelude.{slice_range}
+use Rattle.std.specs.Prelude.{ℤ, pos, negsuc, Ok, Err, slice_range}
 use Rattle.std.specs.List.{range_with_len, flat_map}
-use Rattle.std.proofs.lemmas.Bool.{le-ltb}
 use Rattle.std.proofs.lemmas.Int.{ints}
 use Rattle.std.proofs.lemmas.List.{length-append, length-map, map-append}
 use Rattle.std.proofs.lemmas.List.FromFn.{length-range_with_len, get_or-range_with_len}
@@ -14,6 +12,7 @@ use Rattle.awk_types.specs.Gives.{refused_or}
 use Rattle.awk_types.specs.Value.{Value, list}
 use Rattle.awk_types.specs.ItemLimit.{item_limit, too_many}
 use Rattle.awk_types.specs.declared.fault.Fault.TheVariants.{Size}
+use Rattle.awk_types.proofs.ItemLimits.{over_limit, within_limit}
 use Rattle.awk_lanes.specs.declared.kind.Kind.TheVariants.{I64}
 use Rattle.awk_lanes.specs.Column.{Column}
 use Rattle.awk_lanes.specs.Numbers.{nat_of}
@@ -21,7 +20,7 @@ use Rattle.awk_lanes.specs.Places.{at, size_of, place_at, AreSpans, IsSpan, IsIn
 use Rattle.awk_layout.specs.Layout.{Layout}
 use Rattle.awk_layout.specs.Valid.{len, IsValid}
 use Rattle.awk_layout.specs.Item.{run}
-use Rattle.awk_layout.proofs.Runs.{value_list-run}
+use Rattle.awk_layout.proofs.Runs.{value_list-run, run-moved}
 use Rattle.awk_layout.specs.Typing.{array_type, array_items, array_datum}
 use Rattle.awk_gather.specs.Arrays.{array_item, IsGathered}
 use Rattle.awk_columns.specs.Columns.{list_items, joined_items, offsets}
@@ -34,7 +33,6 @@ use Rattle.awk_columns.specs.Reached.{IsReached}
 use Rattle.awk_counts.proofs.FirstPlaces.{length-first_of, first_of-mono, first_of-room}
 use Rattle.awk_lanes.proofs.MadeLanes.{size-lane_of, at-lane_of}
 use Rattle.awk_layout.proofs.ArrayItems.{length-array_items}
-use Rattle.awk_gather.proofs.PickedNodes.{run_same}
 use Rattle.awk_columns.proofs.ReachedContents.{below-first_of, first_of-at, places_index}
 use Rattle.awk_columns.proofs.ReachedContents.{reached_by, reached-len, reached-item, run_picked}
 use Rattle.awk_columns.proofs.SpanPlaces.{row_run}
@@ -244,7 +242,7 @@ are_joined s t y o z v l e h w = rw e (record {
       (place_at s i) (place_at t i - place_at s i) in
       let d : place_at t i - place_at s i ≡ place_at (offsets_lane s t) (i + 1) - place_at
       (offsets_lane s t) i = omega (arith, a, b, u, length-first_of (span_at s t) i) in
-      ap list (run_same (array_item y) (array_item z) (place_at s i)
+      ap list (run-moved (array_item y) (array_item z) (place_at s i)
       (length (first_of (span_at s t) i)) (place_at t i - place_at s i)
       (λ k p. joined_item s t y z i k h q p)
       ∙ ap₂ (run (array_item z)) (sym a) d);
@@ -255,23 +253,16 @@ are_joined s t y o z v l e h w = rw e (record {
 
 -- ---- the answer
 
-many_told : (n : ℕ) → item_limit < n → too_many n ≡ Some Size
-many_told n h =
-    let e : nat_lt item_limit n ≡ true = grind arith in ap (λ b. if b then Some Size else None) e
-
-few_told : (n : ℕ) → n ≤ item_limit → too_many n ≡ None
-few_told n h = ap (λ b. if b then Some Size else None) (le-ltb item_limit n h)
-
 pub joined_refused : (s t : Column) (y : Layout) → item_limit < length (spans s t)
     → joined_datum (array_type y) (list_values s t y) ≡ Err Size
 joined_refused s t y h =
     ap (λ o. refused_or o (arr (array_type y) (joined_items (list_values s t y))))
-    (ap too_many (joined-count s t y) ∙ many_told (length (spans s t)) h)
+    (ap too_many (joined-count s t y) ∙ over_limit (length (spans s t)) h)
 
 pub joined_given : (s t : Column) (y z : Layout) → length (spans s t) ≤ item_limit
     → IsReached y (spans s t) z
     → joined_datum (array_type y) (list_values s t y) ≡ Ok (array_datum z)
 joined_given s t y z l h =
     ap (λ o. refused_or o (arr (array_type y) (joined_items (list_values s t y))))
-    (ap too_many (joined-count s t y) ∙ few_told (length (spans s t)) l)
+    (ap too_many (joined-count s t y) ∙ within_limit (length (spans s t)) l)
     ∙ ap₂ (λ u vs. Ok (arr u vs)) (sym h.typ) (joined_items-is s t y ∙ sym h.items)

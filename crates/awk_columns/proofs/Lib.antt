@@ -5,6 +5,6 @@ pub mod JoinLaws
 pub mod ArrayLaws
 pub mod ListNodes
 pub mod MovedNumbers
-pub mod SpanLaws
 pub mod OffsetLaws
-pub mod ItemLimits
+pub mod ListTypes
+pub mod PresentItems

@@ -1,8 +1,7 @@
 -- Numbers of lists moved as the bytes that they lie in.
-use Rattle.std.proofs.Common.{◌≡◌, ℕ, ◌+◌, ◌-◌, ◌*◌, ◌<◌, ◌≤◌, List, ◌++◌}
-use Rattle.std.proofs.Common.{map, length, drop, get_or, slice_range, refl, ap, ap₂, sym, subst}
-use Rattle.std.proofs.Common.{◌∙◌, arith, length-take, length-drop, length-append, get_or-take}
-use Rattle.std.proofs.Common.{get_or-drop}
+use Rattle.std.proofs.Common.{◌≡◌, ℕ, ◌+◌, ◌-◌, ◌*◌, ◌<◌, ◌≤◌, List, ◌++◌, map, length, drop}
+use Rattle.std.proofs.Common.{get_or, slice_range, refl, ap, ap₂, sym, subst, ◌∙◌, arith}
+use Rattle.std.proofs.Common.{length-take, length-drop, length-append, get_or-take, get_or-drop}
 use Rattle.std.specs.Prelude.{ℤ, pos}
 use Rattle.std.specs.List.{range_with_len}
 use Rattle.std.proofs.lemmas.List.{ext_get_or, get_or-map, length-map, map-append}
@@ -16,7 +15,7 @@ use Rattle.awk_lanes.specs.Places.{size_of}
 use Rattle.awk_lanes.specs.declared.kind.Kind.{Kind}
 use Rattle.awk_lanes.proofs.NumberParts.{numbers-join}
 use Rattle.awk_layout.specs.Item.{leaf_value}
-use Rattle.awk_layout.specs.Layout.{flat}
+use Rattle.awk_layout.specs.Layout.{flat, Layout}
 use Rattle.awk_gather.specs.Arrays.{array_item}
 use Rattle.awk_counts.specs.Counted.{first_of, numbers_at, span_at}
 use Rattle.awk_columns.specs.Reached.{IsReached}
@@ -84,11 +83,6 @@ moved_next s t c p i a m old b e w q l n h =
 
 -- ---- the lane
 
-lane_is : (a b : Column) → a.kind ≡ b.kind → a.items ≡ b.items → a ≡ b
-lane_is a b e f =
-    ap (λ k. record { kind = k; items = a.items }) e
-    ∙ ap (λ zs. record { kind = b.kind; items = zs }) f
-
 -- numbers at places are what is reached
 pub numbers_reached : (c r : Column) (ks : List ℕ) → r ≡ numbers_at c ks
     → IsReached (flat c) ks (flat r)
@@ -115,3 +109,10 @@ numbers_reached c r ks e =
     values : map (array_item (flat c)) ks ≡ map (array_item (flat m)) (range_with_len 0 (size_of m))
     values =
         fill_by_all (array_item (flat m)) (map (array_item (flat c)) ks) (size_of m) null size each
+
+-- numbers at places that are named are those reached
+pub named_reached : (x z : Layout) (c : Column) (ks : List ℕ) → x ≡ flat c
+    → z ≡ flat (numbers_at c ks) → IsReached x ks z
+named_reached x z c ks e f =
+    subst (λ (y : Layout). IsReached y ks z) (sym e)
+    (subst (IsReached (flat c) ks) (sym f) (numbers_reached c (numbers_at c ks) ks refl))

@@ -110,3 +110,11 @@ pub count_same : (f : List Value → List Value) (s t : Column) (y : Layout)
     → ((vs : List Value) → length (f vs) ≡ length vs)
     → sum (map (λ l. length (f l)) (all_items_at s t y)) ≡ total s t y
 count_same f s t y e = count_lists f s t y (items_at s t y) (λ i _. e (items_at s t y i))
+
+-- the lengths of all lists are the length of all items
+pub counted_total : (s e : Column) (y : Layout)
+    → sum (map (λ (l : List Value). length l) (all_items_at s e y)) ≡ total s e y
+counted_total s e y =
+    ap sum (map-map (λ (l : List Value). length l) (items_at s e y) (range_with_len 0 (size_of s)))
+    ∙ sum-map (λ i. length (items_at s e y i)) (range_with_len 0 (size_of s))
+    ∙ sym (length-flat_map (items_at s e y) (range_with_len 0 (size_of s)))

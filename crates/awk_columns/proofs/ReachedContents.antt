@@ -19,6 +19,7 @@ use Rattle.awk_gather.specs.Arrays.{array_item, pick}
 use Rattle.awk_counts.specs.Counted.{first_of, places_lane, AreBelow, IsRun}
 use Rattle.awk_columns.specs.Reached.{IsReached}
 use Rattle.awk_counts.proofs.FirstPlaces.{first_of-more, length-first_of, first_of-mono}
+use Rattle.awk_counts.proofs.PlacesBelow.{below-get}
 use Rattle.awk_gather.proofs.FollowedIndexes.{item_at_place}
 use Rattle.awk_layout.proofs.ArrayItems.{length-array_items, get_or-array_items}
 use Rattle.awk_gather.proofs.GatheredArrays.{at-I64}
@@ -69,11 +70,6 @@ below-each n f a (suc m) h =
 pub below-first_of : (n : ℕ) (f : ℕ → List ℕ) (m : ℕ) → ((i : ℕ) → i < m → AreBelow n (f i))
     → AreBelow n (first_of f m)
 below-first_of n f m h = below-each n f 0 m (λ i l. h i (omega arith))
-
-pub below-get : (n : ℕ) (ks : List ℕ) (i : ℕ) → AreBelow n ks → i < length ks → get_or ks i 0 < n
-below-get n [] i h l = absurd (omega arith)
-below-get n (k ∷ ks) zero h l = h.0
-below-get n (k ∷ ks) (suc i) h l = below-get n ks i h.1 (omega arith)
 
 pub at-places_lane : (ks : List ℕ) (i : ℕ) → i < length ks
     → at (places_lane ks) i ≡ pos (get_or ks i 0)

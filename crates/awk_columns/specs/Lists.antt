@@ -39,3 +39,7 @@ pub record AreLists (class : Class) (s t : Column) (y : Layout) : Type 0 where
   pub fits : size_of s < 2 ^ 63
   pub valid : IsValid y
   pub same_class : AreOfClass class s t
+
+-- how many items list i has
+abbrev pub length_of : Listed → ℕ → ℕ
+length_of l i = span_length l.starts l.stops i

@@ -1,21 +1,20 @@
 -- Arrays of what stands in a slot.
-use Rattle.std.specs.Prelude.{◌≡◌, refl, ℕ, ◌+◌, ◌<◌, Bool}
-use Rattle.std.specs.Prelude.{true, false, List, [], ◌∷◌, ◌++◌, length}
+use Rattle.std.specs.Prelude.{◌≡◌, refl, ℕ, ◌+◌, ◌<◌, Bool, true, false, List, [], ◌∷◌, ◌++◌}
 use Rattle.std.specs.Prelude.{get_or, nat_lt, ℤ, pos, negsuc, ◌≤ℤ◌}
 use Rattle.std.proofs.Common.{arith, ap, sym, ◌∙◌, subst, ltb-true}
 use Rattle.std.proofs.lemmas.Bool.{ltb-false}
 use Rattle.std.proofs.lemmas.Int.{ints}
 use Rattle.std.proofs.lemmas.List.{length-append, get_or_append_left, get_or_push}
 use Rattle.awk_types.specs.DataType.{leaf}
-use Rattle.awk_types.specs.Value.{Value, int}
-use Rattle.awk_lanes.specs.Column.{Column}
+use Rattle.awk_types.specs.Value.{int}
+use Rattle.awk_lanes.specs.Column.{Column, no_places}
 use Rattle.awk_lanes.specs.Numbers.{nat_of}
-use Rattle.awk_lanes.specs.Places.{size_of, at, place_at}
+use Rattle.awk_lanes.specs.Places.{at}
 use Rattle.awk_layout.specs.Item.{leaf_value}
 use Rattle.awk_layout.specs.Kinds.{primitive_of}
 use Rattle.awk_layout.specs.Layout.{Layout, flat, indexed, empty}
 use Rattle.awk_layout.specs.Valid.{len, IsValid}
-use Rattle.awk_combi.specs.Slots.{IsSlotLane, IsSlot, AreSlots, no_places}
+use Rattle.awk_combi.specs.Slots.{IsSlotLane, IsSlot, AreSlots}
 
 pub place_slot : (y : Layout) (n : ℕ) (c : Column) → IsSlotLane true n c → IsSlot true y c (flat c)
 place_slot y n c h = record {

@@ -1,21 +1,19 @@
 -- Where the places of lists lie, and lanes of the places of their tuples.
-use Rattle.std.specs.Prelude.{◌≡◌, ◌==◌, refl, ℕ, zero, suc, ◌+◌}
-use Rattle.std.specs.Prelude.{◌-◌, ◌<◌, ◌≤◌, ◌^◌, Bool, true, false}
-use Rattle.std.specs.Prelude.{if◌then◌else◌, List, [], ◌∷◌, map, length}
-use Rattle.std.specs.Prelude.{get_or, ℤ, pos, negsuc, ◌≤ℤ◌, ◌<ℤ◌}
-use Rattle.std.specs.List.{range_with_len, flat_map, AllByRecursion}
+use Rattle.std.specs.Prelude.{◌≡◌, ◌==◌, refl, ℕ, ◌+◌, ◌-◌, ◌<◌, ◌≤◌, Bool, false, if◌then◌else◌}
+use Rattle.std.specs.Prelude.{[], map, length, get_or, ℤ, pos, negsuc, ◌≤ℤ◌}
+use Rattle.std.specs.List.{range_with_len, AllByRecursion}
 use Rattle.std.proofs.Common.{arith, ap, ap₂, sym, ◌∙◌, subst}
 use Rattle.std.proofs.lemmas.Int.{ints}
 use Rattle.awk_base.proofs.Ranges.{map-same}
-use Rattle.awk_base.proofs.Every.{all_range}
 use Rattle.awk_types.specs.ItemLimit.{item_limit}
 use Rattle.awk_lanes.specs.declared.kind.Kind.TheVariants.{I64}
 use Rattle.awk_lanes.specs.Column.{Column}
 use Rattle.awk_lanes.specs.Counted.{before, offsets_by, numbers_of_lists}
 use Rattle.awk_lanes.specs.Numbers.{nat_of}
-use Rattle.awk_lanes.specs.Places.{size_of, at, place_at, AreSpans, IsSpan, IsIndex}
-use Rattle.awk_lanes.proofs.CountedLanes.{length-numbers, numbers-at}
+use Rattle.awk_lanes.specs.Places.{size_of, at, place_at, AreSpans, IsSpan}
+use Rattle.awk_lanes.proofs.CountedLanes.{length-numbers, before-same}
 use Rattle.awk_lanes.proofs.MadeLanes.{size-lane_of, at-lane_of}
+use Rattle.awk_counts.proofs.ListLaws.{numbers-all}
 use Rattle.awk_layout.specs.Layout.{Layout}
 use Rattle.awk_layout.specs.Valid.{len}
 use Rattle.awk_columns.specs.Lists.{AreLists, span_length}
@@ -23,18 +21,13 @@ use Rattle.awk_columns.specs.ListClass.{Class}
 use Rattle.awk_places.specs.Places.{rising_places}
 use Rattle.awk_places.specs.Slots as of_lanes
 use Rattle.awk_places.proofs.BegunLaws.{IsLong, AreBelow, all_long, all_below}
-use Rattle.awk_places.proofs.FlatLaws.{flat-same-range, numbers-flat, all-map, all-flat, all-at}
+use Rattle.awk_places.proofs.FlatLaws.{flat-same-range, numbers-flat, all-at}
 use Rattle.awk_places.proofs.RisingLaws.{rising_places-from}
-use Rattle.awk_combi.specs.Slots.{IsSlotLane, AreSlotLanes, no_places}
+use Rattle.awk_combi.specs.Slots.{IsSlotLane}
 use Rattle.awk_combi.specs.Spans.{first_place, end_place, first_lane, end_lane, tuples_at, count_at}
 use Rattle.awk_combi.specs.Spans.{place_in, slot_lane, slot_lanes}
 
 -- ---- counts and numbers that are the same for the lists there are
-
-pub before-same : (m n : ℕ → ℕ) (k : ℕ) → ((i : ℕ) → i < k → m i ≡ n i) → before m k ≡ before n k
-before-same m n zero e = refl
-before-same m n (suc k) e =
-    ap₂ (λ a b. a + b) (before-same m n k (λ i p. e i (omega (arith, p)))) (e k (omega arith))
 
 numbers-same : (m n : ℕ → ℕ) (g h : ℕ → ℕ → ℤ) (k : ℕ) → ((i : ℕ) → i < k → m i ≡ n i)
     → ((i j : ℕ) → i < k → g i j ≡ h i j) → numbers_of_lists m g k ≡ numbers_of_lists n h k
@@ -149,16 +142,6 @@ module _ (rep : Bool) (n m : ℕ) where
       (all-at (AreBelow m) [] (rising_places rep n m) k p
       (subst (AllByRecursion (AreBelow m)) (sym (rising_places-from rep n m))
       (all_below rep n 0 m)))
-
--- what holds of each number
-pub numbers-all : (P : ℤ → Type 0) (m : ℕ → ℕ) (h : ℕ → ℕ → ℤ) (n : ℕ)
-    → ((i k : ℕ) → i < n → k < m i → P (h i k)) → AllByRecursion P (numbers_of_lists m h n)
-numbers-all P m h n f =
-    subst (AllByRecursion P) (sym (numbers-flat m h n))
-    (all-flat P (λ i. map (h i) (range_with_len 0 (m i))) 0 n
-    (λ i p q. all-map P (h i) (range_with_len 0 (m i))
-    (all_range (λ k. P (h i k)) 0 (m i)
-    (λ k r u. f i k (omega (arith, q)) (omega (arith, u))))))
 
 -- a list that is not empty ends within the content
 pub within : (s t : Column) (n i : ℕ) → AreSpans s t n → i < size_of s → 0 < span_length s t i

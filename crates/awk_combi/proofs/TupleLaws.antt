@@ -4,8 +4,7 @@ use Rattle.std.specs.Prelude.{[], ◌∷◌, map, length, get_or, replicate, pos
 use Rattle.std.specs.List.{range_with_len, AllByRecursion}
 use Rattle.std.proofs.Common.{arith, ap, ap₂, sym, ◌∙◌, subst}
 use Rattle.std.proofs.lemmas.List.{length-map}
-use Rattle.std.proofs.lemmas.List.FromFn.{fill_by_all, get_or-map-range_with_len}
-use Rattle.std.proofs.lemmas.List.FromFn.{length-map-range_with_len}
+use Rattle.std.proofs.lemmas.List.FromFn.{get_or-map-range_with_len, length-map-range_with_len}
 use Rattle.std.proofs.lemmas.Simd.{map-map}
 use Rattle.awk_types.specs.DataType.{DataType, tup, types_from}
 use Rattle.awk_types.specs.Has.{Has}
@@ -13,7 +12,7 @@ use Rattle.awk_types.specs.ItemLimit.{item_limit}
 use Rattle.awk_types.specs.Simple.{simple, simple_value}
 use Rattle.awk_types.specs.Value.{Value, int, null, row, value_list, values_from}
 use Rattle.awk_types.proofs.SimpleLaws.{simple_twice, simple_is_simple, value_stays}
-use Rattle.awk_lanes.specs.Column.{Column}
+use Rattle.awk_lanes.specs.Column.{Column, no_places}
 use Rattle.awk_lanes.specs.Counted.{before, offsets_by}
 use Rattle.awk_lanes.specs.Numbers.{nat_of}
 use Rattle.awk_lanes.specs.Places.{size_of, place_at}
@@ -23,7 +22,7 @@ use Rattle.awk_layout.specs.Layout.{Layout, empty, rows, layouts_from}
 use Rattle.awk_layout.specs.Typing.{layout_type, array_type, array_items}
 use Rattle.awk_layout.specs.Valid.{len, IsValid, AllReach, AllValid}
 use Rattle.awk_layout.proofs.ArrayItems.{get_or-array_items, length-array_items}
-use Rattle.awk_layout.proofs.Runs.{length-run, value_list-run}
+use Rattle.awk_layout.proofs.Runs.{get-run, run-by}
 use Rattle.awk_gather.specs.Arrays.{array_item}
 use Rattle.awk_open.proofs.OpenedKinds.{item-rows, type-rows}
 use Rattle.awk_columns.specs.Lists.{AreLists, items_at, all_items_at, span_length}
@@ -35,7 +34,7 @@ use Rattle.awk_places.specs.Places.{rising_places}
 use Rattle.awk_places.proofs.FlatLaws.{map-in_place, all-at}
 use Rattle.awk_combi.specs.Combinations.{slot_type, slots, tuple_type, slot_value, tuple_at, tuples}
 use Rattle.awk_combi.specs.Combinations.{combinations_function}
-use Rattle.awk_combi.specs.Slots.{IsSlotLane, AreSlotLanes, ArePlaced, slot_item, IsSlot, no_places}
+use Rattle.awk_combi.specs.Slots.{IsSlotLane, AreSlotLanes, ArePlaced, slot_item, IsSlot}
 use Rattle.awk_combi.specs.Slots.{AreSlots, AreOfSize, AreTuples}
 use Rattle.awk_combi.specs.declared.slots.Placed.{Placed}
 use Rattle.awk_combi.specs.Spans.{first_place, tuples_at, count_at, place_in, slot_lane, slot_lanes}
@@ -81,18 +80,6 @@ all_valid (z ∷ zs) h = (h 0 (omega arith), all_valid zs (λ j p. h (suc j) (om
 
 -- ---- what stands in the slots of a tuple
 
-pub run_get : (h : ℕ → Value) (a n k : ℕ) → k < n
-    → get_or (value_list (run h a n)) k null ≡ h (a + k)
-run_get h a n k p =
-    ap (λ xs. get_or xs k null) (value_list-run h a n)
-    ∙ get_or-map-range_with_len h a n k (a + k) null p refl
-
-pub run_by : (h f : ℕ → Value) (a n : ℕ) → ((j : ℕ) → j < n → h (a + j) ≡ f j)
-    → value_list (run h a n) ≡ map f (range_with_len 0 n)
-run_by h f a n e =
-    fill_by_all f (value_list (run h a n)) n null (length-run h a n)
-    (λ k p. run_get h a n k p ∙ e k p)
-
 module _ (places rep : Bool) (n : ℕ) (s t : Column) (y : Layout) where
   abbrev lanes : List Column
   lanes = slot_lanes places rep n s t
@@ -129,7 +116,7 @@ module _ (places rep : Bool) (n : ℕ) (s t : Column) (y : Layout) where
       go true = let e : 0 + x ≡ x = omega arith in ap (λ k. int (pos k)) e
       go false =
           ap (λ a. array_item y (a + x)) (first-full s t i (omega (arith, p)))
-          ∙ sym (run_get (array_item y) (place_at s i) (span_length s t i) x p)
+          ∙ sym (get-run (array_item y) (place_at s i) (span_length s t i) x p)
 
   module _ (zs : List Layout) (h : AreSlots places y lanes n zs) where
     slot-at : (j i k : ℕ) → j < n → i < size_of s → k < count_at rep n s t i
@@ -207,7 +194,7 @@ module _ (places rep : Bool) (most : ℕ) (class : Class) (s t : Column) (y : La
       go true = refl
       go false =
           let e : slot_value false (items_at s t y i) x ≡ array_item y (place_at s i + x) =
-          run_get (array_item y) (place_at s i) (span_length s t i) x q in
+          get-run (array_item y) (place_at s i) (span_length s t i) x q in
           let b = within s t (len y) i a.spans p (omega (arith, q)) in
           ap (simple_value (array_type y)) e
           ∙ item_stays y has (place_at s i + x) (omega (arith, b, q))
@@ -251,7 +238,7 @@ module _ (places rep : Bool) (most : ℕ) (class : Class) (s t : Column) (y : La
       (offset-length count (size_of s) i p)
       ∙ ap (λ k. value_list (run (array_item z) k (count i)))
       (place-offsets count (size_of s) i (omega (arith, p)))
-      ∙ run_by (array_item z) (λ k. f (get_or ts k [])) (before count i) (count i)
+      ∙ run-by (array_item z) (λ k. f (get_or ts k [])) (before count i) (count i)
       (λ k q. tuple-item places rep n s t y zs h sum i k p q ∙ sym (tuple_stays i k p q))
       ∙ map-in_place [] (λ k. f (get_or ts k [])) f ts (λ k q. refl)
       ∙ sym (map-map (simple_value (tuple_type places most (array_type y))) (tuple_at places vs) ts)

@@ -1,19 +1,14 @@
 -- Types of tuples, and their values.
-use Rattle.std.specs.Prelude.{◌≡◌, refl, ℕ, zero, suc, List, [], ◌∷◌, map}
-use Rattle.std.specs.Prelude.{replicate, length}
+use Rattle.std.specs.Prelude.{◌≡◌, refl, ℕ, List, [], ◌∷◌, replicate, length}
 use Rattle.std.specs.List.{AllByRecursion}
 use Rattle.std.proofs.Common.{ap, ap₂, sym, ◌∙◌}
 use Rattle.awk_types.specs.DataType.{DataType, tup, types_from}
-use Rattle.awk_types.specs.Simple.{simple, simples, simple_value, simple_values, values_by}
-use Rattle.awk_types.specs.Value.{Value, row, value_list, values_from}
+use Rattle.awk_types.specs.Simple.{simple, simple_value, simple_values, values_by}
+use Rattle.awk_types.specs.Value.{Value, row, values_from}
 use Rattle.awk_types.proofs.Trees.{value_list-from}
+use Rattle.awk_types.proofs.SimpleLaws.{simples-same}
 
 -- ---- simple tuples
-
-simples-same : (n : ℕ) (u : DataType) → simple u ≡ u
-    → simples (types_from (replicate n u)) ≡ replicate n u
-simples-same zero u e = refl
-simples-same (suc n) u e = ap₂ (λ t ts. t ∷ ts) e (simples-same n u e)
 
 pub simple-tuple : (n : ℕ) (u : DataType) → simple u ≡ u
     → simple (tup (types_from (replicate n u))) ≡ tup (types_from (replicate n u))

@@ -1,11 +1,10 @@
 -- Arrays of what stands in the slots of tuples, and where the tuples of lists lie.
-use Rattle.std.specs.Prelude.{◌≡◌, ℕ, ◌<◌, ◌≤◌, ◌^◌, Bool, false}
-use Rattle.std.specs.Prelude.{if◌then◌else◌, List, [], length, get_or, pos, ◌≤ℤ◌}
-use Rattle.std.specs.Prelude.{Option, Some, None}
+use Rattle.std.specs.Prelude.{◌≡◌, ℕ, ◌<◌, ◌≤◌, ◌^◌, Bool, false, if◌then◌else◌, List, length}
+use Rattle.std.specs.Prelude.{get_or, pos, ◌≤ℤ◌, Option, Some, None}
 use Rattle.awk_types.specs.ItemLimit.{item_limit}
 use Rattle.awk_types.specs.Value.{Value, int}
 use Rattle.awk_lanes.specs.declared.kind.Kind.TheVariants.{I64}
-use Rattle.awk_lanes.specs.Column.{Column}
+use Rattle.awk_lanes.specs.Column.{Column, no_places}
 use Rattle.awk_lanes.specs.Counted.{before, offsets_by}
 use Rattle.awk_lanes.specs.Places.{size_of, at, place_at, IsIndex}
 use Rattle.awk_layout.specs.Layout.{Layout, empty, layouts_from, rows as rows_of}
@@ -15,9 +14,6 @@ use Rattle.awk_gather.specs.Arrays.{array_item}
 use Rattle.awk_combi.specs.Combinations.{slot_type}
 use Rattle.awk_combi.specs.Spans.{count_at, slot_lanes}
 use Rattle.awk_combi.specs.declared.slots.Placed.{Placed}
-
-abbrev pub no_places : Column
-no_places = record { kind = I64; items = [] }
 
 -- places for a slot: of a content of n items, where the items there are asked
 pub record IsSlotLane (places : Bool) (n : ℕ) (c : Column) : Type 0 where

@@ -1,5 +1,5 @@
 -- Where the places of lists begin and end: in the content, or in each list by itself.
-use Rattle.std.specs.Prelude.{◌≡◌, ◌==◌, ℕ, ◌+◌, Bool, if◌then◌else◌, List, [], length, map, get_or}
+use Rattle.std.specs.Prelude.{◌==◌, ℕ, ◌+◌, Bool, if◌then◌else◌, List, [], length, map, get_or}
 use Rattle.std.specs.Prelude.{ℤ, pos}
 use Rattle.std.specs.List.{range_with_len}
 use Rattle.awk_lanes.specs.declared.kind.Kind.TheVariants.{I64}

@@ -3,11 +3,8 @@ use Rattle.std.proofs.Common.{◌≡◌, ℕ, ◌+◌, ◌<◌, List, [], ◌∷
 use Rattle.std.proofs.Common.{sym, ◌∙◌, subst}
 use Rattle.std.specs.Prelude.{ℤ, pos}
 use Rattle.std.proofs.lemmas.List.{append-nil, length-map, map-append}
-use Rattle.awk_lanes.specs.declared.kind.Kind.{Kind}
-use Rattle.awk_lanes.specs.declared.kind.Kind.TheVariants.{Bool as Truths, I8, I16, I32, I64, U8}
-use Rattle.awk_lanes.specs.declared.kind.Kind.TheVariants.{U16, U32, U64}
+use Rattle.awk_lanes.specs.declared.kind.Kind.TheVariants.{I64}
 use Rattle.awk_lanes.specs.Making.{Making, with_item}
-use Rattle.awk_lanes.specs.Places.{IsIndexKind, IsOptionKind}
 use Rattle.awk_counts.specs.Counted.{first_of}
 use Rattle.awk_counts.proofs.FirstPlaces.{first_of-more, first_of-room}
 
@@ -31,18 +28,6 @@ places_pushed n ks k z old new e g h = record {
 pub places_room : (n : ℕ) (ks : List ℕ) (m : Making) → length ks < n → ArePlaces n ks m
     → length m.items < m.room
 places_room n ks m l h = omega (arith, ap length h.items, length-map ks (λ k. pos k), h.room)
-
--- the index of an option is an index
-pub option-index : (k : Kind) → IsOptionKind k → IsIndexKind k
-option-index Truths h = h
-option-index I8 h = h
-option-index I16 h = h
-option-index I32 h = tt
-option-index I64 h = tt
-option-index U8 h = h
-option-index U16 h = h
-option-index U32 h = absurd h
-option-index U64 h = h
 
 -- ---- the places that f gives, one place after another
 

@@ -9,7 +9,8 @@ ghost use Rattle.awk_counts.specs.Counted.{count_or_null, counted_lane};
 use awk_lanes::{Arena, Index, IndexMaker, Lane, NoMemory, Num, number};
 
 /// 1 where there is a place, else 0.
-fn one_if(place: Option<u64>) -> u64
+#[inline(always)]
+pub(crate) fn one_if(place: Option<u64>) -> u64
     ensures { result ≡ length (present_place place) }
 {
     match place {

@@ -1,24 +1,16 @@
 -- Results as an array, or as the single value that it holds.
 use Rattle.std.proofs.Common.{◌≡◌, ℕ, Bool, true, false, not, refl, ap, ap₂, sym, ◌∙◌}
-use Rattle.std.specs.Prelude.{List, [], ◌∷◌, map, length, get_or, Option, if◌then◌else◌}
-use Rattle.std.specs.List.{range_with_len}
+use Rattle.std.specs.Prelude.{List, length, get_or, Option, if◌then◌else◌}
 use Rattle.awk_types.specs.DataType.{DataType}
 use Rattle.awk_types.specs.Datum.{Datum, arr, one}
-use Rattle.awk_types.specs.Simple.{simple_value}
 use Rattle.awk_types.specs.Value.{Value, null}
-use Rattle.awk_layout.specs.Datum.{datum_of, first_item, IsDatum}
-use Rattle.awk_layout.specs.Item.{item}
+use Rattle.awk_layout.specs.Datum.{datum_of, IsDatum}
 use Rattle.awk_layout.specs.Layout.{Layout}
-use Rattle.awk_layout.specs.Typing.{layout_type, array_type, array_items}
+use Rattle.awk_layout.specs.Typing.{array_type, array_items}
 use Rattle.awk_layout.specs.Valid.{len}
 use Rattle.awk_layout.specs.declared.datum.Datum.TheVariants.{Arr, One}
-use Rattle.awk_layout.proofs.ArrayItems.{length-array_items}
+use Rattle.awk_layout.proofs.ArrayItems.{length-array_items, array_items-one}
 use Rattle.awk_pair_operands.specs.Pairs.{pair_values, some_array, datum_from}
-
--- an array of one item has its first alone
-pub items-one : (x : Layout) → len x ≡ 1 → array_items x ≡ first_item x ∷ []
-items-one x single =
-    ap (λ n. map (simple_value (layout_type x)) (map (item x) (range_with_len 0 n))) single
 
 -- single values are paired to one
 pub values-one : (d : Option ℕ) (ds : List Datum) → some_array ds ≡ false
@@ -57,5 +49,5 @@ module _ (t : DataType) (vs : List Value) (ds : List Datum) (single : Bool) (y :
       by true e false k = ap₂ arr h.typ h.items
       by false e true k =
           ap₂ one h.typ (ap (λ us. get_or us 0 null)
-          (sym (items-one y (size-one e)) ∙ h.items))
+          (sym (array_items-one y (size-one e)) ∙ h.items))
       by false e false k = absurd cc

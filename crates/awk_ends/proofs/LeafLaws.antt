@@ -3,15 +3,16 @@ use Rattle.std.proofs.Common.{◌≡◌, ℕ, zero, suc, Bool, true, false, refl
 use Rattle.std.specs.Prelude.{List, [], ◌∷◌, map, length, if◌then◌else◌, Option, None}
 use Rattle.std.specs.List.{list_all}
 use Rattle.std.proofs.lemmas.Bool.{not-false}
+use Rattle.std.proofs.lemmas.List.{length-map}
 use Rattle.awk_types.specs.DataType.{DataType, unknown, leaf, var, reg, rec, tup, opt, uni}
-use Rattle.awk_types.specs.Datum.{Datum}
+use Rattle.awk_types.specs.Datum.{Datum, datum_type}
+use Rattle.awk_types.specs.Parts.{item_of}
 use Rattle.awk_types.specs.Predicates.{is_leaf}
 use Rattle.awk_types.specs.Simple.{present}
 use Rattle.awk_pair_operands.specs.Paired.{Reach, to_leaves, to_depth, types_at_ends, is_wrong}
-use Rattle.awk_pair_operands.specs.Paired.{is_wrong_end}
-use Rattle.awk_pair_operands.specs.Paired.{end_types, all_levels}
-use Rattle.awk_pair_operands.specs.Pairs.{has_wrong_end, leaf_types, typs, item_type, reach, below}
-use Rattle.awk_pair_sides.specs.Levels.{opens, item_of, item_types}
+use Rattle.awk_pair_operands.specs.Paired.{is_wrong_end, end_types, all_levels}
+use Rattle.awk_pair_operands.specs.Pairs.{has_wrong_end, leaf_types, typs, reach, below}
+use Rattle.awk_pair_sides.specs.Levels.{opens, item_types}
 use Rattle.awk_ends.specs.Operands.{leaf_in}
 
 leaf_in-present : (t : DataType) → leaf_in (present t) ≡ leaf_in t
@@ -84,20 +85,16 @@ ends_leaves (suc d) ts e =
     level true f g e = f e
     level false f g e = g e
 
-length-map : {A B : Type 0} (f : A → B) (xs : List A) → length (map f xs) ≡ length xs
-length-map f [] = refl
-length-map f (x ∷ xs) = ap suc (length-map f xs)
-
 length-end : (r : Reach) (ts : List DataType) → length (end_types r ts) ≡ length ts
-length-end to_leaves ts = length-map present ts
+length-end to_leaves ts = length-map ts present
 length-end to_depth ts = refl
 
 length-ends : (r : Reach) (d : ℕ) (ts : List DataType)
     → length (types_at_ends r d ts) ≡ length ts
 length-ends r zero ts = length-end r ts
 length-ends r (suc d) ts =
-    level (opens ts) (length-ends r d (item_types ts) ∙ length-map item_of (map present ts)
-    ∙ length-map present ts) (length-end r ts)
+    level (opens ts) (length-ends r d (item_types ts) ∙ length-map (map present ts) item_of
+    ∙ length-map ts present) (length-end r ts)
   where
     level : (b : Bool) → length (types_at_ends r d (item_types ts)) ≡ length ts
         → length (end_types r ts) ≡ length ts
@@ -118,4 +115,4 @@ leaf_types-all ds e = ends_leaves (all_levels (typs ds)) (typs ds) e
 pub length-leaf_types : (d : Option ℕ) (ds : List Datum)
     → length (leaf_types d ds) ≡ length ds
 length-leaf_types d ds =
-    length-ends (reach d) (below d ds) (typs ds) ∙ length-map item_type ds
+    length-ends (reach d) (below d ds) (typs ds) ∙ length-map ds datum_type

@@ -1,7 +1,7 @@
 -- Operands of a pairing to leaves: what their leaves are of, and what they give at each end.
 use Rattle.std.specs.Prelude.{List, [], ◌∷◌, Result, Ok, Err, ℕ, ◌++◌}
 use Rattle.awk_types.specs.DataType.{DataType, leaf, var, reg, opt}
-use Rattle.awk_types.specs.Datum.{Datum}
+use Rattle.awk_types.specs.Datum.{Datum, datum_type}
 use Rattle.awk_types.specs.Value.{Value, int}
 use Rattle.awk_types.specs.declared.fault.Fault.{Fault}
 use Rattle.awk_types.specs.declared.primitive.Primitive.{Primitive}
@@ -9,7 +9,6 @@ use Rattle.awk_leaves.specs.declared.leaf_type.LeafType.{LeafType}
 use Rattle.awk_leaves.specs.declared.leaf_type.LeafType.TheVariants.{Of, Unknown, Literal}
 use Rattle.awk_columns.specs.Columns.{part_at}
 use Rattle.awk_layout.specs.Filler.{Filler, literal, datum}
-use Rattle.awk_pair_operands.specs.Pairs.{item_type}
 
 -- what the leaves of a type are of, through lists and options. A pairing to leaves is refused
 -- where it ends at anything else.
@@ -34,7 +33,7 @@ data_in (datum d) = d ∷ []
 
 abbrev pub leaf_of : Filler → LeafType
 leaf_of (literal z) = Literal z
-leaf_of (datum d) = leaf_in (item_type d)
+leaf_of (datum d) = leaf_in (datum_type d)
 
 -- what an operand gives at an end, where it is the k-th of the data
 abbrev pub at_end : Filler → ℕ → Value → Value

@@ -1,12 +1,11 @@
 //! Lanes of columns of leaves, and results as data.
-ghost use Rattle.std.specs.Prelude.{◌≡◌, true, IfOk, if◌then◌else◌};
+ghost use Rattle.std.specs.Prelude.{◌≡◌, true, IfOk};
 ghost use Rattle.awk_types.specs.Predicates.{is_leaf};
 ghost use Rattle.awk_layout.specs.Typing.{array_type};
-ghost use Rattle.awk_layout.specs.declared.datum.Datum.TheVariants.{Arr, One};
 ghost use Rattle.awk_ends.specs.Columns.{IsLaneOf};
 
 use awk_lanes::{Arena, Lane, NoMemory, Steps};
-use awk_layout::{Array, Datum};
+use awk_layout::Array;
 use awk_open::{Opened, in_order};
 use std::alloc::Global;
 use std::sync::ledger::Ledger;
@@ -25,16 +24,5 @@ pub fn leaf_lane<'a, L: Ledger>(
         Opened::Empty => Ok(None),
         Opened::Leaf(lane) => Ok(Some(lane)),
         _ => unreachable!(),
-    }
-}
-
-/// An array, or a single value as one.
-pub fn datum_from<'a>(single: bool, made: Array<'a>) -> Datum<'a>
-    ensures { result ≡ (if single then One made.entry else Arr made.entry) }
-{
-    if single {
-        Datum::One(made)
-    } else {
-        Datum::Arr(made)
     }
 }

@@ -1,14 +1,15 @@
 //! Operands and their leaves.
 ghost use Rattle.std.specs.Prelude.{◌≡◌, ◌++◌, OnOk};
+ghost use Rattle.awk_types.specs.Datum.{datum_type};
 ghost use Rattle.awk_types.specs.View.{typ_of};
-ghost use Rattle.awk_layout.specs.Datum.{IsOperand};
+ghost use Rattle.awk_layout.specs.Datum.{datum_of, IsOperand};
 ghost use Rattle.awk_layout.specs.Filler.{filler_of};
 ghost use Rattle.awk_pair_operands.specs.First.{all_data};
 ghost use Rattle.awk_ends.specs.Operands.{data_in, leaf_in, leaf_of};
 ghost use Rattle.awk_ends.specs.Columns.{data_before};
 
 use awk_lanes::NoMemory;
-use awk_layout::{Operand, Operands};
+use awk_layout::{Datum, Operand, Operands};
 use awk_leaves::LeafType;
 use awk_types::Typ;
 use std::alloc::Global;
@@ -21,6 +22,15 @@ pub fn leaf_in(t: &Typ) -> LeafType
         Typ::Leaf(prim) => LeafType::Of(*prim),
         Typ::Var(inner) | Typ::Reg(_, inner) | Typ::Opt(inner) => leaf_in(inner),
         _ => LeafType::Unknown,
+    }
+}
+
+/// What the leaves of a datum are of.
+pub fn datum_leaf(x: &Datum) -> LeafType
+    ensures { result ≡ leaf_in (datum_type (datum_of x.now)) }
+{
+    match x {
+        Datum::Arr(x) | Datum::One(x) => leaf_in(x.typ()),
     }
 }
 

@@ -16,7 +16,7 @@ use Rattle.awk_layout.specs.declared.datum.Datum.{Datum}
 use Rattle.awk_layout.specs.declared.datum.Datum.TheVariants.{Arr, One}
 use Rattle.awk_layout.specs.declared.datum.Operand as code
 use Rattle.awk_expr.specs.Allowed.{HasArguments, IsAllowed, AreAllowed}
-use Rattle.awk_expr.specs.ExprTree.{ExprTree, exprs_from, expr_list}
+use Rattle.awk_expr.specs.ExprTree.{ExprTree, exprs_from}
 use Rattle.awk_expr.specs.View.{expr_of, exprs_of}
 use Rattle.awk_expr.specs.declared.op.Op.{Op}
 use Rattle.awk_expr.specs.declared.expr.Expr.{Expr, Call}
@@ -24,6 +24,7 @@ use Rattle.awk_expr.specs.declared.expr.Exprs.{Exprs}
 use Rattle.awk_expr.specs.declared.fixed.Fixed.{Fixed}
 use Rattle.awk_expr.proofs.Views.{expr_of-Call}
 use Rattle.awk_view.proofs.RowSteps.{IfOk-map}
+use Rattle.awk_expr.proofs.AllowedLaws.{expr_list-from}
 use Rattle.awk_eval.specs.Bindings.{Bindings, look_up, each}
 use Rattle.awk_eval.specs.Variables.{Variables, Environment, denoted}
 use Rattle.awk_arguments.specs.Operand.{Operand, takes_literal, IsTakenAs, AreTaken}
@@ -145,10 +146,6 @@ AreTaken-operands o old new i x b pushed counted place are is =
 
 -- ---- what is allowed
 
-pub expr_list-exprs_from : (es : List ExprTree) → expr_list (exprs_from es) ≡ es
-expr_list-exprs_from [] = refl
-expr_list-exprs_from (e ∷ es) = ap (λ more. e ∷ more) (expr_list-exprs_from es)
-
 -- each argument of an allowed call is allowed
 pub AreAllowed-get : (es : List ExprTree) (i : ℕ) (e : ExprTree) → slice_get es i ≡ Some e
     → AreAllowed (exprs_from es) → IsAllowed e
@@ -161,4 +158,4 @@ pub HasArguments-call : (e : Expr) (o : Op) (args : Exprs) (fixed : Fixed) → e
     → IsAllowed (expr_of e) → HasArguments o (length (exprs_of args)) fixed
 HasArguments-call e o args fixed is allowed =
     let call = subst IsAllowed (ap expr_of is ∙ expr_of-Call o args fixed) allowed in
-    subst (λ n. HasArguments o n fixed) (ap length (expr_list-exprs_from (exprs_of args))) call.0
+    subst (λ n. HasArguments o n fixed) (ap length (expr_list-from (exprs_of args))) call.0

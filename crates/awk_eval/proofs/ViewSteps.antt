@@ -8,7 +8,7 @@ use Rattle.awk_types.specs.DataType.{Name}
 use Rattle.awk_types.specs.Faults.{fault_told}
 use Rattle.awk_types.specs.Gives.{Gives}
 use Rattle.awk_types.proofs.RefusalLaws.{refused_or-Ok}
-use Rattle.awk_layout.specs.Datum.{datum_of}
+use Rattle.awk_layout.specs.Datum.{datum_of, kept}
 use Rattle.awk_layout.specs.Layout.{Layout, weight, height}
 use Rattle.awk_layout.specs.Typing.{array_type, array_datum}
 use Rattle.awk_layout.specs.declared.datum.Datum.{Datum}
@@ -16,7 +16,6 @@ use Rattle.awk_layout.specs.declared.datum.Datum.TheVariants.{Arr, One}
 use Rattle.awk_lists.specs.WithoutField.{without_field_of}
 use Rattle.awk_view.specs.Answer.{choice_fault}
 use Rattle.awk_view.specs.Choice.{without}
-use Rattle.awk_view.specs.Settled.{kept}
 use Rattle.awk_layout.specs.declared.datum.Operand.{Operand}
 use Rattle.awk_expr.specs.ExprTree.{ExprTree, call, exprs_from}
 use Rattle.awk_expr.specs.View.{expr_of, exprs_of}

@@ -62,8 +62,7 @@ use Rattle.awk_hist.specs.HistEach.{histogram}
 use Rattle.awk_reduce.specs.Reduce.{reduce_of}
 use Rattle.awk_reduce.specs.declared.reducer.Reducer.{Reducer}
 use Rattle.awk_reduce.specs.declared.reducer.Reducer.TheVariants as reducer
-use Rattle.awk_fill.specs.FillNone as fill
-use Rattle.awk_fill.specs.FillNone.{Filler, fill_none_of}
+use Rattle.awk_fill.specs.FillNone.{fill_none_of}
 use Rattle.awk_layout.specs.Filler.{literal, datum}
 use Rattle.awk_leaves.specs.declared.operation.Binary.{Binary}
 use Rattle.awk_leaves.specs.declared.operation.Binary.TheVariants.{Calculate, Test, Join}
@@ -223,14 +222,9 @@ is_each extent.Each = true
 abbrev pub padded_by : ℕ × ℤ × Bool → Datum → Result Datum Fault
 padded_by p d = pad_none_of p.0 (axis_in d p.1) p.2 d
 
--- what fills nulls
-abbrev pub filler : Operand → Filler
-filler (datum d) = fill.datum d
-filler (literal z) = fill.literal z
-
 -- nulls at an axis filled
 abbrev pub filled_by : ℤ → Datum × Operand → Result Datum Fault
-filled_by axis p = fill_none_of p.0 (filler p.1) (axis_in p.0 axis)
+filled_by axis p = fill_none_of p.0 p.1 (axis_in p.0 axis)
 
 -- an array where a mask over it is as asked, and null elsewhere
 abbrev pub masked_by : Bool → Datum × Datum → Result Datum Fault

@@ -1,16 +1,14 @@
 //! Single values: numbers and truth values as arrays of one item.
-ghost use Rattle.std.specs.Prelude.{◌≡◌, [], ◌∷◌, IfOk};
+ghost use Rattle.std.specs.Prelude.{◌≡◌, IfOk};
 ghost use Rattle.awk_types.specs.Gives.{Gives};
 ghost use Rattle.awk_types.specs.Faults.{fault_told};
-ghost use Rattle.awk_lanes.specs.Numbers.{int_of, IsOf};
 ghost use Rattle.awk_heights.specs.Low.{IsLow};
 ghost use Rattle.awk_layout.specs.Datum.{IsDatum, datum_of, kept};
-ghost use Rattle.awk_layout.specs.Layout.{flat};
 ghost use Rattle.awk_eval.specs.Eval as meaning;
 
-use awk_lanes::{Arena, Kind, LaneMaker, Num, Steps};
-use awk_layout::{Array, Datum, Node, prim_of};
-use awk_types::{Fault, NoMemory, Typ};
+use awk_lanes::{Arena, Kind, Num, Steps};
+use awk_layout::{Array, Datum};
+use awk_types::{Fault, NoMemory};
 use std::sync::ledger::Ledger;
 
 /// A whole number as a single int64, if it fits.
@@ -26,7 +24,7 @@ pub(crate) fn int64_of<'s, L: Ledger>(
     if z < i128::from(i64::MIN) || z > i128::from(i64::MAX) {
         return Err(Fault::Overflow);
     }
-    Ok(Datum::One(only(Kind::I64, Num::Int(z as i64), arena, steps)?))
+    Ok(Datum::One(Array::only(Kind::I64, Num::Int(z as i64), arena, steps)?))
 }
 
 /// A single truth value.
@@ -39,22 +37,5 @@ pub(crate) fn bool_of<'s, L: Ledger>(
     ensures datum { IfOk result (λ made. IsDatum made) }
     ensures low { IfOk result (λ made. IsLow (kept made)) }
 {
-    Ok(Datum::One(only(Kind::Bool, Num::Truth(b), arena, steps)?))
-}
-
-// The array of one number of a kind.
-fn only<'s, L: Ledger>(
-    kind: Kind,
-    x: Num,
-    arena: &'s Arena,
-    steps: &mut Steps<L>,
-) -> Result<Array<'s>, NoMemory>
-    requires kind { IsOf kind x }
-    ensures { IfOk result (λ made.
-        made ≡ flat (record { kind = kind; items = int_of x ∷ [] })) }
-{
-    let mut maker = LaneMaker::new(kind, 1, arena)?;
-    maker.push(x);
-    let node = Node::numpy(maker.finish(), steps);
-    Ok(Array::with_type(node, Typ::Leaf(prim_of(kind))))
+    Ok(Datum::One(Array::only(Kind::Bool, Num::Truth(b), arena, steps)?))
 }

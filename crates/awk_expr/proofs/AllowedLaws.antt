@@ -19,8 +19,7 @@ use Rattle.awk_expr.specs.Arguments.{named_exprs, fixed_of, part_of, args_of}
 use Rattle.awk_expr.specs.ExprTree as tree
 use Rattle.awk_expr.specs.ExprTree.{ExprTree, exprs_from, expr_list}
 use Rattle.awk_expr.specs.Operations.{Found, row_of}
-use Rattle.awk_expr.specs.WholeNumbers.{is_whole, if_whole, whole_in, whole_of, are_edges}
-use Rattle.awk_expr.specs.WholeNumbers.{if_edges}
+use Rattle.awk_expr.specs.WholeNumbers.{is_whole, if_whole, whole_in, whole_of, are_edges, if_edges}
 use Rattle.awk_expr.specs.Reading.{Head, var, whole, truth, call, call_head, list_head, head_of}
 use Rattle.awk_expr.specs.Reading.{expr_with, expr_down, expr_said}
 use Rattle.awk_expr.specs.declared.kind.ArgKind.{ArgKind}
@@ -274,9 +273,9 @@ all-are f h (d ∷ ds) =
     (all-are f h ds))
     (f d) (h d)
 
-listed : (es : List ExprTree) → expr_list (exprs_from es) ≡ es
-listed [] = refl
-listed (e ∷ es) = ap (λ more. e ∷ more) (listed es)
+pub expr_list-from : (es : List ExprTree) → expr_list (exprs_from es) ≡ es
+expr_list-from [] = refl
+expr_list-from (e ∷ es) = ap (λ more. e ∷ more) (expr_list-from es)
 
 with-is : (f : Data → Option ExprTree) → ((d : Data) → May IsAllowed (f d)) → (h : Head) → IsHead h
     → May IsAllowed (expr_with f h)
@@ -287,7 +286,7 @@ with-is f h (call op args) k =
     may-map-of (AreRead args.exprs) IsAllowed (λ es. tree.call op (exprs_from es) args.fixed)
     (λ es l. (
       subst (λ n. HasArguments op n args.fixed)
-          (sym (ap length (listed es) ∙ l.as_many)) k,
+          (sym (ap length (expr_list-from es) ∙ l.as_many)) k,
       l.allowed,
     ))
     (all_of f args.exprs) (all-are f h args.exprs)

@@ -1,7 +1,7 @@
 -- A value in the place of each null.
-use Rattle.std.specs.Prelude.{◌≡◌, ℕ, ◌+◌, ◌-◌, ◌<◌, ◌≤◌, ◌^◌, ◌&&◌, refl, Bool, true, false}
-use Rattle.std.specs.Prelude.{List, [], ◌++◌, map, length, get_or, ℤ, pos, negsuc, ◌≤ℤ◌, ◌<ℤ◌}
-use Rattle.std.specs.Prelude.{int_le, Option, Some, None, Result, Ok, Err}
+use Rattle.std.specs.Prelude.{◌≡◌, ℕ, ◌+◌, ◌-◌, ◌<◌, ◌≤◌, ◌^◌, refl, true, false, List, [], ◌++◌}
+use Rattle.std.specs.Prelude.{map, length, get_or, ℤ, pos, negsuc, ◌≤ℤ◌, ◌<ℤ◌, Option, Some, None}
+use Rattle.std.specs.Prelude.{Result, Ok, Err}
 use Rattle.std.proofs.Common.{arith, ap, ap₂, sym, subst, ◌∙◌}
 use Rattle.std.proofs.lemmas.Int.{ints}
 use Rattle.std.proofs.lemmas.List.{length-append, length-map, get_or_append_left, get_or-append-add}
@@ -13,7 +13,7 @@ use Rattle.awk_types.specs.Faults.{fault_told}
 use Rattle.awk_types.specs.Gives.{Gives, Told, refused_or}
 use Rattle.awk_types.specs.IsType.{IsType}
 use Rattle.awk_types.specs.Limit.{limit}
-use Rattle.awk_types.specs.Has.{Has, Holds, least_number, greatest_number}
+use Rattle.awk_types.specs.Has.{Has}
 use Rattle.awk_types.specs.Simple.{IsSimple, is_option, simple, simple_value}
 use Rattle.awk_types.specs.Value.{Value, int, truth, null, list, row, alt, value_list}
 use Rattle.awk_types.specs.ItemLimit.{item_limit}
@@ -22,13 +22,13 @@ use Rattle.awk_types.specs.declared.fault.Fault.TheVariants.{Unbound, NoField, A
 use Rattle.awk_types.specs.declared.fault.Fault.TheVariants.{Overflow, Zero, Depth, Size, Lengths}
 use Rattle.awk_types.specs.declared.fault.Fault.TheVariants.{Index, NoMemory}
 use Rattle.awk_types.specs.declared.name.Name.{Name}
-use Rattle.awk_types.specs.declared.primitive.Primitive.{Primitive}
 use Rattle.awk_types.proofs.SimpleLaws.{simple_twice, simple_is_simple, has_each, null_in_option}
 use Rattle.awk_lanes.specs.Column.{Column}
 use Rattle.awk_lanes.specs.Numbers.{nat_of}
 use Rattle.awk_lanes.specs.Places.{size_of, at, place_at, option_place, option_place_at, IsIndex}
 use Rattle.awk_lanes.specs.Places.{IsOptionalIndex}
 use Rattle.awk_lanes.specs.declared.kind.Kind.TheVariants.{I64}
+use Rattle.awk_layout.specs.Filler.{Filler, filler_value, is_filler}
 use Rattle.awk_layout.specs.declared.datum.Datum.{Datum as Array}
 use Rattle.awk_layout.specs.Datum.{datum_of}
 use Rattle.awk_layout.specs.Item.{at_option}
@@ -48,38 +48,24 @@ use Rattle.awk_open.specs.Opened.{IsOpened}
 use Rattle.awk_open.specs.declared.opening.Opened.TheVariants.{Option as Optional}
 use Rattle.awk_axis.specs.Spoils.{too_many}
 use Rattle.awk_axis.specs.declared.causes.Spoil.TheVariants.{Size as TooLarge}
-use Rattle.awk_columns.proofs.ArrayLaws.{run_map, run_same}
+use Rattle.awk_columns.proofs.ArrayLaws.{run_map}
 use Rattle.awk_columns.proofs.ListNodes.{joined_even}
 use Rattle.awk_unify.specs.Carry.{Carry, keep, carried}
 use Rattle.awk_unify.specs.Unification.{Unification}
 use Rattle.awk_unify.specs.Unifies.{IsCarriedInto, Unifies, within_type}
 use Rattle.awk_unify.specs.Unify.{unification}
+use Rattle.awk_layout.proofs.Runs.{run-same}
 use Rattle.awk_merge_sides.specs.Sides.{Side, merged_items, AreSides, IsMerged, with_side}
 use Rattle.awk_merge_sides.proofs.SideLaws.{item_has, length-carried, get_or-carried}
 use Rattle.awk_merge_sides.proofs.SideLaws.{merged_items-with_side, AreSides-with_side}
+use Rattle.awk_primitives.specs.Fits.{fits}
 use Rattle.awk_fill.specs.Filled.{IsFirst, IsPair, place_or, places_or, IsFilled, IsFilledOption}
 use Rattle.awk_fill.specs.Filled.{HoldsOption, IsRefused}
-use Rattle.awk_fill.specs.FillNone.{Filler, filler_type, filler_value, filling, fill_value, filled}
-use Rattle.awk_fill.specs.FillNone.{filled_type, fits, fill_none_function, no_filler, is_filler}
-use Rattle.awk_fill.specs.FillNone.{fill_none_of}
+use Rattle.awk_fill.specs.FillNone.{filler_type, filling, fill_value, filled, filled_type}
+use Rattle.awk_fill.specs.FillNone.{fill_none_function, no_filler, fill_none_of}
 use Rattle.awk_option_nodes.proofs.OptionNodes.{HasItems, item_stays}
 use Rattle.awk_axis.proofs.SpoilLimits.{over_limit, within_limit}
 use Rattle.awk_columns.proofs.OffsetLaws.{count_same}
-
--- ---- the value alone
-
--- a number that fits is one of the primitive
-pub fits_holds : (p : Primitive) (z : ℤ) → fits p z ≡ true → Holds p z
-fits_holds p z e = by (int_le (least_number p) z) (int_le z (greatest_number p)) refl refl e
-  where
-    in_order : (a b : ℤ) → int_le a b ≡ true → a ≤ℤ b
-    in_order a b e = grind (arith, ints)
-
-    by : (l g : Bool) → int_le (least_number p) z ≡ l → int_le z (greatest_number p) ≡ g
-        → (l && g) ≡ true → Holds p z
-    by true true a b h = (in_order (least_number p) z a, in_order z (greatest_number p) b)
-    by true false a b h = cc
-    by false g a b h = cc
 
 -- ---- two columns
 
@@ -402,7 +388,7 @@ module _ (f : Filler) (class : Class) (s t : Column) (y : Layout) (o : Column) (
         let n = place_at o (i + 1) - place_at o i in
         let g : Value → Value = filled f (array_type y) in
         let within = j.offsets.within i p in
-        ap value_list (run_same (array_item w) (λ k. simple_value typ (g (array_item x k))) first n
+        ap value_list (run-same (array_item w) (λ k. simple_value typ (g (array_item x k))) first n
         (λ k _ q. made_item k (omega (arith, q, within))))
         ∙ sym (run_map (λ v. simple_value typ (g v)) (array_item x) first n)
         ∙ ap (λ r. map (λ v. simple_value typ (g v)) (value_list r)) (sym (j.lists i p))

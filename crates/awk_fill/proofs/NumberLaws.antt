@@ -1,15 +1,15 @@
 -- Options over numbers of 64 bits, filled in one pass.
 use Rattle.std.proofs.Common.{◌≡◌, ℕ, ◌<◌, arith, refl, ap, ap₂, sym, subst, ◌∙◌}
-use Rattle.std.specs.Prelude.{◌^◌, List, ℤ, pos, negsuc, ◌<ℤ◌, Option, Some, None}
-use Rattle.std.proofs.lemmas.Int.{ints}
+use Rattle.std.specs.Prelude.{◌^◌, List, ℤ, Option, Some, None}
 use Rattle.awk_types.specs.DataType.{leaf}
 use Rattle.awk_types.specs.Value.{int}
 use Rattle.awk_types.specs.declared.primitive.Primitive.TheVariants.{I64 as Wide}
 use Rattle.awk_lanes.specs.declared.kind.Kind.{Kind}
 use Rattle.awk_lanes.specs.declared.kind.Kind.TheVariants.{I64}
 use Rattle.awk_lanes.specs.Column.{Column}
-use Rattle.awk_lanes.specs.Places.{size_of, at, option_place, option_place_at}
+use Rattle.awk_lanes.specs.Places.{size_of, at, option_place_at}
 use Rattle.awk_lanes.proofs.MadeLanes.{size-lane_of, at-lane_of}
+use Rattle.awk_layout.specs.Filler.{Filler, filler_value}
 use Rattle.awk_layout.specs.Item.{at_option}
 use Rattle.awk_layout.specs.Layout.{Layout, flat}
 use Rattle.awk_layout.specs.Typing.{array_type}
@@ -17,12 +17,7 @@ use Rattle.awk_gather.specs.Arrays.{array_item}
 use Rattle.awk_unify.specs.Unification.{Unification}
 use Rattle.awk_unify.specs.Unify.{unification}
 use Rattle.awk_fill.specs.Filled.{number_or, filled_lane, IsFirst, IsFilledOption}
-use Rattle.awk_fill.specs.FillNone.{Filler, filler_type, filler_value, filling, fill_value}
-
--- a place that an index names is one of its content
-pub named_below : (z : ℤ) (n k : ℕ) → z <ℤ pos n → option_place z ≡ Some k → k < n
-named_below (pos m) n k h e = let f : m ≡ k = cc in omega (arith, ints, f, h)
-named_below (negsuc m) n k h e = cc
+use Rattle.awk_fill.specs.FillNone.{filler_type, filling, fill_value}
 
 -- numbers of i64
 abbrev wide : List ℤ → Column

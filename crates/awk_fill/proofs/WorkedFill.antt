@@ -1,13 +1,13 @@
 -- Worked examples of nulls that are filled, each checked by computing.
-use Rattle.std.specs.Prelude.{◌≡◌, List, [], ◌∷◌, pos, negsuc, Ok, Err, true}
-use Rattle.std.specs.Prelude.{refl}
+use Rattle.std.specs.Prelude.{◌≡◌, List, [], ◌∷◌, pos, negsuc, Ok, Err, true, refl}
 use Rattle.awk_types.specs.declared.primitive.Primitive.TheVariants.{Bool, I8, U8, I64}
-use Rattle.awk_types.specs.DataType.{DataType, unknown, leaf, var, reg, tup, opt, uni}
-use Rattle.awk_types.specs.DataType.{no_types, type}
+use Rattle.awk_types.specs.DataType.{DataType, unknown, leaf, var, reg, tup, opt, uni, no_types}
+use Rattle.awk_types.specs.DataType.{type}
 use Rattle.awk_types.specs.Value.{Value, int, truth, null, list, row, alt, values_from}
 use Rattle.awk_types.specs.Datum.{Datum, arr, one}
 use Rattle.awk_types.specs.declared.fault.Fault.TheVariants.{Axis, WrongType, Overflow}
-use Rattle.awk_fill.specs.FillNone.{Filler, literal, datum, fill_none_of}
+use Rattle.awk_layout.specs.Filler.{Filler, literal, datum}
+use Rattle.awk_fill.specs.FillNone.{fill_none_of}
 
 abbrev int64 : DataType
 int64 = leaf I64

@@ -1,61 +1,26 @@
 -- A value in the place of each null.
-use Rattle.std.specs.Prelude.{◌&&◌, Bool, true, false, not, map, ℤ, Option, Some, None}
-use Rattle.std.specs.Prelude.{Result, Err, if◌then◌else◌, int_le}
+use Rattle.std.specs.Prelude.{map, ℤ, Option, Some, None, Result, Err, if◌then◌else◌}
 use Rattle.awk_types.specs.DataType.{DataType, leaf, opt}
 use Rattle.awk_types.specs.Datum.{Datum, arr, one}
-use Rattle.awk_types.specs.Has.{least_number, greatest_number}
-use Rattle.awk_types.specs.Simple.{is_option}
-use Rattle.awk_types.specs.Value.{Value, int, null}
+use Rattle.awk_types.specs.Value.{Value, null}
 use Rattle.awk_types.specs.declared.fault.Fault.{Fault}
 use Rattle.awk_types.specs.declared.fault.Fault.TheVariants.{Axis, WrongType}
-use Rattle.awk_types.specs.declared.primitive.Primitive.{Primitive}
-use Rattle.awk_types.specs.declared.primitive.Primitive.TheVariants.{Bool as Truths, I64}
 use Rattle.awk_axis.specs.Counted.{counted}
 use Rattle.awk_axis.specs.Lifting.{lift}
 use Rattle.awk_axis.specs.ListFunction.{ListFunction, lists}
 use Rattle.awk_axis.specs.declared.causes.Refusal.{Refusal}
 use Rattle.awk_axis.specs.declared.causes.Refusal.TheVariants as refused
-use Rattle.awk_layout.specs.Datum.{datum_of}
-use Rattle.awk_layout.specs.declared.datum.Operand.{Operand}
-use Rattle.awk_layout.specs.declared.datum.Operand.TheVariants.{Of, Literal}
+use Rattle.awk_layout.specs.Filler.{Filler, literal, datum, is_filler, filler_value}
 use Rattle.awk_unify.specs.Carry.{carried}
 use Rattle.awk_unify.specs.Unification.{Unification}
 use Rattle.awk_unify.specs.Unify.{unification}
-
--- what fills nulls: a whole number that takes its type from where it stands, or a datum
-pub data Filler : Type 0 where
-  literal : ℤ → Filler
-  datum : Datum → Filler
-
-abbrev pub filler_of : Operand → Filler
-filler_of (Of x) = datum (datum_of x)
-filler_of (Literal z) = literal z
-
--- a single value that is not optional, or a literal
-abbrev pub is_filler : Filler → Bool
-is_filler (literal z) = true
-is_filler (datum (arr t vs)) = false
-is_filler (datum (one t v)) = not (is_option t)
-
--- a literal takes the type of the items where that is a whole-number type, else int64
-abbrev pub literal_primitive : DataType → Primitive
-literal_primitive (leaf Truths) = I64
-literal_primitive (leaf p) = p
-literal_primitive t = I64
-
-abbrev pub fits : Primitive → ℤ → Bool
-fits p z = int_le (least_number p) z && int_le z (greatest_number p)
+use Rattle.awk_primitives.specs.Fits.{fits, literal_primitive}
 
 -- the type of what fills nulls beside items of a type
 abbrev pub filler_type : Filler → DataType → DataType
 filler_type (literal z) t = leaf (literal_primitive t)
 filler_type (datum (arr u vs)) t = u
 filler_type (datum (one u v)) t = u
-
-abbrev pub filler_value : Filler → Value
-filler_value (literal z) = int z
-filler_value (datum (arr u vs)) = null
-filler_value (datum (one u v)) = v
 
 -- the items that are present and what fills nulls become values of one type
 abbrev pub filling : Filler → DataType → Unification

@@ -1,6 +1,5 @@
 -- Columns whose nulls are filled.
-use Rattle.std.specs.Prelude.{◌≡◌, ℕ, ◌<◌, ◌^◌, ◌++◌, ℤ, pos, map, Option, Some, None}
-use Rattle.std.specs.Prelude.{Result}
+use Rattle.std.specs.Prelude.{◌≡◌, ℕ, ◌<◌, ◌^◌, ◌++◌, ℤ, pos, map, Option, Some, None, Result}
 use Rattle.std.specs.List.{AllByRecursion}
 use Rattle.awk_types.specs.DataType.{DataType, opt}
 use Rattle.awk_types.specs.Datum as shown
@@ -14,30 +13,23 @@ use Rattle.awk_lanes.specs.Column.{Column}
 use Rattle.awk_lanes.specs.Places.{size_of, at, option_place_at, IsOptionalIndex}
 use Rattle.awk_lanes.specs.declared.kind.Kind.TheVariants.{I64}
 use Rattle.awk_layout.specs.Datum.{datum_of}
+use Rattle.awk_layout.specs.Filler.{Filler}
 use Rattle.awk_layout.specs.Item.{at_option}
 use Rattle.awk_layout.specs.Layout.{Layout}
 use Rattle.awk_layout.specs.Typing.{array_type, array_items}
 use Rattle.awk_layout.specs.Valid.{len, IsValid}
 use Rattle.awk_layout.specs.declared.datum.Datum.{Datum}
-use Rattle.awk_layout.specs.declared.datum.Datum.TheVariants.{One}
-use Rattle.awk_layout.specs.declared.datum.Operand.{Operand}
-use Rattle.awk_layout.specs.declared.datum.Operand.TheVariants.{Of}
 use Rattle.awk_gather.specs.Arrays.{array_item}
 use Rattle.awk_lanes.specs.Made.{lane_of}
 use Rattle.awk_unify.specs.Carry.{carried}
 use Rattle.awk_unify.specs.Unification.{Unification}
-use Rattle.awk_fill.specs.FillNone.{Filler, filled, filled_type, no_filler}
+use Rattle.awk_fill.specs.FillNone.{filled, filled_type, no_filler}
 
 -- an array of a type whose first item is the value
 pub record IsFirst (t : DataType) (v : Value) (y : Layout) : Type 0 where
   pub typ : array_type y ≡ t
   pub some : 0 < len y
   pub first : array_item y 0 ≡ v
-
--- a single value is the first item of its array, if there is one
-abbrev pub HasFirst : Operand → Type 0
-HasFirst (Of (One x)) = 0 < len x
-HasFirst v = Unit {0}
 
 -- two columns one after another, as items of the type that theirs unify to
 pub record IsPair (u : Unification) (x y z : Layout) : Type 0 where

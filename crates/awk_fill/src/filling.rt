@@ -3,23 +3,21 @@ ghost use Rattle.std.specs.Prelude.{◌≡◌, ◌<◌, ◌^◌, false, pos, Non
 ghost use Rattle.awk_types.specs.DataType.{leaf, opt};
 ghost use Rattle.awk_types.specs.Faults.{fault_told};
 ghost use Rattle.awk_types.specs.Gives.{Gives};
-ghost use Rattle.awk_types.specs.Has.{least_number, greatest_number, Holds};
+ghost use Rattle.awk_types.specs.Has.{Holds};
 ghost use Rattle.awk_types.specs.Simple.{is_option};
 ghost use Rattle.awk_types.specs.Value.{int};
 ghost use Rattle.awk_types.specs.View.{typ_of};
-ghost use Rattle.awk_lanes.specs.Numbers.{int_of, IsOf};
 ghost use Rattle.awk_lanes.specs.Places.{size_of, IsOptionalIndex};
 ghost use Rattle.awk_layout.specs.Datum.{datum_of, first_item, IsDatum, IsOperand};
+ghost use Rattle.awk_layout.specs.Filler.{filler_of, filler_value, HasFirst};
 ghost use Rattle.awk_layout.specs.Kinds.{kind_of};
 ghost use Rattle.awk_layout.specs.Typing.{array_type};
 ghost use Rattle.awk_layout.specs.Valid.{len};
 ghost use Rattle.awk_unify.specs.Unify.{unification};
-ghost use Rattle.awk_fill.specs.Filled.{IsFirst, HasFirst, IsPair, place_or, places_or};
-ghost use Rattle.awk_fill.specs.Filled.{IsFilled, IsFilledOption, IsRefused};
-ghost use Rattle.awk_fill.specs.FillNone.{filler_of, is_filler, literal_primitive};
-ghost use Rattle.awk_fill.specs.FillNone.{fits as fits_in, literal_refusal, filler_refusal};
-ghost use Rattle.awk_fill.specs.FillNone.{filler_type, filler_value, fill_none_function};
-ghost use Rattle.awk_fill.specs.FillNone.{fill_none_of};
+ghost use Rattle.awk_fill.specs.Filled.{IsFirst, IsPair, place_or, places_or, IsFilled};
+ghost use Rattle.awk_fill.specs.Filled.{IsFilledOption, IsRefused};
+ghost use Rattle.awk_fill.specs.FillNone.{literal_refusal, filler_refusal, filler_type};
+ghost use Rattle.awk_fill.specs.FillNone.{fill_none_function, fill_none_of};
 
 use crate::moving::array_in;
 use crate::numbers::filled_numbers;
@@ -29,61 +27,15 @@ use awk_columns::{Joined, Lists};
 use awk_lanes::{
     Arena, Index, Kind, Lane, LaneMaker, Num, Numbers, Steps, index_of, made_lane, number,
 };
-use awk_layout::{Array, Datum, Node, Operand, kind_of};
+use awk_layout::{Array, Datum, Node, Operand, kind_of, number_of};
 use awk_merge_columns::merge;
 use awk_merge_sides::Sides;
+use awk_primitives::{fits, literal_prim};
 use awk_types::{Fault, NoMemory, Prim, Typ, copy_type, is_optional};
 use awk_unify::{Lift, unify, unify_unlimited};
 use std::alloc::{AllocError, Global};
 use std::marker::Model;
 use std::sync::ledger::Ledger;
-
-/// The least number of a primitive.
-fn least(prim: Prim) -> i128
-    ensures { result ≡ least_number prim }
-{
-    match prim {
-        Prim::I8 => -0x80,
-        Prim::I16 => -0x8000,
-        Prim::I32 => -0x8000_0000,
-        Prim::I64 => -0x8000_0000_0000_0000,
-        _ => 0,
-    }
-}
-
-/// The greatest number of a primitive. Truth values are no numbers.
-fn greatest(prim: Prim) -> i128
-    ensures { result ≡ greatest_number prim }
-{
-    match prim {
-        Prim::Bool => -1,
-        Prim::I8 => 0x7f,
-        Prim::I16 => 0x7fff,
-        Prim::I32 => 0x7fff_ffff,
-        Prim::I64 => 0x7fff_ffff_ffff_ffff,
-        Prim::U8 => 0xff,
-        Prim::U16 => 0xffff,
-        Prim::U32 => 0xffff_ffff,
-        Prim::U64 => 0xffff_ffff_ffff_ffff,
-    }
-}
-
-fn fits(prim: Prim, z: i128) -> bool
-    ensures { result ≡ fits_in prim z }
-{
-    least(prim) <= z && z <= greatest(prim)
-}
-
-/// The type of a literal beside items of a type.
-fn literal_prim(item: &Typ) -> Prim
-    ensures { result ≡ literal_primitive (typ_of item.now) }
-{
-    match item {
-        Typ::Leaf(Prim::Bool) => Prim::I64,
-        Typ::Leaf(prim) => *prim,
-        _ => Prim::I64,
-    }
-}
 
 /// A literal is judged only where items are optional.
 fn literal_refusal(z: i128, item: &Typ) -> Option<Refusal>
@@ -101,17 +53,6 @@ fn literal_refusal(z: i128, item: &Typ) -> Option<Refusal>
     }
 }
 
-/// Whether nulls may be filled with it.
-fn is_filler(value: &Operand) -> bool
-    ensures { result ≡ is_filler (filler_of value.now) }
-{
-    match value {
-        Operand::Literal(_) => true,
-        Operand::Of(Datum::Arr(_)) => false,
-        Operand::Of(Datum::One(x)) => !is_optional(x.typ()),
-    }
-}
-
 /// Its type beside items of a type.
 fn filler_typ(alloc: Global, value: &Operand, item: &Typ) -> Result<Typ, NoMemory>
     ensures { let f = filler_of value.now in
@@ -120,18 +61,6 @@ fn filler_typ(alloc: Global, value: &Operand, item: &Typ) -> Result<Typ, NoMemor
     match value {
         Operand::Literal(_) => Ok(Typ::Leaf(literal_prim(item))),
         Operand::Of(Datum::Arr(x) | Datum::One(x)) => copy_type(alloc, x.typ()),
-    }
-}
-
-/// A number as one of a primitive that holds it.
-fn number_of(prim: Prim, z: i128) -> Num
-    requires { Holds prim z }
-    ensures number { int_of result ≡ z }
-    ensures kind { IsOf (kind_of prim) result }
-{
-    match prim {
-        Prim::U8 | Prim::U16 | Prim::U32 | Prim::U64 => Num::Nat(z as u64),
-        _ => Num::Int(z as i64),
     }
 }
 
@@ -310,14 +239,13 @@ struct Filling<'o, 'b> {
 }
 
 impl<'o, 'b> Model for Filling<'o, 'b> {
+    ghost use Rattle.awk_layout.specs.Filler.{HasFirst};
     ghost use Rattle.awk_layout.specs.declared.datum.Operand.{Operand};
     ghost use Rattle.awk_layout.specs.DatumCode.{coded_operand};
 
     ghost Value = { Operand };
 
     ghost coded = { coded_operand };
-
-    ghost use Rattle.awk_fill.specs.Filled.{HasFirst};
 
     ghost view = { λ f. f.value.now };
 
@@ -330,7 +258,7 @@ impl<'o, 'b> ListOp for Filling<'o, 'b> {
     fn refusal(&self, item: &Typ) -> Option<Refusal> {
         match self.value {
             Operand::Literal(z) => literal_refusal(*z, item),
-            _ if is_filler(self.value) => None,
+            _ if self.value.is_filler() => None,
             _ => Some(Refusal::WrongType),
         }
     }
@@ -446,7 +374,7 @@ pub fn fill_none<'a, L: Ledger>(
 {
     let own = compact(alloc, value, arena, steps)?;
     let answer = lift_at(alloc, &Filling { value: &own }, x, axis, arena, steps);
-    if is_filler(value) {
+    if value.is_filler() {
         answer
     } else {
         Err(refused(answer))

@@ -2,14 +2,14 @@
 ghost use Rattle.std.specs.Prelude.{◌≡◌, ◌<◌, ◌^◌, IfOk, IfSome};
 ghost use Rattle.awk_lanes.specs.Places.{size_of, IsOptionalIndex};
 ghost use Rattle.awk_lanes.specs.declared.kind.Kind.TheVariants as Kinds;
-ghost use Rattle.awk_layout.specs.Layout.{flat};
+ghost use Rattle.awk_layout.specs.Filler.{Filler, filler_value};
 ghost use Rattle.awk_layout.specs.Typing.{array_type};
 ghost use Rattle.awk_layout.specs.Valid.{len};
 ghost use Rattle.awk_fill.specs.Filled.{filled_lane, IsFirst, IsFilledOption};
-ghost use Rattle.awk_fill.specs.FillNone.{Filler, filler_type, filler_value};
+ghost use Rattle.awk_fill.specs.FillNone.{filler_type};
 
-use awk_lanes::{Arena, Index, Kind, Lane, Num, Numbers, Steps, index_of, made_lane, wide_index};
-use awk_layout::{Array, Class, Node};
+use awk_lanes::{Arena, Index, Kind, Lane, Num, Numbers, Steps, index_of, made_lane};
+use awk_layout::{Array, Class, Node, wide_numbers};
 use awk_types::NoMemory;
 use std::alloc::Global;
 use std::sync::ledger::Ledger;
@@ -62,17 +62,6 @@ fn filled_lane<'a, L: Ledger>(
         filler,
     };
     made_lane(Kind::I64, index.len(), &filled, arena, steps)
-}
-
-/// The numbers of an array of numbers of 64 bits with a sign, where it is one lane of them.
-fn wide_numbers<'a, L: Ledger>(x: &Array<'a>, steps: &mut Steps<L>) -> Option<Index<'a>>
-    ensures kind { IfSome result (λ c. c.kind ≡ Kinds.I64) }
-    ensures numbers { IfSome result (λ c. x.now ≡ flat c) }
-{
-    match x.node().class() {
-        Class::Numpy { lane } if lane.kind() == Kind::I64 => Some(wide_index(lane, steps)),
-        _ => None,
-    }
 }
 
 /// The nulls of an option as the first item of an array, where what is present and this array are

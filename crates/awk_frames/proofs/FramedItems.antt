@@ -1,34 +1,34 @@
 -- A column of ends under a shape: its items, its type and its length.
-use Rattle.std.proofs.Common.{◌≡◌, ℕ, ◌+◌, ◌-◌, ◌<◌, refl, ap, arith}
-use Rattle.std.proofs.Common.{sym, ◌∙◌}
-use Rattle.std.specs.Prelude.{List, [], ◌∷◌, map, filter, length, get_or, pos}
-use Rattle.std.specs.Prelude.{Option, Some, None}
+use Rattle.std.proofs.Common.{◌≡◌, ℕ, ◌+◌, ◌-◌, ◌<◌, refl, ap, arith, sym, ◌∙◌}
+use Rattle.std.specs.Prelude.{List, [], ◌∷◌, map, filter, length, get_or, pos, Some, None}
 use Rattle.std.specs.List.{range_with_len, AllByRecursion}
 use Rattle.std.proofs.lemmas.List.{length-map, get_or-map}
 use Rattle.awk_base.proofs.Ranges.{map-in}
 use Rattle.awk_base.proofs.Every.{all-append}
 use Rattle.awk_types.specs.DataType.{DataType, unknown, leaf, var, reg, rec, tup, opt, uni}
 use Rattle.awk_types.specs.Has.{Has}
-use Rattle.awk_types.specs.Simple.{simple_value, option_of, in_list, in_option}
+use Rattle.awk_types.specs.Parts.{IsList}
+use Rattle.awk_types.specs.Simple.{option_of, in_list, in_option}
 use Rattle.awk_types.specs.Value.{Value, int, truth, null, list, row, alt}
-use Rattle.awk_lanes.specs.Column.{Column}
-use Rattle.awk_lanes.specs.Places.{size_of, option_place, option_place_at}
-use Rattle.awk_layout.specs.Item.{item, run, at_option}
+use Rattle.awk_lanes.specs.Places.{size_of, option_place}
+use Rattle.awk_layout.specs.Item.{run, at_option}
 use Rattle.awk_layout.specs.Layout.{Layout, optional}
-use Rattle.awk_layout.specs.Typing.{layout_type, array_type, array_items}
+use Rattle.awk_layout.specs.Typing.{array_type, array_items}
 use Rattle.awk_layout.specs.Valid.{len}
 use Rattle.awk_layout.proofs.ArrayItems.{length-array_items, get_or-array_items}
 use Rattle.awk_gather.specs.Arrays.{array_item}
+use Rattle.awk_gather.proofs.OptionItems.{item-optional}
 use Rattle.awk_columns.specs.Columns.{list_items, joined_items, is_present, option_index}
 use Rattle.awk_columns.specs.ListClass.{Class, list_type}
 use Rattle.awk_columns.specs.ListNode.{AreEven, list_layout}
-use Rattle.awk_columns.proofs.ArrayLaws.{array_items-at, simple_null, in_option_same}
+use Rattle.awk_columns.proofs.ArrayLaws.{array_items-at}
 use Rattle.awk_columns.proofs.ListNodes.{len-list, item-list}
+use Rattle.awk_columns.proofs.ListTypes.{list-has}
+use Rattle.awk_columns.proofs.PresentItems.{present-have, length-option_index}
 use Rattle.awk_frames.specs.Framed.{places, IsFrame, framed_layout, over, over_type}
 use Rattle.awk_frames.specs.Shape.{Shape, leaves, items, missing, offsets_column, index_column}
 use Rattle.awk_frames.specs.Shape.{shape, ends}
-use Rattle.awk_frames.proofs.ValueLists.{IsList, start_at, length-offsets, length-index, lists-by}
-use Rattle.awk_frames.proofs.ValueLists.{nulls-by}
+use Rattle.awk_frames.proofs.ValueLists.{start_at, length-offsets, lists-by, nulls-by}
 
 -- ---- values that have a type
 
@@ -49,38 +49,12 @@ are-lists (Some n) t (null ∷ vs) h = absurd h.0
 are-lists (Some n) t (row ws ∷ vs) h = absurd h.0
 are-lists (Some n) t (alt k w ∷ vs) h = absurd h.0
 
-list-has : (c : Class) (t : DataType) (v : Value) → Has (list_type c t) v
-    → AllByRecursion (Has t) (list_items v)
-list-has None t (list ws) h = h
-list-has (Some n) t (list ws) h = h.1
-list-has None t (int z) h = absurd h
-list-has None t (truth b) h = absurd h
-list-has None t null h = absurd h
-list-has None t (row ws) h = absurd h
-list-has None t (alt k w) h = absurd h
-list-has (Some n) t (int z) h = absurd h
-list-has (Some n) t (truth b) h = absurd h
-list-has (Some n) t null h = absurd h
-list-has (Some n) t (row ws) h = absurd h
-list-has (Some n) t (alt k w) h = absurd h
-
 -- the items of lists of a type are of the items' type
 pub items-have : (c : Class) (t : DataType) (vs : List Value)
     → AllByRecursion (Has (list_type c t)) vs → AllByRecursion (Has t) (joined_items vs)
 items-have c t [] h = tt
 items-have c t (v ∷ vs) h =
     all-append (Has t) (list_items v) (joined_items vs) (list-has c t v h.0) (items-have c t vs h.1)
-
--- what is there of an option is of its type
-pub present-have : (t : DataType) (vs : List Value) → AllByRecursion (Has (opt t)) vs
-    → AllByRecursion (Has t) (filter is_present vs)
-present-have t [] h = tt
-present-have t (null ∷ vs) h = present-have t vs h.1
-present-have t (int z ∷ vs) h = (h.0, present-have t vs h.1)
-present-have t (truth b ∷ vs) h = (h.0, present-have t vs h.1)
-present-have t (list ws ∷ vs) h = (h.0, present-have t vs h.1)
-present-have t (row ws ∷ vs) h = (h.0, present-have t vs h.1)
-present-have t (alt k w ∷ vs) h = (h.0, present-have t vs h.1)
 
 -- ---- lengths
 
@@ -124,16 +98,6 @@ lists-framed c g vs z l e h =
     item-by z g (joined_items vs) h (0 + k) (omega (arith, q))
     ∙ (let s : 0 + k ≡ k = omega arith in ap (λ i. g (get_or (joined_items vs) i null)) s))
 
-option-at : (j : Column) (z : Layout) (i : ℕ)
-    → array_item (optional j z) i ≡ at_option (option_place_at j i) (array_item z)
-option-at j z i = at-place (option_place_at j i)
-  where
-    at-place : (p : Option ℕ) → in_option (simple_value (layout_type z)) (at_option p (item z))
-        ≡ at_option p (array_item z)
-    at-place None = refl
-    at-place (Some k) = in_option_same (simple_value (layout_type z)) (simple_null (layout_type z))
-        (item z k)
-
 -- the option over a column of what is there
 pub nulls-framed : (g : Value → Value) (vs : List Value) (z : Layout)
     → array_items z ≡ map g (filter is_present vs)
@@ -143,8 +107,8 @@ nulls-framed g vs z h =
     let f : ℕ → Value = λ i. at_option (option_place (get_or (option_index 0 vs) i (pos 0)))
     (array_item z) in
     array_items-at (optional j z)
-    ∙ map-in (array_item (optional j z)) f 0 (size_of j) (λ i q. option-at j z i)
-    ∙ ap (λ k. map f (range_with_len 0 k)) (length-index 0 vs)
+    ∙ map-in (array_item (optional j z)) f 0 (size_of j) (λ i q. item-optional j z i)
+    ∙ ap (λ k. map f (range_with_len 0 k)) (length-option_index 0 vs)
     ∙ nulls-by g (array_item z) 0 vs (λ k q.
     item-by z g (filter is_present vs) h (0 + k) (omega (arith, q))
     ∙ (let s : 0 + k ≡ k = omega arith in ap (λ i. g (get_or (filter is_present vs) i null)) s))

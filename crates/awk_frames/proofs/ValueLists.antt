@@ -1,12 +1,11 @@
 -- Offsets and an index of values by place, and what stands there.
-use Rattle.std.proofs.Common.{◌≡◌, ℕ, zero, suc, ◌+◌, ◌-◌, ◌<◌, ◌≤◌, refl, ap}
-use Rattle.std.proofs.Common.{arith, subst, ◌∙◌}
-use Rattle.std.specs.Prelude.{List, [], ◌∷◌, map, filter, length, get_or, ℤ, pos, negsuc}
-use Rattle.std.specs.Prelude.{◌<ℤ◌}
+use Rattle.std.proofs.Common.{◌≡◌, ℕ, zero, suc, ◌+◌, ◌-◌, ◌<◌, ◌≤◌, refl, ap, arith, subst, ◌∙◌}
+use Rattle.std.specs.Prelude.{List, [], ◌∷◌, map, filter, length, get_or, ℤ, pos, negsuc, ◌<ℤ◌}
 use Rattle.std.specs.List.{range_with_len, AllByRecursion}
 use Rattle.std.proofs.lemmas.Int.{ints}
 use Rattle.std.proofs.lemmas.List.{length-append, get_or_append_left, get_or-append-add}
 use Rattle.awk_base.proofs.Ranges.{map-in, map-suc}
+use Rattle.awk_types.specs.Parts.{IsList}
 use Rattle.awk_types.specs.Simple.{in_list, in_option}
 use Rattle.awk_types.specs.Value.{Value, int, truth, null, list, row, alt, value, value_list}
 use Rattle.awk_types.specs.Value.{values_from}
@@ -30,11 +29,6 @@ run-by g h a (w ∷ ws) e =
     subst (λ b. h b ≡ g (get_or ws k null)) s (e (suc k) (omega (arith, l)))))
 
 -- ---- lists
-
--- a list, and no null
-abbrev pub IsList : Value → Type 0
-IsList (list vs) = Unit {0}
-IsList v = ⊥
 
 -- where list i begins, if the first one begins at a
 abbrev pub start_at : ℕ → List Value → ℕ → ℕ
@@ -154,15 +148,6 @@ lists-by g h a (v ∷ vs) l e =
         (start_at a (v ∷ vs) k - start_at (a + length (list_items v)) vs i))) q
 
 -- ---- nulls
-
-pub length-index : (n : ℕ) (vs : List Value) → length (option_index n vs) ≡ length vs
-length-index n [] = refl
-length-index n (null ∷ vs) = ap suc (length-index n vs)
-length-index n (int z ∷ vs) = ap suc (length-index (suc n) vs)
-length-index n (truth b ∷ vs) = ap suc (length-index (suc n) vs)
-length-index n (list ws ∷ vs) = ap suc (length-index (suc n) vs)
-length-index n (row ws ∷ vs) = ap suc (length-index (suc n) vs)
-length-index n (alt k w ∷ vs) = ap suc (length-index (suc n) vs)
 
 index-step : (n m : ℕ) (zs : List ℤ) (i k : ℕ) → i < suc m
     → ((j : ℕ) → j < m → get_or zs j (pos 0) <ℤ pos (suc n + k))

@@ -11,9 +11,9 @@ use Rattle.awk_layout.specs.Layout.{Layout, layouts_from, count, held_all, weigh
 use Rattle.awk_layout.specs.Valid.{len, IsValid, AllReach, AreNames}
 use Rattle.awk_layout.specs.Item.{item, items_across}
 use Rattle.awk_layout.specs.Typing.{layout_types}
+use Rattle.awk_layout.proofs.Runs.{run-moved}
 use Rattle.awk_gather.specs.Alike.{AreCopies, AreAllCopies}
 use Rattle.awk_gather.specs.Picked.{IsPicked}
-use Rattle.awk_gather.proofs.PickedNodes.{run_same}
 
 -- ---- records
 
@@ -104,7 +104,7 @@ regular_copied : (size m n : ℕ) (y r : Layout) → AreCopies y (n * size) r
     → AreCopies (regular size m y) n (regular size n r)
 regular_copied size m n y r h = record {
   size = omega arith;
-  items = λ i j l. ap list (run_same (item r) (item y) (i * size) (j * size) size (λ k l'.
+  items = λ i j l. ap list (run-moved (item r) (item y) (i * size) (j * size) size (λ k l'.
       let w : i * size + size ≤ n * size = row_fits i size n size l (omega arith) in
       h.items (i * size + k) (j * size + k) (omega arith)));
   same_type = ap (reg size) h.same_type;
@@ -127,7 +127,7 @@ alike_lists : (size n : ℕ) (p : Column) (y r : Layout) → AreCopies y (size_o
     → IsPicked (regular size n y) p (regular size (size_of p) r)
 alike_lists size n p y r h = record {
   size = refl;
-  items = λ j k. ap list (run_same (item r) (item y) (j * size) (place_at p j * size) size (λ i l.
+  items = λ j k. ap list (run-moved (item r) (item y) (j * size) (place_at p j * size) size (λ i l.
       let w : j * size + size ≤ size_of p * size = row_fits j size (size_of p) size k
       (omega arith) in
       h.items (j * size + i) (place_at p j * size + i) (omega arith)));

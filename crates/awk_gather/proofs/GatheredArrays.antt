@@ -1,6 +1,6 @@
 -- The arrays that a gather gives.
 use Rattle.std.proofs.Common.{◌≡◌, ℕ, ◌<◌, get_or, arith, refl, ap, ap₂, sym, ◌∙◌, subst}
-use Rattle.std.specs.Prelude.{ℤ, pos, negsuc, ◌<ℤ◌, None, option_map, Err}
+use Rattle.std.specs.Prelude.{ℤ, pos, negsuc, ◌<ℤ◌, None, option_map}
 use Rattle.std.proofs.lemmas.Int.{ints}
 use Rattle.std.proofs.lemmas.List.{ext_get_or, get_or-map, length-map}
 use Rattle.awk_types.specs.DataType.{opt}
@@ -8,9 +8,8 @@ use Rattle.awk_types.specs.Datum.{arr}
 use Rattle.awk_types.specs.Faults.{limit_fault}
 use Rattle.awk_types.specs.Gives.{refused_or}
 use Rattle.awk_types.specs.Value.{null}
-use Rattle.awk_types.specs.Limit.{Limit, limit}
+use Rattle.awk_types.specs.Limit.{limit}
 use Rattle.awk_types.specs.Simple.{simple, simple_value, option_of}
-use Rattle.awk_types.proofs.RefusalLaws.{refused_or-Err}
 use Rattle.awk_types.proofs.SimpleLaws.{simple_twice}
 use Rattle.awk_lanes.specs.declared.kind.Kind.TheVariants.{I64}
 use Rattle.awk_lanes.specs.Column.{Column}
@@ -21,7 +20,6 @@ use Rattle.awk_layout.specs.Layout.{Layout, optional}
 use Rattle.awk_layout.specs.Valid.{len}
 use Rattle.awk_layout.specs.Item.{item, at_option}
 use Rattle.awk_layout.specs.Typing.{layout_type, array_type, array_items}
-use Rattle.awk_layout.specs.Array.{array_of}
 use Rattle.awk_layout.proofs.ArrayItems.{length-array_items, get_or-array_items}
 use Rattle.awk_gather.specs.Arrays.{array_item, pick, IsGathered, IsGatheredOpt, optional_type}
 use Rattle.awk_gather.specs.Arrays.{picked_or_null}
@@ -83,10 +81,6 @@ pub gathered_limit : (x r : Layout) (p : Column) → IsPicked x p r → limit (a
     → limit (array_type r) ≡ None
 gathered_limit x r p h e = ap (λ t. limit (simple t)) h.same_type ∙ e
 
-pub array_of-within : (x : Layout) (l : Limit) → limit (array_type x) ≡ None → array_of x ≡ Err l
-    → ⊥
-array_of-within x l e f = let g = sym e ∙ refused_or-Err (limit (array_type x)) x l f in cc
-
 -- an option of what is left
 pub peeled_opt : (x y y' r : Layout) (p k : Column) → IsPeeled x p k y → y' ≡ y → r ≡ optional k y'
     → IsPickedOpt x p r
@@ -111,5 +105,3 @@ pub picked_or_null-is : (x r : Layout) (p : Column) → p.kind ≡ I64 → IsOpt
 picked_or_null-is x r p e v h =
     ap₂ (λ t vs. refused_or (option_map limit_fault (limit t)) (arr t vs))
     (sym (h.typ ∙ option_twice x)) (sym (picked_items x r p e v h.size h.items))
-
-pub ruleset refusals = (array_of-within)

@@ -15,16 +15,16 @@ use Rattle.awk_layout.specs.Layout.{indexed, optional, byte_masked, bit_masked, 
 use Rattle.awk_layout.specs.Layout.{height}
 use Rattle.awk_layout.specs.Valid.{len, IsValid, IsUnion}
 use Rattle.awk_layout.specs.Laws.{len-fits}
-use Rattle.awk_layout.specs.Item.{item, leaf_value, run, at_option, byte_shows, bit_shows}
+use Rattle.awk_layout.specs.Item.{item, leaf_value, at_option, byte_shows, bit_shows}
 use Rattle.awk_gather_lanes.specs.Lanes.{picked, nexts, blocks, AreBlocks}
 use Rattle.awk_gather.specs.Peeled.{followed, byte_index, bit_index}
 use Rattle.awk_gather.specs.Picked.{IsPicked}
-use Rattle.awk_gather_lanes.proofs.PickedLanes.{size-picked, at-picked, size-nexts, at-nexts}
-use Rattle.awk_gather_lanes.proofs.PickedLanes.{size-blocks}
-use Rattle.awk_gather_lanes.proofs.PickedLanes.{at-blocks, block_at-is, places_le, index_picked}
-use Rattle.awk_gather_lanes.proofs.PickedLanes.{optional_picked, spans_picked, spans_of_offsets}
-use Rattle.awk_gather_lanes.proofs.PickedLanes.{optional_of_places, blocks_of_places}
-use Rattle.awk_gather_lanes.proofs.PickedLanes.{places_of_blocks}
+use Rattle.awk_gather_lanes.proofs.PickedLanes.{size-picked, at-picked, at-nexts}
+use Rattle.awk_gather_lanes.proofs.PickedLanes.{size-blocks, at-blocks, block_at-is, places_le}
+use Rattle.awk_gather_lanes.proofs.PickedLanes.{index_picked, optional_picked, spans_picked}
+use Rattle.awk_gather_lanes.proofs.PickedLanes.{spans_of_offsets, optional_of_places}
+use Rattle.awk_gather_lanes.proofs.PickedLanes.{blocks_of_places, places_of_blocks}
+use Rattle.awk_layout.proofs.Runs.{run-moved}
 use Rattle.awk_gather.proofs.FollowedIndexes.{size-followed, at-followed, index_followed}
 use Rattle.awk_gather.proofs.FollowedIndexes.{item_through, item_at_place, item_if_shown}
 use Rattle.awk_gather.proofs.FollowedIndexes.{below_if_shown}
@@ -158,28 +158,11 @@ union_picks t i p xs = record {
   nodes_within = omega arith;
 }
 
--- k items from a place on
-pub run_same : (f g : ℕ → Value) (a b k : ℕ) → ((i : ℕ) → i < k → f (a + i) ≡ g (b + i))
-    → run f a k ≡ run g b k
-run_same f g a b zero h = refl
-run_same f g a b (suc k) h =
-    let z : a + 0 ≡ a = omega arith in
-    let w : b + 0 ≡ b = omega arith in
-    let e : f a ≡ g b = ap f (sym z) ∙ h 0 (omega arith) ∙ ap g w in
-    rw (
-      e,
-      run_same f g (suc a) (suc b) k (λ i l. rw (more a i, more b i)
-          (h (suc i) (omega arith))),
-    ) refl
-  where
-    more : (a i : ℕ) → suc a + i ≡ a + suc i
-    more a i = omega arith
-
 pub regular_picked : (size n : ℕ) (p : Column) (x r : Layout) → IsPicked x (blocks size p) r
     → IsPicked (regular size n x) p (regular size (size_of p) r)
 regular_picked size n p x r h = record {
   size = refl;
-  items = λ j k. ap list (run_same (item r) (item x) (j * size) (place_at p j * size) size (λ i l.
+  items = λ j k. ap list (run-moved (item r) (item x) (j * size) (place_at p j * size) size (λ i l.
       let w : j * size + size ≤ size_of p * size = row_fits j size (size_of p) size k
       (omega arith) in
       let m : j * size + i < size_of p * size = omega arith in

@@ -1,35 +1,21 @@
 //! The items of arrays at places.
-ghost use Rattle.std.specs.Prelude.{◌≡◌, ◌+◌, ◌*◌, ◌≤◌, None, true, IfOk};
+ghost use Rattle.std.specs.Prelude.{◌≡◌, ◌+◌, ◌*◌, ◌≤◌, true, IfOk};
 ghost use Rattle.awk_types.specs.Faults.{fault_told};
 ghost use Rattle.awk_types.specs.Gives.{Gives};
-ghost use Rattle.awk_types.specs.Limit.{limit};
 ghost use Rattle.awk_lanes.specs.Places.{size_of, IsIndex, IsOptionalIndex};
 ghost use Rattle.awk_lanes.specs.declared.kind.Kind.TheVariants as Kind;
 ghost use Rattle.awk_layout.specs.Layout.{indexed, is_rows, held, weight};
-ghost use Rattle.awk_layout.specs.Typing.{array_type, array_datum};
+ghost use Rattle.awk_layout.specs.Typing.{array_datum};
 ghost use Rattle.awk_layout.specs.Valid.{len};
 ghost use Rattle.awk_gather.specs.Arrays.{IsGathered, IsGatheredOpt, picked_or_null, index_over};
 
-use crate::peeling::gather_opt_node;
+use crate::composing::option_over;
 use crate::pick::gather_outer;
 use awk_lanes::{Arena, Lane, Steps};
-use awk_layout::{Array, Node};
-use awk_types::{Fault, NoMemory, TypeFault};
-use std::alloc::{AllocError, Global};
+use awk_layout::Array;
+use awk_types::{Fault, NoMemory};
+use std::alloc::Global;
 use std::sync::ledger::Ledger;
-
-/// The array of a node whose type passes no limit.
-#[tactic(auto, using(crate::proofs::GatheredArrays::refusals))]
-pub fn array_within<'a>(alloc: Global, node: Node<'a>) -> Result<Array<'a>, NoMemory>
-    requires { limit (array_type node) ≡ None }
-    ensures { IfOk result (λ array. array ≡ node.entry) }
-{
-    match Array::new(alloc, node) {
-        Ok(array) => Ok(array),
-        Err(TypeFault::NoMemory) => Err(AllocError),
-        Err(TypeFault::Depth | TypeFault::Size) => unreachable!(),
-    }
-}
 
 /// The items of an array at places, in the order of the places, which may repeat.
 ///
@@ -57,7 +43,7 @@ pub fn gather<'a, L: Ledger>(
 {
     let _ = x.typ();
     let node = gather_outer(alloc, x.node(), places, arena, steps)?;
-    array_within(alloc, node)
+    Array::of_node(alloc, node)
 }
 
 /// The items of an array at places, and null at each negative number. The type is the option of the
@@ -76,6 +62,6 @@ pub fn gather_opt<'a, L: Ledger>(
     ensures held { IfOk result (λ r. held r ≤ held x.now + 1) }
 {
     let _ = x.typ();
-    let node = gather_opt_node(alloc, x.node(), places, arena, steps)?;
+    let node = option_over(alloc, x.node(), places, arena, steps)?;
     Ok(Array::new(alloc, node)?)
 }

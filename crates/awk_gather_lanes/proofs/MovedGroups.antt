@@ -1,8 +1,8 @@
 -- The numbers of groups of bytes that were moved.
-use Rattle.std.proofs.Common.{◌≡◌, ◌≢◌, ℕ, suc, zero, ◌+◌, ◌-◌, ◌*◌, ◌/◌, ◌<◌, ◌≤◌, List, [], ◌∷◌}
+use Rattle.std.proofs.Common.{◌≡◌, ◌≢◌, ℕ, suc, zero, ◌+◌, ◌-◌, ◌*◌, ◌/◌, ◌<◌, List, [], ◌∷◌}
 use Rattle.std.proofs.Common.{◌++◌, length, drop, get_or, map, refl, ap, sym, subst, ◌∙◌, arith}
 use Rattle.std.proofs.Common.{drop-drop}
-use Rattle.std.specs.Prelude.{◌^◌, ℤ, pos, negsuc, ◌≤ℤ◌}
+use Rattle.std.specs.Prelude.{◌^◌, ℤ, pos}
 use Rattle.std.specs.List.{range_with_len, flat_map}
 use Rattle.std.specs.Simd.{first_chunks}
 use Rattle.std.proofs.lemmas.List.{length-map, get_or-map, take_at, drop_at}
@@ -10,37 +10,18 @@ use Rattle.std.proofs.lemmas.List.FromFn.{map-range_with_len_more, length-map-ra
 use Rattle.std.proofs.lemmas.List.FromFn.{get_or-map-range_with_len, fill_by_all}
 use Rattle.std.proofs.Math.Nat.{mul-div_left, div-mul-le_self}
 use Rattle.awk_lanes.specs.declared.kind.Kind.{Kind}
-use Rattle.awk_lanes.specs.declared.kind.Kind.TheVariants.{Bool as Truths, I8, I16, I32, I64, U8}
-use Rattle.awk_lanes.specs.declared.kind.Kind.TheVariants.{U16, U32, U64}
+use Rattle.awk_lanes.specs.declared.kind.Kind.TheVariants.{Bool as Truths, I64, U32}
 use Rattle.awk_lanes.specs.Column.{Column}
 use Rattle.awk_lanes.specs.Numbers.{width, number, numbers, nat_of, element}
 use Rattle.awk_lanes.specs.Places.{size_of, at, place_at, IsIndex}
 use Rattle.awk_lanes.specs.declared.kind.Num.TheVariants.{Nat}
 use Rattle.std.specs.Int.{to_le_bytes, w32}
-use Rattle.std.proofs.lemmas.Int.{ints}
 use Rattle.awk_base.proofs.Lists.{length-chunk}
 use Rattle.awk_lanes.proofs.NumberParts.{number-bytes_of, length-numbers, get_or-numbers}
 use Rattle.awk_lanes.proofs.NumberParts.{number-take, map-number_all}
+use Rattle.awk_lanes.proofs.PlaceLaws.{element-same, pos-nat_of}
 use Rattle.awk_gather_lanes.specs.Moved.{past, eight, group_past, groups_past, ArePlacesPast}
 use Rattle.awk_gather_lanes.specs.Moved.{narrow_group, narrow_groups}
-
--- a number takes at most eight bytes
-pub width-small : (k : Kind) → width k ≤ 8
-width-small Truths = omega arith
-width-small I8 = omega arith
-width-small I16 = omega arith
-width-small I32 = omega arith
-width-small I64 = omega arith
-width-small U8 = omega arith
-width-small U16 = omega arith
-width-small U32 = omega arith
-width-small U64 = omega arith
-
--- a column is its kind and its numbers
-pub lane_is : (a b : Column) → a.kind ≡ b.kind → a.items ≡ b.items → a ≡ b
-lane_is a b e f =
-    ap (λ k. record { kind = k; items = a.items }) e ∙ ap
-    (λ zs. record { kind = b.kind; items = zs }) f
 
 -- the number at a place of groups that are joined is that of the group
 number-flat : (k : Kind) (gs : List (List ℕ)) (j : ℕ)
@@ -89,21 +70,6 @@ group_pushed f i x old new e g h =
     rw (e, h, g) (sym (map-range_with_len_more f 0 i i (omega arith)))
 
 -- ---- moved groups make the lane of the numbers
-
-pos-nat_of : (z : ℤ) → pos 0 ≤ℤ z → z ≡ pos (nat_of z)
-pos-nat_of (pos n) h = refl
-pos-nat_of (negsuc n) h = absurd (omega (arith, ints))
-
-element-number : (k : Kind) (z : ℤ) → k ≢ Truths → element k z ≡ z
-element-number Truths z h = absurd (h refl)
-element-number I8 z h = refl
-element-number I16 z h = refl
-element-number I32 z h = refl
-element-number I64 z h = refl
-element-number U8 z h = refl
-element-number U16 z h = refl
-element-number U32 z h = refl
-element-number U64 z h = refl
 
 -- the numbers of groups that are joined
 pub numbers-flat : (k : Kind) (w n : ℕ) (g : ℕ → List ℕ) (f : ℕ → ℤ) → width k ≡ w → 0 < w
@@ -179,7 +145,7 @@ module _ (c p : Column) (b q : List ℕ) (d w : ℕ) (plain : c.kind ≢ Truths)
       ap (λ j. number c.kind (get_or (first_chunks (width c.kind) (length b / width c.kind) b)
       (j + d) [])) e
       ∙ number-group c b size same (place_at p i + d) l'
-      ∙ sym (element-number c.kind (get_or c.items (place_at p i + d) (pos 0)) plain)
+      ∙ sym (element-same c.kind (get_or c.items (place_at p i + d) (pos 0)) plain)
 
   count : length b / width c.kind ≡ size_of c
   count = ap (λ m. m / width c.kind) size ∙ mul-div_left (size_of c) (rw wide some)

@@ -1,28 +1,28 @@
 -- Lists and options over what is made of their contents.
 use Rattle.std.proofs.Common.{◌≡◌, ℕ, ◌+◌, ◌-◌, ◌*◌, ◌<◌, ◌≤◌, refl, ap, sym, subst, ◌∙◌, arith}
 use Rattle.std.proofs.Common.{true≢false}
-use Rattle.std.specs.Prelude.{ℤ, pos, negsuc, ◌<ℤ◌, List, [], ◌∷◌, Some, None, false, slice_get}
-use Rattle.std.proofs.lemmas.Int.{ints}
+use Rattle.std.specs.Prelude.{List, [], ◌∷◌, Some, None, false, slice_get}
 use Rattle.std.proofs.lemmas.Nat.{row_fits}
 use Rattle.awk_types.specs.DataType.{DataType, var}
+use Rattle.awk_types.specs.Predicates.{is_sized}
 use Rattle.awk_types.specs.Value.{Value, list}
 use Rattle.awk_lanes.specs.Column.{Column}
-use Rattle.awk_lanes.specs.Numbers.{nat_of}
-use Rattle.awk_lanes.specs.Places.{at, place_at, option_place, IsSpan}
-use Rattle.awk_layout.specs.Item.{item, at_option}
+use Rattle.awk_lanes.specs.Places.{at, place_at}
+use Rattle.awk_layout.specs.Frames.{IsOnly}
+use Rattle.awk_layout.specs.Item.{item}
+use Rattle.awk_lanes.proofs.PlaceLaws.{span-below}
 use Rattle.awk_layout.specs.Layout.{Layout, height}
 use Rattle.awk_layout.specs.Typing.{layout_type, array_type}
 use Rattle.awk_layout.specs.Valid.{len}
+use Rattle.awk_layout.proofs.Runs.{run-same}
+use Rattle.awk_layout.proofs.OptionItems.{option_same}
 use Rattle.awk_gather.specs.Arrays.{array_item}
 use Rattle.awk_columns.specs.ListClass.{Class, list_type}
 use Rattle.awk_columns.specs.Lists.{Listed}
-use Rattle.awk_columns.proofs.ArrayLaws.{run_same}
-use Rattle.awk_columns.proofs.SpanLaws.{start_there}
 use Rattle.awk_open.specs.Opened.{IsOpened}
 use Rattle.awk_open.specs.declared.opening.Opened.TheVariants as opened
 use Rattle.awk_heights.specs.Low.{height_limit, IsLowNode}
-use Rattle.awk_heights.specs.Levels.{covered, cover_type, cover_item, Covers, IsOver, IsOnly}
-use Rattle.awk_heights.specs.Levels.{is_sized}
+use Rattle.awk_heights.specs.Levels.{covered, cover_type, cover_item, Covers, IsOver}
 use Rattle.awk_heights.specs.declared.level.Cover.{Cover}
 use Rattle.awk_heights.specs.declared.level.Cover.TheVariants as cover
 
@@ -53,24 +53,15 @@ height-covered (cover.Option j) y t h = omega (arith, h)
 
 -- ---- items that are the same below m
 
-in_span : (m : ℕ) (a b : ℤ) (k : ℕ) → IsSpan m a b → nat_of a ≤ k
-    → k < nat_of a + (nat_of b - nat_of a) → k < m
-in_span m a b k h p q = omega (arith, q, (start_there m a b h (omega (arith, p, q))).1)
-
-option_same : (z : ℤ) (m : ℕ) (f g : ℕ → Value) → z <ℤ pos m
-    → ((k : ℕ) → k < m → f k ≡ g k) → at_option (option_place z) f ≡ at_option (option_place z) g
-option_same (pos k) m f g h same = same k (omega (arith, ints, h))
-option_same (negsuc k) m f g h same = refl
-
 cover_item-same : (c : Cover) (m : ℕ) (f g : ℕ → Value) (z : Layout) (i : ℕ) → Covers c m
     → ((k : ℕ) → k < m → f k ≡ g k) → i < len (covered c z) → cover_item c f i ≡ cover_item c g i
 cover_item-same (cover.Lists s e) m f g z i h same l =
-    ap list (run_same f g (place_at s i) (place_at e i - place_at s i)
-    (λ k p q. same k (in_span m (at s i) (at e i) k (h.1.ordered i l) p q)))
+    ap list (run-same f g (place_at s i) (place_at e i - place_at s i)
+    (λ k p q. same k (span-below m (at s i) (at e i) k (h.1.ordered i l) p q)))
 cover_item-same (cover.Sized j size n) m f g z i h same l =
     let below : place_at j i * size + size ≤ n * size =
     row_fits (place_at j i) size n size (h.3.places i l).1 (omega arith) in
-    ap list (run_same f g (place_at j i * size) size
+    ap list (run-same f g (place_at j i * size) size
     (λ k p q. same k (omega (arith, q, h.2, below))))
 cover_item-same (cover.Option j) m f g z i h same l =
     option_same (at j i) m f g (h.1.below i l) same

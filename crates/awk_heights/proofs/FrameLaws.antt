@@ -7,18 +7,19 @@ use Rattle.awk_types.specs.DataType.{depths, greatest}
 use Rattle.awk_types.specs.Value.{row, alt, value, values_from}
 use Rattle.awk_lanes.specs.Column.{Column}
 use Rattle.awk_lanes.specs.Places.{place_at}
+use Rattle.awk_layout.specs.Frames.{framed, Frames}
 use Rattle.awk_layout.specs.Item.{items_across, item_of}
 use Rattle.awk_layout.specs.Layout.{Layout, layouts_from, count, height, heights, rows, union}
 use Rattle.awk_layout.specs.Place.{nth}
 use Rattle.awk_layout.specs.Typing.{layout_types, array_type}
 use Rattle.awk_layout.specs.Valid.{len, len_of, AllReach, IsUnion}
+use Rattle.awk_layout.specs.declared.frame.Frame.{Frame}
 use Rattle.awk_gather.specs.Arrays.{array_item}
 use Rattle.awk_open.specs.Opened.{IsOpened}
 use Rattle.awk_open.specs.declared.opening.Opened.TheVariants as opened
 use Rattle.awk_heights.specs.Low.{height_limit, IsLowNode, AreLowNodes}
-use Rattle.awk_heights.specs.Levels.{kind_of, framed, Frames}
-use Rattle.awk_heights.specs.declared.level.Frame.{Frame}
-use Rattle.awk_heights.specs.declared.level.Frame.TheVariants as frame
+use Rattle.awk_heights.specs.Levels.{kind_of}
+use Rattle.awk_layout.specs.declared.frame.Frame.TheVariants as frame
 
 abbrev types : List Layout → DataTypes
 types xs = types_from (map array_type xs)

@@ -2,6 +2,7 @@
 use Rattle.std.proofs.Common.{◌≡◌, ℕ, ◌<◌, refl, ap, sym, subst, ◌∙◌, arith}
 use Rattle.std.specs.Prelude.{true, false, pos}
 use Rattle.awk_types.specs.DataType.{DataType, unknown, leaf, var, reg, rec, tup, opt, uni}
+use Rattle.awk_types.specs.Predicates.{is_sized}
 use Rattle.awk_types.specs.Simple.{present, is_option, is_union}
 use Rattle.awk_lanes.specs.declared.kind.Kind.TheVariants.{I64}
 use Rattle.awk_lanes.specs.Column.{Column}
@@ -19,7 +20,7 @@ use Rattle.awk_gather.proofs.FollowedIndexes.{item_at_place}
 use Rattle.awk_open.specs.Plain.{IsPlain}
 use Rattle.awk_open.proofs.OpenedArrays.{left_same, peeled_size, peeled_places}
 use Rattle.awk_open.proofs.OpenedKinds.{item-regular}
-use Rattle.awk_heights.specs.Levels.{is_sized, IsOver}
+use Rattle.awk_heights.specs.Levels.{IsOver}
 use Rattle.awk_heights.specs.declared.level.Cover.TheVariants as cover
 
 -- ---- types of lists of one size

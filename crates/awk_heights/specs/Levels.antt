@@ -1,14 +1,15 @@
 -- An array once its outermost kind is taken off, and the node over what is made of its contents.
-use Rattle.std.specs.Prelude.{◌≡◌, ℕ, ◌-◌, ◌*◌, ◌<◌, ◌≤◌, ◌^◌, Bool, true, false, List, [], ◌∷◌}
+use Rattle.std.specs.Prelude.{◌≡◌, ℕ, ◌-◌, ◌*◌, ◌<◌, ◌≤◌, ◌^◌, Bool, true, false, List}
 use Rattle.awk_types.specs.DataType.{DataType, var, reg, opt}
 use Rattle.awk_types.specs.Value.{Value, list}
 use Rattle.awk_lanes.specs.Places.{size_of, place_at, option_place_at, AreSpans, IsIndex}
 use Rattle.awk_lanes.specs.Places.{IsOptionalIndex}
+use Rattle.awk_layout.specs.Frames.{IsOnly}
 use Rattle.awk_layout.specs.Item.{run, at_option}
-use Rattle.awk_layout.specs.Layout.{Layout, layouts_from, count, regular, lists, rows, indexed}
-use Rattle.awk_layout.specs.Layout.{optional, union}
+use Rattle.awk_layout.specs.Layout.{Layout, regular, lists, indexed, optional}
 use Rattle.awk_layout.specs.Typing.{array_type}
-use Rattle.awk_layout.specs.Valid.{len, AllReach, AreNames, IsUnion}
+use Rattle.awk_layout.specs.Valid.{len}
+use Rattle.awk_layout.specs.declared.frame.Frame.{Frame}
 use Rattle.awk_gather.specs.Arrays.{array_item}
 use Rattle.awk_open.specs.Opened.{IsOpened}
 use Rattle.awk_open.specs.declared.opening.Opened.{Opened}
@@ -16,15 +17,9 @@ use Rattle.awk_open.specs.declared.opening.Opened.TheVariants as opened
 use Rattle.awk_heights.specs.Low.{IsLowNode}
 use Rattle.awk_heights.specs.declared.level.Cover.{Cover}
 use Rattle.awk_heights.specs.declared.level.Cover.TheVariants as cover
-use Rattle.awk_heights.specs.declared.level.Frame.{Frame}
-use Rattle.awk_heights.specs.declared.level.Frame.TheVariants as frame
+use Rattle.awk_layout.specs.declared.frame.Frame.TheVariants as frame
 use Rattle.awk_heights.specs.declared.level.Level.{Level}
 use Rattle.awk_heights.specs.declared.level.Level.TheVariants.{Whole, Over, Beside}
-
--- lists of one size
-abbrev pub is_sized : DataType → Bool
-is_sized (reg n t) = true
-is_sized t = false
 
 abbrev pub is_regular : Layout → Bool
 is_regular (regular size n x) = true
@@ -71,23 +66,7 @@ abbrev pub kind_of : Frame → List Layout → Opened
 kind_of (frame.Row names) ys = opened.Row names ys
 kind_of (frame.Union t j) ys = opened.Union t j ys
 
--- the node of n items over contents
-abbrev pub framed : ℕ → Frame → List Layout → Layout
-framed n (frame.Row names) zs = rows names n (layouts_from zs)
-framed n (frame.Union t j) zs = union t j (layouts_from zs)
-
--- a frame of n items fits contents
-abbrev pub Frames : ℕ → Frame → List Layout → Type 0
-Frames n (frame.Row names) zs =
-    (n < 2 ^ 63) × AreNames names (count (layouts_from zs)) × AllReach n (layouts_from zs)
-Frames n (frame.Union t j) zs = (size_of t < 2 ^ 63) × IsUnion t j (layouts_from zs)
-
 -- ---- either
-
--- there is one array, of which this holds
-abbrev pub IsOnly : (Layout → Type 0) → List Layout → Type 0
-IsOnly P (z ∷ []) = P z
-IsOnly P zs = ⊥
 
 -- an array without contents is low, and every other one is taken apart
 abbrev pub IsLevel : Layout → Level → Type 0

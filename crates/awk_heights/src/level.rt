@@ -1,18 +1,18 @@
 //! An array once its outermost kind is taken off.
-ghost use Rattle.std.specs.Prelude.{◌≡◌, [], ◌∷◌, false, IfOk};
-ghost use Rattle.awk_types.specs.View.{typ_of};
+ghost use Rattle.std.specs.Prelude.{◌≡◌, false, IfOk};
+ghost use Rattle.awk_types.specs.Predicates.{is_sized as is_sized_type};
 ghost use Rattle.awk_layout.specs.Layout.{Layout};
 ghost use Rattle.awk_layout.specs.Typing.{array_type};
 ghost use Rattle.awk_open.specs.Opened.{IsOpened};
 ghost use Rattle.awk_open.specs.declared.opening.Opened.TheVariants as Opened;
-ghost use Rattle.awk_heights.specs.Levels.{is_sized as is_sized_type, IsLevel};
+ghost use Rattle.awk_heights.specs.Levels.{IsLevel};
 
 use crate::sized::sized_level;
 use awk_columns::Lists;
 use awk_lanes::{Arena, Lane, Steps};
-use awk_layout::{Array, Arrays, Node};
+use awk_layout::{Array, Arrays, Frame, Node};
 use awk_open::{Opened, opened};
-use awk_types::{Names, NoMemory, Typ};
+use awk_types::{NoMemory, is_sized};
 use std::alloc::Global;
 use std::sync::ledger::Ledger;
 
@@ -27,15 +27,6 @@ pub enum Cover<'a> {
     Option(Lane<'a>),
 }
 
-/// What lies over several contents.
-#[derive(Drop)]
-pub enum Frame<'a> {
-    /// The names of a record, or none of a tuple.
-    Row(Option<Names>),
-    /// The tags and the index of a union.
-    Union(Lane<'a>, Lane<'a>),
-}
-
 /// An array once its outermost kind is taken off.
 #[derive(Drop)]
 pub enum Level<'a> {
@@ -47,25 +38,6 @@ pub enum Level<'a> {
     Beside(Frame<'a>, Arrays<'a>),
 }
 
-/// The only one.
-pub(crate) fn only<'a>(alloc: Global, content: Array<'a>) -> Result<Arrays<'a>, NoMemory>
-    ensures { IfOk result (λ ys. ys ≡ content.entry ∷ []) }
-{
-    let mut contents = Arrays::new(alloc);
-    contents.push(content)?;
-    Ok(contents)
-}
-
-/// Whether lists of a type are all of one size.
-fn is_sized(t: &Typ) -> bool
-    ensures { result ≡ is_sized_type (typ_of t.now) }
-{
-    match t {
-        Typ::Reg(_, _) => true,
-        _ => false,
-    }
-}
-
 /// Lists over their content.
 fn lists_level<'a>(alloc: Global, lists: &Lists<'a>) -> Result<Level<'a>, NoMemory>
     ensures { (x : Layout) → IsOpened x (Opened.Items lists.now) →
@@ -74,7 +46,7 @@ fn lists_level<'a>(alloc: Global, lists: &Lists<'a>) -> Result<Level<'a>, NoMemo
     let starts = lists.starts().copy();
     let stops = lists.stops().copy();
     let content = lists.content().copy(alloc)?;
-    let contents = only(alloc, content)?;
+    let contents = Arrays::only(alloc, content)?;
     Ok(Level::Over(Cover::Lists(starts, stops), contents))
 }
 
@@ -94,7 +66,7 @@ fn open_level<'a, L: Ledger>(
         Opened::Items(lists) => lists_level(alloc, &lists),
         Opened::Row { names, columns } => Ok(Level::Beside(Frame::Row(names), columns)),
         Opened::Option { index, content } => {
-            let contents = only(alloc, content)?;
+            let contents = Arrays::only(alloc, content)?;
             Ok(Level::Over(Cover::Option(index), contents))
         }
         Opened::Union {

@@ -5,9 +5,9 @@ ghost use Rattle.awk_heights.specs.Low.{IsLow, IsLowNode, AreLowNodes, IsLowArra
 
 use crate::higher::is_high;
 use crate::level::{Level, level_of};
-use crate::nodes::{covered, framed};
+use crate::nodes::covered;
 use awk_lanes::{Arena, Steps};
-use awk_layout::{Array, Arrays, Datum, Node, Nodes};
+use awk_layout::{Array, Arrays, Datum, Node, Nodes, framed};
 use awk_types::{NoMemory, copy_type};
 use std::alloc::Global;
 use std::sync::ledger::Ledger;

@@ -3,9 +3,9 @@ ghost use Rattle.std.specs.Prelude.{◌≡◌, IfOk};
 ghost use Rattle.awk_layout.specs.Valid.{len};
 ghost use Rattle.awk_heights.specs.Levels as spec;
 
-use crate::level::{Cover, Frame};
+use crate::level::Cover;
 use awk_lanes::{NoMemory, Steps};
-use awk_layout::{Node, Nodes};
+use awk_layout::Node;
 use std::alloc::Global;
 use std::sync::ledger::Ledger;
 
@@ -27,21 +27,5 @@ pub(crate) fn covered<'a, L: Ledger>(
             Ok(Node::indexed(index, lists, steps))
         }
         Cover::Option(index) => Ok(Node::indexed_option(index, content, steps)),
-    }
-}
-
-/// The node of n items over several contents.
-pub(crate) fn framed<'a, L: Ledger>(
-    n: u64,
-    frame: Frame<'a>,
-    contents: Nodes<'a>,
-    steps: &mut Steps<L>,
-) -> Node<'a>
-    requires { spec.Frames n frame contents }
-    ensures { result ≡ spec.framed n frame.entry contents.entry }
-{
-    match frame {
-        Frame::Row(names) => Node::row(names, n, contents, steps),
-        Frame::Union(tags, index) => Node::union(tags, index, contents, steps),
     }
 }

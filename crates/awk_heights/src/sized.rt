@@ -1,15 +1,16 @@
 //! Lists of one size: their node stays as it lies, under one index.
 ghost use Rattle.std.specs.Prelude.{◌≡◌, true, IfOk, None};
 ghost use Rattle.awk_types.specs.Limit.{limit};
+ghost use Rattle.awk_types.specs.Predicates.{is_sized};
 ghost use Rattle.awk_layout.specs.Layout.{regular};
 ghost use Rattle.awk_layout.specs.Typing.{array_type};
 ghost use Rattle.awk_layout.specs.Valid.{len, IsValid};
-ghost use Rattle.awk_heights.specs.Levels.{is_sized, is_regular, IsLevel};
+ghost use Rattle.awk_heights.specs.Levels.{is_regular, IsLevel};
 
-use crate::level::{Cover, Level, only};
-use awk_gather::{Peeled, array_within, peel};
+use crate::level::{Cover, Level};
+use awk_gather::{Peeled, peel};
 use awk_lanes::{Arena, Steps, ordinals};
-use awk_layout::{Array, Class, Node};
+use awk_layout::{Array, Arrays, Class, Node};
 use awk_types::NoMemory;
 use std::alloc::Global;
 use std::sync::ledger::Ledger;
@@ -32,7 +33,7 @@ fn regular_content<'a>(alloc: Global, content: &Node<'a>) -> Result<Array<'a>, N
     ensures { IfOk result (λ y. y ≡ content.now) }
 {
     let copied = content.copy(alloc)?;
-    array_within(alloc, copied)
+    Array::of_node(alloc, copied)
 }
 
 /// An array of lists of one size, over the content of its node.
@@ -51,5 +52,5 @@ pub(crate) fn sized_level<'a, L: Ledger>(
     let (size, inner) = regular_parts(&content);
     let inner = regular_content(alloc, inner)?;
     let cover = Cover::Sized(index, size, content.len());
-    Ok(Level::Over(cover, only(alloc, inner)?))
+    Ok(Level::Over(cover, Arrays::only(alloc, inner)?))
 }

@@ -1,9 +1,7 @@
 -- What the lists of a column come to, level by level.
-use Rattle.std.proofs.Common.{◌≡◌, ℕ, ◌+◌, ◌*◌, ◌<◌, ◌≤◌, List}
-use Rattle.std.proofs.Common.{[], ◌∷◌, ◌++◌, length, refl, ap}
+use Rattle.std.proofs.Common.{◌≡◌, ℕ, ◌+◌, ◌*◌, ◌<◌, ◌≤◌, List, [], ◌∷◌, ◌++◌, length, refl, ap}
 use Rattle.std.proofs.Common.{ap₂, sym, ◌∙◌, arith}
-use Rattle.std.specs.Prelude.{Bool, true, false, cond, nat_lt, Option, Some, None}
-use Rattle.std.specs.Prelude.{if◌then◌else◌}
+use Rattle.std.specs.Prelude.{Bool, true, false, cond, nat_lt, Option, Some, None, if◌then◌else◌}
 use Rattle.std.specs.List.{count_by, flat_map, range_with_len}
 use Rattle.std.proofs.lemmas.List.Concat.{flat_map-append, flat_map-cons}
 use Rattle.std.proofs.lemmas.List.Sums.{sum_by-cons, sum_by-append}
@@ -357,9 +355,6 @@ module _ (i : Column) (y x : Layout) (o : OpensOption i y x) where
           (h.1.counts p) (omega (arith, shorter, e));
     },
   )
-
-pub option_depth : (t : DataType) → depth (opt t) ≡ depth t + 1
-option_depth t = omega arith
 
 pub option_falls : (a b : ℕ) → a ≡ b + 1 → 2 * b + 1 < 2 * a
 option_falls a b e = omega (arith, e)

@@ -1,16 +1,13 @@
 -- Histograms of lists, by their items one after another.
 use Rattle.std.specs.Prelude.{◌≡◌, ℕ, zero, suc, ◌+◌, ◌-◌, ◌*◌, ◌<◌, ◌≤◌, ◌^◌, refl, true, Bool}
-use Rattle.std.specs.Prelude.{nat_lt, nat_le, ℤ, List, [], ◌∷◌, length}
-use Rattle.std.specs.Prelude.{map, sum, pos, false}
+use Rattle.std.specs.Prelude.{nat_lt, nat_le, ℤ, List, [], ◌∷◌, length, map, sum, pos, false}
 use Rattle.std.specs.Prelude.{Option, Some, None, if◌then◌else◌}
-use Rattle.std.specs.List.{range_with_len, sum_by}
+use Rattle.std.specs.List.{sum_by}
 use Rattle.std.proofs.Common.{arith, ap, ap₂, sym, ◌∙◌, subst}
 use Rattle.std.proofs.lemmas.Bool.{leb-true}
 use Rattle.std.proofs.lemmas.Int.{ints}
-use Rattle.std.proofs.lemmas.List.Concat.{length-flat_map}
 use Rattle.std.proofs.lemmas.List.FromFn.{length-map-range_with_len}
 use Rattle.std.proofs.lemmas.List.Sums.{sum-map, sum_by-cons}
-use Rattle.std.proofs.lemmas.Simd.{map-map}
 use Rattle.awk_base.proofs.Ranges.{part-range}
 use Rattle.awk_types.specs.DataType.{DataType}
 use Rattle.awk_types.specs.ItemLimit.{item_limit}
@@ -33,6 +30,7 @@ use Rattle.awk_columns.specs.ListClass.{Class}
 use Rattle.awk_columns.specs.Lists.{items_at, all_items_at}
 use Rattle.awk_columns.specs.declared.lists.Joined.TheVariants.{TooMany}
 use Rattle.awk_columns.proofs.ArrayLaws.{array_items-at}
+use Rattle.awk_columns.proofs.OffsetLaws.{counted_total}
 use Rattle.awk_axis.specs.Causes.{first_spoil}
 use Rattle.awk_axis.specs.Mapped.{IsMade, IsColumn}
 use Rattle.awk_axis.specs.Spoils.{too_many}
@@ -49,13 +47,6 @@ use Rattle.awk_hist.specs.HistEach.{bins_function}
 use Rattle.awk_hist.specs.Lists.{AreItems}
 
 -- ---- counts
-
-items_total : (s e : Column) (y : Layout)
-    → sum (map (λ (l : List Value). length l) (all_items_at s e y)) ≡ total s e y
-items_total s e y =
-    ap sum (map-map (λ (l : List Value). length l) (items_at s e y) (range_with_len 0 (size_of s)))
-    ∙ sum-map (λ i. length (items_at s e y i)) (range_with_len 0 (size_of s))
-    ∙ sym (length-flat_map (items_at s e y) (range_with_len 0 (size_of s)))
 
 -- the counts of a list are as many as there are intervals
 counts_total : (es : List ℤ) (ls : List (List Value))
@@ -102,7 +93,7 @@ module _ (es : List ℤ) (s e : Column) (y : Layout) where
 
   counted : spoil ≡ first_spoil (too_many (total s e y)) (too_many (size_of s * intervals es))
   counted =
-      ap₂ (λ m n. first_spoil (too_many m) (too_many n)) (items_total s e y)
+      ap₂ (λ m n. first_spoil (too_many m) (too_many n)) (counted_total s e y)
       (counts_total es (all_items_at s e y)
       ∙ ap (λ n. n * intervals es) (length-map-range_with_len (items_at s e y) 0 (size_of s)))
 

@@ -9,6 +9,7 @@ use Rattle.std.proofs.lemmas.List.Edits.{length-between}
 use Rattle.std.proofs.lemmas.List.FromFn.{fill_by_all, get_or-map-range_with_len}
 use Rattle.std.proofs.lemmas.Simd.{map-map}
 use Rattle.awk_types.specs.DataType.{DataType, unknown, leaf, var, reg, rec, tup, opt, uni}
+use Rattle.awk_types.specs.Parts.{number_of}
 use Rattle.awk_types.specs.Predicates.{is_leaf}
 use Rattle.awk_types.specs.Simple.{present, simple_value}
 use Rattle.awk_types.specs.Value.{Value, null, list, row, value_list, values_from}
@@ -16,6 +17,7 @@ use Rattle.awk_types.specs.WholeNumbers.{is_numbers}
 use Rattle.awk_types.specs.declared.primitive.Primitive.{Primitive}
 use Rattle.awk_types.specs.declared.primitive.Primitive.TheVariants as primitive
 use Rattle.awk_types.proofs.Trees.{values_from-list}
+use Rattle.awk_types.proofs.TypeShapes.{numbers_leaf}
 use Rattle.awk_lanes.specs.Column.{Column}
 use Rattle.awk_lanes.specs.Counted.{before, items_lane, offsets_by}
 use Rattle.awk_lanes.specs.Made.{lane_of}
@@ -24,7 +26,7 @@ use Rattle.awk_lanes.specs.Places.{size_of, place_at, IsOffsets}
 use Rattle.awk_lanes.specs.declared.kind.Kind.TheVariants.{I64}
 use Rattle.awk_lanes.specs.declared.kind.Kind.TheVariants as kind
 use Rattle.awk_lanes.proofs.CountedLanes.{before-next, before_mono, length-numbers}
-use Rattle.awk_lanes.proofs.CountedLanes.{numbers-at, place-offsets}
+use Rattle.awk_lanes.proofs.CountedLanes.{numbers-at, place-offsets, before-equal}
 use Rattle.awk_lanes.proofs.MadeLanes.{at-lane_of, size-lane_of}
 use Rattle.awk_layout.specs.Item.{item, run, leaf_value}
 use Rattle.awk_layout.specs.Kinds.{kind_of}
@@ -36,14 +38,13 @@ use Rattle.awk_layout.proofs.Runs.{length-run, value_list-run}
 use Rattle.awk_axis.specs.Mapped.{IsColumn}
 use Rattle.awk_numbers.specs.Folds.{lane_numbers}
 use Rattle.awk_parts.specs.Parts.{AreRising, AreParts, part_at}
-use Rattle.awk_present.specs.Numbers.{leaf_of, number_of}
+use Rattle.awk_present.specs.Numbers.{leaf_of}
 use Rattle.awk_present.specs.Present.{ArePresent, list_at}
 use Rattle.awk_present.specs.declared.present.Present.{Present}
 use Rattle.awk_columns.specs.Columns.{present_values}
 use Rattle.awk_bins.specs.Bins.{intervals, count_in, interval_counts, count_under, count_over}
 use Rattle.awk_bins.specs.Bins.{AreBinned}
 use Rattle.awk_bins.specs.declared.bins.Binned.{Binned}
-use Rattle.awk_bins.proofs.RangeLaws.{before-same}
 use Rattle.awk_hist.specs.Bins.{bin_names, bins_type, count_value, count_nulls, bins_row, bins_and}
 use Rattle.awk_hist.specs.Lists.{AreItems, AreNullsReady, null_count, null_lane}
 use Rattle.awk_hist.specs.Rows.{bins_fields, bins_layout, AreOfSizes}
@@ -154,19 +155,9 @@ numbers_kind (tup ts) h e = cc
 numbers_kind (opt t) h e = option_numbers t h e
 numbers_kind (uni ts) h e = cc
 
-leaf_numbers : (t : DataType) → is_numbers t ≡ true → is_leaf t ≡ true
-leaf_numbers unknown h = refl
-leaf_numbers (leaf p) h = refl
-leaf_numbers (var t) h = cc
-leaf_numbers (reg n t) h = cc
-leaf_numbers (rec ns ts) h = cc
-leaf_numbers (tup ts) h = cc
-leaf_numbers (opt t) h = cc
-leaf_numbers (uni ts) h = cc
-
 module _ (z : Layout) (o : Column) (n : ℕ) (x : AreItems z o n) where
   pub are_leaves : is_leaf (present (array_type z)) ≡ true
-  are_leaves = leaf_numbers (present (array_type z)) x.numbers
+  are_leaves = numbers_leaf (present (array_type z)) x.numbers
 
   module _ (p : Present) (r : ArePresent z o n p) where
     abbrev all : List ℤ
@@ -247,7 +238,7 @@ module _ (z : Layout) (o : Column) (n : ℕ) (x : AreItems z o n) where
             ap size_of h.counts
             ∙ length-numbers (λ i. intervals es)
             (λ i k. pos (count_in es (part_at all p.offsets i) k)) n
-            ∙ before-same (intervals es) n
+            ∙ before-equal (intervals es) n
 
         under-size : size_of b.under ≡ n
         under-size =
@@ -322,7 +313,7 @@ even_offsets k n w e = record {
       rw (here, next) (λ d. (
         omega (arith, ints),
         omega (arith, ints, up),
-        omega (arith, ints, last, before-same k n, e),
+        omega (arith, ints, last, before-equal k n, e),
       ));
 }
 

@@ -8,19 +8,21 @@ use Rattle.awk_base.proofs.Sums.{sum-four}
 use Rattle.awk_types.specs.Datum as shown
 use Rattle.awk_types.specs.Faults.{fault_told}
 use Rattle.awk_types.specs.Gives.{Gives, refused_or}
+use Rattle.awk_types.specs.Parts.{number_of}
 use Rattle.awk_types.specs.Value.{Value, values_from, value_list}
 use Rattle.awk_types.specs.declared.fault.Fault.{Fault}
 use Rattle.awk_types.proofs.Trees.{value_list-from}
 use Rattle.awk_layout.specs.Datum.{datum_of}
+use Rattle.awk_layout.specs.Shown.{count_of}
 use Rattle.awk_layout.specs.declared.datum.Datum.{Datum}
 use Rattle.awk_columns.specs.Columns.{present_values}
-use Rattle.awk_present.specs.Numbers.{numbers, number_of}
+use Rattle.awk_present.specs.Numbers.{numbers}
 use Rattle.awk_bins.specs.Bins.{interval_counts, count_under, count_over}
 use Rattle.awk_bins.specs.Edges.{are_edges}
 use Rattle.awk_bins.proofs.SumLaws.{all_counted}
 use Rattle.awk_hist.specs.Bins.{bins, bins_type, count_nulls, count_value}
 use Rattle.awk_hist.specs.Hist.{leaves_of, hist_of, hist_refused}
-use Rattle.awk_hist.specs.Totals.{count_of, counts_total, row_total, CountsAll}
+use Rattle.awk_hist.specs.Totals.{counts_total, row_total, CountsAll}
 use Rattle.awk_hist.proofs.InnermostLaws.{present_few}
 
 pub list-total : (ns : List ℕ)

@@ -1,15 +1,13 @@
 -- The histogram of all leaves, by the column that lists come to.
 use Rattle.std.proofs.Common.{◌≡◌, ℕ, zero, suc, ◌+◌, ◌<◌, ◌≤◌, List, [], ◌∷◌, length, map, map-id}
 use Rattle.std.proofs.Common.{refl, ap, ap₂, sym, ◌∙◌, arith}
-use Rattle.std.specs.Prelude.{ℤ, pos, Bool, true, false, cond, ◌&&◌, int_lt, int_le, ◌≤ℤ◌}
-use Rattle.std.specs.List.{count_by, slice_range}
+use Rattle.std.specs.Prelude.{ℤ, pos, Bool, true, false, cond, ◌&&◌, int_lt, int_le, ◌≤ℤ◌, ◌*◌, ◌^◌}
+use Rattle.std.specs.Prelude.{◌||◌, nat_lt, Some, None, Ok, Err, Result, if◌then◌else◌}
+use Rattle.std.specs.List.{count_by, slice_range, flat_map}
 use Rattle.std.proofs.lemmas.Grind.{common_steps}
 use Rattle.std.proofs.lemmas.Int.{ints}
 use Rattle.std.proofs.lemmas.List.Concat.{flat_map-cons}
 use Rattle.std.proofs.lemmas.List.Sums.{sum_by-cons}
-use Rattle.std.specs.Prelude.{◌*◌, ◌^◌, ◌||◌, nat_lt, Some, None, Ok, Err, Result}
-use Rattle.std.specs.Prelude.{if◌then◌else◌}
-use Rattle.std.specs.List.{flat_map}
 use Rattle.std.proofs.lemmas.Bool.{ltb-false}
 use Rattle.awk_base.proofs.Ranges.{map-same}
 use Rattle.awk_types.specs.DataType.{DataType, depth, nodes}
@@ -17,6 +15,7 @@ use Rattle.awk_types.specs.Datum.{Datum, arr, one}
 use Rattle.awk_types.specs.Gives.{refused_or, ◌or◌}
 use Rattle.awk_types.specs.Limit.{limit, width, depth_limit, size_limit}
 use Rattle.awk_types.specs.ItemLimit.{item_limit}
+use Rattle.awk_types.specs.Parts.{number_of}
 use Rattle.awk_types.specs.Predicates.{is_null, is_leaf}
 use Rattle.awk_types.specs.declared.fault.Fault.{Fault}
 use Rattle.awk_types.specs.declared.fault.Fault.TheVariants.{Axis, WrongType, Size}
@@ -31,7 +30,7 @@ use Rattle.awk_layout.specs.Layout.{Layout}
 use Rattle.awk_layout.specs.Typing.{array_type, array_items}
 use Rattle.awk_columns.specs.Columns.{is_present}
 use Rattle.awk_numbers.proofs.PartLaws.{whole_range}
-use Rattle.awk_present.specs.Numbers.{numbers, number_of}
+use Rattle.awk_present.specs.Numbers.{numbers}
 use Rattle.awk_present.specs.Present.{list_at}
 use Rattle.awk_bins.specs.Bins.{count_in, interval_counts, count_under, count_over, intervals}
 use Rattle.awk_bins.specs.Edges.{edge_at, lies_in}
@@ -163,11 +162,6 @@ leaves_binned es t vs z more h =
     ap (λ r. refused_or r (one bins_type (bins es (flat_map (leaves t) vs)))) h.0
     ∙ ap (λ v. Ok (one bins_type v))
     (bins_same es (flat_map (leaves t) vs) (array_items z) more h.1.counts)
-
-pub many_told : (es : List ℤ) (t : DataType) (vs : List Value) → IsInnermost t vs innermost.TooMany
-    → hist_of_array es t vs ≡ Err Size
-many_told es t vs h =
-    ap (λ r. refused_or r (one bins_type (bins es (flat_map (leaves t) vs)))) h
 
 module _ (es : List ℤ) (t : DataType) (vs : List Value) where
   abbrev of_array : Bool → Bool → Result Datum Fault

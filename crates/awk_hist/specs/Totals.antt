@@ -4,11 +4,8 @@ use Rattle.std.specs.List.{sum}
 use Rattle.awk_types.specs.Datum.{Datum, arr, one}
 use Rattle.awk_types.specs.Value.{Value, int, list, row, value_list}
 use Rattle.awk_lanes.specs.Numbers.{nat_of}
+use Rattle.awk_layout.specs.Shown.{count_of}
 use Rattle.awk_hist.specs.Hist.{leaves_of}
-
-abbrev pub count_of : Value → ℕ
-count_of (int z) = nat_of z
-count_of v = 0
 
 -- a count, or those of a list
 abbrev pub counts_in : Value → ℕ

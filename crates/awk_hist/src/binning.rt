@@ -1,13 +1,11 @@
 //! Histograms of all leaves, and of each innermost list.
-ghost use Rattle.std.specs.Prelude.{◌≡◌, ◌*◌, ◌<◌, ◌≤◌, ◌^◌, ◌∷◌, [], pos, nat_le, true, length};
-ghost use Rattle.std.specs.Prelude.{IfOk};
+ghost use Rattle.std.specs.Prelude.{◌≡◌, ◌*◌, ◌<◌, ◌≤◌, ◌^◌, nat_le, true, length, IfOk};
 ghost use Rattle.awk_types.specs.Faults.{fault_told};
 ghost use Rattle.awk_types.specs.Datum as shown;
 ghost use Rattle.awk_types.specs.Gives.{Gives};
 ghost use Rattle.awk_types.specs.ItemLimit.{item_limit};
 ghost use Rattle.awk_types.specs.Simple.{present};
 ghost use Rattle.awk_types.specs.WholeNumbers.{is_numbers};
-ghost use Rattle.awk_lanes.specs.declared.kind.Kind.TheVariants as Kind;
 ghost use Rattle.awk_layout.specs.Datum.{datum_of, IsDatum};
 ghost use Rattle.awk_layout.specs.Typing.{array_type, array_items};
 ghost use Rattle.awk_axis.specs.Mapped.{IsMade};
@@ -22,12 +20,12 @@ use crate::edges::edge_list;
 use crate::innermost::{Innermost, innermost_of};
 use crate::lists::ItemLists;
 use crate::rows::bins_node;
-use crate::types::{are_leaves, are_numbers, bins_typ, has_numbers};
-use awk_axis::{ListOp, Made, Refusal, Spoil, lift_deep, made};
+use crate::types::{are_numbers, bins_typ, has_numbers};
+use awk_axis::{ListOp, Made, Refusal, Spoil, lift_deep};
 use awk_columns::{Joined, Lists};
-use awk_lanes::{Arena, Kind, Lane, LaneMaker, Steps, number};
+use awk_lanes::{Arena, Steps, one_offsets};
 use awk_layout::{Array, Datum};
-use awk_types::{Fault, NoMemory, Typ, Wholes};
+use awk_types::{Fault, NoMemory, Typ, Wholes, are_leaves};
 use std::alloc::Global;
 use std::sync::ledger::Ledger;
 
@@ -119,17 +117,6 @@ impl<'e> ListOp for Binning<'e> {
     }
 }
 
-/// The offsets of n items as one list.
-fn whole_offsets<'a>(n: u64, arena: &'a Arena) -> Result<Lane<'a>, NoMemory>
-    requires { n < 2 ^ 63 }
-    ensures { IfOk result (λ r. r ≡ record { kind = Kind.I64; items = pos 0 ∷ pos n ∷ [] }) }
-{
-    let mut maker = LaneMaker::new(Kind::I64, 2, arena)?;
-    maker.push(number(0));
-    maker.push(number(n));
-    Ok(maker.finish())
-}
-
 /// The histogram of a column of leaves as one list, with more nulls.
 fn hist_column<'a, L: Ledger>(
     alloc: Global,
@@ -147,14 +134,14 @@ fn hist_column<'a, L: Ledger>(
         ≡ shown.one bins_type (bins_and more edges.now (array_items items.now))) }
     ensures datum { IfOk result IsDatum }
 {
-    let offsets = whole_offsets(items.len(), arena)?;
+    let offsets = one_offsets(items.len(), arena)?;
     let x = ItemLists {
         items,
         offsets: &offsets,
         count: 1,
     };
     let node = bins_node(alloc, &x, more, edges, arena, steps)?;
-    Ok(Datum::One(made(alloc, node)?))
+    Ok(Datum::One(Array::of_node(alloc, node)?))
 }
 
 /// The histogram of the column that an array comes to.

@@ -8,12 +8,11 @@ ghost use Rattle.awk_open.specs.Opens.{OpensLists, OpensOption};
 ghost use Rattle.awk_hist.specs.Hist.{has_numbers};
 ghost use Rattle.awk_hist.specs.Lists.{IsInnermost};
 
-use crate::types::are_leaves;
 use awk_columns::{Joined, Lists};
 use awk_lanes::{Arena, Lane, Steps};
 use awk_layout::Array;
 use awk_open::{Opened, open_array};
-use awk_types::NoMemory;
+use awk_types::{NoMemory, are_leaves};
 use std::alloc::Global;
 use std::sync::ledger::Ledger;
 

@@ -1,34 +1,13 @@
 //! What types histograms take, and what they give.
 ghost use Rattle.std.specs.Prelude.{◌≡◌, IfOk};
-ghost use Rattle.awk_types.specs.Predicates as predicates;
 ghost use Rattle.awk_types.specs.Simple.{present};
 ghost use Rattle.awk_types.specs.View.{typ_of, typs_of};
 ghost use Rattle.awk_types.specs.WholeNumbers as whole;
 ghost use Rattle.awk_hist.specs.Bins as bins;
 ghost use Rattle.awk_hist.specs.Hist as spec;
 
-use awk_types::{Fields, Name, Names, NoMemory, Prim, Typ, Typs, is_leaf};
+use awk_types::{Fields, Name, Names, NoMemory, Prim, Typ, Typs, is_numbers};
 use std::alloc::Global;
-
-/// Whether items of a type are leaves, optional or not.
-pub(crate) fn are_leaves(t: &Typ) -> bool
-    ensures { result ≡ predicates.is_leaf (present (typ_of t.now)) }
-{
-    match t {
-        Typ::Opt(inner) => is_leaf(inner),
-        _ => is_leaf(t),
-    }
-}
-
-fn is_numbers(t: &Typ) -> bool
-    ensures { result ≡ whole.is_numbers (typ_of t.now) }
-{
-    match t {
-        Typ::Unknown => true,
-        Typ::Leaf(prim) => *prim != Prim::Bool,
-        _ => false,
-    }
-}
 
 /// Whether items of a type are numbers, optional or not.
 pub(crate) fn are_numbers(t: &Typ) -> bool

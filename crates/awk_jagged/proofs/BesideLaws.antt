@@ -17,25 +17,25 @@ use Rattle.awk_lanes.specs.Column.{Column}
 use Rattle.awk_lanes.specs.Counted.{before, offsets_by}
 use Rattle.awk_lanes.specs.Numbers.{nat_of}
 use Rattle.awk_lanes.specs.Places.{size_of, at, place_at, AreSpans, IsIndex}
+use Rattle.awk_lanes.proofs.CountedLanes.{before-same}
 use Rattle.awk_layout.specs.Layout.{flat}
 use Rattle.awk_layout.specs.Typing.{array_type, array_items}
 use Rattle.awk_layout.specs.Valid.{len}
 use Rattle.awk_gather_lanes.specs.Lanes.{picked}
 use Rattle.awk_gather_lanes.proofs.PickedLanes.{size-picked}
+use Rattle.awk_counts.proofs.ListLaws.{offsets-same}
 use Rattle.awk_gather.specs.Arrays.{IsGathered}
 use Rattle.awk_gather.proofs.GatheredArrays.{gathered}
 use Rattle.awk_gather.proofs.PickedNodes.{flat_picked}
-use Rattle.awk_columns.specs.Lists.{Listed}
+use Rattle.awk_columns.specs.Lists.{Listed, length_of}
 use Rattle.awk_select.specs.Cells.{place_number}
 use Rattle.awk_select.specs.Picks.{is_mask}
 use Rattle.awk_select.proofs.PickedPlaces.{IsThere}
 use Rattle.awk_jagged_places.specs.Beside.{places_beside}
-use Rattle.awk_jagged_places.specs.Leaves.{mask_numbers, AreTested, take_in}
-use Rattle.awk_jagged_places.specs.Leaves.{take_at, take_numbers, number_or, number_taken}
-use Rattle.awk_jagged_places.specs.Leaves.{numbers_taken}
-use Rattle.awk_jagged_places.proofs.FlatLists.{length-each, each_same, offsets_same}
-use Rattle.awk_jagged_rows.specs.Rows.{AreAlike, length_by}
-use Rattle.awk_jagged_rows.proofs.FlatPlaces.{before_same}
+use Rattle.awk_jagged_places.specs.Leaves.{mask_numbers, AreTested, take_in, take_at, take_numbers}
+use Rattle.awk_jagged_places.specs.Leaves.{number_or, number_taken, numbers_taken}
+use Rattle.awk_jagged_places.proofs.FlatLists.{length-each, each_same}
+use Rattle.awk_jagged_rows.specs.Rows.{AreAlike}
 use Rattle.awk_jagged.specs.Outcomes.{IsOutcomeOf}
 use Rattle.awk_jagged.specs.PickedAt.{ArePicked, AreWithin}
 use Rattle.awk_jagged.specs.declared.leaves.Outcome.TheVariants as outcome
@@ -162,13 +162,13 @@ module _ (xs ws : Listed) (pairs : size_of xs.starts ≡ size_of ws.starts)
   taken : ByNumbers xs ws (take_numbers xs ws)
   taken = by-takes xs ws pairs sx l m inside
 
-  pub takes-too_many : item_limit < before (length_by ws) (size_of ws.starts)
+  pub takes-too_many : item_limit < before (length_of ws) (size_of ws.starts)
       → IsOutcomeOf xs ws outcome.TooMany
   takes-too_many h =
       any-many xs ws (take_numbers xs ws) taken (takes-many xs ws (size_of ws.starts) h)
 
   module _ (c o r : Column) (e : xs.content ≡ flat c) (k : c.kind ≡ I64)
-      (few : before (length_by ws) (size_of ws.starts) ≤ item_limit)
+      (few : before (length_of ws) (size_of ws.starts) ≤ item_limit)
       (sw : AreSpans ws.starts ws.stops (len ws.content))
       (b : is_option (array_type ws.content) ≡ false)
       (has : AllByRecursion (Has (array_type ws.content)) (array_items ws.content))
@@ -179,11 +179,11 @@ module _ (xs ws : Listed) (pairs : size_of xs.starts ≡ size_of ws.starts)
         → numbers_taken xs ws c i ≡ map (λ z. at c (nat_of z)) (take_numbers xs ws i)
     list i q =
         map-same (number_taken xs ws c i) (λ j. at c (nat_of (take_at xs ws i j))) 0
-        (length_by ws i)
+        (length_of ws i)
         (λ j g h. some_number c (len xs.content) (take_in xs ws i j)
         (take-there xs ws pairs sx sw l m b has (λ a d u v. inside a u d v) i j q
         (omega (arith, h))))
-        ∙ sym (map-map (λ z. at c (nat_of z)) (take_at xs ws i) (range_with_len 0 (length_by ws i)))
+        ∙ sym (map-map (λ z. at c (nat_of z)) (take_at xs ws i) (range_with_len 0 (length_of ws i)))
 
     whole : r ≡ record {
       kind = I64;
@@ -207,7 +207,7 @@ module _ (xs ws : Listed) (pairs : size_of xs.starts ≡ size_of ws.starts)
     pub taken-few : size_of r < 2 ^ 63
     taken-few = any-few xs ws (take_numbers xs ws) taken c o r e fewer moved
 
-    pub taken-outcome : o ≡ offsets_by (length_by ws) (size_of ws.starts)
+    pub taken-outcome : o ≡ offsets_by (length_of ws) (size_of ws.starts)
         → IsOutcomeOf xs ws (outcome.Lists o (flat r))
     taken-outcome offsets =
         let p : Column =
@@ -216,13 +216,13 @@ module _ (xs ws : Listed) (pairs : size_of xs.starts ≡ size_of ws.starts)
         take-within xs ws p pairs sx sw l m has (λ a d u v. inside a u d v) refl in
         any-outcome xs ws (take_numbers xs ws) taken c o r e fewer moved b
         (subst (λ y. IsIndex p (len y)) e (within.present b))
-        (offsets ∙ offsets_same (length_by ws) (λ i. length (take_numbers xs ws i))
+        (offsets ∙ offsets-same (length_of ws) (λ i. length (take_numbers xs ws i))
         (size_of ws.starts)
-        (λ i q. sym (length-map-range_with_len (take_at xs ws i) 0 (length_by ws i))))
+        (λ i q. sym (length-map-range_with_len (take_at xs ws i) 0 (length_of ws i))))
 
   -- as many numbers as items of the index
-  pub taken-total : (c : Column) (total : ℕ) → total ≡ before (length_by ws) (size_of ws.starts)
+  pub taken-total : (c : Column) (total : ℕ) → total ≡ before (length_of ws) (size_of ws.starts)
       → total ≡ before (λ i. length (numbers_taken xs ws c i)) (size_of ws.starts)
   taken-total c total e =
-      e ∙ before_same (length_by ws) (λ i. length (numbers_taken xs ws c i)) (size_of ws.starts)
-      (λ i q. sym (length-map-range_with_len (number_taken xs ws c i) 0 (length_by ws i)))
+      e ∙ before-same (length_of ws) (λ i. length (numbers_taken xs ws c i)) (size_of ws.starts)
+      (λ i q. sym (length-map-range_with_len (number_taken xs ws c i) 0 (length_of ws i)))

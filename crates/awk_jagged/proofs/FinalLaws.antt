@@ -5,19 +5,19 @@ use Rattle.std.proofs.Common.{arith, ap, ap₂, sym, ◌∙◌, subst}
 use Rattle.std.proofs.lemmas.List.{append-nil}
 use Rattle.awk_types.specs.DataType.{DataType}
 use Rattle.awk_types.specs.Datum.{Datum, arr}
-use Rattle.awk_types.specs.Faults.{limit_fault}
+use Rattle.awk_types.specs.Faults.{limit_refused}
 use Rattle.awk_types.specs.Gives.{Told, refused_or, ◌or◌}
-use Rattle.awk_types.specs.Limit.{Limit, limit}
+use Rattle.awk_types.specs.Limit.{limit}
 use Rattle.awk_types.specs.Simple.{simple}
 use Rattle.awk_types.specs.Value.{Value}
 use Rattle.awk_types.specs.declared.fault.Fault.{Fault}
 use Rattle.awk_types.specs.declared.fault.Fault.TheVariants.{WrongType, Lengths, Index, Size}
+use Rattle.awk_types.proofs.RefusalLaws.{no_limit}
 use Rattle.awk_lanes.specs.Column.{Column}
 use Rattle.awk_lanes.specs.Places.{size_of}
 use Rattle.awk_layout.specs.Layout.{Layout}
 use Rattle.awk_layout.specs.Typing.{array_type, array_datum}
 use Rattle.awk_columns.specs.Lists.{Listed}
-use Rattle.awk_select.specs.Picks.{limit_refused}
 use Rattle.awk_jagged_rows.specs.Alone.{IsWhole}
 use Rattle.awk_jagged.specs.Jagged.{jagged_of, is_jagged, pick_type, picked_as}
 use Rattle.awk_jagged.specs.Jagged.{are_uneven, lacks_places, picked_items, size_refused, fault_if}
@@ -75,10 +75,6 @@ pub types-fault : (u t : DataType) (vs ws : List Value) (o : Option Fault)
     → Told o (judged_pick u t) → Told o (jagged_of (arr t vs) (arr u ws))
 types-fault u t vs ws None e = tt
 types-fault u t vs ws (Some f) e = types-told u t vs ws f e
-
-no_limit : (o : Option Limit) → option_map limit_fault o ≡ None → o ≡ None
-no_limit None h = refl
-no_limit (Some l) h = absurd cc
 
 -- ---- values
 

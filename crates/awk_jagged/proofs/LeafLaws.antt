@@ -1,7 +1,6 @@
 -- The innermost picks: the places in a content, and the items there.
-use Rattle.std.specs.Prelude.{◌≡◌, ℕ, zero, suc, ◌+◌, ◌<◌, ◌≤◌, refl, Bool, true, false}
-use Rattle.std.specs.Prelude.{◌||◌, List, [], ◌∷◌, ◌++◌, length, map, get_or, ℤ}
-use Rattle.std.specs.Prelude.{Option, Some, None, option_map}
+use Rattle.std.specs.Prelude.{◌≡◌, ℕ, zero, suc, ◌+◌, ◌<◌, ◌≤◌, refl, Bool, true, false, ◌||◌, List}
+use Rattle.std.specs.Prelude.{[], ◌∷◌, ◌++◌, length, map, get_or, ℤ, Option, Some, None, option_map}
 use Rattle.std.specs.List.{range_with_len, flat_map, list_any, AllByRecursion}
 use Rattle.std.proofs.Common.{arith, ap, ap₂, sym, ◌∙◌, subst}
 use Rattle.std.proofs.lemmas.List.{map-append}
@@ -9,7 +8,7 @@ use Rattle.std.proofs.lemmas.List.FromFn.{length-map-range_with_len, get_or-map-
 use Rattle.std.proofs.Math.Bool.{or-true}
 use Rattle.std.proofs.lemmas.Simd.{map-map}
 use Rattle.awk_base.proofs.Ranges.{map-same}
-use Rattle.awk_base.proofs.Every.{all-each as all-range, all-map}
+use Rattle.awk_base.proofs.Every.{all-each as all-range, all-map, all-at}
 use Rattle.awk_types.specs.DataType.{DataType, leaf}
 use Rattle.awk_types.specs.Has.{Has}
 use Rattle.awk_types.specs.ItemLimit.{item_limit}
@@ -25,13 +24,14 @@ use Rattle.awk_layout.specs.Item.{at_option}
 use Rattle.awk_layout.specs.Typing.{array_type, array_items}
 use Rattle.awk_layout.specs.Valid.{len}
 use Rattle.awk_gather.specs.Arrays.{pick}
-use Rattle.awk_columns.specs.Lists.{Listed}
+use Rattle.awk_columns.specs.Lists.{Listed, length_of}
 use Rattle.awk_base.proofs.Each.{each_of, each_of-more}
 use Rattle.awk_select.proofs.PickedPlaces.{IsThere, optional-lane, index-lane, take_place-below}
-use Rattle.awk_select.proofs.PickedPlaces.{take_places-there, has-at, mask_place-below}
-use Rattle.awk_select.proofs.PickedPlaces.{mask_place-there}
+use Rattle.awk_select.proofs.PickedPlaces.{take_places-there, mask_place-below, mask_place-there}
 use Rattle.awk_select.specs.Cells.{IsBelow, place_number, places_lane}
 use Rattle.awk_types.specs.Predicates.{is_leaf}
+use Rattle.awk_lanes.proofs.CountedLanes.{before-same}
+use Rattle.awk_counts.proofs.ListLaws.{offsets-same}
 use Rattle.awk_select.specs.Picks.{picked, is_mask, mask_place, mask_places, take_place}
 use Rattle.awk_select.specs.Picks.{take_places, is_outside}
 use Rattle.awk_jagged_places.specs.Leaves.{take_in, take_at, take_numbers, is_outside_at, mask_at}
@@ -39,9 +39,8 @@ use Rattle.awk_jagged_places.specs.Leaves.{mask_numbers, AreTested}
 use Rattle.awk_jagged.specs.PickedAt.{ArePlaces, ArePlacesOr, AreWithin, AreWithinOr}
 use Rattle.awk_jagged.specs.declared.leaves.Places.{Places}
 use Rattle.awk_jagged_rows.specs.Levels.{row_at}
-use Rattle.awk_jagged_rows.specs.Rows.{lists_by, length_by, place_by, AreAlike}
-use Rattle.awk_jagged_rows.proofs.FlatPlaces.{before_same}
-use Rattle.awk_jagged_places.proofs.FlatLists.{each_same, offsets_same}
+use Rattle.awk_jagged_rows.specs.Rows.{lists_by, place_by, AreAlike}
+use Rattle.awk_jagged_places.proofs.FlatLists.{each_same}
 use Rattle.awk_jagged.proofs.LeafTypes.{mask-leaf, plain-leaf, leaf-index}
 use Rattle.awk_jagged_rows.proofs.SpanLaws.{item_in, list-items, length-list}
 
@@ -74,12 +73,12 @@ abbrev pub at_place : List Value → Option ℕ → Value
 at_place vs o = at_option o (λ k. get_or vs k null)
 
 pub pick_in : (l : Listed) (i k : ℕ) → AreSpans l.starts l.stops (len l.content)
-    → i < size_of l.starts → k < length_by l i
+    → i < size_of l.starts → k < length_of l i
     → get_or (array_items l.content) (place_by l i k) null ≡ get_or (lists_by l i) k null
 pick_in l i k s p q =
     get_or-array_items l.content (place_by l i k) (item_in l i k s p q).1
     ∙ sym (ap (λ vs. get_or vs k null) (list-items l i)
-    ∙ get_or-map-range_with_len (row_at l i) 0 (length_by l i) k k null q (omega arith))
+    ∙ get_or-map-range_with_len (row_at l i) 0 (length_of l i) k k null q (omega arith))
 
 -- ---- places of an index
 
@@ -95,17 +94,17 @@ pub take-picks : (xs ws : Listed) (i : ℕ) → AreSpans xs.starts xs.stops (len
     ≡ picked (lists_by xs i) (take_places (length (lists_by xs i)) (lists_by ws i))
 take-picks xs ws i s p =
     map-map (at_number (array_items xs.content)) (λ k. place_number (take_in xs ws i k))
-    (range_with_len 0 (length_by ws i))
-    ∙ map-same _ _ 0 (length_by ws i)
+    (range_with_len 0 (length_of ws i))
+    ∙ map-same _ _ 0 (length_of ws i)
     (λ k l q. moved_place (lists_by xs i) (array_items xs.content) (place_at xs.starts i)
-    (length_by xs i) (take_place (length_by xs i) (row_at ws i k))
-    (λ j r. pick_in xs i j s p r) (take_place-below (length_by xs i) (row_at ws i k)))
+    (length_of xs i) (take_place (length_of xs i) (row_at ws i k))
+    (λ j r. pick_in xs i j s p r) (take_place-below (length_of xs i) (row_at ws i k)))
     ∙ sym (ap (λ n. picked (lists_by xs i) (take_places n (lists_by ws i))) (length-list xs i)
-    ∙ ap (λ us. picked (lists_by xs i) (take_places (length_by xs i) us)) (list-items ws i)
+    ∙ ap (λ us. picked (lists_by xs i) (take_places (length_of xs i) us)) (list-items ws i)
     ∙ ap (map (at_place (lists_by xs i)))
-    (map-map (take_place (length_by xs i)) (row_at ws i) (range_with_len 0 (length_by ws i)))
-    ∙ map-map (at_place (lists_by xs i)) (λ k. take_place (length_by xs i) (row_at ws i k))
-    (range_with_len 0 (length_by ws i)))
+    (map-map (take_place (length_of xs i)) (row_at ws i) (range_with_len 0 (length_of ws i)))
+    ∙ map-map (at_place (lists_by xs i)) (λ k. take_place (length_of xs i) (row_at ws i k))
+    (range_with_len 0 (length_of ws i)))
 
 -- ---- places of a mask
 
@@ -121,34 +120,34 @@ masked_place vs ws a k (row us) e = refl
 masked_place vs ws a k (alt j v) e = refl
 
 pub mask-picks : (xs ws : Listed) (i : ℕ) → AreSpans xs.starts xs.stops (len xs.content)
-    → i < size_of xs.starts → length_by xs i ≡ length_by ws i
+    → i < size_of xs.starts → length_of xs i ≡ length_of ws i
     → pick (array_items xs.content) (mask_numbers xs ws i)
     ≡ picked (lists_by xs i) (mask_places (lists_by ws i))
 mask-picks xs ws i s p e =
-    map_each (at_number (array_items xs.content)) (mask_at xs ws i) (length_by ws i)
-    ∙ each_same _ _ (length_by ws i) (λ k q.
+    map_each (at_number (array_items xs.content)) (mask_at xs ws i) (length_of ws i)
+    ∙ each_same _ _ (length_of ws i) (λ k q.
     masked_place (lists_by xs i) (array_items xs.content) (place_by xs i k) k (row_at ws i k)
     (pick_in xs i k s p (omega (arith, q, e)))
     ∙ ap (λ w. map (at_place (lists_by xs i)) (mask_place k w)) (sym (item k q)))
     ∙ sym (map_each (at_place (lists_by xs i)) (λ k. mask_place k (get_or (lists_by ws i) k null))
-    (length_by ws i))
+    (length_of ws i))
     ∙ ap (λ n. map (at_place (lists_by xs i))
     (each_of (λ k. mask_place k (get_or (lists_by ws i) k null)) n)) (sym (length-list ws i))
   where
-    item : (k : ℕ) → k < length_by ws i → get_or (lists_by ws i) k null ≡ row_at ws i k
+    item : (k : ℕ) → k < length_of ws i → get_or (lists_by ws i) k null ≡ row_at ws i k
     item k q = ap (λ vs. get_or vs k null) (list-items ws i)
-        ∙ get_or-map-range_with_len (row_at ws i) 0 (length_by ws i) k k null q (omega arith)
+        ∙ get_or-map-range_with_len (row_at ws i) 0 (length_of ws i) k k null q (omega arith)
 
 -- ---- these are places of the content
 
 -- the item of an index has the type of its items
 item_has : (ws : Listed) (P : Value → Type 0) (i k : ℕ)
-    → AreSpans ws.starts ws.stops (len ws.content) → i < size_of ws.starts → k < length_by ws i
+    → AreSpans ws.starts ws.stops (len ws.content) → i < size_of ws.starts → k < length_of ws i
     → AllByRecursion P (array_items ws.content) → P (row_at ws i k)
 item_has ws P i k s p q h =
     let w : place_by ws i k < len ws.content = (item_in ws i k s p q).1 in
     subst P (get_or-array_items ws.content (place_by ws i k) w)
-    (has-at P (array_items ws.content) (place_by ws i k) h
+    (all-at P (array_items ws.content) (place_by ws i k) null h
     (omega (arith, w, length-array_items ws.content)))
 
 moved_below : (a n m : ℕ) (o : Option ℕ) → ((k : ℕ) → k < n → a + k < m) → IsBelow n o
@@ -193,7 +192,7 @@ within b m n os p e f g = record {
 
 -- the numbers of a list as places
 abbrev take_list : Listed → Listed → ℕ → List (Option ℕ)
-take_list xs ws i = map (take_in xs ws i) (range_with_len 0 (length_by ws i))
+take_list xs ws i = map (take_in xs ws i) (range_with_len 0 (length_of ws i))
 
 -- an item of an index without nulls names a place of the content
 pub take-there : (xs ws : Listed) → size_of xs.starts ≡ size_of ws.starts
@@ -202,14 +201,14 @@ pub take-there : (xs ws : Listed) → size_of xs.starts ≡ size_of ws.starts
     → is_leaf (present (array_type ws.content)) ≡ true
     → is_mask (array_type ws.content) ≡ false → is_option (array_type ws.content) ≡ false
     → AllByRecursion (Has (array_type ws.content)) (array_items ws.content)
-    → ((i k : ℕ) → i < size_of ws.starts → k < length_by ws i → is_outside_at xs ws i k ≡ false)
-    → (i k : ℕ) → i < size_of ws.starts → k < length_by ws i
+    → ((i k : ℕ) → i < size_of ws.starts → k < length_of ws i → is_outside_at xs ws i k ≡ false)
+    → (i k : ℕ) → i < size_of ws.starts → k < length_of ws i
     → IsThere (len xs.content) (take_in xs ws i k)
 take-there xs ws pairs sx sw l m o has inside i k q r =
-    moved_there (place_at xs.starts i) (length_by xs i) (len xs.content)
-    (take_place (length_by xs i) (row_at ws i k))
+    moved_there (place_at xs.starts i) (length_of xs i) (len xs.content)
+    (take_place (length_of xs i) (row_at ws i k))
     (λ j t. (item_in xs i j sx (omega (arith, q, pairs)) t).1)
-    (take_one (length_by xs i) (array_type ws.content) (row_at ws i k) l m o
+    (take_one (length_of xs i) (array_type ws.content) (row_at ws i k) l m o
     (item_has ws (Has (array_type ws.content)) i k sw q r has) (inside i k q r))
 
 pub take-within : (xs ws : Listed) (p : Column) → size_of xs.starts ≡ size_of ws.starts
@@ -218,25 +217,25 @@ pub take-within : (xs ws : Listed) (p : Column) → size_of xs.starts ≡ size_o
     → is_leaf (present (array_type ws.content)) ≡ true
     → is_mask (array_type ws.content) ≡ false
     → AllByRecursion (Has (array_type ws.content)) (array_items ws.content)
-    → ((i k : ℕ) → i < size_of ws.starts → k < length_by ws i → is_outside_at xs ws i k ≡ false)
+    → ((i k : ℕ) → i < size_of ws.starts → k < length_of ws i → is_outside_at xs ws i k ≡ false)
     → p ≡ record { kind = kinds.I64; items = each_of (take_numbers xs ws) (size_of ws.starts) }
     → AreWithin (is_option (array_type ws.content)) (len xs.content) p
 take-within xs ws p pairs sx sw l m has inside e =
     within (is_option (array_type ws.content)) (len xs.content) (size_of ws.starts)
     (take_list xs ws) p
     (e ∙ ap (λ zs. record { kind = kinds.I64; items = zs }) (each_same _ _ (size_of ws.starts)
-    (λ i q. sym (map-map place_number (take_in xs ws i) (range_with_len 0 (length_by ws i))))))
-    (λ i q. all-map (IsBelow (len xs.content)) (take_in xs ws i) 0 (length_by ws i)
-    (λ k r. moved_below (place_at xs.starts i) (length_by xs i) (len xs.content)
-    (take_place (length_by xs i) (row_at ws i k))
+    (λ i q. sym (map-map place_number (take_in xs ws i) (range_with_len 0 (length_of ws i))))))
+    (λ i q. all-map (IsBelow (len xs.content)) (take_in xs ws i) 0 (length_of ws i)
+    (λ k r. moved_below (place_at xs.starts i) (length_of xs i) (len xs.content)
+    (take_place (length_of xs i) (row_at ws i k))
     (λ j t. (item_in xs i j sx (omega (arith, q, pairs)) t).1)
-    (take_place-below (length_by xs i) (row_at ws i k))))
-    (λ o i q. all-map (IsThere (len xs.content)) (take_in xs ws i) 0 (length_by ws i)
+    (take_place-below (length_of xs i) (row_at ws i k))))
+    (λ o i q. all-map (IsThere (len xs.content)) (take_in xs ws i) 0 (length_of ws i)
     (λ k r. take-there xs ws pairs sx sw l m o has inside i k q (omega (arith, r))))
 
 abbrev mask_list : Listed → Listed → ℕ → List (Option ℕ)
 mask_list xs ws i =
-    flat_map (λ k. mask_place (place_by xs i k) (row_at ws i k)) (range_with_len 0 (length_by ws i))
+    flat_map (λ k. mask_place (place_by xs i k) (row_at ws i k)) (range_with_len 0 (length_of ws i))
 
 pub mask-within : (xs ws : Listed) (p : Column) → size_of xs.starts ≡ size_of ws.starts
     → AreAlike xs ws → AreSpans xs.starts xs.stops (len xs.content)
@@ -251,12 +250,12 @@ mask-within xs ws p pairs alike sx sw l m has e =
     (mask_list xs ws) p
     (e ∙ ap (λ zs. record { kind = kinds.I64; items = zs }) (each_same _ _ (size_of ws.starts)
     (λ i q. sym (map_each place_number (λ k. mask_place (place_by xs i k) (row_at ws i k))
-    (length_by ws i)))))
+    (length_of ws i)))))
     (λ i q. all-range (IsBelow (len xs.content))
-    (λ k. mask_place (place_by xs i k) (row_at ws i k)) 0 (length_by ws i)
+    (λ k. mask_place (place_by xs i k) (row_at ws i k)) 0 (length_of ws i)
     (λ k r. mask_place-below (len xs.content) (place_by xs i k) (row_at ws i k) (at i k q r)))
     (λ o i q. all-range (IsThere (len xs.content))
-    (λ k. mask_place (place_by xs i k) (row_at ws i k)) 0 (length_by ws i)
+    (λ k. mask_place (place_by xs i k) (row_at ws i k)) 0 (length_of ws i)
     (λ k r.
     let t : array_type ws.content ≡ leaf Truths =
     mask-leaf (array_type ws.content) (plain-leaf (array_type ws.content) l o) m in
@@ -264,7 +263,7 @@ mask-within xs ws p pairs alike sx sw l m has e =
     (subst (λ u. Has u (row_at ws i k)) t
     (item_has ws (Has (array_type ws.content)) i k sw q (omega (arith, r)) has)) (at i k q r)))
   where
-    at : (i k : ℕ) → i < size_of ws.starts → k < 0 + length_by ws i
+    at : (i k : ℕ) → i < size_of ws.starts → k < 0 + length_of ws i
         → place_by xs i k < len xs.content
     at i k q r = (item_in xs i k sx (omega (arith, q, pairs)) (omega (arith, r, alike i q))).1
 
@@ -293,24 +292,24 @@ one_outside n g a (suc m) (suc k) p e =
 
 lacks_by : (xs ws : Listed) (i : ℕ)
     → list_any (is_outside (length (lists_by xs i))) (lists_by ws i)
-    ≡ list_any (is_outside (length_by xs i)) (map (row_at ws i) (range_with_len 0 (length_by ws i)))
+    ≡ list_any (is_outside (length_of xs i)) (map (row_at ws i) (range_with_len 0 (length_of ws i)))
 lacks_by xs ws i = ap₂ (λ n vs. list_any (is_outside n) vs) (length-list xs i) (list-items ws i)
 
 pub take-has : (xs ws : Listed) (i : ℕ)
-    → ((k : ℕ) → k < length_by ws i → is_outside_at xs ws i k ≡ false)
+    → ((k : ℕ) → k < length_of ws i → is_outside_at xs ws i k ≡ false)
     → list_any (is_outside (length (lists_by xs i))) (lists_by ws i) ≡ false
 take-has xs ws i f =
     lacks_by xs ws i
-    ∙ any_outside (length_by xs i) (row_at ws i) 0 (length_by ws i) (λ k l. f k (omega (arith, l)))
+    ∙ any_outside (length_of xs i) (row_at ws i) 0 (length_of ws i) (λ k l. f k (omega (arith, l)))
 
-pub take-lacks : (xs ws : Listed) (i k : ℕ) → k < length_by ws i
+pub take-lacks : (xs ws : Listed) (i k : ℕ) → k < length_of ws i
     → is_outside_at xs ws i k ≡ true
     → list_any (is_outside (length (lists_by xs i))) (lists_by ws i) ≡ true
 take-lacks xs ws i k p e =
     let z : k ≡ 0 + k = omega arith in
     lacks_by xs ws i
-    ∙ one_outside (length_by xs i) (row_at ws i) 0 (length_by ws i) k p
-    (subst (λ j. is_outside (length_by xs i) (row_at ws i j) ≡ true) z e)
+    ∙ one_outside (length_of xs i) (row_at ws i) 0 (length_of ws i) k p
+    (subst (λ j. is_outside (length_of xs i) (row_at ws i j) ≡ true) z e)
 
 -- ---- places that are made
 
@@ -341,34 +340,34 @@ masks-within xs ws pairs alike sx sw l m has (Some p) h =
 
 -- places of an index, from its lengths
 pub takes-made : (xs ws : Listed) (n : ℕ) (o lane : Column) (p : Places)
-    → before (length_by ws) n ≤ item_limit → o ≡ offsets_by (length_by ws) n
+    → before (length_of ws) n ≤ item_limit → o ≡ offsets_by (length_of ws) n
     → lane ≡ record { kind = kinds.I64; items = each_of (take_numbers xs ws) n }
     → p ≡ record { offsets = o; lane = lane } → ArePlaces (take_numbers xs ws) n p
 takes-made xs ws n o lane p few eo el ep =
-    let same : (i : ℕ) → i < n → length_by ws i ≡ length (take_numbers xs ws i) =
-    λ i q. sym (length-map-range_with_len (take_at xs ws i) 0 (length_by ws i)) in
+    let same : (i : ℕ) → i < n → length_of ws i ≡ length (take_numbers xs ws i) =
+    λ i q. sym (length-map-range_with_len (take_at xs ws i) 0 (length_of ws i)) in
     rw ep (record {
       few = omega (
         arith,
         few,
-        before_same (length_by ws) (λ i. length (take_numbers xs ws i)) n same,
+        before-same (length_of ws) (λ i. length (take_numbers xs ws i)) n same,
       );
       offsets = eo
-          ∙ offsets_same (length_by ws) (λ i. length (take_numbers xs ws i)) n same;
+          ∙ offsets-same (length_of ws) (λ i. length (take_numbers xs ws i)) n same;
       lane = el;
     })
 
-pub takes-many : (xs ws : Listed) (n : ℕ) → item_limit < before (length_by ws) n
+pub takes-many : (xs ws : Listed) (n : ℕ) → item_limit < before (length_of ws) n
     → item_limit < before (λ i. length (take_numbers xs ws i)) n
 takes-many xs ws n h =
-    let e : before (length_by ws) n ≡ before (λ i. length (take_numbers xs ws i)) n =
-    before_same (length_by ws) (λ i. length (take_numbers xs ws i)) n
-    (λ i q. sym (length-map-range_with_len (take_at xs ws i) 0 (length_by ws i))) in
+    let e : before (length_of ws) n ≡ before (λ i. length (take_numbers xs ws i)) n =
+    before-same (length_of ws) (λ i. length (take_numbers xs ws i)) n
+    (λ i q. sym (length-map-range_with_len (take_at xs ws i) 0 (length_of ws i))) in
     omega (arith, h, e)
 
 -- how many places an index names
 pub takes-total : (xs ws : Listed) (n : ℕ)
-    → before (length_by ws) n ≡ before (λ i. length (take_numbers xs ws i)) n
+    → before (length_of ws) n ≡ before (λ i. length (take_numbers xs ws i)) n
 takes-total xs ws n =
-    before_same (length_by ws) (λ i. length (take_numbers xs ws i)) n
-    (λ i q. sym (length-map-range_with_len (take_at xs ws i) 0 (length_by ws i)))
+    before-same (length_of ws) (λ i. length (take_numbers xs ws i)) n
+    (λ i q. sym (length-map-range_with_len (take_at xs ws i) 0 (length_of ws i)))

@@ -1,16 +1,17 @@
 -- What is picked of rows, under the level that they are of.
-use Rattle.std.specs.Prelude.{◌≡◌, ℕ, ◌+◌, ◌<◌, ◌^◌, refl, Bool, true, false, ◌||◌, List}
-use Rattle.std.specs.Prelude.{length, map, Option, Some, None, is_some, IfSome}
-use Rattle.std.specs.Prelude.{if◌then◌else◌}
+use Rattle.std.specs.Prelude.{◌≡◌, ℕ, ◌+◌, ◌<◌, ◌^◌, refl, Bool, true, false, ◌||◌, List, length}
+use Rattle.std.specs.Prelude.{map, Option, Some, None, is_some, IfSome, if◌then◌else◌}
 use Rattle.std.specs.List.{range_with_len}
 use Rattle.std.proofs.Common.{arith, ap, sym, ◌∙◌, subst}
 use Rattle.awk_types.specs.DataType.{DataType, var}
 use Rattle.awk_types.specs.Gives.{◌or◌}
 use Rattle.awk_types.specs.Simple.{option_if}
 use Rattle.awk_types.specs.Value.{Value, int, truth, null, list, row, alt, values_from}
+use Rattle.awk_types.proofs.ItemLimits.{within_limit}
 use Rattle.awk_lanes.specs.Column.{Column}
 use Rattle.awk_lanes.specs.Counted.{before, offsets_by}
 use Rattle.awk_lanes.specs.Places.{size_of, at, IsOptionalIndex}
+use Rattle.awk_counts.proofs.ListLaws.{offsets-same}
 use Rattle.awk_layout.specs.Item.{at_option}
 use Rattle.awk_layout.specs.Layout.{Layout, offset_lists}
 use Rattle.awk_layout.specs.Typing.{array_type, array_items}
@@ -20,21 +21,20 @@ use Rattle.awk_gather.proofs.OptionItems.{item-optional}
 use Rattle.awk_gather.specs.Arrays.{array_item}
 use Rattle.awk_columns.proofs.ArrayLaws.{array_items-at}
 use Rattle.awk_columns.proofs.ListNodes.{len-list}
-use Rattle.awk_columns.specs.Lists.{Listed}
-use Rattle.awk_columns.proofs.ItemLimits.{within_limit}
+use Rattle.awk_columns.specs.Lists.{Listed, length_of}
 use Rattle.awk_jagged.specs.Jagged.{is_jagged, picked_items, row_by, size_refused}
 use Rattle.awk_jagged_rows.specs.Levels.{AreRows, IsRowIndex, row_at, row_count, rows_before}
 use Rattle.awk_jagged.specs.Outcomes.{ArePickedLists, AreTooMany, IsOutcome, IsOutcomeOf}
 use Rattle.awk_jagged.specs.Over.{row_layout, Holds, CanHold, IsOver}
 use Rattle.awk_jagged.specs.Pairs.{picks, picked_length}
 use Rattle.awk_jagged_rows.specs.Sides.{sides, are_lists}
-use Rattle.awk_jagged_rows.specs.Rows.{lists_by, length_by}
+use Rattle.awk_jagged_rows.specs.Rows.{lists_by}
 use Rattle.awk_jagged.specs.declared.leaves.Outcome.{Outcome}
 use Rattle.awk_jagged.specs.declared.leaves.Outcome.TheVariants as outcome
 use Rattle.awk_jagged_rows.specs.declared.levels.Rows.{Rows}
 use Rattle.awk_jagged.proofs.FlatItems.{list-row, are-offsets, size-offsets, present-below}
 use Rattle.awk_jagged_rows.proofs.FlatPlaces.{flat_within, IsIn, find}
-use Rattle.awk_jagged_places.proofs.FlatLists.{offsets_same, length-each}
+use Rattle.awk_jagged_places.proofs.FlatLists.{length-each}
 use Rattle.awk_jagged.proofs.PairLaws.{AreBelow, unrolls, even-up, uneven-up, have-up, lack-up}
 use Rattle.awk_jagged.proofs.PairLaws.{picks-rows, length-picked, size-up}
 use Rattle.awk_jagged.proofs.PickedTypes.{picked_typ}
@@ -82,7 +82,7 @@ some_row f v w g t false e h = null_row f v w e
 pub below_of : (xs ws : Listed) (r : Rows) → AreRows xs ws r
     → is_jagged (array_type ws.content) ≡ true
     → AreBelow (array_type ws.content) (array_type r.ws.content) (lists_by xs) (lists_by ws)
-    (size_of ws.starts) (length_by ws) (lists_by r.xs) (lists_by r.ws) (row_at xs) (row_at ws)
+    (size_of ws.starts) (length_of ws) (lists_by r.xs) (lists_by r.ws) (row_at xs) (row_at ws)
 below_of xs ws r h j = record {
   unrolls = unrolls (array_type ws.content) (array_type r.ws.content) h.second j h.second_type;
   first = λ i p. list-items xs i
@@ -105,7 +105,7 @@ module _ (xs ws : Listed) (r : Rows) (h : AreRows xs ws r)
   abbrev m : ℕ
   m = row_count ws
 
-  b : AreBelow u v (lists_by xs) (lists_by ws) n (length_by ws) (lists_by r.xs) (lists_by r.ws)
+  b : AreBelow u v (lists_by xs) (lists_by ws) n (length_of ws) (lists_by r.xs) (lists_by r.ws)
       (row_at xs) (row_at ws)
   b = below_of xs ws r h j
 
@@ -116,7 +116,7 @@ module _ (xs ws : Listed) (r : Rows) (h : AreRows xs ws r)
   picked i k = row_by (picked_items v) (row_at xs i k) (row_at ws i k)
 
   -- the row that is made at a place
-  made_row : (i k : ℕ) → i < n → k < length_by ws i
+  made_row : (i k : ℕ) → i < n → k < length_of ws i
       → list (values_from (made (rows_before ws i + k)))
       ≡ list (values_from (picked_items v (sides (row_at xs i k) (row_at ws i k)).0
       (sides (row_at xs i k) (row_at ws i k)).1))
@@ -147,13 +147,13 @@ module _ (xs ws : Listed) (r : Rows) (h : AreRows xs ws r)
           record {
             kind = rw e.kind tt;
             below = λ t p.
-                let s : IsIn (length_by ws) n t =
-                find (length_by ws) n t (omega (arith, p, e.size)) in
+                let s : IsIn (length_of ws) n t =
+                find (length_of ws) n t (omega (arith, p, e.size)) in
                 let w : rows_before ws s.list + s.item < len (offset_lists o y) =
                 omega (
                   arith,
                   len-list None m o y size,
-                  flat_within (length_by ws) n s.list s.item s.within s.below,
+                  flat_within (length_of ws) n s.list s.item s.within s.below,
                 ) in
                 rw s.place (present-below (at j (rows_before ws s.list + s.item))
                 (are_lists (row_at xs s.list s.item) (row_at ws s.list s.item))
@@ -163,11 +163,11 @@ module _ (xs ws : Listed) (r : Rows) (h : AreRows xs ws r)
         )
 
     row_item : (idx : Option Column) → IsRowIndex xs ws idx → (i k : ℕ) → i < n
-        → k < length_by ws i
+        → k < length_of ws i
         → array_item (row_layout idx o y) (rows_before ws i + k) ≡ picked i k
     row_item None e i k p q =
         list-row y o made m (rows_before ws i + k) items eo
-        (flat_within (length_by ws) n i k p q)
+        (flat_within (length_of ws) n i k p q)
         ∙ made_row i k p q
         ∙ lists_row (picked_items v) (row_at xs i k) (row_at ws i k) (e i k p q)
     row_item (Some j) e i k p q =
@@ -177,7 +177,7 @@ module _ (xs ws : Listed) (r : Rows) (h : AreRows xs ws r)
         (array_item (offset_lists o y)) (rows_before ws i + k)
         (are_lists (row_at xs i k) (row_at ws i k)) refl
         (list-row y o made m (rows_before ws i + k) items eo
-        (flat_within (length_by ws) n i k p q) ∙ made_row i k p q)
+        (flat_within (length_of ws) n i k p q) ∙ made_row i k p q)
 
     row_len : (idx : Option Column) → IsRowIndex xs ws idx → len (row_layout idx o y) ≡ m
     row_len None e = len-list None m o y size
@@ -199,20 +199,20 @@ module _ (xs ws : Listed) (r : Rows) (h : AreRows xs ws r)
     row_items idx e =
         array_items-at (row_layout idx o y)
         ∙ ap (λ k. map (array_item (row_layout idx o y)) (range_with_len 0 k)) (row_len idx e)
-        ∙ picks-rows u v (lists_by xs) (lists_by ws) n (length_by ws) (lists_by r.xs)
+        ∙ picks-rows u v (lists_by xs) (lists_by ws) n (length_of ws) (lists_by r.xs)
         (lists_by r.ws) (row_at xs) (row_at ws) b (array_item (row_layout idx o y))
         (row_item idx e)
 
   size_at : size_refused u (picks u (lists_by xs) (lists_by ws) n)
       ≡ size_refused v (picks v (lists_by r.xs) (lists_by r.ws) m)
   size_at =
-      size-up u v (lists_by xs) (lists_by ws) n (length_by ws) (lists_by r.xs) (lists_by r.ws)
+      size-up u v (lists_by xs) (lists_by ws) n (length_of ws) (lists_by r.xs) (lists_by r.ws)
       (row_at xs) (row_at ws) b
       ∙ ap (λ o. o or size_refused v (picks v (lists_by r.xs) (lists_by r.ws) m))
       (within_limit m h.few)
 
-  lengths : (i : ℕ) → i < n → picked_length u (lists_by xs) (lists_by ws) i ≡ length_by ws i
-  lengths = length-picked u v (lists_by xs) (lists_by ws) n (length_by ws) (lists_by r.xs)
+  lengths : (i : ℕ) → i < n → picked_length u (lists_by xs) (lists_by ws) i ≡ length_of ws i
+  lengths = length-picked u v (lists_by xs) (lists_by ws) n (length_of ws) (lists_by r.xs)
       (lists_by r.ws) (row_at xs) (row_at ws) b
 
   pub picked-over : (o : Column) (y : Layout)
@@ -220,9 +220,9 @@ module _ (xs ws : Listed) (r : Rows) (h : AreRows xs ws r)
       → ArePickedLists (array_type xs.content) u (lists_by xs) (lists_by ws) n r.offsets
       (row_layout r.index o y)
   picked-over o y a = record {
-    even = even-up u v (lists_by xs) (lists_by ws) n (length_by ws) (lists_by r.xs)
+    even = even-up u v (lists_by xs) (lists_by ws) n (length_of ws) (lists_by r.xs)
         (lists_by r.ws) (row_at xs) (row_at ws) b a.even;
-    have = have-up u v (lists_by xs) (lists_by ws) n (length_by ws) (lists_by r.xs)
+    have = have-up u v (lists_by xs) (lists_by ws) n (length_of ws) (lists_by r.xs)
         (lists_by r.ws) (row_at xs) (row_at ws) b a.have;
     few = size_at ∙ a.few;
     typ = picked_typ u v (array_type xs.content) (array_type r.xs.content) (array_type y) h.first
@@ -231,7 +231,7 @@ module _ (xs ws : Listed) (r : Rows) (h : AreRows xs ws r)
         (h.first || h.second) h.optional));
     valid = row_valid o y a.valid a.items a.offsets r.index
         (holds o y a.valid a.items a.offsets r.index h.index);
-    offsets = h.offsets ∙ offsets_same (length_by ws)
+    offsets = h.offsets ∙ offsets-same (length_of ws)
         (picked_length u (lists_by xs) (lists_by ws)) n (λ i p. sym (lengths i p));
     items = row_items o y a.valid a.items a.offsets r.index h.index;
   }
@@ -239,9 +239,9 @@ module _ (xs ws : Listed) (r : Rows) (h : AreRows xs ws r)
   pub many-over : AreTooMany v (lists_by r.xs) (lists_by r.ws) m
       → AreTooMany u (lists_by xs) (lists_by ws) n
   many-over a = record {
-    even = even-up u v (lists_by xs) (lists_by ws) n (length_by ws) (lists_by r.xs)
+    even = even-up u v (lists_by xs) (lists_by ws) n (length_of ws) (lists_by r.xs)
         (lists_by r.ws) (row_at xs) (row_at ws) b a.even;
-    have = have-up u v (lists_by xs) (lists_by ws) n (length_by ws) (lists_by r.xs)
+    have = have-up u v (lists_by xs) (lists_by ws) n (length_of ws) (lists_by r.xs)
         (lists_by r.ws) (row_at xs) (row_at ws) b a.have;
     many = size_at ∙ a.many;
   }
@@ -265,14 +265,14 @@ module _ (xs ws : Listed) (r : Rows) (h : AreRows xs ws r)
       → IsOutcomeOf xs ws made
   outcome-over outcome.Uneven made o e =
       subst (IsOutcomeOf xs ws) (sym e)
-      (uneven-up u v (lists_by xs) (lists_by ws) n (length_by ws) (lists_by r.xs)
+      (uneven-up u v (lists_by xs) (lists_by ws) n (length_of ws) (lists_by r.xs)
       (lists_by r.ws) (row_at xs) (row_at ws) b (below_here outcome.Uneven o))
   outcome-over outcome.Outside made o e =
       let a = below_here outcome.Outside o in
       subst (IsOutcomeOf xs ws) (sym e) (
-        even-up u v (lists_by xs) (lists_by ws) n (length_by ws) (lists_by r.xs)
+        even-up u v (lists_by xs) (lists_by ws) n (length_of ws) (lists_by r.xs)
             (lists_by r.ws) (row_at xs) (row_at ws) b a.0,
-        lack-up u v (lists_by xs) (lists_by ws) n (length_by ws) (lists_by r.xs)
+        lack-up u v (lists_by xs) (lists_by ws) n (length_of ws) (lists_by r.xs)
             (lists_by r.ws) (row_at xs) (row_at ws) b a.1,
       )
   outcome-over outcome.TooMany made o e =

@@ -15,18 +15,15 @@ use Rattle.awk_types.specs.declared.primitive.Primitive.TheVariants.{Bool as Tru
 use Rattle.awk_types.specs.declared.primitive.Primitive.TheVariants.{I64, U8, U16, U32, U64}
 use Rattle.awk_types.proofs.Trees.{value_list-from}
 use Rattle.awk_lanes.specs.Counted.{before}
+use Rattle.awk_lanes.proofs.CountedLanes.{before-same}
 use Rattle.awk_columns.specs.Columns.{list_items, joined_items}
 use Rattle.awk_jagged.specs.Jagged.{are_uneven, lacks_places, picked_items, size_refused}
 use Rattle.awk_jagged_rows.specs.RowTypes.{rows_of}
 use Rattle.awk_jagged.specs.Jagged.{rows_any, row_any, rows_by, row_by, is_jagged}
-use Rattle.awk_jagged.specs.Pairs.{AreEven, IsUneven, HaveAll, LackSome, picks}
+use Rattle.awk_jagged.specs.Pairs.{AreEven, IsUneven, HaveAll, LackSome, picks, picked_length}
 use Rattle.awk_jagged_rows.specs.Sides.{ListsBy, sides}
-use Rattle.awk_jagged.specs.Pairs.{picked_length}
-use Rattle.awk_jagged_rows.proofs.FlatPlaces.{IsIn}
-use Rattle.awk_jagged_places.proofs.FlatLists.{each_same, map-flat, each-flat}
-use Rattle.awk_jagged_rows.proofs.FlatPlaces.{find, flat_within}
-use Rattle.awk_jagged_places.proofs.FlatLists.{flat_each, flat_same}
-use Rattle.awk_jagged_rows.proofs.FlatPlaces.{before_same}
+use Rattle.awk_jagged_rows.proofs.FlatPlaces.{IsIn, find, flat_within}
+use Rattle.awk_jagged_places.proofs.FlatLists.{each_same, map-flat, each-flat, flat_each, flat_same}
 use Rattle.awk_jagged_places.proofs.FlatLists.{length-each}
 
 -- ---- types of rows
@@ -329,7 +326,7 @@ module _ (u v : DataType) (x w : ListsBy) (n : ℕ) (m : ℕ → ℕ) (x' w' : L
   pub length-picks : length (picks u x w n) ≡ before m n
   length-picks =
       length-each (λ i. picked_items u (x i) (w i)) n
-      ∙ before_same (picked_length u x w) m n length-picked
+      ∙ before-same (picked_length u x w) m n length-picked
 
   -- the items of what is picked are what is picked of the rows
   pub joined-picks : joined_items (picks u x w n) ≡ picks v x' w' (before m n)

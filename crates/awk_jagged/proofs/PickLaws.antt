@@ -1,7 +1,6 @@
 -- Outcomes: of leaves, of rows, and of lists that are looked at one by one.
-use Rattle.std.specs.Prelude.{◌≡◌, ◌≢◌, ℕ, ◌<◌, ◌==◌, refl, Bool, true, false, not}
-use Rattle.std.specs.Prelude.{List, length, map, Option, Some, None, is_some, ℤ}
-use Rattle.std.specs.Prelude.{option_map, if◌then◌else◌}
+use Rattle.std.specs.Prelude.{◌≡◌, ◌≢◌, ℕ, ◌<◌, ◌==◌, refl, Bool, true, false, not, List, length}
+use Rattle.std.specs.Prelude.{map, Option, Some, None, is_some, ℤ, option_map, if◌then◌else◌}
 use Rattle.std.specs.List.{range_with_len}
 use Rattle.std.proofs.Common.{arith, ap, ap₂, sym, ◌∙◌, eq-eqb, ne_eqb}
 use Rattle.std.proofs.lemmas.List.{length-map}
@@ -21,24 +20,24 @@ use Rattle.awk_layout.specs.Typing.{array_type, array_items, layout_type}
 use Rattle.awk_layout.specs.Valid.{len}
 use Rattle.awk_gather.specs.Arrays.{pick}
 use Rattle.awk_columns.specs.Columns.{joined_items}
-use Rattle.awk_columns.specs.Lists.{Listed}
+use Rattle.awk_columns.specs.Lists.{Listed, length_of}
 use Rattle.awk_types.specs.Predicates.{is_leaf}
-use Rattle.awk_columns.proofs.ItemLimits.{over_limit, within_limit}
+use Rattle.awk_types.proofs.ItemLimits.{over_limit, within_limit}
+use Rattle.awk_lanes.proofs.CountedLanes.{before-same}
+use Rattle.awk_counts.proofs.ListLaws.{offsets-same}
 use Rattle.awk_select.specs.Picks.{is_mask}
-use Rattle.awk_jagged.specs.Jagged.{is_jagged, picked_items}
+use Rattle.awk_jagged.specs.Jagged.{is_jagged, picked_items, size_refused, rows_by, pick_type}
 use Rattle.awk_jagged_rows.specs.RowTypes.{rows_of}
-use Rattle.awk_jagged.specs.Jagged.{size_refused, rows_by, pick_type}
 use Rattle.awk_jagged_places.specs.Leaves.{take_numbers, mask_numbers, AreTested}
 use Rattle.awk_jagged.specs.PickedAt.{ArePlacesOr, IsPickedAt}
 use Rattle.awk_jagged_rows.specs.Levels.{AreUnlike, row_at, row_count}
 use Rattle.awk_jagged.specs.Outcomes.{IsOutcomeOf}
 use Rattle.awk_jagged.specs.Pairs.{AreEven, HaveAll, picks, picked_length}
-use Rattle.awk_jagged_rows.specs.Rows.{lists_by, length_by, AreAlike}
+use Rattle.awk_jagged_rows.specs.Rows.{lists_by, AreAlike}
 use Rattle.awk_jagged.specs.declared.leaves.Outcome.{Outcome}
 use Rattle.awk_jagged.specs.declared.leaves.Outcome.TheVariants as outcome
 use Rattle.awk_jagged.specs.declared.leaves.Places.{Places}
-use Rattle.awk_jagged_rows.proofs.FlatPlaces.{before_same}
-use Rattle.awk_jagged_places.proofs.FlatLists.{each_same, length-each, offsets_same}
+use Rattle.awk_jagged_places.proofs.FlatLists.{each_same, length-each}
 use Rattle.awk_jagged.proofs.LeafLaws.{take-picks, mask-picks, take-has, take-lacks, map_each}
 use Rattle.awk_jagged.proofs.LeafLaws.{at_number}
 use Rattle.awk_jagged.proofs.LeafTypes.{TakesBy, MasksBy, takes, masks}
@@ -70,7 +69,7 @@ module _ (xs ws : Listed) (numbers : ℕ → List ℤ) (b : ByNumbers xs ws numb
   total =
       length-each (λ i. picked_items (array_type ws.content) (lists_by xs i) (lists_by ws i))
       (size_of ws.starts)
-      ∙ sym (before_same (λ i. length (numbers i))
+      ∙ sym (before-same (λ i. length (numbers i))
       (picked_length (array_type ws.content) (lists_by xs) (lists_by ws)) (size_of ws.starts)
       lengths)
 
@@ -106,7 +105,7 @@ module _ (xs ws : Listed) (numbers : ℕ → List ℤ) (b : ByNumbers xs ws numb
     typ = typ_at (array_type xs.content) (array_type ws.content) (array_type y)
         (simple_twice (layout_type xs.content)) b.leaf g.1.typ;
     valid = g.1.valid;
-    offsets = g.0 ∙ h.offsets ∙ offsets_same (λ i. length (numbers i))
+    offsets = g.0 ∙ h.offsets ∙ offsets-same (λ i. length (numbers i))
         (picked_length (array_type ws.content) (lists_by xs) (lists_by ws)) (size_of ws.starts)
         lengths;
     items = g.1.items
@@ -145,13 +144,13 @@ outside-told xs ws l m h =
       ),
     )
 
-alike_here : (xs ws : Listed) (i : ℕ) → length_by xs i ≡ length_by ws i
+alike_here : (xs ws : Listed) (i : ℕ) → length_of xs i ≡ length_of ws i
     → not (length (lists_by xs i) == length (lists_by ws i)) ≡ false
 alike_here xs ws i e =
     ap not (eq-eqb (length (lists_by xs i)) (length (lists_by ws i))
     (length-list xs i ∙ e ∙ sym (length-list ws i)))
 
-unlike_here : (xs ws : Listed) (i : ℕ) → length_by xs i ≢ length_by ws i
+unlike_here : (xs ws : Listed) (i : ℕ) → length_of xs i ≢ length_of ws i
     → not (length (lists_by xs i) == length (lists_by ws i)) ≡ true
 unlike_here xs ws i e =
     ap not (ne_eqb (length (lists_by xs i)) (length (lists_by ws i))
@@ -220,12 +219,12 @@ many-rows xs ws j alike h =
     ∙ ap (λ o. o or size_refused (item_of (rows_of u)) (joined_items rs))
     (ap too_many (length-each (λ i. picked_items u (lists_by xs i) (lists_by ws i))
     (size_of ws.starts)
-    ∙ before_same (picked_length u (lists_by xs) (lists_by ws)) (length_by ws) (size_of ws.starts)
+    ∙ before-same (picked_length u (lists_by xs) (lists_by ws)) (length_of ws) (size_of ws.starts)
     (λ i p. ap length (t.picked (lists_by xs i) (lists_by ws i)
     ∙ ap₂ (λ vs us. rows_by (picked_items (item_of (rows_of u))) vs us)
     (list-items xs i ∙ ap (λ n. map (row_at xs i) (range_with_len 0 n)) (alike i p))
     (list-items ws i)
     ∙ rows_by-map (picked_items (item_of (rows_of u))) (row_at xs i) (row_at ws i) 0
-    (length_by ws i))
-    ∙ length-map-range_with_len _ 0 (length_by ws i)))
+    (length_of ws i))
+    ∙ length-map-range_with_len _ 0 (length_of ws i)))
     ∙ over_limit (row_count ws) h)

@@ -1,10 +1,10 @@
 -- The types of what is picked of rows.
 use Rattle.std.specs.Prelude.{◌≡◌, Bool, true, false, ◌||◌, Option, Some, None, option_map, refl}
 use Rattle.std.specs.Prelude.{is_some, if◌then◌else◌}
-use Rattle.std.proofs.Common.{ap, sym, ◌∙◌, true≢false}
+use Rattle.std.proofs.Common.{ap, sym, ◌∙◌}
 use Rattle.std.proofs.Math.Bool.{or-true, or-false}
 use Rattle.awk_types.specs.DataType.{DataType, unknown, leaf, var, reg, rec, tup, opt, uni}
-use Rattle.awk_types.specs.Simple.{simple, option_if, present, is_option, IsSimple}
+use Rattle.awk_types.specs.Simple.{simple, option_if, present, is_option}
 use Rattle.awk_types.specs.Predicates.{is_leaf}
 use Rattle.awk_jagged.specs.Jagged.{pick_type, rows_type, is_jagged}
 use Rattle.awk_jagged_rows.specs.RowTypes.{rows_of}
@@ -146,25 +146,6 @@ rows-index (opt (opt u)) j = absurd cc
 rows-index (opt (uni us)) j = absurd cc
 
 -- ---- leaves
-
--- what picks and has no lists is of leaves
-pub leaves : (u t : DataType) → IsSimple u → is_jagged u ≡ false → picks u t ≡ true
-    → is_leaf (present u) ≡ true
-leaves unknown t s j q = refl
-leaves (leaf p) t s j q = refl
-leaves (var u) t s j q = absurd cc
-leaves (reg n u) t s j q = absurd cc
-leaves (rec ns us) t s j q = absurd cc
-leaves (tup us) t s j q = absurd cc
-leaves (uni us) t s j q = absurd cc
-leaves (opt unknown) t s j q = refl
-leaves (opt (leaf p)) t s j q = refl
-leaves (opt (var u)) t s j q = absurd cc
-leaves (opt (reg n u)) t s j q = absurd cc
-leaves (opt (rec ns us)) t s j q = absurd cc
-leaves (opt (tup us)) t s j q = absurd cc
-leaves (opt (uni us)) t s j q = absurd cc
-leaves (opt (opt u)) t s j q = absurd (true≢false s.0)
 
 -- the type that leaves give
 pub leaf_typ : (u t : DataType) → is_leaf (present u) ≡ true

@@ -4,6 +4,7 @@ use Rattle.std.specs.Prelude.{◌==◌, Bool, false, not, ◌||◌, List, [], �
 use Rattle.std.specs.Prelude.{Option, Some, None, option_map, Result, Err, if◌then◌else◌}
 use Rattle.std.specs.List.{list_any}
 use Rattle.awk_types.specs.DataType.{DataType, unknown, leaf, var, reg, rec, tup, opt, uni}
+use Rattle.awk_types.specs.Faults.{limit_refused}
 use Rattle.awk_types.specs.Value.{Value, null, list, value_list, values_from}
 use Rattle.awk_types.specs.Datum.{Datum, arr}
 use Rattle.awk_types.specs.Gives.{refused_or, ◌or◌}
@@ -15,7 +16,7 @@ use Rattle.awk_types.specs.declared.primitive.Primitive.TheVariants.{Bool as Tru
 use Rattle.awk_types.specs.Predicates.{is_list}
 use Rattle.awk_columns.specs.Columns.{joined_items}
 use Rattle.awk_jagged_rows.specs.RowTypes.{rows_of}
-use Rattle.awk_select.specs.Picks.{picked, mask_places, take_places, is_outside, limit_refused}
+use Rattle.awk_select.specs.Picks.{picked, mask_places, take_places, is_outside}
 
 -- ---- types
 

@@ -2,11 +2,11 @@
 use Rattle.std.specs.Prelude.{◌≡◌, Bool, true, Option, Some, None, option_map, is_some, Result, Err}
 use Rattle.std.specs.Prelude.{if◌then◌else◌}
 use Rattle.awk_types.specs.DataType.{DataType, var}
+use Rattle.awk_types.specs.Faults.{limit_refused}
 use Rattle.awk_types.specs.Gives.{refused_or}
 use Rattle.awk_types.specs.Simple.{simple}
 use Rattle.awk_types.specs.declared.fault.Fault.{Fault}
 use Rattle.awk_types.specs.declared.fault.Fault.TheVariants.{WrongType}
-use Rattle.awk_select.specs.Picks.{limit_refused}
 use Rattle.awk_jagged.specs.Jagged.{pick_type, is_jagged}
 
 -- rows of what is picked of their items

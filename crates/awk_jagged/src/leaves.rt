@@ -21,8 +21,8 @@ use awk_jagged_places::{
     Beside, Kept, Sparse, Taken, TakenNumbers, Truths, Values, beside_lane, kept_lane,
     lengths_differ, put_lane, truths_of,
 };
-use awk_lanes::{Arena, Index, Kind, Lane, Steps, index_of, offsets_within, wide_index};
-use awk_layout::{Array, Class, Node};
+use awk_lanes::{Arena, Index, Kind, Lane, Steps, index_of, offsets_within};
+use awk_layout::{Array, Class, Node, wide_numbers};
 use awk_select::{Cells, cells_of, is_mask};
 use awk_types::{ITEM_LIMIT, NoMemory, is_optional};
 use std::alloc::{AllocError, Global};
@@ -200,16 +200,6 @@ fn plain_lane<'x, 'a>(x: &'x Array<'a>) -> Option<&'x Lane<'a>>
     }
 }
 
-/// The numbers of an array that lie side by side in 64 bits.
-fn plain_numbers<'a, L: Ledger>(x: &Array<'a>, steps: &mut Steps<L>) -> Option<Index<'a>>
-    ensures { IfSome result (λ c. (c.kind ≡ Kinds.I64) × (x.now ≡ flat c)) }
-{
-    match x.node().class() {
-        Class::Numpy { lane } if lane.kind() == Kind::I64 => Some(wide_index(lane, steps)),
-        _ => None,
-    }
-}
-
 /// What is picked from lists of such numbers by an index without nulls: each is moved as its place
 /// is read, and no lane of places is made.
 fn numbers_taken<'s, 'a, V: Values, L: Ledger>(
@@ -269,7 +259,7 @@ fn by_places<'s, 'a, V: Values, L: Ledger>(
     if optional {
         return places_taken(alloc, &picks, arena, steps);
     }
-    match plain_numbers(xs.content(), steps) {
+    match wide_numbers(xs.content(), steps) {
         Some(numbers) => numbers_taken(&picks, &numbers, arena, steps),
         None => places_taken(alloc, &picks, arena, steps),
     }

@@ -17,7 +17,6 @@ use crate::leaves::{Outcome, picked_leaves};
 use crate::over::put_over;
 use crate::types::{is_jagged, judged};
 use awk_columns::Lists;
-use awk_gather::array_within;
 use awk_jagged_rows::{Level, level_of, one_list, rows_of_one};
 use awk_lanes::{Arena, Steps};
 use awk_layout::{Array, Datum};
@@ -161,7 +160,7 @@ fn answer_of<'a, L: Ledger>(
         Outcome::Uneven => Err(Fault::Lengths),
         Outcome::Outside => Err(Fault::Index),
         Outcome::TooMany => Err(Fault::Size),
-        Outcome::Lists { content, .. } => Ok(array_within(alloc, content)?),
+        Outcome::Lists { content, .. } => Ok(Array::of_node(alloc, content)?),
     }
 }
 

@@ -3,10 +3,11 @@ ghost use Rattle.std.specs.Prelude.{◌≡◌, option_map, IfOk};
 ghost use Rattle.awk_types.specs.DataType.{var, opt};
 ghost use Rattle.awk_types.specs.Faults.{fault_told};
 ghost use Rattle.awk_types.specs.Gives.{Gives};
+ghost use Rattle.awk_types.specs.Parts.{list_item};
 ghost use Rattle.awk_types.specs.View.{typ_of};
 ghost use Rattle.awk_jagged.specs.Jagged as jagged;
 ghost use Rattle.awk_jagged.specs.Judged.{judged_pick, list_pick};
-ghost use Rattle.awk_jagged_rows.specs.RowTypes.{rows_of, list_rows};
+ghost use Rattle.awk_jagged_rows.specs.RowTypes.{rows_of};
 
 use awk_types::{Fault, NoMemory, Typ, copy_type, is_list, simple_of};
 use std::alloc::Global;
@@ -73,7 +74,7 @@ fn rows_type(alloc: Global, u: &Typ, t: &Typ) -> Result<Option<Typ>, NoMemory>
 #[cycle(pick)]
 fn list_type(alloc: Global, u: &Typ, t: &Typ) -> Result<Option<Typ>, NoMemory>
     ensures { IfOk result (λ r.
-        option_map typ_of r ≡ list_pick (list_rows (typ_of t.now))
+        option_map typ_of r ≡ list_pick (list_item (typ_of t.now))
         (jagged.pick_type (typ_of u.now))) }
 {
     match t {

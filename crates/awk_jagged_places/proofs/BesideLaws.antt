@@ -6,7 +6,7 @@ use Rattle.std.proofs.lemmas.List.{append_assoc, length-map, map-append}
 use Rattle.awk_base.proofs.Each.{each_of, each_of-more, length-each_of, each_of-room}
 use Rattle.awk_types.specs.Value.{Value, truth}
 use Rattle.awk_lanes.specs.Counted.{before}
-use Rattle.awk_columns.specs.Lists.{Listed}
+use Rattle.awk_columns.specs.Lists.{Listed, length_of}
 use Rattle.awk_select.specs.Cells.{place_number}
 use Rattle.awk_select.specs.Picks.{mask_place}
 use Rattle.awk_jagged_places.specs.Beside.{group_at, groups_beside}
@@ -15,7 +15,7 @@ use Rattle.awk_jagged_places.specs.Leaves.{mask_at, mask_first, mask_numbers}
 use Rattle.awk_jagged_places.proofs.FlatLists.{length-each}
 use Rattle.awk_jagged_places.proofs.MaskLaws.{first-more, length-more}
 use Rattle.awk_jagged_rows.specs.Levels.{row_at}
-use Rattle.awk_jagged_rows.specs.Rows.{length_by, place_by}
+use Rattle.awk_jagged_rows.specs.Rows.{place_by}
 
 -- the group beside a true item is kept
 beside_one : (gs : List (List ℕ)) (p : ℕ) (keep : Bool) (v : Value) → truth keep ≡ v
@@ -68,9 +68,9 @@ module _ (xs ws : Listed) (gs : List (List ℕ)) where
 
   -- there is room for one group more
   pub groups-room : (i k old mid room : ℕ) → old + length (mask_numbers xs ws i) < room
-      → k < length_by ws i → mid ≡ old + length (mask_first xs ws i k) → mid < room
+      → k < length_of ws i → mid ≡ old + length (mask_first xs ws i k) → mid < room
   groups-room i k old mid room r q p =
-      omega (arith, p, r, each_of-room (mask_at xs ws i) k (length_by ws i) q)
+      omega (arith, p, r, each_of-room (mask_at xs ws i) k (length_of ws i) q)
 
   -- one list more
   pub lists-next : (i : ℕ) (old new : List (List ℕ)) → old ≡ groups_each i

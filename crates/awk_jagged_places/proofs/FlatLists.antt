@@ -1,17 +1,14 @@
 -- What lists give, one after another.
-use Rattle.std.specs.Prelude.{◌≡◌, ℕ, zero, suc, ◌+◌, ◌<◌, ◌≤◌}
-use Rattle.std.specs.Prelude.{refl}
-use Rattle.std.specs.Prelude.{List, ◌++◌, length, map, pos}
+use Rattle.std.specs.Prelude.{◌≡◌, ℕ, zero, suc, ◌+◌, ◌<◌, ◌≤◌, refl, List, ◌++◌, length, map}
 use Rattle.std.specs.List.{range_with_len, flat_map}
 use Rattle.std.proofs.Common.{arith, ap, ap₂, sym, ◌∙◌}
 use Rattle.std.proofs.lemmas.Grind.{flat_map-append}
 use Rattle.std.proofs.lemmas.List.{length-append}
 use Rattle.std.proofs.lemmas.List.Folds.{flat_map-map}
-use Rattle.awk_base.proofs.Ranges.{map-same, map_from}
-use Rattle.awk_lanes.specs.Counted.{before, offsets_by}
-use Rattle.awk_lanes.specs.declared.kind.Kind.TheVariants.{I64}
+use Rattle.awk_base.proofs.Ranges.{map_from}
+use Rattle.awk_lanes.specs.Counted.{before}
 use Rattle.awk_base.proofs.Each.{each_of, each_of-more}
-use Rattle.awk_jagged_rows.proofs.FlatPlaces.{map_parts, before_same}
+use Rattle.awk_jagged_rows.proofs.FlatPlaces.{map_parts}
 
 -- what is the same at each place of a range is the same list
 pub flat_same : {Y : Type 0} (f g : ℕ → List Y) (a m : ℕ)
@@ -77,11 +74,3 @@ length-each f (suc n) =
     ∙ ap length (each_of-more f n)
     ∙ length-append (each_of f n) (f n)
     ∙ ap (λ a. a + length (f n)) (length-each f n)
-
--- the same lengths are the same offsets
-pub offsets_same : (f g : ℕ → ℕ) (n : ℕ) → ((i : ℕ) → i < n → f i ≡ g i)
-    → offsets_by f n ≡ offsets_by g n
-offsets_same f g n e =
-    ap (λ zs. record { kind = I64; items = zs })
-    (map-same (λ i. pos (before f i)) (λ i. pos (before g i)) 0 (n + 1) (λ i p q.
-    ap (λ k. pos k) (before_same f g i (λ j l. e j (omega (arith, l, q))))))

@@ -5,14 +5,14 @@ use Rattle.std.proofs.Common.{arith, ap, sym, ◌∙◌, subst}
 use Rattle.std.proofs.lemmas.List.{length-append}
 use Rattle.awk_types.specs.Value.{Value, int, truth, null, list, row, alt}
 use Rattle.awk_lanes.specs.Making.{Making}
-use Rattle.awk_columns.specs.Lists.{Listed}
+use Rattle.awk_columns.specs.Lists.{Listed, length_of}
 use Rattle.awk_base.proofs.Each.{each_of-more, length-each_of, each_of-room}
 use Rattle.awk_select.specs.Cells.{place_number}
 use Rattle.awk_select.specs.Picks.{mask_place}
 use Rattle.awk_jagged_places.specs.Kept.{kept, Puts}
 use Rattle.awk_jagged_places.specs.Leaves.{mask_at, mask_first, mask_numbers}
 use Rattle.awk_jagged_rows.specs.Levels.{row_at}
-use Rattle.awk_jagged_rows.specs.Rows.{length_by, place_by}
+use Rattle.awk_jagged_rows.specs.Rows.{place_by}
 use Rattle.awk_jagged_places.proofs.PutLaws.{put_more}
 
 few : (k : ℕ) (v : Value) → length (map place_number (mask_place k v)) ≤ 1
@@ -63,10 +63,10 @@ marks-put xs ws i k us old mid new e p n =
 
 -- there is room for one number more
 pub marks-room : (xs ws : Listed) (i k : ℕ) (old mid : Making)
-    → length old.items + length (mask_numbers xs ws i) < old.room → k < length_by ws i
+    → length old.items + length (mask_numbers xs ws i) < old.room → k < length_of ws i
     → Puts (mask_first xs ws i k) old mid → length mid.items < mid.room
 marks-room xs ws i k old mid r q p =
     let size : length mid.items ≡ length old.items + length (mask_first xs ws i k) =
     ap (λ (m : Making). length m.items) p ∙ length-append old.items (mask_first xs ws i k) in
     let room : mid.room ≡ old.room = ap (λ (m : Making). m.room) p in
-    omega (arith, size, room, r, each_of-room (mask_at xs ws i) k (length_by ws i) q)
+    omega (arith, size, room, r, each_of-room (mask_at xs ws i) k (length_of ws i) q)

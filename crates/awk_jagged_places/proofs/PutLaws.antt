@@ -76,9 +76,3 @@ made-more f n i old new h p = record {
   room = ap (λ (m : Making). m.room) p ∙ h.room;
   items = ap (λ (m : Making). m.items) p ∙ ap (λ zs. zs ++ f i) h.items ∙ sym (each_of-more f i);
 }
-
-pub made-whole : (f : ℕ → List ℤ) (n total i : ℕ) (m : Making)
-    → total ≡ before (λ k. length (f k)) n → i ≡ n → AreMade f total i m
-    → length m.items ≡ m.room
-made-whole f n total i m e p h =
-    ap length h.items ∙ length-each f i ∙ ap (before (λ k. length (f k))) p ∙ sym e ∙ sym h.room

@@ -6,13 +6,13 @@ use Rattle.awk_lanes.specs.declared.kind.Kind.TheVariants.{Bool as Truths}
 use Rattle.awk_lanes.specs.Column.{Column}
 use Rattle.awk_lanes.specs.Places.{size_of, at, place_at}
 use Rattle.awk_lanes.specs.Words.{column, integers}
-use Rattle.awk_columns.specs.Lists.{Listed}
+use Rattle.awk_columns.specs.Lists.{Listed, length_of}
 use Rattle.awk_select.specs.Cells.{AreCells, place_number}
 use Rattle.awk_select.specs.Picks.{mask_place, take_place, is_outside}
 use Rattle.awk_select.specs.declared.cells.Cells.{Cells}
 use Rattle.awk_select.specs.declared.cells.Cells.TheVariants.{Plain}
 use Rattle.awk_jagged_rows.specs.Levels.{row_at}
-use Rattle.awk_jagged_rows.specs.Rows.{length_by, place_by}
+use Rattle.awk_jagged_rows.specs.Rows.{place_by}
 
 -- pairs of lists, with the values of the second ones
 pub record AreLeaves (xs ws : Listed) (c : Cells) : Type 0 where
@@ -24,13 +24,13 @@ pub record AreLeaves (xs ws : Listed) (c : Cells) : Type 0 where
 -- where item k of list i of an index points to in the content
 abbrev pub take_in : Listed → Listed → ℕ → ℕ → Option ℕ
 take_in xs ws i k =
-    option_map (λ p. place_at xs.starts i + p) (take_place (length_by xs i) (row_at ws i k))
+    option_map (λ p. place_at xs.starts i + p) (take_place (length_of xs i) (row_at ws i k))
 
 abbrev pub take_at : Listed → Listed → ℕ → ℕ → ℤ
 take_at xs ws i k = place_number (take_in xs ws i k)
 
 abbrev pub take_numbers : Listed → Listed → ℕ → List ℤ
-take_numbers xs ws i = map (take_at xs ws i) (range_with_len 0 (length_by ws i))
+take_numbers xs ws i = map (take_at xs ws i) (range_with_len 0 (length_of ws i))
 
 -- the number of a content at a place, and -1 at none
 abbrev pub number_or : Column → Option ℕ → ℤ
@@ -42,16 +42,16 @@ abbrev pub number_taken : Listed → Listed → Column → ℕ → ℕ → ℤ
 number_taken xs ws c i k = number_or c (take_in xs ws i k)
 
 abbrev pub numbers_taken : Listed → Listed → Column → ℕ → List ℤ
-numbers_taken xs ws c i = map (number_taken xs ws c i) (range_with_len 0 (length_by ws i))
+numbers_taken xs ws c i = map (number_taken xs ws c i) (range_with_len 0 (length_of ws i))
 
 -- whether item k of list i of an index names no place
 abbrev pub is_outside_at : Listed → Listed → ℕ → ℕ → Bool
-is_outside_at xs ws i k = is_outside (length_by xs i) (row_at ws i k)
+is_outside_at xs ws i k = is_outside (length_of xs i) (row_at ws i k)
 
 -- some item of list i names no place of its list, or all do
 abbrev pub AreTestedIn : Listed → Listed → ℕ → Bool → Type 0
-AreTestedIn xs ws i true = (k : ℕ) × (k < length_by ws i) × (is_outside_at xs ws i k ≡ true)
-AreTestedIn xs ws i false = (k : ℕ) → k < length_by ws i → is_outside_at xs ws i k ≡ false
+AreTestedIn xs ws i true = (k : ℕ) × (k < length_of ws i) × (is_outside_at xs ws i k ≡ true)
+AreTestedIn xs ws i false = (k : ℕ) → k < length_of ws i → is_outside_at xs ws i k ≡ false
 
 -- the same of some list, or of all
 abbrev pub AreTested : Listed → Listed → Bool → Type 0
@@ -69,7 +69,7 @@ abbrev pub mask_first : Listed → Listed → ℕ → ℕ → List ℤ
 mask_first xs ws i k = flat_map (mask_at xs ws i) (range_with_len 0 k)
 
 abbrev pub mask_numbers : Listed → Listed → ℕ → List ℤ
-mask_numbers xs ws i = mask_first xs ws i (length_by ws i)
+mask_numbers xs ws i = mask_first xs ws i (length_of ws i)
 
 -- truth values by their bytes
 abbrev pub truth_cells : List ℕ → Cells

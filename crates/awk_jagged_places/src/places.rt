@@ -3,9 +3,10 @@ ghost use Rattle.std.specs.Prelude.{◌≡◌, ◌+◌, ◌<◌, ◌^◌, option
 ghost use Rattle.awk_lanes.specs.Numbers.{int_of, IsOf};
 ghost use Rattle.awk_lanes.specs.Places.{size_of};
 ghost use Rattle.awk_lanes.specs.declared.kind.Kind.TheVariants as Kinds;
+ghost use Rattle.awk_layout.specs.Shown.{value_of_num};
 ghost use Rattle.awk_layout.specs.Valid.{len};
 ghost use Rattle.awk_gather.specs.Arrays.{array_item};
-ghost use Rattle.awk_select.specs.Cells.{number_value, place_number};
+ghost use Rattle.awk_select.specs.Cells.{place_number};
 ghost use Rattle.awk_select.specs.Picks.{is_outside, take_place};
 ghost use Rattle.awk_jagged_places.specs.Leaves.{AreLeaves, take_numbers, AreTestedIn, AreTested};
 
@@ -19,7 +20,7 @@ use std::sync::ledger::Ledger;
 /// Whether a number of an index names no place of n items.
 #[inline(always)]
 fn lacks_place(n: u64, x: Num) -> bool
-    ensures { result ≡ is_outside n (number_value x) }
+    ensures { result ≡ is_outside n (value_of_num x) }
 {
     match x {
         Num::Truth(_) => false,

@@ -1,9 +1,8 @@
 -- Places of lists one after another.
 use Rattle.std.specs.Prelude.{◌≡◌, ℕ, zero, suc, ◌+◌, ◌-◌, ◌<◌, ◌≤◌, nat_lt, Bool, true, false}
-use Rattle.std.specs.Prelude.{refl}
-use Rattle.std.specs.Prelude.{List, ◌∷◌, ◌++◌, map}
+use Rattle.std.specs.Prelude.{refl, List, ◌∷◌, ◌++◌, map}
 use Rattle.std.specs.List.{range_with_len}
-use Rattle.std.proofs.Common.{arith, ap, ap₂, ◌∙◌, subst}
+use Rattle.std.proofs.Common.{arith, ap, ◌∙◌, subst}
 use Rattle.awk_lanes.specs.Counted.{before}
 use Rattle.awk_lanes.proofs.CountedLanes.{before-next, before_mono}
 
@@ -61,12 +60,6 @@ module _ (m : ℕ → ℕ) where
   pub flat_within : (n i k : ℕ) → i < n → k < m i → before m i + k < before m n
   flat_within n i k p q =
       omega (arith, p, q, before-next m i, before_mono m (i + 1) n (omega (arith, p)))
-
--- the same lengths are the same places
-pub before_same : (f g : ℕ → ℕ) (n : ℕ) → ((i : ℕ) → i < n → f i ≡ g i) → before f n ≡ before g n
-before_same f g zero e = refl
-before_same f g (suc n) e =
-    ap₂ (λ a b. a + b) (before_same f g n (λ i p. e i (omega (arith, p)))) (e n (omega arith))
 
 -- one place more
 pub one_more : (P : ℕ → Type 0) (n : ℕ) → ((i : ℕ) → i < n → P i) → P n → (i : ℕ) → i < n + 1

@@ -1,7 +1,6 @@
 -- One level down from lists in pairs, by the lanes that are made of it.
-use Rattle.std.specs.Prelude.{◌≡◌, ℕ, ◌+◌, ◌<◌, ◌≤◌, ◌^◌, refl, Bool, true, false, ◌||◌}
-use Rattle.std.specs.Prelude.{Option, Some, None, is_some, ℤ, IfSome}
-use Rattle.std.specs.Prelude.{if◌then◌else◌}
+use Rattle.std.specs.Prelude.{◌≡◌, ℕ, ◌+◌, ◌<◌, ◌≤◌, ◌^◌, refl, Bool, true, false, ◌||◌, Option}
+use Rattle.std.specs.Prelude.{Some, None, is_some, ℤ, IfSome, if◌then◌else◌}
 use Rattle.std.proofs.Common.{arith, ap, ap₂, sym, ◌∙◌}
 use Rattle.awk_types.specs.ItemLimit.{item_limit}
 use Rattle.awk_types.specs.Value.{Value}
@@ -9,21 +8,20 @@ use Rattle.awk_lanes.proofs.CountedLanes.{length-numbers, numbers-at}
 use Rattle.awk_lanes.proofs.MadeLanes.{size-lane_of, at-lane_of}
 use Rattle.awk_lanes.specs.Column.{Column}
 use Rattle.awk_lanes.specs.Counted.{offsets_by}
-use Rattle.awk_lanes.specs.Places.{size_of, option_place, option_place_at, AreSpans}
+use Rattle.awk_lanes.specs.Places.{size_of, option_place, option_place_at, AreSpans, index_or_null}
 use Rattle.awk_lanes.specs.declared.kind.Kind.TheVariants.{I64}
 use Rattle.awk_layout.specs.Item.{at_option}
 use Rattle.awk_layout.specs.Typing.{array_type}
 use Rattle.awk_layout.specs.Valid.{len}
 use Rattle.awk_gather.proofs.GatheredArrays.{at-I64}
-use Rattle.awk_columns.specs.Lists.{Listed}
+use Rattle.awk_columns.specs.Lists.{Listed, length_of}
 use Rattle.awk_columns.specs.ListValues.{list_at}
 use Rattle.awk_jagged_rows.specs.Levels.{AreRows, IsIndexOf, IsRowIndex, AllPresent, row_at}
 use Rattle.awk_jagged_rows.specs.Levels.{row_count, rows_before, pair_lane, AreRowsBy}
 use Rattle.awk_jagged_rows.specs.Sides.{sides, are_lists}
 use Rattle.awk_jagged_rows.specs.RowLists.{list_place, AreRowsOf}
-use Rattle.awk_jagged_rows.specs.Rows.{length_by, place_by, AreAlike, pair_number, pair_at}
-use Rattle.awk_jagged_rows.specs.Rows.{AreIn, AreReady, ArePlaced, IsSmallIndex}
-use Rattle.awk_jagged_rows.specs.Rows.{items_or_none, same_number}
+use Rattle.awk_jagged_rows.specs.Rows.{place_by, AreAlike, pair_number, pair_at, AreIn, AreReady}
+use Rattle.awk_jagged_rows.specs.Rows.{ArePlaced, IsSmallIndex, items_or_none}
 use Rattle.awk_jagged_rows.specs.declared.levels.Rows.{Rows}
 use Rattle.awk_jagged_rows.specs.declared.row_lists.RowLists.{RowLists}
 use Rattle.awk_jagged_rows.proofs.FlatPlaces.{IsIn, find, flat_within}
@@ -59,7 +57,7 @@ pair_sides x w None (Some b) = refl
 pair_sides x w None None = refl
 
 pair_present : (x w : RowLists) (p q : Option ℕ) (t : ℕ)
-    → option_place (same_number t (option_place (pair_number true p q)))
+    → option_place (index_or_null t (option_place (pair_number true p q)))
     ≡ (if are_lists (row_value x p) (row_value w q) then Some t else None)
 pair_present x w (Some a) (Some b) t = refl
 pair_present x w (Some a) None t = refl
@@ -71,30 +69,30 @@ pair_present x w None None t = refl
 pub pair-size : (second : Bool) (xs ws : Listed) (x w : RowLists)
     → size_of (pair_lane second xs ws x w) ≡ row_count ws
 pair-size second xs ws x w =
-    length-numbers (length_by ws) (pair_at second xs ws x w) (size_of ws.starts)
+    length-numbers (length_of ws) (pair_at second xs ws x w) (size_of ws.starts)
 
 pub pair-small : (second : Bool) (xs ws : Listed) (x w : RowLists) → row_count ws ≤ item_limit
     → IsSmallIndex (pair_lane second xs ws x w)
 pair-small second xs ws x w few = (tt, omega (arith, few, pair-size second xs ws x w))
 
 pub pair-place : (second : Bool) (xs ws : Listed) (x w : RowLists) (i k : ℕ) → i < size_of ws.starts
-    → k < length_by ws i
+    → k < length_of ws i
     → option_place_at (pair_lane second xs ws x w) (rows_before ws i + k)
     ≡ option_place (pair_at second xs ws x w i k)
 pair-place second xs ws x w i k p q =
     ap option_place
     (at-I64 (pair_lane second xs ws x w) (rows_before ws i + k) refl
-    ∙ numbers-at (length_by ws) (pair_at second xs ws x w) i k (size_of ws.starts) p q)
+    ∙ numbers-at (length_of ws) (pair_at second xs ws x w) i k (size_of ws.starts) p q)
 
 module _ (xs ws : Listed) (x w : RowLists) (pairs : size_of xs.starts ≡ size_of ws.starts)
     (alike : AreAlike xs ws) (xspans : AreSpans xs.starts xs.stops (len xs.content))
     (wspans : AreSpans ws.starts ws.stops (len ws.content)) (hx : AreRowsOf xs.content x)
     (hw : AreRowsOf ws.content w) where
-  x_in : (i k : ℕ) → i < size_of ws.starts → k < length_by ws i → place_by xs i k < len xs.content
+  x_in : (i k : ℕ) → i < size_of ws.starts → k < length_of ws i → place_by xs i k < len xs.content
   x_in i k p q =
       (item_in xs i k xspans (omega (arith, p, pairs)) (omega (arith, q, alike i p))).1
 
-  w_in : (i k : ℕ) → i < size_of ws.starts → k < length_by ws i → place_by ws i k < len ws.content
+  w_in : (i k : ℕ) → i < size_of ws.starts → k < length_of ws i → place_by ws i k < len ws.content
   w_in i k p q = (item_in ws i k wspans p q).1
 
   placed : (l : Listed) (r : RowLists) → AreRowsOf l.content r → ArePlaced (len l.content) r
@@ -120,8 +118,8 @@ module _ (xs ws : Listed) (x w : RowLists) (pairs : size_of xs.starts ≡ size_o
           → IfSome o (λ k. k < size_of x.starts)
       go None e = tt
       go (Some k) e =
-          let s : IsIn (length_by ws) (size_of ws.starts) t =
-          find (length_by ws) (size_of ws.starts) t
+          let s : IsIn (length_of ws) (size_of ws.starts) t =
+          find (length_of ws) (size_of ws.starts) t
           (omega (arith, p, pair-size false xs ws x w)) in
           let here : option_place (pair_at false xs ws x w s.list s.item) ≡ Some k =
           sym (pair-place false xs ws x w s.list s.item s.within s.below)
@@ -137,8 +135,8 @@ module _ (xs ws : Listed) (x w : RowLists) (pairs : size_of xs.starts ≡ size_o
           → IfSome o (λ k. k < size_of w.starts)
       go None e = tt
       go (Some k) e =
-          let s : IsIn (length_by ws) (size_of ws.starts) t =
-          find (length_by ws) (size_of ws.starts) t
+          let s : IsIn (length_of ws) (size_of ws.starts) t =
+          find (length_of ws) (size_of ws.starts) t
           (omega (arith, p, pair-size true xs ws x w)) in
           let here : option_place (pair_at true xs ws x w s.list s.item) ≡ Some k =
           sym (pair-place true xs ws x w s.list s.item s.within s.below)
@@ -147,20 +145,20 @@ module _ (xs ws : Listed) (x w : RowLists) (pairs : size_of xs.starts ≡ size_o
           (pair_second (list_place x.index (place_by xs s.list s.item))
           (list_place w.index (place_by ws s.list s.item)) k here)
 
-  x_row : (i k : ℕ) → i < size_of ws.starts → k < length_by ws i
+  x_row : (i k : ℕ) → i < size_of ws.starts → k < length_of ws i
       → row_at xs i k ≡ row_value x (list_place x.index (place_by xs i k))
   x_row i k p q = hx.items (place_by xs i k) (x_in i k p q)
 
-  w_row : (i k : ℕ) → i < size_of ws.starts → k < length_by ws i
+  w_row : (i k : ℕ) → i < size_of ws.starts → k < length_of ws i
       → row_at ws i k ≡ row_value w (list_place w.index (place_by ws i k))
   w_row i k p q = hw.items (place_by ws i k) (w_in i k p q)
 
-  present_at : (i k : ℕ) → i < size_of ws.starts → k < length_by ws i
-      → option_place (same_number (rows_before ws i + k)
+  present_at : (i k : ℕ) → i < size_of ws.starts → k < length_of ws i
+      → option_place (index_or_null (rows_before ws i + k)
       (option_place_at (pair_lane true xs ws x w) (rows_before ws i + k)))
       ≡ (if are_lists (row_at xs i k) (row_at ws i k) then Some (rows_before ws i + k) else None)
   present_at i k p q =
-      ap (λ o. option_place (same_number (rows_before ws i + k) o))
+      ap (λ o. option_place (index_or_null (rows_before ws i + k) o))
       (pair-place true xs ws x w i k p q)
       ∙ pair_present x w (list_place x.index (place_by xs i k))
       (list_place w.index (place_by ws i k)) (rows_before ws i + k)
@@ -182,7 +180,7 @@ module _ (xs ws : Listed) (x w : RowLists) (pairs : size_of xs.starts ≡ size_o
   row_index None h = whole_rows x.index w.index refl refl h
   row_index (Some j) h =
       let p : Column = pair_lane true xs ws x w in
-      let f : ℕ → ℤ = λ i. same_number i (option_place_at p i) in
+      let f : ℕ → ℤ = λ i. index_or_null i (option_place_at p i) in
       let n : size_of p ≡ row_count ws = pair-size true xs ws x w in
       rw h.1 (record {
         kind = refl;
@@ -193,9 +191,9 @@ module _ (xs ws : Listed) (x w : RowLists) (pairs : size_of xs.starts ≡ size_o
             ∙ present_at i k a b;
       })
     where
-      within : (i k : ℕ) → i < size_of ws.starts → k < length_by ws i
+      within : (i k : ℕ) → i < size_of ws.starts → k < length_of ws i
           → rows_before ws i + k < row_count ws
-      within i k a b = flat_within (length_by ws) (size_of ws.starts) i k a b
+      within i k a b = flat_within (length_of ws) (size_of ws.starts) i k a b
 
   optional_index : (p : Column) (j : Option Column) → IsIndexOf p x.index w.index j
       → is_some j ≡ (is_some x.index || is_some w.index)
@@ -203,7 +201,7 @@ module _ (xs ws : Listed) (x w : RowLists) (pairs : size_of xs.starts ≡ size_o
   optional_index p (Some j) h = sym h.0
 
   pub rows-made : (o : Column) (r : Rows) → row_count ws ≤ item_limit
-      → o ≡ offsets_by (length_by ws) (size_of ws.starts) → AreRowsBy xs ws x w o r
+      → o ≡ offsets_by (length_of ws) (size_of ws.starts) → AreRowsBy xs ws x w o r
       → AreRows xs ws r
   rows-made o r few eo h = record {
     alike = alike;
@@ -219,7 +217,7 @@ module _ (xs ws : Listed) (x w : RowLists) (pairs : size_of xs.starts ≡ size_o
     index = row_index r.index h.index;
     rows = λ i k p q.
         let t : rows_before ws i + k < row_count ws =
-        flat_within (length_by ws) (size_of ws.starts) i k p q in
+        flat_within (length_of ws) (size_of ws.starts) i k p q in
         ap₂ (λ vs us. (vs, us))
         (h.first.lists (rows_before ws i + k) (omega (arith, t, pair-size false xs ws x w))
         ∙ ap (items_or_none x) (pair-place false xs ws x w i k p q))

@@ -1,43 +1,40 @@
 -- Lists in pairs whose rows lie in order.
-use Rattle.std.specs.Prelude.{◌≡◌, ℕ, zero, suc, ◌+◌, ◌-◌, ◌<◌, ◌≤◌, ◌^◌, refl, pos, nat_lt}
-use Rattle.std.specs.Prelude.{Bool, true, false, Some, None}
-use Rattle.std.specs.Prelude.{drop, length}
+use Rattle.std.specs.Prelude.{◌≡◌, ℕ, zero, suc, ◌+◌, ◌-◌, ◌<◌, ◌≤◌, ◌^◌, refl, nat_lt, Bool, true}
+use Rattle.std.specs.Prelude.{false, Some, None, length}
 use Rattle.std.proofs.Common.{arith, ap, ap₂, sym, ◌∙◌, subst}
-use Rattle.std.proofs.Common.{get_or-take, get_or-drop, length-take, length-drop}
 use Rattle.awk_types.specs.ItemLimit.{item_limit}
 use Rattle.awk_types.specs.Value.{value_list}
-use Rattle.awk_lanes.proofs.CountedLanes.{before-next, before_mono}
+use Rattle.awk_lanes.proofs.CountedLanes.{before-next, before_mono, before-same}
 use Rattle.awk_lanes.specs.Column.{Column}
 use Rattle.awk_lanes.specs.Counted.{before, offsets_by}
 use Rattle.awk_lanes.specs.Cut.{cut_of}
-use Rattle.awk_lanes.specs.Numbers.{element, nat_of}
-use Rattle.awk_lanes.specs.Places.{size_of, at, place_at, option_place, option_place_at}
-use Rattle.awk_lanes.specs.Places.{AreSpans}
+use Rattle.awk_lanes.specs.Numbers.{nat_of}
+use Rattle.awk_lanes.specs.Places.{size_of, at, place_at, option_place, option_place_at, AreSpans}
 use Rattle.awk_lanes.specs.declared.counted.Offsets.{Offsets}
+use Rattle.awk_lanes.proofs.CutLaws.{size-cut, at-cut}
 use Rattle.awk_layout.specs.Item.{run}
 use Rattle.awk_layout.specs.Layout.{Layout}
 use Rattle.awk_layout.specs.Valid.{len, IsValid}
 use Rattle.awk_gather.specs.Arrays.{array_item}
-use Rattle.awk_columns.specs.Lists.{Listed, AreLists}
+use Rattle.awk_columns.specs.Lists.{Listed, AreLists, length_of}
 use Rattle.awk_jagged_rows.specs.InOrder.{IsFirst, AreFirsts, AreRowsFrom, AreRowsInOrder}
 use Rattle.awk_jagged_rows.specs.Levels.{AreRows, AreRowsBy, row_count, rows_before, pair_lane}
 use Rattle.awk_jagged_rows.specs.RowLists.{list_place, AreRowsOf}
-use Rattle.awk_jagged_rows.specs.Rows.{length_by, place_by, AreAlike, AreListsIn, items_or_none}
-use Rattle.awk_jagged_rows.specs.Rows.{pair_number}
+use Rattle.awk_jagged_rows.specs.Rows.{place_by, AreAlike, AreListsIn, items_or_none, pair_number}
 use Rattle.awk_jagged_rows.specs.declared.in_order.Firsts.{Firsts}
 use Rattle.awk_jagged_rows.specs.declared.levels.Rows.{Rows}
 use Rattle.awk_jagged_rows.specs.declared.row_lists.RowLists.{RowLists}
-use Rattle.awk_jagged_rows.proofs.FlatPlaces.{IsIn, find, before_same}
+use Rattle.awk_jagged_rows.proofs.FlatPlaces.{IsIn, find}
 use Rattle.awk_jagged_rows.proofs.LevelLaws.{pair-size, pair-place, rows-made}
 
 -- ---- lists that lie in order
 
 -- the first i lists lie in order
 pub record AreInOrder (l : Listed) (i first count : ℕ) : Type 0 where
-  pub counted : count ≡ before (length_by l) i
+  pub counted : count ≡ before (length_of l) i
   pub within : first + count ≤ len l.content
-  pub order : (k : ℕ) → k < i → 0 < length_by l k
-      → place_at l.starts k ≡ first + before (length_by l) k
+  pub order : (k : ℕ) → k < i → 0 < length_of l k
+      → place_at l.starts k ≡ first + before (length_of l) k
 
 pub order-begun : (l : Listed) → AreInOrder l 0 0 0
 order-begun l = record {
@@ -52,21 +49,21 @@ none_before m i k e p =
     omega (arith, e, before-next m k, before_mono m (k + 1) i (omega (arith, p)))
 
 order_more : (l : Listed) (i : ℕ) (P : ℕ → ℕ → Type 0)
-    → ((k : ℕ) → k < i → 0 < length_by l k → P k (before (length_by l) k))
-    → (0 < length_by l i → P i (before (length_by l) i))
-    → (k : ℕ) → k < i + 1 → 0 < length_by l k → P k (before (length_by l) k)
+    → ((k : ℕ) → k < i → 0 < length_of l k → P k (before (length_of l) k))
+    → (0 < length_of l i → P i (before (length_of l) i))
+    → (k : ℕ) → k < i + 1 → 0 < length_of l k → P k (before (length_of l) k)
 order_more l i P h e k q z = go (nat_lt k i) refl
   where
-    go : (b : Bool) → nat_lt k i ≡ b → P k (before (length_by l) k)
+    go : (b : Bool) → nat_lt k i ≡ b → P k (before (length_of l) k)
     go true f = h k (grind (arith, f)) z
     go false f =
         let s : i ≡ k = grind (arith, f, q) in
-        subst (λ j. 0 < length_by l j → P j (before (length_by l) j)) s e z
+        subst (λ j. 0 < length_of l j → P j (before (length_of l) j)) s e z
 
 pub order-none : (l : Listed) (i first count : ℕ) → AreInOrder l i first count
-    → length_by l i ≡ 0 → AreInOrder l (i + 1) first count
+    → length_of l i ≡ 0 → AreInOrder l (i + 1) first count
 order-none l i first count h e = record {
-  counted = omega (arith, h.counted, before-next (length_by l) i, e);
+  counted = omega (arith, h.counted, before-next (length_of l) i, e);
   within = h.within;
   order = order_more l i (λ k b. place_at l.starts k ≡ first + b) h.order
       (λ z. absurd (omega (arith, z, e)));
@@ -74,20 +71,20 @@ order-none l i first count h e = record {
 
 pub order-some : (l : Listed) (i first count begin start length : ℕ)
     → AreInOrder l i first count → (count ≡ 0 → begin ≡ start) → (0 < count → begin ≡ first)
-    → start ≡ place_at l.starts i → length ≡ length_by l i → start ≡ begin + count
+    → start ≡ place_at l.starts i → length ≡ length_of l i → start ≡ begin + count
     → start + length ≤ len l.content → AreInOrder l (i + 1) begin (count + length)
 order-some l i first count begin start length h none some s n e w = record {
-  counted = omega (arith, h.counted, before-next (length_by l) i, n);
+  counted = omega (arith, h.counted, before-next (length_of l) i, n);
   within = omega (arith, e, w);
   order = order_more l i (λ k b. place_at l.starts k ≡ begin + b) (earlier count refl)
       (λ z. omega (arith, s, e, h.counted));
 }
   where
-    earlier : (c : ℕ) → c ≡ count → (k : ℕ) → k < i → 0 < length_by l k
-        → place_at l.starts k ≡ begin + before (length_by l) k
+    earlier : (c : ℕ) → c ≡ count → (k : ℕ) → k < i → 0 < length_of l k
+        → place_at l.starts k ≡ begin + before (length_of l) k
     earlier zero f k p z =
-        let b : before (length_by l) i ≡ 0 = omega (arith, f, h.counted) in
-        absurd (omega (arith, z, none_before (length_by l) i k b p))
+        let b : before (length_of l) i ≡ 0 = omega (arith, f, h.counted) in
+        absurd (omega (arith, z, none_before (length_of l) i k b p))
     earlier (suc c) f k p z =
         omega (arith, h.order k p z, some (omega (arith, f)))
 
@@ -106,20 +103,11 @@ begin-fits (suc c) begin first start n none some s h f =
 pub order-whole : (l : Listed) (i first count : ℕ) → i ≡ size_of l.starts
     → AreInOrder l i first count → IsFirst l first
 order-whole l i first count e h = record {
-  within = omega (arith, h.within, h.counted, ap (before (length_by l)) e);
+  within = omega (arith, h.within, h.counted, ap (before (length_of l)) e);
   order = λ k p z. h.order k (omega (arith, p, e)) z;
 }
 
 -- ---- rows from a place on
-
-size_cut : (c : Column) (lo hi : ℕ) → lo ≤ hi → hi ≤ size_of c
-    → size_of (cut_of c lo hi) ≡ hi - lo
-size_cut c lo hi h l =
-    omega (arith, length-take (hi - lo) (drop lo c.items), length-drop lo c.items)
-
-at_cut : (c : Column) (lo hi i : ℕ) → i < hi - lo → at (cut_of c lo hi) i ≡ at c (lo + i)
-at_cut c lo hi i h = ap (element c.kind)
-    (get_or-take (hi - lo) (drop lo c.items) i (pos 0) h ∙ get_or-drop lo c.items i (pos 0))
 
 module _ (r : RowLists) (first count : ℕ)
     (spans : AreSpans r.starts r.stops (len r.content)) (valid : IsValid r.content)
@@ -127,11 +115,11 @@ module _ (r : RowLists) (first count : ℕ)
   size_from : (c : Column) → size_of c ≡ size_of r.starts
       → size_of (cut_of c first (first + count)) ≡ count
   size_from c e =
-      omega (arith, size_cut c first (first + count) (omega arith) (omega (arith, within, e)))
+      omega (arith, size-cut c first (first + count) (omega arith) (omega (arith, within, e)))
 
   at_from : (c : Column) (k : ℕ) → k < count
       → at (cut_of c first (first + count)) k ≡ at c (first + k)
-  at_from c k p = at_cut c first (first + count) k (omega (arith, p))
+  at_from c k p = at-cut c first (first + count) k (omega (arith, p))
 
   pub from-lists : AreLists None (cut_of r.starts first (first + count))
       (cut_of r.stops first (first + count)) r.content
@@ -177,7 +165,7 @@ whole-rows x r h e = go (len x) refl
 
 -- where an item of lists that lie in order is
 first_place : (l : Listed) (first i k : ℕ) → IsFirst l first → i < size_of l.starts
-    → k < length_by l i → place_by l i k ≡ first + (rows_before l i + k)
+    → k < length_of l i → place_by l i k ≡ first + (rows_before l i + k)
 first_place l first i k h p q = omega (arith, h.order i p (omega (arith, q)))
 
 module _ (xs ws : Listed) (x w : RowLists) (pairs : size_of xs.starts ≡ size_of ws.starts)
@@ -185,7 +173,7 @@ module _ (xs ws : Listed) (x w : RowLists) (pairs : size_of xs.starts ≡ size_o
     (f : Firsts) (h : AreFirsts xs ws x w f) where
   same_before : (i : ℕ) → i ≤ size_of ws.starts → rows_before xs i ≡ rows_before ws i
   same_before i p =
-      before_same (length_by xs) (length_by ws) i (λ k q. alike k (omega (arith, p, q)))
+      before-same (length_of xs) (length_of ws) i (λ k q. alike k (omega (arith, p, q)))
 
   pub first-within : (total : ℕ) → total ≡ row_count ws → f.x + total ≤ size_of x.starts
   first-within total e =
@@ -203,7 +191,7 @@ module _ (xs ws : Listed) (x w : RowLists) (pairs : size_of xs.starts ≡ size_o
       omega (arith, e, h.second.within, whole-rows ws.content w hw h.w_whole)
 
   -- the list that is named is where it lies
-  first_named : (i k : ℕ) → i < size_of ws.starts → k < length_by ws i
+  first_named : (i k : ℕ) → i < size_of ws.starts → k < length_of ws i
       → option_place_at (pair_lane false xs ws x w) (rows_before ws i + k)
       ≡ Some (f.x + (rows_before ws i + k))
   first_named i k p q =
@@ -214,7 +202,7 @@ module _ (xs ws : Listed) (x w : RowLists) (pairs : size_of xs.starts ≡ size_o
       (first_place xs f.x i k h.first (omega (arith, p, pairs)) (omega (arith, q, alike i p))
       ∙ ap (λ b. f.x + (b + k)) (same_before i (omega (arith, p))))
 
-  second_named : (i k : ℕ) → i < size_of ws.starts → k < length_by ws i
+  second_named : (i k : ℕ) → i < size_of ws.starts → k < length_of ws i
       → option_place_at (pair_lane true xs ws x w) (rows_before ws i + k)
       ≡ Some (f.w + (rows_before ws i + k))
   second_named i k p q =
@@ -225,7 +213,7 @@ module _ (xs ws : Listed) (x w : RowLists) (pairs : size_of xs.starts ≡ size_o
 
   lists_named : (second : Bool) (y : RowLists) (first total : ℕ) (l : Listed)
       → total ≡ row_count ws
-      → ((i k : ℕ) → i < size_of ws.starts → k < length_by ws i
+      → ((i k : ℕ) → i < size_of ws.starts → k < length_of ws i
       → option_place_at (pair_lane second xs ws x w) (rows_before ws i + k)
       ≡ Some (first + (rows_before ws i + k)))
       → AreRowsFrom y first total l → AreListsIn (pair_lane second xs ws x w) y l
@@ -235,8 +223,8 @@ module _ (xs ws : Listed) (x w : RowLists) (pairs : size_of xs.starts ≡ size_o
     lists = λ t p.
         let n : size_of (pair_lane second xs ws x w) ≡ row_count ws =
         pair-size second xs ws x w in
-        let s : IsIn (length_by ws) (size_of ws.starts) t =
-        find (length_by ws) (size_of ws.starts) t (omega (arith, p, n)) in
+        let s : IsIn (length_of ws) (size_of ws.starts) t =
+        find (length_of ws) (size_of ws.starts) t (omega (arith, p, n)) in
         r.lists t (omega (arith, p, n, e))
         ∙ sym (ap (items_or_none y)
         (ap (option_place_at (pair_lane second xs ws x w)) s.place
@@ -255,7 +243,7 @@ module _ (xs ws : Listed) (x w : RowLists) (pairs : size_of xs.starts ≡ size_o
   pub rows-ordered : AreSpans xs.starts xs.stops (len xs.content)
       → AreSpans ws.starts ws.stops (len ws.content) → (o : Offsets) (r : Rows)
       → o.total ≡ row_count ws → row_count ws ≤ item_limit
-      → o.lane ≡ offsets_by (length_by ws) (size_of ws.starts) → AreRowsInOrder x w f o r
+      → o.lane ≡ offsets_by (length_of ws) (size_of ws.starts) → AreRowsInOrder x w f o r
       → AreRows xs ws r
   rows-ordered xspans wspans o r e few eo g =
       rows-made xs ws x w pairs alike xspans wspans hx hw o.lane r few eo (rows_by_order o r e g)

@@ -1,19 +1,19 @@
 -- Rows of arrays as lists, by the outermost kind of the array.
 use Rattle.std.specs.Prelude.{◌≡◌, ℕ, ◌<◌, Bool, true, false, refl, List}
-use Rattle.std.specs.Prelude.{Option, Some, None, is_some, ℤ, pos, negsuc, ◌<ℤ◌}
+use Rattle.std.specs.Prelude.{Option, Some, None, is_some}
 use Rattle.std.proofs.Common.{arith, ap, sym, ◌∙◌, true≢false}
-use Rattle.std.proofs.lemmas.Int.{ints}
 use Rattle.awk_types.specs.DataType.{DataType, Name, unknown, leaf, var, reg, rec, tup, opt, uni}
+use Rattle.awk_types.specs.Parts.{list_item}
 use Rattle.awk_types.specs.Predicates.{is_list_or_unknown}
 use Rattle.awk_types.specs.Simple.{is_option}
-use Rattle.awk_types.specs.Value.{Value}
 use Rattle.awk_lanes.specs.Column.{Column}
-use Rattle.awk_lanes.specs.Places.{size_of, at, option_place, option_place_at}
-use Rattle.awk_layout.specs.Item.{at_option}
+use Rattle.awk_lanes.specs.Places.{size_of, at, option_place_at}
+use Rattle.awk_lanes.proofs.PlaceLaws.{named-below}
 use Rattle.awk_layout.specs.Laws.{len-fits}
 use Rattle.awk_layout.specs.Layout.{Layout}
 use Rattle.awk_layout.specs.Typing.{array_type}
 use Rattle.awk_layout.specs.Valid.{len, IsValid}
+use Rattle.awk_layout.proofs.OptionItems.{same_at}
 use Rattle.awk_gather.specs.Arrays.{array_item}
 use Rattle.awk_columns.specs.ListClass.{Class, list_type}
 use Rattle.awk_columns.specs.Lists.{Listed}
@@ -21,7 +21,6 @@ use Rattle.awk_columns.specs.ListValues.{list_at}
 use Rattle.awk_open.specs.Opened.{IsOpened, IsKindOf}
 use Rattle.awk_open.specs.declared.opening.Opened.{Opened}
 use Rattle.awk_jagged_rows.specs.RowTypes.{rows_of}
-use Rattle.awk_jagged_rows.specs.RowTypes.{list_rows}
 use Rattle.awk_jagged_rows.specs.RowLists.{list_place, AreListsAt, AreRowsOf}
 use Rattle.awk_jagged_rows.specs.declared.row_lists.RowLists.{RowLists}
 
@@ -31,7 +30,7 @@ abbrev with_flag : Bool → Option DataType → Option (Bool × DataType)
 with_flag b None = None
 with_flag b (Some t) = Some (b, t)
 
-rows_of-list : (t : DataType) → is_option t ≡ false → rows_of t ≡ with_flag false (list_rows t)
+rows_of-list : (t : DataType) → is_option t ≡ false → rows_of t ≡ with_flag false (list_item t)
 rows_of-list unknown o = refl
 rows_of-list (leaf p) o = refl
 rows_of-list (var t) o = refl
@@ -41,7 +40,7 @@ rows_of-list (tup ts) o = refl
 rows_of-list (opt t) o = absurd cc
 rows_of-list (uni ts) o = refl
 
-rows_of-option : (t : DataType) → rows_of (opt t) ≡ with_flag true (list_rows t)
+rows_of-option : (t : DataType) → rows_of (opt t) ≡ with_flag true (list_item t)
 rows_of-option unknown = refl
 rows_of-option (leaf p) = refl
 rows_of-option (var t) = refl
@@ -50,20 +49,6 @@ rows_of-option (rec ns ts) = refl
 rows_of-option (tup ts) = refl
 rows_of-option (opt t) = refl
 rows_of-option (uni ts) = refl
-
-inner_lists : (t : DataType) → is_some (rows_of (opt t)) ≡ true → is_list_or_unknown t ≡ true
-inner_lists unknown h = refl
-inner_lists (leaf p) h = absurd cc
-inner_lists (var t) h = refl
-inner_lists (reg n t) h = refl
-inner_lists (rec ns ts) h = absurd cc
-inner_lists (tup ts) h = absurd cc
-inner_lists (opt t) h = absurd cc
-inner_lists (uni ts) h = absurd cc
-
-pub option_lists : (t u : DataType) → t ≡ opt u → is_some (rows_of t) ≡ true
-    → is_list_or_unknown u ≡ true
-option_lists t u e h = inner_lists u (ap (λ v. is_some (rows_of v)) (sym e) ∙ h)
 
 -- ---- no other kinds are of lists
 
@@ -95,16 +80,16 @@ only_lists t (Opened.Union g j ys) k h e l = not_union t g j ys k h
 
 -- ---- lists as they lie
 
-list_rows-list : (c : Class) (t : DataType) → list_rows (list_type c t) ≡ Some t
-list_rows-list None t = refl
-list_rows-list (Some n) t = refl
+list_item-list : (c : Class) (t : DataType) → list_item (list_type c t) ≡ Some t
+list_item-list None t = refl
+list_item-list (Some n) t = refl
 
 pub rows-listed : (x : Layout) (given : Option Column) (l : Listed) (r : RowLists)
     → IsOpened x (Opened.Items l) → r.index ≡ given → r.starts ≡ l.starts → r.stops ≡ l.stops
     → r.content ≡ l.content → AreListsAt x given r
 rows-listed x given l r o i s t y = record {
   index = i;
-  typ = ap list_rows o.kind ∙ list_rows-list l.class (array_type l.content)
+  typ = ap list_item o.kind ∙ list_item-list l.class (array_type l.content)
       ∙ ap (λ z. Some (array_type z)) (sym y);
   spans = rw (s, t, y) o.valid.1;
   valid = rw y o.valid.2;
@@ -130,21 +115,12 @@ rows-whole x r v o h = record {
     same_below : (i k n : ℕ) → Some i ≡ Some k → i < n → k < n
     same_below i k n e p = grind (arith)
 
-option_at : (z : ℤ) (n k : ℕ) → z <ℤ pos n → option_place z ≡ Some k → k < n
-option_at (pos m) n k l e = grind (arith, ints)
-option_at (negsuc m) n k l e = absurd cc
-
-same_at : (o : Option ℕ) (n : ℕ) (f g : ℕ → Value) → ((k : ℕ) → o ≡ Some k → k < n)
-    → ((k : ℕ) → k < n → f k ≡ g k) → at_option o f ≡ at_option o g
-same_at None n f g b e = refl
-same_at (Some k) n f g b e = e k (b k refl)
-
 pub rows-option : (x y : Layout) (j : Column) (r : RowLists) → IsOpened x (Opened.Option j y)
     → AreListsAt y (Some j) r → AreRowsOf x r
 rows-option x y j r o h =
     let size : size_of j ≡ len x = o.size in
     let below : (i k : ℕ) → i < len x → option_place_at j i ≡ Some k → k < len y =
-    λ i k p e. option_at (at j i) (len y) k (o.valid.1.below i (omega (arith, p, size))) e in
+    λ i k p e. named-below (at j i) (len y) k (o.valid.1.below i (omega (arith, p, size))) e in
     record {
       typ = ap rows_of o.kind ∙ rows_of-option (array_type y) ∙ ap (with_flag true) h.typ
           ∙ ap (λ q. with_flag (is_some q) (Some (array_type r.content))) (sym h.index);

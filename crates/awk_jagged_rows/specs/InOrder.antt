@@ -3,9 +3,9 @@ use Rattle.std.specs.Prelude.{◌≡◌, ℕ, ◌+◌, ◌<◌, ◌≤◌, None}
 use Rattle.awk_lanes.specs.Places.{size_of, place_at}
 use Rattle.awk_lanes.specs.declared.counted.Offsets.{Offsets}
 use Rattle.awk_layout.specs.Valid.{len}
-use Rattle.awk_columns.specs.Lists.{Listed, items_at}
+use Rattle.awk_columns.specs.Lists.{Listed, items_at, length_of}
 use Rattle.awk_jagged_rows.specs.Levels.{row_count, rows_before}
-use Rattle.awk_jagged_rows.specs.Rows.{lists_by, length_by}
+use Rattle.awk_jagged_rows.specs.Rows.{lists_by}
 use Rattle.awk_jagged_rows.specs.declared.in_order.Firsts.{Firsts}
 use Rattle.awk_jagged_rows.specs.declared.levels.Rows.{Rows}
 use Rattle.awk_jagged_rows.specs.declared.row_lists.RowLists.{RowLists}
@@ -13,7 +13,7 @@ use Rattle.awk_jagged_rows.specs.declared.row_lists.RowLists.{RowLists}
 -- items of lists lie one after another from a place on
 pub record IsFirst (l : Listed) (first : ℕ) : Type 0 where
   pub within : first + row_count l ≤ len l.content
-  pub order : (i : ℕ) → i < size_of l.starts → 0 < length_by l i
+  pub order : (i : ℕ) → i < size_of l.starts → 0 < length_of l i
       → place_at l.starts i ≡ first + rows_before l i
 
 -- rows in pairs lie in order, and none may be null

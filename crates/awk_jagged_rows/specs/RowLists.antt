@@ -8,8 +8,8 @@ use Rattle.awk_layout.specs.Typing.{array_type}
 use Rattle.awk_layout.specs.Valid.{len, IsValid}
 use Rattle.awk_gather.specs.Arrays.{array_item}
 use Rattle.awk_columns.specs.ListValues.{list_at}
+use Rattle.awk_types.specs.Parts.{list_item}
 use Rattle.awk_jagged_rows.specs.RowTypes.{rows_of}
-use Rattle.awk_jagged_rows.specs.RowTypes.{list_rows}
 use Rattle.awk_jagged_rows.specs.declared.row_lists.RowLists.{RowLists}
 
 -- the list that a row is, or none where it is null
@@ -25,7 +25,7 @@ HasPlace (Some j) i = IsOptionKind j.kind × (i < size_of j)
 -- an array's lists, with an index that is handed on
 pub record AreListsAt (x : Layout) (given : Option Column) (r : RowLists) : Type 0 where
   pub index : r.index ≡ given
-  pub typ : list_rows (array_type x) ≡ Some (array_type r.content)
+  pub typ : list_item (array_type x) ≡ Some (array_type r.content)
   pub spans : AreSpans r.starts r.stops (len r.content)
   pub valid : IsValid r.content
   pub size : size_of r.starts ≡ len x

@@ -12,10 +12,3 @@ rows_of (opt unknown) = Some (true, unknown)
 rows_of (opt (var t)) = Some (true, t)
 rows_of (opt (reg n t)) = Some (true, t)
 rows_of t = None
-
--- the items of rows that are not optional
-abbrev pub list_rows : DataType → Option DataType
-list_rows unknown = Some unknown
-list_rows (var t) = Some t
-list_rows (reg n t) = Some t
-list_rows t = None

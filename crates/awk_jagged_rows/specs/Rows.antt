@@ -5,7 +5,7 @@ use Rattle.awk_types.specs.Value.{Value}
 use Rattle.awk_lanes.specs.Column.{Column}
 use Rattle.awk_lanes.specs.Places.{size_of, place_at, option_place_at, IsIndexKind, IsOptionKind}
 use Rattle.awk_layout.specs.Valid.{len}
-use Rattle.awk_columns.specs.Lists.{Listed, items_at, span_length}
+use Rattle.awk_columns.specs.Lists.{Listed, items_at, length_of}
 use Rattle.awk_jagged_rows.specs.Sides.{ListsBy}
 use Rattle.awk_jagged_rows.specs.RowLists.{list_place, HasPlace}
 use Rattle.awk_jagged_rows.specs.declared.row_lists.RowLists.{RowLists}
@@ -13,10 +13,6 @@ use Rattle.awk_jagged_rows.specs.declared.row_lists.RowLists.{RowLists}
 -- the list at each place
 abbrev pub lists_by : Listed → ListsBy
 lists_by l i = items_at l.starts l.stops l.content i
-
--- how many items the list at a place has
-abbrev pub length_by : Listed → ℕ → ℕ
-length_by l i = span_length l.starts l.stops i
 
 -- where item k of list i lies
 abbrev pub place_by : Listed → ℕ → ℕ → ℕ
@@ -41,7 +37,7 @@ ArePlaced n r =
 
 -- lists are as long in pairs
 abbrev pub AreAlike : Listed → Listed → Type 0
-AreAlike xs ws = (i : ℕ) → i < size_of ws.starts → length_by xs i ≡ length_by ws i
+AreAlike xs ws = (i : ℕ) → i < size_of ws.starts → length_of xs i ≡ length_of ws i
 
 pub record AreReady (xs ws : Listed) (x w : RowLists) : Type 0 where
   pub pairs : size_of xs.starts ≡ size_of ws.starts
@@ -67,11 +63,6 @@ pub record HasEnds (j c : Column) : Type 0 where
   pub below : (i : ℕ) → i < size_of j → IfSome (option_place_at j i) (λ k. k < size_of c)
 
 -- ---- which are present
-
--- a place as it stands, or -1 for none
-abbrev pub same_number : ℕ → Option ℕ → ℤ
-same_number i None = negsuc 0
-same_number i (Some k) = pos i
 
 -- ---- lists at places
 

@@ -1,7 +1,6 @@
 //! Single lists: an array as one list, and one list of a column alone.
-ghost use Rattle.std.specs.Prelude.{◌≡◌, ◌≤◌, ◌<◌, ◌^◌, ◌∷◌, [], true, pos, is_some, IfOk};
+ghost use Rattle.std.specs.Prelude.{◌≡◌, ◌≤◌, ◌<◌, true, is_some, IfOk};
 ghost use Rattle.awk_lanes.specs.Places.{size_of};
-ghost use Rattle.awk_lanes.specs.declared.kind.Kind.TheVariants as Kinds;
 ghost use Rattle.awk_layout.specs.Typing.{array_type};
 ghost use Rattle.awk_layout.specs.Valid.{len};
 ghost use Rattle.awk_jagged_rows.specs.Alone.{IsBetween, IsOnly, AreRowsOfOne, IsWhole};
@@ -11,21 +10,11 @@ ghost use Rattle.awk_jagged_rows.specs.RowTypes.{rows_of};
 use crate::levels::{Level, Rows, level_of};
 use crate::spans::span_of;
 use awk_columns::Lists;
-use awk_lanes::{Arena, Kind, Lane, LaneMaker, Steps, number};
+use awk_lanes::{Arena, Steps, one_number};
 use awk_layout::Array;
 use awk_types::NoMemory;
 use std::alloc::{AllocError, Global};
 use std::sync::ledger::Ledger;
-
-/// A lane of one number.
-fn one_number<'a>(n: u64, arena: &'a Arena) -> Result<Lane<'a>, NoMemory>
-    requires { n < 2 ^ 63 }
-    ensures { IfOk result (λ r. r ≡ record { kind = Kinds.I64; items = pos n ∷ [] }) }
-{
-    let mut maker = LaneMaker::new(Kind::I64, 1, arena)?;
-    maker.push(number(n));
-    Ok(maker.finish())
-}
 
 /// The items of an array from a start below a stop, as one list.
 fn between<'a>(

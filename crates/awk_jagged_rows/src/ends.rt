@@ -1,8 +1,9 @@
 //! Ends of lists at places of others, and which of these are present.
 ghost use Rattle.std.specs.Prelude.{◌≡◌, ◌<◌, ◌^◌};
 ghost use Rattle.awk_lanes.specs.Places.{size_of, place_at, option_place_at, IsIndexKind};
+ghost use Rattle.awk_lanes.specs.Places.{index_or_null};
 ghost use Rattle.awk_lanes.specs.declared.kind.Kind.TheVariants as Kinds;
-ghost use Rattle.awk_jagged_rows.specs.Rows.{end_number, same_number, HasEnds, IsSmallIndex};
+ghost use Rattle.awk_jagged_rows.specs.Rows.{end_number, HasEnds, IsSmallIndex};
 
 use awk_lanes::{Lane, Num, Numbers, Steps, index_at, number, option_place_in, to_option_place};
 use std::sync::ledger::Ledger;
@@ -51,7 +52,7 @@ pub struct Present<'r, 'a> {
 impl<'r, 'a> Numbers for Present<'r, 'a> {
     ghost kind = { λ _. Kinds.I64 };
 
-    ghost at = { λ f i. same_number i (option_place_at f.lists.now i) };
+    ghost at = { λ f i. index_or_null i (option_place_at f.lists.now i) };
 
     ghost size = { λ f. size_of f.lists.now };
 

@@ -5,12 +5,12 @@ ghost use Rattle.awk_lanes.specs.Counted.{offsets_by};
 ghost use Rattle.awk_lanes.specs.Places.{size_of, AreSpans};
 ghost use Rattle.awk_layout.specs.Typing.{array_type};
 ghost use Rattle.awk_layout.specs.Valid.{len};
+ghost use Rattle.awk_columns.specs.Lists.{length_of};
 ghost use Rattle.awk_jagged_rows.specs.RowTypes.{rows_of};
 ghost use Rattle.awk_jagged_rows.specs.Levels.{AreCompared, AreRows, AreRowsBy, IsLevel, row_count};
 ghost use Rattle.awk_jagged_rows.specs.Levels.{IsIndexOf};
 ghost use Rattle.awk_jagged_rows.specs.RowLists.{AreRowsOf};
-ghost use Rattle.awk_jagged_rows.specs.Rows.{length_by, IsSmallIndex, AreAlike, AreIn};
-ghost use Rattle.awk_jagged_rows.specs.Rows.{AreListsIn};
+ghost use Rattle.awk_jagged_rows.specs.Rows.{IsSmallIndex, AreAlike, AreIn, AreListsIn};
 
 use crate::ends::{Ends, Present};
 use crate::in_order::{firsts_of, rows_in_order};
@@ -167,7 +167,7 @@ fn rows_below<'a, L: Ledger>(
     requires index { is_some (rows_of (array_type ws.now.content)) ≡ true }
     requires total { offsets.now.total ≡ row_count ws.now }
     requires few { row_count ws.now ≤ item_limit }
-    requires offsets { offsets.now.lane ≡ offsets_by (length_by ws.now) (size_of ws.now.starts) }
+    requires offsets { offsets.now.lane ≡ offsets_by (length_of ws.now) (size_of ws.now.starts) }
     ensures { IfOk result (AreRows xs.now ws.now) }
 {
     let first = xs.content();

@@ -15,4 +15,4 @@ mod spans;
 
 pub use alone::{one_list, rows_of_one};
 pub use levels::{Level, Rows, lengths_differ, level_of};
-pub use spans::{Span, span_of};
+pub use spans::span_of;

@@ -7,7 +7,7 @@ use Rattle.std.proofs.lemmas.Bool.Decides.{nat_tests}
 use Rattle.std.specs.Fmt.{digits, digits_onto, digit_glyph, signed_decimal}
 use Rattle.std.specs.List.{AllByRecursion, list_all}
 use Rattle.awk_edge.specs.Lines.{Unbroken}
-use Rattle.awk_edge.proofs.LineLaws.{Unbroken-append}
+use Rattle.awk_edge.proofs.LineLaws.{Unbroken-append, Unbroken-cond}
 use Rattle.awk_json.specs.Text.{hex_digit, is_special, escape, escaped, escaped_all, quoted, joined}
 use Rattle.awk_json.specs.Text.{comma_joined, list_text, truth_text}
 
@@ -25,11 +25,6 @@ literal-unbroken (x ∷ xs) h =
 hex_digit-unbroken : (d : ℕ) → hex_digit d ≢ 10
 hex_digit-unbroken d = grind (arith, nat_tests)
 
--- the choice of two texts
-either : (t : Bool) (xs ys : List ℕ) → Unbroken xs → Unbroken ys → Unbroken (cond t xs ys)
-either true xs ys p q = p
-either false xs ys p q = q
-
 -- the text of a byte without a short escape
 code-unbroken : (b : ℕ) → Unbroken (codes "\\u00" ++ hex_digit (b / 16) ∷ hex_digit (b % 16) ∷ [])
 code-unbroken b =
@@ -41,13 +36,14 @@ code-unbroken b =
 
 escape-unbroken : (b : ℕ) → Unbroken (escape b)
 escape-unbroken b =
-    either (b == 34) (codes "\\\"") _ (literal-unbroken (codes "\\\"") refl)
-    (either (b == 92) (codes "\\\\") _ (literal-unbroken (codes "\\\\") refl)
-    (either (b == 8) (codes "\\b") _ (literal-unbroken (codes "\\b") refl)
-    (either (b == 9) (codes "\\t") _ (literal-unbroken (codes "\\t") refl)
-    (either (b == 10) (codes "\\n") _ (literal-unbroken (codes "\\n") refl)
-    (either (b == 12) (codes "\\f") _ (literal-unbroken (codes "\\f") refl)
-    (either (b == 13) (codes "\\r") _ (literal-unbroken (codes "\\r") refl) (code-unbroken b)))))))
+    Unbroken-cond (b == 34) (codes "\\\"") _ (literal-unbroken (codes "\\\"") refl)
+    (Unbroken-cond (b == 92) (codes "\\\\") _ (literal-unbroken (codes "\\\\") refl)
+    (Unbroken-cond (b == 8) (codes "\\b") _ (literal-unbroken (codes "\\b") refl)
+    (Unbroken-cond (b == 9) (codes "\\t") _ (literal-unbroken (codes "\\t") refl)
+    (Unbroken-cond (b == 10) (codes "\\n") _ (literal-unbroken (codes "\\n") refl)
+    (Unbroken-cond (b == 12) (codes "\\f") _ (literal-unbroken (codes "\\f") refl)
+    (Unbroken-cond (b == 13) (codes "\\r") _ (literal-unbroken (codes "\\r") refl)
+    (code-unbroken b)))))))
 
 escaped-unbroken : (b : ℕ) (t : Bool) → is_special b ≡ t → Unbroken (cond t (escape b) (b ∷ []))
 escaped-unbroken b true special = escape-unbroken b
@@ -99,7 +95,7 @@ digits_onto-unbroken : (k n : ℕ) (behind : List ℕ) → Unbroken behind
 digits_onto-unbroken zero n behind u = u
 digits_onto-unbroken (suc k) n behind u =
     let more : Unbroken (digit_glyph false (n % 10) ∷ behind) = (glyph-unbroken (n % 10), u) in
-    either (n / 10 == 0) (digit_glyph false (n % 10) ∷ behind) _ more
+    Unbroken-cond (n / 10 == 0) (digit_glyph false (n % 10) ∷ behind) _ more
     (digits_onto-unbroken k (n / 10) (digit_glyph false (n % 10) ∷ behind) more)
 
 pub decimal-unbroken : (n : ℕ) → Unbroken (decimal n)

@@ -2,7 +2,7 @@
 use Rattle.std.proofs.Common.{◌≡◌, ◌≢◌, ℕ, suc, zero, ◌+◌, ◌<◌, ◌≤◌, List, [], ◌∷◌, length, get_or}
 use Rattle.std.proofs.Common.{take, arith, refl, ap, ap₂, sym, subst, ◌∙◌, ◌⊎◌, inl, inr}
 use Rattle.std.proofs.Common.{FitsSigned, w64}
-use Rattle.std.specs.Prelude.{ℤ, pos, neg_ℤ, map, ◌*◌, ◌+ℤ◌, ◌≤ℤ◌, ◌<ℤ◌, Option, Some, None, Bool}
+use Rattle.std.specs.Prelude.{ℤ, pos, neg_ℤ, map, ◌*◌, ◌+ℤ◌, ◌≤ℤ◌, ◌<ℤ◌, Some, None, Bool}
 use Rattle.std.specs.Prelude.{cond, true, false, nat_lt, position}
 use Rattle.std.specs.Ordering.{int_eq}
 use Rattle.std.specs.Int.{int_min, int_max, w128}
@@ -10,11 +10,10 @@ use Rattle.std.specs.List.{fold, reduce, position_or_len, All, Contains}
 use Rattle.std.proofs.lemmas.Int.{ints, fold-int_min_bounds, fold-int_min_reached}
 use Rattle.std.proofs.lemmas.Int.{fold-int_max_bounds, fold-int_max_reached}
 use Rattle.std.specs.Option.{option_and_then}
-use Rattle.std.proofs.lemmas.Bool.{not-true}
 use Rattle.std.proofs.lemmas.Bool.Decides.{Decides-int_eq}
 use Rattle.std.proofs.lemmas.List.{take-map, length-map, get_or-map, get_or_default}
 use Rattle.std.proofs.lemmas.List.Sums.{position_or_len_is}
-use Rattle.awk_kernels.specs.Kernels.{total, first_by, first_least, first_greatest}
+use Rattle.awk_kernels.specs.Kernels.{total, first_least, first_greatest}
 
 -- one number more
 pub total_more : (xs : List ℤ) (i : ℕ) → i < length xs

@@ -1,9 +1,8 @@
 -- Lists one after another, each by its length: their offsets, and a number for each item.
-use Rattle.std.specs.Prelude.{◌≡◌, ℕ, zero, suc, ◌+◌, ◌-◌, ◌<◌, ◌≤◌, nat_lt, refl, true}
-use Rattle.std.specs.Prelude.{false, Bool, List, [], ◌∷◌, ◌++◌, length, map, get_or, sum, ℤ, pos}
-use Rattle.std.specs.Prelude.{◌<ℤ◌}
+use Rattle.std.specs.Prelude.{◌≡◌, ℕ, zero, suc, ◌+◌, ◌-◌, ◌<◌, ◌≤◌, nat_lt, refl, true, false}
+use Rattle.std.specs.Prelude.{Bool, List, [], ◌∷◌, ◌++◌, length, map, get_or, sum, ℤ, pos, ◌<ℤ◌}
 use Rattle.std.specs.List.{range_with_len, fold}
-use Rattle.std.proofs.Common.{arith, ap, sym, ◌∙◌, subst, add-one}
+use Rattle.std.proofs.Common.{arith, ap, sym, ◌∙◌, subst, add-one, ◌*◌, ap₂}
 use Rattle.std.proofs.lemmas.Int.{ints}
 use Rattle.std.proofs.lemmas.List.{length-append, get_or_append_left, get_or-append_right}
 use Rattle.std.proofs.lemmas.List.FromFn.{length-map-range_with_len, get_or-map-range_with_len}
@@ -214,3 +213,24 @@ module _ (m : ℕ → ℕ) where
         → ArePlaces kind n i w → length w.items ≡ w.room
     places_done kind whole n i w e p a =
         ap length a.items ∙ length-numbers i ∙ ap (before m) p ∙ sym e ∙ sym a.room
+
+-- lists that are all equally long
+pub before-equal : (m n : ℕ) → before (λ i. m) n ≡ n * m
+before-equal m zero = omega arith
+before-equal m (suc n) = ap (λ k. k + m) (before-equal m n) ∙ grind arith
+
+-- the same lengths are the same places
+pub before-same : (f g : ℕ → ℕ) (n : ℕ) → ((i : ℕ) → i < n → f i ≡ g i) → before f n ≡ before g n
+before-same f g zero e = refl
+before-same f g (suc n) e =
+    ap₂ (λ a b. a + b) (before-same f g n (λ i p. e i (omega (arith, p)))) (e n (omega arith))
+
+-- there is room for each item
+pub before-room : (m : ℕ → ℕ) (n i k : ℕ) → i < n → k < m i → before m i + k < before m n
+before-room m n i k h l =
+    omega (arith, before_mono m (i + 1) n (omega (arith, h)), before-next m i, l)
+
+-- none has more than all
+pub one_within : (m : ℕ → ℕ) (n i : ℕ) → i < n → m i ≤ before m n
+one_within m n i p =
+    omega (arith, before-next m i, before_mono m (i + 1) n (omega (arith, p)))

@@ -1,5 +1,5 @@
 -- Numbers in groups of eight bytes.
-use Rattle.std.specs.Prelude.{◌≡◌, ◌≢◌, refl, ℕ, suc, zero, ◌+◌, ◌*◌, ◌/◌, ◌<◌, List, [], ◌∷◌, ◌++◌}
+use Rattle.std.specs.Prelude.{◌≡◌, ◌≢◌, refl, ℕ, suc, zero, ◌*◌, ◌/◌, ◌<◌, List, [], ◌∷◌, ◌++◌}
 use Rattle.std.specs.Prelude.{length, map, get_or, ℤ, pos}
 use Rattle.std.specs.List.{flat_map}
 use Rattle.std.specs.Simd.{first_chunks}
@@ -13,7 +13,7 @@ use Rattle.awk_lanes.specs.declared.kind.Kind.TheVariants.{U8, U16, U32, U64}
 use Rattle.awk_lanes.specs.Column.{Column}
 use Rattle.awk_lanes.specs.Numbers.{width, number, numbers}
 use Rattle.awk_lanes.specs.Places.{size_of, at, IsIndexKind}
-use Rattle.awk_lanes.specs.Making.{Making, with_item}
+use Rattle.awk_lanes.specs.Making.{Making}
 use Rattle.awk_lanes.specs.Ranges.{IsNumber, AreNumbers}
 use Rattle.awk_lanes.specs.Words.{column, low_bytes}
 use Rattle.awk_lanes.proofs.NumberParts.{map-number_all}
@@ -101,15 +101,6 @@ groups-more gs new b z n e p h =
       subst (λ zs. AreNumbers (column I64 zs)) (sym items)
           (are-more (map (number I64) gs) z h.1 n),
     )
-
-pub pushed : (gs new : List (List ℕ)) (room : ℕ) (b : List ℕ) (z : ℤ) (m : Making)
-    → IsNumber I64 z → b ≡ low_bytes 8 (cast_unsigned w64 z) → new ≡ gs ++ b ∷ []
-    → record { kind = I64; room = room; items = map (number I64) gs } ≡ m
-    → record { kind = I64; room = room; items = map (number I64) new } ≡ with_item m z
-pushed gs new room b z m n e p v =
-    ap (λ zs. record { kind = I64; room = room; items = zs })
-    (ap (map (number I64)) p ∙ items-more gs b z n e)
-    ∙ ap (λ (w : Making). with_item w z) v
 
 -- the lane of the numbers, whose bytes stand one after another
 pub joined : (gs : List (List ℕ)) (room : ℕ) (flat : List ℕ) (m : Making) (r : Column)

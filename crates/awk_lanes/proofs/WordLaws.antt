@@ -166,7 +166,7 @@ number_low k (negsuc n) h = negative_low k n h
 
 -- ---- the bytes of all numbers of a slice
 
-width-small : (k : Kind) → width k ≤ 8
+pub width-small : (k : Kind) → width k ≤ 8
 width-small Truths = omega arith
 width-small I8 = omega arith
 width-small I16 = omega arith

@@ -11,3 +11,7 @@ pub record Making : Type 0 where
 -- with one more number
 abbrev pub with_item : Making → ℤ → Making
 with_item m z = record { kind = m.kind; room = m.room; items = m.items ++ z ∷ [] }
+
+-- with more numbers
+abbrev pub with_items : Making → List ℤ → Making
+with_items m zs = record { kind = m.kind; room = m.room; items = m.items ++ zs }

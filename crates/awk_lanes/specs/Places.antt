@@ -78,3 +78,8 @@ pub record IsOptionalIndex (c : Column) (n : ℕ) : Type 0 where
 pub record IsIndex (c : Column) (n : ℕ) : Type 0 where
   pub kind : IsIndexKind c.kind
   pub places : (i : ℕ) → i < size_of c → (pos 0 ≤ℤ at c i) × (place_at c i < n)
+
+-- i where there is a place, else -1
+abbrev pub index_or_null : ℕ → Option ℕ → ℤ
+index_or_null i None = negsuc 0
+index_or_null i (Some k) = pos i

@@ -6,6 +6,7 @@
 //! `offsets_of`, `offsets_within` and `items_of` from lengths, or by `lane_of_numbers` and
 //! `lane_of_nats` from a slice; `numbers_of`, `nats_of` and `byte_numbers` give the slice of a
 //! lane.
+//! `one_number` and `one_offsets` are the lanes of one list.
 //! `index_of` shows a lane of places as an `Index`, whose numbers are read where they lie without
 //! asking for their kind; `IndexMaker` makes a lane of places.
 #![tactic(auto)]
@@ -25,6 +26,7 @@ mod maker;
 mod memory;
 mod numbers;
 mod readers;
+mod single;
 mod steps;
 mod words;
 
@@ -43,5 +45,6 @@ pub use numbers::{byte_numbers, nats_of, numbers_of};
 pub use readers::{
     index_at, is_set, number, option_place_in, place_in, tag_in, to_option_place, to_place,
 };
+pub use single::{one_number, one_offsets};
 pub use steps::Steps;
 pub use words::{lane_of_nats, lane_of_numbers};

@@ -16,6 +16,7 @@ use Rattle.awk_columns.specs.ListClass.{Class, list_type}
 use Rattle.awk_frames.specs.Framed.{over, over_type}
 use Rattle.awk_frames.specs.Shape.{ends}
 use Rattle.awk_frames.specs.Sizes.{levels_refused}
+use Rattle.awk_frames.proofs.FrameLaws.{over_type-list}
 
 -- an end, or lists, optional or not
 pub data Chain : Type 0 where
@@ -190,11 +191,6 @@ over_type-end (reg n t) w e = absurd e
 over_type-end (rec ns ts) w e = absurd e
 over_type-end (opt t) w e = absurd e
 over_type-end (uni ts) w e = absurd e
-
-over_type-list : (c : Class) (t w : DataType)
-    → over_type (list_type c t) w ≡ list_type c (over_type t w)
-over_type-list None t w = refl
-over_type-list (Some n) t w = refl
 
 present-list : (c : Class) (t : DataType) → present (list_type c t) ≡ list_type c t
 present-list None t = refl

@@ -8,9 +8,6 @@ use Rattle.awk_types.specs.Value.{Value}
 use Rattle.awk_axis.specs.Counted.{counted}
 use Rattle.awk_axis.specs.Spoils as spoils
 
-pub few-limit : (n : ℕ) → too_many n ≡ None → n ≤ item_limit
-few-limit n e = grind arith
-
 pub few_spoil-limit : (n : ℕ) → spoils.too_many n ≡ None → n ≤ item_limit
 few_spoil-limit n e = grind arith
 

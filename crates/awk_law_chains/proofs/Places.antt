@@ -7,8 +7,10 @@ use Rattle.std.proofs.Common.{arith, ap, ap₂, sym, ◌∙◌}
 use Rattle.std.proofs.lemmas.List.FromFn.{get_or-map-range_with_len, fill_by_all}
 use Rattle.std.proofs.lemmas.Simd.{map-map}
 use Rattle.awk_base.proofs.Truths.{or_first, or_second}
-use Rattle.awk_types.specs.Value.{Value, int, truth, null, list, row, alt}
+use Rattle.awk_types.specs.Value.{Value, int, null}
 use Rattle.awk_layout.specs.Item.{at_option}
+use Rattle.awk_select.proofs.PickedPlaces.{mask_place-below}
+use Rattle.awk_select.specs.Cells.{IsBelow}
 use Rattle.awk_select.specs.Picks.{picked, take_place, take_places, is_outside, mask_place}
 use Rattle.awk_select.specs.Picks.{mask_places}
 use Rattle.awk_select.specs.Places.{place_in}
@@ -57,30 +59,17 @@ picked-all vs =
 
 -- ---- places below a number
 
-abbrev pub IsBelow : ℕ → Option ℕ → Type 0
-IsBelow n None = Unit {0}
-IsBelow n (Some k) = k < n
-
 all_below : (n : ℕ) (xs ys : List (Option ℕ)) → AllByRecursion (IsBelow n) xs
     → AllByRecursion (IsBelow n) ys → AllByRecursion (IsBelow n) (xs ++ ys)
 all_below n [] ys p q = q
 all_below n (x ∷ xs) ys p q = (p.0, all_below n xs ys p.1 q)
-
-mask_below : (n k : ℕ) (v : Value) → k < n → AllByRecursion (IsBelow n) (mask_place k v)
-mask_below n k (truth true) p = (p, tt)
-mask_below n k (truth false) p = tt
-mask_below n k null p = (tt, tt)
-mask_below n k (int z) p = tt
-mask_below n k (list vs) p = tt
-mask_below n k (row vs) p = tt
-mask_below n k (alt j v) p = tt
 
 masks_below : (n : ℕ) (f : ℕ → Value) (a m : ℕ) → a + m ≤ n
     → AllByRecursion (IsBelow n) (flat_map (λ k. mask_place k (f k)) (range_with_len a m))
 masks_below n f a zero p = tt
 masks_below n f a (suc m) p =
     all_below n (mask_place a (f a)) (flat_map (λ k. mask_place k (f k)) (range_with_len (a + 1) m))
-    (mask_below n a (f a) (omega (arith, p))) (masks_below n f (a + 1) m (omega (arith, p)))
+    (mask_place-below n a (f a) (omega (arith, p))) (masks_below n f (a + 1) m (omega (arith, p)))
 
 pub mask_places_below : (ms : List Value)
     → AllByRecursion (IsBelow (length ms)) (mask_places ms)

@@ -1,6 +1,5 @@
 -- Lists that are picked row by row by places of their own items: at an axis, or the innermost ones.
-use Rattle.std.specs.Prelude.{◌≡◌, ◌==◌, ◌||◌, ◌≤◌, not, ℕ, Bool, true, false}
-use Rattle.std.specs.Prelude.{List, [], ◌∷◌}
+use Rattle.std.specs.Prelude.{◌≡◌, ◌==◌, ◌||◌, ◌≤◌, not, ℕ, Bool, true, false, List, [], ◌∷◌}
 use Rattle.std.specs.Prelude.{length, map, sum, Option, Some, None, option_map, Err, refl}
 use Rattle.std.specs.Prelude.{if◌then◌else◌}
 use Rattle.std.specs.List.{AllByRecursion, list_any}
@@ -11,7 +10,7 @@ use Rattle.awk_base.proofs.Sums.{sum-cons}
 use Rattle.awk_types.specs.DataType.{DataType, unknown, leaf, var, reg, rec, tup, opt, uni}
 use Rattle.awk_types.specs.Limit.{limit}
 use Rattle.awk_types.specs.Datum.{arr}
-use Rattle.awk_types.specs.Faults.{limit_fault}
+use Rattle.awk_types.specs.Faults.{limit_fault, limit_refused}
 use Rattle.awk_types.specs.Gives.{refused_or, ◌or◌}
 use Rattle.awk_types.specs.Has.{Has}
 use Rattle.awk_types.specs.ItemLimit as items
@@ -23,6 +22,7 @@ use Rattle.awk_types.specs.declared.fault.Fault.TheVariants.{Lengths, Index, Wro
 use Rattle.awk_types.specs.declared.primitive.Primitive.TheVariants.{I64}
 use Rattle.awk_types.proofs.SimpleLaws.{simple_stays, in_option_stays}
 use Rattle.awk_types.proofs.Trees.{value_list-from}
+use Rattle.awk_types.proofs.ItemLimits.{within_limit}
 use Rattle.awk_axis.specs.Causes.{first_spoil}
 use Rattle.awk_axis.specs.Lift.{lifted_type, lifted_value, on_list}
 use Rattle.awk_axis.specs.ListFunction.{Giving, ListFunction, given_value, lists}
@@ -34,19 +34,16 @@ use Rattle.awk_axis.specs.declared.place.Reach.{Reach}
 use Rattle.awk_axis.proofs.CauseLaws.{first_spoil-both}
 use Rattle.awk_columns.specs.Columns.{joined_items, lists_among, present_values}
 use Rattle.awk_columns.specs.ListClass.{Class, list_type}
-use Rattle.awk_columns.proofs.ItemLimits.{within_limit}
 use Rattle.awk_jagged.specs.Jagged.{are_uneven, fault_if, is_jagged, jagged_of, lacks_places}
 use Rattle.awk_jagged.specs.Jagged.{pick_type, picked_as, picked_items, size_refused}
-use Rattle.awk_select.specs.Picks.{is_outside, limit_refused, picked, take_places}
+use Rattle.awk_select.specs.Picks.{is_outside, picked, take_places}
 use Rattle.awk_law_chains.specs.Arrays.{AreItems, any_length_at, is_lists_to, picks_by_place}
 use Rattle.awk_law_chains.proofs.Chains.{in_list_stays, in_option-same, joined-in_list}
 use Rattle.awk_law_chains.proofs.Chains.{joined-present}
 use Rattle.awk_law_chains.proofs.JaggedRows.{are_rows, jagged-lists, lacking-lists, map-same}
 use Rattle.awk_law_chains.proofs.JaggedRows.{pick_type-lists, picked_items-lists, row_of}
-use Rattle.awk_law_chains.proofs.JaggedRows.{rows_any-rows}
-use Rattle.awk_law_chains.proofs.JaggedRows.{rows_by-rows, rows_of-lists, simple-options}
-use Rattle.awk_law_chains.proofs.JaggedRows.{size-lists}
-use Rattle.awk_law_chains.proofs.JaggedRows.{uneven-lists}
+use Rattle.awk_law_chains.proofs.JaggedRows.{rows_any-rows, rows_by-rows, rows_of-lists}
+use Rattle.awk_law_chains.proofs.JaggedRows.{simple-options, size-lists, uneven-lists}
 use Rattle.awk_law_chains.proofs.Limits.{few_spoil-limit}
 use Rattle.awk_law_chains.proofs.AnyLength.{any_limit}
 

@@ -1,5 +1,5 @@
 -- Arrays that laws speak of.
-use Rattle.std.specs.Prelude.{ℕ, suc, ◌≤◌, ◌||◌, Bool, true, false, List, length, if◌then◌else◌}
+use Rattle.std.specs.Prelude.{◌≤◌, ◌||◌, Bool, true, false, List, length, if◌then◌else◌}
 use Rattle.std.specs.List.{AllByRecursion}
 use Rattle.awk_types.specs.DataType.{DataType, unknown, leaf, var, reg, opt}
 use Rattle.awk_types.specs.Datum.{Datum, arr, one}
@@ -37,13 +37,6 @@ any_length_at k t = t
 abbrev pub of_any_length : Reach → Datum → Datum
 of_any_length k (arr t vs) = arr (any_length_at k t) vs
 of_any_length k (one t v) = one (any_length_at k t) v
-
--- how many levels of lists a type has, optional or not
-abbrev pub list_depth : DataType → ℕ
-list_depth (var t) = suc (list_depth t)
-list_depth (reg n t) = suc (list_depth t)
-list_depth (opt t) = list_depth t
-list_depth t = 0
 
 -- whether the items of the innermost lists are places, and no truth values
 abbrev pub picks_by_place : DataType → Bool

@@ -32,10 +32,6 @@ innermost_type (reg n t) = if is_leaf (present t) then t else innermost_type t
 innermost_type (opt t) = if is_leaf t then opt t else innermost_type t
 innermost_type t = t
 
-abbrev pub datum_type : Datum → DataType
-datum_type (arr t vs) = t
-datum_type (one t v) = t
-
 -- what stands where lists and options end, in order, without nulls where there may be any
 abbrev pub leaves_in : Datum → List Value
 leaves_in (arr t vs) = ends t vs

@@ -5,7 +5,9 @@ use Rattle.std.proofs.Common.{ap, sym, ◌∙◌, subst}
 use Rattle.awk_base.proofs.Numbers.{suc-same}
 use Rattle.awk_types.specs.DataType.{DataType, unknown, leaf, var, reg, rec, tup, opt, uni}
 use Rattle.awk_types.specs.Datum.{arr}
+use Rattle.awk_types.specs.Faults.{limit_refused}
 use Rattle.awk_types.specs.Gives.{refused_or, ◌or◌}
+use Rattle.awk_types.specs.Parts.{list_depth}
 use Rattle.awk_types.specs.Simple.{IsSimple, option_if}
 use Rattle.awk_types.specs.Value.{Value}
 use Rattle.awk_types.specs.declared.fault.Fault.TheVariants.{Index, Lengths, WrongType}
@@ -15,8 +17,7 @@ use Rattle.awk_axis.specs.declared.place.Reach.{Reach}
 use Rattle.awk_columns.specs.ListClass.{Class, list_type}
 use Rattle.awk_jagged.specs.Jagged.{are_uneven, fault_if, is_jagged, jagged_of, lacks_places}
 use Rattle.awk_jagged.specs.Jagged.{pick_type, picked_as, picked_items, size_refused}
-use Rattle.awk_select.specs.Picks.{limit_refused}
-use Rattle.awk_law_chains.specs.Arrays.{any_length_at, is_lists_to, list_depth}
+use Rattle.awk_law_chains.specs.Arrays.{any_length_at, is_lists_to}
 use Rattle.awk_law_chains.proofs.JaggedRows.{pick_type-inside, pick_type-lists, rows_of-lists}
 use Rattle.awk_law_chains.proofs.JaggedRows.{simple-options}
 use Rattle.awk_law_chains.proofs.RowsPicked.{any_length_at-lists}

@@ -7,6 +7,7 @@ use Rattle.awk_types.specs.DataType.{DataType, var, opt}
 use Rattle.awk_types.specs.Datum.{Datum, arr}
 use Rattle.awk_types.specs.Has.{Has}
 use Rattle.awk_types.specs.Limit.{limit}
+use Rattle.awk_types.specs.Parts.{item_of}
 use Rattle.awk_types.specs.Simple.{IsSimple, present, simple, simple_value}
 use Rattle.awk_types.specs.Value.{Value}
 use Rattle.awk_types.proofs.RefusalLaws.{refused_or-Ok}
@@ -20,7 +21,7 @@ use Rattle.awk_axis.specs.declared.place.Reach.TheVariants.{Axis}
 use Rattle.awk_axis.specs.DropNone.{drop_none_function}
 use Rattle.awk_columns.specs.Columns.{joined_items, present_values}
 use Rattle.awk_columns.specs.ListClass.{Class, list_type}
-use Rattle.awk_lists.specs.Flatten.{flatten_of, flatten_function, item_type}
+use Rattle.awk_lists.specs.Flatten.{flatten_of, flatten_function}
 use Rattle.awk_nulls.specs.DropNone.{drop_none_of}
 use Rattle.awk_nulls.specs.PadNone.{pad_none_of, pad_none_function, padded, padded_class}
 use Rattle.awk_nulls.specs.Singletons.{singletons_of, singletons_function, single_list}
@@ -145,7 +146,7 @@ flatten_of_singles a t vs whole x y p k e d q =
     let is : whole ≡ arr u ws = given-items singletons_function a t vs whole e in
     given-items flatten_function a u ws x (ap (flatten_of (pos (suc (suc a)))) (sym is) ∙ d)
     ∙ array-both (λ c. c) (λ c. None) (λ c. None) (λ v. var (present v))
-    (λ v. item_type (present v)) present
+    (λ v. item_of (present v)) present
     (λ v xs. map single_list xs) (λ v xs. joined_items xs) (λ v xs. present_values xs)
     (λ c v s. ap var (simple_stays (present v) (present_simple v s)))
     (λ v xs s h. joined v xs s h) a t vs p k

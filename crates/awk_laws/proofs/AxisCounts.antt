@@ -1,29 +1,27 @@
 -- How many combinations there are of each list at an axis.
-use Rattle.std.specs.Prelude.{◌≡◌, ◌⊎◌, ℕ, zero, suc, ◌+◌, ◌-◌, ◌*◌, ◌/◌, ◌<◌, ◌≤◌, ◌==◌}
-use Rattle.std.specs.Prelude.{ℤ}
-use Rattle.std.specs.Prelude.{pos, negsuc, nat_lt, ◌||◌, Bool, true, false, List, [], ◌∷◌, length}
-use Rattle.std.specs.Prelude.{map, replicate, sum, Option, Some, None, Ok, refl, if◌then◌else◌}
+use Rattle.std.specs.Prelude.{◌≡◌, ◌⊎◌, ℕ, zero, suc, ◌+◌, ◌-◌, ◌*◌, ◌/◌, ◌<◌, ◌≤◌, ◌==◌, ℤ, pos}
+use Rattle.std.specs.Prelude.{negsuc, Bool, true, false, List, [], ◌∷◌, length, map, replicate, sum}
+use Rattle.std.specs.Prelude.{None, Ok, refl, if◌then◌else◌}
 use Rattle.std.specs.List.{AllByRecursion, flat_map}
 use Rattle.std.proofs.Common.{arith, ap, sym, ◌∙◌, subst, inl, inr}
 use Rattle.std.proofs.Math.Nat.{lt-mul-div-succ}
-use Rattle.std.proofs.lemmas.Bool.{cases_lt, ltb-false}
-use Rattle.std.proofs.lemmas.Grind.{common_steps}
+use Rattle.std.proofs.lemmas.Bool.{cases_lt}
 use Rattle.std.proofs.lemmas.Simd.{map-map}
 use Rattle.awk_types.specs.DataType.{DataType, DataTypes, unknown, leaf, var, reg, rec, tup, opt}
-use Rattle.awk_types.specs.DataType.{uni, no_types, type, types_from, depth, nodes, nodes_each}
-use Rattle.awk_types.specs.Datum.{Datum, arr, one}
-use Rattle.awk_types.specs.Limit.{Limit, depth_limit, size_limit, limit, width}
+use Rattle.awk_types.specs.DataType.{uni, no_types, type, types_from, nodes, nodes_each}
+use Rattle.awk_types.specs.Datum.{Datum, arr, one, datum_type}
 use Rattle.awk_types.specs.Simple.{IsSimple}
 use Rattle.awk_types.specs.Value.{Value, int, truth, null, list, row, alt}
+use Rattle.awk_types.proofs.TypeShapes.{nodes-type}
+use Rattle.awk_types.proofs.PartLimits.{nodes_within}
 use Rattle.awk_columns.specs.Columns.{list_items, row_parts, tag_of}
-use Rattle.awk_combi.specs.Combinations.{combinations_function, combinations_of, slot_type}
-use Rattle.awk_combi.specs.Combinations.{slots, tuple_type, tuples}
+use Rattle.awk_combi.specs.Combinations.{combinations_function, combinations_of, slot_type, slots}
+use Rattle.awk_combi.specs.Combinations.{tuple_type, tuples}
 use Rattle.awk_pair_operands.specs.Typed.{IsTyped}
 use Rattle.awk_places.proofs.FlatLaws.{all-append, map-same-all}
 use Rattle.awk_laws.specs.Axes.{TypedList, alternative_of, lists_at, lists_in_alternative}
 use Rattle.awk_laws.specs.Axes.{lists_in_parts, lists_of, typed_list}
 use Rattle.awk_laws.specs.Choices.{HasSlots, binomial, picked_tuple, tuples_of_list}
-use Rattle.awk_law_chains.specs.Innermost.{datum_type}
 use Rattle.awk_laws.proofs.AxisLists.{limited-given}
 use Rattle.awk_laws.proofs.AxisTuples.{nested_tuples}
 use Rattle.awk_laws.proofs.TuplePicks.{count_is, count_repeated_is, pick_is}
@@ -52,10 +50,6 @@ small_if : (n : ℕ) (b : Bool) (t : DataType) (v : Value) (f : Value → List T
     → AllByRecursion (IsSmall n) (if b then typed_list t v else flat_map f (list_items v))
 small_if n true t v f h e = small_list n t v h
 small_if n false t v f h e = all_flat (IsSmall n) f (list_items v) e
-
-nodes-type : (t : DataType) (ts : DataTypes)
-    → sum (nodes_each (type t ts)) ≡ nodes t + sum (nodes_each ts)
-nodes-type t ts = grind (arith, common_steps)
 
 mutual
   small_at : (n a : ℕ) (t : DataType) (v : Value) → nodes t ≤ n
@@ -103,17 +97,6 @@ small_lists n (pos (suc a)) (arr t vs) h =
     all_flat (IsSmall n) (lists_at a t) vs (λ x. small_at n a t x h)
 small_lists n (pos zero) (one t v) h = small_at n zero t v h
 small_lists n (pos (suc a)) (one t v) h = small_at n (suc a) t v h
-
-nodes_by : (d n w : ℕ) (a b c : Bool) → nat_lt 60 d ≡ a → nat_lt 65536 n ≡ b → nat_lt 127 w ≡ c
-    → ◌≡◌ {A = Option Limit}
-    (if a then Some depth_limit else if b || c then Some size_limit else None) None → n ≤ 65536
-nodes_by d n w true b c e f g h = cc
-nodes_by d n w false true c e f g h = cc
-nodes_by d n w false false true e f g h = cc
-nodes_by d n w false false false e f g h = ltb-false 65536 n f
-
-nodes_within : (t : DataType) → limit t ≡ None → nodes t ≤ 65536
-nodes_within t h = nodes_by (depth t) (nodes t) (width t) _ _ _ refl refl refl h
 
 -- ---- a type that is within the limits has all slots
 

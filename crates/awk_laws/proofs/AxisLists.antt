@@ -1,28 +1,26 @@
 -- What a function of one list gives for each list at an axis.
-use Rattle.std.specs.Prelude.{◌≡◌, ℕ, zero, suc, ◌-◌, ◌==◌, ℤ, pos, negsuc, Bool, true, false}
-use Rattle.std.specs.Prelude.{List, [], ◌∷◌, ◌++◌, length, map, Option, Some, None, option_map, Ok}
-use Rattle.std.specs.Prelude.{refl, if◌then◌else◌}
+use Rattle.std.specs.Prelude.{◌≡◌, ℕ, zero, suc, ◌-◌, ◌==◌, ℤ, pos, negsuc, Bool, true, false, List}
+use Rattle.std.specs.Prelude.{[], ◌∷◌, ◌++◌, length, map, Option, Some, None, option_map, Ok, refl}
+use Rattle.std.specs.Prelude.{if◌then◌else◌}
 use Rattle.std.specs.List.{AllByRecursion, flat_map}
 use Rattle.std.proofs.Common.{ap, ap₂, sym, ◌∙◌}
 use Rattle.std.proofs.lemmas.List.{map-append}
 use Rattle.awk_types.specs.DataType.{DataType, DataTypes, unknown, leaf, var, reg, rec, tup, opt}
 use Rattle.awk_types.specs.DataType.{uni, no_types, type, types_from}
-use Rattle.awk_types.specs.Datum.{Datum, arr, one}
+use Rattle.awk_types.specs.Datum.{Datum, arr, one, datum_type}
 use Rattle.awk_types.specs.Faults.{limit_fault}
 use Rattle.awk_types.specs.Gives.{refused_or, ◌or◌}
 use Rattle.awk_types.specs.Has.{Has, HasRow, HasAlternative}
 use Rattle.awk_types.specs.IsType.{IsType}
 use Rattle.awk_types.specs.Limit.{Limit, limit}
 use Rattle.awk_types.specs.Settle.{settle}
-use Rattle.awk_types.specs.Simple.{IsSimple, simple, simple_value, in_list}
-use Rattle.awk_types.specs.Simple.{values_by, value_by}
+use Rattle.awk_types.specs.Simple.{IsSimple, simple, simple_value, in_list, values_by, value_by}
 use Rattle.awk_types.specs.Value.{Value, Values, int, truth, null, list, row, alt, value_list}
 use Rattle.awk_types.specs.Value.{values_from}
 use Rattle.awk_types.proofs.RefusalLaws.{refused_or-Ok, or-both}
 use Rattle.awk_types.proofs.Trees.{value_list-from}
 use Rattle.awk_axis.specs.Causes.{first_spoil}
-use Rattle.awk_axis.specs.Lift.{lifted_type, lifted_types, lifted_value, lifted_values}
-use Rattle.awk_axis.specs.Lift.{refusal_at}
+use Rattle.awk_axis.specs.Lift.{lifted_type, lifted_types, lifted_value, lifted_values, refusal_at}
 use Rattle.awk_axis.specs.Lifting.{first_told, lift, on_items, on_one, on_whole, refusal_fault}
 use Rattle.awk_axis.specs.Lifting.{spoil_fault}
 use Rattle.awk_axis.specs.ListFunction.{Giving, ListFunction, lists, made_type, given_type}
@@ -35,7 +33,6 @@ use Rattle.awk_columns.specs.ListClass.{Class, list_type}
 use Rattle.awk_pair_operands.specs.Typed.{IsTyped}
 use Rattle.awk_laws.specs.Axes.{TypedList, typed_list, lists_at, lists_in_parts}
 use Rattle.awk_laws.specs.Axes.{lists_in_alternative, lists_of}
-use Rattle.awk_law_chains.specs.Innermost.{datum_type}
 use Rattle.awk_law_chains.proofs.Limits.{none_map}
 use Rattle.awk_laws.proofs.Lifted.{normal_type, normal_value}
 use Rattle.awk_laws.proofs.AxisTypes.{IsAllowed, all_joined, allowed_at, lists_at-list}

@@ -3,20 +3,18 @@ use Rattle.std.specs.Prelude.{◌≡◌, ℤ, true, Ok, map, refl}
 use Rattle.std.specs.List.{AllByRecursion}
 use Rattle.std.proofs.Common.{sym, subst, List, [], ◌∷◌}
 use Rattle.awk_types.specs.DataType.{DataType}
-use Rattle.awk_types.specs.Datum.{Datum}
+use Rattle.awk_types.specs.Datum.{Datum, datum_type}
 use Rattle.awk_types.specs.IsType.{IsType}
 use Rattle.awk_types.specs.Simple.{IsSimple}
 use Rattle.awk_types.specs.Value.{Value}
 use Rattle.awk_axis.specs.Lifting.{lift}
-use Rattle.awk_fill.specs.FillNone.{Filler, fill_none_function, fill_none_of, filled, filled_type}
-use Rattle.awk_fill.specs.FillNone.{is_filler}
+use Rattle.awk_layout.specs.Filler.{Filler, is_filler}
+use Rattle.awk_fill.specs.FillNone.{fill_none_function, fill_none_of, filled, filled_type}
 use Rattle.awk_pair_operands.specs.Typed.{IsTyped}
 use Rattle.awk_laws.specs.Axes.{TypedList, lists_of}
-use Rattle.awk_law_chains.specs.Innermost.{datum_type}
 use Rattle.awk_laws.specs.Nulls.{HasNoNull, IsTypedFiller}
 use Rattle.awk_laws.proofs.AxisLists.{allowed-given, each-given, given}
-use Rattle.awk_laws.proofs.AxisTypes.{IsAllowed, IsPlain}
-use Rattle.awk_laws.proofs.AxisTypes.{plain_lists}
+use Rattle.awk_laws.proofs.AxisTypes.{IsAllowed, IsPlain, plain_lists}
 use Rattle.awk_laws.proofs.NullLaws.{all_there, by_filler}
 
 module _ (f : Filler) where

@@ -5,13 +5,13 @@ use Rattle.std.specs.List.{AllByRecursion}
 use Rattle.std.proofs.Common.{arith, ap, ap₂, ◌∙◌}
 use Rattle.std.proofs.lemmas.List.{length-map}
 use Rattle.std.proofs.lemmas.Simd.{map-map}
+use Rattle.awk_base.proofs.Every.{all-at}
 use Rattle.awk_types.specs.DataType.{DataType, tup, types_from}
-use Rattle.awk_types.specs.Datum.{Datum}
+use Rattle.awk_types.specs.Datum.{Datum, datum_type}
 use Rattle.awk_types.specs.Has.{Has}
-use Rattle.awk_types.specs.Simple.{IsSimple, simple, simples, simple_value, simple_values}
-use Rattle.awk_types.specs.Simple.{values_by}
+use Rattle.awk_types.specs.Simple.{IsSimple, simple, simple_value, simple_values, values_by}
 use Rattle.awk_types.specs.Value.{Value, null, row, values_from}
-use Rattle.awk_types.proofs.SimpleLaws.{simple_stays, value_stays}
+use Rattle.awk_types.proofs.SimpleLaws.{simple_stays, value_stays, simples-same}
 use Rattle.awk_types.proofs.Trees.{value_list-from}
 use Rattle.awk_combi.specs.Combinations.{combinations_function, combinations_of, slot_type}
 use Rattle.awk_combi.specs.Combinations.{slot_value, slots, tuple_at, tuple_type, tuples}
@@ -20,17 +20,11 @@ use Rattle.awk_places.specs.Places.{rising_places}
 use Rattle.awk_places.proofs.FlatLaws.{map-same-all}
 use Rattle.awk_laws.specs.Axes.{TypedList, lists_of}
 use Rattle.awk_laws.specs.Choices.{IsChoice, tuples_of_list}
-use Rattle.awk_law_chains.specs.Innermost.{datum_type}
 use Rattle.awk_laws.proofs.AxisLists.{each-given, given}
 use Rattle.awk_laws.proofs.AxisTypes.{IsPlain, plain_lists}
 use Rattle.awk_laws.proofs.ChoiceLaws.{all_choices}
 
 -- ---- slots of one type
-
-simples-same : (m : ℕ) (u : DataType) → simple u ≡ u
-    → simples (types_from (replicate m u)) ≡ replicate m u
-simples-same zero u e = refl
-simples-same (suc m) u e = ap₂ (λ t ts. t ∷ ts) e (simples-same m u e)
 
 slots-same : (m : ℕ) (u : DataType) (xs : List Value) → length xs ≡ m
     → AllByRecursion (λ x. simple_value u x ≡ x) xs
@@ -40,12 +34,6 @@ slots-same zero u (x ∷ xs) e h = absurd (omega (arith, e))
 slots-same (suc m) u [] e h = absurd (omega (arith, e))
 slots-same (suc m) u (x ∷ xs) e h =
     ap₂ (λ y ys. y ∷ ys) h.0 (slots-same m u xs (omega (arith, e)) h.1)
-
-has_place : (P : Value → Type 0) (vs : List Value) (k : ℕ) → AllByRecursion P vs → k < length vs
-    → P (get_or vs k null)
-has_place P [] k h l = absurd (omega (arith, l))
-has_place P (v ∷ vs) zero h l = h.0
-has_place P (v ∷ vs) (suc k) h l = has_place P vs k h.1 (omega (arith, l))
 
 -- ---- tuples of items of a simple type
 
@@ -59,7 +47,7 @@ slot_stays : (places : Bool) (t : DataType) (vs : List Value) (k : ℕ) → IsSi
     → simple_value (slot_type places t) (slot_value places vs k) ≡ slot_value places vs k
 slot_stays true t vs k s h l = refl
 slot_stays false t vs k s h l =
-    value_stays t (get_or vs k null) s (has_place (Has t) vs k h l)
+    value_stays t (get_or vs k null) s (all-at (Has t) vs k null h l)
 
 slots_stay : (places : Bool) (t : DataType) (vs : List Value) (ks : List ℕ) → IsSimple t
     → AllByRecursion (Has t) vs → AllByRecursion (λ k. k < length vs) ks

@@ -1,12 +1,11 @@
 -- The types of the items of lists at an axis.
-use Rattle.std.specs.Prelude.{◌≡◌, ℕ, zero, suc, ◌-◌, ◌==◌, ℤ, pos, negsuc, Bool, true, false}
-use Rattle.std.specs.Prelude.{List, [], ◌∷◌, Option, Some, None}
-use Rattle.std.specs.Prelude.{refl, if◌then◌else◌}
+use Rattle.std.specs.Prelude.{◌≡◌, ℕ, zero, suc, ◌-◌, ◌==◌, ℤ, pos, negsuc, Bool, true, false, List}
+use Rattle.std.specs.Prelude.{[], ◌∷◌, Option, Some, None, refl, if◌then◌else◌}
 use Rattle.std.specs.List.{AllByRecursion, flat_map}
 use Rattle.std.proofs.Common.{sym, subst}
 use Rattle.awk_types.specs.DataType.{DataType, DataTypes, unknown, leaf, var, reg, rec, tup, opt}
 use Rattle.awk_types.specs.DataType.{uni, no_types, type}
-use Rattle.awk_types.specs.Datum.{Datum, arr, one}
+use Rattle.awk_types.specs.Datum.{Datum, arr, one, datum_type}
 use Rattle.awk_types.specs.Has.{Has, HasRow, HasAlternative}
 use Rattle.awk_types.specs.IsType.{IsType, AreTypes}
 use Rattle.awk_types.specs.Simple.{IsSimple, AreSimple}
@@ -22,7 +21,6 @@ use Rattle.awk_columns.specs.ListClass.{Class, list_type}
 use Rattle.awk_pair_operands.specs.Typed.{IsTyped}
 use Rattle.awk_laws.specs.Axes.{TypedList, typed_list, lists_at, lists_in_parts}
 use Rattle.awk_laws.specs.Axes.{lists_in_alternative, lists_of}
-use Rattle.awk_law_chains.specs.Innermost.{datum_type}
 use Rattle.awk_places.proofs.FlatLaws.{all-append}
 
 -- ---- lists of a type

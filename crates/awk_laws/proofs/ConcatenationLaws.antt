@@ -1,14 +1,12 @@
 -- The laws of arrays joined one after another.
-use Rattle.std.specs.Prelude.{zero, suc, ◌<◌, Bool, if◌then◌else◌}
-use Rattle.std.specs.Prelude.{◌≡◌, ℕ, ◌+◌, ◌-◌, List, [], ◌∷◌, ◌++◌, length, map, take}
-use Rattle.std.specs.Prelude.{drop, Option, Some, None, option_map, Ok, pos}
-use Rattle.std.specs.Prelude.{refl}
+use Rattle.std.specs.Prelude.{zero, suc, ◌<◌, ◌≡◌, ℕ, ◌+◌, ◌-◌, List, [], ◌∷◌, ◌++◌, length, map}
+use Rattle.std.specs.Prelude.{take, drop, Option, Some, None, option_map, Ok, pos, refl}
 use Rattle.std.proofs.Common.{arith, ap, ap₂, sym, ◌∙◌}
-use Rattle.std.proofs.lemmas.List.{length-append, length-map}
+use Rattle.std.proofs.lemmas.List.{length-append, length-map, append-nil, append_assoc}
 use Rattle.std.proofs.lemmas.List.Sums.{sum_by-cons, sum_by-append}
 use Rattle.std.proofs.Math.Seq.{take-append_seam, drop-append-add}
-use Rattle.awk_types.specs.DataType.{DataType, unknown, leaf, var, reg, rec, tup, opt, uni}
-use Rattle.awk_types.specs.Datum.{Datum, arr, one}
+use Rattle.awk_types.specs.DataType.{DataType, unknown}
+use Rattle.awk_types.specs.Datum.{Datum, arr, one, datum_type}
 use Rattle.awk_types.specs.Faults.{limit_fault}
 use Rattle.awk_types.specs.Gives.{refused_or, ◌or◌}
 use Rattle.awk_types.specs.ItemLimit.{too_many}
@@ -16,38 +14,36 @@ use Rattle.awk_types.specs.Limit.{limit}
 use Rattle.awk_types.specs.Value.{Value}
 use Rattle.awk_types.proofs.RefusalLaws.{refused_or-Ok, refused_or-None}
 use Rattle.awk_merge_operands.specs.Concatenate.{concatenate_of, operand_items, operand_types}
-use Rattle.awk_merge_operands.specs.Concatenate.{type_before}
 use Rattle.awk_merge_operands.specs.Concatenate.{joined_as, carried_columns, stacked, values_fault}
 use Rattle.awk_merge_operands.specs.declared.operands.Axis.TheVariants.{Arrays}
 use Rattle.awk_unify.specs.After.{after}
 use Rattle.awk_unify.specs.Carries.{carry_at}
 use Rattle.awk_unify.specs.Carry.{Carry, carried, keep}
-use Rattle.awk_unify.proofs.SameTypeLaws.{same_type-refl}
-use Rattle.std.proofs.lemmas.List.{append-nil, append_assoc}
-use Rattle.awk_types.specs.Predicates.{is_unknown}
-use Rattle.awk_unify.specs.Early.{as_it_is, early}
+use Rattle.awk_unify.specs.Early.{as_it_is}
+use Rattle.awk_unify.specs.FieldNames.{with_type}
+use Rattle.awk_types.proofs.ItemLimits.{within_limit}
 use Rattle.awk_unify.specs.Unification.{Unification}
 use Rattle.awk_unify.specs.Unify.{unification}
 use Rattle.awk_unify.specs.UnifyList.{UnificationList, unification_list, unification_more}
 use Rattle.awk_unify.specs.UnifyList.{one_further}
-use Rattle.awk_unify.proofs.Rules.{unified_early}
-use Rattle.awk_columns.proofs.ItemLimits.{within_limit}
+use Rattle.awk_unify.proofs.Rules.{unified_early, early-unknown, early-same}
+use Rattle.awk_unify.proofs.CarriedLaws.{map-keep}
 use Rattle.awk_law_chains.specs.Arrays.{AreFew}
-use Rattle.awk_laws.specs.Concatenation.{ConcatenationLaws, item_type, items_in, unified}
-use Rattle.awk_laws.specs.Concatenation.{carried_items, part_range}
+use Rattle.awk_laws.specs.Concatenation.{ConcatenationLaws, items_in, unified, carried_items}
+use Rattle.awk_laws.specs.Concatenation.{part_range}
 use Rattle.awk_laws.proofs.Slices.{range-places}
 
 -- ---- types
 
 with_first : (t : DataType) (ds : List Datum) (ts : List DataType) (o : Option (List DataType))
-    → ((us : List DataType) → o ≡ Some us → map item_type ds ≡ us)
-    → type_before (Some t) o ≡ Some ts → t ∷ map item_type ds ≡ ts
+    → ((us : List DataType) → o ≡ Some us → map datum_type ds ≡ us)
+    → with_type (Some t) o ≡ Some ts → t ∷ map datum_type ds ≡ ts
 with_first t ds ts None f h = cc
 with_first t ds ts (Some us) f h =
     let w : t ∷ us ≡ ts = cc in ap (λ xs. t ∷ xs) (f us refl) ∙ w
 
 types-are : (ds : List Datum) (ts : List DataType) → operand_types Arrays ds ≡ Some ts
-    → map item_type ds ≡ ts
+    → map datum_type ds ≡ ts
 types-are [] ts e = cc
 types-are (arr t vs ∷ ds) ts e =
     with_first t ds ts (operand_types Arrays ds) (λ us f. types-are ds us f) e
@@ -69,8 +65,8 @@ length-lifts : (ds : List Datum) → length (unified ds).lifts ≡ length ds
 length-lifts ds =
     omega (
       arith,
-      length-more (record { typ = unknown; lifts = [] }) (map item_type ds),
-      length-map ds item_type,
+      length-more (record { typ = unknown; lifts = [] }) (map datum_type ds),
+      length-map ds datum_type,
     )
 
 -- ---- the whole
@@ -169,18 +165,8 @@ range_of_part before after part whole e =
     ∙ ap (λ (k : ℕ). take k (drop a ws)) span
     ∙ part-stacked fs before after part (length-lifts ds))
 
-early_unknown : (t : DataType) → early unknown t ≡ Some (as_it_is t)
-early_unknown unknown = refl
-early_unknown (leaf p) = refl
-early_unknown (var t) = refl
-early_unknown (reg n t) = refl
-early_unknown (rec ns ts) = refl
-early_unknown (tup ts) = refl
-early_unknown (opt t) = refl
-early_unknown (uni ts) = refl
-
 unknown_first : (t : DataType) → unification unknown t ≡ as_it_is t
-unknown_first t = unified_early unknown t (as_it_is t) (early_unknown t)
+unknown_first t = unified_early unknown t (as_it_is t) (early-unknown t)
 
 kept : (vs : List Value) → map (carried keep) vs ++ [] ≡ vs
 kept [] = refl
@@ -206,34 +192,23 @@ kept_lifts : (fs : List Carry) → map (after keep) fs ≡ fs
 kept_lifts [] = refl
 kept_lifts (f ∷ fs) = ap (λ gs. f ∷ gs) (kept_lifts fs)
 
-kept_values : (vs : List Value) → map (carried keep) vs ≡ vs
-kept_values [] = refl
-kept_values (v ∷ vs) = ap (λ ws. v ∷ ws) (kept_values vs)
-
-same_early : (t : DataType) → early t t ≡ Some (as_it_is t)
-same_early t =
-    ap (λ (b : Bool). if b then Some (as_it_is t)
-    else if is_unknown t then Some (as_it_is t)
-    else if is_unknown t then Some (as_it_is t)
-    else None) (same_type-refl t)
-
 like_further : (t : DataType) (fs : List Carry)
     → one_further (record { typ = t; lifts = fs }) t
     ≡ record { typ = t; lifts = fs ++ keep ∷ [] }
 like_further t fs =
-    ap (further fs) (unified_early t t (as_it_is t) (same_early t))
+    ap (further fs) (unified_early t t (as_it_is t) (early-same t))
     ∙ ap (λ gs. record { typ = t; lifts = gs ++ keep ∷ [] }) (kept_lifts fs)
   where
     further : List Carry → Unification → UnificationList
     further gs r = record { typ = r.typ; lifts = map (after r.left) gs ++ r.right ∷ [] }
 
 like_more : (t : DataType) (fs : List Carry) (vss : List (List Value))
-    → unification_more (record { typ = t; lifts = fs }) (map item_type (map (arr t) vss))
+    → unification_more (record { typ = t; lifts = fs }) (map datum_type (map (arr t) vss))
     ≡ record { typ = t; lifts = fs ++ map (λ vs. keep) vss }
 like_more t fs [] =
     ap (λ gs. record { typ = t; lifts = gs }) (sym (append-nil fs))
 like_more t fs (vs ∷ vss) =
-    ap (λ u. unification_more u (map item_type (map (arr t) vss))) (like_further t fs)
+    ap (λ u. unification_more u (map datum_type (map (arr t) vss))) (like_further t fs)
     ∙ like_more t (fs ++ keep ∷ []) vss
     ∙ ap (λ gs. record { typ = t; lifts = gs })
     (append_assoc fs (keep ∷ []) (map (λ ws. keep) vss))
@@ -244,7 +219,7 @@ like_unified : (t : DataType) (vs : List Value) (vss : List (List Value))
 like_unified t vs vss =
     ap (λ (r : Unification). unification_more
     (record { typ = r.typ; lifts = map (after r.left) [] ++ r.right ∷ [] })
-    (map item_type (map (arr t) vss))) (unknown_first t)
+    (map datum_type (map (arr t) vss))) (unknown_first t)
     ∙ like_more t (keep ∷ []) vss
 
 carry_kept : (vss : List (List Value)) (k : ℕ) → carry_at (map (λ vs. keep) vss) k ≡ keep
@@ -260,7 +235,7 @@ like_part t [] k vs p = absurd (omega (arith, p))
 like_part t (ws ∷ wss) k vs p =
     ap (λ u. arr u.typ (map (carried (carry_at u.lifts k)) vs)) (like_unified t ws wss)
     ∙ ap (λ f. arr t (map (carried f) vs)) (carry_kept (ws ∷ wss) k)
-    ∙ ap (arr t) (kept_values vs)
+    ∙ ap (arr t) (map-keep vs)
 
 map-seam : (t : DataType) (before after : List (List Value)) (vs : List Value)
     → map (arr t) (before ++ vs ∷ after) ≡ map (arr t) before ++ arr t vs ∷ map (arr t) after

@@ -1,7 +1,6 @@
 -- Lists by counts, and their items one after another.
-use Rattle.std.specs.Prelude.{◌≡◌, ℕ, ◌+◌, ◌≤◌, ◌==◌, true, false}
-use Rattle.std.specs.Prelude.{◌||◌, not, List, [], ◌∷◌, ◌++◌, length, map, take, drop, sum_by}
-use Rattle.std.specs.Prelude.{pos, negsuc, refl, Some, None}
+use Rattle.std.specs.Prelude.{◌≡◌, ℕ, ◌+◌, ◌≤◌, ◌==◌, true, false, ◌||◌, not, List, [], ◌∷◌, ◌++◌}
+use Rattle.std.specs.Prelude.{length, map, take, drop, sum_by, pos, negsuc, refl, Some, None}
 use Rattle.std.specs.List.{AllByRecursion, list_any}
 use Rattle.std.proofs.Common.{arith, ap, ap₂, ◌∙◌}
 use Rattle.std.proofs.lemmas.List.{length-append, length-drop, length-take-le, take-append-drop}
@@ -10,15 +9,15 @@ use Rattle.std.proofs.Math.Seq.{drop-append_seam, take-append_seam}
 use Rattle.awk_base.proofs.Truths.{or_first, or_second, same_number, equal_right}
 use Rattle.awk_types.specs.DataType.{DataType, unknown, leaf, var, reg, rec, tup, opt, uni}
 use Rattle.awk_types.specs.Has.{Has}
-use Rattle.awk_types.specs.Value.{Value, int, truth, null, list, row, alt}
-use Rattle.awk_types.specs.Value.{values_from}
+use Rattle.awk_types.specs.Value.{Value, int, truth, null, list, row, alt, values_from}
 use Rattle.awk_types.specs.WholeNumbers.{is_numbers}
 use Rattle.awk_types.specs.declared.primitive.Primitive.TheVariants.{Bool as Truths, I8, I16, I32}
 use Rattle.awk_types.specs.declared.primitive.Primitive.TheVariants.{I64, U8, U16, U32, U64}
 use Rattle.awk_types.proofs.Trees.{values_from-list, value_list-from}
 use Rattle.awk_columns.specs.Columns.{list_items, joined_items}
 use Rattle.awk_columns.specs.ListClass.{Class, list_type}
-use Rattle.awk_lists.specs.Unflatten.{is_negative, count_of, cut_by, do_not_add_up}
+use Rattle.awk_layout.specs.Shown.{count_of}
+use Rattle.awk_lists.specs.Unflatten.{is_negative, cut_by, do_not_add_up}
 
 -- the length of a list as a number
 abbrev pub list_length : Value → Value

@@ -1,17 +1,16 @@
 -- Fields of one record with a field.
-use Rattle.std.specs.Prelude.{◌≡◌, ℕ, zero, suc, ◌<◌, false, List, [], ◌∷◌, length, get_or, refl}
-use Rattle.std.specs.List.{AllByRecursion}
-use Rattle.std.proofs.Common.{arith, ap, ap₂, sym, ◌∙◌}
+use Rattle.std.specs.Prelude.{◌≡◌, suc, false, List, [], ◌∷◌, length, get_or, refl}
+use Rattle.std.proofs.Common.{ap, ap₂, sym, ◌∙◌}
 use Rattle.awk_types.specs.DataType.{Name, DataType, DataTypes, no_types, type, unknown, rec}
 use Rattle.awk_types.specs.DataType.{type_list, types_from}
 use Rattle.awk_types.specs.Has.{Has, HasRow}
 use Rattle.awk_types.specs.IsType.{IsType, count}
-use Rattle.awk_types.specs.Names.{is_among}
+use Rattle.awk_types.specs.Names.{is_among, place_of}
 use Rattle.awk_types.specs.Simple.{simple_value}
 use Rattle.awk_types.specs.Value.{Value, int, truth, null, list, row, alt, value_list, values_from}
 use Rattle.awk_types.proofs.Trees.{type_list-from, types_from-list, value_list-from}
 use Rattle.awk_types.proofs.Trees.{values_from-list}
-use Rattle.awk_view.specs.Choice.{field, without, beside, apart_from, place_of, chosen_value}
+use Rattle.awk_view.specs.Choice.{field, without, beside, apart_from, chosen_value}
 use Rattle.awk_put_field.specs.Field.{put, named, field_value}
 use Rattle.awk_laws.proofs.PutNames.{beside-put, apart-put}
 
@@ -22,12 +21,6 @@ length-row no_types [] h = refl
 length-row no_types (v ∷ vs) h = absurd h
 length-row (type t ts) [] h = absurd h
 length-row (type t ts) (v ∷ vs) h = ap suc (length-row ts vs h.1)
-
-pub has_at : (t : DataType) (xs : List Value) (k : ℕ) → AllByRecursion (Has t) xs → k < length xs
-    → Has t (get_or xs k null)
-has_at t [] k h p = absurd (omega (arith, p))
-has_at t (x ∷ xs) zero h p = h.0
-has_at t (x ∷ xs) (suc k) h p = has_at t xs k h.1 (omega (arith, p))
 
 -- ---- the field
 

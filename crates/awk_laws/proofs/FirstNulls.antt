@@ -5,8 +5,9 @@ use Rattle.std.specs.List.{AllByRecursion}
 use Rattle.std.proofs.Common.{ap, sym, ◌∙◌}
 use Rattle.awk_types.specs.DataType.{DataType, DataTypes, unknown, leaf, var, reg, rec, tup, opt}
 use Rattle.awk_types.specs.DataType.{uni, no_types, type}
-use Rattle.awk_types.specs.Datum.{Datum}
+use Rattle.awk_types.specs.Datum.{Datum, datum_type}
 use Rattle.awk_types.specs.Has.{Has, HasAlternative}
+use Rattle.awk_types.specs.Predicates.{is_null}
 use Rattle.awk_types.specs.Settle.{settle, settle_alternative}
 use Rattle.awk_types.specs.Simple.{IsSimple, ArePlain, is_option, option_of, simple, simple_value}
 use Rattle.awk_types.specs.Simple.{in_option, present, value_after}
@@ -19,9 +20,7 @@ use Rattle.awk_types.proofs.Trees.{value_list-from}
 use Rattle.awk_columns.specs.Columns.{list_items}
 use Rattle.awk_lists.specs.Num.{length_function, num_of}
 use Rattle.awk_nulls.specs.Firsts.{first_or_null, firsts_of, firsts_function}
-use Rattle.awk_nulls.specs.IsNone.{is_null}
 use Rattle.awk_pair_operands.specs.Typed.{IsTyped}
-use Rattle.awk_law_chains.specs.Innermost.{datum_type}
 use Rattle.awk_laws.specs.Axes.{TypedList, alternative_of, lists_of}
 use Rattle.awk_laws.specs.InPlace.{datum_value, in_place}
 use Rattle.awk_laws.specs.Nulls.{is_zero, is_zero_or_null, lacks_first}

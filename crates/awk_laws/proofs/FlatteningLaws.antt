@@ -1,5 +1,5 @@
 -- The laws of lists joined and cut.
-use Rattle.std.specs.Prelude.{◌≡◌, ℕ, ◌≤◌, Bool, true, false, List, [], length, map, sum_by, pos}
+use Rattle.std.specs.Prelude.{◌≡◌, ℕ, ◌≤◌, Bool, true, false, List, length, map, sum_by, pos}
 use Rattle.std.specs.Prelude.{Option, Some, None, option_map, Ok, refl, if◌then◌else◌}
 use Rattle.std.specs.List.{AllByRecursion, list_any}
 use Rattle.std.proofs.Common.{arith, ap, ap₂, sym, ◌∙◌, subst}
@@ -11,27 +11,27 @@ use Rattle.awk_types.specs.Gives.{◌or◌}
 use Rattle.awk_types.specs.Has.{Has}
 use Rattle.awk_types.specs.ItemLimit.{too_many, item_limit}
 use Rattle.awk_types.specs.Limit.{Limit, limit}
-use Rattle.awk_types.specs.Value.{Value, list, no_values}
+use Rattle.awk_types.specs.Value.{Value}
 use Rattle.awk_types.specs.WholeNumbers.{is_numbers}
 use Rattle.awk_types.specs.declared.fault.Fault.TheVariants.{Lengths}
 use Rattle.awk_types.specs.declared.primitive.Primitive.TheVariants.{I64}
 use Rattle.awk_types.proofs.RefusalLaws.{refused_or-Ok, refused_or-None, or-both}
-use Rattle.awk_view.proofs.SettleLimits.{limit-settle}
+use Rattle.awk_types.proofs.ItemLimits.{within_limit, limit_kept}
+use Rattle.awk_types.proofs.PartLimits.{within_var}
 use Rattle.awk_columns.specs.Columns.{joined_items}
 use Rattle.awk_columns.specs.ListClass.{Class, list_type}
-use Rattle.awk_columns.proofs.ItemLimits.{within_limit}
 use Rattle.awk_frames.proofs.FramedItems.{items-have}
 use Rattle.awk_lists.specs.Flatten.{flatten_of}
 use Rattle.awk_lists.specs.Num.{num_of}
 use Rattle.awk_lists.specs.Unflatten.{unflatten_of, cut_refused, lists_by, type_refused}
 use Rattle.awk_lists.specs.Unflatten.{limit_refused, lengths_refused, do_not_add_up, cut_by}
-use Rattle.awk_lists.specs.Unflatten.{count_of, is_negative}
+use Rattle.awk_layout.specs.Shown.{count_of}
+use Rattle.awk_lists.specs.Unflatten.{is_negative}
 use Rattle.awk_lists.proofs.Cuts.{length-cut}
 use Rattle.awk_law_chains.specs.Arrays.{AreItems, AreFew}
 use Rattle.awk_laws.specs.Flattening.{FlatteningLaws}
 use Rattle.awk_laws.proofs.Cuts.{list_length, joined-cut, lengths-cut, cut-joined}
 use Rattle.awk_laws.proofs.Cuts.{counts_add_up, adding_up, none_negative, sum-lengths}
-use Rattle.awk_law_chains.proofs.Limits.{few-limit}
 use Rattle.awk_laws.proofs.Lists.{flatten-lists, flatten-given, num-lists, num-given, cut_lists}
 use Rattle.awk_laws.proofs.Lists.{all_lists, simple_items}
 
@@ -50,10 +50,6 @@ limit_allowed l e = none_of (limit (var l)) e
 lengths_allowed : (n : ℕ) (cs : List Value) → lengths_refused n cs ≡ None
     → do_not_add_up n cs ≡ false
 lengths_allowed n cs e = grind arith
-
--- the type of items passes no limit that their lists do not pass
-limit_inside : (t : DataType) → limit (var t) ≡ None → limit t ≡ None
-limit_inside t e = limit-settle (var t) (list no_values) (arr t []) refl e
 
 -- ---- the laws
 
@@ -81,7 +77,7 @@ is_cut t u vs cs lists e =
       within = limit_allowed t b.0;
       natural = d.0;
       whole = d.1;
-      few = few-limit (length cs) c.1;
+      few = limit_kept (length cs) c.1;
       is = r.1;
     }
 
@@ -94,7 +90,7 @@ flatten_of_unflatten t u vs cs lists h p e =
     let j : joined_items ls ≡ vs = joined-cut cs vs k.whole in
     ap (flatten_of (pos 1)) (sym k.is)
     ∙ flatten-lists None t ls h.simple (subst (AllByRecursion (Has t)) (sym j) h.items)
-    (limit_inside t k.within) (subst (λ (xs : List Value). length xs ≤ item_limit) (sym j) p)
+    (within_var t k.within) (subst (λ (xs : List Value). length xs ≤ item_limit) (sym j) p)
     ∙ ap (λ xs. Ok (arr t xs)) j
 
 num_of_unflatten : (t u : DataType) (vs cs : List Value) (lists : Datum)

@@ -1,27 +1,25 @@
 -- What a function that gives single values gives in the places of the lists at an axis.
-use Rattle.std.specs.Prelude.{◌≡◌, ℕ, zero, suc, ◌-◌, ◌==◌, ℤ, pos, negsuc, Bool, true, false}
-use Rattle.std.specs.Prelude.{List, [], ◌∷◌, ◌++◌, map, None, Some, Ok, refl}
-use Rattle.std.specs.Prelude.{if◌then◌else◌}
+use Rattle.std.specs.Prelude.{◌≡◌, ℕ, zero, suc, ◌-◌, ◌==◌, ℤ, pos, negsuc, Bool, true, false, List}
+use Rattle.std.specs.Prelude.{[], ◌∷◌, ◌++◌, map, None, Some, Ok, refl, if◌then◌else◌}
 use Rattle.std.specs.List.{AllByRecursion, flat_map}
 use Rattle.std.proofs.Common.{ap, ap₂, sym, ◌∙◌}
 use Rattle.std.proofs.lemmas.List.{map-append}
 use Rattle.std.proofs.lemmas.Simd.{map-map}
 use Rattle.awk_types.specs.DataType.{DataType, DataTypes, unknown, leaf, var, reg, rec, tup, opt}
 use Rattle.awk_types.specs.DataType.{uni, no_types, type, types_from}
-use Rattle.awk_types.specs.Datum.{Datum, arr, one}
+use Rattle.awk_types.specs.Datum.{Datum, arr, one, datum_type}
 use Rattle.awk_types.specs.Has.{Has, HasRow, HasAlternative}
 use Rattle.awk_types.specs.Limit.{limit}
 use Rattle.awk_types.specs.Settle.{settle}
 use Rattle.awk_types.specs.Simple.{IsSimple, AreSimple, ArePlain, is_option, is_union, simple}
-use Rattle.awk_types.specs.Simple.{in_option}
-use Rattle.awk_types.specs.Simple.{simple_value, simple_values, simples, in_list, values_by}
-use Rattle.awk_types.specs.Simple.{value_by, value_after, alternatives_before}
+use Rattle.awk_types.specs.Simple.{in_option, simple_value, simple_values, simples, in_list}
+use Rattle.awk_types.specs.Simple.{values_by, value_by, value_after, alternatives_before}
 use Rattle.awk_types.specs.Value.{Value, Values, int, truth, null, list, row, alt, value_list}
 use Rattle.awk_types.specs.Value.{values_from}
 use Rattle.awk_types.proofs.RefusalLaws.{refused_or-Ok}
 use Rattle.awk_types.proofs.Trees.{value_list-from}
-use Rattle.awk_axis.specs.Lift.{lifted_type, lifted_types, lifted_value, lifted_values}
-use Rattle.awk_axis.specs.Lift.{refusal_at}
+use Rattle.awk_axis.specs.Lift.{lifted_type, lifted_types, lifted_value, lifted_values, refusal_at}
+use Rattle.awk_types.proofs.NullLaws.{in_option-simple}
 use Rattle.awk_axis.specs.Lifting.{first_told, lift, on_one, on_whole}
 use Rattle.awk_axis.specs.ListFunction.{Giving, ListFunction, singles, made_type, given_type}
 use Rattle.awk_axis.specs.ListFunction.{given_value}
@@ -31,8 +29,6 @@ use Rattle.awk_columns.specs.Columns.{list_items}
 use Rattle.awk_columns.specs.ListClass.{Class, list_type}
 use Rattle.awk_columns.proofs.ListNodes.{simple_value-list}
 use Rattle.awk_pair_operands.specs.Typed.{IsTyped}
-use Rattle.awk_view.proofs.SettleLaws.{in_option-simple}
-use Rattle.awk_law_chains.specs.Innermost.{datum_type}
 use Rattle.awk_laws.specs.Axes.{TypedList, typed_list, lists_at, lists_in_parts, lists_of}
 use Rattle.awk_laws.specs.Axes.{lists_in_alternative, alternative_of}
 use Rattle.awk_laws.specs.InPlace.{datum_value, side_by_side, value_in_place, parts_in_place}

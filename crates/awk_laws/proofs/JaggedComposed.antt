@@ -1,26 +1,24 @@
 -- Indexes of indexes, row by row, and what they pick.
-use Rattle.std.specs.Prelude.{◌≡◌, ℕ, suc, ◌||◌, Bool, true, false, List, length}
-use Rattle.std.specs.Prelude.{Option, Some, None, refl}
+use Rattle.std.specs.Prelude.{◌≡◌, ℕ, suc, ◌||◌, Bool, true, false, List, length, Option, Some}
+use Rattle.std.specs.Prelude.{None, refl}
 use Rattle.std.proofs.Common.{ap, ap₂, sym, ◌∙◌, subst}
 use Rattle.awk_base.proofs.Numbers.{suc-same}
 use Rattle.awk_types.specs.DataType.{DataType, unknown, leaf, var, reg, rec, tup, opt, uni}
 use Rattle.awk_types.specs.Gives.{◌or◌}
 use Rattle.awk_types.specs.ItemLimit.{too_many}
+use Rattle.awk_types.specs.Parts.{list_depth}
 use Rattle.awk_types.specs.Predicates.{is_leaf}
 use Rattle.awk_types.specs.Simple.{IsSimple, option_if, simple}
 use Rattle.awk_types.specs.Value.{Value}
 use Rattle.awk_types.specs.declared.primitive.Primitive.{Primitive}
-use Rattle.awk_types.specs.declared.primitive.Primitive.TheVariants.{Bool as Truths}
-use Rattle.awk_types.specs.declared.primitive.Primitive.TheVariants.{I8, I16, I32, I64, U8, U16}
-use Rattle.awk_types.specs.declared.primitive.Primitive.TheVariants.{U32}
-use Rattle.awk_types.specs.declared.primitive.Primitive.TheVariants.{U64}
+use Rattle.awk_types.specs.declared.primitive.Primitive.TheVariants.{Bool as Truths, I8, I16, I32}
+use Rattle.awk_types.specs.declared.primitive.Primitive.TheVariants.{I64, U8, U16, U32, U64}
 use Rattle.awk_columns.specs.Columns.{joined_items}
 use Rattle.awk_columns.specs.ListClass.{Class, list_type}
-use Rattle.awk_jagged.specs.Jagged.{is_jagged, pick_type, picked_items}
-use Rattle.awk_jagged.specs.Jagged.{rows_by, size_refused}
+use Rattle.awk_jagged.specs.Jagged.{is_jagged, pick_type, picked_items, rows_by, size_refused}
 use Rattle.awk_jagged_rows.specs.RowTypes.{rows_of}
 use Rattle.awk_select.specs.Picks.{is_truths}
-use Rattle.awk_law_chains.specs.Arrays.{list_depth, picks_by_place}
+use Rattle.awk_law_chains.specs.Arrays.{picks_by_place}
 use Rattle.awk_law_chains.proofs.JaggedRows.{jagged-lists, pick_type-inside, pick_type-lists}
 use Rattle.awk_law_chains.proofs.JaggedRows.{picked_items-lists, rows_of-lists, simple-options}
 use Rattle.awk_law_chains.proofs.JaggedRows.{size-lists}

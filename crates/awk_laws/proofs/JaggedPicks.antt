@@ -1,12 +1,13 @@
 -- Picks row by row, one after another.
 use Rattle.std.specs.Prelude.{◌≡◌, Bool, true, false, List, Option, Some, None, Result, Ok, Err}
-use Rattle.std.specs.Prelude.{refl}
-use Rattle.std.specs.Prelude.{if◌then◌else◌}
+use Rattle.std.specs.Prelude.{refl, if◌then◌else◌}
 use Rattle.std.proofs.Common.{ap, ap₂, sym, ◌∙◌}
 use Rattle.std.proofs.lemmas.Option.{same_Some}
 use Rattle.awk_types.specs.DataType.{DataType}
 use Rattle.awk_types.specs.Datum.{Datum, arr}
+use Rattle.awk_types.specs.Faults.{limit_refused}
 use Rattle.awk_types.specs.Gives.{refused_or, ◌or◌}
+use Rattle.awk_types.specs.Parts.{list_depth}
 use Rattle.awk_types.specs.Simple.{IsSimple, simple}
 use Rattle.awk_types.specs.Value.{Value}
 use Rattle.awk_types.specs.declared.fault.Fault.{Fault}
@@ -14,8 +15,7 @@ use Rattle.awk_types.specs.declared.fault.Fault.TheVariants.{Index, Lengths, Wro
 use Rattle.awk_types.proofs.RefusalLaws.{refused_or-Ok, or-both}
 use Rattle.awk_jagged.specs.Jagged.{are_uneven, fault_if, is_jagged, jagged_of, lacks_places}
 use Rattle.awk_jagged.specs.Jagged.{pick_type, picked_as, picked_items, size_refused}
-use Rattle.awk_select.specs.Picks.{limit_refused}
-use Rattle.awk_law_chains.specs.Arrays.{list_depth, picks_by_place}
+use Rattle.awk_law_chains.specs.Arrays.{picks_by_place}
 use Rattle.awk_laws.proofs.JaggedComposed.{composes}
 use Rattle.awk_laws.proofs.JaggedTwice.{Fits}
 

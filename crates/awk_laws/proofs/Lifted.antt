@@ -16,13 +16,13 @@ use Rattle.awk_types.specs.Value.{values_from}
 use Rattle.awk_types.proofs.SimpleLaws.{present_stays, plain_are_simple, union_of_stays}
 use Rattle.awk_types.proofs.SimpleLaws.{simple_is_simple, present_alternatives_stay}
 use Rattle.awk_types.proofs.Trees.{type_list-from, value_list-from}
-use Rattle.awk_view.proofs.SettleLaws.{in_option-simple}
+use Rattle.awk_types.proofs.NullLaws.{in_option-simple}
 use Rattle.awk_axis.specs.Lift.{nested, lifted_type, lifted_types, lifted_value, lifted_values}
 use Rattle.awk_axis.specs.ListFunction.{Giving, lists}
 use Rattle.awk_axis.specs.declared.place.Reach.TheVariants.{Axis}
 use Rattle.awk_columns.specs.ListClass.{Class, list_type}
 use Rattle.awk_columns.proofs.ListNodes.{simple-list, simple_value-list}
-use Rattle.awk_cartesian.proofs.OpeningLaws.{lists_no_option}
+use Rattle.awk_columns.proofs.ListTypes.{list_no_option}
 
 -- ---- values, by one function after another
 
@@ -59,7 +59,7 @@ list_no_union (Some n) t = refl
 
 nested_no_option : (m : ℕ) (c : Class) (t : DataType)
     → is_option (nested m (list_type c t)) ≡ false
-nested_no_option zero c t = lists_no_option c t
+nested_no_option zero c t = list_no_option c t
 nested_no_option (suc m) c t = refl
 
 nested_no_union : (m : ℕ) (c : Class) (t : DataType)
@@ -69,8 +69,8 @@ nested_no_union (suc m) c t = refl
 
 no_option_if : (b : Bool) (c d : Class) (t u : DataType)
     → is_option (if b then list_type c t else list_type d u) ≡ false
-no_option_if true c d t u = lists_no_option c t
-no_option_if false c d t u = lists_no_option d u
+no_option_if true c d t u = list_no_option c t
+no_option_if false c d t u = list_no_option d u
 
 no_union_if : (b : Bool) (c d : Class) (t u : DataType)
     → is_union (if b then list_type c t else list_type d u) ≡ false

@@ -1,15 +1,16 @@
 -- Lists that are picked row by row by their own places, at each axis.
-use Rattle.std.specs.Prelude.{◌≡◌, ℕ, suc, ◌≤◌, Bool, true, false, List, [], ◌∷◌, length, map}
-use Rattle.std.specs.Prelude.{sum, pos, Option, None, option_map, Ok, refl, if◌then◌else◌}
+use Rattle.std.specs.Prelude.{◌≡◌, ℕ, suc, ◌≤◌, Bool, true, false, List, [], ◌∷◌, length, map, sum}
+use Rattle.std.specs.Prelude.{pos, Option, None, option_map, Ok, refl, if◌then◌else◌}
 use Rattle.std.proofs.Common.{ap, ap₂, sym, ◌∙◌, subst}
 use Rattle.std.proofs.lemmas.List.FromFn.{length-map-range_with_len}
 use Rattle.awk_base.proofs.Truths.{or_later}
 use Rattle.awk_types.specs.DataType.{DataType, unknown, leaf, var, reg, rec, tup, opt, uni}
 use Rattle.awk_types.specs.Datum.{Datum, arr}
-use Rattle.awk_types.specs.Faults.{limit_fault}
+use Rattle.awk_types.specs.Faults.{limit_fault, limit_refused}
 use Rattle.awk_types.specs.Gives.{refused_or, ◌or◌}
 use Rattle.awk_types.specs.ItemLimit.{item_limit}
 use Rattle.awk_types.specs.Limit.{limit}
+use Rattle.awk_types.specs.Parts.{list_depth}
 use Rattle.awk_types.specs.Simple.{IsSimple, simple, simple_value, in_list}
 use Rattle.awk_types.specs.Value.{Value, int, truth, null, list, row, alt}
 use Rattle.awk_types.proofs.RefusalLaws.{refused_or-Ok, or-both}
@@ -27,9 +28,8 @@ use Rattle.awk_axis.specs.declared.place.Reach.{Reach}
 use Rattle.awk_axis.specs.declared.place.Reach.TheVariants.{Axis}
 use Rattle.awk_jagged.specs.Jagged.{jagged_of, pick_type}
 use Rattle.awk_lists.specs.LocalIndex.{local_index_of, local_index_function}
-use Rattle.awk_select.specs.Picks.{limit_refused, picked, take_places}
-use Rattle.awk_law_chains.specs.Arrays.{AreItems, any_length_at, is_lists_to, list_depth}
-use Rattle.awk_law_chains.specs.Arrays.{picks_by_place}
+use Rattle.awk_select.specs.Picks.{picked, take_places}
+use Rattle.awk_law_chains.specs.Arrays.{AreItems, any_length_at, is_lists_to, picks_by_place}
 use Rattle.awk_law_chains.proofs.Chains.{in_list_stays}
 use Rattle.awk_laws.proofs.AnyRows.{jagged_alike, picks_alike}
 use Rattle.awk_laws.proofs.JaggedPicks.{jagged_given, jagged_twice}

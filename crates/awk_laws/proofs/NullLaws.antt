@@ -1,7 +1,7 @@
 -- The laws of operations on nulls.
-use Rattle.std.specs.Prelude.{◌≡◌, ℕ, zero, suc, ◌≤◌, Bool, true, false, not, List, [], ◌∷◌}
-use Rattle.std.specs.Prelude.{length, map, pos, Option, Some, None, Result, Ok, Err, refl}
-use Rattle.std.specs.Prelude.{option_map, if◌then◌else◌, sum}
+use Rattle.std.specs.Prelude.{◌≡◌, ℕ, zero, suc, ◌≤◌, Bool, true, false, not, List, [], ◌∷◌, length}
+use Rattle.std.specs.Prelude.{map, pos, Option, Some, None, Result, Ok, Err, refl, option_map}
+use Rattle.std.specs.Prelude.{if◌then◌else◌, sum}
 use Rattle.std.specs.List.{AllByRecursion}
 use Rattle.std.proofs.Common.{arith, ap, ap₂, sym, ◌∙◌, subst}
 use Rattle.std.proofs.lemmas.List.{length-map}
@@ -12,15 +12,16 @@ use Rattle.awk_types.specs.Has.{Has}
 use Rattle.awk_types.specs.IsType.{IsType}
 use Rattle.awk_types.specs.ItemLimit.{item_limit}
 use Rattle.awk_types.specs.Limit.{limit}
+use Rattle.awk_types.specs.Predicates.{is_null}
 use Rattle.awk_types.specs.Settle.{settle}
 use Rattle.awk_types.specs.Simple.{IsSimple, is_option, present, simple, simple_value, option_of}
 use Rattle.awk_types.specs.Simple.{in_option}
-use Rattle.awk_types.specs.Value.{Value, int, truth, null, list, row, alt, no_values}
-use Rattle.awk_types.specs.Value.{values_from}
+use Rattle.awk_types.specs.Value.{Value, int, truth, null, list, row, alt, no_values, values_from}
 use Rattle.awk_types.specs.Faults.{limit_fault}
 use Rattle.awk_types.specs.declared.fault.Fault.{Fault}
 use Rattle.awk_types.specs.declared.fault.Fault.TheVariants as fault
 use Rattle.awk_primitives.proofs.RangeLaws.{fits_holds}
+use Rattle.awk_primitives.specs.Fits.{fits, literal_primitive}
 use Rattle.awk_types.proofs.RefusalLaws.{refused_or-Ok, refused_or-None, or-both}
 use Rattle.awk_view.proofs.SettleLimits.{limit-settle}
 use Rattle.awk_types.proofs.SimpleLaws.{simple_stays, value_stays, each_stays, present_simple}
@@ -31,14 +32,12 @@ use Rattle.awk_axis.specs.Counted.{counted}
 use Rattle.awk_axis.specs.Lifting.{first_told, lift, refusal_fault, spoil_fault}
 use Rattle.awk_axis.specs.Spoils.{too_many}
 use Rattle.awk_columns.specs.Columns.{present_values, joined_items}
-use Rattle.awk_fill.specs.FillNone.{Filler, literal, datum, fill_none_of, fill_none_function}
-use Rattle.awk_fill.specs.FillNone.{filled}
-use Rattle.awk_fill.specs.FillNone.{filled_type, filler_refusal, is_filler, no_filler, filling}
-use Rattle.awk_fill.specs.FillNone.{filler_type, filler_value, fits, literal_primitive}
+use Rattle.awk_layout.specs.Filler.{Filler, literal, datum, is_filler, filler_value}
+use Rattle.awk_fill.specs.FillNone.{fill_none_of, fill_none_function, filled, filled_type}
+use Rattle.awk_fill.specs.FillNone.{filler_refusal, no_filler, filling, filler_type}
 use Rattle.awk_lists.specs.Flatten.{flatten_of}
 use Rattle.awk_nulls.specs.DropNone.{drop_none_of}
 use Rattle.awk_nulls.specs.Firsts.{first_or_null}
-use Rattle.awk_nulls.specs.IsNone.{is_null}
 use Rattle.awk_nulls.specs.PadNone.{pad_none_of, padded}
 use Rattle.awk_nulls.specs.Singletons.{singletons_of, single_list}
 use Rattle.awk_unify.specs.Carry.{Carry, keep, in_items, to_parts, to_alternatives, carried}
@@ -48,9 +47,9 @@ use Rattle.awk_laws.specs.Nulls.{lacks_first, is_zero, IsTypedFiller}
 use Rattle.awk_laws.proofs.AtAxes.{drop_of_pad, flatten_of_singles}
 use Rattle.awk_law_chains.proofs.Limits.{counted_few, counted-limit}
 use Rattle.awk_laws.proofs.Lists.{settled_values, flatten-lists}
-use Rattle.awk_laws.proofs.Present.{present-all, has_no_null, present_typed}
-use Rattle.awk_laws.proofs.Present.{length-present, present-padded, length-padded, padded_stay}
-use Rattle.awk_laws.proofs.Present.{joined-singles, singles_typed}
+use Rattle.awk_laws.proofs.Present.{present-all, has_no_null, present_typed, length-present}
+use Rattle.awk_laws.proofs.Present.{present-padded, length-padded, padded_stay, joined-singles}
+use Rattle.awk_laws.proofs.Present.{singles_typed}
 use Rattle.awk_laws.proofs.Told.{told_none, none_told}
 
 -- ---- drop_none of an array

@@ -10,7 +10,8 @@ use Rattle.awk_types.specs.Faults.{limit_fault}
 use Rattle.awk_types.specs.Gives.{◌or◌}
 use Rattle.awk_types.specs.Has.{Has, HasRow}
 use Rattle.awk_types.specs.Limit.{limit}
-use Rattle.awk_types.specs.Simple.{option_if, simple, simple_value, in_list}
+use Rattle.awk_types.specs.Parts.{item_of}
+use Rattle.awk_types.specs.Simple.{option_if, simple, simple_value, in_list, present}
 use Rattle.awk_types.specs.Value.{Value, Values, no_values, value, int, truth, null, list, row, alt}
 use Rattle.awk_types.specs.Value.{value_list}
 use Rattle.awk_types.specs.declared.fault.Fault.TheVariants.{NoField}
@@ -20,8 +21,7 @@ use Rattle.awk_frames.specs.Framed.{over, over_type}
 use Rattle.awk_lists.specs.WithoutField.{choice_of}
 use Rattle.awk_pair_operands.specs.Paired.{to_depth, types_at_ends, paired_type}
 use Rattle.awk_pair_operands.specs.Pairs.{datum_from}
-use Rattle.awk_pair_sides.specs.Levels.{opens, item_of, item_types, level_class, some_option}
-use Rattle.awk_types.specs.Simple.{present}
+use Rattle.awk_pair_sides.specs.Levels.{opens, item_types, level_class, some_option}
 use Rattle.awk_view.specs.Answer.{choice_fault}
 use Rattle.awk_view.specs.Choice.{Choice, has_field, absent, type_of_choice, value_of_choice}
 use Rattle.awk_view.specs.Choice.{chosen_type, chosen_value}

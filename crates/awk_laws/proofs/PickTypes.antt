@@ -1,18 +1,18 @@
 -- The types of what is picked, and which faults are told.
-use Rattle.std.specs.Prelude.{◌≡◌, ℕ, Bool, true, false, List, [], ◌∷◌, map, Option, Some}
-use Rattle.std.specs.Prelude.{None}
+use Rattle.std.specs.Prelude.{◌≡◌, ℕ, Bool, true, false, List, [], ◌∷◌, map, Option, Some, None}
 use Rattle.std.specs.Prelude.{refl, if◌then◌else◌}
 use Rattle.std.specs.List.{list_any}
 use Rattle.std.proofs.Common.{arith, ap, sym}
 use Rattle.awk_types.specs.DataType.{DataType, unknown, leaf, var, reg, rec, tup, opt, uni}
+use Rattle.awk_types.specs.Faults.{wrong_unless}
 use Rattle.awk_types.specs.Simple.{is_option, simple, simple_value}
 use Rattle.awk_types.specs.Value.{Value}
 use Rattle.awk_types.specs.declared.fault.Fault.{Fault}
 use Rattle.awk_types.specs.declared.fault.Fault.TheVariants.{Index}
 use Rattle.awk_types.specs.declared.primitive.Primitive.TheVariants.{I64}
 use Rattle.awk_types.proofs.SimpleLaws.{option_over}
-use Rattle.awk_select.specs.Picks.{picked_type, is_index, is_outside, type_refused}
-use Rattle.awk_select.specs.Picks.{lengths_refused, index_refused}
+use Rattle.awk_select.specs.Picks.{picked_type, is_index, is_outside, lengths_refused}
+use Rattle.awk_select.specs.Picks.{index_refused}
 
 -- numbers are simple
 pub kept_numbers : (vs : List Value) → map (simple_value (leaf I64)) vs ≡ vs
@@ -21,7 +21,7 @@ kept_numbers (v ∷ vs) = ap (λ ws. v ∷ ws) (kept_numbers vs)
 
 -- ---- refusals
 
-pub allowed : (b : Bool) → type_refused b ≡ None → b ≡ true
+pub allowed : (b : Bool) → wrong_unless b ≡ None → b ≡ true
 allowed true e = refl
 allowed false e = cc
 

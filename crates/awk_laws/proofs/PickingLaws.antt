@@ -7,7 +7,7 @@ use Rattle.std.proofs.lemmas.List.{length-map}
 use Rattle.std.proofs.lemmas.List.FromFn.{length-map-range_with_len}
 use Rattle.awk_types.specs.DataType.{DataType, leaf, var}
 use Rattle.awk_types.specs.Datum.{Datum, arr, one}
-use Rattle.awk_types.specs.Faults.{limit_fault}
+use Rattle.awk_types.specs.Faults.{limit_fault, wrong_unless, limit_refused}
 use Rattle.awk_types.specs.Gives.{refused_or, ◌or◌}
 use Rattle.awk_types.specs.ItemLimit.{item_limit, too_many}
 use Rattle.awk_types.specs.Limit.{limit}
@@ -18,23 +18,21 @@ use Rattle.awk_types.specs.declared.fault.Fault.{Fault}
 use Rattle.awk_types.specs.declared.primitive.Primitive.TheVariants.{I64}
 use Rattle.awk_types.proofs.RefusalLaws.{refused_or-Ok, refused_or-None, or-both, or-last}
 use Rattle.awk_types.proofs.Trees.{value_list-from}
+use Rattle.awk_types.proofs.ItemLimits.{within_limit, limit_kept}
 use Rattle.awk_layout.specs.Item.{at_option}
-use Rattle.awk_columns.proofs.ItemLimits.{within_limit}
 use Rattle.awk_axis.specs.Counted.{counted}
 use Rattle.awk_axis.specs.Lifting.{first_told}
 use Rattle.awk_lists.specs.LocalIndex.{local_index_of}
+use Rattle.awk_select.specs.Cells.{IsBelow}
 use Rattle.awk_select.specs.Picks.{mask_of, take_of, take_refused, mask_refused, picked}
-use Rattle.awk_select.specs.Picks.{picked_type}
-use Rattle.awk_select.specs.Picks.{take_places, mask_places, type_refused, limit_refused}
-use Rattle.awk_select.specs.Picks.{lengths_refused, index_refused, is_index, is_mask}
+use Rattle.awk_select.specs.Picks.{picked_type, take_places, mask_places, lengths_refused}
+use Rattle.awk_select.specs.Picks.{index_refused, is_index, is_mask}
 use Rattle.awk_laws.specs.Picking.{PickingLaws}
 use Rattle.awk_laws.proofs.JaggedPicks.{jagged_twice}
-use Rattle.awk_law_chains.proofs.Limits.{few-limit, counted-limit}
-use Rattle.awk_law_chains.proofs.Places.{all_places, take_places-all, none_outside}
-use Rattle.awk_law_chains.proofs.Places.{picked-all, mask_places_below, take_places-picked}
-use Rattle.awk_law_chains.proofs.Places.{picked_inside, picked-taken, picked-map_taken}
-use Rattle.awk_law_chains.proofs.Places.{inside_picked}
-use Rattle.awk_law_chains.proofs.Places.{taken_item, IsBelow}
+use Rattle.awk_law_chains.proofs.Limits.{counted-limit}
+use Rattle.awk_law_chains.proofs.Places.{all_places, take_places-all, none_outside, picked-all}
+use Rattle.awk_law_chains.proofs.Places.{mask_places_below, take_places-picked, picked_inside}
+use Rattle.awk_law_chains.proofs.Places.{picked-taken, picked-map_taken, inside_picked, taken_item}
 use Rattle.awk_laws.proofs.PickTypes.{allowed, inside, not_outside, same_length, places_index}
 use Rattle.awk_laws.proofs.PickTypes.{kept_numbers, picked_type-places, picked_index}
 use Rattle.awk_laws.proofs.PickTypes.{picked_type-picked}
@@ -112,7 +110,7 @@ is_masked : (t : DataType) (vs : List Value) (u : DataType) (ms : List Value) (d
 is_masked t vs u ms d e =
     let r = refused_or-Ok (mask_refused t vs u ms)
     (arr (picked_type u t) (picked vs (mask_places ms))) d e in
-    let a = or-both (type_refused (is_mask u))
+    let a = or-both (wrong_unless (is_mask u))
     (limit_refused (picked_type u t)
     or (lengths_refused (length vs) (length ms) or too_many (length (mask_places ms)))) r.0 in
     let b = or-both (limit_refused (picked_type u t))
@@ -122,7 +120,7 @@ is_masked t vs u ms d e =
     record {
       mask = allowed (is_mask u) a.0;
       size = same_length (length vs) (length ms) c.0;
-      few = few-limit (length (mask_places ms)) c.1;
+      few = limit_kept (length (mask_places ms)) c.1;
       is = r.1;
     }
 
@@ -138,7 +136,7 @@ is_taken : (t : DataType) (vs : List Value) (u : DataType) (ws : List Value) (d 
 is_taken t vs u ws d e =
     let r = refused_or-Ok (take_refused t vs u ws)
     (arr (picked_type u t) (picked vs (take_places (length vs) ws))) d e in
-    let a = or-both (type_refused (is_index u))
+    let a = or-both (wrong_unless (is_index u))
     (limit_refused (picked_type u t) or (index_refused (length vs) ws or too_many (length ws)))
     r.0 in
     let b = or-both (limit_refused (picked_type u t))
@@ -166,13 +164,13 @@ by_places t vs u ms index places e f =
     let count : length ws ≡ length os = length-map os (λ o. at_option o (λ k. get_or is k null)) in
     let v = picked_type u (leaf I64) in
     let left : take_refused t vs v ws ≡ limit_refused (picked_type v t) =
-    limit_alone (type_refused (is_index v)) (limit_refused (picked_type v t)) (index_refused n ws)
-    (too_many (length ws)) (ap type_refused (places_index u))
+    limit_alone (wrong_unless (is_index v)) (limit_refused (picked_type v t)) (index_refused n ws)
+    (too_many (length ws)) (ap wrong_unless (places_index u))
     (not_outside n ws (picked_inside n os below))
     (within_limit (length ws) (omega (arith, count, m.few))) in
     let right : mask_refused t vs u ms ≡ limit_refused (picked_type u t) =
-    limit_alone (type_refused (is_mask u)) (limit_refused (picked_type u t))
-    (lengths_refused n (length ms)) (too_many (length os)) (ap type_refused m.mask)
+    limit_alone (wrong_unless (is_mask u)) (limit_refused (picked_type u t))
+    (lengths_refused n (length ms)) (too_many (length os)) (ap wrong_unless m.mask)
     (equal_lengths n (length ms) long) (within_limit (length os) m.few) in
     let type : picked_type v t ≡ picked_type u t = picked_type-places u t in
     ap (take_of (arr t vs)) (sym m.is)
@@ -209,12 +207,12 @@ by_index t vs u is w js y index e f =
     let count : length ks ≡ length js =
     ap length (picked-taken is js) ∙ length-map js (taken_item is) in
     let left : take_refused v ys w js ≡ limit_refused (picked_type w v) =
-    limit_alone (type_refused (is_index w)) (limit_refused (picked_type w v))
-    (index_refused (length ys) js) (too_many (length js)) (ap type_refused b.index)
+    limit_alone (wrong_unless (is_index w)) (limit_refused (picked_type w v))
+    (index_refused (length ys) js) (too_many (length js)) (ap wrong_unless b.index)
     (ap (λ (m : ℕ). index_refused m js) size ∙ b.within) b.few in
     let right : take_refused t vs k ks ≡ limit_refused (picked_type k t) =
-    limit_alone (type_refused (is_index k)) (limit_refused (picked_type k t)) (index_refused n ks)
-    (too_many (length ks)) (ap type_refused (picked_index w u a.index))
+    limit_alone (wrong_unless (is_index k)) (limit_refused (picked_type k t)) (index_refused n ks)
+    (too_many (length ks)) (ap wrong_unless (picked_index w u a.index))
     (not_outside n ks (inside_picked n is (take_places (length is) js) (inside n is a.within)))
     (ap too_many count ∙ b.few) in
     let type : picked_type w v ≡ picked_type k t = picked_type-picked t u w in

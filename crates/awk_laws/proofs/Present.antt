@@ -8,11 +8,11 @@ use Rattle.std.proofs.lemmas.List.FromFn.{fill_by_all, filter_of_map_range_with_
 use Rattle.std.proofs.lemmas.List.FromFn.{length-map-range_with_len}
 use Rattle.awk_types.specs.DataType.{DataType, unknown, leaf, var, reg, rec, tup, opt, uni}
 use Rattle.awk_types.specs.Has.{Has}
+use Rattle.awk_types.specs.Predicates.{is_null}
 use Rattle.awk_types.specs.Simple.{IsSimple, is_option, present, simple_value, in_option}
 use Rattle.awk_types.specs.Value.{Value, int, truth, null, list, row, alt}
 use Rattle.awk_types.proofs.SimpleLaws.{value_stays, in_option_stays, null_in_option}
 use Rattle.awk_columns.specs.Columns.{is_present, present_values, joined_items}
-use Rattle.awk_nulls.specs.IsNone.{is_null}
 use Rattle.awk_nulls.specs.PadNone.{padded, padded_length}
 use Rattle.awk_nulls.specs.Singletons.{single_list}
 

@@ -4,9 +4,9 @@ use Rattle.std.specs.Prelude.{refl, if◌then◌else◌}
 use Rattle.std.proofs.Common.{arith, ap, ap₂, ◌∙◌}
 use Rattle.awk_base.proofs.Truths.{or_first, or_second}
 use Rattle.awk_types.specs.DataType.{Name}
-use Rattle.awk_types.specs.Names.{same_name, is_among}
+use Rattle.awk_types.specs.Names.{same_name, is_among, place_of}
 use Rattle.awk_types.proofs.NameLaws.{same_name-refl}
-use Rattle.awk_view.specs.Choice.{place_of, apart_from}
+use Rattle.awk_view.specs.Choice.{apart_from}
 use Rattle.awk_put_field.specs.Field.{put, named}
 
 -- ---- the name is there

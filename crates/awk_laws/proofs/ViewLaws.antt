@@ -1,28 +1,27 @@
 -- The laws of ranges and of fields.
-use Rattle.std.specs.Prelude.{◌≡◌, ℕ, ◌+◌, ◌-◌, ◌<◌, ◌≤◌, ◌==◌, ◌&&◌, ◌||◌, not, Bool}
-use Rattle.std.specs.Prelude.{true, false}
+use Rattle.std.specs.Prelude.{◌≡◌, ℕ, ◌+◌, ◌-◌, ◌<◌, ◌≤◌, ◌==◌, ◌&&◌, ◌||◌, not, Bool, true, false}
 use Rattle.std.specs.Prelude.{ℤ, pos, negsuc, List, [], ◌∷◌, length, map, take, drop, get_or}
-use Rattle.std.specs.Prelude.{Option, Some, None, option_map, Ok, refl}
-use Rattle.std.specs.Prelude.{if◌then◌else◌}
+use Rattle.std.specs.Prelude.{Option, Some, None, option_map, Ok, refl, if◌then◌else◌}
 use Rattle.std.specs.List.{AllByRecursion, range_with_len}
-use Rattle.std.proofs.Common.{arith, ap, ap₂, sym, subst, ◌∙◌}
-use Rattle.std.proofs.Common.{length-take, length-drop}
+use Rattle.std.proofs.Common.{arith, ap, ap₂, sym, subst, ◌∙◌, length-take, length-drop}
 use Rattle.std.proofs.lemmas.List.FromFn.{fill_by_all}
 use Rattle.std.proofs.lemmas.Simd.{map-map}
 use Rattle.awk_base.proofs.Truths.{eq_is}
 use Rattle.awk_base.proofs.Ranges.{map-in}
+use Rattle.awk_base.proofs.Every.{all-at}
 use Rattle.awk_types.specs.DataType.{Name, DataType, DataTypes, unknown, leaf, var, reg, rec, tup}
-use Rattle.awk_types.specs.DataType.{opt, uni}
-use Rattle.awk_types.specs.DataType.{type_list, types_from}
-use Rattle.awk_types.specs.Datum.{Datum, arr, one}
-use Rattle.awk_types.specs.Faults.{limit_fault}
+use Rattle.awk_types.specs.DataType.{opt, uni, type_list, types_from}
+use Rattle.awk_types.specs.Datum.{Datum, arr, one, datum_type}
+use Rattle.awk_types.specs.Faults.{limit_fault, limit_refused}
 use Rattle.awk_types.specs.Gives.{◌or◌}
 use Rattle.awk_types.specs.Has.{Has}
 use Rattle.awk_types.specs.IsType.{IsType}
 use Rattle.awk_types.specs.Limit.{limit}
 use Rattle.awk_types.specs.Names.{is_among}
-use Rattle.awk_types.specs.Simple.{IsSimple, simple, simple_value}
-use Rattle.awk_types.specs.Value.{Value, int, truth, null, list, row, alt, values_from}
+use Rattle.awk_types.specs.Parts.{names_of_fields}
+use Rattle.awk_types.specs.Simple.{IsSimple, simple, simple_value, is_option, option_if, present}
+use Rattle.awk_types.specs.Value.{Value, int, truth, null, list, row, alt, values_from, no_values}
+use Rattle.awk_types.specs.Value.{value}
 use Rattle.awk_types.specs.declared.fault.Fault.{Fault}
 use Rattle.awk_types.specs.declared.fault.Fault.TheVariants.{NoField, WrongType, Lengths}
 use Rattle.awk_types.proofs.RefusalLaws.{refused_or-Ok, refused_or-None, or-both}
@@ -30,35 +29,27 @@ use Rattle.awk_types.proofs.SimpleLaws.{simple_stays, value_stays}
 use Rattle.awk_lists.specs.WithoutField.{choice_of, without_field_of}
 use Rattle.awk_pair_operands.specs.Pairs.{pair_refused, pair_type, pair_values, are_uneven}
 use Rattle.awk_pair_operands.specs.Pairs.{lengths_refused, type_refused, typs, first_rows}
-use Rattle.awk_pair_operands.specs.Paired.{any_uneven}
-use Rattle.awk_pair_operands.specs.Pairs.{item_type, datum_side, below, datum_from, some_array}
+use Rattle.awk_pair_operands.specs.Pairs.{datum_side, below, datum_from, some_array, single_value}
+use Rattle.awk_pair_operands.specs.Paired.{any_uneven, paired_value, to_depth}
 use Rattle.awk_frames.specs.Sizes.{sizes_refused}
-use Rattle.awk_pair_sides.specs.Sides.{side_at}
+use Rattle.awk_pair_sides.specs.Sides.{side_at, rows_of}
 use Rattle.awk_select.specs.Picks.{step_range_of, items_at}
 use Rattle.awk_select.specs.Places.{range_places}
 use Rattle.awk_view.specs.Answer.{choice_fault}
-use Rattle.awk_view.specs.Choice.{field, without, chosen_type}
-use Rattle.awk_view.specs.Choice.{chosen_value}
-use Rattle.awk_put_field.specs.Field.{put, named, field_value, end_value}
+use Rattle.awk_view.specs.Choice.{field, without, chosen_type, chosen_value, Choice, absent}
+use Rattle.awk_view.specs.Choice.{has_field, type_of_choice, value_of_choice}
+use Rattle.awk_put_field.specs.Field.{put, named, field_value, end_value, field_type}
 use Rattle.awk_with_field.specs.WithField.{with_field_of, with_refused, with_type, with_values}
 use Rattle.awk_with_field.specs.WithField.{both, beside as beside_records, end_of, levels_of}
-use Rattle.awk_put_field.specs.Field.{field_type, names_in}
+use Rattle.awk_with_field.specs.WithField.{is_wrong}
 use Rattle.awk_frames.specs.Framed.{over, over_type}
 use Rattle.awk_columns.specs.Columns.{part_at}
-use Rattle.awk_pair_operands.specs.Paired.{paired_value, to_depth}
-use Rattle.awk_pair_operands.specs.Pairs.{single_value}
 use Rattle.awk_pair_operands.specs.Typed.{IsTyped}
 use Rattle.awk_pair_operands.proofs.TypedLaws.{typed_pairs}
-use Rattle.awk_pair_sides.specs.Sides.{rows_of}
-use Rattle.awk_types.specs.Simple.{is_option, option_if, present}
-use Rattle.awk_types.specs.Value.{no_values, value}
-use Rattle.awk_view.specs.Choice.{Choice, absent, has_field, type_of_choice, value_of_choice}
-use Rattle.awk_view.proofs.SettleLaws.{in_option-simple}
-use Rattle.awk_with_field.specs.WithField.{is_wrong}
-use Rattle.awk_pair_types.specs.Limits.{limit_refused}
+use Rattle.awk_types.proofs.NullLaws.{in_option-simple}
 use Rattle.awk_law_chains.specs.Arrays.{AreItems}
 use Rattle.awk_laws.specs.Viewing.{ViewLaws, start, stop, part_type, paired_part, part_beside}
-use Rattle.awk_laws.proofs.Fields.{field_type-with, field-raw, type_without, without-raw, has_at}
+use Rattle.awk_laws.proofs.Fields.{field_type-with, field-raw, type_without, without-raw}
 use Rattle.awk_laws.proofs.PutNames.{among-named}
 use Rattle.awk_laws.proofs.PairedFields.{IsPaired, paired, record_with, chosen-over}
 use Rattle.awk_laws.proofs.Slices.{range-cut, range-places, cut-cut}
@@ -135,7 +126,7 @@ module _ (n : Name) (ns : List Name) (ts : DataTypes) (rs : List Value) (v : Dat
 
   -- the type and the items of the records with the field
   abbrev whole_type : DataType
-  whole_type = rec (named n ns) (types_from (put n ns (item_type v) (type_list ts)))
+  whole_type = rec (named n ns) (types_from (put n ns (datum_type v) (type_list ts)))
 
   abbrev whole_item : ℕ → Value
   whole_item k = field_value n ns (get_or rs k null) (row_side v k)
@@ -201,13 +192,13 @@ equal_lengths n ns ts rs u ws whole e =
 -- ---- the field
 
 field-of : (n : Name) (ns : List Name) (ts : DataTypes) (rs : List Value) (v : Datum)
-    → IsType (rec ns ts) → AllByRecursion (Has (rec ns ts)) rs → IsSimple (item_type v)
-    → limit (item_type v) ≡ None
-    → ((k : ℕ) → k < length rs → Has (item_type v) (row_side v k))
+    → IsType (rec ns ts) → AllByRecursion (Has (rec ns ts)) rs → IsSimple (datum_type v)
+    → limit (datum_type v) ≡ None
+    → ((k : ℕ) → k < length rs → Has (datum_type v) (row_side v k))
     → choice_of (field n) (arr (whole_type n ns ts rs v) (whole_items n ns ts rs v))
-    ≡ Ok (arr (item_type v) (map (row_side v) (range_with_len 0 (length rs))))
+    ≡ Ok (arr (datum_type v) (map (row_side v) (range_with_len 0 (length rs))))
 field-of n ns ts rs v h k s l p =
-    let u = item_type v in
+    let u = datum_type v in
     let t = whole_type n ns ts rs v in
     let vs = whole_items n ns ts rs v in
     let type : chosen_type (field n) t ≡ u =
@@ -223,7 +214,7 @@ field-of n ns ts rs v h k s l p =
     ∙ map-in (λ i. chosen_value (field n) t (whole_item n ns ts rs v i)) (row_side v) 0
     (length rs)
     (λ i q. let r : i < length rs = omega (arith, q) in
-    field-raw n ns ts u (get_or rs i null) (row_side v i) h (has_at (rec ns ts) rs i k r)
+    field-raw n ns ts u (get_or rs i null) (row_side v i) h (all-at (Has (rec ns ts)) rs i null k r)
     ∙ value_stays u (row_side v i) s (p i r))))
 
 field_of_with_field : (n : Name) (ns : List Name) (ts : DataTypes) (rs : List Value)
@@ -235,7 +226,7 @@ field_of_with_field n ns ts rs u ws whole h k w l e =
     let size = equal_lengths n ns ts rs u ws whole e in
     ap (choice_of (field n)) (with-is n ns ts rs (arr u ws) whole e)
     ∙ field-of n ns ts rs (arr u ws) h k.items w.simple l
-    (λ i q. has_at u ws i w.items (omega (arith, q, size)))
+    (λ i q. all-at (Has u) ws i null w.items (omega (arith, q, size)))
     ∙ ap (λ xs. Ok (arr u xs))
     (sym (fill_by_all (λ i. get_or ws i null) ws (length rs) null (sym size) (λ i q. refl)))
 
@@ -261,7 +252,7 @@ without_field_of_with_field : (n : Name) (ns : List Name) (ts : DataTypes) (rs :
     → is_among n ns ≡ false → with_field_of n (arr (rec ns ts) rs) v ≡ Ok whole
     → without_field_of n whole ≡ Ok (arr (rec ns ts) rs)
 without_field_of_with_field n ns ts rs v whole h k l f e =
-    let u = item_type v in
+    let u = datum_type v in
     let t = whole_type n ns ts rs v in
     let vs = whole_items n ns ts rs v in
     let type : chosen_type (without n) t ≡ rec ns ts =
@@ -276,7 +267,7 @@ without_field_of_with_field n ns ts rs v whole h k l f e =
     (map-map (chosen_value (without n) t) (whole_item n ns ts rs v) (range_with_len 0 (length rs))
     ∙ map-in (λ i. chosen_value (without n) t (whole_item n ns ts rs v i))
     (λ i. get_or rs i null) 0 (length rs)
-    (λ i q. let typed = has_at (rec ns ts) rs i k.items (omega (arith, q)) in
+    (λ i q. let typed = all-at (Has (rec ns ts)) rs i null k.items (omega (arith, q)) in
     without-raw n ns ts u (get_or rs i null) (row_side v i) h f typed
     ∙ value_stays (rec ns ts) (get_or rs i null) k.simple typed)
     ∙ sym (fill_by_all (λ i. get_or rs i null) rs (length rs) null refl (λ i q. refl))))
@@ -344,11 +335,6 @@ typed_with : (o : Bool) (n : Name) (ns : List Name) (ts : DataTypes) (y : DataTy
 typed_with true n ns ts y = refl
 typed_with false n ns ts y = refl
 
-names_with : (o : Bool) (ns : List Name) (ts : DataTypes)
-    → names_in (present (option_if o (rec ns ts))) ≡ ns
-names_with true ns ts = refl
-names_with false ns ts = refl
-
 types_if : (o : Bool) (c : Choice) (w u : DataType) → type_of_choice c w ≡ u
     → simple (type_of_choice c (option_if o w)) ≡ simple (option_if o u)
 types_if true c w u e = ap (λ t. simple (opt t)) e
@@ -414,10 +400,10 @@ part-of n ns ts e v whole c j u f typed l h looks same types values =
     (map (over t (end_value n ns)) vs) =
     sym r.1
     ∙ ap₂ (λ z ms. datum_from (some_array ds) (over_type t z) (map (over t (end_value n ms)) vs))
-    (ap (λ z. field_type n z y) record_is ∙ typed_with o n ns ts y) (ap names_in f) in
+    (ap (λ z. field_type n z y) record_is ∙ typed_with o n ns ts y) (ap names_of_fields f) in
     let pairs : IsPaired (option_if o (rec ns ts)) y t =
     subst (λ z. IsPaired z y t) record_is
-    (paired (below (Some d) ds) (item_type e) (item_type (beside_records e v))) in
+    (paired (below (Some d) ds) (datum_type e) (datum_type (beside_records e v))) in
     ap (choice_of c) is
     ∙ chosen-over n c (option_if o (rec ns ts)) y (with_it o n ns ts y)
     (option_if o (end_of j d ds)) (end_value n ns) (part_beside j) (has_it o n ns ts y)

@@ -7,7 +7,8 @@ use Rattle.awk_types.specs.Value.{Value, int, truth, null, list, row, alt, value
 use Rattle.awk_types.specs.declared.fault.Fault.{Fault}
 use Rattle.awk_types.specs.declared.fault.Fault.TheVariants.{WrongType}
 use Rattle.awk_types.specs.declared.primitive.Primitive.TheVariants.{Bool as Truths, I64}
-use Rattle.awk_fill.specs.FillNone.{literal, fill_none_of}
+use Rattle.awk_layout.specs.Filler.{literal}
+use Rattle.awk_fill.specs.FillNone.{fill_none_of}
 use Rattle.awk_lists.specs.Flatten.{flatten_of}
 use Rattle.awk_lists.specs.LocalIndex.{local_index_of}
 use Rattle.awk_lists.specs.Num.{num_of}

@@ -2,7 +2,7 @@
 use Rattle.std.specs.Prelude.{◌≡◌, ℕ, ◌+◌, List, [], ◌∷◌, ◌++◌, length, map, sum_by, pos}
 use Rattle.std.specs.Prelude.{Some, None, Result, Ok}
 use Rattle.awk_types.specs.DataType.{DataType}
-use Rattle.awk_types.specs.Datum.{Datum, arr, one}
+use Rattle.awk_types.specs.Datum.{Datum, arr, datum_type}
 use Rattle.awk_types.specs.Limit.{limit}
 use Rattle.awk_types.specs.Value.{Value}
 use Rattle.awk_types.specs.declared.fault.Fault.{Fault}
@@ -13,17 +13,13 @@ use Rattle.awk_unify.specs.Carry.{carried}
 use Rattle.awk_unify.specs.UnifyList.{UnificationList, unification_list}
 use Rattle.awk_law_chains.specs.Arrays.{AreFew}
 
-abbrev pub item_type : Datum → DataType
-item_type (arr t vs) = t
-item_type (one t v) = t
-
 -- how many items parts have together
 abbrev pub items_in : List Datum → ℕ
 items_in ds = sum_by (λ d. length (operand_items d)) ds
 
 -- what the types of the parts unify to, and how the items of each are carried
 abbrev pub unified : List Datum → UnificationList
-unified ds = unification_list (map item_type ds)
+unified ds = unification_list (map datum_type ds)
 
 -- the items of the part behind so many others
 abbrev pub carried_items : List Datum → ℕ → Datum → List Value

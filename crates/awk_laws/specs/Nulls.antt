@@ -3,25 +3,25 @@ use Rattle.std.specs.Prelude.{◌≡◌, ℕ, zero, suc, ◌≤◌, Bool, true, 
 use Rattle.std.specs.Prelude.{ℤ, Ok}
 use Rattle.std.specs.List.{AllByRecursion}
 use Rattle.awk_types.specs.DataType.{DataType}
-use Rattle.awk_types.specs.Datum.{Datum, arr, one}
+use Rattle.awk_types.specs.Datum.{Datum, arr, one, datum_type}
 use Rattle.awk_types.specs.Has.{Has}
 use Rattle.awk_types.specs.IsType.{IsType}
+use Rattle.awk_types.specs.Predicates.{is_null}
 use Rattle.awk_types.specs.Simple.{IsSimple, is_option}
 use Rattle.awk_types.specs.Value.{Value, int, null}
 use Rattle.awk_columns.specs.Columns.{list_items, lists_among}
-use Rattle.awk_fill.specs.FillNone.{Filler, literal, datum, fill_none_of}
+use Rattle.awk_layout.specs.Filler.{Filler, literal, datum}
+use Rattle.awk_fill.specs.FillNone.{fill_none_of}
 use Rattle.awk_lists.specs.Flatten.{flatten_of}
 use Rattle.awk_lists.specs.Num.{num_of}
 use Rattle.awk_nulls.specs.DropNone.{drop_none_of}
 use Rattle.awk_nulls.specs.Firsts.{firsts_of}
-use Rattle.awk_nulls.specs.IsNone.{is_null}
 use Rattle.awk_nulls.specs.PadNone.{pad_none_of}
 use Rattle.awk_nulls.specs.Singletons.{singletons_of}
 use Rattle.awk_pair_operands.specs.Typed.{IsTyped}
 use Rattle.awk_law_chains.specs.Arrays.{AreItems}
 use Rattle.awk_laws.specs.Axes.{TypedList, lists_of}
 use Rattle.awk_laws.specs.InPlace.{in_place}
-use Rattle.awk_law_chains.specs.Innermost.{datum_type}
 
 -- whether a list has no first item, or one that is null
 abbrev pub lacks_first : List Value → Bool

@@ -3,14 +3,14 @@ use Rattle.std.specs.Prelude.{◌≡◌, ℕ, suc, true, List, None, Ok, pos}
 use Rattle.awk_types.specs.DataType.{DataType}
 use Rattle.awk_types.specs.Datum.{Datum, arr}
 use Rattle.awk_types.specs.Limit.{limit}
+use Rattle.awk_types.specs.Parts.{list_depth}
 use Rattle.awk_types.specs.Simple.{IsSimple}
 use Rattle.awk_types.specs.Value.{Value}
 use Rattle.awk_axis.specs.declared.place.Reach.TheVariants.{Axis}
 use Rattle.awk_jagged.specs.Jagged.{jagged_of}
 use Rattle.awk_lists.specs.LocalIndex.{local_index_of}
 use Rattle.awk_select.specs.Picks.{mask_of, take_of}
-use Rattle.awk_law_chains.specs.Arrays.{AreItems, any_length_at, is_lists_to, list_depth}
-use Rattle.awk_law_chains.specs.Arrays.{picks_by_place}
+use Rattle.awk_law_chains.specs.Arrays.{AreItems, any_length_at, is_lists_to, picks_by_place}
 
 pub record PickingLaws : Type 0 where
   -- a pick by local_index is the array

@@ -3,7 +3,7 @@ use Rattle.std.specs.Prelude.{◌≡◌, ℕ, ◌+◌, ◌-◌, ◌*◌, ◌<◌
 use Rattle.std.specs.Prelude.{map, length, get_or, Ok}
 use Rattle.std.specs.List.{AllByRecursion, Contains}
 use Rattle.awk_types.specs.DataType.{DataType}
-use Rattle.awk_types.specs.Datum.{Datum, arr}
+use Rattle.awk_types.specs.Datum.{Datum, arr, datum_type}
 use Rattle.awk_types.specs.Simple.{IsSimple}
 use Rattle.awk_types.specs.Value.{Value, null}
 use Rattle.awk_columns.specs.Columns.{is_present, list_items}
@@ -16,7 +16,6 @@ use Rattle.awk_pair_operands.specs.Typed.{IsTyped}
 use Rattle.awk_laws.specs.Choices.{binomial, factorial, IsChoice, comes_before, AreInOrder}
 use Rattle.awk_laws.specs.Choices.{HasSlots, picked_tuple, tuples_of_list}
 use Rattle.awk_laws.specs.Axes.{lists_of}
-use Rattle.awk_law_chains.specs.Innermost.{datum_type}
 
 pub record TupleLaws : Type 0 where
   -- there are as many combinations of n items as choices of n of them

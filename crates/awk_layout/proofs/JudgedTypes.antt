@@ -1,13 +1,15 @@
 -- Types that pass no limit: their arrays are not refused, and they are as arrays have them.
-use Rattle.std.proofs.Common.{◌≡◌, sym, ◌∙◌, subst}
+use Rattle.std.proofs.Common.{◌≡◌, sym, ◌∙◌, subst, ap}
 use Rattle.std.specs.Prelude.{None, Err}
 use Rattle.awk_types.specs.DataType.{DataType}
 use Rattle.awk_types.specs.Limit.{Limit, limit}
 use Rattle.awk_types.proofs.RefusalLaws.{refused_or-Err}
 use Rattle.awk_types.proofs.SimpleLaws.{simple_is_simple}
 use Rattle.awk_types.proofs.TypeLaws.{simple_is_type}
+use Rattle.awk_types.proofs.PartLimits.{within_var}
+use Rattle.awk_lanes.specs.Column.{Column}
 use Rattle.awk_layout.specs.Array.{array_of, IsArrayType, IsTypeOf}
-use Rattle.awk_layout.specs.Layout.{Layout}
+use Rattle.awk_layout.specs.Layout.{Layout, offset_lists}
 use Rattle.awk_layout.specs.Typing.{layout_type, array_type}
 use Rattle.awk_layout.specs.Valid.{IsValid}
 use Rattle.awk_layout.proofs.LayoutTypes.{layout_is_type}
@@ -28,3 +30,8 @@ judged_type t x e l v = record {
 }
 
 pub ruleset judging = (array_of-within, judged_type)
+
+-- the items of lists whose type passes no limit
+pub offsets_within : (o : Column) (x y : Layout) → offset_lists o y ≡ x
+    → limit (array_type x) ≡ None → limit (array_type y) ≡ None
+offsets_within o x y e h = within_var (array_type y) (ap (λ z. limit (array_type z)) e ∙ h)

@@ -4,3 +4,5 @@ pub mod Runs
 pub mod TypedItems
 pub mod ArrayItems
 pub mod JudgedTypes
+pub mod OptionItems
+pub mod LayoutLists

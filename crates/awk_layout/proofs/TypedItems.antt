@@ -3,14 +3,13 @@ use Rattle.std.proofs.Common.{◌≡◌, ℕ, zero, suc, ◌+◌, ◌-◌, ◌*�
 use Rattle.std.proofs.Common.{List, Option, Some, None, if◌then◌else◌, refl, subst, sym, ◌∙◌, arith}
 use Rattle.std.proofs.Common.{ℤ, get_or, map}
 use Rattle.std.specs.Prelude.{pos}
-use Rattle.std.specs.List.{range_with_len}
-use Rattle.std.specs.List.{AllByRecursion}
+use Rattle.std.specs.List.{range_with_len, AllByRecursion}
 use Rattle.std.specs.Ordering.{int_eq}
 use Rattle.awk_types.specs.DataType.{Name, DataType, leaf, var, reg, opt, row_type}
 use Rattle.awk_types.specs.Has.{Has, HasRow, HasAlternative}
 use Rattle.awk_types.specs.Simple.{simple_value}
-use Rattle.awk_types.specs.Value.{Value, null, row, value_list}
-use Rattle.awk_types.proofs.SimpleLaws.{has_simple}
+use Rattle.awk_types.specs.Value.{Value, row, value_list}
+use Rattle.awk_types.proofs.SimpleLaws.{has_simple, has_option}
 use Rattle.awk_lanes.specs.declared.kind.Kind.{Kind}
 use Rattle.awk_lanes.specs.declared.kind.Kind.TheVariants.{Bool as Truths, I8, I16, I32, I64, U8}
 use Rattle.awk_lanes.specs.declared.kind.Kind.TheVariants.{U16, U32, U64}
@@ -81,21 +80,16 @@ block_has h size i t y false e each w =
           (rw e at w),
     )
 
--- a value is one of its option
-some_has : (t : DataType) (v : Value) → Has t v → Has (opt t) v
-some_has t null h = tt
-some_has t v h = h
-
 option_has : (h : ℕ) (t : DataType) (y : Layout) (o : Option ℕ)
     → ((j : ℕ) → j < len y → Has t (item y j)) → IsWithin h (through_option y o)
     → Has (opt t) (value_of (through_option y o))
 option_has h t y None each w = tt
-option_has h t y (Some k) each w = some_has t (item y k) (each k w.0)
+option_has h t y (Some k) each w = has_option t (item y k) (each k w.0)
 
 mask_has : (h i : ℕ) (t : DataType) (y : Layout) (b : Bool)
     → ((j : ℕ) → j < len y → Has t (item y j)) → IsWithin h (if b then through y i else missing)
     → Has (opt t) (value_of (if b then through y i else missing))
-mask_has h i t y true each w = some_has t (item y i) (each i w.0)
+mask_has h i t y true each w = has_option t (item y i) (each i w.0)
 mask_has h i t y false each w = tt
 
 row_has : (names : Option (List Name)) (xs : Layouts) (i : ℕ)
@@ -135,7 +129,7 @@ mutual
       by_case (bit_masked m b x) i (mask_has _ i (layout_type x) x (bit_shows m b i)
       (λ k q. item_has x k v.2 w q) (case_of-within (bit_masked m b x) i v p))
   item_has (unmasked n x) i v w p =
-      some_has (layout_type x) (item x i) (item_has x i v.2 w (omega (arith, v.1)))
+      has_option (layout_type x) (item x i) (item_has x i v.2 w (omega (arith, v.1)))
   item_has (union t j xs) i v w p =
       alternative_has xs (place_at t i) (place_at j i) v.2 w ((v.1.places i p).1)
 

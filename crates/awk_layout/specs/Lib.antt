@@ -18,5 +18,6 @@ pub mod Datum
 pub mod DatumCode
 pub mod Single
 pub mod Filler
+pub mod Frames
 pub mod Worked
 pub mod WorkedSingles

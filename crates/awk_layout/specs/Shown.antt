@@ -1,6 +1,7 @@
 -- The case that a `Place` is, without its references.
-use Rattle.std.specs.Prelude.{option_map, pos}
+use Rattle.std.specs.Prelude.{ℕ, option_map, pos}
 use Rattle.awk_types.specs.Value.{Value, int, truth}
+use Rattle.awk_lanes.specs.Numbers.{nat_of}
 use Rattle.awk_lanes.specs.declared.kind.Num.{Num}
 use Rattle.awk_lanes.specs.declared.kind.Num.TheVariants.{Int, Nat, Truth}
 use Rattle.awk_layout.specs.Layout.{layouts_from}
@@ -13,6 +14,11 @@ abbrev pub value_of_num : Num → Value
 value_of_num (Int z) = int z
 value_of_num (Nat n) = int (pos n)
 value_of_num (Truth b) = truth b
+
+-- a whole number as a count
+abbrev pub count_of : Value → ℕ
+count_of (int z) = nat_of z
+count_of v = 0
 
 abbrev pub shown : Place → Case
 shown (Number x) = number (value_of_num x)

@@ -159,6 +159,15 @@ impl<'a> Arrays<'a> {
         }
     }
 
+    /// One array.
+    pub fn only(alloc: Global, array: Array<'a>) -> Result<Arrays<'a>, NoMemory>
+        ensures { IfOk result (λ arrays. arrays ≡ array.entry ∷ []) }
+    {
+        let mut arrays = Arrays::new(alloc);
+        arrays.push(array)?;
+        Ok(arrays)
+    }
+
     /// Puts an array at the end.
     pub fn push(&mut self, item: Array<'a>) -> Result<(), NoMemory>
         ensures ok { OnOk result (self.new ≡ self.old ++ item.entry ∷ []) }

@@ -3,7 +3,7 @@ ghost use Rattle.std.specs.Prelude.{◌≡◌};
 ghost use Rattle.awk_layout.specs.Filler.{filler_of, is_filler};
 
 use crate::datum::{Datum, Operand};
-use awk_types::Typ;
+use awk_types::is_optional;
 
 impl<'a> Operand<'a> {
     /// Whether nulls may be filled with it.
@@ -13,7 +13,7 @@ impl<'a> Operand<'a> {
         match self {
             Operand::Literal(_) => true,
             Operand::Of(Datum::Arr(_)) => false,
-            Operand::Of(Datum::One(x)) => !matches!(x.typ(), Typ::Opt(_)),
+            Operand::Of(Datum::One(x)) => !is_optional(x.typ()),
         }
     }
 }

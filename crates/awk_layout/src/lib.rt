@@ -9,14 +9,18 @@
 mod array;
 mod datum;
 mod filler;
+mod frame;
 mod node;
+mod numbers;
 mod single;
 mod typing;
 
 pub use array::{Array, Arrays};
 pub use datum::{Datum, Datums, Operand, Operands};
+pub use frame::{Frame, framed};
 pub use node::class::Class;
 pub use node::place::Place;
 pub use node::{Node, Nodes};
+pub use numbers::wide_numbers;
 pub use single::{number_of, own_prim};
 pub use typing::{kind_of, prim_of};

@@ -3,6 +3,7 @@ use Rattle.std.specs.Prelude.{ℤ, pos, neg_ℤ, unsigned_abs, Bool, not, ◌&&�
 use Rattle.std.specs.Prelude.{if◌then◌else◌, List, [], ◌∷◌, map, Result, Ok, Err}
 use Rattle.std.specs.Ordering.{int_eq}
 use Rattle.std.specs.Simd.Lanes.{zip2}
+use Rattle.awk_types.specs.Parts.{number_of}
 use Rattle.awk_types.specs.declared.primitive.Primitive.{Primitive}
 use Rattle.awk_types.specs.declared.primitive.Primitive.TheVariants.{Bool as Truths}
 use Rattle.awk_types.specs.declared.fault.Fault.{Fault}
@@ -21,12 +22,6 @@ use Rattle.awk_leaves.specs.declared.operation.Logic.TheVariants.{And, Or, Xor}
 use Rattle.awk_leaves.specs.declared.operation.Unary.{Unary}
 use Rattle.awk_leaves.specs.declared.operation.Unary.TheVariants.{Not, Negate, Absolute, Cast}
 use Rattle.awk_leaves.specs.Table.{binary_judged, unary_judged, choice_judged}
-
--- a whole number, or a truth value as 0 or 1
-abbrev pub number_of : Value → ℤ
-number_of (int z) = z
-number_of (truth b) = pos (if b then 1 else 0)
-number_of v = pos 0
 
 -- a number as a value of a primitive
 abbrev pub value_in : Primitive → ℤ → Value

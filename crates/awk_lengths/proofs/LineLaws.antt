@@ -18,14 +18,13 @@ use Rattle.awk_expr.specs.Told.{or_query}
 use Rattle.awk_query.specs.declared.reading.Reading.{Reading}
 use Rattle.awk_query.specs.declared.reading.Reading.TheVariants.{First, One, Two}
 use Rattle.awk_query.specs.declared.reading.RawPart.{RawPart}
-use Rattle.awk_query.specs.Line.{Buffers, texts, parts}
-use Rattle.awk_query.specs.Line.{Line, load, session, bind, values, show, type_of, pack, names}
-use Rattle.awk_query.specs.Line.{name_at, expr_at, list_at, order_at, parts_at, are_texts, if_texts}
-use Rattle.awk_query.specs.Line.{texts_at, load_of, load_with, texts_in, raw_in, buffers_in}
+use Rattle.awk_query.specs.Line.{Buffers, texts, parts, Line, load, session, bind, values, show}
+use Rattle.awk_query.specs.Line.{type_of, pack, names, name_at, expr_at, list_at, parts_at}
+use Rattle.awk_query.specs.Line.{are_texts, if_texts, load_of, texts_in, raw_in, buffers_in}
 use Rattle.awk_query.specs.Line.{ordered_in, load_in, bind_of, bind_in, values_with, values_in}
-use Rattle.awk_query.specs.Line.{pair_in, names_from, single_in, if_two, session_from, first_in}
-use Rattle.awk_query.specs.Line.{if_version_2, alone_in, line_with, line_of, json_of, or_json}
-use Rattle.awk_query.specs.Line.{line_or_unread, line_said}
+use Rattle.awk_query.specs.Line.{pair_in, names_from, single_in, if_two, session_from, if_version_2}
+use Rattle.awk_query.specs.Line.{alone_in, line_with, line_of, json_of, or_json, line_or_unread}
+use Rattle.awk_query.specs.Line.{line_said}
 use Rattle.awk_lengths.specs.TextBytes.{text_bytes, members_bytes}
 use Rattle.awk_lengths.specs.LineBytes.{text_len, HasBytes}
 use Rattle.awk_lengths.proofs.AtMost.{AtMost}

@@ -15,13 +15,13 @@ use Rattle.awk_gather.specs.Arrays.{array_item}
 use Rattle.awk_lanes.proofs.MadeLanes.{size-lane_of, at-lane_of}
 use Rattle.awk_columns.specs.ListClass.{Class}
 use Rattle.awk_columns.specs.Lists.{span_length, AreLists, items_at}
+use Rattle.awk_list_ends.proofs.SpanLaws.{start_there, stop_there}
 use Rattle.awk_list_ends.specs.Ends.{AreListEnds, numbers_at_ends}
-use Rattle.awk_columns.proofs.SpanLaws.{start_there, stop_there}
 use Rattle.awk_list_ends.specs.Kept.{KeepsItems}
 use Rattle.awk_list_ends.proofs.KeptItems.{at-count, counts_up, counts_within, kept_run}
 
 -- a number where a list has items, else 0
-abbrev end_number : ℕ → ℤ → ℤ
+abbrev pub end_number : ℕ → ℤ → ℤ
 end_number n z = if n == 0 then pos 0 else z
 
 end_some : (n : ℕ) (z : ℤ) → end_number (suc n) z ≡ z

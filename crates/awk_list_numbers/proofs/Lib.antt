@@ -1,1 +1,2 @@
 pub mod ListNumbers
+pub mod NamedPlaces

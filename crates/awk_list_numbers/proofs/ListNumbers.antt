@@ -2,14 +2,14 @@
 use Rattle.std.proofs.Common.{◌≡◌, ℕ, zero, suc, ◌+◌, ◌*◌, ◌/◌, ◌<◌, ◌≤◌, List, [], ◌∷◌, ◌++◌}
 use Rattle.std.proofs.Common.{length, get_or, map, refl, ap, sym, ◌∙◌, arith, append_assoc}
 use Rattle.std.specs.Prelude.{pos}
-use Rattle.std.specs.List.{AllByRecursion, range_with_len, flat_map}
+use Rattle.std.specs.List.{range_with_len, flat_map}
 use Rattle.std.specs.Simd.{first_chunks}
 use Rattle.std.proofs.lemmas.List.{length-map, get_or-map, map-append}
 use Rattle.std.proofs.lemmas.List.FromFn.{map-range_with_len_more, length-map-range_with_len}
 use Rattle.std.proofs.lemmas.List.FromFn.{fill_by_all}
 use Rattle.std.proofs.Math.Nat.{mul-div_left, div-mul-le_self}
 use Rattle.awk_base.proofs.Each.{each_of-more, length-each_of}
-use Rattle.awk_base.proofs.Every.{all-each, all-map}
+use Rattle.awk_base.proofs.Every.{all-each, all-map, all-at}
 use Rattle.awk_base.proofs.Lists.{length-chunk}
 use Rattle.awk_lanes.specs.Column.{Column}
 use Rattle.awk_lanes.specs.Counted.{before}
@@ -19,12 +19,6 @@ use Rattle.awk_lanes.proofs.CountedLanes.{before-next, before_mono}
 use Rattle.awk_counts.specs.Counted.{numbers_at}
 use Rattle.awk_gather_lanes.proofs.MovedGroups.{number-group, numbers-flat}
 use Rattle.awk_list_numbers.specs.ListPlaces.{list_places, groups_at, ArePlaces}
-
-all-get : (P : ℕ → Type 0) (ks : List ℕ) (j : ℕ) → AllByRecursion P ks → j < length ks
-    → P (get_or ks j 0)
-all-get P [] j h l = absurd (omega (arith, l))
-all-get P (k ∷ ks) zero h l = h.0
-all-get P (k ∷ ks) (suc j) h l = all-get P ks j h.1 (omega (arith, l))
 
 module _ (m : ℕ → ℕ) (p : ℕ → ℕ → ℕ) where
   abbrev list_at : ℕ → List ℕ
@@ -71,7 +65,7 @@ module _ (m : ℕ → ℕ) (p : ℕ → ℕ → ℕ) where
   pub place_within : (size n : ℕ) → ArePlaces size m p n → (j : ℕ)
       → j < length (list_places m p n) → get_or (list_places m p n) j 0 < size
   place_within size n a j l =
-      all-get (λ k. k < size) (list_places m p n) j
+      all-at (λ k. k < size) (list_places m p n) j 0
       (all-each (λ k. k < size) list_at 0 n (λ i q. all-map (λ k. k < size) (p i) 0 (m i)
       (λ k r. a i k (omega (arith, q)) (omega (arith, r))))) l
 

@@ -4,27 +4,27 @@ use Rattle.std.proofs.Common.{refl, ap, ap₂, arith, sym, subst, ◌∙◌, dro
 use Rattle.std.proofs.Common.{length-take, length-drop, get_or-take, get_or-drop}
 use Rattle.std.specs.Prelude.{length, get_or, slice_range, nat_lt, ℤ, pos, negsuc, ◌≤ℤ◌}
 use Rattle.std.proofs.lemmas.Int.{ints}
-use Rattle.std.proofs.lemmas.List.FromFn.{fill_by_all, get_or-map-range_with_len}
+use Rattle.std.proofs.lemmas.List.FromFn.{fill_by_all}
 use Rattle.awk_types.specs.DataType.{var}
-use Rattle.awk_types.specs.Simple.{simple_value}
 use Rattle.awk_types.specs.Value.{Value, Values, list, null, no_values, value_list}
 use Rattle.awk_lanes.specs.Column.{Column}
 use Rattle.awk_lanes.specs.Counted.{before, offsets_by}
 use Rattle.awk_lanes.specs.Numbers.{nat_of, element}
 use Rattle.awk_lanes.specs.Places.{size_of, at, place_at, IsSpan, IsOffsets}
 use Rattle.awk_lanes.specs.declared.kind.Kind.TheVariants.{I64}
-use Rattle.awk_lanes.proofs.CountedLanes.{before-next, before_mono}
-use Rattle.awk_layout.specs.Item.{item, run}
+use Rattle.awk_lanes.proofs.CountedLanes.{before-room}
+use Rattle.awk_lanes.proofs.PlaceLaws.{pos-nat_of}
+use Rattle.awk_layout.specs.Item.{run}
 use Rattle.awk_layout.specs.Layout.{Layout, offset_lists}
-use Rattle.awk_layout.specs.Typing.{layout_type, array_type, array_items}
+use Rattle.awk_layout.specs.Typing.{array_type, array_items}
 use Rattle.awk_layout.specs.Valid.{len, IsValid}
 use Rattle.awk_layout.proofs.ArrayItems.{length-array_items, get_or-array_items}
-use Rattle.awk_layout.proofs.Runs.{value_list-run, length-run}
+use Rattle.awk_layout.proofs.Runs.{length-run, get-run}
 use Rattle.awk_gather.specs.Arrays.{array_item}
-use Rattle.awk_columns.specs.Lists.{Listed}
-use Rattle.awk_columns.proofs.ArrayLaws.{run_in_list}
-use Rattle.awk_list_rows.specs.InRow.{length_of, HasLists, AreEnds, HoldsItems}
-use Rattle.awk_list_rows.proofs.WholeLaws.{pos-of, span-up}
+use Rattle.awk_columns.specs.Lists.{Listed, length_of}
+use Rattle.awk_list_rows.specs.InRow.{HasLists, AreEnds, HoldsItems}
+use Rattle.awk_list_rows.proofs.WholeLaws.{span-up}
+use Rattle.awk_columns.proofs.ArrayLaws.{item-offset_lists}
 
 -- ---- offsets that begin at 0 are places
 
@@ -60,25 +60,6 @@ module _ (o : Column) (n : ℕ) (v : IsOffsets o n) (z : at o 0 ≡ pos 0) where
   offset-next i l =
       (span-up n (at o i) (at o (i + 1)) (v.ordered i l) (offset-place i (omega (arith, l))).0).1
 
--- ---- runs of items
-
-get-run : (f : ℕ → Value) (a n k : ℕ) → k < n
-    → get_or (value_list (run f a n)) k null ≡ f (a + k)
-get-run f a n k h =
-    ap (λ vs. get_or vs k null) (value_list-run f a n)
-    ∙ get_or-map-range_with_len f a n k (a + k) null h refl
-
-before-room : (m : ℕ → ℕ) (n i k : ℕ) → i < n → k < m i → before m i + k < before m n
-before-room m n i k h l =
-    omega (arith, before_mono m (i + 1) n (omega (arith, h)), before-next m i, l)
-
-item-own : (o : Column) (x : Layout) (i : ℕ)
-    → array_item (offset_lists o x) i ≡ list (run (array_item x) (place_at o i)
-    (place_at o (i + 1) - place_at o i))
-item-own o x i =
-    run_in_list (simple_value (layout_type x)) (item x) (place_at o i)
-    (place_at o (i + 1) - place_at o i)
-
 -- ---- lists by them
 
 abbrev values-in : Value → Values
@@ -90,7 +71,7 @@ module _ (o : Column) (c : Layout) (v : IsValid (offset_lists o c)) (z : at o 0 
   same-run : (i : ℕ) → i < size_of o - 1
       → run (array_item c) (place_at o i) (place_at o (i + 1) - place_at o i)
       ≡ run (array_item l.content) (place_at l.starts i) (length_of l i)
-  same-run i q = ap values-in (sym (item-own o c i) ∙ h i q)
+  same-run i q = ap values-in (sym (item-offset_lists o c i) ∙ h i q)
 
   own-length : (i : ℕ) → i < size_of o - 1 → place_at o (i + 1) - place_at o i ≡ length_of l i
   own-length i q =
@@ -124,7 +105,7 @@ module _ (o : Column) (c : Layout) (v : IsValid (offset_lists o c)) (z : at o 0 
       → get_or o.items i (pos 0) ≡ pos (before (length_of l) i) =
       λ i q.
       ap (λ j. element j (get_or o.items i (pos 0))) (sym k)
-      ∙ pos-of (at o i) (offset-place o (len c) v.1 z i (omega (arith, q, w))).0
+      ∙ pos-nat_of (at o i) (offset-place o (len c) v.1 z i (omega (arith, q, w))).0
       ∙ ap (λ j. pos j) (own-before i (omega (arith, q, w))) in
       ap₂ (λ j zs. record { kind = j; items = zs }) k
       (fill_by_all (λ i. pos (before (length_of l) i)) o.items (size_of o - 1 + 1) (pos 0) w p)

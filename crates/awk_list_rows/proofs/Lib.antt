@@ -1,4 +1,3 @@
 pub mod WholeLaws
 pub mod InRowLaws
 pub mod EndLaws
-mod VarLimits

@@ -1,61 +1,30 @@
 -- Lanes that have the same bytes, and lists whose items lie in a row.
-use Rattle.std.proofs.Common.{◌≡◌, ◌≢◌, ℕ, zero, suc, ◌+◌, ◌-◌, ◌*◌, ◌<◌, ◌≤◌, Bool, true, false}
-use Rattle.std.proofs.Common.{refl, ap, ap₂, arith, sym, subst, ◌∙◌}
-use Rattle.std.specs.Prelude.{List, length, slice_range, nat_lt, ℤ, pos, negsuc, ◌≤ℤ◌}
-use Rattle.std.specs.Prelude.{drop, Option, IfSome}
+use Rattle.std.proofs.Common.{◌≡◌, ◌≢◌, ℕ, zero, suc, ◌+◌, ◌-◌, ◌<◌, ◌≤◌, Bool, true, false, refl}
+use Rattle.std.proofs.Common.{ap, arith, sym, subst, ◌∙◌}
+use Rattle.std.specs.Prelude.{List, length, slice_range, nat_lt, ℤ, pos, negsuc, ◌≤ℤ◌, Option}
+use Rattle.std.specs.Prelude.{IfSome}
 use Rattle.std.specs.List.{range_with_len}
 use Rattle.std.proofs.lemmas.Int.{ints}
-use Rattle.std.proofs.lemmas.List.{get_or-drop, get_or-take}
 use Rattle.std.proofs.lemmas.List.FromFn.{length-range_with_len}
 use Rattle.awk_lanes.specs.Column.{Column}
 use Rattle.awk_lanes.specs.Counted.{before}
 use Rattle.awk_lanes.specs.Cut.{cut_of}
-use Rattle.awk_lanes.specs.Numbers.{width, numbers, nat_of, element}
-use Rattle.awk_lanes.specs.Places.{size_of, at, place_at, option_place}
-use Rattle.awk_lanes.specs.Places.{IsSpan, AreSpans}
-use Rattle.awk_lanes.specs.declared.kind.Kind.{Kind}
-use Rattle.awk_lanes.specs.declared.kind.Kind.TheVariants.{Bool as Truths, I8, I16, I32, I64, U8}
-use Rattle.awk_lanes.specs.declared.kind.Kind.TheVariants.{U16, U32, U64}
+use Rattle.awk_lanes.specs.Numbers.{nat_of}
+use Rattle.awk_lanes.specs.Places.{size_of, at, place_at, option_place, IsSpan, AreSpans}
+use Rattle.awk_lanes.proofs.PlaceLaws.{pos-nat_of}
+use Rattle.awk_lanes.proofs.CutLaws.{at-cut}
 use Rattle.awk_layout.specs.Layout.{Layout}
 use Rattle.awk_layout.specs.Typing.{array_type, array_items}
 use Rattle.awk_layout.specs.Valid.{len}
 use Rattle.awk_counts.specs.Counted.{first_of, span_at, spans}
 use Rattle.awk_counts.proofs.FirstPlaces.{length-first_of}
-use Rattle.awk_columns.specs.Lists.{Listed, AreLists}
+use Rattle.awk_columns.specs.Lists.{Listed, AreLists, length_of}
 use Rattle.awk_columns.specs.Reached.{IsReached}
 use Rattle.awk_columns.proofs.JoinedLists.{row_reached}
 use Rattle.awk_columns.proofs.SpanPlaces.{row_more, span-count}
-use Rattle.awk_list_rows.specs.InRow.{length_of, LieInRow}
-
--- ---- the same bytes
-
-same-size : (k : Kind) (a b : ℕ) → a * width k ≡ b * width k → a ≡ b
-same-size Truths a b e = omega (arith, e)
-same-size I8 a b e = omega (arith, e)
-same-size I16 a b e = omega (arith, e)
-same-size I32 a b e = omega (arith, e)
-same-size I64 a b e = omega (arith, e)
-same-size U8 a b e = omega (arith, e)
-same-size U16 a b e = omega (arith, e)
-same-size U32 a b e = omega (arith, e)
-same-size U64 a b e = omega (arith, e)
-
-pub same_lane : (a b : Column) (xs ys : List ℕ) → a.kind ≡ b.kind → xs ≡ ys
-    → numbers a.kind (size_of a) xs ≡ a.items → length xs ≡ size_of a * width a.kind
-    → numbers b.kind (size_of b) ys ≡ b.items → length ys ≡ size_of b * width b.kind → a ≡ b
-same_lane a b xs ys k e f g h i =
-    let s : size_of a ≡ size_of b =
-    same-size a.kind (size_of a) (size_of b)
-    (sym g ∙ ap length e ∙ i ∙ ap (λ j. size_of b * width j) (sym k)) in
-    let t : a.items ≡ b.items =
-    sym f ∙ ap₂ (λ j n. numbers j n xs) k s ∙ ap (numbers b.kind (size_of b)) e ∙ h in
-    ap₂ (λ j zs. record { kind = j; items = zs }) k t
+use Rattle.awk_list_rows.specs.InRow.{LieInRow}
 
 -- ---- lists in a row
-
-pub pos-of : (z : ℤ) → pos 0 ≤ℤ z → z ≡ pos (nat_of z)
-pos-of (pos n) h = refl
-pos-of (negsuc n) h = absurd (omega (arith, ints, h))
 
 pos-up : (n a b : ℕ) (c : Bool) → nat_lt b a ≡ c → IsSpan n (pos a) (pos b) → a ≤ b
 pos-up n a b true e h =
@@ -93,7 +62,7 @@ module _ (s t : Column) (n first : ℕ) (h : AreSpans s t n) where
       let c : place_at s i ≡ first + length (first_of (span_at s t) i) = ap nat_of b in
       let q : place_at t i ≡ first + length (first_of (span_at s t) (i + 1)) =
       omega (arith, c, u.1, span-count s t i (place_at s i) (place_at t i - place_at s i) refl) in
-      e ∙ pos-of (at t i) u.0 ∙ ap (λ k. pos k) q
+      e ∙ pos-nat_of (at t i) u.0 ∙ ap (λ k. pos k) q
 
   row-from : at s 0 ≡ pos first → ((i : ℕ) → i + 1 < size_of s → at s (i + 1) ≡ at t i) → (i : ℕ)
       → i < size_of s → Begins i × InRow i
@@ -115,11 +84,6 @@ module _ (s t : Column) (n first : ℕ) (h : AreSpans s t n) where
 
 pred-of : (n : ℕ) → 0 < n → n ≡ suc (n - 1)
 pred-of n h = omega (arith, h)
-
-at-cut : (c : Column) (lo hi i : ℕ) → i < hi - lo → at (cut_of c lo hi) i ≡ at c (lo + i)
-at-cut c lo hi i h =
-    ap (element c.kind) (get_or-take (hi - lo) (drop lo c.items) i (pos 0) h
-    ∙ get_or-drop lo c.items i (pos 0))
 
 -- each list begins where the one before ends
 pub lie_in_row : (s t : Column) (m n first : ℕ) → AreSpans s t m → n ≡ size_of s → 0 < n

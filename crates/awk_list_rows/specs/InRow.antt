@@ -12,11 +12,7 @@ use Rattle.awk_layout.specs.Typing.{array_type}
 use Rattle.awk_layout.specs.Valid.{len}
 use Rattle.awk_gather.specs.Arrays.{array_item}
 use Rattle.awk_counts.specs.Counted.{spans}
-use Rattle.awk_columns.specs.Lists.{Listed, span_length}
-
--- how many items list i has
-abbrev pub length_of : Listed → ℕ → ℕ
-length_of l i = span_length l.starts l.stops i
+use Rattle.awk_columns.specs.Lists.{Listed, length_of}
 
 -- lists whose items lie in a row, from a first one on
 abbrev pub LieInRow : Column → Column → ℕ → Type 0

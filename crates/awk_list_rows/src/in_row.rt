@@ -1,6 +1,5 @@
 //! Columns of lists that lie in a row: where they begin is known, and their items are cut.
-ghost use Rattle.std.specs.Prelude.{◌≡◌, ◌-◌, ◌<◌, None, pos, slice_range};
-ghost use Rattle.std.specs.Prelude.{IfOk, IfSome, IsTrue};
+ghost use Rattle.std.specs.Prelude.{◌≡◌, ◌-◌, ◌<◌, None, pos, slice_range, IfOk, IfSome, IsTrue};
 ghost use Rattle.awk_types.specs.Limit.{limit};
 ghost use Rattle.awk_lanes.specs.Places.{size_of, at, place_at, IsIndexKind};
 ghost use Rattle.awk_lanes.specs.declared.kind.Kind.TheVariants as Kinds;
@@ -10,7 +9,6 @@ ghost use Rattle.awk_layout.specs.Valid.{IsValid};
 ghost use Rattle.awk_list_rows.specs.InRow.{AreEnds, HoldsItems};
 
 use crate::whole::is_same;
-use awk_gather::array_within;
 use awk_lanes::{Kind, Lane, NoMemory, Steps, index_at, place_in};
 use awk_layout::{Array, Class, Node};
 use awk_range::range;
@@ -73,7 +71,7 @@ fn items_before<'a, L: Ledger>(
         IfOk result (λ z. array_items z ≡ slice_range (array_items content.now) 0 end) }
     ensures typ { IfOk result (λ z. array_type z ≡ array_type content.now) }
 {
-    let content = array_within(alloc, content.copy(alloc)?)?;
+    let content = Array::of_node(alloc, content.copy(alloc)?)?;
     let last = offsets.len() - 1;
     let end = place_in(offsets, last, steps);
     let items = range(alloc, &content, 0, end, steps)?;

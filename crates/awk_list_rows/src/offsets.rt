@@ -3,7 +3,7 @@ ghost use Rattle.std.specs.Prelude.{◌≡◌, IfOk, IfSome};
 ghost use Rattle.awk_types.specs.ItemLimit.{item_limit};
 ghost use Rattle.awk_lanes.specs.Counted.{offsets_by, AreOffsetsBy};
 ghost use Rattle.awk_lanes.specs.Places.{size_of};
-ghost use Rattle.awk_list_rows.specs.InRow.{length_of};
+ghost use Rattle.awk_columns.specs.Lists.{length_of};
 
 use awk_columns::Bounds;
 use awk_lanes::{Arena, Lane, NoMemory, Offsets, Steps, offsets_within, place_in};

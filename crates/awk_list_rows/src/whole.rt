@@ -3,8 +3,9 @@ ghost use Rattle.std.specs.Prelude.{◌≡◌, IfOk, IfSome, IsTrue};
 ghost use Rattle.awk_lanes.specs.Counted.{before};
 ghost use Rattle.awk_lanes.specs.Places.{size_of};
 ghost use Rattle.awk_counts.specs.Counted.{spans};
+ghost use Rattle.awk_columns.specs.Lists.{length_of};
 ghost use Rattle.awk_columns.specs.Reached.{IsReached};
-ghost use Rattle.awk_list_rows.specs.InRow.{length_of, LieInRow};
+ghost use Rattle.awk_list_rows.specs.InRow.{LieInRow};
 
 use awk_columns::Lists;
 use awk_lanes::{Arena, Lane, NoMemory, Steps, index_at, to_option_place};

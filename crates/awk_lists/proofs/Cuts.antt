@@ -1,9 +1,7 @@
 -- An array cut by counts.
 use Rattle.std.specs.Prelude.{◌≡◌, ℕ, zero, suc, ◌+◌, ◌-◌, ◌<◌, ◌≤◌, ◌^◌, ◌==◌, nat_eq, nat_lt}
-use Rattle.std.specs.Prelude.{refl}
-use Rattle.std.specs.Prelude.{true, false, ◌||◌, not, List, [], ◌∷◌, length, map, take, drop}
-use Rattle.std.specs.Prelude.{get_or, sum_by, pos, Some, None, Ok, Err}
-use Rattle.std.specs.Prelude.{if◌then◌else◌}
+use Rattle.std.specs.Prelude.{refl, true, false, ◌||◌, not, List, [], ◌∷◌, length, map, take, drop}
+use Rattle.std.specs.Prelude.{get_or, sum_by, pos, Some, None, Ok, Err, if◌then◌else◌}
 use Rattle.std.specs.List.{list_any, range_with_len}
 use Rattle.std.proofs.Common.{arith, ap, ap₂, sym, ◌∙◌}
 use Rattle.std.proofs.lemmas.List.{length-map, take_all}
@@ -27,6 +25,7 @@ use Rattle.awk_lanes.specs.Places.{at, place_at}
 use Rattle.awk_lanes.specs.declared.kind.Kind.TheVariants.{I64}
 use Rattle.awk_layout.specs.Layout.{Layout, offset_lists}
 use Rattle.awk_layout.specs.Item.{item}
+use Rattle.awk_layout.specs.Shown.{count_of}
 use Rattle.awk_layout.specs.Typing.{layout_type, array_type, array_items, array_datum}
 use Rattle.awk_layout.specs.Valid.{len}
 use Rattle.awk_layout.proofs.ArrayItems.{length-array_items, get_or-array_items}
@@ -36,8 +35,8 @@ use Rattle.awk_lanes.proofs.MadeLanes.{size-lane_of, at-lane_of}
 use Rattle.awk_columns.specs.Joined.{AreOffsets}
 use Rattle.awk_columns.proofs.ArrayLaws.{array_items-at, run_in_list}
 use Rattle.awk_lists.specs.Numbers.{AreCounts}
-use Rattle.awk_lists.specs.Unflatten.{is_negative, count_of, counted_before, do_not_add_up, cut_by}
-use Rattle.awk_lists.specs.Unflatten.{lists_by, cut_items}
+use Rattle.awk_lists.specs.Unflatten.{is_negative, counted_before, do_not_add_up, cut_by, lists_by}
+use Rattle.awk_lists.specs.Unflatten.{cut_items}
 use Rattle.awk_lists.proofs.Ends.{rising_offsets}
 use Rattle.awk_list_ends.proofs.KeptItems.{run-slice}
 

@@ -1,7 +1,6 @@
 -- Offsets by what stands before each list, and the lists of an array.
-use Rattle.std.specs.Prelude.{◌≡◌, ℕ, zero, suc, ◌+◌, ◌-◌, ◌<◌, ◌≤◌, ◌^◌, refl, List, [], ◌∷◌}
-use Rattle.std.specs.Prelude.{length, take, drop, get_or, ℤ, pos, negsuc, ◌<ℤ◌, cond}
-use Rattle.std.specs.Prelude.{Some, None, true, false}
+use Rattle.std.specs.Prelude.{◌≡◌, ℕ, zero, suc, ◌+◌, ◌-◌, ◌<◌, ◌≤◌, ◌^◌, refl, List}
+use Rattle.std.specs.Prelude.{length, take, drop, get_or, pos, cond, Some, None, true, false}
 use Rattle.std.specs.List.{flat_map, range_with_len}
 use Rattle.std.proofs.Common.{arith, ap, sym, ◌∙◌, subst}
 use Rattle.std.proofs.lemmas.Int.{ints}
@@ -10,28 +9,26 @@ use Rattle.std.proofs.lemmas.List.{length-append, take-append-drop}
 use Rattle.std.proofs.lemmas.List.Elements.{filter-append}
 use Rattle.std.proofs.lemmas.List.Filters.{length-filter_more}
 use Rattle.awk_types.specs.DataType.{DataType, unknown, leaf, var, reg, rec, tup, opt, uni}
+use Rattle.awk_types.specs.Parts.{item_of}
 use Rattle.awk_types.specs.Simple.{present, is_option}
-use Rattle.awk_types.specs.Value.{Value, null, int, truth, list, row, alt}
+use Rattle.awk_types.specs.Value.{Value, null, list}
 use Rattle.awk_types.specs.ItemLimit.{item_limit}
 use Rattle.awk_lanes.specs.Column.{Column}
 use Rattle.awk_lanes.specs.Numbers.{nat_of}
-use Rattle.awk_lanes.specs.Places.{size_of, at, place_at, option_place}
-use Rattle.awk_lanes.specs.Places.{IsIndexKind}
+use Rattle.awk_lanes.specs.Places.{size_of, at, place_at, IsIndexKind}
 use Rattle.awk_lanes.specs.declared.kind.Kind.TheVariants.{I64}
 use Rattle.awk_layout.specs.Layout.{Layout}
-use Rattle.awk_layout.specs.Item.{run, at_option}
+use Rattle.awk_layout.specs.Item.{run}
 use Rattle.awk_layout.specs.Typing.{array_type, array_items}
-use Rattle.awk_layout.specs.Valid.{len, IsValid}
+use Rattle.awk_layout.specs.Valid.{len}
 use Rattle.awk_layout.proofs.ArrayItems.{length-array_items, get_or-array_items}
 use Rattle.awk_layout.proofs.Runs.{length-run}
 use Rattle.awk_gather.specs.Arrays.{array_item}
-use Rattle.awk_columns.specs.Columns.{joined_items, list_items, is_present}
-use Rattle.awk_counts.specs.Counted.{first_of, present_at, present_place}
-use Rattle.awk_counts.specs.Counted.{offset_at}
+use Rattle.awk_columns.specs.Columns.{joined_items, list_items, is_present, present_values}
+use Rattle.awk_counts.specs.Counted.{first_of, present_at, offset_at}
 use Rattle.awk_counts.proofs.FirstPlaces.{length-first_of}
-use Rattle.awk_open.proofs.ItemShapes.{present_item}
-use Rattle.awk_lanes.proofs.MadeLanes.{size-lane_of, at-lane_of}
-use Rattle.awk_columns.specs.Columns.{present_values}
+use Rattle.awk_lanes.proofs.MadeLanes.{at-lane_of}
+use Rattle.awk_open.proofs.ItemShapes.{present_one}
 use Rattle.awk_columns.specs.Joined.{AreOffsets, JoinsLists, IsJoined}
 use Rattle.awk_columns.specs.ListClass.{Class, list_type}
 use Rattle.awk_columns.specs.Lists.{items_at}
@@ -39,11 +36,9 @@ use Rattle.awk_open.specs.Opens.{OpensLists, OpensOption}
 use Rattle.awk_columns.specs.declared.lists.Joined.{Joined}
 use Rattle.awk_columns.specs.declared.lists.Joined.TheVariants.{TooMany, Lists}
 use Rattle.awk_open.proofs.OpenedLists.{lists-inner}
-use Rattle.awk_lists.specs.Flatten.{item_type}
 use Rattle.awk_types.specs.Predicates.{is_list_or_unknown}
-use Rattle.awk_lists.specs.Listed.{items_before}
-use Rattle.awk_option_nodes.specs.Present.{present_lane}
-use Rattle.awk_lists.specs.Listed.{IsListed}
+use Rattle.awk_lists.specs.Listed.{items_before, IsListed}
+use Rattle.awk_counts.specs.Present.{present_lane}
 use Rattle.awk_lists.proofs.JoinedItems.{items_before-next}
 
 -- ---- offsets
@@ -118,7 +113,7 @@ ends_from class s t y x o z op j (suc i) p =
     subst (λ k. place_at o k ≡ items_before (array_items x) k) e
     (omega (arith, before, grown, here, next))
 
-present-list : (class : Class) (u : DataType) → item_type (present (list_type class u)) ≡ u
+present-list : (class : Class) (u : DataType) → item_of (present (list_type class u)) ≡ u
 present-list None u = refl
 present-list (Some n) u = refl
 
@@ -138,7 +133,7 @@ lists_joined class s t y x (Lists o z) op h =
     let items = joined_lists class s t y x op in (
       subst (λ n. n ≤ item_limit) (sym (ap length items)) h.0,
       record {
-        typ = h.1.typ ∙ sym (ap (λ u. item_type (present u)) op.typ
+        typ = h.1.typ ∙ sym (ap (λ u. item_of (present u)) op.typ
             ∙ present-list class (array_type y));
         valid = h.1.valid;
         ends = record {
@@ -152,15 +147,6 @@ lists_joined class s t y x (Lists o z) op h =
         column = h.1.column ∙ sym items;
       },
     )
-
--- ---- nothing
-
-empty_list : (vs : List Value) → length vs ≡ 0 → vs ≡ []
-empty_list [] e = refl
-empty_list (v ∷ vs) e = absurd (omega (arith, e))
-
-pub no_items : (x : Layout) → len x ≡ 0 → array_items x ≡ []
-no_items x e = empty_list (array_items x) (length-array_items x ∙ e)
 
 -- ---- options
 
@@ -183,24 +169,6 @@ list_present (rec ns ts) e = refl
 list_present (tup ts) e = refl
 list_present (uni ts) e = refl
 list_present (opt t) e = cc
-
-not_null : (v : Value) → (v ≡ null → ⊥) → is_present v ≡ true
-not_null null h = absurd (h refl)
-not_null (int z) h = refl
-not_null (truth b) h = refl
-not_null (list vs) h = refl
-not_null (row vs) h = refl
-not_null (alt k v) h = refl
-
--- a place is there exactly where the item is not null
-present_one : (y : Layout) (z : ℤ) → IsValid y → is_option (array_type y) ≡ false → z <ℤ pos (len y)
-    → length (present_place (option_place z))
-    ≡ cond (is_present (at_option (option_place z) (array_item y))) 1 0
-present_one y (negsuc k) v n p = refl
-present_one y (pos k) v n p =
-    let e : is_present (array_item y k) ≡ true =
-    not_null (array_item y k) (present_item y k v (omega (arith, ints, p)) n) in
-    rw e refl
 
 pub count_present : (j : Column) (y x : Layout) → OpensOption j y x
     → is_option (array_type y) ≡ false → (i : ℕ) → i ≤ len x
@@ -227,9 +195,6 @@ take_present vs i =
     ∙ ap (take (length (present_values (take i vs))))
     (filter-append is_present (take i vs) (drop i vs))
     ∙ take-append_seam (present_values (take i vs)) (present_values (drop i vs))
-
-pub size-counts : (j : Column) → size_of (present_lane j) ≡ size_of j + 1
-size-counts j = size-lane_of I64 (size_of j + 1) (λ i. pos (length (first_of (present_at j) i)))
 
 pub at-counts : (j : Column) (i : ℕ) → i ≤ size_of j
     → at (present_lane j) i ≡ pos (length (first_of (present_at j) i))

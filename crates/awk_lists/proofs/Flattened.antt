@@ -9,6 +9,7 @@ use Rattle.std.proofs.lemmas.List.{take-map, drop-map}
 use Rattle.awk_types.specs.DataType.{DataType}
 use Rattle.awk_types.specs.Datum.{Datum}
 use Rattle.awk_types.specs.Has.{Has}
+use Rattle.awk_types.specs.Parts.{item_of}
 use Rattle.awk_types.specs.Simple.{present, simple, simple_value}
 use Rattle.awk_types.specs.Value.{Value, value_list}
 use Rattle.awk_types.specs.ItemLimit.{item_limit}
@@ -34,14 +35,14 @@ use Rattle.awk_axis.specs.Spoils.{too_many}
 use Rattle.awk_axis.specs.declared.causes.Refusal.TheVariants as refused
 use Rattle.awk_axis.specs.declared.causes.Spoil.TheVariants.{Size}
 use Rattle.awk_columns.specs.declared.lists.Joined.TheVariants.{TooMany}
-use Rattle.awk_lists.specs.Flatten.{item_type, flatten_function, flatten_of}
+use Rattle.awk_lists.specs.Flatten.{flatten_function, flatten_of}
 use Rattle.awk_types.specs.Predicates.{is_list_or_unknown}
+use Rattle.awk_types.proofs.ItemLimits.{nat_lt-over, nat_lt-within}
 use Rattle.awk_lists.specs.Listed.{items_before, AreListed, IsListed}
 use Rattle.awk_lists.proofs.Ends.{rising_offsets, joined_at}
 use Rattle.awk_lists.proofs.JoinedItems.{items_before-add, items_before-mono, items_before-all}
 use Rattle.awk_lists.proofs.JoinedItems.{slice-joined, count-joined}
 use Rattle.awk_list_ends.proofs.KeptItems.{run-slice}
-use Rattle.awk_lists.proofs.Spans.{over_limit, within_limit}
 
 -- what is accepted are lists
 pub are_lists : (t : DataType) → flatten_function.refusal t ≡ None
@@ -136,10 +137,10 @@ module _ (s e : Column) (y : Layout) (rows : Column) (lists : Layout) (o : Colum
   -- ---- the items
 
   abbrev t : DataType
-  t = item_type (present (array_type y))
+  t = item_of (present (array_type y))
 
   made_type : array_type z ≡ t
-  made_type = h.typ ∙ ap (λ u. item_type (present u)) j.typ
+  made_type = h.typ ∙ ap (λ u. item_of (present u)) j.typ
 
   stay : AllByRecursion (Has (array_type z)) (array_items z)
       → map (simple_value t) (array_items z) ≡ array_items z
@@ -187,14 +188,14 @@ module _ (s e : Column) (y : Layout) (rows : Column) (lists : Layout)
   too_many_joined h =
       ap too_many counted_all
       ∙ ap (λ b. if b then Some Size else None)
-      (over_limit (length (joined_items (array_items lists))) h)
+      (nat_lt-over (length (joined_items (array_items lists))) h)
 
   pub few_joined : length (joined_items (array_items lists)) ≤ item_limit
       → flatten_function.spoil (array_type y) (all_items_at s e y) ≡ None
   few_joined h =
       ap too_many counted_all
       ∙ ap (λ b. if b then Some Size else None)
-      (within_limit (length (joined_items (array_items lists))) h)
+      (nat_lt-within (length (joined_items (array_items lists))) h)
 
 -- ---- the axis
 

@@ -33,10 +33,11 @@ use Rattle.awk_open.specs.Opens.{OpensLists, OpensOption}
 use Rattle.awk_columns.proofs.ArrayLaws.{array_items-at}
 use Rattle.awk_types.specs.Predicates.{is_list_or_unknown}
 use Rattle.awk_lists.specs.Held.{holds_item, held_lists, held_at, held_counts, AreLengths, AreHeld}
-use Rattle.awk_option_nodes.specs.Present.{present_lane}
+use Rattle.awk_counts.specs.Present.{present_lane}
 use Rattle.awk_lists.proofs.Ends.{list_present, list_not_option, count_present, take_present}
-use Rattle.awk_lists.proofs.Ends.{size-counts, at-counts, filter_few}
-use Rattle.awk_columns.proofs.SpanLaws.{lists_within}
+use Rattle.awk_lists.proofs.Ends.{at-counts, filter_few}
+use Rattle.awk_option_nodes.proofs.OptionNodes.{size-counts}
+use Rattle.awk_list_ends.proofs.SpanLaws.{lists_within}
 use Rattle.awk_list_ends.specs.Kept.{KeepsItems}
 
 -- ---- values

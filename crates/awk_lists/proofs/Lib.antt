@@ -1,4 +1,3 @@
-pub mod Spans
 pub mod LocalLaws
 pub mod Singles
 pub mod JoinedItems

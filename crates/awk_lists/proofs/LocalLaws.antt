@@ -1,16 +1,15 @@
 -- The places of the items of lists.
-use Rattle.std.specs.Prelude.{◌≡◌, ℕ, ◌+◌, ◌<◌, ◌≤◌, ◌^◌, refl, List, get_or, length, map, sum}
+use Rattle.std.specs.Prelude.{◌≡◌, ℕ, ◌<◌, ◌≤◌, ◌^◌, refl, List, length, map, sum}
 use Rattle.std.specs.Prelude.{ℤ, pos, Some, None}
 use Rattle.std.specs.List.{range_with_len}
 use Rattle.std.proofs.Common.{arith, ap, sym, ◌∙◌}
 use Rattle.std.proofs.lemmas.Simd.{map-map}
-use Rattle.std.proofs.lemmas.List.FromFn.{length-map-range_with_len, fill_by_all}
-use Rattle.std.proofs.lemmas.List.FromFn.{get_or-map-range_with_len}
-use Rattle.awk_layout.proofs.Runs.{length-run, value_list-run}
+use Rattle.std.proofs.lemmas.List.FromFn.{length-map-range_with_len}
+use Rattle.awk_layout.proofs.Runs.{run-by}
 use Rattle.awk_types.specs.DataType.{leaf}
 use Rattle.awk_types.specs.ItemLimit.{item_limit}
 use Rattle.awk_types.specs.Simple.{simple_value}
-use Rattle.awk_types.specs.Value.{Value, int, null, value_list}
+use Rattle.awk_types.specs.Value.{Value, int, value_list}
 use Rattle.awk_types.specs.declared.primitive.Primitive.TheVariants.{I64}
 use Rattle.awk_lanes.specs.declared.kind.Kind.TheVariants as kinds
 use Rattle.awk_lanes.specs.Column.{Column}
@@ -32,16 +31,6 @@ use Rattle.awk_lists.specs.LocalIndex.{local_index_function}
 use Rattle.awk_columns.proofs.OffsetLaws.{are_offsets, even_offsets, offset-length, items_at-length}
 use Rattle.awk_columns.proofs.OffsetLaws.{count_given}
 use Rattle.awk_axis.proofs.SpoilLimits.{over_limit, within_limit}
-
-run_get : (h : ℕ → Value) (a n k : ℕ) → k < n → get_or (value_list (run h a n)) k null ≡ h (a + k)
-run_get h a n k p = ap (λ xs. get_or xs k null) (value_list-run h a n)
-    ∙ get_or-map-range_with_len h a n k (a + k) null p refl
-
--- items by their place in the run
-run_by : (h f : ℕ → Value) (a n : ℕ) → ((j : ℕ) → j < n → h (a + j) ≡ f j)
-    → value_list (run h a n) ≡ map f (range_with_len 0 n)
-run_by h f a n e = fill_by_all f (value_list (run h a n)) n null (length-run h a n)
-    (λ k p. run_get h a n k p ∙ e k p)
 
 -- the lengths of lists as a column
 pub lengths_column : (s t : Column) (y : Layout) → size_of s < 2 ^ 63
@@ -80,7 +69,7 @@ local_given class s t y h p = record {
       (offset-length m (size_of s) i q)
       ∙ ap (λ z. value_list (run (array_item (flat (places s t))) z (m i)))
       (place-offsets m (size_of s) i (omega (arith, q)))
-      ∙ run_by (array_item (flat (places s t))) f (before m i) (m i)
+      ∙ run-by (array_item (flat (places s t))) f (before m i) (m i)
       (λ j r. ap int (numbers-at m (λ i k. pos k) i j (size_of s) q r))
       ∙ ap (λ k. map f (range_with_len 0 k)) (sym (items_at-length s t y i))
       ∙ sym (map-map (simple_value (leaf I64)) f (range_with_len 0 (length (items_at s t y i))));

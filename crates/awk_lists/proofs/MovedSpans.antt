@@ -4,6 +4,7 @@ use Rattle.std.specs.Prelude.{◌++◌, map, sum, length, Some, None, if◌then�
 use Rattle.std.specs.List.{range_with_len, flat_map}
 use Rattle.std.proofs.Common.{arith, ap, ap₂, sym, ◌∙◌, subst}
 use Rattle.std.proofs.lemmas.List.Elements.{filter-append}
+use Rattle.awk_types.specs.Parts.{item_of}
 use Rattle.awk_types.specs.Simple.{present, simple, simple_value}
 use Rattle.awk_types.specs.Value.{Value}
 use Rattle.awk_lanes.specs.Column.{Column}
@@ -21,15 +22,15 @@ use Rattle.awk_axis.specs.Spoils.{too_many}
 use Rattle.awk_axis.specs.declared.causes.Spoil.TheVariants.{Size}
 use Rattle.awk_axis.specs.declared.function.Made.{Made}
 use Rattle.awk_axis.specs.declared.function.Made.TheVariants as made
-use Rattle.awk_lists.specs.Flatten.{item_type, flatten_function}
+use Rattle.awk_lists.specs.Flatten.{flatten_function}
 use Rattle.awk_types.specs.Predicates.{is_list_or_unknown}
+use Rattle.awk_types.proofs.ItemLimits.{nat_lt-over}
 use Rattle.awk_lists.specs.Held.{holds_item, held_lists, AreHeld}
 use Rattle.awk_list_ends.specs.Ends.{numbers_at_ends, AreListEnds}
 use Rattle.awk_lists.proofs.Ends.{list_present}
 use Rattle.awk_lists.proofs.Flattened.{are_lists}
 use Rattle.awk_lists.proofs.HeldLists.{joined-held, held-few, keeps_held}
 use Rattle.awk_lists.proofs.JoinedItems.{count-joined}
-use Rattle.awk_lists.proofs.Spans.{over_limit}
 use Rattle.awk_list_ends.specs.Kept.{KeepsItems}
 use Rattle.awk_list_ends.proofs.EndLaws as ends
 
@@ -116,7 +117,7 @@ module _ (class : Class) (s t : Column) (y : Layout) (a : AreLists class s t y)
       let few = held-few before in
       ap too_many count_before
       ∙ ap (λ b. if b then Some Size else None)
-      (over_limit (length (joined_items before)) (omega (arith, q, e, few)))
+      (nat_lt-over (length (joined_items before)) (omega (arith, q, e, few)))
 
   same_spoil : flatten_function.spoil (array_type y) (all_items_at s t y)
       ≡ flatten_function.spoil (array_type z) (all_items_at starts stops z)
@@ -125,10 +126,10 @@ module _ (class : Class) (s t : Column) (y : Layout) (a : AreLists class s t y)
   -- ---- the types
 
   same_typ : is_list_or_unknown (present (array_type y)) ≡ true
-      → item_type (present (array_type z)) ≡ item_type (present (array_type y))
+      → item_of (present (array_type z)) ≡ item_of (present (array_type y))
   same_typ l =
-      ap (λ u. item_type (present u)) h.typ
-      ∙ ap item_type (list_present (present (array_type y)) l)
+      ap (λ u. item_of (present u)) h.typ
+      ∙ ap item_of (list_present (present (array_type y)) l)
 
   pub held_typ : flatten_function.refusal (array_type y) ≡ None
       → is_list_or_unknown (array_type z) ≡ true
@@ -137,9 +138,9 @@ module _ (class : Class) (s t : Column) (y : Layout) (a : AreLists class s t y)
   -- ---- what is made
 
   lists_given : is_list_or_unknown (present (array_type y)) ≡ true → (o : Column) (w : Layout)
-      → AreGiven None (item_type (present (array_type z))) (λ ws. joined_items ws)
+      → AreGiven None (item_of (present (array_type z))) (λ ws. joined_items ws)
       starts stops z o w
-      → AreGiven None (item_type (present (array_type y))) (λ ws. joined_items ws) s t y o w
+      → AreGiven None (item_of (present (array_type y))) (λ ws. joined_items ws) s t y o w
   lists_given l o w g = record {
     valid = g.valid;
     offsets = subst (λ n. AreOffsets o n (len w)) size-starts g.offsets;
@@ -148,7 +149,7 @@ module _ (class : Class) (s t : Column) (y : Layout) (a : AreLists class s t y)
     lists = λ i p.
         g.lists i (omega (arith, p, size-starts))
         ∙ ap (λ u. map (simple_value u) (joined_items (items_at starts stops z i))) (same_typ l)
-        ∙ ap (map (simple_value (item_type (present (array_type y))))) (joined_is i p);
+        ∙ ap (map (simple_value (item_of (present (array_type y))))) (joined_is i p);
   }
 
   pub moved_made : flatten_function.refusal (array_type y) ≡ None → (m : Made)

@@ -1,23 +1,21 @@
 -- The runs of the lists of a column: what is made of them.
-use Rattle.std.specs.Prelude.{◌≡◌, ℕ, zero, suc, ◌+◌, ◌-◌, ◌<◌, ◌≤◌, ◌^◌, refl}
-use Rattle.std.specs.Prelude.{List, ◌++◌, length, map, take, drop, sum, ℤ, pos}
-use Rattle.std.specs.Prelude.{Some, None, if◌then◌else◌}
+use Rattle.std.specs.Prelude.{◌≡◌, ℕ, zero, suc, ◌+◌, ◌-◌, ◌<◌, ◌≤◌, ◌^◌, refl, List, ◌++◌, length}
+use Rattle.std.specs.Prelude.{map, take, drop, ℤ, pos, Some, None, if◌then◌else◌}
 use Rattle.std.specs.List.{range_with_len, flat_map}
 use Rattle.std.proofs.Common.{arith, ap, sym, ◌∙◌, subst}
 use Rattle.std.proofs.Math.Seq.{drop-append_seam, take-append_seam}
 use Rattle.std.proofs.lemmas.Grind.{flat_map-append}
 use Rattle.std.proofs.lemmas.Int.{ints}
 use Rattle.std.proofs.lemmas.List.{length-map, drop-map, take-map, get_or-map}
-use Rattle.std.proofs.lemmas.List.Concat.{length-flat_map}
-use Rattle.std.proofs.lemmas.List.Sums.{sum-map}
 use Rattle.std.proofs.lemmas.List.FromFn.{fill_by_all}
 use Rattle.std.proofs.lemmas.Simd.{map-map}
 use Rattle.awk_base.proofs.Ranges.{range-append}
 use Rattle.awk_types.specs.DataType.{leaf}
 use Rattle.awk_types.specs.Simple.{simple_value}
-use Rattle.awk_types.specs.Value.{Value, int, value_list}
+use Rattle.awk_types.specs.Value.{int, value_list}
 use Rattle.awk_types.specs.ItemLimit.{item_limit}
 use Rattle.awk_types.specs.declared.primitive.Primitive.TheVariants as primitive
+use Rattle.awk_types.proofs.ItemLimits.{nat_lt-over, nat_lt-within}
 use Rattle.awk_lanes.specs.Column.{Column}
 use Rattle.awk_lanes.specs.Numbers.{nat_of}
 use Rattle.awk_lanes.specs.Places.{size_of, at, place_at}
@@ -30,6 +28,7 @@ use Rattle.awk_gather.specs.Arrays.{array_item}
 use Rattle.awk_counts.specs.Counted.{first_of}
 use Rattle.awk_counts.proofs.FirstPlaces.{length-first_of}
 use Rattle.awk_lanes.proofs.MadeLanes.{size-lane_of, at-lane_of}
+use Rattle.awk_layout.proofs.Runs.{run-same}
 use Rattle.awk_columns.specs.Joined.{AreOffsets, JoinsLists, total, IsJoined}
 use Rattle.awk_columns.specs.ListClass.{Class}
 use Rattle.awk_axis.specs.Mapped.{AreGiven}
@@ -37,14 +36,13 @@ use Rattle.awk_columns.specs.Lists.{AreLists, items_at, all_items_at}
 use Rattle.awk_axis.specs.Spoils.{too_many}
 use Rattle.awk_axis.specs.declared.causes.Spoil.TheVariants.{Size}
 use Rattle.awk_columns.specs.declared.lists.Joined.TheVariants.{TooMany}
-use Rattle.awk_columns.proofs.ArrayLaws.{run_same, array_items-at}
+use Rattle.awk_columns.proofs.ArrayLaws.{array_items-at}
+use Rattle.awk_columns.proofs.OffsetLaws.{counted_total}
 use Rattle.awk_lists.specs.Numbers.{AreNumbers}
 use Rattle.awk_lists.specs.RunLengths.{runs, run_lengths_function}
-use Rattle.awk_lists.specs.Runs.{runs_at, runs_before, run_offsets, run_lane}
-use Rattle.awk_lists.specs.Runs.{AreRising}
+use Rattle.awk_lists.specs.Runs.{runs_at, runs_before, run_offsets, run_lane, AreRising}
 use Rattle.awk_lists.proofs.Ends.{rising_offsets, joined_at}
 use Rattle.awk_list_ends.proofs.KeptItems.{run-slice}
-use Rattle.awk_lists.proofs.Spans.{over_limit, within_limit}
 use Rattle.awk_lists.proofs.RunLaws.{runs_between-few}
 
 -- ---- lists that lie one after another
@@ -149,7 +147,7 @@ module _ (s e : Column) (y : Layout) (o : Column) (z : Layout) (c : Column)
   same_values : (i : ℕ) → i < size_of s → runs_at c o i ≡ runs (items_at s e y i)
   same_values i p =
       ap runs (ap value_list (sym (j.lists i p
-      ∙ run_same (array_item z) (λ k. leaf_value c.kind (at c k)) (place_at o i)
+      ∙ run-same (array_item z) (λ k. leaf_value c.kind (at c k)) (place_at o i)
       (place_at o (i + 1) - place_at o i)
       (λ k q r. n.items k (omega (arith, r, j.offsets.within i p))))))
 
@@ -192,21 +190,14 @@ module _ (s e : Column) (y : Layout) (o : Column) (z : Layout) (c : Column)
 
 -- ---- how many items there are
 
-counted_total : (s e : Column) (y : Layout)
-    → sum (map (λ (l : List Value). length l) (all_items_at s e y)) ≡ total s e y
-counted_total s e y =
-    ap sum (map-map (λ (l : List Value). length l) (items_at s e y) (range_with_len 0 (size_of s)))
-    ∙ sum-map (λ i. length (items_at s e y i)) (range_with_len 0 (size_of s))
-    ∙ sym (length-flat_map (items_at s e y) (range_with_len 0 (size_of s)))
-
 pub runs_spoilt : (s e : Column) (y : Layout) → IsJoined s e y TooMany
     → run_lengths_function.spoil (array_type y) (all_items_at s e y) ≡ Some Size
 runs_spoilt s e y h =
     ap too_many (counted_total s e y)
-    ∙ ap (λ b. if b then Some Size else None) (over_limit (total s e y) h)
+    ∙ ap (λ b. if b then Some Size else None) (nat_lt-over (total s e y) h)
 
 pub runs_fine : (s e : Column) (y : Layout) → total s e y ≤ item_limit
     → run_lengths_function.spoil (array_type y) (all_items_at s e y) ≡ None
 runs_fine s e y h =
     ap too_many (counted_total s e y)
-    ∙ ap (λ b. if b then Some Size else None) (within_limit (total s e y) h)
+    ∙ ap (λ b. if b then Some Size else None) (nat_lt-within (total s e y) h)

@@ -1,26 +1,18 @@
 -- Single values as arrays of one item, and what is chosen of them.
 use Rattle.std.proofs.Common.{◌≡◌, ◌∷◌, [], length, map, Ok, None, ap, ap₂, sym, ◌∙◌, subst}
-use Rattle.std.specs.List.{range_with_len}
 use Rattle.awk_types.specs.Datum.{arr, one}
 use Rattle.awk_types.specs.Gives.{refused_or}
-use Rattle.awk_types.specs.Simple.{simple_value}
 use Rattle.awk_types.proofs.RefusalLaws.{refused_or-Ok}
 use Rattle.awk_layout.specs.Layout.{Layout}
 use Rattle.awk_layout.specs.Valid.{len}
-use Rattle.awk_layout.specs.Item.{item}
 use Rattle.awk_layout.specs.Datum.{IsDatum, first_item}
 use Rattle.awk_layout.specs.declared.datum.Datum as code
 use Rattle.awk_layout.specs.declared.datum.Datum.TheVariants.{One}
-use Rattle.awk_layout.specs.Typing.{layout_type, array_type, array_items, array_datum}
-use Rattle.awk_layout.proofs.ArrayItems.{length-array_items}
+use Rattle.awk_layout.specs.Typing.{array_type, array_items, array_datum}
+use Rattle.awk_layout.proofs.ArrayItems.{length-array_items, array_items-one}
 use Rattle.awk_view.specs.Choice.{Choice, chosen_type, chosen_value}
 use Rattle.awk_view.specs.Answer.{choice_fault, view_answer}
 use Rattle.awk_lists.specs.WithoutField.{choice_of}
-
--- an array of one item has its first alone
-pub array_items-one : (x : Layout) → len x ≡ 1 → array_items x ≡ first_item x ∷ []
-array_items-one x single =
-    ap (λ n. map (simple_value (layout_type x)) (map (item x) (range_with_len 0 n))) single
 
 -- a datum that is a single value has one item
 pub one_item : (d : code.Datum) (x : Layout) → d ≡ One x → IsDatum d → len x ≡ 1

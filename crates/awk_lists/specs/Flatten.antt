@@ -1,8 +1,7 @@
 -- The lists of a list joined to one list.
-use Rattle.std.specs.Prelude.{suc, ℤ, pos, Some, None, Result, Err}
-use Rattle.std.specs.Prelude.{if◌then◌else◌}
-use Rattle.awk_types.specs.DataType.{DataType, var, reg}
+use Rattle.std.specs.Prelude.{suc, ℤ, pos, Some, None, Result, Err, if◌then◌else◌}
 use Rattle.awk_types.specs.Datum.{Datum}
+use Rattle.awk_types.specs.Parts.{item_of}
 use Rattle.awk_types.specs.Simple.{present}
 use Rattle.awk_types.specs.declared.fault.Fault.{Fault}
 use Rattle.awk_types.specs.declared.fault.Fault.TheVariants.{Axis}
@@ -13,16 +12,11 @@ use Rattle.awk_axis.specs.Lifting.{lift}
 use Rattle.awk_axis.specs.ListFunction.{ListFunction, lists}
 use Rattle.awk_axis.specs.declared.causes.Refusal.TheVariants as refused
 
-abbrev pub item_type : DataType → DataType
-item_type (var t) = t
-item_type (reg n t) = t
-item_type t = t
-
 -- the items of all lists of a list, one after another. A null list has none.
 abbrev pub flatten_function : ListFunction
 flatten_function = record {
   refusal = λ t. if is_list_or_unknown (present t) then None else Some refused.Axis;
-  giving = lists (λ class. None) (λ t. item_type (present t)) (λ t vs. joined_items vs);
+  giving = lists (λ class. None) (λ t. item_of (present t)) (λ t vs. joined_items vs);
   spoil = counted (λ t vs. joined_items vs);
 }
 

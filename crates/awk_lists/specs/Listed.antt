@@ -1,5 +1,6 @@
 -- The lists of an array, one after another, where null has no items.
 use Rattle.std.specs.Prelude.{◌≡◌, ℕ, ◌+◌, ◌<◌, ◌≤◌, List, length, take, pos}
+use Rattle.awk_types.specs.Parts.{item_of}
 use Rattle.awk_types.specs.Simple.{present}
 use Rattle.awk_types.specs.Value.{Value}
 use Rattle.awk_types.specs.ItemLimit.{item_limit}
@@ -11,7 +12,6 @@ use Rattle.awk_layout.specs.Typing.{array_type, array_items}
 use Rattle.awk_columns.specs.Columns.{joined_items}
 use Rattle.awk_columns.specs.declared.lists.Joined.{Joined}
 use Rattle.awk_columns.specs.declared.lists.Joined.TheVariants.{TooMany, Lists}
-use Rattle.awk_lists.specs.Flatten.{item_type}
 
 -- how many items the first i lists have together
 abbrev pub items_before : List Value → ℕ → ℕ
@@ -24,7 +24,7 @@ pub record AreEnds (o : Column) (vs : List Value) : Type 0 where
   pub ends : (i : ℕ) → i ≤ length vs → at o i ≡ pos (items_before vs i)
 
 pub record AreListed (x : Layout) (o : Column) (z : Layout) : Type 0 where
-  pub typ : array_type z ≡ item_type (present (array_type x))
+  pub typ : array_type z ≡ item_of (present (array_type x))
   pub valid : IsValid z
   pub ends : AreEnds o (array_items x)
   pub column : array_items z ≡ joined_items (array_items x)

@@ -13,15 +13,11 @@ use Rattle.awk_types.specs.WholeNumbers.{is_numbers}
 use Rattle.awk_types.specs.ItemLimit.{too_many}
 use Rattle.awk_types.specs.declared.fault.Fault.{Fault}
 use Rattle.awk_types.specs.declared.fault.Fault.TheVariants.{WrongType, Lengths}
-use Rattle.awk_lanes.specs.Numbers.{nat_of}
+use Rattle.awk_layout.specs.Shown.{count_of}
 
 abbrev pub is_negative : Value → Bool
 is_negative (int (negsuc n)) = true
 is_negative v = false
-
-abbrev pub count_of : Value → ℕ
-count_of (int z) = nat_of z
-count_of v = 0
 
 -- how many items the first i counts are together
 abbrev pub counted_before : List Value → ℕ → ℕ

@@ -14,16 +14,16 @@ ghost use Rattle.awk_lanes.specs.Places.{size_of, IsOffsets};
 ghost use Rattle.awk_lanes.specs.declared.kind.Kind.TheVariants as Kind;
 ghost use Rattle.awk_layout.specs.Datum.{datum_of, IsDatum};
 ghost use Rattle.awk_layout.specs.Layout.{offset_lists};
+ghost use Rattle.awk_layout.specs.Shown.{count_of};
 ghost use Rattle.awk_layout.specs.Typing.{array_type, array_items, array_datum};
 ghost use Rattle.awk_layout.specs.Valid.{len};
 ghost use Rattle.awk_lanes.specs.Made.{lane_of};
 ghost use Rattle.awk_lists.specs.Numbers.{AreCounts};
 ghost use Rattle.awk_lists.specs.Unflatten as spec;
-ghost use Rattle.awk_lists.specs.Unflatten.{unflatten_of, count_of, counted_before, do_not_add_up};
+ghost use Rattle.awk_lists.specs.Unflatten.{unflatten_of, counted_before, do_not_add_up};
 ghost use Rattle.awk_lists.specs.Unflatten.{limit_refused, lists_by};
 
 use crate::numbers::numbers_of;
-use awk_axis::made;
 use awk_lanes::{Arena, IndexMaker, Lane, Num, Steps, number};
 use awk_layout::{Array, Datum, Node};
 use awk_types::{Fault, ITEM_LIMIT, NoMemory, Typ, copy_type, is_numbers, simple_of};
@@ -129,7 +129,7 @@ fn lists_over<'a, L: Ledger>(
     ensures { IfOk result (λ y. y ≡ offset_lists offsets.entry x.now) }
 {
     let content = Box::new(alloc, x.node().copy(alloc)?)?;
-    made(alloc, Node::list_offset(offsets, content, steps))
+    Array::of_node(alloc, Node::list_offset(offsets, content, steps))
 }
 
 /// The array in lists of the lengths that counts say.

@@ -2,9 +2,8 @@
 ghost use Rattle.std.specs.Prelude.{◌+◌, ◌*◌, ◌≤◌, IfOk};
 ghost use Rattle.awk_types.specs.Faults.{fault_told};
 ghost use Rattle.awk_types.specs.Gives.{Gives};
-ghost use Rattle.awk_layout.specs.Datum.{datum_of, IsDatum};
+ghost use Rattle.awk_layout.specs.Datum.{datum_of, IsDatum, kept};
 ghost use Rattle.awk_layout.specs.Layout.{weight, height};
-ghost use Rattle.awk_view.specs.Settled.{kept};
 ghost use Rattle.awk_lists.specs.WithoutField.{without_field_of};
 
 use awk_lanes::{Arena, Steps};

@@ -8,6 +8,7 @@ ghost use Rattle.awk_open.specs.Opens.{OpensNothing, OpensOption};
 ghost use Rattle.awk_types.specs.Predicates.{is_list_or_unknown};
 ghost use Rattle.awk_lists.specs.Held.{held_at, held_counts, AreLengths, AreHeld};
 
+use awk_counts::present_counts;
 use awk_gather::gather;
 use awk_gather_lanes::gather_lane;
 use awk_lanes::{
@@ -16,7 +17,6 @@ use awk_lanes::{
 use awk_layout::Array;
 use awk_list_ends::length_between;
 use awk_open::{Opened, open_array};
-use awk_option_nodes::present_counts;
 use awk_types::NoMemory;
 use std::alloc::Global;
 use std::sync::ledger::Ledger;

@@ -1,8 +1,8 @@
 //! The lists of a list joined to one list.
-ghost use Rattle.std.specs.Prelude.{◌≡◌, ◌-◌, ◌≤ℤ◌, true, None, pos};
-ghost use Rattle.std.specs.Prelude.{IfOk};
+ghost use Rattle.std.specs.Prelude.{◌≡◌, ◌-◌, ◌≤ℤ◌, true, None, pos, IfOk};
 ghost use Rattle.awk_types.specs.Faults.{fault_told};
 ghost use Rattle.awk_types.specs.Gives.{Gives};
+ghost use Rattle.awk_types.specs.Parts.{item_of};
 ghost use Rattle.awk_types.specs.Simple.{present};
 ghost use Rattle.awk_types.specs.View.{typ_of};
 ghost use Rattle.awk_lanes.specs.Numbers.{nat_of};
@@ -12,7 +12,6 @@ ghost use Rattle.awk_columns.specs.Lists.{AreLists};
 ghost use Rattle.awk_open.specs.Opens.{OpensNothing};
 ghost use Rattle.awk_columns.specs.Joined.{JoinsLists};
 ghost use Rattle.awk_axis.specs.Mapped.{IsMade};
-ghost use Rattle.awk_lists.specs.Flatten as spec;
 ghost use Rattle.awk_types.specs.Predicates as predicates;
 ghost use Rattle.awk_lists.specs.Flatten.{flatten_function, flatten_of};
 ghost use Rattle.awk_lists.specs.Held.{AreHeld};
@@ -30,8 +29,8 @@ use awk_types::{Fault, NoMemory, Typ, copy_type, is_list_or_unknown};
 use std::alloc::Global;
 use std::sync::ledger::Ledger;
 
-/// Whether they are lists, optional or not.
-fn has_lists(t: &Typ) -> bool
+/// Whether they are lists, optional or not, or of no values.
+fn has_lists_or_unknown(t: &Typ) -> bool
     ensures { result ≡ predicates.is_list_or_unknown (present (typ_of t.now)) }
 {
     match t {
@@ -42,7 +41,7 @@ fn has_lists(t: &Typ) -> bool
 
 /// The type of the items of lists.
 fn item_typ(alloc: Global, t: &Typ) -> Result<Typ, NoMemory>
-    ensures { IfOk result (λ u. typ_of u ≡ spec.item_type (typ_of t.now)) }
+    ensures { IfOk result (λ u. typ_of u ≡ item_of (typ_of t.now)) }
 {
     match t {
         Typ::Var(item) | Typ::Reg(_, item) => copy_type(alloc, item),
@@ -219,7 +218,7 @@ impl ListOp for JoinedLists {
     ghost function = { λ f. flatten_function };
 
     fn refusal(&self, item: &Typ) -> Option<Refusal> {
-        if has_lists(item) {
+        if has_lists_or_unknown(item) {
             None
         } else {
             Some(Refusal::Axis)

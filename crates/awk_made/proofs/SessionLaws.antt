@@ -1,11 +1,10 @@
 -- The made session has eight lines, all within the limits.
-use Rattle.std.proofs.Common.{◌≡◌, ◌<◌, ◌≤◌, ℕ, ◌+◌, List, [], ◌∷◌, ◌++◌, length, refl}
+use Rattle.std.proofs.Common.{◌≡◌, ◌<◌, ◌≤◌, ℕ, ◌+◌, List, ◌++◌, length, refl}
 use Rattle.std.proofs.Common.{arith, codes, decimal, length-append}
-use Rattle.std.specs.List.{AllByRecursion}
 use Rattle.std.proofs.lemmas.Fmt.{length-decimal-le}
 use Rattle.base64.specs.Engines.{standard}
 use Rattle.base64.specs.GeneralPurpose.{encode_of}
-use Rattle.awk_edge.specs.Lines.{Unbroken, AreLines, line_limit, lines_limit}
+use Rattle.awk_edge.specs.Lines.{Unbroken, AreLines, line_limit}
 use Rattle.awk_edge.proofs.LineLaws.{Unbroken-append}
 use Rattle.awk_json.proofs.Base64.{encode_of-unbroken}
 use Rattle.awk_json.proofs.Lines.{literal-unbroken, decimal-unbroken}
@@ -109,12 +108,3 @@ session_lines-within n seed few = (
     ),
   ),
 )
-
-few_lines : 8 ≤ lines_limit
-unfolding lines_limit
-few_lines = omega arith
-
-all_short : (ls : List (List ℕ)) → AreLines ls
-    → AllByRecursion (λ line. length line ≤ line_limit) ls
-all_short [] a = tt
-all_short (l ∷ ls) a = (a.0.1, all_short ls a.1)

@@ -1,6 +1,6 @@
 -- What is made and what is left to draw, from one turn of a loop to the next.
-use Rattle.std.proofs.Common.{◌≡◌, ◌<◌, ℕ, zero, suc, ◌+◌, ◌-◌, ◌*◌, ◌%◌, List, [], ◌∷◌, ◌++◌}
-use Rattle.std.proofs.Common.{length, refl, ap, sym, ◌∙◌, arith, append_assoc, append-nil}
+use Rattle.std.proofs.Common.{◌≡◌, ◌<◌, ℕ, zero, suc, ◌+◌, ◌-◌, ◌*◌, ◌%◌, List, ◌∷◌, ◌++◌}
+use Rattle.std.proofs.Common.{length, refl, ap, sym, ◌∙◌, arith, append_assoc}
 use Rattle.std.specs.List.{flat_map}
 use Rattle.std.proofs.lemmas.List.Concat.{flat_map-cons}
 use Rattle.awk_made.specs.Draws.{draw, after_draws, muon, muons, events}
@@ -38,8 +38,3 @@ pub made_on : {X : Type 0} (f : X → List ℕ) (made made1 : List ℕ) (x : X) 
 made_on f made made1 x xs all whole sofar e m =
     ap (λ z. z ++ flat_map f xs) m ∙ append_assoc made (f x) (flat_map f xs) ∙ ap (λ z. made ++ z)
     (sym (flat_map-cons f x xs) ∙ ap (flat_map f) (sym e)) ∙ sofar
-
-pub made_all : {X : Type 0} (f : X → List ℕ) (made : List ℕ) (all : List X) (whole : List ℕ)
-    → made ++ flat_map f all ≡ whole → all ≡ [] → made ≡ whole
-made_all f made all whole sofar e =
-    sym (append-nil made) ∙ ap (λ z. made ++ flat_map f z) (sym e) ∙ sofar

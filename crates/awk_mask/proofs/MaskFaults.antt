@@ -4,7 +4,7 @@ use Rattle.std.specs.Prelude.{Some, None, Result, Ok, Err, option_map}
 use Rattle.std.proofs.Common.{arith, ap, ap₂, sym, ◌∙◌}
 use Rattle.awk_types.specs.DataType.{DataType}
 use Rattle.awk_types.specs.Datum.{Datum, arr}
-use Rattle.awk_types.specs.Faults.{fault_of, fault_told, limit_fault}
+use Rattle.awk_types.specs.Faults.{fault_of, fault_told, limit_fault, wrong_unless}
 use Rattle.awk_types.specs.Gives.{Told, refused_or, ◌or◌}
 use Rattle.awk_types.specs.ItemLimit.{item_limit}
 use Rattle.awk_types.specs.Limit.{Limit, limit, limit_told, within, depth_limit, size_limit}
@@ -13,7 +13,7 @@ use Rattle.awk_types.specs.declared.fault.Fault.{Fault}
 use Rattle.awk_types.specs.declared.fault.Fault.TheVariants.{WrongType, Lengths, Size, NoMemory}
 use Rattle.awk_types.specs.declared.limit.TypeFault.{TypeFault}
 use Rattle.awk_types.specs.declared.limit.TypeFault.TheVariants as refused
-use Rattle.awk_types.proofs.RefusalLaws.{refused_or-Ok, refused_or-Err, or-both}
+use Rattle.awk_types.proofs.RefusalLaws.{refused_or-Ok, refused_or-Err, or-both, no_limit}
 use Rattle.awk_layout.specs.Layout.{Layout}
 use Rattle.awk_layout.specs.Typing.{array_type, array_items, array_datum}
 use Rattle.awk_layout.specs.Valid.{len}
@@ -24,7 +24,7 @@ use Rattle.awk_mask_levels.specs.MaskLevels.{IsFit, IsUnder, pairs_of, below_ref
 use Rattle.awk_mask_levels.specs.MaskLevels.{levels_refused}
 use Rattle.awk_mask.specs.MaskTypes.{IsJudged}
 use Rattle.awk_mask.specs.MaskedArrays.{IsMaskedBy, large_told}
-use Rattle.awk_mask.specs.PutMask.{types_refused, type_refused, lengths_refused, put_mask_of}
+use Rattle.awk_mask.specs.PutMask.{types_refused, lengths_refused, put_mask_of}
 use Rattle.awk_mask.specs.declared.masking.Masked.TheVariants as masked
 use Rattle.awk_mask_levels.proofs.MaskColumns.{pairs_length}
 use Rattle.awk_mask_levels.proofs.MaskCounts.{levels_over, levels_within}
@@ -61,14 +61,10 @@ judged_limited X u t s refused.NoMemory e m q h f = rw f (λ later d. tt)
 pub judged_within : (X : Type 0) (x : X) (u t s r : DataType) → masks u t ≡ true
     → s ≡ masked_type u t → within (simple s) ≡ Ok r → IsJudged {X = X} (types_refused u t) (Ok x)
 judged_within X x u t s r m q h =
-    ap₂ (λ b l. type_refused b or option_map limit_fault l) m
+    ap₂ (λ b l. wrong_unless b or option_map limit_fault l) m
     (ap (λ s. limit (simple s)) (sym q) ∙ (refused_or-Ok (limit (simple s)) (simple s) r h).0)
 
 pub ruleset judging = (judged_none, judged_memory, judged_limited, judged_within)
-
-no_limit : (l : Option Limit) → option_map limit_fault l ≡ None → l ≡ None
-no_limit None e = refl
-no_limit (Some l) e = absurd cc
 
 -- a fault that is told where some level has too many items
 pub told_by : (b : Bool) (e : Fault) (r : Result Datum Fault) → e ≡ large_told b
@@ -83,17 +79,17 @@ module _ (keep : Bool) (m x : Layout)
   pub are_masks : masks (array_type m) (array_type x) ≡ true
   are_masks =
       allowed (masks (array_type m) (array_type x))
-      (or-both (type_refused (masks (array_type m) (array_type x)))
+      (or-both (wrong_unless (masks (array_type m) (array_type x)))
       (option_map limit_fault (limit (simple (masked_type (array_type m) (array_type x))))) a).0
     where
-      allowed : (b : Bool) → type_refused b ≡ None → b ≡ true
+      allowed : (b : Bool) → wrong_unless b ≡ None → b ≡ true
       allowed true e = refl
       allowed false e = absurd cc
 
   pub type_within : limit (simple (masked_type (array_type m) (array_type x))) ≡ None
   type_within =
       no_limit (limit (simple (masked_type (array_type m) (array_type x))))
-      (or-both (type_refused (masks (array_type m) (array_type x)))
+      (or-both (wrong_unless (masks (array_type m) (array_type x)))
       (option_map limit_fault (limit (simple (masked_type (array_type m) (array_type x))))) a).1
 
   abbrev result : Datum

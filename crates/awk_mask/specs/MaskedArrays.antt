@@ -6,7 +6,7 @@ use Rattle.awk_layout.specs.Layout.{Layout}
 use Rattle.awk_layout.specs.Valid.{IsValid}
 use Rattle.awk_gather.specs.Peeled.{IsPickedOpt}
 use Rattle.awk_columns.specs.ListNode.{list_layout}
-use Rattle.awk_option_nodes.specs.Composed.{IsComposed}
+use Rattle.awk_gather.specs.Composed.{IsComposed}
 use Rattle.awk_mask_levels.specs.MaskLevels.{unlike, below_refused, over_layout}
 use Rattle.awk_mask_levels.specs.MaskLevels.{IsMaskedArray, IsPlaced}
 use Rattle.awk_mask_levels.specs.declared.mask_levels.Over.{Over}

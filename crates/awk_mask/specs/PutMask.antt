@@ -3,7 +3,7 @@ use Rattle.std.specs.Prelude.{Bool, List, map, Option, Some, None, option_map, R
 use Rattle.std.specs.Prelude.{if◌then◌else◌}
 use Rattle.awk_types.specs.DataType.{DataType}
 use Rattle.awk_types.specs.Datum.{Datum, arr}
-use Rattle.awk_types.specs.Faults.{limit_fault}
+use Rattle.awk_types.specs.Faults.{limit_fault, wrong_unless}
 use Rattle.awk_types.specs.Gives.{refused_or, ◌or◌}
 use Rattle.awk_types.specs.Limit.{limit}
 use Rattle.awk_types.specs.Simple.{simple, simple_value}
@@ -14,16 +14,13 @@ use Rattle.awk_mask_lengths.specs.MaskValues.{masks, masked_type, masked_value, 
 use Rattle.awk_mask_lengths.specs.MaskValues.{lists_differ, differs}
 use Rattle.awk_mask_levels.specs.MaskLevels.{levels_refused}
 
-abbrev pub type_refused : Bool → Option Fault
-type_refused allowed = if allowed then None else Some WrongType
-
 abbrev pub lengths_refused : Bool → Option Fault
 lengths_refused unequal = if unequal then Some Lengths else None
 
 -- what types tell of items of type t under a mask of type u
 abbrev pub types_refused : DataType → DataType → Option Fault
 types_refused u t =
-    type_refused (masks u t) or option_map limit_fault (limit (simple (masked_type u t)))
+    wrong_unless (masks u t) or option_map limit_fault (limit (simple (masked_type u t)))
 
 -- why items of type t are not masked by others of type u, where these values are made of them
 abbrev pub masked_refused : DataType → List Value → DataType → List Value → List Value

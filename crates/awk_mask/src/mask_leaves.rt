@@ -7,17 +7,16 @@ ghost use Rattle.awk_layout.specs.Item.{agrees};
 ghost use Rattle.awk_layout.specs.Typing.{array_type};
 ghost use Rattle.awk_layout.specs.Valid.{len};
 ghost use Rattle.awk_gather.specs.Peeled.{if_shown};
-ghost use Rattle.awk_option_nodes.specs.Composed.{IsComposed};
+ghost use Rattle.awk_gather.specs.Composed.{IsComposed};
 ghost use Rattle.awk_mask_levels.specs.MaskLevels.{is_innermost};
-ghost use Rattle.awk_mask.specs.MaskLeaves.{kept_lane, kept_place, truths_in};
-ghost use Rattle.awk_mask.specs.MaskLeaves.{AreTruths, IsMasked};
+ghost use Rattle.awk_mask.specs.MaskLeaves.{kept_lane, kept_place, truths_in, AreTruths, IsMasked};
 
+use awk_gather::option_over;
 use awk_lanes::{
     Arena, Kind, Lane, LaneMaker, Num, Numbers, Steps, byte_numbers, made_lane, number,
 };
 use awk_layout::{Array, Node};
 use awk_open::{Opened, opened};
-use awk_option_nodes::option_over;
 use awk_types::NoMemory;
 use std::alloc::Global;
 use std::sync::ledger::Ledger;

@@ -16,12 +16,11 @@ ghost use Rattle.awk_mask.specs.PutMask.{put_mask_of, types_refused};
 
 use crate::mask_leaves::masked_items;
 use crate::mask_types::{masked_type, masks};
-use awk_axis::made;
+use awk_gather::option_over;
 use awk_lanes::{Arena, Lane, Steps};
 use awk_layout::{Array, Datum, Node};
 use awk_mask_lengths::unequal;
 use awk_mask_levels::{Level, Over, level_of};
-use awk_option_nodes::option_over;
 use awk_types::{Fault, ITEM_LIMIT, NoMemory, Typ, simple_of};
 use std::alloc::Global;
 use std::sync::ledger::Ledger;
@@ -205,7 +204,7 @@ fn put_mask_over<'a, L: Ledger>(
     match masked_array(alloc, x, m, keep, arena, steps)? {
         Masked::Unequal => Err(Fault::Lengths),
         Masked::TooMany => Err(large_fault(alloc, x, m, arena, steps)?),
-        Masked::Column(node) => Ok(Datum::Arr(made(alloc, node)?)),
+        Masked::Column(node) => Ok(Datum::Arr(Array::of_node(alloc, node)?)),
     }
 }
 

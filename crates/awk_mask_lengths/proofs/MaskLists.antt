@@ -1,13 +1,13 @@
 -- The lists of arrays, by their starts and stops or by an index over these.
 use Rattle.std.specs.Prelude.{◌≡◌, ℕ, ◌+◌, ◌-◌, ◌<◌, ◌≤◌, true, refl, drop, length, slice_range}
-use Rattle.std.specs.Prelude.{ℤ, pos, negsuc, ◌<ℤ◌, Option, Some, None}
+use Rattle.std.specs.Prelude.{ℤ, pos, negsuc, Option, Some}
 use Rattle.std.proofs.Common.{arith, ap, sym, ◌∙◌, length-take, length-drop, get_or-take}
 use Rattle.std.proofs.Common.{get_or-drop}
 use Rattle.std.proofs.lemmas.Int.{ints}
 use Rattle.std.proofs.lemmas.List.{ext_get_or}
 use Rattle.std.proofs.lemmas.List.FromFn.{length-map-range_with_len, get_or-map-range_with_len}
 use Rattle.awk_types.specs.DataType.{DataType, unknown, leaf, var, reg, rec, tup, opt, uni}
-use Rattle.awk_types.specs.Value.{Value, null, value_list}
+use Rattle.awk_types.specs.Value.{null, value_list}
 use Rattle.awk_lanes.specs.Column.{Column}
 use Rattle.awk_lanes.specs.Numbers.{nat_of}
 use Rattle.awk_lanes.specs.Places.{size_of, at, option_place, option_place_at, IsSpan}
@@ -25,6 +25,8 @@ use Rattle.awk_lanes.proofs.MadeLanes.{size-lane_of, at-lane_of}
 use Rattle.awk_open.specs.Opens.{OpensOption}
 use Rattle.awk_mask_lengths.specs.MaskLists.{IsItemType, AreListsOf, AreInside}
 use Rattle.awk_types.specs.Predicates.{is_list}
+use Rattle.awk_lanes.proofs.PlaceLaws.{named-below}
+use Rattle.awk_layout.proofs.OptionItems.{same_at}
 
 -- ---- the items of one list
 
@@ -91,20 +93,11 @@ option_item_type (tup ts) u l h = absurd cc
 option_item_type (opt t) u l h = absurd cc
 option_item_type (uni ts) u l h = absurd cc
 
-place_below : (z : ℤ) (n k : ℕ) → z <ℤ pos n → option_place z ≡ Some k → k < n
-place_below (pos m) n k l e = grind (arith, ints)
-place_below (negsuc m) n k l e = absurd cc
-
-same_at : (o : Option ℕ) (n : ℕ) (f g : ℕ → Value) → ((k : ℕ) → o ≡ Some k → k < n)
-    → ((k : ℕ) → k < n → f k ≡ g k) → at_option o f ≡ at_option o g
-same_at None n f g b e = refl
-same_at (Some k) n f g b e = e k (b k refl)
-
 pub option_lists : (x y : Layout) (given j s t : Column) (z : Layout) → OpensOption given y x
     → is_list (array_type y) ≡ true → AreInside y given j s t z → AreListsOf x j s t z
 option_lists x y given j s t z o l h =
     let below : (i k : ℕ) → i < len x → option_place_at given i ≡ Some k → k < len y =
-    λ i k p e. place_below (at given i) (len y) k (o.index.below i (omega (arith, p, o.size))) e in
+    λ i k p e. named-below (at given i) (len y) k (o.index.below i (omega (arith, p, o.size))) e in
     record {
       typ = rw o.typ (option_item_type (array_type y) (array_type z) l h.typ);
       index = rw h.index (record {

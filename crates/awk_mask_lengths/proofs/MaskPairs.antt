@@ -1,11 +1,9 @@
 -- Masks over lists by place: what their types say of the items, and where lists differ.
-use Rattle.std.specs.Prelude.{◌≡◌, ℕ, zero, suc, ◌-◌, ◌<◌, Bool, true, false, ◌||◌}
-use Rattle.std.specs.Prelude.{refl, List, [], ◌∷◌, length, get_or, Option, Some, None}
-use Rattle.std.specs.Prelude.{option_map}
+use Rattle.std.specs.Prelude.{◌≡◌, ℕ, zero, suc, ◌-◌, ◌<◌, Bool, true, false, ◌||◌, refl, List, []}
+use Rattle.std.specs.Prelude.{◌∷◌, length, get_or, Option, Some, None, option_map}
 use Rattle.std.proofs.Common.{arith, ap, ap₂, sym, ◌∙◌}
 use Rattle.awk_base.proofs.Truths.{equal_right, unequal_wrong}
-use Rattle.awk_types.specs.DataType.{DataType, unknown, leaf, var, reg, rec, tup, opt, uni}
-use Rattle.awk_types.specs.DataType.{depth}
+use Rattle.awk_types.specs.DataType.{DataType, unknown, leaf, var, reg, rec, tup, opt, uni, depth}
 use Rattle.awk_types.specs.Simple.{IsSimple}
 use Rattle.awk_types.specs.Value.{Value, Values, null, list, value_list}
 use Rattle.awk_lanes.specs.Column.{Column}
@@ -17,9 +15,8 @@ use Rattle.awk_layout.specs.Valid.{len}
 use Rattle.awk_layout.proofs.ArrayItems.{length-array_items, get_or-array_items}
 use Rattle.awk_gather.specs.Arrays.{array_item}
 use Rattle.awk_mask_lengths.specs.MaskLists.{has_lists, IsItemType, AreListsOf, IsPlace}
-use Rattle.awk_types.specs.Predicates.{is_list}
 use Rattle.awk_mask_lengths.specs.MaskLists.{optional_items, items_differ}
-use Rattle.awk_mask_lengths.specs.MaskValues.{masks, of_items, has_items, differs, differ_inside}
+use Rattle.awk_mask_lengths.specs.MaskValues.{masks, has_items, differs, differ_inside}
 use Rattle.awk_mask_lengths.specs.MaskValues.{any_pair, lists_differ}
 
 -- ---- types

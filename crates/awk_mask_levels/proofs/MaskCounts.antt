@@ -10,6 +10,7 @@ use Rattle.awk_types.specs.Value.{Value, null, int, truth, list, row, alt, value
 use Rattle.awk_types.specs.declared.fault.Fault.TheVariants.{Size}
 use Rattle.awk_types.proofs.RefusalLaws.{or-last, or-None}
 use Rattle.awk_types.proofs.Trees.{value_list-from}
+use Rattle.awk_types.proofs.ItemLimits.{over_limit, within_limit}
 use Rattle.awk_columns.specs.Columns.{joined_items, is_present, list_items}
 use Rattle.awk_mask_lengths.specs.MaskValues.{in_pairs, of_lists, any_pair, differ_inside}
 use Rattle.awk_mask_lengths.specs.MaskValues.{lists_differ}
@@ -17,7 +18,6 @@ use Rattle.awk_mask_levels.specs.MaskLevels.{inner_refused, levels_refused}
 use Rattle.awk_mask_levels.specs.MaskNulls.{present_with}
 use Rattle.awk_mask_levels.proofs.MaskJoined.{IsListValue, same_length}
 use Rattle.awk_mask_levels.proofs.MaskPresent.{or_left, or_right}
-use Rattle.awk_columns.proofs.ItemLimits.{over_limit, within_limit}
 
 -- ---- levels
 

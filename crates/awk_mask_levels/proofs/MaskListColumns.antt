@@ -3,7 +3,6 @@ use Rattle.std.specs.Prelude.{◌≡◌, ℕ, zero, suc, ◌+◌, ◌-◌, ◌<�
 use Rattle.std.specs.Prelude.{[], ◌∷◌, length, map, get_or}
 use Rattle.std.proofs.Common.{arith, ap, ap₂, sym, ◌∙◌, add-one}
 use Rattle.std.proofs.lemmas.List.{get_or-map}
-use Rattle.std.proofs.lemmas.List.FromFn.{get_or-map-range_with_len}
 use Rattle.awk_types.specs.DataType.{DataType, depth}
 use Rattle.awk_types.specs.Simple.{simple, simple_value, in_list}
 use Rattle.awk_types.specs.Value.{Value, Values, null, list, value_list, values_from}
@@ -16,14 +15,14 @@ use Rattle.awk_layout.specs.Layout.{Layout}
 use Rattle.awk_layout.specs.Typing.{array_type, array_items}
 use Rattle.awk_layout.specs.Valid.{len}
 use Rattle.awk_layout.proofs.ArrayItems.{length-array_items, get_or-array_items}
-use Rattle.awk_layout.proofs.Runs.{length-run, value_list-run}
+use Rattle.awk_layout.proofs.Runs.{length-run, run-same, get-run}
 use Rattle.awk_gather.specs.Arrays.{array_item}
 use Rattle.awk_columns.specs.Columns.{joined_items, offsets}
 use Rattle.awk_columns.specs.Joined.{AreOffsets}
 use Rattle.awk_columns.specs.ListClass.{Class, list_type}
 use Rattle.awk_axis.specs.Mapped.{IsColumn}
 use Rattle.awk_columns.specs.ListNode.{list_layout}
-use Rattle.awk_columns.proofs.ArrayLaws.{run_in_list, run_same}
+use Rattle.awk_columns.proofs.ArrayLaws.{run_in_list}
 use Rattle.awk_columns.proofs.ListNodes.{simple-list, simple_value-list, array_type-list, len-list}
 use Rattle.awk_columns.proofs.ListNodes.{valid-list, item-list}
 use Rattle.awk_mask_lengths.specs.MaskValues.{masks, differs, differ_inside, any_pair, in_pairs}
@@ -192,7 +191,7 @@ module _ (m x : Layout) (d : Class) (k : ℕ) (p : Column) (m' : Layout) (c : Cl
             let a : ℕ = place_at o i in
             let l : ℕ = place_at o (i + 1) - place_at o i in
             item-list c n o r ax.even i s
-            ∙ ap list (run_same (array_item r)
+            ∙ ap list (run-same (array_item r)
             (λ j. simple_value t (f (array_item m' j) (array_item x' j))) a l
             (λ j _ w. made_at keep m' x' r inside_under h j
             (omega (arith, w, ax.offsets.within i s))))
@@ -245,12 +244,6 @@ module _ (m x : Layout) (d : Class) (k : ℕ) (p : Column) (m' : Layout) (c : Cl
 
 -- ---- where it is not known yet whether lengths differ
 
--- an item of a run
-run_at : (g : ℕ → Value) (a n j : ℕ) → j < n → get_or (value_list (run g a n)) j null ≡ g (a + j)
-run_at g a n j l =
-    ap (λ vs. get_or vs j null) (value_list-run g a n)
-    ∙ get_or-map-range_with_len g a n j (a + j) null l refl
-
 module _ (m x : Layout) (d : Class) (k : ℕ) (p : Column) (m' : Layout) (c : Class) (n : ℕ)
     (o : Column) (x' : Layout) (f : IsFit m x) (am : AreListsIn m d k p m')
     (ax : AreListsIn x c n o x') (hm : HasItems m) (hx : HasItems x) where
@@ -297,7 +290,7 @@ module _ (m x : Layout) (d : Class) (k : ℕ) (p : Column) (m' : Layout) (c : Cl
         (λ j q.
         let s : j < l = omega (arith, q, length-run (array_item m') a l) in
         let b : a + j < len x' = omega (arith, s, ax.offsets.within i r) in
-        ap₂ t (run_at (array_item m') a l j s) (run_at (array_item x') a l j s)
+        ap₂ t (get-run (array_item m') a l j s) (get-run (array_item x') a l j s)
         ∙ sym (ap₂ t (get_or-array_items m' (a + j) (omega (arith, b, whole)))
         (get_or-array_items x' (a + j) b))
         ∙ pair_alike t (array_items m') (array_items x') (a + j) (fit_lengths m' x' lists_fit)

@@ -13,8 +13,6 @@ use Rattle.awk_layout.specs.Layout.{Layout}
 use Rattle.awk_layout.specs.Typing.{array_items}
 use Rattle.awk_layout.proofs.ArrayItems.{length-array_items, get_or-array_items}
 use Rattle.awk_columns.specs.Columns.{joined_items, offsets}
-use Rattle.awk_open.specs.InOrder.{IsInOrder}
-use Rattle.awk_open.specs.Opened as gathers
 use Rattle.awk_open.specs.declared.opening.Opened.TheVariants as ordered
 use Rattle.awk_columns.specs.Joined.{JoinsLists, total}
 use Rattle.awk_columns.specs.ListClass.{Class, list_type}
@@ -24,18 +22,7 @@ use Rattle.awk_columns.specs.Lists.{items_at}
 use Rattle.awk_open.proofs.OpenedLists.{lists-inner}
 use Rattle.awk_columns.proofs.JoinedLists.{offsets_lane-is}
 use Rattle.awk_columns.proofs.ListNodes.{joined_even}
-use Rattle.awk_mask_levels.specs.MaskLevels.{AreInOrder, AreListsIn}
-
-pub option_in_order : (x y : Layout) (j : Column) → gathers.IsOpened x (ordered.Option j y)
-    → IsInOrder (array_items x) (ordered.Option j y) → AreInOrder x j y
-option_in_order x y j o h = record {
-  typ = o.kind;
-  size = o.size;
-  fits = o.valid.0;
-  index = o.valid.1;
-  order = h.0;
-  items = h.1;
-}
+use Rattle.awk_mask_levels.specs.MaskLevels.{AreListsIn}
 
 module _ (x : Layout) (c : Class) (s t : Column) (y : Layout) (opens : OpensLists c s t y x) where
   all_items : flat_map (items_at s t y) (range_with_len 0 (size_of s))

@@ -6,6 +6,7 @@ use Rattle.std.proofs.lemmas.List.{ext_get_or, length-map, get_or-map}
 use Rattle.awk_types.specs.DataType.{DataType, opt}
 use Rattle.awk_types.specs.Simple.{simple_value}
 use Rattle.awk_types.specs.Value.{Value, null}
+use Rattle.awk_types.proofs.NullLaws.{in_option-simple}
 use Rattle.awk_lanes.specs.Column.{Column}
 use Rattle.awk_lanes.specs.Places.{size_of, option_place, option_place_at}
 use Rattle.awk_lanes.specs.declared.kind.Kind.TheVariants.{I64}
@@ -15,7 +16,7 @@ use Rattle.awk_layout.specs.Typing.{array_items}
 use Rattle.awk_layout.proofs.ArrayItems.{length-array_items, get_or-array_items}
 use Rattle.awk_gather.specs.Arrays.{array_item}
 use Rattle.awk_columns.specs.Columns.{is_present, option_index}
-use Rattle.awk_gather.proofs.OptionItems.{item-optional, in_option-simple}
+use Rattle.awk_gather.proofs.OptionItems.{item-optional}
 use Rattle.awk_mask_lengths.specs.MaskValues.{in_pairs}
 use Rattle.awk_mask_levels.specs.MaskNulls.{present_with}
 use Rattle.awk_mask_levels.proofs.MaskNullLists.{by_index, left_nulls, right_nulls}

@@ -7,9 +7,9 @@ ghost use Rattle.awk_layout.specs.Valid.{len};
 ghost use Rattle.awk_mask_levels.specs.MaskNulls.{stops_lane, items_where};
 
 use awk_columns::{Joined, join_spans};
+use awk_counts::one_if_present;
 use awk_lanes::{Arena, IndexMaker, Lane, Steps, number, ordinals};
 use awk_layout::Array;
-use awk_option_nodes::one_if_present;
 use awk_types::NoMemory;
 use std::alloc::Global;
 use std::sync::ledger::Ledger;

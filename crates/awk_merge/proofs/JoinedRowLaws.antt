@@ -19,6 +19,7 @@ use Rattle.awk_types.specs.ItemLimit.{item_limit, too_many}
 use Rattle.awk_types.specs.Simple.{simple_value}
 use Rattle.awk_types.specs.Value.{Value, null, list, value_list, values_from}
 use Rattle.awk_types.specs.declared.fault.Fault.TheVariants.{Size}
+use Rattle.awk_types.proofs.ItemLimits.{over_limit, within_limit}
 use Rattle.awk_lanes.specs.Column.{Column}
 use Rattle.awk_lanes.specs.Numbers.{nat_of}
 use Rattle.awk_lanes.specs.Places.{size_of, at, place_at, IsOffsets}
@@ -41,7 +42,6 @@ use Rattle.awk_merge_operands.specs.Operands.{rows_lane, ends_in_rows, offsets_o
 use Rattle.awk_merge_operands.proofs.ListPlaceLaws.{cell, block_within, size-ends, row_items}
 use Rattle.awk_merge_operands.proofs.ListPlaceLaws.{items-end}
 use Rattle.awk_merge.proofs.RangeLaws.{all-range, flat-none, flat-blocks, rises, runs-joined}
-use Rattle.awk_columns.proofs.ItemLimits.{over_limit, within_limit}
 
 -- ---- the values of a row, by the places of their lists
 

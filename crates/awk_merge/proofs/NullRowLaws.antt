@@ -15,6 +15,7 @@ use Rattle.awk_types.specs.ItemLimit.{too_many}
 use Rattle.awk_types.specs.Simple.{present, is_option, simple_value, in_option}
 use Rattle.awk_types.specs.Value.{Value, null, list, values_from}
 use Rattle.awk_types.specs.declared.fault.Fault.{Fault}
+use Rattle.awk_types.proofs.NullLaws.{simple_value-null, in_option-same}
 use Rattle.awk_lanes.specs.Column.{Column}
 use Rattle.awk_lanes.specs.Places.{size_of, option_place_at}
 use Rattle.awk_layout.specs.Item.{item, at_option}
@@ -26,13 +27,11 @@ use Rattle.awk_gather.specs.Arrays.{array_item}
 use Rattle.awk_columns.specs.Columns.{is_present, list_items, joined_items}
 use Rattle.awk_columns.specs.ListClass.{Class, list_type}
 use Rattle.awk_open.specs.Opens.{OpensLists, OpensOption}
-use Rattle.awk_columns.proofs.ArrayLaws.{simple_null, in_option_same, array_items-at}
+use Rattle.awk_columns.proofs.ArrayLaws.{array_items-at}
 use Rattle.awk_merge_operands.specs.Concatenate.{joined_row}
 use Rattle.awk_merge_operands.specs.Operands.{stacked_row, stacked_rows, filled_row, filled_rows}
-use Rattle.awk_merge_operands.specs.Operands.{rows_datum}
-use Rattle.awk_merge_operands.specs.Operands.{list_place, values_by, type_by, list_between}
-use Rattle.awk_merge_operands.specs.Operands.{rows_lane}
-use Rattle.awk_merge_operands.specs.Operands.{IsListIndex, IsRowsType}
+use Rattle.awk_merge_operands.specs.Operands.{rows_datum, list_place, values_by, type_by}
+use Rattle.awk_merge_operands.specs.Operands.{list_between, rows_lane, IsListIndex, IsRowsType}
 use Rattle.awk_merge.proofs.JoinedRowLaws.{row-whole}
 use Rattle.awk_merge_operands.proofs.ListPlaceLaws.{ends_place, size-rows, option-rows}
 use Rattle.awk_merge_operands.proofs.ListPlaceLaws.{place_within}
@@ -105,7 +104,8 @@ module _ (index : Option Column) (n k : ℕ) (f : ℕ → Value)
       → in_option (simple_value (layout_type x)) (at_option (ends_place b i) (item x))
       ≡ (if b then list (values_from (joined_items ws)) else null)
   null-or true i ws g =
-      in_option_same (simple_value (layout_type x)) (simple_null (layout_type x)) (item x i) ∙ g
+      in_option-same (simple_value (layout_type x)) (simple_value-null (layout_type x)) (item x i)
+      ∙ g
   null-or false i ws g = refl
 
   item-is : (i : ℕ) → i < n

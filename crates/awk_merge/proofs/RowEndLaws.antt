@@ -1,5 +1,5 @@
 -- The ends of the lists of each row, made row by row.
-use Rattle.std.proofs.Common.{◌≡◌, ◌∙◌, ◌+◌, ◌*◌, ◌<◌, ℕ, zero, suc, ◌∷◌, ◌++◌, map, Option}
+use Rattle.std.proofs.Common.{◌≡◌, ◌∙◌, ◌+◌, ◌*◌, ◌<◌, ℕ, zero, suc, ◌++◌, map, Option}
 use Rattle.std.proofs.Common.{ap, ap₂, sym, refl, arith}
 use Rattle.std.specs.Prelude.{ℤ, pos}
 use Rattle.std.specs.List.{range_with_len}
@@ -7,18 +7,12 @@ use Rattle.std.proofs.lemmas.List.{map-append}
 use Rattle.std.proofs.lemmas.List.FromFn.{fill_by_all, length-map-range_with_len}
 use Rattle.std.proofs.lemmas.List.FromFn.{get_or-map-range_with_len}
 use Rattle.std.proofs.lemmas.Nat.{div-mul-add, mod-mul-add}
+use Rattle.awk_base.proofs.Ranges.{range-append}
 use Rattle.awk_lanes.specs.Column.{Column}
-use Rattle.awk_lanes.specs.Counted.{before, items_lane, numbers_of_lists}
+use Rattle.awk_lanes.specs.Counted.{items_lane, numbers_of_lists}
 use Rattle.awk_lanes.specs.Places.{size_of, option_place_at}
 use Rattle.awk_lanes.specs.declared.kind.Kind.TheVariants.{I64}
 use Rattle.awk_merge_operands.specs.Operands.{end_of_row, end_in_rows, ends_in_rows}
-
--- lists of k items each have this many before one
-pub before-same : (k n : ℕ) → before (λ _. k) n ≡ n * k
-before-same k zero = omega arith
-before-same k (suc n) =
-    let w : suc n * k ≡ n * k + k = grind arith in
-    omega (arith, before-same k n, w)
 
 -- so many numbers, seen from another place on
 from_zero : (f g : ℕ → ℤ) (a k : ℕ) → ((j : ℕ) → j < k → f (a + j) ≡ g j)
@@ -26,18 +20,6 @@ from_zero : (f g : ℕ → ℤ) (a k : ℕ) → ((j : ℕ) → j < k → f (a + 
 from_zero f g a k e =
     fill_by_all g (map f (range_with_len a k)) k (pos 0) (length-map-range_with_len f a k)
     (λ j l. get_or-map-range_with_len f a k j (a + j) (pos 0) l refl ∙ e j l)
-
-range-parts : (a m k : ℕ)
-    → range_with_len a (m + k) ≡ range_with_len a m ++ range_with_len (a + m) k
-range-parts a zero k =
-    let e : zero + k ≡ k = omega arith in
-    let f : a ≡ a + zero = omega arith in
-    ap (range_with_len a) e ∙ ap (λ b. range_with_len b k) f
-range-parts a (suc m) k =
-    let e : suc m + k ≡ suc (m + k) = omega arith in
-    let f : a + 1 + m ≡ a + suc m = omega arith in
-    ap (range_with_len a) e ∙ ap (λ ns. a ∷ ns) (range-parts (a + 1) m k)
-    ∙ ap (λ b. a ∷ (range_with_len (a + 1) m ++ range_with_len b k)) f
 
 -- k numbers for each of n lists, as numbers by their places
 blocks : (k : ℕ) (h : ℕ → ℕ → ℤ) (f : ℕ → ℤ)
@@ -52,7 +34,7 @@ blocks k h f e (suc n) =
     (sym (from_zero f (h n) (n * k) k (λ j l. e n j l))
     ∙ ap (λ a. map f (range_with_len a k)) (sym z))
     ∙ sym (map-append f (range_with_len 0 (n * k)) (range_with_len (0 + n * k) k))
-    ∙ ap (map f) (sym (range-parts 0 (n * k) k))
+    ∙ ap (map f) (sym (range-append 0 (n * k) k))
     ∙ ap (λ m. map f (range_with_len 0 m)) w
 
 -- the ends of the lists of each row, as one lane

@@ -1,16 +1,15 @@
 //! Arrays joined one after another, or list by list within their rows.
 ghost use Rattle.std.specs.Prelude.{◌≡◌, ◌<◌, IfOk, Some, length, map};
 ghost use Rattle.awk_types.specs.Faults.{fault_told};
-ghost use Rattle.awk_types.specs.Gives.{Gives, refused_or};
+ghost use Rattle.awk_types.specs.Gives.{Gives};
 ghost use Rattle.awk_types.specs.View.{typ_of};
 ghost use Rattle.awk_layout.specs.Array.{IsArrayType};
 ghost use Rattle.awk_layout.specs.Datum.{datum_of, IsDatum};
 ghost use Rattle.awk_layout.specs.Typing.{array_datum};
 ghost use Rattle.awk_unify.specs.View.{lifts_of};
-ghost use Rattle.awk_merge_operands.specs.Concatenate as spec;
 ghost use Rattle.awk_merge_operands.specs.Concatenate.{carried_columns, concatenate_at};
 ghost use Rattle.awk_merge_operands.specs.Concatenate.{concatenate_of};
-ghost use Rattle.awk_merge_operands.specs.Operands.{column_in, rows_refused, joined_datum};
+ghost use Rattle.awk_merge_operands.specs.Operands.{column_in, joined_datum};
 ghost use Rattle.awk_merge_operands.specs.Operands.{AreCarriedOperands, IsRowsType};
 ghost use Rattle.awk_merge_operands.specs.declared.operands.Axis.TheVariants as Axis;
 
@@ -18,37 +17,11 @@ use crate::joining_arrays::joined_arrays;
 use crate::joining_rows::joined_rows;
 use awk_lanes::{Arena, Steps};
 use awk_layout::{Array, Datum, Datums};
-use awk_merge_operands::{Axis, array_in, axis_at, operand_sides, operand_typs};
-use awk_types::{Fault, ITEM_LIMIT};
+use awk_merge_operands::{Axis, axis_at, judge_rows, operand_sides, operand_typs};
+use awk_types::Fault;
 use awk_unify::{UnifiedAll, unify_all};
 use std::alloc::Global;
 use std::sync::ledger::Ledger;
-
-/// Whether all columns have n items.
-fn are_long(xs: &Datums, n: u64) -> bool
-    ensures { result ≡ spec.are_long n (map column_in xs.now) }
-{
-    for i in 0..xs.len() {
-        if array_in(xs.get(i)).len() != n {
-            return false;
-        }
-    }
-    true
-}
-
-/// Judges the lengths of columns whose rows are joined.
-fn judge_rows(xs: &Datums, n: u64) -> Result<(), Fault>
-    ensures { let said = rows_refused n (map column_in xs.now) in
-        Gives (λ _. tt {0}) fault_told result (refused_or said (tt {0})) }
-{
-    if !are_long(xs, n) {
-        return Err(Fault::Lengths);
-    }
-    if n > ITEM_LIMIT {
-        return Err(Fault::Size);
-    }
-    Ok(())
-}
 
 /// Operands joined one after another as items of the type that theirs unify to.
 fn in_order<'a, L: Ledger>(
@@ -84,7 +57,7 @@ fn by_rows<'a, L: Ledger>(
         let said = joined_datum Axis.Rows (typ_of whole.now.typ) columns in
         Gives array_datum fault_told result said }
 {
-    let n = array_in(xs.get(0)).len();
+    let n = xs.get(0).kept().len();
     judge_rows(xs, n)?;
     let sides = operand_sides(alloc, xs, whole)?;
     joined_rows(alloc, &whole.typ, n, xs.len() as u64, &sides, arena, steps)

@@ -7,33 +7,28 @@ use Rattle.awk_types.proofs.Trees.{type_list-from, types_from-list}
 use Rattle.awk_types.specs.DataType.{DataType, Name, leaf, opt, rec, reg, row_type, tup, types_from}
 use Rattle.awk_types.specs.DataType.{uni, unknown, var}
 use Rattle.awk_types.specs.Has.{Has}
+use Rattle.awk_types.specs.Parts.{IsRowType}
 use Rattle.awk_types.specs.Simple.{simple_value}
-use Rattle.awk_types.specs.Value.{Value}
 use Rattle.awk_layout.specs.Array.{IsArrayType}
 use Rattle.awk_layout.specs.Item.{item}
-use Rattle.awk_layout.specs.Layout.{Layout, count, empty, layouts_from, rows, union}
+use Rattle.awk_layout.specs.Layout.{Layout, count, layouts_from, rows, union}
 use Rattle.awk_layout.specs.Typing.{array_items, array_type, layout_type}
 use Rattle.awk_layout.specs.Valid.{AllReach, AreNames, IsUnion}
 use Rattle.awk_unify.specs.Carry.{carried, keep}
+use Rattle.awk_unify.proofs.CarriedLaws.{map-keep}
 use Rattle.awk_merge_rows.proofs.RowLaws.{merged_count, row_merged, row_reach}
 use Rattle.awk_merge_sides.proofs.SideLaws.{IsSide-get, item_has}
 use Rattle.awk_merge_columns.proofs.TypeParts.{alternatives_lawful, names_lawful, row_lawful}
 use Rattle.awk_merge_rows.proofs.UnionLaws.{union_merged, union_merges}
-use Rattle.awk_merge_sides.specs.Groups.{AreArrayTypes, AreGroups, AreMerged}
-use Rattle.awk_merge_rows.specs.RowLevels.{IsRowLevel, IsRowType}
+use Rattle.awk_merge_sides.specs.Groups.{AreArrayTypes, AreGroups, AreMerged, groups_of}
+use Rattle.awk_merge_rows.specs.RowLevels.{IsRowLevel, row_names, row_parts}
 use Rattle.awk_merge_rows.specs.UnionLevels.{IsUnionLevel}
-use Rattle.awk_merge_sides.specs.Groups.{groups_of}
-use Rattle.awk_merge_rows.specs.RowLevels.{row_names, row_parts}
 use Rattle.awk_merge_columns.specs.PartTypes.{part_types}
 use Rattle.awk_merge_sides.specs.Sides.{AreSides, IsMerged, IsSide, Side, merged_items, side_items}
 use Rattle.awk_merge_sides.specs.declared.groups.Groups.{Groups}
 use Rattle.awk_merge_rows.specs.declared.unions.UnionLevel.{UnionLevel}
 
 -- ---- one column, and none
-
-kept : (vs : List Value) → map (carried keep) vs ≡ vs
-kept [] = refl
-kept (v ∷ vs) = ap (λ ws. v ∷ ws) (kept vs)
 
 -- the only column is all, where its values stay
 pub only_merged : (t : DataType) (ss : List Side) (s : Side) → length ss ≡ 1
@@ -45,7 +40,7 @@ only_merged t (x ∷ []) s n e k h =
       typ = h;
       items = sym
           (ap (λ y. merged_items (y ∷ [])) same ∙ append-nil (side_items s)
-          ∙ ap (λ f. map (carried f) (array_items s.column)) k ∙ kept (array_items s.column));
+          ∙ ap (λ f. map (carried f) (array_items s.column)) k ∙ map-keep (array_items s.column));
     }
 only_merged t (x ∷ y ∷ ss) s n e k h = absurd (omega (arith, n))
 

@@ -1,6 +1,5 @@
 -- The parts of a type that arrays have are such types.
-use Rattle.std.proofs.Common.{◌≡◌, ◌≤◌, ◌∷◌, [], ℕ, suc, List, false, length, slice_get, refl}
-use Rattle.std.proofs.Common.{subst}
+use Rattle.std.proofs.Common.{◌≡◌, ◌∷◌, [], ℕ, suc, List, false, length, slice_get, refl, subst}
 use Rattle.std.specs.Prelude.{None, Option, Some}
 use Rattle.awk_types.proofs.SimpleLaws.{plain_are_simple}
 use Rattle.awk_types.proofs.Trees.{type_list-from}
@@ -8,10 +7,9 @@ use Rattle.awk_types.specs.DataType.{DataType, Name, opt, rec, reg, row_type, ty
 use Rattle.awk_types.specs.IsType.{AreTypes}
 use Rattle.awk_types.specs.Limit.{limit}
 use Rattle.awk_types.specs.Names.{AreDistinct}
-use Rattle.awk_types.specs.Simple.{ArePlain, AreSimple, is_option}
+use Rattle.awk_types.specs.Simple.{AreSimple, is_option}
+use Rattle.awk_types.proofs.PartLimits.{within_reg, within_row, within_uni, within_var}
 use Rattle.awk_layout.specs.Array.{IsArrayType}
-use Rattle.awk_open.proofs.PartLimits.{few_alternatives, within_opt, within_reg, within_row}
-use Rattle.awk_open.proofs.PartLimits.{within_uni, within_var}
 use Rattle.awk_merge_sides.specs.Groups.{AreArrayTypes}
 
 pub present_plain : (u : DataType) → IsArrayType (opt u) → is_option u ≡ false
@@ -53,10 +51,6 @@ pub alternatives_lawful : (ts : List DataType) → IsArrayType (uni (types_from 
 alternatives_lawful ts h =
     each_lawful ts h.is_type.1 (plain_are_simple (types_from ts) h.is_simple)
     (λ k u e. within_uni ts k u e h.within_limits)
-
-pub alternatives_plain : (ts : List DataType) → IsArrayType (uni (types_from ts))
-    → ArePlain (types_from ts)
-alternatives_plain ts h = h.is_simple
 
 -- a record has distinct names, one for each field
 pub names_lawful : (names : List Name) (ts : List DataType)

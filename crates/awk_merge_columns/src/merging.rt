@@ -1,11 +1,11 @@
 //! Columns of several types merged into one.
 ghost use Rattle.std.specs.Prelude.{◌≡◌, IfOk};
 ghost use Rattle.awk_types.specs.DataType.{opt, reg, types_from, uni, var};
+ghost use Rattle.awk_types.specs.Parts.{IsRowType};
 ghost use Rattle.awk_types.specs.View.{typ_of, typs_of};
 ghost use Rattle.awk_layout.specs.Array.{IsArrayType};
 ghost use Rattle.awk_merge_sides.specs.Groups.{groups_of, AreArrayTypes, AreCounted};
 ghost use Rattle.awk_merge_sides.specs.Groups.{AreGroups, AreMerged};
-ghost use Rattle.awk_merge_rows.specs.RowLevels.{IsRowType};
 ghost use Rattle.awk_merge_columns.specs.PartTypes.{part_types};
 ghost use Rattle.awk_merge_sides.specs.Sides.{sides_of, AreSides, IsCounted, IsMerged};
 

@@ -1,11 +1,11 @@
 -- Lists that are carried: only a list becomes a list, and its items are carried each by itself.
-use Rattle.std.specs.Prelude.{◌≡◌, ◌+◌, ◌<◌, ℕ, zero, suc, false, ◌∷◌, length, map, Some, None}
-use Rattle.std.specs.Prelude.{refl}
+use Rattle.std.specs.Prelude.{◌≡◌, ◌<◌, ℕ, zero, suc, false, ◌∷◌, length, map, Some, None, refl}
 use Rattle.std.proofs.Common.{arith, ap, sym, subst, ◌∙◌}
 use Rattle.std.proofs.lemmas.List.{map-id}
 use Rattle.std.specs.List.{AllByRecursion}
 use Rattle.awk_types.specs.DataType.{DataType, unknown, leaf, var, reg, rec, tup, opt, uni}
 use Rattle.awk_types.specs.Has.{Has}
+use Rattle.awk_types.specs.Parts.{IsListType}
 use Rattle.awk_types.specs.Simple.{is_option}
 use Rattle.awk_types.specs.Value.{Value, Values, int, truth, null, list, row, alt, no_values, value}
 use Rattle.awk_types.specs.Value.{value_list, values_from}
@@ -19,7 +19,7 @@ use Rattle.awk_columns.specs.ListClass.{Class, list_type}
 use Rattle.awk_columns.proofs.ArrayLaws.{run_map}
 use Rattle.awk_unify.specs.Carry.{Carry, keep, in_items, to_parts, to_alternatives, carried}
 use Rattle.awk_merge_sides.specs.Lifts.{items_carry}
-use Rattle.awk_merge_lists.specs.Lists.{IsListType, AreListsOver}
+use Rattle.awk_merge_lists.specs.Lists.{AreListsOver}
 use Rattle.awk_merge_sides.specs.Sides.{Side, Carries, IsSide}
 use Rattle.awk_merge_sides.proofs.SideLaws.{item_has}
 
@@ -181,17 +181,3 @@ over_carried d u s y h o some =
     (subst (λ t. Carries t s.carry (list_type d u)) o.typ h.values)
 
 -- ---- runs
-
--- the same values at other places
-pub run_moved : (f g : ℕ → Value) (a b n : ℕ) → ((j : ℕ) → j < n → f (a + j) ≡ g (b + j))
-    → run f a n ≡ run g b n
-run_moved f g a b zero e = refl
-run_moved f g a b (suc n) e =
-    let l : a ≡ a + 0 = omega arith in
-    let r : b + 0 ≡ b = omega arith in
-    let first : f a ≡ g b = ap f l ∙ e 0 (omega arith) ∙ ap g r in
-    let rest : run f (suc a) n ≡ run g (suc b) n = run_moved f g (suc a) (suc b) n (λ j p.
-    let m : suc a + j ≡ a + suc j = omega arith in
-    let k : b + suc j ≡ suc b + j = omega arith in
-    ap f m ∙ e (suc j) (omega (arith, p)) ∙ ap g k) in
-    ap (λ v. value v (run f (suc a) n)) first ∙ ap (value (g b)) rest

@@ -16,6 +16,7 @@ use Rattle.awk_lanes.specs.Making.{Making}
 use Rattle.awk_lanes.specs.Numbers.{element, nat_of}
 use Rattle.awk_lanes.specs.Places.{size_of, at, place_at, IsSpan, AreSpans, IsIndexKind}
 use Rattle.awk_lanes.specs.declared.kind.Kind.TheVariants.{I64}
+use Rattle.awk_lanes.proofs.PlaceLaws.{span-wider}
 use Rattle.awk_layout.specs.Item.{item, run}
 use Rattle.awk_layout.specs.Layout.{Layout, lists}
 use Rattle.awk_layout.specs.Typing.{layout_type, array_type, array_items}
@@ -25,6 +26,7 @@ use Rattle.awk_gather.specs.Arrays.{array_item}
 use Rattle.awk_columns.specs.ListClass.{Class, list_type}
 use Rattle.awk_columns.proofs.ArrayLaws.{run_in_list}
 use Rattle.awk_unify.specs.Carry.{Carry, carried}
+use Rattle.awk_layout.proofs.Runs.{run-moved}
 use Rattle.awk_merge_lists.specs.ListLevels.{cut, IsListLevel, AreListSides}
 use Rattle.awk_merge_sides.specs.Lifts.{items_carry}
 use Rattle.awk_merge_lists.specs.Lists.{moved_place, moved_places, HasRoom, HoldsLists, PutsLists}
@@ -33,7 +35,7 @@ use Rattle.awk_merge_sides.specs.Sides.{with_side, IsCounted, IsMerged}
 use Rattle.awk_merge_lists.specs.declared.lists.ListLevel.{ListLevel}
 use Rattle.awk_merge_lists.specs.declared.lists.ListMaker.{ListMaker}
 use Rattle.awk_merge_sides.specs.declared.sides.Sides.{Sides}
-use Rattle.awk_merge_lists.proofs.CarriedLists.{run_moved, carried-run, over_carried}
+use Rattle.awk_merge_lists.proofs.CarriedLists.{carried-run, over_carried}
 use Rattle.awk_merge_sides.proofs.SideLaws.{length-side_items, get_or-side_items, get_or-carried}
 use Rattle.awk_merge_sides.proofs.SideLaws.{length-carried, item_has, merged_items-with_side}
 use Rattle.awk_merge_sides.proofs.SideLaws.{AreSides-with_side, IsSide-get, merged_items-next}
@@ -84,15 +86,12 @@ pub record AreCut (vs : List Value) (a b : List ℤ) (ws : List Value) : Type 0 
   pub items : (i : ℕ) → i < length vs → get_or vs i null
       ≡ cut_from ws (start_of a i) (start_of b i)
 
-wider : (m n : ℕ) (a b : ℤ) → m ≤ n → IsSpan m a b → IsSpan n a b
-wider m n a b l h = λ d. let k = h d in (k.0, k.1, omega (arith, ints, k.2, l))
-
 -- lists stay what they are where further items follow
 cut_before : (ws more : List Value) (a b : ℤ) → IsSpan (length ws) a b
     → cut_from ws a b ≡ cut_from (ws ++ more) a b
 cut_before ws more a b h =
     let top = span_top (length ws) a b h in
-    ap list (run_moved (λ i. get_or ws i null) (λ i. get_or (ws ++ more) i null) (nat_of a)
+    ap list (run-moved (λ i. get_or ws i null) (λ i. get_or (ws ++ more) i null) (nat_of a)
     (nat_of a) (nat_of b - nat_of a) (λ j p.
     sym (get_or_append_left ws more null (nat_of a + j) (omega (arith, top, p)))))
 
@@ -106,7 +105,7 @@ cut_behind : (ws more : List Value) (n p q : ℕ) → p ≤ q → q ≤ max n p 
 cut_behind ws more n p q r t =
     let f : ℕ → Value = λ i. get_or more i null in
     let g : ℕ → Value = λ i. get_or (ws ++ more) i null in
-    ap list (run_moved f g p (length ws + min p n) (q - p) (λ j l.
+    ap list (run-moved f g p (length ws + min p n) (q - p) (λ j l.
     let e : length ws + (p + j) ≡ length ws + min p n + j = omega (arith, r, t, l) in
     sym (get_or-append-add ws more (p + j) null) ∙ ap g e)
     ∙ ap (run g (length ws + min p n)) (moved_length (length ws) n p q r t))
@@ -181,7 +180,7 @@ module _ (vs us : List Value) (a b : List ℤ) (ws more : List Value) (s t : Col
       (start_of (b ++ moved_places base n t) i)
   span_at_place i p = below_or i m
       (λ q. rw (starts-early i q, stops-early i q)
-      (wider base (length (ws ++ more)) (start_of a i) (start_of b i) (omega (arith, whole))
+      (span-wider base (length (ws ++ more)) (start_of a i) (start_of b i) (omega (arith, whole))
       (h.spans i q)))
       (λ q. rw (starts-late i q p, stops-late i q p)
       (span_moved base n (place_at s (i - m)) (place_at t (i - m)) (length (ws ++ more))
@@ -249,7 +248,7 @@ side_cut d u x s t y h all l i p =
     span_top (len y) (at s i) (at t i) (l.spans.ordered i (omega (arith, p, l.size))) in
     get_or-side_items x i p ∙ ap (carried x.carry) e ∙ carried-run x.carry d u (array_item y) a n
     has
-    ∙ ap list (run_moved (λ k. carried g (array_item y k))
+    ∙ ap list (run-moved (λ k. carried g (array_item y k))
     (λ k. get_or (map (carried g) (array_items y)) k null) a a n (λ j r.
     sym (get_or-carried y g (a + j) (omega (arith, top, r)))))
 
@@ -400,7 +399,7 @@ module _ (u : DataType) (ss : List Side) (r : ListLevel) (y : Layout) (h : IsLis
       let top : place_at r.stops i ≤ max (len y) a =
       span_top (len y) (at r.starts i) (at r.stops i) (list_spans.ordered i p) in
       run_in_list (simple_value (layout_type y)) (item y) a n
-      ∙ ap list (run_moved (array_item y) (λ k. get_or (array_items y) k null) a a n
+      ∙ ap list (run-moved (array_item y) (λ k. get_or (array_items y) k null) a a n
       (λ j q. sym (get_or-array_items y (a + j) (omega (arith, top, q)))))
       ∙ ap (λ vs. cut vs a n) m.items ∙ sym (h.items i p)
 

@@ -4,18 +4,18 @@ use Rattle.std.specs.List.{range_with_len}
 use Rattle.std.proofs.Common.{arith, ap, sym, ◌∙◌, append_assoc}
 use Rattle.std.proofs.lemmas.List.{length-append}
 use Rattle.std.proofs.lemmas.List.FromFn.{length-map-range_with_len, map-range_with_len_more}
-use Rattle.awk_lanes.specs.Making.{Making, with_item}
-use Rattle.awk_merge_lists.specs.Lists.{with_numbers, HasRoom}
+use Rattle.awk_lanes.specs.Making.{Making, with_item, with_items}
+use Rattle.awk_merge_lists.specs.Lists.{HasRoom}
 
 -- what f gives at the first i places, behind the numbers before
 pub record ArePut (f : ℕ → ℤ) (i : ℕ) (before now : Making) : Type 0 where
-  pub put : now ≡ with_numbers before (map f (range_with_len 0 i))
+  pub put : now ≡ with_items before (map f (range_with_len 0 i))
 
 pub put_next : (f : ℕ → ℤ) (i : ℕ) (z : ℤ) (before old now : Making) → now ≡ with_item old z
     → z ≡ f i → ArePut f i before old → ArePut f (i + 1) before now
 put_next f i z before old now e g h = record {
   put = e ∙ ap (λ m. with_item m z) h.put
-      ∙ ap (λ y. with_item (with_numbers before (map f (range_with_len 0 i))) y) g
+      ∙ ap (λ y. with_item (with_items before (map f (range_with_len 0 i))) y) g
       ∙ ap (λ zs. record { kind = before.kind; room = before.room; items = zs })
       (append_assoc before.items (map f (range_with_len 0 i)) (f i ∷ [])
       ∙ ap (λ zs. before.items ++ zs) (sym (map-range_with_len_more f 0 i i (omega arith))));

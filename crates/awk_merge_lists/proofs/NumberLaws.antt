@@ -1,11 +1,10 @@
 -- Numbers of columns in one lane.
-use Rattle.std.proofs.Common.{◌≡◌, ℕ, zero, suc, ◌+◌, ◌*◌, ◌<◌, List, [], ◌∷◌, ◌++◌, true}
-use Rattle.std.proofs.Common.{false, length, map, take, get_or, Some, None, refl, ap, ap₂}
-use Rattle.std.proofs.Common.{sym, subst, ◌∙◌, arith, length-append}
-use Rattle.std.specs.Prelude.{ℤ, pos, Bool, if◌then◌else◌, slice_get}
+use Rattle.std.proofs.Common.{◌≡◌, ℕ, zero, suc, ◌+◌, ◌*◌, ◌<◌, List, [], ◌∷◌, ◌++◌, true, false}
+use Rattle.std.proofs.Common.{length, map, take, get_or, Some, None, refl, ap, ap₂, sym, subst, ◌∙◌}
+use Rattle.std.proofs.Common.{arith, length-append}
+use Rattle.std.specs.Prelude.{ℤ, pos, slice_get}
 use Rattle.std.specs.List.{AllByRecursion, range_with_len}
-use Rattle.std.proofs.lemmas.List.{length-map, get_or-map, map-append}
-use Rattle.std.proofs.lemmas.List.{append-nil}
+use Rattle.std.proofs.lemmas.List.{length-map, get_or-map, map-append, append-nil}
 use Rattle.std.proofs.lemmas.Int.{ints}
 use Rattle.std.proofs.lemmas.Simd.{map-map}
 use Rattle.std.proofs.lemmas.List.FromFn.{fill_by_all}
@@ -24,9 +23,11 @@ use Rattle.awk_lanes.specs.declared.kind.Kind.TheVariants.{U16, U32, U64}
 use Rattle.awk_lanes.specs.declared.kind.Num.{Num}
 use Rattle.awk_lanes.specs.declared.kind.Num.TheVariants.{Int, Nat, Truth}
 use Rattle.awk_lanes.proofs.NumberParts.{numbers-join}
+use Rattle.awk_lanes.proofs.PlaceLaws.{is_nonzero-bit}
 use Rattle.awk_layout.specs.Item.{leaf_value}
 use Rattle.awk_layout.specs.Kinds.{primitive_of, kind_of, primitive_of-kind_of}
 use Rattle.awk_layout.specs.Layout.{flat}
+use Rattle.awk_layout.specs.Shown.{value_of_num}
 use Rattle.awk_layout.specs.Typing.{array_type, array_items}
 use Rattle.awk_open.specs.InOrder.{IsInOrder}
 use Rattle.awk_columns.specs.ListClass.{Class, list_type}
@@ -36,7 +37,7 @@ use Rattle.awk_open.specs.declared.opening.Opened.TheVariants.{Empty, Leaf, Item
 use Rattle.awk_open.specs.declared.opening.Opened.TheVariants.{Option as Optional, Union}
 use Rattle.awk_columns.proofs.ArrayLaws.{array_items-at}
 use Rattle.awk_unify.specs.Carry.{Carry, carried}
-use Rattle.awk_merge_lists.specs.Leaves.{lane_value, leaf_values, num_value, AreOf}
+use Rattle.awk_merge_lists.specs.Leaves.{lane_value, leaf_values, AreOf}
 use Rattle.awk_merge_sides.specs.Sides.{Side, side_items, merged_items, IsSide, IsMerged}
 use Rattle.awk_gather.specs.Arrays.{array_item}
 use Rattle.awk_merge_sides.proofs.CarryLaws.{IsLeafType, leaf_scalar, scalar_stays, leaves_before}
@@ -106,7 +107,7 @@ side_of_kind p s c h k o =
 
 -- ---- a number as code holds it
 
-pub value-of : (k : Kind) (x : Num) → IsOf k x → leaf_value k (int_of x) ≡ num_value x
+pub value-of : (k : Kind) (x : Num) → IsOf k x → leaf_value k (int_of x) ≡ value_of_num x
 value-of Truths (Truth true) h = refl
 value-of Truths (Truth false) h = refl
 value-of I8 (Int z) h = refl
@@ -134,20 +135,16 @@ value_has p c i h l =
 
 -- the same as code holds it
 pub read_of : (p : Primitive) (c : Column) (i : ℕ) (x : Num) → AreOf p c → i < size_of c
-    → IsOf c.kind x → int_of x ≡ at c i → Has (leaf p) (num_value x)
+    → IsOf c.kind x → int_of x ≡ at c i → Has (leaf p) (value_of_num x)
 read_of p c i x h l a e =
     subst (Has (leaf p)) (ap (leaf_value c.kind) (sym e) ∙ value-of c.kind x a)
     (value_has p c i h l)
 
 -- ---- a number in another kind that holds it
 
-nonzero_again : (b : Bool) → is_nonzero (pos (if b then 1 else 0)) ≡ b
-nonzero_again true = refl
-nonzero_again false = refl
-
 truth_value : (k : Kind) (z : ℤ) → Has (leaf (primitive_of k)) (truth (is_nonzero z))
     → lane_value k z ≡ truth (is_nonzero z)
-truth_value Truths z h = ap truth (nonzero_again (is_nonzero z))
+truth_value Truths z h = ap truth (is_nonzero-bit (is_nonzero z))
 truth_value I8 z h = absurd h
 truth_value I16 z h = absurd h
 truth_value I32 z h = absurd h

@@ -1,16 +1,14 @@
 -- What an opened column of lists holds, as it lies and joined.
 use Rattle.std.specs.Prelude.{◌≡◌, ◌+◌, ◌-◌, ◌*◌, ◌<◌, ◌≤◌, ◌++◌, ℕ, zero, suc, List, length, Some}
-use Rattle.std.specs.Prelude.{pos}
 use Rattle.std.specs.List.{flat_map, range_with_len}
-use Rattle.std.proofs.Common.{arith, ap, sym, subst, ◌∙◌, get_or-take, get_or-drop, length-take}
-use Rattle.std.proofs.Common.{length-drop, drop}
+use Rattle.std.proofs.Common.{arith, ap, sym, subst, ◌∙◌}
 use Rattle.std.proofs.lemmas.List.{length-append}
 use Rattle.awk_types.specs.ItemLimit.{item_limit}
 use Rattle.awk_types.specs.Value.{Value, list}
 use Rattle.awk_lanes.specs.Column.{Column}
 use Rattle.awk_lanes.specs.Cut.{cut_of}
-use Rattle.awk_lanes.specs.Numbers.{element}
 use Rattle.awk_lanes.specs.Places.{size_of, at, place_at}
+use Rattle.awk_lanes.proofs.CutLaws.{size-cut, at-cut}
 use Rattle.awk_layout.specs.Item.{run}
 use Rattle.awk_layout.specs.Layout.{Layout}
 use Rattle.awk_layout.specs.Valid.{len}
@@ -23,8 +21,6 @@ use Rattle.awk_open.specs.Opens.{OpensLists}
 use Rattle.awk_columns.specs.Lists.{AreOfClass, items_at}
 use Rattle.awk_columns.proofs.ListNodes.{joined_even}
 use Rattle.awk_merge_lists.specs.Lists.{AreListsOver, HoldsLists, HoldsItems, AreOfLength}
-
--- ---- kinds
 
 -- ---- lists as they lie
 
@@ -66,14 +62,6 @@ holds_many class s t y x o many = record {
 }
 
 -- ---- lists joined
-
-size-cut : (c : Column) (lo hi : ℕ) → lo ≤ hi → hi ≤ size_of c → size_of (cut_of c lo hi) ≡ hi - lo
-size-cut c lo hi h l =
-    omega (arith, length-take (hi - lo) (drop lo c.items), length-drop lo c.items)
-
-at-cut : (c : Column) (lo hi i : ℕ) → i < hi - lo → at (cut_of c lo hi) i ≡ at c (lo + i)
-at-cut c lo hi i h = ap (element c.kind)
-    (get_or-take (hi - lo) (drop lo c.items) i (pos 0) h ∙ get_or-drop lo c.items i (pos 0))
 
 module _ (class : Class) (s t : Column) (y x : Layout) (o : Column) (z : Layout)
     (op : OpensLists class s t y x) (j : JoinsLists s t y o z) where

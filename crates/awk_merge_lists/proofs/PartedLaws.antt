@@ -2,7 +2,7 @@
 use Rattle.std.specs.Prelude.{◌≡◌, ◌+◌, ◌-◌, ◌*◌, ◌<◌, ◌≤◌, ◌++◌, ◌∷◌, [], ℕ, zero, suc, List}
 use Rattle.std.specs.Prelude.{length, map, take, get_or, slice_get, slice_range, Some, refl}
 use Rattle.std.proofs.Common.{arith, ap, ap₂, sym, subst, ◌∙◌, append_assoc, drop}
-use Rattle.std.proofs.lemmas.List.{map-append, append-nil, take_all}
+use Rattle.std.proofs.lemmas.List.{map-append, take_all}
 use Rattle.awk_types.specs.DataType.{DataType}
 use Rattle.awk_types.specs.Value.{Value, null}
 use Rattle.awk_layout.specs.Layout.{Layout}
@@ -11,8 +11,7 @@ use Rattle.awk_layout.specs.Valid.{len}
 use Rattle.awk_layout.proofs.ArrayItems.{length-array_items}
 use Rattle.awk_unify.specs.Carry.{carried}
 use Rattle.awk_merge_sides.specs.Sides.{Side, sides_of, side_items, merged_items, with_side}
-use Rattle.awk_merge_sides.specs.Sides.{Carries}
-use Rattle.awk_merge_sides.specs.Sides.{IsSide, AreSides, IsCounted}
+use Rattle.awk_merge_sides.specs.Sides.{Carries, IsSide, AreSides, IsCounted}
 use Rattle.awk_merge_sides.specs.declared.sides.Sides.{Sides}
 use Rattle.awk_merge_sides.proofs.SideLaws.{merged_items-with_side, AreSides-with_side, IsSide-get}
 use Rattle.awk_merge_sides.proofs.SideLaws.{merged_items-next}
@@ -44,12 +43,6 @@ pub record ArePartsPut (s : Side) (before made : List Side) (a : ℕ) : Type 0 w
   pub sides : (t : DataType) → IsSide t s → AreSides t before → AreSides t made
   pub items : merged_items made
       ≡ merged_items before ++ map (carried s.carry) (take a (array_items s.column))
-
-pub parts-none : (s : Side) (before : List Side) → ArePartsPut s before before 0
-parts-none s before = record {
-  sides = λ t k h. h;
-  items = sym (append-nil (merged_items before));
-}
 
 pub parts-more : (s : Side) (before made after : List Side) (r : Layout) (a b : ℕ) → a ≤ b
     → array_items r ≡ slice_range (array_items s.column) a b

@@ -19,14 +19,14 @@ use Rattle.awk_gather.specs.Arrays.{array_item}
 use Rattle.awk_columns.specs.Columns.{list_items}
 use Rattle.awk_columns.proofs.ArrayLaws.{run_in_list}
 use Rattle.awk_unify.specs.Carry.{Carry, carried}
+use Rattle.awk_layout.proofs.Runs.{run-moved}
 use Rattle.awk_merge_lists.specs.ListLevels.{cut, IsRegularLevel}
 use Rattle.awk_merge_sides.specs.Lifts.{items_carry}
 use Rattle.awk_merge_lists.specs.Lists.{AreOfLength, HoldsItems}
 use Rattle.awk_merge_sides.specs.Sides.{Side, sides_of, side_items, merged_items, with_side}
-use Rattle.awk_merge_sides.specs.Sides.{AreSides}
-use Rattle.awk_merge_sides.specs.Sides.{IsSide, IsCounted, IsMerged}
+use Rattle.awk_merge_sides.specs.Sides.{AreSides, IsSide, IsCounted, IsMerged}
 use Rattle.awk_merge_sides.specs.declared.sides.Sides.{Sides}
-use Rattle.awk_merge_lists.proofs.CarriedLists.{run_moved, carried-list, carried-run, carried_list}
+use Rattle.awk_merge_lists.proofs.CarriedLists.{carried-list, carried-run, carried_list}
 use Rattle.awk_merge_lists.proofs.CarriedLists.{over_carried}
 use Rattle.awk_merge_lists.proofs.ListLaws.{below_or}
 use Rattle.awk_merge_sides.proofs.SideLaws.{length-side_items, get_or-side_items, get_or-carried}
@@ -69,7 +69,7 @@ module _ (n : ℕ) (vs us ws more : List Value) (h : AreBlocks n vs ws) (k : Are
     early : (i : ℕ) → i < m → cut ws (i * n) n ≡ cut (ws ++ more) (i * n) n
     early i p =
         let w = block_within m n i p in
-        ap list (run_moved (λ j. get_or ws j null) (λ j. get_or (ws ++ more) j null) (i * n) (i * n)
+        ap list (run-moved (λ j. get_or ws j null) (λ j. get_or (ws ++ more) j null) (i * n) (i * n)
         n
         (λ j q. sym (get_or_append_left ws more null (i * n + j) (omega (arith, w, q, h.size)))))
 
@@ -77,7 +77,7 @@ module _ (n : ℕ) (vs us ws more : List Value) (h : AreBlocks n vs ws) (k : Are
     late i p =
         let g : ℕ → Value = λ j. get_or (ws ++ more) j null in
         let b = block_behind m n i p in
-        ap list (run_moved (λ j. get_or more j null) g ((i - m) * n) (i * n) n (λ j q.
+        ap list (run-moved (λ j. get_or more j null) g ((i - m) * n) (i * n) n (λ j q.
         let e : length ws + ((i - m) * n + j) ≡ i * n + j = omega (arith, b, h.size) in
         sym (get_or-append-add ws more ((i - m) * n + j) null) ∙ ap g e))
 
@@ -136,7 +136,7 @@ side_block n u x y h all l =
           let w = block_within (len x.column) n i q in
           get_or-side_items x i q ∙ ap (carried x.carry) e
           ∙ carried-run x.carry (Some n) u (array_item y) (i * n) n has
-          ∙ ap list (run_moved (λ k. carried g (array_item y k))
+          ∙ ap list (run-moved (λ k. carried g (array_item y k))
           (λ k. get_or (map (carried g) (array_items y)) k null) (i * n) (i * n) n (λ j r.
           sym (get_or-carried y g (i * n + j) (omega (arith, w, r, l.size)))));
     }
@@ -220,7 +220,7 @@ module _ (n : ℕ) (u : DataType) (ss : List Side) (r : Sides) (y : Layout) (cou
   list-at i p =
       let w = block_within count n i p in
       run_in_list (simple_value (layout_type y)) (item y) (i * n) n
-      ∙ ap list (run_moved (array_item y) (λ k. get_or (array_items y) k null) (i * n) (i * n) n
+      ∙ ap list (run-moved (array_item y) (λ k. get_or (array_items y) k null) (i * n) (i * n) n
       (λ j q. sym (get_or-array_items y (i * n + j) (omega (arith, w, q, whole-merged)))))
       ∙ ap (λ vs. cut vs (i * n) n) m.items ∙ sym (h.items i (omega (arith, p, c)))
 

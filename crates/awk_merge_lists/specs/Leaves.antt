@@ -1,18 +1,15 @@
 -- The values of numbers in lanes.
-use Rattle.std.specs.Prelude.{ℤ, pos, Bool, true, false, List, map}
+use Rattle.std.specs.Prelude.{ℤ, Bool, true, false, List, map}
 use Rattle.std.specs.List.{AllByRecursion}
 use Rattle.awk_types.specs.DataType.{leaf}
 use Rattle.awk_types.specs.Has.{Has}
-use Rattle.awk_types.specs.Value.{Value, int, truth}
+use Rattle.awk_types.specs.Value.{Value}
 use Rattle.awk_types.specs.declared.primitive.Primitive.{Primitive}
 use Rattle.awk_lanes.specs.Column.{Column}
 use Rattle.awk_lanes.specs.Numbers.{element}
 use Rattle.awk_lanes.specs.declared.kind.Kind.{Kind}
 use Rattle.awk_lanes.specs.declared.kind.Kind.TheVariants.{Bool as Truths, I8, I16, I32, I64, U8}
-use Rattle.awk_lanes.specs.declared.kind.Kind.TheVariants.{U16}
-use Rattle.awk_lanes.specs.declared.kind.Kind.TheVariants.{U32, U64}
-use Rattle.awk_lanes.specs.declared.kind.Num.{Num}
-use Rattle.awk_lanes.specs.declared.kind.Num.TheVariants.{Int, Nat, Truth}
+use Rattle.awk_lanes.specs.declared.kind.Kind.TheVariants.{U16, U32, U64}
 use Rattle.awk_layout.specs.Item.{leaf_value}
 
 -- the value that a number of a kind is, as it lies in a lane
@@ -22,12 +19,6 @@ lane_value k z = leaf_value k (element k z)
 -- all values of a lane
 abbrev pub leaf_values : Column → List Value
 leaf_values c = map (lane_value c.kind) c.items
-
--- the value that a number is, as code holds it
-abbrev pub num_value : Num → Value
-num_value (Int z) = int z
-num_value (Nat n) = int (pos n)
-num_value (Truth b) = truth b
 
 -- a primitive holds all values of a lane
 abbrev pub AreOf : Primitive → Column → Type 0

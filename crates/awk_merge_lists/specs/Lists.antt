@@ -1,11 +1,9 @@
 -- Columns of lists, one at a time: where their lists lie, and what is put behind the lists before.
-use Rattle.std.specs.Prelude.{◌≡◌, ◌+◌, ◌-◌, ◌*◌, ◌<◌, ◌≤◌, ◌++◌, ℕ, ℤ, min, pos, List, length, map}
-use Rattle.std.specs.Prelude.{Some}
+use Rattle.std.specs.Prelude.{◌≡◌, ◌+◌, ◌-◌, ◌*◌, ◌<◌, ◌≤◌, ℕ, ℤ, min, pos, List, length, map, Some}
 use Rattle.std.specs.List.{range_with_len}
-use Rattle.awk_types.specs.DataType.{DataType, var, reg}
 use Rattle.awk_types.specs.Value.{list}
 use Rattle.awk_lanes.specs.Column.{Column}
-use Rattle.awk_lanes.specs.Making.{Making}
+use Rattle.awk_lanes.specs.Making.{Making, with_items}
 use Rattle.awk_lanes.specs.Places.{size_of, place_at, AreSpans}
 use Rattle.awk_lanes.specs.declared.kind.Kind.TheVariants.{I64}
 use Rattle.awk_layout.specs.Item.{run}
@@ -19,12 +17,6 @@ use Rattle.awk_unify.specs.Carry.{Carry}
 use Rattle.awk_merge_sides.specs.Lifts.{items_carry}
 use Rattle.awk_merge_sides.specs.Sides.{sides_of, merged_items, with_side, IsCounted}
 use Rattle.awk_merge_lists.specs.declared.lists.ListMaker.{ListMaker}
-
--- a type of lists, of any length or of one
-abbrev pub IsListType : DataType → Type 0
-IsListType (var t) = Unit {0}
-IsListType (reg n t) = Unit {0}
-IsListType t = ⊥
 
 -- lists of a class whose items are of the content's type; of lists of length 0 there are none
 pub record AreListsOver (x y : Layout) : Type 0 where
@@ -57,10 +49,6 @@ moved_place base n c i = pos (base + min (place_at c i) n)
 abbrev pub moved_places : ℕ → ℕ → Column → List ℤ
 moved_places base n c = map (moved_place base n c) (range_with_len 0 (size_of c))
 
--- with further numbers
-abbrev pub with_numbers : Making → List ℤ → Making
-with_numbers m zs = record { kind = m.kind; room = m.room; items = m.items ++ zs }
-
 -- a lane of places that is being made, with room for so many more
 pub record HasRoom (n : ℕ) (m : Making) : Type 0 where
   pub kind : m.kind ≡ I64
@@ -72,9 +60,9 @@ pub record PutsLists (x : Layout) (f : Carry) (before now : ListMaker) : Type 0 
   pub to : Column
   pub content : Layout
   pub lists : HoldsLists x from to content
-  pub starts : now.starts ≡ with_numbers before.starts
+  pub starts : now.starts ≡ with_items before.starts
       (moved_places (length (merged_items (sides_of before.sides))) (len content) from)
-  pub stops : now.stops ≡ with_numbers before.stops
+  pub stops : now.stops ≡ with_items before.stops
       (moved_places (length (merged_items (sides_of before.sides))) (len content) to)
   pub sides : sides_of now.sides ≡ with_side (sides_of before.sides) content (items_carry f)
   pub counted : IsCounted now.sides

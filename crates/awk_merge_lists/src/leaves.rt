@@ -4,7 +4,8 @@ ghost use Rattle.awk_types.specs.DataType.{leaf};
 ghost use Rattle.awk_types.specs.Has.{Has};
 ghost use Rattle.awk_lanes.specs.Numbers.{int_of, IsOf};
 ghost use Rattle.awk_layout.specs.Kinds.{primitive_of};
-ghost use Rattle.awk_merge_lists.specs.Leaves.{leaf_values, num_value, is_unsigned, AreOf};
+ghost use Rattle.awk_layout.specs.Shown.{value_of_num};
+ghost use Rattle.awk_merge_lists.specs.Leaves.{leaf_values, is_unsigned, AreOf};
 ghost use Rattle.awk_merge_sides.specs.Sides.{side_of, sides_of, side_items, merged_items};
 ghost use Rattle.awk_merge_sides.specs.Sides.{IsSide, AreSides, IsCounted, IsMerged};
 
@@ -29,9 +30,9 @@ fn is_unsigned(kind: Kind) -> bool
 
 /// A number as code holds those of a kind.
 fn as_kind(kind: Kind, x: Num) -> Num
-    requires holds { Has (leaf (primitive_of kind)) (num_value x) }
+    requires holds { Has (leaf (primitive_of kind)) (value_of_num x) }
     ensures kind { IsOf kind result }
-    ensures value { num_value result ≡ num_value x }
+    ensures value { value_of_num result ≡ value_of_num x }
     ensures number { int_of result ≡ int_of x }
 {
     match x {

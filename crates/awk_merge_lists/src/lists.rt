@@ -1,16 +1,16 @@
 //! Columns of lists: where each list lies, and the columns of their items.
 ghost use Rattle.std.specs.Prelude.{◌≡◌, ◌+◌, ◌<◌, ◌≤◌, ◌^◌, ℕ, length, IfOk, OnOk};
 ghost use Rattle.awk_types.specs.DataType.{DataType, var, reg};
+ghost use Rattle.awk_types.specs.Parts.{IsListType};
+ghost use Rattle.awk_lanes.specs.Making.{with_items};
 ghost use Rattle.awk_lanes.specs.Places.{size_of, place_at, IsIndexKind};
-ghost use Rattle.awk_lanes.specs.declared.kind.Kind.TheVariants as Kinds;
 ghost use Rattle.awk_layout.specs.Typing.{array_type};
 ghost use Rattle.awk_layout.specs.Valid.{len};
 ghost use Rattle.awk_unify.specs.View.{lift_of};
 ghost use Rattle.awk_merge_lists.specs.ListLevels.{IsListLevel, IsRegularLevel, AreListSides};
 ghost use Rattle.awk_merge_lists.specs.ListLevels.{AreRegularSides};
-ghost use Rattle.awk_merge_lists.specs.Lists.{IsListType, HoldsLists, HoldsItems, AreOfLength};
-ghost use Rattle.awk_merge_lists.specs.Lists.{HasRoom};
-ghost use Rattle.awk_merge_lists.specs.Lists.{PutsLists, moved_places, with_numbers};
+ghost use Rattle.awk_merge_lists.specs.Lists.{HoldsLists, HoldsItems, AreOfLength, HasRoom};
+ghost use Rattle.awk_merge_lists.specs.Lists.{PutsLists, moved_places};
 ghost use Rattle.awk_merge_sides.specs.Sides.{sides_of, AreSides, IsCounted};
 
 use crate::parts::parted;
@@ -91,7 +91,7 @@ fn put_places<L: Ledger>(
     requires kind { IsIndexKind ends.now.kind }
     requires room { HasRoom (size_of ends.now) maker.old }
     requires fits { base + n < 2 ^ 63 }
-    ensures { maker.new ≡ with_numbers maker.old (moved_places base n ends.now) }
+    ensures { maker.new ≡ with_items maker.old (moved_places base n ends.now) }
 {
     for i in 0..ends.len() {
         let end = end_at(ends, i, steps).min(n);

@@ -19,7 +19,7 @@ use Rattle.awk_types.specs.declared.fault.Fault.TheVariants as fault
 use Rattle.awk_types.specs.declared.limit.TypeFault.{TypeFault}
 use Rattle.awk_types.specs.declared.limit.TypeFault.TheVariants as refused
 use Rattle.awk_layout.specs.Array.{IsArrayType}
-use Rattle.awk_layout.specs.Datum.{datum_of}
+use Rattle.awk_layout.specs.Datum.{datum_of, kept}
 use Rattle.awk_layout.specs.Layout.{Layout}
 use Rattle.awk_layout.specs.Typing.{array_datum}
 use Rattle.awk_layout.specs.Valid.{len}
@@ -29,12 +29,10 @@ use Rattle.awk_columns.specs.Columns.{joined_items}
 use Rattle.awk_unify.specs.Carry.{Carry}
 use Rattle.awk_unify.specs.UnifyList.{UnificationList, UnifiesAll, unification_list, within_list}
 use Rattle.awk_merge_operands.specs.Concatenate.{operand_types, operand_items, carried_columns}
-use Rattle.awk_merge_operands.specs.Concatenate.{stacked}
-use Rattle.awk_merge_operands.specs.Concatenate.{joined_rows, row_count, are_long, lengths_fault}
-use Rattle.awk_merge_operands.specs.Concatenate.{values_fault, joined_values, joined, joined_as}
-use Rattle.awk_merge_operands.specs.Concatenate.{concatenate_at}
-use Rattle.awk_merge_operands.specs.Operands.{array_in, column_in, stacked_rows, rows_datum}
-use Rattle.awk_merge_operands.specs.Operands.{rows_refused}
+use Rattle.awk_merge_operands.specs.Concatenate.{stacked, joined_rows, row_count, are_long}
+use Rattle.awk_merge_operands.specs.Concatenate.{lengths_fault, values_fault, joined_values, joined}
+use Rattle.awk_merge_operands.specs.Concatenate.{joined_as, concatenate_at}
+use Rattle.awk_merge_operands.specs.Operands.{column_in, stacked_rows, rows_datum, rows_refused}
 use Rattle.awk_merge_operands.specs.Operands.{joined_datum, AreLawful, AreCarriedOperands}
 use Rattle.awk_merge_operands.specs.declared.operands.Axis.{Axis}
 use Rattle.awk_merge_operands.specs.declared.operands.Axis.TheVariants.{Rows}
@@ -64,16 +62,16 @@ pub long_last : (ds : List Datum) (i n : ℕ) (all : Bool) → length ds ≤ i
 long_last ds i n all l h =
     sym (ap (λ xs. are_long n (map column_in xs)) (drop_all i ds l)) ∙ h
 
-pub length-column : (d : Datum) → length (column_in d) ≡ len (array_in d)
-length-column d = length-array_items (array_in d)
+pub length-column : (d : Datum) → length (column_in d) ≡ len (kept d)
+length-column d = length-array_items (kept d)
 
 -- ---- rows
 
 -- the first operand has as many items as all must have
 pub first_rows : (ds : List Datum) (d : Datum) → slice_get ds 0 ≡ Some d
-    → row_count (map column_in ds) ≡ len (array_in d)
+    → row_count (map column_in ds) ≡ len (kept d)
 first_rows [] d e = absurd (cc)
-first_rows (x ∷ ds) d e = let f : x ≡ d = cc in length-column x ∙ ap (λ y. len (array_in y)) f
+first_rows (x ∷ ds) d e = let f : x ≡ d = cc in length-column x ∙ ap (λ y. len (kept y)) f
 
 module _ (ds : List Datum) (fs : List Carry) (t : DataType) (n : ℕ)
     (c : AreCarriedOperands ds fs t) (r : row_count (map column_in ds) ≡ n) where

@@ -18,11 +18,11 @@ use Rattle.awk_layout.specs.Valid.{len, IsValid}
 use Rattle.awk_gather.specs.Arrays.{array_item}
 use Rattle.awk_columns.specs.Columns.{list_items}
 use Rattle.awk_lanes.proofs.MadeLanes.{size-lane_of, at-lane_of}
+use Rattle.awk_lanes.proofs.PlaceLaws.{named-below}
 use Rattle.awk_columns.specs.Lists.{AreLists, items_at}
 use Rattle.awk_merge_operands.specs.Operands.{list_place, list_between, IsListIndex, IndexHas}
-use Rattle.awk_merge_operands.specs.Operands.{IndexesAll}
-use Rattle.awk_merge_operands.specs.Operands.{is_whole, row_or_null, rows_lane, end_at, end_of_row}
-use Rattle.awk_merge_operands.specs.Operands.{end_in_rows, ends_in_rows}
+use Rattle.awk_merge_operands.specs.Operands.{IndexesAll, is_whole, row_or_null, rows_lane, end_at}
+use Rattle.awk_merge_operands.specs.Operands.{end_of_row, end_in_rows, ends_in_rows}
 
 -- ---- places in k columns of n values
 
@@ -48,15 +48,11 @@ block_within n k i j p q = omega (arith, q, row_fits i k n k p (omega arith))
 
 -- ---- the index
 
-place_below : (z : ℤ) (n p : ℕ) → z <ℤ pos n → option_place z ≡ Some p → p < n
-place_below (pos m) n p l e = let f : m ≡ p = cc in omega (arith, ints, l, f)
-place_below (negsuc m) n p l e = absurd (cc)
-
 pub place_within : (index : Option Column) (m size j p : ℕ) → IsListIndex index m size → j < m
     → list_place index j ≡ Some p → p < size
 place_within None m size j p h l e = let f : j ≡ p = cc in omega (arith, l, f, h)
 place_within (Some c) m size j p h l e =
-    place_below (at c j) size p (h.1.below j (omega (arith, l, h.0))) e
+    named-below (at c j) size p (h.1.below j (omega (arith, l, h.0))) e
 
 pub indexes_all : (index : Option Column) (m size : ℕ) → IsListIndex index m size
     → IndexesAll index m

@@ -1,26 +1,27 @@
 -- Operands that are joined: their types, their columns and how these are carried.
 use Rattle.std.proofs.Common.{◌≡◌, ◌∙◌, ◌+◌, ◌≤◌, ◌∷◌, ◌++◌, [], ℕ, suc, List, Option, Some, None}
 use Rattle.std.proofs.Common.{ap, sym, subst, refl, map, drop, length, slice_get, append_assoc}
-use Rattle.std.specs.Option.{option_map, IfSome}
+use Rattle.std.specs.Option.{option_map}
 use Rattle.std.proofs.lemmas.List.{append-nil, drop_all}
 use Rattle.awk_base.proofs.Lists.{drop-get}
 use Rattle.awk_types.proofs.TypeLaws.{types_append}
 use Rattle.awk_types.specs.DataType.{DataType, unknown, leaf, var, reg, rec, tup, opt, uni}
-use Rattle.awk_types.specs.DataType.{types_from}
 use Rattle.awk_types.specs.Has.{Has}
 use Rattle.awk_types.specs.IsType.{IsType}
-use Rattle.awk_types.specs.Simple.{IsSimple, AreSimple}
+use Rattle.awk_types.specs.Simple.{IsSimple}
 use Rattle.awk_types.specs.Value.{Value, int, truth, null, list, row, alt}
-use Rattle.awk_layout.specs.Datum.{datum_of}
+use Rattle.awk_layout.specs.Datum.{datum_of, kept}
+use Rattle.awk_types.proofs.SimpleLaws.{simple_append}
 use Rattle.awk_layout.specs.Typing.{array_type}
 use Rattle.awk_layout.specs.declared.datum.Datum.{Datum}
 use Rattle.awk_layout.specs.declared.datum.Datum.TheVariants.{Arr, One}
 use Rattle.awk_unify.specs.Carry.{Carry}
+use Rattle.awk_unify.specs.FieldNames.{with_type}
 use Rattle.awk_unify.specs.Unifies.{IsCarriedInto}
 use Rattle.awk_unify.specs.UnifyList.{AreCarriedInto}
 use Rattle.awk_merge_operands.specs.Concatenate.{lists_type, rows_type, operand_type, operand_types}
-use Rattle.awk_merge_operands.specs.Concatenate.{type_before, operand_items}
-use Rattle.awk_merge_operands.specs.Operands.{array_in, column_in, AreCarriedOperands, AreLawful}
+use Rattle.awk_merge_operands.specs.Concatenate.{operand_items}
+use Rattle.awk_merge_operands.specs.Operands.{column_in, AreCarriedOperands, AreLawful}
 use Rattle.awk_merge_sides.specs.Sides.{Carries}
 use Rattle.awk_merge_operands.specs.declared.operands.Axis.{Axis}
 use Rattle.awk_merge_operands.specs.declared.operands.Axis.TheVariants.{Arrays, Rows}
@@ -73,7 +74,7 @@ rows_has (uni ts) a e v h = lists_has (uni ts) a e v h
 -- its values are carried as those of its type are
 carried_operand : (axis : Axis) (d : Datum) (a t : DataType) (f : Carry)
     → operand_type axis (datum_of d) ≡ Some a → IsCarriedInto a f t
-    → Carries (array_type (array_in d)) f t
+    → Carries (array_type (kept d)) f t
 carried_operand Arrays (Arr x) a t f e h =
     let g : a ≡ array_type x = cc in
     λ v k. h.values v (subst (λ u. Has u v) (sym g) k)
@@ -96,7 +97,7 @@ pub record IsBefore (t : Option DataType) (ts : Option (List DataType)) (us : Li
   pub whole : us ≡ first ∷ rest
 
 pub before_is : (t : Option DataType) (ts : Option (List DataType)) (us : List DataType)
-    → type_before t ts ≡ Some us → IsBefore t ts us
+    → with_type t ts ≡ Some us → IsBefore t ts us
 before_is None ts us e = absurd (cc)
 before_is (Some t) None us e = absurd (cc)
 before_is (Some t) (Some ts) us e =
@@ -152,7 +153,7 @@ types_then ts None = None
 types_then ts (Some us) = Some (ts ++ us)
 
 then_before : (ts : List DataType) (t : DataType) (o : Option (List DataType))
-    → types_then ts (type_before (Some t) o) ≡ types_then (ts ++ t ∷ []) o
+    → types_then ts (with_type (Some t) o) ≡ types_then (ts ++ t ∷ []) o
 then_before ts t None = refl
 then_before ts t (Some us) = ap Some (sym (append_assoc ts (t ∷ []) us))
 
@@ -164,7 +165,7 @@ pub types_next : (axis : Axis) (ds : List Datum) (i : ℕ) (d : Datum) (t : Data
 types_next axis ds i d t ts us all e f g h =
     let rest : Option (List DataType) = operand_types axis (map datum_of (drop (i + 1) ds)) in
     ap (λ ws. types_then ws rest) g ∙ sym (then_before ts t rest)
-    ∙ ap (λ o. types_then ts (type_before o rest)) f
+    ∙ ap (λ o. types_then ts (with_type o rest)) f
     ∙ sym (ap (λ xs. types_then ts (operand_types axis (map datum_of xs))) (drop-get ds i d e)) ∙ h
 
 pub types_none : (axis : Axis) (ds : List Datum) (i : ℕ) (d : Datum) (ts : List DataType)
@@ -172,7 +173,7 @@ pub types_none : (axis : Axis) (ds : List Datum) (i : ℕ) (d : Datum) (ts : Lis
     → types_then ts (operand_types axis (map datum_of (drop i ds))) ≡ all → None ≡ all
 types_none axis ds i d ts all e f h =
     let rest : Option (List DataType) = operand_types axis (map datum_of (drop (i + 1) ds)) in
-    ap (λ o. types_then ts (type_before o rest)) f
+    ap (λ o. types_then ts (with_type o rest)) f
     ∙ sym (ap (λ xs. types_then ts (operand_types axis (map datum_of xs))) (drop-get ds i d e)) ∙ h
 
 pub types_last : (axis : Axis) (ds : List Datum) (i : ℕ) (ts : List DataType)
@@ -183,11 +184,6 @@ types_last axis ds i ts all l h =
     ∙ sym (ap (λ xs. types_then ts (operand_types axis (map datum_of xs))) (drop_all i ds l)) ∙ h
 
 -- ---- that they are types
-
-simple_append : (ts us : List DataType) → AreSimple (types_from ts) → AreSimple (types_from us)
-    → AreSimple (types_from (ts ++ us))
-simple_append [] us h k = k
-simple_append (t ∷ ts) us h k = (h.0, simple_append ts us h.1 k)
 
 pub lawful_more : (ts us : List DataType) (t : DataType) → us ≡ ts ++ t ∷ [] → IsLawful t
     → AreLawful ts → AreLawful us

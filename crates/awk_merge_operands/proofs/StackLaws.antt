@@ -1,7 +1,7 @@
 -- Columns of operands one after another, and their rows.
-use Rattle.std.proofs.Common.{◌≡◌, ◌∙◌, ◌+◌, ◌*◌, ◌<◌, ◌≤◌, ◌==◌, ◌&&◌, ◌∷◌, ◌++◌, [], ℕ, suc}
-use Rattle.std.proofs.Common.{true, List, Some, ap, sym, subst, refl, map, drop}
-use Rattle.std.proofs.Common.{length, slice_get, get_or, arith}
+use Rattle.std.proofs.Common.{◌≡◌, ◌∙◌, ◌+◌, ◌*◌, ◌<◌, ◌≤◌, ◌==◌, ◌&&◌, ◌∷◌, ◌++◌, [], ℕ, suc, true}
+use Rattle.std.proofs.Common.{List, Some, ap, sym, subst, refl, map, drop, length, slice_get}
+use Rattle.std.proofs.Common.{get_or, arith}
 use Rattle.std.specs.List.{range_with_len}
 use Rattle.std.proofs.lemmas.List.{append-nil, append_assoc, length-append, length-map, drop_all}
 use Rattle.std.proofs.lemmas.List.{get_or_append_left, get_or-append-add}
@@ -10,12 +10,12 @@ use Rattle.awk_base.proofs.Ranges.{map-in, map-suc}
 use Rattle.awk_base.proofs.Lists.{drop-get}
 use Rattle.awk_types.specs.DataType.{DataType}
 use Rattle.awk_types.specs.Value.{Value, null}
+use Rattle.awk_layout.specs.Datum.{kept}
 use Rattle.awk_layout.specs.declared.datum.Datum.{Datum}
 use Rattle.awk_unify.specs.Carry.{Carry, carried}
 use Rattle.awk_merge_operands.specs.Concatenate.{carried_columns, stacked, row_of, joined_row}
-use Rattle.awk_merge_operands.specs.Concatenate.{joined_rows}
-use Rattle.awk_merge_operands.specs.Concatenate.{row_count, are_long}
-use Rattle.awk_merge_operands.specs.Operands.{array_in, column_in, AreCarriedOperands, stacked_row}
+use Rattle.awk_merge_operands.specs.Concatenate.{joined_rows, row_count, are_long}
+use Rattle.awk_merge_operands.specs.Operands.{column_in, AreCarriedOperands, stacked_row}
 use Rattle.awk_merge_operands.specs.Operands.{stacked_rows}
 use Rattle.awk_merge_sides.specs.Sides.{Side, merged_items, AreSides, with_side}
 use Rattle.awk_merge_operands.proofs.OperandLaws.{length-lifts}
@@ -33,7 +33,7 @@ pub record AreTaken (ds : List Datum) (fs : List Carry) (t : DataType) (i : ℕ)
 
 pub one_taken : (ds : List Datum) (fs : List Carry) (t : DataType) (i : ℕ) (ss rs : List Side)
     (d : Datum) (f : Carry) → slice_get ds i ≡ Some d → slice_get fs i ≡ Some f
-    → rs ≡ with_side ss (array_in d) f → AreTaken ds fs t i ss → AreTaken ds fs t (i + 1) rs
+    → rs ≡ with_side ss (kept d) f → AreTaken ds fs t i ss → AreTaken ds fs t (i + 1) rs
 one_taken ds fs t i ss rs d f e g h k =
     let a = drop-get ds i d e in
     let b = drop-get fs i f g in
@@ -46,7 +46,7 @@ one_taken ds fs t i ss rs d f e g h k =
     record {
       items =
           ap (λ xs. merged_items xs ++ later) h
-          ∙ ap (λ vs. vs ++ later) (merged_items-with_side ss (array_in d) f)
+          ∙ ap (λ vs. vs ++ later) (merged_items-with_side ss (kept d) f)
           ∙ append_assoc (merged_items ss) now later
           ∙ sym (ap (λ xs. merged_items ss ++ stacked
           (carried_columns (drop i fs) (map column_in xs))) a
@@ -55,7 +55,7 @@ one_taken ds fs t i ss rs d f e g h k =
           ∙ k.items;
       left = here.1;
       sides =
-          subst (AreSides t) (sym h) (AreSides-with_side t ss (array_in d) f k.sides (λ p. here.0));
+          subst (AreSides t) (sym h) (AreSides-with_side t ss (kept d) f k.sides (λ p. here.0));
     }
 
 pub all_taken : (ds : List Datum) (fs : List Carry) (t : DataType) (i : ℕ) (ss : List Side)

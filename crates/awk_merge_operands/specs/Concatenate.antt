@@ -1,7 +1,6 @@
 -- Arrays joined one after another, or list by list within their rows.
-use Rattle.std.specs.Prelude.{◌==◌, ◌∷◌, [], ℕ, ℤ, pos, negsuc, Bool, if◌then◌else◌}
-use Rattle.std.specs.Prelude.{List, length, map, get_or, Option, Some, None, option_map}
-use Rattle.std.specs.Prelude.{Result, Err}
+use Rattle.std.specs.Prelude.{◌==◌, ◌∷◌, [], ℕ, ℤ, pos, negsuc, Bool, if◌then◌else◌, List, length}
+use Rattle.std.specs.Prelude.{map, get_or, Option, Some, None, option_map, Result, Err}
 use Rattle.std.specs.List.{flat_map, list_all, range_with_len}
 use Rattle.awk_types.specs.DataType.{DataType, unknown, var, reg, opt}
 use Rattle.awk_types.specs.Datum.{Datum, arr, one}
@@ -14,6 +13,7 @@ use Rattle.awk_types.specs.declared.fault.Fault.{Fault}
 use Rattle.awk_types.specs.declared.fault.Fault.TheVariants as fault
 use Rattle.awk_columns.specs.Columns.{is_present, joined_items}
 use Rattle.awk_unify.specs.Carry.{Carry, carried}
+use Rattle.awk_unify.specs.FieldNames.{with_type}
 use Rattle.awk_unify.specs.UnifyList.{UnificationList, unification_list}
 use Rattle.awk_merge_operands.specs.declared.operands.Axis.{Axis}
 use Rattle.awk_merge_operands.specs.declared.operands.Axis.TheVariants.{Arrays, Rows}
@@ -38,13 +38,9 @@ operand_type axis (one t v) = None
 operand_type Arrays (arr t vs) = Some t
 operand_type Rows (arr t vs) = rows_type t
 
-abbrev pub type_before : Option DataType → Option (List DataType) → Option (List DataType)
-type_before (Some t) (Some ts) = Some (t ∷ ts)
-type_before t ts = None
-
 abbrev pub operand_types : Axis → List Datum → Option (List DataType)
 operand_types axis [] = Some []
-operand_types axis (d ∷ ds) = type_before (operand_type axis d) (operand_types axis ds)
+operand_types axis (d ∷ ds) = with_type (operand_type axis d) (operand_types axis ds)
 
 -- ---- values
 

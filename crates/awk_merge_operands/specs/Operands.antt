@@ -1,8 +1,7 @@
 -- What operands that are joined are: their columns, and the lists of each row among those of all.
-use Rattle.std.specs.Prelude.{◌≡◌, ◌+◌, ◌-◌, ◌*◌, ◌/◌, ◌%◌, ◌<◌, ◌≤◌, ◌∷◌, [], ℕ}
-use Rattle.std.specs.Prelude.{ℤ, pos, negsuc, Bool}
-use Rattle.std.specs.Prelude.{if◌then◌else◌, List, length, map, get_or, Option, Some, None, is_some}
-use Rattle.std.specs.Prelude.{Result}
+use Rattle.std.specs.Prelude.{◌≡◌, ◌+◌, ◌-◌, ◌*◌, ◌/◌, ◌%◌, ◌<◌, ◌≤◌, ◌∷◌, [], ℕ, ℤ, pos, negsuc}
+use Rattle.std.specs.Prelude.{Bool, if◌then◌else◌, List, length, map, get_or, Option, Some, None}
+use Rattle.std.specs.Prelude.{is_some, Result}
 use Rattle.std.specs.List.{list_all, range_with_len}
 use Rattle.awk_types.specs.DataType.{DataType, var, opt, types_from}
 use Rattle.awk_types.specs.Datum as shown
@@ -14,14 +13,14 @@ use Rattle.awk_types.specs.Value.{Value, null, list, values_from}
 use Rattle.awk_types.specs.declared.fault.Fault.{Fault}
 use Rattle.awk_types.specs.declared.fault.Fault.TheVariants.{Lengths}
 use Rattle.awk_lanes.specs.Column.{Column}
-use Rattle.awk_lanes.specs.Places.{size_of, at, place_at, option_place_at}
-use Rattle.awk_lanes.specs.Places.{IsIndexKind, IsOptionalIndex, IsOptionKind}
+use Rattle.awk_lanes.specs.Places.{size_of, at, place_at, option_place_at, IsIndexKind}
+use Rattle.awk_lanes.specs.Places.{IsOptionalIndex, IsOptionKind}
 use Rattle.awk_lanes.specs.declared.kind.Kind.TheVariants.{I64}
+use Rattle.awk_layout.specs.Datum.{kept}
 use Rattle.awk_layout.specs.Item.{run, at_option}
 use Rattle.awk_layout.specs.Layout.{Layout}
 use Rattle.awk_layout.specs.Typing.{array_type, array_items}
 use Rattle.awk_layout.specs.declared.datum.Datum.{Datum}
-use Rattle.awk_layout.specs.declared.datum.Datum.TheVariants.{Arr, One}
 use Rattle.awk_gather.specs.Arrays.{array_item}
 use Rattle.awk_columns.specs.Columns.{is_present, joined_items}
 use Rattle.awk_lanes.specs.Made.{lane_of}
@@ -32,18 +31,14 @@ use Rattle.awk_merge_operands.specs.declared.operands.Axis.{Axis}
 
 -- ---- operands as columns
 
-abbrev pub array_in : Datum → Layout
-array_in (Arr x) = x
-array_in (One x) = x
-
 abbrev pub column_in : Datum → List Value
-column_in d = array_items (array_in d)
+column_in d = array_items (kept d)
 
 -- the values of each become values of the type
 abbrev pub AreCarriedOperands : List Datum → List Carry → DataType → Type 0
 AreCarriedOperands [] [] t = Unit {0}
 AreCarriedOperands (d ∷ ds) (f ∷ fs) t =
-    Carries (array_type (array_in d)) f t × AreCarriedOperands ds fs t
+    Carries (array_type (kept d)) f t × AreCarriedOperands ds fs t
 AreCarriedOperands ds fs t = ⊥
 
 -- types as arrays have them

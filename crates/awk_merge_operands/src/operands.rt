@@ -8,11 +8,10 @@ ghost use Rattle.awk_unify.specs.View.{lifts_of};
 ghost use Rattle.awk_merge_operands.specs.Concatenate as spec;
 ghost use Rattle.awk_merge_operands.specs.Concatenate.{axis_of, operand_type, stacked};
 ghost use Rattle.awk_merge_operands.specs.Concatenate.{carried_columns};
-ghost use Rattle.awk_merge_operands.specs.Operands.{array_in, column_in, AreCarriedOperands};
-ghost use Rattle.awk_merge_operands.specs.Operands.{AreLawful};
+ghost use Rattle.awk_merge_operands.specs.Operands.{column_in, AreCarriedOperands, AreLawful};
 ghost use Rattle.awk_merge_sides.specs.Sides.{sides_of, merged_items, AreSides, IsCounted};
 
-use awk_layout::{Array, Datum, Datums};
+use awk_layout::{Datum, Datums};
 use awk_merge_sides::Sides;
 use awk_types::{NoMemory, Typ, Typs, copy_type};
 use awk_unify::UnifiedAll;
@@ -94,15 +93,6 @@ pub fn operand_typs(alloc: Global, axis: Axis, xs: &Datums) -> Result<Option<Typ
     Ok(Some(types))
 }
 
-/// The array of an operand.
-pub fn array_in<'a, 'b>(x: &'b Datum<'a>) -> &'b Array<'a>
-    ensures { result.now ≡ array_in x.now }
-{
-    match x {
-        Datum::Arr(x) | Datum::One(x) => x,
-    }
-}
-
 /// The columns of operands, each with its lift.
 pub fn operand_sides<'a>(
     alloc: Global,
@@ -118,7 +108,7 @@ pub fn operand_sides<'a>(
 {
     let mut sides = Sides::new(alloc);
     for i in 0..xs.len() {
-        let column = array_in(xs.get(i)).copy(alloc)?;
+        let column = xs.get(i).kept().copy(alloc)?;
         sides.push(alloc, column, whole.lifts.get(i))?;
     }
     Ok(sides)

@@ -7,6 +7,7 @@ use Rattle.awk_types.proofs.SimpleLaws.{null_in_option}
 use Rattle.awk_types.specs.DataType.{DataType, unknown, leaf, var, reg, rec, tup, opt, uni}
 use Rattle.awk_types.specs.DataType.{types_from}
 use Rattle.awk_types.specs.Has.{Has, HasAlternative}
+use Rattle.awk_types.specs.Parts.{IsSingle}
 use Rattle.awk_types.specs.Simple.{ArePlain, is_option, is_union, value_by}
 use Rattle.awk_types.specs.Value.{Value, int, truth, null, list, row, alt}
 use Rattle.awk_unify.proofs.AfterLaws.{carry_null}
@@ -63,15 +64,6 @@ alternative-carried ts (to_alternatives us fs) k v p h =
     ap (alt (tag_at us k)) (by-carry ts (tag_at us k) k fs v p h)
 
 -- ---- a value that is none
-
--- neither null nor a value of an alternative
-abbrev pub IsSingle : Value → Type 0
-IsSingle (int z) = Unit {0}
-IsSingle (truth b) = Unit {0}
-IsSingle (list vs) = Unit {0}
-IsSingle (row vs) = Unit {0}
-IsSingle null = ⊥
-IsSingle (alt k v) = ⊥
 
 has-alt : (t : DataType) (k : ℕ) (v : Value) → is_option t ≡ false → Has t (alt k v)
     → is_union t ≡ true

@@ -16,7 +16,7 @@ use Rattle.awk_types.specs.Simple.{is_option, IsSimple}
 use Rattle.awk_types.specs.Value.{Value, null}
 use Rattle.awk_base.proofs.Lists.{take-get}
 use Rattle.awk_lanes.specs.Column.{Column}
-use Rattle.awk_lanes.specs.Making.{Making, with_item}
+use Rattle.awk_lanes.specs.Making.{Making, with_item, with_items}
 use Rattle.awk_lanes.specs.Places.{size_of, at, option_place, option_place_at, IsOptionalIndex}
 use Rattle.awk_layout.specs.Item.{at_option}
 use Rattle.awk_layout.specs.Layout.{Layout}
@@ -26,11 +26,11 @@ use Rattle.awk_gather.specs.Arrays.{array_item, pick}
 use Rattle.awk_open.specs.Opens.{OpensOption}
 use Rattle.awk_columns.proofs.ArrayLaws.{array_items-at}
 use Rattle.awk_unify.specs.Carry.{Carry, carried}
-use Rattle.awk_merge_rows.specs.Present.{with_items, places_on, moved, index_on, ArePresent}
-use Rattle.awk_merge_rows.specs.Present.{IsPresentPut}
-use Rattle.awk_merge_sides.specs.Sides.{Side, side_items, merged_items, with_side}
-use Rattle.awk_merge_sides.specs.Sides.{Carries, IsSide, AreSides}
+use Rattle.awk_merge_rows.specs.Present.{places_on, moved, index_on, ArePresent, IsPresentPut}
+use Rattle.awk_merge_sides.specs.Sides.{Side, side_items, merged_items, with_side, Carries, IsSide}
+use Rattle.awk_merge_sides.specs.Sides.{AreSides}
 use Rattle.awk_unify.proofs.AfterLaws.{carry_null}
+use Rattle.awk_layout.proofs.OptionItems.{option_same}
 use Rattle.awk_merge_sides.proofs.CarryLaws.{Carries-opt, Carries-present}
 use Rattle.awk_merge_sides.proofs.SideLaws.{merged_items-side, merged_items-with_side}
 use Rattle.awk_merge_sides.proofs.SideLaws.{AreSides-with_side, length-carried, get_or-carried}
@@ -217,11 +217,6 @@ carried_option : (f : Carry) (o : Option ℕ) (g : ℕ → Value)
     → carried f (at_option o g) ≡ at_option o (λ k. carried f (g k))
 carried_option f None g = carry_null f
 carried_option f (Some k) g = refl
-
-option_same : (z : ℤ) (n : ℕ) (f g : ℕ → Value) → z <ℤ pos n → ((k : ℕ) → k < n → f k ≡ g k)
-    → at_option (option_place z) f ≡ at_option (option_place z) g
-option_same (pos k) n f g p e = e k (omega (arith, ints, p))
-option_same (negsuc k) n f g p e = refl
 
 option_items : (x y : Layout) (f : Carry) (j : Column) → OpensOption j y x
     → map (carried f) (array_items x)

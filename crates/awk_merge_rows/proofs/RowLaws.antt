@@ -15,6 +15,7 @@ use Rattle.awk_merge_sides.specs.Groups.{groups_of, AreMerged}
 use Rattle.awk_merge_rows.specs.RowLevels.{across, AreEachLong, IsRowLevel}
 use Rattle.awk_merge_sides.specs.Sides.{Side, merged_items, IsMerged}
 use Rattle.awk_open.specs.Opened.{AreLong}
+use Rattle.awk_open.proofs.LayoutParts.{reach_long}
 use Rattle.awk_merge_sides.specs.declared.groups.Groups.{Groups}
 
 -- ---- the column of rows over the columns of the parts
@@ -29,15 +30,11 @@ merged_at [] (g ∷ gs) ys n h l = absurd h
 merged_at (t ∷ ts) [] ys n h l = absurd h
 merged_at (t ∷ ts) (g ∷ gs) [] n h l = absurd h
 
-all_reach : (n : ℕ) (ys : List Layout) → AreLong n ys → AllReach n (layouts_from ys)
-all_reach n [] h = tt
-all_reach n (y ∷ ys) h = (omega (arith, h.0), all_reach n ys h.1)
-
 pub row_reach : (ts : List DataType) (ss : List Side) (n : ℕ) (r : Groups) (ys : List Layout)
     → n ≡ length (merged_items ss) → IsRowLevel ts ss r → AreMerged ts (groups_of r) ys
     → AllReach n (layouts_from ys)
 row_reach ts ss n r ys e h m =
-    all_reach n ys (merged_at ts (groups_of r) ys n m
+    reach_long n ys (merged_at ts (groups_of r) ys n m
     (subst (λ n. AreEachLong n (groups_of r)) (sym e) h.long))
 
 pub merged_count : (ts : List DataType) (gs : List (List Side)) (ys : List Layout)

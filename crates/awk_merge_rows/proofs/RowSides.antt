@@ -9,6 +9,7 @@ use Rattle.std.proofs.lemmas.Option.{slice_get-map}
 use Rattle.awk_types.specs.DataType.{Name, DataType, DataTypes, unknown, leaf, var, reg, rec, tup}
 use Rattle.awk_types.specs.DataType.{opt, uni, row_type, types_from}
 use Rattle.awk_types.specs.Has.{Has, HasRow}
+use Rattle.awk_types.specs.Parts.{IsRowType, IsRowType as IsRowKind}
 use Rattle.awk_types.specs.Value.{Value, value, int, truth, null, list, row, alt, values_from}
 use Rattle.awk_types.specs.View.{typ_of, typs_of, fields_of}
 use Rattle.awk_types.specs.declared.typ.Fields.{Fields}
@@ -26,8 +27,7 @@ use Rattle.awk_layout.specs.Typing.{array_type, array_items}
 use Rattle.awk_layout.specs.Valid.{len}
 use Rattle.awk_gather.specs.Arrays.{array_item}
 use Rattle.awk_lanes.specs.Made.{lane_of}
-use Rattle.awk_gather_lanes.proofs.MovedGroups.{lane_is}
-use Rattle.awk_lanes.proofs.MadeLanes.{at-lane_of, size-lane_of}
+use Rattle.awk_lanes.proofs.MadeLanes.{at-lane_of, size-lane_of, lane_is}
 use Rattle.awk_gather.proofs.OptionItems.{item-optional}
 use Rattle.awk_columns.specs.ListClass.{Class, list_type}
 use Rattle.awk_open.specs.Opened.{AreLong}
@@ -38,12 +38,12 @@ use Rattle.awk_open.specs.declared.opening.Opened.TheVariants.{Empty, Leaf, Item
 use Rattle.awk_open.specs.declared.opening.Opened.TheVariants.{Option as Optional, Union}
 use Rattle.awk_unify.specs.Carry.{Carry, carried, keep}
 use Rattle.awk_unify.proofs.HasLaws.{rec_tup, of_list}
-use Rattle.awk_merge_rows.specs.RowLevels.{row_parts, IsRowType}
+use Rattle.awk_merge_rows.specs.RowLevels.{row_parts}
 use Rattle.awk_merge_sides.specs.Lifts.{part_source, part_carry}
 use Rattle.awk_merge_rows.specs.Parts.{null_column, or_nulls, side_from, part_side, IsRowSide}
 use Rattle.awk_merge_sides.specs.Sides.{Side, side_items, Carries, IsSide, AreSides}
 use Rattle.awk_merge_sides.proofs.SideLaws.{get_or-side_items, item_has, IsSide-get}
-use Rattle.awk_merge_sides.proofs.CarryLaws.{IsRow, IsRowType as IsRowKind, rows_before}
+use Rattle.awk_merge_sides.proofs.CarryLaws.{IsRow, rows_before}
 use Rattle.awk_merge_rows.proofs.RowValues.{or_null, value_from, part_value, first_parts}
 use Rattle.awk_merge_rows.proofs.RowValues.{row_carried, part_has}
 

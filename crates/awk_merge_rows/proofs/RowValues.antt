@@ -11,6 +11,7 @@ use Rattle.awk_types.specs.Has.{Has, HasRow}
 use Rattle.awk_types.specs.Simple.{values_by}
 use Rattle.awk_types.specs.Value.{Value, null, row, value_list, values_from}
 use Rattle.awk_types.proofs.Trees.{value_list-from}
+use Rattle.awk_types.proofs.HasLaws.{row-length}
 use Rattle.awk_unify.specs.Carry.{Carry, Carries as CarryList, carry, no_carries, carry_list}
 use Rattle.awk_unify.specs.Carry.{carried, carried_each, keep, in_items, to_parts, to_alternatives}
 use Rattle.awk_unify.specs.Carry.{at_place, in_order}
@@ -36,13 +37,6 @@ part_value f vs j = value_from (part_carry f) vs (part_source f j)
 -- the values at the first n places
 abbrev pub first_parts : Carry → List Value → ℕ → List Value
 first_parts f vs n = map (part_value f vs) (range_with_len 0 n)
-
-has_length : (ts : List DataType) (vs : List Value) → HasRow (types_from ts) vs
-    → length vs ≡ length ts
-has_length [] [] h = refl
-has_length [] (v ∷ vs) h = absurd h
-has_length (t ∷ ts) [] h = absurd h
-has_length (t ∷ ts) (v ∷ vs) h = ap suc (has_length ts vs h.1)
 
 has_at : (ts : List DataType) (vs : List Value) (j : ℕ) → HasRow (types_from ts) vs
     → j < length ts → Has (get_or ts j unknown) (get_or vs j null)
@@ -118,17 +112,17 @@ pub row_carried : (f : Carry) (vs : List Value) (ts : List DataType)
 row_carried keep vs ts h =
     ap (λ ws. row (values_from ws))
     (kept_parts vs (length ts)
-    (has_length ts vs (subst (HasRow (types_from ts)) (value_list-from vs) h)))
+    (row-length ts vs (subst (HasRow (types_from ts)) (value_list-from vs) h)))
 row_carried (in_items g) vs ts h =
     ap (λ ws. row (values_from ws))
     (kept_parts vs (length ts)
-    (has_length ts vs (subst (HasRow (types_from ts)) (value_list-from vs) h)))
+    (row-length ts vs (subst (HasRow (types_from ts)) (value_list-from vs) h)))
 row_carried (to_alternatives us gs) vs ts h = absurd h
 row_carried (to_parts ps fs) vs ts h =
     let ws : List Value = in_order ps (values_by (carried_each fs) (value_list (values_from vs))) in
     let n : length ps ≡ length ts =
     sym (length-in_order ps (values_by (carried_each fs) (value_list (values_from vs))))
-    ∙ has_length ts ws (subst (HasRow (types_from ts)) (value_list-from ws) h) in
+    ∙ row-length ts ws (subst (HasRow (types_from ts)) (value_list-from ws) h) in
     ap (λ us. row (values_from (in_order ps (values_by (carried_each fs) us)))) (value_list-from vs)
     ∙ ap (λ us. row (values_from us)) (in_order-parts ps fs vs (length ts) n)
 

@@ -2,14 +2,14 @@
 use Rattle.std.proofs.Common.{◌≡◌, ◌<◌, ◌∷◌, [], ℕ, suc, zero, List, length, get_or, refl, ap, sym}
 use Rattle.std.proofs.Common.{subst, ◌∙◌, arith}
 use Rattle.std.proofs.lemmas.List.{ext_get_or}
-use Rattle.std.specs.List.{AllByRecursion}
+use Rattle.awk_base.proofs.Every.{all-at}
 use Rattle.awk_types.proofs.SimpleLaws.{present_alternatives_stay, union_of_stays}
 use Rattle.awk_types.proofs.Trees.{type_list-from}
 use Rattle.awk_types.specs.DataType.{DataType, uni, types_from}
 use Rattle.awk_types.specs.Has.{Has, HasAlternative}
+use Rattle.awk_types.specs.Parts.{IsSingle}
 use Rattle.awk_types.specs.Simple.{ArePlain, simples, simple_values, union_of, value_after}
-use Rattle.awk_types.specs.Simple.{value_by}
-use Rattle.awk_types.specs.Simple.{alternatives_before}
+use Rattle.awk_types.specs.Simple.{value_by, alternatives_before}
 use Rattle.awk_types.specs.Value.{Value, int, truth, null, list, row, alt}
 use Rattle.awk_lanes.specs.Places.{size_of, place_at, IsIndexKind}
 use Rattle.awk_layout.proofs.ArrayItems.{length-array_items, get_or-array_items}
@@ -18,7 +18,8 @@ use Rattle.awk_layout.specs.Item.{item_of}
 use Rattle.awk_layout.specs.Layout.{Layout, layouts_from, count, union}
 use Rattle.awk_layout.specs.Typing.{layout_types, array_items}
 use Rattle.awk_layout.specs.Valid.{len_of, IsUnion}
-use Rattle.awk_merge_rows.proofs.AlternativeLaws.{IsSingle, alternative-single}
+use Rattle.awk_merge_rows.proofs.AlternativeLaws.{alternative-single}
+use Rattle.awk_layout.specs.Contents.{count-layouts_from}
 use Rattle.awk_merge_sides.proofs.GroupLaws.{length-merged, length-groups}
 use Rattle.awk_merge_sides.specs.Groups.{groups_of, AreMerged}
 use Rattle.awk_merge_rows.specs.UnionLevels.{item_in, IsUnionLevel}
@@ -62,10 +63,6 @@ merged-value [] (g ∷ gs) ys k i h l = absurd h
 merged-value (t ∷ ts) [] ys k i h l = absurd h
 merged-value (t ∷ ts) (g ∷ gs) [] k i h l = absurd h
 
-count-from : (ys : List Layout) → count (layouts_from ys) ≡ length ys
-count-from [] = refl
-count-from (y ∷ ys) = omega (arith, count-from ys)
-
 -- ---- a simple union
 
 before-plain : (ts : List DataType) (k : ℕ) → ArePlain (types_from ts) → k < length ts
@@ -101,12 +98,6 @@ union-item ts gs ys k i p m h l s =
     ∙ ap (λ b. value_after b (item_in gs k i)) (before-plain ts k p h)
     ∙ after-single k (item_in gs k i) s
 
-all-at : (P : Value → Type 0) (vs : List Value) (i : ℕ) → AllByRecursion P vs → i < length vs
-    → P (get_or vs i null)
-all-at P [] i h l = absurd (omega (arith, l))
-all-at P (v ∷ vs) zero h l = h.0
-all-at P (v ∷ vs) (suc i) h l = all-at P vs i h.1 (omega (arith, l))
-
 -- ---- the laws
 
 pub union_merged : (ts : List DataType) (ss : List Side) (r : UnionLevel) (ys : List Layout)
@@ -136,7 +127,7 @@ union_merged ts ss r ys a u m = record {
         ≡ alt (place_at r.tags i) (item_in gs (place_at r.tags i) (place_at r.index i))
     each i h =
         let has : Has (uni (types_from ts)) (get_or (merged_items ss) i null)
-        = all-at (Has (uni (types_from ts))) (merged_items ss) i u.typed
+        = all-at (Has (uni (types_from ts))) (merged_items ss) i null u.typed
         (omega (arith, h, u.size)) in
         let one : HasAlternative (types_from ts) (place_at r.tags i)
         (item_in gs (place_at r.tags i) (place_at r.index i))
@@ -170,4 +161,4 @@ union_merges ts ss r ys a u m = record {
 }
   where
     size : count (layouts_from ys) ≡ length ts
-    size = count-from ys ∙ length-merged ts (groups_of r.groups) ys m
+    size = count-layouts_from ys ∙ length-merged ts (groups_of r.groups) ys m

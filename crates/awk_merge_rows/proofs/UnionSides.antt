@@ -1,7 +1,7 @@
 -- One column more of those that become a union: its alternatives in their groups, and its items by
 -- their tags and places.
 use Rattle.std.proofs.Common.{◌≡◌, ◌+◌, ◌<◌, ◌≤◌, ◌^◌, ◌∷◌, ◌++◌, [], ℕ, suc, zero, List, false}
-use Rattle.std.proofs.Common.{length, map, take, get_or, slice_get, Some, replicate, refl, ap, sym}
+use Rattle.std.proofs.Common.{length, map, take, get_or, slice_get, Some, replicate, ap, sym}
 use Rattle.std.proofs.Common.{subst, ◌∙◌, arith}
 use Rattle.std.specs.Prelude.{pos}
 use Rattle.std.proofs.lemmas.Int.{ints}
@@ -11,29 +11,30 @@ use Rattle.std.specs.Option.{option_map}
 use Rattle.awk_base.proofs.Every.{all-append}
 use Rattle.awk_types.specs.DataType.{DataType, uni, types_from}
 use Rattle.awk_types.specs.Has.{Has}
-use Rattle.awk_types.specs.Simple.{is_union, simple_value}
+use Rattle.awk_types.specs.Simple.{is_union}
 use Rattle.awk_types.specs.Value.{Value, null, alt}
+use Rattle.awk_types.proofs.PartLimits.{few_alternatives}
 use Rattle.awk_lanes.specs.Column.{Column}
 use Rattle.awk_lanes.specs.Making.{Making}
 use Rattle.awk_lanes.specs.Numbers.{element}
 use Rattle.awk_lanes.specs.Places.{size_of, at, place_at}
 use Rattle.awk_lanes.specs.declared.kind.Kind.TheVariants.{I8, I64}
 use Rattle.awk_layout.specs.Array.{IsArrayType}
-use Rattle.awk_layout.specs.Item.{item}
 use Rattle.awk_layout.specs.Laws.{len-fits}
 use Rattle.awk_layout.specs.Layout.{Layout, layouts_from, count}
-use Rattle.awk_layout.specs.Typing.{layout_type, array_type, array_items}
-use Rattle.awk_layout.specs.Valid.{len, len_of, IsValid, AllValid}
-use Rattle.awk_open.proofs.PartLimits.{few_alternatives}
+use Rattle.awk_layout.specs.Typing.{array_type, array_items}
+use Rattle.awk_layout.specs.Valid.{len, IsValid, AllValid}
 use Rattle.awk_open.specs.Opens.{item_among, OpensUnion}
 use Rattle.awk_unify.specs.Carry.{Carry, carried}
+use Rattle.awk_gather.specs.Arrays.{array_item}
+use Rattle.awk_layout.specs.Contents.{count-layouts_from}
+use Rattle.awk_layout.proofs.LayoutLists.{len_of-get}
 use Rattle.awk_merge_rows.proofs.AlternativeLaws.{alternative-carried, alternative-carries}
 use Rattle.awk_merge_rows.proofs.AlternativeLaws.{alternative-inside, single-carried}
-use Rattle.awk_merge_rows.proofs.AlternativeLaws.{single-carries}
-use Rattle.awk_merge_rows.proofs.AlternativeLaws.{single-inside, single, no-option}
+use Rattle.awk_merge_rows.proofs.AlternativeLaws.{single-carries, single-inside, single, no-option}
 use Rattle.awk_merge_sides.proofs.GroupLaws.{length-groups, AreGroups-none, AreGroups-with_side_at}
-use Rattle.awk_merge_sides.proofs.SideLaws.{item_has, side_has, total-within}
-use Rattle.awk_merge_sides.proofs.SideLaws.{merged_items-all, merged_items-next, IsSide-get}
+use Rattle.awk_merge_sides.proofs.SideLaws.{item_has, side_has, total-within, merged_items-all}
+use Rattle.awk_merge_sides.proofs.SideLaws.{merged_items-next, IsSide-get}
 use Rattle.awk_merge_rows.proofs.TaggedLaws.{tagged-append, tagged-grown, tagged-items, tagged-at}
 use Rattle.awk_merge_rows.proofs.TaggedLaws.{length-tags, length-places}
 use Rattle.awk_merge_rows.proofs.TargetLaws.{Grows, grows-side, grows-alternatives, Lies, lies-side}
@@ -54,27 +55,13 @@ use Rattle.awk_merge_sides.specs.declared.sides.Sides.{Sides}
 use Rattle.awk_merge_rows.specs.declared.unions.Tagged.{Tagged}
 use Rattle.awk_merge_rows.specs.declared.unions.Target.{Target}
 
--- an item of an array
-abbrev item_at : Layout → ℕ → Value
-item_at x i = simple_value (layout_type x) (item x i)
-
 -- ---- contents of an opened union
 
-count-is : (ys : List Layout) → count (layouts_from ys) ≡ length ys
-count-is [] = refl
-count-is (y ∷ ys) = omega (arith, count-is ys)
-
 among-is : (ys : List Layout) (k i : ℕ) (y : Layout) → slice_get ys k ≡ Some y
-    → item_among ys k i ≡ item_at y i
+    → item_among ys k i ≡ array_item y i
 among-is [] k i y e = cc
-among-is (z ∷ ys) zero i y e = let f : z ≡ y = cc in ap (λ w. item_at w i) f
+among-is (z ∷ ys) zero i y e = let f : z ≡ y = cc in ap (λ w. array_item w i) f
 among-is (z ∷ ys) (suc k) i y e = among-is ys k i y e
-
-len-is : (ys : List Layout) (k : ℕ) (y : Layout) → slice_get ys k ≡ Some y
-    → len_of (layouts_from ys) k ≡ len y
-len-is [] k y e = cc
-len-is (z ∷ ys) zero y e = let f : z ≡ y = cc in ap len f
-len-is (z ∷ ys) (suc k) y e = len-is ys k y e
 
 valid-is : (ys : List Layout) (k : ℕ) (y : Layout) → slice_get ys k ≡ Some y
     → AllValid (layouts_from ys) → IsValid y
@@ -113,7 +100,7 @@ union-targets f x t j ys gs ss xs o few e counted d = record {
     one : (i : ℕ) → i < size_of t → IsTargeted t j (targets_of f 0 ys gs) i
     one i h =
         let k = place_at t i in
-        let within : k < length ys = omega (arith, (o.union.tags i h).1, count-is ys) in
+        let within : k < length ys = omega (arith, (o.union.tags i h).1, count-layouts_from ys) in
         let y = get_or ys k x in
         let here : slice_get ys k ≡ Some y = slice_get-get_or ys k x within in
         let lies = lies-at f ys gs k y here in
@@ -128,13 +115,13 @@ union-targets f x t j ys gs ss xs o few e counted d = record {
           place = (o.union.places i h).0;
           within = omega (arith, within, length-targets_of f 0 ys gs);
           tag_fits = lies.small (omega (arith, few, (grows-alternatives f 0 ys gs).size));
-          place_fits = omega (arith, fits, (o.union.places i h).1, len-is ys k y here);
+          place_fits = omega (arith, fits, (o.union.places i h).1, len_of-get ys k y here);
         }
 
 -- ---- an item by its tag and place
 
 tagged-one : (y : Layout) (c : Carry) (g p : ℕ) (hs : List (List Side)) (x : Target) (v : Value)
-    → Lies y c g hs x → g < length hs → p < len y → v ≡ alt g (carried c (item_at y p))
+    → Lies y c g hs x → g < length hs → p < len y → v ≡ alt g (carried c (array_item y p))
     → IsTagged hs (pos x.tag) (pos (x.base + p)) v
 tagged-one y c g p hs x v lies h l e =
     let tag : x.tag ≡ g = lies.tag h in
@@ -160,7 +147,7 @@ go-on : (ts : List DataType) (n : ℕ) (vs : List Value) (s : Side) (g g' : Grou
     → AllByRecursion (Has (array_type s.column)) (array_items s.column) → count ≡ len s.column
     → m'.tags ≡ with_numbers m.tags count a → m'.index ≡ with_numbers m.index count b
     → ((i : ℕ) → i < len s.column
-    → IsTagged (groups_of g') (pos (a i)) (pos (b i)) (carried s.carry (item_at s.column i)))
+    → IsTagged (groups_of g') (pos (a i)) (pos (b i)) (carried s.carry (array_item s.column i)))
     → IsUnionSoFar ts n (vs ++ side_items s) g' m'
 go-on ts n vs s g g' m m' count a b so groups counted grows side has size tags index each =
     let new : AreTagged (groups_of g') (map (λ i. pos (a i)) (range_with_len 0 count))
@@ -212,31 +199,32 @@ union-tagged : (ts : List DataType) (f : Carry) (x : Layout) (t j : Column) (ys 
     → sides.Carries (array_type x) f (uni (types_from ts)) → AreGroups ts gs
     → AllByRecursion (Has (array_type x)) (array_items x) → (i : ℕ) → i < len x
     → IsTagged (with_alternatives f 0 ys gs) (pos (item_tag t (targets_of f 0 ys gs) i))
-    (pos (item_place t j (targets_of f 0 ys gs) i)) (carried f (item_at x i))
+    (pos (item_place t j (targets_of f 0 ys gs) i)) (carried f (array_item x i))
 union-tagged ts f x t j ys gs lawful o c groups all i l =
     let k = place_at t i in
     let p = place_at j i in
     let h : i < size_of t = omega (arith, l, o.size) in
-    let within : k < length ys = omega (arith, (o.union.tags i h).1, count-is ys) in
+    let within : k < length ys = omega (arith, (o.union.tags i h).1, count-layouts_from ys) in
     let y = get_or ys k x in
     let here : slice_get ys k ≡ Some y = slice_get-get_or ys k x within in
-    let inside : p < len y = omega (arith, (o.union.places i h).1, len-is ys k y here) in
-    let is : item_at x i ≡ alt k (item_at y p)
+    let inside : p < len y = omega (arith, (o.union.places i h).1, len_of-get ys k y here) in
+    let is : array_item x i ≡ alt k (array_item y p)
     = o.items i l ∙ ap (alt k) (among-is ys k p y here) in
-    let has : Has (uni (types_from (map array_type ys))) (alt k (item_at y p))
+    let has : Has (uni (types_from (map array_type ys))) (alt k (array_item y p))
     = subst (Has (uni (types_from (map array_type ys)))) is
-    (subst (λ t. Has t (item_at x i)) o.typ (item_has x i all l)) in
+    (subst (λ t. Has t (array_item x i)) o.typ (item_has x i all l)) in
     let c' : sides.Carries (uni (types_from (map array_type ys))) f (uni (types_from ts))
     = subst (λ t. sides.Carries t f (uni (types_from ts))) o.typ c in
     let reach : alternative_tag f k < length ts
-    = alternative-inside ts (map array_type ys) f k (item_at y p) lawful.is_simple c' has in
+    = alternative-inside ts (map array_type ys) f k (array_item y p) lawful.is_simple c' has in
     let size : length (with_alternatives f 0 ys gs) ≡ length ts
     = (grows-alternatives f 0 ys gs).size ∙ length-groups ts gs groups in
     tagged-one y (alternative_carry f k) (alternative_tag f k) p (with_alternatives f 0 ys gs)
-    (target_at (targets_of f 0 ys gs) k) (carried f (item_at x i)) (lies-at f ys gs k y here)
+    (target_at (targets_of f 0 ys gs) k) (carried f (array_item x i)) (lies-at f ys gs k y here)
     (omega (arith, reach, size)) inside
     (ap (carried f) is
-    ∙ alternative-carried ts f k (item_at y p) lawful.is_simple (c' (alt k (item_at y p)) has))
+    ∙ alternative-carried ts f k (array_item y p) lawful.is_simple
+    (c' (alt k (array_item y p)) has))
 
 pub union-side : (s : Side) (t j : Column) (ys : List Layout) (g g' : Groups) (m m' : Tagged)
     (xs : List Target) → OpensUnion t j ys s.column
@@ -254,9 +242,9 @@ union-side s t j ys g g' m m' xs o all e counted d tags index = record {
       counted (subst (Grows gs) (sym e) (grows-alternatives s.carry 0 ys gs)) side all o.size
       tags index
       (λ i l. subst (λ hs. IsTagged hs (pos (item_tag t xs i)) (pos (item_place t j xs i))
-      (carried s.carry (item_at s.column i))) (sym e)
+      (carried s.carry (array_item s.column i))) (sym e)
       (subst (λ zs. IsTagged (with_alternatives s.carry 0 ys gs) (pos (item_tag t zs i))
-      (pos (item_place t j zs i)) (carried s.carry (item_at s.column i))) (sym d)
+      (pos (item_place t j zs i)) (carried s.carry (array_item s.column i))) (sym d)
       (union-tagged ts s.carry s.column t j ys gs lawful o side.values so.groups all i l)));
 }
 
@@ -267,21 +255,21 @@ whole-tagged : (ts : List DataType) (f : Carry) (x : Layout) (gs : List (List Si
     → sides.Carries (array_type x) f (uni (types_from ts)) → AreGroups ts gs
     → AllByRecursion (Has (array_type x)) (array_items x) → (i : ℕ) → i < len x
     → IsTagged (with_alternative f 0 x gs) (pos (target_in (alternative_tag f 0) gs).tag)
-    (pos ((target_in (alternative_tag f 0) gs).base + i)) (carried f (item_at x i))
+    (pos ((target_in (alternative_tag f 0) gs).base + i)) (carried f (array_item x i))
 whole-tagged ts f x gs lawful u c groups all i l =
-    let has : Has (array_type x) (item_at x i) = item_has x i all l in
+    let has : Has (array_type x) (array_item x i) = item_has x i all l in
     let reach : alternative_tag f 0 < length ts
-    = single-inside ts f (array_type x) (item_at x i) lawful.is_simple u c has in
+    = single-inside ts f (array_type x) (array_item x i) lawful.is_simple u c has in
     let size : length (with_alternative f 0 x gs) ≡ length ts
     = (grows-side (alternative_tag f 0) gs x (alternative_carry f 0)).size
     ∙ length-groups ts gs groups in
     tagged-one x (alternative_carry f 0) (alternative_tag f 0) i (with_alternative f 0 x gs)
-    (target_in (alternative_tag f 0) gs) (carried f (item_at x i))
+    (target_in (alternative_tag f 0) gs) (carried f (array_item x i))
     (lies-side x (alternative_carry f 0) (alternative_tag f 0) gs)
     (omega (arith, reach, size)) l
-    (single-carried ts f (item_at x i) lawful.is_simple
-    (single (array_type x) (item_at x i) (no-option (array_type x) f ts c) u has)
-    (c (item_at x i) has))
+    (single-carried ts f (array_item x i) lawful.is_simple
+    (single (array_type x) (array_item x i) (no-option (array_type x) f ts c) u has)
+    (c (array_item x i) has))
 
 pub whole-side : (s : Side) (g g' : Groups) (m m' : Tagged) (x : Target) (n : ℕ)
     → is_union (array_type s.column) ≡ false
@@ -303,9 +291,9 @@ whole-side s g g' m m' x count u all e counted d size tags index = record {
       (alternative_carry f 0)))
       side all size tags index
       (λ i l. subst (λ hs. IsTagged hs (pos x.tag) (pos (x.base + i))
-      (carried f (item_at s.column i))) (sym e)
+      (carried f (array_item s.column i))) (sym e)
       (subst (λ (z : Target). IsTagged (with_alternative f 0 s.column gs) (pos z.tag)
-      (pos (z.base + i)) (carried f (item_at s.column i))) (sym d)
+      (pos (z.base + i)) (carried f (array_item s.column i))) (sym d)
       (whole-tagged ts f s.column gs lawful u side.values so.groups all i l)));
 }
 

@@ -9,6 +9,7 @@ use Rattle.awk_types.specs.DataType.{DataType, opt}
 use Rattle.awk_types.specs.Limit.{limit}
 use Rattle.awk_types.specs.Simple.{is_option, present, option_of}
 use Rattle.awk_types.proofs.SimpleLaws.{present_stays}
+use Rattle.awk_types.proofs.PartLimits.{within_opt}
 use Rattle.awk_lanes.specs.Column.{Column}
 use Rattle.awk_layout.specs.Layout.{Layout, optional, unmasked}
 use Rattle.awk_layout.specs.Typing.{array_type, array_items}
@@ -17,7 +18,6 @@ use Rattle.awk_layout.proofs.ArrayItems.{length-array_items}
 use Rattle.awk_gather.specs.Arrays.{array_item, pick}
 use Rattle.awk_gather.proofs.GatheredArrays.{picked_items}
 use Rattle.awk_gather.proofs.OptionItems.{item-optional, item-unmasked}
-use Rattle.awk_open.proofs.PartLimits.{within_opt}
 use Rattle.awk_columns.proofs.ArrayLaws.{array_items-at}
 use Rattle.awk_unify.specs.Carry.{Carry, carried}
 use Rattle.awk_merge_sides.specs.Sides.{Side, sides_of, merged_items, with_side, Carries, IsSide}

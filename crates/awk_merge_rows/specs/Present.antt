@@ -10,10 +10,6 @@ use Rattle.awk_lanes.specs.Places.{size_of, option_place_at}
 use Rattle.awk_gather.specs.Arrays.{pick}
 use Rattle.awk_merge_sides.specs.Sides.{Side, merged_items, AreSides}
 
--- a lane that is being made, with more numbers
-abbrev pub with_items : Making → List ℤ → Making
-with_items m zs = record { kind = m.kind; room = m.room; items = m.items ++ zs }
-
 -- n places from a first one on
 abbrev pub places_on : ℕ → ℕ → List ℤ
 places_on first n = map (λ i. pos (first + i)) (range_with_len 0 n)

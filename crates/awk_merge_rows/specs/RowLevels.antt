@@ -13,12 +13,6 @@ row_parts (rec ns ts) = type_list ts
 row_parts (tup ts) = type_list ts
 row_parts t = []
 
--- a tuple or a record
-abbrev pub IsRowType : DataType → Type 0
-IsRowType (rec ns ts) = Unit {0}
-IsRowType (tup ts) = Unit {0}
-IsRowType t = ⊥
-
 -- the names of a record
 abbrev pub row_names : DataType → Option (List Name)
 row_names (rec ns ts) = Some ns

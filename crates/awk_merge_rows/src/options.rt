@@ -2,6 +2,7 @@
 ghost use Rattle.std.specs.Prelude.{◌≡◌, ◌+◌, ◌-◌, ◌<◌, ◌≤◌, ◌^◌, false, length, IfOk, OnOk};
 ghost use Rattle.std.specs.Prelude.{IfSome};
 ghost use Rattle.awk_types.specs.Simple.{is_option, IsSimple};
+ghost use Rattle.awk_lanes.specs.Making.{with_items};
 ghost use Rattle.awk_lanes.specs.Numbers.{int_of, IsOf};
 ghost use Rattle.awk_lanes.specs.Places.{size_of, IsOptionalIndex};
 ghost use Rattle.awk_lanes.specs.declared.kind.Kind.TheVariants as Kind;
@@ -9,8 +10,7 @@ ghost use Rattle.awk_layout.specs.Typing.{array_type};
 ghost use Rattle.awk_layout.specs.Valid.{len};
 ghost use Rattle.awk_open.specs.Opens.{OpensOption};
 ghost use Rattle.awk_merge_rows.specs.OptionLevels.{IsOptionLevel};
-ghost use Rattle.awk_merge_rows.specs.Present.{with_items, places_on, moved, index_on};
-ghost use Rattle.awk_merge_rows.specs.Present.{IsPresentPut};
+ghost use Rattle.awk_merge_rows.specs.Present.{places_on, moved, index_on, IsPresentPut};
 ghost use Rattle.awk_merge_sides.specs.Sides.{side_of, sides_of, IsCounted};
 
 use awk_lanes::{Arena, Kind, Lane, LaneMaker, Num, Steps, number, option_place_in};

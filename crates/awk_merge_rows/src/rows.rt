@@ -1,15 +1,15 @@
 //! Columns of rows: the columns of each part.
 ghost use Rattle.std.specs.Prelude.{◌≡◌, ◌<◌, ◌^◌, ◌++◌, ◌∷◌, [], List, None, IfOk, OnOk, length};
 ghost use Rattle.awk_types.specs.DataType.{DataType, tup, types_from};
+ghost use Rattle.awk_types.specs.Parts.{IsRowType};
 ghost use Rattle.awk_types.specs.View.{typ_of};
 ghost use Rattle.awk_layout.specs.Valid.{len};
 ghost use Rattle.awk_unify.specs.Carry.{keep};
 ghost use Rattle.awk_unify.specs.View.{lift_of};
 ghost use Rattle.awk_merge_sides.specs.Groups.{groups_of, AreCounted};
-ghost use Rattle.awk_merge_rows.specs.RowLevels.{row_parts, IsRowType, IsRowLevel};
-ghost use Rattle.awk_merge_rows.specs.Parts.{null_column, or_nulls, part_side, side_from};
-ghost use Rattle.awk_merge_rows.specs.Parts.{ArePut, IsRowSide};
-ghost use Rattle.awk_merge_rows.specs.Parts.{OpensAsRow, AreRowParts};
+ghost use Rattle.awk_merge_rows.specs.RowLevels.{row_parts, IsRowLevel};
+ghost use Rattle.awk_merge_rows.specs.Parts.{null_column, or_nulls, part_side, side_from, ArePut};
+ghost use Rattle.awk_merge_rows.specs.Parts.{IsRowSide, OpensAsRow, AreRowParts};
 ghost use Rattle.awk_merge_sides.specs.Lifts.{part_carry, part_source, AreSources};
 ghost use Rattle.awk_merge_sides.specs.Sides.{Side as Lifted, side_of, sides_of, IsSide, AreSides};
 ghost use Rattle.awk_merge_sides.specs.Sides.{IsCounted};

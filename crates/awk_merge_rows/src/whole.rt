@@ -7,7 +7,6 @@ ghost use Rattle.awk_merge_sides.specs.Sides.{sides_of, IsCounted};
 ghost use Rattle.awk_merge_rows.specs.PresentLevels.{IsPresentLevel, IsWhole, IsWholeLevel};
 
 use crate::options::{OptionLevel, option_level};
-use awk_gather::array_within;
 use awk_lanes::{Arena, Lane, Steps};
 use awk_layout::{Array, Class, Node};
 use awk_merge_sides::Sides;
@@ -35,7 +34,7 @@ fn unmasked_items<'a>(
     if content.len() != n {
         return Ok(None);
     }
-    let items = array_within(alloc, content.copy(alloc)?)?;
+    let items = Array::of_node(alloc, content.copy(alloc)?)?;
     if is_optional(items.typ()) {
         return Ok(None);
     }

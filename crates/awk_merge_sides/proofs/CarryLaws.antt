@@ -1,14 +1,14 @@
 -- What carries keep: nulls, shapes of values, and the values of parts of types.
-use Rattle.std.proofs.Common.{◌≡◌, ◌≢◌, ◌∷◌, [], true, false, refl, subst, sym, ◌∙◌}
+use Rattle.std.proofs.Common.{◌≡◌, ◌≢◌, true, false, refl, subst, sym, ◌∙◌}
 use Rattle.awk_types.proofs.SimpleLaws.{has_option, null_in_option}
 use Rattle.awk_types.specs.DataType.{DataType, leaf, opt, rec, reg, tup, uni, unknown, var}
 use Rattle.awk_types.specs.Has.{Has}
+use Rattle.awk_types.specs.Parts.{IsRowType}
 use Rattle.awk_types.specs.Simple.{is_option}
-use Rattle.awk_types.specs.Value.{Value, alt, int, list, null, row, truth, values_from}
+use Rattle.awk_types.specs.Value.{Value, alt, int, list, null, row, truth}
 use Rattle.awk_types.specs.declared.primitive.Primitive.{Primitive}
 use Rattle.awk_unify.proofs.AfterLaws.{carry_null}
 use Rattle.awk_unify.specs.Carry.{Carry, carried, in_items, keep, to_alternatives, to_parts}
-use Rattle.awk_merge_sides.specs.Lifts.{items_carry}
 use Rattle.awk_merge_sides.specs.Sides.{Carries}
 
 -- ---- nulls
@@ -79,17 +79,9 @@ IsScalar (int z) = Unit {0}
 IsScalar (truth b) = Unit {0}
 IsScalar v = ⊥
 
-abbrev pub IsList : Value → Type 0
-IsList (list vs) = Unit {0}
-IsList v = ⊥
-
 abbrev pub IsRow : Value → Type 0
 IsRow (row vs) = Unit {0}
 IsRow v = ⊥
-
-abbrev pub IsAlternative : Value → Type 0
-IsAlternative (alt k v) = Unit {0}
-IsAlternative v = ⊥
 
 pub leaf_scalar : (p : Primitive) (v : Value) → Has (leaf p) v → IsScalar v
 leaf_scalar p (int z) h = tt
@@ -139,36 +131,9 @@ row_before (to_alternatives ts fs) null h = absurd h
 row_before (to_alternatives ts fs) (row vs) h = tt
 row_before (to_alternatives ts fs) (alt k v) h = absurd h
 
--- types whose values are lists, and whose values are rows
-abbrev pub IsListType : DataType → Type 0
-IsListType (var t) = Unit {0}
-IsListType (reg n t) = Unit {0}
-IsListType t = ⊥
-
-abbrev pub IsRowType : DataType → Type 0
-IsRowType (rec ns ts) = Unit {0}
-IsRowType (tup ts) = Unit {0}
-IsRowType t = ⊥
-
 abbrev pub IsLeafType : DataType → Type 0
 IsLeafType (leaf p) = Unit {0}
 IsLeafType t = ⊥
-
--- a type with a list, and without null
-list_type : (a : DataType) (v : Value) → is_option a ≡ false → IsList v → Has a v → IsListType a
-list_type unknown (list vs) n s h = absurd h
-list_type (leaf p) (list vs) n s h = absurd h
-list_type (var a) (list vs) n s h = tt
-list_type (reg k a) (list vs) n s h = tt
-list_type (rec ns ts) (list vs) n s h = absurd h
-list_type (tup ts) (list vs) n s h = absurd h
-list_type (opt a) (list vs) n s h = cc
-list_type (uni ts) (list vs) n s h = absurd h
-list_type a (int z) n s h = absurd s
-list_type a (truth b) n s h = absurd s
-list_type a null n s h = absurd s
-list_type a (row vs) n s h = absurd s
-list_type a (alt k v) n s h = absurd s
 
 row_type_of : (a : DataType) (v : Value) → is_option a ≡ false → IsRow v → Has a v → IsRowType a
 row_type_of unknown (row vs) n s h = absurd h
@@ -218,11 +183,3 @@ rows_before a t f v h n r c =
     row_type_of a v (no_option a t f n c) (row_before f v (r (carried f v) (c v h))) h
 
 -- ---- items of lists
-
-single : (u : DataType) (f : Carry) (v : Value)
-    → Has (var u) (carried f (list (values_from (v ∷ []))))
-    → Has u (carried (items_carry f) v)
-single u keep v h = h.0
-single u (in_items g) v h = h.0
-single u (to_parts ps fs) v h = h.0
-single u (to_alternatives ts fs) v h = absurd h

@@ -72,12 +72,6 @@ counted-set [] j new h k = tt
 counted-set (s ∷ ss) zero new h k = (k, h.1)
 counted-set (s ∷ ss) (suc j) new h k = (h.0, counted-set ss j new h.1 k)
 
-pub counted-read : (ss : List Sides) (j : ℕ) (s : Sides) → AllByRecursion IsCounted ss
-    → j < length ss → s ≡ get_or ss j s → IsCounted s
-counted-read [] j s h l r = absurd (omega (arith, l))
-counted-read (t ∷ ss) zero s h l r = subst IsCounted (sym r) h.0
-counted-read (t ∷ ss) (suc j) s h l r = counted-read ss j s h.1 (omega (arith, l)) r
-
 -- ---- groups of columns that become columns of types
 
 pub length-groups : (ts : List DataType) (gs : List (List Side)) → AreGroups ts gs

@@ -10,18 +10,15 @@ use Rattle.std.specs.List.{range_with_len}
 use Rattle.awk_base.proofs.Lists.{drop-get}
 use Rattle.awk_unify.proofs.Views.{lift_of-Alternatives, lift_of-Parts}
 use Rattle.awk_unify.specs.Carries.{carry_at}
-use Rattle.awk_unify.specs.Carry.{Carry, carries_from, carry_list, keep}
+use Rattle.awk_unify.specs.Carry.{Carry, keep}
 use Rattle.awk_unify.specs.View.{lift_of, lifts_of}
 use Rattle.awk_unify.specs.declared.lift.Lift.{Alternatives, Lift, Parts}
 use Rattle.awk_unify.specs.declared.lift.Lifts.{Lifts}
+use Rattle.awk_unify.proofs.SameLifts.{carry_list-from}
 use Rattle.awk_merge_sides.specs.Lifts.{alternative_carry, part_carry, part_source}
 use Rattle.awk_merge_sides.specs.Lifts.{source_at, AreSources}
 
 -- ---- variants
-
-pub carry_list-from : (fs : List Carry) → carry_list (carries_from fs) ≡ fs
-carry_list-from [] = refl
-carry_list-from (f ∷ fs) = ap (λ gs. f ∷ gs) (carry_list-from fs)
 
 pub part_source-Parts : (f : Lift) (ps : List ℕ) (parts : Lifts) (j : ℕ) → f ≡ Parts ps parts
     → source_at j ps (lifts_of parts) ≡ part_source (lift_of f) j

@@ -7,13 +7,13 @@ use Rattle.std.proofs.lemmas.List.{append-nil, length-append, length-map, map-ap
 use Rattle.std.proofs.lemmas.List.{get_or_append_left, get_or-append-add, take_all}
 use Rattle.std.specs.List.{AllByRecursion}
 use Rattle.std.specs.Prelude.{OnErr}
-use Rattle.awk_base.proofs.Every.{all-append}
+use Rattle.awk_base.proofs.Every.{all-append, all-get, all-at}
 use Rattle.awk_base.proofs.Lists.{take-get}
 use Rattle.awk_types.proofs.SimpleLaws.{has_each}
 use Rattle.awk_types.specs.DataType.{DataType}
 use Rattle.awk_types.specs.Has.{Has}
 use Rattle.awk_types.specs.Simple.{simple_value}
-use Rattle.awk_types.specs.Value.{Value, null}
+use Rattle.awk_types.specs.Value.{null}
 use Rattle.awk_layout.proofs.ArrayItems.{length-array_items, get_or-array_items}
 use Rattle.awk_layout.specs.Item.{item}
 use Rattle.awk_layout.specs.Layout.{Layout}
@@ -26,13 +26,6 @@ use Rattle.awk_merge_sides.specs.declared.sides.Side as declared
 use Rattle.awk_merge_sides.specs.declared.sides.Sides.{Sides}
 
 -- ---- lists
-
--- what holds of all holds of the one that `get` gives
-pub all-get : {X : Type 0} (P : X → Type 0) (xs : List X) (i : ℕ) (x : X) → slice_get xs i ≡ Some x
-    → AllByRecursion P xs → P x
-all-get P [] i x e h = cc
-all-get P (y ∷ xs) zero x e h = let f : y ≡ x = cc in subst P f h.0
-all-get P (y ∷ xs) (suc i) x e h = all-get P xs i x e h.1
 
 -- what holds anyway
 pub on_err-anyway : {A E : Type 0} (r : Result A E) (P : Type 0) → P → OnErr r P
@@ -64,19 +57,12 @@ pub get_or-side_items : (s : Side) (j : ℕ) → j < len s.column → get_or (si
     ≡ carried s.carry (simple_value (layout_type s.column) (item s.column j))
 get_or-side_items s j h = get_or-carried s.column s.carry j h
 
--- an item of a column is of its type
-all-at : (P : Value → Type 0) (vs : List Value) (j : ℕ) → AllByRecursion P vs → j < length vs
-    → P (get_or vs j null)
-all-at P [] j h l = absurd (omega (arith, l))
-all-at P (v ∷ vs) zero h l = h.0
-all-at P (v ∷ vs) (suc j) h l = all-at P vs j h.1 (omega (arith, l))
-
 pub item_has : (x : Layout) (j : ℕ) → AllByRecursion (Has (array_type x)) (array_items x)
     → j < len x
     → Has (array_type x) (simple_value (layout_type x) (item x j))
 item_has x j h l =
     subst (Has (array_type x)) (get_or-array_items x j l)
-    (all-at (Has (array_type x)) (array_items x) j h (omega (arith, l, length-array_items x)))
+    (all-at (Has (array_type x)) (array_items x) j null h (omega (arith, l, length-array_items x)))
 
 -- and carried of the other type
 pub side_has : (t : DataType) (s : Side) → IsSide t s

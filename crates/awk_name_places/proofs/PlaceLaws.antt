@@ -7,27 +7,10 @@ use Rattle.std.specs.List.{list_any, position_or_len}
 use Rattle.std.specs.Str.{bytes_eq}
 use Rattle.std.proofs.Math.Bool.{not-not}
 use Rattle.std.proofs.lemmas.List.{map-append}
-use Rattle.awk_types.specs.DataType.{DataType, Name}
-use Rattle.awk_types.proofs.Views.{named_type}
-use Rattle.awk_types.specs.View.{NamedType, field_of, field_step, fields_step, typ_of, typ_step}
-use Rattle.awk_types.specs.View.{typs_step}
-use Rattle.awk_types.specs.declared.typ.Field.{Field}
-use Rattle.awk_types.specs.declared.typ.Typ.TheViews.{out-Field}
-use Rattle.awk_types.specs.declared.typ.Typ.TheFolds.{fold_out-Field}
-use Rattle.awk_types.specs.Names.{same_name, is_among}
-use Rattle.awk_types.proofs.NameLaws.{same_name_is, same_name-refl}
+use Rattle.awk_types.specs.DataType.{Name}
+use Rattle.awk_types.specs.Names.{is_among}
+use Rattle.awk_types.proofs.NameLaws.{same_name-flip}
 use Rattle.awk_name_places.specs.Places.{place_in}
-
-same_name-flip : (n m : Name) → same_name n m ≡ same_name m n
-same_name-flip n m = step (same_name n m) refl
-  where
-    step : (b : Bool) → same_name n m ≡ b → b ≡ same_name m n
-    step true e = sym (ap (λ k. same_name k n) (sym (same_name_is n m e)) ∙ same_name-refl n)
-    step false e = other (same_name m n) refl
-      where
-        other : (b : Bool) → same_name m n ≡ b → false ≡ b
-        other true f = sym e ∙ ap (same_name n) (same_name_is m n f) ∙ same_name-refl n
-        other false f = refl
 
 -- ---- a place that is found
 
@@ -114,11 +97,3 @@ keys-among name ks names added shown told =
     sym (any-among name ks ∙ ap (is_among name) shown) ∙ sym (not-not _) ∙ ap not (sym told)
 
 -- ---- the name of a field
-
-field_out : (f : Field) → field_of f ≡ named_type (out-Field f).name (typ_of (out-Field f).typ)
-field_out =
-    fold_out-Field DataType NamedType (List NamedType) (List DataType) typ_step field_step
-    fields_step typs_step
-
-pub name_out : (f : Field) → (field_of f).name ≡ (out-Field f).name
-name_out f = ap (λ x. x.name) (field_out f)

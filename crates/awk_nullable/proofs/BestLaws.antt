@@ -12,10 +12,10 @@ use Rattle.std.proofs.lemmas.List.Sums.{fold-append}
 use Rattle.awk_base.proofs.Truths.{int_eq-refl}
 use Rattle.awk_lanes.specs.Column.{Column}
 use Rattle.awk_lanes.specs.Places.{size_of, at}
-use Rattle.awk_numbers.specs.Folds.{beats}
+use Rattle.awk_numbers.specs.Folds.{beats, extreme_of}
 use Rattle.awk_numbers.specs.declared.extremes.Extreme.{Extreme}
 use Rattle.awk_numbers.specs.declared.extremes.Extreme.TheVariants.{Least, Greatest}
-use Rattle.awk_nullable.specs.Extremes.{extreme_number, number_place, better_of, better_found}
+use Rattle.awk_nullable.specs.Extremes.{number_place, better_of, better_found}
 use Rattle.awk_nullable.specs.Extremes.{Found, found_of, IsFirst, IsFound, IsBest}
 use Rattle.awk_nullable.specs.Numbers.{leaf_number, number_list, numbers_from}
 use Rattle.awk_nullable.specs.declared.extremes.Best.{Best}
@@ -30,8 +30,8 @@ choice Greatest y z = int_max y z
 same_number : (y z : ℤ) → Some y ≡ Some z → y ≡ z
 same_number y z e = cc
 
-extreme_more : (how : Extreme) (zs : List ℤ) (y z : ℤ) → extreme_number how zs ≡ Some y
-    → extreme_number how (zs ++ z ∷ []) ≡ Some (choice how y z)
+extreme_more : (how : Extreme) (zs : List ℤ) (y z : ℤ) → extreme_of how zs ≡ Some y
+    → extreme_of how (zs ++ z ∷ []) ≡ Some (choice how y z)
 extreme_more Least [] y z e = cc
 extreme_more Greatest [] y z e = cc
 extreme_more Least (x ∷ xs) y z e =
@@ -41,11 +41,11 @@ extreme_more Greatest (x ∷ xs) y z e =
     ap Some (fold-append int_max x xs (z ∷ [])
     ∙ ap (λ a. int_max a z) (same_number (fold int_max x xs) y e))
 
-extreme_one : (how : Extreme) (z : ℤ) → extreme_number how (z ∷ []) ≡ Some z
+extreme_one : (how : Extreme) (z : ℤ) → extreme_of how (z ∷ []) ≡ Some z
 extreme_one Least z = refl
 extreme_one Greatest z = refl
 
-pub extreme_empty : (how : Extreme) → extreme_number how [] ≡ None
+pub extreme_empty : (how : Extreme) → extreme_of how [] ≡ None
 extreme_empty Least = refl
 extreme_empty Greatest = refl
 
@@ -102,7 +102,7 @@ module _ (how : Extreme) (f : ℕ → Option ℕ) (c : Column) (a i : ℕ) where
     inside = omega (arith, h.inside);
     place = h.place;
     number = h.number;
-    extreme = ap (extreme_number how) (numbers_kept e) ∙ h.extreme;
+    extreme = ap (extreme_of how) (numbers_kept e) ∙ h.extreme;
     item = place_kept e b.number ∙ h.item;
     before = λ z t. place_kept e z ∙ h.before z t;
   }
@@ -130,7 +130,7 @@ module _ (how : Extreme) (f : ℕ → Option ℕ) (c : Column) (a i : ℕ) where
         ∙ ap (λ o. earlier o (cond (int_eq z next.number) (Some i) None)) p
         ∙ ap (λ b. cond b (Some i) None) d
 
-    chosen : extreme_number how (zs ++ next.number ∷ []) ≡ Some next.number
+    chosen : extreme_of how (zs ++ next.number ∷ []) ≡ Some next.number
         → place_of next.number ≡ None
         → ((z : ℤ) → beats how z next.number ≡ true → place_of z ≡ None)
         → IsFirst how f c a (i + 1) next
@@ -138,7 +138,7 @@ module _ (how : Extreme) (f : ℕ → Option ℕ) (c : Column) (a i : ℕ) where
       inside = omega (arith, item);
       place = l;
       number = n;
-      extreme = ap (extreme_number how) numbers_new ∙ x;
+      extreme = ap (extreme_of how) numbers_new ∙ x;
       item = place_new next.number
           ∙ ap (λ o. earlier o (cond (int_eq next.number next.number) (Some i) None)) p
           ∙ ap (λ b. cond b (Some i) None) (int_eq-refl next.number)
@@ -152,7 +152,7 @@ module _ (how : Extreme) (f : ℕ → Option ℕ) (c : Column) (a i : ℕ) where
       inside = omega (arith, h.inside);
       place = h.place;
       number = h.number;
-      extreme = ap (extreme_number how) numbers_new
+      extreme = ap (extreme_of how) numbers_new
           ∙ extreme_more how zs old.number next.number h.extreme
           ∙ ap Some (chosen_old how old.number next.number t);
       item = place_new old.number
@@ -175,7 +175,7 @@ module _ (how : Extreme) (f : ℕ → Option ℕ) (c : Column) (a i : ℕ) where
         → IsFirst how f c a (i + 1) (better_found how best next)
     number_more None h =
         chosen
-        (ap (λ ys. extreme_number how (ys ++ next.number ∷ [])) h.0 ∙ extreme_one how next.number)
+        (ap (λ ys. extreme_of how (ys ++ next.number ∷ [])) h.0 ∙ extreme_one how next.number)
         (h.1 next.number)
         (λ z t. h.1 z)
     number_more (Some old) h = best_by old (beats how next.number old.number) refl h

@@ -1,6 +1,6 @@
 mod NumberLaws
 mod FindLaws
-mod BestLaws
+pub mod BestLaws
 mod TotalLaws
 mod TruthLaws
 mod KeyLaws

@@ -5,22 +5,15 @@ use Rattle.std.specs.Prelude.{ℤ, Bool, true, false, not, ◌||◌, ◌&&◌, O
 use Rattle.std.specs.List.{list_any, list_all}
 use Rattle.std.proofs.lemmas.Bool.{cases_lt}
 use Rattle.std.proofs.lemmas.List.Folds.{list_any-append, list_all-append}
+use Rattle.std.proofs.Math.Bool.{and-false, or-true}
 use Rattle.awk_lanes.specs.Numbers.{is_nonzero}
 use Rattle.awk_nullable.specs.Numbers.{number_list, numbers_from}
 use Rattle.awk_nullable.specs.Totals.{is_true_number, is_false_number}
 use Rattle.awk_nullable.proofs.NumberLaws.{numbers-more}
 
-or_true : (b : Bool) → (b || true) ≡ true
-or_true true = refl
-or_true false = refl
-
 or_false : (b : Bool) → (b || false) ≡ b
 or_false true = refl
 or_false false = refl
-
-and_false : (b : Bool) → (b && false) ≡ false
-and_false true = refl
-and_false false = refl
 
 true_one : (o : Option ℤ) → list_any is_nonzero (number_list o) ≡ is_true_number o
 true_one None = refl
@@ -77,7 +70,7 @@ module _ (g : ℕ → Option ℤ) (a : ℕ) where
       go h (inr k) =
           let same : n ≡ i = omega (arith, l, k) in
           ap (λ j. any n || is_true_number (g (a + j))) same ∙ ap (λ b. any n || b) e
-          ∙ or_true (any n)
+          ∙ or-true (any n)
 
   pub one_false : (n i : ℕ) → i < n → is_false_number (g (a + i)) ≡ true
       → list_all is_nonzero (numbers_from g a n) ≡ false
@@ -92,4 +85,4 @@ module _ (g : ℕ → Option ℤ) (a : ℕ) where
       go h (inr k) =
           let same : n ≡ i = omega (arith, l, k) in
           ap (λ j. all n && not (is_false_number (g (a + j)))) same
-          ∙ ap (λ b. all n && not b) e ∙ and_false (all n)
+          ∙ ap (λ b. all n && not b) e ∙ and-false (all n)

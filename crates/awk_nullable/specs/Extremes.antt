@@ -1,22 +1,15 @@
 -- The extreme of numbers while they are read, and its first item.
 use Rattle.std.specs.Prelude.{◌≡◌, ℕ, ◌<◌, ℤ, ◌+ℤ◌, Bool, true, false, List, [], position, Option}
 use Rattle.std.specs.Prelude.{Some, None, if◌then◌else◌}
-use Rattle.std.specs.Int.{int_min, int_max}
-use Rattle.std.specs.List.{range_with_len, reduce}
+use Rattle.std.specs.List.{range_with_len}
 use Rattle.std.specs.Option.{option_and_then}
 use Rattle.std.specs.Ordering.{int_eq}
 use Rattle.awk_lanes.specs.Column.{Column}
 use Rattle.awk_lanes.specs.Places.{size_of, at}
-use Rattle.awk_numbers.specs.Folds.{beats}
+use Rattle.awk_numbers.specs.Folds.{beats, extreme_of}
 use Rattle.awk_numbers.specs.declared.extremes.Extreme.{Extreme}
-use Rattle.awk_numbers.specs.declared.extremes.Extreme.TheVariants.{Least, Greatest}
 use Rattle.awk_nullable.specs.Numbers.{leaf_number, numbers_from}
 use Rattle.awk_nullable.specs.declared.extremes.Best.{Best}
-
--- the least number or the greatest, or none of none
-abbrev pub extreme_number : Extreme → List ℤ → Option ℤ
-extreme_number Least zs = reduce int_min zs
-extreme_number Greatest zs = reduce int_max zs
 
 -- the better one of a number and the best so far, by their keys
 abbrev pub better_of : Extreme → Option Best → Best → Best
@@ -53,7 +46,7 @@ pub record IsFirst (how : Extreme) (f : ℕ → Option ℕ) (c : Column) (first 
   pub inside : b.item < n
   pub place : b.place < size_of c
   pub number : b.number ≡ at c b.place
-  pub extreme : extreme_number how (numbers_from (leaf_number f c) first n) ≡ Some b.number
+  pub extreme : extreme_of how (numbers_from (leaf_number f c) first n) ≡ Some b.number
   pub item : number_place (leaf_number f c) first n b.number ≡ Some b.item
   pub before : (z : ℤ) → beats how z b.number ≡ true
       → number_place (leaf_number f c) first n z ≡ None
@@ -74,9 +67,9 @@ IsBest how f c shift first n (Some b) =
 -- a place of the extreme in the lane, or none of no numbers
 abbrev pub IsExtremeAt : Extreme → Column → List ℤ → Option ℕ → Type 0
 IsExtremeAt how c zs None = zs ≡ []
-IsExtremeAt how c zs (Some k) = (k < size_of c) × (extreme_number how zs ≡ Some (at c k))
+IsExtremeAt how c zs (Some k) = (k < size_of c) × (extreme_of how zs ≡ Some (at c k))
 
 -- the first item of the extreme
 abbrev pub extreme_place : Extreme → (ℕ → Option ℤ) → ℕ → ℕ → Option ℕ
 extreme_place how g first n =
-    option_and_then (number_place g first n) (extreme_number how (numbers_from g first n))
+    option_and_then (number_place g first n) (extreme_of how (numbers_from g first n))

@@ -8,48 +8,8 @@ use crate::cells::Cells;
 use crate::numbers::Leaves;
 use crate::places::Places;
 use awk_lanes::Steps;
-use awk_numbers::Extreme;
+use awk_numbers::{Extreme, Greater, Lesser, Side};
 use std::sync::ledger::Ledger;
-
-/// Which of two numbers is looked for.
-trait Side {
-    ghost use Rattle.awk_numbers.specs.Folds.{beats as is_before};
-    ghost use Rattle.awk_numbers.specs.declared.extremes.Extreme.{Extreme};
-
-    ghost how: { Extreme };
-
-    /// Whether a number comes before another.
-    fn beats(x: i64, y: i64) -> bool
-        ensures { result ≡ is_before how x y };
-}
-
-/// The least.
-struct Lesser;
-
-impl Side for Lesser {
-    ghost use Rattle.awk_numbers.specs.declared.extremes.Extreme.TheVariants.{Least};
-
-    ghost how = { Least };
-
-    #[inline(always)]
-    fn beats(x: i64, y: i64) -> bool {
-        x < y
-    }
-}
-
-/// The greatest.
-struct Greater;
-
-impl Side for Greater {
-    ghost use Rattle.awk_numbers.specs.declared.extremes.Extreme.TheVariants.{Greatest};
-
-    ghost how = { Greatest };
-
-    #[inline(always)]
-    fn beats(x: i64, y: i64) -> bool {
-        y < x
-    }
-}
 
 /// The extreme so far: its item, counted from the first one, its place in the lane and its key.
 #[derive(Clone, Copy)]

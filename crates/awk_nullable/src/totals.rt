@@ -1,6 +1,5 @@
 //! Sums, products and counts of the items of a list that are not null.
-ghost use Rattle.std.specs.Prelude.{◌≡◌, ◌<◌, ◌≤◌, ◌*ℤ◌, ℤ, List, cond, unsigned_abs};
-ghost use Rattle.std.specs.Prelude.{Some};
+ghost use Rattle.std.specs.Prelude.{◌≡◌, ◌<◌, ◌≤◌, ℤ, List, Some};
 ghost use Rattle.std.specs.List.{count_by, list_any, list_all};
 ghost use Rattle.awk_lanes.specs.Numbers.{int_of, is_nonzero, IsOf as IsOfKind};
 ghost use Rattle.awk_numbers.specs.Folds.{folded, tallied, tally_kind, product, IsNear};
@@ -11,7 +10,7 @@ use crate::cells::Cells;
 use crate::numbers::{Leaves, Total, count_of, number_of, total_of};
 use crate::places::Places;
 use awk_lanes::{Num, Steps, number};
-use awk_numbers::{Fold, Tally};
+use awk_numbers::{Fold, Tally, near, one_if};
 use std::sync::ledger::Ledger;
 
 /// The sum of numbers.
@@ -40,20 +39,6 @@ pub(crate) enum Product {
     Far,
     /// None is 0, and it is nearer.
     Near(i128),
-}
-
-/// A product, if it is nearer to 0 than 2 to the power of 64.
-#[inline(always)]
-fn near(so_far: i128, factor: i128) -> Option<i128>
-    ensures near { IsNear (so_far *ℤ factor) result }
-    ensures small { (z : ℤ) → result ≡ Some z → unsigned_abs z < 18446744073709551616 }
-{
-    let next = so_far.checked_mul(factor)?;
-    if next.unsigned_abs() >= 0x1_0000_0000_0000_0000 {
-        None
-    } else {
-        Some(next)
-    }
 }
 
 impl Total for Product {
@@ -92,15 +77,6 @@ fn near_product(x: Product) -> Option<i128>
 #[derive(Clone, Copy)]
 pub(crate) struct Nonzero {
     count: u64,
-}
-
-/// 1 for a number that is not 0, else 0.
-#[inline(always)]
-fn one_if(z: i128) -> u64
-    ensures one { result ≡ cond (is_nonzero z) 1 0 }
-    ensures small { result ≤ 1 }
-{
-    if z == 0 { 0 } else { 1 }
 }
 
 impl Total for Nonzero {

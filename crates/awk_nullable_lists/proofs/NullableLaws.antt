@@ -1,8 +1,7 @@
 -- Options of numbers that lie in a lane, by an index or by a mask.
 use Rattle.std.proofs.Common.{◌≡◌, ℕ, ◌*◌, ◌/◌, ◌<◌, List, [], ◌∷◌, length, get_or, refl, ap}
 use Rattle.std.proofs.Common.{sym, ◌∙◌, arith}
-use Rattle.std.specs.Prelude.{ℤ, pos, negsuc, ◌<ℤ◌, Bool, true, false, Option, Some, None}
-use Rattle.std.specs.Prelude.{if◌then◌else◌}
+use Rattle.std.specs.Prelude.{ℤ, pos, negsuc, ◌<ℤ◌, Bool, true, false, Option, Some, if◌then◌else◌}
 use Rattle.std.specs.Simd.{first_chunks}
 use Rattle.std.proofs.lemmas.Int.{ints}
 use Rattle.std.proofs.lemmas.List.FromFn.{length-map-range_with_len, get_or-map-range_with_len}
@@ -10,11 +9,11 @@ use Rattle.awk_types.specs.DataType.{leaf}
 use Rattle.awk_types.specs.Predicates.{is_leaf}
 use Rattle.awk_types.specs.Simple.{simple_value, in_option}
 use Rattle.awk_types.specs.Value.{Value, null}
+use Rattle.awk_types.proofs.NullLaws.{in_option-same}
 use Rattle.awk_lanes.specs.Column.{Column}
 use Rattle.awk_lanes.specs.Numbers.{element, number, numbers, width, is_nonzero}
 use Rattle.awk_lanes.specs.Places.{size_of, at, option_place, option_place_at}
-use Rattle.awk_lanes.specs.Places.{IsIndexKind, IsOptionKind}
-use Rattle.awk_lanes.specs.declared.kind.Kind.{Kind}
+use Rattle.awk_lanes.specs.Places.{index_or_null}
 use Rattle.awk_lanes.specs.declared.kind.Kind.TheVariants as kind
 use Rattle.awk_lanes.specs.declared.kind.Kind.TheVariants.{I8}
 use Rattle.awk_layout.specs.Item.{leaf_value, at_option, agrees, byte_shows, bit_shows}
@@ -26,16 +25,13 @@ use Rattle.awk_gather.specs.Arrays.{array_item}
 use Rattle.awk_gather_lanes.proofs.MovedGroups.{length-groups, number-group}
 use Rattle.awk_open.specs.Opened.{IsOpened}
 use Rattle.awk_open.specs.declared.opening.Opened.TheVariants as opened
-use Rattle.awk_columns.proofs.ArrayLaws.{array_items-at, in_option_same}
-use Rattle.awk_numbers.specs.declared.extremes.Extreme.{Extreme}
-use Rattle.awk_numbers.specs.declared.extremes.Extreme.TheVariants.{Least, Greatest}
-use Rattle.awk_parts.specs.Lanes.{index_or_null, some_place}
+use Rattle.awk_columns.proofs.ArrayLaws.{array_items-at}
+use Rattle.awk_parts.specs.Lanes.{some_place}
 use Rattle.awk_present.specs.Numbers.{leaf_of}
 use Rattle.awk_present.specs.Present.{AreLeaves as AreLaneOf}
 use Rattle.awk_present.proofs.LeafLaws.{leaf_of-opt}
 use Rattle.awk_present.proofs.PresentLaws.{leaves-count, index_into}
 use Rattle.awk_present.proofs.TakenLanes.{named_within}
-use Rattle.awk_nullable.specs.Extremes.{extreme_number}
 use Rattle.awk_nullable.specs.Masks.{if_shown, byte_place, bit_place}
 use Rattle.awk_nullable.specs.Numbers.{IsFilled}
 use Rattle.awk_nullable_lists.specs.Nullable.{AreLeaves}
@@ -51,18 +47,6 @@ shown_place false i k e = cc
 
 same_place : (i k : ℕ) → Some i ≡ Some k → i ≡ k
 same_place i k e = cc
-
--- an index of an option is of a kind of indexes
-pub option_kind : (k : Kind) → IsOptionKind k → IsIndexKind k
-option_kind kind.I32 h = tt
-option_kind kind.I64 h = tt
-option_kind kind.Bool h = absurd h
-option_kind kind.I8 h = absurd h
-option_kind kind.I16 h = absurd h
-option_kind kind.U8 h = absurd h
-option_kind kind.U16 h = absurd h
-option_kind kind.U32 h = absurd h
-option_kind kind.U64 h = absurd h
 
 -- the bytes of a mask, each in a group of its own
 pub mask_groups : (m : Column) (b : List ℕ) → m.kind ≡ I8 → length b ≡ size_of m * width m.kind
@@ -84,7 +68,7 @@ module _ (c : Column) where
 
   -- an option of leaves is simple
   plain : (v : Value) → in_option (simple_value (leaf (primitive_of c.kind))) v ≡ v
-  plain v = in_option_same (simple_value (leaf (primitive_of c.kind))) refl v
+  plain v = in_option-same (simple_value (leaf (primitive_of c.kind))) refl v
 
   pub indexed_leaves : (j : Column) → IsValid (optional j (flat c))
       → AreLeaves (optional j (flat c)) (option_place_at j) (size_of j) c
@@ -170,10 +154,6 @@ module _ (c : Column) where
           opens.items i (omega (arith, l, opens.size))
           ∙ item_by (at j i) (opens.valid.1.below i l);
     }
-
-pub extreme_none : (how : Extreme) → extreme_number how [] ≡ None
-extreme_none Least = refl
-extreme_none Greatest = refl
 
 pub index_there : (i : ℕ) (zs : List ℤ) → IsFilled true zs → index_or_null i (some_place zs) ≡ pos i
 index_there i [] h = absurd (h refl)

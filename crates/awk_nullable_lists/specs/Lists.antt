@@ -1,15 +1,15 @@
 -- A number for each list of leaves of which some may be null.
 use Rattle.std.specs.Prelude.{◌≡◌, ℕ, ◌<◌, ◌≤◌, ℤ, pos, List, Option, Some, None}
 use Rattle.awk_lanes.specs.Column.{Column}
-use Rattle.awk_lanes.specs.Places.{size_of, place_at}
+use Rattle.awk_lanes.specs.Places.{size_of, place_at, index_or_null}
 use Rattle.awk_layout.specs.Valid.{len}
 use Rattle.awk_columns.specs.Lists.{Listed, span_length}
-use Rattle.awk_numbers.specs.Folds.{folded, tallied}
+use Rattle.awk_numbers.specs.Folds.{folded, tallied, extreme_of}
 use Rattle.awk_numbers.specs.declared.extremes.Extreme.{Extreme}
 use Rattle.awk_numbers.specs.declared.folds.Fold.{Fold}
 use Rattle.awk_numbers.specs.declared.tallies.Tally.{Tally}
-use Rattle.awk_parts.specs.Lanes.{place_or_zero, index_or_null, some_place}
-use Rattle.awk_nullable.specs.Extremes.{extreme_number, extreme_place}
+use Rattle.awk_parts.specs.Lanes.{place_or_zero, some_place}
+use Rattle.awk_nullable.specs.Extremes.{extreme_place}
 use Rattle.awk_nullable.specs.Numbers.{numbers_from, AreLeading}
 
 -- lists, none too long, whose items have their numbers in a lane
@@ -34,7 +34,7 @@ or_zero None = pos 0
 or_zero (Some z) = z
 
 abbrev pub extreme_at : Extreme → Listed → (ℕ → Option ℤ) → ℕ → ℤ
-extreme_at how l g i = or_zero (extreme_number how (numbers_at l g i))
+extreme_at how l g i = or_zero (extreme_of how (numbers_at l g i))
 
 -- the place of the extreme in list i, nulls counted, and 0 where all are null
 abbrev pub local_at : Extreme → Listed → (ℕ → Option ℤ) → ℕ → ℤ

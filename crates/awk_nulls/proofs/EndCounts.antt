@@ -1,7 +1,7 @@
 -- Where lists begin and end among the items that are present, while these are counted.
 use Rattle.std.proofs.Common.{◌≡◌, ℕ, zero, suc, ◌+◌, ◌<◌, ◌≤◌, map, length, arith, refl, ap}
 use Rattle.std.proofs.Common.{sym, ◌∙◌}
-use Rattle.std.specs.Prelude.{◌==◌, ℤ, pos, if◌then◌else◌}
+use Rattle.std.specs.Prelude.{ℤ, pos}
 use Rattle.std.specs.List.{range_with_len}
 use Rattle.awk_lanes.specs.Column.{Column}
 use Rattle.awk_lanes.specs.Made.{lane_of}
@@ -14,12 +14,9 @@ use Rattle.awk_layout.specs.Valid.{len}
 use Rattle.awk_counts.specs.Counted.{first_of, present_at}
 use Rattle.awk_columns.specs.ListClass.{Class}
 use Rattle.awk_columns.specs.Lists.{span_length, AreLists}
-use Rattle.awk_columns.proofs.SpanLaws.{stop_there}
-use Rattle.awk_option_nodes.specs.Present.{present_lane}
-
--- a number where a list has items, else 0
-abbrev pub end_number : ℕ → ℤ → ℤ
-end_number n z = if n == 0 then pos 0 else z
+use Rattle.awk_counts.specs.Present.{present_lane}
+use Rattle.awk_list_ends.proofs.EndLaws.{end_number}
+use Rattle.awk_list_ends.proofs.SpanLaws.{stop_there}
 
 -- how many of the first items are present
 abbrev pub present_before : Column → ℕ → ℕ

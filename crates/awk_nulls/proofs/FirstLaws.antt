@@ -1,6 +1,6 @@
 -- The first items of lists.
 use Rattle.std.specs.Prelude.{◌≡◌, ℕ, zero, suc, ◌+◌, ◌<◌, ◌≤◌, ◌^◌, ◌==◌, refl, false, ℤ, pos}
-use Rattle.std.specs.Prelude.{negsuc, ◌<ℤ◌, Some, if◌then◌else◌}
+use Rattle.std.specs.Prelude.{negsuc, ◌<ℤ◌, if◌then◌else◌}
 use Rattle.std.proofs.Common.{arith, ap, sym, ◌∙◌, subst}
 use Rattle.std.proofs.lemmas.Int.{ints}
 use Rattle.awk_types.specs.DataType.{opt}
@@ -17,6 +17,7 @@ use Rattle.awk_layout.specs.Valid.{len, IsValid}
 use Rattle.awk_gather.specs.Arrays.{array_item}
 use Rattle.awk_gather.specs.Peeled.{IsPickedOpt}
 use Rattle.awk_lanes.proofs.MadeLanes.{size-lane_of, at-lane_of}
+use Rattle.awk_lanes.proofs.PlaceLaws.{named-below}
 use Rattle.awk_columns.specs.ListClass.{Class}
 use Rattle.awk_axis.specs.Mapped.{IsColumn}
 use Rattle.awk_columns.specs.Lists.{AreLists, items_at}
@@ -24,7 +25,7 @@ use Rattle.awk_nulls.specs.Firsts.{first_or_null}
 use Rattle.awk_nulls.specs.Lanes.{span_length, firsts_lane}
 use Rattle.awk_option_nodes.proofs.OptionNodes.{HasItems, optional_type-is, optional_item}
 use Rattle.awk_nulls.proofs.PickedColumns.{picked_column}
-use Rattle.awk_columns.proofs.SpanLaws.{start_there}
+use Rattle.awk_list_ends.proofs.SpanLaws.{start_there}
 
 abbrev first_number : ℕ → ℤ → ℤ
 first_number n a = if n == 0 then negsuc 0 else a
@@ -48,10 +49,6 @@ first_below m zero a h = omega (arith, ints)
 first_below m (suc n) a h =
     let both = h (omega arith) in
     subst (λ z. z <ℤ pos m) (sym (first_some n a ∙ both.0)) (omega (arith, ints, both.1))
-
-pub place_below : (z : ℤ) (m k : ℕ) → z <ℤ pos m → option_place z ≡ Some k → k < m
-place_below (pos n) m k h e = let f : n ≡ k = cc in omega (arith, ints, h, f)
-place_below (negsuc n) m k h e = cc
 
 module _ (class : Class) (s t : Column) (y : Layout) (a : AreLists class s t y) where
   abbrev number : ℕ → ℤ
@@ -90,7 +87,7 @@ module _ (class : Class) (s t : Column) (y : Layout) (a : AreLists class s t y) 
         let below : at (firsts_lane s t) i <ℤ pos (len y) =
         firsts_index.below i (omega (arith, p, size-firsts)) in
         optional_item (firsts_lane s t) y i h
-        (λ k e. place_below (at (firsts_lane s t) i) (len y) k below e)
+        (λ k e. named-below (at (firsts_lane s t) i) (len y) k below e)
         ∙ ap (simple_value (opt (array_type y)))
         (ap (λ z. at_option (option_place z) (array_item y)) (at-firsts i p)
         ∙ first_shown (array_item y) (span_length s t i) (at s i) (λ q. (there i p q).0));

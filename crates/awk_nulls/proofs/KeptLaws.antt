@@ -3,6 +3,7 @@ use Rattle.std.specs.Prelude.{◌≡◌, ℕ, zero, suc, ◌+◌, ◌-◌, ◌<�
 use Rattle.std.specs.Prelude.{sum, length, Some, None}
 use Rattle.std.proofs.Common.{arith, ap, sym, ◌∙◌, subst}
 use Rattle.awk_types.specs.DataType.{DataType}
+use Rattle.awk_types.specs.Predicates.{is_null}
 use Rattle.awk_types.specs.Simple.{present, simple, simple_value, is_option}
 use Rattle.awk_types.specs.Value.{Value, null, int, truth, list, row, alt, value_list}
 use Rattle.awk_types.specs.ItemLimit.{item_limit}
@@ -22,9 +23,8 @@ use Rattle.awk_axis.specs.DropNone.{drop_none_function}
 use Rattle.awk_axis.specs.Mapped.{AreGiven}
 use Rattle.awk_axis.specs.Spoils.{too_many}
 use Rattle.awk_axis.specs.declared.causes.Spoil.TheVariants.{Size}
-use Rattle.awk_nulls.specs.IsNone.{is_null}
 use Rattle.awk_nulls.specs.Lanes.{span_length}
-use Rattle.awk_columns.proofs.SpanLaws.{start_there}
+use Rattle.awk_list_ends.proofs.SpanLaws.{start_there}
 use Rattle.awk_nulls.proofs.NullLaws.{no_null}
 use Rattle.awk_option_nodes.proofs.OptionNodes.{HasItems, run_stays}
 use Rattle.awk_axis.proofs.SpoilLimits.{over_limit, within_limit}

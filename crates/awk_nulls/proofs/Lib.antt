@@ -1,7 +1,6 @@
 pub mod NullLaws
 pub mod PickedColumns
 pub mod FirstLaws
-pub mod NamedNumbers
 pub mod PresentLaws
 pub mod EndCounts
 pub mod SingleLaws

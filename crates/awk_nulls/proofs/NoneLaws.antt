@@ -7,6 +7,7 @@ use Rattle.std.proofs.Common.{arith, ap, sym, ◌∙◌}
 use Rattle.std.proofs.lemmas.List.{length-map}
 use Rattle.std.proofs.lemmas.Simd.{map-map}
 use Rattle.awk_types.specs.DataType.{leaf}
+use Rattle.awk_types.specs.Predicates.{is_null}
 use Rattle.awk_types.specs.Simple.{is_option, simple_value}
 use Rattle.awk_types.specs.Value.{Value, truth, value_list}
 use Rattle.awk_types.specs.ItemLimit.{item_limit}
@@ -22,17 +23,17 @@ use Rattle.awk_layout.specs.Item.{run}
 use Rattle.awk_layout.specs.Layout.{Layout, flat}
 use Rattle.awk_layout.specs.Typing.{array_type}
 use Rattle.awk_layout.specs.Valid.{len}
+use Rattle.awk_layout.proofs.Runs.{run-moved}
 use Rattle.awk_gather.specs.Arrays.{array_item}
-use Rattle.awk_gather.proofs.PickedNodes.{run_same}
 use Rattle.awk_columns.specs.ListClass.{Class}
 use Rattle.awk_columns.specs.Lists.{AreLists, items_at, all_items_at}
 use Rattle.awk_columns.proofs.ArrayLaws.{run_map}
 use Rattle.awk_axis.specs.Mapped.{AreGiven}
 use Rattle.awk_axis.specs.Spoils.{too_many}
 use Rattle.awk_axis.specs.declared.causes.Spoil.TheVariants.{Size}
-use Rattle.awk_nulls.specs.IsNone.{is_null, nulls, is_none_function}
+use Rattle.awk_nulls.specs.IsNone.{nulls, is_none_function}
 use Rattle.awk_nulls.specs.Lanes.{span_length, falses_lane}
-use Rattle.awk_columns.proofs.SpanLaws.{start_there}
+use Rattle.awk_list_ends.proofs.SpanLaws.{start_there}
 use Rattle.awk_nulls.proofs.NullLaws.{no_null}
 use Rattle.awk_columns.proofs.OffsetLaws.{are_offsets, items_at-length, even_offsets}
 use Rattle.awk_axis.proofs.SpoilLimits.{over_limit, within_limit}
@@ -78,8 +79,8 @@ module _ (class : Class) (s t : Column) (y : Layout) (a : AreLists class s t y)
     typ = refl;
     lists = λ i p.
         ap (λ z. value_list (run (array_item (flat (falses_lane all))) (place_at o i) z)) (long i p)
-        ∙ ap value_list (run_same (array_item (flat (falses_lane all))) (λ k. test (array_item y k))
-        (place_at o i) (place_at s i) (m i) (λ k q. shown i p k q))
+        ∙ ap value_list (run-moved (array_item (flat (falses_lane all)))
+        (λ k. test (array_item y k)) (place_at o i) (place_at s i) (m i) (λ k q. shown i p k q))
         ∙ sym (run_map test (array_item y) (place_at s i) (m i))
         ∙ sym (map-map (simple_value (leaf Truths)) test (items_at s t y i));
   }

@@ -6,6 +6,7 @@ use Rattle.std.proofs.lemmas.Int.{ints}
 use Rattle.std.proofs.lemmas.List.{length-map}
 use Rattle.std.proofs.lemmas.Simd.{map-map}
 use Rattle.awk_types.specs.DataType.{leaf, opt}
+use Rattle.awk_types.specs.Predicates.{is_null}
 use Rattle.awk_types.specs.Simple.{is_option, simple_value, IsSimple}
 use Rattle.awk_types.specs.Value.{Value, null, int, truth, list, row, alt, value_list}
 use Rattle.awk_types.specs.ItemLimit.{item_limit}
@@ -26,15 +27,16 @@ use Rattle.awk_open.specs.Opened.{IsOpened}
 use Rattle.awk_open.specs.declared.opening.Opened.TheVariants.{Option as Optional}
 use Rattle.awk_open.proofs.ItemShapes.{present_item}
 use Rattle.awk_lanes.proofs.MadeLanes.{size-lane_of, at-lane_of}
+use Rattle.awk_layout.proofs.Runs.{run-same}
 use Rattle.awk_columns.specs.Joined.{JoinsLists, total}
 use Rattle.awk_columns.specs.ListClass.{Class}
 use Rattle.awk_axis.specs.Mapped.{AreGiven}
 use Rattle.awk_columns.specs.Lists.{AreLists, items_at, all_items_at}
 use Rattle.awk_axis.specs.Spoils.{too_many}
 use Rattle.awk_axis.specs.declared.causes.Spoil.TheVariants.{Size}
-use Rattle.awk_columns.proofs.ArrayLaws.{run_map, run_same}
+use Rattle.awk_columns.proofs.ArrayLaws.{run_map}
 use Rattle.awk_columns.proofs.ListNodes.{joined_even}
-use Rattle.awk_nulls.specs.IsNone.{is_null, nulls, is_none_function}
+use Rattle.awk_nulls.specs.IsNone.{nulls, is_none_function}
 use Rattle.awk_nulls.specs.Lanes.{null_number, nulls_lane, falses_lane, AreNulls}
 use Rattle.awk_axis.proofs.SpoilLimits.{over_limit, within_limit}
 use Rattle.awk_columns.proofs.OffsetLaws.{count_same}
@@ -102,7 +104,7 @@ nulls_given class s t y o x c a v j h = record {
   lists = λ i p.
       let first = place_at o i in
       let n = place_at o (i + 1) - place_at o i in
-      ap value_list (run_same (array_item (flat c)) (λ k. truth (is_null (array_item x k))) first n
+      ap value_list (run-same (array_item (flat c)) (λ k. truth (is_null (array_item x k))) first n
       (λ k _ q. h.nulls k (omega (arith, q, j.offsets.within i p))))
       ∙ sym (run_map (λ w. truth (is_null w)) (array_item x) first n)
       ∙ ap (λ r. nulls (value_list r)) (sym (j.lists i p))

@@ -6,7 +6,7 @@ use Rattle.std.specs.List.{range_with_len}
 use Rattle.std.proofs.Common.{arith, ap, sym, ◌∙◌}
 use Rattle.std.proofs.lemmas.Int.{ints}
 use Rattle.std.proofs.lemmas.List.{get_or_past}
-use Rattle.std.proofs.lemmas.List.FromFn.{fill_by_all, length-map-range_with_len}
+use Rattle.std.proofs.lemmas.List.FromFn.{length-map-range_with_len}
 use Rattle.std.proofs.lemmas.Simd.{map-map}
 use Rattle.awk_types.specs.DataType.{opt}
 use Rattle.awk_types.specs.Simple.{simple_value}
@@ -17,11 +17,12 @@ use Rattle.awk_lanes.specs.Counted.{before, offsets_by}
 use Rattle.awk_lanes.specs.Places.{size_of, at, place_at, option_place, IsOptionalIndex}
 use Rattle.awk_lanes.proofs.CountedLanes.{before-next, before_mono, place-offsets, sum-before}
 use Rattle.awk_lanes.proofs.CountedLanes.{length-numbers, numbers-at, numbers-below}
+use Rattle.awk_lanes.proofs.PlaceLaws.{named-below}
 use Rattle.awk_layout.specs.Layout.{Layout, optional}
 use Rattle.awk_layout.specs.Item.{run, at_option}
 use Rattle.awk_layout.specs.Typing.{array_type}
 use Rattle.awk_layout.specs.Valid.{len, IsValid}
-use Rattle.awk_layout.proofs.Runs.{length-run}
+use Rattle.awk_layout.proofs.Runs.{length-run, get-run, run-by}
 use Rattle.awk_gather.specs.Arrays.{array_item}
 use Rattle.awk_gather.specs.Peeled.{IsPickedOpt}
 use Rattle.awk_columns.specs.ListClass.{Class}
@@ -32,25 +33,11 @@ use Rattle.awk_axis.specs.Spoils.{too_many}
 use Rattle.awk_axis.specs.declared.causes.Spoil.TheVariants.{Size}
 use Rattle.awk_nulls.specs.PadNone.{padded, padded_length, padded_class, pad_none_function}
 use Rattle.awk_nulls.specs.Lanes.{span_length, padded_span, padded_place, padded_lane}
-use Rattle.awk_nulls.proofs.FirstLaws.{place_below}
-use Rattle.awk_columns.proofs.SpanLaws.{start_there}
+use Rattle.awk_list_ends.proofs.SpanLaws.{start_there}
 use Rattle.awk_option_nodes.proofs.OptionNodes.{HasItems, optional_type-is, optional_item}
 use Rattle.awk_nulls.proofs.PickedColumns.{picked_lists}
 use Rattle.awk_columns.proofs.OffsetLaws.{are_offsets, items_at-length}
 use Rattle.awk_axis.proofs.SpoilLimits.{over_limit, within_limit}
-
-run_get : (h : ℕ → Value) (a n k : ℕ) → k < n → get_or (value_list (run h a n)) k null ≡ h (a + k)
-run_get h a zero k p = absurd (omega (arith, p))
-run_get h a (suc n) zero p = let e : a ≡ a + 0 = omega arith in ap h e
-run_get h a (suc n) (suc k) p =
-    let e : suc a + k ≡ a + suc k = omega arith in
-    run_get h (suc a) n k (omega (arith, p)) ∙ ap h e
-
--- items by their place in the run
-run_by : (h f : ℕ → Value) (a n : ℕ) → ((j : ℕ) → j < n → h (a + j) ≡ f j)
-    → value_list (run h a n) ≡ map f (range_with_len 0 n)
-run_by h f a n e = fill_by_all f (value_list (run h a n)) n null (length-run h a n)
-    (λ k p. run_get h a n k p ∙ e k p)
 
 -- one item of a list of n items, or null past its end
 shown : (h : ℕ → Value) (start n k : ℕ) →
@@ -63,7 +50,7 @@ shown h start n k = go (nat_lt k n) refl
         ≡ get_or (value_list (run h start n)) k null
     go true e =
         let p : k < n = grind (arith, e) in
-        sym (run_get h start n k p)
+        sym (get-run h start n k p)
     go false e =
         let p : n ≤ k = grind (arith, e) in
         sym (get_or_past (value_list (run h start n)) k null
@@ -126,7 +113,7 @@ module _ (n : ℕ) (clip : Bool) (class : Class) (s t : Column) (y : Layout)
       let inside : before m i + k < size_of lane =
       omega (arith, size-lane, up, before-next m i, q) in
       optional_item lane y (before m i + k) has
-      (λ j e. place_below (at lane (before m i + k)) (len y) j
+      (λ j e. named-below (at lane (before m i + k)) (len y) j
       (padded_index.below (before m i + k) inside) e)
       ∙ ap (simple_value (opt (array_type y)))
       (ap (λ w. at_option (option_place w) (array_item y)) z
@@ -149,7 +136,7 @@ module _ (n : ℕ) (clip : Bool) (class : Class) (s t : Column) (y : Layout)
         let f : ℕ → Value = λ k. get_or (items_at s t y i) k null in
         ap (λ k. value_list (run (array_item (optional lane y)) (place_at o i) k)) size
         ∙ ap (λ k. value_list (run (array_item (optional lane y)) k (m i))) first
-        ∙ run_by (array_item (optional lane y)) (λ k. simple_value (opt (array_type y)) (f k))
+        ∙ run-by (array_item (optional lane y)) (λ k. simple_value (opt (array_type y)) (f k))
         (before m i) (m i) (λ k q. item_is has i k p q)
         ∙ sym (map-map (simple_value (opt (array_type y))) f (range_with_len 0 (m i)))
         ∙ ap (λ k. map (simple_value (opt (array_type y)))

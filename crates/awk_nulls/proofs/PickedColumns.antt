@@ -7,11 +7,11 @@ use Rattle.awk_lanes.specs.Column.{Column}
 use Rattle.awk_lanes.specs.Places.{size_of, place_at}
 use Rattle.awk_layout.specs.Layout.{Layout, optional}
 use Rattle.awk_layout.specs.Valid.{IsValid}
+use Rattle.awk_layout.proofs.Runs.{run-same}
 use Rattle.awk_gather.specs.Arrays.{array_item}
 use Rattle.awk_gather.specs.Peeled.{IsPickedOpt}
 use Rattle.awk_columns.specs.Joined.{AreOffsets}
 use Rattle.awk_columns.specs.ListClass.{Class}
-use Rattle.awk_columns.proofs.ArrayLaws.{run_same}
 use Rattle.awk_axis.specs.Mapped.{IsColumn, AreGiven}
 use Rattle.awk_option_nodes.proofs.OptionNodes.{picked_item}
 
@@ -34,7 +34,7 @@ picked_lists class t items s e y w r o p v h g = record {
   typ = h.typ ∙ g.typ;
   lists = λ i q.
       let size : ℕ = place_at o (i + 1) - place_at o i in
-      ap value_list (run_same (array_item r) (array_item (optional p w)) (place_at o i) size
+      ap value_list (run-same (array_item r) (array_item (optional p w)) (place_at o i) size
       (λ k _ high. picked_item w r p h k (omega (arith, high, g.offsets.within i q))))
       ∙ g.lists i q;
 }

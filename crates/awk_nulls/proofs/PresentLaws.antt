@@ -1,9 +1,8 @@
 -- The items of an array that are not null, and runs of them.
 use Rattle.std.specs.Prelude.{◌≡◌, ℕ, zero, suc, ◌+◌, ◌<◌, ◌≤◌, ◌^◌, refl, true, false, List, []}
-use Rattle.std.specs.Prelude.{◌∷◌, length, take, get_or, cond, ℤ, pos, negsuc, ◌<ℤ◌}
+use Rattle.std.specs.Prelude.{◌∷◌, length, take, get_or, cond, pos}
 use Rattle.std.specs.List.{AllByRecursion}
 use Rattle.std.proofs.Common.{arith, ap, sym, ◌∙◌, subst}
-use Rattle.std.proofs.lemmas.Int.{ints}
 use Rattle.std.proofs.lemmas.List.Filters.{length-filter_more}
 use Rattle.awk_types.specs.DataType.{DataType}
 use Rattle.awk_types.specs.Has.{Has}
@@ -11,42 +10,31 @@ use Rattle.awk_types.specs.Simple.{present, is_option}
 use Rattle.awk_types.specs.Value.{Value, null, int, truth, list, row, alt}
 use Rattle.awk_types.proofs.SimpleLaws.{null_in_option, present_stays}
 use Rattle.awk_lanes.specs.Column.{Column}
-use Rattle.awk_lanes.specs.Places.{size_of, at, option_place}
+use Rattle.awk_lanes.specs.Places.{size_of, at}
 use Rattle.awk_lanes.specs.declared.kind.Kind.TheVariants.{I64}
 use Rattle.awk_layout.specs.Layout.{Layout, flat}
-use Rattle.awk_layout.specs.Item.{at_option}
 use Rattle.awk_layout.specs.Laws.{len-fits}
 use Rattle.awk_layout.specs.Typing.{array_type, array_items}
 use Rattle.awk_layout.specs.Valid.{len, IsValid}
 use Rattle.awk_layout.proofs.ArrayItems.{length-array_items, get_or-array_items}
-use Rattle.awk_gather.specs.Arrays.{array_item}
 use Rattle.awk_columns.specs.Columns.{is_present, present_values}
-use Rattle.awk_counts.specs.Counted.{first_of, present_at, present_place, counted_lane}
-use Rattle.awk_counts.specs.Counted.{numbers_at}
+use Rattle.awk_counts.specs.Counted.{first_of, present_at, counted_lane, numbers_at}
 use Rattle.awk_lanes.specs.Made.{lane_of}
 use Rattle.awk_counts.proofs.FirstPlaces.{length-first_of}
 use Rattle.awk_open.specs.Opened.{IsOpened}
 use Rattle.awk_open.specs.declared.opening.Opened.TheVariants.{Option as Optional}
-use Rattle.awk_open.proofs.ItemShapes.{present_item}
+use Rattle.awk_open.proofs.ItemShapes.{present_one}
 use Rattle.awk_lanes.proofs.MadeLanes.{size-lane_of, at-lane_of}
+use Rattle.awk_columns.proofs.MovedNumbers.{named_reached}
 use Rattle.awk_open.specs.Opens.{OpensOption}
 use Rattle.awk_open.proofs.OrderedOptions.{option_in_order}
 use Rattle.awk_nulls.specs.Lanes.{ArePresent, HasPresent}
-use Rattle.awk_option_nodes.specs.Present.{present_lane}
-use Rattle.awk_nulls.proofs.NamedNumbers.{named_reached}
+use Rattle.awk_counts.specs.Present.{present_lane}
 use Rattle.awk_nulls.proofs.NullLaws.{inner_not_option}
-use Rattle.awk_option_nodes.proofs.OptionNodes.{HasItems}
+use Rattle.awk_option_nodes.proofs.OptionNodes.{HasItems, size-counts}
 use Rattle.awk_list_ends.specs.Kept.{KeepsItems}
 
 -- ---- values that are present
-
-not_null : (v : Value) → (v ≡ null → ⊥) → is_present v ≡ true
-not_null null h = absurd (h refl)
-not_null (int z) h = refl
-not_null (truth b) h = refl
-not_null (list vs) h = refl
-not_null (row vs) h = refl
-not_null (alt k v) h = refl
 
 has_present : (t : DataType) (v : Value) → is_option t ≡ false → Has t v → is_present v ≡ true
 has_present t null n h = let e = null_in_option t h in cc
@@ -97,16 +85,6 @@ whole_present x v n h = record {
 
 -- ---- options
 
--- a place is there exactly where the item is not null
-present_one : (y : Layout) (z : ℤ) → IsValid y → is_option (array_type y) ≡ false → z <ℤ pos (len y)
-    → length (present_place (option_place z))
-    ≡ cond (is_present (at_option (option_place z) (array_item y))) 1 0
-present_one y (negsuc k) v n p = refl
-present_one y (pos k) v n p =
-    let e : is_present (array_item y k) ≡ true =
-    not_null (array_item y k) (present_item y k v (omega (arith, ints, p)) n) in
-    rw e refl
-
 count_present : (j : Column) (y x : Layout) → IsOpened x (Optional j y)
     → is_option (array_type y) ≡ false → (i : ℕ) → i ≤ len x
     → length (first_of (present_at j) i) ≡ length (present_values (take i (array_items x)))
@@ -123,9 +101,6 @@ count_present j y x op n (suc i) p =
     (omega (arith, q, length-array_items x)) in
     subst (λ k. length (first_of (present_at j) k)
     ≡ length (present_values (take k (array_items x)))) e (omega (arith, before, here, a, b))
-
-size-counts : (j : Column) → size_of (present_lane j) ≡ size_of j + 1
-size-counts j = size-lane_of I64 (size_of j + 1) (λ i. pos (length (first_of (present_at j) i)))
 
 -- what holds the present items alone, beside the index of what an option opens to
 present_items : (j : Column) (y x z : Layout) → IsOpened x (Optional j y) → IsValid z

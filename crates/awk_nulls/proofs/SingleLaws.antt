@@ -18,6 +18,7 @@ use Rattle.awk_layout.specs.Layout.{Layout, offset_lists}
 use Rattle.awk_layout.specs.Item.{item}
 use Rattle.awk_layout.specs.Typing.{layout_type, array_type}
 use Rattle.awk_layout.specs.Valid.{len}
+use Rattle.awk_layout.proofs.Runs.{run-same}
 use Rattle.awk_gather.specs.Arrays.{array_item}
 use Rattle.awk_columns.specs.Columns.{is_present, present_values}
 use Rattle.awk_columns.specs.Joined.{JoinsLists, total}
@@ -26,7 +27,7 @@ use Rattle.awk_axis.specs.Mapped.{AreGiven}
 use Rattle.awk_columns.specs.Lists.{AreLists, items_at, all_items_at}
 use Rattle.awk_axis.specs.Spoils.{too_many}
 use Rattle.awk_axis.specs.declared.causes.Spoil.TheVariants.{Size}
-use Rattle.awk_columns.proofs.ArrayLaws.{run_map, run_same, run_in_list}
+use Rattle.awk_columns.proofs.ArrayLaws.{run_map, run_in_list}
 use Rattle.awk_columns.proofs.ListNodes.{joined_even}
 use Rattle.awk_nulls.specs.Singletons.{single_list, singletons_function}
 use Rattle.awk_nulls.specs.Lanes.{ArePresent, AreSingles}
@@ -136,7 +137,7 @@ module _ (class : Class) (s t : Column) (y : Layout) (o : Column) (x w : Layout)
         let first = place_at o i in
         let n = place_at o (i + 1) - place_at o i in
         let within = j.offsets.within i p in
-        ap value_list (run_same (array_item w)
+        ap value_list (run-same (array_item w)
         (λ k. simple_value typ (single_list (array_item x k))) first n
         (λ k _ q. h.items k (omega (arith, q, within))
         ∙ sym (stay k (omega (arith, q, within)))))

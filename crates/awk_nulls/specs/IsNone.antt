@@ -1,17 +1,14 @@
 -- Whether items are null.
-use Rattle.std.specs.Prelude.{Bool, true, false, List, map, ℤ, None, Result}
+use Rattle.std.specs.Prelude.{List, map, ℤ, None, Result}
 use Rattle.awk_types.specs.DataType.{leaf}
 use Rattle.awk_types.specs.Datum.{Datum}
-use Rattle.awk_types.specs.Value.{Value, truth, null}
+use Rattle.awk_types.specs.Predicates.{is_null}
+use Rattle.awk_types.specs.Value.{Value, truth}
 use Rattle.awk_types.specs.declared.fault.Fault.{Fault}
 use Rattle.awk_types.specs.declared.primitive.Primitive.TheVariants.{Bool as Truths}
 use Rattle.awk_axis.specs.Counted.{counted}
 use Rattle.awk_axis.specs.Lifting.{lift}
 use Rattle.awk_axis.specs.ListFunction.{ListFunction, lists}
-
-abbrev pub is_null : Value → Bool
-is_null null = true
-is_null v = false
 
 -- a truth value for each item
 abbrev pub nulls : List Value → List Value

@@ -1,8 +1,8 @@
 -- Lanes that are made of lists by their starts and stops, and of the indexes of options.
-use Rattle.std.specs.Prelude.{◌≡◌, ℕ, ◌+◌, ◌==◌, ◌<◌, ◌≤◌, nat_lt, Bool}
-use Rattle.std.specs.Prelude.{length, take, ℤ, pos, negsuc, Option, Some, None}
-use Rattle.std.specs.Prelude.{if◌then◌else◌}
+use Rattle.std.specs.Prelude.{◌≡◌, ℕ, ◌+◌, ◌==◌, ◌<◌, ◌≤◌, nat_lt, Bool, length, take, ℤ, pos}
+use Rattle.std.specs.Prelude.{negsuc, Option, Some, None, if◌then◌else◌}
 use Rattle.awk_types.specs.DataType.{var}
+use Rattle.awk_types.specs.Predicates.{is_null}
 use Rattle.awk_types.specs.Simple.{present}
 use Rattle.awk_types.specs.Value.{truth}
 use Rattle.awk_lanes.specs.Column.{Column}
@@ -18,9 +18,8 @@ use Rattle.awk_lanes.specs.Made.{lane_of}
 use Rattle.awk_columns.specs.Columns.{present_values}
 pub use Rattle.awk_columns.specs.Lists.{span_length}
 use Rattle.awk_list_ends.specs.Ends.{numbers_at_ends}
-use Rattle.awk_option_nodes.specs.Present.{present_lane}
+use Rattle.awk_counts.specs.Present.{present_lane}
 use Rattle.awk_nulls.specs.declared.ends.Ends.{Ends}
-use Rattle.awk_nulls.specs.IsNone.{is_null}
 use Rattle.awk_nulls.specs.PadNone.{padded_length}
 use Rattle.awk_nulls.specs.Singletons.{single_list}
 

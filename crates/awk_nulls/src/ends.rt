@@ -7,13 +7,13 @@ ghost use Rattle.awk_lanes.specs.declared.kind.Kind.TheVariants as Kinds;
 ghost use Rattle.awk_layout.specs.Valid.{len};
 ghost use Rattle.awk_counts.specs.Counted.{first_of, present_at};
 ghost use Rattle.awk_list_ends.specs.Ends.{numbers_at_ends, span_length, AreListEnds};
-ghost use Rattle.awk_option_nodes.specs.Present.{present_lane};
+ghost use Rattle.awk_counts.specs.Present.{present_lane};
 ghost use Rattle.awk_nulls.specs.Lanes.{AreEnds};
 
 use awk_columns::{Bounds, Lists, Span};
+use awk_counts::present_counts;
 use awk_lanes::{Arena, Index, IndexMaker, Lane, Num, Steps, index_of, number};
 use awk_list_ends::numbers_at_ends;
-use awk_option_nodes::present_counts;
 use awk_types::NoMemory;
 use std::alloc::Global;
 use std::sync::ledger::Ledger;

@@ -11,10 +11,10 @@ ghost use Rattle.awk_nulls.specs.Lanes.{span_length, firsts_lane};
 
 use awk_axis::{ListOp, Made, Refusal, lift_at};
 use awk_columns::Lists;
+use awk_gather::option_over;
 use awk_lanes::{Arena, Index, IndexMaker, Lane, Num, Steps, index_of};
 use awk_layout::Datum;
 use awk_list_ends::length_between;
-use awk_option_nodes::option_over;
 use awk_types::{Fault, NoMemory, Typ, copy_type};
 use std::alloc::Global;
 use std::sync::ledger::Ledger;

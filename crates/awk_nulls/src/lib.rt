@@ -7,7 +7,6 @@ mod dropping;
 mod ends;
 mod first_items;
 mod nulls;
-mod numbers;
 mod padding;
 mod presence;
 mod singles;

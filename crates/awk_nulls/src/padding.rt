@@ -11,9 +11,9 @@ ghost use Rattle.awk_nulls.specs.PadNone.{pad_none_function, pad_none_of};
 
 use awk_axis::{ListOp, Made, Refusal, Spoil, lift_at};
 use awk_columns::{Bounds, Lists, places_of};
+use awk_gather::option_over;
 use awk_lanes::{Arena, Items, Lengths, Num, Steps, number, offsets_within};
 use awk_layout::Datum;
-use awk_option_nodes::option_over;
 use awk_types::{Fault, ITEM_LIMIT, NoMemory, Typ, copy_type};
 use std::alloc::Global;
 use std::sync::ledger::Ledger;

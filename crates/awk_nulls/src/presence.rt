@@ -6,12 +6,12 @@ ghost use Rattle.awk_open.specs.Opened.{IsOpened};
 ghost use Rattle.awk_open.specs.declared.opening.Opened.TheVariants as Opened;
 ghost use Rattle.awk_nulls.specs.Lanes.{ArePresent, HasPresent};
 
-use crate::numbers::{has_numbers, named_numbers};
 use awk_columns::Lists;
+use awk_counts::present_counts;
 use awk_lanes::{Arena, Lane, Steps, index_of, ordinals};
 use awk_layout::{Array, Class};
+use awk_list_numbers::{has_numbers, named_numbers};
 use awk_open::{Opened, open_array, opened};
-use awk_option_nodes::present_counts;
 use awk_types::{NoMemory, is_optional};
 use std::alloc::Global;
 use std::sync::ledger::Ledger;

@@ -1,13 +1,15 @@
 -- A choice between a whole array, or a single value, and itself.
-use Rattle.std.specs.Prelude.{◌≡◌, ℕ, zero, suc, ◌≤◌, ◌<◌, Bool, true, false, not, ◌&&◌, ◌||◌}
-use Rattle.std.specs.Prelude.{List, [], ◌∷◌, map, length, get_or, Some, None}
-use Rattle.std.specs.Prelude.{Result, Ok, Err, refl, if◌then◌else◌}
+use Rattle.std.specs.Prelude.{◌≡◌, ℕ, zero, suc, ◌≤◌, ◌<◌, Bool, true, false, not, ◌&&◌, ◌||◌, List}
+use Rattle.std.specs.Prelude.{[], ◌∷◌, map, length, get_or, Some, None, Result, Ok, Err, refl}
+use Rattle.std.specs.Prelude.{if◌then◌else◌}
 use Rattle.std.specs.List.{AllByRecursion, list_all, list_any, range_with_len}
 use Rattle.std.proofs.Common.{ap, ap₂, sym, ◌∙◌, arith, subst, inl, inr}
 use Rattle.std.proofs.lemmas.Bool.{and_parts, not-false, or_parts}
 use Rattle.std.proofs.lemmas.Simd.{map-map}
+use Rattle.awk_base.proofs.Every.{all-at}
 use Rattle.awk_types.specs.DataType.{DataType, leaf, var, reg, opt}
-use Rattle.awk_types.specs.Datum.{Datum, arr, one}
+use Rattle.awk_types.specs.Datum.{Datum, arr, one, datum_type}
+use Rattle.awk_types.specs.Faults.{limit_refused}
 use Rattle.awk_types.specs.Gives.{◌or◌}
 use Rattle.awk_types.specs.Has.{Has}
 use Rattle.awk_types.specs.Predicates.{is_leaf}
@@ -24,30 +26,25 @@ use Rattle.awk_frames.specs.Sizes.{sizes_refused}
 use Rattle.awk_layout.specs.Filler.{datum}
 use Rattle.awk_leaves.specs.Table.{choice_judged}
 use Rattle.awk_leaves.specs.declared.leaf_type.LeafType.TheVariants.{Of}
+use Rattle.awk_frames.proofs.FrameLaws.{over_type-level}
 use Rattle.awk_ends.specs.Operands.{leaf_in, in_primitive}
 use Rattle.awk_pair_operands.specs.Paired.{to_depth, types_at_ends, paired_type, paired_value}
 use Rattle.awk_pair_operands.specs.Paired.{is_uneven}
 use Rattle.awk_pair_operands.specs.Pairs.{are_uneven, datum_from, datum_side, has_wrong_end}
-use Rattle.awk_pair_operands.specs.Pairs.{pair_type, pair_values, some_array}
-use Rattle.awk_pair_operands.specs.Pairs.{item_type, single_value}
+use Rattle.awk_pair_operands.specs.Pairs.{pair_type, pair_values, some_array, single_value}
 use Rattle.awk_pair_operands.specs.Typed.{IsTyped}
 use Rattle.awk_pair_sides.specs.Levels.{some_option}
 use Rattle.awk_pair_sides.specs.Sides.{Side, each, always, side_at, rows_of, equally_long}
 use Rattle.awk_pair_sides.specs.Sides.{common_length}
-use Rattle.awk_pair_types.specs.Limits.{limit_refused}
-use Rattle.awk_choose.specs.Choice.{far, are_leaves, chosen_in, result_type}
-use Rattle.awk_choose.specs.Choice.{result_values, judged_choice, choose_of}
-use Rattle.awk_law_chains.specs.Innermost.{datum_type}
+use Rattle.awk_choose.specs.Choice.{far, are_leaves, chosen_in, result_type, result_values}
+use Rattle.awk_choose.specs.Choice.{judged_choice, choose_of}
 use Rattle.awk_number_laws.specs.Leaves.{IsCondition, IsUnder}
 use Rattle.awk_law_chains.proofs.Chains.{Chain, close, layer, chain_type, IsAt, closing}
 use Rattle.awk_law_chains.proofs.ChainEnds.{have-at}
 use Rattle.awk_number_laws.proofs.LeafChoices as choices
 use Rattle.awk_number_laws.proofs.LeafChoices.{choose, chosen, twice, values_twice, row_of}
-use Rattle.awk_number_laws.proofs.LeafChoices.{rows_back}
-use Rattle.awk_number_laws.proofs.LeafChoices.{under_leaf, list_level, leaf_level, type_level}
-use Rattle.awk_number_laws.proofs.LeafChoices.{ends_level}
-use Rattle.awk_number_laws.proofs.LeafChoices.{all-get, items_back}
-use Rattle.awk_number_laws.proofs.LeafChoices.{same_lengths}
+use Rattle.awk_number_laws.proofs.LeafChoices.{rows_back, under_leaf, list_level, leaf_level}
+use Rattle.awk_number_laws.proofs.LeafChoices.{type_level, ends_level, items_back, same_lengths}
 use Rattle.awk_number_laws.proofs.LeafChoices.{end_of}
 use Rattle.awk_number_laws.proofs.LeafLaws.{choice_type_is}
 use Rattle.awk_number_laws.proofs.LeafSigns.{chain_of, chained}
@@ -74,13 +71,6 @@ leaf-under c (layer o d k) (inr w) = ap leaf_in w.1 ∙ leaf-list d w.0 ∙ leaf
 
 -- ---- types
 
-over-level : (o : Bool) (d : Class) (t w : DataType)
-    → over_type (option_if o (list_type d t)) w ≡ option_if o (list_type d (over_type t w))
-over-level true None t w = refl
-over-level true (Some n) t w = refl
-over-level false None t w = refl
-over-level false (Some n) t w = refl
-
 close-type : (o : Bool) (p : Primitive) (n : ℕ)
     → over_type (paired_type false to_depth n (twice (leaf Truths) (option_if o (leaf p))))
     (option_if o (leaf p)) ≡ option_if o (leaf p)
@@ -96,7 +86,7 @@ level-type : (c u : DataType) (o : Bool) (d : Class) (t w r : DataType) (side_of
     ≡ option_if o (list_type d r)
 level-type c u o d t w r side_of n h e =
     ap (λ s. over_type s w) (type_level c u o d t side_of n h)
-    ∙ over-level o d (paired_type false to_depth n (twice u t)) w
+    ∙ over_type-level o d (paired_type false to_depth n (twice u t)) w
     ∙ ap (λ s. option_if o (list_type d s)) e
 
 type_back : (k : Chain) (p : Primitive) (n : ℕ) (c : DataType) → choices.IsUnder c k
@@ -197,20 +187,20 @@ long_of (one t v) xs e = refl
 
 have_of : (c : Datum) (xs : List Value) → IsTyped c
     → equally_long (datum_side c ∷ each xs ∷ each xs ∷ []) ≡ true → (j : ℕ) → j < length xs
-    → Has (item_type c) (side_at j (datum_side c))
+    → Has (datum_type c) (side_at j (datum_side c))
 have_of (arr t vs) xs h e j l =
-    all-get (Has t) vs j h (omega (arith, l, same_lengths (length vs) (length xs) e))
+    all-at (Has t) vs j null h (omega (arith, l, same_lengths (length vs) (length xs) e))
 have_of (one t v) xs h e j l = h
 
 -- the rows of an array and its condition
 module _ (c : Datum) (k : Chain) (p : Primitive) (vs : List Value) (n : ℕ) (hc : IsTyped c)
-    (q : choices.IsUnder (item_type c) k) (l : levels k ≤ n)
+    (q : choices.IsUnder (datum_type c) k) (l : levels k ≤ n)
     (h : AllByRecursion (IsAt k (Has (leaf p))) vs) where
   abbrev tx : DataType
   tx = chain_type k (leaf p)
 
   abbrev ts : List DataType
-  ts = twice (item_type c) tx
+  ts = twice (datum_type c) tx
 
   abbrev rs : List Side
   rs = datum_side c ∷ each vs ∷ each vs ∷ []
@@ -229,9 +219,9 @@ module _ (c : Datum) (k : Chain) (p : Primitive) (vs : List Value) (n : ℕ) (hc
       (rows_of rs)
       ∙ ap (λ b. map back (map (row_of (datum_side c) vs) (range_with_len 0 b))) m
       ∙ rows_back (is_uneven false n ts) back (datum_side c) vs 0 (length vs)
-      (λ j b f. chosen (Has (leaf p)) k p n (item_type c) (side_at j (datum_side c))
+      (λ j b f. chosen (Has (leaf p)) k p n (datum_type c) (side_at j (datum_side c))
       (get_or vs j null) q l (have_of c vs hc even j (omega (arith, b)))
-      (all-get (IsAt k (Has (leaf p))) vs j h (omega (arith, b))) f)
+      (all-at (IsAt k (Has (leaf p))) vs j null h (omega (arith, b))) f)
       (ap (λ b. list_any (is_uneven false n ts)
       (map (row_of (datum_side c) vs) (range_with_len 0 b)))
       (sym m) ∙ a.1)
@@ -253,8 +243,8 @@ right_ends : (b : Bool) (r : Result Datum Fault) (d : Datum)
 right_ends true r d e = (refl, e)
 right_ends false r d e = cc
 
-module _ (c x made : Datum) (k : Chain) (p : Primitive) (t : item_type x ≡ chain_type k (leaf p))
-    (q : choices.IsUnder (item_type c) k) where
+module _ (c x made : Datum) (k : Chain) (p : Primitive) (t : datum_type x ≡ chain_type k (leaf p))
+    (q : choices.IsUnder (datum_type c) k) where
   abbrev ds : List Datum
   ds = c ∷ x ∷ x ∷ []
 
@@ -267,18 +257,18 @@ module _ (c x made : Datum) (k : Chain) (p : Primitive) (t : item_type x ≡ cha
     is : made ≡ datum_from (some_array ds) (chain_type k (leaf p))
         (map (over (pair_type false far ds) choose) (pair_values false far ds))
 
-  judged_is : choice_judged (leaf_in (item_type c)) (leaf_in (item_type x)) (leaf_in (item_type x))
-      ≡ Ok p
+  judged_is : choice_judged (leaf_in (datum_type c)) (leaf_in (datum_type x))
+      (leaf_in (datum_type x)) ≡ Ok p
   judged_is =
-      ap₂ (λ a b. choice_judged a b b) (leaf-under (item_type c) k q)
+      ap₂ (λ a b. choice_judged a b b) (leaf-under (datum_type c) k q)
       (ap leaf_in t ∙ leaf-chain k p)
       ∙ choice_type_is p
 
   chosen_is : choose_of c (datum x) (datum x) ≡ Ok made → IsChosen
   chosen_is e =
       let f = right_ends (are_leaves ds) (judged_choice c (datum x) (datum x)) made e in
-      let g = from_primitive (choice_judged (leaf_in (item_type c)) (leaf_in (item_type x))
-      (leaf_in (item_type x))) (chosen_in (datum x) (datum x) ds) made p judged_is f.1 in
+      let g = from_primitive (choice_judged (leaf_in (datum_type c)) (leaf_in (datum_type x))
+      (leaf_in (datum_type x))) (chosen_in (datum x) (datum x) ds) made p judged_is f.1 in
       let limits = limit_refused (result_type p ds) in
       let wrong = if has_wrong_end far ds then Some WrongType else None in
       let uneven = if are_uneven false far ds then Some Lengths else None in
@@ -288,8 +278,8 @@ module _ (c x made : Datum) (k : Chain) (p : Primitive) (t : item_type x ≡ cha
       g in
       let m = or-both uneven sizes
       (or-both wrong (uneven or sizes) (or-both limits (wrong or (uneven or sizes)) r.0).1).1 in
-      let l = deep_enough k p n (item_type c) q
-      (ap (λ s. are_leaf_ends (types_at_ends to_depth n (twice (item_type c) s))) (sym t) ∙ f.0) in
+      let l = deep_enough k p n (datum_type c) q
+      (ap (λ s. are_leaf_ends (types_at_ends to_depth n (twice (datum_type c) s))) (sym t) ∙ f.0) in
       record {
         enough = l;
         even = even_false (are_uneven false far ds) m.0;
@@ -297,12 +287,13 @@ module _ (c x made : Datum) (k : Chain) (p : Primitive) (t : item_type x ≡ cha
             sym r.1
             ∙ ap (λ s. datum_from (some_array ds) s
             (map (over (pair_type false far ds) choose) (pair_values false far ds)))
-            (ap (λ s. over_type (paired_type false to_depth n (twice (item_type c) s))
-            (option_if (some_option (types_at_ends to_depth n (twice (item_type c) s))) (leaf p))) t
+            (ap (λ s. over_type (paired_type false to_depth n (twice (datum_type c) s))
+            (option_if (some_option (types_at_ends to_depth n (twice (datum_type c) s)))
+            (leaf p))) t
             ∙ ap (λ o. over_type (paired_type false to_depth n
-            (twice (item_type c) (chain_type k (leaf p)))) (option_if o (leaf p)))
-            (option_back k p n (item_type c) q l)
-            ∙ type_back k p n (item_type c) q l);
+            (twice (datum_type c) (chain_type k (leaf p)))) (option_if o (leaf p)))
+            (option_back k p n (datum_type c) q l)
+            ∙ type_back k p n (datum_type c) q l);
       }
 
 array_of : (c : Datum) (t : DataType) (vs : List Value)
@@ -315,17 +306,17 @@ single_rows c t vs = map single_value (c ∷ arr t vs ∷ arr t vs ∷ []) ∷ [
 
 of_array : (c made : Datum) (p : Primitive) (t : DataType) (vs : List Value) → IsTyped c
     → AllByRecursion (Has t) vs → (k : Chain) → t ≡ chain_type k (leaf p)
-    → choices.IsUnder (item_type c) k
+    → choices.IsUnder (datum_type c) k
     → choose_of c (datum (arr t vs)) (datum (arr t vs)) ≡ Ok made → made ≡ arr t vs
 of_array c made p t vs hc h k e q f =
     let g = chosen_is c (arr t vs) made k p e q f in
     let b = array_of c t vs in
-    let ns = twice (item_type c) t in
+    let ns = twice (datum_type c) t in
     let rs = datum_side c ∷ each vs ∷ each vs ∷ [] in
     let l : levels k ≤ 63 = subst (λ a. levels k ≤ (if a then 63 else 64)) b g.enough in
-    let u : (not (equally_long rs) || list_any (is_uneven false 63 (twice (item_type c)
+    let u : (not (equally_long rs) || list_any (is_uneven false 63 (twice (datum_type c)
     (chain_type k (leaf p)))) (rows_of rs)) ≡ false =
-    ap (λ s. not (equally_long rs) || list_any (is_uneven false 63 (twice (item_type c) s))
+    ap (λ s. not (equally_long rs) || list_any (is_uneven false 63 (twice (datum_type c) s))
     (rows_of rs)) (sym e)
     ∙ subst (λ a. (not (equally_long rs) || list_any (is_uneven false (if a then 63 else 64) ns)
     (if a then rows_of rs else single_rows c t vs)) ≡ false) b g.even in
@@ -335,8 +326,8 @@ of_array c made p t vs hc h k e q f =
     (map (paired_value false to_depth (if a then 63 else 64) ns)
     (if a then rows_of rs else single_rows c t vs)))) b
     ∙ ap (λ s. arr (chain_type k (leaf p))
-    (map (over (paired_type false to_depth 63 (twice (item_type c) s)) choose)
-    (map (paired_value false to_depth 63 (twice (item_type c) s)) (rows_of rs)))) e
+    (map (over (paired_type false to_depth 63 (twice (datum_type c) s)) choose)
+    (map (paired_value false to_depth 63 (twice (datum_type c) s)) (rows_of rs)))) e
     ∙ ap (arr (chain_type k (leaf p)))
     (rows_chosen c k p vs 63 hc q l
     (have-at k (leaf p) vs (subst (λ s. AllByRecursion (Has s) vs) e h)) u)

@@ -1,13 +1,14 @@
 -- A choice between an operand and itself is the operand as it is paired with the condition.
-use Rattle.std.specs.Prelude.{◌≡◌, ℕ, ◌-◌, Bool, true, false, not, ◌||◌}
-use Rattle.std.specs.Prelude.{List, [], ◌∷◌, map, length, Some, None, Ok, Err, Result}
-use Rattle.std.specs.Prelude.{refl, if◌then◌else◌}
+use Rattle.std.specs.Prelude.{◌≡◌, ℕ, ◌-◌, Bool, true, false, not, ◌||◌, List, [], ◌∷◌, map, length}
+use Rattle.std.specs.Prelude.{Some, None, Ok, Err, Result, refl, if◌then◌else◌}
 use Rattle.std.specs.List.{AllByRecursion, list_any, range_with_len}
 use Rattle.std.proofs.Common.{ap, ap₂, sym, ◌∙◌}
 use Rattle.awk_types.specs.DataType.{DataType, leaf, tup, types_from}
-use Rattle.awk_types.specs.Datum.{Datum}
+use Rattle.awk_types.specs.Datum.{Datum, datum_type}
+use Rattle.awk_types.specs.Faults.{limit_refused}
 use Rattle.awk_types.specs.Gives.{refused_or, ◌or◌}
 use Rattle.awk_types.specs.ItemLimit.{too_many}
+use Rattle.awk_types.specs.Parts.{number_of}
 use Rattle.awk_types.specs.Predicates.{is_null}
 use Rattle.awk_types.specs.Simple.{option_if}
 use Rattle.awk_types.specs.Value.{Value, null}
@@ -19,33 +20,28 @@ use Rattle.awk_frames.specs.Framed.{over, over_type}
 use Rattle.awk_frames.specs.Sizes.{sizes_refused}
 use Rattle.awk_layout.specs.Filler.{datum}
 use Rattle.awk_leaves.specs.Table.{choice_judged}
-use Rattle.awk_leaves.specs.Values.{is_nonzero, number_of}
+use Rattle.awk_leaves.specs.Values.{is_nonzero}
 use Rattle.awk_ends.specs.Operands.{in_primitive, leaf_in}
 use Rattle.awk_pair_operands.specs.Paired.{to_depth, types_at_ends, paired_type, paired_value}
 use Rattle.awk_pair_operands.specs.Paired.{is_uneven}
 use Rattle.awk_pair_operands.specs.Pairs.{are_uneven, below, datum_from, datum_side, first_rows}
-use Rattle.awk_pair_operands.specs.Pairs.{has_wrong_end, is_array, item_type, leaf_types}
-use Rattle.awk_pair_operands.specs.Pairs.{pair_refused, pair_type, pair_values, single_value}
-use Rattle.awk_pair_operands.specs.Pairs.{some_array}
+use Rattle.awk_pair_operands.specs.Pairs.{has_wrong_end, is_array, leaf_types, pair_refused}
+use Rattle.awk_pair_operands.specs.Pairs.{pair_type, pair_values, single_value, some_array}
 use Rattle.awk_pair_sides.specs.Levels.{some_option}
-use Rattle.awk_pair_sides.specs.Sides.{common_length}
-use Rattle.awk_pair_sides.specs.Sides.{rows_of}
-use Rattle.awk_pair_sides.specs.Sides.{side_at}
-use Rattle.awk_pair_types.specs.Limits.{limit_refused}
+use Rattle.awk_pair_sides.specs.Sides.{common_length, rows_of, side_at}
+use Rattle.awk_pair_operands.proofs.TypeLaws.{never-wrong}
 use Rattle.awk_choose.specs.Choice.{are_leaves, choose_of, chosen_in, far, result_type}
-use Rattle.awk_law_chains.proofs.Chains.{Chain, chain_type, at_ends, IsAt}
-use Rattle.awk_law_chains.proofs.Chains.{closing, length-each, over-chain}
-use Rattle.awk_law_chains.proofs.Chains.{over_type-chain, sizes-chain, sizes-mapped}
+use Rattle.awk_law_chains.proofs.Chains.{Chain, chain_type, at_ends, IsAt, closing, length-each}
+use Rattle.awk_law_chains.proofs.Chains.{over-chain, over_type-chain, sizes-chain, sizes-mapped}
 use Rattle.awk_law_chains.proofs.ChainEnds.{twice-each}
 use Rattle.awk_number_laws.specs.Leaves.{beside, paired_beside, part_beside}
 use Rattle.awk_number_laws.proofs.LeafArrays.{shared, shared_type}
 use Rattle.awk_number_laws.proofs.LeafChoices.{choose, twice, values_twice}
 use Rattle.awk_number_laws.proofs.LeafTurned.{Anything, every}
 use Rattle.awk_number_laws.proofs.TurnedLevels.{any_same}
-use Rattle.awk_number_laws.proofs.DoubledLevels.{any_twice, pair_types, shared_twice}
-use Rattle.awk_number_laws.proofs.DoubledLevels.{never_closing, all_leaves, leaves_twice}
-use Rattle.awk_number_laws.proofs.DoubledLevels.{ends_twice, never_wrong, doubled, pair_at}
-use Rattle.awk_number_laws.proofs.DoubledLevels.{triple_at, equal_twice, length_twice}
+use Rattle.awk_number_laws.proofs.DoubledLevels.{any_twice, pair_types, shared_twice, never_closing}
+use Rattle.awk_number_laws.proofs.DoubledLevels.{all_leaves, leaves_twice, ends_twice, doubled}
+use Rattle.awk_number_laws.proofs.DoubledLevels.{pair_at, triple_at, equal_twice, length_twice}
 use Rattle.awk_number_laws.proofs.DoubledLevels.{uneven_twice, rows_doubled, value_twice, deep_at}
 
 -- ---- data
@@ -67,10 +63,10 @@ module _ (c x : Datum) where
   ds_twice = c ∷ x ∷ x ∷ []
 
   abbrev s : DataType
-  s = item_type c
+  s = datum_type c
 
   abbrev t : DataType
-  t = item_type x
+  t = datum_type x
 
   abbrev n : ℕ
   n = below far ds
@@ -212,7 +208,7 @@ module _ (c x : Datum) where
 
   wrong_same : has_wrong_end far ds_twice ≡ has_wrong_end far ds
   wrong_same =
-      never_wrong (below far ds_twice) (twice s t) ∙ sym (never_wrong n (pair_types s t))
+      never-wrong (below far ds_twice) (twice s t) ∙ sym (never-wrong n (pair_types s t))
 
   refused_same : pair_refused false far ds_twice ≡ pair_refused false far ds
   refused_same =

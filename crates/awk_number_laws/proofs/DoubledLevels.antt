@@ -1,27 +1,24 @@
 -- Levels, classes and rows of three operands of which the last two are the same, and the values
 -- there: as of the first two.
-use Rattle.std.specs.Prelude.{◌≡◌, ℕ, zero, suc, ◌==◌, Bool, true, false, not, ◌&&◌, ◌||◌}
-use Rattle.std.specs.Prelude.{List, [], ◌∷◌, map, length, Some, None}
-use Rattle.std.specs.Prelude.{refl, if◌then◌else◌}
+use Rattle.std.specs.Prelude.{◌≡◌, ℕ, zero, suc, ◌==◌, Bool, true, false, not, ◌&&◌, ◌||◌, List, []}
+use Rattle.std.specs.Prelude.{◌∷◌, map, length, Some, None, refl, if◌then◌else◌}
 use Rattle.std.specs.List.{AllByRecursion, flat_map, list_all, list_any, range_with_len}
 use Rattle.std.proofs.Common.{ap, ap₂, ◌∙◌}
 use Rattle.awk_base.proofs.Truths.{eq-refl}
 use Rattle.awk_types.specs.DataType.{DataType}
+use Rattle.awk_types.specs.Parts.{item_of}
 use Rattle.awk_types.specs.Predicates.{is_leaf, is_list}
 use Rattle.awk_types.specs.Simple.{in_list, is_option, present}
 use Rattle.awk_types.specs.Value.{Value, null, list, row, value, no_values, values_from}
 use Rattle.awk_columns.specs.Columns.{is_present, part_at}
 use Rattle.awk_columns.specs.ListClass.{Class}
-use Rattle.awk_pair_operands.specs.Paired.{to_depth, types_at_ends, paired_value}
-use Rattle.awk_pair_operands.specs.Paired.{is_uneven, is_wrong}
+use Rattle.awk_pair_operands.specs.Paired.{to_depth, types_at_ends, paired_value, is_uneven}
 use Rattle.awk_pair_sides.specs.Levels.{Role, listed, stretched, repeated, role, role_class, opens}
-use Rattle.awk_pair_sides.specs.Levels.{common_class, is_class, is_longer, item_of, item_types}
-use Rattle.awk_pair_sides.specs.Levels.{level_class, some_option, stretches}
-use Rattle.awk_pair_sides.specs.Sides.{Side, each, always, common_length, equally_long}
-use Rattle.awk_pair_sides.specs.Sides.{inner_rows, is_whole, level_sides, misses, rows_of, side}
-use Rattle.awk_pair_sides.specs.Sides.{side_at}
-use Rattle.awk_law_chains.proofs.Chains.{Chain, close, layer, at_ends, IsAt}
-use Rattle.awk_law_chains.proofs.Chains.{closing}
+use Rattle.awk_pair_sides.specs.Levels.{common_class, is_class, is_longer, item_types, level_class}
+use Rattle.awk_pair_sides.specs.Levels.{some_option, stretches}
+use Rattle.awk_pair_sides.specs.Sides.{Side, each, always, common_length, equally_long, inner_rows}
+use Rattle.awk_pair_sides.specs.Sides.{is_whole, level_sides, misses, rows_of, side, side_at}
+use Rattle.awk_law_chains.proofs.Chains.{Chain, close, layer, at_ends, IsAt, closing}
 use Rattle.awk_number_laws.proofs.LeafArrays.{shared}
 use Rattle.awk_number_laws.proofs.LeafChoices.{twice, values_twice}
 use Rattle.awk_number_laws.proofs.LeafTurned.{Anything, every, items_at, list_or_null}
@@ -148,16 +145,6 @@ ends_twice (suc n) c t =
     (types_at_ends to_depth n (item_types (pair_types c t))) (twice c t) (pair_types c t)
     (opens_twice c t) (ends_twice n (item_of (present c)) (item_of (present t)))
     (option_twice c t)
-
-wrong_if : (b : Bool) (x : Bool) → x ≡ false → (if b then x else false) ≡ false
-wrong_if true x e = e
-wrong_if false x e = refl
-
--- an end at a depth may be anything
-pub never_wrong : (n : ℕ) (ts : List DataType) → is_wrong to_depth n ts ≡ false
-never_wrong zero ts = refl
-never_wrong (suc n) ts =
-    wrong_if (opens ts) (is_wrong to_depth n (item_types ts)) (never_wrong n (item_types ts))
 
 -- ---- rows
 

@@ -16,13 +16,14 @@ use Rattle.std.proofs.lemmas.List.Elements.{All-cons, All-weaker}
 use Rattle.std.proofs.lemmas.List.Quantifiers.{position-Some}
 use Rattle.std.proofs.lemmas.List.Sums.{fails_before_first}
 use Rattle.awk_base.proofs.Truths.{int_eq-refl}
+use Rattle.awk_types.specs.Parts.{number_of}
 use Rattle.awk_types.specs.Predicates.{is_null}
 use Rattle.awk_types.specs.Value.{Value, int, truth, null, list, row, alt}
 use Rattle.awk_columns.specs.Columns.{is_present, present_values}
-use Rattle.awk_numbers.specs.Folds.{beats}
+use Rattle.awk_numbers.specs.Folds.{beats, extreme_of}
 use Rattle.awk_numbers.specs.declared.extremes.Extreme.{Extreme}
 use Rattle.awk_numbers.specs.declared.extremes.Extreme.TheVariants.{Least, Greatest}
-use Rattle.awk_present.specs.Numbers.{number_of, numbers, extreme_of, number_place, extreme_place}
+use Rattle.awk_present.specs.Numbers.{numbers, number_place, extreme_place}
 use Rattle.awk_number_laws.specs.Extremes.{IsExtreme, IsFirstExtreme}
 
 -- ---- of numbers

@@ -5,7 +5,7 @@ use Rattle.std.specs.List.{flat_map}
 use Rattle.std.proofs.Common.{ap, ap₂, sym, ◌∙◌, subst}
 use Rattle.std.proofs.lemmas.List.{map-append}
 use Rattle.awk_types.specs.DataType.{DataType, unknown, leaf, var, reg, rec, tup, opt, uni}
-use Rattle.awk_types.specs.Datum.{Datum, arr, one}
+use Rattle.awk_types.specs.Datum.{Datum, arr, one, datum_type}
 use Rattle.awk_types.specs.Faults.{limit_fault}
 use Rattle.awk_types.specs.Gives.{◌or◌}
 use Rattle.awk_types.specs.Limit.{limit}
@@ -27,7 +27,7 @@ use Rattle.awk_axis.specs.declared.place.Reach.TheVariants.{Innermost}
 use Rattle.awk_columns.specs.Columns.{list_items, list_of}
 use Rattle.awk_columns.specs.ListClass.{Class, list_type}
 use Rattle.awk_order.specs.Sort.{leaf_lists}
-use Rattle.awk_law_chains.specs.Innermost.{lists_in, innermost_lists, datum_type}
+use Rattle.awk_law_chains.specs.Innermost.{lists_in, innermost_lists}
 use Rattle.awk_law_chains.proofs.Chains.{in_list_stays, items-in_list}
 use Rattle.awk_law_chains.proofs.Limits.{none_map}
 

@@ -1,7 +1,7 @@
 -- Laws of operations on the leaves of whole arrays.
-use Rattle.std.specs.Prelude.{◌≡◌, ℕ, zero, suc, ◌<◌, Bool, true, false, ◌||◌}
-use Rattle.std.specs.Prelude.{List, [], ◌∷◌, map, length, get_or, Option, Some, None}
-use Rattle.std.specs.Prelude.{Result, Ok, Err, refl, if◌then◌else◌}
+use Rattle.std.specs.Prelude.{◌≡◌, ℕ, zero, suc, ◌<◌, Bool, true, false, ◌||◌, List, [], ◌∷◌, map}
+use Rattle.std.specs.Prelude.{length, get_or, Option, Some, None, Result, Ok, Err, refl}
+use Rattle.std.specs.Prelude.{if◌then◌else◌}
 use Rattle.std.specs.List.{AllByRecursion, list_all}
 use Rattle.std.proofs.Common.{ap, ap₂, sym, ◌∙◌, arith, subst}
 use Rattle.std.proofs.lemmas.Bool.{and_parts}
@@ -9,9 +9,11 @@ use Rattle.std.proofs.lemmas.Simd.{map-map}
 use Rattle.awk_types.specs.DataType.{DataType, unknown, leaf, var, reg, rec, tup, opt, uni}
 use Rattle.awk_types.specs.DataType.{types_from}
 use Rattle.awk_types.specs.Datum.{Datum}
+use Rattle.awk_types.specs.Faults.{limit_refused}
 use Rattle.awk_types.specs.Gives.{refused_or, ◌or◌}
 use Rattle.awk_types.specs.Has.{Has, HasRow}
 use Rattle.awk_types.specs.ItemLimit.{too_many}
+use Rattle.awk_types.specs.Parts.{number_of}
 use Rattle.awk_types.specs.Predicates.{is_leaf, is_null}
 use Rattle.awk_types.specs.Simple.{option_if, present}
 use Rattle.awk_types.specs.Value.{Value, int, truth, null, list, row, alt, value_list}
@@ -30,7 +32,7 @@ use Rattle.awk_frames.specs.Sizes.{sizes_refused}
 use Rattle.awk_layout.specs.Filler.{Filler, literal, datum}
 use Rattle.awk_leaves.specs.LeafTypes.{are_alike, comparison_type, type_beside}
 use Rattle.awk_leaves.specs.Table.{judged, literals_overflow}
-use Rattle.awk_leaves.specs.Values.{unary_at, number_of}
+use Rattle.awk_leaves.specs.Values.{unary_at}
 use Rattle.awk_leaves.specs.declared.operation.Binary.TheVariants.{Test}
 use Rattle.awk_leaves.specs.declared.operation.Unary.TheVariants.{Not}
 use Rattle.awk_ends.specs.Operands.{at_end, both_data, data_in, leaf_of, in_primitive}
@@ -44,18 +46,15 @@ use Rattle.awk_pair_sides.specs.Sides.{rows_of}
 use Rattle.awk_pair_operands.specs.Typed.{IsTyped}
 use Rattle.awk_pair_operands.proofs.TypedLaws.{typed_pairs}
 use Rattle.awk_pair_sides.specs.Levels.{opens, some_option, item_types, level_class}
-use Rattle.awk_pair_types.specs.Limits.{limit_refused}
 use Rattle.awk_ends.proofs.LeafLaws.{ends_leaves}
-use Rattle.awk_arith.specs.AtLeaves.{at_leaves, first_fault, row_values}
-use Rattle.awk_arith.specs.AtLeaves.{result_type, value_or_null}
+use Rattle.awk_arith.specs.AtLeaves.{at_leaves, first_fault, row_values, result_type, value_or_null}
 use Rattle.awk_arith.specs.Binary.{binary_of, binary_row}
 use Rattle.awk_arith.specs.Unary.{unary_of}
 use Rattle.awk_number_laws.specs.Leaves.{opposite, on_result}
 use Rattle.awk_law_chains.proofs.Chains.{Chain, close, layer, chain_type, at_ends, IsAt}
 use Rattle.awk_law_chains.proofs.Chains.{chain_sizes, chain_ends, over-chain, over_type-chain}
 use Rattle.awk_law_chains.proofs.Chains.{sizes-chain, sizes-mapped, ends-chain, length-each}
-use Rattle.awk_law_chains.proofs.ChainEnds.{ends-mapped}
-use Rattle.awk_law_chains.proofs.ChainEnds.{twice-each, same-all, all-mapped, have-at}
+use Rattle.awk_law_chains.proofs.ChainEnds.{ends-mapped, twice-each, same-all, all-mapped, have-at}
 use Rattle.awk_number_laws.proofs.OnePaired.{IsChainOf, unary_is}
 use Rattle.awk_number_laws.proofs.LeafLaws.{tested, test_is, not_tested}
 

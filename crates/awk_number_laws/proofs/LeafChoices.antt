@@ -8,8 +8,8 @@ use Rattle.std.proofs.lemmas.List.FromFn.{fill_by_all}
 use Rattle.std.proofs.lemmas.Bool.{not-false, or_parts}
 use Rattle.std.proofs.lemmas.Simd.{map-map}
 use Rattle.awk_base.proofs.Truths.{eq-refl}
-use Rattle.awk_types.specs.DataType.{DataType, leaf, tup, opt}
-use Rattle.awk_types.specs.DataType.{types_from}
+use Rattle.awk_base.proofs.Every.{all-at}
+use Rattle.awk_types.specs.DataType.{DataType, leaf, tup, opt, types_from}
 use Rattle.awk_types.specs.Has.{Has}
 use Rattle.awk_types.specs.Predicates.{is_null}
 use Rattle.awk_types.specs.Simple.{option_if}
@@ -22,12 +22,12 @@ use Rattle.awk_columns.specs.Columns.{is_present, list_items, part_at}
 use Rattle.awk_columns.specs.ListClass.{Class, list_type}
 use Rattle.awk_frames.specs.Framed.{over}
 use Rattle.awk_leaves.specs.Values.{chosen_at}
+use Rattle.awk_columns.proofs.ListTypes.{list-has}
 use Rattle.awk_pair_operands.specs.Paired.{to_depth, types_at_ends, paired_type, paired_value}
 use Rattle.awk_pair_operands.specs.Paired.{is_uneven}
 use Rattle.awk_pair_sides.specs.Levels.{level_class, some_option, opens, item_types}
 use Rattle.awk_pair_sides.specs.Sides.{Side, each, always, side_at, rows_of, equally_long}
-use Rattle.awk_pair_sides.specs.Sides.{common_length}
-use Rattle.awk_pair_sides.specs.Sides.{level_sides, misses}
+use Rattle.awk_pair_sides.specs.Sides.{common_length, level_sides, misses}
 use Rattle.awk_law_chains.proofs.Chains.{Chain, close, layer, chain_type, IsAt, closing}
 use Rattle.awk_number_laws.proofs.LeafLaws.{choice_is}
 use Rattle.awk_number_laws.proofs.OnePaired.{levels}
@@ -254,12 +254,6 @@ module _ (c u : DataType) (o : Bool) (d : Class) (t : DataType) (side_of : Value
 pub items_back : (xs : List Value) → map (λ j. get_or xs j null) (range_with_len 0 (length xs)) ≡ xs
 items_back xs = sym (fill_by_all (λ k. get_or xs k null) xs (length xs) null refl (λ k p. refl))
 
-pub all-get : (P : Value → Type 0) (vs : List Value) (i : ℕ) → AllByRecursion P vs → i < length vs
-    → P (get_or vs i null)
-all-get P [] i h l = absurd (omega (arith, l))
-all-get P (v ∷ vs) zero h l = h.0
-all-get P (v ∷ vs) (suc i) h l = all-get P vs i h.1 (omega (arith, l))
-
 module _ (c u : DataType) (o : Bool) (d : Class) (k : Chain) (p : Primitive)
     (side_of : Value → Side) (h : IsLevel c u o d (chain_type k (leaf p)) side_of)
     (long : (v : Value) (xs : List Value)
@@ -312,7 +306,7 @@ module _ (c u : DataType) (o : Bool) (d : Class) (k : Chain) (p : Primitive)
       (λ row. over below choose (paired_value false to_depth n (twice u tx) row)) (side_of v) ys 0
       (length ys)
       (λ j b r. ih (side_at j (side_of v)) (get_or ys j null)
-      (have v q ys even j (omega (arith, b))) (all-get (IsAt k P) ys j i (omega (arith, b))) r)
+      (have v q ys even j (omega (arith, b))) (all-at (IsAt k P) ys j null i (omega (arith, b))) r)
       (ap (λ b. list_any (is_uneven false n (twice u tx)) (map (row_of (side_of v) ys)
       (range_with_len 0 b))) (sym l) ∙ a.1)
       ∙ items_back ys)
@@ -355,26 +349,11 @@ list_long : (v : Value) (xs : List Value)
     → common_length (lists_of v ∷ each xs ∷ each xs ∷ []) ≡ length xs
 list_long v xs e = same_lengths (length (list_items v)) (length xs) e
 
-items_have : (d : Class) (u : DataType) (v : Value) → Has (list_type d u) v
-    → AllByRecursion (Has u) (list_items v)
-items_have None u (list vs) h = h
-items_have (Some n) u (list vs) h = h.1
-items_have None u (int z) h = absurd h
-items_have (Some n) u (int z) h = absurd h
-items_have None u (truth b) h = absurd h
-items_have (Some n) u (truth b) h = absurd h
-items_have None u null h = absurd h
-items_have (Some n) u null h = absurd h
-items_have None u (row vs) h = absurd h
-items_have (Some n) u (row vs) h = absurd h
-items_have None u (alt j v) h = absurd h
-items_have (Some n) u (alt j v) h = absurd h
-
 list_have : (d : Class) (u : DataType) (v : Value) → Has (list_type d u) v → (xs : List Value)
     → equally_long (lists_of v ∷ each xs ∷ each xs ∷ []) ≡ true → (j : ℕ) → j < length xs
     → Has u (side_at j (lists_of v))
 list_have d u v h xs e j l =
-    all-get (Has u) (list_items v) j (items_have d u v h)
+    all-at (Has u) (list_items v) j null (list-has d u v h)
     (omega (arith, l, list_long v xs e, same_lengths (length (list_items v)) (length xs) e))
 
 leaf_long : (v : Value) (xs : List Value)

@@ -1,14 +1,15 @@
 -- Quotients and remainders of whole arrays.
 use Rattle.std.specs.Prelude.{◌≡◌, ℕ, zero, suc, ◌<◌, Bool, true, false, ◌||◌, List, [], ◌∷◌, map}
-use Rattle.std.specs.Prelude.{length, get_or, None, Result, Ok, Err, ℤ, refl}
-use Rattle.std.specs.Prelude.{if◌then◌else◌}
+use Rattle.std.specs.Prelude.{length, get_or, None, Result, Ok, Err, ℤ, refl, if◌then◌else◌}
 use Rattle.std.specs.List.{AllByRecursion}
 use Rattle.std.proofs.Common.{ap, ap₂, sym, ◌∙◌, arith, subst}
 use Rattle.std.proofs.lemmas.List.{length-map, get_or-map}
 use Rattle.awk_types.specs.DataType.{leaf}
 use Rattle.awk_types.specs.Datum.{Datum}
+use Rattle.awk_types.specs.Faults.{limit_refused}
 use Rattle.awk_types.specs.Gives.{◌or◌}
 use Rattle.awk_types.specs.Has.{least_number, greatest_number}
+use Rattle.awk_types.specs.Parts.{number_of}
 use Rattle.awk_types.specs.Predicates.{is_null}
 use Rattle.awk_types.specs.Value.{Value, int, truth, null, list, row, alt}
 use Rattle.awk_types.specs.declared.fault.Fault.{Fault}
@@ -23,23 +24,20 @@ use Rattle.awk_columns.specs.Columns.{is_present}
 use Rattle.awk_layout.specs.Filler.{Filler}
 use Rattle.awk_leaves.specs.LeafTypes.{number_type}
 use Rattle.awk_leaves.specs.Table.{judged, one_overflows}
-use Rattle.awk_leaves.specs.Values.{number_of, number_or_fault, binary_at}
+use Rattle.awk_leaves.specs.Values.{number_or_fault, binary_at}
 use Rattle.awk_leaves.specs.declared.operation.Binary.TheVariants.{Calculate}
 use Rattle.awk_ends.specs.Operands.{at_end, both_data, data_in, leaf_of, in_primitive}
 use Rattle.awk_pair_operands.specs.Answer.{shared_ends}
 use Rattle.awk_pair_operands.specs.Pairs.{datum_from, has_wrong_end, pair_refused, some_array}
 use Rattle.awk_pair_operands.specs.Typed.{IsTyped}
-use Rattle.awk_pair_types.specs.Limits.{limit_refused}
-use Rattle.awk_arith.specs.AtLeaves.{at_leaves, first_fault, result_type, row_values}
-use Rattle.awk_arith.specs.AtLeaves.{value_or_null}
+use Rattle.awk_arith.specs.AtLeaves.{at_leaves, first_fault, result_type, row_values, value_or_null}
 use Rattle.awk_arith.specs.Binary.{binary_of, binary_row}
 use Rattle.awk_law_chains.specs.Innermost.{leaves_in}
 use Rattle.awk_number_laws.specs.Leaves.{AreDivisions, IsDivision}
 use Rattle.awk_law_chains.proofs.Chains.{Chain, chain_type, at_ends, IsAt, chain_ends, ends-chain}
 use Rattle.awk_law_chains.proofs.ChainEnds.{all-at, ends-mapped}
 use Rattle.awk_number_laws.proofs.LeafArrays.{K, P, vals, result_is, rows_are, ends_are, at}
-use Rattle.awk_number_laws.proofs.LeafArrays.{first_there}
-use Rattle.awk_number_laws.proofs.LeafArrays.{second_there, single_pairs}
+use Rattle.awk_number_laws.proofs.LeafArrays.{first_there, second_there, single_pairs}
 use Rattle.awk_number_laws.proofs.LeafLaws.{division_is}
 use Rattle.awk_number_laws.proofs.LeafSigns.{ends_from, ends_have, fine_each, number_there}
 

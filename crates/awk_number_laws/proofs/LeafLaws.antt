@@ -1,10 +1,8 @@
 -- The laws of operations on leaves.
-use Rattle.std.proofs.Common.{◌≡◌, inl, inr, ℕ, zero, suc, ◌+◌, ◌*◌, ◌/◌, refl}
-use Rattle.std.proofs.Common.{ap, ap₂, sym, subst, ◌∙◌, arith, true≢false, List, [], ◌∷◌, map}
-use Rattle.std.proofs.Common.{length}
-use Rattle.std.specs.Prelude.{ℤ, pos, negsuc, neg_ℤ, ◌+ℤ◌, ◌*ℤ◌, ◌≤ℤ◌, int_lt, Bool, true}
-use Rattle.std.specs.Prelude.{false, not, ◌||◌, cond, Result, Ok, Err}
-use Rattle.std.specs.Prelude.{if◌then◌else◌}
+use Rattle.std.proofs.Common.{◌≡◌, inl, inr, ℕ, zero, suc, ◌+◌, ◌*◌, ◌/◌, refl, ap, ap₂, sym, subst}
+use Rattle.std.proofs.Common.{◌∙◌, arith, true≢false, List, [], ◌∷◌, map, length}
+use Rattle.std.specs.Prelude.{ℤ, pos, negsuc, neg_ℤ, ◌+ℤ◌, ◌*ℤ◌, ◌≤ℤ◌, int_lt, Bool, true, false}
+use Rattle.std.specs.Prelude.{not, ◌||◌, cond, Result, Ok, Err, if◌then◌else◌}
 use Rattle.std.specs.List.{AllByRecursion}
 use Rattle.std.specs.Int.{int_div_euclid, int_rem_euclid}
 use Rattle.std.specs.Ordering.{int_eq}
@@ -14,6 +12,7 @@ use Rattle.std.proofs.lemmas.Nat.{div-add-mod'}
 use Rattle.std.proofs.lemmas.Int.{ints}
 use Rattle.awk_types.specs.DataType.{leaf, opt}
 use Rattle.awk_types.specs.Has.{Has, Holds, least_number, greatest_number}
+use Rattle.awk_types.specs.Parts.{number_of}
 use Rattle.awk_types.specs.Predicates.{is_null}
 use Rattle.awk_primitives.specs.Promotion.{is_whole, promotion}
 use Rattle.awk_types.specs.Value.{Value, int, truth, null, list, row, alt}
@@ -27,13 +26,10 @@ use Rattle.awk_kernels.specs.declared.operation.Compare.{Compare}
 use Rattle.awk_kernels.specs.declared.operation.Compare.TheVariants as compare
 use Rattle.awk_kernels.specs.declared.operation.Why.{Why}
 use Rattle.awk_kernels.specs.declared.operation.Why.TheVariants as why
-use Rattle.awk_leaves.specs.LeafTypes.{type_beside, overflows, number_type}
-use Rattle.awk_leaves.specs.LeafTypes.{comparison_type}
-use Rattle.awk_leaves.specs.Table.{judged, one_overflows, choice_judged}
-use Rattle.awk_leaves.specs.Table.{literals_overflow}
-use Rattle.awk_leaves.specs.Values.{number_of, number_or_fault, held_by, is_nonzero}
-use Rattle.awk_leaves.specs.Values.{binary_at, unary_at, chosen_at, chosen_values}
-use Rattle.awk_leaves.specs.Values.{first_fault_or, all_values, in_judged}
+use Rattle.awk_leaves.specs.LeafTypes.{type_beside, overflows, number_type, comparison_type}
+use Rattle.awk_leaves.specs.Table.{judged, one_overflows, choice_judged, literals_overflow}
+use Rattle.awk_leaves.specs.Values.{number_or_fault, held_by, is_nonzero, binary_at, unary_at}
+use Rattle.awk_leaves.specs.Values.{chosen_at, chosen_values, first_fault_or, all_values, in_judged}
 use Rattle.awk_leaves.specs.Values.{binary_values, unary_values, choice_values}
 use Rattle.awk_leaves.specs.declared.leaf_type.LeafType.{LeafType}
 use Rattle.awk_leaves.specs.declared.leaf_type.LeafType.TheVariants.{Of}

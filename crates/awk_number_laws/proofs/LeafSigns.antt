@@ -1,13 +1,12 @@
 -- Signs of whole arrays: the negative of the negative.
-use Rattle.std.specs.Prelude.{◌≡◌, Bool, true, false, List, [], ◌∷◌, ◌++◌, map}
-use Rattle.std.specs.Prelude.{length}
-use Rattle.std.specs.Prelude.{filter, Option, Some, None, Result, Ok, Err, ℤ, refl}
-use Rattle.std.specs.Prelude.{if◌then◌else◌}
+use Rattle.std.specs.Prelude.{◌≡◌, Bool, true, false, List, [], ◌∷◌, ◌++◌, map, length, filter}
+use Rattle.std.specs.Prelude.{Option, Some, None, Result, Ok, Err, ℤ, refl, if◌then◌else◌}
 use Rattle.std.specs.List.{AllByRecursion}
 use Rattle.std.proofs.Common.{ap, ap₂, sym, ◌∙◌, subst}
 use Rattle.std.proofs.lemmas.Simd.{map-map}
 use Rattle.awk_types.specs.DataType.{DataType, unknown, leaf, var, reg, rec, tup, opt, uni}
-use Rattle.awk_types.specs.Datum.{Datum, arr, one}
+use Rattle.awk_types.specs.Datum.{Datum, arr, one, datum_type}
+use Rattle.awk_types.specs.Faults.{limit_refused}
 use Rattle.awk_types.specs.Gives.{refused_or, ◌or◌}
 use Rattle.awk_types.specs.Has.{Has}
 use Rattle.awk_types.specs.ItemLimit.{too_many}
@@ -27,15 +26,12 @@ use Rattle.awk_leaves.specs.declared.leaf_type.LeafType.TheVariants.{Of}
 use Rattle.awk_leaves.specs.declared.operation.Unary.TheVariants.{Negate}
 use Rattle.awk_ends.specs.Operands.{leaf_in}
 use Rattle.awk_pair_operands.specs.Typed.{IsTyped}
-use Rattle.awk_pair_types.specs.Limits.{limit_refused}
 use Rattle.awk_arith.specs.AtLeaves.{first_fault, value_or_null}
 use Rattle.awk_arith.specs.Unary.{unary_of}
-use Rattle.awk_law_chains.specs.Innermost.{datum_type}
 use Rattle.awk_law_chains.proofs.Chains.{Chain, close, layer, chain_type, at_ends, IsAt, IsEndAt}
 use Rattle.awk_law_chains.proofs.Chains.{chain_sizes, chain_ends, sizes-mapped, length-each}
-use Rattle.awk_law_chains.proofs.ChainEnds.{ends-mapped}
-use Rattle.awk_law_chains.proofs.ChainEnds.{twice-each, all-mapped, have-at, all-items}
 use Rattle.awk_law_chains.proofs.Chains.{in_list_stays}
+use Rattle.awk_law_chains.proofs.ChainEnds.{ends-mapped, twice-each, all-mapped, have-at, all-items}
 use Rattle.awk_number_laws.proofs.LeafLaws.{negative_is, no_truth}
 use Rattle.awk_number_laws.proofs.OnePaired.{IsChainOf, made, unary_is}
 

@@ -1,13 +1,14 @@
 -- Sums and products of whole arrays that change places.
-use Rattle.std.specs.Prelude.{◌≡◌, ℕ, zero, suc, Bool, true, false, not, ◌&&◌, ◌||◌}
-use Rattle.std.specs.Prelude.{List, [], ◌∷◌, map, length, Option, Some, None}
-use Rattle.std.specs.Prelude.{Result, Ok, Err, refl, if◌then◌else◌, ℤ}
+use Rattle.std.specs.Prelude.{◌≡◌, ℕ, zero, suc, Bool, true, false, not, ◌&&◌, ◌||◌, List, [], ◌∷◌}
+use Rattle.std.specs.Prelude.{map, length, Option, Some, None, Result, Ok, Err, refl, if◌then◌else◌}
+use Rattle.std.specs.Prelude.{ℤ}
 use Rattle.std.specs.List.{AllByRecursion, list_any, range_with_len}
 use Rattle.std.proofs.Common.{ap, ap₂, sym, ◌∙◌, subst}
 use Rattle.std.proofs.lemmas.Bool.{not-false, or_parts}
 use Rattle.std.proofs.lemmas.Simd.{map-map}
 use Rattle.awk_types.specs.DataType.{DataType, unknown, leaf, var, reg, rec, tup, opt, uni, depth}
-use Rattle.awk_types.specs.Datum.{Datum}
+use Rattle.awk_types.specs.Datum.{Datum, datum_type}
+use Rattle.awk_types.specs.Faults.{limit_refused}
 use Rattle.awk_types.specs.Gives.{refused_or, ◌or◌}
 use Rattle.awk_types.specs.ItemLimit.{too_many}
 use Rattle.awk_types.specs.Value.{Value, int, null, list, row, values_from}
@@ -27,34 +28,23 @@ use Rattle.awk_leaves.specs.declared.leaf_type.LeafType.{LeafType}
 use Rattle.awk_leaves.specs.declared.operation.Binary.TheVariants.{Calculate}
 use Rattle.awk_ends.specs.Operands.{both_data, leaf_of, in_primitive}
 use Rattle.awk_pair_operands.specs.Answer.{shared_ends}
-use Rattle.awk_pair_operands.specs.Paired.{to_leaves, paired_value, is_uneven}
-use Rattle.awk_pair_operands.specs.Paired.{is_wrong}
-use Rattle.awk_pair_operands.specs.Paired.{all_levels}
+use Rattle.awk_pair_operands.specs.Paired.{to_leaves, paired_value, is_uneven, is_wrong, all_levels}
 use Rattle.awk_pair_operands.specs.Pairs.{datum_from, datum_side, first_rows, has_wrong_end}
-use Rattle.awk_pair_operands.specs.Pairs.{item_type}
 use Rattle.awk_pair_operands.specs.Pairs.{are_uneven, pair_refused, pair_type, pair_values}
-use Rattle.awk_pair_operands.specs.Pairs.{is_array}
-use Rattle.awk_pair_operands.specs.Pairs.{some_array, single_value}
-use Rattle.awk_pair_sides.specs.Levels.{opens, some_option}
-use Rattle.awk_pair_sides.specs.Levels.{item_types, level_class}
-use Rattle.awk_pair_sides.specs.Sides.{side_at, rows_of, equally_long}
-use Rattle.awk_pair_sides.specs.Sides.{common_length, inner_rows, misses}
-use Rattle.awk_pair_sides.specs.Sides.{is_whole}
-use Rattle.awk_pair_types.specs.Limits.{limit_refused}
-use Rattle.awk_arith.specs.AtLeaves.{at_leaves, first_fault, row_values}
-use Rattle.awk_arith.specs.AtLeaves.{result_type, value_or_null}
+use Rattle.awk_pair_operands.specs.Pairs.{is_array, some_array, single_value}
+use Rattle.awk_pair_sides.specs.Levels.{opens, some_option, item_types, level_class}
+use Rattle.awk_pair_sides.specs.Sides.{side_at, rows_of, equally_long, common_length, inner_rows}
+use Rattle.awk_pair_sides.specs.Sides.{misses, is_whole}
+use Rattle.awk_arith.specs.AtLeaves.{at_leaves, first_fault, row_values, result_type, value_or_null}
 use Rattle.awk_arith.specs.Binary.{binary_of, binary_row}
 use Rattle.awk_law_chains.proofs.Chains.{Chain, close, layer, chain_type, at_ends, IsAt, is_lists}
 use Rattle.awk_law_chains.proofs.Chains.{chain_sizes, chain_ends, sizes-mapped, length-each}
-use Rattle.awk_law_chains.proofs.ChainEnds.{ends-mapped}
 use Rattle.awk_law_chains.proofs.Chains.{in_list-same, in_option-same}
-use Rattle.awk_law_chains.proofs.ChainEnds.{twice-each}
+use Rattle.awk_law_chains.proofs.ChainEnds.{ends-mapped, twice-each}
 use Rattle.awk_number_laws.proofs.LeafArrays.{shared, result_is, rows_are, ends_are, sizes_are}
 use Rattle.awk_number_laws.proofs.LeafLaws.{turned_at, or_turned, promotion_turned}
-use Rattle.awk_number_laws.proofs.TurnedLevels.{any_same, any_turned, equal_turned}
-use Rattle.awk_number_laws.proofs.TurnedLevels.{length_turned}
-use Rattle.awk_number_laws.proofs.TurnedLevels.{max_turned, pairs_of, rows_same}
-use Rattle.awk_number_laws.proofs.TurnedLevels.{shared_turned}
+use Rattle.awk_number_laws.proofs.TurnedLevels.{any_same, any_turned, equal_turned, length_turned}
+use Rattle.awk_number_laws.proofs.TurnedLevels.{max_turned, pairs_of, rows_same, shared_turned}
 use Rattle.awk_number_laws.proofs.TurnedLevels.{turn, uneven_if, uneven_turned, value_turned}
 use Rattle.awk_number_laws.proofs.TurnedLevels.{wrong_turned}
 
@@ -136,10 +126,10 @@ module _ (c e : Datum) where
   es = e ∷ c ∷ []
 
   abbrev s : DataType
-  s = item_type c
+  s = datum_type c
 
   abbrev t : DataType
-  t = item_type e
+  t = datum_type e
 
   abbrev n : ℕ
   n = all_levels (s ∷ t ∷ [])

@@ -2,18 +2,17 @@
 use Rattle.std.proofs.Common.{◌≡◌, ℕ, zero, suc, ◌+◌, ◌<◌, ◌≤◌, refl, ap, ap₂, sym, subst, ◌∙◌}
 use Rattle.std.proofs.Common.{arith, true≢false, List, [], ◌∷◌, ◌++◌, map, map-id, length, get_or}
 use Rattle.std.proofs.Common.{replicate}
-use Rattle.std.specs.Prelude.{ℤ, pos, nat_lt, Bool, true, false, Option, Some, None}
-use Rattle.std.specs.Prelude.{if◌then◌else◌}
+use Rattle.std.specs.Prelude.{ℤ, pos, nat_lt, Bool, true, false, Option, Some, None, if◌then◌else◌}
 use Rattle.std.specs.List.{fold, range_with_len}
 use Rattle.std.specs.List.Sorted.{IsPermutation}
 use Rattle.std.proofs.lemmas.List.{length-map}
 use Rattle.std.proofs.lemmas.List.FromFn.{fill_by_all, length-map-range_with_len}
 use Rattle.std.proofs.lemmas.List.Sorted.{IsPermutation-map, length_permutation}
 use Rattle.awk_base.proofs.Ranges.{range-more}
+use Rattle.awk_types.specs.Parts.{number_of, option_number}
 use Rattle.awk_types.specs.Predicates.{is_null}
 use Rattle.awk_types.specs.Value.{Value, int, null}
 use Rattle.awk_layout.specs.Item.{at_option}
-use Rattle.awk_present.specs.Numbers.{number_of}
 use Rattle.awk_select.specs.Picks.{picked, take_places, take_place}
 use Rattle.awk_sorting.specs.Nulls.{somes, nones}
 use Rattle.awk_sorting.specs.Order.{insert_by, number_first, sort_numbers, comes_first}
@@ -22,7 +21,7 @@ use Rattle.awk_sorting.proofs.InsertLaws.{sort_permutes, length-sort, places_bel
 use Rattle.awk_sorting.proofs.KeyLaws.{later_first}
 use Rattle.awk_sorting.proofs.NullLaws.{cells_in_order}
 use Rattle.awk_sorting.proofs.UniqueLaws.{NoneBefore, AreInOrder, sort_in_order}
-use Rattle.awk_order.specs.Order.{option_number, item_order, items_in_order}
+use Rattle.awk_order.specs.Order.{item_order, items_in_order}
 use Rattle.awk_order.specs.Sort.{place_items}
 use Rattle.awk_number_laws.specs.Orders.{IsInOrder}
 

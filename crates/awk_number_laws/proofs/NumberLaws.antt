@@ -2,9 +2,10 @@
 use Rattle.std.proofs.Common.{◌≡◌, ap, ◌∙◌, List, ◌++◌, map}
 use Rattle.std.proofs.lemmas.List.{map-append}
 use Rattle.std.proofs.lemmas.List.Elements.{filter-append}
+use Rattle.awk_types.specs.Parts.{number_of}
 use Rattle.awk_types.specs.Value.{Value}
 use Rattle.awk_columns.specs.Columns.{is_present, present_values}
-use Rattle.awk_present.specs.Numbers.{number_of, numbers}
+use Rattle.awk_present.specs.Numbers.{numbers}
 
 pub numbers-append : (us vs : List Value) → numbers (us ++ vs) ≡ numbers us ++ numbers vs
 numbers-append us vs =

@@ -1,13 +1,14 @@
 -- One operand alone, paired to its leaves: a row of one at each end of it.
-use Rattle.std.specs.Prelude.{◌≡◌, ℕ, zero, suc, ◌==◌, ◌≤◌, max, Bool, true, false, not}
-use Rattle.std.specs.Prelude.{◌&&◌, ◌||◌, List, [], ◌∷◌, map, length, get_or, Some, None}
-use Rattle.std.specs.Prelude.{Ok, Err, refl, if◌then◌else◌}
+use Rattle.std.specs.Prelude.{◌≡◌, ℕ, zero, suc, ◌==◌, ◌≤◌, max, Bool, true, false, not, ◌&&◌, ◌||◌}
+use Rattle.std.specs.Prelude.{List, [], ◌∷◌, map, length, get_or, Some, None, Ok, Err, refl}
+use Rattle.std.specs.Prelude.{if◌then◌else◌}
 use Rattle.std.specs.List.{AllByRecursion, list_any, range_with_len}
 use Rattle.std.proofs.Common.{ap, ap₂, sym, ◌∙◌, arith}
 use Rattle.std.proofs.lemmas.List.FromFn.{fill_by_all}
 use Rattle.std.proofs.lemmas.Simd.{map-map}
 use Rattle.awk_types.specs.DataType.{DataType, leaf, var, opt, tup, no_types, type, depth}
-use Rattle.awk_types.specs.Datum.{Datum}
+use Rattle.awk_types.specs.Datum.{Datum, datum_type}
+use Rattle.awk_types.specs.Faults.{limit_refused}
 use Rattle.awk_types.specs.Gives.{refused_or, ◌or◌}
 use Rattle.awk_types.specs.ItemLimit.{too_many}
 use Rattle.awk_types.specs.Simple.{option_if, in_list}
@@ -27,22 +28,20 @@ use Rattle.awk_leaves.specs.declared.operation.Unary.{Unary}
 use Rattle.awk_ends.specs.Operands.{leaf_in, in_primitive}
 use Rattle.awk_pair_operands.specs.Answer.{shared_ends}
 use Rattle.awk_pair_operands.specs.Paired.{to_leaves, paired_type, paired_value, is_uneven}
-use Rattle.awk_pair_operands.specs.Paired.{is_wrong}
-use Rattle.awk_pair_operands.specs.Paired.{all_levels}
+use Rattle.awk_pair_operands.specs.Paired.{is_wrong, all_levels}
 use Rattle.awk_pair_operands.specs.Pairs.{datum_from, datum_side, first_rows, has_wrong_end}
-use Rattle.awk_pair_operands.specs.Pairs.{are_uneven, item_type}
-use Rattle.awk_pair_operands.specs.Pairs.{pair_refused, pair_type, pair_values, some_array}
+use Rattle.awk_pair_operands.specs.Pairs.{are_uneven, pair_refused, pair_type, pair_values}
+use Rattle.awk_pair_operands.specs.Pairs.{some_array}
 use Rattle.awk_pair_sides.specs.Levels.{level_class}
 use Rattle.awk_pair_sides.specs.Sides.{each, rows_of, inner_rows, level_sides, equally_long}
-use Rattle.awk_pair_types.specs.Limits.{limit_refused}
-use Rattle.awk_arith.specs.AtLeaves.{at_leaves, first_fault, leaves_refused}
-use Rattle.awk_arith.specs.AtLeaves.{result_type, value_or_null}
+use Rattle.awk_arith.specs.AtLeaves.{at_leaves, first_fault, leaves_refused, result_type}
+use Rattle.awk_arith.specs.AtLeaves.{value_or_null}
 use Rattle.awk_arith.specs.Unary.{unary_of, unary_row}
 use Rattle.awk_law_chains.proofs.Chains.{Chain, close, layer, chain_type, at_ends, IsAt, is_lists}
-use Rattle.awk_law_chains.proofs.Chains.{same-each}
+use Rattle.awk_law_chains.proofs.Chains.{same-each, chain_sizes, chain_ends, over-chain}
+use Rattle.awk_law_chains.proofs.Chains.{over_type-chain, sizes-chain, sizes-mapped, ends-chain}
+use Rattle.awk_law_chains.proofs.Chains.{length-each}
 use Rattle.awk_law_chains.proofs.ChainEnds.{twice-each, ends-mapped}
-use Rattle.awk_law_chains.proofs.Chains.{chain_sizes, chain_ends, over-chain, over_type-chain}
-use Rattle.awk_law_chains.proofs.Chains.{sizes-chain, sizes-mapped, ends-chain, length-each}
 
 -- a row of one
 abbrev pub alone : Value → Value
@@ -278,7 +277,7 @@ some_made : (b : Bool) (t : DataType) (vs : List Value) → some_array (datum_fr
 some_made true t vs = refl
 some_made false t vs = refl
 
-type_made : (b : Bool) (t : DataType) (vs : List Value) → item_type (datum_from b t vs) ≡ t
+type_made : (b : Bool) (t : DataType) (vs : List Value) → datum_type (datum_from b t vs) ≡ t
 type_made true t vs = refl
 type_made false t vs = refl
 
@@ -379,7 +378,7 @@ module _ (P : Value → Type 0) (b : Bool) (k : Chain) (p : Primitive) (vs : Lis
       (made b k q (map (at_ends k (λ v. value_or_null (unary_at op q v))) vs))
   unary_is op q e =
       ap (λ w. if w then Err WrongType
-      else in_primitive (unary_judged op (leaf_in (item_type (made b k p vs))))
+      else in_primitive (unary_judged op (leaf_in (datum_type (made b k p vs))))
       (λ r. at_leaves r (unary_row op r) d)) right_end
       ∙ ap (λ j. in_primitive j (λ r. at_leaves r (unary_row op r) d))
       (ap (unary_judged op) (ap leaf_in (type_made b t vs) ∙ leaf-chain k p) ∙ e)

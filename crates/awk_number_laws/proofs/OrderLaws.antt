@@ -8,7 +8,7 @@ use Rattle.std.proofs.lemmas.Bool.{ltb-false}
 use Rattle.std.proofs.lemmas.List.{length-map}
 use Rattle.awk_base.proofs.Sums.{sum-one}
 use Rattle.awk_types.specs.DataType.{DataType, unknown, leaf, var, reg, rec, tup, opt, uni}
-use Rattle.awk_types.specs.Datum.{Datum, arr}
+use Rattle.awk_types.specs.Datum.{Datum, arr, datum_type}
 use Rattle.awk_types.specs.Gives.{refused_or, ◌or◌}
 use Rattle.awk_types.specs.ItemLimit.{item_limit, too_many}
 use Rattle.awk_types.specs.Predicates.{is_leaf}
@@ -19,7 +19,7 @@ use Rattle.awk_types.specs.declared.fault.Fault.TheVariants as fault
 use Rattle.awk_types.specs.declared.primitive.Primitive.TheVariants.{I64}
 use Rattle.awk_types.proofs.RefusalLaws.{refused_or-Ok}
 use Rattle.awk_types.proofs.Trees.{value_list-from}
-use Rattle.awk_columns.proofs.ItemLimits.{within_limit}
+use Rattle.awk_types.proofs.ItemLimits.{within_limit}
 use Rattle.awk_axis.specs.Lifting.{first_told}
 use Rattle.awk_axis.specs.declared.causes.Spoil.{Spoil}
 use Rattle.awk_axis.specs.declared.causes.Spoil.TheVariants.{Size}
@@ -28,7 +28,7 @@ use Rattle.awk_sorting.proofs.InsertLaws.{AllBelow}
 use Rattle.awk_order.specs.Order.{item_order, items_in_order}
 use Rattle.awk_order.specs.Sort.{place_items, sort_of, argsort_of}
 use Rattle.awk_order.proofs.ValueLaws.{leaf_simple_value}
-use Rattle.awk_law_chains.specs.Innermost.{datum_type, innermost_lists}
+use Rattle.awk_law_chains.specs.Innermost.{innermost_lists}
 use Rattle.awk_number_laws.proofs.InnermostLists.{nested}
 use Rattle.awk_number_laws.proofs.ListOrders.{length-sorted, length-places}
 use Rattle.awk_number_laws.proofs.ListOrders.{pick_is, places_within, twice_is}

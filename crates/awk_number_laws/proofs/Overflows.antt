@@ -1,11 +1,10 @@
 -- When a reducer overflows: where the exact result of an innermost list does not fit.
 use Rattle.std.specs.Prelude.{◌≡◌, Bool, true, false, List, [], ◌∷◌, map, length, sum, filter}
-use Rattle.std.specs.Prelude.{nat_lt, Option, Some, None, option_map, Ok, Err, refl}
-use Rattle.std.specs.Prelude.{if◌then◌else◌}
+use Rattle.std.specs.Prelude.{nat_lt, Option, Some, None, option_map, Ok, Err, refl, if◌then◌else◌}
 use Rattle.std.specs.List.{flat_map, list_any}
 use Rattle.std.proofs.Common.{sym, subst}
 use Rattle.awk_types.specs.DataType.{DataType, unknown, leaf, var, reg, rec, tup, opt, uni}
-use Rattle.awk_types.specs.Datum.{Datum, arr, one}
+use Rattle.awk_types.specs.Datum.{Datum, arr, one, datum_type}
 use Rattle.awk_types.specs.Faults.{limit_fault}
 use Rattle.awk_types.specs.Gives.{refused_or, ◌or◌}
 use Rattle.awk_types.specs.ItemLimit.{item_limit}
@@ -30,7 +29,7 @@ use Rattle.awk_axis.specs.declared.place.Reach.TheVariants.{Innermost}
 use Rattle.awk_columns.specs.Columns.{is_present, joined_items, list_items, list_of}
 use Rattle.awk_reduce.specs.Reduce.{overflows, reduce_of, reduced_spoil, reducer_function}
 use Rattle.awk_reduce.specs.declared.reducer.Reducer.{Reducer}
-use Rattle.awk_law_chains.specs.Innermost.{datum_type, innermost_lists, innermost_type, lists_in}
+use Rattle.awk_law_chains.specs.Innermost.{innermost_lists, innermost_type, lists_in}
 use Rattle.awk_law_chains.proofs.Limits.{none_map}
 use Rattle.awk_number_laws.proofs.InnermostLists.{inside}
 use Rattle.awk_number_laws.proofs.ReducedLists.{flat_joined, flat_one, flat_present, type_here}

@@ -1,9 +1,8 @@
 -- What a reducer gives for each innermost list.
-use Rattle.std.specs.Prelude.{◌≡◌, List, [], ◌∷◌, map, filter}
-use Rattle.std.specs.Prelude.{Ok, refl}
+use Rattle.std.specs.Prelude.{◌≡◌, List, [], ◌∷◌, map, filter, Ok, refl}
 use Rattle.std.proofs.Common.{ap, ◌∙◌}
 use Rattle.awk_types.specs.DataType.{DataType, leaf, opt}
-use Rattle.awk_types.specs.Datum.{Datum, one}
+use Rattle.awk_types.specs.Datum.{Datum, one, datum_type}
 use Rattle.awk_types.specs.Settle.{settle}
 use Rattle.awk_types.specs.Simple.{simple, simple_value}
 use Rattle.awk_types.specs.Value.{Value, int, truth, null, list, row, alt}
@@ -14,10 +13,10 @@ use Rattle.awk_pair_operands.specs.Typed.{IsTyped}
 use Rattle.awk_reduce.specs.Reduce.{reduce_of, reducer_function}
 use Rattle.awk_reduce.specs.Reducers.{reduced, reduced_type}
 use Rattle.awk_reduce.specs.declared.reducer.Reducer.{Reducer}
-use Rattle.awk_reduce.specs.declared.reducer.Reducer.TheVariants.{Sum, Prod, Min, Max}
-use Rattle.awk_reduce.specs.declared.reducer.Reducer.TheVariants.{Argmin, Argmax, Any, All}
-use Rattle.awk_reduce.specs.declared.reducer.Reducer.TheVariants.{Count, CountNonzero}
-use Rattle.awk_law_chains.specs.Innermost.{datum_type, innermost_lists, innermost_type, leaves_in}
+use Rattle.awk_reduce.specs.declared.reducer.Reducer.TheVariants.{Sum, Prod, Min, Max, Argmin}
+use Rattle.awk_reduce.specs.declared.reducer.Reducer.TheVariants.{Argmax, Any, All, Count}
+use Rattle.awk_reduce.specs.declared.reducer.Reducer.TheVariants.{CountNonzero}
+use Rattle.awk_law_chains.specs.Innermost.{innermost_lists, innermost_type, leaves_in}
 use Rattle.awk_number_laws.proofs.ReducedLists.{present_twice, results_are}
 
 plain_reduced : (how : Reducer) (t : DataType) (x : Value)

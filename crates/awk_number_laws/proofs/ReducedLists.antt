@@ -5,7 +5,7 @@ use Rattle.std.specs.List.{AllByRecursion, flat_map}
 use Rattle.std.proofs.Common.{ap, ap₂, sym, ◌∙◌}
 use Rattle.std.proofs.lemmas.Grind.{flat_map-append}
 use Rattle.awk_types.specs.DataType.{DataType, unknown, leaf, var, reg, rec, tup, opt, uni}
-use Rattle.awk_types.specs.Datum.{Datum, arr, one}
+use Rattle.awk_types.specs.Datum.{Datum, arr, one, datum_type}
 use Rattle.awk_types.specs.Faults.{limit_fault}
 use Rattle.awk_types.specs.Gives.{◌or◌}
 use Rattle.awk_types.specs.Has.{Has}
@@ -16,11 +16,10 @@ use Rattle.awk_types.specs.Simple.{present, simple, simple_value, in_list, in_op
 use Rattle.awk_types.specs.Value.{Value, int, truth, null, list, row, alt, value_list, values_from}
 use Rattle.awk_types.proofs.RefusalLaws.{refused_or-Ok, or-both}
 use Rattle.awk_types.proofs.Trees.{value_list-from}
-use Rattle.awk_view.proofs.SettleLaws.{in_option-simple}
+use Rattle.awk_types.proofs.NullLaws.{in_option-simple}
 use Rattle.awk_axis.specs.Causes.{first_spoil}
 use Rattle.awk_axis.specs.Lift.{lifted_type, lifted_value, refusal_at, on_list}
-use Rattle.awk_axis.specs.Lifting.{deep, first_told, on_items, on_whole}
-use Rattle.awk_axis.specs.Lifting.{refusal_fault, spoil_fault}
+use Rattle.awk_axis.specs.Lifting.{deep, first_told, on_items, on_whole, refusal_fault, spoil_fault}
 use Rattle.awk_axis.specs.ListFunction.{ListFunction, singles}
 use Rattle.awk_axis.specs.Spoils.{spoil_at, too_many}
 use Rattle.awk_axis.specs.declared.causes.Refusal.{Refusal}
@@ -28,13 +27,12 @@ use Rattle.awk_axis.specs.declared.causes.Spoil.{Spoil}
 use Rattle.awk_axis.specs.declared.place.Reach.TheVariants.{Innermost}
 use Rattle.awk_columns.specs.Columns.{is_present, list_items, joined_items, list_of, present_values}
 use Rattle.awk_columns.specs.ListClass.{Class, list_type}
+use Rattle.awk_columns.proofs.PresentItems.{present-have}
 use Rattle.awk_frames.specs.Shape.{ends}
 use Rattle.awk_frames.proofs.FramedItems.{items-have}
 use Rattle.awk_pair_operands.specs.Typed.{IsTyped}
-use Rattle.awk_law_chains.specs.Innermost.{datum_type, innermost_lists, innermost_type, leaves_in}
-use Rattle.awk_law_chains.specs.Innermost.{lists_in}
-use Rattle.awk_law_chains.proofs.Chains.{both-each, joined-in_list}
-use Rattle.awk_law_chains.proofs.Chains.{joined-present}
+use Rattle.awk_law_chains.specs.Innermost.{innermost_lists, innermost_type, leaves_in, lists_in}
+use Rattle.awk_law_chains.proofs.Chains.{both-each, joined-in_list, joined-present}
 use Rattle.awk_number_laws.proofs.InnermostLists.{inside, lists_null}
 use Rattle.awk_law_chains.proofs.Limits.{none_map}
 
@@ -146,16 +144,6 @@ lists-given None t h (row us ∷ vs) k = absurd k.0
 lists-given (Some n) t h (row us ∷ vs) k = absurd k.0
 lists-given None t h (alt j u ∷ vs) k = absurd k.0
 lists-given (Some n) t h (alt j u ∷ vs) k = absurd k.0
-
-present_have : (t : DataType) (vs : List Value) → AllByRecursion (Has (opt t)) vs
-    → AllByRecursion (Has t) (filter is_present vs)
-present_have t [] k = tt
-present_have t (null ∷ vs) k = present_have t vs k.1
-present_have t (int z ∷ vs) k = (k.0, present_have t vs k.1)
-present_have t (truth b ∷ vs) k = (k.0, present_have t vs k.1)
-present_have t (list us ∷ vs) k = (k.0, present_have t vs k.1)
-present_have t (row us ∷ vs) k = (k.0, present_have t vs k.1)
-present_have t (alt j u ∷ vs) k = (k.0, present_have t vs k.1)
 
 -- the type of leaves is the innermost one
 pub type_here : (t : DataType) → is_leaf (present t) ≡ true → innermost_type t ≡ t
@@ -325,7 +313,7 @@ module _ (typ : DataType → DataType) (value_of : DataType → List Value → V
       ∙ sym (present_ends (type_in t) (map (in_option (value_in t)) vs))
       ∙ ap (λ ws. filter is_present (ends (type_in t) ws)) (present_option (value_in t) vs)
       ∙ present_ends (type_in t) (map (value_in t) (filter is_present vs))
-      ∙ gives t (filter is_present vs) r (present_have t vs k)
+      ∙ gives t (filter is_present vs) r (present-have t vs k)
       ∙ ap₂ (λ m ls. filter is_present (map (value_of m) ls))
       (sym (ap (λ b. if b then opt t else innermost_type t) (no_leaf t r))) (flat_present t vs)
   gives unknown vs r k = cc

@@ -1,13 +1,12 @@
 -- The laws of reducers.
-use Rattle.std.proofs.Common.{◌≡◌, ℕ, ◌+◌, ◌-◌, ◌<◌, ◌≤◌, refl, ap, ap₂, sym}
-use Rattle.std.proofs.Common.{◌∙◌, arith, true≢false, List, [], ◌∷◌, map, length, get_or}
-use Rattle.std.specs.Prelude.{ℤ, pos, ◌+ℤ◌, nat_lt, sum, Bool, true, false, not, ◌||◌}
-use Rattle.std.specs.Prelude.{Option, Some, None, Result, Ok, if◌then◌else◌}
+use Rattle.std.proofs.Common.{◌≡◌, ℕ, ◌+◌, ◌-◌, ◌<◌, ◌≤◌, refl, ap, ap₂, sym, ◌∙◌, arith}
+use Rattle.std.proofs.Common.{true≢false, List, [], ◌∷◌, map, length, get_or}
+use Rattle.std.specs.Prelude.{ℤ, pos, ◌+ℤ◌, nat_lt, sum, Bool, true, false, not, ◌||◌, Option, Some}
+use Rattle.std.specs.Prelude.{None, Result, Ok, if◌then◌else◌}
 use Rattle.std.specs.List.{AllByRecursion, count_by, flat_map, list_any}
 use Rattle.std.specs.Option.{option_and_then}
 use Rattle.std.proofs.lemmas.Bool.{ltb-false}
-use Rattle.std.proofs.lemmas.List.{length-map, length-append, get_or-map}
-use Rattle.std.proofs.lemmas.List.{get_or_default}
+use Rattle.std.proofs.lemmas.List.{length-map, length-append, get_or-map, get_or_default}
 use Rattle.std.proofs.lemmas.List.Sums.{sum_by-cons}
 use Rattle.awk_base.proofs.Sums.{sum-one}
 use Rattle.awk_types.specs.DataType.{DataType, unknown, leaf, var, reg, rec, tup, opt, uni}
@@ -15,6 +14,7 @@ use Rattle.awk_types.specs.Datum.{Datum, arr, one}
 use Rattle.awk_types.specs.Gives.{refused_or}
 use Rattle.awk_types.specs.Has.{Has}
 use Rattle.awk_types.specs.ItemLimit.{item_limit}
+use Rattle.awk_types.specs.Parts.{number_of, option_number}
 use Rattle.awk_types.specs.Predicates.{is_leaf, is_null}
 use Rattle.awk_types.specs.Simple.{present}
 use Rattle.awk_types.specs.Value.{Value, int, truth, null, list, row, alt, value_list}
@@ -23,8 +23,7 @@ use Rattle.awk_types.specs.declared.primitive.Primitive.{Primitive}
 use Rattle.awk_types.specs.declared.primitive.Primitive.TheVariants as primitive
 use Rattle.awk_layout.specs.Item.{leaf_value}
 use Rattle.awk_layout.specs.Kinds.{kind_of}
-use Rattle.awk_columns.specs.Columns.{is_present, present_values, joined_items}
-use Rattle.awk_columns.specs.Columns.{lists_among}
+use Rattle.awk_columns.specs.Columns.{is_present, present_values, joined_items, lists_among}
 use Rattle.awk_kernels.specs.Kernels.{total}
 use Rattle.awk_axis.specs.Causes.{first_spoil}
 use Rattle.awk_axis.specs.Lift.{on_list}
@@ -32,30 +31,27 @@ use Rattle.awk_axis.specs.Lifting.{first_told}
 use Rattle.awk_axis.specs.Spoils.{too_many}
 use Rattle.awk_axis.specs.declared.causes.Spoil.{Spoil}
 use Rattle.awk_axis.specs.declared.causes.Spoil.TheVariants.{Size, Overflow}
+use Rattle.awk_numbers.specs.Folds.{extreme_of}
 use Rattle.awk_numbers.specs.declared.extremes.Extreme.{Extreme}
 use Rattle.awk_numbers.specs.declared.extremes.Extreme.TheVariants.{Least, Greatest}
-use Rattle.awk_parts.specs.Fits.{fits}
-use Rattle.awk_present.specs.Numbers.{leaf_of, number_of, numbers, extreme_of, extreme_place}
-use Rattle.awk_present.specs.Numbers.{number_place}
+use Rattle.awk_primitives.specs.Fits.{fits}
+use Rattle.awk_present.specs.Numbers.{leaf_of, numbers, extreme_place, number_place}
 use Rattle.awk_reduce.specs.Reduce.{reduce_of, overflows, overflow_spoil, reduced_spoil}
 use Rattle.awk_reduce.specs.Reducers.{wide, reduced, reduced_type, item_or_null, place_or_null}
 use Rattle.awk_reduce.specs.Totals.{item_reducer, place_reducer}
 use Rattle.awk_reduce.specs.declared.reducer.Reducer.TheVariants.{Sum, Count}
 use Rattle.awk_reduce.proofs.PlaceLaws.{none_of}
-use Rattle.awk_order.specs.Order.{option_number}
 use Rattle.awk_order.proofs.ValueLaws.{value_of, all_numbers}
 use Rattle.awk_hist.proofs.InnermostLaws.{present_few}
 use Rattle.awk_number_laws.specs.Extremes.{IsExtreme}
 use Rattle.awk_number_laws.specs.Reducers.{ReducerLaws}
-use Rattle.awk_number_laws.proofs.ExtremeLaws.{extreme_told, extreme_item}
-use Rattle.awk_number_laws.proofs.ExtremeLaws.{number_there}
+use Rattle.awk_number_laws.proofs.ExtremeLaws.{extreme_told, extreme_item, number_there, number_is}
+use Rattle.awk_number_laws.proofs.ExtremeLaws.{no_numbers, placed, first_place, place_there}
 use Rattle.awk_number_laws.proofs.NumberLaws.{numbers-append}
 use Rattle.awk_number_laws.proofs.ReducedLeaves.{reduced_are}
 use Rattle.awk_number_laws.proofs.Overflows.{no_overflow, overflow}
 use Rattle.awk_number_laws.proofs.SumsJoined.{sums_joined}
 use Rattle.awk_number_laws.proofs.SumLaws.{numbers-ints, total-append, total-joined, totals_are}
-use Rattle.awk_number_laws.proofs.ExtremeLaws.{number_is, no_numbers, placed, first_place}
-use Rattle.awk_number_laws.proofs.ExtremeLaws.{place_there}
 
 -- ---- sums
 

@@ -3,7 +3,7 @@ use Rattle.std.specs.Prelude.{◌≡◌, Bool, true, false, List, [], ◌∷◌,
 use Rattle.std.specs.Prelude.{Option, Some, None, option_map, Ok, refl, if◌then◌else◌}
 use Rattle.std.proofs.Common.{ap, ap₂, sym, ◌∙◌}
 use Rattle.awk_types.specs.DataType.{DataType, unknown, leaf, var, reg, rec, tup, opt, uni}
-use Rattle.awk_types.specs.Datum.{Datum, arr, one}
+use Rattle.awk_types.specs.Datum.{Datum, arr, one, datum_type}
 use Rattle.awk_types.specs.Faults.{limit_fault}
 use Rattle.awk_types.specs.Gives.{◌or◌}
 use Rattle.awk_types.specs.Limit.{limit}
@@ -25,7 +25,6 @@ use Rattle.awk_columns.specs.ListClass.{Class, list_type}
 use Rattle.awk_order.specs.Order.{items_in_order}
 use Rattle.awk_order.specs.Sort.{sort_of, sort_function}
 use Rattle.awk_order.proofs.ValueLaws.{leaf_simple_value}
-use Rattle.awk_law_chains.specs.Innermost.{datum_type}
 use Rattle.awk_law_chains.proofs.Chains.{joined-in_list, length-each}
 use Rattle.awk_number_laws.proofs.InnermostLists.{inside, items_given, one_given, plain_in}
 use Rattle.awk_number_laws.proofs.ListOrders.{length-sorted, twice_is}

@@ -4,7 +4,7 @@ use Rattle.std.specs.Prelude.{Option, Some, None, option_map, Ok, refl, if◌the
 use Rattle.std.proofs.Common.{ap, ap₂, sym, ◌∙◌}
 use Rattle.awk_types.specs.DataType.{DataType, unknown, leaf, var, reg, rec, tup, opt, uni}
 use Rattle.awk_types.specs.Datum.{Datum, arr}
-use Rattle.awk_types.specs.Faults.{limit_fault}
+use Rattle.awk_types.specs.Faults.{limit_fault, limit_refused}
 use Rattle.awk_types.specs.Gives.{refused_or, ◌or◌}
 use Rattle.awk_types.specs.Limit.{limit}
 use Rattle.awk_types.specs.Predicates.{is_leaf, is_list}
@@ -24,7 +24,6 @@ use Rattle.awk_columns.specs.Columns.{joined_items, lists_among, present_values}
 use Rattle.awk_jagged.specs.Jagged.{jagged_of}
 use Rattle.awk_order.specs.Order.{item_order, items_in_order}
 use Rattle.awk_order.specs.Sort.{place_items, sort_of, argsort_of, sort_function, argsort_function}
-use Rattle.awk_select.specs.Picks.{limit_refused}
 use Rattle.awk_law_chains.specs.Arrays.{AreItems, any_length_at, is_lists_to, of_any_length}
 use Rattle.awk_number_laws.specs.Leaves.{on_result}
 use Rattle.awk_number_laws.proofs.InnermostLists.{inside as reached_inside, items_given}

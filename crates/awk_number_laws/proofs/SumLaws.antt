@@ -10,6 +10,7 @@ use Rattle.awk_types.specs.Datum.{Datum, arr, one}
 use Rattle.awk_types.specs.Faults.{limit_fault}
 use Rattle.awk_types.specs.Gives.{◌or◌}
 use Rattle.awk_types.specs.Limit.{limit}
+use Rattle.awk_types.specs.Parts.{number_of}
 use Rattle.awk_types.specs.Predicates.{is_leaf}
 use Rattle.awk_types.specs.Simple.{present, simple, simple_value}
 use Rattle.awk_types.specs.Value.{Value, int, truth, null, list, row, alt, value_list}
@@ -25,7 +26,7 @@ use Rattle.awk_columns.specs.Columns.{is_present, joined_items, list_items, list
 use Rattle.awk_columns.specs.Columns.{present_values}
 use Rattle.awk_frames.specs.Shape.{ends}
 use Rattle.awk_pair_operands.specs.Typed.{IsTyped}
-use Rattle.awk_present.specs.Numbers.{number_of, numbers}
+use Rattle.awk_present.specs.Numbers.{numbers}
 use Rattle.awk_reduce.specs.Reduce.{reduce_of, reducer_function}
 use Rattle.awk_reduce.specs.declared.reducer.Reducer.TheVariants.{Sum}
 use Rattle.awk_law_chains.specs.Innermost.{innermost_lists, leaves_in, lists_in}

@@ -8,7 +8,7 @@ use Rattle.std.proofs.lemmas.Simd.{map-map}
 use Rattle.awk_base.proofs.Every.{all-impl}
 use Rattle.awk_base.proofs.Lists.{map-each}
 use Rattle.awk_types.specs.DataType.{DataType, unknown, leaf, var, reg, rec, tup, opt, uni}
-use Rattle.awk_types.specs.Datum.{Datum, arr, one}
+use Rattle.awk_types.specs.Datum.{Datum, arr, one, datum_type}
 use Rattle.awk_types.specs.Faults.{limit_fault}
 use Rattle.awk_types.specs.Gives.{◌or◌}
 use Rattle.awk_types.specs.Has.{Has}
@@ -21,12 +21,11 @@ use Rattle.awk_types.specs.declared.primitive.Primitive.{Primitive}
 use Rattle.awk_types.proofs.RefusalLaws.{refused_or-Ok, or-both}
 use Rattle.awk_types.proofs.SimpleLaws.{present_stays}
 use Rattle.awk_types.proofs.Trees.{value_list-from}
+use Rattle.awk_types.proofs.NullLaws.{in_option-simple}
 use Rattle.awk_kernels.specs.Kernels.{total}
-use Rattle.awk_view.proofs.SettleLaws.{in_option-simple}
 use Rattle.awk_axis.specs.Causes.{first_spoil}
 use Rattle.awk_axis.specs.Lift.{lifted_type, lifted_value, on_list, refusal_at}
-use Rattle.awk_axis.specs.Lifting.{on_items, on_whole, refusal_fault, spoil_fault}
-use Rattle.awk_axis.specs.Lifting.{first_told}
+use Rattle.awk_axis.specs.Lifting.{on_items, on_whole, refusal_fault, spoil_fault, first_told}
 use Rattle.awk_axis.specs.ListFunction.{ListFunction}
 use Rattle.awk_axis.specs.Spoils.{spoil_at, too_many}
 use Rattle.awk_axis.specs.declared.place.Reach.TheVariants.{Innermost}
@@ -37,7 +36,7 @@ use Rattle.awk_present.specs.Numbers.{leaf_of, numbers}
 use Rattle.awk_reduce.specs.Reduce.{reduce_of, reducer_function}
 use Rattle.awk_reduce.specs.Reducers.{wide}
 use Rattle.awk_reduce.specs.declared.reducer.Reducer.TheVariants.{Sum}
-use Rattle.awk_law_chains.specs.Innermost.{datum_type, innermost_lists, lists_in}
+use Rattle.awk_law_chains.specs.Innermost.{innermost_lists, lists_in}
 use Rattle.awk_law_chains.proofs.ChainEnds.{list-at, option-at}
 use Rattle.awk_law_chains.proofs.Chains.{is_lists, items-in_list}
 use Rattle.awk_law_chains.proofs.Limits.{none_map}

@@ -1,25 +1,24 @@
 -- Levels, classes and rows of two operands that change places, and the values there.
 use Rattle.std.specs.Prelude.{◌≡◌, ℕ, zero, suc, ◌==◌, max, Bool, true, false, not, ◌&&◌, ◌||◌}
-use Rattle.std.specs.Prelude.{List, [], ◌∷◌, map, length, Some, None}
-use Rattle.std.specs.Prelude.{refl, if◌then◌else◌}
+use Rattle.std.specs.Prelude.{List, [], ◌∷◌, map, length, Some, None, refl, if◌then◌else◌}
 use Rattle.std.specs.List.{list_any, range_with_len, flat_map}
 use Rattle.std.proofs.Common.{ap, ap₂, sym, ◌∙◌, arith}
 use Rattle.std.proofs.lemmas.Bool.{not-false, or_parts}
 use Rattle.awk_types.specs.DataType.{DataType}
+use Rattle.awk_types.specs.Parts.{item_of}
 use Rattle.awk_types.specs.Predicates.{is_list, is_leaf}
 use Rattle.awk_types.specs.Simple.{present, is_option, in_list}
 use Rattle.awk_types.specs.Value.{Value, null, list, row, value, no_values, values_from}
 use Rattle.awk_types.proofs.Trees.{value_list-from}
 use Rattle.awk_columns.specs.Columns.{is_present, part_at}
 use Rattle.awk_columns.specs.ListClass.{Class}
-use Rattle.awk_pair_operands.specs.Paired.{to_leaves, paired_value, is_uneven}
-use Rattle.awk_pair_operands.specs.Paired.{is_wrong}
+use Rattle.awk_pair_operands.specs.Paired.{to_leaves, paired_value, is_uneven, is_wrong}
 use Rattle.awk_pair_sides.specs.Levels.{Role, listed, stretched, repeated, role, opens, some_option}
-use Rattle.awk_pair_sides.specs.Levels.{item_of, item_types, level_class, role_class}
-use Rattle.awk_pair_sides.specs.Levels.{common_class, is_longer, stretches}
+use Rattle.awk_pair_sides.specs.Levels.{item_types, level_class, role_class, common_class}
+use Rattle.awk_pair_sides.specs.Levels.{is_longer, stretches}
 use Rattle.awk_pair_sides.specs.Sides.{Side, each, always, side, side_at, rows_of, equally_long}
-use Rattle.awk_pair_sides.specs.Sides.{common_length, inner_rows, level_sides, misses}
-use Rattle.awk_pair_sides.specs.Sides.{is_whole, differ}
+use Rattle.awk_pair_sides.specs.Sides.{common_length, inner_rows, level_sides, misses, is_whole}
+use Rattle.awk_pair_sides.specs.Sides.{differ}
 use Rattle.awk_law_chains.proofs.Chains.{Chain, close, layer, at_ends}
 use Rattle.awk_number_laws.proofs.LeafArrays.{shared}
 

@@ -1,11 +1,11 @@
 -- The least or the greatest item of a list, and its first place.
 use Rattle.std.specs.Prelude.{◌≡◌, ℕ, ◌<◌, true, false, List, length, get_or}
 use Rattle.std.specs.List.{Contains}
+use Rattle.awk_types.specs.Parts.{number_of}
 use Rattle.awk_types.specs.Value.{Value, null}
 use Rattle.awk_columns.specs.Columns.{is_present}
 use Rattle.awk_numbers.specs.Folds.{beats}
 use Rattle.awk_numbers.specs.declared.extremes.Extreme.{Extreme}
-use Rattle.awk_present.specs.Numbers.{number_of}
 
 -- an item that is not null, and that no other such item is less than, or greater than
 pub record IsExtreme (how : Extreme) (vs : List Value) (v : Value) : Type 0 where

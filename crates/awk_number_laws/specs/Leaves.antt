@@ -5,9 +5,11 @@ use Rattle.std.specs.Prelude.{false, not, List, [], ◌∷◌, length, map, if�
 use Rattle.std.specs.Prelude.{Result, Ok, Err}
 use Rattle.std.specs.List.{AllByRecursion}
 use Rattle.awk_types.specs.DataType.{DataType, leaf, var, reg, opt}
-use Rattle.awk_types.specs.Datum.{Datum, arr, one}
+use Rattle.awk_types.specs.Datum.{Datum, arr, one, datum_type}
+use Rattle.awk_types.specs.Faults.{limit_refused}
 use Rattle.awk_types.specs.Gives.{refused_or, ◌or◌}
 use Rattle.awk_types.specs.Has.{Has}
+use Rattle.awk_types.specs.Parts.{number_of}
 use Rattle.awk_types.specs.Predicates.{is_null}
 use Rattle.awk_primitives.specs.Promotion.{is_whole}
 use Rattle.awk_types.specs.Simple.{IsSimple}
@@ -23,7 +25,7 @@ use Rattle.awk_columns.specs.Columns.{part_at}
 use Rattle.awk_frames.specs.Framed.{over}
 use Rattle.awk_layout.specs.Filler.{Filler, datum}
 use Rattle.awk_leaves.specs.Table.{choice_judged}
-use Rattle.awk_leaves.specs.Values.{binary_at, unary_at, chosen_at, number_of}
+use Rattle.awk_leaves.specs.Values.{binary_at, unary_at, chosen_at}
 use Rattle.awk_leaves.specs.Values.{binary_values, unary_values, choice_values}
 use Rattle.awk_leaves.specs.declared.leaf_type.LeafType.{LeafType}
 use Rattle.awk_leaves.specs.declared.leaf_type.LeafType.TheVariants.{Of}
@@ -31,14 +33,13 @@ use Rattle.awk_leaves.specs.declared.operation.Binary.TheVariants.{Calculate, Te
 use Rattle.awk_leaves.specs.declared.operation.Unary.TheVariants.{Not, Negate}
 use Rattle.awk_ends.specs.Operands.{at_end, both_data, data_in, in_primitive, leaf_in}
 use Rattle.awk_pair_operands.specs.Answer.{shared_ends}
-use Rattle.awk_pair_operands.specs.Pairs.{datum_from, item_type, pair_refused, pair_type}
+use Rattle.awk_pair_operands.specs.Pairs.{datum_from, pair_refused, pair_type}
 use Rattle.awk_pair_operands.specs.Pairs.{pair_values, some_array}
 use Rattle.awk_pair_operands.specs.Typed.{IsTyped}
-use Rattle.awk_pair_types.specs.Limits.{limit_refused}
 use Rattle.awk_arith.specs.Binary.{binary_of}
 use Rattle.awk_arith.specs.Unary.{unary_of}
 use Rattle.awk_choose.specs.Choice.{are_leaves, choose_of, far, result_type}
-use Rattle.awk_law_chains.specs.Innermost.{datum_type, leaves_in}
+use Rattle.awk_law_chains.specs.Innermost.{leaves_in}
 
 -- the comparison that holds exactly where another does not
 abbrev pub opposite : Compare → Compare
@@ -102,9 +103,9 @@ paired_beside ds p =
 abbrev pub beside : Datum → Datum → Result Datum Fault
 beside c x =
     let ds = c ∷ x ∷ [] in
-    let of = leaf_in (item_type x) in
+    let of = leaf_in (datum_type x) in
     if not (are_leaves ds) then Err WrongType
-    else in_primitive (choice_judged (leaf_in (item_type c)) of of) (paired_beside ds)
+    else in_primitive (choice_judged (leaf_in (datum_type c)) of of) (paired_beside ds)
 
 pub record LeafLaws : Type 0 where
   -- where of c, x and x is x, where c is not null

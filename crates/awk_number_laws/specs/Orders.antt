@@ -3,19 +3,19 @@ use Rattle.std.specs.Prelude.{◌≡◌, ℕ, ◌<◌, Bool, true, false, List, 
 use Rattle.std.specs.List.{range_with_len}
 use Rattle.std.specs.List.Sorted.{IsPermutation}
 use Rattle.awk_types.specs.DataType.{DataType}
-use Rattle.awk_types.specs.Datum.{Datum, arr}
+use Rattle.awk_types.specs.Datum.{Datum, arr, datum_type}
+use Rattle.awk_types.specs.Parts.{number_of}
 use Rattle.awk_types.specs.Predicates.{is_leaf, is_list, is_null}
 use Rattle.awk_types.specs.Simple.{IsSimple, present}
 use Rattle.awk_types.specs.Value.{Value, null}
 use Rattle.awk_axis.specs.declared.place.Reach.TheVariants.{Innermost}
 use Rattle.awk_jagged.specs.Jagged.{jagged_of}
-use Rattle.awk_present.specs.Numbers.{number_of}
 use Rattle.awk_select.specs.Picks.{picked, take_places, take_of}
 use Rattle.awk_sorting.specs.Order.{number_first}
 use Rattle.awk_order.specs.Order.{item_order, items_in_order}
 use Rattle.awk_order.specs.Sort.{place_items, sort_of, argsort_of}
 use Rattle.awk_law_chains.specs.Arrays.{AreItems, of_any_length}
-use Rattle.awk_law_chains.specs.Innermost.{datum_type, innermost_lists}
+use Rattle.awk_law_chains.specs.Innermost.{innermost_lists}
 use Rattle.awk_number_laws.specs.Leaves.{on_result}
 
 -- of two items that are not null the later one does not come before the earlier one by its number,

@@ -3,14 +3,13 @@ use Rattle.std.specs.Prelude.{◌≡◌, ℕ, ◌<◌, ◌-◌, pos, true, false
 use Rattle.std.specs.Prelude.{Bool, Err, [], ◌∷◌, if◌then◌else◌}
 use Rattle.std.specs.List.{AllByRecursion, count_by, flat_map, list_any}
 use Rattle.awk_types.specs.DataType.{DataType, var, reg, opt}
-use Rattle.awk_types.specs.Datum.{Datum, arr, one}
+use Rattle.awk_types.specs.Datum.{Datum, arr, one, datum_type}
 use Rattle.awk_types.specs.Has.{Has}
 use Rattle.awk_types.specs.Predicates.{is_leaf, is_null}
 use Rattle.awk_types.specs.Simple.{IsSimple, present}
 use Rattle.awk_types.specs.Value.{Value, int, null}
 use Rattle.awk_types.specs.declared.fault.Fault.TheVariants.{Overflow}
-use Rattle.awk_columns.specs.Columns.{is_present, joined_items, list_items, list_of}
-use Rattle.awk_columns.specs.Columns.{present_values}
+use Rattle.awk_columns.specs.Columns.{is_present, joined_items, list_items, list_of, present_values}
 use Rattle.awk_numbers.specs.declared.extremes.Extreme.{Extreme}
 use Rattle.awk_pair_operands.specs.Typed.{IsTyped}
 use Rattle.awk_kernels.specs.Kernels.{total}
@@ -21,7 +20,7 @@ use Rattle.awk_reduce.specs.Totals.{item_reducer, place_reducer}
 use Rattle.awk_reduce.specs.declared.reducer.Reducer.{Reducer}
 use Rattle.awk_reduce.specs.declared.reducer.Reducer.TheVariants.{Sum, Count}
 use Rattle.awk_number_laws.specs.Extremes.{IsExtreme, IsFirstExtreme}
-use Rattle.awk_law_chains.specs.Innermost.{datum_type, innermost_lists, innermost_type, leaves_in}
+use Rattle.awk_law_chains.specs.Innermost.{innermost_lists, innermost_type, leaves_in}
 
 -- whether a type is of lists of leaves
 abbrev pub holds_leaves : DataType → Bool

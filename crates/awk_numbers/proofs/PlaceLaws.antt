@@ -1,11 +1,10 @@
 -- Where the place stands that so many places stand before, while numbers are read.
 use Rattle.std.proofs.Common.{◌≡◌, ℕ, suc, ◌+◌, ◌-◌, ◌<◌, ◌≤◌, List, [], ◌∷◌, length, drop}
-use Rattle.std.proofs.Common.{map, get_or, refl, ap, sym, ◌∙◌, arith}
-use Rattle.std.specs.Prelude.{ℤ, pos, Bool, true, false, ◌==◌, Option, Some, None}
-use Rattle.std.specs.Prelude.{if◌then◌else◌, IfSome}
+use Rattle.std.proofs.Common.{map, refl, sym, arith}
+use Rattle.std.specs.Prelude.{ℤ, Bool, true, false, ◌==◌, Option, Some, None, if◌then◌else◌, IfSome}
 use Rattle.std.specs.List.{slice_range}
 use Rattle.std.specs.Option.{option_map}
-use Rattle.std.proofs.lemmas.List.{drop_more, length-map}
+use Rattle.std.proofs.lemmas.List.{length-map}
 use Rattle.std.proofs.lemmas.List.Edits.{length-between}
 use Rattle.awk_numbers.specs.Places.{is_place, nth_true, nth_place}
 
@@ -16,13 +15,6 @@ further i o = option_map (λ k. i + k) o
 -- what is looked for among all numbers is looked for among those from a place on
 abbrev pub IsLeft : ℕ → ℕ → List ℤ → ℕ → Type 0
 IsLeft before left zs i = nth_place before zs ≡ further i (nth_place left (drop i zs))
-
--- the numbers from a place on, the first of them apart
-next : (n i : ℕ) (zs : List ℤ) (b : Bool) → i < length zs → is_place (get_or zs i (pos 0)) ≡ b
-    → nth_place n (drop i zs) ≡ nth_true n (b ∷ map is_place (drop (i + 1) zs))
-next n i zs b l e =
-    ap (nth_place n) (drop_more zs i (pos 0) l)
-    ∙ ap (λ c. nth_true n (c ∷ map is_place (drop (i + 1) zs))) e
 
 later : (n k : ℕ) (o : Option ℕ) → option_map suc o ≡ Some k → ((m : ℕ) → o ≡ Some m → m < n)
     → k < suc n

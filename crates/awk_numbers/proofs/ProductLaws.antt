@@ -1,7 +1,6 @@
 -- Products: a factor 0, and those that are far from 0.
 use Rattle.std.proofs.Common.{◌≡◌, ℕ, zero, suc, ◌+◌, ◌-◌, ◌<◌, ◌≤◌, List, [], ◌∷◌, ◌++◌, length}
-use Rattle.std.proofs.Common.{get_or}
-use Rattle.std.proofs.Common.{arith, refl, ap, sym, ◌∙◌, subst}
+use Rattle.std.proofs.Common.{get_or, arith, refl, ap, sym, ◌∙◌, subst}
 use Rattle.std.specs.Prelude.{ℤ, pos, negsuc, ◌*ℤ◌, unsigned_abs, Bool, true, false, ◌||◌}
 use Rattle.std.specs.List.{fold, list_any, slice_range}
 use Rattle.std.proofs.lemmas.Int.{ints, unsigned_abs-mul}
@@ -39,7 +38,7 @@ zero_among a (z ∷ zs) h = go (is_zero z) refl (zero_among (a *ℤ z) zs)
 pub product_zero : (zs : List ℤ) → list_any is_zero zs ≡ true → product zs ≡ pos 0
 product_zero zs h = zero_among (pos 1) zs h
 
-some_factor : (x : ℤ) → is_zero x ≡ false → 0 < unsigned_abs x
+pub some_factor : (x : ℤ) → is_zero x ≡ false → 0 < unsigned_abs x
 some_factor (pos zero) e = cc
 some_factor (pos (suc n)) e = omega arith
 some_factor (negsuc n) e = omega arith

@@ -1,7 +1,8 @@
 -- What whole numbers come to: a sum, a product, a count, the place of the least or the greatest.
 use Rattle.std.specs.Prelude.{◌≡◌, ℕ, ◌≤◌, ℤ, pos, ◌*ℤ◌, unsigned_abs, int_lt, Bool, if◌then◌else◌}
 use Rattle.std.specs.Prelude.{List, length, map, Option, Some, None}
-use Rattle.std.specs.List.{fold, list_any, list_all, count_by}
+use Rattle.std.specs.Int.{int_min, int_max}
+use Rattle.std.specs.List.{fold, reduce, list_any, list_all, count_by}
 use Rattle.std.specs.Ordering.{int_eq}
 use Rattle.awk_lanes.specs.Column.{Column}
 use Rattle.awk_lanes.specs.Numbers.{element, number, is_nonzero}
@@ -75,3 +76,8 @@ beats Greatest x y = int_lt y x
 abbrev pub first_extreme : Extreme → List ℤ → Option ℕ
 first_extreme Least zs = first_least zs
 first_extreme Greatest zs = first_greatest zs
+
+-- the least number or the greatest, or none of none
+abbrev pub extreme_of : Extreme → List ℤ → Option ℤ
+extreme_of Least zs = reduce int_min zs
+extreme_of Greatest zs = reduce int_max zs

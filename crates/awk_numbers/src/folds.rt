@@ -43,7 +43,7 @@ fn has_zero<R: Row>(row: &R) -> bool
 
 /// A product, if it is nearer to 0 than 2 to the power of 64.
 #[inline(always)]
-fn near(so_far: i128, factor: i128) -> Option<i128>
+pub fn near(so_far: i128, factor: i128) -> Option<i128>
     ensures near { IsNear (so_far *ℤ factor) result }
     ensures small { (z : ℤ) → result ≡ Some z → unsigned_abs z < 18446744073709551616 }
 {

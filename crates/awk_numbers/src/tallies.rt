@@ -42,7 +42,8 @@ impl Pass for Nonzero {
 }
 
 /// 1 for a number that is not 0, else 0.
-fn one_if(z: i128) -> u64
+#[inline(always)]
+pub fn one_if(z: i128) -> u64
     ensures one { result ≡ cond (is_nonzero z) 1 0 }
     ensures small { result ≤ 1 }
 {

@@ -1,5 +1,4 @@
 pub mod LayoutParts
-pub mod PartLimits
 pub mod UnionItems
 pub mod OpenedKinds
 pub mod OpenedArrays

@@ -8,6 +8,7 @@ use Rattle.awk_lanes.specs.Column.{Column}
 use Rattle.awk_layout.specs.Layout.{Layout}
 use Rattle.awk_layout.specs.Typing.{array_type}
 use Rattle.awk_columns.specs.ListClass.{Class, list_type}
+use Rattle.awk_columns.proofs.ListTypes.{list_no_option}
 use Rattle.awk_open.specs.Opened.{IsKindOf}
 use Rattle.awk_open.specs.declared.opening.Opened.{Opened}
 use Rattle.awk_open.specs.declared.opening.Opened.TheVariants as kinds
@@ -35,10 +36,6 @@ only_leaves t (kinds.Row names ys) k h e l =
     not_of is_leaf t _ k (row_no_leaf names (types_from (map array_type ys))) h
 only_leaves t (kinds.Option j y) k h e l = true≢false (sym h ∙ ap is_leaf k)
 only_leaves t (kinds.Union g j ys) k h e l = true≢false (sym h ∙ ap is_leaf k)
-
-list_no_option : (c : Class) (t : DataType) → is_option (list_type c t) ≡ false
-list_no_option None t = refl
-list_no_option (Some n) t = refl
 
 row_no_option : (names : Option (List Name)) (ts : DataTypes)
     → is_option (row_type names ts) ≡ false

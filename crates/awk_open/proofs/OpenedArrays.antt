@@ -10,6 +10,8 @@ use Rattle.awk_types.specs.DataType.{opt, uni, types_from, row_type}
 use Rattle.awk_types.specs.Limit.{limit}
 use Rattle.awk_types.specs.Simple.{present, is_option, is_union, option_if, present_alternatives}
 use Rattle.awk_types.specs.Simple.{simple, simples}
+use Rattle.awk_types.proofs.SimpleLaws.{present_stays}
+use Rattle.awk_types.proofs.PartLimits.{within_var, within_reg, within_row}
 use Rattle.awk_lanes.specs.declared.kind.Kind.TheVariants.{I64}
 use Rattle.awk_lanes.specs.Column.{Column}
 use Rattle.awk_lanes.specs.Numbers.{nat_of}
@@ -31,8 +33,8 @@ use Rattle.awk_open.specs.Opened.{HasLengths}
 use Rattle.awk_open.specs.declared.opening.Opened.{Opened}
 use Rattle.awk_open.specs.declared.opening.Opened.TheVariants.{Option as Optional}
 use Rattle.awk_lanes.proofs.MadeLanes.{size-lane_of, at-lane_of}
+use Rattle.awk_layout.proofs.JudgedTypes.{offsets_within}
 use Rattle.awk_gather.proofs.FollowedIndexes.{item_at_place}
-use Rattle.awk_open.proofs.PartLimits.{within_var, within_reg, within_row}
 use Rattle.awk_open.proofs.OpenedKinds.{opened_empty, type-rows}
 
 -- ---- types of what is bare
@@ -85,16 +87,6 @@ option_present (reg n t) e = cc
 option_present (rec ns ts) e = cc
 option_present (tup ts) e = cc
 option_present (uni ts) e = cc
-
-none_present : (t : DataType) → is_option t ≡ false → present t ≡ t
-none_present (opt t) e = cc
-none_present unknown e = refl
-none_present (leaf p) e = refl
-none_present (var t) e = refl
-none_present (reg n t) e = refl
-none_present (rec ns ts) e = refl
-none_present (tup ts) e = refl
-none_present (uni ts) e = refl
 
 -- the type that is left
 left_type : (x y : Layout) (p k : Column) → IsPeeled x p k y
@@ -165,7 +157,7 @@ pub left_same : (x y : Layout) (p k : Column) → IsPeeled x p k y
     → is_union (present (array_type x)) ≡ false → is_option (array_type x) ≡ false
     → IsPlain y × (array_type y ≡ array_type x)
 left_same x y p k h u o =
-    let t = left_type x y p k h u in (t.0, t.1 ∙ none_present (array_type x) o)
+    let t = left_type x y p k h u in (t.0, t.1 ∙ present_stays (array_type x) o)
 
 pub opened_through : (x y : Layout) (p k : Column) (r : Opened)
     → p ≡ lane_of I64 (len x) (λ i. pos i) → IsPeeled x p k y
@@ -190,10 +182,6 @@ opened_through x y p k r e h u o w =
 pub lists_within : (s t : Column) (x y : Layout) → lists s t y ≡ x → limit (array_type x) ≡ None
     → limit (array_type y) ≡ None
 lists_within s t x y e h = within_var (array_type y) (ap (λ z. limit (array_type z)) e ∙ h)
-
-pub offsets_within : (o : Column) (x y : Layout) → offset_lists o y ≡ x
-    → limit (array_type x) ≡ None → limit (array_type y) ≡ None
-offsets_within o x y e h = within_var (array_type y) (ap (λ z. limit (array_type z)) e ∙ h)
 
 pub regular_within : (size n : ℕ) (x y : Layout) → regular size n y ≡ x
     → limit (array_type x) ≡ None → limit (array_type y) ≡ None

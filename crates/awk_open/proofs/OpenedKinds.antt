@@ -26,8 +26,8 @@ use Rattle.awk_open.specs.declared.opening.Opened.{Opened}
 use Rattle.awk_open.specs.declared.opening.Opened.TheVariants.{Empty, Leaf, Items, Row}
 use Rattle.awk_lanes.proofs.MadeLanes.{size-lane_of, at-lane_of}
 use Rattle.awk_gather_lanes.proofs.PickedLanes.{size-picked, at-picked, at-nexts, places_le}
-use Rattle.awk_gather_lanes.proofs.PickedLanes.{spans_picked}
-use Rattle.awk_gather_lanes.proofs.PickedLanes.{spans_of_offsets, blocks_of_places}
+use Rattle.awk_gather_lanes.proofs.PickedLanes.{spans_picked, spans_of_offsets, blocks_of_places}
+use Rattle.awk_columns.proofs.ArrayLaws.{item-offset_lists}
 use Rattle.awk_open.proofs.UnionItems.{simples-types}
 
 -- the items of a list, simplified one by one
@@ -42,12 +42,6 @@ pub item-lists : (s t : Column) (x : Layout) (i : ℕ)
     (place_at t i - place_at s i))
 item-lists s t x i =
     ap list (run_simple (layout_type x) (item x) (place_at s i) (place_at t i - place_at s i))
-
-pub item-offset_lists : (o : Column) (x : Layout) (i : ℕ)
-    → array_item (offset_lists o x) i ≡ list (run (array_item x) (place_at o i)
-    (place_at o (i + 1) - place_at o i))
-item-offset_lists o x i =
-    ap list (run_simple (layout_type x) (item x) (place_at o i) (place_at o (i + 1) - place_at o i))
 
 pub item-regular : (size n : ℕ) (x : Layout) (i : ℕ)
     → array_item (regular size n x) i ≡ list (run (array_item x) (i * size) size)

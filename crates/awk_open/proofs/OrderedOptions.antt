@@ -6,17 +6,16 @@ use Rattle.std.specs.List.{range_with_len, flat_map}
 use Rattle.std.proofs.lemmas.Int.{ints}
 use Rattle.std.proofs.lemmas.List.{length-map}
 use Rattle.std.proofs.lemmas.List.FromFn.{map-range_with_len_more}
-use Rattle.std.proofs.lemmas.Simd.{map-map}
 use Rattle.awk_types.specs.DataType.{opt}
-use Rattle.awk_types.specs.Simple.{simple_value, is_option}
+use Rattle.awk_types.specs.Simple.{is_option}
 use Rattle.awk_types.specs.Value.{Value, null, int, truth, list, row, alt}
 use Rattle.awk_lanes.specs.declared.kind.Kind.TheVariants.{I64}
 use Rattle.awk_lanes.specs.Column.{Column}
 use Rattle.awk_lanes.specs.Places.{at, size_of, option_place, option_place_at, IsOptionalIndex}
 use Rattle.awk_layout.specs.Layout.{Layout}
 use Rattle.awk_layout.specs.Valid.{len, IsValid}
-use Rattle.awk_layout.specs.Item.{item, at_option}
-use Rattle.awk_layout.specs.Typing.{layout_type, array_type, array_items}
+use Rattle.awk_layout.specs.Item.{at_option}
+use Rattle.awk_layout.specs.Typing.{array_type, array_items}
 use Rattle.awk_gather.specs.Arrays.{array_item}
 use Rattle.awk_columns.specs.Columns.{is_present, option_index}
 use Rattle.awk_counts.specs.Counted.{first_of, present_place, present_at, count_or_null}
@@ -31,17 +30,10 @@ use Rattle.awk_base.proofs.Ranges.{map-in}
 use Rattle.awk_columns.proofs.ArrayLaws.{array_items-at}
 use Rattle.awk_columns.proofs.ReachedContents.{below-first_of, first_of-at, reached-len}
 use Rattle.awk_columns.proofs.ReachedContents.{reached-item}
+use Rattle.awk_columns.proofs.PresentItems.{not_null}
 use Rattle.awk_open.proofs.ItemShapes.{present_item}
 
 -- ---- values that are present
-
-not_null : (v : Value) → (v ≡ null → ⊥) → is_present v ≡ true
-not_null null h = absurd (h refl)
-not_null (int z) h = refl
-not_null (truth b) h = refl
-not_null (list vs) h = refl
-not_null (row vs) h = refl
-not_null (alt k v) h = refl
 
 filter-present : (v : Value) (vs : List Value) → is_present v ≡ true
     → filter is_present (v ∷ vs) ≡ v ∷ filter is_present vs

@@ -29,10 +29,11 @@ use Rattle.awk_open.specs.Opened.{IsOpened}
 use Rattle.awk_columns.specs.Reached.{IsReached, AreReached}
 use Rattle.awk_open.specs.declared.opening.Opened.TheVariants.{Union}
 use Rattle.awk_counts.proofs.FirstPlaces.{length-first_of, first_of-room}
-use Rattle.awk_open.proofs.LayoutParts.{len_of-get, len_of-nth}
+use Rattle.awk_open.proofs.LayoutParts.{len_of-nth}
 use Rattle.awk_lanes.proofs.MadeLanes.{size-lane_of, at-lane_of}
 use Rattle.awk_columns.proofs.ArrayLaws.{array_items-at}
 use Rattle.awk_base.proofs.Ranges.{map-in}
+use Rattle.awk_layout.proofs.LayoutLists.{len_of-get}
 use Rattle.awk_columns.proofs.ReachedContents.{below-first_of, first_of-at, reached-len}
 use Rattle.awk_columns.proofs.ReachedContents.{reached-item}
 

@@ -11,8 +11,9 @@ use Rattle.awk_types.specs.Value.{Value, null, alt}
 use Rattle.awk_types.specs.Simple.{IsSimple, ArePlain, present, is_option, is_union, alternatives}
 use Rattle.awk_types.specs.Simple.{present_alternatives, union_of}
 use Rattle.awk_types.proofs.SimpleLaws.{present_alternatives_plain, present_alternatives_stay}
-use Rattle.awk_types.proofs.SimpleLaws.{union_of_stays}
+use Rattle.awk_types.proofs.SimpleLaws.{union_of_stays, present_simple}
 use Rattle.awk_types.proofs.Trees.{types_from-list}
+use Rattle.awk_types.proofs.PartLimits.{few_alternatives, within_uni, present_within}
 use Rattle.awk_lanes.specs.declared.kind.Kind.TheVariants.{I8, I64}
 use Rattle.awk_lanes.specs.Column.{Column}
 use Rattle.awk_lanes.specs.Numbers.{nat_of}
@@ -33,7 +34,6 @@ use Rattle.awk_open.specs.Settled.{settled_tag, settled_place, settled_index, Is
 use Rattle.awk_open.specs.Settled.{CanUnite, IsSettled}
 use Rattle.awk_open.proofs.LayoutParts.{len_of-nth}
 use Rattle.awk_lanes.proofs.MadeLanes.{size-lane_of, at-lane_of}
-use Rattle.awk_open.proofs.PartLimits.{few_alternatives, within_uni, within_opt}
 use Rattle.awk_open.proofs.UnionItems.{simples-types, item-union}
 use Rattle.awk_open.proofs.OpenedArrays.{all_within, option_present}
 use Rattle.awk_open.proofs.ItemShapes.{single_item, united_item, present_item, some_alternatives}
@@ -236,16 +236,6 @@ whole_inside (reg n t) s a = cc
 whole_inside (rec ns ts) s a = cc
 whole_inside (tup ts) s a = cc
 
-simple_present : (t : DataType) → IsSimple t → IsSimple (present t)
-simple_present (opt t) s = s.1
-simple_present unknown s = s
-simple_present (leaf p) s = s
-simple_present (var t) s = s
-simple_present (reg n t) s = s
-simple_present (rec ns ts) s = s
-simple_present (tup ts) s = s
-simple_present (uni ts) s = s
-
 -- the type of a union without its option
 union_within : (t : DataType) → is_union t ≡ true → t ≡ uni (types_from (alternatives t))
 union_within (uni ts) a = ap uni (sym (types_from-list ts))
@@ -257,23 +247,13 @@ union_within (reg n t) a = cc
 union_within (rec ns ts) a = cc
 union_within (tup ts) a = cc
 
-present_limit : (t : DataType) → limit t ≡ None → limit (present t) ≡ None
-present_limit (opt t) h = within_opt t h
-present_limit unknown h = h
-present_limit (leaf p) h = h
-present_limit (var t) h = h
-present_limit (reg n t) h = h
-present_limit (rec ns ts) h = h
-present_limit (tup ts) h = h
-present_limit (uni ts) h = h
-
 limit_united : (x : Layout) (ys : List Layout)
     → map array_type ys ≡ present_alternatives (array_type x)
     → is_union (present (array_type x)) ≡ true → limit (array_type x) ≡ None
     → limit (uni (types_from (map array_type ys))) ≡ None
 limit_united x ys e u h =
     ap (λ ts. limit (uni (types_from ts))) e ∙ ap limit
-    (sym (union_within (present (array_type x)) u)) ∙ present_limit (array_type x) h
+    (sym (union_within (present (array_type x)) u)) ∙ present_within (array_type x) h
 
 pub few_parts : (x : Layout) (ys : List Layout)
     → map array_type ys ≡ present_alternatives (array_type x)
@@ -394,7 +374,7 @@ pub settled_limit : (x y : Layout) (t k i : Column) (ys : List Layout)
     → is_union (present (array_type x)) ≡ true → IsSimple (array_type x)
     → limit (array_type x) ≡ None → IsSettled t k ys i y → limit (array_type y) ≡ None
 settled_limit x y t k i ys e u s h r =
-    ap limit (settled_type x y t k i ys e u s r) ∙ present_limit (array_type x) h
+    ap limit (settled_type x y t k i ys e u s r) ∙ present_within (array_type x) h
   where
     settled_type : (x y : Layout) (t k i : Column) (ys : List Layout)
         → map array_type ys ≡ present_alternatives (array_type x)
@@ -402,7 +382,7 @@ settled_limit x y t k i ys e u s h r =
         → array_type y ≡ present (array_type x)
     settled_type x y t k i ys e u s r =
         r.typ ∙ ap union_of e ∙ whole_inside (present (array_type x))
-        (simple_present (array_type x) s) u
+        (present_simple (array_type x) s) u
 
 pub opened_united : (x y z : Layout) (p t k i : Column) (ys : List Layout)
     → p ≡ lane_of I64 (len x) (λ i. pos i) → IsValid x → is_union (present (array_type x)) ≡ true
@@ -412,7 +392,7 @@ opened_united x y z p t k i ys e v u o s q r w c = rw c (record {
   kind =
       option_present (array_type x) o ∙ ap opt
       (sym (r.typ ∙ ap union_of q.types ∙ whole_inside (present (array_type x))
-      (simple_present (array_type x) s) u));
+      (present_simple (array_type x) s) u));
   size = m;
   valid = (omega (arith, m, len-fits x v), r.index, w);
   lengths = tt;

@@ -25,8 +25,8 @@ use Rattle.awk_gather.specs.Peeled.{through, followed, IsPeeled}
 use Rattle.awk_open.specs.Spread.{spread_at, spread_of, shift, wide, wides, nth_of, chosen, Fits}
 use Rattle.awk_open.specs.Spread.{AreChosen, IsSpread, alternative, or_else, joined_index}
 use Rattle.awk_open.specs.Spread.{joined_tags}
-use Rattle.awk_open.proofs.LayoutParts.{len_of-get}
 use Rattle.awk_lanes.proofs.MadeLanes.{size-lane_of, at-lane_of}
+use Rattle.awk_layout.proofs.LayoutLists.{len_of-get}
 use Rattle.awk_gather.proofs.FollowedIndexes.{size-followed, at-followed, index_followed}
 use Rattle.awk_gather.proofs.PeeledNodes.{option_same}
 use Rattle.awk_open.proofs.UnionItems.{spread-union, alternatives-union, after_option}
@@ -205,12 +205,6 @@ chosen_start t j p T K xs e f = rw (e, f) (record {
       (λ q. absurd (omega (arith, ints)));
   items = λ i l. rw (at-lane_of I64 (size_of p) (λ i. negsuc 0) i l) (sym (null_place (at p i)));
 })
-
-wides-take : (xs : List Layout) (a : ℕ) (y : Layout) → slice_get xs a ≡ Some y
-    → wides (take (suc a) xs) ≡ wides (take a xs) + wide y
-wides-take [] a y e = cc
-wides-take (x ∷ xs) zero y e = let f : x ≡ y = cc in rw f (omega arith)
-wides-take (x ∷ xs) (suc a) y e = omega (arith, wides-take xs a y e)
 
 held-take : (xs : List Layout) (a : ℕ) (y : Layout) → slice_get xs a ≡ Some y
     → held_all (layouts_from (take (suc a) xs)) ≡ held_all (layouts_from (take a xs)) + held y

@@ -1,19 +1,18 @@
 -- Arrays whose lanes are those of their outermost kind.
-use Rattle.std.proofs.Common.{◌≡◌, ℕ, ◌+◌, ◌-◌, ◌<◌, ◌≤◌, arith, refl, ap, sym, ◌∙◌, subst}
-use Rattle.std.proofs.Common.{get_or-take, get_or-drop, length-take, length-drop, drop, take, suc}
+use Rattle.std.proofs.Common.{◌≡◌, ℕ, ◌+◌, ◌-◌, ◌<◌, arith, refl, ap, sym, ◌∙◌, subst, take, suc}
 use Rattle.std.proofs.Common.{zero, add-one, slice_get, Some, List, [], ◌∷◌}
-use Rattle.std.specs.Prelude.{pos, Option, None}
+use Rattle.std.specs.Prelude.{Option, None}
 use Rattle.awk_types.specs.DataType.{Name}
 use Rattle.awk_lanes.specs.Column.{Column}
 use Rattle.awk_lanes.specs.Cut.{cut_of}
-use Rattle.awk_lanes.specs.Numbers.{element}
 use Rattle.awk_lanes.specs.Places.{at, size_of, AreSpans, IsOffsets}
+use Rattle.awk_lanes.proofs.CutLaws.{size-cut, at-cut}
 use Rattle.awk_layout.specs.Layout.{Layout, layouts_from, flat, lists, offset_lists, rows}
 use Rattle.awk_layout.specs.Valid.{len, IsValid}
+use Rattle.awk_columns.proofs.ArrayLaws.{item-offset_lists}
 use Rattle.awk_open.specs.Opened.{IsOpened, AreLong}
 use Rattle.awk_open.specs.declared.opening.Opened.TheVariants.{Leaf, Row}
-use Rattle.awk_open.proofs.OpenedKinds.{item-lists, item-offset_lists, item-rows, type-rows}
-use Rattle.awk_open.proofs.OpenedKinds.{within_at, items_of}
+use Rattle.awk_open.proofs.OpenedKinds.{item-lists, item-rows, type-rows, within_at, items_of}
 use Rattle.awk_open.proofs.OpenedArrays.{rows_within}
 
 pub whole_leaf : (c : Column) (x : Layout) → flat c ≡ x → IsValid x → IsOpened x (Leaf c)
@@ -41,15 +40,6 @@ whole_lists s t a b x z v e f h =
     })
 
 -- ---- offsets as starts and stops
-
-size-cut : (c : Column) (lo hi : ℕ) → lo ≤ hi → hi ≤ size_of c → size_of (cut_of c lo hi) ≡ hi - lo
-size-cut c lo hi h l =
-    omega (arith, length-take (hi - lo) (drop lo c.items), length-drop lo c.items)
-
-at-cut : (c : Column) (lo hi i : ℕ) → i < hi - lo → at (cut_of c lo hi) i ≡ at c (lo + i)
-at-cut c lo hi i h =
-    ap (element c.kind) (get_or-take (hi - lo) (drop lo c.items) i (pos 0) h ∙ get_or-drop lo
-    c.items i (pos 0))
 
 starts-at : (o : Column) (i : ℕ) → i + 1 < size_of o → at (cut_of o 0 (size_of o - 1)) i ≡ at o i
 starts-at o i h =

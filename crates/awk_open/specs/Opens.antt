@@ -1,7 +1,6 @@
 -- What the outermost kind of an array tells: its lanes and contents, whose items are columns of
 -- those of the array.
-use Rattle.std.specs.Prelude.{◌≡◌, ℕ, zero, suc, ◌-◌, ◌<◌, ◌^◌, List, [], ◌∷◌}
-use Rattle.std.specs.Prelude.{map, Option}
+use Rattle.std.specs.Prelude.{◌≡◌, ℕ, zero, suc, ◌-◌, ◌<◌, ◌^◌, List, [], ◌∷◌, map, Option}
 use Rattle.awk_types.specs.DataType.{Name, unknown, leaf, opt, uni, types_from, row_type}
 use Rattle.awk_types.specs.Value.{Value, Values, null, list, row, alt, no_values, value}
 use Rattle.awk_lanes.specs.Column.{Column}

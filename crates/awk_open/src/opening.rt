@@ -15,7 +15,7 @@ ghost use Rattle.awk_open.specs.Plain.{IsPlain};
 
 use crate::whole_index::peel_whole;
 use awk_columns::Lists;
-use awk_gather::{Peeled, array_within, gather_node};
+use awk_gather::{Peeled, gather_node};
 use awk_gather_lanes::{gather_lane, next_lane};
 use awk_lanes::{
     Arena, Index, Kind, Lane, Num, Numbers, Steps, made_lane, number, to_place, wide_index,
@@ -138,7 +138,7 @@ fn open_lists<'a, L: Ledger>(
     requires places { IsIndex places.now (size_of starts.now) }
     ensures opened { IfOk result (IsOpenedAt (lists starts.now stops.now content.now) places.now) }
 {
-    let content = array_within(alloc, content.copy(alloc)?)?;
+    let content = Array::of_node(alloc, content.copy(alloc)?)?;
     let starts = gather_lane(starts, places, arena, steps)?;
     let stops = gather_lane(stops, places, arena, steps)?;
     Ok(Opened::Items(Lists::new(None, starts, stops, content)))
@@ -158,7 +158,7 @@ fn open_offsets<'a, L: Ledger>(
     requires places { IsIndex places.now (size_of offsets.now - 1) }
     ensures opened { IfOk result (IsOpenedAt (offset_lists offsets.now content.now) places.now) }
 {
-    let content = array_within(alloc, content.copy(alloc)?)?;
+    let content = Array::of_node(alloc, content.copy(alloc)?)?;
     let starts = gather_before(offsets, places, arena, steps)?;
     let stops = next_lane(offsets, places, arena, steps)?;
     Ok(Opened::Items(Lists::new(None, starts, stops, content)))
@@ -180,7 +180,7 @@ fn open_regular<'a, L: Ledger>(
     requires places { IsIndex places.now n }
     ensures opened { IfOk result (IsOpenedAt (regular_lists size n content.now) places.now) }
 {
-    let content = array_within(alloc, content.copy(alloc)?)?;
+    let content = Array::of_node(alloc, content.copy(alloc)?)?;
     let starts = multiple_lane(size, 0, places, arena, steps)?;
     let stops = multiple_lane(size, size, places, arena, steps)?;
     Ok(Opened::Items(Lists::new(Some(size), starts, stops, content)))
@@ -217,7 +217,7 @@ fn gather_all<'a, L: Ledger>(
     let mut i = 0;
     while i < xs.len() {
         let part = gather_node(alloc, xs.get(i), places, arena, steps)?;
-        let column = array_within(alloc, part)?;
+        let column = Array::of_node(alloc, part)?;
         let _ = column.len();
         columns.push(column)?;
         i += 1;
@@ -298,7 +298,7 @@ pub fn open_peeled<'a, L: Ledger>(
     let Peeled { index, content } = peel_whole(alloc, x.node(), arena, steps)?;
     if is_optional(x.typ()) {
         let _ = content.len();
-        let content = array_within(alloc, content)?;
+        let content = Array::of_node(alloc, content)?;
         Ok(Opened::Option { index, content })
     } else {
         open_plain(alloc, &content, &index, arena, steps)

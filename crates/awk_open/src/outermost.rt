@@ -10,27 +10,17 @@ use crate::unions::{open_union, open_union_option};
 use crate::whole::opened_whole;
 use awk_lanes::{Arena, Steps};
 use awk_layout::Array;
-use awk_types::{NoMemory, Typ, is_optional};
+use awk_types::{NoMemory, Typ, is_optional, is_union};
 use std::alloc::Global;
 use std::sync::ledger::Ledger;
-
-/// Whether a type is a union.
-fn is_united(t: &Typ) -> bool
-    ensures { result ≡ is_union (typ_of t.now) }
-{
-    match t {
-        Typ::Uni(_) => true,
-        _ => false,
-    }
-}
 
 /// Whether a type is a union or an option of one.
 fn has_alternatives(t: &Typ) -> bool
     ensures { result ≡ is_union (present (typ_of t.now)) }
 {
     match t {
-        Typ::Opt(inner) => is_united(inner),
-        _ => is_united(t),
+        Typ::Opt(inner) => is_union(inner),
+        _ => is_union(t),
     }
 }
 

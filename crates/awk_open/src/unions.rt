@@ -18,7 +18,6 @@ ghost use Rattle.awk_open.specs.Spread.{or_else as or_else_of};
 
 use crate::opening::Opened;
 use crate::spread::{Spread, alternatives};
-use awk_gather::array_within;
 use awk_lanes::{
     Arena, IndexMaker, Kind, Lane, LaneMaker, NoMemory, Num, Steps, index_at, ordinals, place_in,
 };
@@ -261,7 +260,7 @@ fn arrays_within<'a>(alloc: Global, xs: &Nodes<'a>) -> Result<Arrays<'a>, NoMemo
     let mut arrays = Arrays::new(alloc);
     let mut i = 0;
     while i < xs.len() {
-        let array = array_within(alloc, xs.get(i).copy(alloc)?)?;
+        let array = Array::of_node(alloc, xs.get(i).copy(alloc)?)?;
         let _ = array.len();
         arrays.push(array)?;
         i += 1;
@@ -319,6 +318,6 @@ pub fn open_union_option<'a, L: Ledger>(
         content: settled,
     } = settle(alloc, &tags, &places, &contents, arena, steps)?;
     let _ = settled.len();
-    let content = array_within(alloc, settled)?;
+    let content = Array::of_node(alloc, settled)?;
     Ok(Opened::Option { index, content })
 }

@@ -8,7 +8,6 @@ ghost use Rattle.awk_open.specs.Opened.{IsOpened, AreLong, AreWithin};
 
 use crate::opening::Opened;
 use awk_columns::Lists;
-use awk_gather::array_within;
 use awk_lanes::{Arena, Lane, Steps};
 use awk_layout::{Array, Arrays, Class, Node, Nodes};
 use awk_types::{Names, NoMemory, copy_names};
@@ -25,7 +24,7 @@ fn whole_lists<'a>(
     requires limit { limit (array_type content.now) ≡ None }
     ensures opened { IfOk result (IsOpened (lists starts.now stops.now content.now)) }
 {
-    let content = array_within(alloc, content.copy(alloc)?)?;
+    let content = Array::of_node(alloc, content.copy(alloc)?)?;
     Ok(Opened::Items(Lists::new(None, starts.copy(), stops.copy(), content)))
 }
 
@@ -40,7 +39,7 @@ fn whole_offsets<'a, L: Ledger>(
     requires limit { limit (array_type content.now) ≡ None }
     ensures opened { IfOk result (IsOpened (offset_lists offsets.now content.now)) }
 {
-    let content = array_within(alloc, content.copy(alloc)?)?;
+    let content = Array::of_node(alloc, content.copy(alloc)?)?;
     let n = offsets.len();
     let starts = offsets.cut(0, n - 1, steps);
     let stops = offsets.cut(1, n, steps);
@@ -68,7 +67,7 @@ fn arrays_of<'a>(alloc: Global, xs: &Nodes<'a>) -> Result<Arrays<'a>, NoMemory>
 {
     let mut arrays = Arrays::new(alloc);
     for i in 0..xs.len() {
-        let array = array_within(alloc, xs.get(i).copy(alloc)?)?;
+        let array = Array::of_node(alloc, xs.get(i).copy(alloc)?)?;
         arrays.push(array)?;
     }
     Ok(arrays)

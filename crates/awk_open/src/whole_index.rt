@@ -4,9 +4,9 @@ ghost use Rattle.awk_lanes.specs.Places.{size_of, at, IsIndexKind, IsOptionalInd
 ghost use Rattle.awk_lanes.specs.Made.{lane_of};
 ghost use Rattle.awk_lanes.specs.declared.kind.Kind.TheVariants as Kinds;
 ghost use Rattle.awk_layout.specs.Valid.{len};
-ghost use Rattle.awk_gather.specs.Peeled.{IsPeeled, if_shown as if_shown_of, byte_index};
+ghost use Rattle.awk_gather.specs.Peeled.{IsPeeled, byte_index};
 
-use awk_gather::{Peeled, peel};
+use awk_gather::{Peeled, if_shown, peel};
 use awk_lanes::{Arena, Kind, Lane, Num, Numbers, Steps, index_at, is_set, made_lane, ordinals};
 use awk_layout::{Class, Node};
 use awk_types::NoMemory;
@@ -68,14 +68,6 @@ fn peel_index<'a, L: Ledger>(
 {
     let index = widened(lane, arena, steps)?;
     peel(alloc, content, index, arena, steps)
-}
-
-/// A place, or -1.
-fn if_shown(shown: bool, place: u64) -> i64
-    requires { place < 2 ^ 63 }
-    ensures { result ≡ if_shown_of shown place }
-{
-    if shown { place as i64 } else { -1 }
 }
 
 /// Each place whose byte says that the item is there.

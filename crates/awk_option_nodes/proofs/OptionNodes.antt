@@ -1,6 +1,6 @@
 -- An index over an array's items, with null where it is negative, and the same composed.
-use Rattle.std.specs.Prelude.{◌≡◌, ℕ, ◌+◌, ◌-◌, ◌<◌, ◌≤◌, refl, length, map, get_or}
-use Rattle.std.specs.Prelude.{Option, Some, None}
+use Rattle.std.specs.Prelude.{◌≡◌, ℕ, ◌+◌, ◌<◌, ◌≤◌, refl, length, map, get_or}
+use Rattle.std.specs.Prelude.{Option, Some, None, pos}
 use Rattle.std.specs.List.{AllByRecursion}
 use Rattle.std.proofs.Common.{arith, ap, sym, ◌∙◌}
 use Rattle.std.proofs.lemmas.List.{get_or-map, ext_get_or}
@@ -12,15 +12,20 @@ use Rattle.awk_types.proofs.SimpleLaws.{simple_twice, simple_is_simple, value_st
 use Rattle.awk_types.proofs.SimpleLaws.{in_option_stays}
 use Rattle.awk_lanes.specs.Column.{Column}
 use Rattle.awk_lanes.specs.Places.{size_of, option_place_at}
+use Rattle.awk_lanes.specs.declared.kind.Kind.TheVariants.{I64}
+use Rattle.awk_lanes.proofs.MadeLanes.{size-lane_of}
+use Rattle.awk_counts.specs.Counted.{first_of, present_at}
+use Rattle.awk_counts.specs.Present.{present_lane}
 use Rattle.awk_layout.specs.Layout.{Layout, optional}
 use Rattle.awk_layout.specs.Item.{run, at_option}
 use Rattle.awk_layout.specs.Typing.{layout_type, array_type, array_items}
 use Rattle.awk_layout.specs.Valid.{len}
 use Rattle.awk_layout.proofs.ArrayItems.{length-array_items, get_or-array_items}
+use Rattle.awk_layout.proofs.Runs.{run-same}
 use Rattle.awk_gather.specs.Arrays.{array_item}
 use Rattle.awk_gather.specs.Peeled.{IsPickedOpt}
 use Rattle.awk_gather.proofs.OptionItems.{item-optional}
-use Rattle.awk_columns.proofs.ArrayLaws.{run_map, run_same}
+use Rattle.awk_columns.proofs.ArrayLaws.{run_map}
 
 -- an array whose items are of its type
 abbrev pub HasItems : Layout → Type 0
@@ -45,7 +50,7 @@ pub run_stays : (y : Layout) → HasItems y → (a n : ℕ) → a + n ≤ len y
     ≡ value_list (run (array_item y) a n)
 run_stays y h a n p =
     run_map (simple_value (array_type y)) (array_item y) a n
-    ∙ ap value_list (run_same (λ k. simple_value (array_type y) (array_item y k)) (array_item y) a n
+    ∙ ap value_list (run-same (λ k. simple_value (array_type y) (array_item y k)) (array_item y) a n
     (λ k _ q. item_stays y h k (omega (arith, q, p))))
 
 -- ---- with null where an index is negative
@@ -83,3 +88,7 @@ picked_items y r p h =
     get_or-array_items r i (omega (arith, within, h.size))
     ∙ picked_item y r p h i within
     ∙ sym (get_or-array_items (optional p y) i within))
+
+-- one count more than places
+pub size-counts : (j : Column) → size_of (present_lane j) ≡ size_of j + 1
+size-counts j = size-lane_of I64 (size_of j + 1) (λ i. pos (length (first_of (present_at j) i)))

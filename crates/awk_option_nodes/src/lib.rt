@@ -1,10 +1,3 @@
-//! Nodes of options: an index over a node, composed with what it is put over, and which of its
-//! items
-//! are not null.
+//! What operations on options stand on: laws of an index over the items of an array, and of the
+//! same composed with what it is put over. Lemmas alone.
 #![tactic(auto)]
-
-mod composing;
-mod presence;
-
-pub use composing::option_over;
-pub use presence::{one_if_present, present_counts};

@@ -4,6 +4,7 @@ use Rattle.std.specs.Prelude.{ℤ, pos, negsuc, ◌<ℤ◌, Bool, true, false, S
 use Rattle.std.specs.Prelude.{option_map, if◌then◌else◌}
 use Rattle.std.proofs.lemmas.Int.{ints}
 use Rattle.awk_types.specs.DataType.{unknown}
+use Rattle.awk_types.specs.Parts.{option_number}
 use Rattle.awk_types.specs.Predicates.{is_unknown}
 use Rattle.awk_types.specs.Simple.{present}
 use Rattle.awk_types.specs.Value.{truth}
@@ -20,7 +21,6 @@ use Rattle.awk_gather.specs.Arrays.{array_item}
 use Rattle.awk_open.specs.Opened.{IsOpened}
 use Rattle.awk_open.specs.declared.opening.Opened.TheVariants as opened
 use Rattle.awk_order.specs.Cells.{AreItemCells, AreNumbers}
-use Rattle.awk_order.specs.Order.{option_number}
 
 truth_number : (b : Bool)
     → option_number (truth (is_nonzero (pos (if b then 1 else 0))))

@@ -1,14 +1,9 @@
 -- What is made of lists, by their items one after another.
 use Rattle.std.specs.Prelude.{◌≡◌, ℕ, zero, suc, ◌+◌, ◌-◌, ◌*◌, ◌<◌, ◌≤◌, ◌^◌, refl, true, false}
-use Rattle.std.specs.Prelude.{Bool, List, [], ◌∷◌, length, map, sum, pos, Some, None}
-use Rattle.std.specs.Prelude.{if◌then◌else◌}
-use Rattle.std.specs.List.{range_with_len}
+use Rattle.std.specs.Prelude.{Bool, List, [], ◌∷◌, length, map, sum, pos, Some, None, if◌then◌else◌}
 use Rattle.std.proofs.Common.{arith, ap, ap₂, sym, ◌∙◌, subst}
 use Rattle.std.proofs.lemmas.Int.{ints}
-use Rattle.std.proofs.lemmas.List.Concat.{length-flat_map}
 use Rattle.std.proofs.lemmas.List.FromFn.{length-map-range_with_len}
-use Rattle.std.proofs.lemmas.List.Sums.{sum-map}
-use Rattle.std.proofs.lemmas.Simd.{map-map}
 use Rattle.awk_base.proofs.Ranges.{part-range}
 use Rattle.awk_types.specs.DataType.{DataType}
 use Rattle.awk_types.specs.ItemLimit.{item_limit}
@@ -32,6 +27,7 @@ use Rattle.awk_columns.specs.ListNode.{AreEven}
 use Rattle.awk_columns.specs.Lists.{AreOfClass, items_at, all_items_at}
 use Rattle.awk_columns.specs.declared.lists.Joined.TheVariants.{TooMany}
 use Rattle.awk_columns.proofs.ArrayLaws.{array_items-at}
+use Rattle.awk_columns.proofs.OffsetLaws.{counted_total}
 use Rattle.awk_axis.specs.Mapped.{IsMade}
 use Rattle.awk_axis.specs.Spoils.{too_many}
 use Rattle.awk_axis.specs.declared.causes.Refusal.TheVariants as refused
@@ -45,13 +41,6 @@ use Rattle.awk_axis.proofs.SpoilLimits.{over_limit, within_limit}
 use Rattle.awk_axis.proofs.IndexLaws.{too_many-never}
 
 -- ---- counts
-
-counted_total : (s e : Column) (y : Layout)
-    → sum (map (λ (l : List Value). length l) (all_items_at s e y)) ≡ total s e y
-counted_total s e y =
-    ap sum (map-map (λ (l : List Value). length l) (items_at s e y) (range_with_len 0 (size_of s)))
-    ∙ sum-map (λ i. length (items_at s e y i)) (range_with_len 0 (size_of s))
-    ∙ sym (length-flat_map (items_at s e y) (range_with_len 0 (size_of s)))
 
 module _ (typ : DataType → DataType) (items : List Value → List Value) where
   pub lists_spoilt : (s e : Column) (y : Layout) → IsJoined s e y TooMany

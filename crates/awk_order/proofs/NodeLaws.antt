@@ -1,7 +1,7 @@
 -- Lanes in order as nodes.
-use Rattle.std.specs.Prelude.{◌≡◌, ℕ, zero, suc, ◌+◌, ◌-◌, ◌<◌, ◌≤◌, ◌^◌, refl, true, Bool}
-use Rattle.std.specs.Prelude.{List, [], ◌∷◌, ◌++◌, length, map, get_or, replicate, ℤ, pos}
-use Rattle.std.specs.Prelude.{Option, Some, None}
+use Rattle.std.specs.Prelude.{◌≡◌, ℕ, zero, suc, ◌+◌, ◌-◌, ◌<◌, ◌≤◌, ◌^◌, refl, true, Bool, List}
+use Rattle.std.specs.Prelude.{[], ◌∷◌, ◌++◌, length, map, get_or, replicate, ℤ, pos, Option, Some}
+use Rattle.std.specs.Prelude.{None}
 use Rattle.std.specs.List.{range_with_len, AllByRecursion}
 use Rattle.std.proofs.Common.{arith, ap, ap₂, sym, ◌∙◌, subst, append-nil}
 use Rattle.std.proofs.lemmas.List.{length-map}
@@ -11,6 +11,7 @@ use Rattle.awk_base.proofs.Ranges.{map-same, map_from, part-range}
 use Rattle.awk_base.proofs.Every.{all-part}
 use Rattle.awk_types.specs.DataType.{unknown, leaf}
 use Rattle.awk_types.specs.Has.{Has}
+use Rattle.awk_types.specs.Parts.{option_number}
 use Rattle.awk_types.specs.Predicates.{is_unknown}
 use Rattle.awk_types.specs.Simple.{present}
 use Rattle.awk_types.specs.Value.{Value, int, null, value_list}
@@ -38,10 +39,9 @@ use Rattle.awk_sorting.specs.Nulls.{somes, nones}
 use Rattle.awk_sorting.specs.Order.{order, sort_numbers}
 use Rattle.awk_order.specs.Cells.{AreItemCells, AreNumbers}
 use Rattle.awk_order.specs.Lists.{AreItems, AreMade}
-use Rattle.awk_order.specs.Order.{option_number, items_in_order}
+use Rattle.awk_order.specs.Order.{items_in_order}
 use Rattle.awk_order.specs.Sort.{place_items}
-use Rattle.awk_order.proofs.ValueLaws.{value_of, all_numbers, no_numbers}
-use Rattle.awk_order.proofs.ValueLaws.{in_order_values}
+use Rattle.awk_order.proofs.ValueLaws.{value_of, all_numbers, no_numbers, in_order_values}
 
 -- ---- parts of a lane
 

@@ -10,17 +10,19 @@ use Rattle.std.proofs.lemmas.List.FromFn.{fill_by_all, length-map-range_with_len
 use Rattle.std.proofs.lemmas.List.FromFn.{get_or-map-range_with_len}
 use Rattle.std.proofs.lemmas.Simd.{map-map}
 use Rattle.awk_base.proofs.Ranges.{map-same, map_from}
-use Rattle.awk_base.proofs.Every.{all-append, all-map}
+use Rattle.awk_base.proofs.Every.{all-at}
 use Rattle.awk_types.specs.DataType.{DataType, unknown, leaf, var, reg, rec, tup, opt, uni}
 use Rattle.awk_types.specs.Has.{Has}
 use Rattle.awk_types.specs.ItemLimit.{item_limit}
+use Rattle.awk_types.specs.Parts.{option_number}
 use Rattle.awk_types.specs.Predicates.{is_leaf, is_unknown}
 use Rattle.awk_types.specs.Simple.{present, is_option}
 use Rattle.awk_types.specs.Value.{Value, null}
 use Rattle.awk_lanes.specs.Column.{Column}
-use Rattle.awk_lanes.specs.Counted.{before, numbers_of_lists}
+use Rattle.awk_lanes.specs.Counted.{before}
 use Rattle.awk_lanes.specs.Places.{size_of, at, place_at, option_place, IsOptionalIndex}
 use Rattle.awk_lanes.proofs.CountedLanes.{length-numbers, numbers-at}
+use Rattle.awk_counts.proofs.ListLaws.{numbers-all}
 use Rattle.awk_layout.specs.Item.{leaf_value, at_option}
 use Rattle.awk_layout.specs.Kinds.{kind_of, primitive_of, primitive_of-kind_of}
 use Rattle.awk_layout.specs.Layout.{Layout, flat, optional}
@@ -41,7 +43,7 @@ use Rattle.awk_sorting.proofs.InsertLaws.{length-sort}
 use Rattle.awk_sorting.proofs.NullLaws.{somes_nones}
 use Rattle.awk_order.specs.Lists.{AreItems, AreMade}
 use Rattle.awk_order.specs.Nulls.{length_at, place_or_null, nulls_last, AreNullsReady}
-use Rattle.awk_order.specs.Order.{option_number, items_in_order}
+use Rattle.awk_order.specs.Order.{items_in_order}
 use Rattle.awk_order.proofs.NodeLaws.{list_in_order, part_by_place, list_by_place}
 use Rattle.awk_order.proofs.ValueLaws.{leaf_simple_value, somes_numbers}
 
@@ -74,22 +76,6 @@ nulls_ready z o n p a h = record {
   first = a.first;
   fits = a.fits;
 }
-
--- ---- numbers of lists
-
-all_at : {X : Type 0} (P : X → Type 0) (xs : List X) (j : ℕ) (d : X) → AllByRecursion P xs
-    → j < length xs → P (get_or xs j d)
-all_at P [] j d h l = absurd (omega (arith, l))
-all_at P (x ∷ xs) zero d h l = h.0
-all_at P (x ∷ xs) (suc j) d h l = all_at P xs j d h.1 (omega (arith, l))
-
-all_lists : (P : ℤ → Type 0) (m : ℕ → ℕ) (h : ℕ → ℕ → ℤ) (n : ℕ)
-    → ((i k : ℕ) → i < n → k < m i → P (h i k)) → AllByRecursion P (numbers_of_lists m h n)
-all_lists P m h zero f = tt
-all_lists P m h (suc n) f =
-    all-append P (numbers_of_lists m h n) (map (h n) (range_with_len 0 (m n)))
-    (all_lists P m h n (λ i k l q. f i k (omega (arith, l)) q))
-    (all-map P (h n) 0 (m n) (λ k l. f n k (omega arith) (omega (arith, l))))
 
 -- ---- places
 
@@ -177,8 +163,8 @@ module _ (z : Layout) (o : Column) (n : ℕ) (a : AreItems z o n)
   index_valid = record {
     kind = tt;
     below = λ j l.
-        all_at (λ x. x <ℤ pos (size_of r)) index.items j (pos 0)
-        (all_lists (λ x. x <ℤ pos (size_of r)) (length_at o) (place_or_null p.offsets) n
+        all-at (λ x. x <ℤ pos (size_of r)) index.items j (pos 0)
+        (numbers-all (λ x. x <ℤ pos (size_of r)) (length_at o) (place_or_null p.offsets) n
         (λ i k q m.
         below_by (nat_lt k (length_at p.offsets i)) (length_at p.offsets i) k
         (place_at p.offsets i) (size_of r) refl (λ s. omega (arith, s, part_end i q)))) l;

@@ -1,8 +1,7 @@
 -- Items of leaves by their numbers.
-use Rattle.std.proofs.Common.{◌≡◌, ℕ, zero, suc, refl, ap, ap₂, sym, ◌∙◌, arith}
-use Rattle.std.proofs.Common.{List, [], ◌∷◌, ◌++◌, map, length, get_or, replicate, true≢false}
-use Rattle.std.specs.Prelude.{ℤ, pos, Bool, true, false, Option, Some, None}
-use Rattle.std.specs.Prelude.{if◌then◌else◌}
+use Rattle.std.proofs.Common.{◌≡◌, ℕ, zero, suc, refl, ap, ap₂, sym, ◌∙◌, arith, List, [], ◌∷◌}
+use Rattle.std.proofs.Common.{◌++◌, map, length, get_or, replicate, true≢false}
+use Rattle.std.specs.Prelude.{ℤ, pos, Bool, true, false, Option, Some, None, if◌then◌else◌}
 use Rattle.std.specs.List.{AllByRecursion}
 use Rattle.std.proofs.lemmas.Int.{ints}
 use Rattle.std.proofs.lemmas.Simd.{map-map}
@@ -10,6 +9,7 @@ use Rattle.std.proofs.Math.ListN.{get_or-map}
 use Rattle.awk_base.proofs.Lists.{map-each}
 use Rattle.awk_types.specs.DataType.{DataType, unknown, leaf, var, reg, rec, tup, opt, uni}
 use Rattle.awk_types.specs.Has.{Has, Holds}
+use Rattle.awk_types.specs.Parts.{option_number}
 use Rattle.awk_types.specs.Predicates.{is_leaf, is_unknown}
 use Rattle.awk_types.specs.Simple.{present, simple, simple_value}
 use Rattle.awk_types.specs.Value.{Value, int, truth, null, list, row, alt}
@@ -22,7 +22,7 @@ use Rattle.awk_present.specs.Numbers.{leaf_of, numbers}
 use Rattle.awk_sorting.specs.Nulls.{somes, nones}
 use Rattle.awk_sorting.specs.Order.{order, sort_numbers}
 use Rattle.awk_sorting.proofs.NullLaws.{cells_in_order}
-use Rattle.awk_order.specs.Order.{option_number, items_in_order}
+use Rattle.awk_order.specs.Order.{items_in_order}
 
 -- the value that a cell of a kind is
 abbrev pub value_of : Kind → Option ℤ → Value

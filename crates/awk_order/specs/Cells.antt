@@ -1,6 +1,7 @@
 -- Arrays of leaves as cells.
 use Rattle.std.specs.Prelude.{◌≡◌, ℕ, ◌<◌, Option, None}
 use Rattle.awk_types.specs.DataType.{unknown, leaf}
+use Rattle.awk_types.specs.Parts.{option_number}
 use Rattle.awk_lanes.specs.Column.{Column}
 use Rattle.awk_layout.specs.Kinds.{primitive_of}
 use Rattle.awk_layout.specs.Layout.{Layout}
@@ -8,7 +9,6 @@ use Rattle.awk_layout.specs.Typing.{array_type}
 use Rattle.awk_layout.specs.Valid.{len}
 use Rattle.awk_gather.specs.Arrays.{array_item}
 use Rattle.awk_sorting.specs.Cells.{cell_at, AreCells}
-use Rattle.awk_order.specs.Order.{option_number}
 use Rattle.awk_order.specs.declared.cells.LeafCells.{LeafCells}
 
 -- the numbers of a lane, where there is an index at its places, are those of an array's items

@@ -12,13 +12,12 @@ ghost use Rattle.awk_order.specs.Sort.{sort_function, sort_of, argsort_function,
 
 use crate::lists::ItemLists;
 use crate::places::item_places;
-use crate::types::are_leaves;
 use crate::values::items_in_order;
 use awk_axis::{ListOp, Made, Refusal, Spoil, lift_deep};
 use awk_columns::{Joined, Lists};
 use awk_lanes::{Arena, Steps};
 use awk_layout::Datum;
-use awk_types::{Fault, NoMemory, Prim, Typ, copy_type};
+use awk_types::{Fault, NoMemory, Prim, Typ, are_leaves, copy_type};
 use std::alloc::Global;
 use std::sync::ledger::Ledger;
 

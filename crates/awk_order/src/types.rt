@@ -4,17 +4,7 @@ ghost use Rattle.awk_types.specs.Predicates as predicates;
 ghost use Rattle.awk_types.specs.Simple.{present};
 ghost use Rattle.awk_types.specs.View.{typ_of};
 
-use awk_types::{Typ, is_leaf, is_unknown};
-
-/// Whether items of a type are leaves, optional or not.
-pub(crate) fn are_leaves(t: &Typ) -> bool
-    ensures { result ≡ predicates.is_leaf (present (typ_of t.now)) }
-{
-    match t {
-        Typ::Opt(inner) => is_leaf(inner),
-        _ => is_leaf(t),
-    }
-}
+use awk_types::{Typ, is_unknown};
 
 /// Whether items of a type are null, or there are none.
 pub(crate) fn are_unknown(t: &Typ) -> bool

@@ -7,6 +7,7 @@ use Rattle.std.specs.List.{flat_map, list_any}
 use Rattle.std.proofs.lemmas.List.{append-nil}
 use Rattle.awk_types.specs.DataType.{Name, DataType, leaf, var, reg, rec, tup, opt, uni, types_from}
 use Rattle.awk_types.specs.DataType.{row_type, nodes}
+use Rattle.awk_types.specs.Predicates.{is_sized}
 use Rattle.awk_types.specs.Value.{Value}
 use Rattle.awk_types.specs.ItemLimit.{item_limit}
 use Rattle.awk_lanes.specs.Column.{Column}
@@ -23,14 +24,13 @@ use Rattle.awk_open.specs.declared.opening.Opened.{Opened}
 use Rattle.awk_columns.specs.ListClass.{Class, list_type}
 use Rattle.awk_columns.specs.Lists.{Listed}
 use Rattle.awk_columns.specs.ListValues.{list_values}
-use Rattle.awk_open.specs.declared.opening.Opened.TheVariants.{Leaf, Items, Row}
-use Rattle.awk_open.specs.declared.opening.Opened.TheVariants.{Option as Optional, Union}
+use Rattle.awk_open.specs.declared.opening.Opened.TheVariants.{Leaf, Items, Row, Option as Optional}
+use Rattle.awk_open.specs.declared.opening.Opened.TheVariants.{Union}
 use Rattle.awk_pack.specs.Columns.{placed, placed_fields, placed_alternatives, at_node}
 use Rattle.awk_pack.specs.Lanes.{lane_of, node_lanes}
 use Rattle.awk_pack.specs.Canon.{is_too_long, lanes_of}
 use Rattle.awk_pack.specs.PackedForm.{all_nodes}
-use Rattle.awk_pack.specs.Packing.{is_regular, IsColumn, IsLeft, leaf_lane, IsJoined, are_too_large}
-use Rattle.awk_pack.specs.Packing.{placed_of}
+use Rattle.awk_pack.specs.Packing.{IsColumn, IsLeft, leaf_lane, IsJoined, are_too_large, placed_of}
 use Rattle.awk_pack.proofs.FormLaws.{sum-nodes_each}
 use Rattle.awk_pack.proofs.LargeLaws.{few_items}
 use Rattle.awk_pack.proofs.LeafLanes.{leaf-lane}
@@ -106,7 +106,7 @@ own_var u vs old new l o z h t j m =
 
 -- lists that are not of one length have offsets
 offsets_put : (c : Class) (t : DataType) (vs : List Value) (old new : List Column) (l : Listed)
-    (o : Column) (z : Layout) → t ≡ list_type c (array_type l.content) → is_regular t ≡ false
+    (o : Column) (z : Layout) → t ≡ list_type c (array_type l.content) → is_sized t ≡ false
     → IsColumn t vs (Items l) → IsJoined l.content (list_values l.starts l.stops l.content) o z
     → new ≡ old ++ o ∷ [] → IsLeft t vs old (z ∷ []) new
 offsets_put None t vs old new l o z e r h j m =
@@ -114,10 +114,10 @@ offsets_put None t vs old new l o z e r h j m =
     subst (λ t. IsLeft t vs old (z ∷ []) new) (sym e) (left (var u) vs old (z ∷ []) new
     (own_var u vs old new l o z (subst (λ t. IsColumn t vs (Items l)) e h) refl j m))
 offsets_put (Some n) t vs old new l o z e r h j m =
-    absurd (true≢false (ap is_regular (sym e) ∙ r))
+    absurd (true≢false (ap is_sized (sym e) ∙ r))
 
 pub left_var : (t : DataType) (vs : List Value) (old new : List Column) (l : Listed) (o : Column)
-    (z : Layout) (ys : List Layout) → is_regular t ≡ false
+    (z : Layout) (ys : List Layout) → is_sized t ≡ false
     → IsJoined l.content (list_values l.starts l.stops l.content) o z → new ≡ old ++ o ∷ []
     → ys ≡ z ∷ [] → IsColumn t vs (Items l) → IsLeft t vs old ys new
 left_var t vs old new l o z ys r j m is h =
@@ -140,17 +140,17 @@ own_reg n u vs old l o z h t j =
     }
 
 none_put : (c : Class) (t : DataType) (vs : List Value) (old : List Column) (l : Listed)
-    (o : Column) (z : Layout) → t ≡ list_type c (array_type l.content) → is_regular t ≡ true
+    (o : Column) (z : Layout) → t ≡ list_type c (array_type l.content) → is_sized t ≡ true
     → IsColumn t vs (Items l) → IsJoined l.content (list_values l.starts l.stops l.content) o z
     → IsLeft t vs old (z ∷ []) old
-none_put None t vs old l o z e r h j = absurd (true≢false (sym r ∙ ap is_regular e))
+none_put None t vs old l o z e r h j = absurd (true≢false (sym r ∙ ap is_sized e))
 none_put (Some n) t vs old l o z e r h j =
     let u = array_type l.content in
     subst (λ t. IsLeft t vs old (z ∷ []) old) (sym e) (left (reg n u) vs old (z ∷ []) old
     (own_reg n u vs old l o z (subst (λ t. IsColumn t vs (Items l)) e h) refl j))
 
 pub left_regular : (t : DataType) (vs : List Value) (old : List Column) (l : Listed) (o : Column)
-    (z : Layout) (ys : List Layout) → is_regular t ≡ true
+    (z : Layout) (ys : List Layout) → is_sized t ≡ true
     → IsJoined l.content (list_values l.starts l.stops l.content) o z → ys ≡ z ∷ []
     → IsColumn t vs (Items l) → IsLeft t vs old ys old
 left_regular t vs old l o z ys r j is h =

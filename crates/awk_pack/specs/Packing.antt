@@ -1,8 +1,8 @@
 -- What the steps of packing give: lanes are put behind others, node by node in pre-order.
-use Rattle.std.specs.Prelude.{◌≡◌, ◌<◌, Bool, true, false, nat_lt, List, ◌++◌, length, map}
+use Rattle.std.specs.Prelude.{◌≡◌, ◌<◌, Bool, false, nat_lt, List, ◌++◌, length, map}
 use Rattle.std.specs.Prelude.{Result, Ok, Err}
 use Rattle.std.specs.List.{flat_map, list_any}
-use Rattle.awk_types.specs.DataType.{DataType, reg, nodes}
+use Rattle.awk_types.specs.DataType.{DataType, nodes}
 use Rattle.awk_types.specs.Value.{Value}
 use Rattle.awk_types.specs.ItemLimit.{item_limit}
 use Rattle.awk_types.specs.declared.fault.Fault.{Fault}
@@ -40,10 +40,6 @@ fault_of fault.NoMemory = NoMemory
 fault_of f = Size
 
 -- ---- one node
-
-abbrev pub is_regular : DataType → Bool
-is_regular (reg n t) = true
-is_regular t = false
 
 -- the lane of a leaf: each number as it is read, so that a truth value is 0 or 1
 abbrev pub leaf_lane : Column → Column

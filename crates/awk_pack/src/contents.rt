@@ -1,12 +1,12 @@
 //! The lanes of one node, and the arrays of its contents.
-ghost use Rattle.std.specs.Prelude.{◌≡◌, [], ◌∷◌, List, true, IfOk};
+ghost use Rattle.std.specs.Prelude.{◌≡◌, List, true, IfOk};
 ghost use Rattle.awk_types.specs.DataType.{DataType};
 ghost use Rattle.awk_types.specs.Value.{Value};
 ghost use Rattle.awk_types.specs.View.{typ_of};
 ghost use Rattle.awk_layout.specs.Typing.{array_type, array_items};
 ghost use Rattle.awk_open.specs.declared.opening.Opened.TheVariants as Opened;
 ghost use Rattle.awk_pack.specs.Canon.{is_too_large};
-ghost use Rattle.awk_pack.specs.Packing.{IsColumn, IsLeft, IfSize, is_regular as is_regular_type};
+ghost use Rattle.awk_pack.specs.Packing.{IsColumn, IsLeft, IfSize};
 
 use crate::column::{joined, leaf_lane};
 use crate::packed::PackFault;
@@ -14,28 +14,9 @@ use awk_columns::Lists;
 use awk_lanes::{Arena, Lane, Lanes, Steps};
 use awk_layout::{Array, Arrays};
 use awk_open::{Opened, in_order};
-use awk_types::{ITEM_LIMIT, NoMemory, Typ};
+use awk_types::{ITEM_LIMIT, NoMemory, Typ, is_sized};
 use std::alloc::Global;
 use std::sync::ledger::Ledger;
-
-/// Whether lists of a type are all of one length.
-fn is_regular(t: &Typ) -> bool
-    ensures { result ≡ is_regular_type (typ_of t.now) }
-{
-    match t {
-        Typ::Reg(_, _) => true,
-        _ => false,
-    }
-}
-
-/// The only one.
-fn only<'a>(alloc: Global, content: Array<'a>) -> Result<Arrays<'a>, NoMemory>
-    ensures { IfOk result (λ ys. ys ≡ content.entry ∷ []) }
-{
-    let mut contents = Arrays::new(alloc);
-    contents.push(content)?;
-    Ok(contents)
-}
 
 /// Numbers or truth values, which have no contents.
 fn leaf_contents<'a, L: Ledger>(
@@ -74,11 +55,11 @@ fn list_contents<'a, L: Ledger>(
         arena,
         steps,
     )?;
-    if is_regular(typ) {
-        return Ok(only(alloc, lists.content)?);
+    if is_sized(typ) {
+        return Ok(Arrays::only(alloc, lists.content)?);
     }
     lanes.push(lists.offsets)?;
-    Ok(only(alloc, lists.content)?)
+    Ok(Arrays::only(alloc, lists.content)?)
 }
 
 /// The arrays of the contents of a node, each holding the column of a node below. The lanes of the
@@ -104,7 +85,7 @@ pub(crate) fn contents<'a, L: Ledger>(
         Opened::Row { columns, .. } => Ok(columns),
         Opened::Option { index, content } => {
             lanes.push(index)?;
-            Ok(only(alloc, content)?)
+            Ok(Arrays::only(alloc, content)?)
         }
         Opened::Union {
             tags,

@@ -1,6 +1,5 @@
 -- The ends of a pairing: the operands' columns as they stand.
-use Rattle.std.proofs.Common.{◌≡◌, ℕ, suc, ◌+◌, Bool, false, ◌&&◌}
-use Rattle.std.proofs.Common.{refl, ap, arith, sym, subst, ◌∙◌}
+use Rattle.std.proofs.Common.{◌≡◌, ℕ, suc, ◌+◌, Bool, false, ◌&&◌, refl, ap, arith, sym, subst, ◌∙◌}
 use Rattle.std.specs.Prelude.{List, [], ◌∷◌, map, length, get_or}
 use Rattle.std.specs.List.{list_any, range_with_len}
 use Rattle.awk_types.specs.DataType.{DataType, tup, types_from}
@@ -11,25 +10,24 @@ use Rattle.awk_layout.specs.Item.{item}
 use Rattle.awk_types.specs.Simple.{simple_value}
 use Rattle.awk_layout.specs.Typing.{layout_type, array_type, array_items}
 use Rattle.std.proofs.lemmas.Simd.{map-map}
+use Rattle.std.proofs.lemmas.List.{length-map}
 use Rattle.awk_base.proofs.Lists.{map-by}
+use Rattle.awk_types.proofs.Trees.{value_list-from}
 use Rattle.awk_columns.specs.Columns.{part_at}
 use Rattle.awk_columns.specs.Parts.{AreParts}
 use Rattle.awk_open.specs.Opened.{AreLong}
 use Rattle.awk_gather.specs.Arrays.{array_item}
 use Rattle.awk_pair_operands.proofs.LevelLaws.{paired_value-level, paired_type-level}
-use Rattle.awk_pair_operands.proofs.LevelLaws.{types_at_ends-level}
-use Rattle.awk_pair_operands.proofs.LevelLaws.{is_uneven-level}
-use Rattle.awk_pair_operands.proofs.RowLaws.{value_list-from, any-by}
+use Rattle.awk_pair_operands.proofs.LevelLaws.{types_at_ends-level, is_uneven-level}
+use Rattle.awk_pair_operands.proofs.RowLaws.{any-by}
 use Rattle.awk_pair.specs.Outcomes.{ArePairs}
 use Rattle.awk_pair_operands.specs.Paired.{Reach, to_leaves, to_depth, end_type, end_types}
-use Rattle.awk_pair_operands.specs.Paired.{paired_type}
-use Rattle.awk_pair_operands.specs.Paired.{types_at_ends, end_value, is_uneven, paired_value}
-use Rattle.awk_pair_operands.specs.Paired.{is_to_leaves}
-use Rattle.awk_pair_operands.specs.Paired.{values_of_rows, any_uneven}
+use Rattle.awk_pair_operands.specs.Paired.{paired_type, types_at_ends, end_value, is_uneven}
+use Rattle.awk_pair_operands.specs.Paired.{paired_value, is_to_leaves, values_of_rows, any_uneven}
 use Rattle.awk_frames.specs.Sizes.{levels_refused}
 use Rattle.awk_frames.specs.Shape.{leaves, shape, ends}
 use Rattle.awk_pair_sides.proofs.LevelTypes.{presents-bare}
-use Rattle.awk_pair_sides.proofs.RangeLaws.{length-map, length-range}
+use Rattle.awk_pair_sides.proofs.RangeLaws.{length-range}
 use Rattle.awk_pair_sides.specs.Levels.{some_option, goes_on}
 use Rattle.awk_pair_sides.specs.Rows.{row_at, rows_at}
 
@@ -133,7 +131,7 @@ module _ (keep : Bool) where
       ≡ j = omega arith in ap (λ m. get_or (row_at xs i) m null) e) l
 
   count-rows : (n : ℕ) (xs : List Layout) → length (map as_row (rows_at xs n)) ≡ n
-  count-rows n xs = length-map as_row (rows_at xs n) ∙ length-map (row_at xs) (range_with_len 0 n)
+  count-rows n xs = length-map (rows_at xs n) as_row ∙ length-map (range_with_len 0 n) (row_at xs)
       ∙ length-range 0 n
 
   -- at the ends the operands' columns are what is paired

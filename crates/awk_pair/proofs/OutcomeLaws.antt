@@ -1,9 +1,9 @@
 -- What pairing comes to at a level, from what it comes to below.
 use Rattle.std.proofs.Common.{◌≡◌, ℕ, ◌-◌, ◌<◌, ◌≤◌, Bool, true, false, ◌||◌}
 use Rattle.std.proofs.Common.{refl, ap, sym, subst, ◌∙◌}
-use Rattle.std.specs.Prelude.{List, map, filter, length}
-use Rattle.std.specs.Prelude.{Option, Some, None}
+use Rattle.std.specs.Prelude.{List, map, filter, length, Option, Some, None}
 use Rattle.std.specs.List.{list_any, flat_map, range_with_len}
+use Rattle.std.proofs.lemmas.List.{length-map}
 use Rattle.awk_base.proofs.Lists.{map-by}
 use Rattle.awk_types.specs.DataType.{DataType}
 use Rattle.awk_types.specs.Gives.{◌or◌}
@@ -12,6 +12,7 @@ use Rattle.awk_types.specs.Simple.{present}
 use Rattle.awk_types.specs.Value.{Value}
 use Rattle.awk_types.specs.declared.fault.Fault.{Fault}
 use Rattle.awk_types.specs.declared.fault.Fault.TheVariants.{Size}
+use Rattle.awk_types.proofs.ItemLimits.{over_limit, within_limit}
 use Rattle.awk_lanes.specs.Column.{Column}
 use Rattle.awk_lanes.specs.declared.kind.Kind.TheVariants.{I64}
 use Rattle.awk_layout.specs.Layout.{Layout}
@@ -20,17 +21,14 @@ use Rattle.awk_columns.specs.ListClass.{Class, list_type}
 use Rattle.awk_columns.specs.Parts.{AreParts}
 use Rattle.awk_pair_operands.proofs.LevelLaws.{type-nulls, values-nulls, unevens-nulls, ends-nulls}
 use Rattle.awk_pair_operands.proofs.LevelLaws.{value-present, type-lists, values-lists}
-use Rattle.awk_pair_operands.proofs.LevelLaws.{unevens-lists}
-use Rattle.awk_pair_operands.proofs.LevelLaws.{ends-lists}
+use Rattle.awk_pair_operands.proofs.LevelLaws.{unevens-lists, ends-lists}
 use Rattle.awk_pair_operands.proofs.RowLaws.{or_null, index-rows, present-rows, joined-rows}
-use Rattle.awk_pair_operands.proofs.RowLaws.{offsets-rows, too_few, too_large}
+use Rattle.awk_pair_operands.proofs.RowLaws.{offsets-rows}
 use Rattle.awk_pair.specs.Outcomes.{ArePairs, AreTooMany}
 use Rattle.awk_pair_operands.specs.Paired.{Reach, paired_type, paired_value, takes_nulls}
-use Rattle.awk_pair_operands.specs.Paired.{values_of_rows}
-use Rattle.awk_pair_operands.specs.Paired.{any_uneven}
+use Rattle.awk_pair_operands.specs.Paired.{values_of_rows, any_uneven}
 use Rattle.awk_frames.specs.Sizes.{levels_refused}
 use Rattle.awk_frames.specs.Shape.{Shape, items, missing, shape, ends, offsets_column}
-use Rattle.awk_pair_sides.proofs.RangeLaws.{length-map}
 use Rattle.awk_pair_sides.specs.Levels.{level_class, item_types, some_option, goes_on}
 use Rattle.awk_pair_sides.specs.Rows.{flags_index, lengths_offsets}
 use Rattle.awk_pair_sides.proofs.RangeLaws.{length-range}
@@ -211,7 +209,7 @@ module _ (keep : Bool) where
       (paired_type keep r (d - 1) (item_types us)) vs) (lists_values r d us rows n g)
       ∙ ap (λ k. too_many k or levels_refused (paired_type keep r (d - 1) (item_types us))
       (values_of_rows keep r (d - 1) (item_types us) (below_rows us rows)))
-      (length-map (paired_value keep r (d - 1) (item_types us)) (below_rows us rows))
+      (length-map (below_rows us rows) (paired_value keep r (d - 1) (item_types us)))
 
   abbrev offsets_of_rows : List DataType → List (List Value) → Column
   offsets_of_rows us rows = record {
@@ -255,8 +253,8 @@ module _ (keep : Bool) where
 
   pub inner-length : (us : List DataType) (vs : List Value)
       → length (inner_rows keep us vs) ≡ inner_length keep us vs
-  inner-length us vs = length-map (λ k. map (side_at k) (level_sides keep us vs))
-      (range_with_len 0 (common_length (level_sides keep us vs)))
+  inner-length us vs = length-map (range_with_len 0 (common_length (level_sides keep us vs)))
+      (λ k. map (side_at k) (level_sides keep us vs))
       ∙ length-range 0 (common_length (level_sides keep us vs))
 
   offsets-inner : (us : List DataType) (rows : List (List Value))
@@ -275,7 +273,7 @@ module _ (keep : Bool) where
       → ArePairs keep r d us rows (items (offsets_of_rows us rows) (level_class keep us) s) ys
   lists_paired r d us rows s ys n g f l p = record {
     even = lists_even d us rows n g f p.even;
-    few = lists_refused r d us rows n g ∙ (rw (too_few (length (below_rows us rows)) l) p.few);
+    few = lists_refused r d us rows n g ∙ (rw (within_limit (length (below_rows us rows)) l) p.few);
     paired = record {
       shape = ap (items (offsets_of_rows us rows) (level_class keep us)) p.paired.shape
           ∙ ap (λ o. items o (level_class keep us)
@@ -308,7 +306,8 @@ module _ (keep : Bool) where
       → AreTooMany keep r (d - 1) (item_types us) (below_rows us rows) → AreTooMany keep r d us rows
   lists_large_below r d us rows n g f l p = record {
     even = lists_even d us rows n g f p.even;
-    large = lists_refused r d us rows n g ∙ (rw (too_few (length (below_rows us rows)) l) p.large);
+    large = lists_refused r d us rows n g
+        ∙ (rw (within_limit (length (below_rows us rows)) l) p.large);
   }
 
   pub lists_too_many : (r : Reach) (d : ℕ) (us vs : List DataType) (rows below : List (List Value))
@@ -326,5 +325,5 @@ module _ (keep : Bool) where
       → item_limit < length (below_rows us rows) → AreTooMany keep r d us rows
   lists_large r d us rows n g e l = record {
     even = e;
-    large = lists_refused r d us rows n g ∙ (rw (too_large (length (below_rows us rows)) l) refl);
+    large = lists_refused r d us rows n g ∙ (rw (over_limit (length (below_rows us rows)) l) refl);
   }

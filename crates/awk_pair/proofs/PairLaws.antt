@@ -1,30 +1,26 @@
 -- What a pairing answers, from what its rows come to.
-use Rattle.std.proofs.Common.{◌≡◌, ℕ, ◌≤◌, ◌<◌, Bool, true, false, not, refl, ap}
-use Rattle.std.proofs.Common.{sym, subst, ◌∙◌}
-use Rattle.std.specs.Prelude.{List, map, length, Option, Some, None}
-use Rattle.std.specs.Prelude.{Ok, Err}
+use Rattle.std.proofs.Common.{◌≡◌, ℕ, ◌≤◌, ◌<◌, Bool, true, false, not, refl, ap, sym, subst, ◌∙◌}
+use Rattle.std.specs.Prelude.{List, map, length, Option, Some, None, Ok, Err}
+use Rattle.std.proofs.lemmas.List.{length-map}
 use Rattle.awk_types.specs.DataType.{DataType}
 use Rattle.awk_types.specs.Datum.{Datum}
 use Rattle.awk_types.specs.Gives.{◌or◌, refused_or}
 use Rattle.awk_types.specs.ItemLimit.{item_limit, too_many}
 use Rattle.awk_types.specs.Value.{Value}
 use Rattle.awk_types.specs.declared.fault.Fault.TheVariants.{WrongType, Lengths, Size}
+use Rattle.awk_types.proofs.ItemLimits.{over_limit, within_limit}
 use Rattle.awk_layout.specs.Layout.{Layout}
 use Rattle.awk_layout.specs.Typing.{array_type}
-use Rattle.awk_pair_operands.proofs.RowLaws.{too_few, too_large}
 use Rattle.awk_pair.proofs.RecursionLaws.{length-rows_at}
 use Rattle.awk_pair_operands.specs.Answer.{single_or_fault}
 use Rattle.awk_pair_operands.specs.First.{AreFirstRows}
 use Rattle.awk_pair.specs.Outcomes.{ArePairs, AreTooMany}
-use Rattle.awk_pair_operands.specs.Paired.{Reach}
-use Rattle.awk_pair_operands.specs.Paired.{any_uneven, paired_value}
+use Rattle.awk_pair_operands.specs.Paired.{Reach, any_uneven, paired_value}
 use Rattle.awk_pair_operands.specs.Pairs.{reach, below, typs, first_rows, some_array, datum_side}
-use Rattle.awk_pair_operands.specs.Pairs.{pair_type, pair_values, are_uneven}
-use Rattle.awk_pair_operands.specs.Pairs.{lengths_refused, pair_refused}
+use Rattle.awk_pair_operands.specs.Pairs.{pair_type, pair_values, are_uneven, lengths_refused}
+use Rattle.awk_pair_operands.specs.Pairs.{pair_refused, has_wrong_end}
 use Rattle.awk_frames.specs.Sizes.{levels_refused, sizes_refused}
-use Rattle.awk_pair_operands.specs.Pairs.{has_wrong_end}
 use Rattle.awk_frames.specs.Shape.{Shape}
-use Rattle.awk_pair_sides.proofs.RangeLaws.{length-map}
 use Rattle.awk_pair_sides.specs.Rows.{rows_at}
 use Rattle.awk_pair_sides.specs.Sides.{equally_long}
 
@@ -100,7 +96,7 @@ module _ (keep : Bool) where
   values-count : (d : Option ℕ) (ds : List Datum) (n : ℕ) (ys : List Layout)
       → rows_at ys n ≡ first_rows ds → length (pair_values keep d ds) ≡ n
   values-count d ds n ys r =
-      length-map (paired_value keep (reach d) (below d ds) (typs ds)) (first_rows ds)
+      length-map (first_rows ds) (paired_value keep (reach d) (below d ds) (typs ds))
       ∙ ap length (sym r) ∙ length-rows_at ys n
 
   sizes-few : (d : Option ℕ) (ds : List Datum) (n : ℕ) (ys : List Layout)
@@ -110,7 +106,8 @@ module _ (keep : Bool) where
   sizes-few d ds n ys r l =
       ap (λ k. too_many k or levels_refused (pair_type keep d ds) (pair_values keep d ds))
       (values-count d ds n ys r)
-      ∙ ap (λ f. f or levels_refused (pair_type keep d ds) (pair_values keep d ds)) (too_few n l)
+      ∙ ap (λ f. f or levels_refused (pair_type keep d ds) (pair_values keep d ds))
+      (within_limit n l)
 
   sizes-large : (d : Option ℕ) (ds : List Datum) (n : ℕ) (ys : List Layout)
       → rows_at ys n ≡ first_rows ds → item_limit < n
@@ -118,7 +115,7 @@ module _ (keep : Bool) where
   sizes-large d ds n ys r l =
       ap (λ k. too_many k or levels_refused (pair_type keep d ds) (pair_values keep d ds))
       (values-count d ds n ys r)
-      ∙ ap (λ f. f or levels_refused (pair_type keep d ds) (pair_values keep d ds)) (too_large n l)
+      ∙ ap (λ f. f or levels_refused (pair_type keep d ds) (pair_values keep d ds)) (over_limit n l)
 
   -- ---- the answers of `pair`
 

@@ -1,22 +1,18 @@
 -- How long the lists of each row are, where all are as long as others.
-use Rattle.std.proofs.Common.{◌≡◌, ℕ, zero, suc, ◌+◌, ◌<◌, ◌==◌, Bool, true, false, not}
-use Rattle.std.proofs.Common.{inl, inr, refl, ap, arith, sym, subst, ◌∙◌}
-use Rattle.std.proofs.Common.{◌≢◌, drop}
+use Rattle.std.proofs.Common.{◌≡◌, ℕ, zero, suc, ◌+◌, ◌<◌, ◌==◌, Bool, true, false, not, inl, inr}
+use Rattle.std.proofs.Common.{refl, ap, arith, sym, subst, ◌∙◌, ◌≢◌, drop}
 use Rattle.std.specs.Prelude.{List, [], ◌∷◌, length, nat_lt, slice_get, Some}
 use Rattle.std.specs.List.{list_all, range_with_len}
 use Rattle.std.proofs.lemmas.Bool.{and_parts, not-false}
 use Rattle.awk_base.proofs.Lists.{drop-get}
 use Rattle.awk_lanes.specs.Places.{size_of}
-use Rattle.awk_columns.specs.Lists.{Listed}
-use Rattle.awk_list_rows.specs.InRow.{length_of}
-use Rattle.awk_pair_levels.specs.Shares.{share_lengths, lengths_at, length_at}
-use Rattle.awk_pair_levels.specs.Shares.{any_differ, is_alike, IsEven, AreEven, IsAmong}
-use Rattle.awk_pair_levels.specs.Shares.{IsAsLong, AreAsLong}
+use Rattle.awk_columns.specs.Lists.{Listed, length_of}
+use Rattle.awk_pair_levels.specs.Shares.{share_lengths, lengths_at, length_at, any_differ, is_alike}
+use Rattle.awk_pair_levels.specs.Shares.{IsEven, AreEven, IsAmong, IsAsLong, AreAsLong}
 use Rattle.awk_pair_sides.specs.Sides.{all_same, first_or_zero}
 use Rattle.awk_pair_levels.specs.declared.shares.Share.{Share}
 use Rattle.awk_pair_levels.specs.declared.shares.Share.TheVariants.{Lists, Items}
-use Rattle.awk_pair_sides.proofs.RangeLaws.{all_places, no_place, place_holds, place_fails}
-use Rattle.awk_pair_sides.proofs.RangeLaws.{fails}
+use Rattle.awk_pair_sides.proofs.RangeLaws.{all_places, no_place, place_holds, place_fails, fails}
 
 abbrev AllAre : ℕ → List ℕ → Type 0
 AllAre c [] = Unit {0}

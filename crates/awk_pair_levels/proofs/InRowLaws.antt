@@ -7,10 +7,10 @@ use Rattle.awk_lanes.specs.Places.{size_of}
 use Rattle.awk_layout.specs.Layout.{Layout}
 use Rattle.awk_layout.specs.Valid.{len}
 use Rattle.awk_open.specs.Opened.{AreLong}
-use Rattle.awk_columns.specs.Lists.{Listed}
-use Rattle.awk_list_rows.specs.InRow.{length_of, AreEnds, HoldsItems}
+use Rattle.awk_columns.specs.Lists.{Listed, length_of}
+use Rattle.awk_list_rows.specs.InRow.{AreEnds, HoldsItems}
 use Rattle.awk_list_rows.proofs.EndLaws.{same_ends}
-use Rattle.awk_pair_sides.specs.Levels.{item_of}
+use Rattle.awk_types.specs.Parts.{item_of}
 use Rattle.awk_pair_levels.specs.InRow.{IsOf, AreOf}
 use Rattle.awk_pair_levels.specs.Shares.{AreListsOf, IsNext, AreShares}
 use Rattle.awk_pair_levels.specs.declared.shares.Share.{Share}

@@ -1,34 +1,33 @@
 -- What each share gives to the rows below.
 use Rattle.std.proofs.Common.{◌≡◌, ℕ, ◌+◌, ◌<◌, ◌≤◌, ap, arith, sym, subst, ◌∙◌}
 use Rattle.std.proofs.Common.{take, drop, true, false}
-use Rattle.std.specs.Prelude.{List, [], ◌∷◌, ◌++◌, length, map, get_or, pos, slice_get, Some}
+use Rattle.std.specs.Prelude.{List, [], ◌∷◌, ◌++◌, length, map, get_or, slice_get, Some}
 use Rattle.std.specs.List.{flat_map, list_all, range_with_len}
 use Rattle.std.proofs.lemmas.Bool.{and_parts}
 use Rattle.std.proofs.lemmas.List.{take_all}
 use Rattle.std.proofs.lemmas.List.FromFn.{get_or-range_with_len, length-map-range_with_len}
 use Rattle.std.proofs.lemmas.List.FromFn.{get_or-map-range_with_len}
-use Rattle.awk_base.proofs.Ranges.{map-in}
 use Rattle.awk_base.proofs.Truths.{not-both}
 use Rattle.awk_base.proofs.Lists.{drop-get, take-get}
 use Rattle.awk_types.specs.ItemLimit.{item_limit}
 use Rattle.awk_lanes.specs.Column.{Column}
 use Rattle.awk_lanes.specs.Counted.{before, offsets_by}
 use Rattle.awk_lanes.specs.Places.{size_of, place_at, IsIndex}
-use Rattle.awk_lanes.specs.declared.kind.Kind.TheVariants.{I64}
+use Rattle.awk_lanes.proofs.CountedLanes.{before-same, before-room}
 use Rattle.awk_layout.specs.Layout.{Layout, flat}
 use Rattle.awk_gather.specs.Arrays.{array_item, IsGathered}
 use Rattle.awk_counts.specs.Counted.{first_of, numbers_at, span_at, spans}
+use Rattle.awk_counts.proofs.ListLaws.{offsets-same}
 use Rattle.awk_list_numbers.specs.ListPlaces.{list_places}
 use Rattle.awk_columns.specs.Reached.{IsReached}
 use Rattle.awk_columns.specs.ListClass.{Class}
-use Rattle.awk_columns.specs.Lists.{Listed}
+use Rattle.awk_columns.specs.Lists.{Listed, length_of}
 use Rattle.awk_columns.proofs.MovedNumbers.{numbers_reached}
 use Rattle.awk_columns.proofs.ReachedContents.{first_of-at, reached-len, reached-item}
 use Rattle.awk_pair_sides.specs.Levels.{common_class}
 use Rattle.awk_pair_sides.proofs.PlaceLaws.{places_of, repeats_index, size-places_of}
 use Rattle.awk_pair_sides.proofs.PlaceLaws.{place-places_of}
-use Rattle.awk_pair_sides.proofs.RangeLaws.{length-flat, length-range, before-same, before-room}
-use Rattle.awk_list_rows.specs.InRow.{length_of}
+use Rattle.awk_pair_sides.proofs.RangeLaws.{length-flat, length-range}
 use Rattle.awk_list_rows.proofs.WholeLaws.{spans-before}
 use Rattle.awk_pair_levels.specs.Shares.{length_at, share_class, IsEven, AreEven}
 use Rattle.awk_pair_levels.specs.Shares.{any_differ, IsAmong, IsNext, AreNext, AreSharedRows}
@@ -181,13 +180,6 @@ pub next_all : (m : ℕ → ℕ) (n : ℕ) (ps : List Share) (zs : List Layout) 
 next_all m n ps zs i l h = subst (λ w. AreNext m n w zs) (take_all i ps l) h
 
 -- ---- by the lists of one operand
-
-offsets-same : (m k : ℕ → ℕ) (n : ℕ) → ((i : ℕ) → i < n → m i ≡ k i)
-    → offsets_by m n ≡ offsets_by k n
-offsets-same m k n h =
-    ap (λ zs. record { kind = I64; items = zs })
-    (map-in (λ i. pos (before m i)) (λ i. pos (before k i)) 0 (n + 1)
-    (λ i l. ap (λ b. pos b) (before-same m k i (λ j q. h j (omega (arith, l, q))))))
 
 module _ (l : Listed) (n : ℕ) (ps : List Share) where
   abbrev ByLead : Type 0

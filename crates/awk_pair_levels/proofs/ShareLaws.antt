@@ -6,42 +6,27 @@ use Rattle.std.proofs.lemmas.List.{take_all, length-take}
 use Rattle.std.proofs.lemmas.Option.{slice_get_within}
 use Rattle.awk_base.proofs.Lists.{take-get}
 use Rattle.awk_types.specs.DataType.{DataType, unknown, leaf, var, reg, rec, tup, opt, uni}
+use Rattle.awk_types.specs.Parts.{item_of}
 use Rattle.awk_types.specs.Predicates.{is_list_or_unknown}
 use Rattle.awk_types.specs.Value.{null}
 use Rattle.awk_lanes.specs.Counted.{before}
 use Rattle.awk_lanes.specs.Places.{size_of, place_at}
+use Rattle.awk_lanes.proofs.CountedLanes.{before-same}
 use Rattle.awk_layout.specs.Layout.{Layout}
 use Rattle.awk_layout.specs.Typing.{array_type}
 use Rattle.awk_layout.specs.Valid.{len}
+use Rattle.awk_layout.proofs.Runs.{get-run}
 use Rattle.awk_gather.specs.Arrays.{array_item}
 use Rattle.awk_columns.specs.Columns.{list_items}
-use Rattle.awk_columns.specs.ListClass.{Class, list_type}
-use Rattle.awk_columns.specs.Lists.{Listed, AreLists, AreOfClass}
-use Rattle.awk_open.specs.Opens.{OpensLists}
+use Rattle.awk_columns.specs.ListClass.{Class}
+use Rattle.awk_columns.specs.Lists.{Listed, AreLists, AreOfClass, length_of}
 use Rattle.awk_pair_sides.specs.Levels.{Role, listed, stretched, repeated, role, unless, kept_at}
-use Rattle.awk_pair_sides.specs.Levels.{is_single, item_of}
-use Rattle.awk_list_rows.specs.InRow.{length_of}
+use Rattle.awk_pair_sides.specs.Levels.{is_single}
 use Rattle.awk_pair_levels.specs.Shares.{AreListsOf, AreItemsOf, IsShare, AreShares}
 use Rattle.awk_pair_levels.specs.Shares.{HasOnes, IsNext}
 use Rattle.awk_pair_sides.specs.Sides.{always}
 use Rattle.awk_pair_levels.specs.declared.shares.Share.{Share}
 use Rattle.awk_pair_levels.specs.declared.shares.Share.TheVariants.{Lists}
-use Rattle.awk_pair_sides.proofs.PlaceLaws.{get-run}
-use Rattle.awk_pair_sides.proofs.RangeLaws.{before-same}
-
--- ---- lists
-
-item-of-list : (c : Class) (t : DataType) → item_of (list_type c t) ≡ t
-item-of-list None t = refl
-item-of-list (Some n) t = refl
-
-pub opened_lists : (x : Layout) (l : Listed) → OpensLists l.class l.starts l.stops l.content x
-    → AreListsOf (len x) x l
-opened_lists x l h = record {
-  size = h.size;
-  typ = sym (ap item_of h.typ ∙ item-of-list l.class (array_type l.content));
-  items = h.items;
-}
 
 -- ---- lists of size 1
 

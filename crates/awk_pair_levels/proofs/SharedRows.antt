@@ -4,26 +4,29 @@ use Rattle.std.proofs.Common.{arith, sym, subst, ◌∙◌}
 use Rattle.std.specs.Prelude.{List, [], ◌∷◌, ◌++◌, map, length, get_or, pos}
 use Rattle.std.specs.List.{list_any, flat_map, range_with_len}
 use Rattle.std.proofs.lemmas.Simd.{map-map}
+use Rattle.std.proofs.lemmas.List.{length-map}
 use Rattle.awk_base.proofs.Ranges.{map-in, flat-in}
 use Rattle.awk_types.specs.ItemLimit.{item_limit}
+use Rattle.awk_types.specs.Parts.{item_of}
 use Rattle.awk_types.specs.Value.{null}
 use Rattle.awk_lanes.specs.Column.{Column}
 use Rattle.awk_lanes.specs.Counted.{before}
 use Rattle.awk_lanes.specs.Places.{place_at}
 use Rattle.awk_lanes.specs.declared.kind.Kind.TheVariants.{I64}
+use Rattle.awk_lanes.proofs.CountedLanes.{before-same}
 use Rattle.awk_layout.specs.Layout.{Layout}
 use Rattle.awk_layout.specs.Typing.{array_type}
-use Rattle.awk_layout.proofs.Runs.{length-run}
+use Rattle.awk_layout.proofs.Runs.{length-run, get-run}
 use Rattle.awk_gather.specs.Arrays.{array_item}
 use Rattle.awk_open.specs.Opened.{AreLong}
 use Rattle.awk_columns.specs.Columns.{list_items}
 use Rattle.awk_columns.specs.ListClass.{Class}
+use Rattle.awk_columns.specs.Lists.{length_of}
 use Rattle.awk_pair_sides.specs.Levels.{Role, listed, role, roles_by, role_class, unless}
 use Rattle.awk_pair_sides.specs.Levels.{roles, stretches, stretched, repeated, some_option}
-use Rattle.awk_pair_sides.specs.Levels.{item_of, item_types, common_class}
+use Rattle.awk_pair_sides.specs.Levels.{item_types, common_class}
 use Rattle.awk_pair_sides.specs.Rows.{row_at, rows_at, lengths_offsets}
 use Rattle.awk_pair_levels.specs.Inner.{AreInner, IsBelow}
-use Rattle.awk_list_rows.specs.InRow.{length_of}
 use Rattle.awk_pair_levels.specs.Shares.{share_lengths, lengths_at, length_at}
 use Rattle.awk_pair_levels.specs.Shares.{share_class, share_at, any_differ, IsShare, AreShares}
 use Rattle.awk_pair_levels.specs.Shares.{IsEven, AreEven, IsNext, AreNext, AreSharedRows, IsAsLong}
@@ -37,9 +40,7 @@ use Rattle.awk_pair_sides.specs.Sides.{first_or_zero, differ, inner_rows, inner_
 use Rattle.awk_pair_levels.specs.declared.shares.Share.{Share}
 use Rattle.awk_pair_levels.specs.declared.shares.Share.TheVariants.{Lists, Items}
 use Rattle.awk_pair_sides.proofs.LevelTypes.{presents-bare, roles-bare, is_listed}
-use Rattle.awk_pair_sides.proofs.PlaceLaws.{get-run}
-use Rattle.awk_pair_sides.proofs.RangeLaws.{length-map, length-range, any-in}
-use Rattle.awk_pair_sides.proofs.RangeLaws.{flat-map, length-flat, pieces, before-same}
+use Rattle.awk_pair_sides.proofs.RangeLaws.{length-range, any-in, flat-map, length-flat, pieces}
 use Rattle.awk_pair_sides.proofs.TestLaws.{any-map}
 
 -- ---- one operand
@@ -250,8 +251,8 @@ module _ (keep : Bool) (n : ℕ) (xs : List Layout) (ps : List Share) where
   rows-length : (i : ℕ) → length (inner_rows keep (map array_type xs) (row_at xs i))
       ≡ inner_length keep (map array_type xs) (row_at xs i)
   rows-length i =
-      length-map (λ k. map (side_at k) (sides (roles keep (map array_type xs)) (row_at xs i)))
-      (range_with_len 0 (inner_length keep (map array_type xs) (row_at xs i)))
+      length-map (range_with_len 0 (inner_length keep (map array_type xs) (row_at xs i)))
+      (λ k. map (side_at k) (sides (roles keep (map array_type xs)) (row_at xs i)))
       ∙ length-range 0 (inner_length keep (map array_type xs) (row_at xs i))
 
   -- how many rows there are below

@@ -1,9 +1,10 @@
 -- What operands give to all rows of a level, as columns, and the rows below that these make.
-use Rattle.std.specs.Prelude.{◌≡◌, ℕ, ◌+◌, ◌<◌, ◌≤◌, ◌==◌, Bool, true, false, not, ◌⊎◌}
-use Rattle.std.specs.Prelude.{List, [], ◌∷◌, map, pos, Option, Some, None}
+use Rattle.std.specs.Prelude.{◌≡◌, ℕ, ◌+◌, ◌<◌, ◌≤◌, ◌==◌, Bool, true, false, not, ◌⊎◌, List, []}
+use Rattle.std.specs.Prelude.{◌∷◌, map, pos, Option, Some, None}
 use Rattle.std.specs.List.{list_any, list_all, flat_map, range_with_len}
 use Rattle.awk_types.specs.DataType.{DataType}
 use Rattle.awk_types.specs.ItemLimit.{item_limit}
+use Rattle.awk_types.specs.Parts.{item_of}
 use Rattle.awk_types.specs.Value.{Value, list}
 use Rattle.awk_lanes.specs.Column.{Column}
 use Rattle.awk_lanes.specs.Counted.{before, items_lane, offsets_by}
@@ -15,10 +16,8 @@ use Rattle.awk_layout.specs.Typing.{array_type}
 use Rattle.awk_layout.specs.Valid.{len}
 use Rattle.awk_gather.specs.Arrays.{array_item}
 use Rattle.awk_columns.specs.ListClass.{Class}
-use Rattle.awk_columns.specs.Lists.{Listed}
-use Rattle.awk_list_rows.specs.InRow.{length_of}
-use Rattle.awk_pair_sides.specs.Levels.{Role, listed, role, role_class, unless, item_of}
-use Rattle.awk_pair_sides.specs.Levels.{common_class}
+use Rattle.awk_columns.specs.Lists.{Listed, length_of}
+use Rattle.awk_pair_sides.specs.Levels.{Role, listed, role, role_class, unless, common_class}
 use Rattle.awk_pair_sides.specs.Sides.{side, always, first_or_zero, all_same}
 use Rattle.awk_pair_levels.specs.declared.below.Below.{Below}
 use Rattle.awk_pair_levels.specs.declared.below.Below.TheVariants as below

@@ -4,12 +4,11 @@ ghost use Rattle.std.specs.List.{list_any, list_all, flat_map, range_with_len};
 ghost use Rattle.awk_lanes.specs.Counted.{offsets_by};
 ghost use Rattle.awk_lanes.specs.Places.{size_of};
 ghost use Rattle.awk_pair_sides.specs.Levels.{common_class};
-ghost use Rattle.awk_list_rows.specs.InRow.{length_of};
-ghost use Rattle.awk_pair_levels.specs.Shares.{is_lists, is_alike as is_alike_to};
-ghost use Rattle.awk_pair_levels.specs.Shares.{share_class, class_list};
-ghost use Rattle.awk_pair_levels.specs.Shares.{is_flat as is_flat_column};
-ghost use Rattle.awk_pair_levels.specs.Shares.{is_plain as is_plain_share};
-ghost use Rattle.awk_pair_levels.specs.Shares.{IsAsLong, AreAsLong, IsAmong};
+ghost use Rattle.awk_columns.specs.Lists.{length_of};
+ghost use Rattle.awk_pair_levels.specs.Shares.{is_lists, is_alike as is_alike_to, share_class};
+ghost use Rattle.awk_pair_levels.specs.Shares.{class_list, is_flat as is_flat_column};
+ghost use Rattle.awk_pair_levels.specs.Shares.{is_plain as is_plain_share, IsAsLong, AreAsLong};
+ghost use Rattle.awk_pair_levels.specs.Shares.{IsAmong};
 ghost use Rattle.awk_pair_levels.specs.InRow.{IsOf, AreOf};
 ghost use Rattle.awk_pair_levels.specs.declared.shares.Share.TheVariants as given;
 

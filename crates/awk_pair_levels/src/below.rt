@@ -9,7 +9,7 @@ ghost use Rattle.awk_layout.specs.Typing.{array_type};
 ghost use Rattle.awk_layout.specs.Valid.{len};
 ghost use Rattle.awk_open.specs.Opened.{AreLong};
 ghost use Rattle.awk_pair_sides.specs.Levels as spec;
-ghost use Rattle.awk_list_rows.specs.InRow.{length_of};
+ghost use Rattle.awk_columns.specs.Lists.{length_of};
 ghost use Rattle.awk_pair_levels.specs.InRow.{IsOf, AreOf};
 ghost use Rattle.awk_pair_levels.specs.Inner.{IsBelow};
 ghost use Rattle.awk_pair_levels.specs.Shares.{is_lists, AreEven, AreAsLong, IsAmong};
@@ -20,7 +20,7 @@ ghost use Rattle.awk_pair_levels.specs.declared.shares.Share.TheVariants as give
 use crate::alike::{all_plain, are_alike, is_flat, lead_in, level_class};
 use crate::shares::{Share, no_places, shares_of};
 use awk_columns::{Bounds, Lists, places_of};
-use awk_gather::{array_within, gather};
+use awk_gather::gather;
 use awk_lanes::{Arena, Items, Lane, Lengths, NoMemory, Num, Steps, number};
 use awk_layout::{Array, Arrays, Class, Node};
 use awk_list_numbers::{Places, list_numbers};
@@ -51,8 +51,8 @@ struct Repeats<'b, 'r, 'a> {
 }
 
 impl<'b, 'r, 'a> Lengths for Repeats<'b, 'r, 'a> {
+    ghost use Rattle.awk_columns.specs.Lists.{length_of};
     ghost use Rattle.awk_lanes.specs.Places.{size_of};
-    ghost use Rattle.awk_list_rows.specs.InRow.{length_of};
 
     ghost length = { λ f. length_of f.lists.now };
 
@@ -135,7 +135,7 @@ fn repeated_numbers<'a, L: Ledger>(
     let n = level.lead.len();
     let repeats = Repeats { lists: level.lead };
     let numbers = list_numbers(lane, n, level.count, &repeats, arena, steps)?;
-    let array = array_within(alloc, Node::numpy(numbers, steps))?;
+    let array = Array::of_node(alloc, Node::numpy(numbers, steps))?;
     Ok(array)
 }
 

@@ -9,7 +9,7 @@ use Rattle.std.proofs.lemmas.List.{take_all}
 use Rattle.std.proofs.lemmas.Bool.{and_parts}
 use Rattle.awk_base.proofs.Ranges.{map-in}
 use Rattle.awk_base.proofs.Lists.{drop-get, take-get}
-use Rattle.awk_types.specs.Datum.{Datum, arr, one}
+use Rattle.awk_types.specs.Datum.{Datum, arr, one, datum_type}
 use Rattle.awk_lanes.specs.Column.{Column}
 use Rattle.awk_lanes.specs.Places.{size_of, place_at, at, IsIndex}
 use Rattle.awk_lanes.specs.Made.{lane_of}
@@ -28,15 +28,14 @@ use Rattle.awk_layout.proofs.ArrayItems.{length-array_items, get_or-array_items}
 use Rattle.awk_gather.specs.Arrays.{array_item, IsGathered}
 use Rattle.awk_open.specs.Opened.{AreLong}
 use Rattle.awk_pair_operands.specs.First.{all_data, IsColumn, AreColumns, operand_lengths}
-use Rattle.awk_pair_operands.specs.First.{array_lengths}
-use Rattle.awk_pair_operands.specs.First.{first_of, IsRowColumn, AreRowColumns, AreFirstRows}
-use Rattle.awk_pair_operands.specs.Pairs.{is_array, item_type, datum_side, single_value, typs}
-use Rattle.awk_pair_operands.specs.Pairs.{some_array}
+use Rattle.awk_pair_operands.specs.First.{array_lengths, first_of, IsRowColumn, AreRowColumns}
+use Rattle.awk_pair_operands.specs.First.{AreFirstRows}
+use Rattle.awk_pair_operands.specs.Pairs.{is_array, datum_side, single_value, typs, some_array}
 use Rattle.awk_pair_operands.specs.Pairs.{first_rows}
 use Rattle.awk_pair_operands.specs.Typed.{IsTyped}
 use Rattle.awk_pair_sides.specs.Rows.{row_at, rows_at}
-use Rattle.awk_pair_sides.specs.Sides.{side_at, side_lengths, all_same, first_or_zero}
-use Rattle.awk_pair_sides.specs.Sides.{equally_long, each}
+use Rattle.awk_pair_sides.specs.Sides.{side_at, side_lengths, all_same, first_or_zero, equally_long}
+use Rattle.awk_pair_sides.specs.Sides.{each}
 use Rattle.awk_pair_sides.proofs.RangeLaws.{flat-map}
 
 -- ---- columns
@@ -213,7 +212,7 @@ rows-types : (n : ℕ) (ds : List Datum) (ys : List Layout) → AreRowColumns n 
     → map array_type ys ≡ typs ds
 rows-types n [] [] h = refl
 rows-types n (d ∷ ds) (y ∷ ys) h =
-    ap (λ t. t ∷ map array_type ys) h.0.typ ∙ ap (λ ts. item_type d ∷ ts) (rows-types n ds ys h.1)
+    ap (λ t. t ∷ map array_type ys) h.0.typ ∙ ap (λ ts. datum_type d ∷ ts) (rows-types n ds ys h.1)
 rows-types n [] (y ∷ ys) h = absurd h
 rows-types n (d ∷ ds) [] h = absurd h
 

@@ -2,5 +2,5 @@ mod Worked
 pub mod RowLaws
 pub mod LevelLaws
 mod FirstLaws
-mod TypeLaws
+pub mod TypeLaws
 pub mod TypedLaws

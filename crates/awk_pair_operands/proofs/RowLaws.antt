@@ -1,17 +1,13 @@
 -- What is made of the rows of a level: nulls, lists and their lanes.
-use Rattle.std.proofs.Common.{◌≡◌, ℕ, suc, ◌+◌, ◌<◌, ◌≤◌, Bool, true, false, not, ◌||◌}
-use Rattle.std.proofs.Common.{refl, ap, arith, ◌∙◌}
+use Rattle.std.proofs.Common.{◌≡◌, ℕ, suc, ◌+◌, Bool, true, false, not, ◌||◌, refl, ap, ◌∙◌}
 use Rattle.std.specs.Prelude.{List, [], ◌∷◌, ◌++◌, map, filter, length, if◌then◌else◌, pos}
-use Rattle.std.specs.Prelude.{negsuc, cond, nat_lt, Some, None}
+use Rattle.std.specs.Prelude.{negsuc, cond}
 use Rattle.std.specs.List.{list_any, flat_map}
-use Rattle.std.proofs.lemmas.List.{map-append}
+use Rattle.std.proofs.lemmas.List.{map-append, length-map}
 use Rattle.std.proofs.lemmas.List.Folds.{list_any-append}
-use Rattle.awk_types.specs.Value.{Value, int, truth, null, list, row, alt}
-use Rattle.awk_types.specs.Value.{value_list, values_from}
+use Rattle.awk_types.specs.Value.{Value, int, truth, null, list, row, alt, values_from}
 use Rattle.awk_columns.specs.Columns.{list_items, joined_items, is_present, offsets, option_index}
-use Rattle.awk_types.specs.ItemLimit.{item_limit, too_many}
-use Rattle.awk_types.specs.declared.fault.Fault.TheVariants.{Size}
-use Rattle.awk_pair_sides.proofs.RangeLaws.{length-map}
+use Rattle.awk_types.proofs.Trees.{value_list-from}
 use Rattle.awk_pair_sides.specs.Rows.{flags_index, lengths_offsets}
 use Rattle.awk_pair_sides.specs.Sides.{is_whole}
 
@@ -68,10 +64,6 @@ present-rows h e (vs ∷ rows) = kept-step h (is_whole vs) vs
 
 -- ---- lists
 
-pub value_list-from : (vs : List Value) → value_list (values_from vs) ≡ vs
-value_list-from [] = refl
-value_list-from (v ∷ vs) = ap (λ ws. v ∷ ws) (value_list-from vs)
-
 -- lists of what is made of rows
 abbrev pub list_by : (List Value → Value) → (List Value → List (List Value)) → List Value → Value
 list_by g f vs = list (values_from (map g (f vs)))
@@ -95,7 +87,7 @@ pub lengths-rows : (g : List Value → Value) (f : List Value
     → List (List Value)) (rows : List (List Value))
     → map (λ v. length (list_items v)) (map (list_by g f) rows) ≡ map (λ vs. length (f vs)) rows
 lengths-rows g f [] = refl
-lengths-rows g f (vs ∷ rows) = rw (value_list-from (map g (f vs)), length-map g (f vs))
+lengths-rows g f (vs ∷ rows) = rw (value_list-from (map g (f vs)), length-map (f vs) g)
     (ap (λ ns. length (f vs) ∷ ns) (lengths-rows g f rows))
 
 pub offsets-rows : (g : List Value → Value) (f : List Value
@@ -143,9 +135,3 @@ any-by f g e [] = refl
 any-by f g e (x ∷ xs) = ap (λ y. y || list_any f xs) (e x) ∙ ap (λ y. g x || y) (any-by f g e xs)
 
 -- ---- sizes
-
-pub too_few : (n : ℕ) → n ≤ item_limit → too_many n ≡ None
-too_few n h = let e : nat_lt 1073741824 n ≡ false = grind arith in rw e refl
-
-pub too_large : (n : ℕ) → item_limit < n → too_many n ≡ Some Size
-too_large n h = let e : nat_lt 1073741824 n ≡ true = grind arith in rw e refl

@@ -1,30 +1,32 @@
 -- The types of operands so many levels down, and the ends of a pairing by them.
-use Rattle.std.proofs.Common.{◌≡◌, ℕ, zero, suc, ◌+◌, ◌-◌, ◌<◌, Bool, true, false, not}
-use Rattle.std.proofs.Common.{refl, ap, arith, sym, subst, ◌∙◌, drop}
-use Rattle.std.specs.Prelude.{List, map, slice_get, Some, None, Option}
-use Rattle.std.specs.Prelude.{ℤ, max, if◌then◌else◌}
+use Rattle.std.proofs.Common.{◌≡◌, ℕ, zero, suc, ◌+◌, ◌-◌, ◌<◌, Bool, true, false, not, refl, ap}
+use Rattle.std.proofs.Common.{arith, sym, subst, ◌∙◌, drop}
+use Rattle.std.specs.Prelude.{List, map, slice_get, Some, None, Option, ℤ, max, if◌then◌else◌}
+use Rattle.std.specs.Prelude.{length}
 use Rattle.std.specs.List.{list_any, list_all}
 use Rattle.std.proofs.lemmas.Simd.{map-map}
+use Rattle.std.proofs.lemmas.List.{length-map}
 use Rattle.awk_base.proofs.Lists.{drop-get}
-use Rattle.awk_types.specs.DataType.{DataType, leaf}
-use Rattle.awk_types.specs.DataType.{depth}
+use Rattle.awk_types.specs.DataType.{DataType, leaf, depth}
+use Rattle.awk_types.specs.Datum.{datum_type}
+use Rattle.awk_types.specs.Parts.{item_of}
 use Rattle.awk_types.specs.Predicates.{is_leaf, is_list}
 use Rattle.awk_types.specs.Simple.{present}
 use Rattle.awk_types.specs.declared.primitive.Primitive.{Primitive}
-use Rattle.awk_layout.specs.Datum.{datum_of, kept}
 use Rattle.awk_layout.specs.Single.{own_datum, own_primitive}
 use Rattle.awk_layout.specs.Typing.{array_type}
-use Rattle.awk_layout.specs.declared.datum.Datum.{Datum}
-use Rattle.awk_layout.specs.declared.datum.Datum.TheVariants.{Arr, One}
 use Rattle.awk_layout.specs.declared.datum.Operand.{Operand}
 use Rattle.awk_layout.specs.declared.datum.Operand.TheVariants.{Literal}
+use Rattle.awk_layout.specs.Layout.{Layout}
 use Rattle.awk_pair_operands.specs.First.{all_data}
 use Rattle.awk_pair_operands.specs.Paired.{to_leaves, to_depth, is_wrong, is_wrong_end, all_levels}
-use Rattle.awk_pair_operands.specs.Pairs.{typs, item_type, below, has_wrong_end}
+use Rattle.awk_pair_operands.specs.Pairs.{typs, below, has_wrong_end, leaf_types}
+use Rattle.awk_pair_operands.specs.Paired.{types_at_ends}
 use Rattle.awk_pair_operands.specs.Types.{down, operand_type, lists_down, leaf_down, opens_down}
 use Rattle.awk_pair_operands.specs.Types.{leaves_down}
-use Rattle.awk_pair_sides.specs.Levels.{opens, item_of, item_types}
+use Rattle.awk_pair_sides.specs.Levels.{opens, item_types}
 use Rattle.awk_pair_sides.proofs.TestLaws.{any-map, all-map}
+use Rattle.awk_pair_sides.proofs.LevelTypes.{length-item_types}
 
 -- ---- one type
 
@@ -46,7 +48,7 @@ presents-down (suc k) ts =
     ∙ map-map (λ t. down k (item_of t)) present ts
 
 pub types-operands : (xs : List Operand) → map operand_type xs ≡ typs (all_data xs)
-types-operands xs = sym (map-map item_type own_datum xs)
+types-operands xs = sym (map-map datum_type own_datum xs)
 
 opens-down : (k : ℕ) (xs : List Operand)
     → opens (types_down k (map operand_type xs)) ≡ opens_down k xs
@@ -128,12 +130,6 @@ depths_next xs i x g d m e f h =
     ap (λ ys. all_levels (map operand_type ys)) (drop-get xs i x e) in
     omega (arith, s, f, h)
 
--- ---- operands
-
-pub type-kept : (d : Datum) → item_type (datum_of d) ≡ array_type (kept d)
-type-kept (Arr x) = refl
-type-kept (One x) = refl
-
 -- ---- by the depth that is asked for
 
 pub levels_none : (xs : List Operand) (d : Option ℕ) (n : ℕ) → d ≡ None
@@ -149,7 +145,7 @@ wrong_none xs d n b e f g =
     ∙ ap (λ ts. is_wrong to_leaves (all_levels ts) ts) (types-operands xs)
     ∙ sym (ap (λ c. has_wrong_end c (all_data xs)) e)
 
-never-wrong : (n : ℕ) (ts : List DataType) → is_wrong to_depth n ts ≡ false
+pub never-wrong : (n : ℕ) (ts : List DataType) → is_wrong to_depth n ts ≡ false
 never-wrong zero ts = refl
 never-wrong (suc n) ts = step (opens ts) (never-wrong n (item_types ts))
   where
@@ -172,3 +168,22 @@ literal_leaf k x z e =
 pub literal_no_list : (k : ℕ) (x : Operand) (z : ℤ) → x ≡ Literal z → false ≡ lists_down k x
 literal_no_list k x z e =
     sym (ap (lists_down k) e ∙ ap is_list (down-leaf k (own_primitive z)))
+
+pub ends-step : (b : Bool) (d : ℕ) (ts : List DataType)
+    → length (types_at_ends to_depth d (item_types ts)) ≡ length (item_types ts)
+    → length (if b then types_at_ends to_depth d (item_types ts) else ts) ≡ length ts
+ends-step true d ts e = e ∙ length-item_types ts
+ends-step false d ts e = refl
+
+-- as many ends as types
+pub ends-length : (d : ℕ) (ts : List DataType) → length (types_at_ends to_depth d ts) ≡ length ts
+ends-length zero ts = refl
+ends-length (suc d) ts = ends-step (opens ts) d ts (ends-length d (item_types ts))
+
+-- as many columns as operands
+pub columns-length : (d : ℕ) (xs : List Operand) (ys : List Layout)
+    → map array_type ys ≡ leaf_types (Some d) (all_data xs) → length ys ≡ length xs
+columns-length d xs ys e =
+    sym (length-map ys array_type) ∙ ap length e
+    ∙ ends-length (below (Some d) (all_data xs)) (typs (all_data xs))
+    ∙ length-map (all_data xs) datum_type ∙ length-map xs own_datum

@@ -1,50 +1,42 @@
 -- What is paired of data of their types is of its type.
 use Rattle.std.proofs.Common.{◌≡◌, ℕ, zero, suc, ◌+◌, ◌<◌, ◌==◌, Bool, true, false, not, ◌&&◌, ◌||◌}
 use Rattle.std.proofs.Common.{refl, ap, arith, sym, subst, ◌∙◌}
-use Rattle.std.specs.Prelude.{List, [], ◌∷◌, ◌++◌, map, length, get_or, Option, Some, None, Ok}
+use Rattle.std.specs.Prelude.{List, [], ◌∷◌, ◌++◌, map, length, Option, Some, None, Ok}
 use Rattle.std.specs.Prelude.{if◌then◌else◌}
 use Rattle.std.specs.List.{list_any, list_all, flat_map, range_with_len, AllByRecursion}
 use Rattle.std.proofs.lemmas.Bool.{and_parts, not-false, or_parts}
+use Rattle.awk_base.proofs.Every.{all-at}
 use Rattle.awk_types.specs.DataType.{DataType, unknown, leaf, var, reg, rec, tup, opt, uni}
 use Rattle.awk_types.specs.DataType.{types_from}
 use Rattle.awk_types.specs.Datum.{Datum, arr, one}
 use Rattle.awk_types.specs.Gives.{refused_or, ◌or◌}
 use Rattle.awk_types.specs.Has.{Has, HasRow}
+use Rattle.awk_types.specs.Parts.{item_of}
 use Rattle.awk_types.specs.Simple.{present, option_if}
 use Rattle.awk_types.specs.Value.{Value, int, truth, null, list, row, alt, value_list, values_from}
 use Rattle.awk_types.specs.declared.fault.Fault.{Fault}
+use Rattle.awk_types.proofs.Trees.{value_list-from}
 use Rattle.awk_columns.specs.Columns.{is_present}
 use Rattle.awk_columns.specs.ListClass.{Class, list_type}
 use Rattle.awk_frames.specs.Framed.{IsFrame}
 use Rattle.awk_frames.specs.Sizes.{sizes_refused}
 use Rattle.awk_frames.proofs.FrameLaws.{sized_frame}
-use Rattle.awk_pair_operands.proofs.RowLaws.{value_list-from}
 use Rattle.awk_pair_operands.specs.Answer.{single_or_fault, shared_shape, shared_ends}
 use Rattle.awk_pair_operands.specs.Paired.{Reach, to_leaves, to_depth, end_type, end_value}
-use Rattle.awk_pair_operands.specs.Paired.{paired_type}
-use Rattle.awk_pair_operands.specs.Paired.{paired_value, is_uneven, any_uneven}
+use Rattle.awk_pair_operands.specs.Paired.{paired_type, paired_value, is_uneven, any_uneven}
 use Rattle.awk_pair_operands.specs.Pairs.{datum_side, single_value, typs, some_array, first_rows}
-use Rattle.awk_pair_operands.specs.Pairs.{reach}
-use Rattle.awk_pair_operands.specs.Pairs.{below}
-use Rattle.awk_pair_operands.specs.Pairs.{pair_type, pair_values, are_uneven, lengths_refused}
-use Rattle.awk_pair_operands.specs.Pairs.{type_refused}
+use Rattle.awk_pair_operands.specs.Pairs.{reach, below, pair_type, pair_values, are_uneven}
+use Rattle.awk_pair_operands.specs.Pairs.{lengths_refused, type_refused}
 use Rattle.awk_pair_operands.specs.Typed.{IsTyped, HasEach}
 use Rattle.awk_pair_sides.proofs.LevelTypes.{presents-bare}
-use Rattle.awk_pair_sides.specs.Levels.{listed, stretched, role, roles_by, roles}
-use Rattle.awk_pair_sides.specs.Levels.{unless, stretches, item_of, item_types, opens, some_option}
-use Rattle.awk_pair_sides.specs.Levels.{role_class, is_class, common_class, level_class}
+use Rattle.awk_pair_sides.specs.Levels.{listed, stretched, role, roles_by, roles, unless, stretches}
+use Rattle.awk_pair_sides.specs.Levels.{item_types, opens, some_option, role_class, is_class}
+use Rattle.awk_pair_sides.specs.Levels.{common_class, level_class}
 use Rattle.awk_pair_sides.specs.Sides.{Side, each, always, side, sides, side_at, side_lengths}
 use Rattle.awk_pair_sides.specs.Sides.{first_or_zero, all_same, common_length, equally_long}
-use Rattle.awk_pair_sides.specs.Sides.{rows_of}
-use Rattle.awk_pair_sides.specs.Sides.{level_sides, differ, inner_rows, misses, is_whole}
+use Rattle.awk_pair_sides.specs.Sides.{rows_of, level_sides, differ, inner_rows, misses, is_whole}
 
 -- ---- rows of sides
-
-all-get : (t : DataType) (vs : List Value) (i : ℕ) → AllByRecursion (Has t) vs → i < length vs
-    → Has t (get_or vs i null)
-all-get t [] i h l = absurd (omega (arith, l))
-all-get t (v ∷ vs) zero h l = h.0
-all-get t (v ∷ vs) (suc i) h l = all-get t vs i h.1 (omega (arith, l))
 
 -- what a side gives is of a type
 abbrev IsSideOf : DataType → Side → Type 0
@@ -66,7 +58,7 @@ row-has n k (t ∷ ts) (each vs ∷ ss) h e l =
     × (list_all (λ m. n == m) (flat_map side_lengths ss) ≡ true) =
     and_parts (n == length vs) (list_all (λ m. n == m) (flat_map side_lengths ss)) e in
     let f : n ≡ length vs = grind (arith, both.0) in
-    (all-get t vs k h.0 (omega (arith, f, l)), row-has n k ts ss h.1 both.1 l)
+    (all-at (Has t) vs k null h.0 (omega (arith, f, l)), row-has n k ts ss h.1 both.1 l)
 row-has n k (t ∷ ts) (always v ∷ ss) h e l = (h.0, row-has n k ts ss h.1 e l)
 row-has n k [] (s ∷ ss) h e l = absurd h
 row-has n k (t ∷ ts) [] h e l = absurd h
@@ -148,7 +140,7 @@ present-have ts vs false w e f g h =
 reg-side : (b : Bool) (n : ℕ) (t : DataType) (v : Value) → (b ≡ true → n ≡ 1) → Has (reg n t) v
     → IsSideOf t (side (if b then stretched else listed (Some n)) v)
 reg-side true n t (list ws) e h =
-    all-get t (value_list ws) 0 h.1 (omega (arith, h.0, e refl))
+    all-at (Has t) (value_list ws) 0 null h.1 (omega (arith, h.0, e refl))
 reg-side false n t (list ws) e h = h.1
 reg-side b n t (int z) e h = absurd h
 reg-side b n t (truth c) e h = absurd h

@@ -2,7 +2,7 @@
 use Rattle.std.specs.Prelude.{◌≡◌, ℕ, ◌<◌, Bool, true, false, not, List, [], ◌∷◌, map}
 use Rattle.std.specs.Prelude.{Option, Some, None}
 use Rattle.std.specs.List.{flat_map}
-use Rattle.awk_types.specs.Datum.{Datum, arr, one}
+use Rattle.awk_types.specs.Datum.{Datum, arr, one, datum_type}
 use Rattle.awk_layout.specs.Layout.{Layout}
 use Rattle.awk_layout.specs.Single.{own_datum}
 use Rattle.awk_layout.specs.Typing.{array_type, array_items}
@@ -12,7 +12,7 @@ use Rattle.awk_gather.specs.Arrays.{array_item}
 use Rattle.awk_open.specs.Opened.{AreLong}
 use Rattle.awk_pair_sides.specs.Rows.{rows_at}
 use Rattle.awk_pair_sides.specs.Sides.{equally_long, side_at, side_lengths}
-use Rattle.awk_pair_operands.specs.Pairs.{typs, item_type, datum_side, some_array, first_rows}
+use Rattle.awk_pair_operands.specs.Pairs.{typs, datum_side, some_array, first_rows}
 use Rattle.awk_pair_operands.specs.declared.first.First.{First}
 use Rattle.awk_pair_operands.specs.declared.first.First.TheVariants as first
 
@@ -52,7 +52,7 @@ first_of (n ∷ ns) = Some n
 -- y has what a datum gives to each of n rows
 pub record IsRowColumn (n : ℕ) (d : Datum) (y : Layout) : Type 0 where
   pub size : len y ≡ n
-  pub typ : array_type y ≡ item_type d
+  pub typ : array_type y ≡ datum_type d
   pub items : (k : ℕ) → k < n → array_item y k ≡ side_at k (datum_side d)
 
 abbrev pub AreRowColumns : ℕ → List Datum → List Layout → Type 0

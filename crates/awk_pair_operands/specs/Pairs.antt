@@ -3,7 +3,7 @@ use Rattle.std.specs.Prelude.{ℕ, ◌-◌, Bool, true, false, ◌||◌, not, Li
 use Rattle.std.specs.Prelude.{get_or, Option, Some, None, Result, if◌then◌else◌}
 use Rattle.std.specs.List.{list_any}
 use Rattle.awk_types.specs.DataType.{DataType}
-use Rattle.awk_types.specs.Datum.{Datum, arr, one}
+use Rattle.awk_types.specs.Datum.{Datum, arr, one, datum_type}
 use Rattle.awk_types.specs.Gives.{refused_or, ◌or◌}
 use Rattle.awk_frames.specs.Sizes.{sizes_refused}
 use Rattle.awk_types.specs.Value.{Value, null}
@@ -19,10 +19,6 @@ abbrev pub is_array : Datum → Bool
 is_array (arr t vs) = true
 is_array (one t v) = false
 
-abbrev pub item_type : Datum → DataType
-item_type (arr t vs) = t
-item_type (one t v) = t
-
 -- an array gives its items, and a single value stands at every place
 abbrev pub datum_side : Datum → Side
 datum_side (arr t vs) = each vs
@@ -33,7 +29,7 @@ single_value (arr t vs) = null
 single_value (one t v) = v
 
 abbrev pub typs : List Datum → List DataType
-typs xs = map item_type xs
+typs xs = map datum_type xs
 
 abbrev pub some_array : List Datum → Bool
 some_array xs = list_any is_array xs

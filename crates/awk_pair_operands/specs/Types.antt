@@ -2,12 +2,12 @@
 use Rattle.std.specs.Prelude.{ℕ, zero, suc, Bool, List}
 use Rattle.std.specs.List.{list_any, list_all}
 use Rattle.awk_types.specs.DataType.{DataType}
+use Rattle.awk_types.specs.Datum.{datum_type}
+use Rattle.awk_types.specs.Parts.{item_of}
 use Rattle.awk_types.specs.Predicates.{is_leaf, is_list}
 use Rattle.awk_types.specs.Simple.{present}
 use Rattle.awk_layout.specs.Single.{own_datum}
 use Rattle.awk_layout.specs.declared.datum.Operand.{Operand}
-use Rattle.awk_pair_operands.specs.Pairs.{item_type}
-use Rattle.awk_pair_sides.specs.Levels.{item_of}
 
 -- without its option
 abbrev pub down : ℕ → DataType → DataType
@@ -15,7 +15,7 @@ down zero t = present t
 down (suc k) t = down k (item_of (present t))
 
 abbrev pub operand_type : Operand → DataType
-operand_type x = item_type (own_datum x)
+operand_type x = datum_type (own_datum x)
 
 -- whether an operand is a list, or a leaf, so many levels down
 abbrev pub lists_down : ℕ → Operand → Bool

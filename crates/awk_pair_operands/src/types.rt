@@ -1,6 +1,7 @@
 //! What the types of operands tell before their values are looked at.
 ghost use Rattle.std.specs.Prelude.{◌≡◌, map};
 ghost use Rattle.awk_types.specs.DataType.{depth as type_depth};
+ghost use Rattle.awk_types.specs.Parts.{item_of};
 ghost use Rattle.awk_types.specs.View.{typ_of};
 ghost use Rattle.awk_layout.specs.Datum.{IsOperand};
 ghost use Rattle.awk_pair_operands.specs.First.{all_data};
@@ -9,7 +10,6 @@ ghost use Rattle.awk_pair_operands.specs.Paired as spec;
 ghost use Rattle.awk_pair_operands.specs.Types.{down, operand_type};
 ghost use Rattle.awk_pair_operands.specs.Types.{lists_down, leaf_down, opens_down, leaves_down};
 ghost use Rattle.awk_layout.specs.Single.{own_datum};
-ghost use Rattle.awk_pair_sides.specs.Levels.{item_of};
 
 use awk_layout::{Datum, Operand, Operands};
 use awk_pair_sides::present_type;
@@ -26,7 +26,7 @@ pub(crate) fn is_array(x: &Operand) -> bool
 }
 
 /// Whether some operand is an array.
-fn some_array(xs: &Operands) -> bool
+pub fn some_array(xs: &Operands) -> bool
     ensures { result ≡ some_array (all_data xs.now) }
 {
     for i in 0..xs.len() {

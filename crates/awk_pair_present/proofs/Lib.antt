@@ -1,3 +1,2 @@
 mod OneOption
 mod PresenceLaws
-mod PresentNumbers

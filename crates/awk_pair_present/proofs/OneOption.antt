@@ -1,17 +1,12 @@
 -- The rows of one operand that are not null are its present items.
-use Rattle.std.proofs.Common.{◌≡◌, ℕ, suc, ◌≤◌, arith, refl, ap, sym, ◌∙◌, subst}
-use Rattle.std.specs.Prelude.{pos, negsuc, not, List, [], ◌∷◌, map, filter, length}
-use Rattle.std.specs.Prelude.{slice_get, Some}
+use Rattle.std.proofs.Common.{◌≡◌, ℕ, suc, arith, refl, ap, sym, ◌∙◌, subst}
+use Rattle.std.specs.Prelude.{pos, negsuc, List, [], ◌∷◌, map, filter, length, slice_get, Some}
 use Rattle.std.specs.List.{range_with_len}
-use Rattle.std.proofs.lemmas.List.Filters.{length-filter_both}
 use Rattle.std.proofs.lemmas.Simd.{map-map}
 use Rattle.awk_types.specs.Simple.{present}
 use Rattle.awk_types.specs.Value.{Value, null, int, truth, list, row, alt}
 use Rattle.awk_lanes.specs.Column.{Column}
-use Rattle.awk_lanes.specs.Places.{IsIndexKind, IsOptionKind}
-use Rattle.awk_lanes.specs.declared.kind.Kind.{Kind}
-use Rattle.awk_lanes.specs.declared.kind.Kind.TheVariants.{Bool as Truths, I8, I16, I32, I64}
-use Rattle.awk_lanes.specs.declared.kind.Kind.TheVariants.{U8, U16, U32, U64}
+use Rattle.awk_lanes.specs.declared.kind.Kind.TheVariants.{I64}
 use Rattle.awk_layout.proofs.ArrayItems.{length-array_items}
 use Rattle.awk_layout.specs.Layout.{Layout}
 use Rattle.awk_layout.specs.Typing.{array_items}
@@ -23,21 +18,10 @@ use Rattle.awk_open.specs.declared.opening.Opened.TheVariants.{Option as Optiona
 use Rattle.awk_columns.specs.Columns.{is_present, option_index}
 use Rattle.awk_open.specs.InOrder.{IsInOrder}
 use Rattle.awk_columns.proofs.ArrayLaws.{array_items-at}
+use Rattle.awk_columns.proofs.PresentItems.{fewer-present}
 use Rattle.awk_pair_sides.specs.Rows.{rows_at, flags_index}
 use Rattle.awk_pair_sides.specs.Sides.{is_whole}
 use Rattle.awk_pair_present.specs.Present.{ArePresent}
-
--- a kind of the index of an option is a kind of an index
-pub option_index_kind : (k : Kind) → IsOptionKind k → IsIndexKind k
-option_index_kind I32 h = tt
-option_index_kind I64 h = tt
-option_index_kind Truths h = absurd h
-option_index_kind I8 h = absurd h
-option_index_kind I16 h = absurd h
-option_index_kind U8 h = absurd h
-option_index_kind U16 h = absurd h
-option_index_kind U32 h = absurd h
-option_index_kind U64 h = absurd h
 
 -- one array alone
 pub only_one : (xs : List Layout) (x : Layout) → length xs ≡ 1 → slice_get xs 0 ≡ Some x
@@ -75,10 +59,6 @@ filter-one (list us ∷ vs) = ap (λ ws. one_value (list us) ∷ ws) (filter-one
 filter-one (row us ∷ vs) = ap (λ ws. one_value (row us) ∷ ws) (filter-one vs)
 filter-one (alt j v ∷ vs) = ap (λ ws. one_value (alt j v) ∷ ws) (filter-one vs)
 
-filter-few : (vs : List Value) → length (filter is_present vs) ≤ length vs
-filter-few vs =
-    omega (arith, length-filter_both is_present (λ v. not (is_present v)) (λ v. refl) vs)
-
 -- an option in order
 pub one_present : (n : ℕ) (x y : Layout) (j : Column) (m : ℕ) → len x ≡ n
     → IsOpened x (Optional j y) → IsInner (Optional j y)
@@ -94,7 +74,7 @@ one_present n x y j m l o b h e = record {
     length-array_items y,
     length-array_items x,
     ap length h.1,
-    filter-few (array_items x),
+    fewer-present (array_items x),
   );
   types = ap (λ t. t ∷ []) (sym (ap present o.kind));
   bare = rw b refl;

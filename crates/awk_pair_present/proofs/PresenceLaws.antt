@@ -11,13 +11,13 @@ use Rattle.std.proofs.lemmas.Simd.{map-map}
 use Rattle.awk_base.proofs.Ranges.{map-in, flat-in}
 use Rattle.awk_base.proofs.Lists.{drop-get, take-get}
 use Rattle.awk_types.specs.Simple.{is_option, present}
-use Rattle.awk_types.specs.Value.{Value, int, truth, null, list, row, alt}
+use Rattle.awk_types.specs.Value.{row}
+use Rattle.awk_types.proofs.SimpleLaws.{present_stays}
 use Rattle.awk_lanes.specs.Column.{Column}
 use Rattle.awk_lanes.specs.Counted.{before, offsets_by}
 use Rattle.awk_lanes.specs.Made.{lane_of}
 use Rattle.awk_lanes.specs.Numbers.{nat_of}
-use Rattle.awk_lanes.specs.Places.{size_of, at, place_at, option_place}
-use Rattle.awk_lanes.specs.Places.{IsIndex}
+use Rattle.awk_lanes.specs.Places.{size_of, at, place_at, option_place, IsIndex}
 use Rattle.awk_lanes.specs.declared.kind.Kind.TheVariants.{I64}
 use Rattle.awk_layout.specs.Item.{at_option}
 use Rattle.awk_layout.specs.Layout.{Layout}
@@ -39,21 +39,14 @@ use Rattle.awk_pair_present.specs.Present.{ArePresent}
 use Rattle.awk_pair_sides.specs.Sides.{is_whole}
 use Rattle.awk_pair_present.specs.declared.presence.Presence.{Presence}
 use Rattle.awk_pair_present.specs.declared.presence.Presence.TheVariants.{All, Indexed}
-use Rattle.awk_pair_sides.proofs.LevelTypes.{present-bare}
 use Rattle.awk_pair_sides.proofs.PlaceLaws.{places_of, size-places_of, place-places_of}
 use Rattle.awk_pair_sides.proofs.PlaceLaws.{repeats_index}
-use Rattle.awk_pair_sides.proofs.RangeLaws.{pieces, before-room}
+use Rattle.awk_pair_sides.proofs.RangeLaws.{pieces}
 use Rattle.awk_lanes.proofs.MadeLanes.{size-lane_of, at-lane_of}
+use Rattle.awk_lanes.proofs.CountedLanes.{before-room}
+use Rattle.awk_columns.proofs.PresentItems.{not_null}
 
 -- ---- one operand
-
-not_null : (v : Value) → (v ≡ null → ⊥) → is_present v ≡ true
-not_null null h = absurd (h refl)
-not_null (int z) h = refl
-not_null (truth b) h = refl
-not_null (list vs) h = refl
-not_null (row vs) h = refl
-not_null (alt k v) h = refl
 
 item_there : (x : Layout) (i : ℕ) → IsValid x → i < len x → is_option (array_type x) ≡ false
     → is_present (array_item x i) ≡ true
@@ -98,7 +91,7 @@ presence-item n i x (Indexed j y) h e = sym (e.items i h)
 
 presence-type : (n : ℕ) (x : Layout) (p : Presence) → IsPresence n x p
     → array_type (presence_column p) ≡ present (array_type x)
-presence-type n x (All y) e = ap array_type e.same ∙ sym (present-bare (array_type x) e.bare)
+presence-type n x (All y) e = ap array_type e.same ∙ sym (present_stays (array_type x) e.bare)
 presence-type n x (Indexed j y) e = e.typ
 
 presence-bare : (n : ℕ) (x : Layout) (p : Presence) → IsPresence n x p
@@ -111,9 +104,6 @@ presence-long n x (All y) e = ap len e.same ∙ e.size
 presence-long n x (Indexed j y) e = (e.size, e.index)
 
 -- ---- the items that are taken
-
-pub taken_all : (n : ℕ) (x r : Layout) (ks : Column) → IsGathered x ks r → IsTaken (All x) ks r
-taken_all n x r ks g = record { size = g.size; typ = g.typ; items = g.each }
 
 some-place : (z : ℤ) → is_some (option_place z) ≡ true
     → (pos 0 ≤ℤ z) × (option_place z ≡ Some (nat_of z))

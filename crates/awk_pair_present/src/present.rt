@@ -1,5 +1,5 @@
 //! The rows of operands that have no null.
-ghost use Rattle.std.specs.Prelude.{◌≡◌, ◌≤◌, ◌∷◌, [], true, IfOk, IfSome};
+ghost use Rattle.std.specs.Prelude.{◌≡◌, ◌≤◌, ◌∷◌, [], true, IfOk, IfSome, List};
 ghost use Rattle.awk_types.specs.ItemLimit.{item_limit};
 ghost use Rattle.awk_types.specs.Simple.{is_option};
 ghost use Rattle.awk_layout.specs.Typing.{array_type, array_items};
@@ -9,7 +9,6 @@ ghost use Rattle.awk_open.specs.Opened.{IsOpened, AreLong};
 ghost use Rattle.awk_open.specs.declared.opening.Opened.TheVariants as opening;
 ghost use Rattle.awk_open.specs.InOrder.{IsInOrder};
 ghost use Rattle.awk_layout.specs.Layout.{Layout};
-ghost use Rattle.std.specs.Prelude.{List};
 ghost use Rattle.awk_pair_present.specs.Presence.{AreAsLong, ArePresences};
 ghost use Rattle.awk_pair_present.specs.Present.{IsPresentRows};
 
@@ -21,6 +20,7 @@ use awk_lanes::{
     offsets_of, place_in,
 };
 use awk_layout::{Array, Arrays, Class};
+use awk_list_numbers::has_numbers;
 use awk_open::{Opened, in_order, opened};
 use awk_types::is_optional;
 use std::alloc::Global;
@@ -187,17 +187,6 @@ fn numbers_in_order<'a, L: Ledger>(
             option_in_order(alloc, x, &index, &content, arena, steps)
         }
         _ => unreachable!(),
-    }
-}
-
-/// Whether an array is an option over numbers behind an index.
-fn has_numbers(x: &Array) -> bool {
-    match x.node().class() {
-        Class::IndexedOption { content, .. } => match content.class() {
-            Class::Numpy { .. } => true,
-            _ => false,
-        },
-        _ => false,
     }
 }
 

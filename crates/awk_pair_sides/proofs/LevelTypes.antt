@@ -1,27 +1,20 @@
 -- The types of a level: operands without options, and some list among what they give.
-use Rattle.std.proofs.Common.{◌≡◌, ◌==◌, Bool, true, false, not, ◌||◌, refl, ap}
-use Rattle.std.proofs.Common.{◌∙◌}
-use Rattle.std.specs.Prelude.{List, [], ◌∷◌, map, Some, if◌then◌else◌}
+use Rattle.std.proofs.Common.{◌≡◌, ◌==◌, Bool, true, false, not, ◌||◌, refl, ap, ◌∙◌}
+use Rattle.std.specs.Prelude.{List, [], ◌∷◌, map, Some, if◌then◌else◌, length}
 use Rattle.std.specs.List.{list_any}
 use Rattle.std.proofs.lemmas.Bool.{or_parts}
+use Rattle.std.proofs.lemmas.List.{length-map}
 use Rattle.awk_types.specs.DataType.{DataType, unknown, leaf, var, reg, rec, tup, opt, uni}
+use Rattle.awk_types.specs.Parts.{item_of}
 use Rattle.awk_types.specs.Predicates.{is_list}
 use Rattle.awk_types.specs.Simple.{is_option, present}
+use Rattle.awk_types.proofs.SimpleLaws.{present_stays}
 use Rattle.awk_pair_sides.specs.Levels.{Role, listed, stretched, repeated, role, roles_by, unless}
 use Rattle.awk_pair_sides.specs.Levels.{roles, opens, some_option, is_longer, stretches}
+use Rattle.awk_pair_sides.specs.Levels.{item_types}
 use Rattle.awk_layout.specs.Layout.{Layout}
 use Rattle.awk_layout.specs.Typing.{array_type}
 use Rattle.awk_pair_sides.proofs.TestLaws.{any-map}
-
-pub present-bare : (t : DataType) → is_option t ≡ false → present t ≡ t
-present-bare (opt t) e = cc
-present-bare unknown e = refl
-present-bare (leaf p) e = refl
-present-bare (var t) e = refl
-present-bare (reg n t) e = refl
-present-bare (rec ns ts) e = refl
-present-bare (tup ts) e = refl
-present-bare (uni ts) e = refl
 
 -- types that are no options are present themselves
 pub presents-bare : (ts : List DataType) → some_option ts ≡ false → map present ts ≡ ts
@@ -29,7 +22,7 @@ presents-bare [] e = refl
 presents-bare (t ∷ ts) e =
     let both : (is_option t ≡ false) × (some_option ts ≡ false) =
     or_parts (is_option t) (some_option ts) e in
-    rw (present-bare t both.0) (ap (λ us. t ∷ us) (presents-bare ts both.1))
+    rw (present_stays t both.0) (ap (λ us. t ∷ us) (presents-bare ts both.1))
 
 pub roles-bare : (keep : Bool) (ts : List DataType) → some_option ts ≡ false
     → roles keep ts ≡ roles_by keep (stretches ts) ts
@@ -114,3 +107,7 @@ opens_first xs =
 pub stretches_first : (xs : List Layout)
     → list_any (λ x. is_longer (array_type x)) xs ≡ stretches (map array_type xs)
 stretches_first xs = any-map is_longer array_type xs
+
+-- as many as there were
+pub length-item_types : (ts : List DataType) → length (item_types ts) ≡ length ts
+length-item_types ts = length-map (map present ts) item_of ∙ length-map ts present

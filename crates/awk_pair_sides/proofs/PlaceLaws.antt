@@ -1,34 +1,23 @@
--- Items at places: in a run, repeated, and of arrays that are equally long.
+-- Items at places: repeated, and of arrays that are equally long.
 use Rattle.std.proofs.Common.{◌≡◌, ℕ, zero, suc, ◌+◌, ◌<◌, refl, ap, arith, sym, subst, ◌∙◌, drop}
-use Rattle.std.specs.Prelude.{List, ◌++◌, map, get_or, pos, slice_get, Some}
+use Rattle.std.specs.Prelude.{List, ◌++◌, map, pos, slice_get, Some}
 use Rattle.std.specs.List.{range_with_len}
 use Rattle.std.proofs.lemmas.Simd.{map-map}
 use Rattle.std.proofs.lemmas.List.{map-append}
 use Rattle.awk_base.proofs.Lists.{drop-get}
-use Rattle.awk_types.specs.Value.{Value, null, value_list}
 use Rattle.awk_lanes.specs.Column.{Column}
 use Rattle.awk_lanes.specs.Counted.{before, items_lane, numbers_of_lists}
 use Rattle.awk_lanes.specs.Numbers.{nat_of}
 use Rattle.awk_lanes.specs.Places.{size_of, place_at, IsIndex}
 use Rattle.awk_lanes.specs.declared.kind.Kind.TheVariants.{I64}
 use Rattle.awk_lanes.proofs.CountedLanes.{numbers-at, length-numbers}
-use Rattle.awk_layout.specs.Item.{run}
 use Rattle.awk_layout.specs.Layout.{Layout}
 use Rattle.awk_layout.specs.Valid.{len}
 use Rattle.awk_open.specs.Opened.{AreLong}
-use Rattle.awk_counts.specs.Counted.{first_of, AreBelow}
+use Rattle.awk_counts.specs.Counted.{first_of}
 use Rattle.awk_counts.proofs.FirstPlaces.{first_of-more}
+use Rattle.awk_counts.proofs.PlacesBelow.{same-below}
 use Rattle.awk_columns.proofs.ReachedContents.{below-first_of, places_index}
-
--- ---- runs of items
-
-pub get-run : (f : ℕ → Value) (a n k : ℕ) → k < n
-    → get_or (value_list (run f a n)) k null ≡ f (a + k)
-get-run f a zero k h = absurd (omega arith)
-get-run f a (suc n) zero h = let e : a ≡ a + zero = omega arith in ap f e
-get-run f a (suc n) (suc k) h =
-    let e : suc a + k ≡ a + suc k = omega arith in
-    get-run f (suc a) n k (omega arith) ∙ ap f e
 
 -- ---- items repeated
 
@@ -45,10 +34,6 @@ place-numbers m g (suc n) =
     ∙ sym (ap (λ k. map (λ k. pos k) (first_of f k)) e
     ∙ ap (map (λ k. pos k)) (first_of-more f n)
     ∙ map-append (λ k. pos k) (first_of f n) (f n))
-
-same-below : (n i a m : ℕ) → i < n → AreBelow n (map (λ k. i) (range_with_len a m))
-same-below n i a zero h = tt
-same-below n i a (suc m) h = (h, same-below n i (a + 1) m h)
 
 abbrev pub places_of : (ℕ → ℕ) → ℕ → Column
 places_of m n = items_lane I64 m (λ i k. pos i) n

@@ -1,5 +1,5 @@
 -- Places in a row: what functions give there.
-use Rattle.std.proofs.Common.{◌≡◌, ℕ, zero, suc, ◌+◌, ◌-◌, ◌<◌, ◌≤◌, Bool, true, false, ◌||◌}
+use Rattle.std.proofs.Common.{◌≡◌, ℕ, zero, suc, ◌+◌, ◌<◌, ◌≤◌, Bool, true, false, ◌||◌}
 use Rattle.std.proofs.Common.{refl, ap, arith, sym, subst, ◌∙◌}
 use Rattle.std.specs.Prelude.{List, [], ◌∷◌, ◌++◌, map, length, nat_le}
 use Rattle.std.specs.List.{list_any, list_all, flat_map, range_with_len}
@@ -7,10 +7,6 @@ use Rattle.std.proofs.lemmas.List.{length-append, append-nil, map-append, append
 use Rattle.std.proofs.lemmas.Bool.{and_parts, or_parts}
 use Rattle.awk_base.proofs.Ranges.{range-append, range-last}
 use Rattle.awk_lanes.specs.Counted.{before}
-
-pub length-map : {A B : Type 0} (f : A → B) (xs : List A) → length (map f xs) ≡ length xs
-length-map f [] = refl
-length-map f (x ∷ xs) = ap suc (length-map f xs)
 
 pub length-range : (a n : ℕ) → length (range_with_len a n) ≡ n
 length-range a zero = refl
@@ -46,25 +42,6 @@ map-shift f a b (suc k) =
     (ap (λ c. map f (range_with_len c k)) e ∙ map-shift f a (b + 1) k)
 
 -- ---- sums
-
-pub before-same : (m k : ℕ → ℕ) (n : ℕ) → ((i : ℕ) → i < n → m i ≡ k i) → before m n ≡ before k n
-before-same m k zero h = refl
-before-same m k (suc n) h =
-    omega (arith, before-same m k n (λ i l. h i (omega arith)), h n (omega arith))
-
-before-mono : (m : ℕ → ℕ) (i k : ℕ) → before m i ≤ before m (i + k)
-before-mono m i zero =
-    let e : i ≡ i + zero = omega arith in subst (λ b. before m i ≤ before m b) e (omega arith)
-before-mono m i (suc k) =
-    let e : suc (i + k) ≡ i + suc k = omega arith in
-    subst (λ b. before m i ≤ before m b) e (omega (arith, before-mono m i k))
-
-pub before-room : (m : ℕ → ℕ) (n i k : ℕ) → i < n → k < m i → before m i + k < before m n
-before-room m n i k h l =
-    let e : suc i + (n - suc i) ≡ n = omega arith in
-    let f : before m (suc i) ≤ before m n =
-    subst (λ b. before m (suc i) ≤ before m b) e (before-mono m (suc i) (n - suc i)) in
-    omega (arith, f)
 
 pub length-flat : {A : Type 0} (f : ℕ → List A) (n : ℕ)
     → length (flat_map f (range_with_len 0 n)) ≡ before (λ i. length (f i)) n

@@ -3,6 +3,7 @@ use Rattle.std.specs.Prelude.{ℕ, ◌==◌, Bool, true, false, not, ◌&&◌, L
 use Rattle.std.specs.Prelude.{Some, None, if◌then◌else◌, nat_lt}
 use Rattle.std.specs.List.{list_any, list_all, flat_map}
 use Rattle.awk_types.specs.DataType.{DataType, unknown, var, reg}
+use Rattle.awk_types.specs.Parts.{item_of}
 use Rattle.awk_types.specs.Predicates.{is_list}
 use Rattle.awk_types.specs.Simple.{is_option, present}
 use Rattle.awk_columns.specs.ListClass.{Class}
@@ -66,12 +67,6 @@ stretches ts = list_any is_longer ts
 
 abbrev pub roles : Bool → List DataType → List Role
 roles keep ts = roles_by keep (stretches (map present ts)) (map present ts)
-
--- the type of what stands below
-abbrev pub item_of : DataType → DataType
-item_of (var t) = t
-item_of (reg n t) = t
-item_of t = t
 
 abbrev pub item_types : List DataType → List DataType
 item_types ts = map item_of (map present ts)

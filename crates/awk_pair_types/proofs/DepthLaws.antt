@@ -1,31 +1,21 @@
 -- The depth at which data without items, which are arrays, are paired to the types of the data.
-use Rattle.std.proofs.Common.{◌≡◌, ℕ, zero, suc, ◌+◌, ◌-◌, ◌==◌, ◌<◌, ◌≤◌, Bool, true, false}
+use Rattle.std.proofs.Common.{◌≡◌, ℕ, suc, ◌+◌, ◌-◌, ◌==◌, ◌<◌, ◌≤◌, Bool, true, false}
 use Rattle.std.proofs.Common.{refl, ap, sym, ◌∙◌, arith}
-use Rattle.std.specs.Prelude.{List, [], ◌∷◌, map, length, min, Some, None}
-use Rattle.std.specs.Prelude.{if◌then◌else◌}
+use Rattle.std.specs.Prelude.{List, [], ◌∷◌, map, length, min, Some, None, if◌then◌else◌}
 use Rattle.awk_types.specs.DataType.{DataType}
 use Rattle.awk_types.specs.Datum.{Datum}
 use Rattle.awk_pair_operands.specs.Paired.{to_leaves, to_depth, all_levels, is_wrong, paired_type}
 use Rattle.awk_pair_operands.specs.Paired.{types_at_ends}
 use Rattle.awk_pair_operands.specs.Pairs.{below, has_wrong_end, some_array, typs}
-use Rattle.awk_pair_sides.specs.Levels.{opens, item_types}
+use Rattle.awk_pair_operands.proofs.TypeLaws.{never-wrong}
 use Rattle.awk_pair_types.specs.Emptied.{emptied, heights, HasTypes}
 use Rattle.awk_pair_types.proofs.EmptyLaws.{typs-emptied}
 use Rattle.awk_pair_types.proofs.HeightLaws.{type_stable, ends_stable}
 
 -- ---- no end is wrong at a depth
 
-wrong-at : (n : ℕ) (ts : List DataType) → is_wrong to_depth n ts ≡ false
-wrong-at zero ts = refl
-wrong-at (suc n) ts = step (opens ts) (wrong-at n (item_types ts))
-  where
-    step : (b : Bool) → is_wrong to_depth n (item_types ts) ≡ false
-        → (if b then is_wrong to_depth n (item_types ts) else false) ≡ false
-    step true e = e
-    step false e = refl
-
 pub never_wrong : (d : ℕ) (ds : List Datum) → has_wrong_end (Some d) ds ≡ false
-never_wrong d ds = wrong-at (below (Some d) ds) (typs ds)
+never_wrong d ds = never-wrong (below (Some d) ds) (typs ds)
 
 -- ---- depths
 

@@ -6,7 +6,7 @@ use Rattle.std.specs.Prelude.{None, Some, Option, Result, Ok}
 use Rattle.std.specs.List.{list_all, flat_map}
 use Rattle.std.proofs.lemmas.List.{length-map, map-append, take_all}
 use Rattle.awk_types.specs.DataType.{DataType, unknown, leaf, var, reg, rec, tup, opt, uni}
-use Rattle.awk_types.specs.Datum.{Datum, arr}
+use Rattle.awk_types.specs.Datum.{Datum, arr, datum_type}
 use Rattle.awk_types.specs.Gives.{Told, refused_or}
 use Rattle.awk_types.specs.Value.{Value}
 use Rattle.awk_types.specs.declared.fault.Fault.{Fault}
@@ -28,14 +28,14 @@ use Rattle.awk_frames.specs.Sizes.{levels_refused}
 use Rattle.awk_pair_operands.specs.Answer.{shared_ends, shared_shape, single_or_fault}
 use Rattle.awk_pair_operands.specs.First.{all_data}
 use Rattle.awk_pair_operands.specs.Pairs.{typs, pair_type, pair_values, pair_refused, has_wrong_end}
-use Rattle.awk_pair_operands.specs.Pairs.{first_rows, datum_side, item_type, some_array}
+use Rattle.awk_pair_operands.specs.Pairs.{first_rows, datum_side, some_array}
 use Rattle.awk_pair_sides.specs.Sides.{equally_long, side_lengths}
 use Rattle.awk_pair_types.specs.Emptied.{emptied, heights, height}
 use Rattle.awk_pair_types.proofs.HeightLaws.{heights_push}
 
 pub typs-emptied : (ds : List Datum) → typs (map emptied ds) ≡ typs ds
 typs-emptied [] = refl
-typs-emptied (d ∷ ds) = ap (λ ts. item_type d ∷ ts) (typs-emptied ds)
+typs-emptied (d ∷ ds) = ap (λ ts. datum_type d ∷ ts) (typs-emptied ds)
 
 -- ---- no rows
 
@@ -126,7 +126,7 @@ no_columns k vs (x ∷ xs) h e = (
 
 -- ---- operands without items
 
-type-kept : (d : code.Datum) → array_type (kept d) ≡ item_type (datum_of d)
+type-kept : (d : code.Datum) → array_type (kept d) ≡ datum_type (datum_of d)
 type-kept (Arr x) = refl
 type-kept (One x) = refl
 
@@ -134,7 +134,7 @@ pub emptied_is : (x : Operand) (d : code.Datum) (k y : Layout) → datum_of d �
     → k ≡ kept d → array_type y ≡ array_type k → array_items y ≡ slice_range (array_items k) 0 0
     → own_datum (operand.Of (Arr y)) ≡ emptied (own_datum x)
 emptied_is x d k y is at typ items =
-    ap₂ arr (typ ∙ ap array_type at ∙ type-kept d ∙ ap item_type is) items
+    ap₂ arr (typ ∙ ap array_type at ∙ type-kept d ∙ ap datum_type is) items
 
 pub emptied_push : (xs ys zs : List Operand) (i : ℕ) (x y : Operand) → slice_get xs i ≡ Some x
     → zs ≡ ys ++ y ∷ [] → own_datum y ≡ emptied (own_datum x)
@@ -165,21 +165,21 @@ pub data_some : (xs : List Operand) → 0 < length xs → 0 < length (all_data x
 data_some xs h = omega (arith, length-map xs own_datum, h)
 
 pub kept_type : (x : Operand) (d : code.Datum) (k : Layout) → datum_of d ≡ own_datum x
-    → k ≡ kept d → array_type k ≡ item_type (own_datum x)
-kept_type x d k is at = ap array_type at ∙ type-kept d ∙ ap item_type is
+    → k ≡ kept d → array_type k ≡ datum_type (own_datum x)
+kept_type x d k is at = ap array_type at ∙ type-kept d ∙ ap datum_type is
 
 typs-push : (xs : List Operand) (i : ℕ) (x : Operand) → slice_get xs i ≡ Some x
     → typs (all_data (take (i + 1) xs))
-    ≡ typs (all_data (take i xs)) ++ item_type (own_datum x) ∷ []
+    ≡ typs (all_data (take i xs)) ++ datum_type (own_datum x) ∷ []
 typs-push xs i x at =
     ap typs (map-take-get own_datum xs i x at)
-    ∙ map-append item_type (all_data (take i xs)) (own_datum x ∷ [])
+    ∙ map-append datum_type (all_data (take i xs)) (own_datum x ∷ [])
 
 pub shallow_push : (xs : List Operand) (i : ℕ) (x : Operand) → slice_get xs i ≡ Some x
-    → heights (typs (all_data (take i xs))) ≤ 60 → height (item_type (own_datum x)) ≤ 60
+    → heights (typs (all_data (take i xs))) ≤ 60 → height (datum_type (own_datum x)) ≤ 60
     → heights (typs (all_data (take (i + 1) xs))) ≤ 60
 shallow_push xs i x at h e =
-    let p = heights_push (typs (all_data (take i xs))) (item_type (own_datum x)) 60 h e in
+    let p = heights_push (typs (all_data (take i xs))) (datum_type (own_datum x)) 60 h e in
     let q = ap heights (typs-push xs i x at) in
     omega (arith, p, q)
 

@@ -1,16 +1,15 @@
 -- Beyond as many levels as types have, more levels change nothing.
-use Rattle.std.proofs.Common.{◌≡◌, ℕ, zero, suc, ◌-◌, ◌≤◌, Bool, true, false, refl, ap}
-use Rattle.std.proofs.Common.{arith}
-use Rattle.std.specs.Prelude.{List, [], ◌∷◌, if◌then◌else◌}
-use Rattle.std.specs.Prelude.{◌++◌, nat_lt, Option, Some, None}
-use Rattle.awk_types.specs.DataType.{DataType, unknown, leaf, var, reg, rec, tup, opt, uni}
-use Rattle.awk_types.specs.DataType.{depth}
-use Rattle.awk_types.specs.Limit.{Limit, depth_limit, limit}
+use Rattle.std.proofs.Common.{◌≡◌, ℕ, zero, suc, ◌-◌, ◌≤◌, Bool, false, refl, ap, arith}
+use Rattle.std.specs.Prelude.{List, [], ◌∷◌, if◌then◌else◌, ◌++◌, nat_lt, None}
+use Rattle.awk_types.specs.DataType.{DataType, unknown, leaf, var, reg, rec, tup, opt, uni, depth}
+use Rattle.awk_types.specs.Limit.{limit}
+use Rattle.awk_types.specs.Parts.{item_of}
 use Rattle.awk_types.specs.Simple.{present, option_if}
+use Rattle.awk_types.proofs.PartLimits.{deep-by}
 use Rattle.awk_columns.specs.ListClass.{list_type}
 use Rattle.awk_pair_operands.specs.Paired.{Reach, end_type, end_types, paired_type, types_at_ends}
 use Rattle.awk_pair_types.specs.Emptied.{height, heights}
-use Rattle.awk_pair_sides.specs.Levels.{opens, some_option, item_of, item_types, level_class}
+use Rattle.awk_pair_sides.specs.Levels.{opens, some_option, item_types, level_class}
 
 item-height : (t : DataType) → height (item_of (present t)) ≤ height t - 1
 item-height unknown = omega arith
@@ -77,11 +76,6 @@ height_depth (opt t) = let e = height_depth t in omega (arith, e)
 height_depth (rec ns ts) = omega arith
 height_depth (tup ts) = omega arith
 height_depth (uni ts) = omega arith
-
-deep-by : (n : ℕ) (b : Bool) (f : Option Limit) → nat_lt 60 n ≡ b
-    → (if b then Some depth_limit else f) ≡ None → n ≤ 60
-deep-by n true f e h = cc
-deep-by n false f e h = grind (arith, e)
 
 -- a type within the limit has at most 60
 pub height_limit : (t : DataType) → limit t ≡ None → height t ≤ 60

@@ -2,7 +2,7 @@
 use Rattle.std.proofs.Common.{◌≡◌, ap, sym, ◌∙◌}
 use Rattle.std.specs.Prelude.{None, Ok, option_map}
 use Rattle.awk_types.specs.DataType.{DataType}
-use Rattle.awk_types.specs.Faults.{fault_of, fault_told, limit_fault}
+use Rattle.awk_types.specs.Faults.{fault_of, fault_told, limit_fault, limit_refused}
 use Rattle.awk_types.specs.Gives.{Told, refused_or}
 use Rattle.awk_types.specs.Limit.{limit, limit_told, depth_limit, size_limit}
 use Rattle.awk_types.specs.declared.limit.TypeFault.{TypeFault}
@@ -11,7 +11,6 @@ use Rattle.awk_types.proofs.RefusalLaws.{refused_or-Err}
 use Rattle.awk_layout.specs.Array.{array_of}
 use Rattle.awk_layout.specs.Layout.{Layout}
 use Rattle.awk_layout.specs.Typing.{array_type}
-use Rattle.awk_pair_types.specs.Limits.{limit_refused}
 
 pub limit_said : (e : TypeFault) (y : Layout) → Told (limit_told e) (array_of y)
     → Told (fault_told (fault_of e)) (refused_or (limit_refused (array_type y)) (array_type y))

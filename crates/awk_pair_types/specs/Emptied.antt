@@ -1,15 +1,15 @@
 -- Data without their items, and the types that they are paired to.
 use Rattle.std.specs.Prelude.{◌≡◌, ℕ, suc, ◌≤◌, Bool, List, [], map, Option}
 use Rattle.awk_types.specs.DataType.{DataType, var, reg, opt, greatest}
-use Rattle.awk_types.specs.Datum.{Datum, arr}
+use Rattle.awk_types.specs.Datum.{Datum, arr, datum_type}
 use Rattle.awk_layout.specs.Datum.{IsOperand}
 use Rattle.awk_layout.specs.Single.{own_datum}
 use Rattle.awk_layout.specs.declared.datum.Operand.{Operand}
-use Rattle.awk_pair_operands.specs.Pairs.{item_type, pair_type, leaf_types, has_wrong_end}
+use Rattle.awk_pair_operands.specs.Pairs.{pair_type, leaf_types, has_wrong_end}
 
 -- no items of the type of a datum
 abbrev pub emptied : Datum → Datum
-emptied d = arr (item_type d) []
+emptied d = arr (datum_type d) []
 
 -- how many lists and options lie above what is neither
 abbrev pub height : DataType → ℕ
@@ -24,7 +24,7 @@ heights ts = greatest (map height ts)
 pub record IsEmptied (x y : Operand) : Type 0 where
   pub datum : own_datum y ≡ emptied (own_datum x)
   pub operand : IsOperand y
-  pub shallow : height (item_type (own_datum x)) ≤ 60
+  pub shallow : height (datum_type (own_datum x)) ≤ 60
 
 -- data without items are paired to a depth e to the types that the data are paired to at d
 pub record HasTypes (d e : Option ℕ) (ds : List Datum) : Type 0 where

@@ -1,11 +1,10 @@
 //! The type of a node, or the limit that it passes.
 ghost use Rattle.std.specs.Prelude.{IfOk};
-ghost use Rattle.awk_types.specs.Faults.{fault_told};
+ghost use Rattle.awk_types.specs.Faults.{fault_told, limit_refused};
 ghost use Rattle.awk_types.specs.Gives.{Gives, refused_or};
 ghost use Rattle.awk_types.specs.View.{typ_of};
 ghost use Rattle.awk_layout.specs.Array.{IsArrayType};
 ghost use Rattle.awk_layout.specs.Typing.{array_type};
-ghost use Rattle.awk_pair_types.specs.Limits.{limit_refused};
 
 use awk_layout::{Array, Node};
 use awk_types::{Fault, Typ};

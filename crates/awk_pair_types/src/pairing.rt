@@ -8,42 +8,20 @@ ghost use Rattle.awk_columns.specs.Parts.{AreParts};
 ghost use Rattle.awk_frames.specs.Framed.{IsFrame};
 ghost use Rattle.awk_frames.specs.Shape.{shape as shape_by};
 ghost use Rattle.awk_frames.specs.View.{shape_of};
-ghost use Rattle.awk_layout.specs.Single.{own_datum};
 ghost use Rattle.awk_pair_operands.specs.Answer.{single_or_fault, shared_shape, shared_ends};
 ghost use Rattle.awk_pair_operands.specs.First.{all_data};
 ghost use Rattle.awk_pair_operands.specs.Pairs.{has_wrong_end, leaf_types, pair_type, typs};
-ghost use Rattle.awk_pair_operands.specs.Pairs.{is_array, some_array};
+ghost use Rattle.awk_pair_operands.specs.Pairs.{some_array};
 ghost use Rattle.awk_pair_types.specs.Emptied.{heights, HasTypes};
 
 use crate::empty::no_items_of_each;
 use awk_lanes::{Arena, NoMemory, Steps};
-use awk_layout::{Datum, Operand, Operands};
+use awk_layout::Operands;
 use awk_pair::{Paired, pair, pair_keeping};
+use awk_pair_operands::some_array;
 use awk_types::Fault;
 use std::alloc::{AllocError, Global};
 use std::sync::ledger::Ledger;
-
-/// Whether an operand is an array.
-fn is_array(x: &Operand) -> bool
-    ensures { result ≡ is_array (own_datum x.now) }
-{
-    match x {
-        Operand::Of(Datum::Arr(_)) => true,
-        Operand::Of(Datum::One(_)) | Operand::Literal(_) => false,
-    }
-}
-
-/// Whether some operand is an array.
-fn some_array(xs: &Operands) -> bool
-    ensures { result ≡ some_array (all_data xs.now) }
-{
-    for i in 0..xs.len() {
-        if is_array(xs.get(i)) {
-            return true;
-        }
-    }
-    false
-}
 
 /// The depth at which operands are paired as arrays without items, so far as they are at another:
 /// arrays are a level themselves, and single values are none.

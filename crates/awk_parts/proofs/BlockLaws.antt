@@ -4,14 +4,11 @@ use Rattle.std.proofs.Common.{true, false, arith}
 use Rattle.std.specs.Prelude.{ℤ, pos, Bool, not, ◌||◌, ◌&&◌}
 use Rattle.std.specs.List.{slice_range, list_any, list_all}
 use Rattle.std.proofs.lemmas.List.Folds.{list_any-append, list_all-map}
+use Rattle.std.proofs.Math.Bool.{or-true}
 use Rattle.awk_lanes.specs.Numbers.{element, is_nonzero}
 use Rattle.awk_lanes.specs.declared.kind.Kind.TheVariants as kind
 use Rattle.awk_numbers.proofs.PartLaws.{slice_range-split, whole_range}
 use Rattle.awk_parts.specs.Truths.{is_wanted}
-
-or_true : (b : Bool) → (b || true) ≡ true
-or_true true = refl
-or_true false = refl
 
 module _ (p : ℕ → Bool) (xs : List ℕ) (a : ℕ) where
   -- a part and the next
@@ -44,7 +41,7 @@ any_part p xs a b l m e =
     let rest = list_any p (slice_range xs b (length xs)) in
     ap (list_any p) (sym (whole_range xs)) ∙ any_split p xs b (length xs) m m
     ∙ ap (λ x. x || rest) (any_split p xs a b l (omega (arith, l, m))
-    ∙ ap (λ x. front || x) e ∙ or_true front)
+    ∙ ap (λ x. front || x) e ∙ or-true front)
 
 -- ---- all
 

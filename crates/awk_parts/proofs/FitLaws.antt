@@ -3,7 +3,8 @@ use Rattle.std.proofs.Common.{◌≡◌, ℕ, ◌+◌, arith, refl, ap, ◌∙�
 use Rattle.std.specs.Prelude.{ℤ, Bool, true, false, nat_lt}
 use Rattle.std.proofs.lemmas.Bool.{ltb-false}
 use Rattle.awk_types.specs.declared.primitive.Primitive.{Primitive}
-use Rattle.awk_parts.specs.Fits.{fits, AllFit}
+use Rattle.awk_primitives.specs.Fits.{fits}
+use Rattle.awk_parts.specs.Fits.{AllFit}
 
 pub AllFit-more : (p : Primitive) (f : ℕ → ℤ) (n : ℕ) → AllFit p f n → fits p (f n) ≡ true
     → AllFit p f (n + 1)

@@ -1,16 +1,12 @@
 -- Numbers that fit a primitive.
-use Rattle.std.specs.Prelude.{◌≡◌, ℕ, ◌<◌, ℤ, int_le, Bool, true, false, ◌&&◌, Option, Some, None}
-use Rattle.awk_types.specs.Has.{least_number, greatest_number}
+use Rattle.std.specs.Prelude.{◌≡◌, ℕ, ◌<◌, ℤ, true, false, Option, Some, None}
 use Rattle.awk_types.specs.declared.primitive.Primitive.{Primitive}
 use Rattle.awk_lanes.specs.Column.{Column}
 use Rattle.awk_lanes.specs.Made.{lane_of}
 use Rattle.awk_lanes.specs.Numbers.{int_of, IsOf}
 use Rattle.awk_lanes.specs.declared.kind.Num.{Num}
 use Rattle.awk_layout.specs.Kinds.{kind_of}
-
--- whether a number is one of a primitive
-abbrev pub fits : Primitive → ℤ → Bool
-fits p z = int_le (least_number p) z && int_le z (greatest_number p)
+use Rattle.awk_primitives.specs.Fits.{fits}
 
 -- a number as code holds it, if it is one of the primitive
 abbrev pub IsFitting : Primitive → ℤ → Option Num → Type 0

@@ -1,9 +1,10 @@
 -- A number for each part: what it comes to, and where its extreme stands.
-use Rattle.std.specs.Prelude.{ℕ, ℤ, pos, negsuc, Option, Some, None, List, [], ◌∷◌, get_or}
+use Rattle.std.specs.Prelude.{ℕ, ℤ, pos, Option, Some, None, List, [], ◌∷◌, get_or}
 use Rattle.awk_numbers.specs.Folds.{folded, tallied, first_extreme}
 use Rattle.awk_numbers.specs.declared.extremes.Extreme.{Extreme}
 use Rattle.awk_numbers.specs.declared.folds.Fold.{Fold}
 use Rattle.awk_numbers.specs.declared.tallies.Tally.{Tally}
+use Rattle.awk_lanes.specs.Places.{index_or_null}
 use Rattle.awk_parts.specs.Spans.{span_part}
 use Rattle.awk_parts.specs.declared.parts.Spans.{Spans}
 
@@ -39,11 +40,6 @@ local_at how zs p i = place_or_zero (first_extreme how (span_part zs p i))
 abbrev pub some_place : List ℤ → Option ℕ
 some_place [] = None
 some_place (z ∷ zs) = Some 0
-
--- i where there is a place, else -1
-abbrev pub index_or_null : ℕ → Option ℕ → ℤ
-index_or_null i None = negsuc 0
-index_or_null i (Some k) = pos i
 
 -- i where part i has a number, else -1
 abbrev pub present_at : List ℤ → Spans → ℕ → ℤ

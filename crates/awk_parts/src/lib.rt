@@ -15,6 +15,7 @@ mod cells;
 mod extremes;
 mod fits;
 mod folds;
+mod offsets;
 mod parts;
 mod places;
 mod tallies;
@@ -23,6 +24,7 @@ mod wide;
 
 pub use extremes::{extremes_of, zero_of};
 pub use folds::{Totals, fitting_lane, fold_parts};
+pub use offsets::offset_at;
 pub use parts::{Parts, Spans, span_length, spans_between, spans_of};
 pub use places::{number_of_place, places_of, present_parts};
 pub use tallies::{kind_of_tally, tally_parts};

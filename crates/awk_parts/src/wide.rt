@@ -9,47 +9,7 @@ ghost use Rattle.awk_parts.specs.Lanes.{number_or_zero};
 
 use crate::cells::Cell;
 use crate::parts::Span;
-use awk_numbers::{Extreme, Whole, extreme_of};
-
-/// Which of two numbers is looked for.
-trait Side {
-    ghost use Rattle.awk_numbers.specs.Folds.{beats as is_before};
-    ghost use Rattle.awk_numbers.specs.declared.extremes.Extreme.{Extreme};
-
-    ghost how: { Extreme };
-
-    /// Whether a number comes before another.
-    fn beats(x: i64, y: i64) -> bool
-        ensures { result ≡ is_before how x y };
-}
-
-/// The least.
-struct Lesser;
-
-impl Side for Lesser {
-    ghost use Rattle.awk_numbers.specs.declared.extremes.Extreme.TheVariants.{Least};
-
-    ghost how = { Least };
-
-    #[inline(always)]
-    fn beats(x: i64, y: i64) -> bool {
-        x < y
-    }
-}
-
-/// The greatest.
-struct Greater;
-
-impl Side for Greater {
-    ghost use Rattle.awk_numbers.specs.declared.extremes.Extreme.TheVariants.{Greatest};
-
-    ghost how = { Greatest };
-
-    #[inline(always)]
-    fn beats(x: i64, y: i64) -> bool {
-        y < x
-    }
-}
+use awk_numbers::{Extreme, Greater, Lesser, Side, Whole, extreme_of};
 
 /// The number at place i.
 #[inline(always)]

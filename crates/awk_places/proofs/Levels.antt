@@ -6,9 +6,8 @@ use Rattle.std.proofs.Common.{arith, ap, ap₂, sym, ◌∙◌}
 use Rattle.std.proofs.lemmas.List.{length-append, length-map, map-append, append-nil}
 use Rattle.std.proofs.lemmas.Simd.{map-map}
 use Rattle.awk_places.proofs.FlatLaws.{flat-flat, flat-same}
-use Rattle.awk_places.specs.Places.{before_each, place_lists, next_place}
-use Rattle.awk_places.specs.Places.{after_each, next_after, places_from, place_count}
-use Rattle.awk_places.specs.Places.{rising_from}
+use Rattle.awk_places.specs.Places.{before_each, place_lists, next_place, after_each, next_after}
+use Rattle.awk_places.specs.Places.{places_from, place_count, rising_from}
 
 singles : (js : List ℕ) → flat_map (λ k. before_each k ([] ∷ [])) js ≡ after_each [] js
 singles [] = refl
@@ -29,20 +28,6 @@ after_before r s k h (ks ∷ kss) =
     (flat_map (λ ks. after_each ks (s ks)) kss))
 
 -- ---- one place of each list
-
-pub place_lists-more : (ms : List ℕ) (m : ℕ) → place_lists (ms ++ m ∷ [])
-    ≡ flat_map (λ ks. after_each ks (range_with_len 0 m)) (place_lists ms)
-place_lists-more [] m =
-    singles (range_with_len 0 m) ∙ sym (append-nil (after_each [] (range_with_len 0 m)))
-place_lists-more (n ∷ ms) m =
-    ap (λ kss. flat_map (λ k. before_each k kss) (range_with_len 0 n)) (place_lists-more ms m)
-    ∙ sym (flat-flat (λ ks. after_each ks (range_with_len 0 m))
-    (λ k. before_each k (place_lists ms)) (range_with_len 0 n)
-    ∙ flat-same
-    (λ k. flat_map (λ ks. after_each ks (range_with_len 0 m)) (before_each k (place_lists ms)))
-    (λ k. before_each k (flat_map (λ ks. after_each ks (range_with_len 0 m)) (place_lists ms)))
-    (λ k. after_before (λ ks. range_with_len 0 m) (λ ks. range_with_len 0 m) k (λ ks. refl)
-    (place_lists ms)) (range_with_len 0 n))
 
 length-each : (kss : List (List ℕ)) (a n : ℕ)
     → length (flat_map (λ k. before_each k kss) (range_with_len a n)) ≡ n * length kss

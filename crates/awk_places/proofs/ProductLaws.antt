@@ -1,6 +1,5 @@
 -- Lanes of the slots of tuples of one place of each of several lists, slot after slot.
-use Rattle.std.specs.Prelude.{◌≡◌, refl, ℕ, ◌+◌, ◌<◌, pos}
-use Rattle.std.specs.Prelude.{List, [], ◌∷◌, ◌++◌, length, map, get_or}
+use Rattle.std.specs.Prelude.{◌≡◌, refl, ℕ, ◌+◌, ◌<◌, pos, List, [], ◌∷◌, ◌++◌, length, map, get_or}
 use Rattle.std.specs.List.{range_with_len, flat_map}
 use Rattle.std.proofs.Common.{arith, ap, ap₂, sym, ◌∙◌, subst}
 use Rattle.std.proofs.lemmas.Int.{ints}
@@ -8,21 +7,21 @@ use Rattle.std.proofs.lemmas.List.{length-map, get_or-map}
 use Rattle.std.proofs.lemmas.List.FromFn.{map-range_with_len_more}
 use Rattle.std.proofs.lemmas.Simd.{map-map}
 use Rattle.awk_lanes.specs.declared.kind.Kind.TheVariants.{I64}
-use Rattle.awk_lanes.specs.Column.{Column}
+use Rattle.awk_lanes.specs.Column.{Column, no_places}
 use Rattle.awk_lanes.specs.Made.{lane_of}
 use Rattle.awk_lanes.specs.Numbers.{nat_of}
 use Rattle.awk_lanes.specs.Places.{place_at}
 use Rattle.awk_lanes.specs.Words.{column, integers}
 use Rattle.awk_lanes.proofs.MadeLanes.{size-lane_of, at-lane_of}
 use Rattle.awk_places.specs.Places.{place_lists, place_count}
-use Rattle.awk_places.specs.Products.{AreCounts, no_lane, lengths_at, product_count}
-use Rattle.awk_places.specs.Products.{product_place, product_lane, each_times, times, share}
-use Rattle.awk_places.specs.Products.{counts_lane, shares_lane, once_lane, product_lanes}
+use Rattle.awk_places.specs.Products.{AreCounts, lengths_at, product_count, product_place}
+use Rattle.awk_places.specs.Products.{product_lane, each_times, times, share, counts_lane}
+use Rattle.awk_places.specs.Products.{shares_lane, once_lane, product_lanes}
 use Rattle.awk_places.specs.Runs.{row_runs}
 use Rattle.awk_places.proofs.FlatLaws.{map-flat, flat-same-range, map-in_place, numbers-flat}
 use Rattle.awk_places.proofs.Levels.{length-place_lists}
-use Rattle.awk_places.proofs.RunLaws.{IsRest, rest_first, rest_next, runs-by_rest}
-use Rattle.awk_places.proofs.RunLaws.{count_before, count_after, slot-runs}
+use Rattle.awk_places.proofs.RunLaws.{IsRest, rest_first, rest_next, runs-by_rest, count_before}
+use Rattle.awk_places.proofs.RunLaws.{count_after, slot-runs}
 
 -- ---- lanes of counts
 
@@ -38,8 +37,8 @@ module _ (n : ℕ) (h : ℕ → ℕ) where
   count-at i p = ap nat_of (at-lane_of I64 n (λ i. pos (h i)) i p)
 
 pub length-at : (ls : List Column) (i j : ℕ) → j < length ls
-    → get_or (lengths_at ls i) j 0 ≡ place_at (get_or ls j no_lane) i
-length-at ls i j p = get_or-map (λ s. place_at s i) ls j no_lane 0 p
+    → get_or (lengths_at ls i) j 0 ≡ place_at (get_or ls j no_places) i
+length-at ls i j p = get_or-map (λ s. place_at s i) ls j no_places 0 p
 
 -- ---- one slot
 
@@ -67,7 +66,7 @@ module _ (n : ℕ) (ls : List Column) (j : ℕ) where
   AreRests r = (i : ℕ) → i < n → IsRest (lengths_at ls i) j (place_at r i)
 
   abbrev lengths : Column
-  lengths = get_or ls j no_lane
+  lengths = get_or ls j no_places
 
   long : (i : ℕ) → j < length ls → j < length (lengths_at ls i)
   long i p = omega (arith, p, length-map ls (λ s. place_at s i))
@@ -103,12 +102,12 @@ rests_first n ls r e i p =
     (ap (λ c. place_at c i) e ∙ count-at n (product_count ls) i p)
 
 pub rests_next : (n : ℕ) (ls : List Column) (j : ℕ) (r a : Column) → j < length ls
-    → AreRests n ls j r → a ≡ shares_lane n r (get_or ls j no_lane) → AreRests n ls (j + 1) a
+    → AreRests n ls j r → a ≡ shares_lane n r (get_or ls j no_places) → AreRests n ls (j + 1) a
 rests_next n ls j r a p h e i l =
     let ms : List ℕ = lengths_at ls i in
     let v : place_at a i ≡ share (place_at r i) (get_or ms j 0) =
     ap (λ c. place_at c i) e
-    ∙ count-at n (λ i. share (place_at r i) (place_at (get_or ls j no_lane) i)) i l
+    ∙ count-at n (λ i. share (place_at r i) (place_at (get_or ls j no_places) i)) i l
     ∙ ap (share (place_at r i)) (sym (length-at ls i j p)) in
     rw v (rest_next ms j (place_at r i)
     (omega (arith, p, length-map ls (λ s. place_at s i))) (h i l))
@@ -122,15 +121,15 @@ counts_made n c r h e p = subst (AreCounts n) (sym (p ∙ e)) (are_counts n h)
 -- the lanes of the first j slots
 abbrev pub first_lanes : ℕ → List Column → List Column → ℕ → List Column
 first_lanes n fs ls j =
-    map (λ j. product_lane n (get_or fs j no_lane) ls j) (range_with_len 0 j)
+    map (λ j. product_lane n (get_or fs j no_places) ls j) (range_with_len 0 j)
 
 pub lanes_more : (n : ℕ) (fs ls : List Column) (j : ℕ) (xs ys : List Column) (x : Column)
-    → xs ≡ first_lanes n fs ls j → x ≡ product_lane n (get_or fs j no_lane) ls j
+    → xs ≡ first_lanes n fs ls j → x ≡ product_lane n (get_or fs j no_places) ls j
     → ys ≡ xs ++ x ∷ [] → ys ≡ first_lanes n fs ls (j + 1)
 lanes_more n fs ls j xs ys x p q r =
     let z : 0 + j ≡ j = omega arith in
     r ∙ ap₂ (λ us u. us ++ u ∷ []) p q
-    ∙ sym (map-range_with_len_more (λ j. product_lane n (get_or fs j no_lane) ls j) 0 j j z)
+    ∙ sym (map-range_with_len_more (λ j. product_lane n (get_or fs j no_places) ls j) 0 j j z)
 
 -- ---- both slots of pairs
 
@@ -164,13 +163,13 @@ second-by_runs n f l m =
     ∙ sym (slot-runs ms 1 (place_at f i) (omega arith)))
 
 pub pair-by_runs : (n : ℕ) (fs ls : List Column) (f g l m : Column) → length ls ≡ 2
-    → get_or fs 0 no_lane ≡ f → get_or fs 1 no_lane ≡ g → get_or ls 0 no_lane ≡ l
-    → get_or ls 1 no_lane ≡ m
+    → get_or fs 0 no_places ≡ f → get_or fs 1 no_places ≡ g → get_or ls 0 no_places ≡ l
+    → get_or ls 1 no_places ≡ m
     → by_runs n f l (once_lane n) m ∷ by_runs n g m l (once_lane n) ∷ [] ≡ product_lanes n fs ls
 pair-by_runs n fs [] f g l m two p q r s = absurd (omega (arith, two))
 pair-by_runs n fs (a ∷ []) f g l m two p q r s = absurd (omega (arith, two))
 pair-by_runs n fs (a ∷ b ∷ []) f g l m two p q r s =
     rw (← p, ← q, ← r, ← s)
-    (ap₂ (λ x y. x ∷ y ∷ []) (first-by_runs n (get_or fs 0 no_lane) a b)
-    (second-by_runs n (get_or fs 1 no_lane) a b))
+    (ap₂ (λ x y. x ∷ y ∷ []) (first-by_runs n (get_or fs 0 no_places) a b)
+    (second-by_runs n (get_or fs 1 no_places) a b))
 pair-by_runs n fs (a ∷ b ∷ c ∷ ls) f g l m two p q r s = absurd (omega (arith, two))

@@ -14,21 +14,18 @@ use Rattle.awk_lanes.specs.Counted.{before}
 use Rattle.awk_lanes.specs.Numbers.{nat_of}
 use Rattle.awk_lanes.specs.Places.{size_of, at, place_at}
 use Rattle.awk_lanes.specs.Words.{integers, column}
-use Rattle.awk_lanes.proofs.CountedLanes.{length-numbers, before_mono, before-next}
+use Rattle.awk_lanes.proofs.CountedLanes.{length-numbers}
 use Rattle.awk_places.specs.Begun.{longer, again, places_of, begun_of, all_begun, first_begun}
-use Rattle.awk_places.specs.Begun.{IsFew}
-use Rattle.awk_places.specs.Begun.{rest_count, last_place, pair_firsts, pair_seconds}
+use Rattle.awk_places.specs.Begun.{IsFew, rest_count, last_place, pair_firsts, pair_seconds, Fits}
 use Rattle.awk_places.specs.Places.{rising_from, rising_places}
 use Rattle.awk_places.specs.Slots.{ArePlaces, tuple_count, slot_place, slot_lane}
 use Rattle.awk_places.specs.declared.begun.Begun.{Begun}
 use Rattle.awk_places.proofs.BegunLaws.{longer-one, IsLong, all_long, slot-one, last-one}
-use Rattle.awk_places.proofs.BegunLaws.{rising_from-shift}
+use Rattle.awk_places.proofs.BegunLaws.{rising_from-shift, fits_longer}
 use Rattle.awk_places.proofs.FlatLaws.{flat-flat, map-flat, flat-same, map-same-all}
 use Rattle.awk_places.proofs.FlatLaws.{map-in_place, numbers-flat, flat-same-range}
 use Rattle.awk_places.proofs.RisingLaws.{rising_places-from}
-use Rattle.awk_places.proofs.BegunLaws.{fits_longer}
 use Rattle.std.proofs.lemmas.List.FromFn.{map-range_with_len_more}
-use Rattle.awk_places.specs.Begun.{Fits}
 
 pub longer-all : (rep : Bool) (j left : ℕ) (s e : Column)
     → flat_map (longer rep left) (all_begun rep j (suc left) s e) ≡ all_begun rep (suc j) left s e
@@ -145,11 +142,6 @@ few-rests rep n j left s e h q few =
     fewer (b ∷ bs) h =
         let l = length-replicate (rest_count rep left b.least b.stop) (last_place rep b.least) in
         (omega (arith, l, h.0), fewer bs h.1)
-
--- none has more than all
-pub one_within : (m : ℕ → ℕ) (n i : ℕ) → i < n → m i ≤ before m n
-one_within m n i p =
-    omega (arith, before-next m i, before_mono m (i + 1) n (omega (arith, p)))
 
 -- ---- where nothing is begun yet
 

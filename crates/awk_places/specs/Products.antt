@@ -4,7 +4,7 @@ use Rattle.std.specs.Prelude.{◌≡◌, ◌==◌, ℕ, zero, suc, ◌+◌, ◌/
 use Rattle.std.specs.Prelude.{List, [], ◌++◌, length, map, get_or, replicate, ℤ, pos, ◌≤ℤ◌}
 use Rattle.std.specs.List.{range_with_len, flat_map}
 use Rattle.awk_lanes.specs.declared.kind.Kind.TheVariants.{I64}
-use Rattle.awk_lanes.specs.Column.{Column}
+use Rattle.awk_lanes.specs.Column.{Column, no_places}
 use Rattle.awk_lanes.specs.Counted.{items_lane}
 use Rattle.awk_lanes.specs.Made.{lane_of}
 use Rattle.awk_lanes.specs.Places.{size_of, at, place_at}
@@ -21,9 +21,6 @@ pub record AreSpansOf (n : ℕ) (f l : Column) : Type 0 where
   pub firsts : AreCounts n f
   pub lengths : AreCounts n l
   pub fits : (i : ℕ) → i < n → place_at f i + place_at l i < 2 ^ 63
-
-abbrev pub no_lane : Column
-no_lane = record { kind = I64; items = [] }
 
 -- the lengths of list i, one of each lane
 abbrev pub lengths_at : List Column → ℕ → List ℕ
@@ -45,7 +42,7 @@ product_lane n f ls j = items_lane I64 (product_count ls) (product_place f ls j)
 -- those of each slot
 abbrev pub product_lanes : ℕ → List Column → List Column → List Column
 product_lanes n fs ls =
-    map (λ j. product_lane n (get_or fs j no_lane) ls j) (range_with_len 0 (length ls))
+    map (λ j. product_lane n (get_or fs j no_places) ls j) (range_with_len 0 (length ls))
 
 -- ---- the same by runs
 

@@ -3,11 +3,11 @@
 ghost use Rattle.std.specs.Prelude.{◌≡◌, ℕ, ◌<◌, ◌≤◌, ◌^◌, length, get_or, IsTrue, IsFalse, IfOk};
 ghost use Rattle.std.specs.List.{AllByRecursion};
 ghost use Rattle.awk_types.specs.ItemLimit.{item_limit};
+ghost use Rattle.awk_lanes.specs.Column.{no_places};
 ghost use Rattle.awk_lanes.specs.Counted.{before, AreOffsetsBy};
 ghost use Rattle.awk_places.specs.Places.{place_count, IsCounted};
-ghost use Rattle.awk_places.specs.Products.{AreCounts, AreSpansOf, no_lane, lengths_at};
-ghost use Rattle.awk_places.specs.Products.{product_count, product_lanes, counts_lane, shares_lane};
-ghost use Rattle.awk_places.specs.Products.{once_lane};
+ghost use Rattle.awk_places.specs.Products.{AreCounts, AreSpansOf, lengths_at, product_count};
+ghost use Rattle.awk_places.specs.Products.{product_lanes, counts_lane, shares_lane, once_lane};
 
 use crate::offsets::{TupleCounts, tuple_offsets};
 use crate::reading::place_of;
@@ -235,7 +235,7 @@ fn two_lanes<'a, L: Ledger>(
     requires two { length lengths.now ≡ 2 }
     requires same { length firsts.now ≡ length lengths.now }
     requires spans { (j : ℕ) → j < length lengths.now →
-        AreSpansOf n (get_or firsts.now j no_lane) (get_or lengths.now j no_lane) }
+        AreSpansOf n (get_or firsts.now j no_places) (get_or lengths.now j no_places) }
     ensures { IfOk result (λ r. r ≡ product_lanes n firsts.now lengths.now) }
 {
     let first = firsts.get(0);
@@ -276,7 +276,7 @@ fn shared_lanes<'a, L: Ledger>(
     requires same { length firsts.now ≡ length lengths.now }
     requires lengths { AllByRecursion (AreCounts n) lengths.now }
     requires spans { (j : ℕ) → j < length lengths.now →
-        AreSpansOf n (get_or firsts.now j no_lane) (get_or lengths.now j no_lane) }
+        AreSpansOf n (get_or firsts.now j no_places) (get_or lengths.now j no_places) }
     requires few { before (product_count lengths.now) n ≤ item_limit }
     ensures { IfOk result (λ r. r ≡ product_lanes n firsts.now lengths.now) }
 {
@@ -311,7 +311,7 @@ pub fn product_lanes<'a, L: Ledger>(
     requires same { length firsts.now ≡ length lengths.now }
     requires lengths { AllByRecursion (AreCounts n) lengths.now }
     requires spans { (j : ℕ) → j < length lengths.now →
-        AreSpansOf n (get_or firsts.now j no_lane) (get_or lengths.now j no_lane) }
+        AreSpansOf n (get_or firsts.now j no_places) (get_or lengths.now j no_places) }
     requires few { before (product_count lengths.now) n ≤ item_limit }
     ensures { IfOk result (λ r. r ≡ product_lanes n firsts.now lengths.now) }
 {

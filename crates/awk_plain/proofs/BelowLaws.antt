@@ -1,15 +1,15 @@
 -- Types that another one takes as they are: unknown, the type itself, and its parts likewise.
-use Rattle.std.proofs.Common.{◌≡◌, ℕ, ◌≤◌, List, Bool, true, false, refl, ap, subst}
-use Rattle.std.proofs.Common.{arith, sum}
-use Rattle.std.specs.Prelude.{◌||◌, nat_lt, Option, Some, None, if◌then◌else◌}
-use Rattle.std.proofs.lemmas.Bool.{le-ltb, ltb-false}
+use Rattle.std.proofs.Common.{◌≡◌, ℕ, ◌≤◌, List, false, refl, ap, subst, arith, sum}
+use Rattle.std.specs.Prelude.{None}
 use Rattle.std.proofs.lemmas.Grind.{common_steps}
 use Rattle.awk_types.specs.DataType.{DataType, DataTypes, Name, unknown, leaf, var, reg, rec, tup}
 use Rattle.awk_types.specs.DataType.{opt, uni, no_types, type, depth, depths, nodes, nodes_each}
 use Rattle.awk_types.specs.DataType.{greatest}
-use Rattle.awk_types.specs.Limit.{Limit, depth_limit, size_limit, limit, width, widths}
+use Rattle.awk_types.specs.Limit.{limit, width, widths}
 use Rattle.awk_types.specs.Simple.{is_option, present}
 use Rattle.awk_types.specs.declared.primitive.Primitive.{Primitive}
+use Rattle.awk_types.proofs.TypeShapes.{some_depth}
+use Rattle.awk_types.proofs.PartLimits.{bounds, within_bounds}
 
 -- ---- below
 
@@ -137,10 +137,6 @@ AreSmaller us ts =
     IsNoMore (greatest (depths us)) (sum (nodes_each us)) (greatest (widths us))
     (greatest (depths ts)) (sum (nodes_each ts)) (greatest (widths ts))
 
-some_depth : (t : DataType) → 1 ≤ depth t
-some_depth unknown = omega arith
-some_depth t = omega arith
-
 some_nodes : (t : DataType) → 1 ≤ nodes t
 some_nodes unknown = omega arith
 some_nodes t = omega arith
@@ -209,36 +205,12 @@ mutual
   all_smaller (type t ts) (type a us) h =
       more_smaller t a ts us (smaller t a h.0) (all_smaller ts us h.1)
 
--- the measures of a type that passes no limit
-pub record IsSmall (d n w : ℕ) : Type 0 where
-  pub depth : d ≤ 60
-  pub nodes : n ≤ 65536
-  pub width : w ≤ 127
-
-small_by : (d n w : ℕ) (a b c : Bool) → nat_lt 60 d ≡ a → nat_lt 65536 n ≡ b → nat_lt 127 w ≡ c
-    → ◌≡◌ {A = Option Limit}
-    (if a then Some depth_limit else if b || c then Some size_limit else None) None
-    → IsSmall d n w
-small_by d n w true b c e f g h = cc
-small_by d n w false true c e f g h = cc
-small_by d n w false false true e f g h = cc
-small_by d n w false false false e f g h =
-    record { depth = ltb-false 60 d e; nodes = ltb-false 65536 n f; width = ltb-false 127 w g }
-
-pub small : (t : DataType) → limit t ≡ None → IsSmall (depth t) (nodes t) (width t)
-small t h = small_by (depth t) (nodes t) (width t) _ _ _ refl refl refl h
-
-pub within_small : (t : DataType) → IsSmall (depth t) (nodes t) (width t) → limit t ≡ None
-within_small t h =
-    rw (le-ltb 60 (depth t) h.depth, le-ltb 65536 (nodes t) h.nodes, le-ltb 127 (width t) h.width)
-    refl
-
 -- what is below a type within the limits is within them
 pub below_within : (t a : DataType) → IsBelow t a → limit t ≡ None → limit a ≡ None
 below_within t a h l =
     let s = smaller t a h in
-    let b = small t l in
-    within_small a (record {
+    let b = bounds t l in
+    within_bounds a (record {
       depth = omega (arith, s.depth, b.depth);
       nodes = omega (arith, s.nodes, b.nodes);
       width = omega (arith, s.width, b.width);

@@ -3,7 +3,7 @@ use Rattle.std.proofs.Common.{◌≡◌, List, [], ◌∷◌, length, Bool, true
 use Rattle.std.proofs.Common.{sym, ◌∙◌, subst, suc, Some, None}
 use Rattle.std.specs.Prelude.{◌||◌, if◌then◌else◌}
 use Rattle.std.proofs.lemmas.Bool.{or_parts}
-use Rattle.awk_unify.proofs.SameTypeLaws.{same_type-refl, same_type_is}
+use Rattle.awk_unify.proofs.SameTypeLaws.{same_type_is}
 use Rattle.awk_types.proofs.SimpleLaws.{each_stays, present_no_option, present_simple}
 use Rattle.awk_types.proofs.SimpleLaws.{present_stays}
 use Rattle.awk_types.proofs.Trees.{values_from-list}
@@ -17,7 +17,8 @@ use Rattle.awk_types.specs.Simple.{AreSimple, IsSimple, is_option, present}
 use Rattle.awk_types.specs.Value.{list, null, value_list, values_from}
 use Rattle.awk_unify.proofs.AfterLaws.{carry_null}
 use Rattle.awk_unify.proofs.DepthLaws.{unify_rules}
-use Rattle.awk_unify.proofs.Rules.{unified_early, unified_later, unified_optional}
+use Rattle.awk_unify.proofs.Rules.{unified_early, unified_later, unified_optional, early-unknown}
+use Rattle.awk_unify.proofs.Rules.{early-same}
 use Rattle.awk_unify.proofs.Tests.{unknown_is}
 use Rattle.awk_unify.specs.Carry.{Carry, carried, in_items}
 use Rattle.awk_unify.specs.Early.{as_it_is, early}
@@ -50,20 +51,11 @@ kept : (t a b : DataType) → IsBelow t b → (a ≡ t → b ≡ t) → Joined t
 kept t a b h w =
     record { typ = h; left = λ v k. refl; right = λ v k. refl; whole = w }
 
-same_early : (a : DataType) → early a a ≡ Some (as_it_is a)
-same_early a =
-    ap (λ s. if s then Some (as_it_is a) else if is_unknown a then Some (as_it_is a)
-    else if is_unknown a then Some (as_it_is a) else None) (same_type-refl a)
-
 joined_same : (t a b : DataType) → a ≡ b → IsBelow t b → Joined t a b (unification a b)
 joined_same t a b e h =
     subst (λ c. Joined t c b (unification c b)) (sym e)
-    (subst (Joined t b b) (sym (unified_early b b (as_it_is b) (same_early b)))
+    (subst (Joined t b b) (sym (unified_early b b (as_it_is b) (early-same b)))
     (kept t b b h (λ f. f)))
-
-unknown_early : (b : DataType) → early unknown b ≡ Some (as_it_is b)
-unknown_early unknown = refl
-unknown_early b = refl
 
 early_unknown : (a : DataType) → early a unknown ≡ Some (as_it_is a)
 early_unknown unknown = refl
@@ -71,7 +63,7 @@ early_unknown a = refl
 
 joined_unknown : (t b : DataType) → IsBelow t b → Joined t unknown b (unification unknown b)
 joined_unknown t b h =
-    subst (Joined t unknown b) (sym (unified_early unknown b (as_it_is b) (unknown_early b)))
+    subst (Joined t unknown b) (sym (unified_early unknown b (as_it_is b) (early-unknown b)))
     (kept t unknown b h (λ e.
     only_unknown b (subst (λ u. IsBelow u b) (sym e) h) ∙ e))
 

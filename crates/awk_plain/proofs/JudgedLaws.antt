@@ -1,7 +1,6 @@
 -- What is known of each part of a value that makes no fault, and of the names of an object.
-use Rattle.std.proofs.Common.{◌≡◌, List, [], ◌∷◌, Bool, true, false, Option, Some, None, option_map}
-use Rattle.std.proofs.Common.{String, Global, Less, string_bytes, string_cmp, nat_cmp, is_eq}
-use Rattle.std.proofs.Common.{bytes_eq}
+use Rattle.std.proofs.Common.{◌≡◌, List, [], ◌∷◌, Bool, true, false, None, option_map, String}
+use Rattle.std.proofs.Common.{Global, Less, string_bytes, string_cmp, nat_cmp, is_eq, bytes_eq}
 use Rattle.std.proofs.Common.{refl, ap, sym, ◌∙◌}
 use Rattle.std.specs.List.{AllByRecursion}
 use Rattle.std.specs.List.Sorted.{IsStrictlySortedBy}
@@ -16,12 +15,12 @@ use Rattle.std.proofs.lemmas.Bool.{and_parts}
 use Rattle.awk_types.specs.DataType.{DataType, unknown, var, rec, types_from}
 use Rattle.awk_types.specs.Faults.{limit_fault}
 use Rattle.awk_types.specs.Gives.{◌or◌}
-use Rattle.awk_types.specs.Limit.{Limit, limit}
+use Rattle.awk_types.specs.Limit.{limit}
 use Rattle.awk_types.specs.Names.{AreDistinct, is_among, same_name}
 use Rattle.awk_types.specs.declared.fault.Fault.{Fault}
 use Rattle.awk_types.specs.declared.fault.Fault.TheVariants.{WrongType, Overflow}
 use Rattle.awk_types.proofs.NameLaws.{same_name-refl, same_name_apart}
-use Rattle.awk_types.proofs.RefusalLaws.{or-both}
+use Rattle.awk_types.proofs.RefusalLaws.{or-both, no_limit}
 use Rattle.awk_plain.specs.IsPlain.{IsJudged, AreJudged, HaveJudged}
 use Rattle.awk_plain.specs.Plain.{all_pass, items_pass, members_pass, is_whole, fits, plain_type}
 use Rattle.awk_plain.specs.Plain.{items_type, member_types, names_in, one_more, types_made}
@@ -72,10 +71,6 @@ mutual
 passed : (b : Bool) (f : Fault) → refused_unless b f ≡ None → b ≡ true
 passed true f e = refl
 passed false f e = absurd (cc)
-
-no_limit : (l : Option Limit) → option_map limit_fault l ≡ None → l ≡ None
-no_limit None e = refl
-no_limit (Some l) e = absurd (cc)
 
 -- a value without a fault is judged
 pub fault_free : (d : Data) → plain_fault d ≡ None → IsJudged d

@@ -6,12 +6,12 @@ use Rattle.std.specs.List.{list_all}
 use Rattle.std.proofs.lemmas.Bool.{or_parts}
 use Rattle.awk_types.specs.DataType.{DataType, Name}
 use Rattle.awk_types.specs.Names.{AreDistinct, is_among, same_name}
-use Rattle.awk_types.proofs.NameLaws.{same_name-refl}
+use Rattle.awk_types.proofs.NameLaws.{same_name-refl, same_name-flip}
 use Rattle.awk_unify.specs.Carries.{carry_at}
 use Rattle.awk_unify.specs.Carry.{Carry}
-use Rattle.awk_unify.specs.FieldNames.{alike, field_type, is_in, picked, place_in, with_type}
+use Rattle.awk_name_places.specs.Places.{place_in}
+use Rattle.awk_unify.specs.FieldNames.{alike, field_type, is_in, picked, with_type}
 use Rattle.awk_unify.specs.Places.{places, places_from}
-use Rattle.awk_unify.proofs.NamePlaces.{same_name-flip}
 use Rattle.awk_unify.proofs.Tests.{eq_true}
 
 -- ---- all names are there

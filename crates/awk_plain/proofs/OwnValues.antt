@@ -1,10 +1,10 @@
 -- What is of a type as it stands has a value of it, and that is its plain value.
-use Rattle.std.proofs.Common.{◌≡◌, List, [], ◌∷◌, ◌++◌, map, true, refl, ap, ap₂, sym}
-use Rattle.std.proofs.Common.{◌∙◌, subst, append-nil, append_assoc}
+use Rattle.std.proofs.Common.{◌≡◌, List, [], ◌∷◌, ◌++◌, map, true, refl, ap, ap₂, sym, ◌∙◌, subst}
+use Rattle.std.proofs.Common.{append-nil, append_assoc}
 use Rattle.std.specs.Prelude.{◌&&◌}
 use Rattle.std.specs.List.{AllByRecursion}
-use Rattle.serde_json.specs.Data.{Data, null, boolean, number, string, array, object}
-use Rattle.serde_json.specs.Data.{Items, no_items, item, Members, no_members, member}
+use Rattle.serde_json.specs.Data.{Data, null, boolean, number, string, array, object, Items}
+use Rattle.serde_json.specs.Data.{no_items, item, Members, no_members, member}
 use Rattle.std.proofs.lemmas.Bool.{and_parts}
 use Rattle.awk_types.proofs.SimpleLaws.{each_stays, has_option}
 use Rattle.awk_types.proofs.Trees.{value_list-from}
@@ -12,6 +12,7 @@ use Rattle.awk_types.specs.DataType.{DataType, Name, unknown, leaf, var, rec, op
 use Rattle.awk_types.specs.Has.{Has, HasRow}
 use Rattle.awk_types.specs.IsType.{IsType}
 use Rattle.awk_types.specs.Names.{same_name}
+use Rattle.awk_types.specs.Parts.{is_record, names_of_fields, types_of_fields}
 use Rattle.awk_types.specs.Simple.{AreSimple, IsSimple, is_option, present}
 use Rattle.awk_types.specs.Value as values
 use Rattle.awk_types.specs.Value.{Value, int, truth, list, row, values_from}
@@ -23,11 +24,10 @@ use Rattle.awk_unify.proofs.TypingLaws.{unify_carries}
 use Rattle.awk_unify.specs.Carry.{carried}
 use Rattle.awk_unify.specs.Unify.{unification}
 use Rattle.awk_plain.specs.IsPlain.{ArePlain, HavePlain, IsPlain}
-use Rattle.awk_plain.specs.Plain.{items_values, member_values, number_in, plain_type}
-use Rattle.awk_plain.specs.Plain.{plain_value, with_one}
-use Rattle.awk_plain.specs.Suits.{all_suit, is_int64, is_of, is_of_lists, is_of_records, item_of}
-use Rattle.awk_plain.specs.Suits.{members_suit, names_of_fields, own_parts, own_value, own_values}
-use Rattle.awk_plain.specs.Suits.{suits, types_of_fields}
+use Rattle.awk_plain.specs.Plain.{items_values, member_values, number_in, plain_type, plain_value}
+use Rattle.awk_plain.specs.Plain.{with_one}
+use Rattle.awk_plain.specs.Suits.{all_suit, is_int64, is_of, is_of_lists, item_of, members_suit}
+use Rattle.awk_plain.specs.Suits.{own_parts, own_value, own_values, suits}
 use Rattle.awk_plain.proofs.BelowLaws.{IsBelow, unknown_below}
 use Rattle.awk_plain.proofs.JoinLaws.{Joined, joined}
 use Rattle.awk_plain.proofs.SuitLaws.{of_lists, of_prim, of_records, part_simple, suits_below}
@@ -65,7 +65,7 @@ mutual
   own_typed t (object ms) p e =
       let ns = names_of_fields (present t) in
       let ts = types_of_fields (present t) in
-      let f = and_parts (is_of_records (present t)) (members_suit ns ts ms) e in
+      let f = and_parts (is_record (present t)) (members_suit ns ts ms) e in
       of_part t (rec ns (types_from ts)) (row (values_from (own_parts ms)))
       (of_records (present t) f.0)
       (subst (HasRow (types_from ts)) (sym (value_list-from (own_parts ms)))
@@ -108,7 +108,7 @@ mutual
   own_is t (object ms) s p e =
       let ns = names_of_fields (present t) in
       let ts = types_of_fields (present t) in
-      let f = and_parts (is_of_records (present t)) (members_suit ns ts ms) e in
+      let f = and_parts (is_record (present t)) (members_suit ns ts ms) e in
       let g : present t ≡ rec ns (types_from ts) = of_records (present t) f.0 in
       ap (λ vs. row (values_from vs))
       (own_parts_are ns ts ms (part_simple t (rec ns (types_from ts)) s g) p.1 f.1)

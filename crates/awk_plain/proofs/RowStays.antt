@@ -9,7 +9,8 @@ use Rattle.awk_types.specs.Value.{Value, row, value_list, values_from}
 use Rattle.awk_unify.proofs.AfterLaws.{in_order_same}
 use Rattle.awk_unify.specs.Carries.{carry_at}
 use Rattle.awk_unify.specs.Carry.{Carry, carried, carried_each, carries_from, in_order, to_parts}
-use Rattle.awk_unify.specs.FieldNames.{in_own, place_in, to_names}
+use Rattle.awk_name_places.specs.Places.{place_in}
+use Rattle.awk_unify.specs.FieldNames.{in_own, to_names}
 use Rattle.awk_unify.specs.Places.{places}
 use Rattle.awk_plain.proofs.OwnNames.{carries_itself, places_itself}
 

@@ -8,6 +8,7 @@ use Rattle.std.proofs.lemmas.Bool.{and_parts}
 use Rattle.awk_types.specs.DataType.{DataType, Name, unknown, var}
 use Rattle.awk_types.specs.Limit.{limit}
 use Rattle.awk_types.specs.Names.{same_name}
+use Rattle.awk_types.specs.Parts.{is_record, names_of_fields, types_of_fields}
 use Rattle.awk_types.specs.Simple.{IsSimple, present}
 use Rattle.awk_types.specs.declared.primitive.Primitive.TheVariants.{I64}
 use Rattle.awk_unify.proofs.SimpleLaws.{unify_simple}
@@ -15,8 +16,8 @@ use Rattle.awk_plain.specs.IsPlain.{ArePlain, IsPlain}
 use Rattle.awk_plain.specs.Plain.{all_pass, fits, is_whole, items_pass, items_type, members_pass}
 use Rattle.awk_plain.specs.Plain.{one_more, plain_fault, plain_type}
 use Rattle.awk_plain.specs.Standing.{Stands}
-use Rattle.awk_plain.specs.Suits.{all_suit, is_int64, is_of, is_of_lists, is_of_records, item_of}
-use Rattle.awk_plain.specs.Suits.{members_suit, names_of_fields, suits, types_of_fields}
+use Rattle.awk_plain.specs.Suits.{all_suit, is_int64, is_of, is_of_lists, item_of}
+use Rattle.awk_plain.specs.Suits.{members_suit, suits}
 use Rattle.awk_plain.proofs.SuitLaws.{suits_adds, suits_within}
 use Rattle.awk_plain.proofs.TypeLaws.{plain_simple}
 
@@ -50,7 +51,7 @@ mutual
   suits_pass t (object ms) e =
       let ns = names_of_fields (present t) in
       let ts = types_of_fields (present t) in
-      members_suit_pass ns ts ms (and_parts (is_of_records (present t)) (members_suit ns ts ms) e).1
+      members_suit_pass ns ts ms (and_parts (is_record (present t)) (members_suit ns ts ms) e).1
 
   all_suit_pass : (t : DataType) (ds : Items) → all_suit t ds ≡ true
       → Pass (items_pass is_whole false ds) (items_pass fits true ds)

@@ -17,16 +17,17 @@ use Rattle.awk_types.specs.DataType.{opt, uni, types_from}
 use Rattle.awk_types.specs.Gives.{◌or◌}
 use Rattle.awk_types.specs.Limit.{limit}
 use Rattle.awk_types.specs.Names.{same_name}
+use Rattle.awk_types.specs.Parts.{is_record, names_of_fields, types_of_fields}
 use Rattle.awk_types.specs.Simple.{AreSimple, IsSimple, is_option, present}
 use Rattle.awk_types.specs.declared.primitive.Primitive.{Primitive}
 use Rattle.awk_types.specs.declared.primitive.Primitive.TheVariants.{I64, Bool as Truths}
+use Rattle.awk_types.proofs.PartLimits.{present_within, within_var, bounds, within_bounds}
 use Rattle.awk_plain.specs.IsPlain.{ArePlain, HavePlain, IsPlain}
 use Rattle.awk_plain.specs.Plain.{first_limit, items_made, items_type, member_types, members_made}
 use Rattle.awk_plain.specs.Plain.{names_in, one_more, plain_type, types_made}
-use Rattle.awk_plain.specs.Suits.{all_suit, is_int64, is_of, is_of_lists, is_of_records, item_of}
-use Rattle.awk_plain.specs.Suits.{members_suit, names_of_fields, suits, types_of_fields}
-use Rattle.awk_plain.proofs.BelowLaws.{AreBelow, IsBelow, below_itself, below_within, small}
-use Rattle.awk_plain.proofs.BelowLaws.{unknown_below, within_small}
+use Rattle.awk_plain.specs.Suits.{all_suit, is_int64, is_of, is_of_lists, item_of, members_suit}
+use Rattle.awk_plain.specs.Suits.{suits}
+use Rattle.awk_plain.proofs.BelowLaws.{AreBelow, IsBelow, below_itself, below_within, unknown_below}
 use Rattle.awk_plain.proofs.JoinLaws.{Joined, joined}
 use Rattle.awk_plain.proofs.TypeLaws.{limit_item, limit_last, limit_member, plain_simple}
 use Rattle.awk_plain.proofs.TypedLaws.{plain_typed}
@@ -43,7 +44,7 @@ pub of_lists : (t : DataType) → is_of_lists t ≡ true → t ≡ var (item_of 
 of_lists (var t) e = refl
 of_lists t e = cc
 
-pub of_records : (t : DataType) → is_of_records t ≡ true
+pub of_records : (t : DataType) → is_record t ≡ true
     → t ≡ rec (names_of_fields t) (types_from (types_of_fields t))
 of_records (rec ns ts) e = ap (rec ns) (sym (types_from-list ts))
 of_records t e = cc
@@ -98,7 +99,7 @@ mutual
   suits_below t (object ms) s p e =
       let ns = names_of_fields (present t) in
       let ts = types_of_fields (present t) in
-      let f = and_parts (is_of_records (present t)) (members_suit ns ts ms) e in
+      let f = and_parts (is_record (present t)) (members_suit ns ts ms) e in
       let g : present t ≡ rec ns (types_from ts) = of_records (present t) f.0 in
       in_present t (rec ns (types_from ts)) (plain_type (object ms)) g refl
       (members_below ns ts ms (part_simple t (rec ns (types_from ts)) s g) p.1 f.1)
@@ -138,19 +139,6 @@ suits_adds t d s p e =
 
 -- ---- limits
 
-item_within : (u : DataType) → limit (var u) ≡ None → limit u ≡ None
-item_within u l =
-    let b = small (var u) l in
-    within_small u
-    (record { depth = omega (arith, b.depth); nodes = omega (arith, b.nodes); width = b.width })
-
-present_within : (t : DataType) → limit t ≡ None → limit (present t) ≡ None
-present_within (opt t) l =
-    let b = small (opt t) l in
-    within_small t
-    (record { depth = omega (arith, b.depth); nodes = omega (arith, b.nodes); width = b.width })
-present_within t l = l
-
 part_within : (t u : DataType) → present t ≡ u → limit t ≡ None → limit u ≡ None
 part_within t u e l = ap limit (sym e) ∙ present_within t l
 
@@ -160,8 +148,8 @@ AreWithin ts = AllByRecursion (λ t. limit t ≡ None) ts
 first_part : (ns : List Name) (t : DataType) (ts : List DataType)
     → limit (rec ns (types_from (t ∷ ts))) ≡ None → limit t ≡ None
 first_part ns t ts l =
-    let b = small (rec ns (types_from (t ∷ ts))) l in
-    within_small t (record {
+    let b = bounds (rec ns (types_from (t ∷ ts))) l in
+    within_bounds t (record {
       depth = omega (arith, b.depth);
       nodes = grind (arith, common_steps, b.nodes);
       width = omega (arith, b.width);
@@ -170,8 +158,8 @@ first_part ns t ts l =
 rest_parts : (ns : List Name) (t : DataType) (ts : List DataType)
     → limit (rec ns (types_from (t ∷ ts))) ≡ None → limit (rec ns (types_from ts)) ≡ None
 rest_parts ns t ts l =
-    let b = small (rec ns (types_from (t ∷ ts))) l in
-    within_small (rec ns (types_from ts)) (record {
+    let b = bounds (rec ns (types_from (t ∷ ts))) l in
+    within_bounds (rec ns (types_from ts)) (record {
       depth = omega (arith, b.depth);
       nodes = grind (arith, common_steps, b.nodes);
       width = omega (arith, b.width);
@@ -197,12 +185,12 @@ mutual
       limit_last (items_made unknown ds) (plain_type (array ds))
       ∙ or-None (first_limit (items_made unknown ds)) (limit (plain_type (array ds)))
       (items_within u unknown ds (part_simple t (var u) s g)
-      (item_within u (part_within t (var u) g l)) tt (unknown_below u) p f.1)
+      (within_var u (part_within t (var u) g l)) tt (unknown_below u) p f.1)
       ∙ below_within t (plain_type (array ds)) (suits_below t (array ds) s p e) l
   suits_within t (object ms) s l p e =
       let ns = names_of_fields (present t) in
       let ts = types_of_fields (present t) in
-      let f = and_parts (is_of_records (present t)) (members_suit ns ts ms) e in
+      let f = and_parts (is_record (present t)) (members_suit ns ts ms) e in
       let g : present t ≡ rec ns (types_from ts) = of_records (present t) f.0 in
       limit_last (members_made ms) (plain_type (object ms))
       ∙ or-None (first_limit (members_made ms)) (limit (plain_type (object ms)))

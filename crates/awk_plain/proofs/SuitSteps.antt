@@ -7,10 +7,10 @@ use Rattle.awk_base.proofs.Lists.{drop-get}
 use Rattle.awk_types.proofs.Trees.{type_list-from}
 use Rattle.awk_types.specs.DataType.{DataType, Name, rec}
 use Rattle.awk_types.specs.Names.{same_name}
+use Rattle.awk_types.specs.Parts.{is_record, names_of_fields, types_of_fields}
 use Rattle.awk_types.specs.Simple.{present}
 use Rattle.awk_types.specs.View.{NamedType, names_of, types_of}
-use Rattle.awk_plain.specs.Suits.{fields_suit, is_of_records, members_suit, names_of_fields, suits}
-use Rattle.awk_plain.specs.Suits.{types_of_fields}
+use Rattle.awk_plain.specs.Suits.{fields_suit, members_suit, suits}
 
 pub fields_next : (fs : List NamedType) (i : ℕ) (f : NamedType) (key : Name) (d : Data)
     (ms : Members) → slice_get fs i ≡ Some f
@@ -36,7 +36,7 @@ fields_end (f ∷ fs) (suc i) h = fields_end fs i (omega (arith, h)) ∙ same i 
 pub record_suits : (t : DataType) (fs : List NamedType) (ms : Members)
     → present t ≡ rec (names_of fs) (types_of fs) → suits t (object ms) ≡ fields_suit fs ms
 record_suits t fs ms e =
-    ap (λ u. is_of_records u && members_suit (names_of_fields u) (types_of_fields u) ms) e
+    ap (λ u. is_record u && members_suit (names_of_fields u) (types_of_fields u) ms) e
     ∙ ap (λ ts. members_suit (names_of fs) ts ms) (type_list-from (map (λ f. f.typ) fs))
 
 -- a member that suits, or does not

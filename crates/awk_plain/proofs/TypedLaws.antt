@@ -3,11 +3,12 @@ use Rattle.std.proofs.Common.{◌≡◌, suc, List, [], ◌∷◌, ◌++◌, len
 use Rattle.std.specs.List.{AllByRecursion}
 use Rattle.serde_json.specs.Data.{Data, null, boolean, number, string, array, object, Items}
 use Rattle.serde_json.specs.Data.{no_items, item, Members, no_members, member}
-use Rattle.awk_types.specs.DataType.{DataType, unknown, type_list, types_from}
+use Rattle.awk_types.specs.DataType.{DataType, unknown, types_from}
 use Rattle.awk_types.specs.Has.{Has, HasRow}
 use Rattle.awk_types.specs.IsType.{IsType, AreTypes}
 use Rattle.awk_types.specs.Simple.{IsSimple, AreSimple}
-use Rattle.awk_types.specs.Value.{Value, value_list, values_from}
+use Rattle.awk_types.specs.Value.{Value}
+use Rattle.awk_types.proofs.Trees.{value_list-from, type_list-from}
 use Rattle.awk_unify.specs.Carry.{Carry, carried}
 use Rattle.awk_unify.specs.Unify.{unification}
 use Rattle.awk_unify.proofs.CarriedLaws.{IsCarried, Takes}
@@ -18,14 +19,6 @@ use Rattle.awk_plain.specs.Plain.{plain_type, plain_value, items_type, items_val
 use Rattle.awk_plain.specs.Plain.{member_types, member_values}
 use Rattle.awk_plain.specs.IsPlain.{IsPlain, ArePlain, HavePlain}
 use Rattle.awk_plain.proofs.ItemLaws.{AreTyped}
-
-list_again : (vs : List Value) → value_list (values_from vs) ≡ vs
-list_again [] = refl
-list_again (v ∷ vs) = ap (λ z. v ∷ z) (list_again vs)
-
-types_again : (ts : List DataType) → type_list (types_from ts) ≡ ts
-types_again [] = refl
-types_again (t ∷ ts) = ap (λ z. t ∷ z) (types_again ts)
 
 names_count : (ms : Members) → length (names_in ms) ≡ length (member_types ms)
 names_count no_members = refl
@@ -53,14 +46,14 @@ mutual
         h.0,
         h.1,
         subst (AllByRecursion (Has (items_type unknown ds)))
-            (sym (list_again (items_values unknown [] ds))) h.2,
+            (sym (value_list-from (items_values unknown [] ds))) h.2,
       )
   plain_typed (object ms) p =
       let h = members_typed ms p.1 in (
-        (p.0, names_count ms ∙ ap length (sym (types_again (member_types ms))), h.0),
+        (p.0, names_count ms ∙ ap length (sym (type_list-from (member_types ms))), h.0),
         h.1,
         subst
-            (HasRow (types_from (member_types ms))) (sym (list_again (member_values ms))) h.2,
+            (HasRow (types_from (member_types ms))) (sym (value_list-from (member_values ms))) h.2,
       )
 
   -- items behind those so far

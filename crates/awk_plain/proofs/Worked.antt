@@ -5,7 +5,7 @@ use Rattle.serde_json.specs.Data.{no_items, item, no_members, member, unsigned}
 use Rattle.awk_types.specs.DataType.{DataType, unknown, leaf, var, rec, opt, uni, no_types, type}
 use Rattle.awk_types.specs.Datum.{arr}
 use Rattle.awk_types.specs.Value as values
-use Rattle.awk_types.specs.Value.{Value, Values, int, truth, list, row, alt, no_values, value}
+use Rattle.awk_types.specs.Value.{int, truth, list, row, alt, no_values, value}
 use Rattle.awk_types.specs.declared.fault.Fault.TheVariants.{WrongType, Overflow}
 use Rattle.awk_types.specs.declared.primitive.Primitive.TheVariants.{I64, Bool as Truths}
 use Rattle.awk_plain.specs.Plain.{from_values, items_type}

@@ -2,8 +2,9 @@
 use Rattle.std.specs.Prelude.{Bool, true, false, ◌&&◌, List, [], ◌∷◌, map}
 use Rattle.serde_json.specs.Data.{Data, Num, null, boolean, number, string, array, object, Items}
 use Rattle.serde_json.specs.Data.{no_items, item, Members, no_members, member}
-use Rattle.awk_types.specs.DataType.{DataType, Name, unknown, leaf, var, rec, type_list}
+use Rattle.awk_types.specs.DataType.{DataType, Name, unknown, leaf, var}
 use Rattle.awk_types.specs.Names.{same_name}
+use Rattle.awk_types.specs.Parts.{is_record, names_of_fields, types_of_fields}
 use Rattle.awk_types.specs.SameType.{same_primitive}
 use Rattle.awk_types.specs.Simple.{is_option, present}
 use Rattle.awk_types.specs.Value as values
@@ -23,21 +24,9 @@ abbrev pub is_of_lists : DataType → Bool
 is_of_lists (var t) = true
 is_of_lists t = false
 
-abbrev pub is_of_records : DataType → Bool
-is_of_records (rec ns ts) = true
-is_of_records t = false
-
 abbrev pub item_of : DataType → DataType
 item_of (var t) = t
 item_of t = unknown
-
-abbrev pub names_of_fields : DataType → List Name
-names_of_fields (rec ns ts) = ns
-names_of_fields t = []
-
-abbrev pub types_of_fields : DataType → List DataType
-types_of_fields (rec ns ts) = type_list ts
-types_of_fields t = []
 
 -- a whole number that fits int64
 abbrev pub is_int64 : Num → Bool
@@ -53,7 +42,7 @@ abbrev mutual
   suits t (string s) = false
   suits t (array ds) = is_of_lists (present t) && all_suit (item_of (present t)) ds
   suits t (object ms) =
-      is_of_records (present t)
+      is_record (present t)
       && members_suit (names_of_fields (present t)) (types_of_fields (present t)) ms
 
   pub all_suit : DataType → Items → Bool

@@ -5,6 +5,7 @@ use Rattle.std.specs.List.{AllByRecursion}
 use Rattle.std.proofs.lemmas.Int.{ints}
 use Rattle.std.proofs.lemmas.List.FromFn.{fill_by_all}
 use Rattle.awk_types.proofs.Trees.{values_from-list}
+use Rattle.awk_types.specs.Parts.{IsList}
 use Rattle.awk_types.specs.Simple.{in_list}
 use Rattle.awk_types.specs.Value.{Value, list, value_list, values_from}
 use Rattle.awk_lanes.specs.Column.{Column}
@@ -17,7 +18,7 @@ use Rattle.awk_layout.specs.Typing.{array_items}
 use Rattle.awk_layout.specs.Valid.{len}
 use Rattle.awk_columns.specs.Columns.{joined_items, offsets}
 use Rattle.awk_frames.proofs.FramedItems.{lists-framed}
-use Rattle.awk_frames.proofs.ValueLists.{IsList, length-offsets, offset-pos, start-first}
+use Rattle.awk_frames.proofs.ValueLists.{length-offsets, offset-pos, start-first}
 use Rattle.awk_frames.proofs.ValueLists.{start-next, start-within, start_at}
 use Rattle.awk_frames.specs.Shape.{offsets_column}
 use Rattle.awk_plain_columns.specs.Suited.{length_at}

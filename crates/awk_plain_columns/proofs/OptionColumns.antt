@@ -3,9 +3,10 @@ use Rattle.std.proofs.Common.{◌≡◌, ℕ, ◌+◌, ◌<◌, ◌≤◌, suc, 
 use Rattle.std.proofs.Common.{false, refl, ap, ap₂, sym, ◌∙◌, subst, arith, get_or, pos, negsuc, ℤ}
 use Rattle.std.proofs.Common.{add-one, append_assoc, drop}
 use Rattle.std.specs.Prelude.{◌&&◌, filter}
-use Rattle.std.proofs.lemmas.List.{drop_more}
+use Rattle.std.proofs.lemmas.List.{drop_more, length_push}
 use Rattle.serde_json.specs.Data.{Data, null, boolean, number, string, array, object}
 use Rattle.awk_types.specs.DataType.{DataType, opt, unknown, leaf, var, reg, rec, tup, uni}
+use Rattle.awk_types.specs.Parts.{is_record, names_of_fields, types_of_fields}
 use Rattle.awk_types.specs.Simple.{in_option, is_option, option_of}
 use Rattle.awk_types.specs.Value as values
 use Rattle.awk_types.specs.Value.{Value, int, truth, list, row, alt}
@@ -18,13 +19,12 @@ use Rattle.awk_layout.specs.Valid.{len}
 use Rattle.awk_columns.specs.Columns.{is_present, option_index}
 use Rattle.awk_frames.proofs.FrameLaws.{index_into}
 use Rattle.awk_frames.proofs.FramedItems.{nulls-framed}
-use Rattle.awk_frames.proofs.ValueLists.{length-index}
 use Rattle.awk_frames.specs.Shape.{index_column}
-use Rattle.awk_plain.specs.Suits.{all_suit, is_int64, is_of, is_of_lists, is_of_records, item_of}
-use Rattle.awk_plain.specs.Suits.{members_suit, names_of_fields, own_value}
-use Rattle.awk_plain.specs.Suits.{types_of_fields}
+use Rattle.awk_plain.specs.Suits.{all_suit, is_int64, is_of, is_of_lists, item_of, members_suit}
+use Rattle.awk_plain.specs.Suits.{own_value}
 use Rattle.awk_types.specs.declared.primitive.Primitive.TheVariants as primitive
 use Rattle.awk_types.proofs.SimpleLaws.{present_stays}
+use Rattle.awk_columns.proofs.PresentItems.{length-option_index}
 use Rattle.awk_plain_columns.specs.Suited.{AllSuit, Suits, is_there, there}
 
 -- ---- what is there
@@ -38,27 +38,9 @@ own_there (number n ∷ ds) = ap (λ vs. own_value (number n) ∷ vs) (own_there
 own_there (array es ∷ ds) = ap (λ vs. own_value (array es) ∷ vs) (own_there ds)
 own_there (object ms ∷ ds) = ap (λ vs. own_value (object ms) ∷ vs) (own_there ds)
 
-there_more : (d : Data) (ds : List Data) → is_there d ≡ true → there (d ∷ ds) ≡ d ∷ there ds
-there_more null ds e = cc
-there_more (string s) ds e = cc
-there_more (boolean b) ds e = refl
-there_more (number n) ds e = refl
-there_more (array es) ds e = refl
-there_more (object ms) ds e = refl
-
 step : {X : Type 0} (xs : List X) (i : ℕ) (x : X) → i < length xs → x ≡ get_or xs i x
     → drop i xs ≡ x ∷ drop (i + 1) xs
 step xs i x l at = drop_more xs i x l ∙ ap (λ y. y ∷ drop (i + 1) xs) (sym at)
-
-pub present_more : {X : Type 0} (f : X → Data) (xs : List X) (i : ℕ) (x : X) (made new : List Data)
-    → i < length xs → x ≡ get_or xs i x → is_there (f x) ≡ true
-    → there (map f xs) ≡ made ++ there (map f (drop i xs)) → new ≡ made ++ f x ∷ []
-    → there (map f xs) ≡ new ++ there (map f (drop (i + 1) xs))
-present_more f xs i x made new l at t h e =
-    let rest = there (map f (drop (i + 1) xs)) in
-    h ∙ ap (λ ys. made ++ there (map f ys)) (step xs i x l at)
-    ∙ ap (λ ds. made ++ ds) (there_more (f x) (map f (drop (i + 1) xs)) t)
-    ∙ sym (append_assoc made (f x ∷ []) rest) ∙ ap (λ ds. ds ++ rest) (sym e)
 
 -- ---- the index
 
@@ -94,10 +76,6 @@ pub record AreIndexed {X : Type 0} (f : X → Data) (xs : List X) (i n : ℕ) (z
   pub size : length zs ≡ i
   pub few : n ≤ i
 
-pushed : (zs : List ℤ) (z : ℤ) → length (zs ++ z ∷ []) ≡ length zs + 1
-pushed [] z = refl
-pushed (y ∷ zs) z = omega (arith, pushed zs z)
-
 pub indexed_more : {X : Type 0} (f : X → Data) (xs : List X) (i n : ℕ) (x : X) (zs ys : List ℤ)
     → i < length xs → x ≡ get_or xs i x → is_there (f x) ≡ true → AreIndexed f xs i n zs
     → ys ≡ zs ++ pos n ∷ [] → AreIndexed f xs (i + 1) (n + 1) ys
@@ -108,7 +86,7 @@ indexed_more f xs i n x zs ys l at t h e =
           h.all ∙ ap (λ ws. zs ++ option_index n (own_of f ws)) (step xs i x l at)
           ∙ ap (λ us. zs ++ us) (index_more n (f x) (own_of f (drop (i + 1) xs)) t)
           ∙ sym (append_assoc zs (pos n ∷ []) rest) ∙ ap (λ us. us ++ rest) (sym e);
-      size = ap length e ∙ pushed zs (pos n) ∙ ap (λ m. m + 1) h.size;
+      size = ap length e ∙ length_push zs (pos n) ∙ ap (λ m. m + 1) h.size;
       few = omega (arith, h.few);
     }
 
@@ -122,7 +100,7 @@ indexed_less f xs i n x zs ys l at t h e =
           h.all ∙ ap (λ ws. zs ++ option_index n (own_of f ws)) (step xs i x l at)
           ∙ ap (λ us. zs ++ us) (index_less n (f x) (own_of f (drop (i + 1) xs)) t)
           ∙ sym (append_assoc zs (negsuc 0 ∷ []) rest) ∙ ap (λ us. us ++ rest) (sym e);
-      size = ap length e ∙ pushed zs (negsuc 0) ∙ ap (λ m. m + 1) h.size;
+      size = ap length e ∙ length_push zs (negsuc 0) ∙ ap (λ m. m + 1) h.size;
       few = omega (arith, h.few);
     }
 
@@ -157,7 +135,7 @@ options_made vs j z y e h g =
     ∙ nulls-framed (λ v. v) vs z (h ∙ map_same (filter is_present vs)) ∙ options_same vs
 
 pub options_size : (vs : List Value) (j : Column) → j ≡ index_column vs → size_of j ≡ length vs
-options_size vs j e = ap size_of e ∙ length-index 0 vs
+options_size vs j e = ap size_of e ∙ length-option_index 0 vs
 
 -- ---- what suits
 
@@ -184,7 +162,7 @@ suit_in t (array ds) e i s =
     (s.0, ap (λ u. is_of_lists u && all_suit (item_of u) ds) (present_stays t e) ∙ s.1)
 suit_in t (object ms) e i s = (
   s.0,
-  ap (λ u. is_of_records u
+  ap (λ u. is_record u
       && members_suit (names_of_fields u) (types_of_fields u) ms) (present_stays t e) ∙ s.1,
 )
 

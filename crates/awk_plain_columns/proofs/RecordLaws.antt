@@ -17,12 +17,12 @@ use Rattle.awk_types.specs.DataType.{type_list, types_from}
 use Rattle.awk_types.specs.IsType.{count}
 use Rattle.awk_types.specs.Names.{same_name}
 use Rattle.awk_types.specs.View.{NamedType, names_of, types_of}
+use Rattle.awk_types.proofs.PartLimits.{depth_part}
 use Rattle.awk_plain.specs.IsPlain.{HavePlain}
 use Rattle.awk_plain.specs.Suits.{members_suit, own_parts, own_value, suits}
 use Rattle.awk_plain_columns.specs.Suited.{AllSuit, AreWide, HasColumns, HaveColumns, Suits}
-use Rattle.awk_plain_columns.specs.Suited.{has_columns, have_columns}
-use Rattle.awk_plain_columns.specs.Suited.{joined_members, member_at, member_list, members_at}
-use Rattle.awk_plain_columns.specs.Suited.{members_of}
+use Rattle.awk_plain_columns.specs.Suited.{has_columns, have_columns, joined_members, member_at}
+use Rattle.awk_plain_columns.specs.Suited.{member_list, members_at, members_of}
 
 pub own_member_list : (ms : Members) → own_parts ms ≡ map own_value (member_list ms)
 own_member_list no_members = refl
@@ -121,19 +121,9 @@ pub field_columns_at : (fs : List NamedType) (k : ℕ) (f : NamedType) → HaveC
     → slice_get fs k ≡ Some f → HasColumns f.typ
 field_columns_at fs k f h at = columns_at (map (λ g. g.typ) fs) k f.typ h (type_at fs k f at)
 
-depth_at : (ts : List DataType) (k : ℕ) (t : DataType) → slice_get ts k ≡ Some t
-    → depth t ≤ greatest (depths (types_from ts))
-depth_at [] k t at = absurd (cc)
-depth_at (u ∷ ts) zero t at =
-    let same : u ≡ t = cc in
-    omega (arith, ap depth same)
-depth_at (u ∷ ts) (suc k) t at =
-    let rest : depth t ≤ greatest (depths (types_from ts)) = depth_at ts k t at in
-    omega (arith, rest)
-
 pub field_depth : (fs : List NamedType) (k : ℕ) (f : NamedType) → slice_get fs k ≡ Some f
     → depth f.typ ≤ greatest (depths (types_of fs))
-field_depth fs k f at = depth_at (map (λ g. g.typ) fs) k f.typ (type_at fs k f at)
+field_depth fs k f at = depth_part (map (λ g. g.typ) fs) k f.typ (type_at fs k f at)
 
 -- ---- the members at a place, of all members
 

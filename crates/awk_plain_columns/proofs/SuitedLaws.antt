@@ -1,13 +1,13 @@
 -- Values of a type as they stand: their numbers, their items, and what these are of.
 use Rattle.std.proofs.Common.{append-nil, append_assoc, drop, length, refl, Box, Global, ◌+◌, ◌≤◌}
-use Rattle.std.proofs.Common.{◌≡◌, ℕ, ◌<◌, List, [], ◌∷◌, ◌++◌, map, Bool, true, false}
-use Rattle.std.proofs.Common.{ap, ap₂, sym, ◌∙◌, subst, get_or, zero, suc, arith, None}
+use Rattle.std.proofs.Common.{◌≡◌, ℕ, ◌<◌, List, [], ◌∷◌, ◌++◌, map, Bool, true, false, ap, ap₂}
+use Rattle.std.proofs.Common.{sym, ◌∙◌, subst, get_or, zero, suc, arith, None}
 use Rattle.std.specs.List.{AllByRecursion, flat_map, range_with_len}
 use Rattle.std.proofs.lemmas.List.{length-map, get_or-map, map-append, drop_all, drop_more}
 use Rattle.std.proofs.lemmas.List.FromFn.{fill_by_all}
 use Rattle.std.proofs.lemmas.Simd.{map-map}
-use Rattle.serde_json.specs.Data.{Data, Num, null, boolean, number, string, array, object}
-use Rattle.serde_json.specs.Data.{Items, no_items, item}
+use Rattle.serde_json.specs.Data.{Data, Num, null, boolean, number, string, array, object, Items}
+use Rattle.serde_json.specs.Data.{no_items, item}
 use Rattle.serde_json.specs.View.{items_view, view}
 use Rattle.serde_json.specs.declared.value.Value as json
 use Rattle.awk_unify.proofs.SameTypeLaws.{same_primitive_is}
@@ -15,6 +15,7 @@ use Rattle.std.proofs.lemmas.Bool.{and_parts}
 use Rattle.awk_types.proofs.Trees.{value_list-from}
 use Rattle.awk_types.specs.DataType.{DataType, unknown, leaf, opt, var}
 use Rattle.awk_types.specs.Has.{Has}
+use Rattle.awk_types.specs.Parts.{IsList}
 use Rattle.awk_types.specs.Value as values
 use Rattle.awk_types.specs.Value.{Value}
 use Rattle.awk_types.specs.View.{NamedType, field_step, fields_step, typ_of, typ_step, typs_step}
@@ -25,8 +26,6 @@ use Rattle.awk_types.specs.declared.typ.Typ.TheVariants.{rolls-Opt}
 use Rattle.awk_types.specs.declared.primitive.Primitive.{Primitive}
 use Rattle.awk_types.specs.declared.primitive.Primitive.TheVariants as primitive
 use Rattle.awk_lanes.specs.Made.{lane_of}
-use Rattle.awk_lanes.specs.Numbers.{IsOf}
-use Rattle.awk_lanes.specs.declared.kind.Num.TheVariants.{Truth}
 use Rattle.awk_layout.specs.Kinds.{kind_of, primitive_of-kind_of}
 use Rattle.awk_layout.specs.Layout.{Layout, empty, flat}
 use Rattle.awk_layout.specs.Typing.{array_type, array_items}
@@ -34,14 +33,11 @@ use Rattle.awk_columns.specs.Columns.{joined_items, list_items}
 use Rattle.awk_merge_lists.proofs.NumberLaws.{flat_items}
 use Rattle.awk_merge_lists.specs.Leaves.{lane_value}
 use Rattle.awk_frames.proofs.FramedItems.{are-lists}
-use Rattle.awk_frames.proofs.ValueLists.{IsList}
 use Rattle.awk_plain.proofs.OwnValues.{own_typed}
 use Rattle.awk_plain.specs.IsPlain.{ArePlain}
-use Rattle.awk_plain.specs.Plain.{fits, is_whole}
 use Rattle.awk_plain.specs.Suits.{all_suit, is_int64, is_of, own_value, own_values, suits}
 use Rattle.awk_plain_columns.specs.Suited.{AllSuit, IsColumnOf, Suits, data_list, items_of}
-use Rattle.awk_plain_columns.specs.Suited.{joined_data}
-use Rattle.awk_plain_columns.specs.Suited.{lane_number}
+use Rattle.awk_plain_columns.specs.Suited.{joined_data, lane_number}
 
 -- ---- lists of values
 
@@ -233,15 +229,6 @@ parts_all g f xs i made l h =
     sym (h ∙ ap (λ ys. made ++ flat_map g (map f ys)) (drop_all i xs l) ∙ append-nil made)
 
 -- ---- the number of a leaf
-
-pub truth_kind : (p : Primitive) (b : Bool) → Suits (leaf p) (boolean b)
-    → IsOf (kind_of p) (Truth b)
-truth_kind p b s = subst (λ q. IsOf (kind_of q) (Truth b)) (sym (prim_of_truth p b s)) tt
-
-pub whole_of : (p : Primitive) (n : Num) → Suits (leaf p) (number n)
-    → (is_whole n ≡ true) × (fits n ≡ true)
-whole_of p n s =
-    and_parts (is_whole n) (fits n) (and_parts (is_of primitive.I64 (leaf p)) (is_int64 n) s.1).1
 
 pub typ_of-Opt : (t : Box Typ Global) → typ_of (Opt t) ≡ opt (typ_of t.value)
 typ_of-Opt t =

@@ -3,9 +3,9 @@ ghost use Rattle.std.specs.Prelude.{◌≡◌, ◌++◌, map, length, IfOk, OnOk
 ghost use Rattle.std.specs.List.{AllByRecursion};
 ghost use Rattle.serde_json.specs.View.{view};
 ghost use Rattle.awk_types.specs.DataType.{var};
+ghost use Rattle.awk_types.specs.Parts.{IsList};
 ghost use Rattle.awk_columns.specs.Columns.{list_items, joined_items as joined_values};
 ghost use Rattle.awk_layout.specs.Typing.{array_type, array_items};
-ghost use Rattle.awk_frames.proofs.ValueLists.{IsList};
 ghost use Rattle.awk_plain.specs.Suits.{own_value};
 ghost use Rattle.awk_plain_columns.specs.Suited.{items_of, joined_data};
 

@@ -2,12 +2,12 @@
 use Rattle.std.proofs.Common.{◌≡◌, ℕ, zero, suc, ◌+◌, ◌-◌, ◌*◌, ◌/◌, ◌≤◌, List, [], ◌∷◌, ◌++◌}
 use Rattle.std.proofs.Common.{length, map, take, drop, replicate, refl, ap, ap₂, sym, subst, ◌∙◌}
 use Rattle.std.proofs.Common.{arith, length-take, length-drop}
-use Rattle.std.proofs.lemmas.List.{take-append-drop, take-map}
-use Rattle.std.proofs.lemmas.List.{drop-replicate, take-replicate, drop-map, map-append}
-use Rattle.std.specs.Prelude.{ℤ, Option, Some, None, Result, Ok, Err}
-use Rattle.std.specs.Prelude.{slice_range}
+use Rattle.std.proofs.lemmas.List.{take-append-drop, take-map, drop-replicate, take-replicate}
+use Rattle.std.proofs.lemmas.List.{drop-map, map-append, length-map}
+use Rattle.std.specs.Prelude.{ℤ, Option, Some, None, Result, Ok, Err, slice_range}
 use Rattle.std.specs.Simd.Lanes.{zip2}
 use Rattle.awk_types.specs.Gives.{Told}
+use Rattle.awk_types.specs.Parts.{number_of}
 use Rattle.awk_types.specs.Value.{Value, int, null}
 use Rattle.awk_types.specs.declared.fault.Fault.{Fault}
 use Rattle.awk_lanes.specs.Column.{Column}
@@ -15,12 +15,11 @@ use Rattle.awk_lanes.specs.Numbers.{width, numbers, element}
 use Rattle.awk_lanes.specs.Places.{size_of}
 use Rattle.awk_lanes.specs.Words.{column}
 use Rattle.awk_lanes.specs.declared.kind.Kind.{Kind}
-use Rattle.awk_lanes.specs.declared.kind.Kind.TheVariants.{Bool, I8, I16, I32, I64, U8, U16}
-use Rattle.awk_lanes.specs.declared.kind.Kind.TheVariants.{U32, U64}
+use Rattle.awk_lanes.specs.declared.kind.Kind.TheVariants.{Bool, I8, I16, I32, I64, U8, U16, U32}
+use Rattle.awk_lanes.specs.declared.kind.Kind.TheVariants.{U64}
 use Rattle.awk_lanes.proofs.NumberParts.{numbers-join}
 use Rattle.awk_layout.specs.Item.{leaf_value}
-use Rattle.awk_leaves.specs.Values.{all_values, first_fault_or, value_in, number_of, binary_at}
-use Rattle.awk_leaves.specs.Values.{binary_on}
+use Rattle.awk_leaves.specs.Values.{all_values, first_fault_or, value_in, binary_at, binary_on}
 use Rattle.awk_leaves.specs.declared.leaf_type.LeafType.{LeafType}
 use Rattle.awk_leaves.specs.declared.operation.Binary.{Binary}
 use Rattle.awk_types.specs.declared.primitive.Primitive.{Primitive}
@@ -79,14 +78,10 @@ lane-after k xs ys =
     ap (map (leaf_value k)) (map-append (element k) xs ys)
     ∙ map-append (leaf_value k) (map (element k) xs) (map (element k) ys)
 
-pub length-map : {X Y : Type 0} (f : X → Y) (xs : List X) → length (map f xs) ≡ length xs
-length-map f [] = refl
-length-map f (x ∷ xs) = ap suc (length-map f xs)
-
 pub length-lane : (c : Column) → length (lane_values c) ≡ size_of c
 length-lane c =
-    length-map (leaf_value c.kind) (map (element c.kind) c.items)
-    ∙ length-map (element c.kind) c.items
+    length-map (map (element c.kind) c.items) (leaf_value c.kind)
+    ∙ length-map c.items (element c.kind)
 
 -- ---- parts of lists
 
@@ -109,9 +104,6 @@ length-part xs lo hi p q =
     omega (arith, p, q, length-take (hi - lo) (drop lo xs), length-drop lo xs)
 
 -- ---- so far
-
-pub none_so_far : (rs : List (Result Value Fault)) (k : Kind) → IsSoFar rs k 0 []
-none_so_far rs k = record { size = omega arith; values = refl }
 
 -- with a lane of the results from place lo below place hi
 pub more_so_far : (rs : List (Result Value Fault)) (k : Kind) (lo hi : ℕ) (b c : List ℕ)
@@ -285,7 +277,7 @@ length-pair f n s t h k =
 pub part_size : (n : ℕ) (s : Side) (lo hi : ℕ) (t : LeafType) (w : Words) → lo ≤ hi → hi ≤ n
     → IsSide n s → AreNumbersOf t (side_part lo hi s) w → length (word_numbers w) ≡ hi - lo
 part_size n s lo hi t w p q h k =
-    ap length k.numbers ∙ length-map number_of (side_part lo hi s)
+    ap length k.numbers ∙ length-map (side_part lo hi s) number_of
     ∙ ap length (part_is n s lo hi p q)
     ∙ length-part (side_values n s) lo hi p (subst (λ m. hi ≤ m) (sym (length-side n s h)) q)
 

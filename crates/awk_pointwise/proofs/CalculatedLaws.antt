@@ -9,6 +9,7 @@ use Rattle.std.proofs.lemmas.Option.{same_Some}
 use Rattle.awk_types.specs.Faults.{fault_told}
 use Rattle.awk_types.specs.Gives.{Gives, Told}
 use Rattle.awk_types.specs.Has.{least_number, greatest_number}
+use Rattle.awk_types.specs.Parts.{number_of}
 use Rattle.awk_types.specs.Predicates.{is_null}
 use Rattle.awk_primitives.specs.Promotion.{is_whole}
 use Rattle.awk_types.specs.Value.{Value, int, truth, null}
@@ -28,7 +29,7 @@ use Rattle.awk_kernels.specs.declared.operation.Why.{Why}
 use Rattle.awk_kernels.specs.declared.operation.Why.TheVariants as why
 use Rattle.awk_layout.specs.Item.{leaf_value}
 use Rattle.awk_layout.specs.Kinds.{kind_of}
-use Rattle.awk_leaves.specs.Values.{number_of, fault_of, number_or_fault, binary_on, binary_at}
+use Rattle.awk_leaves.specs.Values.{fault_of, number_or_fault, binary_on, binary_at}
 use Rattle.awk_leaves.specs.Values.{joined, is_nonzero, first_fault_or, all_values}
 use Rattle.awk_leaves.specs.declared.operation.Binary.{Binary}
 use Rattle.awk_leaves.specs.declared.operation.Binary.TheVariants.{Calculate, Test, Join}

@@ -1,11 +1,11 @@
 -- Choices place by place.
 use Rattle.std.proofs.Common.{◌≡◌, ℕ, zero, suc, ◌<◌, List, [], ◌∷◌, length, map, replicate, get_or}
 use Rattle.std.proofs.Common.{refl, ap, ap₂, sym, subst, ◌∙◌, arith}
-use Rattle.std.specs.Prelude.{ℤ, pos, Bool, true, false, Some, None}
-use Rattle.std.specs.Prelude.{if◌then◌else◌}
+use Rattle.std.specs.Prelude.{ℤ, pos, Bool, true, false, Some, None, if◌then◌else◌}
 use Rattle.std.specs.Simd.Lanes.{zip2}
-use Rattle.std.proofs.lemmas.List.{ext_get_or}
+use Rattle.std.proofs.lemmas.List.{ext_get_or, length-map}
 use Rattle.std.proofs.lemmas.List.FromFn.{get_or-map-range_with_len}
+use Rattle.awk_types.specs.Parts.{number_of, option_number}
 use Rattle.awk_types.specs.Predicates.{is_null}
 use Rattle.awk_types.specs.Value.{Value, int, null}
 use Rattle.awk_types.specs.declared.primitive.Primitive.{Primitive}
@@ -18,18 +18,17 @@ use Rattle.awk_lanes.specs.declared.kind.Kind.TheVariants as kind
 use Rattle.awk_lanes.proofs.MadeLanes.{size-lane_of, at-lane_of}
 use Rattle.awk_layout.specs.Item.{leaf_value, at_option}
 use Rattle.awk_layout.specs.Kinds.{kind_of}
-use Rattle.awk_leaves.specs.Values.{number_of, value_in, chosen_at, chosen_values}
+use Rattle.awk_leaves.specs.Values.{value_in, chosen_at, chosen_values}
 use Rattle.awk_pointwise.specs.Choice.{chosen_value, null_number, AreWithin}
-use Rattle.awk_pointwise.specs.Optional.{item_at, optional_values, optional_at, side_at, shown}
-use Rattle.awk_pointwise.specs.Optional.{IsOptional, HasSidePlace, HasPlace, unless_null}
-use Rattle.awk_pointwise.specs.Optional.{masked_values}
+use Rattle.awk_pointwise.specs.Optional.{item_at, optional_values, optional_at, side_at, IsOptional}
+use Rattle.awk_pointwise.specs.Optional.{HasSidePlace, HasPlace, unless_null, masked_values}
 use Rattle.awk_pointwise.specs.Sides.{lane_values, side_values, IsSide, IsLeafNumber}
 use Rattle.awk_pointwise.specs.declared.choice.Choice.{Choice}
 use Rattle.awk_pointwise.specs.declared.optional.Optional.{Optional}
 use Rattle.awk_pointwise.specs.declared.optional.Optional.TheVariants as optional
 use Rattle.awk_pointwise.specs.declared.sides.Side.{Side}
 use Rattle.awk_pointwise.specs.declared.sides.Side.TheVariants as side
-use Rattle.awk_pointwise.proofs.BlockLaws.{length-lane, length-side, length-map, length-replicate}
+use Rattle.awk_pointwise.proofs.BlockLaws.{length-lane, length-side, length-replicate}
 use Rattle.awk_pointwise.proofs.SideLaws.{not_null, leaf_number, one_number, one_present}
 
 -- ---- items at places
@@ -50,28 +49,28 @@ leaf_get : (c : Column) (i : ℕ) → i < size_of c
     → get_or (lane_values c) i null ≡ leaf_value c.kind (at c i)
 leaf_get c i h =
     map_get (leaf_value c.kind) (map (element c.kind) c.items) i (element c.kind (pos 0)) null
-    (subst (λ n. i < n) (sym (length-map (element c.kind) c.items)) h)
+    (subst (λ n. i < n) (sym (length-map c.items (element c.kind))) h)
     ∙ ap (leaf_value c.kind) (map_get (element c.kind) c.items i (pos 0)
     (element c.kind (pos 0)) h)
 
 -- ---- values as numbers
 
-shown_present : (v : Value) → is_null v ≡ false → shown v ≡ Some (number_of v)
+shown_present : (v : Value) → is_null v ≡ false → option_number v ≡ Some (number_of v)
 shown_present v e = ap (λ b. if b then None else Some (number_of v)) e
 
 pub shown_leaf : (c : Column) (i : ℕ) → i < size_of c
-    → Some (at c i) ≡ shown (get_or (lane_values c) i null)
+    → Some (at c i) ≡ option_number (get_or (lane_values c) i null)
 shown_leaf c i h =
     let z : ℤ = get_or c.items i (pos 0) in
-    sym (ap shown (leaf_get c i h)
+    sym (ap option_number (leaf_get c i h)
     ∙ shown_present (leaf_value c.kind (element c.kind z)) (not_null c.kind (element c.kind z))
     ∙ ap (λ z. Some z) (leaf_number c.kind z))
 
-pub shown_one : (p : Primitive) (z : ℤ) → IsLeafNumber p z → Some z ≡ shown (value_in p z)
+pub shown_one : (p : Primitive) (z : ℤ) → IsLeafNumber p z → Some z ≡ option_number (value_in p z)
 shown_one p z h =
     sym (shown_present (value_in p z) (one_present p z) ∙ ap (λ z. Some z) (one_number p z h))
 
-pub shown_some : (v : Value) (z : ℤ) → shown v ≡ Some z → number_of v ≡ z
+pub shown_some : (v : Value) (z : ℤ) → option_number v ≡ Some z → number_of v ≡ z
 shown_some v z e = go (is_null v) e
   where
     go : (b : Bool) → (if b then None else Some (number_of v)) ≡ Some z → number_of v ≡ z
@@ -92,12 +91,12 @@ index_element kind.U64 z h = absurd h
 -- the item of an index, which has a place
 pub indexed_some : (j c : Column) (i k : ℕ) → IsOptionKind j.kind
     → option_place_at j i ≡ Some k → k < size_of c
-    → Some (at c k) ≡ shown (item_at (lane_values c) (get_or j.items i (pos 0)))
+    → Some (at c k) ≡ option_number (item_at (lane_values c) (get_or j.items i (pos 0)))
 indexed_some j c i k h e q =
     let place : option_place (get_or j.items i (pos 0)) ≡ Some k =
     ap option_place (sym (index_element j.kind (get_or j.items i (pos 0)) h)) ∙ e in
     shown_leaf c k q
-    ∙ ap (λ o. shown (at_option o (λ k. get_or (lane_values c) k null))) (sym place)
+    ∙ ap (λ o. option_number (at_option o (λ k. get_or (lane_values c) k null))) (sym place)
 
 -- ---- sides by place
 
@@ -119,7 +118,7 @@ optional_get n optional.Nulls i h q = replicate_get n null i null q
 optional_length : (n : ℕ) (x : Optional) → IsOptional n x → length (optional_values n x) ≡ n
 optional_length n (optional.Whole s) h = length-side n s.now h
 optional_length n (optional.Indexed j c) h =
-    length-map (item_at (lane_values c.now)) j.now.items ∙ h.0
+    length-map j.now.items (item_at (lane_values c.now)) ∙ h.0
 optional_length n optional.Nulls h = length-replicate n null
 
 side_place : (n : ℕ) (s : Side) (i : ℕ) → IsSide n s → i < n → HasSidePlace i s

@@ -1,13 +1,13 @@
 -- What is chosen is null, or of the primitive of the choice.
 use Rattle.std.proofs.Common.{◌≡◌, ℕ, zero, suc, ◌<◌, List, [], ◌∷◌, map, get_or, refl, ap, ap₂}
-use Rattle.std.proofs.Common.{sym, subst, ◌∙◌}
-use Rattle.std.proofs.Common.{inl, inr}
+use Rattle.std.proofs.Common.{sym, subst, ◌∙◌, inl, inr}
 use Rattle.std.specs.Prelude.{ℤ, pos, Bool, true, false, ◌⊎◌, Option, Some, None, Result, Ok}
 use Rattle.std.specs.Prelude.{if◌then◌else◌}
 use Rattle.std.specs.List.{AllByRecursion}
 use Rattle.std.proofs.lemmas.Bool.{or_parts}
 use Rattle.awk_base.proofs.Every.{all-impl}
 use Rattle.awk_types.specs.Has.{Holds}
+use Rattle.awk_types.specs.Parts.{number_of}
 use Rattle.awk_types.specs.Predicates.{is_null}
 use Rattle.awk_primitives.specs.Promotion.{is_whole}
 use Rattle.awk_types.specs.Value.{Value, int, truth, null}
@@ -17,7 +17,7 @@ use Rattle.awk_types.specs.declared.primitive.Primitive.TheVariants as prim
 use Rattle.awk_leaves.specs.LeafTypes.{type_beside, overflows, number_type, choice_type, are_truths}
 use Rattle.awk_leaves.specs.LeafTypes.{truth_type}
 use Rattle.awk_leaves.specs.Table.{choice_judged, chosen_judged, judged, one_overflows}
-use Rattle.awk_leaves.specs.Values.{number_of, value_in, chosen_at, is_nonzero}
+use Rattle.awk_leaves.specs.Values.{value_in, chosen_at, is_nonzero}
 use Rattle.awk_leaves.specs.declared.leaf_type.LeafType.{LeafType}
 use Rattle.awk_leaves.specs.declared.leaf_type.LeafType.TheVariants.{Of, Unknown, Literal}
 use Rattle.awk_lanes.specs.Numbers.{element, is_nonzero as nonzero}

@@ -8,6 +8,7 @@ use Rattle.std.specs.Simd.Lanes.{zip2}
 use Rattle.std.proofs.lemmas.Int.{ints}
 use Rattle.std.proofs.lemmas.List.{length-map}
 use Rattle.awk_base.proofs.Every.{all-part}
+use Rattle.awk_types.specs.Parts.{number_of}
 use Rattle.awk_types.specs.Predicates.{is_null}
 use Rattle.awk_types.specs.Value.{Value}
 use Rattle.awk_types.specs.declared.primitive.Primitive.{Primitive}
@@ -24,7 +25,7 @@ use Rattle.awk_lanes.proofs.RangeLaws.{zero_number}
 use Rattle.awk_kernels.specs.Kernels.{chosen}
 use Rattle.awk_layout.specs.Item.{leaf_value}
 use Rattle.awk_layout.specs.Kinds.{kind_of}
-use Rattle.awk_leaves.specs.Values.{number_of, chosen_at, chosen_values, all_values, first_fault_or}
+use Rattle.awk_leaves.specs.Values.{chosen_at, chosen_values, all_values, first_fault_or}
 use Rattle.awk_leaves.specs.declared.leaf_type.LeafType.{LeafType}
 use Rattle.awk_leaves.specs.declared.leaf_type.LeafType.TheVariants.{Of}
 use Rattle.awk_pointwise.specs.Blocks.{side_part}

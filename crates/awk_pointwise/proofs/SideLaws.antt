@@ -2,8 +2,10 @@
 use Rattle.std.proofs.Common.{◌≡◌, ℕ, zero, suc, List, [], ◌∷◌, map, get_or, refl, ap, ap₂}
 use Rattle.std.proofs.Common.{sym, ◌∙◌, subst, inl, inr, arith, replicate}
 use Rattle.std.specs.Prelude.{ℤ, pos, Bool, true, false, if◌then◌else◌}
-use Rattle.std.specs.List.{AllByRecursion}
+use Rattle.std.specs.List.{AllByRecursion, range_with_len}
 use Rattle.std.proofs.lemmas.Int.{ints}
+use Rattle.awk_types.specs.Parts.{number_of}
+use Rattle.std.proofs.lemmas.Simd.{map-map, pick_l_whole}
 use Rattle.awk_types.specs.Predicates.{is_null}
 use Rattle.awk_types.specs.Value.{Value, int, truth}
 use Rattle.awk_types.specs.declared.primitive.Primitive.{Primitive}
@@ -14,10 +16,11 @@ use Rattle.awk_lanes.specs.Ranges.{IsNumber, AreNumbers}
 use Rattle.awk_lanes.specs.declared.kind.Kind.{Kind}
 use Rattle.awk_lanes.specs.declared.kind.Kind.TheVariants.{Bool as Truths, I8, I16, I32, I64}
 use Rattle.awk_lanes.specs.declared.kind.Kind.TheVariants.{U8, U16, U32, U64}
+use Rattle.awk_lanes.specs.Places.{at, size_of}
 use Rattle.awk_layout.specs.Item.{leaf_value}
 use Rattle.awk_layout.specs.Kinds.{primitive_of}
 use Rattle.awk_numbers.specs.Folds.{lane_numbers}
-use Rattle.awk_leaves.specs.Values.{number_of, value_in}
+use Rattle.awk_leaves.specs.Values.{value_in}
 use Rattle.awk_leaves.specs.declared.leaf_type.LeafType.TheVariants.{Of, Literal}
 use Rattle.awk_pointwise.specs.Numbers.{IsTyped, AreTyped, IsPresent, AreNumbersOf, word_numbers}
 use Rattle.awk_pointwise.specs.declared.words.Words.{Words}
@@ -164,3 +167,13 @@ leaf_64 prim.U8 z h = grind (arith, ints, h.0, h.1)
 leaf_64 prim.U16 z h = grind (arith, ints, h.0, h.1)
 leaf_64 prim.U32 z h = grind (arith, ints, h.0, h.1)
 leaf_64 prim.U64 z h = grind (arith, ints, h.0, h.1)
+
+-- the leaves at each place of a lane
+pub lane_values-at : (c : Column)
+    → map (λ i. leaf_value c.kind (at c i)) (range_with_len 0 (size_of c)) ≡ lane_values c
+lane_values-at c =
+    sym (map-map (λ z. leaf_value c.kind (element c.kind z)) (λ i. get_or c.items i (pos 0))
+    (range_with_len 0 (size_of c)))
+    ∙ ap (map (λ z. leaf_value c.kind (element c.kind z)))
+    (pick_l_whole (pos 0) c.items (size_of c) refl)
+    ∙ sym (map-map (leaf_value c.kind) (element c.kind) c.items)

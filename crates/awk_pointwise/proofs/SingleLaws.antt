@@ -8,10 +8,12 @@ use Rattle.std.specs.List.{AllByRecursion}
 use Rattle.std.specs.Ordering.{int_eq}
 use Rattle.std.specs.Simd.Lanes.{zip2}
 use Rattle.std.proofs.lemmas.Int.{ints}
+use Rattle.std.proofs.lemmas.List.{length-map}
 use Rattle.awk_base.proofs.Every.{all-impl}
 use Rattle.awk_types.specs.Faults.{fault_told}
 use Rattle.awk_types.specs.Gives.{Gives, Told}
 use Rattle.awk_types.specs.Has.{least_number, greatest_number, Holds}
+use Rattle.awk_types.specs.Parts.{number_of}
 use Rattle.awk_types.specs.Predicates.{is_null}
 use Rattle.awk_primitives.specs.Promotion.{is_whole}
 use Rattle.awk_types.specs.Value.{Value, int, null, truth}
@@ -29,7 +31,7 @@ use Rattle.awk_kernels.specs.declared.operation.Why.TheVariants.{Overflow}
 use Rattle.awk_kernels.specs.declared.operation.Compare.{Compare}
 use Rattle.awk_kernels.specs.declared.operation.Compare.TheVariants.{Eq, Ne}
 use Rattle.awk_layout.specs.Kinds.{kind_of}
-use Rattle.awk_leaves.specs.Values.{number_of, held_by, is_nonzero, all_values, unary_on, unary_at}
+use Rattle.awk_leaves.specs.Values.{held_by, is_nonzero, all_values, unary_on, unary_at}
 use Rattle.awk_leaves.specs.Values.{first_fault_or}
 use Rattle.awk_leaves.specs.LeafTypes.{type_beside, whole_type, truth_type, overflows}
 use Rattle.awk_leaves.specs.Table.{unary_judged}
@@ -50,7 +52,7 @@ use Rattle.awk_pointwise.proofs.CalculatedLaws.{int_values, int_lane, more_int, 
 use Rattle.awk_pointwise.proofs.CalculatedLaws.{read_truth}
 use Rattle.awk_lanes.specs.Ranges.{AreNumbers}
 use Rattle.awk_lanes.proofs.RangeLaws.{fits_64}
-use Rattle.awk_pointwise.proofs.BlockLaws.{part-map, part_is, length-map, length-side}
+use Rattle.awk_pointwise.proofs.BlockLaws.{part-map, part_is, length-side}
 use Rattle.awk_pointwise.proofs.RangeLaws.{beside_holds, results_numbers}
 use Rattle.awk_pointwise.proofs.SideLaws.{all-map, all-replicate}
 use Rattle.awk_pointwise.proofs.ReadyLaws.{judged_ok, truths_bool}
@@ -328,7 +330,7 @@ single_part op t p n x lo hi w q r h =
 
 pub length-single : {X : Type 0} (f : Value → X) (n : ℕ) (x : Side) → IsSide n x
     → length (map f (side_values n x)) ≡ n
-length-single f n x h = length-map f (side_values n x) ∙ length-side n x h
+length-single f n x h = length-map (side_values n x) f ∙ length-side n x h
 
 pub unary_same : (op : Unary) (s t : LeafType) (r : Result Primitive Fault) (p : Primitive)
     → s ≡ t → r ≡ unary_judged op s → r ≡ Ok p → unary_judged op t ≡ Ok p

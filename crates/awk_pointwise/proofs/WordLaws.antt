@@ -1,13 +1,10 @@
 -- Numbers as the kernels take them, and what they write.
-use Rattle.std.proofs.Common.{◌≡◌, ℕ, ◌+◌, List, [], ◌∷◌, ◌++◌, length, map, take, refl, ap, ap₂}
-use Rattle.std.proofs.Common.{◌∙◌, arith}
+use Rattle.std.proofs.Common.{◌≡◌, ℕ, List, [], ◌∷◌, map, refl, ap, ap₂, arith}
 use Rattle.std.specs.Prelude.{ℤ, pos, negsuc, Bool, true, false, not}
 use mathlib.Core.Bool.{beq}
 use Rattle.std.specs.List.{AllByRecursion, zip}
 use Rattle.std.specs.Simd.Lanes.{zip2}
 use Rattle.std.proofs.lemmas.Int.{ints}
-use Rattle.std.proofs.lemmas.List.{append-nil}
-use Rattle.std.proofs.Math.Seq.{take-append-add}
 use Rattle.awk_lanes.specs.Numbers.{nat_of}
 use Rattle.awk_leaves.specs.Values.{joined}
 use Rattle.awk_leaves.specs.declared.operation.Logic.TheVariants.{Xor}
@@ -33,13 +30,6 @@ nat_pos (negsuc n) h = absurd (grind (arith, ints, h.0))
 pub natural : (zs : List ℤ) → AllByRecursion IsNat64 zs → map pos (map nat_of zs) ≡ zs
 natural [] a = refl
 natural (z ∷ zs) a = ap₂ (λ y ys. y ∷ ys) (nat_pos z a.0) (natural zs a.1)
-
--- what was written over the front of a list of this length
-pub written : {X : Type 0} (n : ℕ) (new rest : List X) → n ≡ length new
-    → take n (new ++ rest) ≡ new
-written n new rest e =
-    let m : n ≡ length new + 0 = omega (arith, e) in
-    ap (λ k. take k (new ++ rest)) m ∙ take-append-add new rest 0 ∙ append-nil new
 
 pub zip2-flip : {X Y Z : Type 0} (f : X → Y → Z) (g : Y → X → Z) (xs : List X) (ys : List Y)
     → ((x : X) (y : Y) → g y x ≡ f x y) → zip2 g ys xs ≡ zip2 f xs ys

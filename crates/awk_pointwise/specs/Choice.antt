@@ -1,9 +1,10 @@
 -- Choices between two sides by a third.
 use Rattle.std.specs.Prelude.{ℕ, ◌<◌, ℤ, pos, List, if◌then◌else◌}
+use Rattle.awk_types.specs.Parts.{number_of}
 use Rattle.awk_types.specs.Predicates.{is_null}
 use Rattle.awk_types.specs.Value.{Value}
 use Rattle.awk_types.specs.declared.primitive.Primitive.{Primitive}
-use Rattle.awk_leaves.specs.Values.{chosen_at, number_of}
+use Rattle.awk_leaves.specs.Values.{chosen_at}
 use Rattle.awk_pointwise.specs.Optional.{masked_values, optional_at, HasPlace}
 use Rattle.awk_pointwise.specs.Sides.{IsLeafNumber}
 use Rattle.awk_pointwise.specs.declared.choice.Choice.{Choice}

@@ -5,6 +5,7 @@ use Rattle.std.specs.Int.{from_bool, int_min}
 use Rattle.std.specs.List.{AllByRecursion}
 use Rattle.std.specs.Simd.Lanes.{zip2}
 use Rattle.awk_types.specs.Has.{least_number, greatest_number, Holds}
+use Rattle.awk_types.specs.Parts.{number_of}
 use Rattle.awk_types.specs.Predicates.{is_null}
 use Rattle.awk_primitives.specs.Promotion.{is_whole}
 use Rattle.awk_types.specs.Value.{Value}
@@ -18,7 +19,7 @@ use Rattle.awk_lanes.specs.Numbers.{nat_of}
 use Rattle.awk_lanes.specs.Words.{integers}
 use Rattle.awk_kernels.specs.Kernels.{leaves}
 use Rattle.awk_kernels.specs.declared.operation.Arith.{Arith}
-use Rattle.awk_leaves.specs.Values.{fault_of, number_of, joined, is_nonzero}
+use Rattle.awk_leaves.specs.Values.{fault_of, joined, is_nonzero}
 use Rattle.awk_leaves.specs.declared.leaf_type.LeafType.{LeafType}
 use Rattle.awk_leaves.specs.declared.leaf_type.LeafType.TheVariants as of
 use Rattle.awk_leaves.specs.declared.operation.Binary.{Binary}

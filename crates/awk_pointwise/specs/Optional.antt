@@ -1,8 +1,6 @@
 -- Sides of which some places may be null, and choices between them.
-use Rattle.std.specs.Prelude.{◌≡◌, ℕ, ◌<◌, ℤ, pos, List, map, replicate, get_or, Option, Some}
-use Rattle.std.specs.Prelude.{None, if◌then◌else◌}
+use Rattle.std.specs.Prelude.{◌≡◌, ℕ, ◌<◌, ℤ, pos, List, map, replicate, get_or, if◌then◌else◌}
 use Rattle.std.specs.Simd.Lanes.{zip2}
-use Rattle.awk_types.specs.Predicates.{is_null}
 use Rattle.awk_types.specs.Value.{Value, int, null}
 use Rattle.awk_lanes.specs.Column.{Column}
 use Rattle.awk_lanes.specs.Numbers.{is_nonzero}
@@ -10,7 +8,7 @@ use Rattle.awk_lanes.specs.Places.{size_of, at, option_place, IsOptionKind}
 use Rattle.awk_lanes.specs.Ranges.{AreNumbers}
 use Rattle.awk_layout.specs.Item.{at_option, leaf_value}
 use Rattle.awk_layout.specs.Kinds.{primitive_of}
-use Rattle.awk_leaves.specs.Values.{number_of, value_in}
+use Rattle.awk_leaves.specs.Values.{value_in}
 use Rattle.awk_leaves.specs.declared.leaf_type.LeafType.{LeafType}
 use Rattle.awk_leaves.specs.declared.leaf_type.LeafType.TheVariants as of
 use Rattle.awk_pointwise.specs.Sides.{lane_values, leaf_type, side_values, IsSide, IsLeafNumber}
@@ -71,10 +69,6 @@ abbrev pub HasPlace : ℕ → Optional → Type 0
 HasPlace i (optional.Whole s) = HasSidePlace i s.now
 HasPlace i (optional.Indexed j c) = (i < size_of j.now) × IsOptionKind j.now.kind
 HasPlace i optional.Nulls = Unit {0}
-
--- a value as a number, or none where it is null
-abbrev pub shown : Value → Option ℤ
-shown v = if is_null v then None else Some (number_of v)
 
 -- each number of its lane is one of its kind
 abbrev pub AreKnownSide : Side → Type 0

@@ -2,6 +2,7 @@
 ghost use Rattle.std.specs.Prelude.{◌≡◌, ◌<◌, Ok, IfOk};
 ghost use Rattle.awk_types.specs.Faults.{fault_told};
 ghost use Rattle.awk_types.specs.Gives.{Gives};
+ghost use Rattle.awk_types.specs.Parts.{option_number};
 ghost use Rattle.awk_types.specs.declared.primitive.Primitive.{Primitive};
 ghost use Rattle.awk_lanes.specs.Numbers.{int_of, IsOf};
 ghost use Rattle.awk_lanes.specs.Places.{size_of};
@@ -10,7 +11,7 @@ ghost use Rattle.awk_layout.specs.Kinds.{kind_of};
 ghost use Rattle.awk_leaves.specs.Table.{choice_judged};
 ghost use Rattle.awk_leaves.specs.Values.{choice_values, chosen_values};
 ghost use Rattle.awk_pointwise.specs.Choice.{chosen_items, chosen_value, HasPlaces};
-ghost use Rattle.awk_pointwise.specs.Optional.{optional_type, optional_values, IsOptional, shown};
+ghost use Rattle.awk_pointwise.specs.Optional.{optional_type, optional_values, IsOptional};
 ghost use Rattle.awk_pointwise.specs.Optional.{AreKnown};
 ghost use Rattle.awk_pointwise.specs.Sides.{IsLeafNumber};
 
@@ -43,7 +44,7 @@ struct Choice<'s, 'b, 'a> {
 /// The number that is chosen at place i, or none where it is null.
 fn chosen_number<L: Ledger>(choice: &Choice, i: u64, steps: &mut Steps<L>) -> Option<i128>
     requires { HasPlaces i choice.now }
-    ensures { result ≡ shown (chosen_value choice.now i) }
+    ensures { result ≡ option_number (chosen_value choice.now i) }
 {
     match optional_number(choice.condition, i, steps) {
         None => None,
@@ -79,7 +80,7 @@ struct ChosenNumbers<'s, 'b, 'a> {
 }
 
 impl<'s, 'b, 'a> Numbers for ChosenNumbers<'s, 'b, 'a> {
-    ghost use Rattle.awk_leaves.specs.Values.{number_of};
+    ghost use Rattle.awk_types.specs.Parts.{number_of};
     ghost use Rattle.awk_pointwise.specs.Choice.{AreChosen};
 
     ghost kind = { λ s. kind_of s.prim };

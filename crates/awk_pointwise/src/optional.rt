@@ -2,9 +2,10 @@
 ghost use Rattle.std.specs.Prelude.{◌≡◌, ◌<◌, pos, get_or};
 ghost use Rattle.awk_lanes.specs.Numbers.{int_of};
 ghost use Rattle.awk_lanes.specs.Places.{size_of, at, IsOptionKind};
+ghost use Rattle.awk_types.specs.Parts.{option_number};
 ghost use Rattle.awk_pointwise.specs.Sides.{lane_values};
 ghost use Rattle.awk_pointwise.specs.Optional as spec;
-ghost use Rattle.awk_pointwise.specs.Optional.{HasSidePlace, HasPlace, shown, side_at};
+ghost use Rattle.awk_pointwise.specs.Optional.{HasSidePlace, HasPlace, side_at};
 ghost use Rattle.awk_pointwise.specs.Optional.{optional_at, item_at, AreKnown, AreKnownSide};
 
 use crate::sides::Side;
@@ -57,7 +58,7 @@ fn lane_number<L: Ledger>(lane: &Lane, i: u64, steps: &mut Steps<L>) -> i128
 
 fn side_number<L: Ledger>(side: &Side, i: u64, steps: &mut Steps<L>) -> Option<i128>
     requires { HasSidePlace i side.now }
-    ensures { result ≡ shown (side_at i side.now) }
+    ensures { result ≡ option_number (side_at i side.now) }
 {
     match side {
         Side::Column(lane) => Some(lane_number(lane, i, steps)),
@@ -75,7 +76,8 @@ fn indexed_number<L: Ledger>(
 ) -> Option<i128>
     requires within { i < size_of index.now }
     requires kind { IsOptionKind index.now.kind }
-    ensures { result ≡ shown (item_at (lane_values lane.now) (get_or index.now.items i (pos 0))) }
+    ensures { let place = get_or index.now.items i (pos 0) in
+        result ≡ option_number (item_at (lane_values lane.now) place) }
 {
     match option_place_in(index, i, steps) {
         Some(k) => {
@@ -96,7 +98,7 @@ pub(crate) fn optional_number<L: Ledger>(
     steps: &mut Steps<L>,
 ) -> Option<i128>
     requires { HasPlace i optional.now }
-    ensures { result ≡ shown (optional_at i optional.now) }
+    ensures { result ≡ option_number (optional_at i optional.now) }
 {
     match optional {
         Optional::Whole(side) => side_number(side, i, steps),

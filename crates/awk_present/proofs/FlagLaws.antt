@@ -9,11 +9,12 @@ use Rattle.std.specs.Ordering.{int_eq}
 use Rattle.std.proofs.lemmas.List.{length-map}
 use Rattle.std.proofs.lemmas.List.Sums.{sum_by-cons, length-filter}
 use Rattle.awk_base.proofs.Lists.{position-cons}
+use Rattle.awk_types.specs.Parts.{number_of}
 use Rattle.awk_types.specs.Value.{Value}
 use Rattle.awk_columns.specs.Columns.{is_present, present_values}
 use Rattle.awk_numbers.specs.Places.{is_place, nth_true, nth_place}
 use Rattle.awk_numbers.proofs.PartLaws.{slice_range-map}
-use Rattle.awk_present.specs.Numbers.{number_of, numbers, number_place}
+use Rattle.awk_present.specs.Numbers.{numbers, number_place}
 
 -- ---- how many are present
 

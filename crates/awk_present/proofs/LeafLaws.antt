@@ -1,23 +1,17 @@
 -- Lanes of leaves, and which kinds of arrays have one.
-use Rattle.std.proofs.Common.{◌≡◌, refl, ap, sym, ◌∙◌, true≢false, map, []}
+use Rattle.std.proofs.Common.{◌≡◌, refl, sym, true≢false}
 use Rattle.std.specs.Prelude.{ℤ, pos, true, false, Bool, if◌then◌else◌}
-use Rattle.std.specs.List.{range_with_len}
 use Rattle.awk_types.specs.DataType.{DataType, unknown, leaf, var, reg, rec, tup, opt, uni}
+use Rattle.awk_types.specs.Parts.{number_of}
 use Rattle.awk_types.specs.Predicates.{is_leaf}
 use Rattle.awk_types.specs.Simple.{present, is_option}
 use Rattle.awk_types.specs.Value.{truth}
-use Rattle.awk_lanes.specs.Column.{Column}
 use Rattle.awk_lanes.specs.Numbers.{element, is_nonzero}
-use Rattle.awk_lanes.specs.Places.{size_of, at}
 use Rattle.awk_lanes.specs.declared.kind.Kind.{Kind}
 use Rattle.awk_lanes.specs.declared.kind.Kind.TheVariants as kind
 use Rattle.awk_layout.specs.Item.{leaf_value}
-use Rattle.awk_layout.specs.Kinds.{kind_of, primitive_of, kind_of-primitive_of}
-use Rattle.awk_layout.specs.Layout.{Layout}
-use Rattle.awk_layout.specs.Typing.{array_type, array_items}
 use Rattle.awk_columns.specs.Columns.{is_present}
-use Rattle.awk_present.specs.Numbers.{number_of, leaf_of}
-use Rattle.awk_present.specs.Present.{AreLeaves}
+use Rattle.awk_present.specs.Numbers.{leaf_of}
 
 -- without an option a leaf is what it is
 pub present_leaf : (t : DataType) → is_option t ≡ false → is_leaf (present t) ≡ true
@@ -41,23 +35,6 @@ leaf_of-opt (rec ns ts) h = refl
 leaf_of-opt (tup ts) h = refl
 leaf_of-opt (opt t) h = absurd (true≢false (sym h))
 leaf_of-opt (uni ts) h = refl
-
--- ---- lanes of them
-
-pub leaf_lane : (x : Layout) (c : Column) → array_type x ≡ leaf (primitive_of c.kind)
-    → array_items x ≡ map (λ i. leaf_value c.kind (at c i)) (range_with_len 0 (size_of c))
-    → AreLeaves x c
-leaf_lane x c t i = record {
-  kind = sym (kind_of-primitive_of c.kind) ∙ ap kind_of (sym (ap leaf_of t));
-  items = i;
-}
-
-pub no_lane : (x : Layout) (c : Column) → array_type x ≡ unknown → array_items x ≡ []
-    → c.kind ≡ kind.I64 → size_of c ≡ 0 → AreLeaves x c
-no_lane x c t i k n = record {
-  kind = k ∙ ap (λ t. kind_of (leaf_of t)) (sym t);
-  items = i ∙ sym (ap (λ n. map (λ i. leaf_value c.kind (at c i)) (range_with_len 0 n)) n);
-}
 
 -- ---- values of leaves
 
@@ -88,20 +65,3 @@ number_of-leaf_value kind.U8 z = refl
 number_of-leaf_value kind.U16 z = refl
 number_of-leaf_value kind.U32 z = refl
 number_of-leaf_value kind.U64 z = refl
-
--- what is read of a number is read so again
-truth_twice : (b : Bool)
-    → pos (if is_nonzero (pos (if b then 1 else 0)) then 1 else 0) ≡ pos (if b then 1 else 0)
-truth_twice true = refl
-truth_twice false = refl
-
-pub element-twice : (k : Kind) (z : ℤ) → element k (element k z) ≡ element k z
-element-twice kind.Bool z = truth_twice (is_nonzero z)
-element-twice kind.I8 z = refl
-element-twice kind.I16 z = refl
-element-twice kind.I32 z = refl
-element-twice kind.I64 z = refl
-element-twice kind.U8 z = refl
-element-twice kind.U16 z = refl
-element-twice kind.U32 z = refl
-element-twice kind.U64 z = refl

@@ -1,21 +1,21 @@
 -- The numbers of groups of bytes at the places that an index names.
 use Rattle.std.proofs.Common.{◌≡◌, ◌≢◌, ℕ, suc, zero, ◌+◌, ◌*◌, ◌/◌, ◌<◌, List, [], ◌∷◌, ◌++◌}
 use Rattle.std.proofs.Common.{length, get_or, map, refl, ap, ap₂, sym, ◌∙◌, arith}
-use Rattle.std.specs.Prelude.{ℤ, pos, Some}
+use Rattle.std.specs.Prelude.{pos, Some}
 use Rattle.std.specs.List.{range_with_len, flat_map}
 use Rattle.std.specs.Simd.{first_chunks}
 use Rattle.std.proofs.lemmas.List.{map-append, append-nil}
 use Rattle.awk_base.proofs.Lists.{length-chunk, length-chunks}
-use Rattle.awk_lanes.specs.declared.kind.Kind.{Kind}
-use Rattle.awk_lanes.specs.declared.kind.Kind.TheVariants.{Bool as Truths, I8, I16, I32, I64}
-use Rattle.awk_lanes.specs.declared.kind.Kind.TheVariants.{U8, U16, U32, U64}
+use Rattle.awk_lanes.specs.declared.kind.Kind.TheVariants.{Bool as Truths, I64}
 use Rattle.awk_lanes.specs.Column.{Column}
 use Rattle.awk_lanes.specs.Numbers.{width, number, numbers, element}
 use Rattle.awk_lanes.specs.Places.{size_of, at, option_place, IsOptionalIndex}
+use Rattle.awk_lanes.proofs.PlaceLaws.{element-same}
 use Rattle.awk_gather_lanes.specs.Moved.{eight}
 use Rattle.awk_gather_lanes.proofs.MovedGroups.{number-group, length-groups, numbers-flat}
 use Rattle.awk_counts.specs.Counted.{first_of, present_place, present_at, AreBelow}
 use Rattle.awk_counts.proofs.FirstPlaces.{first_of-more}
+use Rattle.awk_counts.proofs.PlacesBelow.{below-get}
 use Rattle.awk_present.specs.Named.{place_group, named_places, ArePlacesOf}
 use Rattle.awk_present.proofs.SliceLaws.{map-places}
 use Rattle.awk_present.proofs.TakenLanes.{named_within}
@@ -86,22 +86,6 @@ module _ (j : Column) (b : List ℕ) (kind : j.kind ≡ I64)
 
 -- ---- the numbers
 
-element-same : (k : Kind) (z : ℤ) → k ≢ Truths → element k z ≡ z
-element-same Truths z h = absurd (h refl)
-element-same I8 z h = refl
-element-same I16 z h = refl
-element-same I32 z h = refl
-element-same I64 z h = refl
-element-same U8 z h = refl
-element-same U16 z h = refl
-element-same U32 z h = refl
-element-same U64 z h = refl
-
-below_at : (n : ℕ) (ks : List ℕ) (i : ℕ) → AreBelow n ks → i < length ks → get_or ks i 0 < n
-below_at n [] i h l = absurd (omega (arith, l))
-below_at n (k ∷ ks) zero h l = h.0
-below_at n (k ∷ ks) (suc i) h l = below_at n ks i h.1 (omega (arith, l))
-
 module _ (c : Column) (b : List ℕ) (w : ℕ) (plain : c.kind ≢ Truths) (wide : width c.kind ≡ w)
     (some : 0 < w) (size : length b ≡ size_of c * width c.kind)
     (same : numbers c.kind (size_of c) b ≡ c.items) where
@@ -141,7 +125,7 @@ module _ (c : Column) (b : List ℕ) (w : ℕ) (plain : c.kind ≢ Truths) (wide
     numbers-named flat named e f l =
         numbers-flat c.kind w (length ks) (λ i. get_or gs (get_or ks i 0) [])
         (λ i. at c (get_or ks i 0)) wide some
-        (λ i m. long_at (get_or ks i 0) (below_at (size_of c) ks i below m))
-        (λ i m. number_at (get_or ks i 0) (below_at (size_of c) ks i below m))
+        (λ i m. long_at (get_or ks i 0) (below-get (size_of c) ks i below m))
+        (λ i m. number_at (get_or ks i 0) (below-get (size_of c) ks i below m))
         named (e ∙ map-places (λ k. get_or gs k []) ks 0) flat f l
         ∙ sym (map-places (at c) ks 0)

@@ -11,6 +11,7 @@ use Rattle.std.proofs.lemmas.List.Edits.{length-between}
 use Rattle.std.proofs.lemmas.List.FromFn.{length-map-range_with_len, get_or-map-range_with_len}
 use Rattle.std.proofs.lemmas.List.Sums.{length-filter, count_by-le-length}
 use Rattle.awk_base.proofs.Lists.{position-cons}
+use Rattle.awk_types.specs.Parts.{number_of}
 use Rattle.awk_types.specs.Predicates.{is_leaf}
 use Rattle.awk_types.specs.Value.{Value, null}
 use Rattle.awk_lanes.specs.Column.{Column}
@@ -33,19 +34,18 @@ use Rattle.awk_columns.specs.Columns.{is_present, present_values}
 use Rattle.awk_counts.specs.Counted.{first_of, present_place, present_at}
 use Rattle.awk_columns.proofs.ArrayLaws.{array_items-at}
 use Rattle.awk_base.proofs.Ranges.{map-in}
+use Rattle.awk_lanes.proofs.PlaceLaws.{element-element}
 use Rattle.awk_numbers.specs.Folds.{lane_numbers}
 use Rattle.awk_numbers.specs.Places.{is_place}
 use Rattle.awk_numbers.proofs.PartLaws.{slice_range-map}
 use Rattle.awk_parts.specs.Parts.{AreRising, part_at}
-use Rattle.awk_present.specs.Numbers.{leaf_of, number_of, numbers, number_place}
+use Rattle.awk_present.specs.Numbers.{leaf_of, numbers, number_place}
 use Rattle.awk_present.specs.Present.{AreLeaves, list_at, present_in, present_before, taken_lane}
 use Rattle.awk_present.specs.Present.{ArePresent}
 use Rattle.awk_present.proofs.FlagLaws.{IsFlagged, part_flagged, count_flagged, length_flagged}
 use Rattle.awk_present.proofs.FlagLaws.{leads_to}
-use Rattle.awk_present.proofs.LeafLaws.{present-leaf_value, number_of-leaf_value, element-twice}
-use Rattle.awk_present.proofs.LeafLaws.{leaf_of-opt}
-use Rattle.awk_present.proofs.SliceLaws.{slice-filter, kept-more, kept-few}
-use Rattle.awk_present.proofs.SliceLaws.{map-places}
+use Rattle.awk_present.proofs.LeafLaws.{present-leaf_value, number_of-leaf_value, leaf_of-opt}
+use Rattle.awk_present.proofs.SliceLaws.{slice-filter, kept-more, kept-few, map-places}
 
 -- ---- leaves
 
@@ -186,7 +186,7 @@ module _ (j c : Column) where
   twice : (ks : List ℕ) → map (element c.kind) (map (at c) ks) ≡ map (at c) ks
   twice [] = refl
   twice (k ∷ ks) =
-      ap₂ (λ z zs. z ∷ zs) (element-twice c.kind (get_or c.items k (pos 0))) (twice ks)
+      ap₂ (λ z zs. z ∷ zs) (element-element c.kind (get_or c.items k (pos 0))) (twice ks)
 
   abbrev places : List ℕ
   places = first_of (present_at j) (size_of j)

@@ -1,16 +1,15 @@
 -- Numbers of a list's items: those that are not null, a truth value as 0 or 1.
-use Rattle.std.specs.Prelude.{ℤ, pos, ◌&&◌, List, map, Option, ℕ, position, if◌then◌else◌}
-use Rattle.std.specs.Int.{int_min, int_max}
-use Rattle.std.specs.List.{reduce}
+use Rattle.std.specs.Prelude.{ℤ, ◌&&◌, List, map, Option, ℕ, position}
 use Rattle.std.specs.Option.{option_and_then}
 use Rattle.std.specs.Ordering.{int_eq}
 use Rattle.awk_types.specs.DataType.{DataType, leaf, opt}
-use Rattle.awk_types.specs.Value.{Value, int, truth}
+use Rattle.awk_types.specs.Parts.{number_of}
+use Rattle.awk_types.specs.Value.{Value}
 use Rattle.awk_types.specs.declared.primitive.Primitive.{Primitive}
 use Rattle.awk_types.specs.declared.primitive.Primitive.TheVariants.{I64}
 use Rattle.awk_columns.specs.Columns.{present_values, is_present}
+use Rattle.awk_numbers.specs.Folds.{extreme_of}
 use Rattle.awk_numbers.specs.declared.extremes.Extreme.{Extreme}
-use Rattle.awk_numbers.specs.declared.extremes.Extreme.TheVariants.{Least, Greatest}
 
 -- the leaf of a type, its option dropped. Unknown counts as int64.
 abbrev pub leaf_of : DataType → Primitive
@@ -18,20 +17,9 @@ leaf_of (leaf p) = p
 leaf_of (opt (leaf p)) = p
 leaf_of t = I64
 
--- a whole number, or a truth value as 0 or 1
-abbrev pub number_of : Value → ℤ
-number_of (int z) = z
-number_of (truth b) = pos (if b then 1 else 0)
-number_of v = pos 0
-
 -- the numbers of the items that are not null
 abbrev pub numbers : List Value → List ℤ
 numbers vs = map number_of (present_values vs)
-
--- the least number or the greatest, or none of none
-abbrev pub extreme_of : Extreme → List ℤ → Option ℤ
-extreme_of Least zs = reduce int_min zs
-extreme_of Greatest zs = reduce int_max zs
 
 -- the first place of a number, nulls counted
 abbrev pub number_place : List Value → ℤ → Option ℕ

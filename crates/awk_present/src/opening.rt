@@ -4,7 +4,6 @@ ghost use Rattle.awk_layout.specs.Layout.{optional};
 ghost use Rattle.awk_layout.specs.Valid.{IsValid};
 ghost use Rattle.awk_open.specs.Opened.{IsOpened};
 
-use awk_gather::array_within;
 use awk_lanes::{Arena, Lane, Steps};
 use awk_layout::{Array, Class, Node};
 use awk_open::{Opened, opened};
@@ -23,7 +22,7 @@ fn option_over<'a>(
 {
     match content.class() {
         Class::Numpy { .. } => {
-            let content = array_within(alloc, content.copy(alloc)?)?;
+            let content = Array::of_node(alloc, content.copy(alloc)?)?;
             Ok(Some(Opened::Option {
                 index: index.copy(),
                 content,

@@ -1,36 +1,33 @@
 -- The places in the slots of tuples, and what stands there.
-use Rattle.std.specs.Prelude.{◌≡◌, refl, ℕ, zero, suc, ◌+◌, ◌<◌, Bool, true, false}
-use Rattle.std.specs.Prelude.{List, [], ◌∷◌, ◌++◌, length, map, get_or, replicate, pos, ◌≤ℤ◌}
-use Rattle.std.specs.Prelude.{nat_lt}
+use Rattle.std.specs.Prelude.{◌≡◌, refl, ℕ, zero, suc, ◌+◌, ◌<◌, Bool, true, false, List, [], ◌∷◌}
+use Rattle.std.specs.Prelude.{◌++◌, length, map, get_or, replicate, pos, ◌≤ℤ◌, nat_lt}
 use Rattle.std.specs.List.{range_with_len, AllByRecursion}
 use Rattle.std.proofs.Common.{arith, ap, sym, ◌∙◌, subst, ltb-true}
 use Rattle.std.proofs.lemmas.Bool.{ltb-false}
 use Rattle.std.proofs.lemmas.Int.{ints}
-use Rattle.std.proofs.lemmas.List.{get_or-replicate, length-append}
-use Rattle.std.proofs.lemmas.List.{get_or_append_left, get_or_push}
+use Rattle.std.proofs.lemmas.List.{get_or-replicate, length-append, get_or_append_left, get_or_push}
 use Rattle.std.proofs.lemmas.List.FromFn.{get_or-map-range_with_len, length-map-range_with_len}
 use Rattle.std.proofs.lemmas.Simd.{map-map}
 use Rattle.awk_base.proofs.Ranges.{map-same}
 use Rattle.awk_types.specs.Value.{int}
-use Rattle.awk_lanes.specs.Column.{Column}
+use Rattle.awk_lanes.specs.Column.{Column, no_places}
 use Rattle.awk_lanes.specs.Counted.{before}
 use Rattle.awk_lanes.specs.Numbers.{nat_of}
 use Rattle.awk_lanes.specs.Places.{place_at}
 use Rattle.awk_lanes.proofs.CountedLanes.{length-numbers, numbers-at, before_mono, before-next}
+use Rattle.awk_counts.proofs.ListLaws.{numbers-all}
 use Rattle.awk_layout.specs.Layout.{Layout, empty}
 use Rattle.awk_layout.specs.Valid.{len}
-use Rattle.awk_layout.proofs.Runs.{length-run}
+use Rattle.awk_layout.proofs.Runs.{length-run, get-run}
 use Rattle.awk_gather.specs.Arrays.{array_item}
 use Rattle.awk_places.specs.Places.{place_lists}
-use Rattle.awk_places.specs.Products.{AreCounts, AreSpansOf, no_lane, lengths_at, product_count}
+use Rattle.awk_places.specs.Products.{AreCounts, AreSpansOf, lengths_at, product_count}
 use Rattle.awk_places.specs.Products.{product_place, product_lane, product_lanes}
 use Rattle.awk_places.proofs.FlatLaws.{map-in_place, all-at}
 use Rattle.awk_places.proofs.PlaceLists.{tuple-at}
 use Rattle.awk_places.proofs.ProductLaws.{are_counts, count-at, length-at}
 use Rattle.awk_combi.specs.Combinations.{slot_value}
 use Rattle.awk_combi.specs.Slots.{IsSlotLane, IsSlot, slot_item}
-use Rattle.awk_combi.proofs.SpanLaws.{numbers-all}
-use Rattle.awk_combi.proofs.TupleLaws.{run_get}
 use Rattle.awk_products.specs.Slots.{AreSlotLanes, AreSlots, IsFew}
 use Rattle.awk_products.specs.Sources.{AreSources, list_in, lists_in, zeros, slot_firsts}
 use Rattle.awk_products.specs.declared.sources.Sources.{Sources}
@@ -55,31 +52,31 @@ module _ (n : ℕ) (x : Sources) (h : AreSources n x) where
   pub lengths-of : (i : ℕ) → map length (lists_in x i) ≡ lengths_at x.lengths i
   lengths-of i =
       map-map length (list_in x i) (range_with_len 0 (length x.contents))
-      ∙ map-same (λ j. length (list_in x i j)) (λ j. place_at (get_or x.lengths j no_lane) i) 0
+      ∙ map-same (λ j. length (list_in x i j)) (λ j. place_at (get_or x.lengths j no_places) i) 0
       (length x.contents)
       (λ j p q. length-run (array_item (get_or x.contents j empty))
-      (place_at (get_or x.firsts j no_lane) i) (place_at (get_or x.lengths j no_lane) i))
-      ∙ ap (λ m. map (λ j. place_at (get_or x.lengths j no_lane) i) (range_with_len 0 m))
+      (place_at (get_or x.firsts j no_places) i) (place_at (get_or x.lengths j no_places) i))
+      ∙ ap (λ m. map (λ j. place_at (get_or x.lengths j no_places) i) (range_with_len 0 m))
       (sym h.lengths)
-      ∙ map-in_place no_lane (λ j. place_at (get_or x.lengths j no_lane) i) (λ s. place_at s i)
+      ∙ map-in_place no_places (λ j. place_at (get_or x.lengths j no_places) i) (λ s. place_at s i)
       x.lengths (λ j p. refl)
 
   pub all_counts : AllByRecursion (AreCounts n) x.lengths
   all_counts =
-      all-by_place (AreCounts n) no_lane x.lengths
+      all-by_place (AreCounts n) no_places x.lengths
       (λ j p. (h.each j (omega (arith, p, h.lengths))).spans.lengths)
 
   pub spans_there : (j : ℕ) → j < length x.lengths
-      → AreSpansOf n (get_or x.firsts j no_lane) (get_or x.lengths j no_lane)
+      → AreSpansOf n (get_or x.firsts j no_places) (get_or x.lengths j no_places)
   spans_there j p = (h.each j (omega (arith, p, h.lengths))).spans
 
   pub zeros_there : (j : ℕ) → j < length x.lengths
-      → AreSpansOf n (get_or (replicate (length x.firsts) (zeros n)) j no_lane)
-      (get_or x.lengths j no_lane)
+      → AreSpansOf n (get_or (replicate (length x.firsts) (zeros n)) j no_places)
+      (get_or x.lengths j no_places)
   zeros_there j p =
       let s = spans_there j p in
-      subst (λ f. AreSpansOf n f (get_or x.lengths j no_lane))
-      (sym (get_or-replicate (length x.firsts) j (zeros n) no_lane
+      subst (λ f. AreSpansOf n f (get_or x.lengths j no_places))
+      (sym (get_or-replicate (length x.firsts) j (zeros n) no_places
       (omega (arith, p, h.firsts, h.lengths))))
       (record {
         firsts = are_counts n (λ i. 0);
@@ -89,9 +86,9 @@ module _ (n : ℕ) (x : Sources) (h : AreSources n x) where
 
   pub lanes_zero : (k : ℕ) (fs : List Column) → k ≡ length x.firsts → fs ≡ replicate k (zeros n)
       → (j : ℕ) → j < length x.lengths
-      → AreSpansOf n (get_or fs j no_lane) (get_or x.lengths j no_lane)
+      → AreSpansOf n (get_or fs j no_places) (get_or x.lengths j no_places)
   lanes_zero k fs e f j p =
-      subst (λ gs. AreSpansOf n (get_or gs j no_lane) (get_or x.lengths j no_lane))
+      subst (λ gs. AreSpansOf n (get_or gs j no_places) (get_or x.lengths j no_places))
       (sym (f ∙ ap (λ k. replicate k (zeros n)) e)) (zeros_there j p)
 
   -- ---- the lane of a slot
@@ -101,7 +98,7 @@ module _ (n : ℕ) (x : Sources) (h : AreSources n x) where
     firsts = slot_firsts places n x.firsts
 
     abbrev lane : ℕ → Column
-    lane j = product_lane n (get_or firsts j no_lane) x.lengths j
+    lane j = product_lane n (get_or firsts j no_places) x.lengths j
 
     abbrev count : ℕ → ℕ
     count = product_count x.lengths
@@ -110,29 +107,29 @@ module _ (n : ℕ) (x : Sources) (h : AreSources n x) where
     lanes-count = length-map-range_with_len lane 0 (length x.lengths) ∙ h.lengths
 
     pub lane-at : (j : ℕ) → j < length x.contents
-        → get_or (product_lanes n firsts x.lengths) j no_lane ≡ lane j
+        → get_or (product_lanes n firsts x.lengths) j no_places ≡ lane j
     lane-at j p =
-        get_or-map-range_with_len lane 0 (length x.lengths) j j no_lane
+        get_or-map-range_with_len lane 0 (length x.lengths) j j no_places
         (omega (arith, p, h.lengths)) (omega arith)
 
     first-zero : (j i : ℕ) → places ≡ true → j < length x.contents → i < n
-        → place_at (get_or firsts j no_lane) i ≡ 0
+        → place_at (get_or firsts j no_places) i ≡ 0
     first-zero j i e p q =
-        ap (λ b. place_at (get_or (slot_firsts b n x.firsts) j no_lane) i) e
-        ∙ ap (λ c. place_at c i) (get_or-replicate (length x.firsts) j (zeros n) no_lane
+        ap (λ b. place_at (get_or (slot_firsts b n x.firsts) j no_places) i) e
+        ∙ ap (λ c. place_at c i) (get_or-replicate (length x.firsts) j (zeros n) no_places
         (omega (arith, p, h.firsts)))
         ∙ count-at n (λ i. 0) i q
 
     first-own : (j i : ℕ) → places ≡ false
-        → place_at (get_or firsts j no_lane) i ≡ place_at (get_or x.firsts j no_lane) i
-    first-own j i e = ap (λ b. place_at (get_or (slot_firsts b n x.firsts) j no_lane) i) e
+        → place_at (get_or firsts j no_places) i ≡ place_at (get_or x.firsts j no_places) i
+    first-own j i e = ap (λ b. place_at (get_or (slot_firsts b n x.firsts) j no_places) i) e
 
     -- the place in slot j of tuple k of list i
     abbrev place : ℕ → ℕ → ℕ → ℕ
     place j i k = get_or (get_or (place_lists (lengths_at x.lengths i)) k []) j 0
 
     pub place_below : (j i k : ℕ) → j < length x.contents → k < count i
-        → place j i k < place_at (get_or x.lengths j no_lane) i
+        → place j i k < place_at (get_or x.lengths j no_places) i
     place_below j i k p q =
         let ms : List ℕ = lengths_at x.lengths i in
         let l : j < length x.lengths = omega (arith, p, h.lengths) in
@@ -153,13 +150,13 @@ module _ (n : ℕ) (x : Sources) (h : AreSources n x) where
     is_lane few j p = record {
       few = omega (
         arith,
-        length-numbers count (product_place (get_or firsts j no_lane) x.lengths j) n,
+        length-numbers count (product_place (get_or firsts j no_places) x.lengths j) n,
         few,
       );
       kind = refl;
       positive = λ i l. all-at (λ z. pos 0 ≤ℤ z) (pos 0) (lane j).items i l
           (numbers-all (λ z. pos 0 ≤ℤ z) count
-          (product_place (get_or firsts j no_lane) x.lengths j) n
+          (product_place (get_or firsts j no_places) x.lengths j) n
           (λ i k r u. omega (arith, ints)));
       within = λ e. record {
         kind = tt;
@@ -167,7 +164,7 @@ module _ (n : ℕ) (x : Sources) (h : AreSources n x) where
             (λ z. (pos 0 ≤ℤ z) × (nat_of z < len (get_or x.contents j empty)))
             (pos 0) (lane j).items i l
             (numbers-all (λ z. (pos 0 ≤ℤ z) × (nat_of z < len (get_or x.contents j empty)))
-            count (product_place (get_or firsts j no_lane) x.lengths j) n
+            count (product_place (get_or firsts j no_places) x.lengths j) n
             (λ i k r u. (
               omega (arith, ints),
               omega (
@@ -184,10 +181,10 @@ module _ (n : ℕ) (x : Sources) (h : AreSources n x) where
 
     pub place-in : (j i k : ℕ) → i < n → k < count i
         → place_at (lane j) (before count i + k)
-        ≡ place_at (get_or firsts j no_lane) i + place j i k
+        ≡ place_at (get_or firsts j no_places) i + place j i k
     place-in j i k p q =
         ap nat_of
-        (numbers-at count (product_place (get_or firsts j no_lane) x.lengths j) i k n p q)
+        (numbers-at count (product_place (get_or firsts j no_places) x.lengths j) i k n p q)
 
     pub within_all : (i k : ℕ) → i < n → k < count i → before count i + k < before count n
     within_all i k p q =
@@ -195,17 +192,17 @@ module _ (n : ℕ) (x : Sources) (h : AreSources n x) where
 
     shown : (b : Bool) → places ≡ b → (j i k : ℕ) → j < length x.contents → i < n → k < count i
         → slot_item b (get_or x.contents j empty)
-        (place_at (get_or firsts j no_lane) i + place j i k)
+        (place_at (get_or firsts j no_places) i + place j i k)
         ≡ slot_value b (list_in x i j) (place j i k)
     shown true e j i k p q r =
-        let z : place_at (get_or firsts j no_lane) i + place j i k ≡ place j i k =
+        let z : place_at (get_or firsts j no_places) i + place j i k ≡ place j i k =
         omega (arith, first-zero j i e p q) in
         ap (λ m. int (pos m)) z
     shown false e j i k p q r =
         let y : Layout = get_or x.contents j empty in
         ap (λ f. array_item y (f + place j i k)) (first-own j i e)
-        ∙ sym (run_get (array_item y) (place_at (get_or x.firsts j no_lane) i)
-        (place_at (get_or x.lengths j no_lane) i) (place j i k) (place_below j i k p r))
+        ∙ sym (get-run (array_item y) (place_at (get_or x.firsts j no_places) i)
+        (place_at (get_or x.lengths j no_places) i) (place j i k) (place_below j i k p r))
 
     pub slot-at : (cs : List Column) (zs : List Layout) → cs ≡ product_lanes n firsts x.lengths
         → AreSlots places x.contents cs (length cs) zs → (j i k : ℕ) → j < length x.contents
@@ -213,7 +210,7 @@ module _ (n : ℕ) (x : Sources) (h : AreSources n x) where
         → array_item (get_or zs j empty) (before count i + k)
         ≡ slot_value places (list_in x i j) (place j i k)
     slot-at cs zs e s j i k p q r =
-        let c : get_or cs j no_lane ≡ lane j = ap (λ cs. get_or cs j no_lane) e ∙ lane-at j p in
+        let c : get_or cs j no_places ≡ lane j = ap (λ cs. get_or cs j no_places) e ∙ lane-at j p in
         let l : j < length cs = omega (arith, p, ap length e, lanes-count) in
         let z : IsSlot places (get_or x.contents j empty) (lane j) (get_or zs j empty) =
         subst (λ c. IsSlot places (get_or x.contents j empty) c (get_or zs j empty)) c
@@ -221,7 +218,7 @@ module _ (n : ℕ) (x : Sources) (h : AreSources n x) where
         z.items (before count i + k)
         (omega (
           arith,
-          length-numbers count (product_place (get_or firsts j no_lane) x.lengths j) n,
+          length-numbers count (product_place (get_or firsts j no_places) x.lengths j) n,
           within_all i k q r,
         ))
         ∙ ap (slot_item places (get_or x.contents j empty)) (place-in j i k q r)
@@ -236,14 +233,14 @@ module _ (n : ℕ) (x : Sources) (h : AreSources n x) (places : Bool) (cs : List
   are_lanes few j p =
       let l : j < length x.contents = omega (arith, p, lanes_long) in
       subst (IsSlotLane places (len (get_or x.contents j empty)))
-      (sym (ap (λ cs. get_or cs j no_lane) e ∙ lane-at n x h places j l))
+      (sym (ap (λ cs. get_or cs j no_places) e ∙ lane-at n x h places j l))
       (is_lane n x h places few j l)
 
 -- ---- slot after slot
 
 pub one_more : (places : Bool) (ys : List Layout) (cs : List Column) (j : ℕ) (zs : List Layout)
     (z : Layout) → AreSlots places ys cs j zs
-    → IsSlot places (get_or ys j empty) (get_or cs j no_lane) z
+    → IsSlot places (get_or ys j empty) (get_or cs j no_places) z
     → AreSlots places ys cs (j + 1) (zs ++ z ∷ [])
 one_more places ys cs j zs z h s = record {
   count = omega (arith, length-append zs (z ∷ []), h.count);
@@ -251,13 +248,13 @@ one_more places ys cs j zs z h s = record {
 }
   where
     go : (i : ℕ) → i < j + 1 → (b : Bool) → nat_lt i j ≡ b
-        → IsSlot places (get_or ys i empty) (get_or cs i no_lane)
+        → IsSlot places (get_or ys i empty) (get_or cs i no_places)
         (get_or (zs ++ z ∷ []) i empty)
     go i p true e =
         let l : i < j = ltb-true i j e in
-        subst (IsSlot places (get_or ys i empty) (get_or cs i no_lane))
+        subst (IsSlot places (get_or ys i empty) (get_or cs i no_places))
         (sym (get_or_append_left zs (z ∷ []) empty i (omega (arith, l, h.count)))) (h.each i l)
     go i p false e =
         let q : i ≡ j = omega (arith, p, ltb-false i j e) in
-        rw q (subst (IsSlot places (get_or ys j empty) (get_or cs j no_lane))
+        rw q (subst (IsSlot places (get_or ys j empty) (get_or cs j no_places))
         (sym (get_or_push zs z empty j h.count)) s)

@@ -1,6 +1,6 @@
 -- Tuples whose slots stand beside one another, as the tuples of lists.
-use Rattle.std.specs.Prelude.{◌≡◌, refl, ℕ, suc, ◌+◌, ◌<◌, ◌≤◌, Bool}
-use Rattle.std.specs.Prelude.{List, [], ◌∷◌, length, map, get_or, None}
+use Rattle.std.specs.Prelude.{◌≡◌, refl, ℕ, suc, ◌+◌, ◌<◌, ◌≤◌, Bool, List, [], ◌∷◌, length, map}
+use Rattle.std.specs.Prelude.{get_or, None}
 use Rattle.std.specs.List.{range_with_len}
 use Rattle.std.proofs.Common.{arith, ap, ap₂, sym, ◌∙◌, subst}
 use Rattle.std.proofs.lemmas.List.{length-map}
@@ -8,7 +8,7 @@ use Rattle.std.proofs.lemmas.List.FromFn.{get_or-map-range_with_len, length-map-
 use Rattle.awk_types.specs.DataType.{tup, types_from}
 use Rattle.awk_types.specs.ItemLimit.{item_limit}
 use Rattle.awk_types.specs.Value.{Value, row, value_list, values_from}
-use Rattle.awk_lanes.specs.Column.{Column}
+use Rattle.awk_lanes.specs.Column.{Column, no_places}
 use Rattle.awk_lanes.specs.Counted.{before, offsets_by}
 use Rattle.awk_lanes.specs.Places.{size_of}
 use Rattle.awk_lanes.proofs.CountedLanes.{length-numbers}
@@ -16,16 +16,16 @@ use Rattle.awk_layout.specs.Item.{run}
 use Rattle.awk_layout.specs.Layout.{Layout, empty, rows, layouts_from}
 use Rattle.awk_layout.specs.Typing.{array_type}
 use Rattle.awk_layout.specs.Valid.{len, AllReach, AllValid}
+use Rattle.awk_layout.proofs.Runs.{run-by}
 use Rattle.awk_gather.specs.Arrays.{array_item}
 use Rattle.awk_open.proofs.OpenedKinds.{item-rows, type-rows}
 use Rattle.awk_places.specs.Places.{place_lists}
-use Rattle.awk_places.specs.Products.{no_lane, lengths_at, product_count, product_place}
-use Rattle.awk_places.specs.Products.{product_lanes}
+use Rattle.awk_places.specs.Products.{lengths_at, product_count, product_place, product_lanes}
 use Rattle.awk_places.proofs.FlatLaws.{map-in_place}
 use Rattle.awk_places.proofs.Levels.{length-place_lists}
 use Rattle.awk_places.proofs.PlaceLists.{tuple-at}
 use Rattle.awk_combi.specs.Combinations.{slot_type, slot_value}
-use Rattle.awk_combi.proofs.TupleLaws.{run_by, all_reach, all_valid}
+use Rattle.awk_combi.proofs.TupleLaws.{all_reach, all_valid}
 use Rattle.awk_products.specs.Tuples.{tuple_type, slot_values, tuple_of, tuples_of}
 use Rattle.awk_products.specs.Slots.{AreSlots}
 use Rattle.awk_products.specs.Sources.{AreSources, list_in, lists_in, AreTuplesOf, slot_firsts}
@@ -103,7 +103,7 @@ module _ (places : Bool) (n : ℕ) (x : Sources) (h : AreSources n x) (cs : List
       let z : Layout = rows None total (layouts_from zs) in
       let ms : List ℕ = lengths_at x.lengths i in
       let f : List ℕ → Value = tuple_of places (lists_in x i) in
-      run_by (array_item z) (λ k. f (tuple i k)) (before count i) (count i)
+      run-by (array_item z) (λ k. f (tuple i k)) (before count i) (count i)
       (λ k q. tuple-item total i k p q)
       ∙ ap (λ m. map (λ k. f (tuple i k)) (range_with_len 0 m)) (sym (length-place_lists ms))
       ∙ map-in_place [] (λ k. f (tuple i k)) f (place_lists ms) (λ k q. refl)
@@ -135,9 +135,9 @@ module _ (places : Bool) (n : ℕ) (x : Sources) (h : AreSources n x) (cs : List
   size-slot j p =
       let l : j < length x.contents = omega (arith, p, slot-count) in
       (s.each j (omega (arith, p, s.count))).size
-      ∙ ap size_of (ap (λ cs. get_or cs j no_lane) e ∙ lane-at n x h places j l)
+      ∙ ap size_of (ap (λ cs. get_or cs j no_places) e ∙ lane-at n x h places j l)
       ∙ length-numbers count
-      (product_place (get_or (slot_firsts places n x.firsts) j no_lane) x.lengths j) n
+      (product_place (get_or (slot_firsts places n x.firsts) j no_places) x.lengths j) n
 
   slots_reach : AllReach (before count n) (layouts_from zs)
   slots_reach = all_reach (before count n) zs (λ j p. omega (arith, size-slot j p))

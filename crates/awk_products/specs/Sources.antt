@@ -1,12 +1,11 @@
 -- Lists that the slots of tuples take their items of, and the tuples of them.
-use Rattle.std.specs.Prelude.{◌≡◌, ℕ, ◌+◌, ◌<◌, ◌≤◌, Bool}
-use Rattle.std.specs.Prelude.{if◌then◌else◌, List}
-use Rattle.std.specs.Prelude.{length, map, get_or, replicate, Option, Some, None, pos}
+use Rattle.std.specs.Prelude.{◌≡◌, ℕ, ◌+◌, ◌<◌, ◌≤◌, Bool, if◌then◌else◌, List, length, map, get_or}
+use Rattle.std.specs.Prelude.{replicate, Option, Some, None, pos}
 use Rattle.std.specs.List.{range_with_len}
 use Rattle.awk_types.specs.ItemLimit.{item_limit}
 use Rattle.awk_types.specs.Value.{Value, value_list}
 use Rattle.awk_lanes.specs.declared.kind.Kind.TheVariants.{I64}
-use Rattle.awk_lanes.specs.Column.{Column}
+use Rattle.awk_lanes.specs.Column.{Column, no_places}
 use Rattle.awk_lanes.specs.Counted.{before, offsets_by}
 use Rattle.awk_lanes.specs.Made.{lane_of}
 use Rattle.awk_lanes.specs.Places.{place_at}
@@ -15,7 +14,7 @@ use Rattle.awk_layout.specs.Layout.{Layout, empty}
 use Rattle.awk_layout.specs.Typing.{array_type}
 use Rattle.awk_layout.specs.Valid.{len, IsValid}
 use Rattle.awk_gather.specs.Arrays.{array_item}
-use Rattle.awk_places.specs.Products.{AreSpansOf, no_lane, product_count}
+use Rattle.awk_places.specs.Products.{AreSpansOf, product_count}
 use Rattle.awk_products.specs.Tuples.{tuple_type, tuples_of}
 use Rattle.awk_products.specs.declared.sources.Sources.{Sources}
 use Rattle.awk_products.specs.declared.tuples.Tuples.{Tuples}
@@ -35,14 +34,14 @@ source_list f l y i = value_list (run (array_item y) (place_at f i) (place_at l 
 pub record AreSources (n : ℕ) (x : Sources) : Type 0 where
   pub firsts : length x.firsts ≡ length x.contents
   pub lengths : length x.lengths ≡ length x.contents
-  pub each : (j : ℕ) → j < length x.contents → IsSource n (get_or x.firsts j no_lane)
-      (get_or x.lengths j no_lane) (get_or x.contents j empty)
+  pub each : (j : ℕ) → j < length x.contents → IsSource n (get_or x.firsts j no_places)
+      (get_or x.lengths j no_places) (get_or x.contents j empty)
 
 -- list i of slot j
 abbrev pub list_in : Sources → ℕ → ℕ → List Value
 list_in x i j =
-    source_list (get_or x.firsts j no_lane) (get_or x.lengths j no_lane) (get_or x.contents j empty)
-    i
+    source_list (get_or x.firsts j no_places) (get_or x.lengths j no_places)
+    (get_or x.contents j empty) i
 
 -- list i of each slot
 abbrev pub lists_in : Sources → ℕ → List (List Value)

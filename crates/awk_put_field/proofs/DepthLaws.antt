@@ -11,13 +11,15 @@ use Rattle.awk_types.specs.DataType.{opt, uni, no_types, type, type_list, types_
 use Rattle.awk_types.specs.DataType.{greatest, nodes, nodes_each}
 use Rattle.awk_types.specs.Limit.{Limit, depth_limit, size_limit, limit, width}
 use Rattle.awk_types.specs.Names.{same_name}
+use Rattle.awk_types.specs.Parts.{item_of, list_depth}
 use Rattle.awk_types.specs.Simple.{is_option, present, option_if, IsSimple}
 use Rattle.awk_columns.specs.ListClass.{Class, list_type}
 use Rattle.awk_frames.specs.Framed.{over_type}
+use Rattle.awk_frames.proofs.FrameLaws.{over_type-level}
 use Rattle.awk_pair_operands.specs.Paired.{to_depth, paired_type, types_at_ends}
-use Rattle.awk_pair_sides.specs.Levels.{item_of, level_class}
+use Rattle.awk_pair_sides.specs.Levels.{level_class}
 use Rattle.awk_put_field.specs.Depths.{one_if, depth_over}
-use Rattle.awk_put_field.specs.Ends.{ends_at_records, lists_down}
+use Rattle.awk_put_field.specs.Ends.{ends_at_records}
 use Rattle.awk_put_field.specs.Field.{put, named, field_type}
 use Rattle.awk_put_field.proofs.PutLaws.{map-put}
 
@@ -48,13 +50,6 @@ depths-list (type t ts) = ap (λ ds. depth t ∷ ds) (depths-list ts)
 one-few : (b : Bool) → one_if b ≤ 1
 one-few true = omega arith
 one-few false = omega arith
-
-over-level : (o : Bool) (c : Class) (p f : DataType)
-    → over_type (option_if o (list_type c p)) f ≡ option_if o (list_type c (over_type p f))
-over-level true None p f = refl
-over-level true (Some k) p f = refl
-over-level false None p f = refl
-over-level false (Some k) p f = refl
 
 module _ (n : Name) where
   -- the type of two data that are paired through k levels
@@ -99,12 +94,12 @@ module _ (n : Name) where
         → m u ≤ m w
     level-within o c u p f w e l h =
         let g : m w ≡ one_if o + suc (m (over_type p f)) =
-        ap m (e ∙ over-level o c p f) ∙ of_level o c (over_type p f) in
+        ap m (e ∙ over_type-level o c p f) ∙ of_level o c (over_type p f) in
         omega (arith, g, l, h, item-within u)
 
     -- the field's type is within that of the records
     pub field-within : (t u : DataType) → IsSimple t → ends_at_records t ≡ true
-        → m u ≤ m (joined_type (lists_down t) t u)
+        → m u ≤ m (joined_type (list_depth t) t u)
     field-within unknown u s e = cc
     field-within (leaf p) u s e = cc
     field-within (rec ns ts) u s e = of_field ns (type_list ts) u
@@ -153,14 +148,14 @@ module _ (n : Name) where
       → w ≡ over_type (option_if o (list_type c p)) f → depth (over_type p f) ≡ d
       → depth w ≡ one_if o + suc d
   level-depth true c p f w d e h =
-      let g = ap depth (e ∙ over-level true c p f) in
+      let g = ap depth (e ∙ over_type-level true c p f) in
       omega (arith, g, depth-list c (over_type p f), h)
   level-depth false c p f w d e h =
-      let g = ap depth (e ∙ over-level false c p f) in
+      let g = ap depth (e ∙ over_type-level false c p f) in
       omega (arith, g, depth-list c (over_type p f), h)
 
   pub depth-joined : (t u : DataType) → IsSimple t → ends_at_records t ≡ true
-      → depth (joined_type (lists_down t) t u) ≡ depth_over n false t u
+      → depth (joined_type (list_depth t) t u) ≡ depth_over n false t u
   depth-joined unknown u s e = cc
   depth-joined (leaf p) u s e = cc
   depth-joined (rec ns ts) u s e = omega (arith, record-depth ns ts u)
@@ -213,7 +208,7 @@ module _ (n : Name) where
       nodes-or (same_name m n) u t ts (put n ms u ts) (nodes-put ms ts u)
 
   pub nodes-within : (t u : DataType) → IsSimple t → ends_at_records t ≡ true
-      → nodes u ≤ nodes (joined_type (lists_down t) t u)
+      → nodes u ≤ nodes (joined_type (list_depth t) t u)
   nodes-within t u s e =
       field-within nodes nodes-list (λ t. refl)
       (λ ns ts u. omega (arith, nodes-put ns ts u)) t u s e
@@ -226,7 +221,7 @@ module _ (n : Name) where
       omega (arith, f, g)
 
   pub depth-within : (t u : DataType) → IsSimple t → ends_at_records t ≡ true
-      → depth u ≤ depth (joined_type (lists_down t) t u)
+      → depth u ≤ depth (joined_type (list_depth t) t u)
   depth-within t u s e = field-within depth depth-list (λ t. refl) depth-put t u s e
 
 -- ---- limits
@@ -287,17 +282,17 @@ too_large t h =
 
 -- the limit of the result's type where the lists pass one
 pub deep_result : (n : Name) (t u : DataType) → IsSimple t → ends_at_records t ≡ true
-    → limit u ≡ Some depth_limit → limit (joined_type n (lists_down t) t u) ≡ Some depth_limit
+    → limit u ≡ Some depth_limit → limit (joined_type n (list_depth t) t u) ≡ Some depth_limit
 deep_result n t u s e h =
-    too_deep (joined_type n (lists_down t) t u)
+    too_deep (joined_type n (list_depth t) t u)
     (omega (arith, deep u h, depth-within n t u s e))
 
 pub large_result : (n : Name) (t u : DataType) → IsSimple t → ends_at_records t ≡ true
     → limit (var u) ≡ Some size_limit → limit u ≡ None
-    → limit (joined_type n (lists_down t) t (var u))
+    → limit (joined_type n (list_depth t) t (var u))
     ≡ Some (if nat_lt 60 (depth_over n false t (var u)) then depth_limit else size_limit)
 large_result n t u s e h k =
-    too_large (joined_type n (lists_down t) t (var u))
+    too_large (joined_type n (list_depth t) t (var u))
     (omega (arith, large-lists u h k, nodes-within n t (var u) s e))
     ∙ ap (λ d. Some (if nat_lt 60 d then depth_limit else size_limit))
     (depth-joined n t (var u) s e)

@@ -3,9 +3,10 @@ use Rattle.std.proofs.Common.{◌≡◌, ℕ, zero, suc, ◌+◌, ◌-◌, ◌<�
 use Rattle.std.proofs.Common.{true, false, refl, ap, sym, ◌∙◌, arith, drop, slice_get}
 use Rattle.std.specs.Prelude.{List, [], ◌∷◌, length, get_or, Some, if◌then◌else◌}
 use Rattle.awk_types.specs.DataType.{Name, depth, depths, greatest}
+use Rattle.awk_types.specs.Names.{place_of}
 use Rattle.awk_types.specs.View.{NamedType, names_of, types_of}
 use Rattle.awk_put_field.specs.Field.{put}
-use Rattle.awk_put_field.specs.Places.{place_of, put_at}
+use Rattle.awk_put_field.specs.Places.{put_at}
 use Rattle.awk_put_field.proofs.PutLaws.{put-at, put-here, put-other}
 use Rattle.awk_base.proofs.Lists.{drop-get}
 

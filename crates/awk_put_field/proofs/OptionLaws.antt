@@ -2,8 +2,8 @@
 use Rattle.std.proofs.Common.{◌≡◌, ℕ, suc, true, refl, ap, sym, subst, ◌∙◌, arith}
 use Rattle.std.specs.Prelude.{List, [], ◌∷◌, map, filter, length, pos, negsuc}
 use Rattle.std.specs.Simd.Lanes.{zip2}
-use Rattle.awk_types.specs.DataType.{Name, DataType, unknown, leaf, var, reg, rec}
-use Rattle.awk_types.specs.DataType.{tup, opt, uni}
+use Rattle.awk_types.specs.DataType.{Name, DataType, unknown, leaf, var, reg, rec, tup, opt, uni}
+use Rattle.awk_types.specs.Parts.{is_record}
 use Rattle.awk_types.specs.Simple.{present, in_option}
 use Rattle.awk_types.specs.Value.{Value, int, truth, null, list, row, alt, values_from}
 use Rattle.awk_columns.specs.Columns.{is_present, option_index}
@@ -15,11 +15,11 @@ use Rattle.awk_layout.proofs.ArrayItems.{length-array_items}
 use Rattle.awk_layout.specs.Layout.{Layout, optional}
 use Rattle.awk_layout.specs.Typing.{array_type, array_items}
 use Rattle.awk_layout.specs.Valid.{len}
+use Rattle.awk_columns.proofs.PresentItems.{length-option_index}
 use Rattle.awk_frames.specs.Shape.{index_column}
 use Rattle.awk_frames.proofs.FramedItems.{nulls-framed}
 use Rattle.awk_frames.proofs.FrameLaws.{index_into}
-use Rattle.awk_frames.proofs.ValueLists.{length-index}
-use Rattle.awk_put_field.specs.Field.{is_record, field_type, end_value, field_value}
+use Rattle.awk_put_field.specs.Field.{field_type, end_value, field_value}
 use Rattle.awk_put_field.specs.There.{beside_present, there_length}
 use Rattle.awk_put_field.proofs.ThereLaws.{count-there, length-beside}
 
@@ -93,7 +93,7 @@ module _ (x y : Layout) (j : Column) (e : j ≡ index_column (array_items x))
   index-kind = subst (λ (c : Column). IsOptionKind c.kind) (sym e) tt
 
   pub index-size : size_of j ≡ len x
-  index-size = ap size_of e ∙ length-index 0 (array_items x) ∙ length-array_items x
+  index-size = ap size_of e ∙ length-option_index 0 (array_items x) ∙ length-array_items x
 
   pub content-count : len y ≡ before (there_length j) (size_of j)
   content-count =

@@ -1,19 +1,18 @@
 -- What stands beside names, with one of them more, or with another one in its place.
 use Rattle.std.proofs.Common.{◌≡◌, ℕ, zero, suc, ◌==◌, ◌<◌, ◌≤◌, Bool, true, false, refl, ap, sym}
 use Rattle.std.proofs.Common.{◌∙◌, ◌+◌, arith, subst, slice_get, take}
-use Rattle.std.specs.Prelude.{List, [], ◌∷◌, ◌++◌, map, length, get_or, Some}
-use Rattle.std.specs.Prelude.{if◌then◌else◌}
+use Rattle.std.specs.Prelude.{List, [], ◌∷◌, ◌++◌, map, length, get_or, Some, if◌then◌else◌}
 use Rattle.std.proofs.lemmas.List.{take_all}
 use Rattle.std.proofs.lemmas.Bool.{or_from, or_parts}
 use Rattle.awk_types.specs.DataType.{Name}
-use Rattle.awk_types.specs.Names.{same_name, is_among, AreDistinct}
+use Rattle.awk_types.specs.Names.{same_name, is_among, AreDistinct, place_of}
 use Rattle.awk_base.proofs.Lists.{take-get}
 use Rattle.awk_types.proofs.NameLaws.{same_name_is, same_name-refl}
-use Rattle.awk_layout.specs.Layout.{Layout, layouts_from, empty}
-use Rattle.awk_layout.specs.Valid.{len, AllReach}
+use Rattle.awk_layout.specs.Layout.{Layout, empty}
+use Rattle.awk_layout.specs.Valid.{len}
 use Rattle.awk_open.specs.Opened.{AreLong}
 use Rattle.awk_put_field.specs.Field.{put, named}
-use Rattle.awk_put_field.specs.Places.{place_of, put_at}
+use Rattle.awk_put_field.specs.Places.{put_at}
 
 -- ---- by the place of the name
 
@@ -156,10 +155,6 @@ long_put k n [] x ys e h = (e, tt)
 long_put k n (m ∷ ms) x [] e h = (e, tt)
 long_put k n (m ∷ ms) x (y ∷ ys) e h =
     long-or k (same_name m n) x y ys (put n ms x ys) e h.0 h.1 (long_put k n ms x ys e h.1)
-
-pub reach_long : (k : ℕ) (ys : List Layout) → AreLong k ys → AllReach k (layouts_from ys)
-reach_long k [] h = tt
-reach_long k (y ∷ ys) h = (omega (arith, h.0), reach_long k ys h.1)
 
 -- ---- no name stands twice
 

@@ -6,6 +6,7 @@ use Rattle.std.specs.Simd.Lanes.{zip2}
 use Rattle.std.proofs.lemmas.Simd.{zip2_of_maps}
 use Rattle.awk_base.proofs.Ranges.{map-same}
 use Rattle.awk_types.specs.DataType.{Name, rec, types_from}
+use Rattle.awk_types.specs.Parts.{names_of_fields}
 use Rattle.awk_types.specs.Value.{row, values_from, value_list}
 use Rattle.awk_types.proofs.Trees.{type_list-from}
 use Rattle.awk_layout.specs.Layout.{Layout, rows, layouts_from}
@@ -15,7 +16,7 @@ use Rattle.awk_gather.specs.Arrays.{array_item}
 use Rattle.awk_open.proofs.OpenedKinds.{item-rows, type-rows}
 use Rattle.awk_open.specs.Opens.{across, OpensRow}
 use Rattle.awk_columns.proofs.ArrayLaws.{array_items-at}
-use Rattle.awk_put_field.specs.Field.{put, named, names_in, field_type, field_value}
+use Rattle.awk_put_field.specs.Field.{put, named, field_type, field_value}
 use Rattle.awk_put_field.proofs.PutLaws.{map-put}
 
 values-across : (i : ℕ) (ys : List Layout)
@@ -37,12 +38,12 @@ module _ (n : Name) (ns : List Name) (k : ℕ) (v x : Layout) (ys : List Layout)
       ∙ ap (λ us. row (values_from (put n ns (array_item v i) us))) (sym (values-across i ys))
       ∙ ap (λ w. field_value n ns w (array_item v i)) (sym (o.items i l))
 
-  pub names-opened : names_in (array_type x) ≡ ns
-  names-opened = ap names_in o.typ
+  pub names-opened : names_of_fields (array_type x) ≡ ns
+  names-opened = ap names_of_fields o.typ
 
   pub items-made : k ≡ len x → len v ≡ len x
       → array_items made
-      ≡ zip2 (field_value n (names_in (array_type x))) (array_items x) (array_items v)
+      ≡ zip2 (field_value n (names_of_fields (array_type x))) (array_items x) (array_items v)
   items-made e l =
       array_items-at made
       ∙ map-same (array_item made) (λ i. field_value n ns (array_item x i) (array_item v i)) 0 k

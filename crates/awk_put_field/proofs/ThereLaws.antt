@@ -1,5 +1,5 @@
 -- The items of a column at the places where an index names an item.
-use Rattle.std.proofs.Common.{◌≡◌, ℕ, zero, suc, ◌+◌, ◌<◌, ◌≤◌, Bool, true, false, refl, ap, sym}
+use Rattle.std.proofs.Common.{◌≡◌, ℕ, zero, suc, ◌<◌, ◌≤◌, Bool, true, false, refl, ap, sym}
 use Rattle.std.proofs.Common.{◌∙◌, arith, subst, take}
 use Rattle.std.specs.Prelude.{List, [], ◌∷◌, ◌++◌, map, filter, length, get_or, ℤ, pos}
 use Rattle.std.specs.Prelude.{is_some, if◌then◌else◌}
@@ -14,11 +14,13 @@ use Rattle.awk_lanes.proofs.CountedLanes.{length-numbers}
 use Rattle.awk_layout.specs.Item.{at_option}
 use Rattle.awk_gather.specs.Arrays.{pick}
 use Rattle.awk_columns.specs.Columns.{is_present, option_index}
-use Rattle.awk_counts.specs.Counted.{first_of, AreBelow}
+use Rattle.awk_counts.specs.Counted.{first_of}
+use Rattle.awk_counts.proofs.PlacesBelow.{same-below}
 use Rattle.awk_columns.proofs.ReachedContents.{below-first_of, places_index}
+use Rattle.awk_columns.proofs.PresentItems.{fewer-present, length-option_index}
 use Rattle.awk_frames.specs.Shape.{index_column}
-use Rattle.awk_frames.proofs.ValueLists.{length-index}
 use Rattle.awk_pair_sides.proofs.PlaceLaws.{place-numbers}
+use Rattle.awk_put_field.specs.Depths.{one_if}
 use Rattle.awk_put_field.specs.There.{beside_present, there_length}
 
 -- ---- which items an index names
@@ -38,9 +40,6 @@ index-there n (suc i) (truth b ∷ vs) l = index-there (suc n) i vs (omega (arit
 index-there n (suc i) (list ws ∷ vs) l = index-there (suc n) i vs (omega (arith, l))
 index-there n (suc i) (row ws ∷ vs) l = index-there (suc n) i vs (omega (arith, l))
 index-there n (suc i) (alt k w ∷ vs) l = index-there (suc n) i vs (omega (arith, l))
-
-abbrev one_if : Bool → ℕ
-one_if b = if b then 1 else 0
 
 there-at : (i : ℕ) (vs : List Value) → i < length vs
     → there_length (index_column vs) i ≡ one_if (is_present (get_or vs i null))
@@ -149,15 +148,6 @@ length-beside (list us ∷ vs) (w ∷ ws) e = ap suc (length-beside vs ws (omega
 length-beside (row us ∷ vs) (w ∷ ws) e = ap suc (length-beside vs ws (omega (arith, e)))
 length-beside (alt k u ∷ vs) (w ∷ ws) e = ap suc (length-beside vs ws (omega (arith, e)))
 
-fewer-present : (vs : List Value) → length (filter is_present vs) ≤ length vs
-fewer-present [] = omega arith
-fewer-present (null ∷ vs) = omega (arith, fewer-present vs)
-fewer-present (int z ∷ vs) = omega (arith, fewer-present vs)
-fewer-present (truth b ∷ vs) = omega (arith, fewer-present vs)
-fewer-present (list us ∷ vs) = omega (arith, fewer-present vs)
-fewer-present (row us ∷ vs) = omega (arith, fewer-present vs)
-fewer-present (alt k u ∷ vs) = omega (arith, fewer-present vs)
-
 -- where none is null all are taken
 pub beside-all : (vs ws : List Value) → length ws ≡ length vs
     → length (filter is_present vs) ≡ length vs → beside_present vs ws ≡ ws
@@ -180,25 +170,26 @@ beside-all (alt k u ∷ vs) (w ∷ ws) e f =
 
 same-length : (j : Column) (vs ws : List Value) → j ≡ index_column vs → length ws ≡ size_of j
     → length ws ≡ length vs
-same-length j vs ws e l = l ∙ ap size_of e ∙ length-index 0 vs
+same-length j vs ws e l = l ∙ ap size_of e ∙ length-option_index 0 vs
 
 numbers-there : (j : Column) (vs : List Value) → j ≡ index_column vs
     → numbers_of_lists (there_length j) (λ i k. pos i) (size_of j) ≡ there_numbers vs
 numbers-there j vs e =
     ap (λ c. numbers_of_lists (there_length c) (λ i k. pos i) (size_of c)) e
-    ∙ ap (numbers_of_lists (there_length (index_column vs)) (λ i k. pos i)) (length-index 0 vs)
+    ∙ ap (numbers_of_lists (there_length (index_column vs)) (λ i k. pos i))
+    (length-option_index 0 vs)
 
 pub count-there : (j : Column) (vs : List Value) → j ≡ index_column vs
     → before (there_length j) (size_of j) ≡ length (filter is_present vs)
 count-there j vs e =
     ap (λ c. before (there_length c) (size_of c)) e
-    ∙ ap (before (there_length (index_column vs))) (length-index 0 vs) ∙ there-count vs
+    ∙ ap (before (there_length (index_column vs))) (length-option_index 0 vs) ∙ there-count vs
 
 pub all_taken : (j : Column) (n : ℕ) (vs ws : List Value) → j ≡ index_column vs
     → length ws ≡ size_of j → n ≡ before (there_length j) (size_of j) → n ≡ size_of j
     → ws ≡ beside_present vs ws
 all_taken j n vs ws e l c f =
-    let s : size_of j ≡ length vs = ap size_of e ∙ length-index 0 vs in
+    let s : size_of j ≡ length vs = ap size_of e ∙ length-option_index 0 vs in
     sym (beside-all vs ws (same-length j vs ws e l)
     (omega (arith, count-there j vs e, c, f, s)))
 
@@ -211,10 +202,6 @@ some_taken j p vs ws e l f =
     ∙ pick-there vs ws (same-length j vs ws e l)
 
 -- ---- each is a place
-
-same-below : (n i a m : ℕ) → i < n → AreBelow n (map (λ k. i) (range_with_len a m))
-same-below n i a zero h = tt
-same-below n i a (suc m) h = (h, same-below n i (a + 1) m h)
 
 pub there_places : (m : ℕ → ℕ) (n : ℕ) (p : Column) → p ≡ items_lane I64 m (λ i k. pos i) n
     → IsIndex p n

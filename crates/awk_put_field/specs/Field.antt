@@ -1,7 +1,8 @@
 -- One record with one field more, or with another one in the place of what it had.
-use Rattle.std.specs.Prelude.{Bool, true, false, List, [], ◌∷◌, if◌then◌else◌}
-use Rattle.awk_types.specs.DataType.{Name, DataType, rec, type_list, types_from}
+use Rattle.std.specs.Prelude.{List, [], ◌∷◌, if◌then◌else◌}
+use Rattle.awk_types.specs.DataType.{Name, DataType, rec, types_from}
 use Rattle.awk_types.specs.Names.{same_name}
+use Rattle.awk_types.specs.Parts.{names_of_fields, types_of_fields}
 use Rattle.awk_types.specs.Simple.{present, is_option, option_if}
 use Rattle.awk_types.specs.Value.{Value, null, row, value_list, values_from}
 use Rattle.awk_columns.specs.Columns.{part_at}
@@ -16,24 +17,12 @@ put n (m ∷ ms) x (y ∷ ys) = if same_name m n then x ∷ ys else y ∷ put n 
 abbrev pub named : Name → List Name → List Name
 named n ns = put n ns n ns
 
-abbrev pub is_record : DataType → Bool
-is_record (rec ns ts) = true
-is_record t = false
-
-abbrev pub names_in : DataType → List Name
-names_in (rec ns ts) = ns
-names_in t = []
-
-abbrev pub types_in : DataType → List DataType
-types_in (rec ns ts) = type_list ts
-types_in t = []
-
 -- a record of type t with a field of type u, optional where it is
 abbrev pub field_type : Name → DataType → DataType → DataType
 field_type n t u =
     option_if (is_option t)
-    (rec (named n (names_in (present t)))
-    (types_from (put n (names_in (present t)) u (types_in (present t)))))
+    (rec (named n (names_of_fields (present t)))
+    (types_from (put n (names_of_fields (present t)) u (types_of_fields (present t)))))
 
 -- a record of these names with a field. A null record stays null.
 abbrev pub field_value : Name → List Name → Value → Value → Value

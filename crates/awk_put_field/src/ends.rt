@@ -1,6 +1,7 @@
 //! A column of records, of which some may be null, with a column as a field of them.
 ghost use Rattle.std.specs.Prelude.{◌≡◌, List, true, IfOk};
 ghost use Rattle.std.specs.Simd.Lanes.{zip2};
+ghost use Rattle.awk_types.specs.Parts.{is_record, names_of_fields};
 ghost use Rattle.awk_types.specs.Simple.{present, is_option};
 ghost use Rattle.awk_types.specs.Value.{Value};
 ghost use Rattle.awk_lanes.specs.Counted.{before};
@@ -11,7 +12,7 @@ ghost use Rattle.awk_open.specs.Opened.{IsOpened};
 ghost use Rattle.awk_open.specs.declared.opening.Opened.TheVariants.{Option as Optional};
 ghost use Rattle.awk_open.specs.InOrder.{IsInOrder};
 ghost use Rattle.awk_frames.specs.Shape.{index_column};
-ghost use Rattle.awk_put_field.specs.Field.{is_record, names_in, field_type, field_value};
+ghost use Rattle.awk_put_field.specs.Field.{field_type, field_value};
 ghost use Rattle.awk_put_field.specs.There.{beside_present, there_length};
 
 use crate::records::records_of;
@@ -103,7 +104,7 @@ fn present_with<'a, L: Ledger>(
     requires long { len column.now ≡ len records.now }
     ensures typ { let t = array_type records.now in
         IfOk result (λ y. array_type y ≡ field_type name.now t (array_type column.now)) }
-    ensures items { let value = field_value name.now (names_in (array_type records.now)) in
+    ensures items { let value = field_value name.now (names_of_fields (array_type records.now)) in
         IfOk result (λ y.
         array_items y ≡ zip2 value (array_items records.now) (array_items column.now)) }
     ensures size { IfOk result (λ y. len y ≡ len records.now) }
@@ -136,7 +137,7 @@ fn under_option<'a, L: Ledger>(
     requires long { len column.now ≡ len records.now }
     ensures typ { let t = array_type records.now in
         IfOk result (λ y. array_type y ≡ field_type name.now t (array_type column.now)) }
-    ensures items { let names = names_in (present (array_type records.now)) in
+    ensures items { let names = names_of_fields (present (array_type records.now)) in
         let value = field_value name.now names in
         IfOk result (λ y.
         array_items y ≡ zip2 value (array_items records.now) (array_items column.now)) }
@@ -162,7 +163,7 @@ fn optional_with<'a, L: Ledger>(
     requires long { len column.now ≡ len records.now }
     ensures typ { let t = array_type records.now in
         IfOk result (λ y. array_type y ≡ field_type name.now t (array_type column.now)) }
-    ensures items { let names = names_in (present (array_type records.now)) in
+    ensures items { let names = names_of_fields (present (array_type records.now)) in
         let value = field_value name.now names in
         IfOk result (λ y.
         array_items y ≡ zip2 value (array_items records.now) (array_items column.now)) }
@@ -191,7 +192,7 @@ pub fn with_column<'a, L: Ledger>(
     requires long { len column.now ≡ len records.now }
     ensures typ { let t = array_type records.now in
         IfOk result (λ y. array_type y ≡ field_type name.now t (array_type column.now)) }
-    ensures items { let names = names_in (present (array_type records.now)) in
+    ensures items { let names = names_of_fields (present (array_type records.now)) in
         let value = field_value name.now names in
         IfOk result (λ y.
         array_items y ≡ zip2 value (array_items records.now) (array_items column.now)) }

@@ -1,15 +1,14 @@
 //! The limit that the result's type passes where the list beside a single value passes one.
-ghost use Rattle.std.specs.Prelude.{◌≡◌, ◌==◌, ◌<◌, ◌||◌, length, min, get_or};
-ghost use Rattle.std.specs.Prelude.{if◌then◌else◌};
+ghost use Rattle.std.specs.Prelude.{◌≡◌, ◌==◌, ◌<◌, ◌||◌, length, min, get_or, if◌then◌else◌};
 ghost use Rattle.awk_types.specs.DataType.{depth as depth_of, depths, greatest, var};
 ghost use Rattle.awk_types.specs.Faults.{fault_told};
+ghost use Rattle.awk_types.specs.Names.{place_of};
+ghost use Rattle.awk_types.specs.Parts.{item_of};
 ghost use Rattle.awk_types.specs.Simple.{present};
 ghost use Rattle.awk_types.specs.View.{typ_of, fields_of, names_of, types_of};
-ghost use Rattle.awk_pair_sides.specs.Levels.{item_of};
 ghost use Rattle.awk_put_field.specs.Depths.{depth_over as depth_joined, one_if as one_where};
 ghost use Rattle.awk_put_field.specs.Depths.{list_told};
 ghost use Rattle.awk_put_field.specs.Field.{put};
-ghost use Rattle.awk_put_field.specs.Places.{place_of};
 
 use awk_pair_sides::present_type;
 use awk_types::{Fault, Fields, Typ, TypeFault, depth, is_optional};

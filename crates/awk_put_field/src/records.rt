@@ -1,11 +1,11 @@
 //! Records with one field more, or with another one in the place of what they had.
-ghost use Rattle.std.specs.Prelude.{◌≡◌, ◌==◌, ◌<◌, ◌^◌, length, get_or, Some, IfOk};
-ghost use Rattle.std.specs.Prelude.{if◌then◌else◌};
+ghost use Rattle.std.specs.Prelude.{◌≡◌, ◌==◌, ◌<◌, ◌^◌, length, get_or, Some, IfOk, if◌then◌else◌};
 ghost use Rattle.awk_layout.specs.Layout.{empty, rows, layouts_from};
 ghost use Rattle.awk_layout.specs.Valid.{len, AreNames};
 ghost use Rattle.awk_open.specs.Opened.{AreLong};
+ghost use Rattle.awk_types.specs.Names.{place_of as place_in};
 ghost use Rattle.awk_put_field.specs.Field.{put, named as named_with};
-ghost use Rattle.awk_put_field.specs.Places.{place_of as place_in, put_at};
+ghost use Rattle.awk_put_field.specs.Places.{put_at};
 
 use awk_lanes::Steps;
 use awk_layout::{Array, Arrays, Node, Nodes};

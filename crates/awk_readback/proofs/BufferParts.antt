@@ -6,7 +6,6 @@ use Rattle.std.specs.Prelude.{filter}
 use Rattle.std.specs.List.{flat_map, AllByRecursion}
 use Rattle.std.proofs.lemmas.Grind.{flat_map-append}
 use Rattle.awk_base.proofs.Truths.{nat_lt-none}
-use Rattle.awk_types.specs.Gives.{◌or◌}
 use Rattle.awk_types.specs.DataType.{Name, DataType, unknown, leaf, var, reg, rec, tup, opt, uni}
 use Rattle.awk_types.specs.DataType.{DataTypes, no_types, type, nodes}
 use Rattle.awk_types.specs.Value.{Value}
@@ -21,7 +20,7 @@ use Rattle.awk_pack.specs.Canon.{lanes_of}
 use Rattle.awk_pack.specs.PackedForm.{packed_form, packed_forms}
 use Rattle.awk_text.specs.Buffers.{buffer_keys, keys_of, keyed_bytes}
 use Rattle.awk_valid.specs.Container.{Container, buffer_key, bytes_or_none, bytes_at, num}
-use Rattle.awk_valid.specs.Broken.{Refusal, size_break, bytes_break}
+use Rattle.awk_valid.specs.Broken.{size_break, bytes_break}
 use Rattle.awk_readback.specs.ReadBack.{HasBuffers}
 use Rattle.awk_readback.proofs.LaneBytes.{IsHeld, length-lane_bytes, num-lane_bytes}
 
@@ -158,6 +157,3 @@ bytes-well c key attribute k n zs e l =
 
 pub size-well : (n : ℕ) → n ≤ 1073741824 → size_break n ≡ None
 size-well n h = rw (nat_lt-none item_limit n h) refl
-
-pub neither : (a b : Option Refusal) → a ≡ None → b ≡ None → (a or b) ≡ None
-neither a b e f = ap (λ z. z or b) e ∙ f

@@ -6,6 +6,7 @@ use Rattle.std.proofs.Common.{length-append, append_assoc, ℤ, pos}
 use Rattle.std.specs.Prelude.{filter, ◌==◌}
 use Rattle.std.specs.List.{AllByRecursion}
 use Rattle.std.proofs.lemmas.Grind.{flat_map-append}
+use Rattle.awk_types.specs.Parts.{IsAlternative}
 use Rattle.awk_types.specs.Value.{Value, null, alt, values_from}
 use Rattle.awk_lanes.specs.Numbers.{nat_of}
 use Rattle.awk_lanes.specs.Places.{option_place}
@@ -14,7 +15,7 @@ use Rattle.awk_valid.specs.Denote.{between}
 use Rattle.awk_columns.specs.Columns.{list_items, joined_items, is_present, given_to}
 use Rattle.awk_columns.specs.Columns.{alternative_values, offsets, option_index, tags, one_more}
 use Rattle.awk_columns.specs.Columns.{union_index}
-use Rattle.awk_readback.proofs.IndexLanes.{offsets-head, IsAlternative}
+use Rattle.awk_readback.proofs.IndexLanes.{offsets-head}
 use Rattle.awk_readback.proofs.ValueLists.{Reads, get_or-seam, snoc, length-snoc, seam-below}
 
 -- the items from a place on are those that stand there

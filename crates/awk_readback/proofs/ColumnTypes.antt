@@ -1,17 +1,18 @@
 -- The column of each part of a type has values of that part.
 use Rattle.std.proofs.Common.{◌≡◌, ◌<◌, ◌≤◌, ℕ, zero, suc, ◌-◌, ◌*◌, Bool, true, false, cond, List}
 use Rattle.std.proofs.Common.{[], ◌∷◌, length, map, drop, get_or, refl, ap, arith, length-append}
-use Rattle.std.specs.Prelude.{filter, ◌==◌}
+use Rattle.std.specs.Prelude.{◌==◌}
 use Rattle.std.specs.List.{AllByRecursion}
 use Rattle.awk_base.proofs.Every.{all-append}
-use Rattle.awk_types.specs.DataType.{DataType, unknown, var, reg, rec, tup, opt, uni, DataTypes}
+use Rattle.awk_types.specs.DataType.{DataType, unknown, var, reg, rec, tup, uni, DataTypes}
 use Rattle.awk_types.specs.DataType.{no_types, type, type_list}
+use Rattle.awk_types.specs.Parts.{IsAlternative}
 use Rattle.awk_types.specs.Value.{Value, null, list, row, alt, values_from}
 use Rattle.awk_types.specs.Has.{Has, HasRow, HasAlternative}
 use Rattle.awk_types.proofs.Trees.{values_from-list}
-use Rattle.awk_columns.specs.Columns.{list_items, joined_items, row_parts, part_at, is_present}
+use Rattle.awk_types.proofs.HasLaws.{tag_within}
+use Rattle.awk_columns.specs.Columns.{list_items, joined_items, row_parts, part_at}
 use Rattle.awk_columns.specs.Columns.{tag_of, given_to, alternative_values}
-use Rattle.awk_readback.proofs.IndexLanes.{IsAlternative}
 use Rattle.awk_readback.proofs.ValueLists.{map-all}
 
 -- no value is of type unknown
@@ -59,14 +60,6 @@ regs-length n t (v ∷ vs) h =
       (reg-list n t v h.0).1,
       regs-length n t vs h.1,
     )
-
--- ---- options
-
-pub present-have : (t : DataType) (vs : List Value) → AllByRecursion (Has (opt t)) vs
-    → AllByRecursion (Has t) (filter is_present vs)
-present-have t [] h = tt
-present-have t (null ∷ vs) h = present-have t vs h.1
-present-have t (v ∷ vs) h = (h.0, present-have t vs h.1)
 
 -- ---- rows
 
@@ -141,14 +134,9 @@ pub unis-alternatives : (ts : DataTypes) (vs : List Value) → AllByRecursion (H
 unis-alternatives ts vs h =
     map-all (Has (uni ts)) IsAlternative (λ v x. (uni-alternative ts v x).0) vs h
 
-has-place : (ts : DataTypes) (k : ℕ) (v : Value) → HasAlternative ts k v → k < length (type_list ts)
-has-place no_types k v h = absurd h
-has-place (type t ts) zero v h = omega arith
-has-place (type t ts) (suc k) v h = omega (arith, has-place ts k v h)
-
 -- a tag is the place of an alternative
 pub uni-tag : (ts : DataTypes) (v : Value) → Has (uni ts) v → tag_of v < length (type_list ts)
-uni-tag ts (alt k v) h = has-place ts k v h
+uni-tag ts (alt k v) h = tag_within ts k v h
 uni-tag ts v h = absurd h
 
 here-has : (k : ℕ) (t : DataType) (ts : DataTypes) (v : Value) → AlternativeFrom k (type t ts) v

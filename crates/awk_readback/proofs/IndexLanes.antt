@@ -6,7 +6,7 @@ use Rattle.std.specs.Prelude.{filter, int_lt, int_le, ◌==◌, ◌||◌}
 use Rattle.std.specs.List.{AllByRecursion}
 use Rattle.std.specs.Ordering.{int_eq}
 use Rattle.std.proofs.lemmas.Int.{ints}
-use Rattle.awk_types.specs.Value.{Value, null, alt}
+use Rattle.awk_types.specs.Value.{Value, null}
 use Rattle.awk_lanes.specs.declared.kind.Kind.TheVariants.{I8, I64}
 use Rattle.awk_lanes.specs.declared.kind.Num.TheVariants.{Int}
 use Rattle.awk_valid.specs.Broken.{list_rule, tag_rule}
@@ -65,11 +65,6 @@ offsets-rule n (v ∷ vs) (suc i) h = offsets-rule (n + length (list_items v)) v
 
 -- ---- options
 
-pub length-option_index : (n : ℕ) (vs : List Value) → length (option_index n vs) ≡ length vs
-length-option_index n [] = refl
-length-option_index n (null ∷ vs) = ap suc (length-option_index n vs)
-length-option_index n (v ∷ vs) = ap suc (length-option_index (suc n) vs)
-
 pub option_index-held : (n : ℕ) (vs : List Value)
     → n + length (filter is_present vs) < 9223372036854775808
     → AllByRecursion (IsHeld I64) (option_index n vs)
@@ -79,11 +74,6 @@ option_index-held n (v ∷ vs) h =
     (held_place n (omega arith), option_index-held (suc n) vs (omega arith))
 
 -- ---- unions
-
--- the value is of an alternative
-abbrev pub IsAlternative : Value → Type 0
-IsAlternative (alt k v) = Unit {0}
-IsAlternative v = ⊥
 
 pub length-tags : (vs : List Value) → length (tags vs) ≡ length vs
 length-tags [] = refl

@@ -8,11 +8,12 @@ use Rattle.std.specs.Ordering.{int_eq}
 use Rattle.std.proofs.lemmas.Int.{ints}
 use Rattle.std.proofs.lemmas.Bool.Decides.{Decides-int_eq, nat_tests}
 use Rattle.awk_types.specs.DataType.{greatest}
+use Rattle.awk_types.specs.Parts.{IsAlternative}
 use Rattle.awk_types.specs.Value.{Value, null, alt}
 use Rattle.awk_valid.specs.Needs.{greatest_below, reach, behind, behind_at}
 use Rattle.awk_columns.specs.Columns.{list_items, joined_items, is_present, alternative_values}
 use Rattle.awk_columns.specs.Columns.{offsets, option_index, tags, one_more, union_index}
-use Rattle.awk_readback.proofs.IndexLanes.{offsets-head, IsAlternative}
+use Rattle.awk_readback.proofs.IndexLanes.{offsets-head}
 
 -- ---- lists
 

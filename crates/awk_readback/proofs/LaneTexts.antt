@@ -26,8 +26,8 @@ use Rattle.awk_layout.specs.Kinds.{kind_of}
 use Rattle.awk_store.specs.Buffers.{ByKey, only_texts, text_or_raw}
 use Rattle.awk_store.proofs.ByKeyLaws.{decoding-encode_of}
 use Rattle.awk_columns.specs.Columns.{joined_items, part_at, is_present, alternative_values}
-use Rattle.awk_columns.specs.Columns.{offsets}
-use Rattle.awk_columns.specs.Columns.{option_index, tags, union_index}
+use Rattle.awk_columns.specs.Columns.{offsets, option_index, tags, union_index}
+use Rattle.awk_columns.proofs.PresentItems.{present-have}
 use Rattle.awk_pack.specs.Columns.{placed, placed_fields, placed_alternatives}
 use Rattle.awk_pack.specs.Lanes.{lanes_at, number_of}
 use Rattle.awk_pack.specs.Canon.{lanes_of}
@@ -36,10 +36,9 @@ use Rattle.awk_valid.specs.Container.{container_of}
 use Rattle.awk_readback.specs.ReadBack.{HasBuffers, text_buffer}
 use Rattle.awk_readback.proofs.LaneBytes.{IsHeld}
 use Rattle.awk_readback.proofs.LeafReads.{leaves-held}
-use Rattle.awk_readback.proofs.ColumnTypes.{vars-have, regs-have, present-have, FieldsFrom}
-use Rattle.awk_readback.proofs.ColumnTypes.{first-have, others-have, tups-have, recs-have}
-use Rattle.awk_readback.proofs.ColumnTypes.{AlternativeFrom, unis-have, alternative-have}
-use Rattle.awk_readback.proofs.ColumnTypes.{later-have}
+use Rattle.awk_readback.proofs.ColumnTypes.{vars-have, regs-have, FieldsFrom, first-have}
+use Rattle.awk_readback.proofs.ColumnTypes.{others-have, tups-have, recs-have, AlternativeFrom}
+use Rattle.awk_readback.proofs.ColumnTypes.{unis-have, alternative-have, later-have}
 
 -- ---- bytes
 

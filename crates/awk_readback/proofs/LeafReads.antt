@@ -5,6 +5,7 @@ use Rattle.std.proofs.Common.{codes, pos, negsuc, ℤ, ◌≤ℤ◌}
 use Rattle.std.specs.List.{AllByRecursion}
 use Rattle.std.proofs.lemmas.Int.{ints}
 use Rattle.std.proofs.lemmas.List.{length-map}
+use Rattle.awk_base.proofs.Every.{all-at}
 use Rattle.awk_types.specs.DataType.{Name, unknown, leaf}
 use Rattle.awk_types.specs.Value.{Value, int, truth, null}
 use Rattle.awk_types.specs.Has.{Has}
@@ -19,10 +20,11 @@ use Rattle.awk_pack.specs.Lanes.{number_of}
 use Rattle.awk_valid.specs.Container.{Container, bytes_at, num}
 use Rattle.awk_valid.specs.Broken.{size_break, broken_from}
 use Rattle.awk_valid.specs.Denote.{element, item}
+use Rattle.awk_valid.proofs.PartLaws.{both_none}
 use Rattle.awk_readback.proofs.LaneBytes.{IsHeld}
-use Rattle.awk_readback.proofs.ValueLists.{Reads, all-at}
+use Rattle.awk_readback.proofs.ValueLists.{Reads}
 use Rattle.awk_readback.proofs.ColumnTypes.{none-unknown}
-use Rattle.awk_readback.proofs.BufferParts.{HasLane, num-read, bytes-well, size-well, neither}
+use Rattle.awk_readback.proofs.BufferParts.{HasLane, num-read, bytes-well, size-well}
 
 -- from any node on nothing breaks
 abbrev pub IsUnbroken : FormTree → ℕ → Container → Type 0
@@ -43,7 +45,7 @@ pub empty-node : (key : Option Name) (vs : List Value) (c : Container)
     → AllByRecursion (Has unknown) vs → IsRead (form.empty key) c vs
 empty-node key vs c h = (
   unbroken-at (form.empty key) 0 (length vs) c (sym (none-unknown vs h)) (λ m. refl),
-  λ j l. absurd (all-at (Has unknown) vs j h l),
+  λ j l. absurd (all-at (Has unknown) vs j null h l),
 )
 
 -- ---- leaves
@@ -115,8 +117,8 @@ leaves-node key p vs c h small e =
     let one : length vs * 1 ≡ length zs = omega (arith, size) in
     ap (λ n. n * width (kind_of p)) one in
     let bytes = bytes-well c key (codes "data") (kind_of p) _ zs e needs in (
-      λ m. neither (size_break (length vs)) _ (size-well (length vs) small)
-          (neither _ None (neither _ None bytes refl) refl),
+      λ m. both_none (size_break (length vs)) _ (size-well (length vs) small)
+          (both_none _ None (both_none _ None bytes refl) refl),
       λ i l. element-value c.big p (bytes_at c key (codes "data")) i _
           (num-read c key (codes "data") (kind_of p) zs i e (leaves-held p vs h)
           (omega (arith, size)))

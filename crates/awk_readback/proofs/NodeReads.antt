@@ -3,7 +3,9 @@ use Rattle.std.proofs.Common.{◌≡◌, ◌<◌, ◌≤◌, ℕ, suc, ◌+◌, 
 use Rattle.std.proofs.Common.{refl, ap, ap₂, sym, ◌∙◌, arith, add-one, codes, pos}
 use Rattle.std.specs.Prelude.{filter}
 use Rattle.std.specs.List.{AllByRecursion}
+use Rattle.awk_base.proofs.Every.{all-at}
 use Rattle.awk_types.specs.DataType.{Name, DataType, DataTypes, var, reg}
+use Rattle.awk_types.specs.Parts.{IsAlternative}
 use Rattle.awk_types.specs.Value.{Value, null, list, row, values_from}
 use Rattle.awk_types.specs.Has.{Has}
 use Rattle.awk_lanes.specs.declared.kind.Kind.TheVariants as kind
@@ -16,21 +18,22 @@ use Rattle.awk_form.specs.declared.kind.IndexKind.TheVariants.{I64}
 use Rattle.awk_columns.specs.Columns.{list_items, joined_items, is_present, tag_of}
 use Rattle.awk_columns.specs.Columns.{alternative_values, offsets, option_index, tags, union_index}
 use Rattle.awk_columns.specs.Columns.{row_parts}
+use Rattle.awk_columns.proofs.PresentItems.{length-option_index}
 use Rattle.awk_valid.specs.Container.{Container, index_num, int8_num}
 use Rattle.awk_valid.specs.Needs.{reach, behind, behind_at, content_length}
 use Rattle.awk_valid.specs.Broken.{size_break, list_rule, tag_rule, rule_break, all_broken_from}
 use Rattle.awk_valid.specs.Denote.{between, item, items_across, item_of}
 use Rattle.awk_valid.proofs.SearchLaws.{rule_break-clear}
-use Rattle.awk_readback.proofs.IndexLanes.{IsAlternative, length-offsets, offsets-held}
-use Rattle.awk_readback.proofs.IndexLanes.{offsets-rule, length-option_index, option_index-held}
-use Rattle.awk_readback.proofs.IndexLanes.{length-tags, tags-held, length-union_index}
-use Rattle.awk_readback.proofs.IndexLanes.{union_index-held, union_index-rule}
+use Rattle.awk_readback.proofs.IndexLanes.{length-offsets, offsets-held, offsets-rule}
+use Rattle.awk_readback.proofs.IndexLanes.{option_index-held, length-tags, tags-held}
+use Rattle.awk_readback.proofs.IndexLanes.{length-union_index, union_index-held, union_index-rule}
+use Rattle.awk_valid.proofs.PartLaws.{both_none}
 use Rattle.awk_readback.proofs.IndexNeeds.{offsets-needs, option_index-needs, union_index-needs}
-use Rattle.awk_readback.proofs.ValueLists.{Reads, all-at, map-all}
+use Rattle.awk_readback.proofs.ValueLists.{Reads, map-all}
 use Rattle.awk_readback.proofs.ColumnTypes.{IsRowOf, var-list, reg-list, regs-length}
 use Rattle.awk_readback.proofs.ColumnItems.{lists-read, blocks-read, options-read, alternative_by}
 use Rattle.awk_readback.proofs.ColumnItems.{unions-read}
-use Rattle.awk_readback.proofs.BufferParts.{HasLane, num-read, bytes-well, size-well, neither}
+use Rattle.awk_readback.proofs.BufferParts.{HasLane, num-read, bytes-well, size-well}
 use Rattle.awk_readback.proofs.LeafReads.{IsUnbroken, IsRead, unbroken-at}
 
 -- ---- lists
@@ -71,9 +74,9 @@ module _ (key : Option Name) (f : FormTree) (t : DataType) (vs : List Value) (c 
       ap (λ k. k * 8) one in
       let bytes = bytes-well c key (codes "offsets") kind.I64 _ (offsets 0 vs) e n in
       let own = unbroken-at f _ _ c lists-needs below.0 in
-      neither _ _
-      (neither (size_break (length vs)) _ (size-well (length vs) small)
-      (neither _ _ (neither _ None bytes refl) (lists-rule m))) (own (m + 1))
+      both_none _ _
+      (both_none (size_break (length vs)) _ (size-well (length vs) small)
+      (both_none _ _ (both_none _ None bytes refl) (lists-rule m))) (own (m + 1))
 
   pub lists-node : IsRead (form.list_offset key I64 f) c vs
   lists-node = (
@@ -81,7 +84,7 @@ module _ (key : Option Name) (f : FormTree) (t : DataType) (vs : List Value) (c 
     λ i l. ap list
         (ap₂ (between (item f c)) (offset i (omega arith)) (next_offset i l)
         ∙ lists-read (item f c) vs i below.1 l)
-        ∙ (var-list t (get_or vs i null) (all-at (Has (var t)) vs i h l)).0,
+        ∙ (var-list t (get_or vs i null) (all-at (Has (var t)) vs i null h l)).0,
   )
 
 -- ---- lists of one size
@@ -94,10 +97,10 @@ regulars-node key size f t vs c h small below =
     let sizes =
     map-all (Has (reg size t)) (λ v. length (list_items v) ≡ size) (λ v x. (reg-list size t v x).1)
     vs h in (
-      λ m. neither _ _
-          (neither (size_break (length vs)) _ (size-well (length vs) small) refl) (own (m + 1)),
+      λ m. both_none _ _
+          (both_none (size_break (length vs)) _ (size-well (length vs) small) refl) (own (m + 1)),
       λ i l. ap list (blocks-read (item f c) size vs i sizes below.1 l)
-          ∙ (reg-list size t (get_or vs i null) (all-at (Has (reg size t)) vs i h l)).0.0,
+          ∙ (reg-list size t (get_or vs i null) (all-at (Has (reg size t)) vs i null h l)).0.0,
     )
 
 -- ---- options
@@ -123,9 +126,9 @@ module _ (key : Option Name) (f : FormTree) (vs : List Value) (c : Container)
       ap (λ k. k * 8) (sym (length-option_index 0 vs)) in
       let bytes = bytes-well c key (codes "index") kind.I64 _ (option_index 0 vs) e n in
       let own = unbroken-at f _ _ c options-needs below.0 in
-      neither _ _
-      (neither (size_break (length vs)) _ (size-well (length vs) small)
-      (neither _ None (neither _ None bytes refl) refl)) (own (m + 1))
+      both_none _ _
+      (both_none (size_break (length vs)) _ (size-well (length vs) small)
+      (both_none _ None (both_none _ None bytes refl) refl)) (own (m + 1))
 
   pub options-node : IsRead (form.indexed_option key I64 f) c vs
   options-node = (
@@ -147,9 +150,9 @@ pub rows-node : (key : Option Name) (names : Option (List Name)) (fs : FormTrees
     → items_across fs c i ≡ values_from (row_parts (get_or vs i null)))
     → IsRead (form.row key names fs) c vs
 rows-node key names fs ts vs c h small below parts = (
-  λ m. neither _ _
-      (neither (size_break (length vs)) _ (size-well (length vs) small) refl) (below (m + 1)),
-  λ i l. ap row (parts i l) ∙ (all-at (IsRowOf ts) vs i h l).0,
+  λ m. both_none _ _
+      (both_none (size_break (length vs)) _ (size-well (length vs) small) refl) (below (m + 1)),
+  λ i l. ap row (parts i l) ∙ (all-at (IsRowOf ts) vs i null h l).0,
 )
 
 -- ---- unions
@@ -197,9 +200,9 @@ module _ (key : Option Name) (fs : FormTrees) (vs : List Value) (c : Container)
       ap (λ k. k * 8) (sym (length-union_index (λ k. 0) vs)) in
       let tag-bytes = bytes-well c key (codes "tags") kind.I8 _ (tags vs) d n in
       let bytes = bytes-well c key (codes "index") kind.I64 _ (union_index (λ k. 0) vs) e l in
-      neither _ _
-      (neither (size_break (length vs)) _ (size-well (length vs) small)
-      (neither _ _ (neither _ _ tag-bytes (neither _ None bytes refl)) (unions-rule m)))
+      both_none _ _
+      (both_none (size_break (length vs)) _ (size-well (length vs) small)
+      (both_none _ _ (both_none _ _ tag-bytes (both_none _ None bytes refl)) (unions-rule m)))
       (below (m + 1))
 
   pub unions-node : AreUnbroken fs (content_length (form.union key I64 fs) (length vs) c) c

@@ -4,6 +4,7 @@ use Rattle.std.proofs.Common.{drop, get_or, Some, None, refl, ap, ap₂, sym, su
 use Rattle.std.specs.Prelude.{filter}
 use Rattle.std.specs.List.{AllByRecursion}
 use Rattle.std.proofs.lemmas.List.{length-map, get_or-map}
+use Rattle.awk_base.proofs.Every.{all-at}
 use Rattle.awk_types.specs.DataType.{DataType, unknown, leaf, var, reg, rec, tup, opt, uni}
 use Rattle.awk_types.specs.DataType.{DataTypes, no_types, type, greatest, nodes}
 use Rattle.awk_types.specs.Value.{Value, null, value, values_from}
@@ -15,20 +16,22 @@ use Rattle.awk_form.specs.Lawful.{count}
 use Rattle.awk_form.specs.declared.kind.IndexKind.TheVariants.{I64}
 use Rattle.awk_columns.specs.Columns.{joined_items, row_parts, part_at, is_present, tag_of}
 use Rattle.awk_columns.specs.Columns.{alternative_values}
+use Rattle.awk_columns.proofs.PresentItems.{present-have}
 use Rattle.awk_pack.specs.Columns.{Placed, placed, placed_fields, placed_alternatives}
 use Rattle.awk_pack.specs.PackedForm.{packed_form, packed_forms, node_key}
 use Rattle.awk_pack.proofs.LawfulForms.{count-packed_forms, length-widths}
 use Rattle.awk_valid.specs.Container.{Container}
 use Rattle.awk_valid.specs.Needs.{content_length}
 use Rattle.awk_valid.specs.Denote.{items_across, item_of}
-use Rattle.awk_readback.proofs.ValueLists.{Reads, all-at, map-all}
-use Rattle.awk_readback.proofs.ColumnTypes.{vars-have, regs-have, present-have, FieldsFrom}
+use Rattle.awk_valid.proofs.PartLaws.{both_none}
+use Rattle.awk_readback.proofs.ValueLists.{Reads, map-all}
+use Rattle.awk_readback.proofs.ColumnTypes.{vars-have, regs-have, FieldsFrom}
 use Rattle.awk_readback.proofs.ColumnTypes.{field-at, no-field, first-have, others-have, IsRowOf}
 use Rattle.awk_readback.proofs.ColumnTypes.{tup-row, rec-row, tups-have, recs-have, AlternativeFrom}
 use Rattle.awk_readback.proofs.ColumnTypes.{unis-have, unis-alternatives, uni-tag, alternative-have}
 use Rattle.awk_readback.proofs.ColumnTypes.{later-have, none-left}
 use Rattle.awk_readback.proofs.BufferParts.{HasNodes, HasFields, HasAlternatives, has-fields}
-use Rattle.awk_readback.proofs.BufferParts.{has-alternatives, neither}
+use Rattle.awk_readback.proofs.BufferParts.{has-alternatives}
 use Rattle.awk_readback.proofs.LeafReads.{IsRead, unbroken-at, empty-node, leaves-node}
 use Rattle.awk_readback.proofs.NodeReads.{AreUnbroken, lists-node, regulars-node, options-node}
 use Rattle.awk_readback.proofs.NodeReads.{rows-node, unions-needs, unions-node}
@@ -93,11 +96,11 @@ one-field : (k j : ℕ) (t : DataType) (ts : DataTypes) (rows : List Value) (c :
     → FieldsRead (packed_forms k (type t ts)) j c rows
 one-field k j t ts rows c h one others =
     let f = unbroken-at (packed_form k t) _ (length rows) c (length-map rows (part_at j)) one.0 in (
-      λ m. neither _ _ (f m) (others.0 _),
+      λ m. both_none _ _ (f m) (others.0 _),
       λ i l.
           let parts =
           (field-at t ts (row_parts (get_or rows i null)) j
-          (all-at (FieldsFrom j (type t ts)) rows i h l)).2 in
+          (all-at (FieldsFrom j (type t ts)) rows i null h l)).2 in
           ap₂ value
           (one.1 i (omega (arith, length-map rows (part_at j))) ∙ get_or-map (part_at j) rows i null
           null l)
@@ -125,7 +128,7 @@ one-alternative k j t ts vs c one others = (
       let later =
       others.0 (λ i. lengths (suc i)) (λ i.
       let s : j + suc i ≡ suc j + i = omega arith in rw s at (e (suc i))) in
-      neither _ _ (own m) (later _),
+      both_none _ _ (own m) (later _),
   λ d. alternative-reads k j d t ts vs c one others,
 )
 
@@ -179,7 +182,7 @@ mutual
     λ i l. ap values_from
         (sym
         (no-field (drop j (row_parts (get_or rows i null)))
-        (all-at (FieldsFrom j no_types) rows i h l))),
+        (all-at (FieldsFrom j no_types) rows i null h l))),
   )
   fields-read k j (type t ts) rows c h fit few b =
       let column = map (part_at j) rows in

@@ -1,18 +1,20 @@
 -- What is packed is read back.
 use Rattle.std.proofs.Common.{◌≡◌, ◌≤◌, Bool, true, false, cond, List, [], ◌∷◌, length, get_or}
-use Rattle.std.proofs.Common.{Some, None, Ok, Err, refl, ap, ap₂, sym, subst, ◌∙◌, arith}
-use Rattle.std.specs.Prelude.{nat_lt, ◌||◌}
+use Rattle.std.proofs.Common.{None, Ok, Err, refl, ap, ap₂, sym, subst, ◌∙◌, arith}
+use Rattle.std.specs.Prelude.{◌||◌}
 use Rattle.std.specs.List.{list_any, AllByRecursion}
 use Rattle.std.specs.Option.{option_map}
 use Rattle.std.proofs.lemmas.Bool.Decides.{nat_tests}
-use Rattle.awk_types.specs.DataType.{DataType, depth, nodes}
+use Rattle.awk_base.proofs.Every.{all-at}
+use Rattle.awk_types.specs.DataType.{DataType, nodes}
 use Rattle.awk_types.specs.Datum.{arr}
 use Rattle.awk_types.specs.Has.{Has}
-use Rattle.awk_types.specs.Limit.{depth_limit, size_limit, limit, width}
+use Rattle.awk_types.specs.Limit.{limit}
 use Rattle.awk_types.specs.Simple.{IsSimple, simple, simple_value}
 use Rattle.awk_types.specs.Value.{Value, null}
 use Rattle.awk_types.proofs.RefusalLaws.{refused_or-None}
 use Rattle.awk_types.proofs.Simplified.{simplifies}
+use Rattle.awk_types.proofs.PartLimits.{nodes_within}
 use Rattle.awk_form.specs.FormType.{type_of}
 use Rattle.awk_form.specs.Lawful.{IsLawful}
 use Rattle.awk_pack.specs.Columns.{Placed, placed}
@@ -26,10 +28,11 @@ use Rattle.awk_valid.specs.Container.{Container}
 use Rattle.awk_valid.specs.Broken.{broken}
 use Rattle.awk_valid.specs.Denote.{item, denote}
 use Rattle.awk_valid.specs.Loading.{limited, refusal}
+use Rattle.awk_valid.proofs.PartLaws.{both_none}
 use Rattle.awk_readback.specs.ReadBack.{HasBuffers, IsReadBack, PackedReadsBack, PackedIsLawful}
 use Rattle.awk_readback.specs.ReadBack.{IsHeld, PackedIsHeld}
-use Rattle.awk_readback.proofs.ValueLists.{Reads, all-at, reads-all}
-use Rattle.awk_readback.proofs.BufferParts.{as-many, neither}
+use Rattle.awk_readback.proofs.ValueLists.{Reads, reads-all}
+use Rattle.awk_readback.proofs.BufferParts.{as-many}
 use Rattle.awk_readback.proofs.HeldLaws.{distinct-held}
 use Rattle.awk_readback.proofs.LaneTexts.{packed-lanes, texts-held}
 use Rattle.awk_readback.proofs.KeyLaws.{packed-keys-distinct}
@@ -60,19 +63,6 @@ packed-whole t vs p e = by (list_any is_too_long (placed t vs)) refl e
     by true f g = absurd (cc)
     by false f g = (cc, all-fit (placed t vs) f)
 
--- ---- what is known of a type within the limits
-
-pub few-nodes : (t : DataType) → limit t ≡ None → nodes t ≤ 65536
-few-nodes t e = by (nat_lt 60 (depth t)) (nat_lt 65536 (nodes t)) (nat_lt 127 (width t)) refl e
-  where
-    by : (d n w : Bool) → nat_lt 65536 (nodes t) ≡ n
-        → cond d (Some depth_limit) (cond (n || w) (Some size_limit) None) ≡ None
-        → nodes t ≤ 65536
-    by true n w f g = absurd (cc)
-    by false true w f g = absurd (cc)
-    by false false true f g = absurd (cc)
-    by false false false f g = grind (arith, nat_tests)
-
 -- ---- the law
 
 module _ (t : DataType) (vs : List Value) (c : Container) (s : IsSimple t)
@@ -85,7 +75,7 @@ module _ (t : DataType) (vs : List Value) (c : Container) (s : IsSimple t)
       → Reads (λ i. simple_value (type_of (packed_form 0 t)) (item (packed_form 0 t) c i)) vs
   items-denoted reads j l =
       ap₂ simple_value (type-packed_form 0 t) (reads j l)
-      ∙ (simplifies t).values_stay s (get_or vs j null) (all-at (Has t) vs j h l)
+      ∙ (simplifies t).values_stay s (get_or vs j null) (all-at (Has t) vs j null h l)
 
   packed-denoted : Reads (item (packed_form 0 t) c) vs
       → denote (packed_form 0 t) (length vs) c ≡ arr t vs
@@ -94,7 +84,7 @@ module _ (t : DataType) (vs : List Value) (c : Container) (s : IsSimple t)
   packed-refusal : limit t ≡ None → broken (packed_form 0 t) (length vs) c ≡ None
       → refusal (packed_form 0 t) (length vs) c ≡ None
   packed-refusal l valid =
-      neither _ _ (ap (λ u. option_map limited (limit u)) simple-form ∙ ap (option_map limited) l)
+      both_none _ _ (ap (λ u. option_map limited (limit u)) simple-form ∙ ap (option_map limited) l)
       valid
 
 pub same-canon : (t u : DataType) (vs ws : List Value) (p : Pack) → canon t vs ≡ Ok p
@@ -147,4 +137,4 @@ packed-held t vs few h =
 
 pub packed_is_held : PackedIsHeld
 packed_is_held t vs p l h e =
-    subst IsHeld (packed-whole t vs p e).0 (packed-held t vs (few-nodes t l) h)
+    subst IsHeld (packed-whole t vs p e).0 (packed-held t vs (nodes_within t l) h)

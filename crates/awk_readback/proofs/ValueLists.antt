@@ -1,16 +1,10 @@
 -- Lists of values by place, and facts on each of them.
-use Rattle.std.proofs.Common.{◌≡◌, ◌<◌, ℕ, zero, suc, ◌+◌, List, [], ◌∷◌, ◌++◌, length, get_or, map}
+use Rattle.std.proofs.Common.{◌≡◌, ◌<◌, ℕ, suc, ◌+◌, List, [], ◌∷◌, ◌++◌, length, get_or, map}
 use Rattle.std.proofs.Common.{refl, arith, length-append, append_assoc}
 use Rattle.std.specs.List.{range_with_len, AllByRecursion}
 use Rattle.awk_types.specs.Value.{Value, null}
 
 -- ---- facts on each
-
-pub all-at : (P : Value → Type 0) (vs : List Value) (i : ℕ) → AllByRecursion P vs → i < length vs
-    → P (get_or vs i null)
-all-at P [] i h l = absurd (omega arith)
-all-at P (v ∷ vs) zero h l = h.0
-all-at P (v ∷ vs) (suc i) h l = all-at P vs i h.1 (omega arith)
 
 pub map-all : (P Q : Value → Type 0) → ((v : Value) → P v → Q v) → (vs : List Value)
     → AllByRecursion P vs → AllByRecursion Q vs

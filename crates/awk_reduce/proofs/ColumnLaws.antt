@@ -8,7 +8,7 @@ use Rattle.awk_types.specs.Value.{Value}
 use Rattle.awk_lanes.specs.Column.{Column}
 use Rattle.awk_lanes.specs.Made.{lane_of}
 use Rattle.awk_lanes.specs.Numbers.{element}
-use Rattle.awk_lanes.specs.Places.{size_of, option_place, IsOptionalIndex}
+use Rattle.awk_lanes.specs.Places.{size_of, option_place, IsOptionalIndex, index_or_null}
 use Rattle.awk_lanes.specs.declared.kind.Kind.{Kind}
 use Rattle.awk_lanes.specs.declared.kind.Kind.TheVariants as kind
 use Rattle.awk_lanes.proofs.MadeLanes.{size-lane_of, at-lane_of}
@@ -16,7 +16,6 @@ use Rattle.awk_layout.specs.Item.{leaf_value, at_option, item}
 use Rattle.awk_layout.specs.Kinds.{primitive_of}
 use Rattle.awk_layout.specs.Layout.{flat, optional}
 use Rattle.awk_axis.specs.Mapped.{IsColumn}
-use Rattle.awk_parts.specs.Lanes.{index_or_null}
 
 pub flat_column : (k : Kind) (n : ℕ) (f : ℕ → ℤ) (value : ℕ → Value) → n < 2 ^ 63
     → ((i : ℕ) → i < n → leaf_value k (element k (f i)) ≡ value i)

@@ -11,10 +11,9 @@ use Rattle.std.proofs.lemmas.Int.{ints, fold-int_min_reached, fold-int_max_reach
 use Rattle.std.proofs.lemmas.List.{get_or_default}
 use Rattle.std.proofs.lemmas.List.Quantifiers.{position-Some}
 use Rattle.std.proofs.lemmas.List.Sums.{fails_before_first}
-use Rattle.awk_numbers.specs.Folds.{first_extreme}
+use Rattle.awk_numbers.specs.Folds.{first_extreme, extreme_of}
 use Rattle.awk_numbers.specs.declared.extremes.Extreme.{Extreme}
 use Rattle.awk_numbers.specs.declared.extremes.Extreme.TheVariants.{Least, Greatest}
-use Rattle.awk_present.specs.Numbers.{extreme_of}
 
 abbrev pub IsFound : Option ℤ → List ℤ → ℕ → Type 0
 IsFound o zs q =

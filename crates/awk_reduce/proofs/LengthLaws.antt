@@ -5,9 +5,10 @@ use Rattle.std.specs.List.{range_with_len}
 use Rattle.std.proofs.lemmas.Int.{ints}
 use Rattle.std.proofs.lemmas.List.{length-map}
 use Rattle.awk_types.specs.DataType.{DataType, unknown, leaf, var, reg, rec, tup, opt, uni}
+use Rattle.awk_types.specs.Parts.{number_of}
 use Rattle.awk_types.specs.Predicates.{is_leaf}
 use Rattle.awk_types.specs.Simple.{is_option}
-use Rattle.awk_types.specs.Value.{Value, int, truth, null, list, row, alt}
+use Rattle.awk_types.specs.Value.{Value, int}
 use Rattle.awk_types.specs.declared.primitive.Primitive.TheVariants as primitive
 use Rattle.awk_lanes.specs.Made.{lane_of}
 use Rattle.awk_lanes.specs.Numbers.{nat_of}
@@ -21,11 +22,12 @@ use Rattle.awk_gather.specs.Arrays.{array_item}
 use Rattle.awk_open.proofs.ItemShapes.{present_item}
 use Rattle.awk_columns.specs.Columns.{is_present, present_values}
 use Rattle.awk_columns.specs.Lists.{Listed, AreLists, span_length}
+use Rattle.awk_columns.proofs.PresentItems.{not_null}
 use Rattle.awk_axis.specs.Mapped.{IsColumn}
 use Rattle.awk_axis.specs.declared.function.Made.TheVariants as made
 use Rattle.awk_parts.specs.Spans.{span_count, span_size, AreEnds}
 use Rattle.awk_parts.specs.declared.parts.Spans.{Spans}
-use Rattle.awk_present.specs.Numbers.{number_of, numbers}
+use Rattle.awk_present.specs.Numbers.{numbers}
 use Rattle.awk_reduce.specs.Lists.{list_in, IsReduced}
 use Rattle.awk_reduce.specs.Reducers.{reduced}
 use Rattle.awk_reduce.specs.declared.reducer.Reducer.TheVariants.{Count}
@@ -33,14 +35,6 @@ use Rattle.awk_reduce.proofs.ColumnLaws.{flat_column}
 use Rattle.awk_reduce.proofs.SpanLaws.{size-is}
 
 -- ---- items that are present
-
-not_null : (v : Value) → (v ≡ null → ⊥) → is_present v ≡ true
-not_null null h = absurd (h refl)
-not_null (int z) h = refl
-not_null (truth b) h = refl
-not_null (list vs) h = refl
-not_null (row vs) h = refl
-not_null (alt k v) h = refl
 
 leaf_plain : (t : DataType) → is_leaf t ≡ true → is_option t ≡ false
 leaf_plain unknown h = refl

@@ -1,13 +1,10 @@
 -- What is made of lists, by what is made of their items.
-use Rattle.std.specs.Prelude.{◌≡◌, ℕ, ◌<◌, ◌≤◌, refl, true, false, Bool}
-use Rattle.std.specs.Prelude.{nat_lt, List, [], length, map, sum}
-use Rattle.std.specs.Prelude.{Option, Some, None, if◌then◌else◌}
+use Rattle.std.specs.Prelude.{◌≡◌, ℕ, ◌<◌, ◌≤◌, refl, true, false, Bool, nat_lt, List, [], length}
+use Rattle.std.specs.Prelude.{map, sum, Option, Some, None, if◌then◌else◌}
 use Rattle.std.specs.List.{range_with_len, list_any}
 use Rattle.std.proofs.Common.{arith, ap, sym, ◌∙◌, subst}
-use Rattle.std.proofs.lemmas.List.Concat.{length-flat_map}
 use Rattle.std.proofs.lemmas.List.Folds.{list_any_at}
 use Rattle.std.proofs.lemmas.List.FromFn.{get_or-map-range_with_len, length-map-range_with_len}
-use Rattle.std.proofs.lemmas.List.Sums.{sum-map}
 use Rattle.std.proofs.lemmas.Simd.{map-map}
 use Rattle.awk_base.proofs.Ranges.{none-any}
 use Rattle.awk_types.specs.DataType.{DataType, unknown, leaf, var, reg, rec, tup, opt, uni}
@@ -15,6 +12,7 @@ use Rattle.awk_types.specs.ItemLimit.{item_limit}
 use Rattle.awk_types.specs.Predicates.{is_leaf}
 use Rattle.awk_types.specs.Simple.{present, is_option}
 use Rattle.awk_types.specs.Value.{Value}
+use Rattle.awk_types.proofs.ItemLimits.{nat_lt-over, nat_lt-within}
 use Rattle.awk_lanes.specs.Column.{Column}
 use Rattle.awk_lanes.specs.Counted.{before}
 use Rattle.awk_lanes.specs.Places.{size_of, at, place_at}
@@ -26,6 +24,7 @@ use Rattle.awk_gather.specs.Arrays.{array_item}
 use Rattle.awk_columns.specs.Joined.{total, IsJoined}
 use Rattle.awk_columns.specs.Lists.{Listed, items_at, all_items_at, span_length}
 use Rattle.awk_columns.specs.declared.lists.Joined.TheVariants.{TooMany}
+use Rattle.awk_columns.proofs.OffsetLaws.{counted_total}
 use Rattle.awk_axis.specs.Mapped.{IsMade, IsColumn}
 use Rattle.awk_axis.specs.declared.causes.Refusal.TheVariants as refused
 use Rattle.awk_axis.specs.declared.causes.Spoil.{Spoil}
@@ -41,19 +40,6 @@ use Rattle.awk_reduce.specs.declared.reducer.Reducer.{Reducer}
 use Rattle.awk_reduce.proofs.SpanLaws.{before-is}
 
 -- ---- counts
-
-pub over_limit : (n : ℕ) → item_limit < n → nat_lt item_limit n ≡ true
-over_limit n p = grind arith
-
-pub within_limit : (n : ℕ) → n ≤ item_limit → nat_lt item_limit n ≡ false
-within_limit n p = grind arith
-
-counted_total : (s e : Column) (y : Layout)
-    → sum (map (λ (l : List Value). length l) (all_items_at s e y)) ≡ total s e y
-counted_total s e y =
-    ap sum (map-map (λ (l : List Value). length l) (items_at s e y) (range_with_len 0 (size_of s)))
-    ∙ sum-map (λ i. length (items_at s e y i)) (range_with_len 0 (size_of s))
-    ∙ sym (length-flat_map (items_at s e y) (range_with_len 0 (size_of s)))
 
 -- the same by the lengths of lists
 pub total-before : (s e : Column) (y : Layout) → total s e y ≡ before (span_length s e) (size_of s)
@@ -80,11 +66,11 @@ module _ (how : Reducer) (s e : Column) (y : Layout) where
   counted = ap (λ n. by_count (nat_lt item_limit n)) (counted_total s e y)
 
   pub reduced_spoilt : IsJoined s e y TooMany → spoil ≡ Some Size
-  reduced_spoilt h = counted ∙ ap by_count (over_limit (total s e y) h)
+  reduced_spoilt h = counted ∙ ap by_count (nat_lt-over (total s e y) h)
 
   few_spoil : total s e y ≤ item_limit
       → spoil ≡ overflow_spoil how (array_type y) (all_items_at s e y)
-  few_spoil h = counted ∙ ap by_count (within_limit (total s e y) h)
+  few_spoil h = counted ∙ ap by_count (nat_lt-within (total s e y) h)
 
 -- no list overflows
 reduced_fine : (how : Reducer) (s e : Column) (y : Layout) → total s e y ≤ item_limit

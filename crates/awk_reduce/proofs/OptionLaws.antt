@@ -1,13 +1,13 @@
 -- Lists of leaves of which some may be null, by a lane of numbers and a way there.
-use Rattle.std.proofs.Common.{◌≡◌, ℕ, suc, ◌<◌, List, [], ◌∷◌, ◌++◌, map, get_or}
-use Rattle.std.proofs.Common.{refl, ap, ap₂, sym, ◌∙◌, arith}
-use Rattle.std.specs.Prelude.{ℤ, pos, Bool, true, false, cond, ◌&&◌, position}
-use Rattle.std.specs.Prelude.{Option, Some, None, if◌then◌else◌}
+use Rattle.std.proofs.Common.{◌≡◌, ℕ, suc, ◌<◌, List, [], ◌∷◌, ◌++◌, map, get_or, refl, ap, ap₂}
+use Rattle.std.proofs.Common.{sym, ◌∙◌, arith}
+use Rattle.std.specs.Prelude.{ℤ, pos, Bool, cond, ◌&&◌, position, Option, Some, None}
 use Rattle.std.specs.List.{range_with_len, flat_map}
 use Rattle.std.specs.Option.{option_map, option_and_then}
 use Rattle.std.specs.Ordering.{int_eq}
 use Rattle.awk_base.proofs.Lists.{position-cons}
 use Rattle.awk_types.specs.DataType.{DataType}
+use Rattle.awk_types.specs.Parts.{number_of}
 use Rattle.awk_types.specs.Value.{Value, int, truth}
 use Rattle.awk_types.specs.declared.primitive.Primitive.{Primitive}
 use Rattle.awk_lanes.specs.Column.{Column}
@@ -24,12 +24,13 @@ use Rattle.awk_gather.specs.Arrays.{array_item}
 use Rattle.awk_columns.specs.Columns.{is_present, present_values}
 use Rattle.awk_columns.specs.Lists.{Listed, span_length}
 use Rattle.awk_base.proofs.Ranges.{map-same}
-use Rattle.awk_numbers.specs.Folds.{first_extreme}
+use Rattle.awk_numbers.specs.Folds.{first_extreme, extreme_of}
+use Rattle.awk_lanes.proofs.PlaceLaws.{is_nonzero-bit}
+use Rattle.awk_lanes.proofs.CountedLanes.{one_within}
 use Rattle.awk_numbers.specs.declared.extremes.Extreme.{Extreme}
 use Rattle.awk_numbers.specs.declared.extremes.Extreme.TheVariants.{Least, Greatest}
 use Rattle.awk_parts.specs.Lanes.{some_place, place_or_zero}
-use Rattle.awk_present.specs.Numbers.{leaf_of, number_of, numbers, extreme_of, extreme_place}
-use Rattle.awk_present.specs.Numbers.{number_place}
+use Rattle.awk_present.specs.Numbers.{leaf_of, numbers, extreme_place, number_place}
 use Rattle.awk_present.proofs.FlagLaws.{leads_back}
 use Rattle.awk_present.proofs.LeafLaws.{present-leaf_value, number_of-leaf_value}
 use Rattle.awk_nullable.specs.Extremes as null
@@ -44,17 +45,12 @@ use Rattle.awk_reduce.proofs.LengthLaws.{span_place}
 use Rattle.awk_reduce.proofs.ListLaws.{total-before}
 use Rattle.awk_reduce.proofs.PlaceLaws.{none_of, some_of, item_value, place_value}
 use Rattle.awk_reduce.proofs.ReadyLaws.{AreNumbered}
-use Rattle.awk_reduce.proofs.SpanLaws.{one_few}
 
 -- ---- of one list
 
-twice : (b : Bool) → is_nonzero (pos (if b then 1 else 0)) ≡ b
-twice true = refl
-twice false = refl
-
 -- what is read of a number is the same value
 value-twice : (k : Kind) (z : ℤ) → leaf_value k (element k z) ≡ leaf_value k z
-value-twice kind.Bool z = ap truth (twice (is_nonzero z))
+value-twice kind.Bool z = ap truth (is_nonzero-bit (is_nonzero z))
 value-twice kind.I8 z = refl
 value-twice kind.I16 z = refl
 value-twice kind.I32 z = refl
@@ -63,10 +59,6 @@ value-twice kind.U8 z = refl
 value-twice kind.U16 z = refl
 value-twice kind.U32 z = refl
 value-twice kind.U64 z = refl
-
-pub same_extreme : (how : Extreme) (zs : List ℤ) → null.extreme_number how zs ≡ extreme_of how zs
-same_extreme Least zs = refl
-same_extreme Greatest zs = refl
 
 some_extreme : (how : Extreme) (z : ℤ) (zs : List ℤ) → extreme_of how (z ∷ zs) ≡ None → ⊥
 some_extreme Least z zs e = cc
@@ -179,7 +171,7 @@ module _ (l : Listed) (f : ℕ → Option ℕ) (m : ℕ) (c : Column) (r : AreLe
     few = λ i k.
         omega (
           arith,
-          one_few (span_length l.starts l.stops) n i k,
+          one_within (span_length l.starts l.stops) n i k,
           total-before l.starts l.stops l.content,
           r.few,
         );
@@ -192,10 +184,8 @@ module _ (l : Listed) (f : ℕ → Option ℕ) (m : ℕ) (c : Column) (r : AreLe
         ≡ reduced (item_reducer how) t (list_in l i)
     item_there i k =
         item_case how c.kind (leaf_of t) (numbers_at l way i)
-        (null.extreme_number how (numbers_at l way i)) r.leaves.kind
-        (sym (same_extreme how (numbers_at l way i)))
-        ∙ ap (item_or_null (leaf_of t))
-        (same_extreme how (numbers_at l way i) ∙ ap (extreme_of how) (numbers_same i k))
+        (extreme_of how (numbers_at l way i)) r.leaves.kind refl
+        ∙ ap (item_or_null (leaf_of t)) (ap (extreme_of how) (numbers_same i k))
         ∙ item_value how t (list_in l i)
 
     place_same : (i : ℕ) → i < n
@@ -204,7 +194,7 @@ module _ (l : Listed) (f : ℕ → Option ℕ) (m : ℕ) (c : Column) (r : AreLe
     place_same i k =
         ap (option_and_then (null.number_place way (place_at l.starts i)
         (span_length l.starts l.stops i)))
-        (same_extreme how (numbers_at l way i) ∙ ap (extreme_of how) (numbers_same i k))
+        (ap (extreme_of how) (numbers_same i k))
         ∙ by (extreme_of how (numbers (list_in l i)))
       where
         by : (o : Option ℤ)

@@ -1,11 +1,10 @@
 -- What is made of lists whose items' numbers are ready: extremes and their places.
-use Rattle.std.proofs.Common.{◌≡◌, ℕ, ◌<◌, length, map, get_or, List, [], ◌∷◌, refl}
-use Rattle.std.proofs.Common.{ap, sym, ◌∙◌, subst}
+use Rattle.std.proofs.Common.{◌≡◌, ℕ, ◌<◌, length, map, get_or, List, [], ◌∷◌, refl, ap, sym, ◌∙◌}
+use Rattle.std.proofs.Common.{subst, arith}
 use Rattle.std.specs.Prelude.{ℤ, pos, false, position, Option, Some, None}
 use Rattle.std.specs.List.{slice_range}
 use Rattle.std.specs.Option.{option_and_then}
 use Rattle.std.specs.Ordering.{int_eq}
-use Rattle.std.proofs.Common.{arith}
 use Rattle.std.proofs.lemmas.List.{get_or-map, length-map}
 use Rattle.awk_types.specs.DataType.{DataType, leaf, opt}
 use Rattle.awk_types.specs.Value.{Value, int}
@@ -14,8 +13,10 @@ use Rattle.awk_types.specs.declared.primitive.Primitive.TheVariants as primitive
 use Rattle.awk_lanes.specs.Column.{Column}
 use Rattle.awk_lanes.specs.Made.{lane_of}
 use Rattle.awk_lanes.specs.Numbers.{element}
+use Rattle.awk_lanes.specs.Places.{index_or_null}
 use Rattle.awk_lanes.specs.declared.kind.Kind.{Kind}
 use Rattle.awk_lanes.specs.declared.kind.Kind.TheVariants.{I64}
+use Rattle.awk_lanes.proofs.PlaceLaws.{element-element}
 use Rattle.awk_layout.specs.Item.{leaf_value, at_option}
 use Rattle.awk_layout.specs.Kinds.{kind_of, primitive_of, primitive_of-kind_of}
 use Rattle.awk_layout.specs.Layout.{Layout, flat, optional}
@@ -23,16 +24,15 @@ use Rattle.awk_layout.specs.Typing.{array_type}
 use Rattle.awk_axis.specs.Mapped.{IsColumn}
 use Rattle.awk_columns.specs.Lists.{Listed}
 use Rattle.awk_axis.specs.declared.function.Made.TheVariants as made
-use Rattle.awk_numbers.specs.Folds.{lane_numbers, first_extreme}
+use Rattle.awk_numbers.specs.Folds.{lane_numbers, first_extreme, extreme_of}
 use Rattle.awk_numbers.specs.declared.extremes.Extreme.{Extreme}
 use Rattle.awk_numbers.specs.declared.extremes.Extreme.TheVariants.{Least, Greatest}
 use Rattle.awk_numbers.proofs.PartLaws.{slice_range-map}
-use Rattle.awk_parts.specs.Lanes.{extreme_at, local_at, present_at, number_or_zero}
-use Rattle.awk_parts.specs.Lanes.{index_or_null, some_place, place_or_zero}
+use Rattle.awk_parts.specs.Lanes.{extreme_at, local_at, present_at, number_or_zero, some_place}
+use Rattle.awk_parts.specs.Lanes.{place_or_zero}
 use Rattle.awk_parts.specs.Spans.{start_of, stop_of, span_count, span_part}
 use Rattle.awk_parts.specs.declared.parts.Spans.{Spans}
-use Rattle.awk_present.specs.Numbers.{leaf_of, numbers, number_place, extreme_of, extreme_place}
-use Rattle.awk_present.proofs.LeafLaws.{element-twice}
+use Rattle.awk_present.specs.Numbers.{leaf_of, numbers, number_place, extreme_place}
 use Rattle.awk_reduce.specs.Lists.{list_in, AreReady, IsReduced}
 use Rattle.awk_reduce.specs.Reduce.{overflows}
 use Rattle.awk_reduce.specs.Reducers.{reduced, reduced_type, item_or_null, place_or_null}
@@ -93,7 +93,7 @@ read_twice : (k : Kind) (ys : List ℤ) (q : ℕ) → q < length (map (element k
 read_twice k ys q l =
     let here = get_or-map (element k) ys q (pos 0) (pos 0)
     (omega (arith, l, length-map ys (element k))) in
-    ap (element k) here ∙ element-twice k (get_or ys q (pos 0)) ∙ sym here
+    ap (element k) here ∙ element-element k (get_or ys q (pos 0)) ∙ sym here
 
 -- the item that is the extreme of numbers, or null
 item_case : (how : Extreme) (k : Kind) (p : Primitive) (zs : List ℤ) (f : Option ℕ)

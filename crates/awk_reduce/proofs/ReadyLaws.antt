@@ -20,7 +20,8 @@ use Rattle.awk_numbers.specs.declared.folds.Fold.{Fold}
 use Rattle.awk_numbers.specs.declared.folds.Fold.TheVariants as fold
 use Rattle.awk_numbers.specs.declared.tallies.Tally.{Tally}
 use Rattle.awk_numbers.specs.declared.tallies.Tally.TheVariants as tally
-use Rattle.awk_parts.specs.Fits.{fits, AreFitting}
+use Rattle.awk_primitives.specs.Fits.{fits}
+use Rattle.awk_parts.specs.Fits.{AreFitting}
 use Rattle.awk_columns.specs.Lists.{Listed}
 use Rattle.awk_parts.specs.Spans.{span_count, span_part}
 use Rattle.awk_present.specs.Numbers.{leaf_of, numbers}

@@ -1,31 +1,17 @@
 -- Parts of numbers by starts and stops.
-use Rattle.std.proofs.Common.{◌≡◌, ℕ, zero, suc, ◌+◌, ◌-◌, ◌<◌, ◌≤◌, List, length, refl}
-use Rattle.std.proofs.Common.{ap, ap₂, sym, ◌∙◌, subst, arith}
+use Rattle.std.proofs.Common.{◌≡◌, ℕ, ◌-◌, ◌<◌, ◌≤◌, List, length, ap, ap₂, sym, ◌∙◌, subst, arith}
 use Rattle.std.specs.Prelude.{ℤ}
-use Rattle.std.proofs.lemmas.Int.{ints}
 use Rattle.awk_types.specs.ItemLimit.{item_limit}
 use Rattle.awk_lanes.specs.Column.{Column}
 use Rattle.awk_lanes.specs.Counted.{before}
 use Rattle.awk_lanes.specs.Numbers.{nat_of}
 use Rattle.awk_lanes.specs.Places.{size_of, at, place_at, IsSpan, AreSpans}
-use Rattle.awk_lanes.proofs.CountedLanes.{before-next, before_mono}
+use Rattle.awk_lanes.proofs.CountedLanes.{before-same, one_within}
+use Rattle.awk_lanes.proofs.PlaceLaws.{span-wider}
 use Rattle.awk_columns.specs.Lists.{span_length}
 use Rattle.awk_parts.specs.Spans.{end_at, start_of, stop_of, span_count, span_size}
 use Rattle.awk_parts.specs.Spans.{AreEnds, AreOrdered, AreSpanned}
 use Rattle.awk_parts.specs.declared.parts.Spans.{Spans}
-
-wider : (n m : ℕ) (a b : ℤ) → n ≤ m → IsSpan n a b → IsSpan m a b
-wider n m a b l h d = let f = h d in (f.0, f.1, omega (arith, ints, f.2, l))
-
-pub before_same : (f g : ℕ → ℕ) (n : ℕ) → ((i : ℕ) → i < n → f i ≡ g i) → before f n ≡ before g n
-before_same f g zero h = refl
-before_same f g (suc n) h =
-    ap₂ (λ a b. a + b) (before_same f g n (λ i l. h i (omega (arith, l)))) (h n (omega arith))
-
--- one of so many is no more than all together
-pub one_few : (f : ℕ → ℕ) (n i : ℕ) → i < n → f i ≤ before f n
-one_few f n i l =
-    omega (arith, before-next f i, before_mono f (i + 1) n (omega (arith, l)))
 
 -- ---- by starts and stops
 
@@ -49,7 +35,7 @@ module _ (s t : Column) (p : Spans) (ends : AreEnds (size_of s) (at s) (at t) p)
   pub before-is : before (span_size p) (span_count p) ≡ before (span_length s t) (size_of s)
   before-is =
       ap (before (span_size p)) ends.starts
-      ∙ before_same (span_size p) (span_length s t) (size_of s) size-is
+      ∙ before-same (span_size p) (span_length s t) (size_of s) size-is
 
   pub ends_ordered : (n m : ℕ) → AreSpans s t n → n ≤ m → AreOrdered m p
   ends_ordered n m spans l = record {
@@ -58,12 +44,12 @@ module _ (s t : Column) (p : Spans) (ends : AreEnds (size_of s) (at s) (at t) p)
         let k' : i < size_of s = omega (arith, k, ends.starts) in
         subst (λ a. IsSpan m a (end_at p.stops.now i)) (sym (ends.start i k'))
         (subst (λ b. IsSpan m (at s i) b) (sym (ends.stop i k'))
-        (wider n m (at s i) (at t i) l (spans.ordered i k')));
+        (span-wider n m (at s i) (at t i) l (spans.ordered i k')));
   }
 
   pub ends_spanned : (zs : List ℤ) → AreSpans s t (length zs)
       → before (span_size p) (span_count p) ≤ item_limit → AreSpanned zs p
   ends_spanned zs spans few = record {
     ordered = ends_ordered (length zs) (length zs) spans (omega arith);
-    few = λ i l. omega (arith, one_few (span_size p) (span_count p) i l, few);
+    few = λ i l. omega (arith, one_within (span_size p) (span_count p) i l, few);
   }

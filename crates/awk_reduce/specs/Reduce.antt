@@ -16,7 +16,7 @@ use Rattle.awk_axis.specs.declared.causes.Refusal.TheVariants as refused
 use Rattle.awk_axis.specs.declared.causes.Spoil.{Spoil}
 use Rattle.awk_axis.specs.declared.causes.Spoil.TheVariants.{Size, Overflow}
 use Rattle.awk_numbers.specs.Folds.{product}
-use Rattle.awk_parts.specs.Fits.{fits}
+use Rattle.awk_primitives.specs.Fits.{fits}
 use Rattle.awk_present.specs.Numbers.{leaf_of, numbers}
 use Rattle.awk_reduce.specs.declared.reducer.Reducer.{Reducer}
 use Rattle.awk_reduce.specs.declared.reducer.Reducer.TheVariants.{Sum, Prod}

@@ -9,9 +9,9 @@ use Rattle.awk_lanes.specs.Numbers.{is_nonzero}
 use Rattle.awk_layout.specs.Item.{leaf_value}
 use Rattle.awk_layout.specs.Kinds.{kind_of}
 use Rattle.awk_kernels.specs.Kernels.{total}
-use Rattle.awk_numbers.specs.Folds.{product}
+use Rattle.awk_numbers.specs.Folds.{product, extreme_of}
 use Rattle.awk_numbers.specs.declared.extremes.Extreme.TheVariants.{Least, Greatest}
-use Rattle.awk_present.specs.Numbers.{leaf_of, numbers, extreme_of, extreme_place}
+use Rattle.awk_present.specs.Numbers.{leaf_of, numbers, extreme_place}
 use Rattle.awk_reduce.specs.declared.reducer.Reducer.{Reducer}
 use Rattle.awk_reduce.specs.declared.reducer.Reducer.TheVariants.{Sum, Prod, Min, Max}
 use Rattle.awk_reduce.specs.declared.reducer.Reducer.TheVariants.{Argmin, Argmax, Any, All}

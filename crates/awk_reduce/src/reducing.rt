@@ -20,7 +20,7 @@ use crate::nullable::reduced_opened;
 use crate::ready::ReadyLists;
 use crate::reducer::Reducer;
 use crate::totals::{folds, tallies};
-use crate::types::{are_leaves, reduced_typ};
+use crate::types::reduced_typ;
 use awk_axis::{ListOp, Made, Refusal, Spoil, lift_deep};
 use awk_columns::{Bounds, Lists};
 use awk_kernels::Kernels;
@@ -30,7 +30,7 @@ use awk_nullable_lists::nullable_of;
 use awk_numbers::{Extreme, Fold, Tally};
 use awk_parts::{Spans, spans_of};
 use awk_present::leaves_of;
-use awk_types::{Fault, NoMemory, Typ, is_leaf};
+use awk_types::{Fault, NoMemory, Typ, are_leaves, is_leaf};
 use std::alloc::Global;
 use std::sync::ledger::Ledger;
 

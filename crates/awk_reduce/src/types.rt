@@ -1,24 +1,12 @@
 //! What types reducers take, and what they give.
 ghost use Rattle.std.specs.Prelude.{◌≡◌, IfOk};
-ghost use Rattle.awk_types.specs.Simple.{present};
 ghost use Rattle.awk_types.specs.View.{typ_of};
-ghost use Rattle.awk_types.specs.Predicates as predicates;
 ghost use Rattle.awk_present.specs.Numbers as numbers;
 ghost use Rattle.awk_reduce.specs.Reducers as spec;
 
 use crate::reducer::Reducer;
-use awk_types::{NoMemory, Prim, Typ, is_leaf};
+use awk_types::{NoMemory, Prim, Typ};
 use std::alloc::Global;
-
-/// Whether items of a type are leaves, optional or not.
-pub(crate) fn are_leaves(t: &Typ) -> bool
-    ensures { result ≡ predicates.is_leaf (present (typ_of t.now)) }
-{
-    match t {
-        Typ::Opt(inner) => is_leaf(inner),
-        _ => is_leaf(t),
-    }
-}
 
 /// The leaf of a type, its option dropped.
 pub(crate) fn leaf_of(t: &Typ) -> Prim

@@ -1,5 +1,5 @@
 -- A made session, whose bytes a source gave that never fails.
-use Rattle.std.proofs.Common.{◌≡◌, ◌≢◌, ◌≤◌, inl, inr, ℕ, ◌+◌, ◌-◌, Bool, List, [], ◌∷◌, ◌++◌}
+use Rattle.std.proofs.Common.{◌≡◌, ◌≤◌, inl, inr, ℕ, ◌+◌, Bool, List, [], ◌∷◌, ◌++◌}
 use Rattle.std.proofs.Common.{refl, ap, sym, ◌∙◌, subst, arith, Option, Some, None}
 use Rattle.std.proofs.Common.{append_assoc, append-nil, IsTrue, decimal, String}
 use Rattle.std.specs.declared.alloc.Global.{Global}
@@ -15,7 +15,7 @@ use Rattle.awk_framing.specs.Framing.{session_framing, session_units, ended_sess
 use Rattle.awk_session.specs.Replies.{answers}
 use Rattle.awk_run.specs.Flushes.{fronts}
 use Rattle.awk_run.specs.Words.{IsMake}
-use Rattle.awk_run.specs.Session.{Session, Says, MadeSession, IsMadeEnd, IsWhole, IsCut}
+use Rattle.awk_run.specs.Session.{Session, Says, MadeSession, IsWhole, IsCut}
 use Rattle.awk_run.specs.Session.{HasFirstAnswers, AreAnswered, MayBeAnswered, IsComplete, IsWithin}
 use Rattle.awk_run.specs.declared.run.Status.{Status}
 use Rattle.awk_run.specs.declared.run.Status.TheVariants.{Fine, Faults, Words, Read, Write, Memory}
@@ -206,26 +206,6 @@ made_nothing made written flushes steps = record {
   whole = λ _. inr refl;
   cost = λ plain. omega arith;
 }
-
--- the run of a made session is complete unless memory was wanting or the sink failed
-pub complete_made : {made : List ℕ} {written0 written1 : Option (List ℕ)} {flushes0 flushes1 : List
-    (Option (List ℕ))} {steps0 steps1 : ℕ} (status : Status)
-    → MadeSession made written0 written1 flushes0 flushes1 steps0 steps1 status → status ≢ Memory
-    → (status ≡ Write → ⊥) → IsComplete status
-complete_made Fine s m w = inl refl
-complete_made Faults s m w = inr refl
-complete_made Words s m w = absurd s.ends
-complete_made Read s m w = absurd s.ends
-complete_made Write s m w = absurd (w refl)
-complete_made Memory s m w = absurd (m refl)
-complete_made LineTooLong s m w = absurd s.ends
-complete_made TooManyLines s m w = absurd s.ends
-
--- a made session has no other ends
-pub not_words : {made : List ℕ} {written0 written1 : Option (List ℕ)} {flushes0 flushes1 : List
-    (Option (List ℕ))} {steps0 steps1 : ℕ} (status : Status)
-    → MadeSession made written0 written1 flushes0 flushes1 steps0 steps1 status → status ≢ Words
-not_words status s e = subst IsMadeEnd e s.ends
 
 -- a source that never fails has no count that rose
 pub never_rose : Rose 0 0 → ⊥

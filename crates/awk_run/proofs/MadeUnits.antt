@@ -12,7 +12,8 @@ use Rattle.awk_edge.specs.Lines.{AreLines, line_limit, lines_limit}
 use Rattle.awk_edge.specs.UnitLimits.{IsSmall}
 use Rattle.awk_edge.specs.Units.{raw_limit, is_whole, is_small, whole_units}
 use Rattle.awk_edge.proofs.PlainUnits.{plain_unit, plain_units, AskForNone, units-plain}
-use Rattle.awk_edge.proofs.UnitLaws.{whole_units-nil}
+use Rattle.awk_edge.proofs.UnitLaws.{whole_units-nil, whole_units-cons}
+use Rattle.awk_edge.proofs.LineLaws.{few_lines}
 use Rattle.awk_made.specs.Draws.{events}
 use Rattle.awk_made.specs.Session.{load_line, pairs_line, opposite_line, total_line, type_line}
 use Rattle.awk_made.specs.Session.{count_line, sum_line, max_line, session_lines, session_of}
@@ -23,7 +24,6 @@ use Rattle.awk_query.specs.declared.reading.Reading.TheVariants.{First}
 use Rattle.awk_framing.specs.Framing.{raw_asked, session_framing, session_units, ended_session}
 use Rattle.awk_framing.proofs.Asked.{has_five, raw_asked-first, raw_asked-few}
 use Rattle.awk_run.specs.Session.{IsWithin}
-use Rattle.awk_units.proofs.UnitEnds.{whole_units-cons}
 
 -- ---- no line of it asks for raw bytes
 
@@ -95,10 +95,6 @@ all_whole zero (l ∷ ls) a h = absurd (omega arith)
 all_whole (suc n) (l ∷ ls) a h =
     whole_units-cons n (plain_unit l) (plain_units ls) (passes l a.0.1)
     ∙ ap (λ us. plain_unit l ∷ us) (all_whole n ls a.1 (omega arith))
-
-few_lines : 8 ≤ lines_limit
-unfolding lines_limit
-few_lines = omega arith
 
 -- ---- the made session
 

@@ -1,5 +1,4 @@
 pub mod Worked
 pub mod RangePlaces
-pub mod CellLaws
 pub mod PickedPlaces
 pub mod PickAnswers

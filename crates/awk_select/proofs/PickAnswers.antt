@@ -1,19 +1,18 @@
 -- What masks and indexes answer: the first refusal, or the items.
 use Rattle.std.proofs.Common.{◌≡◌, ℕ, ◌<◌, ◌≤◌, List, length, refl, ap, ap₂, sym, ◌∙◌, subst}
 use Rattle.std.proofs.Common.{eq-eqb, ne_eqb}
-use Rattle.std.specs.Prelude.{true, false, Option, Some, None, option_map, Result, Ok, Err}
-use Rattle.std.specs.Prelude.{if◌then◌else◌}
+use Rattle.std.specs.Prelude.{true, false, Some, None, Result, Ok, Err, if◌then◌else◌}
 use Rattle.std.specs.List.{list_any}
 use Rattle.awk_types.specs.DataType.{DataType}
 use Rattle.awk_types.specs.Datum.{Datum, arr}
-use Rattle.awk_types.specs.Faults.{limit_fault, fault_told}
+use Rattle.awk_types.specs.Faults.{fault_told}
 use Rattle.awk_types.specs.Gives.{Gives, refused_or, ◌or◌}
-use Rattle.awk_types.specs.Limit.{Limit, limit}
 use Rattle.awk_types.specs.Value.{Value}
 use Rattle.awk_types.specs.ItemLimit.{item_limit, too_many}
 use Rattle.awk_types.specs.declared.fault.Fault.{Fault}
 use Rattle.awk_types.specs.declared.fault.Fault.TheVariants.{Lengths, Index, Size}
-use Rattle.awk_types.proofs.RefusalLaws.{refused_or-Ok, refused_or-None}
+use Rattle.awk_types.proofs.RefusalLaws.{refused_or-None}
+use Rattle.awk_types.proofs.ItemLimits.{over_limit, within_limit}
 use Rattle.awk_lanes.specs.Column.{Column}
 use Rattle.awk_lanes.specs.declared.kind.Kind.TheVariants.{I64}
 use Rattle.awk_layout.specs.Layout.{Layout}
@@ -22,22 +21,10 @@ use Rattle.awk_layout.specs.Typing.{array_type, array_items, array_datum}
 use Rattle.awk_layout.proofs.ArrayItems.{length-array_items}
 use Rattle.awk_gather.specs.Arrays.{pick}
 use Rattle.awk_lanes.specs.Made.{lane_of}
-use Rattle.awk_columns.proofs.ItemLimits.{over_limit, within_limit}
 use Rattle.awk_select.specs.Cells.{places_lane, take_number}
-use Rattle.awk_select.specs.Picks.{picked, picked_type, limit_refused}
-use Rattle.awk_select.specs.Picks.{mask_places, alike}
-use Rattle.awk_select.specs.Picks.{take_places, is_outside, index_refused}
+use Rattle.awk_select.specs.Picks.{picked, picked_type, mask_places, alike, take_places, is_outside}
+use Rattle.awk_select.specs.Picks.{index_refused}
 use Rattle.awk_select.proofs.PickedPlaces.{pick-picked, take-lane}
-
--- ---- parts of refusals
-
-no_limit : (o : Option Limit) → option_map limit_fault o ≡ None → o ≡ None
-no_limit None h = refl
-no_limit (Some l) h = absurd (cc)
-
--- a type that is judged well passes no limit
-pub judged : (t : DataType) → refused_or (limit_refused t) (tt {0}) ≡ Ok (tt {0}) → limit t ≡ None
-judged t h = no_limit (limit t) (refused_or-Ok (limit_refused t) (tt {0}) (tt {0}) h).0
 
 -- ---- masks
 

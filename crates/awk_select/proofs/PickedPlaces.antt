@@ -11,7 +11,7 @@ use Rattle.std.proofs.lemmas.List.Folds.{list_any_more}
 use Rattle.std.proofs.lemmas.Bool.{or_parts}
 use Rattle.std.proofs.lemmas.Simd.{map-map}
 use Rattle.awk_base.proofs.Lists.{map-by}
-use Rattle.awk_base.proofs.Every.{all-each}
+use Rattle.awk_base.proofs.Every.{all-each, all-at}
 use Rattle.awk_types.specs.DataType.{DataType, unknown, leaf, var, reg, rec, tup, opt, uni}
 use Rattle.awk_types.specs.Has.{Has}
 use Rattle.awk_types.specs.Simple.{is_option, present, simple_value}
@@ -236,12 +236,6 @@ mask_place-there n k (list vs) t h = tt
 mask_place-there n k (row vs) t h = tt
 mask_place-there n k (alt j v) t h = tt
 
-pub has-at : (P : Value → Type 0) (vs : List Value) (i : ℕ) → AllByRecursion P vs → i < length vs
-    → P (get_or vs i null)
-has-at P [] i h l = absurd (omega arith)
-has-at P (v ∷ vs) zero h l = h.0
-has-at P (v ∷ vs) (suc i) h l = has-at P vs i h.1 (omega arith)
-
 -- a mask that is not optional is of truth values
 truths-of : (t : DataType) → is_mask t ≡ true → is_option t ≡ false → t ≡ leaf Truths
 truths-of unknown m o = absurd (true≢false (sym m))
@@ -267,7 +261,7 @@ mask_places-there n t ms e m o h =
     let h' : AllByRecursion (Has (leaf Truths)) ms = subst (λ u. AllByRecursion (Has u) ms)
     (truths-of t m o) h in
     all-each (IsThere n) (λ k. mask_place k (get_or ms k null)) 0 (length ms) (λ i l.
-    mask_place-there n i (get_or ms i null) (has-at (Has (leaf Truths)) ms i h' (omega arith))
+    mask_place-there n i (get_or ms i null) (all-at (Has (leaf Truths)) ms i null h' (omega arith))
     (omega arith))
 
 -- ---- each place that an index names

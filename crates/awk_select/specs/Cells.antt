@@ -1,14 +1,13 @@
 -- The numbers or truth values of an array as lanes, with its nulls.
-use Rattle.std.specs.Prelude.{◌≡◌, ℕ, ◌<◌, ℤ, pos, negsuc, List, [], ◌∷◌, map}
-use Rattle.std.specs.Prelude.{Option, Some, None}
-use Rattle.awk_types.specs.Value.{Value, int, truth, null}
+use Rattle.std.specs.Prelude.{◌≡◌, ℕ, ◌<◌, ℤ, pos, negsuc, List, [], ◌∷◌, map, Option, Some, None}
+use Rattle.awk_types.specs.Value.{Value, null}
 use Rattle.awk_lanes.specs.Column.{Column}
 use Rattle.awk_lanes.specs.Numbers.{int_of}
 use Rattle.awk_lanes.specs.Places.{size_of, at, option_place_at, IsOptionKind}
 use Rattle.awk_lanes.specs.declared.kind.Kind.TheVariants.{I64}
 use Rattle.awk_lanes.specs.declared.kind.Num.{Num}
-use Rattle.awk_lanes.specs.declared.kind.Num.TheVariants.{Int, Nat, Truth}
 use Rattle.awk_layout.specs.Layout.{Layout}
+use Rattle.awk_layout.specs.Shown.{value_of_num}
 use Rattle.awk_layout.specs.Valid.{len}
 use Rattle.awk_layout.specs.Item.{leaf_value, at_option}
 use Rattle.awk_gather.specs.Arrays.{array_item}
@@ -16,15 +15,9 @@ use Rattle.awk_select.specs.Picks.{mask_place, take_place}
 use Rattle.awk_select.specs.declared.cells.Cells.{Cells}
 use Rattle.awk_select.specs.declared.cells.Cells.TheVariants.{Nulls, Plain, Optional}
 
--- the value that a number in code is
-abbrev pub number_value : Num → Value
-number_value (Int z) = int z
-number_value (Nat n) = int (pos n)
-number_value (Truth b) = truth b
-
 abbrev pub cell_shown : Option Num → Value
 cell_shown None = null
-cell_shown (Some x) = number_value x
+cell_shown (Some x) = value_of_num x
 
 -- the value at a place
 abbrev pub cell_value : Cells → ℕ → Value

@@ -1,15 +1,13 @@
 -- Picks of a datum: the item at a place, a range of any step, and the items that a mask or an index
 -- names.
 use Rattle.std.specs.Prelude.{ℕ, ◌==◌, ℤ, Bool, true, false, List, [], ◌∷◌, length, map, get_or}
-use Rattle.std.specs.Prelude.{Option, Some, None, is_none, option_map, Result, Ok, Err}
-use Rattle.std.specs.Prelude.{if◌then◌else◌}
+use Rattle.std.specs.Prelude.{Option, Some, None, is_none, Result, Ok, Err, if◌then◌else◌}
 use Rattle.std.specs.List.{range_with_len, flat_map, list_any}
 use Rattle.awk_types.specs.DataType.{DataType, leaf, opt}
 use Rattle.awk_types.specs.Value.{Value, int, truth, null}
 use Rattle.awk_types.specs.Datum.{Datum, arr, one}
-use Rattle.awk_types.specs.Faults.{limit_fault}
+use Rattle.awk_types.specs.Faults.{wrong_unless, limit_refused}
 use Rattle.awk_types.specs.Gives.{refused_or, ◌or◌}
-use Rattle.awk_types.specs.Limit.{limit}
 use Rattle.awk_types.specs.Settle.{settle}
 use Rattle.awk_types.specs.Simple.{is_option, present, simple}
 use Rattle.awk_types.specs.WholeNumbers.{is_numbers}
@@ -51,12 +49,6 @@ picked vs places = map (λ o. at_option o (λ k. get_or vs k null)) places
 abbrev pub picked_type : DataType → DataType → DataType
 picked_type u t = if is_option u then simple (opt t) else t
 
-abbrev pub type_refused : Bool → Option Fault
-type_refused allowed = if allowed then None else Some WrongType
-
-abbrev pub limit_refused : DataType → Option Fault
-limit_refused t = option_map limit_fault (limit t)
-
 -- ---- a mask
 
 abbrev pub is_truths : DataType → Bool
@@ -84,7 +76,7 @@ lengths_refused n m = if n == m then None else Some Lengths
 -- why items of type t are not masked by others of type u
 abbrev pub mask_refused : DataType → List Value → DataType → List Value → Option Fault
 mask_refused t vs u ms =
-    type_refused (is_mask u)
+    wrong_unless (is_mask u)
     or (limit_refused (picked_type u t)
     or (lengths_refused (length vs) (length ms) or too_many (length (mask_places ms))))
 
@@ -128,7 +120,7 @@ index_refused n ws = if list_any (is_outside n) ws then Some Index else None
 -- why items of type t are not taken by an index of type u
 abbrev pub take_refused : DataType → List Value → DataType → List Value → Option Fault
 take_refused t vs u ws =
-    type_refused (is_index u)
+    wrong_unless (is_index u)
     or (limit_refused (picked_type u t)
     or (index_refused (length vs) ws or too_many (length ws)))
 

@@ -10,11 +10,12 @@ ghost use Rattle.awk_types.specs.ItemLimit.{too_many};
 ghost use Rattle.awk_lanes.specs.Numbers.{int_of, IsOf};
 ghost use Rattle.awk_lanes.specs.declared.kind.Kind.TheVariants as Kind;
 ghost use Rattle.awk_layout.specs.Datum.{IsDatum, datum_of};
+ghost use Rattle.awk_layout.specs.Shown.{value_of_num};
 ghost use Rattle.awk_layout.specs.Typing.{array_type, array_items, array_datum};
 ghost use Rattle.awk_layout.specs.Valid.{len};
 ghost use Rattle.awk_gather.specs.Arrays.{array_item};
 ghost use Rattle.awk_lanes.specs.Made.{lane_of};
-ghost use Rattle.awk_select.specs.Cells.{AreCells, number_value, take_number};
+ghost use Rattle.awk_select.specs.Cells.{AreCells, take_number};
 ghost use Rattle.awk_select.specs.Picks as picks;
 ghost use Rattle.awk_select.specs.Picks.{take_of, take_places, is_outside, index_refused};
 ghost use Rattle.awk_select.specs.Picks.{picked, picked_type};
@@ -109,7 +110,7 @@ fn taken_items<'a, L: Ledger>(
 
 // Whether a number of an index names a place of n items.
 fn names_place(n: u64, x: Num) -> bool
-    ensures { not result ≡ is_outside n (number_value x) }
+    ensures { not result ≡ is_outside n (value_of_num x) }
 {
     match x {
         Num::Int(i) => place_in(n, i).is_some(),

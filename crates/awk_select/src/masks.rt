@@ -9,9 +9,10 @@ ghost use Rattle.awk_types.specs.ItemLimit.{too_many};
 ghost use Rattle.awk_lanes.specs.Numbers.{IsOf};
 ghost use Rattle.awk_lanes.specs.declared.kind.Kind.TheVariants as Kind;
 ghost use Rattle.awk_layout.specs.Datum.{IsDatum, datum_of};
+ghost use Rattle.awk_layout.specs.Shown.{value_of_num};
 ghost use Rattle.awk_layout.specs.Typing.{array_type, array_items, array_datum};
 ghost use Rattle.awk_layout.specs.Valid.{len};
-ghost use Rattle.awk_select.specs.Cells.{AreCells, number_value, place_number, places_lane};
+ghost use Rattle.awk_select.specs.Cells.{AreCells, place_number, places_lane};
 ghost use Rattle.awk_select.specs.Cells.{mask_numbers, numbers_shown};
 ghost use Rattle.awk_select.specs.Picks as picks;
 ghost use Rattle.awk_select.specs.Picks.{alike, mask_of, mask_place, mask_places};
@@ -132,7 +133,7 @@ fn masked_items<'a, L: Ledger>(
 fn kept_number(i: u64, x: Num) -> Option<Num>
     requires { i < 2 ^ 63 }
     ensures kind { IfSome result (λ z. IsOf Kind.I64 z) }
-    ensures numbers { numbers_shown result ≡ map place_number (mask_place i (number_value x)) }
+    ensures numbers { numbers_shown result ≡ map place_number (mask_place i (value_of_num x)) }
 {
     match x {
         Num::Truth(b) => { if b { Some(number(i)) } else { None } }

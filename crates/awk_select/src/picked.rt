@@ -2,7 +2,7 @@
 ghost use Rattle.std.specs.Prelude.{◌≡◌, false, None, Ok};
 ghost use Rattle.awk_types.specs.DataType.{opt};
 ghost use Rattle.awk_types.specs.Datum.{arr};
-ghost use Rattle.awk_types.specs.Faults.{fault_told};
+ghost use Rattle.awk_types.specs.Faults.{fault_told, limit_refused};
 ghost use Rattle.awk_types.specs.Gives.{Gives, refused_or};
 ghost use Rattle.awk_types.specs.Limit.{limit};
 ghost use Rattle.awk_types.specs.Simple.{is_option, simple};
@@ -12,7 +12,7 @@ ghost use Rattle.awk_lanes.specs.declared.kind.Kind.TheVariants as Kind;
 ghost use Rattle.awk_layout.specs.Typing.{array_type, array_items, array_datum};
 ghost use Rattle.awk_layout.specs.Valid.{len};
 ghost use Rattle.awk_gather.specs.Arrays.{pick as items_at};
-ghost use Rattle.awk_select.specs.Picks.{picked_type, limit_refused};
+ghost use Rattle.awk_select.specs.Picks.{picked_type};
 
 use awk_gather::{gather, gather_opt};
 use awk_lanes::{Arena, Lane, Steps};

@@ -1,6 +1,6 @@
 //! Places that are counted from either end, bounds of ranges, and places as numbers of lanes.
 ghost use Rattle.std.specs.Prelude.{◌≡◌, ◌+◌, ◌-◌, ◌<◌, ◌≤◌, pos};
-ghost use Rattle.awk_select.specs.Cells.{number_value};
+ghost use Rattle.awk_layout.specs.Shown.{value_of_num};
 ghost use Rattle.awk_select.specs.Picks.{take_place};
 ghost use Rattle.awk_select.specs.Places as places;
 
@@ -26,7 +26,7 @@ fn below(n: u64, k: u64) -> Option<u64>
 
 /// The place of n items that a number of an index names.
 pub fn place_of(n: u64, x: Num) -> Option<u64>
-    ensures { result ≡ take_place n (number_value x) }
+    ensures { result ≡ take_place n (value_of_num x) }
 {
     match x {
         Num::Int(i) => place_in(n, i),

@@ -1,8 +1,7 @@
 -- Lanes that are chosen by the comparison of two vectors.
-use Rattle.std.proofs.Common.{◌≡◌, ℕ, zero, suc, ◌+◌, ◌-◌, ◌<◌, ◌≤◌, Bool, true, false, cond}
-use Rattle.std.proofs.Common.{List, [], ◌∷◌, map, length, get_or, replicate}
-use Rattle.std.proofs.Common.{refl, sym, ap, ap₂, ◌∙◌, arith, w64}
-use Rattle.std.specs.Simd.Lanes.{chunk, put_chunk, zip2, sel_l, top, Each1}
+use Rattle.std.proofs.Common.{◌≡◌, ℕ, ◌+◌, ◌-◌, ◌<◌, ◌≤◌, Bool, true, false, cond, List, [], ◌∷◌}
+use Rattle.std.proofs.Common.{map, length, get_or, sym, ap, ◌∙◌, arith, w64}
+use Rattle.std.specs.Simd.Lanes.{put_chunk, zip2, sel_l, top, Each1}
 use Rattle.std.proofs.lemmas.List.{get_or-map, length-map}
 use Rattle.std.proofs.lemmas.Simd.{tops_compared, length-zip2, get_or-zip2, get_or-put_chunk_at}
 use Rattle.std.proofs.lemmas.Simd.{length-sel_l, get_or-sel_l}

@@ -1,5 +1,5 @@
 -- The quotient by a divisor, from the product with how often it goes into all numbers.
-use Rattle.std.proofs.Common.{◌≡◌, ◌≢◌, ◌⊎◌, ℕ, suc, ◌+◌, ◌-◌, ◌*◌, ◌/◌, ◌%◌, ◌<◌, ◌≤◌, arith, ap}
+use Rattle.std.proofs.Common.{◌≡◌, ◌≢◌, ◌⊎◌, ℕ, ◌+◌, ◌-◌, ◌*◌, ◌/◌, ◌%◌, ◌<◌, ◌≤◌, arith, ap}
 use Rattle.std.proofs.Common.{sym, ◌∙◌, inl, inr, List, length, get_or}
 use Rattle.std.specs.Prelude.{ℤ, pos, Result, Ok, slice_set}
 use Rattle.std.proofs.lemmas.Bool.{cases_eq}

@@ -1,7 +1,6 @@
 -- The flags of a comparison of numbers of either sign with numbers that are not below 0.
-use Rattle.std.proofs.Common.{◌≡◌, ℕ, ◌+◌, ◌-◌, ◌<◌, ◌≤◌, Bool, true, false, cond, List, map, T}
-use Rattle.std.proofs.Common.{length, get_or, replicate, refl, sym, ap, ap₂, subst, ◌∙◌, arith}
-use Rattle.std.proofs.Common.{Fits, w8, w64}
+use Rattle.std.proofs.Common.{◌≡◌, ℕ, ◌+◌, ◌-◌, ◌<◌, ◌≤◌, true, false, cond, List, map, T, length}
+use Rattle.std.proofs.Common.{get_or, replicate, sym, ap, ap₂, subst, ◌∙◌, arith, Fits, w8, w64}
 use Rattle.std.specs.Prelude.{ℤ, pos, negsuc, nat_abs, int_lt, nat_lt, nat_eq, FitsSigned}
 use Rattle.std.specs.Int.{cast_unsigned as of_z, cast_signed as to_z}
 use Rattle.std.specs.Int.Signed.{non_neg}

@@ -1,20 +1,10 @@
 -- The first least and the first greatest of the first numbers, number by number.
-use Rattle.std.proofs.Common.{◌≡◌, ℕ, zero, List, length, get_or}
-use Rattle.std.proofs.Common.{Bool, true, false, refl, sym, subst, arith}
+use Rattle.std.proofs.Common.{◌≡◌, ℕ, List, length, get_or, true, false, refl, arith}
 use Rattle.std.specs.Prelude.{ℤ, pos, int_lt, ◌<ℤ◌, ◌≤ℤ◌, Some}
 use Rattle.std.proofs.lemmas.Int.{ints}
 use Rattle.awk_kernels.specs.Kernels.{first_least, first_greatest}
 use Rattle.awk_kernels.proofs.FoldLaws.{least_found, greatest_found}
 use Rattle.awk_simd.specs.Firsts.{IsFirstLeast, IsFirstGreatest}
-
-not_less : (x p k : ℤ) → int_lt x p ≡ true → int_lt k p ≡ false → int_lt k x ≡ false
-not_less x p k t f = grind (arith, ints)
-
-not_more : (x p k : ℤ) → int_lt p x ≡ true → int_lt p k ≡ false → int_lt x k ≡ false
-not_more x p k t f = grind (arith, ints)
-
-itself : (x : ℤ) → int_lt x x ≡ false
-itself x = grind (arith, ints)
 
 below_from : (x y : ℤ) → int_lt x y ≡ true → x <ℤ y
 below_from x y t = grind (arith, ints)

@@ -15,6 +15,8 @@ use Rattle.awk_lanes.specs.Ranges.{IsNumber, AreNumbers}
 use Rattle.awk_lanes.specs.Words.{column, integers}
 use Rattle.awk_lanes.specs.declared.kind.Kind.{Kind}
 use Rattle.awk_lanes.specs.declared.kind.Kind.TheVariants as kind
+use Rattle.awk_lanes.proofs.PlaceLaws.{element-element}
+use Rattle.awk_lanes.proofs.RangeLaws.{zero_number}
 use Rattle.awk_numbers.specs.Folds.{lane_numbers}
 use Rattle.awk_numbers.proofs.PartLaws.{slice_range-map}
 use Rattle.awk_parts.specs.Parts.{part_at}
@@ -24,22 +26,11 @@ use Rattle.awk_sorting.specs.Parts.{SortsParts}
 
 -- ---- numbers of a kind
 
-zero_fits : (k : Kind) → IsNumber k (pos 0)
-zero_fits kind.Bool = (omega (arith, ints), omega (arith, ints))
-zero_fits kind.I8 = (omega (arith, ints), omega (arith, ints))
-zero_fits kind.I16 = (omega (arith, ints), omega (arith, ints))
-zero_fits kind.I32 = (omega (arith, ints), omega (arith, ints))
-zero_fits kind.I64 = (omega (arith, ints), omega (arith, ints))
-zero_fits kind.U8 = (omega (arith, ints), omega (arith, ints))
-zero_fits kind.U16 = (omega (arith, ints), omega (arith, ints))
-zero_fits kind.U32 = (omega (arith, ints), omega (arith, ints))
-zero_fits kind.U64 = (omega (arith, ints), omega (arith, ints))
-
 all_fit : (k : Kind) (zs : List ℤ) → AreNumbers (column k zs) → All (IsNumber k) zs
 all_fit k zs h = All-from_get_or (IsNumber k) zs (pos 0) (λ i l. h i)
 
 each_fits : (k : Kind) (zs : List ℤ) → All (IsNumber k) zs → AreNumbers (column k zs)
-each_fits k [] h i = zero_fits k
+each_fits k [] h i = zero_number k
 each_fits k (z ∷ zs) h zero = h 0 (pos 0) (omega arith)
 each_fits k (z ∷ zs) h (suc i) =
     each_fits k zs (λ j d l. h (suc j) d (omega (arith, l))) i
@@ -67,7 +58,7 @@ element_fits kind.U64 z h = h
 
 elements_fit : (k : Kind) (zs : List ℤ) → All (IsNumber k) zs
     → AreNumbers (column k (map (element k) zs))
-elements_fit k [] h i = zero_fits k
+elements_fit k [] h i = zero_number k
 elements_fit k (z ∷ zs) h zero = element_fits k z (h 0 (pos 0) (omega arith))
 elements_fit k (z ∷ zs) h (suc i) =
     elements_fit k zs (λ j d l. h (suc j) d (omega (arith, l))) i
@@ -77,22 +68,6 @@ pub numbers_fit : (c : Column) → AreNumbers c → AreNumbers (column c.kind (l
 numbers_fit c h = elements_fit c.kind c.items (all_fit c.kind c.items h)
 
 -- ---- what is read of them
-
-truth_again : (b : Bool)
-    → element kind.Bool (pos (if b then 1 else 0)) ≡ pos (if b then 1 else 0)
-truth_again true = refl
-truth_again false = refl
-
-element_again : (k : Kind) (z : ℤ) → element k (element k z) ≡ element k z
-element_again kind.Bool z = truth_again (is_nonzero z)
-element_again kind.I8 z = refl
-element_again kind.I16 z = refl
-element_again kind.I32 z = refl
-element_again kind.I64 z = refl
-element_again kind.U8 z = refl
-element_again kind.U16 z = refl
-element_again kind.U32 z = refl
-element_again kind.U64 z = refl
 
 -- of numbers that are read as they are
 abbrev ReadAsIs : Kind → List ℤ → Type 0
@@ -111,8 +86,8 @@ elements_again k zs =
   where
     again : (ys : List ℤ) (i : ℕ) → element k (get_or (map (element k) ys) i (element k (pos 0)))
         ≡ get_or (map (element k) ys) i (element k (pos 0))
-    again [] i = element_again k (pos 0)
-    again (y ∷ ys) zero = element_again k y
+    again [] i = element-element k (pos 0)
+    again (y ∷ ys) zero = element-element k y
     again (y ∷ ys) (suc i) = again ys i
 
 pub read_permuted : (k : Kind) (zs ys : List ℤ) → IsPermutation (map (element k) zs) ys

@@ -8,7 +8,6 @@ mod cells;
 mod keys;
 mod lanes;
 mod number;
-mod offsets;
 mod parts;
 mod places;
 mod ranks;

@@ -6,8 +6,8 @@ ghost use Rattle.awk_sorting.specs.Parts.{SortsPart, SortsParts};
 ghost use Rattle.awk_parts.specs.Parts.{AreRising};
 
 use crate::number::Number;
-use crate::offsets::offset_at;
 use awk_lanes::Index;
+use awk_parts::offset_at;
 
 /// Numbers brought in order, rising or falling.
 fn sort_slice<N: Number>(numbers: &mut [N], up: bool)

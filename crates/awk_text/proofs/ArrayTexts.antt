@@ -9,7 +9,8 @@ use Rattle.awk_layout.specs.Valid.{len, IsValid}
 use Rattle.awk_layout.specs.Numbered.{IsNumbered}
 use Rattle.awk_layout.specs.Item.{item, items}
 use Rattle.awk_layout.specs.Typing.{layout_type, array_type}
-use Rattle.awk_text.specs.ValueText.{Text, value_text}
+use Rattle.awk_form.specs.FormText.{Text}
+use Rattle.awk_text.specs.ValueText.{value_text}
 use Rattle.awk_text.specs.ArrayText.{item_text, array_text}
 use Rattle.awk_text.specs.LayoutText.{layout_text, span_text}
 use Rattle.awk_layout.proofs.TypedItems.{item_has}

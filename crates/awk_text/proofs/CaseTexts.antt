@@ -6,6 +6,7 @@ use Rattle.std.specs.List.{range_with_len}
 use Rattle.std.specs.Ordering.{int_eq}
 use Rattle.awk_types.specs.DataType.{Name, DataType, var, reg, opt, row_type}
 use Rattle.awk_types.specs.Has.{Has}
+use Rattle.awk_types.specs.Predicates.{is_null}
 use Rattle.awk_types.specs.Value.{Value, null, row, value_list}
 use Rattle.awk_json.specs.Text.{quoted, comma_joined, list_text}
 use Rattle.awk_layout.specs.Layout.{Layout, Layouts, layout_list, count, empty, flat, regular}
@@ -20,13 +21,14 @@ use Rattle.awk_layout.specs.Typing.{layout_type, layout_types}
 use Rattle.awk_layout.specs.Numbered.{IsNumbered}
 use Rattle.awk_lanes.specs.Numbers.{nat_of}
 use Rattle.awk_lanes.specs.Places.{at, place_at, option_place_at}
-use Rattle.awk_text.specs.ValueText.{Text, is_null, value_text, row_texts, alternative_text}
-use Rattle.awk_text.specs.ValueText.{members, place_names}
+use Rattle.awk_form.specs.FormText.{Text}
+use Rattle.awk_text.specs.ValueText.{value_text, row_texts, alternative_text, members, place_names}
 use Rattle.awk_text.specs.LayoutText.{layout_text, row_text, member_text, field_name, case_text}
 use Rattle.awk_layout.proofs.TypedItems.{item_has}
 use Rattle.std.proofs.lemmas.Simd.{map-map}
 use Rattle.awk_base.proofs.Ranges.{map-same}
 use Rattle.awk_layout.proofs.Runs.{value_list-run}
+use Rattle.awk_layout.proofs.LayoutLists.{length-layout_list}
 use Rattle.awk_text.proofs.Ranges.{map-shift}
 
 -- ---- lists
@@ -119,10 +121,6 @@ length-row_texts : (xs : Layouts) (i : ℕ)
     ≡ length (layout_list xs)
 length-row_texts no_layouts i = refl
 length-row_texts (layout x xs) i = omega (arith, length-row_texts xs i)
-
-pub length-layout_list : (xs : Layouts) → length (layout_list xs) ≡ count xs
-length-layout_list no_layouts = refl
-length-layout_list (layout x xs) = omega (arith, length-layout_list xs)
 
 members_case : (names : Option (List Name)) (ns : List Name) (xs : Layouts) (i : ℕ)
     → length (layout_list xs) ≤ length ns

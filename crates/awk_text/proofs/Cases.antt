@@ -1,14 +1,14 @@
 -- What a case of a valid layout has: names for its fields.
-use Rattle.std.proofs.Common.{◌≡◌, ℕ, ◌+◌, ◌*◌, ◌<◌, ◌==◌, Bool, true, false, List, [], ◌∷◌, ◌++◌}
+use Rattle.std.proofs.Common.{◌≡◌, ℕ, ◌+◌, ◌*◌, ◌<◌, ◌==◌, Bool, true, false, List, ◌++◌}
 use Rattle.std.proofs.Common.{◌-◌, map, codes, Option, Some, None, length, if◌then◌else◌, subst}
-use Rattle.std.proofs.Common.{refl, ap, sym, ◌∙◌, arith}
+use Rattle.std.proofs.Common.{ap, sym, ◌∙◌, arith}
 use Rattle.std.specs.List.{range_with_len}
 use Rattle.std.specs.Ordering.{int_eq}
 use Rattle.awk_types.specs.DataType.{Name}
 use Rattle.awk_lanes.specs.Numbers.{nat_of}
 use Rattle.awk_lanes.specs.Places.{at, option_place_at}
 use Rattle.awk_json.specs.Text.{comma_joined}
-use Rattle.awk_layout.specs.Layout.{Layout, layout_list, layouts_from, count, empty, flat, regular}
+use Rattle.awk_layout.specs.Layout.{Layout, layouts_from, count, empty, flat, regular}
 use Rattle.awk_layout.specs.Layout.{lists, offset_lists, rows, indexed, optional, byte_masked}
 use Rattle.awk_layout.specs.Layout.{bit_masked, unmasked, union}
 use Rattle.awk_layout.specs.Valid.{len, IsValid, AreNames}
@@ -16,13 +16,10 @@ use Rattle.awk_layout.specs.Numbered.{IsNumbered}
 use Rattle.awk_layout.specs.Item.{byte_shows, bit_shows}
 use Rattle.awk_layout.specs.Contents.{count-layouts_from}
 use Rattle.awk_layout.specs.Place.{Case, span, across, missing, through, case_of, through_option}
+use Rattle.awk_layout.proofs.LayoutLists.{layout_list-from}
 use Rattle.awk_text.specs.LayoutText.{AreNamed, layout_text, row_text, member_text, case_text}
 use Rattle.awk_text.proofs.CaseTexts.{layout_text-case}
 use Rattle.awk_text.proofs.Places.{texts_from}
-
-layout_list-from : (xs : List Layout) → layout_list (layouts_from xs) ≡ xs
-layout_list-from [] = refl
-layout_list-from (x ∷ xs) = ap (λ ys. x ∷ ys) (layout_list-from xs)
 
 -- the text of an item, by what its place was found to be
 pub item_text-case : (x : Layout) (i : ℕ) (c : Case) → IsValid x → IsNumbered x → i < len x

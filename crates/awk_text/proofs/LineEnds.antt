@@ -1,40 +1,36 @@
 -- No text of a value, of a type or of a fault holds a byte that ends a line.
 use Rattle.std.proofs.Common.{◌≡◌, ℕ, zero, suc, Bool, true, false, cond, List, [], ◌∷◌, ◌++◌, map}
-use Rattle.std.proofs.Common.{refl, ap, sym, ◌∙◌, not, true≢false, codes, decimal, length}
+use Rattle.std.proofs.Common.{refl, ap, sym, ◌∙◌, not, true≢false, codes, decimal}
 use Rattle.std.specs.Char.{is_ascii_digit}
 use Rattle.std.specs.List.{AllByRecursion, list_all}
 use Rattle.std.proofs.lemmas.Bool.{and_parts}
 use Rattle.awk_types.specs.DataType.{Name, DataType, unknown, leaf, var, reg, rec, tup, opt, uni}
 use Rattle.awk_types.specs.DataType.{DataTypes, no_types, type}
 use Rattle.awk_types.specs.Value.{Value, int, truth, null, list, row, alt}
-use Rattle.awk_types.specs.Datum.{Datum, arr, one}
 use Rattle.awk_types.specs.declared.fault.Fault.{Fault}
 use Rattle.awk_types.specs.declared.fault.Fault.TheVariants as fault
 use Rattle.awk_types.specs.declared.primitive.Primitive.{Primitive}
 use Rattle.awk_types.specs.declared.primitive.Primitive.TheVariants as primitive
 use Rattle.awk_edge.specs.Lines.{Unbroken}
-use Rattle.awk_edge.proofs.LineLaws.{Unbroken-append}
+use Rattle.awk_edge.proofs.LineLaws.{Unbroken-append, Unbroken-cond}
 use Rattle.awk_json.specs.Text.{quoted, joined, comma_joined, list_text}
 use Rattle.awk_json.proofs.Lines.{literal-unbroken, quoted-unbroken, joined-unbroken}
 use Rattle.awk_json.proofs.Lines.{comma_joined-unbroken, list_text-unbroken, decimal-unbroken}
 use Rattle.awk_json.proofs.Lines.{signed_decimal-unbroken, truth_text-unbroken}
-use Rattle.awk_text.specs.ValueText.{leaf_text, list_items, row_items, is_null, tag_of, untagged}
+use Rattle.awk_form.specs.FormText.{primitive_text}
+use Rattle.awk_columns.specs.Columns.{list_items, row_parts, tag_of}
+use Rattle.awk_text.specs.ValueText.{leaf_text, untagged}
 use Rattle.awk_text.specs.ValueText.{place_names, members, value_text, row_texts, alternative_text}
-use Rattle.awk_text.specs.TypeText.{primitive_text, is_word, is_bare, name_text, option_opening}
+use Rattle.awk_text.specs.TypeText.{is_word, is_bare, name_text, option_opening}
 use Rattle.awk_text.specs.TypeText.{option_close, enclosed, field_type_texts, size_text, type_text}
-use Rattle.awk_text.specs.TypeText.{type_texts, datum_type_text}
-use Rattle.awk_types.specs.Predicates.{is_list}
+use Rattle.awk_text.specs.TypeText.{type_texts}
+use Rattle.awk_types.specs.Predicates.{is_list, is_null}
 use Rattle.awk_text.specs.FaultText.{fault_text}
 
 -- three texts, one after another
 pub between : (head text tail : List ℕ) → Unbroken head → Unbroken text → Unbroken tail
     → Unbroken (head ++ text ++ tail)
 between head text tail h t l = Unbroken-append (head ++ text) tail (Unbroken-append head text h t) l
-
--- the choice of two texts
-one_of : (b : Bool) (xs ys : List ℕ) → Unbroken xs → Unbroken ys → Unbroken (cond b xs ys)
-one_of true xs ys p q = p
-one_of false xs ys p q = q
 
 -- ---- values
 
@@ -78,10 +74,10 @@ mutual
   value_text-unbroken (reg n t) v = list_text-unbroken (map (value_text t) (list_items v))
       (map-unbroken (value_text t) (value_text-unbroken t) (list_items v))
   value_text-unbroken (rec ns ts) v =
-      object-unbroken ns (row_texts ts (row_items v)) (row_texts-unbroken ts (row_items v))
-  value_text-unbroken (tup ts) v = object-unbroken (place_names 0 ts) (row_texts ts (row_items v))
-      (row_texts-unbroken ts (row_items v))
-  value_text-unbroken (opt t) v = one_of (is_null v) (codes "null") (value_text t v)
+      object-unbroken ns (row_texts ts (row_parts v)) (row_texts-unbroken ts (row_parts v))
+  value_text-unbroken (tup ts) v = object-unbroken (place_names 0 ts) (row_texts ts (row_parts v))
+      (row_texts-unbroken ts (row_parts v))
+  value_text-unbroken (opt t) v = Unbroken-cond (is_null v) (codes "null") (value_text t v)
       (literal-unbroken (codes "null") refl) (value_text-unbroken t v)
   value_text-unbroken (uni ts) v = alternative_text-unbroken ts (tag_of v) (untagged v)
 
@@ -157,10 +153,10 @@ option-unbroken : (t : DataType) (text : List ℕ) → Unbroken text
     → Unbroken (option_opening t ++ (text ++ option_close t))
 option-unbroken t text u =
     Unbroken-append (option_opening t) (text ++ option_close t)
-    (one_of (is_list t) (codes "option[") (codes "?") (literal-unbroken (codes "option[") refl)
-    (literal-unbroken (codes "?") refl))
+    (Unbroken-cond (is_list t) (codes "option[") (codes "?")
+    (literal-unbroken (codes "option[") refl) (literal-unbroken (codes "?") refl))
     (Unbroken-append text (option_close t) u
-    (one_of (is_list t) (codes "]") [] (literal-unbroken (codes "]") refl) tt))
+    (Unbroken-cond (is_list t) (codes "]") [] (literal-unbroken (codes "]") refl) tt))
 
 size_text-unbroken : (n : ℕ) → Unbroken (size_text n)
 size_text-unbroken n = Unbroken-append (decimal n) (codes " * ") (decimal-unbroken n)

@@ -5,13 +5,14 @@ use Rattle.std.specs.List.{AllByRecursion}
 use Rattle.awk_types.specs.DataType.{DataType, unknown, leaf, var, reg, rec, tup, opt, uni}
 use Rattle.awk_types.specs.DataType.{DataTypes, no_types, type, types_from}
 use Rattle.awk_json.specs.Text.{list_text}
+use Rattle.awk_types.specs.Predicates.{is_null}
 use Rattle.awk_types.specs.Value.{Value, Values, int, truth, null, list, row, alt, value_list}
 use Rattle.awk_types.specs.Value.{values_from}
 use Rattle.awk_types.specs.Simple.{is_option, option_of, simple, simples, simple_value}
 use Rattle.awk_types.specs.Simple.{simple_values, values_by, value_by}
 use Rattle.awk_types.proofs.Trees.{value_list-from}
-use Rattle.awk_text.specs.ValueText.{Text, is_null, value_text, row_texts, alternative_text}
-use Rattle.awk_text.specs.ValueText.{place_names}
+use Rattle.awk_form.specs.FormText.{Text}
+use Rattle.awk_text.specs.ValueText.{value_text, row_texts, alternative_text, place_names}
 use Rattle.awk_types.specs.Has.{Has, HasRow, HasAlternative}
 use Rattle.awk_text.proofs.Unions.{Splits, SplitsAt, SplitsAs, splits_first, splits_later}
 use Rattle.awk_text.proofs.Unions.{union_splits}

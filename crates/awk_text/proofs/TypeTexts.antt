@@ -14,11 +14,11 @@ use Rattle.awk_layout.specs.declared.datum.Datum.TheVariants.{Arr}
 use Rattle.awk_layout.specs.Datum.{datum_of}
 use Rattle.awk_layout.specs.Layout.{Layout}
 use Rattle.awk_layout.specs.Valid.{len}
-use Rattle.awk_layout.specs.Item.{item, items}
+use Rattle.awk_layout.specs.Item.{item}
 use Rattle.awk_layout.specs.Typing.{array_type}
 use Rattle.awk_json.specs.Text.{joined}
 use Rattle.awk_layout.proofs.ArrayItems.{length-array_items}
-use Rattle.awk_text.specs.ValueText.{Text}
+use Rattle.awk_form.specs.FormText.{Text}
 use Rattle.awk_text.specs.TypeText.{type_text, type_texts, field_type_texts, name_text}
 use Rattle.awk_text.specs.TypeText.{named_type_text, size_text, option_opening, option_close}
 use Rattle.awk_text.specs.TypeText.{enclosed, datum_type_text}

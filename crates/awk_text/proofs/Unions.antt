@@ -1,15 +1,17 @@
 -- The alternatives of simple types, laid one after another, as a union has them.
 use Rattle.std.proofs.Common.{◌≡◌, ℕ, zero, suc, ◌+◌, ◌<◌, Bool, true, false, List, [], ◌∷◌}
 use Rattle.std.proofs.Common.{◌++◌, length, codes, refl, ap, sym, ◌∙◌, subst, arith, length-append}
-use Rattle.std.proofs.Common.{add-zero}
 use Rattle.std.specs.List.{list_any, flat_map}
 use Rattle.std.proofs.lemmas.Bool.{or_right, or_left}
 use Rattle.awk_types.specs.DataType.{DataType, opt, uni, DataTypes, type, types_from}
+use Rattle.awk_types.specs.Predicates.{is_null}
 use Rattle.awk_types.specs.Value.{Value, int, truth, null, list, row, alt}
 use Rattle.awk_types.specs.Simple.{is_option, option_if, present_alternatives, union_of}
 use Rattle.awk_types.specs.Simple.{alternatives_before, value_after}
 use Rattle.awk_types.proofs.SimpleLaws.{inner_tag, inner_value, present_alternatives-union_of}
-use Rattle.awk_text.specs.ValueText.{Text, is_null, value_text, alternative_text}
+use Rattle.awk_types.proofs.SimpleLaws.{value_after_alternative}
+use Rattle.awk_form.specs.FormText.{Text}
+use Rattle.awk_text.specs.ValueText.{value_text, alternative_text}
 
 -- the text of an alternative of the left types, and of one of the right types
 pub text_left : (ts us : List DataType) (k : ℕ) (v : Value) → k < length ts
@@ -84,16 +86,6 @@ splits_later s ss k w text p = record {
       ∙ p.shown n;
 }
 
--- a value as one of a union is null where it was null, and else one alternative
-after : (b : ℕ) (w : Value) → is_null w ≡ false
-    → value_after b w ≡ alt (b + inner_tag w) (inner_value w)
-after b null n = absurd (cc)
-after b (alt j v) n = refl
-after b (int z) n = ap (λ k. alt k (int z)) (sym (add-zero b))
-after b (truth t) n = ap (λ k. alt k (truth t)) (sym (add-zero b))
-after b (list vs) n = ap (λ k. alt k (list vs)) (sym (add-zero b))
-after b (row vs) n = ap (λ k. alt k (row vs)) (sym (add-zero b))
-
 after-null : (b : ℕ) (w : Value) → is_null w ≡ true → value_after b w ≡ null
 after-null b null n = refl
 after-null b (alt j v) n = absurd (cc)
@@ -158,4 +150,4 @@ pub union_splits : (ss : List DataType) (k : ℕ) (w : Value) (text : Text) (n :
 union_splits ss k w text true e p = subst (λ v. SplitsAs (union_of ss) v text)
     (sym (after-null (alternatives_before ss k) w e)) (union_null ss k w text p e)
 union_splits ss k w text false e p = subst (λ v. SplitsAs (union_of ss) v text)
-    (sym (after (alternatives_before ss k) w e)) (union_alt ss k w text p e)
+    (sym (value_after_alternative (alternatives_before ss k) w e)) (union_alt ss k w text p e)

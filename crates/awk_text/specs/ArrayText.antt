@@ -5,7 +5,8 @@ use Rattle.awk_json.specs.Text.{list_text}
 use Rattle.awk_layout.specs.Layout.{Layout}
 use Rattle.awk_layout.specs.Item.{item}
 use Rattle.awk_layout.specs.Typing.{layout_type, array_type, array_items}
-use Rattle.awk_text.specs.ValueText.{Text, value_text}
+use Rattle.awk_form.specs.FormText.{Text}
+use Rattle.awk_text.specs.ValueText.{value_text}
 
 -- the text of the item at a place
 abbrev pub item_text : Layout → ℕ → Text

@@ -3,7 +3,7 @@ use Rattle.std.specs.Prelude.{[], ◌++◌, codes}
 use Rattle.awk_types.specs.declared.fault.Fault.{Fault}
 use Rattle.awk_types.specs.declared.fault.Fault.TheVariants as fault
 use Rattle.awk_json.specs.Text.{quoted}
-use Rattle.awk_text.specs.ValueText.{Text}
+use Rattle.awk_form.specs.FormText.{Text}
 
 -- without the line's end; want of memory is no answer
 abbrev pub fault_text : Fault → Text

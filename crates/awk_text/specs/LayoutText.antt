@@ -9,7 +9,8 @@ use Rattle.awk_layout.specs.Layout.{Layout, empty, layout_list}
 use Rattle.awk_layout.specs.Item.{item}
 use Rattle.awk_layout.specs.Place.{Case, number, span, across, missing, through, alternative}
 use Rattle.awk_layout.specs.Typing.{layout_type}
-use Rattle.awk_text.specs.ValueText.{Text, leaf_text, value_text}
+use Rattle.awk_form.specs.FormText.{Text}
+use Rattle.awk_text.specs.ValueText.{leaf_text, value_text}
 
 -- the text of the item at a place
 abbrev pub layout_text : Layout → ℕ → Text

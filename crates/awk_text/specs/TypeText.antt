@@ -3,26 +3,13 @@ use Rattle.std.specs.Prelude.{ℕ, Bool, true, false, not, ◌==◌, ◌&&◌, �
 use Rattle.std.specs.Prelude.{if◌then◌else◌, codes, decimal, length}
 use Rattle.std.specs.Char.{is_ascii_digit, is_ascii_alphanumeric}
 use Rattle.std.specs.List.{list_all}
-use Rattle.awk_types.specs.declared.primitive.Primitive.{Primitive}
-use Rattle.awk_types.specs.declared.primitive.Primitive.TheVariants as primitive
 use Rattle.awk_types.specs.DataType.{Name, DataType, unknown, leaf, var, reg, rec, tup, opt, uni}
 use Rattle.awk_types.specs.DataType.{DataTypes, no_types, type}
 use Rattle.awk_types.specs.Datum.{Datum, arr, one}
 use Rattle.awk_types.specs.View.{NamedType}
 use Rattle.awk_types.specs.Predicates.{is_list}
 use Rattle.awk_json.specs.Text.{quoted, joined}
-use Rattle.awk_text.specs.ValueText.{Text}
-
-abbrev pub primitive_text : Primitive → Text
-primitive_text primitive.Bool = codes "bool"
-primitive_text primitive.I8 = codes "int8"
-primitive_text primitive.I16 = codes "int16"
-primitive_text primitive.I32 = codes "int32"
-primitive_text primitive.I64 = codes "int64"
-primitive_text primitive.U8 = codes "uint8"
-primitive_text primitive.U16 = codes "uint16"
-primitive_text primitive.U32 = codes "uint32"
-primitive_text primitive.U64 = codes "uint64"
+use Rattle.awk_form.specs.FormText.{primitive_text, Text}
 
 -- a letter, a digit or `_`
 abbrev pub is_word : ℕ → Bool

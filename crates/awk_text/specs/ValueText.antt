@@ -1,36 +1,19 @@
 -- The texts of values.
-use Rattle.std.specs.Prelude.{ℕ, zero, suc, Bool, true, false, List, [], ◌∷◌, ◌++◌, map}
-use Rattle.std.specs.Prelude.{if◌then◌else◌, codes, decimal}
+use Rattle.std.specs.Prelude.{ℕ, zero, suc, List, [], ◌∷◌, ◌++◌, map, if◌then◌else◌, codes, decimal}
 use Rattle.std.specs.Fmt.{signed_decimal}
 use Rattle.awk_types.specs.DataType.{Name, DataType, unknown, leaf, var, reg, rec, tup, opt, uni}
 use Rattle.awk_types.specs.DataType.{DataTypes, no_types, type}
-use Rattle.awk_types.specs.Value.{Value, int, truth, null, list, row, alt, value_list}
+use Rattle.awk_types.specs.Predicates.{is_null}
+use Rattle.awk_types.specs.Value.{Value, int, truth, null, alt}
 use Rattle.awk_json.specs.Text.{quoted, comma_joined, list_text, truth_text}
-
-abbrev pub Text : Type 0
-Text = List ℕ
+use Rattle.awk_form.specs.FormText.{Text}
+use Rattle.awk_columns.specs.Columns.{list_items, row_parts, tag_of}
 
 -- a number or a truth value, and any other value as missing
 abbrev pub leaf_text : Value → Text
 leaf_text (int z) = signed_decimal z
 leaf_text (truth b) = truth_text b
 leaf_text v = codes "null"
-
-abbrev pub list_items : Value → List Value
-list_items (list vs) = value_list vs
-list_items v = []
-
-abbrev pub row_items : Value → List Value
-row_items (row vs) = value_list vs
-row_items v = []
-
-abbrev pub is_null : Value → Bool
-is_null null = true
-is_null v = false
-
-abbrev pub tag_of : Value → ℕ
-tag_of (alt k v) = k
-tag_of v = 0
 
 abbrev pub untagged : Value → Value
 untagged (alt k v) = v
@@ -55,9 +38,9 @@ abbrev mutual
   value_text (var t) v = list_text (map (value_text t) (list_items v))
   value_text (reg n t) v = list_text (map (value_text t) (list_items v))
   value_text (rec ns ts) v =
-      codes "{" ++ comma_joined (members ns (row_texts ts (row_items v))) ++ codes "}"
+      codes "{" ++ comma_joined (members ns (row_texts ts (row_parts v))) ++ codes "}"
   value_text (tup ts) v =
-      codes "{" ++ comma_joined (members (place_names 0 ts) (row_texts ts (row_items v)))
+      codes "{" ++ comma_joined (members (place_names 0 ts) (row_texts ts (row_parts v)))
       ++ codes "}"
   value_text (opt t) v = if is_null v then codes "null" else value_text t v
   value_text (uni ts) v = alternative_text ts (tag_of v) (untagged v)

@@ -22,7 +22,7 @@ AreDistinct-true (n ∷ ns) h =
 
 -- ---- the test of two names
 
-same_name-flips : (a b : Name) → same_name a b ≡ false → same_name b a ≡ false
+pub same_name-flips : (a b : Name) → same_name a b ≡ false → same_name b a ≡ false
 same_name-flips a b h =
     false_from_ne_true (same_name b a)
     (λ e. true≢false (sym (same_name-refl a) ∙ ap (same_name a) (sym (same_name_is b a e)) ∙ h))

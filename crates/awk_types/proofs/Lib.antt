@@ -8,3 +8,8 @@ pub mod TypeLaws
 pub mod NodeLaws
 pub mod Simplified
 pub mod RefusalLaws
+pub mod PartLimits
+pub mod NullLaws
+pub mod TypeShapes
+pub mod HasLaws
+pub mod ItemLimits

@@ -1,6 +1,9 @@
 -- Laws of refusals: a fault told by a test, else the value.
 use Rattle.std.proofs.Common.{◌≡◌, Option, Some, None, Result, Ok, Err, refl, sym, ap, ap₂, subst}
+use Rattle.std.specs.Prelude.{option_map}
 use Rattle.awk_types.specs.Gives.{Told, Gives, refused_or, ◌or◌}
+use Rattle.awk_types.specs.Limit.{Limit}
+use Rattle.awk_types.specs.Faults.{limit_fault}
 
 -- a refusal says the same of another value
 pub Told-other : {A B F : Type 0} (o a : Option F) (x : A) (y : B) → Told o (refused_or a x)
@@ -66,3 +69,8 @@ or-both (Some f) b h = absurd (cc)
 pub Gives-Err : {X Y E F : Type 0} (view : X → Y) (told : E → Option F) (r : Result X E) (e : E)
     (said : Result Y F) → r ≡ Err e → Told (told e) said → Gives view told r said
 Gives-Err view told r e said is h = subst (λ r. Gives view told r said) (sym is) h
+
+-- no fault of a limit: no limit is passed
+pub no_limit : (o : Option Limit) → option_map limit_fault o ≡ None → o ≡ None
+no_limit None h = refl
+no_limit (Some l) h = absurd (cc)

@@ -1,9 +1,10 @@
 -- The laws of simplifying.
 use Rattle.std.proofs.Common.{◌≡◌, ℕ, zero, ◌+◌, suc, Bool, List, [], ◌∷◌, ◌++◌, map, refl, ap}
-use Rattle.std.proofs.Common.{arith, length, true, false, ◌∙◌, sym, subst}
+use Rattle.std.proofs.Common.{arith, length, true, false, ◌∙◌, sym, subst, ap₂}
 use Rattle.std.proofs.lemmas.List.{length-map}
 use Rattle.std.proofs.Math.Bool.{or-true}
 use Rattle.std.specs.List.{list_any, flat_map, AllByRecursion}
+use Rattle.std.specs.Prelude.{replicate}
 use Rattle.awk_types.specs.DataType.{DataType, unknown, leaf, var, reg, rec, tup, opt, uni}
 use Rattle.awk_types.specs.DataType.{DataTypes, no_types, type, types_from, type_list}
 use Rattle.awk_types.specs.Value.{Value, null, list, row, alt, Values, value_list, values_from}
@@ -250,7 +251,7 @@ null_any [] k h = absurd h
 null_any (t ∷ ts) zero h = rw (null_in_option t h)
 null_any (t ∷ ts) (suc k) h = simp (null_any ts k h, or-true)
 
-value_after_alternative : (b : ℕ) (w : Value) → is_null w ≡ false
+pub value_after_alternative : (b : ℕ) (w : Value) → is_null w ≡ false
     → value_after b w ≡ alt (b + inner_tag w) (inner_value w)
 value_after_alternative b null e = cc
 value_after_alternative b (alt j v) e = refl
@@ -444,3 +445,15 @@ each_twice t vs h =
     each_stays (simple t) (simple_value (simple t))
     (λ v k. value_stays (simple t) v (simple_is_simple t) k) (map (simple_value t) vs)
     (has_each t (simple t) (simple_value t) (has_simple t) vs h)
+
+-- simple types after simple types
+pub simple_append : (ts us : List DataType) → AreSimple (types_from ts) → AreSimple (types_from us)
+    → AreSimple (types_from (ts ++ us))
+simple_append [] us h k = k
+simple_append (t ∷ ts) us h k = (h.0, simple_append ts us h.1 k)
+
+-- a type that stays stays as often as it stands there
+pub simples-same : (n : ℕ) (u : DataType) → simple u ≡ u
+    → simples (types_from (replicate n u)) ≡ replicate n u
+simples-same zero u e = refl
+simples-same (suc n) u e = ap₂ (λ t ts. t ∷ ts) e (simples-same n u e)

@@ -82,3 +82,7 @@ fields_first fs x within read =
     let items = (out-Fields fs).items.items in
     fields_out fs
     ∙ ap (map field_of) (drop_more items 0 x within ∙ ap (λ y. y ∷ drop 1 items) (sym read))
+
+-- its name
+pub name_out : (f : Field) → (field_of f).name ≡ (out-Field f).name
+name_out f = ap (λ x. x.name) (field_of-out f)

@@ -13,6 +13,7 @@ pub mod Levels
 pub mod ItemLimit
 pub mod WholeNumbers
 pub mod Predicates
+pub mod Parts
 pub mod Gives
 pub mod View
 pub mod Trees

@@ -1,5 +1,6 @@
 -- Names of fields, and which lists of names have no name twice.
-use Rattle.std.specs.Prelude.{◌≡◌, ◌&&◌, not, Bool, true, false, List, [], ◌∷◌}
+use Rattle.std.specs.Prelude.{◌≡◌, ℕ, suc, ◌&&◌, not, Bool, true, false, List, [], ◌∷◌}
+use Rattle.std.specs.Prelude.{if◌then◌else◌}
 use Rattle.std.specs.List.{list_any}
 use Rattle.std.specs.Str.{bytes_eq}
 use Rattle.std.specs.Cmp.Lexicographic.{pointwise}
@@ -24,3 +25,8 @@ AreDistinct (n ∷ ns) = (is_among n ns ≡ false) × AreDistinct ns
 abbrev pub are_distinct : List Name → Bool
 are_distinct [] = true
 are_distinct (n ∷ ns) = not (is_among n ns) && are_distinct ns
+
+-- the place of a name, or the number of names where it is not there
+abbrev pub place_of : Name → List Name → ℕ
+place_of n [] = 0
+place_of n (m ∷ ms) = if same_name m n then 0 else suc (place_of n ms)

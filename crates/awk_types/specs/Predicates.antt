@@ -19,6 +19,11 @@ is_list (var t) = true
 is_list (reg n t) = true
 is_list t = false
 
+-- lists that are all of one length
+abbrev pub is_sized : DataType → Bool
+is_sized (reg n t) = true
+is_sized t = false
+
 -- unknown counts as lists
 abbrev pub is_list_or_unknown : DataType → Bool
 is_list_or_unknown unknown = true

@@ -29,7 +29,9 @@ pub use limit::{ITEM_LIMIT, TypeFault};
 pub use measure::{depth, nodes};
 pub use name::{Name, Names, NoMemory, copy_names};
 pub use numbers::is_numbers;
-pub use predicates::{is_leaf, is_list, is_list_or_unknown, is_optional, is_unknown};
+pub use predicates::{
+    are_leaves, is_leaf, is_list, is_list_or_unknown, is_optional, is_sized, is_union, is_unknown,
+};
 pub use primitive::Primitive as Prim;
 pub use simplify::{opt_of, simple_of, uni_of};
 pub use typ::{Field, Fields, Typ, Typs};

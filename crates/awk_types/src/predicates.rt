@@ -1,7 +1,7 @@
 //! Tests of types.
 ghost use Rattle.std.specs.Prelude.{◌≡◌};
 ghost use Rattle.awk_types.specs.Predicates as test;
-ghost use Rattle.awk_types.specs.Simple.{is_option};
+ghost use Rattle.awk_types.specs.Simple.{is_option, is_union as is_uni, present};
 ghost use Rattle.awk_types.specs.View.{typ_of};
 
 use crate::typ::Typ;
@@ -18,6 +18,20 @@ pub fn is_list(t: &Typ) -> bool
     ensures { result ≡ test.is_list (typ_of t.now) }
 {
     matches!(t, Typ::Var(_) | Typ::Reg(_, _))
+}
+
+/// Whether a type is a union.
+pub fn is_union(t: &Typ) -> bool
+    ensures { result ≡ is_uni (typ_of t.now) }
+{
+    matches!(t, Typ::Uni(_))
+}
+
+/// Whether a type is of lists that are all of one length.
+pub fn is_sized(t: &Typ) -> bool
+    ensures { result ≡ test.is_sized (typ_of t.now) }
+{
+    matches!(t, Typ::Reg(_, _))
 }
 
 /// Whether a type is of lists, or of no values.
@@ -39,4 +53,14 @@ pub fn is_leaf(t: &Typ) -> bool
     ensures { result ≡ test.is_leaf (typ_of t.now) }
 {
     matches!(t, Typ::Unknown | Typ::Leaf(_))
+}
+
+/// Whether values of a type are leaves, optional or not, or would be if there were any.
+pub fn are_leaves(t: &Typ) -> bool
+    ensures { result ≡ test.is_leaf (present (typ_of t.now)) }
+{
+    match t {
+        Typ::Opt(inner) => is_leaf(inner),
+        _ => is_leaf(t),
+    }
 }

@@ -10,10 +10,6 @@ use Rattle.awk_unify.specs.Carry.{Carry, carry, keep, carries_from, tag_at}
 use Rattle.awk_unify.specs.After.{after, afters, carry_by, each_after}
 use Rattle.awk_unify.specs.Carries.{all_same, carry_at, each_then, put_after, kept_each}
 
-afters_are : (gs : List Carry) → afters (carries_from gs) ≡ map after gs
-afters_are [] = refl
-afters_are (g ∷ gs) = ap (λ hs. after g ∷ hs) (afters_are gs)
-
 pub by_place : (gs : List Carry) (k : ℕ) (f : Carry)
     → carry_by (afters (carries_from gs)) k f ≡ after (carry_at gs k) f
 by_place [] k f = refl

@@ -1,5 +1,5 @@
 -- A value of one type, carried, is one of another: one carry after another, options.
-use Rattle.std.proofs.Common.{◌≡◌, ◌≤◌, ◌∷◌, [], ℕ, List, subst, suc, sym, zero}
+use Rattle.std.proofs.Common.{◌≡◌, ◌≤◌, ◌∷◌, [], ℕ, List, subst, suc, sym, zero, ap, map, refl}
 use Rattle.std.specs.Prelude.{None, Option, Some}
 use Rattle.awk_unify.proofs.AfterLaws.{AllInPlace, Fits, InPlace, after_carries, carry_null}
 use Rattle.awk_unify.proofs.AfterLaws.{fits_null}
@@ -85,3 +85,8 @@ pub opt_carry : (a t : DataType) (f : Carry) → Takes (present a) f t → Takes
 opt_carry a t f c null h = (fits_null f, subst (Has (opt t)) (sym (carry_null f)) tt)
 opt_carry (opt a) t f c v h = ((c v h).0, has_option t (carried f v) (c v h).1)
 opt_carry a t f c v h = ((c v h).0, has_option t (carried f v) (c v h).1)
+
+-- values that are kept stay
+pub map-keep : (vs : List Value) → map (carried keep) vs ≡ vs
+map-keep [] = refl
+map-keep (v ∷ vs) = ap (λ ws. v ∷ ws) (map-keep vs)

@@ -12,6 +12,7 @@ use Rattle.awk_types.specs.DataType.{no_types, opt, rec, reg, tup, type, type_li
 use Rattle.awk_types.specs.DataType.{unknown, var}
 use Rattle.awk_types.specs.Names.{same_name}
 use Rattle.awk_types.specs.Simple.{alternatives, present}
+use Rattle.awk_types.proofs.TypeShapes.{some_depth}
 
 -- two ways to unify agree where the second type is at most n deep
 abbrev pub Agree : ℕ → Unifying → Unifying → Type 0
@@ -134,15 +135,11 @@ rules_agree n u w g a b h =
     later_agree n u w g (present a) (present b) (omega (arith, present_shallow b)) in
     rw (first, rest)
 
-depth_pos : (b : DataType) → 1 ≤ depth b
-depth_pos unknown = omega arith
-depth_pos b = omega arith
-
 -- any two numbers of steps that are enough give the same
 pub steps_agree : (n m : ℕ) (a b : DataType) → depth b ≤ n → depth b ≤ m
     → unification_at n a b ≡ unification_at m a b
-steps_agree zero m a b h k = absurd (omega (arith, depth_pos b))
-steps_agree (suc n) zero a b h k = absurd (omega (arith, depth_pos b))
+steps_agree zero m a b h k = absurd (omega (arith, some_depth b))
+steps_agree (suc n) zero a b h k = absurd (omega (arith, some_depth b))
 steps_agree (suc n) (suc m) a b h k =
     rules_agree (min n m) (unification_at n) (unification_at m)
     (λ c d l. steps_agree n m c d (omega arith) (omega arith)) a b (omega arith)

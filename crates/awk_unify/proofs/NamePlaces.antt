@@ -7,42 +7,21 @@ use Rattle.std.specs.Prelude.{None, if◌then◌else◌}
 use Rattle.std.proofs.Math.Bool.{and-false}
 use Rattle.std.proofs.lemmas.List.{drop_all, length-map, map-append, take_all}
 use Rattle.awk_base.proofs.Lists.{drop-get, map-take-get}
-use Rattle.awk_types.proofs.NameLaws.{same_name-refl, same_name_is}
-use Rattle.awk_types.specs.DataType.{DataType, Name}
+use Rattle.awk_types.proofs.NameLaws.{same_name-flip}
+use Rattle.awk_types.specs.DataType.{Name}
 use Rattle.awk_types.specs.Names.{same_name}
-use Rattle.awk_types.proofs.Views.{named_type}
-use Rattle.awk_types.specs.View.{NamedType, field_of, field_step, fields_step, names_of, typ_of}
-use Rattle.awk_types.specs.View.{typ_step, typs_step}
+use Rattle.awk_types.proofs.Views.{field_of-out}
+use Rattle.awk_types.specs.View.{NamedType, field_of, names_of, typ_of}
 use Rattle.awk_types.specs.declared.typ.Field.{Field}
 use Rattle.awk_types.specs.declared.typ.Typ.TheViews.{out-Field}
-use Rattle.awk_types.specs.declared.typ.Typ.TheFolds.{fold_out-Field}
 use Rattle.awk_name_places.specs.Places as known
-use Rattle.awk_unify.specs.FieldNames.{alike, field_type, is_in, place_in}
+use Rattle.awk_name_places.specs.Places.{place_in}
+use Rattle.awk_unify.specs.FieldNames.{alike, field_type, is_in}
 use Rattle.awk_unify.specs.Join.{field_types}
 use Rattle.awk_unify.proofs.Tests.{eq_false, eq_true}
 
--- a field is its name and its type
-field_out : (f : Field) → field_of f ≡ named_type (out-Field f).name (typ_of (out-Field f).typ)
-field_out =
-    fold_out-Field DataType NamedType (List NamedType) (List DataType) typ_step field_step
-    fields_step typs_step
-
-pub name_out : (f : Field) → (field_of f).name ≡ (out-Field f).name
-name_out f = ap (λ x. x.name) (field_out f)
-
 pub typ_out : (f : Field) → (field_of f).typ ≡ typ_of (out-Field f).typ
-typ_out f = ap (λ x. x.typ) (field_out f)
-
-pub same_name-flip : (n m : Name) → same_name n m ≡ same_name m n
-same_name-flip n m = step (same_name n m) refl
-  where
-    step : (b : Bool) → same_name n m ≡ b → b ≡ same_name m n
-    step true e = sym (ap (λ k. same_name k n) (sym (same_name_is n m e)) ∙ same_name-refl n)
-    step false e = other (same_name m n) refl
-      where
-        other : (b : Bool) → same_name m n ≡ b → false ≡ b
-        other true f = sym e ∙ ap (same_name n) (same_name_is m n f) ∙ same_name-refl n
-        other false f = refl
+typ_out f = ap (λ x. x.typ) (field_of-out f)
 
 -- ---- the place of a name, from left to right
 

@@ -7,15 +7,15 @@ use Rattle.std.specs.List.{list_all, list_any}
 use Rattle.std.specs.Prelude.{if◌then◌else◌, None, Option, Some}
 use Rattle.std.proofs.lemmas.Option.{same_Some}
 use Rattle.awk_base.proofs.Truths.{eq_is}
+use Rattle.awk_name_places.specs.Places.{place_in}
 use Rattle.awk_unify.proofs.AfterLaws.{Apart, ArePlaces, FitEach, Fits}
 use Rattle.awk_unify.proofs.DepthLaws.{deepest_list}
 use Rattle.awk_unify.proofs.HasLaws.{of_list, rec_tup, tup_rec}
 use Rattle.awk_unify.proofs.SimpleLaws.{IfAllFine, picked_fine}
-use Rattle.awk_unify.proofs.NamePlaces.{same_name-flip}
 use Rattle.awk_unify.proofs.TypeLaws.{IfFields, picked_ok}
 use Rattle.awk_unify.specs.Carries.{carry_at}
 use Rattle.awk_unify.specs.Carry.{Carry, at_place, carried, carried_each, carries_from, in_order}
-use Rattle.awk_unify.specs.FieldNames.{alike, field_type, in_own, is_in, picked, place_in, to_names}
+use Rattle.awk_unify.specs.FieldNames.{alike, field_type, in_own, is_in, picked, to_names}
 use Rattle.awk_unify.specs.FieldNames.{with_type}
 use Rattle.awk_unify.specs.Join.{Unifying, rec_join, unify_parts}
 use Rattle.awk_unify.specs.Places.{places, places_from}
@@ -29,6 +29,7 @@ use Rattle.awk_types.specs.IsType.{IsType}
 use Rattle.awk_types.specs.Names.{AreDistinct, is_among, same_name}
 use Rattle.awk_types.specs.Simple.{AreSimple, values_by}
 use Rattle.awk_types.specs.Value.{Value, row, value_list}
+use Rattle.awk_types.proofs.DistinctLaws.{same_name-flips}
 use Rattle.awk_unify.proofs.CarriedLaws.{Good, IfJoins, Takes}
 use Rattle.awk_unify.proofs.RowLaws.{EachCarry, PartsCarry, as_list, own_carry, own_in_place}
 use Rattle.awk_unify.proofs.RowLaws.{parts_carry}
@@ -78,14 +79,11 @@ places_differ ns m k e f d = step (place_in ns m == place_in ns k) refl
         sym (name_of m k equal) ∙ d
     step false h = refl
 
-name_sym : (m k : Name) → same_name m k ≡ false → same_name k m ≡ false
-name_sym m k d = sym (same_name-flip m k) ∙ d
-
 -- the test of names, the other way round
 other_way : (m : Name) (ms : List Name) → is_among m ms ≡ false → list_any (same_name m) ms ≡ false
 other_way m [] e = refl
 other_way m (k ∷ ms) e =
-    rw (name_sym k m (or_parts _ _ e).0) (other_way m ms (or_parts (same_name k m) _ e).1)
+    rw (same_name-flips k m (or_parts _ _ e).0) (other_way m ms (or_parts (same_name k m) _ e).1)
 
 apart_names : (ns : List Name) (m : Name) (ms : List Name) → is_in ns m ≡ true
     → list_all (is_in ns) ms ≡ true → list_any (same_name m) ms ≡ false
@@ -94,7 +92,7 @@ apart_names ns m [] e f d = tt
 apart_names ns m (k ∷ ms) e f d =
     let here : same_name m k ≡ false = (or_parts _ _ d).0 in
     let known : is_in ns k ≡ true = (and_parts _ _ f).0 in (
-      places_differ ns k m known e (name_sym m k here),
+      places_differ ns k m known e (same_name-flips m k here),
       places_differ ns m k e known here,
       apart_names ns m ms e (and_parts (is_in ns k) _ f).1 (or_parts (same_name m k) _ d).1,
     )
@@ -121,7 +119,7 @@ fields_more : (m : Name) (u : DataType) (ms : List Name) (us : List DataType) (q
 fields_more m u ms us [] ts d f = tt
 fields_more m u ms us (q ∷ qs) [] d f = tt
 fields_more m u ms us (q ∷ qs) (t ∷ ts) d f = (
-  rw (name_sym m q (or_parts _ _ d).0) f.0,
+  rw (same_name-flips m q (or_parts _ _ d).0) f.0,
   fields_more m u ms us qs ts
       (or_parts (same_name m q) _ d).1 f.1,
 )

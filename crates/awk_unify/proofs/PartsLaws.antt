@@ -7,8 +7,9 @@ use Rattle.std.proofs.lemmas.List.{append-nil, drop_all, length-map}
 use Rattle.awk_base.proofs.Lists.{drop-get}
 use Rattle.awk_types.specs.DataType.{DataType}
 use Rattle.awk_types.specs.View.{NamedType, names_of, typs_of}
+use Rattle.awk_name_places.specs.Places.{place_in}
 use Rattle.awk_unify.specs.Carry.{Carry}
-use Rattle.awk_unify.specs.FieldNames.{field_type, picked, place_in, with_type}
+use Rattle.awk_unify.specs.FieldNames.{field_type, picked, with_type}
 use Rattle.awk_unify.specs.Join.{Unifying, field_types, no_parts, one_more, unify_fields}
 use Rattle.awk_unify.specs.Join.{unify_parts, unify_picked, with_first}
 use Rattle.awk_unify.specs.Unification.{Unification, Unifications}

@@ -1,7 +1,7 @@
 -- The rules of unifying, one by one, and the tests that choose among them.
 use Rattle.std.proofs.Common.{◌≡◌, Bool, true, false, ◌||◌, refl, ap, ◌∙◌}
 use Rattle.std.specs.Prelude.{Some, None, if◌then◌else◌}
-use Rattle.awk_types.specs.DataType.{DataType}
+use Rattle.awk_types.specs.DataType.{DataType, leaf, opt, rec, reg, tup, uni, unknown, var}
 use Rattle.awk_types.specs.Simple.{is_option, present}
 use Rattle.awk_types.specs.SameType.{same_type}
 use Rattle.awk_unify.specs.Early.{as_it_is, early}
@@ -10,6 +10,7 @@ use Rattle.awk_unify.specs.Unify.{equal_or_unknown, joined_or, joins_or_unions, 
 use Rattle.awk_unify.specs.Unify.{options_or, unification}
 use Rattle.awk_types.specs.Predicates.{is_unknown}
 use Rattle.awk_unify.proofs.DepthLaws.{unify_rules}
+use Rattle.awk_unify.proofs.SameTypeLaws.{same_type-refl}
 
 by_tests : (x y z : Bool) (a b r : Unification)
     → (if x then a else if y then b else if z then a else r) ≡ joined_or
@@ -50,3 +51,22 @@ pub bare_later : (a b : DataType) → early a b ≡ None
 bare_later a b e = early_or a b _ ∙ ap (λ o. joined_or o (joins_or_unions unification a b)) e
 
 pub ruleset rule_laws = (unified_early, unified_optional, unified_later, bare_early, bare_later)
+
+-- an unknown type gives way
+pub early-unknown : (t : DataType) → early unknown t ≡ Some (as_it_is t)
+early-unknown unknown = refl
+early-unknown (leaf p) = refl
+early-unknown (var t) = refl
+early-unknown (reg n t) = refl
+early-unknown (rec ns ts) = refl
+early-unknown (tup ts) = refl
+early-unknown (opt t) = refl
+early-unknown (uni ts) = refl
+
+-- a type and itself are one
+pub early-same : (t : DataType) → early t t ≡ Some (as_it_is t)
+early-same t =
+    ap (λ (b : Bool). if b then Some (as_it_is t)
+    else if is_unknown t then Some (as_it_is t)
+    else if is_unknown t then Some (as_it_is t)
+    else None) (same_type-refl t)

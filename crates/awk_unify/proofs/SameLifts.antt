@@ -3,14 +3,13 @@ use Rattle.std.proofs.Common.{◌≡◌, ◌↔◌, ℕ, List, [], ◌∷◌, Op
 use Rattle.std.proofs.Common.{refl, sym, ap, ap₂, ◌∙◌}
 use Rattle.awk_base.proofs.Truths.{same_as}
 use Rattle.awk_unify.specs.After.{after}
-use Rattle.awk_unify.specs.Carry.{Carry, Carries, carry_list, carries_from, to_parts}
-use Rattle.awk_unify.specs.Carry.{to_alternatives}
+use Rattle.awk_unify.specs.Carry.{Carry, carry_list, carries_from, to_parts, to_alternatives}
 use Rattle.awk_unify.specs.View.{IsIdle, lift_of, lifts_of}
 use Rattle.awk_unify.specs.declared.lift.Lift.{Lift, Parts, Alternatives}
 use Rattle.awk_unify.specs.declared.lift.Lifts.{Lifts}
 use Rattle.awk_unify.proofs.Views.{lift_of-Parts, lift_of-Alternatives}
 
-carry_list-from : (fs : List Carry) → carry_list (carries_from fs) ≡ fs
+pub carry_list-from : (fs : List Carry) → carry_list (carries_from fs) ≡ fs
 carry_list-from [] = refl
 carry_list-from (f ∷ fs) = ap (λ gs. f ∷ gs) (carry_list-from fs)
 

@@ -22,6 +22,7 @@ use Rattle.awk_types.specs.SameType.{same_type}
 use Rattle.awk_types.specs.Simple.{ArePlain, AreSimple, IsSimple, alternatives, is_option, is_union}
 use Rattle.awk_types.specs.Simple.{present}
 use Rattle.awk_types.specs.declared.primitive.Primitive.{Primitive}
+use Rattle.awk_types.proofs.TypeShapes.{some_depth}
 
 -- the type of a list column is that of its items
 abbrev IfIs : (DataType → Type 0) → Option Unification → Type 0
@@ -253,10 +254,6 @@ pub present_shallow : (b : DataType) → depth (present b) ≤ depth b
 present_shallow (opt b) = omega arith
 present_shallow b = omega arith
 
-pub depth_pos : (b : DataType) → 1 ≤ depth b
-depth_pos unknown = omega arith
-depth_pos b = omega arith
-
 options_simple : (x : Bool) (n : ℕ) (u : Unifying) → Simply n u → (a b : DataType)
     → (is_option a || is_option b) ≡ x → depth b ≤ suc n → IsSimple a → IsSimple b →
     IsSimple (if x then optional (bare u (present a) (present b)) else joins_or_unions u a b).typ
@@ -271,7 +268,7 @@ options_simple false n u g a b e h s t =
     later_simple n u g a b h s t (not_opts a b e).0 (not_opts a b e).1
 
 pub steps_simple : (n : ℕ) → Simply n (unification_at n)
-steps_simple zero a b h s t = absurd (omega (arith, depth_pos b))
+steps_simple zero a b h s t = absurd (omega (arith, some_depth b))
 steps_simple (suc n) a b h s t =
     equal_is IsSimple a b (options_or (unification_at n) a b) s t
     (options_simple (is_option a || is_option b) n (unification_at n) (steps_simple n) a b refl h s

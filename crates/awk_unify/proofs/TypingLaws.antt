@@ -4,7 +4,7 @@ use Rattle.std.proofs.Common.{false, length, refl, subst, suc, sym, true, zero}
 use Rattle.std.specs.Prelude.{if◌then◌else◌, None, Option, Some}
 use Rattle.awk_base.proofs.Truths.{eq_is}
 use Rattle.awk_unify.proofs.AfterLaws.{AllInPlace}
-use Rattle.awk_unify.proofs.SimpleLaws.{Simply, deepest_alternatives, depth_pos, not_opts, not_uni}
+use Rattle.awk_unify.proofs.SimpleLaws.{Simply, deepest_alternatives, not_opts, not_uni}
 use Rattle.awk_unify.proofs.SimpleLaws.{present_shallow, steps_simple}
 use Rattle.awk_unify.proofs.Tests.{unknown_is}
 use Rattle.awk_unify.proofs.TypeLaws.{Types, steps_type}
@@ -27,6 +27,7 @@ use Rattle.awk_types.specs.IsType.{IsType}
 use Rattle.awk_types.specs.SameType.{same_primitive, same_type}
 use Rattle.awk_types.specs.Simple.{IsSimple, alternatives, is_option, is_union, present}
 use Rattle.awk_types.specs.declared.primitive.Primitive.TheVariants.{Bool}
+use Rattle.awk_types.proofs.TypeShapes.{some_depth}
 use Rattle.awk_unify.proofs.AlternativeLaws.{AllCarried, AllFine, Joins, Kept, PutAll, alts_carry}
 use Rattle.awk_unify.proofs.AlternativeLaws.{insert_all_carries, kept_put, kept_same}
 use Rattle.awk_unify.proofs.CarriedLaws.{Good, IfJoins, IsCarried, opt_carry, stays}
@@ -190,7 +191,7 @@ options_carries false n u g si ty a b e d s t x y =
     later_carries n u g si ty a b d s t x y (not_opts a b e).0 (not_opts a b e).1
 
 pub steps_carry : (n : ℕ) → Good n (unification_at n)
-steps_carry zero a b d s t x y = absurd (omega (arith, depth_pos b))
+steps_carry zero a b d s t x y = absurd (omega (arith, some_depth b))
 steps_carry (suc n) a b d s t x y =
     equal_carries a b (options_or (unification_at n) a b)
     (options_carries (is_option a || is_option b) n (unification_at n) (steps_carry n)

@@ -1,7 +1,8 @@
 -- Fields of records by name.
 use Rattle.std.specs.List.{list_all}
-use Rattle.std.specs.Prelude.{◌&&◌, ◌==◌, ◌∷◌, [], ℕ, if◌then◌else◌, Bool, List, None, Option, Some}
-use Rattle.std.specs.Prelude.{length, map, suc}
+use Rattle.std.specs.Prelude.{◌&&◌, ◌==◌, ◌∷◌, [], if◌then◌else◌, Bool, List, None, Option, Some}
+use Rattle.std.specs.Prelude.{length, map}
+use Rattle.awk_name_places.specs.Places.{place_in}
 use Rattle.awk_unify.specs.Carries.{carry_at}
 use Rattle.awk_unify.specs.Carry.{Carry, carries_from, to_parts}
 use Rattle.awk_unify.specs.Places.{places}
@@ -20,11 +21,6 @@ with_type t ts = None
 abbrev pub picked : List Name → List Name → List DataType → Option (List DataType)
 picked [] ms us = Some []
 picked (n ∷ ns) ms us = with_type (field_type n ms us) (picked ns ms us)
-
--- the place of a name
-abbrev pub place_in : List Name → Name → ℕ
-place_in [] m = 0
-place_in (n ∷ ns) m = if same_name n m then 0 else suc (place_in ns m)
 
 -- the same names in any order, where those of a record are distinct
 abbrev pub is_in : List Name → Name → Bool

@@ -2,9 +2,10 @@
 ghost use Rattle.std.specs.Prelude.{◌≡◌, ◌≤◌, ◌&&◌, nat_lt, is_some, length, map, IfOk, IfSome};
 ghost use Rattle.awk_types.specs.Names.{are_distinct};
 ghost use Rattle.awk_types.specs.View.{names_of, fields_of, typs_of};
+ghost use Rattle.awk_name_places.specs.Places.{place_in};
 ghost use Rattle.awk_unify.specs.Carries.{carry_at};
 ghost use Rattle.awk_unify.specs.FieldNames as said;
-ghost use Rattle.awk_unify.specs.FieldNames.{alike, place_in};
+ghost use Rattle.awk_unify.specs.FieldNames.{alike};
 ghost use Rattle.awk_unify.specs.Join.{rec_of};
 ghost use Rattle.awk_unify.specs.View.{found_of, lift_of, lifts_of, parts_found};
 

@@ -1,7 +1,7 @@
 //! Tests of types.
 ghost use Rattle.std.specs.Prelude.{◌≡◌, ◌≤◌};
 ghost use Rattle.awk_types.specs.SameType.{same_type};
-ghost use Rattle.awk_types.specs.Simple.{is_union as is_uni, present as present_of};
+ghost use Rattle.awk_types.specs.Simple.{present as present_of};
 ghost use Rattle.awk_types.specs.View.{typ_of};
 ghost use Rattle.awk_types.specs.declared.typ.Typ.{size-Typ};
 
@@ -11,12 +11,6 @@ pub(crate) fn is_same(a: &Typ, b: &Typ) -> bool
     ensures { result ≡ same_type (typ_of a.now) (typ_of b.now) }
 {
     same(a, b)
-}
-
-pub(crate) fn is_union(t: &Typ) -> bool
-    ensures { result ≡ is_uni (typ_of t.now) }
-{
-    matches!(t, Typ::Uni(_))
 }
 
 /// The type without its option.

@@ -18,10 +18,10 @@ use crate::fields::{are_alike, known_places, place_by, records};
 use crate::joining::{as_it_is, early, joined_leaves, lists, optional, regular_lists, tuples};
 use crate::parts::Parts;
 use crate::placed::{Placed, PlacedAll};
-use crate::predicates::{is_union, present};
+use crate::predicates::present;
 use crate::unified::Unified;
 use awk_name_places::NamePlaces;
-use awk_types::{Fields, NoMemory, Typ, TypeFault, Typs, is_optional, simple_of};
+use awk_types::{Fields, NoMemory, Typ, TypeFault, Typs, is_optional, is_union, simple_of};
 use std::alloc::Global;
 
 /// What two types unify to, whatever its size: for a type that becomes a part of another one, whose

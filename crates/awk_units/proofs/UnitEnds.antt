@@ -1,9 +1,7 @@
 -- What is whole of a front is whole of the bytes.
-use Rattle.std.proofs.Common.{◌≡◌, ◌≤◌, ◌==◌, ◌&&◌, nat_le, ℕ, zero, suc, ◌+◌, ◌-◌, Bool, true}
-use Rattle.std.proofs.Common.{false, cond, List, [], ◌∷◌, ◌++◌, length, take, drop, refl, ap, sym}
+use Rattle.std.proofs.Common.{◌≡◌, ◌≤◌, ◌==◌, ◌&&◌, nat_le, ℕ, zero, suc, ◌-◌, Bool, true}
+use Rattle.std.proofs.Common.{false, cond, List, [], ◌∷◌, ◌++◌, length, drop, refl, ap, sym}
 use Rattle.std.proofs.Common.{◌∙◌, arith, append_assoc, length-drop}
-use Rattle.std.specs.List.{prefix_len}
-use Rattle.std.proofs.Math.Numerals.{one-add}
 use Rattle.std.proofs.lemmas.List.{take-append-drop}
 use Rattle.std.proofs.lemmas.Bool.{and_parts}
 use Rattle.awk_base.proofs.Truths.{eq_is, nat_le-true}
@@ -12,7 +10,8 @@ use Rattle.awk_edge.specs.Units.{raw_limit, Framing, Framed, first_line, has_end
 use Rattle.awk_edge.specs.Units.{framed, units, is_whole, is_small, whole_units, ended_units}
 use Rattle.awk_edge.specs.Units.{joined_units, IsUnit, AreUnits, read_after}
 use Rattle.awk_edge.proofs.UnitLaws.{units-nil, units-first, ended-joined, whole_units-nil}
-use Rattle.awk_edge.proofs.UnitLaws.{whole_units-zero, whole_units-stop}
+use Rattle.awk_edge.proofs.UnitLaws.{whole_units-zero, whole_units-stop, length-behind}
+use Rattle.awk_edge.proofs.UnitLaws.{whole_units-cons}
 
 -- ---- a first line
 
@@ -36,26 +35,6 @@ around_end (b ∷ bytes) e = by (b == 10) refl e (λ h. around_end bytes h)
         → b ∷ bytes ≡ cond t [] (b ∷ first_line bytes) ++ 10 ∷ cond t bytes (behind_line bytes)
     by true same e f = let ten : b ≡ 10 = grind arith in ap (λ z. z ∷ bytes) ten
     by false same e f = ap (λ z. b ∷ z) (f e)
-
-length-behind : (b : ℕ) (bytes : List ℕ) → length (behind_line (b ∷ bytes)) ≤ length bytes
-length-behind b [] = by (b == 10)
-  where
-    by : (t : Bool) → length (cond t [] (let none : List ℕ = [] in none)) ≤ 0
-    by true = omega arith
-    by false = omega arith
-length-behind b (c ∷ bytes) = by (b == 10) (length-behind c bytes)
-  where
-    by : (t : Bool) → length (behind_line (c ∷ bytes)) ≤ length bytes
-        → length (cond t (c ∷ bytes) (behind_line (c ∷ bytes))) ≤ suc (length bytes)
-    by true h = omega arith
-    by false h = omega arith
-
-pub whole_units-cons : (n : ℕ) (u : Framed) (us : List Framed) → (is_whole u && is_small u) ≡ true
-    → whole_units (suc n) (u ∷ us) ≡ u ∷ whole_units n us
-unfolding whole_units
-whole_units-cons n u us h =
-    ap (λ b. take (suc n) (take (cond b (1 + prefix_len (λ v. is_whole v && is_small v) us) 0)
-    (u ∷ us))) h ∙ rw one-add refl
 
 module _ {R : Type 0} (p : Framing R) where
   -- the whole units within the limits, at most n of them, and the rest

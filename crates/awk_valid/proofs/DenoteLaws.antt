@@ -21,7 +21,7 @@ use Rattle.awk_lanes.specs.Places.{at, option_place, IsSpan}
 use Rattle.awk_lanes.proofs.BitParts.{get_or-bits, length-bits}
 use Rattle.awk_layout.specs.Layout.{Layout}
 use Rattle.awk_layout.specs.Item as layout_item
-use Rattle.awk_layout.specs.Item.{leaf_value, run, at_option, agrees, items}
+use Rattle.awk_layout.specs.Item.{leaf_value, at_option, agrees}
 use Rattle.awk_layout.specs.Typing.{array_type, array_items}
 use Rattle.awk_layout.specs.Valid.{len}
 use Rattle.awk_form.specs.FormTree.{FormTree, empty, numpy, regular, list as list_array}
@@ -31,6 +31,7 @@ use Rattle.awk_form.specs.FormTree.{form}
 use Rattle.awk_form.specs.FormType.{type_of}
 use Rattle.awk_form.specs.Lawful.{count}
 use Rattle.awk_layout.specs.Kinds.{kind_of}
+use Rattle.awk_layout.proofs.Runs.{run-same}
 use Rattle.awk_valid.specs.Container.{Container, bytes_at, column_at, index_num, int8_num}
 use Rattle.awk_valid.specs.Needs.{product, reach, behind, behind_at, content_length}
 use Rattle.awk_valid.specs.Loaded.{shaped, layout_of, layouts_of}
@@ -71,13 +72,6 @@ leaf-element big primitive.U32 b n i h = ap int (get_or-numbers_by big kind.U32 
 leaf-element big primitive.U64 b n i h = ap int (get_or-numbers_by big kind.U64 n b i h)
 
 -- ---- items at places in a row
-
-run-same : (g d : ℕ → Value) (first n : ℕ) → ((k : ℕ) → first ≤ k → k < first + n → g k ≡ d k)
-    → run g first n ≡ run d first n
-run-same g d first zero h = refl
-run-same g d first (suc n) h =
-    ap₂ value (h first (omega arith) (omega arith))
-    (run-same g d (suc first) n (λ k p q. h k (omega arith) (omega arith)))
 
 -- the place of a list of a size in n lists is below n times the size
 within-lists : (i n size k : ℕ) → i < n → k < i * size + size → k < n * size

@@ -106,7 +106,7 @@ own-places f m n c small there product =
     (buffers_break c (key_of f) (buffer_needs f n) or places_break f m n c) small
     ∙ or-None (buffers_break c (key_of f) (buffer_needs f n)) (places_break f m n c) there
 
-both_none : (a b : Option Refusal) → a ≡ None → b ≡ None → (a or b) ≡ None
+pub both_none : (a b : Option Refusal) → a ≡ None → b ≡ None → (a or b) ≡ None
 both_none a b e f = or-None a b e ∙ f
 
 one_none : (a : Option Refusal) → a ≡ None → (a or None) ≡ None

@@ -10,23 +10,22 @@ use Rattle.awk_types.proofs.RefusalLaws.{Told-first, refused_or-Ok, or-None, or-
 use Rattle.awk_types.specs.Gives.{Gives, Told, refused_or, ◌or◌}
 use Rattle.awk_store.specs.Buffers.{held_len}
 use Rattle.awk_layout.specs.Layout as made
-use Rattle.awk_layout.specs.Layout.{Layout, Layouts, layouts_from}
+use Rattle.awk_layout.specs.Layout.{Layout, Layouts, layouts_from, layout_list}
 use Rattle.awk_layout.specs.Valid.{IsValid}
 use Rattle.awk_form.specs.FormTree.{FormTree, empty, numpy, regular, list, list_offset, row}
 use Rattle.awk_form.specs.FormTree.{indexed, indexed_option, byte_masked, bit_masked, unmasked}
 use Rattle.awk_form.specs.FormTree.{union, FormTrees, no_forms, form, form_list, forms_from}
+use Rattle.awk_form.specs.FormTree.{contents_of}
 use Rattle.awk_form.specs.FormText.{key_of}
 use Rattle.awk_form.specs.Lawful.{count, IsLawful, AreLawful}
-use Rattle.awk_form.specs.Measures.{inner_shape, nodes, nodes_of}
+use Rattle.awk_form.specs.Measures.{inner_shape, nodes, nodes_of, width, width_of}
 use Rattle.awk_form.specs.Induction.{width-contents}
 use Rattle.awk_valid.specs.Container.{Container, index_at, int8s_at}
 use Rattle.awk_valid.specs.Needs.{buffer_needs, content_length}
 use Rattle.awk_valid.specs.Loaded.{layout_of, layouts_of}
 use Rattle.awk_valid.specs.Broken.{Refusal, size_break, shape_break, buffers_break, places_break}
 use Rattle.awk_valid.specs.Broken.{node_break, broken_from, all_broken_from}
-use Rattle.awk_form.specs.FormTree.{contents_of}
-use Rattle.awk_valid.specs.Parts.{lengths_of, own_of, over, layout_list}
-use Rattle.awk_form.specs.Measures.{width, width_of}
+use Rattle.awk_valid.specs.Parts.{lengths_of, own_of, over}
 use Rattle.awk_valid.specs.Walked.{Given, container_in, node_said, product_break, own_break}
 use Rattle.awk_valid.specs.Walked.{own_said, GivesOwn, rest, left_said, budget}
 use Rattle.awk_valid.specs.Loading.{told}

@@ -31,9 +31,6 @@ limited size_limit = too_many
 abbrev pub judged : Option Refusal → Result (Unit {0}) Refusal
 judged b = refused_or b tt
 
-abbrev pub unit : Unit {0} → Unit {0}
-unit u = u
-
 -- why a form does not load: the limits of its type come before the breaks of the walk
 abbrev pub refusal : FormTree → ℕ → Container → Option Refusal
 refusal f n c = option_map limited (limit (simple (type_of f))) or broken f n c

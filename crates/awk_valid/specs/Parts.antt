@@ -1,9 +1,9 @@
 -- What a node holds beside its contents, and the node over its contents.
-use Rattle.std.specs.Prelude.{ℕ, ◌+◌, ◌-◌, List, [], ◌∷◌, length, get_or, map, codes}
+use Rattle.std.specs.Prelude.{ℕ, ◌+◌, ◌-◌, List, length, get_or, map, codes}
 use Rattle.std.specs.List.{range_with_len}
 use Rattle.awk_lanes.specs.Bits.{bits}
 use Rattle.awk_layout.specs.Layout as made
-use Rattle.awk_layout.specs.Layout.{Layout, Layouts, layouts_from}
+use Rattle.awk_layout.specs.Layout.{Layout, layouts_from}
 use Rattle.awk_form.specs.FormTree.{FormTree, contents_of, empty, numpy, regular, list, list_offset}
 use Rattle.awk_form.specs.FormTree.{row, indexed, indexed_option, byte_masked, bit_masked, unmasked}
 use Rattle.awk_form.specs.FormTree.{union}
@@ -61,8 +61,3 @@ over n (Whole x) xs = x
 over n (Over one) xs = over_one n one (only xs)
 over n (Rows names) xs = made.rows names n (layouts_from xs)
 over n (Union tags index) xs = made.union tags index (layouts_from xs)
-
--- layouts as a list
-abbrev pub layout_list : Layouts → List Layout
-layout_list made.no_layouts = []
-layout_list (made.layout x xs) = x ∷ layout_list xs

@@ -4,7 +4,7 @@ use Rattle.std.specs.Prelude.{ℕ, ◌+◌, ◌*◌, Bool, List, ◌++◌, drop,
 use Rattle.std.specs.Global.{Vec}
 use Rattle.awk_types.specs.Gives.{Gives, refused_or, ◌or◌}
 use Rattle.awk_store.specs.Buffers.{Held, held_len}
-use Rattle.awk_layout.specs.Layout.{Layout}
+use Rattle.awk_layout.specs.Layout.{Layout, layout_list}
 use Rattle.awk_form.specs.FormTree.{FormTree, contents_of, FormTrees, form_list, forms_from}
 use Rattle.awk_form.specs.FormTree.{regular}
 use Rattle.awk_valid.specs.Broken.{Refusal, size_break, node_break, broken_from, all_broken_from}
@@ -12,7 +12,7 @@ use Rattle.awk_valid.specs.Container.{Container, container_of}
 use Rattle.awk_valid.specs.Loaded.{layout_of, layouts_of}
 use Rattle.awk_valid.specs.Loading.{told}
 use Rattle.awk_valid.specs.Needs.{content_length}
-use Rattle.awk_valid.specs.Parts.{lengths_of, own_of, over, layout_list}
+use Rattle.awk_valid.specs.Parts.{lengths_of, own_of, over}
 use Rattle.awk_valid.specs.declared.fault.LoadFault.{LoadFault}
 use Rattle.awk_valid.specs.declared.own.Own.{Own}
 

@@ -5,11 +5,12 @@ ghost use Rattle.awk_types.specs.ItemLimit.{item_limit};
 ghost use Rattle.awk_lanes.specs.Bits.{bits};
 ghost use Rattle.awk_lanes.specs.Numbers.{width};
 ghost use Rattle.awk_store.specs.Buffers.{buffer, held_len};
+ghost use Rattle.awk_form.specs.Told.{unit};
 ghost use Rattle.awk_valid.specs.Container as container;
 ghost use Rattle.awk_valid.specs.Container.{container_of, bytes_at, index_at, int8s_at};
 ghost use Rattle.awk_valid.specs.Container.{kind_of_index};
 ghost use Rattle.awk_valid.specs.Broken.{size_break, bytes_break};
-ghost use Rattle.awk_valid.specs.Loading.{told, judged, unit};
+ghost use Rattle.awk_valid.specs.Loading.{told, judged};
 
 use crate::fault::LoadFault;
 use crate::keys::buffer_key;

@@ -3,8 +3,9 @@ ghost use Rattle.std.specs.Prelude.{◌≡◌, ◌<◌, ◌≤◌, ◌≤ℤ◌,
 ghost use Rattle.std.specs.Prelude.{if◌then◌else◌};
 ghost use Rattle.awk_types.specs.Gives.{Gives};
 ghost use Rattle.awk_lanes.specs.Numbers.{nat_of};
+ghost use Rattle.awk_form.specs.Told.{unit};
 ghost use Rattle.awk_valid.specs.Broken.{rule_break, tag_rule};
-ghost use Rattle.awk_valid.specs.Loading.{told, judged, unit};
+ghost use Rattle.awk_valid.specs.Loading.{told, judged};
 ghost use Rattle.awk_valid.specs.Rules.{list_rules, index_rules, tag_rules};
 ghost use Rattle.awk_valid.specs.declared.fault.Rule.TheVariants.{Order, Start};
 

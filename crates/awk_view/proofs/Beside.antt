@@ -1,19 +1,12 @@
 -- Steps of the loops over names.
 use Rattle.std.proofs.Common.{◌≡◌, ℕ, zero, suc, ◌+◌, not, Bool, true, false, List, [], ◌∷◌, ◌++◌}
 use Rattle.std.proofs.Common.{length, map, take, drop, slice_get, Some, get_or, if◌then◌else◌, refl}
-use Rattle.std.proofs.Common.{ap, ap₂, ◌∙◌, sym, subst, arith}
+use Rattle.std.proofs.Common.{ap, ap₂, ◌∙◌, sym, arith}
 use Rattle.std.proofs.lemmas.List.{append_assoc}
-use Rattle.std.specs.List.{AllByRecursion}
 use Rattle.awk_types.specs.DataType.{Name}
-use Rattle.awk_types.specs.Names.{same_name}
+use Rattle.awk_types.specs.Names.{same_name, place_of}
 use Rattle.awk_base.proofs.Lists.{drop-get, map-take-get}
-use Rattle.awk_view.specs.Choice.{place_of, apart_from}
-
-pub All-get : {X : Type 0} (P : X → Type 0) (xs : List X) (i : ℕ) (x : X) → slice_get xs i ≡ Some x
-    → AllByRecursion P xs → P x
-All-get P [] i x e h = cc
-All-get P (y ∷ xs) zero x e h = let f : y ≡ x = cc in subst P f h.0
-All-get P (y ∷ xs) (suc i) x e h = All-get P xs i x e h.1
+use Rattle.awk_view.specs.Choice.{apart_from}
 
 pub get_or-get : {X : Type 0} (xs : List X) (i : ℕ) (x d : X) → slice_get xs i ≡ Some x
     → get_or xs i d ≡ x

@@ -2,29 +2,29 @@
 use Rattle.std.proofs.Common.{◌≡◌, ℕ, zero, suc, ◌+◌, ◌-◌, ◌*◌, ◌<◌, ◌≤◌, Bool, true, false, List}
 use Rattle.std.proofs.Common.{◌∷◌, length, map, Option, Some, None, if◌then◌else◌, refl, ap, ap₂}
 use Rattle.std.proofs.Common.{◌∙◌, sym, arith, ℤ, pos, negsuc}
-use Rattle.std.specs.Prelude.{◌≢◌, ◌≤ℤ◌, ◌<ℤ◌}
+use Rattle.std.specs.Prelude.{◌<ℤ◌}
 use Rattle.std.proofs.lemmas.Int.{ints}
 use Rattle.std.proofs.lemmas.Nat.{row_fits}
-use Rattle.awk_types.specs.DataType.{Name}
+use Rattle.awk_types.specs.DataType.{Name, row_type}
 use Rattle.awk_types.specs.Value.{Value, null, list, row, alt, value_list, values_from}
 use Rattle.awk_types.specs.Simple.{in_list, in_option, value_by}
 use Rattle.awk_types.proofs.Trees.{values_from-list, value_list-from}
-use Rattle.awk_lanes.specs.Numbers.{nat_of}
-use Rattle.awk_lanes.specs.Places.{at, place_at, option_place, IsSpan}
+use Rattle.awk_lanes.specs.Places.{at, place_at, option_place}
 use Rattle.awk_layout.specs.Layout.{Layout, Layouts, layout_list, layouts_from, empty, flat}
 use Rattle.awk_layout.specs.Layout.{regular, lists, offset_lists, rows, indexed, optional}
 use Rattle.awk_layout.specs.Layout.{byte_masked, bit_masked, unmasked, union, no_layouts, layout}
 use Rattle.awk_layout.specs.Valid.{len, len_of, IsValid, AllValid}
 use Rattle.awk_layout.specs.Item.{item, items_across, item_of, run, at_option, byte_shows}
 use Rattle.awk_layout.specs.Item.{bit_shows}
-use Rattle.awk_types.specs.DataType.{row_type}
+use Rattle.awk_types.proofs.NullLaws.{in_option-same}
+use Rattle.awk_lanes.proofs.PlaceLaws.{span-below}
 use Rattle.awk_layout.specs.Typing.{layout_type, layout_types}
 use Rattle.awk_view.specs.Choice.{Choice, field, fields, without, row_names, beside, apart_from}
 use Rattle.awk_view.specs.Choice.{in_row_of, value_of_choice, values_of_choice}
 use Rattle.awk_view.specs.Layouts.{row_of_choice, layout_of_choice, layouts_of_choice}
 use Rattle.awk_view.proofs.FirstItems.{item-first_items}
 use Rattle.awk_view.proofs.ChoiceTypes.{beside-map, apart_from-map, each_beside-map}
-use Rattle.awk_view.proofs.ChoiceValues.{value_of_choice-null, in_option-same}
+use Rattle.awk_view.proofs.ChoiceValues.{value_of_choice-null}
 use Rattle.awk_view.proofs.ChoiceLayouts.{layouts_from-list, items_across_from, count-layout_types}
 
 -- ---- rows
@@ -74,20 +74,6 @@ list_chosen f g h first n each =
     ap list (sym (values_from-list (run g first n)) ∙ ap values_from
     (run_chosen f g h first n each))
 
--- the places of a list are below the content's length
-span_below : (n : ℕ) (a b : ℤ) (j : ℕ) → IsSpan n a b → nat_of a ≤ j
-    → j < nat_of a + (nat_of b - nat_of a) → j < n
-span_below n a b j s l h =
-    let apart : a ≢ b = λ e. let f : nat_of a ≡ nat_of b = ap nat_of e in omega arith in
-    let o = s apart in
-    ordered a b o.0 o.1 o.2 l h
-  where
-    ordered : (a b : ℤ) → pos 0 ≤ℤ a → a ≤ℤ b → b ≤ℤ pos n → nat_of a ≤ j
-        → j < nat_of a + (nat_of b - nat_of a) → j < n
-    ordered (pos k) (pos m) p q r l h = omega (arith, ints)
-    ordered (pos k) (negsuc m) p q r l h = absurd (omega (arith, ints))
-    ordered (negsuc k) b p q r l h = absurd (omega (arith, ints))
-
 -- ---- options
 
 option_chosen : (f : Value → Value) (g h : ℕ → Value) (n : ℕ) (z : ℤ) → f null ≡ null → z <ℤ pos n
@@ -118,12 +104,12 @@ mutual
       list_chosen (value_of_choice c (layout_type x)) (item (layout_of_choice c x)) (item x)
       (place_at s i) (place_at t i - place_at s i)
       (λ j a b. item-layout_of_choice c x v.2 j
-      (span_below (len x) (at s i) (at t i) j (v.1.ordered i p) a b))
+      (span-below (len x) (at s i) (at t i) j (v.1.ordered i p) a b))
   item-layout_of_choice c (offset_lists o x) v i p =
       list_chosen (value_of_choice c (layout_type x)) (item (layout_of_choice c x)) (item x)
       (place_at o i) (place_at o (i + 1) - place_at o i)
       (λ j a b. item-layout_of_choice c x v.2 j
-      (span_below (len x) (at o i) (at o (i + 1)) j (v.1.ordered i (omega arith)) a b))
+      (span-below (len x) (at o i) (at o (i + 1)) j (v.1.ordered i (omega arith)) a b))
   item-layout_of_choice c (rows names n xs) v i p =
       item_of_row c names n (layout_list xs) i p
       ∙ ap (λ ys. in_row_of c (row_names names (length (layout_list xs))) (row (items_across ys i)))

@@ -8,7 +8,7 @@ use Rattle.std.proofs.lemmas.List.FromFn.{length-map-range_with_len}
 use Rattle.awk_base.proofs.Truths.{or_later}
 use Rattle.awk_types.specs.DataType.{Name, unknown, var, reg, opt, uni, type, types_from, type_list}
 use Rattle.awk_types.specs.Value.{value, values_from}
-use Rattle.awk_types.specs.Names.{same_name, is_among}
+use Rattle.awk_types.specs.Names.{same_name, is_among, place_of}
 use Rattle.awk_types.specs.IsType.{count as type_count}
 use Rattle.awk_layout.specs.Layout.{Layout, Layouts, layout_list, layouts_from, count, weight}
 use Rattle.awk_layout.specs.Layout.{weights, height, heights, empty, flat, regular, lists}
@@ -19,7 +19,8 @@ use Rattle.awk_layout.specs.Item.{item, items_across}
 use Rattle.awk_types.specs.DataType.{row_type}
 use Rattle.awk_layout.specs.Typing.{layout_type, layout_types}
 use Rattle.awk_layout.proofs.ContentTypes.{layout_types-layouts_from}
-use Rattle.awk_view.specs.Choice.{Choice, field, fields, without, row_names, place_of, beside}
+use Rattle.awk_view.specs.Choice.{Choice, field, fields, without, row_names, beside}
+use Rattle.awk_layout.proofs.LayoutLists.{length-layout_list}
 use Rattle.awk_view.specs.Choice.{apart_from, row_type_of, type_of_choice, types_of_choice}
 use Rattle.awk_view.specs.Layouts.{AreAmong, IsFound, row_of_choice, layout_of_choice}
 use Rattle.awk_view.specs.Layouts.{layouts_of_choice}
@@ -28,10 +29,6 @@ use Rattle.awk_view.proofs.ChoiceTypes.{beside-map, apart_from-map, each_beside-
 
 -- ---- layouts as lists
 
-pub layout_list-from : (xs : List Layout) → layout_list (layouts_from xs) ≡ xs
-layout_list-from [] = refl
-layout_list-from (x ∷ xs) = ap (λ ys. x ∷ ys) (layout_list-from xs)
-
 pub layouts_from-list : (xs : Layouts) → layouts_from (layout_list xs) ≡ xs
 layouts_from-list no_layouts = refl
 layouts_from-list (layout x xs) = ap (layout x) (layouts_from-list xs)
@@ -39,10 +36,6 @@ layouts_from-list (layout x xs) = ap (layout x) (layouts_from-list xs)
 layout_types_list : (xs : Layouts) → type_list (layout_types xs) ≡ map layout_type (layout_list xs)
 layout_types_list no_layouts = refl
 layout_types_list (layout x xs) = ap (λ ts. layout_type x ∷ ts) (layout_types_list xs)
-
-length-layout_list : (xs : Layouts) → length (layout_list xs) ≡ count xs
-length-layout_list no_layouts = refl
-length-layout_list (layout x xs) = omega (arith, length-layout_list xs)
 
 pub count-layout_types : (xs : Layouts) → type_count (layout_types xs) ≡ length (layout_list xs)
 count-layout_types xs = ap length (layout_types_list xs) ∙ length-map (layout_list xs) layout_type

@@ -7,11 +7,11 @@ use Rattle.std.specs.List.{AllByRecursion}
 use Rattle.awk_base.proofs.Truths.{or_first, or_second}
 use Rattle.awk_base.proofs.Sums.{sum-cons}
 use Rattle.awk_types.specs.DataType.{Name}
-use Rattle.awk_types.specs.Names.{same_name, is_among, AreDistinct}
+use Rattle.awk_types.specs.Names.{same_name, is_among, AreDistinct, place_of}
 use Rattle.awk_types.proofs.NameLaws.{same_name_is, same_name-refl}
 use Rattle.awk_layout.specs.Layout.{Layout, layouts_from, weight, weights, height, heights, empty}
 use Rattle.awk_layout.specs.Valid.{AllValid, AllReach}
-use Rattle.awk_view.specs.Choice.{place_of, beside, apart_from}
+use Rattle.awk_view.specs.Choice.{beside, apart_from}
 use Rattle.awk_view.proofs.ChoiceLayouts.{get_height, place_within}
 
 -- ---- the sum of what stands beside distinct names

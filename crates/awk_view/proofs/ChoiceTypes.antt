@@ -6,19 +6,18 @@ use Rattle.std.proofs.Math.ListN.{get_or-map}
 use Rattle.std.specs.List.{list_all}
 use Rattle.std.specs.Option.{option_map}
 use Rattle.awk_types.specs.DataType.{Name, DataType, unknown, leaf, var, reg, rec, tup, opt, uni}
-use Rattle.awk_types.specs.DataType.{DataTypes, no_types, type, types_from, type_list}
-use Rattle.awk_types.specs.Names.{same_name, is_among}
+use Rattle.awk_types.specs.DataType.{DataTypes, no_types, type, types_from, type_list, row_type}
+use Rattle.awk_types.specs.Names.{same_name, is_among, place_of}
 use Rattle.awk_types.specs.IsType.{count}
 use Rattle.awk_types.specs.Simple.{option_of, union_of, simple, simples}
 use Rattle.awk_types.specs.Gives.{◌or◌}
 use Rattle.awk_types.proofs.SimpleLaws.{simple_twice}
 use Rattle.awk_types.proofs.TypeLaws.{length-simples}
 use Rattle.awk_types.proofs.Trees.{type_list-from}
-use Rattle.awk_types.specs.DataType.{row_type}
-use Rattle.awk_view.specs.Choice.{Choice, field, fields, without, row_names, place_of, beside}
-use Rattle.awk_view.specs.Choice.{apart_from, has_field, all_have_field, has_records}
-use Rattle.awk_view.specs.Choice.{all_have_records, first_absent, absent, row_type_of}
-use Rattle.awk_view.specs.Choice.{type_of_choice, types_of_choice, chosen_type}
+use Rattle.awk_view.specs.Choice.{Choice, field, fields, without, row_names, beside, apart_from}
+use Rattle.awk_view.specs.Choice.{has_field, all_have_field, has_records, all_have_records}
+use Rattle.awk_view.specs.Choice.{first_absent, absent, row_type_of, type_of_choice}
+use Rattle.awk_view.specs.Choice.{types_of_choice, chosen_type}
 use Rattle.awk_view.proofs.TypeWalks.{test-option_of, test-union_of, walked-option_of}
 use Rattle.awk_view.proofs.TypeWalks.{walked-union_of}
 

@@ -7,9 +7,9 @@ use Rattle.std.specs.List.{list_any, flat_map, AllByRecursion}
 use Rattle.std.specs.Option.{option_map}
 use Rattle.std.proofs.lemmas.Simd.{map-map}
 use Rattle.awk_types.specs.DataType.{Name, DataType, unknown, leaf, var, reg, rec, tup, opt, uni}
-use Rattle.awk_types.specs.DataType.{DataTypes, no_types, type, types_from, type_list}
+use Rattle.awk_types.specs.DataType.{DataTypes, no_types, type, types_from, type_list, row_type}
 use Rattle.awk_types.specs.Value.{Value, null, list, row, alt, Values, value_list, values_from}
-use Rattle.awk_types.specs.Names.{same_name}
+use Rattle.awk_types.specs.Names.{same_name, place_of}
 use Rattle.awk_types.specs.Has.{Has, HasRow, HasAlternative}
 use Rattle.awk_types.specs.IsType.{count}
 use Rattle.awk_types.specs.Simple.{IsSimple, AreSimple, present, option_if, is_option, alternatives}
@@ -18,27 +18,18 @@ use Rattle.awk_types.specs.Simple.{in_option, value_by, values_by, alternatives_
 use Rattle.awk_types.specs.Simple.{simple_value, simple_values}
 use Rattle.awk_types.proofs.SimpleLaws.{inner_tag, inner_value, is_null, simples_are_simple}
 use Rattle.awk_types.proofs.SimpleLaws.{has_simples, has_simple_alternative, values_stay}
+use Rattle.awk_types.proofs.SimpleLaws.{value_after_alternative}
 use Rattle.awk_types.proofs.Trees.{type_list-from, value_list-from, values_from-list}
-use Rattle.awk_types.specs.DataType.{row_type}
-use Rattle.awk_view.specs.Choice.{Choice, field, fields, without, row_names, place_of, beside}
-use Rattle.awk_view.specs.Choice.{apart_from, row_type_of, type_of_choice, types_of_choice}
-use Rattle.awk_view.specs.Choice.{chosen_type, in_row_of, value_of_choice, values_of_choice}
-use Rattle.awk_view.specs.Choice.{chosen_value}
+use Rattle.awk_view.specs.Choice.{Choice, field, fields, without, row_names, beside, apart_from}
+use Rattle.awk_view.specs.Choice.{row_type_of, type_of_choice, types_of_choice, chosen_type}
+use Rattle.awk_view.specs.Choice.{in_row_of, value_of_choice, values_of_choice, chosen_value}
+use Rattle.awk_types.proofs.NullLaws.{simple_value-null, in_option-same}
+use Rattle.awk_types.proofs.HasLaws.{tag_within}
 use Rattle.awk_view.proofs.TypeWalks.{part_gives}
 use Rattle.awk_view.proofs.ChoiceTypes.{count-simples, chosen_alternatives, chosen_union}
 use Rattle.awk_view.proofs.ChoiceTypes.{chosen_types-simple}
 
 -- ---- null stays null
-
-pub simple_value-null : (t : DataType) → simple_value t null ≡ null
-simple_value-null unknown = refl
-simple_value-null (leaf p) = refl
-simple_value-null (var t) = refl
-simple_value-null (reg n t) = refl
-simple_value-null (rec ns ts) = refl
-simple_value-null (tup ts) = refl
-simple_value-null (opt t) = refl
-simple_value-null (uni ts) = refl
 
 in_row_of-null : (c : Choice) (names : List Name) → in_row_of c names null ≡ null
 in_row_of-null (field k) names = refl
@@ -59,10 +50,6 @@ chosen_value-null : (c : Choice) (t : DataType) → chosen_value c t null ≡ nu
 chosen_value-null c t =
     ap (simple_value (type_of_choice c t)) (value_of_choice-null c t) ∙ simple_value-null
     (type_of_choice c t)
-
-pub in_option-same : (f : Value → Value) → f null ≡ null → (v : Value) → in_option f v ≡ f v
-in_option-same f e null = sym e
-in_option-same f e v = refl
 
 -- ---- an option's choice is that of what it holds
 
@@ -174,17 +161,12 @@ chosen_value-uni c ts k v =
 
 -- ---- what a simple type gives to a union
 
-has_place : (ts : DataTypes) (k : ℕ) (v : Value) → HasAlternative ts k v → k < length (type_list ts)
-has_place no_types k v h = absurd h
-has_place (type t ts) zero v h = omega arith
-has_place (type t ts) (suc k) v h = omega (arith, has_place ts k v h)
-
 alternatives_placed : (c : Choice) (t : DataType) (us : List DataType) (w : Value)
     → is_option t ≡ false → Has t w
     → placed c (alternatives t ++ us) (inner_tag w) (inner_value w) ≡ value_after 0
     (chosen_value c t w)
 alternatives_placed c (uni ts) us (alt k v) e h =
-    placed-left c (type_list ts) us k v (has_place ts k v h)
+    placed-left c (type_list ts) us k v (tag_within ts k v h)
     ∙ sym (placed-after_0 c (type_list ts) k v)
     ∙ ap (value_after 0) (sym (chosen_value-uni c ts k v))
 alternatives_placed c (uni ts) us w e h = absurd h
@@ -221,12 +203,6 @@ flat_placed c (t ∷ ts) (suc k) w s h e =
     ∙ ap₂ (λ us v. value_after (length us) v) (part_gives (chosen_type c) (λ t. refl)
     (chosen_union c) t) (flat_placed c ts k w s.1 h e)
     ∙ sym (placed-suc c t ts k w)
-
-value_after_alternative : (b : ℕ) (w : Value) → is_null w ≡ false
-    → value_after b w ≡ alt (b + inner_tag w) (inner_value w)
-value_after_alternative b null e = cc
-value_after_alternative b (alt j v) e = refl
-value_after_alternative b w e = let f : b ≡ b + 0 = omega arith in ap (λ (n : ℕ). alt n w) f
 
 -- a value of the simple union
 union_placed : (c : Choice) (ts : List DataType) (k : ℕ) (w : Value) → AreSimple (types_from ts)

@@ -5,7 +5,7 @@ use Rattle.std.proofs.lemmas.List.{length-map}
 use Rattle.std.specs.List.{AllByRecursion}
 use Rattle.std.specs.Option.{option_map}
 use Rattle.awk_types.specs.DataType.{Name}
-use Rattle.awk_types.specs.Names.{is_among, AreDistinct}
+use Rattle.awk_types.specs.Names.{is_among, AreDistinct, place_of}
 use Rattle.awk_lanes.specs.Column.{Column}
 use Rattle.awk_lanes.specs.Places.{place_at}
 use Rattle.awk_layout.specs.Layout.{Layout, Layouts, layout_list, layouts_from, count, weight}
@@ -15,15 +15,14 @@ use Rattle.awk_layout.specs.Layout.{unmasked, union, no_layouts, layout}
 use Rattle.awk_layout.specs.Valid.{len_of, IsValid, AllValid, AllReach, AreNames, IsUnion}
 use Rattle.awk_layout.specs.Typing.{layout_type, layout_types}
 use Rattle.awk_layout.specs.Contents.{count-layouts_from, height-get}
-use Rattle.awk_view.specs.Choice.{Choice, field, fields, without, row_names, place_of, beside}
-use Rattle.awk_view.specs.Choice.{apart_from}
+use Rattle.awk_view.specs.Choice.{Choice, field, fields, without, row_names, beside, apart_from}
 use Rattle.awk_view.specs.Layouts.{IsChoice, AreAmong, IsFound, AreFound, row_of_choice}
 use Rattle.awk_view.specs.Layouts.{layout_of_choice, layouts_of_choice}
 use Rattle.awk_view.proofs.FirstItems.{weight-first_items, height-first_items, first_valid}
 use Rattle.awk_view.proofs.ChoiceLayouts.{layouts_from-list, get_reaches, get_valid, get_weight}
 use Rattle.awk_view.proofs.ChoiceLayouts.{get_height, length-row_names, beside_within}
 use Rattle.awk_view.proofs.ChoiceLayouts.{beside_reaches, place_within, rows_found, rows_named}
-use Rattle.awk_view.proofs.ChoiceLayouts.{rows_reach, len-layout_of_choice}
+use Rattle.awk_view.proofs.ChoiceLayouts.{len-layout_of_choice}
 use Rattle.awk_range.proofs.Weights.{weights-take_more, weights-take-le}
 use Rattle.awk_view.proofs.ChoiceNodes.{weights-beside, heights-beside, weights-apart}
 use Rattle.awk_view.proofs.ChoiceNodes.{heights-apart, reach-apart, valid-apart, length-apart}

@@ -17,7 +17,8 @@ use Rattle.awk_view.specs.Choice.{all_have_field, has_records, all_have_records,
 use Rattle.awk_view.specs.Choice.{absent}
 use Rattle.awk_view.specs.Layouts.{AreAmong, IsFound, AreFound}
 use Rattle.awk_base.proofs.Lists.{drop-get}
-use Rattle.awk_view.proofs.ChoiceLayouts.{count-layout_types, layout_list-from}
+use Rattle.awk_layout.proofs.LayoutLists.{layout_list-from}
+use Rattle.awk_view.proofs.ChoiceLayouts.{count-layout_types}
 
 -- ---- loops over alternatives
 

@@ -4,13 +4,13 @@ use Rattle.std.proofs.Common.{length, drop, min, slice_get, Some, if◌then◌el
 use Rattle.std.proofs.Common.{arith}
 use Rattle.std.proofs.lemmas.List.{drop_all}
 use Rattle.awk_types.specs.DataType.{Name, DataType}
-use Rattle.awk_types.specs.Names.{same_name, is_among}
+use Rattle.awk_types.specs.Names.{same_name, is_among, place_of}
 use Rattle.awk_base.proofs.Lists.{drop-get}
 use Rattle.awk_lanes.specs.Column.{Column}
 use Rattle.awk_layout.specs.Layout.{Layout, empty, flat, layouts_from}
 use Rattle.awk_layout.specs.Typing.{layout_type, layout_types}
 use Rattle.awk_name_places.specs.Places as known
-use Rattle.awk_view.specs.Choice.{place_of, has_field, all_have_field, first_absent}
+use Rattle.awk_view.specs.Choice.{has_field, all_have_field, first_absent}
 use Rattle.awk_view.specs.Leading.{leading}
 
 -- ---- the place of a name, by a map

@@ -4,16 +4,17 @@ use Rattle.std.proofs.Common.{Ok, Err, get_or, ap, ap₂, ◌∙◌, sym, subst,
 use Rattle.std.proofs.lemmas.List.{length-map}
 use Rattle.std.specs.Prelude.{IfOk}
 use Rattle.awk_types.specs.DataType.{Name}
-use Rattle.awk_types.specs.Names.{AreDistinct}
+use Rattle.awk_types.specs.Names.{AreDistinct, place_of}
 use Rattle.awk_lanes.specs.Column.{Column}
 use Rattle.awk_layout.specs.Layout.{Layout, layouts_from, count, empty, rows, union}
 use Rattle.awk_layout.specs.Valid.{len, IsValid, AreNames, IsUnion}
 use Rattle.awk_layout.specs.Typing.{layout_type}
 use Rattle.awk_layout.specs.Contents.{count-layouts_from}
-use Rattle.awk_view.specs.Choice.{Choice, field, row_names, place_of, beside, apart_from}
+use Rattle.awk_view.specs.Choice.{Choice, field, row_names, beside, apart_from}
+use Rattle.awk_layout.proofs.LayoutLists.{layout_list-from}
 use Rattle.awk_view.specs.Layouts.{IsChoice, AreAmong, IsFound, row_of_choice, layout_of_choice}
 use Rattle.awk_view.proofs.Beside.{get_or-get}
-use Rattle.awk_view.proofs.ChoiceLayouts.{layout_list-from, length-row_names, beside_within}
+use Rattle.awk_view.proofs.ChoiceLayouts.{length-row_names, beside_within}
 use Rattle.awk_view.proofs.ChoiceLayouts.{beside_reaches, rows_found}
 use Rattle.awk_view.proofs.ChosenNodes.{valid_of_row, names-beside, names-apart, union_of_choice}
 use Rattle.awk_view.proofs.ChosenNodes.{layouts_of_choice-map}

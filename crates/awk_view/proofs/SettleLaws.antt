@@ -2,17 +2,17 @@
 use Rattle.std.proofs.Common.{◌≡◌, ◌≢◌, ℕ, zero, suc, ◌+◌, ◌<◌, Bool, true, false, List, [], ◌∷◌}
 use Rattle.std.proofs.Common.{◌++◌, length, arith, refl, ap, sym, ◌∙◌}
 use Rattle.std.specs.List.{list_any, flat_map}
-use Rattle.awk_types.specs.DataType.{DataType, unknown, leaf, var, reg, rec, tup, opt, uni}
-use Rattle.awk_types.specs.DataType.{DataTypes, no_types, type, types_from, type_list}
+use Rattle.awk_types.specs.DataType.{DataType, opt, uni, DataTypes, type, types_from}
 use Rattle.awk_types.specs.Value.{Value, null, alt}
 use Rattle.awk_types.specs.Datum.{one}
 use Rattle.awk_types.specs.Has.{Has, HasAlternative}
 use Rattle.awk_types.specs.Settle.{settle, settle_alternative}
 use Rattle.awk_types.specs.Simple.{is_option, option_if, alternatives, present_alternatives}
-use Rattle.awk_types.specs.Simple.{option_of, union_of, in_option, alternatives_before, value_after}
-use Rattle.awk_types.specs.Simple.{simple_value, IsSimple, AreSimple}
+use Rattle.awk_types.specs.Simple.{option_of, union_of, alternatives_before, value_after}
+use Rattle.awk_types.specs.Simple.{IsSimple, AreSimple}
 use Rattle.awk_types.proofs.SimpleLaws.{inner_tag, inner_value}
 use Rattle.awk_types.proofs.Trees.{types_from-list}
+use Rattle.awk_types.proofs.HasLaws.{tag_within}
 
 -- null stays
 pub settle-null : (t : DataType) → settle t null ≡ one t null
@@ -30,21 +30,6 @@ pub settle-option_of : (t : DataType) (v : Value) → v ≢ null → settle (opt
 settle-option_of (opt t) v h = refl
 settle-option_of t v h = settle-present t v h
 
-simple_value-null : (t : DataType) → simple_value t null ≡ null
-simple_value-null unknown = refl
-simple_value-null (leaf p) = refl
-simple_value-null (var t) = refl
-simple_value-null (reg n t) = refl
-simple_value-null (rec ns ts) = refl
-simple_value-null (tup ts) = refl
-simple_value-null (opt t) = refl
-simple_value-null (uni ts) = refl
-
--- an option changes no value
-pub in_option-simple : (t : DataType) (v : Value) → in_option (simple_value t) v ≡ simple_value t v
-in_option-simple t null = sym (simple_value-null t)
-in_option-simple t v = refl
-
 -- ---- unions
 
 settle-left : (ts us : List DataType) (k : ℕ) (v : Value) → k < length ts
@@ -60,12 +45,6 @@ settle-right [] us k v = ap (λ n. settle_alternative (types_from us) n v) (omeg
 settle-right (t ∷ ts) us k v =
     let e : length (t ∷ ts) + k ≡ suc (length ts + k) = omega arith in
     ap (λ n. settle_alternative (type t (types_from (ts ++ us))) n v) e ∙ settle-right ts us k v
-
-tag_within : (ts : DataTypes) (k : ℕ) (v : Value) → HasAlternative ts k v
-    → k < length (type_list ts)
-tag_within no_types k v h = absurd h
-tag_within (type t ts) zero v h = omega arith
-tag_within (type t ts) (suc k) v h = omega (arith, tag_within ts k v h)
 
 inner_tag_within : (t : DataType) (w : Value) → is_option t ≡ false → Has t w
     → inner_tag w < length (alternatives t)

@@ -15,10 +15,10 @@ use Rattle.awk_types.specs.Settle.{settle, settle_alternative}
 use Rattle.awk_types.specs.Simple.{simple, simples, simple_value, simple_values, value_by}
 use Rattle.awk_types.specs.Simple.{value_after, alternatives_before}
 use Rattle.awk_types.specs.Value.{Value, Values, null, row, alt, value_list, values_from}
-use Rattle.awk_view.proofs.SettleLaws.{settle-option_of, in_option-simple, value_after-present}
-use Rattle.awk_view.proofs.SettleLaws.{settle-union_of}
+use Rattle.awk_view.proofs.SettleLaws.{settle-option_of, value_after-present, settle-union_of}
 use Rattle.awk_types.proofs.SimpleLaws.{simples_are_simple, has_simple_alternative}
 use Rattle.awk_types.proofs.Trees.{value_list-from}
+use Rattle.awk_types.proofs.NullLaws.{in_option-simple}
 use Rattle.awk_lanes.specs.declared.kind.Kind.{Kind}
 use Rattle.awk_lanes.specs.declared.kind.Kind.TheVariants.{Bool as Truths, I8, I16, I32, I64, U8}
 use Rattle.awk_lanes.specs.declared.kind.Kind.TheVariants.{U16, U32, U64}
@@ -28,7 +28,7 @@ use Rattle.awk_layout.specs.Layout.{lists, offset_lists, rows, indexed, optional
 use Rattle.awk_layout.specs.Layout.{bit_masked, unmasked, union, no_layouts, layout}
 use Rattle.awk_layout.specs.Valid.{len, IsValid}
 use Rattle.awk_layout.specs.Numbered.{IsNumbered}
-use Rattle.awk_layout.specs.Item.{item, items, items_across, item_of, leaf_value, run, byte_shows}
+use Rattle.awk_layout.specs.Item.{item, items_across, item_of, leaf_value, run, byte_shows}
 use Rattle.awk_layout.specs.Item.{bit_shows}
 use Rattle.awk_layout.specs.Place.{Case, number, span, across, missing, through, alternative}
 use Rattle.awk_layout.specs.Place.{case_of, value_of, nth, span_between, through_option, IsWithin}

@@ -1,17 +1,16 @@
 -- Choices of fields: what is looked for through lists, options and every alternative of a union,
 -- and what stays of each
 -- record that is found.
-use Rattle.std.specs.Prelude.{ℕ, suc, Bool, true, false, ◌&&◌, List, [], ◌∷◌, length, map, get_or}
+use Rattle.std.specs.Prelude.{ℕ, Bool, true, false, ◌&&◌, List, [], ◌∷◌, length, map, get_or}
 use Rattle.std.specs.Prelude.{decimal, Option, Some, None, option_map, if◌then◌else◌}
 use Rattle.std.specs.List.{range_with_len}
 use Rattle.awk_types.specs.DataType.{Name, DataType, unknown, leaf, var, reg, rec, tup, opt, uni}
-use Rattle.awk_types.specs.DataType.{DataTypes, no_types, type, type_list, types_from}
+use Rattle.awk_types.specs.DataType.{DataTypes, no_types, type, type_list, types_from, row_type}
 use Rattle.awk_types.specs.Value.{Value, null, row, value_list, values_from}
-use Rattle.awk_types.specs.Names.{same_name, is_among}
+use Rattle.awk_types.specs.Names.{same_name, is_among, place_of}
 use Rattle.awk_types.specs.IsType.{count}
 use Rattle.awk_types.specs.Simple.{in_list, in_option, in_alternative, simple, simple_value}
 use Rattle.awk_types.specs.Gives.{◌or◌}
-use Rattle.awk_types.specs.DataType.{row_type}
 
 pub data Choice : Type 0 where
   -- the field of this name
@@ -27,11 +26,6 @@ pub data Choice : Type 0 where
 abbrev pub row_names : Option (List Name) → ℕ → List Name
 row_names None n = map decimal (range_with_len 0 n)
 row_names (Some names) n = names
-
--- the place of a name, or the number of names where it is not there
-abbrev pub place_of : Name → List Name → ℕ
-place_of n [] = 0
-place_of n (m ∷ ms) = if same_name m n then 0 else suc (place_of n ms)
 
 -- what stands beside a name, or `other` where the name is not there
 abbrev pub beside : {A : Type 0} → A → Name → List Name → List A → A

@@ -4,13 +4,12 @@ use Rattle.awk_types.specs.Datum.{Datum, arr, one}
 use Rattle.awk_types.specs.Settle.{settle}
 use Rattle.awk_types.specs.Simple.{simple_value}
 use Rattle.awk_types.specs.Value.{Value, null}
-use Rattle.awk_layout.specs.Datum.{datum_of, IsDatum}
+use Rattle.awk_layout.specs.Datum.{datum_of, IsDatum, kept}
 use Rattle.awk_layout.specs.declared.datum.Datum as code
 use Rattle.awk_layout.specs.Item.{item}
 use Rattle.awk_layout.specs.Layout.{Layout, weight, height}
 use Rattle.awk_layout.specs.Typing.{layout_type, array_type, array_items}
 use Rattle.awk_layout.specs.Valid.{len}
-use Rattle.awk_view.specs.Settled.{kept}
 use Rattle.awk_view.specs.declared.settling.End.{End}
 use Rattle.awk_view.specs.declared.settling.End.TheVariants.{Null, Single, Items}
 

@@ -3,6 +3,5 @@ pub mod Layouts
 pub mod Asked
 pub mod Answer
 pub mod Examples
-pub mod Settled
 pub mod End
 pub mod Leading

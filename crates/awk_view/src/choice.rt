@@ -1,10 +1,10 @@
 //! Which fields are asked for, and what stands beside their names.
 ghost use Rattle.std.specs.Prelude.{◌≡◌, true, length, map, IfOk, IfSome, None};
 ghost use Rattle.std.specs.List.{AllByRecursion};
-ghost use Rattle.awk_types.specs.Names.{is_among};
+ghost use Rattle.awk_types.specs.Names.{is_among, place_of};
 ghost use Rattle.awk_layout.specs.Layout.{empty};
 ghost use Rattle.awk_view.specs.Asked.{seen};
-ghost use Rattle.awk_view.specs.Choice.{row_names, place_of, beside, apart_from};
+ghost use Rattle.awk_view.specs.Choice.{row_names, beside, apart_from};
 
 use awk_layout::Nodes;
 use awk_name_places::NamePlaces;

@@ -3,12 +3,11 @@ ghost use Rattle.std.specs.Prelude.{◌≡◌, ◌+◌, ◌*◌, ◌<◌, ◌≤
 ghost use Rattle.awk_types.specs.Limit.{limit};
 ghost use Rattle.awk_types.specs.Settle.{settle};
 ghost use Rattle.awk_types.specs.Value.{null};
-ghost use Rattle.awk_layout.specs.Datum.{datum_of, first_item, IsDatum};
+ghost use Rattle.awk_layout.specs.Datum.{datum_of, first_item, IsDatum, kept};
 ghost use Rattle.awk_layout.specs.Layout.{weight, height};
 ghost use Rattle.awk_layout.specs.Typing.{array_type, array_items};
 ghost use Rattle.awk_layout.specs.Valid.{len};
 ghost use Rattle.awk_view.specs.End.{IsEnd, IsItemOf, IsOneOf, IsArrOf, end_weight};
-ghost use Rattle.awk_view.specs.Settled.{kept};
 
 use awk_lanes::Steps;
 use awk_layout::{Array, Datum, Node, Place};

@@ -1,38 +1,31 @@
 -- What joining two data answers, by its parts.
 use Rattle.std.proofs.Common.{◌≡◌, ℕ, Bool, true, false, not, refl, ap, ap₂, sym, ◌∙◌}
-use Rattle.std.specs.Prelude.{List, [], ◌∷◌, map, length, get_or, Option, Some, None}
-use Rattle.std.specs.Prelude.{Ok, if◌then◌else◌}
-use Rattle.std.specs.List.{range_with_len}
+use Rattle.std.specs.Prelude.{List, length, get_or, Option, Some, None, Ok, if◌then◌else◌}
 use Rattle.std.proofs.lemmas.List.{length-map}
 use Rattle.awk_types.specs.DataType.{Name}
 use Rattle.awk_types.specs.Datum.{Datum, arr, one}
+use Rattle.awk_types.specs.Faults.{limit_refused}
 use Rattle.awk_types.specs.Gives.{Told, refused_or, ◌or◌}
-use Rattle.awk_types.specs.Simple.{present, simple_value}
+use Rattle.awk_types.specs.Parts.{names_of_fields}
+use Rattle.awk_types.specs.Simple.{present}
 use Rattle.awk_types.specs.Value.{null}
 use Rattle.awk_types.specs.declared.fault.Fault.{Fault}
 use Rattle.awk_types.specs.declared.fault.Fault.TheVariants.{WrongType}
 use Rattle.awk_types.proofs.RefusalLaws.{Told-first, Told-later, Told-other, or-None}
 use Rattle.awk_types.proofs.RefusalLaws.{refused_or-None}
-use Rattle.awk_layout.specs.Datum.{datum_of, first_item, IsDatum}
-use Rattle.awk_layout.specs.Item.{item}
+use Rattle.awk_layout.specs.Datum.{datum_of, IsDatum}
 use Rattle.awk_layout.specs.Layout.{Layout}
-use Rattle.awk_layout.specs.Typing.{layout_type, array_type, array_items}
+use Rattle.awk_layout.specs.Typing.{array_type, array_items}
 use Rattle.awk_layout.specs.Valid.{len}
 use Rattle.awk_layout.specs.declared.datum.Datum.TheVariants.{Arr, One}
-use Rattle.awk_layout.proofs.ArrayItems.{length-array_items}
+use Rattle.awk_layout.proofs.ArrayItems.{length-array_items, array_items-one}
 use Rattle.awk_frames.specs.Framed.{over}
 use Rattle.awk_pair_operands.specs.Answer.{single_or_fault}
 use Rattle.awk_pair_operands.specs.Pairs.{pair_refused, pair_type, pair_values, some_array}
 use Rattle.awk_pair_operands.specs.Pairs.{datum_from}
-use Rattle.awk_pair_types.specs.Limits.{limit_refused}
-use Rattle.awk_put_field.specs.Field.{names_in, end_value}
+use Rattle.awk_put_field.specs.Field.{end_value}
 use Rattle.awk_with_field.specs.WithField.{end_of, is_wrong, with_type, with_values}
 use Rattle.awk_with_field.specs.WithField.{with_refused, with_field_at}
-
--- an array of one item has its first alone
-pub items-one : (x : Layout) → len x ≡ 1 → array_items x ≡ first_item x ∷ []
-items-one x single =
-    ap (λ n. map (simple_value (layout_type x)) (map (item x) (range_with_len 0 n))) single
 
 -- single values are paired to one
 values-one : (d : ℕ) (ds : List Datum) → some_array ds ≡ false
@@ -78,7 +71,7 @@ module _ (n : Name) (d : ℕ) (ds : List Datum) (right : is_wrong d ds ≡ false
   size-one single y h e =
       sym (length-array_items y) ∙ ap length h.items
       ∙ length-map (pair_values true (Some d) ds)
-      (over (pair_type true (Some d) ds) (end_value n (names_in (present (end_of 0 d ds)))))
+      (over (pair_type true (Some d) ds) (end_value n (names_of_fields (present (end_of 0 d ds)))))
       ∙ values-one d ds e
 
   pub datum_made : (single : Bool) (y : Layout) → IsResult single y
@@ -112,5 +105,5 @@ module _ (n : Name) (d : ℕ) (ds : List Datum) (right : is_wrong d ds ≡ false
       by true e false k = ap₂ arr h.typ h.items
       by false e true k =
           ap₂ one h.typ (ap (λ vs. get_or vs 0 null)
-          (sym (items-one y (size-one single y h e)) ∙ h.items))
+          (sym (array_items-one y (size-one single y h e)) ∙ h.items))
       by false e false k = absurd cc

@@ -2,18 +2,18 @@
 use Rattle.std.proofs.Common.{◌≡◌, ℕ, zero, suc, Bool, true, false, refl, ap, sym, ◌∙◌}
 use Rattle.std.proofs.Common.{◌<◌, ap₂, not, arith, slice_get}
 use Rattle.std.specs.Prelude.{List, [], ◌∷◌, map, length, get_or, Option, Some, None, Ok}
-use Rattle.std.specs.Prelude.{if◌then◌else◌}
 use Rattle.std.specs.Simd.Lanes.{zip2}
 use Rattle.std.proofs.lemmas.List.{length-map}
 use Rattle.std.proofs.lemmas.Simd.{zip2_of_maps}
 use Rattle.awk_types.specs.DataType.{Name, DataType, unknown}
 use Rattle.awk_types.specs.Datum.{Datum}
+use Rattle.awk_types.specs.Faults.{limit_refused}
 use Rattle.awk_types.specs.Gives.{refused_or}
+use Rattle.awk_types.specs.Parts.{is_record, names_of_fields}
 use Rattle.awk_types.specs.Value.{Value}
 use Rattle.awk_types.specs.declared.fault.Fault.{Fault}
 use Rattle.awk_types.proofs.RefusalLaws.{refused_or-Ok}
 use Rattle.awk_layout.specs.Layout.{Layout}
-use Rattle.awk_layout.specs.Single.{own_datum}
 use Rattle.awk_layout.specs.Typing.{array_type, array_items}
 use Rattle.awk_layout.specs.Valid.{len}
 use Rattle.awk_layout.specs.declared.datum.Operand.{Operand}
@@ -23,35 +23,11 @@ use Rattle.awk_columns.specs.Columns.{part_at}
 use Rattle.awk_columns.specs.Parts.{AreParts}
 use Rattle.awk_frames.specs.Framed.{over_type}
 use Rattle.awk_pair_operands.specs.First.{all_data}
-use Rattle.awk_pair_operands.specs.Pairs.{below, item_type, leaf_types, pair_type, typs}
-use Rattle.awk_pair_operands.specs.Paired.{to_depth, types_at_ends}
-use Rattle.awk_pair_sides.specs.Levels.{opens, item_of, item_types}
+use Rattle.awk_pair_operands.specs.Pairs.{leaf_types, pair_type}
 use Rattle.awk_types.specs.Simple.{present}
-use Rattle.awk_pair_types.specs.Limits.{limit_refused}
-use Rattle.awk_put_field.specs.Field.{is_record, names_in, field_type, end_value, field_value}
+use Rattle.awk_put_field.specs.Field.{field_type, end_value, field_value}
+use Rattle.awk_pair_operands.proofs.TypeLaws.{columns-length}
 use Rattle.awk_with_field.specs.WithField.{end_of, is_wrong, with_type}
-
--- ---- as many columns as operands
-
-items-length : (ts : List DataType) → length (item_types ts) ≡ length ts
-items-length ts = length-map (map present ts) item_of ∙ length-map ts present
-
-ends-step : (b : Bool) (d : ℕ) (ts : List DataType)
-    → length (types_at_ends to_depth d (item_types ts)) ≡ length (item_types ts)
-    → length (if b then types_at_ends to_depth d (item_types ts) else ts) ≡ length ts
-ends-step true d ts e = e ∙ items-length ts
-ends-step false d ts e = refl
-
-ends-length : (d : ℕ) (ts : List DataType) → length (types_at_ends to_depth d ts) ≡ length ts
-ends-length zero ts = refl
-ends-length (suc d) ts = ends-step (opens ts) d ts (ends-length d (item_types ts))
-
-pub columns-length : (d : ℕ) (xs : List Operand) (ys : List Layout)
-    → map array_type ys ≡ leaf_types (Some d) (all_data xs) → length ys ≡ length xs
-columns-length d xs ys e =
-    sym (length-map ys array_type) ∙ ap length e
-    ∙ ends-length (below (Some d) (all_data xs)) (typs (all_data xs))
-    ∙ length-map (all_data xs) item_type ∙ length-map xs own_datum
 
 -- ---- each of two columns
 
@@ -112,13 +88,15 @@ type-joined n d ds t x v e f g =
 
 -- the items at the ends, by the columns
 pub ends-joined : (n : Name) (d : ℕ) (ds : List Datum) (vs us : List Value) (x v : Layout)
-    → us ≡ zip2 (field_value n (names_in (present (array_type x)))) (array_items x) (array_items v)
+    → us ≡ zip2 (field_value n (names_of_fields (present (array_type x)))) (array_items x)
+    (array_items v)
     → array_type x ≡ end_of 0 d ds → array_items x ≡ map (part_at 0) vs
     → array_items v ≡ map (part_at 1) vs
-    → us ≡ map (end_value n (names_in (present (end_of 0 d ds)))) vs
+    → us ≡ map (end_value n (names_of_fields (present (end_of 0 d ds)))) vs
 ends-joined n d ds vs us x v e f g h =
-    e ∙ ap (λ t. zip2 (field_value n (names_in (present t))) (array_items x) (array_items v)) f
-    ∙ rows-with n (names_in (present (end_of 0 d ds))) vs x v g h
+    e ∙ ap (λ t. zip2 (field_value n (names_of_fields (present t))) (array_items x)
+    (array_items v)) f
+    ∙ rows-with n (names_of_fields (present (end_of 0 d ds))) vs x v g h
 
 pub few-leaves : (k : ℕ) (d : ℕ) (xs : List Operand) (ys : List Layout) → length xs ≡ 2 → k < 2
     → map array_type ys ≡ leaf_types (Some d) (all_data xs) → k < length ys

@@ -1,33 +1,32 @@
 -- How far the first of two data is lists, and what it ends at.
-use Rattle.std.proofs.Common.{◌≡◌, ℕ, suc, ◌≤◌, Bool, true, false, not, refl, ap, arith}
-use Rattle.std.proofs.Common.{◌∙◌, ◌+◌, sym}
-use Rattle.std.specs.Prelude.{List, [], ◌∷◌, get_or, nat_lt, Option, Some, None}
-use Rattle.std.specs.Prelude.{if◌then◌else◌}
+use Rattle.std.proofs.Common.{◌≡◌, ℕ, suc, ◌≤◌, not, refl, ap, arith, ◌∙◌, ◌+◌, sym}
+use Rattle.std.specs.Prelude.{List, [], ◌∷◌, get_or, nat_lt, Some, None}
 use Rattle.awk_types.specs.DataType.{DataType, unknown, leaf, var, reg, rec, tup, opt, uni, depth}
-use Rattle.awk_types.specs.Datum.{Datum, arr, one}
-use Rattle.awk_types.specs.Limit.{Limit, depth_limit, limit}
+use Rattle.awk_types.specs.Datum.{Datum, arr, one, datum_type}
+use Rattle.awk_types.specs.Limit.{limit}
+use Rattle.awk_types.specs.Parts.{list_depth, is_record}
 use Rattle.awk_types.specs.Simple.{present, IsSimple}
+use Rattle.awk_types.proofs.PartLimits.{deep-by}
 use Rattle.awk_layout.specs.Datum.{datum_of, kept}
 use Rattle.awk_layout.specs.Layout.{Layout}
 use Rattle.awk_layout.specs.Typing.{array_type}
 use Rattle.awk_layout.specs.declared.datum.Datum as code
 use Rattle.awk_layout.specs.declared.datum.Datum.TheVariants.{Arr, One}
 use Rattle.awk_pair_operands.specs.Paired.{to_depth, types_at_ends}
-use Rattle.awk_pair_operands.specs.Pairs.{below, item_type}
+use Rattle.awk_pair_operands.specs.Pairs.{below}
 use Rattle.awk_pair_sides.specs.Levels.{item_types}
-use Rattle.awk_put_field.specs.Ends.{lists_down, ends_at_records}
-use Rattle.awk_put_field.specs.Field.{is_record}
+use Rattle.awk_put_field.specs.Ends.{ends_at_records}
 use Rattle.awk_with_field.specs.WithField.{levels_of, beside, both, is_wrong}
 
 -- the levels below the first rows
-pub below-levels : (e v : Datum) → below (Some (levels_of e)) (both e v) ≡ lists_down (item_type e)
+pub below-levels : (e v : Datum) → below (Some (levels_of e)) (both e v) ≡ list_depth (datum_type e)
 below-levels (arr t vs) v = omega arith
 below-levels (one t w) (arr u ws) = refl
 below-levels (one t w) (one u z) = refl
 
 -- what stands at the end of a first type
 abbrev end_at : DataType → List DataType → DataType
-end_at t ts = get_or (types_at_ends to_depth (lists_down t) (t ∷ ts)) 0 unknown
+end_at t ts = get_or (types_at_ends to_depth (list_depth t) (t ∷ ts)) 0 unknown
 
 record-end : (t : DataType) (ts : List DataType) → IsSimple t
     → is_record (present (end_at t ts)) ≡ ends_at_records t
@@ -48,15 +47,15 @@ record-end (opt (reg n t)) ts s = record-end t (item_types ts) s.1
 record-end (opt (opt t)) ts s = absurd cc
 
 -- whether the first datum ends at a record is told by its type
-pub wrong-told : (e v : Datum) → IsSimple (item_type e)
-    → is_wrong (levels_of e) (both e v) ≡ not (ends_at_records (item_type e))
+pub wrong-told : (e v : Datum) → IsSimple (datum_type e)
+    → is_wrong (levels_of e) (both e v) ≡ not (ends_at_records (datum_type e))
 wrong-told e v s =
     ap (λ k. not (is_record (present (get_or (types_at_ends to_depth k
-    (item_type e ∷ item_type (beside e v) ∷ [])) 0 unknown)))) (below-levels e v)
-    ∙ ap not (record-end (item_type e) (item_type (beside e v) ∷ []) s)
+    (datum_type e ∷ datum_type (beside e v) ∷ [])) 0 unknown)))) (below-levels e v)
+    ∙ ap not (record-end (datum_type e) (datum_type (beside e v) ∷ []) s)
 
 -- no type has more lists than it is deep
-lists-depth : (t : DataType) → lists_down t ≤ depth t
+lists-depth : (t : DataType) → list_depth t ≤ depth t
 lists-depth unknown = omega arith
 lists-depth (leaf p) = omega arith
 lists-depth (var t) = omega (arith, lists-depth t)
@@ -66,12 +65,7 @@ lists-depth (tup ts) = omega arith
 lists-depth (opt t) = omega (arith, lists-depth t)
 lists-depth (uni ts) = omega arith
 
-deep-by : (n : ℕ) (b : Bool) (f : Option Limit) → nat_lt 60 n ≡ b
-    → (if b then Some depth_limit else f) ≡ None → n ≤ 60
-deep-by n true f e h = cc
-deep-by n false f e h = grind (arith, e)
-
-pub few_lists : (t : DataType) → limit t ≡ None → lists_down t ≤ 60
+pub few_lists : (t : DataType) → limit t ≡ None → list_depth t ≤ 60
 few_lists t h =
     let f = deep-by (depth t) (nat_lt 60 (depth t)) _ refl h in
     omega (arith, lists-depth t, f)
@@ -79,15 +73,15 @@ few_lists t h =
 -- ---- of data as they are kept
 
 pub levels-arr : (d : code.Datum) (x : Layout) (t : DataType) (k : ℕ) → d ≡ Arr x
-    → t ≡ array_type (kept d) → k ≡ lists_down t → k + 1 ≡ levels_of (datum_of d)
+    → t ≡ array_type (kept d) → k ≡ list_depth t → k + 1 ≡ levels_of (datum_of d)
 levels-arr d x t k e f g =
-    let h : k ≡ lists_down (array_type x) =
-    g ∙ ap lists_down (f ∙ ap (λ b. array_type (kept b)) e) in
-    let m : k + 1 ≡ suc (lists_down (array_type x)) = omega (arith, h) in
+    let h : k ≡ list_depth (array_type x) =
+    g ∙ ap list_depth (f ∙ ap (λ b. array_type (kept b)) e) in
+    let m : k + 1 ≡ suc (list_depth (array_type x)) = omega (arith, h) in
     m ∙ ap (λ b. levels_of (datum_of b)) (sym e)
 
 pub levels-one : (d : code.Datum) (x : Layout) (t : DataType) (k : ℕ) → d ≡ One x
-    → t ≡ array_type (kept d) → k ≡ lists_down t → k ≡ levels_of (datum_of d)
+    → t ≡ array_type (kept d) → k ≡ list_depth t → k ≡ levels_of (datum_of d)
 levels-one d x t k e f g =
-    g ∙ ap lists_down (f ∙ ap (λ b. array_type (kept b)) e)
+    g ∙ ap list_depth (f ∙ ap (λ b. array_type (kept b)) e)
     ∙ ap (λ b. levels_of (datum_of b)) (sym e)

@@ -1,11 +1,10 @@
 -- What is told of the result's type, and of an array that is one list beside a single value.
-use Rattle.std.proofs.Common.{◌≡◌, ℕ, Bool, true, false, not, refl, ap, sym, subst}
-use Rattle.std.proofs.Common.{◌∙◌}
+use Rattle.std.proofs.Common.{◌≡◌, ℕ, Bool, true, false, not, refl, ap, sym, subst, ◌∙◌}
 use Rattle.std.specs.Prelude.{List, [], ◌∷◌, length, Some, None, Err, option_map, nat_lt}
 use Rattle.std.specs.Prelude.{if◌then◌else◌}
 use Rattle.std.proofs.lemmas.List.{length-map}
 use Rattle.awk_types.specs.DataType.{Name, DataType, var}
-use Rattle.awk_types.specs.Datum.{Datum, arr, one}
+use Rattle.awk_types.specs.Datum.{Datum, arr, one, datum_type}
 use Rattle.awk_types.specs.Faults.{fault_told, limit_fault}
 use Rattle.awk_types.specs.Gives.{Told, refused_or, ◌or◌}
 use Rattle.awk_types.specs.Limit.{Limit, depth_limit, size_limit, limit, limit_told}
@@ -25,28 +24,29 @@ use Rattle.awk_layout.specs.Valid.{len}
 use Rattle.awk_layout.specs.declared.datum.Datum as code
 use Rattle.awk_layout.specs.declared.datum.Datum.TheVariants.{Arr, One}
 use Rattle.awk_layout.specs.declared.datum.Operand.{Operand}
+use Rattle.awk_layout.proofs.ArrayItems.{array_items-one}
 use Rattle.awk_pair_operands.specs.First.{all_data}
-use Rattle.awk_pair_operands.specs.Pairs.{item_type, pair_refused, datum_from, some_array}
+use Rattle.awk_pair_operands.specs.Pairs.{pair_refused, datum_from, some_array}
 use Rattle.awk_put_field.specs.Depths.{depth_over, list_told}
 use Rattle.awk_put_field.specs.Ends.{ends_at_records}
 use Rattle.awk_with_field.specs.Refused.{IsListFault}
 use Rattle.awk_with_field.specs.WithField.{levels_of, beside, both, is_wrong, with_type}
 use Rattle.awk_with_field.specs.WithField.{with_values, with_field_at, with_field_of}
-use Rattle.awk_with_field.proofs.AnswerLaws.{items-one, wrong-none}
+use Rattle.awk_with_field.proofs.AnswerLaws.{wrong-none}
 use Rattle.awk_put_field.proofs.DepthLaws.{deep_result, large_result}
 use Rattle.awk_with_field.proofs.LevelLaws.{wrong-told}
 
-pub type-kept : (d : code.Datum) → item_type (datum_of d) ≡ array_type (kept d)
+pub type-kept : (d : code.Datum) → datum_type (datum_of d) ≡ array_type (kept d)
 type-kept (Arr x) = refl
 type-kept (One x) = refl
 
 -- what ends at records is not wrong, and all else is
-pub right-told : (e v : Datum) → IsSimple (item_type e) → ends_at_records (item_type e) ≡ true
+pub right-told : (e v : Datum) → IsSimple (datum_type e) → ends_at_records (datum_type e) ≡ true
     → is_wrong (levels_of e) (both e v) ≡ false
 right-told e v s r = wrong-told e v s ∙ ap not r
 
-pub wrong_answer : (n : Name) (e v : Datum) → IsSimple (item_type e)
-    → ends_at_records (item_type e) ≡ false → with_field_of n e v ≡ Err fault.WrongType
+pub wrong_answer : (n : Name) (e v : Datum) → IsSimple (datum_type e)
+    → ends_at_records (datum_type e) ≡ false → with_field_of n e v ≡ Err fault.WrongType
 wrong_answer n e v s r =
     let d = levels_of e in
     let ds = both e v in
@@ -96,7 +96,7 @@ pub one_datum : (x y : Layout) (u : DataType) → array_type y ≡ var u
     → datum_of (One y) ≡ one (var u) (list (values_from (array_items x)))
 one_datum x y u e f l =
     let g : first_item y ∷ [] ≡ list (values_from (array_items x)) ∷ [] =
-    sym (items-one y l) ∙ f in
+    sym (array_items-one y l) ∙ f in
     let h : first_item y ≡ list (values_from (array_items x)) = cc in
     ap (λ t. one t (first_item y)) e ∙ ap (one (var u)) h
 
@@ -116,7 +116,7 @@ same-answer n e v d ds p q =
 
 pub list-fault : (n : Name) (a b : code.Datum) (x v : Layout) (t : DataType) (f : Fault)
     → a ≡ One x → b ≡ Arr v → t ≡ array_type x → IsSimple (array_type x)
-    → ends_at_records (item_type (datum_of a)) ≡ true → IsListFault n t (array_type v) f
+    → ends_at_records (datum_type (datum_of a)) ≡ true → IsListFault n t (array_type v) f
     → Told (fault_told f) (with_field_of n (datum_of a) (datum_of b))
 list-fault n a b x v t f p q e s r h =
     let k : IsListFault n (array_type x) (array_type v) f =
@@ -124,4 +124,4 @@ list-fault n a b x v t f p q e s r h =
     subst (λ d. Told (fault_told f) (with_field_of n (datum_of d) (datum_of b))) (sym p)
     (subst (λ d. Told (fault_told f) (with_field_of n (datum_of (One x)) (datum_of d))) (sym q)
     (k (first_item x) (array_items v) s
-    (ap (λ d. ends_at_records (item_type (datum_of d))) (sym p) ∙ r)))
+    (ap (λ d. ends_at_records (datum_type (datum_of d))) (sym p) ∙ r)))

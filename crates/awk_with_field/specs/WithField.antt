@@ -3,7 +3,9 @@ use Rattle.std.specs.Prelude.{ℕ, suc, Bool, true, not, List, [], ◌∷◌, ma
 use Rattle.std.specs.Prelude.{Option, Some, None, Result, if◌then◌else◌}
 use Rattle.awk_types.specs.DataType.{Name, DataType, unknown, var}
 use Rattle.awk_types.specs.Datum.{Datum, arr, one}
+use Rattle.awk_types.specs.Faults.{limit_refused}
 use Rattle.awk_types.specs.Gives.{refused_or, ◌or◌}
+use Rattle.awk_types.specs.Parts.{list_depth, is_record, names_of_fields}
 use Rattle.awk_types.specs.Simple.{present}
 use Rattle.awk_types.specs.Value.{Value, list, values_from}
 use Rattle.awk_types.specs.declared.fault.Fault.{Fault}
@@ -11,16 +13,14 @@ use Rattle.awk_types.specs.declared.fault.Fault.TheVariants.{WrongType}
 use Rattle.awk_frames.specs.Framed.{over, over_type}
 use Rattle.awk_pair_operands.specs.Pairs.{datum_from, leaf_types, pair_refused, pair_type}
 use Rattle.awk_pair_operands.specs.Pairs.{pair_values, some_array}
-use Rattle.awk_pair_types.specs.Limits.{limit_refused}
-use Rattle.awk_put_field.specs.Ends.{lists_down}
-use Rattle.awk_put_field.specs.Field.{is_record, names_in, field_type, end_value}
+use Rattle.awk_put_field.specs.Field.{field_type, end_value}
 
 -- ---- what is paired
 
 -- as far as a datum is lists
 abbrev pub levels_of : Datum → ℕ
-levels_of (arr t vs) = suc (lists_down t)
-levels_of (one t v) = lists_down t
+levels_of (arr t vs) = suc (list_depth t)
+levels_of (one t v) = list_depth t
 
 -- beside a single value an array is one list
 abbrev pub beside : Datum → Datum → Datum
@@ -47,7 +47,8 @@ with_type n d ds =
 
 abbrev pub with_values : Name → ℕ → List Datum → List Value
 with_values n d ds =
-    map (over (pair_type true (Some d) ds) (end_value n (names_in (present (end_of 0 d ds)))))
+    map (over (pair_type true (Some d) ds)
+    (end_value n (names_of_fields (present (end_of 0 d ds)))))
     (pair_values true (Some d) ds)
 
 -- a type fault, then the limits of the type, then lengths and sizes of the lists that are shared

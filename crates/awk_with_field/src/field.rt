@@ -1,7 +1,7 @@
 //! A datum whose records have one field more.
 ghost use Rattle.std.specs.Prelude.{◌≡◌, ◌∷◌, [], true, IfOk, IfErr};
 ghost use Rattle.awk_types.specs.DataType.{var};
-ghost use Rattle.awk_types.specs.Datum.{one};
+ghost use Rattle.awk_types.specs.Datum.{one, datum_type};
 ghost use Rattle.awk_types.specs.Faults.{fault_told};
 ghost use Rattle.awk_types.specs.Gives.{Gives, Told};
 ghost use Rattle.awk_types.specs.Value.{list, values_from};
@@ -9,7 +9,6 @@ ghost use Rattle.awk_types.specs.View.{typ_of};
 ghost use Rattle.awk_layout.specs.Datum.{datum_of, IsDatum};
 ghost use Rattle.awk_layout.specs.Typing.{array_type, array_items};
 ghost use Rattle.awk_pair_operands.specs.First.{all_data};
-ghost use Rattle.awk_pair_operands.specs.Pairs.{item_type};
 ghost use Rattle.awk_put_field.specs.Ends.{ends_at_records};
 ghost use Rattle.awk_with_field.specs.Refused.{IsListFault};
 ghost use Rattle.awk_with_field.specs.WithField as spec;
@@ -56,7 +55,7 @@ fn beside<'a, L: Ledger>(
     steps: &mut Steps<L>,
 ) -> Result<Datum<'a>, Fault>
     requires v { IsDatum v.now }
-    requires records { ends_at_records (item_type (datum_of x.now)) ≡ true }
+    requires records { ends_at_records (datum_type (datum_of x.now)) ≡ true }
     ensures datum { let e = datum_of x.now in
         IfOk result (λ w. datum_of w ≡ spec.beside e (datum_of v.now)) }
     ensures one { IfOk result (λ w. IsDatum w) }

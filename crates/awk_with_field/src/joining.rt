@@ -1,19 +1,18 @@
 //! Two data joined: the records of the first with a field of the second's values.
-ghost use Rattle.std.specs.Prelude.{◌≡◌, false, length, IfOk, if◌then◌else◌};
-ghost use Rattle.awk_types.specs.Faults.{fault_told};
+ghost use Rattle.std.specs.Prelude.{◌≡◌, false, length, IfOk};
+ghost use Rattle.awk_types.specs.Faults.{fault_told, limit_refused};
 ghost use Rattle.awk_types.specs.Gives.{Gives, refused_or};
 ghost use Rattle.awk_types.specs.View.{typ_of};
 ghost use Rattle.awk_layout.specs.Array.{IsArrayType};
 ghost use Rattle.awk_layout.specs.Datum.{datum_of, IsDatum};
-ghost use Rattle.awk_layout.specs.declared.datum.Datum.TheVariants.{Arr, One};
 ghost use Rattle.awk_pair_operands.specs.First.{all_data};
-ghost use Rattle.awk_pair_types.specs.Limits.{limit_refused};
 ghost use Rattle.awk_with_field.specs.WithField.{is_wrong, with_type, with_field_at};
 
 use awk_frames::framed;
 use awk_lanes::{Arena, Steps};
 use awk_layout::{Array, Datum, Operands};
 use awk_pair::pair_keeping;
+use awk_pair_operands::datum_from;
 use awk_pair_types::{pair_types, typ_within};
 use awk_put_field::with_column;
 use awk_types::{Fault, Typ};
@@ -46,17 +45,6 @@ fn joined_typ<'a, L: Ledger>(
     )?;
     let node = framed(alloc, &none.shape, ends, steps)?;
     typ_within(alloc, node)
-}
-
-/// An array, or a single value as one.
-fn datum_from<'a>(single: bool, made: Array<'a>) -> Datum<'a>
-    ensures { result ≡ (if single then One made.entry else Arr made.entry) }
-{
-    if single {
-        Datum::One(made)
-    } else {
-        Datum::Arr(made)
-    }
 }
 
 /// The records of the first datum, each with the value of the second that it is paired with.

@@ -1,16 +1,16 @@
 //! How far a datum is lists, and an array as one list beside a single value.
-ghost use Rattle.std.specs.Prelude.{◌≡◌, ◌<◌, ◌≤◌, ◌^◌, ◌∷◌, [], pos, IfOk};
+ghost use Rattle.std.specs.Prelude.{◌≡◌, ◌<◌, ◌≤◌, ◌∷◌, [], IfOk};
 ghost use Rattle.awk_types.specs.DataType.{var};
+ghost use Rattle.awk_types.specs.Parts.{list_depth};
 ghost use Rattle.awk_types.specs.Value.{list, values_from};
 ghost use Rattle.awk_types.specs.View.{typ_of};
-ghost use Rattle.awk_lanes.specs.declared.kind.Kind.TheVariants as Kind;
 ghost use Rattle.awk_layout.specs.Datum.{datum_of};
 ghost use Rattle.awk_layout.specs.Typing.{array_type, array_items};
 ghost use Rattle.awk_layout.specs.Valid.{len};
 ghost use Rattle.awk_put_field.specs.Ends as ends;
 ghost use Rattle.awk_with_field.specs.WithField as spec;
 
-use awk_lanes::{Arena, Kind, Lane, LaneMaker, NoMemory, Steps, number};
+use awk_lanes::{Arena, NoMemory, Steps, one_offsets};
 use awk_layout::{Array, Datum, Node};
 use awk_types::Typ;
 use std::alloc::Global;
@@ -29,8 +29,8 @@ pub(crate) fn ends_at_records(t: &Typ) -> bool
 
 /// How many lists lie above what is none, options dropped.
 fn lists_down(t: &Typ) -> u64
-    requires few { ends.lists_down (typ_of t.now) ≤ 60 }
-    ensures levels { result ≡ ends.lists_down (typ_of t.now) }
+    requires few { list_depth (typ_of t.now) ≤ 60 }
+    ensures levels { result ≡ list_depth (typ_of t.now) }
     ensures few { result ≤ 60 }
 {
     match t {
@@ -49,17 +49,6 @@ pub(crate) fn levels_of(x: &Datum) -> u64
         Datum::Arr(_) => down + 1,
         Datum::One(_) => down,
     }
-}
-
-/// The offsets of one list of n items.
-fn one_offsets<'a>(n: u64, arena: &'a Arena) -> Result<Lane<'a>, NoMemory>
-    requires { n < 2 ^ 63 }
-    ensures { IfOk result (λ r. r ≡ record { kind = Kind.I64; items = pos 0 ∷ pos n ∷ [] }) }
-{
-    let mut maker = LaneMaker::new(Kind::I64, 2, arena)?;
-    maker.push(number(0));
-    maker.push(number(n));
-    Ok(maker.finish())
 }
 
 /// One list of all items of an array.

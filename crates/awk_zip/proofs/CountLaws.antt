@@ -1,8 +1,7 @@
 -- Lists of the first levels of a column, by its outermost kind.
 use Rattle.std.proofs.Common.{◌≡◌, ℕ, zero, suc, ◌+◌, ◌-◌, ◌==◌, ◌<◌, ◌≤◌, Bool, true, false}
 use Rattle.std.proofs.Common.{refl, ap, arith, sym, ◌∙◌, drop, slice_get}
-use Rattle.std.specs.Prelude.{List, [], ◌∷◌, map, length, nat_lt, Option, Some, None}
-use Rattle.std.specs.Prelude.{if◌then◌else◌}
+use Rattle.std.specs.Prelude.{List, [], ◌∷◌, map, length, nat_lt, Option, Some, None, if◌then◌else◌}
 use Rattle.std.specs.List.{flat_map, range_with_len}
 use Rattle.std.proofs.lemmas.List.{drop_all}
 use Rattle.awk_base.proofs.Lists.{drop-get}
@@ -21,7 +20,7 @@ use Rattle.awk_open.proofs.OpenedLists.{lists-inner}
 use Rattle.awk_columns.specs.Columns.{part_values, present_values, alternative_values}
 use Rattle.awk_columns.specs.Parts.{AreParts, AreAlternatives}
 use Rattle.awk_columns.specs.Joined.{JoinsLists, total}
-use Rattle.awk_columns.specs.ListClass.{Class, list_type}
+use Rattle.awk_columns.specs.ListClass.{Class}
 use Rattle.awk_columns.specs.Lists.{items_at}
 use Rattle.awk_open.specs.Opens.{OpensLists, OpensOption, OpensRow, OpensUnion, OpensLeaf}
 use Rattle.awk_open.specs.Opens.{OpensNothing}
@@ -183,15 +182,6 @@ all_end k i ys l h = sym h ∙ ap (all_refused k) (drop_all i ys l)
 
 -- ---- depths
 
-pub depth-list : (c : Class) (t : DataType) → depth (list_type c t) ≡ depth t + 1
-depth-list None t = omega arith
-depth-list (Some n) t = omega arith
-
-pub depth-row : (names : Option (List Name)) (ts : DataTypes)
-    → depth (row_type names ts) ≡ greatest (depths ts) + 1
-depth-row None ts = omega arith
-depth-row (Some ns) ts = omega arith
-
 pub depth-get : (i : ℕ) (y : Layout) (ys : List Layout) → slice_get ys i ≡ Some y
     → depth (array_type y) ≤ greatest (depths (types_from (map array_type ys)))
 depth-get i y [] e = cc
@@ -200,9 +190,3 @@ depth-get zero y (z ∷ zs) e =
     let g : depth (array_type z) ≡ depth (array_type y) = ap (λ x. depth (array_type x)) f in
     omega (arith, g)
 depth-get (suc i) y (z ∷ zs) e = let h = depth-get i y zs e in omega (arith, h)
-
-pub depth-option : (t : DataType) → depth (opt t) ≡ depth t + 1
-depth-option t = omega arith
-
-pub depth-union : (ts : DataTypes) → depth (uni ts) ≡ greatest (depths ts) + 1
-depth-union ts = omega arith

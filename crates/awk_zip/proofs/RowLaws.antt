@@ -1,40 +1,36 @@
 -- Rows of columns: the rows of whose parts they are.
-use Rattle.std.proofs.Common.{◌≡◌, ℕ, zero, suc, ◌<◌, Bool, true, false, refl, ap, arith, sym}
-use Rattle.std.proofs.Common.{◌∙◌, ◌^◌, subst, slice_get}
+use Rattle.std.proofs.Common.{◌≡◌, ℕ, zero, suc, ◌<◌, Bool, true, false, refl, ap, arith, sym, ◌∙◌}
+use Rattle.std.proofs.Common.{subst, slice_get}
 use Rattle.std.specs.Prelude.{List, [], ◌∷◌, map, filter, length, get_or, Option, Some, None}
 use Rattle.std.specs.Prelude.{if◌then◌else◌}
 use Rattle.std.specs.List.{AllByRecursion}
-use Rattle.std.proofs.lemmas.List.{ext_get_or}
+use Rattle.std.proofs.lemmas.List.{ext_get_or, length-map}
+use Rattle.awk_base.proofs.Every.{all-at}
 use Rattle.awk_types.specs.DataType.{Name, DataType, unknown, leaf, var, reg, rec, tup, opt, uni}
 use Rattle.awk_types.specs.DataType.{types_from}
 use Rattle.awk_types.specs.Datum.{Datum}
-use Rattle.awk_types.specs.Has.{Has, HasRow}
-use Rattle.awk_types.specs.Simple.{option_if, present}
-use Rattle.awk_types.specs.Value.{Value, int, truth, null, list, row, alt, value_list}
-use Rattle.awk_types.specs.Value.{values_from}
+use Rattle.awk_types.specs.Has.{Has}
+use Rattle.awk_types.specs.Simple.{option_if}
+use Rattle.awk_types.specs.Value.{Value, int, truth, null, list, row, alt, value_list, values_from}
 use Rattle.awk_types.proofs.Trees.{value_list-from, values_from-list}
+use Rattle.awk_types.proofs.HasLaws.{row-length}
 use Rattle.awk_layout.proofs.ArrayItems.{length-array_items, get_or-array_items}
 use Rattle.awk_layout.specs.Layout.{Layout, rows, layouts_from}
-use Rattle.awk_layout.specs.Single.{own_datum}
 use Rattle.awk_layout.specs.Typing.{array_type, array_items}
-use Rattle.awk_layout.specs.Valid.{len, AllReach}
-use Rattle.awk_layout.specs.declared.datum.Operand.{Operand}
+use Rattle.awk_layout.specs.Valid.{len}
 use Rattle.awk_gather.specs.Arrays.{array_item}
 use Rattle.awk_columns.specs.Columns.{part_at, joined_items, is_present}
 use Rattle.awk_columns.specs.Parts.{AreParts}
 use Rattle.awk_columns.specs.ListClass.{Class, list_type}
+use Rattle.awk_columns.proofs.PresentItems.{present-have}
 use Rattle.awk_open.proofs.OpenedKinds.{item-rows}
 use Rattle.awk_open.specs.Opened.{AreLong}
-use Rattle.awk_frames.proofs.FramedItems.{items-have, present-have}
-use Rattle.awk_frames.specs.Framed.{IsFrame}
-use Rattle.awk_frames.specs.Shape.{Shape, leaves, items, missing, ends}
+use Rattle.awk_frames.proofs.FramedItems.{items-have}
+use Rattle.awk_frames.specs.Shape.{ends}
 use Rattle.awk_pair_operands.specs.Answer.{shared_ends}
-use Rattle.awk_pair_operands.specs.First.{all_data}
-use Rattle.awk_pair_operands.specs.Pairs.{below, item_type, leaf_types, pair_type, pair_values}
-use Rattle.awk_pair_operands.specs.Pairs.{typs}
+use Rattle.awk_pair_operands.specs.Pairs.{below, leaf_types, pair_type, pair_values, typs}
 use Rattle.awk_pair_operands.specs.Paired.{to_depth, end_type, paired_type, types_at_ends}
-use Rattle.awk_pair_sides.proofs.RangeLaws.{length-map}
-use Rattle.awk_pair_sides.specs.Levels.{opens, some_option, item_of, item_types, level_class}
+use Rattle.awk_pair_sides.specs.Levels.{opens, some_option, item_types, level_class}
 
 -- ---- the parts of one row
 
@@ -81,24 +77,11 @@ parts_of k i vs ws (x ∷ xs) h l p e =
 
 -- ---- rows of a type
 
-row-length : (ts : List DataType) (ws : List Value) → HasRow (types_from ts) ws
-    → length ws ≡ length ts
-row-length [] [] h = refl
-row-length (t ∷ ts) (w ∷ ws) h = ap suc (row-length ts ws h.1)
-row-length [] (w ∷ ws) h = absurd h
-row-length (t ∷ ts) [] h = absurd h
-
-typed-at : (t : DataType) (vs : List Value) (i : ℕ) → AllByRecursion (Has t) vs → i < length vs
-    → Has t (get_or vs i null)
-typed-at t [] i h l = absurd (omega (arith, l))
-typed-at t (v ∷ vs) zero h l = h.0
-typed-at t (v ∷ vs) (suc i) h l = typed-at t vs i h.1 (omega (arith, l))
-
 parts-long : (k : ℕ) (vs : List Value) (xs : List Layout) → AreParts k vs xs
     → AreLong (length vs) xs
 parts-long k vs [] h = tt
 parts-long k vs (x ∷ xs) h = (
-  sym (length-array_items x) ∙ ap length h.0 ∙ length-map (part_at k) vs,
+  sym (length-array_items x) ∙ ap length h.0 ∙ length-map vs (part_at k),
   parts-long (suc k) vs xs h.1,
 )
 
@@ -133,7 +116,7 @@ rows_items names n ts vs xs h l e t =
     let r : i < length vs = omega (arith, q, e) in
     get_or-array_items (rows names n (layouts_from xs)) i q
     ∙ row-at names n i ts vs xs (get_or vs i null) h l r refl
-    (typed-at (tup (types_from ts)) vs i t r))
+    (all-at (Has (tup (types_from ts))) vs i null t r))
 
 -- ---- the ends of values of a type
 
@@ -185,30 +168,9 @@ end_of_pairs keep (suc d) ts =
 
 -- ---- what is paired at a depth
 
-item_types-length : (ts : List DataType) → length (item_types ts) ≡ length ts
-item_types-length ts = length-map item_of (map present ts) ∙ length-map present ts
-
-ends-step : (b : Bool) (d : ℕ) (ts : List DataType)
-    → length (types_at_ends to_depth d (item_types ts)) ≡ length (item_types ts)
-    → length (if b then types_at_ends to_depth d (item_types ts) else ts) ≡ length ts
-ends-step true d ts e = e ∙ item_types-length ts
-ends-step false d ts e = refl
-
-ends-length : (d : ℕ) (ts : List DataType) → length (types_at_ends to_depth d ts) ≡ length ts
-ends-length zero ts = refl
-ends-length (suc d) ts = ends-step (opens ts) d ts (ends-length d (item_types ts))
-
--- as many columns as operands
-pub columns_length : (d : ℕ) (xs : List Operand) (ys : List Layout)
-    → map array_type ys ≡ leaf_types (Some d) (all_data xs) → length ys ≡ length xs
-columns_length d xs ys e =
-    sym (length-map array_type ys) ∙ ap length e
-    ∙ ends-length (below (Some d) (all_data xs)) (typs (all_data xs))
-    ∙ length-map item_type (all_data xs) ∙ length-map own_datum xs
-
 pub types_length : (d : ℕ) (ds : List Datum) (ys : List Layout)
     → map array_type ys ≡ leaf_types (Some d) ds → length ys ≡ length (leaf_types (Some d) ds)
-types_length d ds ys e = sym (length-map array_type ys) ∙ ap length e
+types_length d ds ys e = sym (length-map ys array_type) ∙ ap length e
 
 -- the first column has an item for each end
 pub first_long : (n : ℕ) (ys : List Layout) (y : Layout) → AreLong n ys
@@ -218,15 +180,6 @@ first_long n (z ∷ zs) y h e = let f : z ≡ y = cc in ap len (sym f) ∙ h.0
 
 pub columns_long : (vs : List Value) (ys : List Layout) → AreParts 0 vs ys → AreLong (length vs) ys
 columns_long vs ys h = parts-long 0 vs ys h
-
-pub frame_few : (s : Shape) (n : ℕ) → IsFrame s n → n < 2 ^ 63
-frame_few (leaves m) n h = h.1
-frame_few (items o c s) n h = frame_few s n h.2
-frame_few (missing j s) n h = frame_few s n h.2
-
-pub reach_long : (n : ℕ) (ys : List Layout) → AreLong n ys → AllReach n (layouts_from ys)
-reach_long n [] h = tt
-reach_long n (y ∷ ys) h = (omega (arith, h.0), reach_long n ys h.1)
 
 -- the rows at the ends are of their type
 pub ends_typed : (d : ℕ) (ds : List Datum)

@@ -13,6 +13,7 @@ use Rattle.awk_columns.specs.Columns.{joined_items, is_present}
 use Rattle.awk_columns.specs.ListClass.{Class, list_type}
 use Rattle.awk_frames.specs.Framed.{over_type}
 use Rattle.awk_frames.specs.Sizes.{levels_refused}
+use Rattle.awk_frames.proofs.FrameLaws.{over_type-list}
 use Rattle.awk_pair_operands.specs.Paired.{to_depth, end_type, paired_type}
 use Rattle.awk_pair_sides.specs.Levels.{opens, some_option, item_types, level_class}
 use Rattle.awk_zip.specs.Counted.{lists_refused, inside}
@@ -46,11 +47,6 @@ list_counted c k d p q vs f e h g =
     ∙ or_size (too_many (length (joined_items vs))) (levels_refused p (joined_items vs))
     (lists_refused d q (joined_items vs)) (h (joined_items vs)) (sym (levels-list c p vs) ∙ g)
 
-over-list : (c : Class) (p u : DataType)
-    → over_type (list_type c p) u ≡ list_type c (over_type p u)
-over-list None p u = refl
-over-list (Some n) p u = refl
-
 option-list : (c : Class) (p : DataType) → option_of (list_type c p) ≡ opt (list_type c p)
 option-list None p = refl
 option-list (Some n) p = refl
@@ -64,11 +60,11 @@ level_counted : (o b : Bool) (c : Class) (k d : ℕ) (p e u : DataType) (vs : Li
     → lists_refused k (over_type (if b then option_if o (list_type c p) else e) u) vs ≡ Some Size
 level_counted o false c k d p e u vs f z h n g = let m : None ≡ Some Size = sym (n vs) ∙ g in cc
 level_counted true true c k d p e u vs f z h n g =
-    ap (λ t. lists_refused k (option_of t) vs) (over-list c p u)
+    ap (λ t. lists_refused k (option_of t) vs) (over_type-list c p u)
     ∙ ap (λ t. lists_refused k t vs) (option-list c (over_type p u))
     ∙ list_counted c k d p (over_type p u) (filter is_present vs) f z h g
 level_counted false true c k d p e u vs f z h n g =
-    ap (λ t. lists_refused k t vs) (over-list c p u)
+    ap (λ t. lists_refused k t vs) (over_type-list c p u)
     ∙ list_counted c k d p (over_type p u) vs f z h g
 
 -- where lists that data share are too many, so are those of what stands over them

@@ -1,33 +1,29 @@
 -- What zipping answers, by its parts.
 use Rattle.std.proofs.Common.{◌≡◌, ℕ, ◌-◌, Bool, true, false, not, refl, ap, ap₂, sym, ◌∙◌}
-use Rattle.std.specs.Prelude.{List, [], ◌∷◌, map, length, filter, get_or, nat_lt}
-use Rattle.std.specs.Prelude.{Option, Some, None, Ok, Err, if◌then◌else◌}
-use Rattle.std.specs.List.{range_with_len}
+use Rattle.std.specs.Prelude.{List, length, filter, get_or, nat_lt, Option, Some, None, Ok, Err}
+use Rattle.std.specs.Prelude.{if◌then◌else◌}
 use Rattle.awk_types.specs.DataType.{Name, DataType, unknown, leaf, var, reg, rec, tup, opt, uni}
 use Rattle.awk_types.specs.DataType.{row_type, types_from}
 use Rattle.awk_types.specs.Datum.{Datum, arr, one}
+use Rattle.awk_types.specs.Faults.{limit_refused}
 use Rattle.awk_types.specs.Gives.{Told, refused_or, ◌or◌}
 use Rattle.awk_types.specs.ItemLimit.{item_limit, too_many}
-use Rattle.awk_types.specs.Simple.{simple_value}
 use Rattle.awk_types.specs.Value.{Value, null}
 use Rattle.awk_types.specs.declared.fault.Fault.{Fault}
 use Rattle.awk_types.specs.declared.fault.Fault.TheVariants.{Size, WrongType}
-use Rattle.awk_types.proofs.RefusalLaws.{Told-first, Told-other, or-None, or-both}
-use Rattle.awk_types.proofs.RefusalLaws.{refused_or-None, refused_or-Err, refused_or-Ok}
-use Rattle.awk_layout.specs.Datum.{datum_of, first_item, IsDatum}
-use Rattle.awk_layout.specs.Item.{item}
+use Rattle.awk_types.proofs.RefusalLaws.{Told-first, Told-other, or-None, or-both, refused_or-None}
+use Rattle.awk_types.proofs.RefusalLaws.{refused_or-Err, refused_or-Ok}
+use Rattle.awk_layout.specs.Datum.{datum_of, IsDatum}
 use Rattle.awk_layout.specs.Layout.{Layout}
-use Rattle.awk_layout.specs.Typing.{layout_type, array_type, array_items}
+use Rattle.awk_layout.specs.Typing.{array_type, array_items}
 use Rattle.awk_layout.specs.Valid.{len}
 use Rattle.awk_layout.specs.declared.datum.Datum.TheVariants.{Arr, One}
-use Rattle.awk_layout.proofs.ArrayItems.{length-array_items}
+use Rattle.awk_layout.proofs.ArrayItems.{length-array_items, array_items-one}
 use Rattle.awk_columns.specs.Columns.{joined_items, is_present}
 use Rattle.awk_frames.specs.Sizes.{levels_refused, sizes_refused}
 use Rattle.awk_pair_operands.specs.Answer.{single_or_fault}
 use Rattle.awk_pair_operands.specs.Pairs.{below, datum_from, leaf_types, lengths_refused}
-use Rattle.awk_pair_operands.specs.Pairs.{pair_refused}
-use Rattle.awk_pair_operands.specs.Pairs.{pair_type, some_array, type_refused, typs}
-use Rattle.awk_pair_types.specs.Limits.{limit_refused}
+use Rattle.awk_pair_operands.specs.Pairs.{pair_refused, pair_type, some_array, type_refused, typs}
 use Rattle.awk_pair_types.proofs.DepthLaws.{never_wrong}
 use Rattle.awk_zip.specs.Counted.{lists_refused}
 use Rattle.awk_zip.specs.Zip.{zip_of, zip_refused, zip_sizes, zip_type, zip_values}
@@ -60,11 +56,6 @@ levels-size (leaf p) vs f h = cc
 levels-size (rec ns ts) vs f h = cc
 levels-size (tup ts) vs f h = cc
 levels-size (uni ts) vs f h = cc
-
--- an array of one item has its first alone
-items-one : (x : Layout) → len x ≡ 1 → array_items x ≡ first_item x ∷ []
-items-one x single =
-    ap (λ n. map (simple_value (layout_type x)) (map (item x) (range_with_len 0 n))) single
 
 module _ (d : ℕ) (names : Option (List Name)) (ds : List Datum) where
   -- ---- faults
@@ -215,5 +206,5 @@ module _ (d : ℕ) (names : Option (List Name)) (ds : List Datum) where
       by true e false k = ap₂ arr h.typ h.items
       by false e true k =
           ap₂ one h.typ (ap (λ vs. get_or vs 0 null)
-          (sym (items-one y (size-one single y h e)) ∙ h.items))
+          (sym (array_items-one y (size-one single y h e)) ∙ h.items))
       by false e false k = absurd cc

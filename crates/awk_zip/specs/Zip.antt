@@ -2,6 +2,7 @@
 use Rattle.std.specs.Prelude.{ℕ, false, List, length, Option, Some, Result}
 use Rattle.awk_types.specs.DataType.{Name, DataType, row_type, types_from}
 use Rattle.awk_types.specs.Datum.{Datum}
+use Rattle.awk_types.specs.Faults.{limit_refused}
 use Rattle.awk_types.specs.Gives.{refused_or, ◌or◌}
 use Rattle.awk_types.specs.ItemLimit.{too_many}
 use Rattle.awk_types.specs.Value.{Value}
@@ -9,7 +10,6 @@ use Rattle.awk_types.specs.declared.fault.Fault.{Fault}
 use Rattle.awk_frames.specs.Framed.{over_type}
 use Rattle.awk_pair_operands.specs.Pairs.{below, datum_from, leaf_types, lengths_refused, pair_type}
 use Rattle.awk_pair_operands.specs.Pairs.{pair_values, some_array}
-use Rattle.awk_pair_types.specs.Limits.{limit_refused}
 use Rattle.awk_zip.specs.Counted.{lists_refused}
 
 -- a row of the items' types at each end

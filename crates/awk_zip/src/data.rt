@@ -1,11 +1,10 @@
 //! Data as operands, and a datum of what is made.
-ghost use Rattle.std.specs.Prelude.{◌≡◌, map, IfOk, if◌then◌else◌};
+ghost use Rattle.std.specs.Prelude.{◌≡◌, map, IfOk};
 ghost use Rattle.awk_layout.specs.Datum.{datum_of};
-ghost use Rattle.awk_layout.specs.declared.datum.Datum.TheVariants.{Arr, One};
 ghost use Rattle.awk_pair_operands.specs.First.{all_data};
 
 use awk_lanes::NoMemory;
-use awk_layout::{Array, Datum, Datums, Operand, Operands};
+use awk_layout::{Datums, Operand, Operands};
 use std::alloc::Global;
 
 /// Data as operands.
@@ -18,15 +17,4 @@ pub(crate) fn operands_of<'a>(alloc: Global, xs: &Datums<'a>) -> Result<Operands
         operands.push(Operand::Of(datum))?;
     }
     Ok(operands)
-}
-
-/// An array, or a single value as one.
-pub(crate) fn datum_from<'a>(single: bool, made: Array<'a>) -> Datum<'a>
-    ensures { result ≡ (if single then One made.entry else Arr made.entry) }
-{
-    if single {
-        Datum::One(made)
-    } else {
-        Datum::Arr(made)
-    }
 }

@@ -1,7 +1,7 @@
 //! Rows of several operands' items, over the lists and nulls that the operands share.
 ghost use Rattle.std.specs.Prelude.{◌≡◌, ◌<◌, ◌-◌, false, length, map, option_map, Some, IfOk};
 ghost use Rattle.std.specs.Prelude.{if◌then◌else◌};
-ghost use Rattle.awk_types.specs.Faults.{fault_told};
+ghost use Rattle.awk_types.specs.Faults.{fault_told, limit_refused};
 ghost use Rattle.awk_types.specs.Gives.{Gives, refused_or};
 ghost use Rattle.awk_types.specs.View.{typ_of};
 ghost use Rattle.awk_layout.specs.Array.{IsArrayType};
@@ -10,16 +10,16 @@ ghost use Rattle.awk_layout.specs.Typing.{array_type, array_items};
 ghost use Rattle.awk_layout.specs.Valid.{AreNames};
 ghost use Rattle.awk_pair_operands.specs.Answer.{single_or_fault};
 ghost use Rattle.awk_pair_operands.specs.First.{all_data};
-ghost use Rattle.awk_pair_types.specs.Limits.{limit_refused};
 ghost use Rattle.awk_zip.specs.Zip.{zip_of, zip_type, zip_values};
 
 use crate::counted::is_large;
-use crate::data::{datum_from, operands_of};
+use crate::data::operands_of;
 use crate::rows::row_node;
 use awk_frames::framed;
 use awk_lanes::{Arena, Steps};
 use awk_layout::{Array, Datum, Datums, Node, Operands};
 use awk_pair::pair;
+use awk_pair_operands::datum_from;
 use awk_pair_types::{pair_types, typ_within};
 use awk_types::{Fault, Names, Typ};
 use std::alloc::Global;

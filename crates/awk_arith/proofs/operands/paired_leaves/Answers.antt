@@ -1,6 +1,6 @@
 use Rattle.std.proofs.Common.{◌≡◌, ◌<◌, ◌^◌, ◌∙◌, ap, ap₂, sym, subst, refl, arith, false}
 use Rattle.std.specs.Prelude.{None, Ok, Err, length, if◌then◌else◌}
-use Rattle.awk_types.specs.Faults.{fault_told}
+use Rattle.awk_types.specs.Faults.{fault_told, limit_refused}
 use Rattle.awk_types.specs.Limit.{limit}
 use Rattle.awk_types.specs.View.{typ_of}
 use Rattle.awk_types.proofs.RefusalLaws.{Gives-Err, refused_or-Ok}
@@ -13,10 +13,10 @@ use Rattle.awk_layout.specs.declared.datum.Datum.TheVariants.{Arr, One}
 use Rattle.awk_leaves.specs.Table.{binary_judged}
 use Rattle.awk_frames.specs.Framed.{IsFrame, over_type}
 use Rattle.awk_frames.specs.View.{shape_of}
+use Rattle.awk_frames.proofs.FrameLaws.{frame_small}
 use Rattle.awk_pair_operands.specs.Answer.{shared_ends}
 use Rattle.awk_pair_operands.specs.First.{all_data}
 use Rattle.awk_pair_operands.specs.Pairs.{pair_type, pair_values}
-use Rattle.awk_pair_types.specs.Limits.{limit_refused}
 use Rattle.awk_ends.specs.Operands.{leaf_of}
 use Rattle.awk_ends.proofs.LaneLaws.{flat-type}
 use Rattle.awk_arith.specs.AtLeaves.{result_type, row_values, value_or_null}
@@ -26,7 +26,6 @@ use Rattle.awk_arith.proofs.BinaryLaws.{told_primitive}
 use Rattle.awk_arith.proofs.ColumnLaws.{AreSides}
 use Rattle.awk_arith.proofs.PairedLaws.{told_limit, told_paired, told_rows, columns, columns_judged}
 use Rattle.awk_arith.proofs.PairedLaws.{lane_is, lane_long, result, answer}
-use Rattle.awk_arith.proofs.UnderLaws.{frame_small}
 use Rattle.awk_arith.proofs.operands.paired_leaves.Goals as goal
 
 pub returns-in_err-prim-clause-answer : goal.returns-in_err-prim-clause-answer

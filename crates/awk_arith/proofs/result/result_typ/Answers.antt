@@ -1,8 +1,7 @@
 use Rattle.std.proofs.Common.{subst}
-use Rattle.awk_types.specs.Faults.{fault_told}
+use Rattle.awk_types.specs.Faults.{fault_told, limit_refused}
 use Rattle.awk_types.specs.Gives.{Gives, refused_or}
 use Rattle.awk_types.specs.View.{typ_of}
-use Rattle.awk_pair_types.specs.Limits.{limit_refused}
 use Rattle.awk_arith.proofs.result.result_typ.Goals as goal
 
 pub returns-clause-answer : goal.returns-clause-answer

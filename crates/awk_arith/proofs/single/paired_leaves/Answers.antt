@@ -1,6 +1,7 @@
 use Rattle.std.proofs.Common.{◌≡◌, ◌<◌, ◌^◌, ◌∙◌, ap, sym, subst, arith, false}
 use Rattle.std.specs.Prelude.{None, Ok, Err, length, if◌then◌else◌}
-use Rattle.awk_types.specs.Faults.{fault_told}
+use Rattle.awk_types.specs.Datum.{datum_type}
+use Rattle.awk_types.specs.Faults.{fault_told, limit_refused}
 use Rattle.awk_types.specs.Limit.{limit}
 use Rattle.awk_types.specs.View.{typ_of}
 use Rattle.awk_types.proofs.RefusalLaws.{Gives-Err, refused_or-Ok}
@@ -12,10 +13,10 @@ use Rattle.awk_layout.specs.declared.datum.Datum.TheVariants.{Arr, One}
 use Rattle.awk_leaves.specs.Table.{unary_judged}
 use Rattle.awk_frames.specs.Framed.{IsFrame, over_type}
 use Rattle.awk_frames.specs.View.{shape_of}
+use Rattle.awk_frames.proofs.FrameLaws.{frame_small}
 use Rattle.awk_pair_operands.specs.Answer.{shared_ends}
 use Rattle.awk_pair_operands.specs.First.{all_data}
-use Rattle.awk_pair_operands.specs.Pairs.{pair_type, pair_values, item_type}
-use Rattle.awk_pair_types.specs.Limits.{limit_refused}
+use Rattle.awk_pair_operands.specs.Pairs.{pair_type, pair_values}
 use Rattle.awk_ends.specs.Operands.{leaf_in}
 use Rattle.awk_ends.proofs.LaneLaws.{flat-type}
 use Rattle.awk_arith.specs.AtLeaves.{result_type, row_values, value_or_null}
@@ -24,7 +25,6 @@ use Rattle.awk_arith.proofs.AnswerLaws.{IsResult, datum_made}
 use Rattle.awk_arith.proofs.UnaryLaws.{told_primitive, IsSingle, told_limit, told_paired, told_rows}
 use Rattle.awk_arith.proofs.UnaryLaws.{some_column, column, column_judged, lane_is, lane_long}
 use Rattle.awk_arith.proofs.UnaryLaws.{result, answer}
-use Rattle.awk_arith.proofs.UnderLaws.{frame_small}
 use Rattle.awk_arith.proofs.single.paired_leaves.Goals as goal
 
 pub returns-in_err-prim-clause-answer : goal.returns-in_err-prim-clause-answer
@@ -42,7 +42,7 @@ returns-in_err-typ-clause-answer g c =
     let d = datum_of c.args.x.now in
     let xs = c.args.xs.now in
     let p = c.in_ok-prim.prim in
-    let judged : unary_judged op (leaf_in (item_type d)) ≡ Ok p =
+    let judged : unary_judged op (leaf_in (datum_type d)) ≡ Ok p =
     ap (unary_judged op) (sym c.leaf_type.ensures) ∙ sym c.in_ok-prim.ensures in
     let e = c.in_err-typ.field-0.0 in
     let failed : c.from_residual-in_err-typ.result ≡ Err e = grind arith in
@@ -55,7 +55,7 @@ returns-in_err-paired-clause-answer g c =
     let d = datum_of c.args.x.now in
     let xs = c.args.xs.now in
     let p = c.in_ok-prim.prim in
-    let judged : unary_judged op (leaf_in (item_type d)) ≡ Ok p =
+    let judged : unary_judged op (leaf_in (datum_type d)) ≡ Ok p =
     ap (unary_judged op) (sym c.leaf_type.ensures) ∙ sym c.in_ok-prim.ensures in
     let e = c.in_err-paired.field-0.0 in
     let failed : c.from_residual-in_err-paired.result ≡ Err e = grind arith in
@@ -69,7 +69,7 @@ get-requires g c =
     let d = datum_of c.args.x.now in
     let xs = c.args.xs.now in
     let p = c.in_ok-prim.prim in
-    let judged : unary_judged op (leaf_in (item_type d)) ≡ Ok p =
+    let judged : unary_judged op (leaf_in (datum_type d)) ≡ Ok p =
     ap (unary_judged op) (sym c.leaf_type.ensures) ∙ sym c.in_ok-prim.ensures in
     some_column op d xs p c.requires.data judged c.in_ok-paired.paired.leaves
     c.in_ok-paired.ensures.leaves c.in_ok-paired.ensures.types
@@ -80,7 +80,7 @@ leaf_results-requires g c =
     let d = datum_of c.args.x.now in
     let xs = c.args.xs.now in
     let p = c.in_ok-prim.prim in
-    let judged : unary_judged op (leaf_in (item_type d)) ≡ Ok p =
+    let judged : unary_judged op (leaf_in (datum_type d)) ≡ Ok p =
     ap (unary_judged op) (sym c.leaf_type.ensures) ∙ sym c.in_ok-prim.ensures in
     let y = c.get.result.now in
     let s : IsSingle d (shared_ends false None (all_data xs)) y =
@@ -94,7 +94,7 @@ returns-in_err-lane-clause-answer g c =
     let d = datum_of c.args.x.now in
     let xs = c.args.xs.now in
     let p = c.in_ok-prim.prim in
-    let judged : unary_judged op (leaf_in (item_type d)) ≡ Ok p =
+    let judged : unary_judged op (leaf_in (datum_type d)) ≡ Ok p =
     ap (unary_judged op) (sym c.leaf_type.ensures) ∙ sym c.in_ok-prim.ensures in
     let y = c.get.result.now in
     let s : IsSingle d (shared_ends false None (all_data xs)) y =
@@ -113,7 +113,7 @@ numpy-requires g c =
     let d = datum_of c.args.x.now in
     let xs = c.args.xs.now in
     let p = c.in_ok-prim.prim in
-    let judged : unary_judged op (leaf_in (item_type d)) ≡ Ok p =
+    let judged : unary_judged op (leaf_in (datum_type d)) ≡ Ok p =
     ap (unary_judged op) (sym c.leaf_type.ensures) ∙ sym c.in_ok-prim.ensures in
     let y = c.get.result.now in
     let s : IsSingle d (shared_ends false None (all_data xs)) y =
@@ -131,7 +131,7 @@ framed-requires g c =
     let d = datum_of c.args.x.now in
     let xs = c.args.xs.now in
     let p = c.in_ok-prim.prim in
-    let judged : unary_judged op (leaf_in (item_type d)) ≡ Ok p =
+    let judged : unary_judged op (leaf_in (datum_type d)) ≡ Ok p =
     ap (unary_judged op) (sym c.leaf_type.ensures) ∙ sym c.in_ok-prim.ensures in
     let y = c.get.result.now in
     let s : IsSingle d (shared_ends false None (all_data xs)) y =
@@ -150,7 +150,7 @@ within_limits-requires-clause-typ g c =
     let d = datum_of c.args.x.now in
     let xs = c.args.xs.now in
     let p = c.in_ok-prim.prim in
-    let judged : unary_judged op (leaf_in (item_type d)) ≡ Ok p =
+    let judged : unary_judged op (leaf_in (datum_type d)) ≡ Ok p =
     ap (unary_judged op) (sym c.leaf_type.ensures) ∙ sym c.in_ok-prim.ensures in
     let y = c.get.result.now in
     let s : IsSingle d (shared_ends false None (all_data xs)) y =
@@ -180,7 +180,7 @@ returns-clause-answer g c =
     let d = datum_of c.args.x.now in
     let xs = c.args.xs.now in
     let p = c.in_ok-prim.prim in
-    let judged : unary_judged op (leaf_in (item_type d)) ≡ Ok p =
+    let judged : unary_judged op (leaf_in (datum_type d)) ≡ Ok p =
     ap (unary_judged op) (sym c.leaf_type.ensures) ∙ sym c.in_ok-prim.ensures in
     let y = c.get.result.now in
     let s : IsSingle d (shared_ends false None (all_data xs)) y =
@@ -219,7 +219,7 @@ returns-clause-datum g c =
     let d = datum_of c.args.x.now in
     let xs = c.args.xs.now in
     let p = c.in_ok-prim.prim in
-    let judged : unary_judged op (leaf_in (item_type d)) ≡ Ok p =
+    let judged : unary_judged op (leaf_in (datum_type d)) ≡ Ok p =
     ap (unary_judged op) (sym c.leaf_type.ensures) ∙ sym c.in_ok-prim.ensures in
     let y = c.get.result.now in
     let s : IsSingle d (shared_ends false None (all_data xs)) y =

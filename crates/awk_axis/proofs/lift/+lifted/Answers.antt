@@ -7,20 +7,21 @@ use Rattle.awk_axis.specs.Reach.{here, inner}
 use Rattle.awk_axis.specs.Lift.{refusal_at}
 use Rattle.awk_columns.specs.Joined.{IsJoined}
 use Rattle.awk_axis.specs.Mapped.{IsAtAxis, IsLifted, AreLifted}
-use Rattle.awk_axis.proofs.LiftLaws.{refusal-list, refusal-list_here, refusal-row}
+use Rattle.awk_axis.proofs.LiftLaws.{refusal-list, refusal-list_here, refusal-row, count_mapped}
+use Rattle.awk_axis.proofs.LiftLaws.{reach_mapped, refusal-union, union_mapped}
 use Rattle.awk_columns.proofs.ListNodes.{joined_even}
-use Rattle.awk_axis.proofs.LiftLaws.{count_mapped, reach_mapped, refusal-union, union_mapped}
-use Rattle.awk_axis.proofs.LiftedLaws.{lists_here, lists_too_many, lists_many_told}
-use Rattle.awk_axis.proofs.LiftedLaws.{lists_spoiled, lists_above}
-use Rattle.awk_axis.proofs.LiftedLaws.{option_lifted, option_spoiled, row_lifted, row_spoiled}
-use Rattle.awk_axis.proofs.LiftedLaws.{union_lifted, union_spoiled, refusal-get, depth-get}
-use Rattle.awk_axis.proofs.LiftedLaws.{depth-list, depth-row, depth-option, depth-union}
+use Rattle.awk_axis.proofs.LiftedLaws.{lists_here, lists_too_many, lists_many_told, lists_spoiled}
+use Rattle.awk_axis.proofs.LiftedLaws.{lists_above, option_lifted, option_spoiled, row_lifted}
+use Rattle.awk_axis.proofs.LiftedLaws.{row_spoiled, union_lifted, union_spoiled, refusal-get}
+use Rattle.awk_axis.proofs.LiftedLaws.{depth-get}
 use Rattle.awk_types.specs.DataType.{types_from, depth, depths, greatest}
+use Rattle.awk_types.proofs.TypeShapes.{depth-row, depth-option, depth-union}
 use Rattle.awk_axis.proofs.Falls.{falls_kind, falls_item, falls_all, falls_each}
 use Rattle.awk_layout.specs.Valid.{len}
 use Rattle.awk_axis.proofs.AllLaws.{so_far_taken}
 use Rattle.awk_open.specs.declared.opening.Opened.TheVariants as opened
 use Rattle.awk_columns.specs.declared.lists.Joined.TheVariants as joined
+use Rattle.awk_columns.proofs.ListTypes.{depth-list}
 use Rattle.awk_axis.specs.declared.lift.Mapped.TheVariants as mapped
 use Rattle.awk_axis.specs.declared.lift.AllMapped.TheVariants as all_mapped
 use Rattle.awk_axis.proofs.lift.+lifted.Goals as goal

@@ -5,7 +5,7 @@ use Rattle.serde_json.specs.Data.{array}
 use Rattle.serde_json.specs.View.{items_view, view}
 use Rattle.awk_types.proofs.RefusalLaws.{refused_or-Ok}
 use Rattle.awk_types.specs.DataType.{unknown}
-use Rattle.awk_open.proofs.PartLimits.{within_var}
+use Rattle.awk_types.proofs.PartLimits.{within_var}
 use Rattle.awk_plain.specs.IsPlain.{IsJudged}
 use Rattle.awk_plain.specs.Plain.{items_type, plain_fault, plain_type}
 use Rattle.awk_plain.proofs.JudgedLaws.{fault_free}

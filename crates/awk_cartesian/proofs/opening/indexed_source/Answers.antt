@@ -1,11 +1,11 @@
 use Rattle.std.proofs.Common.{◌≡◌, true, ap, sym, ◌∙◌, subst}
 use Rattle.std.specs.Prelude.{is_some}
 use Rattle.awk_base.proofs.Results.{if_ok}
+use Rattle.awk_types.specs.Parts.{list_item}
 use Rattle.awk_types.specs.Predicates.{is_unknown}
 use Rattle.awk_layout.specs.Typing.{array_type}
 use Rattle.awk_gather.specs.Arrays.{array_item}
 use Rattle.awk_merge_operands.specs.Operands.{values_by, IsListIndex}
-use Rattle.awk_cartesian.specs.Cartesian.{list_item}
 use Rattle.awk_cartesian.specs.Sources.{IsOpened, IsOfLists, IsOfNone}
 use Rattle.awk_cartesian.proofs.OpeningLaws.{lists_opened, none_opened, some_lists, nothing}
 use Rattle.awk_cartesian.proofs.opening.indexed_source.Goals as goal

@@ -1,12 +1,13 @@
 use Rattle.std.proofs.Common.{◌≡◌, false, true, None, Some, ap, sym, ◌∙◌, subst}
 use Rattle.std.specs.Prelude.{is_some}
 use Rattle.awk_base.proofs.Results.{if_ok}
+use Rattle.awk_types.specs.Parts.{list_item}
 use Rattle.awk_types.specs.Simple.{is_option}
 use Rattle.awk_layout.specs.Typing.{array_type, array_items}
 use Rattle.awk_layout.specs.Valid.{len}
 use Rattle.awk_gather.specs.Arrays.{array_item}
 use Rattle.awk_merge_operands.specs.Operands.{values_by, IsListIndex}
-use Rattle.awk_cartesian.specs.Cartesian.{list_item, rows_item}
+use Rattle.awk_cartesian.specs.Cartesian.{rows_item}
 use Rattle.awk_cartesian.specs.Sources.{IsOpened}
 use Rattle.awk_cartesian.proofs.OpeningLaws.{plain_item, plain_opened, option_item, option_index}
 use Rattle.awk_cartesian.proofs.OpeningLaws.{option_opened}

@@ -1,8 +1,9 @@
 use Rattle.std.proofs.Common.{◌≡◌, refl, sym, subst, arith, length, take}
 use Rattle.awk_merge_operands.specs.Operands.{IndexesAll}
 use Rattle.awk_base.proofs.Lists.{take-get}
+use Rattle.awk_base.proofs.Every.{all-get}
 use Rattle.awk_cartesian.specs.Sources.{rows_in, IsListed, AreRows}
-use Rattle.awk_cartesian.proofs.RowLaws.{no_rows, more_rows, one_of, all_of_no_more}
+use Rattle.awk_cartesian.proofs.RowLaws.{no_rows, more_rows, all_of_no_more}
 use Rattle.awk_cartesian.proofs.rows.opened_rows.Goals as goal
 
 pub loop-j-init : goal.loop-j-init
@@ -10,7 +11,7 @@ loop-j-init g c = no_rows c.args.axis c.args.n _ c.new.ensures refl
 
 pub opened-requires : goal.opened-requires
 opened-requires g c = record {
-  lists = one_of (IsListed c.args.axis) c.args.xs.now c.loop-j.j c.get.result.now
+  lists = all-get (IsListed c.args.axis) c.args.xs.now c.loop-j.j c.get.result.now
       c.get.ensures.item c.requires.lists;
 }
 
@@ -20,7 +21,7 @@ more_rows-requires-clause-rows g c = c.loop-j.invariant.index
 pub more_rows-requires-clause-index : goal.more_rows-requires-clause-index
 more_rows-requires-clause-index g c =
     subst (IndexesAll c.in_ok-source.source.index)
-    (one_of (λ d. length (rows_in c.args.axis d) ≡ c.args.n) c.args.xs.now c.loop-j.j
+    (all-get (λ d. length (rows_in c.args.axis d) ≡ c.args.n) c.args.xs.now c.loop-j.j
     c.get.result.now c.get.ensures.item c.requires.long)
     c.in_ok-source.ensures.index
 
@@ -31,7 +32,7 @@ loop-j-preserved g c =
     (more_rows c.args.axis c.args.n (take c.loop-j.j c.args.xs.now) c.get.result.now
     c.loop-j.rows c.in_ok-rows.rows c.in_ok-source.source c.loop-j.invariant
     c.in_ok-source.ensures
-    (one_of (λ d. length (rows_in c.args.axis d) ≡ c.args.n) c.args.xs.now c.loop-j.j
+    (all-get (λ d. length (rows_in c.args.axis d) ≡ c.args.n) c.args.xs.now c.loop-j.j
     c.get.result.now c.get.ensures.item c.requires.long)
     c.in_ok-rows.ensures.sources c.in_ok-rows.ensures.index)
 

@@ -1,6 +1,7 @@
 use Rattle.std.proofs.Common.{◌≡◌, ◌∙◌, arith, subst, sym}
 use Rattle.std.specs.Prelude.{Err}
-use Rattle.awk_cast.specs.Casting.{AreAnswer, IsAnswer, IsOnly, IsTold}
+use Rattle.awk_layout.specs.Frames.{IsOnly}
+use Rattle.awk_cast.specs.Casting.{AreAnswer, IsAnswer, IsTold}
 use Rattle.awk_cast.specs.Levels.{AreBeside, IsOver}
 use Rattle.awk_cast.proofs.CoverLaws.{only_is, over_cast, over_told}
 use Rattle.awk_cast.proofs.EachLaws.{so_far_failed, so_far_taken}

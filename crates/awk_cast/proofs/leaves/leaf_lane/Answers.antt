@@ -1,9 +1,10 @@
 use Rattle.std.proofs.Common.{◌∙◌}
 use Rattle.awk_layout.specs.Typing.{array_type, array_items}
+use Rattle.awk_pointwise.proofs.SideLaws.{lane_values-at}
 use Rattle.awk_open.specs.Opened.{IsOpened}
 use Rattle.awk_open.specs.declared.opening.Opened.TheVariants as opened
 use Rattle.awk_open.specs.InOrder.{IsInOrder}
-use Rattle.awk_cast.proofs.LeafLaws.{lane_values-at, only_lane}
+use Rattle.awk_cast.proofs.LeafLaws.{only_lane}
 use Rattle.awk_cast.proofs.leaves.leaf_lane.Goals as goal
 
 pub returns : goal.returns

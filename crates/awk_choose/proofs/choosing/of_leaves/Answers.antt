@@ -1,6 +1,6 @@
 use Rattle.std.proofs.Common.{◌≡◌, ◌∙◌, ap, sym, subst, false, arith}
 use Rattle.std.specs.Prelude.{None, Ok, Err, map, if◌then◌else◌}
-use Rattle.awk_types.specs.Faults.{fault_told}
+use Rattle.awk_types.specs.Faults.{fault_told, limit_refused}
 use Rattle.awk_types.specs.Limit.{limit}
 use Rattle.awk_types.specs.View.{typ_of}
 use Rattle.awk_types.proofs.RefusalLaws.{Gives-Err, refused_or-Ok}
@@ -13,7 +13,6 @@ use Rattle.awk_frames.specs.View.{shape_of}
 use Rattle.awk_pair_operands.specs.Answer.{shared_ends}
 use Rattle.awk_pair_operands.specs.First.{all_data}
 use Rattle.awk_pair_operands.specs.Pairs.{pair_type, pair_values}
-use Rattle.awk_pair_types.specs.Limits.{limit_refused}
 use Rattle.awk_ends.proofs.DatumLaws.{IsMade, datum_made}
 use Rattle.awk_choose.specs.Choice.{far, choice_row, result_type, result_values, judged_choice}
 use Rattle.awk_choose.proofs.ChosenLaws.{IsJudged, is_judged, told_paired, columns, told_ends}

@@ -1,6 +1,7 @@
 use Rattle.std.proofs.Common.{◌≡◌, sym, subst}
 use Rattle.std.proofs.lemmas.Result.{IfOk-weaker}
 use Rattle.std.specs.Prelude.{true, IfOk}
+use Rattle.awk_base.proofs.Every.{all-at}
 use Rattle.awk_types.specs.Predicates.{is_leaf}
 use Rattle.awk_types.specs.Simple.{present}
 use Rattle.awk_layout.specs.Layout.{empty}
@@ -9,7 +10,7 @@ use Rattle.awk_layout.specs.declared.datum.Operand.TheVariants as operand
 use Rattle.awk_ends.specs.Columns.{IsAmong, column_at, ends_of}
 use Rattle.awk_ends.proofs.LaneLaws.{column_is}
 use Rattle.awk_choose.specs.Ends.{IsLeafColumn, IsColumnEnd, IsEndAt}
-use Rattle.awk_choose.proofs.EndLaws.{all-at, column-at}
+use Rattle.awk_choose.proofs.EndLaws.{column-at}
 use Rattle.awk_choose.proofs.ends.operand_end.Goals as goal
 
 pub column_end-requires : goal.column_end-requires

@@ -1,13 +1,12 @@
 use Rattle.std.proofs.Common.{◌≡◌, [], ◌∙◌, ap, subst}
 use Rattle.awk_types.specs.DataType.{leaf}
-use Rattle.awk_types.specs.Faults.{fault_told}
+use Rattle.awk_types.specs.Faults.{fault_told, limit_refused}
 use Rattle.awk_types.specs.Gives.{Gives, refused_or}
 use Rattle.awk_types.specs.Simple.{option_if}
 use Rattle.awk_types.specs.View.{typ_of}
 use Rattle.awk_layout.specs.Kinds.{primitive_of, primitive_of-kind_of}
 use Rattle.awk_layout.specs.Typing.{array_type}
 use Rattle.awk_frames.specs.Framed.{over_type}
-use Rattle.awk_pair_types.specs.Limits.{limit_refused}
 use Rattle.awk_choose.proofs.types.result_typ.Goals as goal
 
 pub returns-clause-answer : goal.returns-clause-answer

@@ -1,7 +1,6 @@
-use Rattle.std.proofs.Common.{◌≡◌, sym, ap, ◌∙◌, subst}
-use Rattle.awk_layout.specs.Layout.{flat}
+use Rattle.std.proofs.Common.{subst}
 use Rattle.awk_layout.specs.Valid.{len}
-use Rattle.awk_combi.specs.Slots.{IsSlot, IsSlotLane}
+use Rattle.awk_combi.specs.Slots.{IsSlotLane}
 use Rattle.awk_combi.proofs.SlotNodes.{place_slot, index_slot}
 use Rattle.awk_combi.proofs.slots.slot_node.Goals as goal
 

@@ -1,7 +1,8 @@
-use Rattle.std.proofs.Common.{◌≡◌, ◌+◌, sym, ap, ◌∙◌, subst, arith}
+use Rattle.std.proofs.Common.{◌+◌, sym, subst, arith}
 use Rattle.std.proofs.lemmas.Option.{get_or_from_slice_get}
 use Rattle.awk_layout.specs.Valid.{len}
-use Rattle.awk_combi.specs.Slots.{AreSlots, IsSlot, IsSlotLane, no_places}
+use Rattle.awk_lanes.specs.Column.{no_places}
+use Rattle.awk_combi.specs.Slots.{AreSlots, IsSlot, IsSlotLane}
 use Rattle.awk_combi.proofs.SlotNodes.{one_more}
 use Rattle.awk_combi.proofs.slots.slot_nodes.Goals as goal
 

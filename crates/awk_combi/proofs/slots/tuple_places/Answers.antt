@@ -1,10 +1,9 @@
-use Rattle.std.proofs.Common.{◌≡◌, ◌<◌, ◌≤◌, None, Some, arith, subst, sym, ◌∙◌}
+use Rattle.std.proofs.Common.{◌<◌, None, Some, arith, subst, ◌∙◌}
 use Rattle.awk_types.specs.ItemLimit.{item_limit}
 use Rattle.awk_lanes.specs.Counted.{AreOffsetsBy}
 use Rattle.awk_lanes.specs.Places.{size_of}
 use Rattle.awk_places.specs.Slots.{tuple_count}
-use Rattle.awk_combi.proofs.SpanLaws.{made_places, made_size, made_counts, made_offsets}
-use Rattle.awk_combi.proofs.SpanLaws.{made_slots}
+use Rattle.awk_combi.proofs.SpanLaws.{made_places, made_size, made_counts, made_offsets, made_slots}
 use Rattle.awk_combi.proofs.slots.tuple_places.Goals as goal
 
 pub rising_offsets-requires-clause-places : goal.rising_offsets-requires-clause-places

@@ -1,4 +1,3 @@
-use Rattle.std.proofs.Common.{◌≡◌, ◌<◌, ◌≤◌, ap, sym, ◌∙◌, subst, arith, length}
 use Rattle.awk_combi.proofs.TupleLaws.{reach_slots, are_tuples}
 use Rattle.awk_combi.proofs.tuples.tuple_node.Goals as goal
 

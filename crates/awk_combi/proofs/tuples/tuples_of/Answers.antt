@@ -1,10 +1,10 @@
-use Rattle.std.proofs.Common.{◌≡◌, ◌<◌, None, Some, sym, ap, ◌∙◌, subst}
+use Rattle.std.proofs.Common.{◌≡◌, None, Some, sym, ap, ◌∙◌, subst}
 use Rattle.awk_layout.specs.Typing.{array_type, array_items}
 use Rattle.awk_layout.specs.Valid.{len}
 use Rattle.awk_types.specs.Has.{Has}
 use Rattle.std.specs.List.{AllByRecursion}
 use Rattle.awk_combi.specs.Combinations.{slots, slot_type}
-use Rattle.awk_combi.specs.Slots.{AreSlotLanes, AreOfSize, AreTuples, ArePlaced}
+use Rattle.awk_combi.specs.Slots.{AreSlotLanes, AreTuples, ArePlaced}
 use Rattle.awk_combi.proofs.TupleLaws.{placed_lanes, placed_sized, placed_none, placed_given}
 use Rattle.awk_combi.proofs.tuples.tuples_of.Goals as goal
 

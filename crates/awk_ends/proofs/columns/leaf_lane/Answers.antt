@@ -1,10 +1,10 @@
 use Rattle.std.proofs.Common.{◌∙◌}
 use Rattle.awk_layout.specs.Typing.{array_type, array_items}
+use Rattle.awk_pointwise.proofs.SideLaws.{lane_values-at}
 use Rattle.awk_open.specs.Opened.{IsOpened}
 use Rattle.awk_open.specs.declared.opening.Opened.TheVariants as opened
 use Rattle.awk_open.specs.InOrder.{IsInOrder}
 use Rattle.awk_open.proofs.OnlyKinds.{only_leaves}
-use Rattle.awk_ends.proofs.LaneLaws.{lane_values-at}
 use Rattle.awk_ends.proofs.columns.leaf_lane.Goals as goal
 
 pub returns-in-Leaf : goal.returns-in-Leaf

@@ -1,14 +1,13 @@
-use Rattle.std.proofs.Common.{ap, ◌∙◌, rules, subst, sym}
+use Rattle.std.proofs.Common.{ap, ◌∙◌, rules, subst}
 use Rattle.std.specs.Prelude.{FitsSigned}
 use Rattle.std.specs.Int.{w64}
 use Rattle.std.proofs.lemmas.Int.{to_z-of_z}
 use Rattle.awk_types.specs.Faults.{fault_told}
 use Rattle.awk_types.specs.Gives.{Gives}
 use Rattle.awk_layout.specs.Datum.{datum_of}
-use Rattle.awk_fill.specs.FillNone as fill
+use Rattle.awk_layout.specs.Filler.{filler_of}
 use Rattle.awk_fill.specs.FillNone.{fill_none_of}
 use Rattle.awk_arguments.specs.Axes.{axis_in}
-use Rattle.awk_eval.proofs.FillerLaws.{filler-is}
 use Rattle.awk_eval.proofs.options.filled.Goals as goal
 
 pub returns-clause-answer : goal.returns-clause-answer
@@ -21,6 +20,5 @@ returns-clause-answer g c =
     ∙ ap (axis_in x) (to_z-of_z w64 c.place.result given) in
     rw (c.place.ensures, c.first.ensures.first)
     (subst (λ said. Gives datum_of fault_told c.fill_none.result said)
-    (ap (λ z. fill_none_of x (fill.filler_of c.first.result.1.now) z) axis
-    ∙ ap (λ v. fill_none_of x v (axis_in x c.place.result)) (sym (filler-is c.first.result.1.now)))
+    (ap (fill_none_of x (filler_of c.first.result.1.now)) axis)
     c.fill_none.ensures.answer)

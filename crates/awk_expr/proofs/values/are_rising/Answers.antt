@@ -1,4 +1,4 @@
-use Rattle.std.proofs.Common.{◌≡◌, FitsSigned, rules, arith, sym, ◌∙◌}
+use Rattle.std.proofs.Common.{FitsSigned, rules, arith, sym, ◌∙◌}
 use Rattle.std.proofs.lemmas.Int.{to_z-of_z}
 use Rattle.std.specs.Int.{w128}
 use Rattle.awk_expr.proofs.Rising.{rising-broken, rising-on, rising-end}

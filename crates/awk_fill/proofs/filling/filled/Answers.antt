@@ -2,9 +2,10 @@ use Rattle.std.proofs.Common.{◌≡◌, None, ap, sym, subst, ◌∙◌}
 use Rattle.std.specs.Prelude.{false}
 use Rattle.awk_base.proofs.Results.{if_ok}
 use Rattle.awk_types.specs.Simple.{is_option}
+use Rattle.awk_layout.specs.Filler.{filler_of}
 use Rattle.awk_layout.specs.Typing.{array_type}
 use Rattle.awk_fill.specs.Filled.{IsFilled, IsFilledOption}
-use Rattle.awk_fill.specs.FillNone.{filler_of, filler_refusal}
+use Rattle.awk_fill.specs.FillNone.{filler_refusal}
 use Rattle.awk_fill.proofs.FillLaws.{filled_plain, filled_opened, opened_plain}
 use Rattle.awk_fill.proofs.filling.filled.Goals as goal
 

@@ -2,10 +2,11 @@ use Rattle.std.proofs.Common.{◌≡◌, None, IfSome, arith, subst, sym}
 use Rattle.awk_types.specs.DataType.{opt}
 use Rattle.awk_types.specs.View.{typ_of}
 use Rattle.awk_lanes.specs.Places.{IsOptionalIndex}
+use Rattle.awk_layout.specs.Filler.{Filler, filler_of, filler_value}
 use Rattle.awk_layout.specs.Laws.{len-fits}
 use Rattle.awk_layout.specs.Typing.{array_type}
 use Rattle.awk_fill.specs.Filled.{IsFirst, IsFilledOption}
-use Rattle.awk_fill.specs.FillNone.{Filler, filler_of, filler_refusal, filler_type, filler_value}
+use Rattle.awk_fill.specs.FillNone.{filler_refusal, filler_type}
 use Rattle.awk_fill.proofs.FillLaws.{made_index, made_fit, made_option}
 use Rattle.awk_fill.proofs.filling.filled_option.Goals as goal
 

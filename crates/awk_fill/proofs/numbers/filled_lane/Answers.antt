@@ -1,6 +1,6 @@
 use Rattle.std.proofs.Common.{w64}
 use Rattle.std.proofs.lemmas.Int.{to_z-of_z}
-use Rattle.awk_counts.proofs.PlaceLanes.{option-index}
+use Rattle.awk_lanes.proofs.PlaceLaws.{option-index}
 use Rattle.awk_fill.proofs.numbers.filled_lane.Goals as goal
 
 pub index_of-requires : goal.index_of-requires

@@ -10,8 +10,8 @@ use Rattle.awk_gather.specs.Picked.{IsPicked}
 use Rattle.awk_gather.proofs.GatheredArrays.{gathered_of, gathered_limit}
 use Rattle.awk_gather.proofs.arrays.gather.Goals as goal
 
-pub array_within-requires : goal.array_within-requires
-array_within-requires g c =
+pub of_node-requires : goal.of_node-requires
+of_node-requires g c =
     let h : IsPicked c.args.x.now c.args.places.now c.in_ok-node.node = subst
     (λ (x : Layout). IsPicked x c.args.places.now c.in_ok-node.node) c.node.ensures
     c.in_ok-node.ensures.node in
@@ -34,15 +34,15 @@ returns g c =
     (size_of p + 1)) c.node.ensures c.gather_outer.ensures.cost in
     record {
       gathered =
-          IfOk-weaker c.array_within.result _ _
+          IfOk-weaker c.of_node.result _ _
           (λ r e. gathered_of c.args.x.now made r p e c.requires.kind c.requires.places h)
-          c.array_within.ensures;
+          c.of_node.ensures;
       held =
-          IfOk-weaker c.array_within.result _ _ (λ r e. omega (arith, ap held e, h.held_within))
-          c.array_within.ensures;
+          IfOk-weaker c.of_node.result _ _ (λ r e. omega (arith, ap held e, h.held_within))
+          c.of_node.ensures;
       nodes =
-          IfOk-weaker c.array_within.result _ _ (λ r e. omega (arith, ap weight e, h.nodes_within))
-          c.array_within.ensures;
-      rows = λ k. IfOk-weaker c.array_within.result _ _ (λ r e. e ∙ over k) c.array_within.ensures;
+          IfOk-weaker c.of_node.result _ _ (λ r e. omega (arith, ap weight e, h.nodes_within))
+          c.of_node.ensures;
+      rows = λ k. IfOk-weaker c.of_node.result _ _ (λ r e. e ∙ over k) c.of_node.ensures;
       cost = λ k. omega (arith, spent k, weight-contents c.args.x.now);
     }

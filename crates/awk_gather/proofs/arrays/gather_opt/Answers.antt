@@ -11,7 +11,7 @@ pub returns-in_err-new-clause-answer : goal.returns-in_err-new-clause-answer
 returns-in_err-new-clause-answer g c =
     let h : IsPickedOpt c.args.x.now c.args.places.now c.in_ok-node.node = subst
     (λ (x : Layout). IsPickedOpt x c.args.places.now c.in_ok-node.node) c.node.ensures
-    c.in_ok-node.ensures.node in
+    c.in_ok-node.ensures.items in
     answer_refused c.in_ok-node.node (picked_or_null c.args.x.now c.args.places.now)
     c.in_err-new.field-0.0 c.from_residual-in_err-new.result
     (picked_or_null-is c.args.x.now c.in_ok-node.node c.args.places.now c.requires.kind
@@ -22,7 +22,7 @@ pub returns-clause-answer : goal.returns-clause-answer
 returns-clause-answer g c =
     let h : IsPickedOpt c.args.x.now c.args.places.now c.in_ok-node.node = subst
     (λ (x : Layout). IsPickedOpt x c.args.places.now c.in_ok-node.node) c.node.ensures
-    c.in_ok-node.ensures.node in
+    c.in_ok-node.ensures.items in
     answer_given c.in_ok-node.node c.in_ok-new.field-0
     (picked_or_null c.args.x.now c.args.places.now)
     (picked_or_null-is c.args.x.now c.in_ok-node.node c.args.places.now c.requires.kind
@@ -33,6 +33,6 @@ pub returns-clause-gathered : goal.returns-clause-gathered
 returns-clause-gathered g c =
     let h : IsPickedOpt c.args.x.now c.args.places.now c.in_ok-node.node = subst
     (λ (x : Layout). IsPickedOpt x c.args.places.now c.in_ok-node.node) c.node.ensures
-    c.in_ok-node.ensures.node in
+    c.in_ok-node.ensures.items in
     gathered_opt c.args.x.now c.in_ok-node.node c.in_ok-new.field-0 c.args.places.now
     c.in_ok-new.ensures.node h

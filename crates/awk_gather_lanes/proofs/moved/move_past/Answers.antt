@@ -4,10 +4,10 @@ use Rattle.std.specs.Simd.{first_chunks}
 use Rattle.std.specs.List.{flat_map}
 use Rattle.awk_lanes.specs.Numbers.{width, numbers}
 use Rattle.awk_lanes.specs.Places.{size_of}
+use Rattle.awk_lanes.proofs.WordLaws.{width-small}
+use Rattle.awk_lanes.proofs.MadeLanes.{lane_is}
 use Rattle.awk_gather_lanes.specs.Moved.{groups_past}
 use Rattle.awk_gather_lanes.proofs.MovedGroups.{places_past, length-groups, numbers-moved}
-use Rattle.awk_gather_lanes.proofs.MovedGroups.{width-small}
-use Rattle.awk_gather_lanes.proofs.MovedGroups.{lane_is}
 use Rattle.awk_gather_lanes.proofs.moved.move_past.Goals as goal
 
 pub groups_past-requires : goal.groups_past-requires

@@ -2,7 +2,8 @@ use Rattle.std.proofs.Common.{◌/◌, length, ◌∙◌}
 use Rattle.std.specs.Prelude.{◌^◌}
 use Rattle.awk_lanes.specs.declared.kind.Kind.TheVariants as Kind
 use Rattle.awk_lanes.specs.Numbers.{numbers}
-use Rattle.awk_gather_lanes.proofs.MovedGroups.{places_past, numbers-narrow, lane_is}
+use Rattle.awk_lanes.proofs.MadeLanes.{lane_is}
+use Rattle.awk_gather_lanes.proofs.MovedGroups.{places_past, numbers-narrow}
 use Rattle.awk_gather_lanes.proofs.moved.narrowed.Goals as goal
 
 pub narrow_groups-requires : goal.narrow_groups-requires

@@ -2,7 +2,8 @@ use Rattle.std.proofs.Common.{◌≡◌, add-one, arith, sym, subst, take}
 use Rattle.std.proofs.lemmas.Result.{IfOk-weaker}
 use Rattle.awk_base.proofs.Lists.{take_suc-get}
 use Rattle.awk_open.specs.Opened.{IsOpened}
-use Rattle.awk_heights.specs.Levels.{covered, kind_of, IsOnly, IsOver}
+use Rattle.awk_layout.specs.Frames.{IsOnly}
+use Rattle.awk_heights.specs.Levels.{covered, kind_of, IsOver}
 use Rattle.awk_heights.specs.Low.{IsLowNode}
 use Rattle.awk_heights.proofs.CoverLaws.{only_is, over_low}
 use Rattle.awk_heights.proofs.Falls.{each_falls}

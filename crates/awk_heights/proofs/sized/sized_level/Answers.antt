@@ -3,11 +3,12 @@ use Rattle.std.specs.Prelude.{pos}
 use Rattle.awk_lanes.specs.Made.{lane_of}
 use Rattle.awk_lanes.specs.Places.{IsOptionalIndex}
 use Rattle.awk_lanes.specs.declared.kind.Kind.TheVariants.{I64}
+use Rattle.awk_layout.specs.Frames.{IsOnly}
 use Rattle.awk_layout.specs.Layout.{regular}
 use Rattle.awk_layout.specs.Valid.{len}
 use Rattle.awk_gather.specs.Peeled.{IsPeeled}
 use Rattle.awk_open.proofs.OpenedArrays.{all_optional}
-use Rattle.awk_heights.specs.Levels.{IsOnly, IsOver}
+use Rattle.awk_heights.specs.Levels.{IsOver}
 use Rattle.awk_heights.specs.declared.level.Cover.TheVariants as cover
 use Rattle.awk_heights.proofs.SizedLaws.{sized_over}
 use Rattle.awk_heights.proofs.sized.sized_level.Goals as goal

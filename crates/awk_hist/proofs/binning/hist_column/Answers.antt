@@ -30,7 +30,7 @@ returns-clause-answer g c =
     let whole : list_at vs c.in_ok-offsets.offsets 0 ≡ vs =
     ap (λ o. list_at vs o 0) c.in_ok-offsets.ensures ∙ whole_list vs n counted in
     let column = c.in_ok-node.ensures in
-    let made = c.in_ok-made.ensures in
+    let made = c.in_ok-of_node.ensures in
     ap₂ shown.one (ap array_type made ∙ column.typ)
     (ap first_item made ∙ column.items 0 (omega arith)
     ∙ ap (λ vs. simple_value bins_type (bins_and more es vs)) whole

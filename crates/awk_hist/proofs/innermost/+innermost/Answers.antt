@@ -4,6 +4,7 @@ use Rattle.std.proofs.lemmas.Result.{IfOk-weaker}
 use Rattle.awk_types.specs.DataType.{depth}
 use Rattle.awk_types.specs.Predicates.{is_leaf}
 use Rattle.awk_types.specs.Simple.{present}
+use Rattle.awk_types.proofs.TypeShapes.{depth-option}
 use Rattle.awk_layout.specs.Typing.{array_type, array_items}
 use Rattle.awk_layout.proofs.ArrayItems.{length-array_items}
 use Rattle.awk_columns.specs.Joined.{IsJoined}
@@ -12,7 +13,7 @@ use Rattle.awk_hist.specs.Hist.{has_numbers}
 use Rattle.awk_hist.specs.Lists.{IsInnermost}
 use Rattle.awk_hist.specs.declared.innermost.Innermost.TheVariants as innermost
 use Rattle.awk_hist.proofs.InnermostLaws.{innermost_here, lists_many, lists_inner, option_fewer}
-use Rattle.awk_hist.proofs.InnermostLaws.{option_inner, option_falls, option_depth}
+use Rattle.awk_hist.proofs.InnermostLaws.{option_inner, option_falls}
 use Rattle.awk_hist.proofs.innermost.+innermost.Goals as goal
 
 pub below_lists-returns-in-TooMany : goal.below_lists-returns-in-TooMany
@@ -53,7 +54,7 @@ below_option-innermost_of-requires g t c κs within =
       omega (
         arith,
         option_falls (depth (array_type x)) (depth (array_type y))
-            (ap depth c.requires.opens.typ ∙ option_depth (array_type y)),
+            (ap depth c.requires.opens.typ ∙ depth-option (array_type y)),
         c.decreases,
       ),
       (

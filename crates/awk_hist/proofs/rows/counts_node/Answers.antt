@@ -4,15 +4,15 @@ use Rattle.awk_lanes.specs.Counted.{before}
 use Rattle.awk_lanes.specs.Places.{size_of, IsOffsets}
 use Rattle.awk_lanes.specs.declared.kind.Kind.TheVariants.{I64}
 use Rattle.awk_lanes.proofs.MadeLanes.{size-lane_of}
+use Rattle.awk_lanes.proofs.CountedLanes.{before-equal}
 use Rattle.awk_layout.specs.Layout.{flat}
 use Rattle.awk_layout.specs.Valid.{len}
-use Rattle.awk_bins.proofs.RangeLaws.{before-same}
 use Rattle.awk_hist.proofs.RowLaws.{even_offsets}
 use Rattle.awk_hist.proofs.rows.counts_node.Goals as goal
 
 pub offsets_of-requires-clause-small : goal.offsets_of-requires-clause-small
 offsets_of-requires-clause-small g c =
-    omega (arith, before-same c.args.length c.args.n, c.requires.few)
+    omega (arith, before-equal c.args.length c.args.n, c.requires.few)
 
 pub list_offset-requires-clause-length : goal.list_offset-requires-clause-length
 list_offset-requires-clause-length g c =

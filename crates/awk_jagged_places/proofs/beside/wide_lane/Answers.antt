@@ -4,7 +4,9 @@ use Rattle.std.specs.List.{flat_map}
 use Rattle.std.specs.Simd.{first_chunks}
 use Rattle.awk_lanes.specs.Numbers.{width, numbers}
 use Rattle.awk_lanes.specs.Places.{size_of}
-use Rattle.awk_gather_lanes.proofs.MovedGroups.{length-groups, lane_is, width-small}
+use Rattle.awk_lanes.proofs.WordLaws.{width-small}
+use Rattle.awk_lanes.proofs.MadeLanes.{lane_is}
+use Rattle.awk_gather_lanes.proofs.MovedGroups.{length-groups}
 use Rattle.awk_jagged_places.specs.Beside.{IsBeside, places_beside}
 use Rattle.awk_jagged_places.proofs.KeptLanes.{numbers-kept}
 use Rattle.awk_jagged_places.proofs.beside.wide_lane.Goals as goal

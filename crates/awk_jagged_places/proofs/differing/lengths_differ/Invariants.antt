@@ -1,7 +1,7 @@
 use Rattle.std.specs.Prelude.{◌≡◌, ℕ, ◌<◌}
-use Rattle.awk_jagged_rows.specs.Rows.{length_by}
+use Rattle.awk_columns.specs.Lists.{length_of}
 use Rattle.awk_jagged_places.proofs.differing.lengths_differ.Given as goal
 
 -- the lists before this place are as long
 abbrev pub invariant-loop-i : goal.invariant-loop-i
-invariant-loop-i l = (k : ℕ) → k < l.i → length_by l.xs k ≡ length_by l.ws k
+invariant-loop-i l = (k : ℕ) → k < l.i → length_of l.xs k ≡ length_of l.ws k

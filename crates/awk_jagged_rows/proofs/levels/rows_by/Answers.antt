@@ -2,8 +2,9 @@ use Rattle.std.specs.Prelude.{true, false}
 use Rattle.std.proofs.Common.{◌≡◌, ap, sym, ◌∙◌, subst}
 use Rattle.awk_lanes.specs.Counted.{items_lane}
 use Rattle.awk_lanes.specs.declared.kind.Kind.TheVariants.{I64}
+use Rattle.awk_columns.specs.Lists.{length_of}
 use Rattle.awk_jagged_rows.specs.Levels.{pair_lane, IsIndexOf}
-use Rattle.awk_jagged_rows.specs.Rows.{length_by, pair_at, IsSmallIndex, AreIn, AreListsIn}
+use Rattle.awk_jagged_rows.specs.Rows.{pair_at, IsSmallIndex, AreIn, AreListsIn}
 use Rattle.awk_jagged_rows.proofs.LevelLaws.{ready, pair-small, first_in, second_in}
 use Rattle.awk_jagged_rows.proofs.levels.rows_by.Goals as goal
 
@@ -24,7 +25,7 @@ index_of-requires g c =
     let e : c.in_ok-of_w.of_w
     ≡ pair_lane true c.args.xs.now c.args.ws.now c.args.x.now c.args.w.now =
     c.in_ok-of_w.ensures
-    ∙ ap (items_lane I64 (length_by c.args.ws.now)
+    ∙ ap (items_lane I64 (length_of c.args.ws.now)
     (pair_at true c.args.xs.now c.args.ws.now c.args.x.now c.args.w.now)) c.len-n.ensures.len in
     subst IsSmallIndex (sym e)
     (pair-small true c.args.xs.now c.args.ws.now c.args.x.now c.args.w.now c.requires.few)
@@ -34,7 +35,7 @@ lists_in-requires-clause-index g c =
     let e : c.in_ok-of_x.of_x
     ≡ pair_lane false c.args.xs.now c.args.ws.now c.args.x.now c.args.w.now =
     c.in_ok-of_x.ensures
-    ∙ ap (items_lane I64 (length_by c.args.ws.now)
+    ∙ ap (items_lane I64 (length_of c.args.ws.now)
     (pair_at false c.args.xs.now c.args.ws.now c.args.x.now c.args.w.now)) c.len-n.ensures.len in
     subst IsSmallIndex (sym e)
     (pair-small false c.args.xs.now c.args.ws.now c.args.x.now c.args.w.now c.requires.few)
@@ -44,7 +45,7 @@ lists_in-requires-clause-lists g c =
     let e : c.in_ok-of_x.of_x
     ≡ pair_lane false c.args.xs.now c.args.ws.now c.args.x.now c.args.w.now =
     c.in_ok-of_x.ensures
-    ∙ ap (items_lane I64 (length_by c.args.ws.now)
+    ∙ ap (items_lane I64 (length_of c.args.ws.now)
     (pair_at false c.args.xs.now c.args.ws.now c.args.x.now c.args.w.now)) c.len-n.ensures.len in
     subst (λ j. AreIn j c.args.x.now) (sym e)
     (first_in c.args.xs.now c.args.ws.now c.args.x.now c.args.w.now c.requires.pairs
@@ -56,7 +57,7 @@ lists_in-requires-2-clause-index g c =
     let e : c.in_ok-of_w.of_w
     ≡ pair_lane true c.args.xs.now c.args.ws.now c.args.x.now c.args.w.now =
     c.in_ok-of_w.ensures
-    ∙ ap (items_lane I64 (length_by c.args.ws.now)
+    ∙ ap (items_lane I64 (length_of c.args.ws.now)
     (pair_at true c.args.xs.now c.args.ws.now c.args.x.now c.args.w.now)) c.len-n.ensures.len in
     subst IsSmallIndex (sym e)
     (pair-small true c.args.xs.now c.args.ws.now c.args.x.now c.args.w.now c.requires.few)
@@ -66,7 +67,7 @@ lists_in-requires-2-clause-lists g c =
     let e : c.in_ok-of_w.of_w
     ≡ pair_lane true c.args.xs.now c.args.ws.now c.args.x.now c.args.w.now =
     c.in_ok-of_w.ensures
-    ∙ ap (items_lane I64 (length_by c.args.ws.now)
+    ∙ ap (items_lane I64 (length_of c.args.ws.now)
     (pair_at true c.args.xs.now c.args.ws.now c.args.x.now c.args.w.now)) c.len-n.ensures.len in
     subst (λ j. AreIn j c.args.w.now) (sym e)
     (second_in c.args.xs.now c.args.ws.now c.args.x.now c.args.w.now c.requires.pairs
@@ -78,12 +79,12 @@ returns g c =
     let ex : c.in_ok-of_x.of_x
     ≡ pair_lane false c.args.xs.now c.args.ws.now c.args.x.now c.args.w.now =
     c.in_ok-of_x.ensures
-    ∙ ap (items_lane I64 (length_by c.args.ws.now)
+    ∙ ap (items_lane I64 (length_of c.args.ws.now)
     (pair_at false c.args.xs.now c.args.ws.now c.args.x.now c.args.w.now)) c.len-n.ensures.len in
     let ew : c.in_ok-of_w.of_w
     ≡ pair_lane true c.args.xs.now c.args.ws.now c.args.x.now c.args.w.now =
     c.in_ok-of_w.ensures
-    ∙ ap (items_lane I64 (length_by c.args.ws.now)
+    ∙ ap (items_lane I64 (length_of c.args.ws.now)
     (pair_at true c.args.xs.now c.args.ws.now c.args.x.now c.args.w.now)) c.len-n.ensures.len in
     record {
       offsets = c.copy.ensures;

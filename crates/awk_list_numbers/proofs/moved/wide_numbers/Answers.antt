@@ -3,7 +3,9 @@ use Rattle.std.specs.Prelude.{◌/◌}
 use Rattle.std.specs.Simd.{first_chunks}
 use Rattle.awk_lanes.specs.Numbers.{width, numbers}
 use Rattle.awk_lanes.specs.Places.{size_of}
-use Rattle.awk_gather_lanes.proofs.MovedGroups.{width-small, length-groups, lane_is}
+use Rattle.awk_lanes.proofs.WordLaws.{width-small}
+use Rattle.awk_lanes.proofs.MadeLanes.{lane_is}
+use Rattle.awk_gather_lanes.proofs.MovedGroups.{length-groups}
 use Rattle.awk_list_numbers.proofs.ListNumbers.{moved_numbers}
 use Rattle.awk_list_numbers.proofs.moved.wide_numbers.Goals as goal
 

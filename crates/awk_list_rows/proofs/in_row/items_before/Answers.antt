@@ -8,8 +8,8 @@ use Rattle.awk_layout.specs.Valid.{len}
 use Rattle.awk_list_rows.proofs.InRowLaws.{offset-place}
 use Rattle.awk_list_rows.proofs.in_row.items_before.Goals as goal
 
-pub array_within-requires : goal.array_within-requires
-array_within-requires g c =
+pub of_node-requires : goal.of_node-requires
+of_node-requires g c =
     subst (λ (x : Layout). limit (array_type x) ≡ None) (sym c.in_ok-copy.ensures) c.requires.limit
 
 pub place_in-end-requires-clause-kind : goal.place_in-end-requires-clause-kind

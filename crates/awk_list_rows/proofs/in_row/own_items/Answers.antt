@@ -1,6 +1,6 @@
 use Rattle.std.proofs.Common.{refl, ◌∙◌}
+use Rattle.awk_layout.proofs.JudgedTypes.{offsets_within}
 use Rattle.awk_list_rows.proofs.InRowLaws.{items_are_own, own_offsets}
-use Rattle.awk_list_rows.proofs.VarLimits.{offsets_within}
 use Rattle.awk_list_rows.proofs.in_row.own_items.Goals as goal
 
 pub begin_at_zero-requires-clause-kind : goal.begin_at_zero-requires-clause-kind

@@ -1,7 +1,7 @@
 use Rattle.std.proofs.Common.{◌≡◌, arith, ap, ◌∙◌}
 use Rattle.awk_lanes.specs.Counted.{offsets_by}
 use Rattle.awk_lanes.specs.Places.{size_of, place_at}
-use Rattle.awk_list_rows.specs.InRow.{length_of}
+use Rattle.awk_columns.specs.Lists.{length_of}
 use Rattle.awk_list_rows.proofs.EndLaws.{ends_kind, ends_size, last_end, last_positive}
 use Rattle.awk_list_rows.proofs.offsets.row_offsets.Goals as goal
 

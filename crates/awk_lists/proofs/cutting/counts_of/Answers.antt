@@ -1,11 +1,12 @@
 use Rattle.awk_base.proofs.Results.{if_ok}
+use Rattle.awk_types.proofs.TypeShapes.{numbers_leaf}
 use Rattle.awk_layout.specs.Typing.{array_type}
 use Rattle.awk_lists.specs.Numbers.{AreNumbers, AreCounts}
-use Rattle.awk_lists.proofs.Leaves.{counts_leaf, are_whole}
+use Rattle.awk_lists.proofs.Leaves.{are_whole}
 use Rattle.awk_lists.proofs.cutting.counts_of.Goals as goal
 
 pub numbers_of-requires : goal.numbers_of-requires
-numbers_of-requires g c = counts_leaf (array_type c.args.counts.now) c.requires
+numbers_of-requires g c = numbers_leaf (array_type c.args.counts.now) c.requires
 
 pub returns : goal.returns
 returns g c =

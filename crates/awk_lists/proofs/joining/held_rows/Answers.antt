@@ -6,10 +6,10 @@ use Rattle.awk_columns.specs.Joined.{IsJoined, total}
 use Rattle.awk_axis.specs.Mapped.{IsMade}
 use Rattle.awk_columns.specs.declared.lists.Joined.TheVariants.{TooMany}
 use Rattle.awk_lists.specs.Flatten.{flatten_function}
+use Rattle.awk_list_ends.proofs.SpanLaws.{lists_within}
 use Rattle.awk_list_ends.specs.Ends.{numbers_at_ends}
 use Rattle.awk_lists.proofs.MovedSpans.{starts_are, stops_are, moved_spans, moved_spoilt}
 use Rattle.awk_lists.proofs.MovedSpans.{held_typ, moved_made}
-use Rattle.awk_columns.proofs.SpanLaws.{lists_within}
 use Rattle.awk_lists.proofs.joining.held_rows.Goals as goal
 
 pub index_of-requires : goal.index_of-requires

@@ -71,8 +71,9 @@ returns-in_ok-large_fault-in-TooMany-clause-answer g c =
     told_by (unlike c.args.m.now c.args.x.now) _ _ c.in_ok-large_fault-in-TooMany.ensures
     (told_inside c.args.keep c.args.m.now c.args.x.now a f h)
 
-pub returns-in_ok-made-in-Column-clause-answer : goal.returns-in_ok-made-in-Column-clause-answer
-returns-in_ok-made-in-Column-clause-answer g c =
+pub returns-in_ok-of_node-in-Column-clause-answer :
+    goal.returns-in_ok-of_node-in-Column-clause-answer
+returns-in_ok-of_node-in-Column-clause-answer g c =
     let a : types_refused (array_type c.args.m.now) (array_type c.args.x.now) ≡ None =
     rw (c.typ.ensures.typ, c.typ-2.ensures.typ) at c.in_ok-judged.ensures in
     let f : IsFit c.args.m.now c.args.x.now = record {
@@ -82,6 +83,6 @@ returns-in_ok-made-in-Column-clause-answer g c =
     } in
     let h : IsMaskedBy c.args.keep c.args.m.now c.args.x.now (Column c.in-Column.node) =
     rw c.in-Column.is at c.in_ok-masked_array.ensures in
-    rw c.in_ok-made-in-Column.ensures
+    rw c.in_ok-of_node-in-Column.ensures
     (told_made c.args.keep c.args.m.now c.args.x.now a
     (fit_under c.args.m.now c.args.x.now f h.2) c.in-Column.node h)

@@ -17,7 +17,7 @@ pub returns-in_err-judge_rows : goal.returns-in_err-judge_rows
 returns-in_err-judge_rows g c =
     let rows : row_count (map column_in c.args.xs.now) ≡ c.len-n.result =
     first_rows c.args.xs.now c.get.result.now c.get.ensures.item
-    ∙ sym (c.len-n.ensures.len ∙ ap len c.array_in.ensures) in
+    ∙ sym (c.len-n.ensures.len ∙ ap len c.kept.ensures) in
     let failed : c.from_residual.result ≡ Err c.in_err-judge_rows.field-0.0 =
     grind arith in
     Gives-Err array_datum fault_told c.from_residual.result
@@ -30,7 +30,7 @@ pub joined_rows-requires-clause-whole : goal.joined_rows-requires-clause-whole
 joined_rows-requires-clause-whole g c =
     let rows : row_count (map column_in c.args.xs.now) ≡ c.len-n.result =
     first_rows c.args.xs.now c.get.result.now c.get.ensures.item
-    ∙ sym (c.len-n.ensures.len ∙ ap len c.array_in.ensures) in
+    ∙ sym (c.len-n.ensures.len ∙ ap len c.kept.ensures) in
     let none : rows_refused c.len-n.result (map column_in c.args.xs.now) ≡ None =
     (refused_or-Ok (rows_refused c.len-n.result (map column_in c.args.xs.now)) (tt {0}) (tt {0})
     c.in_ok-judge_rows.ensures).0 in
@@ -46,7 +46,7 @@ pub returns : goal.returns
 returns g c =
     let rows : row_count (map column_in c.args.xs.now) ≡ c.len-n.result =
     first_rows c.args.xs.now c.get.result.now c.get.ensures.item
-    ∙ sym (c.len-n.ensures.len ∙ ap len c.array_in.ensures) in
+    ∙ sym (c.len-n.ensures.len ∙ ap len c.kept.ensures) in
     let none : rows_refused c.len-n.result (map column_in c.args.xs.now) ≡ None =
     (refused_or-Ok (rows_refused c.len-n.result (map column_in c.args.xs.now)) (tt {0}) (tt {0})
     c.in_ok-judge_rows.ensures).0 in

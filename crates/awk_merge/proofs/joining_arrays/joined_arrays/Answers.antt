@@ -4,9 +4,9 @@ use Rattle.awk_types.specs.Datum as shown
 use Rattle.awk_types.specs.Gives.{refused_or}
 use Rattle.awk_types.specs.ItemLimit.{item_limit, too_many}
 use Rattle.awk_types.specs.View.{typ_of}
+use Rattle.awk_types.proofs.ItemLimits.{over_limit, within_limit}
 use Rattle.awk_layout.specs.Typing.{array_datum}
 use Rattle.awk_merge_sides.specs.Sides.{sides_of, merged_items}
-use Rattle.awk_columns.proofs.ItemLimits.{over_limit, within_limit}
 use Rattle.awk_merge.proofs.joining_arrays.joined_arrays.Goals as goal
 
 pub returns-then-total-gt-ITEM_LIMIT : goal.returns-then-total-gt-ITEM_LIMIT

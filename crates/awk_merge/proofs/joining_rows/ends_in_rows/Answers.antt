@@ -3,9 +3,10 @@ use Rattle.std.proofs.lemmas.Result.{IfOk-weaker}
 use Rattle.awk_lanes.specs.Counted.{items_lane}
 use Rattle.awk_lanes.specs.Places.{size_of, option_place_at}
 use Rattle.awk_lanes.specs.declared.kind.Kind.TheVariants.{I64}
-use Rattle.awk_counts.proofs.PlaceLanes.{option-index}
+use Rattle.awk_lanes.proofs.PlaceLaws.{option-index}
+use Rattle.awk_lanes.proofs.CountedLanes.{before-equal}
 use Rattle.awk_merge_operands.specs.Operands.{end_of_row, ends_in_rows}
-use Rattle.awk_merge.proofs.RowEndLaws.{before-same, row-ends}
+use Rattle.awk_merge.proofs.RowEndLaws.{row-ends}
 use Rattle.awk_merge.proofs.joining_rows.ends_in_rows.Goals as goal
 
 pub index_of-requires : goal.index_of-requires
@@ -17,7 +18,7 @@ places_of-requires-clause-ready g c =
     (c.requires.fits, c.requires.rows, c.requires.index)
 
 pub places_of-requires-clause-total : goal.places_of-requires-clause-total
-places_of-requires-clause-total g c = sym (before-same c.args.k c.len-n.result)
+places_of-requires-clause-total g c = sym (before-equal c.args.k c.len-n.result)
 
 pub returns : goal.returns
 returns g c =

@@ -1,5 +1,6 @@
 use Rattle.std.proofs.Common.{◌≡◌, ◌∙◌, arith, length, subst, sym}
 use Rattle.std.proofs.lemmas.Result.{IfOk-weaker}
+use Rattle.awk_base.proofs.Every.{all-get}
 use Rattle.awk_types.specs.DataType.{opt, reg, var}
 use Rattle.awk_types.specs.View.{typ_of, typs_of}
 use Rattle.awk_layout.specs.Array.{IsArrayType}
@@ -19,7 +20,6 @@ use Rattle.awk_merge_columns.proofs.MergedLaws.{rows_reach, union_groups, union_
 use Rattle.awk_merge_columns.proofs.MergedLaws.{unions_merged, unions_valid}
 use Rattle.awk_merge_rows.proofs.WholeLaws.{present_index, present_merged}
 use Rattle.awk_merge_lists.proofs.RegularLaws.{regular_merged, regular_room}
-use Rattle.awk_merge_sides.proofs.SideLaws.{all-get}
 use Rattle.awk_merge_columns.proofs.TypeParts.{item_lawful, present_plain, sized_lawful}
 use Rattle.awk_merge_columns.proofs.merging.+merge.Goals as goal
 

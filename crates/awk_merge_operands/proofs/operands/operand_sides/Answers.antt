@@ -23,7 +23,7 @@ loop-i-preserved c = (
       (lift_of c.get-in-loop-i.result.now) c.get.ensures.item c.get-in-loop-i.ensures.item
       (c.in_ok-push.ensures.sides
       ∙ ap (λ x. with_side (sides_of c.loop-i.sides) x (lift_of c.get-in-loop-i.result.now))
-      (c.in_ok-column.ensures ∙ c.array_in.ensures)) c.loop-i.invariant.0,
+      (c.in_ok-column.ensures ∙ c.kept.ensures)) c.loop-i.invariant.0,
   c.in_ok-push.ensures.counted,
 )
 

@@ -1,7 +1,8 @@
 use Rattle.std.proofs.Common.{◌≡◌, map}
 use Rattle.std.specs.List.{range_with_len}
+use Rattle.awk_lanes.specs.Making.{with_items}
 use Rattle.awk_lanes.specs.Places.{option_place_at}
-use Rattle.awk_merge_rows.specs.Present.{with_items, moved}
+use Rattle.awk_merge_rows.specs.Present.{moved}
 use Rattle.awk_merge_rows.proofs.options.put_index.Given as goal
 
 abbrev pub invariant-loop-i : goal.invariant-loop-i

@@ -2,7 +2,8 @@ use Rattle.std.proofs.Common.{◌+◌, ◌<◌, arith, ap, ◌∙◌}
 use Rattle.std.specs.Prelude.{◌^◌}
 use Rattle.awk_layout.specs.Valid.{len}
 use Rattle.awk_unify.specs.View.{lift_of}
-use Rattle.awk_merge_rows.specs.Present.{with_items, places_on}
+use Rattle.awk_lanes.specs.Making.{with_items}
+use Rattle.awk_merge_rows.specs.Present.{places_on}
 use Rattle.awk_merge_sides.specs.Sides.{sides_of, with_side}
 use Rattle.awk_merge_rows.proofs.OptionLaws.{pushed_room, whole_put}
 use Rattle.awk_merge_rows.proofs.options.put_whole.Goals as goal

@@ -7,8 +7,8 @@ use Rattle.awk_merge_rows.specs.PresentLevels.{IsWhole}
 use Rattle.awk_merge_rows.proofs.WholeLaws.{content_limit, whole_unmasked}
 use Rattle.awk_merge_rows.proofs.whole.unmasked_items.Goals as goal
 
-pub array_within-requires : goal.array_within-requires
-array_within-requires c =
+pub of_node-requires : goal.of_node-requires
+of_node-requires c =
     rw c.in_ok-copy.ensures (content_limit (array_type c.args.content.now) c.requires)
 
 pub returns : goal.returns

@@ -7,7 +7,8 @@ use Rattle.awk_types.specs.Names.{are_distinct, is_among}
 use Rattle.awk_types.specs.View.{field_of, fields_of, names_of}
 use Rattle.awk_types.proofs.DistinctLaws.{distinct-more, repeated}
 use Rattle.awk_base.proofs.Lists.{map-take-get}
-use Rattle.awk_name_places.proofs.PlaceLaws.{keys-among, keys-more, name_out}
+use Rattle.awk_types.proofs.Views.{name_out}
+use Rattle.awk_name_places.proofs.PlaceLaws.{keys-among, keys-more}
 use Rattle.awk_name_places.proofs.NamePlaces.of_fields.Goals as goal
 
 pub returns-then-not-branch-clause-distinct : goal.returns-then-not-branch-clause-distinct

@@ -1,13 +1,14 @@
 use Rattle.std.proofs.Common.{sym, subst}
 use Rattle.awk_lanes.specs.Places.{size_of, option_place_at}
+use Rattle.awk_lanes.proofs.PlaceLaws.{option-index}
 use Rattle.awk_layout.specs.Layout.{optional}
 use Rattle.awk_layout.specs.Valid.{IsValid}
 use Rattle.awk_nullable_lists.specs.Nullable.{AreLeaves}
-use Rattle.awk_nullable_lists.proofs.NullableLaws.{indexed_leaves, option_kind}
+use Rattle.awk_nullable_lists.proofs.NullableLaws.{indexed_leaves}
 use Rattle.awk_nullable_lists.proofs.opening.by_index.Goals as goal
 
 pub index_of-requires : goal.index_of-requires
-index_of-requires g c = option_kind c.args.index.now.kind c.requires.1.kind
+index_of-requires g c = option-index c.args.index.now.kind c.requires.1.kind
 
 pub returns-in_ok-index-in-Some : goal.returns-in_ok-index-in-Some
 returns-in_ok-index-in-Some g c =

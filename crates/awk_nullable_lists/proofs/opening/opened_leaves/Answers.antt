@@ -3,12 +3,13 @@ use Rattle.std.specs.Prelude.{◌≡◌, true}
 use Rattle.awk_types.specs.Predicates.{is_leaf}
 use Rattle.awk_types.specs.Simple.{present}
 use Rattle.awk_lanes.specs.Places.{size_of, option_place_at}
+use Rattle.awk_lanes.proofs.PlaceLaws.{option-index}
 use Rattle.awk_layout.specs.Typing.{array_type}
 use Rattle.awk_open.specs.Opened.{IsOpened}
 use Rattle.awk_open.specs.declared.opening.Opened.TheVariants as opened
 use Rattle.awk_open.proofs.OnlyKinds.{only_option}
 use Rattle.awk_nullable_lists.specs.Nullable.{AreLeaves}
-use Rattle.awk_nullable_lists.proofs.NullableLaws.{opened_leaves, option_kind}
+use Rattle.awk_nullable_lists.proofs.NullableLaws.{opened_leaves}
 use Rattle.awk_nullable_lists.proofs.opening.opened_leaves.Goals as goal
 
 pub unreachable-requires : goal.unreachable-requires
@@ -28,7 +29,7 @@ index_of-requires g c =
     let x = c.args.x.now in
     let opens : IsOpened x (opened.Option c.in-Option.index c.in-Option.content) =
     subst (IsOpened x) c.in-Option.is c.in_ok-index.ensures.opened in
-    option_kind c.in-Option.index.kind opens.valid.1.kind
+    option-index c.in-Option.index.kind opens.valid.1.kind
 
 pub returns : goal.returns
 returns g c =

@@ -3,7 +3,7 @@ use Rattle.awk_types.specs.ItemLimit.{item_limit}
 use Rattle.awk_columns.specs.Joined.{IsJoined, total}
 use Rattle.awk_columns.specs.declared.lists.Joined.TheVariants.{TooMany, Lists}
 use Rattle.awk_list_ends.specs.Ends.{numbers_at_ends}
-use Rattle.awk_option_nodes.specs.Present.{present_lane}
+use Rattle.awk_counts.specs.Present.{present_lane}
 use Rattle.awk_nulls.proofs.DropLaws.{starts_are, stops_are, present_lists, present_spoilt}
 use Rattle.awk_nulls.proofs.DropLaws.{present_fine, present_given}
 use Rattle.awk_nulls.proofs.PresentLaws.{option_size, option_fits}

@@ -1,4 +1,4 @@
-use Rattle.awk_columns.proofs.SpanLaws.{lists_within}
+use Rattle.awk_list_ends.proofs.SpanLaws.{lists_within}
 use Rattle.awk_nulls.proofs.ends.counted_ends.Goals as goal
 
 pub index_of-requires : goal.index_of-requires

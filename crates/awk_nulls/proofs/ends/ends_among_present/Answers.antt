@@ -1,4 +1,4 @@
-use Rattle.awk_counts.proofs.PlaceLanes.{option-index}
+use Rattle.awk_lanes.proofs.PlaceLaws.{option-index}
 use Rattle.awk_nulls.proofs.ends.ends_among_present.Goals as goal
 
 pub index_of-requires : goal.index_of-requires

@@ -1,10 +1,10 @@
 use Rattle.std.proofs.Common.{◌≡◌, sym, ap, subst, ◌∙◌}
 use Rattle.awk_lanes.specs.Column.{Column}
 use Rattle.awk_lanes.specs.Places.{size_of, IsOptionalIndex}
+use Rattle.awk_lanes.proofs.PlaceLaws.{option-index}
 use Rattle.awk_layout.specs.Layout.{flat}
 use Rattle.awk_layout.specs.Valid.{len}
 use Rattle.awk_counts.specs.Counted.{first_of, numbers_at, present_at}
-use Rattle.awk_counts.proofs.PlaceLanes.{option-index}
 use Rattle.awk_nulls.specs.Lanes.{HasPresent}
 use Rattle.awk_nulls.proofs.PresentLaws.{moved_present}
 use Rattle.awk_nulls.proofs.presence.moved_items.Goals as goal

@@ -9,8 +9,8 @@ gather_node-requires-clause-places g c =
     places_at c.args.places.now c.args.xs.now c.loop-i.i c.get.result.now c.get.ensures
     c.requires.places
 
-pub array_within-requires : goal.array_within-requires
-array_within-requires g c =
+pub of_node-requires : goal.of_node-requires
+of_node-requires g c =
     gathered_limit c.get.result.now c.in_ok-part.part c.args.places.now c.in_ok-part.ensures.node
     (within_at c.args.xs.now c.loop-i.i c.get.result.now c.get.ensures c.requires.limits)
 

@@ -22,6 +22,6 @@ returns g c = record {
       c.requires.places c.in_ok-starts.ensures.lane c.in_ok-stops.ensures.lane);
 }
 
-pub array_within-requires : goal.array_within-requires
-array_within-requires g c =
+pub of_node-requires : goal.of_node-requires
+of_node-requires g c =
     subst (λ (x : Layout). limit (array_type x) ≡ None) (sym c.in_ok-copy.ensures) c.requires.limit

@@ -1,4 +1,4 @@
-use Rattle.awk_counts.proofs.PlaceLanes.{option-index}
+use Rattle.awk_lanes.proofs.PlaceLaws.{option-index}
 use Rattle.awk_open.proofs.order.order_option.Goals as goal
 
 pub index_of-requires : goal.index_of-requires

@@ -6,8 +6,7 @@ use Rattle.awk_layout.specs.Contents.{count-layouts_from}
 use Rattle.awk_counts.specs.Counted.{tag_counts, tagged_places}
 use Rattle.awk_open.proofs.OrderedUnions.{union_tagged, union_below, reached_push}
 use Rattle.awk_columns.proofs.ReachedContents.{places_index, reached_by}
-use Rattle.awk_counts.proofs.TaggedPlaces.{length-tag_counts, length-tagged_lanes}
-use Rattle.awk_counts.proofs.TaggedPlaces.{tagged_lanes-get}
+use Rattle.awk_counts.proofs.TaggedPlaces.{length-tag_counts, length-tagged_lanes, tagged_lanes-get}
 use Rattle.awk_open.proofs.order.taken_of_each.Goals as goal
 
 pub tagged_lanes-requires-clause-tagged : goal.tagged_lanes-requires-clause-tagged

@@ -9,8 +9,8 @@ use Rattle.awk_open.proofs.SpreadUnions.{append_more}
 use Rattle.awk_open.proofs.SettledUnions.{valid_more}
 use Rattle.awk_open.proofs.unions.arrays_within.Goals as goal
 
-pub array_within-requires : goal.array_within-requires
-array_within-requires c =
+pub of_node-requires : goal.of_node-requires
+of_node-requires c =
     subst (λ (x : Layout). limit (array_type x) ≡ None) (sym c.in_ok-copy.ensures)
     (within_at c.args.xs.now c.loop-i.i c.get.result.now c.get.ensures c.requires.limits)
 

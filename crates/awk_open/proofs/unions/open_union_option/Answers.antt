@@ -30,8 +30,8 @@ settle-requires g c =
           c.requires.union c.typ.ensures.lawful.within_limits q;
     }
 
-pub array_within-requires : goal.array_within-requires
-array_within-requires g c =
+pub of_node-requires : goal.of_node-requires
+of_node-requires g c =
     let e : c.in_ok-first.first ≡ lane_of I64 (len c.args.x.now) (λ i. pos i) =
     c.in_ok-first.ensures ∙ ap (λ n. lane_of I64 n (λ i. pos i)) c.len.ensures.len in
     let q : IsSpread c.args.x.now c.in_ok-first.first c.in_ok-tags.field-0.tags

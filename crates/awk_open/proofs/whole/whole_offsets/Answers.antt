@@ -7,8 +7,8 @@ use Rattle.awk_open.proofs.OpenedKinds.{are_lists}
 use Rattle.awk_open.proofs.WholeLanes.{whole_offsets}
 use Rattle.awk_open.proofs.whole.whole_offsets.Goals as goal
 
-pub array_within-requires : goal.array_within-requires
-array_within-requires g c =
+pub of_node-requires : goal.of_node-requires
+of_node-requires g c =
     subst (λ (x : Layout). limit (array_type x) ≡ None) (sym c.in_ok-copy.ensures) c.requires.limit
 
 pub new-requires : goal.new-requires

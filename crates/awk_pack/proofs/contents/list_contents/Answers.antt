@@ -21,13 +21,13 @@ returns-in_err-lists-clause-size g c vs h =
     size_on c.from_residual.result e _ _ failed size
     (λ large. large_lists (typ_of c.args.typ.now) vs c.args.opened.now large h)
 
-pub returns-then-is_regular-clause-left : goal.returns-then-is_regular-clause-left
-returns-then-is_regular-clause-left g c vs h =
+pub returns-then-is_sized-clause-left : goal.returns-then-is_sized-clause-left
+returns-then-is_sized-clause-left g c vs h =
     let joined = rw (c.starts.ensures, c.stops.ensures, c.content.ensures.content) at
     c.in_ok-lists.ensures.joined in
     left_regular (typ_of c.args.typ.now) vs c.args.lanes.now c.args.opened.now
     c.in_ok-lists.lists.offsets c.in_ok-lists.lists.content c.in_ok-only.field-0
-    (sym c.is_regular.ensures ∙ c.if-is_regular.true) joined c.in_ok-only.ensures h
+    (sym c.is_sized.ensures ∙ c.if-is_sized.true) joined c.in_ok-only.ensures h
 
 pub returns-clause-left : goal.returns-clause-left
 returns-clause-left g c vs h =
@@ -35,5 +35,5 @@ returns-clause-left g c vs h =
     c.in_ok-lists.ensures.joined in
     left_var (typ_of c.args.typ.now) vs c.args.lanes.now c.push.new.self c.args.opened.now
     c.in_ok-lists.lists.offsets c.in_ok-lists.lists.content c.in_ok-only-2.field-0
-    (sym c.is_regular.ensures ∙ c.if-is_regular.false) joined c.in_ok-push.ensures.ok
+    (sym c.is_sized.ensures ∙ c.if-is_sized.false) joined c.in_ok-push.ensures.ok
     c.in_ok-only-2.ensures h

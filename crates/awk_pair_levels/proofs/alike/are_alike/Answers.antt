@@ -1,7 +1,7 @@
 use Rattle.std.proofs.Common.{◌∙◌, arith, refl, sym, length}
 use Rattle.std.proofs.lemmas.Option.{slice_get_read}
 use Rattle.awk_lanes.specs.Places.{size_of}
-use Rattle.awk_list_rows.specs.InRow.{length_of}
+use Rattle.awk_columns.specs.Lists.{length_of}
 use Rattle.awk_pair_levels.specs.Shares.{is_alike}
 use Rattle.awk_pair_levels.proofs.EvenLaws.{as_long_get}
 use Rattle.awk_pair_levels.proofs.InRowLaws.{of_get, lead_own}

@@ -1,7 +1,7 @@
 use Rattle.std.proofs.Common.{◌≡◌, drop}
 use Rattle.std.specs.List.{list_all}
 use Rattle.awk_lanes.specs.Places.{size_of}
-use Rattle.awk_list_rows.specs.InRow.{length_of}
+use Rattle.awk_columns.specs.Lists.{length_of}
 use Rattle.awk_pair_levels.specs.Shares.{is_alike, AreAsLong}
 use Rattle.awk_pair_levels.proofs.alike.are_alike.Given as goal
 

@@ -1,5 +1,5 @@
 use Rattle.std.proofs.Common.{arith, sym, ◌∙◌}
-use Rattle.awk_list_rows.specs.InRow.{length_of}
+use Rattle.awk_columns.specs.Lists.{length_of}
 use Rattle.awk_pair_levels.proofs.EvenLaws.{not_equal, all_equal, equal_next}
 use Rattle.awk_pair_levels.proofs.alike.are_equal.Goals as goal
 

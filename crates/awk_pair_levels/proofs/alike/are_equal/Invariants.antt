@@ -1,5 +1,5 @@
 use Rattle.std.proofs.Common.{◌≡◌, ◌<◌, ℕ}
-use Rattle.awk_list_rows.specs.InRow.{length_of}
+use Rattle.awk_columns.specs.Lists.{length_of}
 use Rattle.awk_pair_levels.proofs.alike.are_equal.Given as goal
 
 abbrev pub invariant-loop-i : goal.invariant-loop-i

@@ -1,6 +1,6 @@
 use Rattle.std.proofs.Common.{◌≡◌, true, refl, subst, sym}
 use Rattle.awk_lanes.specs.Places.{size_of}
-use Rattle.awk_list_rows.specs.InRow.{length_of}
+use Rattle.awk_columns.specs.Lists.{length_of}
 use Rattle.awk_pair_levels.specs.Shares.{is_alike}
 use Rattle.awk_pair_levels.proofs.EvenLaws.{all_equal}
 use Rattle.awk_pair_levels.proofs.alike.is_alike.Goals as goal

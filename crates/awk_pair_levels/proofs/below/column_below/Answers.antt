@@ -1,7 +1,7 @@
 use Rattle.std.proofs.Common.{sym, subst}
 use Rattle.awk_lanes.specs.Places.{size_of}
 use Rattle.awk_pair_levels.specs.InRow.{IsOf}
-use Rattle.awk_list_rows.specs.InRow.{length_of}
+use Rattle.awk_columns.specs.Lists.{length_of}
 use Rattle.awk_pair_levels.specs.Shares.{IsAsLong, IsEven, IsNext, IsRepeated}
 use Rattle.awk_pair_levels.proofs.NextLaws.{even_count, even_next}
 use Rattle.awk_pair_levels.proofs.below.column_below.Goals as goal

@@ -1,6 +1,6 @@
 use Rattle.std.proofs.Common.{take, drop}
 use Rattle.awk_lanes.specs.Places.{size_of}
-use Rattle.awk_list_rows.specs.InRow.{length_of}
+use Rattle.awk_columns.specs.Lists.{length_of}
 use Rattle.awk_pair_levels.specs.Shares.{AreAsLong, AreEven, AreNext, AreRepeats}
 use Rattle.awk_pair_levels.proofs.below.columns_below.Given as goal
 

@@ -1,6 +1,6 @@
 use Rattle.std.proofs.Common.{refl}
 use Rattle.awk_lanes.specs.Places.{size_of}
-use Rattle.awk_list_rows.specs.InRow.{length_of}
+use Rattle.awk_columns.specs.Lists.{length_of}
 use Rattle.awk_pair_levels.proofs.InRowLaws.{items_below_are}
 use Rattle.awk_pair_levels.proofs.NextLaws.{next_lists}
 use Rattle.awk_pair_levels.proofs.below.items_below.Goals as goal

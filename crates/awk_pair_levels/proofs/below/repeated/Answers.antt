@@ -4,7 +4,7 @@ use Rattle.awk_lanes.specs.Column.{Column}
 use Rattle.awk_lanes.specs.Places.{size_of}
 use Rattle.awk_layout.specs.Layout.{Layout}
 use Rattle.awk_layout.specs.Valid.{len}
-use Rattle.awk_list_rows.specs.InRow.{length_of}
+use Rattle.awk_columns.specs.Lists.{length_of}
 use Rattle.awk_pair_levels.specs.Shares.{IsNext}
 use Rattle.awk_pair_levels.specs.declared.shares.Share.TheVariants.{Items}
 use Rattle.awk_pair_levels.proofs.NextLaws.{next_items, places_there}

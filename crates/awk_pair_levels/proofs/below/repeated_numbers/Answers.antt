@@ -9,7 +9,7 @@ use Rattle.awk_layout.specs.Typing.{array_type}
 use Rattle.awk_counts.specs.Counted.{numbers_at}
 use Rattle.awk_list_numbers.specs.ListPlaces.{list_places}
 use Rattle.awk_list_numbers.proofs.ListNumbers.{length-list_places}
-use Rattle.awk_list_rows.specs.InRow.{length_of}
+use Rattle.awk_columns.specs.Lists.{length_of}
 use Rattle.awk_pair_levels.specs.Shares.{IsNext}
 use Rattle.awk_pair_levels.specs.declared.shares.Share.TheVariants.{Items}
 use Rattle.awk_pair_levels.proofs.NextLaws.{next_repeats}
@@ -33,8 +33,8 @@ numpy-requires g c =
     ∙ length-list_places m (λ i k. i) c.len-n.result in
     omega (arith, e, ap (before m) c.len-n.ensures.len, c.requires.count, c.requires.few)
 
-pub array_within-requires : goal.array_within-requires
-array_within-requires g c =
+pub of_node-requires : goal.of_node-requires
+of_node-requires g c =
     subst (λ (x : Layout). limit (array_type x) ≡ None) (sym c.numpy.ensures.node) refl
 
 pub returns : goal.returns

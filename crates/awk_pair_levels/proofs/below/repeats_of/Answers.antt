@@ -1,6 +1,6 @@
 use Rattle.std.proofs.Common.{sym, ap, ◌∙◌}
 use Rattle.awk_lanes.specs.Places.{size_of}
-use Rattle.awk_list_rows.specs.InRow.{length_of}
+use Rattle.awk_columns.specs.Lists.{length_of}
 use Rattle.awk_pair_levels.proofs.NextLaws.{no_repeats, all_repeats}
 use Rattle.awk_pair_sides.proofs.PlaceLaws.{places_of}
 use Rattle.awk_pair_levels.proofs.below.repeats_of.Goals as goal

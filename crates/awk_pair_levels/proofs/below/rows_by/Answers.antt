@@ -4,8 +4,7 @@ use Rattle.awk_types.specs.ItemLimit.{item_limit}
 use Rattle.awk_lanes.specs.Column.{Column}
 use Rattle.awk_lanes.specs.Counted.{AreOffsetsBy, offsets_by}
 use Rattle.awk_lanes.specs.Places.{size_of}
-use Rattle.awk_columns.specs.Lists.{Listed}
-use Rattle.awk_list_rows.specs.InRow.{length_of}
+use Rattle.awk_columns.specs.Lists.{Listed, length_of}
 use Rattle.awk_pair_levels.specs.Shares.{AreAsLong, AreEven, AreNext}
 use Rattle.awk_pair_levels.proofs.NextLaws.{rows_large, rows_given}
 use Rattle.awk_pair_levels.proofs.below.rows_by.Goals as goal

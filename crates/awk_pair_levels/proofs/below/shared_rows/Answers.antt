@@ -2,7 +2,7 @@ use Rattle.std.proofs.Common.{◌≡◌, arith, sym, subst, refl, true, ◌∙�
 use Rattle.std.specs.Prelude.{IfOk}
 use Rattle.std.proofs.lemmas.Option.{slice_get_within}
 use Rattle.awk_lanes.specs.Places.{size_of}
-use Rattle.awk_list_rows.specs.InRow.{length_of}
+use Rattle.awk_columns.specs.Lists.{length_of}
 use Rattle.awk_pair_levels.specs.Shares.{any_differ, AreAsLong, IsShared}
 use Rattle.awk_pair_levels.specs.declared.shares.Share.TheVariants.{Lists}
 use Rattle.awk_pair_levels.proofs.EvenLaws.{among_get, among_long, rows_differ, alike_even}

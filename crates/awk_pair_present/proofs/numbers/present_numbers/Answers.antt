@@ -5,12 +5,12 @@ use Rattle.awk_layout.specs.Layout.{Layout}
 use Rattle.awk_layout.specs.Typing.{array_type}
 use Rattle.awk_layout.specs.Valid.{len}
 use Rattle.awk_counts.specs.Counted.{first_of, present_at}
+use Rattle.awk_columns.proofs.MovedNumbers.{named_reached}
 use Rattle.awk_open.proofs.OrderedOptions.{option_opened, option_in_order}
-use Rattle.awk_pair_present.proofs.PresentNumbers.{there_reached}
 use Rattle.awk_pair_present.proofs.numbers.present_numbers.Goals as goal
 
-pub numbers_there-requires-clause-index : goal.numbers_there-requires-clause-index
-numbers_there-requires-clause-index g c =
+pub named_numbers-requires-clause-index : goal.named_numbers-requires-clause-index
+named_numbers-requires-clause-index g c =
     subst (IsOptionalIndex c.args.index.now) (ap len c.requires.numbers) c.requires.valid.1
 
 pub returns-clause-opened : goal.returns-clause-opened
@@ -18,7 +18,7 @@ returns-clause-opened g c x h =
     let ks = first_of (present_at c.args.index.now) (size_of c.args.index.now) in
     option_opened x c.args.content.now c.in_ok-items.items c.args.index.now c.in_ok-index.index h
     c.in_ok-index.ensures.lane
-    (there_reached c.args.content.now c.in_ok-items.items c.args.lane.now ks c.requires.numbers
+    (named_reached c.args.content.now c.in_ok-items.items c.args.lane.now ks c.requires.numbers
     c.in_ok-items.ensures)
     c.len.ensures.valid
 
@@ -32,5 +32,5 @@ returns-clause-order g c x h =
     option_in_order x c.args.content.now c.in_ok-items.items c.args.index.now c.in_ok-index.index h
     (subst (λ (y : Layout). is_option (array_type y) ≡ false) (sym c.requires.numbers) refl)
     c.in_ok-index.ensures.lane
-    (there_reached c.args.content.now c.in_ok-items.items c.args.lane.now ks c.requires.numbers
+    (named_reached c.args.content.now c.in_ok-items.items c.args.lane.now ks c.requires.numbers
     c.in_ok-items.ensures)

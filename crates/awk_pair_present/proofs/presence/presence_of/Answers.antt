@@ -1,6 +1,7 @@
 use Rattle.std.proofs.Common.{◌∙◌, ap, sym, subst}
 use Rattle.awk_types.specs.Simple.{is_option}
 use Rattle.awk_lanes.specs.Column.{Column}
+use Rattle.awk_lanes.proofs.PlaceLaws.{option-index}
 use Rattle.awk_layout.specs.Typing.{array_type}
 use Rattle.awk_layout.specs.Valid.{len}
 use Rattle.awk_open.specs.Inner.{IsInner}
@@ -9,7 +10,6 @@ use Rattle.awk_open.specs.declared.opening.Opened.TheVariants.{Option as Optiona
 use Rattle.awk_open.proofs.OnlyKinds.{only_option}
 use Rattle.awk_pair_present.specs.Presence.{IsPresence}
 use Rattle.awk_pair_present.specs.declared.presence.Presence.TheVariants.{Indexed}
-use Rattle.awk_pair_present.proofs.OneOption.{option_index_kind}
 use Rattle.awk_pair_present.proofs.PresenceLaws.{whole_presence, indexed_presence}
 use Rattle.awk_pair_present.proofs.presence.presence_of.Goals as goal
 
@@ -22,7 +22,7 @@ pub index_of-requires : goal.index_of-requires
 index_of-requires g c =
     let o : IsOpened c.args.x.now (Optional c.in-Option.index c.in-Option.content) =
     rw c.in-Option.is at c.in_ok-index.ensures.opened in
-    option_index_kind c.in-Option.index.kind o.valid.1.kind
+    option-index c.in-Option.index.kind o.valid.1.kind
 
 pub returns : goal.returns
 returns g c =

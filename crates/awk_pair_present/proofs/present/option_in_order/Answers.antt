@@ -1,14 +1,14 @@
 use Rattle.std.proofs.Common.{sym, subst, ◌∙◌}
 use Rattle.awk_lanes.specs.Column.{Column}
+use Rattle.awk_lanes.proofs.PlaceLaws.{option-index}
 use Rattle.awk_layout.specs.Layout.{optional}
 use Rattle.awk_layout.specs.Valid.{IsValid}
 use Rattle.awk_open.specs.Opened.{IsOpened}
 use Rattle.awk_open.specs.declared.opening.Opened.TheVariants.{Option as Optional}
-use Rattle.awk_pair_present.proofs.OneOption.{option_index_kind}
 use Rattle.awk_pair_present.proofs.present.option_in_order.Goals as goal
 
 pub index_of-requires : goal.index_of-requires
-index_of-requires g c = option_index_kind c.args.index.now.kind c.requires.valid.1.kind
+index_of-requires g c = option-index c.args.index.now.kind c.requires.valid.1.kind
 
 pub present_numbers-requires-clause-valid : goal.present_numbers-requires-clause-valid
 present_numbers-requires-clause-valid g c =

@@ -1,11 +1,10 @@
 use Rattle.std.proofs.Common.{◌≡◌, ◌∙◌, ap, arith}
 use Rattle.std.specs.Prelude.{Err}
-use Rattle.awk_types.specs.Faults.{fault_of, fault_told}
+use Rattle.awk_types.specs.Faults.{fault_of, fault_told, limit_refused}
 use Rattle.awk_types.specs.Gives.{refused_or}
 use Rattle.awk_types.specs.View.{typ_of}
 use Rattle.awk_types.proofs.RefusalLaws.{Gives-Err}
 use Rattle.awk_layout.specs.Typing.{array_type}
-use Rattle.awk_pair_types.specs.Limits.{limit_refused}
 use Rattle.awk_pair_types.proofs.LimitLaws.{limit_said, limit_fine}
 use Rattle.awk_pair_types.proofs.limits.typ_within.Goals as goal
 

@@ -1,11 +1,11 @@
 use Rattle.std.proofs.Common.{ap, ◌∙◌, map}
 use Rattle.awk_lanes.specs.Numbers.{number}
 use Rattle.awk_lanes.specs.declared.kind.Kind.TheVariants as Kind
-use Rattle.awk_parts.proofs.SpanLaws.{groups_all}
+use Rattle.awk_lanes.proofs.IndexLaws.{numbers-groups}
 use Rattle.awk_parts.proofs.parts.groups_of.Goals as goal
 
 pub returns : goal.returns
 returns g c =
     ap (map (number Kind.I64)) c.as_chunks.ensures.front
-    ∙ groups_all c.args.lane.now c.bulk.result.now c.requires c.bulk.ensures.size
+    ∙ numbers-groups c.args.lane.now c.bulk.result.now c.requires c.bulk.ensures.size
     c.bulk.ensures.numbers

@@ -4,9 +4,8 @@ use Rattle.awk_types.specs.ItemLimit.{item_limit}
 use Rattle.awk_lanes.specs.declared.kind.Kind.TheVariants as Kind
 use Rattle.awk_lanes.specs.Counted.{before}
 use Rattle.awk_lanes.proofs.MadeLanes.{so_far_pushed, made_size}
-use Rattle.awk_lanes.proofs.CountedLanes.{before-next, total_passed}
+use Rattle.awk_lanes.proofs.CountedLanes.{before-next, total_passed, one_within}
 use Rattle.awk_places.specs.Places.{IsCounted}
-use Rattle.awk_places.proofs.SlotLaws.{one_within}
 use Rattle.awk_places.proofs.offsets.tuple_offsets.Goals as goal
 
 pub returns-in_default : goal.returns-in_default

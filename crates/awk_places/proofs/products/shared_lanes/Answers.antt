@@ -1,7 +1,8 @@
 use Rattle.std.proofs.Common.{◌≡◌, ◌<◌, refl, sym, ap, ◌∙◌, subst, arith, length, get_or}
 use Rattle.std.proofs.lemmas.Option.{get_or_from_slice_get}
+use Rattle.awk_lanes.specs.Column.{no_places}
 use Rattle.awk_lanes.specs.Places.{place_at}
-use Rattle.awk_places.specs.Products.{AreCounts, AreSpansOf, no_lane, product_count, share}
+use Rattle.awk_places.specs.Products.{AreCounts, AreSpansOf, product_count, share}
 use Rattle.awk_places.specs.Products.{product_lane, shares_lane}
 use Rattle.awk_places.proofs.ProductLaws.{counts_made, rests_first, rests_next, slot-by_shares}
 use Rattle.awk_places.proofs.ProductLaws.{lanes_more}
@@ -26,7 +27,7 @@ shares_lane-requires-in-loop-j-clause-parts g c =
     let p : c.loop-j.j < length c.args.lengths.now =
     omega (arith, c.loop-j-test.true, c.len-j-end.ensures) in
     subst (AreCounts c.args.n)
-    (get_or_from_slice_get c.args.lengths.now c.loop-j.j c.get.result.now no_lane c.get.ensures)
+    (get_or_from_slice_get c.args.lengths.now c.loop-j.j c.get.result.now no_places c.get.ensures)
     (c.requires.spans c.loop-j.j p).lengths
 
 pub slot_lane-requires : goal.slot_lane-requires
@@ -39,9 +40,9 @@ slot_lane-requires g c =
     let p : j < length ls = omega (arith, c.loop-j-test.true, c.len-j-end.ensures) in
     let s : AreSpansOf n c.get-in-loop-j.result.now c.get-in-loop-j-2.result.now =
     subst (λ f. AreSpansOf n f c.get-in-loop-j-2.result.now)
-    (get_or_from_slice_get fs j c.get-in-loop-j.result.now no_lane c.get-in-loop-j.ensures)
-    (subst (AreSpansOf n (get_or fs j no_lane))
-    (get_or_from_slice_get ls j c.get-in-loop-j-2.result.now no_lane c.get-in-loop-j-2.ensures)
+    (get_or_from_slice_get fs j c.get-in-loop-j.result.now no_places c.get-in-loop-j.ensures)
+    (subst (AreSpansOf n (get_or fs j no_places))
+    (get_or_from_slice_get ls j c.get-in-loop-j-2.result.now no_places c.get-in-loop-j-2.ensures)
     (c.requires.spans j p)) in
     record {
       slot = record {
@@ -62,13 +63,13 @@ loop-j-preserved g c =
     let j = c.loop-j.j in
     let r = c.loop-j.rests in
     let p : j < length ls = omega (arith, c.loop-j-test.true, c.len-j-end.ensures) in
-    let f : get_or fs j no_lane ≡ c.get-in-loop-j.result.now =
-    get_or_from_slice_get fs j c.get-in-loop-j.result.now no_lane c.get-in-loop-j.ensures in
-    let l : get_or ls j no_lane ≡ c.get.result.now =
-    get_or_from_slice_get ls j c.get.result.now no_lane c.get.ensures in
-    let m : get_or ls j no_lane ≡ c.get-in-loop-j-2.result.now =
-    get_or_from_slice_get ls j c.get-in-loop-j-2.result.now no_lane c.get-in-loop-j-2.ensures in
-    let x : c.in_ok-slot_lane.field-0 ≡ product_lane n (get_or fs j no_lane) ls j =
+    let f : get_or fs j no_places ≡ c.get-in-loop-j.result.now =
+    get_or_from_slice_get fs j c.get-in-loop-j.result.now no_places c.get-in-loop-j.ensures in
+    let l : get_or ls j no_places ≡ c.get.result.now =
+    get_or_from_slice_get ls j c.get.result.now no_places c.get.ensures in
+    let m : get_or ls j no_places ≡ c.get-in-loop-j-2.result.now =
+    get_or_from_slice_get ls j c.get-in-loop-j-2.result.now no_places c.get-in-loop-j-2.ensures in
+    let x : c.in_ok-slot_lane.field-0 ≡ product_lane n (get_or fs j no_places) ls j =
     c.in_ok-slot_lane.ensures
     ∙ slot-by_shares n ls j c.get-in-loop-j.result.now c.get-in-loop-j-2.result.now
     c.in_ok-before.before c.in_ok-after.after c.in_ok-counts.counts r p c.loop-j.invariant.rests

@@ -7,11 +7,11 @@ use Rattle.serde_json.specs.View.{view}
 use Rattle.awk_base.proofs.Results.{IfOk-both}
 use Rattle.awk_types.proofs.Views.{field_of-out, typ_of-Rec}
 use Rattle.awk_types.specs.DataType.{DataType, depth, opt, rec, unknown, var}
+use Rattle.awk_types.specs.Parts.{IsList}
 use Rattle.awk_types.specs.Simple.{option_of}
 use Rattle.awk_types.specs.View.{NamedType, field_of, fields_of, names_of, typ_of, types_of}
 use Rattle.awk_columns.specs.Columns.{is_present, joined_items}
 use Rattle.awk_layout.specs.Typing.{array_type, array_items}
-use Rattle.awk_frames.proofs.ValueLists.{IsList}
 use Rattle.awk_plain.proofs.TypeSteps.{typ_of-Unknown, typ_of-Var}
 use Rattle.awk_plain.specs.Suits.{own_value}
 use Rattle.awk_plain_columns.proofs.OptionColumns.{option_typed, own_there, there_suit}

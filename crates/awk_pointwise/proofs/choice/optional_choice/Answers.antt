@@ -3,7 +3,7 @@ use Rattle.awk_lanes.specs.Made.{lane_of}
 use Rattle.awk_lanes.specs.Places.{size_of}
 use Rattle.awk_lanes.specs.declared.kind.Kind.TheVariants.{I8}
 use Rattle.awk_lanes.proofs.MadeLanes.{size-lane_of}
-use Rattle.awk_leaves.specs.Values.{number_of}
+use Rattle.awk_types.specs.Parts.{number_of}
 use Rattle.awk_pointwise.specs.Choice.{chosen_value, null_number}
 use Rattle.awk_pointwise.specs.Optional.{masked_values}
 use Rattle.awk_pointwise.proofs.ChoiceLaws.{are_within, choice_is}

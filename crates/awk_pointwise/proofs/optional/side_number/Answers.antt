@@ -2,7 +2,8 @@ use Rattle.std.proofs.Common.{ap, sym, subst, ◌∙◌, rules}
 use Rattle.std.specs.Int.{w128}
 use Rattle.std.specs.Prelude.{FitsSigned, Some}
 use Rattle.std.proofs.lemmas.Int.{to_z-of_z}
-use Rattle.awk_pointwise.specs.Optional.{shown, side_at, HasSidePlace}
+use Rattle.awk_types.specs.Parts.{option_number}
+use Rattle.awk_pointwise.specs.Optional.{side_at, HasSidePlace}
 use Rattle.awk_pointwise.proofs.ChoiceLaws.{shown_one}
 use Rattle.awk_pointwise.proofs.optional.side_number.Goals as goal
 
@@ -12,4 +13,4 @@ returns-in-Number g c =
     let fits : FitsSigned w128 z = search rules in
     ap (λ z. Some z) (to_z-of_z w128 z fits)
     ∙ shown_one c.in-Number.field-0 z (subst (HasSidePlace c.args.i) c.in-Number.is c.requires)
-    ∙ ap (λ s. shown (side_at c.args.i s)) (sym c.in-Number.is)
+    ∙ ap (λ s. option_number (side_at c.args.i s)) (sym c.in-Number.is)

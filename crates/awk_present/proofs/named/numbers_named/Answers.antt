@@ -3,7 +3,8 @@ use Rattle.std.specs.Prelude.{◌/◌}
 use Rattle.std.specs.Simd.{first_chunks}
 use Rattle.awk_lanes.specs.Numbers.{width, numbers}
 use Rattle.awk_lanes.specs.Places.{size_of}
-use Rattle.awk_gather_lanes.proofs.MovedGroups.{width-small, lane_is}
+use Rattle.awk_lanes.proofs.WordLaws.{width-small}
+use Rattle.awk_lanes.proofs.MadeLanes.{lane_is}
 use Rattle.awk_counts.specs.Counted.{first_of, present_at}
 use Rattle.awk_open.proofs.OrderedOptions.{option_below}
 use Rattle.awk_present.specs.Named.{named_places, ArePlacesOf}

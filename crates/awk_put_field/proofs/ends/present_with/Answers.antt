@@ -5,7 +5,8 @@ use Rattle.awk_layout.specs.Contents.{count-layouts_from}
 use Rattle.awk_layout.specs.Typing.{array_type, array_items}
 use Rattle.awk_open.specs.Opens.{Opens, OpensRow}
 use Rattle.awk_open.specs.declared.opening.Opened.TheVariants.{Row}
-use Rattle.awk_put_field.specs.Field.{names_in, field_type, field_value}
+use Rattle.awk_types.specs.Parts.{names_of_fields}
+use Rattle.awk_put_field.specs.Field.{field_type, field_value}
 use Rattle.awk_put_field.proofs.RowLaws.{made, items-made, type-made}
 use Rattle.awk_put_field.proofs.ends.present_with.Goals as goal
 
@@ -42,7 +43,7 @@ returns-clause-items g c =
     subst (λ m. OpensRow m c.in-Row.columns x) c.in-Some.is r in
     if_ok (λ y. y ≡ made n c.in-Some.names c.len-n.result v x c.in-Row.columns o)
     (λ y. array_items y
-    ≡ zip2 (field_value n (names_in (array_type x))) (array_items x) (array_items v))
+    ≡ zip2 (field_value n (names_of_fields (array_type x))) (array_items x) (array_items v))
     c.records_of.result
     (λ y e. ap array_items e
     ∙ items-made n c.in-Some.names c.len-n.result v x c.in-Row.columns o c.len-n.ensures.len

@@ -1,5 +1,6 @@
 use Rattle.std.proofs.Common.{◌<◌, ◌^◌, ◌∙◌, ap, ap₂, sym, subst}
 use Rattle.std.specs.Simd.Lanes.{zip2}
+use Rattle.awk_types.specs.Parts.{is_record, names_of_fields}
 use Rattle.awk_types.specs.Simple.{present}
 use Rattle.awk_lanes.specs.Places.{size_of, IsOptionalIndex}
 use Rattle.awk_layout.specs.Layout.{optional}
@@ -8,7 +9,7 @@ use Rattle.awk_layout.specs.Valid.{len}
 use Rattle.awk_open.specs.Opened.{IsOpened}
 use Rattle.awk_open.specs.declared.opening.Opened.TheVariants.{Option as Optional}
 use Rattle.awk_open.specs.InOrder.{IsInOrder}
-use Rattle.awk_put_field.specs.Field.{is_record, names_in, field_value}
+use Rattle.awk_put_field.specs.Field.{field_value}
 use Rattle.awk_put_field.proofs.OptionLaws.{index-kind, index-size, content-count, index-into}
 use Rattle.awk_put_field.proofs.OptionLaws.{there-size, items-optional, type-optional}
 use Rattle.awk_put_field.proofs.ends.under_option.Goals as goal
@@ -92,9 +93,9 @@ returns-clause-items g c =
     ap array_items (c.indexed_option.ensures.node
     ∙ ap₂ optional c.copy.ensures c.in_ok-boxed.ensures.ok)
     ∙ items-optional x y j i.0 i.1 v c.in_ok-there.there c.requires.long
-    (c.in_ok-there.ensures.items (array_items x) i.0) n (names_in (array_type y))
+    (c.in_ok-there.ensures.items (array_items x) i.0) n (names_of_fields (array_type y))
     c.in_ok-present.present c.in_ok-present.ensures.items
-    ∙ ap (λ t. zip2 (field_value n (names_in (present t))) (array_items x) (array_items v))
+    ∙ ap (λ t. zip2 (field_value n (names_of_fields (present t))) (array_items x) (array_items v))
     (sym o.kind)
 
 pub returns-clause-size : goal.returns-clause-size

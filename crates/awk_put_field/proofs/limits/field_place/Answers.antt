@@ -1,9 +1,8 @@
 use Rattle.std.proofs.Common.{◌≡◌, ◌+◌, true, false, sym, ap, ◌∙◌, drop}
-use Rattle.awk_types.specs.Names.{same_name}
+use Rattle.awk_types.specs.Names.{same_name, place_of}
 use Rattle.awk_types.specs.View.{fields_of, field_of, names_of}
 use Rattle.awk_base.proofs.Lists.{drop-get}
 use Rattle.awk_types.proofs.Views.{field_of-out}
-use Rattle.awk_put_field.specs.Places.{place_of}
 use Rattle.awk_put_field.proofs.PutLaws.{place_found, place_passed}
 use Rattle.awk_put_field.proofs.limits.field_place.Goals as goal
 

@@ -1,6 +1,6 @@
 use Rattle.std.proofs.Common.{◌≡◌, ◌+◌, drop}
+use Rattle.awk_types.specs.Names.{place_of}
 use Rattle.awk_types.specs.View.{fields_of, names_of}
-use Rattle.awk_put_field.specs.Places.{place_of}
 use Rattle.awk_put_field.proofs.limits.field_place.Given as goal
 
 abbrev pub invariant-loop-i : goal.invariant-loop-i

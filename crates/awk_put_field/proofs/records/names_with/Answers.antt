@@ -1,5 +1,5 @@
 use Rattle.std.proofs.Common.{◌≡◌, ◌<◌, ◌++◌, ◌∷◌, [], arith, sym, ap, ◌∙◌, length}
-use Rattle.awk_put_field.specs.Places.{place_of as place_in}
+use Rattle.awk_types.specs.Names.{place_of as place_in}
 use Rattle.awk_put_field.proofs.PutLaws.{named-new, named-old, place-within}
 use Rattle.awk_put_field.proofs.records.names_with.Goals.{then-place-len+in_ok-new+in_ok-push}
 use Rattle.awk_put_field.proofs.records.names_with.Goals.{else-place-len}

@@ -1,6 +1,5 @@
 use Rattle.std.proofs.Common.{◌≡◌, ◌+◌, true, false, sym, ap, ◌∙◌, drop}
-use Rattle.awk_types.specs.Names.{same_name}
-use Rattle.awk_put_field.specs.Places.{place_of as place_in}
+use Rattle.awk_types.specs.Names.{same_name, place_of as place_in}
 use Rattle.awk_put_field.proofs.PutLaws.{place_found, place_passed}
 use Rattle.awk_put_field.proofs.records.place_of.Goals as goal
 use Rattle.awk_base.proofs.Lists.{drop-get}

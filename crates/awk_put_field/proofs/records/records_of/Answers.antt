@@ -3,10 +3,10 @@ use Rattle.awk_types.specs.Names.{AreDistinct}
 use Rattle.awk_layout.specs.Contents.{count-layouts_from}
 use Rattle.awk_layout.specs.Layout.{rows, layouts_from}
 use Rattle.awk_layout.specs.Valid.{AllReach}
+use Rattle.awk_open.proofs.LayoutParts.{reach_long}
 use Rattle.awk_put_field.specs.Field.{put, named as named_with}
 use Rattle.awk_put_field.specs.Places.{put_at}
-use Rattle.awk_put_field.proofs.PutLaws.{put-at, length-put, long_put, reach_long}
-use Rattle.awk_put_field.proofs.PutLaws.{named_distinct}
+use Rattle.awk_put_field.proofs.PutLaws.{put-at, length-put, long_put, named_distinct}
 use Rattle.awk_put_field.proofs.records.records_of.Goals as goal
 
 pub row-requires-clause-names : goal.row-requires-clause-names

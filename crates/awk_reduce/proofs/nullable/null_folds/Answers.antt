@@ -6,7 +6,8 @@ use Rattle.awk_lanes.specs.Places.{size_of}
 use Rattle.awk_lanes.proofs.MadeLanes.{size-lane_of}
 use Rattle.awk_layout.specs.Kinds.{kind_of}
 use Rattle.awk_layout.specs.Typing.{array_type}
-use Rattle.awk_parts.specs.Fits.{fits, AreFitting}
+use Rattle.awk_primitives.specs.Fits.{fits}
+use Rattle.awk_parts.specs.Fits.{AreFitting}
 use Rattle.awk_present.specs.Numbers.{leaf_of}
 use Rattle.awk_nullable.specs.Numbers.{leaf_number}
 use Rattle.awk_nullable_lists.specs.Lists.{folded_at, numbers_at}

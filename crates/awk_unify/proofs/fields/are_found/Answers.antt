@@ -1,7 +1,8 @@
 use Rattle.std.proofs.Common.{◌≡◌, ◌∙◌, ap, arith, sym}
 use Rattle.awk_types.specs.View.{field_of, fields_of, names_of}
-use Rattle.awk_unify.specs.FieldNames.{place_in}
-use Rattle.awk_unify.proofs.NamePlaces.{alike-next, alike-none, is_in-none, is_in-some, name_out}
+use Rattle.awk_name_places.specs.Places.{place_in}
+use Rattle.awk_unify.proofs.NamePlaces.{alike-next, alike-none, is_in-none, is_in-some}
+use Rattle.awk_types.proofs.Views.{name_out}
 use Rattle.awk_unify.proofs.fields.are_found.Goals as goal
 
 pub returns-then-place_by-len : goal.returns-then-place_by-len

@@ -1,6 +1,7 @@
 use Rattle.std.proofs.Common.{◌∷◌, ◌++◌, ◌∙◌, [], ap, sym, take}
 use Rattle.awk_types.specs.View.{field_of, fields_of, names_of}
-use Rattle.awk_unify.proofs.NamePlaces.{name_out, names-next}
+use Rattle.awk_types.proofs.Views.{name_out}
+use Rattle.awk_unify.proofs.NamePlaces.{names-next}
 use Rattle.awk_unify.proofs.fields.field_names.Goals as goal
 
 pub loop-i-preserved : goal.loop-i-preserved

@@ -1,7 +1,8 @@
 use Rattle.std.proofs.Common.{◌≡◌, ◌∙◌, ap₂, sym, true, false}
 use Rattle.awk_types.specs.Names.{same_name}
 use Rattle.awk_types.specs.View.{field_of, fields_of}
-use Rattle.awk_unify.proofs.NamePlaces.{name_out, place-here, place-next}
+use Rattle.awk_types.proofs.Views.{name_out}
+use Rattle.awk_unify.proofs.NamePlaces.{place-here, place-next}
 use Rattle.awk_unify.proofs.fields.place.Goals as goal
 
 pub returns-then-eq-clause-at : goal.returns-then-eq-clause-at

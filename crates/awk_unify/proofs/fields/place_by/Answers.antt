@@ -2,7 +2,7 @@
 use Rattle.std.proofs.Common.{◌≡◌, ◌∙◌, ap₂, arith}
 use Rattle.awk_types.specs.View.{fields_of, names_of}
 use Rattle.awk_name_places.specs.Places as known
-use Rattle.awk_unify.specs.FieldNames.{place_in}
+use Rattle.awk_name_places.specs.Places.{place_in}
 use Rattle.awk_unify.proofs.NamePlaces.{place_in-known, place_in-≤}
 use Rattle.awk_unify.proofs.fields.place_by.Goals as goal
 use Rattle.awk_unify.proofs.fields.place_by.Goals.{After-place}

@@ -1,10 +1,11 @@
 use Rattle.std.proofs.Common.{◌≡◌, ◌∙◌, ap, arith, map, sym}
 use Rattle.awk_types.specs.View.{field_of, fields_of, names_of}
+use Rattle.awk_name_places.specs.Places.{place_in}
+use Rattle.awk_types.proofs.Views.{name_out}
 use Rattle.awk_unify.specs.Carry.{carries_from, to_parts}
 use Rattle.awk_unify.specs.Carries.{carry_at}
-use Rattle.awk_unify.specs.FieldNames.{place_in}
 use Rattle.awk_unify.specs.View.{lifts_of}
-use Rattle.awk_unify.proofs.NamePlaces.{made-all, made-next, name_out}
+use Rattle.awk_unify.proofs.NamePlaces.{made-all, made-next}
 use Rattle.awk_unify.proofs.Views.{lift_of-Parts}
 use Rattle.awk_unify.proofs.fields.to_names.Goals as goal
 

@@ -1,7 +1,7 @@
 use Rattle.std.proofs.Common.{◌≡◌, map, take}
 use Rattle.awk_types.specs.View.{fields_of, names_of}
+use Rattle.awk_name_places.specs.Places.{place_in}
 use Rattle.awk_unify.specs.Carries.{carry_at}
-use Rattle.awk_unify.specs.FieldNames.{place_in}
 use Rattle.awk_unify.specs.View.{lifts_of}
 use Rattle.awk_unify.proofs.fields.to_names.Given as goal
 

@@ -2,14 +2,15 @@ use Rattle.std.proofs.Common.{arith, ◌≡◌, ◌+◌, ◌∙◌, take, drop, 
 use Rattle.std.proofs.lemmas.Result.{IfOk-weaker}
 use Rattle.awk_types.specs.Simple.{alternatives}
 use Rattle.awk_types.specs.View.{field_of, fields_of, names_of, typ_of, typs_of}
+use Rattle.awk_name_places.specs.Places.{place_in}
+use Rattle.awk_types.proofs.Views.{name_out}
 use Rattle.awk_unify.specs.Insert.{ahead, joined_first}
 use Rattle.awk_unify.specs.Join.{join_by, join_records, tup_join}
 use Rattle.awk_unify.specs.Merge.{insert, insert_all, start, merged}
 use Rattle.awk_unify.specs.Unification.{Placed, PlacedAll}
 use Rattle.awk_unify.specs.View.{found_of, parts_of, placed_of, placed_all_of, unified_of}
 use Rattle.awk_unify.specs.Unify.{unification}
-use Rattle.awk_unify.specs.FieldNames.{place_in}
-use Rattle.awk_unify.proofs.NamePlaces.{name_out, typ_out}
+use Rattle.awk_unify.proofs.NamePlaces.{typ_out}
 use Rattle.awk_unify.proofs.PartsLaws.{fields_last, fields_length, fields_next, fields_none}
 use Rattle.awk_unify.proofs.PartsLaws.{parts_last, parts_next}
 use Rattle.awk_unify.proofs.InsertLaws.{passed, found, put_in}

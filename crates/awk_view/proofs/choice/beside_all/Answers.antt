@@ -1,14 +1,15 @@
 use Rattle.std.proofs.Common.{◌≡◌, true, get_or, sym, ap, ◌∙◌, arith}
-use Rattle.awk_types.specs.Names.{is_among}
+use Rattle.awk_types.specs.Names.{is_among, place_of}
+use Rattle.awk_base.proofs.Every.{all-get}
 use Rattle.awk_layout.specs.Layout.{empty}
-use Rattle.awk_view.specs.Choice.{place_of, beside}
-use Rattle.awk_view.proofs.Beside.{All-get, get_or-get, pushed_next}
+use Rattle.awk_view.specs.Choice.{beside}
+use Rattle.awk_view.proofs.Beside.{get_or-get, pushed_next}
 use Rattle.awk_view.proofs.ChoiceLayouts.{place_within}
 use Rattle.awk_view.proofs.choice.beside_all.Goals as goal
 
 pub get-requires-in-loop-i : goal.get-requires-in-loop-i
 get-requires-in-loop-i c =
-    let among = All-get (λ k. is_among k c.args.names.now ≡ true) c.args.wanted.now c.loop-i.i
+    let among = all-get (λ k. is_among k c.args.names.now ≡ true) c.args.wanted.now c.loop-i.i
     c.get.result.now c.get.ensures c.requires.among in
     let within = place_within c.get.result.now c.args.names.now among in
     let place : c.place_by-place.result ≡ place_of c.get.result.now c.args.names.now =

@@ -1,5 +1,5 @@
 use Rattle.std.proofs.Common.{◌≡◌, ◌+◌, drop}
-use Rattle.awk_view.specs.Choice.{place_of}
+use Rattle.awk_types.specs.Names.{place_of}
 use Rattle.awk_view.proofs.choice.place_of.Given as goal
 
 abbrev pub invariant-loop-i : goal.invariant-loop-i

@@ -1,6 +1,7 @@
 use Rattle.std.proofs.Common.{◌≡◌, option_map, length, ap, ◌∙◌, subst}
 use Rattle.std.specs.Prelude.{IfOk}
-use Rattle.awk_view.specs.Choice.{row_names, place_of}
+use Rattle.awk_types.specs.Names.{place_of}
+use Rattle.awk_view.specs.Choice.{row_names}
 use Rattle.awk_view.specs.Layouts.{first_items}
 use Rattle.awk_view.proofs.RowSteps.{place_in, field_at, field_reaches}
 use Rattle.awk_view.proofs.chosen.field_of_rows.Goals as goal

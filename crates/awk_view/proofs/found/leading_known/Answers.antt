@@ -1,7 +1,6 @@
 -- A name's place is beyond the last exactly where it is not there.
 use Rattle.std.proofs.Common.{◌≡◌, true, false, length, ap, ◌∙◌, arith}
-use Rattle.awk_types.specs.Names.{is_among}
-use Rattle.awk_view.specs.Choice.{place_of}
+use Rattle.awk_types.specs.Names.{is_among, place_of}
 use Rattle.awk_view.proofs.LeadingLaws.{among-beyond, among-within, leading-next, leading-stops}
 use Rattle.awk_view.proofs.found.leading_known.Goals as goal
 

@@ -1,5 +1,6 @@
 use Rattle.std.proofs.Common.{◌≡◌, ◌∙◌, ap, ap₂, sym, subst, true, false, arith}
 use Rattle.std.specs.Prelude.{Err}
+use Rattle.awk_types.specs.Datum.{datum_type}
 use Rattle.awk_types.specs.Faults.{fault_told}
 use Rattle.awk_types.specs.Gives.{Gives}
 use Rattle.awk_types.specs.Simple.{IsSimple}
@@ -7,7 +8,6 @@ use Rattle.awk_types.proofs.RefusalLaws.{Gives-Err}
 use Rattle.awk_layout.specs.Datum.{datum_of}
 use Rattle.awk_layout.specs.Typing.{array_type}
 use Rattle.awk_pair_operands.specs.First.{all_data}
-use Rattle.awk_pair_operands.specs.Pairs.{item_type}
 use Rattle.awk_put_field.specs.Ends.{ends_at_records}
 use Rattle.awk_with_field.specs.WithField.{is_wrong, with_field_of}
 use Rattle.awk_with_field.proofs.RefusedLaws.{type-kept, wrong_answer, right-told}
@@ -18,9 +18,9 @@ pub returns-then-not-ends_at_records-clause-answer
     : goal.returns-then-not-ends_at_records-clause-answer
 returns-then-not-ends_at_records-clause-answer g c =
     let x = c.args.x.now in
-    let same : item_type (datum_of x) ≡ array_type c.kept.result.now =
+    let same : datum_type (datum_of x) ≡ array_type c.kept.result.now =
     type-kept x ∙ ap array_type (sym c.kept.ensures) in
-    let wrong : ends_at_records (item_type (datum_of x)) ≡ false =
+    let wrong : ends_at_records (datum_type (datum_of x)) ≡ false =
     ap ends_at_records (same ∙ sym c.typ.ensures.typ) ∙ sym c.ends_at_records.ensures
     ∙ c.if-not-ends_at_records.true in
     wrong_answer c.args.name.now (datum_of x) (datum_of c.args.v.now)
@@ -48,9 +48,9 @@ joined-requires-clause-two g c =
 pub joined-requires-clause-records : goal.joined-requires-clause-records
 joined-requires-clause-records g c =
     let x = c.args.x.now in
-    let same : item_type (datum_of x) ≡ array_type c.kept.result.now =
+    let same : datum_type (datum_of x) ≡ array_type c.kept.result.now =
     type-kept x ∙ ap array_type (sym c.kept.ensures) in
-    let right : ends_at_records (item_type (datum_of x)) ≡ true =
+    let right : ends_at_records (datum_type (datum_of x)) ≡ true =
     ap ends_at_records (same ∙ sym c.typ.ensures.typ) ∙ sym c.ends_at_records.ensures
     ∙ c.if-not-ends_at_records.false in
     ap₂ is_wrong c.levels_of.ensures

@@ -2,6 +2,7 @@ use Rattle.std.proofs.Common.{◌≡◌, ◌∙◌, ap, sym, subst, true, arith}
 use Rattle.std.specs.Prelude.{map, Ok, Err, Some, None, if◌then◌else◌}
 use Rattle.awk_types.specs.Faults.{fault_told}
 use Rattle.awk_types.specs.Limit.{limit}
+use Rattle.awk_types.specs.Parts.{names_of_fields}
 use Rattle.awk_types.specs.Simple.{present}
 use Rattle.awk_types.specs.View.{typ_of}
 use Rattle.awk_types.proofs.RefusalLaws.{Gives-Err}
@@ -14,7 +15,7 @@ use Rattle.awk_pair_operands.specs.Answer.{shared_ends}
 use Rattle.awk_pair_operands.specs.First.{all_data}
 use Rattle.awk_pair_operands.specs.Pairs.{leaf_types, pair_refused, pair_type, pair_values}
 use Rattle.awk_pair_operands.specs.Pairs.{some_array}
-use Rattle.awk_put_field.specs.Field.{names_in, end_value}
+use Rattle.awk_put_field.specs.Field.{end_value}
 use Rattle.awk_with_field.specs.WithField.{end_of, with_type, with_field_at}
 use Rattle.awk_with_field.proofs.AnswerLaws.{told_type, told_pair, IsResult, datum_made, made}
 use Rattle.awk_with_field.proofs.EndLaws.{few-leaves, type-at, right-record, type-joined}
@@ -127,7 +128,7 @@ returns-clause-answer g c =
     let t = pair_type true (Some d) ds in
     let vs = shared_ends true (Some d) ds in
     let ends : array_items c.in_ok-ends.ends
-    ≡ map (end_value n (names_in (present (end_of 0 d ds)))) vs =
+    ≡ map (end_value n (names_of_fields (present (end_of 0 d ds)))) vs =
     ends-joined n d ds vs (array_items c.in_ok-ends.ends) x v c.in_ok-ends.ensures.items
     (type-at 0 ys x ts c.get.ensures c.in_ok-paired.ensures.types)
     (first-part vs ys x c.in_ok-paired.ensures.leaves c.get.ensures)
@@ -141,7 +142,7 @@ returns-clause-answer g c =
       paired = given.0;
       is_single = given.1;
       typ = node_type;
-      items = c.in_ok-node.ensures.items t (end_value n (names_in (present (end_of 0 d ds))))
+      items = c.in_ok-node.ensures.items t (end_value n (names_of_fields (present (end_of 0 d ds))))
           (pair_values true (Some d) ds) c.in_ok-paired.ensures.typed
           c.in_ok-paired.ensures.shape ends;
     } in
@@ -171,7 +172,7 @@ returns-clause-datum g c =
     let t = pair_type true (Some d) ds in
     let vs = shared_ends true (Some d) ds in
     let ends : array_items c.in_ok-ends.ends
-    ≡ map (end_value n (names_in (present (end_of 0 d ds)))) vs =
+    ≡ map (end_value n (names_of_fields (present (end_of 0 d ds)))) vs =
     ends-joined n d ds vs (array_items c.in_ok-ends.ends) x v c.in_ok-ends.ensures.items
     (type-at 0 ys x ts c.get.ensures c.in_ok-paired.ensures.types)
     (first-part vs ys x c.in_ok-paired.ensures.leaves c.get.ensures)
@@ -185,7 +186,7 @@ returns-clause-datum g c =
       paired = given.0;
       is_single = given.1;
       typ = node_type;
-      items = c.in_ok-node.ensures.items t (end_value n (names_in (present (end_of 0 d ds))))
+      items = c.in_ok-node.ensures.items t (end_value n (names_of_fields (present (end_of 0 d ds))))
           (pair_values true (Some d) ds) c.in_ok-paired.ensures.typed
           c.in_ok-paired.ensures.shape ends;
     } in

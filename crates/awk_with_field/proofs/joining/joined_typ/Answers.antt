@@ -1,6 +1,6 @@
 use Rattle.std.proofs.Common.{◌≡◌, ◌∙◌, ap, sym, subst, arith, true}
 use Rattle.std.specs.Prelude.{[], Some}
-use Rattle.awk_types.specs.Faults.{fault_told}
+use Rattle.awk_types.specs.Faults.{fault_told, limit_refused}
 use Rattle.awk_types.specs.Gives.{Gives, refused_or}
 use Rattle.awk_types.specs.View.{typ_of}
 use Rattle.awk_layout.specs.Typing.{array_type}
@@ -9,7 +9,6 @@ use Rattle.awk_frames.specs.View.{shape_of}
 use Rattle.awk_pair_operands.specs.First.{all_data}
 use Rattle.awk_pair_operands.specs.Pairs.{leaf_types, pair_type}
 use Rattle.awk_pair_types.proofs.DepthLaws.{never_wrong}
-use Rattle.awk_pair_types.specs.Limits.{limit_refused}
 use Rattle.awk_with_field.specs.WithField.{with_type}
 use Rattle.awk_with_field.proofs.EndLaws.{few-leaves, type-at, right-record, long-at, type-joined}
 use Rattle.awk_with_field.proofs.joining.joined_typ.Goals as goal

@@ -1,13 +1,13 @@
 use Rattle.std.proofs.Common.{◌≤◌, ◌∙◌, ap, sym, subst}
+use Rattle.awk_types.specs.Parts.{list_depth}
 use Rattle.awk_types.specs.View.{typ_of}
 use Rattle.awk_layout.specs.Typing.{array_type}
-use Rattle.awk_put_field.specs.Ends.{lists_down}
 use Rattle.awk_with_field.proofs.LevelLaws.{few_lists, levels-arr, levels-one}
 use Rattle.awk_with_field.proofs.levels.levels_of.Goals as goal
 
 pub lists_down-down-requires : goal.lists_down-down-requires
 lists_down-down-requires c = record {
-  few = subst (λ t. lists_down t ≤ 60) (sym c.typ.ensures.typ)
+  few = subst (λ t. list_depth t ≤ 60) (sym c.typ.ensures.typ)
       (few_lists (array_type c.kept.result.now) c.typ.ensures.lawful.within_limits);
 }
 

@@ -1,17 +1,18 @@
 use Rattle.std.proofs.Common.{◌≡◌, ◌+◌, ◌==◌, ◌∙◌, false, ap, sym, arith, map}
 use Rattle.awk_base.proofs.Results.{if_ok}
 use Rattle.awk_types.specs.DataType.{depth, depths, greatest, types_from}
+use Rattle.awk_types.proofs.TypeShapes.{depth-row, depth-option, depth-union}
 use Rattle.awk_layout.specs.Typing.{array_type, array_items}
 use Rattle.awk_columns.specs.Joined.{IsJoined}
 use Rattle.awk_columns.specs.ListClass.{list_type}
 use Rattle.awk_open.specs.Opens.{Opens}
 use Rattle.awk_columns.specs.declared.lists.Joined.TheVariants as joined
+use Rattle.awk_columns.proofs.ListTypes.{depth-list}
 use Rattle.awk_open.specs.declared.opening.Opened.TheVariants as opened
 use Rattle.awk_zip.specs.Counted.{lists_refused, all_refused, size_if}
 use Rattle.awk_zip.proofs.CountLaws.{row_counted, union_counted, option_counted, leaf_counted}
 use Rattle.awk_zip.proofs.CountLaws.{nothing_counted, none-refused, many_counted, lists_counted}
-use Rattle.awk_zip.proofs.CountLaws.{all_next, all_found, all_end, depth-list, depth-row, depth-get}
-use Rattle.awk_zip.proofs.CountLaws.{depth-option, depth-union}
+use Rattle.awk_zip.proofs.CountLaws.{all_next, all_found, all_end, depth-get}
 use Rattle.awk_zip.proofs.counted.+counted.Goals as goal
 
 pub is_large-returns-then-k-eq0 : goal.is_large-returns-then-k-eq0

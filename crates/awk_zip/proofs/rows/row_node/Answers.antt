@@ -3,7 +3,7 @@ use Rattle.std.specs.Prelude.{option_map}
 use Rattle.awk_layout.specs.Contents.{count-layouts_from}
 use Rattle.awk_layout.specs.Layout.{count, layouts_from}
 use Rattle.awk_layout.specs.Valid.{AreNames, AllReach}
-use Rattle.awk_zip.proofs.RowLaws.{reach_long}
+use Rattle.awk_open.proofs.LayoutParts.{reach_long}
 use Rattle.awk_zip.proofs.rows.row_node.Goals as goal
 
 pub row-requires-clause-valid : goal.row-requires-clause-valid

@@ -1,15 +1,13 @@
 use Rattle.std.proofs.Common.{◌≡◌, ◌∙◌, ap, sym, subst, arith}
 use Rattle.std.specs.Prelude.{option_map, Ok, Err}
-use Rattle.awk_types.specs.Faults.{fault_told}
+use Rattle.awk_types.specs.Faults.{fault_told, limit_refused}
 use Rattle.awk_types.specs.View.{typ_of}
 use Rattle.awk_types.proofs.RefusalLaws.{Gives-Err, refused_or-Ok}
 use Rattle.awk_layout.specs.Datum.{datum_of, IsDatum}
 use Rattle.awk_pair_operands.specs.First.{all_data}
-use Rattle.awk_pair_types.specs.Limits.{limit_refused}
 use Rattle.awk_zip.specs.Counted.{size_if}
 use Rattle.awk_zip.specs.Zip.{zip_of, zip_type}
-use Rattle.awk_zip.proofs.ZipLaws.{told_type, told_pair, told_large, made}
-use Rattle.awk_zip.proofs.ZipLaws.{datum_made, is_zipped}
+use Rattle.awk_zip.proofs.ZipLaws.{told_type, told_pair, told_large, made, datum_made, is_zipped}
 use Rattle.awk_zip.proofs.zipping.zip_operands.Goals as goal
 
 pub returns-in_err-typ-clause-answer : goal.returns-in_err-typ-clause-answer

@@ -11,14 +11,14 @@ use Rattle.awk_open.specs.Opened.{AreLong}
 use Rattle.awk_pair_operands.specs.Answer.{shared_ends}
 use Rattle.awk_pair_operands.specs.First.{all_data}
 use Rattle.awk_pair_operands.specs.Pairs.{leaf_types, pair_type, pair_values}
+use Rattle.awk_pair_operands.proofs.TypeLaws.{columns-length}
 use Rattle.awk_zip.proofs.OverLaws.{overs-same}
-use Rattle.awk_zip.proofs.RowLaws.{columns_length, types_length, first_long, columns_long}
-use Rattle.awk_zip.proofs.RowLaws.{rows_items, ends_typed}
+use Rattle.awk_zip.proofs.RowLaws.{types_length, first_long, columns_long, rows_items, ends_typed}
 use Rattle.awk_zip.proofs.zipping.zip_pairs.Goals as goal
 
 pub get-requires : goal.get-requires
 get-requires g c =
-    let e = columns_length c.args.depth c.args.xs.now c.in_ok-paired.paired.leaves
+    let e = columns-length c.args.depth c.args.xs.now c.in_ok-paired.paired.leaves
     c.in_ok-paired.ensures.types in
     omega (arith, e, c.requires.some)
 
@@ -34,7 +34,7 @@ row_node-requires-clause-long g c =
 pub row_node-requires-clause-names : goal.row_node-requires-clause-names
 row_node-requires-clause-names g c =
     subst (λ m. AreNames (option_map (λ names. names.now) c.args.names) m)
-    (sym (columns_length c.args.depth c.args.xs.now c.in_ok-paired.paired.leaves
+    (sym (columns-length c.args.depth c.args.xs.now c.in_ok-paired.paired.leaves
     c.in_ok-paired.ensures.types)) c.requires.names
 
 pub framed-requires : goal.framed-requires

@@ -1,7 +1,7 @@
 use Rattle.std.proofs.Common.{◌≡◌, ◌∙◌, ap, sym, subst, arith, false, Some}
 use Rattle.std.specs.Prelude.{option_map, []}
 use Rattle.awk_types.specs.DataType.{row_type, types_from}
-use Rattle.awk_types.specs.Faults.{fault_told}
+use Rattle.awk_types.specs.Faults.{fault_told, limit_refused}
 use Rattle.awk_types.specs.Gives.{Gives, refused_or}
 use Rattle.awk_types.specs.View.{typ_of}
 use Rattle.awk_layout.specs.Typing.{array_type}
@@ -11,9 +11,8 @@ use Rattle.awk_frames.specs.View.{shape_of}
 use Rattle.awk_open.proofs.OpenedKinds.{type-rows}
 use Rattle.awk_pair_operands.specs.First.{all_data}
 use Rattle.awk_pair_operands.specs.Pairs.{pair_type}
-use Rattle.awk_pair_types.specs.Limits.{limit_refused}
+use Rattle.awk_pair_operands.proofs.TypeLaws.{columns-length}
 use Rattle.awk_pair_types.proofs.DepthLaws.{never_wrong}
-use Rattle.awk_zip.proofs.RowLaws.{columns_length}
 use Rattle.awk_zip.specs.Zip.{zip_type}
 use Rattle.awk_zip.proofs.zipping.zip_typ.Goals as goal
 
@@ -28,7 +27,7 @@ row_node-requires g c = record {
   long = c.in_ok-none.ensures.long;
   few = omega arith;
   names = subst (λ m. AreNames (option_map (λ names. names.now) c.args.names) m)
-      (sym (columns_length c.args.depth c.args.xs.now c.in_ok-none.none.leaves
+      (sym (columns-length c.args.depth c.args.xs.now c.in_ok-none.none.leaves
       c.in_ok-none.ensures.types)) c.requires.names;
 }
 

@@ -1,9 +1,10 @@
 use Rattle.std.proofs.Common.{◌≡◌, None, subst, sym}
 use Rattle.awk_columns.specs.Joined.{IsJoined}
 use Rattle.awk_columns.specs.declared.lists.Joined.TheVariants.{Lists}
+use Rattle.awk_layout.specs.Filler.{filler_of}
 use Rattle.awk_layout.specs.Typing.{array_type}
 use Rattle.awk_fill.specs.Filled.{IsFilled}
-use Rattle.awk_fill.specs.FillNone.{filler_of, filler_refusal}
+use Rattle.awk_fill.specs.FillNone.{filler_refusal}
 use Rattle.awk_fill.proofs.FillLaws.{filled_given, filled_spoilt, filled_fine}
 use Rattle.awk_fill.proofs.filling.FillingListOp.column.Goals as goal
 

@@ -2,13 +2,13 @@ use Rattle.std.proofs.Common.{◌≡◌, arith}
 use Rattle.awk_lanes.specs.Numbers.{int_of}
 use Rattle.awk_jagged_places.specs.Leaves.{take_at}
 use Rattle.awk_jagged_places.proofs.PutLaws.{puts-next, next-room}
-use Rattle.awk_jagged_rows.specs.Rows.{length_by}
+use Rattle.awk_columns.specs.Lists.{length_of}
 use Rattle.awk_jagged_places.proofs.places.TakenNumberLists.put_list.Goals as goal
 
 pub push-requires-clause-room : goal.push-requires-clause-room
 push-requires-clause-room g c =
     next-room (take_at c.args.self.now.xs.now c.args.self.now.ws.now c.args.i)
-    (length_by c.args.self.now.ws.now c.args.i) c.loop-k.k c.args.maker.now c.loop-k.maker
+    (length_of c.args.self.now.ws.now c.args.i) c.loop-k.k c.args.maker.now c.loop-k.maker
     c.requires.room (omega (arith, c.loop-k-test.true, c.span_of-by.ensures.length))
     c.loop-k.invariant
 

@@ -4,7 +4,7 @@ use Rattle.awk_lanes.specs.Places.{size_of}
 use Rattle.awk_layout.specs.Valid.{len}
 use Rattle.awk_jagged_places.specs.Leaves.{number_taken}
 use Rattle.awk_jagged_places.proofs.PutLaws.{puts-next, next-room}
-use Rattle.awk_jagged_rows.specs.Rows.{length_by}
+use Rattle.awk_columns.specs.Lists.{length_of}
 use Rattle.awk_jagged_places.proofs.taken.TakenNumbersNumberLists.put_list.Goals as goal
 
 pub number-requires-clause-list : goal.number-requires-clause-list
@@ -17,7 +17,7 @@ pub push-requires-clause-room : goal.push-requires-clause-room
 push-requires-clause-room g c =
     next-room (number_taken c.args.self.now.picks.now.xs.now c.args.self.now.picks.now.ws.now
     c.args.self.now.numbers.now c.args.i)
-    (length_by c.args.self.now.picks.now.ws.now c.args.i) c.loop-k.k c.args.maker.now
+    (length_of c.args.self.now.picks.now.ws.now c.args.i) c.loop-k.k c.args.maker.now
     c.loop-k.maker c.requires.room
     (omega (arith, c.loop-k-test.true, c.span_of-by.ensures.length)) c.loop-k.invariant
 

@@ -1,4 +1,4 @@
-use Rattle.std.proofs.Common.{ap, sym, ◌∙◌, ◌*◌, length, List, ℕ}
+use Rattle.std.proofs.Common.{ap, ◌∙◌, ◌*◌, length, List, ℕ}
 use Rattle.std.specs.List.{flat_map}
 use Rattle.std.specs.Prelude.{vec_capacity}
 use Rattle.awk_lanes.proofs.IndexLaws.{joined}

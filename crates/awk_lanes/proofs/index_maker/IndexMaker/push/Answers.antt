@@ -1,4 +1,4 @@
-use Rattle.std.proofs.Common.{◌≡◌, [], ◌∷◌, ap, subst, arith, ◌∙◌, FitsSigned, w64}
+use Rattle.std.proofs.Common.{[], ◌∷◌, ap, subst, arith, ◌∙◌, FitsSigned, w64}
 use Rattle.std.proofs.lemmas.Int.{to_z-of_z}
 use Rattle.std.proofs.lemmas.List.{length-append}
 use Rattle.std.specs.Int.{cast_unsigned}

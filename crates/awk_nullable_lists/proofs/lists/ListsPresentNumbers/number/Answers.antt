@@ -1,5 +1,6 @@
 use Rattle.std.proofs.Common.{ap₂, sym, ◌∙◌, subst}
-use Rattle.awk_parts.specs.Lanes.{index_or_null, some_place}
+use Rattle.awk_lanes.specs.Places.{index_or_null}
+use Rattle.awk_parts.specs.Lanes.{some_place}
 use Rattle.awk_nullable.specs.Numbers.{leaf_number, numbers_from, IsFilled}
 use Rattle.awk_nullable_lists.proofs.NullableLaws.{index_there, index_nowhere}
 use Rattle.awk_nullable_lists.proofs.lists.ListsPresentNumbers.number.Goals as goal

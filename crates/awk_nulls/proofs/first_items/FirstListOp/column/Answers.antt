@@ -1,7 +1,7 @@
 use Rattle.std.proofs.Common.{refl}
 use Rattle.awk_gather.specs.Peeled.{IsPickedOpt}
 use Rattle.awk_nulls.specs.Lanes.{firsts_lane}
-use Rattle.awk_columns.proofs.SpanLaws.{lists_within}
+use Rattle.awk_list_ends.proofs.SpanLaws.{lists_within}
 use Rattle.awk_nulls.proofs.FirstLaws.{firsts_index, firsts_given}
 use Rattle.awk_nulls.proofs.first_items.FirstListOp.column.Goals as goal
 

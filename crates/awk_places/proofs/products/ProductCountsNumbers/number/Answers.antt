@@ -1,6 +1,6 @@
 use Rattle.std.proofs.Common.{arith}
+use Rattle.awk_lanes.proofs.CountedLanes.{one_within}
 use Rattle.awk_places.specs.Products.{product_count}
-use Rattle.awk_places.proofs.SlotLaws.{one_within}
 use Rattle.awk_places.proofs.products.ProductCountsNumbers.number.Goals as goal
 
 pub unreachable-requires : goal.unreachable-requires

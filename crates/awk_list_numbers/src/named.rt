@@ -1,0 +1,82 @@
+//! The numbers that the index of an option names, moved at once.
+ghost use Rattle.std.specs.Prelude.{◌≡◌, ◌<◌, ◌^◌, IfOk};
+ghost use Rattle.awk_lanes.specs.Places.{size_of, IsOptionalIndex};
+ghost use Rattle.awk_layout.specs.Layout.{flat};
+ghost use Rattle.awk_counts.specs.Counted.{first_of, numbers_at, present_at};
+
+use crate::moved::{Places, list_numbers};
+use awk_counts::count_present;
+use awk_lanes::{Arena, Index, Lane, Lengths, Steps};
+use awk_layout::{Array, Class, Node};
+use awk_types::NoMemory;
+use std::alloc::Global;
+use std::sync::ledger::Ledger;
+
+/// The places that the index of an option names, each as a list of one place.
+#[derive(Drop)]
+struct NamedPlaces<'b, 'a> {
+    index: &'b Index<'a>,
+}
+
+impl<'b, 'a> Lengths for NamedPlaces<'b, 'a> {
+    ghost use Rattle.std.specs.Prelude.{length};
+    ghost use Rattle.awk_lanes.specs.Places.{size_of};
+    ghost use Rattle.awk_counts.specs.Counted.{present_at};
+
+    ghost length = { λ f i. length (present_at f.index.now i) };
+
+    ghost size = { λ f. size_of f.index.now };
+
+    fn length<L: Ledger>(&self, i: u64, _steps: &mut Steps<L>) -> u64 {
+        match self.index.option_place(i) {
+            Some(_) => 1,
+            None => 0,
+        }
+    }
+}
+
+impl<'b, 'a> Places for NamedPlaces<'b, 'a> {
+    ghost use Rattle.awk_lanes.specs.Places.{place_at};
+
+    ghost place = { λ f i k. place_at f.index.now i };
+
+    fn place<L: Ledger>(&self, i: u64, _k: u64, _steps: &mut Steps<L>) -> u64 {
+        match self.index.option_place(i) {
+            Some(place) => place,
+            None => 0,
+        }
+    }
+}
+
+/// The numbers of a lane that the index of an option names, in its order.
+pub fn named_numbers<'a, L: Ledger>(
+    alloc: Global,
+    index: &Index,
+    lane: &Lane,
+    arena: &'a Arena,
+    steps: &mut Steps<L>,
+) -> Result<Array<'a>, NoMemory>
+    requires index { IsOptionalIndex index.now (size_of lane.now) }
+    requires small { size_of index.now < 2 ^ 63 }
+    ensures { let places = first_of (present_at index.now) (size_of index.now) in
+        IfOk result (λ r. r ≡ flat (numbers_at lane.now places)) }
+{
+    let n = index.len();
+    let total = count_present(index);
+    let named = NamedPlaces { index };
+    let numbers = list_numbers(lane, n, total, &named, arena, steps)?;
+    let array = Array::of_node(alloc, Node::numpy(numbers, steps))?;
+    Ok(array)
+}
+
+/// Whether an array is an option over numbers behind an index. No clause says so: it is asked only
+/// to choose the quicker of two ways.
+pub fn has_numbers(x: &Array) -> bool {
+    match x.node().class() {
+        Class::IndexedOption { content, .. } => match content.class() {
+            Class::Numpy { .. } => true,
+            _ => false,
+        },
+        _ => false,
+    }
+}

@@ -1,6 +1,0 @@
-use Rattle.std.proofs.Common.{length, ap, ◌∙◌}
-use Rattle.awk_counts.specs.Counted.{present_place}
-use Rattle.awk_option_nodes.proofs.presence.one_if_present.Goals as goal
-
-pub returns : goal.returns
-returns g c = c.one_if.ensures ∙ ap (λ o. length (present_place o)) c.option_place_in.ensures.value
