@@ -2,3 +2,4 @@ pub mod FitLaws
 pub mod SpanLaws
 pub mod ExtremeLaws
 pub mod BlockLaws
+pub mod SumLaws

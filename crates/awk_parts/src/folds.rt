@@ -1,5 +1,6 @@
 //! Sums and products of parts.
 ghost use Rattle.std.specs.Prelude.{◌<◌, ◌≤◌, IfOk};
+ghost use Rattle.awk_types.specs.declared.primitive.Primitive.TheVariants as Prims;
 ghost use Rattle.awk_numbers.specs.Folds.{whole_numbers, IsNear};
 ghost use Rattle.awk_parts.specs.Fits.{IsFitting, AreFitting};
 ghost use Rattle.awk_parts.specs.Lanes.{folded_at};
@@ -7,7 +8,8 @@ ghost use Rattle.awk_parts.specs.Spans.{span_count, AreSpanned};
 
 use crate::fits::fitting;
 use crate::parts::{Parts, span_of};
-use awk_lanes::{Arena, Lane, LaneMaker, NoMemory, Num, Steps};
+use crate::sums::folded_early;
+use awk_lanes::{Arena, IndexMaker, Lane, LaneMaker, NoMemory, Num, Steps};
 use awk_layout::kind_of;
 use awk_numbers::{Fold, folded};
 use awk_types::Prim;
@@ -35,6 +37,7 @@ pub trait Totals {
 }
 
 /// The number at place i as one of a primitive, if it is one.
+#[inline(always)]
 fn total_at<S: Totals, L: Ledger>(
     prim: Prim,
     source: &S,
@@ -52,8 +55,9 @@ fn total_at<S: Totals, L: Ledger>(
 }
 
 /// The first n numbers as those of a primitive, or none where one does not fit.
+#[inline(always)]
 #[tactic(auto, using(awk_lanes::proofs::MadeLanes::making))]
-pub fn fitting_lane<'a, S: Totals, L: Ledger>(
+fn fitting_numbers<'a, S: Totals, L: Ledger>(
     prim: Prim,
     n: u64,
     source: &S,
@@ -72,6 +76,48 @@ pub fn fitting_lane<'a, S: Totals, L: Ledger>(
         }
     }
     Ok(Some(maker.finish()))
+}
+
+/// The same of i64, whose lane is made without asking for its kind.
+#[tactic(auto, using(awk_lanes::proofs::MadeLanes::making))]
+fn fitting_ints<'a, S: Totals, L: Ledger>(
+    n: u64,
+    source: &S,
+    arena: &'a Arena,
+    steps: &mut Steps<L>,
+) -> Result<Option<Lane<'a>>, NoMemory>
+    requires ready { S.IsReady source.now }
+    requires within { n ≤ S.size source.now }
+    ensures { IfOk result (AreFitting Prims.I64 (S.at source.now) n) }
+{
+    let mut maker = IndexMaker::new(n, arena)?;
+    for i in 0..n {
+        match total_at(Prim::I64, source, i, steps) {
+            Some(number) => maker.push(number),
+            None => return Ok(None),
+        }
+    }
+    Ok(Some(maker.finish()))
+}
+
+/// The first n numbers as those of a primitive, or none where one does not fit. There is a loop for
+/// each primitive that sums and products are of.
+pub fn fitting_lane<'a, S: Totals, L: Ledger>(
+    prim: Prim,
+    n: u64,
+    source: &S,
+    arena: &'a Arena,
+    steps: &mut Steps<L>,
+) -> Result<Option<Lane<'a>>, NoMemory>
+    requires ready { S.IsReady source.now }
+    requires within { n ≤ S.size source.now }
+    ensures { IfOk result (AreFitting prim (S.at source.now) n) }
+{
+    match prim {
+        Prim::I64 => fitting_ints(n, source, arena, steps),
+        Prim::U64 => fitting_numbers(Prim::U64, n, source, arena, steps),
+        _ => fitting_numbers(prim, n, source, arena, steps),
+    }
 }
 
 /// The sums or products of parts.
@@ -96,7 +142,10 @@ impl<'c, 'b, 'a> Totals for PartTotals<'c, 'b, 'a> {
 
     fn total<L: Ledger>(&self, i: u64, _steps: &mut Steps<L>) -> Option<i128> {
         let span = span_of(self.parts, i);
-        folded(self.how, self.parts.numbers, span.start, span.stop)
+        match folded_early(self.how, self.parts.numbers, span) {
+            Some(z) => Some(i128::from(z)),
+            None => folded(self.how, self.parts.numbers, span.start, span.stop),
+        }
     }
 }
 

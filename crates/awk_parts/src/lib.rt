@@ -5,9 +5,9 @@
 //! or none where one does not fit its primitive, and `tally_parts` their counts; `extremes_of` is
 //! the least or the greatest of each part, `places_of` where it stands; `present_parts` tells which
 //! parts have a number. `fitting_lane` makes a lane of any numbers that are judged so (`Totals`).
-//! Numbers that fit an i64 are compared as such, in a loop for each kind; whether some or all of a
-//! part are not 0 is told of them at the first that settles it, and of truth values at the first
-//! block.
+//! Numbers that fit an i64 are compared as such, in a loop for each kind, and their sums and
+//! products are made in numbers of 64 bits where these hold them. Whether some or all of a part are
+//! not 0 is told of them at the first that settles it, and of truth values at the first block.
 #![tactic(auto)]
 
 mod blocks;
@@ -18,6 +18,7 @@ mod folds;
 mod offsets;
 mod parts;
 mod places;
+mod sums;
 mod tallies;
 mod truths;
 mod wide;

@@ -113,7 +113,7 @@ fn cell_place<const W: usize, C: Cell<W>>(
 
 /// Truth values, each in a group of its own.
 #[inline(always)]
-fn truth_groups<'a>(bytes: &'a [u8]) -> &'a [[u8; 1]]
+pub(crate) fn truth_groups<'a>(bytes: &'a [u8]) -> &'a [[u8; 1]]
     ensures { map (λ g. element Kind.Bool (number Kind.Bool g)) result.now
         ≡ map (λ b. element Kind.Bool (pos b)) bytes.now }
 {

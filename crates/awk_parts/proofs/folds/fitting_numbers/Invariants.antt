@@ -1,7 +1,7 @@
 use Rattle.awk_lanes.proofs.MadeLanes.{IsSoFar}
 use Rattle.awk_layout.specs.Kinds.{kind_of}
 use Rattle.awk_parts.specs.Fits.{AllFit}
-use Rattle.awk_parts.proofs.folds.fitting_lane.Given as goal
+use Rattle.awk_parts.proofs.folds.fitting_numbers.Given as goal
 
 abbrev pub invariant-loop-i : goal.invariant-loop-i
 invariant-loop-i g l = record {
