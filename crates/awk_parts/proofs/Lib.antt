@@ -3,3 +3,4 @@ pub mod SpanLaws
 pub mod ExtremeLaws
 pub mod BlockLaws
 pub mod SumLaws
+pub mod CountLaws

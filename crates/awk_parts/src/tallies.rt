@@ -1,15 +1,18 @@
 //! Counts of parts, and whether some or all of their numbers are not 0.
-ghost use Rattle.std.specs.Prelude.{◌≡◌, IfOk};
+ghost use Rattle.std.specs.Prelude.{◌≡◌, ◌-◌, ◌≤◌, length, IfOk};
+ghost use Rattle.std.specs.List.{slice_range};
 ghost use Rattle.awk_lanes.specs.Made.{lane_of};
-ghost use Rattle.awk_numbers.specs.Folds.{whole_numbers, tally_kind};
+ghost use Rattle.awk_lanes.specs.Numbers.{int_of, IsOf};
+ghost use Rattle.awk_numbers.specs.Folds.{whole_numbers, tallied, tally_kind};
 ghost use Rattle.awk_parts.specs.Lanes.{tallied_at};
 ghost use Rattle.awk_parts.specs.Spans.{span_count, AreSpanned};
 
-use crate::parts::{Parts, span_of};
+use crate::counts::counted_early;
+use crate::parts::{Parts, Span, span_of};
 use crate::truths::told_early;
 use awk_kernels::Kernels;
-use awk_lanes::{Arena, Kind, Lane, NoMemory, Num, Numbers, Steps, made_lane};
-use awk_numbers::{Tally, tally_of};
+use awk_lanes::{Arena, Kind, Lane, NoMemory, Num, Numbers, Steps, made_lane, number};
+use awk_numbers::{Tally, Whole, tally_of};
 use std::sync::ledger::Ledger;
 
 /// The kind of what is told.
@@ -19,6 +22,21 @@ pub fn kind_of_tally(how: Tally) -> Kind
     match how {
         Tally::Items | Tally::Nonzero => Kind::I64,
         Tally::Any | Tally::All => Kind::Bool,
+    }
+}
+
+/// What is told of the numbers from a start below a stop, where truth values are counted in blocks.
+fn counted<N: Kernels>(how: Tally, numbers: &Whole, span: Span, kernels: &N) -> Num
+    requires order { span.start ≤ span.stop }
+    requires within { span.stop ≤ length (whole_numbers numbers.now) }
+    requires few { span.stop - span.start ≤ 1073741824 }
+    ensures number { int_of result
+        ≡ tallied how (slice_range (whole_numbers numbers.now) span.start span.stop) }
+    ensures kind { IsOf (tally_kind how) result }
+{
+    match counted_early(how, numbers, span) {
+        Some(n) => number(n),
+        None => tally_of(how, numbers, span.start, span.stop, kernels),
     }
 }
 
@@ -50,7 +68,7 @@ impl<'c, 'b, 'a, N: Kernels> Numbers for TalliedParts<'c, 'b, 'a, N> {
         let span = span_of(self.parts, i);
         match told_early(self.how, numbers, span) {
             Some(told) => Num::Truth(told),
-            None => tally_of(self.how, numbers, span.start, span.stop, self.kernels),
+            None => counted(self.how, numbers, span, self.kernels),
         }
     }
 }
