@@ -6,8 +6,8 @@ use Rattle.std.specs.Prelude.{ℤ, pos, negsuc, ◌<ℤ◌, Bool, true, false, �
 use Rattle.std.specs.Prelude.{Some, None, is_none, if◌then◌else◌}
 use Rattle.std.specs.List.{range_with_len, list_any, AllByRecursion}
 use Rattle.std.proofs.lemmas.Int.{ints}
-use Rattle.std.proofs.lemmas.List.{get_or-map, length-map, map-append, append-nil}
-use Rattle.std.proofs.lemmas.List.Folds.{list_any_more}
+use Rattle.std.proofs.lemmas.List.{get_or-map, length-map, map-append, append-nil, take_all}
+use Rattle.std.proofs.lemmas.List.Folds.{list_any_at, list_any_more}
 use Rattle.std.proofs.lemmas.Bool.{or_parts}
 use Rattle.std.proofs.lemmas.Simd.{map-map}
 use Rattle.awk_base.proofs.Lists.{map-by}
@@ -27,7 +27,7 @@ use Rattle.awk_layout.specs.Layout.{Layout}
 use Rattle.awk_layout.specs.Valid.{len}
 use Rattle.awk_layout.specs.Item.{item, at_option}
 use Rattle.awk_layout.specs.Typing.{layout_type, array_items}
-use Rattle.awk_gather.specs.Arrays.{pick}
+use Rattle.awk_gather.specs.Arrays.{array_item, pick}
 use Rattle.awk_lanes.specs.Made.{lane_of}
 use Rattle.awk_layout.proofs.ArrayItems.{length-array_items, get_or-array_items}
 use Rattle.awk_select.specs.Cells.{IsBelow, place_number, places_lane, mask_numbers}
@@ -353,6 +353,32 @@ pub none-more : (p : Value → Bool) (vs : List Value) (i : ℕ) → i < length 
     → list_any p (take i vs) ≡ false → p (get_or vs i null) ≡ false
     → list_any p (take (i + 1) vs) ≡ false
 none-more p vs i l h g = list_any_more p vs i null l ∙ ap₂ (λ a b. a || b) h g
+
+module _ (n : ℕ) (ix : Layout) (i : ℕ) where
+  listed : i < len ix → i < length (array_items ix)
+  listed l = omega (arith, l, length-array_items ix)
+
+  -- an item that names no place
+  pub outside-here : i < len ix → is_outside n (array_item ix i) ≡ true
+      → list_any (is_outside n) (array_items ix) ≡ true
+  outside-here l h =
+      list_any_at (is_outside n) (array_items ix) i null (listed l)
+      (ap (is_outside n) (get_or-array_items ix i l) ∙ h)
+
+  -- one item more that is not outside
+  pub inside-more : i < len ix → list_any (is_outside n) (take i (array_items ix)) ≡ false
+      → is_outside n (array_item ix i) ≡ false
+      → list_any (is_outside n) (take (i + 1) (array_items ix)) ≡ false
+  inside-more l h e =
+      none-more (is_outside n) (array_items ix) i (listed l) h
+      (ap (is_outside n) (get_or-array_items ix i l) ∙ e)
+
+  -- none of all items is
+  pub inside-all : len ix ≤ i → list_any (is_outside n) (take i (array_items ix)) ≡ false
+      → list_any (is_outside n) (array_items ix) ≡ false
+  inside-all l h =
+      ap (list_any (is_outside n))
+      (sym (take_all i (array_items ix) (omega (arith, l, length-array_items ix)))) ∙ h
 
 -- ---- a mask has leaves
 

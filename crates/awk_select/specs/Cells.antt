@@ -1,17 +1,21 @@
 -- The numbers or truth values of an array as lanes, with its nulls.
-use Rattle.std.specs.Prelude.{◌≡◌, ℕ, ◌<◌, ℤ, pos, negsuc, List, [], ◌∷◌, map, Option, Some, None}
+use Rattle.std.specs.Prelude.{◌≡◌, ℕ, ◌<◌, ℤ, pos, negsuc, true, false, List, [], ◌∷◌, map}
+use Rattle.std.specs.Prelude.{Option, Some, None}
+use Rattle.std.specs.List.{list_any}
 use Rattle.awk_types.specs.Value.{Value, null}
 use Rattle.awk_lanes.specs.Column.{Column}
+use Rattle.awk_lanes.specs.Made.{lane_of}
 use Rattle.awk_lanes.specs.Numbers.{int_of}
 use Rattle.awk_lanes.specs.Places.{size_of, at, option_place_at, IsOptionKind}
 use Rattle.awk_lanes.specs.declared.kind.Kind.TheVariants.{I64}
 use Rattle.awk_lanes.specs.declared.kind.Num.{Num}
 use Rattle.awk_layout.specs.Layout.{Layout}
 use Rattle.awk_layout.specs.Shown.{value_of_num}
+use Rattle.awk_layout.specs.Typing.{array_items}
 use Rattle.awk_layout.specs.Valid.{len}
 use Rattle.awk_layout.specs.Item.{leaf_value, at_option}
 use Rattle.awk_gather.specs.Arrays.{array_item}
-use Rattle.awk_select.specs.Picks.{mask_place, take_place}
+use Rattle.awk_select.specs.Picks.{mask_place, take_place, is_outside}
 use Rattle.awk_select.specs.declared.cells.Cells.{Cells}
 use Rattle.awk_select.specs.declared.cells.Cells.TheVariants.{Nulls, Plain, Optional}
 
@@ -58,6 +62,18 @@ mask_numbers m i = map place_number (mask_place i (array_item m i))
 -- the place that item i of an index names, as a number of a lane
 abbrev pub take_number : ℕ → Layout → ℕ → ℤ
 take_number n ix i = place_number (take_place n (array_item ix i))
+
+-- an item of an index names no place of n items, or its place is this number of a lane
+abbrev pub IsTaken : ℕ → Value → Option Num → Type 0
+IsTaken n v None = is_outside n v ≡ true
+IsTaken n v (Some x) = (is_outside n v ≡ false) × (int_of x ≡ place_number (take_place n v))
+
+-- some item of an index does not, or the places of all are this lane
+abbrev pub AreTaken : ℕ → Layout → Option Column → Type 0
+AreTaken n ix None = list_any (is_outside n) (array_items ix) ≡ true
+AreTaken n ix (Some p) =
+    (list_any (is_outside n) (array_items ix) ≡ false)
+    × (p ≡ lane_of I64 (len ix) (take_number n ix))
 
 -- these numbers, none or one, are all that code holds
 abbrev pub numbers_shown : Option Num → List ℤ

@@ -1,5 +1,6 @@
 //! The items of an array at the places of an index.
-ghost use Rattle.std.specs.Prelude.{◌≡◌, ◌<◌, ◌≤◌, ◌^◌, true, None, length, not, IfOk};
+ghost use Rattle.std.specs.Prelude.{◌≡◌, ◌<◌, ◌≤◌, ◌^◌, true, None, length, not};
+ghost use Rattle.std.specs.Prelude.{IfOk, IfSome, IsTrue};
 ghost use Rattle.std.specs.List.{list_any};
 ghost use Rattle.awk_types.specs.Datum.{arr};
 ghost use Rattle.awk_types.specs.Faults.{fault_told};
@@ -7,23 +8,23 @@ ghost use Rattle.awk_types.specs.Gives.{Gives, refused_or, ◌or◌};
 ghost use Rattle.awk_types.specs.Limit.{limit};
 ghost use Rattle.awk_types.specs.View.{typ_of};
 ghost use Rattle.awk_types.specs.ItemLimit.{too_many};
-ghost use Rattle.awk_lanes.specs.Numbers.{int_of, IsOf};
-ghost use Rattle.awk_lanes.specs.declared.kind.Kind.TheVariants as Kind;
+ghost use Rattle.awk_lanes.specs.Numbers.{IsOf};
+ghost use Rattle.awk_lanes.specs.declared.kind.Kind.TheVariants as Kinds;
 ghost use Rattle.awk_layout.specs.Datum.{IsDatum, datum_of};
 ghost use Rattle.awk_layout.specs.Shown.{value_of_num};
 ghost use Rattle.awk_layout.specs.Typing.{array_type, array_items, array_datum};
 ghost use Rattle.awk_layout.specs.Valid.{len};
 ghost use Rattle.awk_gather.specs.Arrays.{array_item};
-ghost use Rattle.awk_lanes.specs.Made.{lane_of};
-ghost use Rattle.awk_select.specs.Cells.{AreCells, take_number};
+ghost use Rattle.awk_select.specs.Cells.{AreCells, AreTaken, IsTaken};
 ghost use Rattle.awk_select.specs.Picks as picks;
 ghost use Rattle.awk_select.specs.Picks.{take_of, take_places, is_outside, index_refused};
 ghost use Rattle.awk_select.specs.Picks.{picked, picked_type};
 
 use crate::cells::{Cells, cells_of};
 use crate::picked::{judge_type, pick};
-use crate::places::{place_in, place_of};
-use awk_lanes::{Arena, IndexMaker, Lane, NoMemory, Num, Steps, number};
+use crate::places::place_in;
+use crate::values::{Sparse, Values};
+use awk_lanes::{Arena, IndexMaker, Kind, Lane, NoMemory, Num, Steps, number, wide_index};
 use awk_layout::{Array, Datum};
 use awk_types::{Fault, ITEM_LIMIT, Typ, is_numbers};
 use std::alloc::Global;
@@ -98,14 +99,16 @@ fn taken_items<'a, L: Ledger>(
 {
     let cells = cells_of(alloc, ix, arena, steps)?;
     let n = x.len();
-    if !are_inside(ix, &cells, n, steps) {
-        return Err(Fault::Index);
-    }
     if ix.len() > ITEM_LIMIT {
+        if !are_inside(ix, &cells, n, steps) {
+            return Err(Fault::Index);
+        }
         return Err(Fault::Size);
     }
-    let places = take_lane(ix, &cells, n, arena, steps)?;
-    pick(alloc, x, &places, ix.typ(), arena, steps)
+    match take_lane(ix, &cells, n, arena, steps)? {
+        None => Err(Fault::Index),
+        Some(places) => pick(alloc, x, &places, ix.typ(), arena, steps),
+    }
 }
 
 // Whether a number of an index names a place of n items.
@@ -144,41 +147,102 @@ fn are_inside<L: Ledger>(ix: &Array, cells: &Cells, n: u64, steps: &mut Steps<L>
     true
 }
 
-// The place of n items that item i of an index names, or -1 for null.
-fn taken_number<L: Ledger>(ix: &Array, cells: &Cells, n: u64, i: u64, steps: &mut Steps<L>) -> Num
-    requires cells { AreCells ix.now cells.now }
-    requires within { i < len ix.now }
+// The place of n items that a number of an index names, or none where it names none.
+#[inline(always)]
+fn named_place(n: u64, x: Num) -> Option<Num>
     requires small { n ≤ 2 ^ 63 }
-    ensures number { int_of result ≡ take_number n ix.now i }
-    ensures kind { IsOf Kind.I64 result }
+    ensures kind { IfSome result (λ z. IsOf Kinds.I64 z) }
+    ensures place { IsTaken n (value_of_num x) result }
 {
-    match cells.at(i, steps) {
-        None => Num::Int(-1),
-        Some(x) => match place_of(n, x) {
-            None => Num::Int(-1),
-            Some(k) => number(k),
+    match x {
+        Num::Int(i) => match place_in(n, i) {
+            None => None,
+            Some(k) => Some(number(k)),
         },
+        Num::Nat(k) => { if k < n { Some(number(k)) } else { None } }
+        Num::Truth(_) => Some(Num::Int(-1)),
     }
 }
 
-// The places of n items that an index names, and -1 for each null.
-#[tactic(auto, using(awk_lanes::proofs::MadeLanes::making))]
-fn take_lane<'a, L: Ledger>(
+// The place of n items that item i of an index names, -1 for null, or none where it names none.
+#[inline(always)]
+fn taken_place<V: Values, L: Ledger>(
     ix: &Array,
-    cells: &Cells,
+    values: &V,
+    n: u64,
+    i: u64,
+    steps: &mut Steps<L>,
+) -> Option<Num>
+    requires cells { AreCells ix.now (V.cells values.now) }
+    requires within { i < len ix.now }
+    requires small { n ≤ 2 ^ 63 }
+    ensures kind { IfSome result (λ z. IsOf Kinds.I64 z) }
+    ensures place { IsTaken n (array_item ix.now i) result }
+{
+    match values.value(i, steps) {
+        None => Some(Num::Int(-1)),
+        Some(x) => named_place(n, x),
+    }
+}
+
+// The places of n items that an index names, and -1 for each null, in one pass over its values; or
+// none where an item names no place.
+fn places_in<'a, V: Values, L: Ledger>(
+    ix: &Array,
+    values: &V,
     n: u64,
     arena: &'a Arena,
     steps: &mut Steps<L>,
-) -> Result<Lane<'a>, NoMemory>
-    requires cells { AreCells ix.now cells.now }
+) -> Result<Option<Lane<'a>>, NoMemory>
+    requires cells { AreCells ix.now (V.cells values.now) }
     requires small { n ≤ 2 ^ 63 }
-    ensures lane { IfOk result (λ r. r ≡ lane_of Kind.I64 (len ix.now) (take_number n ix.now)) }
+    ensures { IfOk result (AreTaken n ix.now) }
 {
     let count = ix.len();
     let mut maker = IndexMaker::new(count, arena)?;
     for i in 0..count {
-        let place = taken_number(ix, cells, n, i, steps);
+        let Some(place) = taken_place(ix, values, n, i, steps) else {
+            return Ok(None);
+        };
         maker.push(place);
     }
-    Ok(maker.finish())
+    Ok(Some(maker.finish()))
+}
+
+// Whether numbers of both of two kinds are of 64 bits.
+fn are_wide(a: Kind, b: Kind) -> bool
+    ensures { IsTrue result → (a ≡ Kinds.I64) × (b ≡ Kinds.I64) }
+{
+    if a == Kind::I64 {
+        return b == Kind::I64;
+    }
+    false
+}
+
+// The same by the values in the form in which they lie.
+fn take_lane<'a, L: Ledger>(
+    ix: &Array,
+    cells: &Cells<'a>,
+    n: u64,
+    arena: &'a Arena,
+    steps: &mut Steps<L>,
+) -> Result<Option<Lane<'a>>, NoMemory>
+    requires cells { AreCells ix.now cells.now }
+    requires small { n ≤ 2 ^ 63 }
+    ensures { IfOk result (AreTaken n ix.now) }
+{
+    match cells {
+        Cells::Plain(lane) if lane.kind() == Kind::I64 => {
+            let numbers = wide_index(lane, steps);
+            places_in(ix, &numbers, n, arena, steps)
+        }
+        Cells::Optional { index, lane } if are_wide(index.kind(), lane.kind()) => {
+            let values = Sparse {
+                index: wide_index(index, steps),
+                numbers: wide_index(lane, steps),
+            };
+            places_in(ix, &values, n, arena, steps)
+        }
+        _ => places_in(ix, cells, n, arena, steps),
+    }
 }

@@ -3,8 +3,7 @@
 //! The calls are `at`, `step_range`, `mask` and `take`; `is_mask` and `bound_up` are what the
 //! evaluation asks of a mask's type and of the bounds of a range; `place_in` is the place that a
 //! number names; `Cells`, `cells_of` and `place_of` read the values of a mask or an index, for
-//! picks
-//! row by row.
+//! picks row by row.
 #![tactic(auto)]
 
 mod cells;
@@ -14,6 +13,7 @@ mod picked;
 mod place;
 mod places;
 mod ranges;
+mod values;
 
 pub use cells::{Cells, cells_of};
 pub use indexes::take;

@@ -7,6 +7,7 @@ ghost use Rattle.awk_select.specs.Places as places;
 use awk_lanes::Num;
 
 /// A place of n items. A negative number counts from the end.
+#[inline(always)]
 pub fn place_in(n: u64, i: i64) -> Option<u64>
     ensures { result ≡ places.place_in n i }
 {
@@ -18,6 +19,7 @@ pub fn place_in(n: u64, i: i64) -> Option<u64>
 }
 
 // A place that is counted from the first item.
+#[inline(always)]
 fn below(n: u64, k: u64) -> Option<u64>
     ensures { result ≡ places.place_in n (pos k) }
 {
