@@ -6,11 +6,11 @@ ghost use Rattle.awk_lanes.specs.declared.kind.Kind.TheVariants as Kinds;
 ghost use Rattle.awk_layout.specs.Layout.{flat};
 ghost use Rattle.awk_layout.specs.Typing.{array_type};
 ghost use Rattle.awk_layout.specs.Valid.{len};
-ghost use Rattle.awk_select.specs.Cells.{AreCells};
+ghost use Rattle.awk_select.specs.Cells.{AreCells, truth_cells};
 ghost use Rattle.awk_types.specs.Predicates.{is_leaf};
 ghost use Rattle.awk_select.specs.Picks as picks;
 ghost use Rattle.awk_jagged_places.specs.Leaves.{AreLeaves, take_numbers, mask_numbers};
-ghost use Rattle.awk_jagged_places.specs.Leaves.{truth_cells, AreTested};
+ghost use Rattle.awk_jagged_places.specs.Leaves.{AreTested};
 ghost use Rattle.awk_jagged.specs.PickedAt.{ArePlacesOr, ArePicked, AreWithinOr, IsPickedAt};
 ghost use Rattle.awk_jagged.specs.Outcomes.{IsOutcomeOf};
 ghost use Rattle.awk_jagged_rows.specs.Rows.{AreAlike};
@@ -18,12 +18,11 @@ ghost use Rattle.awk_jagged_rows.specs.Rows.{AreAlike};
 use awk_columns::{Bounds, Lists};
 use awk_gather::{gather, gather_opt};
 use awk_jagged_places::{
-    Beside, Kept, Sparse, Taken, TakenNumbers, Truths, Values, beside_lane, kept_lane,
-    lengths_differ, put_lane, truths_of,
+    Beside, Kept, Taken, TakenNumbers, beside_lane, kept_lane, lengths_differ, put_lane,
 };
 use awk_lanes::{Arena, Index, Kind, Lane, Steps, index_of, offsets_within};
 use awk_layout::{Array, Class, Node, wide_numbers};
-use awk_select::{Cells, cells_of, is_mask};
+use awk_select::{Cells, Sparse, Truths, Values, cells_of, is_mask, truths_of};
 use awk_types::{ITEM_LIMIT, NoMemory, is_optional};
 use std::alloc::{AllocError, Global};
 use std::sync::ledger::Ledger;

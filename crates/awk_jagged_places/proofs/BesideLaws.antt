@@ -9,8 +9,8 @@ use Rattle.awk_lanes.specs.Counted.{before}
 use Rattle.awk_columns.specs.Lists.{Listed, length_of}
 use Rattle.awk_select.specs.Cells.{place_number}
 use Rattle.awk_select.specs.Picks.{mask_place}
+use Rattle.awk_select.specs.Kept.{kept}
 use Rattle.awk_jagged_places.specs.Beside.{group_at, groups_beside}
-use Rattle.awk_jagged_places.specs.Kept.{kept}
 use Rattle.awk_jagged_places.specs.Leaves.{mask_at, mask_first, mask_numbers}
 use Rattle.awk_jagged_places.proofs.FlatLists.{length-each}
 use Rattle.awk_jagged_places.proofs.MaskLaws.{first-more, length-more}

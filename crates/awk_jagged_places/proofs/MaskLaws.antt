@@ -1,6 +1,6 @@
 -- Numbers of masks, while a lane of them is made.
-use Rattle.std.specs.Prelude.{◌≡◌, refl, ℕ, zero, suc, ◌+◌, ◌<◌, ◌≤◌, List, ◌++◌, length}
-use Rattle.std.specs.Prelude.{map, Bool, true, false, if◌then◌else◌, ℤ}
+use Rattle.std.specs.Prelude.{◌≡◌, ℕ, zero, suc, ◌+◌, ◌<◌, ◌≤◌, List, ◌++◌, length}
+use Rattle.std.specs.Prelude.{map, true, false, ℤ}
 use Rattle.std.proofs.Common.{arith, ap, sym, ◌∙◌, subst}
 use Rattle.std.proofs.lemmas.List.{length-append}
 use Rattle.awk_types.specs.Value.{Value, int, truth, null, list, row, alt}
@@ -9,7 +9,7 @@ use Rattle.awk_columns.specs.Lists.{Listed, length_of}
 use Rattle.awk_base.proofs.Each.{each_of-more, length-each_of, each_of-room}
 use Rattle.awk_select.specs.Cells.{place_number}
 use Rattle.awk_select.specs.Picks.{mask_place}
-use Rattle.awk_jagged_places.specs.Kept.{kept, Puts}
+use Rattle.awk_select.specs.Kept.{Puts}
 use Rattle.awk_jagged_places.specs.Leaves.{mask_at, mask_first, mask_numbers}
 use Rattle.awk_jagged_rows.specs.Levels.{row_at}
 use Rattle.awk_jagged_rows.specs.Rows.{place_by}
@@ -47,10 +47,6 @@ length-more xs ws i k zs e =
     ∙ ap (λ us. length (mask_first xs ws i k) + length us) (sym e)
 
 -- ---- one list
-
-pub length-kept : (keep : Bool) (z : ℤ) → length (kept keep z) ≡ if keep then 1 else 0
-length-kept true z = refl
-length-kept false z = refl
 
 -- what one item more gives is put
 pub marks-put : (xs ws : Listed) (i k : ℕ) (us : List ℤ) (old mid new : Making)

@@ -8,7 +8,8 @@ use Rattle.awk_lanes.specs.Counted.{before}
 use Rattle.awk_lanes.specs.Making.{Making, with_item}
 use Rattle.awk_lanes.specs.declared.kind.Kind.TheVariants.{I64}
 use Rattle.awk_base.proofs.Each.{each_of, each_of-more, each_of-room}
-use Rattle.awk_jagged_places.specs.Kept.{HasRoom, Puts}
+use Rattle.awk_select.specs.Kept.{Puts}
+use Rattle.awk_jagged_places.specs.Put.{HasRoom}
 use Rattle.awk_jagged_places.proofs.FlatLists.{length-each}
 
 -- ---- one list

@@ -2,15 +2,12 @@
 use Rattle.std.specs.Prelude.{◌≡◌, ℕ, ◌+◌, ◌<◌, ℤ, negsuc, Bool, true, false, List, map}
 use Rattle.std.specs.Prelude.{Option, Some, None, option_map}
 use Rattle.std.specs.List.{range_with_len, flat_map}
-use Rattle.awk_lanes.specs.declared.kind.Kind.TheVariants.{Bool as Truths}
 use Rattle.awk_lanes.specs.Column.{Column}
 use Rattle.awk_lanes.specs.Places.{size_of, at, place_at}
-use Rattle.awk_lanes.specs.Words.{column, integers}
 use Rattle.awk_columns.specs.Lists.{Listed, length_of}
 use Rattle.awk_select.specs.Cells.{AreCells, place_number}
 use Rattle.awk_select.specs.Picks.{mask_place, take_place, is_outside}
 use Rattle.awk_select.specs.declared.cells.Cells.{Cells}
-use Rattle.awk_select.specs.declared.cells.Cells.TheVariants.{Plain}
 use Rattle.awk_jagged_rows.specs.Levels.{row_at}
 use Rattle.awk_jagged_rows.specs.Rows.{place_by}
 
@@ -70,7 +67,3 @@ mask_first xs ws i k = flat_map (mask_at xs ws i) (range_with_len 0 k)
 
 abbrev pub mask_numbers : Listed → Listed → ℕ → List ℤ
 mask_numbers xs ws i = mask_first xs ws i (length_of ws i)
-
--- truth values by their bytes
-abbrev pub truth_cells : List ℕ → Cells
-truth_cells bs = Plain (column Truths (integers bs))

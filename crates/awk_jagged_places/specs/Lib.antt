@@ -1,3 +1,3 @@
 pub mod Leaves
-pub mod Kept
+pub mod Put
 pub mod Beside

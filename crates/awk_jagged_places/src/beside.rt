@@ -9,14 +9,14 @@ ghost use Rattle.awk_lanes.specs.Places.{size_of, IsIndex};
 ghost use Rattle.awk_lanes.specs.declared.kind.Kind.TheVariants as Kinds;
 ghost use Rattle.awk_layout.specs.Valid.{len};
 ghost use Rattle.awk_gather_lanes.specs.Lanes.{picked};
+ghost use Rattle.awk_select.specs.Cells.{truth_cells};
 ghost use Rattle.awk_jagged_places.specs.Beside.{groups_beside, places_beside, IsBeside};
-ghost use Rattle.awk_jagged_places.specs.Leaves.{AreLeaves, truth_cells, mask_numbers};
+ghost use Rattle.awk_jagged_places.specs.Leaves.{AreLeaves, mask_numbers};
 ghost use Rattle.awk_jagged_rows.specs.Rows.{AreAlike};
 
-use crate::sieve::put_if;
-use crate::values::Truths;
 use awk_columns::Bounds;
 use awk_lanes::{Arena, Kind, Lane, NoMemory, Steps};
+use awk_select::{Truths, put_if};
 use bumpalo::collections::into_bump_slice;
 use std::sync::ledger::Ledger;
 

@@ -1,7 +1,8 @@
 //! The places that masks and indexes of lists name in a content, list by list.
 //!
 //! `Kept` are the places where a mask is true, and `Taken` those that an index names, each over the
-//! ends of the lists (`awk_columns`) and over values in the form in which they lie (`Values`).
+//! ends of the lists (`awk_columns`) and over values in the form in which they lie (`Values` of
+//! `awk_select`).
 //! `put_lane` and `kept_lane` make one lane of them all. `beside_lane`, and `put_lane` over
 //! `TakenNumbers`, make one of the numbers that stand there. `lengths_differ` tells whether the
 //! lists of a mask are as long as those that it picks from.
@@ -12,9 +13,7 @@ mod differing;
 mod masks;
 mod places;
 mod put;
-mod sieve;
 mod taken;
-mod values;
 
 pub use beside::{Beside, beside_lane};
 pub use differing::lengths_differ;
@@ -22,4 +21,3 @@ pub use masks::{Kept, kept_lane};
 pub use places::Taken;
 pub use put::{NumberLists, put_lane};
 pub use taken::TakenNumbers;
-pub use values::{Sparse, Truths, Values, truths_of};

@@ -1,5 +1,5 @@
 //! Picks of a mask, whose lists stand in pairs with those that are picked from.
-ghost use Rattle.std.specs.Prelude.{◌≡◌, ◌+◌, ◌<◌, ◌≤◌, ◌^◌, length, map, if◌then◌else◌, IfOk};
+ghost use Rattle.std.specs.Prelude.{◌≡◌, ◌+◌, ◌<◌, ◌≤◌, ◌^◌, length, map, IfOk};
 ghost use Rattle.awk_types.specs.ItemLimit.{item_limit};
 ghost use Rattle.awk_lanes.specs.Counted.{before};
 ghost use Rattle.awk_lanes.specs.Numbers.{int_of, IsOf};
@@ -8,15 +8,15 @@ ghost use Rattle.awk_lanes.specs.declared.kind.Kind.TheVariants as Kinds;
 ghost use Rattle.awk_layout.specs.Valid.{len};
 ghost use Rattle.awk_gather.specs.Arrays.{array_item};
 ghost use Rattle.awk_select.specs.Cells.{place_number};
+ghost use Rattle.awk_select.specs.Kept.{kept, Puts};
 ghost use Rattle.awk_select.specs.Picks.{mask_place};
-ghost use Rattle.awk_jagged_places.specs.Kept.{kept, IsPutLane, Puts};
+ghost use Rattle.awk_jagged_places.specs.Put.{IsPutLane};
 ghost use Rattle.awk_jagged_places.specs.Leaves.{AreLeaves, mask_numbers};
 ghost use Rattle.awk_jagged_rows.specs.Rows.{AreAlike};
 
-use crate::sieve::Sieve;
-use crate::values::Values;
 use awk_columns::Bounds;
-use awk_lanes::{Arena, Lane, Lengths, NoMemory, Num, Steps, number};
+use awk_lanes::{Arena, Lane, Lengths, NoMemory, Steps};
+use awk_select::{Mark, Sieve, Values, mark_of, one_if};
 use std::sync::ledger::Ledger;
 
 /// The places in a content where the lists of a mask are true.
@@ -25,13 +25,6 @@ pub struct Kept<'r, 's, 'a, V: Values> {
     pub xs: &'r Bounds<'s, 'a>,
     pub ws: &'r Bounds<'s, 'a>,
     pub cells: &'r V,
-}
-
-/// What a value of a mask gives: a number, if it is kept.
-#[derive(Clone, Copy)]
-pub(crate) struct Mark {
-    pub(crate) keep: bool,
-    pub(crate) number: Num,
 }
 
 impl<'r, 's, 'a, V: Values> Kept<'r, 's, 'a, V> {
@@ -46,20 +39,7 @@ impl<'r, 's, 'a, V: Values> Kept<'r, 's, 'a, V> {
         ensures numbers { kept result.keep (int_of result.number)
             ≡ map place_number (mask_place beside (array_item self.now.ws.now.content place)) }
     {
-        match self.cells.value(place, steps) {
-            None => Mark {
-                keep: true,
-                number: Num::Int(-1),
-            },
-            Some(Num::Truth(true)) => Mark {
-                keep: true,
-                number: number(beside),
-            },
-            Some(_) => Mark {
-                keep: false,
-                number: number(beside),
-            },
-        }
+        mark_of(self.cells.value(place, steps), beside)
     }
 
     /// Puts the places that list i gives.
@@ -79,14 +59,6 @@ impl<'r, 's, 'a, V: Values> Kept<'r, 's, 'a, V> {
             made.push_if(mark.keep, mark.number);
         }
     }
-}
-
-/// 1 for true, else 0.
-#[inline(always)]
-fn one_if(keep: bool) -> u64
-    ensures { result ≡ if keep then 1 else 0 }
-{
-    if keep { 1 } else { 0 }
 }
 
 impl<'r, 's, 'a, V: Values> Lengths for Kept<'r, 's, 'a, V> {

@@ -11,10 +11,9 @@ ghost use Rattle.awk_select.specs.Picks.{is_outside, take_place};
 ghost use Rattle.awk_jagged_places.specs.Leaves.{AreLeaves, take_numbers, AreTestedIn, AreTested};
 
 use crate::put::NumberLists;
-use crate::values::Values;
 use awk_columns::{Bounds, Span};
 use awk_lanes::{IndexMaker, Num, Steps, number};
-use awk_select::place_of;
+use awk_select::{Values, place_of};
 use std::sync::ledger::Ledger;
 
 /// Whether a number of an index names no place of n items.

@@ -1,7 +1,7 @@
 //! Lanes whose numbers are put list by list.
 ghost use Rattle.std.specs.Prelude.{◌≡◌, ◌<◌, ◌≤◌, length, IfOk};
 ghost use Rattle.awk_lanes.specs.Counted.{before};
-ghost use Rattle.awk_jagged_places.specs.Kept.{IsPutLane};
+ghost use Rattle.awk_jagged_places.specs.Put.{IsPutLane};
 
 use awk_lanes::{Arena, IndexMaker, Lane, NoMemory, Steps};
 use std::sync::ledger::Ledger;
@@ -10,7 +10,8 @@ use std::sync::ledger::Ledger;
 pub trait NumberLists {
     ghost use Rattle.std.specs.Prelude.{◌≡◌, ◌<◌, ℕ, ℤ, List};
     ghost use Rattle.awk_lanes.specs.declared.kind.Kind.TheVariants as Kinds;
-    ghost use Rattle.awk_jagged_places.specs.Kept.{HasRoom, Puts};
+    ghost use Rattle.awk_select.specs.Kept.{Puts};
+    ghost use Rattle.awk_jagged_places.specs.Put.{HasRoom};
 
     /// The numbers of a list.
     ghost numbers: { Self → ℕ → List ℤ };

@@ -12,9 +12,9 @@ ghost use Rattle.awk_jagged_places.specs.Leaves.{AreLeaves, number_or, numbers_t
 
 use crate::places::Taken;
 use crate::put::NumberLists;
-use crate::values::Values;
 use awk_columns::Span;
 use awk_lanes::{Index, IndexMaker, Num, Steps};
+use awk_select::Values;
 use std::sync::ledger::Ledger;
 
 /// The numbers of a content at the places that an index names in each list.

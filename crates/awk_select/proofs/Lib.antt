@@ -1,4 +1,6 @@
 pub mod Worked
 pub mod RangePlaces
+pub mod ValueLaws
+pub mod SieveLaws
 pub mod PickedPlaces
 pub mod PickAnswers

@@ -6,7 +6,7 @@ use Rattle.std.specs.Prelude.{ℤ, pos, negsuc, ◌<ℤ◌, Bool, true, false, �
 use Rattle.std.specs.Prelude.{Some, None, is_none, if◌then◌else◌}
 use Rattle.std.specs.List.{range_with_len, list_any, AllByRecursion}
 use Rattle.std.proofs.lemmas.Int.{ints}
-use Rattle.std.proofs.lemmas.List.{get_or-map, length-map, map-append, append-nil, take_all}
+use Rattle.std.proofs.lemmas.List.{get_or-map, length-map, map-append, take_all}
 use Rattle.std.proofs.lemmas.List.Folds.{list_any_at, list_any_more}
 use Rattle.std.proofs.lemmas.Bool.{or_parts}
 use Rattle.std.proofs.lemmas.Simd.{map-map}
@@ -20,7 +20,7 @@ use Rattle.awk_types.specs.declared.primitive.Primitive.{Primitive}
 use Rattle.awk_types.specs.declared.primitive.Primitive.TheVariants.{Bool as Truths, I8, I16, I32}
 use Rattle.awk_types.specs.declared.primitive.Primitive.TheVariants.{I64, U8, U16, U32, U64}
 use Rattle.awk_lanes.specs.Column.{Column}
-use Rattle.awk_lanes.specs.Making.{Making, with_item}
+use Rattle.awk_lanes.specs.Making.{Making}
 use Rattle.awk_lanes.specs.Places.{at, option_place, IsIndex, IsOptionalIndex}
 use Rattle.awk_lanes.specs.declared.kind.Kind.TheVariants as kind
 use Rattle.awk_layout.specs.Layout.{Layout}
@@ -33,6 +33,7 @@ use Rattle.awk_layout.proofs.ArrayItems.{length-array_items, get_or-array_items}
 use Rattle.awk_select.specs.Cells.{IsBelow, place_number, places_lane, mask_numbers}
 use Rattle.awk_types.specs.Predicates.{is_leaf}
 use Rattle.awk_select.specs.Cells.{take_number}
+use Rattle.awk_select.specs.Kept.{Puts}
 use Rattle.awk_select.specs.Picks.{picked, is_truths, is_mask, mask_place, mask_places}
 use Rattle.awk_types.specs.WholeNumbers.{is_numbers}
 use Rattle.awk_select.specs.Picks.{is_index, take_place, take_places, is_outside}
@@ -149,40 +150,26 @@ mask-few ms (suc i) =
     subst (λ m. length (mask_first ms m) ≤ m) e
     (omega (arith, mask-few ms i, length-each_of f i, few-numbers i (get_or ms i null)))
 
-pub made-pushed : (m : Layout) (n i : ℕ) (z y : ℤ) (old new : Making) → i < len m
-    → z ∷ [] ≡ mask_numbers m i → new ≡ with_item old y → y ≡ z
-    → IsMade n (mask_first (array_items m) i) old
+-- what one item more gives is put
+pub made-put : (m : Layout) (n i : ℕ) (zs : List ℤ) (old new : Making) → i < len m
+    → zs ≡ mask_numbers m i → Puts zs old new → IsMade n (mask_first (array_items m) i) old
     → IsMade n (mask_first (array_items m) (i + 1)) new
-made-pushed m n i z y old new l e g q h = record {
-  kind = ap (λ (w : Making). w.kind) g ∙ h.kind;
-  room = ap (λ (w : Making). w.room) g ∙ h.room;
-  items = ap (λ (w : Making). w.items) g ∙ ap (λ ys. ys ++ y ∷ []) h.items
-      ∙ ap (λ x. map place_number (mask_first (array_items m) i) ++ x ∷ []) q
-      ∙ ap (λ zs. map place_number (mask_first (array_items m) i) ++ zs) e
+made-put m n i zs old new l e p h = record {
+  kind = ap (λ (w : Making). w.kind) p ∙ h.kind;
+  room = ap (λ (w : Making). w.room) p ∙ h.room;
+  items = ap (λ (w : Making). w.items) p ∙ ap (λ ys. ys ++ zs) h.items
+      ∙ ap (λ us. map place_number (mask_first (array_items m) i) ++ us) e
       ∙ sym (numbers-more m i l);
-}
-
-pub made-none : (m : Layout) (n i : ℕ) (old : Making) → i < len m → [] ≡ mask_numbers m i
-    → IsMade n (mask_first (array_items m) i) old
-    → IsMade n (mask_first (array_items m) (i + 1)) old
-made-none m n i old l e h = record {
-  kind = h.kind;
-  room = h.room;
-  items =
-      h.items ∙ sym (append-nil _) ∙ ap (λ zs. map place_number (mask_first (array_items m) i) ++
-      zs) e ∙ sym (numbers-more m i l);
 }
 
 mask-whole : (m : Layout) → mask_places (array_items m) ≡ mask_first (array_items m) (len m)
 mask-whole m = ap (mask_first (array_items m)) (length-array_items m)
 
-pub made-room : (m : Layout) (n i : ℕ) (z : ℤ) (old : Making)
-    → n ≡ length (mask_places (array_items m)) → i < len m → z ∷ [] ≡ mask_numbers m i
-    → IsMade n (mask_first (array_items m) i) old → length old.items < old.room
-made-room m n i z old e l h d =
+-- there is room for one number more than are kept
+pub made-room : (m : Layout) (n i : ℕ) (old : Making) → n ≡ length (mask_places (array_items m))
+    → i < len m → IsMade (n + 1) (mask_first (array_items m) i) old → length old.items < old.room
+made-room m n i old e l d =
     let f : ℕ → List (Option ℕ) = λ k. mask_place k (get_or (array_items m) k null) in
-    let one : length (f i) ≡ 1 = sym (length-map (f i) place_number) ∙ ap length
-    (numbers-at m i l ∙ sym h) in
     let all : length (mask_first (array_items m) (len m)) ≡ n = sym
     (e ∙ ap length (mask-whole m)) in
     omega (
@@ -191,7 +178,6 @@ made-room m n i z old e l h d =
       length-map (mask_first (array_items m) i) place_number,
       d.room,
       each_of-room f i (len m) l,
-      one,
       all,
     )
 

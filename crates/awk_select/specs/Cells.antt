@@ -1,5 +1,5 @@
 -- The numbers or truth values of an array as lanes, with its nulls.
-use Rattle.std.specs.Prelude.{◌≡◌, ℕ, ◌<◌, ℤ, pos, negsuc, true, false, List, [], ◌∷◌, map}
+use Rattle.std.specs.Prelude.{◌≡◌, ℕ, ◌<◌, ℤ, pos, negsuc, true, false, List, map}
 use Rattle.std.specs.Prelude.{Option, Some, None}
 use Rattle.std.specs.List.{list_any}
 use Rattle.awk_types.specs.Value.{Value, null}
@@ -7,7 +7,8 @@ use Rattle.awk_lanes.specs.Column.{Column}
 use Rattle.awk_lanes.specs.Made.{lane_of}
 use Rattle.awk_lanes.specs.Numbers.{int_of}
 use Rattle.awk_lanes.specs.Places.{size_of, at, option_place_at, IsOptionKind}
-use Rattle.awk_lanes.specs.declared.kind.Kind.TheVariants.{I64}
+use Rattle.awk_lanes.specs.Words.{column, integers}
+use Rattle.awk_lanes.specs.declared.kind.Kind.TheVariants.{Bool as Truths, I64}
 use Rattle.awk_lanes.specs.declared.kind.Num.{Num}
 use Rattle.awk_layout.specs.Layout.{Layout}
 use Rattle.awk_layout.specs.Shown.{value_of_num}
@@ -75,7 +76,8 @@ AreTaken n ix (Some p) =
     (list_any (is_outside n) (array_items ix) ≡ false)
     × (p ≡ lane_of I64 (len ix) (take_number n ix))
 
--- these numbers, none or one, are all that code holds
-abbrev pub numbers_shown : Option Num → List ℤ
-numbers_shown None = []
-numbers_shown (Some z) = int_of z ∷ []
+-- ---- truth values
+
+-- truth values by their bytes
+abbrev pub truth_cells : List ℕ → Cells
+truth_cells bs = Plain (column Truths (integers bs))

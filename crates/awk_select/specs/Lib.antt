@@ -1,3 +1,4 @@
 pub mod Places
 pub mod Picks
 pub mod Cells
+pub mod Kept

@@ -1,26 +1,28 @@
 //! The items of an array where a mask is true.
-ghost use Rattle.std.specs.Prelude.{◌≡◌, ◌<◌, ◌^◌, true, None, length, map, IfOk, IfSome};
+ghost use Rattle.std.specs.Prelude.{◌≡◌, ◌<◌, ◌≤◌, ◌^◌, true, None, length, IfOk};
 ghost use Rattle.awk_types.specs.Datum.{arr};
 ghost use Rattle.awk_types.specs.Faults.{fault_told};
 ghost use Rattle.awk_types.specs.Gives.{Gives, refused_or};
 ghost use Rattle.awk_types.specs.Limit.{limit};
 ghost use Rattle.awk_types.specs.View.{typ_of};
-ghost use Rattle.awk_types.specs.ItemLimit.{too_many};
-ghost use Rattle.awk_lanes.specs.Numbers.{IsOf};
-ghost use Rattle.awk_lanes.specs.declared.kind.Kind.TheVariants as Kind;
+ghost use Rattle.awk_types.specs.ItemLimit.{item_limit, too_many};
+ghost use Rattle.awk_lanes.specs.Numbers.{int_of, IsOf};
+ghost use Rattle.awk_lanes.specs.declared.kind.Kind.TheVariants as Kinds;
 ghost use Rattle.awk_layout.specs.Datum.{IsDatum, datum_of};
-ghost use Rattle.awk_layout.specs.Shown.{value_of_num};
 ghost use Rattle.awk_layout.specs.Typing.{array_type, array_items, array_datum};
 ghost use Rattle.awk_layout.specs.Valid.{len};
-ghost use Rattle.awk_select.specs.Cells.{AreCells, place_number, places_lane};
-ghost use Rattle.awk_select.specs.Cells.{mask_numbers, numbers_shown};
+ghost use Rattle.awk_select.specs.Cells.{AreCells, mask_numbers, places_lane};
+ghost use Rattle.awk_select.specs.Kept.{kept};
 ghost use Rattle.awk_select.specs.Picks as picks;
-ghost use Rattle.awk_select.specs.Picks.{alike, mask_of, mask_place, mask_places};
+ghost use Rattle.awk_select.specs.Picks.{alike, mask_of, mask_places};
 ghost use Rattle.awk_select.specs.Picks.{picked, picked_type};
 
 use crate::cells::{Cells, cells_of};
+use crate::marks::{Mark, mark_of, one_if};
 use crate::picked::{judge_type, pick};
-use awk_lanes::{Arena, IndexMaker, Lane, NoMemory, Num, Steps, number};
+use crate::sieve::Sieve;
+use crate::values::{Values, truths_of};
+use awk_lanes::{Arena, Kind, Lane, NoMemory, Steps};
 use awk_layout::{Array, Datum};
 use awk_types::{Fault, ITEM_LIMIT, Prim, Typ};
 use std::alloc::Global;
@@ -119,81 +121,106 @@ fn masked_items<'a, L: Ledger>(
         let said = refused_or (too_many (length places)) made in
         Gives array_datum fault_told result said }
 {
-    let _ = m.len();
     let cells = cells_of(alloc, m, arena, steps)?;
-    let n = count(m, &cells, steps);
+    seen_items(alloc, x, m, &cells, arena, steps)
+}
+
+// The same by the values of the mask in the form in which they lie.
+fn seen_items<'a, L: Ledger>(
+    alloc: Global,
+    x: &Array<'a>,
+    m: &Array<'a>,
+    cells: &Cells<'a>,
+    arena: &'a Arena,
+    steps: &mut Steps<L>,
+) -> Result<Array<'a>, Fault>
+    requires mask { picks.is_mask (array_type m.now) ≡ true }
+    requires limit { limit (picked_type (array_type m.now) (array_type x.now)) ≡ None }
+    requires lengths { len x.now ≡ len m.now }
+    requires cells { AreCells m.now cells.now }
+    ensures answer { let places = mask_places (array_items m.now) in
+        let t = picked_type (array_type m.now) (array_type x.now) in
+        let made = arr t (picked (array_items x.now) places) in
+        let said = refused_or (too_many (length places)) made in
+        Gives array_datum fault_told result said }
+{
+    match cells {
+        Cells::Plain(lane) if lane.kind() == Kind::Bool => {
+            let truths = truths_of(lane, steps);
+            kept_items(alloc, x, m, &truths, arena, steps)
+        }
+        _ => kept_items(alloc, x, m, cells, arena, steps),
+    }
+}
+
+fn kept_items<'a, V: Values, L: Ledger>(
+    alloc: Global,
+    x: &Array<'a>,
+    m: &Array<'a>,
+    values: &V,
+    arena: &'a Arena,
+    steps: &mut Steps<L>,
+) -> Result<Array<'a>, Fault>
+    requires mask { picks.is_mask (array_type m.now) ≡ true }
+    requires limit { limit (picked_type (array_type m.now) (array_type x.now)) ≡ None }
+    requires lengths { len x.now ≡ len m.now }
+    requires cells { AreCells m.now (V.cells values.now) }
+    ensures answer { let places = mask_places (array_items m.now) in
+        let t = picked_type (array_type m.now) (array_type x.now) in
+        let made = arr t (picked (array_items x.now) places) in
+        let said = refused_or (too_many (length places)) made in
+        Gives array_datum fault_told result said }
+{
+    let _ = m.len();
+    let n = count(m, values, steps);
     if n > ITEM_LIMIT {
         return Err(Fault::Size);
     }
-    let places = mask_lane(m, &cells, n, arena, steps)?;
+    let places = mask_lane(m, values, n, arena, steps)?;
     pick(alloc, x, &places, m.typ(), arena, steps)
 }
 
-// What a value at place i of a mask gives to its places: i where it is true.
-fn kept_number(i: u64, x: Num) -> Option<Num>
-    requires { i < 2 ^ 63 }
-    ensures kind { IfSome result (λ z. IsOf Kind.I64 z) }
-    ensures numbers { numbers_shown result ≡ map place_number (mask_place i (value_of_num x)) }
-{
-    match x {
-        Num::Truth(b) => { if b { Some(number(i)) } else { None } }
-        Num::Int(_) | Num::Nat(_) => None,
-    }
-}
-
 // What item i of a mask gives to its places: i where it is true, and -1 where it is null.
-fn kept<L: Ledger>(m: &Array, cells: &Cells, i: u64, steps: &mut Steps<L>) -> Option<Num>
-    requires cells { AreCells m.now cells.now }
+#[inline(always)]
+fn mark_at<V: Values, L: Ledger>(m: &Array, values: &V, i: u64, steps: &mut Steps<L>) -> Mark
+    requires cells { AreCells m.now (V.cells values.now) }
     requires within { i < len m.now }
     requires small { i < 2 ^ 63 }
-    ensures kind { IfSome result (λ z. IsOf Kind.I64 z) }
-    ensures numbers { numbers_shown result ≡ mask_numbers m.now i }
+    ensures kind { IsOf Kinds.I64 result.number }
+    ensures numbers { kept result.keep (int_of result.number) ≡ mask_numbers m.now i }
 {
-    match cells.at(i, steps) {
-        None => Some(Num::Int(-1)),
-        Some(x) => kept_number(i, x),
-    }
-}
-
-fn one_if(x: Option<Num>) -> u64
-    ensures { result ≡ length (numbers_shown x) }
-{
-    match x {
-        None => 0,
-        Some(_) => 1,
-    }
+    mark_of(values.value(i, steps), i)
 }
 
 // How many items of a mask are true or null.
-fn count<L: Ledger>(m: &Array, cells: &Cells, steps: &mut Steps<L>) -> u64
-    requires { AreCells m.now cells.now }
+fn count<V: Values, L: Ledger>(m: &Array, values: &V, steps: &mut Steps<L>) -> u64
+    requires { AreCells m.now (V.cells values.now) }
     ensures { result ≡ length (mask_places (array_items m.now)) }
 {
     let mut count = 0;
     for i in 0..m.len() {
-        count += one_if(kept(m, cells, i, steps));
+        count += one_if(mark_at(m, values, i, steps).keep);
     }
     count
 }
 
 // The places of the true items of a mask, and -1 for each null: n together.
-#[tactic(auto, using(awk_lanes::proofs::MadeLanes::making))]
-fn mask_lane<'a, L: Ledger>(
+fn mask_lane<'a, V: Values, L: Ledger>(
     m: &Array,
-    cells: &Cells,
+    values: &V,
     n: u64,
     arena: &'a Arena,
     steps: &mut Steps<L>,
 ) -> Result<Lane<'a>, NoMemory>
-    requires cells { AreCells m.now cells.now }
+    requires cells { AreCells m.now (V.cells values.now) }
     requires count { n ≡ length (mask_places (array_items m.now)) }
+    requires few { n ≤ item_limit }
     ensures lane { IfOk result (λ r. r ≡ places_lane (mask_places (array_items m.now))) }
 {
-    let mut maker = IndexMaker::new(n, arena)?;
+    let mut made = Sieve::new(n + 1, arena)?;
     for i in 0..m.len() {
-        if let Some(z) = kept(m, cells, i, steps) {
-            maker.push(z);
-        }
+        let mark = mark_at(m, values, i, steps);
+        made.push_if(mark.keep, mark.number);
     }
-    Ok(maker.finish())
+    Ok(made.finish())
 }

@@ -1,11 +1,17 @@
 //! The values of a mask or an index, in the form in which they lie.
+ghost use Rattle.std.specs.Prelude.{◌≡◌, ◌<◌, pos, length, get_or};
+ghost use Rattle.awk_types.specs.Value.{truth};
+ghost use Rattle.awk_lanes.specs.Numbers.{is_nonzero};
+ghost use Rattle.awk_lanes.specs.Words.{column, integers};
+ghost use Rattle.awk_lanes.specs.declared.kind.Kind.TheVariants as Kinds;
+ghost use Rattle.awk_select.specs.Cells.{cell_value, truth_cells, IsCell};
 
 use crate::cells::Cells;
-use awk_lanes::{Index, Num, Steps};
+use awk_lanes::{Index, Lane, Num, Steps, byte_numbers};
 use std::sync::ledger::Ledger;
 
 /// Values by their places.
-pub(crate) trait Values: Drop {
+pub trait Values: Drop {
     ghost use Rattle.std.specs.Prelude.{◌≡◌};
     ghost use Rattle.awk_select.specs.Cells.{IsCell, cell_shown, cell_value};
     ghost use Rattle.awk_select.specs.declared.cells.Cells.{Cells};
@@ -27,6 +33,55 @@ impl<'a> Values for Cells<'a> {
     }
 }
 
+/// Truth values by their bytes.
+#[derive(Drop)]
+pub struct Truths<'a> {
+    bytes: &'a [u8],
+}
+
+/// The truth values of a lane where they lie.
+pub fn truths_of<'a, L: Ledger>(lane: &Lane<'a>, steps: &mut Steps<L>) -> Truths<'a>
+    requires { lane.now.kind ≡ Kinds.Bool }
+    ensures { column Kinds.Bool (integers result.bytes.now) ≡ lane.now }
+{
+    Truths {
+        bytes: byte_numbers(lane, steps),
+    }
+}
+
+/// Whether the byte at place i is not 0.
+#[inline(always)]
+fn is_true(bytes: &[u8], i: usize) -> bool
+    requires { i < length bytes.now }
+    ensures { result ≡ is_nonzero (pos (get_or bytes.now i 0)) }
+{
+    bytes[i] != 0
+}
+
+impl<'a> Truths<'a> {
+    /// The truth value at a place.
+    #[inline(always)]
+    pub fn at(&self, i: u64) -> bool
+        requires { IsCell (truth_cells self.now.bytes.now) i }
+        ensures { truth result ≡ cell_value (truth_cells self.now.bytes.now) i }
+    {
+        is_true(self.bytes, i as usize)
+    }
+}
+
+impl<'a> Values for Truths<'a> {
+    ghost use Rattle.awk_lanes.specs.Words.{column, integers};
+    ghost use Rattle.awk_lanes.specs.declared.kind.Kind.TheVariants as Kinds;
+    ghost use Rattle.awk_select.specs.declared.cells.Cells.TheVariants.{Plain};
+
+    ghost cells = { λ t. Plain (column Kinds.Bool (integers t.bytes.now)) };
+
+    #[inline(always)]
+    fn value<L: Ledger>(&self, i: u64, _steps: &mut Steps<L>) -> Option<Num> {
+        Some(Num::Truth(self.at(i)))
+    }
+}
+
 impl<'a> Values for Index<'a> {
     ghost use Rattle.awk_select.specs.declared.cells.Cells.TheVariants.{Plain};
 
@@ -40,9 +95,9 @@ impl<'a> Values for Index<'a> {
 
 /// Numbers at the places of an index, of which a negative one is null.
 #[derive(Drop)]
-pub(crate) struct Sparse<'a> {
-    pub(crate) index: Index<'a>,
-    pub(crate) numbers: Index<'a>,
+pub struct Sparse<'a> {
+    pub index: Index<'a>,
+    pub numbers: Index<'a>,
 }
 
 impl<'a> Values for Sparse<'a> {

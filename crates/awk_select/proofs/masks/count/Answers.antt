@@ -1,9 +1,11 @@
 use Rattle.std.proofs.Common.{◌+◌, ◌<◌, arith}
+use Rattle.awk_lanes.specs.Numbers.{int_of}
 use Rattle.awk_layout.specs.Laws.{len-fits}
 use Rattle.awk_layout.specs.Typing.{array_items}
 use Rattle.awk_layout.specs.Valid.{len}
-use Rattle.awk_select.specs.Cells.{numbers_shown}
+use Rattle.awk_select.specs.Kept.{kept}
 use Rattle.awk_select.proofs.PickedPlaces.{mask-count, mask-few, count-whole}
+use Rattle.awk_select.proofs.SieveLaws.{length-kept}
 use Rattle.awk_select.proofs.masks.count.Goals as goal
 
 pub overflow_add-count : goal.overflow_add-count
@@ -13,7 +15,9 @@ overflow_add-count g c =
     omega (
       arith,
       c.one_if-count.ensures,
-      mask-count c.args.m.now c.loop-i.i (numbers_shown c.kept.result) i c.kept.ensures.numbers,
+      length-kept c.mark_at.result.keep (int_of c.mark_at.result.number),
+      mask-count c.args.m.now c.loop-i.i
+          (kept c.mark_at.result.keep (int_of c.mark_at.result.number)) i c.mark_at.ensures.numbers,
       mask-few (array_items c.args.m.now) (c.loop-i.i + 1),
       c.loop-i.invariant,
       i,
@@ -27,8 +31,9 @@ loop-i-preserved g c =
     omega (
       arith,
       c.one_if-count.ensures,
+      length-kept c.mark_at.result.keep (int_of c.mark_at.result.number),
       mask-count c.args.m.now c.loop-i.i
-          (numbers_shown c.kept.result) i c.kept.ensures.numbers,
+          (kept c.mark_at.result.keep (int_of c.mark_at.result.number)) i c.mark_at.ensures.numbers,
       c.loop-i.invariant,
     )
 

@@ -1,6 +1,6 @@
 use Rattle.std.proofs.Common.{◌≡◌, arith}
 use Rattle.awk_lanes.specs.Numbers.{int_of}
-use Rattle.awk_jagged_places.specs.Kept.{kept}
+use Rattle.awk_select.specs.Kept.{kept}
 use Rattle.awk_jagged_places.specs.Leaves.{mask_at}
 use Rattle.awk_jagged_places.proofs.MaskLaws.{marks-put, marks-room}
 use Rattle.awk_jagged_places.proofs.masks.Kept.put_list.Goals as goal

@@ -1,4 +1,4 @@
-use Rattle.awk_jagged_places.specs.Kept.{Puts}
+use Rattle.awk_select.specs.Kept.{Puts}
 use Rattle.awk_jagged_places.specs.Leaves.{mask_first}
 use Rattle.awk_jagged_places.proofs.masks.Kept.put_list.Given as goal
 

@@ -1,9 +1,10 @@
 use Rattle.std.specs.Prelude.{◌+◌}
 use Rattle.std.proofs.Common.{◌≡◌, arith}
 use Rattle.awk_lanes.specs.Numbers.{int_of}
-use Rattle.awk_jagged_places.specs.Kept.{kept}
+use Rattle.awk_select.specs.Kept.{kept}
 use Rattle.awk_jagged_places.specs.Leaves.{mask_at}
-use Rattle.awk_jagged_places.proofs.MaskLaws.{length-more, length-kept, few_first}
+use Rattle.awk_select.proofs.SieveLaws.{length-kept}
+use Rattle.awk_jagged_places.proofs.MaskLaws.{length-more, few_first}
 use Rattle.awk_jagged_places.proofs.masks.KeptLengths.length.Goals as goal
 
 pub overflow_add-count : goal.overflow_add-count

@@ -1,4 +1,4 @@
-use Rattle.awk_jagged_places.specs.Kept.{Puts}
+use Rattle.awk_select.specs.Kept.{Puts}
 use Rattle.awk_jagged_places.specs.Leaves.{number_taken}
 use Rattle.awk_jagged_places.proofs.PutLaws.{first_numbers}
 use Rattle.awk_jagged_places.proofs.taken.TakenNumbersNumberLists.put_list.Given as goal

@@ -4,7 +4,7 @@ ghost use Rattle.std.specs.Int.{cast_unsigned, w64};
 ghost use Rattle.awk_lanes.specs.Numbers.{int_of, IsOf};
 ghost use Rattle.awk_lanes.specs.Words.{low_bytes};
 ghost use Rattle.awk_lanes.specs.declared.kind.Kind.TheVariants as Kinds;
-ghost use Rattle.awk_jagged_places.specs.Kept.{kept, Puts};
+ghost use Rattle.awk_select.specs.Kept.{kept, Puts};
 
 use awk_lanes::{Arena, Kind, Lane, NoMemory, Num};
 use bumpalo::collections::into_bump_slice;
@@ -13,7 +13,7 @@ use std::marker::Model;
 /// A lane of i64 that is being made. Each number is written behind those that stand, and the next
 /// one over it where it is not kept: what is written hangs on no number.
 #[derive(Drop)]
-pub(crate) struct Sieve<'a> {
+pub struct Sieve<'a> {
     groups: Vec<[u8; 8], &'a Arena>,
 }
 
@@ -25,7 +25,7 @@ impl<'a> Model for Sieve<'a> {
     ghost use Rattle.std.specs.Prelude.{◌≡◌, map, length, vec_len, vec_capacity};
     ghost use Rattle.awk_lanes.specs.Numbers.{number};
     ghost use Rattle.awk_lanes.specs.declared.kind.Kind.TheVariants.{I64};
-    ghost use Rattle.awk_jagged_places.specs.Kept.{AreGroups};
+    ghost use Rattle.awk_select.specs.Kept.{AreGroups};
 
     ghost view = { λ m. record {
       kind = I64;
@@ -51,7 +51,7 @@ fn group_of(x: Num) -> [u8; 8]
 
 /// Adds a group, and takes it away again where it is not kept.
 #[inline(always)]
-pub(crate) fn put_if<const W: usize>(groups: &mut Vec<[u8; W], &Arena>, keep: bool, group: [u8; W])
+pub fn put_if<const W: usize>(groups: &mut Vec<[u8; W], &Arena>, keep: bool, group: [u8; W])
     requires { vec_len groups.old < vec_capacity groups.old }
     ensures items { groups.new.items ≡ groups.old.items ++ kept keep group.entry }
     ensures len { vec_len groups.new ≡ vec_len groups.old + length (kept keep group.entry) }
@@ -66,7 +66,7 @@ pub(crate) fn put_if<const W: usize>(groups: &mut Vec<[u8; W], &Arena>, keep: bo
 
 impl<'a> Sieve<'a> {
     /// No numbers, with room for so many. One more is written than is kept.
-    pub(crate) fn new(room: u64, arena: &'a Arena) -> Result<Sieve<'a>, NoMemory>
+    pub fn new(room: u64, arena: &'a Arena) -> Result<Sieve<'a>, NoMemory>
         ensures { IfOk result (λ m. m ≡ record { kind = Kinds.I64; room = room; items = [] }) }
     {
         Ok(Sieve {
@@ -76,7 +76,7 @@ impl<'a> Sieve<'a> {
 
     /// Adds a number where it is kept.
     #[inline(always)]
-    pub(crate) fn push_if(&mut self, keep: bool, x: Num)
+    pub fn push_if(&mut self, keep: bool, x: Num)
         requires room { length self.old.items < self.old.room }
         requires kind { IsOf Kinds.I64 x }
         ensures { Puts (kept keep (int_of x)) self.old self.new }
@@ -85,7 +85,7 @@ impl<'a> Sieve<'a> {
     }
 
     /// The lane of the numbers that are kept, in their order.
-    pub(crate) fn finish(self) -> Lane<'a>
+    pub fn finish(self) -> Lane<'a>
         ensures { result ≡ record { kind = Kinds.I64; items = self.entry.items } }
     {
         let groups = into_bump_slice(self.groups);

@@ -2,7 +2,7 @@ use Rattle.std.proofs.Common.{ap, ◌∙◌, ◌*◌, length, List, ℕ}
 use Rattle.std.specs.List.{flat_map}
 use Rattle.std.specs.Prelude.{vec_capacity}
 use Rattle.awk_lanes.proofs.IndexLaws.{joined}
-use Rattle.awk_jagged_places.proofs.sieve.Sieve.finish.Goals as goal
+use Rattle.awk_select.proofs.sieve.Sieve.finish.Goals as goal
 
 pub returns : goal.returns
 returns c =

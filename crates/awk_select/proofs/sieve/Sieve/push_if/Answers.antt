@@ -4,9 +4,9 @@ use Rattle.awk_lanes.specs.Numbers.{int_of}
 use Rattle.awk_lanes.specs.declared.kind.Kind.TheVariants.{I64}
 use Rattle.awk_lanes.proofs.RowLaws.{in_range}
 use Rattle.std.specs.Prelude.{length}
-use Rattle.awk_jagged_places.specs.Kept.{kept}
-use Rattle.awk_jagged_places.proofs.SieveLaws.{groups_put}
-use Rattle.awk_jagged_places.proofs.sieve.Sieve.push_if.Goals as goal
+use Rattle.awk_select.specs.Kept.{kept}
+use Rattle.awk_select.proofs.SieveLaws.{groups_put}
+use Rattle.awk_select.proofs.sieve.Sieve.push_if.Goals as goal
 
 pub invariant_of-self : goal.invariant_of-self
 invariant_of-self c = (
