@@ -1,6 +1,6 @@
 -- The item at a place of each list, by its place in the content.
-use Rattle.std.proofs.Common.{◌≡◌, ◌≢◌, ℕ, ◌+◌, ◌-◌, ◌<◌, get_or}
-use Rattle.std.proofs.Common.{refl, ap, sym, ◌∙◌, subst, arith, true≢false, ltb-true}
+use Rattle.std.proofs.Common.{◌≡◌, ◌≢◌, ℕ, ◌+◌, ◌-◌, ◌<◌, ◌^◌, get_or}
+use Rattle.std.proofs.Common.{refl, ap, ap₂, sym, ◌∙◌, subst, arith, true≢false, ltb-true}
 use Rattle.std.specs.Prelude.{ℤ, pos, negsuc, ◌≤ℤ◌, nat_lt, [], Bool, true, false}
 use Rattle.std.specs.Prelude.{Option, Some, None, is_none}
 use Rattle.std.specs.Prelude.{option_map, if◌then◌else◌}
@@ -9,7 +9,7 @@ use Rattle.std.proofs.lemmas.Bool.{ltb-false}
 use Rattle.std.proofs.lemmas.Int.{ints}
 use Rattle.std.proofs.lemmas.List.Folds.{list_any_at}
 use Rattle.std.proofs.lemmas.List.FromFn.{get_or-map-range_with_len, length-map-range_with_len}
-use Rattle.awk_base.proofs.Ranges.{none-any}
+use Rattle.awk_base.proofs.Ranges.{none-any, map-same}
 use Rattle.awk_base.proofs.Every.{all-at}
 use Rattle.awk_types.specs.Has.{Has}
 use Rattle.awk_types.specs.Simple.{simple_value}
@@ -20,19 +20,23 @@ use Rattle.awk_lanes.specs.Numbers.{nat_of}
 use Rattle.awk_lanes.specs.Places.{size_of, at, place_at, AreSpans, IsIndex, IsIndexKind}
 use Rattle.awk_lanes.specs.declared.kind.Kind.TheVariants.{I64}
 use Rattle.awk_layout.specs.Item.{at_option}
-use Rattle.awk_layout.specs.Layout.{Layout}
+use Rattle.awk_layout.specs.Layout.{Layout, flat}
 use Rattle.awk_layout.specs.Typing.{layout_type, array_type, array_items}
 use Rattle.awk_layout.specs.Valid.{len, IsValid}
 use Rattle.awk_layout.proofs.ArrayItems.{length-array_items, get_or-array_items}
 use Rattle.awk_layout.proofs.Runs.{value_list-run, length-run}
+use Rattle.awk_gather_lanes.specs.Lanes.{picked}
 use Rattle.awk_gather.specs.Arrays.{array_item, IsGathered}
+use Rattle.awk_gather.proofs.GatheredArrays.{gathered_of}
+use Rattle.awk_gather.proofs.PickedNodes.{flat_picked}
 use Rattle.awk_lanes.specs.Made.{lane_of}
 use Rattle.awk_lanes.proofs.MadeLanes.{size-lane_of, at-lane_of}
 use Rattle.awk_axis.specs.Mapped.{IsColumn}
 use Rattle.awk_columns.specs.Lists.{items_at, all_items_at}
 use Rattle.awk_axis.specs.declared.causes.Spoil.TheVariants.{Index}
-use Rattle.awk_select.specs.Cells.{IsBelow, place_number}
+use Rattle.awk_select.specs.Cells.{IsBelow}
 use Rattle.awk_at_each.specs.Each.{item_in, lacks_place, item_at, item_place, item_number, AllHave}
+use Rattle.awk_at_each.specs.Each.{number_by}
 use Rattle.awk_select.specs.Places.{place_in}
 use Rattle.awk_select.proofs.PickedPlaces.{place_in-below}
 
@@ -131,15 +135,20 @@ lists-have i s t y h =
 
 module _ (i : ℤ) (s t : Column) (y : Layout) (p : Column) (spans : AreSpans s t (len y))
     (have : AllHave i s t (size_of s))
-    (made : p ≡ lane_of I64 (size_of s) (item_number i s t)) where
+    (made : p ≡ lane_of I64 (size_of s) (item_number i s t (λ k. pos k))) where
+  place-of : (j m : ℕ) → j < size_of s → item_place i s t j ≡ Some m → at p j ≡ pos m
+  place-of j m l e =
+      ap (λ c. at c j) made
+      ∙ at-lane_of I64 (size_of s) (item_number i s t (λ k. pos k)) j l
+      ∙ ap (number_by (λ k. pos k)) e
+
   number-at : (j k : ℕ) → j < size_of s → place_in (length_of s t j) i ≡ Some k
       → at p j ≡ pos (place_at s j + k)
   number-at j k l e =
-      ap (λ c. at c j) made ∙ at-lane_of I64 (size_of s) (item_number i s t) j l
-      ∙ ap (λ o. place_number (option_map (λ k. place_at s j + k) o)) e
+      place-of j (place_at s j + k) l (ap (option_map (λ k. place_at s j + k)) e)
 
   pub items-size : size_of p ≡ size_of s
-  items-size = ap size_of made ∙ size-lane_of I64 (size_of s) (item_number i s t)
+  items-size = ap size_of made ∙ size-lane_of I64 (size_of s) (item_number i s t (λ k. pos k))
 
   pub items-index : IsIndex p (len y)
   items-index = record {
@@ -169,3 +178,42 @@ module _ (i : ℤ) (s t : Column) (y : Layout) (p : Column) (spans : AreSpans s 
         ∙ sym (item-stays y m h (place-within s t (len y) j f.0 spans l b))
         ∙ ap (simple_value (array_type y)) (sym (item-in i s t y j f.0 f.1 b));
   }
+
+  -- the numbers at the places
+  numbers-picked : (c r : Column) → c.kind ≡ I64
+      → r ≡ lane_of I64 (size_of s) (item_number i s t (at c)) → r ≡ picked c p
+  numbers-picked c r k e =
+      e ∙ ap (λ zs. record { kind = I64; items = zs })
+      (map-same (item_number i s t (at c)) (λ j. at c (place_at p j)) 0 (size_of s)
+      (λ j a b.
+      let l : j < size_of s = omega (arith, b) in
+      let f = found (item_place i s t j) (have j l) in
+      ap (number_by (at c)) f.1
+      ∙ sym (ap (λ z. at c (nat_of z)) (place-of j f.0 l f.1))))
+      ∙ ap₂ (λ kind n. lane_of kind n (λ j. at c (place_at p j))) (sym k) (sym items-size)
+
+  -- they are the items
+  pub numbers-gathered : (c r : Column) → c.kind ≡ I64 → y ≡ flat c
+      → r ≡ lane_of I64 (size_of s) (item_number i s t (at c)) → IsGathered y p (flat r)
+  numbers-gathered c r k q e =
+      subst (λ x. IsGathered x p (flat r)) (sym q)
+      (gathered_of (flat c) (flat (picked c p)) (flat r) p
+      (ap (λ d. flat d) (numbers-picked c r k e)) (ap (λ (d : Column). d.kind) made)
+      (subst (λ x. IsIndex p (len x)) q items-index) (flat_picked c p))
+
+-- ---- numbers that are moved
+
+pub numbers-few : (i : ℤ) (s t c r : Column) → size_of s < 2 ^ 63
+    → r ≡ lane_of I64 (size_of s) (item_number i s t (at c)) → size_of r < 2 ^ 63
+numbers-few i s t c r l e =
+    omega (arith, l, ap size_of e, size-lane_of I64 (size_of s) (item_number i s t (at c)))
+
+pub numbers-column : (i : ℤ) (s t : Column) (y : Layout) (c r : Column) → AreSpans s t (len y)
+    → AllHave i s t (size_of s) → c.kind ≡ I64 → y ≡ flat c → size_of s < 2 ^ 63
+    → AllByRecursion (Has (array_type y)) (array_items y)
+    → r ≡ lane_of I64 (size_of s) (item_number i s t (at c))
+    → IsColumn (array_type y) (λ j. item_in i (items_at s t y j)) (size_of s) (flat r)
+numbers-column i s t y c r spans have k q l h e =
+    let p : Column = lane_of I64 (size_of s) (item_number i s t (λ k. pos k)) in
+    items-column i s t y p spans have refl (flat r)
+    (numbers-gathered i s t y p spans have refl c r k q e) (numbers-few i s t c r l e) h

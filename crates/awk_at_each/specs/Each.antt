@@ -1,5 +1,5 @@
 -- The item at a place of each list that is directly inside the items of a datum.
-use Rattle.std.specs.Prelude.{◌≡◌, ℕ, ◌+◌, ◌-◌, ◌<◌, ℤ, pos, Bool, false, List, length}
+use Rattle.std.specs.Prelude.{◌≡◌, ℕ, ◌+◌, ◌-◌, ◌<◌, ℤ, pos, negsuc, Bool, false, List, length}
 use Rattle.std.specs.Prelude.{get_or}
 use Rattle.std.specs.Prelude.{Option, Some, None, is_none, option_map, Result, if◌then◌else◌}
 use Rattle.std.specs.List.{list_any}
@@ -14,7 +14,6 @@ use Rattle.awk_lanes.specs.Made.{lane_of}
 use Rattle.awk_axis.specs.ListFunction.{ListFunction, singles}
 use Rattle.awk_axis.specs.Lifting.{lift}
 use Rattle.awk_axis.specs.declared.causes.Spoil.TheVariants.{Index}
-use Rattle.awk_select.specs.Cells.{place_number}
 use Rattle.awk_select.specs.Places.{place_in}
 
 -- the item of a list at a place
@@ -42,15 +41,21 @@ at_each_of i d = lift (item_at i) (pos 1) d
 abbrev pub item_place : ℤ → Column → Column → ℕ → Option ℕ
 item_place i s t j = option_map (λ k. place_at s j + k) (place_in (place_at t j - place_at s j) i)
 
-abbrev pub item_number : ℤ → Column → Column → ℕ → ℤ
-item_number i s t j = place_number (item_place i s t j)
+-- what f gives at a place, and -1 at none
+abbrev pub number_by : (ℕ → ℤ) → Option ℕ → ℤ
+number_by f None = negsuc 0
+number_by f (Some k) = f k
+
+-- what stands at the item of list j
+abbrev pub item_number : ℤ → Column → Column → (ℕ → ℤ) → ℕ → ℤ
+item_number i s t f j = number_by f (item_place i s t j)
 
 -- the first n lists have the place
 abbrev pub AllHave : ℤ → Column → Column → ℕ → Type 0
 AllHave i s t n = (j : ℕ) → j < n → is_none (item_place i s t j) ≡ false
 
--- the places of the items of all lists as a lane, or none where some list lacks the place
-abbrev pub AreItemPlaces : ℤ → Column → Column → Option Column → Type 0
-AreItemPlaces i s t None = (j : ℕ) × (j < size_of s) × (item_place i s t j ≡ None)
-AreItemPlaces i s t (Some p) =
-    AllHave i s t (size_of s) × (p ≡ lane_of I64 (size_of s) (item_number i s t))
+-- what stands at the items of all lists as a lane, or none where some list lacks the place
+abbrev pub AreItems : ℤ → Column → Column → (ℕ → ℤ) → Option Column → Type 0
+AreItems i s t f None = (j : ℕ) × (j < size_of s) × (item_place i s t j ≡ None)
+AreItems i s t f (Some p) =
+    AllHave i s t (size_of s) × (p ≡ lane_of I64 (size_of s) (item_number i s t f))

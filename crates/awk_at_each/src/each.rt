@@ -1,21 +1,23 @@
 //! The item at a place of each list.
-ghost use Rattle.std.specs.Prelude.{◌≡◌, ◌<◌, ◌^◌, IfOk, IfSome};
+ghost use Rattle.std.specs.Prelude.{◌≡◌, ◌<◌, ◌≤◌, IfOk, IfSome};
 ghost use Rattle.awk_types.specs.Faults.{fault_told};
 ghost use Rattle.awk_types.specs.Gives.{Gives};
 ghost use Rattle.awk_lanes.specs.Places.{size_of, IsIndex};
 ghost use Rattle.awk_lanes.specs.declared.kind.Kind.TheVariants as Kind;
 ghost use Rattle.awk_layout.specs.Datum.{IsDatum, datum_of};
+ghost use Rattle.awk_layout.specs.Layout.{flat};
 ghost use Rattle.awk_layout.specs.Valid.{len, IsValid};
 ghost use Rattle.awk_gather.specs.Arrays.{IsGathered};
 ghost use Rattle.awk_axis.specs.Mapped.{IsMade};
 ghost use Rattle.awk_at_each.specs.Each as each;
-ghost use Rattle.awk_at_each.specs.Each.{item_place, AreItemPlaces};
+ghost use Rattle.awk_at_each.specs.Each.{item_place, AreItems};
 
+use crate::source::{AtPlaces, Itself};
 use awk_axis::{ListOp, Made, Refusal, Spoil, lift_at};
 use awk_columns::{Bounds, Lists};
 use awk_gather::gather;
-use awk_lanes::{Arena, IndexMaker, Lane, NoMemory, Steps, number};
-use awk_layout::{Array, Datum, Node};
+use awk_lanes::{Arena, Index, IndexMaker, Lane, NoMemory, Steps};
+use awk_layout::{Array, Datum, Node, wide_numbers};
 use awk_select::place_in;
 use awk_types::{Fault, Typ, copy_type};
 use std::alloc::Global;
@@ -47,7 +49,7 @@ pub fn at_each<'a, L: Ledger>(
 fn item_place(lists: &Bounds, i: i64, j: u64) -> Option<u64>
     requires { j < size_of lists.now.starts }
     ensures place { result ≡ item_place i lists.now.starts lists.now.stops j }
-    ensures small { IfSome result (λ k. k < 2 ^ 63) }
+    ensures within { IfSome result (λ k. k < len lists.now.content) }
 {
     let span = lists.span_of(j);
     match place_in(span.length, i) {
@@ -56,10 +58,16 @@ fn item_place(lists: &Bounds, i: i64, j: u64) -> Option<u64>
     }
 }
 
-// Where in the content the items of all lists lie, if each has one.
+// What stands at the item of each list, if each has one.
 #[tactic(auto, using(awk_lanes::proofs::MadeLanes::making))]
-fn item_places<'a>(lists: &Bounds, i: i64, arena: &'a Arena) -> Result<Option<Lane<'a>>, NoMemory>
-    ensures { IfOk result (AreItemPlaces i lists.now.starts lists.now.stops) }
+fn item_lane<'a, S: AtPlaces>(
+    lists: &Bounds,
+    i: i64,
+    source: &S,
+    arena: &'a Arena,
+) -> Result<Option<Lane<'a>>, NoMemory>
+    requires { len lists.now.content ≤ S.size source.now }
+    ensures { IfOk result (AreItems i lists.now.starts lists.now.stops (S.at source.now)) }
 {
     let n = lists.len();
     let mut maker = IndexMaker::new(n, arena)?;
@@ -67,7 +75,7 @@ fn item_places<'a>(lists: &Bounds, i: i64, arena: &'a Arena) -> Result<Option<La
         let Some(place) = item_place(lists, i, j) else {
             return Ok(None);
         };
-        maker.push(number(place));
+        maker.push(source.read(place));
     }
     Ok(Some(maker.finish()))
 }
@@ -90,6 +98,49 @@ fn items_at<'a, L: Ledger>(
     items.node().copy(alloc)
 }
 
+// The item of each list at place i, or that some list has none: the items are gathered by a lane of
+// their places.
+fn gathered_items<'a, L: Ledger>(
+    alloc: Global,
+    lists: &Bounds<'_, 'a>,
+    i: i64,
+    arena: &'a Arena,
+    steps: &mut Steps<L>,
+) -> Result<Made<'a>, NoMemory>
+    ensures { IfOk result (IsMade (each.item_at i) lists.now.class lists.now.starts
+        lists.now.stops lists.now.content) }
+{
+    let content = lists.content();
+    let _ = content.len();
+    match item_lane(lists, i, &Itself, arena)? {
+        None => Ok(Made::Spoiled(Spoil::Index)),
+        Some(places) => Ok(Made::Singles(items_at(alloc, content, &places, arena, steps)?)),
+    }
+}
+
+// The same of numbers that lie side by side in 64 bits: each is moved as its place is found, and no
+// lane of places is made.
+fn moved_items<'a, L: Ledger>(
+    lists: &Bounds<'_, 'a>,
+    i: i64,
+    numbers: &Index<'a>,
+    arena: &'a Arena,
+    steps: &mut Steps<L>,
+) -> Result<Made<'a>, NoMemory>
+    requires kind { numbers.now.kind ≡ Kind.I64 }
+    requires content { lists.now.content ≡ flat numbers.now }
+    ensures { IfOk result (IsMade (each.item_at i) lists.now.class lists.now.starts
+        lists.now.stops lists.now.content) }
+{
+    let content = lists.content();
+    let _ = content.len();
+    let _ = lists.len();
+    match item_lane(lists, i, numbers, arena)? {
+        None => Ok(Made::Spoiled(Spoil::Index)),
+        Some(lane) => Ok(Made::Singles(Node::numpy(lane, steps))),
+    }
+}
+
 // The item of each list at place i, or that some list has none.
 fn items_of<'a, L: Ledger>(
     alloc: Global,
@@ -101,12 +152,10 @@ fn items_of<'a, L: Ledger>(
     ensures { IfOk result (IsMade (each.item_at i) lists.now.class lists.now.starts
         lists.now.stops lists.now.content) }
 {
-    let content = lists.content();
-    let _ = content.len();
     let bounds = Bounds::new(alloc, lists, arena, steps)?;
-    match item_places(&bounds, i, arena)? {
-        None => Ok(Made::Spoiled(Spoil::Index)),
-        Some(places) => Ok(Made::Singles(items_at(alloc, content, &places, arena, steps)?)),
+    match wide_numbers(bounds.content(), steps) {
+        Some(numbers) => moved_items(&bounds, i, &numbers, arena, steps),
+        None => gathered_items(alloc, &bounds, i, arena, steps),
     }
 }
 

@@ -2,5 +2,6 @@
 #![tactic(auto)]
 
 mod each;
+mod source;
 
 pub use each::at_each;

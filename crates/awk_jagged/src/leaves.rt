@@ -199,8 +199,8 @@ fn plain_lane<'x, 'a>(x: &'x Array<'a>) -> Option<&'x Lane<'a>>
     }
 }
 
-/// What is picked from lists of such numbers by an index without nulls: each is moved as its place
-/// is read, and no lane of places is made.
+/// What is picked from lists of numbers that lie side by side in 64 bits by an index without nulls:
+/// each is moved as its place is read, and no lane of places is made.
 fn numbers_taken<'s, 'a, V: Values, L: Ledger>(
     source: &Taken<'_, 's, 'a, V>,
     numbers: &Index<'a>,

@@ -3,8 +3,8 @@
 //! The calls are `at`, `step_range`, `mask` and `take`; `is_mask` and `bound_up` are what the
 //! evaluation asks of a mask's type and of the bounds of a range; `place_in` is the place that a
 //! number names. `Cells` and `cells_of` are the values of a mask or an index, `Values` those in the
-//! form in which they lie (`Truths`, `Sparse`); `place_of` and `mark_of` are what one of them gives,
-//! and a `Sieve` makes a lane of what is kept. Picks row by row stand on these too.
+//! form in which they lie (`Truths`, `Sparse`); `place_of` and `mark_of` tell what one of them
+//! gives, and a `Sieve` makes a lane of what is kept. Picks row by row stand on these too.
 #![tactic(auto)]
 
 mod cells;
