@@ -18,7 +18,8 @@ ghost use Rattle.awk_jagged_rows.specs.Rows.{AreAlike};
 use awk_columns::{Bounds, Lists};
 use awk_gather::{gather, gather_opt};
 use awk_jagged_places::{
-    Beside, Kept, Taken, TakenNumbers, beside_lane, kept_lane, lengths_differ, put_lane,
+    Beside, Kept, Taken, TakenNumbers, beside_lists, kept_lane, lengths_differ, put_lane,
+    room_beside,
 };
 use awk_lanes::{Arena, Index, Kind, Lane, Steps, index_of, offsets_within};
 use awk_layout::{Array, Class, Node, wide_numbers};
@@ -265,7 +266,7 @@ fn by_places<'s, 'a, V: Values, L: Ledger>(
 }
 
 /// What is picked from lists of numbers that lie side by side by truth values: each is moved as the
-/// truth value beside it is read, and no lane of places is made.
+/// truth value beside it is read, and the offsets are made meanwhile. No lane of places is made.
 fn numbers_kept<'s, 'a, L: Ledger>(
     xs: &Bounds<'s, 'a>,
     ws: &Bounds<'s, 'a>,
@@ -288,19 +289,14 @@ fn numbers_kept<'s, 'a, L: Ledger>(
     let index = ws.content();
     let _ = index.len();
     let n = ws.len();
-    let places = Kept {
-        xs,
-        ws,
-        cells: truths,
-    };
-    let Some(offsets) = offsets_within(ITEM_LIMIT, n, &places, arena, steps)? else {
+    let picks = Beside { xs, ws, truths };
+    let Some(room) = room_beside(&picks, arena, steps)? else {
         return Ok(Outcome::TooMany);
     };
-    let picks = Beside { xs, ws, truths };
-    let lane = beside_lane(n, offsets.total, &picks, numbers, arena, steps)?;
+    let moved = beside_lists(n, room, &picks, numbers, arena, steps)?;
     Ok(Outcome::Lists {
-        offsets: offsets.lane,
-        content: Node::numpy(lane, steps),
+        offsets: moved.offsets,
+        content: Node::numpy(moved.lane, steps),
     })
 }
 

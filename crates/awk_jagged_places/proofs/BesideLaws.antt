@@ -1,6 +1,6 @@
 -- What stands beside the true items of masks, while it is put.
-use Rattle.std.specs.Prelude.{◌≡◌, refl, ℕ, ◌+◌, ◌<◌, List, [], ◌++◌, length, map, get_or, Bool}
-use Rattle.std.specs.Prelude.{true, false}
+use Rattle.std.specs.Prelude.{◌≡◌, refl, ℕ, zero, suc, ◌+◌, ◌<◌, ◌≤◌, List, [], ◌++◌, length, map}
+use Rattle.std.specs.Prelude.{get_or, Bool, true, false}
 use Rattle.std.proofs.Common.{arith, ap, ap₂, sym, ◌∙◌}
 use Rattle.std.proofs.lemmas.List.{append_assoc, length-map, map-append}
 use Rattle.awk_base.proofs.Each.{each_of, each_of-more, length-each_of, each_of-room}
@@ -10,10 +10,10 @@ use Rattle.awk_columns.specs.Lists.{Listed, length_of}
 use Rattle.awk_select.specs.Cells.{place_number}
 use Rattle.awk_select.specs.Picks.{mask_place}
 use Rattle.awk_select.specs.Kept.{kept}
-use Rattle.awk_jagged_places.specs.Beside.{group_at, groups_beside}
+use Rattle.awk_jagged_places.specs.Beside.{group_at, groups_beside, kept_length}
 use Rattle.awk_jagged_places.specs.Leaves.{mask_at, mask_first, mask_numbers}
 use Rattle.awk_jagged_places.proofs.FlatLists.{length-each}
-use Rattle.awk_jagged_places.proofs.MaskLaws.{first-more, length-more}
+use Rattle.awk_jagged_places.proofs.MaskLaws.{first-more, length-more, few_first}
 use Rattle.awk_jagged_rows.specs.Levels.{row_at}
 use Rattle.awk_jagged_rows.specs.Rows.{place_by}
 
@@ -86,11 +86,10 @@ module _ (xs ws : Listed) (gs : List (List ℕ)) where
   total-next i old new p n = omega (arith, p, n, length-each_of (mask_numbers xs ws) i)
 
   -- there is room for one list more
-  pub lists-room : (i n total made room : ℕ) → i < n
-      → total ≡ before (λ k. length (mask_numbers xs ws k)) n → room ≡ total + 1
-      → made ≡ length (each_of (mask_numbers xs ws) i)
+  pub lists-room : (i n most made room : ℕ) → i < n → before (kept_length xs ws) n ≤ most
+      → room ≡ most + 1 → made ≡ length (each_of (mask_numbers xs ws) i)
       → made + length (mask_numbers xs ws i) < room
-  lists-room i n total made room l e r m =
+  lists-room i n most made room l e r m =
       omega (
         arith,
         e,
@@ -99,3 +98,20 @@ module _ (xs ws : Listed) (gs : List (List ℕ)) where
         length-each (mask_numbers xs ws) n,
         each_of-room (mask_numbers xs ws) i n l,
       )
+
+  -- how many groups the lists before this one and it have
+  pub offset-next : (i old new : ℕ) → old ≡ length (each_of (mask_numbers xs ws) i)
+      → new ≡ old + length (mask_numbers xs ws i) → new ≡ before (kept_length xs ws) (i + 1)
+  offset-next i old new p n =
+      total-next i old new p n ∙ length-each (mask_numbers xs ws) (i + 1)
+
+-- ---- room
+
+before_le : (f g : ℕ → ℕ) (n : ℕ) → ((i : ℕ) → f i ≤ g i) → before f n ≤ before g n
+before_le f g zero h = omega arith
+before_le f g (suc n) h = omega (arith, before_le f g n h, h n)
+
+-- lists keep no more than they hold
+pub kept-within : (xs ws : Listed) (n : ℕ) → before (kept_length xs ws) n ≤ before (length_of ws) n
+kept-within xs ws n =
+    before_le (kept_length xs ws) (length_of ws) n (λ i. few_first xs ws i (length_of ws i))

@@ -2,6 +2,7 @@ use Rattle.std.proofs.Common.{◌≡◌, ◌≤◌, length, ap, ◌∙◌, sym, 
 use Rattle.std.specs.Prelude.{◌/◌}
 use Rattle.std.specs.List.{flat_map}
 use Rattle.std.specs.Simd.{first_chunks}
+use Rattle.awk_lanes.specs.declared.kind.Kind.TheVariants.{I64}
 use Rattle.awk_lanes.specs.Numbers.{width, numbers}
 use Rattle.awk_lanes.specs.Places.{size_of}
 use Rattle.awk_lanes.proofs.WordLaws.{width-small}
@@ -9,7 +10,7 @@ use Rattle.awk_lanes.proofs.MadeLanes.{lane_is}
 use Rattle.awk_gather_lanes.proofs.MovedGroups.{length-groups}
 use Rattle.awk_jagged_places.specs.Beside.{IsBeside, places_beside}
 use Rattle.awk_jagged_places.proofs.KeptLanes.{numbers-kept}
-use Rattle.awk_jagged_places.proofs.beside.wide_lane.Goals as goal
+use Rattle.awk_jagged_places.proofs.beside.wide_lists.Goals as goal
 
 pub groups_of-requires : goal.groups_of-requires
 groups_of-requires g c =
@@ -30,7 +31,10 @@ groups_of-requires g c =
             c.requires.alike,
             (
               c.requires.content ∙ sym groups,
-              (c.requires.within, (c.requires.total, c.requires.few)),
+              (
+                c.requires.within,
+                (c.requires.room, (c.requires.few, c.in_ok-offsets.ensures)),
+              ),
             ),
           ),
         ),
@@ -44,12 +48,15 @@ returns g c =
     let flat : c.as_flattened.result.now ≡ flat_map (λ x. x) c.in_ok-moved.moved.now =
     c.as_flattened.ensures.value in
     let moved : IsBeside xs ws c.args.n c.as_chunks.result.0.now c.in_ok-moved.moved.now =
-    c.in_ok-moved.ensures in
+    c.in_ok-moved.ensures.groups in
     let items = numbers-kept c.args.lane.now c.bulk.result.now g.row.W c.requires.plain
     c.requires.width c.requires.some c.bulk.ensures.size c.bulk.ensures.numbers
     (places_beside xs ws c.args.n).items c.requires.index c.in_ok-moved.moved.now
     (rw (← c.as_chunks.ensures.front) moved)
     c.as_flattened.result.now flat c.as_flattened.ensures.len in
-    lane_is _ _ (c.new.ensures.kind ∙ c.kind.ensures)
-    (c.new.ensures.items ∙ ap (λ k. numbers k (length c.as_flattened.result.now / width k)
-    c.as_flattened.result.now) c.kind.ensures ∙ items)
+    let lane = lane_is _ _ (c.new-2.ensures.kind ∙ c.kind.ensures)
+    (c.new-2.ensures.items ∙ ap (λ k. numbers k (length c.as_flattened.result.now / width k)
+    c.as_flattened.result.now) c.kind.ensures ∙ items) in (
+      c.finish.ensures ∙ ap (λ zs. record { kind = I64; items = zs }) c.in_ok-moved.ensures.offsets,
+      lane,
+    )
