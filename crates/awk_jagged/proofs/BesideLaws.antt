@@ -220,9 +220,9 @@ module _ (xs ws : Listed) (pairs : size_of xs.starts ≡ size_of ws.starts)
         (size_of ws.starts)
         (λ i q. sym (length-map-range_with_len (take_at xs ws i) 0 (length_of ws i))))
 
-  -- as many numbers as items of the index
-  pub taken-total : (c : Column) (total : ℕ) → total ≡ before (length_of ws) (size_of ws.starts)
-      → total ≡ before (λ i. length (numbers_taken xs ws c i)) (size_of ws.starts)
-  taken-total c total e =
-      e ∙ before-same (length_of ws) (λ i. length (numbers_taken xs ws c i)) (size_of ws.starts)
-      (λ i q. sym (length-map-range_with_len (number_taken xs ws c i) 0 (length_of ws i)))
+-- as many numbers as items of the index
+pub taken-total : (xs ws : Listed) (c : Column) (n total : ℕ) → total ≡ before (length_of ws) n
+    → total ≡ before (λ i. length (numbers_taken xs ws c i)) n
+taken-total xs ws c n total e =
+    e ∙ before-same (length_of ws) (λ i. length (numbers_taken xs ws c i)) n
+    (λ i q. sym (length-map-range_with_len (number_taken xs ws c i) 0 (length_of ws i)))

@@ -1,16 +1,18 @@
 //! The innermost picks: by masks and by places, in pairs of lists.
-ghost use Rattle.std.specs.Prelude.{◌≡◌, ◌≢◌, ◌<◌, ◌^◌, true, false, IfOk, IfSome, IsTrue};
+ghost use Rattle.std.specs.Prelude.{◌≡◌, ◌≢◌, ◌<◌, ◌^◌, true, false, Some, IfOk, IfSome, IsTrue};
+ghost use Rattle.awk_types.specs.ItemLimit.{item_limit};
 ghost use Rattle.awk_types.specs.Simple.{present, is_option};
+ghost use Rattle.awk_lanes.specs.Counted.{before, AreOffsetsBy};
 ghost use Rattle.awk_lanes.specs.Places.{size_of, IsIndex, IsIndexKind, IsOptionalIndex};
 ghost use Rattle.awk_lanes.specs.declared.kind.Kind.TheVariants as Kinds;
 ghost use Rattle.awk_layout.specs.Layout.{flat};
 ghost use Rattle.awk_layout.specs.Typing.{array_type};
 ghost use Rattle.awk_layout.specs.Valid.{len};
+ghost use Rattle.awk_columns.specs.Lists.{length_of};
 ghost use Rattle.awk_select.specs.Cells.{AreCells, truth_cells};
 ghost use Rattle.awk_types.specs.Predicates.{is_leaf};
 ghost use Rattle.awk_select.specs.Picks as picks;
-ghost use Rattle.awk_jagged_places.specs.Leaves.{AreLeaves, take_numbers, mask_numbers};
-ghost use Rattle.awk_jagged_places.specs.Leaves.{AreTested};
+ghost use Rattle.awk_jagged_places.specs.Leaves.{AreLeaves, mask_numbers};
 ghost use Rattle.awk_jagged.specs.PickedAt.{ArePlacesOr, ArePicked, AreWithinOr, IsPickedAt};
 ghost use Rattle.awk_jagged.specs.Outcomes.{IsOutcomeOf};
 ghost use Rattle.awk_jagged_rows.specs.Rows.{AreAlike};
@@ -21,7 +23,7 @@ use awk_jagged_places::{
     Beside, Kept, Taken, TakenNumbers, beside_lists, kept_lane, lengths_differ, put_lane,
     room_beside,
 };
-use awk_lanes::{Arena, Index, Kind, Lane, Steps, index_of, offsets_within};
+use awk_lanes::{Arena, Index, Kind, Lane, Offsets, Steps, index_of, offsets_within};
 use awk_layout::{Array, Class, Node, wide_numbers};
 use awk_select::{Cells, Sparse, Truths, Values, cells_of, is_mask, truths_of};
 use awk_types::{ITEM_LIMIT, NoMemory, is_optional};
@@ -48,30 +50,6 @@ pub enum Outcome<'a> {
 struct Places<'a> {
     offsets: Lane<'a>,
     lane: Lane<'a>,
-}
-
-/// The places that an index names, unless they are too many.
-fn taken<'a, V: Values, L: Ledger>(
-    picks: &Taken<'_, '_, 'a, V>,
-    n: u64,
-    arena: &'a Arena,
-    steps: &mut Steps<L>,
-) -> Result<Option<Places<'a>>, NoMemory>
-    requires leaves { AreLeaves picks.now.xs.now picks.now.ws.now (V.cells picks.now.cells.now) }
-    requires lists { n ≡ size_of picks.now.ws.now.starts }
-    requires fits { n < 2 ^ 63 }
-    ensures { IfOk result (ArePlacesOr (take_numbers picks.now.xs.now picks.now.ws.now) n) }
-{
-    match offsets_within(ITEM_LIMIT, n, picks.ws, arena, steps)? {
-        None => Ok(None),
-        Some(offsets) => {
-            let lane = put_lane(n, offsets.total, picks, arena, steps)?;
-            Ok(Some(Places {
-                offsets: offsets.lane,
-                lane,
-            }))
-        }
-    }
 }
 
 /// The places where a mask is true, unless they are too many.
@@ -169,25 +147,56 @@ fn by_masks<'s, 'a, V: Values, L: Ledger>(
     picked_at(alloc, content, places, optional, arena, steps)
 }
 
-/// What is picked from lists by those of an index, of which each item is null or names a place.
+/// What is told of an index of more items than a column may have: a place that is missing first.
+fn too_many<'a, V: Values, L: Ledger>(
+    source: &Taken<'_, '_, 'a, V>,
+    steps: &mut Steps<L>,
+) -> Outcome<'a>
+    requires leaves { AreLeaves source.now.xs.now source.now.ws.now (V.cells source.now.cells.now) }
+    requires leaf { is_leaf (present (array_type source.now.ws.now.content)) ≡ true }
+    requires mask { picks.is_mask (array_type source.now.ws.now.content) ≡ false }
+    requires many { item_limit
+        < before (length_of source.now.ws.now) (size_of source.now.ws.now.starts) }
+    ensures { IsOutcomeOf source.now.xs.now source.now.ws.now result }
+{
+    let _ = source.xs.content();
+    if source.has_outside(steps) {
+        return Outcome::Outside;
+    }
+    Outcome::TooMany
+}
+
+/// What is picked from n lists by those of an index, in one pass over it.
 fn places_taken<'s, 'a, V: Values, L: Ledger>(
     alloc: Global,
     source: &Taken<'_, 's, 'a, V>,
+    n: u64,
+    offsets: Offsets<'a>,
     arena: &'a Arena,
     steps: &mut Steps<L>,
 ) -> Result<Outcome<'a>, NoMemory>
     requires leaves { AreLeaves source.now.xs.now source.now.ws.now (V.cells source.now.cells.now) }
     requires leaf { is_leaf (present (array_type source.now.ws.now.content)) ≡ true }
     requires mask { picks.is_mask (array_type source.now.ws.now.content) ≡ false }
-    requires inside { AreTested source.now.xs.now source.now.ws.now false }
+    requires lists { n ≡ size_of source.now.ws.now.starts }
+    requires offsets { AreOffsetsBy item_limit (length_of source.now.ws.now) n
+        (Some offsets) }
     ensures { IfOk result (IsOutcomeOf source.now.xs.now source.now.ws.now) }
 {
     let content = source.xs.content();
     let index = source.ws.content();
     let _ = index.len();
     let optional = is_optional(index.typ());
-    let places = taken(source, source.ws.len(), arena, steps)?;
-    picked_at(alloc, content, places, optional, arena, steps)
+    match put_lane(n, offsets.total, source, arena, steps)? {
+        None => Ok(Outcome::Outside),
+        Some(lane) => {
+            let places = Places {
+                offsets: offsets.lane,
+                lane,
+            };
+            picked_at(alloc, content, Some(places), optional, arena, steps)
+        }
+    }
 }
 
 /// The lane of an array of numbers that lie side by side, of which none is a truth value.
@@ -200,11 +209,13 @@ fn plain_lane<'x, 'a>(x: &'x Array<'a>) -> Option<&'x Lane<'a>>
     }
 }
 
-/// What is picked from lists of numbers that lie side by side in 64 bits by an index without nulls:
-/// each is moved as its place is read, and no lane of places is made.
+/// What is picked from n lists of numbers that lie side by side in 64 bits by an index without
+/// nulls: each is moved as its place is read, and no lane of places is made.
 fn numbers_taken<'s, 'a, V: Values, L: Ledger>(
     source: &Taken<'_, 's, 'a, V>,
     numbers: &Index<'a>,
+    n: u64,
+    offsets: Offsets<'a>,
     arena: &'a Arena,
     steps: &mut Steps<L>,
 ) -> Result<Outcome<'a>, NoMemory>
@@ -212,27 +223,55 @@ fn numbers_taken<'s, 'a, V: Values, L: Ledger>(
     requires leaf { is_leaf (present (array_type source.now.ws.now.content)) ≡ true }
     requires mask { picks.is_mask (array_type source.now.ws.now.content) ≡ false }
     requires present { is_option (array_type source.now.ws.now.content) ≡ false }
-    requires inside { AreTested source.now.xs.now source.now.ws.now false }
     requires kind { numbers.now.kind ≡ Kinds.I64 }
     requires content { source.now.xs.now.content ≡ flat numbers.now }
+    requires lists { n ≡ size_of source.now.ws.now.starts }
+    requires offsets { AreOffsetsBy item_limit (length_of source.now.ws.now) n
+        (Some offsets) }
     ensures { IfOk result (IsOutcomeOf source.now.xs.now source.now.ws.now) }
 {
     let _ = source.xs.content();
     let index = source.ws.content();
     let _ = index.len();
-    let n = source.ws.len();
-    let Some(offsets) = offsets_within(ITEM_LIMIT, n, source.ws, arena, steps)? else {
-        return Ok(Outcome::TooMany);
-    };
     let moved = TakenNumbers {
         picks: source,
         numbers,
     };
-    let lane = put_lane(n, offsets.total, &moved, arena, steps)?;
-    Ok(Outcome::Lists {
-        offsets: offsets.lane,
-        content: Node::numpy(lane, steps),
-    })
+    match put_lane(n, offsets.total, &moved, arena, steps)? {
+        None => Ok(Outcome::Outside),
+        Some(lane) => Ok(Outcome::Lists {
+            offsets: offsets.lane,
+            content: Node::numpy(lane, steps),
+        }),
+    }
+}
+
+/// What is picked from n lists by those of an index of places, whose items are not too many.
+fn taken<'s, 'a, V: Values, L: Ledger>(
+    alloc: Global,
+    source: &Taken<'_, 's, 'a, V>,
+    n: u64,
+    offsets: Offsets<'a>,
+    arena: &'a Arena,
+    steps: &mut Steps<L>,
+) -> Result<Outcome<'a>, NoMemory>
+    requires leaves { AreLeaves source.now.xs.now source.now.ws.now (V.cells source.now.cells.now) }
+    requires leaf { is_leaf (present (array_type source.now.ws.now.content)) ≡ true }
+    requires mask { picks.is_mask (array_type source.now.ws.now.content) ≡ false }
+    requires lists { n ≡ size_of source.now.ws.now.starts }
+    requires offsets { AreOffsetsBy item_limit (length_of source.now.ws.now) n
+        (Some offsets) }
+    ensures { IfOk result (IsOutcomeOf source.now.xs.now source.now.ws.now) }
+{
+    let index = source.ws.content();
+    let optional = is_optional(index.typ());
+    if optional {
+        return places_taken(alloc, source, n, offsets, arena, steps);
+    }
+    match wide_numbers(source.xs.content(), steps) {
+        Some(numbers) => numbers_taken(source, &numbers, n, offsets, arena, steps),
+        None => places_taken(alloc, source, n, offsets, arena, steps),
+    }
 }
 
 /// What is picked from lists by those of an index of places.
@@ -250,18 +289,11 @@ fn by_places<'s, 'a, V: Values, L: Ledger>(
     requires cells { AreCells ws.now.content (V.cells cells.now) }
     ensures { IfOk result (IsOutcomeOf xs.now ws.now) }
 {
-    let index = ws.content();
-    let optional = is_optional(index.typ());
     let picks = Taken { xs, ws, cells };
-    if picks.has_outside(steps) {
-        return Ok(Outcome::Outside);
-    }
-    if optional {
-        return places_taken(alloc, &picks, arena, steps);
-    }
-    match wide_numbers(xs.content(), steps) {
-        Some(numbers) => numbers_taken(&picks, &numbers, arena, steps),
-        None => places_taken(alloc, &picks, arena, steps),
+    let n = ws.len();
+    match offsets_within(ITEM_LIMIT, n, ws, arena, steps)? {
+        None => Ok(too_many(&picks, steps)),
+        Some(offsets) => taken(alloc, &picks, n, offsets, arena, steps),
     }
 }
 

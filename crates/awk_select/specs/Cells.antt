@@ -19,6 +19,8 @@ use Rattle.awk_gather.specs.Arrays.{array_item}
 use Rattle.awk_select.specs.Picks.{mask_place, take_place, is_outside}
 use Rattle.awk_select.specs.declared.cells.Cells.{Cells}
 use Rattle.awk_select.specs.declared.cells.Cells.TheVariants.{Nulls, Plain, Optional}
+use Rattle.awk_select.specs.declared.places.Named.{Named}
+use Rattle.awk_select.specs.declared.places.Named.TheVariants.{Outside, Null, At}
 
 abbrev pub cell_shown : Option Num → Value
 cell_shown None = null
@@ -63,6 +65,12 @@ mask_numbers m i = map place_number (mask_place i (array_item m i))
 -- the place that item i of an index names, as a number of a lane
 abbrev pub take_number : ℕ → Layout → ℕ → ℤ
 take_number n ix i = place_number (take_place n (array_item ix i))
+
+-- what an item of an index names among n items
+abbrev pub IsNamed : ℕ → Value → Named → Type 0
+IsNamed n v Outside = is_outside n v ≡ true
+IsNamed n v Null = (is_outside n v ≡ false) × (take_place n v ≡ None)
+IsNamed n v (At k) = (is_outside n v ≡ false) × (take_place n v ≡ Some k) × (k < n)
 
 -- an item of an index names no place of n items, or its place is this number of a lane
 abbrev pub IsTaken : ℕ → Value → Option Num → Type 0

@@ -11,7 +11,6 @@ ghost use Rattle.awk_types.specs.ItemLimit.{too_many};
 ghost use Rattle.awk_lanes.specs.Numbers.{IsOf};
 ghost use Rattle.awk_lanes.specs.declared.kind.Kind.TheVariants as Kinds;
 ghost use Rattle.awk_layout.specs.Datum.{IsDatum, datum_of};
-ghost use Rattle.awk_layout.specs.Shown.{value_of_num};
 ghost use Rattle.awk_layout.specs.Typing.{array_type, array_items, array_datum};
 ghost use Rattle.awk_layout.specs.Valid.{len};
 ghost use Rattle.awk_gather.specs.Arrays.{array_item};
@@ -22,7 +21,7 @@ ghost use Rattle.awk_select.specs.Picks.{picked, picked_type};
 
 use crate::cells::{Cells, cells_of};
 use crate::picked::{judge_type, pick};
-use crate::places::place_in;
+use crate::places::{Named, place_named};
 use crate::values::{Sparse, Values};
 use awk_lanes::{Arena, IndexMaker, Kind, Lane, NoMemory, Num, Steps, number, wide_index};
 use awk_layout::{Array, Datum};
@@ -111,26 +110,16 @@ fn taken_items<'a, L: Ledger>(
     }
 }
 
-// Whether a number of an index names a place of n items.
-fn names_place(n: u64, x: Num) -> bool
-    ensures { not result ≡ is_outside n (value_of_num x) }
-{
-    match x {
-        Num::Int(i) => place_in(n, i).is_some(),
-        Num::Nat(k) => k < n,
-        Num::Truth(_) => true,
-    }
-}
-
 // Whether item i of an index is null or names a place of n items.
 fn is_inside<L: Ledger>(ix: &Array, cells: &Cells, n: u64, i: u64, steps: &mut Steps<L>) -> bool
     requires cells { AreCells ix.now cells.now }
     requires within { i < len ix.now }
     ensures { not result ≡ is_outside n (array_item ix.now i) }
 {
-    match cells.at(i, steps) {
-        None => true,
-        Some(x) => names_place(n, x),
+    match place_named(n, cells.at(i, steps)) {
+        Named::Outside => false,
+        Named::Null => true,
+        Named::At(_) => true,
     }
 }
 
@@ -145,23 +134,6 @@ fn are_inside<L: Ledger>(ix: &Array, cells: &Cells, n: u64, steps: &mut Steps<L>
         }
     }
     true
-}
-
-// The place of n items that a number of an index names, or none where it names none.
-#[inline(always)]
-fn named_place(n: u64, x: Num) -> Option<Num>
-    requires small { n ≤ 2 ^ 63 }
-    ensures kind { IfSome result (λ z. IsOf Kinds.I64 z) }
-    ensures place { IsTaken n (value_of_num x) result }
-{
-    match x {
-        Num::Int(i) => match place_in(n, i) {
-            None => None,
-            Some(k) => Some(number(k)),
-        },
-        Num::Nat(k) => { if k < n { Some(number(k)) } else { None } }
-        Num::Truth(_) => Some(Num::Int(-1)),
-    }
 }
 
 // The place of n items that item i of an index names, -1 for null, or none where it names none.
@@ -179,9 +151,10 @@ fn taken_place<V: Values, L: Ledger>(
     ensures kind { IfSome result (λ z. IsOf Kinds.I64 z) }
     ensures place { IsTaken n (array_item ix.now i) result }
 {
-    match values.value(i, steps) {
-        None => Some(Num::Int(-1)),
-        Some(x) => named_place(n, x),
+    match place_named(n, values.value(i, steps)) {
+        Named::Outside => None,
+        Named::Null => Some(Num::Int(-1)),
+        Named::At(k) => Some(number(k)),
     }
 }
 

@@ -1,7 +1,6 @@
 //! Places that are counted from either end, bounds of ranges, and places as numbers of lanes.
 ghost use Rattle.std.specs.Prelude.{◌≡◌, ◌+◌, ◌-◌, ◌<◌, ◌≤◌, pos};
-ghost use Rattle.awk_layout.specs.Shown.{value_of_num};
-ghost use Rattle.awk_select.specs.Picks.{take_place};
+ghost use Rattle.awk_select.specs.Cells.{cell_shown, IsNamed};
 ghost use Rattle.awk_select.specs.Places as places;
 
 use awk_lanes::Num;
@@ -26,14 +25,29 @@ fn below(n: u64, k: u64) -> Option<u64>
     if k < n { Some(k) } else { None }
 }
 
-/// The place of n items that a number of an index names.
-pub fn place_of(n: u64, x: Num) -> Option<u64>
-    ensures { result ≡ take_place n (value_of_num x) }
+/// What an item of an index names.
+#[derive(Clone, Copy, Debug, PartialEq, Eq)]
+pub enum Named {
+    /// No place, though it is a number.
+    Outside,
+    /// Null.
+    Null,
+    At(u64),
+}
+
+/// What a value of an index names among n items.
+#[inline(always)]
+pub fn place_named(n: u64, value: Option<Num>) -> Named
+    ensures { IsNamed n (cell_shown value) result }
 {
-    match x {
-        Num::Int(i) => place_in(n, i),
-        Num::Nat(k) => below(n, k),
-        Num::Truth(_) => None,
+    match value {
+        None => Named::Null,
+        Some(Num::Truth(_)) => Named::Null,
+        Some(Num::Int(i)) => match place_in(n, i) {
+            None => Named::Outside,
+            Some(k) => Named::At(k),
+        },
+        Some(Num::Nat(k)) => { if k < n { Named::At(k) } else { Named::Outside } }
     }
 }
 
