@@ -34,7 +34,7 @@ returns-in_err-prim-clause-answer g c =
     let e = c.in_err-prim.field-0.0 in
     let failed : c.from_residual.result ≡ Err e = grind arith in
     Gives-Err datum_of fault_told c.from_residual.result e (judged_unary op d) failed
-    (told_primitive op d e (c.in_err-prim.ensures ∙ ap (unary_judged op) c.leaf_type.ensures))
+    (told_primitive op d e (c.in_err-prim.ensures ∙ ap (unary_judged op) c.datum_leaf.ensures))
 
 pub returns-in_err-typ-clause-answer : goal.returns-in_err-typ-clause-answer
 returns-in_err-typ-clause-answer g c =
@@ -43,7 +43,7 @@ returns-in_err-typ-clause-answer g c =
     let xs = c.args.xs.now in
     let p = c.in_ok-prim.prim in
     let judged : unary_judged op (leaf_in (datum_type d)) ≡ Ok p =
-    ap (unary_judged op) (sym c.leaf_type.ensures) ∙ sym c.in_ok-prim.ensures in
+    ap (unary_judged op) (sym c.datum_leaf.ensures) ∙ sym c.in_ok-prim.ensures in
     let e = c.in_err-typ.field-0.0 in
     let failed : c.from_residual-in_err-typ.result ≡ Err e = grind arith in
     Gives-Err datum_of fault_told c.from_residual-in_err-typ.result e (judged_unary op d) failed
@@ -56,7 +56,7 @@ returns-in_err-paired-clause-answer g c =
     let xs = c.args.xs.now in
     let p = c.in_ok-prim.prim in
     let judged : unary_judged op (leaf_in (datum_type d)) ≡ Ok p =
-    ap (unary_judged op) (sym c.leaf_type.ensures) ∙ sym c.in_ok-prim.ensures in
+    ap (unary_judged op) (sym c.datum_leaf.ensures) ∙ sym c.in_ok-prim.ensures in
     let e = c.in_err-paired.field-0.0 in
     let failed : c.from_residual-in_err-paired.result ≡ Err e = grind arith in
     Gives-Err datum_of fault_told c.from_residual-in_err-paired.result e (judged_unary op d) failed
@@ -70,7 +70,7 @@ get-requires g c =
     let xs = c.args.xs.now in
     let p = c.in_ok-prim.prim in
     let judged : unary_judged op (leaf_in (datum_type d)) ≡ Ok p =
-    ap (unary_judged op) (sym c.leaf_type.ensures) ∙ sym c.in_ok-prim.ensures in
+    ap (unary_judged op) (sym c.datum_leaf.ensures) ∙ sym c.in_ok-prim.ensures in
     some_column op d xs p c.requires.data judged c.in_ok-paired.paired.leaves
     c.in_ok-paired.ensures.leaves c.in_ok-paired.ensures.types
 
@@ -81,7 +81,7 @@ leaf_results-requires g c =
     let xs = c.args.xs.now in
     let p = c.in_ok-prim.prim in
     let judged : unary_judged op (leaf_in (datum_type d)) ≡ Ok p =
-    ap (unary_judged op) (sym c.leaf_type.ensures) ∙ sym c.in_ok-prim.ensures in
+    ap (unary_judged op) (sym c.datum_leaf.ensures) ∙ sym c.in_ok-prim.ensures in
     let y = c.get.result.now in
     let s : IsSingle d (shared_ends false None (all_data xs)) y =
     column op d xs p c.requires.data judged c.in_ok-paired.paired.leaves y
@@ -95,7 +95,7 @@ returns-in_err-lane-clause-answer g c =
     let xs = c.args.xs.now in
     let p = c.in_ok-prim.prim in
     let judged : unary_judged op (leaf_in (datum_type d)) ≡ Ok p =
-    ap (unary_judged op) (sym c.leaf_type.ensures) ∙ sym c.in_ok-prim.ensures in
+    ap (unary_judged op) (sym c.datum_leaf.ensures) ∙ sym c.in_ok-prim.ensures in
     let y = c.get.result.now in
     let s : IsSingle d (shared_ends false None (all_data xs)) y =
     column op d xs p c.requires.data judged c.in_ok-paired.paired.leaves y
@@ -114,7 +114,7 @@ numpy-requires g c =
     let xs = c.args.xs.now in
     let p = c.in_ok-prim.prim in
     let judged : unary_judged op (leaf_in (datum_type d)) ≡ Ok p =
-    ap (unary_judged op) (sym c.leaf_type.ensures) ∙ sym c.in_ok-prim.ensures in
+    ap (unary_judged op) (sym c.datum_leaf.ensures) ∙ sym c.in_ok-prim.ensures in
     let y = c.get.result.now in
     let s : IsSingle d (shared_ends false None (all_data xs)) y =
     column op d xs p c.requires.data judged c.in_ok-paired.paired.leaves y
@@ -132,7 +132,7 @@ framed-requires g c =
     let xs = c.args.xs.now in
     let p = c.in_ok-prim.prim in
     let judged : unary_judged op (leaf_in (datum_type d)) ≡ Ok p =
-    ap (unary_judged op) (sym c.leaf_type.ensures) ∙ sym c.in_ok-prim.ensures in
+    ap (unary_judged op) (sym c.datum_leaf.ensures) ∙ sym c.in_ok-prim.ensures in
     let y = c.get.result.now in
     let s : IsSingle d (shared_ends false None (all_data xs)) y =
     column op d xs p c.requires.data judged c.in_ok-paired.paired.leaves y
@@ -151,7 +151,7 @@ within_limits-requires-clause-typ g c =
     let xs = c.args.xs.now in
     let p = c.in_ok-prim.prim in
     let judged : unary_judged op (leaf_in (datum_type d)) ≡ Ok p =
-    ap (unary_judged op) (sym c.leaf_type.ensures) ∙ sym c.in_ok-prim.ensures in
+    ap (unary_judged op) (sym c.datum_leaf.ensures) ∙ sym c.in_ok-prim.ensures in
     let y = c.get.result.now in
     let s : IsSingle d (shared_ends false None (all_data xs)) y =
     column op d xs p c.requires.data judged c.in_ok-paired.paired.leaves y
@@ -181,7 +181,7 @@ returns-clause-answer g c =
     let xs = c.args.xs.now in
     let p = c.in_ok-prim.prim in
     let judged : unary_judged op (leaf_in (datum_type d)) ≡ Ok p =
-    ap (unary_judged op) (sym c.leaf_type.ensures) ∙ sym c.in_ok-prim.ensures in
+    ap (unary_judged op) (sym c.datum_leaf.ensures) ∙ sym c.in_ok-prim.ensures in
     let y = c.get.result.now in
     let s : IsSingle d (shared_ends false None (all_data xs)) y =
     column op d xs p c.requires.data judged c.in_ok-paired.paired.leaves y
@@ -220,7 +220,7 @@ returns-clause-datum g c =
     let xs = c.args.xs.now in
     let p = c.in_ok-prim.prim in
     let judged : unary_judged op (leaf_in (datum_type d)) ≡ Ok p =
-    ap (unary_judged op) (sym c.leaf_type.ensures) ∙ sym c.in_ok-prim.ensures in
+    ap (unary_judged op) (sym c.datum_leaf.ensures) ∙ sym c.in_ok-prim.ensures in
     let y = c.get.result.now in
     let s : IsSingle d (shared_ends false None (all_data xs)) y =
     column op d xs p c.requires.data judged c.in_ok-paired.paired.leaves y
