@@ -1,5 +1,7 @@
-pub mod MaskTypes
 pub mod MaskLeaves
+pub mod ClassLaws
+pub mod AnyLengthLaws
+pub mod DepthLaws
 pub mod MaskFaults
-pub mod MaskMade
+pub mod MadeLaws
 mod Worked

@@ -1,35 +1,30 @@
 -- What is told of an array and a mask over it, in the order of the definition.
-use Rattle.std.specs.Prelude.{◌≡◌, ◌<◌, refl, Bool, true, false, length, map, Option}
-use Rattle.std.specs.Prelude.{Some, None, Result, Ok, Err, option_map}
-use Rattle.std.proofs.Common.{arith, ap, ap₂, sym, ◌∙◌}
+use Rattle.std.specs.Prelude.{◌≡◌, refl, Bool, true, false, map, Option, Some, None, Result, Ok}
+use Rattle.std.specs.Prelude.{Err}
+use Rattle.std.specs.Prelude.{option_map, List}
+use Rattle.std.proofs.Common.{ap, ap₂, sym, ◌∙◌}
 use Rattle.awk_types.specs.DataType.{DataType}
 use Rattle.awk_types.specs.Datum.{Datum, arr}
-use Rattle.awk_types.specs.Faults.{fault_of, fault_told, limit_fault, wrong_unless}
+use Rattle.awk_types.specs.Faults.{fault_of, limit_fault, wrong_unless}
 use Rattle.awk_types.specs.Gives.{Told, refused_or, ◌or◌}
-use Rattle.awk_types.specs.ItemLimit.{item_limit}
 use Rattle.awk_types.specs.Limit.{Limit, limit, limit_told, within, depth_limit, size_limit}
 use Rattle.awk_types.specs.Simple.{simple, simple_value}
+use Rattle.awk_types.specs.Value.{Value}
 use Rattle.awk_types.specs.declared.fault.Fault.{Fault}
-use Rattle.awk_types.specs.declared.fault.Fault.TheVariants.{WrongType, Lengths, Size, NoMemory}
+use Rattle.awk_types.specs.declared.fault.Fault.TheVariants.{WrongType, NoMemory}
 use Rattle.awk_types.specs.declared.limit.TypeFault.{TypeFault}
 use Rattle.awk_types.specs.declared.limit.TypeFault.TheVariants as refused
 use Rattle.awk_types.proofs.RefusalLaws.{refused_or-Ok, refused_or-Err, or-both, no_limit}
 use Rattle.awk_layout.specs.Layout.{Layout}
 use Rattle.awk_layout.specs.Typing.{array_type, array_items, array_datum}
-use Rattle.awk_layout.specs.Valid.{len}
-use Rattle.awk_layout.proofs.ArrayItems.{length-array_items}
-use Rattle.awk_mask_lengths.specs.MaskValues.{masks, masked_type, masked_value, differs}
-use Rattle.awk_mask_lengths.specs.MaskValues.{lists_differ}
-use Rattle.awk_mask_levels.specs.MaskLevels.{IsFit, IsUnder, pairs_of, below_refused, unlike}
-use Rattle.awk_mask_levels.specs.MaskLevels.{levels_refused}
+use Rattle.awk_mask_pairs.specs.MaskTypes.{unsized, levels_refused}
+use Rattle.awk_mask_pairs.specs.MaskValues.{masks, masked_type, masked_value, differs, in_pairs}
+use Rattle.awk_mask_pairs.specs.MaskValues.{lists_differ}
+use Rattle.awk_mask_pairs.proofs.UnsizedLaws.{type-unsized, value-unsized, differs-unsized}
+use Rattle.awk_mask_pairs.proofs.UnsizedLaws.{levels-unsized, pairs-by, differ-by}
 use Rattle.awk_mask.specs.MaskTypes.{IsJudged}
-use Rattle.awk_mask.specs.MaskedArrays.{IsMaskedBy, large_told}
+use Rattle.awk_mask.specs.MaskedArrays.{masked_array}
 use Rattle.awk_mask.specs.PutMask.{types_refused, lengths_refused, put_mask_of}
-use Rattle.awk_mask.specs.declared.masking.Masked.TheVariants as masked
-use Rattle.awk_mask_levels.proofs.MaskColumns.{pairs_length}
-use Rattle.awk_mask_levels.proofs.MaskCounts.{levels_over, levels_within}
-use Rattle.awk_mask_lengths.proofs.MaskPairs.{unequal_lengths}
-use Rattle.awk_mask_levels.proofs.MaskUnder.{under_lengths, fit_under}
 
 -- ---- types
 
@@ -66,12 +61,6 @@ judged_within X x u t s r m q h =
 
 pub ruleset judging = (judged_none, judged_memory, judged_limited, judged_within)
 
--- a fault that is told where some level has too many items
-pub told_by : (b : Bool) (e : Fault) (r : Result Datum Fault) → e ≡ large_told b
-    → r ≡ Err (large_told b) → Told (fault_told e) r
-told_by true e r is h = rw is h
-told_by false e r is h = rw is h
-
 -- ---- an array and a mask of types that tell nothing
 
 module _ (keep : Bool) (m x : Layout)
@@ -86,87 +75,75 @@ module _ (keep : Bool) (m x : Layout)
       allowed true e = refl
       allowed false e = absurd cc
 
-  pub type_within : limit (simple (masked_type (array_type m) (array_type x))) ≡ None
+  type_within : limit (simple (masked_type (array_type m) (array_type x))) ≡ None
   type_within =
       no_limit (limit (simple (masked_type (array_type m) (array_type x))))
       (or-both (wrong_unless (masks (array_type m) (array_type x)))
       (option_map limit_fault (limit (simple (masked_type (array_type m) (array_type x))))) a).1
 
+  abbrev made : List Value
+  made = in_pairs (masked_value (array_type m) keep) (array_items m) (array_items x)
+
   abbrev result : Datum
   result = arr (simple (masked_type (array_type m) (array_type x)))
-      (map (simple_value (masked_type (array_type m) (array_type x))) (pairs_of keep m x))
+      (map (simple_value (masked_type (array_type m) (array_type x))) made)
 
-  -- by what is told of lengths and of levels
-  told : (b : Bool) (o : Option Fault)
-      → lists_differ (differs (array_type m)) (array_items m) (array_items x) ≡ b
-      → levels_refused (array_type m) (pairs_of keep m x) ≡ o
-      → put_mask_of (array_datum x) (array_datum m) keep
-      ≡ refused_or (lengths_refused b or o) result
-  told b o e h =
-      ap (λ r. refused_or (r or (lengths_refused
-      (lists_differ (differs (array_type m)) (array_items m) (array_items x))
-      or levels_refused (array_type m) (pairs_of keep m x))) result) a
-      ∙ ap₂ (λ b o. refused_or (lengths_refused b or o) result) e h
+  abbrev later : Option Fault
+  later = lengths_refused (lists_differ (differs (array_type m)) (array_items m) (array_items x))
+      or levels_refused (array_type m) made
 
-  pub told_lengths : lists_differ (differs (array_type m)) (array_items m) (array_items x) ≡ true
-      → put_mask_of (array_datum x) (array_datum m) keep ≡ Err Lengths
-  told_lengths e = told true (levels_refused (array_type m) (pairs_of keep m x)) e refl
+  -- what is told after types
+  pub told_array : put_mask_of (array_datum x) (array_datum m) keep ≡ masked_array m x keep
+  told_array = ap (λ r. refused_or (r or later) result) a
 
-  module _ (e : lists_differ (differs (array_type m)) (array_items m) (array_items x) ≡ false)
-    where
-      made_length : length (array_items m) ≡ length (array_items x)
-          → length (pairs_of keep m x) ≡ len x
-      made_length h =
-          pairs_length (masked_value (array_type m) keep) (array_items m) (array_items x) h
-          ∙ length-array_items x
+  pub made_within : (r : Layout) → masked_array m x keep ≡ Ok (array_datum r)
+      → limit (array_type r) ≡ None
+  made_within r e =
+      let same : result ≡ array_datum r = (refused_or-Ok later result (array_datum r) e).1 in
+      let typ : simple (masked_type (array_type m) (array_type x)) ≡ array_type r = cc in
+      ap limit (sym typ) ∙ type_within
 
-      told_many : length (array_items m) ≡ length (array_items x) → item_limit < len x
-          → put_mask_of (array_datum x) (array_datum m) keep ≡ Err Size
-      told_many h p =
-          told false (Some Size) e
-          (levels_over (array_type m) (pairs_of keep m x) (omega (arith, p, made_length h)))
+-- ---- a mask whose lists are taken as of any length
 
-  module _ (u : IsUnder m x) where
-    levels : levels_refused (array_type m) (pairs_of keep m x) ≡ below_refused keep m x
-    levels =
-        levels_within (array_type m) (pairs_of keep m x)
-        (omega (arith, u.fits, made_length u.alike (under_lengths m x u)))
+module _ (keep : Bool) (m x w : Layout) (typ : array_type w ≡ unsized (array_type m))
+    (items : array_items w ≡ array_items m) where
+  abbrev told-by : Bool → Option Fault → DataType → List Value → Result Datum Fault
+  told-by b o t vs = refused_or (lengths_refused b or o) (arr (simple t) (map (simple_value t) vs))
 
-    told_below : below_refused keep m x ≡ Some Size
-        → put_mask_of (array_datum x) (array_datum m) keep ≡ Err Size
-    told_below h = told false (Some Size) u.alike (levels ∙ h)
+  same-made : in_pairs (masked_value (array_type w) keep) (array_items w) (array_items x)
+      ≡ in_pairs (masked_value (array_type m) keep) (array_items m) (array_items x)
+  same-made =
+      ap₂ (λ u ms. in_pairs (masked_value u keep) ms (array_items x)) typ items
+      ∙ pairs-by (masked_value (unsized (array_type m)) keep) (masked_value (array_type m) keep)
+      (value-unsized (array_type m) keep) (array_items m) (array_items x)
 
-    pub told_made : (r : Layout) → IsMaskedBy keep m x (masked.Column r)
-        → put_mask_of (array_datum x) (array_datum m) keep ≡ Ok (array_datum r)
-    told_made r h =
-        told false None u.alike (levels ∙ h.0)
-        ∙ ap₂ (λ t vs. Ok (arr t vs)) (sym h.1.typ) (sym h.1.items)
+  same-differ : lists_differ (differs (array_type w)) (array_items w) (array_items x)
+      ≡ lists_differ (differs (array_type m)) (array_items m) (array_items x)
+  same-differ =
+      ap₂ (λ u ms. lists_differ (differs u) ms (array_items x)) typ items
+      ∙ differ-by (differs (unsized (array_type m))) (differs (array_type m))
+      (differs-unsized (array_type m)) (array_items m) (array_items x)
 
-    pub made_within : (r : Layout) → IsMaskedBy keep m x (masked.Column r)
-        → limit (array_type r) ≡ None
-    made_within r h = ap limit h.1.typ ∙ type_within
+  same-type : masked_type (array_type w) (array_type x)
+      ≡ masked_type (array_type m) (array_type x)
+  same-type =
+      ap (λ u. masked_type u (array_type x)) typ ∙ type-unsized (array_type m) (array_type x)
 
-  -- ---- by what the lengths of both arrays tell
+  same-levels : levels_refused (array_type w)
+      (in_pairs (masked_value (array_type w) keep) (array_items w) (array_items x))
+      ≡ levels_refused (array_type m)
+      (in_pairs (masked_value (array_type m) keep) (array_items m) (array_items x))
+  same-levels =
+      ap₂ levels_refused typ same-made
+      ∙ levels-unsized (array_type m)
+      (in_pairs (masked_value (array_type m) keep) (array_items m) (array_items x))
 
-  pub told_unequal : (len m ≡ len x → ⊥) → put_mask_of (array_datum x) (array_datum m) keep
-      ≡ Err Lengths
-  told_unequal h =
-      told_lengths (unequal_lengths (differs (array_type m)) (array_items m) (array_items x)
-      (λ e. h (sym (length-array_items m) ∙ e ∙ length-array_items x)))
-
-  large_by : (b : Bool) → unlike m x ≡ b
-      → (unlike m x ≡ false → put_mask_of (array_datum x) (array_datum m) keep ≡ Err Size)
-      → put_mask_of (array_datum x) (array_datum m) keep ≡ Err (large_told (unlike m x))
-  large_by true e h = told_lengths e ∙ ap (λ b. Err (large_told b)) (sym e)
-  large_by false e h = h e ∙ ap (λ b. Err (large_told b)) (sym e)
-
-  pub told_large : len m ≡ len x → item_limit < len x
-      → put_mask_of (array_datum x) (array_datum m) keep ≡ Err (large_told (unlike m x))
-  told_large s p =
-      large_by (unlike m x) refl
-      (λ e. told_many e (length-array_items m ∙ s ∙ sym (length-array_items x)) p)
-
-  pub told_inside : IsFit m x → IsMaskedBy keep m x masked.TooMany
-      → put_mask_of (array_datum x) (array_datum m) keep ≡ Err (large_told (unlike m x))
-  told_inside f h =
-      large_by (unlike m x) refl (λ e. told_below (fit_under m x f e) (h e))
+  pub masked-unsized : masked_array w x keep ≡ masked_array m x keep
+  masked-unsized =
+      ap₂ (λ b o. told-by b o (masked_type (array_type w) (array_type x))
+      (in_pairs (masked_value (array_type w) keep) (array_items w) (array_items x)))
+      same-differ same-levels
+      ∙ ap₂ (told-by (lists_differ (differs (array_type m)) (array_items m) (array_items x))
+      (levels_refused (array_type m)
+      (in_pairs (masked_value (array_type m) keep) (array_items m) (array_items x))))
+      same-type same-made

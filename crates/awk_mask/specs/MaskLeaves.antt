@@ -1,19 +1,20 @@
 -- Arrays where masks of single truth values are over them, by place.
-use Rattle.std.specs.Prelude.{◌≡◌, ℕ, ◌<◌, ◌^◌, ℤ, Bool, List}
+use Rattle.std.specs.Prelude.{◌≡◌, ℕ, ◌<◌, ◌^◌, ℤ, Bool, false, List, Option, Some, None}
 use Rattle.awk_lanes.specs.Column.{Column}
 use Rattle.awk_lanes.specs.Made.{lane_of}
 use Rattle.awk_lanes.specs.Numbers.{is_nonzero}
-use Rattle.awk_lanes.specs.Places.{size_of, at}
+use Rattle.awk_types.specs.Simple.{simple, simple_value}
+use Rattle.awk_types.specs.Value.{Value, truth}
+use Rattle.awk_lanes.specs.Places.{size_of, at, option_place_at}
 use Rattle.awk_lanes.specs.Words.{column, integers}
 use Rattle.awk_lanes.specs.declared.kind.Kind.TheVariants as kinds
 use Rattle.awk_layout.specs.Item.{leaf_value, agrees}
 use Rattle.awk_layout.specs.Layout.{Layout}
 use Rattle.awk_layout.specs.Typing.{array_type}
-use Rattle.awk_layout.specs.Valid.{len}
 use Rattle.awk_gather.specs.Arrays.{array_item}
 use Rattle.awk_gather.specs.Peeled.{if_shown}
-use Rattle.awk_axis.specs.Mapped.{IsColumn}
-use Rattle.awk_mask_lengths.specs.MaskValues.{masked_type, masked_value}
+use Rattle.awk_layout.specs.Valid.{len, IsValid}
+use Rattle.awk_mask_pairs.specs.MaskValues.{masked_type, masked_value}
 
 -- the items of a mask as a lane
 pub record AreTruths (m : Layout) (c : Column) : Type 0 where
@@ -33,8 +34,34 @@ kept_place c keep i = if_shown (agrees keep (is_nonzero (at c i))) i
 abbrev pub kept_lane : Column → Bool → Column
 kept_lane c keep = lane_of kinds.I64 (size_of c) (kept_place c keep)
 
+-- whether a truth value that may be null is the one that is kept
+abbrev pub is_there : Column → Bool → Option ℕ → Bool
+is_there c keep None = false
+is_there c keep (Some k) = agrees keep (is_nonzero (at c k))
+
+-- the same of an index into truth values, with nulls
+abbrev pub there_place : Column → Column → Bool → ℕ → ℤ
+there_place j c keep i = if_shown (is_there c keep (option_place_at j i)) i
+
+abbrev pub there_lane : Column → Column → Bool → Column
+there_lane j c keep = lane_of kinds.I64 (size_of j) (there_place j c keep)
+
+-- whether an item of a mask is the truth value that is kept
+abbrev pub is_kept : Bool → Value → Bool
+is_kept keep (truth b) = agrees keep b
+is_kept keep v = false
+
+-- the places of a mask that are kept, each as its own place, and -1 elsewhere
+pub record AreKept (m : Layout) (keep : Bool) (p : Column) : Type 0 where
+  pub kind : p.kind ≡ kinds.I64
+  pub size : size_of p ≡ len m
+  pub places : (i : ℕ) → i < len m → at p i ≡ if_shown (is_kept keep (array_item m i)) i
+
 -- r has the items of x, each by the item of the mask at its place
-abbrev pub IsMasked : Layout → Layout → Bool → Layout → Type 0
-IsMasked x m keep r =
-    IsColumn (masked_type (array_type m) (array_type x))
-    (λ i. masked_value (array_type m) keep (array_item m i) (array_item x i)) (len x) r
+pub record IsMasked (x m : Layout) (keep : Bool) (r : Layout) : Type 0 where
+  pub valid : IsValid r
+  pub size : len r ≡ len x
+  pub typ : array_type r ≡ simple (masked_type (array_type m) (array_type x))
+  pub items : (i : ℕ) → i < len x
+      → array_item r i ≡ simple_value (masked_type (array_type m) (array_type x))
+      (masked_value (array_type m) keep (array_item m i) (array_item x i))

@@ -10,9 +10,9 @@ use Rattle.awk_types.specs.Simple.{simple, simple_value}
 use Rattle.awk_types.specs.Value.{Value}
 use Rattle.awk_types.specs.declared.fault.Fault.{Fault}
 use Rattle.awk_types.specs.declared.fault.Fault.TheVariants.{WrongType, Lengths}
-use Rattle.awk_mask_lengths.specs.MaskValues.{masks, masked_type, masked_value, in_pairs}
-use Rattle.awk_mask_lengths.specs.MaskValues.{lists_differ, differs}
-use Rattle.awk_mask_levels.specs.MaskLevels.{levels_refused}
+use Rattle.awk_mask_pairs.specs.MaskValues.{masks, masked_type, masked_value, in_pairs}
+use Rattle.awk_mask_pairs.specs.MaskValues.{lists_differ, differs}
+use Rattle.awk_mask_pairs.specs.MaskTypes.{levels_refused}
 
 abbrev pub lengths_refused : Bool → Option Fault
 lengths_refused unequal = if unequal then Some Lengths else None

@@ -1,11 +1,12 @@
 //! Arrays under a mask.
 //!
 //! `put_mask` keeps the items where a mask over them, as deep as its lists go, is one truth value,
-//! and gives null elsewhere.
+//! and gives null elsewhere. Both are paired, where no list of either is stretched.
 #![tactic(auto)]
 
+mod classes;
 mod mask_leaves;
-mod mask_types;
+mod mask_lists;
 mod masking;
 
 pub use masking::put_mask;

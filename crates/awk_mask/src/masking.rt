@@ -1,152 +1,33 @@
 //! The items of an array where a mask over it is of one truth value, and null elsewhere.
-ghost use Rattle.std.specs.Prelude.{◌≡◌, true, IfOk};
+ghost use Rattle.std.specs.Prelude.{◌≡◌, ◌+◌, ◌∷◌, [], map, false, true, None, IfOk};
 ghost use Rattle.awk_types.specs.Faults.{fault_told};
 ghost use Rattle.awk_types.specs.Gives.{Gives};
-ghost use Rattle.awk_types.specs.declared.fault.Fault.{Fault};
+ghost use Rattle.awk_types.specs.Limit.{limit};
 ghost use Rattle.awk_types.specs.View.{typ_of};
 ghost use Rattle.awk_layout.specs.Datum.{datum_of, IsDatum};
 ghost use Rattle.awk_layout.specs.Typing.{array_type, array_datum};
-ghost use Rattle.awk_layout.specs.Valid.{IsValid};
-ghost use Rattle.awk_columns.specs.ListNode.{list_layout};
-ghost use Rattle.awk_mask_lengths.specs.MaskValues.{masks};
-ghost use Rattle.awk_mask_levels.specs.MaskLevels.{is_innermost, IsFit, IsLevel, unlike};
+ghost use Rattle.awk_columns.specs.Parts.{AreParts};
+ghost use Rattle.awk_frames.specs.View.{shape_of};
+ghost use Rattle.awk_pair_operands.specs.Answer.{single_or_fault, shared_shape, shared_ends};
+ghost use Rattle.awk_pair_operands.specs.First.{all_data};
+ghost use Rattle.awk_pair_operands.specs.Pairs.{leaf_types};
+ghost use Rattle.awk_mask_pairs.specs.MaskTypes as types;
+ghost use Rattle.awk_mask_pairs.specs.MaskValues.{masks};
 ghost use Rattle.awk_mask.specs.MaskTypes.{IsJudged};
-ghost use Rattle.awk_mask.specs.MaskedArrays.{IsMaskedBy, CanHold, IsOver, large_told};
+ghost use Rattle.awk_mask.specs.MaskedArrays.{depth_under, both, masked_array};
 ghost use Rattle.awk_mask.specs.PutMask.{put_mask_of, types_refused};
 
+use crate::classes::classed;
 use crate::mask_leaves::masked_items;
-use crate::mask_types::{masked_type, masks};
-use awk_gather::option_over;
-use awk_lanes::{Arena, Lane, Steps};
-use awk_layout::{Array, Datum, Node};
-use awk_mask_lengths::unequal;
-use awk_mask_levels::{Level, Over, level_of};
-use awk_types::{Fault, ITEM_LIMIT, NoMemory, Typ, simple_of};
+use crate::mask_lists::any_length;
+use awk_frames::framed;
+use awk_lanes::{Arena, Steps};
+use awk_layout::{Array, Datum, Node, Operand, Operands};
+use awk_mask_pairs::{has_ones, mask_levels, masked_type, masks};
+use awk_pair::{Paired, pair_keeping};
+use awk_types::{Fault, NoMemory, Typ, simple_of};
 use std::alloc::Global;
 use std::sync::ledger::Ledger;
-
-/// An array where a mask is over it, or that some lists of both are unequally long, or that some of
-/// its lists have too many items together.
-#[derive(Drop)]
-enum Masked<'a> {
-    Unequal,
-    TooMany,
-    Column(Node<'a>),
-}
-
-/// Lists over their content.
-fn list_node<'a, L: Ledger>(
-    alloc: Global,
-    class: Option<u64>,
-    n: u64,
-    offsets: Lane<'a>,
-    content: Node<'a>,
-    steps: &mut Steps<L>,
-) -> Result<Node<'a>, NoMemory>
-    requires { IsValid (list_layout class n offsets content) }
-    ensures { IfOk result (λ y. y ≡ list_layout class n offsets.entry content.entry) }
-{
-    let content = Box::new(alloc, content)?;
-    match class {
-        None => Ok(Node::list_offset(offsets, content, steps)),
-        Some(size) => Ok(Node::regular(size, n, content, steps)),
-    }
-}
-
-/// What is made at a level, over what is made of its items.
-fn put_over<'a, L: Ledger>(
-    alloc: Global,
-    over: &Over<'a>,
-    made: Masked<'a>,
-    arena: &'a Arena,
-    steps: &mut Steps<L>,
-) -> Result<Masked<'a>, NoMemory>
-    requires { CanHold over.now made }
-    ensures { IfOk result (IsOver over.now made.entry) }
-{
-    match made {
-        Masked::Unequal => Ok(Masked::Unequal),
-        Masked::TooMany => Ok(Masked::TooMany),
-        Masked::Column(node) => match over {
-            Over::Nulls(index) => {
-                let composed = option_over(alloc, &node, index, arena, steps)?;
-                let _ = composed.len();
-                Ok(Masked::Column(composed))
-            }
-            Over::Lists { class, n, offsets } => {
-                let node = list_node(alloc, *class, *n, offsets.copy(), node, steps)?;
-                Ok(Masked::Column(node))
-            }
-        },
-    }
-}
-
-/// An array where a mask of single truth values is over it.
-fn innermost<'a, L: Ledger>(
-    alloc: Global,
-    x: &Array<'a>,
-    m: &Array<'a>,
-    keep: bool,
-    arena: &'a Arena,
-    steps: &mut Steps<L>,
-) -> Result<Masked<'a>, NoMemory>
-    requires fit { IsFit m.now x.now }
-    requires mask { is_innermost (array_type m.now) ≡ true }
-    ensures { IfOk result (IsMaskedBy keep m.now x.now) }
-{
-    let _ = x.len();
-    let node = masked_items(alloc, x, m, keep, arena, steps)?;
-    Ok(Masked::Column(node))
-}
-
-/// An array where a mask is over it.
-#[cycle(masked_array)]
-#[tactic(none)]
-fn masked_array<'a, L: Ledger>(
-    alloc: Global,
-    x: &Array<'a>,
-    m: &Array<'a>,
-    keep: bool,
-    arena: &'a Arena,
-    steps: &mut Steps<L>,
-) -> Result<Masked<'a>, NoMemory>
-    requires { IsFit m.now x.now }
-    ensures { IfOk result (IsMaskedBy keep m.now x.now) }
-{
-    let level = level_of(alloc, x, m, arena, steps)?;
-    masked_level(alloc, &level, x, m, keep, arena, steps)
-}
-
-/// The same by its outermost level.
-#[cycle(masked_array)]
-#[tactic(none)]
-fn masked_level<'a, L: Ledger>(
-    alloc: Global,
-    level: &Level<'a>,
-    x: &Array<'a>,
-    m: &Array<'a>,
-    keep: bool,
-    arena: &'a Arena,
-    steps: &mut Steps<L>,
-) -> Result<Masked<'a>, NoMemory>
-    requires fit { IsFit m.now x.now }
-    requires level { IsLevel m.now x.now level.now }
-    ensures { IfOk result (IsMaskedBy keep m.now x.now) }
-{
-    match level {
-        Level::Unequal => Ok(Masked::Unequal),
-        Level::TooMany => Ok(Masked::TooMany),
-        Level::Innermost => innermost(alloc, x, m, keep, arena, steps),
-        Level::Within {
-            over,
-            x: items,
-            m: mask,
-        } => {
-            let made = masked_array(alloc, items, mask, keep, arena, steps)?;
-            put_over(alloc, over, made, arena, steps)
-        }
-    }
-}
 
 /// What types tell: that the mask is none, or the limit that the type of the result passes.
 #[tactic(auto, using(crate::proofs::MaskFaults::judging))]
@@ -161,23 +42,91 @@ fn judged(alloc: Global, u: &Typ, t: &Typ) -> Result<(), Fault>
     Ok(())
 }
 
-/// What is told of an array of which some level has too many items: lengths that differ come first.
-fn large_fault<'a, L: Ledger>(
+/// An array and a mask over it, as operands.
+fn operands_of<'a>(alloc: Global, x: &Array<'a>, m: &Array<'a>) -> Result<Operands<'a>, NoMemory>
+    ensures { IfOk result (λ r. all_data r ≡ array_datum x.now ∷ array_datum m.now ∷ []) }
+{
+    let mut operands = Operands::new(alloc);
+    operands.push(Operand::Of(Datum::Arr(x.copy(alloc)?)))?;
+    operands.push(Operand::Of(Datum::Arr(m.copy(alloc)?)))?;
+    Ok(operands)
+}
+
+/// How deep an array is paired with a mask: the arrays are a level themselves.
+fn depth_of(u: &Typ) -> u64
+    requires { limit (typ_of u.now) ≡ None }
+    ensures { result ≡ types.mask_levels (typ_of u.now) + 1 }
+{
+    mask_levels(u) + 1
+}
+
+/// An array and a mask paired as deep as the mask's own lists go.
+fn paired_with<'a, L: Ledger>(
     alloc: Global,
     x: &Array<'a>,
     m: &Array<'a>,
     arena: &'a Arena,
     steps: &mut Steps<L>,
-) -> Result<Fault, NoMemory>
-    requires { masks (array_type m.now) (array_type x.now) ≡ true }
-    ensures { let fault = large_told (unlike m.now x.now) in
-        IfOk result (λ (e : Fault). e ≡ fault) }
+) -> Result<Paired<'a>, Fault>
+    ensures answer { let said = single_or_fault true (depth_under m.now) (both m.now x.now) in
+        Gives (λ p. p.single) fault_told result said }
+    ensures shape { let s = shared_shape true (depth_under m.now) (both m.now x.now) in
+        IfOk result (λ p. shape_of p.shape ≡ s) }
+    ensures leaves { let vs = shared_ends true (depth_under m.now) (both m.now x.now) in
+        IfOk result (λ p. AreParts 0 vs p.leaves) }
+    ensures types { let ts = leaf_types (depth_under m.now) (both m.now x.now) in
+        IfOk result (λ p. map array_type p.leaves ≡ ts) }
 {
-    if unequal(alloc, x, m, arena, steps)? {
-        Ok(Fault::Lengths)
-    } else {
-        Ok(Fault::Size)
+    let operands = operands_of(alloc, x, m)?;
+    let depth = depth_of(m.typ());
+    pair_keeping(alloc, &operands, Some(depth), arena, steps)
+}
+
+/// An array where a mask is over it, none of whose lists are of a type of size 1: a pairing of both
+/// stretches none. The lists that both share keep the class of those of the array.
+fn paired_mask<'a, L: Ledger>(
+    alloc: Global,
+    x: &Array<'a>,
+    m: &Array<'a>,
+    keep: bool,
+    arena: &'a Arena,
+    steps: &mut Steps<L>,
+) -> Result<Node<'a>, Fault>
+    requires masks { masks (array_type m.now) (array_type x.now) ≡ true }
+    requires sized { types.has_ones (array_type m.now) ≡ false }
+    ensures { Gives array_datum fault_told result (masked_array m.now x.now keep) }
+{
+    let _ = x.len();
+    let _ = m.len();
+    let t = x.typ();
+    let _ = m.typ();
+    let paired = paired_with(alloc, x, m, arena, steps)?;
+    let items = paired.leaves.get(0);
+    let mask = paired.leaves.get(1);
+    let ends = masked_items(alloc, items, mask, keep, arena, steps)?;
+    let shape = classed(alloc, &paired.shape, t)?;
+    let node = framed(alloc, &shape, ends, steps)?;
+    Ok(node)
+}
+
+/// An array where a mask is over it. A pairing would stretch lists of the mask that are of a type
+/// of size 1, so these are taken as lists of any length.
+fn masked_node<'a, L: Ledger>(
+    alloc: Global,
+    x: &Array<'a>,
+    m: &Array<'a>,
+    keep: bool,
+    arena: &'a Arena,
+    steps: &mut Steps<L>,
+) -> Result<Node<'a>, Fault>
+    requires { masks (array_type m.now) (array_type x.now) ≡ true }
+    ensures { Gives array_datum fault_told result (masked_array m.now x.now keep) }
+{
+    if !has_ones(m.typ()) {
+        return paired_mask(alloc, x, m, keep, arena, steps);
     }
+    let mask = any_length(alloc, m, arena, steps)?;
+    paired_mask(alloc, x, &mask, keep, arena, steps)
 }
 
 /// An array where a mask is over it.
@@ -194,18 +143,8 @@ fn put_mask_over<'a, L: Ledger>(
     ensures datum { IfOk result IsDatum }
 {
     judged(alloc, m.typ(), x.typ())?;
-    let n = x.len();
-    if n != m.len() {
-        return Err(Fault::Lengths);
-    }
-    if n > ITEM_LIMIT {
-        return Err(large_fault(alloc, x, m, arena, steps)?);
-    }
-    match masked_array(alloc, x, m, keep, arena, steps)? {
-        Masked::Unequal => Err(Fault::Lengths),
-        Masked::TooMany => Err(large_fault(alloc, x, m, arena, steps)?),
-        Masked::Column(node) => Ok(Datum::Arr(Array::of_node(alloc, node)?)),
-    }
+    let node = masked_node(alloc, x, m, keep, arena, steps)?;
+    Ok(Datum::Arr(Array::of_node(alloc, node)?))
 }
 
 /// Each item of an array where a mask over it is the truth value that is kept, and null elsewhere.

@@ -1,21 +1,20 @@
 use Rattle.awk_gather.specs.Peeled.{IsPickedOpt}
-use Rattle.awk_mask.specs.MaskLeaves.{kept_lane}
 use Rattle.awk_mask.proofs.MaskLeaves.{kept_index, kept_mask}
 use Rattle.awk_mask.proofs.mask_leaves.masked_items.Goals as goal
 
 pub option_over-requires-clause-places : goal.option_over-requires-clause-places
 option_over-requires-clause-places g c =
-    rw (c.in_ok-places.ensures, c.node.ensures)
-    (kept_index c.args.x.now c.args.m.now c.args.keep c.in_ok-truths.truths
-    c.in_ok-truths.ensures c.requires.lengths)
+    rw c.node.ensures
+    (kept_index c.args.x.now c.args.m.now c.args.keep c.in_ok-places.places c.in_ok-places.ensures
+    c.requires.lengths)
 
 pub returns : goal.returns
 returns g c =
-    let picked : IsPickedOpt c.args.x.now (kept_lane c.in_ok-truths.truths c.args.keep)
-    c.in_ok-node.node = rw (c.in_ok-places.ensures, c.node.ensures) at c.in_ok-node.ensures.items in
+    let picked : IsPickedOpt c.args.x.now c.in_ok-places.places c.in_ok-node.node =
+    rw c.node.ensures at c.in_ok-node.ensures.items in
     record {
       items = kept_mask c.args.x.now c.args.m.now c.in_ok-node.node c.args.keep
-          c.in_ok-truths.truths c.len-2.ensures.valid c.len.ensures.items c.requires.mask
-          c.requires.lengths c.in_ok-truths.ensures picked;
+          c.in_ok-places.places c.len-2.ensures.valid c.len.ensures.items c.requires.mask
+          c.requires.lengths c.in_ok-places.ensures picked;
       composed = c.in_ok-node.ensures.composed;
     }

@@ -1,2 +1,0 @@
-pub mod MaskLists
-pub mod MaskPairs

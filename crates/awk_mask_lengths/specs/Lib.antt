@@ -1,2 +1,0 @@
-pub mod MaskValues
-pub mod MaskLists

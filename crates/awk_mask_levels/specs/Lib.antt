@@ -1,2 +1,0 @@
-pub mod MaskNulls
-pub mod MaskLevels

@@ -1,0 +1,2 @@
+pub mod MaskValues
+pub mod MaskTypes
