@@ -188,28 +188,33 @@ module _ (how : Extreme) (f : ℕ → Option ℕ) (c : Column) (s : ℤ) (a i : 
   null_keyed None e h = null_more how f c a i None e h
   null_keyed (Some b) e h = (h.0, null_more how f c a i (Some (found_of c b)) e h.1)
 
-  pub number_keyed : (next : Best) → next.item ≡ i → f (a + i) ≡ Some next.place
-      → next.place < size_of c → next.key ≡ at c next.place +ℤ s → (best : Option Best)
-      → IsBest how f c s a i best → IsBest how f c s a (i + 1) (Some (better_of how best next))
-  number_keyed next item e l n None h =
-      (n, number_more how f c a i (found_of c next) item e l refl None h)
-  number_keyed next item e l n (Some old) h = go (beats how next.key old.key) refl
-    where
-      better : IsFirst how f c a (i + 1)
-          (better_found how (Some (found_of c old)) (found_of c next))
-      better = number_more how f c a i (found_of c next) item e l refl (Some (found_of c old)) h.1
+  module _ (next : Best) (item : next.item ≡ i) (e : f (a + i) ≡ Some next.place)
+      (l : next.place < size_of c) (n : next.key ≡ at c next.place +ℤ s) where
+    -- the first number
+    pub first_keyed : IsBest how f c s a i None → IsBest how f c s a (i + 1) (Some next)
+    first_keyed h = (n, number_more how f c a i (found_of c next) item e l refl None h)
 
-      same : beats how (at c next.place) (at c old.place) ≡ beats how next.key old.key
-      same = sym (beats-shift how (at c next.place) (at c old.place) s)
-          ∙ ap₂ (beats how) (sym n) (sym h.0)
+    -- one number more
+    pub number_keyed : (old : Best) → IsBest how f c s a i (Some old)
+        → IsBest how f c s a (i + 1) (Some (better_of how old next))
+    number_keyed old h = go (beats how next.key old.key) refl
+      where
+        better : IsFirst how f c a (i + 1)
+            (better_found how (Some (found_of c old)) (found_of c next))
+        better =
+            number_more how f c a i (found_of c next) item e l refl (Some (found_of c old)) h.1
 
-      kept_by : (b : Bool) → beats how next.key old.key ≡ b
-          → IsFirst how f c a (i + 1) (if b then found_of c next else found_of c old)
-      kept_by b t =
-          subst (λ (q : Bool). IsFirst how f c a (i + 1)
-          (if q then found_of c next else found_of c old)) (same ∙ t) better
+        same : beats how (at c next.place) (at c old.place) ≡ beats how next.key old.key
+        same = sym (beats-shift how (at c next.place) (at c old.place) s)
+            ∙ ap₂ (beats how) (sym n) (sym h.0)
 
-      go : (b : Bool) → beats how next.key old.key ≡ b
-          → IsBest how f c s a (i + 1) (Some (if b then next else old))
-      go true t = (n, kept_by true t)
-      go false t = (h.0, kept_by false t)
+        kept_by : (b : Bool) → beats how next.key old.key ≡ b
+            → IsFirst how f c a (i + 1) (if b then found_of c next else found_of c old)
+        kept_by b t =
+            subst (λ (q : Bool). IsFirst how f c a (i + 1)
+            (if q then found_of c next else found_of c old)) (same ∙ t) better
+
+        go : (b : Bool) → beats how next.key old.key ≡ b
+            → IsBest how f c s a (i + 1) (Some (if b then next else old))
+        go true t = (n, kept_by true t)
+        go false t = (h.0, kept_by false t)

@@ -1,6 +1,6 @@
 -- The extreme of numbers while they are read, and its first item.
-use Rattle.std.specs.Prelude.{◌≡◌, ℕ, ◌<◌, ℤ, ◌+ℤ◌, Bool, true, false, List, [], position, Option}
-use Rattle.std.specs.Prelude.{Some, None, if◌then◌else◌}
+use Rattle.std.specs.Prelude.{◌≡◌, ℕ, ◌+◌, ◌<◌, ℤ, ◌+ℤ◌, Bool, true, false, List, [], position}
+use Rattle.std.specs.Prelude.{Option, Some, None, if◌then◌else◌}
 use Rattle.std.specs.List.{range_with_len}
 use Rattle.std.specs.Option.{option_and_then}
 use Rattle.std.specs.Ordering.{int_eq}
@@ -11,10 +11,9 @@ use Rattle.awk_numbers.specs.declared.extremes.Extreme.{Extreme}
 use Rattle.awk_nullable.specs.Numbers.{leaf_number, numbers_from}
 use Rattle.awk_nullable.specs.declared.extremes.Best.{Best}
 
--- the better one of a number and the best so far, by their keys
-abbrev pub better_of : Extreme → Option Best → Best → Best
-better_of how None next = next
-better_of how (Some old) next = if beats how next.key old.key then next else old
+-- the better one of the best so far and another number, by their keys
+abbrev pub better_of : Extreme → Best → Best → Best
+better_of how old next = if beats how next.key old.key then next else old
 
 -- a number, its item and its place in the lane
 pub record Found : Type 0 where
@@ -63,6 +62,19 @@ abbrev pub IsBest : Extreme → (ℕ → Option ℕ) → Column → ℤ → ℕ 
 IsBest how f c shift first n None = IsFound how f c first n None
 IsBest how f c shift first n (Some b) =
     (b.key ≡ at c b.place +ℤ shift) × IsFirst how f c first n (found_of c b)
+
+-- the number of item i, counted from the first one, if that is not null
+abbrev pub IsThere : (ℕ → Option ℕ) → Column → ℤ → ℕ → ℕ → Option Best → Type 0
+IsThere f c shift first i None = f (first + i) ≡ None
+IsThere f c shift first i (Some b) =
+    (b.item ≡ i) × (f (first + i) ≡ Some b.place) × (b.place < size_of c)
+    × (b.key ≡ at c b.place +ℤ shift)
+
+-- the first number of n items, which is their extreme as far as it, or none where all are null
+abbrev pub IsBegun : Extreme → (ℕ → Option ℕ) → Column → ℤ → ℕ → ℕ → Option Best → Type 0
+IsBegun how f c shift first n None = IsBest how f c shift first n None
+IsBegun how f c shift first n (Some b) =
+    (b.item < n) × IsBest how f c shift first (b.item + 1) (Some b)
 
 -- a place of the extreme in the lane, or none of no numbers
 abbrev pub IsExtremeAt : Extreme → Column → List ℤ → Option ℕ → Type 0

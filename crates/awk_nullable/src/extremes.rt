@@ -1,7 +1,8 @@
 //! The least or the greatest item of a list that is not null, and where it stands.
-ghost use Rattle.std.specs.Prelude.{◌≡◌, ◌+◌, ◌<◌, ◌^◌, IfSome};
+ghost use Rattle.std.specs.Prelude.{◌≡◌, ◌+◌, ◌<◌, ◌^◌, Some, IfSome};
 ghost use Rattle.awk_lanes.specs.Places.{size_of};
-ghost use Rattle.awk_nullable.specs.Extremes.{better_of, extreme_place, IsBest, IsExtremeAt};
+ghost use Rattle.awk_nullable.specs.Extremes.{better_of, extreme_place};
+ghost use Rattle.awk_nullable.specs.Extremes.{IsBegun, IsBest, IsExtremeAt, IsThere};
 ghost use Rattle.awk_nullable.specs.Numbers.{leaf_number, numbers_from, AreItems, AreLeading};
 
 use crate::cells::Cells;
@@ -19,27 +20,21 @@ pub(crate) struct Best {
     pub key: i64,
 }
 
-/// The better one of a number and the best so far, if there is one.
+/// The better one of the best so far and another number.
 #[inline(always)]
-fn better<S: Side>(best: Option<Best>, next: Best) -> Best
-    ensures { result ≡ better_of S.how best next }
+fn better<S: Side>(old: Best, next: Best) -> Best
+    ensures { result ≡ better_of S.how old next }
 {
-    match best {
-        Some(old) => {
-            if S::beats(next.key, old.key) {
-                next
-            } else {
-                old
-            }
-        }
-        None => next,
+    if S::beats(next.key, old.key) {
+        next
+    } else {
+        old
     }
 }
 
-/// The best one after item i, counted from the first one.
+/// The number of item i, counted from the first one, if that is not null.
 #[inline(always)]
-fn next_best<S: Side, P: Places, C: Cells, L: Ledger>(
-    best: Option<Best>,
+fn number_there<P: Places, C: Cells, L: Ledger>(
     x: &Leaves<'_, P, C>,
     first: u64,
     i: u64,
@@ -49,26 +44,94 @@ fn next_best<S: Side, P: Places, C: Cells, L: Ledger>(
     requires within { first + i < P.size x.now.places.now }
     requires leads { AreLeading (P.at x.now.places.now) (P.size x.now.places.now)
         (size_of (C.lane x.now.cells.now)) }
-    requires best { IsBest S.how (P.at x.now.places.now) (C.lane x.now.cells.now)
-        (C.shift x.now.cells.now) first i best }
-    ensures { IsBest S.how (P.at x.now.places.now) (C.lane x.now.cells.now)
-        (C.shift x.now.cells.now) first (i + 1) result }
+    ensures { IsThere (P.at x.now.places.now) (C.lane x.now.cells.now) (C.shift x.now.cells.now)
+        first i result }
 {
     match x.places.place(first + i, steps) {
         Some(place) => {
             let key = x.cells.key(place, steps);
-            let next = Best {
+            Some(Best {
                 item: i,
                 place,
                 key,
-            };
-            Some(better::<S>(best, next))
+            })
         }
+        None => None,
+    }
+}
+
+/// The best one after item i, counted from the first one.
+#[inline(always)]
+fn next_best<S: Side, P: Places, C: Cells, L: Ledger>(
+    best: Best,
+    x: &Leaves<'_, P, C>,
+    first: u64,
+    i: u64,
+    steps: &mut Steps<L>,
+) -> Best
+    requires small { first + i < 2 ^ 63 }
+    requires within { first + i < P.size x.now.places.now }
+    requires leads { AreLeading (P.at x.now.places.now) (P.size x.now.places.now)
+        (size_of (C.lane x.now.cells.now)) }
+    requires best { IsBest S.how (P.at x.now.places.now) (C.lane x.now.cells.now)
+        (C.shift x.now.cells.now) first i (Some best) }
+    ensures { IsBest S.how (P.at x.now.places.now) (C.lane x.now.cells.now)
+        (C.shift x.now.cells.now) first (i + 1) (Some result) }
+{
+    match number_there(x, first, i, steps) {
+        Some(next) => better::<S>(best, next),
         None => best,
     }
 }
 
-/// The extreme of the items, or none where all are null.
+/// The first number, or none where all items are null.
+#[inline(always)]
+fn first_there<S: Side, P: Places, C: Cells, L: Ledger>(
+    x: &Leaves<'_, P, C>,
+    first: u64,
+    count: u64,
+    steps: &mut Steps<L>,
+) -> Option<Best>
+    requires items { AreItems (P.at x.now.places.now) (P.size x.now.places.now)
+        (C.lane x.now.cells.now) first count }
+    ensures { IsBegun S.how (P.at x.now.places.now) (C.lane x.now.cells.now)
+        (C.shift x.now.cells.now) first count result }
+{
+    for i in 0..count {
+        match number_there(x, first, i, steps) {
+            Some(lead) => return Some(lead),
+            None => {}
+        }
+    }
+    None
+}
+
+/// The extreme of all items, where the first number is known.
+#[inline(always)]
+fn best_after<S: Side, P: Places, C: Cells, L: Ledger>(
+    lead: Best,
+    x: &Leaves<'_, P, C>,
+    first: u64,
+    count: u64,
+    steps: &mut Steps<L>,
+) -> Best
+    requires items { AreItems (P.at x.now.places.now) (P.size x.now.places.now)
+        (C.lane x.now.cells.now) first count }
+    requires inside { lead.item < count }
+    requires lead { IsBest S.how (P.at x.now.places.now) (C.lane x.now.cells.now)
+        (C.shift x.now.cells.now) first (lead.item + 1) (Some lead) }
+    ensures { IsBest S.how (P.at x.now.places.now) (C.lane x.now.cells.now)
+        (C.shift x.now.cells.now) first count (Some result) }
+{
+    let mut best = lead;
+    for i in lead.item + 1..count {
+        best = next_best::<S, P, C, L>(best, x, first, i, steps);
+    }
+    best
+}
+
+/// The extreme of the items, or none where all are null. Once a number is found, none is asked
+/// whether there was one before.
 fn best_by<S: Side, P: Places, C: Cells, L: Ledger>(
     x: &Leaves<'_, P, C>,
     first: u64,
@@ -80,11 +143,10 @@ fn best_by<S: Side, P: Places, C: Cells, L: Ledger>(
     ensures { IsBest S.how (P.at x.now.places.now) (C.lane x.now.cells.now)
         (C.shift x.now.cells.now) first count result }
 {
-    let mut best = None;
-    for i in 0..count {
-        best = next_best::<S, P, C, L>(best, x, first, i, steps);
+    match first_there::<S, P, C, L>(x, first, count, steps) {
+        Some(lead) => Some(best_after::<S, P, C, L>(lead, x, first, count, steps)),
+        None => None,
     }
-    best
 }
 
 /// The extreme of the items, or none where all are null.
