@@ -1,13 +1,15 @@
-//! How many truth values are true, counted in blocks of bytes.
+//! How many numbers are not 0, and how many truth values are true, counted in blocks of bytes.
 ghost use Rattle.std.specs.Prelude.{◌≡◌, ◌-◌, ◌==◌, ◌≤◌, cond, length, map, not, pos, IfSome};
-ghost use Rattle.std.specs.List.{slice_range, sum_by};
+ghost use Rattle.std.specs.List.{slice_range, sum_by, count_by};
 ghost use Rattle.awk_kernels.specs.Kernels.{count_true};
-ghost use Rattle.awk_lanes.specs.Numbers.{element};
+ghost use Rattle.awk_lanes.specs.Numbers.{element, is_nonzero};
 ghost use Rattle.awk_lanes.specs.declared.kind.Kind.TheVariants as Kind;
 ghost use Rattle.awk_numbers.specs.Folds.{whole_numbers};
 ghost use Rattle.awk_parts.specs.Truths.{IsCounted};
 
+use crate::cells::Cell;
 use crate::parts::Span;
+use crate::truths::is_true;
 use awk_numbers::{Tally, Whole};
 
 /// 1 for a byte that is not 0, else 0.
@@ -90,7 +92,49 @@ fn truths_counted(how: Tally, bytes: &[u8], span: Span) -> Option<u64>
     }
 }
 
-/// How many numbers from a start below a stop are not 0, where that is asked for of truth values.
+/// 1 for true, else 0.
+#[inline(always)]
+fn one_if_true(told: bool) -> u64
+    ensures one { result ≡ cond told 1 0 }
+    ensures small { result ≤ 1 }
+{
+    if told { 1 } else { 0 }
+}
+
+/// How many numbers are not 0.
+#[inline(always)]
+fn nonzero_in<const W: usize, C: Cell<W>>(groups: &[[u8; W]]) -> u64
+    requires few { length groups.now ≤ 1073741824 }
+    ensures { result ≡ count_by is_nonzero (map C.number groups.now) }
+{
+    let mut count: u64 = 0;
+    for i in 0..groups.len() {
+        count += one_if_true(is_true::<W, C>(groups, i));
+    }
+    count
+}
+
+/// How many numbers of cells from a start below a stop are not 0, where that is asked for.
+fn cells_counted<const W: usize, C: Cell<W>>(
+    how: Tally,
+    groups: &[[u8; W]],
+    span: Span,
+) -> Option<u64>
+    requires order { span.start ≤ span.stop }
+    requires within { span.stop ≤ length groups.now }
+    requires few { span.stop - span.start ≤ 1073741824 }
+    ensures { IfSome result
+        (IsCounted how (slice_range (map C.number groups.now) span.start span.stop)) }
+{
+    let part = &groups[span.start as usize..span.stop as usize];
+    match how {
+        Tally::Nonzero => Some(nonzero_in::<W, C>(part)),
+        Tally::Items | Tally::Any | Tally::All => None,
+    }
+}
+
+/// How many numbers from a start below a stop are not 0, where that is asked for and they fit an
+/// i64. There is a loop for each kind.
 pub(crate) fn counted_early(how: Tally, numbers: &Whole, span: Span) -> Option<u64>
     requires order { span.start ≤ span.stop }
     requires within { span.stop ≤ length (whole_numbers numbers.now) }
@@ -100,6 +144,13 @@ pub(crate) fn counted_early(how: Tally, numbers: &Whole, span: Span) -> Option<u
 {
     match *numbers {
         Whole::Truths(bytes) => truths_counted(how, bytes, span),
-        _ => None,
+        Whole::I8(groups) => cells_counted::<1, i8>(how, groups, span),
+        Whole::I16(groups) => cells_counted::<2, i16>(how, groups, span),
+        Whole::I32(groups) => cells_counted::<4, i32>(how, groups, span),
+        Whole::I64(groups) => cells_counted::<8, i64>(how, groups, span),
+        Whole::U8(groups) => cells_counted::<1, u8>(how, groups, span),
+        Whole::U16(groups) => cells_counted::<2, u16>(how, groups, span),
+        Whole::U32(groups) => cells_counted::<4, u32>(how, groups, span),
+        Whole::U64(_) => None,
     }
 }

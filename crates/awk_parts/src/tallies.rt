@@ -25,7 +25,8 @@ pub fn kind_of_tally(how: Tally) -> Kind
     }
 }
 
-/// What is told of the numbers from a start below a stop, where truth values are counted in blocks.
+/// What is told of the numbers from a start below a stop. Those that fit an i64 are counted in a
+/// loop for each kind.
 fn counted<N: Kernels>(how: Tally, numbers: &Whole, span: Span, kernels: &N) -> Num
     requires order { span.start ≤ span.stop }
     requires within { span.stop ≤ length (whole_numbers numbers.now) }

@@ -22,7 +22,7 @@ fn is_not_zero(z: i64) -> bool
 
 /// Whether the number at place i is not 0.
 #[inline(always)]
-fn is_true<const W: usize, C: Cell<W>>(groups: &[[u8; W]], i: usize) -> bool
+pub(crate) fn is_true<const W: usize, C: Cell<W>>(groups: &[[u8; W]], i: usize) -> bool
     requires { i < length groups.now }
     ensures { result ≡ is_nonzero (get_or (map C.number groups.now) i (pos 0)) }
 {

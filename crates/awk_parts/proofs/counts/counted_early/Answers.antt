@@ -1,8 +1,8 @@
-use Rattle.std.proofs.Common.{ap, sym, length, arith, subst}
+use Rattle.std.proofs.Common.{◌≤◌, ap, sym, length, arith, subst}
 use Rattle.std.specs.Prelude.{pos, IfSome}
 use Rattle.std.specs.List.{slice_range}
 use Rattle.std.proofs.lemmas.List.{length-map}
-use Rattle.awk_lanes.specs.Numbers.{element}
+use Rattle.awk_lanes.specs.Numbers.{element, number}
 use Rattle.awk_lanes.specs.declared.kind.Kind.TheVariants as Kind
 use Rattle.awk_numbers.specs.Folds.{whole_numbers}
 use Rattle.awk_parts.specs.Truths.{IsCounted}
@@ -23,3 +23,115 @@ returns-in-Truths c =
     subst (λ zs. IfSome c.truths_counted.result (IsCounted c.args.how zs))
     (sym (ap (λ w. slice_range (whole_numbers w) span.start span.stop) c.in-Truths.is))
     c.truths_counted.ensures
+
+pub cells_counted-requires : goal.cells_counted-requires
+cells_counted-requires c =
+    let within : c.args.span.stop ≤ length c.in-I8.groups.now = omega (
+      arith,
+      c.requires.within,
+      ap (λ w. length (whole_numbers w)) c.in-I8.is,
+      length-map c.in-I8.groups.now (number Kind.I8),
+    ) in (omega arith, (c.requires.order, (within, c.requires.few)))
+
+pub returns-in-I8 : goal.returns-in-I8
+returns-in-I8 c =
+    let span = c.args.span in
+    subst (λ zs. IfSome c.cells_counted.result (IsCounted c.args.how zs))
+    (sym (ap (λ w. slice_range (whole_numbers w) span.start span.stop) c.in-I8.is))
+    c.cells_counted.ensures
+
+pub cells_counted-requires-in-I16 : goal.cells_counted-requires-in-I16
+cells_counted-requires-in-I16 c =
+    let within : c.args.span.stop ≤ length c.in-I16.groups.now = omega (
+      arith,
+      c.requires.within,
+      ap (λ w. length (whole_numbers w)) c.in-I16.is,
+      length-map c.in-I16.groups.now (number Kind.I16),
+    ) in (omega arith, (c.requires.order, (within, c.requires.few)))
+
+pub returns-in-I16 : goal.returns-in-I16
+returns-in-I16 c =
+    let span = c.args.span in
+    subst (λ zs. IfSome c.cells_counted-in-I16.result (IsCounted c.args.how zs))
+    (sym (ap (λ w. slice_range (whole_numbers w) span.start span.stop) c.in-I16.is))
+    c.cells_counted-in-I16.ensures
+
+pub cells_counted-requires-in-I32 : goal.cells_counted-requires-in-I32
+cells_counted-requires-in-I32 c =
+    let within : c.args.span.stop ≤ length c.in-I32.groups.now = omega (
+      arith,
+      c.requires.within,
+      ap (λ w. length (whole_numbers w)) c.in-I32.is,
+      length-map c.in-I32.groups.now (number Kind.I32),
+    ) in (omega arith, (c.requires.order, (within, c.requires.few)))
+
+pub returns-in-I32 : goal.returns-in-I32
+returns-in-I32 c =
+    let span = c.args.span in
+    subst (λ zs. IfSome c.cells_counted-in-I32.result (IsCounted c.args.how zs))
+    (sym (ap (λ w. slice_range (whole_numbers w) span.start span.stop) c.in-I32.is))
+    c.cells_counted-in-I32.ensures
+
+pub cells_counted-requires-in-I64 : goal.cells_counted-requires-in-I64
+cells_counted-requires-in-I64 c =
+    let within : c.args.span.stop ≤ length c.in-I64.groups.now = omega (
+      arith,
+      c.requires.within,
+      ap (λ w. length (whole_numbers w)) c.in-I64.is,
+      length-map c.in-I64.groups.now (number Kind.I64),
+    ) in (omega arith, (c.requires.order, (within, c.requires.few)))
+
+pub returns-in-I64 : goal.returns-in-I64
+returns-in-I64 c =
+    let span = c.args.span in
+    subst (λ zs. IfSome c.cells_counted-in-I64.result (IsCounted c.args.how zs))
+    (sym (ap (λ w. slice_range (whole_numbers w) span.start span.stop) c.in-I64.is))
+    c.cells_counted-in-I64.ensures
+
+pub cells_counted-requires-in-U8 : goal.cells_counted-requires-in-U8
+cells_counted-requires-in-U8 c =
+    let within : c.args.span.stop ≤ length c.in-U8.groups.now = omega (
+      arith,
+      c.requires.within,
+      ap (λ w. length (whole_numbers w)) c.in-U8.is,
+      length-map c.in-U8.groups.now (number Kind.U8),
+    ) in (omega arith, (c.requires.order, (within, c.requires.few)))
+
+pub returns-in-U8 : goal.returns-in-U8
+returns-in-U8 c =
+    let span = c.args.span in
+    subst (λ zs. IfSome c.cells_counted-in-U8.result (IsCounted c.args.how zs))
+    (sym (ap (λ w. slice_range (whole_numbers w) span.start span.stop) c.in-U8.is))
+    c.cells_counted-in-U8.ensures
+
+pub cells_counted-requires-in-U16 : goal.cells_counted-requires-in-U16
+cells_counted-requires-in-U16 c =
+    let within : c.args.span.stop ≤ length c.in-U16.groups.now = omega (
+      arith,
+      c.requires.within,
+      ap (λ w. length (whole_numbers w)) c.in-U16.is,
+      length-map c.in-U16.groups.now (number Kind.U16),
+    ) in (omega arith, (c.requires.order, (within, c.requires.few)))
+
+pub returns-in-U16 : goal.returns-in-U16
+returns-in-U16 c =
+    let span = c.args.span in
+    subst (λ zs. IfSome c.cells_counted-in-U16.result (IsCounted c.args.how zs))
+    (sym (ap (λ w. slice_range (whole_numbers w) span.start span.stop) c.in-U16.is))
+    c.cells_counted-in-U16.ensures
+
+pub cells_counted-requires-in-U32 : goal.cells_counted-requires-in-U32
+cells_counted-requires-in-U32 c =
+    let within : c.args.span.stop ≤ length c.in-U32.groups.now = omega (
+      arith,
+      c.requires.within,
+      ap (λ w. length (whole_numbers w)) c.in-U32.is,
+      length-map c.in-U32.groups.now (number Kind.U32),
+    ) in (omega arith, (c.requires.order, (within, c.requires.few)))
+
+pub returns-in-U32 : goal.returns-in-U32
+returns-in-U32 c =
+    let span = c.args.span in
+    subst (λ zs. IfSome c.cells_counted-in-U32.result (IsCounted c.args.how zs))
+    (sym (ap (λ w. slice_range (whole_numbers w) span.start span.stop) c.in-U32.is))
+    c.cells_counted-in-U32.ensures
