@@ -1,24 +1,38 @@
-//! Whether a truth value is among others, which are read a block at a time.
-ghost use Rattle.std.specs.Prelude.{◌≡◌, ◌||◌, pos, map};
+//! Whether a number that is not 0, or one that is 0, is among others, which are read a block at a
+//! time.
+ghost use Rattle.std.specs.Prelude.{◌≡◌, ◌<◌, ◌||◌, pos, get_or, length, map};
 ghost use Rattle.std.specs.List.{list_any, list_all};
-ghost use Rattle.awk_lanes.specs.Numbers.{element, is_nonzero};
-ghost use Rattle.awk_lanes.specs.declared.kind.Kind.TheVariants as Kind;
+ghost use Rattle.awk_lanes.specs.Numbers.{is_nonzero};
 ghost use Rattle.awk_parts.specs.Truths.{is_wanted as is_wanted_of};
 
-/// Whether the byte of a truth value is not 0.
+use crate::cells::Cell;
+use crate::wide::number_at;
+
+/// Whether a number is not 0.
 #[inline(always)]
-fn is_set(byte: u8) -> bool
-    ensures { result ≡ is_nonzero (element Kind.Bool (pos byte)) }
+fn is_not_zero(z: i64) -> bool
+    ensures { result ≡ is_nonzero z }
 {
-    byte != 0
+    z != 0
 }
 
-/// Whether a byte is that of the truth value that is looked for.
+/// Whether the number at place i is not 0.
 #[inline(always)]
-fn is_wanted(wanted: bool, byte: u8) -> bool
-    ensures { result ≡ is_wanted_of wanted byte }
+pub(crate) fn is_true<const W: usize, C: Cell<W>>(groups: &[[u8; W]], i: usize) -> bool
+    requires { i < length groups.now }
+    ensures { result ≡ is_nonzero (get_or (map C.number groups.now) i (pos 0)) }
 {
-    if wanted { is_set(byte) } else { !is_set(byte) }
+    is_not_zero(number_at::<W, C>(groups, i))
+}
+
+/// Whether the number at place i is one that is looked for: not 0 where `wanted` is true, else 0.
+#[inline(always)]
+fn is_wanted<const W: usize, C: Cell<W>>(wanted: bool, groups: &[[u8; W]], i: usize) -> bool
+    requires { i < length groups.now }
+    ensures { result ≡ is_wanted_of wanted (get_or (map C.number groups.now) i (pos 0)) }
+{
+    let told = is_true::<W, C>(groups, i);
+    if wanted { told } else { !told }
 }
 
 /// Whether one of two holds, without a branch.
@@ -29,45 +43,45 @@ fn either(x: bool, y: bool) -> bool
     x | y
 }
 
-/// Whether the truth value is among those of a block, each of which is read.
+/// Whether a number that is looked for is among those of a block, each of which is read.
 #[inline(always)]
-fn is_in_block(wanted: bool, bytes: &[u8]) -> bool
-    ensures { result ≡ list_any (is_wanted_of wanted) bytes.now }
+fn is_in_block<const W: usize, C: Cell<W>>(wanted: bool, groups: &[[u8; W]]) -> bool
+    ensures { result ≡ list_any (is_wanted_of wanted) (map C.number groups.now) }
 {
     let mut found = false;
-    for i in 0..bytes.len() {
-        found = either(found, is_wanted(wanted, bytes[i]));
+    for i in 0..groups.len() {
+        found = either(found, is_wanted::<W, C>(wanted, groups, i));
     }
     found
 }
 
-/// Whether the truth value is among others. A block has eight, so that a branch is seldom taken
-/// otherwise than the one before.
+/// Whether a number that is looked for is among others. A block has eight, so that a branch is
+/// seldom taken otherwise than the one before.
 #[inline(always)]
-fn is_among(wanted: bool, bytes: &[u8]) -> bool
-    ensures { result ≡ list_any (is_wanted_of wanted) bytes.now }
+fn is_among<const W: usize, C: Cell<W>>(wanted: bool, groups: &[[u8; W]]) -> bool
+    ensures { result ≡ list_any (is_wanted_of wanted) (map C.number groups.now) }
 {
-    let blocks = bytes.len() / 8;
+    let blocks = groups.len() / 8;
     for i in 0..blocks {
-        if is_in_block(wanted, &bytes[i * 8..i * 8 + 8]) {
+        if is_in_block::<W, C>(wanted, &groups[i * 8..i * 8 + 8]) {
             return true;
         }
     }
-    is_in_block(wanted, &bytes[blocks * 8..bytes.len()])
+    is_in_block::<W, C>(wanted, &groups[blocks * 8..groups.len()])
 }
 
-/// Whether some truth value is true.
-pub(crate) fn is_some_set(bytes: &[u8]) -> bool
-    ensures { result
-        ≡ list_any is_nonzero (map (λ b. element Kind.Bool (pos b)) bytes.now) }
+/// Whether some number is not 0.
+#[inline(always)]
+pub(crate) fn is_some_true<const W: usize, C: Cell<W>>(groups: &[[u8; W]]) -> bool
+    ensures { result ≡ list_any is_nonzero (map C.number groups.now) }
 {
-    is_among(true, bytes)
+    is_among::<W, C>(true, groups)
 }
 
-/// Whether no truth value is false.
-pub(crate) fn are_all_set(bytes: &[u8]) -> bool
-    ensures { result
-        ≡ list_all is_nonzero (map (λ b. element Kind.Bool (pos b)) bytes.now) }
+/// Whether no number is 0.
+#[inline(always)]
+pub(crate) fn are_all_true<const W: usize, C: Cell<W>>(groups: &[[u8; W]]) -> bool
+    ensures { result ≡ list_all is_nonzero (map C.number groups.now) }
 {
-    !is_among(false, bytes)
+    !is_among::<W, C>(false, groups)
 }

@@ -7,9 +7,9 @@ ghost use Rattle.awk_lanes.specs.declared.kind.Kind.TheVariants as Kind;
 ghost use Rattle.awk_numbers.specs.Folds.{whole_numbers};
 ghost use Rattle.awk_parts.specs.Truths.{IsCounted};
 
+use crate::blocks::is_true;
 use crate::cells::Cell;
 use crate::parts::Span;
-use crate::truths::is_true;
 use awk_numbers::{Tally, Whole};
 
 /// 1 for a byte that is not 0, else 0.

@@ -5,10 +5,10 @@
 //! or none where one does not fit its primitive, and `tally_parts` their counts; `extremes_of` is
 //! the least or the greatest of each part, `places_of` where it stands; `present_parts` tells which
 //! parts have a number. `fitting_lane` makes a lane of any numbers that are judged so (`Totals`).
-//! Numbers that fit an i64 are compared as such, in a loop for each kind, and their sums and
-//! products are made in numbers of 64 bits where these hold them. Whether some or all of a part are
-//! not 0 is told of them at the first that settles it, and of truth values at the first block; true
-//! ones are counted a block at a time.
+//! Numbers that fit an i64 are compared and counted as such, in a loop for each kind, and their
+//! sums and products are made in numbers of 64 bits where these hold them. Whether some or all of a
+//! part are not 0 is told of them at the first block that settles it; true truth values are counted
+//! a block at a time.
 #![tactic(auto)]
 
 mod blocks;

@@ -1,4 +1,4 @@
-use Rattle.std.proofs.Common.{◌≤◌, ap, sym, length, arith, subst}
+use Rattle.std.proofs.Common.{◌≤◌, ap, sym, ◌∙◌, length, arith, subst}
 use Rattle.std.specs.Prelude.{pos, IfSome}
 use Rattle.std.specs.List.{slice_range}
 use Rattle.std.proofs.lemmas.List.{length-map}
@@ -8,24 +8,28 @@ use Rattle.awk_numbers.specs.Folds.{whole_numbers}
 use Rattle.awk_parts.specs.Truths.{IsTold}
 use Rattle.awk_parts.proofs.truths.told_early.Goals as goal
 
-pub truths_told-requires-clause-within : goal.truths_told-requires-clause-within
-truths_told-requires-clause-within c =
-    omega (
+pub cells_told-requires : goal.cells_told-requires
+cells_told-requires c =
+    let bytes = c.in-Truths.bytes.now in
+    let groups = c.truth_groups.result.now in
+    let within : c.args.span.stop ≤ length groups = omega (
       arith,
       c.requires.within,
       ap (λ w. length (whole_numbers w)) c.in-Truths.is,
-      length-map c.in-Truths.bytes.now (λ b. element Kind.Bool (pos b)),
-    )
+      length-map bytes (λ b. element Kind.Bool (pos b)),
+      ap length c.truth_groups.ensures,
+      length-map groups (λ g. element Kind.Bool (number Kind.Bool g)),
+    ) in (omega arith, (c.requires.order, within))
 
 pub returns-in-Truths : goal.returns-in-Truths
 returns-in-Truths c =
     let span = c.args.span in
-    subst (λ zs. IfSome c.truths_told.result (IsTold c.args.how zs))
-    (sym (ap (λ w. slice_range (whole_numbers w) span.start span.stop) c.in-Truths.is))
-    c.truths_told.ensures
+    subst (λ ys. IfSome c.cells_told.result
+    (IsTold c.args.how (slice_range ys span.start span.stop)))
+    (c.truth_groups.ensures ∙ sym (ap whole_numbers c.in-Truths.is)) c.cells_told.ensures
 
-pub cells_told-requires : goal.cells_told-requires
-cells_told-requires c =
+pub cells_told-requires-in-I8 : goal.cells_told-requires-in-I8
+cells_told-requires-in-I8 c =
     let within : c.args.span.stop ≤ length c.in-I8.groups.now = omega (
       arith,
       c.requires.within,
@@ -36,9 +40,9 @@ cells_told-requires c =
 pub returns-in-I8 : goal.returns-in-I8
 returns-in-I8 c =
     let span = c.args.span in
-    subst (λ zs. IfSome c.cells_told.result (IsTold c.args.how zs))
+    subst (λ zs. IfSome c.cells_told-in-I8.result (IsTold c.args.how zs))
     (sym (ap (λ w. slice_range (whole_numbers w) span.start span.stop) c.in-I8.is))
-    c.cells_told.ensures
+    c.cells_told-in-I8.ensures
 
 pub cells_told-requires-in-I16 : goal.cells_told-requires-in-I16
 cells_told-requires-in-I16 c =

@@ -3,7 +3,7 @@ use Rattle.std.specs.Prelude.{FitsSigned}
 use Rattle.std.specs.Int.{w64}
 use Rattle.std.proofs.lemmas.Int.{to_z-of_z}
 use Rattle.awk_lanes.specs.Numbers.{is_nonzero}
-use Rattle.awk_parts.proofs.truths.is_true.Goals as goal
+use Rattle.awk_parts.proofs.blocks.is_true.Goals as goal
 
 pub returns : goal.returns
 returns g c =
