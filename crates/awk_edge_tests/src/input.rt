@@ -5,7 +5,7 @@ use awk_edge::{Failed, LineFault, Lines, MemSource, NoMemory, Source};
 use std::alloc::Global;
 use std::test::Fail;
 
-const PIECES: [usize; 5] = [1, 2, 4095, 4096, 4097];
+const PIECES: [usize; 5] = [1, 2, 16_383, 16_384, 16_385];
 
 const LIMIT: usize = 1_048_576;
 
