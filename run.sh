@@ -53,4 +53,7 @@ if ! is_built; then
     fi
 fi
 
+# Large arrays are asked of the system in large pages, where it gives them on request: the fewer
+# pages, the sooner a load is done. What the caller has set for the C library stays.
+export GLIBC_TUNABLES="${GLIBC_TUNABLES-glibc.malloc.hugetlb=1}"
 exec "$program" run

@@ -36,6 +36,20 @@ while True:
 """
 
 
+# Tells what the C library is told.
+TUNABLES = "GLIBC_TUNABLES"
+TELLS = f"import os; input(); print(os.environ[{TUNABLES!r}])"
+
+
+def first_line_of(text: str) -> str:
+    """What a small program answers to a line."""
+    running = program.Program([sys.executable, "-c", text])
+    try:
+        return running.exchange([b"line\n"]).decode()
+    finally:
+        running.end()
+
+
 def ends(count: int, status: int) -> Session:
     return Session([sys.executable, "-c", ENDS, str(count), str(status)])
 
@@ -65,6 +79,14 @@ class Programs(unittest.TestCase):
             with mock.patch.object(program, "RUN_SCRIPT", absent):
                 with self.assertRaisesRegex(FileNotFoundError, PROGRAM_VARIABLE):
                     command_with(absent)
+
+    def test_what_the_c_library_is_told(self) -> None:
+        for setting, told in [(None, "glibc.malloc.hugetlb=1"), ("", ""), ("other=2", "other=2")]:
+            with self.subTest(setting=setting), mock.patch.dict(os.environ):
+                os.environ.pop(TUNABLES, None)
+                if setting is not None:
+                    os.environ[TUNABLES] = setting
+                self.assertEqual(first_line_of(TELLS), told)
 
     def test_no_program(self) -> None:
         with self.assertRaises(OSError):

@@ -29,6 +29,10 @@ GRACE = 10
 # it holds, the less the two sides wait for each other.
 SET_PIPE_SIZE, PIPE_SIZE = 1031, 2**20
 
+# Large arrays are asked of the system in large pages, where it gives them on request: the fewer
+# pages, the sooner a load is done. What the environment sets for the C library stays.
+LARGE_PAGES = {"GLIBC_TUNABLES": "glibc.malloc.hugetlb=1"}
+
 # What is sent at once.
 Piece = Union[bytes, memoryview]
 
@@ -49,6 +53,7 @@ class Program:
             stdout=subprocess.PIPE,
             bufsize=0,
             start_new_session=True,
+            env={**LARGE_PAGES, **os.environ},
         )
         assert process.stdin and process.stdout
         self._process, self._input, self._output = process, process.stdin, process.stdout
