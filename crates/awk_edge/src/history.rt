@@ -1,4 +1,4 @@
-// What was noted, for proofs alone.
+//! What was noted, for proofs alone.
 ghost use Rattle.std.specs.Prelude.{◌≡◌, List, [], ◌∷◌, ◌++◌};
 ghost use Rattle.std.specs.Borrow.{ftrue};
 
@@ -17,6 +17,7 @@ impl<A> Model for History<A> {
 }
 
 impl<A> History<A> {
+    /// The history of which nothing was noted.
     pub fn new() -> History<A>
         ensures { result.items ≡ [] }
     {

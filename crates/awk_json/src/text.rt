@@ -1,4 +1,4 @@
-// Texts in quotes, and numbers.
+//! Texts in quotes, and numbers.
 ghost use Rattle.std.specs.Prelude.{◌≡◌, ◌<◌, ◌++◌, IsTrue, decimal, length};
 ghost use Rattle.std.specs.List.{flat_map};
 ghost use Rattle.awk_edge.specs.Causes.{HasCause};

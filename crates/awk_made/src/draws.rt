@@ -1,4 +1,4 @@
-// The events that a seed determines, as the bytes of their columns.
+//! The events that a seed determines, as the bytes of their columns.
 ghost use Rattle.std.specs.Prelude.{◌≡◌, ◌<◌, ◌≤◌, ◌+◌, ◌*◌, ◌++◌, ◌∷◌, [], OnOk, IfOk, length};
 ghost use Rattle.std.specs.Int.{to_le_bytes, cast_unsigned, w8};
 ghost use Rattle.std.specs.List.{flat_map};
@@ -10,7 +10,7 @@ ghost use Rattle.awk_made.specs.Session.{charge_bytes, pts_bytes, charges_bytes}
 use crate::NoMemory;
 use std::alloc::Global;
 
-// The bytes of the three columns of some events.
+/// The bytes of the three columns of some events.
 #[derive(Drop)]
 pub struct Drawn {
     pub offsets: Vec<u8>,
@@ -54,7 +54,7 @@ fn push_muons(n: u64, seed: u64, pts: &mut Vec<u8>, charges: &mut Vec<u8>) -> Re
     Ok(s)
 }
 
-// The columns of the next n events.
+/// The columns of the next n events.
 pub fn draw_events(alloc: Global, seed: u64, n: u64) -> Result<Drawn, NoMemory>
     requires below { seed < 2147483647 }
     requires few { n ≤ 1000000 }

@@ -1,4 +1,4 @@
-// The bytes of a made session, read as those of a source.
+//! The bytes of a made session, read as those of a source.
 ghost use Rattle.std.specs.Prelude.{◌≡◌, false};
 
 use awk_edge::{Failed, Source};
@@ -12,6 +12,7 @@ pub struct MadeSource<'v> {
 }
 
 impl<'v> MadeSource<'v> {
+    /// A source of which nothing was read.
     pub fn new(bytes: &'v [u8]) -> MadeSource<'v>
         ensures { result.rest.now ≡ bytes.now }
     {

@@ -1,4 +1,4 @@
-// Why a fetch is refused.
+//! Why a fetch is refused.
 ghost use Rattle.std.specs.Prelude.{◌≡◌};
 ghost use Rattle.awk_store.specs.declared.fault.StoreFault.TheVariants.{NoMemory};
 

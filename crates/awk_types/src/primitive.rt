@@ -1,4 +1,4 @@
-// The nine leaf types.
+//! The nine leaf types.
 
 /// A whole-number type of 8 to 64 bits, or truth values.
 #[derive(Clone, Copy, Debug, PartialEq, Eq)]
