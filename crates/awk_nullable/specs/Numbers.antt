@@ -33,3 +33,7 @@ pub record AreItems (f : ℕ → Option ℕ) (n : ℕ) (c : Column) (first lengt
   pub small : first + length < 2 ^ 63
   pub few : length ≤ 1073741824
   pub leads : AreLeading f n (size_of c)
+
+-- the places of so many items from a first one on, be they null or not, lie among m numbers
+abbrev pub AreAhead : (ℕ → ℕ) → ℕ → ℕ → ℕ → Type 0
+AreAhead f first length m = (i : ℕ) → i < length → f (first + i) < m

@@ -68,6 +68,11 @@ impl<'a, C: Byte> Cells for ByteCells<'a, C> {
     ghost shift = { λ _. pos 0 };
 
     #[inline(always)]
+    fn len(&self) -> u64 {
+        self.groups.len() as u64
+    }
+
+    #[inline(always)]
     fn exact<L: Ledger>(&self, k: u64, _steps: &mut Steps<L>) -> i128 {
         i128::from(C::number(&self.groups[k as usize]))
     }

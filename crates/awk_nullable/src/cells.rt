@@ -15,6 +15,10 @@ pub trait Cells {
     /// The lane whose numbers they are.
     ghost lane: { Self → Column };
 
+    /// How many numbers there are.
+    fn len(&self) -> u64
+        ensures { result ≡ size_of (lane self.now) };
+
     /// The number at place k.
     fn exact<L: Ledger>(&self, k: u64, steps: &mut Steps<L>) -> i128
         requires { k < size_of (lane self.now) }
@@ -76,6 +80,11 @@ impl<'a> Cells for Lane<'a> {
     ghost shift = { λ x. shift_of x.kind };
 
     #[inline(always)]
+    fn len(&self) -> u64 {
+        Lane::len(self)
+    }
+
+    #[inline(always)]
     fn exact<L: Ledger>(&self, k: u64, steps: &mut Steps<L>) -> i128 {
         as_it_is(self.at(k, steps))
     }
@@ -93,6 +102,11 @@ impl<'a> Cells for Index<'a> {
     ghost lane = { λ x. x };
 
     ghost shift = { λ _. pos 0 };
+
+    #[inline(always)]
+    fn len(&self) -> u64 {
+        Index::len(self)
+    }
 
     #[inline(always)]
     fn exact<L: Ledger>(&self, k: u64, _steps: &mut Steps<L>) -> i128 {

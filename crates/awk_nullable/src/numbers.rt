@@ -1,10 +1,10 @@
 //! The numbers of items one after another, those of nulls left out.
-ghost use Rattle.std.specs.Prelude.{◌≡◌, ◌<◌, ◌≤◌, ◌++◌, ℕ, ℤ, List, [], length, unsigned_abs};
-ghost use Rattle.std.specs.Prelude.{IfSome};
+ghost use Rattle.std.specs.Prelude.{◌≡◌, ◌<◌, ◌≤◌, ◌++◌, ℕ, ℤ, true, List, [], length};
+ghost use Rattle.std.specs.Prelude.{unsigned_abs, IfSome};
 ghost use Rattle.std.specs.Option.{option_map};
 ghost use Rattle.awk_lanes.specs.Places.{size_of};
 ghost use Rattle.awk_nullable.specs.Numbers.{leaf_number, number_list, numbers_from};
-ghost use Rattle.awk_nullable.specs.Numbers.{AreItems, AreLeading, IsFilled};
+ghost use Rattle.awk_nullable.specs.Numbers.{AreItems, AreLeading, AreAhead, IsFilled};
 
 use crate::cells::Cells;
 use crate::places::Places;
@@ -37,6 +37,47 @@ pub(crate) fn number_of<P: Places, C: Cells, L: Ledger>(
     }
 }
 
+/// The same, where a number is read before the item is asked whether it is null.
+#[inline(always)]
+fn number_ahead<P: Places, C: Cells, L: Ledger>(
+    x: &Leaves<'_, P, C>,
+    i: u64,
+    steps: &mut Steps<L>,
+) -> Option<i128>
+    requires within { i < P.size x.now.places.now }
+    requires ahead { P.ahead x.now.places.now i < size_of (C.lane x.now.cells.now) }
+    ensures number { result ≡ leaf_number (P.at x.now.places.now) (C.lane x.now.cells.now) i }
+    ensures near { IfSome result (λ z. unsigned_abs z < 18446744073709551616) }
+{
+    let z = x.cells.exact(x.places.ahead(i), steps);
+    if x.places.shows(i, steps) {
+        Some(z)
+    } else {
+        None
+    }
+}
+
+/// The same, read ahead or not.
+#[inline(always)]
+fn number_by<P: Places, C: Cells, L: Ledger>(
+    ahead: bool,
+    x: &Leaves<'_, P, C>,
+    i: u64,
+    steps: &mut Steps<L>,
+) -> Option<i128>
+    requires within { i < P.size x.now.places.now }
+    requires leads { AreLeading (P.at x.now.places.now) (P.size x.now.places.now)
+        (size_of (C.lane x.now.cells.now)) }
+    requires ahead { ahead ≡ true → P.ahead x.now.places.now i < size_of (C.lane x.now.cells.now) }
+    ensures number { result ≡ leaf_number (P.at x.now.places.now) (C.lane x.now.cells.now) i }
+    ensures near { IfSome result (λ z. unsigned_abs z < 18446744073709551616) }
+{
+    if ahead {
+        return number_ahead(x, i, steps);
+    }
+    number_of(x, i, steps)
+}
+
 /// What numbers come to, one after another.
 pub(crate) trait Total {
     ghost use Rattle.std.specs.Prelude.{ℤ, List, ◌++◌, ◌∷◌};
@@ -64,7 +105,33 @@ fn after<T: Total>(total: T, number: Option<i128>) -> T
     }
 }
 
-/// What the numbers of so many items from a first one on come to.
+/// What the numbers of so many items from a first one on come to, each read ahead or not.
+#[inline(always)]
+fn total_by<T: Total, P: Places, C: Cells, L: Ledger>(
+    ahead: bool,
+    none: T,
+    x: &Leaves<'_, P, C>,
+    first: u64,
+    count: u64,
+    steps: &mut Steps<L>,
+) -> T
+    requires none { T.IsOf none [] }
+    requires items { AreItems (P.at x.now.places.now) (P.size x.now.places.now)
+        (C.lane x.now.cells.now) first count }
+    requires ahead { ahead ≡ true → AreAhead (P.ahead x.now.places.now) first count
+        (size_of (C.lane x.now.cells.now)) }
+    ensures { T.IsOf result (numbers_from (leaf_number (P.at x.now.places.now)
+        (C.lane x.now.cells.now)) first count) }
+{
+    let mut total = none;
+    for i in 0..count {
+        total = after(total, number_by(ahead, x, first + i, steps));
+    }
+    total
+}
+
+/// What the numbers of so many items from a first one on come to. They are read ahead where they
+/// can be, since a branch at each null costs more than a number that is not asked for.
 pub(crate) fn total_of<T: Total, P: Places, C: Cells, L: Ledger>(
     none: T,
     x: &Leaves<'_, P, C>,
@@ -78,11 +145,10 @@ pub(crate) fn total_of<T: Total, P: Places, C: Cells, L: Ledger>(
     ensures { T.IsOf result (numbers_from (leaf_number (P.at x.now.places.now)
         (C.lane x.now.cells.now)) first count) }
 {
-    let mut total = none;
-    for i in 0..count {
-        total = after(total, number_of(x, first + i, steps));
+    if x.places.reaches(x.cells, first, count) {
+        return total_by(true, none, x, first, count, steps);
     }
-    total
+    total_by(false, none, x, first, count, steps)
 }
 
 /// 1 for an item that is there, else 0.

@@ -1,17 +1,25 @@
 //! Where the numbers of items lie, of which some may be null.
-ghost use Rattle.std.specs.Prelude.{◌≡◌, ◌<◌};
+ghost use Rattle.std.specs.Prelude.{◌≡◌, ◌<◌, true, length, [], get_or};
+ghost use Rattle.awk_lanes.specs.Numbers.{number as number_of, is_nonzero};
+ghost use Rattle.awk_lanes.specs.Places.{size_of};
+ghost use Rattle.awk_lanes.specs.declared.kind.Kind.TheVariants as Kind;
 ghost use Rattle.awk_layout.specs.Item.{agrees as agrees_of};
 ghost use Rattle.awk_nullable.specs.Masks.{if_shown};
 
+use crate::cells::Cells;
 use awk_lanes::{Bits, Index, Steps};
 use std::sync::ledger::Ledger;
 
 /// Where the numbers of items lie.
 pub trait Places {
     ghost use Rattle.std.specs.Prelude.{ℕ, Option};
+    ghost use Rattle.awk_nullable.specs.Numbers.{AreItems, AreAhead};
 
     /// The place of an item's number, or none where the item is null.
     ghost at: { Self → ℕ → Option ℕ };
+
+    /// A place for an item, be that null or not: that of its number, if it has one.
+    ghost ahead: { Self → ℕ → ℕ };
 
     /// How many items there are.
     ghost size: { Self → ℕ };
@@ -20,6 +28,23 @@ pub trait Places {
     fn place<L: Ledger>(&self, i: u64, steps: &mut Steps<L>) -> Option<u64>
         requires { i < size self.now }
         ensures { result ≡ at self.now i };
+
+    /// A place for item i, which can be told before the item is asked whether it is null.
+    fn ahead(&self, i: u64) -> u64
+        requires { i < size self.now }
+        ensures { result ≡ ahead self.now i };
+
+    /// Whether item i is not null.
+    fn shows<L: Ledger>(&self, i: u64, steps: &mut Steps<L>) -> bool
+        requires { i < size self.now }
+        ensures { at self.now i ≡ if_shown result (ahead self.now i) };
+
+    /// Whether there is a number at the place of each of so many items from a first one on, be
+    /// they null or not.
+    fn reaches<C: Cells>(&self, cells: &C, first: u64, count: u64) -> bool
+        requires { AreItems (at self.now) (size self.now) (C.lane cells.now) first count }
+        ensures { result ≡ true → AreAhead (ahead self.now) first count
+            (size_of (C.lane cells.now)) };
 }
 
 /// Whether a byte or bit says that an item is there.
@@ -38,17 +63,35 @@ fn shown(shows: bool, i: u64) -> Option<u64>
     if shows { Some(i) } else { None }
 }
 
-/// By the numbers of an index, negative for a null.
+/// By the numbers of an index, negative for a null. For a null any place will do.
 impl<'a> Places for Index<'a> {
+    ghost use Rattle.std.specs.Option.{unwrap_or};
     ghost use Rattle.awk_lanes.specs.Places.{size_of, option_place_at};
 
     ghost at = { λ x. option_place_at x };
+
+    ghost ahead = { λ x i. unwrap_or (option_place_at x i) 0 };
 
     ghost size = { λ x. size_of x };
 
     #[inline(always)]
     fn place<L: Ledger>(&self, i: u64, _steps: &mut Steps<L>) -> Option<u64> {
         self.option_place(i)
+    }
+
+    #[inline(always)]
+    fn ahead(&self, i: u64) -> u64 {
+        self.option_place(i).unwrap_or(0)
+    }
+
+    #[inline(always)]
+    fn shows<L: Ledger>(&self, i: u64, _steps: &mut Steps<L>) -> bool {
+        self.option_place(i).is_some()
+    }
+
+    #[inline(always)]
+    fn reaches<C: Cells>(&self, cells: &C, _first: u64, _count: u64) -> bool {
+        cells.len() > 0
     }
 }
 
@@ -59,18 +102,45 @@ pub struct ByteMask<'a> {
     pub valid_when: bool,
 }
 
+/// Whether the byte of item i says that it is there.
+#[inline(always)]
+fn byte_shows(mask: &ByteMask, i: u64) -> bool
+    requires { i < length mask.now.bytes.now }
+    ensures { result ≡ agrees_of mask.now.valid_when
+        (is_nonzero (number_of Kind.I8 (get_or mask.now.bytes.now i []))) }
+{
+    let set = i8::from_le_bytes(mask.bytes[i as usize]) != 0;
+    agrees(mask.valid_when, set)
+}
+
 impl<'a> Places for ByteMask<'a> {
     ghost use Rattle.std.specs.Prelude.{length};
     ghost use Rattle.awk_nullable.specs.Masks.{byte_place};
 
     ghost at = { λ m. byte_place m.bytes.now m.valid_when };
 
+    ghost ahead = { λ _ i. i };
+
     ghost size = { λ m. length m.bytes.now };
 
     #[inline(always)]
     fn place<L: Ledger>(&self, i: u64, _steps: &mut Steps<L>) -> Option<u64> {
-        let set = i8::from_le_bytes(self.bytes[i as usize]) != 0;
-        shown(agrees(self.valid_when, set), i)
+        shown(byte_shows(self, i), i)
+    }
+
+    #[inline(always)]
+    fn ahead(&self, i: u64) -> u64 {
+        i
+    }
+
+    #[inline(always)]
+    fn shows<L: Ledger>(&self, i: u64, _steps: &mut Steps<L>) -> bool {
+        byte_shows(self, i)
+    }
+
+    #[inline(always)]
+    fn reaches<C: Cells>(&self, cells: &C, first: u64, count: u64) -> bool {
+        first + count <= cells.len()
     }
 }
 
@@ -87,11 +157,28 @@ impl<'a> Places for BitMask<'a> {
 
     ghost at = { λ m. bit_place m.bits m.valid_when };
 
+    ghost ahead = { λ _ i. i };
+
     ghost size = { λ m. length m.bits };
 
     #[inline(always)]
     fn place<L: Ledger>(&self, i: u64, steps: &mut Steps<L>) -> Option<u64> {
         shown(agrees(self.valid_when, self.bits.at(i, steps)), i)
+    }
+
+    #[inline(always)]
+    fn ahead(&self, i: u64) -> u64 {
+        i
+    }
+
+    #[inline(always)]
+    fn shows<L: Ledger>(&self, i: u64, steps: &mut Steps<L>) -> bool {
+        agrees(self.valid_when, self.bits.at(i, steps))
+    }
+
+    #[inline(always)]
+    fn reaches<C: Cells>(&self, cells: &C, first: u64, count: u64) -> bool {
+        first + count <= cells.len()
     }
 }
 
@@ -106,10 +193,27 @@ impl Places for Every {
 
     ghost at = { λ _ i. Some i };
 
+    ghost ahead = { λ _ i. i };
+
     ghost size = { λ m. m.count };
 
     #[inline(always)]
     fn place<L: Ledger>(&self, i: u64, _steps: &mut Steps<L>) -> Option<u64> {
         Some(i)
+    }
+
+    #[inline(always)]
+    fn ahead(&self, i: u64) -> u64 {
+        i
+    }
+
+    #[inline(always)]
+    fn shows<L: Ledger>(&self, _i: u64, _steps: &mut Steps<L>) -> bool {
+        true
+    }
+
+    #[inline(always)]
+    fn reaches<C: Cells>(&self, cells: &C, first: u64, count: u64) -> bool {
+        first + count <= cells.len()
     }
 }

@@ -1,5 +1,5 @@
 use Rattle.awk_nullable.specs.Numbers.{leaf_number, numbers_from}
-use Rattle.awk_nullable.proofs.numbers.total_of.Given as goal
+use Rattle.awk_nullable.proofs.numbers.total_by.Given as goal
 
 abbrev pub invariant-loop-i : goal.invariant-loop-i
 invariant-loop-i g l =
