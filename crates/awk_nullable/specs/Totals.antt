@@ -29,7 +29,6 @@ abbrev pub is_true_number : Option ℤ → Bool
 is_true_number None = false
 is_true_number (Some z) = is_nonzero z
 
--- whether it is not null, and is 0
-abbrev pub is_false_number : Option ℤ → Bool
-is_false_number None = false
-is_false_number (Some z) = not (is_nonzero z)
+-- whether a number is 0
+abbrev pub is_false : ℤ → Bool
+is_false z = not (is_nonzero z)

@@ -6,8 +6,9 @@
 //! folded by `fold_of`, counted by `count_of` and judged by `tally_of`, and `is_some_there` tells
 //! whether there is one; `extreme_of` is where in the lane the least or the greatest of them lies,
 //! and `place_of` where among the items it stands first. Each is one pass, and no lane of their
-//! numbers is made. Where even a null has a place that holds a number, sums, products and counts of
-//! numbers read that before they ask for the null (`Places::ahead`), and take no branch there.
+//! numbers is made. Where even a null has a place that holds a number, sums, products, counts of
+//! numbers, and whether all are true, read that before they ask for the null (`Places::ahead`), and
+//! take no branch there.
 #![tactic(auto)]
 
 mod byte_cells;

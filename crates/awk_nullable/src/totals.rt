@@ -1,10 +1,10 @@
 //! Sums, products and counts of the items of a list that are not null.
-ghost use Rattle.std.specs.Prelude.{◌≡◌, ◌<◌, ◌≤◌, ℤ, List, Some};
+ghost use Rattle.std.specs.Prelude.{◌≡◌, ◌<◌, ◌≤◌, ℤ, List, Some, cond};
 ghost use Rattle.std.specs.List.{count_by, list_any, list_all};
 ghost use Rattle.awk_lanes.specs.Numbers.{int_of, is_nonzero, IsOf as IsOfKind};
 ghost use Rattle.awk_numbers.specs.Folds.{folded, tallied, tally_kind, product, IsNear};
 ghost use Rattle.awk_nullable.specs.Numbers.{leaf_number, numbers_from, AreItems};
-ghost use Rattle.awk_nullable.specs.Totals.{is_true_number, is_false_number, IsProduct};
+ghost use Rattle.awk_nullable.specs.Totals.{is_true_number, is_false, IsProduct};
 
 use crate::cells::Cells;
 use crate::numbers::{Leaves, Total, count_of, number_of, total_of};
@@ -94,6 +94,36 @@ impl Total for Nonzero {
     }
 }
 
+/// 1 for 0, else 0.
+#[inline(always)]
+fn one_if_zero(z: i128) -> u64
+    ensures one { result ≡ cond (is_false z) 1 0 }
+    ensures small { result ≤ 1 }
+{
+    if z == 0 { 1 } else { 0 }
+}
+
+/// How many numbers are 0.
+#[derive(Clone, Copy)]
+pub(crate) struct Zeros {
+    count: u64,
+}
+
+impl Total for Zeros {
+    ghost use Rattle.std.specs.Prelude.{◌≡◌};
+    ghost use Rattle.std.specs.List.{count_by};
+    ghost use Rattle.awk_nullable.specs.Totals.{is_false};
+
+    ghost IsOf = { λ x zs. x.count ≡ count_by is_false zs };
+
+    #[inline(always)]
+    fn with(self, z: i128) -> Zeros {
+        Zeros {
+            count: self.count + one_if_zero(z),
+        }
+    }
+}
+
 /// The exact sum or product of so many items from a first one on, or none where no number of 64
 /// bits is so far from 0.
 pub fn fold_of<P: Places, C: Cells, L: Ledger>(
@@ -149,17 +179,6 @@ fn is_true_there(number: Option<i128>) -> bool
     }
 }
 
-/// Whether an item is not null, and is 0.
-#[inline(always)]
-fn is_false_there(number: Option<i128>) -> bool
-    ensures { result ≡ is_false_number number }
-{
-    match number {
-        Some(z) => !is_true(z),
-        None => false,
-    }
-}
-
 /// Whether some item is not null and not 0.
 fn is_some_true<P: Places, C: Cells, L: Ledger>(
     x: &Leaves<'_, P, C>,
@@ -180,7 +199,42 @@ fn is_some_true<P: Places, C: Cells, L: Ledger>(
     false
 }
 
-/// Whether no item that is not null is 0.
+/// How many of so many items from a first one on are 0 and not null.
+fn zeros_of<P: Places, C: Cells, L: Ledger>(
+    x: &Leaves<'_, P, C>,
+    first: u64,
+    count: u64,
+    steps: &mut Steps<L>,
+) -> u64
+    requires items { AreItems (P.at x.now.places.now) (P.size x.now.places.now)
+        (C.lane x.now.cells.now) first count }
+    ensures { result ≡ count_by is_false (numbers_from (leaf_number (P.at x.now.places.now)
+        (C.lane x.now.cells.now)) first count) }
+{
+    total_of(Zeros { count: 0 }, x, first, count, steps).count
+}
+
+/// Whether no item of a block that is not null is 0. Each is read.
+#[inline(always)]
+fn is_block_true<P: Places, C: Cells, L: Ledger>(
+    x: &Leaves<'_, P, C>,
+    first: u64,
+    count: u64,
+    steps: &mut Steps<L>,
+) -> bool
+    requires items { AreItems (P.at x.now.places.now) (P.size x.now.places.now)
+        (C.lane x.now.cells.now) first count }
+    ensures { result ≡ list_all is_nonzero (numbers_from (leaf_number (P.at x.now.places.now)
+        (C.lane x.now.cells.now)) first count) }
+{
+    if zeros_of(x, first, count, steps) > 0 {
+        return false;
+    }
+    true
+}
+
+/// Whether no item that is not null is 0. A block has 64, so that long lists are left early and
+/// short ones have no branch at an item.
 fn are_all_true<P: Places, C: Cells, L: Ledger>(
     x: &Leaves<'_, P, C>,
     first: u64,
@@ -192,12 +246,13 @@ fn are_all_true<P: Places, C: Cells, L: Ledger>(
     ensures { result ≡ list_all is_nonzero (numbers_from (leaf_number (P.at x.now.places.now)
         (C.lane x.now.cells.now)) first count) }
 {
-    for i in 0..count {
-        if is_false_there(number_of(x, first + i, steps)) {
+    let blocks = count / 64;
+    for i in 0..blocks {
+        if !is_block_true(x, first + i * 64, 64, steps) {
             return false;
         }
     }
-    true
+    is_block_true(x, first + blocks * 64, count - blocks * 64, steps)
 }
 
 /// What is told of the items that are not null.
