@@ -23,14 +23,14 @@ use Rattle.awk_nullable.proofs.FindLaws.{earlier, earlier_none, found, place-mor
 use Rattle.awk_nullable.proofs.KeyLaws.{beats-shift}
 use Rattle.awk_nullable.proofs.NumberLaws.{numbers-more}
 
-abbrev choice : Extreme → ℤ → ℤ → ℤ
+abbrev pub choice : Extreme → ℤ → ℤ → ℤ
 choice Least y z = int_min y z
 choice Greatest y z = int_max y z
 
 same_number : (y z : ℤ) → Some y ≡ Some z → y ≡ z
 same_number y z e = cc
 
-extreme_more : (how : Extreme) (zs : List ℤ) (y z : ℤ) → extreme_of how zs ≡ Some y
+pub extreme_more : (how : Extreme) (zs : List ℤ) (y z : ℤ) → extreme_of how zs ≡ Some y
     → extreme_of how (zs ++ z ∷ []) ≡ Some (choice how y z)
 extreme_more Least [] y z e = cc
 extreme_more Greatest [] y z e = cc
@@ -49,11 +49,11 @@ pub extreme_empty : (how : Extreme) → extreme_of how [] ≡ None
 extreme_empty Least = refl
 extreme_empty Greatest = refl
 
-chosen_new : (how : Extreme) (y z : ℤ) → beats how z y ≡ true → choice how y z ≡ z
+pub chosen_new : (how : Extreme) (y z : ℤ) → beats how z y ≡ true → choice how y z ≡ z
 chosen_new Least y z e = grind (arith, ints)
 chosen_new Greatest y z e = grind (arith, ints)
 
-chosen_old : (how : Extreme) (y z : ℤ) → beats how z y ≡ false → choice how y z ≡ y
+pub chosen_old : (how : Extreme) (y z : ℤ) → beats how z y ≡ false → choice how y z ≡ y
 chosen_old Least y z e = grind (arith, ints)
 chosen_old Greatest y z e = grind (arith, ints)
 
@@ -82,7 +82,7 @@ module _ (how : Extreme) (f : ℕ → Option ℕ) (c : Column) (a i : ℕ) where
 
   -- ---- an item more, that is null
 
-  numbers_kept : f (a + i) ≡ None → numbers_from (leaf_number f c) a (i + 1) ≡ zs
+  pub numbers_kept : f (a + i) ≡ None → numbers_from (leaf_number f c) a (i + 1) ≡ zs
   numbers_kept e =
       numbers-more (leaf_number f c) a i
       ∙ ap (λ o. zs ++ number_list (option_map (at c) o)) e

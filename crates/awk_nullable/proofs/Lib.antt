@@ -4,3 +4,4 @@ pub mod BestLaws
 mod TotalLaws
 mod TruthLaws
 mod KeyLaws
+mod KeyedLaws

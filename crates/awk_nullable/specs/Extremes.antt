@@ -76,10 +76,26 @@ IsBegun how f c shift first n None = IsBest how f c shift first n None
 IsBegun how f c shift first n (Some b) =
     (b.item < n) × IsBest how f c shift first (b.item + 1) (Some b)
 
--- a place of the extreme in the lane, or none of no numbers
-abbrev pub IsExtremeAt : Extreme → Column → List ℤ → Option ℕ → Type 0
-IsExtremeAt how c zs None = zs ≡ []
-IsExtremeAt how c zs (Some k) = (k < size_of c) × (extreme_of how zs ≡ Some (at c k))
+-- the better one of two keys
+abbrev pub better_key : Extreme → ℤ → ℤ → ℤ
+better_key how old next = if beats how next old then next else old
+
+-- the key of an item by the place of its number, or another one where it is null
+abbrev pub key_or : Column → ℤ → ℤ → Option ℕ → ℤ
+key_or c shift other None = other
+key_or c shift other (Some k) = at c k +ℤ shift
+
+-- the key of the extreme, which is a number of the lane, or none of no numbers
+abbrev pub IsExtremeKey : Extreme → Column → ℤ → List ℤ → Option ℤ → Type 0
+IsExtremeKey how c shift zs None = zs ≡ []
+IsExtremeKey how c shift zs (Some key) =
+    (k : ℕ) × (k < size_of c) × (extreme_of how zs ≡ Some (at c k)) × (key ≡ at c k +ℤ shift)
+
+-- the extreme, which is a number of the lane, or none of no numbers
+abbrev pub IsExtreme : Extreme → Column → List ℤ → Option ℤ → Type 0
+IsExtreme how c zs None = zs ≡ []
+IsExtreme how c zs (Some z) =
+    (k : ℕ) × (k < size_of c) × (extreme_of how zs ≡ Some z) × (z ≡ at c k)
 
 -- the first item of the extreme
 abbrev pub extreme_place : Extreme → (ℕ → Option ℤ) → ℕ → ℕ → Option ℕ

@@ -68,6 +68,11 @@ impl<'a, C: Byte> Cells for ByteCells<'a, C> {
     ghost shift = { λ _. pos 0 };
 
     #[inline(always)]
+    fn shift(&self) -> i64 {
+        0
+    }
+
+    #[inline(always)]
     fn len(&self) -> u64 {
         self.groups.len() as u64
     }

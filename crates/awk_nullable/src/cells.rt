@@ -2,9 +2,9 @@
 ghost use Rattle.std.specs.Prelude.{◌≡◌, ◌<◌, ◌+ℤ◌, pos, negsuc, unsigned_abs};
 ghost use Rattle.awk_lanes.specs.Numbers.{int_of};
 ghost use Rattle.awk_lanes.specs.Places.{size_of, at};
-ghost use Rattle.awk_nullable.specs.Keys.{shift_in};
+ghost use Rattle.awk_nullable.specs.Keys.{shift_in, shift_of};
 
-use awk_lanes::{Index, Lane, Num, Steps};
+use awk_lanes::{Index, Kind, Lane, Num, Steps};
 use std::sync::ledger::Ledger;
 
 /// The numbers of a lane.
@@ -27,6 +27,9 @@ pub trait Cells {
 
     /// How far a key lies from its number.
     ghost shift: { Self → ℤ };
+
+    fn shift(&self) -> i64
+        ensures { result ≡ shift self.now };
 
     /// The key of place k, by which its number is compared with others.
     fn key<L: Ledger>(&self, k: u64, steps: &mut Steps<L>) -> i64
@@ -58,6 +61,17 @@ fn key_of(x: Num) -> i64
     }
 }
 
+/// How far the keys of a kind lie from their numbers.
+#[inline(always)]
+fn shift_by(kind: Kind) -> i64
+    ensures { result ≡ shift_of kind }
+{
+    match kind {
+        Kind::U8 | Kind::U16 | Kind::U32 | Kind::U64 => i64::MIN,
+        Kind::Bool | Kind::I8 | Kind::I16 | Kind::I32 | Kind::I64 => 0,
+    }
+}
+
 /// A number as it is.
 #[inline(always)]
 fn as_it_is(x: Num) -> i128
@@ -78,6 +92,11 @@ impl<'a> Cells for Lane<'a> {
     ghost lane = { λ x. x };
 
     ghost shift = { λ x. shift_of x.kind };
+
+    #[inline(always)]
+    fn shift(&self) -> i64 {
+        shift_by(self.kind())
+    }
 
     #[inline(always)]
     fn len(&self) -> u64 {
@@ -102,6 +121,11 @@ impl<'a> Cells for Index<'a> {
     ghost lane = { λ x. x };
 
     ghost shift = { λ _. pos 0 };
+
+    #[inline(always)]
+    fn shift(&self) -> i64 {
+        0
+    }
 
     #[inline(always)]
     fn len(&self) -> u64 {

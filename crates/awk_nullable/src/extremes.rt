@@ -1,9 +1,9 @@
-//! The least or the greatest item of a list that is not null, and where it stands.
+//! Where in a list the least or the greatest item that is not null stands.
 ghost use Rattle.std.specs.Prelude.{◌≡◌, ◌+◌, ◌<◌, ◌^◌, Some, IfSome};
 ghost use Rattle.awk_lanes.specs.Places.{size_of};
 ghost use Rattle.awk_nullable.specs.Extremes.{better_of, extreme_place};
-ghost use Rattle.awk_nullable.specs.Extremes.{IsBegun, IsBest, IsExtremeAt, IsThere};
-ghost use Rattle.awk_nullable.specs.Numbers.{leaf_number, numbers_from, AreItems, AreLeading};
+ghost use Rattle.awk_nullable.specs.Extremes.{IsBegun, IsBest, IsThere};
+ghost use Rattle.awk_nullable.specs.Numbers.{leaf_number, AreItems, AreLeading};
 
 use crate::cells::Cells;
 use crate::numbers::Leaves;
@@ -86,7 +86,7 @@ fn next_best<S: Side, P: Places, C: Cells, L: Ledger>(
 
 /// The first number, or none where all items are null.
 #[inline(always)]
-fn first_there<S: Side, P: Places, C: Cells, L: Ledger>(
+pub(crate) fn first_there<S: Side, P: Places, C: Cells, L: Ledger>(
     x: &Leaves<'_, P, C>,
     first: u64,
     count: u64,
@@ -108,7 +108,7 @@ fn first_there<S: Side, P: Places, C: Cells, L: Ledger>(
 
 /// The extreme of all items, where the first number is known.
 #[inline(always)]
-fn best_after<S: Side, P: Places, C: Cells, L: Ledger>(
+pub(crate) fn best_after<S: Side, P: Places, C: Cells, L: Ledger>(
     lead: Best,
     x: &Leaves<'_, P, C>,
     first: u64,
@@ -165,26 +165,6 @@ fn best_of<P: Places, C: Cells, L: Ledger>(
     match how {
         Extreme::Least => best_by::<Lesser, P, C, L>(x, first, count, steps),
         Extreme::Greatest => best_by::<Greater, P, C, L>(x, first, count, steps),
-    }
-}
-
-/// Where in the lane the extreme of so many items from a first one on lies, or none where all are
-/// null.
-pub fn extreme_of<P: Places, C: Cells, L: Ledger>(
-    how: Extreme,
-    x: &Leaves<'_, P, C>,
-    first: u64,
-    count: u64,
-    steps: &mut Steps<L>,
-) -> Option<u64>
-    requires items { AreItems (P.at x.now.places.now) (P.size x.now.places.now)
-        (C.lane x.now.cells.now) first count }
-    ensures { IsExtremeAt how (C.lane x.now.cells.now) (numbers_from (leaf_number
-        (P.at x.now.places.now) (C.lane x.now.cells.now)) first count) result }
-{
-    match best_of(how, x, first, count, steps) {
-        Some(best) => Some(best.place),
-        None => None,
     }
 }
 

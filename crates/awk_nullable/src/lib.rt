@@ -4,23 +4,25 @@
 //! as such) and a way there from an item (`Places`): an index, a mask of bytes or of bits, or none
 //! where each item is there. Of so many items from a first one on, those that are not null are
 //! folded by `fold_of`, counted by `count_of` and judged by `tally_of`, and `is_some_there` tells
-//! whether there is one; `extreme_of` is where in the lane the least or the greatest of them lies,
-//! and `place_of` where among the items it stands first. Each is one pass, and no lane of their
-//! numbers is made. Where even a null has a place that holds a number, sums, products, counts of
-//! numbers, and whether all are true, read that before they ask for the null (`Places::ahead`), and
-//! take no branch there.
+//! whether there is one; `extreme_number` is the least or the greatest of them, and `place_of`
+//! where among the items it stands first. Each is one pass, and no lane of their numbers is made.
+//! Where even a null has a place that holds a number, sums, products, counts of numbers, whether
+//! all are true, and extremes read that before they ask for the null (`Places::ahead`), and take no
+//! branch there.
 #![tactic(auto)]
 
 mod byte_cells;
 mod cells;
 mod extremes;
+mod keys;
 mod numbers;
 mod places;
 mod totals;
 
 pub use byte_cells::{Byte, ByteCells, cells_of};
 pub use cells::Cells;
-pub use extremes::{extreme_of, place_of};
+pub use extremes::place_of;
+pub use keys::extreme_number;
 pub use numbers::{Leaves, count_of, is_some_there};
 pub use places::{BitMask, ByteMask, Every, Places};
 pub use totals::{fold_of, tally_of};

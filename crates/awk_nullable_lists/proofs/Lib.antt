@@ -1,1 +1,2 @@
 mod NullableLaws
+mod ElementLaws

@@ -11,9 +11,12 @@ ghost use Rattle.awk_nullable_lists.specs.Lists.{present_at};
 ghost use Rattle.awk_nullable_lists.specs.Lists.{AreNullable};
 ghost use Rattle.awk_nullable.specs.Numbers.{leaf_number, AreItems};
 
+use crate::kinds::number_in;
 use awk_columns::{Bounds, Span};
 use awk_lanes::{Arena, Kind, Lane, NoMemory, Num, Numbers, Steps, made_lane, number};
-use awk_nullable::{Cells, Leaves, Places, extreme_of, fold_of, is_some_there, place_of, tally_of};
+use awk_nullable::{
+    Cells, Leaves, Places, extreme_number, fold_of, is_some_there, place_of, tally_of,
+};
 use awk_numbers::{Extreme, Fold, Tally};
 use awk_parts::{Totals, fitting_lane, kind_of_tally, number_of_place, zero_of};
 use awk_types::Prim;
@@ -123,10 +126,11 @@ impl<'x, 'c, 'r, 'a, 'l, P: Places, C: Cells> Numbers for ListExtremes<'x, 'c, '
         (P.size f.lists.now.leaves.now.places.now) (C.lane f.lists.now.leaves.now.cells.now) };
 
     fn number<L: Ledger>(&self, i: u64, steps: &mut Steps<L>) -> Num {
+        let _ = self.lane.len();
         let span = span_of(self.lists, i);
         let leaves = self.lists.leaves;
-        match extreme_of(self.how, leaves, span.start, span.length, steps) {
-            Some(place) => self.lane.at(place, steps),
+        match extreme_number(self.how, leaves, span.start, span.length, steps) {
+            Some(z) => number_in(self.lane.kind(), z),
             None => zero_of(self.lane.kind()),
         }
     }
