@@ -15,7 +15,7 @@ use crate::kinds::number_in;
 use awk_columns::{Bounds, Span};
 use awk_lanes::{Arena, Kind, Lane, NoMemory, Num, Numbers, Steps, made_lane, number};
 use awk_nullable::{
-    Cells, Leaves, Places, extreme_number, fold_of, is_some_there, place_of, tally_of,
+    Cells, Leaves, Places, count_of, extreme_number, fold_of, is_some_there, place_of, tally_of,
 };
 use awk_numbers::{Extreme, Fold, Tally};
 use awk_parts::{Totals, fitting_lane, kind_of_tally, number_of_place, zero_of};
@@ -76,7 +76,39 @@ impl<'x, 'c, 'r, 'a, P: Places, C: Cells> Numbers for ListTallies<'x, 'c, 'r, 'a
     }
 }
 
-/// What is told of each list, as a lane.
+/// How many items of each list are not null.
+#[derive(Drop)]
+struct ListCounts<'x, 'c, 'r, 'a, P: Places, C: Cells> {
+    lists: &'x LeafLists<'c, 'r, 'a, P, C>,
+}
+
+impl<'x, 'c, 'r, 'a, P: Places, C: Cells> Numbers for ListCounts<'x, 'c, 'r, 'a, P, C> {
+    ghost use Rattle.awk_lanes.specs.declared.kind.Kind.TheVariants as Kind;
+    ghost use Rattle.awk_lanes.specs.Places.{size_of};
+    ghost use Rattle.awk_nullable_lists.specs.Lists.{tallied_at, AreNullable};
+    ghost use Rattle.awk_nullable.specs.Numbers.{leaf_number};
+    ghost use Rattle.awk_numbers.specs.declared.tallies.Tally.TheVariants.{Items};
+
+    ghost kind = { λ _. Kind.I64 };
+
+    ghost at = { λ f. tallied_at Items f.lists.now.bounds.now
+        (leaf_number (P.at f.lists.now.leaves.now.places.now)
+        (C.lane f.lists.now.leaves.now.cells.now)) };
+
+    ghost size = { λ f. size_of f.lists.now.bounds.now.starts };
+
+    ghost IsReady = { λ f. AreNullable f.lists.now.bounds.now
+        (P.at f.lists.now.leaves.now.places.now) (P.size f.lists.now.leaves.now.places.now)
+        (C.lane f.lists.now.leaves.now.cells.now) };
+
+    fn number<L: Ledger>(&self, i: u64, steps: &mut Steps<L>) -> Num {
+        let span = span_of(self.lists, i);
+        number(count_of(self.lists.leaves, span.start, span.length, steps))
+    }
+}
+
+/// What is told of each list, as a lane. Items are counted without asking at each list what is
+/// told of it, since short lists are counted as fast as that is asked.
 pub fn tally_lists<'b, P: Places, C: Cells, L: Ledger>(
     how: Tally,
     lists: &LeafLists<'_, '_, '_, P, C>,
@@ -89,14 +121,14 @@ pub fn tally_lists<'b, P: Places, C: Cells, L: Ledger>(
         (tallied_at how lists.now.bounds.now (leaf_number (P.at lists.now.leaves.now.places.now)
         (C.lane lists.now.leaves.now.cells.now)))) }
 {
-    let source = ListTallies { how, lists };
-    made_lane(
-        kind_of_tally(how),
-        lists.bounds.len(),
-        &source,
-        arena,
-        steps,
-    )
+    let count = lists.bounds.len();
+    match how {
+        Tally::Items => made_lane(Kind::I64, count, &ListCounts { lists }, arena, steps),
+        _ => {
+            let source = ListTallies { how, lists };
+            made_lane(kind_of_tally(how), count, &source, arena, steps)
+        }
+    }
 }
 
 /// The extreme of each list, and 0 where all its items are null.
