@@ -8,6 +8,7 @@ ghost use Rattle.awk_nullable.specs.Masks.{if_shown};
 
 use crate::cells::Cells;
 use awk_lanes::{Bits, Index, Steps};
+use awk_narrow::NarrowIndex;
 use std::sync::ledger::Ledger;
 
 /// Where the numbers of items lie.
@@ -65,6 +66,38 @@ fn shown(shows: bool, i: u64) -> Option<u64>
 
 /// By the numbers of an index, negative for a null. For a null any place will do.
 impl<'a> Places for Index<'a> {
+    ghost use Rattle.std.specs.Option.{unwrap_or};
+    ghost use Rattle.awk_lanes.specs.Places.{size_of, option_place_at};
+
+    ghost at = { λ x. option_place_at x };
+
+    ghost ahead = { λ x i. unwrap_or (option_place_at x i) 0 };
+
+    ghost size = { λ x. size_of x };
+
+    #[inline(always)]
+    fn place<L: Ledger>(&self, i: u64, _steps: &mut Steps<L>) -> Option<u64> {
+        self.option_place(i)
+    }
+
+    #[inline(always)]
+    fn ahead(&self, i: u64) -> u64 {
+        self.option_place(i).unwrap_or(0)
+    }
+
+    #[inline(always)]
+    fn shows<L: Ledger>(&self, i: u64, _steps: &mut Steps<L>) -> bool {
+        self.option_place(i).is_some()
+    }
+
+    #[inline(always)]
+    fn reaches<C: Cells>(&self, cells: &C, _first: u64, _count: u64) -> bool {
+        cells.len() > 0
+    }
+}
+
+/// The same by numbers of 32 bits.
+impl<'a> Places for NarrowIndex<'a> {
     ghost use Rattle.std.specs.Option.{unwrap_or};
     ghost use Rattle.awk_lanes.specs.Places.{size_of, option_place_at};
 

@@ -12,8 +12,8 @@ use Rattle.awk_present.specs.Numbers.{leaf_of}
 use Rattle.awk_nullable.specs.Masks.{byte_place, bit_place}
 use Rattle.awk_nullable.specs.Numbers.{AreLeading}
 use Rattle.awk_nullable_lists.specs.declared.opening.Nullable.{Nullable}
-use Rattle.awk_nullable_lists.specs.declared.opening.Nullable.TheVariants.{Indexed, Bytes, Bits}
-use Rattle.awk_nullable_lists.specs.declared.opening.Nullable.TheVariants.{Unmasked}
+use Rattle.awk_nullable_lists.specs.declared.opening.Nullable.TheVariants.{Indexed, Narrow, Bytes}
+use Rattle.awk_nullable_lists.specs.declared.opening.Nullable.TheVariants.{Bits, Unmasked}
 
 -- the n items of an array of leaves, null or with their numbers in a lane
 pub record AreLeaves (y : Layout) (f : ℕ → Option ℕ) (n : ℕ) (c : Column) : Type 0 where
@@ -26,6 +26,7 @@ pub record AreLeaves (y : Layout) (f : ℕ → Option ℕ) (n : ℕ) (c : Column
 -- by an index, by a mask, or all of them
 abbrev pub IsNullable : Layout → Nullable → Type 0
 IsNullable y (Indexed j c) = AreLeaves y (option_place_at j) (size_of j) c
+IsNullable y (Narrow j c) = AreLeaves y (option_place_at j) (size_of j) c
 IsNullable y (Bytes m c) = AreLeaves y (byte_place m.bytes.now m.valid_when) (length m.bytes.now) c
 IsNullable y (Bits m c) = AreLeaves y (bit_place m.bits m.valid_when) (length m.bits) c
 IsNullable y (Unmasked m c) = AreLeaves y (λ i. Some i) m.count c

@@ -7,8 +7,9 @@ ghost use Rattle.awk_layout.specs.Typing.{array_type};
 ghost use Rattle.awk_layout.specs.Valid.{IsValid};
 ghost use Rattle.awk_nullable_lists.specs.Nullable.{IsNullable};
 
-use awk_lanes::{Arena, Bits, Index, Lane, Steps, index_of};
+use awk_lanes::{Arena, Bits, Index, Kind, Lane, Steps, index_of};
 use awk_layout::{Array, Class, Node};
+use awk_narrow::{NarrowIndex, narrow_index};
 use awk_nullable::{BitMask, ByteMask, Every};
 use awk_open::{Opened, opened};
 use awk_present::leaves_of;
@@ -19,10 +20,26 @@ use std::sync::ledger::Ledger;
 /// Leaves of which some may be null: their numbers, and where that of each lies.
 #[derive(Drop)]
 pub enum Nullable<'a> {
-    Indexed { index: Index<'a>, lane: Lane<'a> },
-    Bytes { mask: ByteMask<'a>, lane: Lane<'a> },
-    Bits { mask: BitMask<'a>, lane: Lane<'a> },
-    Unmasked { every: Every, lane: Lane<'a> },
+    Indexed {
+        index: Index<'a>,
+        lane: Lane<'a>,
+    },
+    Narrow {
+        index: NarrowIndex<'a>,
+        lane: Lane<'a>,
+    },
+    Bytes {
+        mask: ByteMask<'a>,
+        lane: Lane<'a>,
+    },
+    Bits {
+        mask: BitMask<'a>,
+        lane: Lane<'a>,
+    },
+    Unmasked {
+        every: Every,
+        lane: Lane<'a>,
+    },
 }
 
 /// The lane of a node of numbers.
@@ -35,7 +52,7 @@ fn lane_in<'a>(content: &Node<'a>) -> Option<Lane<'a>>
     }
 }
 
-/// By the index of an option.
+/// By the index of an option. One of 32 bits is read where it lies.
 fn by_index<'a, L: Ledger>(
     alloc: Global,
     index: &Lane<'a>,
@@ -48,6 +65,10 @@ fn by_index<'a, L: Ledger>(
 {
     match lane_in(content) {
         Some(lane) => {
+            if index.kind() == Kind::I32 {
+                let index = narrow_index(index, steps);
+                return Ok(Some(Nullable::Narrow { index, lane }));
+            }
             let index = index_of(alloc, index, arena, steps)?;
             Ok(Some(Nullable::Indexed { index, lane }))
         }

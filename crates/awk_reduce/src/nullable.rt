@@ -235,6 +235,9 @@ pub(crate) fn reduced_opened<'a, L: Ledger>(
         Nullable::Indexed { index, lane } => {
             reduced_in(alloc, how, bounds, lane, index, arena, steps)
         }
+        Nullable::Narrow { index, lane } => {
+            reduced_in(alloc, how, bounds, lane, index, arena, steps)
+        }
         Nullable::Bytes { mask, lane } => reduced_in(alloc, how, bounds, lane, mask, arena, steps),
         Nullable::Bits { mask, lane } => reduced_in(alloc, how, bounds, lane, mask, arena, steps),
         Nullable::Unmasked { every, lane } => {

@@ -19,3 +19,13 @@ returns-in_ok-index-in-Some g c =
     (subst (λ y. AreLeaves (optional j y) (option_place_at j) (size_of j) lane)
     (sym c.in-Some.ensures)
     (indexed_leaves lane j (subst (λ y. IsValid (optional j y)) c.in-Some.ensures c.requires)))
+
+pub returns-then-eq : goal.returns-then-eq
+returns-then-eq g c =
+    let j = c.args.index.now in
+    let lane = c.in-Some.lane in
+    subst (λ i. AreLeaves (optional j c.args.content.now) (option_place_at i) (size_of i) lane)
+    (sym c.narrow_index-index.ensures)
+    (subst (λ y. AreLeaves (optional j y) (option_place_at j) (size_of j) lane)
+    (sym c.in-Some.ensures)
+    (indexed_leaves lane j (subst (λ y. IsValid (optional j y)) c.in-Some.ensures c.requires)))

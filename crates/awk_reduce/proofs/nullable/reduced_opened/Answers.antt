@@ -6,6 +6,10 @@ pub reduced_in-requires-clause-leaves : goal.reduced_in-requires-clause-leaves
 reduced_in-requires-clause-leaves g c =
     subst (IsNullable c.args.bounds.now.content) c.in-Indexed.is c.requires.leaves
 
+pub reduced_in-requires-in-Narrow-clause-leaves : goal.reduced_in-requires-in-Narrow-clause-leaves
+reduced_in-requires-in-Narrow-clause-leaves g c =
+    subst (IsNullable c.args.bounds.now.content) c.in-Narrow.is c.requires.leaves
+
 pub reduced_in-requires-in-Bytes-clause-leaves : goal.reduced_in-requires-in-Bytes-clause-leaves
 reduced_in-requires-in-Bytes-clause-leaves g c =
     subst (IsNullable c.args.bounds.now.content) c.in-Bytes.is c.requires.leaves
