@@ -5,6 +5,7 @@ pub mod RangeLaws
 pub mod ReadyLaws
 pub mod SingleLaws
 pub mod BlockLaws
+pub mod LaneLaws
 pub mod ChoiceLaws
 pub mod ChoiceTyped
 mod SelectLaws

@@ -1,5 +1,5 @@
 -- What a mask chooses, of numbers and of the values that they are.
-use Rattle.std.proofs.Common.{◌≡◌, ℕ, zero, suc, ◌+◌, ◌-◌, ◌==◌, ◌≤◌, Bool, true, false, refl, ap}
+use Rattle.std.proofs.Common.{◌≡◌, ℕ, zero, suc, ◌+◌, ◌-◌, ◌==◌, ◌≤◌, false, refl, ap}
 use Rattle.std.proofs.Common.{ap₂, sym, subst, ◌∙◌, arith, inl, inr}
 use Rattle.std.specs.Prelude.{ℤ, pos, List, [], ◌∷◌, map, length, get_or, cond}
 use Rattle.std.specs.Prelude.{slice_range, Ok, if◌then◌else◌}
@@ -35,37 +35,13 @@ use Rattle.awk_pointwise.specs.Selection.{IsSelection}
 use Rattle.awk_pointwise.specs.Sides.{lane_values, leaf_type, side_values, IsLeafNumber}
 use Rattle.awk_pointwise.specs.declared.sides.Side.{Side}
 use Rattle.awk_pointwise.specs.declared.words.Words.{Words}
+use Rattle.awk_lane_pairs.proofs.GroupLaws.{map-chosen, all-chosen}
 use Rattle.awk_pointwise.proofs.BlockLaws.{part-map, part-zip2, part_is, lane-part, length-lane}
 use Rattle.awk_pointwise.proofs.BlockLaws.{length-side, length-part}
 use Rattle.awk_pointwise.proofs.ChoiceLaws.{FitsIn, chosen_length}
 use Rattle.awk_pointwise.proofs.ChoiceTyped.{first_fits, second_fits}
 use Rattle.awk_pointwise.proofs.RangeLaws.{all_int64}
 use Rattle.awk_pointwise.proofs.SideLaws.{all-map}
-
--- ---- what a mask chooses
-
-pub map-chosen : {A B : Type 0} (f : A → B) (ms : List ℕ) (xs ys : List A)
-    → map f (chosen ms xs ys) ≡ chosen ms (map f xs) (map f ys)
-map-chosen f [] xs ys = refl
-map-chosen f (m ∷ ms) [] ys = refl
-map-chosen f (m ∷ ms) (x ∷ xs) [] = refl
-map-chosen f (m ∷ ms) (x ∷ xs) (y ∷ ys) =
-    ap₂ (λ z zs. z ∷ zs) (one (m == 0)) (map-chosen f ms xs ys)
-  where
-    one : (b : Bool) → f (cond b y x) ≡ cond b (f y) (f x)
-    one true = refl
-    one false = refl
-
-all-chosen : {A : Type 0} (P : A → Type 0) (ms : List ℕ) (xs ys : List A) → AllByRecursion P xs
-    → AllByRecursion P ys → AllByRecursion P (chosen ms xs ys)
-all-chosen P [] xs ys a b = tt
-all-chosen P (m ∷ ms) [] ys a b = tt
-all-chosen P (m ∷ ms) (x ∷ xs) [] a b = tt
-all-chosen P (m ∷ ms) (x ∷ xs) (y ∷ ys) a b = (one (m == 0), all-chosen P ms xs ys a.1 b.1)
-  where
-    one : (c : Bool) → P (cond c y x)
-    one true = b.0
-    one false = a.0
 
 -- ---- numbers of leaves
 
@@ -254,3 +230,37 @@ pub shown_whole : (n : ℕ) (vs : List Value) (nulls lane : Column) → length v
     → vs ≡ zip2 unless_null nulls.items (lane_values lane)
 shown_whole n vs nulls lane s e f =
     sym (ap₂ (zip2 unless_null) e (sym f) ∙ none_masked 0 n vs s)
+
+-- ---- numbers as values
+
+one_truth : (m : ℕ) (v w : Value)
+    → cond (m == 0) w v ≡ chosen_at (leaf_value kind.Bool (element kind.Bool (pos m))) v w
+one_truth zero v w = refl
+one_truth (suc n) v w =
+    let e : (suc n == 0) ≡ false = grind arith in
+    ap (λ c. cond c w v) e
+
+truths_chosen : (ms : List ℕ) (vs ws : List Value) → chosen ms vs ws
+    ≡ chosen_values (map (leaf_value kind.Bool) (map (element kind.Bool) (map pos ms))) vs ws
+truths_chosen [] vs ws = refl
+truths_chosen (m ∷ ms) [] ws = refl
+truths_chosen (m ∷ ms) (v ∷ vs) [] = refl
+truths_chosen (m ∷ ms) (v ∷ vs) (w ∷ ws) =
+    ap₂ (λ u us. u ∷ us) (one_truth m v w) (truths_chosen ms vs ws)
+
+-- the values of the numbers that a lane of truth values chooses
+pub lanes_chosen : (mask x y r : Column) (ms : List ℕ) → mask.kind ≡ kind.Bool
+    → integers ms ≡ mask.items → y.kind ≡ x.kind → r ≡ column x.kind (chosen ms x.items y.items)
+    → lane_values r ≡ chosen_values (lane_values mask) (lane_values x) (lane_values y)
+lanes_chosen mask x y r ms k i kinds made =
+    ap lane_values made
+    ∙ ap (map (leaf_value x.kind)) (map-chosen (element x.kind) ms x.items y.items)
+    ∙ map-chosen (leaf_value x.kind) ms (map (element x.kind) x.items)
+    (map (element x.kind) y.items)
+    ∙ ap (chosen ms (lane_values x)) (ap (λ k. lane_values (column k y.items)) (sym kinds))
+    ∙ truths_chosen ms (lane_values x) (lane_values y)
+    ∙ ap (λ cs. chosen_values cs (lane_values x) (lane_values y)) (sym (truths_of mask ms k i))
+
+pub mask_long : (mask : Column) (ms : List ℕ) → integers ms ≡ mask.items
+    → length ms ≡ size_of mask
+mask_long mask ms i = sym (length-map ms pos) ∙ ap length i

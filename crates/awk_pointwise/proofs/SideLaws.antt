@@ -77,12 +77,12 @@ leaf_number U16 z = refl
 leaf_number U32 z = refl
 leaf_number U64 z = refl
 
-leaves_numbers : (k : Kind) (zs : List ℤ)
+pub leaves_numbers : (k : Kind) (zs : List ℤ)
     → map (element k) zs ≡ map number_of (map (leaf_value k) (map (element k) zs))
 leaves_numbers k [] = refl
 leaves_numbers k (z ∷ zs) = ap₂ (λ y ys. y ∷ ys) (sym (leaf_number k z)) (leaves_numbers k zs)
 
-leaves_present : (k : Kind) (zs : List ℤ) → AllByRecursion IsPresent (map (leaf_value k) zs)
+pub leaves_present : (k : Kind) (zs : List ℤ) → AllByRecursion IsPresent (map (leaf_value k) zs)
 leaves_present k [] = tt
 leaves_present k (z ∷ zs) = (not_null k z, leaves_present k zs)
 

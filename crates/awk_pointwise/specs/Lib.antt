@@ -5,3 +5,4 @@ pub mod Blocks
 pub mod Optional
 pub mod Choice
 pub mod Selection
+pub mod Lanes

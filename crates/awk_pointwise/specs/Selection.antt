@@ -4,6 +4,7 @@ use Rattle.awk_types.specs.declared.primitive.Primitive.{Primitive}
 use Rattle.awk_types.specs.declared.primitive.Primitive.TheVariants.{Bool as Truths}
 use Rattle.awk_lanes.specs.Column.{Column}
 use Rattle.awk_lanes.specs.Places.{size_of}
+use Rattle.awk_lanes.specs.declared.kind.Kind.{Kind}
 use Rattle.awk_lanes.specs.declared.kind.Kind.TheVariants as kind
 use Rattle.awk_leaves.specs.Table.{choice_judged}
 use Rattle.awk_leaves.specs.declared.leaf_type.LeafType.TheVariants.{Of}
@@ -11,6 +12,7 @@ use Rattle.awk_pointwise.specs.Optional.{optional_type, optional_values, IsOptio
 use Rattle.awk_pointwise.specs.Optional.{AreKnown, AreKnownSide}
 use Rattle.awk_pointwise.specs.Sides.{lane_values, leaf_type, side_values, IsSide}
 use Rattle.awk_pointwise.specs.declared.optional.Optional.{Optional}
+use Rattle.awk_pointwise.specs.declared.selection.Both.{Both}
 use Rattle.awk_pointwise.specs.declared.selection.Whole.{Whole}
 use Rattle.awk_pointwise.specs.declared.sides.Side.{Side}
 
@@ -46,3 +48,14 @@ pub record AreWhole (c x y : Optional) (w : Whole) : Type 0 where
   pub size : (n : ℕ) → IsOptional n c → size_of w.mask.now ≡ n
   pub first : IsWhole x w.x.now
   pub second : IsWhole y w.y.now
+
+-- a side is a lane of a kind
+pub record IsLaneOf (k : Kind) (s : Side) (c : Column) : Type 0 where
+  pub kind : c.kind ≡ k
+  pub values : (n : ℕ) → side_values n s ≡ lane_values c
+  pub size : (n : ℕ) → IsSide n s → size_of c ≡ n
+
+-- two sides are these lanes of a kind
+pub record AreLanesOf (k : Kind) (x y : Side) (b : Both) : Type 0 where
+  pub first : IsLaneOf k x b.x.now
+  pub second : IsLaneOf k y b.y.now

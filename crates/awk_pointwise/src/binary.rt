@@ -1,23 +1,26 @@
-//! Operations on two sides.
-ghost use Rattle.std.specs.Prelude.{◌≡◌, length, Ok, IfOk};
+//! Operations on two sides: of lanes of one kind from where they lie, else block by block.
+ghost use Rattle.std.specs.Prelude.{◌≡◌, length, Ok, IfOk, IfSome};
 ghost use Rattle.std.specs.Simd.Lanes.{zip2};
 ghost use Rattle.awk_types.specs.Faults.{fault_told};
 ghost use Rattle.awk_types.specs.Gives.{Gives};
 ghost use Rattle.awk_types.specs.declared.primitive.Primitive.{Primitive};
 ghost use Rattle.awk_layout.specs.Kinds.{kind_of};
 ghost use Rattle.awk_leaves.specs.Table.{binary_judged};
-ghost use Rattle.awk_leaves.specs.Values.{binary_on, binary_values, all_values};
+ghost use Rattle.awk_leaves.specs.Values.{binary_at, binary_on, binary_values, all_values};
+ghost use Rattle.awk_pointwise.specs.Blocks.{IsPair};
+ghost use Rattle.awk_pointwise.specs.Lanes.{HasResults};
 ghost use Rattle.awk_pointwise.specs.Numbers.{word_numbers, AreReady};
 ghost use Rattle.awk_pointwise.specs.Sides.{side_values, leaf_type, lane_values, IsSide};
 
 use crate::blocks::{Blocks, lane_by_blocks};
 use crate::calculate::calculated;
+use crate::lanes::{of_lane_beside, of_lanes};
 use crate::see::see_part;
 use crate::sides::Side;
 use crate::truths::{joined_lane, tested};
 use crate::words::Words;
 use awk_kernels::Kernels;
-use awk_lanes::{Arena, Lane, Steps};
+use awk_lanes::{Arena, Lane, NoMemory, Steps};
 use awk_layout::kind_of;
 use awk_leaves::{Binary, binary_prim};
 use awk_types::{Fault, Prim};
@@ -82,6 +85,26 @@ impl<'s, 'b, 'a, N: Kernels> Blocks for Pair<'s, 'b, 'a, N> {
     }
 }
 
+/// The lane of all results, if it is made from where lanes lie.
+fn pair_of_lanes<'r, N: Kernels, L: Ledger>(
+    pair: &Pair<N>,
+    arena: &'r Arena,
+    steps: &mut Steps<L>,
+) -> Result<Option<Lane<'r>>, NoMemory>
+    requires { IsPair pair.now.op pair.now.prim pair.now.n pair.now.x.now pair.now.y.now }
+    ensures { IfOk result (λ o. IfSome o (HasResults pair.now.prim
+        (zip2 (binary_at pair.now.op pair.now.prim) (side_values pair.now.n pair.now.x.now)
+        (side_values pair.now.n pair.now.y.now)))) }
+{
+    match (pair.x, pair.y) {
+        (Side::Column(a), Side::Column(b)) => of_lanes(pair.op, pair.prim, a, b, arena, steps),
+        (Side::Column(a), Side::Literal(z)) => {
+            of_lane_beside(pair.op, pair.prim, a, *z, arena, steps)
+        }
+        _ => Ok(None),
+    }
+}
+
 /// The lane of what an operation gives at each of n places of two sides, or the fault of the first
 /// place that has one.
 pub fn binary_leaves<'a, N: Kernels, L: Ledger>(
@@ -113,5 +136,9 @@ pub fn binary_leaves<'a, N: Kernels, L: Ledger>(
         n,
         kernels,
     };
-    lane_by_blocks(alloc, kind_of(prim), n, &pair, arena, steps)
+    let made = pair_of_lanes(&pair, arena, steps)?;
+    match made {
+        Some(lane) => Ok(lane),
+        None => lane_by_blocks(alloc, kind_of(prim), n, &pair, arena, steps),
+    }
 }

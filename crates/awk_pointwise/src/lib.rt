@@ -13,6 +13,7 @@ mod binary;
 mod blocks;
 mod calculate;
 mod choice;
+mod lanes;
 mod optional;
 mod see;
 mod selection;

@@ -1,4 +1,5 @@
-//! Choices where no place is null, block by block.
+//! Choices where no place is null: of two lanes of one kind from where they lie, else block by
+//! block.
 ghost use Rattle.std.specs.Prelude.{◌≡◌, length, map, Ok, IfOk, IfSome};
 ghost use Rattle.std.specs.List.{AllByRecursion};
 ghost use Rattle.awk_types.specs.Faults.{fault_told};
@@ -9,10 +10,11 @@ ghost use Rattle.awk_lanes.specs.Words.{column};
 ghost use Rattle.awk_lanes.specs.declared.kind.Kind.TheVariants as Kind;
 ghost use Rattle.awk_kernels.specs.Kernels.{chosen};
 ghost use Rattle.awk_layout.specs.Kinds.{kind_of};
-ghost use Rattle.awk_leaves.specs.Values.{chosen_values};
+ghost use Rattle.awk_leaves.specs.Values.{all_values, chosen_values};
 ghost use Rattle.awk_pointwise.specs.Choice.{chosen_items};
 ghost use Rattle.awk_pointwise.specs.Numbers.{word_numbers};
 ghost use Rattle.awk_pointwise.specs.Selection.{IsSelection, IsMask, IsWhole, AreWhole};
+ghost use Rattle.awk_pointwise.specs.Selection.{IsLaneOf, AreLanesOf};
 ghost use Rattle.awk_pointwise.specs.Sides.{lane_values, side_values, IsLeafNumber};
 
 use crate::blocks::{Blocks, lane_by_blocks};
@@ -22,6 +24,7 @@ use crate::see::see_part;
 use crate::sides::Side;
 use crate::words::{Words, ints, nats};
 use awk_kernels::Kernels;
+use awk_lane_pairs::chosen_lane;
 use awk_lanes::{
     Arena, Kind, Lane, NoMemory, Num, Numbers, Steps, byte_numbers, lane_of_nats, lane_of_numbers,
     made_lane,
@@ -173,6 +176,95 @@ impl<'s, 'b, 'a, N: Kernels> Blocks for Selection<'s, 'b, 'a, N> {
     }
 }
 
+/// Two lanes between which is chosen.
+#[derive(Clone, Copy)]
+struct Both<'s, 'a> {
+    x: &'s Lane<'a>,
+    y: &'s Lane<'a>,
+}
+
+/// The lane of a side, if it is of a kind.
+fn lane_of<'s, 'b, 'a>(side: &'s Side<'b, 'a>, kind: Kind) -> Option<&'s Lane<'a>>
+    ensures { IfSome result (λ lane. IsLaneOf kind side.now lane.now) }
+{
+    match side {
+        Side::Column(lane) => {
+            if lane.kind() == kind {
+                Some(lane)
+            } else {
+                None
+            }
+        }
+        _ => None,
+    }
+}
+
+/// The lanes of both sides, if they are of a kind.
+fn lanes_of<'s, 'b, 'a>(whole: Whole<'s, 'b, 'a>, kind: Kind) -> Option<Both<'s, 'a>>
+    ensures { IfSome result (AreLanesOf kind whole.entry.x.now whole.entry.y.now) }
+{
+    let x = lane_of(whole.x, kind)?;
+    let y = lane_of(whole.y, kind)?;
+    Some(Both { x, y })
+}
+
+/// The numbers that a lane of truth values chooses of two lanes of one kind.
+fn chosen_of_lanes<'a, L: Ledger>(
+    mask: &Lane,
+    x: &Lane,
+    y: &Lane,
+    arena: &'a Arena,
+    steps: &mut Steps<L>,
+) -> Result<Lane<'a>, NoMemory>
+    requires mask { mask.now.kind ≡ Kind.Bool }
+    requires kinds { y.now.kind ≡ x.now.kind }
+    requires first { size_of x.now ≡ size_of mask.now }
+    requires second { size_of y.now ≡ size_of mask.now }
+    ensures values { IfOk result (λ r. lane_values r
+        ≡ chosen_values (lane_values mask.now) (lane_values x.now) (lane_values y.now)) }
+    ensures kind { IfOk result (λ r. r.kind ≡ x.now.kind) }
+{
+    let bytes = byte_numbers(mask, steps);
+    chosen_lane(bytes, x, y, arena, steps)
+}
+
+/// What a lane of truth values chooses of two sides, as a lane.
+fn chosen_of_sides<'a, N: Kernels, L: Ledger>(
+    alloc: Global,
+    prim: Prim,
+    whole: Whole,
+    n: u64,
+    kernels: &N,
+    arena: &'a Arena,
+    steps: &mut Steps<L>,
+) -> Result<Lane<'a>, Fault>
+    requires { IsSelection prim n whole.mask.now whole.x.now whole.y.now }
+    ensures answer { Gives lane_values fault_told result (all_values (map (λ v. Ok v)
+        (chosen_values (lane_values whole.entry.mask.now) (side_values n whole.entry.x.now)
+        (side_values n whole.entry.y.now)))) }
+    ensures kind { IfOk result (λ r. r.kind ≡ kind_of prim) }
+{
+    let kind = kind_of(prim);
+    match lanes_of(whole, kind) {
+        Some(both) => {
+            let lane = chosen_of_lanes(whole.mask, both.x, both.y, arena, steps)?;
+            Ok(lane)
+        }
+        None => {
+            let selection = Selection {
+                alloc,
+                prim,
+                mask: whole.mask,
+                x: whole.x,
+                y: whole.y,
+                n,
+                kernels,
+            };
+            lane_by_blocks(alloc, kind, n, &selection, arena, steps)
+        }
+    }
+}
+
 /// A mask under which nothing is null.
 #[derive(Drop)]
 struct NoNulls {
@@ -213,16 +305,7 @@ pub(crate) fn whole_choice<'a, N: Kernels, L: Ledger>(
     ensures nulls { IfOk result (λ r. size_of r.nulls ≡ n) }
     ensures mask { IfOk result (λ r. r.nulls.kind ≡ Kind.I8) }
 {
-    let selection = Selection {
-        alloc,
-        prim,
-        mask: whole.mask,
-        x: whole.x,
-        y: whole.y,
-        n,
-        kernels,
-    };
-    let lane = lane_by_blocks(alloc, kind_of(prim), n, &selection, arena, steps)?;
+    let lane = chosen_of_sides(alloc, prim, whole, n, kernels, arena, steps)?;
     let nulls = made_lane(Kind::I8, n, &NoNulls { n }, arena, steps)?;
     Ok(Chosen { nulls, lane })
 }

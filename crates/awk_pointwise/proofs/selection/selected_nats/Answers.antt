@@ -9,7 +9,8 @@ use Rattle.awk_lanes.specs.Words.{column, integers}
 use Rattle.awk_kernels.specs.Kernels.{chosen}
 use Rattle.awk_layout.specs.Kinds.{kind_of}
 use Rattle.awk_pointwise.specs.Numbers.{word_numbers}
-use Rattle.awk_pointwise.proofs.SelectLaws.{map-chosen, chosen_ranged}
+use Rattle.awk_lane_pairs.proofs.GroupLaws.{map-chosen}
+use Rattle.awk_pointwise.proofs.SelectLaws.{chosen_ranged}
 use Rattle.awk_pointwise.proofs.selection.selected_nats.Goals as goal
 
 pub lane_of_nats-requires : goal.lane_of_nats-requires

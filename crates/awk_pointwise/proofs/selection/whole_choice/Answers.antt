@@ -1,6 +1,5 @@
 use Rattle.std.proofs.Common.{◌≡◌, List, length, arith, ap, sym, subst, ◌∙◌}
 use Rattle.std.specs.Prelude.{pos, Result, Ok, Err}
-use Rattle.std.proofs.lemmas.List.{length-map}
 use Rattle.awk_types.specs.Faults.{fault_told}
 use Rattle.awk_types.specs.Gives.{Told}
 use Rattle.awk_types.specs.Value.{Value}
@@ -16,13 +15,6 @@ use Rattle.awk_pointwise.specs.Sides.{lane_values, side_values}
 use Rattle.awk_pointwise.proofs.BlockLaws.{length-lane}
 use Rattle.awk_pointwise.proofs.SelectLaws.{selection_size, values_ok, shown_whole}
 use Rattle.awk_pointwise.proofs.selection.whole_choice.Goals as goal
-
-pub lane_by_blocks-requires-clause-size : goal.lane_by_blocks-requires-clause-size
-lane_by_blocks-requires-clause-size g c =
-    let w = c.args.whole in
-    length-map (chosen_values (lane_values w.mask.now) (side_values c.args.n w.x.now)
-    (side_values c.args.n w.y.now)) (λ v. Ok v)
-    ∙ selection_size c.args.prim c.args.n w.mask.now w.x.now w.y.now c.requires
 
 pub returns-in_err-lane-clause-answer : goal.returns-in_err-lane-clause-answer
 returns-in_err-lane-clause-answer g c =

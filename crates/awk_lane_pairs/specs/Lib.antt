@@ -1,0 +1,3 @@
+pub mod Groups
+pub mod Results
+pub mod Comparisons
