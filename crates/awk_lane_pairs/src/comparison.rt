@@ -1,8 +1,9 @@
 //! Comparisons of two lanes of one kind, and of a lane and one number.
-ghost use Rattle.std.specs.Prelude.{◌≡◌, ◌<◌, ◌≤◌, ℤ, replicate, IfOk, IfSome};
+ghost use Rattle.std.specs.Prelude.{◌≡◌, ◌≢◌, ◌<◌, ◌≤◌, ℤ, replicate, IfOk};
 ghost use Rattle.awk_kernels.specs.Operations.{holds};
 ghost use Rattle.awk_lanes.specs.Numbers.{width};
 ghost use Rattle.awk_lanes.specs.Places.{size_of};
+ghost use Rattle.awk_lanes.specs.declared.kind.Kind.TheVariants as Kind;
 ghost use Rattle.awk_lane_pairs.specs.Comparisons.{flag, IsCompared};
 
 use crate::cells::Cell;
@@ -89,14 +90,14 @@ fn compared_cells<'a, const W: usize, C: Cell<W>, L: Ledger>(
     b: &Lane,
     arena: &'a Arena,
     steps: &mut Steps<L>,
-) -> Result<Option<Lane<'a>>, NoMemory>
+) -> Result<Lane<'a>, NoMemory>
     requires first { a.now.kind ≡ C.kind }
     requires second { b.now.kind ≡ C.kind }
     requires width { width C.kind ≡ W }
     requires some { 0 < W }
     requires small { W ≤ 8 }
     requires size { size_of b.now ≡ size_of a.now }
-    ensures { IfOk result (λ o. IfSome o (IsCompared how a.now.items b.now.items)) }
+    ensures { IfOk result (IsCompared how a.now.items b.now.items) }
 {
     let (x, _) = a.bulk(steps).as_chunks::<W>();
     let (y, _) = b.bulk(steps).as_chunks::<W>();
@@ -107,21 +108,22 @@ fn compared_cells<'a, const W: usize, C: Cell<W>, L: Ledger>(
         kind: PhantomData,
     };
     let lane = made_lane(Kind::Bool, x.len() as u64, &tests, arena, steps)?;
-    Ok(Some(lane))
+    Ok(lane)
 }
 
-/// The lane of the truth values of a comparison of two lanes of one kind, if its numbers fit an
-/// i64.
+/// The lane of the truth values of a comparison of two lanes of one kind, whose numbers fit an i64.
 pub fn compared_lanes<'a, L: Ledger>(
     how: Compare,
     a: &Lane,
     b: &Lane,
     arena: &'a Arena,
     steps: &mut Steps<L>,
-) -> Result<Option<Lane<'a>>, NoMemory>
+) -> Result<Lane<'a>, NoMemory>
+    requires truths { a.now.kind ≢ Kind.Bool }
+    requires nats { a.now.kind ≢ Kind.U64 }
     requires kinds { b.now.kind ≡ a.now.kind }
     requires size { size_of b.now ≡ size_of a.now }
-    ensures { IfOk result (λ o. IfSome o (IsCompared how a.now.items b.now.items)) }
+    ensures { IfOk result (IsCompared how a.now.items b.now.items) }
 {
     match a.kind() {
         Kind::I8 => compared_cells::<1, i8, L>(how, a, b, arena, steps),
@@ -131,7 +133,8 @@ pub fn compared_lanes<'a, L: Ledger>(
         Kind::U8 => compared_cells::<1, u8, L>(how, a, b, arena, steps),
         Kind::U16 => compared_cells::<2, u16, L>(how, a, b, arena, steps),
         Kind::U32 => compared_cells::<4, u32, L>(how, a, b, arena, steps),
-        Kind::Bool | Kind::U64 => Ok(None),
+        Kind::Bool => unreachable!(),
+        Kind::U64 => unreachable!(),
     }
 }
 
@@ -171,13 +174,12 @@ fn compared_beside_cells<'a, const W: usize, C: Cell<W>, L: Ledger>(
     y: i64,
     arena: &'a Arena,
     steps: &mut Steps<L>,
-) -> Result<Option<Lane<'a>>, NoMemory>
+) -> Result<Lane<'a>, NoMemory>
     requires kind { a.now.kind ≡ C.kind }
     requires width { width C.kind ≡ W }
     requires some { 0 < W }
     requires small { W ≤ 8 }
-    ensures { IfOk result (λ o. IfSome o
-        (IsCompared how a.now.items (replicate (size_of a.now) y))) }
+    ensures { IfOk result (IsCompared how a.now.items (replicate (size_of a.now) y)) }
 {
     let (x, _) = a.bulk(steps).as_chunks::<W>();
     let tests = TestsBeside::<W, C> {
@@ -187,20 +189,21 @@ fn compared_beside_cells<'a, const W: usize, C: Cell<W>, L: Ledger>(
         kind: PhantomData,
     };
     let lane = made_lane(Kind::Bool, x.len() as u64, &tests, arena, steps)?;
-    Ok(Some(lane))
+    Ok(lane)
 }
 
-/// The lane of the truth values of a comparison of a lane and one number, if those of the lane fit
-/// an i64.
+/// The lane of the truth values of a comparison of a lane, whose numbers fit an i64, and one
+/// number.
 pub fn compared_beside<'a, L: Ledger>(
     how: Compare,
     a: &Lane,
     y: i64,
     arena: &'a Arena,
     steps: &mut Steps<L>,
-) -> Result<Option<Lane<'a>>, NoMemory>
-    ensures { IfOk result (λ o. IfSome o
-        (IsCompared how a.now.items (replicate (size_of a.now) y))) }
+) -> Result<Lane<'a>, NoMemory>
+    requires truths { a.now.kind ≢ Kind.Bool }
+    requires nats { a.now.kind ≢ Kind.U64 }
+    ensures { IfOk result (IsCompared how a.now.items (replicate (size_of a.now) y)) }
 {
     match a.kind() {
         Kind::I8 => compared_beside_cells::<1, i8, L>(how, a, y, arena, steps),
@@ -210,6 +213,7 @@ pub fn compared_beside<'a, L: Ledger>(
         Kind::U8 => compared_beside_cells::<1, u8, L>(how, a, y, arena, steps),
         Kind::U16 => compared_beside_cells::<2, u16, L>(how, a, y, arena, steps),
         Kind::U32 => compared_beside_cells::<4, u32, L>(how, a, y, arena, steps),
-        Kind::Bool | Kind::U64 => Ok(None),
+        Kind::Bool => unreachable!(),
+        Kind::U64 => unreachable!(),
     }
 }

@@ -4,7 +4,7 @@
 //! or of int64, if their primitive holds each of them. `calculated_beside` is that of a lane of
 //! int64 and one number, or of quotients of numbers of 8 or 16 bits by one. For other primitives
 //! and operations both are none. `compared_lanes` is the lane of a comparison, and
-//! `compared_beside` of one with a number; both are none where numbers do not fit an i64.
+//! `compared_beside` of one with a number, of each kind but truth values and uint64.
 //! `chosen_lane` has at each place the number of one of two lanes, by a byte.
 //!
 //! Nothing is copied into eight bytes a number first, and no place asks for its kind.

@@ -57,10 +57,14 @@ fn compared_of<'a, L: Ledger>(
     if a.kind() == Kind::Bool {
         return Ok(None);
     }
+    if a.kind() == Kind::U64 {
+        return Ok(None);
+    }
     if b.kind() != a.kind() {
         return Ok(None);
     }
-    compared_lanes(how, a, b, arena, steps)
+    let lane = compared_lanes(how, a, b, arena, steps)?;
+    Ok(Some(lane))
 }
 
 /// The lane of what an operation gives of two lanes, if it is made from where they lie.
@@ -135,8 +139,14 @@ fn compared_with<'a, L: Ledger>(
     if a.kind() == Kind::Bool {
         return Ok(None);
     }
+    if a.kind() == Kind::U64 {
+        return Ok(None);
+    }
     match as_int64(z) {
-        Some(y) => compared_beside(how, a, y, arena, steps),
+        Some(y) => {
+            let lane = compared_beside(how, a, y, arena, steps)?;
+            Ok(Some(lane))
+        }
         None => Ok(None),
     }
 }
