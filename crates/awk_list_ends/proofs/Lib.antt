@@ -1,3 +1,4 @@
 pub mod SpanLaws
 pub mod KeptItems
 pub mod EndLaws
+pub mod FillingLaws

@@ -2,18 +2,18 @@
 ghost use Rattle.std.specs.Prelude.{◌≡◌, ◌+◌, ◌<◌, ◌≤◌, ◌==◌, ◌^◌, length, pos, IfOk, IfSome};
 ghost use Rattle.std.specs.Prelude.{if◌then◌else◌};
 ghost use Rattle.awk_lanes.specs.Numbers.{int_of, IsOf};
-ghost use Rattle.awk_lanes.specs.Places.{size_of, place_at, IsOptionKind};
+ghost use Rattle.awk_lanes.specs.Places.{size_of, IsOptionKind};
 ghost use Rattle.awk_lanes.specs.declared.kind.Kind.TheVariants as Kinds;
 ghost use Rattle.awk_layout.specs.Valid.{len};
 ghost use Rattle.awk_counts.specs.Counted.{first_of, present_at};
-ghost use Rattle.awk_list_ends.specs.Ends.{numbers_at_ends, span_length, AreListEnds};
+ghost use Rattle.awk_list_ends.specs.Ends.{numbers_at_ends, AreListEnds};
 ghost use Rattle.awk_counts.specs.Present.{present_lane};
 ghost use Rattle.awk_nulls.specs.Lanes.{AreEnds};
 
-use awk_columns::{Bounds, Lists, Span};
+use awk_columns::{Bounds, Lists};
 use awk_counts::present_counts;
 use awk_lanes::{Arena, Index, IndexMaker, Lane, Num, Steps, index_of, number};
-use awk_list_ends::numbers_at_ends;
+use awk_list_ends::{numbers_at_ends, span_or};
 use awk_types::NoMemory;
 use std::alloc::Global;
 use std::sync::ledger::Ledger;
@@ -39,7 +39,7 @@ fn one_if_named(index: &Index, i: u64) -> u64
 
 /// How many items are present from a place on below another.
 #[inline(always)]
-fn count_between(index: &Index, start: u64, stop: u64) -> u64
+pub(crate) fn count_between(index: &Index, start: u64, stop: u64) -> u64
     requires order { start ≤ stop }
     requires within { stop ≤ size_of index.now }
     ensures { length (first_of (present_at index.now) start) + result
@@ -50,28 +50,6 @@ fn count_between(index: &Index, start: u64, stop: u64) -> u64
         count += one_if_named(index, i);
     }
     count
-}
-
-/// Where the list at a place lies; one without items lies at `place`.
-#[inline(always)]
-fn span_or(lists: &Bounds, i: u64, place: u64) -> Span
-    requires within { i < size_of lists.now.starts }
-    requires place { place ≤ len lists.now.content }
-    requires small { place < 2 ^ 63 }
-    ensures length { result.length ≡ span_length lists.now.starts lists.now.stops i }
-    ensures start { 0 < result.length → result.start ≡ place_at lists.now.starts i }
-    ensures within { result.start + result.length ≤ len lists.now.content }
-    ensures small { result.start + result.length < 2 ^ 63 }
-{
-    let span = lists.span_of(i);
-    if span.length == 0 {
-        Span {
-            start: place,
-            length: 0,
-        }
-    } else {
-        span
-    }
 }
 
 /// An end of a list of a length: 0 where it has no items.
