@@ -72,7 +72,7 @@ use Rattle.awk_leaves.specs.declared.operation.Unary.{Unary}
 use Rattle.awk_leaves.specs.declared.operation.Unary.TheVariants as unary
 use Rattle.awk_nulls.specs.Firsts.{firsts_of}
 use Rattle.awk_nulls.specs.IsNone.{is_none_of}
-use Rattle.awk_nulls.specs.PadNone.{pad_none_of}
+use Rattle.awk_padding.specs.PadNone.{pad_none_of}
 use Rattle.awk_mask.specs.PutMask.{put_mask_of}
 use Rattle.awk_nulls.specs.Singletons.{singletons_of}
 use Rattle.awk_eval.specs.Ranges.{range_items}

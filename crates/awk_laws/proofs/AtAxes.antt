@@ -23,7 +23,7 @@ use Rattle.awk_columns.specs.Columns.{joined_items, present_values}
 use Rattle.awk_columns.specs.ListClass.{Class, list_type}
 use Rattle.awk_lists.specs.Flatten.{flatten_of, flatten_function}
 use Rattle.awk_nulls.specs.DropNone.{drop_none_of}
-use Rattle.awk_nulls.specs.PadNone.{pad_none_of, pad_none_function, padded, padded_class}
+use Rattle.awk_padding.specs.PadNone.{pad_none_of, pad_none_function, padded, padded_class}
 use Rattle.awk_nulls.specs.Singletons.{singletons_of, singletons_function, single_list}
 use Rattle.awk_law_chains.specs.Arrays.{AreItems}
 use Rattle.awk_laws.proofs.Composed.{type-composed, value-composed}

@@ -38,7 +38,7 @@ use Rattle.awk_fill.specs.FillNone.{filler_refusal, no_filler, filling, filler_t
 use Rattle.awk_lists.specs.Flatten.{flatten_of}
 use Rattle.awk_nulls.specs.DropNone.{drop_none_of}
 use Rattle.awk_nulls.specs.Firsts.{first_or_null}
-use Rattle.awk_nulls.specs.PadNone.{pad_none_of, padded}
+use Rattle.awk_padding.specs.PadNone.{pad_none_of, padded}
 use Rattle.awk_nulls.specs.Singletons.{singletons_of, single_list}
 use Rattle.awk_unify.specs.Carry.{Carry, keep, in_items, to_parts, to_alternatives, carried}
 use Rattle.awk_unify.proofs.UnifiesLaws.{unifies}

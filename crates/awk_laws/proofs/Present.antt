@@ -13,7 +13,7 @@ use Rattle.awk_types.specs.Simple.{IsSimple, is_option, present, simple_value, i
 use Rattle.awk_types.specs.Value.{Value, int, truth, null, list, row, alt}
 use Rattle.awk_types.proofs.SimpleLaws.{value_stays, in_option_stays, null_in_option}
 use Rattle.awk_columns.specs.Columns.{is_present, present_values, joined_items}
-use Rattle.awk_nulls.specs.PadNone.{padded, padded_length}
+use Rattle.awk_padding.specs.PadNone.{padded, padded_length}
 use Rattle.awk_nulls.specs.Singletons.{single_list}
 
 -- ---- values that are not null

@@ -17,7 +17,7 @@ use Rattle.awk_lists.specs.WithoutField.{choice_of, without_field_of}
 use Rattle.awk_merge_operands.specs.Concatenate.{concatenate_of}
 use Rattle.awk_nulls.specs.DropNone.{drop_none_of}
 use Rattle.awk_nulls.specs.Firsts.{firsts_of}
-use Rattle.awk_nulls.specs.PadNone.{pad_none_of}
+use Rattle.awk_padding.specs.PadNone.{pad_none_of}
 use Rattle.awk_nulls.specs.Singletons.{singletons_of}
 use Rattle.awk_select.specs.Picks.{mask_of, step_range_of, take_of}
 use Rattle.awk_view.specs.Choice.{field}

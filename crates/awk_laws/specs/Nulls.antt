@@ -16,7 +16,7 @@ use Rattle.awk_lists.specs.Flatten.{flatten_of}
 use Rattle.awk_lists.specs.Num.{num_of}
 use Rattle.awk_nulls.specs.DropNone.{drop_none_of}
 use Rattle.awk_nulls.specs.Firsts.{firsts_of}
-use Rattle.awk_nulls.specs.PadNone.{pad_none_of}
+use Rattle.awk_padding.specs.PadNone.{pad_none_of}
 use Rattle.awk_nulls.specs.Singletons.{singletons_of}
 use Rattle.awk_pair_operands.specs.Typed.{IsTyped}
 use Rattle.awk_law_chains.specs.Arrays.{AreItems}

@@ -6,6 +6,5 @@ pub mod EndCounts
 pub mod SingleLaws
 pub mod DropLaws
 pub mod KeptLaws
-pub mod PadGiven
 pub mod NoneLaws
 mod Worked

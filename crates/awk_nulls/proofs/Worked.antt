@@ -10,7 +10,6 @@ use Rattle.awk_nulls.specs.IsNone.{is_none_of}
 use Rattle.awk_nulls.specs.DropNone.{drop_none_of}
 use Rattle.awk_nulls.specs.Firsts.{firsts_of}
 use Rattle.awk_nulls.specs.Singletons.{singletons_of}
-use Rattle.awk_nulls.specs.PadNone.{pad_none_of}
 
 abbrev int64 : DataType
 int64 = leaf I64
@@ -124,30 +123,3 @@ singletons_keeps_class = refl
 singletons_of_lists : singletons_of (pos 0) (arr (var int64) (ints_list [] ∷ []))
     ≡ Ok (arr (var (var int64)) (list_value (ints_list [] ∷ []) ∷ []))
 singletons_of_lists = refl
-
--- ---- nulls at the end
-
-padded_1 : pad_none_of 2 (pos 1) false jagged
-    ≡ Ok (arr (var (opt int64))
-    (ints_list (pos 1 ∷ pos 2 ∷ pos 3 ∷ []) ∷ list_value (null ∷ null ∷ [])
-    ∷ ints_list (pos 4 ∷ pos 5 ∷ []) ∷ []))
-padded_1 = refl
-
-clipped_1 : pad_none_of 2 (pos 1) true jagged
-    ≡ Ok (arr (reg 2 (opt int64))
-    (ints_list (pos 1 ∷ pos 2 ∷ []) ∷ list_value (null ∷ null ∷ [])
-    ∷ ints_list (pos 4 ∷ pos 5 ∷ []) ∷ []))
-clipped_1 = refl
-
-padded_0 : pad_none_of 4 (pos 0) false some
-    ≡ Ok (arr (opt int64) (int (pos 1) ∷ null ∷ int (pos 3) ∷ null ∷ []))
-padded_0 = refl
-
-clipped_0 : pad_none_of 1 (pos 0) true jagged
-    ≡ Ok (arr (opt (var int64)) (ints_list (pos 1 ∷ pos 2 ∷ pos 3 ∷ []) ∷ []))
-clipped_0 = refl
-
--- without lists nothing is made, whatever the number
-clipped_of_unknown : pad_none_of 18446744073709551615 (pos 1) true (arr unknown [])
-    ≡ Ok (arr (reg 18446744073709551615 (opt unknown)) [])
-clipped_of_unknown = refl

@@ -1,26 +1,24 @@
 -- Lanes that are made of lists by their starts and stops, and of the indexes of options.
-use Rattle.std.specs.Prelude.{◌≡◌, ℕ, ◌+◌, ◌==◌, ◌<◌, ◌≤◌, nat_lt, Bool, length, take, ℤ, pos}
+use Rattle.std.specs.Prelude.{◌≡◌, ℕ, ◌+◌, ◌==◌, ◌<◌, ◌≤◌, length, take, ℤ, pos}
 use Rattle.std.specs.Prelude.{negsuc, Option, Some, None, if◌then◌else◌}
 use Rattle.awk_types.specs.DataType.{var}
 use Rattle.awk_types.specs.Predicates.{is_null}
 use Rattle.awk_types.specs.Simple.{present}
 use Rattle.awk_types.specs.Value.{truth}
 use Rattle.awk_lanes.specs.Column.{Column}
-use Rattle.awk_lanes.specs.Places.{size_of, at, place_at, option_place_at, IsIndexKind}
+use Rattle.awk_lanes.specs.Places.{size_of, at, option_place_at, IsIndexKind}
 use Rattle.awk_lanes.specs.Places.{IsOptionKind}
 use Rattle.awk_lanes.specs.declared.kind.Kind.TheVariants.{Bool as Truths, I64}
 use Rattle.awk_layout.specs.Layout.{Layout, flat}
 use Rattle.awk_layout.specs.Valid.{len, IsValid}
 use Rattle.awk_layout.specs.Typing.{array_type, array_items}
 use Rattle.awk_gather.specs.Arrays.{array_item}
-use Rattle.awk_lanes.specs.Counted.{items_lane}
 use Rattle.awk_lanes.specs.Made.{lane_of}
 use Rattle.awk_columns.specs.Columns.{present_values}
 pub use Rattle.awk_columns.specs.Lists.{span_length}
 use Rattle.awk_list_ends.specs.Ends.{numbers_at_ends}
 use Rattle.awk_counts.specs.Present.{present_lane}
 use Rattle.awk_nulls.specs.declared.ends.Ends.{Ends}
-use Rattle.awk_nulls.specs.PadNone.{padded_length}
 use Rattle.awk_nulls.specs.Singletons.{single_list}
 
 -- ---- nulls
@@ -78,17 +76,3 @@ pub record AreSingles (x w : Layout) : Type 0 where
   pub size : len w ≡ len x
   pub typ : array_type w ≡ var (present (array_type x))
   pub items : (i : ℕ) → i < len x → array_item w i ≡ single_list (array_item x i)
-
--- ---- lists with nulls at their end
-
--- how long list i becomes
-abbrev pub padded_span : ℕ → Bool → Column → Column → ℕ → ℕ
-padded_span n clip s t i = padded_length n clip (span_length s t i)
-
--- the place of item k of list i, and -1 past its end
-abbrev pub padded_place : Column → Column → ℕ → ℕ → ℤ
-padded_place s t i k = if nat_lt k (span_length s t i) then pos (place_at s i + k) else negsuc 0
-
-abbrev pub padded_lane : ℕ → Bool → Column → Column → Column
-padded_lane n clip s t =
-    items_lane I64 (padded_span n clip s t) (padded_place s t) (size_of s)

@@ -3,4 +3,3 @@ pub mod Lanes
 pub mod DropNone
 pub mod Firsts
 pub mod Singletons
-pub mod PadNone

@@ -1,18 +1,16 @@
-//! Operations on nulls: which items are null, lists without them, padded by them, first items.
+//! Operations on nulls: which items are null, lists without them, first items.
 //!
-//! The calls are `is_none`, `drop_none`, `firsts`, `singletons` and `pad_none`.
+//! The calls are `is_none`, `drop_none`, `firsts` and `singletons`.
 #![tactic(auto)]
 
 mod dropping;
 mod ends;
 mod first_items;
 mod nulls;
-mod padding;
 mod presence;
 mod singles;
 
 pub use dropping::drop_none;
 pub use first_items::firsts;
 pub use nulls::is_none;
-pub use padding::pad_none;
 pub use singles::singletons;

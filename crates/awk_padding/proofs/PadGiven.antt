@@ -3,12 +3,12 @@ use Rattle.std.specs.Prelude.{◌≡◌, ℕ, zero, suc, ◌+◌, ◌-◌, ◌*�
 use Rattle.std.specs.Prelude.{false, Bool, List, length, map, get_or, sum, pos, negsuc, ◌<ℤ◌, Some}
 use Rattle.std.specs.Prelude.{None, if◌then◌else◌}
 use Rattle.std.specs.List.{range_with_len}
-use Rattle.std.proofs.Common.{arith, ap, sym, ◌∙◌}
+use Rattle.std.proofs.Common.{arith, ap, sym, ◌∙◌, subst}
 use Rattle.std.proofs.lemmas.Int.{ints}
 use Rattle.std.proofs.lemmas.List.{get_or_past}
 use Rattle.std.proofs.lemmas.List.FromFn.{length-map-range_with_len}
 use Rattle.std.proofs.lemmas.Simd.{map-map}
-use Rattle.awk_types.specs.DataType.{opt}
+use Rattle.awk_types.specs.DataType.{DataType, opt}
 use Rattle.awk_types.specs.Simple.{simple_value}
 use Rattle.awk_types.specs.Value.{Value, null, value_list}
 use Rattle.awk_types.specs.ItemLimit.{item_limit}
@@ -22,22 +22,39 @@ use Rattle.awk_layout.specs.Layout.{Layout, optional}
 use Rattle.awk_layout.specs.Item.{run, at_option}
 use Rattle.awk_layout.specs.Typing.{array_type}
 use Rattle.awk_layout.specs.Valid.{len, IsValid}
-use Rattle.awk_layout.proofs.Runs.{length-run, get-run, run-by}
+use Rattle.awk_layout.proofs.Runs.{length-run, get-run, run-by, run-same}
 use Rattle.awk_gather.specs.Arrays.{array_item}
 use Rattle.awk_gather.specs.Peeled.{IsPickedOpt}
+use Rattle.awk_columns.specs.Joined.{AreOffsets}
 use Rattle.awk_columns.specs.ListClass.{Class}
 use Rattle.awk_columns.specs.ListNode.{AreEven}
 use Rattle.awk_axis.specs.Mapped.{AreGiven}
-use Rattle.awk_columns.specs.Lists.{AreLists, items_at, all_items_at}
+use Rattle.awk_columns.specs.Lists.{AreLists, items_at, all_items_at, span_length}
 use Rattle.awk_axis.specs.Spoils.{too_many}
 use Rattle.awk_axis.specs.declared.causes.Spoil.TheVariants.{Size}
-use Rattle.awk_nulls.specs.PadNone.{padded, padded_length, padded_class, pad_none_function}
-use Rattle.awk_nulls.specs.Lanes.{span_length, padded_span, padded_place, padded_lane}
+use Rattle.awk_padding.specs.PadNone.{padded, padded_length, padded_class, pad_none_function}
+use Rattle.awk_padding.specs.Lanes.{padded_span, padded_place, padded_lane}
 use Rattle.awk_list_ends.proofs.SpanLaws.{start_there}
 use Rattle.awk_option_nodes.proofs.OptionNodes.{HasItems, optional_type-is, optional_item}
-use Rattle.awk_nulls.proofs.PickedColumns.{picked_lists}
+use Rattle.awk_option_nodes.proofs.OptionNodes.{picked_item}
 use Rattle.awk_columns.proofs.OffsetLaws.{are_offsets, items_at-length}
 use Rattle.awk_axis.proofs.SpoilLimits.{over_limit, within_limit}
+
+-- lists of items that are picked, and null elsewhere
+picked_lists : (class : Class) (t : DataType) (items : List Value → List Value)
+    (s e : Column) (y w r : Layout) (o p : Column) → IsValid r → IsPickedOpt w p r
+    → AreGiven class t items s e y o (optional p w) → AreGiven class t items s e y o r
+picked_lists class t items s e y w r o p v h g = record {
+  valid = v;
+  offsets = subst (AreOffsets o (size_of s)) (sym h.size) g.offsets;
+  even = g.even;
+  typ = h.typ ∙ g.typ;
+  lists = λ i q.
+      let size : ℕ = place_at o (i + 1) - place_at o i in
+      ap value_list (run-same (array_item r) (array_item (optional p w)) (place_at o i) size
+      (λ k _ high. picked_item w r p h k (omega (arith, high, g.offsets.within i q))))
+      ∙ g.lists i q;
+}
 
 -- one item of a list of n items, or null past its end
 shown : (h : ℕ → Value) (start n k : ℕ) →

@@ -1,5 +1,5 @@
 use Rattle.awk_axis.proofs.IndexLaws.{too_many-never}
-use Rattle.awk_nulls.proofs.padding.PaddingListOp.tells_index.Goals as goal
+use Rattle.awk_padding.proofs.padding.PaddingListOp.tells_index.Goals as goal
 
 pub returns : goal.returns
 returns c e t ls h = too_many-never _ h

@@ -6,8 +6,8 @@ ghost use Rattle.awk_lanes.specs.Numbers.{int_of, IsOf};
 ghost use Rattle.awk_lanes.specs.Places.{size_of};
 ghost use Rattle.awk_lanes.specs.declared.kind.Kind.TheVariants as Kinds;
 ghost use Rattle.awk_layout.specs.Datum.{datum_of, IsDatum};
-ghost use Rattle.awk_nulls.specs.Lanes.{padded_place};
-ghost use Rattle.awk_nulls.specs.PadNone.{pad_none_function, pad_none_of};
+ghost use Rattle.awk_padding.specs.Lanes.{padded_place};
+ghost use Rattle.awk_padding.specs.PadNone.{pad_none_function, pad_none_of};
 
 use awk_axis::{ListOp, Made, Refusal, Spoil, lift_at};
 use awk_columns::{Bounds, Lists, places_of};
@@ -49,7 +49,7 @@ struct PaddedLists<'b, 'r, 'a> {
 
 impl<'b, 'r, 'a> Lengths for PaddedLists<'b, 'r, 'a> {
     ghost use Rattle.awk_lanes.specs.Places.{size_of};
-    ghost use Rattle.awk_nulls.specs.Lanes.{padded_span};
+    ghost use Rattle.awk_padding.specs.Lanes.{padded_span};
 
     ghost length = { λ f. padded_span f.padding.size f.padding.clip f.lists.now.starts
         f.lists.now.stops };
@@ -68,7 +68,7 @@ impl<'b, 'r, 'a> Lengths for PaddedLists<'b, 'r, 'a> {
 
 impl<'b, 'r, 'a> Items for PaddedLists<'b, 'r, 'a> {
     ghost use Rattle.awk_lanes.specs.declared.kind.Kind.TheVariants as Kinds;
-    ghost use Rattle.awk_nulls.specs.Lanes.{padded_place};
+    ghost use Rattle.awk_padding.specs.Lanes.{padded_place};
 
     ghost kind = { λ _. Kinds.I64 };
 

@@ -3,10 +3,10 @@ use Rattle.awk_types.specs.ItemLimit.{item_limit}
 use Rattle.awk_lanes.specs.Counted.{AreOffsetsBy}
 use Rattle.awk_lanes.specs.Places.{size_of}
 use Rattle.awk_gather.specs.Peeled.{IsPickedOpt}
-use Rattle.awk_nulls.specs.Lanes.{padded_span, padded_lane}
-use Rattle.awk_nulls.proofs.PadGiven.{padded_index, padded_over, padded_spoilt}
-use Rattle.awk_nulls.proofs.PadGiven.{padded_fine}
-use Rattle.awk_nulls.proofs.padding.PaddingListOp.column.Goals as goal
+use Rattle.awk_padding.specs.Lanes.{padded_span, padded_lane}
+use Rattle.awk_padding.proofs.PadGiven.{padded_index, padded_over, padded_spoilt}
+use Rattle.awk_padding.proofs.PadGiven.{padded_fine}
+use Rattle.awk_padding.proofs.padding.PaddingListOp.column.Goals as goal
 
 pub option_over-requires-clause-places : goal.option_over-requires-clause-places
 option_over-requires-clause-places g c =

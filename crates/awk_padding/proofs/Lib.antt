@@ -1,0 +1,2 @@
+pub mod PadGiven
+mod Worked

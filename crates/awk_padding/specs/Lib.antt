@@ -1,0 +1,2 @@
+pub mod PadNone
+pub mod Lanes
