@@ -1,2 +1,3 @@
 pub mod PadGiven
+pub mod PadWhole
 mod Worked

@@ -84,7 +84,7 @@ below_end start n k b h = go (nat_lt k n) refl
         omega (arith, ints, p, q)
     go false e = omega (arith, ints)
 
-even_lists : (n : ℕ) (clip : Bool) (s t : Column) (k : ℕ)
+pub even_lists : (n : ℕ) (clip : Bool) (s t : Column) (k : ℕ)
     → AreEven (padded_class n clip) (offsets_by (padded_span n clip s t) k) k
 even_lists n false s t k = tt
 even_lists n true s t k = λ i p. place-offsets (padded_span n true s t) k i p ∙ go i

@@ -3,6 +3,7 @@
 //! The call is `pad_none`.
 #![tactic(auto)]
 
+mod padded;
 mod padding;
 
 pub use padding::pad_none;
