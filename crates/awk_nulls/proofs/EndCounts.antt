@@ -1,5 +1,5 @@
 -- Where lists begin and end among the items that are present, while these are counted.
-use Rattle.std.proofs.Common.{◌≡◌, ℕ, zero, suc, ◌+◌, ◌<◌, ◌≤◌, map, length, arith, refl, ap}
+use Rattle.std.proofs.Common.{◌≡◌, ℕ, zero, suc, ◌+◌, ◌<◌, ◌≤◌, map, arith, refl, ap}
 use Rattle.std.proofs.Common.{sym, ◌∙◌}
 use Rattle.std.specs.Prelude.{ℤ, pos}
 use Rattle.std.specs.List.{range_with_len}
@@ -11,16 +11,12 @@ use Rattle.awk_lanes.specs.declared.kind.Kind.TheVariants.{I64}
 use Rattle.awk_lanes.proofs.MadeLanes.{IsSoFar, at-lane_of}
 use Rattle.awk_layout.specs.Layout.{Layout}
 use Rattle.awk_layout.specs.Valid.{len}
-use Rattle.awk_counts.specs.Counted.{first_of, present_at}
 use Rattle.awk_columns.specs.ListClass.{Class}
 use Rattle.awk_columns.specs.Lists.{span_length, AreLists}
 use Rattle.awk_counts.specs.Present.{present_lane}
 use Rattle.awk_list_ends.proofs.EndLaws.{end_number}
 use Rattle.awk_list_ends.proofs.SpanLaws.{stop_there}
-
--- how many of the first items are present
-abbrev pub present_before : Column → ℕ → ℕ
-present_before j k = length (first_of (present_at j) k)
+use Rattle.awk_nulls.specs.Lanes.{present_before}
 
 -- the numbers at the starts and at the stops of lists
 abbrev pub start_number : Column → Column → Column → ℕ → ℤ
@@ -29,7 +25,8 @@ start_number j s t i = end_number (span_length s t i) (at (present_lane j) (plac
 abbrev pub stop_number : Column → Column → Column → ℕ → ℤ
 stop_number j s t i = end_number (span_length s t i) (at (present_lane j) (place_at t i))
 
-at-present : (j : Column) (k : ℕ) → k ≤ size_of j → at (present_lane j) k ≡ pos (present_before j k)
+pub at-present : (j : Column) (k : ℕ) → k ≤ size_of j
+    → at (present_lane j) k ≡ pos (present_before j k)
 at-present j k l =
     at-lane_of I64 (size_of j + 1) (λ i. pos (present_before j i)) k (omega (arith, l))
 

@@ -5,6 +5,7 @@ pub mod PresentLaws
 pub mod EndCounts
 pub mod SingleLaws
 pub mod DropLaws
+pub mod RowLaws
 pub mod KeptLaws
 pub mod NoneLaws
 mod Worked

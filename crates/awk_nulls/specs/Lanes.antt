@@ -1,5 +1,5 @@
 -- Lanes that are made of lists by their starts and stops, and of the indexes of options.
-use Rattle.std.specs.Prelude.{◌≡◌, ℕ, ◌+◌, ◌==◌, ◌<◌, ◌≤◌, length, take, ℤ, pos}
+use Rattle.std.specs.Prelude.{◌≡◌, ℕ, ◌+◌, ◌-◌, ◌==◌, ◌<◌, ◌≤◌, length, take, ℤ, pos}
 use Rattle.std.specs.Prelude.{negsuc, Option, Some, None, if◌then◌else◌}
 use Rattle.awk_types.specs.DataType.{var}
 use Rattle.awk_types.specs.Predicates.{is_null}
@@ -13,10 +13,14 @@ use Rattle.awk_layout.specs.Layout.{Layout, flat}
 use Rattle.awk_layout.specs.Valid.{len, IsValid}
 use Rattle.awk_layout.specs.Typing.{array_type, array_items}
 use Rattle.awk_gather.specs.Arrays.{array_item}
+use Rattle.awk_lanes.specs.Counted.{before, AreOffsetsOf}
 use Rattle.awk_lanes.specs.Made.{lane_of}
+use Rattle.awk_lanes.specs.declared.counted.Offsets.{Offsets}
 use Rattle.awk_columns.specs.Columns.{present_values}
 pub use Rattle.awk_columns.specs.Lists.{span_length}
 use Rattle.awk_list_ends.specs.Ends.{numbers_at_ends}
+use Rattle.awk_list_ends.specs.Filling.{AreFull}
+use Rattle.awk_counts.specs.Counted.{first_of, present_at}
 use Rattle.awk_counts.specs.Present.{present_lane}
 use Rattle.awk_nulls.specs.declared.ends.Ends.{Ends}
 use Rattle.awk_nulls.specs.Singletons.{single_list}
@@ -69,6 +73,21 @@ pub record HasPresent (x : Layout) (j : Column) (z : Layout) : Type 0 where
 abbrev pub AreEnds : Column → Column → Column → Ends → Type 0
 AreEnds c s t e =
     (e.starts ≡ numbers_at_ends c s t s) × (e.stops ≡ numbers_at_ends c s t t)
+
+-- how many of the first k items are present
+abbrev pub present_before : Column → ℕ → ℕ
+present_before j k = length (first_of (present_at j) k)
+
+-- how many items of list i are present, of lists that fill what an index is of
+abbrev pub row_count : Column → Column → Column → ℕ → ℕ
+row_count j s t i =
+    present_before j (before (span_length s t) (i + 1))
+    - present_before j (before (span_length s t) i)
+
+-- the offsets of such lists among the items that are present
+pub record AreRowOffsets (j s t : Column) (o : Offsets) : Type 0 where
+  pub full : AreFull s t (size_of j)
+  pub offsets : AreOffsetsOf (row_count j s t) (size_of s) o
 
 -- a list of at most one for each item of an array
 pub record AreSingles (x w : Layout) : Type 0 where

@@ -12,6 +12,7 @@ ghost use Rattle.awk_nulls.specs.Lanes.{HasPresent};
 
 use crate::ends::ends_among_present;
 use crate::presence::{has_options, option_items};
+use crate::rows::filled_rows;
 use crate::singles::present_typ;
 use awk_axis::{ListOp, Made, Refusal, Spoil, lift_at};
 use awk_columns::{Joined, Lists, join_spans};
@@ -46,6 +47,26 @@ fn present_lists<'a, L: Ledger>(
             })
         }
     }
+}
+
+/// The items of lists that are not null, by the index of the option.
+fn dropped_lists<'a, L: Ledger>(
+    alloc: Global,
+    lists: &Lists<'a>,
+    index: &Lane<'a>,
+    items: &Array<'a>,
+    arena: &'a Arena,
+    steps: &mut Steps<L>,
+) -> Result<Made<'a>, NoMemory>
+    requires items { HasPresent lists.now.content index.now items.now }
+    ensures { IfOk result (IsMade drop_none_function lists.now.class lists.now.starts
+        lists.now.stops lists.now.content) }
+{
+    let rows = filled_rows(alloc, lists, index, items, arena, steps)?;
+    if let Some(made) = rows {
+        return Ok(made);
+    }
+    present_lists(alloc, lists, index, items, arena, steps)
 }
 
 /// Lists whose items are of a type that is no option, as they are.
@@ -108,7 +129,7 @@ impl ListOp for PresentItems {
     ) -> Result<Made<'a>, NoMemory> {
         if has_options(lists) {
             let items = option_items(alloc, lists.content(), arena, steps)?;
-            present_lists(alloc, lists, &items.index, &items.content, arena, steps)
+            dropped_lists(alloc, lists, &items.index, &items.content, arena, steps)
         } else {
             kept_lists(alloc, lists, arena, steps)
         }

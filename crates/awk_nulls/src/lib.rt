@@ -8,6 +8,7 @@ mod ends;
 mod first_items;
 mod nulls;
 mod presence;
+mod rows;
 mod singles;
 
 pub use dropping::drop_none;

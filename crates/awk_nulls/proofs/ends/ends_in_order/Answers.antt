@@ -5,7 +5,8 @@ use Rattle.awk_lanes.specs.declared.kind.Kind.TheVariants.{I64}
 use Rattle.awk_lanes.proofs.MadeLanes.{made_size, so_far_pushed}
 use Rattle.awk_counts.proofs.FirstPlaces.{present-few}
 use Rattle.awk_columns.specs.Lists.{span_length}
-use Rattle.awk_nulls.proofs.EndCounts.{present_before, start_number, stop_number, end_is}
+use Rattle.awk_nulls.specs.Lanes.{present_before}
+use Rattle.awk_nulls.proofs.EndCounts.{start_number, stop_number, end_is}
 use Rattle.awk_nulls.proofs.EndCounts.{stop_is, lane_made}
 use Rattle.awk_nulls.proofs.ends.ends_in_order.Goals as goal
 

@@ -1,0 +1,88 @@
+//! Lists that fill an option: their offsets among the items that are present, of which none is
+//! counted twice.
+ghost use Rattle.std.specs.Prelude.{◌≡◌, ◌<◌, ◌^◌, IfOk, IfSome};
+ghost use Rattle.awk_lanes.specs.Places.{size_of};
+ghost use Rattle.awk_layout.specs.Valid.{len};
+ghost use Rattle.awk_axis.specs.DropNone.{drop_none_function};
+ghost use Rattle.awk_axis.specs.Mapped.{IsMade};
+ghost use Rattle.awk_nulls.specs.Lanes.{AreRowOffsets, HasPresent};
+
+use crate::ends::count_between;
+use awk_axis::{Made, Spoil};
+use awk_columns::{Bounds, Lists};
+use awk_lanes::{Arena, Index, IndexMaker, Lane, Offsets, Steps, index_of, number};
+use awk_layout::Array;
+use awk_list_ends::span_or;
+use awk_types::{ITEM_LIMIT, NoMemory};
+use std::alloc::Global;
+use std::sync::ledger::Ledger;
+
+/// The offsets of lists among the items that are present, in one pass over these: none where a list
+/// begins elsewhere than where the one before it ends, or an item stands behind the last.
+fn row_offsets<'a>(
+    index: &Index,
+    lists: &Bounds,
+    arena: &'a Arena,
+) -> Result<Option<Offsets<'a>>, NoMemory>
+    requires size { size_of index.now ≡ len lists.now.content }
+    requires small { size_of index.now < 2 ^ 63 }
+    ensures { IfOk result (λ r. IfSome r
+        (AreRowOffsets index.now lists.now.starts lists.now.stops)) }
+{
+    let _ = lists.content();
+    let n = lists.len();
+    let mut maker = IndexMaker::new(n + 1, arena)?;
+    maker.push(number(0));
+    let mut place = 0;
+    let mut count = 0;
+    for i in 0..n {
+        let span = span_or(lists, i, place);
+        if span.start != place {
+            return Ok(None);
+        }
+        let end = place + span.length;
+        count += count_between(index, place, end);
+        place = end;
+        maker.push(number(count));
+    }
+    let size = index.len();
+    if place < size {
+        return Ok(None);
+    }
+    Ok(Some(Offsets {
+        lane: maker.finish(),
+        total: count,
+    }))
+}
+
+/// The items of lists that are not null, where the lists fill an option: nothing where they do not.
+pub(crate) fn filled_rows<'a, L: Ledger>(
+    alloc: Global,
+    lists: &Lists<'a>,
+    index: &Lane<'a>,
+    items: &Array<'a>,
+    arena: &'a Arena,
+    steps: &mut Steps<L>,
+) -> Result<Option<Made<'a>>, NoMemory>
+    requires items { HasPresent lists.now.content index.now items.now }
+    ensures { IfOk result (λ r. IfSome r (IsMade drop_none_function lists.now.class
+        lists.now.starts lists.now.stops lists.now.content)) }
+{
+    let _ = lists.content();
+    let _ = items.len();
+    let bounds = Bounds::new(alloc, lists, arena, steps)?;
+    let places = index_of(alloc, index, arena, steps)?;
+    match row_offsets(&places, &bounds, arena)? {
+        Some(offsets) => {
+            let total = offsets.total;
+            if total > ITEM_LIMIT {
+                return Ok(Some(Made::Spoiled(Spoil::Size)));
+            }
+            Ok(Some(Made::Lists {
+                offsets: offsets.lane,
+                content: items.node().copy(alloc)?,
+            }))
+        }
+        None => Ok(None),
+    }
+}
