@@ -1,5 +1,5 @@
 //! The numbers that the index of an option names, moved at once.
-ghost use Rattle.std.specs.Prelude.{◌≡◌, ◌<◌, ◌^◌, IfOk};
+ghost use Rattle.std.specs.Prelude.{◌≡◌, ◌<◌, ◌^◌, length, IfOk};
 ghost use Rattle.awk_lanes.specs.Places.{size_of, IsOptionalIndex};
 ghost use Rattle.awk_layout.specs.Layout.{flat};
 ghost use Rattle.awk_counts.specs.Counted.{first_of, numbers_at, present_at};
@@ -48,7 +48,30 @@ impl<'b, 'a> Places for NamedPlaces<'b, 'a> {
     }
 }
 
-/// The numbers of a lane that the index of an option names, in its order.
+/// The numbers of a lane that the index of an option names, in its order, of which there are
+/// `total`.
+pub fn all_named<'a, L: Ledger>(
+    alloc: Global,
+    index: &Index,
+    total: u64,
+    lane: &Lane,
+    arena: &'a Arena,
+    steps: &mut Steps<L>,
+) -> Result<Array<'a>, NoMemory>
+    requires index { IsOptionalIndex index.now (size_of lane.now) }
+    requires small { size_of index.now < 2 ^ 63 }
+    requires total { total ≡ length (first_of (present_at index.now) (size_of index.now)) }
+    ensures { let places = first_of (present_at index.now) (size_of index.now) in
+        IfOk result (λ r. r ≡ flat (numbers_at lane.now places)) }
+{
+    let n = index.len();
+    let named = NamedPlaces { index };
+    let numbers = list_numbers(lane, n, total, &named, arena, steps)?;
+    let array = Array::of_node(alloc, Node::numpy(numbers, steps))?;
+    Ok(array)
+}
+
+/// The same, counted first.
 pub fn named_numbers<'a, L: Ledger>(
     alloc: Global,
     index: &Index,
@@ -61,12 +84,8 @@ pub fn named_numbers<'a, L: Ledger>(
     ensures { let places = first_of (present_at index.now) (size_of index.now) in
         IfOk result (λ r. r ≡ flat (numbers_at lane.now places)) }
 {
-    let n = index.len();
     let total = count_present(index);
-    let named = NamedPlaces { index };
-    let numbers = list_numbers(lane, n, total, &named, arena, steps)?;
-    let array = Array::of_node(alloc, Node::numpy(numbers, steps))?;
-    Ok(array)
+    all_named(alloc, index, total, lane, arena, steps)
 }
 
 /// Whether an array is an option over numbers behind an index. No clause says so: it is asked only

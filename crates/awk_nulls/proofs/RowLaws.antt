@@ -1,9 +1,9 @@
 -- Lists that fill an option: their offsets among the items that are present.
 use Rattle.std.specs.Prelude.{◌≡◌, ℕ, zero, suc, ◌+◌, ◌-◌, ◌<◌, ◌≤◌, refl, List, map, length}
-use Rattle.std.specs.Prelude.{[], take, sum, ℤ, pos, Some, None}
+use Rattle.std.specs.Prelude.{[], take, sum, get_or, ℤ, pos, Some, None}
 use Rattle.std.specs.List.{range_with_len}
 use Rattle.std.proofs.Common.{arith, ap, ap₂, sym, ◌∙◌, subst}
-use Rattle.std.proofs.lemmas.List.{take_all}
+use Rattle.std.proofs.lemmas.List.{length-map, take_all}
 use Rattle.std.proofs.lemmas.Simd.{map-map}
 use Rattle.awk_base.proofs.Ranges.{map-same}
 use Rattle.awk_types.specs.DataType.{DataType}
@@ -20,14 +20,14 @@ use Rattle.awk_lanes.specs.declared.kind.Kind.TheVariants.{I64}
 use Rattle.awk_lanes.specs.declared.counted.Offsets.{Offsets}
 use Rattle.awk_lanes.proofs.CountedLanes.{before-next, before_mono, place-offsets, sum-before}
 use Rattle.awk_lanes.proofs.MadeLanes.{IsSoFar, so_far_pushed}
-use Rattle.awk_layout.specs.Layout.{Layout}
+use Rattle.awk_layout.specs.Layout.{Layout, flat}
 use Rattle.awk_layout.specs.Item.{run}
 use Rattle.awk_layout.specs.Typing.{layout_type, array_type, array_items}
 use Rattle.awk_layout.specs.Valid.{len}
 use Rattle.awk_layout.proofs.ArrayItems.{length-array_items}
 use Rattle.awk_layout.proofs.Runs.{length-run}
-use Rattle.awk_counts.specs.Counted.{present_at}
-use Rattle.awk_counts.proofs.FirstPlaces.{first_of-mono}
+use Rattle.awk_counts.specs.Counted.{first_of, present_at, numbers_at}
+use Rattle.awk_counts.proofs.FirstPlaces.{first_of-mono, present-few}
 use Rattle.awk_gather.specs.Arrays.{array_item}
 use Rattle.awk_columns.specs.Columns.{is_present, present_values}
 use Rattle.awk_columns.specs.Joined.{AreOffsets}
@@ -39,6 +39,8 @@ use Rattle.awk_axis.specs.Mapped.{AreGiven}
 use Rattle.awk_axis.specs.Spoils.{too_many}
 use Rattle.awk_axis.specs.declared.causes.Spoil.TheVariants.{Size}
 use Rattle.awk_axis.proofs.SpoilLimits.{over_limit, within_limit}
+use Rattle.awk_open.specs.Opened.{IsOpened}
+use Rattle.awk_open.specs.declared.opening.Opened.TheVariants.{Option as Optional}
 use Rattle.awk_list_ends.specs.Kept.{KeepsItems}
 use Rattle.awk_list_ends.proofs.FillingLaws.{full_more, run_from}
 use Rattle.awk_list_ends.proofs.KeptItems.{kept_run}
@@ -47,7 +49,7 @@ use Rattle.awk_option_nodes.proofs.OptionNodes.{HasItems, run_stays}
 use Rattle.awk_nulls.specs.Lanes.{present_before, row_count, AreRowOffsets}
 use Rattle.awk_nulls.specs.Lanes.{HasPresent}
 use Rattle.awk_nulls.proofs.EndCounts.{at-present, lane_made}
-use Rattle.awk_nulls.proofs.PresentLaws.{keeps_present, option_size}
+use Rattle.awk_nulls.proofs.PresentLaws.{keeps_present, moved_present, option_size}
 
 -- ---- counts of lists one after another
 
@@ -63,6 +65,12 @@ counted_before j s t (suc i) =
     (before_mono (span_length s t) i (i + 1) (omega arith)) in
     subst (λ k. before (row_count j s t) k ≡ present_before j (before (span_length s t) k)) e
     (omega (arith, counted_before j s t i, before-next (row_count j s t) i, more))
+
+-- how many are present together
+pub row_total : (j s t : Column) (o : Offsets) → AreRowOffsets j s t o
+    → o.total ≡ present_before j (size_of j)
+row_total j s t o r =
+    r.offsets.0 ∙ counted_before j s t (size_of s) ∙ ap (present_before j) r.full.whole
 
 -- ---- while they are made
 
@@ -251,3 +259,26 @@ module _ (class : Class) (s t : Column) (y : Layout) (a : AreLists class s t y)
     rows_given has =
         subst (λ c. AreGiven None (present (array_type y)) (λ vs. present_values vs) s t y c z)
         (sym r.offsets.1) (rows_offsets has)
+
+-- ---- what an index over numbers names
+
+-- the numbers alone are what is present
+pub named_present : (j c : Column) (y : Layout) → IsOpened y (Optional j (flat c))
+    → HasPresent y j (flat (numbers_at c (first_of (present_at j) (size_of j))))
+named_present j c y op =
+    let ks : List ℕ = first_of (present_at j) (size_of j) in
+    moved_present j c (flat c) y (flat (numbers_at c ks)) op refl refl
+    (omega (
+      arith,
+      length-map ks (λ k. get_or c.items k (pos 0)),
+      present-few j (size_of j),
+      op.valid.0,
+    ))
+
+pub named_spoilt : (class : Class) (s t : Column) (y : Layout) → AreLists class s t y
+    → (j c : Column) → IsOpened y (Optional j (flat c)) → (o : Offsets) → AreRowOffsets j s t o
+    → item_limit < o.total
+    → drop_none_function.spoil (array_type y) (all_items_at s t y) ≡ Some Size
+named_spoilt class s t y a j c op o r q =
+    rows_spoilt class s t y a j (flat (numbers_at c (first_of (present_at j) (size_of j))))
+    (named_present j c y op) o r q

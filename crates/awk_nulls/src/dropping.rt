@@ -1,5 +1,5 @@
 //! The items that are not null.
-ghost use Rattle.std.specs.Prelude.{◌≡◌, ◌<◌, false, IfOk};
+ghost use Rattle.std.specs.Prelude.{◌≡◌, ◌<◌, true, false, IfOk};
 ghost use Rattle.awk_types.specs.Faults.{fault_told};
 ghost use Rattle.awk_types.specs.Gives.{Gives};
 ghost use Rattle.awk_types.specs.Simple.{is_option};
@@ -12,12 +12,13 @@ ghost use Rattle.awk_nulls.specs.Lanes.{HasPresent};
 
 use crate::ends::ends_among_present;
 use crate::presence::{has_options, option_items};
-use crate::rows::filled_rows;
+use crate::rows::{filled_rows, opened_rows};
 use crate::singles::present_typ;
 use awk_axis::{ListOp, Made, Refusal, Spoil, lift_at};
 use awk_columns::{Joined, Lists, join_spans};
 use awk_lanes::{Arena, Lane, Steps};
 use awk_layout::{Array, Datum};
+use awk_list_numbers::has_numbers;
 use awk_types::{Fault, NoMemory, Typ};
 use std::alloc::Global;
 use std::sync::ledger::Ledger;
@@ -67,6 +68,27 @@ fn dropped_lists<'a, L: Ledger>(
         return Ok(made);
     }
     present_lists(alloc, lists, index, items, arena, steps)
+}
+
+/// The items of lists that are not null, of a type that is an option.
+fn dropped<'a, L: Ledger>(
+    alloc: Global,
+    lists: &Lists<'a>,
+    arena: &'a Arena,
+    steps: &mut Steps<L>,
+) -> Result<Made<'a>, NoMemory>
+    requires option { is_option (array_type lists.now.content) ≡ true }
+    ensures { IfOk result (IsMade drop_none_function lists.now.class lists.now.starts
+        lists.now.stops lists.now.content) }
+{
+    if has_numbers(lists.content()) {
+        let rows = opened_rows(alloc, lists, arena, steps)?;
+        if let Some(made) = rows {
+            return Ok(made);
+        }
+    }
+    let items = option_items(alloc, lists.content(), arena, steps)?;
+    dropped_lists(alloc, lists, &items.index, &items.content, arena, steps)
 }
 
 /// Lists whose items are of a type that is no option, as they are.
@@ -128,8 +150,7 @@ impl ListOp for PresentItems {
         steps: &mut Steps<L>,
     ) -> Result<Made<'a>, NoMemory> {
         if has_options(lists) {
-            let items = option_items(alloc, lists.content(), arena, steps)?;
-            dropped_lists(alloc, lists, &items.index, &items.content, arena, steps)
+            dropped(alloc, lists, arena, steps)
         } else {
             kept_lists(alloc, lists, arena, steps)
         }

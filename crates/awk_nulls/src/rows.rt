@@ -2,7 +2,10 @@
 //! counted twice.
 ghost use Rattle.std.specs.Prelude.{◌≡◌, ◌<◌, ◌^◌, IfOk, IfSome};
 ghost use Rattle.awk_lanes.specs.Places.{size_of};
+ghost use Rattle.awk_layout.specs.Layout.{flat};
 ghost use Rattle.awk_layout.specs.Valid.{len};
+ghost use Rattle.awk_open.specs.Opened.{IsOpened};
+ghost use Rattle.awk_open.specs.declared.opening.Opened.TheVariants as Opened;
 ghost use Rattle.awk_axis.specs.DropNone.{drop_none_function};
 ghost use Rattle.awk_axis.specs.Mapped.{IsMade};
 ghost use Rattle.awk_nulls.specs.Lanes.{AreRowOffsets, HasPresent};
@@ -11,8 +14,10 @@ use crate::ends::count_between;
 use awk_axis::{Made, Spoil};
 use awk_columns::{Bounds, Lists};
 use awk_lanes::{Arena, Index, IndexMaker, Lane, Offsets, Steps, index_of, number};
-use awk_layout::Array;
+use awk_layout::{Array, Class};
 use awk_list_ends::span_or;
+use awk_list_numbers::all_named;
+use awk_open::{Opened, opened};
 use awk_types::{ITEM_LIMIT, NoMemory};
 use std::alloc::Global;
 use std::sync::ledger::Ledger;
@@ -84,5 +89,75 @@ pub(crate) fn filled_rows<'a, L: Ledger>(
             }))
         }
         None => Ok(None),
+    }
+}
+
+/// The same of an option over numbers, which are moved at once.
+fn number_rows<'a, L: Ledger>(
+    alloc: Global,
+    lists: &Lists<'a>,
+    index: &Lane<'a>,
+    numbers: &Lane<'a>,
+    arena: &'a Arena,
+    steps: &mut Steps<L>,
+) -> Result<Option<Made<'a>>, NoMemory>
+    requires opened { IsOpened lists.now.content (Opened.Option index.now (flat numbers.now)) }
+    ensures { IfOk result (λ r. IfSome r (IsMade drop_none_function lists.now.class
+        lists.now.starts lists.now.stops lists.now.content)) }
+{
+    let _ = lists.content();
+    let bounds = Bounds::new(alloc, lists, arena, steps)?;
+    let places = index_of(alloc, index, arena, steps)?;
+    match row_offsets(&places, &bounds, arena)? {
+        Some(offsets) => {
+            let total = offsets.total;
+            if total > ITEM_LIMIT {
+                return Ok(Some(Made::Spoiled(Spoil::Size)));
+            }
+            let items = all_named(alloc, &places, total, numbers, arena, steps)?;
+            let _ = items.len();
+            Ok(Some(Made::Lists {
+                offsets: offsets.lane,
+                content: items.node().copy(alloc)?,
+            }))
+        }
+        None => Ok(None),
+    }
+}
+
+/// The same of what an option opens to: nothing where it holds no numbers.
+fn rows_over<'a, L: Ledger>(
+    alloc: Global,
+    lists: &Lists<'a>,
+    index: &Lane<'a>,
+    content: &Array<'a>,
+    arena: &'a Arena,
+    steps: &mut Steps<L>,
+) -> Result<Option<Made<'a>>, NoMemory>
+    requires opened { IsOpened lists.now.content (Opened.Option index.now content.now) }
+    ensures { IfOk result (λ r. IfSome r (IsMade drop_none_function lists.now.class
+        lists.now.starts lists.now.stops lists.now.content)) }
+{
+    match content.node().class() {
+        Class::Numpy { lane } => number_rows(alloc, lists, index, lane, arena, steps),
+        _ => Ok(None),
+    }
+}
+
+/// The same of any lists: nothing where they fill no option over numbers.
+pub(crate) fn opened_rows<'a, L: Ledger>(
+    alloc: Global,
+    lists: &Lists<'a>,
+    arena: &'a Arena,
+    steps: &mut Steps<L>,
+) -> Result<Option<Made<'a>>, NoMemory>
+    ensures { IfOk result (λ r. IfSome r (IsMade drop_none_function lists.now.class
+        lists.now.starts lists.now.stops lists.now.content)) }
+{
+    match opened(alloc, lists.content(), arena, steps)? {
+        Opened::Option { index, content } => {
+            rows_over(alloc, lists, &index, &content, arena, steps)
+        }
+        _ => Ok(None),
     }
 }

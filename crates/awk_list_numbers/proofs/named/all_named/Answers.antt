@@ -9,13 +9,12 @@ use Rattle.awk_layout.specs.Typing.{array_type}
 use Rattle.awk_counts.specs.Counted.{first_of, present_at, numbers_at}
 use Rattle.awk_counts.proofs.FirstPlaces.{present-few}
 use Rattle.awk_list_numbers.specs.ListPlaces.{list_places}
-use Rattle.awk_list_numbers.proofs.named.named_numbers.Goals as goal
+use Rattle.awk_list_numbers.proofs.named.all_named.Goals as goal
 use Rattle.awk_list_numbers.proofs.NamedPlaces.{named_at, places-read, count-read, are_places}
 
 pub list_numbers-requires-clause-total : goal.list_numbers-requires-clause-total
 list_numbers-requires-clause-total g c =
-    count-read c.args.index.now (size_of c.args.index.now) c.count_present-total.result
-    c.count_present-total.ensures
+    count-read c.args.index.now (size_of c.args.index.now) c.args.total c.requires.total
     ∙ ap (before (named_at c.args.index.now)) (sym c.len-n.ensures.len)
 
 pub list_numbers-requires-clause-places : goal.list_numbers-requires-clause-places
