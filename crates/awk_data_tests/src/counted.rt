@@ -1,9 +1,9 @@
 // What counts steps: lanes that are made, cut and read, bits that are cut, and buffers that are
-// fetched twice.
+// fetched twice, also where a long text is decoded into a room.
 ghost use Rattle.std.specs.Prelude.{◌≡◌, ◌<◌};
 
 use awk_lanes::{Arena, Bits, Kind, Lane, LaneMaker, Lanes, NoMemory, Steps};
-use awk_store::{BufferWhy, Store, StoreFault};
+use awk_store::{BufferWhy, Room, Store, StoreFault};
 use serde_json::Value;
 use std::alloc::Global;
 use std::marker::Brand;
@@ -137,6 +137,28 @@ fn try_store<L: Ledger>(
     Ok(())
 }
 
+/// A long text is decoded into the memory of the line that it was read from, the others into the
+/// arena.
+fn try_room<L: Ledger>(rt: &impl Abort, alloc: Global, steps: &mut Steps<L>) -> Result<(), Fail> {
+    let text = "AQID".repeat(alloc, 16_384)?;
+    let bytes = [1, 2, 3].repeat(alloc, 16_384)?;
+    let line = format!(in alloc; r#"{{"a":"AA==","b":"AAA","long":"{text}"}}"#)?;
+    let json = Value::from_str(alloc, &line)?;
+    let buffers = json.as_object().expect(rt, "an object");
+    let mut place = Vec::new(alloc);
+    let room = Room {
+        memory: line.into_bytes(),
+        place: &mut place,
+    };
+    let arena = Arena::new(alloc);
+    let mut store = Store::with_room(alloc, buffers, Some(room), &arena);
+    for _ in 0..2 {
+        assert!(rt; store.fetch("long", steps) == Ok(bytes.as_slice()));
+        try_keys(rt, &mut store, steps);
+    }
+    Ok(())
+}
+
 /// Bytes that were added are fetched as they are.
 fn try_added<L: Ledger>(
     rt: &impl Abort,
@@ -163,6 +185,7 @@ fn try_counted<L: Ledger>(rt: &impl Abort, host: &HostRuntime, blank: Blank) -> 
     try_lanes(rt, host.alloc(), &SAMPLES, steps)?;
     try_bits(rt, steps);
     try_store(rt, host.alloc(), steps)?;
+    try_room(rt, host.alloc(), steps)?;
     try_added(rt, host.alloc(), steps)?;
     Ok(())
 }

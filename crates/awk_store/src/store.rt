@@ -11,6 +11,7 @@ ghost use Rattle.awk_store.specs.Buffers.{unread_len};
 
 use crate::fault::{BufferWhy, StoreFault};
 use crate::raws::Raws;
+use crate::room::Room;
 use crate::texts::Texts;
 use awk_lanes::{Arena, NoMemory, Steps};
 use serde_json::{Map, Value};
@@ -20,6 +21,7 @@ use std::sync::ledger::Ledger;
 
 /// Buffers by key: those that a map gives as base64 texts, and those whose bytes were added. The
 /// bytes of a key are decoded or copied into the arena when it is first fetched, and never again.
+/// Those of one long text may lie in a room instead.
 #[derive(Drop)]
 pub struct Store<'v, 'a> {
     texts: Texts<'v, 'a>,
@@ -45,7 +47,29 @@ impl<'v, 'a> Store<'v, 'a> {
         } }
     {
         Store {
-            texts: Texts::new(alloc, Some(buffers), arena),
+            texts: Texts::new(alloc, Some(buffers), None, arena),
+            raws: Raws::new(alloc, arena),
+        }
+    }
+
+    /// The same with a room, if there is one: memory that is given up, where the bytes of a long
+    /// text may lie, so that they need no other. What it holds means nothing. If none lie there, it
+    /// is given back with the store.
+    pub fn with_room(
+        alloc: Global,
+        buffers: &'v Map<String, Value>,
+        room: Option<Room<'a>>,
+        arena: &'a Arena,
+    ) -> Store<'v, 'a>
+        requires { HoldsTexts (members_view buffers.now.entries) }
+        ensures { result ≡ record {
+          held = only_texts (texts_of (members_view buffers.now.entries));
+          decoded = [];
+          copied = [];
+        } }
+    {
+        Store {
+            texts: Texts::new(alloc, Some(buffers), room, arena),
             raws: Raws::new(alloc, arena),
         }
     }
@@ -55,7 +79,7 @@ impl<'v, 'a> Store<'v, 'a> {
         ensures { result ≡ record { held = only_texts []; decoded = []; copied = [] } }
     {
         Store {
-            texts: Texts::new(alloc, None, arena),
+            texts: Texts::new(alloc, None, None, arena),
             raws: Raws::new(alloc, arena),
         }
     }

@@ -10,6 +10,7 @@ ghost use Rattle.awk_store.specs.Buffers.{HoldsTexts, texts_of, at_key, decoding
 ghost use Rattle.awk_store.specs.Buffers.{is_fetched, with_fetched, unfetched_len};
 
 use crate::fault::{BufferWhy, StoreFault};
+use crate::room::{Room, Spare, decode_into};
 use awk_lanes::{Arena, Steps};
 use base64::DecodeAllocError;
 use base64::engine::general_purpose::STANDARD;
@@ -20,11 +21,12 @@ use std::alloc::Global;
 use std::marker::Model;
 use std::sync::ledger::Ledger;
 
-/// The texts of a map, if there is one. A text is decoded into the arena when its key is first
-/// fetched, and never again.
+/// The texts of a map, if there is one. A text is decoded when its key is first fetched, and never
+/// again: a long one into the room, once, and each other into the arena.
 #[derive(Drop)]
 pub(crate) struct Texts<'v, 'a> {
     map: Option<&'v Map<String, Value>>,
+    spare: Spare<'a>,
     arena: &'a Arena,
     decoded: IndexMap<&'v str, &'a [u8]>,
 }
@@ -85,11 +87,23 @@ fn decode<'a>(arena: &'a Arena, text: &str) -> Result<&'a [u8], StoreFault>
     }
 }
 
+/// The bytes that a text encodes, in the room if that suits, and else in the arena.
+fn placed<'a>(arena: &'a Arena, spare: &mut Spare<'a>, text: &str) -> Result<&'a [u8], StoreFault>
+    ensures answer { Gives (λ bytes. bytes.now) why_told result (decoding (Some text.now)) }
+    ensures encoded { IfOk result (λ bytes. text.now ≡ encode_of standard bytes.now) }
+{
+    match spare.room_for(text) {
+        Some(room) => decode_into(room, text),
+        None => decode(arena, text),
+    }
+}
+
 impl<'v, 'a> Texts<'v, 'a> {
     /// The texts of a map whose values are all texts. They take no memory until a key is fetched.
     pub(crate) fn new(
         alloc: Global,
         map: Option<&'v Map<String, Value>>,
+        room: Option<Room<'a>>,
         arena: &'a Arena,
     ) -> Texts<'v, 'a>
         requires { IfSome map (λ m. HoldsTexts (members_view m.now.entries)) }
@@ -100,6 +114,7 @@ impl<'v, 'a> Texts<'v, 'a> {
     {
         Texts {
             map,
+            spare: Spare::new(room),
             arena,
             decoded: IndexMap::new(alloc),
         }
@@ -151,7 +166,7 @@ impl<'v, 'a> Texts<'v, 'a> {
         // Room comes first, so that bytes that were decoded are always kept.
         self.decoded.reserve(1)?;
         steps.add(text.len() as u64);
-        let bytes = decode(self.arena, text)?;
+        let bytes = placed(self.arena, &mut self.spare, text)?;
         self.decoded.insert(name, bytes).unwrap();
         Ok(bytes)
     }
