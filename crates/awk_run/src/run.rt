@@ -2,13 +2,14 @@
 ghost use Rattle.std.specs.Prelude.{◌||◌, ◌++◌, List, ℕ, Some, Err, ◌≡◌, ◌≢◌, ◌↔◌, ◌⊎◌, ◌≤◌, ◌+◌};
 ghost use Rattle.std.specs.Prelude.{◌∷◌, [], IsTrue, IsFalse, IfErr, OnErr, OnOk, length};
 ghost use Rattle.std.specs.Prelude.{if◌then◌else◌};
-ghost use Rattle.awk_edge.specs.Causes.{Rose};
+ghost use Rattle.awk_edge.specs.Causes.{Rose, flushes_after};
 ghost use Rattle.awk_made.specs.Session.{session_of};
 ghost use Rattle.awk_session.specs.Cost.{are_plain, cost, line_in};
 ghost use Rattle.awk_framing.specs.Framing as framing;
 ghost use Rattle.awk_framing.specs.Framing.{session_units};
+ghost use Rattle.awk_session.specs.Leaves.{Leaves};
 ghost use Rattle.awk_session.specs.Replies.{answers, step};
-ghost use Rattle.awk_session.specs.Spending.{Binds, TakesCost};
+ghost use Rattle.awk_session.specs.Spending.{Binds, TakesCost, Unless};
 ghost use Rattle.awk_session.specs.State.{denoted_state};
 ghost use Rattle.awk_run.specs.Answering.{Answers};
 ghost use Rattle.awk_run.specs.Session.{Session, MadeSession, Completes, IsComplete};
@@ -21,11 +22,14 @@ use crate::words::{Task, task_in};
 use awk_edge::{LineFault, Lines, Out, Sink, Source};
 use awk_lanes::Steps;
 use awk_made::session_of;
-use awk_session::{Answered, Engine, LineEnd, is_blank};
+use awk_session::{Answered, Engine, LineEnd, Room, is_blank};
 use awk_units::UnitBytes;
 use bumpalo::Bump;
 use std::alloc::Global;
 use std::sync::ledger::Ledger;
+
+/// A line of so many bytes is long.
+const LONG_LINE: usize = 1_048_576;
 
 /// How a run ended.
 #[derive(Clone, Copy, Debug, PartialEq, Eq)]
@@ -186,11 +190,21 @@ fn run<S: Source, K: Sink, L: Ledger>(
     let mut lines = Lines::new();
     let mut out = Out::new();
     let arena = Bump::new(alloc);
+    let mut kept_line = Vec::new(alloc);
     let mut engine = Engine::new(alloc, &arena);
+    let mut place = Some(&mut kept_line);
     let mut any_fault = false;
     loop {
         match next_unit(alloc, &engine, &mut lines, source) {
-            Ok(Some(unit)) => match answer(alloc, &mut engine, &unit, &mut out, sink, steps) {
+            Ok(Some(unit)) => match answer(
+                alloc,
+                &mut engine,
+                unit,
+                &mut place,
+                &mut out,
+                sink,
+                steps,
+            ) {
                 Ok(is_fault) => any_fault = either(any_fault, is_fault),
                 Err(LineEnd::Write) => return Status::Write,
                 Err(LineEnd::NoMemory) => return Status::Memory,
@@ -215,11 +229,63 @@ fn either(a: bool, b: bool) -> bool
     a || b
 }
 
-// Answers a unit, if its line is not blank. It tells whether the answer is a fault.
-fn answer<K: Sink, L: Ledger>(
+// The place for a line of so many bytes, if it is the first long one.
+fn place_for<'a>(place: &mut Option<&'a mut Vec<u8>>, len: usize) -> Option<&'a mut Vec<u8>> {
+    if len < LONG_LINE {
+        return None;
+    }
+    place.take()
+}
+
+// Answers a unit whose line is not blank. The first long line is given up, and the place owns its
+// memory if the bytes of a long text of it lie there.
+fn answer_line<'a, K: Sink, L: Ledger>(
     alloc: Global,
-    engine: &mut Engine<'_>,
-    unit: &UnitBytes,
+    engine: &mut Engine<'a>,
+    unit: UnitBytes,
+    place: &mut Option<&'a mut Vec<u8>>,
+    out: &mut Out,
+    sink: &mut K,
+    steps: &mut Steps<L>,
+) -> Result<Answered, LineEnd>
+    requires open { IsTrue out.old.is_open }
+    requires not_blank { IsFalse (framing.is_blank unit.line.items) }
+    ensures leaves { Leaves (K.written sink.old) (K.written sink.new) out.old out.new
+        (denoted_state engine.old) (denoted_state engine.new)
+        (step (denoted_state engine.old) unit.line.items unit.raw.items) result }
+    ensures untouched { result ≡ Err LineEnd.NoMemory → sink.new ≡ sink.old }
+    ensures flushed { OnOk result (IsTrue (K.flushed sink.new)) }
+    ensures flushes { K.flushes sink.new ≡
+        flushes_after (K.flushes sink.old) (K.written sink.new) result }
+    ensures later { K.faults sink.old ≤ K.faults sink.new }
+    ensures write { IfErr result (λ end. end ≡ LineEnd.Write →
+        Rose (K.faults sink.old) (K.faults sink.new)) }
+    ensures binds { Unless result (Binds (line_in engine.old.reading unit.line.items)
+        (step (denoted_state engine.old) unit.line.items unit.raw.items).is_fault
+        engine.old.variables engine.new.variables) }
+    ensures cost { TakesCost engine.old.variables (line_in engine.old.reading unit.line.items)
+        (length unit.line.items + length unit.raw.items)
+        (step (denoted_state engine.old) unit.line.items unit.raw.items).answer
+        steps.old steps.new }
+{
+    match place_for(place, unit.line.len()) {
+        Some(place) => {
+            let line = Room {
+                memory: unit.line,
+                place,
+            };
+            engine.line_given(alloc, line, &unit.raw, out, sink, steps)
+        }
+        None => engine.line_raw(alloc, &unit.line, &unit.raw, out, sink, steps),
+    }
+}
+
+// Answers a unit, if its line is not blank. It tells whether the answer is a fault.
+fn answer<'a, K: Sink, L: Ledger>(
+    alloc: Global,
+    engine: &mut Engine<'a>,
+    unit: UnitBytes,
+    place: &mut Option<&'a mut Vec<u8>>,
     out: &mut Out,
     sink: &mut K,
     steps: &mut Steps<L>,
@@ -227,30 +293,30 @@ fn answer<K: Sink, L: Ledger>(
     requires open { IsTrue out.old.is_open }
     requires empty { out.old.held ≡ [] }
     ensures answers { Answers (K.written sink.old) (K.written sink.new) out.new
-        (denoted_state engine.old) (denoted_state engine.new) unit.now.line.items
-        unit.now.raw.items result }
+        (denoted_state engine.old) (denoted_state engine.new) unit.line.items
+        unit.raw.items result }
     ensures flushes { OnOk result (K.flushes sink.new ≡
-        (if framing.is_blank unit.now.line.items then K.flushes sink.old
+        (if framing.is_blank unit.line.items then K.flushes sink.old
         else K.flushes sink.old ++ K.written sink.new ∷ [])) }
     ensures unflushed { OnErr result (K.flushes sink.new ≡ K.flushes sink.old) }
     ensures flushed { OnOk result (IsTrue (K.flushed sink.new) ⊎ (sink.new ≡ sink.old)) }
-    ensures some { OnErr result (IsFalse (framing.is_blank unit.now.line.items)) }
+    ensures some { OnErr result (IsFalse (framing.is_blank unit.line.items)) }
     ensures untouched { result ≡ Err LineEnd.NoMemory → sink.new ≡ sink.old }
     ensures later { K.faults sink.old ≤ K.faults sink.new }
     ensures write { IfErr result (λ end. end ≡ LineEnd.Write →
         Rose (K.faults sink.old) (K.faults sink.new)) }
-    ensures binds { OnOk result (Binds (line_in engine.old.reading unit.now.line.items)
-        (step (denoted_state engine.old) unit.now.line.items unit.now.raw.items).is_fault
+    ensures binds { OnOk result (Binds (line_in engine.old.reading unit.line.items)
+        (step (denoted_state engine.old) unit.line.items unit.raw.items).is_fault
         engine.old.variables engine.new.variables) }
-    ensures cost { TakesCost engine.old.variables (line_in engine.old.reading unit.now.line.items)
-        (length unit.now.line.items + length unit.now.raw.items)
-        (step (denoted_state engine.old) unit.now.line.items unit.now.raw.items).answer
+    ensures cost { TakesCost engine.old.variables (line_in engine.old.reading unit.line.items)
+        (length unit.line.items + length unit.raw.items)
+        (step (denoted_state engine.old) unit.line.items unit.raw.items).answer
         steps.old steps.new }
 {
     if is_blank(&unit.line) {
         return Ok(false);
     }
-    match engine.line_raw(alloc, &unit.line, &unit.raw, out, sink, steps) {
+    match answer_line(alloc, engine, unit, place, out, sink, steps) {
         Ok(Answered::Fine) => Ok(false),
         Ok(Answered::Fault) => Ok(true),
         Err(end) => Err(end),

@@ -33,6 +33,15 @@ const FIRST: &[u8] = b"{\"fault\":\"name\",\"name\":\"q\"}\n";
 const VERSION_1: &[u8] =
     b"{\"load\":\"x\",\"form\":0,\"length\":0,\"byteorder\":\"<\",\"raw\":[]}\n.{\"show\":1}";
 
+// The text of 786,432 bytes stands between the first two of these, and another between the next.
+const LOADS: [&[u8]; 3] = [
+    b"{\"load\":\"x\",\"form\":{\"class\":\"NumpyArray\",\"primitive\":\"uint8\",\
+    \"form_key\":\"node0\"},\"length\":786432,\"buffers\":{\"node0-data\":\"",
+    b"\"}}\n{\"load\":\"y\",\"form\":{\"class\":\"NumpyArray\",\"primitive\":\"uint8\",\
+    \"form_key\":\"node0\"},\"length\":786432,\"buffers\":{\"node0-data\":\"",
+    b"\"}}\n{\"show\":[\"range\",\"x\",-4,null]}\n{\"show\":[\"range\",\"y\",0,4]}",
+];
+
 const CASES: [Case<'static>; 12] = [
     // No byte, no answer.
     Case {
@@ -348,6 +357,29 @@ fn raw_bytes_are_taken(rt: HostRuntime) -> Result<(), Fail> {
     for case in &RAW_CASES {
         check_raw_case(&rt, &rt, case)?;
     }
+    Ok(())
+}
+
+// Two loads of a mebibyte: the text of the first is decoded over its line.
+#[test]
+fn long_texts_are_loaded(rt: HostRuntime) -> Result<(), Fail> {
+    let alloc = rt.alloc();
+    let first = "AQID".repeat(alloc, 262_144)?;
+    let second = "BAUG".repeat(alloc, 262_144)?;
+    let (first, second) = (first.as_bytes(), second.as_bytes());
+    let session = joined(alloc, &[LOADS[0], first, LOADS[1], second, LOADS[2]])?;
+    let case = Case {
+        session: &session,
+        gives: 4096,
+        failing_reads: &[],
+        takes: 4096,
+        room: 1000,
+        failing_writes: &[],
+        answers: b"{\"bound\":\"x\"}\n{\"bound\":\"y\"}\n{\"value\":[3,1,2,3]}\n\
+            {\"value\":[4,5,6,4]}\n",
+        status: Status::Fine,
+    };
+    check_case(&rt, &rt, &case)?;
     Ok(())
 }
 

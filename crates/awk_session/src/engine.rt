@@ -14,7 +14,7 @@ ghost use Rattle.awk_session.specs.Replies.{step};
 ghost use Rattle.awk_session.specs.Spending.{Binds, IsOfArrays, Unless, name_in};
 ghost use Rattle.awk_session.specs.State.{denoted_state};
 
-use crate::line::{RawLine, answer_line};
+use crate::line::{RawLine, answer_given, answer_line};
 use crate::state::{Arenas, SessionState, empty_arena};
 use awk_answer::Answered;
 use awk_edge::{Out, Sink};
@@ -22,6 +22,7 @@ use awk_eval::Env;
 use awk_framing::{RawEnd, raw_need};
 use awk_lanes::{Arena, Steps};
 use awk_query::Reading;
+use awk_store::Room;
 use bumpalo::Bump;
 use std::alloc::Global;
 use std::marker::Model;
@@ -153,10 +154,11 @@ impl<'a> Engine<'a> {
     {
         let unit = RawLine { line: bytes, raw };
         let arenas = Arenas {
+            alloc,
             kept: self.kept,
             scratch: &self.scratch,
         };
-        let answered = answer_line(alloc, &mut self.state, &unit, &arenas, out, sink, steps);
+        let answered = answer_line(&mut self.state, &unit, &arenas, out, sink, steps);
         empty_arena(alloc, &mut self.scratch);
         answered
     }
@@ -197,5 +199,52 @@ impl<'a> Engine<'a> {
             (step (denoted_state self.old) bytes.now []).answer }
     {
         self.line_raw(alloc, bytes, &[], out, sink, steps)
+    }
+    /// Answers a line that is not blank with the raw bytes behind it, as `line_raw` does. The line
+    /// is given up: once it is read, the bytes of a long text of a load may lie in its memory, so
+    /// that they need no other, and its place owns that from then on. Else it is given back.
+    pub fn line_given<K: Sink, L: Ledger>(
+        &mut self,
+        alloc: Global,
+        line: Room<'a>,
+        raw: &[u8],
+        out: &mut Out,
+        sink: &mut K,
+        steps: &mut Steps<L>,
+    ) -> Result<Answered, LineEnd>
+        requires open { IsTrue out.old.is_open }
+        requires not_blank { IsFalse (framing.is_blank line.memory.items) }
+        ensures leaves { Leaves (K.written sink.old) (K.written sink.new) out.old out.new
+            (denoted_state self.old) (denoted_state self.new)
+            (step (denoted_state self.old) line.entry.memory.items raw.now) result }
+        ensures same { result ≡ Err LineEnd.NoMemory → self.new ≡ self.old }
+        ensures untouched { result ≡ Err LineEnd.NoMemory → sink.new ≡ sink.old }
+        ensures flushed { OnOk result (IsTrue (K.flushed sink.new)) }
+        ensures flushes { K.flushes sink.new ≡
+            flushes_after (K.flushes sink.old) (K.written sink.new) result }
+        ensures later { K.faults sink.old ≤ K.faults sink.new }
+        ensures write { IfErr result (λ end. end ≡ LineEnd.Write →
+            Rose (K.faults sink.old) (K.faults sink.new)) }
+        ensures binds { Unless result (Binds (line_in self.old.reading line.entry.memory.items)
+            (step (denoted_state self.old) line.entry.memory.items raw.now).is_fault
+            self.old.variables self.new.variables) }
+        ensures keeps { (n : types.Name) →
+            name_in self.old.reading line.entry.memory.items ≢ Some n →
+            look_up n self.new.variables ≡ look_up n self.old.variables }
+        ensures cost { let bytes = line.entry.memory.items in
+            IsTrue (is_plain self.old.reading bytes) →
+            IfSome (line_in self.old.reading bytes) (IsOfArrays self.old.variables) →
+            steps.new ≤ steps.old + cost_of (sizes_of self.old.variables)
+            (line_in self.old.reading bytes) (length bytes + length raw.now)
+            (step (denoted_state self.old) bytes raw.now).answer }
+    {
+        let arenas = Arenas {
+            alloc,
+            kept: self.kept,
+            scratch: &self.scratch,
+        };
+        let answered = answer_given(&mut self.state, line, raw, &arenas, out, sink, steps);
+        empty_arena(alloc, &mut self.scratch);
+        answered
     }
 }

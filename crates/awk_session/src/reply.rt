@@ -28,6 +28,7 @@ ghost use Rattle.awk_session.specs.Spending.{Takes, TakesBy, IsViewTaken};
 ghost use Rattle.awk_session.specs.Spending.{Shows, ShowsBy, ShowsNone, ShowsView};
 ghost use Rattle.awk_answer.specs.declared.fault.AnswerFault.TheVariants.{Evaluation};
 
+use crate::state::Arenas;
 use awk_answer::{Answer, AnswerFault, Refused, packed, type_text};
 use awk_build::from_values;
 use awk_eval::{Env, eval};
@@ -38,21 +39,21 @@ use awk_layout::Datum;
 use awk_load_line::{Head, cut_in, load, raw_store};
 use awk_query::{Line, RawParts};
 use awk_simd::Wide;
-use awk_store::Store;
+use awk_store::{Room, Store};
 use awk_types::{Fault, Name, Names};
 use serde_json::{Map, Value};
 use std::alloc::{AllocError, Global};
 use std::sync::ledger::Ledger;
 
-/// Binds what a line with its raw bytes binds, in the arena that is kept, and gives its answer,
-/// which it does not put out. What is only shown lies in the other arena.
+/// Binds what a line with its raw bytes binds, in the arena that is kept or in the room, if there
+/// is one, and gives its answer, which it does not put out. What is only shown lies in the other
+/// arena.
 pub fn reply<'v, 's, 'a: 's, L: Ledger>(
-    alloc: Global,
     env: &mut Env<'a>,
     read: &'v Read,
     raw: &[u8],
-    kept: &'a Arena,
-    arena: &'s Arena,
+    room: Option<Room<'a>>,
+    arenas: &Arenas<'a, 's>,
     steps: &mut Steps<L>,
 ) -> Result<Answer<'v, 's>, AllocError>
     requires allowed { IfOk (read_view read.now) IsAllowedLine }
@@ -69,7 +70,7 @@ pub fn reply<'v, 's, 'a: 's, L: Ledger>(
         steps.old steps.new }
 {
     match read {
-        Read::Line(line) => reply_line(alloc, env, line, raw, kept, arena, steps),
+        Read::Line(line) => reply_line(env, line, raw, room, arenas, steps),
         Read::Json => Ok(Answer::Fault(AnswerFault::Json)),
         Read::Query => Ok(Answer::Fault(AnswerFault::Query)),
     }
@@ -77,12 +78,11 @@ pub fn reply<'v, 's, 'a: 's, L: Ledger>(
 
 // The same of a line that was read.
 fn reply_line<'v, 's, 'a: 's, L: Ledger>(
-    alloc: Global,
     env: &mut Env<'a>,
     line: &'v Line,
     raw: &[u8],
-    kept: &'a Arena,
-    arena: &'s Arena,
+    room: Option<Room<'a>>,
+    arenas: &Arenas<'a, 's>,
     steps: &mut Steps<L>,
 ) -> Result<Answer<'v, 's>, AllocError>
     requires allowed { IsAllowedLine (line_view line.now) }
@@ -97,6 +97,9 @@ fn reply_line<'v, 's, 'a: 's, L: Ledger>(
     ensures shows { IfOk result (ShowsBy env.old (line_view line.now)) }
     ensures cost { TakesBy env.old (line_view line.now) (length raw.now) steps.old steps.new }
 {
+    let alloc = arenas.alloc;
+    let kept = arenas.kept;
+    let arena = arenas.scratch;
     match line {
         Line::Load {
             name,
@@ -111,7 +114,7 @@ fn reply_line<'v, 's, 'a: 's, L: Ledger>(
                 length: *length,
                 big: *big,
             };
-            bind_texts(alloc, env, &head, buffers, kept, steps)
+            bind_texts(alloc, env, &head, buffers, room, kept, steps)
         }
         Line::LoadRaw {
             name,
@@ -169,12 +172,14 @@ fn bind_loaded<'v, 's, 'a: 's, L: Ledger>(
     }
 }
 
-// The same of a load line whose buffers are given as texts.
+// The same of a load line whose buffers are given as texts. The bytes of a long one may lie in the
+// room.
 fn bind_texts<'v, 's, 'a: 's, L: Ledger>(
     alloc: Global,
     env: &mut Env<'a>,
     head: &Head<'v>,
     buffers: &Map<String, Value>,
+    room: Option<Room<'a>>,
     kept: &'a Arena,
     steps: &mut Steps<L>,
 ) -> Result<Answer<'v, 's>, AllocError>
@@ -191,7 +196,7 @@ fn bind_texts<'v, 's, 'a: 's, L: Ledger>(
     ensures cost { let texts = texts_of (members_view buffers.now.entries) in
         IsLoaded (view head.now.form.now) (total_len texts) steps.old steps.new }
 {
-    let mut store = Store::new(alloc, buffers, kept);
+    let mut store = Store::with_room(alloc, buffers, room, kept);
     bind_loaded(alloc, env, head, &mut store, kept, steps)
 }
 

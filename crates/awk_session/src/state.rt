@@ -20,9 +20,11 @@ pub struct SessionState<'a> {
     pub reading: Reading,
 }
 
-/// Where the buffers lie of what lines bind, and of what a line only shows.
+/// What memory is asked of, and where the buffers lie of what lines bind, and of what a line only
+/// shows.
 #[derive(Drop)]
 pub struct Arenas<'a, 'b> {
+    pub alloc: Global,
     pub kept: &'a Arena,
     pub scratch: &'b Arena,
 }
