@@ -53,7 +53,7 @@ fn opened_any<'a, L: Ledger>(
 ) -> Result<Opened<'a>, NoMemory>
     ensures opened { IfOk result (IsOpened x.now) }
 {
-    match opened_whole(alloc, x, steps)? {
+    match opened_whole(alloc, x, arena, steps)? {
         Some(kind) => Ok(kind),
         None => opened_other(alloc, x, arena, steps),
     }

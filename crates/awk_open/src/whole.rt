@@ -2,13 +2,14 @@
 ghost use Rattle.std.specs.Prelude.{◌≡◌, None, IfOk, IfSome, IsTrue, option_map};
 ghost use Rattle.awk_types.specs.Limit.{limit};
 ghost use Rattle.awk_layout.specs.Layout.{layouts_from, lists, offset_lists, rows};
+ghost use Rattle.awk_layout.specs.Layout.{regular as regular_lists};
 ghost use Rattle.awk_layout.specs.Typing.{array_type};
 ghost use Rattle.awk_layout.specs.Valid.{IsValid};
 ghost use Rattle.awk_open.specs.Opened.{IsOpened, AreLong, AreWithin};
 
 use crate::opening::Opened;
 use awk_columns::Lists;
-use awk_lanes::{Arena, Lane, Steps};
+use awk_lanes::{Arena, Lane, Lengths, Steps, offsets_of};
 use awk_layout::{Array, Arrays, Class, Node, Nodes};
 use awk_types::{Names, NoMemory, copy_names};
 use std::alloc::Global;
@@ -44,6 +45,47 @@ fn whole_offsets<'a, L: Ledger>(
     let starts = offsets.cut(0, n - 1, steps);
     let stops = offsets.cut(1, n, steps);
     Ok(Opened::Items(Lists::new(None, starts, stops, content)))
+}
+
+/// Lists of one size.
+#[derive(Drop)]
+struct EvenLists {
+    length: u64,
+    count: u64,
+}
+
+impl Lengths for EvenLists {
+    ghost length = { λ f i. f.length };
+
+    ghost size = { λ f. f.count };
+
+    fn length<L: Ledger>(&self, _i: u64, _steps: &mut Steps<L>) -> u64 {
+        self.length
+    }
+}
+
+/// Lists of one size: where they begin and where they end is one lane of offsets.
+fn whole_regular<'a, L: Ledger>(
+    alloc: Global,
+    size: u64,
+    n: u64,
+    content: &Node<'a>,
+    arena: &'a Arena,
+    steps: &mut Steps<L>,
+) -> Result<Opened<'a>, NoMemory>
+    requires valid { IsValid (regular_lists size n content.now) }
+    requires limit { limit (array_type content.now) ≡ None }
+    ensures opened { IfOk result (IsOpened (regular_lists size n content.now)) }
+{
+    let content = Array::of_node(alloc, content.copy(alloc)?)?;
+    let even = EvenLists {
+        length: size,
+        count: n,
+    };
+    let offsets = offsets_of(n, &even, arena, steps)?;
+    let starts = offsets.lane.cut(0, n, steps);
+    let stops = offsets.lane.cut(1, n + 1, steps);
+    Ok(Opened::Items(Lists::new(Some(size), starts, stops, content)))
 }
 
 /// Whether each of these has n items.
@@ -101,6 +143,7 @@ fn whole_rows<'a>(
 pub fn opened_whole<'a, L: Ledger>(
     alloc: Global,
     x: &Array<'a>,
+    arena: &'a Arena,
     steps: &mut Steps<L>,
 ) -> Result<Option<Opened<'a>>, NoMemory>
     ensures opened { IfOk result (λ o. IfSome o (IsOpened x.now)) }
@@ -115,6 +158,10 @@ pub fn opened_whole<'a, L: Ledger>(
         } => Ok(Some(whole_lists(alloc, starts, stops, content)?)),
         Class::ListOffset { offsets, content } => {
             Ok(Some(whole_offsets(alloc, offsets, content, steps)?))
+        }
+        Class::Regular { size, content } => {
+            let n = x.len();
+            Ok(Some(whole_regular(alloc, size, n, content, arena, steps)?))
         }
         Class::Row { names, contents } => whole_rows(alloc, names, x.len(), contents),
         _ => Ok(None),
