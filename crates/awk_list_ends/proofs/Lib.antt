@@ -1,4 +1,5 @@
 pub mod SpanLaws
 pub mod KeptItems
 pub mod EndLaws
+pub mod TotalLaws
 pub mod FillingLaws

@@ -1,5 +1,5 @@
-//! Lists whose items go to other places: the numbers of a lane at the ends of lists; and lists
-//! that fill a content.
+//! Lists whose items go to other places: the numbers of a lane at the ends of lists; lists that
+//! fill a content; and how many items lists have together.
 //!
 //! Where some items of a content stay and the others go, a lane counts how many stay before each
 //! place. Its numbers at the starts and the stops of lists are where these begin and end among the
@@ -9,7 +9,9 @@
 mod ends;
 mod filling;
 mod length;
+mod total;
 
 pub use ends::numbers_at_ends;
 pub use filling::span_or;
 pub use length::length_between;
+pub use total::{are_few, are_within};

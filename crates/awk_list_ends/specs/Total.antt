@@ -1,0 +1,11 @@
+-- Whether the items of lists are as many as one column may have.
+use Rattle.std.specs.Prelude.{◌<◌, ◌≤◌, Bool, true, false}
+use Rattle.awk_types.specs.ItemLimit.{item_limit}
+use Rattle.awk_lanes.specs.Column.{Column}
+use Rattle.awk_layout.specs.Layout.{Layout}
+use Rattle.awk_columns.specs.Joined.{total}
+
+-- true where lists have together no more items than the limit, false where they have more
+abbrev pub AreFew : Column → Column → Layout → Bool → Type 0
+AreFew s t y true = total s t y ≤ item_limit
+AreFew s t y false = item_limit < total s t y
