@@ -113,14 +113,14 @@ ends_from class s t y x o z op j (suc i) p =
     subst (λ k. place_at o k ≡ items_before (array_items x) k) e
     (omega (arith, before, grown, here, next))
 
-present-list : (class : Class) (u : DataType) → item_of (present (list_type class u)) ≡ u
+pub present-list : (class : Class) (u : DataType) → item_of (present (list_type class u)) ≡ u
 present-list None u = refl
 present-list (Some n) u = refl
 
 abbrev flat_items : Column → Column → Layout → ℕ → List Value
 flat_items s t y n = flat_map (items_at s t y) (range_with_len 0 n)
 
-joined_lists : (class : Class) (s t : Column) (y x : Layout) → OpensLists class s t y x
+pub joined_lists : (class : Class) (s t : Column) (y x : Layout) → OpensLists class s t y x
     → joined_items (array_items x) ≡ flat_items s t y (size_of s)
 joined_lists class s t y x op =
     lists-inner class s t y x op ∙ ap (flat_items s t y) (sym op.size)

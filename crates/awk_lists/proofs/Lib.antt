@@ -3,6 +3,7 @@ pub mod Singles
 pub mod JoinedItems
 pub mod Ends
 pub mod Flattened
+pub mod OneRow
 pub mod HeldLists
 pub mod MovedSpans
 pub mod Leaves

@@ -18,12 +18,13 @@ ghost use Rattle.awk_lists.specs.Held.{AreHeld};
 ghost use Rattle.awk_lists.specs.Listed.{IsListed};
 
 use crate::holding::held_of;
+use crate::one_row::one_row;
 use awk_axis::{ListOp, Made, Refusal, Spoil, lift_at};
 use awk_columns::{Bounds, Joined, Lists, join_spans};
 use awk_gather_lanes::gather_lane;
 use awk_lanes::{Arena, Kind, Lane, LaneMaker, Steps, index_of, number};
 use awk_layout::{Array, Datum};
-use awk_list_ends::numbers_at_ends;
+use awk_list_ends::{are_within, numbers_at_ends};
 use awk_open::{Opened, open_array};
 use awk_types::{Fault, NoMemory, Typ, copy_type, is_list_or_unknown};
 use std::alloc::Global;
@@ -176,17 +177,22 @@ fn plain_rows<'a, L: Ledger>(
         Joined::Lists {
             offsets,
             content: rows,
-        } => joined_rows(
-            alloc,
-            lists.class(),
-            lists.starts(),
-            lists.stops(),
-            lists.content(),
-            &offsets,
-            &rows,
-            arena,
-            steps,
-        ),
+        } => {
+            if lists.len() == 1 {
+                return one_row(alloc, lists, &offsets, &rows, arena, steps);
+            }
+            joined_rows(
+                alloc,
+                lists.class(),
+                lists.starts(),
+                lists.stops(),
+                lists.content(),
+                &offsets,
+                &rows,
+                arena,
+                steps,
+            )
+        }
     }
 }
 
@@ -198,16 +204,7 @@ fn are_few<'a, L: Ledger>(
     steps: &mut Steps<L>,
 ) -> Result<bool, NoMemory> {
     let bounds = Bounds::new(alloc, lists, arena, steps)?;
-    let limit = lists.content().len();
-    let mut total = 0;
-    for i in 0..bounds.len() {
-        let length = bounds.length_at(i);
-        if length > limit - total {
-            return Ok(false);
-        }
-        total += length;
-    }
-    Ok(true)
+    Ok(are_within(lists.content().len(), &bounds))
 }
 
 /// The lists of a list joined.

@@ -11,6 +11,7 @@ mod indexes;
 mod joining;
 mod length;
 mod numbers;
+mod one_row;
 mod runs;
 
 pub use cutting::unflatten;
