@@ -1,7 +1,7 @@
 -- A value in the place of each null.
 use Rattle.std.specs.Prelude.{◌≡◌, ℕ, ◌+◌, ◌-◌, ◌<◌, ◌≤◌, ◌^◌, refl, true, false, List, [], ◌++◌}
 use Rattle.std.specs.Prelude.{map, length, get_or, ℤ, pos, negsuc, ◌≤ℤ◌, ◌<ℤ◌, Option, Some, None}
-use Rattle.std.specs.Prelude.{Result, Ok, Err}
+use Rattle.std.specs.Prelude.{IfSome, Result, Ok, Err}
 use Rattle.std.proofs.Common.{arith, ap, ap₂, sym, subst, ◌∙◌}
 use Rattle.std.proofs.lemmas.Int.{ints}
 use Rattle.std.proofs.lemmas.List.{length-append, length-map, get_or_append_left, get_or-append-add}
@@ -61,6 +61,7 @@ use Rattle.awk_merge_sides.proofs.SideLaws.{merged_items-with_side, AreSides-wit
 use Rattle.awk_primitives.specs.Fits.{fits}
 use Rattle.awk_fill.specs.Filled.{IsFirst, IsPair, place_or, places_or, IsFilled, IsFilledOption}
 use Rattle.awk_fill.specs.Filled.{HoldsOption, IsRefused}
+use Rattle.awk_fill.specs.declared.parts.Parts.{Parts}
 use Rattle.awk_fill.specs.FillNone.{filler_type, filling, fill_value, filled, filled_type}
 use Rattle.awk_fill.specs.FillNone.{fill_none_function, no_filler, fill_none_of}
 use Rattle.awk_option_nodes.proofs.OptionNodes.{HasItems, item_stays}
@@ -296,7 +297,7 @@ holds_ordered j y x o = record {
   items = o.items;
 }
 
-pub holds_whole : (j : Column) (y x : Layout) → IsOpened x (Optional j y) → HoldsOption j y x
+holds_whole : (j : Column) (y x : Layout) → IsOpened x (Optional j y) → HoldsOption j y x
 holds_whole j y x o = record {
   typ = o.kind;
   size = o.size;
@@ -305,6 +306,12 @@ holds_whole j y x o = record {
   valid = o.valid.2;
   items = o.items;
 }
+
+pub holds_found : (x : Layout) (o : Option Parts)
+    → IfSome o (λ r. IsOpened x (Optional r.index r.content))
+    → IfSome o (λ r. HoldsOption r.index r.content x)
+holds_found x None h = tt
+holds_found x (Some r) h = holds_whole r.index r.content x h
 
 -- an option by its parts
 pub filled_opened : (f : Filler) (j : Column) (y x w : Layout) → HoldsOption j y x

@@ -9,41 +9,62 @@ ghost use Rattle.awk_fill.specs.Filled.{filled_lane, IsFirst, IsFilledOption};
 ghost use Rattle.awk_fill.specs.FillNone.{filler_type};
 
 use awk_lanes::{Arena, Index, Kind, Lane, Num, Numbers, Steps, index_of, made_lane};
-use awk_layout::{Array, Class, Node, wide_numbers};
+use awk_layout::{Array, Node, wide_numbers};
+use awk_narrow::{OptionIndex, narrow_index};
 use awk_types::NoMemory;
 use std::alloc::Global;
 use std::sync::ledger::Ledger;
 
 /// The numbers that the index of an option names, and another number for each null.
 #[derive(Drop)]
-struct FilledNumbers<'b, 'a> {
-    index: &'b Index<'a>,
+struct FilledNumbers<'b, 'a, I: OptionIndex> {
+    index: &'b I,
     numbers: &'b Index<'a>,
     filler: i64,
 }
 
-impl<'b, 'a> Numbers for FilledNumbers<'b, 'a> {
+impl<'b, 'a, I: OptionIndex> Numbers for FilledNumbers<'b, 'a, I> {
     ghost use Rattle.awk_lanes.specs.Places.{size_of, option_place_at, IsOptionalIndex};
     ghost use Rattle.awk_lanes.specs.declared.kind.Kind.TheVariants as Kinds;
     ghost use Rattle.awk_fill.specs.Filled.{number_or};
 
     ghost kind = { λ _. Kinds.I64 };
 
-    ghost at = { λ f i. number_or f.filler f.numbers.now (option_place_at f.index.now i) };
+    ghost at = { λ f i. number_or f.filler f.numbers.now
+        (option_place_at (I.lane f.index.now) i) };
 
-    ghost size = { λ f. size_of f.index.now };
+    ghost size = { λ f. size_of (I.lane f.index.now) };
 
-    ghost IsReady = { λ f. IsOptionalIndex f.index.now (size_of f.numbers.now) };
+    ghost IsReady = { λ f. IsOptionalIndex (I.lane f.index.now) (size_of f.numbers.now) };
 
     fn number<L: Ledger>(&self, i: u64, _steps: &mut Steps<L>) -> Num {
-        match self.index.option_place(i) {
+        match self.index.place(i) {
             Some(place) => Num::Int(self.numbers.number(place)),
             None => Num::Int(self.filler),
         }
     }
 }
 
-/// These as a lane.
+/// These as a lane, by an index whose numbers are seen at once.
+fn filled_by<'a, I: OptionIndex, L: Ledger>(
+    index: &I,
+    numbers: &Index<'a>,
+    filler: i64,
+    arena: &'a Arena,
+    steps: &mut Steps<L>,
+) -> Result<Lane<'a>, NoMemory>
+    requires index { IsOptionalIndex (I.lane index.now) (size_of numbers.now) }
+    ensures { IfOk result (λ r. r ≡ filled_lane filler numbers.now (I.lane index.now)) }
+{
+    let filled = FilledNumbers {
+        index,
+        numbers,
+        filler,
+    };
+    made_lane(Kind::I64, index.size(), &filled, arena, steps)
+}
+
+/// The same by a lane of an index.
 fn filled_lane<'a, L: Ledger>(
     alloc: Global,
     index: &Lane<'a>,
@@ -55,13 +76,12 @@ fn filled_lane<'a, L: Ledger>(
     requires index { IsOptionalIndex index.now (size_of numbers.now) }
     ensures { IfOk result (λ r. r ≡ filled_lane filler numbers.now index.now) }
 {
+    if index.kind() == Kind::I32 {
+        let index = narrow_index(index, steps);
+        return filled_by(&index, numbers, filler, arena, steps);
+    }
     let index = index_of(alloc, index, arena, steps)?;
-    let filled = FilledNumbers {
-        index: &index,
-        numbers,
-        filler,
-    };
-    made_lane(Kind::I64, index.len(), &filled, arena, steps)
+    filled_by(&index, numbers, filler, arena, steps)
 }
 
 /// The nulls of an option as the first item of an array, where what is present and this array are
@@ -91,16 +111,5 @@ pub(crate) fn filled_numbers<'a, L: Ledger>(
             None => Ok(None),
         },
         None => Ok(None),
-    }
-}
-
-/// Whether an array is an option over numbers of 64 bits with a sign, behind an index.
-pub(crate) fn has_wide_numbers(x: &Array) -> bool {
-    match x.node().class() {
-        Class::IndexedOption { content, .. } => match content.class() {
-            Class::Numpy { lane } => lane.kind() == Kind::I64,
-            _ => false,
-        },
-        _ => false,
     }
 }

@@ -5,6 +5,7 @@ use Rattle.awk_fill.proofs.numbers.FilledNumbersNumbers.number.Goals as goal
 
 pub number-requires : goal.number-requires
 number-requires g c =
-    named-below (at c.args.self.now.index.now c.args.i) (size_of c.args.self.now.numbers.now)
+    named-below (at (g.I.OptionIndex.lane c.args.self.now.index.now) c.args.i)
+    (size_of c.args.self.now.numbers.now)
     c.in-Some.place (c.requires.ready.below c.args.i c.requires.within)
-    (sym c.option_place.ensures ∙ c.in-Some.is)
+    (sym c.place.ensures ∙ c.in-Some.is)
