@@ -35,7 +35,7 @@ use Rattle.awk_columns.specs.Joined.{AreOffsets, JoinsLists, total}
 use Rattle.awk_axis.specs.declared.lift.Mapped.{Mapped}
 use Rattle.awk_axis.specs.declared.lift.Mapped.TheVariants as mapped
 use Rattle.awk_axis.specs.Mapped.{GivesLists, IsColumn, IsMapped, IsAtAxis, IsLifted, spoil_of_all}
-use Rattle.awk_axis.specs.Mapped.{AreMapped}
+use Rattle.awk_axis.specs.Mapped.{AreMapped, IsSized, IsSizedWithin, even_offsets}
 use Rattle.awk_columns.specs.ListNode.{AreEven, list_layout}
 use Rattle.awk_counts.specs.Counted.{spans}
 use Rattle.awk_columns.specs.Reached.{IsReached}
@@ -262,6 +262,20 @@ pub gives_offsets : (g : Giving) (c : Class) (s e o : Column) (y z : Layout)
     × AreEven (given_class g c) o (size_of s)
 gives_offsets (lists class typ items) c s e o y z h = (h.offsets, h.even)
 gives_offsets (singles typ value) c s e o y z h = absurd h
+
+even_within : (class : Class) (o : Column) (n : ℕ) (z : Layout) → IsSized class
+    → AreOffsets o n (len z) → AreEven class o n → IsSizedWithin class n (len z)
+even_within None o n z h a e = absurd h
+even_within (Some size) o n z h a e = omega (arith, e n (omega arith), a.last)
+
+-- lists of a sized class, without offsets
+pub gives_even : (g : Giving) (c : Class) (s e : Column) (y z : Layout) → IsSized (given_class g c)
+    → GivesLists g c s e y (even_offsets (given_class g c) (size_of s)) z
+    → IsSizedWithin (given_class g c) (size_of s) (len z)
+gives_even g c s e y z h k =
+    let o : Column = even_offsets (given_class g c) (size_of s) in
+    let a = gives_offsets g c s e o y z k in
+    even_within (given_class g c) o (size_of s) z h a.0 a.1
 
 pub gives_column : (g : Giving) (c : Class) (s e o : Column) (y z : Layout)
     → GivesLists g c s e y o z → IsColumn (given_type g c (array_type y))

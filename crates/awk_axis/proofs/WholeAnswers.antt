@@ -24,9 +24,9 @@ use Rattle.awk_axis.specs.declared.causes.Spoil.{Spoil}
 use Rattle.awk_axis.specs.declared.function.Made.TheVariants as made
 use Rattle.awk_columns.specs.ListClass.{Class, list_type}
 use Rattle.awk_axis.specs.ListFunction.{Giving, lists, singles, ListFunction}
-use Rattle.awk_axis.specs.ListFunction.{made_type, given_type, given_value}
+use Rattle.awk_axis.specs.ListFunction.{made_type, given_class, given_type, given_value}
 use Rattle.awk_axis.specs.Lifting.{spoil_fault, on_whole}
-use Rattle.awk_axis.specs.Mapped.{AreGiven, GivesLists, GivesSingles, IsMade}
+use Rattle.awk_axis.specs.Mapped.{AreGiven, GivesLists, GivesSingles, IsMade, even_offsets}
 use Rattle.awk_columns.specs.Lists.{items_at, all_items_at}
 use Rattle.awk_columns.proofs.ArrayLaws.{array_items-at}
 use Rattle.awk_axis.proofs.JudgedTypes.{told_values}
@@ -108,6 +108,13 @@ pub whole_given : (f : ListFunction) (x z : Layout) (o : Column) → IsTaken f x
     → IsMade f None (single 0) (single (len x)) x (made.Lists o z)
     → on_whole f (array_type x) (array_items x) ≡ Ok (arr (array_type z) (array_items z))
 whole_given f x z o a h = whole_told f x None a h.0 ∙ ap Ok (lists_datum f.giving x z o h.1)
+
+-- lists of one size are lists by offsets that go without saying
+pub even_lists : (f : ListFunction) (x z : Layout)
+    → IsMade f None (single 0) (single (len x)) x (made.Even z)
+    → IsMade f None (single 0) (single (len x)) x
+    (made.Lists (even_offsets (given_class f.giving None) 1) z)
+even_lists f x z h = (h.0, h.2)
 
 -- ---- single values
 

@@ -1,9 +1,11 @@
 -- What is made of an array: its items by a function, as items of a type.
-use Rattle.std.specs.Prelude.{◌≡◌, ℕ, ◌+◌, ◌-◌, ◌<◌, List, [], ◌∷◌, map, Option, Some, None}
+use Rattle.std.specs.Prelude.{◌≡◌, ℕ, ◌+◌, ◌-◌, ◌*◌, ◌<◌, ◌≤◌, List, [], ◌∷◌, map, Option}
+use Rattle.std.specs.Prelude.{Some, None}
 use Rattle.awk_types.specs.DataType.{DataType}
 use Rattle.awk_types.specs.Value.{Value, value_list}
 use Rattle.awk_types.specs.Simple.{simple, simple_value}
 use Rattle.awk_lanes.specs.Column.{Column}
+use Rattle.awk_lanes.specs.Counted.{offsets_by}
 use Rattle.awk_lanes.specs.Places.{size_of, place_at}
 use Rattle.awk_layout.specs.Layout.{Layout}
 use Rattle.awk_layout.specs.Valid.{len, IsValid}
@@ -15,7 +17,7 @@ use Rattle.awk_axis.specs.Causes.{first_spoil}
 use Rattle.awk_columns.specs.ListClass.{Class}
 use Rattle.awk_columns.specs.ListNode.{AreEven}
 use Rattle.awk_axis.specs.ListFunction.{Giving, lists, singles, ListFunction, given_type}
-use Rattle.awk_axis.specs.ListFunction.{given_value}
+use Rattle.awk_axis.specs.ListFunction.{given_class, given_value}
 use Rattle.awk_axis.specs.Lift.{lifted_type, lifted_value}
 use Rattle.awk_axis.specs.Spoils.{spoil_at}
 use Rattle.awk_columns.specs.Lists.{items_at, all_items_at}
@@ -63,10 +65,29 @@ GivesSingles (lists class typ items) s e y z = ⊥
 GivesSingles (singles typ value) s e y z =
     IsColumn (typ (array_type y)) (λ i. value (array_type y) (items_at s e y i)) (size_of s) z
 
+-- lists of a sized class
+abbrev pub IsSized : Class → Type 0
+IsSized None = ⊥
+IsSized (Some m) = Unit {0}
+
+-- n lists of a sized class within a list of m items
+abbrev pub IsSizedWithin : Class → ℕ → ℕ → Type 0
+IsSizedWithin None n m = ⊥
+IsSizedWithin (Some size) n m = n * size ≤ m
+
+-- the offsets of n such lists, one after another
+abbrev pub even_offsets : Class → ℕ → Column
+even_offsets None n = offsets_by (λ i. 0) n
+even_offsets (Some m) n = offsets_by (λ i. m) n
+
 abbrev pub IsMade : ListFunction → Class → Column → Column → Layout → Made → Type 0
 IsMade f c s e y (made.Spoiled why) = f.spoil (array_type y) (all_items_at s e y) ≡ Some why
 IsMade f c s e y (made.Lists o z) =
     (f.spoil (array_type y) (all_items_at s e y) ≡ None) × GivesLists f.giving c s e y o z
+IsMade f c s e y (made.Even z) =
+    (f.spoil (array_type y) (all_items_at s e y) ≡ None)
+    × IsSized (given_class f.giving c)
+    × GivesLists f.giving c s e y (even_offsets (given_class f.giving c) (size_of s)) z
 IsMade f c s e y (made.Singles z) =
     (f.spoil (array_type y) (all_items_at s e y) ≡ None) × GivesSingles f.giving s e y z
 

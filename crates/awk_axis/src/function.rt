@@ -25,6 +25,9 @@ pub enum Made<'a> {
         offsets: Lane<'a>,
         content: Node<'a>,
     },
+    /// A list for each list, all of one size. The lists fill their content, and no lane tells where
+    /// each begins.
+    Even(Node<'a>),
     /// A single value for each list.
     Singles(Node<'a>),
 }

@@ -1,8 +1,9 @@
 //! A function of one list, applied to each list of an array at an axis.
-ghost use Rattle.std.specs.Prelude.{◌≡◌, ◌<◌, Some, None, false, map, IfOk};
+ghost use Rattle.std.specs.Prelude.{◌≡◌, ◌<◌, ◌^◌, Some, None, false, map, IfOk};
 ghost use Rattle.awk_types.specs.DataType.{types_from};
 ghost use Rattle.awk_types.specs.ItemLimit.{item_limit};
 ghost use Rattle.awk_layout.specs.Typing.{array_type};
+ghost use Rattle.awk_layout.specs.Valid.{len};
 ghost use Rattle.awk_axis.specs.Lift as spec;
 ghost use Rattle.awk_axis.specs.declared.place.Reach.TheVariants as Reach;
 ghost use Rattle.awk_open.specs.Opens.{OpensLists, OpensOption, OpensRow, OpensUnion, OpensNothing};
@@ -11,7 +12,8 @@ ghost use Rattle.awk_axis.specs.Causes.{first_spoil};
 ghost use Rattle.awk_axis.specs.Reach.{here};
 ghost use Rattle.awk_axis.specs.Taken.{told, IsTaken};
 ghost use Rattle.awk_axis.specs.declared.causes.Spoil.TheVariants as Spoil;
-ghost use Rattle.awk_axis.specs.Mapped.{IsAtAxis, IsLifted, AreLifted};
+ghost use Rattle.awk_columns.specs.ListNode.{list_layout};
+ghost use Rattle.awk_axis.specs.Mapped.{IsAtAxis, IsLifted, AreLifted, IsSizedWithin, even_offsets};
 
 use crate::causes::{Spoil, first_of, sooner_spoil};
 use crate::function::{ListOp, Made};
@@ -39,6 +41,25 @@ pub enum AllMapped<'a> {
     Columns(Nodes<'a>),
 }
 
+/// Lists of one size over their content.
+fn even_node<'a, L: Ledger>(
+    alloc: Global,
+    class: Option<u64>,
+    n: u64,
+    content: Node<'a>,
+    steps: &mut Steps<L>,
+) -> Result<Node<'a>, NoMemory>
+    requires fits { n < 2 ^ 63 }
+    requires sized { IsSizedWithin class n (len content) }
+    ensures { IfOk result (λ y. y ≡ list_layout class n (even_offsets class n) content.entry) }
+{
+    let content = Box::new(alloc, content)?;
+    match class {
+        Some(size) => Ok(Node::regular(size, n, content, steps)),
+        None => unreachable!(),
+    }
+}
+
 /// What the function makes of a column of lists, as one node.
 fn at_axis<'a, F: ListOp, L: Ledger>(
     alloc: Global,
@@ -57,6 +78,11 @@ fn at_axis<'a, F: ListOp, L: Ledger>(
         Made::Lists { offsets, content } => {
             let class = f.class(lists.class());
             let node = list_node(alloc, class, lists.len(), offsets, content, steps)?;
+            Ok(Mapped::Column(node))
+        }
+        Made::Even(content) => {
+            let class = f.class(lists.class());
+            let node = even_node(alloc, class, lists.len(), content, steps)?;
             Ok(Mapped::Column(node))
         }
     }

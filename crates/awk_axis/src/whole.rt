@@ -40,6 +40,7 @@ fn given_one<'a, F: ListOp, L: Ledger>(
     match f.column(alloc, lists, arena, steps)? {
         Made::Spoiled(why) => Err(spoilt(why)),
         Made::Lists { content, .. } => Ok(Datum::Arr(Array::of_node(alloc, content)?)),
+        Made::Even(content) => Ok(Datum::Arr(Array::of_node(alloc, content)?)),
         Made::Singles(node) => {
             let one = Array::of_node(alloc, node)?;
             Ok(settled(alloc, &one, steps)?)

@@ -157,4 +157,5 @@ module _ (class : Class) (s t : Column) (y : Layout) (a : AreLists class s t y)
   moved_made r (made.Spoiled why) k = same_spoil ∙ k
   moved_made r (made.Lists o w) k =
       (same_spoil ∙ k.0, lists_given (are_lists (array_type y) r) o w k.1)
+  moved_made r (made.Even w) k = absurd k.1
   moved_made r (made.Singles w) k = absurd k.1

@@ -140,6 +140,7 @@ made_of_lists l how n (made.Spoiled why) e few h =
     reduced_overflow how l.starts l.stops l.content h.1.0 few (omega (arith, e, h.1.1)) h.1.2
     ∙ ap (λ w. Some w) (sym h.0)
 made_of_lists l how n (made.Lists q w) e few h = absurd h
+made_of_lists l how n (made.Even w) e few h = absurd h
 made_of_lists l how n (made.Singles w) e few h = (
   reduced_fine how l.starts l.stops l.content few (λ i k. h.0 i (omega (arith, e, k))),
   subst (λ m. IsColumn (reduced_type how (array_type l.content))
