@@ -14,6 +14,7 @@ use Rattle.awk_types.proofs.NullLaws.{simple_value-null}
 use Rattle.awk_lanes.specs.Column.{Column}
 use Rattle.awk_lanes.specs.Places.{size_of, at, place_at}
 use Rattle.awk_layout.specs.Layout.{Layout, layouts_from, count, rows, optional, union}
+use Rattle.awk_layout.specs.Layout.{lists as spanned}
 use Rattle.awk_layout.specs.Valid.{len, len_of, AllValid, AllReach, IsUnion}
 use Rattle.awk_layout.specs.Item.{item, item_of, items_across}
 use Rattle.awk_layout.specs.Typing.{layout_type, layout_types, array_type, array_items}
@@ -31,11 +32,13 @@ use Rattle.awk_axis.specs.Lift.{refusal_among, on_list}
 use Rattle.awk_axis.specs.Spoils.{spoil_at, spoils_at, spoil_inside, spoil_across, spoil_among}
 use Rattle.awk_columns.specs.Lists.{items_at}
 use Rattle.awk_open.specs.Opened.{AreLong}
+use Rattle.awk_open.proofs.OpenedKinds.{item-lists}
 use Rattle.awk_open.specs.Opens.{across, item_among, OpensLists, OpensOption, OpensRow, OpensUnion}
 use Rattle.awk_columns.specs.Parts.{AreParts, AreAlternatives}
 use Rattle.awk_gather.specs.Arrays.{array_item}
 use Rattle.awk_columns.specs.Joined.{AreOffsets, JoinsLists}
-use Rattle.awk_axis.specs.Mapped.{IsColumn, IsMapped, AreGiven, spoil_of_all, AreMapped}
+use Rattle.awk_axis.specs.Mapped.{IsColumn, IsMapped, AreGiven, AreSpanned, IsUnsized}
+use Rattle.awk_axis.specs.Mapped.{spoil_of_all, AreMapped}
 use Rattle.awk_columns.specs.ListNode.{list_layout}
 use Rattle.awk_columns.proofs.ListNodes.{simple-list, simple_value-list, array_type-list, len-list}
 use Rattle.awk_columns.proofs.ListNodes.{valid-list, item-list, joined_even}
@@ -116,6 +119,24 @@ given_column class t f s e o y z g = record {
       ∙ ap (map (simple_value t)) (sym (value_list-from (f (items_at s e y i))))))
       ∙ sym (simple_value-list class t (list (values_from (f (items_at s e y i)))));
 }
+
+-- the same by their starts and stops
+pub spanned_column : (class : Class) (t : DataType) (f : List Value → List Value)
+    (s e a b : Column) (y z : Layout) → IsUnsized class → AreSpanned t f s e y a b z
+    → IsColumn (list_type class t) (λ i. list (values_from (f (items_at s e y i)))) (size_of s)
+    (spanned a b z)
+spanned_column None t f s e a b y z u g = record {
+  valid = (g.fits, g.spans, g.valid);
+  size = g.size;
+  typ = ap (list_type None) g.typ ∙ sym (simple-list None t);
+  items = λ i p.
+      item-lists a b z i
+      ∙ ap list (sym (values_from-list _)
+      ∙ ap values_from (g.lists i p
+      ∙ ap (map (simple_value t)) (sym (value_list-from (f (items_at s e y i))))))
+      ∙ sym (simple_value-list None t (list (values_from (f (items_at s e y i)))));
+}
+spanned_column (Some m) t f s e a b y z u g = absurd u
 
 pub spoil-list : (f : ListFunction) (k : Reach) (class : Class) (t : DataType) (vs : List Value)
     → here k t ≡ false → spoil_at f k (list_type class t) vs ≡ spoil_inside (spoil_at f (inner k) t)

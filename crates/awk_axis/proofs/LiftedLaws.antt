@@ -13,7 +13,8 @@ use Rattle.awk_types.specs.ItemLimit.{item_limit}
 use Rattle.awk_lanes.specs.Column.{Column}
 use Rattle.awk_lanes.specs.Places.{size_of}
 use Rattle.awk_layout.specs.Layout.{Layout, layouts_from, rows, optional, union}
-use Rattle.awk_layout.specs.Valid.{len}
+use Rattle.awk_layout.specs.Layout.{lists as spanned}
+use Rattle.awk_layout.specs.Valid.{len, IsValid}
 use Rattle.awk_axis.proofs.CauseLaws.{sooner-both, first_spoil-assoc, first_spoil-none}
 use Rattle.awk_axis.proofs.IndexLaws.{spoil_at-never, first_spoil-size}
 use Rattle.awk_layout.specs.Typing.{array_type, array_items}
@@ -34,13 +35,14 @@ use Rattle.awk_gather.specs.Arrays.{array_item}
 use Rattle.awk_columns.specs.Joined.{AreOffsets, JoinsLists, total}
 use Rattle.awk_axis.specs.declared.lift.Mapped.{Mapped}
 use Rattle.awk_axis.specs.declared.lift.Mapped.TheVariants as mapped
-use Rattle.awk_axis.specs.Mapped.{GivesLists, IsColumn, IsMapped, IsAtAxis, IsLifted, spoil_of_all}
-use Rattle.awk_axis.specs.Mapped.{AreMapped, IsSized, IsSizedWithin, even_offsets}
+use Rattle.awk_axis.specs.Mapped.{GivesLists, GivesSpans, IsColumn, IsMapped, IsAtAxis, IsLifted}
+use Rattle.awk_axis.specs.Mapped.{AreMapped, IsSized, IsSizedWithin, even_offsets, spoil_of_all}
 use Rattle.awk_columns.specs.ListNode.{AreEven, list_layout}
 use Rattle.awk_counts.specs.Counted.{spans}
 use Rattle.awk_columns.specs.Reached.{IsReached}
 use Rattle.awk_open.proofs.OpenedLists.{lists-inner, lists-among}
 use Rattle.awk_columns.proofs.JoinLaws.{reached-items}
+use Rattle.awk_axis.proofs.LiftLaws.{spanned_column}
 use Rattle.awk_axis.proofs.LiftLaws.{given_column, lifted_null, option_column, lists_column}
 use Rattle.awk_axis.proofs.LiftLaws.{row_column, union_column, spoil-list, spoil-list_here}
 use Rattle.awk_axis.proofs.LiftLaws.{type-list, type-list_here, value-list, value-list_here}
@@ -284,6 +286,18 @@ pub gives_column : (g : Giving) (c : Class) (s e o : Column) (y z : Layout)
 gives_column (lists class typ items) c s e o y z h =
     given_column (class c) (typ (array_type y)) (items (array_type y)) s e o y z h
 gives_column (singles typ value) c s e o y z h = absurd h
+
+pub gives_spans : (g : Giving) (c : Class) (s e a b : Column) (y z : Layout)
+    → GivesSpans g c s e y a b z → IsColumn (given_type g c (array_type y))
+    (λ i. given_value g (array_type y) (items_at s e y i)) (size_of s) (spanned a b z)
+gives_spans (lists class typ items) c s e a b y z h =
+    spanned_column (class c) (typ (array_type y)) (items (array_type y)) s e a b y z h.0 h.1
+gives_spans (singles typ value) c s e a b y z h = absurd h
+
+pub spans_valid : (g : Giving) (c : Class) (s e a b : Column) (y z : Layout)
+    → GivesSpans g c s e y a b z → IsValid (spanned a b z)
+spans_valid (lists class typ items) c s e a b y z h = (h.1.fits, h.1.spans, h.1.valid)
+spans_valid (singles typ value) c s e a b y z h = absurd h
 
 -- ---- refusals and depths of contents
 

@@ -2,6 +2,8 @@
 use Rattle.std.specs.Prelude.{◌≡◌, ℕ, ◌-◌, List, [], ◌∷◌, map}
 use Rattle.std.specs.Prelude.{Option, Some, None, Ok, Err, option_map, pos}
 use Rattle.std.proofs.Common.{arith, ap, ap₂, sym, ◌∙◌}
+use Rattle.std.proofs.lemmas.List.{append-nil}
+use Rattle.std.specs.List.{flat_map, range_with_len}
 use Rattle.awk_types.specs.DataType.{DataType}
 use Rattle.awk_types.specs.Datum.{Datum, arr}
 use Rattle.awk_types.specs.Gives.{refused_or}
@@ -26,9 +28,13 @@ use Rattle.awk_columns.specs.ListClass.{Class, list_type}
 use Rattle.awk_axis.specs.ListFunction.{Giving, lists, singles, ListFunction}
 use Rattle.awk_axis.specs.ListFunction.{made_type, given_class, given_type, given_value}
 use Rattle.awk_axis.specs.Lifting.{spoil_fault, on_whole}
-use Rattle.awk_axis.specs.Mapped.{AreGiven, GivesLists, GivesSingles, IsMade, even_offsets}
-use Rattle.awk_columns.specs.Lists.{items_at, all_items_at}
+use Rattle.awk_axis.specs.Mapped.{AreGiven, GivesLists, GivesSpans, GivesSingles, IsMade}
+use Rattle.awk_axis.specs.Mapped.{even_offsets}
+use Rattle.awk_columns.specs.Lists.{AreLists, items_at, all_items_at}
+use Rattle.awk_counts.specs.Counted.{spans}
+use Rattle.awk_columns.specs.Reached.{IsReached}
 use Rattle.awk_columns.proofs.ArrayLaws.{array_items-at}
+use Rattle.awk_columns.proofs.JoinLaws.{reached-items}
 use Rattle.awk_axis.proofs.JudgedTypes.{told_values}
 
 -- a lane of one number
@@ -115,6 +121,53 @@ pub even_lists : (f : ListFunction) (x z : Layout)
     → IsMade f None (single 0) (single (len x)) x
     (made.Lists (even_offsets (given_class f.giving None) 1) z)
 even_lists f x z h = (h.0, h.2)
+
+-- ---- lists by their starts and stops
+
+pub spans_lists : (f : ListFunction) (x z : Layout) (a b : Column)
+    → IsMade f None (single 0) (single (len x)) x (made.Spans a b z) → AreLists None a b z
+spans_lists f x z a b h = lists_of f.giving h.1
+  where
+    lists_of : (g : Giving) → GivesSpans g None (single 0) (single (len x)) x a b z
+        → AreLists None a b z
+    lists_of (lists class typ items) k = record {
+      spans = k.1.spans;
+      fits = k.1.fits;
+      valid = k.1.valid;
+      same_class = tt;
+    }
+    lists_of (singles typ value) k = absurd k
+
+pub spans_within : (f : ListFunction) (x z : Layout) (a b : Column) → IsTaken f x
+    → IsMade f None (single 0) (single (len x)) x (made.Spans a b z) → limit (array_type z) ≡ None
+spans_within f x z a b t h = ap limit (spans_type f.giving h.1) ∙ t.1
+  where
+    spans_type : (g : Giving) → GivesSpans g None (single 0) (single (len x)) x a b z
+        → array_type z ≡ simple (made_type g (array_type x))
+    spans_type (lists class typ items) k = k.1.typ
+    spans_type (singles typ value) k = absurd k
+
+spans_datum : (g : Giving) (x z w : Layout) (a b : Column)
+    → GivesSpans g None (single 0) (single (len x)) x a b z → IsReached z (spans a b) w
+    → whole_datum g (array_type x) (array_items x) ≡ arr (array_type w) (array_items w)
+spans_datum (lists class typ items) x z w a b h r =
+    let t : DataType = typ (array_type x) in
+    let f : List Value → List Value = items (array_type x) in
+    let column : array_items w ≡ items_at a b z 0 =
+    reached-items a b z w r
+    ∙ ap (λ n. flat_map (items_at a b z) (range_with_len 0 n)) h.1.size
+    ∙ append-nil (items_at a b z 0) in
+    settle_list (class None) t (f (array_items x))
+    ∙ ap₂ arr (sym (r.typ ∙ h.1.typ))
+    (sym (column ∙ h.1.lists 0 (omega arith)
+    ∙ ap (λ vs. map (simple_value t) (f vs)) (whole_items x)))
+spans_datum (singles typ value) x z w a b h r = absurd h
+
+pub whole_spanned : (f : ListFunction) (x z w : Layout) (a b : Column) → IsTaken f x
+    → IsMade f None (single 0) (single (len x)) x (made.Spans a b z) → IsReached z (spans a b) w
+    → on_whole f (array_type x) (array_items x) ≡ Ok (arr (array_type w) (array_items w))
+whole_spanned f x z w a b t h r =
+    whole_told f x None t h.0 ∙ ap Ok (spans_datum f.giving x z w a b h.1 r)
 
 -- ---- single values
 

@@ -1,12 +1,12 @@
 -- What is made of an array: its items by a function, as items of a type.
-use Rattle.std.specs.Prelude.{◌≡◌, ℕ, ◌+◌, ◌-◌, ◌*◌, ◌<◌, ◌≤◌, List, [], ◌∷◌, map, Option}
+use Rattle.std.specs.Prelude.{◌≡◌, ℕ, ◌+◌, ◌-◌, ◌*◌, ◌<◌, ◌≤◌, ◌^◌, List, [], ◌∷◌, map, Option}
 use Rattle.std.specs.Prelude.{Some, None}
 use Rattle.awk_types.specs.DataType.{DataType}
 use Rattle.awk_types.specs.Value.{Value, value_list}
 use Rattle.awk_types.specs.Simple.{simple, simple_value}
 use Rattle.awk_lanes.specs.Column.{Column}
 use Rattle.awk_lanes.specs.Counted.{offsets_by}
-use Rattle.awk_lanes.specs.Places.{size_of, place_at}
+use Rattle.awk_lanes.specs.Places.{size_of, place_at, AreSpans}
 use Rattle.awk_layout.specs.Layout.{Layout}
 use Rattle.awk_layout.specs.Valid.{len, IsValid}
 use Rattle.awk_layout.specs.Item.{run}
@@ -65,6 +65,28 @@ GivesSingles (lists class typ items) s e y z = ⊥
 GivesSingles (singles typ value) s e y z =
     IsColumn (typ (array_type y)) (λ i. value (array_type y) (items_at s e y i)) (size_of s) z
 
+-- starts and stops in a content, whose lists are given for the lists of a column
+pub record AreSpanned (t : DataType) (items : List Value → List Value) (s e : Column) (y : Layout)
+    (a b : Column) (z : Layout) : Type 0 where
+  pub valid : IsValid z
+  pub fits : size_of a < 2 ^ 63
+  pub size : size_of a ≡ size_of s
+  pub spans : AreSpans a b (len z)
+  pub typ : array_type z ≡ simple t
+  pub lists : (i : ℕ) → i < size_of s → items_at a b z i
+      ≡ map (simple_value t) (items (items_at s e y i))
+
+-- lists of any length
+abbrev pub IsUnsized : Class → Type 0
+IsUnsized None = Unit {0}
+IsUnsized (Some m) = ⊥
+
+abbrev pub GivesSpans : Giving → Class → Column → Column → Layout → Column → Column → Layout
+    → Type 0
+GivesSpans (lists class typ items) c s e y a b z =
+    IsUnsized (class c) × AreSpanned (typ (array_type y)) (items (array_type y)) s e y a b z
+GivesSpans (singles typ value) c s e y a b z = ⊥
+
 -- lists of a sized class
 abbrev pub IsSized : Class → Type 0
 IsSized None = ⊥
@@ -88,6 +110,8 @@ IsMade f c s e y (made.Even z) =
     (f.spoil (array_type y) (all_items_at s e y) ≡ None)
     × IsSized (given_class f.giving c)
     × GivesLists f.giving c s e y (even_offsets (given_class f.giving c) (size_of s)) z
+IsMade f c s e y (made.Spans a b z) =
+    (f.spoil (array_type y) (all_items_at s e y) ≡ None) × GivesSpans f.giving c s e y a b z
 IsMade f c s e y (made.Singles z) =
     (f.spoil (array_type y) (all_items_at s e y) ≡ None) × GivesSingles f.giving s e y z
 

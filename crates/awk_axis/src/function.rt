@@ -5,6 +5,7 @@ ghost use Rattle.awk_layout.specs.Typing.{array_type};
 ghost use Rattle.awk_axis.specs.Mapped.{IsMade};
 ghost use Rattle.awk_axis.specs.ListFunction.{ListFunction, made_type, given_type, given_class};
 ghost use Rattle.awk_axis.specs.ListFunction.{gives_lists, NeverIndex};
+ghost use Rattle.awk_axis.specs.declared.function.Made.TheVariants as made;
 ghost use Rattle.awk_columns.specs.ListClass.{list_type};
 
 use crate::causes::{Refusal, Spoil};
@@ -28,8 +29,29 @@ pub enum Made<'a> {
     /// A list for each list, all of one size. The lists fill their content, and no lane tells where
     /// each begins.
     Even(Node<'a>),
+    /// A list for each list, of any length, where it lies in a content that holds others too.
+    Spans {
+        starts: Lane<'a>,
+        stops: Lane<'a>,
+        content: Node<'a>,
+    },
     /// A single value for each list.
     Singles(Node<'a>),
+}
+
+impl<'a> Made<'a> {
+    /// Lists as they lie: no item is moved.
+    pub fn as_they_lie(alloc: Global, lists: &Lists<'a>) -> Result<Made<'a>, NoMemory>
+        ensures { let l = lists.now in
+            IfOk result (λ m. m ≡ made.Spans l.starts l.stops l.content) }
+    {
+        let content = lists.content().node().copy(alloc)?;
+        Ok(Made::Spans {
+            starts: lists.starts().copy(),
+            stops: lists.stops().copy(),
+            content,
+        })
+    }
 }
 
 /// A function of one list.

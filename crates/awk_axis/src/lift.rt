@@ -3,7 +3,8 @@ ghost use Rattle.std.specs.Prelude.{◌≡◌, ◌<◌, ◌^◌, Some, None, fal
 ghost use Rattle.awk_types.specs.DataType.{types_from};
 ghost use Rattle.awk_types.specs.ItemLimit.{item_limit};
 ghost use Rattle.awk_layout.specs.Typing.{array_type};
-ghost use Rattle.awk_layout.specs.Valid.{len};
+ghost use Rattle.awk_layout.specs.Layout.{lists as spanned};
+ghost use Rattle.awk_layout.specs.Valid.{len, IsValid};
 ghost use Rattle.awk_axis.specs.Lift as spec;
 ghost use Rattle.awk_axis.specs.declared.place.Reach.TheVariants as Reach;
 ghost use Rattle.awk_open.specs.Opens.{OpensLists, OpensOption, OpensRow, OpensUnion, OpensNothing};
@@ -60,6 +61,21 @@ fn even_node<'a, L: Ledger>(
     }
 }
 
+/// Lists of any length, where they lie in their content.
+fn span_node<'a, L: Ledger>(
+    alloc: Global,
+    starts: Lane<'a>,
+    stops: Lane<'a>,
+    content: Node<'a>,
+    steps: &mut Steps<L>,
+) -> Result<Node<'a>, NoMemory>
+    requires { IsValid (spanned starts stops content) }
+    ensures { IfOk result (λ y. y ≡ spanned starts.entry stops.entry content.entry) }
+{
+    let content = Box::new(alloc, content)?;
+    Ok(Node::list(starts, stops, content, steps))
+}
+
 /// What the function makes of a column of lists, as one node.
 fn at_axis<'a, F: ListOp, L: Ledger>(
     alloc: Global,
@@ -83,6 +99,14 @@ fn at_axis<'a, F: ListOp, L: Ledger>(
         Made::Even(content) => {
             let class = f.class(lists.class());
             let node = even_node(alloc, class, lists.len(), content, steps)?;
+            Ok(Mapped::Column(node))
+        }
+        Made::Spans {
+            starts,
+            stops,
+            content,
+        } => {
+            let node = span_node(alloc, starts, stops, content, steps)?;
             Ok(Mapped::Column(node))
         }
     }

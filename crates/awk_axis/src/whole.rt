@@ -6,6 +6,9 @@ ghost use Rattle.awk_types.specs.Limit.{limit};
 ghost use Rattle.awk_types.specs.Simple.{simple};
 ghost use Rattle.awk_layout.specs.Datum.{datum_of, IsDatum};
 ghost use Rattle.awk_layout.specs.Typing.{array_type, array_items};
+ghost use Rattle.awk_counts.specs.Counted.{spans};
+ghost use Rattle.awk_columns.specs.Lists.{AreLists};
+ghost use Rattle.awk_columns.specs.Reached.{IsReached};
 ghost use Rattle.awk_axis.specs.Lifting as spec;
 ghost use Rattle.awk_axis.specs.ListFunction.{made_type};
 ghost use Rattle.awk_axis.specs.OneList.{one_list};
@@ -13,12 +16,30 @@ ghost use Rattle.awk_axis.specs.OneList.{one_list};
 use crate::function::{ListOp, Made};
 use crate::judged::{judged_whole, spoilt};
 use awk_columns::Lists;
-use awk_lanes::{Arena, Steps, one_number};
-use awk_layout::{Array, Datum};
-use awk_types::Fault;
+use awk_lanes::{Arena, Lane, Steps, one_number};
+use awk_layout::{Array, Datum, Node};
+use awk_types::{Fault, NoMemory};
 use awk_view::settled;
 use std::alloc::Global;
 use std::sync::ledger::Ledger;
+
+/// The items of lists one after another.
+fn span_items<'a, L: Ledger>(
+    alloc: Global,
+    starts: Lane<'a>,
+    stops: Lane<'a>,
+    content: Node<'a>,
+    arena: &'a Arena,
+    steps: &mut Steps<L>,
+) -> Result<Array<'a>, NoMemory>
+    requires limit { limit (array_type content) ≡ None }
+    requires lists { AreLists None starts stops content }
+    ensures { IfOk result (IsReached content.entry (spans starts.entry stops.entry)) }
+{
+    let content = Array::of_node(alloc, content)?;
+    let lists = Lists::new(None, starts, stops, content);
+    lists.items(alloc, arena, steps)
+}
 
 /// What the function gives for one list, settled.
 fn given_one<'a, F: ListOp, L: Ledger>(
@@ -41,6 +62,14 @@ fn given_one<'a, F: ListOp, L: Ledger>(
         Made::Spoiled(why) => Err(spoilt(why)),
         Made::Lists { content, .. } => Ok(Datum::Arr(Array::of_node(alloc, content)?)),
         Made::Even(content) => Ok(Datum::Arr(Array::of_node(alloc, content)?)),
+        Made::Spans {
+            starts,
+            stops,
+            content,
+        } => {
+            let items = span_items(alloc, starts, stops, content, arena, steps)?;
+            Ok(Datum::Arr(items))
+        }
         Made::Singles(node) => {
             let one = Array::of_node(alloc, node)?;
             Ok(settled(alloc, &one, steps)?)

@@ -16,7 +16,7 @@ use Rattle.awk_columns.specs.Columns.{joined_items}
 use Rattle.awk_types.specs.ItemLimit.{item_limit}
 use Rattle.awk_columns.specs.Joined.{AreOffsets, total}
 use Rattle.awk_columns.specs.ListClass.{Class}
-use Rattle.awk_axis.specs.Mapped.{AreGiven, IsMade}
+use Rattle.awk_axis.specs.Mapped.{AreGiven, AreSpanned, IsMade}
 use Rattle.awk_columns.specs.Lists.{AreLists, items_at, all_items_at}
 use Rattle.awk_axis.specs.Spoils.{too_many}
 use Rattle.awk_axis.specs.declared.causes.Spoil.TheVariants.{Size}
@@ -152,10 +152,27 @@ module _ (class : Class) (s t : Column) (y : Layout) (a : AreLists class s t y)
         ∙ ap (map (simple_value (item_of (present (array_type y))))) (joined_is i p);
   }
 
+  spans_given : is_list_or_unknown (present (array_type y)) ≡ true → (a b : Column) (w : Layout)
+      → AreSpanned (item_of (present (array_type z))) (λ ws. joined_items ws) starts stops z a b w
+      → AreSpanned (item_of (present (array_type y))) (λ ws. joined_items ws) s t y a b w
+  spans_given l a b w g = record {
+    valid = g.valid;
+    fits = g.fits;
+    size = g.size ∙ size-starts;
+    spans = g.spans;
+    typ = g.typ ∙ ap simple (same_typ l);
+    lists = λ i p.
+        g.lists i (omega (arith, p, size-starts))
+        ∙ ap (λ u. map (simple_value u) (joined_items (items_at starts stops z i))) (same_typ l)
+        ∙ ap (map (simple_value (item_of (present (array_type y))))) (joined_is i p);
+  }
+
   pub moved_made : flatten_function.refusal (array_type y) ≡ None → (m : Made)
       → IsMade flatten_function None starts stops z m → IsMade flatten_function class s t y m
   moved_made r (made.Spoiled why) k = same_spoil ∙ k
   moved_made r (made.Lists o w) k =
       (same_spoil ∙ k.0, lists_given (are_lists (array_type y) r) o w k.1)
   moved_made r (made.Even w) k = absurd k.1
+  moved_made r (made.Spans a b w) k =
+      (same_spoil ∙ k.0, (k.1.0, spans_given (are_lists (array_type y) r) a b w k.1.1))
   moved_made r (made.Singles w) k = absurd k.1

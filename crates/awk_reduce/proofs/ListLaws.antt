@@ -141,6 +141,7 @@ made_of_lists l how n (made.Spoiled why) e few h =
     ∙ ap (λ w. Some w) (sym h.0)
 made_of_lists l how n (made.Lists q w) e few h = absurd h
 made_of_lists l how n (made.Even w) e few h = absurd h
+made_of_lists l how n (made.Spans a b w) e few h = absurd h
 made_of_lists l how n (made.Singles w) e few h = (
   reduced_fine how l.starts l.stops l.content few (λ i k. h.0 i (omega (arith, e, k))),
   subst (λ m. IsColumn (reduced_type how (array_type l.content))

@@ -41,6 +41,7 @@ IsReduced how t ls n (made.Spoiled why) =
     (why ≡ Overflow) × ((i : ℕ) × (i < n) × (overflows how t (ls i) ≡ true))
 IsReduced how t ls n (made.Lists o z) = ⊥
 IsReduced how t ls n (made.Even z) = ⊥
+IsReduced how t ls n (made.Spans a b z) = ⊥
 IsReduced how t ls n (made.Singles z) =
     ((i : ℕ) → i < n → overflows how t (ls i) ≡ false)
     × IsColumn (reduced_type how t) (λ i. reduced how t (ls i)) n z
