@@ -1,7 +1,7 @@
 -- A value in the place of each null.
-use Rattle.std.specs.Prelude.{◌≡◌, ℕ, ◌+◌, ◌-◌, ◌<◌, ◌≤◌, ◌^◌, refl, true, false, List, [], ◌++◌}
-use Rattle.std.specs.Prelude.{map, length, get_or, ℤ, pos, negsuc, ◌≤ℤ◌, ◌<ℤ◌, Option, Some, None}
-use Rattle.std.specs.Prelude.{IfSome, Result, Ok, Err}
+use Rattle.std.specs.Prelude.{◌≡◌, ℕ, ◌+◌, ◌-◌, ◌<◌, ◌≤◌, ◌^◌, refl, true, false, List, []}
+use Rattle.std.specs.Prelude.{◌∷◌, ◌++◌, map, length, get_or, ℤ, pos, negsuc, ◌≤ℤ◌, ◌<ℤ◌, Option}
+use Rattle.std.specs.Prelude.{Some, None, IfSome, Result, Ok, Err}
 use Rattle.std.proofs.Common.{arith, ap, ap₂, sym, subst, ◌∙◌}
 use Rattle.std.proofs.lemmas.Int.{ints}
 use Rattle.std.proofs.lemmas.List.{length-append, length-map, get_or_append_left, get_or-append-add}
@@ -41,7 +41,7 @@ use Rattle.awk_lanes.proofs.MadeLanes.{at-lane_of, size-lane_of}
 use Rattle.awk_columns.specs.Joined.{JoinsLists, total}
 use Rattle.awk_axis.specs.Lifting.{lift}
 use Rattle.awk_columns.specs.ListClass.{Class}
-use Rattle.awk_axis.specs.Mapped.{AreGiven}
+use Rattle.awk_axis.specs.Mapped.{AreGiven, AreSpanned}
 use Rattle.awk_columns.specs.Lists.{AreLists, items_at, all_items_at}
 use Rattle.awk_open.specs.Opens.{OpensOption}
 use Rattle.awk_open.specs.Opened.{IsOpened}
@@ -64,7 +64,8 @@ use Rattle.awk_fill.specs.Filled.{HoldsOption, IsRefused}
 use Rattle.awk_fill.specs.declared.parts.Parts.{Parts}
 use Rattle.awk_fill.specs.FillNone.{filler_type, filling, fill_value, filled, filled_type}
 use Rattle.awk_fill.specs.FillNone.{fill_none_function, no_filler, fill_none_of}
-use Rattle.awk_option_nodes.proofs.OptionNodes.{HasItems, item_stays}
+use Rattle.awk_option_nodes.proofs.OptionNodes.{HasItems, item_stays, span_stays}
+use Rattle.awk_list_ends.proofs.SpanLaws.{start_there}
 use Rattle.awk_axis.proofs.SpoilLimits.{over_limit, within_limit}
 use Rattle.awk_columns.proofs.OffsetLaws.{count_same}
 
@@ -401,6 +402,29 @@ module _ (f : Filler) (class : Class) (s t : Column) (y : Layout) (o : Column) (
         ∙ ap (λ r. map (λ v. simple_value typ (g v)) (value_list r)) (sym (j.lists i p))
         ∙ sym (map-map (simple_value typ) g (items_at s t y i));
   }
+
+-- lists whose items are not optional, as they lie
+fill_all : (f : Filler) (t : DataType) (vs : List Value) → is_option t ≡ false
+    → map (filled f t) vs ≡ vs
+fill_all f t [] n = refl
+fill_all f t (v ∷ vs) n = ap₂ (λ u us. u ∷ us) (plain_value f t v n) (fill_all f t vs n)
+
+pub filled_spanned : (f : Filler) (class : Class) (s t : Column) (y : Layout) → AreLists class s t y
+    → HasItems y → is_option (array_type y) ≡ false
+    → AreSpanned (filled_type f (array_type y)) (λ vs. map (filled f (array_type y)) vs) s t y s t y
+filled_spanned f class s t y a has n = record {
+  valid = a.valid;
+  fits = a.fits;
+  size = refl;
+  spans = a.spans;
+  typ = sym (simple_twice (layout_type y)) ∙ ap simple (sym (plain_type f (array_type y) n));
+  lists = λ i p.
+      let vs : List Value = items_at s t y i in
+      sym (ap (map (simple_value (filled_type f (array_type y)))) (fill_all f (array_type y) vs n)
+      ∙ ap (λ u. map (simple_value u) vs) (plain_type f (array_type y) n)
+      ∙ span_stays y has (place_at s i) (place_at t i - place_at s i)
+      (λ q. (start_there (len y) (at s i) (at t i) (a.spans.ordered i p) q).1));
+}
 
 pub filled_spoilt : (f : Filler) (s t : Column) (y : Layout) → item_limit < total s t y
     → (fill_none_function f).spoil (array_type y) (all_items_at s t y) ≡ Some TooLarge

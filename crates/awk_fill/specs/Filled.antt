@@ -21,9 +21,12 @@ use Rattle.awk_layout.specs.Valid.{len, IsValid}
 use Rattle.awk_layout.specs.declared.datum.Datum.{Datum}
 use Rattle.awk_gather.specs.Arrays.{array_item}
 use Rattle.awk_lanes.specs.Made.{lane_of}
+use Rattle.awk_columns.specs.ListClass.{Class}
+use Rattle.awk_axis.specs.Mapped.{IsMade}
+use Rattle.awk_axis.specs.declared.function.Made.{Made}
 use Rattle.awk_unify.specs.Carry.{carried}
 use Rattle.awk_unify.specs.Unification.{Unification}
-use Rattle.awk_fill.specs.FillNone.{filled, filled_type, no_filler}
+use Rattle.awk_fill.specs.FillNone.{filled, filled_type, fill_none_function, no_filler}
 
 -- an array of a type whose first item is the value
 pub record IsFirst (t : DataType) (v : Value) (y : Layout) : Type 0 where
@@ -89,3 +92,7 @@ abbrev pub IsRefused : Result Datum Fault → Fault → Type 0
 IsRefused answer fault =
     (said : Result shown.Datum Fault) → Gives datum_of fault_told answer said
     → Told (fault_told fault) (no_filler said)
+
+-- what is made of lists, whatever fills nulls
+abbrev pub AreKept : Class → Column → Column → Layout → Made → Type 0
+AreKept class s t y m = (f : Filler) → IsMade (fill_none_function f) class s t y m

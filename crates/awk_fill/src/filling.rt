@@ -1,5 +1,5 @@
 //! A value in the place of each null.
-ghost use Rattle.std.specs.Prelude.{◌≡◌, ◌<◌, ◌^◌, false, pos, None, IfOk};
+ghost use Rattle.std.specs.Prelude.{◌≡◌, ◌<◌, ◌^◌, true, false, pos, None, IfOk};
 ghost use Rattle.awk_types.specs.DataType.{leaf, opt};
 ghost use Rattle.awk_types.specs.Faults.{fault_told};
 ghost use Rattle.awk_types.specs.Gives.{Gives};
@@ -15,7 +15,7 @@ ghost use Rattle.awk_layout.specs.Typing.{array_type};
 ghost use Rattle.awk_layout.specs.Valid.{len};
 ghost use Rattle.awk_unify.specs.Unify.{unification};
 ghost use Rattle.awk_fill.specs.Filled.{IsFirst, IsPair, place_or, places_or, IsFilled};
-ghost use Rattle.awk_fill.specs.Filled.{IsFilledOption, IsRefused};
+ghost use Rattle.awk_fill.specs.Filled.{IsFilledOption, IsRefused, AreKept};
 ghost use Rattle.awk_fill.specs.FillNone.{literal_refusal, filler_refusal, filler_type};
 ghost use Rattle.awk_fill.specs.FillNone.{fill_none_function, fill_none_of};
 
@@ -28,6 +28,7 @@ use awk_lanes::{
     Arena, Index, Kind, Lane, LaneMaker, Num, Numbers, Steps, index_of, made_lane, number,
 };
 use awk_layout::{Array, Datum, Node, Operand, kind_of, number_of};
+use awk_list_ends::are_few;
 use awk_merge_columns::merge;
 use awk_merge_sides::Sides;
 use awk_primitives::{fits, literal_prim};
@@ -232,6 +233,42 @@ fn filled<'a, L: Ledger>(
     filled_option(alloc, value, &parts.index, &parts.content, arena, steps)
 }
 
+/// Whether lists stay as they lie: they may have any length, and none of their items is optional.
+fn lie_still(lists: &Lists) -> bool
+    ensures class { result ≡ true → lists.now.class ≡ None }
+    ensures plain { result ≡ true → is_option (array_type lists.now.content) ≡ false }
+{
+    let optional = is_optional(lists.content().typ());
+    if optional {
+        return false;
+    }
+    match lists.class() {
+        None => true,
+        Some(_) => false,
+    }
+}
+
+/// Lists that stay, whatever fills nulls: they are counted, and no item is moved.
+fn kept_lists<'a, L: Ledger>(
+    alloc: Global,
+    lists: &Lists<'a>,
+    arena: &'a Arena,
+    steps: &mut Steps<L>,
+) -> Result<Made<'a>, NoMemory>
+    requires class { lists.now.class ≡ None }
+    requires plain { is_option (array_type lists.now.content) ≡ false }
+    ensures { IfOk result (AreKept lists.now.class lists.now.starts lists.now.stops
+        lists.now.content) }
+{
+    let _ = lists.content().len();
+    let few = are_few(alloc, lists, arena, steps)?;
+    if few {
+        let made = Made::as_they_lie(alloc, lists)?;
+        return Ok(made);
+    }
+    Ok(Made::Spoiled(Spoil::Size))
+}
+
 /// The items of a list with the value in the place of each null.
 #[derive(Drop)]
 struct Filling<'o, 'b> {
@@ -293,6 +330,10 @@ impl<'o, 'b> ListOp for Filling<'o, 'b> {
         steps: &mut Steps<L>,
     ) -> Result<Made<'a>, NoMemory> {
         let _ = lists.content();
+        if lie_still(lists) {
+            let made = kept_lists(alloc, lists, arena, steps)?;
+            return Ok(made);
+        }
         match lists.joined(alloc, arena, steps)? {
             Joined::TooMany => Ok(Made::Spoiled(Spoil::Size)),
             Joined::Lists { offsets, content } => {

@@ -1,8 +1,7 @@
 -- Lists whose items are of a type that is no option: none of them is null.
-use Rattle.std.specs.Prelude.{◌≡◌, ℕ, zero, suc, ◌+◌, ◌-◌, ◌<◌, ◌≤◌, refl, false, List, ◌∷◌, map}
+use Rattle.std.specs.Prelude.{◌≡◌, ℕ, zero, suc, ◌+◌, ◌<◌, ◌≤◌, refl, false, List, ◌∷◌, map}
 use Rattle.std.specs.Prelude.{sum, length, Some, None}
 use Rattle.std.proofs.Common.{arith, ap, sym, ◌∙◌, subst}
-use Rattle.awk_types.specs.DataType.{DataType}
 use Rattle.awk_types.specs.Predicates.{is_null}
 use Rattle.awk_types.specs.Simple.{present, simple, simple_value, is_option}
 use Rattle.awk_types.specs.Value.{Value, null, int, truth, list, row, alt, value_list}
@@ -16,17 +15,17 @@ use Rattle.awk_layout.specs.Typing.{layout_type, array_type}
 use Rattle.awk_layout.specs.Valid.{len}
 use Rattle.awk_gather.specs.Arrays.{array_item}
 use Rattle.awk_columns.specs.Columns.{present_values}
-use Rattle.awk_columns.specs.Joined.{JoinsLists, total}
+use Rattle.awk_columns.specs.Joined.{total}
 use Rattle.awk_columns.specs.ListClass.{Class}
 use Rattle.awk_columns.specs.Lists.{AreLists, items_at, all_items_at}
 use Rattle.awk_axis.specs.DropNone.{drop_none_function}
-use Rattle.awk_axis.specs.Mapped.{AreGiven}
+use Rattle.awk_axis.specs.Mapped.{AreSpanned}
 use Rattle.awk_axis.specs.Spoils.{too_many}
 use Rattle.awk_axis.specs.declared.causes.Spoil.TheVariants.{Size}
 use Rattle.awk_nulls.specs.Lanes.{span_length}
 use Rattle.awk_list_ends.proofs.SpanLaws.{start_there}
 use Rattle.awk_nulls.proofs.NullLaws.{no_null}
-use Rattle.awk_option_nodes.proofs.OptionNodes.{HasItems, run_stays}
+use Rattle.awk_option_nodes.proofs.OptionNodes.{HasItems, span_stays}
 use Rattle.awk_axis.proofs.SpoilLimits.{over_limit, within_limit}
 use Rattle.awk_columns.proofs.OffsetLaws.{count_lists}
 
@@ -71,29 +70,19 @@ module _ (class : Class) (s t : Column) (y : Layout) (a : AreLists class s t y)
       → drop_none_function.spoil (array_type y) (all_items_at s t y) ≡ None
   kept_fine q = ap too_many count_is ∙ within_limit (total s t y) q
 
-  module _ (o : Column) (w : Layout) (j : JoinsLists s t y o w) (has : HasItems w) where
-    abbrev typ : DataType
-    typ = present (array_type y)
-
-    made_typ : array_type w ≡ typ
-    made_typ = j.typ ∙ sym (present_stays (array_type y) plain)
-
-    list_made : (i : ℕ) → i < size_of s
-        → value_list (run (array_item w) (place_at o i) (place_at o (i + 1) - place_at o i))
-        ≡ present_values (items_at s t y i)
-    list_made i p = ap value_list (sym (j.lists i p)) ∙ sym (kept i p)
-
-    pub kept_given : AreGiven None typ (λ vs. present_values vs) s t y o w
-    kept_given = record {
-      valid = j.valid;
-      offsets = j.offsets;
-      even = tt;
-      typ = sym (simple_twice (layout_type w)) ∙ ap simple made_typ;
-      lists = λ i p.
-          let within = j.offsets.within i p in
-          list_made i p
-          ∙ sym (ap (λ u. map (simple_value u) (present_values (items_at s t y i))) (sym made_typ)
-          ∙ ap (map (simple_value (array_type w))) (sym (list_made i p))
-          ∙ run_stays w has (place_at o i) (place_at o (i + 1) - place_at o i) within
-          ∙ list_made i p);
-    }
+  -- the lists as they lie
+  pub kept_spanned : HasItems y
+      → AreSpanned (present (array_type y)) (λ vs. present_values vs) s t y s t y
+  kept_spanned has = record {
+    valid = a.valid;
+    fits = a.fits;
+    size = refl;
+    spans = a.spans;
+    typ = sym (simple_twice (layout_type y)) ∙ ap simple (sym (present_stays (array_type y) plain));
+    lists = λ i p.
+        sym (ap (λ u. map (simple_value u) (present_values (items_at s t y i)))
+        (present_stays (array_type y) plain)
+        ∙ ap (map (simple_value (array_type y))) (kept i p)
+        ∙ span_stays y has (place_at s i) (span_length s t i)
+        (λ q. (start_there (len y) (at s i) (at t i) (a.spans.ordered i p) q).1));
+  }

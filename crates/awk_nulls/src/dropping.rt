@@ -18,6 +18,7 @@ use awk_axis::{ListOp, Made, Refusal, Spoil, lift_at};
 use awk_columns::{Joined, Lists, join_spans};
 use awk_lanes::{Arena, Lane, Steps};
 use awk_layout::{Array, Datum};
+use awk_list_ends::are_few;
 use awk_list_numbers::has_numbers;
 use awk_types::{Fault, NoMemory, Typ};
 use std::alloc::Global;
@@ -91,7 +92,8 @@ fn dropped<'a, L: Ledger>(
     dropped_lists(alloc, lists, &items.index, &items.content, arena, steps)
 }
 
-/// Lists whose items are of a type that is no option, as they are.
+/// Lists whose items are of a type that is no option, as they lie: they are counted, and no item is
+/// moved.
 fn kept_lists<'a, L: Ledger>(
     alloc: Global,
     lists: &Lists<'a>,
@@ -102,17 +104,13 @@ fn kept_lists<'a, L: Ledger>(
     ensures { IfOk result (IsMade drop_none_function lists.now.class lists.now.starts
         lists.now.stops lists.now.content) }
 {
-    let _ = lists.content();
-    match lists.joined(alloc, arena, steps)? {
-        Joined::TooMany => Ok(Made::Spoiled(Spoil::Size)),
-        Joined::Lists { offsets, content } => {
-            let _ = content.len();
-            Ok(Made::Lists {
-                offsets,
-                content: content.node().copy(alloc)?,
-            })
-        }
+    let _ = lists.content().len();
+    let few = are_few(alloc, lists, arena, steps)?;
+    if few {
+        let made = Made::as_they_lie(alloc, lists)?;
+        return Ok(made);
     }
+    Ok(Made::Spoiled(Spoil::Size))
 }
 
 /// The items of a list that are not null.

@@ -1,5 +1,5 @@
 -- An index over an array's items, with null where it is negative, and the same composed.
-use Rattle.std.specs.Prelude.{◌≡◌, ℕ, ◌+◌, ◌<◌, ◌≤◌, refl, length, map, get_or}
+use Rattle.std.specs.Prelude.{◌≡◌, ℕ, zero, suc, ◌+◌, ◌<◌, ◌≤◌, refl, length, map, get_or}
 use Rattle.std.specs.Prelude.{Option, Some, None, pos}
 use Rattle.std.specs.List.{AllByRecursion}
 use Rattle.std.proofs.Common.{arith, ap, sym, ◌∙◌}
@@ -52,6 +52,13 @@ run_stays y h a n p =
     run_map (simple_value (array_type y)) (array_item y) a n
     ∙ ap value_list (run-same (λ k. simple_value (array_type y) (array_item y k)) (array_item y) a n
     (λ k _ q. item_stays y h k (omega (arith, q, p))))
+
+-- the same of a list, which is within the array where it has items
+pub span_stays : (y : Layout) → HasItems y → (a n : ℕ) → (0 < n → a + n ≤ len y)
+    → map (simple_value (array_type y)) (value_list (run (array_item y) a n))
+    ≡ value_list (run (array_item y) a n)
+span_stays y h a zero p = refl
+span_stays y h a (suc n) p = run_stays y h a (suc n) (p (omega arith))
 
 -- ---- with null where an index is negative
 

@@ -8,6 +8,9 @@ use Rattle.awk_fill.specs.FillNone.{filler_refusal}
 use Rattle.awk_fill.proofs.FillLaws.{filled_given, filled_spoilt, filled_fine}
 use Rattle.awk_fill.proofs.filling.FillingListOp.column.Goals as goal
 
+pub returns-then-lie_still : goal.returns-then-lie_still
+returns-then-lie_still g c = c.in_ok-made.ensures (filler_of c.args.self.now)
+
 pub returns-in-TooMany : goal.returns-in-TooMany
 returns-in-TooMany g c = filled_spoilt (filler_of c.args.self.now) c.args.lists.now.starts
     c.args.lists.now.stops c.args.lists.now.content (rw c.in-TooMany.is at c.in_ok-joined.ensures)
