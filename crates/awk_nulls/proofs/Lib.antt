@@ -8,4 +8,5 @@ pub mod DropLaws
 pub mod RowLaws
 pub mod KeptLaws
 pub mod NoneLaws
+pub mod EvenLaws
 mod Worked

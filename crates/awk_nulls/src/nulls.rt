@@ -1,5 +1,5 @@
 //! Whether items are null.
-ghost use Rattle.std.specs.Prelude.{◌≡◌, false, IfOk};
+ghost use Rattle.std.specs.Prelude.{◌≡◌, true, false, IfOk};
 ghost use Rattle.awk_types.specs.Faults.{fault_told};
 ghost use Rattle.awk_types.specs.Gives.{Gives};
 ghost use Rattle.awk_types.specs.Simple.{is_option};
@@ -8,7 +8,7 @@ ghost use Rattle.awk_lanes.specs.Places.{IsOptionKind};
 ghost use Rattle.awk_lanes.specs.declared.kind.Kind.TheVariants as Kinds;
 ghost use Rattle.awk_layout.specs.Datum.{datum_of, IsDatum};
 ghost use Rattle.awk_layout.specs.Typing.{array_type};
-ghost use Rattle.awk_axis.specs.Mapped.{IsMade};
+ghost use Rattle.awk_axis.specs.Mapped.{IsMade, IsSized};
 ghost use Rattle.awk_nulls.specs.IsNone.{is_none_function, is_none_of};
 ghost use Rattle.awk_nulls.specs.Lanes.{null_number, nulls_lane, falses_lane, AreNulls};
 
@@ -19,6 +19,7 @@ use awk_lanes::{
     Arena, Index, Kind, Lane, Num, Numbers, Steps, index_of, made_lane, offsets_within,
 };
 use awk_layout::{Array, Datum, Node};
+use awk_list_ends::are_few;
 use awk_open::{Opened, opened};
 use awk_types::{Fault, ITEM_LIMIT, NoMemory, Prim, Typ, is_optional};
 use std::alloc::Global;
@@ -151,6 +152,38 @@ fn none_null<'a, L: Ledger>(
     }
 }
 
+/// Whether lists are of a sized class.
+fn are_sized(lists: &Lists) -> bool
+    ensures { result ≡ true → IsSized lists.now.class }
+{
+    match lists.class() {
+        None => false,
+        Some(_) => true,
+    }
+}
+
+/// Whether each item of lists of one size is null: no lane tells where these begin.
+fn even_nulls<'a, L: Ledger>(
+    alloc: Global,
+    lists: &Lists<'a>,
+    arena: &'a Arena,
+    steps: &mut Steps<L>,
+) -> Result<Made<'a>, NoMemory>
+    requires sized { IsSized lists.now.class }
+    ensures { IfOk result (IsMade is_none_function lists.now.class lists.now.starts
+        lists.now.stops lists.now.content) }
+{
+    let _ = lists.content();
+    let few = are_few(alloc, lists, arena, steps)?;
+    if few {
+        let items = lists.items(alloc, arena, steps)?;
+        let _ = items.len();
+        let nulls = nulls_of(alloc, &items, arena, steps)?;
+        return Ok(Made::Even(Node::numpy(nulls, steps)));
+    }
+    Ok(Made::Spoiled(Spoil::Size))
+}
+
 /// Whether the items of a list are null.
 #[derive(Clone, Copy, Debug, PartialEq, Eq)]
 struct NullTests;
@@ -188,6 +221,9 @@ impl ListOp for NullTests {
         let _ = lists.content();
         if !has_options(lists) {
             return none_null(lists, arena, steps);
+        }
+        if are_sized(lists) {
+            return even_nulls(alloc, lists, arena, steps);
         }
         match lists.joined(alloc, arena, steps)? {
             Joined::TooMany => Ok(Made::Spoiled(Spoil::Size)),
