@@ -1,8 +1,10 @@
 //! Lists with nulls at their end.
-ghost use Rattle.std.specs.Prelude.{IfOk};
+ghost use Rattle.std.specs.Prelude.{◌≡◌, true, IfOk};
 ghost use Rattle.awk_types.specs.Faults.{fault_told};
 ghost use Rattle.awk_types.specs.Gives.{Gives};
 ghost use Rattle.awk_layout.specs.Datum.{datum_of, IsDatum};
+ghost use Rattle.awk_axis.specs.Mapped.{IsMade};
+ghost use Rattle.awk_padding.specs.Lanes.{IsEvenTotal};
 ghost use Rattle.awk_padding.specs.PadNone.{pad_none_function, pad_none_of};
 
 use crate::padded::{PaddedLists, Padding, padded_items};
@@ -13,6 +15,68 @@ use awk_layout::Datum;
 use awk_types::{Fault, ITEM_LIMIT, NoMemory, Typ, copy_type};
 use std::alloc::Global;
 use std::sync::ledger::Ledger;
+
+/// How many items n lists of one size have, or none where they are more than a column may have.
+fn even_total(n: u64, size: u64) -> Option<u64>
+    ensures { IsEvenTotal n size result }
+{
+    match n.checked_mul(size) {
+        Some(total) => {
+            if total > ITEM_LIMIT {
+                return None;
+            }
+            Some(total)
+        }
+        None => None,
+    }
+}
+
+/// Lists that are cut to one size: no lane tells where each begins.
+fn clipped_lists<'a, L: Ledger>(
+    alloc: Global,
+    padded: &PaddedLists<'_, '_, 'a>,
+    arena: &'a Arena,
+    steps: &mut Steps<L>,
+) -> Result<Made<'a>, NoMemory>
+    requires clip { padded.now.padding.clip ≡ true }
+    ensures { let lists = padded.now.lists.now in
+        IfOk result (IsMade (pad_none_function padded.now.padding.size true) lists.class
+        lists.starts lists.stops lists.content) }
+{
+    let _ = padded.lists.content();
+    match even_total(padded.lists.len(), padded.padding.size) {
+        Some(total) => {
+            let items = padded_items(alloc, padded, total, arena, steps)?;
+            Ok(Made::Even(items))
+        }
+        None => Ok(Made::Spoiled(Spoil::Size)),
+    }
+}
+
+/// Lists of any length, by their offsets.
+fn longer_lists<'a, L: Ledger>(
+    alloc: Global,
+    padded: &PaddedLists<'_, '_, 'a>,
+    arena: &'a Arena,
+    steps: &mut Steps<L>,
+) -> Result<Made<'a>, NoMemory>
+    ensures { let lists = padded.now.lists.now in
+        IfOk result (IsMade (pad_none_function padded.now.padding.size padded.now.padding.clip)
+        lists.class lists.starts lists.stops lists.content) }
+{
+    let _ = padded.lists.content();
+    let n = padded.lists.len();
+    match offsets_within(ITEM_LIMIT, n, padded, arena, steps)? {
+        None => Ok(Made::Spoiled(Spoil::Size)),
+        Some(offsets) => {
+            let content = padded_items(alloc, padded, offsets.total, arena, steps)?;
+            Ok(Made::Lists {
+                offsets: offsets.lane,
+                content,
+            })
+        }
+    }
+}
 
 impl ListOp for Padding {
     ghost function = { λ f. pad_none_function f.size f.clip };
@@ -44,23 +108,18 @@ impl ListOp for Padding {
         arena: &'a Arena,
         steps: &mut Steps<L>,
     ) -> Result<Made<'a>, NoMemory> {
-        let n = lists.len();
-        let _ = lists.content();
         let bounds = Bounds::new(alloc, lists, arena, steps)?;
         let padded = PaddedLists {
             padding: *self,
             lists: &bounds,
         };
-        match offsets_within(ITEM_LIMIT, n, &padded, arena, steps)? {
-            None => Ok(Made::Spoiled(Spoil::Size)),
-            Some(offsets) => {
-                let content = padded_items(alloc, &padded, offsets.total, arena, steps)?;
-                Ok(Made::Lists {
-                    offsets: offsets.lane,
-                    content,
-                })
-            }
+        let clip = self.clip;
+        if clip {
+            let clipped = clipped_lists(alloc, &padded, arena, steps)?;
+            return Ok(clipped);
         }
+        let longer = longer_lists(alloc, &padded, arena, steps)?;
+        Ok(longer)
     }
 }
 
