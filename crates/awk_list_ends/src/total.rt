@@ -3,7 +3,7 @@ ghost use Rattle.std.specs.Prelude.{◌≡◌, ◌<◌, ◌≤◌, true, false, 
 ghost use Rattle.awk_lanes.specs.Counted.{before};
 ghost use Rattle.awk_lanes.specs.Places.{size_of};
 ghost use Rattle.awk_columns.specs.Lists.{span_length};
-ghost use Rattle.awk_list_ends.specs.Total.{AreFew};
+ghost use Rattle.awk_list_ends.specs.Total.{AreFew, IsEvenTotal};
 
 use awk_columns::{Bounds, Lists};
 use awk_lanes::{Arena, Steps};
@@ -41,4 +41,19 @@ pub fn are_few<'a, L: Ledger>(
 {
     let bounds = Bounds::new(alloc, lists, arena, steps)?;
     Ok(are_within(ITEM_LIMIT, &bounds))
+}
+
+/// How many items n lists of one size have, or none where they are more than a column may have.
+pub fn even_total(n: u64, size: u64) -> Option<u64>
+    ensures { IsEvenTotal n size result }
+{
+    match n.checked_mul(size) {
+        Some(total) => {
+            if total > ITEM_LIMIT {
+                return None;
+            }
+            Some(total)
+        }
+        None => None,
+    }
 }

@@ -1,8 +1,8 @@
 -- The places of the items of lists.
-use Rattle.std.specs.Prelude.{◌≡◌, ℕ, ◌<◌, ◌≤◌, ◌^◌, refl, List, length, map, sum}
+use Rattle.std.specs.Prelude.{◌≡◌, ℕ, ◌*◌, ◌<◌, ◌≤◌, ◌^◌, refl, List, length, map, sum}
 use Rattle.std.specs.Prelude.{ℤ, pos, Some, None}
 use Rattle.std.specs.List.{range_with_len}
-use Rattle.std.proofs.Common.{arith, ap, sym, ◌∙◌}
+use Rattle.std.proofs.Common.{arith, ap, sym, subst, ◌∙◌}
 use Rattle.std.proofs.lemmas.Simd.{map-map}
 use Rattle.std.proofs.lemmas.List.FromFn.{length-map-range_with_len}
 use Rattle.awk_layout.proofs.Runs.{run-by}
@@ -19,14 +19,15 @@ use Rattle.awk_layout.specs.Layout.{Layout, flat}
 use Rattle.awk_layout.specs.Typing.{array_type}
 use Rattle.awk_gather.specs.Arrays.{array_item}
 use Rattle.awk_columns.specs.ListClass.{Class}
-use Rattle.awk_columns.specs.Lists.{AreLists, items_at, all_items_at, span_length}
-use Rattle.awk_axis.specs.Mapped.{AreGiven, IsColumn}
+use Rattle.awk_columns.specs.Lists.{AreLists, AreOfClass, items_at, all_items_at, span_length}
+use Rattle.awk_axis.specs.Mapped.{AreGiven, IsColumn, IsSized, even_offsets as sized_offsets}
 use Rattle.awk_axis.specs.Spoils.{too_many}
 use Rattle.awk_axis.specs.declared.causes.Spoil.TheVariants.{Size}
 use Rattle.awk_lanes.specs.Counted.{before, offsets_by, items_lane}
 use Rattle.awk_lanes.specs.Made.{lane_of}
 use Rattle.awk_lanes.proofs.MadeLanes.{size-lane_of, at-lane_of}
 use Rattle.awk_lanes.proofs.CountedLanes.{place-offsets, length-numbers, numbers-at}
+use Rattle.awk_list_ends.proofs.TotalLaws.{offsets-sized, total-sized}
 use Rattle.awk_lists.specs.LocalIndex.{local_index_function}
 use Rattle.awk_columns.proofs.OffsetLaws.{are_offsets, even_offsets, offset-length, items_at-length}
 use Rattle.awk_columns.proofs.OffsetLaws.{count_given}
@@ -93,3 +94,26 @@ pub local_fine : (s t : Column) (y : Layout) → before (span_length s t) (size_
     → local_index_function.spoil (array_type y) (all_items_at s t y) ≡ None
 local_fine s t y p = ap too_many (local_count s t y)
     ∙ within_limit (before (span_length s t) (size_of s)) p
+
+-- ---- lists of one size
+
+pub even_given : (class : Class) (size : ℕ) (s t : Column) (y : Layout) → AreLists class s t y
+    → class ≡ Some size → before (span_length s t) (size_of s) ≤ item_limit →
+    AreGiven class (leaf I64) (λ vs. map (λ (i : ℕ). int (pos i)) (range_with_len 0 (length vs))) s
+    t y (sized_offsets class (size_of s)) (flat (places s t))
+even_given class size s t y a e p =
+    let c : AreOfClass (Some size) s t = subst (λ k. AreOfClass k s t) e a.same_class in
+    let same : offsets_by (span_length s t) (size_of s) ≡ sized_offsets class (size_of s) =
+    offsets-sized size s t c ∙ ap (λ k. sized_offsets k (size_of s)) (sym e) in
+    subst (λ (o : Column). AreGiven class (leaf I64)
+    (λ vs. map (λ (i : ℕ). int (pos i)) (range_with_len 0 (length vs))) s t y o
+    (flat (places s t))) same (local_given class s t y a p)
+
+pub even_sized : (class : Class) (size : ℕ) → class ≡ Some size → IsSized class
+even_sized class size e = subst IsSized (sym e) tt
+
+-- how many places there are
+pub even_count : (class : Class) (size : ℕ) (s t : Column) (y : Layout) → AreLists class s t y
+    → class ≡ Some size → before (span_length s t) (size_of s) ≡ size_of s * size
+even_count class size s t y a e =
+    total-sized size s t (subst (λ k. AreOfClass k s t) e a.same_class)

@@ -1,5 +1,5 @@
 //! The places of the items of each list.
-ghost use Rattle.std.specs.Prelude.{◌<◌, IfOk};
+ghost use Rattle.std.specs.Prelude.{◌≡◌, ◌<◌, Some, IfOk};
 ghost use Rattle.awk_types.specs.Faults.{fault_told};
 ghost use Rattle.awk_types.specs.Gives.{Gives};
 ghost use Rattle.awk_axis.specs.Mapped.{IsMade};
@@ -10,6 +10,7 @@ use awk_axis::{ListOp, Made, Refusal, Spoil, lift_at};
 use awk_columns::{Bounds, Lists, places_of};
 use awk_lanes::{Arena, Items, Lengths, Num, Steps, number, offsets_within};
 use awk_layout::{Datum, Node};
+use awk_list_ends::even_total;
 use awk_types::{Fault, ITEM_LIMIT, NoMemory, Prim, Typ};
 use std::alloc::Global;
 use std::sync::ledger::Ledger;
@@ -73,6 +74,31 @@ fn local_places<'a, L: Ledger>(
     }
 }
 
+/// The same of lists of one size: no lane tells where these begin.
+fn even_places<'a, L: Ledger>(
+    alloc: Global,
+    size: u64,
+    lists: &Lists<'a>,
+    arena: &'a Arena,
+    steps: &mut Steps<L>,
+) -> Result<Made<'a>, NoMemory>
+    requires class { lists.now.class ≡ Some size }
+    ensures { IfOk result (IsMade local_index_function lists.now.class lists.now.starts
+        lists.now.stops lists.now.content) }
+{
+    let n = lists.len();
+    let _ = lists.content();
+    match even_total(n, size) {
+        None => Ok(Made::Spoiled(Spoil::Size)),
+        Some(total) => {
+            let bounds = Bounds::new(alloc, lists, arena, steps)?;
+            let places = LocalPlaces { lists: &bounds };
+            let items = places_of(n, total, &places, arena, steps)?;
+            Ok(Made::Even(Node::numpy(items, steps)))
+        }
+    }
+}
+
 /// The places of a list's items.
 #[derive(Clone, Copy, Debug, PartialEq, Eq)]
 struct LocalIndex;
@@ -107,7 +133,10 @@ impl ListOp for LocalIndex {
         arena: &'a Arena,
         steps: &mut Steps<L>,
     ) -> Result<Made<'a>, NoMemory> {
-        local_places(alloc, lists, arena, steps)
+        match lists.class() {
+            Some(size) => even_places(alloc, size, lists, arena, steps),
+            None => local_places(alloc, lists, arena, steps),
+        }
     }
 }
 

@@ -1,28 +1,24 @@
 -- Lists of one size: their offsets go without saying.
-use Rattle.std.specs.Prelude.{◌≡◌, ◌+◌, ◌≤◌, refl, length, pos, Some, None}
-use Rattle.std.proofs.Common.{arith, ap, sym, ◌∙◌, subst}
-use Rattle.awk_base.proofs.Ranges.{map-in}
+use Rattle.std.specs.Prelude.{◌≡◌, ◌≤◌, refl, length, Some, None}
+use Rattle.std.proofs.Common.{arith, sym, ◌∙◌, subst}
 use Rattle.awk_types.specs.DataType.{leaf}
 use Rattle.awk_types.specs.ItemLimit.{item_limit}
 use Rattle.awk_types.specs.declared.primitive.Primitive.TheVariants.{Bool as Truths}
 use Rattle.awk_lanes.specs.Column.{Column}
-use Rattle.awk_lanes.specs.Counted.{before}
 use Rattle.awk_lanes.specs.Places.{size_of}
-use Rattle.awk_lanes.specs.declared.kind.Kind.TheVariants.{I64}
-use Rattle.awk_lanes.proofs.CountedLanes.{before-same}
 use Rattle.awk_layout.specs.Layout.{Layout, flat}
 use Rattle.awk_layout.specs.Valid.{IsValid}
 use Rattle.awk_counts.specs.Counted.{offsets_lane, spans}
 use Rattle.awk_columns.specs.Joined.{IsJoined, total}
 use Rattle.awk_columns.specs.ListClass.{Class}
-use Rattle.awk_columns.specs.Lists.{span_length, AreLists, AreOfClass}
+use Rattle.awk_columns.specs.Lists.{AreLists, AreOfClass}
 use Rattle.awk_columns.specs.Reached.{IsReached}
 use Rattle.awk_columns.specs.declared.lists.Joined.TheVariants.{Lists}
 use Rattle.awk_columns.proofs.JoinLaws.{join_given}
 use Rattle.awk_columns.proofs.JoinedLists.{are_joined, joined_given, before-spans, offsets_by-is}
 use Rattle.awk_columns.proofs.JoinedLists.{offsets_lane-is}
 use Rattle.awk_axis.specs.Mapped.{AreGiven, IsSized, even_offsets}
-use Rattle.awk_list_ends.proofs.TotalLaws.{before-total}
+use Rattle.awk_list_ends.proofs.TotalLaws.{before-total, offsets-sized}
 use Rattle.awk_nulls.specs.IsNone.{nulls}
 use Rattle.awk_nulls.specs.Lanes.{AreNulls}
 use Rattle.awk_nulls.proofs.NullLaws.{nulls_given}
@@ -31,13 +27,7 @@ use Rattle.awk_nulls.proofs.NullLaws.{nulls_given}
 even_same : (class : Class) (s t : Column) → IsSized class → AreOfClass class s t
     → offsets_lane s t ≡ even_offsets class (size_of s)
 even_same None s t z c = absurd z
-even_same (Some m) s t z c =
-    sym (offsets_by-is s t)
-    ∙ ap (λ zs. record { kind = I64; items = zs })
-    (map-in (λ i. pos (before (span_length s t) i)) (λ i. pos (before (λ k. m) i)) 0
-    (size_of s + 1)
-    (λ i q. ap pos (before-same (span_length s t) (λ k. m) i
-    (λ k p. c k (omega (arith, p, q))))))
+even_same (Some m) s t z c = sym (offsets_by-is s t) ∙ offsets-sized m s t c
 
 -- what holds the items of lists, which are few, holds them by these offsets
 reached_joins : (class : Class) (s t : Column) (y z : Layout) → AreLists class s t y

@@ -1,8 +1,6 @@
 -- Padded lists: their lanes of places, and what is made of them.
-use Rattle.std.specs.Prelude.{◌≡◌, ℕ, ◌+◌, ◌*◌, ◌<◌, ◌≤◌, nat_lt, Bool, ℤ, pos, negsuc, Option}
-use Rattle.std.specs.Prelude.{Some, None, if◌then◌else◌}
+use Rattle.std.specs.Prelude.{◌≡◌, ℕ, ◌+◌, ◌<◌, nat_lt, Bool, ℤ, pos, negsuc, if◌then◌else◌}
 use Rattle.awk_types.specs.DataType.{opt}
-use Rattle.awk_types.specs.ItemLimit.{item_limit}
 use Rattle.awk_lanes.specs.Column.{Column}
 use Rattle.awk_lanes.specs.Counted.{items_lane, offsets_by}
 use Rattle.awk_lanes.specs.Places.{size_of, place_at}
@@ -36,8 +34,3 @@ ArePadded n clip s t y z =
 pub record AreUnpadded (n : ℕ) (clip : Bool) (s t : Column) (whole : ℕ) : Type 0 where
   pub full : AreFull s t whole
   pub lengths : (i : ℕ) → i < size_of s → padded_span n clip s t i ≡ span_length s t i
-
--- how many items n lists of one size have, or none where they are more than a column may have
-abbrev pub IsEvenTotal : ℕ → ℕ → Option ℕ → Type 0
-IsEvenTotal n size None = item_limit < n * size
-IsEvenTotal n size (Some m) = (m ≡ n * size) × (m ≤ item_limit)

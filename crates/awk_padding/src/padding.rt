@@ -4,7 +4,6 @@ ghost use Rattle.awk_types.specs.Faults.{fault_told};
 ghost use Rattle.awk_types.specs.Gives.{Gives};
 ghost use Rattle.awk_layout.specs.Datum.{datum_of, IsDatum};
 ghost use Rattle.awk_axis.specs.Mapped.{IsMade};
-ghost use Rattle.awk_padding.specs.Lanes.{IsEvenTotal};
 ghost use Rattle.awk_padding.specs.PadNone.{pad_none_function, pad_none_of};
 
 use crate::padded::{PaddedLists, Padding, padded_items};
@@ -12,24 +11,10 @@ use awk_axis::{ListOp, Made, Refusal, Spoil, lift_at};
 use awk_columns::{Bounds, Lists};
 use awk_lanes::{Arena, Steps, offsets_within};
 use awk_layout::Datum;
+use awk_list_ends::even_total;
 use awk_types::{Fault, ITEM_LIMIT, NoMemory, Typ, copy_type};
 use std::alloc::Global;
 use std::sync::ledger::Ledger;
-
-/// How many items n lists of one size have, or none where they are more than a column may have.
-fn even_total(n: u64, size: u64) -> Option<u64>
-    ensures { IsEvenTotal n size result }
-{
-    match n.checked_mul(size) {
-        Some(total) => {
-            if total > ITEM_LIMIT {
-                return None;
-            }
-            Some(total)
-        }
-        None => None,
-    }
-}
 
 /// Lists that are cut to one size: no lane tells where each begins.
 fn clipped_lists<'a, L: Ledger>(

@@ -4,7 +4,7 @@ use Rattle.awk_types.specs.ItemLimit.{item_limit}
 use Rattle.awk_lanes.specs.Counted.{before}
 use Rattle.awk_lanes.specs.Places.{size_of}
 use Rattle.awk_lanes.proofs.CountedLanes.{before-equal}
-use Rattle.awk_padding.specs.Lanes.{IsEvenTotal}
+use Rattle.awk_list_ends.specs.Total.{IsEvenTotal}
 use Rattle.awk_padding.proofs.PadGiven.{padded_spoilt, padded_fine}
 use Rattle.awk_padding.proofs.padding.clipped_lists.Goals as goal
 
