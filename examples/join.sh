@@ -1,5 +1,5 @@
 #!/bin/sh
-# Joins the example sessions into the stored session of awk_examples, and their answers into its
+# Joins the example sessions into the stored session of awk_cli, and their answers into its
 # answers, so that each example is written once. That of raw/ is the stored session of
 # awk_raw_examples: a session of version 2 begins with its own line, and ends where bytes are cut.
 #
@@ -67,8 +67,8 @@ for session in $(sessions); do
     cat "$session.answers.jsonl" >>"$joined/answers"
 done
 with_all_names <"$joined/answers" >"$joined/stdout"
-store awk_examples "${1-}"
+store awk_cli "${1-}"
 
 with_raw_bytes <raw/version_2.txt >"$joined/stdin"
-cp raw/version_2.answers.jsonl "$joined/stdout"
+cat raw/version_2.answers.jsonl raw/cuts.answers.jsonl >"$joined/stdout"
 store awk_raw_examples "${1-}"

@@ -1,8 +1,8 @@
 //! The program: reads a session of lines from standard input, and writes an answer for each to
 //! standard output.
 //!
-//! `main` begins the counter of steps and hands all else to `run_program`. Its stored run is a
-//! session over muons: their pairs in each event, those of opposite charge, and their sums.
+//! `main` begins the counter of steps and hands all else to `run_program`. Its stored run is all
+//! sessions of `examples/` as one: each class, each operation and each fault.
 #![tactic(auto)]
 
 ghost use Rattle.std.specs.Prelude.{◌≡◌, ◌<◌};

@@ -1,7 +1,4 @@
-//! Runs a session of version 2 whose last line is a raw load, cut after each byte from the line
-//! itself on, one run after another. The answers of all these runs are its output.
-#![tactic(auto)]
-
+//! A session of version 2 that ends in a raw load, cut before its end.
 ghost use Rattle.std.specs.Prelude.{◌≡◌, ◌<◌};
 
 use awk_edge::{MemSource, NoMemory, StdSink};
@@ -9,8 +6,6 @@ use awk_lanes::Steps;
 use awk_run::{Status, run_words};
 use std::alloc::Global;
 use std::io;
-use std::marker::Brand;
-use std::process::ExitCode;
 use std::sync::ledger::{Blank, Ledger};
 
 // One list of two int8. The key between the others has no bytes.
@@ -20,19 +15,11 @@ const LINES: &[u8] = b"{\"session\":2}\n\
     \"form_key\":\"node0\"},\"length\":1,\"byteorder\":\">\",\
     \"raw\":[[\"node0-offsets\",8],[\"none\",0],[\"node1-data\",2]]}";
 
-// The line's end, the offsets 0 and 2, and the numbers.
-const REST: &[u8] = b"\n\x00\x00\x00\x00\x00\x00\x00\x02\x05\xff";
+/// The line's end, the offsets 0 and 2, and the numbers.
+pub(crate) const REST: &[u8] = b"\n\x00\x00\x00\x00\x00\x00\x00\x02\x05\xff";
 
-fn main(rt: HostRuntime) -> ExitCode {
-    let mut status = Status::Fine;
-    for count in 0..REST.len() + 1 {
-        status = run_counted::<Brand>(&rt, Blank::new(1), &REST[..count]);
-    }
-    ExitCode::from(status.number())
-}
-
-// A run over the lines and so much of the rest, whose steps nobody reads.
-fn run_counted<L: Ledger>(rt: &HostRuntime, blank: Blank, rest: &[u8]) -> Status
+/// A run over the lines and so much of the rest, whose steps nobody reads.
+pub(crate) fn answer_part<L: Ledger>(rt: &HostRuntime, blank: Blank, rest: &[u8]) -> Status
     requires name { blank.name ≡ L.name }
     requires parts { blank.parts ≡ L.parts }
     requires some { 0 < blank.parts }
