@@ -17,7 +17,7 @@ use Rattle.awk_layout.specs.Valid.{len, IsValid}
 use Rattle.awk_gather.specs.Arrays.{array_item}
 use Rattle.awk_gather.specs.Peeled.{IsPeeled}
 use Rattle.awk_gather.proofs.FollowedIndexes.{item_at_place}
-use Rattle.awk_open.specs.Plain.{IsPlain}
+use Rattle.awk_spread.specs.Plain.{IsPlain}
 use Rattle.awk_open.proofs.OpenedArrays.{left_same, peeled_size, peeled_places}
 use Rattle.awk_open.proofs.OpenedKinds.{item-regular}
 use Rattle.awk_heights.specs.Levels.{IsOver}

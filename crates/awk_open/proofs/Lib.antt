@@ -1,10 +1,7 @@
 pub mod LayoutParts
-pub mod UnionItems
 pub mod OpenedKinds
 pub mod OpenedArrays
 pub mod WholeLanes
-pub mod PlainNodes
-pub mod SpreadUnions
 pub mod ItemShapes
 pub mod SettledUnions
 pub mod OpenedContents

@@ -27,7 +27,7 @@ use Rattle.awk_layout.specs.Typing.{layout_types, array_type}
 use Rattle.awk_gather.specs.Arrays.{array_item}
 use Rattle.awk_lanes.specs.Made.{lane_of}
 use Rattle.awk_gather.specs.Peeled.{IsBare, IsPeeled}
-use Rattle.awk_open.specs.Plain.{IsPlain}
+use Rattle.awk_spread.specs.Plain.{IsPlain}
 use Rattle.awk_open.specs.Opened.{IsKindOf, IsOpened, IsOpenedAt, AreWithin, opened_layout}
 use Rattle.awk_open.specs.Opened.{HasLengths}
 use Rattle.awk_open.specs.declared.opening.Opened.{Opened}

@@ -28,7 +28,7 @@ use Rattle.awk_lanes.proofs.MadeLanes.{size-lane_of, at-lane_of}
 use Rattle.awk_gather_lanes.proofs.PickedLanes.{size-picked, at-picked, at-nexts, places_le}
 use Rattle.awk_gather_lanes.proofs.PickedLanes.{spans_picked, spans_of_offsets, blocks_of_places}
 use Rattle.awk_columns.proofs.ArrayLaws.{item-offset_lists}
-use Rattle.awk_open.proofs.UnionItems.{simples-types}
+use Rattle.awk_spread.proofs.UnionItems.{simples-types}
 
 -- the items of a list, simplified one by one
 pub run_simple : (t : DataType) (f : ℕ → Value) (first n : ℕ)

@@ -28,13 +28,13 @@ use Rattle.awk_gather.specs.Arrays.{array_item}
 use Rattle.awk_lanes.specs.Made.{lane_of}
 use Rattle.awk_open.specs.Opened.{IsOpened, AreWithin}
 use Rattle.awk_open.specs.declared.opening.Opened.TheVariants.{Option as Optional, Union}
-use Rattle.awk_open.specs.Spread.{spread_at, spread_of, shift, wide, nth_of, chosen, Fits, IsSpread}
-use Rattle.awk_open.specs.Spread.{or_else}
+use Rattle.awk_spread.specs.Spread.{spread_at, spread_of, shift, wide, nth_of, chosen, Fits, IsSpread}
+use Rattle.awk_spread.specs.Spread.{or_else}
 use Rattle.awk_open.specs.Settled.{settled_tag, settled_place, settled_index, IsPresentAt, AreTags}
 use Rattle.awk_open.specs.Settled.{CanUnite, IsSettled}
 use Rattle.awk_open.proofs.LayoutParts.{len_of-nth}
 use Rattle.awk_lanes.proofs.MadeLanes.{size-lane_of, at-lane_of}
-use Rattle.awk_open.proofs.UnionItems.{simples-types, item-union}
+use Rattle.awk_spread.proofs.UnionItems.{simples-types, item-union}
 use Rattle.awk_open.proofs.OpenedArrays.{all_within, option_present}
 use Rattle.awk_open.proofs.ItemShapes.{single_item, united_item, present_item, some_alternatives}
 

@@ -10,7 +10,7 @@ use Rattle.awk_layout.specs.Valid.{len, IsValid, AllValid}
 use Rattle.awk_layout.specs.Item.{at_option}
 use Rattle.awk_layout.specs.Typing.{array_type}
 use Rattle.awk_gather.specs.Arrays.{array_item}
-use Rattle.awk_open.specs.Spread.{Fits, or_else, spread_of}
+use Rattle.awk_spread.specs.Spread.{Fits, or_else, spread_of}
 
 -- the tag where the place is not negative, else another
 abbrev pub settled_tag : Column → Column → ℕ → ℕ → ℤ

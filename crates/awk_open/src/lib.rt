@@ -1,4 +1,4 @@
-//! The outermost kind of an array, with its lanes and contents; unions spread and settled.
+//! The outermost kind of an array, with its lanes and contents; unions settled.
 //!
 //! `opened` tells an array apart as `Opened`: no items, leaves, lists, rows, an option or a union,
 //! whatever classes its nodes have. `in_order` opens it so that contents hold exactly what is
@@ -9,7 +9,6 @@ mod array;
 mod opening;
 mod order;
 mod outermost;
-mod spread;
 mod taken;
 mod unions;
 mod whole;

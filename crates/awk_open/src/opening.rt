@@ -11,7 +11,7 @@ ghost use Rattle.awk_layout.specs.Typing.{array_type};
 ghost use Rattle.awk_layout.specs.Valid.{len, IsValid};
 ghost use Rattle.awk_gather_lanes.specs.Lanes.{picked, multiples, AreBlocks};
 ghost use Rattle.awk_open.specs.Opened.{IsOpened, IsOpenedAt, ArePicked, AreAllPlaces, AreWithin};
-ghost use Rattle.awk_open.specs.Plain.{IsPlain};
+ghost use Rattle.awk_spread.specs.Plain.{IsPlain};
 
 use crate::whole_index::peel_whole;
 use awk_columns::Lists;

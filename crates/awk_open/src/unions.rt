@@ -14,14 +14,14 @@ ghost use Rattle.awk_lanes.specs.Made.{lane_of};
 ghost use Rattle.awk_open.specs.Opened.{IsOpened, AreWithin};
 ghost use Rattle.awk_open.specs.Settled.{settled_tag, settled_place, settled_index, IsPresentAt};
 ghost use Rattle.awk_open.specs.Settled.{AreTags, CanUnite, IsSettled};
-ghost use Rattle.awk_open.specs.Spread.{or_else as or_else_of};
+ghost use Rattle.awk_spread.specs.Spread.{or_else as or_else_of};
 
 use crate::opening::Opened;
-use crate::spread::{Spread, alternatives};
 use awk_lanes::{
     Arena, IndexMaker, Kind, Lane, LaneMaker, NoMemory, Num, Steps, index_at, ordinals, place_in,
 };
 use awk_layout::{Array, Arrays, Node, Nodes};
+use awk_spread::{Spread, alternatives};
 use std::alloc::Global;
 use std::sync::ledger::Ledger;
 

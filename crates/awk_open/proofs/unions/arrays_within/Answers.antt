@@ -5,7 +5,7 @@ use Rattle.awk_layout.specs.Layout.{Layout}
 use Rattle.awk_layout.specs.Typing.{array_type}
 use Rattle.awk_layout.specs.Valid.{IsValid}
 use Rattle.awk_open.proofs.OpenedKinds.{within_at}
-use Rattle.awk_open.proofs.SpreadUnions.{append_more}
+use Rattle.awk_spread.proofs.SpreadUnions.{append_more}
 use Rattle.awk_open.proofs.SettledUnions.{valid_more}
 use Rattle.awk_open.proofs.unions.arrays_within.Goals as goal
 

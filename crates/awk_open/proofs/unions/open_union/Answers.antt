@@ -4,7 +4,7 @@ use Rattle.awk_lanes.specs.declared.kind.Kind.TheVariants.{I64}
 use Rattle.awk_layout.specs.Layout.{Layout}
 use Rattle.awk_layout.specs.Valid.{len}
 use Rattle.awk_lanes.specs.Made.{lane_of}
-use Rattle.awk_open.specs.Spread.{IsSpread}
+use Rattle.awk_spread.specs.Spread.{IsSpread}
 use Rattle.awk_open.proofs.OpenedArrays.{all_optional}
 use Rattle.awk_open.proofs.SettledUnions.{tags_of, can_unite, parts_within, opened_union}
 use Rattle.awk_open.proofs.unions.open_union.Goals as goal

@@ -2,8 +2,8 @@ use Rattle.std.proofs.Common.{ap, ◌∙◌}
 use Rattle.std.specs.Prelude.{pos}
 use Rattle.awk_lanes.specs.declared.kind.Kind.TheVariants.{I64}
 use Rattle.awk_lanes.specs.Made.{lane_of}
-use Rattle.awk_open.proofs.PlainNodes.{spread_kept}
-use Rattle.awk_open.proofs.spread.keep_one.Goals as goal
+use Rattle.awk_spread.proofs.PlainNodes.{spread_kept}
+use Rattle.awk_spread.proofs.spread.keep_one.Goals as goal
 
 pub returns : goal.returns
 returns c = record {

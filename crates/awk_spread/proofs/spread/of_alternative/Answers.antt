@@ -1,5 +1,5 @@
 use Rattle.awk_lanes.proofs.MadeLanes.{so_far_pushed}
-use Rattle.awk_open.proofs.spread.of_alternative.Goals as goal
+use Rattle.awk_spread.proofs.spread.of_alternative.Goals as goal
 
 pub loop-i-preserved : goal.loop-i-preserved
 loop-i-preserved g c =

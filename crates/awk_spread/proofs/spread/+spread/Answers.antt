@@ -1,8 +1,8 @@
 use Rattle.std.proofs.Common.{arith, rules}
 use Rattle.std.proofs.lemmas.Result.{IfOk-weaker}
-use Rattle.awk_open.proofs.SpreadUnions.{alternative_call, sizes_same, all_start, all_step}
-use Rattle.awk_open.proofs.SpreadUnions.{spread_end, spread_of_peeled}
-use Rattle.awk_open.proofs.spread.+spread.Goals as goal
+use Rattle.awk_spread.proofs.SpreadUnions.{alternative_call, sizes_same, all_start, all_step}
+use Rattle.awk_spread.proofs.SpreadUnions.{spread_end, spread_of_peeled}
+use Rattle.awk_spread.proofs.spread.+spread.Goals as goal
 
 pub alternatives-returns : goal.alternatives-returns
 alternatives-returns g t c = record {

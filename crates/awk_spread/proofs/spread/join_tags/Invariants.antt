@@ -1,8 +1,8 @@
 use Rattle.awk_lanes.specs.declared.kind.Kind.TheVariants as Kind
 use Rattle.awk_lanes.specs.Places.{size_of}
-use Rattle.awk_open.specs.Spread.{joined_tags}
+use Rattle.awk_spread.specs.Spread.{joined_tags}
 use Rattle.awk_lanes.proofs.MadeLanes.{IsSoFar}
-use Rattle.awk_open.proofs.spread.join_tags.Given as goal
+use Rattle.awk_spread.proofs.spread.join_tags.Given as goal
 
 abbrev pub invariant-loop-i : goal.invariant-loop-i
 invariant-loop-i g l =

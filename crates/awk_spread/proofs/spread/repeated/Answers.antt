@@ -1,6 +1,6 @@
 use Rattle.std.proofs.Common.{refl}
 use Rattle.awk_lanes.proofs.MadeLanes.{so_far_pushed}
-use Rattle.awk_open.proofs.spread.repeated.Goals as goal
+use Rattle.awk_spread.proofs.spread.repeated.Goals as goal
 
 pub loop-i-preserved : goal.loop-i-preserved
 loop-i-preserved c =

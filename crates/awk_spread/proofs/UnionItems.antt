@@ -12,7 +12,7 @@ use Rattle.awk_layout.specs.Layout.{Layout, union, layouts_from}
 use Rattle.awk_layout.specs.Item.{item_of, at_option}
 use Rattle.awk_layout.specs.Typing.{layout_types, array_type}
 use Rattle.awk_gather.specs.Arrays.{array_item}
-use Rattle.awk_open.specs.Spread.{spread_at, spread_of, shift, wide}
+use Rattle.awk_spread.specs.Spread.{spread_at, spread_of, shift, wide}
 
 after_after : (b : ℕ) (v : Value) → value_after 0 (value_after b v) ≡ value_after b v
 after_after b (int z) = let e : 0 + b ≡ b = omega arith in ap (λ q. alt q (int z)) e

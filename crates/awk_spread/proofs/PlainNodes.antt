@@ -18,8 +18,8 @@ use Rattle.awk_layout.specs.Item.{at_option, leaf_value}
 use Rattle.awk_layout.specs.Typing.{layout_types, array_type}
 use Rattle.awk_gather.specs.Arrays.{array_item}
 use Rattle.awk_lanes.specs.Made.{lane_of}
-use Rattle.awk_open.specs.Plain.{IsPlain}
-use Rattle.awk_open.specs.Spread.{spread_at, chosen, Fits, IsSpread}
+use Rattle.awk_spread.specs.Plain.{IsPlain}
+use Rattle.awk_spread.specs.Spread.{spread_at, chosen, Fits, IsSpread}
 use Rattle.awk_lanes.proofs.MadeLanes.{size-lane_of, at-lane_of}
 
 rows_alternatives : (names : Option (List Name)) (ts : DataTypes)

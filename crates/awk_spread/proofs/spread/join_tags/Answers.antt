@@ -1,7 +1,7 @@
 use Rattle.awk_lanes.proofs.MadeLanes.{so_far_pushed}
-use Rattle.awk_open.proofs.spread.join_index.Goals as goal
+use Rattle.awk_spread.proofs.spread.join_tags.Goals as goal
 
 pub loop-i-preserved : goal.loop-i-preserved
 loop-i-preserved g c =
     so_far_pushed _ _ _ c.loop-i.i _ c.loop-i.maker c.push.new.self c.push.ensures
-    c.joined_place-joined.ensures.number c.loop-i.invariant
+    c.joined_tag-joined.ensures.number c.loop-i.invariant

@@ -22,14 +22,14 @@ use Rattle.awk_layout.specs.Typing.{array_type}
 use Rattle.awk_gather.specs.Arrays.{array_item}
 use Rattle.awk_lanes.specs.Made.{lane_of}
 use Rattle.awk_gather.specs.Peeled.{through, followed, IsPeeled}
-use Rattle.awk_open.specs.Spread.{spread_at, spread_of, shift, wide, wides, nth_of, chosen, Fits}
-use Rattle.awk_open.specs.Spread.{AreChosen, IsSpread, alternative, or_else, joined_index}
-use Rattle.awk_open.specs.Spread.{joined_tags}
+use Rattle.awk_spread.specs.Spread.{spread_at, spread_of, shift, wide, wides, nth_of, chosen, Fits}
+use Rattle.awk_spread.specs.Spread.{AreChosen, IsSpread, alternative, or_else, joined_index}
+use Rattle.awk_spread.specs.Spread.{joined_tags}
 use Rattle.awk_lanes.proofs.MadeLanes.{size-lane_of, at-lane_of}
 use Rattle.awk_layout.proofs.LayoutLists.{len_of-get}
 use Rattle.awk_gather.proofs.FollowedIndexes.{size-followed, at-followed, index_followed}
 use Rattle.awk_gather.proofs.PeeledNodes.{option_same}
-use Rattle.awk_open.proofs.UnionItems.{spread-union, alternatives-union, after_option}
+use Rattle.awk_spread.proofs.UnionItems.{spread-union, alternatives-union, after_option}
 
 -- alternatives of two lists after one another
 nth-left : (xs ys : List Layout) (t : ℕ) → t < length xs → nth_of (xs ++ ys) t ≡ nth_of xs t

@@ -8,9 +8,9 @@ ghost use Rattle.awk_layout.specs.Layout.{layouts_from, union as united};
 ghost use Rattle.awk_layout.specs.Valid.{len, IsValid};
 ghost use Rattle.awk_lanes.specs.Made.{lane_of};
 ghost use Rattle.awk_gather.specs.Peeled.{through, followed, IsBare};
-ghost use Rattle.awk_open.specs.Plain.{IsPlain};
-ghost use Rattle.awk_open.specs.Spread.{IsSpread, alternative, joined_index, joined_tags};
-ghost use Rattle.awk_open.specs.Spread.{or_else as or_else_of};
+ghost use Rattle.awk_spread.specs.Plain.{IsPlain};
+ghost use Rattle.awk_spread.specs.Spread.{IsSpread, alternative, joined_index, joined_tags};
+ghost use Rattle.awk_spread.specs.Spread.{or_else as or_else_of};
 
 use awk_gather::{Peeled, peel};
 use awk_lanes::{

@@ -1,7 +1,7 @@
 use Rattle.std.proofs.Common.{◌+◌, ◌-◌, ◌*◌, ◌≤◌, length, take}
 use Rattle.awk_layout.specs.Layout.{height, heights, layouts_from}
-use Rattle.awk_open.proofs.SpreadUnions.{AreSpread}
-use Rattle.awk_open.proofs.spread.+spread.Given as goal
+use Rattle.awk_spread.proofs.SpreadUnions.{AreSpread}
+use Rattle.awk_spread.proofs.spread.+spread.Given as goal
 
 abbrev pub decreases-alternatives : goal.decreases-alternatives
 decreases-alternatives g l = 3 * height l.x.now + 1

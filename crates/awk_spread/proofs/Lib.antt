@@ -1,0 +1,3 @@
+pub mod UnionItems
+pub mod PlainNodes
+pub mod SpreadUnions
