@@ -1,16 +1,20 @@
 //! How many numbers are not 0, and how many truth values are true, counted in blocks of bytes.
-ghost use Rattle.std.specs.Prelude.{◌≡◌, ◌-◌, ◌==◌, ◌≤◌, cond, length, map, not, pos, IfSome};
+ghost use Rattle.std.specs.Prelude.{◌≡◌, ◌-◌, ◌==◌, ◌≤◌, cond, length, map, not, pos, IfOk};
 ghost use Rattle.std.specs.List.{slice_range, sum_by, count_by};
 ghost use Rattle.awk_kernels.specs.Kernels.{count_true};
+ghost use Rattle.awk_lanes.specs.Made.{lane_of};
 ghost use Rattle.awk_lanes.specs.Numbers.{element, is_nonzero};
 ghost use Rattle.awk_lanes.specs.declared.kind.Kind.TheVariants as Kind;
-ghost use Rattle.awk_numbers.specs.Folds.{whole_numbers};
-ghost use Rattle.awk_parts.specs.Truths.{IsCounted};
+ghost use Rattle.awk_numbers.specs.Folds.{tallied, whole_numbers};
+ghost use Rattle.awk_numbers.specs.declared.tallies.Tally.TheVariants as tally;
+ghost use Rattle.awk_parts.specs.Lanes.{tallied_at};
+ghost use Rattle.awk_parts.specs.Spans.{span_count, AreSpanned};
 
 use crate::blocks::is_true;
 use crate::cells::Cell;
-use crate::parts::Span;
-use awk_numbers::{Tally, Whole};
+use crate::parts::{Parts, Span, span_of};
+use awk_lanes::{Arena, Kind, Lane, NoMemory, Num, Numbers, Steps, made_lane, number};
+use std::sync::ledger::Ledger;
 
 /// 1 for a byte that is not 0, else 0.
 #[inline(always)]
@@ -78,18 +82,75 @@ fn count_set(bytes: &[u8]) -> u64
     blocks_count::<64>(blocks) + count_short(rest)
 }
 
-/// How many truth values from a start below a stop are true, where that is asked for.
-fn truths_counted(how: Tally, bytes: &[u8], span: Span) -> Option<u64>
+/// How many truth values from a start below a stop are true.
+#[inline(always)]
+fn truths_counted(bytes: &[u8], span: Span) -> u64
     requires order { span.start ≤ span.stop }
     requires within { span.stop ≤ length bytes.now }
     requires few { span.stop - span.start ≤ 1073741824 }
-    ensures { IfSome result (IsCounted how
-        (slice_range (map (λ b. element Kind.Bool (pos b)) bytes.now) span.start span.stop)) }
+    ensures count { pos result ≡ tallied tally.Nonzero
+        (slice_range (map (λ b. element Kind.Bool (pos b)) bytes.now) span.start span.stop) }
+    ensures few { result ≤ 1073741824 }
 {
-    match how {
-        Tally::Nonzero => Some(count_set(&bytes[span.start as usize..span.stop as usize])),
-        Tally::Items | Tally::Any | Tally::All => None,
+    count_set(&bytes[span.start as usize..span.stop as usize])
+}
+
+/// How many truth values of each part are true.
+#[derive(Drop)]
+struct TruthCounts<'c, 'b, 'a> {
+    bytes: &'c [u8],
+    parts: &'c Parts<'b, 'a>,
+}
+
+impl<'c, 'b, 'a> Numbers for TruthCounts<'c, 'b, 'a> {
+    ghost use Rattle.std.specs.Prelude.{◌≡◌, map, pos};
+    ghost use Rattle.awk_lanes.specs.Numbers.{element};
+    ghost use Rattle.awk_lanes.specs.declared.kind.Kind.TheVariants as Kind;
+    ghost use Rattle.awk_numbers.specs.Folds.{whole_numbers};
+    ghost use Rattle.awk_numbers.specs.declared.tallies.Tally.TheVariants as tally;
+    ghost use Rattle.awk_parts.specs.Lanes.{tallied_at};
+    ghost use Rattle.awk_parts.specs.Spans.{span_count, AreSpanned};
+
+    ghost kind = { λ _. Kind.I64 };
+
+    ghost at = { λ f. tallied_at tally.Nonzero (whole_numbers f.parts.now.numbers.now)
+        f.parts.now.spans.now };
+
+    ghost size = { λ f. span_count f.parts.now.spans.now };
+
+    ghost IsReady = { λ f.
+        (whole_numbers f.parts.now.numbers.now
+        ≡ map (λ b. element Kind.Bool (pos b)) f.bytes.now)
+        × AreSpanned (whole_numbers f.parts.now.numbers.now) f.parts.now.spans.now };
+
+    #[inline(always)]
+    fn number<L: Ledger>(&self, i: u64, _steps: &mut Steps<L>) -> Num {
+        number(truths_counted(self.bytes, span_of(self.parts, i)))
     }
+}
+
+/// How many truth values of each part are true, as a lane.
+pub(crate) fn truth_counts<'a, L: Ledger>(
+    bytes: &[u8],
+    parts: &Parts,
+    arena: &'a Arena,
+    steps: &mut Steps<L>,
+) -> Result<Lane<'a>, NoMemory>
+    requires numbers { whole_numbers parts.now.numbers.now
+        ≡ map (λ b. element Kind.Bool (pos b)) bytes.now }
+    requires parts { AreSpanned (whole_numbers parts.now.numbers.now) parts.now.spans.now }
+    ensures { let count = span_count parts.now.spans.now in
+        IfOk result (λ r. r ≡ lane_of Kind.I64 count
+        (tallied_at tally.Nonzero (whole_numbers parts.now.numbers.now) parts.now.spans.now)) }
+{
+    let count = parts.spans.starts.len() as u64;
+    made_lane(
+        Kind::I64,
+        count,
+        &TruthCounts { bytes, parts },
+        arena,
+        steps,
+    )
 }
 
 /// 1 for true, else 0.
@@ -103,7 +164,7 @@ fn one_if_true(told: bool) -> u64
 
 /// How many numbers are not 0.
 #[inline(always)]
-fn nonzero_in<const W: usize, C: Cell<W>>(groups: &[[u8; W]]) -> u64
+pub(crate) fn nonzero_in<const W: usize, C: Cell<W>>(groups: &[[u8; W]]) -> u64
     requires few { length groups.now ≤ 1073741824 }
     ensures { result ≡ count_by is_nonzero (map C.number groups.now) }
 {
@@ -112,45 +173,4 @@ fn nonzero_in<const W: usize, C: Cell<W>>(groups: &[[u8; W]]) -> u64
         count += one_if_true(is_true::<W, C>(groups, i));
     }
     count
-}
-
-/// How many numbers of cells from a start below a stop are not 0, where that is asked for.
-fn cells_counted<const W: usize, C: Cell<W>>(
-    how: Tally,
-    groups: &[[u8; W]],
-    span: Span,
-) -> Option<u64>
-    requires order { span.start ≤ span.stop }
-    requires within { span.stop ≤ length groups.now }
-    requires few { span.stop - span.start ≤ 1073741824 }
-    ensures { IfSome result
-        (IsCounted how (slice_range (map C.number groups.now) span.start span.stop)) }
-{
-    let part = &groups[span.start as usize..span.stop as usize];
-    match how {
-        Tally::Nonzero => Some(nonzero_in::<W, C>(part)),
-        Tally::Items | Tally::Any | Tally::All => None,
-    }
-}
-
-/// How many numbers from a start below a stop are not 0, where that is asked for and they fit an
-/// i64. There is a loop for each kind.
-pub(crate) fn counted_early(how: Tally, numbers: &Whole, span: Span) -> Option<u64>
-    requires order { span.start ≤ span.stop }
-    requires within { span.stop ≤ length (whole_numbers numbers.now) }
-    requires few { span.stop - span.start ≤ 1073741824 }
-    ensures { IfSome result
-        (IsCounted how (slice_range (whole_numbers numbers.now) span.start span.stop)) }
-{
-    match *numbers {
-        Whole::Truths(bytes) => truths_counted(how, bytes, span),
-        Whole::I8(groups) => cells_counted::<1, i8>(how, groups, span),
-        Whole::I16(groups) => cells_counted::<2, i16>(how, groups, span),
-        Whole::I32(groups) => cells_counted::<4, i32>(how, groups, span),
-        Whole::I64(groups) => cells_counted::<8, i64>(how, groups, span),
-        Whole::U8(groups) => cells_counted::<1, u8>(how, groups, span),
-        Whole::U16(groups) => cells_counted::<2, u16>(how, groups, span),
-        Whole::U32(groups) => cells_counted::<4, u32>(how, groups, span),
-        Whole::U64(_) => None,
-    }
 }

@@ -1,124 +1,22 @@
 //! Sums and products of parts.
-ghost use Rattle.std.specs.Prelude.{◌<◌, ◌≤◌, IfOk};
-ghost use Rattle.awk_types.specs.declared.primitive.Primitive.TheVariants as Prims;
-ghost use Rattle.awk_numbers.specs.Folds.{whole_numbers, IsNear};
-ghost use Rattle.awk_parts.specs.Fits.{IsFitting, AreFitting};
+ghost use Rattle.std.specs.Prelude.{◌≡◌, map, pos, IfOk};
+ghost use Rattle.awk_lanes.specs.Numbers.{element};
+ghost use Rattle.awk_lanes.specs.declared.kind.Kind.TheVariants as Kind;
+ghost use Rattle.awk_numbers.specs.Folds.{whole_numbers};
+ghost use Rattle.awk_numbers.specs.declared.folds.Fold.TheVariants as fold;
+ghost use Rattle.awk_parts.specs.Fits.{AreFitting};
 ghost use Rattle.awk_parts.specs.Lanes.{folded_at};
 ghost use Rattle.awk_parts.specs.Spans.{span_count, AreSpanned};
 
-use crate::fits::fitting;
 use crate::parts::{Parts, span_of};
-use crate::sums::folded_early;
-use awk_lanes::{Arena, IndexMaker, Lane, LaneMaker, NoMemory, Num, Steps};
-use awk_layout::kind_of;
-use awk_numbers::{Fold, folded};
+use crate::products::folded_early;
+use crate::sums::{int_sums, narrow_sums};
+use crate::totals::{Totals, fitting_lane};
+use crate::wide::truth_groups;
+use awk_lanes::{Arena, Lane, NoMemory, Steps};
+use awk_numbers::{Fold, Whole, folded};
 use awk_types::Prim;
 use std::sync::ledger::Ledger;
-
-/// Exact numbers by their places.
-pub trait Totals {
-    ghost use Rattle.std.specs.Prelude.{ℕ, ℤ};
-    ghost use Rattle.awk_numbers.specs.Folds.{IsNear};
-
-    /// The number at a place.
-    ghost at: { Self → ℕ → ℤ };
-
-    /// How many numbers may be asked for.
-    ghost size: { Self → ℕ };
-
-    /// What the numbers rest on.
-    ghost IsReady: { Self → Type 0 } = { λ _. Unit {0} };
-
-    /// The number at place i, or none where no number of 64 bits is so far from 0.
-    fn total<L: Ledger>(&self, i: u64, steps: &mut Steps<L>) -> Option<i128>
-        requires ready { IsReady self.now }
-        requires within { i < size self.now }
-        ensures { IsNear (at self.now i) result };
-}
-
-/// The number at place i as one of a primitive, if it is one.
-#[inline(always)]
-fn total_at<S: Totals, L: Ledger>(
-    prim: Prim,
-    source: &S,
-    i: u64,
-    steps: &mut Steps<L>,
-) -> Option<Num>
-    requires ready { S.IsReady source.now }
-    requires within { i < S.size source.now }
-    ensures { IsFitting prim (S.at source.now i) result }
-{
-    match source.total(i, steps) {
-        Some(z) => fitting(prim, z),
-        None => None,
-    }
-}
-
-/// The first n numbers as those of a primitive, or none where one does not fit.
-#[inline(always)]
-#[tactic(auto, using(awk_lanes::proofs::MadeLanes::making))]
-fn fitting_numbers<'a, S: Totals, L: Ledger>(
-    prim: Prim,
-    n: u64,
-    source: &S,
-    arena: &'a Arena,
-    steps: &mut Steps<L>,
-) -> Result<Option<Lane<'a>>, NoMemory>
-    requires ready { S.IsReady source.now }
-    requires within { n ≤ S.size source.now }
-    ensures { IfOk result (AreFitting prim (S.at source.now) n) }
-{
-    let mut maker = LaneMaker::new(kind_of(prim), n, arena)?;
-    for i in 0..n {
-        match total_at(prim, source, i, steps) {
-            Some(number) => maker.push(number),
-            None => return Ok(None),
-        }
-    }
-    Ok(Some(maker.finish()))
-}
-
-/// The same of i64, whose lane is made without asking for its kind.
-#[tactic(auto, using(awk_lanes::proofs::MadeLanes::making))]
-fn fitting_ints<'a, S: Totals, L: Ledger>(
-    n: u64,
-    source: &S,
-    arena: &'a Arena,
-    steps: &mut Steps<L>,
-) -> Result<Option<Lane<'a>>, NoMemory>
-    requires ready { S.IsReady source.now }
-    requires within { n ≤ S.size source.now }
-    ensures { IfOk result (AreFitting Prims.I64 (S.at source.now) n) }
-{
-    let mut maker = IndexMaker::new(n, arena)?;
-    for i in 0..n {
-        match total_at(Prim::I64, source, i, steps) {
-            Some(number) => maker.push(number),
-            None => return Ok(None),
-        }
-    }
-    Ok(Some(maker.finish()))
-}
-
-/// The first n numbers as those of a primitive, or none where one does not fit. There is a loop for
-/// each primitive that sums and products are of.
-pub fn fitting_lane<'a, S: Totals, L: Ledger>(
-    prim: Prim,
-    n: u64,
-    source: &S,
-    arena: &'a Arena,
-    steps: &mut Steps<L>,
-) -> Result<Option<Lane<'a>>, NoMemory>
-    requires ready { S.IsReady source.now }
-    requires within { n ≤ S.size source.now }
-    ensures { IfOk result (AreFitting prim (S.at source.now) n) }
-{
-    match prim {
-        Prim::I64 => fitting_ints(n, source, arena, steps),
-        Prim::U64 => fitting_numbers(Prim::U64, n, source, arena, steps),
-        _ => fitting_numbers(prim, n, source, arena, steps),
-    }
-}
 
 /// The sums or products of parts.
 #[derive(Drop)]
@@ -149,8 +47,9 @@ impl<'c, 'b, 'a> Totals for PartTotals<'c, 'b, 'a> {
     }
 }
 
-/// The sums or products of parts as numbers of a primitive, or none where one does not fit.
-pub fn fold_parts<'a, L: Ledger>(
+/// The sums or products of parts of numbers of any kind as numbers of a primitive, or none where
+/// one does not fit.
+fn whole_folds<'a, L: Ledger>(
     how: Fold,
     prim: Prim,
     parts: &Parts,
@@ -164,4 +63,65 @@ pub fn fold_parts<'a, L: Ledger>(
     let count = parts.spans.starts.len() as u64;
     let totals = PartTotals { how, parts };
     fitting_lane(prim, count, &totals, arena, steps)
+}
+
+/// The sums of parts of truth values.
+fn truth_sums<'a, L: Ledger>(
+    prim: Prim,
+    bytes: &[u8],
+    parts: &Parts,
+    arena: &'a Arena,
+    steps: &mut Steps<L>,
+) -> Result<Option<Lane<'a>>, NoMemory>
+    requires numbers { whole_numbers parts.now.numbers.now
+        ≡ map (λ b. element Kind.Bool (pos b)) bytes.now }
+    requires parts { AreSpanned (whole_numbers parts.now.numbers.now) parts.now.spans.now }
+    ensures { IfOk result (AreFitting prim (folded_at fold.Sum
+        (whole_numbers parts.now.numbers.now) parts.now.spans.now)
+        (span_count parts.now.spans.now)) }
+{
+    narrow_sums::<1, bool, L>(prim, truth_groups(bytes), parts, arena, steps)
+}
+
+/// The sums of parts. There is a loop for each kind of numbers that fit an i64.
+fn sum_parts<'a, L: Ledger>(
+    prim: Prim,
+    parts: &Parts,
+    arena: &'a Arena,
+    steps: &mut Steps<L>,
+) -> Result<Option<Lane<'a>>, NoMemory>
+    requires { AreSpanned (whole_numbers parts.now.numbers.now) parts.now.spans.now }
+    ensures { IfOk result (AreFitting prim (folded_at fold.Sum
+        (whole_numbers parts.now.numbers.now) parts.now.spans.now)
+        (span_count parts.now.spans.now)) }
+{
+    match *parts.numbers {
+        Whole::Truths(bytes) => truth_sums(prim, bytes, parts, arena, steps),
+        Whole::I8(groups) => narrow_sums::<1, i8, L>(prim, groups, parts, arena, steps),
+        Whole::I16(groups) => narrow_sums::<2, i16, L>(prim, groups, parts, arena, steps),
+        Whole::I32(groups) => narrow_sums::<4, i32, L>(prim, groups, parts, arena, steps),
+        Whole::I64(groups) => int_sums(prim, groups, parts, arena, steps),
+        Whole::U8(groups) => narrow_sums::<1, u8, L>(prim, groups, parts, arena, steps),
+        Whole::U16(groups) => narrow_sums::<2, u16, L>(prim, groups, parts, arena, steps),
+        Whole::U32(groups) => narrow_sums::<4, u32, L>(prim, groups, parts, arena, steps),
+        Whole::U64(_) => whole_folds(Fold::Sum, prim, parts, arena, steps),
+    }
+}
+
+/// The sums or products of parts as numbers of a primitive, or none where one does not fit.
+pub fn fold_parts<'a, L: Ledger>(
+    how: Fold,
+    prim: Prim,
+    parts: &Parts,
+    arena: &'a Arena,
+    steps: &mut Steps<L>,
+) -> Result<Option<Lane<'a>>, NoMemory>
+    requires { AreSpanned (whole_numbers parts.now.numbers.now) parts.now.spans.now }
+    ensures { IfOk result (AreFitting prim (folded_at how (whole_numbers parts.now.numbers.now)
+        parts.now.spans.now) (span_count parts.now.spans.now)) }
+{
+    match how {
+        Fold::Sum => sum_parts(prim, parts, arena, steps),
+        Fold::Product => whole_folds(Fold::Product, prim, parts, arena, steps),
+    }
 }

@@ -5,10 +5,10 @@
 //! or none where one does not fit its primitive, and `tally_parts` their counts; `extremes_of` is
 //! the least or the greatest of each part, `places_of` where it stands; `present_parts` tells which
 //! parts have a number. `fitting_lane` makes a lane of any numbers that are judged so (`Totals`).
-//! Numbers that fit an i64 are compared and counted as such, in a loop for each kind, and their
-//! sums and products are made in numbers of 64 bits where these hold them. Whether some or all of a
-//! part are not 0 is told of them at the first block that settles it; true truth values are counted
-//! a block at a time.
+//! Numbers that fit an i64 are compared, counted and summed as such, in a loop over the parts for
+//! each kind and each question, which no part asks again. A sum of numbers of i64 goes on in 128
+//! bits where it is found in no 64, as a product does. Whether some or all of a part are not 0 is
+//! told at the first block that settles it; true truth values are counted a block at a time.
 #![tactic(auto)]
 
 mod blocks;
@@ -20,14 +20,17 @@ mod folds;
 mod offsets;
 mod parts;
 mod places;
+mod products;
+mod rules;
 mod sums;
 mod tallies;
-mod truths;
+mod totals;
 mod wide;
 
 pub use extremes::{extremes_of, zero_of};
-pub use folds::{Totals, fitting_lane, fold_parts};
+pub use folds::fold_parts;
 pub use offsets::offset_at;
 pub use parts::{Parts, Spans, span_length, spans_between, spans_of};
 pub use places::{number_of_place, places_of, present_parts};
 pub use tallies::{kind_of_tally, tally_parts};
+pub use totals::{Totals, fitting_lane};

@@ -1,17 +1,26 @@
-//! Sums and products of numbers that fit an i64, made in numbers of 64 bits where these hold them.
-ghost use Rattle.std.specs.Prelude.{◌≡◌, ◌-◌, ◌<◌, ◌≤◌, ◌*ℤ◌, ℤ, pos, get_or, length, map, Some};
-ghost use Rattle.std.specs.Prelude.{unsigned_abs, IfSome, FitsSigned};
+//! Sums of parts of numbers that fit an i64, made in numbers of 64 bits where these hold them.
+ghost use Rattle.std.specs.Prelude.{◌≡◌, ◌-◌, ◌<◌, ◌≤◌, ◌+ℤ◌, ℤ, pos, get_or, length, map, Some};
+ghost use Rattle.std.specs.Prelude.{unsigned_abs, IfOk, IfSome, FitsSigned};
 ghost use Rattle.std.specs.Int.{w64};
 ghost use Rattle.std.specs.List.{slice_range};
 ghost use Rattle.awk_kernels.specs.Kernels.{total};
 ghost use Rattle.awk_lanes.specs.Numbers.{number};
 ghost use Rattle.awk_lanes.specs.declared.kind.Kind.TheVariants as Kind;
-ghost use Rattle.awk_numbers.specs.Folds.{folded, product, whole_numbers};
+ghost use Rattle.awk_numbers.specs.Folds.{whole_numbers};
+ghost use Rattle.awk_numbers.specs.declared.folds.Fold.TheVariants as fold;
+ghost use Rattle.awk_parts.specs.Fits.{AreFitting};
+ghost use Rattle.awk_parts.specs.Lanes.{folded_at};
+ghost use Rattle.awk_parts.specs.Spans.{span_count, AreSpanned};
 
 use crate::cells::Cell;
-use crate::parts::Span;
-use crate::wide::{number_at, truth_groups};
-use awk_numbers::{Fold, Whole};
+use crate::parts::{Parts, Span, span_of};
+use crate::totals::{Totals, fitting_lane};
+use crate::wide::number_at;
+use awk_lanes::{Arena, Lane, NoMemory, Steps};
+use awk_numbers::{Fold, folded};
+use awk_types::Prim;
+use std::marker::PhantomData;
+use std::sync::ledger::Ledger;
 
 /// The number at place i, which needs no more than 32 bits beside its sign.
 #[inline(always)]
@@ -38,23 +47,94 @@ fn sum_in<const W: usize, C: Cell<W>>(groups: &[[u8; W]]) -> i64
     sum
 }
 
-/// A product, if it is one of 64 bits.
+/// The sum of such numbers from a start below a stop.
 #[inline(always)]
-fn times(so_far: i64, factor: i64) -> Option<i64>
-    ensures product { IfSome result (λ z. z ≡ so_far *ℤ factor) }
-    ensures fits { (z : ℤ) → result ≡ Some z → FitsSigned w64 z }
+fn narrow_sum<const W: usize, C: Cell<W>>(groups: &[[u8; W]], span: Span) -> i64
+    requires narrow { C.reach ≤ 4294967296 }
+    requires order { span.start ≤ span.stop }
+    requires within { span.stop ≤ length groups.now }
+    requires few { span.stop - span.start ≤ 1073741824 }
+    ensures { result ≡ total (slice_range (map C.number groups.now) span.start span.stop) }
 {
-    so_far.checked_mul(factor)
+    sum_in::<W, C>(&groups[span.start as usize..span.stop as usize])
 }
 
-/// The product of numbers, or none where the product of the first ones is not one of 64 bits.
-#[inline(always)]
-fn product_in<const W: usize, C: Cell<W>>(groups: &[[u8; W]]) -> Option<i64>
-    ensures { IfSome result (λ z. z ≡ product (map C.number groups.now)) }
+/// The sums of parts of such numbers.
+#[derive(Drop)]
+struct NarrowSums<'c, 'b, 'a, const W: usize, C: Cell<W>> {
+    groups: &'c [[u8; W]],
+    parts: &'c Parts<'b, 'a>,
+    cell: PhantomData<C>,
+}
+
+impl<'c, 'b, 'a, const W: usize, C: Cell<W>> Totals for NarrowSums<'c, 'b, 'a, W, C> {
+    ghost use Rattle.std.specs.Prelude.{◌≡◌, ◌≤◌, map};
+    ghost use Rattle.awk_numbers.specs.Folds.{whole_numbers};
+    ghost use Rattle.awk_numbers.specs.declared.folds.Fold.TheVariants as fold;
+    ghost use Rattle.awk_parts.specs.Lanes.{folded_at};
+    ghost use Rattle.awk_parts.specs.Spans.{span_count, AreSpanned};
+
+    ghost at = { λ f. folded_at fold.Sum (whole_numbers f.parts.now.numbers.now)
+        f.parts.now.spans.now };
+
+    ghost size = { λ f. span_count f.parts.now.spans.now };
+
+    ghost IsReady = { λ f. (W ≤ 8)
+        × (C.reach ≤ 4294967296)
+        × (whole_numbers f.parts.now.numbers.now ≡ map C.number f.groups.now)
+        × AreSpanned (whole_numbers f.parts.now.numbers.now) f.parts.now.spans.now };
+
+    #[inline(always)]
+    fn total<L: Ledger>(&self, i: u64, _steps: &mut Steps<L>) -> Option<i128> {
+        let sum = narrow_sum::<W, C>(self.groups, span_of(self.parts, i));
+        Some(i128::from(sum))
+    }
+}
+
+/// The sums of parts of such numbers as numbers of a primitive, or none where one does not fit.
+pub(crate) fn narrow_sums<'a, const W: usize, C: Cell<W>, L: Ledger>(
+    prim: Prim,
+    groups: &[[u8; W]],
+    parts: &Parts,
+    arena: &'a Arena,
+    steps: &mut Steps<L>,
+) -> Result<Option<Lane<'a>>, NoMemory>
+    requires width { W ≤ 8 }
+    requires narrow { C.reach ≤ 4294967296 }
+    requires numbers { whole_numbers parts.now.numbers.now ≡ map C.number groups.now }
+    requires parts { AreSpanned (whole_numbers parts.now.numbers.now) parts.now.spans.now }
+    ensures { IfOk result (AreFitting prim (folded_at fold.Sum
+        (whole_numbers parts.now.numbers.now) parts.now.spans.now)
+        (span_count parts.now.spans.now)) }
 {
-    let mut so_far: i64 = 1;
+    let count = parts.spans.starts.len() as u64;
+    let sums: NarrowSums<'_, '_, '_, W, C> = NarrowSums {
+        groups,
+        parts,
+        cell: PhantomData,
+    };
+    fitting_lane(prim, count, &sums, arena, steps)
+}
+
+// ---- numbers of i64
+
+/// A sum, if it is one of 64 bits.
+#[inline(always)]
+fn plus(so_far: i64, next: i64) -> Option<i64>
+    ensures sum { IfSome result (λ z. z ≡ so_far +ℤ next) }
+    ensures fits { (z : ℤ) → result ≡ Some z → FitsSigned w64 z }
+{
+    so_far.checked_add(next)
+}
+
+/// The sum of numbers, or none where the sum of the first ones is not one of 64 bits.
+#[inline(always)]
+fn int_sum_in(groups: &[[u8; 8]]) -> Option<i64>
+    ensures { IfSome result (λ z. z ≡ total (map (number Kind.I64) groups.now)) }
+{
+    let mut so_far: i64 = 0;
     for i in 0..groups.len() {
-        match times(so_far, number_at::<W, C>(groups, i)) {
+        match plus(so_far, number_at::<8, i64>(groups, i)) {
             Some(next) => so_far = next,
             None => return None,
         }
@@ -62,58 +142,66 @@ fn product_in<const W: usize, C: Cell<W>>(groups: &[[u8; W]]) -> Option<i64>
     Some(so_far)
 }
 
-/// The sum or product of the numbers of cells from a start below a stop, if it is found in numbers
-/// of 64 bits.
-fn narrow_folded<const W: usize, C: Cell<W>>(
-    how: Fold,
-    groups: &[[u8; W]],
-    span: Span,
-) -> Option<i64>
-    requires narrow { C.reach ≤ 4294967296 }
-    requires order { span.start ≤ span.stop }
-    requires within { span.stop ≤ length groups.now }
-    requires few { span.stop - span.start ≤ 1073741824 }
-    ensures { IfSome result (λ z. z
-        ≡ folded how (slice_range (map C.number groups.now) span.start span.stop)) }
-{
-    let part = &groups[span.start as usize..span.stop as usize];
-    match how {
-        Fold::Sum => Some(sum_in::<W, C>(part)),
-        Fold::Product => product_in::<W, C>(part),
-    }
-}
-
-/// The same of numbers of i64, of which none but the product is looked for.
-fn wide_folded(how: Fold, groups: &[[u8; 8]], span: Span) -> Option<i64>
+/// The sum of numbers from a start below a stop, if it is found in numbers of 64 bits.
+#[inline(always)]
+fn int_sum(groups: &[[u8; 8]], span: Span) -> Option<i64>
     requires order { span.start ≤ span.stop }
     requires within { span.stop ≤ length groups.now }
     ensures { IfSome result (λ z. z
-        ≡ folded how (slice_range (map (number Kind.I64) groups.now) span.start span.stop)) }
+        ≡ total (slice_range (map (number Kind.I64) groups.now) span.start span.stop)) }
 {
-    match how {
-        Fold::Sum => None,
-        Fold::Product => { product_in::<8, i64>(&groups[span.start as usize..span.stop as usize]) }
+    int_sum_in(&groups[span.start as usize..span.stop as usize])
+}
+
+/// The sums of parts of numbers of i64.
+#[derive(Drop)]
+struct IntSums<'c, 'b, 'a> {
+    groups: &'c [[u8; 8]],
+    parts: &'c Parts<'b, 'a>,
+}
+
+impl<'c, 'b, 'a> Totals for IntSums<'c, 'b, 'a> {
+    ghost use Rattle.std.specs.Prelude.{◌≡◌, map};
+    ghost use Rattle.awk_lanes.specs.Numbers.{number};
+    ghost use Rattle.awk_lanes.specs.declared.kind.Kind.TheVariants as Kind;
+    ghost use Rattle.awk_numbers.specs.Folds.{whole_numbers};
+    ghost use Rattle.awk_numbers.specs.declared.folds.Fold.TheVariants as fold;
+    ghost use Rattle.awk_parts.specs.Lanes.{folded_at};
+    ghost use Rattle.awk_parts.specs.Spans.{span_count, AreSpanned};
+
+    ghost at = { λ f. folded_at fold.Sum (whole_numbers f.parts.now.numbers.now)
+        f.parts.now.spans.now };
+
+    ghost size = { λ f. span_count f.parts.now.spans.now };
+
+    ghost IsReady = { λ f.
+        (whole_numbers f.parts.now.numbers.now ≡ map (number Kind.I64) f.groups.now)
+        × AreSpanned (whole_numbers f.parts.now.numbers.now) f.parts.now.spans.now };
+
+    #[inline(always)]
+    fn total<L: Ledger>(&self, i: u64, _steps: &mut Steps<L>) -> Option<i128> {
+        let span = span_of(self.parts, i);
+        match int_sum(self.groups, span) {
+            Some(z) => Some(i128::from(z)),
+            None => folded(Fold::Sum, self.parts.numbers, span.start, span.stop),
+        }
     }
 }
 
-/// The sum or product of the numbers from a start below a stop, if it is found in numbers of 64
-/// bits. There is a loop for each kind.
-pub(crate) fn folded_early(how: Fold, numbers: &Whole, span: Span) -> Option<i64>
-    requires order { span.start ≤ span.stop }
-    requires within { span.stop ≤ length (whole_numbers numbers.now) }
-    requires few { span.stop - span.start ≤ 1073741824 }
-    ensures { IfSome result (λ z. z
-        ≡ folded how (slice_range (whole_numbers numbers.now) span.start span.stop)) }
+/// The sums of parts of numbers of i64 as numbers of a primitive, or none where one does not fit.
+pub(crate) fn int_sums<'a, L: Ledger>(
+    prim: Prim,
+    groups: &[[u8; 8]],
+    parts: &Parts,
+    arena: &'a Arena,
+    steps: &mut Steps<L>,
+) -> Result<Option<Lane<'a>>, NoMemory>
+    requires numbers { whole_numbers parts.now.numbers.now ≡ map (number Kind.I64) groups.now }
+    requires parts { AreSpanned (whole_numbers parts.now.numbers.now) parts.now.spans.now }
+    ensures { IfOk result (AreFitting prim (folded_at fold.Sum
+        (whole_numbers parts.now.numbers.now) parts.now.spans.now)
+        (span_count parts.now.spans.now)) }
 {
-    match *numbers {
-        Whole::Truths(bytes) => narrow_folded::<1, bool>(how, truth_groups(bytes), span),
-        Whole::I8(groups) => narrow_folded::<1, i8>(how, groups, span),
-        Whole::I16(groups) => narrow_folded::<2, i16>(how, groups, span),
-        Whole::I32(groups) => narrow_folded::<4, i32>(how, groups, span),
-        Whole::I64(groups) => wide_folded(how, groups, span),
-        Whole::U8(groups) => narrow_folded::<1, u8>(how, groups, span),
-        Whole::U16(groups) => narrow_folded::<2, u16>(how, groups, span),
-        Whole::U32(groups) => narrow_folded::<4, u32>(how, groups, span),
-        Whole::U64(_) => None,
-    }
+    let count = parts.spans.starts.len() as u64;
+    fitting_lane(prim, count, &IntSums { groups, parts }, arena, steps)
 }

@@ -1,17 +1,18 @@
 //! Counts of parts, and whether some or all of their numbers are not 0.
-ghost use Rattle.std.specs.Prelude.{◌≡◌, ◌-◌, ◌≤◌, length, IfOk};
-ghost use Rattle.std.specs.List.{slice_range};
+ghost use Rattle.std.specs.Prelude.{◌≡◌, map, pos, IfOk};
 ghost use Rattle.awk_lanes.specs.Made.{lane_of};
-ghost use Rattle.awk_lanes.specs.Numbers.{int_of, IsOf};
-ghost use Rattle.awk_numbers.specs.Folds.{whole_numbers, tallied, tally_kind};
+ghost use Rattle.awk_lanes.specs.Numbers.{element};
+ghost use Rattle.awk_lanes.specs.declared.kind.Kind.TheVariants as Kinds;
+ghost use Rattle.awk_numbers.specs.Folds.{whole_numbers, tally_kind};
 ghost use Rattle.awk_parts.specs.Lanes.{tallied_at};
 ghost use Rattle.awk_parts.specs.Spans.{span_count, AreSpanned};
 
-use crate::counts::counted_early;
-use crate::parts::{Parts, Span, span_of};
-use crate::truths::told_early;
+use crate::counts::truth_counts;
+use crate::parts::{Parts, span_of};
+use crate::rules::cell_tallies;
+use crate::wide::truth_groups;
 use awk_kernels::Kernels;
-use awk_lanes::{Arena, Kind, Lane, NoMemory, Num, Numbers, Steps, made_lane, number};
+use awk_lanes::{Arena, Kind, Lane, NoMemory, Num, Numbers, Steps, made_lane};
 use awk_numbers::{Tally, Whole, tally_of};
 use std::sync::ledger::Ledger;
 
@@ -22,22 +23,6 @@ pub fn kind_of_tally(how: Tally) -> Kind
     match how {
         Tally::Items | Tally::Nonzero => Kind::I64,
         Tally::Any | Tally::All => Kind::Bool,
-    }
-}
-
-/// What is told of the numbers from a start below a stop. Those that fit an i64 are counted in a
-/// loop for each kind.
-fn counted<N: Kernels>(how: Tally, numbers: &Whole, span: Span, kernels: &N) -> Num
-    requires order { span.start ≤ span.stop }
-    requires within { span.stop ≤ length (whole_numbers numbers.now) }
-    requires few { span.stop - span.start ≤ 1073741824 }
-    ensures number { int_of result
-        ≡ tallied how (slice_range (whole_numbers numbers.now) span.start span.stop) }
-    ensures kind { IsOf (tally_kind how) result }
-{
-    match counted_early(how, numbers, span) {
-        Some(n) => number(n),
-        None => tally_of(how, numbers, span.start, span.stop, kernels),
     }
 }
 
@@ -64,18 +49,20 @@ impl<'c, 'b, 'a, N: Kernels> Numbers for TalliedParts<'c, 'b, 'a, N> {
     ghost IsReady = { λ f. AreSpanned (whole_numbers f.parts.now.numbers.now)
         f.parts.now.spans.now };
 
-    fn number<L: Ledger>(&self, i: u64, steps: &mut Steps<L>) -> Num {
-        let numbers = self.parts.numbers;
+    fn number<L: Ledger>(&self, i: u64, _steps: &mut Steps<L>) -> Num {
         let span = span_of(self.parts, i);
-        match told_early(self.how, numbers, span) {
-            Some(told) => Num::Truth(told),
-            None => counted(self.how, numbers, span, self.kernels),
-        }
+        tally_of(
+            self.how,
+            self.parts.numbers,
+            span.start,
+            span.stop,
+            self.kernels,
+        )
     }
 }
 
-/// What is told of each part, as a lane.
-pub fn tally_parts<'a, N: Kernels, L: Ledger>(
+/// What is told of each part of numbers of any kind, as a lane.
+fn whole_tallies<'a, N: Kernels, L: Ledger>(
     how: Tally,
     parts: &Parts,
     kernels: &N,
@@ -94,4 +81,51 @@ pub fn tally_parts<'a, N: Kernels, L: Ledger>(
     };
     let count = parts.spans.starts.len() as u64;
     made_lane(kind_of_tally(how), count, &tallied, arena, steps)
+}
+
+/// What is told of each part of truth values, as a lane.
+fn truth_tallies<'a, L: Ledger>(
+    how: Tally,
+    bytes: &[u8],
+    parts: &Parts,
+    arena: &'a Arena,
+    steps: &mut Steps<L>,
+) -> Result<Lane<'a>, NoMemory>
+    requires numbers { whole_numbers parts.now.numbers.now
+        ≡ map (λ b. element Kinds.Bool (pos b)) bytes.now }
+    requires parts { AreSpanned (whole_numbers parts.now.numbers.now) parts.now.spans.now }
+    ensures { let count = span_count parts.now.spans.now in
+        IfOk result (λ r. r ≡ lane_of (tally_kind how) count
+        (tallied_at how (whole_numbers parts.now.numbers.now) parts.now.spans.now)) }
+{
+    match how {
+        Tally::Nonzero => truth_counts(bytes, parts, arena, steps),
+        _ => cell_tallies::<1, bool, L>(how, truth_groups(bytes), parts, arena, steps),
+    }
+}
+
+/// What is told of each part, as a lane. There is a loop for each kind of numbers that fit an i64.
+pub fn tally_parts<'a, N: Kernels, L: Ledger>(
+    how: Tally,
+    parts: &Parts,
+    kernels: &N,
+    arena: &'a Arena,
+    steps: &mut Steps<L>,
+) -> Result<Lane<'a>, NoMemory>
+    requires { AreSpanned (whole_numbers parts.now.numbers.now) parts.now.spans.now }
+    ensures { let count = span_count parts.now.spans.now in
+        IfOk result (λ r. r ≡ lane_of (tally_kind how) count
+        (tallied_at how (whole_numbers parts.now.numbers.now) parts.now.spans.now)) }
+{
+    match *parts.numbers {
+        Whole::Truths(bytes) => truth_tallies(how, bytes, parts, arena, steps),
+        Whole::I8(groups) => cell_tallies::<1, i8, L>(how, groups, parts, arena, steps),
+        Whole::I16(groups) => cell_tallies::<2, i16, L>(how, groups, parts, arena, steps),
+        Whole::I32(groups) => cell_tallies::<4, i32, L>(how, groups, parts, arena, steps),
+        Whole::I64(groups) => cell_tallies::<8, i64, L>(how, groups, parts, arena, steps),
+        Whole::U8(groups) => cell_tallies::<1, u8, L>(how, groups, parts, arena, steps),
+        Whole::U16(groups) => cell_tallies::<2, u16, L>(how, groups, parts, arena, steps),
+        Whole::U32(groups) => cell_tallies::<4, u32, L>(how, groups, parts, arena, steps),
+        Whole::U64(_) => whole_tallies(how, parts, kernels, arena, steps),
+    }
 }

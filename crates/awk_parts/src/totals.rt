@@ -1,0 +1,116 @@
+//! Lanes of exact numbers that fit a primitive.
+ghost use Rattle.std.specs.Prelude.{◌<◌, ◌≤◌, IfOk};
+ghost use Rattle.awk_types.specs.declared.primitive.Primitive.TheVariants as Prims;
+ghost use Rattle.awk_numbers.specs.Folds.{IsNear};
+ghost use Rattle.awk_parts.specs.Fits.{IsFitting, AreFitting};
+
+use crate::fits::fitting;
+use awk_lanes::{Arena, IndexMaker, Lane, LaneMaker, NoMemory, Num, Steps};
+use awk_layout::kind_of;
+use awk_types::Prim;
+use std::sync::ledger::Ledger;
+
+/// Exact numbers by their places.
+pub trait Totals {
+    ghost use Rattle.std.specs.Prelude.{ℕ, ℤ};
+    ghost use Rattle.awk_numbers.specs.Folds.{IsNear};
+
+    /// The number at a place.
+    ghost at: { Self → ℕ → ℤ };
+
+    /// How many numbers may be asked for.
+    ghost size: { Self → ℕ };
+
+    /// What the numbers rest on.
+    ghost IsReady: { Self → Type 0 } = { λ _. Unit {0} };
+
+    /// The number at place i, or none where no number of 64 bits is so far from 0.
+    fn total<L: Ledger>(&self, i: u64, steps: &mut Steps<L>) -> Option<i128>
+        requires ready { IsReady self.now }
+        requires within { i < size self.now }
+        ensures { IsNear (at self.now i) result };
+}
+
+/// The number at place i as one of a primitive, if it is one.
+#[inline(always)]
+fn total_at<S: Totals, L: Ledger>(
+    prim: Prim,
+    source: &S,
+    i: u64,
+    steps: &mut Steps<L>,
+) -> Option<Num>
+    requires ready { S.IsReady source.now }
+    requires within { i < S.size source.now }
+    ensures { IsFitting prim (S.at source.now i) result }
+{
+    match source.total(i, steps) {
+        Some(z) => fitting(prim, z),
+        None => None,
+    }
+}
+
+/// The first n numbers as those of a primitive, or none where one does not fit.
+#[inline(always)]
+#[tactic(auto, using(awk_lanes::proofs::MadeLanes::making))]
+fn fitting_numbers<'a, S: Totals, L: Ledger>(
+    prim: Prim,
+    n: u64,
+    source: &S,
+    arena: &'a Arena,
+    steps: &mut Steps<L>,
+) -> Result<Option<Lane<'a>>, NoMemory>
+    requires ready { S.IsReady source.now }
+    requires within { n ≤ S.size source.now }
+    ensures { IfOk result (AreFitting prim (S.at source.now) n) }
+{
+    let mut maker = LaneMaker::new(kind_of(prim), n, arena)?;
+    for i in 0..n {
+        match total_at(prim, source, i, steps) {
+            Some(number) => maker.push(number),
+            None => return Ok(None),
+        }
+    }
+    Ok(Some(maker.finish()))
+}
+
+/// The same of i64, whose lane is made without asking for its kind.
+#[tactic(auto, using(awk_lanes::proofs::MadeLanes::making))]
+fn fitting_ints<'a, S: Totals, L: Ledger>(
+    n: u64,
+    source: &S,
+    arena: &'a Arena,
+    steps: &mut Steps<L>,
+) -> Result<Option<Lane<'a>>, NoMemory>
+    requires ready { S.IsReady source.now }
+    requires within { n ≤ S.size source.now }
+    ensures { IfOk result (AreFitting Prims.I64 (S.at source.now) n) }
+{
+    let mut maker = IndexMaker::new(n, arena)?;
+    for i in 0..n {
+        match total_at(Prim::I64, source, i, steps) {
+            Some(number) => maker.push(number),
+            None => return Ok(None),
+        }
+    }
+    Ok(Some(maker.finish()))
+}
+
+/// The first n numbers as those of a primitive, or none where one does not fit. There is a loop for
+/// each primitive that sums and products are of.
+pub fn fitting_lane<'a, S: Totals, L: Ledger>(
+    prim: Prim,
+    n: u64,
+    source: &S,
+    arena: &'a Arena,
+    steps: &mut Steps<L>,
+) -> Result<Option<Lane<'a>>, NoMemory>
+    requires ready { S.IsReady source.now }
+    requires within { n ≤ S.size source.now }
+    ensures { IfOk result (AreFitting prim (S.at source.now) n) }
+{
+    match prim {
+        Prim::I64 => fitting_ints(n, source, arena, steps),
+        Prim::U64 => fitting_numbers(Prim::U64, n, source, arena, steps),
+        _ => fitting_numbers(prim, n, source, arena, steps),
+    }
+}
