@@ -16,13 +16,27 @@ use std::sync::ledger::Ledger;
 
 /// Lists of one class. List i has the content's items from start i below stop i; the lists of a
 /// sized class have this length.
-#[derive(Drop)]
 pub struct Lists<'a> {
     class: Option<u64>,
     starts: Lane<'a>,
     stops: Lane<'a>,
     content: Array<'a>,
 }
+
+// Written out, so that whoever drops lists sees one call.
+impl Drop for Lists<'_> {
+    fn drop(self) {
+        let Lists {
+            class: _,
+            starts: _,
+            stops: _,
+            content,
+        } = self;
+        let_go(content);
+    }
+}
+
+fn let_go(_content: Array<'_>) {}
 
 /// Lists whose items lie one after another.
 #[derive(Drop)]

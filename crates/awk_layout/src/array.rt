@@ -17,11 +17,21 @@ use std::alloc::{AllocError, Global};
 use std::marker::Model;
 
 /// A node with its type, which is simple and passes no limit.
-#[derive(Drop)]
 pub struct Array<'a> {
     node: Node<'a>,
     typ: Typ,
 }
+
+// The drops are written out, so that whoever drops an array sees one call.
+
+impl Drop for Array<'_> {
+    fn drop(self) {
+        let Array { node, typ } = self;
+        let_go(node, typ);
+    }
+}
+
+fn let_go(_node: Node<'_>, _typ: Typ) {}
 
 impl<'a> Model for Array<'a> {
     ghost use Rattle.awk_layout.specs.Layout.{Layout};
@@ -85,7 +95,8 @@ impl<'a> Array<'a> {
     pub fn into_node(self) -> Node<'a>
         ensures { result ≡ self.entry }
     {
-        self.node
+        let Array { node, typ: _ } = self;
+        node
     }
 
     /// The node and the simple type, taken apart without a copy.
@@ -93,7 +104,8 @@ impl<'a> Array<'a> {
         ensures node { result.0 ≡ self.entry }
         ensures typ { IsTypeOf (typ_of result.1) self.entry }
     {
-        (self.node, self.typ)
+        let Array { node, typ } = self;
+        (node, typ)
     }
 
     /// The node.
@@ -131,10 +143,18 @@ impl<'a> Array<'a> {
 }
 
 /// Arrays in order.
-#[derive(Drop)]
 pub struct Arrays<'a> {
     arrays: Vec<Array<'a>>,
 }
+
+impl Drop for Arrays<'_> {
+    fn drop(self) {
+        let Arrays { arrays } = self;
+        let_all_go(arrays);
+    }
+}
+
+fn let_all_go(_arrays: Vec<Array<'_>>) {}
 
 impl<'a> Model for Arrays<'a> {
     ghost use Rattle.std.specs.Prelude.{List};

@@ -16,7 +16,6 @@ pub mod place;
 /// A node of a layout. It is valid whatever made it: its lanes are long enough, of an allowed kind,
 /// and name only places, tags and lists that its contents have, and so are its contents.
 #[cycle(node)]
-#[derive(Drop)]
 pub struct Node<'a> {
     inner: Inner<'a>,
 }
@@ -40,10 +39,33 @@ enum Inner<'a> {
 
 /// Nodes in order, as the contents of one node.
 #[cycle(node)]
-#[derive(Drop)]
 pub struct Nodes<'a> {
     nodes: Vec<Node<'a>>,
 }
+
+// Both drops are written out, so that whoever drops a node sees one call and not its classes.
+
+impl Drop for Node<'_> {
+    #[cycle(node)]
+    fn drop(self) {
+        let Node { inner } = self;
+        let_go(inner);
+    }
+}
+
+#[cycle(node)]
+fn let_go(_inner: Inner<'_>) {}
+
+impl Drop for Nodes<'_> {
+    #[cycle(node)]
+    fn drop(self) {
+        let Nodes { nodes } = self;
+        let_all_go(nodes);
+    }
+}
+
+#[cycle(node)]
+fn let_all_go(_nodes: Vec<Node<'_>>) {}
 
 impl<'a> Model for Node<'a> {
     ghost use Rattle.std.specs.Prelude.{◌*◌};
