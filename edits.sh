@@ -6,19 +6,29 @@
 #                          tells of each whether it is refused
 #   ./edits.sh --applies   tells in seconds whether each edit of both places can be applied
 #
-# An edit has a line 'file: src/PATH' and then pairs of lines 'old: TEXT' and 'new: TEXT'. The old text
-# stands in that file exactly once, as the pairs before have left it, and the new one takes its place.
-# One with a line '# compiler: TEXT' is refused before the prover sees it: by the compiler, with an
-# error of this text.
+# An edit has a line 'file: src/PATH' and then pairs of lines 'old: TEXT' and 'new: TEXT'. The old
+# text stands in that file exactly once, as the pairs before have left it, and the new one takes its
+# place. Other lines begin with '#':
+#   # compiler: TEXT           the edit is refused before the prover sees it: by the compiler, with
+#                              an error of this text
+#   # only: MODULE::FUNCTION   the function to try it on, where this is not the one that it changes
 #
-# A crate is proved first, with those below it, by `rt ci CRATE` in the copy, which takes over what an
-# earlier gate on this machine has proved of the same files. Right after a gate only the edits are left.
+# The crates below are proved and built first; what a gate has left of them in out/ is taken, where
+# no source is newer. An edit is then refused where the function that it changes is not proved.
+# trial/__main__.py, which needs python3, tells how this is done, and what may be set:
+#
+#   EDITS_ROOM=FOLDER          keeps what is built and tried, for the next run of the same texts
+#   EDITS_LANES=N              so many checks side by side, in place of one a processor
 #
 # The status is 0 where each edit is refused (or can be applied), 1 where one is not, cannot be
 # applied or was not tried, and 2 where a word is no crate with edits.
 set -euo pipefail
 shopt -s nullglob
 
+if [ -n "${EDITS_ROOM-}" ]; then
+    EDITS_ROOM=$(realpath -m -- "$EDITS_ROOM")
+    export EDITS_ROOM
+fi
 cd "$(dirname "$0")"
 
 tell() {
@@ -109,61 +119,6 @@ all_apply() {
     [ "$bad" -eq 0 ]
 }
 
-# Lays edits of a crate into the scratch copy, in the place of those of the gate.
-lay() {
-    local to=$room/crates/$1/must-fail
-    shift
-    rm -rf "$to"
-    mkdir "$to"
-    cp "$@" "$to"
-}
-
-# Whether the compiler refuses an edit of a crate, with the error that the edit names.
-refused_by_compiler() {
-    local edit=$1 crate=${1#edits/} what=${1##*/} error
-    crate=${crate%%/*}
-    error=$(sed -n 's/^# compiler: //p' "$edit")
-    lay "$crate" "$edit"
-    (cd "$room" && rt ci "$crate") >"$room/compiled" 2>&1 || true
-    if grep -A 6 "must-fail $crate/$what: .*did not reach the prover" "$room/compiled" |
-        grep -F -- "$error" >"$room/error"; then
-        tell "$crate/$what: refused, as it must be, by the compiler: $(head -n 1 "$room/error")"
-    else
-        tell "$crate/$what: NOT REFUSED by the compiler: $error"
-        return 1
-    fi
-}
-
-# Tries the edits of these crates.
-try_all() {
-    local crate edit count=0 refused=0 passed=1 proofs compiler=()
-    cp -r --parents crates.txt HANDLES crates/*/{src,specs,proofs} "$room"
-    for crate in "$@"; do
-        proofs=()
-        for edit in "edits/$crate"/*.edit; do
-            count=$((count + 1))
-            if grep -q '^# compiler: ' "$edit"; then
-                compiler+=("$edit")
-            else
-                proofs+=("$edit")
-            fi
-        done
-        if [ ${#proofs[@]} -gt 0 ]; then
-            lay "$crate" "${proofs[@]}"
-        fi
-    done
-    tell "$# crates and $count edits"
-    (cd "$room" && rt ci "$@") | tee "$room/told" || passed=0
-    refused=$(grep -c ': refused, as it must be' "$room/told" || true)
-    for edit in "${compiler[@]}"; do
-        if refused_by_compiler "$edit"; then
-            refused=$((refused + 1))
-        fi
-    done
-    tell "$count edits, of which $refused are refused"
-    [ "$passed" -eq 1 ] && [ "$count" -eq "$refused" ]
-}
-
 if [ "${1-}" = --applies ]; then
     all_apply
     exit
@@ -179,6 +134,4 @@ for crate in "$@"; do
         exit 2
     fi
 done
-room=$(mktemp -d)
-trap 'rm -rf "$room"' EXIT
-try_all "$@"
+exec python3 -B trial "$@"
