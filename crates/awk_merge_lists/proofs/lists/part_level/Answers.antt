@@ -23,7 +23,7 @@ items_of-requires g c =
 pub loop-i-preserved : goal.loop-i-preserved
 loop-i-preserved g c =
     filled_next (sides_of c.args.sides.now) c.loop-i.i (side_of c.get-side.result.now)
-    c.in_ok-content.content c.loop-i.items c.push-in-loop-i.new.self c.get-side.ensures
+    c.in_ok-content.content c.loop-i.items c.push.new.self c.get-side.ensures
     c.len.ensures.items c.in_ok-content.ensures (c.in_ok-push.ensures.sides
     ∙ ap (λ f. with_side (sides_of c.loop-i.items) c.in_ok-content.content f)
     c.in_ok-items_lift.ensures) c.in_ok-push.ensures.counted c.loop-i.invariant
