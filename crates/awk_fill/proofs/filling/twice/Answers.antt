@@ -10,7 +10,7 @@ use Rattle.awk_fill.proofs.filling.twice.Goals as goal
 
 pub returns : goal.returns
 returns g c =
-    subst (IsFirst (array_type c.args.x.now) (first_item c.args.x.now)) (sym c.with_type-2.ensures)
+    subst (IsFirst (array_type c.args.x.now) (first_item c.args.x.now)) (sym c.with_type.ensures)
     (twice_first c.args.x.now c.in_ok-copy.field-0 c.in_ok-copy-2.field-0 c.in_ok-node.node
     (typ_of c.typ.result.now) (sides_of c.new-sides.result) (sides_of c.push.new.self)
     (sides_of c.push-2.new.self) c.new-sides.ensures.none c.in_ok-copy.ensures
