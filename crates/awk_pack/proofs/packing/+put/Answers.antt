@@ -1,4 +1,4 @@
-use Rattle.std.proofs.Common.{◌≡◌, true, Err, slice_get, arith, rules, ap, ◌∙◌}
+use Rattle.std.proofs.Common.{◌≡◌, true, Err, arith, rules}
 use Rattle.awk_layout.specs.Typing.{array_type, array_items}
 use Rattle.awk_pack.specs.Canon.{is_too_large}
 use Rattle.awk_pack.proofs.LeftLaws.{left_next, left_below, left_large}
@@ -7,17 +7,13 @@ use Rattle.awk_pack.proofs.packing.+put.Goals as goal
 
 pub put_lanes-requires : goal.put_lanes-requires
 put_lanes-requires g t c κs within =
-    let same : c.inner.inside.arrays.items ≡ c.in_ok-inner.inner = grind arith in
-    let at = ap (λ ys. slice_get ys c.loop-i.i) same ∙ c.get.ensures in
     let below = left_below (array_type c.args.x.now) (array_items c.args.x.now) c.args.lanes.now
-    c.loop-i.lanes c.inner.inside.arrays.items c.loop-i.i c.get.result.now at
+    c.loop-i.lanes c.in_ok-inner.inner c.loop-i.i c.get.result.now c.get.ensures
     c.loop-i.invariant in
     search rules
 
 pub returns-in_err-put_lanes-clause-size : goal.returns-in_err-put_lanes-clause-size
 returns-in_err-put_lanes-clause-size g t c =
-    let same : c.inner.inside.arrays.items ≡ c.in_ok-inner.inner = grind arith in
-    let at = ap (λ ys. slice_get ys c.loop-i.i) same ∙ c.get.ensures in
     let e = c.in_err-put_lanes.field-0.0 in
     let failed : c.from_residual-in_err-put_lanes.result ≡ Err e = grind arith in
     size_on c.from_residual-in_err-put_lanes.result e
@@ -25,13 +21,11 @@ returns-in_err-put_lanes-clause-size g t c =
     (is_too_large (array_type c.args.x.now) (array_items c.args.x.now) ≡ true) failed
     c.in_err-put_lanes.ensures.size
     (λ large. left_large (array_type c.args.x.now) (array_items c.args.x.now) c.args.lanes.now
-    c.loop-i.lanes c.inner.inside.arrays.items c.loop-i.i c.get.result.now at c.loop-i.invariant
+    c.loop-i.lanes c.in_ok-inner.inner c.loop-i.i c.get.result.now c.get.ensures c.loop-i.invariant
     large)
 
 pub loop-i-preserved : goal.loop-i-preserved
 loop-i-preserved g t c =
-    let same : c.inner.inside.arrays.items ≡ c.in_ok-inner.inner = grind arith in
-    let at = ap (λ ys. slice_get ys c.loop-i.i) same ∙ c.get.ensures in
     left_next (array_type c.args.x.now) (array_items c.args.x.now) c.args.lanes.now c.loop-i.lanes
-    c.put_lanes.new.lanes c.inner.inside.arrays.items c.loop-i.i c.get.result.now at
+    c.put_lanes.new.lanes c.in_ok-inner.inner c.loop-i.i c.get.result.now c.get.ensures
     c.loop-i.invariant c.in_ok-put_lanes.ensures.put

@@ -11,4 +11,4 @@ decreases-put_lanes g l = nodes (array_type l.x.now)
 abbrev pub invariant-loop-i : goal.invariant-loop-i
 invariant-loop-i g l =
     IsLeft (array_type l.fn.x) (array_items l.fn.x) l.fn.lanes
-    (drop l.i l.inner-inside.arrays.items) l.lanes
+    (drop l.i l.inner) l.lanes
