@@ -92,7 +92,9 @@ fn items_at<'a, L: Ledger>(
     ensures { IfOk result (ArePicked optional x.now places.now) }
 {
     if !optional {
-        return gather(alloc, x, places, arena, steps)?.node().copy(alloc);
+        let items = gather(alloc, x, places, arena, steps)?;
+        let _ = items.len(); // its node is valid
+        return items.node().copy(alloc);
     }
     match gather_opt(alloc, x, places, arena, steps) {
         Ok(items) => items.node().copy(alloc),
