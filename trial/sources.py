@@ -40,7 +40,7 @@ class Edit:
 
 @dataclass(frozen=True)
 class Function:
-    """A function of a file, from its first line to its last one, counted from 0."""
+    """A function of a file, from the first line, of its attributes, to the last, counted from 0."""
 
     # what a check calls it, below the crate
     name: str
@@ -116,7 +116,7 @@ def _function(path: str, lines: list[str], at: int, indent: str, name: str) -> F
         above -= 1
     cycle = re.search(r"#\[cycle\((\w+)\)\]", "\n".join(lines[above:at]))
     proof = f"/+{cycle[1]}/" if cycle else f"proofs/{name.replace('::', '/')}/"
-    return Function(name, proof, path, at, next(opens, last) + 1, last)
+    return Function(name, proof, path, above, next(opens, last) + 1, last)
 
 
 def _last_line(lines: list[str], at: int, indent: str) -> int:

@@ -68,8 +68,8 @@ def of_function(ran: Ran, function: Function) -> Verdict | None:
     lines = ran.text.split("\n")
     told = [it for it in lines if re.match(rf"fn \w+::{re.escape(function.name)}: ", it)]
     found = [it for it in _complaints(lines) if _is_of(it, function)]
-    is_open = any(re.search(r": (not proved|no proof: (?!it calls))", it) for it in told)
-    return _refused(found) if is_open and found else None
+    is_open = any(re.search(r": (not proved|no proof: expected)", it) for it in told)
+    return _refused(found or told) if is_open else None
 
 
 def reason(ran: Ran) -> str:
