@@ -20,7 +20,8 @@ Last the functions that were named have to be proved over it without an edit. Wh
 each edit of the crate is tried again over a folder of its own, and its functions after it.
 
     EDITS_ROOM=FOLDER    keeps what is built and tried there: of the same texts nothing is done
-                         twice, so that a run can be stopped and taken up again
+                         twice, so that a run can be stopped and taken up again. The processor
+                         minutes that are told are those of all runs in the room
     EDITS_LANES=N        so many checks side by side; else one a processor, with 3 GB for each
 
 The status is 0 where each edit is refused, and 1 where one is not, or was not tried.
@@ -50,13 +51,12 @@ WORK = 300
 
 
 class Run:
-    """A run over crates: its room, what it has found, and its processor seconds."""
+    """A run over crates: its room, and what it has found."""
 
     def __init__(self, folder: Path) -> None:
         self.room, self.rattle = Room(folder), Rattle()
         self.lock = threading.Lock()
         self.found: dict[Edit, Verdict] = {}
-        self.proofs = self.edits = 0.0
 
     def tell(self, text: str) -> None:
         print(f"edits.sh: {text}", flush=True)
@@ -69,7 +69,7 @@ class Run:
             return True
         seconds, why = self.room.build(crate, self.rattle)
         with self.lock:
-            self.proofs += seconds
+            self.room.spend("proofs", seconds)
             self.tell(f"{crate.name} {f'NOT PROVED: {why}' if why else f'proved, {seconds:.0f} s'}")
         return not why
 
@@ -83,7 +83,7 @@ class Run:
             tried, seconds = self._try(crate, left)
             found.update(tried)
         with self.lock:
-            self.edits += seconds
+            self.room.spend("edits", seconds)
             for it in edits:
                 self.found[it] = found.get(it) or not_tried("a library below is not proved")
                 self.tell(f"{it.crate}/{it.name}: {self.found[it].said}")
@@ -97,8 +97,10 @@ class Run:
         for it, verdict in self.found.items():
             if not verdict.is_refused:
                 self.tell(f"{it.crate}/{it.name} is not refused")
-        self.tell(f"{self.proofs / 60:.0f} processor minutes of proofs and {self.edits / 60:.0f}"
-                  f" of edits, in {seconds / 60:.0f} minutes")
+        spent = self.room.spend("edits", 0.0)
+        proofs, edits = (f"{spent[it] / 60:.0f}" for it in ("proofs", "edits"))
+        self.tell(f"{proofs} processor minutes of proofs and {edits} of edits in this room;"
+                  f" this run took {seconds / 60:.0f} minutes")
         self.tell(f"{len(self.found)} edits, of which {len(refused)} are refused, {named} of them"
                   " only for a name that a proof file lacks then")
 

@@ -58,6 +58,16 @@ class Room:
         part.rename(self.libraries / crate.stamp)
         return ran.seconds, ""
 
+    def spend(self, on: str, seconds: float) -> dict[str, float]:
+        """Notes processor seconds, and gives all that were spent in this room."""
+        file = self.folder / "seconds.json"
+        spent = {"proofs": 0.0, "edits": 0.0}
+        if file.is_file():
+            spent = json.loads(file.read_text(encoding="utf-8"))
+        spent[on] += seconds
+        file.write_text(json.dumps(spent), encoding="utf-8")
+        return spent
+
     def verdict(self, crate: Crate, edit: Edit) -> Verdict | None:
         """What was found out of an edit, over the same texts."""
         file = self._file(crate, edit)
