@@ -46,7 +46,7 @@ any_length-requires-in-Items g t c κs within =
         arith,
         ap depth o.typ,
         depth-list c.in-Items.lists.class (array_type c.in-Items.lists.content),
-        ap (λ y. depth (array_type y)) c.content-in-Items.ensures.content,
+        ap (λ y. depth (array_type y)) c.content.ensures.content,
         c.decreases,
       ),
       within,
@@ -59,8 +59,8 @@ lists_over-requires-clause-spans g t c =
     lists-spans c.args.m.now c.in-Items.lists.content c.in_ok-items-in-Items.items
     c.in-Items.lists.class c.in-Items.lists.starts c.in-Items.lists.stops o
     (c.in_ok-items-in-Items.ensures.typ
-    ∙ ap (λ y. unsized (array_type y)) c.content-in-Items.ensures.content)
-    (c.in_ok-items-in-Items.ensures.items ∙ ap array_items c.content-in-Items.ensures.content)
+    ∙ ap (λ y. unsized (array_type y)) c.content.ensures.content)
+    (c.in_ok-items-in-Items.ensures.items ∙ ap array_items c.content.ensures.content)
 
 pub lists_over-requires-clause-limit : goal.lists_over-requires-clause-limit
 lists_over-requires-clause-limit g t c =
@@ -69,8 +69,8 @@ lists_over-requires-clause-limit g t c =
     ap limit (lists-type c.args.m.now c.in-Items.lists.content c.in_ok-items-in-Items.items
     c.in-Items.lists.class c.in-Items.lists.starts c.in-Items.lists.stops o
     (c.in_ok-items-in-Items.ensures.typ
-    ∙ ap (λ y. unsized (array_type y)) c.content-in-Items.ensures.content)
-    (c.in_ok-items-in-Items.ensures.items ∙ ap array_items c.content-in-Items.ensures.content))
+    ∙ ap (λ y. unsized (array_type y)) c.content.ensures.content)
+    (c.in_ok-items-in-Items.ensures.items ∙ ap array_items c.content.ensures.content))
     ∙ limit-unsized (array_type c.args.m.now) ∙ c.typ.ensures.lawful.within_limits
 
 -- ---- what is made
@@ -101,8 +101,8 @@ returns-in-Items-clause-typ g t c =
     ∙ lists-type c.args.m.now c.in-Items.lists.content c.in_ok-items-in-Items.items
     c.in-Items.lists.class c.in-Items.lists.starts c.in-Items.lists.stops o
     (c.in_ok-items-in-Items.ensures.typ
-    ∙ ap (λ y. unsized (array_type y)) c.content-in-Items.ensures.content)
-    (c.in_ok-items-in-Items.ensures.items ∙ ap array_items c.content-in-Items.ensures.content)
+    ∙ ap (λ y. unsized (array_type y)) c.content.ensures.content)
+    (c.in_ok-items-in-Items.ensures.items ∙ ap array_items c.content.ensures.content)
 
 pub returns-in-Items-clause-items : goal.returns-in-Items-clause-items
 returns-in-Items-clause-items g t c =
@@ -112,5 +112,5 @@ returns-in-Items-clause-items g t c =
     ∙ lists-items c.args.m.now c.in-Items.lists.content c.in_ok-items-in-Items.items
     c.in-Items.lists.class c.in-Items.lists.starts c.in-Items.lists.stops o
     (c.in_ok-items-in-Items.ensures.typ
-    ∙ ap (λ y. unsized (array_type y)) c.content-in-Items.ensures.content)
-    (c.in_ok-items-in-Items.ensures.items ∙ ap array_items c.content-in-Items.ensures.content)
+    ∙ ap (λ y. unsized (array_type y)) c.content.ensures.content)
+    (c.in_ok-items-in-Items.ensures.items ∙ ap array_items c.content.ensures.content)
