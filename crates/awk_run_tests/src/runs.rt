@@ -366,8 +366,11 @@ fn long_texts_are_loaded(rt: HostRuntime) -> Result<(), Fail> {
     let alloc = rt.alloc();
     let first = "AQID".repeat(alloc, 262_144)?;
     let second = "BAUG".repeat(alloc, 262_144)?;
-    let (first, second) = (first.as_bytes(), second.as_bytes());
-    let session = joined(alloc, &[LOADS[0], first, LOADS[1], second, LOADS[2]])?;
+    let mut session = joined(alloc, &[LOADS[0]])?;
+    session.extend_from_slice(first.as_bytes())?;
+    session.extend_from_slice(LOADS[1])?;
+    session.extend_from_slice(second.as_bytes())?;
+    session.extend_from_slice(LOADS[2])?;
     let case = Case {
         session: &session,
         gives: 4096,
