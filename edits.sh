@@ -1,14 +1,17 @@
 #!/usr/bin/env bash
 # Tries the edits: wrong bodies of a crate, which its contracts alone must refuse. Those of
-# crates/CRATE/must-fail/ are tried by each gate, and those of edits/CRATE/ by this script.
+# crates/CRATE/must-fail/ are tried by each rt ci, and those of edits/CRATE/ by this script, which
+# the gate runs for those of them that have a line '# gate'.
 #
 #   ./edits.sh [CRATE..]   tries edits/CRATE/*.edit, or those of every crate, in a scratch copy, and
 #                          tells of each whether it is refused
+#   ./edits.sh --gate      tries those with a line '# gate' alone, of all crates
 #   ./edits.sh --applies   tells in seconds whether each edit of both places can be applied
 #
 # An edit has a line 'file: src/PATH' and then pairs of lines 'old: TEXT' and 'new: TEXT'. The old
 # text stands in that file exactly once, as the pairs before have left it, and the new one takes its
 # place. Other lines begin with '#':
+#   # gate                     the gate tries the edit too
 #   # compiler: TEXT           the edit is refused before the prover sees it: by the compiler, with
 #                              an error of this text
 #   # only: MODULE::FUNCTION   the function to try it on, where this is not the one that it changes
@@ -122,6 +125,9 @@ all_apply() {
 if [ "${1-}" = --applies ]; then
     all_apply
     exit
+fi
+if [ "${1-}" = --gate ]; then
+    exec python3 -B trial --gate
 fi
 if [ $# -eq 0 ]; then
     set -- edits/*/

@@ -1,6 +1,7 @@
 """Tries edits, wrong bodies that the contracts of a crate must refuse. `./edits.sh` runs it.
 
     python3 trial CRATE..
+    python3 trial --gate     tries the edits of all crates that have a line '# gate'
 
 Each library below the crates is proved and built once, by `rattle build --statements`, as the gate
 does it. What a gate has left in crates/NAME/out/rlib is taken, unless a source is newer.
@@ -116,16 +117,28 @@ class Run:
         return found, trial.seconds
 
 
-def tasks_of(run: Run, crates: list[Crate]) -> dict[str, Task]:
-    """The libraries below the crates, each once, and the edits of each crate."""
+def edits_of(crate: str) -> list[Edit]:
+    return [read_edit(file) for file in sorted((TOP / "edits" / crate).glob("*.edit"))]
+
+
+def edits_of_all(names: list[str]) -> dict[str, list[Edit]]:
+    """The edits of these crates, or for --gate all those that the gate tries, by their crates."""
+    if names != ["--gate"]:
+        return {it: edits_of(it) for it in names}
+    all_edits = {it.name: edits_of(it.name) for it in sorted((TOP / "edits").iterdir())}
+    of_gate = {it: [edit for edit in all_edits[it] if edit.of_gate] for it in all_edits}
+    return {it: edits for it, edits in of_gate.items() if edits}
+
+
+def tasks_of(run: Run, edits: dict[Crate, list[Edit]]) -> dict[str, Task]:
+    """The libraries below the crates of these edits, each once, and the edits of each crate."""
     tasks: dict[str, Task] = {}
-    for it in {it.name: it for crate in crates for it in crate.below()}.values():
+    for it in {it.name: it for crate in edits for it in crate.below()}.values():
         build = partial(run.build, it)
         tasks[it.name] = Task([dep.name for dep in it.deps], it.lines, build)
-    for it in crates:
-        edits = [read_edit(file) for file in sorted((TOP / "edits" / it.name).glob("*.edit"))]
-        work = it.lines // 4 + WORK * len(edits)
-        tried = partial(run.try_crate, it, edits)
+    for it, own in edits.items():
+        work = it.lines // 4 + WORK * len(own)
+        tried = partial(run.try_crate, it, own)
         tasks[f"edits of {it.name}"] = Task([dep.name for dep in it.deps], work, tried)
     return tasks
 
@@ -140,8 +153,8 @@ def try_crates(names: list[str], folder: Path) -> bool:
     for it in (signal.SIGINT, signal.SIGTERM, signal.SIGHUP):
         signal.signal(it, stop)
     listed = read_crates()
-    crates = [listed[it] for it in names]
-    run_all(tasks_of(run, crates), lanes())
+    edits = {listed[it]: own for it, own in edits_of_all(names).items()}
+    run_all(tasks_of(run, edits), lanes())
     run.tell_all(time.monotonic() - start)
     return all(it.is_refused for it in run.found.values())
 

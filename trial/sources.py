@@ -28,7 +28,8 @@ class Change:
 
 @dataclass(frozen=True)
 class Edit:
-    """An edit of a crate. Its functions are named by it where `only` is not empty."""
+    """An edit of a crate. Its functions are named by it where `only` is not empty, and the gate
+    tries it where `of_gate` is set."""
 
     crate: str
     name: str
@@ -36,6 +37,7 @@ class Edit:
     changes: tuple[Change, ...]
     only: tuple[str, ...]
     compiler: str
+    of_gate: bool
 
 
 @dataclass(frozen=True)
@@ -66,7 +68,8 @@ def read_edit(file: Path) -> Edit:
             changes.append(Change(path, old, rest.removeprefix(" ")))
     only = tuple(re.findall(r"(?m)^# only: (\S+)$", text))
     compiler = "".join(re.findall(r"(?m)^# compiler: (.*)$", text)[:1])
-    return Edit(file.parent.name, file.name, text, tuple(changes), only, compiler)
+    of_gate = re.search(r"(?m)^# gate$", text) is not None
+    return Edit(file.parent.name, file.name, text, tuple(changes), only, compiler, of_gate)
 
 
 def read_sources(crate: Path) -> Texts:
