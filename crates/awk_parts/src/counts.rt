@@ -84,7 +84,7 @@ fn count_set(bytes: &[u8]) -> u64
 
 /// How many truth values from a start below a stop are true.
 #[inline(always)]
-fn truths_counted(bytes: &[u8], span: Span) -> u64
+pub(crate) fn truths_counted(bytes: &[u8], span: Span) -> u64
     requires order { span.start ≤ span.stop }
     requires within { span.stop ≤ length bytes.now }
     requires few { span.stop - span.start ≤ 1073741824 }

@@ -1,7 +1,5 @@
 //! Sums and products of parts.
-ghost use Rattle.std.specs.Prelude.{◌≡◌, map, pos, IfOk};
-ghost use Rattle.awk_lanes.specs.Numbers.{element};
-ghost use Rattle.awk_lanes.specs.declared.kind.Kind.TheVariants as Kind;
+ghost use Rattle.std.specs.Prelude.{IfOk};
 ghost use Rattle.awk_numbers.specs.Folds.{whole_numbers};
 ghost use Rattle.awk_numbers.specs.declared.folds.Fold.TheVariants as fold;
 ghost use Rattle.awk_parts.specs.Fits.{AreFitting};
@@ -10,9 +8,8 @@ ghost use Rattle.awk_parts.specs.Spans.{span_count, AreSpanned};
 
 use crate::parts::{Parts, span_of};
 use crate::products::folded_early;
-use crate::sums::{int_sums, narrow_sums};
+use crate::sums::{int_sums, narrow_sums, truth_sums};
 use crate::totals::{Totals, fitting_lane};
-use crate::wide::truth_groups;
 use awk_lanes::{Arena, Lane, NoMemory, Steps};
 use awk_numbers::{Fold, Whole, folded};
 use awk_types::Prim;
@@ -63,24 +60,6 @@ fn whole_folds<'a, L: Ledger>(
     let count = parts.spans.starts.len() as u64;
     let totals = PartTotals { how, parts };
     fitting_lane(prim, count, &totals, arena, steps)
-}
-
-/// The sums of parts of truth values.
-fn truth_sums<'a, L: Ledger>(
-    prim: Prim,
-    bytes: &[u8],
-    parts: &Parts,
-    arena: &'a Arena,
-    steps: &mut Steps<L>,
-) -> Result<Option<Lane<'a>>, NoMemory>
-    requires numbers { whole_numbers parts.now.numbers.now
-        ≡ map (λ b. element Kind.Bool (pos b)) bytes.now }
-    requires parts { AreSpanned (whole_numbers parts.now.numbers.now) parts.now.spans.now }
-    ensures { IfOk result (AreFitting prim (folded_at fold.Sum
-        (whole_numbers parts.now.numbers.now) parts.now.spans.now)
-        (span_count parts.now.spans.now)) }
-{
-    narrow_sums::<1, bool, L>(prim, truth_groups(bytes), parts, arena, steps)
 }
 
 /// The sums of parts. There is a loop for each kind of numbers that fit an i64.

@@ -4,7 +4,7 @@ ghost use Rattle.std.specs.Prelude.{unsigned_abs, IfOk, IfSome, FitsSigned};
 ghost use Rattle.std.specs.Int.{w64};
 ghost use Rattle.std.specs.List.{slice_range};
 ghost use Rattle.awk_kernels.specs.Kernels.{total};
-ghost use Rattle.awk_lanes.specs.Numbers.{number};
+ghost use Rattle.awk_lanes.specs.Numbers.{element, number};
 ghost use Rattle.awk_lanes.specs.declared.kind.Kind.TheVariants as Kind;
 ghost use Rattle.awk_numbers.specs.Folds.{whole_numbers};
 ghost use Rattle.awk_numbers.specs.declared.folds.Fold.TheVariants as fold;
@@ -13,6 +13,7 @@ ghost use Rattle.awk_parts.specs.Lanes.{folded_at};
 ghost use Rattle.awk_parts.specs.Spans.{span_count, AreSpanned};
 
 use crate::cells::Cell;
+use crate::counts::truths_counted;
 use crate::parts::{Parts, Span, span_of};
 use crate::totals::{Totals, fitting_lane};
 use crate::wide::number_at;
@@ -204,4 +205,58 @@ pub(crate) fn int_sums<'a, L: Ledger>(
 {
     let count = parts.spans.starts.len() as u64;
     fitting_lane(prim, count, &IntSums { groups, parts }, arena, steps)
+}
+
+// ---- truth values
+
+/// The sums of parts of truth values: how many are true.
+#[derive(Drop)]
+struct TruthSums<'c, 'b, 'a> {
+    bytes: &'c [u8],
+    parts: &'c Parts<'b, 'a>,
+}
+
+impl<'c, 'b, 'a> Totals for TruthSums<'c, 'b, 'a> {
+    ghost use Rattle.std.specs.Prelude.{◌≡◌, map, pos};
+    ghost use Rattle.awk_lanes.specs.Numbers.{element};
+    ghost use Rattle.awk_lanes.specs.declared.kind.Kind.TheVariants as Kind;
+    ghost use Rattle.awk_numbers.specs.Folds.{whole_numbers};
+    ghost use Rattle.awk_numbers.specs.declared.folds.Fold.TheVariants as fold;
+    ghost use Rattle.awk_parts.specs.Lanes.{folded_at};
+    ghost use Rattle.awk_parts.specs.Spans.{span_count, AreSpanned};
+
+    ghost at = { λ f. folded_at fold.Sum (whole_numbers f.parts.now.numbers.now)
+        f.parts.now.spans.now };
+
+    ghost size = { λ f. span_count f.parts.now.spans.now };
+
+    ghost IsReady = { λ f.
+        (whole_numbers f.parts.now.numbers.now
+        ≡ map (λ b. element Kind.Bool (pos b)) f.bytes.now)
+        × AreSpanned (whole_numbers f.parts.now.numbers.now) f.parts.now.spans.now };
+
+    #[inline(always)]
+    fn total<L: Ledger>(&self, i: u64, _steps: &mut Steps<L>) -> Option<i128> {
+        let sum = truths_counted(self.bytes, span_of(self.parts, i));
+        Some(i128::from(sum))
+    }
+}
+
+/// The sums of parts of truth values as numbers of a primitive, or none where one does not fit.
+pub(crate) fn truth_sums<'a, L: Ledger>(
+    prim: Prim,
+    bytes: &[u8],
+    parts: &Parts,
+    arena: &'a Arena,
+    steps: &mut Steps<L>,
+) -> Result<Option<Lane<'a>>, NoMemory>
+    requires numbers { whole_numbers parts.now.numbers.now
+        ≡ map (λ b. element Kind.Bool (pos b)) bytes.now }
+    requires parts { AreSpanned (whole_numbers parts.now.numbers.now) parts.now.spans.now }
+    ensures { IfOk result (AreFitting prim (folded_at fold.Sum
+        (whole_numbers parts.now.numbers.now) parts.now.spans.now)
+        (span_count parts.now.spans.now)) }
+{
+    let count = parts.spans.starts.len() as u64;
+    fitting_lane(prim, count, &TruthSums { bytes, parts }, arena, steps)
 }
