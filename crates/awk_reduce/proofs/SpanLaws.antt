@@ -1,6 +1,9 @@
 -- Parts of numbers by starts and stops.
 use Rattle.std.proofs.Common.{◌≡◌, ℕ, ◌-◌, ◌<◌, ◌≤◌, List, length, ap, ap₂, sym, ◌∙◌, subst, arith}
-use Rattle.std.specs.Prelude.{ℤ}
+use Rattle.std.proofs.Common.{refl, ltb-true}
+use Rattle.std.specs.Prelude.{ℤ, pos, negsuc, Bool, true, false, nat_lt}
+use Rattle.std.proofs.lemmas.Bool.{ltb-false}
+use Rattle.std.proofs.lemmas.Int.{ints}
 use Rattle.awk_types.specs.ItemLimit.{item_limit}
 use Rattle.awk_lanes.specs.Column.{Column}
 use Rattle.awk_lanes.specs.Counted.{before}
@@ -53,3 +56,35 @@ module _ (s t : Column) (p : Spans) (ends : AreEnds (size_of s) (at s) (at t) p)
     ordered = ends_ordered (length zs) (length zs) spans (omega arith);
     few = λ i l. omega (arith, one_within (span_size p) (span_count p) i l, few);
   }
+
+-- ---- within a content
+
+-- a list has no more items than its content
+pub span-size : (n : ℕ) (a b : ℤ) → IsSpan n a b → nat_of b - nat_of a ≤ n
+span-size n (pos a) (pos b) h = by (nat_lt a b) refl
+  where
+    by : (t : Bool) → nat_lt a b ≡ t → b - a ≤ n
+    by true e =
+        let l : a < b = ltb-true a b e in
+        let f = h (λ e. let g : a ≡ b = ap nat_of e in omega (arith, g, l)) in
+        omega (arith, ints, f.2)
+    by false e = omega (arith, ltb-false a b e)
+span-size n (pos a) (negsuc b) h = omega arith
+span-size n (negsuc a) (pos b) h =
+    let f = h (λ e. cc) in
+    omega (arith, ints, f.2)
+span-size n (negsuc a) (negsuc b) h = omega arith
+
+module _ (n : ℕ) (p : Spans) (h : AreOrdered n p) where
+  pub ordered_wider : (m : ℕ) → n ≤ m → AreOrdered m p
+  ordered_wider m l = record {
+    same = h.same;
+    spans = λ i k. span-wider n m (end_at p.starts.now i) (end_at p.stops.now i) l (h.spans i k);
+  }
+
+  pub ordered_short : (i : ℕ) → i < span_count p → span_size p i ≤ n
+  ordered_short i l = span-size n (end_at p.starts.now i) (end_at p.stops.now i) (h.spans i l)
+
+pub lists_short : (s t : Column) (n : ℕ) → AreSpans s t n
+    → (i : ℕ) → i < size_of s → span_length s t i ≤ n
+lists_short s t n h i l = span-size n (at s i) (at t i) (h.ordered i l)

@@ -1,10 +1,14 @@
 -- What is made of the lists of a column, by the numbers of their items.
-use Rattle.std.specs.Prelude.{◌≡◌, ℕ, ◌<◌, ◌≤◌, ◌^◌, ℤ, Bool, true, false, List, position}
-use Rattle.std.specs.Prelude.{Some}
+use Rattle.std.specs.Prelude.{◌≡◌, ℕ, ◌<◌, ◌≤◌, ◌^◌, ℤ, pos, Bool, true, false, List, position}
+use Rattle.std.specs.Prelude.{Option, Some, None}
 use Rattle.std.specs.Ordering.{int_eq}
 use Rattle.awk_types.specs.DataType.{DataType}
 use Rattle.awk_types.specs.ItemLimit.{item_limit}
 use Rattle.awk_types.specs.Value.{Value}
+use Rattle.awk_lanes.specs.Column.{Column}
+use Rattle.awk_lanes.specs.Counted.{before}
+use Rattle.awk_lanes.specs.Made.{lane_of}
+use Rattle.awk_lanes.specs.declared.kind.Kind.TheVariants.{I64}
 use Rattle.awk_layout.specs.Kinds.{kind_of}
 use Rattle.awk_layout.specs.Typing.{array_type}
 use Rattle.awk_axis.specs.Mapped.{IsColumn}
@@ -13,7 +17,8 @@ use Rattle.awk_axis.specs.declared.function.Made.{Made}
 use Rattle.awk_axis.specs.declared.function.Made.TheVariants as made
 use Rattle.awk_columns.specs.Lists.{Listed, items_at}
 use Rattle.awk_numbers.specs.Folds.{lane_numbers}
-use Rattle.awk_parts.specs.Spans.{span_count, span_part, AreSpanned}
+use Rattle.awk_parts.specs.Spans.{span_count, span_part, span_size, AreSpanned}
+use Rattle.awk_parts.specs.declared.parts.Spans.{Spans}
 use Rattle.awk_present.specs.Numbers.{leaf_of, numbers, number_place}
 use Rattle.awk_reduce.specs.Reduce.{overflows}
 use Rattle.awk_reduce.specs.Reducers.{reduced_type, reduced}
@@ -56,3 +61,10 @@ AreReduced how x m =
 abbrev pub IsWithin : Bool → ℕ → Type 0
 IsWithin true n = n ≤ item_limit
 IsWithin false n = item_limit < n
+
+-- the lengths of parts as a lane, or none where they have more numbers together than the limit
+abbrev pub AreLengths : Spans → Option Column → Type 0
+AreLengths p None = item_limit < before (span_size p) (span_count p)
+AreLengths p (Some r) =
+    (before (span_size p) (span_count p) ≤ item_limit)
+    × (r ≡ lane_of I64 (span_count p) (λ i. pos (span_size p i)))

@@ -1,19 +1,19 @@
 //! How many items lists have together, and counts of lists of which no item is null: their lengths.
-ghost use Rattle.std.specs.Prelude.{◌≡◌, ◌≤◌, true, IfOk};
-ghost use Rattle.awk_types.specs.ItemLimit.{item_limit};
+ghost use Rattle.std.specs.Prelude.{◌≡◌, ◌<◌, ◌≤◌, ℕ, true, IfOk};
 ghost use Rattle.awk_lanes.specs.Counted.{before};
 ghost use Rattle.awk_lanes.specs.Places.{size_of, at};
 ghost use Rattle.awk_layout.specs.Typing.{array_type};
+ghost use Rattle.awk_layout.specs.Valid.{len};
 ghost use Rattle.awk_axis.specs.Mapped.{IsMade};
 ghost use Rattle.awk_types.specs.Predicates as predicates;
 ghost use Rattle.awk_parts.specs.Spans.{span_count, span_size, AreEnds, AreOrdered};
-ghost use Rattle.awk_reduce.specs.Lists.{IsWithin};
+ghost use Rattle.awk_reduce.specs.Lists.{AreLengths, IsWithin};
 ghost use Rattle.awk_reduce.specs.Reduce.{reducer_function};
 ghost use Rattle.awk_reduce.specs.declared.reducer.Reducer.TheVariants as Reducer;
 
-use awk_axis::Made;
+use awk_axis::{Made, Spoil};
 use awk_columns::Lists;
-use awk_lanes::{Arena, Kind, Lengths, Num, Numbers, Steps, made_lane, number};
+use awk_lanes::{Arena, IndexMaker, Kind, Lane, Lengths, Num, Numbers, Steps, made_lane, number};
 use awk_layout::Node;
 use awk_parts::{Spans, span_length};
 use awk_types::NoMemory;
@@ -22,8 +22,14 @@ use std::sync::ledger::Ledger;
 /// The most items that lists may have together.
 const ITEM_LIMIT: u64 = 1_073_741_824;
 
-/// Whether n lists have no more items together than the limit.
-pub(crate) fn are_within<S: Lengths, L: Ledger>(n: u64, source: &S, steps: &mut Steps<L>) -> bool
+/// The most lists, and the most items of each, that are counted without a look whether they are too
+/// many so far.
+const MOST_LISTS: u64 = 2_147_483_648;
+
+const MOST_ITEMS: u64 = 4_294_967_296;
+
+/// Whether n lists have no more items together than the limit, however many each has.
+fn long_are_within<S: Lengths, L: Ledger>(n: u64, source: &S, steps: &mut Steps<L>) -> bool
     requires ready { S.IsReady source.now }
     requires within { n ≤ S.size source.now }
     ensures { IsWithin result (before (S.length source.now) n) }
@@ -37,6 +43,42 @@ pub(crate) fn are_within<S: Lengths, L: Ledger>(n: u64, source: &S, steps: &mut 
         total += length;
     }
     true
+}
+
+/// How many items n lists have together, which are few lists of few items.
+fn total_of<S: Lengths, L: Ledger>(n: u64, source: &S, steps: &mut Steps<L>) -> u64
+    requires ready { S.IsReady source.now }
+    requires within { n ≤ S.size source.now }
+    requires few { n ≤ 2147483648 }
+    requires short { (i : ℕ) → i < n → S.length source.now i ≤ 4294967296 }
+    ensures { result ≡ before (S.length source.now) n }
+{
+    let mut total = 0;
+    for i in 0..n {
+        total += source.length(i, steps);
+    }
+    total
+}
+
+/// Whether n lists, each of no more than so many items, have no more together than the limit.
+pub(crate) fn are_within<S: Lengths, L: Ledger>(
+    n: u64,
+    most: u64,
+    source: &S,
+    steps: &mut Steps<L>,
+) -> bool
+    requires ready { S.IsReady source.now }
+    requires within { n ≤ S.size source.now }
+    requires most { (i : ℕ) → i < n → S.length source.now i ≤ most }
+    ensures { IsWithin result (before (S.length source.now) n) }
+{
+    if n > MOST_LISTS {
+        return long_are_within(n, source, steps);
+    }
+    if most > MOST_ITEMS {
+        return long_are_within(n, source, steps);
+    }
+    total_of(n, source, steps) <= ITEM_LIMIT
 }
 
 /// The lengths of lists.
@@ -77,7 +119,69 @@ impl<'b, 'a> Numbers for SpanLengths<'b, 'a> {
     }
 }
 
-/// How many items each list has, of lists none of whose items is null.
+/// The lengths of lists, however many and however long these are.
+fn long_lengths<'a, L: Ledger>(
+    spans: &Spans,
+    arena: &'a Arena,
+    steps: &mut Steps<L>,
+) -> Result<Option<Lane<'a>>, NoMemory>
+    requires { AreOrdered 9223372036854775807 spans.now }
+    ensures { IfOk result (AreLengths spans.now) }
+{
+    let count = spans.starts.len() as u64;
+    let source = SpanLengths { spans };
+    if long_are_within(count, &source, steps) {
+        Ok(Some(made_lane(Kind::I64, count, &source, arena, steps)?))
+    } else {
+        Ok(None)
+    }
+}
+
+/// The lengths of few lists of few items, which are counted as their lengths are put down.
+#[tactic(auto, using(awk_lanes::proofs::MadeLanes::making))]
+fn few_lengths<'a>(spans: &Spans, arena: &'a Arena) -> Result<Option<Lane<'a>>, NoMemory>
+    requires ordered { AreOrdered 9223372036854775807 spans.now }
+    requires few { span_count spans.now ≤ 2147483648 }
+    requires short { (i : ℕ) → i < span_count spans.now → span_size spans.now i ≤ 4294967296 }
+    ensures { IfOk result (AreLengths spans.now) }
+{
+    let count = spans.starts.len() as u64;
+    let mut maker = IndexMaker::new(count, arena)?;
+    let mut total = 0;
+    for i in 0..count {
+        let length = span_length(spans, i);
+        maker.push(number(length));
+        total += length;
+    }
+    if total > ITEM_LIMIT {
+        return Ok(None);
+    }
+    Ok(Some(maker.finish()))
+}
+
+/// The lengths of lists, of which none has more than so many items, or none where these are too
+/// many together.
+fn lane_of_lengths<'a, L: Ledger>(
+    spans: &Spans,
+    most: u64,
+    arena: &'a Arena,
+    steps: &mut Steps<L>,
+) -> Result<Option<Lane<'a>>, NoMemory>
+    requires ordered { AreOrdered 9223372036854775807 spans.now }
+    requires most { (i : ℕ) → i < span_count spans.now → span_size spans.now i ≤ most }
+    ensures { IfOk result (AreLengths spans.now) }
+{
+    if spans.starts.len() as u64 > MOST_LISTS {
+        return long_lengths(spans, arena, steps);
+    }
+    if most > MOST_ITEMS {
+        return long_lengths(spans, arena, steps);
+    }
+    few_lengths(spans, arena)
+}
+
+/// How many items each list has, of lists none of whose items is null, or that they are too many
+/// together.
 pub(crate) fn lengths<'a, L: Ledger>(
     lists: &Lists<'a>,
     spans: &Spans,
@@ -87,13 +191,13 @@ pub(crate) fn lengths<'a, L: Ledger>(
     requires leaves { predicates.is_leaf (array_type lists.now.content) ≡ true }
     requires ends { AreEnds (size_of lists.now.starts) (at lists.now.starts) (at lists.now.stops)
         spans.now }
-    requires ordered { AreOrdered 9223372036854775807 spans.now }
-    requires few { before (span_size spans.now) (span_count spans.now) ≤ item_limit }
+    requires ordered { AreOrdered (len lists.now.content) spans.now }
     ensures { IfOk result (IsMade (reducer_function Reducer.Count) lists.now.class
         lists.now.starts lists.now.stops lists.now.content) }
 {
-    let _ = lists.content();
-    let count = spans.starts.len() as u64;
-    let lengths = made_lane(Kind::I64, count, &SpanLengths { spans }, arena, steps)?;
-    Ok(Made::Singles(Node::numpy(lengths, steps)))
+    let most = lists.content().len();
+    match lane_of_lengths(spans, most, arena, steps)? {
+        Some(lengths) => Ok(Made::Singles(Node::numpy(lengths, steps))),
+        None => Ok(Made::Spoiled(Spoil::Size)),
+    }
 }

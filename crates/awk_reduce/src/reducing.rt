@@ -1,16 +1,15 @@
 //! Reducers as functions of one list.
-ghost use Rattle.std.specs.Prelude.{◌≡◌, ◌≤◌, true, false, IfOk};
+ghost use Rattle.std.specs.Prelude.{◌≡◌, true, false, IfOk};
 ghost use Rattle.awk_types.specs.Faults.{fault_told};
 ghost use Rattle.awk_types.specs.Gives.{Gives};
-ghost use Rattle.awk_types.specs.ItemLimit.{item_limit};
 ghost use Rattle.awk_types.specs.Simple.{present};
-ghost use Rattle.awk_lanes.specs.Counted.{before};
 ghost use Rattle.awk_lanes.specs.Places.{size_of, at};
 ghost use Rattle.awk_layout.specs.Datum.{datum_of, IsDatum};
 ghost use Rattle.awk_layout.specs.Typing.{array_type};
+ghost use Rattle.awk_layout.specs.Valid.{len};
 ghost use Rattle.awk_axis.specs.Mapped.{IsMade};
 ghost use Rattle.awk_types.specs.Predicates.{is_leaf};
-ghost use Rattle.awk_parts.specs.Spans.{span_count, span_size, AreEnds};
+ghost use Rattle.awk_parts.specs.Spans.{AreEnds, AreOrdered};
 ghost use Rattle.awk_reduce.specs.Lists.{AreReady, AreReduced};
 ghost use Rattle.awk_reduce.specs.Reduce.{reducer_function, reduce_of};
 
@@ -60,7 +59,8 @@ fn reduced<'a, N: Kernels, L: Ledger>(
     }
 }
 
-/// What is made of lists none of whose items is null, as their items lie.
+/// What is made of lists none of whose items is null, as their items lie, or that these are too
+/// many.
 fn reduced_plain<'a, N: Kernels, L: Ledger>(
     alloc: Global,
     how: Reducer,
@@ -73,10 +73,15 @@ fn reduced_plain<'a, N: Kernels, L: Ledger>(
     requires leaves { is_leaf (array_type lists.now.content) ≡ true }
     requires ends { AreEnds (size_of lists.now.starts) (at lists.now.starts) (at lists.now.stops)
         spans.now }
-    requires few { before (span_size spans.now) (span_count spans.now) ≤ item_limit }
+    requires ordered { AreOrdered (len lists.now.content) spans.now }
     ensures { IfOk result (IsMade (reducer_function how) lists.now.class lists.now.starts
         lists.now.stops lists.now.content) }
 {
+    let most = lists.content().len();
+    let count = spans.starts.len() as u64;
+    if !are_within(count, most, &SpanLengths { spans }, steps) {
+        return Ok(Made::Spoiled(Spoil::Size));
+    }
     let lane = leaves_of(alloc, lists.content(), arena, steps)?;
     let x = ReadyLists {
         lists,
@@ -101,10 +106,6 @@ fn reduced_leaves<'a, N: Kernels, L: Ledger>(
 {
     let _ = lists.content();
     let spans = spans_of(lists.starts(), lists.stops(), arena, steps)?;
-    let count = spans.starts.len() as u64;
-    if !are_within(count, &SpanLengths { spans: &spans }, steps) {
-        return Ok(Made::Spoiled(Spoil::Size));
-    }
     match how {
         Reducer::Count => lengths(lists, &spans, arena, steps),
         _ => reduced_plain(alloc, how, lists, &spans, kernels, arena, steps),
@@ -125,7 +126,8 @@ fn reduced_options<'a, L: Ledger>(
         lists.now.stops lists.now.content) }
 {
     let bounds = Bounds::new(alloc, lists, arena, steps)?;
-    if are_within(bounds.len(), &bounds, steps) {
+    let most = bounds.content().len();
+    if are_within(bounds.len(), most, &bounds, steps) {
         let leaves = nullable_of(alloc, lists.content(), arena, steps)?;
         reduced_opened(alloc, how, &bounds, &leaves, arena, steps)
     } else {

@@ -1,9 +1,7 @@
 use Rattle.std.proofs.Common.{ap, sym, ◌∙◌, subst, arith}
 use Rattle.awk_lanes.specs.Column.{Column}
 use Rattle.awk_lanes.specs.Places.{size_of, IsIndexKind}
-use Rattle.awk_layout.specs.Laws.{len-fits}
 use Rattle.awk_layout.specs.Valid.{len}
-use Rattle.awk_reduce.proofs.ListLaws.{reduced_spoilt, total-is}
 use Rattle.awk_reduce.proofs.SpanLaws.{ends_same, ends_ordered}
 use Rattle.awk_reduce.proofs.reducing.reduced_leaves.Goals as goal
 
@@ -22,25 +20,6 @@ spans_of-requires-clause-same g c =
     ap size_of c.stops.ensures ∙ sym c.content.ensures.lists.spans.same_size
     ∙ sym (ap size_of c.starts.ensures)
 
-pub are_within-requires-clause-ready : goal.are_within-requires-clause-ready
-are_within-requires-clause-ready g c =
-    let l = c.args.lists.now in
-    let p = c.in_ok-spans.spans in
-    ends_ordered l.starts l.stops p
-    (ends_same c.starts.result.now c.stops.result.now l.starts l.stops p c.starts.ensures
-    c.stops.ensures c.in_ok-spans.ensures)
-    (len l.content) 9223372036854775807 c.content.ensures.lists.spans
-    (omega (arith, len-fits l.content c.content.ensures.lists.valid))
-
-pub returns-then-not-are_within : goal.returns-then-not-are_within
-returns-then-not-are_within g c =
-    let l = c.args.lists.now in
-    let p = c.in_ok-spans.spans in
-    let count = total-is l p (ends_same c.starts.result.now c.stops.result.now l.starts l.stops p
-    c.starts.ensures c.stops.ensures c.in_ok-spans.ensures) in
-    reduced_spoilt c.args.how l.starts l.stops l.content
-    (omega (arith, count, c.if-not-are_within.ensures))
-
 pub lengths-requires-clause-ordered : goal.lengths-requires-clause-ordered
 lengths-requires-clause-ordered g c =
     let l = c.args.lists.now in
@@ -48,5 +27,13 @@ lengths-requires-clause-ordered g c =
     ends_ordered l.starts l.stops p
     (ends_same c.starts.result.now c.stops.result.now l.starts l.stops p c.starts.ensures
     c.stops.ensures c.in_ok-spans.ensures)
-    (len l.content) 9223372036854775807 c.content.ensures.lists.spans
-    (omega (arith, len-fits l.content c.content.ensures.lists.valid))
+    (len l.content) (len l.content) c.content.ensures.lists.spans (omega arith)
+
+pub reduced_plain-requires-clause-ordered : goal.reduced_plain-requires-clause-ordered
+reduced_plain-requires-clause-ordered g c =
+    let l = c.args.lists.now in
+    let p = c.in_ok-spans.spans in
+    ends_ordered l.starts l.stops p
+    (ends_same c.starts.result.now c.stops.result.now l.starts l.stops p c.starts.ensures
+    c.stops.ensures c.in_ok-spans.ensures)
+    (len l.content) (len l.content) c.content.ensures.lists.spans (omega arith)

@@ -4,8 +4,10 @@ use Rattle.awk_types.specs.Simple.{present, is_option}
 use Rattle.awk_lanes.specs.Counted.{before}
 use Rattle.awk_lanes.specs.Places.{size_of}
 use Rattle.awk_layout.specs.Typing.{array_type}
+use Rattle.awk_layout.specs.Valid.{len}
 use Rattle.awk_columns.specs.Lists.{Listed, span_length}
 use Rattle.awk_reduce.proofs.ListLaws.{reduced_spoilt, total-before, optional_leaf}
+use Rattle.awk_reduce.proofs.SpanLaws.{lists_short}
 use Rattle.awk_reduce.proofs.reducing.reduced_options.Goals as goal
 
 pub returns-else-are_within : goal.returns-else-are_within
@@ -23,12 +25,13 @@ returns-else-are_within g c =
 pub nullable_of-requires-clause-optional : goal.nullable_of-requires-clause-optional
 nullable_of-requires-clause-optional g c =
     let l = c.args.lists.now in
-    ap (λ y. is_option (array_type y)) c.content.ensures.content
+    ap (λ y. is_option (array_type y)) c.content-then-are_within.ensures.content
     ∙ optional_leaf (array_type l.content) c.requires.optional c.requires.leaves
 
 pub nullable_of-requires-clause-leaves : goal.nullable_of-requires-clause-leaves
 nullable_of-requires-clause-leaves g c =
-    ap (λ y. is_leaf (present (array_type y))) c.content.ensures.content ∙ c.requires.leaves
+    ap (λ y. is_leaf (present (array_type y))) c.content-then-are_within.ensures.content
+    ∙ c.requires.leaves
 
 pub reduced_opened-requires-clause-few : goal.reduced_opened-requires-clause-few
 reduced_opened-requires-clause-few g c =
@@ -38,4 +41,15 @@ reduced_opened-requires-clause-few g c =
       total-before b.starts b.stops b.content,
       ap (before (span_length b.starts b.stops)) c.len.ensures.len,
       c.if-are_within.ensures,
+    )
+
+pub are_within-requires-clause-most : goal.are_within-requires-clause-most
+are_within-requires-clause-most g c i k =
+    let b = c.in_ok-bounds.bounds in
+    omega (
+      arith,
+      lists_short b.starts b.stops (len b.content) c.content.ensures.lists.spans i
+          (omega (arith, k, c.len.ensures.len)),
+      ap len c.content.ensures.content,
+      c.len-most.ensures.len,
     )

@@ -1,7 +1,7 @@
 use Rattle.std.proofs.Common.{arith}
 use Rattle.awk_types.specs.ItemLimit.{item_limit}
 use Rattle.awk_lanes.proofs.CountedLanes.{total_passed}
-use Rattle.awk_reduce.proofs.lengths.are_within.Goals as goal
+use Rattle.awk_reduce.proofs.lengths.long_are_within.Goals as goal
 
 pub returns-then-length-total : goal.returns-then-length-total
 returns-then-length-total g c =

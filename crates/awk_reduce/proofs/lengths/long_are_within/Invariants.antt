@@ -1,6 +1,6 @@
 use Rattle.std.proofs.Common.{◌≡◌, ◌≤◌}
 use Rattle.awk_lanes.specs.Counted.{before}
-use Rattle.awk_reduce.proofs.lengths.are_within.Given as goal
+use Rattle.awk_reduce.proofs.lengths.long_are_within.Given as goal
 
 abbrev pub invariant-loop-i : goal.invariant-loop-i
 invariant-loop-i g l = record {
