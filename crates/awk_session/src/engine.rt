@@ -200,6 +200,7 @@ impl<'a> Engine<'a> {
     {
         self.line_raw(alloc, bytes, &[], out, sink, steps)
     }
+
     /// Answers a line that is not blank with the raw bytes behind it, as `line_raw` does. The line
     /// is given up: once it is read, the bytes of a long text of a load may lie in its memory, so
     /// that they need no other, and its place owns that from then on. Else it is given back.
