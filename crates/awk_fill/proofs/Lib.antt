@@ -1,4 +1,3 @@
 pub mod FillLaws
-pub mod MovedBits
 pub mod NumberLaws
 mod WorkedFill

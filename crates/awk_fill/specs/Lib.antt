@@ -1,3 +1,2 @@
 pub mod FillNone
 pub mod Filled
-pub mod Moved

@@ -19,11 +19,11 @@ ghost use Rattle.awk_fill.specs.Filled.{IsFilledOption, IsRefused, AreKept};
 ghost use Rattle.awk_fill.specs.FillNone.{literal_refusal, filler_refusal, filler_type};
 ghost use Rattle.awk_fill.specs.FillNone.{fill_none_function, fill_none_of};
 
-use crate::moving::array_in;
 use crate::numbers::filled_numbers;
 use crate::parts::parts_of;
 use awk_axis::{ListOp, Made, Refusal, Spoil, lift_at};
 use awk_columns::{Joined, Lists};
+use awk_copies::array_in;
 use awk_lanes::{
     Arena, Index, Kind, Lane, LaneMaker, Num, Numbers, Steps, index_of, made_lane, number,
 };

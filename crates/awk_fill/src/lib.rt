@@ -5,7 +5,6 @@
 #![tactic(auto)]
 
 mod filling;
-mod moving;
 mod numbers;
 mod parts;
 

@@ -1,5 +1,5 @@
 use Rattle.awk_base.proofs.Lists.{take-get}
-use Rattle.awk_fill.proofs.moving.+moving.Goals as goal
+use Rattle.awk_copies.proofs.moving.+moving.Goals as goal
 
 pub nodes_in-loop-i-preserved : goal.nodes_in-loop-i-preserved
 nodes_in-loop-i-preserved g t c =

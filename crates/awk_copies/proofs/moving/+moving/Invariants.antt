@@ -1,6 +1,6 @@
 use Rattle.std.proofs.Common.{◌≡◌, ◌+◌, ◌*◌, take}
 use Rattle.awk_layout.specs.Layout.{height, heights, layouts_from}
-use Rattle.awk_fill.proofs.moving.+moving.Given as goal
+use Rattle.awk_copies.proofs.moving.+moving.Given as goal
 
 abbrev pub decreases-node_in : goal.decreases-node_in
 decreases-node_in g l = 2 * height l.x.now

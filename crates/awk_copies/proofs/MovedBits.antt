@@ -7,7 +7,7 @@ use Rattle.std.proofs.lemmas.List.{ext_get_or}
 use Rattle.std.proofs.lemmas.List.FromFn.{get_or-map-range_with_len, length-map-range_with_len}
 use Rattle.awk_lanes.specs.Bits.{bit, bits}
 use Rattle.awk_lanes.proofs.BitParts.{length-bits, get_or-bits}
-use Rattle.awk_fill.specs.Moved.{one_if, eight}
+use Rattle.awk_copies.specs.Moved.{one_if, eight}
 
 at_most_one : (b : Bool) → one_if b ≤ 1
 at_most_one true = omega arith

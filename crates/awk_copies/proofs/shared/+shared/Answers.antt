@@ -3,7 +3,7 @@ use Rattle.std.proofs.Common.{◌+◌, ◌++◌, ◌∷◌, [], ap₂, sym, ◌�
 use Rattle.awk_base.proofs.Lists.{take-get}
 use Rattle.awk_layout.specs.Contents.{weight-get}
 use Rattle.awk_range.proofs.Weights.{weights-take_more, weights-take-le}
-use Rattle.awk_eval.proofs.shared.+shared.Goals as goal
+use Rattle.awk_copies.proofs.shared.+shared.Goals as goal
 
 pub shared_all-shared-requires : goal.shared_all-shared-requires
 shared_all-shared-requires g t c κs within =

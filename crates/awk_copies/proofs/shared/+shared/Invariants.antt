@@ -1,7 +1,7 @@
 -- A node falls to its contents by their number, and the nodes so far are the first ones.
 use Rattle.std.proofs.Common.{◌≡◌, ◌+◌, ◌*◌, ◌≤◌, take}
 use Rattle.awk_layout.specs.Layout.{layouts_from, weight, weights}
-use Rattle.awk_eval.proofs.shared.+shared.Given as goal
+use Rattle.awk_copies.proofs.shared.+shared.Given as goal
 
 abbrev pub decreases-shared : goal.decreases-shared
 decreases-shared g l = 2 * weight l.x.now

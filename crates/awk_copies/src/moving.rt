@@ -1,6 +1,6 @@
 //! The same columns over bytes of their own, in another arena.
 ghost use Rattle.std.specs.Prelude.{◌≡◌, ◌+◌, ◌<◌, ◌^◌, length, get_or, false, IfOk};
-ghost use Rattle.awk_fill.specs.Moved.{one_if, eight};
+ghost use Rattle.awk_copies.specs.Moved.{one_if, eight};
 
 use awk_lanes::{Arena, Bits, Lane, Steps};
 use awk_layout::{Array, Class, Node, Nodes};

@@ -1,8 +1,8 @@
 use Rattle.std.proofs.Common.{◌*◌, ◌++◌, ◌∷◌, [], ap₂, sym, ◌∙◌, arith}
 use Rattle.std.proofs.lemmas.List.FromFn.{map-range_with_len_more}
-use Rattle.awk_fill.specs.Moved.{eight}
-use Rattle.awk_fill.proofs.MovedBits.{bits_same, bytes_length}
-use Rattle.awk_fill.proofs.moving.bits_in.Goals as goal
+use Rattle.awk_copies.specs.Moved.{eight}
+use Rattle.awk_copies.proofs.MovedBits.{bits_same, bytes_length}
+use Rattle.awk_copies.proofs.moving.bits_in.Goals as goal
 
 pub loop-k-preserved : goal.loop-k-preserved
 loop-k-preserved g c =
