@@ -2,7 +2,7 @@
 //!
 //! A function is a value of `ListOp`: a refusal by the type, the type that it gives, and a maker of
 //! one column. `lift_at` applies it at an axis and `lift_deep` to the innermost lists; `Refusal`
-//! and `Spoil` are why types and values are refused.
+//! and `Spoil` are why types and values are refused. 
 #![tactic(auto)]
 
 mod causes;
