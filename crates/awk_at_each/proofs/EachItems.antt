@@ -31,9 +31,9 @@ use Rattle.awk_gather.proofs.GatheredArrays.{gathered_of}
 use Rattle.awk_gather.proofs.PickedNodes.{flat_picked}
 use Rattle.awk_lanes.specs.Made.{lane_of}
 use Rattle.awk_lanes.proofs.MadeLanes.{size-lane_of, at-lane_of}
-use Rattle.awk_axis.specs.Mapped.{IsColumn}
+use Rattle.awk_list_functions.specs.Made.{IsColumn}
 use Rattle.awk_columns.specs.Lists.{items_at, all_items_at}
-use Rattle.awk_axis.specs.declared.causes.Spoil.TheVariants.{Index}
+use Rattle.awk_list_functions.specs.declared.causes.Spoil.TheVariants.{Index}
 use Rattle.awk_select.specs.Cells.{IsBelow}
 use Rattle.awk_at_each.specs.Each.{item_in, lacks_place, item_at, item_place, item_number, AllHave}
 use Rattle.awk_at_each.specs.Each.{number_by}

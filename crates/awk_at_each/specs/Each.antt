@@ -11,9 +11,9 @@ use Rattle.awk_lanes.specs.Places.{size_of, place_at}
 use Rattle.awk_lanes.specs.declared.kind.Kind.TheVariants.{I64}
 use Rattle.awk_layout.specs.Item.{at_option}
 use Rattle.awk_lanes.specs.Made.{lane_of}
-use Rattle.awk_axis.specs.ListFunction.{ListFunction, singles}
-use Rattle.awk_axis.specs.Lifting.{lift}
-use Rattle.awk_axis.specs.declared.causes.Spoil.TheVariants.{Index}
+use Rattle.awk_list_functions.specs.ListFunction.{ListFunction, singles}
+use Rattle.awk_list_functions.specs.Lifting.{lift}
+use Rattle.awk_list_functions.specs.declared.causes.Spoil.TheVariants.{Index}
 use Rattle.awk_select.specs.Places.{place_in}
 
 -- the item of a list at a place

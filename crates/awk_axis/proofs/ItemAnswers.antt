@@ -16,18 +16,19 @@ use Rattle.awk_layout.specs.Valid.{len}
 use Rattle.awk_layout.specs.Typing.{array_type, array_items}
 use Rattle.awk_layout.proofs.ArrayItems.{length-array_items, array_items-one}
 use Rattle.awk_gather.specs.Arrays.{array_item}
-use Rattle.awk_axis.specs.declared.causes.Spoil.{Spoil}
-use Rattle.awk_axis.specs.declared.place.Reach.{Reach}
+use Rattle.awk_list_functions.specs.declared.causes.Spoil.{Spoil}
+use Rattle.awk_list_functions.specs.declared.place.Reach.{Reach}
 use Rattle.awk_axis.specs.declared.lift.Mapped.TheVariants as mapped
-use Rattle.awk_axis.specs.Causes.{first_spoil}
-use Rattle.awk_axis.specs.Spoils.{too_many, spoil_at}
-use Rattle.awk_axis.specs.ListFunction.{ListFunction}
-use Rattle.awk_axis.specs.Lift.{refusal_at, lifted_type, lifted_value}
-use Rattle.awk_axis.specs.Lifting.{spoil_fault, on_items, on_one}
-use Rattle.awk_axis.specs.Mapped.{IsMapped, IsLifted}
+use Rattle.awk_list_functions.specs.Causes.{first_spoil}
+use Rattle.awk_list_functions.specs.Spoils.{too_many, spoil_at}
+use Rattle.awk_list_functions.specs.ListFunction.{ListFunction}
+use Rattle.awk_list_functions.specs.Lift.{refusal_at, lifted_type, lifted_value}
+use Rattle.awk_list_functions.specs.Lifting.{spoil_fault, on_items, on_one}
+use Rattle.awk_list_functions.specs.Made.{IsMapped}
+use Rattle.awk_axis.specs.Mapped.{IsLifted}
 use Rattle.awk_columns.proofs.ArrayLaws.{array_items-at}
-use Rattle.awk_axis.proofs.CauseLaws.{first_spoil-none_after}
-use Rattle.awk_axis.proofs.JudgedTypes.{told_values}
+use Rattle.awk_list_functions.proofs.CauseLaws.{first_spoil-none_after}
+use Rattle.awk_list_functions.proofs.JudgedTypes.{told_values}
 
 mapped_items : (t : DataType) (g : Value → Value) (x y : Layout) → IsMapped t g x y
     → array_items y ≡ map (λ v. simple_value t (g v)) (array_items x)

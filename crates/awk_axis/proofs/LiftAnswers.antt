@@ -9,9 +9,9 @@ use Rattle.awk_types.specs.Gives.{Gives}
 use Rattle.awk_types.specs.declared.fault.Fault.{Fault}
 use Rattle.awk_layout.specs.Datum.{datum_of}
 use Rattle.awk_layout.specs.declared.datum.Datum as code
-use Rattle.awk_axis.specs.declared.place.Reach.TheVariants.{Axis}
-use Rattle.awk_axis.specs.ListFunction.{ListFunction}
-use Rattle.awk_axis.specs.Lifting.{on_items, lift}
+use Rattle.awk_list_functions.specs.declared.place.Reach.TheVariants.{Axis}
+use Rattle.awk_list_functions.specs.ListFunction.{ListFunction}
+use Rattle.awk_list_functions.specs.Lifting.{on_items, lift}
 
 pub lift_items : (f : ListFunction) (n m : ℕ) (t : DataType) (vs : List Value) → 0 < n → m ≡ n - 1
     → lift f (pos n) (arr t vs) ≡ on_items f (Axis m) t vs

@@ -19,17 +19,19 @@ use Rattle.awk_layout.specs.Valid.{len, len_of, AllValid, AllReach, IsUnion}
 use Rattle.awk_layout.specs.Item.{item, item_of, items_across}
 use Rattle.awk_layout.specs.Typing.{layout_type, layout_types, array_type, array_items}
 use Rattle.awk_layout.proofs.Runs.{run-same}
-use Rattle.awk_axis.specs.declared.causes.Refusal.{Refusal}
-use Rattle.awk_axis.specs.declared.causes.Refusal.TheVariants.{WrongType}
-use Rattle.awk_axis.specs.declared.place.Reach.{Reach}
-use Rattle.awk_axis.specs.Reach.{here, inner, passes_rows}
-use Rattle.awk_axis.specs.Causes.{first_spoil}
+use Rattle.awk_list_functions.specs.declared.causes.Refusal.{Refusal}
+use Rattle.awk_list_functions.specs.declared.causes.Refusal.TheVariants.{WrongType}
+use Rattle.awk_list_functions.specs.declared.place.Reach.{Reach}
+use Rattle.awk_list_functions.specs.Reach.{here, inner, passes_rows}
+use Rattle.awk_list_functions.specs.Causes.{first_spoil}
 use Rattle.awk_columns.specs.Columns.{lists_among}
 use Rattle.awk_columns.specs.ListClass.{Class, list_type}
-use Rattle.awk_axis.specs.ListFunction.{Giving, ListFunction, given_type, given_value}
-use Rattle.awk_axis.specs.Lift.{lifted_type, lifted_types, lifted_value, lifted_values, refusal_at}
-use Rattle.awk_axis.specs.Lift.{refusal_among, on_list}
-use Rattle.awk_axis.specs.Spoils.{spoil_at, spoils_at, spoil_inside, spoil_across, spoil_among}
+use Rattle.awk_list_functions.specs.ListFunction.{Giving, ListFunction, given_type, given_value}
+use Rattle.awk_list_functions.specs.Lift.{lifted_type, lifted_types, lifted_value, lifted_values}
+use Rattle.awk_list_functions.specs.Lift.{refusal_at}
+use Rattle.awk_list_functions.specs.Lift.{refusal_among, on_list}
+use Rattle.awk_list_functions.specs.Spoils.{spoil_at, spoils_at, spoil_inside, spoil_across}
+use Rattle.awk_list_functions.specs.Spoils.{spoil_among}
 use Rattle.awk_columns.specs.Lists.{items_at}
 use Rattle.awk_open.specs.Opened.{AreLong}
 use Rattle.awk_open.proofs.OpenedKinds.{item-lists}
@@ -37,7 +39,7 @@ use Rattle.awk_open.specs.Opens.{across, item_among, OpensLists, OpensOption, Op
 use Rattle.awk_columns.specs.Parts.{AreParts, AreAlternatives}
 use Rattle.awk_gather.specs.Arrays.{array_item}
 use Rattle.awk_columns.specs.Joined.{AreOffsets, JoinsLists}
-use Rattle.awk_axis.specs.Mapped.{IsColumn, IsMapped, AreGiven, AreSpanned, IsUnsized}
+use Rattle.awk_list_functions.specs.Made.{IsColumn, IsMapped, AreGiven, AreSpanned, IsUnsized}
 use Rattle.awk_axis.specs.Mapped.{spoil_of_all, AreMapped}
 use Rattle.awk_columns.specs.ListNode.{list_layout}
 use Rattle.awk_columns.proofs.ListNodes.{simple-list, simple_value-list, array_type-list, len-list}

@@ -15,19 +15,20 @@ use Rattle.awk_lanes.specs.Places.{size_of}
 use Rattle.awk_layout.specs.Layout.{Layout, layouts_from, rows, optional, union}
 use Rattle.awk_layout.specs.Layout.{lists as spanned}
 use Rattle.awk_layout.specs.Valid.{len, IsValid}
-use Rattle.awk_axis.proofs.CauseLaws.{sooner-both, first_spoil-assoc, first_spoil-none}
-use Rattle.awk_axis.proofs.IndexLaws.{spoil_at-never, first_spoil-size}
+use Rattle.awk_list_functions.proofs.CauseLaws.{sooner-both, first_spoil-assoc, first_spoil-none}
+use Rattle.awk_list_functions.proofs.IndexLaws.{spoil_at-never, first_spoil-size}
 use Rattle.awk_layout.specs.Typing.{array_type, array_items}
-use Rattle.awk_axis.specs.declared.causes.Spoil.{Spoil}
-use Rattle.awk_axis.specs.declared.causes.Spoil.TheVariants.{Size}
-use Rattle.awk_axis.specs.declared.place.Reach.{Reach}
-use Rattle.awk_axis.specs.Reach.{here, inner}
-use Rattle.awk_axis.specs.Causes.{first_spoil}
+use Rattle.awk_list_functions.specs.declared.causes.Spoil.{Spoil}
+use Rattle.awk_list_functions.specs.declared.causes.Spoil.TheVariants.{Size}
+use Rattle.awk_list_functions.specs.declared.place.Reach.{Reach}
+use Rattle.awk_list_functions.specs.Reach.{here, inner}
+use Rattle.awk_list_functions.specs.Causes.{first_spoil}
 use Rattle.awk_columns.specs.ListClass.{Class, list_type}
-use Rattle.awk_axis.specs.ListFunction.{Giving, lists, singles, ListFunction, NeverIndex}
-use Rattle.awk_axis.specs.ListFunction.{given_type, given_value, given_class}
-use Rattle.awk_axis.specs.Lift.{lifted_type, lifted_value, on_list, refusal_at, refusal_among}
-use Rattle.awk_axis.specs.Spoils.{spoil_at, too_many}
+use Rattle.awk_list_functions.specs.ListFunction.{Giving, lists, singles, ListFunction, NeverIndex}
+use Rattle.awk_list_functions.specs.ListFunction.{given_type, given_value, given_class}
+use Rattle.awk_list_functions.specs.Lift.{lifted_type, lifted_value, on_list, refusal_at}
+use Rattle.awk_list_functions.specs.Lift.{refusal_among}
+use Rattle.awk_list_functions.specs.Spoils.{spoil_at, too_many}
 use Rattle.awk_axis.specs.Taken.{told}
 use Rattle.awk_columns.specs.Lists.{items_at, all_items_at}
 use Rattle.awk_open.specs.Opens.{OpensLists, OpensOption, OpensRow, OpensUnion}
@@ -35,8 +36,10 @@ use Rattle.awk_gather.specs.Arrays.{array_item}
 use Rattle.awk_columns.specs.Joined.{AreOffsets, JoinsLists, total}
 use Rattle.awk_axis.specs.declared.lift.Mapped.{Mapped}
 use Rattle.awk_axis.specs.declared.lift.Mapped.TheVariants as mapped
-use Rattle.awk_axis.specs.Mapped.{GivesLists, GivesSpans, IsColumn, IsMapped, IsAtAxis, IsLifted}
-use Rattle.awk_axis.specs.Mapped.{AreMapped, IsSized, IsSizedWithin, even_offsets, spoil_of_all}
+use Rattle.awk_list_functions.specs.Made.{GivesLists, GivesSpans, IsColumn, IsMapped}
+use Rattle.awk_axis.specs.Mapped.{IsAtAxis, IsLifted}
+use Rattle.awk_list_functions.specs.Made.{IsSized, IsSizedWithin, even_offsets}
+use Rattle.awk_axis.specs.Mapped.{AreMapped, spoil_of_all}
 use Rattle.awk_columns.specs.ListNode.{AreEven, list_layout}
 use Rattle.awk_counts.specs.Counted.{spans}
 use Rattle.awk_columns.specs.Reached.{IsReached}

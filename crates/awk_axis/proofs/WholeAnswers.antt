@@ -22,20 +22,20 @@ use Rattle.awk_layout.specs.Valid.{len}
 use Rattle.awk_layout.specs.Typing.{array_type, array_items}
 use Rattle.awk_layout.proofs.Runs.{value_list-run}
 use Rattle.awk_gather.specs.Arrays.{array_item}
-use Rattle.awk_axis.specs.declared.causes.Spoil.{Spoil}
-use Rattle.awk_axis.specs.declared.function.Made.TheVariants as made
+use Rattle.awk_list_functions.specs.declared.causes.Spoil.{Spoil}
+use Rattle.awk_list_functions.specs.declared.function.Made.TheVariants as made
 use Rattle.awk_columns.specs.ListClass.{Class, list_type}
-use Rattle.awk_axis.specs.ListFunction.{Giving, lists, singles, ListFunction}
-use Rattle.awk_axis.specs.ListFunction.{made_type, given_class, given_type, given_value}
-use Rattle.awk_axis.specs.Lifting.{spoil_fault, on_whole}
-use Rattle.awk_axis.specs.Mapped.{AreGiven, GivesLists, GivesSpans, GivesSingles, IsMade}
-use Rattle.awk_axis.specs.Mapped.{even_offsets}
+use Rattle.awk_list_functions.specs.ListFunction.{Giving, lists, singles, ListFunction}
+use Rattle.awk_list_functions.specs.ListFunction.{made_type, given_class, given_type, given_value}
+use Rattle.awk_list_functions.specs.Lifting.{spoil_fault, on_whole}
+use Rattle.awk_list_functions.specs.Made.{AreGiven, GivesLists, GivesSpans, GivesSingles, IsMade}
+use Rattle.awk_list_functions.specs.Made.{even_offsets}
 use Rattle.awk_columns.specs.Lists.{AreLists, items_at, all_items_at}
 use Rattle.awk_counts.specs.Counted.{spans}
 use Rattle.awk_columns.specs.Reached.{IsReached}
 use Rattle.awk_columns.proofs.ArrayLaws.{array_items-at}
 use Rattle.awk_columns.proofs.JoinLaws.{reached-items}
-use Rattle.awk_axis.proofs.JudgedTypes.{told_values}
+use Rattle.awk_list_functions.proofs.JudgedTypes.{told_values}
 
 -- a lane of one number
 abbrev pub single : ℕ → Column

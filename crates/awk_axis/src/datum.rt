@@ -4,14 +4,13 @@ ghost use Rattle.awk_types.specs.Faults.{fault_told};
 ghost use Rattle.awk_types.specs.Gives.{Gives};
 ghost use Rattle.awk_layout.specs.Datum.{datum_of, IsDatum};
 ghost use Rattle.awk_layout.specs.Typing.{array_datum};
-ghost use Rattle.awk_axis.specs.Lifting.{lift, deep};
+ghost use Rattle.awk_list_functions.specs.Lifting.{lift, deep};
 
-use crate::function::ListOp;
 use crate::items::{on_items, on_one};
-use crate::place::Reach;
 use crate::whole::on_whole;
 use awk_lanes::{Arena, Steps};
 use awk_layout::{Array, Datum};
+use awk_list_functions::{ListOp, Reach};
 use awk_types::Fault;
 use std::alloc::Global;
 use std::sync::ledger::Ledger;

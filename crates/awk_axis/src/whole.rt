@@ -9,15 +9,14 @@ ghost use Rattle.awk_layout.specs.Typing.{array_type, array_items};
 ghost use Rattle.awk_counts.specs.Counted.{spans};
 ghost use Rattle.awk_columns.specs.Lists.{AreLists};
 ghost use Rattle.awk_columns.specs.Reached.{IsReached};
-ghost use Rattle.awk_axis.specs.Lifting as spec;
-ghost use Rattle.awk_axis.specs.ListFunction.{made_type};
+ghost use Rattle.awk_list_functions.specs.Lifting as spec;
+ghost use Rattle.awk_list_functions.specs.ListFunction.{made_type};
 ghost use Rattle.awk_axis.specs.OneList.{one_list};
 
-use crate::function::{ListOp, Made};
-use crate::judged::{judged_whole, spoilt};
 use awk_columns::Lists;
 use awk_lanes::{Arena, Lane, Steps, one_number};
 use awk_layout::{Array, Datum, Node};
+use awk_list_functions::{ListOp, Made, judged_whole, spoilt};
 use awk_types::{Fault, NoMemory};
 use awk_view::settled;
 use std::alloc::Global;

@@ -27,9 +27,9 @@ use Rattle.awk_gather.specs.Arrays.{array_item}
 use Rattle.awk_open.proofs.OpenedKinds.{item-rows, type-rows}
 use Rattle.awk_columns.specs.Lists.{AreLists, items_at, all_items_at, span_length}
 use Rattle.awk_columns.specs.ListClass.{Class}
-use Rattle.awk_axis.specs.Mapped.{AreGiven}
-use Rattle.awk_axis.specs.Spoils.{too_many}
-use Rattle.awk_axis.specs.declared.causes.Spoil.TheVariants.{Size}
+use Rattle.awk_list_functions.specs.Made.{AreGiven}
+use Rattle.awk_list_functions.specs.Spoils.{too_many}
+use Rattle.awk_list_functions.specs.declared.causes.Spoil.TheVariants.{Size}
 use Rattle.awk_places.specs.Places.{rising_places}
 use Rattle.awk_places.proofs.FlatLaws.{map-in_place, all-at}
 use Rattle.awk_combi.specs.Combinations.{slot_type, slots, tuple_type, slot_value, tuple_at, tuples}
@@ -39,7 +39,7 @@ use Rattle.awk_combi.specs.Slots.{AreSlots, AreOfSize, AreTuples}
 use Rattle.awk_combi.specs.declared.slots.Placed.{Placed}
 use Rattle.awk_combi.specs.Spans.{first_place, tuples_at, count_at, place_in, slot_lane, slot_lanes}
 use Rattle.awk_columns.proofs.OffsetLaws.{are_offsets, offset-length, items_at-length, count_given}
-use Rattle.awk_axis.proofs.SpoilLimits.{over_limit, within_limit}
+use Rattle.awk_list_functions.proofs.SpoilLimits.{over_limit, within_limit}
 use Rattle.awk_combi.proofs.SpanLaws.{size-slot, tuple_long, tuple_below, first-full, within}
 use Rattle.awk_combi.proofs.SpanLaws.{is_slot_lane}
 use Rattle.awk_combi.proofs.TypeLaws.{simple-tuple, value-tuple}

@@ -7,10 +7,11 @@ ghost use Rattle.awk_combi.specs.Combinations.{combinations_function, combinatio
 
 use crate::tuples::{Tuples, tuples_of};
 use crate::typing::tuple_typ;
-use awk_axis::{ListOp, Made, Refusal, lift_at};
+use awk_axis::lift_at;
 use awk_columns::Lists;
 use awk_lanes::{Arena, Steps};
 use awk_layout::Datum;
+use awk_list_functions::{ListOp, Made, Refusal};
 use awk_types::{Fault, NoMemory, Typ};
 use std::alloc::Global;
 use std::sync::ledger::Ledger;

@@ -1,16 +1,16 @@
 //! Columns of tuples.
 ghost use Rattle.std.specs.Prelude.{◌≡◌, ◌<◌, ◌^◌, IfOk};
 ghost use Rattle.awk_layout.specs.Valid.{len};
-ghost use Rattle.awk_axis.specs.Mapped.{IsMade};
+ghost use Rattle.awk_list_functions.specs.Made.{IsMade};
 ghost use Rattle.awk_combi.specs.Combinations.{combinations_function};
 ghost use Rattle.awk_combi.specs.Slots.{AreTuples, AreOfSize, AreSlotLanes};
 
 use crate::slots::{Placed, slot_nodes, tuple_places};
 use crate::typing::slots_made;
-use awk_axis::{Made, Spoil};
 use awk_columns::Lists;
 use awk_lanes::{Arena, Steps};
 use awk_layout::{Array, Node};
+use awk_list_functions::{Made, Spoil};
 use awk_places::Rising;
 use awk_types::NoMemory;
 use std::alloc::Global;

@@ -39,15 +39,15 @@ use Rattle.awk_layout.proofs.ArrayItems.{length-array_items, get_or-array_items}
 use Rattle.awk_gather.specs.Arrays.{array_item}
 use Rattle.awk_lanes.proofs.MadeLanes.{at-lane_of, size-lane_of}
 use Rattle.awk_columns.specs.Joined.{JoinsLists, total}
-use Rattle.awk_axis.specs.Lifting.{lift}
+use Rattle.awk_list_functions.specs.Lifting.{lift}
 use Rattle.awk_columns.specs.ListClass.{Class}
-use Rattle.awk_axis.specs.Mapped.{AreGiven, AreSpanned}
+use Rattle.awk_list_functions.specs.Made.{AreGiven, AreSpanned}
 use Rattle.awk_columns.specs.Lists.{AreLists, items_at, all_items_at}
 use Rattle.awk_open.specs.Opens.{OpensOption}
 use Rattle.awk_open.specs.Opened.{IsOpened}
 use Rattle.awk_open.specs.declared.opening.Opened.TheVariants.{Option as Optional}
-use Rattle.awk_axis.specs.Spoils.{too_many}
-use Rattle.awk_axis.specs.declared.causes.Spoil.TheVariants.{Size as TooLarge}
+use Rattle.awk_list_functions.specs.Spoils.{too_many}
+use Rattle.awk_list_functions.specs.declared.causes.Spoil.TheVariants.{Size as TooLarge}
 use Rattle.awk_columns.proofs.ArrayLaws.{run_map}
 use Rattle.awk_columns.proofs.ListNodes.{joined_even}
 use Rattle.awk_unify.specs.Carry.{Carry, keep, carried}
@@ -66,7 +66,7 @@ use Rattle.awk_fill.specs.FillNone.{filler_type, filling, fill_value, filled, fi
 use Rattle.awk_fill.specs.FillNone.{fill_none_function, no_filler, fill_none_of}
 use Rattle.awk_option_nodes.proofs.OptionNodes.{HasItems, item_stays, span_stays}
 use Rattle.awk_list_ends.proofs.SpanLaws.{start_there}
-use Rattle.awk_axis.proofs.SpoilLimits.{over_limit, within_limit}
+use Rattle.awk_list_functions.proofs.SpoilLimits.{over_limit, within_limit}
 use Rattle.awk_columns.proofs.OffsetLaws.{count_same}
 
 -- ---- two columns

@@ -5,11 +5,11 @@ use Rattle.awk_types.specs.Datum.{Datum, arr, one}
 use Rattle.awk_types.specs.Value.{Value, null}
 use Rattle.awk_types.specs.declared.fault.Fault.{Fault}
 use Rattle.awk_types.specs.declared.fault.Fault.TheVariants.{Axis, WrongType}
-use Rattle.awk_axis.specs.Counted.{counted}
-use Rattle.awk_axis.specs.Lifting.{lift}
-use Rattle.awk_axis.specs.ListFunction.{ListFunction, lists}
-use Rattle.awk_axis.specs.declared.causes.Refusal.{Refusal}
-use Rattle.awk_axis.specs.declared.causes.Refusal.TheVariants as refused
+use Rattle.awk_list_functions.specs.Counted.{counted}
+use Rattle.awk_list_functions.specs.Lifting.{lift}
+use Rattle.awk_list_functions.specs.ListFunction.{ListFunction, lists}
+use Rattle.awk_list_functions.specs.declared.causes.Refusal.{Refusal}
+use Rattle.awk_list_functions.specs.declared.causes.Refusal.TheVariants as refused
 use Rattle.awk_layout.specs.Filler.{Filler, literal, datum, is_filler, filler_value}
 use Rattle.awk_unify.specs.Carry.{carried}
 use Rattle.awk_unify.specs.Unification.{Unification}

@@ -22,8 +22,8 @@ use Rattle.awk_layout.specs.declared.datum.Datum.{Datum}
 use Rattle.awk_gather.specs.Arrays.{array_item}
 use Rattle.awk_lanes.specs.Made.{lane_of}
 use Rattle.awk_columns.specs.ListClass.{Class}
-use Rattle.awk_axis.specs.Mapped.{IsMade}
-use Rattle.awk_axis.specs.declared.function.Made.{Made}
+use Rattle.awk_list_functions.specs.Made.{IsMade}
+use Rattle.awk_list_functions.specs.declared.function.Made.{Made}
 use Rattle.awk_unify.specs.Carry.{carried}
 use Rattle.awk_unify.specs.Unification.{Unification}
 use Rattle.awk_fill.specs.FillNone.{filled, filled_type, fill_none_function, no_filler}

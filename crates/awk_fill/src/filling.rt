@@ -21,7 +21,7 @@ ghost use Rattle.awk_fill.specs.FillNone.{fill_none_function, fill_none_of};
 
 use crate::numbers::filled_numbers;
 use crate::parts::parts_of;
-use awk_axis::{ListOp, Made, Refusal, Spoil, lift_at};
+use awk_axis::lift_at;
 use awk_columns::{Joined, Lists};
 use awk_copies::array_in;
 use awk_lanes::{
@@ -29,6 +29,7 @@ use awk_lanes::{
 };
 use awk_layout::{Array, Datum, Node, Operand, kind_of, number_of};
 use awk_list_ends::are_few;
+use awk_list_functions::{ListOp, Made, Refusal, Spoil};
 use awk_merge_columns::merge;
 use awk_merge_sides::Sides;
 use awk_primitives::{fits, literal_prim};

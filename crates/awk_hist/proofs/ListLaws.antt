@@ -31,13 +31,13 @@ use Rattle.awk_columns.specs.Lists.{items_at, all_items_at}
 use Rattle.awk_columns.specs.declared.lists.Joined.TheVariants.{TooMany}
 use Rattle.awk_columns.proofs.ArrayLaws.{array_items-at}
 use Rattle.awk_columns.proofs.OffsetLaws.{counted_total}
-use Rattle.awk_axis.specs.Causes.{first_spoil}
-use Rattle.awk_axis.specs.Mapped.{IsMade, IsColumn}
-use Rattle.awk_axis.specs.Spoils.{too_many}
-use Rattle.awk_axis.specs.declared.causes.Refusal.TheVariants as refused
-use Rattle.awk_axis.specs.declared.causes.Spoil.{Spoil}
-use Rattle.awk_axis.specs.declared.causes.Spoil.TheVariants.{Index, Size}
-use Rattle.awk_axis.specs.declared.function.Made.TheVariants as made
+use Rattle.awk_list_functions.specs.Causes.{first_spoil}
+use Rattle.awk_list_functions.specs.Made.{IsMade, IsColumn}
+use Rattle.awk_list_functions.specs.Spoils.{too_many}
+use Rattle.awk_list_functions.specs.declared.causes.Refusal.TheVariants as refused
+use Rattle.awk_list_functions.specs.declared.causes.Spoil.{Spoil}
+use Rattle.awk_list_functions.specs.declared.causes.Spoil.TheVariants.{Index, Size}
+use Rattle.awk_list_functions.specs.declared.function.Made.TheVariants as made
 use Rattle.awk_parts.specs.Parts.{AreRising}
 use Rattle.awk_present.specs.Numbers.{numbers}
 use Rattle.awk_present.specs.Present.{list_at}

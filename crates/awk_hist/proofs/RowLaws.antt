@@ -35,7 +35,7 @@ use Rattle.awk_layout.specs.Typing.{array_type, array_items}
 use Rattle.awk_layout.specs.Valid.{len, IsValid, AllReach}
 use Rattle.awk_gather.specs.Arrays.{array_item}
 use Rattle.awk_layout.proofs.Runs.{length-run, value_list-run}
-use Rattle.awk_axis.specs.Mapped.{IsColumn}
+use Rattle.awk_list_functions.specs.Made.{IsColumn}
 use Rattle.awk_numbers.specs.Folds.{lane_numbers}
 use Rattle.awk_parts.specs.Parts.{AreRising, AreParts, part_at}
 use Rattle.awk_present.specs.Numbers.{leaf_of}

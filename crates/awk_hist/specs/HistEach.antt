@@ -4,11 +4,11 @@ use Rattle.awk_types.specs.Datum.{Datum}
 use Rattle.awk_types.specs.Simple.{present}
 use Rattle.awk_types.specs.WholeNumbers.{is_numbers}
 use Rattle.awk_types.specs.declared.fault.Fault.{Fault}
-use Rattle.awk_axis.specs.Causes.{first_spoil}
-use Rattle.awk_axis.specs.Lifting.{deep}
-use Rattle.awk_axis.specs.ListFunction.{ListFunction, singles}
-use Rattle.awk_axis.specs.Spoils.{too_many}
-use Rattle.awk_axis.specs.declared.causes.Refusal.TheVariants as refused
+use Rattle.awk_list_functions.specs.Causes.{first_spoil}
+use Rattle.awk_list_functions.specs.Lifting.{deep}
+use Rattle.awk_list_functions.specs.ListFunction.{ListFunction, singles}
+use Rattle.awk_list_functions.specs.Spoils.{too_many}
+use Rattle.awk_list_functions.specs.declared.causes.Refusal.TheVariants as refused
 use Rattle.awk_present.specs.Numbers.{numbers}
 use Rattle.awk_bins.specs.Bins.{interval_counts}
 use Rattle.awk_hist.specs.Bins.{bins, bins_type}

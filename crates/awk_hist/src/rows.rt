@@ -4,7 +4,7 @@ ghost use Rattle.awk_lanes.specs.Counted.{offsets_by};
 ghost use Rattle.awk_lanes.specs.Places.{size_of};
 ghost use Rattle.awk_layout.specs.Layout.{flat, offset_lists};
 ghost use Rattle.awk_layout.specs.Typing.{array_items};
-ghost use Rattle.awk_axis.specs.Mapped.{IsColumn};
+ghost use Rattle.awk_list_functions.specs.Made.{IsColumn};
 ghost use Rattle.awk_present.specs.Present.{list_at};
 ghost use Rattle.awk_bins.specs.Bins.{intervals};
 ghost use Rattle.awk_bins.specs.Edges.{are_edges};

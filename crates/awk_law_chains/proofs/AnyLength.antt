@@ -6,8 +6,8 @@ use Rattle.std.proofs.Common.{ap, ap₂, ◌∙◌}
 use Rattle.awk_types.specs.DataType.{DataType, unknown, leaf, var, reg, rec, tup, opt, uni}
 use Rattle.awk_types.specs.DataType.{depth, nodes}
 use Rattle.awk_types.specs.Limit.{Limit, depth_limit, size_limit, limit, width}
-use Rattle.awk_axis.specs.Reach.{here, inner}
-use Rattle.awk_axis.specs.declared.place.Reach.{Reach}
+use Rattle.awk_list_functions.specs.Reach.{here, inner}
+use Rattle.awk_list_functions.specs.declared.place.Reach.{Reach}
 use Rattle.awk_law_chains.specs.Arrays.{any_length_at}
 
 -- ---- limits of types

@@ -10,7 +10,7 @@ use Rattle.awk_types.specs.ItemLimit.{too_many}
 use Rattle.awk_types.specs.Simple.{option_if, simple}
 use Rattle.awk_types.specs.Value.{Value, int, truth, null, list, row, alt, value_list, values_from}
 use Rattle.awk_types.proofs.Trees.{value_list-from}
-use Rattle.awk_axis.specs.Lift.{on_list}
+use Rattle.awk_list_functions.specs.Lift.{on_list}
 use Rattle.awk_columns.specs.Columns.{list_items, joined_items}
 use Rattle.awk_columns.specs.ListClass.{Class, list_type}
 use Rattle.awk_jagged.specs.Jagged.{are_uneven, is_jagged, lacks_places, pick_type, picked_items}

@@ -5,8 +5,8 @@ use Rattle.std.proofs.Common.{arith}
 use Rattle.awk_types.specs.DataType.{DataType}
 use Rattle.awk_types.specs.ItemLimit.{item_limit, too_many}
 use Rattle.awk_types.specs.Value.{Value}
-use Rattle.awk_axis.specs.Counted.{counted}
-use Rattle.awk_axis.specs.Spoils as spoils
+use Rattle.awk_list_functions.specs.Counted.{counted}
+use Rattle.awk_list_functions.specs.Spoils as spoils
 
 pub few_spoil-limit : (n : ℕ) → spoils.too_many n ≡ None → n ≤ item_limit
 few_spoil-limit n e = grind arith

@@ -23,15 +23,15 @@ use Rattle.awk_types.specs.declared.primitive.Primitive.TheVariants.{I64}
 use Rattle.awk_types.proofs.SimpleLaws.{simple_stays, in_option_stays}
 use Rattle.awk_types.proofs.Trees.{value_list-from}
 use Rattle.awk_types.proofs.ItemLimits.{within_limit}
-use Rattle.awk_axis.specs.Causes.{first_spoil}
-use Rattle.awk_axis.specs.Lift.{lifted_type, lifted_value, on_list}
-use Rattle.awk_axis.specs.ListFunction.{Giving, ListFunction, given_value, lists}
-use Rattle.awk_axis.specs.Reach.{here, inner}
-use Rattle.awk_axis.specs.Spoils.{spoil_at, too_many}
-use Rattle.awk_axis.specs.declared.causes.Refusal.{Refusal}
-use Rattle.awk_axis.specs.declared.causes.Spoil.{Spoil}
-use Rattle.awk_axis.specs.declared.place.Reach.{Reach}
-use Rattle.awk_axis.proofs.CauseLaws.{first_spoil-both}
+use Rattle.awk_list_functions.specs.Causes.{first_spoil}
+use Rattle.awk_list_functions.specs.Lift.{lifted_type, lifted_value, on_list}
+use Rattle.awk_list_functions.specs.ListFunction.{Giving, ListFunction, given_value, lists}
+use Rattle.awk_list_functions.specs.Reach.{here, inner}
+use Rattle.awk_list_functions.specs.Spoils.{spoil_at, too_many}
+use Rattle.awk_list_functions.specs.declared.causes.Refusal.{Refusal}
+use Rattle.awk_list_functions.specs.declared.causes.Spoil.{Spoil}
+use Rattle.awk_list_functions.specs.declared.place.Reach.{Reach}
+use Rattle.awk_list_functions.proofs.CauseLaws.{first_spoil-both}
 use Rattle.awk_columns.specs.Columns.{joined_items, lists_among, present_values}
 use Rattle.awk_columns.specs.ListClass.{Class, list_type}
 use Rattle.awk_jagged.specs.Jagged.{are_uneven, fault_if, is_jagged, jagged_of, lacks_places}

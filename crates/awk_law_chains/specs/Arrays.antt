@@ -8,8 +8,8 @@ use Rattle.awk_types.specs.ItemLimit.{item_limit}
 use Rattle.awk_types.specs.Simple.{IsSimple}
 use Rattle.awk_types.specs.Value.{Value}
 use Rattle.awk_types.specs.declared.primitive.Primitive.TheVariants.{Bool as Truths}
-use Rattle.awk_axis.specs.Reach.{here, inner}
-use Rattle.awk_axis.specs.declared.place.Reach.{Reach}
+use Rattle.awk_list_functions.specs.Reach.{here, inner}
+use Rattle.awk_list_functions.specs.declared.place.Reach.{Reach}
 
 -- items of a simple type
 pub record AreItems (t : DataType) (vs : List Value) : Type 0 where

@@ -12,8 +12,8 @@ use Rattle.awk_types.specs.Simple.{IsSimple, option_if}
 use Rattle.awk_types.specs.Value.{Value}
 use Rattle.awk_types.specs.declared.fault.Fault.TheVariants.{Index, Lengths, WrongType}
 use Rattle.awk_types.specs.declared.primitive.Primitive.TheVariants.{I64}
-use Rattle.awk_axis.specs.Reach.{here, inner}
-use Rattle.awk_axis.specs.declared.place.Reach.{Reach}
+use Rattle.awk_list_functions.specs.Reach.{here, inner}
+use Rattle.awk_list_functions.specs.declared.place.Reach.{Reach}
 use Rattle.awk_columns.specs.ListClass.{Class, list_type}
 use Rattle.awk_jagged.specs.Jagged.{are_uneven, fault_if, is_jagged, jagged_of, lacks_places}
 use Rattle.awk_jagged.specs.Jagged.{pick_type, picked_as, picked_items, size_refused}

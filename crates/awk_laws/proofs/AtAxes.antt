@@ -12,13 +12,13 @@ use Rattle.awk_types.specs.Simple.{IsSimple, present, simple, simple_value}
 use Rattle.awk_types.specs.Value.{Value}
 use Rattle.awk_types.proofs.RefusalLaws.{refused_or-Ok}
 use Rattle.awk_types.proofs.SimpleLaws.{simple_stays, value_stays, each_stays, present_simple}
-use Rattle.awk_axis.specs.Causes.{first_spoil}
-use Rattle.awk_axis.specs.Lift.{lifted_type, lifted_value, refusal_at}
-use Rattle.awk_axis.specs.Lifting.{first_told, on_items}
-use Rattle.awk_axis.specs.ListFunction.{Giving, ListFunction, lists}
-use Rattle.awk_axis.specs.Spoils.{spoil_at, too_many}
-use Rattle.awk_axis.specs.declared.place.Reach.TheVariants.{Axis}
-use Rattle.awk_axis.specs.DropNone.{drop_none_function}
+use Rattle.awk_list_functions.specs.Causes.{first_spoil}
+use Rattle.awk_list_functions.specs.Lift.{lifted_type, lifted_value, refusal_at}
+use Rattle.awk_list_functions.specs.Lifting.{first_told, on_items}
+use Rattle.awk_list_functions.specs.ListFunction.{Giving, ListFunction, lists}
+use Rattle.awk_list_functions.specs.Spoils.{spoil_at, too_many}
+use Rattle.awk_list_functions.specs.declared.place.Reach.TheVariants.{Axis}
+use Rattle.awk_list_functions.specs.DropNone.{drop_none_function}
 use Rattle.awk_columns.specs.Columns.{joined_items, present_values}
 use Rattle.awk_columns.specs.ListClass.{Class, list_type}
 use Rattle.awk_lists.specs.Flatten.{flatten_of, flatten_function}

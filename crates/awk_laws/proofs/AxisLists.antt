@@ -19,16 +19,19 @@ use Rattle.awk_types.specs.Value.{Value, Values, int, truth, null, list, row, al
 use Rattle.awk_types.specs.Value.{values_from}
 use Rattle.awk_types.proofs.RefusalLaws.{refused_or-Ok, or-both}
 use Rattle.awk_types.proofs.Trees.{value_list-from}
-use Rattle.awk_axis.specs.Causes.{first_spoil}
-use Rattle.awk_axis.specs.Lift.{lifted_type, lifted_types, lifted_value, lifted_values, refusal_at}
-use Rattle.awk_axis.specs.Lifting.{first_told, lift, on_items, on_one, on_whole, refusal_fault}
-use Rattle.awk_axis.specs.Lifting.{spoil_fault}
-use Rattle.awk_axis.specs.ListFunction.{Giving, ListFunction, lists, made_type, given_type}
-use Rattle.awk_axis.specs.ListFunction.{given_value}
-use Rattle.awk_axis.specs.Spoils.{spoil_at, too_many}
-use Rattle.awk_axis.specs.declared.causes.Refusal.{Refusal}
-use Rattle.awk_axis.specs.declared.causes.Spoil.{Spoil}
-use Rattle.awk_axis.specs.declared.place.Reach.TheVariants.{Axis}
+use Rattle.awk_list_functions.specs.Causes.{first_spoil}
+use Rattle.awk_list_functions.specs.Lift.{lifted_type, lifted_types, lifted_value, lifted_values}
+use Rattle.awk_list_functions.specs.Lift.{refusal_at}
+use Rattle.awk_list_functions.specs.Lifting.{first_told, lift, on_items, on_one, on_whole}
+use Rattle.awk_list_functions.specs.Lifting.{refusal_fault}
+use Rattle.awk_list_functions.specs.Lifting.{spoil_fault}
+use Rattle.awk_list_functions.specs.ListFunction.{Giving, ListFunction, lists, made_type}
+use Rattle.awk_list_functions.specs.ListFunction.{given_type}
+use Rattle.awk_list_functions.specs.ListFunction.{given_value}
+use Rattle.awk_list_functions.specs.Spoils.{spoil_at, too_many}
+use Rattle.awk_list_functions.specs.declared.causes.Refusal.{Refusal}
+use Rattle.awk_list_functions.specs.declared.causes.Spoil.{Spoil}
+use Rattle.awk_list_functions.specs.declared.place.Reach.TheVariants.{Axis}
 use Rattle.awk_columns.specs.ListClass.{Class, list_type}
 use Rattle.awk_pair_operands.specs.Typed.{IsTyped}
 use Rattle.awk_laws.specs.Axes.{TypedList, typed_list, lists_at, lists_in_parts}

@@ -7,7 +7,7 @@ use Rattle.awk_types.specs.Datum.{Datum, datum_type}
 use Rattle.awk_types.specs.IsType.{IsType}
 use Rattle.awk_types.specs.Simple.{IsSimple}
 use Rattle.awk_types.specs.Value.{Value}
-use Rattle.awk_axis.specs.Lifting.{lift}
+use Rattle.awk_list_functions.specs.Lifting.{lift}
 use Rattle.awk_layout.specs.Filler.{Filler, is_filler}
 use Rattle.awk_fill.specs.FillNone.{fill_none_function, fill_none_of, filled, filled_type}
 use Rattle.awk_pair_operands.specs.Typed.{IsTyped}

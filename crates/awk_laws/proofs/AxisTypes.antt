@@ -11,11 +11,11 @@ use Rattle.awk_types.specs.IsType.{IsType, AreTypes}
 use Rattle.awk_types.specs.Simple.{IsSimple, AreSimple}
 use Rattle.awk_types.specs.Value.{Value, Values, int, truth, null, list, row, alt, value_list}
 use Rattle.awk_types.proofs.SimpleLaws.{plain_are_simple}
-use Rattle.awk_axis.specs.Lift.{refusal_at, refusal_among}
-use Rattle.awk_axis.specs.ListFunction.{ListFunction}
-use Rattle.awk_axis.specs.declared.causes.Refusal.{Refusal}
-use Rattle.awk_axis.specs.declared.place.Reach.TheVariants.{Axis}
-use Rattle.awk_axis.proofs.CauseLaws.{sooner-both}
+use Rattle.awk_list_functions.specs.Lift.{refusal_at, refusal_among}
+use Rattle.awk_list_functions.specs.ListFunction.{ListFunction}
+use Rattle.awk_list_functions.specs.declared.causes.Refusal.{Refusal}
+use Rattle.awk_list_functions.specs.declared.place.Reach.TheVariants.{Axis}
+use Rattle.awk_list_functions.proofs.CauseLaws.{sooner-both}
 use Rattle.awk_columns.specs.Columns.{list_items}
 use Rattle.awk_columns.specs.ListClass.{Class, list_type}
 use Rattle.awk_pair_operands.specs.Typed.{IsTyped}

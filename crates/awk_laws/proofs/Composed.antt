@@ -12,9 +12,10 @@ use Rattle.awk_types.specs.Value.{Value, Values, int, truth, null, list, row, al
 use Rattle.awk_types.specs.Value.{values_from}
 use Rattle.awk_types.proofs.SimpleLaws.{plain_are_simple}
 use Rattle.awk_types.proofs.Trees.{value_list-from}
-use Rattle.awk_axis.specs.Lift.{nested, lifted_type, lifted_types, lifted_value, lifted_values}
-use Rattle.awk_axis.specs.ListFunction.{Giving, lists}
-use Rattle.awk_axis.specs.declared.place.Reach.TheVariants.{Axis}
+use Rattle.awk_list_functions.specs.Lift.{nested, lifted_type, lifted_types, lifted_value}
+use Rattle.awk_list_functions.specs.Lift.{lifted_values}
+use Rattle.awk_list_functions.specs.ListFunction.{Giving, lists}
+use Rattle.awk_list_functions.specs.declared.place.Reach.TheVariants.{Axis}
 use Rattle.awk_axis.proofs.LiftLaws.{lifted_null, type-list, type-list_here, value-list}
 use Rattle.awk_axis.proofs.LiftLaws.{value-list_here}
 use Rattle.awk_columns.specs.ListClass.{Class, list_type}

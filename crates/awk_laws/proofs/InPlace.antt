@@ -18,13 +18,15 @@ use Rattle.awk_types.specs.Value.{Value, Values, int, truth, null, list, row, al
 use Rattle.awk_types.specs.Value.{values_from}
 use Rattle.awk_types.proofs.RefusalLaws.{refused_or-Ok}
 use Rattle.awk_types.proofs.Trees.{value_list-from}
-use Rattle.awk_axis.specs.Lift.{lifted_type, lifted_types, lifted_value, lifted_values, refusal_at}
+use Rattle.awk_list_functions.specs.Lift.{lifted_type, lifted_types, lifted_value, lifted_values}
+use Rattle.awk_list_functions.specs.Lift.{refusal_at}
 use Rattle.awk_types.proofs.NullLaws.{in_option-simple}
-use Rattle.awk_axis.specs.Lifting.{first_told, lift, on_one, on_whole}
-use Rattle.awk_axis.specs.ListFunction.{Giving, ListFunction, singles, made_type, given_type}
-use Rattle.awk_axis.specs.ListFunction.{given_value}
-use Rattle.awk_axis.specs.Spoils.{spoil_at}
-use Rattle.awk_axis.specs.declared.place.Reach.TheVariants.{Axis}
+use Rattle.awk_list_functions.specs.Lifting.{first_told, lift, on_one, on_whole}
+use Rattle.awk_list_functions.specs.ListFunction.{Giving, ListFunction, singles, made_type}
+use Rattle.awk_list_functions.specs.ListFunction.{given_type}
+use Rattle.awk_list_functions.specs.ListFunction.{given_value}
+use Rattle.awk_list_functions.specs.Spoils.{spoil_at}
+use Rattle.awk_list_functions.specs.declared.place.Reach.TheVariants.{Axis}
 use Rattle.awk_columns.specs.Columns.{list_items}
 use Rattle.awk_columns.specs.ListClass.{Class, list_type}
 use Rattle.awk_columns.proofs.ListNodes.{simple_value-list}

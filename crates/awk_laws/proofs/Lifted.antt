@@ -17,9 +17,10 @@ use Rattle.awk_types.proofs.SimpleLaws.{present_stays, plain_are_simple, union_o
 use Rattle.awk_types.proofs.SimpleLaws.{simple_is_simple, present_alternatives_stay}
 use Rattle.awk_types.proofs.Trees.{type_list-from, value_list-from}
 use Rattle.awk_types.proofs.NullLaws.{in_option-simple}
-use Rattle.awk_axis.specs.Lift.{nested, lifted_type, lifted_types, lifted_value, lifted_values}
-use Rattle.awk_axis.specs.ListFunction.{Giving, lists}
-use Rattle.awk_axis.specs.declared.place.Reach.TheVariants.{Axis}
+use Rattle.awk_list_functions.specs.Lift.{nested, lifted_type, lifted_types, lifted_value}
+use Rattle.awk_list_functions.specs.Lift.{lifted_values}
+use Rattle.awk_list_functions.specs.ListFunction.{Giving, lists}
+use Rattle.awk_list_functions.specs.declared.place.Reach.TheVariants.{Axis}
 use Rattle.awk_columns.specs.ListClass.{Class, list_type}
 use Rattle.awk_columns.proofs.ListNodes.{simple-list, simple_value-list}
 use Rattle.awk_columns.proofs.ListTypes.{list_no_option}

@@ -16,15 +16,15 @@ use Rattle.awk_types.specs.declared.primitive.Primitive.TheVariants.{I64}
 use Rattle.awk_types.proofs.RefusalLaws.{refused_or-Ok, refused_or-None}
 use Rattle.awk_types.proofs.SimpleLaws.{simple_stays, value_stays, each_stays}
 use Rattle.awk_types.proofs.Trees.{value_list-from}
-use Rattle.awk_axis.specs.declared.place.Reach.TheVariants.{Axis}
-use Rattle.awk_axis.specs.Causes.{first_spoil}
-use Rattle.awk_axis.specs.Counted.{counted}
-use Rattle.awk_axis.specs.Lift.{lifted_value}
-use Rattle.awk_axis.specs.Lifting.{first_told}
-use Rattle.awk_axis.specs.Spoils.{too_many}
+use Rattle.awk_list_functions.specs.declared.place.Reach.TheVariants.{Axis}
+use Rattle.awk_list_functions.specs.Causes.{first_spoil}
+use Rattle.awk_list_functions.specs.Counted.{counted}
+use Rattle.awk_list_functions.specs.Lift.{lifted_value}
+use Rattle.awk_list_functions.specs.Lifting.{first_told}
+use Rattle.awk_list_functions.specs.Spoils.{too_many}
 use Rattle.awk_columns.specs.Columns.{list_items, joined_items}
 use Rattle.awk_columns.specs.ListClass.{Class, list_type}
-use Rattle.awk_axis.proofs.SpoilLimits.{within_limit}
+use Rattle.awk_list_functions.proofs.SpoilLimits.{within_limit}
 use Rattle.awk_lists.specs.Flatten.{flatten_of}
 use Rattle.awk_lists.specs.Num.{num_of, length_function}
 use Rattle.awk_lists.specs.Unflatten.{cut_by}

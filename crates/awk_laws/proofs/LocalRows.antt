@@ -16,16 +16,16 @@ use Rattle.awk_types.specs.Value.{Value, int, truth, null, list, row, alt}
 use Rattle.awk_types.proofs.RefusalLaws.{refused_or-Ok, or-both}
 use Rattle.awk_types.proofs.SimpleLaws.{in_option_stays, simple_is_simple}
 use Rattle.awk_types.proofs.Trees.{values_from-list}
-use Rattle.awk_axis.specs.Causes.{first_spoil}
-use Rattle.awk_axis.specs.Counted.{counted}
-use Rattle.awk_axis.specs.Lift.{lifted_type, lifted_value, on_list, refusal_at}
-use Rattle.awk_axis.specs.Lifting.{refusal_fault, spoil_fault}
-use Rattle.awk_axis.specs.ListFunction.{Giving, given_value, lists}
-use Rattle.awk_axis.specs.Reach.{here, inner}
-use Rattle.awk_axis.specs.Spoils.{spoil_at, too_many}
-use Rattle.awk_axis.specs.declared.causes.Refusal.{Refusal}
-use Rattle.awk_axis.specs.declared.place.Reach.{Reach}
-use Rattle.awk_axis.specs.declared.place.Reach.TheVariants.{Axis}
+use Rattle.awk_list_functions.specs.Causes.{first_spoil}
+use Rattle.awk_list_functions.specs.Counted.{counted}
+use Rattle.awk_list_functions.specs.Lift.{lifted_type, lifted_value, on_list, refusal_at}
+use Rattle.awk_list_functions.specs.Lifting.{refusal_fault, spoil_fault}
+use Rattle.awk_list_functions.specs.ListFunction.{Giving, given_value, lists}
+use Rattle.awk_list_functions.specs.Reach.{here, inner}
+use Rattle.awk_list_functions.specs.Spoils.{spoil_at, too_many}
+use Rattle.awk_list_functions.specs.declared.causes.Refusal.{Refusal}
+use Rattle.awk_list_functions.specs.declared.place.Reach.{Reach}
+use Rattle.awk_list_functions.specs.declared.place.Reach.TheVariants.{Axis}
 use Rattle.awk_jagged.specs.Jagged.{jagged_of, pick_type}
 use Rattle.awk_lists.specs.LocalIndex.{local_index_of, local_index_function}
 use Rattle.awk_select.specs.Picks.{picked, take_places}

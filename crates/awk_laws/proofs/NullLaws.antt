@@ -26,11 +26,11 @@ use Rattle.awk_types.proofs.RefusalLaws.{refused_or-Ok, refused_or-None, or-both
 use Rattle.awk_view.proofs.SettleLimits.{limit-settle}
 use Rattle.awk_types.proofs.SimpleLaws.{simple_stays, value_stays, each_stays, present_simple}
 use Rattle.awk_types.proofs.SimpleLaws.{present_stays, in_option_stays}
-use Rattle.awk_axis.specs.declared.causes.Refusal.{Refusal}
-use Rattle.awk_axis.specs.declared.causes.Refusal.TheVariants as refused
-use Rattle.awk_axis.specs.Counted.{counted}
-use Rattle.awk_axis.specs.Lifting.{first_told, lift, refusal_fault, spoil_fault}
-use Rattle.awk_axis.specs.Spoils.{too_many}
+use Rattle.awk_list_functions.specs.declared.causes.Refusal.{Refusal}
+use Rattle.awk_list_functions.specs.declared.causes.Refusal.TheVariants as refused
+use Rattle.awk_list_functions.specs.Counted.{counted}
+use Rattle.awk_list_functions.specs.Lifting.{first_told, lift, refusal_fault, spoil_fault}
+use Rattle.awk_list_functions.specs.Spoils.{too_many}
 use Rattle.awk_columns.specs.Columns.{present_values, joined_items}
 use Rattle.awk_layout.specs.Filler.{Filler, literal, datum, is_filler, filler_value}
 use Rattle.awk_fill.specs.FillNone.{fill_none_of, fill_none_function, filled, filled_type}

@@ -20,8 +20,8 @@ use Rattle.awk_types.proofs.RefusalLaws.{refused_or-Ok, refused_or-None, or-both
 use Rattle.awk_types.proofs.Trees.{value_list-from}
 use Rattle.awk_types.proofs.ItemLimits.{within_limit, limit_kept}
 use Rattle.awk_layout.specs.Item.{at_option}
-use Rattle.awk_axis.specs.Counted.{counted}
-use Rattle.awk_axis.specs.Lifting.{first_told}
+use Rattle.awk_list_functions.specs.Counted.{counted}
+use Rattle.awk_list_functions.specs.Lifting.{first_told}
 use Rattle.awk_lists.specs.LocalIndex.{local_index_of}
 use Rattle.awk_select.specs.Cells.{IsBelow}
 use Rattle.awk_select.specs.Picks.{mask_of, take_of, take_refused, mask_refused, picked}

@@ -2,10 +2,10 @@
 use Rattle.std.specs.Prelude.{◌≡◌, Option, Some, None, refl}
 use Rattle.std.proofs.Common.{ap₂}
 use Rattle.awk_types.specs.Limit.{Limit}
-use Rattle.awk_axis.specs.declared.causes.Spoil.{Spoil}
-use Rattle.awk_axis.specs.declared.causes.Spoil.TheVariants.{Index, Size, Overflow}
-use Rattle.awk_axis.specs.Causes.{first_spoil}
-use Rattle.awk_axis.specs.Lifting.{first_told}
+use Rattle.awk_list_functions.specs.declared.causes.Spoil.{Spoil}
+use Rattle.awk_list_functions.specs.declared.causes.Spoil.TheVariants.{Index, Size, Overflow}
+use Rattle.awk_list_functions.specs.Causes.{first_spoil}
+use Rattle.awk_list_functions.specs.Lifting.{first_told}
 
 pub told_none : (l : Option Limit) (s : Option Spoil) → l ≡ None → s ≡ None
     → first_told None l s ≡ None

@@ -6,7 +6,7 @@ use Rattle.awk_types.specs.Limit.{limit}
 use Rattle.awk_types.specs.Parts.{list_depth}
 use Rattle.awk_types.specs.Simple.{IsSimple}
 use Rattle.awk_types.specs.Value.{Value}
-use Rattle.awk_axis.specs.declared.place.Reach.TheVariants.{Axis}
+use Rattle.awk_list_functions.specs.declared.place.Reach.TheVariants.{Axis}
 use Rattle.awk_jagged.specs.Jagged.{jagged_of}
 use Rattle.awk_lists.specs.LocalIndex.{local_index_of}
 use Rattle.awk_select.specs.Picks.{mask_of, take_of}

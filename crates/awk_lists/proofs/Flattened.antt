@@ -27,13 +27,13 @@ use Rattle.awk_columns.specs.Columns.{joined_items}
 use Rattle.awk_gather_lanes.specs.Lanes.{picked}
 use Rattle.awk_gather_lanes.proofs.PickedLanes.{size-picked, at-picked}
 use Rattle.awk_columns.specs.Joined.{AreOffsets, JoinsLists}
-use Rattle.awk_axis.specs.Lifting.{lift}
+use Rattle.awk_list_functions.specs.Lifting.{lift}
 use Rattle.awk_columns.specs.ListClass.{Class}
-use Rattle.awk_axis.specs.Mapped.{AreGiven}
+use Rattle.awk_list_functions.specs.Made.{AreGiven}
 use Rattle.awk_columns.specs.Lists.{AreLists, items_at, all_items_at}
-use Rattle.awk_axis.specs.Spoils.{too_many}
-use Rattle.awk_axis.specs.declared.causes.Refusal.TheVariants as refused
-use Rattle.awk_axis.specs.declared.causes.Spoil.TheVariants.{Size}
+use Rattle.awk_list_functions.specs.Spoils.{too_many}
+use Rattle.awk_list_functions.specs.declared.causes.Refusal.TheVariants as refused
+use Rattle.awk_list_functions.specs.declared.causes.Spoil.TheVariants.{Size}
 use Rattle.awk_columns.specs.declared.lists.Joined.TheVariants.{TooMany}
 use Rattle.awk_lists.specs.Flatten.{flatten_function, flatten_of}
 use Rattle.awk_types.specs.Predicates.{is_list_or_unknown}

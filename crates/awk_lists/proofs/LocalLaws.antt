@@ -20,9 +20,10 @@ use Rattle.awk_layout.specs.Typing.{array_type}
 use Rattle.awk_gather.specs.Arrays.{array_item}
 use Rattle.awk_columns.specs.ListClass.{Class}
 use Rattle.awk_columns.specs.Lists.{AreLists, AreOfClass, items_at, all_items_at, span_length}
-use Rattle.awk_axis.specs.Mapped.{AreGiven, IsColumn, IsSized, even_offsets as sized_offsets}
-use Rattle.awk_axis.specs.Spoils.{too_many}
-use Rattle.awk_axis.specs.declared.causes.Spoil.TheVariants.{Size}
+use Rattle.awk_list_functions.specs.Made.{AreGiven, IsColumn, IsSized}
+use Rattle.awk_list_functions.specs.Made.{even_offsets as sized_offsets}
+use Rattle.awk_list_functions.specs.Spoils.{too_many}
+use Rattle.awk_list_functions.specs.declared.causes.Spoil.TheVariants.{Size}
 use Rattle.awk_lanes.specs.Counted.{before, offsets_by, items_lane}
 use Rattle.awk_lanes.specs.Made.{lane_of}
 use Rattle.awk_lanes.proofs.MadeLanes.{size-lane_of, at-lane_of}
@@ -31,7 +32,7 @@ use Rattle.awk_list_ends.proofs.TotalLaws.{offsets-sized, total-sized}
 use Rattle.awk_lists.specs.LocalIndex.{local_index_function}
 use Rattle.awk_columns.proofs.OffsetLaws.{are_offsets, even_offsets, offset-length, items_at-length}
 use Rattle.awk_columns.proofs.OffsetLaws.{count_given}
-use Rattle.awk_axis.proofs.SpoilLimits.{over_limit, within_limit}
+use Rattle.awk_list_functions.proofs.SpoilLimits.{over_limit, within_limit}
 
 -- the lengths of lists as a column
 pub lengths_column : (s t : Column) (y : Layout) → size_of s < 2 ^ 63

@@ -16,12 +16,12 @@ use Rattle.awk_columns.specs.Columns.{joined_items}
 use Rattle.awk_types.specs.ItemLimit.{item_limit}
 use Rattle.awk_columns.specs.Joined.{AreOffsets, total}
 use Rattle.awk_columns.specs.ListClass.{Class}
-use Rattle.awk_axis.specs.Mapped.{AreGiven, AreSpanned, IsMade}
+use Rattle.awk_list_functions.specs.Made.{AreGiven, AreSpanned, IsMade}
 use Rattle.awk_columns.specs.Lists.{AreLists, items_at, all_items_at}
-use Rattle.awk_axis.specs.Spoils.{too_many}
-use Rattle.awk_axis.specs.declared.causes.Spoil.TheVariants.{Size}
-use Rattle.awk_axis.specs.declared.function.Made.{Made}
-use Rattle.awk_axis.specs.declared.function.Made.TheVariants as made
+use Rattle.awk_list_functions.specs.Spoils.{too_many}
+use Rattle.awk_list_functions.specs.declared.causes.Spoil.TheVariants.{Size}
+use Rattle.awk_list_functions.specs.declared.function.Made.{Made}
+use Rattle.awk_list_functions.specs.declared.function.Made.TheVariants as made
 use Rattle.awk_lists.specs.Flatten.{flatten_function}
 use Rattle.awk_types.specs.Predicates.{is_list_or_unknown}
 use Rattle.awk_types.proofs.ItemLimits.{nat_lt-over}

@@ -27,7 +27,7 @@ use Rattle.awk_columns.specs.ListClass.{Class}
 use Rattle.awk_columns.specs.Lists.{AreLists, items_at}
 use Rattle.awk_columns.proofs.JoinLaws.{reached-items}
 use Rattle.awk_columns.proofs.OffsetLaws.{are_offsets}
-use Rattle.awk_axis.specs.Mapped.{AreGiven}
+use Rattle.awk_list_functions.specs.Made.{AreGiven}
 use Rattle.awk_open.specs.Opens.{OpensLists}
 use Rattle.awk_list_ends.proofs.KeptItems.{run-slice}
 use Rattle.awk_lists.specs.Listed.{HoldsAll, IsWhole, AreFewItems}

@@ -7,10 +7,10 @@ use Rattle.awk_types.specs.declared.fault.Fault.{Fault}
 use Rattle.awk_types.specs.declared.fault.Fault.TheVariants.{Axis}
 use Rattle.awk_types.specs.Predicates.{is_list_or_unknown}
 use Rattle.awk_columns.specs.Columns.{joined_items}
-use Rattle.awk_axis.specs.Counted.{counted}
-use Rattle.awk_axis.specs.Lifting.{lift}
-use Rattle.awk_axis.specs.ListFunction.{ListFunction, lists}
-use Rattle.awk_axis.specs.declared.causes.Refusal.TheVariants as refused
+use Rattle.awk_list_functions.specs.Counted.{counted}
+use Rattle.awk_list_functions.specs.Lifting.{lift}
+use Rattle.awk_list_functions.specs.ListFunction.{ListFunction, lists}
+use Rattle.awk_list_functions.specs.declared.causes.Refusal.TheVariants as refused
 
 -- the items of all lists of a list, one after another. A null list has none.
 abbrev pub flatten_function : ListFunction

@@ -8,11 +8,11 @@ use Rattle.awk_types.specs.Value.{Value, int, truth}
 use Rattle.awk_types.specs.declared.fault.Fault.{Fault}
 use Rattle.awk_types.specs.declared.primitive.Primitive.TheVariants.{I64}
 use Rattle.awk_layout.specs.Item.{agrees}
-use Rattle.awk_axis.specs.Lifting.{deep}
-use Rattle.awk_axis.specs.ListFunction.{ListFunction, lists}
+use Rattle.awk_list_functions.specs.Lifting.{deep}
+use Rattle.awk_list_functions.specs.ListFunction.{ListFunction, lists}
 use Rattle.awk_types.specs.Predicates.{is_leaf}
-use Rattle.awk_axis.specs.Spoils.{too_many}
-use Rattle.awk_axis.specs.declared.causes.Refusal.TheVariants as refused
+use Rattle.awk_list_functions.specs.Spoils.{too_many}
+use Rattle.awk_list_functions.specs.declared.causes.Refusal.TheVariants as refused
 
 -- whether two numbers or two truth values are the same
 abbrev pub is_same : Value → Value → Bool

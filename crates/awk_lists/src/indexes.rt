@@ -2,15 +2,16 @@
 ghost use Rattle.std.specs.Prelude.{◌≡◌, ◌<◌, Some, IfOk};
 ghost use Rattle.awk_types.specs.Faults.{fault_told};
 ghost use Rattle.awk_types.specs.Gives.{Gives};
-ghost use Rattle.awk_axis.specs.Mapped.{IsMade};
+ghost use Rattle.awk_list_functions.specs.Made.{IsMade};
 ghost use Rattle.awk_layout.specs.Datum.{datum_of, IsDatum};
 ghost use Rattle.awk_lists.specs.LocalIndex.{local_index_function, local_index_of};
 
-use awk_axis::{ListOp, Made, Refusal, Spoil, lift_at};
+use awk_axis::lift_at;
 use awk_columns::{Bounds, Lists, places_of};
 use awk_lanes::{Arena, Items, Lengths, Num, Steps, number, offsets_within};
 use awk_layout::{Datum, Node};
 use awk_list_ends::even_total;
+use awk_list_functions::{ListOp, Made, Refusal, Spoil};
 use awk_types::{Fault, ITEM_LIMIT, NoMemory, Prim, Typ};
 use std::alloc::Global;
 use std::sync::ledger::Ledger;

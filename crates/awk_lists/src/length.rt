@@ -4,14 +4,15 @@ ghost use Rattle.awk_types.specs.Faults.{fault_told};
 ghost use Rattle.awk_types.specs.Gives.{Gives};
 ghost use Rattle.awk_lanes.specs.Places.{size_of};
 ghost use Rattle.awk_layout.specs.Datum.{datum_of, IsDatum};
-ghost use Rattle.awk_axis.specs.Mapped.{IsMade};
+ghost use Rattle.awk_list_functions.specs.Made.{IsMade};
 ghost use Rattle.awk_columns.specs.Lists.{span_length};
 ghost use Rattle.awk_lists.specs.Num.{length_function, num_of};
 
-use awk_axis::{ListOp, Made, Refusal, lift_at};
+use awk_axis::lift_at;
 use awk_columns::{Bounds, Lists};
 use awk_lanes::{Arena, Kind, Num, Numbers, Steps, made_lane, number};
 use awk_layout::{Datum, Node};
+use awk_list_functions::{ListOp, Made, Refusal};
 use awk_types::{Fault, NoMemory, Prim, Typ};
 use std::alloc::Global;
 use std::sync::ledger::Ledger;

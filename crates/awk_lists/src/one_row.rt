@@ -5,15 +5,15 @@ ghost use Rattle.awk_lanes.specs.Places.{size_of};
 ghost use Rattle.awk_layout.specs.Typing.{array_type};
 ghost use Rattle.awk_columns.specs.Joined.{JoinsLists};
 ghost use Rattle.awk_open.specs.Opens.{OpensNothing};
-ghost use Rattle.awk_axis.specs.Mapped.{IsMade};
+ghost use Rattle.awk_list_functions.specs.Made.{IsMade};
 ghost use Rattle.awk_lists.specs.Flatten.{flatten_function};
 ghost use Rattle.awk_lists.specs.Listed.{AreFewItems, IsWhole};
 
-use awk_axis::{Made, Spoil};
 use awk_columns::Lists;
 use awk_lanes::{Arena, Lane, Steps, one_offsets};
 use awk_layout::Array;
 use awk_list_ends::are_few;
+use awk_list_functions::{Made, Spoil};
 use awk_open::{Opened, open_array};
 use awk_types::NoMemory;
 use std::alloc::Global;

@@ -12,10 +12,11 @@ ghost use Rattle.awk_lists.specs.Runs as spec;
 ghost use Rattle.awk_lists.specs.Runs.{runs_between, runs_before, run_lane, AreRising};
 
 use crate::numbers::numbers_of;
-use awk_axis::{ListOp, Made, Refusal, Spoil, lift_deep};
+use awk_axis::lift_deep;
 use awk_columns::{Joined, Lists};
 use awk_lanes::{Arena, IndexMaker, Lane, Num, Steps, number, place_in};
 use awk_layout::{Datum, Node};
+use awk_list_functions::{ListOp, Made, Refusal, Spoil};
 use awk_types::{Fault, NoMemory, Prim, Typ, is_leaf};
 use std::alloc::Global;
 use std::sync::ledger::Ledger;

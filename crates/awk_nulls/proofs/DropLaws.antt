@@ -17,18 +17,18 @@ use Rattle.awk_gather.specs.Arrays.{array_item}
 use Rattle.awk_columns.specs.Columns.{is_present, present_values}
 use Rattle.awk_list_ends.specs.Kept.{KeepsItems}
 use Rattle.awk_list_ends.proofs.EndLaws as ends
-use Rattle.awk_axis.specs.DropNone.{drop_none_function}
+use Rattle.awk_list_functions.specs.DropNone.{drop_none_function}
 use Rattle.awk_columns.specs.Joined.{AreOffsets, JoinsLists, total}
 use Rattle.awk_columns.specs.ListClass.{Class}
-use Rattle.awk_axis.specs.Mapped.{AreGiven}
+use Rattle.awk_list_functions.specs.Made.{AreGiven}
 use Rattle.awk_columns.specs.Lists.{AreLists, items_at, all_items_at}
-use Rattle.awk_axis.specs.Spoils.{too_many}
-use Rattle.awk_axis.specs.declared.causes.Spoil.TheVariants.{Size}
+use Rattle.awk_list_functions.specs.Spoils.{too_many}
+use Rattle.awk_list_functions.specs.declared.causes.Spoil.TheVariants.{Size}
 use Rattle.awk_nulls.specs.Lanes.{ArePresent}
 use Rattle.awk_list_ends.specs.Ends.{AreListEnds, numbers_at_ends}
 use Rattle.awk_option_nodes.proofs.OptionNodes.{HasItems, run_stays}
 use Rattle.awk_nulls.proofs.PresentLaws.{keeps_present}
-use Rattle.awk_axis.proofs.SpoilLimits.{over_limit, within_limit}
+use Rattle.awk_list_functions.proofs.SpoilLimits.{over_limit, within_limit}
 use Rattle.awk_columns.proofs.OffsetLaws.{count_lists}
 
 module _ (class : Class) (s t : Column) (y : Layout) (a : AreLists class s t y)

@@ -17,7 +17,7 @@ use Rattle.awk_columns.specs.declared.lists.Joined.TheVariants.{Lists}
 use Rattle.awk_columns.proofs.JoinLaws.{join_given}
 use Rattle.awk_columns.proofs.JoinedLists.{are_joined, joined_given, before-spans, offsets_by-is}
 use Rattle.awk_columns.proofs.JoinedLists.{offsets_lane-is}
-use Rattle.awk_axis.specs.Mapped.{AreGiven, IsSized, even_offsets}
+use Rattle.awk_list_functions.specs.Made.{AreGiven, IsSized, even_offsets}
 use Rattle.awk_list_ends.proofs.TotalLaws.{before-total, offsets-sized}
 use Rattle.awk_nulls.specs.IsNone.{nulls}
 use Rattle.awk_nulls.specs.Lanes.{AreNulls}

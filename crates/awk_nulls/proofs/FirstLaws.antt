@@ -19,7 +19,7 @@ use Rattle.awk_gather.specs.Peeled.{IsPickedOpt}
 use Rattle.awk_lanes.proofs.MadeLanes.{size-lane_of, at-lane_of}
 use Rattle.awk_lanes.proofs.PlaceLaws.{named-below}
 use Rattle.awk_columns.specs.ListClass.{Class}
-use Rattle.awk_axis.specs.Mapped.{IsColumn}
+use Rattle.awk_list_functions.specs.Made.{IsColumn}
 use Rattle.awk_columns.specs.Lists.{AreLists, items_at}
 use Rattle.awk_nulls.specs.Firsts.{first_or_null}
 use Rattle.awk_nulls.specs.Lanes.{span_length, firsts_lane}

@@ -18,15 +18,15 @@ use Rattle.awk_columns.specs.Columns.{present_values}
 use Rattle.awk_columns.specs.Joined.{total}
 use Rattle.awk_columns.specs.ListClass.{Class}
 use Rattle.awk_columns.specs.Lists.{AreLists, items_at, all_items_at}
-use Rattle.awk_axis.specs.DropNone.{drop_none_function}
-use Rattle.awk_axis.specs.Mapped.{AreSpanned}
-use Rattle.awk_axis.specs.Spoils.{too_many}
-use Rattle.awk_axis.specs.declared.causes.Spoil.TheVariants.{Size}
+use Rattle.awk_list_functions.specs.DropNone.{drop_none_function}
+use Rattle.awk_list_functions.specs.Made.{AreSpanned}
+use Rattle.awk_list_functions.specs.Spoils.{too_many}
+use Rattle.awk_list_functions.specs.declared.causes.Spoil.TheVariants.{Size}
 use Rattle.awk_nulls.specs.Lanes.{span_length}
 use Rattle.awk_list_ends.proofs.SpanLaws.{start_there}
 use Rattle.awk_nulls.proofs.NullLaws.{no_null}
 use Rattle.awk_option_nodes.proofs.OptionNodes.{HasItems, span_stays}
-use Rattle.awk_axis.proofs.SpoilLimits.{over_limit, within_limit}
+use Rattle.awk_list_functions.proofs.SpoilLimits.{over_limit, within_limit}
 use Rattle.awk_columns.proofs.OffsetLaws.{count_lists}
 
 shown_first : (v : Value) (vs : List Value) → is_null v ≡ false

@@ -28,15 +28,15 @@ use Rattle.awk_gather.specs.Arrays.{array_item}
 use Rattle.awk_columns.specs.ListClass.{Class}
 use Rattle.awk_columns.specs.Lists.{AreLists, items_at, all_items_at}
 use Rattle.awk_columns.proofs.ArrayLaws.{run_map}
-use Rattle.awk_axis.specs.Mapped.{AreGiven}
-use Rattle.awk_axis.specs.Spoils.{too_many}
-use Rattle.awk_axis.specs.declared.causes.Spoil.TheVariants.{Size}
+use Rattle.awk_list_functions.specs.Made.{AreGiven}
+use Rattle.awk_list_functions.specs.Spoils.{too_many}
+use Rattle.awk_list_functions.specs.declared.causes.Spoil.TheVariants.{Size}
 use Rattle.awk_nulls.specs.IsNone.{nulls, is_none_function}
 use Rattle.awk_nulls.specs.Lanes.{span_length, falses_lane}
 use Rattle.awk_list_ends.proofs.SpanLaws.{start_there}
 use Rattle.awk_nulls.proofs.NullLaws.{no_null}
 use Rattle.awk_columns.proofs.OffsetLaws.{are_offsets, items_at-length, even_offsets}
-use Rattle.awk_axis.proofs.SpoilLimits.{over_limit, within_limit}
+use Rattle.awk_list_functions.proofs.SpoilLimits.{over_limit, within_limit}
 
 module _ (class : Class) (s t : Column) (y : Layout) (a : AreLists class s t y)
     (plain : is_option (array_type y) ≡ false) where

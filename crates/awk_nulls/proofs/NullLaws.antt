@@ -30,15 +30,15 @@ use Rattle.awk_lanes.proofs.MadeLanes.{size-lane_of, at-lane_of}
 use Rattle.awk_layout.proofs.Runs.{run-same}
 use Rattle.awk_columns.specs.Joined.{JoinsLists, total}
 use Rattle.awk_columns.specs.ListClass.{Class}
-use Rattle.awk_axis.specs.Mapped.{AreGiven}
+use Rattle.awk_list_functions.specs.Made.{AreGiven}
 use Rattle.awk_columns.specs.Lists.{AreLists, items_at, all_items_at}
-use Rattle.awk_axis.specs.Spoils.{too_many}
-use Rattle.awk_axis.specs.declared.causes.Spoil.TheVariants.{Size}
+use Rattle.awk_list_functions.specs.Spoils.{too_many}
+use Rattle.awk_list_functions.specs.declared.causes.Spoil.TheVariants.{Size}
 use Rattle.awk_columns.proofs.ArrayLaws.{run_map}
 use Rattle.awk_columns.proofs.ListNodes.{joined_even}
 use Rattle.awk_nulls.specs.IsNone.{nulls, is_none_function}
 use Rattle.awk_nulls.specs.Lanes.{null_number, nulls_lane, falses_lane, AreNulls}
-use Rattle.awk_axis.proofs.SpoilLimits.{over_limit, within_limit}
+use Rattle.awk_list_functions.proofs.SpoilLimits.{over_limit, within_limit}
 use Rattle.awk_columns.proofs.OffsetLaws.{count_same}
 
 -- the type under an option is none

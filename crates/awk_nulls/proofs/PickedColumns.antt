@@ -7,7 +7,7 @@ use Rattle.awk_lanes.specs.Column.{Column}
 use Rattle.awk_layout.specs.Layout.{Layout, optional}
 use Rattle.awk_layout.specs.Valid.{IsValid}
 use Rattle.awk_gather.specs.Peeled.{IsPickedOpt}
-use Rattle.awk_axis.specs.Mapped.{IsColumn}
+use Rattle.awk_list_functions.specs.Made.{IsColumn}
 use Rattle.awk_option_nodes.proofs.OptionNodes.{picked_item}
 
 pub picked_column : (t : DataType) (value : ℕ → Value) (n : ℕ) (y r : Layout) (p : Column)

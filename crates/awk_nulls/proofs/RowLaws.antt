@@ -34,11 +34,11 @@ use Rattle.awk_columns.specs.Joined.{AreOffsets}
 use Rattle.awk_columns.specs.ListClass.{Class}
 use Rattle.awk_columns.specs.Lists.{span_length, AreLists, items_at, all_items_at}
 use Rattle.awk_columns.proofs.OffsetLaws.{are_offsets, offset-length}
-use Rattle.awk_axis.specs.DropNone.{drop_none_function}
-use Rattle.awk_axis.specs.Mapped.{AreGiven}
-use Rattle.awk_axis.specs.Spoils.{too_many}
-use Rattle.awk_axis.specs.declared.causes.Spoil.TheVariants.{Size}
-use Rattle.awk_axis.proofs.SpoilLimits.{over_limit, within_limit}
+use Rattle.awk_list_functions.specs.DropNone.{drop_none_function}
+use Rattle.awk_list_functions.specs.Made.{AreGiven}
+use Rattle.awk_list_functions.specs.Spoils.{too_many}
+use Rattle.awk_list_functions.specs.declared.causes.Spoil.TheVariants.{Size}
+use Rattle.awk_list_functions.proofs.SpoilLimits.{over_limit, within_limit}
 use Rattle.awk_open.specs.Opened.{IsOpened}
 use Rattle.awk_open.specs.declared.opening.Opened.TheVariants.{Option as Optional}
 use Rattle.awk_list_ends.specs.Kept.{KeepsItems}

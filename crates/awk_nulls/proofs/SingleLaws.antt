@@ -23,10 +23,10 @@ use Rattle.awk_gather.specs.Arrays.{array_item}
 use Rattle.awk_columns.specs.Columns.{is_present, present_values}
 use Rattle.awk_columns.specs.Joined.{JoinsLists, total}
 use Rattle.awk_columns.specs.ListClass.{Class}
-use Rattle.awk_axis.specs.Mapped.{AreGiven}
+use Rattle.awk_list_functions.specs.Made.{AreGiven}
 use Rattle.awk_columns.specs.Lists.{AreLists, items_at, all_items_at}
-use Rattle.awk_axis.specs.Spoils.{too_many}
-use Rattle.awk_axis.specs.declared.causes.Spoil.TheVariants.{Size}
+use Rattle.awk_list_functions.specs.Spoils.{too_many}
+use Rattle.awk_list_functions.specs.declared.causes.Spoil.TheVariants.{Size}
 use Rattle.awk_columns.proofs.ArrayLaws.{run_map, run_in_list}
 use Rattle.awk_columns.proofs.ListNodes.{joined_even}
 use Rattle.awk_nulls.specs.Singletons.{single_list, singletons_function}
@@ -35,7 +35,7 @@ use Rattle.awk_option_nodes.proofs.OptionNodes.{HasItems, item_stays}
 use Rattle.awk_list_ends.specs.Kept.{KeepsItems}
 use Rattle.awk_list_ends.proofs.KeptItems.{at-count, counts_up, counts_within, kept_run}
 use Rattle.awk_nulls.proofs.PresentLaws.{keeps_present}
-use Rattle.awk_axis.proofs.SpoilLimits.{over_limit, within_limit}
+use Rattle.awk_list_functions.proofs.SpoilLimits.{over_limit, within_limit}
 use Rattle.awk_columns.proofs.OffsetLaws.{count_same}
 
 single-present : (v : Value) → list (values_from (present_values (v ∷ []))) ≡ single_list v

@@ -2,8 +2,8 @@
 use Rattle.std.specs.Prelude.{ℤ, Result}
 use Rattle.awk_types.specs.Datum.{Datum}
 use Rattle.awk_types.specs.declared.fault.Fault.{Fault}
-use Rattle.awk_axis.specs.DropNone.{drop_none_function}
-use Rattle.awk_axis.specs.Lifting.{lift}
+use Rattle.awk_list_functions.specs.DropNone.{drop_none_function}
+use Rattle.awk_list_functions.specs.Lifting.{lift}
 
 -- the items of each list at an axis that are not null
 abbrev pub drop_none_of : ℤ → Datum → Result Datum Fault

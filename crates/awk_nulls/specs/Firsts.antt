@@ -4,8 +4,8 @@ use Rattle.awk_types.specs.DataType.{opt}
 use Rattle.awk_types.specs.Datum.{Datum}
 use Rattle.awk_types.specs.Value.{Value, null}
 use Rattle.awk_types.specs.declared.fault.Fault.{Fault}
-use Rattle.awk_axis.specs.Lifting.{lift}
-use Rattle.awk_axis.specs.ListFunction.{ListFunction, singles}
+use Rattle.awk_list_functions.specs.Lifting.{lift}
+use Rattle.awk_list_functions.specs.ListFunction.{ListFunction, singles}
 
 abbrev pub first_or_null : List Value → Value
 first_or_null [] = null

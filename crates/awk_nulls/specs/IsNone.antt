@@ -6,9 +6,9 @@ use Rattle.awk_types.specs.Predicates.{is_null}
 use Rattle.awk_types.specs.Value.{Value, truth}
 use Rattle.awk_types.specs.declared.fault.Fault.{Fault}
 use Rattle.awk_types.specs.declared.primitive.Primitive.TheVariants.{Bool as Truths}
-use Rattle.awk_axis.specs.Counted.{counted}
-use Rattle.awk_axis.specs.Lifting.{lift}
-use Rattle.awk_axis.specs.ListFunction.{ListFunction, lists}
+use Rattle.awk_list_functions.specs.Counted.{counted}
+use Rattle.awk_list_functions.specs.Lifting.{lift}
+use Rattle.awk_list_functions.specs.ListFunction.{ListFunction, lists}
 
 -- a truth value for each item
 abbrev pub nulls : List Value → List Value

@@ -5,9 +5,9 @@ use Rattle.awk_types.specs.Datum.{Datum}
 use Rattle.awk_types.specs.Simple.{present}
 use Rattle.awk_types.specs.Value.{Value, null, list, no_values, value}
 use Rattle.awk_types.specs.declared.fault.Fault.{Fault}
-use Rattle.awk_axis.specs.Counted.{counted}
-use Rattle.awk_axis.specs.Lifting.{lift}
-use Rattle.awk_axis.specs.ListFunction.{ListFunction, lists}
+use Rattle.awk_list_functions.specs.Counted.{counted}
+use Rattle.awk_list_functions.specs.Lifting.{lift}
+use Rattle.awk_list_functions.specs.ListFunction.{ListFunction, lists}
 
 -- null as an empty list, and any other value as a list of itself
 abbrev pub single_list : Value → Value

@@ -9,12 +9,13 @@ ghost use Rattle.awk_layout.specs.Datum.{datum_of, IsDatum};
 ghost use Rattle.awk_nulls.specs.Firsts.{firsts_function, firsts_of};
 ghost use Rattle.awk_nulls.specs.Lanes.{span_length, firsts_lane};
 
-use awk_axis::{ListOp, Made, Refusal, lift_at};
+use awk_axis::lift_at;
 use awk_columns::Lists;
 use awk_gather::option_over;
 use awk_lanes::{Arena, Index, IndexMaker, Lane, Num, Steps, index_of};
 use awk_layout::Datum;
 use awk_list_ends::length_between;
+use awk_list_functions::{ListOp, Made, Refusal};
 use awk_types::{Fault, NoMemory, Typ, copy_type};
 use std::alloc::Global;
 use std::sync::ledger::Ledger;

@@ -8,18 +8,19 @@ ghost use Rattle.awk_lanes.specs.Places.{IsOptionKind};
 ghost use Rattle.awk_lanes.specs.declared.kind.Kind.TheVariants as Kinds;
 ghost use Rattle.awk_layout.specs.Datum.{datum_of, IsDatum};
 ghost use Rattle.awk_layout.specs.Typing.{array_type};
-ghost use Rattle.awk_axis.specs.Mapped.{IsMade, IsSized};
+ghost use Rattle.awk_list_functions.specs.Made.{IsMade, IsSized};
 ghost use Rattle.awk_nulls.specs.IsNone.{is_none_function, is_none_of};
 ghost use Rattle.awk_nulls.specs.Lanes.{null_number, nulls_lane, falses_lane, AreNulls};
 
 use crate::presence::has_options;
-use awk_axis::{ListOp, Made, Refusal, Spoil, lift_at};
+use awk_axis::lift_at;
 use awk_columns::{Joined, Lists};
 use awk_lanes::{
     Arena, Index, Kind, Lane, Num, Numbers, Steps, index_of, made_lane, offsets_within,
 };
 use awk_layout::{Array, Datum, Node};
 use awk_list_ends::are_few;
+use awk_list_functions::{ListOp, Made, Refusal, Spoil};
 use awk_open::{Opened, opened};
 use awk_types::{Fault, ITEM_LIMIT, NoMemory, Prim, Typ, is_optional};
 use std::alloc::Global;

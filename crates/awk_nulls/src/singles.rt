@@ -12,10 +12,11 @@ ghost use Rattle.awk_nulls.specs.Lanes.{AreSingles};
 ghost use Rattle.awk_nulls.specs.Singletons.{singletons_function, singletons_of};
 
 use crate::presence::present_of;
-use awk_axis::{ListOp, Made, Refusal, Spoil, lift_at};
+use awk_axis::lift_at;
 use awk_columns::{Joined, Lists};
 use awk_lanes::{Arena, Lane, Steps};
 use awk_layout::{Array, Datum, Node};
+use awk_list_functions::{ListOp, Made, Refusal, Spoil};
 use awk_types::{Fault, NoMemory, Typ, copy_type};
 use std::alloc::Global;
 use std::sync::ledger::Ledger;

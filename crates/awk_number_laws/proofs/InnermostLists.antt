@@ -16,14 +16,14 @@ use Rattle.awk_types.specs.Value.{Value, int, truth, null, list, row, alt, value
 use Rattle.awk_types.proofs.RefusalLaws.{refused_or-Ok, or-both}
 use Rattle.awk_types.proofs.SimpleLaws.{simple_stays, in_option_stays}
 use Rattle.awk_types.proofs.Trees.{value_list-from}
-use Rattle.awk_axis.specs.Causes.{first_spoil}
-use Rattle.awk_axis.specs.Lift.{lifted_type, lifted_value, refusal_at, on_list}
-use Rattle.awk_axis.specs.Lifting.{deep, first_told, on_items, on_one, on_whole}
-use Rattle.awk_axis.specs.Lifting.{refusal_fault, spoil_fault}
-use Rattle.awk_axis.specs.ListFunction.{ListFunction, given_value}
-use Rattle.awk_axis.specs.Spoils.{spoil_at, too_many}
-use Rattle.awk_axis.specs.declared.causes.Refusal.{Refusal}
-use Rattle.awk_axis.specs.declared.place.Reach.TheVariants.{Innermost}
+use Rattle.awk_list_functions.specs.Causes.{first_spoil}
+use Rattle.awk_list_functions.specs.Lift.{lifted_type, lifted_value, refusal_at, on_list}
+use Rattle.awk_list_functions.specs.Lifting.{deep, first_told, on_items, on_one, on_whole}
+use Rattle.awk_list_functions.specs.Lifting.{refusal_fault, spoil_fault}
+use Rattle.awk_list_functions.specs.ListFunction.{ListFunction, given_value}
+use Rattle.awk_list_functions.specs.Spoils.{spoil_at, too_many}
+use Rattle.awk_list_functions.specs.declared.causes.Refusal.{Refusal}
+use Rattle.awk_list_functions.specs.declared.place.Reach.TheVariants.{Innermost}
 use Rattle.awk_columns.specs.Columns.{list_items, list_of}
 use Rattle.awk_columns.specs.ListClass.{Class, list_type}
 use Rattle.awk_order.specs.Sort.{leaf_lists}

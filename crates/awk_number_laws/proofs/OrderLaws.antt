@@ -20,9 +20,9 @@ use Rattle.awk_types.specs.declared.primitive.Primitive.TheVariants.{I64}
 use Rattle.awk_types.proofs.RefusalLaws.{refused_or-Ok}
 use Rattle.awk_types.proofs.Trees.{value_list-from}
 use Rattle.awk_types.proofs.ItemLimits.{within_limit}
-use Rattle.awk_axis.specs.Lifting.{first_told}
-use Rattle.awk_axis.specs.declared.causes.Spoil.{Spoil}
-use Rattle.awk_axis.specs.declared.causes.Spoil.TheVariants.{Size}
+use Rattle.awk_list_functions.specs.Lifting.{first_told}
+use Rattle.awk_list_functions.specs.declared.causes.Spoil.{Spoil}
+use Rattle.awk_list_functions.specs.declared.causes.Spoil.TheVariants.{Size}
 use Rattle.awk_select.specs.Picks.{picked, take_places, take_of, is_outside, index_refused}
 use Rattle.awk_sorting.proofs.InsertLaws.{AllBelow}
 use Rattle.awk_order.specs.Order.{item_order, items_in_order}

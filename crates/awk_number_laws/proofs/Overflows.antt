@@ -16,16 +16,17 @@ use Rattle.awk_types.specs.Value.{Value}
 use Rattle.awk_types.specs.declared.fault.Fault.{Fault}
 use Rattle.awk_types.specs.declared.fault.Fault.TheVariants as fault
 use Rattle.awk_types.proofs.RefusalLaws.{refused_or-Ok, refused_or-Err, or-both}
-use Rattle.awk_axis.specs.Causes.{first_spoil}
-use Rattle.awk_axis.specs.Lift.{lifted_type, lifted_value, refusal_at}
-use Rattle.awk_axis.specs.Lifting.{first_told, on_items, on_whole, refusal_fault, spoil_fault}
-use Rattle.awk_axis.specs.ListFunction.{ListFunction, made_type, given_type, given_value}
-use Rattle.awk_axis.specs.Spoils.{spoil_at, too_many}
-use Rattle.awk_axis.specs.declared.causes.Refusal.{Refusal}
-use Rattle.awk_axis.specs.declared.causes.Refusal.TheVariants as refused
-use Rattle.awk_axis.specs.declared.causes.Spoil.{Spoil}
-use Rattle.awk_axis.specs.declared.causes.Spoil.TheVariants as spoilt
-use Rattle.awk_axis.specs.declared.place.Reach.TheVariants.{Innermost}
+use Rattle.awk_list_functions.specs.Causes.{first_spoil}
+use Rattle.awk_list_functions.specs.Lift.{lifted_type, lifted_value, refusal_at}
+use Rattle.awk_list_functions.specs.Lifting.{first_told, on_items, on_whole, refusal_fault}
+use Rattle.awk_list_functions.specs.Lifting.{spoil_fault}
+use Rattle.awk_list_functions.specs.ListFunction.{ListFunction, made_type, given_type, given_value}
+use Rattle.awk_list_functions.specs.Spoils.{spoil_at, too_many}
+use Rattle.awk_list_functions.specs.declared.causes.Refusal.{Refusal}
+use Rattle.awk_list_functions.specs.declared.causes.Refusal.TheVariants as refused
+use Rattle.awk_list_functions.specs.declared.causes.Spoil.{Spoil}
+use Rattle.awk_list_functions.specs.declared.causes.Spoil.TheVariants as spoilt
+use Rattle.awk_list_functions.specs.declared.place.Reach.TheVariants.{Innermost}
 use Rattle.awk_columns.specs.Columns.{is_present, joined_items, list_items, list_of}
 use Rattle.awk_reduce.specs.Reduce.{overflows, reduce_of, reduced_spoil, reducer_function}
 use Rattle.awk_reduce.specs.declared.reducer.Reducer.{Reducer}

@@ -17,14 +17,15 @@ use Rattle.awk_types.specs.Value.{Value, int, truth, null, list, row, alt, value
 use Rattle.awk_types.proofs.RefusalLaws.{refused_or-Ok, or-both}
 use Rattle.awk_types.proofs.Trees.{value_list-from}
 use Rattle.awk_types.proofs.NullLaws.{in_option-simple}
-use Rattle.awk_axis.specs.Causes.{first_spoil}
-use Rattle.awk_axis.specs.Lift.{lifted_type, lifted_value, refusal_at, on_list}
-use Rattle.awk_axis.specs.Lifting.{deep, first_told, on_items, on_whole, refusal_fault, spoil_fault}
-use Rattle.awk_axis.specs.ListFunction.{ListFunction, singles}
-use Rattle.awk_axis.specs.Spoils.{spoil_at, too_many}
-use Rattle.awk_axis.specs.declared.causes.Refusal.{Refusal}
-use Rattle.awk_axis.specs.declared.causes.Spoil.{Spoil}
-use Rattle.awk_axis.specs.declared.place.Reach.TheVariants.{Innermost}
+use Rattle.awk_list_functions.specs.Causes.{first_spoil}
+use Rattle.awk_list_functions.specs.Lift.{lifted_type, lifted_value, refusal_at, on_list}
+use Rattle.awk_list_functions.specs.Lifting.{deep, first_told, on_items, on_whole, refusal_fault}
+use Rattle.awk_list_functions.specs.Lifting.{spoil_fault}
+use Rattle.awk_list_functions.specs.ListFunction.{ListFunction, singles}
+use Rattle.awk_list_functions.specs.Spoils.{spoil_at, too_many}
+use Rattle.awk_list_functions.specs.declared.causes.Refusal.{Refusal}
+use Rattle.awk_list_functions.specs.declared.causes.Spoil.{Spoil}
+use Rattle.awk_list_functions.specs.declared.place.Reach.TheVariants.{Innermost}
 use Rattle.awk_columns.specs.Columns.{is_present, list_items, joined_items, list_of, present_values}
 use Rattle.awk_columns.specs.ListClass.{Class, list_type}
 use Rattle.awk_columns.proofs.PresentItems.{present-have}

@@ -13,13 +13,13 @@ use Rattle.awk_types.specs.Value.{Value}
 use Rattle.awk_types.specs.declared.fault.Fault.{Fault}
 use Rattle.awk_types.specs.declared.primitive.Primitive.TheVariants.{I64}
 use Rattle.awk_types.proofs.SimpleLaws.{simple_stays}
-use Rattle.awk_axis.specs.Causes.{first_spoil}
-use Rattle.awk_axis.specs.Lift.{lifted_type, lifted_value, refusal_at}
-use Rattle.awk_axis.specs.Lifting.{on_items, on_whole, refusal_fault, spoil_fault}
-use Rattle.awk_axis.specs.ListFunction.{ListFunction}
-use Rattle.awk_axis.specs.Spoils.{spoil_at, too_many}
-use Rattle.awk_axis.specs.declared.causes.Spoil.{Spoil}
-use Rattle.awk_axis.specs.declared.place.Reach.TheVariants.{Innermost}
+use Rattle.awk_list_functions.specs.Causes.{first_spoil}
+use Rattle.awk_list_functions.specs.Lift.{lifted_type, lifted_value, refusal_at}
+use Rattle.awk_list_functions.specs.Lifting.{on_items, on_whole, refusal_fault, spoil_fault}
+use Rattle.awk_list_functions.specs.ListFunction.{ListFunction}
+use Rattle.awk_list_functions.specs.Spoils.{spoil_at, too_many}
+use Rattle.awk_list_functions.specs.declared.causes.Spoil.{Spoil}
+use Rattle.awk_list_functions.specs.declared.place.Reach.TheVariants.{Innermost}
 use Rattle.awk_columns.specs.Columns.{joined_items, lists_among, present_values}
 use Rattle.awk_jagged.specs.Jagged.{jagged_of}
 use Rattle.awk_order.specs.Order.{item_order, items_in_order}

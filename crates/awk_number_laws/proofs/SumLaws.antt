@@ -16,12 +16,12 @@ use Rattle.awk_types.specs.Simple.{present, simple, simple_value}
 use Rattle.awk_types.specs.Value.{Value, int, truth, null, list, row, alt, value_list}
 use Rattle.awk_types.proofs.RefusalLaws.{refused_or-Ok, or-both}
 use Rattle.awk_kernels.specs.Kernels.{total}
-use Rattle.awk_axis.specs.Causes.{first_spoil}
-use Rattle.awk_axis.specs.Lift.{lifted_type, lifted_value, refusal_at}
-use Rattle.awk_axis.specs.Lifting.{on_items, on_whole, refusal_fault, spoil_fault}
-use Rattle.awk_axis.specs.ListFunction.{ListFunction}
-use Rattle.awk_axis.specs.Spoils.{spoil_at, too_many}
-use Rattle.awk_axis.specs.declared.place.Reach.TheVariants.{Innermost}
+use Rattle.awk_list_functions.specs.Causes.{first_spoil}
+use Rattle.awk_list_functions.specs.Lift.{lifted_type, lifted_value, refusal_at}
+use Rattle.awk_list_functions.specs.Lifting.{on_items, on_whole, refusal_fault, spoil_fault}
+use Rattle.awk_list_functions.specs.ListFunction.{ListFunction}
+use Rattle.awk_list_functions.specs.Spoils.{spoil_at, too_many}
+use Rattle.awk_list_functions.specs.declared.place.Reach.TheVariants.{Innermost}
 use Rattle.awk_columns.specs.Columns.{is_present, joined_items, list_items, list_of, lists_among}
 use Rattle.awk_columns.specs.Columns.{present_values}
 use Rattle.awk_frames.specs.Shape.{ends}

@@ -23,12 +23,13 @@ use Rattle.awk_types.proofs.SimpleLaws.{present_stays}
 use Rattle.awk_types.proofs.Trees.{value_list-from}
 use Rattle.awk_types.proofs.NullLaws.{in_option-simple}
 use Rattle.awk_kernels.specs.Kernels.{total}
-use Rattle.awk_axis.specs.Causes.{first_spoil}
-use Rattle.awk_axis.specs.Lift.{lifted_type, lifted_value, on_list, refusal_at}
-use Rattle.awk_axis.specs.Lifting.{on_items, on_whole, refusal_fault, spoil_fault, first_told}
-use Rattle.awk_axis.specs.ListFunction.{ListFunction}
-use Rattle.awk_axis.specs.Spoils.{spoil_at, too_many}
-use Rattle.awk_axis.specs.declared.place.Reach.TheVariants.{Innermost}
+use Rattle.awk_list_functions.specs.Causes.{first_spoil}
+use Rattle.awk_list_functions.specs.Lift.{lifted_type, lifted_value, on_list, refusal_at}
+use Rattle.awk_list_functions.specs.Lifting.{on_items, on_whole, refusal_fault, spoil_fault}
+use Rattle.awk_list_functions.specs.Lifting.{first_told}
+use Rattle.awk_list_functions.specs.ListFunction.{ListFunction}
+use Rattle.awk_list_functions.specs.Spoils.{spoil_at, too_many}
+use Rattle.awk_list_functions.specs.declared.place.Reach.TheVariants.{Innermost}
 use Rattle.awk_columns.specs.Columns.{joined_items, list_items, list_of}
 use Rattle.awk_columns.specs.ListClass.{Class, list_type}
 use Rattle.awk_pair_operands.specs.Typed.{IsTyped}

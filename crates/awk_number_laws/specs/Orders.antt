@@ -8,7 +8,7 @@ use Rattle.awk_types.specs.Parts.{number_of}
 use Rattle.awk_types.specs.Predicates.{is_leaf, is_list, is_null}
 use Rattle.awk_types.specs.Simple.{IsSimple, present}
 use Rattle.awk_types.specs.Value.{Value, null}
-use Rattle.awk_axis.specs.declared.place.Reach.TheVariants.{Innermost}
+use Rattle.awk_list_functions.specs.declared.place.Reach.TheVariants.{Innermost}
 use Rattle.awk_jagged.specs.Jagged.{jagged_of}
 use Rattle.awk_select.specs.Picks.{picked, take_places, take_of}
 use Rattle.awk_sorting.specs.Order.{number_first}

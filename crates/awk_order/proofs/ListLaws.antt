@@ -28,17 +28,17 @@ use Rattle.awk_columns.specs.Lists.{AreOfClass, items_at, all_items_at}
 use Rattle.awk_columns.specs.declared.lists.Joined.TheVariants.{TooMany}
 use Rattle.awk_columns.proofs.ArrayLaws.{array_items-at}
 use Rattle.awk_columns.proofs.OffsetLaws.{counted_total}
-use Rattle.awk_axis.specs.Mapped.{IsMade}
-use Rattle.awk_axis.specs.Spoils.{too_many}
-use Rattle.awk_axis.specs.declared.causes.Refusal.TheVariants as refused
-use Rattle.awk_axis.specs.declared.causes.Spoil.TheVariants.{Index, Size}
-use Rattle.awk_axis.specs.declared.function.Made.TheVariants as made
+use Rattle.awk_list_functions.specs.Made.{IsMade}
+use Rattle.awk_list_functions.specs.Spoils.{too_many}
+use Rattle.awk_list_functions.specs.declared.causes.Refusal.TheVariants as refused
+use Rattle.awk_list_functions.specs.declared.causes.Spoil.TheVariants.{Index, Size}
+use Rattle.awk_list_functions.specs.declared.function.Made.TheVariants as made
 use Rattle.awk_parts.specs.Parts.{AreRising}
 use Rattle.awk_present.specs.Present.{list_at}
 use Rattle.awk_order.specs.Lists.{AreItems, AreMade}
 use Rattle.awk_order.specs.Sort.{leaf_lists}
-use Rattle.awk_axis.proofs.SpoilLimits.{over_limit, within_limit}
-use Rattle.awk_axis.proofs.IndexLaws.{too_many-never}
+use Rattle.awk_list_functions.proofs.SpoilLimits.{over_limit, within_limit}
+use Rattle.awk_list_functions.proofs.IndexLaws.{too_many-never}
 
 -- ---- counts
 

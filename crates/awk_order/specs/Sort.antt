@@ -8,10 +8,10 @@ use Rattle.awk_types.specs.Simple.{present}
 use Rattle.awk_types.specs.Value.{Value, int}
 use Rattle.awk_types.specs.declared.fault.Fault.{Fault}
 use Rattle.awk_types.specs.declared.primitive.Primitive.TheVariants.{I64}
-use Rattle.awk_axis.specs.Lifting.{deep}
-use Rattle.awk_axis.specs.ListFunction.{ListFunction, lists}
-use Rattle.awk_axis.specs.Spoils.{too_many}
-use Rattle.awk_axis.specs.declared.causes.Refusal.TheVariants as refused
+use Rattle.awk_list_functions.specs.Lifting.{deep}
+use Rattle.awk_list_functions.specs.ListFunction.{ListFunction, lists}
+use Rattle.awk_list_functions.specs.Spoils.{too_many}
+use Rattle.awk_list_functions.specs.declared.causes.Refusal.TheVariants as refused
 use Rattle.awk_order.specs.Order.{item_order, items_in_order}
 
 -- the places of a list's items in order, as items

@@ -28,17 +28,17 @@ use Rattle.awk_gather.specs.Peeled.{IsPickedOpt}
 use Rattle.awk_columns.specs.Joined.{AreOffsets}
 use Rattle.awk_columns.specs.ListClass.{Class}
 use Rattle.awk_columns.specs.ListNode.{AreEven}
-use Rattle.awk_axis.specs.Mapped.{AreGiven}
+use Rattle.awk_list_functions.specs.Made.{AreGiven}
 use Rattle.awk_columns.specs.Lists.{AreLists, items_at, all_items_at, span_length}
-use Rattle.awk_axis.specs.Spoils.{too_many}
-use Rattle.awk_axis.specs.declared.causes.Spoil.TheVariants.{Size}
+use Rattle.awk_list_functions.specs.Spoils.{too_many}
+use Rattle.awk_list_functions.specs.declared.causes.Spoil.TheVariants.{Size}
 use Rattle.awk_padding.specs.PadNone.{padded, padded_length, padded_class, pad_none_function}
 use Rattle.awk_padding.specs.Lanes.{padded_span, padded_place, padded_lane}
 use Rattle.awk_list_ends.proofs.SpanLaws.{start_there}
 use Rattle.awk_option_nodes.proofs.OptionNodes.{HasItems, optional_type-is, optional_item}
 use Rattle.awk_option_nodes.proofs.OptionNodes.{picked_item}
 use Rattle.awk_columns.proofs.OffsetLaws.{are_offsets, items_at-length}
-use Rattle.awk_axis.proofs.SpoilLimits.{over_limit, within_limit}
+use Rattle.awk_list_functions.proofs.SpoilLimits.{over_limit, within_limit}
 
 -- lists of items that are picked, and null elsewhere
 picked_lists : (class : Class) (t : DataType) (items : List Value → List Value)

@@ -8,7 +8,7 @@ use Rattle.awk_lanes.specs.declared.kind.Kind.TheVariants.{I64}
 use Rattle.awk_layout.specs.Layout.{Layout}
 use Rattle.awk_layout.specs.Typing.{array_type}
 use Rattle.awk_columns.specs.Lists.{span_length}
-use Rattle.awk_axis.specs.Mapped.{AreGiven}
+use Rattle.awk_list_functions.specs.Made.{AreGiven}
 use Rattle.awk_list_ends.specs.Filling.{AreFull}
 use Rattle.awk_padding.specs.PadNone.{padded, padded_class, padded_length}
 

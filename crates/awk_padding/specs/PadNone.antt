@@ -6,10 +6,10 @@ use Rattle.awk_types.specs.DataType.{opt}
 use Rattle.awk_types.specs.Datum.{Datum}
 use Rattle.awk_types.specs.Value.{Value, null}
 use Rattle.awk_types.specs.declared.fault.Fault.{Fault}
-use Rattle.awk_axis.specs.Counted.{counted}
-use Rattle.awk_axis.specs.Lifting.{lift}
+use Rattle.awk_list_functions.specs.Counted.{counted}
+use Rattle.awk_list_functions.specs.Lifting.{lift}
 use Rattle.awk_columns.specs.ListClass.{Class}
-use Rattle.awk_axis.specs.ListFunction.{ListFunction, lists}
+use Rattle.awk_list_functions.specs.ListFunction.{ListFunction, lists}
 
 -- how long a list of m items becomes: at least n, and exactly n where lists are cut
 abbrev pub padded_length : ℕ → Bool → ℕ → ℕ

@@ -3,15 +3,16 @@ ghost use Rattle.std.specs.Prelude.{◌≡◌, true, IfOk};
 ghost use Rattle.awk_types.specs.Faults.{fault_told};
 ghost use Rattle.awk_types.specs.Gives.{Gives};
 ghost use Rattle.awk_layout.specs.Datum.{datum_of, IsDatum};
-ghost use Rattle.awk_axis.specs.Mapped.{IsMade};
+ghost use Rattle.awk_list_functions.specs.Made.{IsMade};
 ghost use Rattle.awk_padding.specs.PadNone.{pad_none_function, pad_none_of};
 
 use crate::padded::{PaddedLists, Padding, padded_items};
-use awk_axis::{ListOp, Made, Refusal, Spoil, lift_at};
+use awk_axis::lift_at;
 use awk_columns::{Bounds, Lists};
 use awk_lanes::{Arena, Steps, offsets_within};
 use awk_layout::Datum;
 use awk_list_ends::even_total;
+use awk_list_functions::{ListOp, Made, Refusal, Spoil};
 use awk_types::{Fault, ITEM_LIMIT, NoMemory, Typ, copy_type};
 use std::alloc::Global;
 use std::sync::ledger::Ledger;

@@ -15,7 +15,7 @@ use Rattle.awk_lanes.proofs.MadeLanes.{size-lane_of, at-lane_of}
 use Rattle.awk_layout.specs.Item.{leaf_value, at_option, item}
 use Rattle.awk_layout.specs.Kinds.{primitive_of}
 use Rattle.awk_layout.specs.Layout.{flat, optional}
-use Rattle.awk_axis.specs.Mapped.{IsColumn}
+use Rattle.awk_list_functions.specs.Made.{IsColumn}
 
 pub flat_column : (k : Kind) (n : ℕ) (f : ℕ → ℤ) (value : ℕ → Value) → n < 2 ^ 63
     → ((i : ℕ) → i < n → leaf_value k (element k (f i)) ≡ value i)

@@ -23,8 +23,8 @@ use Rattle.awk_open.proofs.ItemShapes.{present_item}
 use Rattle.awk_columns.specs.Columns.{is_present, present_values}
 use Rattle.awk_columns.specs.Lists.{Listed, AreLists, span_length}
 use Rattle.awk_columns.proofs.PresentItems.{not_null}
-use Rattle.awk_axis.specs.Mapped.{IsColumn}
-use Rattle.awk_axis.specs.declared.function.Made.TheVariants as made
+use Rattle.awk_list_functions.specs.Made.{IsColumn}
+use Rattle.awk_list_functions.specs.declared.function.Made.TheVariants as made
 use Rattle.awk_parts.specs.Spans.{span_count, span_size, AreEnds}
 use Rattle.awk_parts.specs.declared.parts.Spans.{Spans}
 use Rattle.awk_present.specs.Numbers.{numbers}

@@ -25,12 +25,12 @@ use Rattle.awk_columns.specs.Joined.{total, IsJoined}
 use Rattle.awk_columns.specs.Lists.{Listed, items_at, all_items_at, span_length}
 use Rattle.awk_columns.specs.declared.lists.Joined.TheVariants.{TooMany}
 use Rattle.awk_columns.proofs.OffsetLaws.{counted_total}
-use Rattle.awk_axis.specs.Mapped.{IsMade, IsColumn}
-use Rattle.awk_axis.specs.declared.causes.Refusal.TheVariants as refused
-use Rattle.awk_axis.specs.declared.causes.Spoil.{Spoil}
-use Rattle.awk_axis.specs.declared.causes.Spoil.TheVariants.{Index, Size, Overflow}
-use Rattle.awk_axis.specs.declared.function.Made.{Made}
-use Rattle.awk_axis.specs.declared.function.Made.TheVariants as made
+use Rattle.awk_list_functions.specs.Made.{IsMade, IsColumn}
+use Rattle.awk_list_functions.specs.declared.causes.Refusal.TheVariants as refused
+use Rattle.awk_list_functions.specs.declared.causes.Spoil.{Spoil}
+use Rattle.awk_list_functions.specs.declared.causes.Spoil.TheVariants.{Index, Size, Overflow}
+use Rattle.awk_list_functions.specs.declared.function.Made.{Made}
+use Rattle.awk_list_functions.specs.declared.function.Made.TheVariants as made
 use Rattle.awk_parts.specs.Spans.{span_count, span_size, AreEnds}
 use Rattle.awk_parts.specs.declared.parts.Spans.{Spans}
 use Rattle.awk_reduce.specs.Lists.{list_in, IsReduced}

@@ -11,10 +11,10 @@ use Rattle.awk_lanes.specs.Made.{lane_of}
 use Rattle.awk_lanes.specs.declared.kind.Kind.TheVariants.{I64}
 use Rattle.awk_layout.specs.Kinds.{kind_of}
 use Rattle.awk_layout.specs.Typing.{array_type}
-use Rattle.awk_axis.specs.Mapped.{IsColumn}
-use Rattle.awk_axis.specs.declared.causes.Spoil.TheVariants.{Overflow}
-use Rattle.awk_axis.specs.declared.function.Made.{Made}
-use Rattle.awk_axis.specs.declared.function.Made.TheVariants as made
+use Rattle.awk_list_functions.specs.Made.{IsColumn}
+use Rattle.awk_list_functions.specs.declared.causes.Spoil.TheVariants.{Overflow}
+use Rattle.awk_list_functions.specs.declared.function.Made.{Made}
+use Rattle.awk_list_functions.specs.declared.function.Made.TheVariants as made
 use Rattle.awk_columns.specs.Lists.{Listed, items_at}
 use Rattle.awk_numbers.specs.Folds.{lane_numbers}
 use Rattle.awk_parts.specs.Spans.{span_count, span_part, span_size, AreSpanned}

@@ -9,12 +9,12 @@ use Rattle.awk_types.specs.Simple.{present}
 use Rattle.awk_types.specs.Value.{Value}
 use Rattle.awk_types.specs.declared.fault.Fault.{Fault}
 use Rattle.awk_kernels.specs.Kernels.{total}
-use Rattle.awk_axis.specs.Lifting.{deep}
-use Rattle.awk_axis.specs.ListFunction.{ListFunction, singles}
+use Rattle.awk_list_functions.specs.Lifting.{deep}
+use Rattle.awk_list_functions.specs.ListFunction.{ListFunction, singles}
 use Rattle.awk_types.specs.Predicates.{is_leaf}
-use Rattle.awk_axis.specs.declared.causes.Refusal.TheVariants as refused
-use Rattle.awk_axis.specs.declared.causes.Spoil.{Spoil}
-use Rattle.awk_axis.specs.declared.causes.Spoil.TheVariants.{Size, Overflow}
+use Rattle.awk_list_functions.specs.declared.causes.Refusal.TheVariants as refused
+use Rattle.awk_list_functions.specs.declared.causes.Spoil.{Spoil}
+use Rattle.awk_list_functions.specs.declared.causes.Spoil.TheVariants.{Size, Overflow}
 use Rattle.awk_numbers.specs.Folds.{product}
 use Rattle.awk_primitives.specs.Fits.{fits}
 use Rattle.awk_present.specs.Numbers.{leaf_of, numbers}

@@ -6,9 +6,9 @@ ghost use Rattle.awk_reduce.specs.Lists.{AreReady, AreReduced};
 ghost use Rattle.awk_reduce.specs.Totals.{item_reducer, place_reducer};
 
 use crate::ready::ReadyLists;
-use awk_axis::Made;
 use awk_lanes::{Arena, Lane, Steps};
 use awk_layout::Node;
+use awk_list_functions::Made;
 use awk_numbers::{Extreme, whole_of};
 use awk_parts::{Parts, extremes_of, places_of, present_parts};
 use awk_types::NoMemory;

@@ -4,7 +4,7 @@ ghost use Rattle.awk_types.specs.ItemLimit.{item_limit};
 ghost use Rattle.awk_lanes.specs.Numbers.{width};
 ghost use Rattle.awk_lanes.specs.Places.{size_of};
 ghost use Rattle.awk_layout.specs.Typing.{array_type};
-ghost use Rattle.awk_axis.specs.Mapped.{IsMade};
+ghost use Rattle.awk_list_functions.specs.Made.{IsMade};
 ghost use Rattle.awk_columns.specs.Joined.{total};
 ghost use Rattle.awk_nullable_lists.specs.Nullable.{AreLeaves, IsNullable};
 ghost use Rattle.awk_reduce.specs.Lists.{list_in, IsReduced};
@@ -15,10 +15,10 @@ ghost use Rattle.awk_reduce.specs.Totals.{fold_reducer, tally_reducer, item_redu
 use crate::extremes::indexed;
 use crate::reducer::Reducer;
 use crate::types::{leaf_of, wide};
-use awk_axis::{Made, Spoil};
 use awk_columns::Bounds;
 use awk_lanes::{Arena, Kind, Lane, Steps, wide_index};
 use awk_layout::Node;
+use awk_list_functions::{Made, Spoil};
 use awk_nullable::{Byte, Cells, Leaves, Places, cells_of};
 use awk_nullable_lists::{
     LeafLists, Nullable, extreme_lists, fold_lists, place_lists, present_lists, tally_lists,

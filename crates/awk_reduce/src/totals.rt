@@ -5,10 +5,10 @@ ghost use Rattle.awk_reduce.specs.Totals.{fold_reducer, tally_reducer};
 
 use crate::ready::ReadyLists;
 use crate::types::{leaf_of, wide};
-use awk_axis::{Made, Spoil};
 use awk_kernels::Kernels;
 use awk_lanes::{Arena, Steps};
 use awk_layout::Node;
+use awk_list_functions::{Made, Spoil};
 use awk_numbers::{Fold, Tally, whole_of};
 use awk_parts::{Parts, fold_parts, tally_parts};
 use awk_types::NoMemory;

@@ -2,9 +2,9 @@ use Rattle.std.proofs.Common.{◌+◌, arith, rules, ◌≡◌, sym, true, false
 use Rattle.awk_base.proofs.Results.{if_ok}
 use Rattle.awk_layout.specs.Typing.{array_type}
 use Rattle.awk_open.specs.Opens.{Opens}
-use Rattle.awk_axis.proofs.KindLaws.{unknown_accepted, unknown_refused, leaf_refused}
-use Rattle.awk_axis.specs.Reach.{here, inner}
-use Rattle.awk_axis.specs.Lift.{refusal_at}
+use Rattle.awk_list_functions.proofs.KindLaws.{unknown_accepted, unknown_refused, leaf_refused}
+use Rattle.awk_list_functions.specs.Reach.{here, inner}
+use Rattle.awk_list_functions.specs.Lift.{refusal_at}
 use Rattle.awk_columns.specs.Joined.{IsJoined}
 use Rattle.awk_axis.specs.Mapped.{IsAtAxis, IsLifted, AreLifted}
 use Rattle.awk_axis.proofs.LiftLaws.{refusal-list, refusal-list_here, refusal-row, count_mapped}

@@ -4,7 +4,7 @@ use Rattle.awk_types.specs.Faults.{fault_told}
 use Rattle.awk_types.specs.Gives.{Gives}
 use Rattle.awk_layout.specs.Datum.{datum_of}
 use Rattle.awk_layout.specs.Filler.{filler_of}
-use Rattle.awk_axis.specs.Lifting.{lift}
+use Rattle.awk_list_functions.specs.Lifting.{lift}
 use Rattle.awk_fill.specs.FillNone.{fill_none_function}
 use Rattle.awk_fill.proofs.FillLaws.{answer_filled, answer_refused}
 use Rattle.awk_fill.proofs.filling.fill_none.Goals as goal

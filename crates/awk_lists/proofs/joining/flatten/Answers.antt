@@ -7,7 +7,7 @@ use Rattle.std.proofs.lemmas.Int.{to_z-of_z}
 use Rattle.awk_types.specs.Faults.{fault_told}
 use Rattle.awk_types.specs.Gives.{Gives}
 use Rattle.awk_layout.specs.Datum.{datum_of}
-use Rattle.awk_axis.specs.Lifting.{lift}
+use Rattle.awk_list_functions.specs.Lifting.{lift}
 use Rattle.awk_lists.specs.Flatten.{flatten_function}
 use Rattle.awk_lists.proofs.Flattened.{flatten_at}
 use Rattle.awk_lists.proofs.joining.flatten.Goals as goal

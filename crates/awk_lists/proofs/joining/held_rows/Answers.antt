@@ -3,7 +3,7 @@ use Rattle.awk_base.proofs.Results.{if_ok}
 use Rattle.awk_lanes.specs.Column.{Column}
 use Rattle.awk_types.specs.ItemLimit.{item_limit}
 use Rattle.awk_columns.specs.Joined.{IsJoined, total}
-use Rattle.awk_axis.specs.Mapped.{IsMade}
+use Rattle.awk_list_functions.specs.Made.{IsMade}
 use Rattle.awk_columns.specs.declared.lists.Joined.TheVariants.{TooMany}
 use Rattle.awk_lists.specs.Flatten.{flatten_function}
 use Rattle.awk_list_ends.proofs.SpanLaws.{lists_within}

@@ -1,5 +1,5 @@
 use Rattle.std.proofs.Common.{sym, subst, ◌∙◌}
-use Rattle.awk_axis.specs.Mapped.{IsSized}
+use Rattle.awk_list_functions.specs.Made.{IsSized}
 use Rattle.awk_nulls.proofs.nulls.are_sized.Goals as goal
 
 pub returns-in-Some : goal.returns-in-Some

@@ -7,7 +7,7 @@ use Rattle.awk_lanes.proofs.MadeLanes.{size-lane_of}
 use Rattle.awk_layout.specs.Laws.{len-fits}
 use Rattle.awk_layout.specs.Layout.{flat}
 use Rattle.awk_layout.specs.Valid.{len}
-use Rattle.awk_axis.specs.declared.function.Made.TheVariants as made
+use Rattle.awk_list_functions.specs.declared.function.Made.TheVariants as made
 use Rattle.awk_parts.specs.Spans.{span_size, span_count}
 use Rattle.awk_parts.specs.declared.parts.Spans.{Spans}
 use Rattle.awk_reduce.specs.Lists.{AreLengths}

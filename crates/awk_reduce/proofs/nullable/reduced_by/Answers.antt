@@ -1,7 +1,7 @@
 use Rattle.std.proofs.Common.{refl}
 use Rattle.std.proofs.lemmas.Result.{IfOk-weaker}
 use Rattle.awk_lanes.specs.Places.{size_of}
-use Rattle.awk_axis.specs.Mapped.{IsMade}
+use Rattle.awk_list_functions.specs.Made.{IsMade}
 use Rattle.awk_reduce.specs.Reduce.{reducer_function}
 use Rattle.awk_reduce.proofs.ListLaws.{made_of_lists}
 use Rattle.awk_reduce.proofs.nullable.reduced_by.Goals as goal

@@ -4,7 +4,7 @@ use Rattle.awk_types.specs.Predicates.{is_leaf}
 use Rattle.awk_layout.specs.Laws.{len-fits}
 use Rattle.awk_layout.specs.Typing.{array_type}
 use Rattle.awk_layout.specs.Valid.{len}
-use Rattle.awk_axis.specs.Mapped.{IsMade}
+use Rattle.awk_list_functions.specs.Made.{IsMade}
 use Rattle.awk_parts.specs.Spans.{span_count}
 use Rattle.awk_present.specs.Present.{AreLeaves}
 use Rattle.awk_reduce.specs.Reduce.{reducer_function}

@@ -1,4 +1,4 @@
-use Rattle.awk_axis.proofs.IndexLaws.{too_many-never}
+use Rattle.awk_list_functions.proofs.IndexLaws.{too_many-never}
 use Rattle.awk_nulls.proofs.nulls.NullTestsListOp.tells_index.Goals as goal
 
 pub returns : goal.returns

@@ -1,0 +1,11 @@
+pub mod Causes
+pub mod Reach
+pub mod Lift
+pub mod Spoils
+pub mod Counted
+pub mod DropNone
+pub mod Count
+pub mod Lifting
+pub mod Faults
+pub mod ListFunction
+pub mod Made
