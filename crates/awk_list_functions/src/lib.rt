@@ -7,12 +7,12 @@
 
 mod causes;
 mod function;
-mod judged;
+mod judging;
 mod place;
 mod types;
 
 pub use causes::{Refusal, Spoil, first_of, sooner_spoil};
 pub use function::{ListOp, Made};
-pub use judged::{judged, judged_whole, spoilt};
+pub use judging::{judged, judged_whole, spoilt};
 pub use place::Reach;
 pub use types::MOST_LISTS;
