@@ -1,10 +1,12 @@
 // What counts steps: lanes that are made, cut and read, bits that are cut, and buffers that are
 // fetched twice, also where a long text is decoded into a room.
-ghost use Rattle.std.specs.Prelude.{◌≡◌, ◌<◌};
+ghost use Rattle.std.specs.Prelude.{◌≡◌, ◌<◌, IfOk};
+ghost use Rattle.serde_json.specs.View.{members_view};
+ghost use Rattle.awk_store.specs.Buffers.{HoldsTexts};
 
 use awk_lanes::{Arena, Bits, Kind, Lane, LaneMaker, Lanes, NoMemory, Steps};
 use awk_store::{BufferWhy, Room, Store, StoreFault};
-use serde_json::Value;
+use serde_json::{Map, Value};
 use std::alloc::Global;
 use std::marker::Brand;
 use std::process::Abort;
@@ -137,24 +139,30 @@ fn try_store<L: Ledger>(
     Ok(())
 }
 
-/// A long text is decoded into the memory of the line that it was read from, the others into the
-/// arena.
+/// An object of one text.
+fn one_text(alloc: Global, text: String) -> Result<Map<String, Value>, NoMemory>
+    ensures { IfOk result (λ buffers. HoldsTexts (members_view buffers.entries)) }
+{
+    let mut buffers = Map::new(alloc);
+    let key = format!(in alloc; "long")?;
+    drop(buffers.insert(key, Value::String(text))?);
+    Ok(buffers)
+}
+
+/// A long text is decoded into memory that is given up.
 fn try_room<L: Ledger>(rt: &impl Abort, alloc: Global, steps: &mut Steps<L>) -> Result<(), Fail> {
-    let text = "AQID".repeat(alloc, 16_384)?;
     let bytes = [1, 2, 3].repeat(alloc, 16_384)?;
-    let line = format!(in alloc; r#"{{"a":"AA==","b":"AAA","long":"{text}"}}"#)?;
-    let json = Value::from_str(alloc, &line)?;
-    let buffers = json.as_object().expect(rt, "an object");
+    let buffers = one_text(alloc, "AQID".repeat(alloc, 16_384)?)?;
     let mut place = Vec::new(alloc);
     let room = Room {
-        memory: line.into_bytes(),
+        memory: "line".repeat(alloc, 16_384)?.into_bytes(),
         place: &mut place,
     };
     let arena = Arena::new(alloc);
-    let mut store = Store::with_room(alloc, buffers, Some(room), &arena);
+    let mut store = Store::with_room(alloc, &buffers, Some(room), &arena);
     for _ in 0..2 {
         assert!(rt; store.fetch("long", steps) == Ok(bytes.as_slice()));
-        try_keys(rt, &mut store, steps);
+        assert!(rt; store.fetch("b", steps) == Err(StoreFault::Bad(BufferWhy::Absent)));
     }
     Ok(())
 }
