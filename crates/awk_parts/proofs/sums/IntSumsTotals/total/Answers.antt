@@ -1,4 +1,4 @@
-use Rattle.std.proofs.Common.{◌≤◌, ap, sym, ◌∙◌, length, arith, rules}
+use Rattle.std.proofs.Common.{ap, sym, ◌∙◌, length, arith, rules}
 use Rattle.std.specs.Prelude.{FitsSigned}
 use Rattle.std.specs.Int.{w128}
 use Rattle.std.specs.List.{slice_range}
@@ -18,13 +18,12 @@ returns g c =
     ∙ c.span_of.ensures.part in
     to_z-of_z w128 z fits ∙ c.int_sum.ensures ∙ ap total same
 
-pub int_sum-requires : goal.int_sum-requires
-int_sum-requires g c =
+pub int_sum-requires-clause-within : goal.int_sum-requires-clause-within
+int_sum-requires-clause-within g c =
     let groups = c.args.self.now.groups.now in
-    let within : c.span_of.result.stop ≤ length groups = omega (
+    omega (
       arith,
       c.span_of.ensures.inside,
       ap length c.requires.ready.0,
       length-map groups (number Kind.I64),
-    ) in
-    (c.span_of.ensures.order, (within, c.span_of.ensures.few))
+    )
