@@ -6,9 +6,10 @@
 //! the least or the greatest of each part, `places_of` where it stands; `present_parts` tells which
 //! parts have a number. `fitting_lane` makes a lane of any numbers that are judged so (`Totals`).
 //! Numbers that fit an i64 are compared, counted and summed as such, in a loop over the parts for
-//! each kind and each question, which no part asks again. A sum of numbers of i64 goes on in 128
-//! bits where it is found in no 64, as a product does. Whether some or all of a part are not 0 is
-//! told at the first block that settles it; true truth values are counted a block at a time.
+//! each kind and each question, which no part asks again. A sum of numbers of i64 is made in 128
+//! bits; a product goes on in these where it is found in no 64. Whether some or all of a part are
+//! not 0 is told at the first block that settles it; true truth values are counted a block at a
+//! time.
 #![tactic(auto)]
 
 mod blocks;
