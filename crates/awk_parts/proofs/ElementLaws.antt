@@ -19,7 +19,7 @@ truth_element : (b : Bool)
 truth_element true = (omega (arith, ints), omega (arith, ints))
 truth_element false = (omega (arith, ints), omega (arith, ints))
 
-element_of : (k : Kind) (z : ℤ) → IsNumber k z → IsElement k (element k z)
+pub element_of : (k : Kind) (z : ℤ) → IsNumber k z → IsElement k (element k z)
 element_of Truths z h = truth_element (is_nonzero z)
 element_of I8 z h = h
 element_of I16 z h = h

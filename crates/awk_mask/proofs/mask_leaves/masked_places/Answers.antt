@@ -1,6 +1,6 @@
 use Rattle.awk_gather.specs.Peeled.{IsPickedOpt}
 use Rattle.awk_mask.proofs.MaskLeaves.{kept_index, kept_mask}
-use Rattle.awk_mask.proofs.mask_leaves.masked_items.Goals as goal
+use Rattle.awk_mask.proofs.mask_leaves.masked_places.Goals as goal
 
 pub option_over-requires-clause-places : goal.option_over-requires-clause-places
 option_over-requires-clause-places g c =
