@@ -5,3 +5,4 @@ pub mod DepthLaws
 pub mod MaskFaults
 pub mod MadeLaws
 mod Worked
+pub mod MaskBytes

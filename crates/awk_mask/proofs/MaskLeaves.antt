@@ -91,10 +91,10 @@ truth_byte bytes i p =
 pub size-truths_in : (bytes : List ℕ) (c : Column) → truths_in bytes ≡ c → length bytes ≡ size_of c
 size-truths_in bytes c e = sym (length-map bytes pos) ∙ ap size_of e
 
-size-kept : (c : Column) (keep : Bool) → size_of (kept_lane c keep) ≡ size_of c
+pub size-kept : (c : Column) (keep : Bool) → size_of (kept_lane c keep) ≡ size_of c
 size-kept c keep = size-lane_of kinds.I64 (size_of c) (kept_place c keep)
 
-at-kept : (c : Column) (keep : Bool) (i : ℕ) → i < size_of c
+pub at-kept : (c : Column) (keep : Bool) (i : ℕ) → i < size_of c
     → at (kept_lane c keep) i ≡ kept_place c keep i
 at-kept c keep i p = at-lane_of kinds.I64 (size_of c) (kept_place c keep) i p
 

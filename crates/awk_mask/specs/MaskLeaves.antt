@@ -9,10 +9,11 @@ use Rattle.awk_lanes.specs.Places.{size_of, at, option_place_at}
 use Rattle.awk_lanes.specs.Words.{column, integers}
 use Rattle.awk_lanes.specs.declared.kind.Kind.TheVariants as kinds
 use Rattle.awk_layout.specs.Item.{leaf_value, agrees}
-use Rattle.awk_layout.specs.Layout.{Layout}
+use Rattle.awk_layout.specs.Layout.{Layout, empty, flat, regular, lists, offset_lists, rows}
+use Rattle.awk_layout.specs.Layout.{indexed, optional, byte_masked, bit_masked, unmasked, union}
 use Rattle.awk_layout.specs.Typing.{array_type}
 use Rattle.awk_gather.specs.Arrays.{array_item}
-use Rattle.awk_gather.specs.Peeled.{if_shown}
+use Rattle.awk_gather.specs.Peeled.{if_shown, IsBare}
 use Rattle.awk_layout.specs.Valid.{len, IsValid}
 use Rattle.awk_mask_pairs.specs.MaskValues.{masked_type, masked_value}
 
@@ -65,3 +66,18 @@ pub record IsMasked (x m : Layout) (keep : Bool) (r : Layout) : Type 0 where
   pub items : (i : ℕ) → i < len x
       → array_item r i ≡ simple_value (masked_type (array_type m) (array_type x))
       (masked_value (array_type m) keep (array_item m i) (array_item x i))
+
+-- one option over what is neither an option nor an index: by an index, or by the bytes of a mask
+abbrev pub IsLow : Layout → Type 0
+IsLow (optional j x) = IsBare x
+IsLow (byte_masked m v x) = IsBare x
+IsLow empty = ⊥
+IsLow (flat c) = ⊥
+IsLow (regular size n x) = ⊥
+IsLow (lists s t x) = ⊥
+IsLow (offset_lists o x) = ⊥
+IsLow (rows names n xs) = ⊥
+IsLow (indexed j x) = ⊥
+IsLow (bit_masked m v x) = ⊥
+IsLow (unmasked n x) = ⊥
+IsLow (union t j xs) = ⊥

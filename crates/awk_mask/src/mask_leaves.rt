@@ -1,5 +1,5 @@
 //! An array where a mask of single truth values is over it.
-ghost use Rattle.std.specs.Prelude.{◌≡◌, ◌<◌, ◌^◌, pos, true, length, IfOk};
+ghost use Rattle.std.specs.Prelude.{◌≡◌, ◌<◌, ◌^◌, pos, true, false, length, IfOk};
 ghost use Rattle.awk_types.specs.Simple.{is_option};
 ghost use Rattle.awk_lanes.specs.Numbers.{int_of, is_nonzero, IsOf};
 ghost use Rattle.awk_lanes.specs.Places.{size_of, at, IsOptionalIndex};
@@ -7,18 +7,17 @@ ghost use Rattle.awk_lanes.specs.declared.kind.Kind.TheVariants as Kinds;
 ghost use Rattle.awk_layout.specs.Item.{agrees};
 ghost use Rattle.awk_layout.specs.Typing.{array_type};
 ghost use Rattle.awk_layout.specs.Valid.{len};
-ghost use Rattle.awk_gather.specs.Peeled.{if_shown};
-ghost use Rattle.awk_gather.specs.Composed.{IsComposed};
+ghost use Rattle.awk_gather.specs.Peeled.{if_shown, IsBare};
 ghost use Rattle.awk_mask_pairs.specs.MaskTypes.{is_bare, is_innermost};
 ghost use Rattle.awk_mask.specs.MaskLeaves.{kept_lane, kept_place, there_place, truths_in};
-ghost use Rattle.awk_mask.specs.MaskLeaves.{AreKept, AreTruths, IsMasked};
+ghost use Rattle.awk_mask.specs.MaskLeaves.{AreKept, AreTruths, IsLow, IsMasked};
 
 use awk_gather::option_over;
 use awk_lanes::{
     Arena, Index, Kind, Lane, LaneMaker, Num, Numbers, Steps, byte_numbers, index_of, made_lane,
     number,
 };
-use awk_layout::{Array, Node};
+use awk_layout::{Array, Class, Node};
 use awk_open::{Opened, opened};
 use awk_types::{NoMemory, is_optional};
 use std::alloc::Global;
@@ -215,8 +214,67 @@ fn mask_places<'a, L: Ledger>(
     Ok(places)
 }
 
+/// Items where a mask is the one that is kept, by an index.
+fn masked_places<'a, L: Ledger>(
+    alloc: Global,
+    x: &Array<'a>,
+    m: &Array<'a>,
+    keep: bool,
+    arena: &'a Arena,
+    steps: &mut Steps<L>,
+) -> Result<Node<'a>, NoMemory>
+    requires mask { is_innermost (array_type m.now) ≡ true }
+    requires lengths { len m.now ≡ len x.now }
+    ensures items { IfOk result (IsMasked x.now m.now keep) }
+    ensures low { IfOk result IsLow }
+{
+    let _ = x.len();
+    let places = mask_places(alloc, m, keep, arena, steps)?;
+    let node = option_over(alloc, x.node(), &places, arena, steps)?;
+    let _ = node.len();
+    Ok(node)
+}
+
+/// Whether an array is a lane of numbers, and a mask over it has no nulls.
+fn lies_plain(x: &Array, m: &Array) -> bool
+    ensures { result ≡ true → (is_option (array_type m.now) ≡ false) × IsBare x.now }
+{
+    if is_optional(m.typ()) {
+        return false;
+    }
+    match x.node().class() {
+        Class::Numpy { .. } => true,
+        _ => false,
+    }
+}
+
+/// Items where a mask without nulls is the one that is kept: its bytes as they lie are their mask.
+fn masked_bytes<'a, L: Ledger>(
+    alloc: Global,
+    x: &Array<'a>,
+    m: &Array<'a>,
+    keep: bool,
+    arena: &'a Arena,
+    steps: &mut Steps<L>,
+) -> Result<Node<'a>, NoMemory>
+    requires mask { is_bare (array_type m.now) ≡ true }
+    requires items { IsBare x.now }
+    requires lengths { len m.now ≡ len x.now }
+    ensures items { IfOk result (IsMasked x.now m.now keep) }
+    ensures low { IfOk result IsLow }
+{
+    let _ = x.len();
+    let truths = truths_of(alloc, m, arena, steps)?;
+    let mask = Lane::new(Kind::I8, truth_bytes(&truths, steps));
+    let content = Box::new(alloc, x.node().copy(alloc)?)?;
+    let node = Node::byte_masked(mask, keep, content, steps);
+    let _ = node.len();
+    Ok(node)
+}
+
 /// The items of an array where a mask of single truth values, of which some may be null, is the one
-/// that is kept.
+/// that is kept. Over numbers the mask lies as it is; else an index is made, composed with those
+/// below it.
 pub fn masked_items<'a, L: Ledger>(
     alloc: Global,
     x: &Array<'a>,
@@ -228,11 +286,10 @@ pub fn masked_items<'a, L: Ledger>(
     requires mask { is_innermost (array_type m.now) ≡ true }
     requires lengths { len m.now ≡ len x.now }
     ensures items { IfOk result (IsMasked x.now m.now keep) }
-    ensures composed { IfOk result IsComposed }
+    ensures low { IfOk result IsLow }
 {
-    let _ = x.len();
-    let places = mask_places(alloc, m, keep, arena, steps)?;
-    let node = option_over(alloc, x.node(), &places, arena, steps)?;
-    let _ = node.len();
-    Ok(node)
+    if lies_plain(x, m) {
+        return masked_bytes(alloc, x, m, keep, arena, steps);
+    }
+    masked_places(alloc, x, m, keep, arena, steps)
 }

@@ -1,5 +1,5 @@
 //! The numbers of items one after another, those of nulls left out.
-ghost use Rattle.std.specs.Prelude.{◌≡◌, ◌<◌, ◌≤◌, ◌++◌, ℕ, ℤ, true, List, [], length};
+ghost use Rattle.std.specs.Prelude.{◌≡◌, ◌<◌, ◌≤◌, ℕ, ℤ, true, [], length};
 ghost use Rattle.std.specs.Prelude.{unsigned_abs, IfSome};
 ghost use Rattle.std.specs.Option.{option_map};
 ghost use Rattle.awk_lanes.specs.Places.{size_of};
@@ -80,29 +80,17 @@ fn number_by<P: Places, C: Cells, L: Ledger>(
 
 /// What numbers come to, one after another.
 pub(crate) trait Total {
-    ghost use Rattle.std.specs.Prelude.{ℤ, List, ◌++◌, ◌∷◌};
+    ghost use Rattle.std.specs.Prelude.{ℤ, List, ◌++◌};
+    ghost use Rattle.awk_nullable.specs.Numbers.{number_list};
 
     /// What it is after numbers.
     ghost IsOf: { Self → List ℤ → Type 0 };
 
-    /// After one number more.
-    fn with(self, z: i128) -> Self
-        requires near { unsigned_abs z < 18446744073709551616 }
+    /// After one item more, whose number is left out where it is null.
+    fn after(self, number: Option<i128>) -> Self
+        requires near { IfSome number (λ z. unsigned_abs z < 18446744073709551616) }
         requires few { (zs : List ℤ) × IsOf self zs × (length zs < 1073741824) }
-        ensures { (zs : List ℤ) → IsOf self zs → IsOf result (zs ++ z ∷ []) };
-}
-
-/// After the number of an item, if that is not null.
-#[inline(always)]
-fn after<T: Total>(total: T, number: Option<i128>) -> T
-    requires near { IfSome number (λ z. unsigned_abs z < 18446744073709551616) }
-    requires few { (zs : List ℤ) × T.IsOf total zs × (length zs < 1073741824) }
-    ensures { (zs : List ℤ) → T.IsOf total zs → T.IsOf result (zs ++ number_list number) }
-{
-    match number {
-        Some(z) => total.with(z),
-        None => total,
-    }
+        ensures { (zs : List ℤ) → IsOf self zs → IsOf result (zs ++ number_list number) };
 }
 
 /// What the numbers of so many items from a first one on come to, each read ahead or not.
@@ -125,7 +113,7 @@ fn total_by<T: Total, P: Places, C: Cells, L: Ledger>(
 {
     let mut total = none;
     for i in 0..count {
-        total = after(total, number_by(ahead, x, first + i, steps));
+        total = total.after(number_by(ahead, x, first + i, steps));
     }
     total
 }

@@ -1,10 +1,13 @@
 //! Sums, products and counts of the items of a list that are not null.
-ghost use Rattle.std.specs.Prelude.{◌≡◌, ◌<◌, ◌≤◌, ℤ, List, Some, cond};
+ghost use Rattle.std.specs.Prelude.{◌≡◌, ◌<◌, ◌≤◌, ◌++◌, ◌∷◌, ℤ, List, [], Some, cond};
+ghost use Rattle.std.specs.Prelude.{unsigned_abs};
+ghost use Rattle.std.specs.Int.{int_shr};
 ghost use Rattle.std.specs.List.{count_by, list_any, list_all};
+ghost use Rattle.awk_kernels.specs.Kernels.{total};
 ghost use Rattle.awk_lanes.specs.Numbers.{int_of, is_nonzero, IsOf as IsOfKind};
 ghost use Rattle.awk_numbers.specs.Folds.{folded, tallied, tally_kind, product, IsNear};
 ghost use Rattle.awk_nullable.specs.Numbers.{leaf_number, numbers_from, AreItems};
-ghost use Rattle.awk_nullable.specs.Totals.{is_true_number, is_false, IsProduct};
+ghost use Rattle.awk_nullable.specs.Totals.{is_true_number, is_false, halves_sum, IsProduct};
 
 use crate::cells::Cells;
 use crate::numbers::{Leaves, Total, count_of, number_of, total_of};
@@ -13,21 +16,55 @@ use awk_lanes::{Num, Steps, number};
 use awk_numbers::{Fold, Tally, near, one_if};
 use std::sync::ledger::Ledger;
 
-/// The sum of numbers.
+/// What is above the lowest 32 bits of a number.
+#[inline(always)]
+fn high_half(z: i128) -> i64
+    requires { unsigned_abs z < 18446744073709551616 }
+    ensures high { result ≡ int_shr z 32 }
+    ensures near { unsigned_abs result ≤ 4294967296 }
+{
+    (z >> 32) as i64
+}
+
+/// The lowest 32 bits of a number.
+#[inline(always)]
+fn low_half(z: i128) -> u64
+    requires { unsigned_abs z < 18446744073709551616 }
+    ensures whole { halves_sum (int_shr z 32) result ≡ z }
+    ensures small { result < 4294967296 }
+{
+    (z & 0xffff_ffff) as u64
+}
+
+/// The sum of numbers, by halves: that of what is above their lowest 32 bits, and that of these. In
+/// a loop nothing is carried from one to the other, and a null is a 0 without a branch.
 #[derive(Clone, Copy)]
 pub(crate) struct Sum {
-    sum: i128,
+    high: i64,
+    low: u64,
 }
 
 impl Total for Sum {
     ghost use Rattle.awk_nullable.specs.Totals.{IsSum};
 
-    ghost IsOf = { λ s zs. IsSum s.sum zs };
+    ghost IsOf = { λ s zs. IsSum s.high s.low zs };
 
     #[inline(always)]
-    fn with(self, z: i128) -> Sum {
-        Sum { sum: self.sum + z }
+    fn after(self, number: Option<i128>) -> Sum {
+        let z = number.unwrap_or(0);
+        Sum {
+            high: self.high + high_half(z),
+            low: self.low + low_half(z),
+        }
     }
+}
+
+/// The sum of both halves.
+#[inline(always)]
+fn whole_sum(x: Sum) -> i128
+    ensures { result ≡ halves_sum x.high x.low }
+{
+    i128::from(x.high) * 4_294_967_296 + i128::from(x.low)
 }
 
 /// The product of numbers.
@@ -41,23 +78,35 @@ pub(crate) enum Product {
     Near(i128),
 }
 
+/// A product after one number more.
+#[inline(always)]
+fn times(product: Product, z: i128) -> Product
+    requires { unsigned_abs z < 18446744073709551616 }
+    ensures { (zs : List ℤ) → IsProduct product zs → IsProduct result (zs ++ z ∷ []) }
+{
+    if z == 0 {
+        return Product::Zero;
+    }
+    match product {
+        Product::Zero => Product::Zero,
+        Product::Far => Product::Far,
+        Product::Near(so_far) => match near(so_far, z) {
+            Some(next) => Product::Near(next),
+            None => Product::Far,
+        },
+    }
+}
+
 impl Total for Product {
     ghost use Rattle.awk_nullable.specs.Totals.{IsProduct};
 
     ghost IsOf = { IsProduct };
 
     #[inline(always)]
-    fn with(self, z: i128) -> Product {
-        if z == 0 {
-            return Product::Zero;
-        }
-        match self {
-            Product::Zero => Product::Zero,
-            Product::Far => Product::Far,
-            Product::Near(so_far) => match near(so_far, z) {
-                Some(next) => Product::Near(next),
-                None => Product::Far,
-            },
+    fn after(self, number: Option<i128>) -> Product {
+        match number {
+            Some(z) => times(self, z),
+            None => self,
         }
     }
 }
@@ -87,9 +136,12 @@ impl Total for Nonzero {
     ghost IsOf = { λ x zs. x.count ≡ count_by is_nonzero zs };
 
     #[inline(always)]
-    fn with(self, z: i128) -> Nonzero {
-        Nonzero {
-            count: self.count + one_if(z),
+    fn after(self, number: Option<i128>) -> Nonzero {
+        match number {
+            Some(z) => Nonzero {
+                count: self.count + one_if(z),
+            },
+            None => self,
         }
     }
 }
@@ -117,11 +169,29 @@ impl Total for Zeros {
     ghost IsOf = { λ x zs. x.count ≡ count_by is_false zs };
 
     #[inline(always)]
-    fn with(self, z: i128) -> Zeros {
-        Zeros {
-            count: self.count + one_if_zero(z),
+    fn after(self, number: Option<i128>) -> Zeros {
+        match number {
+            Some(z) => Zeros {
+                count: self.count + one_if_zero(z),
+            },
+            None => self,
         }
     }
+}
+
+/// The exact sum of so many items from a first one on.
+fn sum_of<P: Places, C: Cells, L: Ledger>(
+    x: &Leaves<'_, P, C>,
+    first: u64,
+    count: u64,
+    steps: &mut Steps<L>,
+) -> i128
+    requires items { AreItems (P.at x.now.places.now) (P.size x.now.places.now)
+        (C.lane x.now.cells.now) first count }
+    ensures { result ≡ total (numbers_from (leaf_number (P.at x.now.places.now)
+        (C.lane x.now.cells.now)) first count) }
+{
+    whole_sum(total_of(Sum { high: 0, low: 0 }, x, first, count, steps))
 }
 
 /// The exact sum or product of so many items from a first one on, or none where no number of 64
@@ -139,7 +209,7 @@ pub fn fold_of<P: Places, C: Cells, L: Ledger>(
         (C.lane x.now.cells.now)) first count)) result }
 {
     match how {
-        Fold::Sum => Some(total_of(Sum { sum: 0 }, x, first, count, steps).sum),
+        Fold::Sum => Some(sum_of(x, first, count, steps)),
         Fold::Product => near_product(total_of(Product::Near(1), x, first, count, steps)),
     }
 }

@@ -6,7 +6,6 @@
 //! `place_lists` where that stands, and `present_lists` which lists have one.
 #![tactic(auto)]
 
-mod kinds;
 mod lists;
 mod opening;
 

@@ -11,14 +11,13 @@ ghost use Rattle.awk_nullable_lists.specs.Lists.{present_at};
 ghost use Rattle.awk_nullable_lists.specs.Lists.{AreNullable};
 ghost use Rattle.awk_nullable.specs.Numbers.{leaf_number, AreItems};
 
-use crate::kinds::number_in;
 use awk_columns::{Bounds, Span};
 use awk_lanes::{Arena, Kind, Lane, NoMemory, Num, Numbers, Steps, made_lane, number};
 use awk_nullable::{
     Cells, Leaves, Places, count_of, extreme_number, fold_of, is_some_there, place_of, tally_of,
 };
 use awk_numbers::{Extreme, Fold, Tally};
-use awk_parts::{Totals, fitting_lane, kind_of_tally, number_of_place, zero_of};
+use awk_parts::{Totals, fitting_lane, kind_of_tally, number_in, number_of_place, zero_of};
 use awk_types::Prim;
 use std::sync::ledger::Ledger;
 

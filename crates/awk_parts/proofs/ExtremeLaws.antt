@@ -6,7 +6,7 @@ use Rattle.std.proofs.lemmas.List.{length-map}
 use Rattle.awk_numbers.specs.Folds.{beats, first_extreme}
 use Rattle.awk_numbers.specs.declared.extremes.Extreme.{Extreme}
 use Rattle.awk_numbers.proofs.ExtremeLaws.{IsFirst, first_kept, first_new, first_found}
-use Rattle.awk_parts.specs.Extremes.{better_of, IsBest}
+use Rattle.awk_parts.specs.Extremes.{better_of, better_number, IsBest}
 use Rattle.awk_parts.specs.Lanes.{number_or_zero}
 use Rattle.awk_parts.specs.declared.wide.Best.{Best}
 
@@ -52,3 +52,26 @@ pub best_read : (how : Extreme) (f : List ℕ → ℤ) (gs : List (List ℕ)) (b
     → IsBest how f gs b
     → b.number ≡ number_or_zero (map f gs) (first_extreme how (map f gs))
 best_read how f gs b h = sym (ap (number_or_zero (map f gs)) h.first ∙ h.found)
+
+-- ---- the extreme alone
+
+-- the extreme of the first i numbers
+abbrev pub HasFirst : Extreme → List ℤ → ℕ → ℤ → Type 0
+HasFirst how zs i z = (k : ℕ) × IsFirst how zs i k z
+
+-- one number more
+pub number_more : (how : Extreme) (zs : List ℤ) (i : ℕ) (old next new : ℤ)
+    → new ≡ better_number how old next → i < length zs → next ≡ get_or zs i (pos 0)
+    → HasFirst how zs i old → HasFirst how zs (i + 1) new
+number_more how zs i old next new same l e h =
+    subst (HasFirst how zs (i + 1)) (sym same) (go (beats how next old) refl)
+  where
+    go : (b : Bool) → beats how next old ≡ b → HasFirst how zs (i + 1) (if b then next else old)
+    go true t = (i, first_new how zs i h.0 old next l e t h.1)
+    go false t = (h.0, first_kept how zs i h.0 old next e t h.1)
+
+-- when all are read, it is the extreme
+pub number_found : (how : Extreme) (zs : List ℤ) (i : ℕ) (z : ℤ) → length zs ≤ i
+    → HasFirst how zs i z → z ≡ number_or_zero zs (first_extreme how zs)
+number_found how zs i z l h =
+    sym (ap (number_or_zero zs) (sym (first_found how zs i h.0 z l h.1)) ∙ h.1.found)

@@ -4,3 +4,4 @@ pub mod ExtremeLaws
 pub mod BlockLaws
 pub mod SumLaws
 pub mod CountLaws
+pub mod ElementLaws

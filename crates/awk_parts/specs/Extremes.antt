@@ -8,6 +8,10 @@ use Rattle.awk_parts.specs.declared.wide.Best.{Best}
 abbrev pub better_of : Extreme → Best → Best → Best
 better_of how old next = if beats how next.number old.number then next else old
 
+-- the better one of two numbers
+abbrev pub better_number : Extreme → ℤ → ℤ → ℤ
+better_number how old next = if beats how next old then next else old
+
 -- the extreme, and the first of its places
 pub record IsBest (how : Extreme) (f : List ℕ → ℤ) (gs : List (List ℕ)) (b : Best) : Type 0 where
   pub inside : b.place < length gs

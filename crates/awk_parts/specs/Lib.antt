@@ -2,5 +2,6 @@ pub mod Parts
 pub mod Spans
 pub mod Fits
 pub mod Lanes
+pub mod Elements
 pub mod Extremes
 pub mod Truths

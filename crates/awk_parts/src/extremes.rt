@@ -8,7 +8,8 @@ ghost use Rattle.awk_parts.specs.Lanes.{extreme_at};
 ghost use Rattle.awk_parts.specs.Spans.{span_count, AreSpanned};
 
 use crate::parts::{Parts, span_of};
-use crate::wide::{first_place, groups_in, wide_extreme};
+use crate::short::short_extremes;
+use crate::wide::{first_place, groups_in, truth_groups, wide_extreme};
 use awk_lanes::{Arena, Kind, Lane, NoMemory, Num, Numbers, Steps, made_lane};
 use awk_numbers::{Extreme, Whole};
 use std::sync::ledger::Ledger;
@@ -119,8 +120,8 @@ fn wide_groups<'a>(lane: &Lane, numbers: &Whole<'a>) -> Option<&'a [[u8; 8]]>
     }
 }
 
-/// The least or the greatest number of each part of a lane's numbers, and 0 for a part of none.
-pub fn extremes_of<'a, L: Ledger>(
+/// The least or the greatest number of each part of a lane's numbers, which may need up to 64 bits.
+fn long_extremes<'a, L: Ledger>(
     how: Extreme,
     lane: &Lane,
     parts: &Parts,
@@ -138,6 +139,35 @@ pub fn extremes_of<'a, L: Ledger>(
             let count = parts.spans.starts.len() as u64;
             let extremes = Extremes { how, lane, parts };
             made_lane(lane.kind(), count, &extremes, arena, steps)
+        }
+    }
+}
+
+/// The least or the greatest number of each part of a lane's numbers, and 0 for a part of none.
+/// There is a loop for each kind of numbers of up to 16 bits, and one for those of i64.
+pub fn extremes_of<'a, L: Ledger>(
+    how: Extreme,
+    lane: &Lane,
+    parts: &Parts,
+    arena: &'a Arena,
+    steps: &mut Steps<L>,
+) -> Result<Lane<'a>, NoMemory>
+    requires numbers { whole_numbers parts.now.numbers.now ≡ lane_numbers lane.now }
+    requires parts { AreSpanned (whole_numbers parts.now.numbers.now) parts.now.spans.now }
+    ensures { IfOk result (λ r. r ≡ lane_of lane.now.kind (span_count parts.now.spans.now)
+        (extreme_at how (lane_numbers lane.now) parts.now.spans.now)) }
+{
+    match *parts.numbers {
+        Whole::Truths(bytes) => {
+            let groups = truth_groups(bytes);
+            short_extremes::<1, bool, L>(how, lane, groups, parts, arena, steps)
+        }
+        Whole::I8(groups) => short_extremes::<1, i8, L>(how, lane, groups, parts, arena, steps),
+        Whole::I16(groups) => short_extremes::<2, i16, L>(how, lane, groups, parts, arena, steps),
+        Whole::U8(groups) => short_extremes::<1, u8, L>(how, lane, groups, parts, arena, steps),
+        Whole::U16(groups) => short_extremes::<2, u16, L>(how, lane, groups, parts, arena, steps),
+        Whole::I32(_) | Whole::I64(_) | Whole::U32(_) | Whole::U64(_) => {
+            long_extremes(how, lane, parts, arena, steps)
         }
     }
 }

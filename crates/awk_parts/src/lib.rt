@@ -6,9 +6,11 @@
 //! the least or the greatest of each part, `places_of` where it stands; `present_parts` tells which
 //! parts have a number. `fitting_lane` makes a lane of any numbers that are judged so (`Totals`).
 //! Numbers that fit an i64 are compared, counted and summed as such, in a loop over the parts for
-//! each kind and each question, which no part asks again. A sum of numbers of i64 goes on in 128
-//! bits where it is found in no 64, as a product does. Whether some or all of a part are not 0 is
-//! told at the first block that settles it; true truth values are counted a block at a time.
+//! each kind and each question, which no part asks again; the least and the greatest of numbers of
+//! up to 16 bits are found as i32. A sum of numbers of i64 is made in 128 bits; a product goes on
+//! in these where it is found in no 64. Whether some or all of a part are not 0 is told at the
+//! first block that settles it; true truth values are counted a block at a time. `number_in` is a
+//! number as code holds those of a kind.
 #![tactic(auto)]
 
 mod blocks;
@@ -17,11 +19,13 @@ mod counts;
 mod extremes;
 mod fits;
 mod folds;
+mod kinds;
 mod offsets;
 mod parts;
 mod places;
 mod products;
 mod rules;
+mod short;
 mod sums;
 mod tallies;
 mod totals;
@@ -29,6 +33,7 @@ mod wide;
 
 pub use extremes::{extremes_of, zero_of};
 pub use folds::fold_parts;
+pub use kinds::number_in;
 pub use offsets::offset_at;
 pub use parts::{Parts, Spans, span_length, spans_between, spans_of};
 pub use places::{number_of_place, places_of, present_parts};

@@ -1,7 +1,6 @@
-//! Sums of parts of numbers that fit an i64, made in numbers of 64 bits where these hold them.
-ghost use Rattle.std.specs.Prelude.{◌≡◌, ◌-◌, ◌<◌, ◌≤◌, ◌+ℤ◌, ℤ, pos, get_or, length, map, Some};
-ghost use Rattle.std.specs.Prelude.{unsigned_abs, IfOk, IfSome, FitsSigned};
-ghost use Rattle.std.specs.Int.{w64};
+//! Sums of parts of numbers that fit an i64.
+ghost use Rattle.std.specs.Prelude.{◌≡◌, ◌-◌, ◌<◌, ◌≤◌, pos, get_or, length, map, unsigned_abs};
+ghost use Rattle.std.specs.Prelude.{IfOk};
 ghost use Rattle.std.specs.List.{slice_range};
 ghost use Rattle.awk_kernels.specs.Kernels.{total};
 ghost use Rattle.awk_lanes.specs.Numbers.{element, number};
@@ -18,7 +17,6 @@ use crate::parts::{Parts, Span, span_of};
 use crate::totals::{Totals, fitting_lane};
 use crate::wide::number_at;
 use awk_lanes::{Arena, Lane, NoMemory, Steps};
-use awk_numbers::{Fold, folded};
 use awk_types::Prim;
 use std::marker::PhantomData;
 use std::sync::ledger::Ledger;
@@ -119,37 +117,36 @@ pub(crate) fn narrow_sums<'a, const W: usize, C: Cell<W>, L: Ledger>(
 
 // ---- numbers of i64
 
-/// A sum, if it is one of 64 bits.
+/// The number at place i, in 128 bits.
 #[inline(always)]
-fn plus(so_far: i64, next: i64) -> Option<i64>
-    ensures sum { IfSome result (λ z. z ≡ so_far +ℤ next) }
-    ensures fits { (z : ℤ) → result ≡ Some z → FitsSigned w64 z }
+fn wide_at(groups: &[[u8; 8]], i: usize) -> i128
+    requires { i < length groups.now }
+    ensures number { result ≡ get_or (map (number Kind.I64) groups.now) i (pos 0) }
+    ensures near { unsigned_abs result < 18446744073709551616 }
 {
-    so_far.checked_add(next)
+    i128::from(number_at::<8, i64>(groups, i))
 }
 
-/// The sum of numbers, or none where the sum of the first ones is not one of 64 bits.
+/// The sum of numbers, which are so few that no i128 is left.
 #[inline(always)]
-fn int_sum_in(groups: &[[u8; 8]]) -> Option<i64>
-    ensures { IfSome result (λ z. z ≡ total (map (number Kind.I64) groups.now)) }
+fn int_sum_in(groups: &[[u8; 8]]) -> i128
+    requires few { length groups.now ≤ 1073741824 }
+    ensures { result ≡ total (map (number Kind.I64) groups.now) }
 {
-    let mut so_far: i64 = 0;
+    let mut sum: i128 = 0;
     for i in 0..groups.len() {
-        match plus(so_far, number_at::<8, i64>(groups, i)) {
-            Some(next) => so_far = next,
-            None => return None,
-        }
+        sum += wide_at(groups, i);
     }
-    Some(so_far)
+    sum
 }
 
-/// The sum of numbers from a start below a stop, if it is found in numbers of 64 bits.
+/// The sum of numbers from a start below a stop.
 #[inline(always)]
-fn int_sum(groups: &[[u8; 8]], span: Span) -> Option<i64>
+fn int_sum(groups: &[[u8; 8]], span: Span) -> i128
     requires order { span.start ≤ span.stop }
     requires within { span.stop ≤ length groups.now }
-    ensures { IfSome result (λ z. z
-        ≡ total (slice_range (map (number Kind.I64) groups.now) span.start span.stop)) }
+    requires few { span.stop - span.start ≤ 1073741824 }
+    ensures { result ≡ total (slice_range (map (number Kind.I64) groups.now) span.start span.stop) }
 {
     int_sum_in(&groups[span.start as usize..span.stop as usize])
 }
@@ -181,11 +178,7 @@ impl<'c, 'b, 'a> Totals for IntSums<'c, 'b, 'a> {
 
     #[inline(always)]
     fn total<L: Ledger>(&self, i: u64, _steps: &mut Steps<L>) -> Option<i128> {
-        let span = span_of(self.parts, i);
-        match int_sum(self.groups, span) {
-            Some(z) => Some(i128::from(z)),
-            None => folded(Fold::Sum, self.parts.numbers, span.start, span.stop),
-        }
+        Some(int_sum(self.groups, span_of(self.parts, i)))
     }
 }
 

@@ -7,7 +7,7 @@ use Rattle.awk_lanes.specs.Places.{at}
 use Rattle.awk_numbers.specs.Folds.{extreme_of}
 use Rattle.awk_nullable.specs.Numbers.{leaf_number, numbers_from}
 use Rattle.awk_nullable.proofs.BestLaws.{extreme_empty}
-use Rattle.awk_nullable_lists.specs.Elements.{IsElement}
+use Rattle.awk_parts.specs.Elements.{IsElement}
 use Rattle.awk_nullable_lists.specs.Lists.{or_zero}
 use Rattle.awk_nullable_lists.proofs.ElementLaws.{element-at}
 use Rattle.awk_nullable_lists.proofs.lists.ListExtremesNumbers.number.Goals as goal

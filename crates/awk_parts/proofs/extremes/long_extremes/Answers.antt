@@ -4,7 +4,7 @@ use Rattle.awk_lanes.specs.Made.{lane_of}
 use Rattle.awk_numbers.specs.Folds.{whole_numbers}
 use Rattle.awk_parts.specs.Lanes.{extreme_at}
 use Rattle.awk_parts.specs.Spans.{span_count}
-use Rattle.awk_parts.proofs.extremes.extremes_of.Goals as goal
+use Rattle.awk_parts.proofs.extremes.long_extremes.Goals as goal
 
 pub returns-in-Some : goal.returns-in-Some
 returns-in-Some g c =

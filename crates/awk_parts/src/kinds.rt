@@ -1,13 +1,13 @@
 //! Numbers as code holds those of a kind.
 ghost use Rattle.std.specs.Prelude.{◌≡◌};
 ghost use Rattle.awk_lanes.specs.Numbers.{int_of, IsOf};
-ghost use Rattle.awk_nullable_lists.specs.Elements.{IsElement};
+ghost use Rattle.awk_parts.specs.Elements.{IsElement};
 
 use awk_lanes::{Kind, Num};
 
 /// A number as code holds those of a kind, of which it is one.
 #[inline(always)]
-pub(crate) fn number_in(kind: Kind, z: i128) -> Num
+pub fn number_in(kind: Kind, z: i128) -> Num
     requires { IsElement kind z }
     ensures number { int_of result ≡ z }
     ensures kind { IsOf kind result }

@@ -1,6 +1,7 @@
 use Rattle.awk_gather.specs.Peeled.{IsPickedOpt}
+use Rattle.awk_mask.proofs.MaskBytes.{composed_low}
 use Rattle.awk_mask.proofs.MaskLeaves.{kept_index, kept_mask}
-use Rattle.awk_mask.proofs.mask_leaves.masked_items.Goals as goal
+use Rattle.awk_mask.proofs.mask_leaves.masked_places.Goals as goal
 
 pub option_over-requires-clause-places : goal.option_over-requires-clause-places
 option_over-requires-clause-places g c =
@@ -16,5 +17,5 @@ returns g c =
       items = kept_mask c.args.x.now c.args.m.now c.in_ok-node.node c.args.keep
           c.in_ok-places.places c.len-2.ensures.valid c.len.ensures.items c.requires.mask
           c.requires.lengths c.in_ok-places.ensures picked;
-      composed = c.in_ok-node.ensures.composed;
+      low = composed_low c.in_ok-node.node c.in_ok-node.ensures.composed;
     }
