@@ -36,7 +36,8 @@ fn moved_numbers<'a, L: Ledger>(
     for i in 0..starts.len() {
         let span = span_of(starts, stops, i);
         let part = lane.cut(span.start, span.start + span.length, steps);
-        bytes.extend_from_slice(part.bulk(steps))?;
+        let moved = part.bulk(arena, steps)?;
+        bytes.extend_from_slice(moved)?;
     }
     Ok(Lane::new(kind, into_bump_slice(bytes)))
 }

@@ -33,6 +33,15 @@ fn read(kind: Kind, b: &[u8]) -> Num
     }
 }
 
+/// The number of 64 bits at place i.
+#[inline(always)]
+pub fn wide_item(bytes: &[u8], i: usize) -> i64
+    requires { i * 8 + 8 ≤ length bytes.now }
+    ensures { result ≡ element Kinds.I64 (number Kinds.I64 (drop (i * 8) bytes.now)) }
+{
+    wide(&bytes[i * 8..])
+}
+
 /// The number at place i. Most are of i64, so that kind is asked for first.
 #[inline(always)]
 pub fn item(kind: Kind, bytes: &[u8], i: usize) -> Num

@@ -12,10 +12,11 @@
 #![tactic(auto)]
 
 mod bits;
+mod byte_lane;
 mod bytes;
 mod cells;
 mod counted;
-mod from_zero;
+mod in_order;
 mod index;
 mod index_maker;
 mod kind;
@@ -26,24 +27,26 @@ mod maker;
 mod memory;
 mod numbers;
 mod readers;
+mod run;
 mod single;
 mod steps;
 mod words;
 
 pub use bits::Bits;
+pub use byte_lane::ByteLane;
 pub use counted::{Items, Lengths, Offsets, items_of, offsets_of, offsets_within};
-pub use from_zero::ordinals;
-pub use index::{Index, index_of, wide_index};
+pub use in_order::{ordinals, run_lane};
+pub use index::{Index, index_of, laid_index, wide_index};
 pub use index_maker::IndexMaker;
 pub use kind::{Kind, Num};
 pub use lane::Lane;
-pub use lanes::Lanes;
+pub use lanes::{ByteLanes, Lanes};
 pub use made::{Numbers, made_lane};
 pub use maker::LaneMaker;
 pub use memory::{Arena, NoMemory};
 pub use numbers::{byte_numbers, nats_of, numbers_of};
 pub use readers::{
-    index_at, is_set, number, option_place_in, place_in, tag_in, to_option_place, to_place,
+    index_at, is_set, number, option_place_in, place_in, tag_in, to_option_place, to_place, wide_at,
 };
 pub use single::{one_number, one_offsets};
 pub use steps::Steps;

@@ -22,6 +22,7 @@ loop-i-preserved g c =
     (sym c.in_ok-extend_from_slice.ensures.items)
     (moved_next c.args.starts.now c.args.stops.now c.args.lane.now c.cut-part.result c.loop-i.i
     c.span_of-span.result.start c.span_of-span.result.length c.loop-i.bytes.items
-    c.bulk.result.now c.span_of-span.ensures.places
+    c.in_ok-moved.moved.now c.span_of-span.ensures.places
     (c.span_of-span.ensures.within (size_of c.args.lane.now) c.requires.spans)
-    c.cut-part.ensures.value c.bulk.ensures.size c.bulk.ensures.numbers c.loop-i.invariant)
+    c.cut-part.ensures.value c.in_ok-moved.ensures.size c.in_ok-moved.ensures.numbers
+    c.loop-i.invariant)

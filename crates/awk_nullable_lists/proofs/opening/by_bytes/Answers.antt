@@ -16,8 +16,8 @@ returns-in-Some g c =
     let gs = c.as_chunks.result.0.now in
     let front = c.as_chunks.ensures.front in
     let valid = subst (λ y. IsValid (byte_masked m v y)) c.in-Some.ensures c.requires in
-    let groups = mask_groups m c.bulk.result.now valid.1.kind c.bulk.ensures.size
-    c.bulk.ensures.numbers in
+    let groups = mask_groups m c.narrow_bytes.result.now valid.1.kind c.narrow_bytes.ensures.size
+    c.narrow_bytes.ensures.numbers in
     subst (λ y. AreLeaves (byte_masked m v y) (byte_place gs v) (length gs) lane)
     (sym c.in-Some.ensures)
     (byte_leaves lane m v gs valid (ap length front ∙ groups.0)

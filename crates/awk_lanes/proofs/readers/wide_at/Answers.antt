@@ -1,0 +1,34 @@
+-- The number is that which the lane holds.
+use Rattle.std.proofs.Common.{◌≡◌, ◌<◌, ap, sym, subst, ◌∙◌}
+use Rattle.awk_lanes.specs.Column.{Column}
+use Rattle.awk_lanes.specs.Places.{size_of, at}
+use Rattle.awk_lanes.specs.declared.kind.Kind.TheVariants.{I64}
+use Rattle.awk_lanes.proofs.RunLaws.{seen_bytes, seen_run}
+use Rattle.awk_lanes.proofs.readers.wide_at.Goals as goal
+
+pub wide_at-requires-clause-kind : goal.wide_at-requires-clause-kind
+wide_at-requires-clause-kind g c =
+    subst (λ (v : Column). v.kind ≡ I64)
+    (sym (seen_bytes _ c.in-Bytes.lane c.args.lane.now c.in-Bytes.is c.held.ensures))
+    c.requires.kind
+
+pub wide_at-requires-clause-within : goal.wide_at-requires-clause-within
+wide_at-requires-clause-within g c =
+    subst (λ (v : Column). c.args.i < size_of v)
+    (sym (seen_bytes _ c.in-Bytes.lane c.args.lane.now c.in-Bytes.is c.held.ensures))
+    c.requires.within
+
+pub returns-in-Bytes-clause-value : goal.returns-in-Bytes-clause-value
+returns-in-Bytes-clause-value g c =
+    c.wide_at.ensures.value ∙ ap (λ (v : Column). at v c.args.i)
+    (seen_bytes _ c.in-Bytes.lane c.args.lane.now c.in-Bytes.is c.held.ensures)
+
+pub wide_at-requires-in-Run : goal.wide_at-requires-in-Run
+wide_at-requires-in-Run g c =
+    subst (λ (v : Column). c.args.i < size_of v)
+    (sym (seen_run _ c.in-Run.run c.args.lane.now c.in-Run.is c.held.ensures)) c.requires.within
+
+pub returns-in-Run-clause-value : goal.returns-in-Run-clause-value
+returns-in-Run-clause-value g c =
+    c.wide_at-in-Run.ensures.value ∙ ap (λ (v : Column). at v c.args.i)
+    (seen_run _ c.in-Run.run c.args.lane.now c.in-Run.is c.held.ensures)
