@@ -6,6 +6,7 @@ use Rattle.std.proofs.lemmas.Bool.{cases_lt, lt-ltb, le-ltb}
 use Rattle.std.proofs.lemmas.Int.{ints}
 use Rattle.std.proofs.lemmas.List.{ext_get_or, get_or_past}
 use Rattle.std.proofs.lemmas.List.FromFn.{get_or-map-range_with_len, length-map-range_with_len}
+use Rattle.std.proofs.lemmas.List.FromFn.{map-range_with_len_more}
 use Rattle.std.specs.Prelude.{ℤ, pos, negsuc, ◌≤ℤ◌, slice_range, min}
 use Rattle.std.specs.Int.{cast_unsigned, to_le_bytes}
 use Rattle.std.specs.List.{flat_map, range_with_len}
@@ -16,7 +17,7 @@ use Rattle.awk_lanes.specs.Column.{Column}
 use Rattle.awk_lanes.specs.Cut.{cut_of}
 use Rattle.awk_lanes.specs.Held.{held_column}
 use Rattle.awk_lanes.specs.Made.{lane_of}
-use Rattle.awk_lanes.specs.Numbers.{numbers, nat_of, bytes_of}
+use Rattle.awk_lanes.specs.Numbers.{width, numbers, nat_of, bytes_of}
 use Rattle.awk_lanes.specs.Places.{size_of, at}
 use Rattle.awk_lanes.specs.Ranges.{IsNumber, AreNumbers}
 use Rattle.awk_lanes.specs.Words.{low_bytes, low_groups, HasNats, integers}
@@ -148,27 +149,37 @@ bytes-low_row f [] = refl
 bytes-low_row f (x ∷ xs) =
     ap₂ (λ b bs. b ++ bs) (sym (low-8 (cast_unsigned w64 (f x)))) (bytes-low_row f xs)
 
--- bytes that are those of the numbers, one group after another
-pub record AreMade (n first count : ℕ) (b : List ℕ) : Type 0 where
-  pub numbers : numbers I64 n b ≡ map (run_at first count) (range_with_len 0 n)
-  pub size : length b ≡ n * 8
-  pub bytes : b ≡ flat_map (bytes_of I64) (map (run_at first count) (range_with_len 0 n))
+-- bytes that are those of the numbers of a lane, one group after another
+pub record AreBytesOf (v : Column) (b : List ℕ) : Type 0 where
+  pub numbers : numbers v.kind (size_of v) b ≡ v.items
+  pub size : length b ≡ size_of v * width v.kind
+  pub bytes : b ≡ flat_map (bytes_of v.kind) v.items
 
-pub run_made : (n first count : ℕ) (gs : List (List ℕ)) (b : List ℕ) → first + count ≤ 2 ^ 63
+pub run_made : (n first count : ℕ) (v : Column) (gs : List (List ℕ)) (b : List ℕ)
+    → first + count ≤ 2 ^ 63 → lane_of I64 n (run_at first count) ≡ v
     → gs ≡ low_groups 8 n (run_at first count) → b ≡ flat_map (λ g. g) gs
-    → length b ≡ length gs * 8 → AreMade n first count b
-run_made n first count gs b h groups flat long =
-    let row : b ≡ flat_map (λ i. low_bytes 8 (cast_unsigned w64 (run_at first count i)))
-    (range_with_len 0 n) =
+    → length b ≡ length gs * 8 → AreBytesOf v b
+run_made n first count v gs b h e groups flat long =
+    let f : ℕ → ℤ = run_at first count in
+    let size : length (map f (range_with_len 0 n)) ≡ n = length-map-range_with_len f 0 n in
+    let row : b ≡ flat_map (λ i. low_bytes 8 (cast_unsigned w64 (f i))) (range_with_len 0 n) =
     flat ∙ ap (λ (hs : List (List ℕ)). flat_map (λ g. g) hs) groups
     ∙ flat_map-map _ (range_with_len 0 n) in
-    record {
-      numbers = ap (numbers I64 n) row
-          ∙ numbers-low_row I64 n (run_at first count) (λ i l. run_fits first count h i);
-      size = long ∙ ap (λ m. m * 8) (ap length groups ∙ length-map-range_with_len
-          (λ i. low_bytes 8 (cast_unsigned w64 (run_at first count i))) 0 n);
-      bytes = row ∙ bytes-low_row (run_at first count) (range_with_len 0 n);
-    }
+    subst (λ (c : Column). AreBytesOf c b) e (record {
+      numbers = ap (λ m. numbers I64 m b) size
+          ∙ ap (numbers I64 n) row
+          ∙ numbers-low_row I64 n f (λ i l. run_fits first count h i);
+      size = long
+          ∙ ap (λ m. m * 8) (ap length groups ∙ length-map-range_with_len
+          (λ i. low_bytes 8 (cast_unsigned w64 (f i))) 0 n ∙ sym size);
+      bytes = row ∙ bytes-low_row f (range_with_len 0 n);
+    })
+
+-- one more of what is told by its place
+pub one_more : {A : Type 0} (f : ℕ → A) (i : ℕ) (x : A) (old new : List A) → new ≡ old ++ x ∷ []
+    → x ≡ f i → old ≡ map f (range_with_len 0 i) → new ≡ map f (range_with_len 0 (i + 1))
+one_more f i x old new e d h =
+    rw (e, d, h) (sym (map-range_with_len_more f 0 i i (omega arith)))
 
 -- ---- numbers that are not negative
 

@@ -33,15 +33,6 @@ fn read(kind: Kind, b: &[u8]) -> Num
     }
 }
 
-/// The number of 64 bits at place i.
-#[inline(always)]
-pub fn wide_item(bytes: &[u8], i: usize) -> i64
-    requires { i * 8 + 8 ≤ length bytes.now }
-    ensures { result ≡ element Kinds.I64 (number Kinds.I64 (drop (i * 8) bytes.now)) }
-{
-    wide(&bytes[i * 8..])
-}
-
 /// The number at place i. Most are of i64, so that kind is asked for first.
 #[inline(always)]
 pub fn item(kind: Kind, bytes: &[u8], i: usize) -> Num
@@ -52,6 +43,18 @@ pub fn item(kind: Kind, bytes: &[u8], i: usize) -> Num
     match kind {
         Kind::I64 => Num::Int(wide(&bytes[i * 8..])),
         _ => read(kind, &bytes[i * kind.width()..]),
+    }
+}
+
+/// The number of 64 bits at place i.
+#[inline(always)]
+pub fn wide_item(bytes: &[u8], i: usize) -> i64
+    requires { i * 8 + 8 ≤ length bytes.now }
+    ensures { result ≡ element Kinds.I64 (number Kinds.I64 (drop (i * 8) bytes.now)) }
+{
+    match item(Kind::I64, bytes, i) {
+        Num::Int(z) => z,
+        Num::Nat(_) | Num::Truth(_) => unreachable!(),
     }
 }
 

@@ -78,7 +78,7 @@ impl<'a> Lane<'a> {
     {
         match &self.held {
             Held::Bytes(lane) => lane.kind(),
-            Held::Run(run) => run.kind(),
+            Held::Run(places) => places.kind(),
         }
     }
 
@@ -90,7 +90,7 @@ impl<'a> Lane<'a> {
     {
         match &self.held {
             Held::Bytes(lane) => lane.len(),
-            Held::Run(run) => run.len(),
+            Held::Run(places) => places.len(),
         }
     }
 
@@ -104,7 +104,7 @@ impl<'a> Lane<'a> {
     {
         match &self.held {
             Held::Bytes(lane) => lane.at(i, steps),
-            Held::Run(run) => run.at(i, steps),
+            Held::Run(places) => places.at(i, steps),
         }
     }
 
@@ -119,8 +119,8 @@ impl<'a> Lane<'a> {
             Held::Bytes(lane) => Lane {
                 held: Held::Bytes(lane.cut(lo, hi, steps)),
             },
-            Held::Run(run) => Lane {
-                held: Held::Run(run.cut(lo, hi, steps)),
+            Held::Run(places) => Lane {
+                held: Held::Run(places.cut(lo, hi, steps)),
             },
         }
     }
@@ -143,9 +143,9 @@ impl<'a> Lane<'a> {
     {
         match &self.held {
             Held::Bytes(lane) => Ok(lane.bulk(steps)),
-            Held::Run(run) => {
-                steps.add(run.len());
-                run.bytes(arena)
+            Held::Run(places) => {
+                steps.add(places.len());
+                places.bytes(arena)
             }
         }
     }
@@ -160,8 +160,8 @@ impl<'a> Lane<'a> {
     {
         match &self.held {
             Held::Bytes(lane) => lane.bulk(steps),
-            Held::Run(run) => {
-                let _ = run.kind();
+            Held::Run(places) => {
+                let _ = places.kind();
                 unreachable!()
             }
         }
@@ -173,10 +173,10 @@ impl<'a> Lane<'a> {
     {
         match &self.held {
             Held::Bytes(lane) => Ok(lane.copy()),
-            Held::Run(run) => {
-                let n = run.len();
-                let kind = run.kind();
-                let bytes = run.bytes(arena)?;
+            Held::Run(places) => {
+                let n = places.len();
+                let kind = places.kind();
+                let bytes = places.bytes(arena)?;
                 Ok(ByteLane::whole(kind, n, bytes))
             }
         }
@@ -190,8 +190,8 @@ impl<'a> Lane<'a> {
             Held::Bytes(lane) => Lane {
                 held: Held::Bytes(lane.copy()),
             },
-            Held::Run(run) => Lane {
-                held: Held::Run(run.copy()),
+            Held::Run(places) => Lane {
+                held: Held::Run(places.copy()),
             },
         }
     }

@@ -28,9 +28,9 @@ pub fn numbers_of<L: Ledger>(
 {
     match lane.held() {
         Held::Bytes(bytes) => numbers_by_bytes(alloc, bytes, steps),
-        Held::Run(run) => {
-            steps.add(run.len());
-            run.numbers(alloc)
+        Held::Run(places) => {
+            steps.add(places.len());
+            places.numbers(alloc)
         }
     }
 }
@@ -82,9 +82,9 @@ pub fn nats_of<L: Ledger>(
 {
     match lane.held() {
         Held::Bytes(bytes) => nats_by_bytes(alloc, bytes, steps),
-        Held::Run(run) => {
-            steps.add(run.len());
-            run.nats(alloc)
+        Held::Run(places) => {
+            steps.add(places.len());
+            places.nats(alloc)
         }
     }
 }

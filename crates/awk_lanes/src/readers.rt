@@ -35,7 +35,7 @@ pub fn wide_at<L: Ledger>(lane: &Lane, i: u64, steps: &mut Steps<L>) -> i64
 {
     match lane.held() {
         Held::Bytes(lane) => lane.wide_at(i, steps),
-        Held::Run(run) => run.wide_at(i, steps),
+        Held::Run(places) => places.wide_at(i, steps),
     }
 }
 

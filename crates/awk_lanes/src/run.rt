@@ -93,7 +93,6 @@ fn run_groups<'a>(
 }
 
 /// The first n numbers.
-#[tactic(auto, using(crate::proofs::MadeLanes::making))]
 fn run_numbers(alloc: Global, n: u64, first: u64, count: u64) -> Result<Vec<i64>, NoMemory>
     requires { first + count ≤ 2 ^ 63 }
     ensures { IfOk result (λ v. v.items ≡ map (run_at first count) (range_with_len 0 n)) }
@@ -106,7 +105,6 @@ fn run_numbers(alloc: Global, n: u64, first: u64, count: u64) -> Result<Vec<i64>
 }
 
 /// The first n numbers, where none is negative.
-#[tactic(auto, using(crate::proofs::MadeLanes::making))]
 fn run_nats(alloc: Global, n: u64, first: u64, count: u64) -> Result<Vec<u64>, NoMemory>
     requires { first + count ≤ 2 ^ 63 }
     ensures { IfOk result (λ v.
@@ -134,6 +132,7 @@ impl Run {
         ensures value { result ≡ self.now.kind }
         ensures wide { self.now.kind ≡ Kinds.I64 }
     {
+        let _size = self.size; // so that its view is known
         Kind::I64
     }
 

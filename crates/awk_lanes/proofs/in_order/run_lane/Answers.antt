@@ -1,5 +1,5 @@
 -- The bytes are read as the places in order.
-use Rattle.std.proofs.Common.{subst, ap, sym, ◌∙◌, ◌≡◌, ◌*◌, length}
+use Rattle.std.proofs.Common.{subst, ap, sym, ◌∙◌, ◌≡◌, ◌*◌}
 use Rattle.awk_lanes.specs.Column.{Column}
 use Rattle.awk_lanes.specs.Numbers.{width, numbers}
 use Rattle.awk_lanes.specs.Places.{size_of}
@@ -9,9 +9,10 @@ use Rattle.awk_lanes.proofs.in_order.run_lane.Goals as goal
 
 pub whole-requires : goal.whole-requires
 whole-requires c =
-    ap (λ n. n * 8) c.len-n-2.ensures.len
-    ∙ sym (subst (λ (v : Column). length c.in_ok-bytes.bytes.now ≡ size_of v * width v.kind)
-    c.new-run.ensures c.in_ok-bytes.ensures.size)
+    ap (λ n. n * 8) c.len-n.ensures.len
+    ∙ ap (λ w. size_of c.new-run.result * w)
+    (sym (ap (λ (v : Column). width v.kind) c.new-run.ensures))
+    ∙ sym c.in_ok-bytes.ensures.size
 
 pub returns : goal.returns
 returns c =

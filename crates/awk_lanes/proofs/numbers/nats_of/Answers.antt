@@ -15,7 +15,7 @@ nats_by_bytes-requires g c =
 pub nats-requires : goal.nats-requires
 nats-requires g c =
     subst (λ (v : Column). HasNats v.kind v.items)
-    (sym (seen_run _ c.in-Run.run c.args.lane.now c.in-Run.is c.held.ensures)) c.requires
+    (sym (seen_run _ c.in-Run.places c.args.lane.now c.in-Run.is c.held.ensures)) c.requires
 
 pub returns-in-Bytes : goal.returns-in-Bytes
 returns-in-Bytes g c =
@@ -29,7 +29,7 @@ returns-in-Bytes g c =
 
 pub returns-in-Run : goal.returns-in-Run
 returns-in-Run g c =
-    let same = seen_run _ c.in-Run.run c.args.lane.now c.in-Run.is c.held.ensures in
+    let same = seen_run _ c.in-Run.places c.args.lane.now c.in-Run.is c.held.ensures in
     record {
       numbers = subst (λ (v : Column). IfOk c.nats.result (λ x. integers x.items ≡ v.items)) same
           c.nats.ensures;

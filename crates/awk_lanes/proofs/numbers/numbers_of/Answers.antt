@@ -24,7 +24,7 @@ returns-in-Bytes g c =
 
 pub returns-in-Run : goal.returns-in-Run
 returns-in-Run g c =
-    let same = seen_run _ c.in-Run.run c.args.lane.now c.in-Run.is c.held.ensures in
+    let same = seen_run _ c.in-Run.places c.args.lane.now c.in-Run.is c.held.ensures in
     record {
       numbers = subst (λ (v : Column). IfOk c.numbers.result (λ x. x.items ≡ v.items)) same
           c.numbers.ensures;

@@ -17,12 +17,12 @@ returns-in-Bytes-clause-kind g c =
 
 pub returns-in-Run-clause-number : goal.returns-in-Run-clause-number
 returns-in-Run-clause-number g c =
-    let same = seen_run _ c.in-Run.run c.args.self.now c.in-Run.is c.self.view_is in
+    let same = seen_run _ c.in-Run.places c.args.self.now c.in-Run.is c.self.view_is in
     c.at-in-Run.ensures.number ∙ ap (λ (v : Column). at v c.args.i) same
 
 pub returns-in-Run-clause-kind : goal.returns-in-Run-clause-kind
 returns-in-Run-clause-kind g c =
-    let same = seen_run _ c.in-Run.run c.args.self.now c.in-Run.is c.self.view_is in
+    let same = seen_run _ c.in-Run.places c.args.self.now c.in-Run.is c.self.view_is in
     subst (λ (v : Column). IsOf v.kind c.at-in-Run.result) same c.at-in-Run.ensures.kind
 
 pub at-requires : goal.at-requires
@@ -34,5 +34,5 @@ at-requires g c =
 pub at-requires-in-Run : goal.at-requires-in-Run
 at-requires-in-Run g c =
     subst (λ (v : Column). c.args.i < size_of v)
-    (sym (seen_run _ c.in-Run.run c.args.self.now c.in-Run.is c.self.view_is))
+    (sym (seen_run _ c.in-Run.places c.args.self.now c.in-Run.is c.self.view_is))
     c.requires

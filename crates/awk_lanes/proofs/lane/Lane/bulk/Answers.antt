@@ -22,7 +22,7 @@ returns-in-Bytes g c =
 
 pub returns-in-Run : goal.returns-in-Run
 returns-in-Run g c =
-    let same = seen_run _ c.in-Run.run c.args.self.now c.in-Run.is c.self.view_is in
+    let same = seen_run _ c.in-Run.places c.args.self.now c.in-Run.is c.self.view_is in
     let r = c.bytes.result in
     record {
       numbers = subst (λ (v : Column). IfOk r (λ b.

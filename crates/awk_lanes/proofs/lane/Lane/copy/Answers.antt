@@ -8,4 +8,4 @@ returns-in-Bytes c =
 
 pub returns-in-Run : goal.returns-in-Run
 returns-in-Run c =
-    c.copy-in-Run.ensures ∙ seen_run _ c.in-Run.run c.args.self.now c.in-Run.is c.self.view_is
+    c.copy-in-Run.ensures ∙ seen_run _ c.in-Run.places c.args.self.now c.in-Run.is c.self.view_is

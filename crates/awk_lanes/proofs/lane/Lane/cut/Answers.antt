@@ -12,7 +12,7 @@ returns-in-Bytes-clause-value g c =
 
 pub returns-in-Run-clause-value : goal.returns-in-Run-clause-value
 returns-in-Run-clause-value g c =
-    let same = seen_run _ c.in-Run.run c.args.self.now c.in-Run.is c.self.view_is in
+    let same = seen_run _ c.in-Run.places c.args.self.now c.in-Run.is c.self.view_is in
     c.cut-in-Run.ensures.value ∙ ap (λ (v : Column). cut_of v c.args.lo c.args.hi) same
 
 pub cut-requires-clause-within : goal.cut-requires-clause-within
@@ -24,5 +24,5 @@ cut-requires-clause-within g c =
 pub cut-requires-in-Run-clause-within : goal.cut-requires-in-Run-clause-within
 cut-requires-in-Run-clause-within g c =
     subst (λ (v : Column). c.args.hi ≤ size_of v)
-    (sym (seen_run _ c.in-Run.run c.args.self.now c.in-Run.is c.self.view_is))
+    (sym (seen_run _ c.in-Run.places c.args.self.now c.in-Run.is c.self.view_is))
     c.requires.within

@@ -10,12 +10,12 @@ returns-in-Bytes c =
 pub whole-requires : goal.whole-requires
 whole-requires c =
     ap₂ (λ n k. n * width k) c.len-n.ensures.len c.kind-kind.ensures.value
-    ∙ sym c.in_ok-bytes.ensures.size
+    ∙ sym c.in_ok-bytes-in-Run.ensures.size
 
-pub returns-in-Run : goal.returns-in-Run
-returns-in-Run c =
+pub returns-in_ok-bytes-in-Run : goal.returns-in_ok-bytes-in-Run
+returns-in_ok-bytes-in-Run c =
     c.whole.ensures
-    ∙ ap₂ (λ k n. record { kind = k; items = numbers k n c.in_ok-bytes.bytes.now })
+    ∙ ap₂ (λ k n. record { kind = k; items = numbers k n c.in_ok-bytes-in-Run.bytes.now })
     c.kind-kind.ensures.value c.len-n.ensures.len
-    ∙ ap (λ zs. record { kind = c.in-Run.run.kind; items = zs }) c.in_ok-bytes.ensures.numbers
-    ∙ seen_run _ c.in-Run.run c.args.self.now c.in-Run.is c.self.view_is
+    ∙ ap (λ zs. record { kind = c.in-Run.places.kind; items = zs }) c.in_ok-bytes-in-Run.ensures.numbers
+    ∙ seen_run _ c.in-Run.places c.args.self.now c.in-Run.is c.self.view_is

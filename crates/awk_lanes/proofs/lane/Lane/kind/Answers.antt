@@ -11,4 +11,4 @@ returns-in-Bytes c =
 pub returns-in-Run : goal.returns-in-Run
 returns-in-Run c =
     c.kind-in-Run.ensures.value ∙ ap (λ (v : Column). v.kind)
-    (seen_run _ c.in-Run.run c.args.self.now c.in-Run.is c.self.view_is)
+    (seen_run _ c.in-Run.places c.args.self.now c.in-Run.is c.self.view_is)

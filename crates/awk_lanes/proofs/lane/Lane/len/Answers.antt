@@ -23,16 +23,16 @@ returns-in-Bytes-clause-small c =
 
 pub returns-in-Run-clause-len : goal.returns-in-Run-clause-len
 returns-in-Run-clause-len c =
-    let same = seen_run _ c.in-Run.run c.args.self.now c.in-Run.is c.self.view_is in
+    let same = seen_run _ c.in-Run.places c.args.self.now c.in-Run.is c.self.view_is in
     c.len-in-Run.ensures.len ∙ ap (λ (v : Column). size_of v) same
 
 pub returns-in-Run-clause-fits : goal.returns-in-Run-clause-fits
 returns-in-Run-clause-fits c =
-    let same = seen_run _ c.in-Run.run c.args.self.now c.in-Run.is c.self.view_is in
+    let same = seen_run _ c.in-Run.places c.args.self.now c.in-Run.is c.self.view_is in
     subst AreNumbers same c.len-in-Run.ensures.fits
 
 pub returns-in-Run-clause-small : goal.returns-in-Run-clause-small
 returns-in-Run-clause-small c =
-    let same = seen_run _ c.in-Run.run c.args.self.now c.in-Run.is c.self.view_is in
+    let same = seen_run _ c.in-Run.places c.args.self.now c.in-Run.is c.self.view_is in
     subst (λ (v : Column). c.len-in-Run.result * width v.kind < 2 ^ 64) same
     c.len-in-Run.ensures.small
