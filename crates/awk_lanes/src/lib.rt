@@ -1,14 +1,16 @@
 //! Lanes: little-endian numbers in bytes, each read for one counted step (`Steps`).
 //!
 //! `Lane` and `Bits` are read by `at` and in ranges; `index_at`, `place_in`, `option_place_in`,
-//! `tag_in` and `is_set` read what a number stands for. A lane is made by `LaneMaker`, number by
-//! number, by `made_lane` from a rule of `Numbers`, by `ordinals` of the numbers from 0 on, by
-//! `offsets_of`, `offsets_within` and `items_of` from lengths, or by `lane_of_numbers` and
-//! `lane_of_nats` from a slice; `numbers_of`, `nats_of` and `byte_numbers` give the slice of a
-//! lane.
-//! `one_number` and `one_offsets` are the lanes of one list.
-//! `index_of` shows a lane of places as an `Index`, whose numbers are read where they lie without
-//! asking for their kind; `IndexMaker` makes a lane of places.
+//! `tag_in` and `is_set` read what a number stands for, and `wide_at` a number of i64. A lane is
+//! made by `LaneMaker`, number by number, by `made_lane` from a rule of `Numbers`, by `offsets_of`,
+//! `offsets_within` and `items_of` from lengths, or by `lane_of_numbers` and `lane_of_nats` from a
+//! slice; `numbers_of`, `nats_of` and `byte_numbers` give the slice of a lane. `one_number` and
+//! `one_offsets` are the lanes of one list.
+//! `run_lane` and `ordinals` are lanes of places in order, which lie in no bytes where they are
+//! many: `Lane::bulk` makes their bytes where they are wanted, and `ByteLane` is a lane in bytes.
+//! `index_of` and `wide_index` show a lane of places as an `Index`, whose numbers are read without
+//! asking for their kind, and `laid_index` one that lies in bytes; `IndexMaker` makes a lane of
+//! places.
 #![tactic(auto)]
 
 mod bits;
