@@ -1,4 +1,4 @@
-use Rattle.std.proofs.Common.{◌≡◌, ◌*◌, ◌/◌, List, length, map, ap, sym, ◌∙◌}
+use Rattle.std.proofs.Common.{◌≡◌, ◌*◌, ◌/◌, List, length, map, ap, sym, ◌∙◌, arith}
 use Rattle.std.specs.Prelude.{ℤ}
 use Rattle.std.specs.Simd.{first_chunks}
 use Rattle.awk_lanes.specs.Column.{Column}
@@ -7,6 +7,11 @@ use Rattle.awk_lanes.specs.Places.{size_of}
 use Rattle.awk_lanes.specs.declared.kind.Kind.{Kind}
 use Rattle.awk_lanes.proofs.NumberParts.{map-number_all}
 use Rattle.awk_nullable.proofs.byte_cells.cells_of.Goals as goal
+
+pub narrow_bytes-requires : goal.narrow_bytes-requires
+narrow_bytes-requires g c e =
+    let wide : 8 ≡ 1 = sym (ap width (sym c.requires.kind ∙ e)) ∙ c.requires.width in
+    absurd (omega (arith, wide))
 
 pub returns : goal.returns
 returns g c =

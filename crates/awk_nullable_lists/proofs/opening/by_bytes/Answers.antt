@@ -1,12 +1,17 @@
-use Rattle.std.proofs.Common.{ap, sym, ◌∙◌, subst, length, get_or, []}
+use Rattle.std.proofs.Common.{◌≡◌, ap, sym, ◌∙◌, subst, length, get_or, []}
 use Rattle.awk_lanes.specs.Numbers.{number}
-use Rattle.awk_lanes.specs.declared.kind.Kind.TheVariants.{I8}
+use Rattle.awk_lanes.specs.declared.kind.Kind.TheVariants.{I8, I64}
 use Rattle.awk_layout.specs.Layout.{byte_masked}
 use Rattle.awk_layout.specs.Valid.{IsValid}
 use Rattle.awk_nullable.specs.Masks.{byte_place}
 use Rattle.awk_nullable_lists.specs.Nullable.{AreLeaves}
 use Rattle.awk_nullable_lists.proofs.NullableLaws.{byte_leaves, mask_groups}
 use Rattle.awk_nullable_lists.proofs.opening.by_bytes.Goals as goal
+
+pub narrow_bytes-requires : goal.narrow_bytes-requires
+narrow_bytes-requires g c e =
+    let clash : I8 ≡ I64 = sym c.requires.1.kind ∙ e in
+    cc
 
 pub returns-in-Some : goal.returns-in-Some
 returns-in-Some g c =
