@@ -55,8 +55,8 @@ fn moved_numbers<'a, L: Ledger>(
     requires total { n ≡ length (spans starts.now stops.now) }
     ensures { IfOk result (λ r. r ≡ numbers_at lane.now (spans starts.now stops.now)) }
 {
-    let laid = lane.in_bytes(arena)?;
-    moved_bytes(starts, stops, n, &laid, arena, steps)
+    let bytes = lane.in_bytes(arena)?;
+    moved_bytes(starts, stops, n, &bytes, arena, steps)
 }
 
 /// Numbers as an array of the type of another.

@@ -88,8 +88,8 @@ impl<'a> ByteLanes<'a> {
         ensures ok { OnOk result (self.new ≡ self.old ++ lane.entry ∷ []) }
         ensures err { OnErr result (self.new ≡ self.old) }
     {
-        let laid = lane.in_bytes(arena)?;
-        self.lanes.push(laid)?;
+        let bytes = lane.in_bytes(arena)?;
+        self.lanes.push(bytes)?;
         Ok(())
     }
 

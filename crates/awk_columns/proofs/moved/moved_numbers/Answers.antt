@@ -9,14 +9,14 @@ use Rattle.awk_columns.proofs.moved.moved_numbers.Goals as goal
 pub moved_bytes-requires-clause-spans : goal.moved_bytes-requires-clause-spans
 moved_bytes-requires-clause-spans g c =
     subst (λ (v : Column). AreSpans c.args.starts.now c.args.stops.now (size_of v))
-    (sym c.in_ok-laid.ensures) c.requires.spans
+    (sym c.in_ok-bytes.ensures) c.requires.spans
 
 pub moved_bytes-requires-clause-small : goal.moved_bytes-requires-clause-small
 moved_bytes-requires-clause-small g c =
-    subst (λ (v : Column). size_of v < 2 ^ 63) (sym c.in_ok-laid.ensures) c.requires.small
+    subst (λ (v : Column). size_of v < 2 ^ 63) (sym c.in_ok-bytes.ensures) c.requires.small
 
 pub returns : goal.returns
 returns g c =
     subst (λ (v : Column). IfOk c.moved_bytes.result (λ r.
-    r ≡ numbers_at v (spans c.args.starts.now c.args.stops.now))) c.in_ok-laid.ensures
+    r ≡ numbers_at v (spans c.args.starts.now c.args.stops.now))) c.in_ok-bytes.ensures
     c.moved_bytes.ensures
