@@ -146,7 +146,7 @@ fn lane_counts<'a, L: Ledger>(
     requires edges { are_edges edges.now ≡ true }
     ensures { IfOk result (AreBinned edges.now (part_at (lane_numbers lane.now) offsets.now) n) }
 {
-    match whole_of(lane, steps) {
+    match whole_of(lane, arena, steps)? {
         Whole::I64(numbers) => part_counts(alloc, numbers, offsets, n, edges, arena),
         _ => read_counts(alloc, lane, offsets, n, edges, arena, steps),
     }

@@ -9,19 +9,19 @@ ghost use Rattle.awk_columns.specs.Reached.{IsReached};
 
 use crate::spans::{span_lane, span_of};
 use awk_gather::gather;
-use awk_lanes::{Arena, Index, Lane, NoMemory, Steps};
+use awk_lanes::{Arena, ByteLane, Index, Lane, NoMemory, Steps};
 use awk_layout::{Array, Class, Node};
 use awk_types::copy_type;
 use bumpalo::collections::into_bump_slice;
 use std::alloc::{AllocError, Global};
 use std::sync::ledger::Ledger;
 
-/// The numbers of lists, of which there are n.
-fn moved_numbers<'a, L: Ledger>(
+/// The numbers of lists in a lane in bytes, of which there are n.
+fn moved_bytes<'a, L: Ledger>(
     starts: &Index,
     stops: &Index,
     n: u64,
-    lane: &Lane<'a>,
+    lane: &ByteLane,
     arena: &'a Arena,
     steps: &mut Steps<L>,
 ) -> Result<Lane<'a>, NoMemory>
@@ -39,6 +39,24 @@ fn moved_numbers<'a, L: Ledger>(
         bytes.extend_from_slice(part.bulk(steps))?;
     }
     Ok(Lane::new(kind, into_bump_slice(bytes)))
+}
+
+/// The numbers of lists, of which there are n.
+fn moved_numbers<'a, L: Ledger>(
+    starts: &Index,
+    stops: &Index,
+    n: u64,
+    lane: &Lane<'a>,
+    arena: &'a Arena,
+    steps: &mut Steps<L>,
+) -> Result<Lane<'a>, NoMemory>
+    requires spans { AreSpans starts.now stops.now (size_of lane.now) }
+    requires small { size_of lane.now < 2 ^ 63 }
+    requires total { n ≡ length (spans starts.now stops.now) }
+    ensures { IfOk result (λ r. r ≡ numbers_at lane.now (spans starts.now stops.now)) }
+{
+    let bytes = lane.in_bytes(arena)?;
+    moved_bytes(starts, stops, n, &bytes, arena, steps)
 }
 
 /// Numbers as an array of the type of another.

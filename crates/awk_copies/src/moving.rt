@@ -17,7 +17,7 @@ fn lane_in<'a, L: Ledger>(
 ) -> Result<Lane<'a>, NoMemory>
     ensures { IfOk result (λ r. r ≡ lane.now) }
 {
-    let bytes = lane.bulk(steps);
+    let bytes = lane.bulk(arena, steps)?;
     let mut copied = Vec::with_capacity(arena, bytes.len())?;
     copied.extend_from_slice(bytes)?;
     Ok(Lane::new(lane.kind(), into_bump_slice(copied)))

@@ -54,8 +54,10 @@ pub fn move_past<'a, const W: usize, L: Ledger>(
     requires places { IsIndex places.now (size_of lane.now - distance) }
     ensures lane { IfOk result (λ r. r ≡ past distance lane.now places.now) }
 {
-    let (groups, _) = lane.bulk(steps).as_chunks::<W>();
-    let (places, _) = places.bulk(steps).as_chunks::<8>();
+    let bytes = lane.bulk(arena, steps)?;
+    let (groups, _) = bytes.as_chunks::<W>();
+    let rows = places.bulk(arena, steps)?;
+    let (places, _) = rows.as_chunks::<8>();
     let moved = groups_past(groups, places, distance, arena)?;
     Ok(Lane::new(lane.kind(), moved.as_flattened()))
 }
@@ -92,7 +94,8 @@ pub fn narrowed<'a, L: Ledger>(
     ensures lane { IfOk result (λ r. r ≡ lane_of Kind.U32 (size_of places.now) (at places.now)) }
     ensures cost { steps.new ≡ steps.old + size_of places.now }
 {
-    let (places, _) = places.bulk(steps).as_chunks::<8>();
+    let bytes = places.bulk(arena, steps)?;
+    let (places, _) = bytes.as_chunks::<8>();
     let groups = narrow_groups(places, arena)?;
     Ok(Lane::new(Kind::U32, groups.as_flattened()))
 }

@@ -121,7 +121,8 @@ fn wide_lists<'a, const W: usize, L: Ledger>(
     ensures { IfOk result (IsMoved picks.now.xs.now picks.now.ws.now n lane.now) }
 {
     let mut offsets = IndexMaker::new(n + 1, arena)?;
-    let (groups, _) = lane.bulk(steps).as_chunks::<W>();
+    let bytes = lane.bulk(arena, steps)?;
+    let (groups, _) = bytes.as_chunks::<W>();
     let moved = groups_of(n, room, picks, groups, &mut offsets, arena)?;
     Ok(Moved {
         offsets: offsets.finish(),

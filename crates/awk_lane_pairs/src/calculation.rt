@@ -145,8 +145,10 @@ fn calculated_cells<'a, const W: usize, N: Narrow<W>, L: Ledger>(
     requires size { size_of b.now ≡ size_of a.now }
     ensures { IfOk result (λ o. IfSome o (AreCalculated op N.prim a.now.items b.now.items)) }
 {
-    let (x, _) = a.bulk(steps).as_chunks::<W>();
-    let (y, _) = b.bulk(steps).as_chunks::<W>();
+    let first = a.bulk(arena, steps)?;
+    let (x, _) = first.as_chunks::<W>();
+    let second = b.bulk(arena, steps)?;
+    let (y, _) = second.as_chunks::<W>();
     calculated_groups::<W, N, L>(op, x, y, arena, steps)
 }
 

@@ -99,8 +99,10 @@ fn compared_cells<'a, const W: usize, C: Cell<W>, L: Ledger>(
     requires size { size_of b.now ≡ size_of a.now }
     ensures { IfOk result (IsCompared how a.now.items b.now.items) }
 {
-    let (x, _) = a.bulk(steps).as_chunks::<W>();
-    let (y, _) = b.bulk(steps).as_chunks::<W>();
+    let first = a.bulk(arena, steps)?;
+    let (x, _) = first.as_chunks::<W>();
+    let second = b.bulk(arena, steps)?;
+    let (y, _) = second.as_chunks::<W>();
     let tests = Tests::<W, C> {
         flags: flags_of(how),
         a: x,
@@ -181,7 +183,8 @@ fn compared_beside_cells<'a, const W: usize, C: Cell<W>, L: Ledger>(
     requires small { W ≤ 8 }
     ensures { IfOk result (IsCompared how a.now.items (replicate (size_of a.now) y)) }
 {
-    let (x, _) = a.bulk(steps).as_chunks::<W>();
+    let bytes = a.bulk(arena, steps)?;
+    let (x, _) = bytes.as_chunks::<W>();
     let tests = TestsBeside::<W, C> {
         flags: flags_of(how),
         a: x,

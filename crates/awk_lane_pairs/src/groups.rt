@@ -54,8 +54,10 @@ fn chosen_numbers<'a, const W: usize, L: Ledger>(
     ensures { IfOk result (λ r. r ≡ column first.now.kind
         (chosen mask.now first.now.items second.now.items)) }
 {
-    let (a, _) = first.bulk(steps).as_chunks::<W>();
-    let (b, _) = second.bulk(steps).as_chunks::<W>();
+    let ones = first.bulk(arena, steps)?;
+    let (a, _) = ones.as_chunks::<W>();
+    let others = second.bulk(arena, steps)?;
+    let (b, _) = others.as_chunks::<W>();
     let groups = chosen_groups(mask, a, b, arena)?;
     Ok(Lane::new(first.kind(), groups.as_flattened()))
 }

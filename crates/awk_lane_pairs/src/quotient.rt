@@ -73,7 +73,8 @@ pub(crate) fn quotient_lane<'a, const W: usize, N: Narrow<W>, L: Ledger>(
 {
     let _ = a.len(); // each number is one of its kind
     let kind = N::kind();
-    let (x, _) = a.bulk(steps).as_chunks::<W>();
+    let bytes = a.bulk(arena, steps)?;
+    let (x, _) = bytes.as_chunks::<W>();
     let quotients = Quotients::<W, N> {
         a: x,
         y,

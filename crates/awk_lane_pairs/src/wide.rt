@@ -131,8 +131,10 @@ pub(crate) fn wide_lanes<'a, L: Ledger>(
     ensures { IfOk result (λ o. IfSome o
         (AreCalculated op prims.I64 a.now.items b.now.items)) }
 {
-    let (x, _) = a.bulk(steps).as_chunks::<8>();
-    let (y, _) = b.bulk(steps).as_chunks::<8>();
+    let ones = a.bulk(arena, steps)?;
+    let (x, _) = ones.as_chunks::<8>();
+    let others = b.bulk(arena, steps)?;
+    let (y, _) = others.as_chunks::<8>();
     let first = Cells::<8, i64>::new(x);
     let second = Cells::<8, i64>::new(y);
     wide_rows(op, &first, &second, x.len(), arena)
@@ -150,7 +152,8 @@ pub(crate) fn wide_beside<'a, L: Ledger>(
     ensures { IfOk result (λ o. IfSome o
         (AreCalculated op prims.I64 a.now.items (replicate (size_of a.now) y))) }
 {
-    let (x, _) = a.bulk(steps).as_chunks::<8>();
+    let bytes = a.bulk(arena, steps)?;
+    let (x, _) = bytes.as_chunks::<8>();
     let first = Cells::<8, i64>::new(x);
     let second = Same {
         number: y,

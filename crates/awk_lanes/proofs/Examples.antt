@@ -9,6 +9,7 @@ use Rattle.awk_lanes.specs.Cut.{cut_of}
 use Rattle.awk_lanes.specs.Made.{lane_of}
 use Rattle.awk_lanes.specs.Numbers.{numbers, bytes_of}
 use Rattle.awk_lanes.specs.Places.{at, option_place_at}
+use Rattle.awk_lanes.specs.Runs.{run_at}
 use Rattle.awk_lanes.specs.Words.{integers, low_bytes, unsigned}
 
 -- ---- numbers
@@ -121,3 +122,9 @@ as_unsigned = refl
 -- the lowest two bytes of -2
 low_two : low_bytes 2 (2 ^ 64 - 2) ≡ 0xFE ∷ 0xFF ∷ []
 low_two = refl
+
+-- ---- places in order
+
+-- two from place 5 on, and -1 past them
+two_of_four : (lane_of I64 4 (run_at 5 2)).items ≡ pos 5 ∷ pos 6 ∷ negsuc 0 ∷ negsuc 0 ∷ []
+two_of_four = refl

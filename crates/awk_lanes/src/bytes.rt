@@ -46,6 +46,18 @@ pub fn item(kind: Kind, bytes: &[u8], i: usize) -> Num
     }
 }
 
+/// The number of 64 bits at place i.
+#[inline(always)]
+pub fn wide_item(bytes: &[u8], i: usize) -> i64
+    requires { i * 8 + 8 ≤ length bytes.now }
+    ensures { result ≡ element Kinds.I64 (number Kinds.I64 (drop (i * 8) bytes.now)) }
+{
+    match item(Kind::I64, bytes, i) {
+        Num::Int(z) => z,
+        Num::Nat(_) | Num::Truth(_) => unreachable!(),
+    }
+}
+
 /// The bytes of the numbers from place lo below place hi.
 pub fn part<'b>(kind: Kind, bytes: &'b [u8], lo: usize, hi: usize) -> &'b [u8]
     requires order { lo ≤ hi }

@@ -1,11 +1,11 @@
 //! The numbers of a lane in groups of eight bytes.
-ghost use Rattle.std.specs.Prelude.{◌≡◌, ◌<◌, [], get_or, length, IfOk};
+ghost use Rattle.std.specs.Prelude.{◌≡◌, ◌<◌, [], get_or, length, IfOk, IfSome};
 ghost use Rattle.awk_lanes.specs.Numbers.{number};
 ghost use Rattle.awk_lanes.specs.Places.{size_of, at, option_place_at, IsIndexKind};
 ghost use Rattle.awk_lanes.specs.declared.kind.Kind.TheVariants as Kinds;
 
 use crate::kind::Kind;
-use crate::lane::Lane;
+use crate::lane::{Held, Lane};
 use crate::memory::{Arena, NoMemory};
 use crate::numbers::numbers_of;
 use crate::readers::to_option_place;
@@ -75,22 +75,48 @@ impl<'a> Index<'a> {
     }
 }
 
-/// The numbers of a lane of 64 bits where they lie, as those of a kind.
-fn whole<'a, L: Ledger>(kind: Kind, lane: &Lane<'a>, steps: &mut Steps<L>) -> Index<'a>
+/// The numbers of a lane of 64 bits where they lie, as those of a kind. Places in order, which lie
+/// nowhere, are made.
+fn whole<'a: 'b, 'b, L: Ledger>(
+    kind: Kind,
+    lane: &Lane<'a>,
+    arena: &'b Arena,
+    steps: &mut Steps<L>,
+) -> Result<Index<'b>, NoMemory>
     requires wide { lane.now.kind ≡ Kinds.I64 }
     requires kind { IsIndexKind kind }
-    ensures { result ≡ record { kind = kind; items = lane.now.items } }
+    ensures { IfOk result (λ r. r ≡ record { kind = kind; items = lane.now.items }) }
 {
-    let (groups, _) = lane.bulk(steps).as_chunks::<8>();
-    Index { kind, groups }
+    let bytes = lane.bulk(arena, steps)?;
+    let (groups, _) = bytes.as_chunks::<8>();
+    Ok(Index { kind, groups })
 }
 
-/// The numbers of a lane of 64 bits where they lie.
-pub fn wide_index<'a, L: Ledger>(lane: &Lane<'a>, steps: &mut Steps<L>) -> Index<'a>
+/// The numbers of a lane of 64 bits where they lie. Places in order, which lie nowhere, are made.
+pub fn wide_index<'a: 'b, 'b, L: Ledger>(
+    lane: &Lane<'a>,
+    arena: &'b Arena,
+    steps: &mut Steps<L>,
+) -> Result<Index<'b>, NoMemory>
     requires { lane.now.kind ≡ Kinds.I64 }
-    ensures { result ≡ lane.now }
+    ensures { IfOk result (λ r. r ≡ lane.now) }
 {
-    whole(Kind::I64, lane, steps)
+    whole(Kind::I64, lane, arena, steps)
+}
+
+/// The numbers of a lane of 64 bits where they lie, or none where they lie nowhere.
+pub fn laid_index<'a, L: Ledger>(lane: &Lane<'a>, steps: &mut Steps<L>) -> Option<Index<'a>>
+    requires { lane.now.kind ≡ Kinds.I64 }
+    ensures { IfSome result (λ r. r ≡ lane.now) }
+{
+    match lane.held() {
+        Held::Bytes(lane) => {
+            let (groups, _) = lane.bulk(steps).as_chunks::<8>();
+            let kind = Kind::I64;
+            Some(Index { kind, groups })
+        }
+        Held::Run(_) => None,
+    }
 }
 
 /// The numbers of a lane: where they lie, if they are of i64, and else widened.
@@ -106,9 +132,9 @@ pub fn index_of<'a, L: Ledger>(
     let kind = lane.kind();
     let _ = lane.len();
     if kind == Kind::I64 {
-        return Ok(whole(kind, lane, steps));
+        return whole(kind, lane, arena, steps);
     }
     let numbers = numbers_of(alloc, lane, steps)?;
     let wide = lane_of_numbers(Kind::I64, &numbers, arena)?;
-    Ok(whole(kind, &wide, steps))
+    whole(kind, &wide, arena, steps)
 }

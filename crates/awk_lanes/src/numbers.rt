@@ -6,19 +6,39 @@ ghost use Rattle.awk_lanes.specs.Places.{size_of};
 ghost use Rattle.awk_lanes.specs.Words.{integers, unsigned, HasNats, IsByteKind};
 ghost use Rattle.awk_lanes.specs.declared.kind.Kind.TheVariants as Kind;
 
+use crate::byte_lane::ByteLane;
 use crate::cells::{naturals, widened};
 use crate::kind::Kind;
-use crate::lane::Lane;
+use crate::lane::{Held, Lane};
 use crate::memory::NoMemory;
 use crate::steps::Steps;
 use std::alloc::Global;
 use std::sync::ledger::Ledger;
 
-/// The lane's numbers, in one pass over its bytes. Those of each kind but `U64` fit an i64.
-/// A truth value is given as its byte.
+/// The lane's numbers, in one pass. Those of each kind but `U64` fit an i64. A truth value is given
+/// as its byte.
 pub fn numbers_of<L: Ledger>(
     alloc: Global,
     lane: &Lane,
+    steps: &mut Steps<L>,
+) -> Result<Vec<i64>, NoMemory>
+    requires { lane.now.kind ≢ Kind.U64 }
+    ensures numbers { IfOk result (λ v. v.items ≡ lane.now.items) }
+    ensures cost { steps.new ≡ steps.old + size_of lane.now }
+{
+    match lane.held() {
+        Held::Bytes(bytes) => numbers_by_bytes(alloc, bytes, steps),
+        Held::Run(places) => {
+            steps.add(places.len());
+            places.numbers(alloc)
+        }
+    }
+}
+
+/// Those of a lane in bytes.
+fn numbers_by_bytes<L: Ledger>(
+    alloc: Global,
+    lane: &ByteLane,
     steps: &mut Steps<L>,
 ) -> Result<Vec<i64>, NoMemory>
     requires { lane.now.kind ≢ Kind.U64 }
@@ -50,11 +70,29 @@ fn numbers_in(alloc: Global, kind: Kind, bytes: &[u8]) -> Result<Vec<i64>, NoMem
     }
 }
 
-/// The lane's numbers where none is negative, in one pass over its bytes. A truth value is given
-/// as its byte.
+/// The lane's numbers where none is negative, in one pass. A truth value is given as its byte.
 pub fn nats_of<L: Ledger>(
     alloc: Global,
     lane: &Lane,
+    steps: &mut Steps<L>,
+) -> Result<Vec<u64>, NoMemory>
+    requires { HasNats lane.now.kind lane.now.items }
+    ensures numbers { IfOk result (λ v. integers v.items ≡ lane.now.items) }
+    ensures cost { steps.new ≡ steps.old + size_of lane.now }
+{
+    match lane.held() {
+        Held::Bytes(bytes) => nats_by_bytes(alloc, bytes, steps),
+        Held::Run(places) => {
+            steps.add(places.len());
+            places.nats(alloc)
+        }
+    }
+}
+
+/// Those of a lane in bytes.
+fn nats_by_bytes<L: Ledger>(
+    alloc: Global,
+    lane: &ByteLane,
     steps: &mut Steps<L>,
 ) -> Result<Vec<u64>, NoMemory>
     requires { HasNats lane.now.kind lane.now.items }
@@ -87,5 +125,5 @@ pub fn byte_numbers<'a, L: Ledger>(lane: &Lane<'a>, steps: &mut Steps<L>) -> &'a
     ensures numbers { integers result.now ≡ lane.now.items }
     ensures cost { steps.new ≡ steps.old + size_of lane.now }
 {
-    lane.bulk(steps)
+    lane.narrow_bytes(steps)
 }

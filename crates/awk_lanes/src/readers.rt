@@ -6,7 +6,7 @@ ghost use Rattle.awk_lanes.specs.Places.{IsIndexKind, IsOptionKind};
 ghost use Rattle.awk_lanes.specs.declared.kind.Kind.TheVariants as Kind;
 
 use crate::kind::Num;
-use crate::lane::Lane;
+use crate::lane::{Held, Lane};
 use crate::steps::Steps;
 use std::sync::ledger::Ledger;
 
@@ -22,6 +22,20 @@ pub fn index_at<L: Ledger>(lane: &Lane, i: u64, steps: &mut Steps<L>) -> i64
         Num::Int(z) => z,
         Num::Nat(n) => n as i64,
         Num::Truth(_) => unreachable!(),
+    }
+}
+
+/// The number at place i of a lane of 64 bits, whose kind is not asked for.
+#[inline(always)]
+pub fn wide_at<L: Ledger>(lane: &Lane, i: u64, steps: &mut Steps<L>) -> i64
+    requires kind { lane.now.kind ≡ Kind.I64 }
+    requires within { i < size_of lane.now }
+    ensures value { result ≡ at lane.now i }
+    ensures cost { steps.new ≡ steps.old + 1 }
+{
+    match lane.held() {
+        Held::Bytes(lane) => lane.wide_at(i, steps),
+        Held::Run(places) => places.wide_at(i, steps),
     }
 }
 

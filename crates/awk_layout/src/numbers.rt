@@ -5,16 +5,17 @@ ghost use Rattle.awk_layout.specs.Layout.{flat};
 
 use crate::array::Array;
 use crate::node::class::Class;
-use awk_lanes::{Index, Kind, Steps, wide_index};
+use awk_lanes::{Index, Kind, Steps, laid_index};
 use std::sync::ledger::Ledger;
 
-/// The numbers of an array of numbers of 64 bits with a sign, where it is one lane of them.
+/// The numbers of an array of numbers of 64 bits with a sign, where it is one lane of
+/// them that lies in bytes.
 pub fn wide_numbers<'a, L: Ledger>(x: &Array<'a>, steps: &mut Steps<L>) -> Option<Index<'a>>
     ensures kind { IfSome result (λ c. c.kind ≡ Kinds.I64) }
     ensures numbers { IfSome result (λ c. x.now ≡ flat c) }
 {
     match x.node().class() {
-        Class::Numpy { lane } if lane.kind() == Kind::I64 => Some(wide_index(lane, steps)),
+        Class::Numpy { lane } if lane.kind() == Kind::I64 => laid_index(lane, steps),
         _ => None,
     }
 }

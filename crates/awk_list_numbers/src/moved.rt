@@ -73,7 +73,8 @@ fn wide_numbers<'a, const W: usize, S: Places, L: Ledger>(
         let places = list_places m (S.Places.place source.now) n in
         IfOk result (λ r. r ≡ numbers_at lane.now places) }
 {
-    let (groups, _) = lane.bulk(steps).as_chunks::<W>();
+    let bytes = lane.bulk(arena, steps)?;
+    let (groups, _) = bytes.as_chunks::<W>();
     let moved = list_groups::<W, S, L>(groups, n, total, source, arena, steps)?;
     Ok(Lane::new(lane.kind(), moved.as_flattened()))
 }

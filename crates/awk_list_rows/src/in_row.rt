@@ -8,7 +8,6 @@ ghost use Rattle.awk_layout.specs.Typing.{array_type, array_items};
 ghost use Rattle.awk_layout.specs.Valid.{IsValid};
 ghost use Rattle.awk_list_rows.specs.InRow.{AreEnds, HoldsItems};
 
-use crate::whole::is_same;
 use awk_lanes::{Kind, Lane, NoMemory, Steps, index_at, place_in};
 use awk_layout::{Array, Class, Node};
 use awk_range::range;
@@ -52,7 +51,7 @@ pub fn begin_at<L: Ledger>(x: &Array, ends: &Lane, steps: &mut Steps<L>) -> bool
     ensures { IsTrue result → AreEnds x.now ends.now }
 {
     match own_ends(x, steps) {
-        Some(own) => is_same(&own, ends, steps),
+        Some(own) => own.is_same(ends, steps),
         None => false,
     }
 }

@@ -8,31 +8,21 @@ ghost use Rattle.awk_columns.specs.Reached.{IsReached};
 ghost use Rattle.awk_list_rows.specs.InRow.{LieInRow};
 
 use awk_columns::Lists;
-use awk_lanes::{Arena, Lane, NoMemory, Steps, index_at, to_option_place};
+use awk_lanes::{Arena, NoMemory, Steps, index_at, to_option_place};
 use awk_layout::Array;
 use awk_range::range;
 use std::alloc::Global;
 use std::sync::ledger::Ledger;
-
-/// Whether lanes have the same bytes, of one kind.
-pub(crate) fn is_same<L: Ledger>(a: &Lane, b: &Lane, steps: &mut Steps<L>) -> bool
-    ensures { IsTrue result → a.now ≡ b.now }
-{
-    if a.kind() != b.kind() {
-        return false;
-    }
-    a.bulk(steps) == b.bulk(steps)
-}
 
 /// Whether lists have the same lanes as others, byte for byte.
 pub fn are_same<L: Ledger>(lead: &Lists, lists: &Lists, steps: &mut Steps<L>) -> bool
     ensures starts { IsTrue result → lists.now.starts ≡ lead.now.starts }
     ensures stops { IsTrue result → lists.now.stops ≡ lead.now.stops }
 {
-    if !is_same(lists.starts(), lead.starts(), steps) {
+    if !lists.starts().is_same(lead.starts(), steps) {
         return false;
     }
-    is_same(lists.stops(), lead.stops(), steps)
+    lists.stops().is_same(lead.stops(), steps)
 }
 
 /// Where the items of lists begin, if each list begins where the one before ends.
@@ -46,7 +36,7 @@ fn row_start<L: Ledger>(lists: &Lists, steps: &mut Steps<L>) -> Option<u64>
     }
     let starts = lists.starts().cut(1, n, steps);
     let stops = lists.stops().cut(0, n - 1, steps);
-    if !is_same(&starts, &stops, steps) {
+    if !starts.is_same(&stops, steps) {
         return None;
     }
     to_option_place(index_at(lists.starts(), 0, steps))

@@ -29,7 +29,7 @@ use Rattle.awk_lanes.specs.Made.{lane_of}
 use Rattle.awk_lanes.proofs.MadeLanes.{size-lane_of, at-lane_of}
 use Rattle.awk_lanes.proofs.CountedLanes.{place-offsets, length-numbers, numbers-at}
 use Rattle.awk_list_ends.proofs.TotalLaws.{offsets-sized, total-sized}
-use Rattle.awk_lists.specs.LocalIndex.{local_index_function}
+use Rattle.awk_lists.specs.LocalIndex.{local_index_function, local_lane}
 use Rattle.awk_columns.proofs.OffsetLaws.{are_offsets, even_offsets, offset-length, items_at-length}
 use Rattle.awk_columns.proofs.OffsetLaws.{count_given}
 use Rattle.awk_list_functions.proofs.SpoilLimits.{over_limit, within_limit}
@@ -118,3 +118,11 @@ pub even_count : (class : Class) (size : ℕ) (s t : Column) (y : Layout) → Ar
     → class ≡ Some size → before (span_length s t) (size_of s) ≡ size_of s * size
 even_count class size s t y a e =
     total-sized size s t (subst (λ k. AreOfClass k s t) e a.same_class)
+
+-- one list has the places below its length
+pub local-one : (s t : Column) (n total : ℕ) → n ≡ 1 → total ≡ before (span_length s t) n
+    → lane_of kinds.I64 total pos ≡ local_lane s t n
+local-one s t n total e sum =
+    let long : total ≡ span_length s t 0 =
+    omega (arith, sum, ap (before (span_length s t)) e) in
+    ap (λ m. lane_of kinds.I64 m pos) long ∙ ap (local_lane s t) (sym e)

@@ -1,14 +1,18 @@
 //! The places of the items of each list.
-ghost use Rattle.std.specs.Prelude.{◌≡◌, ◌<◌, Some, IfOk};
+ghost use Rattle.std.specs.Prelude.{◌≡◌, ◌<◌, ◌≤◌, Some, IfOk};
 ghost use Rattle.awk_types.specs.Faults.{fault_told};
 ghost use Rattle.awk_types.specs.Gives.{Gives};
+ghost use Rattle.awk_types.specs.ItemLimit.{item_limit};
+ghost use Rattle.awk_lanes.specs.Counted.{before};
+ghost use Rattle.awk_lanes.specs.Places.{size_of};
+ghost use Rattle.awk_columns.specs.Lists.{span_length};
 ghost use Rattle.awk_list_functions.specs.Made.{IsMade};
 ghost use Rattle.awk_layout.specs.Datum.{datum_of, IsDatum};
-ghost use Rattle.awk_lists.specs.LocalIndex.{local_index_function, local_index_of};
+ghost use Rattle.awk_lists.specs.LocalIndex.{local_index_function, local_index_of, local_lane};
 
 use awk_axis::lift_at;
 use awk_columns::{Bounds, Lists, places_of};
-use awk_lanes::{Arena, Items, Lengths, Num, Steps, number, offsets_within};
+use awk_lanes::{Arena, Items, Lane, Lengths, Num, Steps, number, offsets_within, ordinals};
 use awk_layout::{Datum, Node};
 use awk_list_ends::even_total;
 use awk_list_functions::{ListOp, Made, Refusal, Spoil};
@@ -49,6 +53,28 @@ impl<'b, 'r, 'a> Items for LocalPlaces<'b, 'r, 'a> {
     }
 }
 
+/// The places of the items of the first n lists, one list after another. Those of one list are told
+/// by their bounds where they are many.
+fn local_items<'a, L: Ledger>(
+    n: u64,
+    total: u64,
+    places: &LocalPlaces,
+    arena: &'a Arena,
+    steps: &mut Steps<L>,
+) -> Result<Lane<'a>, NoMemory>
+    requires within { n ≤ size_of places.now.lists.now.starts }
+    requires total { total
+        ≡ before (span_length places.now.lists.now.starts places.now.lists.now.stops) n }
+    requires few { total ≤ item_limit }
+    ensures { let lists = places.now.lists.now in
+        IfOk result (λ r. r ≡ local_lane lists.starts lists.stops n) }
+{
+    if n == 1 {
+        return ordinals(total, arena, steps);
+    }
+    places_of(n, total, places, arena, steps)
+}
+
 /// The places of the items of lists, as lists of the same lengths.
 fn local_places<'a, L: Ledger>(
     alloc: Global,
@@ -66,7 +92,7 @@ fn local_places<'a, L: Ledger>(
     match offsets_within(ITEM_LIMIT, n, &places, arena, steps)? {
         None => Ok(Made::Spoiled(Spoil::Size)),
         Some(offsets) => {
-            let items = places_of(n, offsets.total, &places, arena, steps)?;
+            let items = local_items(n, offsets.total, &places, arena, steps)?;
             Ok(Made::Lists {
                 offsets: offsets.lane,
                 content: Node::numpy(items, steps),
@@ -94,7 +120,7 @@ fn even_places<'a, L: Ledger>(
         Some(total) => {
             let bounds = Bounds::new(alloc, lists, arena, steps)?;
             let places = LocalPlaces { lists: &bounds };
-            let items = places_of(n, total, &places, arena, steps)?;
+            let items = local_items(n, total, &places, arena, steps)?;
             Ok(Made::Even(Node::numpy(items, steps)))
         }
     }

@@ -137,7 +137,8 @@ fn joined<'a, L: Ledger>(
     let mut bytes = Vec::with_capacity(arena, size as usize)?;
     for i in 0..sides.len() {
         let lane = side_lane(alloc, kind, sides.get(i), arena, steps)?;
-        bytes.extend_from_slice(lane.bulk(steps))?;
+        let moved = lane.bulk(arena, steps)?;
+        bytes.extend_from_slice(moved)?;
     }
     Ok(Lane::new(kind, into_bump_slice(bytes)))
 }

@@ -69,6 +69,6 @@ pub fn narrow_index<'a, L: Ledger>(lane: &Lane<'a>, steps: &mut Steps<L>) -> Nar
     requires { lane.now.kind ≡ Kinds.I32 }
     ensures { result ≡ lane.now }
 {
-    let (groups, _) = lane.bulk(steps).as_chunks::<4>();
+    let (groups, _) = lane.narrow_bytes(steps).as_chunks::<4>();
     NarrowIndex { groups }
 }

@@ -95,7 +95,7 @@ pub fn cells_of<'a, C: Byte, L: Ledger>(lane: &Lane<'a>, steps: &mut Steps<L>) -
     ensures { result ≡ lane.now }
 {
     ByteCells {
-        groups: lane.bulk(steps).as_chunks::<1>().0,
+        groups: lane.narrow_bytes(steps).as_chunks::<1>().0,
         byte: PhantomData,
     }
 }

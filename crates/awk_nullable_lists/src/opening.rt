@@ -88,7 +88,7 @@ fn by_bytes<'a, L: Ledger>(
 {
     match lane_in(content) {
         Some(lane) => {
-            let (bytes, _) = mask.bulk(steps).as_chunks::<1>();
+            let (bytes, _) = mask.narrow_bytes(steps).as_chunks::<1>();
             let mask = ByteMask { bytes, valid_when };
             Some(Nullable::Bytes { mask, lane })
         }

@@ -1,10 +1,10 @@
 //! The numbers of a lane, each exact.
-ghost use Rattle.std.specs.Prelude.{◌≡◌, ◌-◌, ◌≤◌, length};
+ghost use Rattle.std.specs.Prelude.{◌≡◌, ◌-◌, ◌≤◌, length, IfOk};
 ghost use Rattle.std.specs.List.{slice_range};
 ghost use Rattle.awk_numbers.specs.Folds.{whole_numbers, lane_numbers};
 
 use crate::row::{Cells, Row};
-use awk_lanes::{Kind, Lane, Steps, byte_numbers};
+use awk_lanes::{Arena, Kind, Lane, NoMemory, Steps};
 use std::sync::ledger::Ledger;
 
 /// Numbers as they lie in a lane, of which none needs more than 64 bits.
@@ -38,20 +38,24 @@ pub(crate) trait Pass {
 }
 
 /// The numbers of a lane, where they lie; a truth value counts as 0 or 1.
-pub fn whole_of<'a, L: Ledger>(lane: &Lane<'a>, steps: &mut Steps<L>) -> Whole<'a>
-    ensures numbers { whole_numbers result ≡ lane_numbers lane.now }
+pub fn whole_of<'a: 'b, 'b, L: Ledger>(
+    lane: &Lane<'a>,
+    arena: &'b Arena,
+    steps: &mut Steps<L>,
+) -> Result<Whole<'b>, NoMemory>
+    ensures numbers { IfOk result (λ r. whole_numbers r ≡ lane_numbers lane.now) }
 {
-    let bytes = lane.bulk(steps);
+    let bytes = lane.bulk(arena, steps)?;
     match lane.kind() {
-        Kind::Bool => Whole::Truths(bytes),
-        Kind::I8 => Whole::I8(bytes.as_chunks::<1>().0),
-        Kind::I16 => Whole::I16(bytes.as_chunks::<2>().0),
-        Kind::I32 => Whole::I32(bytes.as_chunks::<4>().0),
-        Kind::I64 => Whole::I64(bytes.as_chunks::<8>().0),
-        Kind::U8 => Whole::U8(bytes.as_chunks::<1>().0),
-        Kind::U16 => Whole::U16(bytes.as_chunks::<2>().0),
-        Kind::U32 => Whole::U32(bytes.as_chunks::<4>().0),
-        Kind::U64 => Whole::U64(bytes.as_chunks::<8>().0),
+        Kind::Bool => Ok(Whole::Truths(bytes)),
+        Kind::I8 => Ok(Whole::I8(bytes.as_chunks::<1>().0)),
+        Kind::I16 => Ok(Whole::I16(bytes.as_chunks::<2>().0)),
+        Kind::I32 => Ok(Whole::I32(bytes.as_chunks::<4>().0)),
+        Kind::I64 => Ok(Whole::I64(bytes.as_chunks::<8>().0)),
+        Kind::U8 => Ok(Whole::U8(bytes.as_chunks::<1>().0)),
+        Kind::U16 => Ok(Whole::U16(bytes.as_chunks::<2>().0)),
+        Kind::U32 => Ok(Whole::U32(bytes.as_chunks::<4>().0)),
+        Kind::U64 => Ok(Whole::U64(bytes.as_chunks::<8>().0)),
     }
 }
 

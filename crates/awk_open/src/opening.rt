@@ -93,12 +93,14 @@ fn multiple_lane<'a, L: Ledger>(
     requires blocks { AreBlocks (2 ^ 63 - 1) size places.now }
     ensures lane { IfOk result (λ r. r ≡ multiples size distance places.now) }
 {
+    let n = places.len();
+    let places = wide_index(places, arena, steps)?;
     let source = Multiples {
         size,
         distance,
-        places: wide_index(places, steps),
+        places,
     };
-    made_lane(Kind::I64, places.len(), &source, arena, steps)
+    made_lane(Kind::I64, n, &source, arena, steps)
 }
 
 fn multiple(place: u64, size: u64, distance: u64) -> u64

@@ -8,7 +8,7 @@ ghost use Rattle.awk_gather.specs.Arrays.{pick};
 ghost use Rattle.awk_counts.specs.Counted.{IsRun};
 
 use awk_gather::gather;
-use awk_lanes::{Arena, Index, Lane, NoMemory, Steps, to_place, wide_index};
+use awk_lanes::{Arena, Index, Lane, NoMemory, Steps, laid_index, to_place};
 use awk_layout::Array;
 use awk_range::range;
 use std::alloc::Global;
@@ -42,21 +42,33 @@ fn first_place(places: &Index, n: u64) -> u64
     }
 }
 
-/// Where the places of some of n items begin, if they go up one by one.
+/// Where places of some of n items begin, if they go up one by one.
+fn first_of_run(places: &Index, n: u64) -> Option<u64>
+    requires kind { places.now.kind ≡ Kind.I64 }
+    requires small { n < 2 ^ 63 }
+    requires places { IsIndex places.now n }
+    ensures { IfSome result (IsRun places.now n) }
+{
+    let first = first_place(places, n);
+    if first + places.len() <= n {
+        if is_run(places, first, n) {
+            return Some(first);
+        }
+    }
+    None
+}
+
+/// The same of places in a lane, if they lie there in bytes.
 fn run_start<L: Ledger>(places: &Lane, n: u64, steps: &mut Steps<L>) -> Option<u64>
     requires kind { places.now.kind ≡ Kind.I64 }
     requires small { n < 2 ^ 63 }
     requires places { IsIndex places.now n }
     ensures { IfSome result (IsRun places.now n) }
 {
-    let seen = wide_index(places, steps);
-    let first = first_place(&seen, n);
-    if first + seen.len() <= n {
-        if is_run(&seen, first, n) {
-            return Some(first);
-        }
+    match laid_index(places, steps) {
+        Some(seen) => first_of_run(&seen, n),
+        None => None,
     }
-    None
 }
 
 /// The items of an array at places: cut from it where they lie in a row, gathered else.

@@ -11,7 +11,7 @@ ghost use Rattle.awk_pack.specs.Packing.{IsColumn, IsLeft, IfSize};
 use crate::column::{joined, leaf_lane};
 use crate::packed::PackFault;
 use awk_columns::Lists;
-use awk_lanes::{Arena, Lane, Lanes, Steps};
+use awk_lanes::{Arena, ByteLanes, Lane, Steps};
 use awk_layout::{Array, Arrays};
 use awk_open::{Opened, in_order};
 use awk_types::{ITEM_LIMIT, NoMemory, Typ, is_sized};
@@ -22,14 +22,14 @@ use std::sync::ledger::Ledger;
 fn leaf_contents<'a, L: Ledger>(
     alloc: Global,
     lane: &Lane<'a>,
-    lanes: &mut Lanes<'a>,
+    lanes: &mut ByteLanes<'a>,
     arena: &'a Arena,
     steps: &mut Steps<L>,
 ) -> Result<Arrays<'a>, NoMemory>
     ensures left { (t : DataType) (vs : List Value) → IsColumn t vs (Opened.Leaf lane.now) →
         IfOk result (λ ys. IsLeft t vs lanes.old ys lanes.new) }
 {
-    lanes.push(leaf_lane(lane, arena, steps)?)?;
+    lanes.push(leaf_lane(lane, arena, steps)?, arena)?;
     Ok(Arrays::new(alloc))
 }
 
@@ -38,7 +38,7 @@ fn list_contents<'a, L: Ledger>(
     alloc: Global,
     typ: &Typ,
     opened: &Lists<'a>,
-    lanes: &mut Lanes<'a>,
+    lanes: &mut ByteLanes<'a>,
     arena: &'a Arena,
     steps: &mut Steps<L>,
 ) -> Result<Arrays<'a>, PackFault>
@@ -58,7 +58,7 @@ fn list_contents<'a, L: Ledger>(
     if is_sized(typ) {
         return Ok(Arrays::only(alloc, lists.content)?);
     }
-    lanes.push(lists.offsets)?;
+    lanes.push(lists.offsets, arena)?;
     Ok(Arrays::only(alloc, lists.content)?)
 }
 
@@ -67,7 +67,7 @@ fn list_contents<'a, L: Ledger>(
 pub(crate) fn contents<'a, L: Ledger>(
     alloc: Global,
     x: &Array<'a>,
-    lanes: &mut Lanes<'a>,
+    lanes: &mut ByteLanes<'a>,
     arena: &'a Arena,
     steps: &mut Steps<L>,
 ) -> Result<Arrays<'a>, PackFault>
@@ -84,7 +84,7 @@ pub(crate) fn contents<'a, L: Ledger>(
         Opened::Items(lists) => list_contents(alloc, x.typ(), &lists, lanes, arena, steps),
         Opened::Row { columns, .. } => Ok(columns),
         Opened::Option { index, content } => {
-            lanes.push(index)?;
+            lanes.push(index, arena)?;
             Ok(Arrays::only(alloc, content)?)
         }
         Opened::Union {
@@ -92,8 +92,8 @@ pub(crate) fn contents<'a, L: Ledger>(
             index,
             contents,
         } => {
-            lanes.push(tags)?;
-            lanes.push(index)?;
+            lanes.push(tags, arena)?;
+            lanes.push(index, arena)?;
             Ok(contents)
         }
     }

@@ -1,6 +1,6 @@
 //! Packed arrays, and why an array has no packed form.
 use awk_form::Form;
-use awk_lanes::Lanes;
+use awk_lanes::ByteLanes;
 use std::alloc::{AllocError, AllocFailed};
 
 /// A form, a length, and the lanes of the form's buffers in their order: nodes in pre-order, and
@@ -9,7 +9,7 @@ use std::alloc::{AllocError, AllocFailed};
 pub struct Packed<'a> {
     pub form: Form,
     pub length: u64,
-    pub lanes: Lanes<'a>,
+    pub lanes: ByteLanes<'a>,
 }
 
 /// Why an array is not packed.

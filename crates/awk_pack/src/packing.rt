@@ -11,7 +11,7 @@ ghost use Rattle.awk_pack.specs.Shown.{packed_of};
 use crate::contents::contents;
 use crate::form::packed_form;
 use crate::packed::{PackFault, Packed};
-use awk_lanes::{Arena, Lanes, Steps};
+use awk_lanes::{Arena, ByteLanes, Steps};
 use awk_layout::Array;
 use std::alloc::Global;
 use std::sync::ledger::Ledger;
@@ -21,7 +21,7 @@ use std::sync::ledger::Ledger;
 fn put_lanes<'a, L: Ledger>(
     alloc: Global,
     x: &Array<'a>,
-    lanes: &mut Lanes<'a>,
+    lanes: &mut ByteLanes<'a>,
     arena: &'a Arena,
     steps: &mut Steps<L>,
 ) -> Result<(), PackFault>
@@ -49,7 +49,7 @@ pub fn pack<'a, L: Ledger>(
     ensures lawful { IfOk result (λ p. IsLawful (form_of p.form)) }
 {
     let form = packed_form(alloc, x.typ())?;
-    let mut lanes = Lanes::new(alloc);
+    let mut lanes = ByteLanes::new(alloc);
     put_lanes(alloc, x, &mut lanes, arena, steps)?;
     Ok(Packed {
         form,

@@ -3,7 +3,7 @@ use Rattle.std.specs.Prelude.{◌≡◌, ℕ, zero, suc, ◌+◌, ◌-◌, ◌*�
 use Rattle.std.specs.Prelude.{false, Bool, List, length, map, get_or, sum, pos, negsuc, ◌<ℤ◌, Some}
 use Rattle.std.specs.Prelude.{None, if◌then◌else◌}
 use Rattle.std.specs.List.{range_with_len}
-use Rattle.std.proofs.Common.{arith, ap, sym, ◌∙◌, subst}
+use Rattle.std.proofs.Common.{arith, ap, ap₂, sym, ◌∙◌, subst}
 use Rattle.std.proofs.lemmas.Int.{ints}
 use Rattle.std.proofs.lemmas.List.{get_or_past}
 use Rattle.std.proofs.lemmas.List.FromFn.{length-map-range_with_len}
@@ -13,7 +13,10 @@ use Rattle.awk_types.specs.Simple.{simple_value}
 use Rattle.awk_types.specs.Value.{Value, null, value_list}
 use Rattle.awk_types.specs.ItemLimit.{item_limit}
 use Rattle.awk_lanes.specs.Column.{Column}
-use Rattle.awk_lanes.specs.Counted.{before, offsets_by}
+use Rattle.awk_lanes.specs.Counted.{before, items_lane, offsets_by}
+use Rattle.awk_lanes.specs.Made.{lane_of}
+use Rattle.awk_lanes.specs.Runs.{run_at}
+use Rattle.awk_lanes.specs.declared.kind.Kind.TheVariants.{I64}
 use Rattle.awk_lanes.specs.Places.{size_of, at, place_at, option_place, IsOptionalIndex}
 use Rattle.awk_lanes.proofs.CountedLanes.{before-next, before_mono, place-offsets, sum-before}
 use Rattle.awk_lanes.proofs.CountedLanes.{length-numbers, numbers-at, numbers-below}
@@ -188,3 +191,15 @@ module _ (n : ℕ) (clip : Bool) (class : Class) (s t : Column) (y : Layout)
   pub padded_fine : whole ≤ item_limit
       → (pad_none_function n clip).spoil (array_type y) (all_items_at s t y) ≡ None
   padded_fine p = ap too_many count_is ∙ within_limit whole p
+
+-- one list has its places in order, and -1 past its end
+pub padded-one : (n : ℕ) (clip : Bool) (s t : Column) (total start length : ℕ) → size_of s ≡ 1
+    → total ≡ before (padded_span n clip s t) (size_of s) → start ≡ place_at s 0
+    → length ≡ span_length s t 0
+    → lane_of I64 total (run_at start length) ≡ padded_lane n clip s t
+padded-one n clip s t total start length e sum first size =
+    let long : total ≡ padded_span n clip s t 0 =
+    omega (arith, sum, ap (before (padded_span n clip s t)) e) in
+    ap (λ k. lane_of I64 k (run_at start length)) long
+    ∙ ap₂ (λ a b. lane_of I64 (padded_span n clip s t 0) (run_at a b)) first size
+    ∙ ap (items_lane I64 (padded_span n clip s t) (padded_place s t)) (sym e)

@@ -7,12 +7,13 @@ ghost use Rattle.awk_lanes.specs.Places.{size_of};
 ghost use Rattle.awk_lanes.specs.declared.kind.Kind.TheVariants as Kinds;
 ghost use Rattle.awk_layout.specs.Layout.{unmasked};
 ghost use Rattle.awk_layout.specs.Valid.{len};
-ghost use Rattle.awk_padding.specs.Lanes.{padded_place, padded_span, ArePadded, AreUnpadded};
+ghost use Rattle.awk_padding.specs.Lanes.{padded_lane, padded_place, padded_span};
+ghost use Rattle.awk_padding.specs.Lanes.{ArePadded, AreUnpadded};
 ghost use Rattle.awk_padding.specs.PadNone.{padded_length};
 
 use awk_columns::{Bounds, places_of};
 use awk_gather::option_over;
-use awk_lanes::{Arena, Items, Lengths, Num, Steps, number};
+use awk_lanes::{Arena, Items, Lane, Lengths, Num, Steps, number, run_lane};
 use awk_layout::{Array, Class, Node};
 use awk_list_ends::span_or;
 use awk_types::NoMemory;
@@ -137,6 +138,29 @@ fn option_of_all<'a, L: Ledger>(
     Ok(Node::unmasked(inner, n, steps))
 }
 
+/// The places of the items of padded lists, and -1 past the end of each. Those of one list are told
+/// by their bounds where they are many.
+fn padded_places<'a, L: Ledger>(
+    padded: &PaddedLists<'_, '_, 'a>,
+    total: u64,
+    arena: &'a Arena,
+    steps: &mut Steps<L>,
+) -> Result<Lane<'a>, NoMemory>
+    requires { let lists = padded.now.lists.now in
+        total ≡ before (padded_span padded.now.padding.size padded.now.padding.clip lists.starts
+        lists.stops) (size_of lists.starts) }
+    ensures { let lists = padded.now.lists.now in
+        IfOk result (λ r. r ≡ padded_lane padded.now.padding.size padded.now.padding.clip
+        lists.starts lists.stops) }
+{
+    let n = padded.lists.len();
+    if n == 1 {
+        let span = padded.lists.span_of(0);
+        return run_lane(total, span.start, span.length, arena);
+    }
+    places_of(n, total, padded, arena, steps)
+}
+
 /// The items behind an index, which is composed with what it is put over.
 fn wide_items<'a, L: Ledger>(
     alloc: Global,
@@ -153,11 +177,9 @@ fn wide_items<'a, L: Ledger>(
         IfOk result (ArePadded padded.now.padding.size padded.now.padding.clip lists.starts
         lists.stops lists.content) }
 {
-    let lists = padded.lists;
-    let n = lists.len();
-    let content = lists.content();
+    let content = padded.lists.content();
     let _ = content.len();
-    let places = places_of(n, total, padded, arena, steps)?;
+    let places = padded_places(padded, total, arena, steps)?;
     let items = option_over(alloc, content.node(), &places, arena, steps)?;
     let _ = items.len();
     Ok(items)

@@ -107,11 +107,16 @@ impl<'b, 'a> Numbers for Offsets<'b, 'a> {
 }
 
 /// The numbers of a lane of i64, each as its bytes.
-fn groups_of<'a, L: Ledger>(lane: &Lane<'a>, steps: &mut Steps<L>) -> &'a [[u8; 8]]
+fn groups_of<'a, L: Ledger>(
+    lane: &Lane<'a>,
+    arena: &'a Arena,
+    steps: &mut Steps<L>,
+) -> Result<&'a [[u8; 8]], NoMemory>
     requires { lane.now.kind ≡ Kind.I64 }
-    ensures { map (number Kind.I64) result.now ≡ lane.now.items }
+    ensures { IfOk result (λ r. map (number Kind.I64) r.now ≡ lane.now.items) }
 {
-    lane.bulk(steps).as_chunks::<8>().0
+    let bytes = lane.bulk(arena, steps)?;
+    Ok(bytes.as_chunks::<8>().0)
 }
 
 /// The numbers of a lane of offsets, starts or stops, each as the bytes of an i64.
@@ -124,10 +129,10 @@ fn ends_of<'a, L: Ledger>(
     ensures { IfOk result (λ r. map (number Kind.I64) r.now ≡ lane.now.items) }
 {
     match lane.kind() {
-        Kind::I64 => Ok(groups_of(lane, steps)),
+        Kind::I64 => groups_of(lane, arena, steps),
         _ => {
             let wide = made_lane(Kind::I64, lane.len(), &Offsets { lane }, arena, steps)?;
-            Ok(groups_of(&wide, steps))
+            groups_of(&wide, arena, steps)
         }
     }
 }

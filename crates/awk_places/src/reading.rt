@@ -3,7 +3,7 @@ ghost use Rattle.std.specs.Prelude.{◌≡◌, ◌<◌, ◌^◌, ◌≤ℤ◌, p
 ghost use Rattle.awk_lanes.specs.Places.{size_of, at, place_at};
 ghost use Rattle.awk_lanes.specs.declared.kind.Kind.TheVariants as Kinds;
 
-use awk_lanes::{Lane, Steps, wide_index};
+use awk_lanes::{Lane, Steps, wide_at};
 use std::sync::ledger::Ledger;
 
 /// The place at place i of a lane.
@@ -15,5 +15,5 @@ pub(crate) fn place_of<L: Ledger>(lane: &Lane, i: u64, steps: &mut Steps<L>) -> 
     ensures value { result ≡ place_at lane.now i }
     ensures fits { result < 2 ^ 63 }
 {
-    wide_index(lane, steps).number(i) as u64
+    wide_at(lane, i, steps) as u64
 }

@@ -70,7 +70,8 @@ fn add_block<'a, S: Blocks, L: Ledger>(
     let room = Bump::new(alloc);
     match source.block(lo, hi, &room, steps) {
         Ok(lane) => {
-            bytes.extend_from_slice(lane.bulk(steps))?;
+            let block = lane.bulk(&room, steps)?;
+            bytes.extend_from_slice(block)?;
             Ok(())
         }
         Err(fault) => Err(fault),

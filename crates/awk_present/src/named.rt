@@ -83,8 +83,10 @@ fn numbers_named<'a, const W: usize, L: Ledger>(
     ensures { let places = first_of (present_at index.now) (size_of index.now) in
         IfOk result (λ r. r ≡ taken_lane lane.now places) }
 {
-    let (groups, _) = lane.bulk(steps).as_chunks::<W>();
-    let (places, _) = index.bulk(steps).as_chunks::<8>();
+    let bytes = lane.bulk(arena, steps)?;
+    let (groups, _) = bytes.as_chunks::<W>();
+    let rows = index.bulk(arena, steps)?;
+    let (places, _) = rows.as_chunks::<8>();
     let named = groups_named(groups, places, n as usize, arena)?;
     Ok(Lane::new(lane.kind(), named.as_flattened()))
 }

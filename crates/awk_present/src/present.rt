@@ -100,7 +100,7 @@ fn present_options<'a, L: Ledger>(
     match opened_option(alloc, items, arena, steps)? {
         Opened::Option { index, content } => {
             let leaves = leaves_of(alloc, &content, arena, steps)?;
-            let whole = whole_of(&index, steps);
+            let whole = whole_of(&index, arena, steps)?;
             let starts = present_offsets(&whole, offsets, count, arena, steps)?;
             let lane = numbers_at(&index, &leaves, starts.total, arena, steps)?;
             Ok(Present {

@@ -42,7 +42,7 @@ pub(crate) fn extremes<'a, L: Ledger>(
     requires { AreReady x.now }
     ensures { IfOk result (AreReduced (item_reducer how) x.now) }
 {
-    let numbers = whole_of(x.lane, steps);
+    let numbers = whole_of(x.lane, arena, steps)?;
     let parts = Parts {
         numbers: &numbers,
         spans: x.spans,
@@ -63,7 +63,7 @@ pub(crate) fn extreme_indexes<'a, L: Ledger>(
     requires { AreReady x.now }
     ensures { IfOk result (AreReduced (place_reducer how) x.now) }
 {
-    let numbers = whole_of(x.lane, steps);
+    let numbers = whole_of(x.lane, arena, steps)?;
     let parts = Parts {
         numbers: &numbers,
         spans: x.spans,

@@ -198,7 +198,7 @@ fn reduced_in<'a, P: Places, L: Ledger>(
 {
     match lane.kind() {
         Kind::I64 => {
-            let cells = wide_index(lane, steps);
+            let cells = wide_index(lane, arena, steps)?;
             let leaves = Leaves {
                 places,
                 cells: &cells,

@@ -24,7 +24,7 @@ pub(crate) fn folds<'a, L: Ledger>(
     requires { AreReady x.now }
     ensures { IfOk result (AreReduced (fold_reducer how) x.now) }
 {
-    let numbers = whole_of(x.lane, steps);
+    let numbers = whole_of(x.lane, arena, steps)?;
     let parts = Parts {
         numbers: &numbers,
         spans: x.spans,
@@ -47,7 +47,7 @@ pub(crate) fn tallies<'a, N: Kernels, L: Ledger>(
     requires { AreReady x.now }
     ensures { IfOk result (AreReduced (tally_reducer how) x.now) }
 {
-    let numbers = whole_of(x.lane, steps);
+    let numbers = whole_of(x.lane, arena, steps)?;
     let parts = Parts {
         numbers: &numbers,
         spans: x.spans,

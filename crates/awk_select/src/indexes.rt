@@ -206,14 +206,13 @@ fn take_lane<'a, L: Ledger>(
 {
     match cells {
         Cells::Plain(lane) if lane.kind() == Kind::I64 => {
-            let numbers = wide_index(lane, steps);
+            let numbers = wide_index(lane, arena, steps)?;
             places_in(ix, &numbers, n, arena, steps)
         }
         Cells::Optional { index, lane } if are_wide(index.kind(), lane.kind()) => {
-            let values = Sparse {
-                index: wide_index(index, steps),
-                numbers: wide_index(lane, steps),
-            };
+            let index = wide_index(index, arena, steps)?;
+            let numbers = wide_index(lane, arena, steps)?;
+            let values = Sparse { index, numbers };
             places_in(ix, &values, n, arena, steps)
         }
         _ => places_in(ix, cells, n, arena, steps),

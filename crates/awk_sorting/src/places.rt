@@ -139,7 +139,7 @@ pub fn places_in_order<'a, L: Ledger>(
     if cells.lane.kind() != Kind::I64 {
         return places_of_row(alloc, up, cells, &ends, n, arena, steps);
     }
-    let lane = wide_index(cells.lane, steps);
+    let lane = wide_index(cells.lane, arena, steps)?;
     match cells.index {
         None => places_of_row(alloc, up, &WideRow { lane }, &ends, n, arena, steps),
         Some(index) => {

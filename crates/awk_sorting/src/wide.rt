@@ -23,7 +23,8 @@ pub(crate) fn wide_in_order<'a, L: Ledger>(
     requires rising { AreRising offsets.now n (size_of lane.now) }
     ensures { IfOk result (SortsLane up offsets.now n lane.now) }
 {
-    let (groups, _) = lane.bulk(steps).as_chunks::<8>();
+    let bytes = lane.bulk(arena, steps)?;
+    let (groups, _) = bytes.as_chunks::<8>();
     let sorted = arena.try_alloc_slice_copy(groups)?;
     sort_slice_parts(sorted, offsets, n, up);
     Ok(Lane::new(Kind::I64, sorted.as_flattened()))

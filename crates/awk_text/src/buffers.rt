@@ -14,7 +14,7 @@ use crate::encoded::write_base64;
 use awk_edge::{Out, Sink, WriteFault};
 use awk_form::{Form, Forms, Shape};
 use awk_json::write_joined;
-use awk_lanes::{Lane, Lanes, Steps};
+use awk_lanes::{ByteLane, ByteLanes, Steps};
 use awk_types::Name;
 use std::sync::ledger::Ledger;
 
@@ -22,7 +22,7 @@ use std::sync::ledger::Ledger;
 #[cycle(buffers)]
 pub(crate) fn write_buffers<K: Sink, L: Ledger>(
     form: &Form,
-    lanes: &Lanes<'_>,
+    lanes: &ByteLanes<'_>,
     next: &mut usize,
     out: &mut Out,
     sink: &mut K,
@@ -47,7 +47,7 @@ pub(crate) fn write_buffers<K: Sink, L: Ledger>(
 #[cycle(buffers)]
 fn write_below<K: Sink, L: Ledger>(
     shape: &Shape,
-    lanes: &Lanes<'_>,
+    lanes: &ByteLanes<'_>,
     next: &mut usize,
     out: &mut Out,
     sink: &mut K,
@@ -86,7 +86,7 @@ fn write_below<K: Sink, L: Ledger>(
 #[cycle(buffers)]
 fn write_all<K: Sink, L: Ledger>(
     forms: &Forms,
-    lanes: &Lanes<'_>,
+    lanes: &ByteLanes<'_>,
     next: &mut usize,
     out: &mut Out,
     sink: &mut K,
@@ -113,7 +113,7 @@ fn write_all<K: Sink, L: Ledger>(
 /// Puts the buffers of a node itself.
 fn write_own<K: Sink, L: Ledger>(
     form: &Form,
-    lanes: &Lanes<'_>,
+    lanes: &ByteLanes<'_>,
     next: &mut usize,
     out: &mut Out,
     sink: &mut K,
@@ -150,7 +150,7 @@ fn write_two<K: Sink, L: Ledger>(
     key: &Option<Name>,
     first: &str,
     second: &str,
-    lanes: &Lanes<'_>,
+    lanes: &ByteLanes<'_>,
     next: &mut usize,
     out: &mut Out,
     sink: &mut K,
@@ -175,7 +175,7 @@ fn write_two<K: Sink, L: Ledger>(
 fn write_next<K: Sink, L: Ledger>(
     key: &Option<Name>,
     attribute: &str,
-    lanes: &Lanes<'_>,
+    lanes: &ByteLanes<'_>,
     next: &mut usize,
     out: &mut Out,
     sink: &mut K,
@@ -209,7 +209,7 @@ fn separator(at: usize) -> &'static [u8]
 fn write_buffer<K: Sink, L: Ledger>(
     key: &Option<Name>,
     attribute: &str,
-    lane: &Lane<'_>,
+    lane: &ByteLane<'_>,
     out: &mut Out,
     sink: &mut K,
     steps: &mut Steps<L>,

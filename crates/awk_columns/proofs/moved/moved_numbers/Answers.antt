@@ -1,27 +1,22 @@
-use Rattle.std.proofs.Common.{◌+◌, arith, sym, subst}
-use Rattle.awk_lanes.specs.Places.{size_of}
-use Rattle.awk_counts.specs.Counted.{first_of, numbers_at, span_at}
-use Rattle.awk_columns.proofs.JoinedLists.{spans_wider}
-use Rattle.awk_columns.proofs.MovedNumbers.{AreBytesOf, moved_next}
+-- The lane in bytes is the lane.
+use Rattle.std.proofs.Common.{◌≡◌, ◌<◌, ◌^◌, sym, subst}
+use Rattle.std.specs.Prelude.{IfOk}
+use Rattle.awk_lanes.specs.Column.{Column}
+use Rattle.awk_lanes.specs.Places.{size_of, AreSpans}
+use Rattle.awk_counts.specs.Counted.{numbers_at, spans}
 use Rattle.awk_columns.proofs.moved.moved_numbers.Goals as goal
 
-pub span_of-span-requires-clause-spans : goal.span_of-span-requires-clause-spans
-span_of-span-requires-clause-spans g c =
-    spans_wider c.args.starts.now c.args.stops.now (size_of c.args.lane.now) 9223372036854775807
-    (omega (arith, c.requires.small)) c.requires.spans
+pub moved_bytes-requires-clause-spans : goal.moved_bytes-requires-clause-spans
+moved_bytes-requires-clause-spans g c =
+    subst (λ (v : Column). AreSpans c.args.starts.now c.args.stops.now (size_of v))
+    (sym c.in_ok-bytes.ensures) c.requires.spans
 
-pub cut-part-requires-clause-within : goal.cut-part-requires-clause-within
-cut-part-requires-clause-within g c =
-    c.span_of-span.ensures.within (size_of c.args.lane.now) c.requires.spans
+pub moved_bytes-requires-clause-small : goal.moved_bytes-requires-clause-small
+moved_bytes-requires-clause-small g c =
+    subst (λ (v : Column). size_of v < 2 ^ 63) (sym c.in_ok-bytes.ensures) c.requires.small
 
-pub loop-i-preserved : goal.loop-i-preserved
-loop-i-preserved g c =
-    subst
-    (AreBytesOf c.args.lane.now.kind (numbers_at c.args.lane.now
-    (first_of (span_at c.args.starts.now c.args.stops.now) (c.loop-i.i + 1))).items)
-    (sym c.in_ok-extend_from_slice.ensures.items)
-    (moved_next c.args.starts.now c.args.stops.now c.args.lane.now c.cut-part.result c.loop-i.i
-    c.span_of-span.result.start c.span_of-span.result.length c.loop-i.bytes.items
-    c.bulk.result.now c.span_of-span.ensures.places
-    (c.span_of-span.ensures.within (size_of c.args.lane.now) c.requires.spans)
-    c.cut-part.ensures.value c.bulk.ensures.size c.bulk.ensures.numbers c.loop-i.invariant)
+pub returns : goal.returns
+returns g c =
+    subst (λ (v : Column). IfOk c.moved_bytes.result (λ r.
+    r ≡ numbers_at v (spans c.args.starts.now c.args.stops.now))) c.in_ok-bytes.ensures
+    c.moved_bytes.ensures

@@ -15,11 +15,13 @@ use Rattle.awk_jagged_places.proofs.beside.wide_lists.Goals as goal
 pub groups_of-requires : goal.groups_of-requires
 groups_of-requires g c =
     let groups : length c.as_chunks.result.0.now ≡ size_of c.args.lane.now =
-    ap length {y = first_chunks g.row.W (length c.bulk.result.now / g.row.W) c.bulk.result.now}
+    ap length {y = first_chunks g.row.W (length c.in_ok-bytes.bytes.now / g.row.W)
+    c.in_ok-bytes.bytes.now}
     c.as_chunks.ensures.front
-    ∙ ap (λ w. length (first_chunks w (length c.bulk.result.now / w) c.bulk.result.now))
+    ∙ ap (λ w. length (first_chunks w (length c.in_ok-bytes.bytes.now / w) c.in_ok-bytes.bytes.now))
     (sym c.requires.width)
-    ∙ length-groups c.args.lane.now c.bulk.result.now c.bulk.ensures.size c.bulk.ensures.numbers in
+    ∙ length-groups c.args.lane.now c.in_ok-bytes.bytes.now c.in_ok-bytes.ensures.size
+    c.in_ok-bytes.ensures.numbers in
     let small : g.row.W ≤ 8 =
     omega (arith, c.requires.width, width-small c.args.lane.now.kind) in (
       omega (arith, small),
@@ -49,8 +51,8 @@ returns g c =
     c.as_flattened.ensures.value in
     let moved : IsBeside xs ws c.args.n c.as_chunks.result.0.now c.in_ok-moved.moved.now =
     c.in_ok-moved.ensures.groups in
-    let items = numbers-kept c.args.lane.now c.bulk.result.now g.row.W c.requires.plain
-    c.requires.width c.requires.some c.bulk.ensures.size c.bulk.ensures.numbers
+    let items = numbers-kept c.args.lane.now c.in_ok-bytes.bytes.now g.row.W c.requires.plain
+    c.requires.width c.requires.some c.in_ok-bytes.ensures.size c.in_ok-bytes.ensures.numbers
     (places_beside xs ws c.args.n).items c.requires.index c.in_ok-moved.moved.now
     (rw (← c.as_chunks.ensures.front) moved)
     c.as_flattened.result.now flat c.as_flattened.ensures.len in

@@ -15,11 +15,12 @@ returns g c =
     let x = c.args.a.now in
     let a = c.as_chunks.result.0.now in
     compared_one c.args.how c.flags_of.result c.flags_of.ensures k a x.items
-    (chunks_numbers g.row.W k x c.bulk.result.now a c.as_chunks.ensures.front c.requires.kind
-    c.requires.width c.bulk.ensures.size c.bulk.ensures.numbers)
+    (chunks_numbers g.row.W k x c.in_ok-bytes.bytes.now a c.as_chunks.ensures.front c.requires.kind
+    c.requires.width c.in_ok-bytes.ensures.size c.in_ok-bytes.ensures.numbers)
     c.in_ok-lane.lane c.args.y (size_of x)
-    (chunks_long g.row.W x c.bulk.result.now a c.as_chunks.ensures.front
-    (ap width c.requires.kind ∙ c.requires.width) c.bulk.ensures.size c.bulk.ensures.numbers)
+    (chunks_long g.row.W x c.in_ok-bytes.bytes.now a c.as_chunks.ensures.front
+    (ap width c.requires.kind ∙ c.requires.width) c.in_ok-bytes.ensures.size
+    c.in_ok-bytes.ensures.numbers)
     (c.in_ok-lane.ensures.lane
     ∙ ap (λ y. lane_of Truths (length a) (truth_beside c.flags_of.result k a y))
     (to_z-of_z w64 c.args.y c.ranges.y))

@@ -6,12 +6,14 @@ use Rattle.awk_lane_pairs.proofs.comparison.compared_cells.Goals as goal
 
 pub made_lane-requires-clause-ready : goal.made_lane-requires-clause-ready
 made_lane-requires-clause-ready g c =
-    let first = chunks_long g.row.W c.args.a.now c.bulk.result.now c.as_chunks.result.0.now
-    c.as_chunks.ensures.front (ap width c.requires.first ∙ c.requires.width) c.bulk.ensures.size
-    c.bulk.ensures.numbers in
-    let second = chunks_long g.row.W c.args.b.now c.bulk-2.result.now c.as_chunks-2.result.0.now
+    let first = chunks_long g.row.W c.args.a.now c.in_ok-first.first.now c.as_chunks.result.0.now
+    c.as_chunks.ensures.front (ap width c.requires.first ∙ c.requires.width)
+    c.in_ok-first.ensures.size
+    c.in_ok-first.ensures.numbers in
+    let second = chunks_long g.row.W c.args.b.now c.in_ok-second.second.now
+    c.as_chunks-2.result.0.now
     c.as_chunks-2.ensures.front (ap width c.requires.second ∙ c.requires.width)
-    c.bulk-2.ensures.size c.bulk-2.ensures.numbers in
+    c.in_ok-second.ensures.size c.in_ok-second.ensures.numbers in
     (c.requires.small, second ∙ c.requires.size ∙ sym first)
 
 pub returns : goal.returns
@@ -21,16 +23,18 @@ returns g c =
     let y = c.args.b.now in
     let a = c.as_chunks.result.0.now in
     let b = c.as_chunks-2.result.0.now in
-    let first : length a ≡ length x.items = chunks_long g.row.W x c.bulk.result.now a
-    c.as_chunks.ensures.front (ap width c.requires.first ∙ c.requires.width) c.bulk.ensures.size
-    c.bulk.ensures.numbers in
-    let second : length b ≡ length y.items = chunks_long g.row.W y c.bulk-2.result.now b
+    let first : length a ≡ length x.items = chunks_long g.row.W x c.in_ok-first.first.now a
+    c.as_chunks.ensures.front (ap width c.requires.first ∙ c.requires.width)
+    c.in_ok-first.ensures.size
+    c.in_ok-first.ensures.numbers in
+    let second : length b ≡ length y.items = chunks_long g.row.W y c.in_ok-second.second.now b
     c.as_chunks-2.ensures.front (ap width c.requires.second ∙ c.requires.width)
-    c.bulk-2.ensures.size c.bulk-2.ensures.numbers in
+    c.in_ok-second.ensures.size c.in_ok-second.ensures.numbers in
     compared_all c.args.how c.flags_of.result c.flags_of.ensures k a x.items
-    (chunks_numbers g.row.W k x c.bulk.result.now a c.as_chunks.ensures.front c.requires.first
-    c.requires.width c.bulk.ensures.size c.bulk.ensures.numbers)
+    (chunks_numbers g.row.W k x c.in_ok-first.first.now a c.as_chunks.ensures.front c.requires.first
+    c.requires.width c.in_ok-first.ensures.size c.in_ok-first.ensures.numbers)
     c.in_ok-lane.lane b y.items
-    (chunks_numbers g.row.W k y c.bulk-2.result.now b c.as_chunks-2.ensures.front c.requires.second
-    c.requires.width c.bulk-2.ensures.size c.bulk-2.ensures.numbers)
+    (chunks_numbers g.row.W k y c.in_ok-second.second.now b c.as_chunks-2.ensures.front
+    c.requires.second
+    c.requires.width c.in_ok-second.ensures.size c.in_ok-second.ensures.numbers)
     (second ∙ c.requires.size ∙ sym first) c.in_ok-lane.ensures.lane

@@ -6,12 +6,14 @@ use Rattle.awk_lane_pairs.proofs.groups.chosen_numbers.Goals as goal
 
 pub chosen_groups-requires : goal.chosen_groups-requires
 chosen_groups-requires g c =
-    let first = chunks_long g.row.W c.args.first.now c.bulk.result.now c.as_chunks.result.0.now
-    c.as_chunks.ensures.front c.requires.width c.bulk.ensures.size c.bulk.ensures.numbers
+    let first = chunks_long g.row.W c.args.first.now c.in_ok-ones.ones.now c.as_chunks.result.0.now
+    c.as_chunks.ensures.front c.requires.width c.in_ok-ones.ensures.size
+    c.in_ok-ones.ensures.numbers
     ∙ c.requires.first in
-    let second = chunks_long g.row.W c.args.second.now c.bulk-2.result.now
+    let second = chunks_long g.row.W c.args.second.now c.in_ok-others.others.now
     c.as_chunks-2.result.0.now c.as_chunks-2.ensures.front
-    (ap width c.requires.kinds ∙ c.requires.width) c.bulk-2.ensures.size c.bulk-2.ensures.numbers
+    (ap width c.requires.kinds ∙ c.requires.width) c.in_ok-others.ensures.size
+    c.in_ok-others.ensures.numbers
     ∙ c.requires.second in
     (omega (arith, c.requires.small), (first, second))
 
@@ -20,16 +22,18 @@ returns g c =
     let a = c.as_chunks.result.0.now in
     let b = c.as_chunks-2.result.0.now in
     let ms = c.args.mask.now in
-    let first : length a ≡ length ms = chunks_long g.row.W c.args.first.now c.bulk.result.now a
-    c.as_chunks.ensures.front c.requires.width c.bulk.ensures.size c.bulk.ensures.numbers
+    let first : length a ≡ length ms = chunks_long g.row.W c.args.first.now c.in_ok-ones.ones.now a
+    c.as_chunks.ensures.front c.requires.width c.in_ok-ones.ensures.size
+    c.in_ok-ones.ensures.numbers
     ∙ c.requires.first in
     let second : length b ≡ length ms =
-    chunks_long g.row.W c.args.second.now c.bulk-2.result.now b c.as_chunks-2.ensures.front
-    (ap width c.requires.kinds ∙ c.requires.width) c.bulk-2.ensures.size c.bulk-2.ensures.numbers
+    chunks_long g.row.W c.args.second.now c.in_ok-others.others.now b c.as_chunks-2.ensures.front
+    (ap width c.requires.kinds ∙ c.requires.width) c.in_ok-others.ensures.size
+    c.in_ok-others.ensures.numbers
     ∙ c.requires.second in
     let items = numbers-chosen c.args.first.now c.args.second.now ms
-    c.bulk.result.now c.bulk-2.result.now c.requires.kinds c.bulk.ensures.size
-    c.bulk.ensures.numbers c.bulk-2.ensures.size c.bulk-2.ensures.numbers g.row.W
+    c.in_ok-ones.ones.now c.in_ok-others.others.now c.requires.kinds c.in_ok-ones.ensures.size
+    c.in_ok-ones.ensures.numbers c.in_ok-others.ensures.size c.in_ok-others.ensures.numbers g.row.W
     c.in_ok-groups.groups.now c.as_flattened.result.now c.requires.width c.requires.some
     (rw (← c.as_chunks.ensures.front, ← c.as_chunks-2.ensures.front)
     (c.in_ok-groups.ensures ∙ chosen_all ms a b first second))

@@ -16,9 +16,9 @@ made_lane-requires-clause-ready g c = (
   subst (λ y. pos 1 ≤ℤ y) (sym (to_z-of_z w32 c.args.y c.ranges.y)) c.requires.above,
   lane_known g.N.Narrow.prim c.args.a.now c.as_chunks.result.0.now c.kind-kind.ensures.whole
       c.requires.kind
-      (chunks_numbers g.row.W (kind_of g.N.Narrow.prim) c.args.a.now c.bulk.result.now
+      (chunks_numbers g.row.W (kind_of g.N.Narrow.prim) c.args.a.now c.in_ok-bytes.bytes.now
       c.as_chunks.result.0.now c.as_chunks.ensures.front c.requires.kind c.requires.width
-      c.bulk.ensures.size c.bulk.ensures.numbers)
+      c.in_ok-bytes.ensures.size c.in_ok-bytes.ensures.numbers)
       c.len.ensures.fits,
 )
 
@@ -28,11 +28,12 @@ returns g c =
     let x = c.args.a.now in
     let a = c.as_chunks.result.0.now in
     let numbers : map (number (kind_of p)) a ≡ x.items =
-    chunks_numbers g.row.W (kind_of p) x c.bulk.result.now a c.as_chunks.ensures.front
-    c.requires.kind c.requires.width c.bulk.ensures.size c.bulk.ensures.numbers in
+    chunks_numbers g.row.W (kind_of p) x c.in_ok-bytes.bytes.now a c.as_chunks.ensures.front
+    c.requires.kind c.requires.width c.in_ok-bytes.ensures.size c.in_ok-bytes.ensures.numbers in
     quotients_all p x.items a c.args.y (size_of x) c.in_ok-lane.lane numbers
-    (chunks_long g.row.W x c.bulk.result.now a c.as_chunks.ensures.front
-    (ap width c.requires.kind ∙ c.requires.width) c.bulk.ensures.size c.bulk.ensures.numbers)
+    (chunks_long g.row.W x c.in_ok-bytes.bytes.now a c.as_chunks.ensures.front
+    (ap width c.requires.kind ∙ c.requires.width) c.in_ok-bytes.ensures.size
+    c.in_ok-bytes.ensures.numbers)
     c.requires.above
     (lane_known p x a c.kind-kind.ensures.whole c.requires.kind numbers c.len.ensures.fits)
     (c.in_ok-lane.ensures.lane

@@ -23,11 +23,11 @@ returns g c =
     let x = c.as_chunks.result.0.now in
     let first : map f c.new-first.result.groups.now ≡ c.args.a.now.items =
     ap (λ (gs : List (List ℕ)). map f gs) c.new-first.ensures
-    ∙ chunks_numbers 8 kind.I64 c.args.a.now c.bulk.result.now x c.as_chunks.ensures.front
-    c.requires refl c.bulk.ensures.size c.bulk.ensures.numbers in
+    ∙ chunks_numbers 8 kind.I64 c.args.a.now c.in_ok-bytes.bytes.now x c.as_chunks.ensures.front
+    c.requires refl c.in_ok-bytes.ensures.size c.in_ok-bytes.ensures.numbers in
     let many : length x ≡ length c.args.a.now.items =
-    chunks_long 8 c.args.a.now c.bulk.result.now x c.as_chunks.ensures.front
-    (ap width c.requires) c.bulk.ensures.size c.bulk.ensures.numbers in
+    chunks_long 8 c.args.a.now c.in_ok-bytes.bytes.now x c.as_chunks.ensures.front
+    (ap width c.requires) c.in_ok-bytes.ensures.size c.in_ok-bytes.ensures.numbers in
     subst (λ n. IfOk r (λ o. IfSome o
     (AreCalculated op prim.I64 c.args.a.now.items (replicate n c.args.y)))) many
     (subst (λ y. IfOk r (λ o. IfSome o

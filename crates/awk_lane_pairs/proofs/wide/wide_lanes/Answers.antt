@@ -17,13 +17,13 @@ pub wide_rows-requires-clause-second : goal.wide_rows-requires-clause-second
 wide_rows-requires-clause-second g c =
     ap (λ (gs : List (List ℕ)). length (map (number kind.I64) gs)) c.new-second.ensures
     ∙ length-map c.as_chunks-2.result.0.now (number kind.I64)
-    ∙ chunks_long 8 c.args.b.now c.bulk-2.result.now c.as_chunks-2.result.0.now
-    c.as_chunks-2.ensures.front (ap width c.requires.second) c.bulk-2.ensures.size
-    c.bulk-2.ensures.numbers
+    ∙ chunks_long 8 c.args.b.now c.in_ok-others.others.now c.as_chunks-2.result.0.now
+    c.as_chunks-2.ensures.front (ap width c.requires.second) c.in_ok-others.ensures.size
+    c.in_ok-others.ensures.numbers
     ∙ c.requires.size
-    ∙ sym (chunks_long 8 c.args.a.now c.bulk.result.now c.as_chunks.result.0.now
-    c.as_chunks.ensures.front (ap width c.requires.first) c.bulk.ensures.size
-    c.bulk.ensures.numbers)
+    ∙ sym (chunks_long 8 c.args.a.now c.in_ok-ones.ones.now c.as_chunks.result.0.now
+    c.as_chunks.ensures.front (ap width c.requires.first) c.in_ok-ones.ensures.size
+    c.in_ok-ones.ensures.numbers)
 
 pub returns : goal.returns
 returns g c =
@@ -32,13 +32,14 @@ returns g c =
     let f : List ℕ → ℤ = number kind.I64 in
     let first : map f c.new-first.result.groups.now ≡ c.args.a.now.items =
     ap (λ (gs : List (List ℕ)). map f gs) c.new-first.ensures
-    ∙ chunks_numbers 8 kind.I64 c.args.a.now c.bulk.result.now c.as_chunks.result.0.now
-    c.as_chunks.ensures.front c.requires.first refl c.bulk.ensures.size c.bulk.ensures.numbers in
+    ∙ chunks_numbers 8 kind.I64 c.args.a.now c.in_ok-ones.ones.now c.as_chunks.result.0.now
+    c.as_chunks.ensures.front c.requires.first refl c.in_ok-ones.ensures.size
+    c.in_ok-ones.ensures.numbers in
     let second : map f c.new-second.result.groups.now ≡ c.args.b.now.items =
     ap (λ (gs : List (List ℕ)). map f gs) c.new-second.ensures
-    ∙ chunks_numbers 8 kind.I64 c.args.b.now c.bulk-2.result.now c.as_chunks-2.result.0.now
-    c.as_chunks-2.ensures.front c.requires.second refl c.bulk-2.ensures.size
-    c.bulk-2.ensures.numbers in
+    ∙ chunks_numbers 8 kind.I64 c.args.b.now c.in_ok-others.others.now c.as_chunks-2.result.0.now
+    c.as_chunks-2.ensures.front c.requires.second refl c.in_ok-others.ensures.size
+    c.in_ok-others.ensures.numbers in
     subst (λ xs. IfOk r (λ o. IfSome o (AreCalculated op prim.I64 xs c.args.b.now.items))) first
     (subst (λ ys. IfOk r (λ o. IfSome o
     (AreCalculated op prim.I64 (map f c.new-first.result.groups.now) ys))) second

@@ -8,5 +8,5 @@ pub returns : goal.returns
 returns g c =
     ap (λ zs. record { kind = c.args.kind; items = zs })
     (ap (map (number I64)) c.as_chunks.ensures.front
-    ∙ numbers-groups c.args.lane.now c.bulk.result.now c.requires.wide c.bulk.ensures.size
-    c.bulk.ensures.numbers)
+    ∙ numbers-groups c.args.lane.now c.in_ok-bytes.bytes.now c.requires.wide
+    c.in_ok-bytes.ensures.size c.in_ok-bytes.ensures.numbers)

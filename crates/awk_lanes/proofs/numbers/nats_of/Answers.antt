@@ -1,19 +1,38 @@
--- The unsigned numbers of the groups of bytes are the lane's.
-use Rattle.std.proofs.Common.{◌≡◌, length, map, ◌/◌, List, ℕ, ap, ◌∙◌}
-use Rattle.std.proofs.lemmas.Result.{IfOk-weaker}
-use Rattle.std.specs.Simd.{first_chunks}
-use Rattle.awk_lanes.specs.Numbers.{width}
-use Rattle.awk_lanes.specs.Words.{integers, unsigned}
-use Rattle.awk_lanes.proofs.WordLaws.{integers-unsigned}
+-- The numbers are those that the lane holds.
+use Rattle.std.proofs.Common.{◌≡◌, ◌+◌, ap, sym, subst, ◌∙◌}
+use Rattle.std.specs.Prelude.{IfOk}
+use Rattle.awk_lanes.specs.Column.{Column}
+use Rattle.awk_lanes.specs.Places.{size_of}
+use Rattle.awk_lanes.specs.Words.{integers, HasNats}
+use Rattle.awk_lanes.proofs.RunLaws.{seen_bytes, seen_run}
 use Rattle.awk_lanes.proofs.numbers.nats_of.Goals as goal
 
-pub returns-clause-numbers : goal.returns-clause-numbers
-returns-clause-numbers g c =
-    let ns : List ℕ = map (unsigned c.kind.result)
-    (first_chunks (width c.kind.result) (length c.bulk.result.now / width c.kind.result)
-    c.bulk.result.now) in
-    let all : integers ns ≡ c.args.lane.now.items = rw c.kind.ensures
-    (integers-unsigned _ _ _ _ c.bulk.ensures.size c.bulk.ensures.numbers c.requires) in
-    IfOk-weaker c.nats_in.result (λ v. v.items ≡ ns)
-    (λ v. integers v.items ≡ c.args.lane.now.items) (λ v e. ap integers e ∙ all)
-    c.nats_in.ensures
+pub nats_by_bytes-requires : goal.nats_by_bytes-requires
+nats_by_bytes-requires g c =
+    subst (λ (v : Column). HasNats v.kind v.items)
+    (sym (seen_bytes _ c.in-Bytes.bytes c.args.lane.now c.in-Bytes.is c.held.ensures)) c.requires
+
+pub nats-requires : goal.nats-requires
+nats-requires g c =
+    subst (λ (v : Column). HasNats v.kind v.items)
+    (sym (seen_run _ c.in-Run.places c.args.lane.now c.in-Run.is c.held.ensures)) c.requires
+
+pub returns-in-Bytes : goal.returns-in-Bytes
+returns-in-Bytes g c =
+    let same = seen_bytes _ c.in-Bytes.bytes c.args.lane.now c.in-Bytes.is c.held.ensures in
+    record {
+      numbers = subst (λ (v : Column). IfOk c.nats_by_bytes.result (λ x. integers x.items ≡
+          v.items)) same
+          c.nats_by_bytes.ensures.numbers;
+      cost = c.nats_by_bytes.ensures.cost ∙ ap (λ (v : Column). c.args.steps.now + size_of v) same;
+    }
+
+pub returns-in-Run : goal.returns-in-Run
+returns-in-Run g c =
+    let same = seen_run _ c.in-Run.places c.args.lane.now c.in-Run.is c.held.ensures in
+    record {
+      numbers = subst (λ (v : Column). IfOk c.nats.result (λ x. integers x.items ≡ v.items)) same
+          c.nats.ensures;
+      cost = c.add.ensures ∙ ap (λ n. c.args.steps.now + n)
+          (c.len.ensures.len ∙ ap (λ (v : Column). size_of v) same);
+    }

@@ -17,8 +17,14 @@ returns-in-None g c =
     c.requires.class in
     local_spoilt l.starts l.stops l.content (omega (arith, t, n))
 
-pub places_of-requires-clause-total : goal.places_of-requires-clause-total
-places_of-requires-clause-total g c =
+pub local_items-requires-clause-few : goal.local_items-requires-clause-few
+local_items-requires-clause-few g c =
+    let t : IsEvenTotal (size_of c.args.lists.now.starts) c.args.size (Some c.in-Some.total) =
+    rw (c.in-Some.is, c.len-n.ensures.len) at c.even_total.ensures in
+    t.1
+
+pub local_items-requires-clause-total : goal.local_items-requires-clause-total
+local_items-requires-clause-total g c =
     let l = c.args.lists.now in
     let t : IsEvenTotal (size_of l.starts) c.args.size (Some c.in-Some.total) =
     rw (c.in-Some.is, c.len-n.ensures.len) at c.even_total.ensures in

@@ -18,6 +18,18 @@ returns-in-None g c =
     at c.in_ok-offsets_within.ensures in
     local_spoilt c.args.lists.now.starts c.args.lists.now.stops c.args.lists.now.content t
 
+pub local_items-requires-clause-few : goal.local_items-requires-clause-few
+local_items-requires-clause-few g c =
+    let m : ℕ → ℕ = span_length c.args.lists.now.starts c.args.lists.now.stops in
+    let t : AreOffsetsBy item_limit m (size_of c.args.lists.now.starts) (Some c.in-Some.offsets) =
+    rw (
+      c.in-Some.is,
+      c.in_ok-bounds.ensures,
+      c.len-n.ensures.len,
+    )
+    at c.in_ok-offsets_within.ensures in
+    omega (arith, t.0, t.1)
+
 pub numpy-requires : goal.numpy-requires
 numpy-requires g c =
     let m : ℕ → ℕ = span_length c.args.lists.now.starts c.args.lists.now.stops in

@@ -9,5 +9,7 @@ loop-i-preserved g c =
     (take (c.loop-i.i + 1) (sides_of c.args.sides.now))))
     (sym c.in_ok-extend_from_slice.ensures.items)
     (bytes_next c.args.kind (sides_of c.args.sides.now) c.loop-i.i (side_of c.get.result.now)
-    c.in_ok-lane.lane c.loop-i.bytes.items c.bulk.result.now c.get.ensures c.in_ok-lane.ensures.kind
-    c.in_ok-lane.ensures.values c.bulk.ensures.numbers c.bulk.ensures.size c.loop-i.invariant)
+    c.in_ok-lane.lane c.loop-i.bytes.items c.in_ok-moved.moved.now c.get.ensures
+    c.in_ok-lane.ensures.kind
+    c.in_ok-lane.ensures.values c.in_ok-moved.ensures.numbers c.in_ok-moved.ensures.size
+    c.loop-i.invariant)

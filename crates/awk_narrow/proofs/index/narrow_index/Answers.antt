@@ -8,6 +8,7 @@ pub returns : goal.returns
 returns g c =
     ap (λ zs. record { kind = I32; items = zs })
     (ap (map (number I32)) c.as_chunks.ensures.front
-    ∙ numbers-groups c.args.lane.now c.bulk.result.now c.requires c.bulk.ensures.size
-    c.bulk.ensures.numbers)
+    ∙ numbers-groups c.args.lane.now c.narrow_bytes.result.now c.requires
+    c.narrow_bytes.ensures.size
+    c.narrow_bytes.ensures.numbers)
     ∙ ap (λ k. record { kind = k; items = c.args.lane.now.items }) (sym c.requires)

@@ -1,12 +1,17 @@
-use Rattle.std.proofs.Common.{ap, sym, ◌∙◌, subst, length, get_or, []}
+use Rattle.std.proofs.Common.{◌≡◌, ap, sym, ◌∙◌, subst, length, get_or, []}
 use Rattle.awk_lanes.specs.Numbers.{number}
-use Rattle.awk_lanes.specs.declared.kind.Kind.TheVariants.{I8}
+use Rattle.awk_lanes.specs.declared.kind.Kind.TheVariants.{I8, I64}
 use Rattle.awk_layout.specs.Layout.{byte_masked}
 use Rattle.awk_layout.specs.Valid.{IsValid}
 use Rattle.awk_nullable.specs.Masks.{byte_place}
 use Rattle.awk_nullable_lists.specs.Nullable.{AreLeaves}
 use Rattle.awk_nullable_lists.proofs.NullableLaws.{byte_leaves, mask_groups}
 use Rattle.awk_nullable_lists.proofs.opening.by_bytes.Goals as goal
+
+pub narrow_bytes-requires : goal.narrow_bytes-requires
+narrow_bytes-requires g c e =
+    let clash : I8 ≡ I64 = sym c.requires.1.kind ∙ e in
+    cc
 
 pub returns-in-Some : goal.returns-in-Some
 returns-in-Some g c =
@@ -16,8 +21,8 @@ returns-in-Some g c =
     let gs = c.as_chunks.result.0.now in
     let front = c.as_chunks.ensures.front in
     let valid = subst (λ y. IsValid (byte_masked m v y)) c.in-Some.ensures c.requires in
-    let groups = mask_groups m c.bulk.result.now valid.1.kind c.bulk.ensures.size
-    c.bulk.ensures.numbers in
+    let groups = mask_groups m c.narrow_bytes.result.now valid.1.kind c.narrow_bytes.ensures.size
+    c.narrow_bytes.ensures.numbers in
     subst (λ y. AreLeaves (byte_masked m v y) (byte_place gs v) (length gs) lane)
     (sym c.in-Some.ensures)
     (byte_leaves lane m v gs valid (ap length front ∙ groups.0)

@@ -7,16 +7,12 @@ use Rattle.awk_padding.specs.Lanes.{padded_span, padded_lane}
 use Rattle.awk_padding.proofs.PadGiven.{padded_index, padded_over}
 use Rattle.awk_padding.proofs.padded.wide_items.Goals as goal
 
-pub places_of-requires-clause-total : goal.places_of-requires-clause-total
-places_of-requires-clause-total g c = rw c.len-n.ensures.len c.requires.total
-
 pub option_over-requires-clause-places : goal.option_over-requires-clause-places
 option_over-requires-clause-places g c =
     let p = c.args.padded.now.padding in
     let l = c.args.padded.now.lists.now in
     rw (
       c.in_ok-places.ensures,
-      c.len-n.ensures.len,
       c.node.ensures,
       c.content-content.ensures.content,
     )
@@ -32,7 +28,6 @@ returns g c =
     c.in_ok-items.items =
     rw (
       c.in_ok-places.ensures,
-      c.len-n.ensures.len,
       c.node.ensures,
       c.content-content.ensures.content,
     )

@@ -7,5 +7,5 @@ use Rattle.awk_parts.proofs.parts.groups_of.Goals as goal
 pub returns : goal.returns
 returns g c =
     ap (map (number Kind.I64)) c.as_chunks.ensures.front
-    ∙ numbers-groups c.args.lane.now c.bulk.result.now c.requires c.bulk.ensures.size
-    c.bulk.ensures.numbers
+    ∙ numbers-groups c.args.lane.now c.in_ok-bytes.bytes.now c.requires c.in_ok-bytes.ensures.size
+    c.in_ok-bytes.ensures.numbers

@@ -15,6 +15,7 @@ returns-in-Ok g c =
     let rs = g.S.Blocks.results c.args.source.now in
     let k = g.S.Blocks.kind c.args.source.now in
     subst (IsSoFar rs k c.args.hi) (sym c.in_ok-extend_from_slice-in-Ok.ensures.items)
-    (more_so_far rs k c.args.lo c.args.hi c.args.bytes.now.items c.bulk.result.now c.in-Ok.lane
+    (more_so_far rs k c.args.lo c.args.hi c.args.bytes.now.items c.in_ok-block-in-Ok.block.now
+    c.in-Ok.lane
     c.requires.order c.requires.within c.requires.before c.in-Ok.ensures.kind
-    c.in-Ok.ensures.answer c.bulk.ensures.numbers c.bulk.ensures.size)
+    c.in-Ok.ensures.answer c.in_ok-block-in-Ok.ensures.numbers c.in_ok-block-in-Ok.ensures.size)

@@ -15,19 +15,20 @@ pub groups_named-requires : goal.groups_named-requires
 groups_named-requires g c =
     let small : width c.args.lane.now.kind ≤ 8 = width-small c.args.lane.now.kind in
     let count : length c.as_chunks.result.0.now ≡ size_of c.args.lane.now =
-    ap length {y = first_chunks g.row.W (length c.bulk.result.now / g.row.W) c.bulk.result.now}
+    ap length {y = first_chunks g.row.W (length c.in_ok-bytes.bytes.now / g.row.W)
+    c.in_ok-bytes.bytes.now}
     c.as_chunks.ensures.front
-    ∙ groups-count c.args.lane.now c.bulk.result.now g.row.W c.requires.kind c.requires.width
-    c.requires.some c.bulk.ensures.size c.bulk.ensures.numbers in
+    ∙ groups-count c.args.lane.now c.in_ok-bytes.bytes.now g.row.W c.requires.kind c.requires.width
+    c.requires.some c.in_ok-bytes.ensures.size c.in_ok-bytes.ensures.numbers in
     let within : ArePlacesOf (size_of c.args.lane.now) c.as_chunks-2.result.0.now =
     subst (ArePlacesOf (size_of c.args.lane.now)) (sym c.as_chunks-2.ensures.front)
-    (places_within c.args.index.now c.bulk-2.result.now c.requires.wide c.bulk-2.ensures.size
-    c.bulk-2.ensures.numbers (size_of c.args.lane.now) c.requires.index) in
+    (places_within c.args.index.now c.in_ok-rows.rows.now c.requires.wide c.in_ok-rows.ensures.size
+    c.in_ok-rows.ensures.numbers (size_of c.args.lane.now) c.requires.index) in
     let places : length (named_places c.as_chunks-2.result.0.now)
     ≡ length (first_of (present_at c.args.index.now) (size_of c.args.index.now)) =
     ap (λ ps. length (named_places ps)) c.as_chunks-2.ensures.front
-    ∙ ap length (named_same c.args.index.now c.bulk-2.result.now c.requires.wide
-    c.bulk-2.ensures.size c.bulk-2.ensures.numbers) in (
+    ∙ ap length (named_same c.args.index.now c.in_ok-rows.rows.now c.requires.wide
+    c.in_ok-rows.ensures.size c.in_ok-rows.ensures.numbers) in (
       omega (arith, c.requires.width, small),
       (
         subst (λ n. ArePlacesOf n c.as_chunks-2.result.0.now) (sym count) within,
@@ -42,10 +43,10 @@ returns g c =
     let named = c.in_ok-named.ensures
     ∙ ap₂ (λ gs ks. map (λ k. get_or gs k []) ks) c.as_chunks.ensures.front
     (ap named_places c.as_chunks-2.ensures.front
-    ∙ named_same index c.bulk-2.result.now c.requires.wide c.bulk-2.ensures.size
-    c.bulk-2.ensures.numbers) in
-    let items = numbers-named lane c.bulk.result.now g.row.W c.requires.kind c.requires.width
-    c.requires.some c.bulk.ensures.size c.bulk.ensures.numbers
+    ∙ named_same index c.in_ok-rows.rows.now c.requires.wide c.in_ok-rows.ensures.size
+    c.in_ok-rows.ensures.numbers) in
+    let items = numbers-named lane c.in_ok-bytes.bytes.now g.row.W c.requires.kind c.requires.width
+    c.requires.some c.in_ok-bytes.ensures.size c.in_ok-bytes.ensures.numbers
     (first_of (present_at index) (size_of index))
     (option_below index (size_of lane) c.requires.index) c.as_flattened.result.now
     c.in_ok-named.named.now named c.as_flattened.ensures.value c.as_flattened.ensures.len in

@@ -18,8 +18,8 @@ present_offsets-requires-clause-parts g c =
     let x = c.args.items.now in
     let opens : IsOpened x (opened.Option c.in-Option.index c.in-Option.content) =
     subst (IsOpened x) c.in-Option.is c.in_ok-index.ensures in
-    let count : length (whole_numbers c.whole_of-whole.result) ≡ length (array_items x) =
-    ap length c.whole_of-whole.ensures.numbers
+    let count : length (whole_numbers c.in_ok-whole-in-Option.whole) ≡ length (array_items x) =
+    ap length c.in_ok-whole-in-Option.ensures.numbers
     ∙ index-count c.in-Option.index c.in_ok-leaves-in-Option.leaves x c.in-Option.content opens
     c.in_ok-leaves-in-Option.ensures in
     record {
@@ -42,7 +42,7 @@ numbers_at-requires-clause-count g c =
     subst (IsOpened x) c.in-Option.is c.in_ok-index.ensures in
     c.in_ok-starts-in-Option.ensures.0
     ∙ ap (λ js. before (present_in js c.args.offsets.now) c.args.count)
-    c.whole_of-whole.ensures.numbers
+    c.in_ok-whole-in-Option.ensures.numbers
     ∙ total c.in-Option.index c.in_ok-leaves-in-Option.leaves x c.in-Option.content opens
     c.in_ok-leaves-in-Option.ensures c.args.offsets.now c.args.count c.requires.rising
     c.requires.first c.requires.last
@@ -60,7 +60,7 @@ returns g c =
     c.in_ok-lane-in-Option.ensures
     (c.in_ok-starts-in-Option.ensures.1
     ∙ ap (λ js. offsets_by (present_in js c.args.offsets.now) c.args.count)
-    c.whole_of-whole.ensures.numbers)
+    c.in_ok-whole-in-Option.ensures.numbers)
     leaves
 
 pub unreachable-requires : goal.unreachable-requires

@@ -12,7 +12,7 @@ use Rattle.awk_reduce.proofs.extremes.extreme_indexes.Goals as goal
 pub indexed-requires-clause-length : goal.indexed-requires-clause-length
 indexed-requires-clause-length g c =
     let p = c.args.x.now.spans.now in
-    let zs = whole_numbers c.whole_of-numbers.result in
+    let zs = whole_numbers c.in_ok-numbers.numbers in
     omega (
       arith,
       size-made c.in_ok-index.index I64 (span_count p) (present_at zs p) c.in_ok-index.ensures,
@@ -25,7 +25,7 @@ indexed-requires-clause-size g c =
     omega (
       arith,
       size-made c.in_ok-places.places I64 (span_count x.spans.now)
-          (local_at c.args.how (whole_numbers c.whole_of-numbers.result) x.spans.now)
+          (local_at c.args.how (whole_numbers c.in_ok-numbers.numbers) x.spans.now)
           c.in_ok-places.ensures,
       c.requires.fits,
     )
@@ -33,7 +33,7 @@ indexed-requires-clause-size g c =
 pub indexed-requires-clause-valid : goal.indexed-requires-clause-valid
 indexed-requires-clause-valid g c =
     let x = c.args.x.now in
-    let zs = whole_numbers c.whole_of-numbers.result in
+    let zs = whole_numbers c.in_ok-numbers.numbers in
     let n = size_of c.in_ok-places.places in
     subst (λ j. IsOptionalIndex j n) (sym c.in_ok-index.ensures)
     (index_valid (span_count x.spans.now) n (λ i. some_place (span_part zs x.spans.now i))
@@ -48,7 +48,7 @@ returns g c =
     c.in_ok-places.places
     (c.in_ok-places.ensures
     ∙ ap (λ zs. lane_of I64 (span_count p) (local_at c.args.how zs p))
-    c.whole_of-numbers.ensures.numbers)
+    c.in_ok-numbers.ensures.numbers)
     (c.in_ok-index.ensures
-    ∙ ap (λ zs. lane_of I64 (span_count p) (present_at zs p)) c.whole_of-numbers.ensures.numbers)
+    ∙ ap (λ zs. lane_of I64 (span_count p) (present_at zs p)) c.in_ok-numbers.ensures.numbers)
     c.in_ok-indexed.ensures

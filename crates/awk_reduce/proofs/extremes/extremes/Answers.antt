@@ -12,7 +12,7 @@ use Rattle.awk_reduce.proofs.extremes.extremes.Goals as goal
 pub indexed-requires-clause-length : goal.indexed-requires-clause-length
 indexed-requires-clause-length g c =
     let p = c.args.x.now.spans.now in
-    let zs = whole_numbers c.whole_of-numbers.result in
+    let zs = whole_numbers c.in_ok-numbers.numbers in
     omega (
       arith,
       size-made c.in_ok-index.index I64 (span_count p) (present_at zs p) c.in_ok-index.ensures,
@@ -33,7 +33,7 @@ indexed-requires-clause-size g c =
 pub indexed-requires-clause-valid : goal.indexed-requires-clause-valid
 indexed-requires-clause-valid g c =
     let x = c.args.x.now in
-    let zs = whole_numbers c.whole_of-numbers.result in
+    let zs = whole_numbers c.in_ok-numbers.numbers in
     let n = size_of c.in_ok-items.items in
     subst (λ j. IsOptionalIndex j n) (sym c.in_ok-index.ensures)
     (index_valid (span_count x.spans.now) n (λ i. some_place (span_part zs x.spans.now i))
@@ -47,5 +47,5 @@ returns g c =
     ready_extremes x c.requires c.args.how c.in_ok-indexed.field-0 c.in_ok-index.index
     c.in_ok-items.items c.in_ok-items.ensures
     (c.in_ok-index.ensures
-    ∙ ap (λ zs. lane_of I64 (span_count p) (present_at zs p)) c.whole_of-numbers.ensures.numbers)
+    ∙ ap (λ zs. lane_of I64 (span_count p) (present_at zs p)) c.in_ok-numbers.ensures.numbers)
     c.in_ok-indexed.ensures

@@ -3,10 +3,10 @@ use Rattle.awk_nullable_lists.specs.Nullable.{AreLeaves}
 use Rattle.awk_reduce.proofs.nullable.reduced_in.Goals as goal
 
 pub reduced_by-requires-clause-lane : goal.reduced_by-requires-clause-lane
-reduced_by-requires-clause-lane g c = sym c.wide_index-cells.ensures
+reduced_by-requires-clause-lane g c = sym c.in_ok-cells-in-I64.ensures
 
 pub reduced_by-requires-clause-leaves : goal.reduced_by-requires-clause-leaves
 reduced_by-requires-clause-leaves g c =
     let places = c.args.places.now in
     subst (AreLeaves c.args.bounds.now.content (g.P.Places.at places) (g.P.Places.size places))
-    (sym c.wide_index-cells.ensures) c.requires.leaves
+    (sym c.in_ok-cells-in-I64.ensures) c.requires.leaves

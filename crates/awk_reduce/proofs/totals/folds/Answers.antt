@@ -24,14 +24,14 @@ pub numpy-requires : goal.numpy-requires
 numpy-requires g c =
     let x = c.args.x.now in
     let fit = some_fits c.wide-prim.result
-    (folded_at c.args.how (whole_numbers c.whole_of-numbers.result) x.spans.now)
+    (folded_at c.args.how (whole_numbers c.in_ok-numbers.numbers) x.spans.now)
     (span_count x.spans.now)
     c.in_ok-lane.field-0 c.in-Some.lane c.in-Some.is c.in_ok-lane.ensures in
     omega (
       arith,
       ap size_of fit.1,
       size-lane_of (kind_of c.wide-prim.result) (span_count x.spans.now)
-          (folded_at c.args.how (whole_numbers c.whole_of-numbers.result) x.spans.now),
+          (folded_at c.args.how (whole_numbers c.in_ok-numbers.numbers) x.spans.now),
       c.requires.fits,
     )
 
@@ -46,9 +46,9 @@ returns-in-Some g c =
     (span_part (lane_numbers x.lane.now) x.spans.now) (ready_numbered x c.requires) c.args.how
     c.wide-prim.result c.in-Some.lane c.numpy.result prim
     (subst (λ zs. AreFitting c.wide-prim.result (folded_at c.args.how zs x.spans.now)
-    (span_count x.spans.now) (Some c.in-Some.lane)) c.whole_of-numbers.ensures.numbers
+    (span_count x.spans.now) (Some c.in-Some.lane)) c.in_ok-numbers.ensures.numbers
     (some_fits c.wide-prim.result
-    (folded_at c.args.how (whole_numbers c.whole_of-numbers.result) x.spans.now)
+    (folded_at c.args.how (whole_numbers c.in_ok-numbers.numbers) x.spans.now)
     (span_count x.spans.now)
     c.in_ok-lane.field-0 c.in-Some.lane c.in-Some.is c.in_ok-lane.ensures))
     c.numpy.ensures.node

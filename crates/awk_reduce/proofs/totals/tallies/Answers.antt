@@ -15,7 +15,7 @@ numpy-requires g c =
       arith,
       ap size_of c.in_ok-lane.ensures,
       size-lane_of (tally_kind c.args.how) (span_count x.spans.now)
-          (tallied_at c.args.how (whole_numbers c.whole_of-numbers.result) x.spans.now),
+          (tallied_at c.args.how (whole_numbers c.in_ok-numbers.numbers) x.spans.now),
       c.requires.fits,
     )
 
@@ -27,5 +27,5 @@ returns g c =
     c.in_ok-lane.lane c.numpy.result
     (c.in_ok-lane.ensures
     ∙ ap (λ zs. lane_of (tally_kind c.args.how) (span_count x.spans.now)
-    (tallied_at c.args.how zs x.spans.now)) c.whole_of-numbers.ensures.numbers)
+    (tallied_at c.args.how zs x.spans.now)) c.in_ok-numbers.ensures.numbers)
     c.numpy.ensures.node

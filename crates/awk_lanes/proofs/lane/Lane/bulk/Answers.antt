@@ -1,25 +1,36 @@
--- The bytes are known by the view, and the view by the bytes.
-use Rattle.std.proofs.Common.{sym, arith}
-use Rattle.awk_lanes.proofs.NumberParts.{opened, flat_map-numbers}
+use Rattle.std.proofs.Common.{ap, ◌∙◌, subst, ◌≡◌, ◌+◌, ◌*◌, length}
+use Rattle.std.specs.List.{flat_map}
+use Rattle.std.specs.Prelude.{IfOk}
+use Rattle.awk_lanes.specs.Column.{Column}
+use Rattle.awk_lanes.specs.Numbers.{width, numbers, bytes_of}
+use Rattle.awk_lanes.specs.Places.{size_of}
+use Rattle.awk_lanes.proofs.RunLaws.{seen_bytes, seen_run}
 use Rattle.awk_lanes.proofs.lane.Lane.bulk.Goals as goal
 
-pub returns-clause-numbers : goal.returns-clause-numbers
-returns-clause-numbers g c =
-    let o = opened _ _ _ _ c.self.view_is in
-    rw (← o.kind, ← o.count) o.items
+pub returns-in-Bytes : goal.returns-in-Bytes
+returns-in-Bytes g c =
+    let same = seen_bytes _ c.in-Bytes.lane c.args.self.now c.in-Bytes.is c.self.view_is in
+    let b = c.bulk.result.now in
+    record {
+      numbers = subst (λ (v : Column). numbers v.kind (size_of v) b ≡ v.items) same
+          c.bulk.ensures.numbers;
+      size = subst (λ (v : Column). length b ≡ size_of v * width v.kind) same c.bulk.ensures.size;
+      bytes = subst (λ (v : Column). b ≡ flat_map (bytes_of v.kind) v.items) same
+          c.bulk.ensures.bytes;
+      cost = c.bulk.ensures.cost ∙ ap (λ (v : Column). c.args.steps.now + size_of v) same;
+    }
 
-pub returns-clause-size : goal.returns-clause-size
-returns-clause-size g c =
-    let o = opened _ _ _ _ c.self.view_is in
-    rw (← o.kind, ← o.count) (sym c.self.invariant.0)
-
-pub returns-clause-cost : goal.returns-clause-cost
-returns-clause-cost g c =
-    let o = opened _ _ _ _ c.self.view_is in
-    omega arith
-
-pub returns-clause-bytes : goal.returns-clause-bytes
-returns-clause-bytes g c =
-    let o = opened _ _ _ _ c.self.view_is in
-    rw (← o.kind, ← o.items) (sym (flat_map-numbers c.self.inside.kind c.self.inside.count
-    c.self.inside.bytes.now c.self.invariant.0 c.self.invariant.1))
+pub returns-in-Run : goal.returns-in-Run
+returns-in-Run g c =
+    let same = seen_run _ c.in-Run.places c.args.self.now c.in-Run.is c.self.view_is in
+    let r = c.bytes.result in
+    record {
+      numbers = subst (λ (v : Column). IfOk r (λ b.
+          numbers v.kind (size_of v) b.now ≡ v.items)) same c.bytes.ensures.numbers;
+      size = subst (λ (v : Column). IfOk r (λ b.
+          length b.now ≡ size_of v * width v.kind)) same c.bytes.ensures.size;
+      bytes = subst (λ (v : Column). IfOk r (λ b.
+          b.now ≡ flat_map (bytes_of v.kind) v.items)) same c.bytes.ensures.bytes;
+      cost = c.add.ensures ∙ ap (λ n. c.args.steps.now + n)
+          (c.len.ensures.len ∙ ap (λ (v : Column). size_of v) same);
+    }

@@ -1,6 +1,6 @@
 use Rattle.awk_counts.specs.Counted.{first_of, numbers_at, span_at}
 use Rattle.awk_columns.proofs.MovedNumbers.{AreBytesOf}
-use Rattle.awk_columns.proofs.moved.moved_numbers.Given as goal
+use Rattle.awk_columns.proofs.moved.moved_bytes.Given as goal
 
 abbrev pub invariant-loop-i : goal.invariant-loop-i
 invariant-loop-i g l =

@@ -1,0 +1,14 @@
+use Rattle.std.proofs.Common.{ap, ◌∙◌}
+use Rattle.awk_lanes.specs.Column.{Column}
+use Rattle.awk_lanes.proofs.RunLaws.{seen_bytes, seen_run}
+use Rattle.awk_lanes.proofs.lane.Lane.kind.Goals as goal
+
+pub returns-in-Bytes : goal.returns-in-Bytes
+returns-in-Bytes c =
+    c.kind.ensures ∙ ap (λ (v : Column). v.kind)
+    (seen_bytes _ c.in-Bytes.lane c.args.self.now c.in-Bytes.is c.self.view_is)
+
+pub returns-in-Run : goal.returns-in-Run
+returns-in-Run c =
+    c.kind-in-Run.ensures.value ∙ ap (λ (v : Column). v.kind)
+    (seen_run _ c.in-Run.places c.args.self.now c.in-Run.is c.self.view_is)

@@ -1,0 +1,12 @@
+use Rattle.std.proofs.Common.{◌≡◌, map}
+use Rattle.std.specs.List.{range_with_len}
+use Rattle.std.specs.Prelude.{vec_len, vec_capacity}
+use Rattle.awk_lanes.specs.Runs.{run_at}
+use Rattle.awk_lanes.proofs.run.run_numbers.Given as goal
+
+abbrev pub invariant-loop-i : goal.invariant-loop-i
+invariant-loop-i l = record {
+  count : vec_len l.numbers ≡ l.i;
+  room : vec_capacity l.numbers ≡ l.n;
+  items : l.numbers.items ≡ map (run_at l.first l.count) (range_with_len 0 l.i);
+}
