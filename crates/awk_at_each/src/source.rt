@@ -1,7 +1,8 @@
 //! What stands at the places of a content.
 ghost use Rattle.std.specs.Prelude.{◌≡◌};
 
-use awk_lanes::{Index, Num, number};
+use awk_index::Index;
+use awk_lanes::{Num, number};
 
 /// Numbers of 64 bits by the places of a content.
 pub(crate) trait AtPlaces {

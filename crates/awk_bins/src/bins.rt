@@ -13,9 +13,8 @@ use crate::edges::{Edges, near_edges};
 use crate::even::even_edges;
 use crate::number::Number;
 use crate::tallies::tally_row;
-use awk_lanes::{
-    Arena, Index, IndexMaker, Kind, Lane, NoMemory, Steps, index_of, nats_of, number, numbers_of,
-};
+use awk_index::{Index, index_of, nats_of, numbers_of};
+use awk_lanes::{Arena, IndexMaker, Kind, Lane, NoMemory, Steps, number};
 use awk_numbers::{Whole, whole_of};
 use awk_parts::offset_at;
 use std::alloc::{AllocError, Global};

@@ -6,7 +6,8 @@ ghost use Rattle.awk_columns.specs.Lists.{AreLists, span_length};
 
 use crate::lists::Lists;
 use crate::spans::Span;
-use awk_lanes::{Arena, Index, Lengths, NoMemory, Steps, index_of, to_option_place};
+use awk_index::{Index, index_of};
+use awk_lanes::{Arena, Lengths, NoMemory, Steps, to_option_place};
 use awk_layout::Array;
 use std::alloc::Global;
 use std::marker::Model;

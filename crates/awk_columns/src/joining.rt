@@ -13,7 +13,8 @@ ghost use Rattle.awk_columns.specs.Reached.{IsReached};
 
 use crate::moved::scattered;
 use crate::spans::{Ends, row_start, total};
-use awk_lanes::{Arena, Index, Lane, Steps, index_of, offsets_within};
+use awk_index::{Index, index_of};
+use awk_lanes::{Arena, Lane, Steps, offsets_within};
 use awk_layout::Array;
 use awk_range::range;
 use awk_types::{Fault, ITEM_LIMIT, NoMemory};

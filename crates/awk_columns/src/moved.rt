@@ -9,7 +9,8 @@ ghost use Rattle.awk_columns.specs.Reached.{IsReached};
 
 use crate::spans::{span_lane, span_of};
 use awk_gather::gather;
-use awk_lanes::{Arena, ByteLane, Index, Lane, NoMemory, Steps};
+use awk_index::Index;
+use awk_lanes::{Arena, ByteLane, Lane, NoMemory, Steps};
 use awk_layout::{Array, Class, Node};
 use awk_types::copy_type;
 use bumpalo::collections::into_bump_slice;

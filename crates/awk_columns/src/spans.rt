@@ -5,7 +5,8 @@ ghost use Rattle.awk_lanes.specs.Places.{size_of, AreSpans};
 ghost use Rattle.awk_counts.specs.Counted.{places_lane, span_at, spans, IsRow, IsTotal};
 ghost use Rattle.awk_columns.specs.Lists.{span_length};
 
-use awk_lanes::{Arena, Index, IndexMaker, Lane, Lengths, NoMemory, Steps, number, to_place};
+use awk_index::Index;
+use awk_lanes::{Arena, IndexMaker, Lane, Lengths, NoMemory, Steps, number, to_place};
 use std::sync::ledger::Ledger;
 
 /// Where a list lies in the content: its items begin at a place, and are so many.

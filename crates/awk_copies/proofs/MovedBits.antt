@@ -5,8 +5,8 @@ use Rattle.std.proofs.Common.{arith}
 use Rattle.std.specs.List.{range_with_len}
 use Rattle.std.proofs.lemmas.List.{ext_get_or}
 use Rattle.std.proofs.lemmas.List.FromFn.{get_or-map-range_with_len, length-map-range_with_len}
-use Rattle.awk_lanes.specs.Bits.{bit, bits}
-use Rattle.awk_lanes.proofs.BitParts.{length-bits, get_or-bits}
+use Rattle.awk_bits.specs.Bits.{bit, bits}
+use Rattle.awk_bits.proofs.BitParts.{length-bits, get_or-bits}
 use Rattle.awk_copies.specs.Moved.{one_if, eight}
 
 at_most_one : (b : Bool) → one_if b ≤ 1

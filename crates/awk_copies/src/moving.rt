@@ -2,7 +2,8 @@
 ghost use Rattle.std.specs.Prelude.{◌≡◌, ◌+◌, ◌<◌, ◌^◌, length, get_or, false, IfOk};
 ghost use Rattle.awk_copies.specs.Moved.{one_if, eight};
 
-use awk_lanes::{Arena, Bits, Lane, Steps};
+use awk_bits::Bits;
+use awk_lanes::{Arena, Lane, Steps};
 use awk_layout::{Array, Class, Node, Nodes};
 use awk_types::{NoMemory, copy_names, copy_type};
 use bumpalo::collections::into_bump_slice;

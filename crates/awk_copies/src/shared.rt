@@ -2,7 +2,8 @@
 ghost use Rattle.std.specs.Prelude.{◌≡◌, ◌+◌, ◌≤◌, IfOk};
 ghost use Rattle.awk_layout.specs.Layout.{weight, weights, layouts_from};
 
-use awk_lanes::{Bits, Lane, Steps};
+use awk_bits::Bits;
+use awk_lanes::{Lane, Steps};
 use awk_layout::{Array, Class, Node, Nodes};
 use awk_types::{NoMemory, copy_names, copy_type};
 use std::alloc::Global;

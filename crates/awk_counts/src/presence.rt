@@ -5,9 +5,8 @@ ghost use Rattle.awk_counts.specs.Counted.{present_at};
 ghost use Rattle.awk_counts.specs.Present.{present_lane};
 
 use crate::present::one_if;
-use awk_lanes::{
-    Arena, Index, IndexMaker, Lane, NoMemory, Steps, index_of, number, option_place_in,
-};
+use awk_index::{Index, index_of};
+use awk_lanes::{Arena, IndexMaker, Lane, NoMemory, Steps, number, option_place_in};
 use std::alloc::Global;
 use std::sync::ledger::Ledger;
 

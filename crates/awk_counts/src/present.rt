@@ -6,7 +6,8 @@ ghost use Rattle.awk_lanes.specs.declared.kind.Kind.TheVariants as Kind;
 ghost use Rattle.awk_counts.specs.Counted.{first_of, places_lane, present_place, present_at};
 ghost use Rattle.awk_counts.specs.Counted.{count_or_null, counted_lane};
 
-use awk_lanes::{Arena, Index, IndexMaker, Lane, NoMemory, Num, number};
+use awk_index::Index;
+use awk_lanes::{Arena, IndexMaker, Lane, NoMemory, Num, number};
 
 /// 1 where there is a place, else 0.
 #[inline(always)]

@@ -4,7 +4,8 @@ ghost use Rattle.std.specs.Prelude.{◌≡◌, ◌<◌, IfOk};
 ghost use Rattle.serde_json.specs.View.{members_view};
 ghost use Rattle.awk_store.specs.Buffers.{HoldsTexts};
 
-use awk_lanes::{Arena, Bits, Kind, Lane, LaneMaker, Lanes, NoMemory, Steps};
+use awk_bits::Bits;
+use awk_lanes::{Arena, Kind, Lane, LaneMaker, Lanes, NoMemory, Steps};
 use awk_store::{BufferWhy, Room, Store, StoreFault};
 use serde_json::{Map, Value};
 use std::alloc::Global;

@@ -24,9 +24,8 @@ use crate::parts::parts_of;
 use awk_axis::lift_at;
 use awk_columns::{Joined, Lists};
 use awk_copies::array_in;
-use awk_lanes::{
-    Arena, Index, Kind, Lane, LaneMaker, Num, Numbers, Steps, index_of, made_lane, number,
-};
+use awk_index::{Index, index_of};
+use awk_lanes::{Arena, Kind, Lane, LaneMaker, Num, Numbers, Steps, made_lane, number};
 use awk_layout::{Array, Datum, Node, Operand, kind_of, number_of};
 use awk_list_ends::are_few;
 use awk_list_functions::{ListOp, Made, Refusal, Spoil};

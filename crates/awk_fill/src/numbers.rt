@@ -8,7 +8,8 @@ ghost use Rattle.awk_layout.specs.Valid.{len};
 ghost use Rattle.awk_fill.specs.Filled.{filled_lane, IsFirst, IsFilledOption};
 ghost use Rattle.awk_fill.specs.FillNone.{filler_type};
 
-use awk_lanes::{Arena, Index, Kind, Lane, Num, Numbers, Steps, index_of, made_lane};
+use awk_index::{Index, index_of};
+use awk_lanes::{Arena, Kind, Lane, Num, Numbers, Steps, made_lane};
 use awk_layout::{Array, Node, wide_numbers};
 use awk_narrow::{OptionIndex, narrow_index};
 use awk_types::NoMemory;

@@ -19,11 +19,12 @@ ghost use Rattle.awk_jagged_rows.specs.Rows.{AreAlike};
 
 use awk_columns::{Bounds, Lists};
 use awk_gather::{gather, gather_opt};
+use awk_index::{Index, index_of};
 use awk_jagged_places::{
     Beside, Kept, Taken, TakenNumbers, beside_lists, kept_lane, lengths_differ, put_lane,
     room_beside,
 };
-use awk_lanes::{Arena, Index, Kind, Lane, Offsets, Steps, index_of, offsets_within};
+use awk_lanes::{Arena, Kind, Lane, Offsets, Steps, offsets_within};
 use awk_layout::{Array, Class, Node, wide_numbers};
 use awk_select::{Cells, Sparse, Truths, Values, cells_of, is_mask, truths_of};
 use awk_types::{ITEM_LIMIT, NoMemory, is_optional};

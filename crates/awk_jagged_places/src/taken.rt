@@ -13,7 +13,8 @@ ghost use Rattle.awk_jagged_places.specs.Put.{IsGiven};
 use crate::places::Taken;
 use crate::put::NumberLists;
 use awk_columns::Span;
-use awk_lanes::{Index, IndexMaker, Num, Steps};
+use awk_index::Index;
+use awk_lanes::{IndexMaker, Num, Steps};
 use awk_select::{Named, Values};
 use std::sync::ledger::Ledger;
 

@@ -1,9 +1,8 @@
 -- The definitions at worked examples.
-use Rattle.std.proofs.Common.{◌≡◌, ℕ, zero, suc, ◌+◌, ◌-◌, ◌*◌, ◌^◌, [], ◌∷◌, refl, true, false}
+use Rattle.std.proofs.Common.{◌≡◌, ℕ, zero, suc, ◌+◌, ◌-◌, ◌*◌, ◌^◌, [], ◌∷◌, refl}
 use Rattle.std.specs.Prelude.{pos, negsuc, Some, None}
 use Rattle.awk_lanes.specs.declared.kind.Kind.TheVariants.{Bool as Truths, I8, I16, I32, I64, U8}
 use Rattle.awk_lanes.specs.declared.kind.Kind.TheVariants.{U16, U32, U64}
-use Rattle.awk_lanes.specs.Bits.{bits}
 use Rattle.awk_lanes.specs.Counted.{before, offsets_by, numbers_of_lists}
 use Rattle.awk_lanes.specs.Cut.{cut_of}
 use Rattle.awk_lanes.specs.Made.{lane_of}
@@ -73,20 +72,6 @@ no_place = refl
 
 a_place : option_place_at (record { kind = I32; items = pos 5 ∷ negsuc 0 ∷ [] }) 0 ≡ Some 5
 a_place = refl
-
--- ---- the bits of the bytes 0x42 and 0xA0, read both ways
-
-from_least : bits true (0x42 ∷ 0xA0 ∷ []) 0 16 ≡ false ∷ true ∷ false ∷ false ∷ false ∷ false ∷ true
-    ∷ false ∷ false ∷ false ∷ false ∷ false ∷ false ∷ true ∷ false ∷ true ∷ []
-from_least = refl
-
-from_most : bits false (0x42 ∷ 0xA0 ∷ []) 0 16 ≡ false ∷ true ∷ false ∷ false ∷ false ∷ false ∷ true
-    ∷ false ∷ true ∷ false ∷ true ∷ false ∷ false ∷ false ∷ false ∷ false ∷ []
-from_most = refl
-
--- four bits from the seventh on
-across_bytes : bits false (0x42 ∷ 0xA0 ∷ []) 6 4 ≡ true ∷ false ∷ true ∷ false ∷ []
-across_bytes = refl
 
 -- ---- made lanes
 

@@ -19,7 +19,7 @@ use std::sync::ledger::Ledger;
 
 /// How numbers are held: in bytes, or as places in order, which take none.
 #[derive(Drop)]
-pub(crate) enum Held<'a> {
+pub enum Held<'a> {
     Bytes(ByteLane<'a>),
     Run(Run),
 }
@@ -197,7 +197,7 @@ impl<'a> Lane<'a> {
     }
 
     /// How the numbers are held.
-    pub(crate) fn held(&self) -> &Held<'a>
+    pub fn held(&self) -> &Held<'a>
         ensures { held_column result.now ≡ self.now }
     {
         &self.held

@@ -20,7 +20,7 @@ use std::sync::ledger::Ledger;
 
 /// Numbers of i64: as many as `count` in order from the first on, and -1 past these.
 #[derive(Drop)]
-pub(crate) struct Run {
+pub struct Run {
     size: u64,
     first: u64,
     count: u64,
@@ -128,7 +128,7 @@ impl Run {
     }
 
     /// The kind of the numbers.
-    pub(crate) fn kind(&self) -> Kind
+    pub fn kind(&self) -> Kind
         ensures value { result ≡ self.now.kind }
         ensures wide { self.now.kind ≡ Kinds.I64 }
     {
@@ -137,7 +137,7 @@ impl Run {
     }
 
     /// How many numbers. Each is of 64 bits, and a u64 counts their bytes.
-    pub(crate) fn len(&self) -> u64
+    pub fn len(&self) -> u64
         ensures len { result ≡ size_of self.now }
         ensures fits { AreNumbers self.now }
         ensures small { result * width self.now.kind < 2 ^ 64 }
@@ -219,18 +219,26 @@ impl Run {
         Ok(groups.as_flattened())
     }
 
-    /// All numbers.
-    pub(crate) fn numbers(&self, alloc: Global) -> Result<Vec<i64>, NoMemory>
-        ensures { IfOk result (λ v. v.items ≡ self.now.items) }
+    /// All numbers, at a step for each.
+    pub fn numbers<L: Ledger>(
+        &self,
+        alloc: Global,
+        steps: &mut Steps<L>,
+    ) -> Result<Vec<i64>, NoMemory>
+        ensures numbers { IfOk result (λ v. v.items ≡ self.now.items) }
+        ensures cost { steps.new ≡ steps.old + size_of self.now }
     {
+        steps.add(self.size);
         run_numbers(alloc, self.size, self.first, self.count)
     }
 
-    /// All numbers, of which none is negative.
-    pub(crate) fn nats(&self, alloc: Global) -> Result<Vec<u64>, NoMemory>
+    /// All numbers, of which none is negative, at a step for each.
+    pub fn nats<L: Ledger>(&self, alloc: Global, steps: &mut Steps<L>) -> Result<Vec<u64>, NoMemory>
         requires { HasNats self.now.kind self.now.items }
-        ensures { IfOk result (λ v. integers v.items ≡ self.now.items) }
+        ensures numbers { IfOk result (λ v. integers v.items ≡ self.now.items) }
+        ensures cost { steps.new ≡ steps.old + size_of self.now }
     {
+        steps.add(self.size);
         run_nats(alloc, self.size, self.first, self.count)
     }
 }

@@ -8,7 +8,7 @@ use Rattle.awk_types.specs.DataType.{unknown, leaf, var, reg, rec, opt, uni, no_
 use Rattle.awk_types.specs.Value.{Values, int, truth, null, list, alt, no_values, value}
 use Rattle.awk_lanes.specs.declared.kind.Kind.TheVariants.{Bool as Truths, I8, I64}
 use Rattle.awk_lanes.specs.Column.{Column}
-use Rattle.awk_lanes.specs.Bits.{bits}
+use Rattle.awk_bits.specs.Bits.{bits}
 use Rattle.awk_lanes.specs.Places.{at}
 use Rattle.awk_layout.specs.Layout.{Layout, Layouts, contents_of, held, weight, weights, height}
 use Rattle.awk_layout.specs.Layout.{heights, empty, flat, regular, lists, offset_lists, rows}

@@ -3,7 +3,8 @@ ghost use Rattle.std.specs.Prelude.{◌≡◌, ◌<◌, ◌++◌, ◌∷◌, [],
 ghost use Rattle.awk_layout.specs.Numbered.{IsNumbered};
 ghost use Rattle.awk_layout.specs.Valid.{len, IsValid};
 
-use awk_lanes::{Bits, Lane};
+use awk_bits::Bits;
+use awk_lanes::Lane;
 use awk_types::{Names, NoMemory};
 use std::alloc::Global;
 use std::marker::Model;

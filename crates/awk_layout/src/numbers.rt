@@ -5,7 +5,8 @@ ghost use Rattle.awk_layout.specs.Layout.{flat};
 
 use crate::array::Array;
 use crate::node::class::Class;
-use awk_lanes::{Index, Kind, Steps, laid_index};
+use awk_index::{Index, laid_index};
+use awk_lanes::{Kind, Steps};
 use std::sync::ledger::Ledger;
 
 /// The numbers of an array of numbers of 64 bits with a sign, where it is one lane of

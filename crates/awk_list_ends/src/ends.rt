@@ -4,7 +4,8 @@ ghost use Rattle.awk_lanes.specs.Places.{AreSpans, IsIndexKind};
 ghost use Rattle.awk_list_ends.specs.Ends.{numbers_at_ends, AreListEnds};
 
 use crate::length::length_between;
-use awk_lanes::{Arena, Index, Kind, Lane, Num, Numbers, Steps, made_lane, to_place};
+use awk_index::Index;
+use awk_lanes::{Arena, Kind, Lane, Num, Numbers, Steps, made_lane, to_place};
 use awk_types::NoMemory;
 use std::sync::ledger::Ledger;
 

@@ -3,7 +3,7 @@ ghost use Rattle.std.specs.Prelude.{◌≡◌, ◌<◌, ◌^◌};
 ghost use Rattle.awk_lanes.specs.Places.{size_of, AreSpans};
 ghost use Rattle.awk_columns.specs.Lists.{span_length};
 
-use awk_lanes::Index;
+use awk_index::Index;
 
 /// How many items the list at a place has.
 #[inline(always)]

@@ -6,7 +6,8 @@ ghost use Rattle.awk_counts.specs.Counted.{first_of, numbers_at, present_at};
 
 use crate::moved::{Places, list_numbers};
 use awk_counts::count_present;
-use awk_lanes::{Arena, Index, Lane, Lengths, Steps};
+use awk_index::Index;
+use awk_lanes::{Arena, Lane, Lengths, Steps};
 use awk_layout::{Array, Class, Node};
 use awk_types::NoMemory;
 use std::alloc::Global;

@@ -11,9 +11,8 @@ ghost use Rattle.awk_lists.specs.Held.{held_at, held_counts, AreLengths, AreHeld
 use awk_counts::present_counts;
 use awk_gather::gather;
 use awk_gather_lanes::gather_lane;
-use awk_lanes::{
-    Arena, Index, IndexMaker, Kind, Lane, LaneMaker, Steps, index_of, number, place_in,
-};
+use awk_index::{Index, index_of};
+use awk_lanes::{Arena, IndexMaker, Kind, Lane, LaneMaker, Steps, number, place_in};
 use awk_layout::Array;
 use awk_list_ends::length_between;
 use awk_open::{Opened, open_array};

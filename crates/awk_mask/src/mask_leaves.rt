@@ -13,10 +13,8 @@ ghost use Rattle.awk_mask.specs.MaskLeaves.{kept_lane, kept_place, there_place, 
 ghost use Rattle.awk_mask.specs.MaskLeaves.{AreKept, AreTruths, IsLow, IsMasked};
 
 use awk_gather::option_over;
-use awk_lanes::{
-    Arena, Index, Kind, Lane, LaneMaker, Num, Numbers, Steps, byte_numbers, index_of, made_lane,
-    number,
-};
+use awk_index::{Index, byte_numbers, index_of};
+use awk_lanes::{Arena, Kind, Lane, LaneMaker, Num, Numbers, Steps, made_lane, number};
 use awk_layout::{Array, Class, Node};
 use awk_open::{Opened, opened};
 use awk_types::{NoMemory, is_optional};

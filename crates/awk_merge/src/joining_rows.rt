@@ -23,9 +23,9 @@ ghost use Rattle.awk_merge_sides.specs.Sides.{sides_of, merged_items, AreSides, 
 
 use crate::joining_arrays::merged;
 use awk_columns::{Joined, Lists, join_spans, places_of};
+use awk_index::{Index, index_of};
 use awk_lanes::{
-    Arena, Index, IndexMaker, Items, Lane, LaneMaker, Lengths, Num, Steps, index_of, number,
-    option_place_in,
+    Arena, IndexMaker, Items, Lane, LaneMaker, Lengths, Num, Steps, number, option_place_in,
 };
 use awk_layout::{Array, Node};
 use awk_merge_sides::Sides;

@@ -1,6 +1,6 @@
 //! Indexes of options, of either width.
 use crate::index::NarrowIndex;
-use awk_lanes::Index;
+use awk_index::Index;
 
 /// An index of an option, which is negative for null.
 pub trait OptionIndex {

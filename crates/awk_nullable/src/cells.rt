@@ -4,7 +4,8 @@ ghost use Rattle.awk_lanes.specs.Numbers.{int_of};
 ghost use Rattle.awk_lanes.specs.Places.{size_of, at};
 ghost use Rattle.awk_nullable.specs.Keys.{shift_in, shift_of};
 
-use awk_lanes::{Index, Kind, Lane, Num, Steps};
+use awk_index::Index;
+use awk_lanes::{Kind, Lane, Num, Steps};
 use std::sync::ledger::Ledger;
 
 /// The numbers of a lane.

@@ -7,7 +7,9 @@ ghost use Rattle.awk_layout.specs.Item.{agrees as agrees_of};
 ghost use Rattle.awk_nullable.specs.Masks.{if_shown};
 
 use crate::cells::Cells;
-use awk_lanes::{Bits, Index, Steps};
+use awk_bits::Bits;
+use awk_index::Index;
+use awk_lanes::Steps;
 use awk_narrow::NarrowIndex;
 use std::sync::ledger::Ledger;
 

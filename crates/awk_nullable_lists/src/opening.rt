@@ -7,7 +7,9 @@ ghost use Rattle.awk_layout.specs.Typing.{array_type};
 ghost use Rattle.awk_layout.specs.Valid.{IsValid};
 ghost use Rattle.awk_nullable_lists.specs.Nullable.{IsNullable};
 
-use awk_lanes::{Arena, Bits, Index, Kind, Lane, Steps, index_of};
+use awk_bits::Bits;
+use awk_index::{Index, index_of};
+use awk_lanes::{Arena, Kind, Lane, Steps};
 use awk_layout::{Array, Class, Node};
 use awk_narrow::{NarrowIndex, narrow_index};
 use awk_nullable::{BitMask, ByteMask, Every};

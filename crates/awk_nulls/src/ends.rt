@@ -12,7 +12,8 @@ ghost use Rattle.awk_nulls.specs.Lanes.{AreEnds};
 
 use awk_columns::{Bounds, Lists};
 use awk_counts::present_counts;
-use awk_lanes::{Arena, Index, IndexMaker, Lane, Num, Steps, index_of, number};
+use awk_index::{Index, index_of};
+use awk_lanes::{Arena, IndexMaker, Lane, Num, Steps, number};
 use awk_list_ends::{numbers_at_ends, span_or};
 use awk_types::NoMemory;
 use std::alloc::Global;

@@ -15,9 +15,8 @@ ghost use Rattle.awk_nulls.specs.Lanes.{null_number, nulls_lane, falses_lane, Ar
 use crate::presence::has_options;
 use awk_axis::lift_at;
 use awk_columns::{Joined, Lists};
-use awk_lanes::{
-    Arena, Index, Kind, Lane, Num, Numbers, Steps, index_of, made_lane, offsets_within,
-};
+use awk_index::{Index, index_of};
+use awk_lanes::{Arena, Kind, Lane, Num, Numbers, Steps, made_lane, offsets_within};
 use awk_layout::{Array, Datum, Node};
 use awk_list_ends::are_few;
 use awk_list_functions::{ListOp, Made, Refusal, Spoil};

@@ -8,7 +8,8 @@ ghost use Rattle.awk_nulls.specs.Lanes.{ArePresent, HasPresent};
 
 use awk_columns::Lists;
 use awk_counts::present_counts;
-use awk_lanes::{Arena, Lane, Steps, index_of, ordinals};
+use awk_index::index_of;
+use awk_lanes::{Arena, Lane, Steps, ordinals};
 use awk_layout::{Array, Class};
 use awk_list_numbers::{has_numbers, named_numbers};
 use awk_open::{Opened, open_array, opened};

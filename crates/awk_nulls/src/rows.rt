@@ -12,7 +12,8 @@ ghost use Rattle.awk_nulls.specs.Lanes.{AreRowOffsets, HasPresent};
 
 use crate::ends::count_between;
 use awk_columns::{Bounds, Lists};
-use awk_lanes::{Arena, Index, IndexMaker, Lane, Offsets, Steps, index_of, number};
+use awk_index::{Index, index_of};
+use awk_lanes::{Arena, IndexMaker, Lane, Offsets, Steps, number};
 use awk_layout::{Array, Class};
 use awk_list_ends::span_or;
 use awk_list_functions::{Made, Spoil};

@@ -17,9 +17,8 @@ use crate::whole_index::peel_whole;
 use awk_columns::Lists;
 use awk_gather::{Peeled, gather_node};
 use awk_gather_lanes::{gather_lane, next_lane};
-use awk_lanes::{
-    Arena, Index, Kind, Lane, Num, Numbers, Steps, made_lane, number, to_place, wide_index,
-};
+use awk_index::{Index, wide_index};
+use awk_lanes::{Arena, Kind, Lane, Num, Numbers, Steps, made_lane, number, to_place};
 use awk_layout::{Array, Arrays, Class, Node, Nodes};
 use awk_types::{Names, NoMemory, copy_names, is_optional};
 use std::alloc::Global;

@@ -8,7 +8,8 @@ ghost use Rattle.awk_gather.specs.Arrays.{pick};
 ghost use Rattle.awk_counts.specs.Counted.{IsRun};
 
 use awk_gather::gather;
-use awk_lanes::{Arena, Index, Lane, NoMemory, Steps, laid_index, to_place};
+use awk_index::{Index, laid_index};
+use awk_lanes::{Arena, Lane, NoMemory, Steps, to_place};
 use awk_layout::Array;
 use awk_range::range;
 use std::alloc::Global;

@@ -9,7 +9,8 @@ ghost use Rattle.awk_open.specs.declared.opening.Opened.TheVariants as Opened;
 ghost use Rattle.awk_open.specs.InOrder.{IsInOrder};
 
 use awk_counts::counted;
-use awk_lanes::{Arena, Index, Lane, NoMemory, Steps};
+use awk_index::Index;
+use awk_lanes::{Arena, Lane, NoMemory, Steps};
 use awk_layout::Array;
 use awk_list_numbers::named_numbers;
 use awk_open::Opened;

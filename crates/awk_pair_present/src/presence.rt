@@ -10,9 +10,9 @@ ghost use Rattle.awk_pair_present.specs.Presence.{IsPresence, ArePresences, IsAs
 ghost use Rattle.awk_pair_present.specs.Presence.{AreKeptOf, AllKeptOf, IsTaken, AreTaken};
 
 use awk_gather::gather;
+use awk_index::{Index, index_of};
 use awk_lanes::{
-    Arena, Index, Kind, Lane, NoMemory, Num, Numbers, Steps, index_of, made_lane, number, place_in,
-    to_place,
+    Arena, Kind, Lane, NoMemory, Num, Numbers, Steps, made_lane, number, place_in, to_place,
 };
 use awk_layout::{Array, Arrays};
 use awk_open::{Opened, opened};

@@ -15,8 +15,9 @@ ghost use Rattle.awk_pair_present.specs.Present.{IsPresentRows};
 use crate::numbers::present_numbers;
 use crate::presence::{Presence, all_taken, are_there, presences_of};
 use awk_columns::places_of;
+use awk_index::index_of;
 use awk_lanes::{
-    Arena, Items, Kind, Lane, Lengths, NoMemory, Num, Numbers, Steps, index_of, made_lane, number,
+    Arena, Items, Kind, Lane, Lengths, NoMemory, Num, Numbers, Steps, made_lane, number,
     offsets_of, place_in,
 };
 use awk_layout::{Array, Arrays, Class};

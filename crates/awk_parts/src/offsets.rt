@@ -2,7 +2,8 @@
 ghost use Rattle.std.specs.Prelude.{◌≡◌, ◌<◌, ◌≤ℤ◌, pos};
 ghost use Rattle.awk_lanes.specs.Places.{size_of, at, place_at};
 
-use awk_lanes::{Index, to_place};
+use awk_index::Index;
+use awk_lanes::to_place;
 
 /// The offset at place i, where it is not negative.
 #[inline(always)]

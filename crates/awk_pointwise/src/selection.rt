@@ -23,11 +23,11 @@ use crate::optional::Optional;
 use crate::see::see_part;
 use crate::sides::Side;
 use crate::words::{Words, ints, nats};
+use awk_index::byte_numbers;
 use awk_kernels::Kernels;
 use awk_lane_pairs::chosen_lane;
 use awk_lanes::{
-    Arena, Kind, Lane, NoMemory, Num, Numbers, Steps, byte_numbers, lane_of_nats, lane_of_numbers,
-    made_lane,
+    Arena, Kind, Lane, NoMemory, Num, Numbers, Steps, lane_of_nats, lane_of_numbers, made_lane,
 };
 use awk_layout::kind_of;
 use awk_types::{Fault, Prim};

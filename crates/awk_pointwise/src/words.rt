@@ -10,7 +10,8 @@ ghost use Rattle.awk_numbers.specs.Folds.{lane_numbers};
 ghost use Rattle.awk_pointwise.specs.Numbers.{word_numbers, clip, IsInt64, IsNat64};
 ghost use Rattle.awk_pointwise.specs.Sides.{IsNumber64};
 
-use awk_lanes::{Kind, Lane, NoMemory, Steps, byte_numbers, nats_of, numbers_of};
+use awk_index::{byte_numbers, nats_of, numbers_of};
+use awk_lanes::{Kind, Lane, NoMemory, Steps};
 use std::alloc::Global;
 use std::sync::ledger::Ledger;
 

@@ -1,7 +1,7 @@
 -- A worked range: of a bit mask, within a byte.
 use Rattle.std.specs.Prelude.{◌≡◌, [], ◌∷◌, slice_range, false, pos, refl}
 use Rattle.awk_types.specs.Value.{int, null}
-use Rattle.awk_lanes.specs.Bits.{bits}
+use Rattle.awk_bits.specs.Bits.{bits}
 use Rattle.awk_lanes.specs.declared.kind.Kind.TheVariants.{I8}
 use Rattle.awk_layout.specs.Layout.{Layout, flat, bit_masked}
 use Rattle.awk_layout.specs.Typing.{array_items}

@@ -10,7 +10,8 @@ ghost use Rattle.awk_layout.specs.Valid.{len, IsValid, IsByteMask, AllReach};
 ghost use Rattle.awk_lanes.specs.Places.{size_of};
 ghost use Rattle.awk_range.specs.Range.{IsPart, AreParts};
 
-use awk_lanes::{Bits, Lane, Steps};
+use awk_bits::Bits;
+use awk_lanes::{Lane, Steps};
 use awk_layout::{Array, Class, Node, Nodes};
 use awk_types::{NoMemory, copy_names, copy_type};
 use std::alloc::Global;

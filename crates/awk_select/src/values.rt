@@ -7,7 +7,8 @@ ghost use Rattle.awk_lanes.specs.declared.kind.Kind.TheVariants as Kinds;
 ghost use Rattle.awk_select.specs.Cells.{cell_value, truth_cells, IsCell};
 
 use crate::cells::Cells;
-use awk_lanes::{Index, Lane, Num, Steps, byte_numbers};
+use awk_index::{Index, byte_numbers};
+use awk_lanes::{Lane, Num, Steps};
 use std::sync::ledger::Ledger;
 
 /// Values by their places.

@@ -14,7 +14,7 @@ use Rattle.awk_lanes.specs.Numbers.{width, number, numbers}
 use Rattle.awk_lanes.specs.Places.{size_of, IsIndexKind}
 use Rattle.awk_lanes.specs.Words.{column}
 use Rattle.awk_lanes.specs.declared.kind.Kind.TheVariants.{I64}
-use Rattle.awk_lanes.proofs.IndexLaws.{numbers-groups}
+use Rattle.awk_index.proofs.IndexLaws.{numbers-groups}
 use Rattle.awk_lanes.proofs.NumberParts.{number-take}
 use Rattle.awk_numbers.specs.Folds.{lane_numbers}
 use Rattle.awk_sorting.specs.Lanes.{SortsLane}

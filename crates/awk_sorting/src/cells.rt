@@ -2,7 +2,8 @@
 ghost use Rattle.std.specs.Prelude.{◌≡◌, ◌≤ℤ◌, pos, negsuc};
 ghost use Rattle.awk_lanes.specs.Numbers.{int_of};
 
-use awk_lanes::{Index, Lane, Num, Steps, option_place_in};
+use awk_index::Index;
+use awk_lanes::{Lane, Num, Steps, option_place_in};
 use std::sync::ledger::Ledger;
 
 /// Numbers of a lane, or, where there is an index, none where this is negative and else the number

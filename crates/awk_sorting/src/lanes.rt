@@ -10,10 +10,8 @@ ghost use Rattle.awk_sorting.specs.Lanes.{SortsLane};
 
 use crate::parts::sort_parts;
 use crate::wide::wide_in_order;
-use awk_lanes::{
-    Arena, Index, Kind, Lane, NoMemory, Steps, byte_numbers, index_of, lane_of_nats,
-    lane_of_numbers, nats_of, numbers_of,
-};
+use awk_index::{Index, byte_numbers, index_of, nats_of, numbers_of};
+use awk_lanes::{Arena, Kind, Lane, NoMemory, Steps, lane_of_nats, lane_of_numbers};
 use std::alloc::Global;
 use std::sync::ledger::Ledger;
 

@@ -6,7 +6,7 @@ ghost use Rattle.awk_sorting.specs.Parts.{SortsPart, SortsParts};
 ghost use Rattle.awk_parts.specs.Parts.{AreRising};
 
 use crate::number::Number;
-use awk_lanes::Index;
+use awk_index::Index;
 use awk_parts::offset_at;
 
 /// Numbers brought in order, rising or falling.

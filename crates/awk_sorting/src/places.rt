@@ -10,9 +10,8 @@ ghost use Rattle.awk_sorting.specs.Order as spec;
 use crate::cells::{Cells, Row, WideCells, WideRow};
 use crate::keys::{Key, PLACES, push_keys, sort_keys};
 use crate::ranks::{Ranks, reach_of};
-use awk_lanes::{
-    Arena, Index, IndexMaker, Kind, Lane, NoMemory, Steps, index_of, number, wide_index,
-};
+use awk_index::{Index, index_of, wide_index};
+use awk_lanes::{Arena, IndexMaker, Kind, Lane, NoMemory, Steps, number};
 use awk_parts::offset_at;
 use std::alloc::Global;
 use std::sync::ledger::Ledger;

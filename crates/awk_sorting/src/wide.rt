@@ -6,7 +6,8 @@ ghost use Rattle.awk_parts.specs.Parts.{AreRising};
 ghost use Rattle.awk_sorting.specs.Lanes.{SortsLane};
 
 use crate::parts::sort_slice_parts;
-use awk_lanes::{Arena, Index, Kind, Lane, NoMemory, Steps};
+use awk_index::Index;
+use awk_lanes::{Arena, Kind, Lane, NoMemory, Steps};
 use std::sync::ledger::Ledger;
 
 /// The same lane of i64 with each of n parts in order. Its numbers are copied once, as bytes, and

@@ -15,10 +15,10 @@ use Rattle.awk_types.specs.Simple.{simple, simple_value}
 use Rattle.awk_types.specs.declared.primitive.Primitive.{Primitive}
 use Rattle.awk_types.specs.declared.primitive.Primitive.TheVariants as primitive
 use Rattle.awk_lanes.specs.declared.kind.Kind.TheVariants as kind
-use Rattle.awk_lanes.specs.Bits.{bit, bits}
+use Rattle.awk_bits.specs.Bits.{bit, bits}
 use Rattle.awk_lanes.specs.Numbers.{is_nonzero, nat_of, element as read_as}
 use Rattle.awk_lanes.specs.Places.{at, option_place, IsSpan}
-use Rattle.awk_lanes.proofs.BitParts.{get_or-bits, length-bits}
+use Rattle.awk_bits.proofs.BitParts.{get_or-bits, length-bits}
 use Rattle.awk_layout.specs.Layout.{Layout}
 use Rattle.awk_layout.specs.Item as layout_item
 use Rattle.awk_layout.specs.Item.{leaf_value, at_option, agrees}

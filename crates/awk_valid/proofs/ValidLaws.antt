@@ -8,7 +8,7 @@ use Rattle.awk_types.specs.ItemLimit.{item_limit}
 use Rattle.awk_lanes.specs.declared.kind.Kind.{Kind}
 use Rattle.awk_lanes.specs.Places.{size_of, at, place_at, IsOptionKind, AreSpans, IsOffsets}
 use Rattle.awk_lanes.specs.Places.{IsIndex, IsOptionalIndex}
-use Rattle.awk_lanes.proofs.BitParts.{length-bits}
+use Rattle.awk_bits.proofs.BitParts.{length-bits}
 use Rattle.awk_layout.specs.Layout as made
 use Rattle.awk_layout.specs.Layout.{Layout, Layouts}
 use Rattle.awk_layout.specs.Valid.{len, len_of, IsValid, AllValid, AllReach, AreNames, IsUnion}

@@ -11,7 +11,7 @@ use Rattle.awk_types.specs.Simple.{simple, simple_value}
 use Rattle.awk_types.specs.declared.primitive.Primitive.{Primitive}
 use Rattle.awk_types.specs.declared.primitive.Primitive.TheVariants as primitive
 use Rattle.awk_lanes.specs.declared.kind.Kind.TheVariants as kind
-use Rattle.awk_lanes.specs.Bits.{bit}
+use Rattle.awk_bits.specs.Bits.{bit}
 use Rattle.awk_lanes.specs.Numbers.{is_nonzero, nat_of}
 use Rattle.awk_lanes.specs.Places.{option_place}
 use Rattle.awk_layout.specs.Item.{run, at_option, agrees}

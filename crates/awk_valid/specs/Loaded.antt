@@ -1,7 +1,7 @@
 -- The layout that a form, a length and a container stand for. It is so also where the walk breaks:
 -- there a buffer without bytes counts as empty, and a number behind the last byte is 0.
 use Rattle.std.specs.Prelude.{ℕ, suc, ◌+◌, ◌*◌, List, [], ◌∷◌, codes}
-use Rattle.awk_lanes.specs.Bits.{bits}
+use Rattle.awk_bits.specs.Bits.{bits}
 use Rattle.awk_layout.specs.Layout as made
 use Rattle.awk_layout.specs.Layout.{Layout, Layouts}
 use Rattle.awk_form.specs.FormTree.{FormTree, empty, numpy, regular, list, list_offset, row}

@@ -10,7 +10,7 @@ use Rattle.awk_types.specs.declared.limit.TypeFault.TheVariants as types
 use Rattle.awk_lanes.specs.declared.kind.Kind.{Kind}
 use Rattle.awk_lanes.specs.Column.{Column}
 use Rattle.awk_lanes.specs.Numbers.{width}
-use Rattle.awk_lanes.specs.Bits.{bits}
+use Rattle.awk_bits.specs.Bits.{bits}
 use Rattle.awk_layout.specs.Layout.{Layout}
 use Rattle.awk_store.specs.declared.fault.BufferWhy.{BufferWhy}
 use Rattle.awk_form.specs.FormTree.{FormTree}

@@ -1,7 +1,7 @@
 -- What a node holds beside its contents, and the node over its contents.
 use Rattle.std.specs.Prelude.{ℕ, ◌+◌, ◌-◌, List, length, get_or, map, codes}
 use Rattle.std.specs.List.{range_with_len}
-use Rattle.awk_lanes.specs.Bits.{bits}
+use Rattle.awk_bits.specs.Bits.{bits}
 use Rattle.awk_layout.specs.Layout as made
 use Rattle.awk_layout.specs.Layout.{Layout, layouts_from}
 use Rattle.awk_form.specs.FormTree.{FormTree, contents_of, empty, numpy, regular, list, list_offset}

@@ -4,14 +4,15 @@ ghost use Rattle.std.specs.Prelude.{if◌then◌else◌, true, IfOk, IsTrue};
 ghost use Rattle.awk_types.specs.Gives.{Gives};
 ghost use Rattle.awk_types.specs.ItemLimit.{item_limit};
 ghost use Rattle.awk_lanes.specs.Numbers.{width};
-ghost use Rattle.awk_lanes.specs.Bits.{bits};
+ghost use Rattle.awk_bits.specs.Bits.{bits};
 ghost use Rattle.awk_store.specs.Buffers.{buffer, held_len, unread_len};
 ghost use Rattle.awk_valid.specs.Container.{column_at};
 ghost use Rattle.awk_valid.specs.Loading.{told, lane_said, bits_said};
 
 use crate::fault::{BufferFault, LoadFault, buffer_fault};
 use crate::order::{turned, turned_into};
-use awk_lanes::{Arena, Bits, Kind, Lane, NoMemory, Steps};
+use awk_bits::Bits;
+use awk_lanes::{Arena, Kind, Lane, NoMemory, Steps};
 use awk_store::{BufferWhy, Store, StoreFault};
 use std::alloc::Global;
 use std::sync::ledger::Ledger;

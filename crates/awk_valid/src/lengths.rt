@@ -12,8 +12,9 @@ ghost use Rattle.awk_valid.specs.Rules.{list_rules, tag_rules};
 
 use crate::fault::LoadFault;
 use crate::judge::{judge_indexes, judge_lists, judge_tags};
+use awk_index::numbers_of;
 use awk_kernels::Kernels;
-use awk_lanes::{Lane, Steps, numbers_of};
+use awk_lanes::{Lane, Steps};
 use awk_types::NoMemory;
 use std::alloc::Global;
 use std::sync::ledger::Ledger;

@@ -3,7 +3,8 @@ ghost use Rattle.std.specs.Prelude.{◌≡◌, ◌+◌, ◌++◌, ◌≤◌, dro
 ghost use Rattle.awk_layout.specs.Valid.{IsValid};
 ghost use Rattle.awk_valid.specs.Parts.{only, over_one, over};
 
-use awk_lanes::{Bits, Lane, Steps};
+use awk_bits::Bits;
+use awk_lanes::{Lane, Steps};
 use awk_layout::{Node, Nodes};
 use awk_types::{Names, NoMemory};
 use std::alloc::Global;

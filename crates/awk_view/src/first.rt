@@ -6,7 +6,8 @@ ghost use Rattle.awk_layout.specs.Layout.{byte_masked, bit_masked, union, layout
 ghost use Rattle.awk_layout.specs.Valid.{len, IsValid};
 ghost use Rattle.awk_view.specs.Layouts.{first_items};
 
-use awk_lanes::{Bits, Lane, Steps};
+use awk_bits::Bits;
+use awk_lanes::{Lane, Steps};
 use awk_layout::{Class, Node, Nodes};
 use awk_types::{NoMemory, copy_names};
 use std::alloc::Global;

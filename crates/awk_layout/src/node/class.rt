@@ -5,7 +5,8 @@ ghost use Rattle.awk_layout.specs.Numbered.{IsNumbered};
 ghost use Rattle.awk_layout.specs.Valid.{len, IsValid};
 
 use crate::node::{Inner, Node, Nodes};
-use awk_lanes::{Bits, Lane};
+use awk_bits::Bits;
+use awk_lanes::Lane;
 use awk_types::Names;
 
 /// A node's class, with its lanes and contents.

@@ -8,7 +8,8 @@ ghost use Rattle.awk_layout.specs.Layout.{unmasked, union};
 ghost use Rattle.awk_layout.specs.Valid.{len, AllReach, AreNames, IsByteMask, IsUnion};
 
 use crate::node::{Inner, Node, Nodes};
-use awk_lanes::{Bits, Lane, Steps};
+use awk_bits::Bits;
+use awk_lanes::{Lane, Steps};
 use awk_types::Names;
 use std::sync::ledger::Ledger;
 

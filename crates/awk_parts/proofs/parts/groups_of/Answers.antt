@@ -1,7 +1,7 @@
 use Rattle.std.proofs.Common.{ap, ◌∙◌, map}
 use Rattle.awk_lanes.specs.Numbers.{number}
 use Rattle.awk_lanes.specs.declared.kind.Kind.TheVariants as Kind
-use Rattle.awk_lanes.proofs.IndexLaws.{numbers-groups}
+use Rattle.awk_index.proofs.IndexLaws.{numbers-groups}
 use Rattle.awk_parts.proofs.parts.groups_of.Goals as goal
 
 pub returns : goal.returns

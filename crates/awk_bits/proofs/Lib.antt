@@ -1,0 +1,2 @@
+pub mod BitParts
+mod Worked
