@@ -51,7 +51,7 @@ fn first_of_run(places: &Index, n: u64) -> Option<u64>
     ensures { IfSome result (IsRun places.now n) }
 {
     let first = first_place(places, n);
-    if first + places.len() <= n {
+    if places.len() <= n - first {
         if is_run(places, first, n) {
             return Some(first);
         }
