@@ -2,26 +2,25 @@
 use Rattle.std.specs.Prelude.{◌≡◌, ℕ, zero, suc, ◌+◌, ◌-◌, ◌*◌, ◌/◌, ◌<◌, pos, negsuc, refl, Bool}
 use Rattle.std.specs.Prelude.{true, false, List, length, get_or, drop, slice_index, if◌then◌else◌}
 use Rattle.std.specs.Int.{cast_signed, w8}
-use Rattle.std.proofs.Common.{arith, ap, sym, ◌∙◌, subst, ltb}
+use Rattle.std.proofs.Common.{arith, ap, sym, ◌∙◌, ltb}
 use Rattle.std.proofs.lemmas.List.{get_or-drop}
 use Rattle.awk_types.specs.DataType.{DataType, unknown, leaf, var, reg, rec, tup, opt, uni}
 use Rattle.awk_types.specs.Value.{null}
 use Rattle.awk_lanes.specs.Column.{Column}
-use Rattle.awk_lanes.specs.Numbers.{is_nonzero, element, number, numbers, width}
+use Rattle.awk_lanes.specs.Numbers.{is_nonzero, element, numbers, width}
 use Rattle.awk_lanes.specs.Places.{size_of, at, option_place}
 use Rattle.awk_lanes.specs.declared.kind.Kind.TheVariants as kinds
 use Rattle.awk_lanes.proofs.NumberParts.{length-numbers, get_or-numbers}
 use Rattle.awk_layout.specs.Item.{agrees, at_option, byte_shows}
 use Rattle.awk_layout.specs.Layout.{Layout, empty, flat, regular, lists, offset_lists, rows}
 use Rattle.awk_layout.specs.Layout.{indexed, optional, byte_masked, bit_masked, unmasked, union}
-use Rattle.awk_layout.specs.Valid.{len}
 use Rattle.awk_gather.specs.Arrays.{array_item}
 use Rattle.awk_gather.specs.Composed.{IsComposed}
 use Rattle.awk_gather.specs.Peeled.{IsPickedOpt}
 use Rattle.awk_gather.proofs.FollowedIndexes.{item_if_shown}
 use Rattle.awk_gather.proofs.OptionItems.{item-byte_masked}
 use Rattle.awk_mask_pairs.specs.MaskTypes.{is_bare, is_innermost}
-use Rattle.awk_mask.specs.MaskLeaves.{kept_lane, truths_in, AreTruths, IsLow}
+use Rattle.awk_mask.specs.MaskLeaves.{kept_lane, truths_in, IsLow}
 use Rattle.awk_mask.proofs.MaskLeaves.{at-kept, size-kept, size-truths_in, truth_byte}
 use mir.Val.{sel}
 
@@ -81,7 +80,8 @@ module _ (c mask : Column) (bytes : List ℕ) (truths : truths_in bytes ≡ c)
       ∙ ap (λ zs. is_nonzero (get_or zs i (pos 0))) items
       ∙ ap is_nonzero (get_or-numbers kinds.I8 (length bytes / width kinds.I8) bytes i inside)
       ∙ nonzero_byte (slice_index (drop (i * 1) bytes) 0)
-      ∙ ap (λ n. is_nonzero (pos n)) (get_or-drop (i * 1) bytes 0 0 ∙ ap (λ k. get_or bytes k 0) there)
+      ∙ ap (λ n. is_nonzero (pos n))
+      (get_or-drop (i * 1) bytes 0 0 ∙ ap (λ k. get_or bytes k 0) there)
 
   mask_shows : (keep : Bool) (i : ℕ) → i < size_of c
       → byte_shows mask keep i ≡ agrees keep (is_nonzero (at c i))
