@@ -6,7 +6,7 @@ use Rattle.std.proofs.lemmas.Int.{to_z-of_z}
 use Rattle.std.proofs.lemmas.List.{length-map}
 use Rattle.awk_numbers.specs.Folds.{first_extreme, lane_numbers, whole_numbers}
 use Rattle.awk_parts.specs.Elements.{IsElement}
-use Rattle.awk_parts.specs.Lanes.{number_or_zero}
+use Rattle.awk_cells.specs.Extremes.{number_or_zero}
 use Rattle.awk_parts.specs.Spans.{span_part, start_of, stop_of}
 use Rattle.awk_parts.proofs.ElementLaws.{part_element, lane_elements}
 use Rattle.awk_parts.proofs.short.ShortExtremesNumbers.number.Goals as goal

@@ -1,0 +1,4 @@
+pub mod ExtremeLaws
+mod BlockLaws
+mod SumLaws
+pub mod CountLaws
