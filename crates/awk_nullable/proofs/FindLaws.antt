@@ -1,11 +1,15 @@
 -- The first item that has a number, one item more.
-use Rattle.std.proofs.Common.{◌≡◌, ℕ, zero, suc, ◌+◌, arith, refl}
+use Rattle.std.proofs.Common.{◌≡◌, ℕ, zero, suc, ◌+◌, ◌-◌, ◌<◌, arith, refl}
 use Rattle.std.proofs.Common.{ap, ap₂, sym, ◌∙◌}
-use Rattle.std.specs.Prelude.{ℤ, Bool, true, false, cond, Option, Some, None}
+use Rattle.std.specs.Prelude.{ℤ, ◌+ℤ◌, Bool, true, false, cond, Option, Some, None}
 use Rattle.std.specs.List.{range_with_len}
 use Rattle.std.specs.Option.{option_map}
 use Rattle.awk_base.proofs.Lists.{position-cons}
-use Rattle.awk_nullable.specs.Extremes.{is_some_number, number_place}
+use Rattle.awk_lanes.specs.Column.{Column}
+use Rattle.awk_lanes.specs.Places.{at}
+use Rattle.awk_nullable.specs.Extremes.{is_some_number, leaf_key, number_place}
+use Rattle.awk_nullable.specs.Numbers.{leaf_number}
+use Rattle.awk_nullable.proofs.KeyLaws.{eq-shift}
 
 -- the earlier one of two places, the first if there is one
 abbrev pub earlier : Option ℕ → Option ℕ → Option ℕ
@@ -63,3 +67,47 @@ module _ (g : ℕ → Option ℤ) (z : ℤ) where
       by true o w = refl
       by false o w =
           later o (found z n w) ∙ ap (earlier (option_map suc o)) (found_later z n w)
+
+  -- none of the first n items has the number
+  pub none_more : (a n : ℕ) → number_place g a n z ≡ None → is_some_number z (g (a + n)) ≡ false
+      → number_place g a (n + 1) z ≡ None
+  none_more a n h e =
+      place-more a n ∙ ap₂ (λ o b. earlier o (cond b (Some n) None)) h e
+
+  found_kept : (a n m k : ℕ) → number_place g a n z ≡ Some k → number_place g a (n + m) z ≡ Some k
+  found_kept a n zero k h =
+      let e : n + 0 ≡ n = omega arith in
+      ap (λ i. number_place g a i z) e ∙ h
+  found_kept a n (suc m) k h =
+      let e : n + suc m ≡ n + m + 1 = omega arith in
+      ap (λ i. number_place g a i z) e
+      ∙ place-more a (n + m)
+      ∙ ap (λ o. earlier o (found z (n + m) (g (a + (n + m))))) (found_kept a n m k h)
+
+  -- item n is the first of all that has it
+  pub first_found : (a n i : ℕ) → i < n → number_place g a i z ≡ None
+      → is_some_number z (g (a + i)) ≡ true → number_place g a n z ≡ Some i
+  first_found a n i l h e =
+      let here : number_place g a (i + 1) z ≡ Some i =
+      place-more a i ∙ ap₂ (λ o b. earlier o (cond b (Some i) None)) h e in
+      let all : n ≡ i + 1 + (n - (i + 1)) = omega (arith, l) in
+      ap (λ k. number_place g a k z) all ∙ found_kept a (i + 1) (n - (i + 1)) i here
+
+-- ---- keys stand where their numbers do
+
+module _ (f : ℕ → Option ℕ) (c : Column) (s z : ℤ) where
+  found-key : (n : ℕ) (o : Option ℕ) → found (z +ℤ s) n (option_map (λ k. at c k +ℤ s) o)
+      ≡ found z n (option_map (at c) o)
+  found-key n None = refl
+  found-key n (Some k) = ap (λ b. cond b (Some n) None) (eq-shift z (at c k) s)
+
+  pub place-key : (a n : ℕ)
+      → number_place (leaf_key f c s) a n (z +ℤ s) ≡ number_place (leaf_number f c) a n z
+  place-key a zero = refl
+  place-key a (suc n) =
+      let e : suc n ≡ n + 1 = omega arith in
+      ap (λ i. number_place (leaf_key f c s) a i (z +ℤ s)) e
+      ∙ place-more (leaf_key f c s) (z +ℤ s) a n
+      ∙ ap₂ earlier (place-key a n) (found-key n (f (a + n)))
+      ∙ sym (place-more (leaf_number f c) z a n)
+      ∙ ap (λ i. number_place (leaf_number f c) a i z) (sym e)

@@ -1,5 +1,5 @@
 -- Numbers in two halves.
-use Rattle.std.specs.Prelude.{◌≡◌, ℕ, ◌*◌, ◌≤◌, ℤ, pos, ◌+ℤ◌, ◌*ℤ◌, unsigned_abs, List}
+use Rattle.std.specs.Prelude.{◌≡◌, ℕ, ◌+◌, ◌*◌, ◌≤◌, ℤ, pos, ◌+ℤ◌, ◌*ℤ◌, unsigned_abs, List}
 use Rattle.awk_kernels.specs.Kernels.{total}
 use Rattle.awk_nullable.specs.declared.halves.Halves.{Halves}
 
@@ -16,5 +16,5 @@ pub record IsHalves (z : ℤ) (h : Halves) : Type 0 where
 -- the sum of numbers, of n items, each of two such halves, by the sums of these
 pub record IsSum (n : ℕ) (h : Halves) (zs : List ℤ) : Type 0 where
   pub exact : halves_sum h ≡ total zs
-  pub high : unsigned_abs h.high ≤ n * 4294967296
-  pub low : unsigned_abs h.low ≤ n * 4294967296
+  pub high : unsigned_abs h.high ≤ (n + 1) * 4294967296
+  pub low : unsigned_abs h.low ≤ (n + 1) * 4294967296

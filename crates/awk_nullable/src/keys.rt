@@ -1,5 +1,6 @@
 //! The least or the greatest item of a list that is not null, by its key.
-ghost use Rattle.std.specs.Prelude.{◌≡◌, ◌<◌, ◌-ℤ◌, true};
+ghost use Rattle.std.specs.Prelude.{◌≡◌, ◌<◌, ◌≤◌, ℤ, ◌-ℤ◌, true, Some, FitsSigned};
+ghost use Rattle.std.specs.Int.{w64};
 ghost use Rattle.awk_lanes.specs.Places.{size_of};
 ghost use Rattle.awk_nullable.specs.Extremes.{better_key, found_key, leaf_key, next_found};
 ghost use Rattle.awk_nullable.specs.Extremes.{IsWorst, IsFound, IsExtreme, IsExtremeKey};
@@ -23,8 +24,9 @@ fn key_at<P: Places, C: Cells, L: Ledger>(
     requires within { i < P.size x.now.places.now }
     requires leads { AreLeading (P.at x.now.places.now) (P.size x.now.places.now)
         (size_of (C.lane x.now.cells.now)) }
-    ensures { result ≡ leaf_key (P.at x.now.places.now) (C.lane x.now.cells.now)
+    ensures key { result ≡ leaf_key (P.at x.now.places.now) (C.lane x.now.cells.now)
         (C.shift x.now.cells.now) i }
+    ensures fits { (z : ℤ) → result ≡ Some z → FitsSigned w64 z }
 {
     match x.places.place(i, steps) {
         Some(place) => Some(x.cells.key(place, steps)),
@@ -41,8 +43,9 @@ fn key_ahead<P: Places, C: Cells, L: Ledger>(
 ) -> Option<i64>
     requires within { i < P.size x.now.places.now }
     requires ahead { P.ahead x.now.places.now i < size_of (C.lane x.now.cells.now) }
-    ensures { result ≡ leaf_key (P.at x.now.places.now) (C.lane x.now.cells.now)
+    ensures key { result ≡ leaf_key (P.at x.now.places.now) (C.lane x.now.cells.now)
         (C.shift x.now.cells.now) i }
+    ensures fits { (z : ℤ) → result ≡ Some z → FitsSigned w64 z }
 {
     let key = x.cells.key(x.places.ahead(i), steps);
     if x.places.shows(i, steps) {
@@ -64,8 +67,9 @@ pub(crate) fn key_by<P: Places, C: Cells, L: Ledger>(
     requires leads { AreLeading (P.at x.now.places.now) (P.size x.now.places.now)
         (size_of (C.lane x.now.cells.now)) }
     requires ahead { ahead ≡ true → P.ahead x.now.places.now i < size_of (C.lane x.now.cells.now) }
-    ensures { result ≡ leaf_key (P.at x.now.places.now) (C.lane x.now.cells.now)
+    ensures key { result ≡ leaf_key (P.at x.now.places.now) (C.lane x.now.cells.now)
         (C.shift x.now.cells.now) i }
+    ensures fits { (z : ℤ) → result ≡ Some z → FitsSigned w64 z }
 {
     if ahead {
         return key_ahead(x, i, steps);
@@ -158,6 +162,20 @@ fn key_among<S: Side, P: Places, C: Cells, L: Ledger>(
     key_in(found_by::<S, P, C, L>(false, worst, x, first, count, steps))
 }
 
+/// A key that beats none. It is made of the count, of which nothing is left: where the compiler
+/// knows the key, it makes a branch at each null of it.
+#[inline(always)]
+fn worst_key(how: Extreme, count: u64) -> i64
+    requires few { count ≤ 1073741824 }
+    ensures { IsWorst how result }
+{
+    let nothing = (count >> 62) as i64;
+    match how {
+        Extreme::Least => i64::MAX - nothing,
+        Extreme::Greatest => i64::MIN + nothing,
+    }
+}
+
 /// The key of the extreme of the items, or none where all are null.
 #[inline(always)]
 pub(crate) fn key_of<P: Places, C: Cells, L: Ledger>(
@@ -173,9 +191,10 @@ pub(crate) fn key_of<P: Places, C: Cells, L: Ledger>(
         (numbers_from (leaf_number (P.at x.now.places.now) (C.lane x.now.cells.now)) first count)
         result }
 {
+    let worst = worst_key(how, count);
     match how {
-        Extreme::Least => key_among::<Lesser, P, C, L>(i64::MAX, x, first, count, steps),
-        Extreme::Greatest => key_among::<Greater, P, C, L>(i64::MIN, x, first, count, steps),
+        Extreme::Least => key_among::<Lesser, P, C, L>(worst, x, first, count, steps),
+        Extreme::Greatest => key_among::<Greater, P, C, L>(worst, x, first, count, steps),
     }
 }
 

@@ -122,7 +122,7 @@ fn sum_by<P: Places, C: Cells, L: Ledger>(
 }
 
 /// The exact sum of so many items from a first one on.
-pub(crate) fn sum_of<P: Places, C: Cells, L: Ledger>(
+pub fn sum_of<P: Places, C: Cells, L: Ledger>(
     x: &Leaves<'_, P, C>,
     first: u64,
     count: u64,

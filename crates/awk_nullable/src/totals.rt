@@ -1,18 +1,17 @@
-//! Sums, products and counts of the items of a list that are not null.
+//! Products and counts of the items of a list that are not null.
 ghost use Rattle.std.specs.Prelude.{◌≡◌, ◌<◌, ◌≤◌, ◌++◌, ◌∷◌, ℤ, List, [], cond, IfSome};
 ghost use Rattle.std.specs.Prelude.{unsigned_abs};
 ghost use Rattle.std.specs.List.{count_by, list_any, list_all};
 ghost use Rattle.awk_lanes.specs.Numbers.{int_of, is_nonzero, IsOf as IsOfKind};
-ghost use Rattle.awk_numbers.specs.Folds.{folded, tallied, tally_kind, product, IsNear};
+ghost use Rattle.awk_numbers.specs.Folds.{tallied, tally_kind, product, IsNear};
 ghost use Rattle.awk_nullable.specs.Numbers.{leaf_number, numbers_from, AreItems};
 ghost use Rattle.awk_nullable.specs.Totals.{is_true_number, is_false, IsEarly, IsProduct};
 
 use crate::cells::Cells;
 use crate::numbers::{Leaves, Total, count_of, number_of, total_of};
 use crate::places::Places;
-use crate::sums::sum_of;
 use awk_lanes::{Num, Steps, number};
-use awk_numbers::{Fold, Tally, near, one_if};
+use awk_numbers::{Tally, near, one_if};
 use std::sync::ledger::Ledger;
 
 /// A number as one of 64 bits, if it is one.
@@ -170,9 +169,9 @@ impl Total for Zeros {
     }
 }
 
-/// The product of so many items from a first one on, or none where no number of 64 bits is so far
-/// from 0. It is made in 64 bits, and in 128 where it is found in no 64.
-fn product_of<P: Places, C: Cells, L: Ledger>(
+/// The exact product of so many items from a first one on, or none where no number of 64 bits is so
+/// far from 0. It is made in 64 bits, and in 128 where it is found in no 64.
+pub fn product_of<P: Places, C: Cells, L: Ledger>(
     x: &Leaves<'_, P, C>,
     first: u64,
     count: u64,
@@ -186,26 +185,6 @@ fn product_of<P: Places, C: Cells, L: Ledger>(
     match total_of(Early { product: Some(1) }, x, first, count, steps).product {
         Some(z) => Some(i128::from(z)),
         None => near_product(total_of(Product::Near(1), x, first, count, steps)),
-    }
-}
-
-/// The exact sum or product of so many items from a first one on, or none where no number of 64
-/// bits is so far from 0.
-pub fn fold_of<P: Places, C: Cells, L: Ledger>(
-    how: Fold,
-    x: &Leaves<'_, P, C>,
-    first: u64,
-    count: u64,
-    steps: &mut Steps<L>,
-) -> Option<i128>
-    requires items { AreItems (P.at x.now.places.now) (P.size x.now.places.now)
-        (C.lane x.now.cells.now) first count }
-    ensures { IsNear (folded how (numbers_from (leaf_number (P.at x.now.places.now)
-        (C.lane x.now.cells.now)) first count)) result }
-{
-    match how {
-        Fold::Sum => Some(sum_of(x, first, count, steps)),
-        Fold::Product => product_of(x, first, count, steps),
     }
 }
 

@@ -6,11 +6,11 @@ use Rattle.awk_lanes.specs.Numbers.{number, numbers, width}
 use Rattle.awk_lanes.specs.Places.{size_of}
 use Rattle.awk_lanes.specs.declared.kind.Kind.{Kind}
 use Rattle.awk_lanes.proofs.NumberParts.{map-number_all}
-use Rattle.awk_nullable.proofs.byte_cells.cells_of.Goals as goal
+use Rattle.awk_nullable.proofs.group_cells.cells_of.Goals as goal
 
 pub returns : goal.returns
 returns g c =
-    let k = g.C.Byte.kind in
+    let k = g.C.Cell.kind in
     let lane = c.args.lane.now in
     let b = c.bulk.result.now in
     let e : lane.kind ≡ k = c.requires.kind in
@@ -21,7 +21,7 @@ returns g c =
     let same : numbers k (size_of lane) b ≡ lane.items =
     ap (λ q. numbers q (size_of lane) b) (sym e) ∙ c.bulk.ensures.numbers in
     let items : map (number k) c.as_chunks.result.0.now ≡ lane.items =
-    ap (map (number k)) {y = first_chunks 1 (length b / 1) b} c.as_chunks.ensures.front
+    ap (map (number k)) c.as_chunks.ensures.front
     ∙ ap (λ w. map (number k) (first_chunks w (length b / w) b)) (sym c.requires.width)
     ∙ map-number_all k (size_of lane) b lane.items size same in
     ap with_items items ∙ ap with_kind (sym e)
