@@ -1,5 +1,6 @@
 -- Numbers with their places in one compare as the numbers do, the earlier one first.
-use Rattle.std.proofs.Common.{◌≡◌, ℕ, ◌+◌, ◌%◌, ◌≤◌, List, length, arith, refl, ap, sym, ◌∙◌}
+use Rattle.std.proofs.Common.{◌≡◌, ℕ, ◌+◌, ◌%◌, ◌<◌, ◌≤◌, List, length, map, get_or, arith, refl}
+use Rattle.std.proofs.Common.{ap, ap₂, sym, ◌∙◌}
 use Rattle.std.specs.Prelude.{ℤ, pos, negsuc, ◌+ℤ◌, ◌*ℤ◌, Bool, true, false, FitsSigned}
 use Rattle.std.specs.Prelude.{if◌then◌else◌}
 use Rattle.std.specs.Int.{w64, cast_unsigned}
@@ -7,9 +8,9 @@ use Rattle.std.proofs.lemmas.Int.{ints}
 use Rattle.awk_numbers.specs.Folds.{beats}
 use Rattle.awk_numbers.specs.declared.extremes.Extreme.{Extreme}
 use Rattle.awk_numbers.specs.declared.extremes.Extreme.TheVariants.{Least, Greatest}
-use Rattle.awk_cells.specs.Extremes.{better_number, better_of, packed}
+use Rattle.awk_cells.specs.Extremes.{better_number, better_of, packed, turned, IsBest}
 use Rattle.awk_cells.specs.declared.extremes.Best.{Best}
-use Rattle.awk_cells.proofs.ExtremeLaws.{IsSoFar}
+use Rattle.awk_cells.proofs.ExtremeLaws.{IsSoFar, better_more, best_found}
 
 packed_new : (how : Extreme) (x y : ℤ) (p q : ℕ) → p ≤ q → q ≤ 1073741824
     → beats how y x ≡ true → beats Least (packed how y q) (packed how x p) ≡ true
@@ -62,3 +63,23 @@ place_held (negsuc n) z p f l e = omega (arith, ints, f, l, e)
 abbrev pub HasBest : Extreme → (List ℕ → ℤ) → List (List ℕ) → ℕ → ℤ → Type 0
 HasBest how f gs i z =
     (b : Best) × (z ≡ packed how b.number b.place) × (b.place ≤ i) × IsSoFar how f gs i b
+
+-- one number more
+pub best_more : (how : Extreme) (f : List ℕ → ℤ) (gs : List (List ℕ)) (i : ℕ) (old y next : ℤ)
+    → next ≡ packed how y i → i ≤ 1073741824 → i < length gs → y ≡ get_or (map f gs) i (pos 0)
+    → HasBest how f gs i old → HasBest how f gs (i + 1) (better_number Least old next)
+best_more how f gs i old y next e few l here h =
+    let b : Best = h.0 in
+    let n : Best = record { place = i; number = y } in
+    let new : Best = better_of how b n in (
+      new,
+      ap₂ (better_number Least) h.1 e ∙ packed_better how b n h.2 few,
+      omega (arith, better_place how b n i h.2 (omega arith)),
+      better_more how f gs i b n new refl l refl here h.3,
+    )
+
+-- when all are read, it holds the place of the extreme
+pub best_place : (how : Extreme) (f : List ℕ → ℤ) (gs : List (List ℕ)) (i : ℕ) (z : ℤ)
+    → length gs ≤ i → HasBest how f gs i z → (b : Best) × IsBest how f gs b
+    × (z ≡ pos b.place +ℤ turned how b.number *ℤ pos 4294967296)
+best_place how f gs i z l h = (h.0, best_found how f gs i h.0 l h.3, h.1)

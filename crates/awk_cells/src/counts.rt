@@ -75,22 +75,22 @@ pub fn count_set(bytes: &[u8]) -> u64
 
 /// 1 for true, else 0.
 #[inline(always)]
-fn one_if_true(told: bool) -> u64
+fn one_if_true(told: bool) -> u32
     ensures one { result ≡ cond told 1 0 }
     ensures small { result ≤ 1 }
 {
     if told { 1 } else { 0 }
 }
 
-/// How many numbers are not 0.
+/// How many numbers are not 0, counted in 32 bits.
 #[inline(always)]
 pub fn nonzero_in<const W: usize, C: Cell<W>>(groups: &[[u8; W]]) -> u64
     requires few { length groups.now ≤ 1073741824 }
     ensures { result ≡ count_by is_nonzero (map C.number groups.now) }
 {
-    let mut count: u64 = 0;
+    let mut count: u32 = 0;
     for i in 0..groups.len() {
         count += one_if_true(is_true::<W, C>(groups, i));
     }
-    count
+    u64::from(count)
 }

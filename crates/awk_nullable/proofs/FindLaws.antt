@@ -1,5 +1,5 @@
 -- The first item that has a number, one item more.
-use Rattle.std.proofs.Common.{◌≡◌, ℕ, zero, suc, ◌+◌, ◌-◌, ◌<◌, arith, refl}
+use Rattle.std.proofs.Common.{◌≡◌, ℕ, zero, suc, ◌+◌, ◌<◌, ◌≤◌, nat_lt, arith, refl}
 use Rattle.std.proofs.Common.{ap, ap₂, sym, ◌∙◌}
 use Rattle.std.specs.Prelude.{ℤ, ◌+ℤ◌, Bool, true, false, cond, Option, Some, None}
 use Rattle.std.specs.List.{range_with_len}
@@ -7,7 +7,7 @@ use Rattle.std.specs.Option.{option_map}
 use Rattle.awk_base.proofs.Lists.{position-cons}
 use Rattle.awk_lanes.specs.Column.{Column}
 use Rattle.awk_lanes.specs.Places.{at}
-use Rattle.awk_nullable.specs.Extremes.{is_some_number, leaf_key, number_place}
+use Rattle.awk_nullable.specs.Extremes.{is_some_number, leaf_key, number_place, IsItem}
 use Rattle.awk_nullable.specs.Numbers.{leaf_number}
 use Rattle.awk_nullable.proofs.KeyLaws.{eq-shift}
 
@@ -68,30 +68,27 @@ module _ (g : ℕ → Option ℤ) (z : ℤ) where
       by false o w =
           later o (found z n w) ∙ ap (earlier (option_map suc o)) (found_later z n w)
 
-  -- none of the first n items has the number
-  pub none_more : (a n : ℕ) → number_place g a n z ≡ None → is_some_number z (g (a + n)) ≡ false
-      → number_place g a (n + 1) z ≡ None
-  none_more a n h e =
-      place-more a n ∙ ap₂ (λ o b. earlier o (cond b (Some n) None)) h e
+-- ---- the first item, or the count of all
 
-  found_kept : (a n m k : ℕ) → number_place g a n z ≡ Some k → number_place g a (n + m) z ≡ Some k
-  found_kept a n zero k h =
-      let e : n + 0 ≡ n = omega arith in
-      ap (λ i. number_place g a i z) e ∙ h
-  found_kept a n (suc m) k h =
-      let e : n + suc m ≡ n + m + 1 = omega arith in
-      ap (λ i. number_place g a i z) e
-      ∙ place-more a (n + m)
-      ∙ ap (λ o. earlier o (found z (n + m) (g (a + (n + m))))) (found_kept a n m k h)
+-- one item more
+pub item_more : (count i : ℕ) (o : Option ℕ) (place : ℕ) (b : Bool) → i < count
+    → IsItem count i o place
+    → IsItem count (i + 1) (earlier o (cond b (Some i) None))
+    (cond (nat_lt (cond b i count) place) (cond b i count) place)
+item_more count i None place true l h = (grind (arith, l, h), omega arith)
+item_more count i None place false l h = grind (arith, l, h)
+item_more count i (Some k) place true l h = (grind (arith, l, h.0, h.1), omega (arith, h.1))
+item_more count i (Some k) place false l h = (grind (arith, l, h.0, h.1), omega (arith, h.1))
 
-  -- item n is the first of all that has it
-  pub first_found : (a n i : ℕ) → i < n → number_place g a i z ≡ None
-      → is_some_number z (g (a + i)) ≡ true → number_place g a n z ≡ Some i
-  first_found a n i l h e =
-      let here : number_place g a (i + 1) z ≡ Some i =
-      place-more a i ∙ ap₂ (λ o b. earlier o (cond b (Some i) None)) h e in
-      let all : n ≡ i + 1 + (n - (i + 1)) = omega (arith, l) in
-      ap (λ k. number_place g a k z) all ∙ found_kept a (i + 1) (n - (i + 1)) i here
+pub item_there : (count : ℕ) (o : Option ℕ) (place : ℕ) → place < count
+    → IsItem count count o place → Some place ≡ o
+item_there count None place l h = absurd (omega (arith, l, h))
+item_there count (Some k) place l h = ap Some h.0
+
+pub item_none : (count : ℕ) (o : Option ℕ) (place : ℕ) → count ≤ place
+    → IsItem count count o place → None ≡ o
+item_none count None place l h = refl
+item_none count (Some k) place l h = absurd (omega (arith, l, h.0, h.1))
 
 -- ---- keys stand where their numbers do
 

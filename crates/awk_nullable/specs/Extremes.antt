@@ -21,6 +21,11 @@ is_some_number z (Some y) = int_eq z y
 abbrev pub number_place : (ℕ → Option ℤ) → ℕ → ℕ → ℤ → Option ℕ
 number_place g first n z = position (λ i. is_some_number z (g i)) (range_with_len first n)
 
+-- the first of the first i items that is found, or the count of all where none is
+abbrev pub IsItem : ℕ → ℕ → Option ℕ → ℕ → Type 0
+IsItem count i None place = place ≡ count
+IsItem count i (Some k) place = (place ≡ k) × (k < i)
+
 -- the first item of the extreme
 abbrev pub extreme_place : Extreme → (ℕ → Option ℤ) → ℕ → ℕ → Option ℕ
 extreme_place how g first n =

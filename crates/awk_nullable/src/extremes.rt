@@ -1,7 +1,8 @@
 //! Where in a list the least or the greatest item that is not null stands.
-ghost use Rattle.std.specs.Prelude.{◌≡◌, ◌<◌, ◌^◌, true, IfSome};
+ghost use Rattle.std.specs.Prelude.{◌≡◌, ◌<◌, ◌^◌, ℕ, true, cond, nat_lt, Option, IfSome};
 ghost use Rattle.awk_lanes.specs.Places.{size_of};
-ghost use Rattle.awk_nullable.specs.Extremes.{extreme_place, number_place, is_some_number, leaf_key};
+ghost use Rattle.awk_nullable.specs.Extremes.{extreme_place, is_some_number, leaf_key};
+ghost use Rattle.awk_nullable.specs.Extremes.{number_place, IsItem};
 ghost use Rattle.awk_nullable.specs.Numbers.{leaf_number, AreItems, AreAhead};
 
 use crate::cells::Cells;
@@ -23,7 +24,24 @@ fn is_key(key: i64, there: Option<i64>) -> bool
     }
 }
 
-/// The first item of a key, counted from the first one, each read ahead or not.
+/// Item i where it is the one that is looked for, else no item of so many.
+#[inline(always)]
+fn item_or_none(is_it: bool, i: u64, count: u64) -> u64
+    ensures { result ≡ cond is_it i count }
+{
+    if is_it { i } else { count }
+}
+
+/// The earlier one of two items.
+#[inline(always)]
+fn earlier(old: u64, next: u64) -> u64
+    ensures { result ≡ cond (nat_lt next old) next old }
+{
+    if next < old { next } else { old }
+}
+
+/// The first item of a key, counted from the first one, or the count where none has it. Each is
+/// read, ahead or not, without a branch.
 #[inline(always)]
 fn place_by<P: Places, C: Cells, L: Ledger>(
     ahead: bool,
@@ -32,21 +50,29 @@ fn place_by<P: Places, C: Cells, L: Ledger>(
     first: u64,
     count: u64,
     steps: &mut Steps<L>,
-) -> Option<u64>
+) -> u64
     requires items { AreItems (P.at x.now.places.now) (P.size x.now.places.now)
         (C.lane x.now.cells.now) first count }
     requires ahead { ahead ≡ true → AreAhead (P.ahead x.now.places.now) first count
         (size_of (C.lane x.now.cells.now)) }
-    ensures place { result ≡ number_place (leaf_key (P.at x.now.places.now)
-        (C.lane x.now.cells.now) (C.shift x.now.cells.now)) first count key }
+    ensures { IsItem count count (number_place (leaf_key (P.at x.now.places.now)
+        (C.lane x.now.cells.now) (C.shift x.now.cells.now)) first count key) result }
+{
+    let mut place = count;
+    for i in 0..count {
+        let is_it = is_key(key, key_by(ahead, x, first + i, steps));
+        place = earlier(place, item_or_none(is_it, i, count));
+    }
+    place
+}
+
+/// An item, if it is one of so many.
+#[inline(always)]
+fn item_of(place: u64, count: u64) -> Option<u64>
+    ensures item { (o : Option ℕ) → IsItem count count o place → result ≡ o }
     ensures inside { IfSome result (λ k. k < count) }
 {
-    for i in 0..count {
-        if is_key(key, key_by(ahead, x, first + i, steps)) {
-            return Some(i);
-        }
-    }
-    None
+    if place < count { Some(place) } else { None }
 }
 
 /// The first item of a key, counted from the first one.
@@ -64,13 +90,13 @@ fn place_among<P: Places, C: Cells, L: Ledger>(
     ensures inside { IfSome result (λ k. k < count) }
 {
     if x.places.reaches(x.cells, first, count) {
-        return place_by(true, key, x, first, count, steps);
+        return item_of(place_by(true, key, x, first, count, steps), count);
     }
-    place_by(false, key, x, first, count, steps)
+    item_of(place_by(false, key, x, first, count, steps), count)
 }
 
-/// Where in a span of items the extreme stands first, nulls counted. The items are read twice: the
-/// extreme itself is found without a branch at an item.
+/// Where in a span of items the extreme stands first, nulls counted. The items are read twice, once
+/// for the extreme itself, each time without a branch at an item.
 pub fn place_of<P: Places, C: Cells, L: Ledger>(
     how: Extreme,
     x: &Leaves<'_, P, C>,

@@ -1,6 +1,6 @@
 //! Numbers of one kind that fit an i64, which are read without asking for their kind.
-ghost use Rattle.std.specs.Prelude.{◌≡◌, ◌<◌};
-ghost use Rattle.awk_lanes.specs.Numbers.{width};
+ghost use Rattle.std.specs.Prelude.{◌≡◌, ◌<◌, pos, get_or, length, map};
+ghost use Rattle.awk_lanes.specs.Numbers.{element, number, width};
 
 use crate::cells::Cells;
 use crate::halves::{Halves, short_halves};
@@ -8,6 +8,15 @@ use awk_cells::Cell;
 use awk_lanes::{Lane, Steps};
 use std::marker::{Model, PhantomData};
 use std::sync::ledger::Ledger;
+
+/// The number at place k.
+#[inline(always)]
+fn number_in<const W: usize, C: Cell<W>>(groups: &[[u8; W]], k: u64) -> i64
+    requires { k < length groups.now }
+    ensures { result ≡ element C.kind (get_or (map (number C.kind) groups.now) k (pos 0)) }
+{
+    C::number(&groups[k as usize])
+}
 
 /// The numbers of a lane of such a kind, each in a group of bytes.
 #[derive(Drop)]
@@ -46,17 +55,17 @@ impl<'a, const W: usize, C: Cell<W>> Cells for GroupCells<'a, W, C> {
 
     #[inline(always)]
     fn exact<L: Ledger>(&self, k: u64, _steps: &mut Steps<L>) -> i128 {
-        i128::from(C::number(&self.groups[k as usize]))
+        i128::from(number_in::<W, C>(self.groups, k))
     }
 
     #[inline(always)]
     fn halves<L: Ledger>(&self, k: u64, _steps: &mut Steps<L>) -> Halves {
-        short_halves(C::number(&self.groups[k as usize]))
+        short_halves(number_in::<W, C>(self.groups, k))
     }
 
     #[inline(always)]
     fn key<L: Ledger>(&self, k: u64, _steps: &mut Steps<L>) -> i64 {
-        C::number(&self.groups[k as usize])
+        number_in::<W, C>(self.groups, k)
     }
 }
 

@@ -27,4 +27,5 @@ returns g c =
     let gs = c.args.groups.now in
     let end : length (map f gs) ≤ c.loop-i.i =
     omega (arith, c.loop-i-test.false, length-map gs f) in
-    c.loop-i.invariant.count ∙ ap (count_by is_nonzero) (take_all c.loop-i.i (map f gs) end)
+    c.from.ensures ∙ c.loop-i.invariant.count
+    ∙ ap (count_by is_nonzero) (take_all c.loop-i.i (map f gs) end)
