@@ -1,5 +1,5 @@
 //! Numbers of one kind that fit an i64, which are read without asking for their kind.
-ghost use Rattle.std.specs.Prelude.{◌≡◌, ◌<◌, pos, get_or, length, map};
+ghost use Rattle.std.specs.Prelude.{◌≡◌, ◌<◌, ◌≤◌, pos, get_or, length, map};
 ghost use Rattle.awk_lanes.specs.Numbers.{element, number, width};
 
 use crate::cells::Cells;
@@ -34,6 +34,10 @@ impl<'a, const W: usize, C: Cell<W>> Model for GroupCells<'a, W, C> {
     ghost use Rattle.awk_lanes.specs.Numbers.{number};
 
     ghost view = { λ x. record { kind = C.kind; items = map (number C.kind) x.groups.now } };
+
+    ghost use Rattle.std.specs.Prelude.{◌≤◌};
+
+    ghost invariant = { λ _. W ≤ 8 };
 }
 
 impl<'a, const W: usize, C: Cell<W>> Cells for GroupCells<'a, W, C> {
@@ -75,6 +79,7 @@ pub fn cells_of<'a, const W: usize, C: Cell<W>, L: Ledger>(
     steps: &mut Steps<L>,
 ) -> GroupCells<'a, W, C>
     requires some { 0 < W }
+    requires short { W ≤ 8 }
     requires kind { lane.now.kind ≡ C.kind }
     requires width { width C.kind ≡ W }
     ensures { result ≡ lane.now }
