@@ -1,4 +1,5 @@
-//! Numbers that fit an i64, read where they lie in the bytes of a lane, without asking for their kind.
+//! Numbers that fit an i64, read where they lie in the bytes of a lane, without asking for their
+//! kind.
 //!
 //! A `Cell` is how a number of a kind lies in a group of bytes. Of numbers in such groups,
 //! `extreme_place` is the first place of the least or the greatest, and `best_of` that number too;

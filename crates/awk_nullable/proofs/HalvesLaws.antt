@@ -1,5 +1,5 @@
 -- Numbers in two halves, and sums of such, one number more.
-use Rattle.std.proofs.Common.{◌≡◌, ℕ, ◌+◌, ◌*◌, ◌/◌, ◌%◌, ◌<◌, ◌≤◌, List, [], ◌∷◌, ◌++◌}
+use Rattle.std.proofs.Common.{◌≡◌, ℕ, ◌+◌, ◌*◌, ◌%◌, ◌<◌, ◌≤◌, List, [], ◌∷◌, ◌++◌}
 use Rattle.std.proofs.Common.{arith, ap, ap₂, sym, ◌∙◌, subst}
 use Rattle.std.specs.Prelude.{ℤ, pos, negsuc, ◌+ℤ◌, ◌*ℤ◌, unsigned_abs, FitsSigned}
 use Rattle.std.specs.Prelude.{Option, Some, None}
@@ -8,7 +8,7 @@ use Rattle.std.specs.Option.{unwrap_or}
 use Rattle.std.proofs.lemmas.Int.{ints}
 use Rattle.std.proofs.lemmas.List.{append-nil}
 use Rattle.awk_kernels.specs.Kernels.{total}
-use Rattle.awk_nullable.specs.Halves.{halves_sum, IsHalves, IsSum}
+use Rattle.awk_nullable.specs.Halves.{IsHalves, IsSum}
 use Rattle.awk_nullable.specs.Numbers.{number_list}
 use Rattle.awk_nullable.specs.declared.halves.Halves.{Halves}
 

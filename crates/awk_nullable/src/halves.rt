@@ -1,5 +1,5 @@
 //! Numbers in two halves, whose sums need nothing carried from one to the other.
-ghost use Rattle.std.specs.Prelude.{◌≡◌, ◌≤◌, ◌<◌, pos, unsigned_abs};
+ghost use Rattle.std.specs.Prelude.{◌≡◌, pos};
 ghost use Rattle.awk_lanes.specs.Numbers.{int_of};
 ghost use Rattle.awk_nullable.specs.Halves.{halves_sum, IsHalves};
 

@@ -1,6 +1,6 @@
-use Rattle.std.proofs.Common.{◌≡◌, ◌+◌, ◌++◌, ap, sym, ◌∙◌, subst, arith}
+use Rattle.std.proofs.Common.{◌+◌, sym, subst, arith}
 use Rattle.awk_nullable.specs.Halves.{IsSum}
-use Rattle.awk_nullable.specs.Numbers.{leaf_number, number_list, numbers_from}
+use Rattle.awk_nullable.specs.Numbers.{leaf_number, numbers_from}
 use Rattle.awk_nullable.proofs.HalvesLaws.{sum_after, sum_room}
 use Rattle.awk_nullable.proofs.NumberLaws.{numbers-more}
 use Rattle.awk_nullable.proofs.sums.sum_by.Goals as goal

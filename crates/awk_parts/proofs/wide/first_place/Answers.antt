@@ -18,7 +18,7 @@ short_cell_place-requires c =
       length-map bytes (λ b. element kind.Bool (pos b)),
       ap length c.truth_groups.ensures,
       length-map groups (λ g. element kind.Bool (number kind.Bool g)),
-    ) in (omega arith, (omega arith, c.requires.order, within, c.requires.few))
+    ) in (omega arith, (omega arith, (c.requires.order, (within, c.requires.few))))
 
 pub returns-in-Truths-clause-place : goal.returns-in-Truths-clause-place
 returns-in-Truths-clause-place c =
@@ -34,7 +34,7 @@ short_cell_place-requires-in-I8 c =
       c.requires.within,
       ap (λ w. length (whole_numbers w)) c.in-I8.is,
       length-map c.in-I8.groups.now (number kind.I8),
-    ) in (omega arith, (omega arith, c.requires.order, within, c.requires.few))
+    ) in (omega arith, (omega arith, (c.requires.order, (within, c.requires.few))))
 
 pub returns-in-I8-clause-place : goal.returns-in-I8-clause-place
 returns-in-I8-clause-place c =
@@ -50,7 +50,7 @@ short_cell_place-requires-in-I16 c =
       c.requires.within,
       ap (λ w. length (whole_numbers w)) c.in-I16.is,
       length-map c.in-I16.groups.now (number kind.I16),
-    ) in (omega arith, (omega arith, c.requires.order, within, c.requires.few))
+    ) in (omega arith, (omega arith, (c.requires.order, (within, c.requires.few))))
 
 pub returns-in-I16-clause-place : goal.returns-in-I16-clause-place
 returns-in-I16-clause-place c =
@@ -98,7 +98,7 @@ short_cell_place-requires-in-U8 c =
       c.requires.within,
       ap (λ w. length (whole_numbers w)) c.in-U8.is,
       length-map c.in-U8.groups.now (number kind.U8),
-    ) in (omega arith, (omega arith, c.requires.order, within, c.requires.few))
+    ) in (omega arith, (omega arith, (c.requires.order, (within, c.requires.few))))
 
 pub returns-in-U8-clause-place : goal.returns-in-U8-clause-place
 returns-in-U8-clause-place c =
@@ -114,7 +114,7 @@ short_cell_place-requires-in-U16 c =
       c.requires.within,
       ap (λ w. length (whole_numbers w)) c.in-U16.is,
       length-map c.in-U16.groups.now (number kind.U16),
-    ) in (omega arith, (omega arith, c.requires.order, within, c.requires.few))
+    ) in (omega arith, (omega arith, (c.requires.order, (within, c.requires.few))))
 
 pub returns-in-U16-clause-place : goal.returns-in-U16-clause-place
 returns-in-U16-clause-place c =
