@@ -1,11 +1,15 @@
 -- The first item that has a number, one item more.
-use Rattle.std.proofs.Common.{◌≡◌, ℕ, zero, suc, ◌+◌, arith, refl}
+use Rattle.std.proofs.Common.{◌≡◌, ℕ, zero, suc, ◌+◌, ◌<◌, ◌≤◌, nat_lt, arith, refl}
 use Rattle.std.proofs.Common.{ap, ap₂, sym, ◌∙◌}
-use Rattle.std.specs.Prelude.{ℤ, Bool, true, false, cond, Option, Some, None}
+use Rattle.std.specs.Prelude.{ℤ, ◌+ℤ◌, Bool, true, false, cond, Option, Some, None}
 use Rattle.std.specs.List.{range_with_len}
 use Rattle.std.specs.Option.{option_map}
 use Rattle.awk_base.proofs.Lists.{position-cons}
-use Rattle.awk_nullable.specs.Extremes.{is_some_number, number_place}
+use Rattle.awk_lanes.specs.Column.{Column}
+use Rattle.awk_lanes.specs.Places.{at}
+use Rattle.awk_nullable.specs.Extremes.{is_some_number, leaf_key, number_place, IsItem}
+use Rattle.awk_nullable.specs.Numbers.{leaf_number}
+use Rattle.awk_nullable.proofs.KeyLaws.{eq-shift}
 
 -- the earlier one of two places, the first if there is one
 abbrev pub earlier : Option ℕ → Option ℕ → Option ℕ
@@ -63,3 +67,44 @@ module _ (g : ℕ → Option ℤ) (z : ℤ) where
       by true o w = refl
       by false o w =
           later o (found z n w) ∙ ap (earlier (option_map suc o)) (found_later z n w)
+
+-- ---- the first item, or the count of all
+
+-- one item more
+pub item_more : (count i : ℕ) (o : Option ℕ) (place : ℕ) (b : Bool) → i < count
+    → IsItem count i o place
+    → IsItem count (i + 1) (earlier o (cond b (Some i) None))
+    (cond (nat_lt (cond b i count) place) (cond b i count) place)
+item_more count i None place true l h = (grind (arith, l, h), omega arith)
+item_more count i None place false l h = grind (arith, l, h)
+item_more count i (Some k) place true l h = (grind (arith, l, h.0, h.1), omega (arith, h.1))
+item_more count i (Some k) place false l h = (grind (arith, l, h.0, h.1), omega (arith, h.1))
+
+pub item_there : (count : ℕ) (o : Option ℕ) (place : ℕ) → place < count
+    → IsItem count count o place → Some place ≡ o
+item_there count None place l h = absurd (omega (arith, l, h))
+item_there count (Some k) place l h = ap Some h.0
+
+pub item_none : (count : ℕ) (o : Option ℕ) (place : ℕ) → count ≤ place
+    → IsItem count count o place → None ≡ o
+item_none count None place l h = refl
+item_none count (Some k) place l h = absurd (omega (arith, l, h.0, h.1))
+
+-- ---- keys stand where their numbers do
+
+module _ (f : ℕ → Option ℕ) (c : Column) (s z : ℤ) where
+  found-key : (n : ℕ) (o : Option ℕ) → found (z +ℤ s) n (option_map (λ k. at c k +ℤ s) o)
+      ≡ found z n (option_map (at c) o)
+  found-key n None = refl
+  found-key n (Some k) = ap (λ b. cond b (Some n) None) (eq-shift z (at c k) s)
+
+  pub place-key : (a n : ℕ)
+      → number_place (leaf_key f c s) a n (z +ℤ s) ≡ number_place (leaf_number f c) a n z
+  place-key a zero = refl
+  place-key a (suc n) =
+      let e : suc n ≡ n + 1 = omega arith in
+      ap (λ i. number_place (leaf_key f c s) a i (z +ℤ s)) e
+      ∙ place-more (leaf_key f c s) (z +ℤ s) a n
+      ∙ ap₂ earlier (place-key a n) (found-key n (f (a + n)))
+      ∙ sym (place-more (leaf_number f c) z a n)
+      ∙ ap (λ i. number_place (leaf_number f c) a i z) (sym e)

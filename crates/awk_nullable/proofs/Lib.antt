@@ -1,7 +1,7 @@
 mod NumberLaws
 mod FindLaws
 pub mod BestLaws
-mod TotalLaws
+mod HalvesLaws
 mod TruthLaws
 mod KeyLaws
 mod KeyedLaws

@@ -3,3 +3,4 @@ pub mod Numbers
 pub mod Totals
 pub mod Extremes
 pub mod Keys
+pub mod Halves

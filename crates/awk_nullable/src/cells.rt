@@ -2,8 +2,10 @@
 ghost use Rattle.std.specs.Prelude.{◌≡◌, ◌<◌, ◌+ℤ◌, pos, negsuc, unsigned_abs};
 ghost use Rattle.awk_lanes.specs.Numbers.{int_of};
 ghost use Rattle.awk_lanes.specs.Places.{size_of, at};
+ghost use Rattle.awk_nullable.specs.Halves.{IsHalves};
 ghost use Rattle.awk_nullable.specs.Keys.{shift_in, shift_of};
 
+use crate::halves::{Halves, halves_of, int_halves};
 use awk_index::Index;
 use awk_lanes::{Kind, Lane, Num, Steps};
 use std::sync::ledger::Ledger;
@@ -25,6 +27,11 @@ pub trait Cells {
         requires { k < size_of (lane self.now) }
         ensures number { result ≡ at (lane self.now) k }
         ensures near { unsigned_abs result < 18446744073709551616 };
+
+    /// The number at place k in two halves, by which it is summed.
+    fn halves<L: Ledger>(&self, k: u64, steps: &mut Steps<L>) -> Halves
+        requires { k < size_of (lane self.now) }
+        ensures { IsHalves (at (lane self.now) k) result };
 
     /// How far a key lies from its number.
     ghost shift: { Self → ℤ };
@@ -110,6 +117,11 @@ impl<'a> Cells for Lane<'a> {
     }
 
     #[inline(always)]
+    fn halves<L: Ledger>(&self, k: u64, steps: &mut Steps<L>) -> Halves {
+        halves_of(self.at(k, steps))
+    }
+
+    #[inline(always)]
     fn key<L: Ledger>(&self, k: u64, steps: &mut Steps<L>) -> i64 {
         key_of(self.at(k, steps))
     }
@@ -136,6 +148,11 @@ impl<'a> Cells for Index<'a> {
     #[inline(always)]
     fn exact<L: Ledger>(&self, k: u64, _steps: &mut Steps<L>) -> i128 {
         i128::from(self.number(k))
+    }
+
+    #[inline(always)]
+    fn halves<L: Ledger>(&self, k: u64, _steps: &mut Steps<L>) -> Halves {
+        int_halves(self.number(k))
     }
 
     #[inline(always)]

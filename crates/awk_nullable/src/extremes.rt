@@ -1,174 +1,102 @@
 //! Where in a list the least or the greatest item that is not null stands.
-ghost use Rattle.std.specs.Prelude.{◌≡◌, ◌+◌, ◌<◌, ◌^◌, Some, IfSome};
+ghost use Rattle.std.specs.Prelude.{◌≡◌, ◌<◌, ◌^◌, ℕ, true, cond, nat_lt, Option, IfSome};
 ghost use Rattle.awk_lanes.specs.Places.{size_of};
-ghost use Rattle.awk_nullable.specs.Extremes.{better_of, extreme_place};
-ghost use Rattle.awk_nullable.specs.Extremes.{IsBegun, IsBest, IsThere};
-ghost use Rattle.awk_nullable.specs.Numbers.{leaf_number, AreItems, AreLeading};
+ghost use Rattle.awk_nullable.specs.Extremes.{extreme_place, is_some_number, leaf_key};
+ghost use Rattle.awk_nullable.specs.Extremes.{number_place, IsItem};
+ghost use Rattle.awk_nullable.specs.Numbers.{leaf_number, AreItems, AreAhead};
 
 use crate::cells::Cells;
+use crate::keys::{key_by, key_of};
 use crate::numbers::Leaves;
 use crate::places::Places;
 use awk_lanes::Steps;
-use awk_numbers::{Extreme, Greater, Lesser, Side};
+use awk_numbers::Extreme;
 use std::sync::ledger::Ledger;
 
-/// The extreme so far: its item, counted from the first one, its place in the lane and its key.
-#[derive(Clone, Copy)]
-pub(crate) struct Best {
-    pub item: u64,
-    pub place: u64,
-    pub key: i64,
-}
-
-/// The better one of the best so far and another number.
+/// Whether a key is that of an item that is not null.
 #[inline(always)]
-fn better<S: Side>(old: Best, next: Best) -> Best
-    ensures { result ≡ better_of S.how old next }
+fn is_key(key: i64, there: Option<i64>) -> bool
+    ensures { result ≡ is_some_number key there }
 {
-    if S::beats(next.key, old.key) {
-        next
-    } else {
-        old
+    match there {
+        Some(other) => key == other,
+        None => false,
     }
 }
 
-/// The number of item i, counted from the first one, if that is not null.
+/// Item i where it is the one that is looked for, else no item of so many.
 #[inline(always)]
-fn number_there<P: Places, C: Cells, L: Ledger>(
-    x: &Leaves<'_, P, C>,
-    first: u64,
-    i: u64,
-    steps: &mut Steps<L>,
-) -> Option<Best>
-    requires small { first + i < 2 ^ 63 }
-    requires within { first + i < P.size x.now.places.now }
-    requires leads { AreLeading (P.at x.now.places.now) (P.size x.now.places.now)
-        (size_of (C.lane x.now.cells.now)) }
-    ensures { IsThere (P.at x.now.places.now) (C.lane x.now.cells.now) (C.shift x.now.cells.now)
-        first i result }
+fn item_or_none(is_it: bool, i: u64, count: u64) -> u64
+    ensures { result ≡ cond is_it i count }
 {
-    match x.places.place(first + i, steps) {
-        Some(place) => {
-            let key = x.cells.key(place, steps);
-            Some(Best {
-                item: i,
-                place,
-                key,
-            })
-        }
-        None => None,
-    }
+    if is_it { i } else { count }
 }
 
-/// The best one after item i, counted from the first one.
+/// The earlier one of two items.
 #[inline(always)]
-fn next_best<S: Side, P: Places, C: Cells, L: Ledger>(
-    best: Best,
-    x: &Leaves<'_, P, C>,
-    first: u64,
-    i: u64,
-    steps: &mut Steps<L>,
-) -> Best
-    requires small { first + i < 2 ^ 63 }
-    requires within { first + i < P.size x.now.places.now }
-    requires leads { AreLeading (P.at x.now.places.now) (P.size x.now.places.now)
-        (size_of (C.lane x.now.cells.now)) }
-    requires best { IsBest S.how (P.at x.now.places.now) (C.lane x.now.cells.now)
-        (C.shift x.now.cells.now) first i (Some best) }
-    ensures { IsBest S.how (P.at x.now.places.now) (C.lane x.now.cells.now)
-        (C.shift x.now.cells.now) first (i + 1) (Some result) }
+fn earlier(old: u64, next: u64) -> u64
+    ensures { result ≡ cond (nat_lt next old) next old }
 {
-    match number_there(x, first, i, steps) {
-        Some(next) => better::<S>(best, next),
-        None => best,
-    }
+    if next < old { next } else { old }
 }
 
-/// The first number, or none where all items are null.
+/// The first item of a key, counted from the first one, or the count where none has it. Each is
+/// read, ahead or not, without a branch.
 #[inline(always)]
-pub(crate) fn first_there<S: Side, P: Places, C: Cells, L: Ledger>(
+fn place_by<P: Places, C: Cells, L: Ledger>(
+    ahead: bool,
+    key: i64,
     x: &Leaves<'_, P, C>,
     first: u64,
     count: u64,
     steps: &mut Steps<L>,
-) -> Option<Best>
+) -> u64
     requires items { AreItems (P.at x.now.places.now) (P.size x.now.places.now)
         (C.lane x.now.cells.now) first count }
-    ensures { IsBegun S.how (P.at x.now.places.now) (C.lane x.now.cells.now)
-        (C.shift x.now.cells.now) first count result }
+    requires ahead { ahead ≡ true → AreAhead (P.ahead x.now.places.now) first count
+        (size_of (C.lane x.now.cells.now)) }
+    ensures { IsItem count count (number_place (leaf_key (P.at x.now.places.now)
+        (C.lane x.now.cells.now) (C.shift x.now.cells.now)) first count key) result }
 {
+    let mut place = count;
     for i in 0..count {
-        match number_there(x, first, i, steps) {
-            Some(lead) => return Some(lead),
-            None => {}
-        }
+        let is_it = is_key(key, key_by(ahead, x, first + i, steps));
+        place = earlier(place, item_or_none(is_it, i, count));
     }
-    None
+    place
 }
 
-/// The extreme of all items, where the first number is known.
+/// An item, if it is one of so many.
 #[inline(always)]
-pub(crate) fn best_after<S: Side, P: Places, C: Cells, L: Ledger>(
-    lead: Best,
+fn item_of(place: u64, count: u64) -> Option<u64>
+    ensures item { (o : Option ℕ) → IsItem count count o place → result ≡ o }
+    ensures inside { IfSome result (λ k. k < count) }
+{
+    if place < count { Some(place) } else { None }
+}
+
+/// The first item of a key, counted from the first one.
+fn place_among<P: Places, C: Cells, L: Ledger>(
+    key: i64,
     x: &Leaves<'_, P, C>,
     first: u64,
     count: u64,
     steps: &mut Steps<L>,
-) -> Best
+) -> Option<u64>
     requires items { AreItems (P.at x.now.places.now) (P.size x.now.places.now)
         (C.lane x.now.cells.now) first count }
-    requires inside { lead.item < count }
-    requires lead { IsBest S.how (P.at x.now.places.now) (C.lane x.now.cells.now)
-        (C.shift x.now.cells.now) first (lead.item + 1) (Some lead) }
-    ensures { IsBest S.how (P.at x.now.places.now) (C.lane x.now.cells.now)
-        (C.shift x.now.cells.now) first count (Some result) }
+    ensures place { result ≡ number_place (leaf_key (P.at x.now.places.now)
+        (C.lane x.now.cells.now) (C.shift x.now.cells.now)) first count key }
+    ensures inside { IfSome result (λ k. k < count) }
 {
-    let mut best = lead;
-    for i in lead.item + 1..count {
-        best = next_best::<S, P, C, L>(best, x, first, i, steps);
+    if x.places.reaches(x.cells, first, count) {
+        return item_of(place_by(true, key, x, first, count, steps), count);
     }
-    best
+    item_of(place_by(false, key, x, first, count, steps), count)
 }
 
-/// The extreme of the items, or none where all are null. Once a number is found, none is asked
-/// whether there was one before.
-fn best_by<S: Side, P: Places, C: Cells, L: Ledger>(
-    x: &Leaves<'_, P, C>,
-    first: u64,
-    count: u64,
-    steps: &mut Steps<L>,
-) -> Option<Best>
-    requires items { AreItems (P.at x.now.places.now) (P.size x.now.places.now)
-        (C.lane x.now.cells.now) first count }
-    ensures { IsBest S.how (P.at x.now.places.now) (C.lane x.now.cells.now)
-        (C.shift x.now.cells.now) first count result }
-{
-    match first_there::<S, P, C, L>(x, first, count, steps) {
-        Some(lead) => Some(best_after::<S, P, C, L>(lead, x, first, count, steps)),
-        None => None,
-    }
-}
-
-/// The extreme of the items, or none where all are null.
-fn best_of<P: Places, C: Cells, L: Ledger>(
-    how: Extreme,
-    x: &Leaves<'_, P, C>,
-    first: u64,
-    count: u64,
-    steps: &mut Steps<L>,
-) -> Option<Best>
-    requires items { AreItems (P.at x.now.places.now) (P.size x.now.places.now)
-        (C.lane x.now.cells.now) first count }
-    ensures { IsBest how (P.at x.now.places.now) (C.lane x.now.cells.now)
-        (C.shift x.now.cells.now) first count result }
-{
-    match how {
-        Extreme::Least => best_by::<Lesser, P, C, L>(x, first, count, steps),
-        Extreme::Greatest => best_by::<Greater, P, C, L>(x, first, count, steps),
-    }
-}
-
-/// Where in a span of items the extreme stands first, nulls counted.
+/// Where in a span of items the extreme stands first, nulls counted. The items are read twice, once
+/// for the extreme itself, each time without a branch at an item.
 pub fn place_of<P: Places, C: Cells, L: Ledger>(
     how: Extreme,
     x: &Leaves<'_, P, C>,
@@ -182,8 +110,8 @@ pub fn place_of<P: Places, C: Cells, L: Ledger>(
         (C.lane x.now.cells.now)) first count }
     ensures small { IfSome result (λ k. k < 2 ^ 63) }
 {
-    match best_of(how, x, first, count, steps) {
-        Some(best) => Some(best.item),
+    match key_of(how, x, first, count, steps) {
+        Some(key) => place_among(key, x, first, count, steps),
         None => None,
     }
 }

@@ -1,34 +1,87 @@
-//! The least or the greatest item of a list that is not null, by its key alone.
-ghost use Rattle.std.specs.Prelude.{◌≡◌, ◌+◌, ◌<◌, ◌-ℤ◌, Some};
+//! The least or the greatest item of a list that is not null, by its key.
+ghost use Rattle.std.specs.Prelude.{◌≡◌, ◌<◌, ◌≤◌, ℤ, ◌-ℤ◌, true, Some, FitsSigned};
+ghost use Rattle.std.specs.Int.{w64};
 ghost use Rattle.awk_lanes.specs.Places.{size_of};
-ghost use Rattle.awk_nullable.specs.Extremes.{better_key, key_or as key_or_of};
-ghost use Rattle.awk_nullable.specs.Extremes.{IsBest, IsExtreme, IsExtremeKey};
-ghost use Rattle.awk_nullable.specs.Numbers.{leaf_number, numbers_from, AreItems, AreAhead};
+ghost use Rattle.awk_nullable.specs.Extremes.{better_key, found_key, leaf_key, next_found};
+ghost use Rattle.awk_nullable.specs.Extremes.{IsWorst, IsFound, IsExtreme, IsExtremeKey};
+ghost use Rattle.awk_nullable.specs.Numbers.{leaf_number, numbers_from};
+ghost use Rattle.awk_nullable.specs.Numbers.{AreItems, AreLeading, AreAhead};
 
 use crate::cells::Cells;
-use crate::extremes::{Best, best_after, first_there};
 use crate::numbers::Leaves;
 use crate::places::Places;
 use awk_lanes::Steps;
 use awk_numbers::{Extreme, Greater, Lesser, Side};
 use std::sync::ledger::Ledger;
 
-/// The key of item i, or another one where the item is null. It is read before the item is asked
-/// whether it is.
+/// The key of item i, if that is not null.
 #[inline(always)]
-fn key_or<P: Places, C: Cells, L: Ledger>(
-    other: i64,
+fn key_at<P: Places, C: Cells, L: Ledger>(
     x: &Leaves<'_, P, C>,
     i: u64,
     steps: &mut Steps<L>,
-) -> i64
+) -> Option<i64>
+    requires within { i < P.size x.now.places.now }
+    requires leads { AreLeading (P.at x.now.places.now) (P.size x.now.places.now)
+        (size_of (C.lane x.now.cells.now)) }
+    ensures key { result ≡ leaf_key (P.at x.now.places.now) (C.lane x.now.cells.now)
+        (C.shift x.now.cells.now) i }
+    ensures fits { (z : ℤ) → result ≡ Some z → FitsSigned w64 z }
+{
+    match x.places.place(i, steps) {
+        Some(place) => Some(x.cells.key(place, steps)),
+        None => None,
+    }
+}
+
+/// The same, where a number is read before the item is asked whether it is null.
+#[inline(always)]
+fn key_ahead<P: Places, C: Cells, L: Ledger>(
+    x: &Leaves<'_, P, C>,
+    i: u64,
+    steps: &mut Steps<L>,
+) -> Option<i64>
     requires within { i < P.size x.now.places.now }
     requires ahead { P.ahead x.now.places.now i < size_of (C.lane x.now.cells.now) }
-    ensures { result ≡ key_or_of (C.lane x.now.cells.now) (C.shift x.now.cells.now) other
-        (P.at x.now.places.now i) }
+    ensures key { result ≡ leaf_key (P.at x.now.places.now) (C.lane x.now.cells.now)
+        (C.shift x.now.cells.now) i }
+    ensures fits { (z : ℤ) → result ≡ Some z → FitsSigned w64 z }
 {
     let key = x.cells.key(x.places.ahead(i), steps);
-    if x.places.shows(i, steps) { key } else { other }
+    if x.places.shows(i, steps) {
+        Some(key)
+    } else {
+        None
+    }
+}
+
+/// The same, read ahead or not.
+#[inline(always)]
+pub(crate) fn key_by<P: Places, C: Cells, L: Ledger>(
+    ahead: bool,
+    x: &Leaves<'_, P, C>,
+    i: u64,
+    steps: &mut Steps<L>,
+) -> Option<i64>
+    requires within { i < P.size x.now.places.now }
+    requires leads { AreLeading (P.at x.now.places.now) (P.size x.now.places.now)
+        (size_of (C.lane x.now.cells.now)) }
+    requires ahead { ahead ≡ true → P.ahead x.now.places.now i < size_of (C.lane x.now.cells.now) }
+    ensures key { result ≡ leaf_key (P.at x.now.places.now) (C.lane x.now.cells.now)
+        (C.shift x.now.cells.now) i }
+    ensures fits { (z : ℤ) → result ≡ Some z → FitsSigned w64 z }
+{
+    if ahead {
+        return key_ahead(x, i, steps);
+    }
+    key_at(x, i, steps)
+}
+
+/// The best key so far, or one that beats none where there is none.
+#[derive(Clone, Copy)]
+pub(crate) struct Found {
+    pub key: i64,
+    pub some: bool,
 }
 
 /// The better one of two keys.
@@ -39,60 +92,93 @@ fn better<S: Side>(old: i64, next: i64) -> i64
     if S::beats(next, old) { next } else { old }
 }
 
-/// The key of the extreme of all items, where the first number is known. A null counts as the best
-/// one so far, so that there is no branch at an item.
+/// What is found after one item more. A null counts as a key that beats none, so that there is no
+/// branch at an item.
 #[inline(always)]
-fn key_after<S: Side, P: Places, C: Cells, L: Ledger>(
-    lead: Best,
+fn after<S: Side>(old: Found, worst: i64, next: Option<i64>) -> Found
+    ensures { result ≡ next_found S.how worst old next }
+{
+    Found {
+        key: better::<S>(old.key, next.unwrap_or(worst)),
+        some: old.some | next.is_some(),
+    }
+}
+
+/// What is found among so many items from a first one on, each read ahead or not.
+#[inline(always)]
+fn found_by<S: Side, P: Places, C: Cells, L: Ledger>(
+    ahead: bool,
+    worst: i64,
     x: &Leaves<'_, P, C>,
     first: u64,
     count: u64,
     steps: &mut Steps<L>,
-) -> i64
+) -> Found
+    requires worst { IsWorst S.how worst }
     requires items { AreItems (P.at x.now.places.now) (P.size x.now.places.now)
         (C.lane x.now.cells.now) first count }
-    requires ahead { AreAhead (P.ahead x.now.places.now) first count
+    requires ahead { ahead ≡ true → AreAhead (P.ahead x.now.places.now) first count
         (size_of (C.lane x.now.cells.now)) }
-    requires inside { lead.item < count }
-    requires lead { IsBest S.how (P.at x.now.places.now) (C.lane x.now.cells.now)
-        (C.shift x.now.cells.now) first (lead.item + 1) (Some lead) }
-    ensures { IsExtremeKey S.how (C.lane x.now.cells.now) (C.shift x.now.cells.now)
+    ensures { IsFound S.how (C.lane x.now.cells.now) (C.shift x.now.cells.now) worst
         (numbers_from (leaf_number (P.at x.now.places.now) (C.lane x.now.cells.now)) first count)
-        (Some result) }
+        result }
 {
-    let mut best = lead.key;
-    for i in lead.item + 1..count {
-        best = better::<S>(best, key_or(best, x, first + i, steps));
+    let mut found = Found {
+        key: worst,
+        some: false,
+    };
+    for i in 0..count {
+        found = after::<S>(found, worst, key_by(ahead, x, first + i, steps));
     }
-    best
+    found
+}
+
+/// The key of what is found.
+#[inline(always)]
+fn key_in(found: Found) -> Option<i64>
+    ensures { result ≡ found_key found }
+{
+    if found.some { Some(found.key) } else { None }
 }
 
 /// The key of the extreme of the items, or none where all are null.
-fn key_by<S: Side, P: Places, C: Cells, L: Ledger>(
+fn key_among<S: Side, P: Places, C: Cells, L: Ledger>(
+    worst: i64,
     x: &Leaves<'_, P, C>,
     first: u64,
     count: u64,
     steps: &mut Steps<L>,
 ) -> Option<i64>
+    requires worst { IsWorst S.how worst }
     requires items { AreItems (P.at x.now.places.now) (P.size x.now.places.now)
         (C.lane x.now.cells.now) first count }
     ensures { IsExtremeKey S.how (C.lane x.now.cells.now) (C.shift x.now.cells.now)
         (numbers_from (leaf_number (P.at x.now.places.now) (C.lane x.now.cells.now)) first count)
         result }
 {
-    match first_there::<S, P, C, L>(x, first, count, steps) {
-        Some(lead) => {
-            if x.places.reaches(x.cells, first, count) {
-                return Some(key_after::<S, P, C, L>(lead, x, first, count, steps));
-            }
-            Some(best_after::<S, P, C, L>(lead, x, first, count, steps).key)
-        }
-        None => None,
+    if x.places.reaches(x.cells, first, count) {
+        return key_in(found_by::<S, P, C, L>(true, worst, x, first, count, steps));
+    }
+    key_in(found_by::<S, P, C, L>(false, worst, x, first, count, steps))
+}
+
+/// A key that beats none. It is made of the count, of which nothing is left: where the compiler
+/// knows the key, it makes a branch at each null of it.
+#[inline(always)]
+fn worst_key(how: Extreme, count: u64) -> i64
+    requires few { count ≤ 1073741824 }
+    ensures { IsWorst how result }
+{
+    let nothing = (count >> 62) as i64;
+    match how {
+        Extreme::Least => i64::MAX - nothing,
+        Extreme::Greatest => i64::MIN + nothing,
     }
 }
 
 /// The key of the extreme of the items, or none where all are null.
-fn key_of<P: Places, C: Cells, L: Ledger>(
+#[inline(always)]
+pub(crate) fn key_of<P: Places, C: Cells, L: Ledger>(
     how: Extreme,
     x: &Leaves<'_, P, C>,
     first: u64,
@@ -105,9 +191,10 @@ fn key_of<P: Places, C: Cells, L: Ledger>(
         (numbers_from (leaf_number (P.at x.now.places.now) (C.lane x.now.cells.now)) first count)
         result }
 {
+    let worst = worst_key(how, count);
     match how {
-        Extreme::Least => key_by::<Lesser, P, C, L>(x, first, count, steps),
-        Extreme::Greatest => key_by::<Greater, P, C, L>(x, first, count, steps),
+        Extreme::Least => key_among::<Lesser, P, C, L>(worst, x, first, count, steps),
+        Extreme::Greatest => key_among::<Greater, P, C, L>(worst, x, first, count, steps),
     }
 }
 

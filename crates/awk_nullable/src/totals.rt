@@ -1,70 +1,60 @@
-//! Sums, products and counts of the items of a list that are not null.
-ghost use Rattle.std.specs.Prelude.{◌≡◌, ◌<◌, ◌≤◌, ◌++◌, ◌∷◌, ℤ, List, [], Some, cond};
+//! Products and counts of the items of a list that are not null.
+ghost use Rattle.std.specs.Prelude.{◌≡◌, ◌<◌, ◌≤◌, ◌++◌, ◌∷◌, ℤ, List, [], cond, IfSome};
 ghost use Rattle.std.specs.Prelude.{unsigned_abs};
-ghost use Rattle.std.specs.Int.{int_shr};
 ghost use Rattle.std.specs.List.{count_by, list_any, list_all};
-ghost use Rattle.awk_kernels.specs.Kernels.{total};
 ghost use Rattle.awk_lanes.specs.Numbers.{int_of, is_nonzero, IsOf as IsOfKind};
-ghost use Rattle.awk_numbers.specs.Folds.{folded, tallied, tally_kind, product, IsNear};
+ghost use Rattle.awk_numbers.specs.Folds.{tallied, tally_kind, product, IsNear};
 ghost use Rattle.awk_nullable.specs.Numbers.{leaf_number, numbers_from, AreItems};
-ghost use Rattle.awk_nullable.specs.Totals.{is_true_number, is_false, halves_sum, IsProduct};
+ghost use Rattle.awk_nullable.specs.Totals.{is_true_number, is_false, IsEarly, IsProduct};
 
 use crate::cells::Cells;
 use crate::numbers::{Leaves, Total, count_of, number_of, total_of};
 use crate::places::Places;
 use awk_lanes::{Num, Steps, number};
-use awk_numbers::{Fold, Tally, near, one_if};
+use awk_numbers::{Tally, near, one_if};
 use std::sync::ledger::Ledger;
 
-/// What is above the lowest 32 bits of a number.
+/// A number as one of 64 bits, if it is one.
 #[inline(always)]
-fn high_half(z: i128) -> i64
-    requires { unsigned_abs z < 18446744073709551616 }
-    ensures high { result ≡ int_shr z 32 }
-    ensures near { unsigned_abs result ≤ 4294967296 }
+fn in_64_bits(z: i128) -> Option<i64>
+    ensures { IfSome result (λ y. y ≡ z) }
 {
-    (z >> 32) as i64
+    if -0x8000_0000_0000_0000 <= z && z <= 0x7fff_ffff_ffff_ffff {
+        return Some(z as i64);
+    }
+    None
 }
 
-/// The lowest 32 bits of a number.
-#[inline(always)]
-fn low_half(z: i128) -> u64
-    requires { unsigned_abs z < 18446744073709551616 }
-    ensures whole { halves_sum (int_shr z 32) result ≡ z }
-    ensures small { result < 4294967296 }
-{
-    (z & 0xffff_ffff) as u64
-}
-
-/// The sum of numbers, by halves: that of what is above their lowest 32 bits, and that of these. In
-/// a loop nothing is carried from one to the other, and a null is a 0 without a branch.
+/// The product of numbers, or none where that of the first ones is not one of 64 bits.
 #[derive(Clone, Copy)]
-pub(crate) struct Sum {
-    high: i64,
-    low: u64,
+pub(crate) struct Early {
+    product: Option<i64>,
 }
 
-impl Total for Sum {
-    ghost use Rattle.awk_nullable.specs.Totals.{IsSum};
+/// A product after one number more, if both and it are numbers of 64 bits.
+#[inline(always)]
+fn times_early(product: Option<i64>, z: i128) -> Option<i64>
+    ensures { (zs : List ℤ) → IsEarly product zs → IsEarly result (zs ++ z ∷ []) }
+{
+    let so_far = product?;
+    let factor = in_64_bits(z)?;
+    so_far.checked_mul(factor)
+}
 
-    ghost IsOf = { λ s zs. IsSum s.high s.low zs };
+impl Total for Early {
+    ghost use Rattle.awk_nullable.specs.Totals.{IsEarly};
+
+    ghost IsOf = { λ x zs. IsEarly x.product zs };
 
     #[inline(always)]
-    fn after(self, number: Option<i128>) -> Sum {
-        let z = number.unwrap_or(0);
-        Sum {
-            high: self.high + high_half(z),
-            low: self.low + low_half(z),
+    fn after(self, number: Option<i128>) -> Early {
+        match number {
+            Some(z) => Early {
+                product: times_early(self.product, z),
+            },
+            None => self,
         }
     }
-}
-
-/// The sum of both halves.
-#[inline(always)]
-fn whole_sum(x: Sum) -> i128
-    ensures { result ≡ halves_sum x.high x.low }
-{
-    i128::from(x.high) * 4_294_967_296 + i128::from(x.low)
 }
 
 /// The product of numbers.
@@ -179,25 +169,9 @@ impl Total for Zeros {
     }
 }
 
-/// The exact sum of so many items from a first one on.
-fn sum_of<P: Places, C: Cells, L: Ledger>(
-    x: &Leaves<'_, P, C>,
-    first: u64,
-    count: u64,
-    steps: &mut Steps<L>,
-) -> i128
-    requires items { AreItems (P.at x.now.places.now) (P.size x.now.places.now)
-        (C.lane x.now.cells.now) first count }
-    ensures { result ≡ total (numbers_from (leaf_number (P.at x.now.places.now)
-        (C.lane x.now.cells.now)) first count) }
-{
-    whole_sum(total_of(Sum { high: 0, low: 0 }, x, first, count, steps))
-}
-
-/// The exact sum or product of so many items from a first one on, or none where no number of 64
-/// bits is so far from 0.
-pub fn fold_of<P: Places, C: Cells, L: Ledger>(
-    how: Fold,
+/// The exact product of so many items from a first one on, or none where no number of 64 bits is so
+/// far from 0. It is made in 64 bits, and in 128 where it is found in no 64.
+pub fn product_of<P: Places, C: Cells, L: Ledger>(
     x: &Leaves<'_, P, C>,
     first: u64,
     count: u64,
@@ -205,12 +179,12 @@ pub fn fold_of<P: Places, C: Cells, L: Ledger>(
 ) -> Option<i128>
     requires items { AreItems (P.at x.now.places.now) (P.size x.now.places.now)
         (C.lane x.now.cells.now) first count }
-    ensures { IsNear (folded how (numbers_from (leaf_number (P.at x.now.places.now)
+    ensures { IsNear (product (numbers_from (leaf_number (P.at x.now.places.now)
         (C.lane x.now.cells.now)) first count)) result }
 {
-    match how {
-        Fold::Sum => Some(sum_of(x, first, count, steps)),
-        Fold::Product => near_product(total_of(Product::Near(1), x, first, count, steps)),
+    match total_of(Early { product: Some(1) }, x, first, count, steps).product {
+        Some(z) => Some(i128::from(z)),
+        None => near_product(total_of(Product::Near(1), x, first, count, steps)),
     }
 }
 

@@ -14,7 +14,8 @@ ghost use Rattle.awk_nullable.specs.Numbers.{leaf_number, AreItems};
 use awk_columns::{Bounds, Span};
 use awk_lanes::{Arena, Kind, Lane, NoMemory, Num, Numbers, Steps, made_lane, number};
 use awk_nullable::{
-    Cells, Leaves, Places, count_of, extreme_number, fold_of, is_some_there, place_of, tally_of,
+    Cells, Leaves, Places, count_of, extreme_number, is_some_there, place_of, product_of, sum_of,
+    tally_of,
 };
 use awk_numbers::{Extreme, Fold, Tally};
 use awk_parts::{Totals, fitting_lane, kind_of_tally, number_in, number_of_place, zero_of};
@@ -288,19 +289,19 @@ pub fn present_lists<'b, P: Places, C: Cells, L: Ledger>(
     made_lane(Kind::I64, lists.bounds.len(), &source, arena, steps)
 }
 
-/// The sum or product of each list.
+/// The sum of each list.
 #[derive(Drop)]
-struct ListTotals<'x, 'c, 'r, 'a, P: Places, C: Cells> {
-    how: Fold,
+struct ListSums<'x, 'c, 'r, 'a, P: Places, C: Cells> {
     lists: &'x LeafLists<'c, 'r, 'a, P, C>,
 }
 
-impl<'x, 'c, 'r, 'a, P: Places, C: Cells> Totals for ListTotals<'x, 'c, 'r, 'a, P, C> {
+impl<'x, 'c, 'r, 'a, P: Places, C: Cells> Totals for ListSums<'x, 'c, 'r, 'a, P, C> {
     ghost use Rattle.awk_lanes.specs.Places.{size_of};
     ghost use Rattle.awk_nullable_lists.specs.Lists.{folded_at, AreNullable};
     ghost use Rattle.awk_nullable.specs.Numbers.{leaf_number};
+    ghost use Rattle.awk_numbers.specs.declared.folds.Fold.TheVariants.{Sum};
 
-    ghost at = { λ f. folded_at f.how f.lists.now.bounds.now
+    ghost at = { λ f. folded_at Sum f.lists.now.bounds.now
         (leaf_number (P.at f.lists.now.leaves.now.places.now)
         (C.lane f.lists.now.leaves.now.cells.now)) };
 
@@ -312,7 +313,35 @@ impl<'x, 'c, 'r, 'a, P: Places, C: Cells> Totals for ListTotals<'x, 'c, 'r, 'a, 
 
     fn total<L: Ledger>(&self, i: u64, steps: &mut Steps<L>) -> Option<i128> {
         let span = span_of(self.lists, i);
-        fold_of(self.how, self.lists.leaves, span.start, span.length, steps)
+        Some(sum_of(self.lists.leaves, span.start, span.length, steps))
+    }
+}
+
+/// The product of each list.
+#[derive(Drop)]
+struct ListProducts<'x, 'c, 'r, 'a, P: Places, C: Cells> {
+    lists: &'x LeafLists<'c, 'r, 'a, P, C>,
+}
+
+impl<'x, 'c, 'r, 'a, P: Places, C: Cells> Totals for ListProducts<'x, 'c, 'r, 'a, P, C> {
+    ghost use Rattle.awk_lanes.specs.Places.{size_of};
+    ghost use Rattle.awk_nullable_lists.specs.Lists.{folded_at, AreNullable};
+    ghost use Rattle.awk_nullable.specs.Numbers.{leaf_number};
+    ghost use Rattle.awk_numbers.specs.declared.folds.Fold.TheVariants.{Product};
+
+    ghost at = { λ f. folded_at Product f.lists.now.bounds.now
+        (leaf_number (P.at f.lists.now.leaves.now.places.now)
+        (C.lane f.lists.now.leaves.now.cells.now)) };
+
+    ghost size = { λ f. size_of f.lists.now.bounds.now.starts };
+
+    ghost IsReady = { λ f. AreNullable f.lists.now.bounds.now
+        (P.at f.lists.now.leaves.now.places.now) (P.size f.lists.now.leaves.now.places.now)
+        (C.lane f.lists.now.leaves.now.cells.now) };
+
+    fn total<L: Ledger>(&self, i: u64, steps: &mut Steps<L>) -> Option<i128> {
+        let span = span_of(self.lists, i);
+        product_of(self.lists.leaves, span.start, span.length, steps)
     }
 }
 
@@ -331,6 +360,9 @@ pub fn fold_lists<'b, P: Places, C: Cells, L: Ledger>(
         (C.lane lists.now.leaves.now.cells.now)))
         (size_of lists.now.bounds.now.starts)) }
 {
-    let source = ListTotals { how, lists };
-    fitting_lane(prim, lists.bounds.len(), &source, arena, steps)
+    let count = lists.bounds.len();
+    match how {
+        Fold::Sum => fitting_lane(prim, count, &ListSums { lists }, arena, steps),
+        Fold::Product => fitting_lane(prim, count, &ListProducts { lists }, arena, steps),
+    }
 }

@@ -12,7 +12,7 @@ use Rattle.awk_lanes.specs.declared.kind.Kind.TheVariants.{U16, U32, U64}
 use Rattle.awk_lanes.proofs.RangeLaws.{zero_number}
 use Rattle.awk_numbers.specs.Folds.{lane_numbers}
 use Rattle.awk_parts.specs.Elements.{IsElement, AreElements}
-use Rattle.awk_parts.specs.Lanes.{number_or_zero}
+use Rattle.awk_cells.specs.Extremes.{number_or_zero}
 
 truth_element : (b : Bool)
     → (pos 0 ≤ℤ pos (if b then 1 else 0)) × (pos (if b then 1 else 0) ≤ℤ pos 1)

@@ -1,10 +1,11 @@
 -- A number for each part: what it comes to, and where its extreme stands.
-use Rattle.std.specs.Prelude.{ℕ, ℤ, pos, Option, Some, None, List, [], ◌∷◌, get_or}
+use Rattle.std.specs.Prelude.{ℕ, ℤ, pos, Option, Some, None, List, [], ◌∷◌}
 use Rattle.awk_numbers.specs.Folds.{folded, tallied, first_extreme}
 use Rattle.awk_numbers.specs.declared.extremes.Extreme.{Extreme}
 use Rattle.awk_numbers.specs.declared.folds.Fold.{Fold}
 use Rattle.awk_numbers.specs.declared.tallies.Tally.{Tally}
 use Rattle.awk_lanes.specs.Places.{index_or_null}
+use Rattle.awk_cells.specs.Extremes.{number_or_zero}
 use Rattle.awk_parts.specs.Spans.{span_part}
 use Rattle.awk_parts.specs.declared.parts.Spans.{Spans}
 
@@ -20,11 +21,6 @@ tallied_at how zs p i = tallied how (span_part zs p i)
 abbrev pub place_or_zero : Option ℕ → ℤ
 place_or_zero None = pos 0
 place_or_zero (Some k) = pos k
-
--- the number at a place, and 0 for none
-abbrev pub number_or_zero : List ℤ → Option ℕ → ℤ
-number_or_zero zs None = pos 0
-number_or_zero zs (Some k) = get_or zs k (pos 0)
 
 -- the extreme of part i, and 0 where this has no number
 abbrev pub extreme_at : Extreme → List ℤ → Spans → ℕ → ℤ

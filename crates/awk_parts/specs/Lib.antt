@@ -3,5 +3,3 @@ pub mod Spans
 pub mod Fits
 pub mod Lanes
 pub mod Elements
-pub mod Extremes
-pub mod Truths

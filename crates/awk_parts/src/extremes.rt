@@ -9,7 +9,8 @@ ghost use Rattle.awk_parts.specs.Spans.{span_count, AreSpanned};
 
 use crate::parts::{Parts, span_of};
 use crate::short::short_extremes;
-use crate::wide::{first_place, groups_in, truth_groups, wide_extreme};
+use crate::wide::{first_place, groups_in, wide_extreme};
+use awk_cells::truth_groups;
 use awk_lanes::{Arena, Kind, Lane, NoMemory, Num, Numbers, Steps, made_lane};
 use awk_numbers::{Extreme, Whole};
 use std::sync::ledger::Ledger;

@@ -13,8 +13,6 @@
 //! number as code holds those of a kind.
 #![tactic(auto)]
 
-mod blocks;
-mod cells;
 mod counts;
 mod extremes;
 mod fits;

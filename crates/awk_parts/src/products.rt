@@ -1,38 +1,11 @@
-//! Products of numbers that fit an i64, made in numbers of 64 bits where these hold them.
-ghost use Rattle.std.specs.Prelude.{◌≡◌, ◌-◌, ◌≤◌, ◌*ℤ◌, ℤ, length, map, Some};
-ghost use Rattle.std.specs.Prelude.{IfSome, FitsSigned};
-ghost use Rattle.std.specs.Int.{w64};
+//! Products of numbers from a start below a stop, made in numbers of 64 bits where these hold them.
+ghost use Rattle.std.specs.Prelude.{◌≡◌, ◌≤◌, length, map, IfSome};
 ghost use Rattle.std.specs.List.{slice_range};
 ghost use Rattle.awk_numbers.specs.Folds.{folded, product, whole_numbers};
 
-use crate::cells::Cell;
 use crate::parts::Span;
-use crate::wide::{number_at, truth_groups};
+use awk_cells::{Cell, product_in, truth_groups};
 use awk_numbers::{Fold, Whole};
-
-/// A product, if it is one of 64 bits.
-#[inline(always)]
-fn times(so_far: i64, factor: i64) -> Option<i64>
-    ensures product { IfSome result (λ z. z ≡ so_far *ℤ factor) }
-    ensures fits { (z : ℤ) → result ≡ Some z → FitsSigned w64 z }
-{
-    so_far.checked_mul(factor)
-}
-
-/// The product of numbers, or none where the product of the first ones is not one of 64 bits.
-#[inline(always)]
-fn product_in<const W: usize, C: Cell<W>>(groups: &[[u8; W]]) -> Option<i64>
-    ensures { IfSome result (λ z. z ≡ product (map C.number groups.now)) }
-{
-    let mut so_far: i64 = 1;
-    for i in 0..groups.len() {
-        match times(so_far, number_at::<W, C>(groups, i)) {
-            Some(next) => so_far = next,
-            None => return None,
-        }
-    }
-    Some(so_far)
-}
 
 /// The product of the numbers of cells from a start below a stop, if it is found in numbers of 64
 /// bits.

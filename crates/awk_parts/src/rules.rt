@@ -8,10 +8,8 @@ ghost use Rattle.awk_numbers.specs.Folds.{whole_numbers, tallied, tally_kind};
 ghost use Rattle.awk_parts.specs.Lanes.{tallied_at};
 ghost use Rattle.awk_parts.specs.Spans.{span_count, AreSpanned};
 
-use crate::blocks::{are_all_true, is_some_true};
-use crate::cells::Cell;
-use crate::counts::nonzero_in;
 use crate::parts::{Parts, Span, span_of};
+use awk_cells::{Cell, are_all_true, is_some_true, nonzero_in};
 use awk_lanes::{Arena, Kind, Lane, NoMemory, Num, Numbers, Steps, made_lane, number};
 use awk_numbers::Tally;
 use std::marker::PhantomData;

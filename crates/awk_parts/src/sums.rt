@@ -1,6 +1,5 @@
 //! Sums of parts of numbers that fit an i64.
-ghost use Rattle.std.specs.Prelude.{◌≡◌, ◌-◌, ◌<◌, ◌≤◌, pos, get_or, length, map, unsigned_abs};
-ghost use Rattle.std.specs.Prelude.{IfOk};
+ghost use Rattle.std.specs.Prelude.{◌≡◌, ◌-◌, ◌≤◌, pos, length, map, IfOk};
 ghost use Rattle.std.specs.List.{slice_range};
 ghost use Rattle.awk_kernels.specs.Kernels.{total};
 ghost use Rattle.awk_lanes.specs.Numbers.{element, number};
@@ -11,40 +10,14 @@ ghost use Rattle.awk_parts.specs.Fits.{AreFitting};
 ghost use Rattle.awk_parts.specs.Lanes.{folded_at};
 ghost use Rattle.awk_parts.specs.Spans.{span_count, AreSpanned};
 
-use crate::cells::Cell;
 use crate::counts::truths_counted;
 use crate::parts::{Parts, Span, span_of};
 use crate::totals::{Totals, fitting_lane};
-use crate::wide::number_at;
+use awk_cells::{Cell, int_sum_in, sum_in};
 use awk_lanes::{Arena, Lane, NoMemory, Steps};
 use awk_types::Prim;
 use std::marker::PhantomData;
 use std::sync::ledger::Ledger;
-
-/// The number at place i, which needs no more than 32 bits beside its sign.
-#[inline(always)]
-fn narrow_at<const W: usize, C: Cell<W>>(groups: &[[u8; W]], i: usize) -> i64
-    requires within { i < length groups.now }
-    requires narrow { C.reach ≤ 4294967296 }
-    ensures number { result ≡ get_or (map C.number groups.now) i (pos 0) }
-    ensures near { unsigned_abs result ≤ 4294967296 }
-{
-    C::number(&groups[i])
-}
-
-/// The sum of numbers of which each needs so few bits, and which are so few, that no i64 is left.
-#[inline(always)]
-fn sum_in<const W: usize, C: Cell<W>>(groups: &[[u8; W]]) -> i64
-    requires narrow { C.reach ≤ 4294967296 }
-    requires few { length groups.now ≤ 1073741824 }
-    ensures { result ≡ total (map C.number groups.now) }
-{
-    let mut sum: i64 = 0;
-    for i in 0..groups.len() {
-        sum += narrow_at::<W, C>(groups, i);
-    }
-    sum
-}
 
 /// The sum of such numbers from a start below a stop.
 #[inline(always)]
@@ -116,29 +89,6 @@ pub(crate) fn narrow_sums<'a, const W: usize, C: Cell<W>, L: Ledger>(
 }
 
 // ---- numbers of i64
-
-/// The number at place i, in 128 bits.
-#[inline(always)]
-fn wide_at(groups: &[[u8; 8]], i: usize) -> i128
-    requires { i < length groups.now }
-    ensures number { result ≡ get_or (map (number Kind.I64) groups.now) i (pos 0) }
-    ensures near { unsigned_abs result < 18446744073709551616 }
-{
-    i128::from(number_at::<8, i64>(groups, i))
-}
-
-/// The sum of numbers, which are so few that no i128 is left.
-#[inline(always)]
-fn int_sum_in(groups: &[[u8; 8]]) -> i128
-    requires few { length groups.now ≤ 1073741824 }
-    ensures { result ≡ total (map (number Kind.I64) groups.now) }
-{
-    let mut sum: i128 = 0;
-    for i in 0..groups.len() {
-        sum += wide_at(groups, i);
-    }
-    sum
-}
 
 /// The sum of numbers from a start below a stop.
 #[inline(always)]

@@ -10,7 +10,7 @@ ghost use Rattle.awk_parts.specs.Spans.{span_count, AreSpanned};
 use crate::counts::truth_counts;
 use crate::parts::{Parts, span_of};
 use crate::rules::cell_tallies;
-use crate::wide::truth_groups;
+use awk_cells::truth_groups;
 use awk_kernels::Kernels;
 use awk_lanes::{Arena, Kind, Lane, NoMemory, Num, Numbers, Steps, made_lane};
 use awk_numbers::{Tally, Whole, tally_of};

@@ -28,7 +28,8 @@ use Rattle.awk_numbers.specs.Folds.{lane_numbers, first_extreme, extreme_of}
 use Rattle.awk_numbers.specs.declared.extremes.Extreme.{Extreme}
 use Rattle.awk_numbers.specs.declared.extremes.Extreme.TheVariants.{Least, Greatest}
 use Rattle.awk_numbers.proofs.PartLaws.{slice_range-map}
-use Rattle.awk_parts.specs.Lanes.{extreme_at, local_at, present_at, number_or_zero, some_place}
+use Rattle.awk_cells.specs.Extremes.{number_or_zero}
+use Rattle.awk_parts.specs.Lanes.{extreme_at, local_at, present_at, some_place}
 use Rattle.awk_parts.specs.Lanes.{place_or_zero}
 use Rattle.awk_parts.specs.Spans.{start_of, stop_of, span_count, span_part}
 use Rattle.awk_parts.specs.declared.parts.Spans.{Spans}

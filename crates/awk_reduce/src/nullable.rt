@@ -1,8 +1,9 @@
 //! Lists of leaves of which some may be null, reduced where they lie.
-ghost use Rattle.std.specs.Prelude.{◌≡◌, ◌≤◌, IfOk};
+ghost use Rattle.std.specs.Prelude.{◌≡◌, ◌<◌, ◌≤◌, IfOk};
 ghost use Rattle.awk_types.specs.ItemLimit.{item_limit};
 ghost use Rattle.awk_lanes.specs.Numbers.{width};
 ghost use Rattle.awk_lanes.specs.Places.{size_of};
+ghost use Rattle.awk_lanes.specs.declared.kind.Kind.TheVariants as Kinds;
 ghost use Rattle.awk_layout.specs.Typing.{array_type};
 ghost use Rattle.awk_list_functions.specs.Made.{IsMade};
 ghost use Rattle.awk_columns.specs.Joined.{total};
@@ -15,12 +16,13 @@ ghost use Rattle.awk_reduce.specs.Totals.{fold_reducer, tally_reducer, item_redu
 use crate::extremes::indexed;
 use crate::reducer::Reducer;
 use crate::types::{leaf_of, wide};
+use awk_cells::Cell;
 use awk_columns::Bounds;
 use awk_index::wide_index;
 use awk_lanes::{Arena, Kind, Lane, Steps};
 use awk_layout::Node;
 use awk_list_functions::{Made, Spoil};
-use awk_nullable::{Byte, Cells, Leaves, Places, cells_of};
+use awk_nullable::{Cells, Leaves, Places, cells_of};
 use awk_nullable_lists::{
     LeafLists, Nullable, extreme_lists, fold_lists, place_lists, present_lists, tally_lists,
 };
@@ -157,8 +159,8 @@ fn reduced_by<'a, P: Places, C: Cells, L: Ledger>(
     null_reduced(alloc, how, lane, &lists, arena, steps)
 }
 
-/// The same by a lane of a byte a number, whose kind is not asked for.
-fn reduced_bytes<'a, B: Byte, P: Places, L: Ledger>(
+/// The same by a lane of numbers that fit an i64, whose kind is not asked for.
+fn reduced_cells<'a, const W: usize, C: Cell<W>, P: Places, L: Ledger>(
     alloc: Global,
     how: Reducer,
     bounds: &Bounds<'_, 'a>,
@@ -167,14 +169,62 @@ fn reduced_bytes<'a, B: Byte, P: Places, L: Ledger>(
     arena: &'a Arena,
     steps: &mut Steps<L>,
 ) -> Result<Made<'a>, NoMemory>
-    requires kind { lane.now.kind ≡ B.kind }
-    requires width { width B.kind ≡ 1 }
+    requires some { 0 < W }
+    requires short { W ≤ 8 }
+    requires kind { lane.now.kind ≡ C.kind }
+    requires width { width C.kind ≡ W }
     requires leaves { AreLeaves bounds.now.content (P.at places.now) (P.size places.now) lane.now }
     requires few { total bounds.now.starts bounds.now.stops bounds.now.content ≤ item_limit }
     ensures { IfOk result (IsMade (reducer_function how) bounds.now.class bounds.now.starts
         bounds.now.stops bounds.now.content) }
 {
-    let cells = cells_of::<B, L>(lane, steps);
+    let cells = cells_of::<W, C, L>(lane, steps);
+    let leaves = Leaves {
+        places,
+        cells: &cells,
+    };
+    reduced_by(alloc, how, bounds, lane, &leaves, arena, steps)
+}
+
+/// The same by a lane of numbers of any kind.
+fn reduced_any<'a, P: Places, L: Ledger>(
+    alloc: Global,
+    how: Reducer,
+    bounds: &Bounds<'_, 'a>,
+    lane: &Lane<'a>,
+    places: &P,
+    arena: &'a Arena,
+    steps: &mut Steps<L>,
+) -> Result<Made<'a>, NoMemory>
+    requires leaves { AreLeaves bounds.now.content (P.at places.now) (P.size places.now) lane.now }
+    requires few { total bounds.now.starts bounds.now.stops bounds.now.content ≤ item_limit }
+    ensures { IfOk result (IsMade (reducer_function how) bounds.now.class bounds.now.starts
+        bounds.now.stops bounds.now.content) }
+{
+    let leaves = Leaves {
+        places,
+        cells: lane,
+    };
+    reduced_by(alloc, how, bounds, lane, &leaves, arena, steps)
+}
+
+/// The same by a lane of numbers of i64, which are read as such.
+fn reduced_wide<'a, P: Places, L: Ledger>(
+    alloc: Global,
+    how: Reducer,
+    bounds: &Bounds<'_, 'a>,
+    lane: &Lane<'a>,
+    places: &P,
+    arena: &'a Arena,
+    steps: &mut Steps<L>,
+) -> Result<Made<'a>, NoMemory>
+    requires kind { lane.now.kind ≡ Kinds.I64 }
+    requires leaves { AreLeaves bounds.now.content (P.at places.now) (P.size places.now) lane.now }
+    requires few { total bounds.now.starts bounds.now.stops bounds.now.content ≤ item_limit }
+    ensures { IfOk result (IsMade (reducer_function how) bounds.now.class bounds.now.starts
+        bounds.now.stops bounds.now.content) }
+{
+    let cells = wide_index(lane, arena, steps)?;
     let leaves = Leaves {
         places,
         cells: &cells,
@@ -198,27 +248,42 @@ fn reduced_in<'a, P: Places, L: Ledger>(
         bounds.now.stops bounds.now.content) }
 {
     match lane.kind() {
-        Kind::I64 => {
-            let cells = wide_index(lane, arena, steps)?;
-            let leaves = Leaves {
-                places,
-                cells: &cells,
-            };
-            reduced_by(alloc, how, bounds, lane, &leaves, arena, steps)
+        Kind::I64 => reduced_wide(alloc, how, bounds, lane, places, arena, steps),
+        Kind::I8 => reduced_cells::<1, i8, P, L>(alloc, how, bounds, lane, places, arena, steps),
+        Kind::Bool => {
+            reduced_cells::<1, bool, P, L>(alloc, how, bounds, lane, places, arena, steps)
         }
-        Kind::I8 => reduced_bytes::<i8, P, L>(alloc, how, bounds, lane, places, arena, steps),
-        Kind::Bool => reduced_bytes::<bool, P, L>(alloc, how, bounds, lane, places, arena, steps),
-        _ => {
-            let leaves = Leaves {
-                places,
-                cells: lane,
-            };
-            reduced_by(alloc, how, bounds, lane, &leaves, arena, steps)
-        }
+        _ => reduced_any(alloc, how, bounds, lane, places, arena, steps),
     }
 }
 
-/// What is made of lists of whose items some may be null, by how these lie.
+/// The same, where numbers of each kind that fit an i64 are read as such.
+fn reduced_each<'a, P: Places, L: Ledger>(
+    alloc: Global,
+    how: Reducer,
+    bounds: &Bounds<'_, 'a>,
+    lane: &Lane<'a>,
+    places: &P,
+    arena: &'a Arena,
+    steps: &mut Steps<L>,
+) -> Result<Made<'a>, NoMemory>
+    requires leaves { AreLeaves bounds.now.content (P.at places.now) (P.size places.now) lane.now }
+    requires few { total bounds.now.starts bounds.now.stops bounds.now.content ≤ item_limit }
+    ensures { IfOk result (IsMade (reducer_function how) bounds.now.class bounds.now.starts
+        bounds.now.stops bounds.now.content) }
+{
+    match lane.kind() {
+        Kind::I16 => reduced_cells::<2, i16, P, L>(alloc, how, bounds, lane, places, arena, steps),
+        Kind::I32 => reduced_cells::<4, i32, P, L>(alloc, how, bounds, lane, places, arena, steps),
+        Kind::U8 => reduced_cells::<1, u8, P, L>(alloc, how, bounds, lane, places, arena, steps),
+        Kind::U16 => reduced_cells::<2, u16, P, L>(alloc, how, bounds, lane, places, arena, steps),
+        Kind::U32 => reduced_cells::<4, u32, P, L>(alloc, how, bounds, lane, places, arena, steps),
+        _ => reduced_in(alloc, how, bounds, lane, places, arena, steps),
+    }
+}
+
+/// What is made of lists of whose items some may be null, by how these lie. Where a mask of bytes
+/// tells that, as where `put_mask` made it, there is a loop for each kind.
 pub(crate) fn reduced_opened<'a, L: Ledger>(
     alloc: Global,
     how: Reducer,
@@ -239,7 +304,9 @@ pub(crate) fn reduced_opened<'a, L: Ledger>(
         Nullable::Narrow { index, lane } => {
             reduced_in(alloc, how, bounds, lane, index, arena, steps)
         }
-        Nullable::Bytes { mask, lane } => reduced_in(alloc, how, bounds, lane, mask, arena, steps),
+        Nullable::Bytes { mask, lane } => {
+            reduced_each(alloc, how, bounds, lane, mask, arena, steps)
+        }
         Nullable::Bits { mask, lane } => reduced_in(alloc, how, bounds, lane, mask, arena, steps),
         Nullable::Unmasked { every, lane } => {
             reduced_in(alloc, how, bounds, lane, every, arena, steps)

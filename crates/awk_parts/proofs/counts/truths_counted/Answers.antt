@@ -8,7 +8,7 @@ use Rattle.awk_numbers.specs.Folds.{tallied}
 use Rattle.awk_numbers.specs.declared.tallies.Tally.TheVariants as tally
 use Rattle.awk_numbers.proofs.PartLaws.{slice_range-map}
 use Rattle.awk_numbers.proofs.TallyLaws.{truths_counted}
-use Rattle.awk_parts.proofs.CountLaws.{count_within}
+use Rattle.awk_cells.proofs.CountLaws.{count_within}
 use Rattle.awk_parts.proofs.counts.truths_counted.Goals as goal
 
 pub returns-clause-count : goal.returns-clause-count

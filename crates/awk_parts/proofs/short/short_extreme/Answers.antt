@@ -4,7 +4,7 @@ use Rattle.std.specs.Int.{w32}
 use Rattle.std.proofs.lemmas.Int.{to_z-of_z}
 use Rattle.awk_numbers.specs.Folds.{first_extreme}
 use Rattle.awk_numbers.proofs.PartLaws.{slice_range-map}
-use Rattle.awk_parts.specs.Lanes.{number_or_zero}
+use Rattle.awk_cells.specs.Extremes.{number_or_zero}
 use Rattle.awk_parts.proofs.short.short_extreme.Goals as goal
 
 pub returns : goal.returns

@@ -7,8 +7,8 @@ use Rattle.awk_lanes.specs.Numbers.{number}
 use Rattle.awk_lanes.specs.declared.kind.Kind.TheVariants as Kind
 use Rattle.awk_numbers.specs.Folds.{first_extreme}
 use Rattle.awk_numbers.proofs.PartLaws.{slice_range-map}
-use Rattle.awk_parts.specs.Lanes.{number_or_zero}
-use Rattle.awk_parts.proofs.ExtremeLaws.{best_read}
+use Rattle.awk_cells.specs.Extremes.{number_or_zero}
+use Rattle.awk_cells.proofs.ExtremeLaws.{best_read}
 use Rattle.awk_parts.proofs.wide.wide_extreme.Goals as goal
 
 pub returns : goal.returns

@@ -10,8 +10,8 @@ pub reduced_in-requires-in-Narrow-clause-leaves : goal.reduced_in-requires-in-Na
 reduced_in-requires-in-Narrow-clause-leaves g c =
     subst (IsNullable c.args.bounds.now.content) c.in-Narrow.is c.requires.leaves
 
-pub reduced_in-requires-in-Bytes-clause-leaves : goal.reduced_in-requires-in-Bytes-clause-leaves
-reduced_in-requires-in-Bytes-clause-leaves g c =
+pub reduced_each-requires-clause-leaves : goal.reduced_each-requires-clause-leaves
+reduced_each-requires-clause-leaves g c =
     subst (IsNullable c.args.bounds.now.content) c.in-Bytes.is c.requires.leaves
 
 pub reduced_in-requires-in-Bits-clause-leaves : goal.reduced_in-requires-in-Bits-clause-leaves

@@ -6,7 +6,7 @@ use Rattle.std.proofs.lemmas.Int.{to_z-of_z}
 use Rattle.awk_lanes.specs.Numbers.{number}
 use Rattle.awk_lanes.specs.declared.kind.Kind.TheVariants as Kind
 use Rattle.awk_numbers.specs.Folds.{first_extreme, whole_numbers}
-use Rattle.awk_parts.specs.Lanes.{number_or_zero}
+use Rattle.awk_cells.specs.Extremes.{number_or_zero}
 use Rattle.awk_parts.specs.Spans.{span_part}
 use Rattle.awk_parts.proofs.extremes.WideExtremesNumbers.number.Goals as goal
 

@@ -1,12 +1,12 @@
-use Rattle.std.proofs.Common.{◌≡◌, ◌<◌, ◌≤◌, ◌*◌, ap, sym, ◌∙◌, length, map, subst, arith, rules}
+use Rattle.std.proofs.Common.{◌<◌, ◌≤◌, ◌*◌, ap, sym, ◌∙◌, length, subst, arith, rules}
 use Rattle.std.specs.Prelude.{FitsSigned}
 use Rattle.std.specs.Int.{w32, w128, cast_signed as to_z, cast_unsigned as of_z}
 use Rattle.std.specs.List.{slice_range}
 use Rattle.std.proofs.lemmas.Int.{to_z-of_z}
 use Rattle.std.proofs.lemmas.List.{length-map}
-use Rattle.awk_numbers.specs.Folds.{first_extreme, lane_numbers, whole_numbers}
+use Rattle.awk_numbers.specs.Folds.{first_extreme, lane_numbers}
 use Rattle.awk_parts.specs.Elements.{IsElement}
-use Rattle.awk_parts.specs.Lanes.{number_or_zero}
+use Rattle.awk_cells.specs.Extremes.{number_or_zero}
 use Rattle.awk_parts.specs.Spans.{span_part, start_of, stop_of}
 use Rattle.awk_parts.proofs.ElementLaws.{part_element, lane_elements}
 use Rattle.awk_parts.proofs.short.ShortExtremesNumbers.number.Goals as goal

@@ -8,7 +8,7 @@ use Rattle.awk_lanes.specs.Numbers.{element, is_nonzero}
 use Rattle.awk_lanes.specs.declared.kind.Kind.TheVariants as Kind
 use Rattle.awk_numbers.proofs.PartLaws.{slice_range-map}
 use Rattle.awk_numbers.proofs.TallyLaws.{truths_counted}
-use Rattle.awk_parts.proofs.CountLaws.{truths_summed}
+use Rattle.awk_cells.proofs.CountLaws.{truths_summed}
 use Rattle.awk_parts.proofs.sums.TruthSumsTotals.total.Goals as goal
 
 pub returns : goal.returns

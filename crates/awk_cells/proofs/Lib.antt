@@ -1,0 +1,5 @@
+pub mod ExtremeLaws
+mod PackedLaws
+mod BlockLaws
+mod SumLaws
+pub mod CountLaws

@@ -1,6 +1,0 @@
-use Rattle.std.proofs.Common.{map}
-use Rattle.awk_parts.proofs.ExtremeLaws.{HasFirst}
-use Rattle.awk_parts.proofs.short.short_in.Given as goal
-
-abbrev pub invariant-loop-i : goal.invariant-loop-i
-invariant-loop-i g l = HasFirst g.S.Side.how (map g.C.Cell.number l.groups) l.i l.best
