@@ -14,14 +14,6 @@ use crate::places::Places;
 use awk_lanes::Steps;
 use std::sync::ledger::Ledger;
 
-/// 0 in two halves.
-#[inline(always)]
-fn no_halves() -> Halves
-    ensures { IsHalves (pos 0) result }
-{
-    Halves { high: 0, low: 0 }
-}
-
 /// The number of item i in two halves, and 0 where the item is null.
 #[inline(always)]
 fn halves_at<P: Places, C: Cells, L: Ledger>(
@@ -37,7 +29,7 @@ fn halves_at<P: Places, C: Cells, L: Ledger>(
 {
     match x.places.place(i, steps) {
         Some(place) => x.cells.halves(place, steps),
-        None => no_halves(),
+        None => Halves { high: 0, low: 0 },
     }
 }
 
@@ -57,7 +49,7 @@ fn halves_ahead<P: Places, C: Cells, L: Ledger>(
     if x.places.shows(i, steps) {
         halves
     } else {
-        no_halves()
+        Halves { high: 0, low: 0 }
     }
 }
 
@@ -114,7 +106,7 @@ fn sum_by<P: Places, C: Cells, L: Ledger>(
     ensures { IsSum count result (numbers_from (leaf_number (P.at x.now.places.now)
         (C.lane x.now.cells.now)) first count) }
 {
-    let mut sum = no_halves();
+    let mut sum = Halves { high: 0, low: 0 };
     for i in 0..count {
         sum = plus(sum, halves_by(ahead, x, first + i, steps));
     }

@@ -1,5 +1,5 @@
 //! Products and counts of the items of a list that are not null.
-ghost use Rattle.std.specs.Prelude.{◌≡◌, ◌<◌, ◌≤◌, ◌++◌, ◌∷◌, ℤ, List, [], cond, IfSome};
+ghost use Rattle.std.specs.Prelude.{◌≡◌, ◌<◌, ◌≤◌, ◌++◌, ◌∷◌, ℤ, List, [], cond};
 ghost use Rattle.std.specs.Prelude.{unsigned_abs};
 ghost use Rattle.std.specs.List.{count_by, list_any, list_all};
 ghost use Rattle.awk_lanes.specs.Numbers.{int_of, is_nonzero, IsOf as IsOfKind};
@@ -14,17 +14,6 @@ use awk_lanes::{Num, Steps, number};
 use awk_numbers::{Tally, near, one_if};
 use std::sync::ledger::Ledger;
 
-/// A number as one of 64 bits, if it is one.
-#[inline(always)]
-fn in_64_bits(z: i128) -> Option<i64>
-    ensures { IfSome result (λ y. y ≡ z) }
-{
-    if -0x8000_0000_0000_0000 <= z && z <= 0x7fff_ffff_ffff_ffff {
-        return Some(z as i64);
-    }
-    None
-}
-
 /// The product of numbers, or none where that of the first ones is not one of 64 bits.
 #[derive(Clone, Copy)]
 pub(crate) struct Early {
@@ -37,8 +26,10 @@ fn times_early(product: Option<i64>, z: i128) -> Option<i64>
     ensures { (zs : List ℤ) → IsEarly product zs → IsEarly result (zs ++ z ∷ []) }
 {
     let so_far = product?;
-    let factor = in_64_bits(z)?;
-    so_far.checked_mul(factor)
+    if z < -0x8000_0000_0000_0000 || z > 0x7fff_ffff_ffff_ffff {
+        return None;
+    }
+    so_far.checked_mul(z as i64)
 }
 
 impl Total for Early {

@@ -1,4 +1,4 @@
-use Rattle.std.proofs.Common.{◌+◌, sym, subst, arith}
+use Rattle.std.proofs.Common.{◌+◌, refl, sym, subst, arith}
 use Rattle.awk_nullable.specs.Halves.{IsSum}
 use Rattle.awk_nullable.specs.Numbers.{leaf_number, numbers_from}
 use Rattle.awk_nullable.proofs.HalvesLaws.{sum_after, sum_room}
@@ -6,9 +6,7 @@ use Rattle.awk_nullable.proofs.NumberLaws.{numbers-more}
 use Rattle.awk_nullable.proofs.sums.sum_by.Goals as goal
 
 pub loop-i-init : goal.loop-i-init
-loop-i-init g c =
-    let none = c.no_halves-sum.ensures in
-    record { exact = none.whole; high = none.high; low = none.low }
+loop-i-init g c = record { exact = refl; high = omega arith; low = omega arith }
 
 pub halves_by-requires-clause-ahead : goal.halves_by-requires-clause-ahead
 halves_by-requires-clause-ahead g c =
