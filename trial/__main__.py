@@ -131,15 +131,18 @@ def edits_of_all(names: list[str]) -> dict[str, list[Edit]]:
 
 
 def tasks_of(run: Run, edits: dict[Crate, list[Edit]]) -> dict[str, Task]:
-    """The libraries below the crates of these edits, each once, and the edits of each crate."""
+    """The edits of each crate, and each library once that lies below those that are to be tried.
+    Edits that the room has a verdict on wait for nothing."""
+    left = {it: [edit for edit in own if not run.room.verdict(it, edit)]
+            for it, own in edits.items()}
     tasks: dict[str, Task] = {}
-    for it in {it.name: it for crate in edits for it in crate.below()}.values():
+    for it in {it.name: it for crate in edits if left[crate] for it in crate.below()}.values():
         build = partial(run.build, it)
         tasks[it.name] = Task([dep.name for dep in it.deps], it.lines, build)
     for it, own in edits.items():
-        work = it.lines // 4 + WORK * len(own)
-        tried = partial(run.try_crate, it, own)
-        tasks[f"edits of {it.name}"] = Task([dep.name for dep in it.deps], work, tried)
+        waits = [dep.name for dep in it.deps] if left[it] else []
+        work = it.lines // 4 + WORK * len(left[it])
+        tasks[f"edits of {it.name}"] = Task(waits, work, partial(run.try_crate, it, own))
     return tasks
 
 
