@@ -170,7 +170,7 @@ fn reduced_cells<'a, const W: usize, C: Cell<W>, P: Places, L: Ledger>(
     steps: &mut Steps<L>,
 ) -> Result<Made<'a>, NoMemory>
     requires some { 0 < W }
-    requires short { W ≤ 8 }
+    requires short { W < 8 }
     requires kind { lane.now.kind ≡ C.kind }
     requires width { width C.kind ≡ W }
     requires leaves { AreLeaves bounds.now.content (P.at places.now) (P.size places.now) lane.now }
