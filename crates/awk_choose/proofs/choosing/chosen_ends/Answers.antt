@@ -1,11 +1,12 @@
 use Rattle.std.proofs.Common.{◌≡◌, ◌+◌, ◌∙◌, ap, ap₂, sym, subst, arith}
-use Rattle.std.specs.Prelude.{suc, map, Ok, Err}
+use Rattle.std.specs.Prelude.{suc, map, Ok, Err, ◌<◌, ◌^◌}
 use Rattle.awk_types.specs.DataType.{leaf}
 use Rattle.awk_types.specs.Faults.{fault_told}
 use Rattle.awk_types.specs.Gives.{Told}
 use Rattle.awk_types.specs.Simple.{option_if}
 use Rattle.awk_types.proofs.RefusalLaws.{Gives-Err}
 use Rattle.awk_layout.specs.Kinds.{primitive_of, primitive_of-kind_of}
+use Rattle.awk_layout.specs.Laws.{len-fits}
 use Rattle.awk_layout.specs.Typing.{array_type, array_items}
 use Rattle.awk_layout.specs.Valid.{len}
 use Rattle.awk_pair_sides.specs.Levels.{some_option}
@@ -38,6 +39,11 @@ returns-in_err-chosen-clause-answer g c =
     c.in_ok-y.y h
     c.len-n.result size)
     c.in_err-chosen.ensures.answer)
+
+pub chosen_node-requires-clause-fits : goal.chosen_node-requires-clause-fits
+chosen_node-requires-clause-fits g c =
+    subst (λ n. n < 2 ^ 63) (sym (c.in_ok-chosen.ensures.size ∙ c.len-n.ensures.len))
+    (len-fits c.get-first.result.now c.len-n.ensures.valid)
 
 pub chosen_node-requires-clause-present : goal.chosen_node-requires-clause-present
 chosen_node-requires-clause-present g c o =
