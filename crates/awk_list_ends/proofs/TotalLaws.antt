@@ -1,6 +1,6 @@
 -- How many items lists have together, by their lengths.
 use Rattle.std.specs.Prelude.{◌≡◌, ℕ, ◌+◌, ◌*◌, ◌<◌, ◌≤◌, refl, Bool, true, false, length, pos}
-use Rattle.std.specs.Prelude.{Some}
+use Rattle.std.specs.Prelude.{Some, not}
 use Rattle.std.specs.List.{range_with_len}
 use Rattle.std.proofs.Common.{arith, ap, sym, ◌∙◌, subst}
 use Rattle.std.proofs.lemmas.List.Folds.{flat_map-map}
@@ -12,12 +12,13 @@ use Rattle.awk_lanes.specs.Places.{size_of}
 use Rattle.awk_lanes.specs.declared.kind.Kind.TheVariants.{I64}
 use Rattle.awk_lanes.proofs.CountedLanes.{before-equal, before-same}
 use Rattle.awk_layout.specs.Layout.{Layout}
+use Rattle.awk_layout.specs.Valid.{len}
 use Rattle.awk_columns.specs.Columns.{list_items}
 use Rattle.awk_columns.specs.Joined.{total}
 use Rattle.awk_columns.specs.Lists.{span_length, AreOfClass}
 use Rattle.awk_columns.specs.ListValues.{list_at}
 use Rattle.awk_columns.proofs.JoinedLists.{before-spans, joined-count}
-use Rattle.awk_list_ends.specs.Total.{AreFew}
+use Rattle.awk_list_ends.specs.Total.{AreFew, AreOver}
 
 pub before-total : (s t : Column) (y : Layout)
     → before (span_length s t) (size_of s) ≡ total s t y
@@ -31,6 +32,12 @@ pub few_by : (s t : Column) (y : Layout) (b : Bool)
     → (b ≡ false → item_limit < before (span_length s t) (size_of s)) → AreFew s t y b
 few_by s t y true h k = subst (λ n. n ≤ item_limit) (before-total s t y) (h refl)
 few_by s t y false h k = subst (λ n. item_limit < n) (before-total s t y) (k refl)
+
+pub over_by : (s t : Column) (y : Layout) (n : ℕ) (b : Bool) → n ≡ len y
+    → (b ≡ true → before (span_length s t) (size_of s) ≤ n)
+    → (b ≡ false → n < before (span_length s t) (size_of s)) → AreOver s t y (not b)
+over_by s t y n true e h k = omega (arith, e, h refl, before-total s t y)
+over_by s t y n false e h k = omega (arith, e, k refl, before-total s t y)
 
 -- ---- lists of one size
 

@@ -14,4 +14,4 @@ mod total;
 pub use ends::numbers_at_ends;
 pub use filling::span_or;
 pub use length::length_between;
-pub use total::{are_few, are_within, even_total};
+pub use total::{are_few, are_within, even_total, lie_over_one_another};

@@ -3,7 +3,7 @@ ghost use Rattle.std.specs.Prelude.{◌≡◌, ◌<◌, ◌≤◌, true, false, 
 ghost use Rattle.awk_lanes.specs.Counted.{before};
 ghost use Rattle.awk_lanes.specs.Places.{size_of};
 ghost use Rattle.awk_columns.specs.Lists.{span_length};
-ghost use Rattle.awk_list_ends.specs.Total.{AreFew, IsEvenTotal};
+ghost use Rattle.awk_list_ends.specs.Total.{AreFew, AreOver, IsEvenTotal};
 
 use awk_columns::{Bounds, Lists};
 use awk_lanes::{Arena, Steps};
@@ -41,6 +41,21 @@ pub fn are_few<'a, L: Ledger>(
 {
     let bounds = Bounds::new(alloc, lists, arena, steps)?;
     Ok(are_within(ITEM_LIMIT, &bounds))
+}
+
+/// Whether lists have more items together than what holds these: some lie over one another. They
+/// are counted, and none is moved.
+pub fn lie_over_one_another<'a, L: Ledger>(
+    alloc: Global,
+    lists: &Lists<'a>,
+    arena: &'a Arena,
+    steps: &mut Steps<L>,
+) -> Result<bool, NoMemory>
+    ensures { IfOk result (AreOver lists.now.starts lists.now.stops lists.now.content) }
+{
+    let n = lists.content().len();
+    let bounds = Bounds::new(alloc, lists, arena, steps)?;
+    Ok(!are_within(n, &bounds))
 }
 
 /// How many items n lists of one size have, or none where they are more than a column may have.
