@@ -3,7 +3,6 @@ use Rattle.std.specs.Prelude.{◌≡◌, ◌+◌, ◌-◌, ◌*◌, ◌<◌, ◌
 use Rattle.std.specs.List.{flat_map, range_with_len}
 use Rattle.std.proofs.Common.{arith, ap, sym, subst, ◌∙◌}
 use Rattle.std.proofs.lemmas.List.{length-append}
-use Rattle.awk_types.specs.ItemLimit.{item_limit}
 use Rattle.awk_types.specs.Value.{Value, list}
 use Rattle.awk_lanes.specs.Column.{Column}
 use Rattle.awk_lanes.specs.Cut.{cut_of}
@@ -44,17 +43,17 @@ total-even m s t y c = flat_long (items_at s t y) m 0 (size_of s)
     (λ i p q. length-run (array_item y) (place_at s i) (place_at t i - place_at s i)
     ∙ c i (omega (arith, q)))
 
--- more items than a column may have are not those of lists without any
-pub holds_many : (class : Class) (s t : Column) (y x : Layout) → OpensLists class s t y x
-    → item_limit < total s t y → HoldsLists x s t y
-holds_many class s t y x o many = record {
+-- lists that have items are not of length 0
+pub holds_some : (class : Class) (s t : Column) (y x : Layout) → OpensLists class s t y x
+    → 0 < total s t y → HoldsLists x s t y
+holds_some class s t y x o some = record {
   over = record {
     class = class;
     typ = o.typ;
     none = λ e.
         let c : AreOfClass (Some 0) s t = subst (λ k. AreOfClass k s t) e o.lists.same_class in
         let z : size_of s * 0 ≡ 0 = grind arith in
-        absurd (omega (arith, many, total-even 0 s t y c, z));
+        absurd (omega (arith, some, total-even 0 s t y c, z));
   };
   spans = o.lists.spans;
   size = o.size;

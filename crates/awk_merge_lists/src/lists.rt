@@ -4,9 +4,12 @@ ghost use Rattle.awk_types.specs.DataType.{DataType, var, reg};
 ghost use Rattle.awk_types.specs.Parts.{IsListType};
 ghost use Rattle.awk_lanes.specs.Making.{with_items};
 ghost use Rattle.awk_lanes.specs.Places.{size_of, place_at, IsIndexKind};
+ghost use Rattle.awk_layout.specs.Layout.{Layout};
 ghost use Rattle.awk_layout.specs.Typing.{array_type};
 ghost use Rattle.awk_layout.specs.Valid.{len};
 ghost use Rattle.awk_unify.specs.View.{lift_of};
+ghost use Rattle.awk_columns.specs.Joined.{total};
+ghost use Rattle.awk_open.specs.Opens.{OpensLists};
 ghost use Rattle.awk_merge_lists.specs.ListLevels.{IsListLevel, IsRegularLevel, AreListSides};
 ghost use Rattle.awk_merge_lists.specs.ListLevels.{AreRegularSides};
 ghost use Rattle.awk_merge_lists.specs.Lists.{HoldsLists, HoldsItems, AreOfLength, HasRoom};
@@ -14,9 +17,10 @@ ghost use Rattle.awk_merge_lists.specs.Lists.{PutsLists, moved_places};
 ghost use Rattle.awk_merge_sides.specs.Sides.{sides_of, AreSides, IsCounted};
 
 use crate::parts::parted;
-use awk_columns::Joined;
+use awk_columns::{Joined, Lists};
 use awk_lanes::{Arena, IndexMaker, Lane, Steps, index_at, number, to_option_place};
 use awk_layout::Array;
+use awk_list_ends::lie_over_one_another;
 use awk_merge_sides::{Side, Sides, items_lift};
 use awk_open::{Opened, open_array};
 use awk_types::NoMemory;
@@ -31,13 +35,28 @@ pub struct ListLevel<'a> {
     pub sides: Sides<'a>,
 }
 
-/// Lists over what holds their items: the items alone, or the whole content where the lists are
-/// together more than the limit of a column.
+/// Lists over what holds their items: the items alone, or the whole content where the lists have
+/// more items together than it holds, or than a column may have.
 #[derive(Drop)]
 struct SideLists<'a> {
     starts: Lane<'a>,
     stops: Lane<'a>,
     content: Array<'a>,
+}
+
+/// Lists that have items, as they lie in the whole content.
+fn as_they_lie<'a>(alloc: Global, lists: &Lists<'a>) -> Result<SideLists<'a>, NoMemory>
+    requires some { 0 < total lists.now.starts lists.now.stops lists.now.content }
+    ensures { (x : Layout)
+        → OpensLists lists.now.class lists.now.starts lists.now.stops lists.now.content x
+        → IfOk result (λ r. HoldsLists x r.starts r.stops r.content) }
+{
+    let content = lists.content().copy(alloc)?;
+    Ok(SideLists {
+        starts: lists.starts().copy(),
+        stops: lists.stops().copy(),
+        content,
+    })
 }
 
 /// The lists of a column.
@@ -51,21 +70,22 @@ fn lists_of<'a, L: Ledger>(
     ensures { IfOk result (λ r. HoldsLists column.now r.starts r.stops r.content) }
 {
     match open_array(alloc, column, arena, steps)? {
-        Opened::Items(lists) => match lists.joined(alloc, arena, steps)? {
-            Joined::TooMany => Ok(SideLists {
-                starts: lists.starts().copy(),
-                stops: lists.stops().copy(),
-                content: lists.content().copy(alloc)?,
-            }),
-            Joined::Lists { offsets, content } => {
-                let n = lists.len();
-                Ok(SideLists {
-                    starts: offsets.cut(0, n, steps),
-                    stops: offsets.cut(1, n + 1, steps),
-                    content,
-                })
+        Opened::Items(lists) => {
+            if lie_over_one_another(alloc, &lists, arena, steps)? {
+                return as_they_lie(alloc, &lists);
             }
-        },
+            match lists.joined(alloc, arena, steps)? {
+                Joined::TooMany => as_they_lie(alloc, &lists),
+                Joined::Lists { offsets, content } => {
+                    let n = lists.len();
+                    Ok(SideLists {
+                        starts: offsets.cut(0, n, steps),
+                        stops: offsets.cut(1, n + 1, steps),
+                        content,
+                    })
+                }
+            }
+        }
         _ => unreachable!(),
     }
 }
