@@ -1,7 +1,8 @@
 //! Functions of one list, over columns of lists.
-ghost use Rattle.std.specs.Prelude.{◌≡◌, None, false, IfOk};
+ghost use Rattle.std.specs.Prelude.{◌≡◌, None, true, false, IfOk};
 ghost use Rattle.awk_types.specs.View.{typ_of};
 ghost use Rattle.awk_layout.specs.Typing.{array_type};
+ghost use Rattle.awk_list_functions.specs.Counted.{CountsGiven};
 ghost use Rattle.awk_list_functions.specs.Made.{IsMade};
 ghost use Rattle.awk_list_functions.specs.ListFunction.{ListFunction, made_type, given_type};
 ghost use Rattle.awk_list_functions.specs.ListFunction.{given_class};
@@ -83,6 +84,14 @@ pub trait ListOp {
         ensures { result ≡ false → NeverIndex (function self.now) }
     {
         true
+    }
+
+    /// Whether lists are refused for the number of items that are given alone, and never where
+    /// single values are given. Then lists that lie over one another need not be joined.
+    fn counts_given(&self) -> bool
+        ensures { result ≡ true → CountsGiven (function self.now) }
+    {
+        false
     }
 
     /// What is made of all lists of a column at once.
