@@ -322,6 +322,10 @@ impl<'o, 'b> ListOp for Filling<'o, 'b> {
         false
     }
 
+    fn counts_given(&self) -> bool {
+        true
+    }
+
     fn column<'a, L: Ledger>(
         &self,
         alloc: Global,

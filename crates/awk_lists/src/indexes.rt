@@ -153,6 +153,10 @@ impl ListOp for LocalIndex {
         false
     }
 
+    fn counts_given(&self) -> bool {
+        true
+    }
+
     fn column<'a, L: Ledger>(
         &self,
         alloc: Global,

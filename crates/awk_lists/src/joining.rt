@@ -243,6 +243,10 @@ impl ListOp for JoinedLists {
         false
     }
 
+    fn counts_given(&self) -> bool {
+        true
+    }
+
     fn column<'a, L: Ledger>(
         &self,
         alloc: Global,

@@ -83,6 +83,10 @@ impl ListOp for Length {
         false
     }
 
+    fn counts_given(&self) -> bool {
+        true
+    }
+
     fn column<'a, L: Ledger>(
         &self,
         alloc: Global,

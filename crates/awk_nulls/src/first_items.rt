@@ -79,6 +79,10 @@ impl ListOp for First {
         false
     }
 
+    fn counts_given(&self) -> bool {
+        true
+    }
+
     fn column<'a, L: Ledger>(
         &self,
         alloc: Global,

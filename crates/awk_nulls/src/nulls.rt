@@ -211,6 +211,10 @@ impl ListOp for NullTests {
         false
     }
 
+    fn counts_given(&self) -> bool {
+        true
+    }
+
     fn column<'a, L: Ledger>(
         &self,
         alloc: Global,

@@ -87,6 +87,10 @@ impl ListOp for SingleLists {
         false
     }
 
+    fn counts_given(&self) -> bool {
+        true
+    }
+
     fn column<'a, L: Ledger>(
         &self,
         alloc: Global,
