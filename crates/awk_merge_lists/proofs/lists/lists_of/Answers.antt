@@ -1,5 +1,3 @@
-use Rattle.std.proofs.Common.{◌≡◌, ◌∙◌, sym, subst}
-use Rattle.awk_merge_lists.specs.Lists.{HoldsLists}
 use Rattle.awk_columns.specs.Joined.{IsJoined}
 use Rattle.awk_open.specs.Opens.{OpensLists}
 use Rattle.awk_columns.specs.declared.lists.Joined.TheVariants as joined
