@@ -3,3 +3,5 @@ pub mod KeptItems
 pub mod EndLaws
 pub mod TotalLaws
 pub mod FillingLaws
+pub mod InsideLaws
+mod Worked

@@ -2,3 +2,4 @@ pub mod Ends
 pub mod Kept
 pub mod Total
 pub mod Filling
+pub mod Inside
