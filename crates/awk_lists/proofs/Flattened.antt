@@ -53,6 +53,16 @@ are_lists t h = go (is_list_or_unknown (present t)) h
     go true e = refl
     go false e = cc
 
+-- the items of an array, as items of its type
+pub items_stay : (z : Layout) (t : DataType) → array_type z ≡ t
+    → AllByRecursion (Has (array_type z)) (array_items z)
+    → map (simple_value t) (array_items z) ≡ array_items z
+items_stay z t e has =
+    ap (λ u. map (simple_value u) (array_items z)) (sym e)
+    ∙ each_stays (array_type z) (simple_value (array_type z))
+    (λ v k. value_stays (array_type z) v (simple_is_simple (layout_type z)) k)
+    (array_items z) has
+
 -- ---- the offsets
 
 module _ (s e : Column) (y : Layout) (rows : Column) (lists : Layout) (o : Column) (z : Layout)
@@ -144,11 +154,7 @@ module _ (s e : Column) (y : Layout) (rows : Column) (lists : Layout) (o : Colum
 
   stay : AllByRecursion (Has (array_type z)) (array_items z)
       → map (simple_value t) (array_items z) ≡ array_items z
-  stay has =
-      ap (λ u. map (simple_value u) (array_items z)) (sym made_type)
-      ∙ each_stays (array_type z) (simple_value (array_type z))
-      (λ v k. value_stays (array_type z) v (simple_is_simple (layout_type z)) k)
-      (array_items z) has
+  stay has = items_stay z t made_type has
 
   part_stays : AllByRecursion (Has (array_type z)) (array_items z) → (i : ℕ) → i < size_of s
       → map (simple_value t) (joined_items (items_at s e y i)) ≡ joined_items (items_at s e y i)

@@ -4,6 +4,7 @@ pub mod JoinedItems
 pub mod Ends
 pub mod Flattened
 pub mod OneRow
+pub mod SharedRows
 pub mod HeldLists
 pub mod MovedSpans
 pub mod Leaves

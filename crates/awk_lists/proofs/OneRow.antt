@@ -10,7 +10,7 @@ use Rattle.awk_types.specs.ItemLimit.{item_limit}
 use Rattle.awk_types.specs.Parts.{item_of}
 use Rattle.awk_types.specs.Simple.{present, simple, simple_value}
 use Rattle.awk_types.specs.Value.{value_list}
-use Rattle.awk_types.proofs.SimpleLaws.{simple_twice, simple_is_simple, value_stays, each_stays}
+use Rattle.awk_types.proofs.SimpleLaws.{simple_twice}
 use Rattle.awk_lanes.specs.Column.{Column}
 use Rattle.awk_lanes.specs.Counted.{before, offsets_by}
 use Rattle.awk_lanes.specs.Places.{size_of, place_at}
@@ -18,13 +18,15 @@ use Rattle.awk_lanes.specs.declared.kind.Kind.TheVariants.{I64}
 use Rattle.awk_layout.specs.Layout.{Layout}
 use Rattle.awk_layout.specs.Item.{run}
 use Rattle.awk_layout.specs.Typing.{layout_type, array_type, array_items}
-use Rattle.awk_layout.specs.Valid.{len}
+use Rattle.awk_layout.specs.Valid.{len, IsValid}
 use Rattle.awk_layout.proofs.ArrayItems.{length-array_items}
+use Rattle.awk_counts.specs.Counted.{spans}
 use Rattle.awk_gather.specs.Arrays.{array_item}
 use Rattle.awk_columns.specs.Columns.{joined_items}
 use Rattle.awk_columns.specs.Joined.{AreOffsets, JoinsLists}
 use Rattle.awk_columns.specs.ListClass.{Class}
 use Rattle.awk_columns.specs.Lists.{AreLists, items_at}
+use Rattle.awk_columns.specs.Reached.{IsReached}
 use Rattle.awk_columns.proofs.JoinLaws.{reached-items}
 use Rattle.awk_columns.proofs.OffsetLaws.{are_offsets}
 use Rattle.awk_list_functions.specs.Made.{AreGiven}
@@ -32,8 +34,17 @@ use Rattle.awk_open.specs.Opens.{OpensLists}
 use Rattle.awk_list_ends.proofs.KeptItems.{run-slice}
 use Rattle.awk_lists.specs.Listed.{HoldsAll, IsWhole, AreFewItems}
 use Rattle.awk_lists.proofs.Ends.{present-list, joined_lists}
+use Rattle.awk_lists.proofs.Flattened.{items_stay}
 
 -- ---- all items of lists
+
+pub holds_all : (class : Class) (s t : Column) (y x z : Layout) → OpensLists class s t y x
+    → IsReached y (spans s t) z → IsValid z → HoldsAll x z
+holds_all class s t y x z op r v = record {
+  typ = r.typ ∙ sym (ap (λ u. item_of (present u)) op.typ ∙ present-list class (array_type y));
+  valid = v;
+  column = reached-items s t y z r ∙ sym (joined_lists class s t y x op);
+}
 
 pub lists_whole : (class : Class) (s t : Column) (y x : Layout) (r : Option Layout)
     → OpensLists class s t y x → AreFewItems s t y r → IsWhole x r
@@ -42,12 +53,7 @@ lists_whole class s t y x None op h =
 lists_whole class s t y x (Some z) op h =
     let items = joined_lists class s t y x op in (
       subst (λ n. n ≤ item_limit) (sym (ap length items)) h.0,
-      record {
-        typ = h.1.typ ∙ sym (ap (λ u. item_of (present u)) op.typ
-            ∙ present-list class (array_type y));
-        valid = h.2;
-        column = reached-items s t y z h.1 ∙ sym items;
-      },
+      holds_all class s t y x z op h.1 h.2,
     )
 
 -- ---- one row
@@ -83,14 +89,6 @@ module _ (s e : Column) (y : Layout) (rows : Column) (lists : Layout) (class : C
   made_type : array_type z ≡ t
   made_type = h.typ ∙ ap (λ u. item_of (present u)) j.typ
 
-  stay : AllByRecursion (Has (array_type z)) (array_items z)
-      → map (simple_value t) (array_items z) ≡ array_items z
-  stay has =
-      ap (λ u. map (simple_value u) (array_items z)) (sym made_type)
-      ∙ each_stays (array_type z) (simple_value (array_type z))
-      (λ v k. value_stays (array_type z) v (simple_is_simple (layout_type z)) k)
-      (array_items z) has
-
   whole_run : value_list (run (array_item z) 0 (len z)) ≡ array_items z
   whole_run =
       run-slice z 0 (len z) (omega arith)
@@ -100,7 +98,7 @@ module _ (s e : Column) (y : Layout) (rows : Column) (lists : Layout) (class : C
       → value_list (run (array_item z) 0 (len z))
       ≡ map (simple_value t) (joined_items (items_at s e y 0))
   first_list has =
-      whole_run ∙ sym (stay has)
+      whole_run ∙ sym (items_stay z t made_type has)
       ∙ ap (map (simple_value t)) (h.column ∙ ap joined_items row_is)
 
   pub one_given : AllByRecursion (Has (array_type z)) (array_items z)

@@ -3,6 +3,7 @@ pub mod LocalIndex
 pub mod Flatten
 pub mod Listed
 pub mod Held
+pub mod Shared
 pub mod Numbers
 pub mod Unflatten
 pub mod RunLengths

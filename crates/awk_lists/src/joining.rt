@@ -19,6 +19,7 @@ ghost use Rattle.awk_lists.specs.Listed.{IsListed};
 
 use crate::holding::held_of;
 use crate::one_row::one_row;
+use crate::sharing::shared_rows;
 use awk_axis::lift_at;
 use awk_columns::{Bounds, Joined, Lists, join_spans};
 use awk_gather_lanes::gather_lane;
@@ -257,6 +258,9 @@ impl ListOp for JoinedLists {
         if is_list_or_unknown(lists.content().typ()) {
             if are_few(alloc, lists, arena, steps)? {
                 return plain_rows(alloc, lists, arena, steps);
+            }
+            if let Some(made) = shared_rows(alloc, lists, arena, steps)? {
+                return Ok(made);
             }
         }
         any_rows(alloc, lists, arena, steps)

@@ -13,6 +13,7 @@ mod length;
 mod numbers;
 mod one_row;
 mod runs;
+mod sharing;
 
 pub use cutting::unflatten;
 pub use fields::without_field;
