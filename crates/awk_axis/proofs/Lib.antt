@@ -6,3 +6,5 @@ pub mod AllLaws
 pub mod ItemAnswers
 pub mod WholeAnswers
 pub mod LiftAnswers
+pub mod OverLaws
+pub mod Worked

@@ -140,6 +140,11 @@ spanned_column None t f s e a b y z u g = record {
 }
 spanned_column (Some m) t f s e a b y z u g = absurd u
 
+-- whether lists are at the axis, as a test tells it
+pub here_told : (k : Reach) (t u : DataType) (r b : Bool) → u ≡ t → r ≡ here k u → r ≡ b
+    → here k t ≡ b
+here_told k t u r b e h q = ap (here k) (sym e) ∙ sym h ∙ q
+
 pub spoil-list : (f : ListFunction) (k : Reach) (class : Class) (t : DataType) (vs : List Value)
     → here k t ≡ false → spoil_at f k (list_type class t) vs ≡ spoil_inside (spoil_at f (inner k) t)
     vs

@@ -62,7 +62,7 @@ column_as t u v w n y e q m = record {
   items = λ i p. m.items i p ∙ ap (λ s. simple_value s (v i)) e ∙ ap (simple_value u) (q i p);
 }
 
-over : (a b : ℕ) → a < b → nat_lt a b ≡ true
+pub over : (a b : ℕ) → a < b → nat_lt a b ≡ true
 over a b p = grind arith
 
 -- ---- options
@@ -109,7 +109,7 @@ lists_here f k class s t c x (mapped.Column y) e o h = (
       (rw (← o.size) h.1),
 )
 
-above_spoil : (f : ListFunction) (k : Reach) (class : Class) (s t : Column) (c x : Layout)
+pub above_spoil : (f : ListFunction) (k : Reach) (class : Class) (s t : Column) (c x : Layout)
     → here k (array_type c) ≡ false → OpensLists class s t c x →
     spoil_at f k (array_type x) (array_items x)
     ≡ first_spoil (too_many (total s t c)) (spoil_at f (inner k) (array_type c)

@@ -7,6 +7,7 @@
 mod datum;
 mod items;
 mod lift;
+mod over;
 mod whole;
 
 pub use datum::{lift_at, lift_deep};

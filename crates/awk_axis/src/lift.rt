@@ -17,6 +17,7 @@ ghost use Rattle.awk_columns.specs.ListNode.{list_layout};
 ghost use Rattle.awk_list_functions.specs.Made.{IsSizedWithin, even_offsets};
 ghost use Rattle.awk_axis.specs.Mapped.{IsAtAxis, IsLifted, AreLifted};
 
+use crate::over::over_content;
 use awk_columns::{Joined, Lists, list_node};
 use awk_lanes::{Arena, Kind, Lane, LaneMaker, NoMemory, Num, Steps};
 use awk_layout::{Array, Arrays, Node, Nodes};
@@ -60,7 +61,7 @@ fn even_node<'a, L: Ledger>(
 }
 
 /// Lists of any length, where they lie in their content.
-fn span_node<'a, L: Ledger>(
+pub(crate) fn span_node<'a, L: Ledger>(
     alloc: Global,
     starts: Lane<'a>,
     stops: Lane<'a>,
@@ -75,7 +76,7 @@ fn span_node<'a, L: Ledger>(
 }
 
 /// What the function makes of a column of lists, as one node.
-fn at_axis<'a, F: ListOp, L: Ledger>(
+pub(crate) fn at_axis<'a, F: ListOp, L: Ledger>(
     alloc: Global,
     f: &F,
     lists: &Lists<'a>,
@@ -196,6 +197,9 @@ fn lifted_lists<'a, F: ListOp, L: Ledger>(
 {
     if k.is_here(lists.content().typ()) {
         return at_axis(alloc, f, lists, arena, steps);
+    }
+    if let Some(made) = over_content(alloc, f, k, lists, arena, steps)? {
+        return Ok(made);
     }
     match lists.joined(alloc, arena, steps)? {
         Joined::TooMany => lifted_many(alloc, f, k, x, lists, arena, steps),

@@ -1,4 +1,4 @@
-use Rattle.std.proofs.Common.{◌+◌, arith, rules, ◌≡◌, sym, true, false, ap, ◌∙◌, map}
+use Rattle.std.proofs.Common.{◌+◌, arith, rules, ◌≡◌, sym, true, false, ap, ◌∙◌, map, Some}
 use Rattle.awk_base.proofs.Results.{if_ok}
 use Rattle.awk_layout.specs.Typing.{array_type}
 use Rattle.awk_open.specs.Opens.{Opens}
@@ -7,7 +7,10 @@ use Rattle.awk_list_functions.specs.Reach.{here, inner}
 use Rattle.awk_list_functions.specs.Lift.{refusal_at}
 use Rattle.awk_columns.specs.Joined.{IsJoined}
 use Rattle.awk_axis.specs.Mapped.{IsAtAxis, IsLifted, AreLifted}
-use Rattle.awk_axis.proofs.LiftLaws.{refusal-list, refusal-list_here, refusal-row, count_mapped}
+use Rattle.awk_axis.specs.Over.{IsOver}
+use Rattle.awk_types.specs.View.{typ_of}
+use Rattle.awk_axis.proofs.LiftLaws.{here_told, refusal-list, refusal-list_here, refusal-row}
+use Rattle.awk_axis.proofs.LiftLaws.{count_mapped}
 use Rattle.awk_axis.proofs.LiftLaws.{reach_mapped, refusal-union, union_mapped}
 use Rattle.awk_columns.proofs.ListNodes.{joined_even}
 use Rattle.awk_axis.proofs.LiftedLaws.{lists_here, lists_too_many, lists_many_told, lists_spoiled}
@@ -81,8 +84,9 @@ pub lifted_lists-at_axis-requires :
 lifted_lists-at_axis-requires g t c =
     let f = g.F.ListOp.function c.args.f.now in
     let e : here c.args.k (array_type c.args.lists.now.content) ≡ true =
-    ap (here c.args.k) (sym (c.typ.ensures.typ ∙ ap array_type c.content.ensures.content)) ∙ sym
-    c.is_here.ensures ∙ c.if-is_here.true in
+    here_told c.args.k (array_type c.args.lists.now.content) (typ_of c.typ.result.now)
+    c.is_here.result true (c.typ.ensures.typ ∙ ap array_type c.content.ensures.content)
+    c.is_here.ensures c.if-is_here.true in
     record {
       accepted =
           sym (refusal-list_here f c.args.k c.args.lists.now.class
@@ -94,8 +98,9 @@ pub lifted_lists-returns-then-is_here : goal.lifted_lists-returns-then-is_here
 lifted_lists-returns-then-is_here g t c =
     let f = g.F.ListOp.function c.args.f.now in
     let e : here c.args.k (array_type c.args.lists.now.content) ≡ true =
-    ap (here c.args.k) (sym (c.typ.ensures.typ ∙ ap array_type c.content.ensures.content)) ∙ sym
-    c.is_here.ensures ∙ c.if-is_here.true in
+    here_told c.args.k (array_type c.args.lists.now.content) (typ_of c.typ.result.now)
+    c.is_here.result true (c.typ.ensures.typ ∙ ap array_type c.content.ensures.content)
+    c.is_here.ensures c.if-is_here.true in
     if_ok (IsAtAxis f c.args.lists.now.class c.args.lists.now.starts c.args.lists.now.stops
     c.args.lists.now.content)
     (IsLifted f c.args.k c.args.x.now) c.at_axis.result
@@ -103,14 +108,43 @@ lifted_lists-returns-then-is_here g t c =
     c.args.lists.now.stops c.args.lists.now.content
     c.args.x.now m e c.requires.opens) c.at_axis.ensures
 
+pub lifted_lists-over_content-requires-clause-accepted :
+    goal.lifted_lists-over_content-requires-clause-accepted
+lifted_lists-over_content-requires-clause-accepted g t c =
+    let f = g.F.ListOp.function c.args.f.now in
+    let l = c.args.lists.now in
+    let e : here c.args.k (array_type l.content) ≡ false =
+    here_told c.args.k (array_type c.args.lists.now.content) (typ_of c.typ.result.now)
+    c.is_here.result false (c.typ.ensures.typ ∙ ap array_type c.content.ensures.content)
+    c.is_here.ensures c.if-is_here.false in
+    sym (refusal-list f c.args.k l.class (array_type l.content) e)
+    ∙ ap (refusal_at f c.args.k) (sym c.requires.opens.typ) ∙ c.requires.accepted
+
+pub lifted_lists-over_content-requires-clause-above :
+    goal.lifted_lists-over_content-requires-clause-above
+lifted_lists-over_content-requires-clause-above g t c =
+    here_told c.args.k (array_type c.args.lists.now.content) (typ_of c.typ.result.now)
+    c.is_here.result false (c.typ.ensures.typ ∙ ap array_type c.content.ensures.content)
+    c.is_here.ensures c.if-is_here.false
+
+pub lifted_lists-returns-in_err-made : goal.lifted_lists-returns-in_err-made
+lifted_lists-returns-in_err-made g t c = search rules
+
+pub lifted_lists-returns-in-Some : goal.lifted_lists-returns-in-Some
+lifted_lists-returns-in-Some g t c =
+    let h : IsOver (g.F.ListOp.function c.args.f.now) c.args.k c.args.lists.now
+    (Some c.in-Some.made) = rw c.in-Some.is at c.in_ok-made.ensures in
+    h c.args.x.now c.requires.opens
+
 pub lifted_lists-returns-in_err-joined : goal.lifted_lists-returns-in_err-joined
 lifted_lists-returns-in_err-joined g t c = search rules
 
 pub lifted_lists-lifted_many-requires : goal.lifted_lists-lifted_many-requires
 lifted_lists-lifted_many-requires g t c κs within =
     let e : here c.args.k (array_type c.args.lists.now.content) ≡ false =
-    ap (here c.args.k) (sym (c.typ.ensures.typ ∙ ap array_type c.content.ensures.content))
-    ∙ sym c.is_here.ensures ∙ c.if-is_here.false in
+    here_told c.args.k (array_type c.args.lists.now.content) (typ_of c.typ.result.now)
+    c.is_here.result false (c.typ.ensures.typ ∙ ap array_type c.content.ensures.content)
+    c.is_here.ensures c.if-is_here.false in
     let j : IsJoined c.args.lists.now.starts c.args.lists.now.stops c.args.lists.now.content
     joined.TooMany = rw c.in-TooMany.is at c.in_ok-joined.ensures in
     let d : depth (array_type c.args.x.now)
@@ -183,8 +217,9 @@ pub lifted_lists-lifted-requires : goal.lifted_lists-lifted-requires
 lifted_lists-lifted-requires g t c κs within =
     let f = g.F.ListOp.function c.args.f.now in
     let e : here c.args.k (array_type c.args.lists.now.content) ≡ false =
-    ap (here c.args.k) (sym (c.typ.ensures.typ ∙ ap array_type c.content.ensures.content)) ∙ sym
-    c.is_here.ensures ∙ c.if-is_here.false in
+    here_told c.args.k (array_type c.args.lists.now.content) (typ_of c.typ.result.now)
+    c.is_here.result false (c.typ.ensures.typ ∙ ap array_type c.content.ensures.content)
+    c.is_here.ensures c.if-is_here.false in
     let j : IsJoined c.args.lists.now.starts c.args.lists.now.stops c.args.lists.now.content
     (joined.Lists c.in-Lists.offsets c.in-Lists.content) =
     rw c.in-Lists.is at c.in_ok-joined.ensures in
@@ -220,8 +255,9 @@ pub lifted_lists-returns-in-Spoiled : goal.lifted_lists-returns-in-Spoiled
 lifted_lists-returns-in-Spoiled g t c =
     let f = g.F.ListOp.function c.args.f.now in
     let e : here c.args.k (array_type c.args.lists.now.content) ≡ false =
-    ap (here c.args.k) (sym (c.typ.ensures.typ ∙ ap array_type c.content.ensures.content)) ∙ sym
-    c.is_here.ensures ∙ c.if-is_here.false in
+    here_told c.args.k (array_type c.args.lists.now.content) (typ_of c.typ.result.now)
+    c.is_here.result false (c.typ.ensures.typ ∙ ap array_type c.content.ensures.content)
+    c.is_here.ensures c.if-is_here.false in
     let j : IsJoined c.args.lists.now.starts c.args.lists.now.stops c.args.lists.now.content
     (joined.Lists c.in-Lists.offsets c.in-Lists.content) =
     rw c.in-Lists.is at c.in_ok-joined.ensures in
@@ -260,8 +296,9 @@ pub lifted_lists-returns : goal.lifted_lists-returns
 lifted_lists-returns g t c =
     let f = g.F.ListOp.function c.args.f.now in
     let e : here c.args.k (array_type c.args.lists.now.content) ≡ false =
-    ap (here c.args.k) (sym (c.typ.ensures.typ ∙ ap array_type c.content.ensures.content)) ∙ sym
-    c.is_here.ensures ∙ c.if-is_here.false in
+    here_told c.args.k (array_type c.args.lists.now.content) (typ_of c.typ.result.now)
+    c.is_here.result false (c.typ.ensures.typ ∙ ap array_type c.content.ensures.content)
+    c.is_here.ensures c.if-is_here.false in
     let j : IsJoined c.args.lists.now.starts c.args.lists.now.stops c.args.lists.now.content
     (joined.Lists c.in-Lists.offsets c.in-Lists.content) =
     rw c.in-Lists.is at c.in_ok-joined.ensures in
