@@ -21,12 +21,12 @@ use crate::holding::held_of;
 use crate::one_row::one_row;
 use crate::sharing::shared_rows;
 use awk_axis::lift_at;
-use awk_columns::{Bounds, Joined, Lists, join_spans};
+use awk_columns::{Joined, Lists, join_spans};
 use awk_gather_lanes::gather_lane;
 use awk_index::index_of;
 use awk_lanes::{Arena, Kind, Lane, LaneMaker, Steps, number};
 use awk_layout::{Array, Datum};
-use awk_list_ends::{are_within, numbers_at_ends};
+use awk_list_ends::{lie_over_one_another, numbers_at_ends};
 use awk_list_functions::{ListOp, Made, Refusal, Spoil};
 use awk_open::{Opened, open_array};
 use awk_types::{Fault, NoMemory, Typ, copy_type, is_list_or_unknown};
@@ -199,17 +199,6 @@ fn plain_rows<'a, L: Ledger>(
     }
 }
 
-/// Whether lists have together no more items than what holds these.
-fn are_few<'a, L: Ledger>(
-    alloc: Global,
-    lists: &Lists<'a>,
-    arena: &'a Arena,
-    steps: &mut Steps<L>,
-) -> Result<bool, NoMemory> {
-    let bounds = Bounds::new(alloc, lists, arena, steps)?;
-    Ok(are_within(lists.content().len(), &bounds))
-}
-
 /// The lists of a list joined.
 #[derive(Clone, Copy, Debug, PartialEq, Eq)]
 struct JoinedLists;
@@ -256,7 +245,7 @@ impl ListOp for JoinedLists {
         steps: &mut Steps<L>,
     ) -> Result<Made<'a>, NoMemory> {
         if is_list_or_unknown(lists.content().typ()) {
-            if are_few(alloc, lists, arena, steps)? {
+            if !lie_over_one_another(alloc, lists, arena, steps)? {
                 return plain_rows(alloc, lists, arena, steps);
             }
             if let Some(made) = shared_rows(alloc, lists, arena, steps)? {
