@@ -274,17 +274,24 @@ def rows() -> list[tuple[str, list[str]]]:
         ("many is_none 0", [MANY, show(["num", ["is_none", g, 0], 0])]),
         ("many pad_none 0 clip", [MANY, show(["num", ["pad_none", g, 1, 0, True], 0])]),
     ]
-    x = nested(200)
-    plain = ["num", "flatten", "is_none", "local_index", "drop_none", "singletons", "firsts"]
-    for operation in plain:
-        for axis in [2, 3, 4]:
-            found.append((f"nested {operation} {axis}", [x, typed([operation, "x", axis])]))
-    for axis in [2, 3, 4]:
-        found.append((f"nested fill_none {axis}", [x, typed(["fill_none", "x", 7, axis])]))
-        found.append((f"nested pad_none {axis}", [x, typed(["pad_none", "x", 1, axis, True])]))
-    found.append(("nested pack", [x, json.dumps({"pack": "x"})]))
-    found.append(("nested sum", [x, typed(["sum", "x"])]))
+    for m in [200, 500]:
+        found += levels(m)
     return found
+
+
+def levels(m: int) -> list[tuple[str, list[str]]]:
+    """What is asked of four levels of m lists, which all lie over the same m."""
+    x = nested(m)
+    asked: list[tuple[str, object]] = []
+    for axis in [2, 3, 4]:
+        for name in ["num", "flatten", "is_none", "local_index", "drop_none", "singletons", "firsts"]:
+            asked.append((f"{name} {axis}", [name, "x", axis]))
+        asked.append((f"fill_none {axis}", ["fill_none", "x", 7, axis]))
+        asked.append((f"pad_none {axis}", ["pad_none", "x", 1, axis, True]))
+    asked += [("sum", ["sum", "x"]), ("sort", ["sort", "x", True]),
+              ("concatenate 0", ["concatenate", 0, ["x", "x"]])]
+    found = [(f"nested {m} {name}", [x, typed(what)]) for name, what in asked]
+    return found + [(f"nested {m} pack", [x, json.dumps({"pack": "x"})])]
 
 
 def space() -> None:
