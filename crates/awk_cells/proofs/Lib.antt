@@ -1,5 +1,5 @@
 pub mod ExtremeLaws
 mod PackedLaws
-mod BlockLaws
+mod TruthLaws
 mod SumLaws
 pub mod CountLaws

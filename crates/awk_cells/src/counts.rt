@@ -4,8 +4,8 @@ ghost use Rattle.std.specs.List.{sum_by, count_by};
 ghost use Rattle.awk_kernels.specs.Kernels.{count_true};
 ghost use Rattle.awk_lanes.specs.Numbers.{is_nonzero};
 
-use crate::blocks::is_true;
 use crate::cells::Cell;
+use crate::truths::is_zero_at;
 
 /// 1 for a byte that is not 0, else 0.
 #[inline(always)]
@@ -82,15 +82,15 @@ fn one_if_true(told: bool) -> u32
     if told { 1 } else { 0 }
 }
 
-/// How many numbers are not 0, counted in 32 bits.
+/// How many numbers are not 0: all but those that are 0, which are counted in 32 bits.
 #[inline(always)]
 pub fn nonzero_in<const W: usize, C: Cell<W>>(groups: &[[u8; W]]) -> u64
     requires few { length groups.now ≤ 1073741824 }
     ensures { result ≡ count_by is_nonzero (map C.number groups.now) }
 {
-    let mut count: u32 = 0;
+    let mut zeros: u32 = 0;
     for i in 0..groups.len() {
-        count += one_if_true(is_true::<W, C>(groups, i));
+        zeros += one_if_true(is_zero_at::<W, C>(groups, i));
     }
-    u64::from(count)
+    groups.len() as u64 - u64::from(zeros)
 }

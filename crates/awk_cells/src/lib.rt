@@ -9,7 +9,6 @@
 //! `are_all_true` tell whether some or all are not 0. `truth_groups` is truth values as groups.
 #![tactic(auto)]
 
-mod blocks;
 mod cells;
 mod counts;
 mod extremes;
@@ -19,7 +18,6 @@ mod short_places;
 mod sums;
 mod truths;
 
-pub use blocks::{are_all_true, is_some_true};
 pub use cells::Cell;
 pub use counts::{count_set, nonzero_in};
 pub use extremes::{Best, best_of, extreme_place, number_at};
@@ -27,4 +25,4 @@ pub use products::product_in;
 pub use short::short_of;
 pub use short_places::short_place;
 pub use sums::{int_sum_in, sum_in};
-pub use truths::truth_groups;
+pub use truths::{are_all_true, is_some_true, truth_groups};
