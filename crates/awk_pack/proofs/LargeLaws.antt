@@ -41,17 +41,22 @@ pub few_items : (x : Layout) → len x ≤ item_limit
     → nat_lt item_limit (length (array_items x)) ≡ false
 few_items x l = ap (nat_lt item_limit) (length-array_items x) ∙ le-ltb item_limit (len x) l
 
--- the items of lists are too many
-large_of : (c : Class) (t u : DataType) (vs : List Value) → t ≡ list_type c u
-    → nat_lt item_limit (length (joined_items vs)) ≡ true → is_too_large t vs ≡ true
-large_of None t u vs e l =
+-- a column below lists is too long
+pub large_below : (c : Class) (t u : DataType) (vs : List Value) → t ≡ list_type c u
+    → is_too_large u (joined_items vs) ≡ true → is_too_large t vs ≡ true
+large_below None t u vs e l =
     ap (λ t. is_too_large t vs) e
     ∙ or_right (is_too_long (record { typ = var u; values = vs }))
-    (is_too_large u (joined_items vs)) (large_node u (joined_items vs) l)
-large_of (Some n) t u vs e l =
+    (is_too_large u (joined_items vs)) l
+large_below (Some n) t u vs e l =
     ap (λ t. is_too_large t vs) e
     ∙ or_right (is_too_long (record { typ = reg n u; values = vs }))
-    (is_too_large u (joined_items vs)) (large_node u (joined_items vs) l)
+    (is_too_large u (joined_items vs)) l
+
+-- the items of lists are too many
+pub large_of : (c : Class) (t u : DataType) (vs : List Value) → t ≡ list_type c u
+    → nat_lt item_limit (length (joined_items vs)) ≡ true → is_too_large t vs ≡ true
+large_of c t u vs e l = large_below c t u vs e (large_node u (joined_items vs) l)
 
 pub large_lists : (t : DataType) (vs : List Value) (l : Listed)
     → nat_lt item_limit (length (joined_items (list_values l.starts l.stops l.content))) ≡ true

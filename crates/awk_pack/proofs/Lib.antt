@@ -4,6 +4,7 @@ pub mod SizeLaws
 pub mod FormLaws
 pub mod LeftLaws
 pub mod LargeLaws
+pub mod InsideLaws
 pub mod ContentLaws
 pub mod CanonLaws
 pub mod LawfulForms

@@ -1,5 +1,5 @@
 -- What the steps of packing give: lanes are put behind others, node by node in pre-order.
-use Rattle.std.specs.Prelude.{◌≡◌, ◌<◌, Bool, false, nat_lt, List, ◌++◌, length, map}
+use Rattle.std.specs.Prelude.{◌≡◌, ◌<◌, ℕ, Bool, true, false, nat_lt, List, ◌++◌, length, map}
 use Rattle.std.specs.Prelude.{Result, Ok, Err}
 use Rattle.std.specs.List.{flat_map, list_any}
 use Rattle.awk_types.specs.DataType.{DataType, nodes}
@@ -13,10 +13,12 @@ use Rattle.awk_lanes.specs.declared.kind.Kind.TheVariants as kind
 use Rattle.awk_layout.specs.Layout.{Layout}
 use Rattle.awk_layout.specs.Typing.{array_type, array_items}
 use Rattle.awk_columns.specs.Columns.{joined_items, offsets}
+use Rattle.awk_columns.specs.Lists.{Listed}
 use Rattle.awk_open.specs.InOrder.{IsInOrder}
 use Rattle.awk_lanes.specs.Made.{lane_of as read_lane}
 use Rattle.awk_open.specs.Opened.{IsKindOf}
 use Rattle.awk_open.specs.declared.opening.Opened.{Opened}
+use Rattle.awk_open.specs.declared.opening.Opened.TheVariants.{Items}
 use Rattle.awk_pack.specs.Columns.{Placed, placed}
 use Rattle.awk_pack.specs.Lanes.{lane_of}
 use Rattle.awk_pack.specs.PackedForm.{all_nodes}
@@ -56,6 +58,17 @@ pub record IsColumn (t : DataType) (vs : List Value) (r : Opened) : Type 0 where
   pub kind : IsKindOf t r
   pub order : IsInOrder vs r
   pub few : nat_lt item_limit (length vs) ≡ false
+
+-- true only where a number of items is more than a column may have
+abbrev pub AreTooMany : ℕ → Bool → Type 0
+AreTooMany n true = item_limit < n
+AreTooMany n false = Unit {0}
+
+-- true only where a column of these lists has too many values at a node below it
+abbrev pub ReachTooMany : Listed → Bool → Type 0
+ReachTooMany l true =
+    (t : DataType) → (vs : List Value) → IsColumn t vs (Items l) → is_too_large t vs ≡ true
+ReachTooMany l false = Unit {0}
 
 -- ---- a node and those below it
 

@@ -9,6 +9,7 @@ ghost use Rattle.awk_pack.specs.Canon.{is_too_large};
 ghost use Rattle.awk_pack.specs.Packing.{IsColumn, IsLeft, IfSize};
 
 use crate::column::{joined, leaf_lane};
+use crate::inside::reach_too_many;
 use crate::packed::PackFault;
 use awk_columns::Lists;
 use awk_lanes::{Arena, ByteLanes, Lane, Steps};
@@ -47,6 +48,9 @@ fn list_contents<'a, L: Ledger>(
     ensures size { (vs : List Value) → IsColumn (typ_of typ.now) vs (Opened.Items opened.now) →
         IfSize result (is_too_large (typ_of typ.now) vs ≡ true) }
 {
+    if reach_too_many(alloc, opened, arena, steps)? {
+        return Err(PackFault::Size);
+    }
     let lists = joined(
         alloc,
         opened.starts(),

@@ -6,6 +6,7 @@
 mod column;
 mod contents;
 mod form;
+mod inside;
 mod packed;
 mod packing;
 

@@ -15,10 +15,10 @@ joined-requires-clause-spans g c =
 pub returns-in_err-lists-clause-size : goal.returns-in_err-lists-clause-size
 returns-in_err-lists-clause-size g c vs h =
     let e = c.in_err-lists.field-0.0 in
-    let failed : c.from_residual.result ≡ Err e = grind arith in
+    let failed : c.from_residual-in_err-lists.result ≡ Err e = grind arith in
     let size = rw (c.starts.ensures, c.stops.ensures, c.content.ensures.content) at
     c.in_err-lists.ensures.size in
-    size_on c.from_residual.result e _ _ failed size
+    size_on c.from_residual-in_err-lists.result e _ _ failed size
     (λ large. large_lists (typ_of c.args.typ.now) vs c.args.opened.now large h)
 
 pub returns-then-is_sized-clause-left : goal.returns-then-is_sized-clause-left
