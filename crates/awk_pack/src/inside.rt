@@ -9,7 +9,7 @@ ghost use Rattle.awk_pack.specs.Packing.{AreTooMany, ReachTooMany};
 
 use awk_columns::Lists;
 use awk_lanes::{Arena, Steps};
-use awk_list_ends::{items_inside, lie_over_one_another};
+use awk_list_ends::{are_few, items_inside, lie_over_one_another};
 use awk_open::{Opened, open_array};
 use awk_types::{NoMemory, is_list};
 use std::alloc::Global;
@@ -38,7 +38,8 @@ fn are_too_many_inside<'a, L: Ledger>(
 }
 
 /// Whether lists that lie over one another reach more items of the lists inside than a column may
-/// have. They are counted, and none is moved.
+/// have. They are counted, and none is moved. Lists that have too many items themselves are left
+/// to who joins them: the lists that lie inside may be ever so many there.
 pub(crate) fn reach_too_many<'a, L: Ledger>(
     alloc: Global,
     lists: &Lists<'a>,
@@ -51,6 +52,9 @@ pub(crate) fn reach_too_many<'a, L: Ledger>(
         return Ok(false);
     }
     if !lie_over_one_another(alloc, lists, arena, steps)? {
+        return Ok(false);
+    }
+    if !are_few(alloc, lists, arena, steps)? {
         return Ok(false);
     }
     match open_array(alloc, lists.content(), arena, steps)? {
