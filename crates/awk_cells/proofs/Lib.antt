@@ -1,4 +1,5 @@
 pub mod ExtremeLaws
+mod BlockLaws
 mod PackedLaws
 mod TruthLaws
 mod SumLaws

@@ -9,6 +9,7 @@
 //! `are_all_true` tell whether some or all are not 0. `truth_groups` is truth values as groups.
 #![tactic(auto)]
 
+mod blocks;
 mod cells;
 mod counts;
 mod extremes;

@@ -1,11 +1,13 @@
-use Rattle.std.proofs.Common.{map, ap, ◌∙◌}
-use Rattle.std.proofs.Math.Bool.{not-not}
-use Rattle.std.specs.Prelude.{not}
-use Rattle.std.specs.List.{list_any}
+use Rattle.std.proofs.Common.{◌-◌, ◌*◌, ◌/◌, ◌≤◌, length, arith}
 use Rattle.awk_lanes.specs.Numbers.{is_nonzero}
+use Rattle.awk_cells.proofs.TruthLaws.{any_parts}
 use Rattle.awk_cells.proofs.truths.is_some_true.Goals as goal
 
 pub returns : goal.returns
 returns g c =
-    ap not c.are_all_zero.ensures
-    ∙ not-not (list_any is_nonzero (map g.C.Cell.number c.args.groups.now))
+    let gs = c.args.groups.now in
+    let n = length gs / 8 * 8 in
+    let m = length gs - 8 in
+    let over : m ≤ n = omega arith in
+    any_parts is_nonzero g.C.Cell.number gs n m over c.eights_of.ensures.front
+    c.eights_of.ensures.last c.both.ensures c.are_blocks_zero.ensures c.are_all_zero-2.ensures
